@@ -1,0 +1,64 @@
+//! Lists.
+ghost use Rattle.std.specs.Prelude.{◌≡◌, [], ◌∷◌, ◌++◌, OnOk, OnErr};
+
+use crate::memory::OutOfMemory;
+use std::alloc::Global;
+use std::marker::Model;
+
+/// A list in memory, seen as the list of its members.
+#[derive(Drop)]
+pub struct List<T> {
+    members: Vec<T>,
+}
+
+impl<T> Model for List<T> {
+    ghost use Rattle.std.specs.Prelude.{List as Members};
+
+    ghost Value = { Members T };
+
+    ghost view = { λ s. s.members.items };
+}
+
+impl<T> List<T> {
+    /// The list without members, which takes no memory.
+    pub fn new(alloc: Global) -> List<T>
+        ensures { result ≡ [] }
+    {
+        List {
+            members: Vec::new(alloc),
+        }
+    }
+
+    /// The members of a vector, which are not copied.
+    pub fn from_vec(members: Vec<T>) -> List<T>
+        ensures { result ≡ members.items }
+    {
+        List { members }
+    }
+
+    /// The members, as a vector.
+    pub fn into_vec(self) -> Vec<T>
+        ensures { result.items ≡ self }
+    {
+        let List { members } = self;
+        members
+    }
+
+    /// The members, in their order.
+    pub fn as_slice(&self) -> &[T]
+        ensures { result.now ≡ self.now }
+    {
+        self.members.as_slice()
+    }
+}
+
+impl<T: Drop> List<T> {
+    /// Puts a member behind the list. Where there is no memory the list stays, and the member is given up.
+    pub fn push(&mut self, _alloc: Global, one: T) -> Result<(), OutOfMemory>
+        ensures ok { OnOk result (self.new ≡ self.old ++ one ∷ []) }
+        ensures err { OnErr result (self.new ≡ self.old) }
+    {
+        self.members.push(one)?;
+        Ok(())
+    }
+}

@@ -1,0 +1,6 @@
+//! Times and segments.
+#![tactic(auto)]
+
+pub mod segment;
+
+pub use segment::{Format, Segment};
