@@ -1,0 +1,4 @@
+pub mod Chains
+pub mod Prefixes
+pub mod Sections
+pub mod Whole

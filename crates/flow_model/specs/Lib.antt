@@ -1,0 +1,11 @@
+pub mod Account
+pub mod Call
+pub mod Chain
+pub mod Eval
+pub mod Item
+pub mod Link
+pub mod Prefix
+pub mod Rule
+pub mod Section
+pub mod Source
+pub mod Sticky

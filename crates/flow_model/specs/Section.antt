@@ -1,0 +1,19 @@
+-- Sections: what a list holds between two flushes. Section 0 stands before the first FLUSH_STOP, section j
+-- behind the j-th.
+use Rattle.std.specs.Prelude.{ℕ, zero, suc, Bool, true, false, List, [], ◌∷◌, if◌then◌else◌}
+use Rattle.flow_model.specs.Item.{Item, is_flush_stop, is_eos}
+
+-- the items of section j, without the FLUSH_STOP that ends it
+abbrev pub section : ℕ → List Item → List Item
+section j [] = []
+section zero (x ∷ xs) = if is_flush_stop x then [] else x ∷ section zero xs
+section (suc j) (x ∷ xs) = if is_flush_stop x then section j xs else section (suc j) xs
+
+-- what counts of a list: in each section what stands behind its first EOS is passed over
+abbrev pub counted_after : Bool → List Item → List Item
+counted_after ended [] = []
+counted_after false (x ∷ xs) = x ∷ counted_after (is_eos x) xs
+counted_after true (x ∷ xs) = if is_flush_stop x then x ∷ counted_after false xs else counted_after true xs
+
+abbrev pub counted : List Item → List Item
+counted xs = counted_after false xs

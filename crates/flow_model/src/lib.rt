@@ -1,0 +1,38 @@
+//! The definitions of histories, rules and evaluation that all crates share, and the laws over them.
+#![tactic(auto)]
+
+ghost use Rattle.std.specs.Prelude.{◌≡◌, ℕ, List, []};
+ghost use Rattle.flow_model.specs.Item.{Item};
+ghost use Rattle.flow_model.specs.Prefix.{IsPrefix};
+ghost use Rattle.flow_model.specs.Call.{Call};
+ghost use Rattle.flow_model.specs.Rule.{Answer, owed_for};
+ghost use Rattle.flow_model.specs.Eval.{Plan, eval};
+ghost use Rattle.flow_model.specs.Account.{GoesForward, Each, Agrees, IsMember};
+ghost use Rattle.flow_model.specs.Chain.{ChainToWhole, ChainWhole};
+
+/// What an element with one sink pad owes for a beginning of what it is given begins what it owes for the whole.
+#[tactic(auto, using(crate::proofs::Sections::owed_for_prefix))]
+pub fn owes_in_order()
+    ensures { (answer : Answer) (calls more : List Call) → IsPrefix calls more → IsPrefix (owed_for answer calls) (owed_for answer more) }
+{}
+
+/// From the parts to the whole: lists that agree at each element of a graph are the histories of its evaluation.
+#[tactic(auto, using(crate::proofs::Whole::parts_to_whole))]
+pub fn parts_to_whole()
+    ensures { (plan : Plan) (h : ℕ → List Item) → GoesForward plan [] plan.forward → Each (Agrees plan h) plan.forward
+        → (p : ℕ) → IsMember (plan.owner p) plan.forward → eval plan p ≡ h p }
+{}
+
+/// Along a chain of elements that pass all, lists that each begin the list before are the histories of the
+/// evaluation.
+#[tactic(auto, using(crate::proofs::Chains::chain_to_whole))]
+pub fn chain_to_whole()
+    ensures { ChainToWhole }
+{}
+
+/// Along a chain of elements that pass all, the whole list of the source crosses each pad where nothing is left
+/// waiting.
+#[tactic(auto, using(crate::proofs::Chains::chain_whole))]
+pub fn chain_whole()
+    ensures { ChainWhole }
+{}
