@@ -1,0 +1,76 @@
+-- What callers need of writes.
+use Rattle.std.proofs.Common.{◌≡◌, ℕ, ◌+◌, ◌-◌, ◌<◌, ◌≤◌, max, List, [], ◌∷◌, ◌++◌, length, take, drop, replicate, refl, ap, sym, ◌∙◌, append_assoc, arith, length-append, length-take, length-drop, Option, option_map, None, Some, add-zero}
+use Rattle.std.proofs.lemmas.List.{append-nil, length-replicate, take_at, drop_at, drop-drop, take_all, drop_all}
+use Rattle.gst_outside.specs.Bytes.{up_to, put, written}
+
+pub length-up_to : (n : ℕ) (bytes : List ℕ) → length (up_to n bytes) ≡ n
+length-up_to n bytes = simp (length-append, length-take, length-replicate) (omega arith)
+
+front_length : (bytes : List ℕ) (place : ℕ) (piece : List ℕ) → length (up_to place bytes ++ piece) ≡ place + length piece
+front_length bytes place piece = length-append (up_to place bytes) piece ∙ ap (λ n. n + length piece) (length-up_to place bytes)
+
+pub length-put : (bytes : List ℕ) (place : ℕ) (piece : List ℕ) → length (put bytes place piece) ≡ max (length bytes) (place + length piece)
+length-put bytes place piece =
+    let whole : length (put bytes place piece) ≡ length (up_to place bytes ++ piece) + length (drop (place + length piece) bytes) =
+    length-append (up_to place bytes ++ piece) (drop (place + length piece) bytes) in
+    let front = front_length bytes place piece in
+    let back : length (drop (place + length piece) bytes) ≡ length bytes - (place + length piece) = length-drop (place + length piece) bytes in
+    omega arith
+
+-- within bytes that are long enough, no hole is filled
+pub up_to_short : (n : ℕ) (bytes : List ℕ) → n ≤ length bytes → up_to n bytes ≡ take n bytes
+up_to_short n bytes h =
+    let none : n - length bytes ≡ 0 = omega arith in
+    ap (λ k. take n bytes ++ replicate k 0) none ∙ append-nil (take n bytes)
+
+up_to_front : (front back : List ℕ) (n : ℕ) → length front ≡ n → up_to n (front ++ back) ≡ front
+up_to_front front back n h =
+    let long : n ≤ length (front ++ back) = rw length-append (omega arith) in
+    up_to_short n (front ++ back) long ∙ take_at front back n h
+
+drop_behind : (front bytes : List ℕ) (n more : ℕ) → length front ≡ n → drop (n + more) (front ++ drop n bytes) ≡ drop (n + more) bytes
+drop_behind front bytes n more h =
+    sym (drop-drop more n (front ++ drop n bytes)) ∙ ap (drop more) (drop_at front (drop n bytes) n h) ∙ drop-drop more n bytes
+
+pub put-put : (bytes : List ℕ) (place : ℕ) (first second : List ℕ) → put (put bytes place first) (place + length first) second ≡ put bytes place (first ++ second)
+put-put bytes place first second =
+    let n = place + length first in
+    let front = up_to place bytes ++ first in
+    let size = front_length bytes place first in
+    let start : up_to n (put bytes place first) ≡ front = up_to_front front (drop n bytes) n size in
+    let rest : drop (n + length second) (put bytes place first) ≡ drop (n + length second) bytes = drop_behind front bytes n (length second) size in
+    let reach : n + length second ≡ place + length (first ++ second) = rw length-append (omega arith) in
+    ap (λ u. u ++ second ++ drop (n + length second) (put bytes place first)) start
+    ∙ ap (λ d. front ++ second ++ d) rest
+    ∙ ap (λ k. front ++ second ++ drop k bytes) reach
+    ∙ ap (λ l. l ++ drop (place + length (first ++ second)) bytes) (append_assoc (up_to place bytes) first second)
+
+-- a piece that is not empty is put
+pub written_put : (bytes : List ℕ) (place : ℕ) (piece : List ℕ) → 0 < length piece → written bytes place piece ≡ put bytes place piece
+written_put bytes place [] h = absurd (omega arith)
+written_put bytes place (first ∷ rest) h = refl
+
+-- two pieces that are written one behind the other are their concatenation, written
+pub written-written : (bytes : List ℕ) (place : ℕ) (first second : List ℕ) → written (written bytes place first) (place + length first) second ≡ written bytes place (first ++ second)
+written-written bytes place [] second = rw add-zero refl
+written-written bytes place (x ∷ xs) [] = ap (written bytes place) (sym (append-nil (x ∷ xs)))
+written-written bytes place (x ∷ xs) (y ∷ ys) = put-put bytes place (x ∷ xs) (y ∷ ys)
+
+-- the same, where the bytes may be told or not
+pub told_written-written : (bytes : Option (List ℕ)) (place : ℕ) (first second : List ℕ) → option_map (λ b. written b (place + length first) second) (option_map (λ b. written b place first) bytes) ≡ option_map (λ b. written b place (first ++ second)) bytes
+told_written-written None place first second = refl
+told_written-written (Some b) place first second = ap Some (written-written b place first second)
+
+-- the length after a write
+pub length-written : (bytes : List ℕ) (place : ℕ) (piece : List ℕ) → 0 < length piece → length (written bytes place piece) ≡ max (length bytes) (place + length piece)
+length-written bytes place piece h = ap length (written_put bytes place piece h) ∙ length-put bytes place piece
+
+-- a write at the end is a concatenation
+pub written_at_end : (bytes piece : List ℕ) → written bytes (length bytes) piece ≡ bytes ++ piece
+written_at_end bytes [] = sym (append-nil bytes)
+written_at_end bytes (x ∷ xs) =
+    let start : up_to (length bytes) bytes ≡ bytes = up_to_short (length bytes) bytes (omega arith) ∙ take_all (length bytes) bytes (omega arith) in
+    let none : drop (length bytes + length (x ∷ xs)) bytes ≡ [] = drop_all (length bytes + length (x ∷ xs)) bytes (omega arith) in
+    ap (λ u. u ++ (x ∷ xs) ++ drop (length bytes + length (x ∷ xs)) bytes) start
+    ∙ ap (λ d. bytes ++ (x ∷ xs) ++ d) none
+    ∙ append-nil (bytes ++ (x ∷ xs))

@@ -1,0 +1,31 @@
+-- Counts of failures, and what a failure does to them.
+use Rattle.std.specs.Prelude.{◌≡◌, ◌≤◌, ℕ, ◌+◌, ◌-◌, min, Option, option_map, Result, Ok, Err}
+use Rattle.gst_outside.specs.declared.opening.OpenEnd.{OpenEnd}
+use Rattle.gst_outside.specs.declared.opening.OpenEnd.TheVariants.{Failed, OutOfMemory}
+
+-- the last value of a count of 64 bits
+abbrev pub last_count : ℕ
+last_count = 18446744073709551615
+
+-- n and k more, up to the last value, where a count stays
+abbrev pub plus : ℕ → ℕ → ℕ
+plus n k = n + min k (last_count - n)
+
+-- one more, up to the last value
+abbrev pub raised : ℕ → ℕ
+raised n = plus n 1
+
+-- a count rose by one or more, or stands at its last value
+abbrev pub Rose : ℕ → ℕ → Type 0
+Rose before after = raised before ≤ after
+
+-- what an opening that gave no end says of the count of failures: it rose, or memory was wanting and it stayed
+abbrev pub OpenCause : OpenEnd → ℕ → ℕ → Type 0
+OpenCause Failed before after = Rose before after
+OpenCause OutOfMemory before after = before ≡ after
+
+-- the count of refused openings of a location, behind an opening of it: one more where that Failed
+abbrev pub refused_after : {T : Type 0} → Result T OpenEnd → Option ℕ → Option ℕ
+refused_after (Ok _) n = n
+refused_after (Err Failed) n = option_map raised n
+refused_after (Err OutOfMemory) n = n
