@@ -7,5 +7,6 @@ pub mod Link
 pub mod Prefix
 pub mod Rule
 pub mod Section
+pub mod SinkBytes
 pub mod Source
 pub mod Sticky
