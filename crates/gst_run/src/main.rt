@@ -1,0 +1,8 @@
+//! Runs a launch line.
+#![tactic(auto)]
+
+use std::io;
+
+fn main(_rt: HostRuntime) -> io::Result<()> {
+    Ok(())
+}

@@ -1,0 +1,6 @@
+//! Whole runs of a line.
+#![tactic(auto)]
+
+pub mod line;
+
+pub use line::{Line, Middle};
