@@ -92,16 +92,39 @@ get_last : (t : List Lane) (new : Lane) → slice_get (t ++ new ∷ []) (length 
 get_last [] new = refl
 get_last (x ∷ xs) new = get_last xs new
 
-pub new_lane_keeps_others : (t : List Lane) (lane : Lane) (place : ℕ) (sent got : List Item) → IsBetween (Some t) place sent got → IsBetween (Some (t ++ lane ∷ [])) place sent got
-new_lane_keeps_others t lane place sent got b u told =
-    let at = b t refl in
-    let same : u ≡ t ++ lane ∷ [] = cc in
-    (at.0, ap (λ (l : List Lane). slice_get l place) same ∙ get_before t lane place at.0 at.1, at.2)
+told_after : (t t' u : List Lane) (lane : Lane) → t' ≡ t ++ lane ∷ [] → Some t' ≡ Some u → (n : ℕ) (s : Lane) → slice_get t n ≡ Some s → slice_get u n ≡ Some s
+told_after t t' u lane e told n s at =
+    let same : t ++ lane ∷ [] ≡ u = cc in
+    ap (λ (l : List Lane). slice_get l n) (sym same) ∙ get_before t lane n s at
 
-pub new_lane_is_empty : (t : List Lane) (lane : Lane) → lane.items ≡ [] → IsBetween (Some (t ++ lane ∷ [])) (length t) [] []
-new_lane_is_empty t lane none u told =
-    let same : u ≡ t ++ lane ∷ [] = cc in
-    (lane, ap (λ (l : List Lane). slice_get l (length t)) same ∙ get_last t lane, sym none)
+told_new : (t t' u : List Lane) (lane : Lane) → t' ≡ t ++ lane ∷ [] → Some t' ≡ Some u → slice_get u (length t) ≡ Some lane
+told_new t t' u lane e told =
+    let same : t ++ lane ∷ [] ≡ u = cc in
+    ap (λ (l : List Lane). slice_get l (length t)) (sym same) ∙ get_last t lane
+
+pub new_lane_keeps_others : (t t' : List Lane) (lane : Lane) (place : ℕ) (sent got : List Item) → t' ≡ t ++ lane ∷ [] → IsBetween (Some t) place sent got → IsBetween (Some t') place sent got
+new_lane_keeps_others t t' lane place sent got e b u told =
+    let at = b t refl in
+    (at.0, told_after t t' u lane e told place at.0 at.1, at.2)
+
+pub new_lane_keeps_room : (t t' : List Lane) (lane : Lane) (place : ℕ) (limits : Limits) (count : ℕ) → t' ≡ t ++ lane ∷ [] → IsOf (Some t) place limits count → IsOf (Some t') place limits count
+new_lane_keeps_room t t' lane place limits count e b u told =
+    let at = b t refl in
+    (at.0, told_after t t' u lane e told place at.0 at.1, at.2, at.3)
+
+pub new_lane_keeps_lanes : (t t' : List Lane) (lane : Lane) (place : ℕ) → t' ≡ t ++ lane ∷ [] → IsIn (Some t) place → IsIn (Some t') place
+new_lane_keeps_lanes t t' lane place e b u told =
+    let at = b t refl in
+    (at.0, told_after t t' u lane e told place at.0 at.1)
+
+pub new_lane_is_empty : (t t' : List Lane) (room : ℕ) → t' ≡ t ++ lane_of [] room ∷ [] → IsBetween (Some t') (length t) [] []
+new_lane_is_empty t t' room e u told = (lane_of [] room, told_new t t' u (lane_of [] room) e told, refl)
+
+pub new_lane_is_apart : (t : List Lane) (place : ℕ) → IsIn (Some t) place → length t ≢ place
+new_lane_is_apart t place b e = let at = b t refl in let below = within t place at.0 at.1 in omega arith
+
+pub new_lane_has_room : (t t' : List Lane) (room count : ℕ) (limits : Limits) → t' ≡ t ++ lane_of [] room ∷ [] → limits.items ≡ room → IsOf (Some t') (length t) limits count
+new_lane_has_room t t' room count limits e l u told = (lane_of [] room, told_new t t' u (lane_of [] room) e told, sym l, omega arith)
 
 in_updated : (f : Lane → Lane) (tells tells' : Option (List Lane)) (n m : ℕ) → tells' ≡ option_map (updated_table f n) tells → Dec (m ≡ n) → IsIn tells m → IsIn tells' m
 in_updated f tells tells' n m e (yes d) b t told =
@@ -143,6 +166,24 @@ of_fewer : (f : Lane → Lane) (tells tells' : Option (List Lane)) (n m : ℕ) (
 of_fewer f tells tells' n m limits count room fewer e (yes d) b =
     subst (λ (k : ℕ). IsOf tells' k limits count) (sym d) (of_here f tells tells' n limits count count room (λ s h. let less = fewer s in omega arith) e (subst (λ (k : ℕ). IsOf tells k limits count) d b))
 of_fewer f tells tells' n m limits count room fewer e (no d) b = of_else f tells tells' n m limits count d e b
+
+-- the same lane, as an end names it after a call
+pub of_same : (tells : Option (List Lane)) (place place' : ℕ) (limits limits' : Limits) (count : ℕ) → place' ≡ place → limits' ≡ limits → IsOf tells place limits count → IsOf tells place' limits' count
+of_same tells place place' limits limits' count p l b = subst (λ (q : ℕ). IsOf tells q limits' count) (sym p) (subst (λ (q : Limits). IsOf tells place q count) (sym l) b)
+
+pub in_same : (tells : Option (List Lane)) (place place' : ℕ) → place' ≡ place → IsIn tells place → IsIn tells place'
+in_same tells place place' p b = subst (λ (q : ℕ). IsIn tells q) (sym p) b
+
+-- a lane with its room is in the table
+pub in_of : (tells : Option (List Lane)) (place : ℕ) (limits : Limits) (count : ℕ) → IsOf tells place limits count → IsIn tells place
+in_of tells place limits count b t told = let at = b t told in (at.0, at.1)
+
+-- a lane between two lists holds no more than were sent
+pub of_between : (tells : Option (List Lane)) (place : ℕ) (limits : Limits) (sent got : List Item) (count : ℕ) → ForSome tells (λ t. (s : Lane) → slice_get t place ≡ Some s → s.room ≡ limits.items) → length sent ≡ count → IsBetween tells place sent got → IsOf tells place limits count
+of_between tells place limits sent got count room counted b t told =
+    let at = b t told in
+    let all = ap length at.2 ∙ length-append got at.0.items in
+    (at.0, at.1, room t told at.0 at.1, omega (arith, all, counted))
 
 pub put_keeps_room : (place : ℕ) (item : Item) (answer : Put) (limits : Limits) (count count' refusals refusals' : ℕ) (tells tells' : Option (List Lane)) → IsPut item answer count count' refusals refusals'
     → tells' ≡ table_after_put place item answer tells → IsOf tells place limits count → IsOf tells' place limits count'

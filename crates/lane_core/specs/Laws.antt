@@ -5,7 +5,7 @@ use Rattle.gst_item.specs.declared.item.Item as items
 use Rattle.lane_core.specs.declared.ends.Put.{Put}
 use Rattle.lane_core.specs.declared.ends.Take.{Take}
 use Rattle.lane_core.specs.declared.ends.Put.TheVariants.{Stored, Full}
-use Rattle.lane_core.specs.Lane.{Lane, IsIn, IsOf, IsBetween, table_without_items}
+use Rattle.lane_core.specs.Lane.{Lane, lane_of, IsIn, IsOf, IsBetween, table_without_items}
 use Rattle.lane_core.specs.Moves.{AnswersRoom, IsPut, TakesFirst, list_after_put, list_after_take, table_after_put, table_after_take}
 use Rattle.lane_core.specs.Room.{Limits, told_of}
 
@@ -39,13 +39,27 @@ abbrev pub MeetKeepsOthers : Type 0
 MeetKeepsOthers = (place other : ℕ) (tells tells' : Option (List Lane)) (sent got : List items.Item)
     → other ≢ place → tells' ≡ option_map (table_without_items place) tells → IsBetween tells other sent got → IsBetween tells' other sent got
 
--- a new lane at the end of a table changes no other, and it stands between empty lists
+-- a new lane at the end of a table changes no other
 abbrev pub NewLaneKeepsOthers : Type 0
-NewLaneKeepsOthers = (t : List Lane) (lane : Lane) (place : ℕ) (sent got : List items.Item)
-    → IsBetween (Some t) place sent got → IsBetween (Some (t ++ lane ∷ [])) place sent got
+NewLaneKeepsOthers = (t t' : List Lane) (lane : Lane) (place : ℕ) (sent got : List items.Item)
+    → t' ≡ t ++ lane ∷ [] → IsBetween (Some t) place sent got → IsBetween (Some t') place sent got
 
+-- each lane of the table keeps its room
+abbrev pub NewLaneKeepsRoom : Type 0
+NewLaneKeepsRoom = (t t' : List Lane) (lane : Lane) (place : ℕ) (limits : Limits) (count : ℕ)
+    → t' ≡ t ++ lane ∷ [] → IsOf (Some t) place limits count → IsOf (Some t') place limits count
+
+-- the new lane stands between empty lists, with its room
 abbrev pub NewLaneIsEmpty : Type 0
-NewLaneIsEmpty = (t : List Lane) (lane : Lane) → lane.items ≡ [] → IsBetween (Some (t ++ lane ∷ [])) (length t) [] []
+NewLaneIsEmpty = (t t' : List Lane) (room : ℕ) → t' ≡ t ++ lane_of [] room ∷ [] → IsBetween (Some t') (length t) [] []
+
+-- its place is no earlier lane's
+abbrev pub NewLaneIsApart : Type 0
+NewLaneIsApart = (t : List Lane) (place : ℕ) → IsIn (Some t) place → length t ≢ place
+
+abbrev pub NewLaneHasRoom : Type 0
+NewLaneHasRoom = (t t' : List Lane) (room count : ℕ) (limits : Limits)
+    → t' ≡ t ++ lane_of [] room ∷ [] → limits.items ≡ room → IsOf (Some t') (length t) limits count
 
 -- no call takes a lane from the table
 abbrev pub PutKeepsLanes : Type 0
@@ -59,6 +73,9 @@ TakeKeepsLanes = (place other : ℕ) (answer : Take) (tells tells' : Option (Lis
 abbrev pub MeetKeepsLanes : Type 0
 MeetKeepsLanes = (place other : ℕ) (tells tells' : Option (List Lane))
     → tells' ≡ option_map (table_without_items place) tells → IsIn tells other → IsIn tells' other
+
+abbrev pub NewLaneKeepsLanes : Type 0
+NewLaneKeepsLanes = (t t' : List Lane) (lane : Lane) (place : ℕ) → t' ≡ t ++ lane ∷ [] → IsIn (Some t) place → IsIn (Some t') place
 
 -- and each keeps its room, and holds no more than were sent
 abbrev pub PutKeepsRoom : Type 0

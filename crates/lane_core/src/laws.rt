@@ -1,5 +1,5 @@
 //! Laws of lanes that a table tells. Each function does nothing: its contract is the law.
-ghost use Rattle.lane_core.specs.Laws.{PutKeepsBetween, TakeKeepsBetween, MeetKeepsBetween, PutKeepsOthers, TakeKeepsOthers, MeetKeepsOthers, NewLaneKeepsOthers, NewLaneIsEmpty, PutKeepsLanes, TakeKeepsLanes, MeetKeepsLanes, PutKeepsRoom, PutKeepsOtherRoom, TakeKeepsRoom, MeetKeepsRoom, PutByLane, EmptyByLane};
+ghost use Rattle.lane_core.specs.Laws.{PutKeepsBetween, TakeKeepsBetween, MeetKeepsBetween, PutKeepsOthers, TakeKeepsOthers, MeetKeepsOthers, NewLaneKeepsOthers, NewLaneKeepsRoom, NewLaneKeepsLanes, NewLaneIsEmpty, NewLaneHasRoom, NewLaneIsApart, PutKeepsLanes, TakeKeepsLanes, MeetKeepsLanes, PutKeepsRoom, PutKeepsOtherRoom, TakeKeepsRoom, MeetKeepsRoom, PutByLane, EmptyByLane};
 
 /// After a put, what was sent is still what was received and then what the lane holds.
 pub fn put_keeps_between()
@@ -40,6 +40,30 @@ pub fn meet_keeps_others()
 /// A new lane changes no other.
 pub fn new_lane_keeps_others()
     ensures { NewLaneKeepsOthers }
+{
+}
+
+/// With a new lane, each other has its room and holds no more than were sent.
+pub fn new_lane_keeps_room()
+    ensures { NewLaneKeepsRoom }
+{
+}
+
+/// A new lane takes no lane from the table.
+pub fn new_lane_keeps_lanes()
+    ensures { NewLaneKeepsLanes }
+{
+}
+
+/// The place of a new lane is no earlier lane's.
+pub fn new_lane_is_apart()
+    ensures { NewLaneIsApart }
+{
+}
+
+/// A new lane has its room.
+pub fn new_lane_has_room()
+    ensures { NewLaneHasRoom }
 {
 }
 
