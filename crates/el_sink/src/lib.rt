@@ -1,13 +1,11 @@
-// A library with one function.
+//! Sinks: elements in which a stream ends.
 #![tactic(auto)]
 
-ghost use Rattle.std.specs.Prelude.{◌≡◌};
-ghost use Rattle.el_sink.specs.Echo.{echo_of};
+pub mod fake_sink;
+pub mod fault;
+pub mod file_sink;
+pub mod writing;
 
-// The `ensures` clause is the contract: what `echo` returns is `echo_of` of its argument, a definition
-// in `specs/Echo.antt`, which a caller's clause can cite too.
-pub fn echo(x: usize) -> usize
-    ensures { result ≡ echo_of x }
-{
-    x
-}
+pub use fake_sink::FakeSink;
+pub use fault::WriteFault;
+pub use file_sink::FileSink;
