@@ -1,3 +1,5 @@
 pub mod Bytes
 pub mod Causes
+pub mod Numbers
 pub mod Places
+pub mod Room
