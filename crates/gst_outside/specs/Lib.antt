@@ -3,3 +3,4 @@ pub mod Causes
 pub mod Numbers
 pub mod Places
 pub mod Room
+pub mod Table

@@ -6,6 +6,7 @@ pub mod clock;
 pub mod failed;
 pub mod files;
 pub mod gate;
+pub mod mem_file;
 pub mod mem_sink;
 pub mod mem_source;
 pub mod open_gate;
@@ -13,6 +14,7 @@ pub mod opening;
 pub mod sink;
 pub mod source;
 pub mod step_clock;
+mod table;
 
 pub use calls::Calls;
 pub use clock::Clock;
