@@ -139,3 +139,12 @@ pushed_found files location n d none last =
 -- what an index in the entries that were looked through says of the same entries
 pub same_none : (seen files : List MemFile) (location : List ℕ) → position (is_of location) seen ≡ None → seen ≡ files → position (is_of location) files ≡ None
 same_none seen files location e same = ap (position (is_of location)) (sym same) ∙ e
+
+location_case : (x : MemFile) (o : Option MemFile) (l : List ℕ) (b : Bool) → bytes_eq x.location l ≡ b → (unwrap_or o (new_file l)).location ≡ l → (unwrap_or (cond b (Some x) o) (new_file l)).location ≡ l
+location_case x o l true h rest = (bytes_eq-Decides x.location l).0 h
+location_case x o l false h rest = rest
+
+-- the file at a location has that location
+pub file_location : (files : List MemFile) (l : List ℕ) → (file_at files l).location ≡ l
+file_location [] l = refl
+file_location (x ∷ xs) l = location_case x (find (is_of l) xs) l (bytes_eq x.location l) refl (file_location xs l)

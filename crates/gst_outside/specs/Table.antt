@@ -1,5 +1,5 @@
 -- Files in memory by their locations.
-use Rattle.std.specs.Prelude.{ℕ, Bool, List, [], bytes_eq, is_some, unwrap_or}
+use Rattle.std.specs.Prelude.{ℕ, Bool, List, [], bytes_eq, is_some, unwrap_or, Option, Some, IsTrue}
 use Rattle.std.specs.List.{find}
 use Rattle.gst_outside.specs.declared.mem_file.MemFile.{MemFile}
 use Rattle.gst_outside.specs.declared.mem_file.TheConstants.{AMPLE_ROOM}
@@ -30,3 +30,21 @@ file_at files location = unwrap_or (find (is_of location) files) (new_file locat
 -- whether there is an entry for a location
 abbrev pub has_file : List MemFile → List ℕ → Bool
 has_file files location = is_some (find (is_of location) files)
+
+-- what sources read at a location, what the sink that was closed last left there, the failures of the ends
+-- that were closed there, and the openings that were refused
+abbrev pub input_at : List MemFile → List ℕ → Option (List ℕ)
+input_at files location = Some (file_at files location).input
+
+abbrev pub output_at : List MemFile → List ℕ → Option (List ℕ)
+output_at files location = Some (file_at files location).output
+
+abbrev pub faults_at : List MemFile → List ℕ → Option ℕ
+faults_at files location = Some (file_at files location).faults
+
+abbrev pub refused_at : List MemFile → List ℕ → Option ℕ
+refused_at files location = Some (file_at files location).refused
+
+-- a location has an entry
+abbrev pub IsOpened : List MemFile → List ℕ → Type 0
+IsOpened files location = IsTrue (has_file files location)

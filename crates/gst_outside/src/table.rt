@@ -1,6 +1,6 @@
 //! The table of files in memory.
-ghost use Rattle.std.specs.Prelude.{◌≡◌, ℕ, List, Some, if◌then◌else◌, bytes_eq, IsTrue, IfOk, OnOk, ◌<◌, length, slice_index_or};
-ghost use Rattle.std.specs.List.{position};
+ghost use Rattle.std.specs.Prelude.{◌≡◌, ℕ, List, Some, if◌then◌else◌, bytes_eq, IsTrue, IfOk, OnOk, ◌<◌, length, slice_index_or, option_copied};
+ghost use Rattle.std.specs.List.{find, position};
 ghost use Rattle.gst_outside.specs.Causes.{plus, raised};
 ghost use Rattle.gst_outside.specs.Table.{is_of, new_file, file_at, has_file};
 
@@ -15,6 +15,13 @@ pub(crate) fn index_of(files: &[MemFile], location: &str) -> Option<usize>
     files
         .iter()
         .position(|file| file.location.as_str() == location)
+}
+
+/// The entry for a location.
+pub(crate) fn file_of<'a>(files: &'a [MemFile], location: &str) -> Option<&'a MemFile>
+    ensures { option_copied result ≡ find (is_of location.now) files.now }
+{
+    files.iter().find(|file| file.location.as_str() == location)
 }
 
 /// Puts an entry for a location into the table where there is none, and gives its index.
@@ -83,7 +90,13 @@ pub(crate) fn set_output(files: &mut Vec<MemFile>, location: &str, output: Membe
 }
 
 /// What sources read at a location, and the calls on them that are to fail.
-pub(crate) fn set_input(files: &mut Vec<MemFile>, location: &str, input: Members<u8>, reads: Members<u64>, sizes: Members<u64>)
+pub(crate) fn set_input(
+    files: &mut Vec<MemFile>,
+    location: &str,
+    input: Members<u8>,
+    reads: Members<u64>,
+    sizes: Members<u64>,
+)
     requires { IsTrue (has_file files.old.items location.now) }
     ensures file { (l : List ℕ) → file_at files.new.items l ≡ (if bytes_eq location.now l then record (file_at files.old.items l) { input = input; reads = reads; sizes = sizes } else file_at files.old.items l) }
     ensures kept { (l : List ℕ) → IsTrue (has_file files.old.items l) → IsTrue (has_file files.new.items l) }
@@ -96,7 +109,13 @@ pub(crate) fn set_input(files: &mut Vec<MemFile>, location: &str, input: Members
 }
 
 /// The room of the sinks at a location, and the calls on them that are to fail.
-pub(crate) fn set_sinks(files: &mut Vec<MemFile>, location: &str, room: usize, writes: Members<u64>, cuts: Members<u64>)
+pub(crate) fn set_sinks(
+    files: &mut Vec<MemFile>,
+    location: &str,
+    room: usize,
+    writes: Members<u64>,
+    cuts: Members<u64>,
+)
     requires { IsTrue (has_file files.old.items location.now) }
     ensures file { (l : List ℕ) → file_at files.new.items l ≡ (if bytes_eq location.now l then record (file_at files.old.items l) { room = room; writes = writes; cuts = cuts } else file_at files.old.items l) }
     ensures kept { (l : List ℕ) → IsTrue (has_file files.old.items l) → IsTrue (has_file files.new.items l) }

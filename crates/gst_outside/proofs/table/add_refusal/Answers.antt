@@ -12,8 +12,8 @@ returns-clause-file c =
     let f : MemFile → MemFile = λ x. record x { refused = raised x.refused } in
     let is : c.saturating_add-file.result ≡ raised old.refused = omega arith in
     changed_file f (λ x. refl) was c.args.location.now c.known_index-index.result old (record old { refused = c.saturating_add-file.result })
-        (same_found c.as_slice.result.now was c.args.location.now c.known_index-index.result c.known_index-index.ensures.found c.as_slice.ensures.value)
-        c.index_mut-file.ensures.value (ap (λ n. record old { refused = n }) is)
+    (same_found c.as_slice.result.now was c.args.location.now c.known_index-index.result c.known_index-index.ensures.found c.as_slice.ensures.value)
+    c.index_mut-file.ensures.value (ap (λ n. record old { refused = n }) is)
 
 pub returns-clause-kept : goal.returns-clause-kept
 returns-clause-kept c =
@@ -22,5 +22,5 @@ returns-clause-kept c =
     let f : MemFile → MemFile = λ x. record x { refused = raised x.refused } in
     let is : c.saturating_add-file.result ≡ raised old.refused = omega arith in
     changed_there f (λ x. refl) was c.args.location.now c.known_index-index.result old (record old { refused = c.saturating_add-file.result })
-        (same_found c.as_slice.result.now was c.args.location.now c.known_index-index.result c.known_index-index.ensures.found c.as_slice.ensures.value)
-        c.index_mut-file.ensures.value (ap (λ n. record old { refused = n }) is)
+    (same_found c.as_slice.result.now was c.args.location.now c.known_index-index.result c.known_index-index.ensures.found c.as_slice.ensures.value)
+    c.index_mut-file.ensures.value (ap (λ n. record old { refused = n }) is)

@@ -9,12 +9,12 @@ use Rattle.gst_outside.proofs.table.entry.Goals as goal
 pub returns-in-Some-clause-found : goal.returns-in-Some-clause-found
 returns-in-Some-clause-found c =
     found_file c.args.files.now.items c.args.location.now c.in-Some.index (new_file c.args.location.now)
-        (same_found c.as_slice.result.now c.args.files.now.items c.args.location.now c.in-Some.index (sym c.in-Some.ensures) c.as_slice.ensures.value)
+    (same_found c.as_slice.result.now c.args.files.now.items c.args.location.now c.in-Some.index (sym c.in-Some.ensures) c.as_slice.ensures.value)
 
 pub returns-in-Some-clause-there : goal.returns-in-Some-clause-there
 returns-in-Some-clause-there c =
     found_there c.args.files.now.items c.args.location.now c.in-Some.index (new_file c.args.location.now)
-        (same_found c.as_slice.result.now c.args.files.now.items c.args.location.now c.in-Some.index (sym c.in-Some.ensures) c.as_slice.ensures.value)
+    (same_found c.as_slice.result.now c.args.files.now.items c.args.location.now c.in-Some.index (sym c.in-Some.ensures) c.as_slice.ensures.value)
 
 pub returns-clause-stays : goal.returns-clause-stays
 returns-clause-stays c = λ l.

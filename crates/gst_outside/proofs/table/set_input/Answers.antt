@@ -11,8 +11,8 @@ returns-clause-file c =
     let old = c.index_mut-file.result.now in
     let f : MemFile → MemFile = λ x. record x { input = c.args.input; reads = c.args.reads; sizes = c.args.sizes } in
     changed_file f (λ x. refl) was c.args.location.now c.known_index-index.result old (record old { input = c.args.input; reads = c.args.reads; sizes = c.args.sizes })
-        (same_found c.as_slice.result.now was c.args.location.now c.known_index-index.result c.known_index-index.ensures.found c.as_slice.ensures.value)
-        c.index_mut-file.ensures.value refl
+    (same_found c.as_slice.result.now was c.args.location.now c.known_index-index.result c.known_index-index.ensures.found c.as_slice.ensures.value)
+    c.index_mut-file.ensures.value refl
 
 pub returns-clause-kept : goal.returns-clause-kept
 returns-clause-kept c =
@@ -20,5 +20,5 @@ returns-clause-kept c =
     let old = c.index_mut-file.result.now in
     let f : MemFile → MemFile = λ x. record x { input = c.args.input; reads = c.args.reads; sizes = c.args.sizes } in
     changed_there f (λ x. refl) was c.args.location.now c.known_index-index.result old (record old { input = c.args.input; reads = c.args.reads; sizes = c.args.sizes })
-        (same_found c.as_slice.result.now was c.args.location.now c.known_index-index.result c.known_index-index.ensures.found c.as_slice.ensures.value)
-        c.index_mut-file.ensures.value refl
+    (same_found c.as_slice.result.now was c.args.location.now c.known_index-index.result c.known_index-index.ensures.found c.as_slice.ensures.value)
+    c.index_mut-file.ensures.value refl
