@@ -1,5 +1,5 @@
 -- One lane of a table is changed.
-use Rattle.std.proofs.Common.{◌≡◌, ◌≢◌, ◌<◌, ℕ, zero, suc, List, [], ◌∷◌, ◌++◌, length, set, drop, get_or, Option, Some, None, MatchOption, Result, Ok, Err, OnOk, refl, ap, sym, ◌∙◌, subst, arith}
+use Rattle.std.proofs.Common.{◌≡◌, ◌≢◌, ◌<◌, ℕ, zero, suc, List, [], ◌∷◌, ◌++◌, length, set, drop, get_or, Option, Some, None, MatchOption, Result, Ok, Err, OnOk, refl, ap, sym, ◌∙◌, arith}
 use Rattle.std.proofs.lemmas.Option.{get_or_from_slice_get}
 use Rattle.gst_item.specs.declared.item.Item.{Item}
 use Rattle.std.specs.List.{slice_get}

@@ -1,5 +1,5 @@
 -- What the clauses of a put, a take and a meeting mean for a table that tells its lanes.
-use Rattle.std.specs.Prelude.{◌≡◌, ◌≢◌, ℕ, ◌+◌, ◌<◌, ◌≤◌, List, [], ◌∷◌, ◌++◌, length, Option, Some, slice_get}
+use Rattle.std.specs.Prelude.{◌≡◌, ◌≢◌, ℕ, ◌<◌, ◌≤◌, List, [], ◌∷◌, ◌++◌, length, Option, Some, slice_get}
 use Rattle.std.specs.Option.{ForSome, option_map}
 use Rattle.gst_item.specs.declared.item.Item as items
 use Rattle.lane_core.specs.declared.ends.Put.{Put}

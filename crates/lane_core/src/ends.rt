@@ -67,15 +67,18 @@ pub trait Outlet: Send + Drop {
     fn put(&mut self, lanes: &mut Self::Lanes, item: Item) -> Put
         requires table { IsOf (tells lanes.old) (place self.old) (limits self.old) (count self.old) }
         requires count { count self.old < 2 ^ 62 }
-        ensures same { (id self.new ≡ id self.old) × (place self.new ≡ place self.old) × (limits self.new ≡ limits self.old) }
+        ensures same { (id self.new ≡ id self.old) × (place self.new ≡ place self.old)
+            × (limits self.new ≡ limits self.old) }
         ensures answer { IsPut item result (count self.old) (count self.new) (refusals self.old) (refusals self.new) }
-        ensures room { (was : List Item) → sent self.old was → AnswersRoom (limits self.old) was (reading self.new) result }
+        ensures room { (was : List Item) → sent self.old was
+            → AnswersRoom (limits self.old) was (reading self.new) result }
         ensures readings { readings self.new ≡ raised (readings self.old) }
         ensures heard { (was : List (List ℕ)) → heard self.old was → heard self.new (was ++ reading self.new ∷ []) }
         ensures sent { (was : List Item) → sent self.old was → sent self.new (list_after_put was item result) }
         ensures table { tells lanes.new ≡ table_after_put (place self.old) item result (tells lanes.old) }
         // where the table tells its lanes, the reading is of what was received at that moment
-        ensures received { (was got : List Item) → sent self.old was → IsBetween (tells lanes.old) (place self.old) was got → ForSome (tells lanes.old) (λ t. reading self.new ≡ told_of got) };
+        ensures received { (was got : List Item) → sent self.old was → IsBetween (tells lanes.old) (place self.old) was got
+            → ForSome (tells lanes.old) (λ t. reading self.new ≡ told_of got) };
 
     /// How many items were sent.
     fn count(&self) -> u64
@@ -132,7 +135,9 @@ pub trait Inlet: Send + Drop {
         ensures first { TakesFirst (place self.old) result (Self.Out.tells lanes.old) }
         ensures table { Self.Out.tells lanes.new ≡ table_after_take (place self.old) result (Self.Out.tells lanes.old) }
         // where the table tells its lanes, the reading is of what was sent at that moment
-        ensures sent { (was got : List Item) → received self.old got → length was ≤ 2 ^ 62 → IsBetween (Self.Out.tells lanes.old) (place self.old) was got → ForSome (Self.Out.tells lanes.old) (λ t. number_of (reading self.new) ≡ length was) };
+        ensures sent { (was got : List Item) → received self.old got → length was ≤ 2 ^ 62
+            → IsBetween (Self.Out.tells lanes.old) (place self.old) was got
+            → ForSome (Self.Out.tells lanes.old) (λ t. number_of (reading self.new) ≡ length was) };
 
     /// How many items were received.
     fn count(&self) -> u64
@@ -150,15 +155,31 @@ pub trait Inlet: Send + Drop {
     ) -> Result<(), OutOfMemory>
         requires table { IsIn (Self.Out.tells lanes.old) (place self.old) }
         requires one { id self.old ≡ Self.Out.id outlet.old }
-        ensures inlet { (id self.new ≡ id self.old) × (place self.new ≡ place self.old) × (readings self.new ≡ readings self.old) × (reading self.new ≡ reading self.old) × (refusals self.new ≡ refusals self.old) }
-        ensures outlet { (Self.Out.id outlet.new ≡ Self.Out.id outlet.old) × (Self.Out.place outlet.new ≡ Self.Out.place outlet.old) × (Self.Out.limits outlet.new ≡ Self.Out.limits outlet.old) × (Self.Out.count outlet.new ≡ Self.Out.count outlet.old) }
-        ensures outlet_readings { (Self.Out.readings outlet.new ≡ Self.Out.readings outlet.old) × (Self.Out.reading outlet.new ≡ Self.Out.reading outlet.old) × (Self.Out.refusals outlet.new ≡ Self.Out.refusals outlet.old) }
+        ensures inlet { (id self.new ≡ id self.old) × (place self.new ≡ place self.old)
+            × (readings self.new ≡ readings self.old) × (reading self.new ≡ reading self.old)
+            × (refusals self.new ≡ refusals self.old) }
+        ensures outlet { (Self.Out.id outlet.new ≡ Self.Out.id outlet.old)
+            × (Self.Out.place outlet.new ≡ Self.Out.place outlet.old)
+            × (Self.Out.limits outlet.new ≡ Self.Out.limits outlet.old)
+            × (Self.Out.count outlet.new ≡ Self.Out.count outlet.old) }
+        ensures outlet_readings { (Self.Out.readings outlet.new ≡ Self.Out.readings outlet.old)
+            × (Self.Out.reading outlet.new ≡ Self.Out.reading outlet.old)
+            × (Self.Out.refusals outlet.new ≡ Self.Out.refusals outlet.old) }
         ensures heard { (was : List (List ℕ)) → heard self.old was → heard self.new was }
         ensures outlet_heard { (was : List (List ℕ)) → Self.Out.heard outlet.old was → Self.Out.heard outlet.new was }
         ensures count { OnOk result (count self.new ≡ Self.Out.count outlet.new) }
-        ensures table { OnOk result (Self.Out.tells lanes.new ≡ option_map (table_without_items (place self.old)) (Self.Out.tells lanes.old)) }
-        ensures meets { OnOk result ((sent got : List Item) → Self.Out.sent outlet.old sent → received self.old got → IsBetween (Self.Out.tells lanes.old) (place self.old) sent got → Meets (received self.new) (Self.Out.sent outlet.new) sent got into.old into.new) }
-        ensures err { OnErr result ((self.new ≡ self.old) × (outlet.new ≡ outlet.old) × (into.new ≡ into.old) × (lanes.new ≡ lanes.old)) };
+        ensures table { OnOk result (
+            Self.Out.tells lanes.new ≡ option_map (table_without_items (place self.old)) (Self.Out.tells lanes.old)
+            ) }
+        ensures meets { OnOk result (
+            (sent got : List Item) → Self.Out.sent outlet.old sent → received self.old got
+            → IsBetween (Self.Out.tells lanes.old) (place self.old) sent got
+            → Meets (received self.new) (Self.Out.sent outlet.new) sent got into.old into.new
+            ) }
+        ensures err { OnErr result (
+            (self.new ≡ self.old) × (outlet.new ≡ outlet.old) × (into.new ≡ into.old)
+            × (lanes.new ≡ lanes.old)
+            ) };
 
     /// The count is the length of the list that was received.
     ghost counts: { (i : Self) (was : List Item) → received i was → length was ≡ count i };

@@ -41,13 +41,24 @@ pub fn memory_lane(
     capacity: u32,
 ) -> Result<(MemOutlet, MemInlet), OutOfMemory>
     ensures table { OnOk result (lanes.new ≡ lanes.old ++ lane_of [] capacity ∷ []) }
-    ensures place { IfOk result (λ ends. (⟦<MemOutlet as Outlet>⟧.place ends.0 ≡ length lanes.old) × (⟦<MemInlet as Inlet>⟧.place ends.1 ≡ length lanes.old)) }
+    ensures place { IfOk result (λ ends.
+        (⟦<MemOutlet as Outlet>⟧.place ends.0 ≡ length lanes.old)
+        × (⟦<MemInlet as Inlet>⟧.place ends.1 ≡ length lanes.old)
+        ) }
     ensures id { IfOk result (λ ends. ⟦<MemInlet as Inlet>⟧.id ends.1 ≡ ⟦<MemOutlet as Outlet>⟧.id ends.0) }
     ensures limits { IfOk result (λ ends. (⟦<MemOutlet as Outlet>⟧.limits ends.0).items ≡ capacity) }
-    ensures lists { IfOk result (λ ends. ⟦<MemOutlet as Outlet>⟧.sent ends.0 [] × ⟦<MemInlet as Inlet>⟧.received ends.1 []) }
+    ensures lists { IfOk result (λ ends.
+        ⟦<MemOutlet as Outlet>⟧.sent ends.0 [] × ⟦<MemInlet as Inlet>⟧.received ends.1 []
+        ) }
     ensures heard { IfOk result (λ ends. ⟦<MemOutlet as Outlet>⟧.heard ends.0 [] × ⟦<MemInlet as Inlet>⟧.heard ends.1 []) }
-    ensures outlet { IfOk result (λ ends. (⟦<MemOutlet as Outlet>⟧.count ends.0 ≡ 0) × (⟦<MemOutlet as Outlet>⟧.readings ends.0 ≡ 0) × (⟦<MemOutlet as Outlet>⟧.refusals ends.0 ≡ 0)) }
-    ensures inlet { IfOk result (λ ends. (⟦<MemInlet as Inlet>⟧.count ends.1 ≡ 0) × (⟦<MemInlet as Inlet>⟧.readings ends.1 ≡ 0) × (⟦<MemInlet as Inlet>⟧.refusals ends.1 ≡ 0)) }
+    ensures outlet { IfOk result (λ ends.
+        (⟦<MemOutlet as Outlet>⟧.count ends.0 ≡ 0) × (⟦<MemOutlet as Outlet>⟧.readings ends.0 ≡ 0)
+        × (⟦<MemOutlet as Outlet>⟧.refusals ends.0 ≡ 0)
+        ) }
+    ensures inlet { IfOk result (λ ends.
+        (⟦<MemInlet as Inlet>⟧.count ends.1 ≡ 0) × (⟦<MemInlet as Inlet>⟧.readings ends.1 ≡ 0)
+        × (⟦<MemInlet as Inlet>⟧.refusals ends.1 ≡ 0)
+        ) }
     ensures err { OnErr result (lanes.new ≡ lanes.old) }
 {
     let place = lanes.add(alloc, capacity)?;

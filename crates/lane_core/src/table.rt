@@ -127,7 +127,8 @@ impl MemLanes {
     /// Takes the oldest item of a lane, if there is one.
     pub(crate) fn take(&mut self, place: u64) -> Option<Item>
         requires { (lane : Lane) × (slice_get self.old place ≡ Some lane) }
-        ensures { (lane : Lane) → slice_get self.old place ≡ Some lane → MatchOption result ((lane.items ≡ []) × (self.new ≡ self.old)) (λ item. ((rest : _) × (lane.items ≡ item ∷ rest)) × (self.new ≡ table_without_first place self.old)) }
+        ensures { (lane : Lane) → slice_get self.old place ≡ Some lane
+            → MatchOption result ((lane.items ≡ []) × (self.new ≡ self.old)) (λ item. ((rest : _) × (lane.items ≡ item ∷ rest)) × (self.new ≡ table_without_first place self.old)) }
     {
         self.lanes[place as usize].take()
     }
@@ -140,7 +141,9 @@ impl MemLanes {
         into: &mut List<Item>,
     ) -> Result<(), OutOfMemory>
         requires { (lane : Lane) × (slice_get self.old place ≡ Some lane) }
-        ensures into { OnOk result ((lane : Lane) → slice_get self.old place ≡ Some lane → into.new ≡ into.old ++ lane.items) }
+        ensures into { OnOk result (
+            (lane : Lane) → slice_get self.old place ≡ Some lane → into.new ≡ into.old ++ lane.items
+            ) }
         ensures empty { OnOk result (self.new ≡ table_without_items place self.old) }
         ensures err { OnErr result ((self.new ≡ self.old) × (into.new ≡ into.old)) }
     {

@@ -51,7 +51,8 @@ fn do_move<O: Outlet<Lanes = I::Lanes>, I: Inlet<Out = O>>(
     ensures table { IsOf (O.tells lanes.new) (O.place outlet.new) (O.limits outlet.new) (O.count outlet.new) }
     ensures place { (I.place inlet.new ≡ O.place outlet.new) × (O.place outlet.new ≡ O.place outlet.old) }
     ensures id { (I.id inlet.new ≡ I.id inlet.old) × (O.id outlet.new ≡ O.id outlet.old) }
-    ensures others { (other : ℕ) (limits : Limits) (count : ℕ) → other ≢ O.place outlet.old → IsOf (O.tells lanes.old) other limits count → IsOf (O.tells lanes.new) other limits count }
+    ensures others { (other : ℕ) (limits : Limits) (count : ℕ) → other ≢ O.place outlet.old
+        → IsOf (O.tells lanes.old) other limits count → IsOf (O.tells lanes.new) other limits count }
 {
     match step {
         Move::Put(number) => match outlet.put(lanes, item_of(number)) {
@@ -78,7 +79,8 @@ fn answers<O: Outlet<Lanes = I::Lanes>, I: Inlet<Out = O>>(
     ensures table { IsOf (O.tells lanes.new) (O.place outlet.new) (O.limits outlet.new) (O.count outlet.new) }
     ensures place { (I.place inlet.new ≡ O.place outlet.new) × (O.place outlet.new ≡ O.place outlet.old) }
     ensures id { (I.id inlet.new ≡ I.id inlet.old) × (O.id outlet.new ≡ O.id outlet.old) }
-    ensures others { (other : ℕ) (limits : Limits) (count : ℕ) → other ≢ O.place outlet.old → IsOf (O.tells lanes.old) other limits count → IsOf (O.tells lanes.new) other limits count }
+    ensures others { (other : ℕ) (limits : Limits) (count : ℕ) → other ≢ O.place outlet.old
+        → IsOf (O.tells lanes.old) other limits count → IsOf (O.tells lanes.new) other limits count }
 {
     let mut done = Vec::new(alloc);
     for step in moves {

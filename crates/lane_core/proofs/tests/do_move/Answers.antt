@@ -1,4 +1,3 @@
-use Rattle.std.proofs.Common.{refl}
 use Rattle.lane_core.specs.declared.ends.Put.TheVariants.{Stored}
 use Rattle.lane_core.specs.declared.ends.Take.TheVariants as takes
 use Rattle.lane_core.proofs.Between.{of_same, put_keeps_room, put_keeps_other_room, take_keeps_room}
@@ -8,7 +7,7 @@ pub returns-in-Stored-clause-table : goal.returns-in-Stored-clause-table
 returns-in-Stored-clause-table g c =
     let same = c.in-Stored.ensures.same in
     of_same _ _ _ _ _ _ same.1 same.2
-      (put_keeps_room _ c.item_of.result Stored _ _ _ _ _ _ _ c.in-Stored.ensures.answer c.in-Stored.ensures.table c.requires.table)
+    (put_keeps_room _ c.item_of.result Stored _ _ _ _ _ _ _ c.in-Stored.ensures.answer c.in-Stored.ensures.table c.requires.table)
 
 pub returns-in-Item-clause-table : goal.returns-in-Item-clause-table
 returns-in-Item-clause-table g c =

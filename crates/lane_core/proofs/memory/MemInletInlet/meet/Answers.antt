@@ -1,4 +1,4 @@
-use Rattle.std.proofs.Common.{◌≡◌, refl, ap, ◌∙◌, sym}
+use Rattle.std.proofs.Common.{refl}
 use Rattle.lane_core.proofs.memory.MemInletInlet.meet.Goals as goal
 
 pub returns-clause-meets : goal.returns-clause-meets

@@ -1,4 +1,4 @@
-use Rattle.std.proofs.Common.{◌≡◌, ◌≤◌, ◌^◌, length, [], ap, refl, ◌∙◌, arith}
+use Rattle.std.proofs.Common.{◌≤◌, ◌^◌, length, ap, refl, ◌∙◌, arith}
 use Rattle.lane_core.proofs.memory.MemInletInlet.take.Goals as goal
 
 pub unreachable-requires : goal.unreachable-requires

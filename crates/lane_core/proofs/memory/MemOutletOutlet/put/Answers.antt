@@ -1,4 +1,4 @@
-use Rattle.std.proofs.Common.{◌≤◌, rules, refl, arith}
+use Rattle.std.proofs.Common.{refl, arith}
 use Rattle.lane_core.proofs.memory.MemOutletOutlet.put.Goals as goal
 
 pub len_of-held-requires : goal.len_of-held-requires
