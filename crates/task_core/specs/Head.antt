@@ -2,12 +2,13 @@
 use Rattle.std.specs.Prelude.{◌≡◌, ◌⊎◌, ℕ, List, [], ◌∷◌, ◌++◌, Option, Some, None, Bool, true, false}
 use Rattle.flow_model.specs.Item.{Item}
 use Rattle.lane_core.specs.Lane.{Lane, IsIn}
-use Rattle.el_src.specs.Cause.{IsSrcCause}
+use Rattle.gst_outside.specs.Causes.{Rose}
 use Rattle.el_src.specs.declared.fault.SrcFault.{SrcFault}
-use Rattle.el_src.specs.Gave.{Gave, items_given, source_of}
+use Rattle.el_src.specs.declared.fault.SrcFault.TheVariants.{ReadFault, OutOfMemory}
+use Rattle.el_src.specs.Gave.{Gave, items_given, source_of, has_eos}
 use Rattle.task_core.specs.declared.head.Head.{Head}
 use Rattle.task_core.specs.declared.head.Head.TheVariants.{Source, Queue}
-use Rattle.task_core.specs.Inlets.{Fed, LaneGives, place_of, id_of}
+use Rattle.task_core.specs.Inlets.{Fed, LaneGives, IsDrained, place_of, id_of}
 
 -- The lists of a head: what a source owes, what control gave to a queue in front, what the queue's lane gave,
 -- and what the head gave in all.
@@ -51,20 +52,29 @@ abbrev pub HeadIn : {S I : Type 0} → (I → ℕ) → Head S I → Option (List
 HeadIn place (Source source) tells = Unit {0}
 HeadIn place (Queue inlets) tells = IsIn tells (place_of place inlets)
 
--- a read failed only where the count of the source rose
-abbrev pub HeadCause : {S I : Type 0} → (S → ℕ) → Head S I → Head S I → SrcFault → Type 0
-HeadCause faults (Source was) (Source is) fault = IsSrcCause fault (faults (source_of was)) (faults (source_of is))
-HeadCause faults (Source was) (Queue is) fault = ⊥
-HeadCause faults (Queue was) is fault = ⊥
+-- a read failed only where the count of the source rose, and both counts are named
+abbrev pub HeadCause : Option ℕ → Option ℕ → SrcFault → Type 0
+HeadCause was is (ReadFault before after) = (was ≡ Some before) × (is ≡ Some after) × Rose before after
+HeadCause was is OutOfMemory = Unit {0}
 
 -- an item came from the lane of the head
 abbrev pub FromLane : Option ℕ → Item → Option (List Lane) → Option (List Lane) → Type 0
 FromLane None x tells tells' = ⊥
 FromLane (Some place) x tells tells' = LaneGives place x tells tells'
 
+-- nothing more is to come from a source, or all was taken from the lane
+abbrev pub IsIdle : {S I : Type 0} → Head S I → Option ℕ → Option (List Lane) → HeadLists → Type 0
+IsIdle (Source source) place tells l = has_eos l.given ≡ true
+IsIdle (Queue inlets) place tells l = (n : ℕ) → place ≡ Some n → IsDrained n tells l.got
+
+-- the count of failures of a source
+abbrev pub head_faults : {S I : Type 0} → (S → ℕ) → Head S I → Option ℕ
+head_faults faults (Source source) = Some (faults (source_of source))
+head_faults faults (Queue inlets) = None
+
 -- the lists behind a next item: it was given, by the source, from the front or by the lane
 abbrev pub HeadAfter : {S I : Type 0} → (S → Option (List ℕ)) → (I → List Item → Type 0) → Head S I → Option ℕ → Option (List Lane) → Option (List Lane) → HeadLists → Option Item → Type 0
-HeadAfter content received head place tells tells' l None = HeadGave content received head l × (tells' ≡ tells)
+HeadAfter content received head place tells tells' l None = HeadGave content received head l × (tells' ≡ tells) × IsIdle head place tells l
 HeadAfter content received head place tells tells' l (Some x) =
     (HeadGave content received head (record l { given = l.given ++ x ∷ [] }) × (tells' ≡ tells))
     ⊎ (HeadGave content received head (record l { got = l.got ++ x ∷ []; given = l.given ++ x ∷ [] }) × FromLane place x tells tells')

@@ -2,3 +2,4 @@ pub mod Head
 pub mod Inlets
 pub mod Pads
 pub mod Tail
+pub mod Task

@@ -7,7 +7,7 @@ use Rattle.lane_core.specs.Room.{Limits}
 use Rattle.lane_core.specs.Laws.{HoldsFor}
 use Rattle.lane_core.specs.Moves.{table_after_put}
 use Rattle.el_sink.specs.Held.{Held, HeldPart, sink_of}
-use Rattle.el_sink.specs.Cause.{IsWriteCause}
+use Rattle.gst_outside.specs.Causes.{Rose}
 use Rattle.el_sink.specs.declared.fault.WriteFault.{WriteFault}
 use Rattle.task_core.specs.declared.tail.Tail.{Tail}
 use Rattle.task_core.specs.declared.tail.Tail.TheVariants as tails
@@ -45,11 +45,19 @@ abbrev pub TailOf : {K O : Type 0} → (O → ℕ) → (O → Limits) → (O →
 TailOf place limits count (tails.Sink sink) tells = Unit {0}
 TailOf place limits count (tails.Lane number outlet) tells = IsOf tells (place outlet) (limits outlet) (count outlet)
 
--- a write failed only where the count of the sink rose
-abbrev pub TailCause : {K O : Type 0} → (K → ℕ) → Tail K O → Tail K O → WriteFault → Type 0
-TailCause faults (tails.Sink was) (tails.Sink is) fault = IsWriteCause fault (faults (sink_of was)) (faults (sink_of is))
-TailCause faults (tails.Sink was) (tails.Lane number is) fault = ⊥
-TailCause faults (tails.Lane number was) is fault = ⊥
+-- the count of failures of a sink
+abbrev pub tail_faults : {K O : Type 0} → (K → ℕ) → Tail K O → Option ℕ
+tail_faults faults (tails.Sink sink) = Some (faults (sink_of sink))
+tail_faults faults (tails.Lane number outlet) = None
+
+-- how many items a lane holds at the most
+abbrev pub tail_limit : {K O : Type 0} → (O → Limits) → Tail K O → Option ℕ
+tail_limit limits (tails.Sink sink) = None
+tail_limit limits (tails.Lane number outlet) = Some (limits outlet).items
+
+-- a write failed only where the count of the sink rose, and both counts are named
+abbrev pub TailCause : Option ℕ → Option ℕ → WriteFault → Type 0
+TailCause was is fault = (was ≡ Some fault.before) × (is ≡ Some fault.after) × Rose fault.before fault.after
 
 -- the item crossed, or it is back and nothing is changed
 abbrev pub AfterSend : (List Item → Type 0) → List Item → Item → Sending → Type 0

@@ -1,6 +1,5 @@
 //! Where the items of a task come from.
 ghost use Rattle.std.specs.Prelude.{◌≡◌, ◌≤◌, ◌<◌, ◌+◌, ◌^◌, ℕ, List, IfOk, IfErr, OnErr};
-ghost use Rattle.el_src.specs.Cause.{IsSrcCause};
 
 use crate::inlets::Inlets;
 use el_src::{FileSrc, Next, SrcFault};
@@ -17,7 +16,7 @@ pub enum Head<S, I> {
 }
 
 impl<S: Source, I: Inlet> Head<S, I> {
-    ghost use Rattle.task_core.specs.Head.{HeadLists, HeadGave, HeadAfter, HeadIn, HeadCause, head_items, head_place, head_id, head_location, head_content};
+    ghost use Rattle.task_core.specs.Head.{HeadLists, HeadGave, HeadAfter, HeadIn, HeadCause, head_items, head_faults, head_place, head_id, head_location, head_content};
 
     /// The next item, if there is one now. Where it fails nothing was given.
     pub fn next(&mut self, alloc: Global, lanes: &mut I::Lanes) -> Result<Option<Item>, SrcFault>
@@ -26,7 +25,7 @@ impl<S: Source, I: Inlet> Head<S, I> {
         ensures gave { IfOk result (λ next. (l : HeadLists) → HeadGave S.content I.received self.old l → HeadAfter S.content I.received self.new (head_place I.place self.old) (I.Out.tells lanes.old) (I.Out.tells lanes.new) l next) }
         ensures kept { OnErr result ((l : HeadLists) → HeadGave S.content I.received self.old l → HeadGave S.content I.received self.new l) }
         ensures table { OnErr result (I.Out.tells lanes.new ≡ I.Out.tells lanes.old) }
-        ensures cause { IfErr result (λ fault. HeadCause S.faults self.old self.new fault) }
+        ensures cause { IfErr result (λ fault. HeadCause (head_faults S.faults self.old) (head_faults S.faults self.new) fault) }
         ensures items { head_items self.new ≤ head_items self.old + 1 }
         ensures place { head_place I.place self.new ≡ head_place I.place self.old }
         ensures id { head_id I.id self.new ≡ head_id I.id self.old }
@@ -34,9 +33,10 @@ impl<S: Source, I: Inlet> Head<S, I> {
         ensures content { head_content S.content self.new ≡ head_content S.content self.old }
     {
         match self {
-            Head::Source(source) => match source.next(alloc)? {
-                Next::Item(item) => Ok(Some(item)),
-                Next::Ended => Ok(None),
+            Head::Source(source) => match source.next(alloc) {
+                Ok(Next::Item(item)) => Ok(Some(item)),
+                Ok(Next::Ended) => Ok(None),
+                Err(fault) => Err(fault),
             },
             Head::Queue(inlets) => Ok(inlets.take(lanes)),
         }

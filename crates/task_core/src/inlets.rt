@@ -11,6 +11,8 @@ use std::collections::VecDeque;
 /// no room in the lane.
 #[derive(Drop)]
 pub struct Inlets<I> {
+    /// The number of the lane.
+    pub number: u32,
     pub given: VecDeque<Item>,
     pub lane: I,
 }
@@ -20,12 +22,13 @@ impl<I: Inlet> Inlets<I> {
     ghost use Rattle.task_core.specs.Inlets.{Fed, AfterTake, id_of, place_of};
 
     /// A lane, with nothing given in front.
-    pub fn new(alloc: Global, lane: I) -> Inlets<I>
+    pub fn new(alloc: Global, number: u32, lane: I) -> Inlets<I>
         ensures fed { (got : List Item) → I.received lane got → Fed I.received result [] got got }
         ensures id { id_of I.id result ≡ I.id lane }
         ensures place { place_of I.place result ≡ I.place lane }
     {
         Inlets {
+            number,
             given: VecDeque::new(alloc),
             lane,
         }

@@ -1,8 +1,9 @@
 //! What crossed the source pads of a task.
-ghost use Rattle.std.specs.Prelude.{◌≡◌, ◌+◌, ◌<◌, ◌≤◌, ◌^◌, ℕ, List, [], ◌∷◌, ◌++◌};
-ghost use Rattle.flow_model.specs.Item.{Item};
+ghost use Rattle.std.specs.Prelude.{◌≡◌, ◌+◌, ◌<◌, ◌≤◌, ◌^◌, ℕ, Bool, List, [], ◌∷◌, ◌++◌};
+ghost use Rattle.flow_model.specs.Item.{Item, is_buffer};
 
-use gst_item::Item;
+/// The most items that cross a pad, FLUSH_STOPs not counted.
+pub const MOST_ITEMS: u64 = 1 << 40;
 
 /// The counts of a source pad.
 #[derive(Clone, Copy)]
@@ -12,6 +13,7 @@ pub struct Pad {
     /// How many of them were buffers.
     pub buffers: u64,
     ghost among: { buffers ≤ items },
+    ghost limit: { items ≤ 2 ^ 40 },
 }
 
 impl Pad {
@@ -19,7 +21,7 @@ impl Pad {
 
     /// A pad that nothing crossed.
     pub fn new() -> Pad
-        ensures { Counts result [] }
+        ensures counts { Counts result [] }
     {
         Pad {
             items: 0,
@@ -27,13 +29,14 @@ impl Pad {
         }
     }
 
-    /// Counts an item that crossed.
-    pub fn cross(&mut self, item: &Item)
-        requires { self.old.items < 2 ^ 62 }
-        ensures { (list : List Item) → Counts self.old list → Counts self.new (list ++ item.now ∷ []) }
+    /// Counts an item that crossed; `buffer` says whether it was a buffer.
+    pub fn cross(&mut self, buffer: bool)
+        requires { self.old.items < 2 ^ 40 }
+        ensures counts { (list : List Item) (x : Item) → is_buffer x ≡ buffer → Counts self.old list → Counts self.new (list ++ x ∷ []) }
+        ensures items { self.new.items ≡ self.old.items + 1 }
     {
         self.items += 1;
-        if matches!(item, Item::Buffer(_)) {
+        if buffer {
             self.buffers += 1;
         }
     }
