@@ -2,6 +2,7 @@
 ghost use Rattle.std.specs.Prelude.{◌≡◌, ◌≤◌, ◌<◌, ◌+◌, ◌^◌, ℕ, List, IfOk, IfErr, OnErr};
 
 use crate::inlets::Inlets;
+use crate::step::Step;
 use el_src::{FileSrc, Next, SrcFault};
 use gst_item::Item;
 use gst_outside::Source;
@@ -16,6 +17,7 @@ pub enum Head<S, I> {
 }
 
 impl<S: Source, I: Inlet> Head<S, I> {
+    ghost use Rattle.task_core.specs.Step.{idle_step};
     ghost use Rattle.task_core.specs.Head.{HeadLists, HeadGave, HeadAfter, HeadIn, HeadCause, head_items, head_faults, head_place, head_id, head_location, head_content};
 
     /// The next item, if there is one now. Where it fails nothing was given.
@@ -39,6 +41,16 @@ impl<S: Source, I: Inlet> Head<S, I> {
                 Err(fault) => Err(fault),
             },
             Head::Queue(inlets) => Ok(inlets.take(lanes)),
+        }
+    }
+
+    /// What a task whose head has no next item answers: a queue needs one of its lane, and a source has ended.
+    pub fn idle(&self) -> Step
+        ensures { result ≡ idle_step self.now }
+    {
+        match self {
+            Head::Source(_) => Step::Ended,
+            Head::Queue(inlets) => Step::NeedsItem(inlets.number),
         }
     }
 }

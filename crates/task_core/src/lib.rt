@@ -5,6 +5,8 @@ pub mod fault;
 pub mod head;
 pub mod inlets;
 pub mod pads;
+pub mod pending;
+pub mod step;
 pub mod tail;
 pub mod task;
 
@@ -12,5 +14,7 @@ pub use fault::TaskFault;
 pub use head::Head;
 pub use inlets::Inlets;
 pub use pads::{MOST_ITEMS, Pad};
+pub use pending::Pending;
+pub use step::Step;
 pub use tail::{Sending, Tail};
-pub use task::{Step, Task};
+pub use task::Task;

@@ -1,12 +1,16 @@
 //! Tasks.
-ghost use Rattle.std.specs.Prelude.{◌≡◌, ◌≤◌, ◌<◌, ◌+◌, ◌^◌, ℕ, List, None, OnErr, IfOk, IfErr, vec_len};
+ghost use Rattle.std.specs.Prelude.{◌≡◌, ◌≤◌, ◌<◌, ◌+◌, ◌^◌, ℕ, List, [], ◌*◌, Some, None, slice_get, OnErr, IfOk, IfErr, vec_len};
 ghost use Rattle.std.specs.Option.{ForSome};
-
+ghost use Rattle.task_core.specs.Head.{head_items};
+ghost use Rattle.task_core.specs.Pads.{first_items, room_left};
+ghost use Rattle.task_core.specs.Pending.{lag, hand_of};
 ghost use Rattle.flow_model.specs.Item.{is_buffer as buffer_test, is_eos as eos_test};
 
 use crate::fault::TaskFault;
 use crate::head::Head;
 use crate::pads::{MOST_ITEMS, Pad};
+use crate::pending::Pending;
+use crate::step::Step;
 use crate::tail::{Sending, Tail};
 use el_sink::WriteFault;
 use el_src::SrcFault;
@@ -14,27 +18,6 @@ use gst_item::{Event, Item};
 use gst_outside::{Sink, Source};
 use lane_core::{Inlet, Outlet};
 use std::alloc::Global;
-
-/// An item that was put out and waits to cross a source pad of its task.
-#[derive(Drop)]
-pub struct Pending {
-    /// The place of the pad among those of the task.
-    pub pad: usize,
-    pub item: Item,
-}
-
-/// What a step did, or why it could not move.
-#[derive(Clone, Copy, Debug, PartialEq, Eq)]
-pub enum Step {
-    /// One item moved.
-    Moved,
-    /// The lane of this number has no item.
-    NeedsItem(u32),
-    /// The lane of this number has no room.
-    NeedsRoom(u32),
-    /// All was given and has crossed.
-    Ended,
-}
 
 /// A task: a head, the elements behind it that pass all, and a tail. Each element but a sink has one source pad.
 #[derive(Drop)]
@@ -50,6 +33,144 @@ pub struct Task<S, K, I, O> {
     ghost some: { 0 < vec_len pads },
     ghost numbers: { first + vec_len pads < 2 ^ 32 },
     ghost within: { ForSome pending (λ p. p.pad < vec_len pads) },
+    ghost few: { head_items head ≤ first_items pads.items + lag pending },
+}
+
+impl<S: Source, K: Sink, I: Inlet<Out = O>, O: Outlet<Lanes = I::Lanes>> Task<S, K, I, O> {
+    ghost use Rattle.flow_model.specs.Item.{Item};
+    ghost use Rattle.task_core.specs.declared.pads.Pad.{Pad};
+    ghost use Rattle.task_core.specs.Head.{head_place};
+    ghost use Rattle.task_core.specs.Tail.{tail_place, tail_limit, tail_count};
+    ghost use Rattle.task_core.specs.Task.{TaskLists, Holds, Stands, IsReady, Goes, IsWhy, AtFault, IsTaskCause, Frame, Burns, fuel, head_of, tail_of};
+
+    /// One step: the item that waits crosses its pad, or the head gives its next one.
+    ///
+    /// Where it answers a fault other than a `WriteFault` the task is as it was.
+    pub fn step(&mut self, alloc: Global, lanes: &mut I::Lanes) -> Result<Step, TaskFault>
+        requires { IsReady I.place O.place O.limits O.count self.old (O.tells lanes.old) }
+        ensures goes { IfOk result (λ step. (l : TaskLists) → Stands S.content K.bytes I.received O.sent self.old l → Goes S.content K.bytes I.received O.sent self.new l step (head_place I.place (head_of self.old)) (tail_place O.place (tail_of self.old)) (tail_limit O.limits (tail_of self.old)) (O.tells lanes.old) (O.tells lanes.new)) }
+        ensures fault { IfErr result (λ fault. (l : TaskLists) → Stands S.content K.bytes I.received O.sent self.old l → AtFault S.content K.bytes I.received O.sent self.new l fault) }
+        ensures cause { IfErr result (λ fault. IsTaskCause S.faults K.faults self.old self.new fault) }
+        ensures ready { IsReady I.place O.place O.limits O.count self.new (O.tells lanes.new) }
+        ensures table { OnErr result (O.tells lanes.new ≡ O.tells lanes.old) }
+        ensures frame { Frame S.location S.content K.location I.place I.id O.place O.limits O.id self.old self.new }
+        ensures burns { IfOk result (λ step. Burns step (fuel self.old) (fuel self.new)) }
+    {
+        match self.pending.take() {
+            Some(pending) => self.cross(lanes, pending),
+            None => self.next(alloc, lanes),
+        }
+    }
+
+    /// The head gives its next item, where there is one.
+    fn next(&mut self, alloc: Global, lanes: &mut I::Lanes) -> Result<Step, TaskFault>
+        requires ready { IsReady I.place O.place O.limits O.count self.old (O.tells lanes.old) }
+        requires none { self.old.pending ≡ None }
+        ensures goes { IfOk result (λ step. (l : TaskLists) → Holds S.content K.bytes I.received O.sent self.old None l → Goes S.content K.bytes I.received O.sent self.new l step (head_place I.place (head_of self.old)) (tail_place O.place (tail_of self.old)) (tail_limit O.limits (tail_of self.old)) (O.tells lanes.old) (O.tells lanes.new)) }
+        ensures fault { IfErr result (λ fault. (l : TaskLists) → Holds S.content K.bytes I.received O.sent self.old None l → AtFault S.content K.bytes I.received O.sent self.new l fault) }
+        ensures cause { IfErr result (λ fault. IsTaskCause S.faults K.faults self.old self.new fault) }
+        ensures ready { IsReady I.place O.place O.limits O.count self.new (O.tells lanes.new) }
+        ensures table { OnErr result (O.tells lanes.new ≡ O.tells lanes.old) }
+        ensures frame { Frame S.location S.content K.location I.place I.id O.place O.limits O.id self.old self.new }
+        ensures burns { IfOk result (λ step. Burns step (2 * room_left self.old.pads.items + 1) (fuel self.new)) }
+    {
+        if self.over {
+            return Ok(Step::Ended);
+        }
+        if self.pads[0].items >= MOST_ITEMS {
+            return Err(too_long(self.first));
+        }
+        match self.head.next(alloc, lanes) {
+            Ok(Some(item)) => {
+                self.over = is_eos(&item);
+                self.pending = Some(Pending { pad: 0, item });
+                Ok(Step::Moved)
+            }
+            Ok(None) => Ok(self.head.idle()),
+            Err(SrcFault::ReadFault { before, after }) => Err(TaskFault::ReadFault {
+                element: self.first,
+                before,
+                after,
+            }),
+            Err(SrcFault::OutOfMemory) => Err(TaskFault::OutOfMemory),
+        }
+    }
+
+    /// The item in hand crosses its pad.
+    fn cross(&mut self, lanes: &mut I::Lanes, hand: Pending) -> Result<Step, TaskFault>
+        requires ready { IsReady I.place O.place O.limits O.count self.old (O.tells lanes.old) }
+        requires none { self.old.pending ≡ None }
+        requires within { hand.pad < vec_len self.old.pads }
+        requires few { head_items self.old.head ≤ first_items self.old.pads.items + lag (Some hand) }
+        ensures goes { IfOk result (λ step. (l : TaskLists) → Holds S.content K.bytes I.received O.sent self.old (Some hand) l → Goes S.content K.bytes I.received O.sent self.new l step (head_place I.place (head_of self.old)) (tail_place O.place (tail_of self.old)) (tail_limit O.limits (tail_of self.old)) (O.tells lanes.old) (O.tells lanes.new)) }
+        ensures fault { IfErr result (λ fault. (l : TaskLists) → Holds S.content K.bytes I.received O.sent self.old (Some hand) l → AtFault S.content K.bytes I.received O.sent self.new l fault) }
+        ensures cause { IfErr result (λ fault. IsTaskCause S.faults K.faults self.old self.new fault) }
+        ensures ready { IsReady I.place O.place O.limits O.count self.new (O.tells lanes.new) }
+        ensures table { OnErr result (O.tells lanes.new ≡ O.tells lanes.old) }
+        ensures frame { Frame S.location S.content K.location I.place I.id O.place O.limits O.id self.old self.new }
+        ensures burns { IfOk result (λ step. Burns step (2 * room_left self.old.pads.items) (fuel self.new)) }
+    {
+        let Pending { pad, item } = hand;
+        if self.pads[pad].items >= MOST_ITEMS {
+            let element = self.first + pad as u32;
+            self.pending = Some(Pending { pad, item });
+            return Err(too_long(element));
+        }
+        if pad + 1 == self.pads.len() {
+            return self.send(lanes, pad, item);
+        }
+        self.pads[pad].cross(is_buffer(&item));
+        self.pending = Some(Pending { pad: pad + 1, item });
+        Ok(Step::Moved)
+    }
+    /// The item in hand at the last pad crosses it, where the tail takes it.
+    fn send(&mut self, lanes: &mut I::Lanes, last: usize, item: Item) -> Result<Step, TaskFault>
+        requires ready { IsReady I.place O.place O.limits O.count self.old (O.tells lanes.old) }
+        requires none { self.old.pending ≡ None }
+        requires last { last + 1 ≡ vec_len self.old.pads }
+        requires few { head_items self.old.head ≤ first_items self.old.pads.items + lag (Some (hand_of last item)) }
+        requires room { (pad : Pad) → slice_get self.old.pads.items last ≡ Some pad → pad.items < 2 ^ 40 }
+        ensures goes { IfOk result (λ step. (l : TaskLists) → Holds S.content K.bytes I.received O.sent self.old (Some (hand_of last item)) l → Goes S.content K.bytes I.received O.sent self.new l step (head_place I.place (head_of self.old)) (tail_place O.place (tail_of self.old)) (tail_limit O.limits (tail_of self.old)) (O.tells lanes.old) (O.tells lanes.new)) }
+        ensures fault { IfErr result (λ fault. (l : TaskLists) → Holds S.content K.bytes I.received O.sent self.old (Some (hand_of last item)) l → AtFault S.content K.bytes I.received O.sent self.new l fault) }
+        ensures cause { IfErr result (λ fault. IsTaskCause S.faults K.faults self.old self.new fault) }
+        ensures ready { IsReady I.place O.place O.limits O.count self.new (O.tells lanes.new) }
+        ensures table { OnErr result (O.tells lanes.new ≡ O.tells lanes.old) }
+        ensures frame { Frame S.location S.content K.location I.place I.id O.place O.limits O.id self.old self.new }
+        ensures burns { IfOk result (λ step. Burns step (2 * room_left self.old.pads.items) (fuel self.new)) }
+    {
+        if self.tail.count() >= MOST_ITEMS {
+            let element = self.first + last as u32;
+            self.pending = Some(Pending { pad: last, item });
+            return Err(too_long(element));
+        }
+        let buffer = is_buffer(&item);
+        match self.tail.send(lanes, item) {
+            Ok(Sending::Sent) => {
+                self.pads[last].cross(buffer);
+                Ok(Step::Moved)
+            }
+            Ok(Sending::Back { number, item }) => {
+                self.pending = Some(Pending { pad: last, item });
+                Ok(Step::NeedsRoom(number))
+            }
+            Err(WriteFault { before, after }) => Err(TaskFault::WriteFault {
+                element: self.first + self.pads.len() as u32,
+                before,
+                after,
+            }),
+        }
+    }
+}
+
+/// More items than the limit were to cross a pad of this element.
+fn too_long(element: u32) -> TaskFault
+    ensures { result ≡ TaskFault.TooLong element 1099511627776 1 }
+{
+    TaskFault::TooLong {
+        element,
+        a: MOST_ITEMS,
+        b: 1,
+    }
 }
 
 /// Whether an item is a buffer.

@@ -9,8 +9,8 @@ returns-in-Ok-Item-clause-gave g c =
 pub returns-in-Ok-Ended-clause-gave : goal.returns-in-Ok-Ended-clause-gave
 returns-in-Ok-Ended-clause-gave g c =
     λ l h.
-        let was = rw c.in-Source.is at h in
-        ((rw c.in-Ok-Ended.field-0-is at (c.in-Ok-Ended.ensures.gave l.owed l.given was)).gave, refl, sym (rw c.in-Ok-Ended.field-0-is at (c.in-Ok-Ended.ensures.ended l.owed l.given was)))
+    let was = rw c.in-Source.is at h in
+    ((rw c.in-Ok-Ended.field-0-is at (c.in-Ok-Ended.ensures.gave l.owed l.given was)).gave, refl, sym (rw c.in-Ok-Ended.field-0-is at (c.in-Ok-Ended.ensures.ended l.owed l.given was)))
 
 pub returns-in-Err-clause-kept : goal.returns-in-Err-clause-kept
 returns-in-Err-clause-kept g c = λ l h. c.in-Err.ensures.kept l.owed l.given (rw c.in-Source.is at h)
