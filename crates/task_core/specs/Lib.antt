@@ -1,7 +1,0 @@
-pub mod Head
-pub mod Inlets
-pub mod Pads
-pub mod Pending
-pub mod Step
-pub mod Tail
-pub mod Task
