@@ -1,4 +1,6 @@
 //! Tests over files in memory, and one of the host's files, output and clock.
+ghost use Rattle.std.specs.Prelude.{◌≡◌};
+
 use crate::{
     Clock, Failed, Files, HostClock, HostFiles, MemFiles, OpenEnd, OpenGate, OutSink, Sink, Source,
     StepClock, TaskGate,
@@ -21,7 +23,10 @@ struct Row {
 }
 
 /// Reads up to four bytes from place 1 on, writes them at place 2, and cuts at 5.
-fn move_bytes<S: Source, K: Sink>(source: &mut S, sink: &mut K) -> Result<(), Failed> {
+fn move_bytes<S: Source, K: Sink>(source: &mut S, sink: &mut K) -> Result<(), Failed>
+    ensures source { S.location source.new ≡ S.location source.old }
+    ensures sink { K.location sink.new ≡ K.location sink.old }
+{
     let mut room = [0u8; 4];
     let got = source.read_at(1, &mut room)?;
     sink.write_at(2, &room[..got])?;
