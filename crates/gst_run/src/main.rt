@@ -1,6 +1,8 @@
 //! Runs a launch line.
 #![tactic(auto)]
 
+mod report;
+
 use std::io;
 
 fn main(_rt: HostRuntime) -> io::Result<()> {
