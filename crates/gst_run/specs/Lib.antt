@@ -1,1 +1,3 @@
+pub mod Parts
+pub mod Reading
 pub mod Words
