@@ -10,8 +10,9 @@ size_absent words none = record {
   spells = inl (refl, refl);
   split = refl;
   only = λ other behind m spells bang e. elim spells [
-      inl w ↦ (w.1, sym (rw w.0 at e))
-    | inr w ↦ absurd (none w.0 behind (rw w.1 at e)) ]
+    | inl w ↦ (w.1, sym (rw w.0 at e))
+    | inr w ↦ absurd (none w.0 behind (rw w.1 at e))
+  ];
 }
 
 pub limit_absent : (words : List (List ℕ)) → ((value : List ℕ) (rest : List (List ℕ)) → words ≢ (codes "max-size-buffers=" ++ value) ∷ rest) → ReadsProperty SpellsLimit words 200 words
@@ -20,8 +21,9 @@ limit_absent words none = record {
   spells = inl (refl, refl);
   split = refl;
   only = λ other behind m spells bang e. elim spells [
-      inl w ↦ (w.1, sym (rw w.0 at e))
-    | inr w ↦ absurd (none w.0 behind (rw w.2 at e)) ]
+    | inl w ↦ (w.1, sym (rw w.0 at e))
+    | inr w ↦ absurd (none w.0 behind (rw w.2 at e))
+  ];
 }
 
 -- one reading of the digits
@@ -43,8 +45,9 @@ size_given words digits rest n e number low high = record {
   spells = inr (digits, refl, number, low, high);
   split = e;
   only = λ other behind m spells bang f. elim spells [
-      inl w ↦ absurd (no_size_bang digits rest bang.0 (sym e ∙ (rw w.0 at f) ∙ bang.1))
-    | inr w ↦ same_size digits w.0 rest behind n m (sym e ∙ (rw w.1 at f)) number.2 w.2.2 ]
+    | inl w ↦ absurd (no_size_bang digits rest bang.0 (sym e ∙ (rw w.0 at f) ∙ bang.1))
+    | inr w ↦ same_size digits w.0 rest behind n m (sym e ∙ (rw w.1 at f)) number.2 w.2.2
+  ];
 }
 
 pub limit_given : (words : List (List ℕ)) (digits : List ℕ) (rest : List (List ℕ)) (n limit : ℕ) → words ≡ (codes "max-size-buffers=" ++ digits) ∷ rest → IsNumber digits n → limit ≡ lane_limit n → ReadsProperty SpellsLimit words limit rest
@@ -53,6 +56,7 @@ limit_given words digits rest n limit e number is = record {
   spells = inr (digits, n, refl, number, is);
   split = e;
   only = λ other behind m spells bang f. elim spells [
-      inl w ↦ absurd (no_limit_bang digits rest bang.0 (sym e ∙ (rw w.0 at f) ∙ bang.1))
-    | inr w ↦ same_limit digits w.0 rest behind n w.1 limit m (sym e ∙ (rw w.2 at f)) number.2 w.3.2 is w.4 ]
+    | inl w ↦ absurd (no_limit_bang digits rest bang.0 (sym e ∙ (rw w.0 at f) ∙ bang.1))
+    | inr w ↦ same_limit digits w.0 rest behind n w.1 limit m (sym e ∙ (rw w.2 at f)) number.2 w.3.2 is w.4
+  ];
 }

@@ -65,7 +65,7 @@ identity_only words kind rest e f (Queue limit ∷ middle) sink t = absurd (iden
 pub identity_read : (words kind rest : List (List ℕ)) → words ≡ codes "!" ∷ kind → kind ≡ codes "identity" ∷ rest → ReadsElement words Identity rest
 identity_read words kind rest e f = record {
   only = identity_only words kind rest e f;
-  back = λ middle sink t. (codes "!" ∷ codes "identity" ∷ t.0, (t.0, refl, t.1), e ∙ ap (λ (kind : List (List ℕ)). codes "!" ∷ kind) (f ∙ ap (λ (rest : List (List ℕ)). codes "identity" ∷ rest) t.2))
+  back = λ middle sink t. (codes "!" ∷ codes "identity" ∷ t.0, (t.0, refl, t.1), e ∙ ap (λ (kind : List (List ℕ)). codes "!" ∷ kind) (f ∙ ap (λ (rest : List (List ℕ)). codes "identity" ∷ rest) t.2));
 }
 
 queue_only : (words kind settings rest : List (List ℕ)) (n : ℕ) → words ≡ codes "!" ∷ kind → kind ≡ codes "queue" ∷ settings → ReadsProperty SpellsLimit settings n rest → (middle : List Middle) (sink : List ℕ) → SpellsTail words middle sink → (more : List Middle) × (middle ≡ Queue n ∷ more) × SpellsTail rest more sink
@@ -80,8 +80,8 @@ pub queue_read : (words kind settings rest : List (List ℕ)) (n : ℕ) → word
 queue_read words kind settings rest n e f reads = record {
   only = queue_only words kind settings rest n e f reads;
   back = λ middle sink t.
-    let settled : settings ≡ reads.own ++ t.0 ++ sink_words sink = reads.split ∙ ap (λ (rest : List (List ℕ)). reads.own ++ rest) t.2 ∙ sym (append_assoc reads.own t.0 (sink_words sink)) in
-    (codes "!" ∷ codes "queue" ∷ (reads.own ++ t.0), (reads.own, t.0, refl, reads.spells, t.1), e ∙ ap (λ (kind : List (List ℕ)). codes "!" ∷ kind) (f ∙ ap (λ (rest : List (List ℕ)). codes "queue" ∷ rest) settled))
+      let settled : settings ≡ reads.own ++ t.0 ++ sink_words sink = reads.split ∙ ap (λ (rest : List (List ℕ)). reads.own ++ rest) t.2 ∙ sym (append_assoc reads.own t.0 (sink_words sink)) in
+      (codes "!" ∷ codes "queue" ∷ (reads.own ++ t.0), (reads.own, t.0, refl, reads.spells, t.1), e ∙ ap (λ (kind : List (List ℕ)). codes "!" ∷ kind) (f ∙ ap (λ (rest : List (List ℕ)). codes "queue" ∷ rest) settled));
 }
 
 pub queue_refused : (words kind settings : List (List ℕ)) → words ≡ codes "!" ∷ kind → kind ≡ codes "queue" ∷ settings → LacksProperty SpellsLimit settings → (middle : List Middle) (sink : List ℕ) → IsLocation sink → ¬ SpellsTail words middle sink
@@ -117,10 +117,10 @@ source_read words first second rest source n p location q reads = record {
   size = reads.spells;
   split = p ∙ ap (λ (rest : List (List ℕ)). codes "filesrc" ∷ rest) (q ∙ ap (λ (rest : List (List ℕ)). (codes "location=" ++ source) ∷ rest) reads.split);
   only = λ line form.
-    let tail : SpellsTail (form.middle_words ++ sink_words line.sink) line.middle line.sink = (form.middle_words, form.middle, refl) in
-    let same = source_same words first second source line.source (form.size_words ++ (form.middle_words ++ sink_words line.sink)) p q form.spelled in
-    let read = reads.only form.size_words (form.middle_words ++ sink_words line.sink) line.blocksize form.size (tail_bang (form.middle_words ++ sink_words line.sink) line.middle line.sink tail) same.1 in
-    (same.0, moved rest (form.middle_words ++ sink_words line.sink) line.middle line.sink (sym read.1) tail)
+      let tail : SpellsTail (form.middle_words ++ sink_words line.sink) line.middle line.sink = (form.middle_words, form.middle, refl) in
+      let same = source_same words first second source line.source (form.size_words ++ (form.middle_words ++ sink_words line.sink)) p q form.spelled in
+      let read = reads.only form.size_words (form.middle_words ++ sink_words line.sink) line.blocksize form.size (tail_bang (form.middle_words ++ sink_words line.sink) line.middle line.sink tail) same.1 in
+      (same.0, moved rest (form.middle_words ++ sink_words line.sink) line.middle line.sink (sym read.1) tail);
 }
 
 pub size_refused : (words first second : List (List ℕ)) (source : List ℕ) → words ≡ codes "filesrc" ∷ first → first ≡ (codes "location=" ++ source) ∷ second → LacksProperty SpellsBlocksize second → (line : Line) → ¬ IsForm words line

@@ -84,8 +84,16 @@ fn write_fault(text: &mut String, fault: &Fault) -> Result<(), OutOfMemory>
         Fault::Nothing => Ok(()),
         Fault::Form => Ok(text.push_str("fault form\n")?),
         Fault::OpenFault { location } => write_open(text, location),
-        Fault::ReadFault { location, before, after } => write_failure(text, "read", location, *before, *after),
-        Fault::WriteFault { location, before, after } => write_failure(text, "write", location, *before, *after),
+        Fault::ReadFault {
+            location,
+            before,
+            after,
+        } => write_failure(text, "read", location, *before, *after),
+        Fault::WriteFault {
+            location,
+            before,
+            after,
+        } => write_failure(text, "write", location, *before, *after),
         Fault::TooLong { element, a, b } => write_time(text, element, *a, *b),
     }
 }
@@ -99,7 +107,13 @@ fn write_open(text: &mut String, location: &Text) -> Result<(), OutOfMemory>
 }
 
 /// The line of a source that could not be read or a sink that could not be written, `work` being which.
-fn write_failure(text: &mut String, work: &str, location: &Text, before: u64, after: u64) -> Result<(), OutOfMemory>
+fn write_failure(
+    text: &mut String,
+    work: &str,
+    location: &Text,
+    before: u64,
+    after: u64,
+) -> Result<(), OutOfMemory>
     ensures { OnOk result (string_bytes text.new ≡ string_bytes text.old ++ (codes "fault " ++ work.now ++ codes " " ++ location.now ++ codes " faults " ++ decimal before ++ codes " " ++ decimal after ++ newline)) }
 {
     let location = location.as_str();
@@ -190,7 +204,10 @@ fn write_pad(text: &mut String, count: &PadCount) -> Result<(), OutOfMemory>
     let pad = count.pad.pad.as_str();
     let items = count.items;
     let buffers = count.buffers;
-    write!(text, "pad {element}.{pad} items {items} buffers {buffers}\n")?;
+    write!(
+        text,
+        "pad {element}.{pad} items {items} buffers {buffers}\n"
+    )?;
     Ok(())
 }
 
@@ -210,4 +227,158 @@ fn write_sink(text: &mut String, count: &SinkCount) -> Result<(), OutOfMemory>
     let bytes = count.bytes;
     write!(text, "sink {name} bytes {bytes}\n")?;
     Ok(())
+}
+
+#[cfg(test)]
+mod tests {
+    use super::*;
+    use gst_caps::PadName;
+    use std::test::Fail;
+
+    fn pad(alloc: Global, element: &str) -> Result<PadName, OutOfMemory> {
+        Ok(PadName {
+            element: Text::from_str(alloc, element)?,
+            pad: Text::from_str(alloc, "src")?,
+        })
+    }
+
+    /// A report with each kind of line that counts.
+    fn report(alloc: Global, fault: Fault) -> Result<Report, OutOfMemory> {
+        let mut places = List::new(alloc);
+        places.push(
+            alloc,
+            Place {
+                pad: pad(alloc, "i")?,
+                items: 5,
+            },
+        )?;
+        let mut entries = List::new(alloc);
+        entries.push(
+            alloc,
+            Entry {
+                answer: Answer::Unreached,
+            },
+        )?;
+        entries.push(
+            alloc,
+            Entry {
+                answer: Answer::Done { places },
+            },
+        )?;
+        let mut pads = List::new(alloc);
+        pads.push(
+            alloc,
+            PadCount {
+                pad: pad(alloc, "filesrc0")?,
+                items: 6,
+                buffers: 3,
+            },
+        )?;
+        let mut sinks = List::new(alloc);
+        sinks.push(
+            alloc,
+            SinkCount {
+                name: Text::from_str(alloc, "filesink0")?,
+                bytes: 5,
+            },
+        )?;
+        Ok(Report {
+            entries,
+            pads,
+            sinks,
+            fault,
+        })
+    }
+
+    fn written(
+        alloc: Global,
+        reported: u8,
+        fault: Fault,
+        quiet: bool,
+    ) -> Result<Text, OutOfMemory> {
+        let report = report(alloc, fault)?;
+        let end = Outcome {
+            status: reported,
+            reported,
+            out_before: 0,
+            out_after: 0,
+            report,
+        };
+        report_text(alloc, &end, quiet)
+    }
+
+    #[test]
+    fn writes_faults(rt: HostRuntime) -> Result<(), Fail> {
+        let alloc = rt.alloc();
+        let a = Text::from_str(alloc, "a")?;
+        let text = written(
+            alloc,
+            7,
+            Fault::ReadFault {
+                location: a,
+                before: 0,
+                after: 1,
+            },
+            true,
+        )?;
+        assert_eq!(rt;
+            text.as_str(),
+            "status 7 ReadFault\nfault read a faults 0 1\n"
+        );
+        let b = Text::from_str(alloc, "b")?;
+        let text = written(
+            alloc,
+            8,
+            Fault::WriteFault {
+                location: b,
+                before: 2,
+                after: 4,
+            },
+            true,
+        )?;
+        assert_eq!(rt;
+            text.as_str(),
+            "status 8 WriteFault\nfault write b faults 2 4\n"
+        );
+        let b = Text::from_str(alloc, "b")?;
+        let text = written(alloc, 6, Fault::OpenFault { location: b }, true)?;
+        assert_eq!(rt; text.as_str(), "status 6 OpenFault\nfault open b\n");
+        let element = Text::from_str(alloc, "identity0")?;
+        let text = written(
+            alloc,
+            15,
+            Fault::TooLong {
+                element,
+                a: 1_099_511_627_776,
+                b: 1,
+            },
+            true,
+        )?;
+        assert_eq!(rt;
+            text.as_str(),
+            "status 15 TooLong\nfault time identity0 1099511627776 1\n"
+        );
+        let text = written(alloc, 2, Fault::Form, true)?;
+        assert_eq!(rt; text.as_str(), "status 2 BadLine\nfault form\n");
+        Ok(())
+    }
+
+    #[test]
+    fn writes_counts(rt: HostRuntime) -> Result<(), Fail> {
+        let alloc = rt.alloc();
+        for (reported, quiet, want) in [
+            (
+                0,
+                false,
+                "status 0 Eos\ncommand 1 unreached\ncommand 2 done i.src=5\npad filesrc0.src items 6 buffers 3\nsink filesink0 bytes 5\n",
+            ),
+            (0, true, "status 0 Eos\n"),
+            (13, false, "status 13 OutOfMemory\n"),
+            (13, true, no_memory_text()),
+        ] {
+            let text = written(alloc, reported, Fault::Nothing, quiet)?;
+            assert_eq!(rt; text.as_str(), want);
+        }
+        Ok(())
+    }
 }

@@ -1,7 +1,6 @@
 //! Reads the words of a launch line.
 ghost use Rattle.std.specs.Prelude.{◌≡◌, ◌≢◌, ◌≤◌, ◌<◌, ◌↔◌, ℕ, List, [], ◌∷◌, ◌++◌, map, length, codes, IsTrue, IfOk, MatchOption};
 ghost use Rattle.std.specs.String.{string_bytes};
-
 ghost use Rattle.gst_run.specs.Words.{IsForm, IsLocation, IsNumber, SpellsBlocksize, SpellsLimit, lane_limit, is_special as special_byte};
 ghost use Rattle.gst_run.specs.Reading.{ReadsProperty, LacksProperty, ReadsSource, ReadsTail, LacksTail};
 ghost use Rattle.gst_run.specs.Parts.{PartSays};
@@ -68,7 +67,11 @@ fn after_word<'a>(words: &'a [String], word: &str) -> Option<&'a [String]>
     ensures { MatchOption result ((rest : List (List ℕ)) → map string_bytes words.now ≢ word.now ∷ rest) (λ rest. map string_bytes words.now ≡ word.now ∷ map string_bytes rest.now) }
 {
     let (first, rest) = words.split_first()?;
-    if first.as_str() == word { Some(rest) } else { None }
+    if first.as_str() == word {
+        Some(rest)
+    } else {
+        None
+    }
 }
 
 /// The first word is a property with this name, as `location=`: its value, and the words behind it.
@@ -99,7 +102,11 @@ fn read_blocksize(words: &[String]) -> Option<(u32, &[String])>
 fn limit_of(number: u128) -> u32
     ensures { result ≡ lane_limit number }
 {
-    if number == 0 || number > LARGEST_LIMIT as u128 { LARGEST_LIMIT } else { number as u32 }
+    if number == 0 || number > LARGEST_LIMIT as u128 {
+        LARGEST_LIMIT
+    } else {
+        number as u32
+    }
 }
 
 /// The limit of a queue, and the words behind it.
@@ -118,7 +125,11 @@ fn read_location(words: &[String]) -> Option<(&str, &[String])>
     ensures { MatchOption result ((l : List ℕ) (rest : List (List ℕ)) → IsLocation l → map string_bytes words.now ≢ (codes "location=" ++ l) ∷ rest) (λ read. IsLocation read.0.now × (map string_bytes words.now ≡ (codes "location=" ++ read.0.now) ∷ map string_bytes read.1.now)) }
 {
     let (location, behind) = after_property(words, "location=")?;
-    if is_location(location) { Some((location, behind)) } else { None }
+    if is_location(location) {
+        Some((location, behind))
+    } else {
+        None
+    }
 }
 
 /// The location of a sink, where the words are a sink's and no more.
@@ -127,7 +138,11 @@ fn read_sink(words: &[String]) -> Option<&str>
 {
     let behind = after_word(words, "filesink")?;
     let (location, rest) = read_location(behind)?;
-    if rest.is_empty() { Some(location) } else { None }
+    if rest.is_empty() {
+        Some(location)
+    } else {
+        None
+    }
 }
 
 /// What stands first in the words behind the source's.
@@ -164,7 +179,10 @@ fn read_part(words: &[String]) -> Part<'_>
 }
 
 /// The elements in the middle, up to 64, and the sink's location.
-fn read_tail<'a>(alloc: Global, words: &'a [String]) -> Result<Option<(List<Middle>, &'a str)>, OutOfMemory>
+fn read_tail<'a>(
+    alloc: Global,
+    words: &'a [String],
+) -> Result<Option<(List<Middle>, &'a str)>, OutOfMemory>
     ensures { IfOk result (λ read. MatchOption read (LacksTail (map string_bytes words.now)) (λ tail. ReadsTail (map string_bytes words.now) tail.0 tail.1.now)) }
 {
     let mut middle = List::new(alloc);
@@ -197,7 +215,11 @@ fn read_source(words: &[String]) -> Option<Front<'_>>
     let behind = after_word(words, "filesrc")?;
     let (source, behind) = read_location(behind)?;
     let (blocksize, behind) = read_blocksize(behind)?;
-    Some(Front { source, blocksize, behind })
+    Some(Front {
+        source,
+        blocksize,
+        behind,
+    })
 }
 
 /// The line that the words are, where they are of the form that is read: `filesrc location=A [blocksize=N]`,
@@ -220,4 +242,195 @@ pub fn read_line(alloc: Global, words: &[String]) -> Result<Option<Line>, OutOfM
         middle,
         sink: Text::from_str(alloc, sink)?,
     }))
+}
+
+#[cfg(test)]
+mod tests {
+    use super::*;
+    use std::fmt::Write;
+    use std::test::Fail;
+
+    /// The words of a text with a bar between two words.
+    fn words_of(alloc: Global, text: &str) -> Result<Vec<String>, Fail> {
+        let mut words = Vec::new(alloc);
+        for word in text.split('|') {
+            words.push(String::from_str(alloc, word)?)?;
+        }
+        Ok(words)
+    }
+
+    fn describe(alloc: Global, line: &Line) -> Result<String, Fail> {
+        let mut text = String::new(alloc);
+        write!(text, "{} {}", line.source.as_str(), line.blocksize)?;
+        for one in line.middle.as_slice() {
+            match one {
+                Middle::Identity => text.push_str(" identity")?,
+                Middle::Queue(limit) => write!(text, " queue {limit}")?,
+            }
+        }
+        write!(text, " {}", line.sink.as_str())?;
+        Ok(text)
+    }
+
+    /// What is read: the source, its block size, the elements in the middle and the sink, or `none`.
+    fn read(alloc: Global, words: &[String]) -> Result<String, Fail> {
+        match read_line(alloc, words)? {
+            Some(line) => describe(alloc, &line),
+            None => Ok(String::from_str(alloc, "none")?),
+        }
+    }
+
+    #[test]
+    fn reads_lines(rt: HostRuntime) -> Result<(), Fail> {
+        let alloc = rt.alloc();
+        let rows = [
+            ("filesrc|location=a|!|filesink|location=b", "a 4096 b"),
+            (
+                "filesrc|location=a|blocksize=1|!|filesink|location=b",
+                "a 1 b",
+            ),
+            (
+                "filesrc|location=a|blocksize=1048576|!|filesink|location=b",
+                "a 1048576 b",
+            ),
+            (
+                "filesrc|location=a|blocksize=00000000000000000007|!|filesink|location=b",
+                "a 7 b",
+            ),
+            (
+                "filesrc|location=a|blocksize=000000000000000000007|!|filesink|location=b",
+                "none",
+            ),
+            (
+                "filesrc|location=a|blocksize=1048577|!|filesink|location=b",
+                "none",
+            ),
+            (
+                "filesrc|location=a|blocksize=0|!|filesink|location=b",
+                "none",
+            ),
+            (
+                "filesrc|location=a|blocksize=+1|!|filesink|location=b",
+                "none",
+            ),
+            (
+                "filesrc|location=a|blocksize=-1|!|filesink|location=b",
+                "none",
+            ),
+            (
+                "filesrc|location=a|blocksize=|!|filesink|location=b",
+                "none",
+            ),
+            (
+                "filesrc|location=a|blocksize=1x|!|filesink|location=b",
+                "none",
+            ),
+            (
+                "filesrc|location=a|!|queue|!|identity|!|filesink|location=b",
+                "a 4096 queue 200 identity b",
+            ),
+            (
+                "filesrc|location=a|!|queue|max-size-buffers=1|!|filesink|location=b",
+                "a 4096 queue 1 b",
+            ),
+            (
+                "filesrc|location=a|!|queue|max-size-buffers=0|!|filesink|location=b",
+                "a 4096 queue 16384 b",
+            ),
+            (
+                "filesrc|location=a|!|queue|max-size-buffers=16384|!|filesink|location=b",
+                "a 4096 queue 16384 b",
+            ),
+            (
+                "filesrc|location=a|!|queue|max-size-buffers=16385|!|filesink|location=b",
+                "a 4096 queue 16384 b",
+            ),
+            (
+                "filesrc|location=a|!|queue|max-size-buffers=99999999999999999999|!|filesink|location=b",
+                "a 4096 queue 16384 b",
+            ),
+            (
+                "filesrc|location=a|!|queue|max-size-buffers=+1|!|filesink|location=b",
+                "none",
+            ),
+            ("filesrc|location=a|!|filesink|location=a", "none"),
+            ("filesrc|location=|!|filesink|location=b", "none"),
+            ("filesrc|location=\"a|!|filesink|location=b", "none"),
+            ("filesrc|location=a\\|!|filesink|location=b", "none"),
+            ("filesrc|location=a|!|filesink|location=b c", "none"),
+            (
+                "filesrc|location=a=|!|filesink|location=/b.c",
+                "a= 4096 /b.c",
+            ),
+            ("filesrc|location=a|!|filesink|location=b|", "none"),
+            ("", "none"),
+        ];
+        for (text, want) in rows {
+            let words = words_of(alloc, text)?;
+            let got = read(alloc, &words)?;
+            assert_eq!(rt; got.as_str(), want, "at {text}");
+        }
+        Ok(())
+    }
+
+    /// A line with each kind of word.
+    const FULL: &str =
+        "filesrc|location=a|blocksize=2|!|queue|max-size-buffers=5|!|filesink|location=b";
+
+    #[test]
+    fn refuses_doubled_and_misspelt_words(rt: HostRuntime) -> Result<(), Fail> {
+        let alloc = rt.alloc();
+        for at in 0..9 {
+            let mut words = words_of(alloc, FULL)?;
+            assert_eq!(rt; words.len(), 9);
+            let word = String::from_str(alloc, words[at].as_str())?;
+            let misspelt = format!(in alloc; "x{word}")?;
+            words.insert(at, word)?;
+            assert_eq!(rt; read(alloc, &words)?.as_str(), "none", "doubled {at}");
+            words.remove(at);
+            words[at] = misspelt;
+            assert_eq!(rt; read(alloc, &words)?.as_str(), "none", "misspelt {at}");
+        }
+        Ok(())
+    }
+
+    #[test]
+    fn refuses_missing_and_moved_words(rt: HostRuntime) -> Result<(), Fail> {
+        let alloc = rt.alloc();
+        for (at, without) in [
+            (0, "none"),
+            (1, "none"),
+            (2, "a 4096 queue 5 b"),
+            (3, "none"),
+            (4, "none"),
+            (5, "a 2 queue 200 b"),
+            (6, "none"),
+            (7, "none"),
+        ] {
+            let mut words = words_of(alloc, FULL)?;
+            assert_eq!(rt; words.len(), 9);
+            words.swap(at, at + 1);
+            assert_eq!(rt; read(alloc, &words)?.as_str(), "none", "moved {at}");
+            words.remove(at + 1);
+            assert_eq!(rt; read(alloc, &words)?.as_str(), without, "without {at}");
+        }
+        Ok(())
+    }
+
+    #[test]
+    fn counts_elements(rt: HostRuntime) -> Result<(), Fail> {
+        let alloc = rt.alloc();
+        for (count, fits) in [(1, true), (64, true), (65, false)] {
+            let mut words = words_of(alloc, "filesrc|location=a")?;
+            for _element in 0..count {
+                words.push(String::from_str(alloc, "!")?)?;
+                words.push(String::from_str(alloc, "identity")?)?;
+            }
+            for word in ["!", "filesink", "location=b"] {
+                words.push(String::from_str(alloc, word)?)?;
+            }
+            assert_eq!(rt; read_line(alloc, &words)?.is_some(), fits, "at {count}");
+        }
+        Ok(())
+    }
 }
