@@ -290,94 +290,68 @@ mod tests {
         })
     }
 
-    fn written(
-        alloc: Global,
-        reported: u8,
-        fault: Fault,
-        quiet: bool,
-    ) -> Result<Text, OutOfMemory> {
-        let report = report(alloc, fault)?;
+    /// A fault that ends a run with this status.
+    fn fault_of(alloc: Global, status: u8) -> Result<Fault, OutOfMemory> {
+        match status {
+            2 => Ok(Fault::Form),
+            6 => Ok(Fault::OpenFault {
+                location: Text::from_str(alloc, "b")?,
+            }),
+            7 => Ok(Fault::ReadFault {
+                location: Text::from_str(alloc, "a")?,
+                before: 0,
+                after: 1,
+            }),
+            8 => Ok(Fault::WriteFault {
+                location: Text::from_str(alloc, "b")?,
+                before: 2,
+                after: 4,
+            }),
+            15 => Ok(Fault::TooLong {
+                element: Text::from_str(alloc, "identity0")?,
+                a: 1_099_511_627_776,
+                b: 1,
+            }),
+            _ => Ok(Fault::Nothing),
+        }
+    }
+
+    fn written(alloc: Global, reported: u8, quiet: bool) -> Result<Text, OutOfMemory> {
+        let fault = fault_of(alloc, reported)?;
         let end = Outcome {
             status: reported,
             reported,
             out_before: 0,
             out_after: 0,
-            report,
+            report: report(alloc, fault)?,
         };
         report_text(alloc, &end, quiet)
     }
 
     #[test]
-    fn writes_faults(rt: HostRuntime) -> Result<(), Fail> {
-        let alloc = rt.alloc();
-        let a = Text::from_str(alloc, "a")?;
-        let text = written(
-            alloc,
-            7,
-            Fault::ReadFault {
-                location: a,
-                before: 0,
-                after: 1,
-            },
-            true,
-        )?;
-        assert_eq!(rt;
-            text.as_str(),
-            "status 7 ReadFault\nfault read a faults 0 1\n"
-        );
-        let b = Text::from_str(alloc, "b")?;
-        let text = written(
-            alloc,
-            8,
-            Fault::WriteFault {
-                location: b,
-                before: 2,
-                after: 4,
-            },
-            true,
-        )?;
-        assert_eq!(rt;
-            text.as_str(),
-            "status 8 WriteFault\nfault write b faults 2 4\n"
-        );
-        let b = Text::from_str(alloc, "b")?;
-        let text = written(alloc, 6, Fault::OpenFault { location: b }, true)?;
-        assert_eq!(rt; text.as_str(), "status 6 OpenFault\nfault open b\n");
-        let element = Text::from_str(alloc, "identity0")?;
-        let text = written(
-            alloc,
-            15,
-            Fault::TooLong {
-                element,
-                a: 1_099_511_627_776,
-                b: 1,
-            },
-            true,
-        )?;
-        assert_eq!(rt;
-            text.as_str(),
-            "status 15 TooLong\nfault time identity0 1099511627776 1\n"
-        );
-        let text = written(alloc, 2, Fault::Form, true)?;
-        assert_eq!(rt; text.as_str(), "status 2 BadLine\nfault form\n");
-        Ok(())
-    }
-
-    #[test]
-    fn writes_counts(rt: HostRuntime) -> Result<(), Fail> {
+    fn writes_reports(rt: HostRuntime) -> Result<(), Fail> {
         let alloc = rt.alloc();
         for (reported, quiet, want) in [
+            (0, true, "status 0 Eos\n"),
             (
                 0,
                 false,
                 "status 0 Eos\ncommand 1 unreached\ncommand 2 done i.src=5\npad filesrc0.src items 6 buffers 3\nsink filesink0 bytes 5\n",
             ),
-            (0, true, "status 0 Eos\n"),
+            (2, true, "status 2 BadLine\nfault form\n"),
+            (6, true, "status 6 OpenFault\nfault open b\n"),
+            (7, true, "status 7 ReadFault\nfault read a faults 0 1\n"),
+            (8, true, "status 8 WriteFault\nfault write b faults 2 4\n"),
             (13, false, "status 13 OutOfMemory\n"),
             (13, true, no_memory_text()),
+            (
+                15,
+                true,
+                "status 15 TooLong\nfault time identity0 1099511627776 1\n",
+            ),
         ] {
-            let text = written(alloc, reported, Fault::Nothing, quiet)?;
-            assert_eq!(rt; text.as_str(), want);
+            let text = written(alloc, reported, quiet)?;
+            assert_eq!(rt; text.as_str(), want, "at {reported}");
         }
         Ok(())
     }

@@ -283,90 +283,78 @@ mod tests {
     #[test]
     fn reads_lines(rt: HostRuntime) -> Result<(), Fail> {
         let alloc = rt.alloc();
+        // the source's own words, those in the middle, the location of the sink, and what is read
         let rows = [
-            ("filesrc|location=a|!|filesink|location=b", "a 4096 b"),
+            ("location=a", "", "b", "a 4096 b"),
+            ("location=a|blocksize=1", "", "b", "a 1 b"),
+            ("location=a|blocksize=1048576", "", "b", "a 1048576 b"),
             (
-                "filesrc|location=a|blocksize=1|!|filesink|location=b",
-                "a 1 b",
-            ),
-            (
-                "filesrc|location=a|blocksize=1048576|!|filesink|location=b",
-                "a 1048576 b",
-            ),
-            (
-                "filesrc|location=a|blocksize=00000000000000000007|!|filesink|location=b",
+                "location=a|blocksize=00000000000000000007",
+                "",
+                "b",
                 "a 7 b",
             ),
             (
-                "filesrc|location=a|blocksize=000000000000000000007|!|filesink|location=b",
+                "location=a|blocksize=000000000000000000007",
+                "",
+                "b",
                 "none",
             ),
+            ("location=a|blocksize=1048577", "", "b", "none"),
+            ("location=a|blocksize=0", "", "b", "none"),
+            ("location=a|blocksize=+1", "", "b", "none"),
+            ("location=a|blocksize=-1", "", "b", "none"),
+            ("location=a|blocksize=", "", "b", "none"),
+            ("location=a|blocksize=1x", "", "b", "none"),
             (
-                "filesrc|location=a|blocksize=1048577|!|filesink|location=b",
-                "none",
-            ),
-            (
-                "filesrc|location=a|blocksize=0|!|filesink|location=b",
-                "none",
-            ),
-            (
-                "filesrc|location=a|blocksize=+1|!|filesink|location=b",
-                "none",
-            ),
-            (
-                "filesrc|location=a|blocksize=-1|!|filesink|location=b",
-                "none",
-            ),
-            (
-                "filesrc|location=a|blocksize=|!|filesink|location=b",
-                "none",
-            ),
-            (
-                "filesrc|location=a|blocksize=1x|!|filesink|location=b",
-                "none",
-            ),
-            (
-                "filesrc|location=a|!|queue|!|identity|!|filesink|location=b",
+                "location=a",
+                "!|queue|!|identity|",
+                "b",
                 "a 4096 queue 200 identity b",
             ),
             (
-                "filesrc|location=a|!|queue|max-size-buffers=1|!|filesink|location=b",
+                "location=a",
+                "!|queue|max-size-buffers=1|",
+                "b",
                 "a 4096 queue 1 b",
             ),
             (
-                "filesrc|location=a|!|queue|max-size-buffers=0|!|filesink|location=b",
+                "location=a",
+                "!|queue|max-size-buffers=0|",
+                "b",
                 "a 4096 queue 16384 b",
             ),
             (
-                "filesrc|location=a|!|queue|max-size-buffers=16384|!|filesink|location=b",
+                "location=a",
+                "!|queue|max-size-buffers=16384|",
+                "b",
                 "a 4096 queue 16384 b",
             ),
             (
-                "filesrc|location=a|!|queue|max-size-buffers=16385|!|filesink|location=b",
+                "location=a",
+                "!|queue|max-size-buffers=16385|",
+                "b",
                 "a 4096 queue 16384 b",
             ),
             (
-                "filesrc|location=a|!|queue|max-size-buffers=99999999999999999999|!|filesink|location=b",
+                "location=a",
+                "!|queue|max-size-buffers=99999999999999999999|",
+                "b",
                 "a 4096 queue 16384 b",
             ),
-            (
-                "filesrc|location=a|!|queue|max-size-buffers=+1|!|filesink|location=b",
-                "none",
-            ),
-            ("filesrc|location=a|!|filesink|location=a", "none"),
-            ("filesrc|location=|!|filesink|location=b", "none"),
-            ("filesrc|location=\"a|!|filesink|location=b", "none"),
-            ("filesrc|location=a\\|!|filesink|location=b", "none"),
-            ("filesrc|location=a|!|filesink|location=b c", "none"),
-            (
-                "filesrc|location=a=|!|filesink|location=/b.c",
-                "a= 4096 /b.c",
-            ),
-            ("filesrc|location=a|!|filesink|location=b|", "none"),
-            ("", "none"),
+            ("location=a", "!|queue|max-size-buffers=+1|", "b", "none"),
+            ("location=a", "", "a", "none"),
+            ("location=", "", "b", "none"),
+            ("location=\"a", "", "b", "none"),
+            ("location=a\\", "", "b", "none"),
+            ("location=a", "", "b c", "none"),
+            ("location=a=", "", "/b.c", "a= 4096 /b.c"),
+            ("location=a", "", "b|", "none"),
+            ("", "", "b", "none"),
         ];
-        for (text, want) in rows {
-            let words = words_of(alloc, text)?;
+        for (source, middle, sink, want) in rows {
+            let text = format!(in alloc; "filesrc|{source}|{middle}!|filesink|location={sink}")?;
+            let words = words_of(alloc, text.as_str())?;
             let got = read(alloc, &words)?;
             assert_eq!(rt; got.as_str(), want, "at {text}");
         }
