@@ -1,8 +1,8 @@
 -- The words of a property, where it is given and where it is not.
-use Rattle.std.proofs.Common.{◌≡◌, ◌≢◌, ◌≤◌, ◌⊎◌, ℕ, List, [], ◌∷◌, ◌++◌, codes, refl, sym, ◌∙◌, inl, inr}
+use Rattle.std.proofs.Common.{◌≡◌, ◌≢◌, ◌≤◌, ℕ, List, [], ◌∷◌, ◌++◌, codes, refl, sym, ◌∙◌, inl, inr}
 use Rattle.std.specs.Str.Parse.{digits_value}
 use Rattle.gst_run.specs.Words.{IsNumber, SpellsBlocksize, SpellsLimit, lane_limit}
-use Rattle.gst_run.specs.Reading.{ReadsProperty, LacksProperty, IsBehindBang}
+use Rattle.gst_run.specs.Reading.{ReadsProperty}
 
 pub size_absent : (words : List (List ℕ)) → ((value : List ℕ) (rest : List (List ℕ)) → words ≢ (codes "blocksize=" ++ value) ∷ rest) → ReadsProperty SpellsBlocksize words 4096 words
 size_absent words none = record {

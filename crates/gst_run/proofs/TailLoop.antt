@@ -1,5 +1,5 @@
 -- The loop over the elements in the middle.
-use Rattle.std.proofs.Common.{◌≡◌, ◌≤◌, ◌<◌, ◌+◌, ℕ, List, [], ◌∷◌, ◌++◌, length, length-append, append_assoc, append-nil, refl, sym, ◌∙◌, ap, arith}
+use Rattle.std.proofs.Common.{◌≡◌, ◌≤◌, ◌<◌, ℕ, List, [], ◌∷◌, ◌++◌, length, length-append, append_assoc, append-nil, refl, sym, ◌∙◌, ap, arith}
 use Rattle.world_core.specs.declared.line.Middle.{Middle}
 use Rattle.gst_run.specs.Words.{IsLocation, sink_words}
 use Rattle.gst_run.specs.Reading.{SpellsTail, ReadsElement, ReadsTail, LacksTail}

@@ -1,9 +1,9 @@
 -- What stands behind a `!`, and what is read there.
-use Rattle.std.proofs.Common.{◌≡◌, ◌≢◌, ◌≤◌, ℕ, List, [], ◌∷◌, ◌++◌, codes, refl, sym, ◌∙◌, ap, append_assoc, get_or, ◌<◌, lit<, arith}
+use Rattle.std.proofs.Common.{◌≡◌, ◌≢◌, ℕ, List, [], ◌∷◌, ◌++◌, codes, refl, sym, ◌∙◌, ap, append_assoc, get_or, ◌<◌, lit<, arith}
 use Rattle.world_core.specs.declared.line.Line.{Line}
 use Rattle.world_core.specs.declared.line.Middle.{Middle}
 use Rattle.world_core.specs.declared.line.Middle.TheVariants.{Identity, Queue}
-use Rattle.gst_run.specs.Words.{IsForm, IsLocation, SpellsBlocksize, SpellsLimit, SpellsMiddle, sink_words}
+use Rattle.gst_run.specs.Words.{IsForm, IsLocation, SpellsBlocksize, SpellsLimit, sink_words}
 use Rattle.gst_run.specs.Reading.{SpellsTail, IsBehindBang, ReadsProperty, LacksProperty, ReadsElement, ReadsSource, ReadsTail, LacksTail}
 
 with_sink : (own other : List (List ℕ)) (sink : List ℕ) → own ≡ other → own ++ sink_words sink ≡ other ++ sink_words sink

@@ -1,5 +1,5 @@
 -- What the steps of reading a launch line say of the words: what they read, and that no other reading fits.
-use Rattle.std.specs.Prelude.{◌≡◌, ◌≢◌, ℕ, List, [], ◌∷◌, ◌++◌, ◌≤◌, length, codes}
+use Rattle.std.specs.Prelude.{◌≡◌, ◌≢◌, ℕ, List, ◌∷◌, ◌++◌, ◌≤◌, length, codes}
 use Rattle.world_core.specs.declared.line.Line.{Line}
 use Rattle.world_core.specs.declared.line.Middle.{Middle}
 use Rattle.gst_run.specs.Words.{SpellsMiddle, SpellsBlocksize, IsLocation, IsForm, sink_words}

@@ -1,5 +1,5 @@
 -- The number is what `parse` reads, as no plus stands in front.
-use Rattle.std.proofs.Common.{◌≢◌, get_or, sym, arith, lit<, ◌∙◌}
+use Rattle.std.proofs.Common.{◌≢◌, get_or, sym, arith, ◌∙◌}
 use Rattle.std.proofs.lemmas.Str.Pattern.{starts_char}
 use Rattle.gst_run.proofs.words.read_number.Goals as goal
 use Rattle.gst_run.proofs.Numbers.{number_read}

@@ -1,5 +1,5 @@
 -- What was read and what is left.
-use Rattle.std.proofs.Common.{◌≡◌, ℕ, map, length}
+use Rattle.std.proofs.Common.{◌≡◌, map, length}
 use Rattle.std.specs.String.{string_bytes}
 use Rattle.gst_run.proofs.TailLoop.{ReadsMiddle}
 use Rattle.gst_run.proofs.words.read_tail.Given as goal
