@@ -3,3 +3,4 @@ pub mod Properties
 pub mod ReportLines
 pub mod TailLoop
 pub mod Tails
+pub mod Writes

@@ -2,6 +2,7 @@
 #![tactic(auto)]
 
 mod report;
+mod run;
 mod words;
 
 use std::io;

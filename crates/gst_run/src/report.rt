@@ -31,7 +31,7 @@ const OUT_OF_MEMORY: u8 = 13;
 pub const NO_MEMORY: &str = "status 13 OutOfMemory\n";
 
 /// The whole text of a report where there was no memory, which takes none itself.
-pub fn no_memory_text() -> &'static str
+pub fn no_memory() -> &'static str
     ensures { result.now ≡ status_line 13 }
 {
     NO_MEMORY
@@ -343,7 +343,7 @@ mod tests {
             (7, true, "status 7 ReadFault\nfault read a faults 0 1\n"),
             (8, true, "status 8 WriteFault\nfault write b faults 2 4\n"),
             (13, false, "status 13 OutOfMemory\n"),
-            (13, true, no_memory_text()),
+            (13, true, no_memory()),
             (
                 15,
                 true,

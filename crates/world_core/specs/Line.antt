@@ -1,5 +1,5 @@
 -- Lines, their pads, and the histories of these pads.
-use Rattle.std.specs.Prelude.{ℕ, suc, ◌+◌, ◌≤◌, List, [], ◌∷◌, ◌++◌, length, map, codes}
+use Rattle.std.specs.Prelude.{ℕ, suc, ◌+◌, List, [], ◌∷◌, ◌++◌, length, map, codes}
 use Rattle.std.specs.Fmt.{decimal}
 use Rattle.gst_caps.specs.declared.name.PadName.{PadName}
 use Rattle.flow_model.specs.declared.report.PadCount.{PadCount}

@@ -1,4 +1,6 @@
 //! Lines: a file source, elements that pass all, and a file sink.
+ghost use Rattle.std.specs.Prelude.{◌≤◌};
+
 use gst_caps::{List, Text};
 
 /// An element in the middle of a line.
@@ -6,7 +8,7 @@ use gst_caps::{List, Text};
 pub enum Middle {
     /// An `identity`.
     Identity,
-    /// A `queue` whose lane holds this many items, 1 to 16,384.
+    /// A `queue` with this limit of items; 0 and every number above 16,384 act as 16,384.
     Queue(u32),
 }
 
@@ -20,4 +22,6 @@ pub struct Line {
     pub middle: List<Middle>,
     /// The location of the sink.
     pub sink: Text,
+    ghost blocks: { 1 ≤ blocksize },
+    ghost small: { blocksize ≤ 1048576 },
 }

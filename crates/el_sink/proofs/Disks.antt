@@ -1,0 +1,67 @@
+-- A file behind a body, behind an item, and behind a list.
+use Rattle.std.proofs.Common.{◌≡◌, ℕ, ◌+◌, ◌≤◌, Bool, true, false, if◌then◌else◌, List, [], ◌∷◌, ◌++◌, fold, length, take, refl, ap, sym, ◌∙◌, arith, Option, None, Some, option_map, Result, Ok, Err, IfOk}
+use Rattle.std.specs.Option.{ForSome}
+use Rattle.std.proofs.lemmas.List.Sums.{fold_push}
+use Rattle.std.proofs.lemmas.List.{take_all}
+use Rattle.gst_time.specs.declared.segment.Segment.{Segment}
+use Rattle.flow_model.specs.Item.{Item, Buf, Ev, StreamStart, NewSegment, Tag, Gap, FlushStop, Eos, Format, Bytes, Time, is_flush_stop, is_eos}
+use Rattle.flow_model.specs.SinkBytes.{Disk, empty_disk, at_segment, rendered, reopened, next_disk, disk_after}
+use Rattle.gst_item.specs.declared.flow.Flow.{Flow}
+use Rattle.el_sink.specs.declared.file_sink.FileSink.{FileSink}
+use Rattle.el_sink.specs.Ended.{next_ended, has_ended, flow_for, flow_behind}
+use Rattle.el_sink.specs.Held.{IsDisk, Held}
+
+-- told bytes behind a change of them
+pub told_map : (was is : Option (List ℕ)) (change : List ℕ → List ℕ) (bytes : List ℕ) → is ≡ option_map change was → ForSome was (λ b. b ≡ bytes) → ForSome is (λ b. b ≡ change bytes)
+told_map None is change bytes e told = λ b told_now. absurd (cc)
+told_map (Some b) is change bytes e told = λ now told_now.
+    let same : Some now ≡ Some (change b) = sym told_now ∙ e in
+    let value : now ≡ change b = cc in
+    value ∙ ap change (told b refl)
+
+-- an open of a location for writing gives an empty file
+pub fresh_empty : (was is : Option (List ℕ)) → is ≡ option_map (λ _. []) was → ForSome is (λ b. b ≡ [])
+fresh_empty None is e = λ b told. absurd (cc)
+fresh_empty (Some old) is e = λ b told.
+    let same : Some b ≡ Some [] = sym told ∙ e in
+    let value : b ≡ [] = cc in
+    value
+
+-- one more item
+pub disk_push : (keep : Bool) (list : List Item) (x : Item) → disk_after keep (list ++ x ∷ []) ≡ next_disk keep (disk_after keep list) x
+disk_push keep list x = fold_push (next_disk keep) empty_disk list x
+
+-- the sink knows whether its stream has ended as the list does
+chosen : (b : Bool) (d r : Disk) (v : Bool) → d.ended ≡ b → (b ≡ false → r.ended ≡ v) → (if b then d else r).ended ≡ (if b then true else v)
+chosen true d r v e h = e
+chosen false d r v e h = h refl
+
+segment_keeps : (d : Disk) (segment : Segment) (format : Format) → (at_segment d segment format).ended ≡ d.ended
+segment_keeps d segment Bytes = refl
+segment_keeps d segment Time = refl
+
+reopened_open : (keep : Bool) (d : Disk) → (reopened keep d).ended ≡ false
+reopened_open true d = refl
+reopened_open false d = refl
+
+next_agrees : (keep : Bool) (d : Disk) (x : Item) → (next_disk keep d x).ended ≡ next_ended d.ended x
+next_agrees keep d (Buf b) = chosen d.ended d (rendered d (Buf b)) false refl (λ e. e)
+next_agrees keep d (Ev (StreamStart id)) = chosen d.ended d d false refl (λ e. e)
+next_agrees keep d (Ev (NewSegment segment)) = chosen d.ended d (at_segment d segment segment.format) false refl (λ e. segment_keeps d segment segment.format ∙ e)
+next_agrees keep d (Ev (Tag title)) = chosen d.ended d d false refl (λ e. e)
+next_agrees keep d (Ev (Gap pts duration)) = chosen d.ended d d false refl (λ e. e)
+next_agrees keep d (Ev (FlushStop number)) = reopened_open keep d
+next_agrees keep d (Ev Eos) = chosen d.ended d (rendered d (Ev Eos)) true refl (λ e. refl)
+
+agree_along : (keep : Bool) (d : Disk) (list : List Item) → (fold (next_disk keep) d list).ended ≡ fold next_ended d.ended list
+agree_along keep d [] = refl
+agree_along keep d (x ∷ xs) = agree_along keep (next_disk keep d x) xs ∙ ap (λ ended. fold next_ended ended xs) (next_agrees keep d x)
+
+pub ended_agrees : (keep : Bool) (list : List Item) → (disk_after keep list).ended ≡ has_ended list
+ended_agrees keep list = agree_along keep empty_disk list
+
+-- what the sink answers is what its list says
+pub flow_by_list : {K E : Type 0} (bytes_of : K → Option (List ℕ)) (file : FileSink K) (answer : Result Flow E) (x : Item) → IfOk answer (λ flow. flow ≡ flow_for file.ended x)
+    → IfOk answer (λ flow. (keep : Bool) (list : List Item) → Held bytes_of keep file list → flow ≡ flow_behind list x)
+flow_by_list bytes_of file (Ok flow) x e = λ keep list held. e ∙ ap (λ ended. flow_for ended x) (held.disk.over ∙ ended_agrees keep list)
+flow_by_list bytes_of file (Err fault) x e = tt

@@ -1,0 +1,3 @@
+pub mod Blocks
+pub mod Filling
+pub mod Giving

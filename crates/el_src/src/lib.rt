@@ -1,0 +1,11 @@
+//! Sources: elements that make a stream.
+#![tactic(auto)]
+
+pub mod answer;
+pub mod block;
+pub mod fault;
+pub mod file_src;
+
+pub use answer::Next;
+pub use fault::{SizeFault, SrcFault};
+pub use file_src::FileSrc;

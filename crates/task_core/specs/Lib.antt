@@ -1,0 +1,4 @@
+pub mod Head
+pub mod Inlets
+pub mod Pads
+pub mod Tail
