@@ -10,7 +10,7 @@ use Rattle.flow_model.specs.Prefix.{IsPrefix, nothing, next}
 use Rattle.flow_model.specs.Section.{section}
 use Rattle.flow_model.specs.Sticky.{stickies}
 use Rattle.flow_model.specs.Call.{Call, Feed, feeds, with_marks}
-use Rattle.flow_model.specs.Rule.{Owed, Fed, unfed, answered, flushed, all_called, owed_for, single, passes}
+use Rattle.flow_model.specs.Rule.{Owed, Fed, unfed, responded, flushed, all_called, owed_for, single, passes}
 use Rattle.flow_model.specs.Link.{Linked, input_of}
 use Rattle.flow_model.specs.Eval.{inputs, whole_over, with_whole}
 use Rattle.flow_model.specs.Account.{PadAccount, Agrees, Each, EachSourceOf, GoesForward, IsMember}
@@ -45,16 +45,16 @@ pub passed_from : (s : Fed) (xs : List Item) → s.over ≡ false → IsPlain xs
 passed_from s [] begun h = sym (append-nil s.out)
 passed_from s (x ∷ xs) begun h =
     go (is_flush_stop x) s.over h.0 begun
-    (last (is_eos x) refl (λ e. passed_from (answered s x (Ok (x ∷ []))) xs e h.2 ∙ append_assoc s.out (x ∷ []) xs))
+    (last (is_eos x) refl (λ e. passed_from (responded s x (Ok (x ∷ []))) xs e h.2 ∙ append_assoc s.out (x ∷ []) xs))
   where
     last : (b : Bool) → is_eos x ≡ b
-        → (is_eos x ≡ false → (all_called passes (answered s x (Ok (x ∷ []))) (feeds xs)).out ≡ s.out ++ x ∷ xs)
-        → (all_called passes (answered s x (Ok (x ∷ []))) (feeds xs)).out ≡ s.out ++ x ∷ xs
+        → (is_eos x ≡ false → (all_called passes (responded s x (Ok (x ∷ []))) (feeds xs)).out ≡ s.out ++ x ∷ xs)
+        → (all_called passes (responded s x (Ok (x ∷ []))) (feeds xs)).out ≡ s.out ++ x ∷ xs
     last true e more = rw (h.1 e) refl
     last false e more = more e
 
-    go : (f o : Bool) → f ≡ false → o ≡ false → (all_called passes (answered s x (Ok (x ∷ []))) (feeds xs)).out ≡ s.out ++ x ∷ xs
-        → (all_called passes (if f then flushed s x else (if o then s else answered s x (Ok (x ∷ [])))) (feeds xs)).out ≡ s.out ++ x ∷ xs
+    go : (f o : Bool) → f ≡ false → o ≡ false → (all_called passes (responded s x (Ok (x ∷ []))) (feeds xs)).out ≡ s.out ++ x ∷ xs
+        → (all_called passes (if f then flushed s x else (if o then s else responded s x (Ok (x ∷ [])))) (feeds xs)).out ≡ s.out ++ x ∷ xs
     go true o e e' same = cc
     go false true e e' same = cc
     go false false e e' same = same

@@ -5,6 +5,7 @@ pub mod Eval
 pub mod Item
 pub mod Link
 pub mod Prefix
+pub mod ReportText
 pub mod Rule
 pub mod Section
 pub mod SinkBytes

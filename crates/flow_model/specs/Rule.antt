@@ -29,19 +29,19 @@ unfed = record { given = []; out = []; over = false }
 
 -- What an element with one sink pad owes for its next item, where its section is not over. It looks back over
 -- what it was given and what it owed for that. No FLUSH_STOP is asked about.
-abbrev pub Answer : Type 0
-Answer = Fed → Item → Result (List Item) Fault
+abbrev pub Response : Type 0
+Response = Fed → Item → Result (List Item) Fault
 
-abbrev pub answered : Fed → Item → Result (List Item) Fault → Fed
-answered s x (Ok ys) = record { given = s.given ++ Feed x ∷ []; out = s.out ++ ys; over = is_eos x }
-answered s x (Err fault) = record { given = s.given; out = s.out; over = true }
+abbrev pub responded : Fed → Item → Result (List Item) Fault → Fed
+responded s x (Ok ys) = record { given = s.given ++ Feed x ∷ []; out = s.out ++ ys; over = is_eos x }
+responded s x (Err fault) = record { given = s.given; out = s.out; over = true }
 
 -- FLUSH_STOP crosses, and a new section begins
 abbrev pub flushed : Fed → Item → Fed
 flushed s x = record { given = s.given ++ Feed x ∷ []; out = s.out ++ x ∷ []; over = false }
 
-abbrev pub fed_item : Answer → Fed → Item → Fed
-fed_item answer s x = if is_flush_stop x then flushed s x else (if s.over then s else answered s x (answer s x))
+abbrev pub fed_item : Response → Fed → Item → Fed
+fed_item respond s x = if is_flush_stop x then flushed s x else (if s.over then s else responded s x (respond s x))
 
 -- A drain puts out what EOS would make the element put out, without the EOS.
 abbrev pub not_eos : Item → Bool
@@ -51,17 +51,17 @@ abbrev pub drained : Fed → Result (List Item) Fault → Fed
 drained s (Ok ys) = record { given = s.given ++ Act Drain ∷ []; out = s.out ++ filter not_eos ys; over = s.over }
 drained s (Err fault) = record { given = s.given; out = s.out; over = true }
 
-abbrev pub called : Answer → Fed → Call → Fed
-called answer s (Feed x) = fed_item answer s x
-called answer s (Act Drain) = if s.over then s else drained s (answer s (Ev Eos))
+abbrev pub called : Response → Fed → Call → Fed
+called respond s (Feed x) = fed_item respond s x
+called respond s (Act Drain) = if s.over then s else drained s (respond s (Ev Eos))
 
-abbrev pub all_called : Answer → Fed → List Call → Fed
-all_called answer s [] = s
-all_called answer s (c ∷ cs) = all_called answer (called answer s c) cs
+abbrev pub all_called : Response → Fed → List Call → Fed
+all_called respond s [] = s
+all_called respond s (c ∷ cs) = all_called respond (called respond s c) cs
 
 -- what is owed for all that was given, with the FLUSH_STOPs
-abbrev pub owed_for : Answer → List Call → List Item
-owed_for answer calls = (all_called answer unfed calls).out
+abbrev pub owed_for : Response → List Call → List Item
+owed_for respond calls = (all_called respond unfed calls).out
 
 -- what the only sink pad was given
 abbrev pub only : List (List Call) → List Call
@@ -69,9 +69,9 @@ only [] = []
 only (cs ∷ css) = cs
 
 -- the rule of an element with one sink pad, whose source pads all get the same
-abbrev pub single : Answer → Rule
-single answer inputs port j = section j (owed_for answer (only inputs))
+abbrev pub single : Response → Rule
+single respond inputs port j = section j (owed_for respond (only inputs))
 
 -- identity and queue pass all
-abbrev pub passes : Answer
+abbrev pub passes : Response
 passes fed x = Ok (x ∷ [])

@@ -5,15 +5,19 @@ ghost use Rattle.std.specs.Prelude.{◌≡◌, ℕ, List, []};
 ghost use Rattle.flow_model.specs.Item.{Item};
 ghost use Rattle.flow_model.specs.Prefix.{IsPrefix};
 ghost use Rattle.flow_model.specs.Call.{Call};
-ghost use Rattle.flow_model.specs.Rule.{Answer, owed_for};
+ghost use Rattle.flow_model.specs.Rule.{Response, owed_for};
 ghost use Rattle.flow_model.specs.Eval.{Plan, eval};
 ghost use Rattle.flow_model.specs.Account.{GoesForward, Each, Agrees, IsMember};
 ghost use Rattle.flow_model.specs.Chain.{ChainToWhole, ChainWhole};
 
+pub mod report;
+
+pub use report::{Answer, Entry, Fault, PadCount, Place, Report, SinkCount};
+
 /// What an element with one sink pad owes for a beginning of what it is given begins what it owes for the whole.
 #[tactic(auto, using(crate::proofs::Sections::owed_for_prefix))]
 pub fn owes_in_order()
-    ensures { (answer : Answer) (calls more : List Call) → IsPrefix calls more → IsPrefix (owed_for answer calls) (owed_for answer more) }
+    ensures { (respond : Response) (calls more : List Call) → IsPrefix calls more → IsPrefix (owed_for respond calls) (owed_for respond more) }
 {}
 
 /// From the parts to the whole: lists that agree at each element of a graph are the histories of its evaluation.

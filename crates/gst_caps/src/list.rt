@@ -1,8 +1,10 @@
 //! Lists.
-ghost use Rattle.std.specs.Prelude.{◌≡◌, [], ◌∷◌, ◌++◌, OnOk, OnErr};
+ghost use Rattle.std.specs.Prelude.{◌≡◌, ◌≤◌, ◌+◌, [], ◌∷◌, ◌++◌, OnOk, OnErr, vec_len, vec_capacity};
+ghost use Rattle.std.specs.VecDeque.{deque_len, deque_capacity};
 
 use crate::memory::OutOfMemory;
 use std::alloc::Global;
+use std::collections::VecDeque;
 use std::marker::Model;
 
 /// A list in memory, seen as the list of its members.
@@ -60,5 +62,28 @@ impl<T: Drop> List<T> {
     {
         self.members.push(one)?;
         Ok(())
+    }
+    /// Moves all members of a queue behind the list, in their order. Where there is no memory both stay.
+    pub fn pour(&mut self, _alloc: Global, from: &mut VecDeque<T>) -> Result<(), OutOfMemory>
+        ensures ok { OnOk result (self.new ≡ self.old ++ from.old.items) }
+        ensures taken { OnOk result (from.new.items ≡ []) }
+        ensures err { OnErr result ((self.new ≡ self.old) × (from.new ≡ from.old)) }
+        ensures capacity { deque_capacity from.new ≡ deque_capacity from.old }
+    {
+        self.members.reserve(from.len())?;
+        pour_reserved(&mut self.members, from);
+        Ok(())
+    }
+}
+
+/// Moves all members of a queue into room that was taken before.
+fn pour_reserved<T: Drop>(into: &mut Vec<T>, from: &mut VecDeque<T>)
+    requires { vec_len into.old + deque_len from.old ≤ vec_capacity into.old }
+    ensures whole { into.new.items ≡ into.old.items ++ from.old.items }
+    ensures taken { from.new.items ≡ [] }
+    ensures capacity { deque_capacity from.new ≡ deque_capacity from.old }
+{
+    while let Some(member) = from.pop_front() {
+        into.push_reserved(member);
     }
 }

@@ -1,2 +1,4 @@
 pub mod Counts
+pub mod Entries
+mod Reading
 pub mod Writing

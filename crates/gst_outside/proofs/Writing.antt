@@ -1,6 +1,6 @@
 -- What callers need of writes.
-use Rattle.std.proofs.Common.{◌≡◌, ℕ, ◌+◌, ◌-◌, ◌<◌, ◌≤◌, max, List, [], ◌∷◌, ◌++◌, length, take, drop, replicate, refl, ap, sym, ◌∙◌, append_assoc, arith, length-append, length-take, length-drop, Option, option_map, None, Some, add-zero}
-use Rattle.std.proofs.lemmas.List.{append-nil, length-replicate, take_at, drop_at, drop-drop, take_all, drop_all}
+use Rattle.std.proofs.Common.{◌≡◌, ℕ, zero, suc, ◌+◌, ◌-◌, ◌<◌, ◌≤◌, max, List, [], ◌∷◌, ◌++◌, length, take, drop, replicate, refl, ap, sym, ◌∙◌, append_assoc, arith, length-append, length-take, length-drop, Option, option_map, None, Some, add-zero}
+use Rattle.std.proofs.lemmas.List.{append-nil, length-replicate, take_at, drop_at, take-replicate, drop-drop, take_all, drop_all}
 use Rattle.gst_outside.specs.Bytes.{up_to, put, written}
 
 pub length-up_to : (n : ℕ) (bytes : List ℕ) → length (up_to n bytes) ≡ n
@@ -74,3 +74,54 @@ written_at_end bytes (x ∷ xs) =
     ap (λ u. u ++ (x ∷ xs) ++ drop (length bytes + length (x ∷ xs)) bytes) start
     ∙ ap (λ d. bytes ++ (x ∷ xs) ++ d) none
     ∙ append-nil (bytes ++ (x ∷ xs))
+
+-- the front of two lists joined
+take_over : (xs ys : List ℕ) (n : ℕ) → take n (xs ++ ys) ≡ take n xs ++ take (n - length xs) ys
+take_over [] ys zero = refl
+take_over [] ys (suc n) = let e : suc n - 0 ≡ suc n = omega arith in ap (λ k. take k ys) (sym e)
+take_over (x ∷ xs) ys zero = let e : 0 - length (x ∷ xs) ≡ 0 = omega arith in ap (λ k. take k ys) (sym e)
+take_over (x ∷ xs) ys (suc n) =
+    let e : suc n - length (x ∷ xs) ≡ n - length xs = omega arith in
+    ap (λ l. x ∷ l) (take_over xs ys n) ∙ ap (λ k. x ∷ take n xs ++ take k ys) (sym e)
+
+up_to_stretched : (bytes : List ℕ) (place n : ℕ) → place ≤ n → up_to place (bytes ++ replicate (n - length bytes) 0) ≡ up_to place bytes
+up_to_stretched bytes place n h =
+    let long : place ≤ length (bytes ++ replicate (n - length bytes) 0) = simp (length-append, length-replicate) (omega arith) in
+    let small : place - length bytes ≤ n - length bytes = omega arith in
+    up_to_short place (bytes ++ replicate (n - length bytes) 0) long
+    ∙ take_over bytes (replicate (n - length bytes) 0) place
+    ∙ ap (λ l. take place bytes ++ l) (take-replicate (place - length bytes) (n - length bytes) 0 small)
+
+-- the rest of two lists joined
+drop_over : (xs ys : List ℕ) (n : ℕ) → drop n (xs ++ ys) ≡ drop n xs ++ drop (n - length xs) ys
+drop_over [] ys zero = refl
+drop_over [] ys (suc n) = let e : suc n - 0 ≡ suc n = omega arith in ap (λ k. drop k ys) (sym e)
+drop_over (x ∷ xs) ys zero = let e : 0 - length (x ∷ xs) ≡ 0 = omega arith in ap (λ k. (x ∷ xs) ++ drop k ys) (sym e)
+drop_over (x ∷ xs) ys (suc n) =
+    let e : suc n - length (x ∷ xs) ≡ n - length xs = omega arith in
+    drop_over xs ys n ∙ ap (λ k. drop n xs ++ drop k ys) (sym e)
+
+drop_stretched : (bytes : List ℕ) (n : ℕ) → drop n (bytes ++ replicate (n - length bytes) 0) ≡ drop n bytes
+drop_stretched bytes n =
+    let k = n - length bytes in
+    let none : drop k (replicate k 0) ≡ [] = drop_all k (replicate k 0) (rw length-replicate (omega arith)) in
+    drop_over bytes (replicate k 0) n ∙ ap (λ l. drop n bytes ++ l) none ∙ append-nil (drop n bytes)
+
+-- zeros that reach the end of a piece change nothing in what its write leaves
+pub put_stretched : (bytes : List ℕ) (place : ℕ) (piece : List ℕ) → put (bytes ++ replicate (place + length piece - length bytes) 0) place piece ≡ put bytes place piece
+put_stretched bytes place piece =
+    let n = place + length piece in
+    let early : place ≤ place + length piece = omega arith in
+    ap (λ u. u ++ piece ++ drop n (bytes ++ replicate (n - length bytes) 0)) (up_to_stretched bytes place n early)
+    ∙ ap (λ d. up_to place bytes ++ piece ++ d) (drop_stretched bytes n)
+
+-- a piece put over bytes of which there are enough, in a vector that had them
+pub stored : (bytes whole part after : List ℕ) (size place : ℕ) (piece : List ℕ) → whole ≡ bytes ++ replicate (place + length piece - length bytes) 0 → part ≡ whole → length part ≡ size → after ≡ put part place piece → 0 < length piece → take size (after ++ drop (length after) whole) ≡ written bytes place piece
+stored bytes whole part after size place piece stretched same long put_is some =
+    let is_put : after ≡ put bytes place piece = put_is ∙ ap (λ l. put l place piece) (same ∙ stretched) ∙ put_stretched bytes place piece in
+    let after_length : length after ≡ max (length bytes) (place + length piece) = ap length is_put ∙ length-put bytes place piece in
+    let whole_length : length whole ≡ length bytes + (place + length piece - length bytes) = ap length stretched ∙ simp (length-append, length-replicate) in
+    let part_length : length part ≡ length whole = ap length same in
+    let none : drop (length after) whole ≡ [] = drop_all (length after) whole (omega arith) in
+    ap (λ d. take size (after ++ d)) none ∙ ap (take size) (append-nil after) ∙ take_all size after (omega arith)
+    ∙ is_put ∙ sym (written_put bytes place piece some)

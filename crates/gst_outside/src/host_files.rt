@@ -1,0 +1,105 @@
+//! Files of the host.
+ghost use Rattle.std.specs.Prelude.{◌≡◌, None};
+ghost use Rattle.gst_outside.specs.Causes.{raised};
+
+use crate::file_sink::FileSink;
+use crate::file_source::FileSource;
+use crate::files::Files;
+use crate::opening::OpenEnd;
+use gst_caps::Text;
+use std::alloc::Global;
+use std::fs::{self, File};
+
+/// The files of the host. They tell nothing but their count of failures and of open ends.
+#[derive(Drop)]
+pub struct HostFiles<R: fs::Files<File = File> + Drop> {
+    pub faults: u64,
+    pub ends: u64,
+    host: R,
+}
+
+impl<R: fs::Files<File = File> + Drop> HostFiles<R> {
+    /// The files that a runtime reaches.
+    pub fn new(host: R) -> HostFiles<R>
+        ensures faults { result.faults ≡ 0 }
+        ensures ends { result.ends ≡ 0 }
+    {
+        HostFiles {
+            faults: 0,
+            ends: 0,
+            host,
+        }
+    }
+
+    /// How many ends were given out and not yet closed.
+    pub fn ends(&self) -> u64
+        ensures { result ≡ self.now.ends }
+    {
+        self.ends
+    }
+
+    fn refuse(&mut self) -> OpenEnd
+        ensures answer { result ≡ OpenEnd.Failed }
+        ensures faults { self.new.faults ≡ raised self.old.faults }
+        ensures ends { self.new.ends ≡ self.old.ends }
+    {
+        self.faults = self.faults.saturating_add(1);
+        OpenEnd::Failed
+    }
+}
+
+impl<R: fs::Files<File = File> + Drop> Files for HostFiles<R> {
+    type Src = FileSource;
+
+    type Snk = FileSink;
+
+    ghost input = { λ _ _. None };
+
+    ghost output = { λ _ _. None };
+
+    ghost faults_of = { λ _ _. None };
+
+    ghost refused_of = { λ _ _. None };
+
+    ghost faults = { λ m. m.faults };
+
+    ghost ends = { λ m. m.ends };
+
+    ghost opened = { λ _ _. Unit {0} };
+
+    fn open_read(&mut self, alloc: Global, location: &str) -> Result<FileSource, OpenEnd> {
+        let place = Text::from_str(alloc, location)?;
+        match fs::open(&self.host, location) {
+            Ok(file) => {
+                self.ends = self.ends.saturating_add(1);
+                Ok(FileSource::new(file, place))
+            }
+            Err(_) => Err(self.refuse()),
+        }
+    }
+
+    fn open_write(&mut self, alloc: Global, location: &str) -> Result<FileSink, OpenEnd> {
+        let place = Text::from_str(alloc, location)?;
+        match fs::create(&self.host, location) {
+            Ok(file) => {
+                self.ends = self.ends.saturating_add(1);
+                Ok(FileSink::new(file, place))
+            }
+            Err(_) => Err(self.refuse()),
+        }
+    }
+
+    fn close_read(&mut self, end: FileSource) {
+        self.ends = self.ends.saturating_sub(1);
+        self.faults = self.faults.saturating_add(end.faults);
+    }
+
+    fn close_write(&mut self, end: FileSink) {
+        self.ends = self.ends.saturating_sub(1);
+        self.faults = self.faults.saturating_add(end.faults);
+    }
+
+    fn faults(&self) -> u64 {
+        self.faults
+    }
+}

@@ -1,0 +1,122 @@
+//! Sources in memory.
+ghost use Rattle.std.specs.Prelude.{◌≡◌, ◌≤◌, ◌<◌, ◌-◌, ℕ, List, [], Option, Some, length, take, drop, min, is_err, IfOk, OnOk, OnErr, OnSome};
+ghost use Rattle.std.specs.Option.{ForSome};
+ghost use Rattle.gst_outside.specs.Causes.{raised, Rose};
+ghost use Rattle.gst_outside.specs.Numbers.{is_listed};
+
+use crate::calls::Calls;
+use crate::failed::Failed;
+use crate::source::Source;
+use gst_caps::{List as Members, OutOfMemory, Text};
+use std::alloc::Global;
+
+/// A source in memory. The calls whose numbers are listed fail, and no others.
+#[derive(Drop)]
+pub struct MemSource {
+    pub location: Text,
+    pub content: Members<u8>,
+    pub faults: u64,
+    pub reading: Calls,
+    pub sizing: Calls,
+}
+
+impl MemSource {
+    /// A source of these bytes, with the numbers, counted from 1, of the reads and of the looks at its size
+    /// that are to fail.
+    pub fn new(
+        location: Text,
+        content: Members<u8>,
+        reads: Members<u64>,
+        sizes: Members<u64>,
+    ) -> MemSource
+        ensures location { result.location ≡ location }
+        ensures content { result.content ≡ content }
+        ensures faults { result.faults ≡ 0 }
+        ensures reads { result.reading.failing ≡ reads }
+        ensures sizes { result.sizing.failing ≡ sizes }
+        ensures read { result.reading.made ≡ 0 }
+        ensures sized { result.sizing.made ≡ 0 }
+    {
+        MemSource {
+            location,
+            content,
+            faults: 0,
+            reading: Calls::new(reads),
+            sizing: Calls::new(sizes),
+        }
+    }
+
+    fn fail(&mut self) -> Failed
+        ensures location { self.new.location ≡ self.old.location }
+        ensures content { self.new.content ≡ self.old.content }
+        ensures faults { self.new.faults ≡ raised self.old.faults }
+        ensures reading { self.new.reading ≡ self.old.reading }
+        ensures sizing { self.new.sizing ≡ self.old.sizing }
+    {
+        self.faults = self.faults.saturating_add(1);
+        Failed
+    }
+}
+
+/// Copies the bytes from `place` on into the front of `into`, as many as there are and as have room.
+fn copy_from(kept: &[u8], place: u64, into: &mut [u8]) -> usize
+    ensures count { result ≡ min (length into.old) (length kept.now - place) }
+    ensures bytes { take result into.new ≡ take result (drop place kept.now) }
+{
+    if place >= kept.len() as u64 {
+        return 0;
+    }
+    let rest = &kept[place as usize..];
+    let count = rest.len().min(into.len());
+    into[..count].copy_from_slice(&rest[..count]);
+    count
+}
+
+impl Source for MemSource {
+    ghost content = { λ s. Some s.content };
+
+    ghost location = { λ s. Some s.location };
+
+    ghost faults = { λ s. s.faults };
+
+    fn read_at(&mut self, place: u64, into: &mut [u8]) -> Result<usize, Failed>
+        ensures content_stays { self.new.content ≡ self.old.content }
+        ensures location_stays { self.new.location ≡ self.old.location }
+        ensures fails { is_err result ≡ is_listed self.old.reading.failing (raised self.old.reading.made) }
+        ensures faults { OnErr result (self.new.faults ≡ raised self.old.faults) }
+        ensures faults_stay { OnOk result (self.new.faults ≡ self.old.faults) }
+        ensures count { IfOk result (λ n. n ≡ min (length into.old) (length self.old.content - place)) }
+        ensures bytes { IfOk result (λ n. take n into.new ≡ take n (drop place self.old.content)) }
+        ensures counted { self.new.reading.made ≡ raised self.old.reading.made }
+        ensures reads_stay { self.new.reading.failing ≡ self.old.reading.failing }
+        ensures sizing_stays { self.new.sizing ≡ self.old.sizing }
+    {
+        if self.reading.count() {
+            return Err(self.fail());
+        }
+        Ok(copy_from(self.content.as_slice(), place, into))
+    }
+
+    fn size(&mut self) -> Result<u64, Failed>
+        ensures content_stays { self.new.content ≡ self.old.content }
+        ensures location_stays { self.new.location ≡ self.old.location }
+        ensures fails { is_err result ≡ is_listed self.old.sizing.failing (raised self.old.sizing.made) }
+        ensures faults { OnErr result (self.new.faults ≡ raised self.old.faults) }
+        ensures faults_stay { OnOk result (self.new.faults ≡ self.old.faults) }
+        ensures size { IfOk result (λ n. n ≡ length self.old.content) }
+        ensures counted { self.new.sizing.made ≡ raised self.old.sizing.made }
+        ensures sizes_stay { self.new.sizing.failing ≡ self.old.sizing.failing }
+        ensures reading_stays { self.new.reading ≡ self.old.reading }
+    {
+        if self.sizing.count() {
+            return Err(self.fail());
+        }
+        Ok(self.content.as_slice().len() as u64)
+    }
+
+    fn faults(&self) -> u64
+        ensures { result ≡ self.now.faults }
+    {
+        self.faults
+    }
+}

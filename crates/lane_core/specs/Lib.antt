@@ -1,0 +1,4 @@
+pub mod Lane
+pub mod Laws
+pub mod Moves
+pub mod Room
