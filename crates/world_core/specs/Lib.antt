@@ -1,4 +1,7 @@
 pub mod Line
+pub mod Opened
 pub mod Pad
 pub mod Task
+pub mod Told
+pub mod Two
 pub mod World

@@ -52,13 +52,57 @@ abbrev pub IsRendered : Line → List ℕ → Report → Option (List ℕ) → T
 IsRendered line content report output = IsEvaluated line content report output (sink_bytes false (sink_list line content report))
 
 -- All live sinks have reached end of stream: every pad is whole.
-pub record RunEos (line : Line) (before after : Seen) (end : WorldEnd) : Type 0 where
+pub record EndsEos (line : Line) (input output : Option (List ℕ)) (end : WorldEnd) : Type 0 where
   pub status : end.status ≡ 0
   pub fault : end.report.fault ≡ Nothing
   pub entries : end.report.entries ≡ []
-  pub rendered : (content : List ℕ) → before.input line.source ≡ Some content → IsRendered line content end.report (after.output line.sink)
-  pub whole : (content : List ℕ) → before.input line.source ≡ Some content → (p : ℕ) → p ≤ length line.middle
+  pub rendered : (content : List ℕ) → input ≡ Some content → IsRendered line content end.report output
+  pub whole : (content : List ℕ) → input ≡ Some content → (p : ℕ) → p ≤ length line.middle
       → history line content end.report p ≡ eval_whole (plan_of line content end.report.pads) p
+
+-- The source could not be read.
+pub record EndsUnread (line : Line) (input output : Option (List ℕ)) (end : WorldEnd) : Type 0 where
+  pub status : end.status ≡ 7
+  pub first : ℕ
+  pub second : ℕ
+  pub fault : end.report.fault ≡ ReadFault line.source first second
+  pub rose : Rose first second
+  pub entries : end.report.entries ≡ []
+  pub rendered : (content : List ℕ) → input ≡ Some content → IsRendered line content end.report output
+
+-- A body could not be written whole: of the next item that was owed to the sink a part stands in its file.
+pub record IsPartRendered (line : Line) (content : List ℕ) (report : Report) (output : Option (List ℕ)) : Type 0 where
+  pub item : Item
+  pub next : slice_get (owed_list line content) (length (sink_list line content report)) ≡ Some item
+  pub part : ℕ
+  pub evaluated : IsEvaluated line content report output
+      (written (disk_after false (sink_list line content report)).bytes (disk_after false (sink_list line content report)).place (take part (body_of item)))
+
+-- The sink could not be written.
+pub record EndsUnwritten (line : Line) (input output : Option (List ℕ)) (end : WorldEnd) : Type 0 where
+  pub status : end.status ≡ 8
+  pub first : ℕ
+  pub second : ℕ
+  pub fault : end.report.fault ≡ WriteFault line.sink first second
+  pub rose : Rose first second
+  pub entries : end.report.entries ≡ []
+  pub rendered : (content : List ℕ) → input ≡ Some content → IsPartRendered line content end.report output
+
+-- More items than the limit were to cross a pad.
+pub record EndsTooLong (line : Line) (input output : Option (List ℕ)) (end : WorldEnd) : Type 0 where
+  pub status : end.status ≡ 15
+  pub pad : ℕ
+  pub name : PadName
+  pub named : slice_get (pads_of line) pad ≡ Some name
+  pub fault : end.report.fault ≡ TooLong name.element most_items 1
+  pub entries : end.report.entries ≡ []
+  pub rendered : (content : List ℕ) → input ≡ Some content → IsRendered line content end.report output
+  pub full : (content : List ℕ) → input ≡ Some content
+      → (length (history line content end.report pad) ≡ most_items) × (most_items < length (owed_list line content))
+
+-- How a run that began ended, by what was read and what stands in the sink's file.
+abbrev pub HasEnded : Line → Option (List ℕ) → Option (List ℕ) → WorldEnd → Type 0
+HasEnded line input output end = EndsEos line input output end ⊎ EndsUnread line input output end ⊎ EndsUnwritten line input output end ⊎ EndsTooLong line input output end
 
 -- A location of the line could not be opened, and the run did not begin.
 pub record RunUnopened (line : Line) (before after : Seen) (end : WorldEnd) : Type 0 where
@@ -73,54 +117,14 @@ pub record RunUnopened (line : Line) (before after : Seen) (end : WorldEnd) : Ty
   pub pads : end.report.pads ≡ []
   pub sinks : end.report.sinks ≡ []
 
--- The source could not be read.
-pub record RunUnread (line : Line) (before after : Seen) (end : WorldEnd) : Type 0 where
-  pub status : end.status ≡ 7
-  pub first : ℕ
-  pub second : ℕ
-  pub fault : end.report.fault ≡ ReadFault line.source first second
-  pub rose : Rose first second
-  pub files : Rose before.faults after.faults
-  pub told : ToldRose (before.faults_of line.source) (after.faults_of line.source)
-  pub entries : end.report.entries ≡ []
-  pub rendered : (content : List ℕ) → before.input line.source ≡ Some content → IsRendered line content end.report (after.output line.sink)
-
--- A body could not be written whole: of the next item that was owed to the sink a part stands in its file.
-pub record IsPartRendered (line : Line) (content : List ℕ) (report : Report) (output : Option (List ℕ)) : Type 0 where
-  pub item : Item
-  pub next : slice_get (owed_list line content) (length (sink_list line content report)) ≡ Some item
-  pub part : ℕ
-  pub evaluated : IsEvaluated line content report output
-      (written (disk_after false (sink_list line content report)).bytes (disk_after false (sink_list line content report)).place (take part (body_of item)))
-
--- The sink could not be written.
-pub record RunUnwritten (line : Line) (before after : Seen) (end : WorldEnd) : Type 0 where
-  pub status : end.status ≡ 8
-  pub first : ℕ
-  pub second : ℕ
-  pub fault : end.report.fault ≡ WriteFault line.sink first second
-  pub rose : Rose first second
-  pub files : Rose before.faults after.faults
-  pub told : ToldRose (before.faults_of line.sink) (after.faults_of line.sink)
-  pub entries : end.report.entries ≡ []
-  pub rendered : (content : List ℕ) → before.input line.source ≡ Some content → IsPartRendered line content end.report (after.output line.sink)
-
--- More items than the limit were to cross a pad.
-pub record RunTooLong (line : Line) (before after : Seen) (end : WorldEnd) : Type 0 where
-  pub status : end.status ≡ 15
-  pub pad : ℕ
-  pub name : PadName
-  pub named : slice_get (pads_of line) pad ≡ Some name
-  pub fault : end.report.fault ≡ TooLong name.element most_items 1
-  pub entries : end.report.entries ≡ []
-  pub rendered : (content : List ℕ) → before.input line.source ≡ Some content → IsRendered line content end.report (after.output line.sink)
-  pub full : (content : List ℕ) → before.input line.source ≡ Some content
-      → (length (history line content end.report pad) ≡ most_items) × (most_items < length (owed_list line content))
+-- A run began and ended so. Where an end of it failed, the failures of the files rose, and those of its location.
+pub record RunEnded (line : Line) (before after : Seen) (end : WorldEnd) : Type 0 where
+  pub ended : HasEnded line (before.input line.source) (after.output line.sink) end
+  pub unread : end.status ≡ 7 → Rose before.faults after.faults × ToldRose (before.faults_of line.source) (after.faults_of line.source)
+  pub unwritten : end.status ≡ 8 → Rose before.faults after.faults × ToldRose (before.faults_of line.sink) (after.faults_of line.sink)
 
 abbrev pub IsWorldEnd : Line → Seen → Seen → WorldEnd → Type 0
-IsWorldEnd line before after end =
-    RunEos line before after end ⊎ RunUnopened line before after end ⊎ RunUnread line before after end
-    ⊎ RunUnwritten line before after end ⊎ RunTooLong line before after end
+IsWorldEnd line before after end = RunUnopened line before after end ⊎ RunEnded line before after end
 
 -- the statuses that a run of a line answers
 abbrev pub IsRunStatus : ℕ → Type 0

@@ -4,7 +4,11 @@
 pub mod ended;
 pub mod line;
 pub mod pad;
+mod parts;
+pub mod run;
 pub mod task;
+pub mod unopened;
 
 pub use ended::WorldEnd;
 pub use line::{Line, Middle};
+pub use run::run_line;

@@ -58,29 +58,8 @@ impl<S: Source, K: Sink> Task<S, K> {
         }
     }
 
-    /// Moves each item from the source to the sink, to EOS or the first fault.
-    pub fn run(&mut self, alloc: Global) -> Result<(), TaskFault>
-        ghost owed: { List ℕ → List Item }
-        requires { Holds S.content K.bytes self.old owed [] [] }
-        ensures ran { HasRun S.content K.bytes self.new owed result }
-        ensures cause { IfErr result (λ fault. IsTaskCause fault (S.faults (source_of self.new.source)) (K.faults (sink_of self.new.sink))) }
-        ensures content { S.content (source_of self.new.source) ≡ S.content (source_of self.old.source) }
-        ensures source { S.location (source_of self.new.source) ≡ S.location (source_of self.old.source) }
-        ensures sink { K.location (sink_of self.new.sink) ≡ K.location (sink_of self.old.sink) }
-    {
-        'items: loop {
-            let more = match self.step(alloc) {
-                Ok(more) => more,
-                Err(fault) => return Err(fault),
-            };
-            if !more {
-                return Ok(());
-            }
-        }
-    }
-
     /// Moves one item, and tells whether there was one.
-    fn step(&mut self, alloc: Global) -> Result<bool, TaskFault>
+    pub fn step(&mut self, alloc: Global) -> Result<bool, TaskFault>
         requires { items_given self.old.source < 2 ^ 41 }
         ensures goes { (owed : List ℕ → List Item) (given : List Item) → Holds S.content K.bytes self.old owed given given → AfterStep S.content K.bytes self.new owed given result }
         ensures counted { result ≡ Ok true → self.new.passed.items ≡ self.old.passed.items + 1 }

@@ -1,12 +1,13 @@
 use Rattle.std.proofs.Common.{◌∙◌, [], ◌∷◌, ◌++◌}
-use Rattle.world_core.proofs.task.Task.run.Goals as goal
+use Rattle.world_core.specs.Line.{owed_list}
+use Rattle.world_core.proofs.run.move_items.Goals as goal
 
 pub returns-in-Err-clause-ran : goal.returns-in-Err-clause-ran
-returns-in-Err-clause-ran g c = c.in-Err.ensures.goes g.owed c.items.invariant.given c.items.invariant.holds
+returns-in-Err-clause-ran g c = c.in-Err.ensures.goes (owed_list c.args.line.now) c.items.invariant.given c.items.invariant.holds
 
 pub items-preserved : goal.items-preserved
 items-preserved g c =
-    let moved = rw c.if-not-more.false at (c.in-Ok.ensures.goes g.owed c.items.invariant.given c.items.invariant.holds) in
+    let moved = rw c.if-not-more.false at (c.in-Ok.ensures.goes (owed_list c.args.line.now) c.items.invariant.given c.items.invariant.holds) in
     record {
       given = c.items.invariant.given ++ moved.0 ∷ [];
       holds = moved.1;
@@ -16,4 +17,5 @@ items-preserved g c =
     }
 
 pub returns-then-not-more-clause-ran : goal.returns-then-not-more-clause-ran
-returns-then-not-more-clause-ran g c = rw c.if-not-more.true at (c.in-Ok.ensures.goes g.owed c.items.invariant.given c.items.invariant.holds)
+returns-then-not-more-clause-ran g c =
+    rw c.if-not-more.true at (c.in-Ok.ensures.goes (owed_list c.args.line.now) c.items.invariant.given c.items.invariant.holds)
