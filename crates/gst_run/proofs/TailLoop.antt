@@ -32,7 +32,10 @@ tail_found words rest read l reads few location e = record {
   location = location;
   few = few;
   spelled = let spelled = reads.back [] l ([], refl, e) in rw append-nil at spelled;
-  only = λ other end t. let first = reads.only other end t in (only_sink rest l e first.0 end first.2).1;
+  only = λ other end t.
+      let first = reads.only other end t in
+      let last = only_sink rest l e first.0 end first.2 in
+      (first.1 ∙ ap (λ (more : List Middle). read ++ more) last.0 ∙ append-nil read, last.1);
 }
 
 pub tail_refused : (words rest : List (List ℕ)) (read : List Middle) → ReadsMiddle words read rest → ((middle : List Middle) (sink : List ℕ) → IsLocation sink → ¬ SpellsTail rest middle sink) → LacksTail words

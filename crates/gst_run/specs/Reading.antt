@@ -40,7 +40,7 @@ pub record ReadsTail (words : List (List ℕ)) (middle : List Middle) (sink : Li
   pub location : IsLocation sink
   pub few : length middle ≤ 64
   pub spelled : SpellsTail words middle sink
-  pub only : (other : List Middle) (end : List ℕ) → SpellsTail words other end → end ≡ sink
+  pub only : (other : List Middle) (end : List ℕ) → SpellsTail words other end → (other ≡ middle) × (end ≡ sink)
 
 abbrev pub LacksTail : List (List ℕ) → Type 0
 LacksTail words = (middle : List Middle) (sink : List ℕ) → IsLocation sink → length middle ≤ 64 → ¬ SpellsTail words middle sink

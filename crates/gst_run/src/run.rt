@@ -15,7 +15,7 @@ use gst_outside::{Clock, Failed, Files, Sink, TaskGate};
 use std::alloc::Global;
 use std::sync::Wait;
 use std::thread::Threads;
-use world_core::{Line, WorldEnd, run_turns};
+use world_core::{WorldEnd, run_line};
 
 const OUT_OF_MEMORY: u8 = 13;
 
@@ -41,12 +41,7 @@ fn not_begun(alloc: Global, status: u8, fault: Fault) -> WorldEnd
 }
 
 /// Reads the words and runs their line.
-fn run_words<H: Threads + Wait + Copy + Send + 'static, F: Files>(
-    rt: &H,
-    alloc: Global,
-    words: &[String],
-    files: &mut F,
-) -> WorldEnd
+fn run_words<F: Files>(alloc: Global, words: &[String], files: &mut F) -> WorldEnd
     ensures reported { result.status ≢ 13 → IsReported (map string_bytes words.now) (seen (F.input files.old) (F.output files.old) (F.faults_of files.old) (F.refused_of files.old) (F.faults files.old)) (seen (F.input files.new) (F.output files.new) (F.faults_of files.new) (F.refused_of files.new) (F.faults files.new)) result }
     ensures status { result.status ≢ 14 }
     ensures given_back { F.ends files.old < 2 ^ 63 → F.ends files.new ≡ F.ends files.old }
@@ -54,7 +49,7 @@ fn run_words<H: Threads + Wait + Copy + Send + 'static, F: Files>(
     ensures others { (l : List ℕ) → ((line : Line) → IsForm (map string_bytes words.now) line → l ≢ line.sink) → F.output files.new l ≡ F.output files.old l }
 {
     match read_line(alloc, words) {
-        Ok(Some(line)) => run_turns(rt, alloc, &line, files, &[]),
+        Ok(Some(line)) => run_line(alloc, &line, files),
         Ok(None) => not_begun(alloc, 2, Fault::Form),
         Err(OutOfMemory) => not_begun(alloc, OUT_OF_MEMORY, Fault::Nothing),
     }
@@ -128,7 +123,7 @@ fn tell<O: Sink>(alloc: Global, end: WorldEnd, out: &mut O) -> Outcome
 /// The status is that of the run, or 2 where the words spell no line, 13 where memory is wanting, and 14 where the
 /// report could not be written; `reported` is then the status whose place 14 took.
 pub fn run<H: Threads + Wait + Copy + Send + 'static, F: Files, C: Clock, G: TaskGate, O: Sink>(
-    rt: &H,
+    _rt: &H,
     alloc: Global,
     words: &[String],
     files: &mut F,
@@ -146,6 +141,6 @@ pub fn run<H: Threads + Wait + Copy + Send + 'static, F: Files, C: Clock, G: Tas
     ensures inputs { (l : List ℕ) → F.input files.new l ≡ F.input files.old l }
     ensures others { (l : List ℕ) → ((line : Line) → IsForm (map string_bytes words.now) line → l ≢ line.sink) → F.output files.new l ≡ F.output files.old l }
 {
-    let end = run_words(rt, alloc, words, files);
+    let end = run_words(alloc, words, files);
     tell(alloc, end, out)
 }
