@@ -1,14 +1,8 @@
--- The body of a `fmt ` chunk, as in the RIFF WAVE format. All numbers are little-endian: little_from i n
--- bytes is the number in the n bytes from place i on.
-use Rattle.std.specs.Prelude.{◌≡◌, ◌≢◌, ℕ, ◌+◌, ◌*◌, ◌<◌, ◌≤◌, ◌⊎◌, List, length, if◌then◌else◌, ◌==◌}
+-- The body of a `fmt ` chunk, as in the RIFF WAVE format. All numbers are little-endian: `little_from i n
+-- bytes` is the number in the n bytes from place i on.
+use Rattle.std.specs.Prelude.{◌≡◌, ℕ, ◌+◌, ◌*◌, ◌<◌, ◌≤◌, ◌⊎◌, List, length, take, slice_index, if◌then◌else◌, ◌==◌}
 use Rattle.byteorder.specs.Endian.{little_from}
-
--- How the samples of a stream are stored: the tag says the coding, and bits are those of one sample.
-pub record Format : Type 0 where
-  pub tag : ℕ
-  pub channels : ℕ
-  pub rate : ℕ
-  pub bits : ℕ
+use Rattle.wav_format.specs.declared.format.SampleFormat.{SampleFormat}
 
 -- The tag that says that the true tag stands further behind, at offset 24.
 abbrev pub extensible : ℕ
@@ -17,7 +11,7 @@ extensible = 0xFFFE
 abbrev pub true_tag : List ℕ → ℕ
 true_tag body = if little_from 0 2 body == extensible then little_from 24 2 body else little_from 0 2 body
 
-abbrev pub format_of : List ℕ → Format
+abbrev pub format_of : List ℕ → SampleFormat
 format_of body = record {
   tag = true_tag body;
   channels = little_from 2 2 body;
@@ -41,7 +35,16 @@ IsKnown tag bits =
     ((tag ≡ 1) × ((bits ≡ 8) ⊎ (bits ≡ 16) ⊎ (bits ≡ 24) ⊎ (bits ≡ 32)))
     ⊎ (((tag ≡ 6) ⊎ (tag ≡ 7)) × (bits ≡ 8))
 
--- a body that says a format which is known
+-- a body whose numbers fit and whose coding is known
 pub record IsFormat (body : List ℕ) : Type 0 where
   pub numbers : NumbersFit body
   pub known : IsKnown (true_tag body) (little_from 14 2 body)
+
+abbrev pub AreBytes : List ℕ → Type 0
+AreBytes bytes = (i : ℕ) → slice_index bytes i < 256
+
+-- The body has that size and begins with the bytes that are given.
+pub record Completes (given : List ℕ) (size : ℕ) (body : List ℕ) : Type 0 where
+  pub long : length body ≡ size
+  pub front : take (length given) body ≡ given
+  pub bytes : AreBytes body

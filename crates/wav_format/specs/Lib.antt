@@ -1,2 +1,5 @@
+pub mod Chunks
+pub mod Faults
 pub mod Format
+pub mod Given
 pub mod Written

@@ -3,6 +3,7 @@
 #![tactic(auto)]
 
 pub mod head;
+pub mod format;
 mod writing;
 
 pub use head::{Head, HeadAnswer, WavKind};
