@@ -1,4 +1,6 @@
+pub mod Answers
 pub mod Chunks
+pub mod Cuts
 pub mod Faults
 pub mod Format
 pub mod Given

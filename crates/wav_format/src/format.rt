@@ -1,8 +1,8 @@
 //! The body of a `fmt ` chunk, of which maybe only the first bytes are there.
-ghost use Rattle.std.specs.Prelude.{◌≡◌, ℕ, ◌+◌, ◌*◌, ◌/◌, ◌%◌, ◌<◌, ◌≤◌, ◌↔◌, length, IsTrue};
+ghost use Rattle.std.specs.Prelude.{◌≡◌, ℕ, ◌+◌, ◌*◌, ◌/◌, ◌%◌, ◌<◌, ◌≤◌, ◌↔◌, ◌==◌, length, IsTrue};
 ghost use Rattle.byteorder.specs.Endian.{little_from};
 ghost use Rattle.wav_format.specs.Faults.{MayBeFormat, MayFit};
-ghost use Rattle.wav_format.specs.Format.{format_of};
+ghost use Rattle.wav_format.specs.Format.{extensible, format_of};
 ghost use Rattle.wav_format.specs.Given.{Agrees, BitsMayFit, BlockMayFit, ByteAgrees, FormatAgrees, LimitsMayHold, MayBeCoded, NumbersAgree, RateMayFit, SomeCodingMayBe, TagMayBe, channels_in};
 
 use byteorder::{ByteOrder, LittleEndian};
@@ -23,6 +23,28 @@ fn number_at(bytes: &[u8], place: usize) -> u16
     ensures { result ≡ little_from place 2 bytes.now }
 {
     LittleEndian::read_u16(&bytes[place..])
+}
+
+/// Whether a body is of the extensible form.
+pub fn is_extensible(body: &[u8]) -> bool
+    requires { 2 ≤ length body.now }
+    ensures { result ≡ (little_from 0 2 body.now == extensible) }
+{
+    number_at(body, 0) == EXTENSIBLE
+}
+
+/// The format that a body says.
+pub fn read_format(body: &[u8]) -> SampleFormat
+    requires long { 16 ≤ length body.now }
+    requires extended { little_from 0 2 body.now ≡ extensible → 40 ≤ length body.now }
+    ensures { result ≡ format_of body.now }
+{
+    SampleFormat {
+        tag: number_at(body, if is_extensible(body) { 24 } else { 0 }),
+        channels: number_at(body, 2),
+        rate: LittleEndian::read_u32(&body[4..]),
+        bits: number_at(body, 14),
+    }
 }
 
 fn byte_agrees(given: &[u8], place: usize, byte: u8) -> bool

@@ -2,8 +2,9 @@
 //! them. No call takes memory.
 #![tactic(auto)]
 
+mod chunk;
+mod format;
 pub mod head;
-pub mod format;
 mod writing;
 
 pub use head::{Head, HeadAnswer, WavKind};
