@@ -20,11 +20,15 @@ pub record HeadCut (s : Spot) : Type 0 where
   pub short : length s.left < 8
   pub format : begins (codes "data") s.left ≡ true → s.known ≢ None
 
--- They end in a chunk that has room; where it is `fmt `, it may become a format.
-pub record BodyCut (s : Spot) : Type 0 where
-  pub headed : IsHeaded s
+-- There is room behind the chunk for the head of a chunk; where it is `fmt `, it may become a format.
+pub record HasRoom (s : Spot) : Type 0 where
   pub room : s.at + chunk_length s.left + 8 ≤ longest_head
   pub format : begins (codes "fmt ") s.left ≡ true → MayBeFormat (body_at s.left) (body_size s.left)
+
+-- They end in a chunk whose head is there.
+pub record BodyCut (s : Spot) : Type 0 where
+  pub headed : IsHeaded s
+  pub room : HasRoom s
   pub short : length s.left < chunk_length s.left
 
 abbrev pub ChunkCut : Spot → Type 0

@@ -27,10 +27,9 @@ fn number_at(bytes: &[u8], place: usize) -> u16
 
 /// Whether a body is of the extensible form.
 pub fn is_extensible(body: &[u8]) -> bool
-    requires { 2 ≤ length body.now }
     ensures { result ≡ (little_from 0 2 body.now == extensible) }
 {
-    number_at(body, 0) == EXTENSIBLE
+    body.len() >= 2 && number_at(body, 0) == EXTENSIBLE
 }
 
 /// The format that a body says.
