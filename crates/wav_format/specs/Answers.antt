@@ -1,5 +1,5 @@
 -- What bytes are answered.
-use Rattle.std.specs.Prelude.{◌≡◌, ◌≢◌, ℕ, ◌+◌, ◌<◌, ◌≤◌, true, false, List, [], length, drop, codes, Option, Some, None}
+use Rattle.std.specs.Prelude.{◌≡◌, ℕ, ◌⊎◌, List, length, drop, Option}
 use Rattle.wav_format.specs.declared.format.SampleFormat.{SampleFormat}
 use Rattle.wav_format.specs.declared.head.HeadAnswer.{HeadAnswer}
 use Rattle.wav_format.specs.declared.head.HeadAnswer.TheVariants.{Whole, NeedMore, Bad}
@@ -30,11 +30,14 @@ abbrev pub ReadsAt : Spot → Reading → Type 0
 ReadsAt s (Passed len format) = IsPassed longest_head s × (len ≡ chunk_length s.left) × (format ≡ format_after s)
 ReadsAt s (Ended answer) = AnswerAt s answer
 
--- the answer that the bytes give
-abbrev pub NeedsIn : List ℕ → ℕ → Type 0
-NeedsIn bytes n = CutIn bytes × ((OpeningCut bytes → n ≡ opening_length (length bytes)) × ((s : Spot) → Reaches longest_head bytes s → n ≡ deciding s))
+-- the bytes end before a head does, and decide more from the length n on
+abbrev pub CutsAt : List ℕ → ℕ → Type 0
+CutsAt bytes n =
+    (OpeningCut bytes × (n ≡ opening_length (length bytes)))
+    ⊎ ((s : Spot) × Reaches longest_head bytes s × ChunkCut s × (n ≡ deciding s))
 
+-- the answer that the bytes give
 abbrev pub AnswerIn : List ℕ → HeadAnswer → Type 0
 AnswerIn bytes (Whole h) = BeginsWithHead bytes h
-AnswerIn bytes (NeedMore n) = CutIn bytes
+AnswerIn bytes (NeedMore n) = CutsAt bytes n
 AnswerIn bytes (Bad place kind) = FaultIn bytes place kind

@@ -5,7 +5,9 @@
 mod chunk;
 mod format;
 pub mod head;
+mod reading;
 mod writing;
 
 pub use head::{Head, HeadAnswer, WavKind};
+pub use reading::read_head;
 pub use writing::write_head;

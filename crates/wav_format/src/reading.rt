@@ -1,0 +1,80 @@
+//! Reading the head of a WAV file from its first bytes.
+ghost use Rattle.std.specs.Prelude.{◌≡◌, ◌≤◌, ◌<◌, ◌+◌, ℕ, length, drop, codes, true, false, MatchOption, None};
+ghost use Rattle.wav_format.specs.Answers.{AnswerIn};
+ghost use Rattle.wav_format.specs.Chunks.{IsOpened};
+ghost use Rattle.wav_format.specs.Cuts.{fronts, opening_length};
+ghost use Rattle.wav_format.specs.Faults.{Differs};
+
+use crate::chunk::{Reading, read_chunk};
+use crate::format::SampleFormat;
+use crate::head::{HeadAnswer, WavKind};
+
+// The first place at which the bytes differ from the word, of those within its length.
+fn first_difference(bytes: &[u8], word: &[u8; 4]) -> Option<usize>
+    ensures { MatchOption result (fronts word.now bytes.now ≡ true) (Differs word.now bytes.now) }
+{
+    for i in 0..4 {
+        if i < bytes.len() && bytes[i] != word[i] {
+            return Some(i);
+        }
+    }
+    None
+}
+
+fn opening_length(len: usize) -> u64
+    requires { len < 12 }
+    ensures { result ≡ opening_length len }
+{
+    if len >= 4 && len < 8 { 9 } else { len as u64 + 1 }
+}
+
+// The answer of bytes that do not have all of `RIFF`, a size and `WAVE` at their front.
+fn opening(bytes: &[u8]) -> Option<HeadAnswer>
+    ensures { MatchOption result (IsOpened bytes.now) (AnswerIn bytes.now) }
+{
+    if let Some(place) = first_difference(bytes, b"RIFF") {
+        return Some(HeadAnswer::Bad {
+            place: place as u64,
+            kind: WavKind::NotRiff,
+        });
+    }
+    if bytes.len() >= 8 {
+        if let Some(place) = first_difference(&bytes[8..], b"WAVE") {
+            return Some(HeadAnswer::Bad {
+                place: 8 + place as u64,
+                kind: WavKind::NotWave,
+            });
+        }
+    }
+    if bytes.len() < 12 {
+        return Some(HeadAnswer::NeedMore(opening_length(bytes.len())));
+    }
+    None
+}
+
+fn read_chunks(bytes: &[u8]) -> HeadAnswer
+    requires { IsOpened bytes.now }
+    ensures { AnswerIn bytes.now result }
+{
+    let mut place = 12;
+    let mut known: Option<SampleFormat> = None;
+    'chunks: loop {
+        match read_chunk(&bytes[place..], place as u64, known) {
+            Reading::Passed { length, format } => {
+                place += length as usize;
+                known = format;
+            }
+            Reading::Ended(answer) => return answer,
+        }
+    }
+}
+
+/// What the first bytes of a WAV file say of its head.
+pub fn read_head(bytes: &[u8]) -> HeadAnswer
+    ensures { AnswerIn bytes.now result }
+{
+    match opening(bytes) {
+        Some(answer) => answer,
+        None => read_chunks(bytes),
+    }
+}
