@@ -137,11 +137,11 @@ pattern tag channels align bits last =
     tag % 256 ∷ tag / 256 ∷ channels ∷ 0 ∷ 0 ∷ 0 ∷ 1 ∷ 0 ∷ 0 ∷ 0 ∷ 0 ∷ 0 ∷ align % 256 ∷ align / 256 ∷ bits % 256 ∷ bits / 256
     ∷ 0 ∷ 0 ∷ 0 ∷ 0 ∷ 0 ∷ 0 ∷ 0 ∷ 0 ∷ last % 256 ∷ last / 256 ∷ []
 
-AllBelow : List ℕ → Type 0
+unfoldable pub AllBelow : List ℕ → Type 0
 AllBelow [] = Unit {0}
 AllBelow (x ∷ xs) = (x < 256) × AllBelow xs
 
-bytes_from : (xs : List ℕ) → AllBelow xs → AreBytes xs
+pub bytes_from : (xs : List ℕ) → AllBelow xs → AreBytes xs
 unfolding AllBelow
 bytes_from [] h = bytes-nil
 bytes_from (x ∷ xs) h = bytes-cons x xs h.0 (bytes_from xs h.1)

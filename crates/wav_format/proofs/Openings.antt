@@ -14,20 +14,20 @@ use Rattle.wav_format.specs.Faults.{Differs}
 use Rattle.wav_format.specs.Format.{AreBytes}
 use Rattle.wav_format.proofs.Unique.{Later, one_later}
 
-abbrev Same : List ℕ → List ℕ → Type 0
+abbrev pub Same : List ℕ → List ℕ → Type 0
 Same word bytes = (k : ℕ) → k < length word → k < length bytes → get_or bytes k 0 ≡ get_or word k 0
 
-begins_same : (word bytes : List ℕ) → begins word bytes ≡ true → Same word bytes
+pub begins_same : (word bytes : List ℕ) → begins word bytes ≡ true → Same word bytes
 begins_same word bytes e k in_word in_bytes =
     let same = (bytes_eq-Decides (take (length word) bytes) word).0 e in
     sym (get_or-take (length word) bytes k 0 in_word) ∙ ap (λ xs. get_or xs k 0) same
 
-fronts_same : (word bytes : List ℕ) → fronts word bytes ≡ true → Same word bytes
+pub fronts_same : (word bytes : List ℕ) → fronts word bytes ≡ true → Same word bytes
 fronts_same word bytes e k in_word in_bytes =
     let same = (bytes_eq-Decides (take (length word) bytes) (take (length bytes) word)).0 e in
     sym (get_or-take (length word) bytes k 0 in_word) ∙ ap (λ xs. get_or xs k 0) same ∙ get_or-take (length bytes) word k 0 in_bytes
 
-differs_not : (word bytes : List ℕ) (i : ℕ) → Same word bytes → Differs word bytes i → ⊥
+pub differs_not : (word bytes : List ℕ) (i : ℕ) → Same word bytes → Differs word bytes i → ⊥
 differs_not word bytes i same d = d.here (same i d.within_word d.within)
 
 not_before : (word bytes : List ℕ) (i j : ℕ) → Differs word bytes i → Differs word bytes j → i < j → ⊥
