@@ -111,11 +111,17 @@ module _ (limit at : ℕ) (known : Option SampleFormat) (left body : List ℕ) (
       }) (subst (λ xs. Closes limit (record { at = at + chunk_length (left ++ rest_of left body); known = format_after s; left = xs })) (sym last_left)
       (closes_last limit (at + chunk_length (left ++ rest_of left body)) (format_after s) (omega (arith, same, room))))
 
-bytes_last : AreBytes last_chunks
+pub bytes_last : AreBytes last_chunks
 unfolding AllBelow
 bytes_last = bytes_from last_chunks (omega arith, (omega arith, (omega arith, (omega arith, (omega arith, (omega arith, (omega arith, (omega arith, (omega arith, (omega arith, (omega arith, (omega arith, (omega arith, (omega arith, (omega arith, (omega arith, (omega arith, (omega arith, (omega arith, (omega arith, (omega arith, (omega arith, (omega arith, (omega arith, (omega arith, (omega arith, (omega arith, (omega arith, (omega arith, (omega arith, (omega arith, (omega arith, tt))))))))))))))))))))))))))))))))
 
-rest_bytes : (left body : List ℕ) → AreBytes body → AreBytes (rest_of left body)
+pub rest_some : (left body : List ℕ) → 0 < length (rest_of left body)
+unfolding rest_of
+rest_some left body =
+    let pad : List ℕ = replicate (body_size left % 2) 0 in
+    omega (arith, length-append (drop (length (drop 8 left)) body) (pad ++ last_chunks), length-append pad last_chunks)
+
+pub rest_bytes : (left body : List ℕ) → AreBytes body → AreBytes (rest_of left body)
 unfolding rest_of
 rest_bytes left body fine = bytes-append _ _ (bytes-drop (length (drop 8 left)) body fine) (bytes-append _ last_chunks (bytes-zeros (body_size left % 2)) bytes_last)
 
@@ -129,11 +135,11 @@ false_of false h = refl
 abbrev pub fill : List ℕ
 fill = 0 ∷ 0 ∷ 0 ∷ 0 ∷ 0 ∷ 0 ∷ 0 ∷ 1 ∷ []
 
-pub headed : List ℕ → List ℕ
+unfoldable pub headed : List ℕ → List ℕ
 headed left = left ++ drop (length left) fill
 
 module _ (left : List ℕ) (short : length left < 8) where
-  headed_length : length (headed left) ≡ 8
+  pub headed_length : length (headed left) ≡ 8
   unfolding headed
   headed_length = omega (arith, length-append left (drop (length left) fill), length-drop (length left) fill)
 
@@ -144,7 +150,7 @@ module _ (left : List ℕ) (short : length left < 8) where
       ∙ get_or-drop (length left) fill (i - length left) 0
       ∙ ap (λ j. get_or fill j 0) (omega arith)
 
-  headed_size : 16777216 ≤ body_size (headed left)
+  pub headed_size : 16777216 ≤ body_size (headed left)
   headed_size = let top = headed_at 7 (omega arith) in omega (arith, top)
 
   headed_other : begins (codes "data") left ≡ false → begins (codes "data") (headed left) ≡ false

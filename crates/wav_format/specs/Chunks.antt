@@ -5,7 +5,7 @@ use Rattle.std.specs.Prelude.{◌≡◌, ◌≢◌, ℕ, zero, suc, ◌+◌, ◌
 use Rattle.byteorder.specs.Endian.{little_from}
 use Rattle.wav_format.specs.declared.format.SampleFormat.{SampleFormat}
 use Rattle.wav_format.specs.declared.head.Head.{Head}
-use Rattle.wav_format.specs.Format.{IsFormat, format_of}
+use Rattle.wav_format.specs.Format.{AreBytes, IsFormat, format_of}
 
 -- the length within which a head ends
 abbrev pub longest_head : ℕ
@@ -85,6 +85,10 @@ HeadThen limit bytes h rest = (s : Spot) × Reaches limit bytes s × EndsHead h 
 abbrev pub BeginsWithHead : List ℕ → Head → Type 0
 BeginsWithHead bytes h = (rest : List ℕ) × HeadThen longest_head bytes h rest
 
--- Further bytes make of these a head of some length.
-abbrev pub BeginsSomeHead : List ℕ → Type 0
-BeginsSomeHead bytes = (more : List ℕ) × (limit : ℕ) × (h : Head) × HeadThen limit (bytes ++ more) h []
+-- These bytes and further ones are a head, within the limit.
+abbrev pub HeadWith : ℕ → List ℕ → List ℕ → Head → Type 0
+HeadWith limit bytes more h = AreBytes more × HeadThen limit (bytes ++ more) h []
+
+-- The bytes are the front of some head, of whatever length, that goes on.
+abbrev pub FrontsSomeHead : List ℕ → Type 0
+FrontsSomeHead bytes = (more : List ℕ) × (0 < length more) × ((limit : ℕ) × (h : Head) × HeadWith limit bytes more h)
