@@ -4,7 +4,10 @@ use Rattle.std.proofs.lemmas.List.{drop-append-le, length-drop}
 use Rattle.wav_format.specs.declared.head.Head.{Head}
 use Rattle.wav_format.specs.declared.head.WavKind.{WavKind}
 use Rattle.wav_format.specs.declared.head.WavKind.TheVariants.{NotRiff, NotWave, NoFmt, BadFmt, TagUnknown, HeadTooLong}
-use Rattle.wav_format.specs.Chunks.{BeginsWithHead, EndsHead, HeadThen, IsPassed, Leads, Spot, begins, longest_head}
+use Rattle.wav_format.specs.declared.head.HeadAnswer.{HeadAnswer}
+use Rattle.wav_format.specs.declared.head.HeadAnswer.TheVariants.{Whole, NeedMore, Bad}
+use Rattle.wav_format.specs.Answers.{AnswerIn}
+use Rattle.wav_format.specs.Chunks.{BeginsWithHead, EndsHead, HeadThen, HeadWith, IsPassed, Leads, Spot, begins, longest_head}
 use Rattle.wav_format.specs.Faults.{FaultIn}
 use Rattle.wav_format.specs.Format.{AreBytes}
 use Rattle.wav_format.proofs.Bodies.{bytes-append}
@@ -41,3 +44,11 @@ pub whole_longer : (bytes more : List ℕ) (h g : Head) → BeginsWithHead bytes
 whole_longer bytes more h g (rest, (s, reached, ends)) head =
     let on = goes_on longest_head bytes more s g [] reached head in
     no_longer on.0 s on.1 more h g rest ends on.2 on.3
+
+-- a proper front of a head is asked to go on
+pub front_goes : (bytes more : List ℕ) (a : HeadAnswer) (head : Head) → AreBytes bytes → AnswerIn bytes a → 0 < length more → HeadWith longest_head bytes more head → (n : ℕ) × (a ≡ NeedMore n)
+front_goes bytes more (Whole h) head fine answer some (fresh, all) =
+    let gone : length more ≡ 0 = ap length (whole_longer bytes more h head answer all) in
+    absurd (omega (arith, gone, some))
+front_goes bytes more (NeedMore n) head fine answer some all = (n, refl)
+front_goes bytes more (Bad place kind) head fine answer some (fresh, all) = absurd (fault_stays bytes more head [] place kind fine fresh answer all)

@@ -1,9 +1,13 @@
 //! Reading the head of a WAV file from its first bytes.
-ghost use Rattle.std.specs.Prelude.{◌≡◌, ◌≤◌, ◌<◌, ◌+◌, ℕ, length, drop, codes, true, false, MatchOption, None};
-ghost use Rattle.wav_format.specs.Answers.{AnswerIn};
-ghost use Rattle.wav_format.specs.Chunks.{IsOpened};
+ghost use Rattle.std.specs.Prelude.{◌≡◌, ◌≤◌, ◌<◌, ◌+◌, ◌++◌, ◌↔◌, ℕ, List, length, drop, codes, true, false, MatchOption, None};
+ghost use Rattle.wav_format.specs.Answers.{AnswerIn, CutsAt};
+ghost use Rattle.wav_format.specs.Chunks.{BeginsWithHead, FrontsSomeHead, HeadThen, HeadWith, IsOpened, longest_head};
 ghost use Rattle.wav_format.specs.Cuts.{fronts, opening_length};
-ghost use Rattle.wav_format.specs.Faults.{Differs};
+ghost use Rattle.wav_format.specs.Faults.{Differs, FaultIn};
+ghost use Rattle.wav_format.specs.Format.{AreBytes};
+ghost use Rattle.wav_format.specs.declared.head.Head.{Head};
+ghost use Rattle.wav_format.specs.declared.head.HeadAnswer;
+ghost use Rattle.wav_format.specs.declared.head.WavKind.{WavKind};
 
 use crate::chunk::{Reading, read_chunk};
 use crate::format::SampleFormat;
@@ -69,12 +73,35 @@ fn read_chunks(bytes: &[u8]) -> HeadAnswer
     }
 }
 
-/// What the first bytes of a WAV file say of its head.
-pub fn read_head(bytes: &[u8]) -> HeadAnswer
+// The answer, by the cases of the chunks.
+fn answer(bytes: &[u8]) -> HeadAnswer
     ensures { AnswerIn bytes.now result }
 {
     match opening(bytes) {
         Some(answer) => answer,
         None => read_chunks(bytes),
     }
+}
+
+/// What the first bytes of a WAV file say of its head, in one pass over the chunks that they hold.
+///
+/// Every `fmt ` chunk has to be right, and the last one before `data` counts. A fault is the first one from
+/// the start of the file, and it is told as soon as no further bytes could mend it. A caller who gets
+/// `NeedMore` and comes back with that many bytes reads each chunk's head a few times at most: a chunk that is
+/// passed over is asked for whole. `place` is in bytes from the start of the file.
+pub fn read_head(bytes: &[u8]) -> HeadAnswer
+    ensures whole { (head : Head) → result ≡ HeadAnswer.Whole head ↔ BeginsWithHead bytes.now head }
+    ensures bad { (place : ℕ) (kind : WavKind) → result ≡ HeadAnswer.Bad place kind ↔ FaultIn bytes.now place kind }
+    ensures need_more { (n : ℕ) → result ≡ HeadAnswer.NeedMore n ↔ CutsAt bytes.now n }
+
+    // Bytes that are asked to go on are the front of some head, though maybe of one that is too long.
+    ensures goes_on { (n : ℕ) → result ≡ HeadAnswer.NeedMore n → FrontsSomeHead bytes.now }
+
+    // Each proper front of a head is asked to go on.
+    ensures front { (more : List ℕ) (head : Head) → 0 < length more → HeadWith longest_head bytes.now more head → (n : ℕ) × (result ≡ HeadAnswer.NeedMore n) }
+
+    // No further bytes make a head of bytes at fault.
+    ensures never { (place : ℕ) (kind : WavKind) → result ≡ HeadAnswer.Bad place kind → (more : List ℕ) (head : Head) (rest : List ℕ) → AreBytes more → ¬ HeadThen longest_head (bytes.now ++ more) head rest }
+{
+    answer(bytes)
 }
