@@ -198,14 +198,16 @@ build given size tag align bits last fits bytes long limits ht at ha aa hb ab hu
     let first : ByteAgrees given 2 (channels_in given) = channel_agrees given in
     let c2 = filled_at given size p 2 (channels_in given) (omega arith) (omega arith) first refl in
     let c3 = filled_at given size p 3 0 (omega arith) (omega arith) limits.top refl in
-    let rate = filled_rate given size tag (channels_in given) align bits last fits long limits.rate all.bytes in
-    (body, record {
-      all = all;
-      tag_is = two_bytes body 0 tag (filled_at given size p 0 (tag % 256) (omega arith) (omega arith) at.0 refl) (filled_at given size p 1 (tag / 256) (omega arith) (omega arith) at.1 refl);
-      channels_are = omega (arith, c2, c3);
-      some_rate = rate.0;
-      low_rate = rate.1;
-      align_is = two_bytes body 12 align (filled_at given size p 12 (align % 256) (omega arith) (omega arith) aa.0 refl) (filled_at given size p 13 (align / 256) (omega arith) (omega arith) aa.1 refl);
-      bits_are = two_bytes body 14 bits (filled_at given size p 14 (bits % 256) (omega arith) (omega arith) ab.0 refl) (filled_at given size p 15 (bits / 256) (omega arith) (omega arith) ab.1 refl);
-      true_is = λ h au. two_bytes body 24 last (filled_at given size p 24 (last % 256) (omega arith) (omega arith) au.0 refl) (filled_at given size p 25 (last / 256) (omega arith) (omega arith) au.1 refl);
-    })
+    let rate = filled_rate given size tag (channels_in given) align bits last fits long limits.rate all.bytes in (
+      body,
+      record {
+        all = all;
+        tag_is = two_bytes body 0 tag (filled_at given size p 0 (tag % 256) (omega arith) (omega arith) at.0 refl) (filled_at given size p 1 (tag / 256) (omega arith) (omega arith) at.1 refl);
+        channels_are = omega (arith, c2, c3);
+        some_rate = rate.0;
+        low_rate = rate.1;
+        align_is = two_bytes body 12 align (filled_at given size p 12 (align % 256) (omega arith) (omega arith) aa.0 refl) (filled_at given size p 13 (align / 256) (omega arith) (omega arith) aa.1 refl);
+        bits_are = two_bytes body 14 bits (filled_at given size p 14 (bits % 256) (omega arith) (omega arith) ab.0 refl) (filled_at given size p 15 (bits / 256) (omega arith) (omega arith) ab.1 refl);
+        true_is = λ h au. two_bytes body 24 last (filled_at given size p 24 (last % 256) (omega arith) (omega arith) au.0 refl) (filled_at given size p 25 (last / 256) (omega arith) (omega arith) au.1 refl);
+      },
+    )

@@ -48,13 +48,16 @@ closes_last limit at known room = record {
   chunks = 1;
   end = behind (record { at = at; known = known; left = last_chunks });
   head = record { tag = 1; channels = 1; rate = 8000; bits = 16; start = at + 24 + 8; size = None };
-  leads = (record {
-    headed = omega arith;
-    other = refl;
-    room = omega arith;
-    format = λ _. some_format [];
-    whole = omega arith;
-  }, refl);
+  leads = (
+    record {
+      headed = omega arith;
+      other = refl;
+      room = omega arith;
+      format = λ _. some_format [];
+      whole = omega arith;
+    },
+    refl,
+  );
   ends = record { headed = omega arith; named = refl; format = refl; start = refl; size = refl; leaves = refl };
 }
 

@@ -23,17 +23,17 @@ some_tag given size bytes extended =
     let b1 = bytes 1 in
     elim (cases_lt (length given) 2) [
       | inl lt ↦ record {
-          tag = get_or given 0 0;
-          small = omega (arith, b0);
-          agrees = (λ _. omega (arith, b0), λ h. absurd (omega arith));
-          long = λ e. absurd (omega (arith, b0, e));
-        }
+        tag = get_or given 0 0;
+        small = omega (arith, b0);
+        agrees = (λ _. omega (arith, b0), λ h. absurd (omega arith));
+        long = λ e. absurd (omega (arith, b0, e));
+      }
       | inr le ↦ record {
-          tag = little_from 0 2 given;
-          small = omega (arith, b0, b1);
-          agrees = (λ _. omega (arith, b0, b1), λ _. omega (arith, b0, b1));
-          long = λ e. extended le e;
-        }
+        tag = little_from 0 2 given;
+        small = omega (arith, b0, b1);
+        agrees = (λ _. omega (arith, b0, b1), λ _. omega (arith, b0, b1));
+        long = λ e. extended le e;
+      }
     ]
 
 -- the numbers of a body that is built fit where those that it was built of do
@@ -70,19 +70,25 @@ coded given size tag width fits bytes long limits low plain narrow known may =
       | inl agrees ↦
           let built = build given size tag (channels_in given * width) (8 * width) 0 fits bytes long limits (omega arith) agrees align may.block (omega arith) may.bits (omega arith) in
           let s = built.1 in
-          let is : true_tag built.0 ≡ tag = rw (s.tag_is, plain) refl in
-          (built.0, s.all, record {
-            numbers = numbers given size tag (channels_in given * width) (8 * width) 0 built.0 s long limits (λ e. absurd (omega (arith, e))) block;
-            known = rw (is, s.bits_are) known;
-          })
+          let is : true_tag built.0 ≡ tag = rw (s.tag_is, plain) refl in (
+            built.0,
+            s.all,
+            record {
+              numbers = numbers given size tag (channels_in given * width) (8 * width) 0 built.0 s long limits (λ e. absurd (omega (arith, e))) block;
+              known = rw (is, s.bits_are) known;
+            },
+          )
       | inr (wide, agrees, true_agrees) ↦
           let built = build given size extensible (channels_in given * width) (8 * width) tag fits bytes long limits (omega arith) agrees align may.block (omega arith) may.bits (omega arith) in
           let s = built.1 in
-          let is : true_tag built.0 ≡ tag = rw s.tag_is (s.true_is (omega arith) true_agrees) in
-          (built.0, s.all, record {
-            numbers = numbers given size extensible (channels_in given * width) (8 * width) tag built.0 s long limits (λ e. wide) block;
-            known = rw (is, s.bits_are) known;
-          })
+          let is : true_tag built.0 ≡ tag = rw s.tag_is (s.true_is (omega arith) true_agrees) in (
+            built.0,
+            s.all,
+            record {
+              numbers = numbers given size extensible (channels_in given * width) (8 * width) tag built.0 s long limits (λ e. wide) block;
+              known = rw (is, s.bits_are) known;
+            },
+          )
     ]
 
 -- ---- from a body to what is given
@@ -141,12 +147,18 @@ fit_to_block given size body all n =
     let few = limits.few_channels in
     elim (cases_lt 12 (length given)) [
       | inl lt ↦
-          let e = channels_known given size body all n (omega arith) in
-          (little_from 12 2 body, omega (arith, a0, a1), agrees_with given size body all 12 (little_from 12 2 body) refl,
-          (little_from 14 2 body, omega (arith, b0, b1), n.block ∙ sym (ap (λ c. c * little_from 14 2 body) e), agrees_with given size body all 14 (little_from 14 2 body) refl))
-      | inr le ↦
-          (channels_in given, omega (arith, few), (λ h. absurd (omega arith), λ h. absurd (omega arith)),
-          (8, omega arith, omega arith, (λ h. absurd (omega arith), λ h. absurd (omega arith))))
+          let e = channels_known given size body all n (omega arith) in (
+            little_from 12 2 body,
+            omega (arith, a0, a1),
+            agrees_with given size body all 12 (little_from 12 2 body) refl,
+            (little_from 14 2 body, omega (arith, b0, b1), n.block ∙ sym (ap (λ c. c * little_from 14 2 body) e), agrees_with given size body all 14 (little_from 14 2 body) refl),
+          )
+      | inr le ↦ (
+        channels_in given,
+        omega (arith, few),
+        (λ h. absurd (omega arith), λ h. absurd (omega arith)),
+        (8, omega arith, omega arith, (λ h. absurd (omega arith), λ h. absurd (omega arith))),
+      )
     ]
 
 pub fit_to_numbers : (given : List ℕ) (size : ℕ) → MayFit given size → NumbersAgree given size

@@ -61,10 +61,11 @@ head_goes at known left false e short some =
 -- some body goes on from what is there of it
 any_body : (s : Spot) → AreBytes s.left → BodyCut s → (named : Bool) → begins (codes "fmt ") s.left ≡ named → (body : List ℕ) × Completes (body_at s.left) (body_size s.left) body × (begins (codes "fmt ") s.left ≡ true → IsFormat body)
 any_body s bytes cut true e = let m = cut.room.format e in (m.0, m.1, λ _. m.2)
-any_body s bytes cut false e =
-    (filled (body_at s.left) (body_size s.left) [],
-    filled_completes (body_at s.left) (body_size s.left) [] (omega (arith, length-take (body_size s.left) (drop 8 s.left))) (bytes-take (body_size s.left) (drop 8 s.left) (bytes-drop 8 s.left bytes)) bytes-nil,
-    λ h. let no_name = e in absurd cc)
+any_body s bytes cut false e = (
+  filled (body_at s.left) (body_size s.left) [],
+  filled_completes (body_at s.left) (body_size s.left) [] (omega (arith, length-take (body_size s.left) (drop 8 s.left))) (bytes-take (body_size s.left) (drop 8 s.left) (bytes-drop 8 s.left bytes)) bytes-nil,
+  λ h. let no_name = e in absurd cc,
+)
 
 body_goes : (s : Spot) → AreBytes s.left → BodyCut s → GoesOn s
 body_goes s bytes cut =
@@ -183,9 +184,18 @@ module _ (bytes : List ℕ) (cut : OpeningCut bytes) where
       let c = closes_last longest_head 12 None (omega arith) in
       let left_is : drop 12 (opened_up ++ last_chunks) ≡ last_chunks = drop_at opened_up last_chunks 12 opened_length in
       let start : Leads longest_head c.chunks (first_chunk (opened_up ++ last_chunks)) c.end = subst (λ xs. Leads longest_head c.chunks (record { at = 12; known = None; left = xs }) c.end) (sym left_is) c.leads in
-      let head : HeadThen longest_head (opened_up ++ last_chunks) c.head [] = (c.end, (opened_more opened_up last_chunks whole_opening, (c.chunks, start)), c.ends) in
-      (rest ++ last_chunks, omega (arith, length-append rest last_chunks), (longest_head, c.head, (bytes-append rest last_chunks (bytes-drop (length bytes) opening opening_bytes) bytes_last,
-      subst (λ xs. HeadThen longest_head xs c.head []) (append_assoc bytes rest last_chunks) head)))
+      let head : HeadThen longest_head (opened_up ++ last_chunks) c.head [] = (c.end, (opened_more opened_up last_chunks whole_opening, (c.chunks, start)), c.ends) in (
+        rest ++ last_chunks,
+        omega (arith, length-append rest last_chunks),
+        (
+          longest_head,
+          c.head,
+          (
+            bytes-append rest last_chunks (bytes-drop (length bytes) opening opening_bytes) bytes_last,
+            subst (λ xs. HeadThen longest_head xs c.head []) (append_assoc bytes rest last_chunks) head,
+          ),
+        ),
+      )
 
 pub cut_fronts : (bytes : List ℕ) (n : ℕ) → AreBytes bytes → CutsAt bytes n → FrontsSomeHead bytes
 cut_fronts bytes n fine (inl (cut, is)) = opening_goes bytes cut

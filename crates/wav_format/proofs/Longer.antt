@@ -145,7 +145,7 @@ fault_passes s more place TagUnknown bytes fault p =
 fault_passes s more place HeadTooLong bytes fault p =
     let room = p.room in
     let same = length_more s.left more fault.0.headed in
-    elim fault.1 [ | inl far ↦ let f = far.0 in omega (arith, f, room, same) | inr far ↦ let f = far.1 in omega (arith, f, room, same) ]
+    elim fault.1 [ inl far ↦ let f = far.0 in omega (arith, f, room, same) | inr far ↦ let f = far.1 in omega (arith, f, room, same) ]
 
 fault_leads : (n : ℕ) (s u : Spot) (more : List ℕ) (h : Head) (rest : List ℕ) (place : ℕ) (kind : WavKind) → AreBytes (s.left ++ more) → ChunkFault s place kind → Leads longest_head n (ext s more) u → EndsHead h rest u → ⊥
 fault_leads zero s u more h rest place kind bytes fault e ends = fault_ends s more h rest place kind fault (subst (EndsHead h rest) (sym e) ends)

@@ -37,7 +37,7 @@ one_difference : (word bytes : List ℕ) (i j : ℕ) → Differs word bytes i �
 one_difference word bytes i j p q =
     elim (cases_lt i j) [
       | inl lt ↦ absurd (not_before word bytes i j p q lt)
-      | inr le ↦ elim (cases_lt j i) [ | inl lt ↦ absurd (not_before word bytes j i q p lt) | inr ge ↦ omega arith ]
+      | inr le ↦ elim (cases_lt j i) [ inl lt ↦ absurd (not_before word bytes j i q p lt) | inr ge ↦ omega arith ]
     ]
 
 -- what is answered before the first chunk

@@ -51,7 +51,7 @@ stops s (Bad place BadFmt) bytes answer p = answer.1 (body_at s.left, itself s.l
 stops s (Bad place TagUnknown) bytes answer p = answer.2 (body_at s.left, itself s.left bytes p.whole, p.format answer.0.named)
 stops s (Bad place HeadTooLong) bytes answer p =
     let room = p.room in
-    elim answer.1 [ | inl far ↦ let f = far.0 in omega (arith, f, room) | inr far ↦ let f = far.1 in omega (arith, f, room) ]
+    elim answer.1 [ inl far ↦ let f = far.0 in omega (arith, f, room) | inr far ↦ let f = far.1 in omega (arith, f, room) ]
 
 -- ---- one answer at a spot
 
@@ -93,7 +93,7 @@ cut_not_fault s place TagUnknown (inr cut) fault = fault.2 (cut.room.format faul
 cut_not_fault s place HeadTooLong (inl cut) fault = let short = cut.short in let headed = fault.0.headed in omega arith
 cut_not_fault s place HeadTooLong (inr cut) fault =
     let room = cut.room.room in
-    elim fault.1 [ | inl far ↦ let f = far.0 in omega (arith, f, room) | inr far ↦ let f = far.1 in omega (arith, f, room) ]
+    elim fault.1 [ inl far ↦ let f = far.0 in omega (arith, f, room) | inr far ↦ let f = far.1 in omega (arith, f, room) ]
 
 same_bad : (place place' : ℕ) (kind kind' : WavKind) → place ≡ place' → kind ≡ kind' → ◌≡◌ {A = HeadAnswer} (Bad place kind) (Bad place' kind')
 same_bad place place' kind kind' p k = cc

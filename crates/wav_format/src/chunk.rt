@@ -8,10 +8,9 @@ ghost use Rattle.wav_format.specs.Faults.{IsHeaded, MayBeFormat};
 ghost use Rattle.wav_format.specs.declared.format.SampleFormat.{SampleFormat};
 ghost use Rattle.wav_format.specs.Format.{IsFormat, extensible, format_of};
 
-use byteorder::{ByteOrder, LittleEndian};
-
 use crate::format::{SampleFormat, is_extensible, may_be_format, may_fit, read_format};
 use crate::head::{Head, HeadAnswer, WavKind};
+use byteorder::{ByteOrder, LittleEndian};
 
 /// The length within which a head ends, in bytes.
 pub const LONGEST_HEAD: u64 = 16_777_216;

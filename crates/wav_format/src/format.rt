@@ -91,8 +91,7 @@ fn limits_may_hold(given: &[u8]) -> bool
 fn tag_may_be(given: &[u8], size: usize, tag: u16) -> bool
     ensures { IsTrue result ↔ TagMayBe given.now size tag }
 {
-    agrees(given, 0, tag)
-        || size >= 40 && agrees(given, 0, EXTENSIBLE) && agrees(given, 24, tag)
+    agrees(given, 0, tag) || size >= 40 && agrees(given, 0, EXTENSIBLE) && agrees(given, 24, tag)
 }
 
 fn may_be_coded(given: &[u8], size: usize, tag: u16, width: u16) -> bool

@@ -6,6 +6,8 @@ mod chunk;
 mod format;
 pub mod head;
 mod reading;
+#[cfg(test)]
+mod tests;
 mod writing;
 
 pub use head::{Head, HeadAnswer, WavKind};

@@ -29,7 +29,11 @@ fn opening_length(len: usize) -> u64
     requires { len < 12 }
     ensures { result ≡ opening_length len }
 {
-    if len >= 4 && len < 8 { 9 } else { len as u64 + 1 }
+    if len >= 4 && len < 8 {
+        9
+    } else {
+        len as u64 + 1
+    }
 }
 
 // The answer of bytes that do not have all of `RIFF`, a size and `WAVE` at their front.

@@ -1,13 +1,13 @@
 //! Writing the head of a WAV file.
-ghost use Rattle.std.specs.Prelude.{◌≡◌, ◌≤◌, ◌+◌, ◌*◌, ◌/◌, ◌%◌, ◌++◌, length, codes, IsSomeAnd};
+ghost use Rattle.std.specs.Prelude.{◌≡◌, ◌≢◌, ◌≤◌, [], Some, ◌+◌, ◌*◌, ◌/◌, ◌%◌, ◌++◌, length, codes, IsSomeAnd};
 ghost use Rattle.std.specs.Option.{ForSome};
 ghost use Rattle.byteorder.specs.Endian.{little_bytes};
+ghost use Rattle.wav_format.specs.Chunks.{HeadThen, longest_head};
 ghost use Rattle.wav_format.specs.Format.{IsKnown};
 ghost use Rattle.wav_format.specs.Written.{block_align, format_chunk, written};
 
-use byteorder::{ByteOrder, LittleEndian};
-
 use crate::head::Head;
+use byteorder::{ByteOrder, LittleEndian};
 
 fn write_riff(into: &mut [u8], size: u32)
     requires room { length into.old ≡ 12 }
@@ -55,6 +55,9 @@ pub fn write_head(head: &Head, into: &mut [u8; 44])
     requires low_rate { head.now.rate ≤ 768000 }
     requires known { IsKnown head.now.tag head.now.bits }
     ensures written { ForSome head.now.size (λ size. into.new ≡ written head.now size) }
+
+    // What is written is the head itself, where its start is right and its size can be told.
+    ensures again { head.now.start ≡ 44 → head.now.size ≢ Some 0 → HeadThen longest_head into.new head.now [] }
 {
     if let Some(size) = head.size {
         write_riff(&mut into[..12], size as u32);

@@ -12,6 +12,7 @@ returns-then-bits-gt65535 c =
 
 pub returns : goal.returns
 returns c =
-    let are = c.from-channels.ensures ∙ c.channels_in.ensures.value in
-    (λ h. bits_from c.args.given.now c.args.align c.from-frame.result c.from-channels.result c.from-frame.ensures are c.requires c.if-frame-channels-ne0.false c.if-bits-gt65535.false (c.agrees.ensures.0 h),
-    λ b. c.agrees.ensures.1 (bits_to c.args.given.now c.args.align c.from-frame.result c.from-channels.result c.from-frame.ensures are c.requires b))
+    let are = c.from-channels.ensures ∙ c.channels_in.ensures.value in (
+      λ h. bits_from c.args.given.now c.args.align c.from-frame.result c.from-channels.result c.from-frame.ensures are c.requires c.if-frame-channels-ne0.false c.if-bits-gt65535.false (c.agrees.ensures.0 h),
+      λ b. c.agrees.ensures.1 (bits_to c.args.given.now c.args.align c.from-frame.result c.from-channels.result c.from-frame.ensures are c.requires b),
+    )
