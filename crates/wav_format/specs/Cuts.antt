@@ -1,9 +1,9 @@
 -- Bytes that end before they say all of a head, and the length from which more may be decided.
-use Rattle.std.specs.Prelude.{◌≡◌, ◌≢◌, ℕ, ◌+◌, ◌-◌, ◌<◌, ◌≤◌, ◌⊎◌, ◌&&◌, Bool, true, false, List, length, take, drop, codes, Option, Some, None, is_none, unwrap_or, ◌⊎◌, if◌then◌else◌, nat_lt, nat_le, ◌==◌, bytes_eq}
+use Rattle.std.specs.Prelude.{◌≡◌, ◌≢◌, ℕ, ◌+◌, ◌-◌, ◌<◌, ◌≤◌, ◌⊎◌, ◌&&◌, Bool, true, false, List, ◌++◌, length, take, drop, codes, Option, Some, None, is_none, unwrap_or, ◌⊎◌, if◌then◌else◌, nat_lt, nat_le, ◌==◌, bytes_eq}
 use Rattle.byteorder.specs.Endian.{little_from}
 use Rattle.wav_format.specs.Chunks.{Spot, Reaches, begins, body_at, body_size, chunk_length, longest_head}
 use Rattle.wav_format.specs.Faults.{IsHeaded, MayBeFormat}
-use Rattle.wav_format.specs.Format.{extensible}
+use Rattle.wav_format.specs.Format.{AreBytes, extensible}
 
 -- the bytes are the front of the word, as far as they go within its length
 abbrev pub fronts : List ℕ → List ℕ → Bool
@@ -69,3 +69,10 @@ deciding_body s =
 
 abbrev pub deciding : Spot → ℕ
 deciding s = if nat_lt (length s.left) 8 then deciding_head s else deciding_body s
+
+-- n is the least length that decides more: bytes that go on, but are shorter than n, are cut too, and some that
+-- are n long are not.
+pub record IsLeast (bytes : List ℕ) (n : ℕ) : Type 0 where
+  pub longer : length bytes < n
+  pub below : (more : List ℕ) → AreBytes more → length (bytes ++ more) < n → CutIn (bytes ++ more)
+  pub decided : (more : List ℕ) × AreBytes more × (length (bytes ++ more) ≡ n) × ¬ CutIn (bytes ++ more)
