@@ -2,6 +2,7 @@
 use Rattle.std.proofs.Common.{◌≡◌, ℕ, zero, suc, ◌+◌, ◌-◌, ◌*◌, ◌/◌, ◌%◌, ◌<◌, ◌≤◌, ◌⊎◌, inl, inr, Bool, true, false, Option, Some, None, List, [], ◌∷◌, length, take, drop, get_or, cond, ltb, ◌==◌, ◌&&◌, refl, sym, ap, subst, ◌∙◌, arith}
 use Rattle.std.proofs.lemmas.Bool.{cases_lt, eq-eqb, lt-ltb, le-ltb}
 use Rattle.std.proofs.lemmas.List.{get_or-take}
+use Rattle.std.proofs.Math.Nat.{mul-le-mul_right}
 use Rattle.byteorder.specs.Endian.{little_from}
 use Rattle.wav_format.specs.Cuts.{body_length}
 use Rattle.wav_format.specs.Format.{AreBytes, extensible}
@@ -134,3 +135,171 @@ module _ (given longer : List ℕ) (kept : Kept given longer) where
           ]
         ];
       }
+
+-- ---- shorter bytes that keep what decides
+
+module _ (given longer : List ℕ) (fits : length given ≤ length longer) (same : (i : ℕ) → i < length given → get_or longer i 0 ≡ get_or given i 0) where
+  kept_equal : length longer ≤ length given → Kept given longer
+  kept_equal le = record {
+    fits = fits; same = same;
+    p0 = λ h. omega arith; p1 = λ h. omega arith; p2 = λ h. omega arith; p3 = λ h. omega arith; p6 = λ h. omega arith; p7 = λ h. omega arith;
+    p12 = λ h. omega arith; p13 = λ h. omega arith; p14 = λ h. omega arith; p15 = λ h. omega arith; p24 = λ a h. omega arith; p25 = λ a h. omega arith;
+  }
+
+  kept_rate : 4 ≤ length given → length longer ≤ 6 → Kept given longer
+  kept_rate ge le = record {
+    fits = fits; same = same;
+    p0 = λ h. omega arith; p1 = λ h. omega arith; p2 = λ h. omega arith; p3 = λ h. omega arith; p6 = λ h. omega arith; p7 = λ h. omega arith;
+    p12 = λ h. omega arith; p13 = λ h. omega arith; p14 = λ h. omega arith; p15 = λ h. omega arith; p24 = λ a h. omega arith; p25 = λ a h. omega arith;
+  }
+
+  kept_block : 8 ≤ length given → length longer ≤ 12 → Kept given longer
+  kept_block ge le = record {
+    fits = fits; same = same;
+    p0 = λ h. omega arith; p1 = λ h. omega arith; p2 = λ h. omega arith; p3 = λ h. omega arith; p6 = λ h. omega arith; p7 = λ h. omega arith;
+    p12 = λ h. omega arith; p13 = λ h. omega arith; p14 = λ h. omega arith; p15 = λ h. omega arith; p24 = λ a h. omega arith; p25 = λ a h. omega arith;
+  }
+
+  kept_true : 16 ≤ length given → length longer ≤ 24 → Kept given longer
+  kept_true ge le = record {
+    fits = fits; same = same;
+    p0 = λ h. omega arith; p1 = λ h. omega arith; p2 = λ h. omega arith; p3 = λ h. omega arith; p6 = λ h. omega arith; p7 = λ h. omega arith;
+    p12 = λ h. omega arith; p13 = λ h. omega arith; p14 = λ h. omega arith; p15 = λ h. omega arith; p24 = λ a h. omega arith; p25 = λ a h. omega arith;
+  }
+
+  -- all that decides is there
+  pub kept_all : Step (little_from 0 2 given == extensible) (length given) None → Kept given longer
+  kept_all (ge, true_there) =
+      let wide : Agrees given 0 extensible → 26 ≤ length given = λ a.
+      let low = a.0 (omega arith) in
+      let high = a.1 (omega arith) in
+      true_there (eq-eqb (little_from 0 2 given) extensible (omega (arith, low, high))) in
+      record {
+        fits = fits; same = same;
+        p0 = λ h. omega arith; p1 = λ h. omega arith; p2 = λ h. omega arith; p3 = λ h. omega arith; p6 = λ h. omega arith; p7 = λ h. omega arith;
+        p12 = λ h. omega arith; p13 = λ h. omega arith; p14 = λ h. omega arith; p15 = λ h. omega arith;
+        p24 = λ a h. let w = wide a in omega (arith, w); p25 = λ a h. let w = wide a in omega (arith, w);
+      }
+
+  -- the next byte that decides is not there
+  pub kept_some : (m : ℕ) → Step (little_from 0 2 given == extensible) (length given) (Some m) → length longer < m → Kept given longer
+  kept_some m (inl (e, lt)) short = kept_equal (omega (arith, e, short))
+  kept_some m (inr (inl (e, ge, lt))) short = kept_rate ge (omega (arith, e, short))
+  kept_some m (inr (inr (inl (e, k)))) short = kept_equal (omega (arith, e, k, short))
+  kept_some m (inr (inr (inr (inl (e, ge, lt))))) short = kept_block ge (omega (arith, e, short))
+  kept_some m (inr (inr (inr (inr (inl (e, ge, lt)))))) short = kept_equal (omega (arith, e, short))
+  kept_some m (inr (inr (inr (inr (inr (inl (x, e, ge, lt))))))) short = kept_true ge (omega (arith, e, short))
+  kept_some m (inr (inr (inr (inr (inr (inr (x, e, ge, lt))))))) short = kept_equal (omega (arith, e, short))
+
+-- ---- a byte that no format has at a place that decides
+
+-- 253 is no byte of a tag, above each number of channels, and the low byte of no block align
+abbrev pub wrong : ℕ
+wrong = 253
+
+not_block : (channels width : ℕ) → channels ≤ 64 → width ≤ 4 → (channels * width) % 256 ≡ 253 → ⊥
+not_block channels zero few narrow e = omega (arith, e)
+not_block channels (suc zero) few narrow e = let one : channels * 1 ≡ channels = omega arith in omega (arith, e, one)
+not_block channels (suc (suc zero)) few narrow e = let two : channels * 2 ≡ 2 * channels = omega arith in omega (arith, e, two)
+not_block channels (suc (suc (suc zero))) few narrow e = let three : channels * 3 ≡ 3 * channels = omega arith in omega (arith, e, three)
+not_block channels (suc (suc (suc (suc zero)))) few narrow e = let four : channels * 4 ≡ 4 * channels = omega arith in omega (arith, e, four)
+not_block channels (suc (suc (suc (suc (suc n))))) few narrow e = omega (arith, narrow)
+
+-- none of the codings, if none with its numbers
+no_coding : (bytes : List ℕ) (size : ℕ) → ((tag width : ℕ) → tag ≤ 7 → width ≤ 4 → MayBeCoded bytes size tag width → ⊥) → SomeCodingMayBe bytes size → ⊥
+no_coding bytes size none (inl m) = none 1 1 (omega arith) (omega arith) m
+no_coding bytes size none (inr (inl m)) = none 1 2 (omega arith) (omega arith) m
+no_coding bytes size none (inr (inr (inl m))) = none 1 3 (omega arith) (omega arith) m
+no_coding bytes size none (inr (inr (inr (inl m)))) = none 1 4 (omega arith) (omega arith) m
+no_coding bytes size none (inr (inr (inr (inr (inl m))))) = none 6 1 (omega arith) (omega arith) m
+no_coding bytes size none (inr (inr (inr (inr (inr m))))) = none 7 1 (omega arith) (omega arith) m
+
+module _ (bytes : List ℕ) (size : ℕ) (f : FormatAgrees bytes size) where
+  wrong0 : 0 < length bytes → get_or bytes 0 0 ≡ 253 → ⊥
+  wrong0 there e = no_coding bytes size (λ tag width low narrow m. elim m.tagged [
+    | inl a ↦ let x = a.0 there in omega (arith, e, x, low)
+    | inr (wide, a, t) ↦ let x = a.0 there in omega (arith, e, x)
+  ]) f.coding
+
+  wrong1 : 1 < length bytes → get_or bytes 1 0 ≡ 253 → ⊥
+  wrong1 there e = no_coding bytes size (λ tag width low narrow m. elim m.tagged [
+    | inl a ↦ let x = a.1 there in omega (arith, e, x, low)
+    | inr (wide, a, t) ↦ let x = a.1 there in omega (arith, e, x)
+  ]) f.coding
+
+  wrong2 : 2 < length bytes → get_or bytes 2 0 ≡ 253 → ⊥
+  wrong2 there e =
+      let known : ltb 2 (length bytes) ≡ true = lt-ltb 2 (length bytes) there in
+      let same : channels_in bytes ≡ get_or bytes 2 0 = rw known refl in
+      let few = f.limits.few_channels in
+      omega (arith, same, few, e)
+
+  wrong3 : 3 < length bytes → get_or bytes 3 0 ≡ 253 → ⊥
+  wrong3 there e = let top = f.limits.top there in omega (arith, top, e)
+
+  wrong6 : 6 < length bytes → get_or bytes 6 0 ≡ 253 → ⊥
+  wrong6 there e = let low = f.limits.rate.low there in omega (arith, low, e)
+
+  wrong7 : 7 < length bytes → get_or bytes 7 0 ≡ 253 → ⊥
+  wrong7 there e = let top = f.limits.rate.top there in omega (arith, top, e)
+
+  wrong12 : 12 < length bytes → get_or bytes 12 0 ≡ 253 → ⊥
+  wrong12 there e = no_coding bytes size (λ tag width low narrow m. not_block (channels_in bytes) width f.limits.few_channels narrow (sym (m.block.0 there) ∙ e)) f.coding
+
+  wrong13 : 13 < length bytes → get_or bytes 13 0 ≡ 253 → ⊥
+  wrong13 there e = no_coding bytes size (λ tag width low narrow m.
+      let x = m.block.1 there in
+      let few : channels_in bytes * width ≤ 64 * width = mul-le-mul_right width f.limits.few_channels in
+      omega (arith, e, x, few, narrow)) f.coding
+
+  wrong14 : 14 < length bytes → get_or bytes 14 0 ≡ 253 → ⊥
+  wrong14 there e = no_coding bytes size (λ tag width low narrow m. let x = m.bits.0 there in omega (arith, e, x, narrow)) f.coding
+
+  wrong15 : 15 < length bytes → get_or bytes 15 0 ≡ 253 → ⊥
+  wrong15 there e = no_coding bytes size (λ tag width low narrow m. let x = m.bits.1 there in omega (arith, e, x, narrow)) f.coding
+
+  wrong24 : get_or bytes 0 0 ≡ 254 → 24 < length bytes → get_or bytes 24 0 ≡ 253 → ⊥
+  wrong24 wide there e = no_coding bytes size (λ tag width low narrow m. elim m.tagged [
+    | inl a ↦ let x = a.0 (omega arith) in omega (arith, wide, x, low)
+    | inr (far, a, t) ↦ let x = t.0 there in omega (arith, e, x, low)
+  ]) f.coding
+
+  wrong25 : get_or bytes 0 0 ≡ 254 → 25 < length bytes → get_or bytes 25 0 ≡ 253 → ⊥
+  wrong25 wide there e = no_coding bytes size (λ tag width low narrow m. elim m.tagged [
+    | inl a ↦ let x = a.0 (omega arith) in omega (arith, wide, x, low)
+    | inr (far, a, t) ↦ let x = t.1 there in omega (arith, e, x, low)
+  ]) f.coding
+
+  -- at the place that the bytes so far ask for
+  pub wrong_next : (extended : Bool) (k m : ℕ) → Step extended k (Some m) → length bytes ≡ m → (extended ≡ true → get_or bytes 0 0 ≡ 254) → get_or bytes (m - 1) 0 ≡ 253 → ⊥
+  wrong_next extended k m (inl (e, lt)) long wide is =
+      elim (cases_lt k 1) [
+        | inl a ↦ wrong0 (omega (arith, e, long)) (ap (λ i. get_or bytes i 0) (let x : 0 ≡ m - 1 = omega (arith, e) in x) ∙ is)
+        | inr a ↦ elim (cases_lt k 2) [
+          | inl b ↦ wrong1 (omega (arith, e, long)) (ap (λ i. get_or bytes i 0) (let x : 1 ≡ m - 1 = omega (arith, e) in x) ∙ is)
+          | inr b ↦ elim (cases_lt k 3) [
+            | inl d ↦ wrong2 (omega (arith, e, long)) (ap (λ i. get_or bytes i 0) (let x : 2 ≡ m - 1 = omega (arith, e) in x) ∙ is)
+            | inr d ↦ wrong3 (omega (arith, e, long)) (ap (λ i. get_or bytes i 0) (let x : 3 ≡ m - 1 = omega (arith, e) in x) ∙ is)
+          ]
+        ]
+      ]
+  wrong_next extended k m (inr (inl (e, ge, lt))) long wide is = wrong6 (omega (arith, e, long)) (ap (λ i. get_or bytes i 0) (let x : 6 ≡ m - 1 = omega (arith, e) in x) ∙ is)
+  wrong_next extended k m (inr (inr (inl (e, a)))) long wide is = wrong7 (omega (arith, e, long)) (ap (λ i. get_or bytes i 0) (let x : 7 ≡ m - 1 = omega (arith, e) in x) ∙ is)
+  wrong_next extended k m (inr (inr (inr (inl (e, ge, lt))))) long wide is = wrong12 (omega (arith, e, long)) (ap (λ i. get_or bytes i 0) (let x : 12 ≡ m - 1 = omega (arith, e) in x) ∙ is)
+  wrong_next extended k m (inr (inr (inr (inr (inl (e, ge, lt)))))) long wide is =
+      elim (cases_lt k 13) [
+        | inl a ↦ wrong12 (omega (arith, e, long)) (ap (λ i. get_or bytes i 0) (let x : 12 ≡ m - 1 = omega (arith, e) in x) ∙ is)
+        | inr a ↦ elim (cases_lt k 14) [
+          | inl b ↦ wrong13 (omega (arith, e, long)) (ap (λ i. get_or bytes i 0) (let x : 13 ≡ m - 1 = omega (arith, e) in x) ∙ is)
+          | inr b ↦ elim (cases_lt k 15) [
+            | inl d ↦ wrong14 (omega (arith, e, long)) (ap (λ i. get_or bytes i 0) (let x : 14 ≡ m - 1 = omega (arith, e) in x) ∙ is)
+            | inr d ↦ wrong15 (omega (arith, e, long)) (ap (λ i. get_or bytes i 0) (let x : 15 ≡ m - 1 = omega (arith, e) in x) ∙ is)
+          ]
+        ]
+      ]
+  wrong_next extended k m (inr (inr (inr (inr (inr (inl (x, e, ge, lt))))))) long wide is = wrong24 (wide x) (omega (arith, e, long)) (ap (λ i. get_or bytes i 0) (let y : 24 ≡ m - 1 = omega (arith, e) in y) ∙ is)
+  wrong_next extended k m (inr (inr (inr (inr (inr (inr (x, e, ge, lt))))))) long wide is =
+      elim (cases_lt k 25) [
+        | inl a ↦ wrong24 (wide x) (omega (arith, e, long)) (ap (λ i. get_or bytes i 0) (let y : 24 ≡ m - 1 = omega (arith, e) in y) ∙ is)
+        | inr a ↦ wrong25 (wide x) (omega (arith, e, long)) (ap (λ i. get_or bytes i 0) (let y : 25 ≡ m - 1 = omega (arith, e) in y) ∙ is)
+      ]
