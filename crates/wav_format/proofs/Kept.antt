@@ -206,7 +206,7 @@ not_block channels (suc (suc (suc (suc zero)))) few narrow e = let four : channe
 not_block channels (suc (suc (suc (suc (suc n))))) few narrow e = omega (arith, narrow)
 
 -- none of the codings, if none with its numbers
-no_coding : (bytes : List ℕ) (size : ℕ) → ((tag width : ℕ) → tag ≤ 7 → width ≤ 4 → MayBeCoded bytes size tag width → ⊥) → SomeCodingMayBe bytes size → ⊥
+pub no_coding : (bytes : List ℕ) (size : ℕ) → ((tag width : ℕ) → tag ≤ 7 → width ≤ 4 → MayBeCoded bytes size tag width → ⊥) → SomeCodingMayBe bytes size → ⊥
 no_coding bytes size none (inl m) = none 1 1 (omega arith) (omega arith) m
 no_coding bytes size none (inr (inl m)) = none 1 2 (omega arith) (omega arith) m
 no_coding bytes size none (inr (inr (inl m))) = none 1 3 (omega arith) (omega arith) m
