@@ -12,7 +12,7 @@ use Rattle.wav_format.specs.Cuts.{BodyCut, ChunkCut, CutIn, HasRoom, HeadCut, Is
 use Rattle.wav_format.specs.Faults.{MayBeFormat}
 use Rattle.wav_format.specs.Format.{AreBytes, IsFormat, extensible, format_of}
 use Rattle.wav_format.specs.Given.{FormatAgrees}
-use Rattle.wav_format.proofs.Bodies.{bytes-append, bytes-cons, bytes-drop, bytes-nil, bytes-take, bytes-zeros}
+use Rattle.wav_format.proofs.Bodies.{AllBelow, bytes-append, bytes-cons, bytes-drop, bytes-nil, bytes-take, bytes-zeros, bytes_from}
 use Rattle.wav_format.proofs.Formats.{format_to_given, given_to_format}
 use Rattle.wav_format.proofs.Fronts.{opened_more}
 use Rattle.wav_format.proofs.Kept.{Kept, Step, format_kept, kept_all, kept_some, no_coding, step, wrong_next}
@@ -211,3 +211,88 @@ fmt_below s more fine cut e None st below =
     let kept = kept_all (body_at left) (body_at (left ++ more)) (longer_fits left more long) (longer_same left more long) st in
     body_goes s more cut (room_more s more cut (λ _. stays_open left more long fine kept (cut.room.format e))) (omega (arith, below))
     (λ named. some_after (ext s more) (begins_more (codes "fmt ") left more (omega arith) ∙ e))
+
+near : (known : Option SampleFormat) (len size : ℕ) → len < size + cond (is_none known) 4 8 → len < size + 8
+near None len size below = omega (arith, below)
+near (Some f) len size below = below
+
+known_there : (known : Option SampleFormat) (next : List ℕ) (len size : ℕ) → len < size + cond (is_none known) 4 8 → length next ≡ len - size → begins (codes "data") next ≡ true → known ≢ None
+known_there None next len size below long named none = let four = begins_long (codes "data") next named in absurd (omega (arith, below, long, four))
+known_there (Some f) next len size below long named none = absurd cc
+
+-- another chunk
+other_below : (s : Spot) (more : List ℕ) → BodyCut s → begins (codes "fmt ") s.left ≡ false → length (s.left ++ more) < chunk_length s.left + cond (is_none s.known) 4 8 → Goes s more
+other_below s more cut e below =
+    let left = s.left in
+    let long = cut.headed.headed in
+    let still = begins_more (codes "fmt ") left more (omega arith) ∙ e in
+    let has = room_more s more cut (λ named. absurd (let clash : false ≡ true = sym e ∙ named in cc)) in
+    let after : format_after (ext s more) ≡ s.known = ap (λ b. cond b (Some (format_of (body_at (left ++ more)))) s.known) still in
+    body_goes s more cut has (near s.known (length (left ++ more)) (chunk_length left) below) (λ named. subst (λ o. o ≢ None) (sym after)
+    (known_there s.known (drop (chunk_length (left ++ more)) (left ++ more)) (length (left ++ more)) (chunk_length left) below (omega (arith, length_more left more long, length-drop (chunk_length (left ++ more)) (left ++ more))) named))
+
+by_name : (s : Spot) (more : List ℕ) → AreBytes (s.left ++ more) → BodyCut s → s.at + length (s.left ++ more) < deciding s → (named : Bool) → begins (codes "fmt ") s.left ≡ named → Goes s more
+by_name s more fine cut below true e =
+    let given = body_at s.left in
+    let far = deciding_fmt s cut.headed.headed e in
+    fmt_below s more fine cut e (body_length (little_from 0 2 given == extensible) (length given)) (step (little_from 0 2 given == extensible) (length given)) (omega (arith, below, far))
+by_name s more fine cut below false e =
+    let far = deciding_other s cut.headed.headed e in
+    other_below s more cut e (omega (arith, below, far))
+
+body_below : (s : Spot) (more : List ℕ) → AreBytes (s.left ++ more) → BodyCut s → s.at + length (s.left ++ more) < deciding s → Goes s more
+body_below s more fine cut below = by_name s more fine cut below (begins (codes "fmt ") s.left) refl
+
+-- ---- shorter bytes are cut too
+
+spot_below : (s : Spot) (more : List ℕ) → AreBytes (s.left ++ more) → ChunkCut s → s.at + length (s.left ++ more) < deciding s → Goes s more
+spot_below s more fine (inl cut) below = inl (inl (head_below s more cut below))
+spot_below s more fine (inr cut) below = body_below s more fine cut below
+
+goes_cut : (bytes more : List ℕ) (s : Spot) → Reaches longest_head bytes s → Goes s more → CutIn (bytes ++ more)
+goes_cut bytes more s reached (inl cut) = inr (ext s more, reached_more bytes more s reached, cut)
+goes_cut bytes more s reached (inr (p, cut)) = inr (behind (ext s more), reached_behind (bytes ++ more) (ext s more) (reached_more bytes more s reached) p, inl cut)
+
+reached_below : (bytes more : List ℕ) (s : Spot) → AreBytes bytes → AreBytes more → Reaches longest_head bytes s → ChunkCut s → length (bytes ++ more) < deciding s → CutIn (bytes ++ more)
+reached_below bytes more s fine fresh reached cut below =
+    let place = place_reached bytes s reached in
+    goes_cut bytes more s reached (spot_below s more (bytes-append s.left more (bytes_reached longest_head bytes s fine reached) fresh) cut
+    (omega (arith, below, place, length-append bytes more, length-append s.left more)))
+
+-- ---- some bytes of that length are not cut
+
+-- bytes of which every fourth is the top byte of a size that no head has
+abbrev pub huge : List ℕ
+huge = 255 ∷ 255 ∷ 255 ∷ 255 ∷ 255 ∷ 255 ∷ 255 ∷ 255 ∷ []
+
+huge_bytes : AreBytes huge
+unfolding AllBelow
+huge_bytes = bytes_from huge (omega arith, (omega arith, (omega arith, (omega arith, (omega arith, (omega arith, (omega arith, (omega arith, tt))))))))
+
+-- a spot at which such a size stands
+huge_stops : (t : Spot) → length t.left ≡ 8 → get_or t.left 7 0 ≡ 255 → (ChunkCut t → ⊥) × (IsPassed longest_head t → ⊥)
+huge_stops t long top =
+    (λ cut. elim cut [
+      | inl c ↦ let short = c.short in omega (arith, short, long)
+      | inr c ↦ let room = c.room.room in omega (arith, room, top)
+    ],
+    λ p. let room = p.room in omega (arith, room, top))
+
+-- what decides: further bytes, and the spot at which they do
+record Decided (s : Spot) (n : ℕ) : Type 0 where
+  more : List ℕ
+  fresh : AreBytes more
+  long : s.at + length (s.left ++ more) ≡ n
+  at_spot : ((ChunkCut (ext s more) → ⊥) × (IsPassed longest_head (ext s more) → ⊥)) ⊎ (IsPassed longest_head (ext s more) × ((ChunkCut (behind (ext s more)) → ⊥) × (IsPassed longest_head (behind (ext s more)) → ⊥)))
+
+decided_cut : (bytes : List ℕ) (s : Spot) (n : ℕ) → AreBytes bytes → Reaches longest_head bytes s → Decided s n → (more : List ℕ) × AreBytes more × (length (bytes ++ more) ≡ n) × (CutIn (bytes ++ more) → ⊥)
+decided_cut bytes s n fine reached d =
+    let more = d.more in
+    let place = place_reached bytes s reached in
+    let all = bytes-append bytes more fine d.fresh in
+    let here = reached_more bytes more s reached in
+    let long = d.long in
+    (more, d.fresh, omega (arith, long, place, length-append bytes more, length-append s.left more), elim d.at_spot [
+      | inl stop ↦ not_cut (bytes ++ more) (ext s more) all here stop.0 stop.1
+      | inr (p, stop) ↦ not_cut (bytes ++ more) (behind (ext s more)) all (reached_behind (bytes ++ more) (ext s more) here p) stop.0 stop.1
+    ])
