@@ -127,7 +127,7 @@ opening_bytes : AreBytes opening
 unfolding AllBelow
 opening_bytes = bytes_from opening (omega arith, (omega arith, (omega arith, (omega arith, (omega arith, (omega arith, (omega arith, (omega arith, (omega arith, (omega arith, (omega arith, (omega arith, tt))))))))))))
 
-begins_from : (word bytes : List ℕ) → length word ≤ length bytes → Same word bytes → begins word bytes ≡ true
+pub begins_from : (word bytes : List ℕ) → length word ≤ length bytes → Same word bytes → begins word bytes ≡ true
 begins_from word bytes long same =
     (bytes_eq-Decides (take (length word) bytes) word).1 (same_lists (take (length word) bytes) word (omega (arith, length-take (length word) bytes)) (λ k d lt.
     let below : k < length word = omega (arith, length-take (length word) bytes) in

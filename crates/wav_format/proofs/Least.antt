@@ -59,7 +59,7 @@ not_cut bytes t fine (opened, (n, leads)) uncut unpassed (inr (u, (opened', (m, 
 
 -- ---- the head of a chunk that is cut
 
-head_length : (s : Spot) → length s.left < 8 → deciding s ≡ deciding_head s
+pub head_length : (s : Spot) → length s.left < 8 → deciding s ≡ deciding_head s
 head_length s short = rw (lt-ltb (length s.left) 8 short) refl
 
 -- where no format is known, `data` may stand there
@@ -94,26 +94,26 @@ head_below s more cut below =
 
 -- ---- a body that is cut
 
-body_length_of : (left : List ℕ) → length (body_at left) ≡ min (body_size left) (length left - 8)
+pub body_length_of : (left : List ℕ) → length (body_at left) ≡ min (body_size left) (length left - 8)
 body_length_of left = omega (arith, length-take (body_size left) (drop 8 left), length-drop 8 left)
 
-longer_fits : (left more : List ℕ) → 8 ≤ length left → length (body_at left) ≤ length (body_at (left ++ more))
+pub longer_fits : (left more : List ℕ) → 8 ≤ length left → length (body_at left) ≤ length (body_at (left ++ more))
 longer_fits left more long =
     omega (arith, ap length (body_more left more long), length-take (length (body_at left)) (body_at (left ++ more)))
 
-longer_same : (left more : List ℕ) → 8 ≤ length left → (i : ℕ) → i < length (body_at left) → get_or (body_at (left ++ more)) i 0 ≡ get_or (body_at left) i 0
+pub longer_same : (left more : List ℕ) → 8 ≤ length left → (i : ℕ) → i < length (body_at left) → get_or (body_at (left ++ more)) i 0 ≡ get_or (body_at left) i 0
 longer_same left more long i lt =
     sym (get_or-take (length (body_at left)) (body_at (left ++ more)) i 0 lt) ∙ ap (λ xs. get_or xs i 0) (body_more left more long)
 
 -- a format stays open where what decides is kept
-stays_open : (left more : List ℕ) → 8 ≤ length left → AreBytes (left ++ more) → Kept (body_at left) (body_at (left ++ more)) → MayBeFormat (body_at left) (body_size left) → MayBeFormat (body_at (left ++ more)) (body_size (left ++ more))
+pub stays_open : (left more : List ℕ) → 8 ≤ length left → AreBytes (left ++ more) → Kept (body_at left) (body_at (left ++ more)) → MayBeFormat (body_at left) (body_size left) → MayBeFormat (body_at (left ++ more)) (body_size (left ++ more))
 stays_open left more long fine kept may =
     let whole = left ++ more in
     let f = format_kept (body_at left) (body_at whole) kept (body_size left) (format_to_given (body_at left) (body_size left) may) in
     given_to_format (body_at whole) (body_size whole) (omega (arith, length-take (body_size whole) (drop 8 whole)))
     (bytes-take (body_size whole) (drop 8 whole) (bytes-drop 8 whole fine)) (subst (λ n. FormatAgrees (body_at whole) n) (sym (size_more left more long)) f)
 
-room_more : (s : Spot) (more : List ℕ) → BodyCut s → (begins (codes "fmt ") s.left ≡ true → MayBeFormat (body_at (s.left ++ more)) (body_size (s.left ++ more))) → HasRoom (ext s more)
+pub room_more : (s : Spot) (more : List ℕ) → BodyCut s → (begins (codes "fmt ") s.left ≡ true → MayBeFormat (body_at (s.left ++ more)) (body_size (s.left ++ more))) → HasRoom (ext s more)
 room_more s more cut open_still =
     let room = cut.room.room in
     let long = cut.headed.headed in
@@ -131,7 +131,7 @@ body_still s more cut has short =
       short = omega (arith, short, length_more s.left more long);
     }
 
-body_passed : (s : Spot) (more : List ℕ) → BodyCut s → HasRoom (ext s more) → chunk_length s.left ≤ length (s.left ++ more) → IsPassed longest_head (ext s more)
+pub body_passed : (s : Spot) (more : List ℕ) → BodyCut s → HasRoom (ext s more) → chunk_length s.left ≤ length (s.left ++ more) → IsPassed longest_head (ext s more)
 body_passed s more cut has whole =
     let long = cut.headed.headed in
     passed s.at s.known (s.left ++ more) (omega (arith, length-append s.left more)) (begins_more (codes "data") s.left more (omega arith) ∙ cut.headed.other)
@@ -151,10 +151,10 @@ body_goes s more cut has short named =
         })
     ]
 
-deciding_fmt : (s : Spot) → 8 ≤ length s.left → begins (codes "fmt ") s.left ≡ true → deciding s ≡ s.at + 8 + unwrap_or (body_length (little_from 0 2 (body_at s.left) == extensible) (length (body_at s.left))) (chunk_length s.left)
+pub deciding_fmt : (s : Spot) → 8 ≤ length s.left → begins (codes "fmt ") s.left ≡ true → deciding s ≡ s.at + 8 + unwrap_or (body_length (little_from 0 2 (body_at s.left) == extensible) (length (body_at s.left))) (chunk_length s.left)
 deciding_fmt s long e = rw (le-ltb (length s.left) 8 long, e) refl
 
-deciding_other : (s : Spot) → 8 ≤ length s.left → begins (codes "fmt ") s.left ≡ false → deciding s ≡ s.at + chunk_length s.left + cond (is_none s.known) 4 8
+pub deciding_other : (s : Spot) → 8 ≤ length s.left → begins (codes "fmt ") s.left ≡ false → deciding s ≡ s.at + chunk_length s.left + cond (is_none s.known) 4 8
 deciding_other s long e = rw (le-ltb (length s.left) 8 long, e) refl
 
 -- the extensible form is known to be long
@@ -173,7 +173,7 @@ wide_size given size fine f long e =
     ]
 
 -- a place that is asked for lies in the body
-next_within : (given : List ℕ) (size m : ℕ) → AreBytes given → FormatAgrees given size → Step (little_from 0 2 given == extensible) (length given) (Some m) → (length given < m) × (m ≤ size)
+pub next_within : (given : List ℕ) (size m : ℕ) → AreBytes given → FormatAgrees given size → Step (little_from 0 2 given == extensible) (length given) (Some m) → (length given < m) × (m ≤ size)
 next_within given size m fine f (inl (e, lt)) = let long = f.long in (omega (arith, e), omega (arith, e, long))
 next_within given size m fine f (inr (inl (e, ge, lt))) = let long = f.long in (omega (arith, e), omega (arith, e, long))
 next_within given size m fine f (inr (inr (inl (e, k)))) = let long = f.long in (omega (arith, e, k), omega (arith, e, long))
@@ -185,7 +185,7 @@ next_within given size m fine f (inr (inr (inr (inr (inr (inr (x, e, ge, lt)))))
 some_after : (s : Spot) → begins (codes "fmt ") s.left ≡ true → format_after s ≢ None
 some_after s e none = let x = ap (λ b. cond b (Some (format_of (body_at s.left))) s.known) e in let clash = sym x ∙ none in absurd cc
 
-front_fine : (xs ys : List ℕ) → AreBytes (xs ++ ys) → AreBytes xs
+pub front_fine : (xs ys : List ℕ) → AreBytes (xs ++ ys) → AreBytes xs
 front_fine xs ys fine i =
     elim (cases_lt i (length xs)) [
       | inl lt ↦ rw (← get_or_append_left xs ys 0 i lt) (fine i)
@@ -253,7 +253,7 @@ goes_cut : (bytes more : List ℕ) (s : Spot) → Reaches longest_head bytes s �
 goes_cut bytes more s reached (inl cut) = inr (ext s more, reached_more bytes more s reached, cut)
 goes_cut bytes more s reached (inr (p, cut)) = inr (behind (ext s more), reached_behind (bytes ++ more) (ext s more) (reached_more bytes more s reached) p, inl cut)
 
-reached_below : (bytes more : List ℕ) (s : Spot) → AreBytes bytes → AreBytes more → Reaches longest_head bytes s → ChunkCut s → length (bytes ++ more) < deciding s → CutIn (bytes ++ more)
+pub reached_below : (bytes more : List ℕ) (s : Spot) → AreBytes bytes → AreBytes more → Reaches longest_head bytes s → ChunkCut s → length (bytes ++ more) < deciding s → CutIn (bytes ++ more)
 reached_below bytes more s fine fresh reached cut below =
     let place = place_reached bytes s reached in
     goes_cut bytes more s reached (spot_below s more (bytes-append s.left more (bytes_reached longest_head bytes s fine reached) fresh) cut
@@ -265,12 +265,12 @@ reached_below bytes more s fine fresh reached cut below =
 abbrev pub huge : List ℕ
 huge = 255 ∷ 255 ∷ 255 ∷ 255 ∷ 255 ∷ 255 ∷ 255 ∷ 255 ∷ []
 
-huge_bytes : AreBytes huge
+pub huge_bytes : AreBytes huge
 unfolding AllBelow
 huge_bytes = bytes_from huge (omega arith, (omega arith, (omega arith, (omega arith, (omega arith, (omega arith, (omega arith, (omega arith, tt))))))))
 
 -- a spot at which such a size stands
-huge_stops : (t : Spot) → length t.left ≡ 8 → get_or t.left 7 0 ≡ 255 → (ChunkCut t → ⊥) × (IsPassed longest_head t → ⊥)
+pub huge_stops : (t : Spot) → length t.left ≡ 8 → get_or t.left 7 0 ≡ 255 → (ChunkCut t → ⊥) × (IsPassed longest_head t → ⊥)
 huge_stops t long top =
     (λ cut. elim cut [
       | inl c ↦ let short = c.short in omega (arith, short, long)
@@ -279,13 +279,13 @@ huge_stops t long top =
     λ p. let room = p.room in omega (arith, room, top))
 
 -- what decides: further bytes, and the spot at which they do
-record Decided (s : Spot) (n : ℕ) : Type 0 where
-  more : List ℕ
-  fresh : AreBytes more
-  long : s.at + length (s.left ++ more) ≡ n
-  at_spot : ((ChunkCut (ext s more) → ⊥) × (IsPassed longest_head (ext s more) → ⊥)) ⊎ (IsPassed longest_head (ext s more) × ((ChunkCut (behind (ext s more)) → ⊥) × (IsPassed longest_head (behind (ext s more)) → ⊥)))
+pub record Decided (s : Spot) (n : ℕ) : Type 0 where
+  pub more : List ℕ
+  pub fresh : AreBytes more
+  pub long : s.at + length (s.left ++ more) ≡ n
+  pub at_spot : ((ChunkCut (ext s more) → ⊥) × (IsPassed longest_head (ext s more) → ⊥)) ⊎ (IsPassed longest_head (ext s more) × ((ChunkCut (behind (ext s more)) → ⊥) × (IsPassed longest_head (behind (ext s more)) → ⊥)))
 
-decided_cut : (bytes : List ℕ) (s : Spot) (n : ℕ) → AreBytes bytes → Reaches longest_head bytes s → Decided s n → (more : List ℕ) × AreBytes more × (length (bytes ++ more) ≡ n) × (CutIn (bytes ++ more) → ⊥)
+pub decided_cut : (bytes : List ℕ) (s : Spot) (n : ℕ) → AreBytes bytes → Reaches longest_head bytes s → Decided s n → (more : List ℕ) × AreBytes more × (length (bytes ++ more) ≡ n) × (CutIn (bytes ++ more) → ⊥)
 decided_cut bytes s n fine reached d =
     let more = d.more in
     let place = place_reached bytes s reached in
