@@ -2,7 +2,7 @@
 ghost use Rattle.std.specs.Prelude.{◌≡◌, ◌≤◌, ◌<◌, ◌+◌, ◌++◌, ◌↔◌, ℕ, List, length, drop, codes, true, false, MatchOption, None};
 ghost use Rattle.wav_format.specs.Answers.{AnswerIn, CutsAt};
 ghost use Rattle.wav_format.specs.Chunks.{BeginsWithHead, FrontsSomeHead, HeadThen, HeadWith, IsOpened, longest_head};
-ghost use Rattle.wav_format.specs.Cuts.{fronts, opening_length};
+ghost use Rattle.wav_format.specs.Cuts.{IsLeast, fronts, opening_length};
 ghost use Rattle.wav_format.specs.Faults.{Differs, FaultIn};
 ghost use Rattle.wav_format.specs.Format.{AreBytes};
 ghost use Rattle.wav_format.specs.declared.head.Head.{Head};
@@ -97,6 +97,9 @@ pub fn read_head(bytes: &[u8]) -> HeadAnswer
     ensures whole { (head : Head) → result ≡ HeadAnswer.Whole head ↔ BeginsWithHead bytes.now head }
     ensures bad { (place : ℕ) (kind : WavKind) → result ≡ HeadAnswer.Bad place kind ↔ FaultIn bytes.now place kind }
     ensures need_more { (n : ℕ) → result ≡ HeadAnswer.NeedMore n ↔ CutsAt bytes.now n }
+
+    // That length is the least that decides more.
+    ensures least { (n : ℕ) → result ≡ HeadAnswer.NeedMore n → IsLeast bytes.now n }
 
     // Bytes that are asked to go on are the front of some head, though maybe of one that is too long.
     ensures goes_on { (n : ℕ) → result ≡ HeadAnswer.NeedMore n → FrontsSomeHead bytes.now }

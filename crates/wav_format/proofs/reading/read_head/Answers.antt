@@ -2,6 +2,7 @@ use Rattle.std.proofs.Common.{◌≡◌, ℕ, List, ap, subst, sym, arith}
 use Rattle.wav_format.specs.declared.head.HeadAnswer.TheVariants.{Whole, NeedMore, Bad}
 use Rattle.wav_format.specs.Answers.{AnswerIn}
 use Rattle.wav_format.specs.Format.{AreBytes}
+use Rattle.wav_format.proofs.Decides.{cut_least}
 use Rattle.wav_format.proofs.Fronts.{cut_fronts}
 use Rattle.wav_format.proofs.Openings.{one_answer}
 use Rattle.wav_format.proofs.Stays.{fault_stays, front_goes}
@@ -16,6 +17,7 @@ returns c =
       whole = λ h. (λ e. subst (AnswerIn bytes) e c.answer.ensures, λ begins. one (Whole h) c.answer.ensures begins);
       bad = λ place kind. (λ e. subst (AnswerIn bytes) e c.answer.ensures, λ fault. one (Bad place kind) c.answer.ensures fault);
       need_more = λ n. (λ e. subst (AnswerIn bytes) e c.answer.ensures, λ cut. one (NeedMore n) c.answer.ensures cut);
+      least = λ n e. cut_least bytes n fine (subst (AnswerIn bytes) e c.answer.ensures);
       goes_on = λ n e. cut_fronts bytes n fine (subst (AnswerIn bytes) e c.answer.ensures);
       front = λ more head some all. front_goes bytes more c.answer.result head fine c.answer.ensures some all;
       never = λ place kind e more head rest fresh. fault_stays bytes more head rest place kind fine fresh (subst (AnswerIn bytes) e c.answer.ensures);
