@@ -38,7 +38,7 @@ place_reached bytes s (opened, (n, leads)) =
     let long = opened.long in
     omega (arith, e, long, length-drop 12 bytes)
 
-reached_more : (bytes more : List ℕ) (s : Spot) → Reaches longest_head bytes s → Reaches longest_head (bytes ++ more) (ext s more)
+pub reached_more : (bytes more : List ℕ) (s : Spot) → Reaches longest_head bytes s → Reaches longest_head (bytes ++ more) (ext s more)
 reached_more bytes more s (opened, (n, leads)) =
     (opened_more bytes more opened, (n, subst (λ (x : Spot). Leads longest_head n x (ext s more)) (sym (first_more bytes more opened.long)) (leads_more longest_head n (first_chunk bytes) s more leads)))
 

@@ -4,4 +4,5 @@ pub mod Cuts
 pub mod Faults
 pub mod Format
 pub mod Given
+pub mod Reader
 pub mod Written

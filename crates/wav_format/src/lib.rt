@@ -11,5 +11,5 @@ mod tests;
 mod writing;
 
 pub use head::{Head, HeadAnswer, WavKind};
-pub use reading::read_head;
+pub use reading::{HeadReader, read_head};
 pub use writing::write_head;

@@ -5,6 +5,7 @@ ghost use Rattle.wav_format.specs.Chunks.{BeginsWithHead, FrontsSomeHead, HeadTh
 ghost use Rattle.wav_format.specs.Cuts.{IsLeast, fronts, opening_length};
 ghost use Rattle.wav_format.specs.Faults.{Differs, FaultIn};
 ghost use Rattle.wav_format.specs.Format.{AreBytes};
+ghost use Rattle.wav_format.specs.Reader.{HasPassed, StandsIn};
 ghost use Rattle.wav_format.specs.declared.head.Head.{Head};
 ghost use Rattle.wav_format.specs.declared.head.HeadAnswer;
 ghost use Rattle.wav_format.specs.declared.head.WavKind.{WavKind};
@@ -60,39 +61,84 @@ fn opening(bytes: &[u8]) -> Option<HeadAnswer>
     None
 }
 
-fn read_chunks(bytes: &[u8]) -> HeadAnswer
-    requires { IsOpened bytes.now }
-    ensures { AnswerIn bytes.now result }
+/// Reads a head from bytes that come piece by piece.
+#[derive(Clone, Copy, Debug, PartialEq, Eq)]
+pub struct HeadReader {
+    // Bytes from the start of the file to the chunk that is read next, or 0 where nothing is read.
+    place: usize,
+    known: Option<SampleFormat>,
+}
+
+impl HeadReader {
+    /// A reader that has read nothing.
+    pub fn new() -> HeadReader
+        ensures { (bytes : List ℕ) → StandsIn result bytes }
+    {
+        HeadReader {
+            place: 0,
+            known: None,
+        }
+    }
+
+    /// What the first bytes of a WAV file say of its head, as `read_head` says it. The bytes are those of the
+    /// calls before and maybe more. Reading goes on at the chunk where it ended, so that no chunk that was
+    /// passed is read again, and of the chunk that it ended in only the head and the first 26 bytes.
+    pub fn read(&mut self, bytes: &[u8]) -> HeadAnswer
+        requires { StandsIn self.old bytes.now }
+        ensures answer { AnswerIn bytes.now result }
+        ensures stands { (more : List ℕ) → StandsIn self.new (bytes.now ++ more) }
+    {
+        if self.place == 0 {
+            if let Some(answer) = opening(bytes) {
+                return answer;
+            }
+            return self.read_from(bytes, FIRST_CHUNK);
+        }
+        self.read_from(bytes, *self)
+    }
+
+    fn read_from(&mut self, bytes: &[u8], from: HeadReader) -> HeadAnswer
+        requires { HasPassed from bytes.now }
+        ensures answer { AnswerIn bytes.now result }
+        ensures passed { HasPassed self.new bytes.now }
+    {
+        let (answer, reader) = read_chunks(bytes, from);
+        *self = reader;
+        answer
+    }
+}
+
+/// Where the first chunk stands.
+const FIRST_CHUNK: HeadReader = HeadReader {
+    place: 12,
+    known: None,
+};
+
+fn read_chunks(bytes: &[u8], from: HeadReader) -> (HeadAnswer, HeadReader)
+    requires { HasPassed from bytes.now }
+    ensures answer { AnswerIn bytes.now result.0 }
+    ensures passed { HasPassed result.1 bytes.now }
 {
-    let mut place = 12;
-    let mut known: Option<SampleFormat> = None;
+    let mut place = from.place;
+    let mut known = from.known;
     'chunks: loop {
         match read_chunk(&bytes[place..], place as u64, known) {
             Reading::Passed { length, format } => {
                 place += length as usize;
                 known = format;
             }
-            Reading::Ended(answer) => return answer,
+            Reading::Ended(answer) => return (answer, HeadReader { place, known }),
         }
-    }
-}
-
-// The answer, by the cases of the chunks.
-fn answer(bytes: &[u8]) -> HeadAnswer
-    ensures { AnswerIn bytes.now result }
-{
-    match opening(bytes) {
-        Some(answer) => answer,
-        None => read_chunks(bytes),
     }
 }
 
 /// What the first bytes of a WAV file say of its head, in one pass over the chunks that they hold.
 ///
 /// Every `fmt ` chunk has to be right, and the last one before `data` counts. A fault is the first one from
-/// the start of the file, and it is told as soon as no further bytes could mend it. A caller who gets
-/// `NeedMore` and comes back with that many bytes reads each chunk's head a few times at most: a chunk that is
-/// passed over is asked for whole. `place` is in bytes from the start of the file.
+/// the start of the file, and it is told as soon as no further bytes could mend it. Of a `fmt ` chunk whose
+/// coding is not known, further bytes can still show that its numbers do not fit either: the kind is by the
+/// bytes that are given. A caller whose bytes come in pieces keeps a [`HeadReader`]. `place` is in bytes from
+/// the start of the file.
 pub fn read_head(bytes: &[u8]) -> HeadAnswer
     ensures whole { (head : Head) → result ≡ HeadAnswer.Whole head ↔ BeginsWithHead bytes.now head }
     ensures bad { (place : ℕ) (kind : WavKind) → result ≡ HeadAnswer.Bad place kind ↔ FaultIn bytes.now place kind }
@@ -110,5 +156,5 @@ pub fn read_head(bytes: &[u8]) -> HeadAnswer
     // No further bytes make a head of bytes at fault.
     ensures never { (place : ℕ) (kind : WavKind) → result ≡ HeadAnswer.Bad place kind → (more : List ℕ) (head : Head) (rest : List ℕ) → AreBytes more → ¬ HeadThen longest_head (bytes.now ++ more) head rest }
 {
-    answer(bytes)
+    HeadReader::new().read(bytes)
 }

@@ -25,10 +25,18 @@ fn bad(place: u64, kind: WavKind) -> HeadAnswer {
 
 #[test]
 fn writes_a_head(rt: HostRuntime) {
+    let head = Head {
+        tag: 1,
+        channels: 1,
+        rate: 8000,
+        bits: 16,
+        start: 44,
+        size: Some(4),
+    };
     let mut into = [0u8; 44];
-    write_head(&mono(Some(4)), &mut into);
+    write_head(&head, &mut into);
     assert_eq!(rt; into, MONO);
-    assert_eq!(rt; read_head(&into), HeadAnswer::Whole(mono(Some(4))));
+    assert_eq!(rt; read_head(&into), HeadAnswer::Whole(head));
 }
 
 /// The bytes of `MONO`, each of the pairs (place, byte) written over them.

@@ -24,5 +24,8 @@ pub returns-in-Ended : goal.returns-in-Ended
 returns-in-Ended c =
     let bytes = c.args.bytes.now in
     let place = c.chunks.place in
-    answered bytes (record { at = place; known = c.chunks.known; left = drop place bytes }) c.in-Ended.answer c.chunks.invariant.reached
-    (subst (λ (xs : List ℕ). AnswerAt (record { at = place; known = c.chunks.known; left = xs }) c.in-Ended.answer) (take_rest bytes place) c.in-Ended.ensures)
+    record {
+      answer = answered bytes (record { at = place; known = c.chunks.known; left = drop place bytes }) c.in-Ended.answer c.chunks.invariant.reached
+          (subst (λ (xs : List ℕ). AnswerAt (record { at = place; known = c.chunks.known; left = xs }) c.in-Ended.answer) (take_rest bytes place) c.in-Ended.ensures);
+      passed = c.chunks.invariant;
+    }
