@@ -57,10 +57,13 @@ head_decides s cut true e =
       more = rest;
       fresh = bytes-drop (length left) (codes "data") data_bytes;
       long = omega (arith, long);
-      at_spot = inl (λ c. elim c [
-        | inl h ↦ h.format (data_there left parts.1 short) (none_there s.known parts.0)
-        | inr b ↦ let headed = b.headed.headed in omega (arith, headed, long)
-      ], λ p. let headed = p.headed in omega (arith, headed, long));
+      at_spot = inl (
+        λ c. elim c [
+          | inl h ↦ h.format (data_there left parts.1 short) (none_there s.known parts.0)
+          | inr b ↦ let headed = b.headed.headed in omega (arith, headed, long)
+        ],
+        λ p. let headed = p.headed in omega (arith, headed, long),
+      );
     }
 head_decides s cut false e =
     let left = s.left in
@@ -129,10 +132,16 @@ data_decides s cut none e has =
       more = more;
       fresh = filling_bytes s cut (codes "data") data_bytes;
       long = omega (arith, filled_length s cut (codes "data"));
-      at_spot = inr (filled_passed s cut (codes "data") has, (λ c. elim c [
-        | inl h ↦ h.format named after
-        | inr b ↦ let headed = b.headed.headed in omega (arith, headed, long)
-      ], λ p. let headed = p.headed in omega (arith, headed, long)));
+      at_spot = inr (
+        filled_passed s cut (codes "data") has,
+        (
+          λ c. elim c [
+            | inl h ↦ h.format named after
+            | inr b ↦ let headed = b.headed.headed in omega (arith, headed, long)
+          ],
+          λ p. let headed = p.headed in omega (arith, headed, long),
+        ),
+      );
     }
 
 -- where another chunk is cut
@@ -202,10 +211,13 @@ place_decides s fine cut e m st =
       more = more;
       fresh = wrong_fresh gap;
       long = omega (arith, all);
-      at_spot = inl (λ c. elim c [
-        | inl h ↦ let short = h.short in omega (arith, short, all)
-        | inr b ↦ refused (b.room.format named)
-      ], λ p. refused (longer, itself (left ++ more) (bytes-append left more fine (wrong_fresh gap)) p.whole, p.format named));
+      at_spot = inl (
+        λ c. elim c [
+          | inl h ↦ let short = h.short in omega (arith, short, all)
+          | inr b ↦ refused (b.room.format named)
+        ],
+        λ p. refused (longer, itself (left ++ more) (bytes-append left more fine (wrong_fresh gap)) p.whole, p.format named),
+      );
     }
 
 fmt_decides : (s : Spot) → AreBytes s.left → (cut : BodyCut s) → begins (codes "fmt ") s.left ≡ true → (o : Option ℕ) → Step (little_from 0 2 (body_at s.left) == extensible) (length (body_at s.left)) o → Decided s (s.at + 8 + unwrap_or o (chunk_length s.left))
@@ -301,10 +313,10 @@ opening_below bytes more cut below =
     elim (opening_step (length bytes) cut.short) [
       | inl (e, where_it_is) ↦ no_more bytes more (omega (arith, e, below)) (inl cut)
       | inr (e, ge, lt) ↦ inl (record {
-          short = omega (arith, e, below);
-          riff = fronts_from (codes "RIFF") (bytes ++ more) (λ k in_word in_bytes. get_or_append_left bytes more 0 k (omega arith) ∙ fronts_same (codes "RIFF") bytes cut.riff k in_word (omega arith));
-          wave = fronts_from (codes "WAVE") (drop 8 (bytes ++ more)) (λ k in_word in_bytes. absurd (omega (arith, e, below, in_bytes, length-drop 8 (bytes ++ more))));
-        })
+        short = omega (arith, e, below);
+        riff = fronts_from (codes "RIFF") (bytes ++ more) (λ k in_word in_bytes. get_or_append_left bytes more 0 k (omega arith) ∙ fronts_same (codes "RIFF") bytes cut.riff k in_word (omega arith));
+        wave = fronts_from (codes "WAVE") (drop 8 (bytes ++ more)) (λ k in_word in_bytes. absurd (omega (arith, e, below, in_bytes, length-drop 8 (bytes ++ more))));
+      })
     ]
 
 opening_decides : (bytes : List ℕ) → OpeningCut bytes → (more : List ℕ) × AreBytes more × (length (bytes ++ more) ≡ opening_length (length bytes)) × (CutIn (bytes ++ more) → ⊥)
@@ -316,7 +328,7 @@ opening_decides bytes cut =
     let short = cut.short in
     let facts : (len < n) × ((n - 1 < 4) ⊎ ((8 ≤ n - 1) × (n - 1 < 12))) =
     elim (opening_step len short) [
-      | inl (e, at_word) ↦ (omega (arith, e), elim at_word [ | inl lt ↦ inl (omega (arith, e, lt)) | inr ge ↦ inr (omega (arith, e, ge), omega (arith, e, short)) ])
+      | inl (e, at_word) ↦ (omega (arith, e), elim at_word [ inl lt ↦ inl (omega (arith, e, lt)) | inr ge ↦ inr (omega (arith, e, ge), omega (arith, e, short)) ])
       | inr (e, ge, lt) ↦ (omega (arith, e, lt), inr (omega (arith, e), omega (arith, e)))
     ] in
     let after = facts.0 in

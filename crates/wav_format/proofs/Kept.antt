@@ -76,7 +76,7 @@ module _ (given longer : List ℕ) (kept : Kept given longer) where
             rw (a, b) (kept.same 2 lt)
         | inr le ↦
             let a : ltb 2 (length given) ≡ false = le-ltb 2 (length given) le in
-            let b : ltb 2 (length longer) ≡ false = le-ltb 2 (length longer) (elim (cases_lt 2 (length longer)) [ | inl lt ↦ let h = kept.p2 lt in absurd (omega (arith, h, le)) | inr le' ↦ le' ]) in
+            let b : ltb 2 (length longer) ≡ false = le-ltb 2 (length longer) (elim (cases_lt 2 (length longer)) [ inl lt ↦ let h = kept.p2 lt in absurd (omega (arith, h, le)) | inr le' ↦ le' ]) in
             rw (a, b) refl
       ]
 
@@ -141,30 +141,74 @@ module _ (given longer : List ℕ) (kept : Kept given longer) where
 module _ (given longer : List ℕ) (fits : length given ≤ length longer) (same : (i : ℕ) → i < length given → get_or longer i 0 ≡ get_or given i 0) where
   kept_equal : length longer ≤ length given → Kept given longer
   kept_equal le = record {
-    fits = fits; same = same;
-    p0 = λ h. omega arith; p1 = λ h. omega arith; p2 = λ h. omega arith; p3 = λ h. omega arith; p6 = λ h. omega arith; p7 = λ h. omega arith;
-    p12 = λ h. omega arith; p13 = λ h. omega arith; p14 = λ h. omega arith; p15 = λ h. omega arith; p24 = λ a h. omega arith; p25 = λ a h. omega arith;
+    fits = fits;
+    same = same;
+    p0 = λ h. omega arith;
+    p1 = λ h. omega arith;
+    p2 = λ h. omega arith;
+    p3 = λ h. omega arith;
+    p6 = λ h. omega arith;
+    p7 = λ h. omega arith;
+    p12 = λ h. omega arith;
+    p13 = λ h. omega arith;
+    p14 = λ h. omega arith;
+    p15 = λ h. omega arith;
+    p24 = λ a h. omega arith;
+    p25 = λ a h. omega arith;
   }
 
   kept_rate : 4 ≤ length given → length longer ≤ 6 → Kept given longer
   kept_rate ge le = record {
-    fits = fits; same = same;
-    p0 = λ h. omega arith; p1 = λ h. omega arith; p2 = λ h. omega arith; p3 = λ h. omega arith; p6 = λ h. omega arith; p7 = λ h. omega arith;
-    p12 = λ h. omega arith; p13 = λ h. omega arith; p14 = λ h. omega arith; p15 = λ h. omega arith; p24 = λ a h. omega arith; p25 = λ a h. omega arith;
+    fits = fits;
+    same = same;
+    p0 = λ h. omega arith;
+    p1 = λ h. omega arith;
+    p2 = λ h. omega arith;
+    p3 = λ h. omega arith;
+    p6 = λ h. omega arith;
+    p7 = λ h. omega arith;
+    p12 = λ h. omega arith;
+    p13 = λ h. omega arith;
+    p14 = λ h. omega arith;
+    p15 = λ h. omega arith;
+    p24 = λ a h. omega arith;
+    p25 = λ a h. omega arith;
   }
 
   kept_block : 8 ≤ length given → length longer ≤ 12 → Kept given longer
   kept_block ge le = record {
-    fits = fits; same = same;
-    p0 = λ h. omega arith; p1 = λ h. omega arith; p2 = λ h. omega arith; p3 = λ h. omega arith; p6 = λ h. omega arith; p7 = λ h. omega arith;
-    p12 = λ h. omega arith; p13 = λ h. omega arith; p14 = λ h. omega arith; p15 = λ h. omega arith; p24 = λ a h. omega arith; p25 = λ a h. omega arith;
+    fits = fits;
+    same = same;
+    p0 = λ h. omega arith;
+    p1 = λ h. omega arith;
+    p2 = λ h. omega arith;
+    p3 = λ h. omega arith;
+    p6 = λ h. omega arith;
+    p7 = λ h. omega arith;
+    p12 = λ h. omega arith;
+    p13 = λ h. omega arith;
+    p14 = λ h. omega arith;
+    p15 = λ h. omega arith;
+    p24 = λ a h. omega arith;
+    p25 = λ a h. omega arith;
   }
 
   kept_true : 16 ≤ length given → length longer ≤ 24 → Kept given longer
   kept_true ge le = record {
-    fits = fits; same = same;
-    p0 = λ h. omega arith; p1 = λ h. omega arith; p2 = λ h. omega arith; p3 = λ h. omega arith; p6 = λ h. omega arith; p7 = λ h. omega arith;
-    p12 = λ h. omega arith; p13 = λ h. omega arith; p14 = λ h. omega arith; p15 = λ h. omega arith; p24 = λ a h. omega arith; p25 = λ a h. omega arith;
+    fits = fits;
+    same = same;
+    p0 = λ h. omega arith;
+    p1 = λ h. omega arith;
+    p2 = λ h. omega arith;
+    p3 = λ h. omega arith;
+    p6 = λ h. omega arith;
+    p7 = λ h. omega arith;
+    p12 = λ h. omega arith;
+    p13 = λ h. omega arith;
+    p14 = λ h. omega arith;
+    p15 = λ h. omega arith;
+    p24 = λ a h. omega arith;
+    p25 = λ a h. omega arith;
   }
 
   -- all that decides is there
@@ -175,10 +219,20 @@ module _ (given longer : List ℕ) (fits : length given ≤ length longer) (same
       let high = a.1 (omega arith) in
       true_there (eq-eqb (little_from 0 2 given) extensible (omega (arith, low, high))) in
       record {
-        fits = fits; same = same;
-        p0 = λ h. omega arith; p1 = λ h. omega arith; p2 = λ h. omega arith; p3 = λ h. omega arith; p6 = λ h. omega arith; p7 = λ h. omega arith;
-        p12 = λ h. omega arith; p13 = λ h. omega arith; p14 = λ h. omega arith; p15 = λ h. omega arith;
-        p24 = λ a h. let w = wide a in omega (arith, w); p25 = λ a h. let w = wide a in omega (arith, w);
+        fits = fits;
+        same = same;
+        p0 = λ h. omega arith;
+        p1 = λ h. omega arith;
+        p2 = λ h. omega arith;
+        p3 = λ h. omega arith;
+        p6 = λ h. omega arith;
+        p7 = λ h. omega arith;
+        p12 = λ h. omega arith;
+        p13 = λ h. omega arith;
+        p14 = λ h. omega arith;
+        p15 = λ h. omega arith;
+        p24 = λ a h. let w = wide a in omega (arith, w);
+        p25 = λ a h. let w = wide a in omega (arith, w);
       }
 
   -- the next byte that decides is not there

@@ -145,10 +145,13 @@ body_goes : (s : Spot) (more : List ℕ) → BodyCut s → HasRoom (ext s more) 
 body_goes s more cut has short named =
     elim (cases_lt (length (s.left ++ more)) (chunk_length s.left)) [
       | inl lt ↦ inl (inr (body_still s more cut has lt))
-      | inr ge ↦ inr (body_passed s more cut has ge, record {
+      | inr ge ↦ inr (
+        body_passed s more cut has ge,
+        record {
           short = omega (arith, short, ge, length_more s.left more cut.headed.headed, length-drop (chunk_length (s.left ++ more)) (s.left ++ more));
           format = named;
-        })
+        },
+      )
     ]
 
 pub deciding_fmt : (s : Spot) → 8 ≤ length s.left → begins (codes "fmt ") s.left ≡ true → deciding s ≡ s.at + 8 + unwrap_or (body_length (little_from 0 2 (body_at s.left) == extensible) (length (body_at s.left))) (chunk_length s.left)
@@ -271,12 +274,13 @@ huge_bytes = bytes_from huge (omega arith, (omega arith, (omega arith, (omega ar
 
 -- a spot at which such a size stands
 pub huge_stops : (t : Spot) → length t.left ≡ 8 → get_or t.left 7 0 ≡ 255 → (ChunkCut t → ⊥) × (IsPassed longest_head t → ⊥)
-huge_stops t long top =
-    (λ cut. elim cut [
-      | inl c ↦ let short = c.short in omega (arith, short, long)
-      | inr c ↦ let room = c.room.room in omega (arith, room, top)
-    ],
-    λ p. let room = p.room in omega (arith, room, top))
+huge_stops t long top = (
+  λ cut. elim cut [
+    | inl c ↦ let short = c.short in omega (arith, short, long)
+    | inr c ↦ let room = c.room.room in omega (arith, room, top)
+  ],
+  λ p. let room = p.room in omega (arith, room, top),
+)
 
 -- what decides: further bytes, and the spot at which they do
 pub record Decided (s : Spot) (n : ℕ) : Type 0 where
@@ -291,8 +295,12 @@ decided_cut bytes s n fine reached d =
     let place = place_reached bytes s reached in
     let all = bytes-append bytes more fine d.fresh in
     let here = reached_more bytes more s reached in
-    let long = d.long in
-    (more, d.fresh, omega (arith, long, place, length-append bytes more, length-append s.left more), elim d.at_spot [
-      | inl stop ↦ not_cut (bytes ++ more) (ext s more) all here stop.0 stop.1
-      | inr (p, stop) ↦ not_cut (bytes ++ more) (behind (ext s more)) all (reached_behind (bytes ++ more) (ext s more) here p) stop.0 stop.1
-    ])
+    let long = d.long in (
+      more,
+      d.fresh,
+      omega (arith, long, place, length-append bytes more, length-append s.left more),
+      elim d.at_spot [
+        | inl stop ↦ not_cut (bytes ++ more) (ext s more) all here stop.0 stop.1
+        | inr (p, stop) ↦ not_cut (bytes ++ more) (behind (ext s more)) all (reached_behind (bytes ++ more) (ext s more) here p) stop.0 stop.1
+      ],
+    )

@@ -94,3 +94,83 @@ fn asks_for_more(rt: HostRuntime) {
         );
     }
 }
+
+/// A stereo `fmt ` chunk of A-law at 8000 Hz, in the extensible form.
+const EXTENSIBLE: [u8; 48] = [
+    0x66, 0x6D, 0x74, 0x20, 0x28, 0x00, 0x00, 0x00, 0xFE, 0xFF, 0x02, 0x00, 0x40, 0x1F, 0x00, 0x00,
+    0x80, 0x3E, 0x00, 0x00, 0x02, 0x00, 0x08, 0x00, 0x16, 0x00, 0x08, 0x00, 0x03, 0x00, 0x00, 0x00,
+    0x06, 0x00, 0x00, 0x00, 0x00, 0x00, 0x10, 0x00, 0x80, 0x00, 0x00, 0xAA, 0x00, 0x38, 0x9B, 0x71,
+];
+
+#[test]
+fn reads_past_chunks(rt: HostRuntime) -> Result<(), Fail> {
+    let mut bytes = Vec::new(rt.alloc());
+    bytes.extend_from_slice(&MONO[..12])?;
+    bytes.extend_from_slice(b"LIST\x03\0\0\0abc\0")?;
+    bytes.extend_from_slice(&MONO[12..36])?;
+    bytes.extend_from_slice(&EXTENSIBLE)?;
+    bytes.extend_from_slice(b"data\x09\0\0\0abcdefghi")?;
+    let head = Head {
+        tag: 6,
+        channels: 2,
+        rate: 8000,
+        bits: 8,
+        start: 104,
+        size: Some(9),
+    };
+    assert_eq!(rt; read_head(&bytes), HeadAnswer::Whole(head));
+    let mut reader = HeadReader::new();
+    assert_eq!(rt; reader.read(bytes.as_slice()), HeadAnswer::Whole(head));
+    for (len, want) in [
+        (12, 16),
+        (20, 28),
+        (24, 28),
+        (48, 56),
+        (57, 58),
+        (80, 81),
+        (81, 82),
+        (82, 104),
+        (103, 104),
+    ] {
+        if let Some(front) = bytes.as_slice().get(..len) {
+            assert_eq!(rt; read_head(front), HeadAnswer::NeedMore(want), "at {len}");
+        }
+    }
+    Ok(())
+}
+
+#[test]
+fn knows_codings(rt: HostRuntime) {
+    // tag, bits, block align; whether they are known
+    let rows: [(u8, u8, u8, Option<WavKind>); 12] = [
+        (1, 8, 1, None),
+        (1, 24, 3, None),
+        (1, 32, 4, None),
+        (1, 40, 5, Some(WavKind::TagUnknown)),
+        (1, 12, 1, Some(WavKind::BadFmt)),
+        (6, 8, 1, None),
+        (6, 16, 2, Some(WavKind::TagUnknown)),
+        (7, 8, 1, None),
+        (7, 32, 4, Some(WavKind::TagUnknown)),
+        (0, 8, 1, Some(WavKind::TagUnknown)),
+        (3, 32, 4, Some(WavKind::TagUnknown)),
+        (3, 32, 3, Some(WavKind::BadFmt)),
+    ];
+    for (tag, bits, align, fault) in rows {
+        let want = match fault {
+            Some(kind) => bad(20, kind),
+            None => HeadAnswer::Whole(Head {
+                tag: u16::from(tag),
+                channels: 1,
+                rate: 8000,
+                bits: u16::from(bits),
+                start: 44,
+                size: Some(4),
+            }),
+        };
+        assert_eq!(rt;
+            read_head(&changed(&[(20, tag), (34, bits), (32, align)])),
+            want
+        );
+    }
+}
