@@ -1,14 +1,14 @@
 -- The head that is written is read again.
-use Rattle.std.proofs.Common.{◌≡◌, ◌≢◌, ℕ, zero, suc, ◌+◌, ◌-◌, ◌*◌, ◌/◌, ◌%◌, ◌<◌, ◌≤◌, ◌⊎◌, inl, inr, Bool, true, false, Option, Some, None, List, [], ◌∷◌, ◌++◌, length, take, drop, codes, ◌==◌, ◌||◌, cond, refl, sym, ap, subst, ◌∙◌, arith}
+use Rattle.std.proofs.Common.{◌≡◌, ◌≢◌, ℕ, ◌+◌, ◌*◌, ◌/◌, ◌%◌, ◌<◌, ◌≤◌, inl, inr, false, Option, Some, List, [], drop, ◌==◌, refl, sym, ap, ◌∙◌, arith}
 use Rattle.std.proofs.lemmas.Bool.{ne_eqb}
-use Rattle.std.proofs.Math.Nat.{mul-le-mul_right, mul-le-mul_left}
+use Rattle.std.proofs.Math.Nat.{mul-le-mul_right}
 use Rattle.byteorder.specs.Endian.{little_from}
 use Rattle.byteorder.specs.Numbers.{little_number-reads_back}
 use Rattle.wav_format.specs.declared.format.SampleFormat.{SampleFormat}
 use Rattle.wav_format.specs.declared.head.Head.{Head}
-use Rattle.wav_format.specs.Chunks.{EndsHead, HeadThen, IsOpened, IsPassed, Leads, Spot, behind, body_at, body_size, chunk_length, data_size, first_chunk, format_after, longest_head}
+use Rattle.wav_format.specs.Chunks.{HeadThen, behind, body_at, body_size, data_size, first_chunk, longest_head}
 use Rattle.wav_format.specs.Format.{IsFormat, IsKnown, extensible, true_tag}
-use Rattle.wav_format.specs.Written.{block_align, format_chunk, written}
+use Rattle.wav_format.specs.Written.{block_align, written}
 
 -- whole bytes a sample
 record Width (tag bits : ℕ) : Type 0 where

@@ -1,12 +1,11 @@
 -- Which bodies the first bytes leave open.
-use Rattle.std.proofs.Common.{◌≡◌, ℕ, zero, suc, ◌+◌, ◌-◌, ◌*◌, ◌/◌, ◌%◌, ◌<◌, ◌≤◌, ◌⊎◌, inl, inr, Bool, true, false, List, [], ◌∷◌, ◌++◌, length, take, drop, replicate, get_or, refl, sym, ap, subst, ◌∙◌, arith, rules, cond, ltb, ◌↔◌}
-use Rattle.std.proofs.lemmas.List.{take_at, drop_at, get_or-take, get_or-drop, get_or_append_left, get_or-append_right, get_or-replicate, length-append, length-drop, length-take, length-replicate, get_or_past, take_all}
+use Rattle.std.proofs.Common.{◌≡◌, ℕ, zero, suc, ◌+◌, ◌-◌, ◌*◌, ◌/◌, ◌%◌, ◌<◌, ◌≤◌, inl, inr, true, List, [], ◌∷◌, ◌++◌, length, take, drop, replicate, get_or, refl, sym, ap, subst, ◌∙◌, arith, ltb}
+use Rattle.std.proofs.lemmas.List.{take_at, get_or-take, get_or-drop, get_or_append_left, get_or-append_right, length-append, length-drop, length-take, length-replicate, get_or_past}
 use Rattle.std.proofs.lemmas.Bool.{cases_lt, lt-ltb}
 use Rattle.std.proofs.Math.Nat.{div-add-mod, mul-mod_right, mul-div_cancel_left}
-use Rattle.byteorder.specs.Endian.{little_from, little_number}
-use Rattle.wav_format.specs.Format.{AreBytes, Completes, IsFormat, IsKnown, NumbersFit, extensible, true_tag}
-use Rattle.wav_format.specs.Faults.{MayBeFormat, MayFit}
-use Rattle.wav_format.specs.Given.{Agrees, BitsMayFit, BlockMayFit, ByteAgrees, FormatAgrees, LimitsMayHold, MayBeCoded, NumbersAgree, RateMayFit, SomeCodingMayBe, TagMayBe, channels_in}
+use Rattle.byteorder.specs.Endian.{little_from}
+use Rattle.wav_format.specs.Format.{AreBytes, Completes}
+use Rattle.wav_format.specs.Given.{Agrees, BitsMayFit, BlockMayFit, ByteAgrees, LimitsMayHold, RateMayFit, channels_in}
 
 -- a frame of whole samples
 pub whole_bits : (frame channels : ℕ) → frame % channels ≡ 0 → frame ≡ channels * (frame / channels)

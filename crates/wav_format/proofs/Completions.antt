@@ -1,14 +1,14 @@
 -- How bytes that end too early may go on to a head.
-use Rattle.std.proofs.Common.{◌≡◌, ℕ, zero, suc, ◌+◌, ◌-◌, ◌*◌, ◌/◌, ◌%◌, ◌<◌, ◌≤◌, ◌⊎◌, inl, inr, Bool, true, false, Option, Some, None, List, [], ◌∷◌, ◌++◌, length, take, drop, replicate, get_or, codes, bytes_eq, cond, refl, sym, ap, subst, ◌∙◌, arith, append_assoc}
+use Rattle.std.proofs.Common.{◌≡◌, ℕ, suc, ◌+◌, ◌-◌, ◌%◌, ◌<◌, ◌≤◌, inl, inr, Bool, true, false, Option, Some, None, List, [], ◌∷◌, ◌++◌, length, take, drop, replicate, get_or, codes, refl, sym, ap, subst, ◌∙◌, arith, append_assoc}
 use Rattle.std.proofs.lemmas.Bool.{cases_lt}
-use Rattle.std.proofs.lemmas.List.{get_or_append_left, get_or-append_right, get_or-drop, get_or-take, take-append-le, take-append-drop, drop-append-le, drop-drop, take_at, drop_at, take_all, drop_all, same_lists, get_or_default, length-take, length-drop, length-append, length-replicate}
+use Rattle.std.proofs.lemmas.List.{get_or-append_right, get_or-drop, get_or-take, take-append-drop, drop-append-le, drop-drop, take_at, drop_at, drop_all, length-drop, length-append, length-replicate}
 use Rattle.std.proofs.lemmas.Slice.Eq.{bytes_eq-Decides}
 use Rattle.wav_format.specs.declared.format.SampleFormat.{SampleFormat}
 use Rattle.wav_format.specs.declared.head.Head.{Head}
-use Rattle.wav_format.specs.Chunks.{EndsHead, HeadThen, IsOpened, IsPassed, Leads, Reaches, Spot, begins, behind, body_at, body_size, chunk_length, data_size, first_chunk, format_after, longest_head}
-use Rattle.wav_format.specs.Format.{AreBytes, Completes, IsFormat}
-use Rattle.wav_format.proofs.Bodies.{AllBelow, bytes-append, bytes_from, bytes-drop, bytes-zeros, filled, filled_completes, bytes-nil}
-use Rattle.wav_format.proofs.Longer.{begins_long, begins_more, ext, length_more, size_more}
+use Rattle.wav_format.specs.Chunks.{EndsHead, IsPassed, Leads, Spot, begins, behind, body_at, body_size, chunk_length, data_size, format_after}
+use Rattle.wav_format.specs.Format.{AreBytes, IsFormat}
+use Rattle.wav_format.proofs.Bodies.{AllBelow, bytes-append, bytes_from, bytes-drop, bytes-zeros}
+use Rattle.wav_format.proofs.Longer.{begins_long, begins_more, length_more, size_more}
 
 -- ---- further chunks
 

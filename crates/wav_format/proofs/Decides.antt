@@ -1,21 +1,20 @@
 -- Some bytes of the next length decide.
-use Rattle.std.proofs.Common.{◌≡◌, ◌≢◌, ℕ, zero, suc, ◌+◌, ◌-◌, ◌*◌, ◌/◌, ◌%◌, ◌<◌, ◌≤◌, min, ◌⊎◌, inl, inr, Bool, true, false, Option, Some, None, is_none, List, [], ◌∷◌, ◌++◌, length, take, drop, replicate, get_or, codes, cond, ltb, leb, ◌==◌, ◌&&◌, bytes_eq, refl, sym, ap, subst, ◌∙◌, arith, append_assoc}
+use Rattle.std.proofs.Common.{◌≡◌, ℕ, zero, suc, ◌+◌, ◌-◌, ◌<◌, ◌≤◌, ◌⊎◌, inl, inr, Bool, true, false, Option, Some, None, is_none, List, [], ◌∷◌, ◌++◌, length, drop, replicate, get_or, codes, cond, ltb, ◌==◌, ◌&&◌, refl, sym, ap, subst, ◌∙◌, arith, append_assoc}
 use Rattle.std.specs.Prelude.{unwrap_or}
 use Rattle.std.proofs.lemmas.Bool.{cases_lt, eqb-true, le-leb, le-ltb, lt-leb, lt-ltb, ltb-true}
-use Rattle.std.proofs.lemmas.List.{append-nil, drop_at, get_or-append_right, get_or_append_left, get_or_at, get_or-drop, get_or-take, get_or_past, length-append, length-drop, length-replicate, length-take, nil_from_length}
+use Rattle.std.proofs.lemmas.List.{append-nil, drop_at, get_or-append_right, get_or_append_left, get_or_at, get_or-drop, get_or-take, get_or_past, length-append, length-drop, length-replicate, nil_from_length}
 use Rattle.byteorder.specs.Endian.{little_from}
 use Rattle.wav_format.specs.declared.format.SampleFormat.{SampleFormat}
 use Rattle.wav_format.specs.Answers.{CutsAt}
-use Rattle.wav_format.specs.Chunks.{IsOpened, IsPassed, Reaches, Spot, begins, behind, body_at, body_size, chunk_length, format_after, longest_head}
-use Rattle.wav_format.specs.Cuts.{BodyCut, ChunkCut, CutIn, HasRoom, HeadCut, IsLeast, OpeningCut, body_length, deciding, deciding_head, fronts, opening_length}
+use Rattle.wav_format.specs.Chunks.{IsPassed, Reaches, Spot, begins, behind, body_at, body_size, chunk_length, longest_head}
+use Rattle.wav_format.specs.Cuts.{BodyCut, ChunkCut, CutIn, HasRoom, HeadCut, IsLeast, OpeningCut, body_length, deciding, fronts, opening_length}
 use Rattle.wav_format.specs.Faults.{MayBeFormat}
-use Rattle.wav_format.specs.Format.{AreBytes, IsFormat, extensible, format_of}
-use Rattle.wav_format.specs.Given.{FormatAgrees}
+use Rattle.wav_format.specs.Format.{AreBytes, extensible, format_of}
 use Rattle.wav_format.proofs.Bodies.{AllBelow, bytes-append, bytes-cons, bytes-drop, bytes-nil, bytes-take, bytes-zeros, bytes_from}
-use Rattle.wav_format.proofs.Formats.{format_to_given, given_to_format}
+use Rattle.wav_format.proofs.Formats.{format_to_given}
 use Rattle.wav_format.proofs.Fronts.{begins_from}
-use Rattle.wav_format.proofs.Kept.{Kept, Step, kept_all, step, wrong_next}
-use Rattle.wav_format.proofs.Least.{Decided, body_length_of, body_passed, decided_cut, deciding_fmt, deciding_other, front_fine, head_length, huge, huge_bytes, huge_stops, longer_fits, longer_same, next_within, reached_below, room_more, stays_open}
+use Rattle.wav_format.proofs.Kept.{Step, kept_all, step, wrong_next}
+use Rattle.wav_format.proofs.Least.{Decided, body_length_of, body_passed, decided_cut, deciding_fmt, deciding_other, head_length, huge, huge_bytes, huge_stops, longer_fits, longer_same, next_within, reached_below, room_more, stays_open}
 use Rattle.wav_format.proofs.Longer.{begins_more, ext, length_more, size_more}
 use Rattle.wav_format.proofs.Openings.{Same, begins_same, fronts_same}
 use Rattle.wav_format.proofs.Unique.{bytes_reached, itself}

@@ -1,11 +1,11 @@
 -- What the first bytes of a body decide is what every body that begins with them meets.
-use Rattle.std.proofs.Common.{◌≡◌, ℕ, zero, suc, ◌+◌, ◌-◌, ◌*◌, ◌/◌, ◌%◌, ◌<◌, ◌≤◌, ◌⊎◌, inl, inr, Bool, true, false, List, [], ◌∷◌, length, get_or, refl, sym, ap, subst, ◌∙◌, arith, cond, ◌==◌, ltb}
+use Rattle.std.proofs.Common.{◌≡◌, ℕ, ◌*◌, ◌<◌, ◌≤◌, inl, inr, Bool, true, false, List, length, get_or, refl, sym, ap, ◌∙◌, arith, cond, ◌==◌, ltb}
 use Rattle.std.proofs.lemmas.Bool.{cases_lt, eqb-true, lt-ltb, le-ltb}
 use Rattle.std.proofs.Math.Nat.{mul-le-mul_right}
 use Rattle.byteorder.specs.Endian.{little_from}
-use Rattle.wav_format.specs.Format.{AreBytes, Completes, IsFormat, IsKnown, NumbersFit, extensible, true_tag}
+use Rattle.wav_format.specs.Format.{AreBytes, Completes, IsKnown, NumbersFit, extensible, true_tag}
 use Rattle.wav_format.specs.Faults.{MayBeFormat, MayFit}
-use Rattle.wav_format.specs.Given.{Agrees, BitsMayFit, BlockMayFit, ByteAgrees, FormatAgrees, LimitsMayHold, MayBeCoded, NumbersAgree, RateMayFit, SomeCodingMayBe, TagMayBe, channels_in}
+use Rattle.wav_format.specs.Given.{Agrees, BlockMayFit, FormatAgrees, LimitsMayHold, MayBeCoded, NumbersAgree, TagMayBe, channels_in}
 use Rattle.wav_format.proofs.Bodies.{Says, agrees_with, build, same_front}
 
 -- ---- from what is given to a body

@@ -1,17 +1,15 @@
 -- Bytes that end too early are the front of some head.
-use Rattle.std.proofs.Common.{◌≡◌, ◌≢◌, ℕ, zero, suc, ◌+◌, ◌-◌, ◌*◌, ◌/◌, ◌%◌, ◌<◌, ◌≤◌, ◌⊎◌, inl, inr, Bool, true, false, Option, Some, None, List, [], ◌∷◌, ◌++◌, length, take, drop, replicate, get_or, codes, bytes_eq, refl, sym, ap, subst, ◌∙◌, arith, append_assoc}
+use Rattle.std.proofs.Common.{◌≡◌, ◌≢◌, ℕ, zero, suc, ◌+◌, ◌-◌, ◌<◌, ◌≤◌, inl, inr, Bool, true, false, Option, Some, None, List, [], ◌∷◌, ◌++◌, length, take, drop, replicate, get_or, codes, refl, sym, ap, subst, ◌∙◌, arith, append_assoc}
 use Rattle.std.proofs.lemmas.Bool.{cases_lt}
-use Rattle.std.proofs.lemmas.List.{get_or_append_left, get_or-append_right, get_or-drop, get_or-take, drop-append-le, drop_at, take_all, same_lists, get_or_default, length-take, length-drop, length-append, length-replicate}
+use Rattle.std.proofs.lemmas.List.{get_or_append_left, get_or-append_right, get_or-drop, get_or-take, drop-append-le, drop_at, take_all, same_lists, get_or_default, length-take, length-drop, length-append}
 use Rattle.std.proofs.lemmas.Slice.Eq.{bytes_eq-Decides}
 use Rattle.wav_format.specs.declared.format.SampleFormat.{SampleFormat}
-use Rattle.wav_format.specs.declared.head.Head.{Head}
 use Rattle.wav_format.specs.Answers.{CutsAt}
-use Rattle.wav_format.specs.Chunks.{EndsHead, FrontsSomeHead, HeadThen, IsOpened, IsPassed, Leads, Reaches, Spot, begins, behind, body_at, body_size, chunk_length, first_chunk, longest_head}
-use Rattle.wav_format.specs.Cuts.{BodyCut, ChunkCut, HeadCut, OpeningCut, fronts}
-use Rattle.wav_format.specs.Faults.{MayBeFormat}
+use Rattle.wav_format.specs.Chunks.{FrontsSomeHead, HeadThen, IsOpened, Leads, Reaches, Spot, begins, behind, body_at, body_size, chunk_length, first_chunk, longest_head}
+use Rattle.wav_format.specs.Cuts.{BodyCut, ChunkCut, OpeningCut}
 use Rattle.wav_format.specs.Format.{AreBytes, Completes, IsFormat}
 use Rattle.wav_format.proofs.Bodies.{AllBelow, bytes-append, bytes-drop, bytes-nil, bytes-take, bytes-zeros, bytes_from, filled, filled_completes}
-use Rattle.wav_format.proofs.Completions.{Closes, bytes_last, closes_body, closes_last, closes_named, closes_unnamed, fill, headed, headed_length, headed_size, last_chunks, long_body, rest_bytes, rest_of, rest_some, some_body}
+use Rattle.wav_format.proofs.Completions.{Closes, bytes_last, closes_body, closes_last, closes_named, closes_unnamed, fill, headed, last_chunks, long_body, rest_bytes, rest_of, rest_some, some_body}
 use Rattle.wav_format.proofs.Longer.{begins_more, ext, first_more, leads_more}
 use Rattle.wav_format.proofs.Openings.{Same, fronts_same}
 use Rattle.wav_format.proofs.Unique.{bytes_reached}

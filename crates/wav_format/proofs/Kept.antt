@@ -1,12 +1,11 @@
 -- Which further bytes of a `fmt ` body decide nothing, and which may decide.
-use Rattle.std.proofs.Common.{◌≡◌, ℕ, zero, suc, ◌+◌, ◌-◌, ◌*◌, ◌/◌, ◌%◌, ◌<◌, ◌≤◌, ◌⊎◌, inl, inr, Bool, true, false, Option, Some, None, List, [], ◌∷◌, length, take, drop, get_or, cond, ltb, ◌==◌, ◌&&◌, refl, sym, ap, subst, ◌∙◌, arith}
+use Rattle.std.proofs.Common.{◌≡◌, ℕ, zero, suc, ◌+◌, ◌-◌, ◌*◌, ◌/◌, ◌%◌, ◌<◌, ◌≤◌, ◌⊎◌, inl, inr, Bool, true, false, Option, Some, None, List, length, get_or, cond, ltb, ◌==◌, ◌&&◌, refl, sym, ap, ◌∙◌, arith}
 use Rattle.std.proofs.lemmas.Bool.{cases_lt, eq-eqb, lt-ltb, le-ltb}
-use Rattle.std.proofs.lemmas.List.{get_or-take}
 use Rattle.std.proofs.Math.Nat.{mul-le-mul_right}
 use Rattle.byteorder.specs.Endian.{little_from}
 use Rattle.wav_format.specs.Cuts.{body_length}
-use Rattle.wav_format.specs.Format.{AreBytes, extensible}
-use Rattle.wav_format.specs.Given.{Agrees, ByteAgrees, FormatAgrees, LimitsMayHold, MayBeCoded, RateMayFit, SomeCodingMayBe, TagMayBe, channels_in}
+use Rattle.wav_format.specs.Format.{extensible}
+use Rattle.wav_format.specs.Given.{Agrees, ByteAgrees, FormatAgrees, LimitsMayHold, MayBeCoded, RateMayFit, SomeCodingMayBe, channels_in}
 
 -- what the next length is, by where the bytes end
 abbrev pub Step : Bool → ℕ → Option ℕ → Type 0

@@ -1,25 +1,24 @@
 -- The next length that decides is the least.
-use Rattle.std.proofs.Common.{◌≡◌, ◌≢◌, ℕ, zero, suc, ◌+◌, ◌-◌, ◌*◌, ◌/◌, ◌%◌, ◌<◌, ◌≤◌, min, ◌⊎◌, inl, inr, Bool, true, false, Option, Some, None, is_none, List, [], ◌∷◌, ◌++◌, length, take, drop, replicate, get_or, codes, cond, ltb, leb, ◌==◌, ◌&&◌, bytes_eq, refl, sym, ap, subst, ◌∙◌, arith, append_assoc}
+use Rattle.std.proofs.Common.{◌≡◌, ◌≢◌, ℕ, zero, suc, ◌+◌, ◌-◌, ◌<◌, ◌≤◌, min, ◌⊎◌, inl, inr, Bool, true, false, Option, Some, None, is_none, List, [], ◌∷◌, ◌++◌, length, drop, get_or, codes, cond, ltb, ◌==◌, ◌&&◌, refl, sym, ap, subst, ◌∙◌, arith}
 use Rattle.std.specs.Prelude.{unwrap_or}
 use Rattle.std.proofs.lemmas.Bool.{cases_lt, eqb-true, lt-ltb, le-ltb}
-use Rattle.std.proofs.lemmas.List.{append-nil, drop_at, drop-append-le, get_or-append_right, get_or_append_left, get_or_at, get_or-drop, get_or-take, get_or_past, length-append, length-drop, length-replicate, length-take, nil_from_length}
+use Rattle.std.proofs.lemmas.List.{get_or_append_left, get_or-take, get_or_past, length-append, length-drop, length-take}
 use Rattle.byteorder.specs.Endian.{little_from}
 use Rattle.wav_format.specs.declared.format.SampleFormat.{SampleFormat}
 use Rattle.wav_format.specs.declared.head.HeadAnswer.TheVariants.{NeedMore}
-use Rattle.wav_format.specs.Answers.{CutsAt}
-use Rattle.wav_format.specs.Chunks.{IsOpened, IsPassed, Leads, Reaches, Spot, begins, behind, body_at, body_size, chunk_length, first_chunk, format_after, longest_head}
-use Rattle.wav_format.specs.Cuts.{BodyCut, ChunkCut, CutIn, HasRoom, HeadCut, IsLeast, OpeningCut, body_length, deciding, deciding_body, deciding_head, fronts, opening_length}
+use Rattle.wav_format.specs.Chunks.{IsPassed, Leads, Reaches, Spot, begins, behind, body_at, body_size, chunk_length, first_chunk, format_after, longest_head}
+use Rattle.wav_format.specs.Cuts.{BodyCut, ChunkCut, CutIn, HasRoom, HeadCut, body_length, deciding, deciding_head, fronts}
 use Rattle.wav_format.specs.Faults.{MayBeFormat}
-use Rattle.wav_format.specs.Format.{AreBytes, IsFormat, extensible, format_of}
+use Rattle.wav_format.specs.Format.{AreBytes, extensible, format_of}
 use Rattle.wav_format.specs.Given.{FormatAgrees}
-use Rattle.wav_format.proofs.Bodies.{AllBelow, bytes-append, bytes-cons, bytes-drop, bytes-nil, bytes-take, bytes-zeros, bytes_from}
+use Rattle.wav_format.proofs.Bodies.{AllBelow, bytes-append, bytes-drop, bytes-take, bytes_from}
 use Rattle.wav_format.proofs.Formats.{format_to_given, given_to_format}
 use Rattle.wav_format.proofs.Fronts.{opened_more}
-use Rattle.wav_format.proofs.Kept.{Kept, Step, format_kept, kept_all, kept_some, no_coding, step, wrong_next}
+use Rattle.wav_format.proofs.Kept.{Kept, Step, format_kept, kept_all, kept_some, no_coding, step}
 use Rattle.wav_format.proofs.Longer.{begins_long, begins_more, body_more, ext, first_more, follows, leads_more, length_more, size_more}
-use Rattle.wav_format.proofs.Openings.{Same, begins_same, fronts_same}
+use Rattle.wav_format.proofs.Openings.{begins_same}
 use Rattle.wav_format.proofs.Reached.{leads_next}
-use Rattle.wav_format.proofs.Unique.{bytes_reached, itself, stops}
+use Rattle.wav_format.proofs.Unique.{bytes_reached, stops}
 use Rattle.wav_format.proofs.Whole.{passed}
 use Rattle.wav_format.proofs.Words.{fronts_from}
 

@@ -1,16 +1,16 @@
 -- What further bytes leave as it is.
-use Rattle.std.proofs.Common.{◌≡◌, ℕ, zero, suc, ◌+◌, ◌-◌, ◌*◌, ◌%◌, ◌<◌, ◌≤◌, ◌⊎◌, inl, inr, Bool, true, false, Option, Some, None, List, [], ◌∷◌, ◌++◌, length, take, drop, get_or, codes, bytes_eq, cond, refl, sym, ap, subst, ◌∙◌, arith}
-use Rattle.std.proofs.lemmas.List.{get_or_append_left, take-append-le, drop-append-le, take-take, take_at, length-take, length-drop, length-append, take_all, append_cancel_left}
+use Rattle.std.proofs.Common.{◌≡◌, ℕ, zero, suc, ◌+◌, ◌%◌, ◌≤◌, inl, inr, true, Option, Some, None, List, ◌++◌, length, take, drop, codes, bytes_eq, cond, refl, sym, ap, subst, ◌∙◌, arith}
+use Rattle.std.proofs.lemmas.List.{get_or_append_left, take-append-le, drop-append-le, take-take, length-take, length-drop, length-append, take_all}
 use Rattle.std.proofs.lemmas.Slice.Eq.{bytes_eq-Decides}
 use Rattle.wav_format.specs.declared.format.SampleFormat.{SampleFormat}
 use Rattle.wav_format.specs.declared.head.Head.{Head}
 use Rattle.wav_format.specs.declared.head.WavKind.{WavKind}
 use Rattle.wav_format.specs.declared.head.WavKind.TheVariants.{NotRiff, NotWave, NoFmt, BadFmt, TagUnknown, HeadTooLong}
-use Rattle.wav_format.specs.Chunks.{BeginsWithHead, EndsHead, HeadThen, IsOpened, IsPassed, Leads, Reaches, Spot, begins, behind, body_at, body_size, chunk_length, first_chunk, format_after, longest_head}
-use Rattle.wav_format.specs.Faults.{ChunkFault, Differs, FaultIn, MayBeFormat, MayFit}
+use Rattle.wav_format.specs.Chunks.{EndsHead, HeadThen, IsPassed, Leads, Reaches, Spot, begins, behind, body_at, body_size, chunk_length, first_chunk, format_after, longest_head}
+use Rattle.wav_format.specs.Faults.{ChunkFault, Differs}
 use Rattle.wav_format.specs.Format.{AreBytes, Completes, IsFormat, format_of}
-use Rattle.wav_format.proofs.Bodies.{bytes-append, bytes-drop, bytes-take}
-use Rattle.wav_format.proofs.Openings.{Same, begins_same, differs_not}
+use Rattle.wav_format.proofs.Bodies.{bytes-drop, bytes-take}
+use Rattle.wav_format.proofs.Openings.{begins_same}
 use Rattle.wav_format.proofs.Unique.{not_both}
 use Rattle.wav_format.proofs.Whole.{body_whole}
 

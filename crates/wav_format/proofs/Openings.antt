@@ -1,5 +1,5 @@
 -- The bytes give one answer alone, also where they end before the first chunk.
-use Rattle.std.proofs.Common.{◌≡◌, ℕ, zero, suc, ◌+◌, ◌-◌, ◌<◌, ◌≤◌, ◌⊎◌, inl, inr, Bool, true, false, List, [], ◌∷◌, ◌++◌, length, take, drop, get_or, codes, bytes_eq, refl, sym, ap, subst, ◌∙◌, arith}
+use Rattle.std.proofs.Common.{◌≡◌, ℕ, ◌+◌, ◌<◌, ◌⊎◌, inl, inr, true, List, length, take, drop, get_or, codes, refl, sym, ap, ◌∙◌, arith}
 use Rattle.std.proofs.lemmas.Bool.{cases_lt}
 use Rattle.std.proofs.lemmas.List.{get_or-take}
 use Rattle.std.proofs.lemmas.Slice.Eq.{bytes_eq-Decides}
@@ -7,7 +7,7 @@ use Rattle.wav_format.specs.declared.head.HeadAnswer.{HeadAnswer}
 use Rattle.wav_format.specs.declared.head.HeadAnswer.TheVariants.{Whole, NeedMore, Bad}
 use Rattle.wav_format.specs.declared.head.WavKind.{WavKind}
 use Rattle.wav_format.specs.declared.head.WavKind.TheVariants.{NotRiff, NotWave, NoFmt, BadFmt, TagUnknown, HeadTooLong}
-use Rattle.wav_format.specs.Answers.{AnswerAt, AnswerIn}
+use Rattle.wav_format.specs.Answers.{AnswerIn}
 use Rattle.wav_format.specs.Chunks.{IsOpened, begins}
 use Rattle.wav_format.specs.Cuts.{OpeningCut, fronts, opening_length}
 use Rattle.wav_format.specs.Faults.{Differs}

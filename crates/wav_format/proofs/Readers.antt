@@ -1,5 +1,5 @@
 -- A reader stands in more bytes where it stood in less.
-use Rattle.std.proofs.Common.{◌≡◌, ℕ, ◌+◌, ◌≤◌, ◌⊎◌, inl, inr, List, ◌++◌, length, drop, sym, subst, arith}
+use Rattle.std.proofs.Common.{ℕ, inr, List, ◌++◌, drop, sym, subst, arith}
 use Rattle.std.proofs.lemmas.List.{drop-append-le, length-append}
 use Rattle.wav_format.specs.declared.reading.HeadReader.{HeadReader}
 use Rattle.wav_format.specs.Chunks.{Reaches, longest_head}

@@ -1,5 +1,5 @@
 -- No further bytes make a head of bytes at fault, and none but more of the data follow a head.
-use Rattle.std.proofs.Common.{◌≡◌, ℕ, zero, suc, ◌+◌, ◌-◌, ◌<◌, ◌≤◌, ◌⊎◌, inl, inr, Bool, true, false, List, [], ◌∷◌, ◌++◌, length, take, drop, codes, refl, sym, ap, subst, ◌∙◌, arith}
+use Rattle.std.proofs.Common.{◌≡◌, ℕ, zero, suc, ◌<◌, ◌≤◌, List, [], ◌∷◌, ◌++◌, length, drop, codes, refl, sym, ap, subst, ◌∙◌, arith}
 use Rattle.std.proofs.lemmas.List.{drop-append-le, length-drop}
 use Rattle.wav_format.specs.declared.head.Head.{Head}
 use Rattle.wav_format.specs.declared.head.WavKind.{WavKind}
@@ -7,11 +7,11 @@ use Rattle.wav_format.specs.declared.head.WavKind.TheVariants.{NotRiff, NotWave,
 use Rattle.wav_format.specs.declared.head.HeadAnswer.{HeadAnswer}
 use Rattle.wav_format.specs.declared.head.HeadAnswer.TheVariants.{Whole, NeedMore, Bad}
 use Rattle.wav_format.specs.Answers.{AnswerIn}
-use Rattle.wav_format.specs.Chunks.{BeginsWithHead, EndsHead, HeadThen, HeadWith, IsPassed, Leads, Spot, begins, longest_head}
+use Rattle.wav_format.specs.Chunks.{BeginsWithHead, EndsHead, HeadThen, HeadWith, Leads, Spot, begins, longest_head}
 use Rattle.wav_format.specs.Faults.{FaultIn}
 use Rattle.wav_format.specs.Format.{AreBytes}
 use Rattle.wav_format.proofs.Bodies.{bytes-append}
-use Rattle.wav_format.proofs.Longer.{begins_more, differs_stays, ends_stops, ext, goes_on, later_stays}
+use Rattle.wav_format.proofs.Longer.{begins_more, differs_stays, ext, goes_on, later_stays}
 use Rattle.wav_format.proofs.Unique.{bytes_reached}
 
 pub fault_stays : (bytes more : List ℕ) (h : Head) (rest : List ℕ) (place : ℕ) (kind : WavKind) → AreBytes bytes → AreBytes more → FaultIn bytes place kind → HeadThen longest_head (bytes ++ more) h rest → ⊥

@@ -1,7 +1,6 @@
 -- The bytes give one answer alone.
-use Rattle.std.proofs.Common.{◌≡◌, ℕ, zero, suc, ◌+◌, ◌-◌, ◌<◌, ◌≤◌, ◌⊎◌, inl, inr, Bool, true, false, Option, Some, None, List, [], ◌∷◌, ◌++◌, length, take, drop, get_or, codes, bytes_eq, refl, sym, ap, subst, ◌∙◌, arith, rules}
-use Rattle.std.proofs.lemmas.Bool.{cases_lt}
-use Rattle.std.proofs.lemmas.List.{get_or-take, take_all}
+use Rattle.std.proofs.Common.{◌≡◌, ℕ, zero, suc, ◌≤◌, inl, inr, true, Option, Some, List, length, take, drop, get_or, codes, refl, sym, ap, subst, ◌∙◌, arith}
+use Rattle.std.proofs.lemmas.List.{take_all}
 use Rattle.std.proofs.lemmas.Slice.Eq.{bytes_eq-Decides}
 use Rattle.wav_format.specs.declared.format.SampleFormat.{SampleFormat}
 use Rattle.wav_format.specs.declared.head.Head.{Head}
@@ -9,11 +8,11 @@ use Rattle.wav_format.specs.declared.head.HeadAnswer.{HeadAnswer}
 use Rattle.wav_format.specs.declared.head.HeadAnswer.TheVariants.{Whole, NeedMore, Bad}
 use Rattle.wav_format.specs.declared.head.WavKind.{WavKind}
 use Rattle.wav_format.specs.declared.head.WavKind.TheVariants.{NotRiff, NotWave, NoFmt, BadFmt, TagUnknown, HeadTooLong}
-use Rattle.wav_format.specs.Answers.{AnswerAt, AnswerIn}
-use Rattle.wav_format.specs.Chunks.{EndsHead, IsOpened, IsPassed, Leads, Reaches, Spot, begins, behind, body_at, body_size, chunk_length, data_size, first_chunk, format_after, longest_head}
-use Rattle.wav_format.specs.Cuts.{BodyCut, ChunkCut, HeadCut, OpeningCut, deciding, fronts}
-use Rattle.wav_format.specs.Faults.{ChunkFault, Differs, FaultIn, MayBeFormat, MayFit}
-use Rattle.wav_format.specs.Format.{AreBytes, Completes, IsFormat}
+use Rattle.wav_format.specs.Answers.{AnswerAt}
+use Rattle.wav_format.specs.Chunks.{EndsHead, IsPassed, Leads, Reaches, Spot, begins, behind, body_at, body_size, chunk_length, first_chunk, longest_head}
+use Rattle.wav_format.specs.Cuts.{ChunkCut}
+use Rattle.wav_format.specs.Faults.{ChunkFault, MayBeFormat, MayFit}
+use Rattle.wav_format.specs.Format.{AreBytes, Completes}
 use Rattle.wav_format.proofs.Bodies.{bytes-drop, bytes-take}
 use Rattle.wav_format.proofs.Whole.{body_whole}
 

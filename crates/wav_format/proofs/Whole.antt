@@ -1,10 +1,10 @@
 -- A body that is there whole.
-use Rattle.std.proofs.Common.{◌≡◌, ℕ, ◌+◌, ◌-◌, ◌*◌, ◌%◌, ◌<◌, ◌≤◌, true, false, Option, None, List, length, take, drop, codes, refl, sym, ap, subst, ◌∙◌, arith}
+use Rattle.std.proofs.Common.{◌≡◌, ℕ, ◌≤◌, false, Option, None, List, length, drop, codes, sym, subst, ◌∙◌, arith}
 use Rattle.std.proofs.lemmas.List.{length-take, length-drop, take_all}
 use Rattle.wav_format.specs.declared.format.SampleFormat.{SampleFormat}
-use Rattle.wav_format.specs.Chunks.{Spot, begins, body_at, body_size, chunk_length, longest_head, IsPassed, format_after}
+use Rattle.wav_format.specs.Chunks.{begins, body_at, body_size, chunk_length, longest_head, IsPassed}
 use Rattle.wav_format.specs.Cuts.{HasRoom}
-use Rattle.wav_format.specs.Format.{Completes, IsFormat}
+use Rattle.wav_format.specs.Format.{IsFormat}
 use Rattle.wav_format.specs.Faults.{MayBeFormat}
 
 pub body_whole : (left : List ℕ) → chunk_length left ≤ length left → length (body_at left) ≡ body_size left

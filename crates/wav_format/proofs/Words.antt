@@ -1,8 +1,7 @@
 -- Words at the front of bytes.
-use Rattle.std.proofs.Common.{◌≡◌, ℕ, ◌+◌, ◌-◌, ◌<◌, ◌≤◌, min, Bool, true, false, List, [], ◌∷◌, ◌++◌, length, take, drop, get_or, codes, bytes_eq, refl, sym, ap, ◌∙◌, arith}
-use Rattle.std.proofs.lemmas.List.{same_lists, length-take, length-drop, get_or-take, get_or_default, take-append-le}
+use Rattle.std.proofs.Common.{◌≡◌, ℕ, ◌<◌, ◌≤◌, true, List, length, take, get_or, sym, ◌∙◌, arith}
+use Rattle.std.proofs.lemmas.List.{same_lists, length-take, get_or-take, get_or_default}
 use Rattle.std.proofs.lemmas.Slice.Eq.{bytes_eq-Decides}
-use Rattle.wav_format.specs.Chunks.{begins}
 use Rattle.wav_format.specs.Cuts.{fronts}
 
 -- two lists that do not differ below i

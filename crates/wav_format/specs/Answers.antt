@@ -1,6 +1,5 @@
 -- What bytes are answered.
-use Rattle.std.specs.Prelude.{◌≡◌, ℕ, ◌⊎◌, List, length, drop, Option}
-use Rattle.wav_format.specs.declared.format.SampleFormat.{SampleFormat}
+use Rattle.std.specs.Prelude.{◌≡◌, ℕ, ◌⊎◌, List, length, drop}
 use Rattle.wav_format.specs.declared.head.HeadAnswer.{HeadAnswer}
 use Rattle.wav_format.specs.declared.head.HeadAnswer.TheVariants.{Whole, NeedMore, Bad}
 use Rattle.wav_format.specs.declared.head.WavKind.{WavKind}
@@ -8,7 +7,7 @@ use Rattle.wav_format.specs.declared.head.WavKind.TheVariants.{NotRiff, NotWave,
 use Rattle.wav_format.specs.declared.chunk.Reading.{Reading}
 use Rattle.wav_format.specs.declared.chunk.Reading.TheVariants.{Passed, Ended}
 use Rattle.wav_format.specs.Chunks.{BeginsWithHead, EndsHead, IsPassed, Reaches, Spot, chunk_length, format_after, longest_head}
-use Rattle.wav_format.specs.Cuts.{ChunkCut, CutIn, OpeningCut, deciding, opening_length}
+use Rattle.wav_format.specs.Cuts.{ChunkCut, OpeningCut, deciding, opening_length}
 use Rattle.wav_format.specs.Faults.{ChunkFault, FaultIn, MayBeFormat, MayFit}
 
 -- what is wrong with a `fmt ` body of that size which begins with these bytes

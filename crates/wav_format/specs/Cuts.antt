@@ -1,5 +1,5 @@
 -- Bytes that end before they say all of a head, and the length from which more may be decided.
-use Rattle.std.specs.Prelude.{◌≡◌, ◌≢◌, ℕ, ◌+◌, ◌-◌, ◌<◌, ◌≤◌, ◌⊎◌, ◌&&◌, Bool, true, false, List, ◌++◌, length, take, drop, codes, Option, Some, None, is_none, unwrap_or, ◌⊎◌, if◌then◌else◌, nat_lt, nat_le, ◌==◌, bytes_eq}
+use Rattle.std.specs.Prelude.{◌≡◌, ◌≢◌, ℕ, ◌+◌, ◌<◌, ◌≤◌, ◌⊎◌, ◌&&◌, Bool, true, List, ◌++◌, length, take, drop, codes, Option, Some, None, is_none, unwrap_or, ◌⊎◌, if◌then◌else◌, nat_lt, nat_le, ◌==◌, bytes_eq}
 use Rattle.byteorder.specs.Endian.{little_from}
 use Rattle.wav_format.specs.Chunks.{Spot, Reaches, begins, body_at, body_size, chunk_length, longest_head}
 use Rattle.wav_format.specs.Faults.{IsHeaded, MayBeFormat}

@@ -1,6 +1,6 @@
 -- The body of a `fmt ` chunk, as in the RIFF WAVE format. All numbers are little-endian: `little_from i n
 -- bytes` is the number in the n bytes from place i on.
-use Rattle.std.specs.Prelude.{◌≡◌, ℕ, ◌+◌, ◌*◌, ◌<◌, ◌≤◌, ◌⊎◌, List, length, take, slice_index, if◌then◌else◌, ◌==◌}
+use Rattle.std.specs.Prelude.{◌≡◌, ℕ, ◌*◌, ◌<◌, ◌≤◌, ◌⊎◌, List, length, take, slice_index, if◌then◌else◌, ◌==◌}
 use Rattle.byteorder.specs.Endian.{little_from}
 use Rattle.wav_format.specs.declared.format.SampleFormat.{SampleFormat}
 

@@ -1,5 +1,5 @@
 -- The head that is written.
-use Rattle.std.specs.Prelude.{◌≡◌, ◌≤◌, ℕ, ◌+◌, ◌*◌, ◌/◌, ◌%◌, List, ◌++◌, codes}
+use Rattle.std.specs.Prelude.{ℕ, ◌+◌, ◌*◌, ◌/◌, ◌%◌, List, ◌++◌, codes}
 use Rattle.byteorder.specs.Endian.{little_bytes}
 use Rattle.wav_format.specs.declared.head.Head.{Head}
 

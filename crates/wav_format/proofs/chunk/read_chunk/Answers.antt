@@ -1,5 +1,5 @@
-use Rattle.std.proofs.Common.{◌≡◌, ◌≤◌, ◌+◌, ◌∙◌, length, codes, true, false, refl, arith, sym}
-use Rattle.wav_format.specs.Chunks.{IsPassed, begins, body_at, body_size, chunk_length, longest_head}
+use Rattle.std.proofs.Common.{◌≤◌, ◌∙◌, length, arith, sym}
+use Rattle.wav_format.specs.Chunks.{chunk_length}
 use Rattle.wav_format.proofs.Whole.{passed}
 use Rattle.wav_format.proofs.chunk.read_chunk.Goals as goal
 

@@ -1,4 +1,4 @@
-use Rattle.std.proofs.Common.{ℕ, ◌+◌, ◌*◌, ◌<◌, arith, sym, subst}
+use Rattle.std.proofs.Common.{◌+◌, ◌*◌, arith, sym, subst}
 use borrow.Author.Count.{below_more}
 use Rattle.wav_format.specs.Given.{BitsMayFit}
 use Rattle.wav_format.proofs.format.low_block_may_fit.Goals as goal

@@ -1,8 +1,8 @@
-use Rattle.std.proofs.Common.{ℕ, List, ◌≤◌, ◌+◌, length, drop, subst, sym, arith}
+use Rattle.std.proofs.Common.{ℕ, List, drop, subst, arith}
 use Rattle.std.proofs.lemmas.List.{take_rest, length-drop}
 use Rattle.wav_format.specs.declared.chunk.Reading.TheVariants.{Passed}
 use Rattle.wav_format.specs.Answers.{AnswerAt, ReadsAt}
-use Rattle.wav_format.specs.Chunks.{Spot, longest_head}
+use Rattle.wav_format.specs.Chunks.{longest_head}
 use Rattle.wav_format.proofs.Reached.{answered, reaches_next}
 use Rattle.wav_format.proofs.reading.read_chunks.Goals as goal
 

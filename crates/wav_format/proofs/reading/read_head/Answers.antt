@@ -1,4 +1,4 @@
-use Rattle.std.proofs.Common.{◌≡◌, ℕ, List, ap, subst, sym, arith}
+use Rattle.std.proofs.Common.{subst, arith}
 use Rattle.wav_format.specs.declared.head.HeadAnswer.TheVariants.{Whole, NeedMore, Bad}
 use Rattle.wav_format.specs.Answers.{AnswerIn}
 use Rattle.wav_format.specs.Format.{AreBytes}

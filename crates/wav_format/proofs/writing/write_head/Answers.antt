@@ -1,4 +1,4 @@
-use Rattle.std.proofs.Common.{◌≡◌, ℕ, ◌+◌, ◌%◌, ◌≤◌, ◌++◌, List, [], length, codes, refl, sym, ap, subst, ◌∙◌, arith, rules, Some}
+use Rattle.std.proofs.Common.{◌≡◌, ◌+◌, ◌%◌, ◌≤◌, ◌++◌, [], length, codes, sym, ap, subst, ◌∙◌, rules, Some}
 use Rattle.byteorder.specs.Endian.{little_bytes}
 use Rattle.wav_format.specs.Chunks.{HeadThen, longest_head}
 use Rattle.wav_format.specs.Written.{format_chunk, written}
