@@ -5,11 +5,13 @@
 mod chunk;
 mod format;
 pub mod head;
+mod laws;
 mod reading;
 #[cfg(test)]
 mod tests;
 mod writing;
 
 pub use head::{Head, HeadAnswer, WavKind};
+pub use laws::head_stays;
 pub use reading::{HeadReader, read_head};
 pub use writing::write_head;

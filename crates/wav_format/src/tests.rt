@@ -37,6 +37,7 @@ fn writes_a_head(rt: HostRuntime) {
     write_head(&head, &mut into);
     assert_eq!(rt; into, MONO);
     assert_eq!(rt; read_head(&into), HeadAnswer::Whole(head));
+    head_stays();
 }
 
 /// The bytes of `MONO`, each of the pairs (place, byte) written over them.
