@@ -53,7 +53,7 @@ fn changed(changes: &[(usize, u8)]) -> [u8; 44] {
 
 #[test]
 fn reads_changed_heads(rt: HostRuntime) {
-    let rows: [(&[(usize, u8)], HeadAnswer); 14] = [
+    let rows: [(&[(usize, u8)], HeadAnswer); 17] = [
         (&[(3, b'X')], bad(3, WavKind::NotRiff)),
         (&[(10, b'W')], bad(10, WavKind::NotWave)),
         (&[(32, 3)], bad(20, WavKind::BadFmt)),
@@ -66,6 +66,24 @@ fn reads_changed_heads(rt: HostRuntime) {
         (&[(22, 65), (32, 130)], bad(20, WavKind::BadFmt)),
         (&[(24, 0), (25, 0)], bad(20, WavKind::BadFmt)),
         (&[(26, 12)], bad(20, WavKind::BadFmt)),
+        (
+            &[(22, 64), (32, 128)],
+            HeadAnswer::Whole(Head {
+                channels: 64,
+                ..mono(Some(4))
+            }),
+        ),
+        (
+            &[(24, 0x00), (25, 0xB8), (26, 0x0B)],
+            HeadAnswer::Whole(Head {
+                rate: 768_000,
+                ..mono(Some(4))
+            }),
+        ),
+        (
+            &[(24, 0x01), (25, 0xB8), (26, 0x0B)],
+            bad(20, WavKind::BadFmt),
+        ),
         (&[(20, 2)], bad(20, WavKind::TagUnknown)),
         (&[(20, 6)], bad(20, WavKind::TagUnknown)),
         (&[(20, 0xFE), (21, 0xFF)], bad(20, WavKind::BadFmt)),
@@ -174,4 +192,36 @@ fn knows_codings(rt: HostRuntime) {
             want
         );
     }
+}
+
+#[test]
+fn knows_true_tags(rt: HostRuntime) -> Result<(), Fail> {
+    let rows: [(u8, Option<WavKind>); 5] = [
+        (1, None),
+        (6, None),
+        (7, None),
+        (3, Some(WavKind::TagUnknown)),
+        (0xFE, Some(WavKind::TagUnknown)),
+    ];
+    for (tag, fault) in rows {
+        let mut bytes = Vec::new(rt.alloc());
+        bytes.extend_from_slice(&MONO[..12])?;
+        bytes.extend_from_slice(&EXTENSIBLE[..24])?;
+        bytes.extend_from_slice(&[8, 0, 3, 0, 0, 0, 0, 0, tag, 0])?;
+        bytes.extend_from_slice(&EXTENSIBLE[34..])?;
+        bytes.extend_from_slice(b"data\0\0\0\0")?;
+        let want = match fault {
+            Some(kind) => bad(20, kind),
+            None => HeadAnswer::Whole(Head {
+                tag: u16::from(tag),
+                channels: 2,
+                rate: 8000,
+                bits: 8,
+                start: 68,
+                size: None,
+            }),
+        };
+        assert_eq!(rt; read_head(&bytes), want);
+    }
+    Ok(())
 }
