@@ -1,8 +1,8 @@
 -- A head stays where more bytes follow.
-use Rattle.std.proofs.Common.{◌≡◌, ℕ, ◌+◌, ◌≤◌, List, ◌++◌, length, drop, codes, refl, sym, ap, subst, ◌∙◌, arith}
-use Rattle.std.proofs.lemmas.List.{drop-append-le, length-append}
+use Rattle.std.proofs.Common.{ℕ, List, ◌++◌, drop, codes, refl, sym, ap, ◌∙◌, arith}
+use Rattle.std.proofs.lemmas.List.{length-append}
 use Rattle.wav_format.specs.declared.head.Head.{Head}
-use Rattle.wav_format.specs.Chunks.{BeginsWithHead, EndsHead, Spot, data_size, longest_head}
+use Rattle.wav_format.specs.Chunks.{BeginsWithHead, EndsHead, Spot, data_size}
 use Rattle.wav_format.proofs.Least.{reached_more}
 use Rattle.wav_format.proofs.Longer.{begins_more, ext, size_more}
 
