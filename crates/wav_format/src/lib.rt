@@ -1,0 +1,17 @@
+//! Heads of WAV files, as in the RIFF WAVE format: reading them from the first bytes of a file, and writing
+//! them. No call takes memory.
+#![tactic(auto)]
+
+mod chunk;
+mod format;
+pub mod head;
+mod laws;
+mod reading;
+#[cfg(test)]
+mod tests;
+mod writing;
+
+pub use head::{Head, HeadAnswer, WavKind};
+pub use laws::head_stays;
+pub use reading::{HeadReader, read_head};
+pub use writing::write_head;

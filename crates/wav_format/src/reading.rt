@@ -1,0 +1,160 @@
+//! Reading the head of a WAV file from its first bytes.
+ghost use Rattle.std.specs.Prelude.{◌≡◌, ◌≤◌, ◌<◌, ◌+◌, ◌++◌, ◌↔◌, ℕ, List, length, drop, codes, true, false, MatchOption, None};
+ghost use Rattle.wav_format.specs.Answers.{AnswerIn, CutsAt};
+ghost use Rattle.wav_format.specs.Chunks.{BeginsWithHead, FrontsSomeHead, HeadThen, HeadWith, IsOpened, longest_head};
+ghost use Rattle.wav_format.specs.Cuts.{IsLeast, fronts, opening_length};
+ghost use Rattle.wav_format.specs.Faults.{Differs, FaultIn};
+ghost use Rattle.wav_format.specs.Format.{AreBytes};
+ghost use Rattle.wav_format.specs.Reader.{HasPassed, StandsIn};
+ghost use Rattle.wav_format.specs.declared.head.Head.{Head};
+ghost use Rattle.wav_format.specs.declared.head.HeadAnswer;
+ghost use Rattle.wav_format.specs.declared.head.WavKind.{WavKind};
+
+use crate::chunk::{Reading, read_chunk};
+use crate::format::SampleFormat;
+use crate::head::{HeadAnswer, WavKind};
+
+// The first place at which the bytes differ from the word, of those within its length.
+fn first_difference(bytes: &[u8], word: &[u8; 4]) -> Option<usize>
+    ensures { MatchOption result (fronts word.now bytes.now ≡ true) (Differs word.now bytes.now) }
+{
+    for i in 0..4 {
+        if i < bytes.len() && bytes[i] != word[i] {
+            return Some(i);
+        }
+    }
+    None
+}
+
+fn opening_length(len: usize) -> u64
+    requires { len < 12 }
+    ensures { result ≡ opening_length len }
+{
+    if len >= 4 && len < 8 {
+        9
+    } else {
+        len as u64 + 1
+    }
+}
+
+// The answer of bytes that do not have all of `RIFF`, a size and `WAVE` at their front.
+fn opening(bytes: &[u8]) -> Option<HeadAnswer>
+    ensures { MatchOption result (IsOpened bytes.now) (AnswerIn bytes.now) }
+{
+    if let Some(place) = first_difference(bytes, b"RIFF") {
+        return Some(HeadAnswer::Bad {
+            place: place as u64,
+            kind: WavKind::NotRiff,
+        });
+    }
+    if bytes.len() >= 8 {
+        if let Some(place) = first_difference(&bytes[8..], b"WAVE") {
+            return Some(HeadAnswer::Bad {
+                place: 8 + place as u64,
+                kind: WavKind::NotWave,
+            });
+        }
+    }
+    if bytes.len() < 12 {
+        return Some(HeadAnswer::NeedMore(opening_length(bytes.len())));
+    }
+    None
+}
+
+/// Reads a head from bytes that come piece by piece.
+#[derive(Clone, Copy, Debug, PartialEq, Eq)]
+pub struct HeadReader {
+    // Bytes from the start of the file to the chunk that is read next, or 0 where nothing is read.
+    place: usize,
+    known: Option<SampleFormat>,
+}
+
+impl HeadReader {
+    /// A reader that has read nothing.
+    pub fn new() -> HeadReader
+        ensures { (bytes : List ℕ) → StandsIn result bytes }
+    {
+        HeadReader {
+            place: 0,
+            known: None,
+        }
+    }
+
+    /// What the first bytes of a WAV file say of its head, as `read_head` says it. The bytes are those of the
+    /// calls before and maybe more. Reading goes on at the chunk where it ended, so that no chunk that was
+    /// passed is read again, and of the chunk that it ended in only the head and the first 26 bytes.
+    pub fn read(&mut self, bytes: &[u8]) -> HeadAnswer
+        requires { StandsIn self.old bytes.now }
+        ensures answer { AnswerIn bytes.now result }
+        ensures stands { (more : List ℕ) → StandsIn self.new (bytes.now ++ more) }
+    {
+        if self.place == 0 {
+            if let Some(answer) = opening(bytes) {
+                return answer;
+            }
+            return self.read_from(bytes, FIRST_CHUNK);
+        }
+        self.read_from(bytes, *self)
+    }
+
+    fn read_from(&mut self, bytes: &[u8], from: HeadReader) -> HeadAnswer
+        requires { HasPassed from bytes.now }
+        ensures answer { AnswerIn bytes.now result }
+        ensures passed { HasPassed self.new bytes.now }
+    {
+        let (answer, reader) = read_chunks(bytes, from);
+        *self = reader;
+        answer
+    }
+}
+
+/// Where the first chunk stands.
+const FIRST_CHUNK: HeadReader = HeadReader {
+    place: 12,
+    known: None,
+};
+
+fn read_chunks(bytes: &[u8], from: HeadReader) -> (HeadAnswer, HeadReader)
+    requires { HasPassed from bytes.now }
+    ensures answer { AnswerIn bytes.now result.0 }
+    ensures passed { HasPassed result.1 bytes.now }
+{
+    let mut place = from.place;
+    let mut known = from.known;
+    'chunks: loop {
+        match read_chunk(&bytes[place..], place as u64, known) {
+            Reading::Passed { length, format } => {
+                place += length as usize;
+                known = format;
+            }
+            Reading::Ended(answer) => return (answer, HeadReader { place, known }),
+        }
+    }
+}
+
+/// What the first bytes of a WAV file say of its head, in one pass over the chunks that they hold.
+///
+/// Every `fmt ` chunk has to be right, and the last one before `data` counts. A fault is the first one from
+/// the start of the file, and it is told as soon as no further bytes could mend it. Of a `fmt ` chunk whose
+/// coding is not known, further bytes can still show that its numbers do not fit either: the kind is by the
+/// bytes that are given. A caller whose bytes come in pieces keeps a [`HeadReader`]. `place` is in bytes from
+/// the start of the file.
+pub fn read_head(bytes: &[u8]) -> HeadAnswer
+    ensures whole { (head : Head) → result ≡ HeadAnswer.Whole head ↔ BeginsWithHead bytes.now head }
+    ensures bad { (place : ℕ) (kind : WavKind) → result ≡ HeadAnswer.Bad place kind ↔ FaultIn bytes.now place kind }
+    ensures need_more { (n : ℕ) → result ≡ HeadAnswer.NeedMore n ↔ CutsAt bytes.now n }
+
+    // That length is the least that decides more.
+    ensures least { (n : ℕ) → result ≡ HeadAnswer.NeedMore n → IsLeast bytes.now n }
+
+    // Bytes that are asked to go on are the front of some head, though maybe of one that is too long.
+    ensures goes_on { (n : ℕ) → result ≡ HeadAnswer.NeedMore n → FrontsSomeHead bytes.now }
+
+    // Each proper front of a head is asked to go on.
+    ensures front { (more : List ℕ) (head : Head) → 0 < length more → HeadWith longest_head bytes.now more head → (n : ℕ) × (result ≡ HeadAnswer.NeedMore n) }
+
+    // No further bytes make a head of bytes at fault.
+    ensures never { (place : ℕ) (kind : WavKind) → result ≡ HeadAnswer.Bad place kind → (more : List ℕ) (head : Head) (rest : List ℕ) → AreBytes more → ¬ HeadThen longest_head (bytes.now ++ more) head rest }
+{
+    HeadReader::new().read(bytes)
+}
