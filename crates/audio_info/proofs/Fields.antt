@@ -19,9 +19,3 @@ found_at p xs i x so_far here hit = so_far ∙ find_from p xs i x (sym here) ∙
 pub passed_at : {X : Type 0} (p : X → Bool) (xs : List X) (i : ℕ) (x : X) → find p xs ≡ find p (drop i xs) → Some x ≡ slice_get xs i → false ≡ p x → find p xs ≡ find p (drop (i + 1) xs)
 passed_at p xs i x so_far here missed =
     rw add-one (so_far ∙ find_from p xs i x (sym here) ∙ ap (λ b. cond b (Some x) (find p (drop (suc i) xs))) (sym missed))
-
--- there is an element below the length
-pub none_below : {X : Type 0} (xs : List X) (i : ℕ) → None ≡ slice_get xs i → length xs ≤ i
-none_below [] i h = omega arith
-none_below (x ∷ xs) zero h = cc
-none_below (x ∷ xs) (suc i) h = let below = none_below xs i h in omega arith

@@ -60,16 +60,16 @@ abbrev pub channels_of : Description One → Option ℕ
 channels_of caps = option_and_then (number_up_to 64) (field_of (codes "channels") caps.fields)
 
 -- the caps of raw audio, and those of a law
-abbrev pub raw_caps : Sample → ℕ → ℕ → Description One
-raw_caps sample rate channels = record {
+abbrev pub raw_caps : List ℕ → ℕ → ℕ → Description One
+raw_caps format rate channels = record {
   media = codes "audio/x-raw";
-  fields = (codes "channels", Int (pos channels)) ∷ (codes "format", Words (sample_name sample))
+  fields = (codes "channels", Int (pos channels)) ∷ (codes "format", Words format)
     ∷ (codes "layout", Words (codes "interleaved")) ∷ (codes "rate", Int (pos rate)) ∷ []
 }
 
 abbrev pub law_caps : List ℕ → ℕ → ℕ → Description One
-law_caps name rate channels = record {
-  media = name;
+law_caps media rate channels = record {
+  media = media;
   fields = (codes "channels", Int (pos channels)) ∷ (codes "rate", Int (pos rate)) ∷ []
 }
 
@@ -77,4 +77,4 @@ law_caps name rate channels = record {
 abbrev pub caps_of : Sample → ℕ → ℕ → Description One
 caps_of MuLaw rate channels = law_caps (codes "audio/x-mulaw") rate channels
 caps_of ALaw rate channels = law_caps (codes "audio/x-alaw") rate channels
-caps_of sample rate channels = raw_caps sample rate channels
+caps_of sample rate channels = raw_caps (sample_name sample) rate channels

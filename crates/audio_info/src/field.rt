@@ -1,10 +1,13 @@
 //! The fields of fixed caps, by their names.
-ghost use Rattle.std.specs.Prelude.{◌≡◌, codes, option_and_then};
+ghost use Rattle.std.specs.Prelude.{◌≡◌, ◌≤◌, length, OnOk, codes, option_and_then};
 ghost use Rattle.std.specs.Option.{option_copied};
+ghost use Rattle.gst_caps.specs.Names.{put};
+ghost use Rattle.gst_caps.specs.Values.{IsSingle};
 ghost use Rattle.audio_info.specs.Media.{field_of, number_up_to, raw_sample, sample_of};
 
 use crate::sample::Sample;
-use gst_caps::{Fixed, One};
+use gst_caps::{CapsFault, Fixed, One, OutOfMemory};
+use std::alloc::Global;
 
 /// The value of the field of this name.
 pub fn field_named<'a>(caps: &'a Fixed, name: &str) -> Option<&'a One>
@@ -52,5 +55,18 @@ fn raw_in(caps: &Fixed) -> Option<Sample>
     match field_named(caps, "format") {
         Some(One::Text(name)) => Sample::raw_named(name.as_str()),
         _ => None,
+    }
+}
+
+/// Sets the field of this name, where its value makes caps of no more than 64 fields.
+pub fn set(caps: &mut Fixed, alloc: Global, name: &str, value: One) -> Result<(), OutOfMemory>
+    requires single { IsSingle value }
+    requires few { length (put name.now value caps.old.fields) ≤ 64 }
+    ensures { OnOk result (caps.new ≡ record caps.old { fields = put name.now value caps.old.fields }) }
+{
+    match caps.set(alloc, name, value) {
+        Ok(()) => Ok(()),
+        Err(CapsFault::OutOfMemory) => Err(OutOfMemory),
+        Err(CapsFault::TooMany { .. }) => unreachable!(),
     }
 }

@@ -71,7 +71,8 @@ impl Sample {
 pub fn get(format: Sample, bytes: &[u8]) -> i32
     requires raw { IsRaw format }
     requires room { sample_width format ≤ length bytes.now }
-    ensures { result ≡ sample_value format bytes.now }
+    ensures value { result ≡ sample_value format bytes.now }
+    ensures range { FitsBytes (sample_width format) result }
 {
     match format {
         Sample::S8 => i32::from(bytes[0].cast_signed()),

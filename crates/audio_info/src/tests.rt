@@ -1,4 +1,10 @@
-use crate::{alaw_dec, alaw_enc, mulaw_dec, mulaw_enc};
+ghost use Rattle.std.specs.Prelude.{◌≡◌, length};
+ghost use Rattle.audio_info.specs.Packing.{FitsBytes, IsRaw, sample_width};
+
+use crate::{Info, NotAudio, Sample, alaw_dec, alaw_enc, get, mulaw_dec, mulaw_enc, put};
+use gst_caps::{Fixed, One, Text};
+use std::process::Abort;
+use std::test::Fail;
 
 /// A step of the hash FNV-1a of 64 bits.
 fn hashed(hash: u64, byte: u8) -> u64 {
@@ -60,4 +66,89 @@ fn worked_codes(rt: HostRuntime) {
     }
     assert_eq!(rt; mulaw_dec(0x00), -32_124);
     assert_eq!(rt; alaw_dec(0xD5), 8);
+}
+
+/// Puts a value in front of other bytes, and gets it back.
+fn packs<R: Abort>(rt: &R, format: Sample, value: i32, wanted: &[u8])
+    requires raw { IsRaw format }
+    requires range { FitsBytes (sample_width format) value }
+    requires whole { length wanted.now ≡ sample_width format }
+{
+    let mut bytes = [0x5A; 5];
+    put(format, value, &mut bytes);
+    assert_eq!(rt; &bytes[..wanted.len()], wanted, "{format:?} {value}");
+    assert_eq!(rt; bytes[4], 0x5A);
+    assert_eq!(rt; get(format, &bytes), value, "{format:?} {value}");
+}
+
+#[test]
+fn packings(rt: HostRuntime) {
+    packs(&rt, Sample::S8, -128, &[0x80]);
+    packs(&rt, Sample::S8, -1, &[0xFF]);
+    packs(&rt, Sample::S8, 0, &[0x00]);
+    packs(&rt, Sample::S8, 127, &[0x7F]);
+    packs(&rt, Sample::U8, -128, &[0x00]);
+    packs(&rt, Sample::U8, -1, &[0x7F]);
+    packs(&rt, Sample::U8, 0, &[0x80]);
+    packs(&rt, Sample::U8, 127, &[0xFF]);
+    packs(&rt, Sample::S16LE, -32_768, &[0x00, 0x80]);
+    packs(&rt, Sample::S16LE, -1, &[0xFF, 0xFF]);
+    packs(&rt, Sample::S16LE, 0, &[0x00, 0x00]);
+    packs(&rt, Sample::S16LE, 32_767, &[0xFF, 0x7F]);
+    packs(&rt, Sample::S16BE, -32_768, &[0x80, 0x00]);
+    packs(&rt, Sample::S16BE, -1, &[0xFF, 0xFF]);
+    packs(&rt, Sample::S16BE, 0, &[0x00, 0x00]);
+    packs(&rt, Sample::S16BE, 32_767, &[0x7F, 0xFF]);
+    packs(&rt, Sample::S24LE, -8_388_608, &[0x00, 0x00, 0x80]);
+    packs(&rt, Sample::S24LE, -1, &[0xFF, 0xFF, 0xFF]);
+    packs(&rt, Sample::S24LE, 0, &[0x00, 0x00, 0x00]);
+    packs(&rt, Sample::S24LE, 8_388_607, &[0xFF, 0xFF, 0x7F]);
+    packs(&rt, Sample::S32LE, -2_147_483_648, &[0x00, 0x00, 0x00, 0x80]);
+    packs(&rt, Sample::S32LE, -1, &[0xFF, 0xFF, 0xFF, 0xFF]);
+    packs(&rt, Sample::S32LE, 0, &[0x00, 0x00, 0x00, 0x00]);
+    packs(&rt, Sample::S32LE, 2_147_483_647, &[0xFF, 0xFF, 0xFF, 0x7F]);
+}
+
+#[test]
+fn caps_and_back(rt: HostRuntime) -> Result<(), Fail> {
+    let rows = [
+        (Sample::S16LE, 4, "audio/x-raw"),
+        (Sample::S24LE, 6, "audio/x-raw"),
+        (Sample::MuLaw, 2, "audio/x-mulaw"),
+        (Sample::ALaw, 2, "audio/x-alaw"),
+    ];
+    for (format, width, media) in rows {
+        let info = Info {
+            format,
+            rate: 768_000,
+            channels: 2,
+        };
+        let caps = info.to_fixed(rt.alloc())?;
+        assert_eq!(rt; caps.media(), media);
+        assert_eq!(rt; info.width(), width);
+        assert_eq!(rt; Info::from_fixed(&caps)?, info);
+    }
+    Ok(())
+}
+
+#[test]
+fn not_audio(rt: HostRuntime) -> Result<(), Fail> {
+    let rows = [
+        ("audio/x-raw", "S16LE", 8_000, 64, true),
+        ("audio/x-raw", "S16LE", 8_000, 65, false),
+        ("audio/x-raw", "S16LE", 0, 1, false),
+        ("audio/x-raw", "S16LE", 768_001, 1, false),
+        ("audio/x-raw", "F32LE", 8_000, 1, false),
+        ("audio/x-mulaw", "F32LE", 8_000, 1, true),
+        ("audio/x-wav", "S16LE", 8_000, 1, false),
+    ];
+    for (media, format, rate, channels, wanted) in rows {
+        let mut caps = Fixed::new(rt.alloc(), media)?;
+        caps.set(rt.alloc(), "rate", One::Int(rate))?;
+        caps.set(rt.alloc(), "format", One::Text(Text::from_str(rt.alloc(), format)?))?;
+        assert_eq!(rt; Info::from_fixed(&caps), Err(NotAudio), "no channels");
+        caps.set(rt.alloc(), "channels", One::Int(channels))?;
+        assert_eq!(rt; Info::from_fixed(&caps).is_ok(), wanted, "{media} {format} {rate} {channels}");
+    }
+    Ok(())
 }
