@@ -11,9 +11,10 @@ use Rattle.audio_info.proofs.Intervals.{mulaw_finds, alaw_finds, interval_only, 
 
 -- the place of the highest bit of a biased magnitude
 pub highest_bit : (r m : ℕ) → 2 ^ r ≤ m → m < 2 * 2 ^ r → 128 ≤ m → m < 2 ^ 15 → (7 ≤ r) × (r < 15)
-highest_bit r m low high least most =
-    (elim (cases_lt r 7) [ inl h ↦ (let p : 2 ^ r ≤ 2 ^ 6 = pow-le-pow_right {n = 2} (omega arith) {i = r} {j = 6} (omega arith) in absurd (omega (arith, p))) | inr h ↦ h ],
-    elim (cases_lt r 15) [ inl h ↦ h | inr h ↦ (let p : 2 ^ 15 ≤ 2 ^ r = pow-le-pow_right {n = 2} (omega arith) {i = 15} {j = r} (omega arith) in absurd (omega (arith, p))) ])
+highest_bit r m low high least most = (
+  elim (cases_lt r 7) [ inl h ↦ (let p : 2 ^ r ≤ 2 ^ 6 = pow-le-pow_right {n = 2} (omega arith) {i = r} {j = 6} (omega arith) in absurd (omega (arith, p))) | inr h ↦ h ],
+  elim (cases_lt r 15) [ inl h ↦ h | inr h ↦ (let p : 2 ^ 15 ≤ 2 ^ r = pow-le-pow_right {n = 2} (omega arith) {i = 15} {j = r} (omega arith) in absurd (omega (arith, p))) ],
+)
 
 -- ---- the mu-law
 

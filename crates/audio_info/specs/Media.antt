@@ -49,7 +49,7 @@ abbrev pub sample_of : Description One → Option Sample
 sample_of caps =
     if bytes_eq caps.media (codes "audio/x-raw") then option_and_then raw_sample (field_of (codes "format") caps.fields)
     else (if bytes_eq caps.media (codes "audio/x-mulaw") then Some MuLaw
-      else (if bytes_eq caps.media (codes "audio/x-alaw") then Some ALaw else None))
+    else (if bytes_eq caps.media (codes "audio/x-alaw") then Some ALaw else None))
 
 -- the rate, in frames a second
 abbrev pub rate_of : Description One → Option ℕ
@@ -64,13 +64,13 @@ abbrev pub raw_caps : List ℕ → ℕ → ℕ → Description One
 raw_caps format rate channels = record {
   media = codes "audio/x-raw";
   fields = (codes "channels", Int (pos channels)) ∷ (codes "format", Words format)
-    ∷ (codes "layout", Words (codes "interleaved")) ∷ (codes "rate", Int (pos rate)) ∷ []
+      ∷ (codes "layout", Words (codes "interleaved")) ∷ (codes "rate", Int (pos rate)) ∷ [];
 }
 
 abbrev pub law_caps : List ℕ → ℕ → ℕ → Description One
 law_caps media rate channels = record {
   media = media;
-  fields = (codes "channels", Int (pos channels)) ∷ (codes "rate", Int (pos rate)) ∷ []
+  fields = (codes "channels", Int (pos channels)) ∷ (codes "rate", Int (pos rate)) ∷ [];
 }
 
 -- the caps of a stream

@@ -29,7 +29,9 @@ pub fn number_in(caps: &Fixed, name: &str, most: u32) -> Option<u32>
     let Some(One::Int(number)) = field_named(caps, name) else {
         return None;
     };
-    u32::try_from(*number).ok().filter(|n| 1 <= *n && *n <= most)
+    u32::try_from(*number)
+        .ok()
+        .filter(|n| 1 <= *n && *n <= most)
 }
 
 /// The format of the samples.

@@ -65,7 +65,10 @@ pub fn alaw_dec(a: u8) -> i16
     ensures back { alaw_code result ≡ a }
 {
     let code = a ^ ALAW_MASK;
-    signed(!has_sign(code), alaw_middle(segment_in(code), place_in(code)))
+    signed(
+        !has_sign(code),
+        alaw_middle(segment_in(code), place_in(code)),
+    )
 }
 
 // The middle of an interval of A-law, by its segment and its place there.
@@ -76,7 +79,11 @@ fn alaw_middle(segment: u32, place: u16) -> u16
     ensures fits { result < 2 ^ 15 }
 {
     let offset = place << 4;
-    if segment == 0 { offset + 8 } else { (offset + 264) << (segment - 1) }
+    if segment == 0 {
+        offset + 8
+    } else {
+        (offset + 264) << (segment - 1)
+    }
 }
 
 // The magnitude that A-law sees: a negative sample is folded over -1/2.

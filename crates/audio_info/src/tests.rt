@@ -1,4 +1,4 @@
-ghost use Rattle.std.specs.Prelude.{◌≡◌, length};
+ghost use Rattle.std.specs.Prelude.{◌≤ℤ◌, negsuc, pos};
 ghost use Rattle.audio_info.specs.Packing.{FitsBytes, IsRaw, sample_width};
 
 use crate::{Info, NotAudio, Sample, alaw_dec, alaw_enc, get, mulaw_dec, mulaw_enc, put};
@@ -19,8 +19,11 @@ const EMPTY: u64 = 0xcbf2_9ce4_8422_2325;
 // that stand on a bound between two intervals, GStreamer's alawenc rounds to the interval further from 0; there
 // the code of ITU-T's own encoder took its place.
 const MULAW_CODES: u64 = 0x94d7_5252_14c7_5eb2;
+
 const ALAW_CODES: u64 = 0xf030_666e_b780_cf25;
+
 const MULAW_SAMPLES: u64 = 0xb91e_65d6_8481_a1a8;
+
 const ALAW_SAMPLES: u64 = 0x693a_40ca_62a3_d2a5;
 
 #[test]
@@ -72,41 +75,86 @@ fn worked_codes(rt: HostRuntime) {
 fn packs<R: Abort>(rt: &R, format: Sample, value: i32, wanted: &[u8])
     requires raw { IsRaw format }
     requires range { FitsBytes (sample_width format) value }
-    requires whole { length wanted.now ≡ sample_width format }
 {
     let mut bytes = [0x5A; 5];
     put(format, value, &mut bytes);
-    assert_eq!(rt; &bytes[..wanted.len()], wanted, "{format:?} {value}");
+    assert_eq!(rt;
+        bytes.get(..wanted.len()),
+        Some(wanted),
+        "{format:?} {value}"
+    );
     assert_eq!(rt; bytes[4], 0x5A);
     assert_eq!(rt; get(format, &bytes), value, "{format:?} {value}");
 }
 
+/// The same for the least and the greatest value, -1 and 0.
+fn packs_all<R: Abort>(rt: &R, format: Sample, least: i32, most: i32, wanted: [&[u8]; 4])
+    requires raw { IsRaw format }
+    requires least { FitsBytes (sample_width format) least }
+    requires most { FitsBytes (sample_width format) most }
+    requires around { (least ≤ℤ negsuc 0) × (pos 0 ≤ℤ most) }
+{
+    let [first, second, third, last] = wanted;
+    packs(rt, format, least, first);
+    packs(rt, format, -1, second);
+    packs(rt, format, 0, third);
+    packs(rt, format, most, last);
+}
+
 #[test]
 fn packings(rt: HostRuntime) {
-    packs(&rt, Sample::S8, -128, &[0x80]);
-    packs(&rt, Sample::S8, -1, &[0xFF]);
-    packs(&rt, Sample::S8, 0, &[0x00]);
-    packs(&rt, Sample::S8, 127, &[0x7F]);
-    packs(&rt, Sample::U8, -128, &[0x00]);
-    packs(&rt, Sample::U8, -1, &[0x7F]);
-    packs(&rt, Sample::U8, 0, &[0x80]);
-    packs(&rt, Sample::U8, 127, &[0xFF]);
-    packs(&rt, Sample::S16LE, -32_768, &[0x00, 0x80]);
-    packs(&rt, Sample::S16LE, -1, &[0xFF, 0xFF]);
-    packs(&rt, Sample::S16LE, 0, &[0x00, 0x00]);
-    packs(&rt, Sample::S16LE, 32_767, &[0xFF, 0x7F]);
-    packs(&rt, Sample::S16BE, -32_768, &[0x80, 0x00]);
-    packs(&rt, Sample::S16BE, -1, &[0xFF, 0xFF]);
-    packs(&rt, Sample::S16BE, 0, &[0x00, 0x00]);
-    packs(&rt, Sample::S16BE, 32_767, &[0x7F, 0xFF]);
-    packs(&rt, Sample::S24LE, -8_388_608, &[0x00, 0x00, 0x80]);
-    packs(&rt, Sample::S24LE, -1, &[0xFF, 0xFF, 0xFF]);
-    packs(&rt, Sample::S24LE, 0, &[0x00, 0x00, 0x00]);
-    packs(&rt, Sample::S24LE, 8_388_607, &[0xFF, 0xFF, 0x7F]);
-    packs(&rt, Sample::S32LE, -2_147_483_648, &[0x00, 0x00, 0x00, 0x80]);
-    packs(&rt, Sample::S32LE, -1, &[0xFF, 0xFF, 0xFF, 0xFF]);
-    packs(&rt, Sample::S32LE, 0, &[0x00, 0x00, 0x00, 0x00]);
-    packs(&rt, Sample::S32LE, 2_147_483_647, &[0xFF, 0xFF, 0xFF, 0x7F]);
+    packs_all(
+        &rt,
+        Sample::S8,
+        -128,
+        127,
+        [&[0x80], &[0xFF], &[0x00], &[0x7F]],
+    );
+    packs_all(
+        &rt,
+        Sample::U8,
+        -128,
+        127,
+        [&[0x00], &[0x7F], &[0x80], &[0xFF]],
+    );
+    packs_all(
+        &rt,
+        Sample::S16LE,
+        -32_768,
+        32_767,
+        [&[0x00, 0x80], &[0xFF, 0xFF], &[0x00, 0x00], &[0xFF, 0x7F]],
+    );
+    packs_all(
+        &rt,
+        Sample::S16BE,
+        -32_768,
+        32_767,
+        [&[0x80, 0x00], &[0xFF, 0xFF], &[0x00, 0x00], &[0x7F, 0xFF]],
+    );
+    packs_all(
+        &rt,
+        Sample::S24LE,
+        -8_388_608,
+        8_388_607,
+        [
+            &[0x00, 0x00, 0x80],
+            &[0xFF, 0xFF, 0xFF],
+            &[0x00, 0x00, 0x00],
+            &[0xFF, 0xFF, 0x7F],
+        ],
+    );
+    packs_all(
+        &rt,
+        Sample::S32LE,
+        i32::MIN,
+        i32::MAX,
+        [
+            &[0x00, 0x00, 0x00, 0x80],
+            &[0xFF, 0xFF, 0xFF, 0xFF],
+            &[0x00, 0x00, 0x00, 0x00],
+            &[0xFF, 0xFF, 0xFF, 0x7F],
+        ],
+    );
 }
 
 #[test]
@@ -145,10 +193,18 @@ fn not_audio(rt: HostRuntime) -> Result<(), Fail> {
     for (media, format, rate, channels, wanted) in rows {
         let mut caps = Fixed::new(rt.alloc(), media)?;
         caps.set(rt.alloc(), "rate", One::Int(rate))?;
-        caps.set(rt.alloc(), "format", One::Text(Text::from_str(rt.alloc(), format)?))?;
+        caps.set(
+            rt.alloc(),
+            "format",
+            One::Text(Text::from_str(rt.alloc(), format)?),
+        )?;
         assert_eq!(rt; Info::from_fixed(&caps), Err(NotAudio), "no channels");
         caps.set(rt.alloc(), "channels", One::Int(channels))?;
-        assert_eq!(rt; Info::from_fixed(&caps).is_ok(), wanted, "{media} {format} {rate} {channels}");
+        assert_eq!(rt;
+            Info::from_fixed(&caps).is_ok(),
+            wanted,
+            "{media} {format} {rate} {channels}"
+        );
     }
     Ok(())
 }

@@ -9,6 +9,6 @@ unfolding alaw_inverted
 returns c =
     let fits : FitsSigned w16 c.signed.result = search rules in
     let value : c.signed.result ≡ alaw_value c.args.a =
-      c.signed.ensures ∙ rw (c.has_sign.ensures, c.alaw_middle.ensures.middle, c.segment_in.ensures, c.place_in.ensures) (alaw_decoded c.args.a (omega arith)) in
+    c.signed.ensures ∙ rw (c.has_sign.ensures, c.alaw_middle.ensures.middle, c.segment_in.ensures, c.place_in.ensures) (alaw_decoded c.args.a (omega arith)) in
     let is = to_z-of_z w16 c.signed.result fits ∙ value in
     record { value = is; back = ap alaw_code is ∙ alaw_back c.args.a (omega arith) }

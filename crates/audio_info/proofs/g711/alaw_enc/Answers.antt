@@ -12,7 +12,7 @@ overflow_sub-segment c =
 pub returns : goal.returns
 returns c =
     let sign : c.if-v-lt0.sign ≡ alaw_sign c.args.v = elim c.if-v-lt0.branch [
-      then-v-lt0 w ↦ w.sign-is ∙ sym (alaw_sign-negative c.args.v (grind (arith, ints)))
+      | then-v-lt0 w ↦ w.sign-is ∙ sym (alaw_sign-negative c.args.v (grind (arith, ints)))
       | else-v-lt0 w ↦ w.sign-is ∙ sym (alaw_sign-other c.args.v (grind (arith, ints)))
     ] in
     let folded : c.folded-magnitude.result ≡ alaw_magnitude c.args.v = grind (arith, to_z-of_z) in

@@ -14,5 +14,5 @@ returns-else-segment-eq0 c =
     let is = alaw_middle_is c.args.segment c.args.place c.requires.segment c.requires.place (omega arith) in
     let narrow : c.args.place * 16 % 65536 + 264 ≡ c.args.place * 16 + 264 = omega arith in
     let whole : (c.args.place * 16 % 65536 + 264) * 2 ^ (c.args.segment - 1) % 65536 ≡ (c.args.place * 16 + 264) * 2 ^ (c.args.segment - 1) =
-      ap (λ k. k * 2 ^ (c.args.segment - 1) % 65536) narrow ∙ shl_whole (c.args.place * 16 + 264) 9 (c.args.segment - 1) 16 (omega arith) (omega arith) in
+    ap (λ k. k * 2 ^ (c.args.segment - 1) % 65536) narrow ∙ shl_whole (c.args.place * 16 + 264) 9 (c.args.segment - 1) 16 (omega arith) (omega arith) in
     record { middle = whole ∙ is.0; fits = rw whole (omega arith) }

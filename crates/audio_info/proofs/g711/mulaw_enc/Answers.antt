@@ -11,7 +11,7 @@ overflow_sub-segment c =
 pub returns : goal.returns
 returns c =
     let sign : c.if-v-lt0.sign ≡ mulaw_sign c.args.v = elim c.if-v-lt0.branch [
-      then-v-lt0 w ↦ w.sign-is ∙ sym (mulaw_sign-negative c.args.v (grind (arith, ints)))
+      | then-v-lt0 w ↦ w.sign-is ∙ sym (mulaw_sign-negative c.args.v (grind (arith, ints)))
       | else-v-lt0 w ↦ w.sign-is ∙ sym (mulaw_sign-other c.args.v (grind (arith, ints)))
     ] in
     let clipped : c.min-magnitude.result ≡ min (unsigned_abs c.args.v) 32635 = grind (arith, to_z-of_z) in
