@@ -1,12 +1,12 @@
 -- From a held magnitude to the code.
-use Rattle.std.proofs.Common.{◌≡◌, ◌≢◌, ◌<◌, ◌≤◌, ℕ, zero, suc, ◌+◌, ◌-◌, ◌*◌, ◌/◌, ◌%◌, ◌^◌, ℤ, pos, negsuc, neg_ℤ, max, min, ◌<ℤ◌, ◌≤ℤ◌, arith, bit_and, bit_or, bit_xor, unsigned_abs, zero-add, refl, ap, sym, ◌∙◌, subst, ◌⊎◌, inl, inr}
+use Rattle.std.proofs.Common.{◌≡◌, ◌<◌, ◌≤◌, ℕ, ◌+◌, ◌-◌, ◌*◌, ◌/◌, ◌%◌, ◌^◌, ℤ, pos, negsuc, max, min, ◌<ℤ◌, ◌≤ℤ◌, arith, bit_or, bit_xor, unsigned_abs, zero-add, refl, ap, sym, ◌∙◌, subst, inl, inr}
 use Rattle.std.proofs.Math.Numerals.{add-one}
 use Rattle.std.proofs.Math.Nat.{pow-le-pow_right}
 use Rattle.std.proofs.lemmas.Bool.{cases_lt}
 use Rattle.std.proofs.lemmas.Int.{ints}
 use Rattle.std.proofs.lemmas.Nat.{or_shifted, xor_of_8}
 use Rattle.std.specs.Int.Bits.{xor_assoc, xor_self, xor_zero_r}
-use Rattle.audio_info.specs.Segments.{mulaw_segments, mulaw_magnitude, mulaw_code, mulaw_value, alaw_segments, alaw_magnitude, alaw_inverted, alaw_code, alaw_value, interval_of, middle_of, Holds, HoldsMuLaw, HoldsALaw}
+use Rattle.audio_info.specs.Segments.{mulaw_segments, mulaw_magnitude, mulaw_code, alaw_segments, alaw_magnitude, alaw_inverted, alaw_code, Holds, HoldsMuLaw, HoldsALaw}
 use Rattle.audio_info.proofs.Intervals.{mulaw_finds, alaw_finds, interval_only, mulaw_holds, alaw_holds}
 
 -- the place of the highest bit of a biased magnitude

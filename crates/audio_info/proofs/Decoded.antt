@@ -1,9 +1,9 @@
 -- From a code to its sample, and back.
-use Rattle.std.proofs.Common.{◌≡◌, ◌≢◌, ◌<◌, ◌≤◌, ℕ, zero, suc, ◌+◌, ◌-◌, ◌*◌, ◌/◌, ◌%◌, ◌^◌, ℤ, pos, negsuc, neg_ℤ, min, true, false, nat_le, nat_lt, not, if◌then◌else◌, arith, inl, inr, refl, ap, sym, ◌∙◌}
+use Rattle.std.proofs.Common.{◌≡◌, ◌≢◌, ◌<◌, ◌≤◌, ℕ, zero, suc, ◌+◌, ◌-◌, ◌*◌, ◌/◌, ◌%◌, ◌^◌, pos, neg_ℤ, min, true, false, nat_le, nat_lt, not, if◌then◌else◌, arith, inl, inr, refl, ap, sym, ◌∙◌}
 use Rattle.std.proofs.lemmas.Bool.{cases_lt}
 use Rattle.std.proofs.lemmas.Bool.Decides.{nat_tests}
 use Rattle.std.proofs.Math.Numerals.{add-one}
-use Rattle.audio_info.specs.Segments.{mulaw_segments, mulaw_code, mulaw_value, mulaw_magnitude, alaw_segments, alaw_inverted, alaw_code, alaw_value, alaw_magnitude, least_of, width_of, middle_of, Holds, HoldsMuLaw, HoldsALaw}
+use Rattle.audio_info.specs.Segments.{mulaw_segments, mulaw_code, mulaw_value, alaw_segments, alaw_inverted, alaw_code, alaw_value, middle_of, Holds, HoldsMuLaw, HoldsALaw}
 use Rattle.audio_info.proofs.Intervals.{mulaw_middle_is, mulaw_wide, alaw_wide, holds_middle}
 use Rattle.audio_info.proofs.Codes.{mulaw_only, alaw_only, inverted-lt}
 

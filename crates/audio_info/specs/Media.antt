@@ -1,5 +1,5 @@
 -- What the caps of a stream of audio say, with the media types and fields of GStreamer.
-use Rattle.std.specs.Prelude.{◌≡◌, ◌≤◌, ℕ, pos, negsuc, List, [], ◌∷◌, Option, Some, None, ◌&&◌, nat_le, if◌then◌else◌, codes, find, option_and_then}
+use Rattle.std.specs.Prelude.{ℕ, pos, negsuc, List, [], ◌∷◌, Option, Some, None, ◌&&◌, nat_le, if◌then◌else◌, codes, find, option_and_then}
 use Rattle.std.specs.Option.{option_map}
 use Rattle.std.specs.Str.{bytes_eq}
 use Rattle.gst_caps.specs.Description.{Description}

@@ -1,5 +1,5 @@
 -- How a sample lies in its bytes: as a number in two's complement, and in U8 with 128 added.
-use Rattle.std.specs.Prelude.{◌≤◌, ◌≢◌, ◌^◌, ◌*◌, ◌-◌, ℕ, suc, ℤ, pos, negsuc, neg_ℤ, ◌+ℤ◌, ◌-ℤ◌, ◌≤ℤ◌, ◌<ℤ◌, List, [], ◌∷◌, slice_index, unsigned_abs}
+use Rattle.std.specs.Prelude.{◌≢◌, ◌^◌, ◌*◌, ◌-◌, ℕ, suc, ℤ, pos, negsuc, neg_ℤ, ◌+ℤ◌, ◌-ℤ◌, ◌≤ℤ◌, ◌<ℤ◌, List, unsigned_abs}
 use Rattle.byteorder.specs.Endian.{big_bytes, big_number, little_bytes, little_number, twos_complement}
 use Rattle.audio_info.specs.Segments.{alaw_code, alaw_value, mulaw_code, mulaw_value}
 use Rattle.audio_info.specs.declared.sample.Sample.{Sample}

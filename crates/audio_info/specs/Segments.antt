@@ -1,7 +1,7 @@
 -- The two laws of ITU-T G.711. A law sorts magnitudes into eight segments, each of them sixteen intervals of one
 -- width. A code names the sign of a sample and the interval of its magnitude, and stands for the middle of that
 -- interval. All magnitudes are on the scale of samples of 16 bits.
-use Rattle.std.specs.Prelude.{◌≡◌, ◌<◌, ◌≤◌, ℕ, ◌+◌, ◌-◌, ◌*◌, ◌/◌, ◌%◌, ℤ, pos, negsuc, neg_ℤ, List, [], ◌∷◌, min, nat_le, nat_lt, if◌then◌else◌, slice_index_or, count_by, bit_xor}
+use Rattle.std.specs.Prelude.{◌<◌, ◌≤◌, ℕ, ◌+◌, ◌-◌, ◌*◌, ◌/◌, ◌%◌, ℤ, pos, negsuc, neg_ℤ, List, [], ◌∷◌, min, nat_le, nat_lt, if◌then◌else◌, slice_index_or, count_by, bit_xor}
 
 -- a segment: its least magnitude, and the width of its intervals
 pub record Segment : Type 0 where

@@ -20,8 +20,8 @@ pub enum Sample {
     ALaw,
 }
 
-/// The formats of raw audio, which are not those of a law.
-pub const RAW: [Sample; 6] = [
+// The formats of raw audio, which are not those of a law.
+const RAW: [Sample; 6] = [
     Sample::S8,
     Sample::U8,
     Sample::S16LE,
@@ -43,7 +43,7 @@ impl Sample {
         }
     }
 
-    /// The name of the format.
+    /// GStreamer's name of the format, which the caps of raw audio have in their field `format`.
     pub fn name(self) -> &'static str
         ensures { result.now ≡ sample_name self }
     {

@@ -1,4 +1,4 @@
-use Rattle.std.proofs.Common.{◌≡◌, FitsSigned, w16, arith, ap, sym, ◌∙◌, rules}
+use Rattle.std.proofs.Common.{◌≡◌, FitsSigned, w16, arith, ap, ◌∙◌, rules}
 use Rattle.std.proofs.lemmas.Int.{to_z-of_z}
 use Rattle.audio_info.specs.Segments.{alaw_code, alaw_inverted, alaw_value}
 use Rattle.audio_info.proofs.Decoded.{alaw_back, alaw_decoded}

@@ -1,4 +1,4 @@
-use Rattle.std.proofs.Common.{◌≡◌, ◌<◌, ◌<ℤ◌, ◌≤ℤ◌, ◌^◌, max, pos, arith, sym, ◌∙◌, FitsSigned}
+use Rattle.std.proofs.Common.{◌≡◌, ◌<◌, ◌^◌, arith, sym, ◌∙◌}
 use Rattle.std.proofs.lemmas.Int.{ints, to_z-of_z}
 use Rattle.audio_info.specs.Segments.{alaw_magnitude}
 use Rattle.audio_info.proofs.Codes.{highest_bit, alaw_encoded, alaw_sign, alaw_sign-negative, alaw_sign-other}

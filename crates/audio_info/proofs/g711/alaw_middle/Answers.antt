@@ -1,6 +1,5 @@
 use Rattle.std.proofs.Common.{◌≡◌, ◌+◌, ◌-◌, ◌*◌, ◌%◌, ◌^◌, arith, ap, ◌∙◌}
 use Rattle.std.proofs.lemmas.Nat.{shl_whole}
-use Rattle.audio_info.specs.Segments.{alaw_segments, middle_of}
 use Rattle.audio_info.proofs.Intervals.{alaw_middle_first, alaw_middle_is}
 use Rattle.audio_info.proofs.g711.alaw_middle.Goals as goal
 

@@ -1,4 +1,4 @@
-use Rattle.std.proofs.Common.{◌≡◌, ◌<◌, ◌<ℤ◌, ◌≤ℤ◌, pos, min, unsigned_abs, arith, sym, ◌∙◌, FitsSigned}
+use Rattle.std.proofs.Common.{◌≡◌, min, unsigned_abs, arith, sym, ◌∙◌}
 use Rattle.std.proofs.lemmas.Int.{ints, to_z-of_z}
 use Rattle.audio_info.proofs.Codes.{highest_bit, mulaw_encoded, mulaw_sign, mulaw_sign-negative, mulaw_sign-other}
 use Rattle.audio_info.proofs.g711.mulaw_enc.Goals as goal
