@@ -1,0 +1,5 @@
+pub mod Names
+pub mod Limit
+pub mod Values
+pub mod Description
+pub mod Caps

@@ -1,12 +1,23 @@
-//! Texts, lists and names that all crates share.
+//! Texts, lists and names that all crates share, and caps as sets of fixed caps.
 #![tactic(auto)]
 
+pub mod caps;
+pub mod fault;
+mod field;
+pub mod fixed;
 pub mod list;
 pub mod memory;
 pub mod name;
+pub mod structure;
 pub mod text;
+pub mod value;
 
+pub use caps::Caps;
+pub use fault::CapsFault;
+pub use fixed::Fixed;
 pub use list::List;
 pub use memory::OutOfMemory;
 pub use name::{PadName, Prop};
+pub use structure::Structure;
 pub use text::Text;
+pub use value::{One, Value};

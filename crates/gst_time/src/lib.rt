@@ -2,5 +2,9 @@
 #![tactic(auto)]
 
 pub mod segment;
+#[cfg(test)]
+mod tests;
+pub mod time;
 
 pub use segment::{Format, Segment};
+pub use time::{LIMIT, scale};

@@ -1,0 +1,4 @@
+pub mod Codes
+pub mod Decoded
+pub mod Fields
+pub mod Intervals

@@ -1,0 +1,3 @@
+pub mod Media
+pub mod Packing
+pub mod Segments

@@ -1,0 +1,135 @@
+//! The two laws of ITU-T G.711, which keep a sample of 16 bits in a byte.
+ghost use Rattle.std.specs.Prelude.{◌≡◌, ◌≢◌, ℕ, ◌<◌, ◌≤◌, ◌+◌, ◌*◌, ◌/◌, ◌%◌, ◌^◌, nat_le, pos, neg_ℤ, if◌then◌else◌};
+ghost use Rattle.audio_info.specs.Segments.{HoldsALaw, HoldsMuLaw, alaw_code, alaw_magnitude, alaw_segments, alaw_value, middle_of, mulaw_code, mulaw_segments, mulaw_value};
+
+/// The greatest magnitude that mu-law tells apart.
+const MULAW_CLIP: u16 = 32_635;
+
+/// What mu-law adds to a magnitude, so that each segment starts at a power of two.
+const MULAW_BIAS: u16 = 132;
+
+/// The highest bit of a code, for the sign.
+const SIGN: u8 = 0x80;
+
+/// The bits that an A-law code inverts.
+const ALAW_MASK: u8 = 0x55;
+
+/// The mu-law code of a sample.
+pub fn mulaw_enc(v: i16) -> u8
+    ensures code { result ≡ mulaw_code v }
+    ensures holds { HoldsMuLaw result v }
+    ensures only { (c : ℕ) → c < 256 → HoldsMuLaw c v → c ≡ result }
+{
+    let sign = if v < 0 { SIGN } else { 0 };
+    let magnitude = v.unsigned_abs().min(MULAW_CLIP) + MULAW_BIAS;
+    let segment = magnitude.ilog2() - 7;
+    !(sign | interval(magnitude, segment, segment + 3))
+}
+
+/// The sample of a mu-law code.
+pub fn mulaw_dec(u: u8) -> i16
+    ensures value { result ≡ mulaw_value u }
+    ensures back { u ≢ 127 → mulaw_code result ≡ u }
+{
+    let code = !u;
+    let middle = mulaw_middle(segment_in(code), place_in(code));
+    signed(has_sign(code), middle - MULAW_BIAS)
+}
+
+// The middle of an interval of mu-law, by its segment and its place there.
+fn mulaw_middle(segment: u32, place: u16) -> u16
+    requires segment { segment < 8 }
+    requires place { place < 16 }
+    ensures middle { result ≡ middle_of mulaw_segments (segment * 16 + place) }
+    ensures biased { MULAW_BIAS ≤ result }
+    ensures fits { result < 2 ^ 15 }
+{
+    ((place << 3) + MULAW_BIAS) << segment
+}
+
+/// The A-law code of a sample.
+pub fn alaw_enc(v: i16) -> u8
+    ensures code { result ≡ alaw_code v }
+    ensures holds { HoldsALaw result v }
+    ensures only { (c : ℕ) → c < 256 → HoldsALaw c v → c ≡ result }
+{
+    let sign = if v < 0 { 0 } else { SIGN };
+    let magnitude = folded(v);
+    let segment = magnitude.max(128).ilog2() - 7;
+    (sign | interval(magnitude, segment, segment.max(1) + 3)) ^ ALAW_MASK
+}
+
+/// The sample of an A-law code.
+pub fn alaw_dec(a: u8) -> i16
+    ensures value { result ≡ alaw_value a }
+    ensures back { alaw_code result ≡ a }
+{
+    let code = a ^ ALAW_MASK;
+    signed(
+        !has_sign(code),
+        alaw_middle(segment_in(code), place_in(code)),
+    )
+}
+
+// The middle of an interval of A-law, by its segment and its place there.
+fn alaw_middle(segment: u32, place: u16) -> u16
+    requires segment { segment < 8 }
+    requires place { place < 16 }
+    ensures middle { result ≡ middle_of alaw_segments (segment * 16 + place) }
+    ensures fits { result < 2 ^ 15 }
+{
+    let offset = place << 4;
+    if segment == 0 {
+        offset + 8
+    } else {
+        (offset + 264) << (segment - 1)
+    }
+}
+
+// The magnitude that A-law sees: a negative sample is folded over -1/2.
+fn folded(v: i16) -> u16
+    ensures value { result ≡ alaw_magnitude v }
+    ensures fits { result < 2 ^ 15 }
+{
+    if v < 0 { (-1 - v) as u16 } else { v as u16 }
+}
+
+// The interval of a magnitude, counted through all segments: the four bits above the `shift` lowest, and the
+// segment above them.
+fn interval(magnitude: u16, segment: u32, shift: u32) -> u8
+    requires segment { segment < 8 }
+    requires shift { shift < 16 }
+    ensures { result ≡ segment * 16 + magnitude / 2 ^ shift % 16 }
+{
+    (segment as u8) << 4 | ((magnitude >> shift) & 0xF) as u8
+}
+
+// The number of this magnitude and sign.
+fn signed(negative: bool, magnitude: u16) -> i16
+    requires { magnitude < 2 ^ 15 }
+    ensures { result ≡ (if negative then neg_ℤ (pos magnitude) else pos magnitude) }
+{
+    let value = magnitude as i16;
+    if negative { -value } else { value }
+}
+
+// Whether the highest bit of a code is set.
+fn has_sign(code: u8) -> bool
+    ensures { result ≡ nat_le 128 code }
+{
+    code & SIGN != 0
+}
+
+// The segment of a code.
+fn segment_in(code: u8) -> u32
+    ensures { result ≡ code / 16 % 8 }
+{
+    u32::from(code >> 4 & 7)
+}
+
+// The place of a code's interval in its segment.
+fn place_in(code: u8) -> u16
+    ensures { result ≡ code % 16 }
+{
+    u16::from(code & 0xF)
+}

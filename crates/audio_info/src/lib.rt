@@ -1,0 +1,13 @@
+//! Samples of audio: their formats, how they lie in bytes, and the two laws of G.711.
+#![tactic(auto)]
+
+mod field;
+pub mod g711;
+pub mod info;
+pub mod sample;
+#[cfg(test)]
+mod tests;
+
+pub use g711::{alaw_dec, alaw_enc, mulaw_dec, mulaw_enc};
+pub use info::{Info, LARGEST_RATE, MOST_CHANNELS, NotAudio};
+pub use sample::{Sample, get, put};

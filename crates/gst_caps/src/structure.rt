@@ -1,0 +1,101 @@
+//! Structures: a media type with fields.
+ghost use Rattle.std.specs.Prelude.{◌≡◌, ◌<◌, [], length, IfOk, OnOk, OnErr, slice_get};
+ghost use Rattle.std.specs.Option.{option_map};
+
+use crate::fault::CapsFault;
+use crate::field;
+use crate::memory::OutOfMemory;
+use crate::text::Text;
+use crate::value::Value;
+use std::alloc::Global;
+use std::marker::Model;
+
+/// A media type, as `audio/x-raw`, with at most 64 fields in the order of their names.
+#[derive(Drop)]
+pub struct Structure {
+    media: Text,
+    fields: Vec<(Text, Value)>,
+}
+
+impl Model for Structure {
+    ghost use Rattle.gst_caps.specs.Description.{Description, IsStructure};
+    ghost use Rattle.gst_caps.specs.declared.value.Value.{Value as FieldValue};
+
+    ghost Value = { Description FieldValue };
+
+    ghost view = { λ s. record { media = s.media; fields = s.fields.items } };
+
+    ghost invariant = { λ s. IsStructure (record { media = s.media; fields = s.fields.items }) };
+}
+
+impl Structure {
+    ghost use Rattle.gst_caps.specs.Description.{IsStructure};
+    ghost use Rattle.gst_caps.specs.Limit.{TooManyWhere};
+    ghost use Rattle.gst_caps.specs.Names.{put};
+    ghost use Rattle.gst_caps.specs.Values.{IsValue};
+
+    /// A structure of this media type without fields.
+    pub fn new(alloc: Global, media: &str) -> Result<Structure, OutOfMemory>
+        ensures { IfOk result (λ made. made ≡ record { media = media.now; fields = [] }) }
+    {
+        Ok(Structure {
+            media: Text::from_str(alloc, media)?,
+            fields: Vec::new(alloc),
+        })
+    }
+
+    /// Sets the field of this name, or replaces its value.
+    pub fn set(&mut self, alloc: Global, name: &str, value: Value) -> Result<(), CapsFault>
+        requires { IsValue value }
+        ensures ok { OnOk result (self.new ≡ record self.old { fields = put name.now value self.old.fields }) }
+        ensures err { OnErr result (self.new ≡ self.old) }
+        ensures too_many { TooManyWhere result (64 < length (put name.now value self.old.fields)) }
+    {
+        field::set_field(alloc, &mut self.fields, name, value)
+    }
+
+    /// The media type.
+    pub fn media(&self) -> &str
+        ensures { result.now ≡ self.now.media }
+    {
+        self.media.as_str()
+    }
+
+    /// The number of fields.
+    pub fn fields(&self) -> u32
+        ensures count { result ≡ length self.now.fields }
+        ensures well_formed { IsStructure self.now }
+    {
+        self.fields.len() as u32
+    }
+
+    /// The field at this place in the order of names.
+    pub fn field(&self, place: u32) -> Option<(&str, &Value)>
+        ensures { option_map (λ f. (f.0.now, f.1.now)) result ≡ slice_get self.now.fields place }
+    {
+        match self.fields.get(place as usize) {
+            Some(found) => Some((found.0.as_str(), &found.1)),
+            None => None,
+        }
+    }
+
+    /// The same structure once more.
+    pub fn copy(&self, alloc: Global) -> Result<Structure, OutOfMemory>
+        ensures { IfOk result (λ made. made ≡ self.now) }
+    {
+        Ok(Structure {
+            media: self.media.copy(alloc)?,
+            fields: copy_fields(alloc, self.fields.as_slice())?,
+        })
+    }
+}
+
+fn copy_fields(alloc: Global, fields: &[(Text, Value)]) -> Result<Vec<(Text, Value)>, OutOfMemory>
+    ensures { IfOk result (λ made. made.items ≡ fields.now) }
+{
+    let mut made = Vec::new(alloc);
+    for (name, value) in fields {
+        made.push((name.copy(alloc)?, value.copy(alloc)?))?;
+    }
+    Ok(made)
+}
