@@ -144,3 +144,6 @@ pub fn run<H: Threads + Wait + Copy + Send + 'static, F: Files, C: Clock, G: Tas
     let end = run_words(alloc, words, files);
     tell(alloc, end, out)
 }
+
+#[cfg(test)]
+mod tests;

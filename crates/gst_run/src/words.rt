@@ -296,72 +296,54 @@ mod tests {
         let alloc = rt.alloc();
         // the source's own words, those in the middle, the location of the sink, and what is read
         let rows = [
-            ("location=a", "", "b", "a 4096 b"),
-            ("location=a|blocksize=1", "", "b", "a 1 b"),
-            ("location=a|blocksize=1048576", "", "b", "a 1048576 b"),
+            ("location=a", "!|identity|", "b", "a 4096 identity b"),
+            (
+                "location=a|blocksize=1",
+                "!|identity|",
+                "b",
+                "a 1 identity b",
+            ),
+            (
+                "location=a|blocksize=1048576",
+                "!|identity|",
+                "b",
+                "a 1048576 identity b",
+            ),
             (
                 "location=a|blocksize=00000000000000000007",
-                "",
+                "!|identity|",
                 "b",
-                "a 7 b",
+                "a 7 identity b",
             ),
             (
                 "location=a|blocksize=000000000000000000007",
-                "",
+                "!|identity|",
                 "b",
                 "none",
             ),
-            ("location=a|blocksize=1048577", "", "b", "none"),
-            ("location=a|blocksize=0", "", "b", "none"),
-            ("location=a|blocksize=+1", "", "b", "none"),
-            ("location=a|blocksize=-1", "", "b", "none"),
-            ("location=a|blocksize=", "", "b", "none"),
-            ("location=a|blocksize=1x", "", "b", "none"),
+            ("location=a|blocksize=1048577", "!|identity|", "b", "none"),
+            ("location=a|blocksize=0", "!|identity|", "b", "none"),
+            ("location=a|blocksize=+1", "!|identity|", "b", "none"),
+            ("location=a|blocksize=-1", "!|identity|", "b", "none"),
+            ("location=a|blocksize=", "!|identity|", "b", "none"),
+            ("location=a|blocksize=1x", "!|identity|", "b", "none"),
+            ("location=a", "", "b", "none"),
+            ("location=a", "!|identity|!|identity|", "b", "none"),
+            ("location=a", "!|queue|!|identity|", "b", "none"),
+            ("location=a", "!|queue|", "b", "none"),
+            ("location=a", "!|identity|", "a", "none"),
+            ("location=", "!|identity|", "b", "none"),
+            ("location=\"a", "!|identity|", "b", "none"),
+            ("location=a\\", "!|identity|", "b", "none"),
+            ("location=a", "!|identity|", "b c", "none"),
             (
-                "location=a",
-                "!|queue|!|identity|",
-                "b",
-                "a 4096 queue 200 identity b",
+                "location=a=",
+                "!|identity|",
+                "/b.c",
+                "a= 4096 identity /b.c",
             ),
-            (
-                "location=a",
-                "!|queue|max-size-buffers=1|",
-                "b",
-                "a 4096 queue 1 b",
-            ),
-            (
-                "location=a",
-                "!|queue|max-size-buffers=0|",
-                "b",
-                "a 4096 queue 16384 b",
-            ),
-            (
-                "location=a",
-                "!|queue|max-size-buffers=16384|",
-                "b",
-                "a 4096 queue 16384 b",
-            ),
-            (
-                "location=a",
-                "!|queue|max-size-buffers=16385|",
-                "b",
-                "a 4096 queue 16384 b",
-            ),
-            (
-                "location=a",
-                "!|queue|max-size-buffers=99999999999999999999|",
-                "b",
-                "a 4096 queue 16384 b",
-            ),
-            ("location=a", "!|queue|max-size-buffers=+1|", "b", "none"),
-            ("location=a", "", "a", "none"),
-            ("location=", "", "b", "none"),
-            ("location=\"a", "", "b", "none"),
-            ("location=a\\", "", "b", "none"),
-            ("location=a", "", "b c", "none"),
-            ("location=a=", "", "/b.c", "a= 4096 /b.c"),
-            ("location=a", "", "b|", "none"),
-            ("", "", "b", "none"),
+            ("location=a", "!|identity|", "b|", "none"),
+            ("", "!|identity|", "b", "none"),
         ];
         for (source, middle, sink, want) in rows {
             let text = format!(in alloc; "filesrc|{source}|{middle}!|filesink|location={sink}")?;
@@ -372,16 +354,23 @@ mod tests {
         Ok(())
     }
 
+    #[test]
+    fn reads_limits(rt: HostRuntime) -> Result<(), Fail> {
+        for (number, want) in [(0, 16_384), (1, 1), (16_384, 16_384), (16_385, 16_384)] {
+            assert_eq!(rt; limit_of(number), want, "at {number}");
+        }
+        Ok(())
+    }
+
     /// A line with each kind of word.
-    const FULL: &str =
-        "filesrc|location=a|blocksize=2|!|queue|max-size-buffers=5|!|filesink|location=b";
+    const FULL: &str = "filesrc|location=a|blocksize=2|!|identity|!|filesink|location=b";
 
     #[test]
     fn refuses_doubled_and_misspelt_words(rt: HostRuntime) -> Result<(), Fail> {
         let alloc = rt.alloc();
-        for at in 0..9 {
+        for at in 0..8 {
             let mut words = words_of(alloc, FULL)?;
-            assert_eq!(rt; words.len(), 9);
+            assert_eq!(rt; words.len(), 8);
             let word = String::from_str(alloc, words[at].as_str())?;
             let misspelt = format!(in alloc; "x{word}")?;
             words.insert(at, word)?;
@@ -399,36 +388,18 @@ mod tests {
         for (at, without) in [
             (0, "none"),
             (1, "none"),
-            (2, "a 4096 queue 5 b"),
+            (2, "a 4096 identity b"),
             (3, "none"),
             (4, "none"),
-            (5, "a 2 queue 200 b"),
+            (5, "none"),
             (6, "none"),
-            (7, "none"),
         ] {
             let mut words = words_of(alloc, FULL)?;
-            assert_eq!(rt; words.len(), 9);
+            assert_eq!(rt; words.len(), 8);
             words.swap(at, at + 1);
             assert_eq!(rt; read(alloc, &words)?.as_str(), "none", "moved {at}");
             words.remove(at + 1);
             assert_eq!(rt; read(alloc, &words)?.as_str(), without, "without {at}");
-        }
-        Ok(())
-    }
-
-    #[test]
-    fn counts_elements(rt: HostRuntime) -> Result<(), Fail> {
-        let alloc = rt.alloc();
-        for (count, fits) in [(1, true), (64, true), (65, false)] {
-            let mut words = words_of(alloc, "filesrc|location=a")?;
-            for _element in 0..count {
-                words.push(String::from_str(alloc, "!")?)?;
-                words.push(String::from_str(alloc, "identity")?)?;
-            }
-            for word in ["!", "filesink", "location=b"] {
-                words.push(String::from_str(alloc, word)?)?;
-            }
-            assert_eq!(rt; read_line(alloc, &words)?.is_some(), fits, "at {count}");
         }
         Ok(())
     }
