@@ -3,3 +3,4 @@ pub mod Limit
 pub mod Values
 pub mod Description
 pub mod Caps
+pub mod Fractions
