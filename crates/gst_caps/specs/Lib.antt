@@ -2,5 +2,8 @@ pub mod Names
 pub mod Limit
 pub mod Values
 pub mod Description
+pub mod Accepts
+pub mod Common
+pub mod Kept
 pub mod Caps
 pub mod Fractions

@@ -3,6 +3,7 @@
 
 pub mod caps;
 pub mod fault;
+mod common;
 mod field;
 pub mod fixed;
 pub mod list;
