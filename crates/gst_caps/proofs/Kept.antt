@@ -73,7 +73,7 @@ length-kept out (x ∷ xs) =
     omega (arith, step, later)
 
 -- none of the list is equal
-abbrev lacks : List One → One → Bool
+abbrev pub lacks : List One → One → Bool
 lacks out y = not (list_any (λ o. same o y) out)
 
 filter-cond : (p : One → Bool) (b : Bool) (x : One) (xs : List One) → filter p (cond b (x ∷ xs) xs) ≡ cond b (cond (p x) (x ∷ filter p xs) (filter p xs)) (filter p xs)

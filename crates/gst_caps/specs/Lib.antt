@@ -1,5 +1,6 @@
 pub mod Names
 pub mod Limit
+pub mod Merge
 pub mod Values
 pub mod Description
 pub mod Accepts

@@ -13,6 +13,8 @@ pub mod ratio;
 pub mod structure;
 pub mod text;
 pub mod value;
+mod walk;
+mod merge;
 
 pub use caps::Caps;
 pub use fault::CapsFault;

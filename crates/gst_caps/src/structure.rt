@@ -1,12 +1,15 @@
 //! Structures: a media type with fields.
-ghost use Rattle.std.specs.Prelude.{◌≡◌, ◌<◌, [], length, IfOk, OnOk, OnErr, slice_get};
-ghost use Rattle.std.specs.Option.{option_map};
+ghost use Rattle.std.specs.Prelude.{◌≡◌, ◌<◌, ◌&&◌, true, false, [], length, IfOk, OnOk, OnErr, slice_get};
+ghost use Rattle.std.specs.Option.{option_map, option_map_or};
 
 use crate::fault::CapsFault;
 use crate::field;
+use crate::fixed::Fixed;
+use crate::merge;
 use crate::memory::OutOfMemory;
 use crate::text::Text;
 use crate::value::Value;
+use crate::walk;
 use std::alloc::Global;
 use std::marker::Model;
 
@@ -29,7 +32,9 @@ impl Model for Structure {
 }
 
 impl Structure {
-    ghost use Rattle.gst_caps.specs.Description.{IsStructure};
+    ghost use Rattle.gst_caps.specs.Accepts.{fields_pass, fixed, meet, structures_meet, takes};
+    ghost use Rattle.gst_caps.specs.Description.{Description, IsStructure};
+    ghost use Rattle.gst_caps.specs.declared.value.One.{One as FieldOne};
     ghost use Rattle.gst_caps.specs.Limit.{TooManyWhere};
     ghost use Rattle.gst_caps.specs.Names.{put};
     ghost use Rattle.gst_caps.specs.Values.{IsValue};
@@ -77,6 +82,44 @@ impl Structure {
             Some(found) => Some((found.0.as_str(), &found.1)),
             None => None,
         }
+    }
+
+    /// The fields in the order of their names.
+    fn entries(&self) -> &[(Text, Value)]
+        ensures entries { result.now ≡ self.now.fields }
+        ensures well_formed { IsStructure self.now }
+    {
+        self.fields.as_slice()
+    }
+
+    /// Whether the structure takes these fixed caps: they have its media type, and each of its fields contains
+    /// the value that they have there.
+    pub(crate) fn takes(&self, fixed: &Fixed) -> bool
+        ensures { result ≡ takes self.now fixed.now }
+    {
+        self.media.as_str() == fixed.media() && walk::all_given(self.entries(), fixed.entries())
+    }
+
+    /// Whether the two meet: their media types are equal and each field of both has something in common.
+    pub(crate) fn meets(&self, other: &Structure) -> bool
+        ensures { result ≡ structures_meet self.now other.now }
+    {
+        self.media.as_str() == other.media() && walk::all_agree(self.entries(), other.entries())
+    }
+
+    /// The fields of both and their common values, where the two meet.
+    pub(crate) fn meet(&self, alloc: Global, other: &Structure) -> Result<Option<Structure>, CapsFault>
+        ensures ok { IfOk result (λ made. made ≡ meet self.now other.now) }
+        ensures too_many { TooManyWhere result (option_map_or (λ s. fields_pass s.fields) (meet self.now other.now) false ≡ true) }
+        ensures law { (x : Description FieldOne) → option_map_or (λ s. takes s x) (meet self.now other.now) false ≡ (takes self.now x && takes other.now x) }
+    {
+        if !self.meets(other) {
+            return Ok(None);
+        }
+        Ok(Some(Structure {
+            media: self.media.copy(alloc)?,
+            fields: merge::merged_fields(alloc, self.entries(), other.entries())?,
+        }))
     }
 
     /// The same structure once more.
