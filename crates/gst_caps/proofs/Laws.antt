@@ -42,7 +42,7 @@ or_and false true false = refl
 or_and false false true = refl
 or_and false false false = refl
 
-any-append : {X : Type 0} (t : X → Bool) (xs ys : List X) → list_any t (xs ++ ys) ≡ (list_any t xs || list_any t ys)
+pub any-append : {X : Type 0} (t : X → Bool) (xs ys : List X) → list_any t (xs ++ ys) ≡ (list_any t xs || list_any t ys)
 any-append t [] ys = refl
 any-append t (x ∷ xs) ys = ap (λ b. t x || b) (any-append t xs ys) ∙ join (t x) (list_any t xs) (list_any t ys)
   where

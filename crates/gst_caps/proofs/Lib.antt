@@ -6,3 +6,6 @@ pub mod Limit
 pub mod Steps
 pub mod Merging
 pub mod Laws
+pub mod Sound
+pub mod FieldLaws
+pub mod Overlap

@@ -55,7 +55,7 @@ each_at_skip t g gs (f ∷ fs) p = λ i. t f.1 (value_at_skip f.0 g gs p.0 i) &&
 each_at_skip_first : {V W : Type 0} (t : V → Option W → Bool) (g : List ℕ × W) (gs : List (List ℕ × W)) (f : List ℕ × V) (fs : List (List ℕ × V)) → Rises (f ∷ fs) → cmp g.0 f.0 ≡ Less → each_at t (f ∷ fs) (g ∷ gs) ≡ each_at t (f ∷ fs) gs
 each_at_skip_first t g gs f fs r h = each_at_skip t g gs (f ∷ fs) (h, less_trans_each g.0 f.0 fs h r.0)
 
-each_at_both : {V W : Type 0} (t : V → Option W → Bool) (g : List ℕ × W) (gs : List (List ℕ × W)) (f : List ℕ × V) (fs : List (List ℕ × V)) → Rises (f ∷ fs) → cmp g.0 f.0 ≡ Equal → each_at t (f ∷ fs) (g ∷ gs) ≡ (t f.1 (Some g.1) && each_at t fs gs)
+pub each_at_both : {V W : Type 0} (t : V → Option W → Bool) (g : List ℕ × W) (gs : List (List ℕ × W)) (f : List ℕ × V) (fs : List (List ℕ × V)) → Rises (f ∷ fs) → cmp g.0 f.0 ≡ Equal → each_at t (f ∷ fs) (g ∷ gs) ≡ (t f.1 (Some g.1) && each_at t fs gs)
 each_at_both t g gs f fs r h =
     let P : List ℕ → Type 0 = λ n. Each (λ k. cmp n k.0 ≡ Less) fs in
     let later : Each (λ k. cmp g.0 k.0 ≡ Less) fs = subst P (sym (exact_bytes g.0 f.0 h)) r.0 in

@@ -33,8 +33,7 @@ impl Model for Structure {
 
 impl Structure {
     ghost use Rattle.gst_caps.specs.Accepts.{fields_pass, fixed, meet, structures_meet, takes};
-    ghost use Rattle.gst_caps.specs.Description.{Description, IsStructure};
-    ghost use Rattle.gst_caps.specs.declared.value.One.{One as FieldOne};
+    ghost use Rattle.gst_caps.specs.Description.{IsStructure};
     ghost use Rattle.gst_caps.specs.Limit.{TooManyWhere};
     ghost use Rattle.gst_caps.specs.Names.{put};
     ghost use Rattle.gst_caps.specs.Values.{IsValue};
@@ -102,16 +101,20 @@ impl Structure {
 
     /// Whether the two meet: their media types are equal and each field of both has something in common.
     pub(crate) fn meets(&self, other: &Structure) -> bool
-        ensures { result ≡ structures_meet self.now other.now }
+        ensures meet { result ≡ structures_meet self.now other.now }
+        ensures well_formed { IsStructure self.now }
+        ensures other { IsStructure other.now }
     {
-        self.media.as_str() == other.media() && walk::all_agree(self.entries(), other.entries())
+        let fields = self.entries();
+        let others = other.entries();
+        self.media.as_str() == other.media() && walk::all_agree(fields, others)
     }
 
     /// The fields of both and their common values, where the two meet.
     pub(crate) fn meet(&self, alloc: Global, other: &Structure) -> Result<Option<Structure>, CapsFault>
         ensures ok { IfOk result (λ made. made ≡ meet self.now other.now) }
         ensures too_many { TooManyWhere result (option_map_or (λ s. fields_pass s.fields) (meet self.now other.now) false ≡ true) }
-        ensures law { (x : Description FieldOne) → option_map_or (λ s. takes s x) (meet self.now other.now) false ≡ (takes self.now x && takes other.now x) }
+        ensures well_formed { IsStructure other.now }
     {
         if !self.meets(other) {
             return Ok(None);
