@@ -143,7 +143,7 @@ cons_option-nil : {Y : Type 0} (o : Option Y) → cons_option o [] ≡ option_to
 cons_option-nil None = refl
 cons_option-nil (Some y) = refl
 
-filter_map-append : {X Y : Type 0} (f : X → Option Y) (xs ys : List X) → filter_map f (xs ++ ys) ≡ filter_map f xs ++ filter_map f ys
+pub filter_map-append : {X Y : Type 0} (f : X → Option Y) (xs ys : List X) → filter_map f (xs ++ ys) ≡ filter_map f xs ++ filter_map f ys
 filter_map-append f [] ys = refl
 filter_map-append f (x ∷ xs) ys = cons_option-append (f x) _ _ _ (filter_map-append f xs ys)
 
@@ -167,7 +167,7 @@ kept_over f xs i d start now o n h e q k =
     let same = ap length step in
     omega (arith, rest, whole, same, k)
 
-commons_more : (ms ns : List One) (i : ℕ) (d : One) → i < length ms → commons (take (i + 1) ms) ns ≡ commons (take i ms) ns ++ filter_map (common_one (get_or ms i d)) ns
+pub commons_more : (ms ns : List One) (i : ℕ) (d : One) → i < length ms → commons (take (i + 1) ms) ns ≡ commons (take i ms) ns ++ filter_map (common_one (get_or ms i d)) ns
 commons_more ms ns i d h =
     ap (λ xs. commons xs ns) (take_more ms i d h) ∙ flat_map-append (λ m. filter_map (common_one m) ns) (take i ms) (get_or ms i d ∷ []) ∙ ap (λ ys. commons (take i ms) ns ++ ys) (append-nil (filter_map (common_one (get_or ms i d)) ns))
 

@@ -9,3 +9,5 @@ pub mod Laws
 pub mod Sound
 pub mod FieldLaws
 pub mod Overlap
+pub mod Fixing
+pub mod Meeting

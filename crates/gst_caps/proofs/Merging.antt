@@ -13,7 +13,8 @@ use borrow.Author.Tests.{ltb-true}
 use Rattle.std.proofs.lemmas.Map.Lookups.{exact_bytes}
 use Rattle.gst_caps.proofs.Put.{cmp, less_trans_each, not_before, filter-all_behind, filter-none_before, same_not_before}
 use Rattle.gst_caps.proofs.Steps.{front, rises_front, greater_less, value_at_behind, value_at_same, value_at_skip}
-use Rattle.gst_caps.specs.Accepts.{value_at, merged, narrowed, fields_pass}
+use Rattle.gst_caps.specs.Accepts.{value_at, merged, narrowed}
+use Rattle.gst_caps.specs.Passes.{fields_pass}
 use Rattle.gst_caps.specs.Common.{as_value, common, members}
 use Rattle.gst_caps.specs.Merge.{IsShort, merged_from}
 use Rattle.gst_caps.specs.Names.{Each, Rises, is_before}

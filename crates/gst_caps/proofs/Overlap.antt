@@ -17,7 +17,7 @@ use Rattle.gst_caps.proofs.Steps.{each_at_both}
 use Rattle.gst_caps.proofs.Laws.{any_some, any-append, same_itself}
 use Rattle.gst_caps.proofs.Sound.{IsRight, AreRight, IsOf, each_right, merged_right, Rises-merged}
 use Rattle.gst_caps.proofs.FieldLaws.{AreStructures, pair_law, meets_law, and_left, and_right, and_true}
-use Rattle.gst_caps.specs.Accepts.{value_at, each_at, contains_given, takes, accepts, agrees, structures_meet, narrowed, merged, meet, all_meets, overlap, fixed}
+use Rattle.gst_caps.specs.Accepts.{value_at, each_at, contains_given, takes, accepts, agrees, structures_meet, narrowed, merged, met, meet, all_meets, overlap, fixed}
 use Rattle.gst_caps.specs.Common.{members, holds, contains, least_of, first_least, least}
 use Rattle.gst_caps.specs.Description.{Description, IsStructure, IsFixed}
 use Rattle.gst_caps.specs.Names.{Each, Rises, is_before}
@@ -80,7 +80,7 @@ fields_themselves (f ∷ fs) r p =
     ∙ and_true _ _ (contains_least f.1 p.0) (fields_themselves fs r.1 p.1)
 
 -- a structure takes what it is fixed to
-takes_fixed : (u : Description Value) → Rises u.fields → Each (λ f. IsRight f.1) u.fields → takes u (fixed u) ≡ true
+pub takes_fixed : (u : Description Value) → Rises u.fields → Each (λ f. IsRight f.1) u.fields → takes u (fixed u) ≡ true
 takes_fixed u r p = and_true _ _ ((bytes_eq-Decides u.media u.media).1 refl) (fields_themselves u.fields r p)
 
 -- fixed fields are right
@@ -108,10 +108,6 @@ length-merged (f ∷ fs) gs =
     omega (arith, rest, parts, length-append (filter (λ g. is_before g.0 f.0) gs) ((f.0, narrowed f.1 (value_at f.0 gs)) ∷ merged fs (filter (λ g. is_before f.0 g.0) gs)))
 
 -- ---- a meet is not empty
-
--- the structure that a meet is
-abbrev pub met : Description Value → Description Value → Description Value
-met s t = record { media = s.media; fields = merged s.fields t.fields }
 
 met_right : (s t : Description Value) → IsStructure s → IsStructure t → structures_meet s t ≡ true → Each (λ f. IsRight f.1) (merged s.fields t.fields)
 met_right s t p q h = merged_right s.fields t.fields p.ordered (each_right s.fields p.values) (each_right t.fields q.values) (and_right (bytes_eq s.media t.media) _ h)

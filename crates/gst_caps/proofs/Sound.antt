@@ -15,7 +15,8 @@ use Rattle.gst_caps.proofs.Lists.{Each-append, Each-filter, Each-filtered, Each-
 use Rattle.gst_caps.proofs.Put.{cmp, less_from_is_lt, not_before, Rises-join, Rises-filter}
 use Rattle.gst_caps.proofs.Steps.{behind_differs}
 use Rattle.gst_caps.proofs.Merging.{members-as_value}
-use Rattle.gst_caps.specs.Accepts.{value_at, each_at, agrees, narrowed, merged, structures_meet, fields_pass}
+use Rattle.gst_caps.specs.Accepts.{value_at, each_at, agrees, narrowed, merged, structures_meet}
+use Rattle.gst_caps.specs.Passes.{fields_pass}
 use Rattle.gst_caps.specs.Common.{members, same, ends, span, common_of, common_one, distinct, commons, common, as_value, have_common}
 use Rattle.gst_caps.specs.Description.{Description, IsStructure}
 use Rattle.gst_caps.specs.Merge.{IsShort}

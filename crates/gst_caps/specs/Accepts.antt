@@ -6,6 +6,7 @@ use Rattle.std.specs.Str.{bytes_eq}
 use Rattle.gst_caps.specs.Common.{as_value, common, contains, have_common, least, members}
 use Rattle.gst_caps.specs.Description.{Description}
 use Rattle.gst_caps.specs.Names.{is_before}
+use Rattle.gst_caps.specs.Passes.{structures_pass}
 use Rattle.gst_caps.specs.declared.caps.Caps.{Caps}
 use Rattle.gst_caps.specs.declared.caps.Caps.TheVariants.{Any, Of}
 use Rattle.gst_caps.specs.declared.value.One.{One}
@@ -51,9 +52,13 @@ abbrev pub merged : List (List ℕ × Value) → List (List ℕ × Value) → Li
 merged [] gs = gs
 merged (f ∷ fs) gs = filter (λ g. is_before g.0 f.0) gs ++ (f.0, narrowed f.1 (value_at f.0 gs)) ∷ merged fs (filter (λ g. is_before f.0 g.0) gs)
 
+-- the fields of both with their common values
+abbrev pub met : Description Value → Description Value → Description Value
+met s t = record { media = s.media; fields = merged s.fields t.fields }
+
 -- the meet of two structures, where it is not empty
 abbrev pub meet : Description Value → Description Value → Option (Description Value)
-meet s t = cond (structures_meet s t) (Some (record { media = s.media; fields = merged s.fields t.fields })) None
+meet s t = cond (structures_meet s t) (Some (met s t)) None
 
 -- the meets of each structure of the first in order and of each of the second in order
 abbrev pub all_meets : List (Description Value) → List (Description Value) → List (Description Value)
@@ -75,19 +80,17 @@ overlap (Of ss) (Of ts) = list_any (λ s. list_any (structures_meet s) ts) ss
 abbrev pub fixed : Description Value → Description One
 fixed s = record { media = s.media; fields = map (λ f. (f.0, least f.1)) s.fields }
 
+-- the first structure, if there is one
+abbrev pub first_structure : List (Description Value) → Option (Description Value)
+first_structure [] = None
+first_structure (s ∷ ss) = Some s
+
 -- the fixation of the first structure
 abbrev pub fixation : Caps → Option (Description One)
 fixation Any = None
-fixation (Of []) = None
-fixation (Of (s ∷ ss)) = Some (fixed s)
+fixation (Of ss) = option_map fixed (first_structure ss)
 
--- whether fields, members of one or structures are more than 64
-abbrev pub fields_pass : List (List ℕ × Value) → Bool
-fields_pass fs = nat_lt 64 (length fs) || list_any (λ f. nat_lt 64 (length (members f.1))) fs
-
-abbrev pub structures_pass : List (Description Value) → Bool
-structures_pass ss = nat_lt 64 (length ss) || list_any (λ s. fields_pass s.fields) ss
-
+-- whether structures, fields of one or members of one list are more than 64
 abbrev pub passes : Caps → Bool
 passes Any = false
 passes (Of ss) = structures_pass ss

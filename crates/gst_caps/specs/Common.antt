@@ -94,3 +94,8 @@ first_least (x ∷ xs) = least_of x
 
 abbrev pub least : Value → One
 least v = first_least (members v)
+
+-- the first of a list, if there is one
+abbrev pub first_of : List One → Option One
+first_of [] = None
+first_of (x ∷ xs) = Some x

@@ -1,6 +1,7 @@
 pub mod Names
 pub mod Limit
 pub mod Merge
+pub mod Passes
 pub mod Values
 pub mod Description
 pub mod Accepts

@@ -5,6 +5,7 @@ pub mod caps;
 pub mod fault;
 mod common;
 mod field;
+mod fixate;
 pub mod fixed;
 pub mod list;
 pub mod memory;

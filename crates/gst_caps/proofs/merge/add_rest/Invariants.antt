@@ -1,5 +1,5 @@
 use Rattle.std.proofs.Common.{◌≡◌, ◌++◌, false, take}
-use Rattle.gst_caps.specs.Accepts.{fields_pass}
+use Rattle.gst_caps.specs.Passes.{fields_pass}
 use Rattle.gst_caps.proofs.merge.add_rest.Given as goal
 
 abbrev pub invariant-loop-field : goal.invariant-loop-field

@@ -1,5 +1,6 @@
 use Rattle.std.proofs.Common.{◌≡◌, ◌++◌, ◌≤◌, ◌-◌, ◌⊎◌, inl, inr, take, drop, length, sym, ap, ◌∙◌, true, false, refl, subst, List, ℕ}
-use Rattle.gst_caps.specs.Accepts.{fields_pass, merged}
+use Rattle.gst_caps.specs.Accepts.{merged}
+use Rattle.gst_caps.specs.Passes.{fields_pass}
 use Rattle.gst_caps.proofs.Limit.{over_from}
 use Rattle.gst_caps.proofs.Merging.{merged_end, pass-append}
 use Rattle.gst_caps.proofs.merge.merged_fields.Goals as goal

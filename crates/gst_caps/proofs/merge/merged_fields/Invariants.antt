@@ -1,5 +1,6 @@
 use Rattle.std.proofs.Common.{◌≡◌, ◌≤◌, ◌+◌, ◌-◌, ◌++◌, false, length}
-use Rattle.gst_caps.specs.Accepts.{fields_pass, merged}
+use Rattle.gst_caps.specs.Accepts.{merged}
+use Rattle.gst_caps.specs.Passes.{fields_pass}
 use Rattle.gst_caps.specs.Merge.{merged_from}
 use Rattle.gst_caps.proofs.merge.merged_fields.Given as goal
 
