@@ -1,6 +1,6 @@
 -- A meet of two structures takes what both take.
-use Rattle.std.proofs.Common.{◌≡◌, ◌≢◌, ℕ, zero, suc, ◌<◌, ◌≤◌, Bool, true, false, not, cond, ◌&&◌, ◌||◌, List, [], ◌∷◌, ◌++◌, Option, Some, None, length, refl, sym, ap, ◌∙◌, subst, arith}
-use Rattle.std.specs.List.{filter, filter_map, flat_map, list_any, list_all}
+use Rattle.std.proofs.Common.{◌≡◌, ℕ, Bool, true, false, cond, ◌&&◌, List, [], ◌∷◌, ◌++◌, Option, Some, None, refl, sym, ap, ◌∙◌, subst}
+use Rattle.std.specs.List.{filter, list_any, list_all}
 use Rattle.std.specs.Option.{option_map_or}
 use Rattle.std.specs.Str.{bytes_eq}
 use Rattle.std.specs.Ordering.{is_lt}
@@ -13,7 +13,7 @@ use Rattle.gst_caps.proofs.Put.{cmp, less_trans_each, not_before, same_not_befor
 use Rattle.gst_caps.proofs.Steps.{greater_less, value_at_behind, value_at_same, value_at_skip}
 use Rattle.gst_caps.proofs.Laws.{and_false, any_pairs, value_law, meet_at}
 use Rattle.gst_caps.specs.Accepts.{value_at, each_at, contains_given, takes, accepts, agrees, structures_meet, narrowed, merged, meet, all_meets, intersection}
-use Rattle.gst_caps.specs.Common.{contains, common, as_value, have_common}
+use Rattle.gst_caps.specs.Common.{common, as_value}
 use Rattle.gst_caps.specs.Description.{Description, IsStructure}
 use Rattle.gst_caps.specs.Names.{Each, Rises, is_before}
 use Rattle.gst_caps.specs.declared.caps.Caps.{Caps}
@@ -143,11 +143,11 @@ module _ (x : Description One) where
       ∙ ap (λ m. (bytes_eq s.media x.media && list_all given s.fields) && (bytes_eq m x.media && list_all given t.fields)) media
   pair_at s t false p q e =
       neither (takes s x) (takes t x) (λ h k.
-          let one : s.media ≡ x.media = (bytes_eq-Decides s.media x.media).0 (and_left (bytes_eq s.media x.media) _ h) in
-          let two : t.media ≡ x.media = (bytes_eq-Decides t.media x.media).0 (and_left (bytes_eq t.media x.media) _ k) in
-          let media : bytes_eq s.media t.media ≡ true = (bytes_eq-Decides s.media t.media).1 (one ∙ sym two) in
-          let agree : each_at agrees s.fields t.fields ≡ true = agree_from s.fields t.fields (and_right (bytes_eq s.media x.media) _ h) (and_right (bytes_eq t.media x.media) _ k) in
-          true≢false (sym (and_true _ _ media agree) ∙ e))
+      let one : s.media ≡ x.media = (bytes_eq-Decides s.media x.media).0 (and_left (bytes_eq s.media x.media) _ h) in
+      let two : t.media ≡ x.media = (bytes_eq-Decides t.media x.media).0 (and_left (bytes_eq t.media x.media) _ k) in
+      let media : bytes_eq s.media t.media ≡ true = (bytes_eq-Decides s.media t.media).1 (one ∙ sym two) in
+      let agree : each_at agrees s.fields t.fields ≡ true = agree_from s.fields t.fields (and_right (bytes_eq s.media x.media) _ h) (and_right (bytes_eq t.media x.media) _ k) in
+      true≢false (sym (and_true _ _ media agree) ∙ e))
 
   -- the meet of two structures takes what both take
   pub pair_law : (s t : Description Value) → IsStructure s → IsStructure t → option_map_or (λ u. takes u x) (meet s t) false ≡ (takes s x && takes t x)

@@ -1,10 +1,10 @@
 -- The first common member of two values, and the fixation of merged fields.
-use Rattle.std.proofs.Common.{◌≡◌, ℕ, zero, suc, ◌+◌, ◌-◌, ◌<◌, ◌≤◌, ◌⊎◌, Bool, true, false, cond, ◌&&◌, ◌||◌, List, [], ◌∷◌, ◌++◌, Option, Some, None, is_some, length, map, get_or, take, drop, refl, sym, ap, ◌∙◌, subst, arith, append_assoc}
-use Rattle.std.specs.List.{filter_map, flat_map, cons_option}
+use Rattle.std.proofs.Common.{◌≡◌, ℕ, ◌+◌, ◌-◌, ◌<◌, ◌≤◌, ◌⊎◌, true, false, List, [], ◌∷◌, ◌++◌, Option, Some, None, is_some, length, map, get_or, take, drop, refl, sym, ap, ◌∙◌, append_assoc}
+use Rattle.std.specs.List.{filter_map, cons_option}
 use Rattle.std.specs.Option.{option_to_list}
 use Rattle.std.proofs.lemmas.List.{take_more, take_all, take_rest, take-append-drop, map-append, drop_more}
 use Rattle.std.proofs.lemmas.List.Concat.{flat_map-append}
-use Rattle.gst_caps.proofs.Kept.{filter_map-append, filter_map_more, filter_map_split, commons_more}
+use Rattle.gst_caps.proofs.Kept.{filter_map_more, filter_map_split, commons_more}
 use Rattle.gst_caps.proofs.Merging.{from_end, members-as_value}
 use Rattle.gst_caps.specs.Accepts.{merged}
 use Rattle.gst_caps.specs.Common.{common_one, commons, common, distinct, as_value, members, first_least, first_of, least_of, least}

@@ -1,16 +1,15 @@
 -- What an intersection holds is what both hold.
-use Rattle.std.proofs.Common.{◌≡◌, ◌≢◌, ℕ, zero, suc, ◌+◌, ◌<◌, ◌≤◌, ℤ, pos, Bool, true, false, not, cond, ◌&&◌, ◌||◌, List, [], ◌∷◌, ◌++◌, Option, Some, None, is_some, int_lt, int_le, length, refl, sym, ap, ◌∙◌, subst, arith}
+use Rattle.std.proofs.Common.{◌≡◌, ◌≢◌, ℤ, Bool, true, false, not, cond, ◌&&◌, ◌||◌, List, [], ◌∷◌, ◌++◌, Option, Some, None, is_some, int_lt, int_le, refl, sym, ap, ◌∙◌, arith}
 use Rattle.std.specs.Bool.{beq}
 use Rattle.std.specs.Int.{int_max, int_min}
-use Rattle.std.specs.List.{filter, filter_map, flat_map, cons_option, list_any, list_all}
-use Rattle.std.specs.Option.{option_map_or, option_to_list}
+use Rattle.std.specs.List.{filter, filter_map, flat_map, cons_option, list_any}
+use Rattle.std.specs.Option.{option_map_or}
 use Rattle.std.specs.Ordering.{int_eq}
-use Rattle.std.specs.Str.{bytes_eq}
-use Rattle.std.proofs.lemmas.Bool.Decides.{Decides-int_eq, nat_tests}
+use Rattle.std.proofs.lemmas.Bool.Decides.{Decides-int_eq}
 use Rattle.std.proofs.lemmas.Int.{ints, clamps}
 use Rattle.std.proofs.lemmas.Slice.Eq.{bytes_eq-Decides}
 use mathlib.Core.Bool.{true≢false}
-use Rattle.gst_caps.proofs.Kept.{same_is, lacks}
+use Rattle.gst_caps.proofs.Kept.{same_is}
 use Rattle.gst_caps.proofs.Merging.{members-as_value}
 use Rattle.gst_caps.specs.Common.{members, holds, contains, same, ends, span, common_of, common_one, distinct, commons, common, as_value, have_common}
 use Rattle.gst_caps.specs.Names.{Each}
@@ -232,9 +231,11 @@ filter-same x o (y ∷ ys) = by (same x y) refl (filter-same x o ys)
     swap : (a b c d : Bool) → (a || c) ≡ (a || d) → (a || (b || c)) ≡ (a || (b || d))
     swap true b c d e = refl
     swap false b c d e = ap (λ z. b || z) e
+
     twice : (a c d : Bool) → (a || c) ≡ (a || d) → (a || c) ≡ (a || (a || d))
     twice true c d e = refl
     twice false c d e = e
+
     by : (b : Bool) → same x y ≡ b → (holds x o || list_any (λ m. holds m o) (filter (λ y. not (same x y)) ys)) ≡ (holds x o || list_any (λ m. holds m o) ys)
         → (holds x o || list_any (λ m. holds m o) (cond (not b) (y ∷ filter (λ y. not (same x y)) ys) (filter (λ y. not (same x y)) ys))) ≡ (holds x o || (holds y o || list_any (λ m. holds m o) ys))
     by true e f = twice (holds x o) _ _ f ∙ ap (λ z. holds x o || (holds z o || list_any (λ m. holds m o) ys)) (same_is x y e)

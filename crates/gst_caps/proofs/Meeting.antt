@@ -1,17 +1,16 @@
 -- Rows of meets, their limit, and their fixation.
-use Rattle.std.proofs.Common.{◌≡◌, ◌≢◌, ℕ, zero, suc, ◌+◌, ◌<◌, ◌≤◌, ◌⊎◌, inl, inr, Bool, true, false, cond, ◌&&◌, ◌||◌, List, [], ◌∷◌, ◌++◌, Option, Some, None, is_some, length, map, get_or, take, drop, refl, sym, ap, ◌∙◌, subst, arith, ltb, append_assoc, length-append}
-use Rattle.std.specs.List.{filter_map, flat_map, cons_option, list_any}
+use Rattle.std.proofs.Common.{◌≡◌, ℕ, ◌+◌, ◌<◌, ◌≤◌, ◌⊎◌, inl, inr, Bool, true, false, cond, ◌&&◌, ◌||◌, List, [], ◌∷◌, ◌++◌, Option, Some, None, is_some, length, map, get_or, take, drop, refl, sym, ap, ◌∙◌, subst, arith, ltb, append_assoc, length-append}
+use Rattle.std.specs.List.{filter_map, cons_option, list_any, slice_get}
 use Rattle.std.specs.Option.{option_map, option_map_or, option_to_list}
-use Rattle.std.specs.Str.{bytes_eq}
 use Rattle.std.proofs.lemmas.Bool.Decides.{nat_tests}
-use Rattle.std.proofs.lemmas.List.{take_more, take_all, take-append-drop, drop_more, append-nil}
+use Rattle.std.proofs.lemmas.List.{take_all, take-append-drop, drop_more}
 use Rattle.std.proofs.lemmas.List.Concat.{flat_map-append}
 use borrow.Author.Tests.{ltb-true}
 use mathlib.Core.Bool.{true≢false}
-use Rattle.gst_caps.proofs.Kept.{filter_map-append, filter_map_more, filter_map_split}
+use Rattle.gst_caps.proofs.Kept.{filter_map_more, filter_map_split}
 use Rattle.gst_caps.proofs.Laws.{any-append}
-use Rattle.gst_caps.proofs.Sound.{each_right, each_short_value, Rises-merged, merged_right}
-use Rattle.gst_caps.proofs.FieldLaws.{and_right}
+use Rattle.gst_caps.proofs.Sound.{each_right, each_short_value}
+use Rattle.gst_caps.proofs.FieldLaws.{meets_law}
 use Rattle.gst_caps.proofs.Overlap.{takes_fixed, fixed_right, met_fixed}
 use Rattle.gst_caps.specs.Accepts.{takes, structures_meet, merged, met, meet, all_meets, fixed, first_structure}
 use Rattle.gst_caps.specs.Common.{members}
@@ -19,7 +18,6 @@ use Rattle.gst_caps.specs.Description.{Description, IsStructure, IsFixed}
 use Rattle.gst_caps.specs.Merge.{IsShort, fixed_field}
 use Rattle.gst_caps.specs.Names.{Each}
 use Rattle.gst_caps.specs.Passes.{fields_pass, structures_pass}
-use Rattle.gst_caps.specs.Values.{IsValue}
 use Rattle.gst_caps.specs.declared.value.One.{One}
 use Rattle.gst_caps.specs.declared.value.Value.{Value}
 
@@ -117,3 +115,40 @@ pub structures_within : (ss : List (Description Value)) → Each IsStructure ss 
 structures_within ss p few =
     let t : ltb 64 (length ss) ≡ false = grind (arith, nat_tests) in
     ap (λ b. b || list_any (λ s. fields_pass s.fields) ss) t ∙ any_within ss p
+
+pub structure_fixed : (s : Description Value) → IsStructure s → IsFixed (fixed s)
+structure_fixed s p = fixed_right s p.ordered (each_right s.fields p.values) (let few = p.few in omega (arith, few))
+
+-- ---- all meets
+
+meets_split : (ss ts : List (Description Value)) (i : ℕ) (s : Description Value) → i < length ss → s ≡ get_or ss i s → all_meets ss ts ≡ all_meets (take i ss) ts ++ (filter_map (meet s) ts ++ all_meets (drop (i + 1) ss) ts)
+meets_split ss ts i s h e =
+    ap (λ xs. all_meets xs ts) (sym (take-append-drop i ss)) ∙ flat_map-append (λ s. filter_map (meet s) ts) (take i ss) (drop i ss)
+    ∙ ap (λ xs. all_meets (take i ss) ts ++ all_meets xs ts) (drop_more ss i s h ∙ ap (λ u. u ∷ drop (i + 1) ss) (sym e))
+
+pub rows_over : (ss ts made : List (Description Value)) (i : ℕ) (s : Description Value) → i < length ss → s ≡ get_or ss i s → made ≡ all_meets (take i ss) ts → structures_pass (made ++ filter_map (meet s) ts) ≡ true → structures_pass (all_meets ss ts) ≡ true
+rows_over ss ts made i s h e m q =
+    ap structures_pass (meets_split ss ts i s h e ∙ sym (append_assoc (all_meets (take i ss) ts) (filter_map (meet s) ts) (all_meets (drop (i + 1) ss) ts)))
+    ∙ passes-append (all_meets (take i ss) ts ++ filter_map (meet s) ts) (all_meets (drop (i + 1) ss) ts) (ap (λ xs. structures_pass (xs ++ filter_map (meet s) ts)) (sym m) ∙ q)
+
+front_first : (xs ys : List (Description Value)) (x : Description One) → Some x ≡ option_map fixed (first_structure xs) → Some x ≡ option_map fixed (first_structure (xs ++ ys))
+front_first [] ys x e = absurd (cc)
+front_first (s ∷ xs) ys x e = e
+
+pub rows_found : (ss ts : List (Description Value)) (i : ℕ) (s : Description Value) (x : Description One) → i < length ss → s ≡ get_or ss i s → all_meets (take i ss) ts ≡ [] → Some x ≡ option_map fixed (first_structure (filter_map (meet s) ts)) → Some x ≡ option_map fixed (first_structure (all_meets ss ts))
+rows_found ss ts i s x h e n q =
+    front_first (filter_map (meet s) ts) (all_meets (drop (i + 1) ss) ts) x q
+    ∙ ap (λ xs. option_map fixed (first_structure xs)) (sym (meets_split ss ts i s h e ∙ ap (λ xs. xs ++ (filter_map (meet s) ts ++ all_meets (drop (i + 1) ss) ts)) n))
+
+pub members_law : (ss ts : List (Description Value)) (i : ℕ) → length ss ≤ i → Each IsStructure (take i ss) → (0 < i → Each IsStructure ts) → (x : Description One) → list_any (λ u. takes u x) (all_meets ss ts) ≡ (list_any (λ u. takes u x) ss && list_any (λ u. takes u x) ts)
+members_law [] ts i h p q x = refl
+members_law (s ∷ ss) ts i h p q x =
+    let P : List (Description Value) → Type 0 = λ us. Each IsStructure us in
+    meets_law x (s ∷ ss) ts (subst P (take_all i (s ∷ ss) h) p) (q (omega arith))
+
+-- the first structure takes what it is fixed to
+pub first_taken : (ss : List (Description Value)) (s : Description Value) → Some s ≡ slice_get ss 0 → IsStructure s → (x : Description One) × IsFixed x × (list_any (λ u. takes u x) ss ≡ true)
+first_taken [] s e p = absurd (cc)
+first_taken (u ∷ us) s e p =
+    let same : s ≡ u = cc in
+    (fixed s, structure_fixed s p, or_left (takes u (fixed s)) (list_any (λ u. takes u (fixed s)) us) (ap (λ u. takes u (fixed s)) (sym same) ∙ takes_itself s p))

@@ -1,23 +1,19 @@
 -- Steps of merging two lists of fields in the order of their names, and their limit.
-use Rattle.std.proofs.Common.{◌≡◌, ℕ, zero, suc, ◌+◌, ◌-◌, ◌<◌, ◌≤◌, Bool, true, false, cond, ◌&&◌, ◌||◌, List, [], ◌∷◌, ◌++◌, Option, Some, None, length, get_or, take, drop, refl, sym, ap, ◌∙◌, subst, arith, ltb, ◌⊎◌, inl, inr, append_assoc, length-append}
-use Rattle.std.specs.List.{filter, list_any}
-use Rattle.std.specs.Option.{option_map_or}
-use Rattle.std.specs.Ordering.{is_eq, is_lt, nat_cmp}
-use Rattle.std.specs.declared.cmp.Ordering.{Ordering}
+use Rattle.std.proofs.Common.{◌≡◌, ℕ, ◌+◌, ◌-◌, ◌<◌, ◌≤◌, Bool, true, false, ◌||◌, List, [], ◌∷◌, ◌++◌, length, get_or, take, drop, refl, sym, ap, ◌∙◌, subst, arith, ltb, ◌⊎◌, inl, inr, append_assoc, length-append}
+use Rattle.std.specs.List.{list_any}
+use Rattle.std.specs.Ordering.{is_lt}
 use Rattle.std.specs.declared.cmp.Ordering.TheVariants.{Less, Equal, Greater}
-use Rattle.std.specs.Str.{bytes_eq}
 use Rattle.std.proofs.lemmas.Bool.Decides.{nat_tests}
-use Rattle.std.proofs.lemmas.Cmp.{nat_list_cmp_total}
 use Rattle.std.proofs.lemmas.List.{append-nil, drop_all, take_rest}
 use borrow.Author.Tests.{ltb-true}
 use Rattle.std.proofs.lemmas.Map.Lookups.{exact_bytes}
-use Rattle.gst_caps.proofs.Put.{cmp, less_trans_each, not_before, filter-all_behind, filter-none_before, same_not_before}
+use Rattle.gst_caps.proofs.Put.{cmp, less_trans_each, not_before, filter-all_behind, filter-none_before}
 use Rattle.gst_caps.proofs.Steps.{front, rises_front, greater_less, value_at_behind, value_at_same, value_at_skip}
-use Rattle.gst_caps.specs.Accepts.{value_at, merged, narrowed}
+use Rattle.gst_caps.specs.Accepts.{merged}
 use Rattle.gst_caps.specs.Passes.{fields_pass}
 use Rattle.gst_caps.specs.Common.{as_value, common, members}
-use Rattle.gst_caps.specs.Merge.{IsShort, merged_from}
-use Rattle.gst_caps.specs.Names.{Each, Rises, is_before}
+use Rattle.gst_caps.specs.Merge.{merged_from}
+use Rattle.gst_caps.specs.Names.{Each, Rises}
 use Rattle.gst_caps.specs.declared.value.One.{One}
 use Rattle.gst_caps.specs.declared.value.Value.{Value}
 

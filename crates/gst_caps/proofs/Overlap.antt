@@ -1,29 +1,24 @@
 -- Two caps meet where some fixed caps are in both.
-use Rattle.std.proofs.Common.{◌≡◌, ◌≢◌, ℕ, zero, suc, ◌+◌, ◌<◌, ◌≤◌, ◌^◌, ◌↔◌, ℤ, Bool, true, false, not, cond, ◌&&◌, ◌||◌, List, [], ◌∷◌, ◌++◌, Option, Some, None, is_some, length, map, get_or, take, refl, sym, ap, ◌∙◌, subst, arith, ltb, length-append}
-use Rattle.std.specs.List.{filter, filter_map, flat_map, list_any, list_all}
+use Rattle.std.proofs.Common.{◌≡◌, ℕ, zero, suc, ◌+◌, ◌<◌, ◌≤◌, ◌^◌, ℤ, Bool, true, false, cond, ◌&&◌, ◌||◌, List, [], ◌∷◌, ◌++◌, Some, None, length, map, get_or, take, refl, sym, ap, ◌∙◌, arith, length-append}
+use Rattle.std.specs.List.{filter, list_any}
 use Rattle.std.specs.Option.{option_map_or}
 use Rattle.std.specs.Str.{bytes_eq}
-use Rattle.std.specs.Ordering.{is_lt}
-use Rattle.std.specs.declared.cmp.Ordering.TheVariants.{Less, Equal, Greater}
-use Rattle.std.proofs.lemmas.Bool.Decides.{Decides-int_eq, nat_tests}
+use Rattle.std.specs.declared.cmp.Ordering.TheVariants.{Less}
 use Rattle.std.proofs.lemmas.Cmp.{nat_list_cmp_total, tied_itself}
 use Rattle.std.proofs.lemmas.Int.{ints}
 use Rattle.std.proofs.lemmas.List.{length-map, take_more}
 use Rattle.std.proofs.lemmas.Slice.Eq.{bytes_eq-Decides}
 use mathlib.Core.Bool.{true≢false}
-use Rattle.gst_caps.proofs.Lists.{Each-map}
 use Rattle.gst_caps.proofs.Put.{cmp, less_from_is_lt, not_before}
 use Rattle.gst_caps.proofs.Steps.{each_at_both}
-use Rattle.gst_caps.proofs.Laws.{any_some, any-append, same_itself}
-use Rattle.gst_caps.proofs.Sound.{IsRight, AreRight, IsOf, each_right, merged_right, Rises-merged}
-use Rattle.gst_caps.proofs.FieldLaws.{AreStructures, pair_law, meets_law, and_left, and_right, and_true}
-use Rattle.gst_caps.specs.Accepts.{value_at, each_at, contains_given, takes, accepts, agrees, structures_meet, narrowed, merged, met, meet, all_meets, overlap, fixed}
+use Rattle.gst_caps.proofs.Laws.{any-append, same_itself}
+use Rattle.gst_caps.proofs.Sound.{IsRight, AreRight, each_right, merged_right, Rises-merged}
+use Rattle.gst_caps.proofs.FieldLaws.{pair_law, and_right, and_true}
+use Rattle.gst_caps.specs.Accepts.{value_at, each_at, contains_given, takes, structures_meet, narrowed, merged, met, fixed}
 use Rattle.gst_caps.specs.Common.{members, holds, contains, least_of, first_least, least}
 use Rattle.gst_caps.specs.Description.{Description, IsStructure, IsFixed}
 use Rattle.gst_caps.specs.Names.{Each, Rises, is_before}
-use Rattle.gst_caps.specs.Values.{IsOne, IsSingle, IsLowest}
-use Rattle.gst_caps.specs.declared.caps.Caps.{Caps}
-use Rattle.gst_caps.specs.declared.caps.Caps.TheVariants.{Any, Of}
+use Rattle.gst_caps.specs.Values.{IsOne, IsSingle}
 use Rattle.gst_caps.specs.declared.value.One.{One}
 use Rattle.gst_caps.specs.declared.value.One.TheVariants.{Int, Bool as Truth, Text as Words, Fraction, IntRange}
 use Rattle.gst_caps.specs.declared.value.Value.{Value}

@@ -1,27 +1,24 @@
 -- The meet of two structures is a structure.
-use Rattle.std.proofs.Common.{◌≡◌, ◌≢◌, ℕ, zero, suc, ◌<◌, ◌≤◌, ℤ, Bool, true, false, not, cond, ◌&&◌, ◌||◌, List, [], ◌∷◌, ◌++◌, Option, Some, None, is_some, int_lt, length, refl, sym, ap, ◌∙◌, subst, arith, ltb, ◌≤ℤ◌, length-append}
+use Rattle.std.proofs.Common.{◌≡◌, ℕ, ◌<◌, ◌≤◌, ℤ, Bool, true, false, not, cond, ◌&&◌, ◌||◌, List, [], ◌∷◌, ◌++◌, Option, Some, None, is_some, int_lt, length, refl, sym, ap, ◌∙◌, subst, arith, ltb, ◌≤ℤ◌, length-append}
 use Rattle.std.specs.Int.{int_max, int_min}
-use Rattle.std.specs.List.{filter, filter_map, flat_map, cons_option, list_any, list_all}
-use Rattle.std.specs.Option.{option_map_or}
+use Rattle.std.specs.List.{filter, filter_map, cons_option, list_any}
 use Rattle.std.specs.Ordering.{is_lt}
 use Rattle.std.specs.Str.{bytes_eq}
 use Rattle.std.specs.declared.cmp.Ordering.TheVariants.{Less}
-use Rattle.std.proofs.lemmas.Bool.Decides.{nat_tests}
 use Rattle.std.proofs.lemmas.Int.{ints}
 use Rattle.std.proofs.lemmas.Slice.Eq.{bytes_eq-Decides}
 use borrow.Author.Tests.{ltb-false}
 use mathlib.Core.Bool.{true≢false}
 use Rattle.gst_caps.proofs.Lists.{Each-append, Each-filter, Each-filtered, Each-map}
-use Rattle.gst_caps.proofs.Put.{cmp, less_from_is_lt, not_before, Rises-join, Rises-filter}
-use Rattle.gst_caps.proofs.Steps.{behind_differs}
+use Rattle.gst_caps.proofs.Put.{cmp, less_from_is_lt, Rises-join, Rises-filter}
 use Rattle.gst_caps.proofs.Merging.{members-as_value}
 use Rattle.gst_caps.specs.Accepts.{value_at, each_at, agrees, narrowed, merged, structures_meet}
 use Rattle.gst_caps.specs.Passes.{fields_pass}
-use Rattle.gst_caps.specs.Common.{members, same, ends, span, common_of, common_one, distinct, commons, common, as_value, have_common}
+use Rattle.gst_caps.specs.Common.{members, same, ends, common_of, common_one, distinct, commons, common, as_value, have_common}
 use Rattle.gst_caps.specs.Description.{Description, IsStructure}
 use Rattle.gst_caps.specs.Merge.{IsShort}
 use Rattle.gst_caps.specs.Names.{Each, Rises, is_before}
-use Rattle.gst_caps.specs.Values.{Kind, kind_of, whole, IsOne, IsOfOneKind, AreMembers, IsValue}
+use Rattle.gst_caps.specs.Values.{Kind, kind_of, whole, IsOne, IsValue}
 use Rattle.gst_caps.specs.declared.value.One.{One}
 use Rattle.gst_caps.specs.declared.value.One.TheVariants.{Int, Bool as Truth, Text as Words, Fraction, IntRange}
 use Rattle.gst_caps.specs.declared.value.Value.{Value}
@@ -138,10 +135,10 @@ pub value_from_right : (v : Value) → IsRight v → IsShort v → IsValue v
 value_from_right (Single x) p s = p.0.0
 value_from_right (Many []) p s = absurd p
 value_from_right (Many (x ∷ xs)) p s = record {
-    each = (p.0.0, Each-map (IsOf (kind_of x)) IsOne (λ y q. q.0) xs p.1);
-    one_kind = Each-map (IsOf (kind_of x)) (λ y. kind_of y ≡ kind_of x) (λ y q. q.1) xs p.1;
-    few = s;
-  }
+  each = (p.0.0, Each-map (IsOf (kind_of x)) IsOne (λ y q. q.0) xs p.1);
+  one_kind = Each-map (IsOf (kind_of x)) (λ y. kind_of y ≡ kind_of x) (λ y q. q.1) xs p.1;
+  few = s;
+}
 
 -- ---- merged fields
 

@@ -1,20 +1,15 @@
 -- One step of a walk over two lists of fields in the order of their names.
-use Rattle.std.proofs.Common.{◌≡◌, ◌≢◌, ℕ, zero, suc, ◌+◌, ◌<◌, ◌≤◌, Bool, true, false, not, cond, ◌&&◌, List, [], ◌∷◌, ◌++◌, Option, Some, None, length, get_or, take, drop, refl, sym, ap, ◌∙◌, subst, arith}
-use Rattle.std.specs.Cmp.Lexicographic.{slice_cmp}
-use Rattle.std.specs.List.{filter, list_all}
-use Rattle.std.specs.Ordering.{is_eq, is_lt, nat_cmp, ordering_reverse}
-use Rattle.std.specs.declared.cmp.Ordering.{Ordering}
+use Rattle.std.proofs.Common.{◌≡◌, ℕ, zero, suc, ◌+◌, ◌<◌, ◌≤◌, Bool, true, false, ◌&&◌, List, [], ◌∷◌, Option, Some, None, length, get_or, drop, refl, sym, ap, ◌∙◌, subst, arith}
+use Rattle.std.specs.Ordering.{is_eq, ordering_reverse}
 use Rattle.std.specs.declared.cmp.Ordering.TheVariants.{Less, Equal, Greater}
 use Rattle.std.specs.Str.{bytes_eq}
 use Rattle.std.proofs.lemmas.Cmp.{nat_list_cmp_total}
 use Rattle.std.proofs.lemmas.List.{drop_more, drop_all}
 use Rattle.std.proofs.lemmas.Map.Lookups.{exact_bytes}
 use Rattle.std.proofs.lemmas.Map.Text.{is_eq-slice_cmp}
-use Rattle.gst_caps.proofs.Put.{cmp, less_trans_each, not_before, filter-all_behind, filter-none_before}
-use Rattle.gst_caps.specs.Accepts.{value_at, each_at, merged, narrowed}
-use Rattle.gst_caps.specs.Common.{as_value, common}
-use Rattle.gst_caps.specs.Names.{Each, Rises, is_before}
-use Rattle.gst_caps.specs.declared.value.Value.{Value}
+use Rattle.gst_caps.proofs.Put.{cmp, less_trans_each}
+use Rattle.gst_caps.specs.Accepts.{value_at, each_at}
+use Rattle.gst_caps.specs.Names.{Each, Rises}
 
 -- ---- names
 

@@ -1,9 +1,9 @@
 -- Which fixed caps caps stand for, and the intersection of caps.
-use Rattle.std.specs.Prelude.{ℕ, ◌-◌, Bool, true, false, cond, not, ◌&&◌, ◌||◌, List, [], ◌∷◌, ◌++◌, Option, Some, None, length, map, nat_lt}
+use Rattle.std.specs.Prelude.{ℕ, Bool, true, false, cond, ◌&&◌, List, [], ◌∷◌, ◌++◌, Option, Some, None, length, map, nat_lt}
 use Rattle.std.specs.List.{filter, filter_map, flat_map, list_all, list_any}
 use Rattle.std.specs.Option.{option_map, option_map_or}
 use Rattle.std.specs.Str.{bytes_eq}
-use Rattle.gst_caps.specs.Common.{as_value, common, contains, have_common, least, members}
+use Rattle.gst_caps.specs.Common.{as_value, common, contains, have_common, least}
 use Rattle.gst_caps.specs.Description.{Description}
 use Rattle.gst_caps.specs.Names.{is_before}
 use Rattle.gst_caps.specs.Passes.{structures_pass}

@@ -1,5 +1,5 @@
 -- What values hold, and what two values have in common.
-use Rattle.std.specs.Prelude.{Bool, true, false, cond, not, ◌&&◌, ℤ, pos, List, [], ◌∷◌, Option, Some, None, is_some, int_lt, int_le}
+use Rattle.std.specs.Prelude.{Bool, false, cond, not, ◌&&◌, ℤ, pos, List, [], ◌∷◌, Option, Some, None, is_some, int_lt, int_le}
 use Rattle.std.specs.Bool.{beq}
 use Rattle.std.specs.Int.{int_max, int_min}
 use Rattle.std.specs.List.{filter, filter_map, flat_map, list_any}

@@ -1,5 +1,5 @@
 -- Fractions in lowest terms.
-use Rattle.std.specs.Prelude.{◌≡◌, ◌/◌, ◌-ℤ◌, ℤ, pos, Bool, not, ℕ, if◌then◌else◌, unsigned_abs, ◌⊎◌, Option, Some, None, FitsSigned}
+use Rattle.std.specs.Prelude.{◌≡◌, ◌/◌, ◌-ℤ◌, ℤ, pos, Bool, not, ℕ, if◌then◌else◌, unsigned_abs, FitsSigned}
 use Rattle.std.specs.Bool.{beq}
 use Rattle.std.specs.Int.{IsGcd, is_negative, w32}
 

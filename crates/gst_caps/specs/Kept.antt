@@ -1,5 +1,5 @@
 -- A list to which members are put one by one, equal ones once.
-use Rattle.std.specs.Prelude.{Bool, cond, List, [], ◌∷◌, ◌++◌}
+use Rattle.std.specs.Prelude.{cond, List, [], ◌∷◌, ◌++◌}
 use Rattle.std.specs.List.{list_any}
 use Rattle.gst_caps.specs.Common.{same}
 use Rattle.gst_caps.specs.declared.value.One.{One}

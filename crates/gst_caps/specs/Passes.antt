@@ -11,4 +11,3 @@ fields_pass fs = nat_lt 64 (length fs) || list_any (λ f. nat_lt 64 (length (mem
 
 abbrev pub structures_pass : List (Description Value) → Bool
 structures_pass ss = nat_lt 64 (length ss) || list_any (λ s. fields_pass s.fields) ss
-

@@ -114,7 +114,10 @@ fn fix_rest(
 }
 
 /// The fixation of fields.
-pub fn fixed_fields(alloc: Global, fields: &[(Text, Value)]) -> Result<Vec<(Text, One)>, OutOfMemory>
+pub fn fixed_fields(
+    alloc: Global,
+    fields: &[(Text, Value)],
+) -> Result<Vec<(Text, One)>, OutOfMemory>
     ensures { IfOk result (λ made. made.items ≡ map fixed_field fields.now) }
 {
     let mut made = Vec::new(alloc);

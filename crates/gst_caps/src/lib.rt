@@ -2,22 +2,22 @@
 #![tactic(auto)]
 
 pub mod caps;
-pub mod fault;
 mod common;
+pub mod fault;
 mod field;
 mod fixate;
 pub mod fixed;
 pub mod list;
 pub mod memory;
+mod merge;
 pub mod name;
 pub mod ratio;
 pub mod structure;
 pub mod text;
 pub mod value;
 mod walk;
-mod merge;
 
-pub use caps::Caps;
+pub use caps::{Caps, choose};
 pub use fault::CapsFault;
 pub use fixed::Fixed;
 pub use list::List;

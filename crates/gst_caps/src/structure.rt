@@ -2,20 +2,17 @@
 ghost use Rattle.std.specs.Prelude.{◌≡◌, ◌<◌, ◌&&◌, ◌++◌, true, false, [], length, IfOk, IfErr, OnOk, OnErr, IsTrue, IsFalse, slice_get};
 ghost use Rattle.std.specs.List.{filter_map, list_any};
 ghost use Rattle.std.specs.Option.{option_map, option_map_or, option_to_list};
-
 ghost use Rattle.gst_caps.specs.Limit.{TooManyWhere};
 ghost use Rattle.gst_caps.specs.Passes.{fields_pass, structures_pass};
 
 use crate::fault::CapsFault;
 use crate::field::{self, LIMIT};
-use crate::fixate;
 use crate::fixed::Fixed;
 use crate::list::List;
-use crate::merge;
 use crate::memory::OutOfMemory;
 use crate::text::Text;
 use crate::value::Value;
-use crate::walk;
+use crate::{fixate, merge, walk};
 use std::alloc::Global;
 use std::marker::Model;
 
@@ -118,7 +115,11 @@ impl Structure {
     }
 
     /// The fields of both and their common values, where the two meet.
-    pub(crate) fn meet(&self, alloc: Global, other: &Structure) -> Result<Option<Structure>, CapsFault>
+    pub(crate) fn meet(
+        &self,
+        alloc: Global,
+        other: &Structure,
+    ) -> Result<Option<Structure>, CapsFault>
         ensures ok { IfOk result (λ made. made ≡ meet self.now other.now) }
         ensures too_many { TooManyWhere result (option_map_or (λ s. fields_pass s.fields) (meet self.now other.now) false ≡ true) }
         ensures well_formed { IsStructure other.now }
@@ -188,7 +189,11 @@ impl Structure {
     }
 
     /// The fixation of the first meet with one of the others.
-    pub(crate) fn first_meet(&self, alloc: Global, others: &[Structure]) -> Result<Option<Fixed>, OutOfMemory>
+    pub(crate) fn first_meet(
+        &self,
+        alloc: Global,
+        others: &[Structure],
+    ) -> Result<Option<Fixed>, OutOfMemory>
         ensures { IfOk result (λ made. made ≡ option_map fixed (first_structure (filter_map (meet self.now) others.now))) }
     {
         for other in others {

@@ -180,7 +180,9 @@ impl Value {
         ensures { result ≡ have_common self.now other.now }
     {
         let wanted = other.members();
-        self.members().iter().any(|member| meets_one(member, wanted))
+        self.members()
+            .iter()
+            .any(|member| meets_one(member, wanted))
     }
 
     /// The same value once more.

@@ -1,5 +1,4 @@
-use Rattle.std.proofs.Common.{◌<◌, ◌≡◌, length, arith, ap, ◌∙◌}
-use Rattle.gst_caps.specs.Common.{commons, distinct, members}
+use Rattle.std.proofs.Common.{length, arith, ap}
 use Rattle.gst_caps.proofs.Kept.{commons_step, commons_over, commons_all}
 use Rattle.gst_caps.proofs.Limit.{over_from}
 use Rattle.gst_caps.proofs.common.common_members.Goals as goal

@@ -1,4 +1,4 @@
-use Rattle.std.proofs.Common.{◌≡◌, sym, ◌∙◌}
+use Rattle.std.proofs.Common.{sym, ◌∙◌}
 use Rattle.gst_caps.proofs.Fixing.{fix_step, least_common_is}
 use Rattle.gst_caps.proofs.Merging.{from_first, from_second, from_both}
 use Rattle.gst_caps.proofs.fixate.fix_next.Goals as goal

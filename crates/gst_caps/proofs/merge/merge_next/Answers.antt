@@ -1,5 +1,4 @@
-use Rattle.std.proofs.Common.{◌≡◌, ◌<◌, ◌++◌, ◌∷◌, ◌+◌, ℕ, true, length, IfErr, sym, ap, ◌∙◌, refl}
-use Rattle.gst_caps.specs.Common.{as_value, common}
+use Rattle.std.proofs.Common.{◌∷◌, ◌+◌, sym, ap, ◌∙◌}
 use Rattle.gst_caps.specs.Merge.{merged_from}
 use Rattle.gst_caps.proofs.Limit.{err_from}
 use Rattle.gst_caps.proofs.Merging.{add_step, over_members_of, from_first, from_second, from_both}

@@ -1,5 +1,4 @@
-use Rattle.std.proofs.Common.{◌≡◌, ◌++◌, ◌≤◌, ◌-◌, ◌⊎◌, inl, inr, take, drop, length, sym, ap, ◌∙◌, true, false, refl, subst, List, ℕ}
-use Rattle.gst_caps.specs.Accepts.{merged}
+use Rattle.std.proofs.Common.{◌++◌, ◌≤◌, ◌-◌, ◌⊎◌, inl, inr, take, drop, length, sym, ap, ◌∙◌, refl}
 use Rattle.gst_caps.specs.Passes.{fields_pass}
 use Rattle.gst_caps.proofs.Limit.{over_from}
 use Rattle.gst_caps.proofs.Merging.{merged_end, pass-append}

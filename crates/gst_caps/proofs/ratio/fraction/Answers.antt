@@ -1,4 +1,4 @@
-use Rattle.std.proofs.Common.{◌<◌, ℕ, ◌⊎◌, inl, IfNone, arith, w32, FitsSigned}
+use Rattle.std.proofs.Common.{inl, arith, w32, FitsSigned}
 use Rattle.std.proofs.lemmas.Int.{to_z-of_z}
 use Rattle.gst_caps.proofs.Fractions.{no_size, some_divisor, when_some, when_lowest, when_none}
 use Rattle.gst_caps.proofs.ratio.fraction.Goals as goal

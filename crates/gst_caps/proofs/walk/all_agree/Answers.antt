@@ -1,6 +1,6 @@
-use Rattle.std.proofs.Common.{◌≡◌, ◌≤◌, ◌+◌, ◌&&◌, true, false, length, refl, sym, ap, ◌∙◌, arith}
-use Rattle.gst_caps.specs.Accepts.{agrees, each_at}
-use Rattle.gst_caps.proofs.Steps.{walk_first, walk_second, walk_both, walk_rest, walk_over, passed, failed}
+use Rattle.std.proofs.Common.{refl, sym, ◌∙◌, arith}
+use Rattle.gst_caps.specs.Accepts.{agrees}
+use Rattle.gst_caps.proofs.Steps.{walk_first, walk_second, walk_both, walk_rest, passed, failed}
 use Rattle.gst_caps.proofs.walk.all_agree.Goals as goal
 
 pub loop-field-preserved-in-Less : goal.loop-field-preserved-in-Less

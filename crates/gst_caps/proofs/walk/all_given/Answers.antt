@@ -1,6 +1,6 @@
-use Rattle.std.proofs.Common.{◌≡◌, ◌≤◌, ◌+◌, ◌&&◌, true, false, length, refl, sym, ap, ◌∙◌, arith}
-use Rattle.gst_caps.specs.Accepts.{contains_given, each_at}
-use Rattle.gst_caps.proofs.Steps.{walk_first, walk_second, walk_both, walk_short, walk_over, passed, failed}
+use Rattle.std.proofs.Common.{refl, sym, ◌∙◌, arith}
+use Rattle.gst_caps.specs.Accepts.{contains_given}
+use Rattle.gst_caps.proofs.Steps.{walk_first, walk_second, walk_both, walk_short, passed, failed}
 use Rattle.gst_caps.proofs.walk.all_given.Goals as goal
 
 pub loop-field-preserved-in-Less : goal.loop-field-preserved-in-Less

@@ -1,4 +1,4 @@
-use Rattle.std.proofs.Common.{◌≡◌, ℕ, sym, ap, ◌∙◌, subst, take}
+use Rattle.std.proofs.Common.{subst}
 use Rattle.gst_caps.specs.Description.{Description, IsStructure}
 use Rattle.gst_caps.specs.declared.value.Value.{Value}
 use Rattle.gst_caps.proofs.Lists.{Each-take_more}
@@ -18,6 +18,8 @@ returns-in_err-add_found-clause-too_many c =
 
 pub loop-other-preserved : goal.loop-other-preserved
 loop-other-preserved c =
-    let P : Description Value → Type 0 = λ s. IsStructure s in
-    (row_step c.args.self.now c.args.others.now c.loop-other.other-index c.other-item.result c.loop-other-test.true c.other-item.is c.args.made.now c.loop-other.made _ c.in_ok-found.found c.loop-other.invariant.0 c.in_ok-found.ensures.ok c.in_ok-add_found.ensures.ok,
-        c.in_ok-add_found.ensures.kept_within, Each-take_more P c.args.others.now c.loop-other.other-index c.other-item.result c.loop-other-test.true c.loop-other.invariant.2 (subst P c.other-item.is c.in_ok-found.ensures.well_formed))
+    let P : Description Value → Type 0 = λ s. IsStructure s in (
+      row_step c.args.self.now c.args.others.now c.loop-other.other-index c.other-item.result c.loop-other-test.true c.other-item.is c.args.made.now c.loop-other.made _ c.in_ok-found.found c.loop-other.invariant.0 c.in_ok-found.ensures.ok c.in_ok-add_found.ensures.ok,
+      c.in_ok-add_found.ensures.kept_within,
+      Each-take_more P c.args.others.now c.loop-other.other-index c.other-item.result c.loop-other-test.true c.loop-other.invariant.2 (subst P c.other-item.is c.in_ok-found.ensures.well_formed),
+    )

@@ -1,4 +1,4 @@
-use Rattle.std.proofs.Common.{◌≡◌, List, ℕ, subst, sym, ◌∙◌}
+use Rattle.std.proofs.Common.{List, ℕ, subst, sym, ◌∙◌}
 use Rattle.gst_caps.specs.Merge.{IsShort}
 use Rattle.gst_caps.specs.Names.{Each}
 use Rattle.gst_caps.specs.declared.value.Value.{Value}

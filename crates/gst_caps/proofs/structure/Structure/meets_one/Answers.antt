@@ -1,4 +1,4 @@
-use Rattle.std.proofs.Common.{◌≡◌, ◌&&◌, true, sym, ap, ◌∙◌}
+use Rattle.std.proofs.Common.{◌&&◌, sym, ap, ◌∙◌}
 use Rattle.std.specs.List.{list_any}
 use Rattle.std.proofs.lemmas.List.{take_all}
 use Rattle.gst_caps.specs.Accepts.{takes, fixed, met}
@@ -17,9 +17,12 @@ loop-other-preserved c = λ x.
 pub returns-then-meets-clause-some : goal.returns-then-meets-clause-some
 returns-then-meets-clause-some c = λ _.
     let meet = sym c.meets.ensures.meet ∙ c.if-meets.true in
-    let taken = met_taken c.args.self.now c.other-item.result c.meets.ensures.well_formed c.meets.ensures.other meet in
-    (fixed (met c.args.self.now c.other-item.result), met_fixed _ _ c.meets.ensures.well_formed c.meets.ensures.other meet, and_left (takes c.args.self.now (fixed (met c.args.self.now c.other-item.result))) _ taken,
-        any_at c.args.others.now _ c.other-item.result _ c.loop-other-test.true c.other-item.is (and_right (takes c.args.self.now (fixed (met c.args.self.now c.other-item.result))) _ taken))
+    let taken = met_taken c.args.self.now c.other-item.result c.meets.ensures.well_formed c.meets.ensures.other meet in (
+      fixed (met c.args.self.now c.other-item.result),
+      met_fixed _ _ c.meets.ensures.well_formed c.meets.ensures.other meet,
+      and_left (takes c.args.self.now (fixed (met c.args.self.now c.other-item.result))) _ taken,
+      any_at c.args.others.now _ c.other-item.result _ c.loop-other-test.true c.other-item.is (and_right (takes c.args.self.now (fixed (met c.args.self.now c.other-item.result))) _ taken),
+    )
 
 pub returns-clause-none : goal.returns-clause-none
 returns-clause-none c = λ _ x.
