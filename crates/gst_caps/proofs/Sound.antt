@@ -80,7 +80,7 @@ abbrev pub AreRight : List One → Type 0
 AreRight [] = ⊥
 AreRight (x ∷ xs) = Each (IsOf (kind_of x)) (x ∷ xs)
 
-kinds_right : (k : Kind) (xs : List One) → 0 < length xs → Each (IsOf k) xs → AreRight xs
+pub kinds_right : (k : Kind) (xs : List One) → 0 < length xs → Each (IsOf k) xs → AreRight xs
 kinds_right k [] h p = absurd (omega arith)
 kinds_right k (x ∷ xs) h p =
     let F : Kind → Type 0 = λ j. Each (IsOf j) (x ∷ xs) in

@@ -27,3 +27,6 @@ pub use ratio::fraction;
 pub use structure::Structure;
 pub use text::Text;
 pub use value::{One, Value};
+
+#[cfg(test)]
+mod tests;
