@@ -1,8 +1,8 @@
 //! A table of intersections, and the edges of fractions and of the limit.
-ghost use Rattle.std.specs.Prelude.{◌≡◌, ◌≤◌, IfOk, IsTrue};
-ghost use Rattle.gst_caps.specs.Values.{IsOne, IsSingle, IsValue, kind_of};
+ghost use Rattle.std.specs.Prelude.{◌≡◌, IfOk, IsTrue};
+ghost use Rattle.gst_caps.specs.Values.{IsOne, IsValue, kind_of};
 
-use crate::caps::{choose, Caps};
+use crate::caps::{Caps, choose};
 use crate::fault::CapsFault;
 use crate::fixed::Fixed;
 use crate::list::List;
@@ -15,40 +15,41 @@ use std::fmt::Write;
 use std::process::Abort;
 use std::test::Fail;
 
-#[derive(Clone, Copy)]
-enum Sample {
-    Int(i32),
-    Range(i32, i32),
-    Word(&'static str),
-    Truth(bool),
-    Ratio(i32, i32),
-}
-
-use Sample::{Int, Range, Ratio, Truth, Word};
-
-type Fields = &'static [(&'static str, &'static [Sample])];
-type Listed = &'static [(&'static str, Fields)];
-
-#[derive(Clone, Copy)]
-enum Side {
-    Any,
-    Of(Listed),
-}
-
-fn one_of(alloc: Global, sample: Sample) -> Result<One, CapsFault>
+/// A member: `a..b`, `a/b`, a boolean, a number or a word.
+fn one_of(alloc: Global, text: &str) -> Result<One, CapsFault>
     ensures { IfOk result IsOne }
 {
-    Ok(match sample {
-        Sample::Int(number) => One::Int(number),
-        Sample::Range(low, high) if low <= high => One::IntRange(low, high),
-        Sample::Range(low, _) => One::Int(low),
-        Sample::Word(text) => One::Text(Text::from_str(alloc, text)?),
-        Sample::Truth(truth) => One::Bool(truth),
-        Sample::Ratio(num, den) => ratio_or_zero(num, den),
-    })
+    if let Some((low, high)) = text.split_once("..") {
+        return Ok(range_of(number_of(low), number_of(high)));
+    }
+    if let Some((num, den)) = text.split_once('/') {
+        return Ok(ratio_of(number_of(num), number_of(den)));
+    }
+    match text {
+        "true" => Ok(One::Bool(true)),
+        "false" => Ok(One::Bool(false)),
+        _ => match text.parse() {
+            Ok(number) => Ok(One::Int(number)),
+            Err(_) => Ok(One::Text(Text::from_str(alloc, text)?)),
+        },
+    }
 }
 
-fn ratio_or_zero(num: i32, den: i32) -> One
+fn number_of(text: &str) -> i32 {
+    text.parse().unwrap_or(0)
+}
+
+fn range_of(low: i32, high: i32) -> One
+    ensures { IsOne result }
+{
+    if low <= high {
+        One::IntRange(low, high)
+    } else {
+        One::Int(low)
+    }
+}
+
+fn ratio_of(num: i32, den: i32) -> One
     ensures { IsOne result }
 {
     match fraction(num, den) {
@@ -70,21 +71,17 @@ fn are_alike(one: &One, other: &One) -> bool
 }
 
 /// The members of the type of the first, at most 64.
-fn value_of(alloc: Global, samples: &[Sample]) -> Result<Value, CapsFault>
+fn value_of(alloc: Global, text: &str) -> Result<Value, CapsFault>
     ensures { IfOk result IsValue }
 {
-    let [first, rest @ ..] = samples else {
-        return Ok(Value::One(One::Int(0)));
+    let Some((first, rest)) = text.split_once('|') else {
+        return Ok(Value::One(one_of(alloc, text)?));
     };
-    let head = one_of(alloc, *first)?;
-    if rest.is_empty() {
-        return Ok(Value::One(head));
-    }
-    let kind = head.copy(alloc)?;
+    let kind = one_of(alloc, first)?;
     let mut members = Vec::new(alloc);
-    members.push(head)?;
-    for sample in rest {
-        let one = one_of(alloc, *sample)?;
+    members.push(kind.copy(alloc)?)?;
+    for sample in rest.split('|') {
+        let one = one_of(alloc, sample)?;
         if members.len() < 64 && are_alike(&kind, &one) {
             members.push(one)?;
         }
@@ -92,21 +89,26 @@ fn value_of(alloc: Global, samples: &[Sample]) -> Result<Value, CapsFault>
     Ok(Value::Many(List::from_vec(members)))
 }
 
-fn structure_of(alloc: Global, media: &str, fields: Fields) -> Result<Structure, CapsFault> {
+fn structure_of(alloc: Global, text: &str) -> Result<Structure, CapsFault> {
+    let (media, fields) = text.split_once(", ").unwrap_or((text, ""));
     let mut made = Structure::new(alloc, media)?;
-    for (name, samples) in fields {
-        made.set(alloc, name, value_of(alloc, samples)?)?;
+    for field in fields.split(", ") {
+        if let Some((name, value)) = field.split_once('=') {
+            made.set(alloc, name, value_of(alloc, value)?)?;
+        }
     }
     Ok(made)
 }
 
-fn caps_of(alloc: Global, side: Side) -> Result<Caps, CapsFault> {
-    let Side::Of(listed) = side else {
+fn caps_of(alloc: Global, text: &str) -> Result<Caps, CapsFault> {
+    if text == "ANY" {
         return Ok(Caps::Any);
-    };
+    }
     let mut made = List::new(alloc);
-    for (media, fields) in listed {
-        made.push(alloc, structure_of(alloc, media, fields)?)?;
+    if text != "EMPTY" {
+        for structure in text.split("; ") {
+            made.push(alloc, structure_of(alloc, structure)?)?;
+        }
     }
     Ok(Caps::Of(made))
 }
@@ -185,36 +187,33 @@ fn describe_fixed(alloc: Global, fixed: &Option<Fixed>) -> Result<String, Fail> 
     Ok(text)
 }
 
-const RAW: &str = "audio/x-raw";
-const RATES: Listed = &[(RAW, &[("rate", &[Range(8000, 48000)]), ("format", &[Word("S16LE"), Word("U8")])])];
-const MULAW: Listed = &[("audio/x-mulaw", &[("rate", &[Range(8000, 48000)])])];
-const TWO_RATES: Listed = &[(RAW, &[("rate", &[Int(1)])]), (RAW, &[("rate", &[Int(2)])])];
-const TWO_CHANNELS: Listed = &[(RAW, &[("channels", &[Int(1)])]), (RAW, &[("channels", &[Int(2)])])];
-
-static ROWS: [(Side, Side, &str, &str); 22] = [
-    (Side::Of(RATES), Side::Of(&[(RAW, &[("rate", &[Int(44100), Int(96000)])])]), "audio/x-raw, format={S16LE,U8}, rate=44100", "audio/x-raw, format=S16LE, rate=44100"),
-    (Side::Of(RATES), Side::Of(MULAW), "EMPTY", "none"),
-    (Side::Any, Side::Any, "ANY", "none"),
-    (Side::Any, Side::Of(TWO_RATES), "audio/x-raw, rate=1; audio/x-raw, rate=2", "audio/x-raw, rate=1"),
-    (Side::Of(RATES), Side::Any, "audio/x-raw, format={S16LE,U8}, rate=[8000,48000]", "audio/x-raw, format=S16LE, rate=8000"),
-    (Side::Of(&[]), Side::Any, "EMPTY", "none"),
-    (Side::Of(&[(RAW, &[("n", &[Range(1, 10)])])]), Side::Of(&[(RAW, &[("n", &[Range(5, 20)])])]), "audio/x-raw, n=[5,10]", "audio/x-raw, n=5"),
-    (Side::Of(&[(RAW, &[("n", &[Range(1, 5)])])]), Side::Of(&[(RAW, &[("n", &[Range(5, 9)])])]), "audio/x-raw, n=5", "audio/x-raw, n=5"),
-    (Side::Of(&[(RAW, &[("n", &[Range(1, 4)])])]), Side::Of(&[(RAW, &[("n", &[Range(5, 9)])])]), "EMPTY", "none"),
-    (Side::Of(&[(RAW, &[("n", &[Range(-5, -1)])])]), Side::Of(&[(RAW, &[("n", &[Range(-3, 7)])])]), "audio/x-raw, n=[-3,-1]", "audio/x-raw, n=-3"),
-    (Side::Of(&[(RAW, &[("n", &[Range(-2147483648, 2147483647)])])]), Side::Of(&[(RAW, &[("n", &[Range(-2147483648, 0)])])]), "audio/x-raw, n=[-2147483648,0]", "audio/x-raw, n=-2147483648"),
-    (Side::Of(&[(RAW, &[("n", &[Int(5)])])]), Side::Of(&[(RAW, &[("n", &[Range(1, 9)])])]), "audio/x-raw, n=5", "audio/x-raw, n=5"),
-    (Side::Of(&[(RAW, &[("n", &[Int(3), Int(1), Int(2)])])]), Side::Of(&[(RAW, &[("n", &[Int(1), Int(2), Int(3)])])]), "audio/x-raw, n={3,1,2}", "audio/x-raw, n=3"),
-    (Side::Of(&[(RAW, &[("n", &[Range(1, 10)])])]), Side::Of(&[(RAW, &[("n", &[Int(9), Int(2), Int(5)])])]), "audio/x-raw, n={9,2,5}", "audio/x-raw, n=9"),
-    (Side::Of(&[(RAW, &[("n", &[Range(1, 10), Range(5, 20)])])]), Side::Of(&[(RAW, &[("n", &[Int(7), Int(8)])])]), "audio/x-raw, n={7,8}", "audio/x-raw, n=7"),
-    (Side::Of(&[(RAW, &[("w", &[Word("a"), Word("b"), Word("c")])])]), Side::Of(&[(RAW, &[("w", &[Word("c"), Word("b")])])]), "audio/x-raw, w={b,c}", "audio/x-raw, w=b"),
-    (Side::Of(&[(RAW, &[("f", &[Ratio(1, 2), Ratio(30, 1)])])]), Side::Of(&[(RAW, &[("f", &[Ratio(60, 2)])])]), "audio/x-raw, f=30/1", "audio/x-raw, f=30/1"),
-    (Side::Of(&[(RAW, &[("b", &[Truth(true)])])]), Side::Of(&[(RAW, &[("b", &[Truth(false), Truth(true)])])]), "audio/x-raw, b=true", "audio/x-raw, b=true"),
-    (Side::Of(&[(RAW, &[("n", &[Int(1)])])]), Side::Of(&[(RAW, &[("n", &[Word("1")])])]), "EMPTY", "none"),
-    (Side::Of(&[(RAW, &[("b", &[Int(1)])])]), Side::Of(&[(RAW, &[("c", &[Int(3)]), ("a", &[Int(2)])])]), "audio/x-raw, a=2, b=1, c=3", "audio/x-raw, a=2, b=1, c=3"),
-    (Side::Of(TWO_RATES), Side::Of(TWO_CHANNELS), "audio/x-raw, channels=1, rate=1; audio/x-raw, channels=2, rate=1; audio/x-raw, channels=1, rate=2; audio/x-raw, channels=2, rate=2", "audio/x-raw, channels=1, rate=1"),
-    (Side::Of(&[(RAW, &[("n", &[Range(5, 5)])])]), Side::Of(&[(RAW, &[("m", &[Int(1)])])]), "audio/x-raw, m=1, n=[5,5]", "audio/x-raw, m=1, n=5"),
-];
+/// Two caps, their intersection, and the fixation of its first structure.
+const TABLE: &str = "\
+a/r, rate=8000..48000, format=S16LE|U8 & a/r, rate=44100|96000 -> a/r, format={S16LE,U8}, rate=44100 -> a/r, format=S16LE, rate=44100
+a/r, rate=8000..48000, format=S16LE|U8 & a/m, rate=8000..48000 -> EMPTY -> none
+ANY & ANY -> ANY -> none
+ANY & a/r, n=1; a/r, n=2 -> a/r, n=1; a/r, n=2 -> a/r, n=1
+a/r, n=8..9, w=a|b & ANY -> a/r, n=[8,9], w={a,b} -> a/r, n=8, w=a
+EMPTY & ANY -> EMPTY -> none
+EMPTY & a/r -> EMPTY -> none
+a/r, n=1..10 & a/r, n=5..20 -> a/r, n=[5,10] -> a/r, n=5
+a/r, n=1..5 & a/r, n=5..9 -> a/r, n=5 -> a/r, n=5
+a/r, n=1..4 & a/r, n=5..9 -> EMPTY -> none
+a/r, n=-5..-1 & a/r, n=-3..7 -> a/r, n=[-3,-1] -> a/r, n=-3
+a/r, n=-2147483648..2147483647 & a/r, n=-2147483648..0 -> a/r, n=[-2147483648,0] -> a/r, n=-2147483648
+a/r, n=5 & a/r, n=1..9 -> a/r, n=5 -> a/r, n=5
+a/r, n=3|1|2 & a/r, n=1|2|3 -> a/r, n={3,1,2} -> a/r, n=3
+a/r, n=1..10 & a/r, n=9|2|5 -> a/r, n={9,2,5} -> a/r, n=9
+a/r, n=1..10|5..20 & a/r, n=7|8 -> a/r, n={7,8} -> a/r, n=7
+a/r, w=a|b|c & a/r, w=c|b -> a/r, w={b,c} -> a/r, w=b
+a/r, f=1/2|30/1 & a/r, f=60/2 -> a/r, f=30/1 -> a/r, f=30/1
+a/r, b=true & a/r, b=false|true -> a/r, b=true -> a/r, b=true
+a/r, n=1 & a/r, n=one -> EMPTY -> none
+a/r, b=1 & a/r, c=3, a=2 -> a/r, a=2, b=1, c=3 -> a/r, a=2, b=1, c=3
+a/r, n=1; a/r, n=2 & a/r, c=1; a/r, c=2 -> a/r, c=1, n=1; a/r, c=2, n=1; a/r, c=1, n=2; a/r, c=2, n=2 -> a/r, c=1, n=1
+a/r, n=1 & a/m; a/r, n=2; a/r, n=1 -> a/r, n=1 -> a/r, n=1
+a/r, n=5..5 & a/r, m=1 -> a/r, m=1, n=[5,5] -> a/r, m=1, n=5
+";
 
 fn intersects(
     rt: &impl Abort,
@@ -252,14 +251,10 @@ fn fixates(rt: &impl Abort, alloc: Global, caps: &Caps, wanted: &str) -> Result<
     Ok(())
 }
 
-fn check_row(
-    rt: &impl Abort,
-    alloc: Global,
-    left: Side,
-    right: Side,
-    wanted: &str,
-    first: &str,
-) -> Result<(), Fail> {
+fn check_row(rt: &impl Abort, alloc: Global, line: &str) -> Result<(), Fail> {
+    let (sides, answers) = line.split_once(" -> ").ok_or("two sides")?;
+    let (left, right) = sides.split_once(" & ").ok_or("a left side")?;
+    let (wanted, first) = answers.split_once(" -> ").ok_or("two answers")?;
     let left = caps_of(alloc, left)?;
     let right = caps_of(alloc, right)?;
     let both = intersects(rt, alloc, &left, &right, wanted)?;
@@ -270,8 +265,8 @@ fn check_row(
 #[test]
 fn intersections(rt: HostRuntime) -> Result<(), Fail> {
     let alloc = rt.alloc();
-    for row in &ROWS {
-        check_row(&rt, alloc, row.0, row.1, row.2, row.3)?;
+    for line in TABLE.lines() {
+        check_row(&rt, alloc, line)?;
     }
     Ok(())
 }
@@ -279,7 +274,7 @@ fn intersections(rt: HostRuntime) -> Result<(), Fail> {
 fn numbered(alloc: Global, name: &str, count: i32) -> Result<Caps, CapsFault> {
     let mut made = List::new(alloc);
     for number in 0..count {
-        let mut one = Structure::new(alloc, RAW)?;
+        let mut one = Structure::new(alloc, "a/r")?;
         one.set(alloc, name, Value::One(One::Int(number)))?;
         made.push(alloc, one)?;
     }
