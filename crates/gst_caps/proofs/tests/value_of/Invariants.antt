@@ -1,4 +1,4 @@
-use Rattle.std.proofs.Common.{◌≡◌, ◌<◌, ◌≤◌, length}
+use Rattle.std.proofs.Common.{◌<◌, ◌≤◌, length}
 use Rattle.gst_caps.specs.Names.{Each}
 use Rattle.gst_caps.specs.Values.{kind_of}
 use Rattle.gst_caps.proofs.Sound.{IsOf}
