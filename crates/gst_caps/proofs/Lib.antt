@@ -1,2 +1,13 @@
 pub mod Lists
 pub mod Put
+pub mod Fractions
+pub mod Kept
+pub mod Limit
+pub mod Steps
+pub mod Merging
+pub mod Laws
+pub mod Sound
+pub mod FieldLaws
+pub mod Overlap
+pub mod Fixing
+pub mod Meeting

@@ -1,5 +1,5 @@
 -- What setting a field does to a list of fields in order.
-use Rattle.std.proofs.Common.{◌≡◌, ◌≢◌, ℕ, zero, suc, ◌+◌, ◌<◌, ◌≤◌, Bool, true, false, cond, eqb, Result, Ok, Err, OnOk, OnErr, List, [], ◌∷◌, ◌++◌, length, get_or, set, take, drop, subst, sym, ap, ◌∙◌, refl, arith}
+use Rattle.std.proofs.Common.{◌≡◌, ◌≢◌, ℕ, zero, suc, ◌+◌, ◌<◌, ◌≤◌, Bool, true, false, cond, eqb, Result, Ok, Err, OnOk, OnErr, List, [], ◌∷◌, ◌++◌, length, get_or, set, take, subst, sym, ap, ◌∙◌, refl, arith}
 use Rattle.std.specs.Cmp.Lexicographic.{slice_cmp}
 use Rattle.std.specs.List.{filter, insert}
 use Rattle.std.specs.Ordering.{is_lt, nat_cmp, ordering_reverse}
@@ -16,7 +16,7 @@ use Rattle.gst_caps.specs.Limit.{TooManyWhere}
 use Rattle.gst_caps.specs.declared.fault.CapsFault.{CapsFault}
 use Rattle.gst_caps.specs.Names.{Each, Rises, is_before, put}
 
-abbrev cmp : List ℕ → List ℕ → Ordering
+abbrev pub cmp : List ℕ → List ℕ → Ordering
 cmp = slice_cmp nat_cmp
 
 pub less_from_is_lt : (o : Ordering) → is_lt o ≡ true → o ≡ Less
@@ -50,7 +50,7 @@ put_step n v f fs h =
 pub put_front : {X : Type 0} (n : List ℕ) (v : X) (fs : List (List ℕ × X)) → Each (λ f. cmp n f.0 ≡ Less) fs → put n v fs ≡ (n, v) ∷ fs
 put_front n v fs p = rw (filter-none_before n fs p, filter-all_behind n fs p) refl
 
-same_not_before : (a : List ℕ) → is_before a a ≡ false
+pub same_not_before : (a : List ℕ) → is_before a a ≡ false
 same_not_before a = by (cmp a a) (nat_list_cmp_total.antisymm a a)
   where
     by : (o : Ordering) → o ≡ ordering_reverse o → is_lt o ≡ false

@@ -1,5 +1,11 @@
 pub mod Names
 pub mod Limit
+pub mod Merge
+pub mod Passes
 pub mod Values
 pub mod Description
+pub mod Accepts
+pub mod Common
+pub mod Kept
 pub mod Caps
+pub mod Fractions

@@ -34,6 +34,13 @@ IsOne (Words t) = ⊤
 IsOne (Fraction num den) = IsLowest num den
 IsOne (IntRange low high) = low ≤ℤ high
 
+abbrev pub IsNoRange : One → Type 0
+IsNoRange (Int n) = ⊤
+IsNoRange (Truth b) = ⊤
+IsNoRange (Words t) = ⊤
+IsNoRange (Fraction num den) = ⊤
+IsNoRange (IntRange low high) = ⊥
+
 -- a value that is no range
 abbrev pub IsSingle : One → Type 0
 IsSingle (Int n) = ⊤

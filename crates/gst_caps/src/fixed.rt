@@ -80,6 +80,22 @@ impl Fixed {
         }
     }
 
+    /// Fixed caps of these parts.
+    pub(crate) fn from_parts(media: Text, fields: Vec<(Text, One)>) -> Fixed
+        requires { IsFixed (record { media = media; fields = fields.items }) }
+        ensures { result ≡ record { media = media; fields = fields.items } }
+    {
+        Fixed { media, fields }
+    }
+
+    /// The fields in the order of their names.
+    pub(crate) fn entries(&self) -> &[(Text, One)]
+        ensures entries { result.now ≡ self.now.fields }
+        ensures well_formed { IsFixed self.now }
+    {
+        self.fields.as_slice()
+    }
+
     /// The same caps once more.
     pub fn copy(&self, alloc: Global) -> Result<Fixed, OutOfMemory>
         ensures { IfOk result (λ made. made ≡ self.now) }

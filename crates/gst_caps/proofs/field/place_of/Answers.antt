@@ -1,4 +1,4 @@
-use Rattle.std.proofs.Common.{◌≡◌, ◌<◌, ◌≤◌, ℕ, List, length, arith, sym, ◌∙◌, ap, rules}
+use Rattle.std.proofs.Common.{arith, sym, ◌∙◌}
 use Rattle.gst_caps.proofs.Put.{set-put, insert-put_other, insert-put_end, length-put_set, length-put_insert}
 use Rattle.gst_caps.proofs.field.place_of.Goals as goal
 use Rattle.gst_caps.proofs.field.place_of.Goals.{else-place-fields-via-then-place-fields+else-eq, else-place-fields-via-else-place-fields}
