@@ -1,2 +1,6 @@
+pub mod Crossing
 pub mod Drained
 pub mod Heads
+pub mod Keeping
+pub mod Rooms
+pub mod Steps

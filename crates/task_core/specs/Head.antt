@@ -1,5 +1,5 @@
 -- What the head of a task has given.
-use Rattle.std.specs.Prelude.{◌≡◌, ◌⊎◌, ℕ, List, [], ◌∷◌, ◌++◌, Option, Some, None, Bool, true, false}
+use Rattle.std.specs.Prelude.{◌≡◌, ◌⊎◌, ℕ, ◌+◌, List, [], ◌∷◌, ◌++◌, Option, Some, None, Result, Ok, Err, Bool, true, false}
 use Rattle.flow_model.specs.Item.{Item}
 use Rattle.lane_core.specs.Lane.{Lane, IsIn}
 use Rattle.gst_outside.specs.Causes.{Rose}
@@ -27,6 +27,12 @@ HeadGave content received (Queue inlets) l = Fed received inlets l.front l.got l
 abbrev pub head_items : {S I : Type 0} → Head S I → ℕ
 head_items (Source source) = items_given source
 head_items (Queue inlets) = 0
+
+-- how many there may be behind an answer
+abbrev pub items_behind : Result (Option Item) SrcFault → ℕ → ℕ
+items_behind (Ok (Some x)) n = n + 1
+items_behind (Ok None) n = n
+items_behind (Err fault) n = n
 
 -- the place of a queue's lane in a table
 abbrev pub head_place : {S I : Type 0} → (I → ℕ) → Head S I → Option ℕ

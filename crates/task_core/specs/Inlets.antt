@@ -3,7 +3,8 @@ use Rattle.std.specs.Prelude.{◌≡◌, ◌≤◌, ◌⊎◌, ℕ, length, List
 use Rattle.std.specs.Option.{ForSome}
 use Rattle.flow_model.specs.Item.{Item}
 use Rattle.lane_core.specs.declared.ends.Take.TheVariants.{Item as Taken, Empty}
-use Rattle.lane_core.specs.Lane.{Lane, IsBetween}
+use Rattle.lane_core.specs.Lane.{Lane, IsIn, IsOf, IsBetween}
+use Rattle.lane_core.specs.Room.{Limits}
 use Rattle.lane_core.specs.Moves.{TakesFirst, table_after_take}
 use Rattle.task_core.specs.declared.inlets.Inlets.{Inlets}
 
@@ -26,6 +27,11 @@ LaneGives place x tells tells' = (tells' ≡ table_after_take place (Taken x) te
 -- where a table tells its lanes, all that was sent into this one was taken
 abbrev pub IsDrained : ℕ → Option (List Lane) → List Item → Type 0
 IsDrained place tells got = (sent : List Item) → length sent ≤ 4611686018427387904 → IsBetween tells place sent got → ForSome tells (λ t. sent ≡ got)
+
+-- each lane of a table is still in it, with its room
+pub record KeepsRooms (tells tells' : Option (List Lane)) : Type 0 where
+  pub rooms : (n : ℕ) (limits : Limits) (count : ℕ) → IsOf tells n limits count → IsOf tells' n limits count
+  pub lanes : (n : ℕ) → IsIn tells n → IsIn tells' n
 
 -- the item came from the front, or from the lane; where there is none, all was taken
 abbrev pub AfterTake : {I : Type 0} → (I → List Item → Type 0) → Inlets I → ℕ → Option (List Lane) → Option (List Lane) → List Item → List Item → List Item → Option Item → Type 0

@@ -14,11 +14,6 @@ CountsAll [] ahead given done = Unit {0}
 CountsAll (pad ∷ pads) zero given done = Counts pad done × CountsAll pads zero given done
 CountsAll (pad ∷ pads) (suc ahead) given done = Counts pad given × CountsAll pads ahead given done
 
--- how many items the first pad counted
-abbrev pub first_items : List Pad → ℕ
-first_items [] = 0
-first_items (pad ∷ pads) = pad.items
-
 -- how many items may still cross the pads
 abbrev pub room_left : List Pad → ℕ
 room_left pads = sum_by (λ pad. 1099511627776 - pad.items) pads

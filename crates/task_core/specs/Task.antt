@@ -33,6 +33,7 @@ pub record TaskLists : Type 0 where
 pub record Holds {S K I O : Type 0} (content : S → Option (List ℕ)) (bytes : K → Option (List ℕ)) (received : I → List Item → Type 0) (sent : O → List Item → Type 0)
     (task : Task S K I O) (hand : Option Pending) (l : TaskLists) : Type 0 where
   pub gave : HeadGave content received task.head l.head
+  pub number : task.given ≡ length l.head.given
   pub over : task.over ≡ has_eos l.head.given
   pub held : l.head.given ≡ l.done ++ waiting hand
   pub counted : CountsAll task.pads.items (ahead hand) l.head.given l.done

@@ -2,8 +2,8 @@
 ghost use Rattle.std.specs.Prelude.{◌≡◌, ◌≤◌, ◌<◌, ◌+◌, ◌^◌, ℕ, List, [], ◌*◌, Some, None, slice_get, OnErr, IfOk, IfErr, vec_len};
 ghost use Rattle.std.specs.Option.{ForSome};
 ghost use Rattle.task_core.specs.Head.{head_items};
-ghost use Rattle.task_core.specs.Pads.{first_items, room_left};
-ghost use Rattle.task_core.specs.Pending.{lag, hand_of};
+ghost use Rattle.task_core.specs.Pads.{room_left};
+ghost use Rattle.task_core.specs.Pending.{hand_of};
 ghost use Rattle.flow_model.specs.Item.{is_buffer as buffer_test, is_eos as eos_test};
 
 use crate::fault::TaskFault;
@@ -25,6 +25,8 @@ pub struct Task<S, K, I, O> {
     /// The number of the head's element; those behind it follow on.
     first: u32,
     head: Head<S, I>,
+    /// How many items the head has given.
+    given: u64,
     pads: Vec<Pad>,
     pending: Option<Pending>,
     /// Whether the head has given EOS.
@@ -33,7 +35,8 @@ pub struct Task<S, K, I, O> {
     ghost some: { 0 < vec_len pads },
     ghost numbers: { first + vec_len pads < 2 ^ 32 },
     ghost within: { ForSome pending (λ p. p.pad < vec_len pads) },
-    ghost few: { head_items head ≤ first_items pads.items + lag pending },
+    ghost few: { head_items head ≤ given },
+    ghost limit: { given ≤ 2 ^ 40 },
 }
 
 impl<S: Source, K: Sink, I: Inlet<Out = O>, O: Outlet<Lanes = I::Lanes>> Task<S, K, I, O> {
@@ -77,11 +80,12 @@ impl<S: Source, K: Sink, I: Inlet<Out = O>, O: Outlet<Lanes = I::Lanes>> Task<S,
         if self.over {
             return Ok(Step::Ended);
         }
-        if self.pads[0].items >= MOST_ITEMS {
+        if self.given >= MOST_ITEMS {
             return Err(too_long(self.first));
         }
         match self.head.next(alloc, lanes) {
             Ok(Some(item)) => {
+                self.given += 1;
                 self.over = is_eos(&item);
                 self.pending = Some(Pending { pad: 0, item });
                 Ok(Step::Moved)
@@ -101,7 +105,6 @@ impl<S: Source, K: Sink, I: Inlet<Out = O>, O: Outlet<Lanes = I::Lanes>> Task<S,
         requires ready { IsReady I.place O.place O.limits O.count self.old (O.tells lanes.old) }
         requires none { self.old.pending ≡ None }
         requires within { hand.pad < vec_len self.old.pads }
-        requires few { head_items self.old.head ≤ first_items self.old.pads.items + lag (Some hand) }
         ensures goes { IfOk result (λ step. (l : TaskLists) → Holds S.content K.bytes I.received O.sent self.old (Some hand) l → Goes S.content K.bytes I.received O.sent self.new l step (head_place I.place (head_of self.old)) (tail_place O.place (tail_of self.old)) (tail_limit O.limits (tail_of self.old)) (O.tells lanes.old) (O.tells lanes.new)) }
         ensures fault { IfErr result (λ fault. (l : TaskLists) → Holds S.content K.bytes I.received O.sent self.old (Some hand) l → AtFault S.content K.bytes I.received O.sent self.new l fault) }
         ensures cause { IfErr result (λ fault. IsTaskCause S.faults K.faults self.old self.new fault) }
@@ -123,12 +126,12 @@ impl<S: Source, K: Sink, I: Inlet<Out = O>, O: Outlet<Lanes = I::Lanes>> Task<S,
         self.pending = Some(Pending { pad: pad + 1, item });
         Ok(Step::Moved)
     }
+
     /// The item in hand at the last pad crosses it, where the tail takes it.
     fn send(&mut self, lanes: &mut I::Lanes, last: usize, item: Item) -> Result<Step, TaskFault>
         requires ready { IsReady I.place O.place O.limits O.count self.old (O.tells lanes.old) }
         requires none { self.old.pending ≡ None }
         requires last { last + 1 ≡ vec_len self.old.pads }
-        requires few { head_items self.old.head ≤ first_items self.old.pads.items + lag (Some (hand_of last item)) }
         requires room { (pad : Pad) → slice_get self.old.pads.items last ≡ Some pad → pad.items < 2 ^ 40 }
         ensures goes { IfOk result (λ step. (l : TaskLists) → Holds S.content K.bytes I.received O.sent self.old (Some (hand_of last item)) l → Goes S.content K.bytes I.received O.sent self.new l step (head_place I.place (head_of self.old)) (tail_place O.place (tail_of self.old)) (tail_limit O.limits (tail_of self.old)) (O.tells lanes.old) (O.tells lanes.new)) }
         ensures fault { IfErr result (λ fault. (l : TaskLists) → Holds S.content K.bytes I.received O.sent self.old (Some (hand_of last item)) l → AtFault S.content K.bytes I.received O.sent self.new l fault) }

@@ -1,6 +1,7 @@
 use Rattle.std.proofs.Common.{◌≡◌, length, sym, ◌∙◌, refl, inl}
 use Rattle.lane_core.specs.Room.{number_of}
 use Rattle.task_core.proofs.Drained.{drained}
+use Rattle.task_core.proofs.Rooms.{taken_rooms}
 use Rattle.task_core.proofs.inlets.Inlets.take.Goals as goal
 
 pub returns-in-Empty-clause-fed : goal.returns-in-Empty-clause-fed
@@ -13,3 +14,6 @@ returns-in-Empty-clause-fed g c =
       c.in-Empty.ensures.table,
       λ sent small b. drained _ _ (number_of (g.I.Inlet.reading c.take.new.self)) sent got (c.in-Empty.ensures.answer.0 ∙ sym size) (c.in-Empty.ensures.sent sent got h.lane small b) b,
     )
+
+pub returns-in-Item-clause-rooms : goal.returns-in-Item-clause-rooms
+returns-in-Item-clause-rooms g c = taken_rooms _ c.in-Item.item _ _ c.in-Item.ensures.table
