@@ -1,15 +1,14 @@
 -- A file behind a body, behind an item, and behind a list.
-use Rattle.std.proofs.Common.{◌≡◌, ℕ, ◌+◌, ◌≤◌, Bool, true, false, if◌then◌else◌, List, [], ◌∷◌, ◌++◌, fold, length, take, refl, ap, sym, ◌∙◌, arith, Option, None, Some, option_map, Result, Ok, Err, IfOk}
+use Rattle.std.proofs.Common.{◌≡◌, ℕ, Bool, true, false, if◌then◌else◌, List, [], ◌∷◌, ◌++◌, fold, refl, ap, sym, ◌∙◌, Option, None, Some, option_map, Result, Ok, Err, IfOk}
 use Rattle.std.specs.Option.{ForSome}
 use Rattle.std.proofs.lemmas.List.Sums.{fold_push}
-use Rattle.std.proofs.lemmas.List.{take_all}
 use Rattle.gst_time.specs.declared.segment.Segment.{Segment}
-use Rattle.flow_model.specs.Item.{Item, Buf, Ev, StreamStart, NewSegment, Tag, Gap, FlushStop, Eos, Format, Bytes, Time, is_flush_stop, is_eos}
+use Rattle.flow_model.specs.Item.{Item, Buf, Ev, StreamStart, NewSegment, Tag, Gap, FlushStop, Eos, Format, Bytes, Time}
 use Rattle.flow_model.specs.SinkBytes.{Disk, empty_disk, at_segment, rendered, reopened, next_disk, disk_after}
 use Rattle.gst_item.specs.declared.flow.Flow.{Flow}
 use Rattle.el_sink.specs.declared.file_sink.FileSink.{FileSink}
 use Rattle.el_sink.specs.Ended.{next_ended, has_ended, flow_for, flow_behind}
-use Rattle.el_sink.specs.Held.{IsDisk, Held}
+use Rattle.el_sink.specs.Held.{Held}
 
 -- told bytes behind a change of them
 pub told_map : (was is : Option (List ℕ)) (change : List ℕ → List ℕ) (bytes : List ℕ) → is ≡ option_map change was → ForSome was (λ b. b ≡ bytes) → ForSome is (λ b. b ≡ change bytes)

@@ -1,5 +1,5 @@
 -- A body that is written in pieces, as it stands after each.
-use Rattle.std.proofs.Common.{◌≡◌, ℕ, ◌+◌, ◌-◌, ◌≤◌, List, [], ◌++◌, length, take, drop, refl, ap, sym, ◌∙◌, arith, Option, None, Some, option_map, length-take}
+use Rattle.std.proofs.Common.{◌≡◌, ℕ, ◌+◌, ◌-◌, ◌≤◌, List, ◌++◌, length, take, drop, refl, ap, sym, ◌∙◌, arith, Option, None, Some, option_map, length-take}
 use Rattle.std.proofs.lemmas.List.{take-take, drop-take, take-append-drop}
 use Rattle.gst_outside.specs.Bytes.{written}
 use Rattle.gst_outside.proofs.Writing.{told_written-written}

@@ -1,5 +1,5 @@
 -- For which lists a filesink stands: its file is what the list writes.
-use Rattle.std.specs.Prelude.{◌≡◌, ◌≤◌, ℕ, ◌+◌, Bool, Option, List, [], length, take}
+use Rattle.std.specs.Prelude.{◌≡◌, ◌≤◌, ℕ, ◌+◌, Bool, Option, List, length, take}
 use Rattle.std.specs.Option.{ForSome}
 use Rattle.gst_outside.specs.Bytes.{written}
 use Rattle.flow_model.specs.Item.{Item, body_of}

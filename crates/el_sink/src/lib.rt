@@ -4,6 +4,8 @@
 pub mod fake_sink;
 pub mod fault;
 pub mod file_sink;
+#[cfg(test)]
+mod tests;
 pub mod writing;
 
 pub use fake_sink::FakeSink;

@@ -7,7 +7,7 @@ use Rattle.flow_model.specs.Item.{Item, Buf, Ev, Eos}
 use Rattle.flow_model.specs.Source.{block_count, block_at, blocks_from}
 use Rattle.el_src.specs.Gave.{still_to_come}
 use Rattle.el_src.specs.declared.file_src.Phase.{Phase}
-use Rattle.el_src.specs.declared.file_src.Phase.TheVariants.{Blocks as InBlocks, Eos as AtEos, Ended as Over}
+use Rattle.el_src.specs.declared.file_src.Phase.TheVariants.{Blocks as InBlocks}
 
 -- the block that begins at a place
 abbrev pub block_from : ℕ → ℕ → List ℕ → Item

@@ -5,6 +5,8 @@ pub mod answer;
 pub mod block;
 pub mod fault;
 pub mod file_src;
+#[cfg(test)]
+mod tests;
 
 pub use answer::Next;
 pub use fault::{SizeFault, SrcFault};

@@ -1,4 +1,5 @@
 pub mod Counts
 pub mod Entries
+pub mod Opened
 mod Reading
 pub mod Writing

@@ -1,5 +1,5 @@
 -- What the reads of sources in memory tell.
-use Rattle.std.proofs.Common.{◌≡◌, ℕ, ◌-◌, ◌<◌, ◌≤◌, min, List, length, ap, arith, Option, Some, Result, Ok, Err, IfOk}
+use Rattle.std.proofs.Common.{◌≡◌, ℕ, ◌-◌, ◌<◌, ◌≤◌, min, List, length, ap, arith, Some, Result, Ok, Err, IfOk}
 use Rattle.std.specs.Option.{ForSome}
 
 -- a read as long as the room and the content allow gives nothing only at the end

@@ -1,5 +1,5 @@
 -- Room for bytes in memory.
-use Rattle.std.specs.Prelude.{ℕ, ◌+◌, ◌≤◌, ◌^◌, Bool, List, [], ◌∷◌, length, nat_le}
+use Rattle.std.specs.Prelude.{ℕ, ◌+◌, ◌^◌, Bool, List, [], ◌∷◌, length, nat_le}
 
 -- whether a piece at a place ends within the room: where it is empty it needs none
 abbrev pub has_room : ℕ → ℕ → List ℕ → Bool

@@ -3,8 +3,7 @@ ghost use Rattle.std.specs.Prelude.{◌≡◌, ◌≤◌, ◌<◌, None, Some, O
 ghost use Rattle.gst_outside.specs.Causes.{raised, Rose};
 
 use crate::failed::Failed;
-use crate::mem_sink::LARGEST_END;
-use crate::sink::Sink;
+use crate::sink::{LARGEST_END, Sink};
 use gst_caps::Text;
 use std::fs::{File, OpenFile};
 use std::io::ErrorKind;

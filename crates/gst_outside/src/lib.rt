@@ -21,6 +21,8 @@ pub mod sink;
 pub mod source;
 pub mod step_clock;
 mod table;
+#[cfg(test)]
+mod tests;
 
 pub use calls::Calls;
 pub use clock::Clock;
@@ -37,6 +39,6 @@ pub use mem_source::MemSource;
 pub use open_gate::OpenGate;
 pub use opening::OpenEnd;
 pub use out_sink::OutSink;
-pub use sink::Sink;
+pub use sink::{LARGEST_END, Sink};
 pub use source::Source;
 pub use step_clock::StepClock;

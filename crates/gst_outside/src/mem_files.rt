@@ -284,13 +284,37 @@ impl Files for MemFiles {
         Ok(end)
     }
 
-    fn close_read(&mut self, end: MemSource) {
+    fn close_read(&mut self, end: MemSource)
+        requires opened_here { IsOpened self.old.table.items end.location }
+        ensures ends { self.new.ends ≡ self.old.ends - 1 }
+        ensures never_falls { self.old.faults ≤ self.new.faults }
+        ensures faults { self.new.faults ≡ plus self.old.faults end.faults }
+        ensures faults_of { (l : List ℕ) → faults_at self.new.table.items l ≡ (if is_at (Some end.location) l then option_map (λ n. plus n end.faults) (faults_at self.old.table.items l) else faults_at self.old.table.items l) }
+        ensures input_stays { (l : List ℕ) → input_at self.new.table.items l ≡ input_at self.old.table.items l }
+        ensures output_stays { (l : List ℕ) → output_at self.new.table.items l ≡ output_at self.old.table.items l }
+        ensures refused_of_stays { (l : List ℕ) → refused_at self.new.table.items l ≡ refused_at self.old.table.items l }
+        ensures opened_stays { (l : List ℕ) → IsOpened self.old.table.items l → IsOpened self.new.table.items l }
+        ensures reading_stays { self.new.reading ≡ self.old.reading }
+        ensures writing_stays { self.new.writing ≡ self.old.writing }
+    {
         self.ends = self.ends.saturating_sub(1);
         self.faults = self.faults.saturating_add(end.faults);
         add_faults(&mut self.table, end.location.as_str(), end.faults);
     }
 
-    fn close_write(&mut self, end: MemSink) {
+    fn close_write(&mut self, end: MemSink)
+        requires opened_here { IsOpened self.old.table.items end.location }
+        ensures ends { self.new.ends ≡ self.old.ends - 1 }
+        ensures never_falls { self.old.faults ≤ self.new.faults }
+        ensures faults { self.new.faults ≡ plus self.old.faults end.faults }
+        ensures faults_of { (l : List ℕ) → faults_at self.new.table.items l ≡ (if is_at (Some end.location) l then option_map (λ n. plus n end.faults) (faults_at self.old.table.items l) else faults_at self.old.table.items l) }
+        ensures input_stays { (l : List ℕ) → input_at self.new.table.items l ≡ input_at self.old.table.items l }
+        ensures output { (l : List ℕ) → output_at self.new.table.items l ≡ (if is_at (Some end.location) l then Some end.bytes.items else output_at self.old.table.items l) }
+        ensures refused_of_stays { (l : List ℕ) → refused_at self.new.table.items l ≡ refused_at self.old.table.items l }
+        ensures opened_stays { (l : List ℕ) → IsOpened self.old.table.items l → IsOpened self.new.table.items l }
+        ensures reading_stays { self.new.reading ≡ self.old.reading }
+        ensures writing_stays { self.new.writing ≡ self.old.writing }
+    {
         let MemSink {
             location,
             bytes,

@@ -7,12 +7,9 @@ ghost use Rattle.gst_outside.specs.Room.{has_room};
 
 use crate::calls::Calls;
 use crate::failed::Failed;
-use crate::sink::Sink;
+use crate::sink::{LARGEST_END, Sink};
 use gst_caps::{List as Members, OutOfMemory, Text};
 use std::alloc::Global;
-
-/// The end of the largest file: no write passes it.
-pub const LARGEST_END: u64 = 1 << 63;
 
 /// A sink in memory with room for so many bytes. The calls whose numbers are listed fail, and the writes
 /// that would pass the room, and no others.

@@ -3,8 +3,7 @@ ghost use Rattle.std.specs.Prelude.{◌≡◌, ◌≤◌, ◌<◌, None, OnErr, 
 ghost use Rattle.gst_outside.specs.Causes.{raised, Rose};
 
 use crate::failed::Failed;
-use crate::mem_sink::LARGEST_END;
-use crate::sink::Sink;
+use crate::sink::{LARGEST_END, Sink};
 use std::io::{ErrorKind, Write};
 
 /// Standard output, or what else is written in order only: a write at a place other than the end of what

@@ -5,6 +5,9 @@ ghost use Rattle.gst_outside.specs.Causes.{Rose};
 
 use crate::failed::Failed;
 
+/// The end of the largest file, in bytes: no write passes it.
+pub const LARGEST_END: u64 = 1 << 63;
+
 /// Bytes that are written by their place, as with POSIX `pwrite`.
 ///
 /// Its meanings: `bytes` is what stands in it, where that is told; `location` is the location with which it

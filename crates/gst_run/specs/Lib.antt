@@ -1,2 +1,4 @@
 pub mod Headline
+pub mod Parts
+pub mod Reading
 pub mod Words

@@ -1,6 +1,6 @@
 -- The words of a launch line, in the form that is read: a filesrc, identities and queues, a filesink. Each
 -- word stands by itself.
-use Rattle.std.specs.Prelude.{◌≡◌, ◌≢◌, ◌≤◌, ◌<◌, ◌==◌, ◌||◌, ◌⊎◌, ℕ, Bool, false, All, List, [], ◌∷◌, ◌++◌, length, codes, if◌then◌else◌, nat_le, nat_lt}
+use Rattle.std.specs.Prelude.{◌≡◌, ◌≢◌, ◌≤◌, ◌<◌, ◌==◌, ◌||◌, ◌⊎◌, ℕ, Bool, false, All, List, [], ◌∷◌, ◌++◌, length, codes, if◌then◌else◌, nat_lt}
 use Rattle.std.specs.Str.Parse.{IsNumeral, digits_value}
 use Rattle.world_core.specs.declared.line.Line.{Line}
 use Rattle.world_core.specs.declared.line.Middle.{Middle}

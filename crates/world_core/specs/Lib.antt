@@ -1,2 +1,4 @@
 pub mod Line
+pub mod Pad
+pub mod Task
 pub mod World

@@ -3,8 +3,8 @@
 
 pub mod ended;
 pub mod line;
-pub mod turns;
+pub mod pad;
+pub mod task;
 
 pub use ended::WorldEnd;
 pub use line::{Line, Middle};
-pub use turns::run_turns;

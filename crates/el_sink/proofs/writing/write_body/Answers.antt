@@ -1,4 +1,4 @@
-use Rattle.std.proofs.Common.{◌≡◌, ◌+◌, ◌-◌, ◌≤◌, length, take, drop, arith, ◌∙◌, length-take, length-drop}
+use Rattle.std.proofs.Common.{◌≡◌, ◌-◌, ◌≤◌, length, take, drop, arith, ◌∙◌, length-take, length-drop}
 use Rattle.el_sink.proofs.Pieces.{more_written}
 use Rattle.el_sink.proofs.writing.write_body.Goals as goal
 

@@ -1,4 +1,4 @@
-use Rattle.std.proofs.Common.{◌≡◌, ◌+◌, ◌-◌, ◌≤◌, length, arith, rules, ◌∙◌}
+use Rattle.std.proofs.Common.{◌≡◌, ◌-◌, ◌≤◌, length, arith, ◌∙◌}
 use Rattle.el_src.proofs.Filling.{filled_more, length-put_mid, length-part}
 use Rattle.el_src.proofs.block.fill.Goals as goal
 

@@ -1,8 +1,6 @@
 -- An entry of a file of which nothing was said changes no file.
-use Rattle.std.proofs.Common.{◌≡◌, ℕ, List, [], ◌∷◌, ◌++◌, ap, refl, sym, ◌∙◌, subst, IsTrue, Some, None, get_or, length, arith}
-use Rattle.std.specs.List.{position}
-use Rattle.gst_outside.specs.declared.mem_file.MemFile.{MemFile}
-use Rattle.gst_outside.specs.Table.{is_of, new_file, file_at, has_file}
+use Rattle.std.proofs.Common.{◌≡◌, [], ◌∷◌, ◌++◌, ap, sym, ◌∙◌, get_or, length, arith}
+use Rattle.gst_outside.specs.Table.{new_file, file_at, has_file}
 use Rattle.gst_outside.proofs.Entries.{same_found, same_none, found_file, found_there, pushed_file, pushed_there, pushed_self, pushed_found}
 use Rattle.gst_outside.proofs.table.entry.Goals as goal
 

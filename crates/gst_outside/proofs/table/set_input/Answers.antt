@@ -1,6 +1,5 @@
 -- One entry is changed, the one that was found.
-use Rattle.std.proofs.Common.{◌≡◌, ℕ, List, ap, refl, arith}
-use Rattle.gst_outside.specs.Causes.{raised, plus}
+use Rattle.std.proofs.Common.{refl}
 use Rattle.gst_outside.specs.declared.mem_file.MemFile.{MemFile}
 use Rattle.gst_outside.proofs.Entries.{same_found, changed_file, changed_there}
 use Rattle.gst_outside.proofs.table.set_input.Goals as goal
