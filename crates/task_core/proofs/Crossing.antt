@@ -1,6 +1,6 @@
 -- What the pads have counted, behind an item that crossed one of them.
 use Rattle.std.proofs.Common.{◌≡◌, ◌<◌, ◌≤◌, ◌+◌, ℕ, zero, suc, List, [], ◌∷◌, ◌++◌, length, length-append, get_or, Option, Some, None, refl, ap, sym, ◌∙◌, subst, arith, Bool, false, ◌||◌}
-use Rattle.std.specs.Prelude.{slice_get, slice_set, fold}
+use Rattle.std.specs.Prelude.{slice_get, slice_set, fold, replicate}
 use Rattle.std.proofs.lemmas.Grind.{fold-append}
 use Rattle.flow_model.specs.Item.{Item, is_eos}
 use Rattle.el_src.specs.Gave.{has_eos}
@@ -75,3 +75,11 @@ counts_any (p ∷ ps) given other done h = (h.0, counts_any ps given other done 
 -- whether EOS was given, behind one more item
 pub eos_more : (given : List Item) (x : Item) → has_eos given ≡ false → has_eos (given ++ x ∷ []) ≡ is_eos x
 eos_more given x none = fold-append (λ eos y. eos || is_eos y) false given (x ∷ []) ∙ ap (λ (b : Bool). b || is_eos x) none
+
+-- pads that nothing crossed
+pub counts_none : (pads : List Pad) (n : ℕ) (pad : Pad) (given : List Item) → pads ≡ replicate n pad → Counts pad [] → CountsAll pads 0 given []
+counts_none pads n pad given e c = subst (λ (ps : List Pad). CountsAll ps 0 given []) (sym e) (go n)
+  where
+    go : (m : ℕ) → CountsAll (replicate m pad) 0 given []
+    go zero = tt
+    go (suc m) = (c, go m)

@@ -17,7 +17,7 @@ use Rattle.task_core.specs.declared.tail.Sending.TheVariants.{Sent, Back}
 use Rattle.task_core.specs.Inlets.{KeepsRooms, place_of}
 use Rattle.task_core.specs.Head.{HeadIn, FromLane, head_place}
 use Rattle.task_core.specs.Tail.{TailHas, TailOf, TailMoves, tail_place, tail_limit, tail_count}
-use Rattle.task_core.specs.Task.{Keeps, IsFullLane}
+use Rattle.task_core.specs.Task.{Keeps, KeepsTable, IsFullLane}
 
 none_some : {A : Type 0} {a : A} → None ≡ Some a → ⊥
 none_some e = cc
@@ -30,8 +30,6 @@ keep_same inlet outlet tells tells' got done e = record {
   from = λ n sent _ _ b. subst (λ (t : Option (List Lane)). IsBetween t n sent got) (sym e) b;
   to = λ n taken _ _ b. subst (λ (t : Option (List Lane)). IsBetween t n done taken) (sym e) b;
   others = λ n sent taken _ _ b. subst (λ (t : Option (List Lane)). IsBetween t n sent taken) (sym e) b;
-  rooms = λ n limits count _ b. subst (λ (t : Option (List Lane)). IsOf t n limits count) (sym e) b;
-  lanes = λ n b. subst (λ (t : Option (List Lane)). IsIn t n) (sym e) b;
 }
 
 keep_sink : (inlet : Option ℕ) (tells tells' : Option (List Lane)) (got done done' : List Item) → tells' ≡ tells → Keeps inlet None tells tells' got done got done'
@@ -39,8 +37,6 @@ keep_sink inlet tells tells' got done done' e = record {
   from = λ n sent _ _ b. subst (λ (t : Option (List Lane)). IsBetween t n sent got) (sym e) b;
   to = λ n taken h _ b. absurd (none_some h);
   others = λ n sent taken _ _ b. subst (λ (t : Option (List Lane)). IsBetween t n sent taken) (sym e) b;
-  rooms = λ n limits count _ b. subst (λ (t : Option (List Lane)). IsOf t n limits count) (sym e) b;
-  lanes = λ n b. subst (λ (t : Option (List Lane)). IsIn t n) (sym e) b;
 }
 
 keep_taken : (p : ℕ) (outlet : Option ℕ) (x : Item) (tells tells' : Option (List Lane)) (got done : List Item) → tells' ≡ table_after_take p (Taken x) tells → TakesFirst p (Taken x) tells
@@ -49,8 +45,6 @@ keep_taken p outlet x tells tells' got done e first = record {
   from = λ n sent h _ b. subst (λ (k : ℕ). IsBetween tells' k sent (got ++ x ∷ [])) (some_same h) (take_keeps_between p (Taken x) tells tells' sent got e first (subst (λ (k : ℕ). IsBetween tells k sent got) (sym (some_same h)) b));
   to = λ n taken _ ne b. take_keeps_others p n (Taken x) tells tells' done taken (λ h. ne (ap Some (sym h))) e b;
   others = λ n sent taken ne _ b. take_keeps_others p n (Taken x) tells tells' sent taken (λ h. ne (ap Some (sym h))) e b;
-  rooms = λ n limits count _ b. take_keeps_room p n (Taken x) limits count tells tells' e b;
-  lanes = λ n b. take_keeps_lanes p n (Taken x) tells tells' e b;
 }
 
 keep_stored : (p : ℕ) (inlet : Option ℕ) (x : Item) (tells tells' : Option (List Lane)) (got done : List Item) → tells' ≡ table_after_put p x Stored tells → Keeps inlet (Some p) tells tells' got done got (done ++ x ∷ [])
@@ -58,8 +52,22 @@ keep_stored p inlet x tells tells' got done e = record {
   from = λ n sent _ ne b. put_keeps_others p n x Stored tells tells' sent got (λ h. ne (ap Some (sym h))) e b;
   to = λ n taken h _ b. subst (λ (k : ℕ). IsBetween tells' k (done ++ x ∷ []) taken) (some_same h) (put_keeps_between p x Stored tells tells' done taken e (subst (λ (k : ℕ). IsBetween tells k done taken) (sym (some_same h)) b));
   others = λ n sent taken _ ne b. put_keeps_others p n x Stored tells tells' sent taken (λ h. ne (ap Some (sym h))) e b;
-  rooms = λ n limits count ne b. put_keeps_other_room p n x Stored limits count tells tells' (λ h. ne (ap Some (sym h))) e b;
+}
+
+-- each lane keeps its room
+pub table_kept : (outlet : Option ℕ) (tells tells' : Option (List Lane)) → KeepsRooms tells tells' → KeepsTable outlet tells tells'
+table_kept outlet tells tells' k = record { lanes = k.lanes; rooms = λ n limits count _ b. k.rooms n limits count b }
+
+table_same : (outlet : Option ℕ) (tells tells' : Option (List Lane)) → tells' ≡ tells → KeepsTable outlet tells tells'
+table_same outlet tells tells' e = record {
+  lanes = λ n b. subst (λ (t : Option (List Lane)). IsIn t n) (sym e) b;
+  rooms = λ n limits count _ b. subst (λ (t : Option (List Lane)). IsOf t n limits count) (sym e) b;
+}
+
+table_stored : (p : ℕ) (x : Item) (tells tells' : Option (List Lane)) → tells' ≡ table_after_put p x Stored tells → KeepsTable (Some p) tells tells'
+table_stored p x tells tells' e = record {
   lanes = λ n b. put_keeps_lanes p n x Stored tells tells' e b;
+  rooms = λ n limits count ne b. put_keeps_other_room p n x Stored limits count tells tells' (λ h. ne (ap Some (sym h))) e b;
 }
 
 -- an item came from the lane of the head
@@ -86,6 +94,12 @@ module _ {K O : Type 0} (bytes : K → Option (List ℕ)) (sent : O → List Ite
   sent_keeps (tails.Lane n o) (tails.Lane n' o') x inlet tells tells' got done m = keep_stored (place o) inlet x tells tells' got done m.2.0
   sent_keeps (tails.Sink k) (tails.Lane n' o') x inlet tells tells' got done m = absurd m
   sent_keeps (tails.Lane n o) (tails.Sink k') x inlet tells tells' got done m = absurd m
+
+  pub sent_table : (t t' : Tail K O) (x : Item) (tells tells' : Option (List Lane)) → TailMoves sent place limits count t x Sent t' tells tells' → KeepsTable (tail_place place t) tells tells'
+  sent_table (tails.Sink k) (tails.Sink k') x tells tells' m = table_same None tells tells' m.0
+  sent_table (tails.Lane n o) (tails.Lane n' o') x tells tells' m = table_stored (place o) x tells tells' m.2.0
+  sent_table (tails.Sink k) (tails.Lane n' o') x tells tells' m = absurd m
+  sent_table (tails.Lane n o) (tails.Sink k') x tells tells' m = absurd m
 
   pub sent_tail_of : (t t' : Tail K O) (x : Item) (tells tells' : Option (List Lane)) → TailMoves sent place limits count t x Sent t' tells tells' → tail_place place t' ≡ tail_place place t → TailOf place limits count t tells
       → TailOf place limits count t' tells'

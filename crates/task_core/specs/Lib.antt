@@ -1,6 +1,7 @@
 pub mod Head
 pub mod Inlets
 pub mod Pads
+pub mod Part
 pub mod Pending
 pub mod Step
 pub mod Tail

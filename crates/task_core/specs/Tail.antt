@@ -6,7 +6,7 @@ use Rattle.lane_core.specs.Lane.{Lane, IsOf, IsBetween}
 use Rattle.lane_core.specs.Room.{Limits}
 use Rattle.lane_core.specs.Laws.{HoldsFor}
 use Rattle.lane_core.specs.Moves.{table_after_put}
-use Rattle.el_sink.specs.Held.{Held, HeldPart, sink_of}
+use Rattle.el_sink.specs.Held.{Held, HeldPart, sink_of, length_of}
 use Rattle.gst_outside.specs.Causes.{Rose}
 use Rattle.el_sink.specs.declared.fault.WriteFault.{WriteFault}
 use Rattle.task_core.specs.declared.tail.Tail.{Tail}
@@ -49,6 +49,11 @@ TailOf place limits count (tails.Lane number outlet) tells = IsOf tells (place o
 abbrev pub tail_faults : {K O : Type 0} → (K → ℕ) → Tail K O → Option ℕ
 tail_faults faults (tails.Sink sink) = Some (faults (sink_of sink))
 tail_faults faults (tails.Lane number outlet) = None
+
+-- the length of a sink's file, in bytes
+abbrev pub tail_len : {K O : Type 0} → Tail K O → Option ℕ
+tail_len (tails.Sink sink) = Some (length_of sink)
+tail_len (tails.Lane number outlet) = None
 
 -- how many items a lane holds at the most
 abbrev pub tail_limit : {K O : Type 0} → (O → Limits) → Tail K O → Option ℕ

@@ -29,6 +29,10 @@ pub record TaskLists : Type 0 where
   pub head : HeadLists
   pub done : List Item
 
+-- the lists of a task that moved nothing yet
+abbrev pub unmoved : HeadLists → TaskLists
+unmoved head = record { head = head; done = [] }
+
 -- What the head gave has crossed all pads, but for an item that is in hand at one of them.
 pub record Holds {S K I O : Type 0} (content : S → Option (List ℕ)) (bytes : K → Option (List ℕ)) (received : I → List Item → Type 0) (sent : O → List Item → Type 0)
     (task : Task S K I O) (hand : Option Pending) (l : TaskLists) : Type 0 where
@@ -71,8 +75,11 @@ pub record Keeps (inlet outlet : Option ℕ) (tells tells' : Option (List Lane))
   pub from : (n : ℕ) (sent : List Item) → inlet ≡ Some n → outlet ≢ Some n → IsBetween tells n sent got → IsBetween tells' n sent got'
   pub to : (n : ℕ) (taken : List Item) → outlet ≡ Some n → inlet ≢ Some n → IsBetween tells n done taken → IsBetween tells' n done' taken
   pub others : (n : ℕ) (sent taken : List Item) → inlet ≢ Some n → outlet ≢ Some n → IsBetween tells n sent taken → IsBetween tells' n sent taken
-  pub rooms : (n : ℕ) (limits : Limits) (count : ℕ) → outlet ≢ Some n → IsOf tells n limits count → IsOf tells' n limits count
+
+-- No lane leaves the table, and each that is not at the task's outlet keeps its room.
+pub record KeepsTable (outlet : Option ℕ) (tells tells' : Option (List Lane)) : Type 0 where
   pub lanes : (n : ℕ) → IsIn tells n → IsIn tells' n
+  pub rooms : (n : ℕ) (limits : Limits) (count : ℕ) → outlet ≢ Some n → IsOf tells n limits count → IsOf tells' n limits count
 
 -- a lane that a table tells is empty
 abbrev pub IsEmptyLane : Option ℕ → Option (List Lane) → List Item → Type 0
@@ -120,6 +127,12 @@ fuel task = 2 * room_left task.pads.items + fresh task.pending
 
 abbrev pub pads_of : {S K I O : Type 0} → Task S K I O → List Pad
 pads_of task = task.pads.items
+
+abbrev pub pending_of : {S K I O : Type 0} → Task S K I O → Option Pending
+pending_of task = task.pending
+
+abbrev pub first_of : {S K I O : Type 0} → Task S K I O → ℕ
+first_of task = task.first
 
 abbrev pub head_of : {S K I O : Type 0} → Task S K I O → Head S I
 head_of task = task.head

@@ -1,5 +1,5 @@
 //! Tasks.
-ghost use Rattle.std.specs.Prelude.{◌≡◌, ◌≤◌, ◌<◌, ◌+◌, ◌^◌, ℕ, List, [], ◌*◌, Some, None, slice_get, OnErr, IfOk, IfErr, vec_len};
+ghost use Rattle.std.specs.Prelude.{◌≡◌, ◌≤◌, ◌<◌, ◌+◌, ◌^◌, ℕ, List, [], ◌*◌, Some, None, slice_get, OnErr, IfOk, IfErr, vec_len, length};
 ghost use Rattle.std.specs.Option.{ForSome};
 ghost use Rattle.task_core.specs.Head.{head_items};
 ghost use Rattle.task_core.specs.Pads.{room_left};
@@ -14,6 +14,7 @@ use crate::step::Step;
 use crate::tail::{Sending, Tail};
 use el_sink::WriteFault;
 use el_src::SrcFault;
+use gst_caps::OutOfMemory;
 use gst_item::{Event, Item};
 use gst_outside::{Sink, Source};
 use lane_core::{Inlet, Outlet};
@@ -42,9 +43,76 @@ pub struct Task<S, K, I, O> {
 impl<S: Source, K: Sink, I: Inlet<Out = O>, O: Outlet<Lanes = I::Lanes>> Task<S, K, I, O> {
     ghost use Rattle.flow_model.specs.Item.{Item};
     ghost use Rattle.task_core.specs.declared.pads.Pad.{Pad};
-    ghost use Rattle.task_core.specs.Head.{head_place};
-    ghost use Rattle.task_core.specs.Tail.{tail_place, tail_limit, tail_count};
-    ghost use Rattle.task_core.specs.Task.{TaskLists, Holds, Stands, IsReady, Goes, IsWhy, AtFault, IsTaskCause, Frame, Burns, fuel, head_of, tail_of};
+    ghost use Rattle.flow_model.specs.Chain.{IsPlain};
+    ghost use Rattle.task_core.specs.Head.{HeadLists, HeadGave, head_place};
+    ghost use Rattle.task_core.specs.Part.{IsPart};
+    ghost use Rattle.task_core.specs.Pending.{ahead};
+    ghost use Rattle.task_core.specs.Tail.{TailHas, tail_place, tail_limit, tail_count, tail_len};
+    ghost use Rattle.task_core.specs.Task.{TaskLists, Holds, Stands, IsReady, Goes, KeepsTable, IsWhy, AtFault, IsTaskCause, Frame, Burns, fuel, head_of, tail_of, pads_of, pending_of, first_of, unmoved};
+
+    /// A task of these parts that moved nothing yet: `first` is the number of the head's element, and there are
+    /// `pads` source pads.
+    pub fn new(
+        alloc: Global,
+        first: u32,
+        head: Head<S, I>,
+        pads: u32,
+        tail: Tail<K, O>,
+    ) -> Result<Task<S, K, I, O>, OutOfMemory>
+        requires some { 0 < pads }
+        requires numbers { first + pads < 2 ^ 32 }
+        requires fresh { head_items head ≡ 0 }
+        ensures stands { IfOk result (λ task. (l : HeadLists) → l.given ≡ [] → HeadGave S.content I.received head l → TailHas K.bytes O.sent tail [] → Stands S.content K.bytes I.received O.sent task (unmoved l)) }
+        ensures first { IfOk result (λ task. first_of task ≡ first) }
+        ensures pads { IfOk result (λ task. length (pads_of task) ≡ pads) }
+        ensures head { IfOk result (λ task. head_of task ≡ head) }
+        ensures tail { IfOk result (λ task. tail_of task ≡ tail) }
+        ensures none { IfOk result (λ task. pending_of task ≡ None) }
+    {
+        Ok(Task {
+            first,
+            head,
+            given: 0,
+            pads: vec![in alloc; Pad::new(); pads as usize]?,
+            pending: None,
+            over: false,
+            tail,
+        })
+    }
+
+    /// The counts of the source pads, the head's first.
+    pub fn pads(&self) -> &[Pad]
+        ensures { result.now ≡ pads_of self.now }
+    {
+        self.pads.as_slice()
+    }
+
+    /// The length of the sink's file, in bytes, where there is a sink.
+    pub fn sink_len(&self) -> Option<u64>
+        ensures { result ≡ tail_len (tail_of self.now) }
+    {
+        match &self.tail {
+            Tail::Sink(sink) => Some(sink.len()),
+            Tail::Lane { .. } => None,
+        }
+    }
+
+    /// The two ends. What waited in between is given up.
+    pub fn into_ends(self) -> (Head<S, I>, Tail<K, O>)
+        ensures head { result.0 ≡ head_of self }
+        ensures tail { result.1 ≡ tail_of self }
+    {
+        let Task { head, tail, .. } = self;
+        (head, tail)
+    }
+
+    /// What crossed each pad of a task is the history of this pad in a chain of elements that pass all, over
+    /// what the head gave and with the counts of the pads. A law: it does nothing.
+    pub fn task_is_part(&self)
+        ensures { (l : TaskLists) → Stands S.content K.bytes I.received O.sent self.now l → IsPlain l.head.given
+            → (place : ℕ) → place < length (pads_of self.now)
+            → IsPart (pads_of self.now) (ahead (pending_of self.now)) l.head.given l.done place }
+    {}
 
     /// One step: the item that waits crosses its pad, or the head gives its next one.
     ///
@@ -55,6 +123,7 @@ impl<S: Source, K: Sink, I: Inlet<Out = O>, O: Outlet<Lanes = I::Lanes>> Task<S,
         ensures fault { IfErr result (λ fault. (l : TaskLists) → Stands S.content K.bytes I.received O.sent self.old l → AtFault S.content K.bytes I.received O.sent self.new l fault) }
         ensures cause { IfErr result (λ fault. IsTaskCause S.faults K.faults self.old self.new fault) }
         ensures ready { IsReady I.place O.place O.limits O.count self.new (O.tells lanes.new) }
+        ensures lanes { KeepsTable (tail_place O.place (tail_of self.old)) (O.tells lanes.old) (O.tells lanes.new) }
         ensures table { OnErr result (O.tells lanes.new ≡ O.tells lanes.old) }
         ensures frame { Frame S.location S.content K.location I.place I.id O.place O.limits O.id self.old self.new }
         ensures burns { IfOk result (λ step. Burns step (fuel self.old) (fuel self.new)) }
@@ -73,6 +142,7 @@ impl<S: Source, K: Sink, I: Inlet<Out = O>, O: Outlet<Lanes = I::Lanes>> Task<S,
         ensures fault { IfErr result (λ fault. (l : TaskLists) → Holds S.content K.bytes I.received O.sent self.old None l → AtFault S.content K.bytes I.received O.sent self.new l fault) }
         ensures cause { IfErr result (λ fault. IsTaskCause S.faults K.faults self.old self.new fault) }
         ensures ready { IsReady I.place O.place O.limits O.count self.new (O.tells lanes.new) }
+        ensures lanes { KeepsTable (tail_place O.place (tail_of self.old)) (O.tells lanes.old) (O.tells lanes.new) }
         ensures table { OnErr result (O.tells lanes.new ≡ O.tells lanes.old) }
         ensures frame { Frame S.location S.content K.location I.place I.id O.place O.limits O.id self.old self.new }
         ensures burns { IfOk result (λ step. Burns step (2 * room_left self.old.pads.items + 1) (fuel self.new)) }
@@ -109,6 +179,7 @@ impl<S: Source, K: Sink, I: Inlet<Out = O>, O: Outlet<Lanes = I::Lanes>> Task<S,
         ensures fault { IfErr result (λ fault. (l : TaskLists) → Holds S.content K.bytes I.received O.sent self.old (Some hand) l → AtFault S.content K.bytes I.received O.sent self.new l fault) }
         ensures cause { IfErr result (λ fault. IsTaskCause S.faults K.faults self.old self.new fault) }
         ensures ready { IsReady I.place O.place O.limits O.count self.new (O.tells lanes.new) }
+        ensures lanes { KeepsTable (tail_place O.place (tail_of self.old)) (O.tells lanes.old) (O.tells lanes.new) }
         ensures table { OnErr result (O.tells lanes.new ≡ O.tells lanes.old) }
         ensures frame { Frame S.location S.content K.location I.place I.id O.place O.limits O.id self.old self.new }
         ensures burns { IfOk result (λ step. Burns step (2 * room_left self.old.pads.items) (fuel self.new)) }
@@ -137,6 +208,7 @@ impl<S: Source, K: Sink, I: Inlet<Out = O>, O: Outlet<Lanes = I::Lanes>> Task<S,
         ensures fault { IfErr result (λ fault. (l : TaskLists) → Holds S.content K.bytes I.received O.sent self.old (Some (hand_of last item)) l → AtFault S.content K.bytes I.received O.sent self.new l fault) }
         ensures cause { IfErr result (λ fault. IsTaskCause S.faults K.faults self.old self.new fault) }
         ensures ready { IsReady I.place O.place O.limits O.count self.new (O.tells lanes.new) }
+        ensures lanes { KeepsTable (tail_place O.place (tail_of self.old)) (O.tells lanes.old) (O.tells lanes.new) }
         ensures table { OnErr result (O.tells lanes.new ≡ O.tells lanes.old) }
         ensures frame { Frame S.location S.content K.location I.place I.id O.place O.limits O.id self.old self.new }
         ensures burns { IfOk result (λ step. Burns step (2 * room_left self.old.pads.items) (fuel self.new)) }

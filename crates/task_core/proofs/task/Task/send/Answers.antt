@@ -3,7 +3,7 @@ use Rattle.flow_model.specs.Item.{Item}
 use Rattle.task_core.specs.declared.step.Step.TheVariants.{NeedsRoom}
 use Rattle.task_core.specs.Tail.{tail_count}
 use Rattle.task_core.proofs.Crossing.{counts_over, counts_at, few_done, some_at, never}
-use Rattle.task_core.proofs.Keeping.{sent_keeps, sent_tail_of, sent_head_in, back_tells, back_full, count_of_tail}
+use Rattle.task_core.proofs.Keeping.{sent_keeps, sent_table, sent_tail_of, sent_head_in, back_tells, back_full, count_of_tail}
 use Rattle.task_core.proofs.Steps.{sent_goes, stays_goes}
 use Rattle.task_core.proofs.task.Task.send.Goals as goal
 
@@ -43,3 +43,6 @@ returns-in-Ok-Back-clause-goes g c =
     (record { gave = h.gave; number = h.number; over = h.over; held = h.held ∙ ap (λ (z : Item). l.done ++ z ∷ []) (sym back.1); counted = h.counted; tail = back.0 })
     (back_tells g.K.Sink.bytes g.O.Outlet.sent g.O.Outlet.place g.O.Outlet.limits g.O.Outlet.count c.args.self.now.tail c.send.new.self c.args.item _ _ _ _ moves)
     (back_full g.K.Sink.bytes g.O.Outlet.sent g.O.Outlet.place g.O.Outlet.limits g.O.Outlet.count c.args.self.now.tail c.send.new.self c.args.item _ _ _ _ l.done moves h.tail)
+
+pub returns-in-Ok-Sent-clause-lanes : goal.returns-in-Ok-Sent-clause-lanes
+returns-in-Ok-Sent-clause-lanes g c = sent_table g.K.Sink.bytes g.O.Outlet.sent g.O.Outlet.place g.O.Outlet.limits g.O.Outlet.count c.args.self.now.tail c.send.new.self c.args.item _ _ (rw c.in-Ok-Sent.field-0-is at c.in-Ok-Sent.ensures.moves)
