@@ -14,10 +14,11 @@ use Rattle.task_core.specs.declared.head.Head.TheVariants as heads
 use Rattle.task_core.specs.declared.tail.Tail.{Tail}
 use Rattle.task_core.specs.declared.tail.Tail.TheVariants as tails
 use Rattle.task_core.specs.declared.tail.Sending.TheVariants.{Sent, Back}
+use Rattle.task_core.specs.declared.task.Task.{Task}
 use Rattle.task_core.specs.Inlets.{KeepsRooms, place_of}
 use Rattle.task_core.specs.Head.{HeadIn, FromLane, head_place}
 use Rattle.task_core.specs.Tail.{TailHas, TailOf, TailMoves, tail_place, tail_limit, tail_count}
-use Rattle.task_core.specs.Task.{Keeps, KeepsTable, IsFullLane}
+use Rattle.task_core.specs.Task.{Keeps, KeepsTable, IsFullLane, IsReady, tail_of}
 
 none_some : {A : Type 0} {a : A} → None ≡ Some a → ⊥
 none_some e = cc
@@ -85,6 +86,19 @@ head_in_kept place (heads.Queue q) (heads.Queue q') tells tells' k e i = subst (
 pub tail_of_kept : {K O : Type 0} (place : O → ℕ) (limits : O → Limits) (count : O → ℕ) (t : Tail K O) (tells tells' : Option (List Lane)) → KeepsRooms tells tells' → TailOf place limits count t tells → TailOf place limits count t tells'
 tail_of_kept place limits count (tails.Sink s) tells tells' k o = tt
 tail_of_kept place limits count (tails.Lane n o) tells tells' k b = k.rooms _ _ _ b
+
+-- A task stays ready where the table is kept for another outlet.
+pub ready_kept : {S K I O : Type 0} (place_in : I → ℕ) (place : O → ℕ) (limits : O → Limits) (count : O → ℕ) (task : Task S K I O) (outlet : Option ℕ) (tells tells' : Option (List Lane)) → KeepsTable outlet tells tells'
+    → ((n : ℕ) → tail_place place (tail_of task) ≡ Some n → outlet ≢ Some n) → IsReady place_in place limits count task tells → IsReady place_in place limits count task tells'
+ready_kept place_in place limits count task outlet tells tells' k apart ready = record { head_in = head task.head ready.head_in; tail_of = tail task.tail apart ready.tail_of }
+  where
+    head : (h : Head S I) → HeadIn place_in h tells → HeadIn place_in h tells'
+    head (heads.Source s) i = tt
+    head (heads.Queue q) i = k.lanes _ i
+
+    tail : (t : Tail K O) → ((n : ℕ) → tail_place place t ≡ Some n → outlet ≢ Some n) → TailOf place limits count t tells → TailOf place limits count t tells'
+    tail (tails.Sink s) apart o = tt
+    tail (tails.Lane n o) apart b = k.rooms _ _ _ (apart (place o) refl) b
 
 module _ {K O : Type 0} (bytes : K → Option (List ℕ)) (sent : O → List Item → Type 0) (place : O → ℕ) (limits : O → Limits) (count : O → ℕ) where
   -- an item crossed to the tail
