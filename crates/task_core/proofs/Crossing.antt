@@ -1,6 +1,6 @@
 -- What the pads have counted, behind an item that crossed one of them.
-use Rattle.std.proofs.Common.{◌≡◌, ◌<◌, ◌≤◌, ◌+◌, ℕ, zero, suc, List, [], ◌∷◌, ◌++◌, length, length-append, get_or, Option, Some, None, refl, ap, sym, ◌∙◌, subst, arith, Bool, false, ◌||◌}
-use Rattle.std.specs.Prelude.{slice_get, slice_set, fold, replicate}
+use Rattle.std.proofs.Common.{◌≡◌, ◌<◌, ◌≤◌, ◌+◌, ℕ, zero, suc, List, [], ◌∷◌, ◌++◌, length, length-append, get_or, Some, refl, ap, sym, ◌∙◌, subst, arith, Bool, false, ◌||◌}
+use Rattle.std.specs.Prelude.{slice_get, slice_set, replicate}
 use Rattle.std.proofs.lemmas.Grind.{fold-append}
 use Rattle.flow_model.specs.Item.{Item, is_eos}
 use Rattle.el_src.specs.Gave.{has_eos}

@@ -8,7 +8,7 @@ use Rattle.lane_core.specs.Lane.{Lane, IsIn, IsOf, IsBetween}
 use Rattle.lane_core.specs.Room.{Limits}
 use Rattle.lane_core.specs.Laws.{HoldsFor}
 use Rattle.lane_core.specs.Moves.{TakesFirst, table_after_put, table_after_take}
-use Rattle.lane_core.proofs.Between.{take_keeps_between, take_keeps_others, take_keeps_room, take_keeps_lanes, put_keeps_between, put_keeps_others, put_keeps_other_room, put_keeps_lanes, put_keeps_room, of_same}
+use Rattle.lane_core.proofs.Between.{take_keeps_between, take_keeps_others, put_keeps_between, put_keeps_others, put_keeps_other_room, put_keeps_lanes, put_keeps_room, of_same}
 use Rattle.task_core.specs.declared.head.Head.{Head}
 use Rattle.task_core.specs.declared.head.Head.TheVariants as heads
 use Rattle.task_core.specs.declared.tail.Tail.{Tail}
@@ -90,7 +90,7 @@ tail_of_kept place limits count (tails.Lane n o) tells tells' k b = k.rooms _ _ 
 -- A task stays ready where the table is kept for another outlet.
 pub ready_kept : {S K I O : Type 0} (place_in : I → ℕ) (place : O → ℕ) (limits : O → Limits) (count : O → ℕ) (task : Task S K I O) (outlet : Option ℕ) (tells tells' : Option (List Lane)) → KeepsTable outlet tells tells'
     → ((n : ℕ) → tail_place place (tail_of task) ≡ Some n → outlet ≢ Some n) → IsReady place_in place limits count task tells → IsReady place_in place limits count task tells'
-ready_kept place_in place limits count task outlet tells tells' k apart ready = record { head_in = head task.head ready.head_in; tail_of = tail task.tail apart ready.tail_of }
+ready_kept {S = S} {K = K} {I = I} {O = O} place_in place limits count task outlet tells tells' k apart ready = record { head_in = head task.head ready.head_in; tail_of = tail task.tail apart ready.tail_of }
   where
     head : (h : Head S I) → HeadIn place_in h tells → HeadIn place_in h tells'
     head (heads.Source s) i = tt

@@ -1,12 +1,12 @@
 -- What a task stands for behind a step.
-use Rattle.std.proofs.Common.{◌≡◌, ◌≢◌, ◌≤◌, ◌+◌, ℕ, List, [], ◌∷◌, ◌++◌, length, Option, Some, None, Bool, true, false, refl, ap, sym, ◌∙◌, subst, inl, inr, arith, length-append, append-nil}
+use Rattle.std.proofs.Common.{◌≡◌, ◌+◌, ℕ, List, [], ◌∷◌, ◌++◌, length, Option, Some, None, false, refl, ap, sym, ◌∙◌, subst, inl, inr, arith, length-append, append-nil}
 use Rattle.std.specs.Option.{ForSome}
 use Rattle.flow_model.specs.Item.{Item, is_eos}
 use Rattle.el_src.specs.Gave.{has_eos}
 use Rattle.lane_core.specs.Lane.{Lane, IsBetween}
 use Rattle.task_core.specs.declared.pending.Pending.{Pending}
 use Rattle.task_core.specs.declared.step.Step.{Step}
-use Rattle.task_core.specs.declared.step.Step.TheVariants.{Moved, NeedsItem, NeedsRoom, Ended}
+use Rattle.task_core.specs.declared.step.Step.TheVariants.{Moved}
 use Rattle.task_core.specs.declared.task.Task.{Task}
 use Rattle.task_core.specs.declared.head.Head.{Head}
 use Rattle.task_core.specs.declared.head.Head.TheVariants.{Source, Queue}
@@ -14,7 +14,7 @@ use Rattle.task_core.specs.Step.{idle_step}
 use Rattle.task_core.specs.Head.{HeadLists, HeadGave, HeadAfter, IsIdle, head_place}
 use Rattle.task_core.specs.Tail.{TailHas}
 use Rattle.task_core.specs.Pads.{CountsAll}
-use Rattle.task_core.specs.Pending.{hand_of, ahead}
+use Rattle.task_core.specs.Pending.{hand_of}
 use Rattle.task_core.specs.Task.{TaskLists, Holds, Stands, Goes, Keeps, IsWhy}
 use Rattle.task_core.proofs.Crossing.{counts_any, eos_more}
 use Rattle.task_core.proofs.Keeping.{keep_same, keep_from}

@@ -2,7 +2,7 @@
 use Rattle.std.specs.Prelude.{◌≡◌, ◌≤◌, ◌⊎◌, ℕ, length, List, [], ◌∷◌, ◌++◌, Option, Some, None}
 use Rattle.std.specs.Option.{ForSome}
 use Rattle.flow_model.specs.Item.{Item}
-use Rattle.lane_core.specs.declared.ends.Take.TheVariants.{Item as Taken, Empty}
+use Rattle.lane_core.specs.declared.ends.Take.TheVariants.{Item as Taken}
 use Rattle.lane_core.specs.Lane.{Lane, IsIn, IsOf, IsBetween}
 use Rattle.lane_core.specs.Room.{Limits}
 use Rattle.lane_core.specs.Moves.{TakesFirst, table_after_take}

@@ -1,5 +1,5 @@
 -- The counts of the source pads of a task.
-use Rattle.std.specs.Prelude.{◌≡◌, ◌≤◌, ℕ, ◌-◌, zero, suc, List, [], ◌∷◌, length, sum_by}
+use Rattle.std.specs.Prelude.{◌≡◌, ℕ, ◌-◌, zero, suc, List, [], ◌∷◌, length, sum_by}
 use Rattle.flow_model.specs.Item.{Item, buffers}
 use Rattle.task_core.specs.declared.pads.Pad.{Pad}
 

@@ -1,5 +1,5 @@
 -- What the tail of a task was given.
-use Rattle.std.specs.Prelude.{◌≡◌, ◌≤◌, ℕ, ◌+◌, false, List, [], ◌∷◌, ◌++◌, Option, Some, None}
+use Rattle.std.specs.Prelude.{◌≡◌, ℕ, ◌+◌, false, List, [], ◌∷◌, ◌++◌, Option, Some, None}
 use Rattle.flow_model.specs.Item.{Item}
 use Rattle.lane_core.specs.declared.ends.Put.TheVariants.{Stored, Full}
 use Rattle.lane_core.specs.Lane.{Lane, IsOf, IsBetween}

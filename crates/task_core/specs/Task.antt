@@ -1,5 +1,5 @@
 -- For which lists a task stands, and what its steps do to them.
-use Rattle.std.specs.Prelude.{◌≡◌, ◌≢◌, ◌≤◌, ◌<◌, ◌⊎◌, ℕ, ◌+◌, ◌-◌, ◌*◌, ◌==◌, if◌then◌else◌, false, true, List, [], ◌∷◌, ◌++◌, Option, Some, None, length, vec_len}
+use Rattle.std.specs.Prelude.{◌≡◌, ◌≢◌, ◌≤◌, ◌<◌, ◌⊎◌, ℕ, ◌+◌, ◌-◌, ◌*◌, false, true, List, [], ◌∷◌, ◌++◌, Option, Some, None, length, vec_len}
 use Rattle.std.specs.Option.{ForSome}
 use Rattle.flow_model.specs.Item.{Item}
 use Rattle.gst_outside.specs.Causes.{Rose}
@@ -16,9 +16,9 @@ use Rattle.task_core.specs.declared.task.Task.{Task}
 use Rattle.task_core.specs.declared.pads.Pad.{Pad}
 use Rattle.task_core.specs.declared.head.Head.{Head}
 use Rattle.task_core.specs.declared.tail.Tail.{Tail}
-use Rattle.task_core.specs.Head.{HeadLists, HeadGave, HeadIn, IsIdle, head_faults, head_place, head_id, head_location, head_content}
+use Rattle.task_core.specs.Head.{HeadLists, HeadGave, HeadIn, head_faults, head_place, head_id, head_location, head_content}
 use Rattle.task_core.specs.Tail.{TailHas, TailPart, TailOf, tail_faults, tail_place, tail_id, tail_location, tail_limit}
-use Rattle.task_core.specs.Pads.{Counts, CountsAll, room_left}
+use Rattle.task_core.specs.Pads.{CountsAll, room_left}
 
 -- the most items that cross a pad
 abbrev pub most_items : ℕ

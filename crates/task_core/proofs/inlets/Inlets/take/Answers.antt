@@ -1,4 +1,4 @@
-use Rattle.std.proofs.Common.{◌≡◌, length, sym, ◌∙◌, refl, inl}
+use Rattle.std.proofs.Common.{◌≡◌, length, sym, ◌∙◌}
 use Rattle.lane_core.specs.Room.{number_of}
 use Rattle.task_core.proofs.Drained.{drained}
 use Rattle.task_core.proofs.Rooms.{taken_rooms}

@@ -1,4 +1,4 @@
-use Rattle.std.proofs.Common.{◌≡◌, ◌+◌, ℕ, Option, refl, ap, sym, ◌∙◌, subst}
+use Rattle.std.proofs.Common.{◌+◌, ℕ, Option, refl, ap, sym, ◌∙◌, subst}
 use Rattle.task_core.specs.declared.pending.Pending.{Pending}
 use Rattle.task_core.specs.declared.step.Step.TheVariants.{Ended}
 use Rattle.task_core.specs.Task.{Holds}

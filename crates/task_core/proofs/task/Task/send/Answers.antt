@@ -1,4 +1,4 @@
-use Rattle.std.proofs.Common.{◌∷◌, [], ◌++◌, length, List, refl, sym, ◌∙◌, ap, arith}
+use Rattle.std.proofs.Common.{◌∷◌, [], ◌++◌, length, sym, ◌∙◌, ap, arith}
 use Rattle.flow_model.specs.Item.{Item}
 use Rattle.task_core.specs.declared.step.Step.TheVariants.{NeedsRoom}
 use Rattle.task_core.specs.Tail.{tail_count}

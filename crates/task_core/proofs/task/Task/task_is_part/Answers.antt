@@ -1,4 +1,3 @@
-use Rattle.std.proofs.Common.{refl}
 use Rattle.task_core.proofs.Parts.{is_part}
 use Rattle.task_core.proofs.task.Task.task_is_part.Goals as goal
 
