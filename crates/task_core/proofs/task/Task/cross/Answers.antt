@@ -1,0 +1,28 @@
+use Rattle.std.proofs.Common.{List, refl, sym, subst, arith, inl}
+use Rattle.flow_model.specs.Item.{Item}
+use Rattle.task_core.specs.declared.step.Step.TheVariants.{Moved}
+use Rattle.task_core.specs.Pads.{Counts}
+use Rattle.task_core.proofs.Crossing.{counts_step, counts_at, below_at, full_at, longer}
+use Rattle.task_core.proofs.Steps.{stays_goes}
+use Rattle.task_core.proofs.task.Task.cross.Goals as goal
+
+pub returns-then-index-ge-MOST_ITEMS-clause-fault : goal.returns-then-index-ge-MOST_ITEMS-clause-fault
+returns-then-index-ge-MOST_ITEMS-clause-fault g c =
+    λ l h.
+    let was = counts_at c.args.self.now.pads.items c.args.hand.pad l.head.given l.done c.index.result.now h.counted (omega (arith, c.requires.within)) c.index.ensures in
+    rw c.too_long.ensures (
+      record { gave = h.gave; number = h.number; over = h.over; held = h.held; counted = h.counted; tail = h.tail },
+      record { pad = c.args.hand.pad; within = c.requires.within; named = refl; behind = omega arith; full = full_at c.index.result.now l.done was c.if-index-ge-MOST_ITEMS.true; more = inl (longer l.head.given l.done c.args.hand.item h.held) },
+    )
+
+pub send-requires-clause-room : goal.send-requires-clause-room
+send-requires-clause-room g c κs within = λ pad at. below_at c.args.self.now.pads.items c.args.hand.pad 1099511627776 c.index.result.now pad c.index.ensures c.if-index-ge-MOST_ITEMS.false at
+
+pub returns-clause-goes : goal.returns-clause-goes
+returns-clause-goes g c =
+    λ l h.
+    let was = counts_at c.args.self.now.pads.items c.args.hand.pad l.head.given l.done c.index_mut.result.now h.counted (omega (arith, c.requires.within)) c.index_mut.ensures.value in
+    let crossed = subst (λ (all : List Item). Counts c.cross.new.self all) (sym h.held) (c.cross.ensures.counts l.done c.args.hand.item (sym c.is_buffer.ensures) was) in
+    stays_goes {S = g.row.S.Denot} {K = g.row.K.Denot} {I = g.row.I.Denot} {O = g.row.O.Denot} g.S.Source.content g.K.Sink.bytes g.I.Inlet.received g.O.Outlet.sent _ l Moved _ _ _ _ _
+    (record { gave = h.gave; number = h.number; over = h.over; held = h.held; counted = counts_step c.args.self.now.pads.items c.args.hand.pad c.cross.new.self l.head.given l.done h.counted (omega (arith, c.requires.within)) crossed; tail = h.tail })
+    refl tt

@@ -1,0 +1,20 @@
+//! Tasks: the work of streaming threads.
+#![tactic(auto)]
+
+pub mod fault;
+pub mod head;
+pub mod inlets;
+pub mod pads;
+pub mod pending;
+pub mod step;
+pub mod tail;
+pub mod task;
+
+pub use fault::TaskFault;
+pub use head::Head;
+pub use inlets::Inlets;
+pub use pads::{MOST_ITEMS, Pad};
+pub use pending::Pending;
+pub use step::Step;
+pub use tail::{Sending, Tail};
+pub use task::Task;

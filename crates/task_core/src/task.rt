@@ -1,0 +1,263 @@
+//! Tasks.
+ghost use Rattle.std.specs.Prelude.{◌≡◌, ◌≤◌, ◌<◌, ◌+◌, ◌^◌, ℕ, List, [], ◌*◌, Some, None, slice_get, OnErr, IfOk, IfErr, vec_len, length};
+ghost use Rattle.std.specs.Option.{ForSome};
+ghost use Rattle.task_core.specs.Head.{head_items};
+ghost use Rattle.task_core.specs.Pads.{room_left};
+ghost use Rattle.task_core.specs.Pending.{hand_of};
+ghost use Rattle.flow_model.specs.Item.{is_buffer as buffer_test, is_eos as eos_test};
+
+use crate::fault::TaskFault;
+use crate::head::Head;
+use crate::pads::{MOST_ITEMS, Pad};
+use crate::pending::Pending;
+use crate::step::Step;
+use crate::tail::{Sending, Tail};
+use el_sink::WriteFault;
+use el_src::SrcFault;
+use gst_caps::OutOfMemory;
+use gst_item::{Event, Item};
+use gst_outside::{Sink, Source};
+use lane_core::{Inlet, Outlet};
+use std::alloc::Global;
+
+/// A task: a head, the elements behind it that pass all, and a tail. Each element but a sink has one source pad.
+#[derive(Drop)]
+pub struct Task<S, K, I, O> {
+    /// The number of the head's element; those behind it follow on.
+    first: u32,
+    head: Head<S, I>,
+    /// How many items the head has given.
+    given: u64,
+    pads: Vec<Pad>,
+    pending: Option<Pending>,
+    /// Whether the head has given EOS.
+    over: bool,
+    tail: Tail<K, O>,
+    ghost some: { 0 < vec_len pads },
+    ghost numbers: { first + vec_len pads < 2 ^ 32 },
+    ghost within: { ForSome pending (λ p. p.pad < vec_len pads) },
+    ghost few: { head_items head ≤ given },
+    ghost limit: { given ≤ 2 ^ 40 },
+}
+
+impl<S: Source, K: Sink, I: Inlet<Out = O>, O: Outlet<Lanes = I::Lanes>> Task<S, K, I, O> {
+    ghost use Rattle.flow_model.specs.Item.{Item};
+    ghost use Rattle.task_core.specs.declared.pads.Pad.{Pad};
+    ghost use Rattle.flow_model.specs.Chain.{IsPlain};
+    ghost use Rattle.task_core.specs.Head.{HeadLists, HeadGave, head_place};
+    ghost use Rattle.task_core.specs.Part.{IsPart};
+    ghost use Rattle.task_core.specs.Pending.{ahead};
+    ghost use Rattle.task_core.specs.Tail.{TailHas, tail_place, tail_limit, tail_count, tail_len};
+    ghost use Rattle.task_core.specs.Task.{TaskLists, Holds, Stands, IsReady, Goes, KeepsTable, IsWhy, AtFault, IsTaskCause, Frame, Burns, fuel, head_of, tail_of, pads_of, pending_of, first_of, unmoved};
+
+    /// A task of these parts that moved nothing yet: `first` is the number of the head's element, and there are
+    /// `pads` source pads.
+    pub fn new(
+        alloc: Global,
+        first: u32,
+        head: Head<S, I>,
+        pads: u32,
+        tail: Tail<K, O>,
+    ) -> Result<Task<S, K, I, O>, OutOfMemory>
+        requires some { 0 < pads }
+        requires numbers { first + pads < 2 ^ 32 }
+        requires fresh { head_items head ≡ 0 }
+        ensures stands { IfOk result (λ task. (l : HeadLists) → l.given ≡ [] → HeadGave S.content I.received head l → TailHas K.bytes O.sent tail [] → Stands S.content K.bytes I.received O.sent task (unmoved l)) }
+        ensures first { IfOk result (λ task. first_of task ≡ first) }
+        ensures pads { IfOk result (λ task. length (pads_of task) ≡ pads) }
+        ensures head { IfOk result (λ task. head_of task ≡ head) }
+        ensures tail { IfOk result (λ task. tail_of task ≡ tail) }
+        ensures none { IfOk result (λ task. pending_of task ≡ None) }
+    {
+        Ok(Task {
+            first,
+            head,
+            given: 0,
+            pads: vec![in alloc; Pad::new(); pads as usize]?,
+            pending: None,
+            over: false,
+            tail,
+        })
+    }
+
+    /// The counts of the source pads, the head's first.
+    pub fn pads(&self) -> &[Pad]
+        ensures { result.now ≡ pads_of self.now }
+    {
+        self.pads.as_slice()
+    }
+
+    /// The length of the sink's file, in bytes, where there is a sink.
+    pub fn sink_len(&self) -> Option<u64>
+        ensures { result ≡ tail_len (tail_of self.now) }
+    {
+        match &self.tail {
+            Tail::Sink(sink) => Some(sink.len()),
+            Tail::Lane { .. } => None,
+        }
+    }
+
+    /// The two ends. What waited in between is given up.
+    pub fn into_ends(self) -> (Head<S, I>, Tail<K, O>)
+        ensures head { result.0 ≡ head_of self }
+        ensures tail { result.1 ≡ tail_of self }
+    {
+        let Task { head, tail, .. } = self;
+        (head, tail)
+    }
+
+    /// What crossed each pad of a task is the history of this pad in a chain of elements that pass all, over
+    /// what the head gave and with the counts of the pads. A law: it does nothing.
+    pub fn task_is_part(&self)
+        ensures { (l : TaskLists) → Stands S.content K.bytes I.received O.sent self.now l → IsPlain l.head.given
+            → (place : ℕ) → place < length (pads_of self.now)
+            → IsPart (pads_of self.now) (ahead (pending_of self.now)) l.head.given l.done place }
+    {}
+
+    /// One step: the item that waits crosses its pad, or the head gives its next one.
+    ///
+    /// Where it answers a fault other than a `WriteFault` the task is as it was.
+    pub fn step(&mut self, alloc: Global, lanes: &mut I::Lanes) -> Result<Step, TaskFault>
+        requires { IsReady I.place O.place O.limits O.count self.old (O.tells lanes.old) }
+        ensures goes { IfOk result (λ step. (l : TaskLists) → Stands S.content K.bytes I.received O.sent self.old l → Goes S.content K.bytes I.received O.sent self.new l step (head_place I.place (head_of self.old)) (tail_place O.place (tail_of self.old)) (tail_limit O.limits (tail_of self.old)) (O.tells lanes.old) (O.tells lanes.new)) }
+        ensures fault { IfErr result (λ fault. (l : TaskLists) → Stands S.content K.bytes I.received O.sent self.old l → AtFault S.content K.bytes I.received O.sent self.new l fault) }
+        ensures cause { IfErr result (λ fault. IsTaskCause S.faults K.faults self.old self.new fault) }
+        ensures ready { IsReady I.place O.place O.limits O.count self.new (O.tells lanes.new) }
+        ensures lanes { KeepsTable (tail_place O.place (tail_of self.old)) (O.tells lanes.old) (O.tells lanes.new) }
+        ensures table { OnErr result (O.tells lanes.new ≡ O.tells lanes.old) }
+        ensures frame { Frame S.location S.content K.location I.place I.id O.place O.limits O.id self.old self.new }
+        ensures burns { IfOk result (λ step. Burns step (fuel self.old) (fuel self.new)) }
+    {
+        match self.pending.take() {
+            Some(pending) => self.cross(lanes, pending),
+            None => self.next(alloc, lanes),
+        }
+    }
+
+    /// The head gives its next item, where there is one.
+    fn next(&mut self, alloc: Global, lanes: &mut I::Lanes) -> Result<Step, TaskFault>
+        requires ready { IsReady I.place O.place O.limits O.count self.old (O.tells lanes.old) }
+        requires none { self.old.pending ≡ None }
+        ensures goes { IfOk result (λ step. (l : TaskLists) → Holds S.content K.bytes I.received O.sent self.old None l → Goes S.content K.bytes I.received O.sent self.new l step (head_place I.place (head_of self.old)) (tail_place O.place (tail_of self.old)) (tail_limit O.limits (tail_of self.old)) (O.tells lanes.old) (O.tells lanes.new)) }
+        ensures fault { IfErr result (λ fault. (l : TaskLists) → Holds S.content K.bytes I.received O.sent self.old None l → AtFault S.content K.bytes I.received O.sent self.new l fault) }
+        ensures cause { IfErr result (λ fault. IsTaskCause S.faults K.faults self.old self.new fault) }
+        ensures ready { IsReady I.place O.place O.limits O.count self.new (O.tells lanes.new) }
+        ensures lanes { KeepsTable (tail_place O.place (tail_of self.old)) (O.tells lanes.old) (O.tells lanes.new) }
+        ensures table { OnErr result (O.tells lanes.new ≡ O.tells lanes.old) }
+        ensures frame { Frame S.location S.content K.location I.place I.id O.place O.limits O.id self.old self.new }
+        ensures burns { IfOk result (λ step. Burns step (2 * room_left self.old.pads.items + 1) (fuel self.new)) }
+    {
+        if self.over {
+            return Ok(Step::Ended);
+        }
+        if self.given >= MOST_ITEMS {
+            return Err(too_long(self.first));
+        }
+        match self.head.next(alloc, lanes) {
+            Ok(Some(item)) => {
+                self.given += 1;
+                self.over = is_eos(&item);
+                self.pending = Some(Pending { pad: 0, item });
+                Ok(Step::Moved)
+            }
+            Ok(None) => Ok(self.head.idle()),
+            Err(SrcFault::ReadFault { before, after }) => Err(TaskFault::ReadFault {
+                element: self.first,
+                before,
+                after,
+            }),
+            Err(SrcFault::OutOfMemory) => Err(TaskFault::OutOfMemory),
+        }
+    }
+
+    /// The item in hand crosses its pad.
+    fn cross(&mut self, lanes: &mut I::Lanes, hand: Pending) -> Result<Step, TaskFault>
+        requires ready { IsReady I.place O.place O.limits O.count self.old (O.tells lanes.old) }
+        requires none { self.old.pending ≡ None }
+        requires within { hand.pad < vec_len self.old.pads }
+        ensures goes { IfOk result (λ step. (l : TaskLists) → Holds S.content K.bytes I.received O.sent self.old (Some hand) l → Goes S.content K.bytes I.received O.sent self.new l step (head_place I.place (head_of self.old)) (tail_place O.place (tail_of self.old)) (tail_limit O.limits (tail_of self.old)) (O.tells lanes.old) (O.tells lanes.new)) }
+        ensures fault { IfErr result (λ fault. (l : TaskLists) → Holds S.content K.bytes I.received O.sent self.old (Some hand) l → AtFault S.content K.bytes I.received O.sent self.new l fault) }
+        ensures cause { IfErr result (λ fault. IsTaskCause S.faults K.faults self.old self.new fault) }
+        ensures ready { IsReady I.place O.place O.limits O.count self.new (O.tells lanes.new) }
+        ensures lanes { KeepsTable (tail_place O.place (tail_of self.old)) (O.tells lanes.old) (O.tells lanes.new) }
+        ensures table { OnErr result (O.tells lanes.new ≡ O.tells lanes.old) }
+        ensures frame { Frame S.location S.content K.location I.place I.id O.place O.limits O.id self.old self.new }
+        ensures burns { IfOk result (λ step. Burns step (2 * room_left self.old.pads.items) (fuel self.new)) }
+    {
+        let Pending { pad, item } = hand;
+        if self.pads[pad].items >= MOST_ITEMS {
+            let element = self.first + pad as u32;
+            self.pending = Some(Pending { pad, item });
+            return Err(too_long(element));
+        }
+        if pad + 1 == self.pads.len() {
+            return self.send(lanes, pad, item);
+        }
+        self.pads[pad].cross(is_buffer(&item));
+        self.pending = Some(Pending { pad: pad + 1, item });
+        Ok(Step::Moved)
+    }
+
+    /// The item in hand at the last pad crosses it, where the tail takes it.
+    fn send(&mut self, lanes: &mut I::Lanes, last: usize, item: Item) -> Result<Step, TaskFault>
+        requires ready { IsReady I.place O.place O.limits O.count self.old (O.tells lanes.old) }
+        requires none { self.old.pending ≡ None }
+        requires last { last + 1 ≡ vec_len self.old.pads }
+        requires room { (pad : Pad) → slice_get self.old.pads.items last ≡ Some pad → pad.items < 2 ^ 40 }
+        ensures goes { IfOk result (λ step. (l : TaskLists) → Holds S.content K.bytes I.received O.sent self.old (Some (hand_of last item)) l → Goes S.content K.bytes I.received O.sent self.new l step (head_place I.place (head_of self.old)) (tail_place O.place (tail_of self.old)) (tail_limit O.limits (tail_of self.old)) (O.tells lanes.old) (O.tells lanes.new)) }
+        ensures fault { IfErr result (λ fault. (l : TaskLists) → Holds S.content K.bytes I.received O.sent self.old (Some (hand_of last item)) l → AtFault S.content K.bytes I.received O.sent self.new l fault) }
+        ensures cause { IfErr result (λ fault. IsTaskCause S.faults K.faults self.old self.new fault) }
+        ensures ready { IsReady I.place O.place O.limits O.count self.new (O.tells lanes.new) }
+        ensures lanes { KeepsTable (tail_place O.place (tail_of self.old)) (O.tells lanes.old) (O.tells lanes.new) }
+        ensures table { OnErr result (O.tells lanes.new ≡ O.tells lanes.old) }
+        ensures frame { Frame S.location S.content K.location I.place I.id O.place O.limits O.id self.old self.new }
+        ensures burns { IfOk result (λ step. Burns step (2 * room_left self.old.pads.items) (fuel self.new)) }
+    {
+        if self.tail.count() >= MOST_ITEMS {
+            let element = self.first + last as u32;
+            self.pending = Some(Pending { pad: last, item });
+            return Err(too_long(element));
+        }
+        let buffer = is_buffer(&item);
+        match self.tail.send(lanes, item) {
+            Ok(Sending::Sent) => {
+                self.pads[last].cross(buffer);
+                Ok(Step::Moved)
+            }
+            Ok(Sending::Back { number, item }) => {
+                self.pending = Some(Pending { pad: last, item });
+                Ok(Step::NeedsRoom(number))
+            }
+            Err(WriteFault { before, after }) => Err(TaskFault::WriteFault {
+                element: self.first + self.pads.len() as u32,
+                before,
+                after,
+            }),
+        }
+    }
+}
+
+/// More items than the limit were to cross a pad of this element.
+fn too_long(element: u32) -> TaskFault
+    ensures { result ≡ TaskFault.TooLong element 1099511627776 1 }
+{
+    TaskFault::TooLong {
+        element,
+        a: MOST_ITEMS,
+        b: 1,
+    }
+}
+
+/// Whether an item is a buffer.
+fn is_buffer(item: &Item) -> bool
+    ensures { result ≡ buffer_test item.now }
+{
+    matches!(item, Item::Buffer(_))
+}
+
+/// Whether an item is EOS.
+fn is_eos(item: &Item) -> bool
+    ensures { result ≡ eos_test item.now }
+{
+    matches!(item, Item::Event(Event::Eos))
+}
