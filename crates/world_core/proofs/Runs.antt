@@ -21,23 +21,23 @@ told_closing : (before after : Option ℕ) (s k : ℕ) (other : Bool) → Rose 0
     → after ≡ (if other then option_map (λ n. plus n k) (option_map (λ n. plus n s) before) else option_map (λ n. plus n s) before) → ToldRose before after
 told_closing before after s k true rose e =
     λ b was a is.
-        let same : a ≡ plus (plus b s) k = let whole = sym is ∙ e ∙ ap (λ o. option_map (λ n. plus n k) (option_map (λ n. plus n s) o)) was in cc in
-        rw same (rose_within b b (plus b s) (plus (plus b s) k) (omega arith) (rose_closing b s rose) (plus-rises (plus b s) k))
+    let same : a ≡ plus (plus b s) k = let whole = sym is ∙ e ∙ ap (λ o. option_map (λ n. plus n k) (option_map (λ n. plus n s) o)) was in cc in
+    rw same (rose_within b b (plus b s) (plus (plus b s) k) (omega arith) (rose_closing b s rose) (plus-rises (plus b s) k))
 told_closing before after s k false rose e =
     λ b was a is.
-        let same : a ≡ plus b s = let whole = sym is ∙ e ∙ ap (λ o. option_map (λ n. plus n s) o) was in cc in
-        rw same (rose_closing b s rose)
+    let same : a ≡ plus b s = let whole = sym is ∙ e ∙ ap (λ o. option_map (λ n. plus n s) o) was in cc in
+    rw same (rose_closing b s rose)
 
 told_last : (before after : Option ℕ) (s k : ℕ) (other : Bool) → Rose 0 k
     → after ≡ option_map (λ n. plus n k) (if other then option_map (λ n. plus n s) before else before) → ToldRose before after
 told_last before after s k true rose e =
     λ b was a is.
-        let same : a ≡ plus (plus b s) k = let whole = sym is ∙ e ∙ ap (λ o. option_map (λ n. plus n k) (option_map (λ n. plus n s) o)) was in cc in
-        rw same (rose_within b (plus b s) (plus (plus b s) k) (plus (plus b s) k) (plus-rises b s) (rose_closing (plus b s) k rose) (omega arith))
+    let same : a ≡ plus (plus b s) k = let whole = sym is ∙ e ∙ ap (λ o. option_map (λ n. plus n k) (option_map (λ n. plus n s) o)) was in cc in
+    rw same (rose_within b (plus b s) (plus (plus b s) k) (plus (plus b s) k) (plus-rises b s) (rose_closing (plus b s) k rose) (omega arith))
 told_last before after s k false rose e =
     λ b was a is.
-        let same : a ≡ plus b k = let whole = sym is ∙ e ∙ ap (λ o. option_map (λ n. plus n k) o) was in cc in
-        rw same (rose_closing b k rose)
+    let same : a ≡ plus b k = let whole = sym is ∙ e ∙ ap (λ o. option_map (λ n. plus n k) o) was in cc in
+    rw same (rose_closing b k rose)
 
 pub run_ended : (line : Line) (before middle after : Seen) (content bytes source_place sink_place : Option (List ℕ)) (s k : ℕ) (end : WorldEnd)
     → content ≡ before.input line.source → source_place ≡ Some line.source → sink_place ≡ Some line.sink
@@ -50,18 +50,20 @@ run_ended line before middle after content bytes source_place sink_place s k end
     let early : before.faults ≤ middle.faults = stays.faults in
     record {
       ended = rw (out, ← read) ended;
-      unread = λ e.
-          (rw total (rose_within before.faults middle.faults (plus middle.faults s) (plus (plus middle.faults s) k) early (rose_closing middle.faults s (unread e)) (plus-rises (plus middle.faults s) k)),
-          told_closing (before.faults_of line.source) (after.faults_of line.source) s k (is_at sink_place line.source) (unread e)
-          (closes.faults_of line.source
-          ∙ ap (λ b. if is_at sink_place line.source then option_map (λ n. plus n k) (if b then option_map (λ n. plus n s) (middle.faults_of line.source) else middle.faults_of line.source)
+      unread = λ e. (
+        rw total (rose_within before.faults middle.faults (plus middle.faults s) (plus (plus middle.faults s) k) early (rose_closing middle.faults s (unread e)) (plus-rises (plus middle.faults s) k)),
+        told_closing (before.faults_of line.source) (after.faults_of line.source) s k (is_at sink_place line.source) (unread e)
+            (closes.faults_of line.source
+            ∙ ap (λ b. if is_at sink_place line.source then option_map (λ n. plus n k) (if b then option_map (λ n. plus n s) (middle.faults_of line.source) else middle.faults_of line.source)
             else (if b then option_map (λ n. plus n s) (middle.faults_of line.source) else middle.faults_of line.source)) (here source_place line.source from)
-          ∙ ap (λ o. if is_at sink_place line.source then option_map (λ n. plus n k) (option_map (λ n. plus n s) o) else option_map (λ n. plus n s) o) (same line.source)));
-      unwritten = λ e.
-          (rw total (rose_within before.faults (plus middle.faults s) (plus (plus middle.faults s) k) (plus (plus middle.faults s) k) (omega (arith, plus-rises middle.faults s)) (rose_closing (plus middle.faults s) k (unwritten e)) (omega arith)),
-          told_last (before.faults_of line.sink) (after.faults_of line.sink) s k (is_at source_place line.sink) (unwritten e)
-          (closes.faults_of line.sink
-          ∙ ap (λ b. if b then option_map (λ n. plus n k) (if is_at source_place line.sink then option_map (λ n. plus n s) (middle.faults_of line.sink) else middle.faults_of line.sink)
+            ∙ ap (λ o. if is_at sink_place line.source then option_map (λ n. plus n k) (option_map (λ n. plus n s) o) else option_map (λ n. plus n s) o) (same line.source)),
+      );
+      unwritten = λ e. (
+        rw total (rose_within before.faults (plus middle.faults s) (plus (plus middle.faults s) k) (plus (plus middle.faults s) k) (omega (arith, plus-rises middle.faults s)) (rose_closing (plus middle.faults s) k (unwritten e)) (omega arith)),
+        told_last (before.faults_of line.sink) (after.faults_of line.sink) s k (is_at source_place line.sink) (unwritten e)
+            (closes.faults_of line.sink
+            ∙ ap (λ b. if b then option_map (λ n. plus n k) (if is_at source_place line.sink then option_map (λ n. plus n s) (middle.faults_of line.sink) else middle.faults_of line.sink)
             else (if is_at source_place line.sink then option_map (λ n. plus n s) (middle.faults_of line.sink) else middle.faults_of line.sink)) (here sink_place line.sink to)
-          ∙ ap (λ o. option_map (λ n. plus n k) (if is_at source_place line.sink then option_map (λ n. plus n s) o else o)) (same line.sink)));
+            ∙ ap (λ o. option_map (λ n. plus n k) (if is_at source_place line.sink then option_map (λ n. plus n s) o else o)) (same line.sink)),
+      );
     }
