@@ -1,5 +1,5 @@
 -- How a task that has run ends, as a report tells it.
-use Rattle.std.proofs.Common.{◌≡◌, ◌≢◌, ◌⊎◌, ◌≤◌, ◌<◌, ◌+◌, ℕ, zero, suc, false, List, [], ◌∷◌, ◌++◌, length, take, refl, sym, ap, ◌∙◌, subst, inl, inr, arith, codes, Option, Some, Result, Ok, Err, IfErr, append_assoc, length-append, slice_get, get_or}
+use Rattle.std.proofs.Common.{◌≡◌, ◌≤◌, ℕ, zero, suc, false, List, [], ◌∷◌, ◌++◌, length, take, refl, sym, ap, ◌∙◌, inl, inr, arith, codes, Option, Some, Result, Ok, Err, IfErr, append_assoc, length-append, slice_get, get_or}
 use Rattle.std.specs.Option.{ForSome}
 use Rattle.gst_outside.specs.Causes.{Rose}
 use Rattle.gst_outside.specs.Bytes.{written}
@@ -10,8 +10,8 @@ use Rattle.flow_model.specs.SinkBytes.{disk_after, sink_bytes}
 use Rattle.flow_model.specs.declared.report.PadCount.{PadCount}
 use Rattle.flow_model.specs.declared.report.Report.{Report}
 use Rattle.flow_model.proofs.Prefixes.{prefix_by, prefix_refl, prefix_append, prefix_trans, prefix_length, rest_of}
-use Rattle.el_src.specs.Gave.{Gave, GaveAll, source_of, still_to_come}
-use Rattle.el_sink.specs.Held.{Held, HeldPart, sink_of, length_of}
+use Rattle.el_src.specs.Gave.{Gave, source_of, still_to_come}
+use Rattle.el_sink.specs.Held.{sink_of, length_of}
 use Rattle.world_core.specs.declared.line.Line.{Line}
 use Rattle.world_core.specs.declared.line.Middle.TheVariants.{Identity}
 use Rattle.world_core.specs.declared.ended.WorldEnd.{WorldEnd}
@@ -24,7 +24,7 @@ use Rattle.world_core.specs.Two.{two_pads}
 use Rattle.world_core.specs.Line.{sink_name, source_pad, owed_list, plan_of, pad_counts, pads_of}
 use Rattle.world_core.specs.Task.{HasRun, RanOut, Unread, Unwritten, OverLimit, IsTaskCause}
 use Rattle.world_core.specs.Told.{IsTold}
-use Rattle.world_core.specs.World.{history, sink_list, IsEvaluated, IsRendered, IsPartRendered, EndsEos, EndsUnread, EndsUnwritten, EndsTooLong, HasEnded, most_items}
+use Rattle.world_core.specs.World.{history, sink_list, IsEvaluated, IsRendered, EndsEos, EndsUnread, EndsUnwritten, EndsTooLong, HasEnded, most_items}
 use Rattle.world_core.proofs.Evaluations.{two, two_evaluated, two_whole, two_counted}
 
 -- what a source gave begins what it owes

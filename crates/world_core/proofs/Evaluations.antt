@@ -1,19 +1,16 @@
 -- What the one task counts are the lengths of the histories of the evaluation.
-use Rattle.std.proofs.Common.{◌≡◌, ◌≤◌, ◌<◌, ◌+◌, ℕ, zero, suc, Bool, true, false, List, [], ◌∷◌, ◌++◌, length, map, get_or, refl, sym, ap, ◌∙◌, ◌-◌, arith, codes}
+use Rattle.std.proofs.Common.{◌≡◌, ◌≤◌, ◌<◌, ℕ, zero, suc, List, [], ◌∷◌, ◌++◌, length, map, get_or, refl, sym, ap, ◌∙◌, ◌-◌, arith, codes}
 use Rattle.std.specs.List.{range_with_len}
 use Rattle.std.specs.Fmt.{decimal}
 use Rattle.std.proofs.lemmas.Fmt.{decimal_digit}
-use Rattle.flow_model.specs.Item.{Item, Ev, Eos, buffers}
+use Rattle.flow_model.specs.Item.{Item, Ev, Eos}
 use Rattle.flow_model.specs.Prefix.{IsPrefix}
 use Rattle.flow_model.specs.Source.{block_at, block_count, file_list}
 use Rattle.flow_model.specs.Eval.{eval, eval_whole}
-use Rattle.flow_model.specs.Chain.{IsPlain, GoesDown, chain}
-use Rattle.flow_model.specs.declared.report.PadCount.{PadCount}
-use Rattle.flow_model.proofs.Prefixes.{prefix_by}
+use Rattle.flow_model.specs.Chain.{IsPlain, GoesDown}
 use Rattle.flow_model.proofs.Chains.{chain_to_whole, chain_whole}
 use Rattle.world_core.specs.declared.line.Line.{Line}
-use Rattle.world_core.specs.declared.line.Middle.{Middle}
-use Rattle.world_core.specs.declared.line.Middle.TheVariants.{Identity, Queue}
+use Rattle.world_core.specs.declared.line.Middle.TheVariants.{Identity}
 use Rattle.world_core.specs.declared.pad.Pad.{Pad}
 use Rattle.world_core.specs.Pad.{Counts}
 use Rattle.world_core.specs.Line.{source_pad, middle_names, pads_of, owed_list, plan_of, pad_counts}

@@ -1,5 +1,5 @@
 -- A run whose ends were opened and closed.
-use Rattle.std.proofs.Common.{◌≡◌, ◌≤◌, ℕ, Bool, true, false, if◌then◌else◌, List, [], ◌∷◌, eq-eqb, refl, sym, ap, ◌∙◌, subst, arith, Option, Some, option_map, cond}
+use Rattle.std.proofs.Common.{◌≡◌, ◌≤◌, ℕ, Bool, true, false, if◌then◌else◌, List, [], ◌∷◌, eq-eqb, refl, sym, ap, ◌∙◌, arith, Option, Some, option_map}
 use Rattle.std.specs.Prelude.{bytes_eq}
 use Rattle.gst_outside.specs.Causes.{Rose, plus}
 use Rattle.gst_outside.specs.Places.{is_at}

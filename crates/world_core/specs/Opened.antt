@@ -1,6 +1,6 @@
 -- What is known of files between the opening and the closing of a line's ends.
-use Rattle.std.specs.Prelude.{◌≡◌, ◌≤◌, ℕ, ◌-◌, List, [], if◌then◌else◌, Option, Some, option_map}
-use Rattle.gst_outside.specs.Causes.{Rose, raised, plus}
+use Rattle.std.specs.Prelude.{◌≡◌, ◌≤◌, ℕ, List, if◌then◌else◌, Option, option_map}
+use Rattle.gst_outside.specs.Causes.{Rose, plus}
 use Rattle.gst_outside.specs.Places.{is_at}
 use Rattle.world_core.specs.declared.line.Line.{Line}
 use Rattle.world_core.specs.declared.unopened.Unopened.{Unopened}

@@ -1,5 +1,5 @@
 -- The one task of a line without queues: for which lists it stands, and how it ends.
-use Rattle.std.specs.Prelude.{◌≡◌, ◌≢◌, ◌≤◌, ◌⊎◌, ℕ, Bool, true, false, List, [], ◌∷◌, ◌++◌, Option, Some, length, Result, Ok, Err}
+use Rattle.std.specs.Prelude.{◌≡◌, ℕ, Bool, true, false, List, [], ◌∷◌, ◌++◌, Option, length, Result, Ok, Err}
 use Rattle.gst_outside.specs.Causes.{Rose}
 use Rattle.flow_model.specs.Item.{Item}
 use Rattle.el_src.specs.Gave.{Gave, GaveAll}
