@@ -71,6 +71,13 @@ table_stored p x tells tells' e = record {
   rooms = λ n limits count ne b. put_keeps_other_room p n x Stored limits count tells tells' (λ h. ne (ap Some (sym h))) e b;
 }
 
+-- so it is over two steps of a task
+pub table_trans : (outlet other : Option ℕ) (a b c : Option (List Lane)) → KeepsTable outlet a b → other ≡ outlet → KeepsTable other b c → KeepsTable outlet a c
+table_trans outlet other a b c k e m = record {
+  lanes = λ n h. m.lanes n (k.lanes n h);
+  rooms = λ n limits count ne h. m.rooms n limits count (λ x. ne (sym e ∙ x)) (k.rooms n limits count ne h);
+}
+
 -- an item came from the lane of the head
 pub keep_from : (inlet outlet : Option ℕ) (x : Item) (tells tells' : Option (List Lane)) (got done : List Item) → FromLane inlet x tells tells' → Keeps inlet outlet tells tells' got done (got ++ x ∷ []) done
 keep_from None outlet x tells tells' got done f = absurd f
