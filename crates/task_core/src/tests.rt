@@ -10,8 +10,9 @@ use el_sink::FileSink;
 use el_src::FileSrc;
 use gst_caps::{List, OutOfMemory, Text};
 use gst_outside::{MemSink, MemSource, Sink, Source};
-use lane_core::{Inlet, MemLanes, Outlet, memory_lane};
+use lane_core::{Inlet, MemInlet, MemLanes, MemOutlet, Outlet, memory_lane};
 use std::alloc::{AllocError, Global};
+use std::process::Abort;
 use std::test::Fail;
 
 const CONTENT: &[u8] = b"abcde";
@@ -93,6 +94,7 @@ fn run_both<S: Source, K: Sink, I: Inlet<Out = O>, O: Outlet<Lanes = I::Lanes>>(
 #[derive(Drop)]
 struct Left<K> {
     sink: Option<FileSink<K>>,
+    len: Option<u64>,
     items: u64,
     buffers: u64,
 }
@@ -107,6 +109,7 @@ fn take_apart<S: Source, K: Sink, I: Inlet<Out = O>, O: Outlet<Lanes = I::Lanes>
         items = pad.items;
         buffers = pad.buffers;
     }
+    let len = task.sink_len();
     let (_, tail) = task.into_ends();
     let sink = match tail {
         Tail::Sink(sink) => Some(sink),
@@ -114,6 +117,7 @@ fn take_apart<S: Source, K: Sink, I: Inlet<Out = O>, O: Outlet<Lanes = I::Lanes>
     };
     Left {
         sink,
+        len,
         items,
         buffers,
     }
@@ -166,5 +170,72 @@ fn a_queue_joins_two_tasks(rt: HostRuntime) -> Result<(), Fail> {
     }
     assert_eq!(rt; left.items, 6);
     assert_eq!(rt; left.buffers, 3);
+    assert_eq!(rt; left.len, Some(5));
+    Ok(())
+}
+
+/// Runs a source and a sink with nothing between them, and tells what crossed the pad.
+fn alone<S: Source, K: Sink, I: Inlet<Out = O>, O: Outlet<Lanes = I::Lanes>>(
+    alloc: Global,
+    source: FileSrc<S>,
+    sink: FileSink<K>,
+    lanes: &mut I::Lanes,
+) -> Result<(Result<Row, TaskFault>, u64), OutOfMemory>
+    requires { items_given source ≡ 0 }
+{
+    let head = Head::Source(source);
+    let mut task: Task<S, K, I, O> = Task::new(alloc, 3, head, 1, Tail::Sink(sink))?;
+    let answer = run(alloc, &mut task, lanes);
+    Ok((answer, take_apart(task).items))
+}
+
+/// The calls that fail, the fault that they make, and how many items have crossed the pad by then.
+#[derive(Clone, Copy)]
+struct Case {
+    reads: &'static [u64],
+    writes: &'static [u64],
+    fault: TaskFault,
+    items: u64,
+}
+
+const CASES: [Case; 2] = [
+    Case {
+        reads: &[1],
+        writes: &[],
+        fault: TaskFault::ReadFault {
+            element: 3,
+            before: 0,
+            after: 1,
+        },
+        items: 2,
+    },
+    Case {
+        reads: &[],
+        writes: &[2],
+        fault: TaskFault::WriteFault {
+            element: 4,
+            before: 0,
+            after: 1,
+        },
+        items: 3,
+    },
+];
+
+fn check_case(rt: &impl Abort, alloc: Global, case: &Case) -> Result<(), Fail> {
+    let source = source(alloc, case.reads)?;
+    let sink = sink(alloc, case.writes)?;
+    let mut lanes = MemLanes::new(alloc);
+    let left = alone::<_, _, MemInlet, MemOutlet>(alloc, source, sink, &mut lanes)?;
+    assert_eq!(rt; left.0, Err(case.fault));
+    assert_eq!(rt; left.1, case.items);
+    Ok(())
+}
+
+#[test]
+fn a_fault_names_its_element(rt: HostRuntime) -> Result<(), Fail> {
+    let alloc = rt.alloc();
+    for case in &CASES {
+        check_case(&rt, alloc, case)?;
+    }
     Ok(())
 }
