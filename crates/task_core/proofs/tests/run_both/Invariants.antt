@@ -1,6 +1,6 @@
 use Rattle.std.proofs.Common.{◌≡◌, None}
 use Rattle.task_core.specs.Tail.{tail_place}
-use Rattle.task_core.specs.Task.{IsReady, KeepsTable, tail_of}
+use Rattle.task_core.specs.Task.{IsReady, tail_of}
 use Rattle.task_core.proofs.tests.run_both.Given as goal
 
 abbrev pub invariant-loop-row : goal.invariant-loop-row
