@@ -71,6 +71,13 @@ table_stored p x tells tells' e = record {
   rooms = λ n limits count ne b. put_keeps_other_room p n x Stored limits count tells tells' (λ h. ne (ap Some (sym h))) e b;
 }
 
+-- so it is over two steps of a task
+pub table_trans : (outlet other : Option ℕ) (a b c : Option (List Lane)) → KeepsTable outlet a b → other ≡ outlet → KeepsTable other b c → KeepsTable outlet a c
+table_trans outlet other a b c k e m = record {
+  lanes = λ n h. m.lanes n (k.lanes n h);
+  rooms = λ n limits count ne h. m.rooms n limits count (λ x. ne (sym e ∙ x)) (k.rooms n limits count ne h);
+}
+
 -- an item came from the lane of the head
 pub keep_from : (inlet outlet : Option ℕ) (x : Item) (tells tells' : Option (List Lane)) (got done : List Item) → FromLane inlet x tells tells' → Keeps inlet outlet tells tells' got done (got ++ x ∷ []) done
 keep_from None outlet x tells tells' got done f = absurd f
@@ -148,17 +155,15 @@ module _ {K O : Type 0} (bytes : K → Option (List ℕ)) (sent : O → List Ite
       omega (arith, all, size, holds.2, e)
 
   pub back_full : (t t' : Tail K O) (x y : Item) (number : ℕ) (tells tells' : Option (List Lane)) (done : List Item) → TailMoves sent place limits count t x (Back number y) t' tells tells' → TailHas bytes sent t done
-      → (tail_place place t ≢ None) × IsFullLane (tail_place place t) (tail_limit limits t) tells' done
+      → IsFullLane (tail_place place t) (tail_limit limits t) tells' done
   back_full (tails.Sink k) (tails.Sink k') x y number tells tells' done m h = absurd (not_sent m.1)
     where
       not_sent : {number : ℕ} {y : Item} → Back number y ≡ Sent → ⊥
       not_sent e = cc
-  back_full (tails.Lane n o) (tails.Lane n' o') x y number tells tells' done m h = (
-    (λ e. none_some (sym e)),
-    λ p most taken e f b.
-        let was : IsBetween tells (place o) done taken = subst (λ (u : Option (List Lane)). IsBetween u (place o) done taken) m.2.0 (subst (λ (k : ℕ). IsBetween tells' k done taken) (sym (some_same e)) b) in
-        subst (λ (u : Option (List Lane)). ForSome u (λ t. length taken + most ≤ length done)) (sym m.2.0) (full_lane (place o) most (limits o) y tells done taken (m.2.2 done taken h was) (some_same f) was),
-  )
+  back_full (tails.Lane n o) (tails.Lane n' o') x y number tells tells' done m h =
+      λ p most taken e f b.
+      let was : IsBetween tells (place o) done taken = subst (λ (u : Option (List Lane)). IsBetween u (place o) done taken) m.2.0 (subst (λ (k : ℕ). IsBetween tells' k done taken) (sym (some_same e)) b) in
+      subst (λ (u : Option (List Lane)). ForSome u (λ t. length taken + most ≤ length done)) (sym m.2.0) (full_lane (place o) most (limits o) y tells done taken (m.2.2 done taken h was) (some_same f) was)
   back_full (tails.Sink k) (tails.Lane n' o') x y number tells tells' done m h = absurd m
   back_full (tails.Lane n o) (tails.Sink k') x y number tells tells' done m h = absurd m
 

@@ -11,16 +11,13 @@ use Rattle.task_core.specs.declared.task.Task.{Task}
 use Rattle.task_core.specs.declared.head.Head.{Head}
 use Rattle.task_core.specs.declared.head.Head.TheVariants.{Source, Queue}
 use Rattle.task_core.specs.Step.{idle_step}
-use Rattle.task_core.specs.Head.{HeadLists, HeadGave, HeadAfter, IsIdle, head_place}
+use Rattle.task_core.specs.Head.{HeadLists, HeadGave, HeadAfter, IsIdle, head_number}
 use Rattle.task_core.specs.Tail.{TailHas}
 use Rattle.task_core.specs.Pads.{CountsAll}
 use Rattle.task_core.specs.Pending.{hand_of}
 use Rattle.task_core.specs.Task.{TaskLists, Holds, Stands, Goes, Keeps, IsWhy}
 use Rattle.task_core.proofs.Crossing.{counts_any, eos_more}
 use Rattle.task_core.proofs.Keeping.{keep_same, keep_from}
-
-none_some : {A : Type 0} {a : A} → None ≡ Some a → ⊥
-none_some e = cc
 
 module _ {S K I O : Type 0} (content : S → Option (List ℕ)) (bytes : K → Option (List ℕ)) (received : I → List Item → Type 0) (sent : O → List Item → Type 0) where
   -- nothing moved
@@ -65,13 +62,13 @@ module _ {S K I O : Type 0} (content : S → Option (List ℕ)) (bytes : K → O
   }
 
   -- it gave none
-  pub idle_why : (task : Task S K I O) (head : Head S I) (l : TaskLists) (place : I → ℕ) (inlet outlet limit : Option ℕ) (tells tells' : Option (List Lane)) → tells' ≡ tells → IsIdle head inlet tells l.head → inlet ≡ head_place place head
+  pub idle_why : (task : Task S K I O) (head : Head S I) (l : TaskLists) (inlet outlet limit : Option ℕ) (tells tells' : Option (List Lane)) → tells' ≡ tells → IsIdle head inlet tells l.head → head_number task.head ≡ head_number head
       → task.pending ≡ None → task.over ≡ false → task.over ≡ has_eos l.head.given → IsWhy task inlet outlet limit tells' l.head.got l.done (idle_step head)
-  idle_why task (Source s) l place inlet outlet limit tells tells' e idle same pending over eos = (pending, eos ∙ idle)
-  idle_why task (Queue q) l place inlet outlet limit tells tells' e idle same pending over eos = (
+  idle_why task (Source s) l inlet outlet limit tells tells' e idle same pending over eos = (pending, eos ∙ idle)
+  idle_why task (Queue q) l inlet outlet limit tells tells' e idle same pending over eos = (
     pending,
     over,
-    (λ none. none_some (sym none ∙ same)),
+    same,
     λ n list at small b. subst (λ (t : Option (List Lane)). ForSome t (λ u. list ≡ l.head.got)) (sym e) (idle n at list small (subst (λ (t : Option (List Lane)). IsBetween t n list l.head.got) e b)),
   )
 
@@ -90,10 +87,10 @@ module _ {S K I O : Type 0} (content : S → Option (List ℕ)) (bytes : K → O
   }
 
   -- the head gave none
-  pub idle_goes : (task : Task S K I O) (l : TaskLists) (step : Step) (place : I → ℕ) (inlet outlet limit : Option ℕ) (tells tells' : Option (List Lane)) → HeadAfter content received task.head inlet tells tells' l.head None
-      → inlet ≡ head_place place task.head → step ≡ idle_step task.head → task.pending ≡ None → task.over ≡ false → task.given ≡ length l.head.given → task.over ≡ has_eos l.head.given → l.head.given ≡ l.done ++ []
+  pub idle_goes : (task : Task S K I O) (l : TaskLists) (step : Step) (inlet outlet limit : Option ℕ) (tells tells' : Option (List Lane)) → HeadAfter content received task.head inlet tells tells' l.head None
+      → step ≡ idle_step task.head → task.pending ≡ None → task.over ≡ false → task.given ≡ length l.head.given → task.over ≡ has_eos l.head.given → l.head.given ≡ l.done ++ []
       → CountsAll task.pads.items 0 l.head.given l.done → TailHas bytes sent task.tail l.done → Goes content bytes received sent task l step inlet outlet limit tells tells'
-  idle_goes task l step place inlet outlet limit tells tells' h same is pending over number eos held counted tail =
+  idle_goes task l step inlet outlet limit tells tells' h is pending over number eos held counted tail =
       stays_goes task l step inlet outlet limit tells tells'
       (subst (λ (p : Option Pending). Holds content bytes received sent task p l) (sym pending) (record { gave = h.0; number = number; over = eos; held = held; counted = counted; tail = tail })) h.1
-      (subst (λ (s : Step). IsWhy task inlet outlet limit tells' l.head.got l.done s) (sym is) (idle_why task task.head l place inlet outlet limit tells tells' h.1 h.2 same pending over eos))
+      (subst (λ (s : Step). IsWhy task inlet outlet limit tells' l.head.got l.done s) (sym is) (idle_why task task.head l inlet outlet limit tells tells' h.1 h.2 refl pending over eos))

@@ -8,7 +8,7 @@ use Rattle.el_src.specs.declared.fault.SrcFault.TheVariants.{ReadFault, OutOfMem
 use Rattle.el_src.specs.Gave.{Gave, items_given, source_of, has_eos}
 use Rattle.task_core.specs.declared.head.Head.{Head}
 use Rattle.task_core.specs.declared.head.Head.TheVariants.{Source, Queue}
-use Rattle.task_core.specs.Inlets.{Fed, LaneGives, IsDrained, place_of, id_of}
+use Rattle.task_core.specs.Inlets.{Fed, LaneGives, IsDrained, place_of, id_of, number_of}
 
 -- The lists of a head: what a source owes, what control gave to a queue in front, what the queue's lane gave,
 -- and what the head gave in all.
@@ -38,6 +38,11 @@ items_behind (Err fault) n = n
 abbrev pub head_place : {S I : Type 0} → (I → ℕ) → Head S I → Option ℕ
 head_place place (Source source) = None
 head_place place (Queue inlets) = Some (place_of place inlets)
+
+-- the number of a queue's lane
+abbrev pub head_number : {S I : Type 0} → Head S I → Option ℕ
+head_number (Source source) = None
+head_number (Queue inlets) = Some (number_of inlets)
 
 abbrev pub head_id : {S I : Type 0} → (I → List (List ℕ)) → Head S I → Option (List (List ℕ))
 head_id id (Source source) = None

@@ -14,6 +14,9 @@ id_of id inlets = id inlets.lane
 abbrev pub place_of : {I : Type 0} → (I → ℕ) → Inlets I → ℕ
 place_of place inlets = place inlets.lane
 
+abbrev pub number_of : {I : Type 0} → Inlets I → ℕ
+number_of inlets = inlets.number
+
 -- the queue was fed this list, of what control gave in front and of what the lane gave
 pub record Fed {I : Type 0} (received : I → List Item → Type 0) (inlets : Inlets I) (front got fed : List Item) : Type 0 where
   pub lane : received inlets.lane got

@@ -32,6 +32,11 @@ abbrev pub tail_place : {K O : Type 0} → (O → ℕ) → Tail K O → Option �
 tail_place place (tails.Sink sink) = None
 tail_place place (tails.Lane number outlet) = Some (place outlet)
 
+-- the number of a lane
+abbrev pub tail_number : {K O : Type 0} → Tail K O → Option ℕ
+tail_number (tails.Sink sink) = None
+tail_number (tails.Lane number outlet) = Some number
+
 abbrev pub tail_id : {K O : Type 0} → (O → List (List ℕ)) → Tail K O → Option (List (List ℕ))
 tail_id id (tails.Sink sink) = None
 tail_id id (tails.Lane number outlet) = Some (id outlet)
@@ -74,6 +79,11 @@ abbrev pub LaneTakes : (List Item → Type 0) → ℕ → Limits → ℕ → ℕ
 LaneTakes sent place limits count count' x Sent tells tells' = (tells' ≡ table_after_put place x Stored tells) × (count' ≡ count + 1)
 LaneTakes sent place limits count count' x (Back number y) tells tells' =
     (tells' ≡ tells) × (count' ≡ count) × ((done got : List Item) → sent done → IsBetween tells place done got → HoldsFor place limits (Full y) tells)
+
+-- where an item is back the lane is named
+abbrev pub NamesLane : Option ℕ → Sending → Type 0
+NamesLane number Sent = Unit {0}
+NamesLane number (Back n y) = number ≡ Some n
 
 abbrev pub TailMoves : {K O : Type 0} → (O → List Item → Type 0) → (O → ℕ) → (O → Limits) → (O → ℕ) → Tail K O → Item → Sending → Tail K O → Option (List Lane) → Option (List Lane) → Type 0
 TailMoves sent place limits count (tails.Sink sink) x sending (tails.Sink sink') tells tells' = (tells' ≡ tells) × (sending ≡ Sent)

@@ -16,8 +16,8 @@ use Rattle.task_core.specs.declared.task.Task.{Task}
 use Rattle.task_core.specs.declared.pads.Pad.{Pad}
 use Rattle.task_core.specs.declared.head.Head.{Head}
 use Rattle.task_core.specs.declared.tail.Tail.{Tail}
-use Rattle.task_core.specs.Head.{HeadLists, HeadGave, HeadIn, head_faults, head_place, head_id, head_location, head_content}
-use Rattle.task_core.specs.Tail.{TailHas, TailPart, TailOf, tail_faults, tail_place, tail_id, tail_location, tail_limit}
+use Rattle.task_core.specs.Head.{HeadLists, HeadGave, HeadIn, head_faults, head_place, head_number, head_id, head_location, head_content}
+use Rattle.task_core.specs.Tail.{TailHas, TailPart, TailOf, tail_faults, tail_place, tail_number, tail_id, tail_location, tail_limit}
 use Rattle.task_core.specs.Pads.{CountsAll, room_left}
 
 -- the most items that cross a pad
@@ -92,8 +92,8 @@ IsFullLane outlet limit tells done = (n most : ℕ) (taken : List Item) → outl
 -- Why a task that did not move could not: its lane is empty, its lane is full, or all was given and has crossed.
 abbrev pub IsWhy : {S K I O : Type 0} → Task S K I O → Option ℕ → Option ℕ → Option ℕ → Option (List Lane) → List Item → List Item → Step → Type 0
 IsWhy task inlet outlet limit tells got done Moved = Unit {0}
-IsWhy task inlet outlet limit tells got done (NeedsItem n) = (task.pending ≡ None) × (task.over ≡ false) × (inlet ≢ None) × IsEmptyLane inlet tells got
-IsWhy task inlet outlet limit tells got done (NeedsRoom n) = (outlet ≢ None) × IsFullLane outlet limit tells done
+IsWhy task inlet outlet limit tells got done (NeedsItem n) = (task.pending ≡ None) × (task.over ≡ false) × (head_number task.head ≡ Some n) × IsEmptyLane inlet tells got
+IsWhy task inlet outlet limit tells got done (NeedsRoom n) = (tail_number task.tail ≡ Some n) × IsFullLane outlet limit tells done
 IsWhy task inlet outlet limit tells got done Ended = (task.pending ≡ None) × (task.over ≡ true)
 
 -- The lists behind a step, and why it did not move where it did not.
@@ -148,6 +148,8 @@ pub record Frame {S K I O : Type 0} (source_location content : S → Option (Lis
   pub source : head_location source_location is.head ≡ head_location source_location was.head
   pub contents : head_content content is.head ≡ head_content content was.head
   pub sink : tail_location sink_location is.tail ≡ tail_location sink_location was.tail
+  pub inlet_number : head_number is.head ≡ head_number was.head
+  pub outlet_number : tail_number is.tail ≡ tail_number was.tail
   pub inlet : head_place place_in is.head ≡ head_place place_in was.head
   pub inlet_id : head_id id_in is.head ≡ head_id id_in was.head
   pub outlet : tail_place place_out is.tail ≡ tail_place place_out was.tail

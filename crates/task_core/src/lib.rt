@@ -18,3 +18,6 @@ pub use pending::Pending;
 pub use step::Step;
 pub use tail::{Sending, Tail};
 pub use task::Task;
+
+#[cfg(test)]
+mod tests;

@@ -1,7 +1,7 @@
 //! Where the items of a task go.
 ghost use Rattle.std.specs.Prelude.{◌≡◌, ◌≤◌, ◌<◌, ◌+◌, ◌^◌, ℕ, List, IfOk, IfErr, OnErr};
 ghost use Rattle.flow_model.specs.Item.{Item};
-ghost use Rattle.task_core.specs.Tail.{TailHas, TailPart, TailOf, TailMoves, TailCause, AfterSend, tail_faults, tail_limit, tail_count, tail_place, tail_id, tail_location};
+ghost use Rattle.task_core.specs.Tail.{TailHas, TailPart, TailOf, TailMoves, TailCause, AfterSend, NamesLane, tail_faults, tail_number, tail_limit, tail_count, tail_place, tail_id, tail_location};
 
 use el_sink::{FileSink, WriteFault};
 use gst_item::Item;
@@ -44,10 +44,12 @@ impl<K: Sink, O: Outlet> Tail<K, O> {
         requires table { TailOf O.place O.limits O.count self.old (O.tells lanes.old) }
         requires count { tail_count O.count self.old < 2 ^ 62 }
         ensures sends { IfOk result (λ sending. (done : List Item) → TailHas K.bytes O.sent self.old done → AfterSend (TailHas K.bytes O.sent self.new) done item sending) }
+        ensures named { IfOk result (NamesLane (tail_number self.old)) }
         ensures part { OnErr result ((done : List Item) → TailHas K.bytes O.sent self.old done → TailPart K.bytes self.new done item) }
         ensures moves { IfOk result (λ sending. TailMoves O.sent O.place O.limits O.count self.old item sending self.new (O.tells lanes.old) (O.tells lanes.new)) }
         ensures table { OnErr result (O.tells lanes.new ≡ O.tells lanes.old) }
         ensures cause { IfErr result (λ fault. TailCause (tail_faults K.faults self.old) (tail_faults K.faults self.new) fault) }
+        ensures number { tail_number self.new ≡ tail_number self.old }
         ensures place { tail_place O.place self.new ≡ tail_place O.place self.old }
         ensures limit { tail_limit O.limits self.new ≡ tail_limit O.limits self.old }
         ensures id { tail_id O.id self.new ≡ tail_id O.id self.old }

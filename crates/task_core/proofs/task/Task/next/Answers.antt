@@ -21,5 +21,5 @@ returns-in-Ok-Some-clause-goes g c =
 pub returns-in-Ok-None-clause-goes : goal.returns-in-Ok-None-clause-goes
 returns-in-Ok-None-clause-goes g c =
     λ l h.
-    idle_goes {S = g.row.S.Denot} {K = g.row.K.Denot} {I = g.row.I.Denot} {O = g.row.O.Denot} g.S.Source.content g.K.Sink.bytes g.I.Inlet.received g.O.Outlet.sent _ l c.idle.result g.I.Inlet.place _ _ _ _ _
-    (rw c.in-Ok-None.field-0-is at (c.in-Ok-None.ensures.gave l.head h.gave)) (sym c.next.ensures.place) c.idle.ensures c.requires.none c.if-self.false h.number h.over h.held h.counted h.tail
+    idle_goes {S = g.row.S.Denot} {K = g.row.K.Denot} {I = g.row.I.Denot} {O = g.row.O.Denot} g.S.Source.content g.K.Sink.bytes g.I.Inlet.received g.O.Outlet.sent _ l c.idle.result _ _ _ _ _
+    (rw c.in-Ok-None.field-0-is at (c.in-Ok-None.ensures.gave l.head h.gave)) c.idle.ensures c.requires.none c.if-self.false h.number h.over h.held h.counted h.tail
