@@ -6,7 +6,7 @@ pub mod fault;
 pub mod file_sink;
 #[cfg(test)]
 mod tests;
-pub mod writing;
+mod writing;
 
 pub use fake_sink::FakeSink;
 pub use fault::WriteFault;

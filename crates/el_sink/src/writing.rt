@@ -8,7 +8,7 @@ use gst_outside::{Failed, Sink};
 /// Writes a body at a place, and tells how many of its bytes were written: fewer than there are only where a
 /// write failed.
 #[tactic(auto, using(crate::proofs::Pieces::nothing_written))]
-pub fn write_body<K: Sink>(sink: &mut K, place: u64, body: &[u8]) -> usize
+pub(crate) fn write_body<K: Sink>(sink: &mut K, place: u64, body: &[u8]) -> usize
     ensures location_stays { K.location sink.new ≡ K.location sink.old }
     ensures never_falls { K.faults sink.old ≤ K.faults sink.new }
     ensures part { result ≤ length body.now }
@@ -27,7 +27,7 @@ pub fn write_body<K: Sink>(sink: &mut K, place: u64, body: &[u8]) -> usize
 }
 
 /// The length of a file, in bytes, once so many were written at a place.
-pub fn length_behind(len: u64, place: u64, count: usize) -> u64
+pub(crate) fn length_behind(len: u64, place: u64, count: usize) -> u64
     requires { 0 < count → place + count < 2 ^ 64 }
     ensures { (bytes piece : List ℕ) → len ≡ length bytes → length piece ≡ count → result ≡ length (written bytes place piece) }
 {

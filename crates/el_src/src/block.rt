@@ -31,7 +31,7 @@ fn fill<S: Source>(source: &mut S, place: u64, into: &mut [u8]) -> Result<usize,
 }
 
 /// Reads the block of a size, in bytes, at a place. It is shorter only where the input ends in it.
-pub fn read_block<S: Source>(
+pub(crate) fn read_block<S: Source>(
     alloc: Global,
     source: &mut S,
     place: u64,

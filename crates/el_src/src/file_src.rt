@@ -123,6 +123,13 @@ impl<S: Source> FileSrc<S> {
         }
     }
 
+    /// How many items were given since the start or the last seek.
+    pub fn items(&self) -> u64
+        ensures { result ≡ items_given self.now }
+    {
+        self.items
+    }
+
     /// What was read.
     pub fn into_source(self) -> S
         ensures { result ≡ source_of self }

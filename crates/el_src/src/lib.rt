@@ -2,7 +2,7 @@
 #![tactic(auto)]
 
 pub mod answer;
-pub mod block;
+mod block;
 pub mod fault;
 pub mod file_src;
 #[cfg(test)]

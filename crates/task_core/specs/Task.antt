@@ -1,5 +1,5 @@
 -- For which lists a task stands, and what its steps do to them.
-use Rattle.std.specs.Prelude.{◌≡◌, ◌≢◌, ◌≤◌, ◌<◌, ◌⊎◌, ℕ, ◌+◌, ◌-◌, ◌*◌, false, true, List, [], ◌∷◌, ◌++◌, Option, Some, None, length, vec_len}
+use Rattle.std.specs.Prelude.{◌≡◌, ◌≢◌, ◌≤◌, ◌<◌, ◌⊎◌, ℕ, ◌+◌, ◌-◌, ◌*◌, false, true, List, [], ◌∷◌, ◌++◌, Option, Some, None, Bool, length, map, slice_get, vec_len}
 use Rattle.std.specs.Option.{ForSome}
 use Rattle.flow_model.specs.Item.{Item}
 use Rattle.gst_outside.specs.Causes.{Rose}
@@ -60,7 +60,7 @@ pub record Unwritten {S K I O : Type 0} (content : S → Option (List ℕ)) (byt
 pub record AtLimit {S K I O : Type 0} (task : Task S K I O) (l : TaskLists) (element : ℕ) : Type 0 where
   pub pad : ℕ
   pub within : pad < vec_len task.pads
-  pub named : element ≡ task.first + pad
+  pub named : slice_get (map (λ pad. pad.element) task.pads.items) pad ≡ Some element
   pub behind : ahead task.pending ≤ pad
   pub full : length l.done ≡ most_items
   pub more : (l.head.given ≢ l.done) ⊎ (task.over ≡ false)
@@ -115,9 +115,9 @@ AtFault content bytes received sent task l _ = Stands content bytes received sen
 -- the cause of a fault: the count of the source or of the sink rose, and the fault names both counts
 abbrev pub IsTaskCause : {S K I O : Type 0} → (S → ℕ) → (K → ℕ) → Task S K I O → Task S K I O → TaskFault → Type 0
 IsTaskCause source_faults sink_faults was is (ReadFault element before after) =
-    (element ≡ was.first) × (head_faults source_faults was.head ≡ Some before) × (head_faults source_faults is.head ≡ Some after) × Rose before after
+    (slice_get (map (λ pad. pad.element) was.pads.items) 0 ≡ Some element) × (head_faults source_faults was.head ≡ Some before) × (head_faults source_faults is.head ≡ Some after) × Rose before after
 IsTaskCause source_faults sink_faults was is (WriteFault element before after) =
-    (element ≡ was.first + vec_len was.pads) × (tail_faults sink_faults was.tail ≡ Some before) × (tail_faults sink_faults is.tail ≡ Some after) × Rose before after
+    (element ≡ was.last) × (tail_faults sink_faults was.tail ≡ Some before) × (tail_faults sink_faults is.tail ≡ Some after) × Rose before after
 IsTaskCause source_faults sink_faults was is (TooLong element a b) = (a ≡ most_items) × (b ≡ 1)
 IsTaskCause source_faults sink_faults was is OutOfMemory = Unit {0}
 
@@ -131,8 +131,17 @@ pads_of task = task.pads.items
 abbrev pub pending_of : {S K I O : Type 0} → Task S K I O → Option Pending
 pending_of task = task.pending
 
-abbrev pub first_of : {S K I O : Type 0} → Task S K I O → ℕ
-first_of task = task.first
+-- the numbers of the elements that have a source pad here
+abbrev pub numbers_of : {S K I O : Type 0} → Task S K I O → List ℕ
+numbers_of task = map (λ pad. pad.element) task.pads.items
+
+-- the number of the tail's element
+abbrev pub last_of : {S K I O : Type 0} → Task S K I O → ℕ
+last_of task = task.last
+
+-- whether the head has given EOS
+abbrev pub over_of : {S K I O : Type 0} → Task S K I O → Bool
+over_of task = task.over
 
 abbrev pub head_of : {S K I O : Type 0} → Task S K I O → Head S I
 head_of task = task.head
@@ -143,8 +152,8 @@ tail_of task = task.tail
 -- what no step changes
 pub record Frame {S K I O : Type 0} (source_location content : S → Option (List ℕ)) (sink_location : K → Option (List ℕ)) (place_in : I → ℕ) (id_in : I → List (List ℕ))
     (place_out : O → ℕ) (limits : O → Limits) (id_out : O → List (List ℕ)) (was is : Task S K I O) : Type 0 where
-  pub first : is.first ≡ was.first
-  pub pads : vec_len is.pads ≡ vec_len was.pads
+  pub numbers : map (λ pad. pad.element) is.pads.items ≡ map (λ pad. pad.element) was.pads.items
+  pub last : is.last ≡ was.last
   pub source : head_location source_location is.head ≡ head_location source_location was.head
   pub contents : head_content content is.head ≡ head_content content was.head
   pub sink : tail_location sink_location is.tail ≡ tail_location sink_location was.tail

@@ -36,7 +36,7 @@ impl<I: Inlet> Inlets<I> {
     }
 
     /// The next item, if there is one now.
-    pub fn take(&mut self, lanes: &mut I::Lanes) -> Option<Item>
+    pub(crate) fn take(&mut self, lanes: &mut I::Lanes) -> Option<Item>
         requires { IsIn (I.Out.tells lanes.old) (place_of I.place self.old) }
         ensures fed { (front got fed : List Item) → Fed I.received self.old front got fed → AfterTake I.received self.new (place_of I.place self.old) (I.Out.tells lanes.old) (I.Out.tells lanes.new) front got fed result }
         ensures rooms { KeepsRooms (I.Out.tells lanes.old) (I.Out.tells lanes.new) }

@@ -40,7 +40,7 @@ impl<K: Sink, O: Outlet> Tail<K, O> {
     }
 
     /// Sends an item.
-    pub fn send(&mut self, lanes: &mut O::Lanes, item: Item) -> Result<Sending, WriteFault>
+    pub(crate) fn send(&mut self, lanes: &mut O::Lanes, item: Item) -> Result<Sending, WriteFault>
         requires table { TailOf O.place O.limits O.count self.old (O.tells lanes.old) }
         requires count { tail_count O.count self.old < 2 ^ 62 }
         ensures sends { IfOk result (λ sending. (done : List Item) → TailHas K.bytes O.sent self.old done → AfterSend (TailHas K.bytes O.sent self.new) done item sending) }

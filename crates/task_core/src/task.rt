@@ -1,10 +1,10 @@
 //! Tasks.
-ghost use Rattle.std.specs.Prelude.{◌≡◌, ◌≤◌, ◌<◌, ◌+◌, ◌^◌, ℕ, List, [], ◌*◌, Some, None, slice_get, OnErr, IfOk, IfErr, vec_len, length};
+ghost use Rattle.std.specs.Prelude.{◌≡◌, ◌≤◌, ◌<◌, ◌+◌, ◌^◌, ℕ, List, [], ◌∷◌, ◌*◌, Some, None, slice_get, OnErr, IfOk, IfErr, vec_len, length, map};
 ghost use Rattle.std.specs.Option.{ForSome};
 ghost use Rattle.task_core.specs.Head.{head_items};
-ghost use Rattle.task_core.specs.Pads.{room_left};
+ghost use Rattle.task_core.specs.Pads.{CountsAll, room_left};
 ghost use Rattle.task_core.specs.Pending.{hand_of};
-ghost use Rattle.flow_model.specs.Item.{is_buffer as buffer_test, is_eos as eos_test};
+ghost use Rattle.flow_model.specs.Item.{Item, is_buffer as buffer_test, is_eos as eos_test};
 
 use crate::fault::TaskFault;
 use crate::head::Head;
@@ -20,11 +20,21 @@ use gst_outside::{Sink, Source};
 use lane_core::{Inlet, Outlet};
 use std::alloc::Global;
 
-/// A task: a head, the elements behind it that pass all, and a tail. Each element but a sink has one source pad.
+/// The numbers of the elements of a task.
+#[derive(Drop)]
+pub struct Elements {
+    /// The number of the source, or of the queue whose source side the head is.
+    pub head: u32,
+    /// Those of the elements behind it that pass all.
+    pub passing: Vec<u32>,
+    /// The number of the sink, or of the queue whose sink side the tail is.
+    pub tail: u32,
+}
+
+/// A task: a head, the elements behind it that pass all, and a tail. Each element but the tail's has one source
+/// pad here.
 #[derive(Drop)]
 pub struct Task<S, K, I, O> {
-    /// The number of the head's element; those behind it follow on.
-    first: u32,
     head: Head<S, I>,
     /// How many items the head has given.
     given: u64,
@@ -33,11 +43,11 @@ pub struct Task<S, K, I, O> {
     /// Whether the head has given EOS.
     over: bool,
     tail: Tail<K, O>,
+    /// The number of the tail's element.
+    last: u32,
     ghost some: { 0 < vec_len pads },
-    ghost numbers: { first + vec_len pads < 2 ^ 32 },
     ghost within: { ForSome pending (λ p. p.pad < vec_len pads) },
     ghost few: { head_items head ≤ given },
-    ghost limit: { given ≤ 2 ^ 40 },
 }
 
 impl<S: Source, K: Sink, I: Inlet<Out = O>, O: Outlet<Lanes = I::Lanes>> Task<S, K, I, O> {
@@ -48,35 +58,32 @@ impl<S: Source, K: Sink, I: Inlet<Out = O>, O: Outlet<Lanes = I::Lanes>> Task<S,
     ghost use Rattle.task_core.specs.Part.{IsPart};
     ghost use Rattle.task_core.specs.Pending.{ahead};
     ghost use Rattle.task_core.specs.Tail.{TailHas, tail_place, tail_limit, tail_count, tail_len};
-    ghost use Rattle.task_core.specs.Task.{TaskLists, Holds, Stands, IsReady, Goes, KeepsTable, IsWhy, AtFault, IsTaskCause, Frame, Burns, fuel, head_of, tail_of, pads_of, pending_of, first_of, unmoved};
+    ghost use Rattle.task_core.specs.Task.{TaskLists, Holds, Stands, IsReady, Goes, KeepsTable, IsWhy, AtFault, IsTaskCause, Frame, Burns, fuel, head_of, tail_of, pads_of, pending_of, numbers_of, last_of, over_of, unmoved};
 
-    /// A task of these parts that moved nothing yet: `first` is the number of the head's element, and there are
-    /// `pads` source pads.
+    /// A task of these parts that moved nothing yet.
     pub fn new(
         alloc: Global,
-        first: u32,
+        elements: Elements,
         head: Head<S, I>,
-        pads: u32,
         tail: Tail<K, O>,
     ) -> Result<Task<S, K, I, O>, OutOfMemory>
-        requires some { 0 < pads }
-        requires numbers { first + pads < 2 ^ 32 }
-        requires fresh { head_items head ≡ 0 }
         ensures stands { IfOk result (λ task. (l : HeadLists) → l.given ≡ [] → HeadGave S.content I.received head l → TailHas K.bytes O.sent tail [] → Stands S.content K.bytes I.received O.sent task (unmoved l)) }
-        ensures first { IfOk result (λ task. first_of task ≡ first) }
-        ensures pads { IfOk result (λ task. length (pads_of task) ≡ pads) }
+        ensures numbers { IfOk result (λ task. numbers_of task ≡ elements.head ∷ elements.passing.items) }
+        ensures last { IfOk result (λ task. last_of task ≡ elements.tail) }
         ensures head { IfOk result (λ task. head_of task ≡ head) }
         ensures tail { IfOk result (λ task. tail_of task ≡ tail) }
         ensures none { IfOk result (λ task. pending_of task ≡ None) }
     {
+        let given = head.items();
+        let pads = fresh_pads(alloc, elements.head, &elements.passing)?;
         Ok(Task {
-            first,
             head,
-            given: 0,
-            pads: vec![in alloc; Pad::new(); pads as usize]?,
+            given,
+            pads,
             pending: None,
             over: false,
             tail,
+            last: elements.tail,
         })
     }
 
@@ -151,7 +158,7 @@ impl<S: Source, K: Sink, I: Inlet<Out = O>, O: Outlet<Lanes = I::Lanes>> Task<S,
             return Ok(Step::Ended);
         }
         if self.given >= MOST_ITEMS {
-            return Err(too_long(self.first));
+            return Err(too_long(self.pads[0].element));
         }
         match self.head.next(alloc, lanes) {
             Ok(Some(item)) => {
@@ -162,7 +169,7 @@ impl<S: Source, K: Sink, I: Inlet<Out = O>, O: Outlet<Lanes = I::Lanes>> Task<S,
             }
             Ok(None) => Ok(self.head.idle()),
             Err(SrcFault::ReadFault { before, after }) => Err(TaskFault::ReadFault {
-                element: self.first,
+                element: self.pads[0].element,
                 before,
                 after,
             }),
@@ -186,7 +193,7 @@ impl<S: Source, K: Sink, I: Inlet<Out = O>, O: Outlet<Lanes = I::Lanes>> Task<S,
     {
         let Pending { pad, item } = hand;
         if self.pads[pad].items >= MOST_ITEMS {
-            let element = self.first + pad as u32;
+            let element = self.pads[pad].element;
             self.pending = Some(Pending { pad, item });
             return Err(too_long(element));
         }
@@ -214,7 +221,7 @@ impl<S: Source, K: Sink, I: Inlet<Out = O>, O: Outlet<Lanes = I::Lanes>> Task<S,
         ensures burns { IfOk result (λ step. Burns step (2 * room_left self.old.pads.items) (fuel self.new)) }
     {
         if self.tail.count() >= MOST_ITEMS {
-            let element = self.first + last as u32;
+            let element = self.pads[last].element;
             self.pending = Some(Pending { pad: last, item });
             return Err(too_long(element));
         }
@@ -229,12 +236,25 @@ impl<S: Source, K: Sink, I: Inlet<Out = O>, O: Outlet<Lanes = I::Lanes>> Task<S,
                 Ok(Step::NeedsRoom(number))
             }
             Err(WriteFault { before, after }) => Err(TaskFault::WriteFault {
-                element: self.first + self.pads.len() as u32,
+                element: self.last,
                 before,
                 after,
             }),
         }
     }
+}
+
+/// The pads of a head and of the elements behind it, which nothing crossed.
+fn fresh_pads(alloc: Global, head: u32, passing: &[u32]) -> Result<Vec<Pad>, OutOfMemory>
+    ensures numbers { IfOk result (λ pads. map (λ pad. pad.element) pads.items ≡ head ∷ passing.now) }
+    ensures counts { IfOk result (λ pads. (given : List Item) → CountsAll pads.items 0 given []) }
+{
+    let mut pads = Vec::with_capacity(alloc, passing.len() + 1)?;
+    pads.push(Pad::new(head))?;
+    for element in passing {
+        pads.push(Pad::new(*element))?;
+    }
+    Ok(pads)
 }
 
 /// More items than the limit were to cross a pad of this element.
