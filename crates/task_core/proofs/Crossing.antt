@@ -1,7 +1,9 @@
 -- What the pads have counted, behind an item that crossed one of them.
-use Rattle.std.proofs.Common.{◌≡◌, ◌<◌, ◌≤◌, ◌+◌, ℕ, zero, suc, List, [], ◌∷◌, ◌++◌, length, length-append, get_or, Some, refl, ap, sym, ◌∙◌, subst, arith, Bool, false, ◌||◌}
-use Rattle.std.specs.Prelude.{slice_get, slice_set, replicate}
+use Rattle.std.proofs.Common.{◌≡◌, ◌<◌, ◌≤◌, ◌+◌, ℕ, zero, suc, List, [], ◌∷◌, ◌++◌, length, length-append, get_or, map, take, Some, refl, ap, sym, ◌∙◌, subst, arith, Bool, false, ◌||◌}
+use Rattle.std.specs.Prelude.{slice_get, slice_set}
 use Rattle.std.proofs.lemmas.Grind.{fold-append}
+use Rattle.std.proofs.lemmas.List.{map-append}
+use Rattle.std.proofs.Math.Seq.{take-suc, take-length}
 use Rattle.flow_model.specs.Item.{Item, is_eos}
 use Rattle.el_src.specs.Gave.{has_eos}
 use Rattle.task_core.specs.declared.pads.Pad.{Pad}
@@ -76,10 +78,32 @@ counts_any (p ∷ ps) given other done h = (h.0, counts_any ps given other done 
 pub eos_more : (given : List Item) (x : Item) → has_eos given ≡ false → has_eos (given ++ x ∷ []) ≡ is_eos x
 eos_more given x none = fold-append (λ eos y. eos || is_eos y) false given (x ∷ []) ∙ ap (λ (b : Bool). b || is_eos x) none
 
--- pads that nothing crossed
-pub counts_none : (pads : List Pad) (n : ℕ) (pad : Pad) (given : List Item) → pads ≡ replicate n pad → Counts pad [] → CountsAll pads 0 given []
-counts_none pads n pad given e c = subst (λ (ps : List Pad). CountsAll ps 0 given []) (sym e) (go n)
-  where
-    go : (m : ℕ) → CountsAll (replicate m pad) 0 given []
-    go zero = tt
-    go (suc m) = (c, go m)
+-- the numbers of the elements stay where a pad of the same element is put in the place of another
+pub numbers_kept : (pads : List Pad) (k : ℕ) (pad was : Pad) → was ≡ get_or pads k was → pad.element ≡ was.element → k < length pads
+    → map (λ (p : Pad). p.element) (slice_set pads k pad) ≡ map (λ (p : Pad). p.element) pads
+numbers_kept [] k pad was e same w = absurd (omega arith)
+numbers_kept (p ∷ ps) zero pad was e same w = ap (λ (n : ℕ). n ∷ map (λ (q : Pad). q.element) ps) (same ∙ ap (λ (q : Pad). q.element) e)
+numbers_kept (p ∷ ps) (suc k) pad was e same w = ap (λ (ns : List ℕ). p.element ∷ ns) (numbers_kept ps k pad was e same (omega arith))
+
+pub number_at : (pads : List Pad) (k : ℕ) (pad : Pad) → pad ≡ get_or pads k pad → k < length pads → slice_get (map (λ (p : Pad). p.element) pads) k ≡ Some pad.element
+number_at [] k pad e w = absurd (omega arith)
+number_at (p ∷ ps) zero pad e w = ap (λ (q : Pad). Some q.element) (sym e)
+number_at (p ∷ ps) (suc k) pad e w = number_at ps k pad e (omega arith)
+
+-- one pad more that nothing crossed
+pub none_more : (pads : List Pad) (pad : Pad) → ((given : List Item) → CountsAll pads 0 given []) → Counts pad [] → (given : List Item) → CountsAll (pads ++ pad ∷ []) 0 given []
+none_more [] pad h c given = (c, tt)
+none_more (p ∷ ps) pad h c given = ((h given).0, none_more ps pad (λ g. (h g).1) c given)
+
+pub first_pad : (pads : List Pad) (pad : Pad) → pads ≡ pad ∷ [] → Counts pad [] → (given : List Item) → CountsAll pads 0 given []
+first_pad pads pad e c given = rw e (c, tt)
+
+pub numbers_more : (pads : List Pad) (pad : Pad) (head : ℕ) (passing : List ℕ) (k : ℕ) → map (λ (p : Pad). p.element) pads ≡ head ∷ take k passing → pad.element ≡ get_or passing k 0 → k < length passing
+    → map (λ (p : Pad). p.element) (pads ++ pad ∷ []) ≡ head ∷ take (k + 1) passing
+numbers_more pads pad head passing k e here w =
+    let next : suc k ≡ k + 1 = omega arith in
+    map-append (λ (p : Pad). p.element) pads (pad ∷ []) ∙ ap (λ (ns : List ℕ). ns ++ pad.element ∷ []) e ∙ ap (λ (n : ℕ). head ∷ (take k passing ++ n ∷ [])) here
+    ∙ ap (λ (ns : List ℕ). head ∷ ns) (sym (take-suc passing k 0 w) ∙ ap (λ (n : ℕ). take n passing) next)
+
+pub take_all : (xs : List ℕ) (k : ℕ) → length xs ≤ k → k ≤ length xs → take k xs ≡ xs
+take_all xs k a b = let whole : k ≡ length xs = omega (arith, a, b) in ap (λ (n : ℕ). take n xs) whole ∙ take-length xs

@@ -17,7 +17,7 @@ pub use pads::{MOST_ITEMS, Pad};
 pub use pending::Pending;
 pub use step::Step;
 pub use tail::{Sending, Tail};
-pub use task::Task;
+pub use task::{Elements, Task};
 
 #[cfg(test)]
 mod tests;

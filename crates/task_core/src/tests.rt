@@ -1,6 +1,5 @@
 //! Tasks over files and lanes in memory.
-ghost use Rattle.std.specs.Prelude.{◌≡◌, ◌<◌, ◌+◌, ◌^◌, IfOk, None};
-ghost use Rattle.el_src.specs.Gave.{items_given};
+ghost use Rattle.std.specs.Prelude.{◌≡◌, ◌<◌, ◌+◌, ◌^◌, None};
 ghost use Rattle.lane_core.specs.Lane.{IsIn, IsOf};
 ghost use Rattle.task_core.specs.Tail.{tail_place};
 ghost use Rattle.task_core.specs.Task.{IsReady, KeepsTable, tail_of};
@@ -26,7 +25,6 @@ struct Row {
 
 /// The content in blocks of two bytes; the reads of these numbers fail.
 fn source(alloc: Global, reads: &[u64]) -> Result<FileSrc<MemSource>, OutOfMemory>
-    ensures { IfOk result (λ s. items_given s ≡ 0) }
 {
     let content = List::from_vec(CONTENT.to_vec(alloc)?);
     let reads = List::from_vec(reads.to_vec(alloc)?);
@@ -41,6 +39,20 @@ fn sink(alloc: Global, writes: &[u64]) -> Result<FileSink<MemSink>, OutOfMemory>
     let location = Text::from_str(alloc, "out")?;
     let sink = MemSink::new(alloc, location, 16, writes, List::new(alloc))?;
     Ok(FileSink::new(sink, false))
+}
+
+/// The numbers of a task's elements.
+fn elements(
+    alloc: Global,
+    head: u32,
+    passing: &[u32],
+    tail: u32,
+) -> Result<Elements, OutOfMemory> {
+    Ok(Elements {
+        head,
+        passing: passing.to_vec(alloc)?,
+        tail,
+    })
 }
 
 /// Steps a task until it does not move.
@@ -132,15 +144,16 @@ fn join<S: Source, K: Sink, I: Inlet<Out = O>, O: Outlet<Lanes = I::Lanes>>(
     lanes: &mut I::Lanes,
     rows: &mut [Row],
 ) -> Result<Left<K>, TaskFault>
-    requires fresh { items_given source ≡ 0 }
     requires outlet { IsOf (O.tells lanes.old) (O.place ends.0) (O.limits ends.0) (O.count ends.0) }
     requires inlet { IsIn (O.tells lanes.old) (I.place ends.1) }
 {
     let (outlet, inlet) = ends;
     let tail = Tail::Lane { number: 7, outlet };
-    let mut one: Task<S, K, I, O> = Task::new(alloc, 0, Head::Source(source), 1, tail)?;
+    let numbers = elements(alloc, 0, &[], 1)?;
+    let mut one: Task<S, K, I, O> = Task::new(alloc, numbers, Head::Source(source), tail)?;
     let head = Head::Queue(Inlets::new(alloc, 7, inlet));
-    let mut two: Task<S, K, I, O> = Task::new(alloc, 1, head, 2, Tail::Sink(sink))?;
+    let numbers = elements(alloc, 1, &[2], 3)?;
+    let mut two: Task<S, K, I, O> = Task::new(alloc, numbers, head, Tail::Sink(sink))?;
     run_both(alloc, &mut one, &mut two, lanes, rows)?;
     Ok(take_apart(two))
 }
@@ -181,10 +194,10 @@ fn alone<S: Source, K: Sink, I: Inlet<Out = O>, O: Outlet<Lanes = I::Lanes>>(
     sink: FileSink<K>,
     lanes: &mut I::Lanes,
 ) -> Result<(Result<Row, TaskFault>, u64), OutOfMemory>
-    requires { items_given source ≡ 0 }
 {
     let head = Head::Source(source);
-    let mut task: Task<S, K, I, O> = Task::new(alloc, 3, head, 1, Tail::Sink(sink))?;
+    let numbers = elements(alloc, 3, &[], 9)?;
+    let mut task: Task<S, K, I, O> = Task::new(alloc, numbers, head, Tail::Sink(sink))?;
     let answer = run(alloc, &mut task, lanes);
     Ok((answer, take_apart(task).items))
 }
@@ -213,7 +226,7 @@ const CASES: [Case; 2] = [
         reads: &[],
         writes: &[2],
         fault: TaskFault::WriteFault {
-            element: 4,
+            element: 9,
             before: 0,
             after: 1,
         },

@@ -2,7 +2,7 @@ use Rattle.std.proofs.Common.{List, refl, sym, subst, arith, inl}
 use Rattle.flow_model.specs.Item.{Item}
 use Rattle.task_core.specs.declared.step.Step.TheVariants.{Moved}
 use Rattle.task_core.specs.Pads.{Counts}
-use Rattle.task_core.proofs.Crossing.{counts_step, counts_at, below_at, full_at, longer}
+use Rattle.task_core.proofs.Crossing.{counts_step, counts_at, below_at, full_at, longer, number_at, numbers_kept}
 use Rattle.task_core.proofs.Steps.{stays_goes}
 use Rattle.task_core.proofs.task.Task.cross.Goals as goal
 
@@ -12,7 +12,7 @@ returns-then-index-ge-MOST_ITEMS-clause-fault g c =
     let was = counts_at c.args.self.now.pads.items c.args.hand.pad l.head.given l.done c.index.result.now h.counted (omega (arith, c.requires.within)) c.index.ensures in
     rw c.too_long.ensures (
       record { gave = h.gave; number = h.number; over = h.over; held = h.held; counted = h.counted; tail = h.tail },
-      record { pad = c.args.hand.pad; within = c.requires.within; named = refl; behind = omega arith; full = full_at c.index.result.now l.done was c.if-index-ge-MOST_ITEMS.true; more = inl (longer l.head.given l.done c.args.hand.item h.held) },
+      record { pad = c.args.hand.pad; within = c.requires.within; named = number_at c.args.self.now.pads.items c.args.hand.pad c.index-then-index-ge-MOST_ITEMS.result.now c.index-then-index-ge-MOST_ITEMS.ensures (omega (arith, c.requires.within)); behind = omega arith; full = full_at c.index.result.now l.done was c.if-index-ge-MOST_ITEMS.true; more = inl (longer l.head.given l.done c.args.hand.item h.held) },
     )
 
 pub send-requires-clause-room : goal.send-requires-clause-room
@@ -26,3 +26,19 @@ returns-clause-goes g c =
     stays_goes {S = g.row.S.Denot} {K = g.row.K.Denot} {I = g.row.I.Denot} {O = g.row.O.Denot} g.S.Source.content g.K.Sink.bytes g.I.Inlet.received g.O.Outlet.sent _ l Moved _ _ _ _ _
     (record { gave = h.gave; number = h.number; over = h.over; held = h.held; counted = counts_step c.args.self.now.pads.items c.args.hand.pad c.cross.new.self l.head.given l.done h.counted (omega (arith, c.requires.within)) crossed; tail = h.tail })
     refl tt
+
+pub returns-clause-frame : goal.returns-clause-frame
+returns-clause-frame g c = record {
+  numbers = numbers_kept c.args.self.now.pads.items c.args.hand.pad c.cross.new.self c.index_mut.result.now c.index_mut.ensures.value c.cross.ensures.element (omega (arith, c.requires.within));
+  last = refl;
+  source = refl;
+  contents = refl;
+  sink = refl;
+  inlet_number = refl;
+  outlet_number = refl;
+  inlet = refl;
+  inlet_id = refl;
+  outlet = refl;
+  outlet_id = refl;
+  limit = refl;
+}

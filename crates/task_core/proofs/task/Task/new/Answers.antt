@@ -1,6 +1,6 @@
-use Rattle.std.proofs.Common.{length, sym, ap}
+use Rattle.std.proofs.Common.{length, sym, ap, ◌∙◌}
 use Rattle.el_src.specs.Gave.{has_eos}
-use Rattle.task_core.proofs.Crossing.{counts_none}
+use Rattle.task_core.proofs.Heads.{begins}
 use Rattle.task_core.proofs.task.Task.new.Goals as goal
 
 pub returns-clause-stands : goal.returns-clause-stands
@@ -8,9 +8,9 @@ returns-clause-stands g c =
     λ l none gave tail.
     record {
       gave = gave;
-      number = sym (ap length none);
+      number = c.items-given.ensures ∙ begins {S = g.row.S.Denot} {I = g.row.I.Denot} g.S.Source.content g.I.Inlet.received c.args.head l gave none ∙ sym (ap length none);
       over = sym (ap has_eos none);
       held = none;
-      counted = counts_none _ _ c.new.result l.given (c.in_ok-vec.ensures.items_if_clones_equal (λ y e. e)) c.new.ensures.counts;
+      counted = c.in_ok-pads.ensures.counts l.given;
       tail = tail;
     }

@@ -1,8 +1,8 @@
-use Rattle.std.proofs.Common.{◌∷◌, [], ◌++◌, length, sym, ◌∙◌, ap, arith}
+use Rattle.std.proofs.Common.{◌∷◌, [], ◌++◌, length, refl, sym, ◌∙◌, ap, arith}
 use Rattle.flow_model.specs.Item.{Item}
 use Rattle.task_core.specs.declared.step.Step.TheVariants.{NeedsRoom}
 use Rattle.task_core.specs.Tail.{tail_count}
-use Rattle.task_core.proofs.Crossing.{counts_over, counts_at, few_done, some_at, never}
+use Rattle.task_core.proofs.Crossing.{counts_over, counts_at, few_done, some_at, never, numbers_kept}
 use Rattle.task_core.proofs.Keeping.{sent_keeps, sent_table, sent_tail_of, sent_head_in, back_tells, back_full, count_of_tail}
 use Rattle.task_core.proofs.Steps.{sent_goes, stays_goes}
 use Rattle.task_core.proofs.task.Task.send.Goals as goal
@@ -46,3 +46,19 @@ returns-in-Ok-Back-clause-goes g c =
 
 pub returns-in-Ok-Sent-clause-lanes : goal.returns-in-Ok-Sent-clause-lanes
 returns-in-Ok-Sent-clause-lanes g c = sent_table g.K.Sink.bytes g.O.Outlet.sent g.O.Outlet.place g.O.Outlet.limits g.O.Outlet.count c.args.self.now.tail c.send.new.self c.args.item _ _ (rw c.in-Ok-Sent.field-0-is at c.in-Ok-Sent.ensures.moves)
+
+pub returns-in-Ok-Sent-clause-frame : goal.returns-in-Ok-Sent-clause-frame
+returns-in-Ok-Sent-clause-frame g c = record {
+  numbers = numbers_kept c.args.self.now.pads.items c.args.last c.cross.new.self c.index_mut.result.now c.index_mut.ensures.value c.cross.ensures.element (omega (arith, c.requires.last));
+  last = refl;
+  source = refl;
+  contents = refl;
+  sink = c.send.ensures.location;
+  inlet_number = refl;
+  outlet_number = c.send.ensures.number;
+  inlet = refl;
+  inlet_id = refl;
+  outlet = c.send.ensures.place;
+  outlet_id = c.send.ensures.id;
+  limit = c.send.ensures.limit;
+}
