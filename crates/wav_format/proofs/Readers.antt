@@ -3,7 +3,7 @@ use Rattle.std.proofs.Common.{ℕ, inl, inr, List, ◌++◌, drop, sym, subst, a
 use Rattle.std.proofs.lemmas.List.{drop-append-le, length-append}
 use Rattle.wav_format.specs.declared.reading.Standing.{Standing}
 use Rattle.wav_format.specs.Chunks.{Reaches, longest_head}
-use Rattle.wav_format.specs.Reader.{HasPassed, StandsIn}
+use Rattle.wav_format.specs.Reader.{StandsIn}
 use Rattle.wav_format.proofs.Least.{reached_more}
 
 pub stands_on : (reader : Standing) (bytes more : List ℕ) → StandsIn reader bytes → StandsIn reader (bytes ++ more)
