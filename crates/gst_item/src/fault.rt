@@ -35,9 +35,15 @@ pub enum ElementFault {
         wanted: Caps,
     },
     /// The bytes of the stream are wrong behind the first `place` of them.
-    BadStream { place: u64, kind: StreamKind },
+    BadStream {
+        place: u64,
+        kind: StreamKind,
+    },
     /// A number passed its limit: `a` stood, and `b` more was to come.
-    TooLong { a: u64, b: u64 },
+    TooLong {
+        a: u64,
+        b: u64,
+    },
     OutOfMemory,
 }
 

@@ -1,7 +1,6 @@
 //! The sticky events of a pad.
 ghost use Rattle.std.specs.Prelude.{◌≡◌, ◌++◌, ◌∷◌, [], ℕ, List, map, IfOk, IsTrue, OnOk, OnErr};
-
-ghost use Rattle.gst_item.specs.Item.{Item, Ev, FlushStop, is_sticky};
+ghost use Rattle.gst_item.specs.Item.{Item, Buf, Ev, Buffer, Gap, FlushStop, is_sticky};
 ghost use Rattle.gst_item.specs.Sticky.{held, in_force, stickies};
 
 use crate::item::Event;
@@ -80,6 +79,13 @@ impl Sticky {
         Ok(events)
     }
 }
+
+/// Buffers and GAPs leave what is in force as it is.
+#[tactic(auto, using(crate::proofs::Kept::buffer_passes, crate::proofs::Kept::gap_passes))]
+pub fn in_force_stays()
+    ensures buffer { (h : List Item) (b : Buffer) → in_force (h ++ Buf b ∷ []) ≡ in_force h }
+    ensures gap { (h : List Item) (pts duration : ℕ) → in_force (h ++ Ev (Gap pts duration) ∷ []) ≡ in_force h }
+{}
 
 /// Gives up what a slot holds for something else.
 fn put(slot: &mut Option<Event>, event: Option<Event>)
