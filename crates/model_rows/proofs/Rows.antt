@@ -16,7 +16,7 @@ section_rows = record { first = refl; second = refl; third = refl; counted = ref
 
 pub sticky_rows : StickyRows
 unfolding stickies
-sticky_rows = record { whole = refl; last = refl; flushed = refl; renewed = refl; nothing = refl }
+sticky_rows = record { whole = refl; last = refl; flushed = refl; renewed = refl; caps = refl; caps_flushed = refl; nothing = refl }
 
 pub rule_rows : RuleRows
 rule_rows = record { all = refl; past_eos = refl; again = refl }

@@ -5,7 +5,7 @@ use Rattle.flow_model.specs.declared.report.Fault.TheVariants.{Nothing, Form, Op
 use Rattle.flow_model.specs.declared.report.PadCount.{PadCount}
 use Rattle.flow_model.specs.declared.report.Report.{Report}
 use Rattle.flow_model.specs.ReportText.{newline, report_lines}
-use Rattle.flow_model.specs.Item.{Item, Buf, Ev, StreamStart, NewSegment, FlushStop, Eos, buffers}
+use Rattle.flow_model.specs.Item.{Item, Buf, Ev, StreamStart, NewCaps, NewSegment, FlushStop, Eos, buffers}
 use Rattle.flow_model.specs.Call.{feeds}
 use Rattle.flow_model.specs.Section.{section, counted}
 use Rattle.flow_model.specs.Sticky.{stickies}
@@ -24,6 +24,10 @@ start = Ev (StreamStart 0)
 
 abbrev pub segment_at : ℕ → Item
 segment_at place = Ev (NewSegment (bytes_segment place))
+
+-- CAPS of a media type without fields
+abbrev pub caps_of : List ℕ → Item
+caps_of media = Ev (NewCaps (record { media = media; fields = [] }))
 
 abbrev pub flush : Item
 flush = Ev (FlushStop 1)
@@ -71,6 +75,8 @@ pub record StickyRows : Type 0 where
   pub last : stickies (start ∷ segment_at 0 ∷ segment_at 2 ∷ []) ≡ start ∷ segment_at 2 ∷ []
   pub flushed : stickies (start ∷ segment_at 0 ∷ eos ∷ flush ∷ []) ≡ start ∷ []
   pub renewed : stickies (start ∷ segment_at 0 ∷ eos ∷ flush ∷ segment_at 2 ∷ []) ≡ start ∷ segment_at 2 ∷ []
+  pub caps : stickies (start ∷ segment_at 0 ∷ caps_of (codes "a") ∷ caps_of (codes "b") ∷ []) ≡ start ∷ caps_of (codes "b") ∷ segment_at 0 ∷ []
+  pub caps_flushed : stickies (start ∷ caps_of (codes "a") ∷ segment_at 0 ∷ flush ∷ []) ≡ start ∷ caps_of (codes "a") ∷ []
   pub nothing : stickies [] ≡ []
 
 pub record RuleRows : Type 0 where
