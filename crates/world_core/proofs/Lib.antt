@@ -1,3 +1,6 @@
+pub mod Closed
 pub mod Ends
 pub mod Evaluations
+pub mod Places
+pub mod Rows
 pub mod Runs
