@@ -4,3 +4,5 @@ pub mod Evaluations
 pub mod Places
 pub mod Rows
 pub mod Runs
+pub mod Stalls
+pub mod Tries

@@ -30,6 +30,11 @@ set_length xs k y = length-set xs k y
 pub read_at : {A : Type 0} (xs : List A) (k : ℕ) (x : A) → k < length xs → x ≡ get_or xs k x → slice_get xs k ≡ Some x
 read_at xs k x w e = slice_get_read xs (length xs) k x refl w e
 
+pub some_at : {A : Type 0} (xs : List A) (k : ℕ) (P : Type 0) → k < length xs → ((x : A) → slice_get xs k ≡ Some x → P) → P
+some_at [] k P w f = absurd (omega arith)
+some_at (x ∷ xs) zero P w f = f x refl
+some_at (x ∷ xs) (suc k) P w f = some_at xs k P (omega arith) f
+
 -- where another list of this length has an element, this one has
 pub some_before : {A B : Type 0} (xs : List A) (ys : List B) (k : ℕ) (y : B) (P : Type 0) → length ys ≡ length xs → slice_get ys k ≡ Some y → ((x : A) → slice_get xs k ≡ Some x → P) → P
 some_before [] [] k y P e at f = absurd (none_some at)

@@ -48,8 +48,11 @@ goes_on_with : (place : ℕ) (lists : ℕ → TaskLists) (got given done : List 
 goes_on_with place lists got given done = record { owed = lists_same (λ l. l.head.owed) place _ lists refl; front = lists_same (λ l. l.head.front) place _ lists refl }
 
 -- the places of lanes
-behind_some : (count k : ℕ) → suc k < count → lane_behind count k ≡ Some k
+pub behind_some : (count k : ℕ) → suc k < count → lane_behind count k ≡ Some k
 behind_some count k w = cond-false (eqb (suc k) count) None (Some k) (ne_eqb (suc k) count (λ e. omega (arith, e, w)))
+
+pub behind_none : (count k : ℕ) → suc k ≡ count → lane_behind count k ≡ None
+behind_none count k e = cond-true (eqb (suc k) count) None (Some k) (eq-eqb (suc k) count e)
 
 behind_is : (count k j : ℕ) → lane_behind count k ≡ Some j → k ≡ j
 behind_is count k j e = cond_both (eqb (suc k) count) None (Some k) (λ o. o ≡ Some j → k ≡ j) (λ _ x. absurd (none_some x)) (λ _ x. some_same x) e

@@ -98,3 +98,32 @@ fn step_at<S: Source, K: Sink, I: Inlet<Out = O>, O: Outlet<Lanes = I::Lanes>>(
         Err(fault) => Err(Stopped { task: place, fault }),
     }
 }
+
+/// One step of each task, in order; tells whether one moved. Where none did, all have come to the end.
+fn try_each<S: Source, K: Sink, I: Inlet<Out = O>, O: Outlet<Lanes = I::Lanes>>(
+    alloc: Global,
+    tasks: &mut [Task<S, K, I, O>],
+    lanes: &mut I::Lanes,
+) -> Result<bool, Stopped>
+    requires ready { AllReady I.place O.place O.limits O.count tasks.old (O.tells lanes.old) }
+    requires joined { IsJoined I.place O.place O.limits tasks.old }
+    requires told { (table : _) → IsSome (O.tells table) }
+    ensures goes { IfOk result (λ moved. (lists : ℕ → TaskLists) → IsRow S.content K.bytes I.received O.sent tasks.old lists (O.tells lanes.old) → RowAdvanced S.content K.bytes I.received O.sent moved tasks.new lists (O.tells lanes.new)) }
+    ensures faulted { IfErr result (λ stop. (lists : ℕ → TaskLists) → IsRow S.content K.bytes I.received O.sent tasks.old lists (O.tells lanes.old) → RowFaulted S.content K.bytes I.received O.sent tasks.new lists (O.tells lanes.new) stop.task stop.fault) }
+    ensures within { IfErr result (λ stop. stop.task < length tasks.new) }
+    ensures cause { IfErr result (λ stop. (t : _) → slice_get tasks.new stop.task ≡ Some t → IsRowCause S.faults K.faults t stop.fault) }
+    ensures ready { AllReady I.place O.place O.limits O.count tasks.new (O.tells lanes.new) }
+    ensures joined { IsJoined I.place O.place O.limits tasks.new }
+    ensures frame { AllFramed S.location S.content K.location I.place I.id O.place O.limits O.id tasks.old tasks.new }
+    ensures count { length tasks.new ≡ length tasks.old }
+    ensures burns { IfOk result (λ moved. Burned moved (row_fuel tasks.old) (row_fuel tasks.new)) }
+{
+    let mut moved = false;
+    for place in 0..tasks.len() {
+        match step_at(alloc, tasks, place, lanes) {
+            Ok(stepped) => moved |= stepped,
+            Err(stop) => return Err(stop),
+        }
+    }
+    Ok(moved)
+}
