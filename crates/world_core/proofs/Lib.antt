@@ -6,3 +6,4 @@ pub mod Rows
 pub mod Runs
 pub mod Stalls
 pub mod Tries
+pub mod Turns

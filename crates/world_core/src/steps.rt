@@ -1,7 +1,7 @@
 //! Steps of a row of tasks.
-ghost use Rattle.std.specs.Prelude.{◌≡◌, ◌≢◌, ◌<◌, ◌≤◌, ◌+◌, ◌-◌, ◌*◌, ℕ, true, Some, length, slice_get, IfOk, IfErr, OnOk, IsSome};
+ghost use Rattle.std.specs.Prelude.{◌≡◌, ◌≢◌, ◌<◌, ◌≤◌, ◌+◌, ◌-◌, ◌*◌, ℕ, true, Some, length, slice_get, IfOk, IfErr, OnOk, IsSome, List, if◌then◌else◌};
 ghost use Rattle.task_core.specs.Task.{TaskLists};
-ghost use Rattle.world_core.specs.Row.{AllReady, IsJoined, IsRow, IsRowCause, RowEnded, RowFaulted, RowStepped, RowAdvanced, AllFramed, Burned, row_fuel, has_moved as step_moved};
+ghost use Rattle.world_core.specs.Row.{AllReady, IsJoined, IsRow, IsRowCause, RowEnded, RowFaulted, RowStepped, RowAdvanced, AllFramed, Burned, row_fuel, steps_left, has_moved as step_moved};
 ghost use Rattle.world_core.specs.Turns.{IsTurn, place_of_turn};
 
 use gst_outside::{Sink, Source};
@@ -20,6 +20,7 @@ pub(crate) struct Stopped {
 }
 
 /// Whose turn is next.
+#[derive(Clone, Copy)]
 struct Order {
     /// How many of the listed turns were taken.
     listed: usize,
@@ -61,6 +62,16 @@ impl Order {
                 place
             }
         }
+    }
+
+    /// Counts a turn that moved something, or nothing.
+    fn count(&mut self, moved: bool)
+        requires { self.old.idle < 4096 }
+        ensures idle { self.new.idle ≡ (if moved then 0 else self.old.idle + 1) }
+        ensures listed { self.new.listed ≡ self.old.listed }
+        ensures place { self.new.place ≡ self.old.place }
+    {
+        self.idle = if moved { 0 } else { self.idle + 1 };
     }
 }
 
@@ -126,4 +137,76 @@ fn try_each<S: Source, K: Sink, I: Inlet<Out = O>, O: Outlet<Lanes = I::Lanes>>(
         }
     }
     Ok(moved)
+}
+
+/// The next turn; or, behind so many turns that moved nothing, one step of each task. Tells whether there is more
+/// to do.
+fn advance<S: Source, K: Sink, I: Inlet<Out = O>, O: Outlet<Lanes = I::Lanes>>(
+    alloc: Global,
+    tasks: &mut [Task<S, K, I, O>],
+    lanes: &mut I::Lanes,
+    turns: &[u32],
+    order: &mut Order,
+) -> Result<bool, Stopped>
+    requires some { 0 < length tasks.old }
+    requires ready { AllReady I.place O.place O.limits O.count tasks.old (O.tells lanes.old) }
+    requires joined { IsJoined I.place O.place O.limits tasks.old }
+    requires told { (table : _) → IsSome (O.tells table) }
+    requires idle { order.old.idle ≤ 4096 }
+    ensures goes { IfOk result (λ more. (lists : ℕ → TaskLists) → IsRow S.content K.bytes I.received O.sent tasks.old lists (O.tells lanes.old) → RowAdvanced S.content K.bytes I.received O.sent more tasks.new lists (O.tells lanes.new)) }
+    ensures faulted { IfErr result (λ stop. (lists : ℕ → TaskLists) → IsRow S.content K.bytes I.received O.sent tasks.old lists (O.tells lanes.old) → RowFaulted S.content K.bytes I.received O.sent tasks.new lists (O.tells lanes.new) stop.task stop.fault) }
+    ensures within { IfErr result (λ stop. stop.task < length tasks.new) }
+    ensures cause { IfErr result (λ stop. (t : _) → slice_get tasks.new stop.task ≡ Some t → IsRowCause S.faults K.faults t stop.fault) }
+    ensures ready { AllReady I.place O.place O.limits O.count tasks.new (O.tells lanes.new) }
+    ensures joined { IsJoined I.place O.place O.limits tasks.new }
+    ensures frame { AllFramed S.location S.content K.location I.place I.id O.place O.limits O.id tasks.old tasks.new }
+    ensures count { length tasks.new ≡ length tasks.old }
+    ensures turn { (n : ℕ) → IsTurn turns.now (length tasks.old) n order.old → order.old.idle < 4096 → IsTurn turns.now (length tasks.old) (n + 1) order.new }
+    ensures only { (n k : ℕ) → IsTurn turns.now (length tasks.old) n order.old → order.old.idle < 4096 → k ≢ place_of_turn turns.now (length tasks.old) n → slice_get tasks.new k ≡ slice_get tasks.old k }
+    ensures idle { order.new.idle ≤ 4096 }
+    ensures moved { OnOk result (row_fuel tasks.new ≢ row_fuel tasks.old → order.new.idle ≡ 0) }
+    ensures less { result ≡ Ok true → steps_left (row_fuel tasks.new) order.new.idle < steps_left (row_fuel tasks.old) order.old.idle }
+{
+    if order.idle == IDLE_TURNS {
+        order.idle = 0;
+        return try_each(alloc, tasks, lanes);
+    }
+    let place = order.next(turns, tasks.len());
+    match step_at(alloc, tasks, place, lanes) {
+        Ok(moved) => {
+            order.count(moved);
+            Ok(true)
+        }
+        Err(stop) => Err(stop),
+    }
+}
+
+/// Runs a row of tasks by turns, until all have come to the end or one meets a fault. Each turn steps one task: the
+/// listed numbers tell which, and behind them 0, 1, 2 and so on, each by its remainder. Behind 4,096 turns in a row
+/// that moved nothing each task is tried once; where none of them moves either, the run has ended.
+pub(crate) fn run_tasks<S: Source, K: Sink, I: Inlet<Out = O>, O: Outlet<Lanes = I::Lanes>>(
+    alloc: Global,
+    tasks: &mut [Task<S, K, I, O>],
+    lanes: &mut I::Lanes,
+    turns: &[u32],
+) -> Result<(), Stopped>
+    requires some { 0 < length tasks.old }
+    requires ready { AllReady I.place O.place O.limits O.count tasks.old (O.tells lanes.old) }
+    requires joined { IsJoined I.place O.place O.limits tasks.old }
+    requires told { (table : _) → IsSome (O.tells table) }
+    ensures ended { IfOk result (λ done. (lists : ℕ → TaskLists) → IsRow S.content K.bytes I.received O.sent tasks.old lists (O.tells lanes.old) → RowEnded S.content K.bytes I.received O.sent tasks.new lists (O.tells lanes.new)) }
+    ensures faulted { IfErr result (λ stop. (lists : ℕ → TaskLists) → IsRow S.content K.bytes I.received O.sent tasks.old lists (O.tells lanes.old) → RowFaulted S.content K.bytes I.received O.sent tasks.new lists (O.tells lanes.new) stop.task stop.fault) }
+    ensures within { IfErr result (λ stop. stop.task < length tasks.new) }
+    ensures cause { IfErr result (λ stop. (t : _) → slice_get tasks.new stop.task ≡ Some t → IsRowCause S.faults K.faults t stop.fault) }
+    ensures frame { AllFramed S.location S.content K.location I.place I.id O.place O.limits O.id tasks.old tasks.new }
+    ensures count { length tasks.new ≡ length tasks.old }
+{
+    let mut order = Order::new();
+    'turns: loop {
+        match advance(alloc, tasks, lanes, turns, &mut order) {
+            Ok(true) => {}
+            Ok(false) => return Ok(()),
+            Err(stop) => return Err(stop),
+        }
+    }
 }
