@@ -31,6 +31,9 @@ module _ {S K I O : Type 0} (content : S → Option (List ℕ)) (bytes : K → O
   pub goes_more : (tasks : List (Task S K I O)) (a b : ℕ → TaskLists) (tells : Option (List Lane)) → GoesOn a b → RowGoes content bytes received sent tasks b tells → RowGoes content bytes received sent tasks a tells
   goes_more tasks a b tells x y = record { lists = y.lists; goes_on = goes_on_trans a b y.lists x y.goes_on; row = y.row }
 
+  pub ended_more : (tasks : List (Task S K I O)) (a b : ℕ → TaskLists) (tells : Option (List Lane)) → GoesOn a b → RowEnded content bytes received sent tasks b tells → RowEnded content bytes received sent tasks a tells
+  ended_more tasks a b tells x y = record { lists = y.lists; goes_on = goes_on_trans a b y.lists x y.goes_on; row = y.row; over = y.over }
+
   -- moved or not, the row goes on
   pub goes_any : (IsTried : ℕ → Type 0) (moved : Bool) (tasks : List (Task S K I O)) (lists : ℕ → TaskLists) (tells tells' : Option (List Lane))
       → RowStepped content bytes received sent place_in place_out limits IsTried moved tasks lists tells tells' → RowGoes content bytes received sent tasks lists tells'
