@@ -1,22 +1,21 @@
 -- A row stays a row behind a step of one of its tasks.
-use Rattle.std.proofs.Common.{◌≡◌, ◌≢◌, ◌<◌, ◌≤◌, ◌+◌, ℕ, zero, suc, List, [], ◌∷◌, length, Some, None, Option, Bool, true, false, cond, eqb, refl, ap, sym, ◌∙◌, subst, inl, inr, ⊎_elim, arith}
-use Rattle.std.specs.Prelude.{slice_get, slice_set, sum_by}
+use Rattle.std.proofs.Common.{◌≡◌, ◌≢◌, ◌<◌, ◌≤◌, ◌+◌, ℕ, zero, suc, List, [], length, Some, None, Option, true, false, cond, eqb, refl, ap, sym, ◌∙◌, subst, ⊎_elim, arith}
+use Rattle.std.specs.Prelude.{slice_get, slice_set}
 use Rattle.std.specs.Option.{ForSome}
 use Rattle.std.proofs.lemmas.Bool.{cases_eq, cond-true, cond-false, cond_both, eq-eqb, ne_eqb}
-use Rattle.std.proofs.lemmas.Option.{slice_get_within}
 use Rattle.flow_model.specs.Item.{Item}
-use Rattle.lane_core.specs.Lane.{Lane, IsIn, IsOf, IsBetween}
+use Rattle.lane_core.specs.Lane.{Lane, IsBetween}
 use Rattle.lane_core.specs.Room.{Limits}
 use Rattle.task_core.specs.declared.fault.TaskFault.{TaskFault}
 use Rattle.task_core.specs.declared.fault.TaskFault.TheVariants.{ReadFault, WriteFault, TooLong, OutOfMemory}
 use Rattle.task_core.specs.declared.step.Step.{Step}
 use Rattle.task_core.specs.declared.step.Step.TheVariants.{Moved, NeedsItem, NeedsRoom, Ended}
 use Rattle.task_core.specs.declared.task.Task.{Task}
-use Rattle.task_core.specs.Head.{HeadLists, head_place, head_faults}
-use Rattle.task_core.specs.Tail.{tail_place, tail_limit, tail_faults}
-use Rattle.task_core.specs.Task.{TaskLists, Stands, Goes, Keeps, KeepsTable, IsReady, IsWhy, AtFault, IsTaskCause, Frame, Burns, fuel, head_of, tail_of, numbers_of, last_of}
+use Rattle.task_core.specs.Head.{head_place}
+use Rattle.task_core.specs.Tail.{tail_place, tail_limit}
+use Rattle.task_core.specs.Task.{TaskLists, Stands, Goes, Keeps, KeepsTable, IsReady, AtFault, IsTaskCause, Frame, Burns, fuel, head_of, tail_of}
 use Rattle.task_core.proofs.Keeping.{ready_kept}
-use Rattle.world_core.specs.Row.{lane_before, lane_behind, IsJoined, AllReady, IsLaid, IsRow, IsClosed, GoesOn, RowGoes, RowRests, RowStepped, RowFaulted, Rests, IsRowCause, AllFramed, Burned, has_moved, row_fuel}
+use Rattle.world_core.specs.Row.{lane_before, lane_behind, IsJoined, AllReady, IsLaid, IsRow, IsClosed, GoesOn, RowGoes, RowRests, RowStepped, RowFaulted, IsRowCause, AllFramed, Burned, has_moved, row_fuel}
 use Rattle.world_core.proofs.Closed.{closed_more}
 use Rattle.world_core.proofs.Places.{some_same, none_some, set_here, set_there, set_length, some_before, sum_set}
 

@@ -1,12 +1,11 @@
 -- A row in which no task moves has come to its end.
-use Rattle.std.proofs.Common.{◌≡◌, ◌≢◌, ◌<◌, ◌≤◌, ◌+◌, ◌-◌, ℕ, zero, suc, List, [], ◌∷◌, ◌++◌, length, Some, None, Option, Bool, true, false, refl, ap, sym, ◌∙◌, subst, inl, inr, ◌⊎◌, ⊎_elim, arith, length-append, append_assoc, append-nil}
-use Rattle.std.specs.Prelude.{slice_get, vec_len}
-use Rattle.std.specs.Option.{ForSome}
+use Rattle.std.proofs.Common.{◌≡◌, ◌<◌, ◌≤◌, ◌+◌, ◌-◌, ℕ, zero, suc, List, [], ◌∷◌, ◌++◌, length, Some, None, Option, true, false, refl, ap, sym, ◌∙◌, subst, ◌⊎◌, ⊎_elim, arith, length-append, append_assoc, append-nil}
+use Rattle.std.specs.Prelude.{slice_get}
 use Rattle.std.proofs.lemmas.Bool.{true≢false}
 use Rattle.std.proofs.lemmas.Option.{slice_get_within}
 use Rattle.flow_model.specs.Item.{Item}
 use Rattle.el_src.specs.Gave.{has_eos}
-use Rattle.lane_core.specs.Lane.{Lane, IsBetween}
+use Rattle.lane_core.specs.Lane.{Lane}
 use Rattle.lane_core.specs.Room.{Limits}
 use Rattle.task_core.specs.declared.pads.Pad.{Pad}
 use Rattle.task_core.specs.declared.pending.Pending.{Pending}
@@ -21,10 +20,10 @@ use Rattle.task_core.specs.Head.{HeadLists, HeadGave, head_place, head_number}
 use Rattle.task_core.specs.Tail.{tail_place, tail_number, tail_limit}
 use Rattle.task_core.specs.Pads.{CountsAll}
 use Rattle.task_core.specs.Pending.{waiting, ahead}
-use Rattle.task_core.specs.Task.{TaskLists, Stands, IsEmptyLane, IsFullLane, IsWhy, head_of, tail_of, pending_of, over_of}
-use Rattle.world_core.specs.Row.{lane_before, lane_behind, IsJoined, IsRow, IsClosed, AllOver, Rests, has_moved}
+use Rattle.task_core.specs.Task.{TaskLists, IsEmptyLane, IsFullLane, IsWhy, head_of, tail_of, pending_of, over_of}
+use Rattle.world_core.specs.Row.{IsJoined, IsRow, AllOver, Rests, has_moved}
 use Rattle.world_core.proofs.Closed.{eos_longer, closed_rest}
-use Rattle.world_core.proofs.Places.{some_same, none_some, some_at}
+use Rattle.world_core.proofs.Places.{none_some, some_at}
 use Rattle.world_core.proofs.Rows.{behind_some, behind_none}
 
 false_true : false ≡ true → ⊥
@@ -81,7 +80,7 @@ module _ {S K I O : Type 0} (content : S → Option (List ℕ)) (bytes : K → O
       let f = took k u at' in
       let eos : has_eos (lists (suc k)).head.got ≡ true = subst (λ (g : List Item). has_eos g ≡ true) f.1 (eos_longer (lists (suc k)).head.given f.0 (sym (row.stands (suc k) u at').over ∙ over)) in
       let whole : (lists k).head.given ≡ (lists (suc k)).head.got ++ (l.0.items ++ waiting t.pending) =
-          s.held ∙ ap (λ (d : List Item). d ++ waiting t.pending) l.2 ∙ append_assoc (lists (suc k)).head.got l.0.items (waiting t.pending) in
+      s.held ∙ ap (λ (d : List Item). d ++ waiting t.pending) l.2 ∙ append_assoc (lists (suc k)).head.got l.0.items (waiting t.pending) in
       let none = none_left l.0.items (waiting t.pending) (closed_rest (lists k).head.given (lists (suc k)).head.got (l.0.items ++ waiting t.pending) (row.closed k) whole eos) in
       omega (arith, full, none, ap length l.2, length-append (lists (suc k)).head.got l.0.items)
 
@@ -130,7 +129,7 @@ module _ {S K I O : Type 0} (content : S → Option (List ℕ)) (bytes : K → O
       let eos : has_eos (lists (suc k)).head.got ≡ true = ap has_eos (sym same ∙ sym all) ∙ sym s.over ∙ over in
       let f = took k u at' in
       let given : (lists (suc k)).head.given ≡ (lists (suc k)).head.got =
-          ⊎_elim (λ e. sym (append-nil (lists (suc k)).head.given) ∙ ap (λ (r : List Item). (lists (suc k)).head.given ++ r) (sym e) ∙ f.1) (λ e. absurd (false_true (ap has_eos (sym e) ∙ eos))) f.2 in
+      ⊎_elim (λ e. sym (append-nil (lists (suc k)).head.given) ∙ ap (λ (r : List Item). (lists (suc k)).head.given ++ r) (sym e) ∙ f.1) (λ e. absurd (false_true (ap has_eos (sym e) ∙ eos))) f.2 in
       false_true (sym not ∙ (row.stands (suc k) u at').over ∙ ap has_eos given ∙ eos)
 
   -- all tasks are over

@@ -1,5 +1,5 @@
 -- Turns, and how many are left.
-use Rattle.std.proofs.Common.{◌≡◌, ◌≢◌, ◌<◌, ◌≤◌, ◌+◌, ◌-◌, ◌*◌, ◌%◌, ℕ, List, length, min, Bool, true, false, cond, refl, ap, sym, ◌∙◌, arith}
+use Rattle.std.proofs.Common.{◌≡◌, ◌≢◌, ◌<◌, ◌≤◌, ◌+◌, ◌%◌, ℕ, List, Bool, true, false, cond, ap, ◌∙◌, arith}
 use Rattle.world_core.specs.declared.steps.Order.{Order}
 use Rattle.world_core.specs.Row.{Burned, steps_left}
 use Rattle.world_core.specs.Turns.{IsTurn}

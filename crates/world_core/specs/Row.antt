@@ -12,7 +12,7 @@ use Rattle.task_core.specs.declared.fault.TaskFault.TheVariants.{ReadFault, Writ
 use Rattle.task_core.specs.declared.step.Step.{Step}
 use Rattle.task_core.specs.declared.step.Step.TheVariants.{Moved}
 use Rattle.task_core.specs.declared.task.Task.{Task}
-use Rattle.task_core.specs.Head.{HeadLists, head_faults, head_place}
+use Rattle.task_core.specs.Head.{head_faults, head_place}
 use Rattle.task_core.specs.Tail.{tail_faults, tail_limit, tail_place}
 use Rattle.task_core.specs.Task.{TaskLists, Stands, AtFault, IsReady, IsWhy, Frame, fuel, most_items, head_of, tail_of, pending_of, over_of, numbers_of, last_of}
 

@@ -1,4 +1,4 @@
-use Rattle.std.proofs.Common.{◌≡◌, ◌<◌, ◌+◌, ◌∙◌, refl, ℕ, sym, arith}
+use Rattle.std.proofs.Common.{◌≡◌, ◌+◌, ◌∙◌, arith}
 use Rattle.world_core.proofs.Tries.{goes_any}
 use Rattle.world_core.proofs.Turns.{turn_same, idle_within, idle_none, less_left}
 use Rattle.world_core.proofs.steps.advance.Goals as goal

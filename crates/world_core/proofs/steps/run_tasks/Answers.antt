@@ -1,4 +1,4 @@
-use Rattle.std.proofs.Common.{◌≡◌, ◌<◌, ◌≤◌, ◌∙◌, refl, ℕ, sym, ap, arith, Ok}
+use Rattle.std.proofs.Common.{◌∙◌, refl, ap, arith, Ok}
 use Rattle.world_core.proofs.Rows.{framed_same, framed_trans}
 use Rattle.world_core.proofs.Tries.{goes_same, goes_more, ended_more, faulted_more}
 use Rattle.world_core.proofs.steps.run_tasks.Goals as goal

@@ -1,4 +1,4 @@
-use Rattle.std.proofs.Common.{◌≡◌, ◌<◌, ◌≤◌, ℕ, length}
+use Rattle.std.proofs.Common.{◌≡◌, ◌≤◌, ℕ, length}
 use Rattle.task_core.specs.Task.{TaskLists}
 use Rattle.world_core.specs.Row.{AllReady, IsJoined, IsRow, RowGoes, AllFramed, row_fuel, steps_left}
 use Rattle.world_core.proofs.steps.run_tasks.Given as goal

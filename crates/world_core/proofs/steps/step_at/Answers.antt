@@ -1,8 +1,8 @@
-use Rattle.std.proofs.Common.{◌≡◌, refl, subst, sym, Some, ℕ}
-use Rattle.std.specs.Prelude.{slice_get, slice_set}
+use Rattle.std.proofs.Common.{subst, sym}
+use Rattle.std.specs.Prelude.{slice_set}
 use Rattle.std.proofs.lemmas.Option.{slice_get-get_or}
 use Rattle.task_core.specs.declared.task.Task.{Task}
-use Rattle.world_core.specs.Row.{Burned, IsRowCause, RowStepped}
+use Rattle.world_core.specs.Row.{IsRowCause}
 use Rattle.world_core.proofs.Places.{set_here, set_there, set_length}
 use Rattle.world_core.proofs.Rows.{framed_set, joined_framed, ready_set, row_stepped, row_faulted, row_burned, row_cause}
 use Rattle.world_core.proofs.steps.step_at.Goals as goal

@@ -1,4 +1,4 @@
-use Rattle.std.proofs.Common.{◌≡◌, ◌<◌, ◌∙◌, refl, ℕ, sym, arith}
+use Rattle.std.proofs.Common.{◌<◌, ◌∙◌, refl, arith}
 use Rattle.world_core.proofs.Rows.{framed_same, framed_trans}
 use Rattle.world_core.proofs.Tries.{burned_both, goes_any, faulted_more, none_tried, more_tried, all_tried}
 use Rattle.world_core.proofs.steps.try_each.Goals as goal

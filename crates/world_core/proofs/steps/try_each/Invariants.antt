@@ -11,6 +11,6 @@ invariant-loop-place g l = record {
   frame : AllFramed {S = g.row.S.Denot} {K = g.row.K.Denot} {I = g.row.I.Denot} {O = g.row.O.Denot} g.S.Source.location g.S.Source.content g.K.Sink.location g.I.Inlet.place g.I.Inlet.id g.O.Outlet.place g.O.Outlet.limits g.O.Outlet.id l.fn.tasks l.tasks;
   goes : (lists : ℕ → TaskLists) → IsRow {S = g.row.S.Denot} {K = g.row.K.Denot} {I = g.row.I.Denot} {O = g.row.O.Denot} g.S.Source.content g.K.Sink.bytes g.I.Inlet.received g.O.Outlet.sent l.fn.tasks lists (g.O.Outlet.tells l.fn.lanes)
       → RowStepped {S = g.row.S.Denot} {K = g.row.K.Denot} {I = g.row.I.Denot} {O = g.row.O.Denot} g.S.Source.content g.K.Sink.bytes g.I.Inlet.received g.O.Outlet.sent g.I.Inlet.place g.O.Outlet.place g.O.Outlet.limits
-          (λ k. k < l.place) l.moved l.tasks lists (g.O.Outlet.tells l.fn.lanes) (g.O.Outlet.tells l.lanes);
+      (λ k. k < l.place) l.moved l.tasks lists (g.O.Outlet.tells l.fn.lanes) (g.O.Outlet.tells l.lanes);
   burns : Burned l.moved (row_fuel {S = g.row.S.Denot} {K = g.row.K.Denot} {I = g.row.I.Denot} {O = g.row.O.Denot} l.fn.tasks) (row_fuel {S = g.row.S.Denot} {K = g.row.K.Denot} {I = g.row.I.Denot} {O = g.row.O.Denot} l.tasks);
 }

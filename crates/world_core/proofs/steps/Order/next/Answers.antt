@@ -1,6 +1,5 @@
-use Rattle.std.proofs.Common.{◌≡◌, ◌≤◌, ◌+◌, ◌-◌, ◌%◌, ℕ, List, length, ap, ◌∙◌, arith}
+use Rattle.std.proofs.Common.{◌≡◌, ◌≤◌, ◌+◌, ◌-◌, ◌%◌, ℕ, length, ap, ◌∙◌, arith}
 use Rattle.std.proofs.Math.Nat.{add-mod-mod}
-use Rattle.world_core.specs.Turns.{IsTurn}
 use Rattle.world_core.proofs.steps.Order.next.Goals as goal
 
 -- the next remainder
