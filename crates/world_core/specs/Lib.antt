@@ -4,5 +4,6 @@ pub mod Pad
 pub mod Row
 pub mod Task
 pub mod Told
+pub mod Turns
 pub mod Two
 pub mod World
