@@ -11,6 +11,7 @@ use Rattle.flow_model.specs.Rule.{Fed, unfed, all_called}
 use Rattle.el_basic.specs.declared.caps_filter.CapsFilter.{CapsFilter}
 use Rattle.el_basic.specs.Filters.{filter_in, caps_of, caps_in_force, filter_answer, filters, caps_behind}
 use Rattle.el_basic.specs.Filtered.{filtered, IsFilteredBy}
+use Rattle.el_basic.proofs.Counted.{counted_taken, counted_behind, counted_flush, counted_act}
 use Rattle.el_basic.proofs.Calls.{items_push, items_act, fed_taken, fed_behind, fed_flush, drained_begun, drained_behind, set_push, eos_taken, eos_stays, eos_flushed, eos_act}
 
 pub filter_fed : (first : Caps) (calls : List Call) (x : Item) → filter_in first (calls ++ Feed x ∷ []) ≡ filter_in first calls
@@ -57,6 +58,7 @@ filtered_item old new x plain begun answer filter current ends first calls put p
     let same = fed_taken (filters first) calls x (x ∷ []) (p.over ∙ begun) plain (answer_known first old calls put x _ p answer) in
     record {
       owed = ap (λ ys. ys ++ x ∷ []) p.owed ∙ sym (ap (λ (s : Fed). s.out) same);
+      all = ap (λ ys. ys ++ x ∷ []) p.all ∙ sym (counted_taken calls x (p.eos ∙ begun));
       over = ap (λ (s : Fed). s.over) same ∙ sym ends;
       eos = eos_taken calls x plain (p.eos ∙ begun) ∙ sym ends;
       filter_is = ap (λ (s : Fed). filter_in first s.given) same ∙ filter_fed first (filtered first calls).given x ∙ p.filter_is ∙ sym filter;
@@ -69,6 +71,7 @@ filtered_behind element x plain ended first calls put p =
     let same = fed_behind (filters first) calls x (p.over ∙ ended) plain in
     record {
       owed = append-nil put ∙ p.owed ∙ sym (ap (λ (s : Fed). s.out) same);
+      all = ap (λ ys. ys ++ []) p.all ∙ sym (counted_behind calls x (p.eos ∙ ended) plain);
       over = ap (λ (s : Fed). s.over) same ∙ p.over;
       eos = eos_stays calls x plain (p.eos ∙ ended) ∙ sym ended;
       filter_is = ap (λ (s : Fed). filter_in first s.given) same ∙ p.filter_is;
@@ -82,6 +85,7 @@ filtered_flush old new filter current begun first calls put number p =
     let same = fed_flush (filters first) calls number in let x = Ev (FlushStop number) in
     record {
       owed = ap (λ ys. ys ++ x ∷ []) p.owed ∙ sym (ap (λ (s : Fed). s.out) same);
+      all = ap (λ ys. ys ++ Ev (FlushStop number) ∷ []) p.all ∙ sym (counted_flush calls number);
       over = ap (λ (s : Fed). s.over) same ∙ sym begun;
       eos = eos_flushed calls number ∙ sym begun;
       filter_is = ap (λ (s : Fed). filter_in first s.given) same ∙ filter_fed first (filtered first calls).given x ∙ p.filter_is ∙ sym filter;
@@ -96,6 +100,7 @@ filtered_drain element first calls put p = go (filtered first calls).over refl
         let same = drained_behind (filters first) calls over in
         record {
           owed = p.owed ∙ sym (ap (λ (s : Fed). s.out) same);
+          all = p.all ∙ sym (counted_act calls Drain);
           over = ap (λ (s : Fed). s.over) same ∙ p.over;
           eos = eos_act calls Drain ∙ p.eos;
           filter_is = ap (λ (s : Fed). filter_in first s.given) same ∙ p.filter_is;
@@ -105,6 +110,7 @@ filtered_drain element first calls put p = go (filtered first calls).over refl
         let same = drained_begun (filters first) calls (Ev Eos ∷ []) begun refl in
         record {
           owed = p.owed ∙ sym (append-nil (filtered first calls).out) ∙ sym (ap (λ (s : Fed). s.out) same);
+          all = p.all ∙ sym (counted_act calls Drain);
           over = ap (λ (s : Fed). s.over) same ∙ p.over;
           eos = eos_act calls Drain ∙ p.eos;
           filter_is = ap (λ (s : Fed). filter_in first s.given) same ∙ filter_drained first (filtered first calls).given ∙ p.filter_is;
@@ -117,6 +123,7 @@ filtered_set old new caps filter current ended first calls put p =
     let same = set_push (filters first) calls (Filter caps) in
     record {
       owed = p.owed ∙ sym (ap (λ (s : Fed). s.out) same);
+      all = p.all ∙ sym (counted_act calls (Set (Filter caps)));
       over = ap (λ (s : Fed). s.over) same ∙ p.over ∙ sym ended;
       eos = eos_act calls (Set (Filter caps)) ∙ p.eos ∙ sym ended;
       filter_is = ap (λ (s : Fed). filter_in first s.given) same ∙ filter_set first (filtered first calls).given caps ∙ sym filter;

@@ -7,3 +7,6 @@ mod put_out;
 
 pub use caps_filter::CapsFilter;
 pub use identity::Identity;
+
+#[cfg(test)]
+mod tests;
