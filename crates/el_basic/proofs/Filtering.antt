@@ -1,13 +1,11 @@
 -- A filter of caps with one more call.
-use Rattle.std.proofs.Common.{◌≡◌, ℕ, Bool, true, false, if◌then◌else◌, List, [], ◌∷◌, ◌++◌, refl, sym, ap, ◌∙◌, append-nil, Option, Some, Result, Ok, Err}
-use Rattle.gst_caps.specs.Description.{Description}
+use Rattle.std.proofs.Common.{◌≡◌, ℕ, Bool, true, false, if◌then◌else◌, List, [], ◌∷◌, ◌++◌, refl, sym, ap, ◌∙◌, append-nil, Result, Ok}
 use Rattle.gst_caps.specs.declared.caps.Caps.{Caps}
-use Rattle.gst_caps.specs.declared.value.One.{One}
 use Rattle.gst_item.proofs.Kept.{latest_push}
 use Rattle.flow_model.specs.Item.{Item, Buf, Ev, StreamStart, NewCaps, NewSegment, Tag, Gap, FlushStop, Eos, is_caps, is_flush_stop, is_eos}
 use Rattle.flow_model.specs.Sticky.{latest}
 use Rattle.flow_model.specs.Call.{Call, Feed, Act, Drain, Set, Filter, items}
-use Rattle.flow_model.specs.Rule.{Fed, unfed, all_called}
+use Rattle.flow_model.specs.Rule.{Fed}
 use Rattle.el_basic.specs.declared.caps_filter.CapsFilter.{CapsFilter}
 use Rattle.el_basic.specs.Filters.{filter_in, caps_of, caps_in_force, filter_answer, filters, caps_behind}
 use Rattle.el_basic.specs.Filtered.{filtered, IsFilteredBy}

@@ -8,7 +8,7 @@ use Rattle.gst_caps.specs.declared.value.One.{One}
 use Rattle.flow_model.specs.Item.{Item, Buf, Ev, NewCaps, is_caps}
 use Rattle.flow_model.specs.Sticky.{latest}
 use Rattle.flow_model.specs.Call.{Call, Feed, Act, Drain, Set, Filter, items}
-use Rattle.flow_model.specs.Rule.{Fed, Fault, NotNegotiated, Response}
+use Rattle.flow_model.specs.Rule.{Fault, NotNegotiated, Response}
 
 -- the filter in force: the one that was set last, and the first one where none was set
 abbrev pub filter_in : Caps → List Call → Caps

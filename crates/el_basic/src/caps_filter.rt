@@ -134,12 +134,7 @@ impl CapsFilter {
     }
 
     /// Puts CAPS out, where the filter accepts them. They are then the caps of the stream.
-    fn pass_caps(
-        &mut self,
-        alloc: Global,
-        caps: Fixed,
-        out: &mut Outs,
-    ) -> Result<(), ElementFault>
+    fn pass_caps(&mut self, alloc: Global, caps: Fixed, out: &mut Outs) -> Result<(), ElementFault>
         ensures passes { OnOk result (filter_answer self.old.filter self.old.current (Ev (NewCaps caps)) ≡ Ok (Ev (NewCaps caps) ∷ [])) }
         ensures out { OnOk result (out.new ≡ out.old ++ on_pad 0 (Ev (NewCaps caps) ∷ [])) }
         ensures same { OnOk result (self.new ≡ record self.old { current = Some caps }) }

@@ -86,10 +86,12 @@ fn letter_of_answer(answer: &Result<Flow, ElementFault>) -> u8 {
         Ok(Flow::Eos) => b'.',
         Ok(_) => b'?',
         Err(ElementFault::NotNegotiated { offered: None, .. }) => b'0',
-        Err(ElementFault::NotNegotiated {
-            offered: Some(caps),
-            ..
-        }) => letter_of_caps(caps),
+        Err(
+            ElementFault::NotNegotiated {
+                offered: Some(caps),
+                ..
+            },
+        ) => letter_of_caps(caps),
         Err(_) => b'!',
     }
 }

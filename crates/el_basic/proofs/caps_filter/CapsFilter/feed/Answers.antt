@@ -1,4 +1,3 @@
-use Rattle.std.proofs.Common.{refl}
 use Rattle.el_basic.proofs.Filtering.{filtered_item, filtered_behind}
 use Rattle.el_basic.proofs.caps_filter.CapsFilter.feed.Goals as goal
 

@@ -1,4 +1,3 @@
-
 use Rattle.el_basic.proofs.Passing.{passed_item, passed_behind}
 use Rattle.el_basic.proofs.identity.Identity.feed.Goals as goal
 
