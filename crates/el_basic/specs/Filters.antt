@@ -1,0 +1,49 @@
+-- The rule of a filter of caps.
+use Rattle.std.specs.Prelude.{Bool, true, false, List, [], ◌∷◌, Option, None, Some, Result, Ok, Err, if◌then◌else◌}
+use Rattle.gst_caps.specs.Accepts.{accepts}
+use Rattle.gst_caps.specs.Description.{Description}
+use Rattle.gst_caps.specs.declared.caps.Caps.{Caps}
+use Rattle.gst_caps.specs.declared.caps.Caps.TheVariants.{Any, Of}
+use Rattle.gst_caps.specs.declared.value.One.{One}
+use Rattle.flow_model.specs.Item.{Item, Buf, Ev, NewCaps, is_caps}
+use Rattle.flow_model.specs.Sticky.{latest}
+use Rattle.flow_model.specs.Call.{Call, Feed, Act, Drain, Set, Filter, items}
+use Rattle.flow_model.specs.Rule.{Fault, NotNegotiated, Response}
+
+-- the filter in force: the one that was set last, and the first one where none was set
+abbrev pub filter_in : Caps → List Call → Caps
+filter_in filter [] = filter
+filter_in filter (Feed x ∷ calls) = filter_in filter calls
+filter_in filter (Act Drain ∷ calls) = filter_in filter calls
+filter_in filter (Act (Set (Filter caps)) ∷ calls) = filter_in caps calls
+
+-- the caps of the first item, where it is CAPS
+abbrev pub caps_of : List Item → Option (Description One)
+caps_of (Ev (NewCaps caps) ∷ xs) = Some caps
+caps_of _ = None
+
+-- the caps of the last CAPS of a list
+abbrev pub caps_in_force : List Item → Option (Description One)
+caps_in_force h = caps_of (latest is_caps h)
+
+-- whether a filter takes a buffer: it accepts its caps, and only all caps take one without
+abbrev pub takes_buffer : Caps → Option (Description One) → Bool
+takes_buffer filter (Some caps) = accepts filter caps
+takes_buffer Any None = true
+takes_buffer (Of structures) None = false
+
+-- What a filter owes for an item, by the caps in force. CAPS that it does not accept and a buffer that it does
+-- not take are faults, and all else passes.
+abbrev pub filter_answer : Caps → Option (Description One) → Item → Result (List Item) Fault
+filter_answer filter caps (Ev (NewCaps new)) = if accepts filter new then Ok (Ev (NewCaps new) ∷ []) else Err (NotNegotiated (Some new) filter)
+filter_answer filter caps (Buf buffer) = if takes_buffer filter caps then Ok (Buf buffer ∷ []) else Err (NotNegotiated caps filter)
+filter_answer filter caps x = Ok (x ∷ [])
+
+-- the rule of a filter that begins with these caps
+abbrev pub filters : Caps → Response
+filters first fed x = filter_answer (filter_in first fed.given) (caps_in_force (items fed.given)) x
+
+-- the caps in force behind an item
+abbrev pub caps_behind : Option (Description One) → Item → Option (Description One)
+caps_behind caps (Ev (NewCaps new)) = Some new
+caps_behind caps x = caps

@@ -1,0 +1,12 @@
+//! Elements that pass what they are fed.
+#![tactic(auto)]
+
+pub mod caps_filter;
+pub mod identity;
+mod put_out;
+
+pub use caps_filter::CapsFilter;
+pub use identity::Identity;
+
+#[cfg(test)]
+mod tests;
