@@ -4,7 +4,7 @@ use Rattle.world_core.proofs.Turns.{turn_same, idle_within, idle_none, less_left
 use Rattle.world_core.proofs.steps.advance.Goals as goal
 
 pub returns-in-Ok-clause-goes : goal.returns-in-Ok-clause-goes
-returns-in-Ok-clause-goes g c = λ lists row. goes_any {S = g.row.S.Denot} {K = g.row.K.Denot} {I = g.row.I.Denot} {O = g.row.O.Denot} g.S.Source.content g.K.Sink.bytes g.I.Inlet.received g.O.Outlet.sent g.I.Inlet.place g.O.Outlet.place g.O.Outlet.limits (λ k. k ≡ c.next-place.result) c.in-Ok.moved c.step_at.new.tasks lists _ _ (c.in-Ok.ensures.goes lists row)
+returns-in-Ok-clause-goes g c = λ lists row. goes_any {S = g.row.S.Denot} {K = g.row.K.Denot} {I = g.row.I.Denot} {O = g.row.O.Denot} g.S.Source.content g.K.Sink.bytes g.I.Inlet.received g.O.Outlet.sent g.I.Inlet.place g.O.Outlet.place g.O.Outlet.limits _ c.in-Ok.moved c.step_at.new.tasks lists _ _ (c.in-Ok.ensures.goes lists row)
 
 pub returns-in-Ok-clause-turn : goal.returns-in-Ok-clause-turn
 returns-in-Ok-clause-turn g c = λ n h w. turn_same c.args.turns.now _ (n + 1) c.next-place.new.self c.count.new.self c.count.ensures.listed c.count.ensures.place (c.next-place.ensures.next n h)
