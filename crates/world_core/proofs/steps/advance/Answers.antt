@@ -1,4 +1,4 @@
-use Rattle.std.proofs.Common.{◌≡◌, ◌<◌, ◌+◌, ◌∙◌, refl, ℕ, sym, arith}
+use Rattle.std.proofs.Common.{refl, arith}
 use Rattle.world_core.proofs.Tries.{goes_any}
 use Rattle.world_core.proofs.Turns.{idle_within, less_left, come_turn, come_stop, ok_tries, err_tries}
 use Rattle.world_core.proofs.steps.advance.Goals as goal
