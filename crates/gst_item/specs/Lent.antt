@@ -1,6 +1,7 @@
 -- Bodies whose bytes are lent to be changed.
-use Rattle.std.specs.Prelude.{ℕ, List, ◌++◌, length, take, drop}
-use Rattle.std.specs.Borrow.{Lends, MutBor, Fml, Array, u8}
+use Rattle.std.specs.Prelude.{ℕ, List, ◌++◌, length, take, drop, Result}
+use Rattle.std.specs.Borrow.{Lends, LendsIfOk, MutBor, Fml, Array, u8}
+use Rattle.gst_caps.specs.declared.memory.OutOfMemory.{OutOfMemory}
 use Rattle.gst_item.specs.contracts.body.Body.{the_row}
 
 -- a body behind a change of its bytes, which keeps its length
@@ -10,3 +11,7 @@ changed body bytes = take (length body) (bytes ++ drop (length bytes) body)
 -- the body ends as what was written into the loan
 abbrev pub LendsBytes : MutBor (List ℕ) → MutBor (List ℕ) → Fml
 LendsBytes body lent = Lends the_row (Array u8 0) body lent (changed body.now)
+
+-- the same, and where there is no loan the body stays
+abbrev pub LendsBytesIfOk : MutBor (List ℕ) → Result (MutBor (List ℕ)) OutOfMemory → Fml
+LendsBytesIfOk body lent = LendsIfOk the_row (Array u8 0) body lent (changed body.now) body.now

@@ -1,7 +1,7 @@
 //! Bodies of buffers.
 ghost use Rattle.std.specs.Prelude.{◌≡◌, ◌≤◌, length, slice_range, IfOk, OnOk};
 ghost use Rattle.std.specs.Borrow.{sem};
-ghost use Rattle.gst_item.specs.Lent.{LendsBytes};
+ghost use Rattle.gst_item.specs.Lent.{LendsBytes, LendsBytesIfOk};
 
 use gst_caps::OutOfMemory;
 use std::alloc::Global;
@@ -64,9 +64,11 @@ impl Body {
         Ok(Body { bytes })
     }
 
-    /// The bytes, to be changed in this holder alone.
+    /// The bytes, to be changed in this holder alone: what is written there is then the body. Where there is no
+    /// memory the body stays.
     pub fn make_mut(&mut self, _alloc: Global) -> Result<&mut [u8], OutOfMemory>
-        ensures { IfOk result (λ lent. lent.now ≡ self.old) }
+        ensures* writes_back { sem 𝓛 (LendsBytesIfOk self.entry result) }
+        ensures bytes { IfOk result (λ lent. lent.now ≡ self.old) }
     {
         Ok(self.bytes_mut())
     }
