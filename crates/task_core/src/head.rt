@@ -22,7 +22,11 @@ impl<S: Source, I: Inlet> Head<S, I> {
     ghost use Rattle.task_core.specs.Head.{HeadLists, HeadGave, HeadAfter, HeadIn, HeadCause, head_items, items_behind, head_faults, head_number, head_place, head_id, head_location, head_content};
 
     /// The next item, if there is one now. Where it fails nothing was given.
-    pub(crate) fn next(&mut self, alloc: Global, lanes: &mut I::Lanes) -> Result<Option<Item>, SrcFault>
+    pub(crate) fn next(
+        &mut self,
+        alloc: Global,
+        lanes: &mut I::Lanes,
+    ) -> Result<Option<Item>, SrcFault>
         requires table { HeadIn I.place self.old (I.Out.tells lanes.old) }
         requires few { head_items self.old < 2 ^ 41 }
         ensures gave { IfOk result (λ next. (l : HeadLists) → HeadGave S.content I.received self.old l → HeadAfter S.content I.received self.new (head_place I.place self.old) (I.Out.tells lanes.old) (I.Out.tells lanes.new) l next) }

@@ -24,8 +24,7 @@ struct Row {
 }
 
 /// The content in blocks of two bytes; the reads of these numbers fail.
-fn source(alloc: Global, reads: &[u64]) -> Result<FileSrc<MemSource>, OutOfMemory>
-{
+fn source(alloc: Global, reads: &[u64]) -> Result<FileSrc<MemSource>, OutOfMemory> {
     let content = List::from_vec(CONTENT.to_vec(alloc)?);
     let reads = List::from_vec(reads.to_vec(alloc)?);
     let location = Text::from_str(alloc, "in")?;
@@ -42,12 +41,7 @@ fn sink(alloc: Global, writes: &[u64]) -> Result<FileSink<MemSink>, OutOfMemory>
 }
 
 /// The numbers of a task's elements.
-fn elements(
-    alloc: Global,
-    head: u32,
-    passing: &[u32],
-    tail: u32,
-) -> Result<Elements, OutOfMemory> {
+fn elements(alloc: Global, head: u32, passing: &[u32], tail: u32) -> Result<Elements, OutOfMemory> {
     Ok(Elements {
         head,
         passing: passing.to_vec(alloc)?,
@@ -193,8 +187,7 @@ fn alone<S: Source, K: Sink, I: Inlet<Out = O>, O: Outlet<Lanes = I::Lanes>>(
     source: FileSrc<S>,
     sink: FileSink<K>,
     lanes: &mut I::Lanes,
-) -> Result<(Result<Row, TaskFault>, u64), OutOfMemory>
-{
+) -> Result<(Result<Row, TaskFault>, u64), OutOfMemory> {
     let head = Head::Source(source);
     let numbers = elements(alloc, 3, &[], 9)?;
     let mut task: Task<S, K, I, O> = Task::new(alloc, numbers, head, Tail::Sink(sink))?;

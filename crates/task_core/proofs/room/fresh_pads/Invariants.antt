@@ -1,7 +1,7 @@
 use Rattle.std.proofs.Common.{◌≡◌, ◌∷◌, [], List, map, take}
 use Rattle.flow_model.specs.Item.{Item}
 use Rattle.task_core.specs.Pads.{CountsAll}
-use Rattle.task_core.proofs.task.fresh_pads.Given as goal
+use Rattle.task_core.proofs.room.fresh_pads.Given as goal
 
 abbrev pub invariant-loop-element : goal.invariant-loop-element
 invariant-loop-element l = record {

@@ -1,7 +1,7 @@
 use Rattle.std.proofs.Common.{◌≡◌, ◌∷◌, ◌++◌, [], ℕ, List, ap, ◌∙◌}
 use Rattle.task_core.specs.declared.pads.Pad.{Pad}
 use Rattle.task_core.proofs.Crossing.{first_pad, numbers_more, none_more, take_all}
-use Rattle.task_core.proofs.task.fresh_pads.Goals as goal
+use Rattle.task_core.proofs.room.fresh_pads.Goals as goal
 
 pub loop-element-init : goal.loop-element-init
 loop-element-init c =

@@ -1,7 +1,8 @@
 use Rattle.std.proofs.Common.{length, sym, ap, ◌∙◌}
 use Rattle.el_src.specs.Gave.{has_eos}
 use Rattle.task_core.proofs.Heads.{begins}
-use Rattle.task_core.proofs.task.Task.new.Goals as goal
+use Rattle.task_core.proofs.Crossing.{unused_any}
+use Rattle.task_core.proofs.task.Task.begin.Goals as goal
 
 pub returns-clause-stands : goal.returns-clause-stands
 returns-clause-stands g c =
@@ -11,6 +12,6 @@ returns-clause-stands g c =
       number = c.items-given.ensures ∙ begins {S = g.row.S.Denot} {I = g.row.I.Denot} g.S.Source.content g.I.Inlet.received c.args.head l gave none ∙ sym (ap length none);
       over = sym (ap has_eos none);
       held = none;
-      counted = c.in_ok-pads.ensures.counts l.given;
+      counted = unused_any c.args.room.pads.items l.given c.args.room.unused;
       tail = tail;
     }
