@@ -1,4 +1,5 @@
 pub mod Line
+pub mod Named
 pub mod Opened
 pub mod Pad
 pub mod Row

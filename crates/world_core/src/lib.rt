@@ -6,6 +6,7 @@ pub mod line;
 pub mod pad;
 mod parts;
 pub mod run;
+mod scratch;
 pub mod task;
 pub mod unopened;
 
