@@ -31,3 +31,71 @@ hand_within t = go t.pending t.within t.some
     go : (o : Option Pending) → ForSome o (λ p. p.pad < vec_len t.pads) → 0 < vec_len t.pads → ahead o < length (pads_of t)
     go None within some = omega (arith, t.pads.ok.0)
     go (Some p) within some = omega (arith, t.pads.ok.0, within p refl)
+
+-- What is common to a task that stands and to one whose sink could not be written.
+pub record Lies {S K I O : Type 0} (content : S → Option (List ℕ)) (received : I → List Item → Type 0) (t : Task S K I O) (ahead : ℕ) (l : TaskLists) : Type 0 where
+  pub gave : HeadGave content received (head_of t) l.head
+  pub passes : Passes (pads_of t) ahead l.head.given l.done
+
+abbrev pub AllLie : {S K I O : Type 0} → (S → Option (List ℕ)) → (I → List Item → Type 0) → List (Task S K I O) → (ℕ → ℕ) → (ℕ → TaskLists) → Type 0
+AllLie {S = S} {K = K} {I = I} {O = O} content received tasks aheads lists =
+    (k : ℕ) (t : Task S K I O) → slice_get tasks k ≡ Some t → Lies content received t (aheads k) (lists k)
+
+pub stands_lies : {S K I O : Type 0} (content : S → Option (List ℕ)) (bytes : K → Option (List ℕ)) (received : I → List Item → Type 0) (sent : O → List Item → Type 0) (t : Task S K I O) (l : TaskLists)
+    → Stands content bytes received sent t l → Lies content received t (ahead (pending_of t)) l
+stands_lies content bytes received sent t l s =
+    record { gave = s.gave; passes = record { counted = s.counted; front = prefix_by l.done (waiting (pending_of t)) (sym s.held); within = hand_within t } }
+
+pub unwritten_lies : {S K I O : Type 0} (content : S → Option (List ℕ)) (bytes : K → Option (List ℕ)) (received : I → List Item → Type 0) (t : Task S K I O) (l : TaskLists)
+    → Unwritten content bytes received t l → Lies content received t (vec_len t.pads - 1) l
+unwritten_lies content bytes received t l u =
+    record {
+      gave = u.gave;
+      passes = record { counted = u.counted; front = prefix_by l.done (u.item ∷ []) (sym u.held); within = let some : 0 < vec_len t.pads = t.some in omega (arith, t.pads.ok.0) };
+    }
+
+-- what a queue gave begins what was sent into its lane
+queue_front : {S I : Type 0} (content : S → Option (List ℕ)) (place_in : I → ℕ) (received : I → List Item → Type 0) (head : Head S I) (n : ℕ) (l : HeadLists) (tells : Option (List Lane)) (t : List Lane) (done : List Item)
+    → head_place place_in head ≡ Some n → HeadGave content received head l → l.front ≡ [] → IsBetween tells n done l.got → tells ≡ Some t → IsPrefix l.given done
+queue_front content place_in received (heads.Source source) n l tells t done at gave front between told = absurd cc
+queue_front content place_in received (heads.Queue inlets) n l tells t done at gave front between told =
+    let lane = between t told in
+    let fed : l.given ++ inlets.given.items ≡ l.got = rw front at gave.whole in
+    prefix_trans (prefix_by l.given inlets.given.items fed) (prefix_by l.got lane.0.items (sym lane.2))
+
+-- what a source gave begins what it owes
+source_front : {S I : Type 0} (content : S → Option (List ℕ)) (place_in : I → ℕ) (received : I → List Item → Type 0) (head : Head S I) (l : HeadLists) (c : List ℕ)
+    → head_place place_in head ≡ None → HeadGave content received head l → head_content content head ≡ Some c → IsPrefix l.given (l.owed c)
+source_front content place_in received (heads.Queue inlets) l c at gave told = absurd cc
+source_front content place_in received (heads.Source source) l c at gave told =
+    prefix_by l.given (still_to_come source.phase source.id source.blocksize source.place c) (gave.told c told)
+
+pub some_within : {A : Type 0} (xs : List A) (k : ℕ) → k < length xs → slice_get xs k ≡ None → ⊥
+some_within [] k w e = omega arith
+some_within (x ∷ xs) zero w e = cc
+some_within (x ∷ xs) (suc k) w e = some_within xs k (omega arith) e
+
+-- The lists of a row's pads go down from what its source owes.
+pub row_goes_down : {S K I O : Type 0} (content : S → Option (List ℕ)) (received : I → List Item → Type 0) (place_in : I → ℕ) (place_out : O → ℕ) (limits : O → Limits)
+    (tasks : List (Task S K I O)) (aheads : ℕ → ℕ) (lists : ℕ → TaskLists) (tells : Option (List Lane)) (table : List Lane) (c : List ℕ)
+    → IsJoined place_in place_out limits tasks → AllLie content received tasks aheads lists → IsLaid (length tasks) lists tells → tells ≡ Some table → ((k : ℕ) → (lists k).head.front ≡ [])
+    → ((t : Task S K I O) → slice_get tasks 0 ≡ Some t → head_content content (head_of t) ≡ Some c) → Descends ((lists 0).head.owed c) (row_lists tasks aheads lists)
+row_goes_down {S = S} {K = K} {I = I} {O = O} content received place_in place_out limits tasks aheads lists tells table c joined lie laid told front source =
+    row_descends tasks aheads lists ((lists 0).head.owed c) (λ k t e. (lie k t e).passes) behind first
+  where
+    some : (k : ℕ) → k < length tasks → (t : Task S K I O) × (slice_get tasks k ≡ Some t)
+    some k w = go (slice_get tasks k) refl
+      where
+        go : (o : Option (Task S K I O)) → slice_get tasks k ≡ o → (t : Task S K I O) × (slice_get tasks k ≡ Some t)
+        go (Some t) e = (t, e)
+        go None e = absurd (some_within tasks k w e)
+
+    behind : AllJoined (length tasks) lists
+    behind k w =
+        let t = some (suc k) w in
+        queue_front content place_in received (head_of t.0) k (lists (suc k)).head tells table (lists k).done (joined.head (suc k) t.0 t.1) (lie (suc k) t.0 t.1).gave (front (suc k)) (laid k w) told
+
+    first : 0 < length tasks → IsPrefix (lists 0).head.given ((lists 0).head.owed c)
+    first w =
+        let t = some 0 w in
+        source_front content place_in received (head_of t.0) (lists 0).head c (joined.head 0 t.0 t.1) (lie 0 t.0 t.1).gave (source t.0 t.1)
