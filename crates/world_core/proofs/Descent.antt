@@ -7,7 +7,7 @@ use Rattle.flow_model.specs.Eval.{eval, eval_whole}
 use Rattle.flow_model.specs.Chain.{IsPlain, GoesDown}
 use Rattle.flow_model.specs.declared.report.PadCount.{PadCount}
 use Rattle.flow_model.specs.declared.report.Report.{Report}
-use Rattle.flow_model.proofs.Prefixes.{prefix_length}
+use Rattle.flow_model.proofs.Prefixes.{prefix_length, prefix_refl, prefix_trans}
 use Rattle.flow_model.proofs.Chains.{chain_to_whole, chain_whole}
 use Rattle.task_core.specs.declared.pads.Pad.{Pad}
 use Rattle.task_core.specs.Pads.{Counts}
@@ -126,3 +126,7 @@ lowest_at above (h ∷ []) zero e = refl
 lowest_at above (h ∷ []) (suc n) e = absurd (omega arith)
 lowest_at above (h ∷ (l ∷ hs)) zero e = absurd (omega arith)
 lowest_at above (h ∷ (l ∷ hs)) (suc n) e = lowest_at h (l ∷ hs) n (omega arith)
+
+pub lowest_front : (above : List Item) (hs : List (List Item)) → Descends above hs → IsPrefix (lowest above hs) above
+lowest_front above [] d = prefix_refl above
+lowest_front above (h ∷ hs) d = prefix_trans (lowest_front h hs d.1) d.0

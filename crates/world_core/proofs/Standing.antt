@@ -75,27 +75,43 @@ some_within [] k w e = omega arith
 some_within (x ∷ xs) zero w e = cc
 some_within (x ∷ xs) (suc k) w e = some_within xs k (omega arith) e
 
--- The lists of a row's pads go down from what its source owes.
-pub row_goes_down : {S K I O : Type 0} (content : S → Option (List ℕ)) (received : I → List Item → Type 0) (place_in : I → ℕ) (place_out : O → ℕ) (limits : O → Limits)
-    (tasks : List (Task S K I O)) (aheads : ℕ → ℕ) (lists : ℕ → TaskLists) (tells : Option (List Lane)) (table : List Lane) (c : List ℕ)
-    → IsJoined place_in place_out limits tasks → AllLie content received tasks aheads lists → IsLaid (length tasks) lists tells → tells ≡ Some table → ((k : ℕ) → (lists k).head.front ≡ [])
-    → ((t : Task S K I O) → slice_get tasks 0 ≡ Some t → head_content content (head_of t) ≡ Some c) → Descends ((lists 0).head.owed c) (row_lists tasks aheads lists)
-row_goes_down {S = S} {K = K} {I = I} {O = O} content received place_in place_out limits tasks aheads lists tells table c joined lie laid told front source =
-    row_descends tasks aheads lists ((lists 0).head.owed c) (λ k t e. (lie k t e).passes) behind first
+pub some_at : {A : Type 0} (xs : List A) (k : ℕ) → k < length xs → (x : A) × (slice_get xs k ≡ Some x)
+some_at {A = A} xs k w = go (slice_get xs k) refl
   where
-    some : (k : ℕ) → k < length tasks → (t : Task S K I O) × (slice_get tasks k ≡ Some t)
-    some k w = go (slice_get tasks k) refl
-      where
-        go : (o : Option (Task S K I O)) → slice_get tasks k ≡ o → (t : Task S K I O) × (slice_get tasks k ≡ Some t)
-        go (Some t) e = (t, e)
-        go None e = absurd (some_within tasks k w e)
+    go : (o : Option A) → slice_get xs k ≡ o → (x : A) × (slice_get xs k ≡ Some x)
+    go (Some x) e = (x, e)
+    go None e = absurd (some_within xs k w e)
 
-    behind : AllJoined (length tasks) lists
-    behind k w =
-        let t = some (suc k) w in
-        queue_front content place_in received (head_of t.0) k (lists (suc k)).head tells table (lists k).done (joined.head (suc k) t.0 t.1) (lie (suc k) t.0 t.1).gave (front (suc k)) (laid k w) told
+-- A row whose tasks hold these lists, joined by told lanes, over a source of this content.
+pub record Flows {S K I O : Type 0} (content : S → Option (List ℕ)) (received : I → List Item → Type 0) (place_in : I → ℕ) (place_out : O → ℕ) (limits : O → Limits)
+    (tasks : List (Task S K I O)) (aheads : ℕ → ℕ) (lists : ℕ → TaskLists) (tells : Option (List Lane)) (c : List ℕ) : Type 0 where
+  pub joined : IsJoined place_in place_out limits tasks
+  pub lie : AllLie content received tasks aheads lists
+  pub laid : IsLaid (length tasks) lists tells
+  pub table : List Lane
+  pub told : tells ≡ Some table
+  pub front : (k : ℕ) → (lists k).head.front ≡ []
+  pub source : (t : Task S K I O) → slice_get tasks 0 ≡ Some t → head_content content (head_of t) ≡ Some c
 
-    first : 0 < length tasks → IsPrefix (lists 0).head.given ((lists 0).head.owed c)
-    first w =
-        let t = some 0 w in
-        source_front content place_in received (head_of t.0) (lists 0).head c (joined.head 0 t.0 t.1) (lie 0 t.0 t.1).gave (source t.0 t.1)
+module _ {S K I O : Type 0} (content : S → Option (List ℕ)) (received : I → List Item → Type 0) (place_in : I → ℕ) (place_out : O → ℕ) (limits : O → Limits)
+    (tasks : List (Task S K I O)) (aheads : ℕ → ℕ) (lists : ℕ → TaskLists) (tells : Option (List Lane)) (c : List ℕ) (f : Flows content received place_in place_out limits tasks aheads lists tells c) where
+  first_front : 0 < length tasks → IsPrefix (lists 0).head.given ((lists 0).head.owed c)
+  first_front w =
+      let t = some_at tasks 0 w in
+      source_front content place_in received (head_of t.0) (lists 0).head c (f.joined.head 0 t.0 t.1) (f.lie 0 t.0 t.1).gave (f.source t.0 t.1)
+
+  behind_front : AllJoined (length tasks) lists
+  behind_front k w =
+      let t = some_at tasks (suc k) w in
+      queue_front content place_in received (head_of t.0) k (lists (suc k)).head tells f.table (lists k).done (f.joined.head (suc k) t.0 t.1) (f.lie (suc k) t.0 t.1).gave (f.front (suc k)) (f.laid k w) f.told
+
+  -- The lists of a row's pads go down from what its source owes.
+  pub row_goes_down : Descends ((lists 0).head.owed c) (row_lists tasks aheads lists)
+  row_goes_down = row_descends tasks aheads lists ((lists 0).head.owed c) (λ k t e. (f.lie k t e).passes) behind_front first_front
+
+  -- and so does what each head gave
+  pub given_front : (k : ℕ) → k < length tasks → IsPrefix (lists k).head.given ((lists 0).head.owed c)
+  given_front zero w = first_front w
+  given_front (suc k) w =
+      let t = some_at tasks k (omega arith) in
+      prefix_trans (behind_front k w) (prefix_trans (f.lie k t.0 t.1).passes.front (given_front k (omega arith)))

@@ -1,9 +1,7 @@
+pub mod Built
 pub mod Line
 pub mod Named
 pub mod Opened
-pub mod Pad
 pub mod Row
-pub mod Task
 pub mod Told
-pub mod Two
 pub mod World

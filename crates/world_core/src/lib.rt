@@ -3,13 +3,9 @@
 
 pub mod ended;
 pub mod line;
-pub mod pad;
-mod parts;
-pub mod run;
 mod scratch;
-pub mod task;
-pub mod unopened;
+mod steps;
+mod unopened;
 
 pub use ended::WorldEnd;
 pub use line::{Line, Middle};
-pub use run::run_line;
