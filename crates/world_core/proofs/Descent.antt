@@ -100,7 +100,7 @@ named_is (name ∷ names) (pad ∷ pads) (l ∷ hs) h c e same =
     ∙ ap (λ (counts : List PadCount). record { pad = source_pad name; items = length (h 0); buffers = buffers (h 0) } ∷ counts) (rest ∙ sym (counts_on h 0 (map source_pad names)))
 
 -- where a whole list comes to the end, each list is whole
-prefix_whole : (xs ys : List Item) → IsPrefix xs ys → length ys ≤ length xs → xs ≡ ys
+pub prefix_whole : (xs ys : List Item) → IsPrefix xs ys → length ys ≤ length xs → xs ≡ ys
 prefix_whole [] [] p w = refl
 prefix_whole [] (y ∷ ys) p w = absurd (omega arith)
 prefix_whole (x ∷ xs) [] p w = elim p [ ]
