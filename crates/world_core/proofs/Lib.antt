@@ -1,3 +1,4 @@
+pub mod Cuts
 pub mod Descent
 pub mod Ends
 pub mod Reports

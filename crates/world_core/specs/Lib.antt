@@ -1,4 +1,6 @@
 pub mod Built
+pub mod Cuts
+pub mod Layout
 pub mod Line
 pub mod Named
 pub mod Opened

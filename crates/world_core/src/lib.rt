@@ -3,6 +3,7 @@
 
 pub mod ended;
 pub mod line;
+mod plan;
 mod scratch;
 mod steps;
 mod unopened;
