@@ -61,6 +61,19 @@ impl Layout {
         }
     }
 
+    /// Puts an element behind the line.
+    fn put(&mut self, alloc: Global, number: u32, one: &Middle) -> Result<(), OutOfMemory>
+        requires laid { IsLaidOut self.old number }
+        requires cuts { AllCut ⟦<MemInlet as Inlet>⟧.place ⟦<MemOutlet as Outlet>⟧.place ⟦<MemOutlet as Outlet>⟧.limits ⟦<MemOutlet as Outlet>⟧.count ⟦<MemInlet as Inlet>⟧.received ⟦<MemOutlet as Outlet>⟧.sent (⟦<MemOutlet as Outlet>⟧.tells self.old.lanes) 0 self.old.cuts.items }
+        ensures laid { OnOk result (IsLaidOut self.new (number + 1)) }
+        ensures cuts { OnOk result (AllCut ⟦<MemInlet as Inlet>⟧.place ⟦<MemOutlet as Outlet>⟧.place ⟦<MemOutlet as Outlet>⟧.limits ⟦<MemOutlet as Outlet>⟧.count ⟦<MemInlet as Inlet>⟧.received ⟦<MemOutlet as Outlet>⟧.sent (⟦<MemOutlet as Outlet>⟧.tells self.new.lanes) 0 self.new.cuts.items) }
+    {
+        match one {
+            Middle::Identity => self.pass(number),
+            Middle::Queue(limit) => self.cut(alloc, number, *limit),
+        }
+    }
+
     /// Puts an element that passes all behind the line.
     fn pass(&mut self, number: u32) -> Result<(), OutOfMemory>
         requires { IsLaidOut self.old number }
@@ -104,11 +117,7 @@ fn lay_out(alloc: Global, line: &Line) -> Result<Layout, OutOfMemory>
 {
     let mut layout = Layout::new(alloc);
     for (place, one) in line.middle.as_slice().iter().enumerate() {
-        let number = place as u32 + 1;
-        match one {
-            Middle::Identity => layout.pass(number)?,
-            Middle::Queue(limit) => layout.cut(alloc, number, *limit)?,
-        }
+        layout.put(alloc, place as u32 + 1, one)?;
     }
     Ok(layout)
 }
