@@ -10,8 +10,11 @@ use Rattle.task_core.specs.declared.task.Task.{Task}
 use Rattle.task_core.specs.Task.{head_of, tail_of}
 use Rattle.el_src.specs.Gave.{source_of}
 use Rattle.el_sink.specs.Held.{sink_of}
+use Rattle.lane_core.specs.Lane.{Lane}
+use Rattle.lane_core.specs.Room.{Limits}
 use Rattle.world_core.specs.declared.line.Line.{Line}
 use Rattle.world_core.specs.Named.{row_numbers}
+use Rattle.world_core.specs.Row.{IsJoined, AllReady, IsRow, unmoved_row}
 
 -- what a head reads, where it has a source
 abbrev pub source_in : {S I : Type 0} → Head S I → Option S
@@ -31,3 +34,10 @@ pub record HasEnds {S K I O : Type 0} (tasks : List (Task S K I O)) (source : S)
 -- the elements of a line that have a source pad are those of its tasks, one after another
 abbrev pub HasNumbers : {S K I O : Type 0} → Line → List (Task S K I O) → Type 0
 HasNumbers line tasks = row_numbers tasks ≡ range_with_len 0 (length line.middle + 1)
+
+-- Tasks that moved nothing yet, joined by empty lanes, over what their source owes.
+pub record IsBuilt {S K I O : Type 0} (content : S → Option (List ℕ)) (bytes : K → Option (List ℕ)) (received : I → List Item → Type 0) (sent : O → List Item → Type 0)
+    (place_in : I → ℕ) (place_out : O → ℕ) (limits : O → Limits) (count : O → ℕ) (owed : List ℕ → List Item) (tells : Option (List Lane)) (tasks : List (Task S K I O)) : Type 0 where
+  pub joined : IsJoined place_in place_out limits tasks
+  pub ready : AllReady place_in place_out limits count tasks tells
+  pub row : IsRow content bytes received sent tasks (unmoved_row owed) tells

@@ -1,6 +1,7 @@
 //! Whole runs of a line.
 #![tactic(auto)]
 
+mod build;
 pub mod ended;
 pub mod line;
 mod plan;
