@@ -4,7 +4,9 @@
 mod build;
 pub mod ended;
 pub mod line;
+mod opening;
 mod plan;
+mod report;
 mod scratch;
 mod steps;
 mod unopened;
