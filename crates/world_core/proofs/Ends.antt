@@ -45,7 +45,7 @@ use Rattle.world_core.specs.Told.{IsTold, TellsFault}
 use Rattle.world_core.specs.World.{history, sink_list, IsEvaluated, IsRendered, EndsEos, EndsUnread, EndsUnwritten, EndsTooLong, HasEnded, most_items}
 use Rattle.world_core.proofs.Descent.{Descends, lowest, lowest_front, prefix_whole}
 use Rattle.world_core.proofs.Reports.{Down, rendered_by, evaluated_by, whole_by, history_is, sink_list_is, names_number, eos_in_file}
-use Rattle.world_core.proofs.Rows.{Passes, pad_lists, row_lists, row_counted, row_lowest, pad_place, pad_done, PlacedPad}
+use Rattle.world_core.proofs.PadLists.{Passes, pad_lists, row_lists, row_counted, row_lowest, pad_place, pad_done, PlacedPad}
 use Rattle.world_core.proofs.Standing.{Lies, AllLie, Flows, stands_lies, unwritten_lies, row_goes_down, given_front, some_at}
 
 -- What a report counts of a row of tasks.

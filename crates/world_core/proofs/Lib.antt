@@ -4,6 +4,6 @@ pub mod Descent
 pub mod Ends
 pub mod MemCuts
 pub mod Reports
-pub mod Rows
+pub mod PadLists
 pub mod Runs
 pub mod Standing

@@ -22,7 +22,7 @@ use Rattle.task_core.specs.Task.{TaskLists, Stands, Unwritten, pads_of, numbers_
 use Rattle.world_core.specs.Row.{IsJoined, IsLaid, IsRow, lane_before}
 use Rattle.world_core.specs.Named.{row_pads, row_numbers}
 use Rattle.world_core.proofs.Descent.{Descends, AllCounted, lowest}
-use Rattle.world_core.proofs.Rows.{Passes, AllPass, AllJoined, row_lists, row_descends}
+use Rattle.world_core.proofs.PadLists.{Passes, AllPass, AllJoined, row_lists, row_descends}
 
 -- the pads of a task are more than an item in hand has crossed
 pub hand_within : {S K I O : Type 0} (t : Task S K I O) → ahead (pending_of t) < length (pads_of t)

@@ -1,8 +1,9 @@
 -- The lists of the pads of a row of tasks go down from what the first head gave to what came to the last tail.
-use Rattle.std.proofs.Common.{◌≡◌, ◌≤◌, ◌<◌, ◌+◌, ℕ, zero, suc, List, [], ◌∷◌, ◌++◌, length, get_or, refl, sym, ap, subst, ◌∙◌, arith, Some, None, Option, map, length-append}
+use Rattle.std.proofs.Common.{◌≡◌, ◌≤◌, ◌<◌, ◌+◌, ℕ, zero, suc, List, [], ◌∷◌, ◌++◌, length, get_or, refl, sym, ap, subst, ◌∙◌, arith, Some, None, Option, map, take, length-append, append-nil}
 use Rattle.std.specs.Prelude.{slice_get, flat_map}
 use Rattle.std.proofs.lemmas.Option.{slice_get_within, same_Some}
-use Rattle.std.proofs.lemmas.List.{length-map, get_or-append-add}
+use Rattle.std.proofs.lemmas.List.{length-map, get_or-append-add, take_more}
+use Rattle.std.proofs.lemmas.Grind.{flat_map-append}
 use Rattle.std.proofs.Math.ListN.{get_or-append}
 use Rattle.flow_model.specs.Item.{Item}
 use Rattle.flow_model.specs.Prefix.{IsPrefix}
@@ -168,3 +169,11 @@ pad_place (u ∷ ts) aheads lists t (suc place) i e w =
       list = ap (λ (m : ℕ). get_or (row_lists (u ∷ ts) aheads lists) m []) (let e = lists_length (pads_of u) (aheads 0) (lists 0).head.given (lists 0).done in omega arith)
           ∙ get_or-append-add (pad_lists (pads_of u) (aheads 0) (lists 0).head.given (lists 0).done) (row_lists ts (λ j. aheads (suc j)) (λ j. lists (suc j))) p.at [] ∙ p.list;
     }
+
+-- the pads of one task more
+pub pads_more : {S K I O : Type 0} (tasks : List (Task S K I O)) (i : ℕ) (t : Task S K I O) (so_far more : List Pad) → i < length tasks → t ≡ get_or tasks i t → so_far ≡ row_pads (take i tasks) → more ≡ pads_of t
+    → so_far ++ more ≡ row_pads (take (i + 1) tasks)
+pads_more {S = S} {K = K} {I = I} {O = O} tasks i t so_far more w is e e' =
+    ap (λ (ps : List Pad). ps ++ more) e
+    ∙ ap (λ (ps : List Pad). row_pads (take i tasks) ++ ps) (e' ∙ ap (λ (u : Task S K I O). pads_of u) is ∙ sym (append-nil (pads_of (get_or tasks i t))))
+    ∙ sym (ap (λ (ts : List (Task S K I O)). row_pads ts) (take_more tasks i t w) ∙ flat_map-append (λ (u : Task S K I O). pads_of u) (take i tasks) (get_or tasks i t ∷ []))
