@@ -24,7 +24,7 @@ module _ {S K I O : Type 0} (content : S → Option (List ℕ)) (bytes : K → O
   pub stays_goes : (task : Task S K I O) (l : TaskLists) (step : Step) (inlet outlet limit : Option ℕ) (tells tells' : Option (List Lane)) → Stands content bytes received sent task l → tells' ≡ tells
       → IsWhy task inlet outlet limit tells' l.head.got l.done step → Goes content bytes received sent task l step inlet outlet limit tells tells'
   stays_goes task l step inlet outlet limit tells tells' s e why =
-      record { got = l.head.got; given = l.head.given; done = l.done; stands = s; keeps = keep_same inlet outlet tells tells' l.head.got l.done e; why = why }
+      record { got = l.head.got; given = l.head.given; done = l.done; stands = s; keeps = keep_same inlet outlet tells tells' l.head.got l.done e; more = inl refl; rests = λ _. (refl, refl, refl, e); why = why }
 
   given_holds : (task : Task S K I O) (l : TaskLists) (x : Item) (head : HeadLists) → HeadGave content received task.head head → head.given ≡ l.head.given ++ x ∷ [] → task.given ≡ length l.head.given + 1
       → task.over ≡ is_eos x → has_eos l.head.given ≡ false → l.head.given ≡ l.done ++ [] → CountsAll task.pads.items 0 l.head.given l.done → TailHas bytes sent task.tail l.done
@@ -49,6 +49,8 @@ module _ {S K I O : Type 0} (content : S → Option (List ℕ)) (bytes : K → O
     stands = subst (λ (p : Option Pending). Holds content bytes received sent task p (record { head = record l.head { given = l.head.given ++ x ∷ [] }; done = l.done })) (sym pending)
         (given_holds task l x (record l.head { given = l.head.given ++ x ∷ [] }) h.0 refl number over none held counted tail);
     keeps = keep_same inlet outlet tells tells' l.head.got l.done h.1;
+    more = inr (x, none, refl);
+    rests = λ ne. absurd (ne refl);
     why = tt;
   }
   given_goes task l x inlet outlet limit tells tells' (inr h) number over none held counted tail pending = record {
@@ -58,6 +60,8 @@ module _ {S K I O : Type 0} (content : S → Option (List ℕ)) (bytes : K → O
     stands = subst (λ (p : Option Pending). Holds content bytes received sent task p (record { head = record l.head { got = l.head.got ++ x ∷ []; given = l.head.given ++ x ∷ [] }; done = l.done })) (sym pending)
         (given_holds task l x (record l.head { got = l.head.got ++ x ∷ []; given = l.head.given ++ x ∷ [] }) h.0 refl number over none held counted tail);
     keeps = keep_from inlet outlet x tells tells' l.head.got l.done h.1;
+    more = inr (x, none, refl);
+    rests = λ ne. absurd (ne refl);
     why = tt;
   }
 
@@ -83,6 +87,8 @@ module _ {S K I O : Type 0} (content : S → Option (List ℕ)) (bytes : K → O
     stands = subst (λ (p : Option Pending). Holds content bytes received sent task p (record { head = l.head; done = l.done ++ x ∷ [] })) (sym pending)
         (record { gave = gave; number = number; over = over; held = held ∙ sym (append-nil (l.done ++ x ∷ [])); counted = counted; tail = tail });
     keeps = keeps;
+    more = inl refl;
+    rests = λ ne. absurd (ne refl);
     why = tt;
   }
 

@@ -96,7 +96,11 @@ IsWhy task inlet outlet limit tells got done (NeedsItem n) = (task.pending ≡ N
 IsWhy task inlet outlet limit tells got done (NeedsRoom n) = (tail_number task.tail ≡ Some n) × IsFullLane outlet limit tells done
 IsWhy task inlet outlet limit tells got done Ended = (task.pending ≡ None) × (task.over ≡ true)
 
--- The lists behind a step, and why it did not move where it did not.
+-- at most one item more was given, and none behind EOS
+abbrev pub GivesMore : List Item → List Item → Type 0
+GivesMore was is = (is ≡ was) ⊎ ((x : Item) × (has_eos was ≡ false) × (is ≡ was ++ x ∷ []))
+
+-- The lists behind a step, and why it did not move where it did not; then the lists and the lanes stayed.
 pub record Goes {S K I O : Type 0} (content : S → Option (List ℕ)) (bytes : K → Option (List ℕ)) (received : I → List Item → Type 0) (sent : O → List Item → Type 0)
     (task : Task S K I O) (l : TaskLists) (step : Step) (inlet outlet limit : Option ℕ) (tells tells' : Option (List Lane)) : Type 0 where
   pub got : List Item
@@ -104,6 +108,8 @@ pub record Goes {S K I O : Type 0} (content : S → Option (List ℕ)) (bytes : 
   pub done : List Item
   pub stands : Stands content bytes received sent task (record { head = record l.head { got = got; given = given }; done = done })
   pub keeps : Keeps inlet outlet tells tells' l.head.got l.done got done
+  pub more : GivesMore l.head.given given
+  pub rests : step ≢ Moved → (got ≡ l.head.got) × (given ≡ l.head.given) × (done ≡ l.done) × (tells' ≡ tells)
   pub why : IsWhy task inlet outlet limit tells' got done step
 
 -- a task after a fault

@@ -1,9 +1,15 @@
 pub mod Building
+pub mod Closed
 pub mod Cuts
 pub mod Descent
 pub mod Ends
 pub mod MemCuts
-pub mod Reports
 pub mod PadLists
+pub mod Places
+pub mod Reports
+pub mod Rows
 pub mod Runs
+pub mod Stalls
 pub mod Standing
+pub mod Tries
+pub mod Turns

@@ -6,4 +6,5 @@ pub mod Named
 pub mod Opened
 pub mod Row
 pub mod Told
+pub mod Turns
 pub mod World

@@ -1,6 +1,6 @@
 -- Tasks in a row: the first has a source, each other takes from the lane into which the one before it sends, and
 -- the last has a sink. The lane between task k and task k + 1 has the place k in its table.
-use Rattle.std.specs.Prelude.{◌≡◌, ◌≢◌, ◌≤◌, ◌<◌, ◌==◌, ◌++◌, ℕ, zero, suc, Bool, true, false, if◌then◌else◌, List, [], ◌∷◌, length, sum_by, Option, Some, None, slice_get}
+use Rattle.std.specs.Prelude.{◌≡◌, ◌≢◌, ◌≤◌, ◌<◌, ◌==◌, ◌+◌, ◌-◌, ◌*◌, ◌++◌, ℕ, zero, suc, Bool, true, false, if◌then◌else◌, List, [], ◌∷◌, length, sum_by, Option, Some, None, slice_get}
 use Rattle.std.specs.Option.{ForSome}
 use Rattle.flow_model.specs.Item.{Item}
 use Rattle.gst_outside.specs.Causes.{Rose}
@@ -12,7 +12,7 @@ use Rattle.task_core.specs.declared.fault.TaskFault.TheVariants.{ReadFault, Writ
 use Rattle.task_core.specs.declared.step.Step.{Step}
 use Rattle.task_core.specs.declared.step.Step.TheVariants.{Moved}
 use Rattle.task_core.specs.declared.task.Task.{Task}
-use Rattle.task_core.specs.Head.{HeadLists, head_faults, head_place}
+use Rattle.task_core.specs.Head.{head_faults, head_place}
 use Rattle.task_core.specs.Tail.{tail_faults, tail_limit, tail_place}
 use Rattle.task_core.specs.Task.{TaskLists, Stands, AtFault, IsReady, IsWhy, Frame, fuel, most_items, head_of, tail_of, pending_of, over_of, numbers_of, last_of}
 
@@ -140,3 +140,7 @@ row_fuel tasks = sum_by (λ t. fuel t) tasks
 abbrev pub Burned : Bool → ℕ → ℕ → Type 0
 Burned true before after = after < before
 Burned false before after = after ≡ before
+
+-- how many turns, moving or idle, are left at the most behind so many idle ones
+abbrev pub steps_left : ℕ → ℕ → ℕ
+steps_left most idle = 4097 * most + (4096 - idle)
