@@ -41,18 +41,13 @@ use Rattle.world_core.specs.Built.{source_in, sink_in, HasEnds, HasNumbers}
 use Rattle.world_core.specs.Line.{sink_name, source_pad, owed_list, plan_of, pad_counts, pads_of as pads_of_line}
 use Rattle.world_core.specs.Named.{element_names, named_counts, row_pads, row_numbers}
 use Rattle.world_core.specs.Row.{IsJoined, IsLaid, IsRow, RowEnded, RowFaulted, IsRowCause, GoesOn, AllOver, unmoved_row, lane_before, lane_behind}
+use Rattle.world_core.specs.Reported.{Reported}
 use Rattle.world_core.specs.Told.{IsTold, TellsFault}
 use Rattle.world_core.specs.World.{history, sink_list, IsEvaluated, IsRendered, EndsEos, EndsUnread, EndsUnwritten, EndsTooLong, HasEnded, most_items}
 use Rattle.world_core.proofs.Descent.{Descends, lowest, lowest_front, prefix_whole}
 use Rattle.world_core.proofs.Reports.{Down, rendered_by, evaluated_by, whole_by, history_is, sink_list_is, names_number, eos_in_file}
 use Rattle.world_core.proofs.PadLists.{Passes, pad_lists, row_lists, row_counted, row_lowest, pad_place, pad_done, PlacedPad}
 use Rattle.world_core.proofs.Standing.{Lies, AllLie, Flows, stands_lies, unwritten_lies, row_goes_down, given_front, some_at}
-
--- What a report counts of a row of tasks.
-pub record Reported {S K I O : Type 0} (line : Line) (tasks : List (Task S K I O)) (told : WorldEnd) : Type 0 where
-  pub entries : told.report.entries ≡ []
-  pub counts : told.report.pads ≡ named_counts (element_names line) (row_pads tasks)
-  pub sinks : (n : ℕ) (t : Task S K I O) (len : ℕ) → n + 1 ≡ length tasks → slice_get tasks n ≡ Some t → tail_len (tail_of t) ≡ Some len → told.report.sinks ≡ record { name = sink_name; bytes = len } ∷ []
 
 -- What is known of a row of tasks, whatever its lists are.
 pub record IsMade {S K I O : Type 0} (place_in : I → ℕ) (place_out : O → ℕ) (limits : O → Limits) (line : Line) (tasks : List (Task S K I O)) (source : S) (sink : K) (last : ℕ) : Type 0 where
@@ -62,7 +57,7 @@ pub record IsMade {S K I O : Type 0} (place_in : I → ℕ) (place_out : O → �
   pub count : last + 1 ≡ length tasks
 
 -- the pads are as many as their numbers
-pads_number : {S K I O : Type 0} (tasks : List (Task S K I O)) → length (row_numbers tasks) ≡ length (row_pads tasks)
+pub pads_number : {S K I O : Type 0} (tasks : List (Task S K I O)) → length (row_numbers tasks) ≡ length (row_pads tasks)
 pads_number [] = refl
 pads_number (t ∷ ts) =
     let first = length-map (pads_of t) (λ (pad : Pad). pad.element) in

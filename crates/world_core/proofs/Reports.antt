@@ -3,6 +3,7 @@ use Rattle.std.proofs.Common.{All, ◌≡◌, ◌≤◌, ◌<◌, ◌+◌, ◌-�
 use Rattle.std.specs.Prelude.{slice_get}
 use Rattle.std.specs.Option.{ForSome}
 use Rattle.std.specs.List.{range_with_len}
+use Rattle.std.proofs.lemmas.Option.{same_Some}
 use Rattle.std.proofs.lemmas.Grind.{fold-append}
 use Rattle.flow_model.specs.Item.{Item, Ev, Eos, is_eos}
 use Rattle.flow_model.specs.Prefix.{IsPrefix, nothing, next}
@@ -21,6 +22,8 @@ use Rattle.world_core.specs.declared.line.Line.{Line}
 use Rattle.world_core.specs.declared.line.Middle.{Middle}
 use Rattle.world_core.specs.declared.line.Middle.TheVariants.{Identity, Queue}
 use Rattle.world_core.specs.Line.{source_pad, middle_names, pads_of, owed_list, plan_of, pad_counts, sink_name}
+use Rattle.gst_caps.specs.declared.name.PadName.{PadName}
+use Rattle.world_core.specs.Reported.{AreNamed}
 use Rattle.world_core.specs.Named.{element_names, named_count, named_counts}
 use Rattle.world_core.specs.World.{history, sink_list, most_items, IsEvaluated, IsRendered}
 use Rattle.world_core.proofs.Descent.{Descends, AllCounted, lowest, same_number, descends_down, named_items, named_limits, named_is, whole_at, lowest_at}
@@ -125,3 +128,16 @@ whole_by line content report pads hs done d last eos front p within =
         (let e = hs_number line content report pads hs d in omega arith)
     ∙ sym (ap (λ plan. eval_whole plan p) (plan_is line content report pads hs d)
         ∙ chain_whole (length line.middle) (owed_list line content) (counts_of pads) (plain_file 0 line.blocksize content) p within)
+
+-- each count has the name of its pad
+named_at : (names : List (List ℕ)) (pads : List Pad) → length names ≡ length pads → (n : ℕ) (name : PadName) → slice_get (map source_pad names) n ≡ Some name
+    → (count : PadCount) × (slice_get (named_counts names pads) n ≡ Some count) × (count.pad ≡ name)
+named_at [] pads e n name at = absurd cc
+named_at (one ∷ names) [] e n name at = absurd (omega arith)
+named_at (one ∷ names) (pad ∷ pads) e zero name at = (named_count one pad, refl, same_Some (source_pad one) name at)
+named_at (one ∷ names) (pad ∷ pads) e (suc n) name at = named_at names pads (omega arith) n name at
+
+pub are_named : (line : Line) (pads : List Pad) (counts : List PadCount) → counts ≡ named_counts (element_names line) pads → length pads ≡ length line.middle + 1 → AreNamed line counts
+are_named line pads counts e number n name at =
+    let found = named_at (element_names line) pads (names_number line ∙ sym number) n name at in
+    (found.0, ap (λ (cs : List PadCount). slice_get cs n) e ∙ found.1, found.2)

@@ -4,6 +4,7 @@ pub mod Layout
 pub mod Line
 pub mod Named
 pub mod Opened
+pub mod Reported
 pub mod Row
 pub mod Told
 pub mod Turns

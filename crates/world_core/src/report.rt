@@ -7,7 +7,9 @@ ghost use Rattle.flow_model.specs.declared.report.PadCount.{PadCount};
 ghost use Rattle.world_core.specs.declared.line.Middle.{Middle};
 ghost use Rattle.world_core.specs.Line.{sink_name, middle_names};
 ghost use Rattle.world_core.specs.Named.{element_names, named_count, named_counts, row_pads};
-ghost use Rattle.world_core.specs.Told.{IsTold};
+ghost use Rattle.world_core.specs.Built.{HasNumbers};
+ghost use Rattle.world_core.specs.Reported.{AreNamed, Reported};
+ghost use Rattle.world_core.specs.Told.{IsTold, TellsFault};
 
 use crate::ended::WorldEnd;
 use crate::line::{Line, Middle};
@@ -132,5 +134,113 @@ fn name_of(alloc: Global, counts: &[PadCount], element: u32) -> Result<Text, Out
     match counts.get(element as usize) {
         Some(count) => count.pad.element.copy(alloc),
         None => Ok(Text::new(alloc)),
+    }
+}
+
+/// The status and the fault of a run that stopped, by the fault of its task.
+fn stopped(
+    alloc: Global,
+    line: &Line,
+    counts: &[PadCount],
+    fault: TaskFault,
+) -> Result<(u8, Fault), OutOfMemory>
+    requires { AreNamed line.now counts.now }
+    ensures { IfOk result (λ told. TellsFault line.now fault told.0 told.1) }
+{
+    match fault {
+        TaskFault::ReadFault { before, after, .. } => {
+            let location = line.source.copy(alloc)?;
+            Ok((
+                7,
+                Fault::ReadFault {
+                    location,
+                    before,
+                    after,
+                },
+            ))
+        }
+        TaskFault::WriteFault { before, after, .. } => {
+            let location = line.sink.copy(alloc)?;
+            Ok((
+                8,
+                Fault::WriteFault {
+                    location,
+                    before,
+                    after,
+                },
+            ))
+        }
+        TaskFault::TooLong { element, a, b } => {
+            let element = name_of(alloc, counts, element)?;
+            Ok((
+                15,
+                Fault::TooLong {
+                    element,
+                    a,
+                    b,
+                },
+            ))
+        }
+        TaskFault::OutOfMemory => Err(OutOfMemory),
+    }
+}
+
+/// The status and the fault of a run.
+fn fault_of(
+    alloc: Global,
+    line: &Line,
+    counts: &[PadCount],
+    end: Result<(), Stopped>,
+) -> Result<(u8, Fault), OutOfMemory>
+    requires { AreNamed line.now counts.now }
+    ensures { IfOk result (λ told. IsTold line.now end told.0 told.1) }
+{
+    match end {
+        Ok(()) => Ok((0, Fault::Nothing)),
+        Err(Stopped { fault, .. }) => stopped(alloc, line, counts, fault),
+    }
+}
+
+/// The report of tasks that have run.
+pub(crate) fn report_of<S: Source, K: Sink, I: Inlet<Out = O>, O: Outlet<Lanes = I::Lanes>>(
+    alloc: Global,
+    line: &Line,
+    tasks: &[Task<S, K, I, O>],
+    end: Result<(), Stopped>,
+) -> Result<WorldEnd, OutOfMemory>
+    requires { HasNumbers line.now tasks.now }
+    ensures told { IfOk result (λ told. IsTold line.now end told.status told.report.fault) }
+    ensures reported { IfOk result (λ told. Reported line.now tasks.now told) }
+{
+    let pads = pads_of(alloc, tasks)?;
+    let counts = counts_of(alloc, line, &pads)?;
+    let (status, fault) = fault_of(alloc, line, counts.as_slice(), end)?;
+    Ok(WorldEnd {
+        status,
+        report: Report {
+            entries: List::new(alloc),
+            pads: counts,
+            sinks: sink_counts(alloc, length_written(tasks))?,
+            fault,
+        },
+    })
+}
+
+/// A report of a run that did not begin.
+pub(crate) fn without_lists(alloc: Global, status: u8, fault: Fault) -> WorldEnd
+    ensures status { result.status ≡ status }
+    ensures fault { result.report.fault ≡ fault }
+    ensures entries { result.report.entries ≡ [] }
+    ensures pads { result.report.pads ≡ [] }
+    ensures sinks { result.report.sinks ≡ [] }
+{
+    WorldEnd {
+        status,
+        report: Report {
+            entries: List::new(alloc),
+            pads: List::new(alloc),
+            sinks: List::new(alloc),
+            fault,
+        },
     }
 }
