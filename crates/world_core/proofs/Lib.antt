@@ -11,5 +11,6 @@ pub mod Rows
 pub mod Runs
 pub mod Stalls
 pub mod Standing
+pub mod Taken
 pub mod Tries
 pub mod Turns

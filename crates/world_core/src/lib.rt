@@ -7,6 +7,7 @@ pub mod line;
 mod opening;
 mod plan;
 mod report;
+mod run;
 mod scratch;
 mod steps;
 mod unopened;
