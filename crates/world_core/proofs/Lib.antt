@@ -3,6 +3,7 @@ pub mod Closed
 pub mod Cuts
 pub mod Descent
 pub mod Ends
+pub mod Framed
 pub mod MemCuts
 pub mod PadLists
 pub mod Places

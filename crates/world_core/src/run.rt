@@ -74,3 +74,90 @@ fn take_ends<S: Source, K: Sink, I: Inlet<Out = O>, O: Outlet<Lanes = I::Lanes>>
     let (head, _) = tasks.swap_remove(0).into_ends();
     (source_from(head), sink_from(tail))
 }
+
+/// Runs the tasks of a line over its opened ends.
+fn run_opened<S: Source, K: Sink>(
+    alloc: Global,
+    line: &Line,
+    plan: Plan<S, K>,
+    source: S,
+    sink: K,
+    turns: &[u32],
+) -> Ran<S, K>
+    requires numbers { cut_numbers plan.cuts.items ++ room_numbers plan.last ≡ range_with_len 0 (length line.now.middle + 1) }
+    requires cuts { AllCut ⟦<MemInlet as Inlet>⟧.place ⟦<MemOutlet as Outlet>⟧.place ⟦<MemOutlet as Outlet>⟧.limits ⟦<MemOutlet as Outlet>⟧.count ⟦<MemInlet as Inlet>⟧.received ⟦<MemOutlet as Outlet>⟧.sent (⟦<MemOutlet as Outlet>⟧.tells plan.lanes) 0 plan.cuts.items }
+    requires tasks { plan.tasks.items ≡ [] }
+    requires room { length plan.cuts.items < vec_capacity plan.tasks }
+    requires empty { ForSome (K.bytes sink) (λ b. b ≡ []) }
+    ensures ended { result.end.status ≢ 13 → HasEnded line.now (S.content source) (K.bytes result.sink) result.end }
+    ensures statuses { IsRunStatus result.end.status }
+    ensures unread { result.end.status ≡ 7 → Rose 0 (S.faults result.source) }
+    ensures unwritten { result.end.status ≡ 8 → Rose 0 (K.faults result.sink) }
+    ensures source { S.location result.source ≡ S.location source }
+    ensures sink { K.location result.sink ≡ K.location sink }
+{
+    let Plan {
+        cuts,
+        last,
+        mut lanes,
+        tasks,
+    } = plan;
+    let mut tasks = build_tasks(alloc, line, tasks, cuts, last, source, sink);
+    let end = run_tasks(alloc, &mut tasks, &mut lanes, turns);
+    let told = report_of(alloc, line, &tasks, end);
+    let (source, sink) = take_ends(tasks);
+    match told {
+        Ok(end) => Ran { end, source, sink },
+        Err(OutOfMemory) => Ran {
+            end: without_lists(alloc, 13, Fault::Nothing),
+            source,
+            sink,
+        },
+    }
+}
+
+/// The end of a run that did not begin.
+fn not_begun(alloc: Global, line: &Line, unopened: Unopened) -> WorldEnd
+    ensures ended { result.status ≢ 13 → (before after : Seen) → IsUnopened line.now before after unopened → StaysOpening before after → RunUnopened line.now before after result }
+    ensures statuses { IsRunStatus result.status }
+{
+    let location = match unopened {
+        Unopened::NoSource => line.source.copy(alloc),
+        Unopened::NoSink => line.sink.copy(alloc),
+        Unopened::OutOfMemory => Err(OutOfMemory),
+    };
+    match location {
+        Ok(location) => without_lists(alloc, 6, Fault::OpenFault { location }),
+        Err(OutOfMemory) => without_lists(alloc, 13, Fault::Nothing),
+    }
+}
+
+/// Runs a line by turns: opens its source and its sink, moves what the source gives to the sink, and gives both
+/// back.
+///
+/// The line has a task for each part between its queues. Each turn steps the task whose place is the order's next
+/// number modulo the count of tasks: those that are listed come first, and behind them 0, 1, 2 and so on.
+///
+/// The status is 0 where the sink reached end of stream, 6 where a location could not be opened, 7 and 8 where the
+/// source could not be read or the sink not be written, 13 where memory is wanting, and 15 where a pad's count
+/// would pass its limit.
+pub fn run_turns<F: Files>(alloc: Global, line: &Line, files: &mut F, turns: &[u32]) -> WorldEnd
+    ensures ended { result.status ≢ 13 → IsWorldEnd line.now (seen (F.input files.old) (F.output files.old) (F.faults_of files.old) (F.refused_of files.old) (F.faults files.old)) (seen (F.input files.new) (F.output files.new) (F.faults_of files.new) (F.refused_of files.new) (F.faults files.new)) result }
+    ensures statuses { IsRunStatus result.status }
+    ensures given_back { F.ends files.old < 2 ^ 63 → F.ends files.new ≡ F.ends files.old }
+    ensures inputs { (l : List ℕ) → F.input files.new l ≡ F.input files.old l }
+    ensures others { (l : List ℕ) → l ≢ line.now.sink → F.output files.new l ≡ F.output files.old l }
+{
+    let plan = match plan_line(alloc, line) {
+        Ok(plan) => plan,
+        Err(OutOfMemory) => return without_lists(alloc, 13, Fault::Nothing),
+    };
+    let (source, sink) = match open_ends(alloc, line, files) {
+        Ok(ends) => ends,
+        Err(unopened) => return not_begun(alloc, line, unopened),
+    };
+    let ran = run_opened(alloc, line, plan, source, sink, turns);
+    let Ran { end, source, sink } = ran;
+    close_ends(files, source, sink);
+    end
+}
