@@ -7,6 +7,7 @@ pub mod Framed
 pub mod MemCuts
 pub mod PadLists
 pub mod Places
+pub mod Reporting
 pub mod Reports
 pub mod Rows
 pub mod Runs

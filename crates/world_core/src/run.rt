@@ -1,13 +1,15 @@
 //! Runs of a line.
-ghost use Rattle.std.specs.Prelude.{◌≡◌, ◌≢◌, ◌≤◌, ◌<◌, ◌+◌, ◌++◌, ◌^◌, ℕ, List, [], length, Some, IsSome, slice_get, vec_capacity};
+ghost use Rattle.std.specs.Prelude.{◌≡◌, ◌≢◌, ◌≤◌, ◌<◌, ◌+◌, ◌++◌, ◌^◌, ℕ, List, [], length, Some, IfOk, IsSome, slice_get, vec_capacity};
 ghost use Rattle.std.specs.List.{range_with_len};
 ghost use Rattle.std.specs.Option.{ForSome};
 ghost use Rattle.gst_outside.specs.Causes.{Rose};
 ghost use Rattle.task_core.specs.declared.task.Task.{Task};
 ghost use Rattle.task_core.specs.Room.{room_numbers};
 ghost use Rattle.task_core.specs.Task.{head_of, tail_of};
-ghost use Rattle.world_core.specs.Built.{HasEnds, source_in, sink_in};
+ghost use Rattle.world_core.specs.Built.{IsBuilt, HasEnds, HasNumbers, source_in, sink_in};
 ghost use Rattle.world_core.specs.Cuts.{AllCut, cut_numbers};
+ghost use Rattle.world_core.specs.Line.{owed_list};
+ghost use Rattle.world_core.specs.Row.{IsJoined, AllFramed};
 ghost use Rattle.world_core.specs.Opened.{IsUnopened, StaysOpening};
 ghost use Rattle.world_core.specs.World.{Seen, HasEnded, RunUnopened, IsWorldEnd, IsRunStatus, seen};
 
@@ -75,6 +77,30 @@ fn take_ends<S: Source, K: Sink, I: Inlet<Out = O>, O: Outlet<Lanes = I::Lanes>>
     (source_from(head), sink_from(tail))
 }
 
+/// Runs tasks by turns, and reports what they did.
+fn run_row<S: Source, K: Sink, I: Inlet<Out = O>, O: Outlet<Lanes = I::Lanes>>(
+    alloc: Global,
+    line: &Line,
+    tasks: &mut [Task<S, K, I, O>],
+    lanes: &mut I::Lanes,
+    turns: &[u32],
+) -> Result<WorldEnd, OutOfMemory>
+    requires some { 0 < length tasks.old }
+    requires built { IsBuilt S.content K.bytes I.received O.sent I.place O.place O.limits O.count (owed_list line.now) (O.tells lanes.old) tasks.old }
+    requires numbers { HasNumbers line.now tasks.old }
+    requires told { (table : _) → IsSome (O.tells table) }
+    ensures ended { IfOk result (λ end. (source : S) (sink : K) → HasEnds tasks.new source sink → HasEnded line.now (S.content source) (K.bytes sink) end) }
+    ensures statuses { IfOk result (λ end. IsRunStatus end.status) }
+    ensures unread { IfOk result (λ end. (source : S) (sink : K) → HasEnds tasks.new source sink → end.status ≡ 7 → Rose 0 (S.faults source)) }
+    ensures unwritten { IfOk result (λ end. (source : S) (sink : K) → HasEnds tasks.new source sink → end.status ≡ 8 → Rose 0 (K.faults sink)) }
+    ensures joined { IsJoined I.place O.place O.limits tasks.new }
+    ensures frame { AllFramed S.location S.content K.location I.place I.id O.place O.limits O.id tasks.old tasks.new }
+    ensures count { length tasks.new ≡ length tasks.old }
+{
+    let end = run_tasks(alloc, tasks, lanes, turns);
+    report_of(alloc, line, tasks, end)
+}
+
 /// Runs the tasks of a line over its opened ends.
 fn run_opened<S: Source, K: Sink>(
     alloc: Global,
@@ -103,8 +129,7 @@ fn run_opened<S: Source, K: Sink>(
         tasks,
     } = plan;
     let mut tasks = build_tasks(alloc, line, tasks, cuts, last, source, sink);
-    let end = run_tasks(alloc, &mut tasks, &mut lanes, turns);
-    let told = report_of(alloc, line, &tasks, end);
+    let told = run_row(alloc, line, &mut tasks, &mut lanes, turns);
     let (source, sink) = take_ends(tasks);
     match told {
         Ok(end) => Ran { end, source, sink },
