@@ -1,8 +1,9 @@
 -- What the steps of a row of tasks leave as it was.
-use Rattle.std.proofs.Common.{◌≡◌, ◌≤◌, ◌<◌, ◌+◌, ◌-◌, ℕ, zero, suc, List, [], ◌∷◌, ◌++◌, length, refl, sym, ap, subst, ◌∙◌, arith, Option, Some, None}
+use Rattle.std.proofs.Common.{◌≡◌, ◌≤◌, ◌<◌, ◌+◌, ◌-◌, ℕ, zero, suc, List, [], ◌∷◌, ◌++◌, length, refl, sym, ap, subst, ◌∙◌, arith, Option, Some, None, take, drop, append-nil}
 use Rattle.std.specs.Prelude.{slice_get, IsSome}
 use Rattle.std.specs.Option.{ForSome}
 use Rattle.std.proofs.lemmas.Option.{slice_get_within, same_Some}
+use Rattle.std.proofs.Math.Seq.{take-length}
 use Rattle.lane_core.specs.Room.{Limits}
 use Rattle.el_src.specs.Gave.{source_of}
 use Rattle.el_sink.specs.Held.{sink_of}
@@ -94,3 +95,33 @@ module _ {S K I O : Type 0} (source_location content : S → Option (List ℕ)) 
 
       last : Frame source_location content sink_location place_in id_in place_out limits id_out last_before.0 last_after.0
       last = framed n last_before.0 last_after.0 last_before.1 last_after.1
+
+-- a list whose members were changed in place
+pub whole_again : {A : Type 0} (old new : List A) (n : ℕ) → n ≡ length old → length new ≡ length old → take n (new ++ drop (length new) old) ≡ new
+whole_again {A = A} old new n e same =
+    ap (λ (rest : List A). take n (new ++ rest)) (none_left old (length new) (omega arith)) ∙ ap (λ (xs : List A). take n xs) (append-nil new) ∙ rw (e ∙ sym same) (take-length new)
+  where
+    none_left : (xs : List A) (k : ℕ) → length xs ≤ k → drop k xs ≡ []
+    none_left [] zero w = refl
+    none_left [] (suc k) w = refl
+    none_left (x ∷ xs) zero w = absurd (omega arith)
+    none_left (x ∷ xs) (suc k) w = none_left xs k (omega arith)
+
+module _ {S K I O : Type 0} (source_location content : S → Option (List ℕ)) (sink_location : K → Option (List ℕ)) (place_in : I → ℕ) (id_in : I → List (List ℕ)) (place_out : O → ℕ) (limits : O → Limits) (id_out : O → List (List ℕ)) where
+  -- tasks that were stepped in place have the ends that they had
+  pub record Again (was now : List (Task S K I O)) (source : S) (sink : K) : Type 0 where
+    pub has : HasEnds now source sink
+    pub same : (source' : S) (sink' : K) → HasEnds was source' sink' → SameEnds source_location content sink_location place_in id_in place_out limits id_out source' source sink' sink
+
+  pub again : (slice was now : List (Task S K I O)) (n : ℕ) (source : S) (sink : K) → slice ≡ was → 0 < length was → n ≡ length was → length now ≡ length slice
+      → AllFramed source_location content sink_location place_in id_in place_out limits id_out slice now → HasEnds (take n (now ++ drop (length now) was)) source sink → Again was now source sink
+  again slice was now n source sink is some e count framed ends =
+      record {
+        has = has;
+        same = λ source' sink' had.
+            same_ends source_location content sink_location place_in id_in place_out limits id_out was now source' source sink' sink some (count ∙ ap length is)
+            (subst (λ (ts : List (Task S K I O)). AllFramed source_location content sink_location place_in id_in place_out limits id_out ts now) is framed) had has;
+      }
+    where
+      has : HasEnds now source sink
+      has = subst (λ (ts : List (Task S K I O)). HasEnds ts source sink) (whole_again was now n e (count ∙ ap length is)) ends

@@ -7,10 +7,11 @@ pub mod line;
 mod opening;
 mod plan;
 mod report;
-mod run;
+pub mod run;
 mod scratch;
 mod steps;
 mod unopened;
 
 pub use ended::WorldEnd;
 pub use line::{Line, Middle};
+pub use run::run_turns;

@@ -101,6 +101,37 @@ fn run_row<S: Source, K: Sink, I: Inlet<Out = O>, O: Outlet<Lanes = I::Lanes>>(
     report_of(alloc, line, tasks, end)
 }
 
+/// Runs tasks by turns, and takes their ends.
+fn run_made<S: Source, K: Sink, I: Inlet<Out = O>, O: Outlet<Lanes = I::Lanes>>(
+    alloc: Global,
+    line: &Line,
+    mut tasks: Vec<Task<S, K, I, O>>,
+    lanes: &mut I::Lanes,
+    turns: &[u32],
+) -> Ran<S, K>
+    requires some { 0 < length tasks.items }
+    requires built { IsBuilt S.content K.bytes I.received O.sent I.place O.place O.limits O.count (owed_list line.now) (O.tells lanes.old) tasks.items }
+    requires numbers { HasNumbers line.now tasks.items }
+    requires told { (table : _) → IsSome (O.tells table) }
+    ensures ended { (source : S) (sink : K) → HasEnds tasks.items source sink → result.end.status ≢ 13 → HasEnded line.now (S.content source) (K.bytes result.sink) result.end }
+    ensures statuses { IsRunStatus result.end.status }
+    ensures unread { result.end.status ≡ 7 → Rose 0 (S.faults result.source) }
+    ensures unwritten { result.end.status ≡ 8 → Rose 0 (K.faults result.sink) }
+    ensures source { (source : S) (sink : K) → HasEnds tasks.items source sink → S.location result.source ≡ S.location source }
+    ensures sink { (source : S) (sink : K) → HasEnds tasks.items source sink → K.location result.sink ≡ K.location sink }
+{
+    let told = run_row(alloc, line, &mut tasks, lanes, turns);
+    let (source, sink) = take_ends(tasks);
+    match told {
+        Ok(end) => Ran { end, source, sink },
+        Err(OutOfMemory) => Ran {
+            end: without_lists(alloc, 13, Fault::Nothing),
+            source,
+            sink,
+        },
+    }
+}
+
 /// Runs the tasks of a line over its opened ends.
 fn run_opened<S: Source, K: Sink>(
     alloc: Global,
@@ -128,17 +159,8 @@ fn run_opened<S: Source, K: Sink>(
         mut lanes,
         tasks,
     } = plan;
-    let mut tasks = build_tasks(alloc, line, tasks, cuts, last, source, sink);
-    let told = run_row(alloc, line, &mut tasks, &mut lanes, turns);
-    let (source, sink) = take_ends(tasks);
-    match told {
-        Ok(end) => Ran { end, source, sink },
-        Err(OutOfMemory) => Ran {
-            end: without_lists(alloc, 13, Fault::Nothing),
-            source,
-            sink,
-        },
-    }
+    let tasks = build_tasks(alloc, line, tasks, cuts, last, source, sink);
+    run_made(alloc, line, tasks, &mut lanes, turns)
 }
 
 /// The end of a run that did not begin.
