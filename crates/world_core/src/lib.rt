@@ -8,7 +8,6 @@ mod opening;
 mod plan;
 mod report;
 pub mod run;
-mod scratch;
 mod steps;
 mod unopened;
 
