@@ -1,5 +1,5 @@
 -- What the pads have counted, behind an item that crossed one of them.
-use Rattle.std.proofs.Common.{◌≡◌, ◌<◌, ◌≤◌, ◌+◌, ℕ, zero, suc, List, [], ◌∷◌, ◌++◌, length, length-append, get_or, map, take, Some, refl, ap, sym, ◌∙◌, subst, arith, Bool, false, ◌||◌}
+use Rattle.std.proofs.Common.{All, ◌≡◌, ◌<◌, ◌≤◌, ◌+◌, ℕ, zero, suc, List, [], ◌∷◌, ◌++◌, length, length-append, get_or, map, take, Some, refl, ap, sym, ◌∙◌, subst, arith, Bool, false, ◌||◌}
 use Rattle.std.specs.Prelude.{slice_get, slice_set}
 use Rattle.std.proofs.lemmas.Grind.{fold-append}
 use Rattle.std.proofs.lemmas.List.{map-append}
@@ -107,3 +107,16 @@ numbers_more pads pad head passing k e here w =
 
 pub take_all : (xs : List ℕ) (k : ℕ) → length xs ≤ k → k ≤ length xs → take k xs ≡ xs
 take_all xs k a b = let whole : k ≡ length xs = omega (arith, a, b) in ap (λ (n : ℕ). take n xs) whole ∙ take-length xs
+
+-- before pads that nothing crossed, anything may be given
+pub unused_any : (pads : List Pad) (given : List Item) → All (λ (pad : Pad). pad.items ≡ 0) pads → CountsAll pads 0 given []
+unused_any [] given h = tt
+unused_any (pad ∷ pads) given h =
+    let none : pad.items ≡ 0 = h 0 pad (omega arith) in
+    let among : pad.buffers ≤ pad.items = pad.among in
+    (record { items = none; buffers = omega arith }, unused_any pads given (λ k x w. h (suc k) x (omega arith)))
+
+pub all_unused : (pads : List Pad) → CountsAll pads 0 [] [] → All (λ (pad : Pad). pad.items ≡ 0) pads
+all_unused [] h k x w = absurd (omega arith)
+all_unused (pad ∷ pads) h zero x w = h.0.items
+all_unused (pad ∷ pads) h (suc k) x w = all_unused pads h.1 k x (omega arith)

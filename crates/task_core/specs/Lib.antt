@@ -3,6 +3,7 @@ pub mod Inlets
 pub mod Pads
 pub mod Part
 pub mod Pending
+pub mod Room
 pub mod Step
 pub mod Tail
 pub mod Task

@@ -10,6 +10,7 @@ use crate::fault::TaskFault;
 use crate::head::Head;
 use crate::pads::{MOST_ITEMS, Pad};
 use crate::pending::Pending;
+use crate::room::Room;
 use crate::step::Step;
 use crate::tail::{Sending, Tail};
 use el_sink::WriteFault;
@@ -56,6 +57,7 @@ impl<S: Source, K: Sink, I: Inlet<Out = O>, O: Outlet<Lanes = I::Lanes>> Task<S,
     ghost use Rattle.flow_model.specs.Chain.{IsPlain};
     ghost use Rattle.task_core.specs.Head.{HeadLists, HeadGave, head_place};
     ghost use Rattle.task_core.specs.Part.{IsPart};
+    ghost use Rattle.task_core.specs.Room.{room_numbers, room_last};
     ghost use Rattle.task_core.specs.Pending.{ahead};
     ghost use Rattle.task_core.specs.Tail.{TailHas, tail_place, tail_limit, tail_count, tail_len};
     ghost use Rattle.task_core.specs.Task.{TaskLists, Holds, Stands, IsReady, Goes, KeepsTable, IsWhy, AtFault, IsTaskCause, Frame, Burns, fuel, head_of, tail_of, pads_of, pending_of, numbers_of, last_of, over_of, unmoved};
@@ -74,17 +76,30 @@ impl<S: Source, K: Sink, I: Inlet<Out = O>, O: Outlet<Lanes = I::Lanes>> Task<S,
         ensures tail { IfOk result (λ task. tail_of task ≡ tail) }
         ensures none { IfOk result (λ task. pending_of task ≡ None) }
     {
+        let room = Room::new(alloc, elements)?;
+        Ok(Task::begin(room, head, tail))
+    }
+
+    /// A task of these parts that moved nothing yet, in room that was taken before. Takes no memory.
+    pub fn begin(room: Room, head: Head<S, I>, tail: Tail<K, O>) -> Task<S, K, I, O>
+        ensures stands { (l : HeadLists) → l.given ≡ [] → HeadGave S.content I.received head l → TailHas K.bytes O.sent tail [] → Stands S.content K.bytes I.received O.sent result (unmoved l) }
+        ensures numbers { numbers_of result ≡ room_numbers room }
+        ensures last { last_of result ≡ room_last room }
+        ensures head { head_of result ≡ head }
+        ensures tail { tail_of result ≡ tail }
+        ensures none { pending_of result ≡ None }
+    {
         let given = head.items();
-        let pads = fresh_pads(alloc, elements.head, &elements.passing)?;
-        Ok(Task {
+        let Room { pads, last } = room;
+        Task {
             head,
             given,
             pads,
             pending: None,
             over: false,
             tail,
-            last: elements.tail,
-        })
+            last,
+        }
     }
 
     /// The counts of the source pads, the head's first.
@@ -242,19 +257,6 @@ impl<S: Source, K: Sink, I: Inlet<Out = O>, O: Outlet<Lanes = I::Lanes>> Task<S,
             }),
         }
     }
-}
-
-/// The pads of a head and of the elements behind it, which nothing crossed.
-fn fresh_pads(alloc: Global, head: u32, passing: &[u32]) -> Result<Vec<Pad>, OutOfMemory>
-    ensures numbers { IfOk result (λ pads. map (λ pad. pad.element) pads.items ≡ head ∷ passing.now) }
-    ensures counts { IfOk result (λ pads. (given : List Item) → CountsAll pads.items 0 given []) }
-{
-    let mut pads = Vec::with_capacity(alloc, passing.len() + 1)?;
-    pads.push(Pad::new(head))?;
-    for element in passing {
-        pads.push(Pad::new(*element))?;
-    }
-    Ok(pads)
 }
 
 /// More items than the limit were to cross a pad of this element.

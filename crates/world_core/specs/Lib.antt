@@ -1,9 +1,11 @@
+pub mod Built
+pub mod Cuts
+pub mod Layout
 pub mod Line
+pub mod Named
 pub mod Opened
-pub mod Pad
+pub mod Reported
 pub mod Row
-pub mod Task
 pub mod Told
 pub mod Turns
-pub mod Two
 pub mod World

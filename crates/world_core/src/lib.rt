@@ -1,15 +1,16 @@
 //! Whole runs of a line.
 #![tactic(auto)]
 
+mod build;
 pub mod ended;
 pub mod line;
-pub mod pad;
-mod parts;
+mod opening;
+mod plan;
+mod report;
 pub mod run;
 mod steps;
-pub mod task;
-pub mod unopened;
+mod unopened;
 
 pub use ended::WorldEnd;
 pub use line::{Line, Middle};
-pub use run::run_line;
+pub use run::run_turns;
