@@ -1,5 +1,5 @@
 //! Lines: a file source, elements that pass all, and a file sink.
-ghost use Rattle.std.specs.Prelude.{◌≤◌};
+ghost use Rattle.std.specs.Prelude.{◌≤◌, length};
 
 use gst_caps::{List, Text};
 
@@ -19,9 +19,11 @@ pub struct Line {
     pub source: Text,
     /// How many bytes a block of the source has, 1 to 1,048,576.
     pub blocksize: u32,
+    /// The elements in the middle, in their order, at most 64.
     pub middle: List<Middle>,
     /// The location of the sink.
     pub sink: Text,
     ghost blocks: { 1 ≤ blocksize },
     ghost small: { blocksize ≤ 1048576 },
+    ghost few: { length middle ≤ 64 },
 }
