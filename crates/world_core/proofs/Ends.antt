@@ -186,7 +186,6 @@ module _ {S K I O : Type 0} (content : S → Option (List ℕ)) (bytes : K → O
     (place_in : I → ℕ) (place_out : O → ℕ) (limits : O → Limits) (line : Line) (tasks : List (Task S K I O)) (source : S) (sink : K) (last : ℕ)
     (tells : Option (List Lane)) (table : List Lane) (told : WorldEnd)
     (is_told : tells ≡ Some table) (made : IsMade place_in place_out limits line tasks source sink last) (reported : Reported line tasks told) where
-
   -- all tasks stand
   all_stand : (lists : ℕ → TaskLists) → ((k : ℕ) (t : Task S K I O) → slice_get tasks k ≡ Some t → Stands content bytes received sent t (lists k)) → AllLie content received tasks (aheads_of tasks) lists
   all_stand lists stands k t e = subst (λ (n : ℕ). Lies content received t n (lists k)) (sym (ap ahead_at e)) (stands_lies content bytes received sent t (lists k) (stands k t e))
@@ -224,7 +223,7 @@ module _ {S K I O : Type 0} (content : S → Option (List ℕ)) (bytes : K → O
       let f = flows (aheads_of tasks) lists c lie laid goes e in
       let holds = tail_holds bytes sent (tail_of last_task.0) sink (lists last).done (made.ends.last last last_task.0 made.count last_task.1) (stands last last_task.0 last_task.1).tail in
       rendered_by line c told.report (row_pads tasks) (row_lists tasks (aheads_of tasks) lists) (lists last).done (bytes sink) (down_by (aheads_of tasks) lists c f goes)
-          (lowest_by (aheads_of tasks) lists (owed_list line c) lie) (sinks_by (sink_bytes false (lists last).done) holds) holds.file
+      (lowest_by (aheads_of tasks) lists (owed_list line c) lie) (sinks_by (sink_bytes false (lists last).done) holds) holds.file
 
   -- all tasks came to the end
   ends_eos : RowEnded content bytes received sent tasks (unmoved_row (owed_list line)) tells → IsTold line (Ok tt) told.status told.report.fault → EndsEos line (content source) (bytes sink) told
@@ -240,7 +239,7 @@ module _ {S K I O : Type 0} (content : S → Option (List ℕ)) (bytes : K → O
             let d = down_by (aheads_of tasks) ran.lists c f ran.goes_on in
             let low = lowest_by (aheads_of tasks) ran.lists (owed_list line c) lie in
             whole_by line c told.report (row_pads tasks) (row_lists tasks (aheads_of tasks) ran.lists) (ran.lists last).done d low eos
-                (subst (λ (xs : List Item). IsPrefix xs (owed_list line c)) low (lowest_front (owed_list line c) (row_lists tasks (aheads_of tasks) ran.lists) d.down)) p within;
+            (subst (λ (xs : List Item). IsPrefix xs (owed_list line c)) low (lowest_front (owed_list line c) (row_lists tasks (aheads_of tasks) ran.lists) d.down)) p within;
       }
     where
       stands : Stands content bytes received sent last_task.0 (ran.lists last)
@@ -277,7 +276,6 @@ module _ {S K I O : Type 0} (content : S → Option (List ℕ)) (bytes : K → O
         entries = reported.entries;
         rendered = λ c e. rendered_row ran.lists (all_but ran.lists place ran.others ran.faulted) ran.laid ran.goes_on c e;
       }
-
 
   -- where a sink could not be written, what is done has crossed its pad alone
   abbrev part_aheads : ℕ → Task S K I O → ℕ → ℕ
@@ -358,12 +356,11 @@ module _ {S K I O : Type 0} (content : S → Option (List ℕ)) (bytes : K → O
         rendered = λ c e. rendered_row ran.lists stands ran.laid ran.goes_on c e;
         full = λ c e.
             let f = flows (aheads_of tasks) ran.lists c lie ran.laid ran.goes_on e in
-            let d = down_by (aheads_of tasks) ran.lists c f ran.goes_on in
-            (
+            let d = down_by (aheads_of tasks) ran.lists c f ran.goes_on in (
               ap length (history_is line c told.report (row_pads tasks) (row_lists tasks (aheads_of tasks) ran.lists) d placed.at (let n = pads in let w = placed.within in omega arith) ∙ crossed_it) ∙ limit.full,
               more_owed line c (pending_of t.0) (over_of t.0) (ran.lists place).head.given (ran.lists place).done stand.held stand.over limit.full limit.more
-              (subst (λ (owed : List ℕ → List Item). IsPrefix (ran.lists place).head.given (owed c)) (ran.goes_on.owed 0)
-              (given_front content received place_in place_out limits tasks (aheads_of tasks) ran.lists tells c f place within)),
+                  (subst (λ (owed : List ℕ → List Item). IsPrefix (ran.lists place).head.given (owed c)) (ran.goes_on.owed 0)
+                  (given_front content received place_in place_out limits tasks (aheads_of tasks) ran.lists tells c f place within)),
             );
       }
     where

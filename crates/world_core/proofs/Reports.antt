@@ -91,7 +91,7 @@ pub history_is : (line : Line) (content : List ℕ) (report : Report) (pads : Li
 history_is line content report pads hs d p within =
     ap (λ plan. eval plan p) (plan_is line content report pads hs d)
     ∙ chain_to_whole (length line.middle) (owed_list line content) (counts_of pads) (λ q. get_or hs q []) (plain_file 0 line.blocksize content)
-        (descends_down (length line.middle) (owed_list line content) pads hs d.down d.counted (hs_number line content report pads hs d)) p within
+    (descends_down (length line.middle) (owed_list line content) pads hs d.down d.counted (hs_number line content report pads hs d)) p within
 
 pub sink_list_is : (line : Line) (content : List ℕ) (report : Report) (pads : List Pad) (hs : List (List Item)) → Down line content report pads hs
     → sink_list line content report ≡ lowest (owed_list line content) hs
@@ -125,9 +125,9 @@ pub whole_by : (line : Line) (content : List ℕ) (report : Report) (pads : List
 whole_by line content report pads hs done d last eos front p within =
     history_is line content report pads hs d p within
     ∙ whole_at (owed_list line content) hs d.down (last ∙ eos_whole done (owed_list line content) front (plain_file 0 line.blocksize content) eos) p
-        (let e = hs_number line content report pads hs d in omega arith)
+    (let e = hs_number line content report pads hs d in omega arith)
     ∙ sym (ap (λ plan. eval_whole plan p) (plan_is line content report pads hs d)
-        ∙ chain_whole (length line.middle) (owed_list line content) (counts_of pads) (plain_file 0 line.blocksize content) p within)
+    ∙ chain_whole (length line.middle) (owed_list line content) (counts_of pads) (plain_file 0 line.blocksize content) p within)
 
 -- each count has the name of its pad
 named_at : (names : List (List ℕ)) (pads : List Pad) → length names ≡ length pads → (n : ℕ) (name : PadName) → slice_get (map source_pad names) n ≡ Some name
