@@ -1,9 +1,9 @@
 -- How a row of tasks that has run ends, as a report tells it.
-use Rattle.std.proofs.Common.{◌≡◌, ◌≢◌, ◌≤◌, ◌<◌, ◌+◌, ◌-◌, ℕ, zero, suc, eqb, leb, Bool, true, false, if◌then◌else◌, List, [], ◌∷◌, ◌++◌, length, take, map, get_or, refl, sym, ap, subst, ◌∙◌, inl, inr, ◌⊎◌, arith, codes, Option, Some, None, Result, Ok, Err, IfOk, IfErr, append_assoc, append-nil, length-append}
+use Rattle.std.proofs.Common.{◌≡◌, ◌≢◌, ◌≤◌, ◌<◌, ◌+◌, ◌-◌, ℕ, zero, suc, eqb, leb, Bool, true, false, if◌then◌else◌, List, [], ◌∷◌, ◌++◌, length, take, get_or, refl, sym, ap, subst, ◌∙◌, inl, inr, ◌⊎◌, arith, Option, Some, None, Result, Ok, Err, IfOk, IfErr, append_assoc, append-nil, length-append}
 use Rattle.std.specs.Prelude.{slice_get, vec_len}
 use Rattle.std.specs.List.{range_with_len}
 use Rattle.std.specs.Option.{ForSome}
-use Rattle.std.proofs.lemmas.Option.{slice_get_within, same_Some}
+use Rattle.std.proofs.lemmas.Option.{same_Some}
 use Rattle.std.proofs.lemmas.Bool.Decides.{eqb_tells, leb_tells}
 use Rattle.std.proofs.lemmas.List.{length-map}
 use Rattle.std.proofs.lemmas.List.FromFn.{length-range_with_len}
@@ -13,14 +13,12 @@ use Rattle.gst_outside.specs.Bytes.{written}
 use Rattle.flow_model.specs.Item.{Item, body_of}
 use Rattle.flow_model.specs.Prefix.{IsPrefix}
 use Rattle.flow_model.specs.SinkBytes.{disk_after, sink_bytes}
-use Rattle.flow_model.specs.declared.report.PadCount.{PadCount}
-use Rattle.flow_model.specs.declared.report.Report.{Report}
 use Rattle.flow_model.specs.declared.report.Fault.TheVariants as faults
-use Rattle.flow_model.proofs.Prefixes.{prefix_by, prefix_trans, prefix_length, rest_of}
+use Rattle.flow_model.proofs.Prefixes.{prefix_length, rest_of}
 use Rattle.lane_core.specs.Lane.{Lane}
 use Rattle.lane_core.specs.Room.{Limits}
 use Rattle.el_src.specs.Gave.{has_eos, source_of}
-use Rattle.el_sink.specs.Held.{sink_of, length_of}
+use Rattle.el_sink.specs.Held.{sink_of}
 use Rattle.task_core.specs.declared.fault.TaskFault.{TaskFault}
 use Rattle.task_core.specs.declared.fault.TaskFault.TheVariants.{ReadFault, WriteFault, TooLong, OutOfMemory}
 use Rattle.task_core.specs.declared.head.Head.{Head}
@@ -33,20 +31,20 @@ use Rattle.task_core.specs.declared.task.Task.{Task}
 use Rattle.task_core.specs.Head.{head_place, head_content, head_faults}
 use Rattle.task_core.specs.Tail.{TailHas, TailPart, tail_len, tail_place, tail_faults}
 use Rattle.task_core.specs.Pending.{ahead, waiting}
-use Rattle.task_core.specs.Task.{TaskLists, Stands, Unwritten, AtFault, AtLimit, pads_of, numbers_of, head_of, tail_of, pending_of, over_of}
+use Rattle.task_core.specs.Task.{TaskLists, Stands, Unwritten, AtLimit, pads_of, numbers_of, head_of, tail_of, pending_of, over_of}
 use Rattle.world_core.specs.declared.line.Line.{Line}
 use Rattle.world_core.specs.declared.ended.WorldEnd.{WorldEnd}
 use Rattle.world_core.specs.declared.steps.Stopped.{Stopped}
 use Rattle.world_core.specs.Built.{source_in, sink_in, HasEnds, HasNumbers}
-use Rattle.world_core.specs.Line.{sink_name, source_pad, owed_list, plan_of, pad_counts, pads_of as pads_of_line}
-use Rattle.world_core.specs.Named.{element_names, named_counts, row_pads, row_numbers}
-use Rattle.world_core.specs.Row.{IsJoined, IsLaid, IsRow, RowEnded, RowFaulted, IsRowCause, GoesOn, AllOver, unmoved_row, lane_before, lane_behind}
+use Rattle.world_core.specs.Line.{sink_name, source_pad, owed_list, pads_of as pads_of_line}
+use Rattle.world_core.specs.Named.{element_names, row_pads, row_numbers}
+use Rattle.world_core.specs.Row.{IsJoined, IsLaid, RowEnded, RowFaulted, IsRowCause, GoesOn, unmoved_row, lane_before, lane_behind}
 use Rattle.world_core.specs.Reported.{Reported}
 use Rattle.world_core.specs.Told.{IsTold, TellsFault}
-use Rattle.world_core.specs.World.{history, sink_list, IsEvaluated, IsRendered, EndsEos, EndsUnread, EndsUnwritten, EndsTooLong, HasEnded, most_items}
+use Rattle.world_core.specs.World.{IsRendered, EndsEos, EndsUnread, EndsUnwritten, EndsTooLong, HasEnded, most_items}
 use Rattle.world_core.proofs.Descent.{Descends, lowest, lowest_front, prefix_whole}
 use Rattle.world_core.proofs.Reports.{Down, rendered_by, evaluated_by, whole_by, history_is, sink_list_is, names_number, eos_in_file}
-use Rattle.world_core.proofs.PadLists.{Passes, pad_lists, row_lists, row_counted, row_lowest, pad_place, pad_done, PlacedPad}
+use Rattle.world_core.proofs.PadLists.{row_lists, row_counted, row_lowest, pad_place, pad_done, PlacedPad}
 use Rattle.world_core.proofs.Standing.{Lies, AllLie, Flows, stands_lies, unwritten_lies, row_goes_down, given_front, some_at}
 
 -- What is known of a row of tasks, whatever its lists are.
@@ -186,7 +184,6 @@ module _ {S K I O : Type 0} (content : S → Option (List ℕ)) (bytes : K → O
     (place_in : I → ℕ) (place_out : O → ℕ) (limits : O → Limits) (line : Line) (tasks : List (Task S K I O)) (source : S) (sink : K) (last : ℕ)
     (tells : Option (List Lane)) (table : List Lane) (told : WorldEnd)
     (is_told : tells ≡ Some table) (made : IsMade place_in place_out limits line tasks source sink last) (reported : Reported line tasks told) where
-
   -- all tasks stand
   all_stand : (lists : ℕ → TaskLists) → ((k : ℕ) (t : Task S K I O) → slice_get tasks k ≡ Some t → Stands content bytes received sent t (lists k)) → AllLie content received tasks (aheads_of tasks) lists
   all_stand lists stands k t e = subst (λ (n : ℕ). Lies content received t n (lists k)) (sym (ap ahead_at e)) (stands_lies content bytes received sent t (lists k) (stands k t e))
@@ -224,7 +221,7 @@ module _ {S K I O : Type 0} (content : S → Option (List ℕ)) (bytes : K → O
       let f = flows (aheads_of tasks) lists c lie laid goes e in
       let holds = tail_holds bytes sent (tail_of last_task.0) sink (lists last).done (made.ends.last last last_task.0 made.count last_task.1) (stands last last_task.0 last_task.1).tail in
       rendered_by line c told.report (row_pads tasks) (row_lists tasks (aheads_of tasks) lists) (lists last).done (bytes sink) (down_by (aheads_of tasks) lists c f goes)
-          (lowest_by (aheads_of tasks) lists (owed_list line c) lie) (sinks_by (sink_bytes false (lists last).done) holds) holds.file
+      (lowest_by (aheads_of tasks) lists (owed_list line c) lie) (sinks_by (sink_bytes false (lists last).done) holds) holds.file
 
   -- all tasks came to the end
   ends_eos : RowEnded content bytes received sent tasks (unmoved_row (owed_list line)) tells → IsTold line (Ok tt) told.status told.report.fault → EndsEos line (content source) (bytes sink) told
@@ -240,7 +237,7 @@ module _ {S K I O : Type 0} (content : S → Option (List ℕ)) (bytes : K → O
             let d = down_by (aheads_of tasks) ran.lists c f ran.goes_on in
             let low = lowest_by (aheads_of tasks) ran.lists (owed_list line c) lie in
             whole_by line c told.report (row_pads tasks) (row_lists tasks (aheads_of tasks) ran.lists) (ran.lists last).done d low eos
-                (subst (λ (xs : List Item). IsPrefix xs (owed_list line c)) low (lowest_front (owed_list line c) (row_lists tasks (aheads_of tasks) ran.lists) d.down)) p within;
+            (subst (λ (xs : List Item). IsPrefix xs (owed_list line c)) low (lowest_front (owed_list line c) (row_lists tasks (aheads_of tasks) ran.lists) d.down)) p within;
       }
     where
       stands : Stands content bytes received sent last_task.0 (ran.lists last)
@@ -277,7 +274,6 @@ module _ {S K I O : Type 0} (content : S → Option (List ℕ)) (bytes : K → O
         entries = reported.entries;
         rendered = λ c e. rendered_row ran.lists (all_but ran.lists place ran.others ran.faulted) ran.laid ran.goes_on c e;
       }
-
 
   -- where a sink could not be written, what is done has crossed its pad alone
   abbrev part_aheads : ℕ → Task S K I O → ℕ → ℕ
@@ -358,12 +354,11 @@ module _ {S K I O : Type 0} (content : S → Option (List ℕ)) (bytes : K → O
         rendered = λ c e. rendered_row ran.lists stands ran.laid ran.goes_on c e;
         full = λ c e.
             let f = flows (aheads_of tasks) ran.lists c lie ran.laid ran.goes_on e in
-            let d = down_by (aheads_of tasks) ran.lists c f ran.goes_on in
-            (
+            let d = down_by (aheads_of tasks) ran.lists c f ran.goes_on in (
               ap length (history_is line c told.report (row_pads tasks) (row_lists tasks (aheads_of tasks) ran.lists) d placed.at (let n = pads in let w = placed.within in omega arith) ∙ crossed_it) ∙ limit.full,
               more_owed line c (pending_of t.0) (over_of t.0) (ran.lists place).head.given (ran.lists place).done stand.held stand.over limit.full limit.more
-              (subst (λ (owed : List ℕ → List Item). IsPrefix (ran.lists place).head.given (owed c)) (ran.goes_on.owed 0)
-              (given_front content received place_in place_out limits tasks (aheads_of tasks) ran.lists tells c f place within)),
+                  (subst (λ (owed : List ℕ → List Item). IsPrefix (ran.lists place).head.given (owed c)) (ran.goes_on.owed 0)
+                  (given_front content received place_in place_out limits tasks (aheads_of tasks) ran.lists tells c f place within)),
             );
       }
     where

@@ -1,7 +1,7 @@
 -- The lists of the pads of a row of tasks go down from what the first head gave to what came to the last tail.
-use Rattle.std.proofs.Common.{◌≡◌, ◌≤◌, ◌<◌, ◌+◌, ℕ, zero, suc, List, [], ◌∷◌, ◌++◌, length, get_or, refl, sym, ap, subst, ◌∙◌, arith, Some, None, Option, map, take, length-append, append-nil}
-use Rattle.std.specs.Prelude.{slice_get, flat_map}
-use Rattle.std.proofs.lemmas.Option.{slice_get_within, same_Some}
+use Rattle.std.proofs.Common.{◌≡◌, ◌≤◌, ◌<◌, ◌+◌, ℕ, zero, suc, List, [], ◌∷◌, ◌++◌, length, get_or, refl, sym, ap, subst, ◌∙◌, arith, Some, take, length-append, append-nil}
+use Rattle.std.specs.Prelude.{slice_get}
+use Rattle.std.proofs.lemmas.Option.{same_Some}
 use Rattle.std.proofs.lemmas.List.{length-map, get_or-append-add, take_more}
 use Rattle.std.proofs.lemmas.Grind.{flat_map-append}
 use Rattle.std.proofs.Math.ListN.{get_or-append}
@@ -93,16 +93,16 @@ row_descends [] aheads lists above pass joined first = tt
 row_descends (t ∷ ts) aheads lists above pass joined first =
     let one = pass 0 t refl in
     descends_append above (pad_lists (pads_of t) (aheads 0) (lists 0).head.given (lists 0).done) (row_lists ts (λ j. aheads (suc j)) (λ j. lists (suc j)))
-        (pads_descend (pads_of t) (aheads 0) above (lists 0).head.given (lists 0).done one.front (first (omega arith)))
-        (rw (pads_lowest (pads_of t) (aheads 0) above (lists 0).head.given (lists 0).done one.within)
-            (row_descends ts (λ j. aheads (suc j)) (λ j. lists (suc j)) (lists 0).done (λ k u e. pass (suc k) u e) (λ k w. joined (suc k) (omega arith)) (λ w. joined 0 (omega arith))))
+    (pads_descend (pads_of t) (aheads 0) above (lists 0).head.given (lists 0).done one.front (first (omega arith)))
+    (rw (pads_lowest (pads_of t) (aheads 0) above (lists 0).head.given (lists 0).done one.within)
+    (row_descends ts (λ j. aheads (suc j)) (λ j. lists (suc j)) (lists 0).done (λ k u e. pass (suc k) u e) (λ k w. joined (suc k) (omega arith)) (λ w. joined 0 (omega arith))))
 
 pub row_counted : {S K I O : Type 0} (tasks : List (Task S K I O)) (aheads : ℕ → ℕ) (lists : ℕ → TaskLists) → AllPass tasks aheads lists → AllCounted (row_pads tasks) (row_lists tasks aheads lists)
 row_counted [] aheads lists pass = tt
 row_counted (t ∷ ts) aheads lists pass =
     counted_append (pads_of t) (row_pads ts) (pad_lists (pads_of t) (aheads 0) (lists 0).head.given (lists 0).done) (row_lists ts (λ j. aheads (suc j)) (λ j. lists (suc j)))
-        (pads_counted (pads_of t) (aheads 0) (lists 0).head.given (lists 0).done (pass 0 t refl).counted)
-        (row_counted ts (λ j. aheads (suc j)) (λ j. lists (suc j)) (λ k u e. pass (suc k) u e))
+    (pads_counted (pads_of t) (aheads 0) (lists 0).head.given (lists 0).done (pass 0 t refl).counted)
+    (row_counted ts (λ j. aheads (suc j)) (λ j. lists (suc j)) (λ k u e. pass (suc k) u e))
 
 pub row_lowest : {S K I O : Type 0} (tasks : List (Task S K I O)) (aheads : ℕ → ℕ) (lists : ℕ → TaskLists) (above : List Item) (n : ℕ) → AllPass tasks aheads lists → length tasks ≡ suc n
     → lowest above (row_lists tasks aheads lists) ≡ (lists n).done

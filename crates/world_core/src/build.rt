@@ -19,12 +19,7 @@ use std::collections::VecDeque;
 use task_core::{Head, Inlets, Room, Tail, Task};
 
 /// The tasks of a line over its opened ends, in a list that has room for them. Takes no memory.
-pub(crate) fn build_tasks<
-    S: Source,
-    K: Sink,
-    I: Inlet<Out = O>,
-    O: Outlet<Lanes = I::Lanes>,
->(
+pub(crate) fn build_tasks<S: Source, K: Sink, I: Inlet<Out = O>, O: Outlet<Lanes = I::Lanes>>(
     alloc: Global,
     line: &Line,
     mut tasks: Vec<Task<S, K, I, O>>,
@@ -42,11 +37,13 @@ pub(crate) fn build_tasks<
     ensures some { 0 < length result.items }
 {
     let mut head = Head::Source(FileSrc::new(source, line.blocksize, 0));
-    while let Some(Cut {
-        room,
-        outlet,
-        inlet,
-    }) = cuts.pop_front()
+    while let Some(
+        Cut {
+            room,
+            outlet,
+            inlet,
+        },
+    ) = cuts.pop_front()
     {
         let number = room.last();
         tasks.push_reserved(Task::begin(room, head, Tail::Lane { number, outlet }));

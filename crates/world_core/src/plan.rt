@@ -8,7 +8,7 @@ ghost use Rattle.world_core.specs.Layout.{IsLaidOut};
 use crate::line::{Line, Middle};
 use gst_caps::OutOfMemory;
 use gst_outside::{Sink, Source};
-use lane_core::{Inlet, Outlet, MemInlet, MemLanes, MemOutlet, memory_lane};
+use lane_core::{Inlet, MemInlet, MemLanes, MemOutlet, Outlet, memory_lane};
 use std::alloc::Global;
 use std::collections::VecDeque;
 use std::mem;

@@ -172,14 +172,7 @@ fn stopped(
         }
         TaskFault::TooLong { element, a, b } => {
             let element = name_of(alloc, counts, element)?;
-            Ok((
-                15,
-                Fault::TooLong {
-                    element,
-                    a,
-                    b,
-                },
-            ))
+            Ok((15, Fault::TooLong { element, a, b }))
         }
         TaskFault::OutOfMemory => Err(OutOfMemory),
     }

@@ -1,4 +1,4 @@
-use Rattle.std.proofs.Common.{◌∙◌, ◌≡◌, ap, arith, [], ◌∷◌, ◌++◌, refl, sym, length, length-append, append-nil, subst, Some, inr, ℕ, List}
+use Rattle.std.proofs.Common.{◌∙◌, ap, arith, [], ◌∷◌, refl, sym, length, length-append, subst, Some, ℕ}
 use Rattle.lane_core.specs.Lane.{IsIn}
 use Rattle.task_core.specs.declared.head.Head.TheVariants as heads
 use Rattle.task_core.specs.declared.tail.Tail.TheVariants as tails
@@ -25,8 +25,8 @@ loop-room-preserved g c =
     record {
       building = λ tells all.
           building_more _ _ _ _ _ _ _ _ _ tells c.loop-room.tasks.items c.push_reserved.new.self.items c.loop-room.head (heads.Queue c.new-in-Some.result) c.loop-room.cuts.items c.pop_front.new.self.items c.in-Some.field-0
-              c.last-number.result c.begin.result (c.loop-room.invariant.building tells all) c.in-Some.ensures.items c.push_reserved.ensures.items c.begin.ensures.head c.begin.ensures.tail c.begin.ensures.stands
-              (ap Some c.new-in-Some.ensures.place) (λ n same at. subst (λ (m : ℕ). IsIn tells m) (same ∙ sym c.new-in-Some.ensures.place) at) (λ none. c.new-in-Some.ensures.fed [] none);
+          c.last-number.result c.begin.result (c.loop-room.invariant.building tells all) c.in-Some.ensures.items c.push_reserved.ensures.items c.begin.ensures.head c.begin.ensures.tail c.begin.ensures.stands
+          (ap Some c.new-in-Some.ensures.place) (λ n same at. subst (λ (m : ℕ). IsIn tells m) (same ∙ sym c.new-in-Some.ensures.place) at) (λ none. c.new-in-Some.ensures.fed [] none);
       reads = reads_more c.loop-room.tasks.items c.push_reserved.new.self.items c.loop-room.head (heads.Queue c.new-in-Some.result) c.args.source c.begin.result c.loop-room.invariant.reads c.push_reserved.ensures.items c.begin.ensures.head;
       numbers =
           numbers_more c.loop-room.tasks.items c.push_reserved.new.self.items c.begin.result (room_numbers c.in-Some.field-0.room) (cut_numbers c.pop_front.new.self.items) (cut_numbers c.args.cuts.items)
@@ -42,7 +42,7 @@ pub returns-clause-built : goal.returns-clause-built
 returns-clause-built g c =
     λ tells all.
     built _ _ _ _ _ _ _ _ _ tells c.loop-room.tasks.items c.push_reserved-2.new.self.items c.loop-room.head c.loop-room.cuts.items c.begin-2.result (tails.Sink c.new-2.result) (c.loop-room.invariant.building tells all)
-        c.push_reserved-2.ensures.items c.begin-2.ensures.head c.begin-2.ensures.tail refl refl tt (c.new-2.ensures.held c.requires.empty) c.begin-2.ensures.stands
+    c.push_reserved-2.ensures.items c.begin-2.ensures.head c.begin-2.ensures.tail refl refl tt (c.new-2.ensures.held c.requires.empty) c.begin-2.ensures.stands
 
 pub returns-clause-ends : goal.returns-clause-ends
 returns-clause-ends g c =
