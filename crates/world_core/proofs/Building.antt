@@ -1,6 +1,6 @@
 -- Tasks that are made one behind another, from the source of a line on.
-use Rattle.std.proofs.Common.{◌≡◌, ◌≢◌, ◌≤◌, ◌<◌, ◌+◌, ℕ, zero, suc, eqb, Bool, true, false, if◌then◌else◌, List, [], ◌∷◌, ◌++◌, length, refl, sym, ap, subst, ◌∙◌, arith, Option, Some, None, inl, inr, ◌⊎◌, append_assoc, append-nil, length-append}
-use Rattle.std.specs.Prelude.{slice_get, flat_map}
+use Rattle.std.proofs.Common.{◌≡◌, ◌≢◌, ◌≤◌, ◌+◌, ℕ, suc, eqb, true, false, List, [], ◌∷◌, ◌++◌, length, refl, sym, ap, subst, ◌∙◌, arith, Option, Some, None, inl, inr, ◌⊎◌, append_assoc, append-nil, length-append}
+use Rattle.std.specs.Prelude.{slice_get}
 use Rattle.std.specs.Option.{ForSome}
 use Rattle.std.proofs.lemmas.Option.{slice_get_within, same_Some}
 use Rattle.std.proofs.lemmas.Grind.{flat_map-append}
@@ -8,21 +8,18 @@ use Rattle.std.proofs.lemmas.Bool.Decides.{eqb_tells}
 use Rattle.flow_model.specs.Item.{Item}
 use Rattle.lane_core.specs.Lane.{Lane, IsIn, IsOf, IsBetween}
 use Rattle.lane_core.specs.Room.{Limits}
-use Rattle.el_src.specs.Gave.{has_eos}
 use Rattle.task_core.specs.declared.head.Head.{Head}
-use Rattle.task_core.specs.declared.head.Head.TheVariants as heads
 use Rattle.task_core.specs.declared.tail.Tail.{Tail}
 use Rattle.task_core.specs.declared.tail.Tail.TheVariants as tails
 use Rattle.task_core.specs.declared.task.Task.{Task}
 use Rattle.task_core.specs.Head.{HeadLists, HeadGave, HeadIn, head_place}
 use Rattle.task_core.specs.Tail.{TailHas, TailOf, tail_place, tail_limit}
-use Rattle.task_core.specs.Task.{TaskLists, Stands, IsReady, head_of, tail_of, numbers_of, unmoved}
-use Rattle.task_core.specs.Room.{room_numbers}
+use Rattle.task_core.specs.Task.{Stands, IsReady, head_of, tail_of, numbers_of, unmoved}
 use Rattle.world_core.specs.declared.plan.Cut.{Cut}
 use Rattle.world_core.specs.Built.{source_in, sink_in, HasEnds, IsBuilt}
 use Rattle.world_core.specs.Cuts.{IsCut, AllCut, cut_numbers}
 use Rattle.world_core.specs.Named.{row_numbers}
-use Rattle.world_core.specs.Row.{IsJoined, AllReady, IsRow, IsLaid, IsClosed, unmoved_row, lane_before, lane_behind}
+use Rattle.world_core.specs.Row.{IsLaid, IsClosed, unmoved_row, lane_before, lane_behind}
 use Rattle.world_core.proofs.Cuts.{push_cases}
 use Rattle.world_core.proofs.Standing.{some_at}
 

@@ -1,15 +1,14 @@
 -- Lines that are laid out.
-use Rattle.std.proofs.Common.{◌≡◌, ◌≤◌, ◌<◌, ◌+◌, ℕ, zero, suc, Bool, true, false, ◌||◌, if◌then◌else◌, eqb, ltb, List, [], ◌∷◌, ◌++◌, length, refl, sym, ap, subst, ◌∙◌, arith, Option, Some, None, inl, inr, ◌⊎◌, append_assoc, append-nil, length-append, add-one}
-use Rattle.std.specs.Prelude.{slice_get, flat_map, nat_lt, ◌==◌}
+use Rattle.std.proofs.Common.{◌≡◌, ◌≤◌, ◌+◌, ℕ, zero, suc, Bool, true, false, if◌then◌else◌, eqb, List, [], ◌∷◌, ◌++◌, length, refl, sym, ap, subst, ◌∙◌, arith, Some, inl, inr, ◌⊎◌, append_assoc, append-nil}
+use Rattle.std.specs.Prelude.{slice_get, nat_lt}
 use Rattle.std.specs.List.{range_with_len}
-use Rattle.std.proofs.lemmas.Option.{slice_get_within, same_Some}
+use Rattle.std.proofs.lemmas.Option.{same_Some}
 use Rattle.std.proofs.lemmas.Grind.{flat_map-append}
 use Rattle.std.proofs.lemmas.Bool.Decides.{eqb_tells}
 use Rattle.flow_model.specs.Item.{Item}
-use Rattle.lane_core.specs.Lane.{Lane, lane_of, IsOf, IsBetween}
+use Rattle.lane_core.specs.Lane.{Lane, lane_of}
 use Rattle.lane_core.specs.Room.{Limits}
 use Rattle.lane_core.proofs.Between.{new_lane_keeps_others, new_lane_keeps_room, new_lane_is_empty, new_lane_has_room}
-use Rattle.task_core.specs.declared.room.Room.{Room}
 use Rattle.task_core.specs.Room.{room_numbers}
 use Rattle.world_core.specs.declared.plan.Cut.{Cut}
 use Rattle.world_core.specs.Cuts.{IsCut, AllCut, cut_numbers, lane_limit}

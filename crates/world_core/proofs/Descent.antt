@@ -1,21 +1,17 @@
 -- Lists of pads, each of which begins the one before, are the histories of a line.
-use Rattle.std.proofs.Common.{All, ◌≡◌, ◌≤◌, ◌<◌, ◌+◌, ℕ, zero, suc, List, [], ◌∷◌, ◌++◌, length, map, get_or, refl, sym, ap, subst, ◌∙◌, arith, codes, length-append}
+use Rattle.std.proofs.Common.{All, ◌≡◌, ◌≤◌, ◌<◌, ◌+◌, ℕ, zero, suc, List, [], ◌∷◌, length, map, get_or, refl, sym, ap, ◌∙◌, arith}
 use Rattle.std.proofs.lemmas.List.{length-map}
 use Rattle.flow_model.specs.Item.{Item, buffers}
 use Rattle.flow_model.specs.Prefix.{IsPrefix, nothing, next}
-use Rattle.flow_model.specs.Eval.{eval, eval_whole}
-use Rattle.flow_model.specs.Chain.{IsPlain, GoesDown}
+use Rattle.flow_model.specs.Chain.{GoesDown}
 use Rattle.flow_model.specs.declared.report.PadCount.{PadCount}
-use Rattle.flow_model.specs.declared.report.Report.{Report}
 use Rattle.flow_model.proofs.Prefixes.{prefix_length, prefix_refl, prefix_trans}
-use Rattle.flow_model.proofs.Chains.{chain_to_whole, chain_whole}
 use Rattle.task_core.specs.declared.pads.Pad.{Pad}
 use Rattle.task_core.specs.Pads.{Counts}
 use Rattle.task_core.specs.Part.{counts_of}
-use Rattle.world_core.specs.declared.line.Line.{Line}
-use Rattle.world_core.specs.Line.{source_pad, pads_of, owed_list, plan_of, pad_counts}
-use Rattle.world_core.specs.Named.{element_names, named_count, named_counts}
-use Rattle.world_core.specs.World.{history, sink_list, most_items}
+use Rattle.world_core.specs.Line.{source_pad, pad_counts}
+use Rattle.world_core.specs.Named.{named_count, named_counts}
+use Rattle.world_core.specs.World.{most_items}
 
 -- each list begins the one before, and the first one the list above
 abbrev pub Descends : List Item → List (List Item) → Type 0

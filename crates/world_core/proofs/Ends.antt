@@ -1,9 +1,9 @@
 -- How a row of tasks that has run ends, as a report tells it.
-use Rattle.std.proofs.Common.{◌≡◌, ◌≢◌, ◌≤◌, ◌<◌, ◌+◌, ◌-◌, ℕ, zero, suc, eqb, leb, Bool, true, false, if◌then◌else◌, List, [], ◌∷◌, ◌++◌, length, take, map, get_or, refl, sym, ap, subst, ◌∙◌, inl, inr, ◌⊎◌, arith, codes, Option, Some, None, Result, Ok, Err, IfOk, IfErr, append_assoc, append-nil, length-append}
+use Rattle.std.proofs.Common.{◌≡◌, ◌≢◌, ◌≤◌, ◌<◌, ◌+◌, ◌-◌, ℕ, zero, suc, eqb, leb, Bool, true, false, if◌then◌else◌, List, [], ◌∷◌, ◌++◌, length, take, get_or, refl, sym, ap, subst, ◌∙◌, inl, inr, ◌⊎◌, arith, Option, Some, None, Result, Ok, Err, IfOk, IfErr, append_assoc, append-nil, length-append}
 use Rattle.std.specs.Prelude.{slice_get, vec_len}
 use Rattle.std.specs.List.{range_with_len}
 use Rattle.std.specs.Option.{ForSome}
-use Rattle.std.proofs.lemmas.Option.{slice_get_within, same_Some}
+use Rattle.std.proofs.lemmas.Option.{same_Some}
 use Rattle.std.proofs.lemmas.Bool.Decides.{eqb_tells, leb_tells}
 use Rattle.std.proofs.lemmas.List.{length-map}
 use Rattle.std.proofs.lemmas.List.FromFn.{length-range_with_len}
@@ -13,14 +13,12 @@ use Rattle.gst_outside.specs.Bytes.{written}
 use Rattle.flow_model.specs.Item.{Item, body_of}
 use Rattle.flow_model.specs.Prefix.{IsPrefix}
 use Rattle.flow_model.specs.SinkBytes.{disk_after, sink_bytes}
-use Rattle.flow_model.specs.declared.report.PadCount.{PadCount}
-use Rattle.flow_model.specs.declared.report.Report.{Report}
 use Rattle.flow_model.specs.declared.report.Fault.TheVariants as faults
-use Rattle.flow_model.proofs.Prefixes.{prefix_by, prefix_trans, prefix_length, rest_of}
+use Rattle.flow_model.proofs.Prefixes.{prefix_length, rest_of}
 use Rattle.lane_core.specs.Lane.{Lane}
 use Rattle.lane_core.specs.Room.{Limits}
 use Rattle.el_src.specs.Gave.{has_eos, source_of}
-use Rattle.el_sink.specs.Held.{sink_of, length_of}
+use Rattle.el_sink.specs.Held.{sink_of}
 use Rattle.task_core.specs.declared.fault.TaskFault.{TaskFault}
 use Rattle.task_core.specs.declared.fault.TaskFault.TheVariants.{ReadFault, WriteFault, TooLong, OutOfMemory}
 use Rattle.task_core.specs.declared.head.Head.{Head}
@@ -33,20 +31,20 @@ use Rattle.task_core.specs.declared.task.Task.{Task}
 use Rattle.task_core.specs.Head.{head_place, head_content, head_faults}
 use Rattle.task_core.specs.Tail.{TailHas, TailPart, tail_len, tail_place, tail_faults}
 use Rattle.task_core.specs.Pending.{ahead, waiting}
-use Rattle.task_core.specs.Task.{TaskLists, Stands, Unwritten, AtFault, AtLimit, pads_of, numbers_of, head_of, tail_of, pending_of, over_of}
+use Rattle.task_core.specs.Task.{TaskLists, Stands, Unwritten, AtLimit, pads_of, numbers_of, head_of, tail_of, pending_of, over_of}
 use Rattle.world_core.specs.declared.line.Line.{Line}
 use Rattle.world_core.specs.declared.ended.WorldEnd.{WorldEnd}
 use Rattle.world_core.specs.declared.steps.Stopped.{Stopped}
 use Rattle.world_core.specs.Built.{source_in, sink_in, HasEnds, HasNumbers}
-use Rattle.world_core.specs.Line.{sink_name, source_pad, owed_list, plan_of, pad_counts, pads_of as pads_of_line}
-use Rattle.world_core.specs.Named.{element_names, named_counts, row_pads, row_numbers}
-use Rattle.world_core.specs.Row.{IsJoined, IsLaid, IsRow, RowEnded, RowFaulted, IsRowCause, GoesOn, AllOver, unmoved_row, lane_before, lane_behind}
+use Rattle.world_core.specs.Line.{sink_name, source_pad, owed_list, pads_of as pads_of_line}
+use Rattle.world_core.specs.Named.{element_names, row_pads, row_numbers}
+use Rattle.world_core.specs.Row.{IsJoined, IsLaid, RowEnded, RowFaulted, IsRowCause, GoesOn, unmoved_row, lane_before, lane_behind}
 use Rattle.world_core.specs.Reported.{Reported}
 use Rattle.world_core.specs.Told.{IsTold, TellsFault}
-use Rattle.world_core.specs.World.{history, sink_list, IsEvaluated, IsRendered, EndsEos, EndsUnread, EndsUnwritten, EndsTooLong, HasEnded, most_items}
+use Rattle.world_core.specs.World.{IsRendered, EndsEos, EndsUnread, EndsUnwritten, EndsTooLong, HasEnded, most_items}
 use Rattle.world_core.proofs.Descent.{Descends, lowest, lowest_front, prefix_whole}
 use Rattle.world_core.proofs.Reports.{Down, rendered_by, evaluated_by, whole_by, history_is, sink_list_is, names_number, eos_in_file}
-use Rattle.world_core.proofs.PadLists.{Passes, pad_lists, row_lists, row_counted, row_lowest, pad_place, pad_done, PlacedPad}
+use Rattle.world_core.proofs.PadLists.{row_lists, row_counted, row_lowest, pad_place, pad_done, PlacedPad}
 use Rattle.world_core.proofs.Standing.{Lies, AllLie, Flows, stands_lies, unwritten_lies, row_goes_down, given_front, some_at}
 
 -- What is known of a row of tasks, whatever its lists are.

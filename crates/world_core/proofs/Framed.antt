@@ -1,8 +1,7 @@
 -- What the steps of a row of tasks leave as it was.
 use Rattle.std.proofs.Common.{◌≡◌, ◌≤◌, ◌<◌, ◌+◌, ◌-◌, ℕ, zero, suc, List, [], ◌∷◌, ◌++◌, length, refl, sym, ap, subst, ◌∙◌, arith, Option, Some, None, take, drop, append-nil}
 use Rattle.std.specs.Prelude.{slice_get, IsSome}
-use Rattle.std.specs.Option.{ForSome}
-use Rattle.std.proofs.lemmas.Option.{slice_get_within, same_Some}
+use Rattle.std.proofs.lemmas.Option.{same_Some}
 use Rattle.std.proofs.Math.Seq.{take-length}
 use Rattle.lane_core.specs.Room.{Limits}
 use Rattle.el_src.specs.Gave.{source_of}
@@ -13,11 +12,11 @@ use Rattle.task_core.specs.declared.tail.Tail.{Tail}
 use Rattle.task_core.specs.declared.tail.Tail.TheVariants as tails
 use Rattle.task_core.specs.declared.task.Task.{Task}
 use Rattle.task_core.specs.Head.{head_place, head_content, head_location}
-use Rattle.task_core.specs.Tail.{tail_place, tail_limit, tail_location}
+use Rattle.task_core.specs.Tail.{tail_place, tail_location}
 use Rattle.task_core.specs.Task.{Frame, head_of, tail_of, numbers_of}
 use Rattle.world_core.specs.Built.{source_in, sink_in, HasEnds}
 use Rattle.world_core.specs.Named.{row_numbers}
-use Rattle.world_core.specs.Row.{IsJoined, AllFramed, lane_before, lane_behind}
+use Rattle.world_core.specs.Row.{IsJoined, AllFramed}
 use Rattle.world_core.proofs.Rows.{behind_none}
 use Rattle.world_core.proofs.Standing.{some_at}
 

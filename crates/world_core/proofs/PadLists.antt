@@ -1,7 +1,7 @@
 -- The lists of the pads of a row of tasks go down from what the first head gave to what came to the last tail.
-use Rattle.std.proofs.Common.{◌≡◌, ◌≤◌, ◌<◌, ◌+◌, ℕ, zero, suc, List, [], ◌∷◌, ◌++◌, length, get_or, refl, sym, ap, subst, ◌∙◌, arith, Some, None, Option, map, take, length-append, append-nil}
-use Rattle.std.specs.Prelude.{slice_get, flat_map}
-use Rattle.std.proofs.lemmas.Option.{slice_get_within, same_Some}
+use Rattle.std.proofs.Common.{◌≡◌, ◌≤◌, ◌<◌, ◌+◌, ℕ, zero, suc, List, [], ◌∷◌, ◌++◌, length, get_or, refl, sym, ap, subst, ◌∙◌, arith, Some, take, length-append, append-nil}
+use Rattle.std.specs.Prelude.{slice_get}
+use Rattle.std.proofs.lemmas.Option.{same_Some}
 use Rattle.std.proofs.lemmas.List.{length-map, get_or-append-add, take_more}
 use Rattle.std.proofs.lemmas.Grind.{flat_map-append}
 use Rattle.std.proofs.Math.ListN.{get_or-append}

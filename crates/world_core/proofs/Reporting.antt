@@ -1,5 +1,5 @@
 -- What a report of a row of tasks says, whatever source and sink its tasks have.
-use Rattle.std.proofs.Common.{◌≡◌, ◌≢◌, ◌≤◌, ◌<◌, ◌+◌, ◌-◌, ℕ, zero, suc, List, length, refl, sym, ap, ◌∙◌, arith, Option, Some, None, Result, Ok, Err, IfOk, IfErr, inl, inr, ◌⊎◌}
+use Rattle.std.proofs.Common.{◌≡◌, ◌<◌, ◌-◌, ℕ, List, length, refl, arith, Option, Some, None, Result, Ok, Err, IfOk, IfErr, inl, inr}
 use Rattle.std.specs.Prelude.{slice_get, IsSome}
 use Rattle.gst_caps.specs.declared.memory.OutOfMemory.{OutOfMemory}
 use Rattle.gst_outside.specs.Causes.{Rose}

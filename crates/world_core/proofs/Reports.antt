@@ -1,5 +1,5 @@
 -- A report that counts lists which go down a line.
-use Rattle.std.proofs.Common.{All, ◌≡◌, ◌≤◌, ◌<◌, ◌+◌, ◌-◌, ◌||◌, ℕ, zero, suc, Bool, true, false, List, [], ◌∷◌, ◌++◌, length, map, get_or, refl, sym, ap, subst, ◌∙◌, arith, codes, Option, Some, append_assoc}
+use Rattle.std.proofs.Common.{◌≡◌, ◌≤◌, ◌+◌, ◌-◌, ◌||◌, ℕ, zero, suc, Bool, true, false, List, [], ◌∷◌, ◌++◌, length, map, get_or, refl, sym, ap, ◌∙◌, arith, Option, Some}
 use Rattle.std.specs.Prelude.{slice_get}
 use Rattle.std.specs.Option.{ForSome}
 use Rattle.std.specs.List.{range_with_len}
@@ -9,11 +9,10 @@ use Rattle.flow_model.specs.Item.{Item, Ev, Eos, is_eos}
 use Rattle.flow_model.specs.Prefix.{IsPrefix, nothing, next}
 use Rattle.flow_model.specs.Source.{block_at, block_count, blocks_from, file_list}
 use Rattle.flow_model.specs.Eval.{eval, eval_whole}
-use Rattle.flow_model.specs.Chain.{IsPlain, GoesDown, chain}
+use Rattle.flow_model.specs.Chain.{IsPlain, chain}
 use Rattle.flow_model.specs.SinkBytes.{sink_bytes}
 use Rattle.flow_model.specs.declared.report.PadCount.{PadCount}
 use Rattle.flow_model.specs.declared.report.Report.{Report}
-use Rattle.flow_model.proofs.Prefixes.{prefix_length, rest_of}
 use Rattle.flow_model.proofs.Chains.{chain_to_whole, chain_whole}
 use Rattle.el_src.specs.Gave.{has_eos}
 use Rattle.task_core.specs.declared.pads.Pad.{Pad}
@@ -21,11 +20,11 @@ use Rattle.task_core.specs.Part.{counts_of}
 use Rattle.world_core.specs.declared.line.Line.{Line}
 use Rattle.world_core.specs.declared.line.Middle.{Middle}
 use Rattle.world_core.specs.declared.line.Middle.TheVariants.{Identity, Queue}
-use Rattle.world_core.specs.Line.{source_pad, middle_names, pads_of, owed_list, plan_of, pad_counts, sink_name}
+use Rattle.world_core.specs.Line.{source_pad, middle_names, owed_list, plan_of, sink_name}
 use Rattle.gst_caps.specs.declared.name.PadName.{PadName}
 use Rattle.world_core.specs.Reported.{AreNamed}
 use Rattle.world_core.specs.Named.{element_names, named_count, named_counts}
-use Rattle.world_core.specs.World.{history, sink_list, most_items, IsEvaluated, IsRendered}
+use Rattle.world_core.specs.World.{history, sink_list, IsEvaluated, IsRendered}
 use Rattle.world_core.proofs.Descent.{Descends, AllCounted, lowest, same_number, descends_down, named_items, named_limits, named_is, whole_at, lowest_at}
 
 -- the list of a file source is plain

@@ -1,5 +1,5 @@
 -- The tasks of a line.
-use Rattle.std.specs.Prelude.{◌≡◌, ◌≤◌, ◌+◌, ℕ, List, [], length, Option, Some, None, slice_get}
+use Rattle.std.specs.Prelude.{◌≡◌, ◌+◌, ℕ, List, length, Option, Some, None, slice_get}
 use Rattle.std.specs.List.{range_with_len}
 use Rattle.flow_model.specs.Item.{Item}
 use Rattle.task_core.specs.declared.head.Head.{Head}

@@ -1,6 +1,5 @@
 -- The parts of a line between its queues, before there are tasks.
-use Rattle.std.specs.Prelude.{◌≡◌, ◌≤◌, ◌+◌, ◌++◌, ◌∷◌, ◌||◌, ℕ, zero, suc, if◌then◌else◌, ◌==◌, nat_lt, List, [], length, Option, Some, slice_get, flat_map}
-use Rattle.std.specs.List.{range_with_len}
+use Rattle.std.specs.Prelude.{◌≡◌, ◌≤◌, ◌+◌, ◌||◌, ℕ, if◌then◌else◌, ◌==◌, nat_lt, List, [], Option, Some, slice_get, flat_map}
 use Rattle.flow_model.specs.Item.{Item}
 use Rattle.lane_core.specs.Lane.{Lane, IsOf, IsBetween}
 use Rattle.lane_core.specs.Room.{Limits}

@@ -1,5 +1,5 @@
 -- A line that is laid out up to some element.
-use Rattle.std.specs.Prelude.{◌≡◌, ◌++◌, ℕ, List, ◌∷◌, length, Some}
+use Rattle.std.specs.Prelude.{◌≡◌, ◌++◌, ℕ, ◌∷◌, length}
 use Rattle.std.specs.List.{range_with_len}
 use Rattle.world_core.specs.declared.plan.Layout.{Layout}
 use Rattle.world_core.specs.Cuts.{cut_numbers}

@@ -1,5 +1,5 @@
 -- The counts of the pads of a line, by their names.
-use Rattle.std.specs.Prelude.{List, [], ◌∷◌, ◌++◌, ℕ, zero, codes, flat_map}
+use Rattle.std.specs.Prelude.{List, [], ◌∷◌, ℕ, codes, flat_map}
 use Rattle.flow_model.specs.declared.report.PadCount.{PadCount}
 use Rattle.task_core.specs.declared.pads.Pad.{Pad}
 use Rattle.task_core.specs.declared.task.Task.{Task}

@@ -1,4 +1,4 @@
-use Rattle.std.proofs.Common.{◌∙◌, ◌≡◌, ap, arith, [], ◌∷◌, ◌++◌, refl, sym, length, length-append, append-nil, subst, Some, inr, ℕ, List}
+use Rattle.std.proofs.Common.{◌∙◌, ap, arith, [], ◌∷◌, refl, sym, length, length-append, subst, Some, ℕ}
 use Rattle.lane_core.specs.Lane.{IsIn}
 use Rattle.task_core.specs.declared.head.Head.TheVariants as heads
 use Rattle.task_core.specs.declared.tail.Tail.TheVariants as tails

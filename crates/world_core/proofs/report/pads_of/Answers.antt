@@ -1,10 +1,4 @@
-use Rattle.std.proofs.Common.{◌∙◌, ◌≡◌, ap, sym, ◌++◌, ◌∷◌, [], List, append-nil, ◌<◌}
-use Rattle.std.proofs.lemmas.List.{take_more}
-use Rattle.std.proofs.lemmas.Grind.{flat_map-append}
-use Rattle.task_core.specs.declared.pads.Pad.{Pad}
-use Rattle.task_core.specs.declared.task.Task.{Task}
-use Rattle.task_core.specs.Task.{pads_of}
-use Rattle.world_core.specs.Named.{row_pads}
+use Rattle.std.proofs.Common.{◌∙◌}
 use Rattle.world_core.proofs.PadLists.{pads_more}
 use Rattle.world_core.proofs.report.pads_of.Goals as goal
 

@@ -1,7 +1,6 @@
-use Rattle.std.proofs.Common.{◌∙◌, ◌≡◌, ap, sym, ◌∷◌, [], ◌+◌, ℕ, List, length, Some}
+use Rattle.std.proofs.Common.{◌∙◌, ap, sym, ◌∷◌, [], ◌+◌, ℕ, List, length}
 use Rattle.std.proofs.lemmas.List.FromFn.{length-range_with_len}
 use Rattle.task_core.specs.declared.pads.Pad.{Pad}
-use Rattle.flow_model.specs.declared.report.SinkCount.{SinkCount}
 use Rattle.world_core.specs.Line.{sink_name}
 use Rattle.world_core.specs.Named.{element_names, named_counts}
 use Rattle.world_core.proofs.Ends.{pads_number}

@@ -1,4 +1,4 @@
-use Rattle.std.proofs.Common.{◌∙◌, ◌≡◌, ap, sym, subst, arith, length, List, ℕ, Option}
+use Rattle.std.proofs.Common.{◌∙◌, ap, subst, arith, length, List, ℕ, Option}
 use Rattle.world_core.specs.World.{HasEnded}
 use Rattle.world_core.proofs.Framed.{again, whole_again, first_some, last_some}
 use Rattle.world_core.proofs.run.run_made.Goals as goal

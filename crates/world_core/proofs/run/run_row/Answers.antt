@@ -1,4 +1,4 @@
-use Rattle.std.proofs.Common.{◌∙◌, ◌≡◌, ◌-◌, ap, sym, arith, length, ℕ}
+use Rattle.std.proofs.Common.{◌∙◌, arith}
 use Rattle.world_core.proofs.Framed.{numbers_framed}
 use Rattle.world_core.proofs.Rows.{joined_framed}
 use Rattle.world_core.proofs.Reporting.{ended_of, unread_of, unwritten_of, statuses_of}

@@ -1,8 +1,5 @@
-use Rattle.std.proofs.Common.{◌∙◌, ◌≡◌, ◌<◌, ap, sym, subst, arith, length}
-use Rattle.std.specs.Prelude.{IsSome, vec_len}
-use Rattle.task_core.specs.declared.head.Head.{Head}
-use Rattle.task_core.specs.declared.tail.Tail.{Tail}
-use Rattle.world_core.specs.Built.{source_in, sink_in}
+use Rattle.std.proofs.Common.{arith, length}
+use Rattle.std.specs.Prelude.{vec_len}
 use Rattle.world_core.proofs.Taken.{push_last, push_length, push_only, push_first, ends_by, none_by}
 use Rattle.world_core.proofs.run.take_ends.Goals as goal
 

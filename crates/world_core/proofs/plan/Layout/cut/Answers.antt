@@ -1,5 +1,4 @@
-use Rattle.std.proofs.Common.{◌∙◌, ◌≡◌, ◌≤◌, ◌+◌, ◌∷◌, ap, arith, length, length-append, [], refl, sym, subst, ℕ, List}
-use Rattle.lane_core.specs.Lane.{lane_of}
+use Rattle.std.proofs.Common.{ap, arith, length, length-append}
 use Rattle.world_core.proofs.Cuts.{cut_more, numbers_cut, limit_some}
 use Rattle.world_core.proofs.plan.Layout.cut.Goals as goal
 
