@@ -9,3 +9,5 @@ pub mod Common
 pub mod Kept
 pub mod Caps
 pub mod Fractions
+pub mod Parts
+pub mod formers
