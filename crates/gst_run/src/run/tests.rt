@@ -4,12 +4,13 @@ use gst_outside::{MemFiles, MemSink, OpenGate, StepClock};
 use std::process::Abort;
 use std::test::Fail;
 
-/// A run of `filesrc location=a WORD ! identity ! filesink location=b` over files in memory, where the calls
-/// with these numbers fail, and what it has to give.
+/// A run of `filesrc location=a WORD ! MIDDLE ! filesink location=b` over files in memory, where the calls with
+/// these numbers fail, and what it has to give. A bar stands between two words of the middle.
 #[derive(Clone, Copy)]
 struct Row {
     content: &'static str,
     blocksize: &'static str,
+    middle: &'static str,
     reads: &'static [u64],
     writes: &'static [u64],
     openings_to_read: &'static [u64],
@@ -24,6 +25,7 @@ struct Row {
 const PLAIN: Row = Row {
     content: "abcde",
     blocksize: "blocksize=2",
+    middle: "identity",
     reads: &[],
     writes: &[],
     openings_to_read: &[],
@@ -37,19 +39,16 @@ const PLAIN: Row = Row {
 /// The words of the row's line.
 fn words_of(alloc: Global, row: &Row) -> Result<Vec<String>, Fail> {
     let mut words = Vec::new(alloc);
-    for word in [
-        "filesrc",
-        "location=a",
-        row.blocksize,
-        "!",
-        "identity",
-        "!",
-        "filesink",
-        "location=b",
-    ] {
+    for word in ["filesrc", "location=a", row.blocksize, "!"] {
         if !word.is_empty() {
             words.push(String::from_str(alloc, word)?)?;
         }
+    }
+    for word in row.middle.split('|') {
+        words.push(String::from_str(alloc, word)?)?;
+    }
+    for word in ["!", "filesink", "location=b"] {
+        words.push(String::from_str(alloc, word)?)?;
     }
     Ok(words)
 }
@@ -97,13 +96,26 @@ fn check<H: Threads + Wait + Copy + Send + 'static, T: Abort>(
 }
 
 #[test]
-fn runs_one_file_through_one_task(rt: HostRuntime) -> Result<(), Fail> {
+fn runs_one_file(rt: HostRuntime) -> Result<(), Fail> {
     let alloc = rt.alloc();
     let rows = [
         PLAIN,
         Row {
             blocksize: "",
             text: "status 0 Eos\npad filesrc0.src items 4 buffers 1\npad identity0.src items 4 buffers 1\nsink filesink0 bytes 5\n",
+            ..PLAIN
+        },
+        Row {
+            content: "abc",
+            blocksize: "blocksize=1",
+            middle: "queue|max-size-buffers=1",
+            text: "status 0 Eos\npad filesrc0.src items 6 buffers 3\npad queue0.src items 6 buffers 3\nsink filesink0 bytes 3\n",
+            output: "abc",
+            ..PLAIN
+        },
+        Row {
+            middle: "queue|!|identity|!|queue|max-size-buffers=0|!|identity",
+            text: "status 0 Eos\npad filesrc0.src items 6 buffers 3\npad queue0.src items 6 buffers 3\npad identity0.src items 6 buffers 3\npad queue1.src items 6 buffers 3\npad identity1.src items 6 buffers 3\nsink filesink0 bytes 5\n",
             ..PLAIN
         },
         Row {
