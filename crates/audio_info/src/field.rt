@@ -61,7 +61,12 @@ fn raw_in(caps: &Fixed) -> Option<Sample>
 }
 
 /// Sets the field of this name, where its value makes caps of no more than 64 fields.
-pub(crate) fn set(caps: &mut Fixed, alloc: Global, name: &str, value: One) -> Result<(), OutOfMemory>
+pub(crate) fn set(
+    caps: &mut Fixed,
+    alloc: Global,
+    name: &str,
+    value: One,
+) -> Result<(), OutOfMemory>
     requires single { IsSingle value }
     requires few { length (put name.now value caps.old.fields) ≤ 64 }
     ensures { OnOk result (caps.new ≡ record caps.old { fields = put name.now value caps.old.fields }) }
