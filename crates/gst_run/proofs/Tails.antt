@@ -130,14 +130,9 @@ size_refused words first second source p q lacks line form =
     lacks form.size_words (form.middle_words ++ sink_words line.sink) line.blocksize form.size (tail_bang (form.middle_words ++ sink_words line.sink) line.middle line.sink tail) same.1
 
 pub tail_lacks : (words rest : List (List ℕ)) (source : List ℕ) (n : ℕ) → ReadsSource words source n rest → LacksTail rest → (line : Line) → ¬ IsForm words line
-tail_lacks words rest source n reads lacks line form = lacks line.middle line.sink form.sink (rw form.one (omega arith)) (reads.only line form).1
+tail_lacks words rest source n reads lacks line form = lacks line.middle line.sink form.sink form.few (reads.only line form).1
 
 pub same_file : (words rest : List (List ℕ)) (source : List ℕ) (n : ℕ) (middle : List Middle) (sink : List ℕ) → ReadsSource words source n rest → ReadsTail rest middle sink → source ≡ sink → (line : Line) → ¬ IsForm words line
 same_file words rest source n middle sink reads tail e line form =
     let read = reads.only line form in
     form.apart (read.0 ∙ e ∙ sym (tail.only line.middle line.sink read.1).1)
-
-pub other_middle : (words rest : List (List ℕ)) (source : List ℕ) (n : ℕ) (middle : List Middle) (sink : List ℕ) → ReadsSource words source n rest → ReadsTail rest middle sink → middle ≢ Identity ∷ [] → (line : Line) → ¬ IsForm words line
-other_middle words rest source n middle sink reads tail other line form =
-    let read = reads.only line form in
-    other (sym (tail.only line.middle line.sink read.1).0 ∙ form.one)

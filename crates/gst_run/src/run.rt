@@ -15,7 +15,7 @@ use gst_outside::{Clock, Failed, Files, Sink, TaskGate};
 use std::alloc::Global;
 use std::sync::Wait;
 use std::thread::Threads;
-use world_core::{WorldEnd, run_line};
+use world_core::{WorldEnd, run_turns};
 
 const OUT_OF_MEMORY: u8 = 13;
 
@@ -49,7 +49,7 @@ fn run_words<F: Files>(alloc: Global, words: &[String], files: &mut F) -> WorldE
     ensures others { (l : List ℕ) → ((line : Line) → IsForm (map string_bytes words.now) line → l ≢ line.sink) → F.output files.new l ≡ F.output files.old l }
 {
     match read_line(alloc, words) {
-        Ok(Some(line)) => run_line(alloc, &line, files),
+        Ok(Some(line)) => run_turns(alloc, &line, files, &[]),
         Ok(None) => not_begun(alloc, 2, Fault::Form),
         Err(OutOfMemory) => not_begun(alloc, OUT_OF_MEMORY, Fault::Nothing),
     }

@@ -5,7 +5,6 @@ ghost use Rattle.gst_run.specs.Words.{IsForm, IsLocation, IsNumber, SpellsBlocks
 ghost use Rattle.gst_run.specs.Reading.{ReadsProperty, LacksProperty, ReadsSource, ReadsTail, LacksTail};
 ghost use Rattle.gst_run.specs.Parts.{PartSays};
 ghost use Rattle.world_core.specs.declared.line.Line.{Line as FormLine};
-ghost use Rattle.world_core.specs.declared.line.Middle.TheVariants.{Identity};
 
 use gst_caps::{List, OutOfMemory, Text};
 use std::alloc::Global;
@@ -223,15 +222,8 @@ fn read_source(words: &[String]) -> Option<Front<'_>>
     })
 }
 
-/// Whether one identity stands in the middle.
-fn is_one_identity(middle: &[Middle]) -> bool
-    ensures { IsTrue result ↔ (middle.now ≡ Identity ∷ []) }
-{
-    matches!(middle, [Middle::Identity])
-}
-
-/// The line that the words are, where they are of the form that is read: `filesrc location=A [blocksize=N]`,
-/// `! identity`, and `! filesink location=B`, where A is not B.
+/// The line that the words are, where they are of the form that is read: `filesrc location=A [blocksize=N]`, at most
+/// 64 times `! identity` or `! queue [max-size-buffers=N]`, and `! filesink location=B`, where A is not B.
 pub fn read_line(alloc: Global, words: &[String]) -> Result<Option<Line>, OutOfMemory>
     ensures { IfOk result (λ read. MatchOption read ((line : FormLine) → ¬ IsForm (map string_bytes words.now) line) (IsForm (map string_bytes words.now))) }
 {
@@ -242,9 +234,6 @@ pub fn read_line(alloc: Global, words: &[String]) -> Result<Option<Line>, OutOfM
         return Ok(None);
     };
     if front.source == sink {
-        return Ok(None);
-    }
-    if !is_one_identity(middle.as_slice()) {
         return Ok(None);
     }
     Ok(Some(Line {
@@ -327,10 +316,31 @@ mod tests {
             ("location=a|blocksize=-1", "!|identity|", "b", "none"),
             ("location=a|blocksize=", "!|identity|", "b", "none"),
             ("location=a|blocksize=1x", "!|identity|", "b", "none"),
-            ("location=a", "", "b", "none"),
-            ("location=a", "!|identity|!|identity|", "b", "none"),
-            ("location=a", "!|queue|!|identity|", "b", "none"),
-            ("location=a", "!|queue|", "b", "none"),
+            ("location=a", "", "b", "a 4096 b"),
+            (
+                "location=a",
+                "!|identity|!|identity|",
+                "b",
+                "a 4096 identity identity b",
+            ),
+            (
+                "location=a",
+                "!|queue|!|identity|",
+                "b",
+                "a 4096 queue 200 identity b",
+            ),
+            (
+                "location=a",
+                "!|queue|max-size-buffers=0|",
+                "b",
+                "a 4096 queue 16384 b",
+            ),
+            (
+                "location=a",
+                "!|queue|max-size-buffers=x|",
+                "b",
+                "none",
+            ),
             ("location=a", "!|identity|", "a", "none"),
             ("location=", "!|identity|", "b", "none"),
             ("location=\"a", "!|identity|", "b", "none"),

@@ -1,7 +1,7 @@
 -- No line fits where the tail is refused, or where the two locations are one.
 use Rattle.std.proofs.Common.{sym, ◌∙◌, rules}
 use Rattle.std.proofs.lemmas.Slice.Eq.{bytes_eq-Decides}
-use Rattle.gst_run.proofs.Tails.{tail_lacks, same_file, other_middle}
+use Rattle.gst_run.proofs.Tails.{tail_lacks, same_file}
 use Rattle.gst_run.proofs.words.read_line.Goals as goal
 
 pub returns-in_default-2 : goal.returns-in_default-2
@@ -11,8 +11,3 @@ pub returns-then-eq : goal.returns-then-eq
 returns-then-eq c =
     let same = (bytes_eq-Decides c.in-Some.front.source.now c.in-Some-2.sink.now).0 (sym c.if-eq.ensures) in
     same_file _ _ c.in-Some.front.source.now c.in-Some.front.blocksize c.in-Some-2.middle c.in-Some-2.sink.now c.in-Some.ensures (rw c.in-Some-2.is at c.in_ok-middle.ensures) same
-
-pub returns-then-not-is_one_identity : goal.returns-then-not-is_one_identity
-returns-then-not-is_one_identity c =
-    other_middle _ _ c.in-Some.front.source.now c.in-Some.front.blocksize c.in-Some-2.middle c.in-Some-2.sink.now c.in-Some.ensures (rw c.in-Some-2.is at c.in_ok-middle.ensures)
-    (λ e. let yes = c.is_one_identity.ensures.1 (c.as_slice.ensures ∙ e) in let no = c.if-not-is_one_identity.true in absurd (search rules))
