@@ -14,3 +14,6 @@ mod unopened;
 pub use ended::WorldEnd;
 pub use line::{Line, Middle};
 pub use run::run_turns;
+
+#[cfg(test)]
+mod tests;
