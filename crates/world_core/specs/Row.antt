@@ -108,7 +108,7 @@ abbrev pub Rests : {S K I O : Type 0} → (I → ℕ) → (O → ℕ) → (O →
 Rests place_in place_out limits task tells l =
     (step : Step) × (has_moved step ≡ false) × IsWhy task (head_place place_in (head_of task)) (tail_place place_out (tail_of task)) (tail_limit limits (tail_of task)) tells l.head.got l.done step
 
--- A row stands where it stood, and the first so many of its tasks did not move.
+-- A row stands where it stood, and each of its tasks that was tried did not move.
 pub record RowRests {S K I O : Type 0} (content : S → Option (List ℕ)) (bytes : K → Option (List ℕ)) (received : I → List Item → Type 0) (sent : O → List Item → Type 0)
     (place_in : I → ℕ) (place_out : O → ℕ) (limits : O → Limits) (IsTried : ℕ → Type 0) (tasks : List (Task S K I O)) (was : ℕ → TaskLists) (tells tells' : Option (List Lane)) : Type 0 where
   pub row : IsRow content bytes received sent tasks was tells'

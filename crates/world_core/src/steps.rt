@@ -1,8 +1,8 @@
 //! Steps of a row of tasks.
-ghost use Rattle.std.specs.Prelude.{◌≡◌, ◌≢◌, ◌<◌, ◌≤◌, ◌+◌, ◌-◌, ◌*◌, ℕ, true, Some, length, slice_get, IfOk, IfErr, OnOk, IsSome, List, if◌then◌else◌};
+ghost use Rattle.std.specs.Prelude.{◌≡◌, ◌≢◌, ◌<◌, ◌≤◌, ◌+◌, ℕ, true, Some, length, slice_get, IfOk, IfErr, OnOk, OnErr, IsSome, List, if◌then◌else◌};
 ghost use Rattle.task_core.specs.Task.{TaskLists};
 ghost use Rattle.world_core.specs.Row.{AllReady, IsJoined, IsRow, IsRowCause, RowEnded, RowFaulted, RowStepped, RowAdvanced, AllFramed, Burned, row_fuel, steps_left, has_moved as step_moved};
-ghost use Rattle.world_core.specs.Turns.{IsTurn, place_of_turn};
+ghost use Rattle.world_core.specs.Turns.{IsTurn, HasCome, RunBy, place_of_turn};
 
 use gst_outside::{Sink, Source};
 use lane_core::{Inlet, Outlet};
@@ -161,10 +161,9 @@ fn advance<S: Source, K: Sink, I: Inlet<Out = O>, O: Outlet<Lanes = I::Lanes>>(
     ensures joined { IsJoined I.place O.place O.limits tasks.new }
     ensures frame { AllFramed S.location S.content K.location I.place I.id O.place O.limits O.id tasks.old tasks.new }
     ensures count { length tasks.new ≡ length tasks.old }
-    ensures turn { (n : ℕ) → IsTurn turns.now (length tasks.old) n order.old → order.old.idle < 4096 → IsTurn turns.now (length tasks.old) (n + 1) order.new }
-    ensures only { (n k : ℕ) → IsTurn turns.now (length tasks.old) n order.old → order.old.idle < 4096 → k ≢ place_of_turn turns.now (length tasks.old) n → slice_get tasks.new k ≡ slice_get tasks.old k }
+    ensures come { OnOk result ((first : _) → HasCome turns.now first tasks.old order.old → HasCome turns.now first tasks.new order.new) }
+    ensures stopped { OnErr result ((first : _) → HasCome turns.now first tasks.old order.old → RunBy turns.now first tasks.new) }
     ensures idle { order.new.idle ≤ 4096 }
-    ensures moved { OnOk result (row_fuel tasks.new ≢ row_fuel tasks.old → order.new.idle ≡ 0) }
     ensures less { result ≡ Ok true → steps_left (row_fuel tasks.new) order.new.idle < steps_left (row_fuel tasks.old) order.old.idle }
 {
     if order.idle == IDLE_TURNS {
@@ -198,6 +197,7 @@ pub(crate) fn run_tasks<S: Source, K: Sink, I: Inlet<Out = O>, O: Outlet<Lanes =
     ensures faulted { IfErr result (λ stop. (lists : ℕ → TaskLists) → IsRow S.content K.bytes I.received O.sent tasks.old lists (O.tells lanes.old) → RowFaulted S.content K.bytes I.received O.sent tasks.new lists (O.tells lanes.new) stop.task stop.fault) }
     ensures within { IfErr result (λ stop. stop.task < length tasks.new) }
     ensures cause { IfErr result (λ stop. (t : _) → slice_get tasks.new stop.task ≡ Some t → IsRowCause S.faults K.faults t stop.fault) }
+    ensures by_turns { RunBy turns.now tasks.old tasks.new }
     ensures frame { AllFramed S.location S.content K.location I.place I.id O.place O.limits O.id tasks.old tasks.new }
     ensures count { length tasks.new ≡ length tasks.old }
 {

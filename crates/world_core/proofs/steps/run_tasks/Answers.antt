@@ -1,6 +1,7 @@
 use Rattle.std.proofs.Common.{◌∙◌, refl, ap, arith, Ok}
 use Rattle.world_core.proofs.Rows.{framed_same, framed_trans}
 use Rattle.world_core.proofs.Tries.{goes_same, goes_more, ended_more, faulted_more}
+use Rattle.world_core.proofs.Turns.{come_first, run_come}
 use Rattle.world_core.proofs.steps.run_tasks.Goals as goal
 
 pub turns-init : goal.turns-init
@@ -10,6 +11,7 @@ turns-init g c = record {
   joined = c.requires.joined;
   frame = framed_same {S = g.row.S.Denot} {K = g.row.K.Denot} {I = g.row.I.Denot} {O = g.row.O.Denot} g.S.Source.location g.S.Source.content g.K.Sink.location g.I.Inlet.place g.I.Inlet.id g.O.Outlet.place g.O.Outlet.limits g.O.Outlet.id c.args.tasks.now;
   goes = λ lists row. goes_same {S = g.row.S.Denot} {K = g.row.K.Denot} {I = g.row.I.Denot} {O = g.row.O.Denot} g.S.Source.content g.K.Sink.bytes g.I.Inlet.received g.O.Outlet.sent g.I.Inlet.place g.O.Outlet.place g.O.Outlet.limits c.args.tasks.now lists _ row;
+  come = come_first {S = g.row.S.Denot} {K = g.row.K.Denot} {I = g.row.I.Denot} {O = g.row.O.Denot} c.args.turns.now c.args.tasks.now c.new-order.result c.new-order.ensures.first c.new-order.ensures.idle;
   idle = omega (arith, c.new-order.ensures.idle);
 }
 
@@ -22,6 +24,7 @@ turns-preserved g c = record {
   goes = λ lists row.
       let h = c.turns.invariant.goes lists row in
       goes_more {S = g.row.S.Denot} {K = g.row.K.Denot} {I = g.row.I.Denot} {O = g.row.O.Denot} g.S.Source.content g.K.Sink.bytes g.I.Inlet.received g.O.Outlet.sent g.I.Inlet.place g.O.Outlet.place g.O.Outlet.limits c.advance.new.tasks lists h.lists _ h.goes_on ((rw c.in-Ok-true.field-0-test at c.in-Ok-true.ensures.goes) h.lists h.row);
+  come = c.in-Ok-true.ensures.come c.args.tasks.now c.turns.invariant.come;
   idle = c.advance.ensures.idle;
 }
 
@@ -45,3 +48,9 @@ returns-in-Err-clause-faulted g c =
 
 pub returns-in-Err-clause-frame : goal.returns-in-Err-clause-frame
 returns-in-Err-clause-frame g c = framed_trans {S = g.row.S.Denot} {K = g.row.K.Denot} {I = g.row.I.Denot} {O = g.row.O.Denot} g.S.Source.location g.S.Source.content g.K.Sink.location g.I.Inlet.place g.I.Inlet.id g.O.Outlet.place g.O.Outlet.limits g.O.Outlet.id c.args.tasks.now c.turns.tasks c.advance.new.tasks c.turns.invariant.count c.turns.invariant.frame c.advance.ensures.frame
+
+pub returns-in-Ok-false-clause-by_turns : goal.returns-in-Ok-false-clause-by_turns
+returns-in-Ok-false-clause-by_turns g c = run_come c.args.turns.now c.args.tasks.now c.advance.new.tasks c.advance.new.order (c.in-Ok-false.ensures.come c.args.tasks.now c.turns.invariant.come)
+
+pub returns-in-Err-clause-by_turns : goal.returns-in-Err-clause-by_turns
+returns-in-Err-clause-by_turns g c = c.in-Err.ensures.stopped c.args.tasks.now c.turns.invariant.come
