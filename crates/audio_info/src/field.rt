@@ -10,7 +10,7 @@ use gst_caps::{CapsFault, Fixed, One, OutOfMemory};
 use std::alloc::Global;
 
 /// The value of the field of this name.
-pub fn field_named<'a>(caps: &'a Fixed, name: &str) -> Option<&'a One>
+pub(crate) fn field_named<'a>(caps: &'a Fixed, name: &str) -> Option<&'a One>
     ensures { option_copied result ≡ field_of name.now caps.now.fields }
 {
     for place in 0..caps.fields() {
@@ -23,7 +23,7 @@ pub fn field_named<'a>(caps: &'a Fixed, name: &str) -> Option<&'a One>
 }
 
 /// The number of the field of this name, where it is one from 1 to `most`.
-pub fn number_in(caps: &Fixed, name: &str, most: u32) -> Option<u32>
+pub(crate) fn number_in(caps: &Fixed, name: &str, most: u32) -> Option<u32>
     ensures { result ≡ option_and_then (number_up_to most) (field_of name.now caps.now.fields) }
 {
     let Some(One::Int(number)) = field_named(caps, name) else {
@@ -35,7 +35,7 @@ pub fn number_in(caps: &Fixed, name: &str, most: u32) -> Option<u32>
 }
 
 /// The format of the samples.
-pub fn sample_in(caps: &Fixed) -> Option<Sample>
+pub(crate) fn sample_in(caps: &Fixed) -> Option<Sample>
     ensures { result ≡ sample_of caps.now }
 {
     let media = caps.media();
@@ -61,7 +61,7 @@ fn raw_in(caps: &Fixed) -> Option<Sample>
 }
 
 /// Sets the field of this name, where its value makes caps of no more than 64 fields.
-pub fn set(caps: &mut Fixed, alloc: Global, name: &str, value: One) -> Result<(), OutOfMemory>
+pub(crate) fn set(caps: &mut Fixed, alloc: Global, name: &str, value: One) -> Result<(), OutOfMemory>
     requires single { IsSingle value }
     requires few { length (put name.now value caps.old.fields) ≤ 64 }
     ensures { OnOk result (caps.new ≡ record caps.old { fields = put name.now value caps.old.fields }) }

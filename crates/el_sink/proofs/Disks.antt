@@ -3,7 +3,7 @@ use Rattle.std.proofs.Common.{◌≡◌, ℕ, Bool, true, false, if◌then◌els
 use Rattle.std.specs.Option.{ForSome}
 use Rattle.std.proofs.lemmas.List.Sums.{fold_push}
 use Rattle.gst_time.specs.declared.segment.Segment.{Segment}
-use Rattle.flow_model.specs.Item.{Item, Buf, Ev, StreamStart, NewSegment, Tag, Gap, FlushStop, Eos, Format, Bytes, Time}
+use Rattle.flow_model.specs.Item.{Item, Buf, Ev, StreamStart, NewCaps, NewSegment, Tag, Gap, FlushStop, Eos, Format, Bytes, Time}
 use Rattle.flow_model.specs.SinkBytes.{Disk, empty_disk, at_segment, rendered, reopened, next_disk, disk_after}
 use Rattle.gst_item.specs.declared.flow.Flow.{Flow}
 use Rattle.el_sink.specs.declared.file_sink.FileSink.{FileSink}
@@ -46,6 +46,7 @@ reopened_open false d = refl
 next_agrees : (keep : Bool) (d : Disk) (x : Item) → (next_disk keep d x).ended ≡ next_ended d.ended x
 next_agrees keep d (Buf b) = chosen d.ended d (rendered d (Buf b)) false refl (λ e. e)
 next_agrees keep d (Ev (StreamStart id)) = chosen d.ended d d false refl (λ e. e)
+next_agrees keep d (Ev (NewCaps caps)) = chosen d.ended d d false refl (λ e. e)
 next_agrees keep d (Ev (NewSegment segment)) = chosen d.ended d (at_segment d segment segment.format) false refl (λ e. segment_keeps d segment segment.format ∙ e)
 next_agrees keep d (Ev (Tag title)) = chosen d.ended d d false refl (λ e. e)
 next_agrees keep d (Ev (Gap pts duration)) = chosen d.ended d d false refl (λ e. e)

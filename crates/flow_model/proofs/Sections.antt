@@ -4,7 +4,7 @@ use Rattle.std.specs.Prelude.{filter}
 use Rattle.flow_model.specs.Item.{Item, Ev, Eos, is_flush_stop}
 use Rattle.flow_model.specs.Prefix.{IsPrefix, nothing, next, ArePrefixes, none, pad}
 use Rattle.flow_model.specs.Section.{section}
-use Rattle.flow_model.specs.Call.{Call, Feed, Act, Drain}
+use Rattle.flow_model.specs.Call.{Call, Feed, Act, Drain, Set}
 use Rattle.flow_model.specs.Rule.{Response, Fault, Fed, unfed, responded, flushed, fed_item, not_eos, drained, called, all_called, owed_for, only, single}
 use Rattle.flow_model.proofs.Prefixes.{prefix_refl, prefix_trans, prefix_append, prefix_if}
 
@@ -33,6 +33,7 @@ out_drained s false (Err f) = prefix_refl s.out
 out_called : (respond : Response) (s : Fed) (c : Call) → IsPrefix s.out (called respond s c).out
 out_called respond s (Feed x) = out_fed respond s x
 out_called respond s (Act Drain) = out_drained s s.over (respond s (Ev Eos))
+out_called respond s (Act (Set setting)) = prefix_refl s.out
 
 -- what is owed only grows
 out_grows : (respond : Response) (s : Fed) (cs : List Call) → IsPrefix s.out (all_called respond s cs).out

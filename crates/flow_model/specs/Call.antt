@@ -1,10 +1,16 @@
 -- What an element is given, in order: items, and between them what control does to it.
 use Rattle.std.specs.Prelude.{ℕ, suc, ◌==◌, List, [], ◌∷◌, ◌++◌, if◌then◌else◌}
+use Rattle.gst_caps.specs.declared.caps.Caps.{Caps}
 use Rattle.flow_model.specs.Item.{Item}
 
--- Control's marks: the element is drained.
+-- a property that a running element is given: the caps of a filter
+pub data Setting : Type 0 where
+  Filter : (caps : Caps) → Setting
+
+-- Control's marks: the element is drained, or a property of it is set.
 pub data Mark : Type 0 where
   Drain : Mark
+  Set : (setting : Setting) → Mark
 
 pub data Call : Type 0 where
   Feed : (item : Item) → Call

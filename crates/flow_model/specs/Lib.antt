@@ -2,6 +2,7 @@ pub mod Account
 pub mod Call
 pub mod Chain
 pub mod Eval
+pub mod Feeding
 pub mod Item
 pub mod Link
 pub mod Prefix

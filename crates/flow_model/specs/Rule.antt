@@ -1,8 +1,12 @@
 -- Rules of elements. A rule says what an element owes: from what its sink pads were given, for each source
 -- pad and each section, the items that are to cross that pad in that section.
-use Rattle.std.specs.Prelude.{ℕ, Bool, true, false, List, [], ◌∷◌, ◌++◌, Result, Ok, Err, filter, if◌then◌else◌}
+use Rattle.std.specs.Prelude.{ℕ, Bool, true, false, List, [], ◌∷◌, ◌++◌, Option, Result, Ok, Err, filter, if◌then◌else◌}
+use Rattle.gst_caps.specs.Description.{Description}
+use Rattle.gst_caps.specs.declared.value.One.{One}
+use Rattle.gst_caps.specs.declared.caps.Caps.{Caps}
+use Rattle.gst_item.specs.declared.fault.StreamKind.{StreamKind}
 use Rattle.flow_model.specs.Item.{Item, Ev, Eos, is_flush_stop, is_eos}
-use Rattle.flow_model.specs.Call.{Call, Feed, Act, Drain}
+use Rattle.flow_model.specs.Call.{Call, Feed, Act, Drain, Set}
 use Rattle.flow_model.specs.Section.{section}
 
 -- what is to cross a pad, section by section
@@ -15,6 +19,8 @@ Rule = List (List Call) → ℕ → Owed
 
 -- why a rule goes no further
 pub data Fault : Type 0 where
+  NotNegotiated : (offered : Option (Description One)) (wanted : Caps) → Fault
+  BadStream : (place : ℕ) (kind : StreamKind) → Fault
   TooLong : (a b : ℕ) → Fault
 
 -- How far an element with one sink pad has come: what counts of what it was given, what it owes for that,
@@ -51,9 +57,11 @@ abbrev pub drained : Fed → Result (List Item) Fault → Fed
 drained s (Ok ys) = record { given = s.given ++ Act Drain ∷ []; out = s.out ++ filter not_eos ys; over = s.over }
 drained s (Err fault) = record { given = s.given; out = s.out; over = true }
 
+-- A property that is set counts from there on, also for later sections.
 abbrev pub called : Response → Fed → Call → Fed
 called respond s (Feed x) = fed_item respond s x
 called respond s (Act Drain) = if s.over then s else drained s (respond s (Ev Eos))
+called respond s (Act (Set setting)) = record s { given = s.given ++ Act (Set setting) ∷ [] }
 
 abbrev pub all_called : Response → Fed → List Call → Fed
 all_called respond s [] = s

@@ -1,27 +1,3 @@
 -- Sticky events: what a pad's history leaves in force, found by going back over the list.
-use Rattle.std.specs.Prelude.{Bool, true, false, List, [], ◌∷◌, ◌++◌, if◌then◌else◌}
-use Rattle.flow_model.specs.Item.{Item, is_stream_start, is_segment, is_tag, is_flush_stop, is_eos}
-
--- the first list that has an item
-abbrev pub first_found : List Item → List Item → List Item
-first_found [] ys = ys
-first_found (x ∷ xs) ys = x ∷ []
-
--- the last item of a history that passes a test, as a list of at most one
-abbrev pub latest : (Item → Bool) → List Item → List Item
-latest passes [] = []
-latest passes (x ∷ xs) = first_found (latest passes xs) (if passes x then x ∷ [] else [])
-
-abbrev pub has_flush_stop : List Item → Bool
-has_flush_stop [] = false
-has_flush_stop (x ∷ xs) = if is_flush_stop x then true else has_flush_stop xs
-
--- what stands behind the last FLUSH_STOP, or all where there is none
-abbrev pub since_flush_stop : List Item → List Item
-since_flush_stop [] = []
-since_flush_stop (x ∷ xs) = if has_flush_stop xs then since_flush_stop xs else (if is_flush_stop x then xs else x ∷ xs)
-
--- The sticky events in force after a history: the last STREAM_START, SEGMENT, TAG and EOS, in this order. A
--- SEGMENT or an EOS before the last FLUSH_STOP is left out.
-unfoldable pub stickies : List Item → List Item
-stickies h = latest is_stream_start h ++ (latest is_segment (since_flush_stop h) ++ (latest is_tag h ++ latest is_eos (since_flush_stop h)))
+pub use Rattle.gst_item.specs.Sticky.{first_found, latest, has_flush_stop, since_flush_stop, InForce, in_force}
+unfoldable pub use Rattle.gst_item.specs.Sticky.{stickies}

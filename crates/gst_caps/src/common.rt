@@ -95,7 +95,7 @@ fn as_value(mut members: Vec<One>) -> Value
 }
 
 /// The value of the common members of two values that meet.
-pub fn common_value(alloc: Global, value: &Value, other: &Value) -> Result<Value, CapsFault>
+pub(crate) fn common_value(alloc: Global, value: &Value, other: &Value) -> Result<Value, CapsFault>
     ensures ok { IfOk result (λ made. made ≡ as_value (common value.now other.now)) }
     ensures few { IfOk result (λ made. length (members made) ≤ 64) }
     ensures too_many { TooManyWhere result (64 < length (common value.now other.now)) }

@@ -41,7 +41,7 @@ fn place_of<V>(fields: &[(Text, V)], name: &str) -> Result<usize, usize>
 }
 
 /// Sets the field of this name, or replaces its value.
-pub fn set_field<V: Drop>(
+pub(crate) fn set_field<V: Drop>(
     alloc: Global,
     fields: &mut Vec<(Text, V)>,
     name: &str,

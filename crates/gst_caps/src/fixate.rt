@@ -114,7 +114,7 @@ fn fix_rest(
 }
 
 /// The fixation of fields.
-pub fn fixed_fields(
+pub(crate) fn fixed_fields(
     alloc: Global,
     fields: &[(Text, Value)],
 ) -> Result<Vec<(Text, One)>, OutOfMemory>
@@ -126,7 +126,7 @@ pub fn fixed_fields(
 }
 
 /// The fixation of the merged fields of two lists, which are not merged for it.
-pub fn fixed_merge(
+pub(crate) fn fixed_merge(
     alloc: Global,
     fields: &[(Text, Value)],
     others: &[(Text, Value)],

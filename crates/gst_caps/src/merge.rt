@@ -99,7 +99,7 @@ fn add_rest(
 
 /// The fields of both, in the order of their names: a field of both with the values common to it and the
 /// other.
-pub fn merged_fields(
+pub(crate) fn merged_fields(
     alloc: Global,
     fields: &[(Text, Value)],
     others: &[(Text, Value)],

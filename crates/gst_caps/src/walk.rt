@@ -10,14 +10,14 @@ use crate::value::{One, Value};
 use std::cmp::Ordering;
 
 /// How the names of two fields stand.
-pub fn compare<V, W>(first: &(Text, V), second: &(Text, W)) -> Ordering
+pub(crate) fn compare<V, W>(first: &(Text, V), second: &(Text, W)) -> Ordering
     ensures { result ≡ slice_cmp nat_cmp first.now.0 second.now.0 }
 {
     first.0.as_str().cmp(second.0.as_str())
 }
 
 /// Whether each field contains the value that is given under its name.
-pub fn all_given(fields: &[(Text, Value)], given: &[(Text, One)]) -> bool
+pub(crate) fn all_given(fields: &[(Text, Value)], given: &[(Text, One)]) -> bool
     requires fields { Rises fields.now }
     requires given { Rises given.now }
     ensures { result ≡ each_at contains_given fields.now given.now }
@@ -46,7 +46,7 @@ pub fn all_given(fields: &[(Text, Value)], given: &[(Text, One)]) -> bool
 }
 
 /// Whether each two fields of one name have something in common.
-pub fn all_agree(fields: &[(Text, Value)], others: &[(Text, Value)]) -> bool
+pub(crate) fn all_agree(fields: &[(Text, Value)], others: &[(Text, Value)]) -> bool
     requires fields { Rises fields.now }
     requires others { Rises others.now }
     ensures { result ≡ each_at agrees fields.now others.now }

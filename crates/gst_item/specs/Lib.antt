@@ -1,1 +1,4 @@
 pub mod Flow
+pub mod Item
+pub mod Sticky
+pub mod Lent

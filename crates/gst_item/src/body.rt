@@ -1,5 +1,7 @@
 //! Bodies of buffers.
-ghost use Rattle.std.specs.Prelude.{◌≡◌, ◌≤◌, length, IfOk};
+ghost use Rattle.std.specs.Prelude.{◌≡◌, ◌≤◌, length, slice_range, IfOk, OnOk};
+ghost use Rattle.std.specs.Borrow.{sem};
+ghost use Rattle.gst_item.specs.Lent.{LendsBytes};
 
 use gst_caps::OutOfMemory;
 use std::alloc::Global;
@@ -42,5 +44,38 @@ impl Body {
         ensures small { length self.now ≤ LARGEST_BODY }
     {
         self.bytes.as_slice()
+    }
+
+    /// The bytes from place `from` up to place `to`.
+    pub fn slice(&self, alloc: Global, from: u32, to: u32) -> Result<Body, OutOfMemory>
+        requires order { from ≤ to }
+        requires within { to ≤ length self.now }
+        ensures { IfOk result (λ made. made ≡ slice_range self.now from to) }
+    {
+        let bytes = Vec::from_slice(alloc, &self.bytes[from as usize..to as usize])?;
+        Ok(Body { bytes })
+    }
+
+    /// The same bytes in a further holder.
+    pub fn share(&self, alloc: Global) -> Result<Body, OutOfMemory>
+        ensures { IfOk result (λ made. made ≡ self.now) }
+    {
+        let bytes = Vec::from_slice(alloc, self.bytes.as_slice())?;
+        Ok(Body { bytes })
+    }
+
+    /// The bytes, to be changed in this holder alone.
+    pub fn make_mut(&mut self, _alloc: Global) -> Result<&mut [u8], OutOfMemory>
+        ensures { IfOk result (λ lent. lent.now ≡ self.old) }
+    {
+        Ok(self.bytes_mut())
+    }
+
+    /// The bytes, to be changed.
+    fn bytes_mut(&mut self) -> &mut [u8]
+        ensures* writes_back { sem 𝓛 (LendsBytes self.entry result) }
+        ensures bytes { result.now ≡ self.old }
+    {
+        self.bytes.as_mut_slice()
     }
 }

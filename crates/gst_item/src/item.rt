@@ -1,7 +1,10 @@
 //! Buffers and events.
+ghost use Rattle.std.specs.Prelude.{◌≡◌, IfOk};
+
 use crate::body::Body;
-use gst_caps::Text;
+use gst_caps::{Fixed, OutOfMemory, Text};
 use gst_time::Segment;
+use std::alloc::Global;
 
 /// A piece of a stream.
 #[derive(Drop)]
@@ -17,11 +20,28 @@ pub struct Buffer {
     pub discont: bool,
 }
 
+impl Buffer {
+    /// The same buffer once more.
+    pub fn copy(&self, alloc: Global) -> Result<Buffer, OutOfMemory>
+        ensures { IfOk result (λ made. made ≡ self.now) }
+    {
+        Ok(Buffer {
+            body: self.body.share(alloc)?,
+            pts: self.pts,
+            duration: self.duration,
+            offset: self.offset,
+            discont: self.discont,
+        })
+    }
+}
+
 /// A serialised event, as in GStreamer's design document on events.
 #[derive(Drop)]
 pub enum Event {
     /// A stream begins. Sticky.
     StreamStart { id: u32 },
+    /// What the bytes of the buffers behind it are. Sticky.
+    Caps(Fixed),
     /// How the buffers behind it are placed in time or in bytes. Sticky.
     Segment(Segment),
     /// What the stream is called. Sticky.
@@ -34,9 +54,43 @@ pub enum Event {
     Eos,
 }
 
+impl Event {
+    /// The same event once more.
+    pub fn copy(&self, alloc: Global) -> Result<Event, OutOfMemory>
+        ensures { IfOk result (λ made. made ≡ self.now) }
+    {
+        match self {
+            Event::StreamStart { id } => Ok(Event::StreamStart { id: *id }),
+            Event::Caps(caps) => Ok(Event::Caps(caps.copy(alloc)?)),
+            Event::Segment(segment) => Ok(Event::Segment(*segment)),
+            Event::Tag { title } => Ok(Event::Tag {
+                title: title.copy(alloc)?,
+            }),
+            Event::Gap { pts, duration } => Ok(Event::Gap {
+                pts: *pts,
+                duration: *duration,
+            }),
+            Event::FlushStop { number } => Ok(Event::FlushStop { number: *number }),
+            Event::Eos => Ok(Event::Eos),
+        }
+    }
+}
+
 /// What crosses a pad.
 #[derive(Drop)]
 pub enum Item {
     Buffer(Buffer),
     Event(Event),
+}
+
+impl Item {
+    /// The same item once more.
+    pub fn copy(&self, alloc: Global) -> Result<Item, OutOfMemory>
+        ensures { IfOk result (λ made. made ≡ self.now) }
+    {
+        match self {
+            Item::Buffer(buffer) => Ok(Item::Buffer(buffer.copy(alloc)?)),
+            Item::Event(event) => Ok(Item::Event(event.copy(alloc)?)),
+        }
+    }
 }

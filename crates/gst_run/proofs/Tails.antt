@@ -130,7 +130,7 @@ size_refused words first second source p q lacks line form =
     lacks form.size_words (form.middle_words ++ sink_words line.sink) line.blocksize form.size (tail_bang (form.middle_words ++ sink_words line.sink) line.middle line.sink tail) same.1
 
 pub tail_lacks : (words rest : List (List ℕ)) (source : List ℕ) (n : ℕ) → ReadsSource words source n rest → LacksTail rest → (line : Line) → ¬ IsForm words line
-tail_lacks words rest source n reads lacks line form = lacks line.middle line.sink form.sink form.few (reads.only line form).1
+tail_lacks words rest source n reads lacks line form = lacks line.middle line.sink form.sink line.few (reads.only line form).1
 
 pub same_file : (words rest : List (List ℕ)) (source : List ℕ) (n : ℕ) (middle : List Middle) (sink : List ℕ) → ReadsSource words source n rest → ReadsTail rest middle sink → source ≡ sink → (line : Line) → ¬ IsForm words line
 same_file words rest source n middle sink reads tail e line form =

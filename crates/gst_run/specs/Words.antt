@@ -46,7 +46,6 @@ pub record IsForm (words : List (List ℕ)) (line : Line) : Type 0 where
   pub source : IsLocation line.source
   pub sink : IsLocation line.sink
   pub apart : line.source ≢ line.sink
-  pub few : length line.middle ≤ 64
   pub size_words : List (List ℕ)
   pub size : SpellsBlocksize size_words line.blocksize
   pub middle_words : List (List ℕ)

@@ -222,8 +222,8 @@ fn read_source(words: &[String]) -> Option<Front<'_>>
     })
 }
 
-/// The line that the words are, where they are of the form that is read: `filesrc location=A [blocksize=N]`, at most
-/// 64 times `! identity` or `! queue [max-size-buffers=N]`, and `! filesink location=B`, where A is not B.
+/// The line that the words are, where they are of the form that is read: `filesrc location=A [blocksize=N]`, up to
+/// 64 of `! identity` and `! queue [max-size-buffers=N]`, and `! filesink location=B`, where A is not B.
 pub fn read_line(alloc: Global, words: &[String]) -> Result<Option<Line>, OutOfMemory>
     ensures { IfOk result (λ read. MatchOption read ((line : FormLine) → ¬ IsForm (map string_bytes words.now) line) (IsForm (map string_bytes words.now))) }
 {
@@ -317,30 +317,14 @@ mod tests {
             ("location=a|blocksize=", "!|identity|", "b", "none"),
             ("location=a|blocksize=1x", "!|identity|", "b", "none"),
             ("location=a", "", "b", "a 4096 b"),
-            (
-                "location=a",
-                "!|identity|!|identity|",
-                "b",
-                "a 4096 identity identity b",
-            ),
-            (
-                "location=a",
-                "!|queue|!|identity|",
-                "b",
-                "a 4096 queue 200 identity b",
-            ),
-            (
-                "location=a",
-                "!|queue|max-size-buffers=0|",
-                "b",
-                "a 4096 queue 16384 b",
-            ),
-            (
-                "location=a",
-                "!|queue|max-size-buffers=x|",
-                "b",
-                "none",
-            ),
+            ("location=a", "!|identity|!|identity|", "b", "a 4096 identity identity b"),
+            ("location=a", "!|queue|!|identity|", "b", "a 4096 queue 200 identity b"),
+            ("location=a", "!|queue|max-size-buffers=1|", "b", "a 4096 queue 1 b"),
+            ("location=a", "!|queue|max-size-buffers=0|", "b", "a 4096 queue 16384 b"),
+            ("location=a", "!|queue|max-size-buffers=16385|", "b", "a 4096 queue 16384 b"),
+            ("location=a", "!|queue|max-size-buffers=|", "b", "none"),
+            ("location=a", "!|queue|max-size-buffers=1|max-size-buffers=1|", "b", "none"),
+            ("location=a", "!|identity|max-size-buffers=1|", "b", "none"),
             ("location=a", "!|identity|", "a", "none"),
             ("location=", "!|identity|", "b", "none"),
             ("location=\"a", "!|identity|", "b", "none"),

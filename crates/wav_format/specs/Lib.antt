@@ -3,6 +3,7 @@ pub mod Chunks
 pub mod Cuts
 pub mod Faults
 pub mod Format
+pub mod Gathered
 pub mod Given
 pub mod Reader
 pub mod Written

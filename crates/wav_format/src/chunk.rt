@@ -31,14 +31,14 @@ pub enum Reading {
 }
 
 /// Whether the bytes begin with the word.
-pub fn begins(bytes: &[u8], word: &[u8]) -> bool
+pub(crate) fn begins(bytes: &[u8], word: &[u8]) -> bool
     ensures { result ≡ begins word.now bytes.now }
 {
     &bytes[..word.len().min(bytes.len())] == word
 }
 
 /// Whether the word begins with the bytes, of which those behind its length do not count.
-pub fn fronts(bytes: &[u8], word: &[u8]) -> bool
+pub(crate) fn fronts(bytes: &[u8], word: &[u8]) -> bool
     ensures { result ≡ fronts word.now bytes.now }
 {
     &bytes[..word.len().min(bytes.len())] == &word[..bytes.len().min(word.len())]
@@ -200,7 +200,7 @@ fn chunk_fault(left: &[u8], at: u64) -> Option<HeadAnswer>
 }
 
 /// Reads the chunk at the front of the bytes, which stand at that place in the file.
-pub fn read_chunk(left: &[u8], at: u64, known: Option<SampleFormat>) -> Reading
+pub(crate) fn read_chunk(left: &[u8], at: u64, known: Option<SampleFormat>) -> Reading
     requires { at + 8 ≤ 16777216 }
     ensures { ReadsAt (record { at = at; known = known; left = left.now }) result }
 {

@@ -26,14 +26,14 @@ fn number_at(bytes: &[u8], place: usize) -> u16
 }
 
 /// Whether a body is of the extensible form.
-pub fn is_extensible(body: &[u8]) -> bool
+pub(crate) fn is_extensible(body: &[u8]) -> bool
     ensures { result ≡ (little_from 0 2 body.now == extensible) }
 {
     body.len() >= 2 && number_at(body, 0) == EXTENSIBLE
 }
 
 /// The format that a body says.
-pub fn read_format(body: &[u8]) -> SampleFormat
+pub(crate) fn read_format(body: &[u8]) -> SampleFormat
     requires long { 16 ≤ length body.now }
     requires extended { little_from 0 2 body.now ≡ extensible → 40 ≤ length body.now }
     ensures { result ≡ format_of body.now }
@@ -176,7 +176,7 @@ fn format_agrees(given: &[u8], size: usize) -> bool
 }
 
 /// Whether some body of that size that begins with these bytes has numbers that fit.
-pub fn may_fit(given: &[u8], size: usize) -> bool
+pub(crate) fn may_fit(given: &[u8], size: usize) -> bool
     requires { length given.now ≤ size }
     ensures { IsTrue result ↔ MayFit given.now size }
 {
@@ -184,7 +184,7 @@ pub fn may_fit(given: &[u8], size: usize) -> bool
 }
 
 /// Whether some body of that size that begins with these bytes says a format.
-pub fn may_be_format(given: &[u8], size: usize) -> bool
+pub(crate) fn may_be_format(given: &[u8], size: usize) -> bool
     requires { length given.now ≤ size }
     ensures { IsTrue result ↔ MayBeFormat given.now size }
 {

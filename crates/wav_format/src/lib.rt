@@ -6,6 +6,7 @@ mod chunk;
 mod format;
 pub mod head;
 mod laws;
+mod reader;
 mod reading;
 #[cfg(test)]
 mod tests;
@@ -13,5 +14,6 @@ mod writing;
 
 pub use head::{Head, HeadAnswer, WavKind};
 pub use laws::head_stays;
-pub use reading::{HeadReader, read_head};
+pub use reader::HeadReader;
+pub use reading::read_head;
 pub use writing::write_head;

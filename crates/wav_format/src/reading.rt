@@ -61,63 +61,51 @@ fn opening(bytes: &[u8]) -> Option<HeadAnswer>
     None
 }
 
-/// Reads a head from bytes that come piece by piece.
-#[derive(Clone, Copy, Debug, PartialEq, Eq)]
-pub struct HeadReader {
+/// Where a reader of a head stands.
+#[derive(Clone, Copy)]
+pub(crate) struct Standing {
     // Bytes from the start of the file to the chunk that is read next, or 0 where nothing is read.
     place: usize,
     known: Option<SampleFormat>,
 }
 
-impl HeadReader {
-    /// A reader that has read nothing.
-    pub fn new() -> HeadReader
-        ensures { (bytes : List ℕ) → StandsIn result bytes }
-    {
-        HeadReader {
-            place: 0,
-            known: None,
-        }
-    }
-
-    /// What the first bytes of a WAV file say of its head, as `read_head` says it. The bytes are those of the
-    /// calls before and maybe more. Reading goes on at the chunk where it ended, so that no chunk that was
-    /// passed is read again, and of the chunk that it ended in only the head and the first 26 bytes.
-    pub fn read(&mut self, bytes: &[u8]) -> HeadAnswer
-        requires { StandsIn self.old bytes.now }
-        ensures answer { AnswerIn bytes.now result }
-        ensures stands { (more : List ℕ) → StandsIn self.new (bytes.now ++ more) }
-    {
-        if self.place == 0 {
-            if let Some(answer) = opening(bytes) {
-                return answer;
-            }
-            return self.read_from(bytes, FIRST_CHUNK);
-        }
-        self.read_from(bytes, *self)
-    }
-
-    fn read_from(&mut self, bytes: &[u8], from: HeadReader) -> HeadAnswer
-        requires { HasPassed from bytes.now }
-        ensures answer { AnswerIn bytes.now result }
-        ensures passed { HasPassed self.new bytes.now }
-    {
-        let (answer, reader) = read_chunks(bytes, from);
-        *self = reader;
-        answer
-    }
-}
+/// Where nothing is read.
+pub(crate) const START: Standing = Standing {
+    place: 0,
+    known: None,
+};
 
 /// Where the first chunk stands.
-const FIRST_CHUNK: HeadReader = HeadReader {
+const FIRST_CHUNK: Standing = Standing {
     place: 12,
     known: None,
 };
 
-fn read_chunks(bytes: &[u8], from: HeadReader) -> (HeadAnswer, HeadReader)
-    requires { HasPassed from bytes.now }
-    ensures answer { AnswerIn bytes.now result.0 }
-    ensures passed { HasPassed result.1 bytes.now }
+/// Reads on from where a reader stands.
+pub(crate) fn read_on(bytes: &[u8], from: Standing) -> (HeadAnswer, Standing)
+    requires within { from.place ≤ length bytes.now }
+    requires room { from.place + 8 ≤ 16777216 }
+    ensures answer { StandsIn from bytes.now → AnswerIn bytes.now result.0 }
+    ensures stands { StandsIn from bytes.now → StandsIn result.1 bytes.now }
+    ensures within { result.1.place ≤ length bytes.now }
+    ensures room { result.1.place + 8 ≤ 16777216 }
+{
+    if from.place > 0 {
+        return read_chunks(bytes, from);
+    }
+    match opening(bytes) {
+        Some(answer) => (answer, START),
+        None => read_chunks(bytes, FIRST_CHUNK),
+    }
+}
+
+fn read_chunks(bytes: &[u8], from: Standing) -> (HeadAnswer, Standing)
+    requires within { from.place ≤ length bytes.now }
+    requires room { from.place + 8 ≤ 16777216 }
+    ensures answer { HasPassed from bytes.now → AnswerIn bytes.now result.0 }
+    ensures passed { HasPassed from bytes.now → HasPassed result.1 bytes.now }
+    ensures within { result.1.place ≤ length bytes.now }
+    ensures room { result.1.place + 8 ≤ 16777216 }
 {
     let mut place = from.place;
     let mut known = from.known;
@@ -127,7 +115,7 @@ fn read_chunks(bytes: &[u8], from: HeadReader) -> (HeadAnswer, HeadReader)
                 place += length as usize;
                 known = format;
             }
-            Reading::Ended(answer) => return (answer, HeadReader { place, known }),
+            Reading::Ended(answer) => return (answer, Standing { place, known }),
         }
     }
 }
@@ -156,5 +144,5 @@ pub fn read_head(bytes: &[u8]) -> HeadAnswer
     // No further bytes make a head of bytes at fault.
     ensures never { (place : ℕ) (kind : WavKind) → result ≡ HeadAnswer.Bad place kind → (more : List ℕ) (head : Head) (rest : List ℕ) → AreBytes more → ¬ HeadThen longest_head (bytes.now ++ more) head rest }
 {
-    HeadReader::new().read(bytes)
+    read_on(bytes, START).0
 }

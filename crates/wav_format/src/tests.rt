@@ -138,8 +138,13 @@ fn reads_past_chunks(rt: HostRuntime) -> Result<(), Fail> {
         size: Some(9),
     };
     assert_eq!(rt; read_head(&bytes), HeadAnswer::Whole(head));
-    let mut reader = HeadReader::new();
-    assert_eq!(rt; reader.read(bytes.as_slice()), HeadAnswer::Whole(head));
+    let mut reader = HeadReader::new(rt.alloc());
+    let mut last = HeadAnswer::NeedMore(0);
+    for byte in bytes.as_slice() {
+        last = reader.read(&[*byte])?;
+    }
+    assert_eq!(rt; last, HeadAnswer::Whole(head));
+    assert_eq!(rt; reader.bytes(), bytes.as_slice());
     for (len, want) in [
         (12, 16),
         (20, 28),

@@ -1,5 +1,5 @@
 -- No line fits where the tail is refused, or where the two locations are one.
-use Rattle.std.proofs.Common.{sym, ◌∙◌, rules}
+use Rattle.std.proofs.Common.{sym}
 use Rattle.std.proofs.lemmas.Slice.Eq.{bytes_eq-Decides}
 use Rattle.gst_run.proofs.Tails.{tail_lacks, same_file}
 use Rattle.gst_run.proofs.words.read_line.Goals as goal

@@ -14,10 +14,15 @@ chunks-preserved c =
     let whole = reads.0.whole in
     let room = reads.0.room in
     let is = reads.1 in
+    let within = c.chunks.invariant.within in
     record {
-      within = omega (arith, whole, is, length-drop place bytes);
+      within = omega (arith, whole, is, length-drop place bytes, within);
       room = omega (arith, room, is);
-      reached = reaches_next longest_head bytes place c.chunks.known c.in-Passed.length c.in-Passed.format c.chunks.invariant.reached reads.0 reads.1 reads.2;
+      passed = λ begun. record {
+        within = omega (arith, whole, is, length-drop place bytes, within);
+        room = omega (arith, room, is);
+        reached = reaches_next longest_head bytes place c.chunks.known c.in-Passed.length c.in-Passed.format (c.chunks.invariant.passed begun).reached reads.0 reads.1 reads.2;
+      };
     }
 
 pub returns-in-Ended : goal.returns-in-Ended
@@ -25,7 +30,9 @@ returns-in-Ended c =
     let bytes = c.args.bytes.now in
     let place = c.chunks.place in
     record {
-      answer = answered bytes (record { at = place; known = c.chunks.known; left = drop place bytes }) c.in-Ended.answer c.chunks.invariant.reached
+      answer = λ begun. answered bytes (record { at = place; known = c.chunks.known; left = drop place bytes }) c.in-Ended.answer (c.chunks.invariant.passed begun).reached
           (subst (λ (xs : List ℕ). AnswerAt (record { at = place; known = c.chunks.known; left = xs }) c.in-Ended.answer) (take_rest bytes place) c.in-Ended.ensures);
-      passed = c.chunks.invariant;
+      passed = c.chunks.invariant.passed;
+      within = c.chunks.invariant.within;
+      room = c.chunks.invariant.room;
     }

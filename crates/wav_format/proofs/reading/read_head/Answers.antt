@@ -1,4 +1,4 @@
-use Rattle.std.proofs.Common.{subst, arith}
+use Rattle.std.proofs.Common.{refl, inl, subst, arith}
 use Rattle.wav_format.specs.declared.head.HeadAnswer.TheVariants.{Whole, NeedMore, Bad}
 use Rattle.wav_format.specs.Answers.{AnswerIn}
 use Rattle.wav_format.specs.Format.{AreBytes}
@@ -12,13 +12,14 @@ pub returns : goal.returns
 returns c =
     let bytes = c.args.bytes.now in
     let fine : AreBytes bytes = λ i. let f = c.type_inv.bytes i in omega arith in
-    let one = one_answer bytes fine c.read.result in
+    let answered : AnswerIn bytes c.read_on.result.0 = c.read_on.ensures.answer (inl refl) in
+    let one = one_answer bytes fine c.read_on.result.0 in
     record {
-      whole = λ h. (λ e. subst (AnswerIn bytes) e c.read.ensures.answer, λ begins. one (Whole h) c.read.ensures.answer begins);
-      bad = λ place kind. (λ e. subst (AnswerIn bytes) e c.read.ensures.answer, λ fault. one (Bad place kind) c.read.ensures.answer fault);
-      need_more = λ n. (λ e. subst (AnswerIn bytes) e c.read.ensures.answer, λ cut. one (NeedMore n) c.read.ensures.answer cut);
-      least = λ n e. cut_least bytes n fine (subst (AnswerIn bytes) e c.read.ensures.answer);
-      goes_on = λ n e. cut_fronts bytes n fine (subst (AnswerIn bytes) e c.read.ensures.answer);
-      front = λ more head some all. front_goes bytes more c.read.result head fine c.read.ensures.answer some all;
-      never = λ place kind e more head rest fresh. fault_stays bytes more head rest place kind fine fresh (subst (AnswerIn bytes) e c.read.ensures.answer);
+      whole = λ h. (λ e. subst (AnswerIn bytes) e answered, λ begins. one (Whole h) answered begins);
+      bad = λ place kind. (λ e. subst (AnswerIn bytes) e answered, λ fault. one (Bad place kind) answered fault);
+      need_more = λ n. (λ e. subst (AnswerIn bytes) e answered, λ cut. one (NeedMore n) answered cut);
+      least = λ n e. cut_least bytes n fine (subst (AnswerIn bytes) e answered);
+      goes_on = λ n e. cut_fronts bytes n fine (subst (AnswerIn bytes) e answered);
+      front = λ more head some all. front_goes bytes more c.read_on.result.0 head fine answered some all;
+      never = λ place kind e more head rest fresh. fault_stays bytes more head rest place kind fine fresh (subst (AnswerIn bytes) e answered);
     }

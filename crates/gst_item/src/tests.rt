@@ -1,0 +1,126 @@
+//! Rows of bodies, copies and sticky events.
+ghost use Rattle.std.specs.Prelude.{◌≡◌};
+ghost use Rattle.gst_item.specs.Item.{is_sticky};
+
+use super::*;
+use gst_caps::{Fixed, Text};
+use gst_time::{Format, Segment};
+use std::alloc::Global;
+use std::test::Fail;
+
+fn body_of(alloc: Global, bytes: &[u8]) -> Result<Body, Fail> {
+    Ok(Body::from_vec(alloc, Vec::from_slice(alloc, bytes)?)?)
+}
+
+#[test]
+fn slices_of_a_body(rt: HostRuntime) -> Result<(), Fail> {
+    let alloc = rt.alloc();
+    let rows: [(u32, u32, &'static [u8]); 5] = [
+        (0, 6, b"abcdef"),
+        (1, 4, b"bcd"),
+        (5, 6, b"f"),
+        (6, 6, b""),
+        (0, 0, b""),
+    ];
+    for (from, to, wanted) in rows {
+        let whole = body_of(alloc, b"abcdef")?;
+        let bytes = whole.as_slice();
+        if from <= to && to as usize <= bytes.len() {
+            let part = whole.slice(alloc, from, to)?;
+            assert_eq!(rt; part.as_slice(), wanted);
+        }
+    }
+    Ok(())
+}
+
+/// Writes a letter over the first byte.
+fn mark(alloc: Global, body: &mut Body) -> Result<(), Fail> {
+    let bytes = body.make_mut(alloc)?;
+    if !bytes.is_empty() {
+        bytes[0] = b'X';
+    }
+    Ok(())
+}
+
+#[test]
+fn each_holder_changes_its_own_bytes(rt: HostRuntime) -> Result<(), Fail> {
+    let alloc = rt.alloc();
+    let mut first = body_of(alloc, b"abc")?;
+    let mut second = first.share(alloc)?;
+    let third = second.share(alloc)?;
+    mark(alloc, &mut second)?;
+    assert_eq!(rt; first.as_slice(), b"abc".as_slice());
+    assert_eq!(rt; second.as_slice(), b"Xbc".as_slice());
+    assert_eq!(rt; third.as_slice(), b"abc".as_slice());
+    mark(alloc, &mut first)?;
+    assert_eq!(rt; first.as_slice(), b"Xbc".as_slice());
+    assert_eq!(rt; third.as_slice(), b"abc".as_slice());
+    Ok(())
+}
+
+/// The event that a letter stands for.
+fn event_of(alloc: Global, letter: u8) -> Result<Event, Fail> {
+    match letter {
+        b's' => Ok(Event::StreamStart { id: 1 }),
+        b'c' => Ok(Event::Caps(Fixed::new(alloc, "audio/x-raw")?)),
+        b'g' => Ok(Event::Segment(Segment::new(Format::Time))),
+        b't' => Ok(Event::Tag {
+            title: Text::from_str(alloc, "title")?,
+        }),
+        b'f' => Ok(Event::FlushStop { number: 1 }),
+        _ => Ok(Event::Eos),
+    }
+}
+
+fn letter_of(event: &Event) -> u8 {
+    match event {
+        Event::StreamStart { .. } => b's',
+        Event::Caps(_) => b'c',
+        Event::Segment(_) => b'g',
+        Event::Tag { .. } => b't',
+        Event::Gap { .. } => b'p',
+        Event::FlushStop { .. } => b'f',
+        Event::Eos => b'e',
+    }
+}
+
+fn is_kept(event: &Event) -> bool
+    ensures { result ≡ is_sticky event.now }
+{
+    !matches!(event, Event::Gap { .. } | Event::FlushStop { .. })
+}
+
+fn letters_in_force(alloc: Global, letters: &[u8]) -> Result<Vec<u8>, Fail> {
+    let mut sticky = Sticky::new();
+    for letter in letters {
+        let event = event_of(alloc, *letter)?.copy(alloc)?;
+        if is_kept(&event) {
+            sticky.set(event);
+        } else {
+            sticky.clear_flush();
+        }
+    }
+    let mut found = Vec::new(alloc);
+    for event in sticky.list(alloc)?.as_slice() {
+        found.push(letter_of(event))?;
+    }
+    Ok(found)
+}
+
+#[test]
+fn sticky_events_in_their_order(rt: HostRuntime) -> Result<(), Fail> {
+    let alloc = rt.alloc();
+    let rows: [(&'static [u8], &'static [u8]); 6] = [
+        (b"", b""),
+        (b"etgcs", b"scgte"),
+        (b"gc", b"cg"),
+        (b"scgtef", b"sct"),
+        (b"scgefg", b"scg"),
+        (b"ccgg", b"cg"),
+    ];
+    for (letters, wanted) in rows {
+        let found = letters_in_force(alloc, letters)?;
+        assert_eq!(rt; found.as_slice(), wanted);
+    }
+    Ok(())
+}
