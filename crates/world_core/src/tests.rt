@@ -96,7 +96,7 @@ fn check_counts(rt: &impl Abort, pads: &[PadCount], counts: &[(u64, u64)]) {
 #[test]
 fn turns_change_nothing(rt: HostRuntime) -> Result<(), Fail> {
     let alloc = rt.alloc();
-    for turns in [&[][..], &[0, 0, 0, 0], &[1, 1, 0]] {
+    for turns in [&[][..], &[0, 0, 0, 0], &[1, 1, 0], &[4_294_967_295, 7]] {
         check(&rt, alloc, &PLAIN, turns)?;
     }
     Ok(())
