@@ -1,6 +1,6 @@
 -- The rule of the elements that code and decode by the laws of ITU-T G.711. Each item that counts is recoded by
 -- itself: a body sample by sample, CAPS to those of the other format, and all else passes.
-use Rattle.std.specs.Prelude.{ℕ, ◌+◌, ◌*◌, ◌/◌, ◌%◌, ◌^◌, ◌==◌, nat_lt, List, [], ◌∷◌, length, Option, None, Some, Result, Ok, Err, if◌then◌else◌}
+use Rattle.std.specs.Prelude.{ℕ, ◌+◌, ◌*◌, ◌/◌, ◌%◌, ◌^◌, ◌==◌, false, nat_lt, List, [], ◌∷◌, length, Option, None, Some, Result, Ok, Err, if◌then◌else◌}
 use Rattle.std.specs.List.{flat_map, sum_by}
 use Rattle.std.specs.Option.{option_map, unwrap_or}
 use Rattle.std.specs.Simd.{first_chunks}
@@ -74,7 +74,7 @@ bytes_got h = sum_by (λ x. length (body_of x)) (since_flush_stop h)
 abbrev pub buffer_answer : LawKind → ℕ → ℕ → Buffer → Result (List Item) Fault
 buffer_answer kind frame got b =
     if length b.body % frame == 0 then
-        (if nat_lt (got + length b.body) (2 ^ 63) then Ok (Buf (recoded_buffer kind b) ∷ []) else Err (TooLong got (length b.body)))
+    (if nat_lt (got + length b.body) (2 ^ 63) then Ok (Buf (recoded_buffer kind b) ∷ []) else Err (TooLong got (length b.body)))
     else Err (BadStream (got + length b.body) SplitFrame)
 
 -- What is owed for an item, by the bytes of a frame of the caps in force and the bytes that came since the last

@@ -132,7 +132,8 @@ impl Law {
     ) -> Result<(), ElementFault>
         ensures owed { OnOk result (law_answer self.old.kind self.old.frame self.old.got (Buf buffer) ≡ Ok (Buf (buffer_of self.old.kind buffer) ∷ [])) }
         ensures out { OnOk result (out.new ≡ out.old ++ on_pad 0 (Buf (buffer_of self.old.kind buffer) ∷ [])) }
-        ensures same { OnOk result (self.new ≡ record self.old { got = self.old.got + length buffer.body }) }
+        ensures same { OnOk result ((self.new.kind ≡ self.old.kind) × (self.new.frame ≡ self.old.frame) × (self.new.ended ≡ self.old.ended)) }
+        ensures got { OnOk result (self.new.got ≡ self.old.got + length buffer.body) }
         ensures stays { OnErr result ((self.new ≡ self.old) × (out.new ≡ out.old)) }
         ensures fault { IfErr result (λ fault. IsFaultOf (law_answer self.old.kind self.old.frame self.old.got (Buf buffer)) fault) }
     {
@@ -165,7 +166,8 @@ impl Law {
     fn take_caps(&mut self, alloc: Global, caps: Fixed, out: &mut Outs) -> Result<(), ElementFault>
         ensures owed { OnOk result (law_answer self.old.kind self.old.frame self.old.got (Ev (NewCaps caps)) ≡ Ok (Ev (NewCaps (recoded_caps self.old.kind caps)) ∷ [])) }
         ensures out { OnOk result (out.new ≡ out.old ++ on_pad 0 (Ev (NewCaps (recoded_caps self.old.kind caps)) ∷ [])) }
-        ensures same { OnOk result (self.new ≡ record self.old { frame = Some (frame_width self.old.kind caps) }) }
+        ensures same { OnOk result ((self.new.kind ≡ self.old.kind) × (self.new.got ≡ self.old.got) × (self.new.ended ≡ self.old.ended)) }
+        ensures frame { OnOk result (self.new.frame ≡ Some (frame_width self.old.kind caps)) }
         ensures stays { OnErr result ((self.new ≡ self.old) × (out.new ≡ out.old)) }
         ensures fault { IfErr result (λ fault. IsFaultOf (law_answer self.old.kind self.old.frame self.old.got (Ev (NewCaps caps))) fault) }
     {

@@ -70,11 +70,7 @@ fn decoded(alloc: Global, law: Companding, codes: &[u8]) -> Result<Vec<u8>, OutO
     let mut samples = Vec::with_capacity(alloc, 2 * codes.len())?;
     for code in codes {
         let mut sample = [0; 2];
-        put(
-            Sample::S16LE,
-            i32::from(law.decode(*code)),
-            &mut sample,
-        );
+        put(Sample::S16LE, i32::from(law.decode(*code)), &mut sample);
         samples.extend_from_slice(&sample)?;
     }
     Ok(samples)

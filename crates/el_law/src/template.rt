@@ -63,7 +63,12 @@ fn up_to(most: u32) -> Value
 }
 
 /// Sets the field of this name, where its value makes a structure of no more than 64 fields.
-fn set(structure: &mut Structure, alloc: Global, name: &str, value: Value) -> Result<(), OutOfMemory>
+fn set(
+    structure: &mut Structure,
+    alloc: Global,
+    name: &str,
+    value: Value,
+) -> Result<(), OutOfMemory>
     requires value { IsValue value }
     requires few { length (put name.now value structure.old.fields) ≤ 64 }
     ensures { OnOk result (structure.new ≡ record structure.old { fields = put name.now value structure.old.fields }) }

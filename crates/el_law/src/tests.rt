@@ -231,7 +231,9 @@ fn put_for(alloc: Global, kind: LawKind, bytes: &[u8]) -> Result<Item, Fail> {
     };
     let caps = Item::Event(Event::Caps(caps.to_fixed(alloc)?));
     let _ = law.feed(alloc, 0, caps, &mut out).is_ok();
-    let _ = law.feed(alloc, 0, buffer_of(alloc, bytes)?, &mut out).is_ok();
+    let _ = law
+        .feed(alloc, 0, buffer_of(alloc, bytes)?, &mut out)
+        .is_ok();
     match out.into_vec().pop() {
         Some(one) => Ok(one.item),
         None => Ok(Item::Event(Event::Eos)),
@@ -252,11 +254,7 @@ fn bodies(rt: HostRuntime) -> Result<(), Fail> {
             &[0x00, 0x00, 0xFF, 0xFF, 0xFF, 0x7F, 0x00, 0x80],
             &[0xD5, 0x55, 0xAA, 0x2A],
         ),
-        (
-            LawKind::MulawDec,
-            &[0x00, 0xFF],
-            &[0x84, 0x82, 0x00, 0x00],
-        ),
+        (LawKind::MulawDec, &[0x00, 0xFF], &[0x84, 0x82, 0x00, 0x00]),
         (LawKind::AlawDec, &[0xD5], &[0x08, 0x00]),
     ];
     for (kind, bytes, wanted) in rows {
