@@ -1,5 +1,5 @@
 //! Rows of calls. A letter stands for a call, and for what it answers and puts out.
-ghost use Rattle.std.specs.Prelude.{◌≡◌, ◌≤◌, false};
+ghost use Rattle.std.specs.Prelude.{◌≡◌, ◌≤◌, false, IfOk};
 ghost use Rattle.flow_model.specs.Item.{is_flush_stop};
 
 use super::*;
@@ -73,7 +73,9 @@ fn item_by(alloc: Global, letter: u8) -> Result<Item, Fail> {
     }
 }
 
-fn buffer_of(alloc: Global, bytes: &[u8]) -> Result<Item, Fail> {
+fn buffer_of(alloc: Global, bytes: &[u8]) -> Result<Item, Fail>
+    ensures { IfOk result (λ item. is_flush_stop item ≡ false) }
+{
     Ok(Item::Buffer(Buffer {
         body: Body::from_vec(alloc, Vec::from_slice(alloc, bytes)?)?,
         pts: Some(1),
