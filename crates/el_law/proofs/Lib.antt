@@ -1,0 +1,4 @@
+pub mod Accepted
+pub mod Decoding
+pub mod Pieces
+pub mod Recoding

@@ -1,0 +1,5 @@
+use Rattle.el_law.proofs.Recoding.{recoded_drain}
+use Rattle.el_law.proofs.law.Law.drain.Goals as goal
+
+pub returns-clause-drained : goal.returns-clause-drained
+returns-clause-drained c = recoded_drain c.args.self.now

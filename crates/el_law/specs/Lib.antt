@@ -1,0 +1,4 @@
+pub mod Companding
+pub mod Laws
+pub mod Recoded
+pub mod Templates

@@ -1,0 +1,14 @@
+//! Elements that code and decode audio by the two laws of G.711.
+#![tactic(auto)]
+
+pub mod kind;
+pub mod law;
+mod put_out;
+mod recode;
+mod template;
+
+pub use kind::LawKind;
+pub use law::Law;
+
+#[cfg(test)]
+mod tests;

@@ -1,0 +1,77 @@
+//! Bodies from one format of samples to another.
+ghost use Rattle.std.specs.Prelude.{◌≡◌, ◌∷◌, [], IfOk};
+ghost use Rattle.audio_info.specs.Packing.{sample_bytes, sample_value};
+ghost use Rattle.audio_info.specs.declared.sample.Sample.TheVariants.{S16LE as Linear};
+ghost use Rattle.el_law.specs.Companding.{format_of};
+ghost use Rattle.el_law.specs.Laws.{format_in, format_out, recoded_bytes};
+
+use crate::kind::LawKind;
+use audio_info::{Sample, alaw_dec, alaw_enc, get, mulaw_dec, mulaw_enc, put};
+use gst_caps::OutOfMemory;
+use std::alloc::Global;
+
+/// A law of G.711.
+#[derive(Clone, Copy)]
+enum Companding {
+    MuLaw,
+    ALaw,
+}
+
+impl Companding {
+    /// The code of a sample.
+    fn encode(self, sample: i16) -> u8
+        ensures { sample_bytes (format_of self) sample ≡ result ∷ [] }
+    {
+        match self {
+            Companding::MuLaw => mulaw_enc(sample),
+            Companding::ALaw => alaw_enc(sample),
+        }
+    }
+
+    /// The sample of a code.
+    fn decode(self, code: u8) -> i16
+        ensures { result ≡ sample_value (format_of self) (code ∷ []) }
+    {
+        match self {
+            Companding::MuLaw => mulaw_dec(code),
+            Companding::ALaw => alaw_dec(code),
+        }
+    }
+}
+
+/// The bytes that an element puts out for those of a body.
+pub(crate) fn recoded(alloc: Global, kind: LawKind, bytes: &[u8]) -> Result<Vec<u8>, OutOfMemory>
+    ensures { IfOk result (λ made. made.items ≡ recoded_bytes (format_in kind) (format_out kind) bytes.now) }
+{
+    match kind {
+        LawKind::MulawEnc => encoded(alloc, Companding::MuLaw, bytes),
+        LawKind::AlawEnc => encoded(alloc, Companding::ALaw, bytes),
+        LawKind::MulawDec => decoded(alloc, Companding::MuLaw, bytes),
+        LawKind::AlawDec => decoded(alloc, Companding::ALaw, bytes),
+    }
+}
+
+/// The codes of samples of 16 bits, the lower byte of each first. A single byte at the end is left out.
+fn encoded(alloc: Global, law: Companding, bytes: &[u8]) -> Result<Vec<u8>, OutOfMemory>
+    ensures { IfOk result (λ made. made.items ≡ recoded_bytes Linear (format_of law) bytes.now) }
+{
+    let (samples, _) = bytes.as_chunks::<2>();
+    let mut codes = Vec::with_capacity(alloc, samples.len())?;
+    for sample in samples {
+        codes.push(law.encode(get(Sample::S16LE, sample) as i16))?;
+    }
+    Ok(codes)
+}
+
+/// The samples of codes, in 16 bits with the lower byte first.
+fn decoded(alloc: Global, law: Companding, codes: &[u8]) -> Result<Vec<u8>, OutOfMemory>
+    ensures { IfOk result (λ made. made.items ≡ recoded_bytes (format_of law) Linear codes.now) }
+{
+    let mut samples = Vec::with_capacity(alloc, 2 * codes.len())?;
+    for code in codes {
+        let mut sample = [0; 2];
+        put(Sample::S16LE, i32::from(law.decode(*code)), &mut sample);
+        samples.extend_from_slice(&sample)?;
+    }
+    Ok(samples)
+}
