@@ -1,10 +1,11 @@
 -- For which lists a task stands, and what its steps do to them.
-use Rattle.std.specs.Prelude.{◌≡◌, ◌≢◌, ◌≤◌, ◌<◌, ◌⊎◌, ℕ, ◌+◌, ◌-◌, ◌*◌, false, true, List, [], ◌∷◌, ◌++◌, Option, Some, None, Bool, Result, Ok, length, map, sum_by, slice_get, vec_len}
+use Rattle.std.specs.Prelude.{◌≡◌, ◌≢◌, ◌≤◌, ◌<◌, ◌⊎◌, ℕ, ◌+◌, ◌-◌, ◌*◌, false, true, List, [], ◌∷◌, ◌++◌, Option, Some, None, Bool, Result, Ok, length, map, option_map, sum_by, slice_get, vec_len}
 use Rattle.std.specs.Option.{ForSome}
 use Rattle.flow_model.specs.Item.{Item}
 use Rattle.gst_outside.specs.Causes.{Rose}
 use Rattle.lane_core.specs.Lane.{Lane, IsIn, IsOf, IsBetween}
 use Rattle.lane_core.specs.Room.{Limits}
+use Rattle.lane_core.specs.Moves.{raised}
 use Rattle.el_src.specs.Gave.{has_eos}
 use Rattle.task_core.specs.declared.fault.TaskFault.{TaskFault}
 use Rattle.task_core.specs.declared.fault.TaskFault.TheVariants.{ReadFault, WriteFault, TooLong, OutOfMemory}
@@ -186,6 +187,12 @@ moves_of task = task.given + sum_by (λ pad. pad.items) task.pads.items
 abbrev pub IsOneMove : Result Step TaskFault → ℕ → ℕ → Type 0
 IsOneMove (Ok Moved) before after = after ≡ before + 1
 IsOneMove _ before after = after ≡ before
+
+-- a step that needs an item was refused one take, one that needs room was refused one put, and any other none
+abbrev pub IsOneTry : Result Step TaskFault → Option ℕ → Option ℕ → Option ℕ → Option ℕ → Type 0
+IsOneTry (Ok (NeedsItem n)) takes takes' puts puts' = (takes' ≡ option_map raised takes) × (puts' ≡ puts)
+IsOneTry (Ok (NeedsRoom n)) takes takes' puts puts' = (takes' ≡ takes) × (puts' ≡ option_map raised puts)
+IsOneTry _ takes takes' puts puts' = (takes' ≡ takes) × (puts' ≡ puts)
 
 -- a move uses up what a task may still move
 abbrev pub Burns : Step → ℕ → ℕ → Type 0
