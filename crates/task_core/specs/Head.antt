@@ -1,14 +1,15 @@
 -- What the head of a task has given.
-use Rattle.std.specs.Prelude.{◌≡◌, ◌⊎◌, ℕ, ◌+◌, List, [], ◌∷◌, ◌++◌, Option, Some, None, Result, Ok, Err, true}
+use Rattle.std.specs.Prelude.{◌≡◌, ◌⊎◌, ℕ, ◌+◌, List, [], ◌∷◌, ◌++◌, Option, Some, None, Result, Ok, Err, option_map, true}
 use Rattle.flow_model.specs.Item.{Item}
 use Rattle.lane_core.specs.Lane.{Lane, IsIn}
+use Rattle.lane_core.specs.Moves.{raised}
 use Rattle.gst_outside.specs.Causes.{Rose}
 use Rattle.el_src.specs.declared.fault.SrcFault.{SrcFault}
 use Rattle.el_src.specs.declared.fault.SrcFault.TheVariants.{ReadFault, OutOfMemory}
 use Rattle.el_src.specs.Gave.{Gave, items_given, source_of, has_eos}
 use Rattle.task_core.specs.declared.head.Head.{Head}
 use Rattle.task_core.specs.declared.head.Head.TheVariants.{Source, Queue}
-use Rattle.task_core.specs.Inlets.{Fed, LaneGives, IsDrained, place_of, id_of, number_of}
+use Rattle.task_core.specs.Inlets.{Fed, LaneGives, IsDrained, place_of, id_of, number_of, refusals_of}
 
 -- The lists of a head: what a source owes, what control gave to a queue in front, what the queue's lane gave,
 -- and what the head gave in all.
@@ -47,6 +48,16 @@ head_number (Queue inlets) = Some (number_of inlets)
 abbrev pub head_id : {S I : Type 0} → (I → List (List ℕ)) → Head S I → Option (List (List ℕ))
 head_id id (Source source) = None
 head_id id (Queue inlets) = Some (id_of id inlets)
+
+-- how many takes from a queue's lane were refused
+abbrev pub head_refusals : {S I : Type 0} → (I → ℕ) → Head S I → Option ℕ
+head_refusals refusals (Source source) = None
+head_refusals refusals (Queue inlets) = Some (refusals_of refusals inlets)
+
+-- the same behind an answer: a head without a next item was refused one take
+abbrev pub takes_behind : Result (Option Item) SrcFault → Option ℕ → Option ℕ
+takes_behind (Ok None) refusals = option_map raised refusals
+takes_behind _ refusals = refusals
 
 -- the location of a source, where it is told
 abbrev pub head_location : {S I : Type 0} → (S → Option (List ℕ)) → Head S I → Option (List ℕ)

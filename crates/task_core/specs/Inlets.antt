@@ -5,7 +5,7 @@ use Rattle.flow_model.specs.Item.{Item}
 use Rattle.lane_core.specs.declared.ends.Take.TheVariants.{Item as Taken}
 use Rattle.lane_core.specs.Lane.{Lane, IsIn, IsOf, IsBetween}
 use Rattle.lane_core.specs.Room.{Limits}
-use Rattle.lane_core.specs.Moves.{TakesFirst, table_after_take}
+use Rattle.lane_core.specs.Moves.{TakesFirst, raised, table_after_take}
 use Rattle.task_core.specs.declared.inlets.Inlets.{Inlets}
 
 abbrev pub id_of : {I : Type 0} → (I → List (List ℕ)) → Inlets I → List (List ℕ)
@@ -16,6 +16,15 @@ place_of place inlets = place inlets.lane
 
 abbrev pub number_of : {I : Type 0} → Inlets I → ℕ
 number_of inlets = inlets.number
+
+-- how many takes from the lane were refused
+abbrev pub refusals_of : {I : Type 0} → (I → ℕ) → Inlets I → ℕ
+refusals_of refusals inlets = refusals inlets.lane
+
+-- where there is no next item one take was refused, and else none
+abbrev pub HasTried : Option Item → ℕ → ℕ → Type 0
+HasTried None before after = after ≡ raised before
+HasTried (Some x) before after = after ≡ before
 
 -- the queue was fed this list, of what control gave in front and of what the lane gave
 pub record Fed {I : Type 0} (received : I → List Item → Type 0) (inlets : Inlets I) (front got fed : List Item) : Type 0 where

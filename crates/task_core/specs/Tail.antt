@@ -1,11 +1,11 @@
 -- What the tail of a task was given.
-use Rattle.std.specs.Prelude.{◌≡◌, ℕ, ◌+◌, false, List, [], ◌∷◌, ◌++◌, Option, Some, None}
+use Rattle.std.specs.Prelude.{◌≡◌, ℕ, ◌+◌, false, List, [], ◌∷◌, ◌++◌, Option, Some, None, Result, Ok, option_map}
 use Rattle.flow_model.specs.Item.{Item}
 use Rattle.lane_core.specs.declared.ends.Put.TheVariants.{Stored, Full}
 use Rattle.lane_core.specs.Lane.{Lane, IsOf, IsBetween}
 use Rattle.lane_core.specs.Room.{Limits}
 use Rattle.lane_core.specs.Laws.{HoldsFor}
-use Rattle.lane_core.specs.Moves.{table_after_put}
+use Rattle.lane_core.specs.Moves.{raised, table_after_put}
 use Rattle.el_sink.specs.Held.{Held, HeldPart, sink_of, length_of}
 use Rattle.gst_outside.specs.Causes.{Rose}
 use Rattle.el_sink.specs.declared.fault.WriteFault.{WriteFault}
@@ -49,6 +49,16 @@ tail_location location (tails.Lane number outlet) = None
 abbrev pub TailOf : {K O : Type 0} → (O → ℕ) → (O → Limits) → (O → ℕ) → Tail K O → Option (List Lane) → Type 0
 TailOf place limits count (tails.Sink sink) tells = Unit {0}
 TailOf place limits count (tails.Lane number outlet) tells = IsOf tells (place outlet) (limits outlet) (count outlet)
+
+-- how many puts into a lane were refused
+abbrev pub tail_refusals : {K O : Type 0} → (O → ℕ) → Tail K O → Option ℕ
+tail_refusals refusals (tails.Sink sink) = None
+tail_refusals refusals (tails.Lane number outlet) = Some (refusals outlet)
+
+-- the same behind an answer: where an item is back one put was refused
+abbrev pub puts_behind : Result Sending WriteFault → Option ℕ → Option ℕ
+puts_behind (Ok (Back number y)) refusals = option_map raised refusals
+puts_behind _ refusals = refusals
 
 -- the count of failures of a sink
 abbrev pub tail_faults : {K O : Type 0} → (K → ℕ) → Tail K O → Option ℕ

@@ -1,10 +1,11 @@
 -- For which lists a task stands, and what its steps do to them.
-use Rattle.std.specs.Prelude.{◌≡◌, ◌≢◌, ◌≤◌, ◌<◌, ◌⊎◌, ℕ, ◌+◌, ◌-◌, ◌*◌, false, true, List, [], ◌∷◌, ◌++◌, Option, Some, None, Bool, length, map, slice_get, vec_len}
+use Rattle.std.specs.Prelude.{◌≡◌, ◌≢◌, ◌≤◌, ◌<◌, ◌⊎◌, ℕ, ◌+◌, ◌-◌, ◌*◌, false, true, List, [], ◌∷◌, ◌++◌, Option, Some, None, Bool, Result, Ok, length, map, option_map, sum_by, slice_get, vec_len}
 use Rattle.std.specs.Option.{ForSome}
 use Rattle.flow_model.specs.Item.{Item}
 use Rattle.gst_outside.specs.Causes.{Rose}
 use Rattle.lane_core.specs.Lane.{Lane, IsIn, IsOf, IsBetween}
 use Rattle.lane_core.specs.Room.{Limits}
+use Rattle.lane_core.specs.Moves.{raised}
 use Rattle.el_src.specs.Gave.{has_eos}
 use Rattle.task_core.specs.declared.fault.TaskFault.{TaskFault}
 use Rattle.task_core.specs.declared.fault.TaskFault.TheVariants.{ReadFault, WriteFault, TooLong, OutOfMemory}
@@ -89,11 +90,18 @@ IsEmptyLane inlet tells got = (n : ℕ) (sent : List Item) → inlet ≡ Some n 
 abbrev pub IsFullLane : Option ℕ → Option ℕ → Option (List Lane) → List Item → Type 0
 IsFullLane outlet limit tells done = (n most : ℕ) (taken : List Item) → outlet ≡ Some n → limit ≡ Some most → IsBetween tells n done taken → ForSome tells (λ t. length taken + most ≤ length done)
 
--- Why a task that did not move could not: its lane is empty, its lane is full, or all was given and has crossed.
+-- an item waits at the last pad
+pub record WaitsAtLast {S K I O : Type 0} (task : Task S K I O) : Type 0 where
+  pub hand : Pending
+  pub waits : task.pending ≡ Some hand
+  pub last : hand.pad + 1 ≡ vec_len task.pads
+
+-- Why a task that did not move could not: it has no item and its lane is empty, an item waits at its lane and the
+-- lane is full, or all was given and has crossed.
 abbrev pub IsWhy : {S K I O : Type 0} → Task S K I O → Option ℕ → Option ℕ → Option ℕ → Option (List Lane) → List Item → List Item → Step → Type 0
 IsWhy task inlet outlet limit tells got done Moved = Unit {0}
 IsWhy task inlet outlet limit tells got done (NeedsItem n) = (task.pending ≡ None) × (task.over ≡ false) × (head_number task.head ≡ Some n) × IsEmptyLane inlet tells got
-IsWhy task inlet outlet limit tells got done (NeedsRoom n) = (tail_number task.tail ≡ Some n) × IsFullLane outlet limit tells done
+IsWhy task inlet outlet limit tells got done (NeedsRoom n) = (tail_number task.tail ≡ Some n) × IsFullLane outlet limit tells done × WaitsAtLast task
 IsWhy task inlet outlet limit tells got done Ended = (task.pending ≡ None) × (task.over ≡ true)
 
 -- at most one item more was given, and none behind EOS
@@ -170,6 +178,21 @@ pub record Frame {S K I O : Type 0} (source_location content : S → Option (Lis
   pub outlet : tail_place place_out is.tail ≡ tail_place place_out was.tail
   pub outlet_id : tail_id id_out is.tail ≡ tail_id id_out was.tail
   pub limit : tail_limit limits is.tail ≡ tail_limit limits was.tail
+
+-- how many moves a task has made: items that its head gave, and crossings of its pads
+abbrev pub moves_of : {S K I O : Type 0} → Task S K I O → ℕ
+moves_of task = task.given + sum_by (λ pad. pad.items) task.pads.items
+
+-- a step that moves makes one move, and any other answer none
+abbrev pub IsOneMove : Result Step TaskFault → ℕ → ℕ → Type 0
+IsOneMove (Ok Moved) before after = after ≡ before + 1
+IsOneMove _ before after = after ≡ before
+
+-- a step that needs an item was refused one take, one that needs room was refused one put, and any other none
+abbrev pub IsOneTry : Result Step TaskFault → Option ℕ → Option ℕ → Option ℕ → Option ℕ → Type 0
+IsOneTry (Ok (NeedsItem n)) takes takes' puts puts' = (takes' ≡ option_map raised takes) × (puts' ≡ puts)
+IsOneTry (Ok (NeedsRoom n)) takes takes' puts puts' = (takes' ≡ takes) × (puts' ≡ option_map raised puts)
+IsOneTry _ takes takes' puts puts' = (takes' ≡ takes) × (puts' ≡ puts)
 
 -- a move uses up what a task may still move
 abbrev pub Burns : Step → ℕ → ℕ → Type 0

@@ -19,7 +19,7 @@ pub enum Head<S, I> {
 impl<S: Source, I: Inlet> Head<S, I> {
     ghost use Rattle.task_core.specs.Step.{idle_step};
     ghost use Rattle.task_core.specs.Inlets.{KeepsRooms};
-    ghost use Rattle.task_core.specs.Head.{HeadLists, HeadGave, HeadAfter, HeadIn, HeadCause, head_items, items_behind, head_faults, head_number, head_place, head_id, head_location, head_content};
+    ghost use Rattle.task_core.specs.Head.{HeadLists, HeadGave, HeadAfter, HeadIn, HeadCause, head_items, items_behind, head_faults, head_number, head_place, head_refusals, takes_behind, head_id, head_location, head_content};
 
     /// The next item, if there is one now. Where it fails nothing was given.
     pub(crate) fn next(
@@ -35,6 +35,7 @@ impl<S: Source, I: Inlet> Head<S, I> {
         ensures cause { IfErr result (λ fault. HeadCause (head_faults S.faults self.old) (head_faults S.faults self.new) fault) }
         ensures items { head_items self.new ≤ items_behind result (head_items self.old) }
         ensures rooms { KeepsRooms (I.Out.tells lanes.old) (I.Out.tells lanes.new) }
+        ensures tried { head_refusals I.refusals self.new ≡ takes_behind result (head_refusals I.refusals self.old) }
         ensures number { head_number self.new ≡ head_number self.old }
         ensures place { head_place I.place self.new ≡ head_place I.place self.old }
         ensures id { head_id I.id self.new ≡ head_id I.id self.old }

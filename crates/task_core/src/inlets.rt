@@ -19,7 +19,7 @@ pub struct Inlets<I> {
 
 impl<I: Inlet> Inlets<I> {
     ghost use Rattle.lane_core.specs.Lane.{IsIn};
-    ghost use Rattle.task_core.specs.Inlets.{Fed, AfterTake, KeepsRooms, id_of, number_of, place_of};
+    ghost use Rattle.task_core.specs.Inlets.{Fed, AfterTake, HasTried, KeepsRooms, id_of, number_of, place_of, refusals_of};
 
     /// A lane, with nothing given in front.
     pub fn new(alloc: Global, number: u32, lane: I) -> Inlets<I>
@@ -40,6 +40,7 @@ impl<I: Inlet> Inlets<I> {
         requires { IsIn (I.Out.tells lanes.old) (place_of I.place self.old) }
         ensures fed { (front got fed : List Item) → Fed I.received self.old front got fed → AfterTake I.received self.new (place_of I.place self.old) (I.Out.tells lanes.old) (I.Out.tells lanes.new) front got fed result }
         ensures rooms { KeepsRooms (I.Out.tells lanes.old) (I.Out.tells lanes.new) }
+        ensures tried { HasTried result (refusals_of I.refusals self.old) (refusals_of I.refusals self.new) }
         ensures number { number_of self.new ≡ number_of self.old }
         ensures same { (id_of I.id self.new ≡ id_of I.id self.old) × (place_of I.place self.new ≡ place_of I.place self.old) }
     {

@@ -1,7 +1,7 @@
 //! Where the items of a task go.
 ghost use Rattle.std.specs.Prelude.{◌≡◌, ◌≤◌, ◌<◌, ◌+◌, ◌^◌, ℕ, List, IfOk, IfErr, OnErr};
 ghost use Rattle.flow_model.specs.Item.{Item};
-ghost use Rattle.task_core.specs.Tail.{TailHas, TailPart, TailOf, TailMoves, TailCause, AfterSend, NamesLane, tail_faults, tail_number, tail_limit, tail_count, tail_place, tail_id, tail_location};
+ghost use Rattle.task_core.specs.Tail.{TailHas, TailPart, TailOf, TailMoves, TailCause, AfterSend, NamesLane, puts_behind, tail_faults, tail_number, tail_refusals, tail_limit, tail_count, tail_place, tail_id, tail_location};
 
 use el_sink::{FileSink, WriteFault};
 use gst_item::Item;
@@ -49,6 +49,7 @@ impl<K: Sink, O: Outlet> Tail<K, O> {
         ensures moves { IfOk result (λ sending. TailMoves O.sent O.place O.limits O.count self.old item sending self.new (O.tells lanes.old) (O.tells lanes.new)) }
         ensures table { OnErr result (O.tells lanes.new ≡ O.tells lanes.old) }
         ensures cause { IfErr result (λ fault. TailCause (tail_faults K.faults self.old) (tail_faults K.faults self.new) fault) }
+        ensures tried { tail_refusals O.refusals self.new ≡ puts_behind result (tail_refusals O.refusals self.old) }
         ensures number { tail_number self.new ≡ tail_number self.old }
         ensures place { tail_place O.place self.new ≡ tail_place O.place self.old }
         ensures limit { tail_limit O.limits self.new ≡ tail_limit O.limits self.old }

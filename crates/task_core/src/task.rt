@@ -55,12 +55,12 @@ impl<S: Source, K: Sink, I: Inlet<Out = O>, O: Outlet<Lanes = I::Lanes>> Task<S,
     ghost use Rattle.flow_model.specs.Item.{Item};
     ghost use Rattle.task_core.specs.declared.pads.Pad.{Pad};
     ghost use Rattle.flow_model.specs.Chain.{IsPlain};
-    ghost use Rattle.task_core.specs.Head.{HeadLists, HeadGave, head_place};
+    ghost use Rattle.task_core.specs.Head.{HeadLists, HeadGave, head_place, head_refusals};
     ghost use Rattle.task_core.specs.Part.{IsPart};
     ghost use Rattle.task_core.specs.Room.{room_numbers, room_last};
     ghost use Rattle.task_core.specs.Pending.{ahead};
-    ghost use Rattle.task_core.specs.Tail.{TailHas, tail_place, tail_limit, tail_count, tail_len};
-    ghost use Rattle.task_core.specs.Task.{TaskLists, Holds, Stands, IsReady, Goes, KeepsTable, IsWhy, AtFault, IsTaskCause, Frame, Burns, fuel, head_of, tail_of, pads_of, pending_of, numbers_of, last_of, over_of, unmoved};
+    ghost use Rattle.task_core.specs.Tail.{TailHas, tail_place, tail_limit, tail_count, tail_len, tail_refusals};
+    ghost use Rattle.task_core.specs.Task.{TaskLists, Holds, Stands, IsReady, Goes, KeepsTable, IsWhy, AtFault, IsTaskCause, Frame, Burns, moves_of, IsOneMove, IsOneTry, fuel, head_of, tail_of, pads_of, pending_of, numbers_of, last_of, over_of, unmoved};
 
     /// A task of these parts that moved nothing yet.
     pub fn new(
@@ -149,6 +149,8 @@ impl<S: Source, K: Sink, I: Inlet<Out = O>, O: Outlet<Lanes = I::Lanes>> Task<S,
         ensures table { OnErr result (O.tells lanes.new ≡ O.tells lanes.old) }
         ensures frame { Frame S.location S.content K.location I.place I.id O.place O.limits O.id self.old self.new }
         ensures burns { IfOk result (λ step. Burns step (fuel self.old) (fuel self.new)) }
+        ensures moves { IsOneMove result (moves_of self.old) (moves_of self.new) }
+        ensures tries { IsOneTry result (head_refusals I.refusals (head_of self.old)) (head_refusals I.refusals (head_of self.new)) (tail_refusals O.refusals (tail_of self.old)) (tail_refusals O.refusals (tail_of self.new)) }
     {
         match self.pending.take() {
             Some(pending) => self.cross(lanes, pending),
@@ -168,6 +170,8 @@ impl<S: Source, K: Sink, I: Inlet<Out = O>, O: Outlet<Lanes = I::Lanes>> Task<S,
         ensures table { OnErr result (O.tells lanes.new ≡ O.tells lanes.old) }
         ensures frame { Frame S.location S.content K.location I.place I.id O.place O.limits O.id self.old self.new }
         ensures burns { IfOk result (λ step. Burns step (2 * room_left self.old.pads.items + 1) (fuel self.new)) }
+        ensures moves { IsOneMove result (moves_of self.old) (moves_of self.new) }
+        ensures tries { IsOneTry result (head_refusals I.refusals (head_of self.old)) (head_refusals I.refusals (head_of self.new)) (tail_refusals O.refusals (tail_of self.old)) (tail_refusals O.refusals (tail_of self.new)) }
     {
         if self.over {
             return Ok(Step::Ended);
@@ -205,6 +209,8 @@ impl<S: Source, K: Sink, I: Inlet<Out = O>, O: Outlet<Lanes = I::Lanes>> Task<S,
         ensures table { OnErr result (O.tells lanes.new ≡ O.tells lanes.old) }
         ensures frame { Frame S.location S.content K.location I.place I.id O.place O.limits O.id self.old self.new }
         ensures burns { IfOk result (λ step. Burns step (2 * room_left self.old.pads.items) (fuel self.new)) }
+        ensures moves { IsOneMove result (moves_of self.old) (moves_of self.new) }
+        ensures tries { IsOneTry result (head_refusals I.refusals (head_of self.old)) (head_refusals I.refusals (head_of self.new)) (tail_refusals O.refusals (tail_of self.old)) (tail_refusals O.refusals (tail_of self.new)) }
     {
         let Pending { pad, item } = hand;
         if self.pads[pad].items >= MOST_ITEMS {
@@ -234,6 +240,8 @@ impl<S: Source, K: Sink, I: Inlet<Out = O>, O: Outlet<Lanes = I::Lanes>> Task<S,
         ensures table { OnErr result (O.tells lanes.new ≡ O.tells lanes.old) }
         ensures frame { Frame S.location S.content K.location I.place I.id O.place O.limits O.id self.old self.new }
         ensures burns { IfOk result (λ step. Burns step (2 * room_left self.old.pads.items) (fuel self.new)) }
+        ensures moves { IsOneMove result (moves_of self.old) (moves_of self.new) }
+        ensures tries { IsOneTry result (head_refusals I.refusals (head_of self.old)) (head_refusals I.refusals (head_of self.new)) (tail_refusals O.refusals (tail_of self.old)) (tail_refusals O.refusals (tail_of self.new)) }
     {
         if self.tail.count() >= MOST_ITEMS {
             let element = self.pads[last].element;

@@ -1,6 +1,7 @@
 use Rattle.std.proofs.Common.{◌∷◌, [], ◌++◌, length, refl, sym, ◌∙◌, ap, arith}
 use Rattle.flow_model.specs.Item.{Item}
 use Rattle.task_core.specs.declared.step.Step.TheVariants.{NeedsRoom}
+use Rattle.task_core.specs.Pending.{hand_of}
 use Rattle.task_core.specs.Tail.{tail_count}
 use Rattle.task_core.proofs.Crossing.{counts_over, counts_at, few_done, some_at, never, numbers_kept}
 use Rattle.task_core.proofs.Keeping.{sent_keeps, sent_table, sent_tail_of, sent_head_in, back_tells, back_full, count_of_tail}
@@ -42,7 +43,7 @@ returns-in-Ok-Back-clause-goes g c =
     stays_goes {S = g.row.S.Denot} {K = g.row.K.Denot} {I = g.row.I.Denot} {O = g.row.O.Denot} g.S.Source.content g.K.Sink.bytes g.I.Inlet.received g.O.Outlet.sent _ l (NeedsRoom c.in-Ok-Back.number) _ _ _ _ _
     (record { gave = h.gave; number = h.number; over = h.over; held = h.held ∙ ap (λ (z : Item). l.done ++ z ∷ []) (sym back.1); counted = h.counted; tail = back.0 })
     (back_tells g.K.Sink.bytes g.O.Outlet.sent g.O.Outlet.place g.O.Outlet.limits g.O.Outlet.count c.args.self.now.tail c.send.new.self c.args.item _ _ _ _ moves)
-    (c.send.ensures.number ∙ (rw c.in-Ok-Back.field-0-is at c.in-Ok-Back.ensures.named), back_full g.K.Sink.bytes g.O.Outlet.sent g.O.Outlet.place g.O.Outlet.limits g.O.Outlet.count c.args.self.now.tail c.send.new.self c.args.item _ _ _ _ l.done moves h.tail)
+    (c.send.ensures.number ∙ (rw c.in-Ok-Back.field-0-is at c.in-Ok-Back.ensures.named), back_full g.K.Sink.bytes g.O.Outlet.sent g.O.Outlet.place g.O.Outlet.limits g.O.Outlet.count c.args.self.now.tail c.send.new.self c.args.item _ _ _ _ l.done moves h.tail, record { hand = hand_of c.args.last c.in-Ok-Back.item; waits = refl; last = c.requires.last })
 
 pub returns-in-Ok-Sent-clause-lanes : goal.returns-in-Ok-Sent-clause-lanes
 returns-in-Ok-Sent-clause-lanes g c = sent_table g.K.Sink.bytes g.O.Outlet.sent g.O.Outlet.place g.O.Outlet.limits g.O.Outlet.count c.args.self.now.tail c.send.new.self c.args.item _ _ (rw c.in-Ok-Sent.field-0-is at c.in-Ok-Sent.ensures.moves)
