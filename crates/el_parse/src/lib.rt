@@ -8,4 +8,6 @@ pub mod raw_parse;
 pub use raw_parse::RawParse;
 
 #[cfg(test)]
+mod rows;
+#[cfg(test)]
 mod tests;
