@@ -1,0 +1,3 @@
+pub mod Parsing
+pub mod Seen
+pub mod Steps

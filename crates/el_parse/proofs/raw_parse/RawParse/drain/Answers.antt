@@ -1,0 +1,5 @@
+use Rattle.el_parse.proofs.Parsing.{parsed_drain}
+use Rattle.el_parse.proofs.raw_parse.RawParse.drain.Goals as goal
+
+pub returns-clause-drained : goal.returns-clause-drained
+returns-clause-drained c = parsed_drain c.args.self.now

@@ -1,0 +1,4 @@
+pub mod Frames
+pub mod Parsed
+pub mod Parses
+pub mod Part

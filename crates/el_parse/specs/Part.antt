@@ -1,0 +1,46 @@
+-- What stands behind the last SEGMENT or FLUSH_STOP of a list, and its bytes.
+use Rattle.std.specs.Prelude.{◌≡◌, ℕ, ◌+◌, Bool, true, false, ◌||◌, if◌then◌else◌, List, [], ◌∷◌, ◌++◌, length, drop, Option, Some, None, unwrap_or}
+use Rattle.flow_model.specs.Item.{Item, Buf, is_segment, is_flush_stop, is_buffer, body_of}
+use Rattle.flow_model.specs.Sticky.{latest, since_flush_stop, in_force}
+use Rattle.flow_model.specs.Call.{items}
+use Rattle.flow_model.specs.Rule.{Fed}
+use Rattle.flow_model.specs.Feeding.{has_item}
+
+-- a SEGMENT and a FLUSH_STOP begin a part
+abbrev pub begins_part : Item → Bool
+begins_part x = is_segment x || is_flush_stop x
+
+abbrev pub has_beginning : List Item → Bool
+has_beginning [] = false
+has_beginning (x ∷ xs) = begins_part x || has_beginning xs
+
+-- what stands behind the last beginning of a part, or all where there is none
+abbrev pub last_part : List Item → List Item
+last_part [] = []
+last_part (x ∷ xs) = if has_beginning xs then last_part xs else (if begins_part x then xs else x ∷ xs)
+
+-- the bytes of items, one body behind the other
+abbrev pub bytes_of : List Item → List ℕ
+bytes_of [] = []
+bytes_of (x ∷ xs) = body_of x ++ bytes_of xs
+
+-- the bytes of the last part
+abbrev pub part_bytes : List Item → List ℕ
+part_bytes h = bytes_of (last_part h)
+
+-- the bytes of the last part that were given and not yet put out
+abbrev pub held_bytes : Fed → List ℕ
+held_bytes fed = drop (length (part_bytes fed.out)) (part_bytes (items fed.given))
+
+-- whether a SEGMENT was put out since the last FLUSH_STOP
+abbrev pub has_opened : Fed → Bool
+has_opened fed = has_item (in_force fed.out).segment
+
+-- the time at which the first item ends, where it is a buffer with times
+abbrev pub end_of : List Item → ℕ
+end_of (Buf b ∷ xs) = unwrap_or b.pts 0 + unwrap_or b.duration 0
+end_of _ = 0
+
+-- the time of the end of what was put out since the last FLUSH_STOP: that of the last buffer, and 0 without one
+abbrev pub end_put_out : Fed → ℕ
+end_put_out fed = end_of (latest is_buffer (since_flush_stop fed.out))

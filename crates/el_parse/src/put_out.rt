@@ -1,0 +1,72 @@
+//! What elements with one source pad put out.
+ghost use Rattle.std.specs.Prelude.{◌≡◌, ◌++◌, ◌∷◌, [], OnOk, OnErr};
+ghost use Rattle.flow_model.specs.Item.{Ev, NewCaps, NewSegment, is_eos};
+ghost use Rattle.flow_model.specs.Feeding.{on_pad};
+ghost use Rattle.audio_info.specs.Media.{caps_of};
+ghost use Rattle.el_parse.specs.Frames.{time_segment, buffers_of};
+
+use audio_info::Info;
+use gst_caps::OutOfMemory;
+use gst_item::{Buffer, Event, Item, Out, Outs};
+use gst_time::{Format, Segment};
+use std::alloc::Global;
+use std::collections::VecDeque;
+
+/// Puts an item out on the only source pad. Where there is no memory nothing is put out, and the item is given
+/// up.
+pub(crate) fn put_out(alloc: Global, item: Item, out: &mut Outs) -> Result<(), OutOfMemory>
+    ensures ok { OnOk result (out.new ≡ out.old ++ on_pad 0 (item ∷ [])) }
+    ensures err { OnErr result (out.new ≡ out.old) }
+{
+    out.push(alloc, Out { pad: 0, item })
+}
+
+/// Puts caps, a segment in time from `start` on, in nanoseconds, and a buffer, where there is one, out on the
+/// only source pad. Where there is no memory nothing is put out.
+pub(crate) fn put_opening(
+    alloc: Global,
+    info: &Info,
+    start: u64,
+    buffer: Option<Buffer>,
+    out: &mut Outs,
+) -> Result<(), OutOfMemory>
+    ensures ok { OnOk result (out.new ≡ out.old ++ on_pad 0 (Ev (NewCaps (caps_of info.now.format info.now.rate info.now.channels)) ∷ Ev (NewSegment (time_segment start)) ∷ buffers_of buffer)) }
+    ensures err { OnErr result (out.new ≡ out.old) }
+{
+    let caps = info.to_fixed(alloc)?;
+    let mut queue = VecDeque::with_capacity(alloc, 3)?;
+    queue.push_back(on_pad(Item::Event(Event::Caps(caps))))?;
+    queue.push_back(on_pad(Item::Event(Event::Segment(segment_from(start)))))?;
+    if let Some(buffer) = buffer {
+        queue.push_back(on_pad(Item::Buffer(buffer)))?;
+    }
+    out.pour(alloc, &mut queue)
+}
+
+/// An item for the only source pad.
+fn on_pad(item: Item) -> Out
+    ensures { result ≡ record { pad = 0; item = item } }
+{
+    Out { pad: 0, item }
+}
+
+/// The segment in time from `start` on, in nanoseconds.
+fn segment_from(start: u64) -> Segment
+    ensures { result ≡ time_segment start }
+{
+    Segment {
+        format: Format::Time,
+        start,
+        stop: None,
+        time: start,
+        base: 0,
+        position: start,
+    }
+}
+
+/// Whether an item ends its stream.
+pub(crate) fn is_end(item: &Item) -> bool
+    ensures { result ≡ is_eos item.now }
+{
+    matches!(item, Item::Event(Event::Eos))
+}

@@ -1,0 +1,137 @@
+//! Words for what elements are fed, and for what they answer and put out.
+ghost use Rattle.std.specs.Prelude.{◌≡◌, false};
+ghost use Rattle.flow_model.specs.Item.{is_flush_stop};
+
+use audio_info::Info;
+use gst_item::{Body, Buffer, ElementFault, Event, Flow, Item, Outs};
+use gst_time::{Format, Segment};
+use gst_caps::Text;
+use std::alloc::Global;
+use std::fmt::Write;
+use std::test::Fail;
+
+/// The segment from a start on, whose text stands in the word.
+fn segment_by(format: Format, start: &str) -> Result<Event, Fail> {
+    let start = start.parse().unwrap_or(0);
+    let mut segment = Segment::new(format);
+    segment.start = start;
+    Ok(Event::Segment(segment))
+}
+
+/// `+` and letters are a buffer of these bytes, `bytes=N` and `time=N` are segments.
+pub(crate) fn item_by(alloc: Global, caps: &Info, word: &str) -> Result<Item, Fail> {
+    if let Some(letters) = word.strip_prefix('+') {
+        let (letters, pts) = match letters.split_once('@') {
+            Some((letters, pts)) => (letters, pts.parse().ok()),
+            None => (letters, None),
+        };
+        let bytes = Vec::from_slice(alloc, letters.as_bytes())?;
+        return Ok(Item::Buffer(Buffer {
+            body: Body::from_vec(alloc, bytes)?,
+            pts,
+            duration: None,
+            offset: Some(7),
+            discont: true,
+        }));
+    }
+    if let Some(start) = word.strip_prefix("bytes=") {
+        return Ok(Item::Event(segment_by(Format::Bytes, start)?));
+    }
+    if let Some(start) = word.strip_prefix("time=") {
+        return Ok(Item::Event(segment_by(Format::Time, start)?));
+    }
+    Ok(Item::Event(event_by(alloc, caps, word)?))
+}
+
+fn event_by(alloc: Global, caps: &Info, word: &str) -> Result<Event, Fail> {
+    match word {
+        "start" => Ok(Event::StreamStart { id: 1 }),
+        "caps" => Ok(Event::Caps(caps.to_fixed(alloc)?)),
+        "tag" => Ok(Event::Tag {
+            title: Text::from_str(alloc, "title")?,
+        }),
+        "gap" => Ok(Event::Gap {
+            pts: 0,
+            duration: 1,
+        }),
+        _ => Ok(Event::Eos),
+    }
+}
+
+/// Whether an item is a FLUSH_STOP, which is not fed.
+pub(crate) fn is_flush(item: &Item) -> bool
+    ensures { result ≡ is_flush_stop item.now }
+{
+    matches!(item, Item::Event(Event::FlushStop { .. }))
+}
+
+/// `+` for Ok, `.` for Eos, and the numbers of a fault.
+pub(crate) fn tell_answer(
+    text: &mut String,
+    answer: &Result<Flow, ElementFault>,
+) -> Result<(), Fail> {
+    match answer {
+        Ok(Flow::Ok) => text.push_str("+ ")?,
+        Ok(Flow::Eos) => text.push_str(". ")?,
+        Ok(_) => text.push_str("? ")?,
+        Err(ElementFault::TooLong { a, b }) => write!(text, "long:{a},{b} ")?,
+        Err(ElementFault::BadStream { place, .. }) => write!(text, "bad:{place} ")?,
+        Err(ElementFault::NotNegotiated { offered: None, .. }) => text.push_str("none ")?,
+        Err(ElementFault::NotNegotiated { .. }) => text.push_str("other ")?,
+        Err(_) => text.push_str("! ")?,
+    }
+    Ok(())
+}
+
+/// A number, or `-`.
+fn tell_number(text: &mut String, number: Option<u64>) -> Result<(), Fail> {
+    match number {
+        Some(number) => write!(text, ",{number}")?,
+        None => text.push_str(",-")?,
+    }
+    Ok(())
+}
+
+/// The bytes, the offset, the time and the duration of a buffer.
+fn tell_buffer(text: &mut String, buffer: &Buffer) -> Result<(), Fail> {
+    text.push_str("+")?;
+    for byte in buffer.body.as_slice() {
+        text.push(char::from(*byte))?;
+    }
+    tell_number(text, buffer.offset)?;
+    tell_number(text, buffer.pts)?;
+    tell_number(text, buffer.duration)
+}
+
+fn tell_item(text: &mut String, item: &Item) -> Result<(), Fail> {
+    match item {
+        Item::Buffer(buffer) => tell_buffer(text, buffer)?,
+        Item::Event(Event::StreamStart { .. }) => text.push_str("start")?,
+        Item::Event(Event::Caps(_)) => text.push_str("caps")?,
+        Item::Event(Event::Segment(segment)) => {
+            write!(text, "{}={}", name_of(segment.format), segment.start)?;
+        }
+        Item::Event(Event::Tag { .. }) => text.push_str("tag")?,
+        Item::Event(Event::Gap { .. }) => text.push_str("gap")?,
+        Item::Event(Event::FlushStop { .. }) => text.push_str("flush")?,
+        Item::Event(Event::Eos) => text.push_str("eos")?,
+    }
+    Ok(())
+}
+
+fn name_of(format: Format) -> &'static str {
+    match format {
+        Format::Bytes => "bytes",
+        Format::Time => "time",
+    }
+}
+
+/// The items that were put out.
+pub(crate) fn tell_out(text: &mut String, out: &Outs) -> Result<(), Fail> {
+    text.push_str(":")?;
+    for one in out.as_slice() {
+        text.push_str(" ")?;
+        tell_item(text, &one.item)?;
+    }
+    Ok(())
+}
