@@ -205,12 +205,10 @@ fn all_short_lists_of_turns(rt: HostRuntime) -> Result<(), Fail> {
         output: "abcd",
         ..PLAIN
     };
-    let mut lists = 1;
-    for count in 0..7 {
+    for (count, lists) in [(0, 1), (1, 3), (2, 9), (3, 27), (4, 81), (5, 243), (6, 729)] {
         for number in 0..lists {
             check(&rt, alloc, &row, &digits(alloc, number, count)?)?;
         }
-        lists *= 3;
     }
     Ok(())
 }
