@@ -1,4 +1,6 @@
 //! Why a task went no further.
+ghost use Rattle.std.specs.Prelude.{◌≡◌};
+
 use gst_caps::OutOfMemory;
 use thiserror::Error;
 
@@ -32,6 +34,10 @@ pub enum TaskFault {
 }
 
 impl From<OutOfMemory> for TaskFault {
+    ghost use Rattle.task_core.specs.declared.fault.TaskFault.TheVariants.{OutOfMemory as NoMemory};
+
+    ghost from_gives = { λ _ fault. fault ≡ NoMemory };
+
     fn from(_wanting: OutOfMemory) -> TaskFault {
         TaskFault::OutOfMemory
     }

@@ -1,6 +1,6 @@
 -- A row stays a row behind a step of one of its tasks.
 use Rattle.std.proofs.Common.{◌≡◌, ◌≢◌, ◌<◌, ◌≤◌, ◌+◌, ℕ, zero, suc, List, [], length, Some, None, Option, true, false, cond, eqb, refl, ap, sym, ◌∙◌, subst, ⊎_elim, arith}
-use Rattle.std.specs.Prelude.{slice_get, slice_set}
+use Rattle.std.specs.Prelude.{slice_get, slice_set, Result, Ok, Err}
 use Rattle.std.specs.Option.{ForSome}
 use Rattle.std.proofs.lemmas.Bool.{cases_eq, cond-true, cond-false, cond_both, eq-eqb, ne_eqb}
 use Rattle.flow_model.specs.Item.{Item}
@@ -13,9 +13,10 @@ use Rattle.task_core.specs.declared.step.Step.TheVariants.{Moved, NeedsItem, Nee
 use Rattle.task_core.specs.declared.task.Task.{Task}
 use Rattle.task_core.specs.Head.{head_place}
 use Rattle.task_core.specs.Tail.{tail_place, tail_limit}
-use Rattle.task_core.specs.Task.{TaskLists, Stands, Goes, Keeps, KeepsTable, IsReady, AtFault, IsTaskCause, Frame, Burns, fuel, head_of, tail_of}
+use Rattle.task_core.specs.Task.{TaskLists, IsOneMove, moves_of, Stands, Goes, Keeps, KeepsTable, IsReady, AtFault, IsTaskCause, Frame, Burns, fuel, head_of, tail_of}
 use Rattle.task_core.proofs.Keeping.{ready_kept}
 use Rattle.world_core.specs.Row.{lane_before, lane_behind, IsJoined, AllReady, IsLaid, IsRow, IsClosed, GoesOn, RowGoes, RowRests, RowStepped, RowFaulted, IsRowCause, AllFramed, Burned, has_moved, row_fuel}
+use Rattle.world_core.specs.Turns.{MovesOnce, EachMovesOnce}
 use Rattle.world_core.proofs.Closed.{closed_more}
 use Rattle.world_core.proofs.Places.{some_same, none_some, set_here, set_there, set_length, some_before, sum_set}
 
@@ -268,3 +269,38 @@ row_burned tasks place was is Moved at b = less_sum (row_fuel (slice_set tasks p
 row_burned tasks place was is (NeedsItem n) at b = same_sum (row_fuel (slice_set tasks place is)) (row_fuel tasks) (fuel was) (fuel is) (sum_set (λ t. fuel t) tasks place was is at) b
 row_burned tasks place was is (NeedsRoom n) at b = same_sum (row_fuel (slice_set tasks place is)) (row_fuel tasks) (fuel was) (fuel is) (sum_set (λ t. fuel t) tasks place was is at) b
 row_burned tasks place was is Ended at b = same_sum (row_fuel (slice_set tasks place is)) (row_fuel tasks) (fuel was) (fuel is) (sum_set (λ t. fuel t) tasks place was is at) b
+
+-- a step makes one move at the most
+pub moves_once : {S K I O : Type 0} (was is : Task S K I O) (result : Result Step TaskFault) → IsOneMove result (moves_of was) (moves_of is) → MovesOnce was is
+moves_once was is (Ok Moved) e = record { kept = omega (arith, e); most = omega (arith, e) }
+moves_once was is (Ok (NeedsItem n)) e = record { kept = omega (arith, e); most = omega (arith, e) }
+moves_once was is (Ok (NeedsRoom n)) e = record { kept = omega (arith, e); most = omega (arith, e) }
+moves_once was is (Ok Ended) e = record { kept = omega (arith, e); most = omega (arith, e) }
+moves_once was is (Err fault) e = record { kept = omega (arith, e); most = omega (arith, e) }
+
+moves_none : {S K I O : Type 0} (t : Task S K I O) → MovesOnce t t
+moves_none t = record { kept = omega arith; most = omega arith }
+
+pub none_moved : {S K I O : Type 0} (tasks : List (Task S K I O)) → EachMovesOnce tasks tasks
+none_moved {S = S} {K = K} {I = I} {O = O} tasks k before after e f = subst (λ (t : Task S K I O). MovesOnce before t) (some_same (sym e ∙ f)) (moves_none before)
+
+-- a row of which one task made a step
+pub once_set : {S K I O : Type 0} (tasks : List (Task S K I O)) (place : ℕ) (was is : Task S K I O) → slice_get tasks place ≡ Some was → MovesOnce was is → EachMovesOnce tasks (slice_set tasks place is)
+once_set {S = S} {K = K} {I = I} {O = O} tasks place was is at f k before after e e' =
+    ⊎_elim
+    (λ here.
+    let one : before ≡ was = some_same (sym e ∙ ap (λ j. slice_get tasks j) here ∙ at) in
+    let two : after ≡ is = set_here tasks place after is (subst (λ (j : ℕ). slice_get (slice_set tasks place is) j ≡ Some after) here e') in
+    subst (λ (t : Task S K I O). MovesOnce before t) (sym two) (subst (λ (t : Task S K I O). MovesOnce t is) (sym one) f))
+    (λ ne. subst (λ (t : Task S K I O). MovesOnce before t) (some_same (sym e ∙ sym (set_there tasks place k is ne) ∙ e')) (moves_none before))
+    (cases_eq k place)
+
+-- a step of a task that was not yet tried
+pub once_more : {S K I O : Type 0} (first tasks tasks' : List (Task S K I O)) (place : ℕ) → EachMovesOnce first tasks → ((k : ℕ) → place ≤ k → slice_get tasks k ≡ slice_get first k) → EachMovesOnce tasks tasks'
+    → ((k : ℕ) → k ≢ place → slice_get tasks' k ≡ slice_get tasks k) → EachMovesOnce first tasks'
+once_more first tasks tasks' place x rest y others k before after e e' =
+    ⊎_elim (λ here. y k before after (rest k (omega (arith, here)) ∙ e) e') (λ ne. x k before after e (sym (others k ne) ∙ e')) (cases_eq k place)
+
+pub rest_more : {S K I O : Type 0} (first tasks tasks' : List (Task S K I O)) (place : ℕ) → ((k : ℕ) → place ≤ k → slice_get tasks k ≡ slice_get first k)
+    → ((k : ℕ) → k ≢ place → slice_get tasks' k ≡ slice_get tasks k) → (k : ℕ) → place + 1 ≤ k → slice_get tasks' k ≡ slice_get first k
+rest_more first tasks tasks' place rest others k w = others k (λ e. omega (arith, w, e)) ∙ rest k (omega (arith, w))

@@ -2,7 +2,7 @@
 ghost use Rattle.std.specs.Prelude.{◌≡◌, ◌≢◌, ◌<◌, ◌≤◌, ◌+◌, ℕ, true, Some, length, slice_get, IfOk, IfErr, OnOk, OnErr, IsSome, List, if◌then◌else◌};
 ghost use Rattle.task_core.specs.Task.{TaskLists};
 ghost use Rattle.world_core.specs.Row.{AllReady, IsJoined, IsRow, IsRowCause, RowEnded, RowFaulted, RowStepped, RowAdvanced, AllFramed, Burned, row_fuel, steps_left, has_moved as step_moved};
-ghost use Rattle.world_core.specs.Turns.{IsTurn, HasCome, RunBy, place_of_turn};
+ghost use Rattle.world_core.specs.Turns.{IsTurn, EachMovesOnce, HasCome, RunBy, place_of_turn};
 
 use gst_outside::{Sink, Source};
 use lane_core::{Inlet, Outlet};
@@ -101,6 +101,7 @@ fn step_at<S: Source, K: Sink, I: Inlet<Out = O>, O: Outlet<Lanes = I::Lanes>>(
     ensures frame { AllFramed S.location S.content K.location I.place I.id O.place O.limits O.id tasks.old tasks.new }
     ensures count { length tasks.new ≡ length tasks.old }
     ensures others { (k : ℕ) → k ≢ place → slice_get tasks.new k ≡ slice_get tasks.old k }
+    ensures once { EachMovesOnce tasks.old tasks.new }
     ensures burns { IfOk result (λ moved. Burned moved (row_fuel tasks.old) (row_fuel tasks.new)) }
 {
     let task = &mut tasks[place];
@@ -128,6 +129,7 @@ fn try_each<S: Source, K: Sink, I: Inlet<Out = O>, O: Outlet<Lanes = I::Lanes>>(
     ensures frame { AllFramed S.location S.content K.location I.place I.id O.place O.limits O.id tasks.old tasks.new }
     ensures count { length tasks.new ≡ length tasks.old }
     ensures burns { IfOk result (λ moved. Burned moved (row_fuel tasks.old) (row_fuel tasks.new)) }
+    ensures once { EachMovesOnce tasks.old tasks.new }
 {
     let mut moved = false;
     for place in 0..tasks.len() {

@@ -5,11 +5,11 @@ use Rattle.world_core.proofs.steps.advance.Goals as goal
 
 pub returns-then-order-eq-IDLE_TURNS-clause-come : goal.returns-then-order-eq-IDLE_TURNS-clause-come
 returns-then-order-eq-IDLE_TURNS-clause-come g c =
-    ok_tries c.args.turns.now c.args.tasks.now c.try_each.new.tasks c.args.order.now _ c.if-order-eq-IDLE_TURNS.true c.try_each.result refl refl refl c.try_each.ensures.count
+    ok_tries c.args.turns.now c.args.tasks.now c.try_each.new.tasks c.args.order.now _ c.if-order-eq-IDLE_TURNS.true c.try_each.ensures.once c.try_each.result refl refl refl c.try_each.ensures.count
 
 pub returns-then-order-eq-IDLE_TURNS-clause-stopped : goal.returns-then-order-eq-IDLE_TURNS-clause-stopped
 returns-then-order-eq-IDLE_TURNS-clause-stopped g c =
-    err_tries c.args.turns.now c.args.tasks.now c.try_each.new.tasks c.args.order.now c.args.order.now c.if-order-eq-IDLE_TURNS.true c.try_each.result
+    err_tries c.args.turns.now c.args.tasks.now c.try_each.new.tasks c.args.order.now c.args.order.now c.if-order-eq-IDLE_TURNS.true c.try_each.ensures.once c.try_each.result
 
 pub returns-in-Ok-clause-goes : goal.returns-in-Ok-clause-goes
 returns-in-Ok-clause-goes g c = λ lists row. goes_any {S = g.row.S.Denot} {K = g.row.K.Denot} {I = g.row.I.Denot} {O = g.row.O.Denot} g.S.Source.content g.K.Sink.bytes g.I.Inlet.received g.O.Outlet.sent g.I.Inlet.place g.O.Outlet.place g.O.Outlet.limits _ c.in-Ok.moved c.step_at.new.tasks lists _ _ (c.in-Ok.ensures.goes lists row)
@@ -18,7 +18,7 @@ pub returns-in-Ok-clause-come : goal.returns-in-Ok-clause-come
 returns-in-Ok-clause-come g c =
     λ first h.
     come_turn c.args.turns.now first c.args.tasks.now c.step_at.new.tasks c.args.order.now c.next-place.new.self c.count.new.self c.in-Ok.moved c.next-place.result h
-    (omega (arith, c.requires.idle, c.if-order-eq-IDLE_TURNS.false)) c.next-place.ensures.place c.next-place.ensures.next c.next-place.ensures.idle c.count.ensures.idle c.count.ensures.listed c.count.ensures.place c.step_at.ensures.others c.step_at.ensures.count c.in-Ok.ensures.burns
+    (omega (arith, c.requires.idle, c.if-order-eq-IDLE_TURNS.false)) c.next-place.ensures.place c.next-place.ensures.next c.next-place.ensures.idle c.count.ensures.idle c.count.ensures.listed c.count.ensures.place c.step_at.ensures.others c.step_at.ensures.count c.in-Ok.ensures.burns c.step_at.ensures.once
 
 pub returns-in-Ok-clause-idle : goal.returns-in-Ok-clause-idle
 returns-in-Ok-clause-idle g c = idle_within c.in-Ok.moved c.next-place.new.self.idle c.count.new.self.idle c.args.order.now.idle c.count.ensures.idle c.next-place.ensures.idle (omega (arith, c.requires.idle, c.if-order-eq-IDLE_TURNS.false))
@@ -30,4 +30,4 @@ returns-in-Ok-clause-less g c =
 
 pub returns-in-Err-clause-stopped : goal.returns-in-Err-clause-stopped
 returns-in-Err-clause-stopped g c =
-    λ first h. come_stop c.args.turns.now first c.args.tasks.now c.step_at.new.tasks c.args.order.now c.next-place.result h (omega (arith, c.requires.idle, c.if-order-eq-IDLE_TURNS.false)) c.next-place.ensures.place c.step_at.ensures.others
+    λ first h. come_stop c.args.turns.now first c.args.tasks.now c.step_at.new.tasks c.args.order.now c.next-place.result h (omega (arith, c.requires.idle, c.if-order-eq-IDLE_TURNS.false)) c.next-place.ensures.place c.step_at.ensures.others c.step_at.ensures.once

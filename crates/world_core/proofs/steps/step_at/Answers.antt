@@ -4,7 +4,7 @@ use Rattle.std.proofs.lemmas.Option.{slice_get-get_or}
 use Rattle.task_core.specs.declared.task.Task.{Task}
 use Rattle.world_core.specs.Row.{IsRowCause}
 use Rattle.world_core.proofs.Places.{set_here, set_there, set_length}
-use Rattle.world_core.proofs.Rows.{framed_set, joined_framed, ready_set, row_stepped, row_faulted, row_burned, row_cause}
+use Rattle.world_core.proofs.Rows.{framed_set, joined_framed, ready_set, row_stepped, row_faulted, row_burned, row_cause, moves_once, once_set}
 use Rattle.world_core.proofs.steps.step_at.Goals as goal
 
 pub step-requires-after_bounds : goal.step-requires-after_bounds
@@ -60,3 +60,11 @@ returns-in-Err-clause-cause g c =
     λ t e.
     subst (λ (u : Task g.row.S.Denot g.row.K.Denot g.row.I.Denot g.row.O.Denot). IsRowCause g.S.Source.faults g.K.Sink.faults u c.in-Err.fault) (sym (set_here c.args.tasks.now c.args.place t c.step.new.self e))
     (row_cause {S = g.row.S.Denot} {K = g.row.K.Denot} {I = g.row.I.Denot} {O = g.row.O.Denot} g.S.Source.location g.S.Source.content g.K.Sink.location g.I.Inlet.place g.I.Inlet.id g.O.Outlet.place g.O.Outlet.limits g.O.Outlet.id g.S.Source.faults g.K.Sink.faults _ c.step.new.self c.in-Err.fault c.step.ensures.frame c.in-Err.ensures.cause)
+
+pub returns-in-Ok-clause-once : goal.returns-in-Ok-clause-once
+returns-in-Ok-clause-once g c =
+    once_set c.args.tasks.now c.args.place _ c.step.new.self (slice_get-get_or c.args.tasks.now c.args.place c.index-tasks-place.result c.requires.place) (moves_once _ c.step.new.self c.step.result c.step.ensures.moves)
+
+pub returns-in-Err-clause-once : goal.returns-in-Err-clause-once
+returns-in-Err-clause-once g c =
+    once_set c.args.tasks.now c.args.place _ c.step.new.self (slice_get-get_or c.args.tasks.now c.args.place c.index-tasks-place.result c.requires.place) (moves_once _ c.step.new.self c.step.result c.step.ensures.moves)

@@ -1,5 +1,5 @@
 use Rattle.std.proofs.Common.{◌<◌, ◌∙◌, refl, arith}
-use Rattle.world_core.proofs.Rows.{framed_same, framed_trans}
+use Rattle.world_core.proofs.Rows.{framed_same, framed_trans, none_moved, once_more, rest_more}
 use Rattle.world_core.proofs.Tries.{burned_both, goes_any, faulted_more, none_tried, more_tried, all_tried}
 use Rattle.world_core.proofs.steps.try_each.Goals as goal
 
@@ -11,6 +11,8 @@ loop-place-init g c = record {
   frame = framed_same {S = g.row.S.Denot} {K = g.row.K.Denot} {I = g.row.I.Denot} {O = g.row.O.Denot} g.S.Source.location g.S.Source.content g.K.Sink.location g.I.Inlet.place g.I.Inlet.id g.O.Outlet.place g.O.Outlet.limits g.O.Outlet.id c.args.tasks.now;
   goes = λ lists row. none_tried {S = g.row.S.Denot} {K = g.row.K.Denot} {I = g.row.I.Denot} {O = g.row.O.Denot} g.S.Source.content g.K.Sink.bytes g.I.Inlet.received g.O.Outlet.sent g.I.Inlet.place g.O.Outlet.place g.O.Outlet.limits c.args.tasks.now lists _ row;
   burns = refl;
+  once = none_moved c.args.tasks.now;
+  rest = λ k w. refl;
 }
 
 pub loop-place-preserved : goal.loop-place-preserved
@@ -21,6 +23,8 @@ loop-place-preserved g c = record {
   frame = framed_trans {S = g.row.S.Denot} {K = g.row.K.Denot} {I = g.row.I.Denot} {O = g.row.O.Denot} g.S.Source.location g.S.Source.content g.K.Sink.location g.I.Inlet.place g.I.Inlet.id g.O.Outlet.place g.O.Outlet.limits g.O.Outlet.id c.args.tasks.now c.loop-place.tasks c.step_at.new.tasks c.loop-place.invariant.count c.loop-place.invariant.frame c.step_at.ensures.frame;
   goes = λ lists row. more_tried {S = g.row.S.Denot} {K = g.row.K.Denot} {I = g.row.I.Denot} {O = g.row.O.Denot} g.S.Source.content g.K.Sink.bytes g.I.Inlet.received g.O.Outlet.sent g.I.Inlet.place g.O.Outlet.place g.O.Outlet.limits c.loop-place.place c.loop-place.moved c.in-Ok.stepped c.loop-place.tasks c.step_at.new.tasks lists _ _ _ (c.loop-place.invariant.goes lists row) c.in-Ok.ensures.goes c.step_at.ensures.others;
   burns = burned_both c.loop-place.moved c.in-Ok.stepped _ _ _ c.loop-place.invariant.burns c.in-Ok.ensures.burns;
+  once = once_more c.args.tasks.now c.loop-place.tasks c.step_at.new.tasks c.loop-place.place c.loop-place.invariant.once c.loop-place.invariant.rest c.step_at.ensures.once c.step_at.ensures.others;
+  rest = rest_more c.args.tasks.now c.loop-place.tasks c.step_at.new.tasks c.loop-place.place c.loop-place.invariant.rest c.step_at.ensures.others;
 }
 
 pub returns-in-Err-clause-faulted : goal.returns-in-Err-clause-faulted
@@ -36,3 +40,6 @@ pub returns-clause-goes : goal.returns-clause-goes
 returns-clause-goes g c =
     λ lists row.
     all_tried {S = g.row.S.Denot} {K = g.row.K.Denot} {I = g.row.I.Denot} {O = g.row.O.Denot} g.S.Source.content g.K.Sink.bytes g.I.Inlet.received g.O.Outlet.sent g.I.Inlet.place g.O.Outlet.place g.O.Outlet.limits c.loop-place.place c.loop-place.moved c.loop-place.tasks lists _ _ (omega (arith, c.loop-place-test.false, c.loop-place.invariant.count)) (c.requires.told c.loop-place.lanes) c.loop-place.invariant.joined (c.loop-place.invariant.goes lists row)
+
+pub returns-in-Err-clause-once : goal.returns-in-Err-clause-once
+returns-in-Err-clause-once g c = once_more c.args.tasks.now c.loop-place.tasks c.step_at.new.tasks c.loop-place.place c.loop-place.invariant.once c.loop-place.invariant.rest c.step_at.ensures.once c.step_at.ensures.others

@@ -1,6 +1,8 @@
-use Rattle.std.proofs.Common.{◌≡◌, ◌<◌, ℕ, length}
+use Rattle.std.proofs.Common.{◌≡◌, ◌<◌, ◌≤◌, ℕ, length}
+use Rattle.std.specs.Prelude.{slice_get}
 use Rattle.task_core.specs.Task.{TaskLists}
 use Rattle.world_core.specs.Row.{AllReady, IsJoined, IsRow, RowStepped, AllFramed, Burned, row_fuel}
+use Rattle.world_core.specs.Turns.{EachMovesOnce}
 use Rattle.world_core.proofs.steps.try_each.Given as goal
 
 abbrev pub invariant-loop-place : goal.invariant-loop-place
@@ -13,4 +15,6 @@ invariant-loop-place g l = record {
       → RowStepped {S = g.row.S.Denot} {K = g.row.K.Denot} {I = g.row.I.Denot} {O = g.row.O.Denot} g.S.Source.content g.K.Sink.bytes g.I.Inlet.received g.O.Outlet.sent g.I.Inlet.place g.O.Outlet.place g.O.Outlet.limits
       (λ k. k < l.place) l.moved l.tasks lists (g.O.Outlet.tells l.fn.lanes) (g.O.Outlet.tells l.lanes);
   burns : Burned l.moved (row_fuel {S = g.row.S.Denot} {K = g.row.K.Denot} {I = g.row.I.Denot} {O = g.row.O.Denot} l.fn.tasks) (row_fuel {S = g.row.S.Denot} {K = g.row.K.Denot} {I = g.row.I.Denot} {O = g.row.O.Denot} l.tasks);
+  once : EachMovesOnce {S = g.row.S.Denot} {K = g.row.K.Denot} {I = g.row.I.Denot} {O = g.row.O.Denot} l.fn.tasks l.tasks;
+  rest : (k : ℕ) → l.place ≤ k → slice_get l.tasks k ≡ slice_get l.fn.tasks k;
 }
