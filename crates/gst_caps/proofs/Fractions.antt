@@ -6,6 +6,7 @@ use Rattle.std.proofs.Math.Nat.{pos_of_dvd_of_pos, one-dvd, mul-dvd-mul_right, d
 use Rattle.std.proofs.lemmas.Int.{ints}
 use Prim.Native.Nat.{◌∣◌}
 use Rattle.gst_caps.specs.Fractions.{IsReduced, IsTooWide, signed}
+use Rattle.gst_caps.specs.Parts.{HasParts}
 use Rattle.gst_caps.specs.Values.{IsSingle, IsLowest}
 use Rattle.gst_caps.specs.declared.value.One.{One}
 use Rattle.gst_caps.specs.declared.value.One.TheVariants.{Fraction}
@@ -73,3 +74,7 @@ module _ (num den : ℤ) (a b g : ℕ) (s t : Bool) (above : a ≡ unsigned_abs 
   pub when_none : (r : Option One) → SomeIff r (FitsSigned w32 (signed (not (beq s t)) (a / g)) × FitsSigned w32 (pos (b / g))) (Fraction (signed (not (beq s t)) (a / g)) (pos (b / g))) → IfNone r ((den ≡ pos 0) ⊎ IsTooWide num den)
   when_none None q = inr (_, _, is_reduced, q)
   when_none (Some one) q = tt
+
+pub when_fit : (above below : ℤ) (r : Option One) → SomeIff r (FitsSigned w32 above × FitsSigned w32 below) (Fraction above below) → IfSome r HasParts
+when_fit above below None q = tt
+when_fit above below (Some one) q = subst HasParts (sym q.1) q.0

@@ -2,6 +2,7 @@
 ghost use Rattle.std.specs.Prelude.{◌≡◌, ◌<◌, ◌/◌, ℤ, ℕ, pos, neg_ℤ, ◌⊎◌, IfSome, IfNone, SomeIff, FitsSigned, unsigned_abs};
 ghost use Rattle.std.specs.Int.{IsGcd, w32};
 ghost use Rattle.gst_caps.specs.Fractions.{IsReduced, IsTooWide, signed};
+ghost use Rattle.gst_caps.specs.Parts.{HasParts};
 ghost use Rattle.gst_caps.specs.Values.{IsSingle};
 
 use crate::value::One;
@@ -45,6 +46,7 @@ fn parts(negative: bool, above: u32, below: u32) -> Option<One>
 pub fn fraction(num: i32, den: i32) -> Option<One>
     ensures reduced { IfSome result (λ one. (above : ℤ) × (below : ℤ) × (one ≡ One.Fraction above below) × IsReduced num den above below) }
     ensures lowest { IfSome result IsSingle }
+    ensures fit { IfSome result HasParts }
     ensures none { IfNone result ((den ≡ pos 0) ⊎ IsTooWide num den) }
 {
     let above = num.unsigned_abs();

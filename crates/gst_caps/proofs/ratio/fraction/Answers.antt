@@ -1,6 +1,6 @@
 use Rattle.std.proofs.Common.{inl, arith, w32, FitsSigned}
 use Rattle.std.proofs.lemmas.Int.{to_z-of_z}
-use Rattle.gst_caps.proofs.Fractions.{no_size, some_divisor, when_some, when_lowest, when_none}
+use Rattle.gst_caps.proofs.Fractions.{no_size, some_divisor, when_some, when_lowest, when_none, when_fit}
 use Rattle.gst_caps.proofs.ratio.fraction.Goals as goal
 
 pub returns-then-below-eq0-clause-none : goal.returns-then-below-eq0-clause-none
@@ -35,3 +35,6 @@ returns-clause-none c =
     let den : FitsSigned w32 c.args.den = c.ranges.den in
     when_none c.args.num c.args.den _ _ _ _ _ (simp to_z-of_z at c.unsigned_abs-above.ensures.value) (simp to_z-of_z at c.unsigned_abs-below.ensures.value) c.greatest_common_divisor-divisor.ensures (omega arith)
     (simp to_z-of_z at c.is_negative.ensures) (simp to_z-of_z at c.is_negative-2.ensures) _ c.parts.ensures
+
+pub returns-clause-fit : goal.returns-clause-fit
+returns-clause-fit c = when_fit _ _ _ c.parts.ensures
