@@ -1,0 +1,7 @@
+pub mod Answers
+pub mod Bytes
+pub mod Kinds
+pub mod Printed
+pub mod Ratio
+pub mod Reading
+pub mod Refusals

@@ -17,6 +17,10 @@ pub enum CapsTextFault {
     OutOfMemory,
 }
 
+/// No text of a part goes on with what stands next.
+#[derive(Clone, Copy, Debug)]
+pub(crate) struct Misspelt;
+
 /// Why a part of a text is not read.
 #[derive(Debug, Drop)]
 pub(crate) enum Refusal {
@@ -27,13 +31,34 @@ pub(crate) enum Refusal {
     OutOfMemory,
 }
 
+impl From<Misspelt> for Refusal {
+    ghost use Rattle.std.specs.Prelude.{◌≡◌};
+    ghost use Rattle.caps_text.specs.declared.fault.Refusal.TheVariants.{Misspelt as Misspelling};
+
+    ghost from_gives = { λ _ refusal. refusal ≡ Misspelling };
+
+    fn from(_misspelt: Misspelt) -> Refusal {
+        Refusal::Misspelt
+    }
+}
+
 impl From<OutOfMemory> for Refusal {
+    ghost use Rattle.std.specs.Prelude.{◌≡◌};
+    ghost use Rattle.caps_text.specs.declared.fault.Refusal.TheVariants.{OutOfMemory as NoMemory};
+
+    ghost from_gives = { λ _ refusal. refusal ≡ NoMemory };
+
     fn from(_refused: OutOfMemory) -> Refusal {
         Refusal::OutOfMemory
     }
 }
 
 impl From<CapsFault> for Refusal {
+    ghost use Rattle.std.specs.Prelude.{◌≡◌};
+    ghost use Rattle.caps_text.specs.Refusals.{refusal_of};
+
+    ghost from_gives = { λ fault refusal. refusal ≡ refusal_of fault };
+
     fn from(fault: CapsFault) -> Refusal {
         match fault {
             CapsFault::TooMany { count: _ } => Refusal::TooMany,
@@ -43,12 +68,22 @@ impl From<CapsFault> for Refusal {
 }
 
 impl From<AllocError> for Refusal {
+    ghost use Rattle.std.specs.Prelude.{◌≡◌};
+    ghost use Rattle.caps_text.specs.declared.fault.Refusal.TheVariants.{OutOfMemory as NoMemory};
+
+    ghost from_gives = { λ _ refusal. refusal ≡ NoMemory };
+
     fn from(_refused: AllocError) -> Refusal {
         Refusal::OutOfMemory
     }
 }
 
 impl<T: Drop> From<AllocFailed<T>> for Refusal {
+    ghost use Rattle.std.specs.Prelude.{◌≡◌};
+    ghost use Rattle.caps_text.specs.declared.fault.Refusal.TheVariants.{OutOfMemory as NoMemory};
+
+    ghost from_gives = { λ _ refusal. refusal ≡ NoMemory };
+
     fn from(_refused: AllocFailed<T>) -> Refusal {
         Refusal::OutOfMemory
     }

@@ -6,15 +6,15 @@ pub mod fault;
 mod kind;
 mod list;
 mod number;
-mod parse;
-mod print;
+mod printing;
+mod reading;
 mod scanner;
 mod single;
 mod structures;
 
 pub use fault::CapsTextFault;
-pub use parse::parse;
-pub use print::{print, print_fixed};
+pub use printing::{print, print_fixed};
+pub use reading::parse;
 
 #[cfg(test)]
 mod tests;

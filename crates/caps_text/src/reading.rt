@@ -14,7 +14,7 @@ fn as_place(place: usize) -> u32 {
 fn fault_of(refusal: Refusal, length: usize, unread: usize) -> CapsTextFault {
     match refusal {
         Refusal::Misspelt => CapsTextFault::BadCaps {
-            place: as_place(length - unread),
+            place: as_place(length.saturating_sub(unread)),
         },
         Refusal::TooMany => CapsTextFault::TooMany { count: 65 },
         Refusal::OutOfMemory => CapsTextFault::OutOfMemory,
@@ -31,7 +31,7 @@ pub fn parse(alloc: Global, text: &str) -> Result<Caps, CapsTextFault> {
     }
     let mut scanner = Scanner::new(text);
     match read_structures(&mut scanner, alloc) {
-        Ok(caps) => Ok(caps),
+        Ok(structures) => Ok(Caps::Of(structures)),
         Err(refusal) => Err(fault_of(refusal, text.len(), scanner.rest.len())),
     }
 }

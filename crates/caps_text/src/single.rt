@@ -1,14 +1,23 @@
 //! Single values and ranges.
+ghost use Rattle.std.specs.Prelude.{◌≡◌, ℕ, List, false, []};
+ghost use Rattle.caps_text.specs.Answers.{Gives, Reads, found};
+ghost use Rattle.caps_text.specs.Reading.{judge, judge_words, range, read_member, read_quoted, read_range, read_single, read_string, read_truth, read_untyped, takes_ranges};
+
 use crate::class::Class;
-use crate::fault::Refusal;
+use crate::fault::{Misspelt, Refusal};
 use crate::kind::Kind;
-use crate::number::{Wanted, read_fraction, read_number, whole_number, whole_pair};
+use crate::number::{
+    Wanted, ratio, read_any, read_fraction, read_number, whole_number, whole_pair,
+};
 use crate::scanner::Scanner;
-use gst_caps::{One, Text, fraction};
+use gst_caps::{One, Text};
 use std::alloc::Global;
 
 /// Reads `true` or `false`.
-fn read_truth(scanner: &mut Scanner<'_>) -> Result<bool, Refusal> {
+#[tactic(auto, unfolding(crate::specs::Reading::read_truth))]
+fn read_truth(scanner: &mut Scanner<'_>) -> Result<bool, Misspelt>
+    ensures { Reads (λ x. x) result scanner.new.rest.now (read_truth scanner.old.rest.now) }
+{
     if scanner.begins(b't') {
         scanner.word("true")?;
         return Ok(true);
@@ -18,7 +27,9 @@ fn read_truth(scanner: &mut Scanner<'_>) -> Result<bool, Refusal> {
 }
 
 /// Reads the characters behind a double quote, up to the next one. A backslash takes the next character as it is.
-fn read_quoted(scanner: &mut Scanner<'_>, alloc: Global) -> Result<Text, Refusal> {
+fn read_quoted(scanner: &mut Scanner<'_>, alloc: Global) -> Result<Text, Refusal>
+    ensures { Gives (λ x. x) result scanner.new.rest.now (read_quoted false [] scanner.old.rest.now) }
+{
     let mut characters = String::new(alloc);
     while let Some(next) = scanner.take() {
         match next {
@@ -34,7 +45,10 @@ fn read_quoted(scanner: &mut Scanner<'_>, alloc: Global) -> Result<Text, Refusal
 }
 
 /// Reads a string.
-fn read_string(scanner: &mut Scanner<'_>, alloc: Global) -> Result<Text, Refusal> {
+#[tactic(auto, unfolding(crate::specs::Reading::read_string))]
+fn read_string(scanner: &mut Scanner<'_>, alloc: Global) -> Result<Text, Refusal>
+    ensures { Gives (λ x. x) result scanner.new.rest.now (read_string scanner.old.rest.now) }
+{
     if scanner.takes('"') {
         return read_quoted(scanner, alloc);
     }
@@ -42,14 +56,10 @@ fn read_string(scanner: &mut Scanner<'_>, alloc: Global) -> Result<Text, Refusal
     Ok(Text::from_str(alloc, word)?)
 }
 
-/// What a value without type and quotes is: a number, a fraction, a truth value, or else a string.
-fn judge(alloc: Global, word: &str) -> Result<One, Refusal> {
-    if let Some(number) = whole_number(word) {
-        return Ok(One::Int(number));
-    }
-    if let Some((num, den)) = whole_pair(word) {
-        return fraction(num, den).ok_or(Refusal::Misspelt);
-    }
+/// What a value without type and quotes is that is no number: a truth value, or else a string.
+fn judge_words(alloc: Global, word: &str) -> Result<One, Refusal>
+    ensures { (rest : List ℕ) → Gives (λ x. x) result rest (found (Some (judge_words word.now)) rest) }
+{
     match word {
         "true" => Ok(One::Bool(true)),
         "false" => Ok(One::Bool(false)),
@@ -57,8 +67,25 @@ fn judge(alloc: Global, word: &str) -> Result<One, Refusal> {
     }
 }
 
+/// What a value without type and quotes is: a number, a fraction, a truth value, or else a string.
+#[tactic(auto, unfolding(crate::specs::Reading::judge))]
+fn judge(alloc: Global, word: &str) -> Result<One, Refusal>
+    ensures { (rest : List ℕ) → Gives (λ x. x) result rest (found (judge word.now) rest) }
+{
+    if let Some(number) = whole_number(word) {
+        return Ok(One::Int(number));
+    }
+    if let Some((num, den)) = whole_pair(word) {
+        return ratio(num, den).ok_or(Refusal::Misspelt);
+    }
+    judge_words(alloc, word)
+}
+
 /// Reads a value without type.
-fn read_untyped(scanner: &mut Scanner<'_>, alloc: Global) -> Result<One, Refusal> {
+#[tactic(auto, unfolding(crate::specs::Reading::read_untyped))]
+fn read_untyped(scanner: &mut Scanner<'_>, alloc: Global) -> Result<One, Refusal>
+    ensures { Gives (λ x. x) result scanner.new.rest.now (read_untyped scanner.old.rest.now) }
+{
     if scanner.takes('"') {
         return Ok(One::Text(read_quoted(scanner, alloc)?));
     }
@@ -67,22 +94,23 @@ fn read_untyped(scanner: &mut Scanner<'_>, alloc: Global) -> Result<One, Refusal
 }
 
 /// Reads a single value of this type, or of the type that it reads as.
-fn read_single(
-    scanner: &mut Scanner<'_>,
-    alloc: Global,
-    kind: Option<Kind>,
-) -> Result<One, Refusal> {
+#[tactic(auto, unfolding(crate::specs::Reading::read_single))]
+fn read_single(scanner: &mut Scanner<'_>, alloc: Global, kind: Option<Kind>) -> Result<One, Refusal>
+    ensures { Gives (λ x. x) result scanner.new.rest.now (read_single kind scanner.old.rest.now) }
+{
     match kind {
         None => read_untyped(scanner, alloc),
-        Some(Kind::Int) => Ok(One::Int(read_number(scanner, Wanted::AtLeast(i32::MIN))?)),
+        Some(Kind::Int) => Ok(One::Int(read_any(scanner)?)),
         Some(Kind::Text) => Ok(One::Text(read_string(scanner, alloc)?)),
         Some(Kind::Bool) => Ok(One::Bool(read_truth(scanner)?)),
-        Some(Kind::Fraction) => read_fraction(scanner),
+        Some(Kind::Fraction) => Ok(read_fraction(scanner)?),
     }
 }
 
 /// The range with these ends; one number where they are equal.
-fn range(low: i32, high: i32) -> One {
+fn range(low: i32, high: i32) -> One
+    ensures { result ≡ range low high }
+{
     if low == high {
         One::Int(low)
     } else {
@@ -91,9 +119,12 @@ fn range(low: i32, high: i32) -> One {
 }
 
 /// Reads a range behind its opening bracket.
-fn read_range(scanner: &mut Scanner<'_>) -> Result<One, Refusal> {
+#[tactic(auto, unfolding(crate::specs::Reading::read_range))]
+fn read_range(scanner: &mut Scanner<'_>) -> Result<One, Misspelt>
+    ensures { Reads (λ x. x) result scanner.new.rest.now (read_range scanner.old.rest.now) }
+{
     scanner.skip_spaces();
-    let low = read_number(scanner, Wanted::AtLeast(i32::MIN))?;
+    let low = read_any(scanner)?;
     scanner.mark(',')?;
     let high = read_number(scanner, Wanted::AtLeast(low))?;
     scanner.skip_spaces();
@@ -102,19 +133,25 @@ fn read_range(scanner: &mut Scanner<'_>) -> Result<One, Refusal> {
 }
 
 /// Whether a range may stand for a value of this type.
-fn takes_ranges(kind: Option<Kind>) -> bool {
+fn takes_ranges(kind: Option<Kind>) -> bool
+    ensures { result ≡ takes_ranges kind }
+{
     matches!(kind, None | Some(Kind::Int))
 }
 
 /// Reads a single value or a range.
+#[tactic(auto, unfolding(crate::specs::Reading::read_member))]
 pub(crate) fn read_member(
     scanner: &mut Scanner<'_>,
     alloc: Global,
     kind: Option<Kind>,
-) -> Result<One, Refusal> {
-    if takes_ranges(kind) && scanner.takes('[') {
-        read_range(scanner)
-    } else {
-        read_single(scanner, alloc, kind)
+) -> Result<One, Refusal>
+    ensures { Gives (λ x. x) result scanner.new.rest.now (read_member kind scanner.old.rest.now) }
+{
+    if takes_ranges(kind) {
+        if scanner.takes('[') {
+            return Ok(read_range(scanner)?);
+        }
     }
+    read_single(scanner, alloc, kind)
 }

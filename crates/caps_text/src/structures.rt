@@ -1,13 +1,24 @@
 //! Structures and caps.
+ghost use Rattle.std.specs.Prelude.{◌≡◌, ℕ, List as Items, is_some, slice_get};
+ghost use Rattle.gst_caps.specs.Accepts.{value_at};
+ghost use Rattle.caps_text.specs.Answers.{Gives, Reads};
+ghost use Rattle.caps_text.specs.Reading.{again, few_structures, names, read_field, read_head, read_media, read_more, read_name, read_structures};
+
 use crate::class::{Class, is_letter};
-use crate::fault::Refusal;
+use crate::fault::{Misspelt, Refusal};
 use crate::list::read_value;
 use crate::scanner::Scanner;
-use gst_caps::{Caps, List, Structure, Text};
+use gst_caps::{List, Structure, Text};
 use std::alloc::Global;
 
+/// The most structures of caps.
+const LIMIT: usize = 64;
+
 /// Reads a media type: two names with `/` between.
-fn read_media(scanner: &mut Scanner<'_>, alloc: Global) -> Result<Text, Refusal> {
+#[tactic(auto, unfolding(crate::specs::Reading::read_media))]
+fn read_media(scanner: &mut Scanner<'_>, alloc: Global) -> Result<Text, Refusal>
+    ensures { Gives (λ x. x) result scanner.new.rest.now (read_media scanner.old.rest.now) }
+{
     let above = scanner.some_run(Class::Media)?;
     scanner.expect('/')?;
     let below = scanner.some_run(Class::Media)?;
@@ -17,32 +28,48 @@ fn read_media(scanner: &mut Scanner<'_>, alloc: Global) -> Result<Text, Refusal>
     Ok(media)
 }
 
+/// Whether the field at this place has this name.
+fn is_named(structure: &Structure, place: u32, name: &str) -> bool
+    ensures { result ≡ names name.now (slice_get structure.now.fields place) }
+{
+    match structure.field(place) {
+        Some((known, _)) => known == name,
+        None => false,
+    }
+}
+
 /// Whether the structure has a field of this name.
-fn has_field(structure: &Structure, name: &str) -> bool {
+fn has_field(structure: &Structure, name: &str) -> bool
+    ensures { result ≡ is_some (value_at name.now structure.now.fields) }
+{
     for place in 0..structure.fields() {
-        if let Some((known, _)) = structure.field(place) {
-            if known == name {
-                return true;
-            }
+        if is_named(structure, place, name) {
+            return true;
         }
     }
     false
 }
 
 /// Reads the name of a field, which begins with a letter.
-fn read_name<'a>(scanner: &mut Scanner<'a>) -> Result<&'a str, Refusal> {
+#[tactic(auto, unfolding(crate::specs::Reading::read_name))]
+fn read_name<'a>(scanner: &mut Scanner<'a>) -> Result<&'a str, Misspelt>
+    ensures { Reads (λ x. x.now) result scanner.new.rest.now (read_name scanner.old.rest.now) }
+{
     match scanner.rest.as_bytes().first() {
         Some(byte) if is_letter(*byte) => Ok(scanner.run(Class::Name)),
-        _ => Err(Refusal::Misspelt),
+        _ => Err(Misspelt),
     }
 }
 
 /// Reads a field whose name the structure does not have.
+#[tactic(auto, unfolding(crate::specs::Reading::read_field))]
 fn read_field(
     scanner: &mut Scanner<'_>,
     alloc: Global,
     structure: &mut Structure,
-) -> Result<(), Refusal> {
+) -> Result<(), Refusal>
+    ensures { Gives (λ _. structure.new) result scanner.new.rest.now (read_field structure.old scanner.old.rest.now) }
+{
     let name = read_name(scanner)?;
     if has_field(structure, name) {
         return Err(Refusal::Misspelt);
@@ -54,27 +81,74 @@ fn read_field(
 }
 
 /// Reads a structure's media type.
-fn read_head(scanner: &mut Scanner<'_>, alloc: Global) -> Result<Structure, Refusal> {
+#[tactic(auto, unfolding(crate::specs::Reading::read_head))]
+fn read_head(scanner: &mut Scanner<'_>, alloc: Global) -> Result<Structure, Refusal>
+    ensures { Gives (λ x. x) result scanner.new.rest.now (read_head scanner.old.rest.now) }
+{
     let media = read_media(scanner, alloc)?;
     Ok(Structure::new(alloc, media.as_str())?)
 }
 
-/// Reads structures up to the end of the text.
-pub(crate) fn read_structures(scanner: &mut Scanner<'_>, alloc: Global) -> Result<Caps, Refusal> {
-    let mut caps = Caps::Of(List::new(alloc));
-    let mut structure = read_head(scanner, alloc)?;
-    while !scanner.is_at_end() {
-        scanner.skip_spaces();
-        if scanner.takes(',') {
-            scanner.skip_spaces();
-            read_field(scanner, alloc, &mut structure)?;
-        } else {
-            scanner.expect(';')?;
-            scanner.skip_spaces();
-            caps.push(alloc, structure)?;
-            structure = read_head(scanner, alloc)?;
+/// The structures that are whole, and the one that is being read.
+#[derive(Drop)]
+struct Made {
+    whole: List<Structure>,
+    structure: Structure,
+}
+
+impl Made {
+    /// The structures with the last one, which is whole now.
+    fn finish(self, alloc: Global) -> Result<List<Structure>, Refusal>
+        ensures { (rest : Items ℕ) → Gives (λ x. x) result rest (few_structures (self.whole, self.structure) rest) }
+    {
+        let Made {
+            mut whole,
+            structure,
+        } = self;
+        if whole.as_slice().len() >= LIMIT {
+            return Err(Refusal::TooMany);
         }
+        whole.push(alloc, structure)?;
+        Ok(whole)
     }
-    caps.push(alloc, structure)?;
-    Ok(caps)
+}
+
+/// Reads a comma and a field, or a semicolon and a structure.
+#[tactic(auto, unfolding(crate::specs::Reading::read_more))]
+fn read_more(scanner: &mut Scanner<'_>, alloc: Global, made: Made) -> Result<Made, Refusal>
+    ensures { Gives (λ m. again (m.whole, m.structure)) result scanner.new.rest.now (read_more (made.whole, made.structure) scanner.old.rest.now) }
+{
+    scanner.skip_spaces();
+    if scanner.takes(',') {
+        scanner.skip_spaces();
+        let Made {
+            whole,
+            mut structure,
+        } = made;
+        read_field(scanner, alloc, &mut structure)?;
+        return Ok(Made { whole, structure });
+    }
+    scanner.expect(';')?;
+    let whole = made.finish(alloc)?;
+    scanner.skip_spaces();
+    let structure = read_head(scanner, alloc)?;
+    Ok(Made { whole, structure })
+}
+
+/// Reads structures up to the end of the text.
+#[tactic(auto, unfolding(crate::specs::Reading::read_structures))]
+pub(crate) fn read_structures(
+    scanner: &mut Scanner<'_>,
+    alloc: Global,
+) -> Result<List<Structure>, Refusal>
+    ensures { Gives (λ x. x) result scanner.new.rest.now (read_structures scanner.old.rest.now) }
+{
+    let mut made = Made {
+        whole: List::new(alloc),
+        structure: read_head(scanner, alloc)?,
+    };
+    while !scanner.is_at_end() {
+        made = read_more(scanner, alloc, made)?;
+    }
+    made.finish(alloc)
 }

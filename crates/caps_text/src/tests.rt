@@ -1,7 +1,7 @@
 //! Tables of texts and of intersections, and the limits.
 use crate::fault::CapsTextFault;
-use crate::parse::parse;
-use crate::print::{print, print_fixed};
+use crate::printing::{print, print_fixed};
+use crate::reading::parse;
 use gst_caps::Caps;
 use std::alloc::Global;
 use std::fmt::Write;

@@ -1,0 +1,4 @@
+mod Characters
+mod Fields
+mod Ratios
+mod Tokens
