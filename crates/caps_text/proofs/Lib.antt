@@ -1,4 +1,5 @@
 mod Characters
 mod Fields
 mod Ratios
+mod Readers
 mod Tokens

@@ -1,5 +1,6 @@
 pub mod Answers
 pub mod Bytes
+pub mod Grammar
 pub mod Kinds
 pub mod Printed
 pub mod Ratio

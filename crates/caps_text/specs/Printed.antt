@@ -1,5 +1,5 @@
 -- The text of caps.
-use Rattle.std.specs.Prelude.{ℕ, ℤ, Bool, cond, ◌==◌, ◌||◌, true, false, List, [], ◌∷◌, ◌++◌, codes}
+use Rattle.std.specs.Prelude.{ℕ, ℤ, Bool, cond, ◌==◌, ◌||◌, true, false, List, [], ◌∷◌, ◌++◌, Option, Some, None, codes}
 use Rattle.std.specs.Fmt.{signed_decimal}
 use Rattle.std.specs.List.{flat_map}
 use Rattle.gst_caps.specs.Description.{Description}
@@ -61,6 +61,11 @@ value_text (Many members) = list_type members ++ codes "{ " ++ joined (codes ", 
 -- a field behind the media type
 abbrev pub field_text : {V : Type 0} → (V → List ℕ) → List ℕ × V → List ℕ
 field_text value f = codes ", " ++ f.0 ++ codes "=" ++ value f.1
+
+-- a field that may be there
+abbrev pub text_at : {V : Type 0} → (V → List ℕ) → Option (List ℕ × V) → List ℕ
+text_at value None = []
+text_at value (Some f) = field_text value f
 
 -- the media type and the fields in the order of their names
 abbrev pub structure_text : {V : Type 0} → (V → List ℕ) → Description V → List ℕ

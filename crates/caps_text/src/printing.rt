@@ -1,10 +1,10 @@
 //! Writes caps.
-ghost use Rattle.std.specs.Prelude.{◌≡◌, ◌++◌, ◌∷◌, [], codes, IfOk, OnOk};
+ghost use Rattle.std.specs.Prelude.{◌≡◌, ◌++◌, ◌∷◌, [], codes, slice_get, IfOk, OnOk};
 ghost use Rattle.std.specs.String.{string_bytes};
 ghost use Rattle.std.specs.Char.{encode_utf8};
 ghost use Rattle.std.specs.List.{list_all};
 ghost use Rattle.caps_text.specs.Bytes.{in_class, is_word};
-ghost use Rattle.caps_text.specs.Printed.{caps_text, escaped, field_text, joined, one_text, string_text, structure_text, type_text, typed_text, value_text};
+ghost use Rattle.caps_text.specs.Printed.{caps_text, escaped, joined, one_text, string_text, structure_text, text_at, typed_text, value_text};
 
 use crate::class::Class;
 use crate::kind::{kind_of, word_of};
@@ -138,16 +138,26 @@ fn put_name(into: &mut String, name: &str) -> Result<(), OutOfMemory>
     Ok(())
 }
 
+/// Writes the field at this place.
+fn put_field(into: &mut String, structure: &Structure, place: u32) -> Result<(), OutOfMemory>
+    ensures { OnOk result (string_bytes into.new ≡ string_bytes into.old ++ text_at value_text (slice_get structure.now.fields place)) }
+{
+    match structure.field(place) {
+        Some((name, value)) => {
+            put_name(into, name)?;
+            put_value(into, value)
+        }
+        None => Ok(()),
+    }
+}
+
 /// Writes a structure: its media type and its fields in the order of their names.
 fn put_structure(into: &mut String, structure: &Structure) -> Result<(), OutOfMemory>
     ensures { OnOk result (string_bytes into.new ≡ string_bytes into.old ++ structure_text value_text structure.now) }
 {
     into.push_str(structure.media())?;
     for place in 0..structure.fields() {
-        if let Some((name, value)) = structure.field(place) {
-            put_name(into, name)?;
-            put_value(into, value)?;
-        }
+        put_field(into, structure, place)?;
     }
     Ok(())
 }
@@ -183,6 +193,19 @@ pub fn print(alloc: Global, caps: &Caps) -> Result<Text, OutOfMemory>
     Ok(Text::from_string(into))
 }
 
+/// Writes the field at this place.
+fn put_fixed_field(into: &mut String, caps: &Fixed, place: u32) -> Result<(), OutOfMemory>
+    ensures { OnOk result (string_bytes into.new ≡ string_bytes into.old ++ text_at typed_text (slice_get caps.now.fields place)) }
+{
+    match caps.field(place) {
+        Some((name, one)) => {
+            put_name(into, name)?;
+            put_typed(into, one)
+        }
+        None => Ok(()),
+    }
+}
+
 /// The text of fixed caps: the media type and then, in the order of names, the fields as `, name=(type)value`.
 pub fn print_fixed(alloc: Global, caps: &Fixed) -> Result<Text, OutOfMemory>
     ensures { IfOk result (λ text. text ≡ structure_text typed_text caps.now) }
@@ -190,10 +213,7 @@ pub fn print_fixed(alloc: Global, caps: &Fixed) -> Result<Text, OutOfMemory>
     let mut into = String::new(alloc);
     into.push_str(caps.media())?;
     for place in 0..caps.fields() {
-        if let Some((name, one)) = caps.field(place) {
-            put_name(&mut into, name)?;
-            put_typed(&mut into, one)?;
-        }
+        put_fixed_field(&mut into, caps, place)?;
     }
     Ok(Text::from_string(into))
 }

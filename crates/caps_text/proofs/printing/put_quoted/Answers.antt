@@ -1,3 +1,4 @@
+use Rattle.caps_text.proofs.Readers.{reads_any}
 -- A character is passed.
 use Rattle.caps_text.proofs.Characters.{shorter_by}
 use Rattle.caps_text.proofs.printing.put_quoted.Goals as goal
