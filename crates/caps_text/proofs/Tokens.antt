@@ -10,7 +10,7 @@ use Rattle.std.proofs.lemmas.List.Sums.{take_while-cons}
 use Rattle.std.proofs.lemmas.Str.{IsCharBoundary-start, IsCharBoundary-after_ascii}
 use Rattle.caps_text.specs.Answers.{Answer, Stop, misspelt, ◌>>=◌}
 use Rattle.caps_text.specs.Bytes.{in_class, is_digit, is_ascii, is_letter, is_sign}
-use Rattle.caps_text.specs.Reading.{after_byte, behind_run, behind_spaces, expect, read_literal, digit_at, read_digits, can_begin, reaches, reaches_by, wanted_number, powers, is_wanted}
+use Rattle.caps_text.specs.Reading.{after_byte, behind_run, behind_spaces, run_of, expect, read_literal, digit_at, read_digits, can_begin, reaches, reaches_by, wanted_number, powers, is_wanted}
 use Rattle.caps_text.specs.Ratio.{fits}
 use Rattle.gst_caps.specs.Fractions.{signed}
 use Rattle.caps_text.specs.declared.number.Wanted.{Wanted}
@@ -148,3 +148,12 @@ unfolding can_begin reaches wanted_number
 small_begin (AtLeast least) true size h = leb-true size 2147483648 (and-left _ _ h)
 small_begin (AtLeast least) false size h = let a = small_reach powers size least h in omega (arith, a)
 small_begin (Denominator num) negative size h = or_cases (nat_le size 214748364) (is_some (wanted_number (Denominator num) negative size)) (size ≤ 2147483648) (λ e. let a = leb-true size 214748364 e in omega (arith, a)) (λ e. fits_small negative size (some_cond (fits negative size) (is_wanted (Denominator num) (signed negative size)) (signed negative size) e)) h
+
+-- the front that is cut off is the run
+pub run_is : (class : Class) (x : List ℕ) → take (length (take_while (in_class class) x)) x ≡ run_of class x
+run_is class [] = refl
+run_is class (b ∷ bs) = rw (run_cons class b bs) (more (run_is class bs) (in_class class b))
+  where
+  more : take (length (take_while (in_class class) bs)) bs ≡ run_of class bs → (t : Bool) → take (length (cond t (b ∷ take_while (in_class class) bs) [])) (b ∷ bs) ≡ cond t (b ∷ run_of class bs) []
+  more h true = ap (λ l. b ∷ l) h
+  more h false = refl

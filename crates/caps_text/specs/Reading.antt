@@ -1,6 +1,6 @@
 -- How the parts of a caps text are read, from the front on.
 use Rattle.std.specs.Prelude.{ℕ, ◌+◌, ◌-◌, ◌*◌, ◌/◌, ◌==◌, ◌++◌, ℤ, pos, Bool, true, false, cond, not, ◌&&◌, ◌||◌, List, [], ◌∷◌, Option, Some, None, Ok, Err, is_some, length, drop, codes, nat_le, nat_lt, int_le, suc, zero}
-use Rattle.std.specs.List.{list_any, take_while}
+use Rattle.std.specs.List.{list_any}
 use Rattle.std.specs.Option.{option_map}
 use Rattle.std.specs.Ordering.{int_eq}
 use Rattle.std.specs.Str.{bytes_eq}
@@ -56,7 +56,8 @@ read_literal (w ∷ ws) x = expect w x >>= λ a. read_literal ws a.1
 
 -- the bytes of a class that stand first, and what stands behind them
 abbrev pub run_of : Class → List ℕ → List ℕ
-run_of class x = take_while (in_class class) x
+run_of class [] = []
+run_of class (b ∷ bs) = cond (in_class class b) (b ∷ run_of class bs) []
 
 abbrev pub behind_run : Class → List ℕ → List ℕ
 behind_run class [] = []

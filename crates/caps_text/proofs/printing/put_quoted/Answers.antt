@@ -1,4 +1,4 @@
-use Rattle.caps_text.proofs.Readers.{reads_any}
+use Rattle.caps_text.proofs.Strings.{reads_to_quote}
 -- A character is passed.
 use Rattle.caps_text.proofs.Characters.{shorter_by}
 use Rattle.caps_text.proofs.printing.put_quoted.Goals as goal
