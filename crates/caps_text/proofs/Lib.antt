@@ -1,6 +1,7 @@
 mod Characters
 mod Choices
 mod Fields
+mod Numbers
 mod Ratios
 mod Readers
 mod Strings

@@ -1,4 +1,5 @@
-use Rattle.caps_text.proofs.Strings.{reads_to_quote}
+use Rattle.caps_text.proofs.Strings.{reads_kind}
+use Rattle.caps_text.proofs.Numbers.{digits_complete}
 -- A character is passed.
 use Rattle.caps_text.proofs.Characters.{shorter_by}
 use Rattle.caps_text.proofs.printing.put_quoted.Goals as goal
