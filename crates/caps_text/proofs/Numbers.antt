@@ -14,7 +14,8 @@ use Rattle.caps_text.specs.Ratio.{fits, ratio}
 use Rattle.caps_text.specs.Reading.{after_byte, behind_minus, can_begin, digit_at, expect, is_wanted, least_number, minus, powers, reaches, reaches_by, read_digits, read_fraction, read_number, read_pair, read_size, wanted_number}
 use Rattle.caps_text.specs.declared.number.Wanted.{Wanted}
 use Rattle.caps_text.specs.declared.number.Wanted.TheVariants.{AtLeast, Denominator}
-use Rattle.caps_text.proofs.Readers.{IsReader, Reads_front, Stops, Starts, nothing, ok_is, some_is, bind_ok, reads_then, reads_as, reads_sure, reads_weaker, reads_any, stops_nothing, starts_stop}
+use Rattle.caps_text.proofs.Choices.{reads_iff}
+use Rattle.caps_text.proofs.Readers.{IsReader, Reads_front, Stops, Starts, nothing, ok_is, some_is, bind_ok, found_ok, reads_then, reads_as, reads_sure, reads_weaker, reads_any, stops_nothing, starts_stop}
 use Rattle.caps_text.proofs.Tokens.{after_byte_is, small_begin}
 use Rattle.caps_text.proofs.Words.{passes, reads_byte, starts_is}
 
@@ -191,3 +192,93 @@ digits_complete w negative size (b ∷ bs) rest h stop f g =
     ap (λ t. cond {A = Answer ℕ} t (cond {A = Answer ℕ} (can_begin w negative (size * 10 + (b - 48))) (read_digits w negative (size * 10 + (b - 48)) (bs ++ rest)) (Err (misspelt (b ∷ (bs ++ rest))))) (Ok (size, b ∷ (bs ++ rest)))) one
     ∙ ap (λ t. cond {A = Answer ℕ} t (read_digits w negative (size * 10 + (b - 48)) (bs ++ rest)) (Err (misspelt (b ∷ (bs ++ rest))))) (viable w negative (size * 10 + (b - 48)) bs others f g)
     ∙ digits_complete w negative (size * 10 + (b - 48)) bs rest others stop f g
+
+-- digits and the number that they write with a sign
+Sized : Wanted → Bool → List ℕ → ℤ → List ℕ → Type 0
+Sized w negative y n rest = (digits : List ℕ) × (size : ℕ) × (y ≡ digits ++ rest) × Digits digits size × (fits negative size ≡ true) × (is_wanted w (signed negative size) ≡ true) × (n ≡ signed negative size)
+
+size_sound : (w : Wanted) (negative : Bool) (y rest : List ℕ) (n : ℤ) → read_size w (negative, y) ≡ Ok (n, rest) → Sized w negative y n rest
+unfolding read_size Sized
+size_sound w negative y rest n h = step (is_some (digit_at y)) refl h
+  where
+  step : (t : Bool) → is_some (digit_at y) ≡ t → cond {A = Answer ℤ} t (read_digits w negative 0 y >>= λ d. found (wanted_number w negative d.0) d.1) (Err (misspelt y)) ≡ Ok (n, rest) → Sized w negative y n rest
+  step true e k =
+      let b = bind_ok (read_digits w negative 0 y) (λ d. found (wanted_number w negative d.0) d.1) (n, rest) k in
+      let d = digits_sound w negative 0 y b.0.1 b.0.0 b.1 in
+      let f = found_ok (wanted_number w negative b.0.0) b.0.1 (n, rest) b.2 in
+      let p = wanted_parts w negative b.0.0 n f.0 in
+      (d.0, b.0.0, d.1 ∙ ap (λ l. d.0 ++ l) f.1, (d.2, d.4 e, d.3), p.0, p.1, p.2)
+  step false e k = absurd (cc)
+
+-- what stands first in digits
+digits_begin : (digits rest : List ℕ) (size : ℕ) → Digits digits size → is_some (digit_at (digits ++ rest)) ≡ true
+digits_begin [] rest size h = absurd (let some = h.1 in omega (arith, some))
+digits_begin (b ∷ bs) rest size h = ap (λ t. is_some (cond {A = Option (ℕ × List ℕ)} t (Some (b - 48, bs ++ rest)) None)) (and-left (is_digit b) (list_all is_digit bs) h.2)
+
+size_complete : (w : Wanted) (negative : Bool) (digits rest : List ℕ) (size : ℕ) → Digits digits size → fits negative size ≡ true → is_wanted w (signed negative size) ≡ true → Stops is_digit rest → read_size w (negative, digits ++ rest) ≡ Ok (signed negative size, rest)
+unfolding read_size
+size_complete w negative digits rest size h f g stop =
+    let e = h.0 in
+    let whole = digits_complete w negative 0 digits rest h.2 stop (subst (λ s. fits negative s ≡ true) e f) (subst (λ s. is_wanted w (signed negative s) ≡ true) e g) ∙ ap (λ s. Ok (s, rest)) (sym e) in
+    ap (λ t. cond {A = Answer ℤ} t (read_digits w negative 0 (digits ++ rest) >>= λ d. found (wanted_number w negative d.0) d.1) (Err (misspelt (digits ++ rest)))) (digits_begin digits rest size h)
+    ∙ ap (λ a. a >>= λ d. found (wanted_number w negative d.0) d.1) whole
+    ∙ ap (λ o. found o rest) (wanted_whole w negative size f g)
+
+number_sound : (w : Wanted) (x rest : List ℕ) (n : ℤ) → read_number w x ≡ Ok (n, rest) → Reads_front (Wanted_number w) x n rest
+unfolding read_number minus Sized
+number_sound w x rest n h = step (can_begin w true 0) (after_byte 45 x) refl h
+  where
+  plain : read_size w (false, x) ≡ Ok (n, rest) → Reads_front (Wanted_number w) x n rest
+  plain k = let s = size_sound w false x rest n k in (s.0, s.2, (inl (s.1, s.3, s.4, s.6), ap (is_wanted w) s.6 ∙ s.5))
+  step : (t : Bool) (o : Option (List ℕ)) → after_byte 45 x ≡ o → read_size w (cond {A = Bool × List ℕ} t (behind_minus x o) (false, x)) ≡ Ok (n, rest) → Reads_front (Wanted_number w) x n rest
+  step true (Some y) e k = let s = size_sound w true y rest n k in (45 ∷ s.0, after_byte_is 45 x y e ∙ ap (λ l. 45 ∷ l) s.2, (inr (s.0, s.1, refl, s.3, s.4, s.6), ap (is_wanted w) s.6 ∙ s.5))
+  step true None e k = plain k
+  step false o e k = plain k
+
+digit_no_minus : (b : ℕ) → is_digit b ≡ true → eqb b 45 ≡ false
+digit_no_minus b h = elim (eqb_tells b 45) [ inl t ↦ absurd (let bad : is_digit 45 ≡ true = subst (λ n. is_digit n ≡ true) t.1 h in cc) | inr t ↦ t.0 ]
+
+no_minus : (digits rest : List ℕ) (size : ℕ) → Digits digits size → after_byte 45 (digits ++ rest) ≡ None
+no_minus [] rest size h = absurd (let some = h.1 in omega (arith, some))
+no_minus (b ∷ bs) rest size h = ap (λ t. cond {A = Option (List ℕ)} t (Some (bs ++ rest)) None) (digit_no_minus b (and-left (is_digit b) (list_all is_digit bs) h.2))
+
+number_complete : (w : Wanted) (used rest : List ℕ) (n : ℤ) → Wanted_number w used n → Stops is_digit rest → read_number w (used ++ rest) ≡ Ok (n, rest)
+unfolding read_number minus
+number_complete w used rest n (inl h, g) stop =
+    ap (λ o. read_size w (cond {A = Bool × List ℕ} (can_begin w true 0) (behind_minus (used ++ rest) o) (false, used ++ rest))) (no_minus used rest h.0 h.1)
+    ∙ same (can_begin w true 0)
+    ∙ size_complete w false used rest h.0 h.1 h.2 (sym (ap (is_wanted w) h.3) ∙ g) stop
+    ∙ ap (λ z. Ok (z, rest)) (sym h.3)
+  where
+  same : (t : Bool) → read_size w (cond {A = Bool × List ℕ} t (false, used ++ rest) (false, used ++ rest)) ≡ read_size w (false, used ++ rest)
+  same true = refl
+  same false = refl
+number_complete w used rest n (inr h, g) stop =
+    let want : is_wanted w (signed true h.1) ≡ true = sym (ap (is_wanted w) h.5) ∙ g in
+    let can : can_begin w true 0 ≡ true = viable w true 0 h.0 h.3.2 (subst (λ s. fits true s ≡ true) h.3.0 h.4) (subst (λ s. is_wanted w (signed true s) ≡ true) h.3.0 want) in
+    ap (λ l. read_size w (cond {A = Bool × List ℕ} (can_begin w true 0) (behind_minus (l ++ rest) (after_byte 45 (l ++ rest))) (false, l ++ rest))) h.2
+    ∙ ap (λ t. read_size w (cond {A = Bool × List ℕ} t (behind_minus (45 ∷ (h.0 ++ rest)) (after_byte 45 (45 ∷ (h.0 ++ rest)))) (false, 45 ∷ (h.0 ++ rest)))) can
+    ∙ ap (λ o. read_size w (behind_minus (45 ∷ (h.0 ++ rest)) o)) (passes 45 (h.0 ++ rest))
+    ∙ size_complete w true h.0 rest h.1 h.3 h.4 want stop
+    ∙ ap (λ z. Ok (z, rest)) (sym h.5)
+
+pub reads_number : (w : Wanted) → IsReader (Wanted_number w) is_digit (read_number w)
+reads_number w = record { sound = number_sound w; complete = number_complete w }
+
+-- every number of 32 bits is at least the least
+all_wanted : (negative : Bool) (size : ℕ) → fits negative size ≡ true → is_wanted (AtLeast least_number) (signed negative size) ≡ true
+all_wanted true size h = let a = leb-true size 2147483648 h in grind (arith, ints)
+all_wanted false size h = grind (arith, ints)
+
+any_number : (text : List ℕ) (n : ℤ) → Number text n → is_wanted (AtLeast least_number) n ≡ true
+any_number text n (inl h) = ap (is_wanted (AtLeast least_number)) h.3 ∙ all_wanted false h.0 h.2
+any_number text n (inr h) = ap (is_wanted (AtLeast least_number)) h.5 ∙ all_wanted true h.1 h.4
+
+pub reads_any_number : IsReader Number is_digit (read_number (AtLeast least_number))
+reads_any_number = reads_iff (Wanted_number (AtLeast least_number)) Number is_digit (read_number (AtLeast least_number)) (λ text n h. h.0) (λ text n h. (h, any_number text n h)) (reads_number (AtLeast least_number))
+
+-- a number begins with a digit or a minus
+pub number_starts : (test : ℕ → Bool) (text : List ℕ) (n : ℤ) → ((b : ℕ) → is_digit b ≡ true → test b ≡ false) → test 45 ≡ false → Number text n → Starts test text
+number_starts test [] n f e (inl h) = absurd (let some = h.1.1 in omega (arith, some))
+number_starts test (b ∷ bs) n f e (inl h) = f b (and-left (is_digit b) (list_all is_digit bs) h.1.2)
+number_starts test text n f e (inr h) = subst (Starts test) (sym h.2) e

@@ -80,7 +80,7 @@ module _ {V W : Type 0} (f : V → W) (P : List ℕ → V → Type 0) (test : �
   pub reads_as : IsReader (As f P) test (λ x. r x >>= λ a. Ok (f a.0, a.1))
   reads_as = record { sound = as_sound; complete = as_complete }
 
-found_ok : {W : Type 0} (o : Option W) (rest : List ℕ) (p : W × List ℕ) → found o rest ≡ Ok p → (o ≡ Some p.0) × (rest ≡ p.1)
+pub found_ok : {W : Type 0} (o : Option W) (rest : List ℕ) (p : W × List ℕ) → found o rest ≡ Ok p → (o ≡ Some p.0) × (rest ≡ p.1)
 found_ok None rest p h = absurd (cc)
 found_ok (Some w) rest p h = let e = ok_is (w, rest) p h in (ap (λ q. Some q.0) e, ap (λ q. q.1) e)
 
