@@ -6,4 +6,5 @@ mod Ratios
 mod Readers
 mod Strings
 mod Tokens
+mod Values
 mod Words

@@ -1,5 +1,5 @@
 use Rattle.caps_text.proofs.Strings.{reads_kind}
-use Rattle.caps_text.proofs.Numbers.{number_starts}
+use Rattle.caps_text.proofs.Values.{reads_untyped}
 -- A character is passed.
 use Rattle.caps_text.proofs.Characters.{shorter_by}
 use Rattle.caps_text.proofs.printing.put_quoted.Goals as goal
