@@ -148,3 +148,135 @@ reads_untyped = reads_iff (λ text one. Behind 34 (As Text To_quote) text one �
       inl w ↦ inr (text, w.0, judge_from text one w.1)
       | inr q ↦ inl (q.1.0 ++ 34 ∷ [], q.1.1, (q.0, (q.1.0, refl, q.1.2), q.2)) ])
     reads_untyped_parts
+
+-- a byte that stands in no word is no digit
+not_or : (a b : Bool) → (a || b) ≡ false → (a ≡ false) × (b ≡ false)
+not_or true b h = absurd (cc)
+not_or false b h = (refl, h)
+
+no_digit : (b : ℕ) → in_class Word b ≡ false → is_digit b ≡ false
+no_digit b h = (not_or (is_letter b) (is_digit b) (not_or (is_letter b || is_digit b) (is_sign Word b) h).0).1
+
+pub stops_digit : (rest : List ℕ) → Stops (in_class Word) rest → Stops is_digit rest
+stops_digit [] h = tt
+stops_digit (b ∷ bs) h = no_digit b h
+
+-- a single value
+pub reads_single : (kind : Option Kind) → IsReader (Single_value kind) (in_class Word) (read_single kind)
+unfolding read_single
+reads_single None = reads_untyped
+reads_single (Some Whole) = reads_weaker (As Int Number) is_digit (in_class Word) _ stops_digit (reads_as Int Number is_digit any_read reads_any_number)
+reads_single (Some Words) = reads_as Text Some_string (in_class Word) read_string reads_string
+reads_single (Some Either) = reads_any (As Truth Truth_value) (in_class Word) _ (reads_as Truth Truth_value nothing read_truth reads_truth)
+reads_single (Some Quotients) = reads_weaker Quotient is_digit (in_class Word) read_fraction stops_digit reads_fraction
+
+-- the kinds of bytes with which values begin
+abbrev pub Opens_none : (ℕ → Bool) → Type 0
+Opens_none test = ((b : ℕ) → in_class Word b ≡ true → test b ≡ false) × (test 34 ≡ false)
+
+and-left : (a b : Bool) → (a && b) ≡ true → a ≡ true
+and-left true b h = refl
+and-left false b h = h
+
+or-second : (a b c : Bool) → b ≡ true → ((a || b) || c) ≡ true
+or-second true b c h = refl
+or-second false b c h = ap (λ t. t || c) h
+
+digit_word : (b : ℕ) → is_digit b ≡ true → in_class Word b ≡ true
+digit_word b h = or-second (is_letter b) (is_digit b) (is_sign Word b) h
+
+word_opens : (test : ℕ → Bool) (text run : List ℕ) → Opens_none test → Run Word text run → Starts test text
+word_opens test [] run o h = absurd (let some = h.1 in omega (arith, some))
+word_opens test (b ∷ bs) run o h = o.0 b (and-left (in_class Word b) (list_all (in_class Word) bs) h.2)
+
+number_opens : (test : ℕ → Bool) (text : List ℕ) (n : ℤ) → Opens_none test → Number text n → Starts test text
+number_opens test text n o h = number_starts test text n (λ b d. o.0 b (digit_word b d)) (o.0 45 refl) h
+
+quotient_opens : (test : ℕ → Bool) (text : List ℕ) (one : One) → Opens_none test → Quotient text one → Starts test text
+quotient_opens test text one o h = subst (Starts test) (sym h.3) (starts_more test h.0 h.1 (number_opens test h.0 h.2 o h.4))
+
+quotes_open : (test : ℕ → Bool) (text t : List ℕ) → Opens_none test → In_quotes text t → Starts test text
+quotes_open test text t o h = subst (Starts test) (sym h.1) o.1
+
+pub single_opens : (test : ℕ → Bool) (kind : Option Kind) (text : List ℕ) (one : One) → Opens_none test → Single_value kind text one → Starts test text
+single_opens test None text one o (inl h) = word_opens test text text o h.0
+single_opens test None text one o (inr h) = quotes_open test text h.0 o h.1
+single_opens test (Some Whole) text one o h = number_opens test text h.0 o h.1
+single_opens test (Some Words) text one o h = elim h.1 [ inl r ↦ word_opens test text h.0 o r | inr q ↦ quotes_open test text h.0 o q ]
+single_opens test (Some Either) text one o h = elim h.1 [ inl p ↦ subst (Starts test) (sym p.0) (o.0 116 refl) | inr p ↦ subst (Starts test) (sym p.0) (o.0 102 refl) ]
+single_opens test (Some Quotients) text one o h = quotient_opens test text one o h
+
+-- the test for one byte that begins no value
+pub byte_opens : (m : ℕ) → in_class Word m ≡ false → eqb 34 m ≡ false → Opens_none (is_byte m)
+byte_opens m e f = (λ b h. elim (eqb_tells b m) [ inl t ↦ absurd (let bad : in_class Word m ≡ true = subst (λ n. in_class Word n ≡ true) t.1 h in let worse : true ≡ false = sym bad ∙ e in cc) | inr t ↦ t.0 ], f)
+
+pub space_opens : Opens_none is_space
+space_opens = byte_opens 32 refl refl
+
+-- what stands in a range behind its opening bracket
+abbrev pub Range_end : ℤ → ℤ → List ℕ → One → Type 0
+Range_end low high = Then Spaces (λ t. As (λ e. range low high) (Is (codes "]")))
+
+abbrev pub Range_high : ℤ → List ℕ → One → Type 0
+Range_high low = Then (Wanted_number (AtLeast low)) (λ high. Range_end low high)
+
+abbrev pub Range_tail : List ℕ → One → Type 0
+Range_tail = Then Spaces (λ s. Then Number (λ low. Then (Mark 44) (λ m. Range_high low)))
+
+reads_range_end : (low high : ℤ) → IsReader (Range_end low high) nothing (λ x. expect 93 (behind_spaces x) >>= λ e. Ok (range low high, e.1))
+reads_range_end low high = reads_then Spaces (λ t. As (λ e. range low high) (Is (codes "]"))) is_space nothing skipping (λ t x. expect 93 x >>= λ e. Ok (range low high, e.1)) reads_spaces
+    (λ t. reads_as (λ e. range low high) (Is (codes "]")) nothing (expect 93) (reads_byte 93))
+    (λ v back w rest q stop. starts_stop is_space back rest (subst (Starts is_space) (sym q.1) refl))
+
+end_starts : (test : ℕ → Bool) (low high : ℤ) (text : List ℕ) (one : One) → test 32 ≡ false → test 93 ≡ false → Range_end low high text one → Starts test text
+end_starts test low high text one e f h =
+    subst (Starts test) (sym h.3) (starts_spaces test h.0 h.1 h.4 e (subst (Starts test) (sym h.5.1) f))
+
+reads_range_high : (low : ℤ) → IsReader (Range_high low) nothing (λ x. read_number (AtLeast low) x >>= λ high. expect 93 (behind_spaces high.1) >>= λ e. Ok (range low high.0, e.1))
+reads_range_high low = reads_then (Wanted_number (AtLeast low)) (λ high. Range_end low high) is_digit nothing (read_number (AtLeast low)) (λ high x. expect 93 (behind_spaces x) >>= λ e. Ok (range low high, e.1)) (reads_number (AtLeast low)) (λ high. reads_range_end low high)
+    (λ high back w rest q stop. starts_stop is_digit back rest (end_starts is_digit low high back w refl refl q))
+
+high_starts : (low : ℤ) (text : List ℕ) (one : One) → Range_high low text one → Starts is_space text
+high_starts low text one h = subst (Starts is_space) (sym h.3) (starts_more is_space h.0 h.1 (number_opens is_space h.0 h.2 space_opens h.4.0))
+
+pub reads_range : IsReader Range_tail nothing read_range
+unfolding read_range
+reads_range = reads_then Spaces (λ s. Then Number (λ low. Then (Mark 44) (λ m. Range_high low))) is_space nothing skipping (λ s x. any_read x >>= λ low. read_mark 44 low.1 >>= λ m. read_number (AtLeast low.0) m.1 >>= λ high. expect 93 (behind_spaces high.1) >>= λ e. Ok (range low.0 high.0, e.1)) reads_spaces
+    (λ s. reads_then Number (λ low. Then (Mark 44) (λ m. Range_high low)) is_digit nothing any_read (λ low x. read_mark 44 x >>= λ m. read_number (AtLeast low) m.1 >>= λ high. expect 93 (behind_spaces high.1) >>= λ e. Ok (range low high.0, e.1)) reads_any_number
+      (λ low. reads_then (Mark 44) (λ m. Range_high low) is_space nothing (read_mark 44) (λ m x. read_number (AtLeast low) x >>= λ high. expect 93 (behind_spaces high.1) >>= λ e. Ok (range low high.0, e.1)) (reads_mark 44 refl) (λ m. reads_range_high low) (λ m back w rest q stop. starts_stop is_space back rest (high_starts low back w q)))
+      (λ low back w rest q stop. starts_stop is_digit back rest (starts_mark is_digit 44 (λ m. Range_high low) back w refl refl q)))
+    (λ s back w rest q stop. starts_stop is_space back rest (subst (Starts is_space) (sym q.3) (starts_more is_space q.0 q.1 (number_opens is_space q.0 q.2 space_opens q.4))))
+
+behind_to : (text : List ℕ) (one : One) → Behind 91 Range_tail text one → Range text one
+behind_to text one h = (91 ∷ [], h.0, tt, h.1, refl, h.2)
+
+behind_from : (text : List ℕ) (one : One) → Range text one → Behind 91 Range_tail text one
+behind_from text one h = (h.1, h.3 ∙ ap (λ l. l ++ h.1) h.4, h.5)
+
+-- a single value or a range
+reads_either : (kind : Option Kind) → IsReader (λ text one. Behind 91 Range_tail text one ⊎ Single_value kind text one) (in_class Word) (λ x. read_member_from kind x (after_byte 91 x))
+reads_either kind = reads_choice 91 Range_tail (Single_value kind) (in_class Word) read_range (read_single kind) (read_member_from kind) (reads_any Range_tail (in_class Word) read_range reads_range) (reads_single kind) (λ used v q. single_opens (is_byte 91) kind used v (byte_opens 91 refl refl) q) (λ x y. refl) (λ x. refl)
+
+either_member : (kind : Option Kind) → takes_ranges kind ≡ true → IsReader (Member kind) (in_class Word) (λ x. read_member_from kind x (after_byte 91 x))
+either_member kind e = reads_iff (λ text one. Behind 91 Range_tail text one ⊎ Single_value kind text one) (Member kind) (in_class Word) _
+    (λ text one h. elim h [ inl b ↦ inl (e, behind_to text one b) | inr s ↦ inr s ])
+    (λ text one h. elim h [ inl r ↦ inl (behind_from text one r.1) | inr s ↦ inr s ])
+    (reads_either kind)
+
+single_member : (kind : Option Kind) → takes_ranges kind ≡ false → IsReader (Member kind) (in_class Word) (read_single kind)
+single_member kind e = reads_iff (Single_value kind) (Member kind) (in_class Word) _
+    (λ text one h. inr h)
+    (λ text one h. elim h [ inl r ↦ absurd (let bad : true ≡ false = sym r.0 ∙ e in cc) | inr s ↦ s ])
+    (reads_single kind)
+
+pub reads_member : (kind : Option Kind) → IsReader (Member kind) (in_class Word) (read_member kind)
+unfolding read_member
+reads_member None = either_member None refl
+reads_member (Some Whole) = either_member (Some Whole) refl
+reads_member (Some Words) = single_member (Some Words) refl
+reads_member (Some Either) = single_member (Some Either) refl
+reads_member (Some Quotients) = single_member (Some Quotients) refl
+
+pub member_opens : (test : ℕ → Bool) (kind : Option Kind) (text : List ℕ) (one : One) → Opens_none test → test 91 ≡ false → Member kind text one → Starts test text
+member_opens test kind text one o e (inl h) = subst (Starts test) (sym (h.1.3 ∙ ap (λ l. l ++ h.1.1) h.1.4)) e
+member_opens test kind text one o e (inr h) = single_opens test kind text one o h

@@ -1,5 +1,5 @@
 use Rattle.caps_text.proofs.Strings.{reads_kind}
-use Rattle.caps_text.proofs.Values.{reads_untyped}
+use Rattle.caps_text.proofs.Values.{member_opens}
 -- A character is passed.
 use Rattle.caps_text.proofs.Characters.{shorter_by}
 use Rattle.caps_text.proofs.printing.put_quoted.Goals as goal
