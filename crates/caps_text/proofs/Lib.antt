@@ -4,6 +4,7 @@ mod Fields
 mod Numbers
 mod Ratios
 mod Readers
+mod Repeats
 mod Strings
 mod Tokens
 mod Values

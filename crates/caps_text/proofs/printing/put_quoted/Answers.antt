@@ -1,5 +1,6 @@
 use Rattle.caps_text.proofs.Strings.{reads_kind}
 use Rattle.caps_text.proofs.Values.{member_opens}
+use Rattle.caps_text.proofs.Repeats.{repeat_refused}
 -- A character is passed.
 use Rattle.caps_text.proofs.Characters.{shorter_by}
 use Rattle.caps_text.proofs.printing.put_quoted.Goals as goal
