@@ -1,6 +1,7 @@
 mod Characters
 mod Choices
 mod Fields
+mod Listed
 mod Numbers
 mod Ratios
 mod Readers
