@@ -9,4 +9,5 @@ mod Repeats
 mod Strings
 mod Tokens
 mod Values
+mod Whole
 mod Words

@@ -107,3 +107,121 @@ list_ends kind members front rest v (inl h) =
     let gone : behind_spaces (front ++ rest) ≡ 125 ∷ rest = ap (λ p. p.1) (ok_is (tt, behind_spaces (front ++ rest)) (tt, 125 ∷ rest) (ap skipping split ∙ reads_spaces.complete s.0 (125 ∷ rest) tt s.4 refl)) in
     ap (λ l. list_step_from kind members l (after_byte 125 l)) gone ∙ ap (list_step_from kind members (125 ∷ rest)) (passes 125 rest) ∙ ap (λ n. Ok (n, rest)) (sym h.1)
 list_ends kind members front rest v (inr h) = absurd (cc)
+
+-- what follows a member in a list does not go on with its word
+step_stops : (kind : Kind) (members : List One) (text : List ℕ) (n : Next (List One) (List One)) → List_step kind members text n → Starts (in_class Word) text
+step_stops kind members text n (inl h) = let s = h.0 in subst (Starts (in_class Word)) (sym s.3) (starts_spaces (in_class Word) s.0 s.1 s.4 refl (subst (Starts (in_class Word)) (sym s.5) refl))
+step_stops kind members text n (inr h) = starts_mark (in_class Word) 44 (λ m. Member (Some kind)) text h.0 refl refl h.1
+
+rest_stops : (kind : Kind) (members : List One) (text rest : List ℕ) (v : List One) → Repeated (List_step kind) members text v → Stops (in_class Word) (text ++ rest)
+rest_stops kind _ _ rest _ (last s text v d) = starts_stop (in_class Word) text rest (step_stops kind s text (done v) d)
+rest_stops kind _ _ rest _ (more s t front back text v e d later) = subst (λ l. Stops (in_class Word) (l ++ rest)) (sym e) (starts_stop (in_class Word) (front ++ back) rest (starts_more (in_class Word) front back (step_stops kind s front (again t) d)))
+
+some_step : (kind : Kind) (members : List One) (text : List ℕ) (n : Next (List One) (List One)) → List_step kind members text n → 0 < length text
+some_step kind members text n h = some text (step_stops kind members text n h)
+  where
+  some : (l : List ℕ) → Starts (in_class Word) l → 0 < length l
+  some [] s = absurd s
+  some (b ∷ bs) s = omega arith
+
+pub list_is_step : (kind : Kind) → IsStep (List_step kind) nothing (list_step kind)
+list_is_step kind = record {
+  sound = λ s x rest n h. (reads_step kind s).sound x rest n h;
+  passes = λ s t text h. some_step kind s text (again t) h;
+  goes_on = λ s t front back rest v h later stop. (reads_step kind s).complete front (back ++ rest) (again t) h (rest_stops kind t back rest v later);
+  ends = λ s front rest v h stop. list_ends kind s front rest v h;
+}
+
+reads_members : (first : One) → IsReader (Repeated (List_step (kind_of first)) (first ∷ [])) nothing (read_members first)
+unfolding read_members
+reads_members first = reads_repeat (List_step (kind_of first)) nothing (list_step (kind_of first)) (list_is_step (kind_of first)) (first ∷ [])
+
+-- a list behind its opening bracket
+abbrev First_member : Option Kind → List ℕ → Value → Type 0
+First_member kind = Then (Member kind) (λ first. As as_value (Repeated (List_step (kind_of first)) (first ∷ [])))
+
+abbrev List_tail : Option Kind → List ℕ → Value → Type 0
+List_tail kind = Then Spaces (λ s. First_member kind)
+
+members_stop : (kind : Kind) (start : List One) (text : List ℕ) (v : Value) (rest : List ℕ) → As as_value (Repeated (List_step kind) start) text v → Stops (in_class Word) (text ++ rest)
+members_stop kind start text v rest h = rest_stops kind start text rest h.0 h.1
+
+reads_first_member : (kind : Option Kind) → IsReader (First_member kind) nothing (λ x. read_member kind x >>= λ first. read_members first.0 first.1 >>= λ all. Ok (as_value all.0, all.1))
+reads_first_member kind = reads_then (Member kind) (λ first. As as_value (Repeated (List_step (kind_of first)) (first ∷ []))) (in_class Word) nothing (read_member kind) (λ first x. read_members first x >>= λ all. Ok (as_value all.0, all.1)) (reads_member kind)
+    (λ first. reads_as as_value (Repeated (List_step (kind_of first)) (first ∷ [])) nothing (read_members first) (reads_members first))
+    (λ first back w rest q stop. members_stop (kind_of first) (first ∷ []) back w rest q)
+
+first_starts : (kind : Option Kind) (text : List ℕ) (v : Value) → First_member kind text v → Starts is_space text
+first_starts kind text v h = subst (Starts is_space) (sym h.3) (starts_more is_space h.0 h.1 (member_opens is_space kind h.0 h.2 space_opens refl h.4))
+
+reads_list : (kind : Option Kind) → IsReader (List_tail kind) nothing (read_list kind)
+unfolding read_list
+reads_list kind = reads_then Spaces (λ s. First_member kind) is_space nothing skipping (λ s x. read_member kind x >>= λ first. read_members first.0 first.1 >>= λ all. Ok (as_value all.0, all.1)) reads_spaces (λ s. reads_first_member kind)
+    (λ s back w rest q stop. starts_stop is_space back rest (first_starts kind back w q))
+
+-- a value behind its type, or without one
+reads_plain_parts : (kind : Option Kind) → IsReader (λ text v. Behind 123 (List_tail kind) text v ⊎ As Single (Member kind) text v) (in_class Word) (λ x. read_value_from kind x (after_byte 123 x))
+reads_plain_parts kind = reads_choice 123 (List_tail kind) (As Single (Member kind)) (in_class Word) (read_list kind) (λ x. read_member kind x >>= λ a. Ok (Single a.0, a.1)) (read_value_from kind)
+    (reads_any (List_tail kind) (in_class Word) (read_list kind) (reads_list kind)) (reads_as Single (Member kind) (in_class Word) (read_member kind) (reads_member kind))
+    (λ used v q. member_opens (is_byte 123) kind used q.0 (byte_opens 123 refl refl) refl q.1) (λ x y. refl) (λ x. refl)
+
+reads_plain : (kind : Option Kind) → IsReader (Plain_value kind) (in_class Word) (λ x. read_value_from kind x (after_byte 123 x))
+reads_plain kind = reads_iff (λ text v. Behind 123 (List_tail kind) text v ⊎ As Single (Member kind) text v) (Plain_value kind) (in_class Word) _
+    (λ text v h. elim h [ inl b ↦ inl (123 ∷ [], b.0, tt, b.1, refl, b.2) | inr s ↦ inr s ])
+    (λ text v h. elim h [ inl l ↦ inl (l.1, l.3 ∙ ap (λ k. k ++ l.1) l.4, l.5) | inr s ↦ inr s ])
+    (reads_plain_parts kind)
+
+plain_opens : (test : ℕ → Bool) (kind : Option Kind) (text : List ℕ) (v : Value) → Opens_none test → test 91 ≡ false → test 123 ≡ false → Plain_value kind text v → Starts test text
+plain_opens test kind text v o e f (inl h) = subst (Starts test) (sym (h.3 ∙ ap (λ k. k ++ h.1) h.4)) f
+plain_opens test kind text v o e f (inr h) = member_opens test kind text h.0 o e h.1
+
+-- the same reader
+pub reads_same : {V : Type 0} (P : List ℕ → V → Type 0) (test : ℕ → Bool) (r s : List ℕ → Answer V) → ((x : List ℕ) → s x ≡ r x) → IsReader P test r → IsReader P test s
+reads_same P test r s e first = record {
+  sound = λ x rest v h. first.sound x rest v (sym (e x) ∙ h);
+  complete = λ used rest v p stop. e (used ++ rest) ∙ first.complete used rest v p stop;
+}
+
+pub bind_cond : {V W : Type 0} (t : Bool) (a b : Answer V) (f : V × List ℕ → Answer W) → (cond t a b >>= f) ≡ cond t (a >>= f) (b >>= f)
+bind_cond true a b f = refl
+bind_cond false a b f = refl
+
+pub bind_bind : {U V W : Type 0} (a : Answer U) (f : U × List ℕ → Answer V) (g : V × List ℕ → Answer W) → ((a >>= f) >>= g) ≡ (a >>= λ p. f p >>= g)
+bind_bind (Ok p) f g = refl
+bind_bind (Err e) f g = refl
+
+-- a value behind a type
+abbrev Typed_value : List ℕ → Value → Type 0
+Typed_value = Then Type_word (λ kind. Then Spaces (λ s. Plain_value (Some kind)))
+
+abbrev from_typed : List ℕ → Answer Value
+from_typed x = read_kind x >>= λ a. read_value_from (Some a.0) (behind_spaces a.1) (after_byte 123 (behind_spaces a.1))
+
+reads_typed : IsReader Typed_value (in_class Word) from_typed
+reads_typed = reads_then Type_word (λ kind. Then Spaces (λ s. Plain_value (Some kind))) nothing (in_class Word) read_kind (λ kind x. read_value_from (Some kind) (behind_spaces x) (after_byte 123 (behind_spaces x))) reads_kind
+    (λ kind. reads_then Spaces (λ s. Plain_value (Some kind)) is_space (in_class Word) skipping (λ s x. read_value_from (Some kind) x (after_byte 123 x)) reads_spaces (λ s. reads_plain (Some kind))
+      (λ s back w rest q stop. starts_stop is_space back rest (plain_opens is_space (Some kind) back w space_opens refl refl q)))
+    (λ kind back w rest q stop. stops_nothing (back ++ rest))
+
+type_begins : (text : List ℕ) (kind : Kind) → Type_word text kind → (back : List ℕ) × (text ≡ 40 ∷ back)
+type_begins text Whole h = (codes "int)", h)
+type_begins text Either h = (codes "boolean)", h)
+type_begins text Words h = (codes "string)", h)
+type_begins text Quotients h = (codes "fraction)", h)
+
+typed_begins : (text : List ℕ) (v : Value) → Typed_value text v → (back : List ℕ) × (text ≡ 40 ∷ back)
+typed_begins text v h = let b = type_begins h.0 h.2 h.4 in (b.0 ++ h.1, h.3 ∙ ap (λ l. l ++ h.1) b.1)
+
+value_split : (x : List ℕ) → read_value x ≡ cond (begins 40 x) (from_typed x) (read_value_from None x (after_byte 123 x))
+unfolding read_value read_type
+value_split x = bind_cond (begins 40 x) (read_kind x >>= λ a. Ok (Some a.0, behind_spaces a.1)) (Ok (None, x)) (λ a. read_value_from a.0 a.1 (after_byte 123 a.1))
+    ∙ ap (λ a. cond (begins 40 x) a (read_value_from None x (after_byte 123 x))) (bind_bind (read_kind x) (λ a. Ok (Some a.0, behind_spaces a.1)) (λ a. read_value_from a.0 a.1 (after_byte 123 a.1)))
+
+pub reads_value : IsReader Field_value (in_class Word) read_value
+reads_value = reads_same Field_value (in_class Word) (λ x. cond (begins 40 x) (from_typed x) (read_value_from None x (after_byte 123 x))) read_value value_split
+    (reads_begun 40 Typed_value (Plain_value None) (in_class Word) from_typed (λ x. read_value_from None x (after_byte 123 x)) reads_typed (reads_plain None) typed_begins
+      (λ used v q. plain_opens (is_byte 40) None used v (byte_opens 40 refl refl) refl refl q))
+
+pub value_opens : (text : List ℕ) (v : Value) → Field_value text v → Starts is_space text
+value_opens text v (inl h) = let b = typed_begins text v h in subst (Starts is_space) (sym b.1) refl
+value_opens text v (inr h) = plain_opens is_space None text v space_opens refl refl h
