@@ -64,16 +64,16 @@ passed_at name fs i less h n = step (slice_get fs i) refl h
   step (Some f) e h = field_passed name fs i f e h n
 
 -- the texts of the fields from a place on
-pub texts_split : {V : Type 0} (value : V → List ℕ) (fs : List (List ℕ × V)) (i : ℕ) → flat_map (field_text value) (drop i fs) ≡ text_at value (slice_get fs i) ++ flat_map (field_text value) (drop (i + 1) fs)
+pub texts_split : {X : Type 0} (value : X → List ℕ) (fs : List (List ℕ × X)) (i : ℕ) → flat_map (field_text value) (drop i fs) ≡ text_at value (slice_get fs i) ++ flat_map (field_text value) (drop (i + 1) fs)
 texts_split value fs i = step (slice_get fs i) refl
   where
-  past : (gs : List (List ℕ × V)) (k : ℕ) → slice_get gs k ≡ None → (drop k gs ≡ []) × (drop (suc k) gs ≡ [])
+  past : (gs : List (List ℕ × X)) (k : ℕ) → slice_get gs k ≡ None → (drop k gs ≡ []) × (drop (suc k) gs ≡ [])
   past [] k e = (drop-nil k, drop-nil (suc k))
   past (g ∷ gs) zero e = absurd (cc)
   past (g ∷ gs) (suc k) e = past gs k e
-  step : (o : Option (List ℕ × V)) → slice_get fs i ≡ o → flat_map (field_text value) (drop i fs) ≡ text_at value o ++ flat_map (field_text value) (drop (i + 1) fs)
+  step : (o : Option (List ℕ × X)) → slice_get fs i ≡ o → flat_map (field_text value) (drop i fs) ≡ text_at value o ++ flat_map (field_text value) (drop (i + 1) fs)
   step None e = let p = past fs i e in let k : suc i ≡ i + 1 = omega arith in ap (flat_map (field_text value)) (p.0 ∙ sym p.1 ∙ ap (λ n. drop n fs) k)
   step (Some f) e = ap (flat_map (field_text value)) (place_splits fs i f e)
 
-pub texts_step : {V : Type 0} (value : V → List ℕ) (fs : List (List ℕ × V)) (i : ℕ) (now later whole : List ℕ) → now ++ flat_map (field_text value) (drop i fs) ≡ whole → later ≡ now ++ text_at value (slice_get fs i) → later ++ flat_map (field_text value) (drop (i + 1) fs) ≡ whole
+pub texts_step : {X : Type 0} (value : X → List ℕ) (fs : List (List ℕ × X)) (i : ℕ) (now later whole : List ℕ) → now ++ flat_map (field_text value) (drop i fs) ≡ whole → later ≡ now ++ text_at value (slice_get fs i) → later ++ flat_map (field_text value) (drop (i + 1) fs) ≡ whole
 texts_step value fs i now later whole h e = rw e (append_assoc now _ _ ∙ ap (λ l. now ++ l) (sym (texts_split value fs i)) ∙ h)

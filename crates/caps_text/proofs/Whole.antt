@@ -131,9 +131,6 @@ reads_new_structure made = reads_then Spaces (λ s. As (one_structure made) Head
     (λ s. reads_as (one_structure made) Head (in_class Word) read_head (reads_weaker Head (in_class Media) (in_class Word) read_head stops_media reads_head))
     (λ s back w rest q stop. starts_stop is_space back rest (head_starts back q.0 q.1))
 
-structure_read : Made → List ℕ → Answer Outcome
-structure_read made x = few_structures made x >>= λ all. read_head (behind_spaces all.1) >>= λ s. Ok (again (all.0, s.0), s.1)
-
 reads_limited : (made : Made) → IsReader (λ text w. (nat_lt 63 (length made.0) ≡ false) × New_structure made text w) (in_class Word) (λ x. few_structures made x >>= λ all. read_head (behind_spaces all.1) >>= λ s. Ok (again (all.0, s.0), s.1))
 reads_limited made = reads_same (λ text w. (nat_lt 63 (length made.0) ≡ false) × New_structure made text w) (in_class Word) (λ x. cond {A = Answer Outcome} (nat_lt 63 (length made.0)) (Err many) (read_head (behind_spaces x) >>= λ s. Ok (again (made.0 ++ made.1 ∷ [], s.0), s.1))) _
     (λ x. bind_cond (nat_lt 63 (length made.0)) (Err many) (Ok (made.0 ++ made.1 ∷ [], x)) (λ all. read_head (behind_spaces all.1) >>= λ s. Ok (again (all.0, s.0), s.1)))
@@ -201,7 +198,7 @@ reads_goes_on : (made : Made) → IsReader (Goes_on made) (in_class Word) (read_
 reads_goes_on made = reads_iff (Then Spaces (λ s. In_more made)) (Goes_on made) (in_class Word) (read_more made) (more_words made) (words_more made) (reads_more made)
 
 -- the end of the text, and the end of all
-abbrev all_bytes : ℕ → Bool
+abbrev pub all_bytes : ℕ → Bool
 all_bytes b = true
 
 no_length : (xs : List ℕ) → eqb (length xs) 0 ≡ true → xs ≡ []

@@ -93,8 +93,13 @@ fn read_members(scanner: &mut Scanner<'_>, alloc: Global, first: One) -> Result<
     let kind = kind_of(&first);
     let mut members = Vec::new(alloc);
     members.push(first)?;
-    while !list_step(scanner, alloc, kind, &mut members)? {}
-    Ok(members)
+    loop {
+        match list_step(scanner, alloc, kind, &mut members) {
+            Ok(true) => return Ok(members),
+            Ok(false) => {}
+            Err(refusal) => return Err(refusal),
+        }
+    }
 }
 
 /// Reads a list behind its opening bracket.

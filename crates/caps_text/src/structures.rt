@@ -143,12 +143,16 @@ pub(crate) fn read_structures(
 ) -> Result<List<Structure>, Refusal>
     ensures { Gives (λ x. x) result scanner.new.rest.now (read_structures scanner.old.rest.now) }
 {
+    let structure = read_head(scanner, alloc)?;
     let mut made = Made {
         whole: List::new(alloc),
-        structure: read_head(scanner, alloc)?,
+        structure,
     };
     while !scanner.is_at_end() {
-        made = read_more(scanner, alloc, made)?;
+        match read_more(scanner, alloc, made) {
+            Ok(more) => made = more,
+            Err(refusal) => return Err(refusal),
+        }
     }
     made.finish(alloc)
 }

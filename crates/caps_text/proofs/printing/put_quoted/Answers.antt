@@ -1,5 +1,5 @@
 use Rattle.caps_text.proofs.Strings.{reads_kind}
-use Rattle.caps_text.proofs.Whole.{reads_structures}
+use Rattle.caps_text.proofs.Valid.{value_good}
 use Rattle.caps_text.proofs.Repeats.{repeat_refused}
 -- A character is passed.
 use Rattle.caps_text.proofs.Characters.{shorter_by}
