@@ -19,8 +19,9 @@ AllHigh xs = (k : ℕ) → k < length xs → 128 ≤ get_or xs k 0
 
 encode_high : (c : ℕ) → 128 ≤ c → AllHigh (encode_utf8 c)
 encode_high c big k below = elim (cases_lt (get_or (encode_utf8 c) k 0) 128) [
-  inl low ↦ absurd (omega (arith, inside_one c [] (encode_utf8 c) k (sym (append-nil _)) below low, big))
-  | inr h ↦ h ]
+  | inl low ↦ absurd (omega (arith, inside_one c [] (encode_utf8 c) k (sym (append-nil _)) below low, big))
+  | inr h ↦ h
+]
 
 high_tail : (x : ℕ) (xs : List ℕ) → AllHigh (x ∷ xs) → AllHigh xs
 high_tail x xs h k below = h (suc k) (omega (arith, below))
@@ -37,8 +38,9 @@ escaped_high (x ∷ xs) h =
 -- a character that is neither of the two stands for itself
 pub escaped_plain : (c : ℕ) → c ≢ 34 → c ≢ 92 → escaped (encode_utf8 c) ≡ encode_utf8 c
 escaped_plain c p q = elim (cases_lt c 128) [
-  inl small ↦ rw (encode_ascii c small) (rw (plain_escaped c p q) refl)
-  | inr big ↦ escaped_high (encode_utf8 c) (encode_high c big) ]
+  | inl small ↦ rw (encode_ascii c small) (rw (plain_escaped c p q) refl)
+  | inr big ↦ escaped_high (encode_utf8 c) (encode_high c big)
+]
 
 pub escaped-append : (xs ys : List ℕ) → escaped (xs ++ ys) ≡ escaped xs ++ escaped ys
 escaped-append xs ys = flat_map-append escaped_byte xs ys
@@ -52,19 +54,21 @@ quoted_high (x ∷ xs) so_far y h =
     let two : eqb x 92 ≡ false = apart x 92 (λ e. omega (arith, high, e)) in
     rw (one, two) (quoted_high xs (so_far ++ x ∷ []) y (high_tail x xs h) ∙ ap (λ l. read_quoted false l y) (append_assoc so_far (x ∷ []) xs))
   where
-  apart : (a b : ℕ) → a ≢ b → eqb a b ≡ false
-  apart a b h = elim (eqb_tells a b) [ inl t ↦ absurd (h t.1) | inr t ↦ t.0 ]
+    apart : (a b : ℕ) → a ≢ b → eqb a b ≡ false
+    apart a b h = elim (eqb_tells a b) [ inl t ↦ absurd (h t.1) | inr t ↦ t.0 ]
 
 pub quoted_plain : (c : ℕ) (so_far x y : List ℕ) → x ≡ encode_utf8 c ++ y → c ≢ 34 → c ≢ 92 → read_quoted false so_far x ≡ read_quoted false (so_far ++ encode_utf8 c) y
 quoted_plain c so_far x y e p q = elim (cases_lt c 128) [
-  inl small ↦ let one = encode_ascii c small in rw e (rw one (elim (eqb_tells c 34) [ inl t ↦ absurd (p t.1) | inr t ↦ elim (eqb_tells c 92) [ inl u ↦ absurd (q u.1) | inr u ↦ rw (t.0, u.0) refl ] ]))
-  | inr big ↦ rw e (quoted_high (encode_utf8 c) so_far y (encode_high c big)) ]
+  | inl small ↦ let one = encode_ascii c small in rw e (rw one (elim (eqb_tells c 34) [ inl t ↦ absurd (p t.1) | inr t ↦ elim (eqb_tells c 92) [ inl u ↦ absurd (q u.1) | inr u ↦ rw (t.0, u.0) refl ] ]))
+  | inr big ↦ rw e (quoted_high (encode_utf8 c) so_far y (encode_high c big))
+]
 
 -- a character behind a backslash is taken as it is
 high_from_second : (c x : ℕ) (xs : List ℕ) → encode_utf8 c ≡ x ∷ xs → AllHigh xs
 high_from_second c x xs e = elim (cases_lt c 128) [
-  inl small ↦ let none : x ∷ xs ≡ c ∷ [] = sym e ∙ encode_ascii c small in let nil : xs ≡ [] = cc in λ k below. absurd (let no : k < 0 = subst (λ l. k < length l) nil below in omega (arith, no))
-  | inr big ↦ high_tail x xs (subst AllHigh e (encode_high c big)) ]
+  | inl small ↦ let none : x ∷ xs ≡ c ∷ [] = sym e ∙ encode_ascii c small in let nil : xs ≡ [] = cc in λ k below. absurd (let no : k < 0 = subst (λ l. k < length l) nil below in omega (arith, no))
+  | inr big ↦ high_tail x xs (subst AllHigh e (encode_high c big))
+]
 
 taken_first : (xs so_far y : List ℕ) → 0 < length xs → ((x : ℕ) (rest : List ℕ) → xs ≡ x ∷ rest → AllHigh rest) → read_quoted true so_far (xs ++ y) ≡ read_quoted false (so_far ++ xs) y
 taken_first [] so_far y some h = absurd (omega (arith, some))

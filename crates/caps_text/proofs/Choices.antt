@@ -29,9 +29,9 @@ module _ {V : Type 0} (m : ℕ) (P Q : List ℕ → V → Type 0) (test : ℕ �
   choice_sound : (x rest : List ℕ) (v : V) → from x (after_byte m x) ≡ Ok (v, rest) → Reads_front (λ text w. Behind m P text w ⊎ Q text w) x v rest
   choice_sound x rest v h = step (after_byte m x) refl h
     where
-    step : (o : Option (List ℕ)) → after_byte m x ≡ o → from x o ≡ Ok (v, rest) → Reads_front (λ text w. Behind m P text w ⊎ Q text w) x v rest
-    step (Some y) e k = let f = first.sound y rest v (sym (is x y) ∙ k) in (m ∷ f.0, after_byte_is m x y e ∙ ap (λ l. m ∷ l) f.1, inl (f.0, refl, f.2))
-    step None e k = let f = second.sound x rest v (sym (else x) ∙ k) in (f.0, f.1, inr f.2)
+      step : (o : Option (List ℕ)) → after_byte m x ≡ o → from x o ≡ Ok (v, rest) → Reads_front (λ text w. Behind m P text w ⊎ Q text w) x v rest
+      step (Some y) e k = let f = first.sound y rest v (sym (is x y) ∙ k) in (m ∷ f.0, after_byte_is m x y e ∙ ap (λ l. m ∷ l) f.1, inl (f.0, refl, f.2))
+      step None e k = let f = second.sound x rest v (sym (else x) ∙ k) in (f.0, f.1, inr f.2)
 
   choice_complete : (used rest : List ℕ) (v : V) → Behind m P used v ⊎ Q used v → Stops test rest → from (used ++ rest) (after_byte m (used ++ rest)) ≡ Ok (v, rest)
   choice_complete used rest v (inl h) stop =
@@ -52,9 +52,9 @@ module _ {V : Type 0} (m : ℕ) (P Q : List ℕ → V → Type 0) (test : ℕ �
   begun_sound : (x rest : List ℕ) (v : V) → cond (begins m x) (r x) (s x) ≡ Ok (v, rest) → Reads_front (λ text w. P text w ⊎ Q text w) x v rest
   begun_sound x rest v h = step (begins m x) h
     where
-    step : (t : Bool) → cond t (r x) (s x) ≡ Ok (v, rest) → Reads_front (λ text w. P text w ⊎ Q text w) x v rest
-    step true k = let f = first.sound x rest v k in (f.0, f.1, inl f.2)
-    step false k = let f = second.sound x rest v k in (f.0, f.1, inr f.2)
+      step : (t : Bool) → cond t (r x) (s x) ≡ Ok (v, rest) → Reads_front (λ text w. P text w ⊎ Q text w) x v rest
+      step true k = let f = first.sound x rest v k in (f.0, f.1, inl f.2)
+      step false k = let f = second.sound x rest v k in (f.0, f.1, inr f.2)
 
   begun_complete : (used rest : List ℕ) (v : V) → P used v ⊎ Q used v → Stops test rest → cond (begins m (used ++ rest)) (r (used ++ rest)) (s (used ++ rest)) ≡ Ok (v, rest)
   begun_complete used rest v (inl h) stop =

@@ -4,6 +4,7 @@ mod Fields
 mod Listed
 mod Loops
 mod Numbers
+mod Parsing
 mod Ratios
 mod Readers
 mod Repeats

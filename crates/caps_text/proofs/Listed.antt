@@ -50,8 +50,8 @@ member_starts kind members text n h = member_opens is_space kind text h.0 space_
 reads_one_more : (kind : Kind) (members : List One) → IsReader (One_more kind members) (in_class Word) (λ x. expect 44 x >>= λ m. read_member (Some kind) (behind_spaces m.1) >>= λ one. within_limit (kept_member members one.0) one.1)
 reads_one_more kind members = reads_then (Is (44 ∷ [])) (λ m. Then Spaces (λ s. Within (over_limit members) (step_to members) (Member (Some kind)))) nothing (in_class Word) (expect 44) (λ m x. read_member (Some kind) (behind_spaces x) >>= λ one. within_limit (kept_member members one.0) one.1) (reads_byte 44)
     (λ m. reads_then Spaces (λ s. Within (over_limit members) (step_to members) (Member (Some kind))) is_space (in_class Word) skipping (λ s x. read_member (Some kind) x >>= λ one. within_limit (kept_member members one.0) one.1) reads_spaces
-      (λ s. reads_within (over_limit members) (step_to members) (Member (Some kind)) (in_class Word) (read_member (Some kind)) (reads_member (Some kind)))
-      (λ s back w rest q stop. starts_stop is_space back rest (member_starts (Some kind) members back w q)))
+    (λ s. reads_within (over_limit members) (step_to members) (Member (Some kind)) (in_class Word) (read_member (Some kind)) (reads_member (Some kind)))
+    (λ s back w rest q stop. starts_stop is_space back rest (member_starts (Some kind) members back w q)))
     (λ m back w rest q stop. stops_nothing (back ++ rest))
 
 reads_in_step : (kind : Kind) (members : List One) → IsReader (In_step kind members) (in_class Word) (λ x. list_step_from kind members x (after_byte 125 x))
@@ -77,14 +77,14 @@ is_within n h = le-ltb 64 n h
 step_words : (kind : Kind) (members : List One) (text : List ℕ) (n : Next (List One) (List One)) → Then Spaces (λ s. In_step kind members) text n → List_step kind members text n
 step_words kind members text n h = go h.5
   where
-  go : In_step kind members h.1 n → List_step kind members text n
-  go (inl b) = inl ((h.0, h.1, tt, h.3, h.4, b.1 ∙ ap (λ l. 125 ∷ l) b.2.0), b.2.1)
-  go (inr b) =
-      let s = b.5 in
-      let w = s.5 in
-      let mark : Mark 44 (h.0 ++ (44 ∷ s.0)) tt = (h.0, 44 ∷ s.0, tt, refl, h.4, (44 ∷ [], s.0, tt, refl, refl, s.4)) in
-      let split : text ≡ (h.0 ++ 44 ∷ s.0) ++ s.1 = h.3 ∙ ap (λ l. h.0 ++ l) (b.3 ∙ (λ i. b.4 i ++ s.3 i)) ∙ sym (append_assoc h.0 (44 ∷ s.0) s.1) in
-      inr (w.0, (h.0 ++ 44 ∷ s.0, s.1, tt, split, mark, w.1), not_over (length (kept_member members w.0)) w.2, w.3)
+    go : In_step kind members h.1 n → List_step kind members text n
+    go (inl b) = inl ((h.0, h.1, tt, h.3, h.4, b.1 ∙ ap (λ l. 125 ∷ l) b.2.0), b.2.1)
+    go (inr b) =
+        let s = b.5 in
+        let w = s.5 in
+        let mark : Mark 44 (h.0 ++ (44 ∷ s.0)) tt = (h.0, 44 ∷ s.0, tt, refl, h.4, (44 ∷ [], s.0, tt, refl, refl, s.4)) in
+        let split : text ≡ (h.0 ++ 44 ∷ s.0) ++ s.1 = h.3 ∙ ap (λ l. h.0 ++ l) (b.3 ∙ (λ i. b.4 i ++ s.3 i)) ∙ sym (append_assoc h.0 (44 ∷ s.0) s.1) in
+        inr (w.0, (h.0 ++ 44 ∷ s.0, s.1, tt, split, mark, w.1), not_over (length (kept_member members w.0)) w.2, w.3)
 
 words_step : (kind : Kind) (members : List One) (text : List ℕ) (n : Next (List One) (List One)) → List_step kind members text n → Then Spaces (λ s. In_step kind members) text n
 words_step kind members text n (inl h) = let s = h.0 in (s.0, s.1, tt, s.3, s.4, inl ([], s.5, (refl, h.1)))
@@ -120,9 +120,9 @@ rest_stops kind _ _ rest _ (more s t front back text v e d later) = subst (λ l.
 some_step : (kind : Kind) (members : List One) (text : List ℕ) (n : Next (List One) (List One)) → List_step kind members text n → 0 < length text
 some_step kind members text n h = some text (step_stops kind members text n h)
   where
-  some : (l : List ℕ) → Starts (in_class Word) l → 0 < length l
-  some [] s = absurd s
-  some (b ∷ bs) s = omega arith
+    some : (l : List ℕ) → Starts (in_class Word) l → 0 < length l
+    some [] s = absurd s
+    some (b ∷ bs) s = omega arith
 
 pub list_is_step : (kind : Kind) → IsStep (List_step kind) nothing (list_step kind)
 list_is_step kind = record {
@@ -200,7 +200,7 @@ from_typed x = read_kind x >>= λ a. read_value_from (Some a.0) (behind_spaces a
 reads_typed : IsReader Typed_value (in_class Word) from_typed
 reads_typed = reads_then Type_word (λ kind. Then Spaces (λ s. Plain_value (Some kind))) nothing (in_class Word) read_kind (λ kind x. read_value_from (Some kind) (behind_spaces x) (after_byte 123 (behind_spaces x))) reads_kind
     (λ kind. reads_then Spaces (λ s. Plain_value (Some kind)) is_space (in_class Word) skipping (λ s x. read_value_from (Some kind) x (after_byte 123 x)) reads_spaces (λ s. reads_plain (Some kind))
-      (λ s back w rest q stop. starts_stop is_space back rest (plain_opens is_space (Some kind) back w space_opens refl refl q)))
+    (λ s back w rest q stop. starts_stop is_space back rest (plain_opens is_space (Some kind) back w space_opens refl refl q)))
     (λ kind back w rest q stop. stops_nothing (back ++ rest))
 
 type_begins : (text : List ℕ) (kind : Kind) → Type_word text kind → (back : List ℕ) × (text ≡ 40 ∷ back)
@@ -220,7 +220,7 @@ value_split x = bind_cond (begins 40 x) (read_kind x >>= λ a. Ok (Some a.0, beh
 pub reads_value : IsReader Field_value (in_class Word) read_value
 reads_value = reads_same Field_value (in_class Word) (λ x. cond (begins 40 x) (from_typed x) (read_value_from None x (after_byte 123 x))) read_value value_split
     (reads_begun 40 Typed_value (Plain_value None) (in_class Word) from_typed (λ x. read_value_from None x (after_byte 123 x)) reads_typed (reads_plain None) typed_begins
-      (λ used v q. plain_opens (is_byte 40) None used v (byte_opens 40 refl refl) refl refl q))
+    (λ used v q. plain_opens (is_byte 40) None used v (byte_opens 40 refl refl) refl refl q))
 
 pub value_opens : (text : List ℕ) (v : Value) → Field_value text v → Starts is_space text
 value_opens text v (inl h) = let b = typed_begins text v h in subst (Starts is_space) (sym b.1) refl

@@ -94,9 +94,9 @@ any_at p [] i less h = absurd (omega (arith, less))
 any_at p (x ∷ xs) zero less h = ap (λ t. t || list_any p xs) h
 any_at p (x ∷ xs) (suc i) less h = step (p x) (any_at p xs i (omega (arith, less)) h)
   where
-  step : (t : Bool) → list_any p xs ≡ true → (t || list_any p xs) ≡ true
-  step true k = refl
-  step false k = k
+    step : (t : Bool) → list_any p xs ≡ true → (t || list_any p xs) ≡ true
+    step true k = refl
+    step false k = k
 
 -- the powers of ten that are tried
 tens_at : (k : ℕ) → k < 11 → get_or powers k 0 ≡ tens k
@@ -130,8 +130,9 @@ reaches_at size least p v some low high fit h =
 tens_rise : (j k : ℕ) → j ≤ k → tens j ≤ tens k
 tens_rise j zero h = let e : j ≡ 0 = omega (arith, h) in subst (λ n. tens n ≤ 1) (sym e) (omega arith)
 tens_rise j (suc k) h = elim (cases_lt j (suc k)) [
-  inl less ↦ let ih = tens_rise j k (omega (arith, less)) in omega (arith, ih)
-  | inr same ↦ let e : j ≡ suc k = omega (arith, same, h) in subst (λ n. tens n ≤ tens (suc k)) (sym e) (omega arith) ]
+  | inl less ↦ let ih = tens_rise j k (omega (arith, less)) in omega (arith, ih)
+  | inr same ↦ let e : j ≡ suc k = omega (arith, same, h) in subst (λ n. tens n ≤ tens (suc k)) (sym e) (omega arith)
+]
 
 too_long : (size k v : ℕ) → 11 ≤ k → size * tens k ≤ v → v ≤ 2147483647 → size ≡ 0
 too_long zero k v h low fit = refl
@@ -144,22 +145,23 @@ too_long (suc m) k v h low fit =
 can_reach : (size : ℕ) (least : ℤ) (ds : List ℕ) → list_all is_digit ds ≡ true → size_after size ds ≤ 2147483647 → int_le least (pos (size_after size ds)) ≡ true → reaches size least ≡ true
 unfolding reaches
 can_reach size least ds digits fit h = elim (cases_lt (length ds) 11) [
-  inl few ↦
-    let p = tens_at (length ds) few in
-    any_at (reaches_by size least) powers (length ds) few (ap (reaches_by size least) p ∙ reaches_at size least (tens (length ds)) (size_after size ds) (some_tens (length ds)) (size_least size ds) (size_most size ds digits) fit h)
+  | inl few ↦
+      let p = tens_at (length ds) few in
+      any_at (reaches_by size least) powers (length ds) few (ap (reaches_by size least) p ∙ reaches_at size least (tens (length ds)) (size_after size ds) (some_tens (length ds)) (size_least size ds) (size_most size ds digits) fit h)
   | inr long ↦
-    let nil : size ≡ 0 = too_long size (length ds) (size_after size ds) long (size_least size ds) fit in
-    any_at (reaches_by size least) powers 10 (omega arith) (ap (λ n. reaches_by n least 10000000000) nil ∙ reaches_at 0 least 10000000000 2147483647 (omega arith) (omega arith) (omega arith) (omega arith) (le_up least (size_after size ds) 2147483647 h fit)) ]
+      let nil : size ≡ 0 = too_long size (length ds) (size_after size ds) long (size_least size ds) fit in
+      any_at (reaches_by size least) powers 10 (omega arith) (ap (λ n. reaches_by n least 10000000000) nil ∙ reaches_at 0 least 10000000000 2147483647 (omega arith) (omega arith) (omega arith) (omega arith) (le_up least (size_after size ds) 2147483647 h fit))
+]
 
 -- what a wanted number says
 wanted_parts : (w : Wanted) (negative : Bool) (size : ℕ) (n : ℤ) → wanted_number w negative size ≡ Some n → (fits negative size ≡ true) × (is_wanted w (signed negative size) ≡ true) × (n ≡ signed negative size)
 unfolding wanted_number
 wanted_parts w negative size n h = step (fits negative size) (is_wanted w (signed negative size)) h
   where
-  step : (a b : Bool) → cond {A = Option ℤ} (a && b) (Some (signed negative size)) None ≡ Some n → (a ≡ true) × (b ≡ true) × (n ≡ signed negative size)
-  step true true k = (refl, refl, sym (some_is (signed negative size) n k))
-  step true false k = absurd (cc)
-  step false b k = absurd (cc)
+    step : (a b : Bool) → cond {A = Option ℤ} (a && b) (Some (signed negative size)) None ≡ Some n → (a ≡ true) × (b ≡ true) × (n ≡ signed negative size)
+    step true true k = (refl, refl, sym (some_is (signed negative size) n k))
+    step true false k = absurd (cc)
+    step false b k = absurd (cc)
 
 wanted_whole : (w : Wanted) (negative : Bool) (size : ℕ) → fits negative size ≡ true → is_wanted w (signed negative size) ≡ true → wanted_number w negative size ≡ Some (signed negative size)
 unfolding wanted_number
@@ -201,14 +203,14 @@ size_sound : (w : Wanted) (negative : Bool) (y rest : List ℕ) (n : ℤ) → re
 unfolding read_size Sized
 size_sound w negative y rest n h = step (is_some (digit_at y)) refl h
   where
-  step : (t : Bool) → is_some (digit_at y) ≡ t → cond {A = Answer ℤ} t (read_digits w negative 0 y >>= λ d. found (wanted_number w negative d.0) d.1) (Err (misspelt y)) ≡ Ok (n, rest) → Sized w negative y n rest
-  step true e k =
-      let b = bind_ok (read_digits w negative 0 y) (λ d. found (wanted_number w negative d.0) d.1) (n, rest) k in
-      let d = digits_sound w negative 0 y b.0.1 b.0.0 b.1 in
-      let f = found_ok (wanted_number w negative b.0.0) b.0.1 (n, rest) b.2 in
-      let p = wanted_parts w negative b.0.0 n f.0 in
-      (d.0, b.0.0, d.1 ∙ ap (λ l. d.0 ++ l) f.1, (d.2, d.4 e, d.3), p.0, p.1, p.2)
-  step false e k = absurd (cc)
+    step : (t : Bool) → is_some (digit_at y) ≡ t → cond {A = Answer ℤ} t (read_digits w negative 0 y >>= λ d. found (wanted_number w negative d.0) d.1) (Err (misspelt y)) ≡ Ok (n, rest) → Sized w negative y n rest
+    step true e k =
+        let b = bind_ok (read_digits w negative 0 y) (λ d. found (wanted_number w negative d.0) d.1) (n, rest) k in
+        let d = digits_sound w negative 0 y b.0.1 b.0.0 b.1 in
+        let f = found_ok (wanted_number w negative b.0.0) b.0.1 (n, rest) b.2 in
+        let p = wanted_parts w negative b.0.0 n f.0 in
+        (d.0, b.0.0, d.1 ∙ ap (λ l. d.0 ++ l) f.1, (d.2, d.4 e, d.3), p.0, p.1, p.2)
+    step false e k = absurd (cc)
 
 -- what stands first in digits
 digits_begin : (digits rest : List ℕ) (size : ℕ) → Digits digits size → is_some (digit_at (digits ++ rest)) ≡ true
@@ -228,12 +230,13 @@ number_sound : (w : Wanted) (x rest : List ℕ) (n : ℤ) → read_number w x �
 unfolding read_number minus Sized
 number_sound w x rest n h = step (can_begin w true 0) (after_byte 45 x) refl h
   where
-  plain : read_size w (false, x) ≡ Ok (n, rest) → Reads_front (Wanted_number w) x n rest
-  plain k = let s = size_sound w false x rest n k in (s.0, s.2, (inl (s.1, s.3, s.4, s.6), ap (is_wanted w) s.6 ∙ s.5))
-  step : (t : Bool) (o : Option (List ℕ)) → after_byte 45 x ≡ o → read_size w (cond {A = Bool × List ℕ} t (behind_minus x o) (false, x)) ≡ Ok (n, rest) → Reads_front (Wanted_number w) x n rest
-  step true (Some y) e k = let s = size_sound w true y rest n k in (45 ∷ s.0, after_byte_is 45 x y e ∙ ap (λ l. 45 ∷ l) s.2, (inr (s.0, s.1, refl, s.3, s.4, s.6), ap (is_wanted w) s.6 ∙ s.5))
-  step true None e k = plain k
-  step false o e k = plain k
+    plain : read_size w (false, x) ≡ Ok (n, rest) → Reads_front (Wanted_number w) x n rest
+    plain k = let s = size_sound w false x rest n k in (s.0, s.2, (inl (s.1, s.3, s.4, s.6), ap (is_wanted w) s.6 ∙ s.5))
+
+    step : (t : Bool) (o : Option (List ℕ)) → after_byte 45 x ≡ o → read_size w (cond {A = Bool × List ℕ} t (behind_minus x o) (false, x)) ≡ Ok (n, rest) → Reads_front (Wanted_number w) x n rest
+    step true (Some y) e k = let s = size_sound w true y rest n k in (45 ∷ s.0, after_byte_is 45 x y e ∙ ap (λ l. 45 ∷ l) s.2, (inr (s.0, s.1, refl, s.3, s.4, s.6), ap (is_wanted w) s.6 ∙ s.5))
+    step true None e k = plain k
+    step false o e k = plain k
 
 digit_no_minus : (b : ℕ) → is_digit b ≡ true → eqb b 45 ≡ false
 digit_no_minus b h = elim (eqb_tells b 45) [ inl t ↦ absurd (let bad : is_digit 45 ≡ true = subst (λ n. is_digit n ≡ true) t.1 h in cc) | inr t ↦ t.0 ]
@@ -250,9 +253,9 @@ number_complete w used rest n (inl h, g) stop =
     ∙ size_complete w false used rest h.0 h.1 h.2 (sym (ap (is_wanted w) h.3) ∙ g) stop
     ∙ ap (λ z. Ok (z, rest)) (sym h.3)
   where
-  same : (t : Bool) → read_size w (cond {A = Bool × List ℕ} t (false, used ++ rest) (false, used ++ rest)) ≡ read_size w (false, used ++ rest)
-  same true = refl
-  same false = refl
+    same : (t : Bool) → read_size w (cond {A = Bool × List ℕ} t (false, used ++ rest) (false, used ++ rest)) ≡ read_size w (false, used ++ rest)
+    same true = refl
+    same false = refl
 number_complete w used rest n (inr h, g) stop =
     let want : is_wanted w (signed true h.1) ≡ true = sym (ap (is_wanted w) h.5) ∙ g in
     let can : can_begin w true 0 ≡ true = viable w true 0 h.0 h.3.2 (subst (λ s. fits true s ≡ true) h.3.0 h.4) (subst (λ s. is_wanted w (signed true s) ≡ true) h.3.0 want) in

@@ -16,9 +16,9 @@ module _ {V W : Type 0} (over : V → Bool) (f : V → W) (P : List ℕ → V �
       let one = first.sound x b.0.1 b.0.0 b.1 in
       step b.0.0 b.0.1 (over b.0.0) refl one b.2
     where
-    step : (v : V) (y : List ℕ) (t : Bool) → over v ≡ t → Reads_front P x v y → cond {A = Answer W} t (Err many) (Ok (f v, y)) ≡ Ok (w, rest) → Reads_front (Within over f P) x w rest
-    step v y true e one k = absurd (cc)
-    step v y false e one k = let is = ok_is (f v, y) (w, rest) k in (one.0, one.1 ∙ ap (λ p. one.0 ++ p.1) is, (v, one.2, e, sym (ap (λ p. p.0) is)))
+      step : (v : V) (y : List ℕ) (t : Bool) → over v ≡ t → Reads_front P x v y → cond {A = Answer W} t (Err many) (Ok (f v, y)) ≡ Ok (w, rest) → Reads_front (Within over f P) x w rest
+      step v y true e one k = absurd (cc)
+      step v y false e one k = let is = ok_is (f v, y) (w, rest) k in (one.0, one.1 ∙ ap (λ p. one.0 ++ p.1) is, (v, one.2, e, sym (ap (λ p. p.0) is)))
 
   within_complete : (used rest : List ℕ) (w : W) → Within over f P used w → Stops test rest → (r (used ++ rest) >>= λ a. cond (over a.0) (Err many) (Ok (f a.0, a.1))) ≡ Ok (w, rest)
   within_complete used rest w h stop =
@@ -43,13 +43,13 @@ module _ {S V : Type 0} (Step : S → List ℕ → Next S V → Type 0) (end : �
       let b = bind_ok (step s x) (λ a. follow step n a.1 a.0) (v, rest) h in
       go b.0.0 b.0.1 (is.sound s x b.0.1 b.0.0 b.1) b.2 (λ t y k. follow_sound n t y rest v k)
     where
-    go : (next : Next S V) (y : List ℕ) → Reads_front (Step s) x next y → follow step n y next ≡ Ok (v, rest) → ((t : S) (z : List ℕ) → follow step n z (again t) ≡ Ok (v, rest) → Reads_front (Repeated Step t) z v rest) → Reads_front (Repeated Step s) x v rest
-    go (done w) y one k ih =
-        let e = ok_is (w, y) (v, rest) k in
-        (one.0, one.1 ∙ ap (λ p. one.0 ++ p.1) e, last s one.0 v (subst (λ z. Step s one.0 (done z)) (ap (λ p. p.0) e) one.2))
-    go (again t) y one k ih =
-        let two = ih t y k in
-        (one.0 ++ two.0, one.1 ∙ ap (λ l. one.0 ++ l) two.1 ∙ sym (append_assoc one.0 two.0 rest), more s t one.0 two.0 (one.0 ++ two.0) v refl one.2 two.2)
+      go : (next : Next S V) (y : List ℕ) → Reads_front (Step s) x next y → follow step n y next ≡ Ok (v, rest) → ((t : S) (z : List ℕ) → follow step n z (again t) ≡ Ok (v, rest) → Reads_front (Repeated Step t) z v rest) → Reads_front (Repeated Step s) x v rest
+      go (done w) y one k ih =
+          let e = ok_is (w, y) (v, rest) k in
+          (one.0, one.1 ∙ ap (λ p. one.0 ++ p.1) e, last s one.0 v (subst (λ z. Step s one.0 (done z)) (ap (λ p. p.0) e) one.2))
+      go (again t) y one k ih =
+          let two = ih t y k in
+          (one.0 ++ two.0, one.1 ∙ ap (λ l. one.0 ++ l) two.1 ∙ sym (append_assoc one.0 two.0 rest), more s t one.0 two.0 (one.0 ++ two.0) v refl one.2 two.2)
 
   follow_complete : (n : ℕ) (s : S) (used rest : List ℕ) (v : V) → Repeated Step s used v → Stops end rest → length (used ++ rest) < n → follow step n (used ++ rest) (again s) ≡ Ok (v, rest)
   follow_complete zero s used rest v h stop less = absurd (omega (arith, less))
@@ -83,13 +83,13 @@ module _ {S V : Type 0} (Step : S → List ℕ → Next S V → Type 0) (end : �
   enough (suc m) zero s x h k = absurd (omega (arith, k))
   enough (suc m) (suc n) s x h k = go (step s x) refl (λ t y l p q. enough m n t y p q)
     where
-    go : (a : Answer (Next S V)) → step s x ≡ a → ((t : S) (y : List ℕ) → length y < length x → length y < m → length y < n → follow step m y (again t) ≡ follow step n y (again t)) → (a >>= λ p. follow step m p.1 p.0) ≡ (a >>= λ p. follow step n p.1 p.0)
-    go (Err e) h ih = refl
-    go (Ok p) e ih = by p.0 p.1 e
-      where
-      by : (next : Next S V) (y : List ℕ) → step s x ≡ Ok (next, y) → follow step m y next ≡ follow step n y next
-      by (done w) y e = refl
-      by (again t) y e = let l = shorter s t x y e in ih t y l (omega (arith, l, h)) (omega (arith, l, k))
+      go : (a : Answer (Next S V)) → step s x ≡ a → ((t : S) (y : List ℕ) → length y < length x → length y < m → length y < n → follow step m y (again t) ≡ follow step n y (again t)) → (a >>= λ p. follow step m p.1 p.0) ≡ (a >>= λ p. follow step n p.1 p.0)
+      go (Err e) h ih = refl
+      go (Ok p) e ih = by p.0 p.1 e
+        where
+          by : (next : Next S V) (y : List ℕ) → step s x ≡ Ok (next, y) → follow step m y next ≡ follow step n y next
+          by (done w) y e = refl
+          by (again t) y e = let l = shorter s t x y e in ih t y l (omega (arith, l, h)) (omega (arith, l, k))
 
   pub repeat_again : (s t : S) (x y : List ℕ) → step s x ≡ Ok (again t, y) → repeat step s x ≡ repeat step t y
   unfolding repeat

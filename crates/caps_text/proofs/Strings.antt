@@ -29,33 +29,35 @@ closed true so_far (b ∷ bs) t rest h =
     (b, ih.0, ih.1, ap (λ l. b ∷ l) ih.2, ih.3, ih.4 ∙ append_assoc so_far (b ∷ []) ih.1)
 closed false so_far (b ∷ bs) t rest h = step (eqb b 34) refl h (closed true so_far bs t rest) (closed false (so_far ++ b ∷ []) bs t rest)
   where
-  plain : b ≢ 34 → (s : Bool) → eqb b 92 ≡ s → cond s (read_quoted true so_far bs) (read_quoted false (so_far ++ b ∷ []) bs) ≡ Ok (t, rest) → (read_quoted true so_far bs ≡ Ok (t, rest) → Closed true so_far bs t rest) → (read_quoted false (so_far ++ b ∷ []) bs ≡ Ok (t, rest) → Closed false (so_far ++ b ∷ []) bs t rest) → Closed false so_far (b ∷ bs) t rest
-  plain n true e k f g =
-      let ih = f k in
-      let is : b ≡ 92 = eqb-true b 92 e in
-      (92 ∷ ih.0 ∷ ih.1, ih.0 ∷ ih.2, (λ i. is i ∷ ih.3 i), (ih.1, inr refl, ih.4), ih.5)
-  plain n false e k f g =
-      let ih = g k in
-      (b ∷ ih.0, b ∷ ih.1, ap (λ l. b ∷ l) ih.2, (ih.0, inl (refl, n, eqb-false b 92 e), ih.3), ih.4 ∙ append_assoc so_far (b ∷ []) ih.1)
-  step : (s : Bool) → eqb b 34 ≡ s → cond {A = Answer (List ℕ)} s (Ok (so_far, bs)) (cond (eqb b 92) (read_quoted true so_far bs) (read_quoted false (so_far ++ b ∷ []) bs)) ≡ Ok (t, rest) → (read_quoted true so_far bs ≡ Ok (t, rest) → Closed true so_far bs t rest) → (read_quoted false (so_far ++ b ∷ []) bs ≡ Ok (t, rest) → Closed false (so_far ++ b ∷ []) bs t rest) → Closed false so_far (b ∷ bs) t rest
-  step true e k f g =
-      let is = ok_is (so_far, bs) (t, rest) k in
-      ([], [], (λ i. eqb-true b 34 e i ∷ (is i).1), refl, sym (ap (λ p. p.0) is) ∙ sym (append-nil so_far))
-  step false e k f g = plain (eqb-false b 34 e) (eqb b 92) refl k f g
+    plain : b ≢ 34 → (s : Bool) → eqb b 92 ≡ s → cond s (read_quoted true so_far bs) (read_quoted false (so_far ++ b ∷ []) bs) ≡ Ok (t, rest) → (read_quoted true so_far bs ≡ Ok (t, rest) → Closed true so_far bs t rest) → (read_quoted false (so_far ++ b ∷ []) bs ≡ Ok (t, rest) → Closed false (so_far ++ b ∷ []) bs t rest) → Closed false so_far (b ∷ bs) t rest
+    plain n true e k f g =
+        let ih = f k in
+        let is : b ≡ 92 = eqb-true b 92 e in
+        (92 ∷ ih.0 ∷ ih.1, ih.0 ∷ ih.2, (λ i. is i ∷ ih.3 i), (ih.1, inr refl, ih.4), ih.5)
+    plain n false e k f g =
+        let ih = g k in
+        (b ∷ ih.0, b ∷ ih.1, ap (λ l. b ∷ l) ih.2, (ih.0, inl (refl, n, eqb-false b 92 e), ih.3), ih.4 ∙ append_assoc so_far (b ∷ []) ih.1)
+
+    step : (s : Bool) → eqb b 34 ≡ s → cond {A = Answer (List ℕ)} s (Ok (so_far, bs)) (cond (eqb b 92) (read_quoted true so_far bs) (read_quoted false (so_far ++ b ∷ []) bs)) ≡ Ok (t, rest) → (read_quoted true so_far bs ≡ Ok (t, rest) → Closed true so_far bs t rest) → (read_quoted false (so_far ++ b ∷ []) bs ≡ Ok (t, rest) → Closed false (so_far ++ b ∷ []) bs t rest) → Closed false so_far (b ∷ bs) t rest
+    step true e k f g =
+        let is = ok_is (so_far, bs) (t, rest) k in
+        ([], [], (λ i. eqb-true b 34 e i ∷ (is i).1), refl, sym (ap (λ p. p.0) is) ∙ sym (append-nil so_far))
+    step false e k f g = plain (eqb-false b 34 e) (eqb b 92) refl k f g
 
 reopened : (body content so_far rest : List ℕ) → Quoted body content → read_quoted false so_far (body ++ 34 ∷ rest) ≡ Ok (so_far ++ content, rest)
 reopened body [] so_far rest h = ap (λ l. read_quoted false so_far (l ++ 34 ∷ rest)) h ∙ ap (λ l. Ok (l, rest)) (sym (append-nil so_far))
 reopened body (b ∷ bs) so_far rest h = step h.1 (reopened h.0 bs (so_far ++ b ∷ []) rest h.2)
   where
-  again : read_quoted false (so_far ++ b ∷ []) (h.0 ++ 34 ∷ rest) ≡ Ok ((so_far ++ b ∷ []) ++ bs, rest) → read_quoted false (so_far ++ b ∷ []) (h.0 ++ 34 ∷ rest) ≡ Ok (so_far ++ b ∷ bs, rest)
-  again ih = ih ∙ ap (λ l. Ok (l, rest)) (append_assoc so_far (b ∷ []) bs)
-  step : ((body ≡ b ∷ h.0) × (b ≢ 34) × (b ≢ 92)) ⊎ (body ≡ 92 ∷ b ∷ h.0) → read_quoted false (so_far ++ b ∷ []) (h.0 ++ 34 ∷ rest) ≡ Ok ((so_far ++ b ∷ []) ++ bs, rest) → read_quoted false so_far (body ++ 34 ∷ rest) ≡ Ok (so_far ++ b ∷ bs, rest)
-  step (inl p) ih =
-      ap (λ l. read_quoted false so_far (l ++ 34 ∷ rest)) p.0
-      ∙ ap (λ s. cond {A = Answer (List ℕ)} s (Ok (so_far, h.0 ++ 34 ∷ rest)) (cond (eqb b 92) (read_quoted true so_far (h.0 ++ 34 ∷ rest)) (read_quoted false (so_far ++ b ∷ []) (h.0 ++ 34 ∷ rest)))) (ne_eqb b 34 p.1)
-      ∙ ap (λ s. cond {A = Answer (List ℕ)} s (read_quoted true so_far (h.0 ++ 34 ∷ rest)) (read_quoted false (so_far ++ b ∷ []) (h.0 ++ 34 ∷ rest))) (ne_eqb b 92 p.2)
-      ∙ again ih
-  step (inr p) ih = ap (λ l. read_quoted false so_far (l ++ 34 ∷ rest)) p ∙ again ih
+    again : read_quoted false (so_far ++ b ∷ []) (h.0 ++ 34 ∷ rest) ≡ Ok ((so_far ++ b ∷ []) ++ bs, rest) → read_quoted false (so_far ++ b ∷ []) (h.0 ++ 34 ∷ rest) ≡ Ok (so_far ++ b ∷ bs, rest)
+    again ih = ih ∙ ap (λ l. Ok (l, rest)) (append_assoc so_far (b ∷ []) bs)
+
+    step : ((body ≡ b ∷ h.0) × (b ≢ 34) × (b ≢ 92)) ⊎ (body ≡ 92 ∷ b ∷ h.0) → read_quoted false (so_far ++ b ∷ []) (h.0 ++ 34 ∷ rest) ≡ Ok ((so_far ++ b ∷ []) ++ bs, rest) → read_quoted false so_far (body ++ 34 ∷ rest) ≡ Ok (so_far ++ b ∷ bs, rest)
+    step (inl p) ih =
+        ap (λ l. read_quoted false so_far (l ++ 34 ∷ rest)) p.0
+        ∙ ap (λ s. cond {A = Answer (List ℕ)} s (Ok (so_far, h.0 ++ 34 ∷ rest)) (cond (eqb b 92) (read_quoted true so_far (h.0 ++ 34 ∷ rest)) (read_quoted false (so_far ++ b ∷ []) (h.0 ++ 34 ∷ rest)))) (ne_eqb b 34 p.1)
+        ∙ ap (λ s. cond {A = Answer (List ℕ)} s (read_quoted true so_far (h.0 ++ 34 ∷ rest)) (read_quoted false (so_far ++ b ∷ []) (h.0 ++ 34 ∷ rest))) (ne_eqb b 92 p.2)
+        ∙ again ih
+    step (inr p) ih = ap (λ l. read_quoted false so_far (l ++ 34 ∷ rest)) p ∙ again ih
 
 -- what stands behind an opening quote
 abbrev pub To_quote : List ℕ → List ℕ → Type 0
@@ -103,7 +105,7 @@ reads_truth = reads_iff (λ text b. Just (codes "true") true text b ⊎ Just (co
     (λ text b h. elim h [ inl p ↦ inl (p.1, p.2) | inr p ↦ inr (p.1, p.2) ])
     (λ text b h. elim h [ inl p ↦ inl (tt, p.0, p.1) | inr p ↦ inr (tt, p.0, p.1) ])
     (reads_begun 116 (Just (codes "true") true) (Just (codes "false") false) nothing (λ x. read_literal (codes "true") x >>= λ a. Ok (true, a.1)) (λ x. read_literal (codes "false") x >>= λ a. Ok (false, a.1)) (reads_just (codes "true") true) (reads_just (codes "false") false)
-      (λ used v p. (codes "rue", p.1)) (λ used v p. just_starts (is_byte 116) 102 (codes "alse") false used v refl p))
+    (λ used v p. (codes "rue", p.1)) (λ used v p. just_starts (is_byte 116) 102 (codes "alse") false used v refl p))
 
 -- the words of types
 abbrev Of_int : List ℕ → Kind → Type 0
@@ -151,13 +153,14 @@ reads_kind_word = reads_begun 105 Of_int Of_second nothing (λ x. read_literal (
 kind_to : (text : List ℕ) (kind : Kind) → Then (Is (40 ∷ [])) (λ s. Of_any) text kind → Type_word text kind
 kind_to text kind h = h.3 ∙ ap (λ l. l ++ h.1) h.4 ∙ tail h.5
   where
-  is_kind : (ws : List ℕ) (k : Kind) → (h.1 ≡ ws) → (kind ≡ k) → kind_text k ≡ 40 ∷ ws → 40 ∷ h.1 ≡ kind_text kind
-  is_kind ws k e f g = ap (λ l. 40 ∷ l) e ∙ sym g ∙ ap kind_text (sym f)
-  tail : Of_any h.1 kind → 40 ∷ h.1 ≡ kind_text kind
-  tail (inl p) = is_kind (codes "int)") Whole p.1 p.2 refl
-  tail (inr (inl p)) = is_kind (codes "string)") Words p.1 p.2 refl
-  tail (inr (inr (inl p))) = is_kind (codes "boolean)") Either p.1 p.2 refl
-  tail (inr (inr (inr p))) = is_kind (codes "fraction)") Ratio p.1 p.2 refl
+    is_kind : (ws : List ℕ) (k : Kind) → (h.1 ≡ ws) → (kind ≡ k) → kind_text k ≡ 40 ∷ ws → 40 ∷ h.1 ≡ kind_text kind
+    is_kind ws k e f g = ap (λ l. 40 ∷ l) e ∙ sym g ∙ ap kind_text (sym f)
+
+    tail : Of_any h.1 kind → 40 ∷ h.1 ≡ kind_text kind
+    tail (inl p) = is_kind (codes "int)") Whole p.1 p.2 refl
+    tail (inr (inl p)) = is_kind (codes "string)") Words p.1 p.2 refl
+    tail (inr (inr (inl p))) = is_kind (codes "boolean)") Either p.1 p.2 refl
+    tail (inr (inr (inr p))) = is_kind (codes "fraction)") Ratio p.1 p.2 refl
 
 kind_from : (text : List ℕ) (kind : Kind) → Type_word text kind → Then (Is (40 ∷ [])) (λ s. Of_any) text kind
 kind_from text Whole h = (40 ∷ [], codes "int)", tt, h, refl, inl (tt, refl, refl))

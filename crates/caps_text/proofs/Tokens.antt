@@ -113,23 +113,23 @@ pub digits_step : (w : Wanted) (negative : Bool) (size : ℕ) (x : List ℕ) (d 
 digits_step w negative size [] d y h can = absurd (cc)
 digits_step w negative size (b ∷ bs) d y h can = step (is_digit b) refl
   where
-  step : (t : Bool) → is_digit b ≡ t → read_digits w negative size (b ∷ bs) ≡ read_digits w negative (size * 10 + d) y
-  step true e =
-      let is : Some (b - 48, bs) ≡ Some (d, y) = rw e at h in
-      let both = some_is {A = ℕ × List ℕ} (b - 48, bs) (d, y) is in
-      let first : b - 48 ≡ d = ap (λ p. p.0) both in
-      let second : bs ≡ y = ap (λ p. p.1) both in
-      rw (e, first, can, second) refl
-  step false e = absurd (let is : None ≡ Some (d, y) = rw e at h in cc)
+    step : (t : Bool) → is_digit b ≡ t → read_digits w negative size (b ∷ bs) ≡ read_digits w negative (size * 10 + d) y
+    step true e =
+        let is : Some (b - 48, bs) ≡ Some (d, y) = rw e at h in
+        let both = some_is {A = ℕ × List ℕ} (b - 48, bs) (d, y) is in
+        let first : b - 48 ≡ d = ap (λ p. p.0) both in
+        let second : bs ≡ y = ap (λ p. p.1) both in
+        rw (e, first, can, second) refl
+    step false e = absurd (let is : None ≡ Some (d, y) = rw e at h in cc)
 
 -- a size that can begin a number is at most that of the least number
 pub small_reach : (ps : List ℕ) (size : ℕ) (least : ℤ) → list_any (reaches_by size least) ps ≡ true → size ≤ 2147483647
 small_reach [] size least h = absurd (cc)
 small_reach (p ∷ ps) size least h = step (nat_le size (2147483647 / p)) refl (small_reach ps size least)
   where
-  step : (t : Bool) → nat_le size (2147483647 / p) ≡ t → (list_any (reaches_by size least) ps ≡ true → size ≤ 2147483647) → size ≤ 2147483647
-  step true e ih = let a = leb-true size (2147483647 / p) e in let b = div-le_self 2147483647 p in omega (arith, a, b)
-  step false e ih = ih (rw e at h)
+    step : (t : Bool) → nat_le size (2147483647 / p) ≡ t → (list_any (reaches_by size least) ps ≡ true → size ≤ 2147483647) → size ≤ 2147483647
+    step true e ih = let a = leb-true size (2147483647 / p) e in let b = div-le_self 2147483647 p in omega (arith, a, b)
+    step false e ih = ih (rw e at h)
 
 fits_small : (negative : Bool) (size : ℕ) → fits negative size ≡ true → size ≤ 2147483648
 fits_small true size h = leb-true size 2147483648 h
@@ -154,6 +154,6 @@ pub run_is : (class : Class) (x : List ℕ) → take (length (take_while (in_cla
 run_is class [] = refl
 run_is class (b ∷ bs) = rw (run_cons class b bs) (more (run_is class bs) (in_class class b))
   where
-  more : take (length (take_while (in_class class) bs)) bs ≡ run_of class bs → (t : Bool) → take (length (cond t (b ∷ take_while (in_class class) bs) [])) (b ∷ bs) ≡ cond t (b ∷ run_of class bs) []
-  more h true = ap (λ l. b ∷ l) h
-  more h false = refl
+    more : take (length (take_while (in_class class) bs)) bs ≡ run_of class bs → (t : Bool) → take (length (cond t (b ∷ take_while (in_class class) bs) [])) (b ∷ bs) ≡ cond t (b ∷ run_of class bs) []
+    more h true = ap (λ l. b ∷ l) h
+    more h false = refl

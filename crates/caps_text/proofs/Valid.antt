@@ -45,10 +45,10 @@ kinds_agree (IntRange a b) = refl
 parts_when : (s : Bool) (above below : ℕ) → SomeIff (parts s above below) (FitsSigned w32 (signed s above) × FitsSigned w32 (pos below)) (Fraction (signed s above) (pos below))
 parts_when s above below = step (fits s above) (fits false below) refl refl
   where
-  step : (a b : Bool) → fits s above ≡ a → fits false below ≡ b → SomeIff (cond {A = Option One} (a && b) (Some (Fraction (signed s above) (pos below))) None) (FitsSigned w32 (signed s above) × FitsSigned w32 (pos below)) (Fraction (signed s above) (pos below))
-  step true true e f = ((fits_from s above e, fits_from false below f), refl)
-  step true false e f = λ h. let bad : true ≡ false = sym (fits_to false below h.1) ∙ f in cc
-  step false b e f = λ h. let bad : true ≡ false = sym (fits_to s above h.0) ∙ e in cc
+    step : (a b : Bool) → fits s above ≡ a → fits false below ≡ b → SomeIff (cond {A = Option One} (a && b) (Some (Fraction (signed s above) (pos below))) None) (FitsSigned w32 (signed s above) × FitsSigned w32 (pos below)) (Fraction (signed s above) (pos below))
+    step true true e f = ((fits_from s above e, fits_from false below f), refl)
+    step true false e f = λ h. let bad : true ≡ false = sym (fits_to false below h.1) ∙ f in cc
+    step false b e f = λ h. let bad : true ≡ false = sym (fits_to s above h.0) ∙ e in cc
 
 some_then : {A : Type 0} (P : A → Type 0) (o : Option A) (x : A) → IfSome o P → o ≡ Some x → P x
 some_then P None x h e = absurd (cc)
@@ -56,18 +56,20 @@ some_then P (Some y) x h e = let is : y ≡ x = cc in subst P is h
 
 ratio_single : (num den : ℤ) (one : One) → ratio num den ≡ Some one → IsSingle one
 ratio_single num den one h = elim (eqb_tells (unsigned_abs den) 0) [
-  inl t ↦ absurd (let bad : None ≡ Some one = sym (ap (λ b. cond {A = Option One} b None (parts sign (unsigned_abs num / g) (unsigned_abs den / g))) t.0) ∙ h in cc)
+  | inl t ↦ absurd (let bad : None ≡ Some one = sym (ap (λ b. cond {A = Option One} b None (parts sign (unsigned_abs num / g) (unsigned_abs den / g))) t.0) ∙ h in cc)
   | inr t ↦
-    let some : 0 < unsigned_abs den = omega (arith, t.1) in
-    let is : parts sign (unsigned_abs num / g) (unsigned_abs den / g) ≡ Some one = sym (ap (λ b. cond {A = Option One} b None (parts sign (unsigned_abs num / g) (unsigned_abs den / g))) t.0) ∙ h in
-    some_then IsSingle (parts sign (unsigned_abs num / g) (unsigned_abs den / g)) one
+      let some : 0 < unsigned_abs den = omega (arith, t.1) in
+      let is : parts sign (unsigned_abs num / g) (unsigned_abs den / g) ≡ Some one = sym (ap (λ b. cond {A = Option One} b None (parts sign (unsigned_abs num / g) (unsigned_abs den / g))) t.0) ∙ h in
+      some_then IsSingle (parts sign (unsigned_abs num / g) (unsigned_abs den / g)) one
       (when_lowest num den (unsigned_abs num) (unsigned_abs den) g (is_negative num) (is_negative den) refl refl (IsGcd-divisor (unsigned_abs num) (unsigned_abs den)) some refl refl _ (parts_when sign (unsigned_abs num / g) (unsigned_abs den / g)))
-      is ]
+      is
+]
   where
-  g : ℕ
-  g = divisor (unsigned_abs num) (unsigned_abs den)
-  sign : Bool
-  sign = not (beq (is_negative num) (is_negative den))
+    g : ℕ
+    g = divisor (unsigned_abs num) (unsigned_abs den)
+
+    sign : Bool
+    sign = not (beq (is_negative num) (is_negative den))
 
 single_one : (one : One) → IsSingle one → IsOne one
 single_one (Int n) h = tt
@@ -79,14 +81,16 @@ single_one (IntRange a b) h = absurd h
 ratio_kind_is : (num den : ℤ) (one : One) → ratio num den ≡ Some one → kind_of one ≡ Quotients
 ratio_kind_is num den one h = step (eqb (unsigned_abs den) 0) (fits sign (unsigned_abs num / g) && fits false (unsigned_abs den / g)) h
   where
-  g : ℕ
-  g = divisor (unsigned_abs num) (unsigned_abs den)
-  sign : Bool
-  sign = not (beq (is_negative num) (is_negative den))
-  step : (a b : Bool) → cond {A = Option One} a None (cond {A = Option One} b (Some (Fraction (signed sign (unsigned_abs num / g)) (pos (unsigned_abs den / g)))) None) ≡ Some one → kind_of one ≡ Quotients
-  step true b k = absurd (cc)
-  step false true k = let is : one ≡ Fraction (signed sign (unsigned_abs num / g)) (pos (unsigned_abs den / g)) = cc in ap kind_of is
-  step false false k = absurd (cc)
+    g : ℕ
+    g = divisor (unsigned_abs num) (unsigned_abs den)
+
+    sign : Bool
+    sign = not (beq (is_negative num) (is_negative den))
+
+    step : (a b : Bool) → cond {A = Option One} a None (cond {A = Option One} b (Some (Fraction (signed sign (unsigned_abs num / g)) (pos (unsigned_abs den / g)))) None) ≡ Some one → kind_of one ≡ Quotients
+    step true b k = absurd (cc)
+    step false true k = let is : one ≡ Fraction (signed sign (unsigned_abs num / g)) (pos (unsigned_abs den / g)) = cc in ap kind_of is
+    step false false k = absurd (cc)
 
 range_cases : (t : Bool) (low high : ℤ) → low ≤ℤ high → IsOne (cond {A = One} t (Int low) (IntRange low high)) × (kind_of (cond {A = One} t (Int low) (IntRange low high)) ≡ Whole)
 range_cases true low high h = (tt, refl)
@@ -158,19 +162,19 @@ kept_some members one false h = let n = length-append members (one ∷ []) in om
 listed_good : (kind : Kind) (members all : List One) (text : List ℕ) → Repeated (List_step kind) members text all → Alike kind members → Alike kind all
 listed_good kind _ _ _ (last s text v d) a = ended d
   where
-  ended : List_step kind s text (done v) → Alike kind v
-  ended (inl h) = let e : done v ≡ done s = h.1 in let is : v ≡ s = cc in subst (Alike kind) (sym is) a
-  ended (inr h) = absurd (let bad = h.3 in cc)
+    ended : List_step kind s text (done v) → Alike kind v
+    ended (inl h) = let e : done v ≡ done s = h.1 in let is : v ≡ s = cc in subst (Alike kind) (sym is) a
+    ended (inr h) = absurd (let bad = h.3 in cc)
 listed_good kind _ _ _ (more s t front back text v e d later) a = listed_good kind t v back later (on d)
   where
-  on : List_step kind s front (again t) → Alike kind t
-  on (inl h) = absurd (let bad = h.1 in cc)
-  on (inr h) =
-      let e : again t ≡ again (kept_member s h.0) = h.3 in
-      let is : t ≡ kept_member s h.0 = cc in
-      let g = member_good (Some kind) h.1.1 h.0 h.1.5 in
-      let b = list_any (λ m. same m h.0) s in
-      subst (Alike kind) (sym is) (record { each = kept_each kind s h.0 b a.each g; some = kept_some s h.0 b a.some; few = h.2 })
+    on : List_step kind s front (again t) → Alike kind t
+    on (inl h) = absurd (let bad = h.1 in cc)
+    on (inr h) =
+        let e : again t ≡ again (kept_member s h.0) = h.3 in
+        let is : t ≡ kept_member s h.0 = cc in
+        let g = member_good (Some kind) h.1.1 h.0 h.1.5 in
+        let b = list_any (λ m. same m h.0) s in
+        subst (Alike kind) (sym is) (record { each = kept_each kind s h.0 b a.each g; some = kept_some s h.0 b a.some; few = h.2 })
 
 each_one : (kind : Kind) (members : List One) → Each (λ m. IsOne m × (kind_of m ≡ kind)) members → Each IsOne members
 each_one kind [] h = tt

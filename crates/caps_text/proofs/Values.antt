@@ -60,13 +60,13 @@ module _ {V : Type 0} (P : List ℕ → V → Type 0) (test : ℕ → Bool) (r :
   whole_step x v (Err e) k h = absurd (cc)
   whole_step x v (Ok p) k h = go (eqb (length p.1) 0) refl h
     where
-    go : (t : Bool) → eqb (length p.1) 0 ≡ t → cond {A = Option V} t (Some p.0) None ≡ Some v → P x v
-    go true e h =
-        let nil = no_length p.1 e in
-        let s = first.sound x p.1 p.0 k in
-        let is : x ≡ s.0 = s.1 ∙ ap (λ l. s.0 ++ l) nil ∙ append-nil s.0 in
-        subst (P x) (some_is p.0 v h) (subst (λ l. P l p.0) (sym is) s.2)
-    go false e h = absurd (cc)
+      go : (t : Bool) → eqb (length p.1) 0 ≡ t → cond {A = Option V} t (Some p.0) None ≡ Some v → P x v
+      go true e h =
+          let nil = no_length p.1 e in
+          let s = first.sound x p.1 p.0 k in
+          let is : x ≡ s.0 = s.1 ∙ ap (λ l. s.0 ++ l) nil ∙ append-nil s.0 in
+          subst (P x) (some_is p.0 v h) (subst (λ l. P l p.0) (sym is) s.2)
+      go false e h = absurd (cc)
 
   pub whole_to : (x : List ℕ) (v : V) → whole (r x) ≡ Some v → P x v
   whole_to x v h = whole_step x v (r x) refl h
@@ -106,13 +106,13 @@ judge_to : (text : List ℕ) (one : One) → judge text ≡ Some one → Bare_wo
 unfolding judge whole_number whole_pair
 judge_to text one h = step (whole (any_read text)) (whole (read_pair text)) refl refl h
   where
-  step : (o : Option ℤ) (q : Option (ℤ × ℤ)) → whole (any_read text) ≡ o → whole (read_pair text) ≡ q → judge_number text o ≡ Some one → Bare_word text one
-  step (Some n) q e f k = inl (n, whole_to Number is_digit any_read reads_any_number text n e, sym (some_is (Int n) one k))
-  step None q e f k = inr (pair q f k)
-    where
-    pair : (q : Option (ℤ × ℤ)) → whole (read_pair text) ≡ q → judge_number text None ≡ Some one → Quotient text one ⊎ (((n : ℤ) → ¬ Number text n) × ((p : ℤ × ℤ) → ¬ Pair text p) × (one ≡ judge_words text))
-    pair (Some p) f k = inl (pair_quotient text p one (whole_to Pair is_digit read_pair reads_pair text p f) (sym (ap (judge_pair text) f) ∙ k))
-    pair None f k = inr (whole_none Number is_digit any_read reads_any_number text e, whole_none Pair is_digit read_pair reads_pair text f, sym (some_is (judge_words text) one (sym (ap (judge_pair text) f) ∙ k)))
+    step : (o : Option ℤ) (q : Option (ℤ × ℤ)) → whole (any_read text) ≡ o → whole (read_pair text) ≡ q → judge_number text o ≡ Some one → Bare_word text one
+    step (Some n) q e f k = inl (n, whole_to Number is_digit any_read reads_any_number text n e, sym (some_is (Int n) one k))
+    step None q e f k = inr (pair q f k)
+      where
+        pair : (q : Option (ℤ × ℤ)) → whole (read_pair text) ≡ q → judge_number text None ≡ Some one → Quotient text one ⊎ (((n : ℤ) → ¬ Number text n) × ((p : ℤ × ℤ) → ¬ Pair text p) × (one ≡ judge_words text))
+        pair (Some p) f k = inl (pair_quotient text p one (whole_to Pair is_digit read_pair reads_pair text p f) (sym (ap (judge_pair text) f) ∙ k))
+        pair None f k = inr (whole_none Number is_digit any_read reads_any_number text e, whole_none Pair is_digit read_pair reads_pair text f, sym (some_is (judge_words text) one (sym (ap (judge_pair text) f) ∙ k)))
 
 none_of : {V : Type 0} (o : Option V) → ((v : V) → o ≡ Some v → ⊥) → o ≡ None
 none_of None h = refl
@@ -142,11 +142,13 @@ reads_untyped_parts = reads_choice 34 (As Text To_quote) (Sure judge (Run Word))
 pub reads_untyped : IsReader Untyped (in_class Word) read_untyped
 reads_untyped = reads_iff (λ text one. Behind 34 (As Text To_quote) text one ⊎ Sure judge (Run Word) text one) Untyped (in_class Word) read_untyped
     (λ text one h. elim h [
-      inl q ↦ inr (q.2.0, (q.2.1.0, q.1 ∙ ap (λ l. 34 ∷ l) q.2.1.1, q.2.1.2), q.2.2)
-      | inr s ↦ inl ((refl, s.1.1, s.1.2), judge_to text one (sym (ap judge s.1.0) ∙ s.2)) ])
+      | inl q ↦ inr (q.2.0, (q.2.1.0, q.1 ∙ ap (λ l. 34 ∷ l) q.2.1.1, q.2.1.2), q.2.2)
+      | inr s ↦ inl ((refl, s.1.1, s.1.2), judge_to text one (sym (ap judge s.1.0) ∙ s.2))
+    ])
     (λ text one h. elim h [
-      inl w ↦ inr (text, w.0, judge_from text one w.1)
-      | inr q ↦ inl (q.1.0 ++ 34 ∷ [], q.1.1, (q.0, (q.1.0, refl, q.1.2), q.2)) ])
+      | inl w ↦ inr (text, w.0, judge_from text one w.1)
+      | inr q ↦ inl (q.1.0 ++ 34 ∷ [], q.1.1, (q.0, (q.1.0, refl, q.1.2), q.2))
+    ])
     reads_untyped_parts
 
 -- a byte that stands in no word is no digit
@@ -243,8 +245,8 @@ pub reads_range : IsReader Range_tail nothing read_range
 unfolding read_range
 reads_range = reads_then Spaces (λ s. Then Number (λ low. Then (Mark 44) (λ m. Range_high low))) is_space nothing skipping (λ s x. any_read x >>= λ low. read_mark 44 low.1 >>= λ m. read_number (AtLeast low.0) m.1 >>= λ high. expect 93 (behind_spaces high.1) >>= λ e. Ok (range low.0 high.0, e.1)) reads_spaces
     (λ s. reads_then Number (λ low. Then (Mark 44) (λ m. Range_high low)) is_digit nothing any_read (λ low x. read_mark 44 x >>= λ m. read_number (AtLeast low) m.1 >>= λ high. expect 93 (behind_spaces high.1) >>= λ e. Ok (range low high.0, e.1)) reads_any_number
-      (λ low. reads_then (Mark 44) (λ m. Range_high low) is_space nothing (read_mark 44) (λ m x. read_number (AtLeast low) x >>= λ high. expect 93 (behind_spaces high.1) >>= λ e. Ok (range low high.0, e.1)) (reads_mark 44 refl) (λ m. reads_range_high low) (λ m back w rest q stop. starts_stop is_space back rest (high_starts low back w q)))
-      (λ low back w rest q stop. starts_stop is_digit back rest (starts_mark is_digit 44 (λ m. Range_high low) back w refl refl q)))
+    (λ low. reads_then (Mark 44) (λ m. Range_high low) is_space nothing (read_mark 44) (λ m x. read_number (AtLeast low) x >>= λ high. expect 93 (behind_spaces high.1) >>= λ e. Ok (range low high.0, e.1)) (reads_mark 44 refl) (λ m. reads_range_high low) (λ m back w rest q stop. starts_stop is_space back rest (high_starts low back w q)))
+    (λ low back w rest q stop. starts_stop is_digit back rest (starts_mark is_digit 44 (λ m. Range_high low) back w refl refl q)))
     (λ s back w rest q stop. starts_stop is_space back rest (subst (Starts is_space) (sym q.3) (starts_more is_space q.0 q.1 (number_opens is_space q.0 q.2 space_opens q.4))))
 
 behind_to : (text : List ℕ) (one : One) → Behind 91 Range_tail text one → Range text one

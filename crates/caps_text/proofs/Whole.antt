@@ -22,9 +22,9 @@ module _ {V : Type 0} (P : List ℕ → V → Type 0) (test : ℕ → Bool) (r :
   guarded_sound : (x rest : List ℕ) (v : V) → cond {A = Answer V} b (Err (e x)) (r x) ≡ Ok (v, rest) → Reads_front (λ text w. (b ≡ false) × P text w) x v rest
   guarded_sound x rest v h = step b refl h
     where
-    step : (t : Bool) → b ≡ t → cond {A = Answer V} t (Err (e x)) (r x) ≡ Ok (v, rest) → Reads_front (λ text w. (b ≡ false) × P text w) x v rest
-    step true k h = absurd (cc)
-    step false k h = let f = first.sound x rest v h in (f.0, f.1, (k, f.2))
+      step : (t : Bool) → b ≡ t → cond {A = Answer V} t (Err (e x)) (r x) ≡ Ok (v, rest) → Reads_front (λ text w. (b ≡ false) × P text w) x v rest
+      step true k h = absurd (cc)
+      step false k h = let f = first.sound x rest v h in (f.0, f.1, (k, f.2))
 
   guarded_complete : (used rest : List ℕ) (v : V) → (b ≡ false) × P used v → Stops test rest → cond {A = Answer V} b (Err (e (used ++ rest))) (r (used ++ rest)) ≡ Ok (v, rest)
   guarded_complete used rest v h stop = ap (λ t. cond {A = Answer V} t (Err (e (used ++ rest))) (r (used ++ rest))) h.0 ∙ first.complete used rest v h.1 stop
@@ -82,21 +82,23 @@ reads_head = reads_as bare Media_type (in_class Media) read_media reads_media
 head_starts : (text : List ℕ) (s : Description Value) → Head text s → Starts is_space text
 head_starts text s h = let m = h.1 in subst (Starts is_space) (sym m.3) (starts_more is_space m.0 m.1 (first m.0 m.2 m.4))
   where
-  no_space : (b : ℕ) → in_class Media b ≡ true → is_space b ≡ false
-  no_space b k = grind arith
-  and-left : (a b : Bool) → (a && b) ≡ true → a ≡ true
-  and-left true b k = refl
-  and-left false b k = k
-  first : (l run : List ℕ) → Run Media l run → Starts is_space l
-  first [] run k = absurd (let some = k.1 in omega (arith, some))
-  first (b ∷ bs) run k = no_space b (and-left (in_class Media b) (list_all (in_class Media) bs) k.2)
+    no_space : (b : ℕ) → in_class Media b ≡ true → is_space b ≡ false
+    no_space b k = grind arith
+
+    and-left : (a b : Bool) → (a && b) ≡ true → a ≡ true
+    and-left true b k = refl
+    and-left false b k = k
+
+    first : (l run : List ℕ) → Run Media l run → Starts is_space l
+    first [] run k = absurd (let some = k.1 in omega (arith, some))
+    first (b ∷ bs) run k = no_space b (and-left (in_class Media b) (list_all (in_class Media) bs) k.2)
 
 name_starts : (text name : List ℕ) → Field_name text name → Starts is_space text
 name_starts [] name h = absurd (let some = h.0.1 in omega (arith, some))
 name_starts (b ∷ bs) name h = no_space b h.1
   where
-  no_space : (b : ℕ) → is_letter b ≡ true → is_space b ≡ false
-  no_space b k = grind arith
+    no_space : (b : ℕ) → is_letter b ≡ true → is_space b ≡ false
+    no_space b k = grind arith
 
 field_starts : (s : Description Value) (text : List ℕ) (t : Description Value) → Field s text t → Starts is_space text
 field_starts s text t h = subst (Starts is_space) (sym h.3) (starts_more is_space h.0 h.1 (name_starts h.0 h.2 h.4))
@@ -169,15 +171,15 @@ marked m P spaces behind tail text w e s t p =
 more_words : (made : Made) (text : List ℕ) (n : Outcome) → Then Spaces (λ s. In_more made) text n → Goes_on made text n
 more_words made text n h = go h.5
   where
-  go : In_more made h.1 n → Goes_on made text n
-  go (inl b) =
-      let t = b.2 in
-      let f = t.5 in
-      inl (f.0, marked 44 (Field made.1) h.0 t.0 t.1 text f.0 (h.3 ∙ ap (λ l. h.0 ++ l) (b.1 ∙ ap (λ l. 44 ∷ l) t.3)) h.4 t.4 f.1, f.2)
-  go (inr b) =
-      let t = b.5.1 in
-      let f = t.5 in
-      inr (f.0, marked 59 Head h.0 t.0 t.1 text f.0 (h.3 ∙ ap (λ l. h.0 ++ l) (b.3 ∙ (λ i. b.4 i ++ t.3 i))) h.4 t.4 f.1, ltb-false 63 (length made.0) b.5.0, f.2)
+    go : In_more made h.1 n → Goes_on made text n
+    go (inl b) =
+        let t = b.2 in
+        let f = t.5 in
+        inl (f.0, marked 44 (Field made.1) h.0 t.0 t.1 text f.0 (h.3 ∙ ap (λ l. h.0 ++ l) (b.1 ∙ ap (λ l. 44 ∷ l) t.3)) h.4 t.4 f.1, f.2)
+    go (inr b) =
+        let t = b.5.1 in
+        let f = t.5 in
+        inr (f.0, marked 59 Head h.0 t.0 t.1 text f.0 (h.3 ∙ ap (λ l. h.0 ++ l) (b.3 ∙ (λ i. b.4 i ++ t.3 i))) h.4 t.4 f.1, ltb-false 63 (length made.0) b.5.0, f.2)
 
 split_mark : (m : ℕ) (front back text : List ℕ) (mark : Mark m front tt) → text ≡ front ++ back → text ≡ mark.0 ++ (m ∷ (mark.5.1 ++ back))
 split_mark m front back text mark e =
@@ -213,9 +215,22 @@ caps_sound : (made : Made) (x rest : List ℕ) (n : Outcome) → caps_step made 
 unfolding caps_step
 caps_sound made x rest n h = go (eqb (length x) 0) refl h
   where
-  go : (t : Bool) → eqb (length x) 0 ≡ t → cond {A = Answer Outcome} t (few_structures made x >>= λ all. Ok (done all.0, all.1)) (read_more made x) ≡ Ok (n, rest) → Reads_front (Caps_step made) x n rest
-  go true e k = let l = last_few made x rest n (nat_lt 63 (length made.0)) refl k in ([], l.2, inl (refl, l.0, l.1))
-  go false e k = let f = (reads_goes_on made).sound x rest n k in (f.0, f.1, elim f.2 [ inl p ↦ inr (inl p) | inr p ↦ inr (inr p) ])
+    go : (t : Bool) → eqb (length x) 0 ≡ t → cond {A = Answer Outcome} t (few_structures made x >>= λ all. Ok (done all.0, all.1)) (read_more made x) ≡ Ok (n, rest) → Reads_front (Caps_step made) x n rest
+    go true e k = let l = last_few made x rest n (nat_lt 63 (length made.0)) refl k in ([], l.2, inl (refl, l.0, l.1))
+    go false e k = let f = (reads_goes_on made).sound x rest n k in (f.0, f.1, elim f.2 [ inl p ↦ inr (inl p) | inr p ↦ inr (inr p) ])
+
+-- the last step stands at the end of the text
+pub done_reads : (made : Made) (x y : List ℕ) (v : List (Description Value)) → caps_step made x ≡ Ok (done v, y) → y ≡ []
+unfolding caps_step
+done_reads made x y v h = go (eqb (length x) 0) refl h
+  where
+    go : (t : Bool) → eqb (length x) 0 ≡ t → cond {A = Answer Outcome} t (few_structures made x >>= λ all. Ok (done all.0, all.1)) (read_more made x) ≡ Ok (done v, y) → y ≡ []
+    go true e k = sym (last_few made x y (done v) (nat_lt 63 (length made.0)) refl k).2 ∙ no_length x e
+    go false e k = absurd (no ((reads_goes_on made).sound x y (done v) k).2)
+      where
+        no : {text : List ℕ} → Goes_on made text (done v) → ⊥
+        no (inl p) = let bad = p.2 in cc
+        no (inr p) = let bad = p.3 in cc
 
 step_starts : (made t : Made) (text : List ℕ) → Caps_step made text (again t) → Starts (in_class Word) text
 step_starts made t text (inl h) = absurd (cc)
@@ -229,10 +244,10 @@ at_end (b ∷ bs) h = absurd (cc)
 caps_stop : (made : Made) (text rest : List ℕ) (v : List (Description Value)) → Repeated Caps_step made text v → Stops all_bytes rest → Stops (in_class Word) (text ++ rest)
 caps_stop _ _ rest _ (last s text v d) stop = ended d
   where
-  ended : Caps_step s text (done v) → Stops (in_class Word) (text ++ rest)
-  ended (inl h) = let nil : text ++ rest ≡ [] = ap (λ l. l ++ rest) h.0 ∙ at_end rest stop in subst (Stops (in_class Word)) (sym nil) tt
-  ended (inr (inl h)) = absurd (let bad = h.2 in cc)
-  ended (inr (inr h)) = absurd (let bad = h.3 in cc)
+    ended : Caps_step s text (done v) → Stops (in_class Word) (text ++ rest)
+    ended (inl h) = let nil : text ++ rest ≡ [] = ap (λ l. l ++ rest) h.0 ∙ at_end rest stop in subst (Stops (in_class Word)) (sym nil) tt
+    ended (inr (inl h)) = absurd (let bad = h.2 in cc)
+    ended (inr (inr h)) = absurd (let bad = h.3 in cc)
 caps_stop _ _ rest _ (more s t front back text v e d later) stop = subst (λ l. Stops (in_class Word) (l ++ rest)) (sym e) (starts_stop (in_class Word) (front ++ back) rest (starts_more (in_class Word) front back (step_starts s t front d)))
 
 some_bytes : (test : ℕ → Bool) (l : List ℕ) → Starts test l → 0 < length l
@@ -248,9 +263,9 @@ caps_goes_on made t front back rest h stop =
     ap (λ b. cond {A = Answer Outcome} b (few_structures made (front ++ (back ++ rest)) >>= λ all. Ok (done all.0, all.1)) (read_more made (front ++ (back ++ rest)))) full
     ∙ (reads_goes_on made).complete front (back ++ rest) (again t) (on h) stop
   where
-  on : Caps_step made front (again t) → Goes_on made front (again t)
-  on (inl h) = absurd (let bad = h.2 in cc)
-  on (inr p) = p
+    on : Caps_step made front (again t) → Goes_on made front (again t)
+    on (inl h) = absurd (let bad = h.2 in cc)
+    on (inr p) = p
 
 caps_ends : (made : Made) (front rest : List ℕ) (v : List (Description Value)) → Caps_step made front (done v) → Stops all_bytes rest → caps_step made (front ++ rest) ≡ Ok (done v, rest)
 unfolding caps_step

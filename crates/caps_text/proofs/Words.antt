@@ -21,9 +21,9 @@ byte_sound : (mark : ℕ) (x rest : List ℕ) (v : Unit {0}) → expect mark x �
 unfolding expect
 byte_sound mark x rest v h = step (after_byte mark x) refl h
   where
-  step : (o : Option (List ℕ)) → after_byte mark x ≡ o → passed x o ≡ Ok (v, rest) → Reads_front (Is (mark ∷ [])) x v rest
-  step None e h = absurd (cc)
-  step (Some r) e h = let same = ap (λ p. p.1) (ok_is (tt, r) (v, rest) h) in (mark ∷ [], after_byte_is mark x r e ∙ ap (λ l. mark ∷ l) same, refl)
+    step : (o : Option (List ℕ)) → after_byte mark x ≡ o → passed x o ≡ Ok (v, rest) → Reads_front (Is (mark ∷ [])) x v rest
+    step None e h = absurd (cc)
+    step (Some r) e h = let same = ap (λ p. p.1) (ok_is (tt, r) (v, rest) h) in (mark ∷ [], after_byte_is mark x r e ∙ ap (λ l. mark ∷ l) same, refl)
 
 byte_complete : (mark : ℕ) (used rest : List ℕ) (v : Unit {0}) → Is (mark ∷ []) used v → Stops nothing rest → expect mark (used ++ rest) ≡ Ok (v, rest)
 unfolding expect
@@ -37,9 +37,9 @@ spaces_front : (x : List ℕ) → (used : List ℕ) × (x ≡ used ++ behind_spa
 spaces_front [] = ([], refl, refl)
 spaces_front (b ∷ bs) = step (eqb b 32) refl (spaces_front bs)
   where
-  step : (t : Bool) → eqb b 32 ≡ t → (used : List ℕ) × (bs ≡ used ++ behind_spaces bs) × (list_all is_space used ≡ true) → (used : List ℕ) × (b ∷ bs ≡ used ++ cond (eqb b 32) (behind_spaces bs) (b ∷ bs)) × (list_all is_space used ≡ true)
-  step true e ih = (b ∷ ih.0, rw e (ap (λ l. b ∷ l) ih.1), rw e ih.2)
-  step false e ih = ([], rw e refl, refl)
+    step : (t : Bool) → eqb b 32 ≡ t → (used : List ℕ) × (bs ≡ used ++ behind_spaces bs) × (list_all is_space used ≡ true) → (used : List ℕ) × (b ∷ bs ≡ used ++ cond (eqb b 32) (behind_spaces bs) (b ∷ bs)) × (list_all is_space used ≡ true)
+    step true e ih = (b ∷ ih.0, rw e (ap (λ l. b ∷ l) ih.1), rw e ih.2)
+    step false e ih = ([], rw e refl, refl)
 
 stopped : (rest : List ℕ) → Stops is_space rest → behind_spaces rest ≡ rest
 stopped [] h = refl
@@ -49,9 +49,9 @@ spaces_gone : (used rest : List ℕ) → list_all is_space used ≡ true → Sto
 spaces_gone [] rest h stop = stopped rest stop
 spaces_gone (b ∷ bs) rest h stop = step (eqb b 32) refl (spaces_gone bs rest)
   where
-  step : (t : Bool) → eqb b 32 ≡ t → (list_all is_space bs ≡ true → Stops is_space rest → behind_spaces (bs ++ rest) ≡ rest) → cond (eqb b 32) (behind_spaces (bs ++ rest)) (b ∷ (bs ++ rest)) ≡ rest
-  step true e ih = rw e (ih (rw e at h) stop)
-  step false e ih = absurd (let bad : false ≡ true = rw e at h in cc)
+    step : (t : Bool) → eqb b 32 ≡ t → (list_all is_space bs ≡ true → Stops is_space rest → behind_spaces (bs ++ rest) ≡ rest) → cond (eqb b 32) (behind_spaces (bs ++ rest)) (b ∷ (bs ++ rest)) ≡ rest
+    step true e ih = rw e (ih (rw e at h) stop)
+    step false e ih = absurd (let bad : false ≡ true = rw e at h in cc)
 
 pub skip : List ℕ → Answer (Unit {0})
 skip x = Ok (tt, behind_spaces x)
@@ -73,9 +73,9 @@ pub starts_spaces : (test : ℕ → Bool) (used rest : List ℕ) → list_all is
 starts_spaces test [] rest h e s = s
 starts_spaces test (b ∷ bs) rest h e s = step (eqb b 32) refl
   where
-  step : (t : Bool) → eqb b 32 ≡ t → test b ≡ false
-  step true t = elim (eqb_tells b 32) [ inl u ↦ ap test u.1 ∙ e | inr u ↦ absurd (let bad : true ≡ false = sym t ∙ u.0 in cc) ]
-  step false t = absurd (let bad : false ≡ true = rw t at h in cc)
+    step : (t : Bool) → eqb b 32 ≡ t → test b ≡ false
+    step true t = elim (eqb_tells b 32) [ inl u ↦ ap test u.1 ∙ e | inr u ↦ absurd (let bad : true ≡ false = sym t ∙ u.0 in cc) ]
+    step false t = absurd (let bad : false ≡ true = rw t at h in cc)
 
 pub starts_mark : {W : Type 0} (test : ℕ → Bool) (m : ℕ) (Q : Unit {0} → List ℕ → W → Type 0) (text : List ℕ) (w : W) → test 32 ≡ false → test m ≡ false → Then (Mark m) Q text w → Starts test text
 starts_mark test m Q text w e f h =
@@ -98,30 +98,30 @@ pub run_splits : (class : Class) (x : List ℕ) → (x ≡ run_of class x ++ beh
 run_splits class [] = (refl, refl)
 run_splits class (b ∷ bs) = step (in_class class b) refl (run_splits class bs)
   where
-  step : (t : Bool) → in_class class b ≡ t → (bs ≡ run_of class bs ++ behind_run class bs) × (list_all (in_class class) (run_of class bs) ≡ true) → (b ∷ bs ≡ cond t (b ∷ run_of class bs) [] ++ cond t (behind_run class bs) (b ∷ bs)) × (list_all (in_class class) (cond t (b ∷ run_of class bs) []) ≡ true)
-  step true e ih = (ap (λ l. b ∷ l) ih.0, ap (λ t. t && list_all (in_class class) (run_of class bs)) e ∙ ih.1)
-  step false e ih = (refl, refl)
+    step : (t : Bool) → in_class class b ≡ t → (bs ≡ run_of class bs ++ behind_run class bs) × (list_all (in_class class) (run_of class bs) ≡ true) → (b ∷ bs ≡ cond t (b ∷ run_of class bs) [] ++ cond t (behind_run class bs) (b ∷ bs)) × (list_all (in_class class) (cond t (b ∷ run_of class bs) []) ≡ true)
+    step true e ih = (ap (λ l. b ∷ l) ih.0, ap (λ t. t && list_all (in_class class) (run_of class bs)) e ∙ ih.1)
+    step false e ih = (refl, refl)
 
 pub run_whole : (class : Class) (used rest : List ℕ) → list_all (in_class class) used ≡ true → Stops (in_class class) rest → (run_of class (used ++ rest) ≡ used) × (behind_run class (used ++ rest) ≡ rest)
 run_whole class [] [] h stop = (refl, refl)
 run_whole class [] (b ∷ bs) h stop = (ap (λ t. cond t (b ∷ run_of class bs) []) stop, ap (λ t. cond t (behind_run class bs) (b ∷ bs)) stop)
 run_whole class (b ∷ bs) rest h stop = step (in_class class b) h (run_whole class bs rest)
   where
-  step : (t : Bool) → (t && list_all (in_class class) bs) ≡ true → (list_all (in_class class) bs ≡ true → Stops (in_class class) rest → (run_of class (bs ++ rest) ≡ bs) × (behind_run class (bs ++ rest) ≡ rest)) → (cond t (b ∷ run_of class (bs ++ rest)) [] ≡ b ∷ bs) × (cond t (behind_run class (bs ++ rest)) (b ∷ (bs ++ rest)) ≡ rest)
-  step true e ih = let r = ih e stop in (ap (λ l. b ∷ l) r.0, r.1)
-  step false e ih = absurd (cc)
+    step : (t : Bool) → (t && list_all (in_class class) bs) ≡ true → (list_all (in_class class) bs ≡ true → Stops (in_class class) rest → (run_of class (bs ++ rest) ≡ bs) × (behind_run class (bs ++ rest) ≡ rest)) → (cond t (b ∷ run_of class (bs ++ rest)) [] ≡ b ∷ bs) × (cond t (behind_run class (bs ++ rest)) (b ∷ (bs ++ rest)) ≡ rest)
+    step true e ih = let r = ih e stop in (ap (λ l. b ∷ l) r.0, r.1)
+    step false e ih = absurd (cc)
 
 run_sound : (class : Class) (x rest : List ℕ) (v : List ℕ) → some_run class x ≡ Ok (v, rest) → Reads_front (Run class) x v rest
 unfolding some_run
 run_sound class x rest v h = step (eqb (length (run_of class x)) 0) refl h
   where
-  step : (t : Bool) → eqb (length (run_of class x)) 0 ≡ t → cond {A = Answer (List ℕ)} t (Err (misspelt (behind_run class x))) (Ok (run_of class x, behind_run class x)) ≡ Ok (v, rest) → Reads_front (Run class) x v rest
-  step true e h = absurd (cc)
-  step false e h =
-      let is = ok_is (run_of class x, behind_run class x) (v, rest) h in
-      let s = run_splits class x in
-      let some : length (run_of class x) ≢ 0 = eqb-false (length (run_of class x)) 0 e in
-      (run_of class x, s.0 ∙ ap (λ p. run_of class x ++ p.1) is, (sym (ap (λ p. p.0) is), omega (arith, some), s.1))
+    step : (t : Bool) → eqb (length (run_of class x)) 0 ≡ t → cond {A = Answer (List ℕ)} t (Err (misspelt (behind_run class x))) (Ok (run_of class x, behind_run class x)) ≡ Ok (v, rest) → Reads_front (Run class) x v rest
+    step true e h = absurd (cc)
+    step false e h =
+        let is = ok_is (run_of class x, behind_run class x) (v, rest) h in
+        let s = run_splits class x in
+        let some : length (run_of class x) ≢ 0 = eqb-false (length (run_of class x)) 0 e in
+        (run_of class x, s.0 ∙ ap (λ p. run_of class x ++ p.1) is, (sym (ap (λ p. p.0) is), omega (arith, some), s.1))
 
 run_complete : (class : Class) (used rest : List ℕ) (v : List ℕ) → Run class used v → Stops (in_class class) rest → some_run class (used ++ rest) ≡ Ok (v, rest)
 unfolding some_run
@@ -156,12 +156,12 @@ unfolding read_name
 name_sound [] rest v h = absurd (cc)
 name_sound (b ∷ bs) rest v h = step (is_letter b) refl h
   where
-  step : (t : Bool) → is_letter b ≡ t → cond {A = Answer (List ℕ)} t (Ok (run_of Name (b ∷ bs), behind_run Name (b ∷ bs))) (Err (misspelt (b ∷ bs))) ≡ Ok (v, rest) → Reads_front Field_name (b ∷ bs) v rest
-  step true e h =
-      let is = ok_is (run_of Name (b ∷ bs), behind_run Name (b ∷ bs)) (v, rest) h in
-      let s = run_splits Name (b ∷ bs) in
-      (run_of Name (b ∷ bs), s.0 ∙ ap (λ p. run_of Name (b ∷ bs) ++ p.1) is, ((sym (ap (λ p. p.0) is), run_some b bs e, s.1), run_first b bs e))
-  step false e h = absurd (cc)
+    step : (t : Bool) → is_letter b ≡ t → cond {A = Answer (List ℕ)} t (Ok (run_of Name (b ∷ bs), behind_run Name (b ∷ bs))) (Err (misspelt (b ∷ bs))) ≡ Ok (v, rest) → Reads_front Field_name (b ∷ bs) v rest
+    step true e h =
+        let is = ok_is (run_of Name (b ∷ bs), behind_run Name (b ∷ bs)) (v, rest) h in
+        let s = run_splits Name (b ∷ bs) in
+        (run_of Name (b ∷ bs), s.0 ∙ ap (λ p. run_of Name (b ∷ bs) ++ p.1) is, ((sym (ap (λ p. p.0) is), run_some b bs e, s.1), run_first b bs e))
+    step false e h = absurd (cc)
 
 name_complete : (used rest : List ℕ) (v : List ℕ) → Field_name used v → Stops (in_class Name) rest → read_name (used ++ rest) ≡ Ok (v, rest)
 unfolding read_name
