@@ -27,8 +27,11 @@ read_empty = refl
 structures_read : (text : List ℕ) (ss : List (Description Value)) → Structures text ss → read_structures text ≡ Ok (ss, [])
 structures_read text ss h = ap read_structures (sym (append-nil text)) ∙ reads_structures.complete text [] ss h tt
 
+err_not_ok : (e : Stop) (p : List (Description Value) × List ℕ) → ◌≡◌ {A = Answer (List (Description Value))} (Err e) (Ok p) → ⊥
+err_not_ok e p h = cc
+
 refused_word : (word text : List ℕ) (ss : List (Description Value)) → read_structures word ≡ Err (misspelt []) → text ≡ word → Structures text ss → ⊥
-refused_word word text ss e is h = let bad : Err (misspelt []) ≡ Ok (ss, []) = sym e ∙ ap read_structures (sym is) ∙ structures_read text ss h in cc
+refused_word word text ss e is h = err_not_ok (misspelt []) (ss, []) (sym e ∙ ap read_structures (sym is) ∙ structures_read text ss h)
 
 lengths_apart : (text : List ℕ) → text ≡ codes "ANY" → text ≡ codes "EMPTY" → ⊥
 lengths_apart text e f = let g : 3 ≡ 5 = sym (ap length e) ∙ ap length f in omega (arith, g)
@@ -55,8 +58,8 @@ told_structures : (text : List ℕ) (r : Result Caps CapsTextFault) (ss : List (
 told_structures text (Ok caps) ss h e =
     let is = ok_is (h.0, h.1) (ss, []) (sym h.2 ∙ e) in
     h.3 ∙ ap (λ p. Of p.0) is
-told_structures text (Err (BadCaps place)) ss h e = let bad : Err (misspelt h.0) ≡ Ok (ss, []) = sym h.1 ∙ e in cc
-told_structures text (Err (TooMany count)) ss h e = let bad : Err many ≡ Ok (ss, []) = sym h.0 ∙ e in cc
+told_structures text (Err (BadCaps place)) ss h e = err_not_ok (misspelt h.0) (ss, []) (sym h.1 ∙ e)
+told_structures text (Err (TooMany count)) ss h e = err_not_ok many (ss, []) (sym h.0 ∙ e)
 told_structures text (Err OutOfMemory) ss h e = tt
 
 pub told_only : (text : List ℕ) (r : Result Caps CapsTextFault) (caps : Caps) → text ≢ codes "ANY" → text ≢ codes "EMPTY" → Told text r (read_structures text) → IsCapsText text caps → AnswersCaps r caps
