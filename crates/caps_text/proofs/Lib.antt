@@ -1,0 +1,16 @@
+mod Characters
+mod Choices
+mod Fields
+mod Listed
+mod Loops
+mod Numbers
+mod Parsing
+mod Ratios
+mod Readers
+mod Repeats
+mod Strings
+mod Tokens
+mod Valid
+mod Values
+mod Whole
+mod Words

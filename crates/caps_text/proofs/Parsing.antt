@@ -1,0 +1,77 @@
+-- Whole texts: what is answered is what the grammar says.
+use Rattle.std.proofs.Common.{◌≡◌, ◌≢◌, ℕ, ◌≤◌, ◌-◌, Bool, true, false, List, [], ◌∷◌, ◌++◌, length, Result, Ok, Err, IfOk, IfErr, inl, inr, ◌⊎◌, refl, sym, ap, ◌∙◌, subst, arith, append-nil, codes}
+use Rattle.std.proofs.Math.Nat.{le-min, min-le_left, min-le_right}
+use Rattle.gst_caps.specs.Description.{Description}
+use Rattle.gst_caps.specs.declared.caps.Caps.{Caps}
+use Rattle.gst_caps.specs.declared.caps.Caps.TheVariants.{Any, Of}
+use Rattle.gst_caps.specs.declared.value.Value.{Value}
+use Rattle.caps_text.specs.Answers.{Answer, Stop, misspelt, many, ◌>>=◌}
+use Rattle.caps_text.specs.Grammar.{IsCapsText, Structures}
+use Rattle.caps_text.specs.Parsed.{AnswersCaps, IsFaultOf, Told, as_place}
+use Rattle.caps_text.specs.Reading.{expect, read_head, read_media, read_structures, some_run}
+use Rattle.caps_text.specs.declared.fault.CapsTextFault.{CapsTextFault}
+use Rattle.caps_text.specs.declared.fault.CapsTextFault.TheVariants.{BadCaps, TooMany, OutOfMemory}
+use Rattle.caps_text.proofs.Loops.{structures_all}
+use Rattle.caps_text.proofs.Readers.{IsReader, ok_is}
+use Rattle.caps_text.proofs.Whole.{reads_structures}
+
+-- the two words are no structures
+read_any : read_structures (codes "ANY") ≡ Err (misspelt [])
+unfolding read_structures read_head read_media some_run expect
+read_any = refl
+
+read_empty : read_structures (codes "EMPTY") ≡ Err (misspelt [])
+unfolding read_structures read_head read_media some_run expect
+read_empty = refl
+
+structures_read : (text : List ℕ) (ss : List (Description Value)) → Structures text ss → read_structures text ≡ Ok (ss, [])
+structures_read text ss h = ap read_structures (sym (append-nil text)) ∙ reads_structures.complete text [] ss h tt
+
+err_not_ok : (e : Stop) (p : List (Description Value) × List ℕ) → ◌≡◌ {A = Answer (List (Description Value))} (Err e) (Ok p) → ⊥
+err_not_ok e p h = cc
+
+refused_word : (word text : List ℕ) (ss : List (Description Value)) → read_structures word ≡ Err (misspelt []) → text ≡ word → Structures text ss → ⊥
+refused_word word text ss e is h = err_not_ok (misspelt []) (ss, []) (sym e ∙ ap read_structures (sym is) ∙ structures_read text ss h)
+
+lengths_apart : (text : List ℕ) → text ≡ codes "ANY" → text ≡ codes "EMPTY" → ⊥
+lengths_apart text e f = let g : 3 ≡ 5 = sym (ap length e) ∙ ap length f in omega (arith, g)
+
+pub any_only : (text : List ℕ) (caps : Caps) → text ≡ codes "ANY" → IsCapsText text caps → Any ≡ caps
+any_only text caps e (inl h) = sym h.1
+any_only text caps e (inr (inl h)) = absurd (lengths_apart text e h.0)
+any_only text caps e (inr (inr h)) = absurd (refused_word (codes "ANY") text h.0 read_any e h.1)
+
+pub empty_only : (text : List ℕ) (caps : Caps) → text ≡ codes "EMPTY" → IsCapsText text caps → Of [] ≡ caps
+empty_only text caps e (inl h) = absurd (lengths_apart text h.0 e)
+empty_only text caps e (inr (inl h)) = sym h.1
+empty_only text caps e (inr (inr h)) = absurd (refused_word (codes "EMPTY") text h.0 read_empty e h.1)
+
+-- structures that were read are those of the text
+pub told_found : (text : List ℕ) (r : Result Caps CapsTextFault) → Told text r (read_structures text) → IfOk r (λ caps. IsCapsText text caps)
+told_found text (Err e) h = tt
+told_found text (Ok caps) h =
+    let f = reads_structures.sound text h.1 h.0 h.2 in
+    let is : text ≡ f.0 = f.1 ∙ ap (λ l. f.0 ++ l) (structures_all text h.1 h.0 h.2) ∙ append-nil f.0 in
+    inr (inr (h.0, subst (λ l. Structures l h.0) (sym is) f.2, h.3))
+
+told_structures : (text : List ℕ) (r : Result Caps CapsTextFault) (ss : List (Description Value)) → Told text r (read_structures text) → read_structures text ≡ Ok (ss, []) → AnswersCaps r (Of ss)
+told_structures text (Ok caps) ss h e =
+    let is = ok_is (h.0, h.1) (ss, []) (sym h.2 ∙ e) in
+    h.3 ∙ ap (λ p. Of p.0) is
+told_structures text (Err (BadCaps place)) ss h e = err_not_ok (misspelt h.0) (ss, []) (sym h.1 ∙ e)
+told_structures text (Err (TooMany count)) ss h e = err_not_ok many (ss, []) (sym h.0 ∙ e)
+told_structures text (Err OutOfMemory) ss h e = tt
+
+pub told_only : (text : List ℕ) (r : Result Caps CapsTextFault) (caps : Caps) → text ≢ codes "ANY" → text ≢ codes "EMPTY" → Told text r (read_structures text) → IsCapsText text caps → AnswersCaps r caps
+told_only text r caps a e h (inl k) = absurd (a k.0)
+told_only text r caps a e h (inr (inl k)) = absurd (e k.0)
+told_only text r caps a e h (inr (inr k)) = subst (AnswersCaps r) (sym k.2) (told_structures text r k.0 h (structures_read text k.0 k.1))
+
+pub told_fault : (text : List ℕ) (r : Result Caps CapsTextFault) → Told text r (read_structures text) → IfErr r (IsFaultOf text)
+told_fault text (Ok caps) h = tt
+told_fault text (Err (BadCaps place)) h = rw h.2 (as_place_le (length text) (length h.0))
+  where
+  as_place_le : (m n : ℕ) → as_place (m - n) ≤ as_place m
+  as_place_le m n = let a = min-le_left (m - n) 4294967295 in let b = min-le_right (m - n) 4294967295 in le-min {k = as_place (m - n)} {a = m} {b = 4294967295} (omega (arith, a)) b
+told_fault text (Err (TooMany count)) h = h.1
+told_fault text (Err OutOfMemory) h = tt

@@ -1,0 +1,9 @@
+use Rattle.caps_text.proofs.Strings.{reads_kind}
+use Rattle.caps_text.proofs.Valid.{value_good}
+use Rattle.caps_text.proofs.Repeats.{repeat_refused}
+-- A character is passed.
+use Rattle.caps_text.proofs.Characters.{shorter_by}
+use Rattle.caps_text.proofs.printing.put_quoted.Goals as goal
+
+pub loop-character-smaller : goal.loop-character-smaller
+loop-character-smaller c = shorter_by c.in-Some.character c.loop-character.scanner.rest.now c.take.new.self.rest.now c.in-Some.ensures

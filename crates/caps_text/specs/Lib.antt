@@ -1,0 +1,9 @@
+pub mod Answers
+pub mod Bytes
+pub mod Grammar
+pub mod Kinds
+pub mod Parsed
+pub mod Printed
+pub mod Ratio
+pub mod Reading
+pub mod Refusals

@@ -1,0 +1,20 @@
+//! Caps as texts, and texts as caps, in the way of gst-launch-1.0.
+#![tactic(auto)]
+
+mod class;
+pub mod fault;
+mod kind;
+mod list;
+mod number;
+mod printing;
+mod reading;
+mod scanner;
+mod single;
+mod structures;
+
+pub use fault::CapsTextFault;
+pub use printing::{print, print_fixed};
+pub use reading::parse;
+
+#[cfg(test)]
+mod tests;
