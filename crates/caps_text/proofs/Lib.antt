@@ -1,3 +1,6 @@
+mod Again
+mod AgainListed
+mod AgainWhole
 mod Characters
 mod Choices
 mod Fields

@@ -42,7 +42,7 @@ kinds_agree (Fraction n d) = refl
 kinds_agree (IntRange a b) = refl
 
 -- a fraction is in lowest terms
-parts_when : (s : Bool) (above below : ℕ) → SomeIff (parts s above below) (FitsSigned w32 (signed s above) × FitsSigned w32 (pos below)) (Fraction (signed s above) (pos below))
+pub parts_when : (s : Bool) (above below : ℕ) → SomeIff (parts s above below) (FitsSigned w32 (signed s above) × FitsSigned w32 (pos below)) (Fraction (signed s above) (pos below))
 parts_when s above below = step (fits s above) (fits false below) refl refl
   where
     step : (a b : Bool) → fits s above ≡ a → fits false below ≡ b → SomeIff (cond {A = Option One} (a && b) (Some (Fraction (signed s above) (pos below))) None) (FitsSigned w32 (signed s above) × FitsSigned w32 (pos below)) (Fraction (signed s above) (pos below))
@@ -50,11 +50,11 @@ parts_when s above below = step (fits s above) (fits false below) refl refl
     step true false e f = λ h. let bad : true ≡ false = sym (fits_to false below h.1) ∙ f in cc
     step false b e f = λ h. let bad : true ≡ false = sym (fits_to s above h.0) ∙ e in cc
 
-some_then : {A : Type 0} (P : A → Type 0) (o : Option A) (x : A) → IfSome o P → o ≡ Some x → P x
+pub some_then : {A : Type 0} (P : A → Type 0) (o : Option A) (x : A) → IfSome o P → o ≡ Some x → P x
 some_then P None x h e = absurd (cc)
 some_then P (Some y) x h e = let is : y ≡ x = cc in subst P is h
 
-ratio_single : (num den : ℤ) (one : One) → ratio num den ≡ Some one → IsSingle one
+pub ratio_single : (num den : ℤ) (one : One) → ratio num den ≡ Some one → IsSingle one
 ratio_single num den one h = elim (eqb_tells (unsigned_abs den) 0) [
   | inl t ↦ absurd (let bad : None ≡ Some one = sym (ap (λ b. cond {A = Option One} b None (parts sign (unsigned_abs num / g) (unsigned_abs den / g))) t.0) ∙ h in cc)
   | inr t ↦
@@ -78,7 +78,7 @@ single_one (Text t) h = tt
 single_one (Fraction n d) h = h
 single_one (IntRange a b) h = absurd h
 
-ratio_kind_is : (num den : ℤ) (one : One) → ratio num den ≡ Some one → kind_of one ≡ Quotients
+pub ratio_kind_is : (num den : ℤ) (one : One) → ratio num den ≡ Some one → kind_of one ≡ Quotients
 ratio_kind_is num den one h = step (eqb (unsigned_abs den) 0) (fits sign (unsigned_abs num / g) && fits false (unsigned_abs den / g)) h
   where
     g : ℕ
@@ -204,3 +204,6 @@ plain_good kind text v (inr h) = subst IsValue (sym h.2) (good_one kind h.0 (mem
 pub value_good : (text : List ℕ) (v : Value) → Field_value text v → IsValue v
 value_good text v (inl h) = plain_good (Some h.2) h.5.1 v h.5.5
 value_good text v (inr h) = plain_good None text v h
+
+pub member_kind : (kind : Kind) (text : List ℕ) (one : One) → Member (Some kind) text one → kind_of one ≡ kind
+member_kind kind text one h = (member_good (Some kind) text one h).1

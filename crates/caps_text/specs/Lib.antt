@@ -7,3 +7,4 @@ pub mod Printed
 pub mod Ratio
 pub mod Reading
 pub mod Refusals
+pub mod Singles

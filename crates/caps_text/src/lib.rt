@@ -4,6 +4,7 @@
 mod class;
 pub mod fault;
 mod kind;
+mod laws;
 mod list;
 mod number;
 mod printing;
@@ -13,6 +14,7 @@ mod single;
 mod structures;
 
 pub use fault::CapsTextFault;
+pub use laws::printed_again;
 pub use printing::{print, print_fixed};
 pub use reading::parse;
 

@@ -1,6 +1,3 @@
-use Rattle.caps_text.proofs.Strings.{reads_kind}
-use Rattle.caps_text.proofs.Valid.{value_good}
-use Rattle.caps_text.proofs.Repeats.{repeat_refused}
 -- A character is passed.
 use Rattle.caps_text.proofs.Characters.{shorter_by}
 use Rattle.caps_text.proofs.printing.put_quoted.Goals as goal
