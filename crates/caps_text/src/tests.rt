@@ -339,7 +339,7 @@ fn check_limit(
     let whole = numbered(alloc, most, before, around, behind)?;
     let told = read(alloc, whole.as_str())?;
     assert!(rt; told.starts_with("a/"));
-    let more = numbered(alloc, most + 1, before, around, behind)?;
+    let more = numbered(alloc, most.saturating_add(1), before, around, behind)?;
     assert_eq!(rt; read(alloc, more.as_str())?.as_str(), "more 65");
     Ok(())
 }
