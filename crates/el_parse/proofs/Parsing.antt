@@ -46,10 +46,9 @@ took old new x plain begun ok moved still ends calls put p =
     let given : seen (items (fed.given ++ Feed x ∷ [])) ≡ seen_one (seen (items fed.given)) x = ap seen (items_push fed.given x) ∙ seen_push (items fed.given) x in
     let out : seen (fed.out ++ ys) ≡ seen_all (seen fed.out) ys = seen_append fed.out ys in
     let step : Went old.info (come old) x (seen_one (seen (items fed.given)) x) (seen_all (seen fed.out) ys) =
-        went old.info (come old) (seen (items fed.given)) (seen fed.out) x plain p.as_far (split_of p.bytes) ok in
+    went old.info (come old) (seen (items fed.given)) (seen fed.out) x plain p.as_far (split_of p.bytes) ok in
     let after : Fed = record { given = fed.given ++ Feed x ∷ []; out = fed.out ++ ys; over = is_eos x } in
-    let bytes : PutFrames (frame_width info) after (come new).held (come new).opened = subst (λ (q : Progress). PutFrames (frame_width info) after q.held q.opened) (sym moved) (frames_of (frame_width info) after _ _ _ _ given out step.bytes) in
-    (
+    let bytes : PutFrames (frame_width info) after (come new).held (come new).opened = subst (λ (q : Progress). PutFrames (frame_width info) after q.held q.opened) (sym moved) (frames_of (frame_width info) after _ _ _ _ given out step.bytes) in (
       (rw (p.over, begun) answer),
       record {
         owed = ap (λ zs. zs ++ ys) p.owed ∙ sym (ap (λ (s : Fed). s.out) same);

@@ -141,7 +141,7 @@ still_whole width done count some e =
 went_frames : (info : Info) (p : Progress) (given out after : Seen) (b : Buffer)
     → (length (p.held ++ b.body) / frame_width info == 0) ≡ false → progress_by info given out ≡ p → Split (frame_width info) given out p.held p.opened → Begun out after
     → Went info p (Buf b) (seen_one given (Buf b))
-        (seen_one after (Buf (frames_buffer info p.next (length (p.held ++ b.body) / frame_width info) (take (length (p.held ++ b.body) / frame_width info * frame_width info) (p.held ++ b.body)))))
+    (seen_one after (Buf (frames_buffer info p.next (length (p.held ++ b.body) / frame_width info) (take (length (p.held ++ b.body) / frame_width info * frame_width info) (p.held ++ b.body)))))
 went_frames info p given out after b some at s begun =
     let bytes = p.held ++ b.body in
     let width = frame_width info in
@@ -149,15 +149,15 @@ went_frames info p given out after b some at s begun =
     let cut = take (count * width) bytes in
     let all : given.bytes ++ b.body ≡ after.bytes ++ bytes = joined given.bytes out.bytes after.bytes p.held b.body s.whole begun.bytes in
     let whole : (after.bytes ++ cut) ++ drop (count * width) bytes ≡ given.bytes ++ b.body =
-        append_assoc after.bytes cut (drop (count * width) bytes) ∙ ap (λ xs. after.bytes ++ xs) (take-append-drop (count * width) bytes) ∙ sym all in
+    append_assoc after.bytes cut (drop (count * width) bytes) ∙ ap (λ xs. after.bytes ++ xs) (take-append-drop (count * width) bytes) ∙ sym all in
     let size : length (after.bytes ++ cut) ≡ length out.bytes + count * width =
-        length-append after.bytes cut ∙ ap (λ n. length after.bytes + n) (frames_within info bytes) ∙ ap (λ xs. length xs + count * width) begun.bytes in
+    length-append after.bytes cut ∙ ap (λ n. length after.bytes + n) (frames_within info bytes) ∙ ap (λ xs. length xs + count * width) begun.bytes in
     record {
       as_far = same_progress begun.segment
           (ap (λ n. first_frame info given.segment + n / width) size
-            ∙ ap (λ n. first_frame info given.segment + n) (more_frames width (length out.bytes) count (some_width info))
-            ∙ sym (add_assoc (first_frame info given.segment) (length out.bytes / width) count)
-            ∙ ap (λ (q : Progress). q.next + count) at)
+          ∙ ap (λ n. first_frame info given.segment + n) (more_frames width (length out.bytes) count (some_width info))
+          ∙ sym (add_assoc (first_frame info given.segment) (length out.bytes / width) count)
+          ∙ ap (λ (q : Progress). q.next + count) at)
           (ap (λ xs. drop (length (after.bytes ++ cut)) xs) (sym whole) ∙ drop_at (after.bytes ++ cut) (drop (count * width) bytes) (length (after.bytes ++ cut)) refl)
           (ends info p.next count p.reached some);
       bytes = record {
@@ -169,6 +169,7 @@ went_frames info p given out after b some at s begun =
   where
     add_assoc : (a b c : ℕ) → (a + b) + c ≡ a + (b + c)
     add_assoc a b c = omega arith
+
     ends : (info : Info) (first count reached : ℕ) → (count == 0) ≡ false
         → frame_time info first + (frame_time info (first + count) - frame_time info first) ≡ (if count == 0 then reached else frame_time info (first + count))
     ends info first count reached some =
@@ -188,10 +189,13 @@ went_buffer info p given out b at s ok = go (count == 0) refl ok
   where
     bytes : List ℕ
     bytes = p.held ++ b.body
+
     count : ℕ
     count = length bytes / frame_width info
+
     opening_is : Begun out (seen_all out (beginning info p))
     opening_is = begun info out p.opened (ap (λ (q : Progress). q.opened) at) (none_out s)
+
     go : (none : Bool) → (count == 0) ≡ none
         → IsOk (if none then Ok (beginning info p) else in_time info p (p.next + count) (beginning info p ++ Buf (frames_buffer info p.next count (take (count * frame_width info) bytes)) ∷ []))
         → Went info p (Buf b) (seen_one given (Buf b)) (seen_all out (answered (if none then Ok (beginning info p) else in_time info p (p.next + count) (beginning info p ++ Buf (frames_buffer info p.next count (take (count * frame_width info) bytes)) ∷ []))))
@@ -217,9 +221,9 @@ went_segment : (info : Info) (p : Progress) (given out : Seen) (s : Segment)
     → progress_by info given out ≡ p
     → Went info p (Ev (NewSegment s)) (seen_one given (Ev (NewSegment s))) (seen_all out (opening info (frame_time info (frame_at (frame_width info) s.start s.format))))
 went_segment info p given out s at = record {
-    as_far = same_progress refl (ap (λ n. frame_at (frame_width info) s.start s.format + n) (no_frames (frame_width info)) ∙ plus_none (frame_at (frame_width info) s.start s.format)) refl (ap (λ (q : Progress). q.reached) at);
-    bytes = record { whole = refl; frames = ap (λ n. n * frame_width info) (no_frames (frame_width info)) ∙ no_bytes (frame_width info); unopened = λ e. absurd (cc) };
-  }
+  as_far = same_progress refl (ap (λ n. frame_at (frame_width info) s.start s.format + n) (no_frames (frame_width info)) ∙ plus_none (frame_at (frame_width info) s.start s.format)) refl (ap (λ (q : Progress). q.reached) at);
+  bytes = record { whole = refl; frames = ap (λ n. n * frame_width info) (no_frames (frame_width info)) ∙ no_bytes (frame_width info); unopened = λ e. absurd (cc) };
+}
   where
     plus_none : (n : ℕ) → n + 0 ≡ n
     plus_none n = omega arith

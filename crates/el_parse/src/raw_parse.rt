@@ -158,12 +158,7 @@ impl RawParse {
     }
 
     /// Keeps a part of a frame.
-    fn hold(
-        &mut self,
-        alloc: Global,
-        rest: Option<Body>,
-        out: &mut Outs,
-    ) -> Result<(), OutOfMemory>
+    fn hold(&mut self, alloc: Global, rest: Option<Body>, out: &mut Outs) -> Result<(), OutOfMemory>
         ensures out { OnOk result (out.new ≡ out.old ++ on_pad 0 (beginning self.old.info (come self.old))) }
         ensures come { OnOk result (come self.new ≡ record (come self.old) { opened = true; held = bytes_in rest }) }
         ensures info { self.new.info ≡ self.old.info }

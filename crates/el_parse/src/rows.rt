@@ -3,9 +3,9 @@ ghost use Rattle.std.specs.Prelude.{◌≡◌, false};
 ghost use Rattle.flow_model.specs.Item.{is_flush_stop};
 
 use audio_info::Info;
+use gst_caps::Text;
 use gst_item::{Body, Buffer, ElementFault, Event, Flow, Item, Outs};
 use gst_time::{Format, Segment};
-use gst_caps::Text;
 use std::alloc::Global;
 use std::fmt::Write;
 use std::test::Fail;

@@ -9,7 +9,8 @@ use std::process::Abort;
 use std::test::Fail;
 
 /// Frames of two bytes, 8000 in a second.
-const PARSED: &str = "start bytes=0 +abc +d eos -> + + + + + : start caps time=0 +ab,0,0,125000 +cd,1,125000,125000 eos
+const PARSED: &str =
+    "start bytes=0 +abc +d eos -> + + + + + : start caps time=0 +ab,0,0,125000 +cd,1,125000,125000 eos
 +abc +d -> + + : caps time=0 +ab,0,0,125000 +cd,1,125000,125000
 + +a +bc -> + + + : caps time=0 +ab,0,0,125000
 +abcdefg +h -> + + : caps time=0 +abcdef,0,0,375000 +gh,3,375000,125000
