@@ -1,8 +1,8 @@
 -- How far a parser's rule is behind one more item.
-use Rattle.std.proofs.Common.{◌≡◌, ◌≤◌, zero, suc, ◌<◌, ℕ, ◌+◌, ◌-◌, ◌*◌, ◌/◌, Bool, true, false, if◌then◌else◌, List, [], ◌∷◌, ◌++◌, length, take, drop, refl, sym, ap, ◌∙◌, append_assoc, append-nil, arith, Result, Ok, Err, length-append, nat_lt}
+use Rattle.std.proofs.Common.{◌≡◌, ◌≤◌, zero, suc, ◌<◌, ℕ, ◌+◌, ◌-◌, ◌*◌, ◌/◌, Bool, true, false, if◌then◌else◌, List, [], ◌∷◌, ◌++◌, length, take, drop, refl, sym, ap, ◌∙◌, append_assoc, append-nil, arith, Ok, Err, length-append, nat_lt}
 use Rattle.std.specs.Prelude.{◌==◌, IsOk}
 use Rattle.std.proofs.lemmas.Nat.{le-div}
-use Rattle.std.proofs.lemmas.List.{drop_at, take-append-drop, length-take-le, nil_from_length}
+use Rattle.std.proofs.lemmas.List.{drop_at, take-append-drop, length-take-le}
 use Rattle.std.proofs.lemmas.Bool.{eqb-true}
 use Rattle.std.proofs.Math.Nat.{add-mul-div_right, div-mul-le_self, zero-div}
 use Rattle.gst_time.specs.declared.time.TheConstants.{LIMIT}
@@ -15,7 +15,7 @@ use Rattle.flow_model.specs.Feeding.{has_item}
 use Rattle.flow_model.specs.Rule.{Fault, TooLong}
 use Rattle.el_parse.specs.Part.{end_of}
 use Rattle.el_parse.specs.Frames.{frame_width, frame_time, opening, frames_buffer, frame_at, first_frame}
-use Rattle.el_parse.specs.Parses.{Progress, in_time, beginning, whole_frames, parse_answer, put_frames, behind, answered}
+use Rattle.el_parse.specs.Parses.{Progress, in_time, beginning, parse_answer, behind, answered}
 use Rattle.el_parse.proofs.Seen.{Seen, seen_one, seen_all}
 
 -- by what is seen of the items that were given, and of those that were put out

@@ -1,5 +1,5 @@
 -- What stands behind the last SEGMENT or FLUSH_STOP of a list, and its bytes.
-use Rattle.std.specs.Prelude.{◌≡◌, ℕ, ◌+◌, Bool, true, false, ◌||◌, if◌then◌else◌, List, [], ◌∷◌, ◌++◌, length, drop, Option, Some, None, unwrap_or}
+use Rattle.std.specs.Prelude.{ℕ, ◌+◌, Bool, false, ◌||◌, if◌then◌else◌, List, [], ◌∷◌, ◌++◌, length, drop, unwrap_or}
 use Rattle.flow_model.specs.Item.{Item, Buf, is_segment, is_flush_stop, is_buffer, body_of}
 use Rattle.flow_model.specs.Sticky.{latest, since_flush_stop, in_force}
 use Rattle.flow_model.specs.Call.{items}

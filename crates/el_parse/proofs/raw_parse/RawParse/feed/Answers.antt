@@ -1,4 +1,4 @@
-use Rattle.std.proofs.Common.{[], refl, sym, append-nil}
+use Rattle.std.proofs.Common.{[], sym, append-nil}
 use Rattle.el_parse.specs.Parses.{parse_answer, answered}
 use Rattle.el_parse.specs.Parsed.{come}
 use Rattle.el_parse.proofs.Parsing.{parsed_item, parsed_behind}
