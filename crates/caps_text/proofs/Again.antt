@@ -87,10 +87,10 @@ quoted_text : (t : List ℕ) → Quoted (escaped t) t
 quoted_text [] = refl
 quoted_text (b ∷ bs) = step (quoted_text bs) (eqb b 34) (eqb b 92) refl refl
   where
-  step : Quoted (escaped bs) bs → (s u : Bool) → eqb b 34 ≡ s → eqb b 92 ≡ u → (rest : List ℕ) × (((cond (s || u) (92 ∷ b ∷ []) (b ∷ []) ++ escaped bs ≡ b ∷ rest) × (b ≢ 34) × (b ≢ 92)) ⊎ (cond (s || u) (92 ∷ b ∷ []) (b ∷ []) ++ escaped bs ≡ 92 ∷ b ∷ rest)) × Quoted rest bs
-  step ih true u e f = (escaped bs, inr refl, ih)
-  step ih false true e f = (escaped bs, inr refl, ih)
-  step ih false false e f = (escaped bs, inl (refl, eqb-false b 34 e, eqb-false b 92 f), ih)
+    step : Quoted (escaped bs) bs → (s u : Bool) → eqb b 34 ≡ s → eqb b 92 ≡ u → (rest : List ℕ) × (((cond (s || u) (92 ∷ b ∷ []) (b ∷ []) ++ escaped bs ≡ b ∷ rest) × (b ≢ 34) × (b ≢ 92)) ⊎ (cond (s || u) (92 ∷ b ∷ []) (b ∷ []) ++ escaped bs ≡ 92 ∷ b ∷ rest)) × Quoted rest bs
+    step ih true u e f = (escaped bs, inr refl, ih)
+    step ih false true e f = (escaped bs, inr refl, ih)
+    step ih false false e f = (escaped bs, inl (refl, eqb-false b 34 e, eqb-false b 92 f), ih)
 
 not_zero : (n : ℕ) → not (eqb n 0) ≡ true → 0 < n
 not_zero zero h = absurd (cc)
@@ -99,9 +99,9 @@ not_zero (suc n) h = omega arith
 pub string_again : (t : List ℕ) → Some_string (string_text t) t
 string_again t = step (is_word t) refl
   where
-  step : (s : Bool) → is_word t ≡ s → Some_string (cond s t (34 ∷ (escaped t ++ 34 ∷ []))) t
-  step true e = inl (refl, not_zero (length t) (and-left (not (eqb (length t) 0)) (list_all (in_class Word) t) e), and-right (not (eqb (length t) 0)) (list_all (in_class Word) t) e)
-  step false e = inr (escaped t, refl, quoted_text t)
+    step : (s : Bool) → is_word t ≡ s → Some_string (cond s t (34 ∷ (escaped t ++ 34 ∷ []))) t
+    step true e = inl (refl, not_zero (length t) (and-left (not (eqb (length t) 0)) (list_all (in_class Word) t) e), and-right (not (eqb (length t) 0)) (list_all (in_class Word) t) e)
+    step false e = inr (escaped t, refl, quoted_text t)
 
 truth_again : (b : Bool) → Truth_value (truth_text b) b
 truth_again true = inl (refl, refl)
@@ -126,9 +126,9 @@ same_sign (negsuc k) = sym (minus_suc k)
 over_one : (a b : ℤ) → pos 0 <ℤ b → not (beq (is_negative a) (is_negative b)) ≡ is_negative a
 over_one a (pos n) h = ap (λ t. not (beq (is_negative a) t)) (no_minus n) ∙ step (is_negative a)
   where
-  step : (t : Bool) → not (beq t false) ≡ t
-  step true = refl
-  step false = refl
+    step : (t : Bool) → not (beq t false) ≡ t
+    step true = refl
+    step false = refl
 over_one a (negsuc k) h = absurd (omega (arith, ints, h))
 
 positive_abs : (b : ℤ) → pos 0 <ℤ b → b ≡ pos (unsigned_abs b)
@@ -158,13 +158,36 @@ range_again l h f g le ne =
     let ends : IntRange l h ≡ range l h = sym (ap (λ t. cond {A = One} t (Int l) (IntRange l h)) ne) in
     let tail : codes "]" ≡ codes "]" = refl in
     let e : one_text (IntRange l h) ≡ 91 ∷ 32 ∷ (low ++ (44 ∷ 32 ∷ (high ++ (32 ∷ 93 ∷ [])))) =
-      append_assoc (((91 ∷ 32 ∷ []) ++ low) ++ (44 ∷ 32 ∷ [])) high (32 ∷ 93 ∷ [])
-      ∙ append_assoc ((91 ∷ 32 ∷ []) ++ low) (44 ∷ 32 ∷ []) (high ++ 32 ∷ 93 ∷ []) in
-    (91 ∷ [], 32 ∷ (low ++ (44 ∷ 32 ∷ (high ++ (32 ∷ 93 ∷ [])))), tt, e, refl,
-      (32 ∷ [], low ++ (44 ∷ 32 ∷ (high ++ (32 ∷ 93 ∷ []))), tt, refl, refl,
-        (low, 44 ∷ 32 ∷ (high ++ (32 ∷ 93 ∷ [])), l, refl, number_text l f,
-          (44 ∷ 32 ∷ [], high ++ (32 ∷ 93 ∷ []), tt, refl, ([], 44 ∷ 32 ∷ [], tt, refl, refl, (44 ∷ [], 32 ∷ [], tt, refl, refl, refl)),
-            (high, 32 ∷ 93 ∷ [], h, refl, (number_text h g, le), (32 ∷ [], 93 ∷ [], tt, refl, refl, (tt, refl, ends)))))))
+    append_assoc (((91 ∷ 32 ∷ []) ++ low) ++ (44 ∷ 32 ∷ [])) high (32 ∷ 93 ∷ [])
+    ∙ append_assoc ((91 ∷ 32 ∷ []) ++ low) (44 ∷ 32 ∷ []) (high ++ 32 ∷ 93 ∷ []) in (
+      91 ∷ [],
+      32 ∷ (low ++ (44 ∷ 32 ∷ (high ++ (32 ∷ 93 ∷ [])))),
+      tt,
+      e,
+      refl,
+      (
+        32 ∷ [],
+        low ++ (44 ∷ 32 ∷ (high ++ (32 ∷ 93 ∷ []))),
+        tt,
+        refl,
+        refl,
+        (
+          low,
+          44 ∷ 32 ∷ (high ++ (32 ∷ 93 ∷ [])),
+          l,
+          refl,
+          number_text l f,
+          (
+            44 ∷ 32 ∷ [],
+            high ++ (32 ∷ 93 ∷ []),
+            tt,
+            refl,
+            ([], 44 ∷ 32 ∷ [], tt, refl, refl, (44 ∷ [], 32 ∷ [], tt, refl, refl, refl)),
+            (high, 32 ∷ 93 ∷ [], h, refl, (number_text h g, le), (32 ∷ [], 93 ∷ [], tt, refl, refl, (tt, refl, ends))),
+          ),
+        ),
+      ),
+    )
 
 -- a fine value is spelled by its text
 pub one_again : (one : One) → Fine one → Member (Some (kind_of one)) (one_text one) one
@@ -177,20 +200,23 @@ one_again (IntRange l h) f = inl (refl, range_again l h f.0 f.1 f.2 f.3)
 -- a value for which some text stands is fine
 ratio_fits : (num den a b : ℤ) → ratio num den ≡ Some (Fraction a b) → FitsSigned w32 a × FitsSigned w32 b
 ratio_fits num den a b h = elim (eqb_tells (unsigned_abs den) 0) [
-  inl t ↦ absurd (let bad : None ≡ Some (Fraction a b) = sym (ap (λ c. cond {A = Option One} c None (parts sign (unsigned_abs num / g) (unsigned_abs den / g))) t.0) ∙ h in cc)
-  | inr t ↦ go (parts sign (unsigned_abs num / g) (unsigned_abs den / g)) (parts_when sign (unsigned_abs num / g) (unsigned_abs den / g)) (sym (ap (λ c. cond {A = Option One} c None (parts sign (unsigned_abs num / g) (unsigned_abs den / g))) t.0) ∙ h) ]
+  | inl t ↦ absurd (let bad : None ≡ Some (Fraction a b) = sym (ap (λ c. cond {A = Option One} c None (parts sign (unsigned_abs num / g) (unsigned_abs den / g))) t.0) ∙ h in cc)
+  | inr t ↦ go (parts sign (unsigned_abs num / g) (unsigned_abs den / g)) (parts_when sign (unsigned_abs num / g) (unsigned_abs den / g)) (sym (ap (λ c. cond {A = Option One} c None (parts sign (unsigned_abs num / g) (unsigned_abs den / g))) t.0) ∙ h)
+]
   where
-  g : ℕ
-  g = divisor (unsigned_abs num) (unsigned_abs den)
-  sign : Bool
-  sign = not (beq (is_negative num) (is_negative den))
-  go : (o : Option One) → SomeIff o (FitsSigned w32 (signed sign (unsigned_abs num / g)) × FitsSigned w32 (pos (unsigned_abs den / g))) (Fraction (signed sign (unsigned_abs num / g)) (pos (unsigned_abs den / g))) → o ≡ Some (Fraction a b) → FitsSigned w32 a × FitsSigned w32 b
-  go None s e = absurd (cc)
-  go (Some x) s e =
-      let same : Fraction (signed sign (unsigned_abs num / g)) (pos (unsigned_abs den / g)) ≡ Fraction a b = cc in
-      let up : signed sign (unsigned_abs num / g) ≡ a = cc in
-      let down : pos (unsigned_abs den / g) ≡ b = cc in
-      (subst (FitsSigned w32) up s.0.0, subst (FitsSigned w32) down s.0.1)
+    g : ℕ
+    g = divisor (unsigned_abs num) (unsigned_abs den)
+
+    sign : Bool
+    sign = not (beq (is_negative num) (is_negative den))
+
+    go : (o : Option One) → SomeIff o (FitsSigned w32 (signed sign (unsigned_abs num / g)) × FitsSigned w32 (pos (unsigned_abs den / g))) (Fraction (signed sign (unsigned_abs num / g)) (pos (unsigned_abs den / g))) → o ≡ Some (Fraction a b) → FitsSigned w32 a × FitsSigned w32 b
+    go None s e = absurd (cc)
+    go (Some x) s e =
+        let same : Fraction (signed sign (unsigned_abs num / g)) (pos (unsigned_abs den / g)) ≡ Fraction a b = cc in
+        let up : signed sign (unsigned_abs num / g) ≡ a = cc in
+        let down : pos (unsigned_abs den / g) ≡ b = cc in
+        (subst (FitsSigned w32) up s.0.0, subst (FitsSigned w32) down s.0.1)
 
 quotient_kind : (one : One) (num den : ℤ) → ratio num den ≡ Some one → Fine one
 quotient_kind (Int n) num den h = absurd (let k = ratio_kind_is num den (Int n) h in cc)

@@ -39,7 +39,7 @@ members_again kind so_far (m ∷ ms) f =
     let ih = members_again kind (so_far ++ m ∷ []) ms f.4 in
     let split : joined_behind (codes ", ") one_text (m ∷ ms) ++ codes " }" ≡ (44 ∷ 32 ∷ one_text m) ++ (joined_behind (codes ", ") one_text ms ++ codes " }") = append_assoc (44 ∷ 32 ∷ one_text m) (joined_behind (codes ", ") one_text ms) (codes " }") in
     subst (λ l. Repeated (List_step kind) so_far (joined_behind (codes ", ") one_text (m ∷ ms) ++ codes " }") l) (append_assoc so_far (m ∷ []) ms)
-      (more so_far (so_far ++ m ∷ []) (44 ∷ 32 ∷ one_text m) (joined_behind (codes ", ") one_text ms ++ codes " }") _ ((so_far ++ m ∷ []) ++ ms) split step ih)
+    (more so_far (so_far ++ m ∷ []) (44 ∷ 32 ∷ one_text m) (joined_behind (codes ", ") one_text ms ++ codes " }") _ ((so_far ++ m ∷ []) ++ ms) split step ih)
 
 list_text : One → List One → List ℕ
 list_text x ms = codes "{ " ++ joined (codes ", ") one_text (x ∷ ms) ++ codes " }"
@@ -59,27 +59,28 @@ value_again (Many []) f = absurd f
 value_again (Many (x ∷ [])) f = absurd f
 value_again (Many (x ∷ y ∷ ys)) f = inl (kind_text (kind_of x), list_text x (y ∷ ys), kind_of x, split, refl, ([], list_text x (y ∷ ys), tt, refl, refl, inl (list_again x y ys f.0 f.1)))
   where
-  split : value_text (Many (x ∷ y ∷ ys)) ≡ kind_text (kind_of x) ++ list_text x (y ∷ ys)
-  split = append_assoc (kind_text (kind_of x) ++ codes "{ ") (joined (codes ", ") one_text (x ∷ y ∷ ys)) (codes " }") ∙ append_assoc (kind_text (kind_of x)) (codes "{ ") (joined (codes ", ") one_text (x ∷ y ∷ ys) ++ codes " }") ∙ ap (λ l. kind_text (kind_of x) ++ l) (sym (append_assoc (codes "{ ") (joined (codes ", ") one_text (x ∷ y ∷ ys)) (codes " }")))
+    split : value_text (Many (x ∷ y ∷ ys)) ≡ kind_text (kind_of x) ++ list_text x (y ∷ ys)
+    split = append_assoc (kind_text (kind_of x) ++ codes "{ ") (joined (codes ", ") one_text (x ∷ y ∷ ys)) (codes " }") ∙ append_assoc (kind_text (kind_of x)) (codes "{ ") (joined (codes ", ") one_text (x ∷ y ∷ ys) ++ codes " }") ∙ ap (λ l. kind_text (kind_of x) ++ l) (sym (append_assoc (codes "{ ") (joined (codes ", ") one_text (x ∷ y ∷ ys)) (codes " }")))
 
 -- a value for which some text stands is fine
 listed_fresh : (kind : Kind) (members all : List One) (text : List ℕ) → Repeated (List_step kind) members text all → (others : List One) × (all ≡ members ++ others) × Fresh kind members others
 listed_fresh kind _ _ _ (last s text v d) = ended d
   where
-  ended : List_step kind s text (done v) → (others : List One) × (v ≡ s ++ others) × Fresh kind s others
-  ended (inl h) = let e : done v ≡ done s = h.1 in let is : v ≡ s = cc in ([], is ∙ sym (append-nil s), tt)
-  ended (inr h) = absurd (let bad = h.3 in cc)
+    ended : List_step kind s text (done v) → (others : List One) × (v ≡ s ++ others) × Fresh kind s others
+    ended (inl h) = let e : done v ≡ done s = h.1 in let is : v ≡ s = cc in ([], is ∙ sym (append-nil s), tt)
+    ended (inr h) = absurd (let bad = h.3 in cc)
 listed_fresh kind _ _ _ (more s t front back text v e d later) = on d (listed_fresh kind t v back later)
   where
-  grown : (one : One) (c : Bool) → list_any (λ k. same k one) s ≡ c → Fine one → kind_of one ≡ kind → length (cond {A = List One} c s (s ++ one ∷ [])) ≤ 64 → (others : List One) × (v ≡ cond {A = List One} c s (s ++ one ∷ []) ++ others) × Fresh kind (cond {A = List One} c s (s ++ one ∷ [])) others → (others : List One) × (v ≡ s ++ others) × Fresh kind s others
-  grown one true k f g few r = r
-  grown one false k f g few r = (one ∷ r.0, r.1 ∙ append_assoc s (one ∷ []) r.0, (f, g, k, few, r.2))
-  on : List_step kind s front (again t) → (others : List One) × (v ≡ t ++ others) × Fresh kind t others → (others : List One) × (v ≡ s ++ others) × Fresh kind s others
-  on (inl h) r = absurd (let bad = h.1 in cc)
-  on (inr h) r =
-      let e : again t ≡ again (kept_member s h.0) = h.3 in
-      let is : t ≡ kept_member s h.0 = cc in
-      grown h.0 (list_any (λ k. same k h.0) s) refl (member_fine (Some kind) h.1.1 h.0 h.1.5) (member_kind kind h.1.1 h.0 h.1.5) h.2 (subst (λ l. (others : List One) × (v ≡ l ++ others) × Fresh kind l others) is r)
+    grown : (one : One) (c : Bool) → list_any (λ k. same k one) s ≡ c → Fine one → kind_of one ≡ kind → length (cond {A = List One} c s (s ++ one ∷ [])) ≤ 64 → (others : List One) × (v ≡ cond {A = List One} c s (s ++ one ∷ []) ++ others) × Fresh kind (cond {A = List One} c s (s ++ one ∷ [])) others → (others : List One) × (v ≡ s ++ others) × Fresh kind s others
+    grown one true k f g few r = r
+    grown one false k f g few r = (one ∷ r.0, r.1 ∙ append_assoc s (one ∷ []) r.0, (f, g, k, few, r.2))
+
+    on : List_step kind s front (again t) → (others : List One) × (v ≡ t ++ others) × Fresh kind t others → (others : List One) × (v ≡ s ++ others) × Fresh kind s others
+    on (inl h) r = absurd (let bad = h.1 in cc)
+    on (inr h) r =
+        let e : again t ≡ again (kept_member s h.0) = h.3 in
+        let is : t ≡ kept_member s h.0 = cc in
+        grown h.0 (list_any (λ k. same k h.0) s) refl (member_fine (Some kind) h.1.1 h.0 h.1.5) (member_kind kind h.1.1 h.0 h.1.5) h.2 (subst (λ l. (others : List One) × (v ≡ l ++ others) × Fresh kind l others) is r)
 
 fine_list : (x : One) (others : List One) → Fine x → Fresh (kind_of x) (x ∷ []) others → Fine_value (as_value (x ∷ others))
 fine_list x [] f fresh = f

@@ -50,9 +50,9 @@ value_none : {X : Type 0} (n : List ℕ) (before : List (List ℕ × X)) → Eac
 value_none n [] h = refl
 value_none n (g ∷ gs) h = step (bytes_eq g.0 n) refl (value_none n gs h.1)
   where
-  step : (t : Bool) → bytes_eq g.0 n ≡ t → value_at n gs ≡ None → cond t (Some g.1) (value_at n gs) ≡ None
-  step true e ih = absurd (let same = (bytes_eq-Decides g.0 n).0 e in let yes : is_before n n ≡ true = ap (λ l. is_before l n) (sym same) ∙ ap is_lt h.0 in let no : true ≡ false = sym yes ∙ same_not_before n in cc)
-  step false e ih = ih
+    step : (t : Bool) → bytes_eq g.0 n ≡ t → value_at n gs ≡ None → cond t (Some g.1) (value_at n gs) ≡ None
+    step true e ih = absurd (let same = (bytes_eq-Decides g.0 n).0 e in let yes : is_before n n ≡ true = ap (λ l. is_before l n) (sym same) ∙ ap is_lt h.0 in let no : true ≡ false = sym yes ∙ same_not_before n in cc)
+    step false e ih = ih
 
 -- the marks that are printed
 comma : Mark 44 (44 ∷ 32 ∷ []) tt
@@ -75,10 +75,21 @@ field_again media before after f fine rises few =
     let n = length-append before (f ∷ after) in
     let m = length-append before (f ∷ []) in
     let fit : length (before ++ f ∷ []) ≤ 64 = omega (arith, few, n, m) in
-    let split : field_text value_text f ≡ 44 ∷ 32 ∷ (f.0 ++ (61 ∷ value_text f.1)) = append_assoc (44 ∷ 32 ∷ f.0) (61 ∷ []) (value_text f.1) in
-    (44 ∷ 32 ∷ [], f.0 ++ (61 ∷ value_text f.1), tt, split, comma,
-      (f.0, 61 ∷ value_text f.1, f.0, refl, fine.0,
-        (value_none f.0 before less, (61 ∷ [], value_text f.1, tt, refl, equals, (f.1, value_again f.1 fine.1, is)), fit)))
+    let split : field_text value_text f ≡ 44 ∷ 32 ∷ (f.0 ++ (61 ∷ value_text f.1)) = append_assoc (44 ∷ 32 ∷ f.0) (61 ∷ []) (value_text f.1) in (
+      44 ∷ 32 ∷ [],
+      f.0 ++ (61 ∷ value_text f.1),
+      tt,
+      split,
+      comma,
+      (
+        f.0,
+        61 ∷ value_text f.1,
+        f.0,
+        refl,
+        fine.0,
+        (value_none f.0 before less, (61 ∷ [], value_text f.1, tt, refl, equals, (f.1, value_again f.1 fine.1, is)), fit),
+      ),
+    )
 
 fields_again : (whole : List (Description Value)) (media : List ℕ) (before after : List (List ℕ × Value)) (tail : List ℕ) (v : List (Description Value)) → Each Fine_field after → Rises (before ++ after) → length (before ++ after) ≤ 64 → Repeated Caps_step (whole, of_parts media (before ++ after)) tail v → Repeated Caps_step (whole, of_parts media before) (flat_map (field_text value_text) after ++ tail) v
 fields_again whole media before [] tail v fine rises few later = subst (λ l. Repeated Caps_step (whole, of_parts media l) tail v) (append-nil before) later
@@ -86,8 +97,8 @@ fields_again whole media before (f ∷ fs) tail v fine rises few later =
     let join : (before ++ f ∷ []) ++ fs ≡ before ++ f ∷ fs = append_assoc before (f ∷ []) fs in
     let ih = fields_again whole media (before ++ f ∷ []) fs tail v fine.1 (subst Rises (sym join) rises) (subst (λ l. length l ≤ 64) (sym join) few) (subst (λ l. Repeated Caps_step (whole, of_parts media l) tail v) (sym join) later) in
     more (whole, of_parts media before) (whole, of_parts media (before ++ f ∷ [])) (field_text value_text f) (flat_map (field_text value_text) fs ++ tail) ((field_text value_text f ++ flat_map (field_text value_text) fs) ++ tail) v
-      (append_assoc (field_text value_text f) (flat_map (field_text value_text) fs) tail)
-      (inr (inl (of_parts media (before ++ f ∷ []), field_again media before fs f fine.0 rises few, refl))) ih
+    (append_assoc (field_text value_text f) (flat_map (field_text value_text) fs) tail)
+    (inr (inl (of_parts media (before ++ f ∷ []), field_again media before fs f fine.0 rises few, refl))) ih
 
 structures_again : (whole : List (Description Value)) (s : Description Value) (ss : List (Description Value)) → Fine_structure s → Each Fine_structure ss → length (whole ++ s ∷ ss) ≤ 64 → Repeated Caps_step (whole, bare s.media) (flat_map (field_text value_text) s.fields ++ joined_behind (codes "; ") (structure_text value_text) ss) (whole ++ s ∷ ss)
 unfolding of_parts
@@ -100,12 +111,12 @@ structures_again whole s (t ∷ ts) fine others few =
     let n = length-append whole (s ∷ t ∷ ts) in
     let ih = structures_again (whole ++ s ∷ []) t ts others.0 others.1 (subst (λ l. length l ≤ 64) (sym join) few) in
     let split : joined_behind (codes "; ") (structure_text value_text) (t ∷ ts) ≡ (59 ∷ 32 ∷ t.media) ++ tail =
-      append_assoc (59 ∷ 32 ∷ []) (t.media ++ flat_map (field_text value_text) t.fields) (joined_behind (codes "; ") (structure_text value_text) ts)
-      ∙ ap (λ l. 59 ∷ 32 ∷ l) (append_assoc t.media (flat_map (field_text value_text) t.fields) (joined_behind (codes "; ") (structure_text value_text) ts)) in
+    append_assoc (59 ∷ 32 ∷ []) (t.media ++ flat_map (field_text value_text) t.fields) (joined_behind (codes "; ") (structure_text value_text) ts)
+    ∙ ap (λ l. 59 ∷ 32 ∷ l) (append_assoc t.media (flat_map (field_text value_text) t.fields) (joined_behind (codes "; ") (structure_text value_text) ts)) in
     let here : Repeated Caps_step (whole, s) (joined_behind (codes "; ") (structure_text value_text) (t ∷ ts)) (whole ++ s ∷ t ∷ ts) =
-      more (whole, s) (whole ++ s ∷ [], bare t.media) (59 ∷ 32 ∷ t.media) tail _ (whole ++ s ∷ t ∷ ts) split
-        (inr (inr (bare t.media, (59 ∷ 32 ∷ [], t.media, tt, refl, semicolon, (t.media, others.0.media, refl)), omega (arith, few, n), refl)))
-        (subst (λ l. Repeated Caps_step (whole ++ s ∷ [], bare t.media) tail l) join ih) in
+    more (whole, s) (whole ++ s ∷ [], bare t.media) (59 ∷ 32 ∷ t.media) tail _ (whole ++ s ∷ t ∷ ts) split
+    (inr (inr (bare t.media, (59 ∷ 32 ∷ [], t.media, tt, refl, semicolon, (t.media, others.0.media, refl)), omega (arith, few, n), refl)))
+    (subst (λ l. Repeated Caps_step (whole ++ s ∷ [], bare t.media) tail l) join ih) in
     fields_again whole s.media [] s.fields (joined_behind (codes "; ") (structure_text value_text) (t ∷ ts)) (whole ++ s ∷ t ∷ ts) fine.fields fine.rises fine.few here
 
 -- structures for which some text stands are fine
@@ -135,26 +146,26 @@ field_fine s t text f h =
 caps_fine : (made : Made) (text : List ℕ) (all : List (Description Value)) → Repeated Caps_step made text all → Each Fine_structure made.0 → Fine_structure made.1 → Each Fine_structure all × (length all ≤ 64)
 caps_fine _ _ _ (last s text v d) f g = ended d
   where
-  ended : Caps_step s text (done v) → Each Fine_structure v × (length v ≤ 64)
-  ended (inl h) =
-      let e : done v ≡ done (s.0 ++ s.1 ∷ []) = h.2 in
-      let is : v ≡ s.0 ++ s.1 ∷ [] = cc in
-      let n = length-append s.0 (s.1 ∷ []) in
-      subst (λ l. Each Fine_structure l × (length l ≤ 64)) (sym is) (Each-append Fine_structure s.0 (s.1 ∷ []) f (g, tt), omega (arith, n, h.1))
-  ended (inr (inl h)) = absurd (let bad = h.2 in cc)
-  ended (inr (inr h)) = absurd (let bad = h.3 in cc)
+    ended : Caps_step s text (done v) → Each Fine_structure v × (length v ≤ 64)
+    ended (inl h) =
+        let e : done v ≡ done (s.0 ++ s.1 ∷ []) = h.2 in
+        let is : v ≡ s.0 ++ s.1 ∷ [] = cc in
+        let n = length-append s.0 (s.1 ∷ []) in
+        subst (λ l. Each Fine_structure l × (length l ≤ 64)) (sym is) (Each-append Fine_structure s.0 (s.1 ∷ []) f (g, tt), omega (arith, n, h.1))
+    ended (inr (inl h)) = absurd (let bad = h.2 in cc)
+    ended (inr (inr h)) = absurd (let bad = h.3 in cc)
 caps_fine _ _ _ (more s t front back text v e d later) f g = caps_fine t back v later (on d).0 (on d).1
   where
-  on : Caps_step s front (again t) → Each Fine_structure t.0 × Fine_structure t.1
-  on (inl h) = absurd (let bad = h.2 in cc)
-  on (inr (inl h)) =
-      let k : again t ≡ again (s.0, h.0) = h.2 in
-      let is : t ≡ (s.0, h.0) = cc in
-      subst (λ m. Each Fine_structure m.0 × Fine_structure m.1) (sym is) (f, field_fine s.1 h.0 h.1.1 g h.1.5)
-  on (inr (inr h)) =
-      let k : again t ≡ again (s.0 ++ s.1 ∷ [], h.0) = h.3 in
-      let is : t ≡ (s.0 ++ s.1 ∷ [], h.0) = cc in
-      subst (λ m. Each Fine_structure m.0 × Fine_structure m.1) (sym is) (Each-append Fine_structure s.0 (s.1 ∷ []) f (g, tt), head_fine h.1.1 h.0 h.1.5)
+    on : Caps_step s front (again t) → Each Fine_structure t.0 × Fine_structure t.1
+    on (inl h) = absurd (let bad = h.2 in cc)
+    on (inr (inl h)) =
+        let k : again t ≡ again (s.0, h.0) = h.2 in
+        let is : t ≡ (s.0, h.0) = cc in
+        subst (λ m. Each Fine_structure m.0 × Fine_structure m.1) (sym is) (f, field_fine s.1 h.0 h.1.1 g h.1.5)
+    on (inr (inr h)) =
+        let k : again t ≡ again (s.0 ++ s.1 ∷ [], h.0) = h.3 in
+        let is : t ≡ (s.0 ++ s.1 ∷ [], h.0) = cc in
+        subst (λ m. Each Fine_structure m.0 × Fine_structure m.1) (sym is) (Each-append Fine_structure s.0 (s.1 ∷ []) f (g, tt), head_fine h.1.1 h.0 h.1.5)
 
 whole_again : (ss : List (Description Value)) → Each Fine_structure ss × (length ss ≤ 64) → IsCapsText (caps_text (Of ss)) (Of ss)
 whole_again [] h = inr (inl (refl, refl))

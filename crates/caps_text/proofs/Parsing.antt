@@ -71,7 +71,7 @@ pub told_fault : (text : List ℕ) (r : Result Caps CapsTextFault) → Told text
 told_fault text (Ok caps) h = tt
 told_fault text (Err (BadCaps place)) h = rw h.2 (as_place_le (length text) (length h.0))
   where
-  as_place_le : (m n : ℕ) → as_place (m - n) ≤ as_place m
-  as_place_le m n = let a = min-le_left (m - n) 4294967295 in let b = min-le_right (m - n) 4294967295 in le-min {k = as_place (m - n)} {a = m} {b = 4294967295} (omega (arith, a)) b
+    as_place_le : (m n : ℕ) → as_place (m - n) ≤ as_place m
+    as_place_le m n = let a = min-le_left (m - n) 4294967295 in let b = min-le_right (m - n) 4294967295 in le-min {k = as_place (m - n)} {a = m} {b = 4294967295} (omega (arith, a)) b
 told_fault text (Err (TooMany count)) h = h.1
 told_fault text (Err OutOfMemory) h = tt

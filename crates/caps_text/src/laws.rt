@@ -13,5 +13,4 @@ ghost use Rattle.caps_text.specs.Singles.{of_singles};
 pub fn printed_again()
     ensures caps { (text : List ℕ) (caps : Caps) → IsCapsText text caps → IsCapsText (caps_text caps) caps }
     ensures fixed { (text : List ℕ) (x : Description One) → IsCapsText text (Of (of_singles x ∷ [])) → IsCapsText (structure_text typed_text x) (Of (of_singles x ∷ [])) }
-{
-}
+{}
