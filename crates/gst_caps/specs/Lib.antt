@@ -9,3 +9,4 @@ pub mod Common
 pub mod Kept
 pub mod Caps
 pub mod Fractions
+pub mod formers
