@@ -1,0 +1,38 @@
+//! Which bytes stand in which part of a line.
+
+/// What a run of bytes is.
+#[derive(Clone, Copy)]
+pub(crate) enum Class {
+    /// The kind of an element.
+    Kind,
+    /// The name of an element or of a pad.
+    Name,
+    /// The name of a property.
+    Property,
+}
+
+/// White space: a space, a tab or a line end.
+pub(crate) fn is_white(byte: u8) -> bool {
+    matches!(byte, b' ' | b'\t' | b'\n')
+}
+
+impl Class {
+    /// Whether the byte stands in such a run.
+    pub(crate) fn holds(self, byte: u8) -> bool {
+        match self {
+            Class::Kind => matches!(byte, b'a'..=b'z' | b'0'..=b'9' | b'-' | b'_'),
+            Class::Name => matches!(byte, b'a'..=b'z' | b'A'..=b'Z' | b'0'..=b'9' | b'-' | b'_'),
+            Class::Property => matches!(byte, b'a'..=b'z' | b'A'..=b'Z' | b'0'..=b'9' | b'-'),
+        }
+    }
+}
+
+/// Whether the text is one or more bytes of this class.
+pub(crate) fn is_run(class: Class, text: &str) -> bool {
+    !text.is_empty() && text.bytes().all(|byte| class.holds(byte))
+}
+
+/// How many bytes of this class stand at the front.
+pub(crate) fn run_length(class: Class, text: &str) -> usize {
+    text.bytes().take_while(|byte| class.holds(*byte)).count()
+}
