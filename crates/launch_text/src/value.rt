@@ -1,30 +1,15 @@
 //! What words stand for.
+use crate::characters::Characters;
 use crate::class::{Class, is_run};
 use crate::fault::Refusal;
 use gst_caps::Text;
 use std::alloc::Global;
 
-/// The characters of a text, from the front on.
-#[derive(Drop)]
-struct Characters<'a> {
-    rest: &'a str,
-}
-
-impl<'a> Characters<'a> {
-    /// Passes one character, where there is one.
-    fn take(&mut self) -> Option<char> {
-        let mut characters = self.rest.chars();
-        let next = characters.next()?;
-        self.rest = characters.as_str();
-        Some(next)
-    }
-}
-
 /// The value that a word spells: a backslash takes the next character as it is, and double quotes are left out.
 pub(crate) fn read_value(alloc: Global, word: &str) -> Result<Text, Refusal> {
     let mut value = String::new(alloc);
     let mut quoted = false;
-    let mut characters = Characters { rest: word };
+    let mut characters = Characters::new(word);
     while let Some(next) = characters.take() {
         match next {
             '"' => quoted = !quoted,
@@ -44,7 +29,7 @@ pub(crate) fn read_value(alloc: Global, word: &str) -> Result<Text, Refusal> {
 /// Puts a word of caps behind their text: a backslash before a space is left out, and all else is kept.
 pub(crate) fn push_caps(into: &mut String, word: &str) -> Result<(), Refusal> {
     let mut quoted = false;
-    let mut characters = Characters { rest: word };
+    let mut characters = Characters::new(word);
     while let Some(next) = characters.take() {
         match next {
             '\\' => match characters.take() {
