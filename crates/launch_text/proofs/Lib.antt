@@ -1,2 +1,4 @@
 mod Marks
 mod Lines
+mod Kept
+mod Cutting

@@ -1,3 +1,6 @@
 pub mod Bytes
 pub mod Tokens
 pub mod Printed
+pub mod Words
+pub mod Grammar
+pub mod State

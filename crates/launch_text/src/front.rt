@@ -43,7 +43,9 @@ fn name_front(word: &str) -> usize {
         return 0;
     }
     match word.split_once('.') {
-        Some((before, pad)) if before.len() == name => name + 1 + run_length(Class::Name, pad),
+        Some((before, pad)) if before.len() == name => {
+            name.saturating_add(1).saturating_add(run_length(Class::Name, pad))
+        }
         _ => name,
     }
 }

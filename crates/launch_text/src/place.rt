@@ -51,7 +51,7 @@ impl Stop<'_> {
     }
 
     fn is_unclosed(&self, front: usize) -> bool {
-        self.place + front == self.line.len() && (self.depth > 0 || !is_closed(self.word))
+        self.place.saturating_add(front) == self.line.len() && (self.depth > 0 || !is_closed(self.word))
     }
 
     fn is_bad_reference(&self) -> bool {
@@ -91,7 +91,7 @@ impl Stop<'_> {
     pub(crate) fn fault(&self) -> LineFault {
         let front = front_length(self.spot, self.word, self.depth);
         LineFault::BadLine {
-            place: u32::try_from(self.place + front).unwrap_or(u32::MAX),
+            place: u32::try_from(self.place.saturating_add(front)).unwrap_or(u32::MAX),
             kind: self.kind(front),
         }
     }

@@ -1,4 +1,8 @@
 //! Reads a line.
+ghost use Rattle.std.specs.Prelude.{◌≡◌, ◌<◌, ◌≤◌, length, Err, OnOk};
+ghost use Rattle.launch_text.specs.declared.fault.LineFault.TheVariants.{BadLine};
+ghost use Rattle.launch_text.specs.declared.fault.LineKind.TheVariants.{TooLong};
+
 use crate::fault::{LineFault, LineKind, Refusal};
 use crate::front::spot_of;
 use crate::line::{Last, end_line, read_word};
@@ -28,7 +32,7 @@ fn read_line(alloc: Global, line: &str) -> Result<Tree, LineFault> {
         let (word, behind) = split_word(rest);
         let stop = Stop {
             line,
-            place: line.len() - rest.len(),
+            place: line.len().saturating_sub(rest.len()),
             word,
             spot: spot_of(&last),
             depth: parts.outer.len(),
@@ -54,7 +58,10 @@ fn read_line(alloc: Global, line: &str) -> Result<Tree, LineFault> {
 
 /// The tree for which the text stands, as `filesrc location=a ! identity ! filesink location=b`. A line has at most
 /// 65,536 bytes, and brackets are at most 16 deep.
-pub fn parse(alloc: Global, text: &str) -> Result<Tree, LineFault> {
+pub fn parse(alloc: Global, text: &str) -> Result<Tree, LineFault>
+    ensures long { 65536 < length text.now → result ≡ Err (BadLine 65536 TooLong) }
+    ensures short { OnOk result (length text.now ≤ 65536) }
+{
     if text.len() > LONGEST {
         return Err(LineFault::BadLine {
             place: 65_536,

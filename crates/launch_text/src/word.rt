@@ -1,4 +1,9 @@
 //! The words of a line, between white space.
+ghost use Rattle.std.specs.Prelude.{◌≡◌, ◌++◌, ◌<◌, ◌≤◌, ℕ, List, length, true};
+ghost use Rattle.std.specs.List.{list_all, take_while};
+ghost use Rattle.launch_text.specs.Bytes.{is_white};
+ghost use Rattle.launch_text.specs.Words.{after, ends, is_closed, is_plain, is_start, is_word, plain, word_length};
+
 use crate::class::is_white;
 
 /// How the byte before a place of a word lets the next one stand.
@@ -18,36 +23,53 @@ impl Mode {
     };
 
     /// Whether a word may end here.
-    pub(crate) fn is_plain(self) -> bool {
+    pub(crate) fn is_plain(self) -> bool
+        ensures { result ≡ is_plain self }
+    {
         !self.quoted && !self.escaped
     }
 
     /// Behind one byte more.
-    pub(crate) fn after(self, byte: u8) -> Mode {
+    pub(crate) fn after(self, byte: u8) -> Mode
+        ensures { result ≡ after self byte }
+    {
+        self.after_character(char::from(byte))
+    }
+
+    /// Behind one character more.
+    pub(crate) fn after_character(self, character: char) -> Mode
+        ensures { result ≡ after self character }
+    {
         if self.escaped {
             return Mode {
                 quoted: self.quoted,
                 escaped: false,
             };
         }
-        match byte {
-            b'"' => Mode {
+        match character {
+            '"' => Mode {
                 quoted: !self.quoted,
                 escaped: false,
             },
-            b'\\' => Mode {
+            '\\' => Mode {
                 quoted: self.quoted,
                 escaped: true,
             },
-            _ => self,
+            _ => Mode {
+                quoted: self.quoted,
+                escaped: false,
+            },
         }
     }
 }
 
 /// How many bytes the word at the front has.
-fn word_length(text: &str) -> usize {
+fn word_length(text: &str) -> usize
+    ensures { result ≡ word_length plain text.now }
+{
     let mut mode = Mode::PLAIN;
-    for (length, byte) in text.as_bytes().iter().enumerate() {
+    let bytes = text.as_bytes();
+    for (length, byte) in bytes.iter().enumerate() {
         if mode.is_plain() && is_white(*byte) {
             return length;
         }
@@ -57,25 +79,39 @@ fn word_length(text: &str) -> usize {
 }
 
 /// Whether a word ends out of quotes and not behind a backslash.
-pub(crate) fn is_closed(word: &str) -> bool {
+pub(crate) fn is_closed(word: &str) -> bool
+    ensures { result ≡ is_closed word.now }
+{
     let mut mode = Mode::PLAIN;
-    for byte in word.as_bytes() {
+    let bytes = word.as_bytes();
+    for byte in bytes {
         mode = mode.after(*byte);
     }
     mode.is_plain()
 }
 
 /// How many bytes of white space stand at the front.
-fn white_length(text: &str) -> usize {
+fn white_length(text: &str) -> usize
+    ensures { result ≡ length (take_while is_white text.now) }
+{
     text.bytes().take_while(|byte| is_white(*byte)).count()
 }
 
 /// What stands behind the white space.
-pub(crate) fn behind_white(text: &str) -> &str {
+pub(crate) fn behind_white(text: &str) -> &str
+    ensures cut { (front : List ℕ) × (text.now ≡ front ++ result.now) × (list_all is_white front ≡ true) }
+    ensures start { is_start result.now ≡ true }
+    ensures within { length result.now ≤ length text.now }
+{
     text.split_at(white_length(text)).1
 }
 
 /// The word at the front, up to white space or the end, and what stands behind it.
-pub(crate) fn split_word(text: &str) -> (&str, &str) {
+pub(crate) fn split_word(text: &str) -> (&str, &str)
+    ensures cut { text.now ≡ result.0.now ++ result.1.now }
+    ensures word { is_start text.now ≡ true → 0 < length text.now → is_word result.0.now ≡ true }
+    ensures shorter { is_start text.now ≡ true → 0 < length text.now → length result.1.now < length text.now }
+    ensures ended { ends result.1.now ≡ true }
+{
     text.split_at(word_length(text))
 }
