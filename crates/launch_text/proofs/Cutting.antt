@@ -37,11 +37,11 @@ white_boundary x (suc k) u e = let at = white_run x k (omega (arith, e)) in subs
 -- what is behind it does not begin with white space, and it is white space
 pub behind_start : (x : List ℕ) → is_start (drop (length (take_while is_white x)) x) ≡ true
 behind_start [] = refl
-behind_start (b ∷ bs) = rw (take_while-cons is_white b bs) (step (is_white b) refl)
+behind_start (b ∷ bs) = rw (take_while-cons is_white b bs) (step (behind_start bs) (is_white b) refl)
   where
-    step : (t : Bool) → is_white b ≡ t → is_start (drop (length (cond t (b ∷ take_while is_white bs) [])) (b ∷ bs)) ≡ true
-    step true e = behind_start bs
-    step false e = rw e refl
+    step : is_start (drop (length (take_while is_white bs)) bs) ≡ true → (t : Bool) → is_white b ≡ t → is_start (drop (length (cond t (b ∷ take_while is_white bs) [])) (b ∷ bs)) ≡ true
+    step ih true e = ih
+    step ih false e = rw e refl
 
 pub front_white : (x : List ℕ) → (front : List ℕ) × (x ≡ front ++ drop (length (take_while is_white x)) x) × (list_all is_white front ≡ true)
 front_white [] = ([], refl, refl)
@@ -54,21 +54,21 @@ front_white (b ∷ bs) = rw (take_while-cons is_white b bs) (step (front_white b
 -- a word is no longer than the text
 pub within : (m : Mode) (x : List ℕ) → word_length m x ≤ length x
 within m [] = omega arith
-within m (b ∷ bs) = step (is_plain m && is_white b)
+within m (b ∷ bs) = step (within (after m b) bs) (is_plain m && is_white b)
   where
-    step : (t : Bool) → cond t 0 (suc (word_length (after m b) bs)) ≤ suc (length bs)
-    step true = omega arith
-    step false = omega (arith, within (after m b) bs)
+    step : word_length (after m b) bs ≤ length bs → (t : Bool) → cond t 0 (suc (word_length (after m b) bs)) ≤ suc (length bs)
+    step ih true = omega arith
+    step ih false = omega (arith, ih)
 
 -- where the text goes on behind a word, white space stands there
 stops_at : (m : Mode) (x : List ℕ) → word_length m x < length x → is_white (get_or x (word_length m x) 0) ≡ true
 stops_at m [] h = absurd (omega (arith, h))
-stops_at m (b ∷ bs) h = step (is_plain m) (is_white b) refl h
+stops_at m (b ∷ bs) h = step (λ g. stops_at (after m b) bs g) (is_plain m) (is_white b) refl h
   where
-    step : (p w : Bool) → is_white b ≡ w → cond (p && w) 0 (suc (word_length (after m b) bs)) < suc (length bs) → is_white (get_or (b ∷ bs) (cond (p && w) 0 (suc (word_length (after m b) bs))) 0) ≡ true
-    step true true e h = e
-    step true false e h = stops_at (after m b) bs (omega (arith, h))
-    step false w e h = stops_at (after m b) bs (omega (arith, h))
+    step : (word_length (after m b) bs < length bs → is_white (get_or bs (word_length (after m b) bs) 0) ≡ true) → (p w : Bool) → is_white b ≡ w → cond (p && w) 0 (suc (word_length (after m b) bs)) < suc (length bs) → is_white (get_or (b ∷ bs) (cond (p && w) 0 (suc (word_length (after m b) bs))) 0) ≡ true
+    step ih true true e h = e
+    step ih true false e h = ih (omega (arith, h))
+    step ih false w e h = ih (omega (arith, h))
 
 pub word_boundary : (x : List ℕ) (n : ℕ) → n ≡ word_length plain x → IsCharBoundary x n
 word_boundary x n e = elim (cases_lt (word_length plain x) (length x)) [
@@ -77,21 +77,21 @@ word_boundary x n e = elim (cases_lt (word_length plain x) (length x)) [
 
 pub ends_behind : (m : Mode) (x : List ℕ) → ends (drop (word_length m x) x) ≡ true
 ends_behind m [] = refl
-ends_behind m (b ∷ bs) = step (is_plain m) (is_white b) refl
+ends_behind m (b ∷ bs) = step (ends_behind (after m b) bs) (is_plain m) (is_white b) refl
   where
-    step : (p w : Bool) → is_white b ≡ w → ends (drop (cond (p && w) 0 (suc (word_length (after m b) bs))) (b ∷ bs)) ≡ true
-    step true true e = e
-    step true false e = ends_behind (after m b) bs
-    step false w e = ends_behind (after m b) bs
+    step : ends (drop (word_length (after m b) bs) bs) ≡ true → (p w : Bool) → is_white b ≡ w → ends (drop (cond (p && w) 0 (suc (word_length (after m b) bs))) (b ∷ bs)) ≡ true
+    step ih true true e = e
+    step ih true false e = ih
+    step ih false w e = ih
 
 -- a word has no white space at which it would stop
 whole : (m : Mode) (x : List ℕ) → word_length m (take (word_length m x) x) ≡ word_length m x
 whole m [] = refl
-whole m (b ∷ bs) = step (is_plain m && is_white b) refl
+whole m (b ∷ bs) = step (whole (after m b) bs) (is_plain m && is_white b) refl
   where
-    step : (t : Bool) → (is_plain m && is_white b) ≡ t → word_length m (take (cond t 0 (suc (word_length (after m b) bs))) (b ∷ bs)) ≡ cond t 0 (suc (word_length (after m b) bs))
-    step true e = refl
-    step false e = rw e (ap suc (whole (after m b) bs))
+    step : word_length (after m b) (take (word_length (after m b) bs) bs) ≡ word_length (after m b) bs → (t : Bool) → (is_plain m && is_white b) ≡ t → word_length m (take (cond t 0 (suc (word_length (after m b) bs))) (b ∷ bs)) ≡ cond t 0 (suc (word_length (after m b) bs))
+    step ih true e = refl
+    step ih false e = rw e (ap suc ih)
 
 some_word : (x : List ℕ) → is_start x ≡ true → 0 < length x → 0 < word_length plain x
 some_word [] s h = absurd (omega (arith, h))
@@ -125,10 +125,16 @@ one_word x s h =
     same : (n : ℕ) → eqb n n ≡ true
     same n = elim (eqb_tells n n) [ inl t ↦ t.0 | inr t ↦ absurd (t.1 refl) ]
     both : (n : ℕ) → 0 < n → (not (eqb n 0) && eqb n n) ≡ true
-    both zero h = absurd (omega (arith, h))
-    both (suc n) h = same (suc n)
+    both n h = elim (eqb_tells n 0) [ inl t ↦ absurd (omega (arith, h, t.1)) | inr t ↦ rw (t.0, same n) refl ]
 
 pub two_parts : (x : List ℕ) (n : ℕ) → x ≡ take n x ++ drop n x
 two_parts x zero = refl
 two_parts [] (suc n) = refl
 two_parts (b ∷ bs) (suc n) = ap (λ l. b ∷ l) (two_parts bs n)
+
+pub positive : (n : ℕ) → eqb n 0 ≡ false → 0 < n
+positive zero e = absurd (no e)
+  where
+    no : true ≡ false → ⊥
+    no e = cc
+positive (suc n) e = omega arith

@@ -1,6 +1,6 @@
 //! Which bytes stand in which part of a line.
 ghost use Rattle.std.specs.Prelude.{◌≡◌, length};
-ghost use Rattle.std.specs.List.{take_while};
+ghost use Rattle.std.specs.List.{list_all, take_while};
 ghost use Rattle.launch_text.specs.Bytes.{in_class, is_run, is_white};
 
 /// What a run of bytes is.
@@ -34,11 +34,18 @@ impl Class {
     }
 }
 
+/// Whether each byte is one of this class.
+fn has_bytes(class: Class, text: &str) -> bool
+    ensures { result ≡ list_all (in_class class) text.now }
+{
+    text.bytes().all(|byte| class.holds(byte))
+}
+
 /// Whether the text is one or more bytes of this class.
 pub(crate) fn is_run(class: Class, text: &str) -> bool
     ensures { result ≡ is_run class text.now }
 {
-    !text.is_empty() && text.bytes().all(|byte| class.holds(byte))
+    !text.is_empty() && has_bytes(class, text)
 }
 
 /// How many bytes of this class stand at the front.

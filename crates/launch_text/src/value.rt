@@ -1,11 +1,8 @@
 //! What words stand for.
-ghost use Rattle.std.specs.Prelude.{◌≡◌, ◌++◌, ◌∷◌, ℕ, true, IfOk, IfSome, OnOk};
+ghost use Rattle.std.specs.Prelude.{◌≡◌, ◌++◌, ℕ, true, IfOk, OnOk};
 ghost use Rattle.std.specs.String.{string_bytes};
 ghost use Rattle.std.specs.Char.{encode_utf8};
-ghost use Rattle.std.specs.Option.{option_map};
-ghost use Rattle.launch_text.specs.Bytes.{is_run};
-ghost use Rattle.launch_text.specs.Printed.{reference_text};
-ghost use Rattle.launch_text.specs.Words.{begins_caps, is_closed, is_pad, kept, plain, taken};
+ghost use Rattle.launch_text.specs.Words.{begins_caps, is_closed, kept, plain, taken};
 
 use crate::characters::Characters;
 use crate::class::{Class, is_run};
@@ -104,10 +101,7 @@ pub(crate) fn begins_caps(word: &str) -> bool
 }
 
 /// The name of a property and the word of its value.
-pub(crate) fn split_property(word: &str) -> Option<(&str, &str)>
-    ensures words { IfSome result (λ p. word.now ≡ p.0.now ++ 61 ∷ p.1.now) }
-    ensures named { IfSome result (λ p. is_run Class.Property p.0.now ≡ true) }
-{
+pub(crate) fn split_property(word: &str) -> Option<(&str, &str)> {
     let (name, value) = word.split_once('=')?;
     if is_run(Class::Property, name) {
         Some((name, value))
@@ -117,11 +111,7 @@ pub(crate) fn split_property(word: &str) -> Option<(&str, &str)>
 }
 
 /// The name of an element, and of its pad where the word has one.
-pub(crate) fn split_reference(word: &str) -> Option<(&str, Option<&str>)>
-    ensures words { IfSome result (λ r. word.now ≡ reference_text r.0.now (option_map (λ p. p.now) r.1)) }
-    ensures named { IfSome result (λ r. is_run Class.Name r.0.now ≡ true) }
-    ensures pad { IfSome result (λ r. is_pad (option_map (λ p. p.now) r.1) ≡ true) }
-{
+pub(crate) fn split_reference(word: &str) -> Option<(&str, Option<&str>)> {
     let (name, pad) = word.split_once('.')?;
     if !is_run(Class::Name, name) {
         return None;

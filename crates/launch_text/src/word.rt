@@ -1,5 +1,5 @@
 //! The words of a line, between white space.
-ghost use Rattle.std.specs.Prelude.{◌≡◌, ◌++◌, ◌<◌, ◌≤◌, ℕ, List, length, true};
+ghost use Rattle.std.specs.Prelude.{◌≡◌, ◌==◌, ◌++◌, ◌<◌, ◌≤◌, false, ℕ, List, length, true};
 ghost use Rattle.std.specs.List.{list_all, take_while};
 ghost use Rattle.launch_text.specs.Bytes.{is_white};
 ghost use Rattle.launch_text.specs.Words.{after, ends, is_closed, is_plain, is_start, is_word, plain, word_length};
@@ -108,9 +108,11 @@ pub(crate) fn behind_white(text: &str) -> &str
 
 /// The word at the front, up to white space or the end, and what stands behind it.
 pub(crate) fn split_word(text: &str) -> (&str, &str)
+    requires start { is_start text.now ≡ true }
+    requires some { (length text.now == 0) ≡ false }
     ensures cut { text.now ≡ result.0.now ++ result.1.now }
-    ensures word { is_start text.now ≡ true → 0 < length text.now → is_word result.0.now ≡ true }
-    ensures shorter { is_start text.now ≡ true → 0 < length text.now → length result.1.now < length text.now }
+    ensures word { is_word result.0.now ≡ true }
+    ensures shorter { length result.1.now < length text.now }
     ensures ended { ends result.1.now ≡ true }
 {
     text.split_at(word_length(text))
