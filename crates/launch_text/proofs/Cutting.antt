@@ -1,5 +1,5 @@
 -- Where a text is cut into words.
-use Rattle.std.proofs.Common.{◌≡◌, ◌≢◌, ℕ, zero, suc, ◌<◌, ◌≤◌, ◌+◌, Bool, true, false, cond, eqb, ◌&&◌, ◌||◌, not, List, [], ◌∷◌, ◌++◌, length, drop, take, get_or, inl, inr, refl, sym, ap, ◌∙◌, subst, arith}
+use Rattle.std.proofs.Common.{◌≡◌, ℕ, zero, suc, ◌<◌, ◌≤◌, ◌+◌, Bool, true, false, cond, eqb, ◌&&◌, not, List, [], ◌∷◌, ◌++◌, length, drop, take, get_or, inl, inr, refl, sym, ap, ◌∙◌, subst, arith}
 use Rattle.std.specs.List.{list_all, take_while}
 use Rattle.std.specs.Str.{IsUtf8, IsCharBoundary}
 use Rattle.std.proofs.lemmas.Bool.{cases_lt}
@@ -15,8 +15,10 @@ white_ascii b h = elim (cases_lt b 128) [ inl small ↦ small | inr big ↦ absu
   where
     no : true ≡ false → ⊥
     no e = cc
+
     off : (k : ℕ) → 128 ≤ b → k < 128 → eqb b k ≡ false
     off k big small = elim (eqb_tells b k) [ inl t ↦ absurd (omega (arith, t.1, big, small)) | inr t ↦ t.0 ]
+
     none : 128 ≤ b → is_white b ≡ false
     none big = rw (off 32 big (omega arith), off 9 big (omega arith), off 10 big (omega arith)) refl
 
@@ -72,8 +74,9 @@ stops_at m (b ∷ bs) h = step (λ g. stops_at (after m b) bs g) (is_plain m) (i
 
 pub word_boundary : (x : List ℕ) (n : ℕ) → n ≡ word_length plain x → IsCharBoundary x n
 word_boundary x n e = elim (cases_lt (word_length plain x) (length x)) [
-  inl less ↦ subst (IsCharBoundary x) (sym e) (IsCharBoundary-before_ascii x (word_length plain x) less (white_ascii _ (stops_at plain x less)))
-  | inr all ↦ subst (IsCharBoundary x) (omega (arith, all, within plain x, e)) (IsCharBoundary-end x) ]
+  | inl less ↦ subst (IsCharBoundary x) (sym e) (IsCharBoundary-before_ascii x (word_length plain x) less (white_ascii _ (stops_at plain x less)))
+  | inr all ↦ subst (IsCharBoundary x) (omega (arith, all, within plain x, e)) (IsCharBoundary-end x)
+]
 
 pub ends_behind : (m : Mode) (x : List ℕ) → ends (drop (word_length m x) x) ≡ true
 ends_behind m [] = refl
@@ -99,6 +102,7 @@ some_word (b ∷ bs) s h = step (is_white b) refl
   where
     no : not true ≡ true → ⊥
     no e = cc
+
     step : (t : Bool) → is_white b ≡ t → 0 < cond t 0 (suc (word_length (after plain b) bs))
     step true e = absurd (no (rw e at s))
     step false e = omega arith
@@ -124,6 +128,7 @@ one_word x s h =
   where
     same : (n : ℕ) → eqb n n ≡ true
     same n = elim (eqb_tells n n) [ inl t ↦ t.0 | inr t ↦ absurd (t.1 refl) ]
+
     both : (n : ℕ) → 0 < n → (not (eqb n 0) && eqb n n) ≡ true
     both n h = elim (eqb_tells n 0) [ inl t ↦ absurd (omega (arith, h, t.1)) | inr t ↦ rw (t.0, same n) refl ]
 

@@ -1,5 +1,5 @@
 -- What characters add to a value or to caps.
-use Rattle.std.proofs.Common.{◌≡◌, ◌≢◌, ℕ, zero, suc, ◌<◌, ◌≤◌, Bool, true, false, cond, eqb, ◌||◌, not, List, [], ◌∷◌, ◌++◌, length, inl, inr, refl, sym, ap, ◌∙◌, subst, arith, append_assoc, append-nil}
+use Rattle.std.proofs.Common.{◌≡◌, ℕ, ◌<◌, ◌≤◌, Bool, true, false, List, [], ◌∷◌, ◌++◌, length, inl, inr, refl, sym, ap, ◌∙◌, arith, append_assoc, append-nil}
 use Rattle.std.specs.Char.{encode_utf8}
 use Rattle.std.proofs.lemmas.Bool.{cases_lt}
 use Rattle.std.proofs.lemmas.Str.{encode_ascii}
@@ -48,13 +48,15 @@ one_taken k q e c = append-nil (kept k e c (c ∷ []))
 -- a character in UTF-8 is passed as one byte is
 pub behind_one : (m : Mode) (c : ℕ) → behind m (encode_utf8 c) ≡ after m c
 behind_one m c = elim (cases_lt c 128) [
-  inl small ↦ rw (encode_ascii c small) refl
-  | inr big ↦ high_behind m.quoted m.escaped (encode_utf8 c) (some_bytes c) (encode_high c big) ∙ sym (high_after m.quoted m.escaped c big) ]
+  | inl small ↦ rw (encode_ascii c small) refl
+  | inr big ↦ high_behind m.quoted m.escaped (encode_utf8 c) (some_bytes c) (encode_high c big) ∙ sym (high_after m.quoted m.escaped c big)
+]
 
 pub taken_one : (k : Marked) (m : Mode) (c : ℕ) → taken k m (encode_utf8 c) ≡ kept k m.escaped c (encode_utf8 c)
 taken_one k m c = elim (cases_lt c 128) [
-  inl small ↦ rw (encode_ascii c small) (one_taken k m.quoted m.escaped c)
-  | inr big ↦ high_taken k m.quoted m.escaped c (encode_utf8 c) big (some_bytes c) (encode_high c big) ]
+  | inl small ↦ rw (encode_ascii c small) (one_taken k m.quoted m.escaped c)
+  | inr big ↦ high_taken k m.quoted m.escaped c (encode_utf8 c) big (some_bytes c) (encode_high c big)
+]
 
 pub behind_append : (m : Mode) (xs ys : List ℕ) → behind m (xs ++ ys) ≡ behind (behind m xs) ys
 behind_append m [] ys = refl
@@ -71,4 +73,4 @@ behind_step m c x y e = rw e (ap (λ n. behind n y) (sym (behind_one m c)) ∙ s
 pub taken_step : (k : Marked) (m : Mode) (c : ℕ) (into made x y : List ℕ) → x ≡ encode_utf8 c ++ y → made ≡ into ++ kept k m.escaped c (encode_utf8 c) → made ++ taken k (after m c) y ≡ into ++ taken k m x
 taken_step k m c into made x y e f =
     rw (e, f) (append_assoc into (kept k m.escaped c (encode_utf8 c)) (taken k (after m c) y)
-      ∙ ap (λ l. into ++ l) (ap (λ l. l ++ taken k (after m c) y) (sym (taken_one k m c)) ∙ ap (λ n. taken k m (encode_utf8 c) ++ taken k n y) (sym (behind_one m c)) ∙ sym (taken_append k m (encode_utf8 c) y)))
+    ∙ ap (λ l. into ++ l) (ap (λ l. l ++ taken k (after m c) y) (sym (taken_one k m c)) ∙ ap (λ n. taken k m (encode_utf8 c) ++ taken k n y) (sym (behind_one m c)) ∙ sym (taken_append k m (encode_utf8 c) y)))

@@ -2,3 +2,4 @@ mod Marks
 mod Lines
 mod Kept
 mod Cutting
+mod Rows

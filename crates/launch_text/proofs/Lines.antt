@@ -1,10 +1,8 @@
 -- Tokens one behind the other.
-use Rattle.std.proofs.Common.{◌≡◌, ℕ, List, [], ◌∷◌, ◌++◌, map, refl, sym, ap, ◌∙◌, append_assoc, append-nil}
-use Rattle.std.specs.List.{flat_map, fold}
-use Rattle.std.proofs.lemmas.List.Sums.{fold-append}
+use Rattle.std.proofs.Common.{◌≡◌, ℕ, List, [], ◌∷◌, ◌++◌, map, refl, ap, ◌∙◌}
+use Rattle.std.specs.List.{flat_map}
 use Rattle.launch_text.specs.Printed.{token_text, with_tokens, with_word}
-use Rattle.launch_text.specs.Tokens.{Token, opens, closes, chain_tokens, node_tokens, linked, part_step, part_tokens, tree_step, tree_tokens}
-use Rattle.launch_text.specs.declared.tree.Node.{Node}
+use Rattle.launch_text.specs.Tokens.{Token, opens, closes, chain_tokens, part_step, part_tokens, tree_step, tree_tokens}
 use Rattle.launch_text.specs.declared.tree.Chain.{Chain}
 use Rattle.launch_text.specs.declared.tree.Part.{Part}
 use Rattle.launch_text.specs.declared.tree.Part.TheVariants.{Chain as Links, Bin}

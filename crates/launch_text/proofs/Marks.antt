@@ -1,6 +1,5 @@
 -- Characters of a text, with and without a backslash before them.
-use Rattle.std.proofs.Common.{◌≡◌, ◌≢◌, ℕ, zero, suc, ◌<◌, ◌≤◌, ◌+◌, Bool, true, false, cond, eqb, ◌||◌, List, [], ◌∷◌, ◌++◌, length, get_or, inl, inr, refl, sym, ap, ◌∙◌, subst, arith, append_assoc, append-nil, length-append}
-use Rattle.std.specs.List.{flat_map}
+use Rattle.std.proofs.Common.{◌≡◌, ◌≢◌, ℕ, suc, ◌<◌, ◌≤◌, true, false, eqb, List, [], ◌∷◌, ◌++◌, length, get_or, inl, inr, refl, sym, ap, ◌∙◌, subst, arith, append_assoc, append-nil, length-append}
 use Rattle.std.specs.Char.{encode_utf8}
 use Rattle.std.proofs.lemmas.Bool.{cases_lt}
 use Rattle.std.proofs.lemmas.Bool.Decides.{eqb_tells}
@@ -16,8 +15,9 @@ AllHigh xs = (k : ℕ) → k < length xs → 128 ≤ get_or xs k 0
 
 pub encode_high : (c : ℕ) → 128 ≤ c → AllHigh (encode_utf8 c)
 encode_high c big k below = elim (cases_lt (get_or (encode_utf8 c) k 0) 128) [
-  inl low ↦ absurd (omega (arith, inside_one c [] (encode_utf8 c) k (sym (append-nil _)) below low, big))
-  | inr h ↦ h ]
+  | inl low ↦ absurd (omega (arith, inside_one c [] (encode_utf8 c) k (sym (append-nil _)) below low, big))
+  | inr h ↦ h
+]
 
 pub high_tail : (x : ℕ) (xs : List ℕ) → AllHigh (x ∷ xs) → AllHigh xs
 high_tail x xs h k below = h (suc k) (omega (arith, below))
@@ -39,16 +39,18 @@ marks_high m (x ∷ xs) h = rw (high_unmarked m x (high_head x xs h)) (ap (λ l.
 -- a character that has a backslash before it, and one that has none
 pub marked_one : (m : Marked) (c : ℕ) → is_marked m c ≡ true → with_marks m (encode_utf8 c) ≡ 92 ∷ encode_utf8 c
 marked_one m c h = elim (cases_lt c 128) [
-  inl small ↦ rw (encode_ascii c small) (rw h refl)
-  | inr big ↦ absurd (differ (sym h ∙ high_unmarked m c big)) ]
+  | inl small ↦ rw (encode_ascii c small) (rw h refl)
+  | inr big ↦ absurd (differ (sym h ∙ high_unmarked m c big))
+]
   where
     differ : true ≡ false → ⊥
     differ e = cc
 
 pub unmarked_one : (m : Marked) (c : ℕ) → is_marked m c ≡ false → with_marks m (encode_utf8 c) ≡ encode_utf8 c
 unmarked_one m c h = elim (cases_lt c 128) [
-  inl small ↦ rw (encode_ascii c small) (rw h refl)
-  | inr big ↦ marks_high m (encode_utf8 c) (encode_high c big) ]
+  | inl small ↦ rw (encode_ascii c small) (rw h refl)
+  | inr big ↦ marks_high m (encode_utf8 c) (encode_high c big)
+]
 
 pub marks-append : (m : Marked) (xs ys : List ℕ) → with_marks m (xs ++ ys) ≡ with_marks m xs ++ with_marks m ys
 marks-append m xs ys = flat_map-append (mark m) xs ys

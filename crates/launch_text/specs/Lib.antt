@@ -3,4 +3,3 @@ pub mod Tokens
 pub mod Printed
 pub mod Words
 pub mod Grammar
-pub mod State

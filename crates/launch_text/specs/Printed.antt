@@ -2,7 +2,7 @@
 use Rattle.std.specs.Prelude.{ℕ, Bool, cond, ◌==◌, ◌||◌, List, [], ◌∷◌, ◌++◌, Option, Some, None, codes, length, map}
 use Rattle.std.specs.List.{flat_map, fold}
 use Rattle.launch_text.specs.Bytes.{is_white}
-use Rattle.launch_text.specs.Tokens.{Token, opens, closes, link, kind, property, caps, reference, node_tokens, part_tokens, tree_tokens}
+use Rattle.launch_text.specs.Tokens.{Token, opens, closes, link, kind, property, caps, reference, tree_tokens}
 use Rattle.launch_text.specs.declared.printing.Marked.{Marked}
 use Rattle.launch_text.specs.declared.printing.Marked.TheVariants.{Value, Caps}
 use Rattle.launch_text.specs.declared.tree.Tree.{Tree}

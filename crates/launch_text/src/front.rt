@@ -44,7 +44,8 @@ fn name_front(word: &str) -> usize {
     }
     match word.split_once('.') {
         Some((before, pad)) if before.len() == name => {
-            name.saturating_add(1).saturating_add(run_length(Class::Name, pad))
+            name.saturating_add(1)
+                .saturating_add(run_length(Class::Name, pad))
         }
         _ => name,
     }

@@ -1,4 +1,8 @@
 //! What is whole of a line.
+ghost use Rattle.std.specs.Prelude.{◌≡◌, ◌++◌, ◌∷◌, ◌<◌, [], List as Members, length, OnOk};
+ghost use Rattle.launch_text.specs.declared.tree.Part.{Part as PartOf};
+ghost use Rattle.launch_text.specs.declared.tree.Part.TheVariants.{Bin, Chain as Links};
+
 use crate::fault::Refusal;
 use crate::tree::{Chain, Node, Part, Tree};
 use gst_caps::List;
@@ -21,7 +25,11 @@ pub(crate) struct Parts {
 
 impl Parts {
     /// Nothing.
-    pub(crate) fn new(alloc: Global) -> Parts {
+    pub(crate) fn new(alloc: Global) -> Parts
+        ensures outer { result.outer.items ≡ [] }
+        ensures parts { result.parts ≡ [] }
+        ensures nodes { result.nodes ≡ [] }
+    {
         Parts {
             outer: Vec::new(alloc),
             parts: List::new(alloc),
@@ -30,7 +38,11 @@ impl Parts {
     }
 
     /// Ends the chain with this node.
-    pub(crate) fn end_chain(&mut self, alloc: Global, last: Node) -> Result<(), Refusal> {
+    pub(crate) fn end_chain(&mut self, alloc: Global, last: Node) -> Result<(), Refusal>
+        ensures outer { OnOk result (self.new.outer.items ≡ self.old.outer.items) }
+        ensures parts { OnOk result (self.new.parts ≡ self.old.parts ++ Links (record { nodes = self.old.nodes ++ last ∷ [] }) ∷ []) }
+        ensures nodes { OnOk result (self.new.nodes ≡ []) }
+    {
         let mut nodes = mem::replace(&mut self.nodes, List::new(alloc));
         nodes.push(alloc, last)?;
         self.parts.push(alloc, Part::Chain(Chain { nodes }))?;
@@ -38,7 +50,12 @@ impl Parts {
     }
 
     /// Opens a bracket.
-    pub(crate) fn open(&mut self, alloc: Global) -> Result<(), Refusal> {
+    pub(crate) fn open(&mut self, alloc: Global) -> Result<(), Refusal>
+        ensures room { OnOk result (length self.old.outer.items < 16) }
+        ensures outer { OnOk result (self.new.outer.items ≡ self.old.outer.items ++ self.old.parts ∷ []) }
+        ensures parts { OnOk result (self.new.parts ≡ []) }
+        ensures nodes { OnOk result (self.new.nodes ≡ self.old.nodes) }
+    {
         if self.outer.len() >= DEEPEST {
             return Err(Refusal::Stuck);
         }
@@ -48,7 +65,10 @@ impl Parts {
     }
 
     /// Closes the last open bracket.
-    pub(crate) fn close(&mut self, alloc: Global) -> Result<(), Refusal> {
+    pub(crate) fn close(&mut self, alloc: Global) -> Result<(), Refusal>
+        ensures parts { OnOk result ((before : Members PartOf) × (self.old.outer.items ≡ self.new.outer.items ++ before ∷ []) × (self.new.parts ≡ before ++ Bin (record { parts = self.old.parts }) ∷ [])) }
+        ensures nodes { OnOk result (self.new.nodes ≡ self.old.nodes) }
+    {
         let Some(before) = self.outer.pop() else {
             return Err(Refusal::Stuck);
         };

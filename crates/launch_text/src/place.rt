@@ -51,7 +51,8 @@ impl Stop<'_> {
     }
 
     fn is_unclosed(&self, front: usize) -> bool {
-        self.place.saturating_add(front) == self.line.len() && (self.depth > 0 || !is_closed(self.word))
+        self.place.saturating_add(front) == self.line.len()
+            && (self.depth > 0 || !is_closed(self.word))
     }
 
     fn is_bad_reference(&self) -> bool {

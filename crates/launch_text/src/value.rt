@@ -13,7 +13,12 @@ use gst_caps::Text;
 use std::alloc::Global;
 
 /// Puts what a character of a word adds to a value or to caps.
-fn put_kept(into: &mut String, marked: Marked, escaped: bool, character: char) -> Result<(), Refusal>
+fn put_kept(
+    into: &mut String,
+    marked: Marked,
+    escaped: bool,
+    character: char,
+) -> Result<(), Refusal>
     ensures { OnOk result (string_bytes into.new ≡ string_bytes into.old ++ kept marked escaped character (encode_utf8 character)) }
 {
     match marked {

@@ -1,5 +1,5 @@
 -- A character is passed.
-use Rattle.launch_text.proofs.Marks.{marks_step, shorter_by}
+use Rattle.launch_text.proofs.Marks.{shorter_by}
 use Rattle.launch_text.proofs.printing.put_marked.Goals as goal
 
 pub loop-character-smaller : goal.loop-character-smaller

@@ -1,6 +1,6 @@
 -- White space is ASCII, so the text may be cut behind it.
-use Rattle.std.proofs.Common.{◌≡◌, ◌≤◌, ◌++◌, ◌∙◌, length, drop, true, sym, ap, subst, arith}
-use Rattle.std.specs.List.{take_while, list_all}
+use Rattle.std.proofs.Common.{◌≡◌, ◌++◌, ◌∙◌, length, drop, sym, ap, arith}
+use Rattle.std.specs.List.{take_while}
 use Rattle.launch_text.specs.Bytes.{is_white}
 use Rattle.launch_text.specs.Words.{is_start}
 use Rattle.launch_text.proofs.Cutting.{behind_start, front_white, white_boundary}
@@ -17,4 +17,5 @@ returns c =
     record {
       cut = (f.0, f.1 ∙ ap (λ l. f.0 ++ l) (sym e), f.2);
       start = ap is_start e ∙ behind_start x;
-      within = omega (arith, c.split_at.ensures.back_len) }
+      within = omega (arith, c.split_at.ensures.back_len);
+    }

@@ -1,6 +1,6 @@
 -- A word ends at white space, which is ASCII, or at the text's end.
-use Rattle.std.proofs.Common.{◌≡◌, ◌<◌, ◌++◌, ◌∙◌, length, drop, take, true, sym, ap, subst, arith}
-use Rattle.launch_text.specs.Words.{ends, is_word, is_start, plain, word_length}
+use Rattle.std.proofs.Common.{◌≡◌, ◌<◌, ◌++◌, ◌∙◌, length, drop, take, sym, ap, subst}
+use Rattle.launch_text.specs.Words.{ends, is_word, plain, word_length}
 use Rattle.launch_text.proofs.Cutting.{ends_behind, one_word, positive, shorter, two_parts, word_boundary}
 use Rattle.launch_text.proofs.word.split_word.Goals as goal
 
@@ -17,4 +17,5 @@ returns c =
       cut = two_parts x (word_length plain x) ∙ sym (ap (λ l. l ++ c.split_at.result.1.now) front ∙ ap (λ l. take (word_length plain x) x ++ l) back);
       word = ap is_word front ∙ one_word x c.requires.start some;
       shorter = subst (λ l. length l < length x) (sym back) (shorter x c.requires.start some);
-      ended = ap ends back ∙ ends_behind plain x }
+      ended = ap ends back ∙ ends_behind plain x;
+    }
