@@ -1,0 +1,5 @@
+mod Marks
+mod Lines
+mod Kept
+mod Cutting
+mod Rows

@@ -1,0 +1,5 @@
+pub mod Bytes
+pub mod Tokens
+pub mod Printed
+pub mod Words
+pub mod Grammar

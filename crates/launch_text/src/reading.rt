@@ -1,0 +1,72 @@
+//! Reads a line.
+ghost use Rattle.std.specs.Prelude.{◌≡◌, ◌<◌, ◌≤◌, length, Err, OnOk};
+ghost use Rattle.launch_text.specs.declared.fault.LineFault.TheVariants.{BadLine};
+ghost use Rattle.launch_text.specs.declared.fault.LineKind.TheVariants.{TooLong};
+
+use crate::fault::{LineFault, LineKind, Refusal};
+use crate::front::spot_of;
+use crate::line::{Last, end_line, read_word};
+use crate::parts::Parts;
+use crate::place::Stop;
+use crate::tree::Tree;
+use crate::word::{behind_white, split_word};
+use std::alloc::Global;
+
+/// The longest line, in bytes.
+const LONGEST: usize = 65_536;
+
+/// The fault of a line that is refused at its stop.
+fn fault_at(refusal: Refusal, stop: &Stop<'_>) -> LineFault {
+    match refusal {
+        Refusal::Stuck => stop.fault(),
+        Refusal::OutOfMemory => LineFault::OutOfMemory,
+    }
+}
+
+/// Reads a line of a length that is allowed.
+fn read_line(alloc: Global, line: &str) -> Result<Tree, LineFault> {
+    let mut parts = Parts::new(alloc);
+    let mut last = Last::Start;
+    let mut rest = behind_white(line);
+    while !rest.is_empty() {
+        let (word, behind) = split_word(rest);
+        let stop = Stop {
+            line,
+            place: line.len().saturating_sub(rest.len()),
+            word,
+            spot: spot_of(&last),
+            depth: parts.outer.len(),
+        };
+        last = match read_word(&mut parts, alloc, last, word) {
+            Ok(next) => next,
+            Err(refusal) => return Err(fault_at(refusal, &stop)),
+        };
+        rest = behind_white(behind);
+    }
+    let stop = Stop {
+        line,
+        place: line.len(),
+        word: rest,
+        spot: spot_of(&last),
+        depth: parts.outer.len(),
+    };
+    match end_line(parts, alloc, last) {
+        Ok(tree) => Ok(tree),
+        Err(refusal) => Err(fault_at(refusal, &stop)),
+    }
+}
+
+/// The tree for which the text stands, as `filesrc location=a ! identity ! filesink location=b`. A line has at most
+/// 65,536 bytes, and brackets are at most 16 deep.
+pub fn parse(alloc: Global, text: &str) -> Result<Tree, LineFault>
+    ensures long { 65536 < length text.now → result ≡ Err (BadLine 65536 TooLong) }
+    ensures short { OnOk result (length text.now ≤ 65536) }
+{
+    if text.len() > LONGEST {
+        return Err(LineFault::BadLine {
+            place: 65_536,
+            kind: LineKind::TooLong,
+        });
+    }
+    read_line(alloc, text)
+}
