@@ -1,11 +1,15 @@
 -- For which fed and put-out lists an identity stands.
-use Rattle.std.specs.Prelude.{◌≡◌, List}
+use Rattle.std.specs.Prelude.{◌≡◌, Bool, List}
 use Rattle.flow_model.specs.Item.{Item}
 use Rattle.flow_model.specs.Section.{counted}
 use Rattle.flow_model.specs.Call.{Call, items}
 use Rattle.flow_model.specs.Rule.{unfed, all_called, owed_for, passes}
 use Rattle.flow_model.specs.Feeding.{has_eos}
 use Rattle.el_basic.specs.declared.identity.Identity.{Identity}
+
+-- whether EOS was fed since the last FLUSH_STOP
+abbrev pub has_ended : Identity → Bool
+has_ended identity = identity.ended
 
 -- It was given the calls, and put out what is owed for them, each FLUSH_STOP at its place: all that counts of
 -- what was fed. It knows whether EOS was fed since the last FLUSH_STOP.

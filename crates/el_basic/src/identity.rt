@@ -4,7 +4,7 @@ ghost use Rattle.flow_model.specs.Item.{Item, Ev, FlushStop, is_flush_stop};
 ghost use Rattle.flow_model.specs.Call.{Call, Feed, Act, Drain};
 ghost use Rattle.flow_model.specs.Rule.{passes};
 ghost use Rattle.flow_model.specs.Feeding.{flow_behind, passed, on_pad, next_owed, IsFaultOf};
-ghost use Rattle.el_basic.specs.Passed.{Passed};
+ghost use Rattle.el_basic.specs.Passed.{Passed, has_ended};
 
 use crate::put_out::{is_end, put_out};
 use gst_caps::OutOfMemory;
@@ -20,7 +20,8 @@ pub struct Identity {
 impl Identity {
     /// An element that was fed nothing yet.
     pub fn new() -> Identity
-        ensures { Passed result [] [] }
+        ensures passed { Passed result [] [] }
+        ensures open { has_ended result ≡ false }
     {
         Identity { ended: false }
     }

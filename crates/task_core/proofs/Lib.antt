@@ -5,3 +5,4 @@ pub mod Keeping
 pub mod Parts
 pub mod Rooms
 pub mod Steps
+pub mod Through

@@ -2,6 +2,7 @@ pub mod Head
 pub mod Inlets
 pub mod Pads
 pub mod Part
+pub mod Passing
 pub mod Pending
 pub mod Room
 pub mod Step

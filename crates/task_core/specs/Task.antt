@@ -20,6 +20,7 @@ use Rattle.task_core.specs.declared.tail.Tail.{Tail}
 use Rattle.task_core.specs.Head.{HeadLists, HeadGave, HeadIn, head_faults, head_place, head_number, head_id, head_location, head_content}
 use Rattle.task_core.specs.Tail.{TailHas, TailPart, TailOf, tail_faults, tail_place, tail_number, tail_id, tail_location, tail_limit}
 use Rattle.task_core.specs.Pads.{CountsAll, room_left}
+use Rattle.task_core.specs.Passing.{PassedAll, IsOpen, elements_of}
 
 -- the most items that cross a pad
 abbrev pub most_items : ℕ
@@ -43,6 +44,8 @@ pub record Holds {S K I O : Type 0} (content : S → Option (List ℕ)) (bytes :
   pub held : l.head.given ≡ l.done ++ waiting hand
   pub counted : CountsAll task.pads.items (ahead hand) l.head.given l.done
   pub tail : TailHas bytes sent task.tail l.done
+  pub passed : PassedAll (elements_of task.passing) (ahead hand) l.head.given l.done
+  pub begun : IsOpen hand l.done
 
 -- the same of the item that waits in the task
 abbrev pub Stands : {S K I O : Type 0} → (S → Option (List ℕ)) → (K → Option (List ℕ)) → (I → List Item → Type 0) → (O → List Item → Type 0) → Task S K I O → TaskLists → Type 0
@@ -120,10 +123,11 @@ pub record Goes {S K I O : Type 0} (content : S → Option (List ℕ)) (bytes : 
   pub rests : step ≢ Moved → (got ≡ l.head.got) × (given ≡ l.head.given) × (done ≡ l.done) × (tells' ≡ tells)
   pub why : IsWhy task inlet outlet limit tells' got done step
 
--- a task after a fault
+-- A task after a fault. Where there was no memory for an item in hand, that item is given up.
 abbrev pub AtFault : {S K I O : Type 0} → (S → Option (List ℕ)) → (K → Option (List ℕ)) → (I → List Item → Type 0) → (O → List Item → Type 0) → Task S K I O → TaskLists → TaskFault → Type 0
 AtFault content bytes received sent task l (WriteFault element before after) = Unwritten content bytes received task l
 AtFault content bytes received sent task l (TooLong element a b) = Stands content bytes received sent task l × AtLimit task l element
+AtFault content bytes received sent task l OutOfMemory = Stands content bytes received sent task l ⊎ ((hand : Pending) × (task.pending ≡ None) × Holds content bytes received sent task (Some hand) l)
 AtFault content bytes received sent task l _ = Stands content bytes received sent task l
 
 -- the cause of a fault: the count of the source or of the sink rose, and the fault names both counts

@@ -1,18 +1,25 @@
 //! Room for tasks.
-ghost use Rattle.std.specs.Prelude.{◌≡◌, ◌<◌, All, List, [], ◌∷◌, IfOk, vec_len, map};
+ghost use Rattle.std.specs.Prelude.{◌≡◌, ◌<◌, ◌+◌, All, List, false, [], ◌∷◌, IfOk, vec_len, map};
+ghost use Rattle.el_basic.specs.Passed.{has_ended};
+ghost use Rattle.task_core.specs.Passing.{elements_of, size_of};
 
 use crate::pads::Pad;
+use crate::passing::Passing;
 use crate::task::Elements;
 use gst_caps::OutOfMemory;
 use std::alloc::Global;
 
-/// The memory of a task that is to be made: the counts of its source pads, which nothing crossed.
+/// The memory of a task that is to be made: the counts of its source pads, which nothing crossed, and the elements
+/// behind them, which were fed nothing.
 #[derive(Drop)]
 pub struct Room {
     pub(crate) pads: Vec<Pad>,
+    pub(crate) passing: Passing,
     /// The number of the tail's element.
     pub(crate) last: u32,
     ghost some: { 0 < vec_len pads },
+    ghost sized: { size_of passing + 1 ≡ vec_len pads },
+    ghost fresh: { All (λ one. has_ended one ≡ false) (elements_of passing) },
     ghost unused: { All (λ pad. pad.items ≡ 0) pads.items },
 }
 
@@ -25,8 +32,10 @@ impl Room {
         ensures last { IfOk result (λ room. room_last room ≡ elements.tail) }
     {
         let pads = fresh_pads(alloc, elements.head, &elements.passing)?;
+        let passing = Passing::new(alloc, elements.passing.len())?;
         Ok(Room {
             pads,
+            passing,
             last: elements.tail,
         })
     }

@@ -1,14 +1,16 @@
 //! Tasks.
-ghost use Rattle.std.specs.Prelude.{◌≡◌, ◌≤◌, ◌<◌, ◌+◌, ◌^◌, ℕ, List, [], ◌∷◌, ◌*◌, Some, None, slice_get, OnErr, IfOk, IfErr, vec_len, length, map};
+ghost use Rattle.std.specs.Prelude.{◌≡◌, ◌≤◌, ◌<◌, ◌+◌, ◌^◌, ℕ, List, [], ◌∷◌, ◌*◌, Some, None, slice_get, OnErr, IfOk, IfErr, vec_len, length, map, option_map};
 ghost use Rattle.std.specs.Option.{ForSome};
 ghost use Rattle.task_core.specs.Head.{head_items};
 ghost use Rattle.task_core.specs.Pads.{CountsAll, room_left};
+ghost use Rattle.task_core.specs.Passing.{size_of};
 ghost use Rattle.task_core.specs.Pending.{hand_of};
 ghost use Rattle.flow_model.specs.Item.{Item, is_buffer as buffer_test, is_eos as eos_test};
 
 use crate::fault::TaskFault;
 use crate::head::Head;
 use crate::pads::{MOST_ITEMS, Pad};
+use crate::passing::Passing;
 use crate::pending::Pending;
 use crate::room::Room;
 use crate::step::Step;
@@ -40,6 +42,8 @@ pub struct Task<S, K, I, O> {
     /// How many items the head has given.
     given: u64,
     pads: Vec<Pad>,
+    /// The elements behind the pads but the last.
+    passing: Passing,
     pending: Option<Pending>,
     /// Whether the head has given EOS.
     over: bool,
@@ -47,6 +51,7 @@ pub struct Task<S, K, I, O> {
     /// The number of the tail's element.
     last: u32,
     ghost some: { 0 < vec_len pads },
+    ghost sized: { size_of passing + 1 ≡ vec_len pads },
     ghost within: { ForSome pending (λ p. p.pad < vec_len pads) },
     ghost few: { head_items head ≤ given },
 }
@@ -90,11 +95,16 @@ impl<S: Source, K: Sink, I: Inlet<Out = O>, O: Outlet<Lanes = I::Lanes>> Task<S,
         ensures none { pending_of result ≡ None }
     {
         let given = head.items();
-        let Room { pads, last } = room;
+        let Room {
+            pads,
+            passing,
+            last,
+        } = room;
         Task {
             head,
             given,
             pads,
+            passing,
             pending: None,
             over: false,
             tail,
@@ -138,7 +148,8 @@ impl<S: Source, K: Sink, I: Inlet<Out = O>, O: Outlet<Lanes = I::Lanes>> Task<S,
 
     /// One step: the item that waits crosses its pad, or the head gives its next one.
     ///
-    /// Where it answers a fault other than a `WriteFault` the task is as it was.
+    /// Where it answers a fault other than a `WriteFault` the task is as it was, but that an item for which there was no
+    /// memory is given up.
     pub fn step(&mut self, alloc: Global, lanes: &mut I::Lanes) -> Result<Step, TaskFault>
         requires { IsReady I.place O.place O.limits O.count self.old (O.tells lanes.old) }
         ensures goes { IfOk result (λ step. (l : TaskLists) → Stands S.content K.bytes I.received O.sent self.old l → Goes S.content K.bytes I.received O.sent self.new l step (head_place I.place (head_of self.old)) (tail_place O.place (tail_of self.old)) (tail_limit O.limits (tail_of self.old)) (O.tells lanes.old) (O.tells lanes.new)) }
@@ -153,7 +164,7 @@ impl<S: Source, K: Sink, I: Inlet<Out = O>, O: Outlet<Lanes = I::Lanes>> Task<S,
         ensures tries { IsOneTry result (head_refusals I.refusals (head_of self.old)) (head_refusals I.refusals (head_of self.new)) (tail_refusals O.refusals (tail_of self.old)) (tail_refusals O.refusals (tail_of self.new)) }
     {
         match self.pending.take() {
-            Some(pending) => self.cross(lanes, pending),
+            Some(pending) => self.cross(alloc, lanes, pending),
             None => self.next(alloc, lanes),
         }
     }
@@ -197,7 +208,12 @@ impl<S: Source, K: Sink, I: Inlet<Out = O>, O: Outlet<Lanes = I::Lanes>> Task<S,
     }
 
     /// The item in hand crosses its pad.
-    fn cross(&mut self, lanes: &mut I::Lanes, hand: Pending) -> Result<Step, TaskFault>
+    fn cross(
+        &mut self,
+        alloc: Global,
+        lanes: &mut I::Lanes,
+        hand: Pending,
+    ) -> Result<Step, TaskFault>
         requires ready { IsReady I.place O.place O.limits O.count self.old (O.tells lanes.old) }
         requires none { self.old.pending ≡ None }
         requires within { hand.pad < vec_len self.old.pads }
@@ -221,8 +237,10 @@ impl<S: Source, K: Sink, I: Inlet<Out = O>, O: Outlet<Lanes = I::Lanes>> Task<S,
         if pad + 1 == self.pads.len() {
             return self.send(lanes, pad, item);
         }
-        self.pads[pad].cross(is_buffer(&item));
-        self.pending = Some(Pending { pad: pad + 1, item });
+        let buffer = is_buffer(&item);
+        let next = self.passing.pass(alloc, pad, item)?;
+        self.pads[pad].cross(buffer);
+        self.pending = at_pad(pad + 1, next);
         Ok(Step::Moved)
     }
 
@@ -264,6 +282,16 @@ impl<S: Source, K: Sink, I: Inlet<Out = O>, O: Outlet<Lanes = I::Lanes>> Task<S,
                 after,
             }),
         }
+    }
+}
+
+/// What waits at a pad, where there is something.
+fn at_pad(pad: usize, item: Option<Item>) -> Option<Pending>
+    ensures { result ≡ option_map (hand_of pad) item }
+{
+    match item {
+        Some(item) => Some(Pending { pad, item }),
+        None => None,
     }
 }
 

@@ -2,6 +2,7 @@ use Rattle.std.proofs.Common.{length, sym, ap, ◌∙◌}
 use Rattle.el_src.specs.Gave.{has_eos}
 use Rattle.task_core.proofs.Heads.{begins}
 use Rattle.task_core.proofs.Crossing.{unused_any}
+use Rattle.task_core.proofs.Through.{passed_fresh}
 use Rattle.task_core.proofs.task.Task.begin.Goals as goal
 
 pub returns-clause-stands : goal.returns-clause-stands
@@ -14,4 +15,6 @@ returns-clause-stands g c =
       held = none;
       counted = unused_any c.args.room.pads.items l.given c.args.room.unused;
       tail = tail;
+      passed = passed_fresh _ l.given c.args.room.fresh;
+      begun = tt;
     }

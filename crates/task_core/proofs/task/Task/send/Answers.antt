@@ -6,6 +6,7 @@ use Rattle.task_core.specs.Tail.{tail_count}
 use Rattle.task_core.proofs.Crossing.{counts_over, counts_at, few_done, some_at, never, numbers_kept}
 use Rattle.task_core.proofs.Keeping.{sent_keeps, sent_table, sent_tail_of, sent_head_in, back_tells, back_full, count_of_tail}
 use Rattle.task_core.proofs.Steps.{sent_goes, stays_goes}
+use Rattle.task_core.proofs.Through.{passed_over}
 use Rattle.task_core.proofs.task.Task.send.Goals as goal
 
 pub returns-then-count-ge-MOST_ITEMS-clause-fault : goal.returns-then-count-ge-MOST_ITEMS-clause-fault
@@ -25,7 +26,8 @@ returns-in-Ok-Sent-clause-goes g c =
     let was = counts_at c.args.self.now.pads.items c.args.last l.head.given l.done c.index_mut.result.now h.counted (omega (arith, c.requires.last)) c.index_mut.ensures.value in
     sent_goes {S = g.row.S.Denot} {K = g.row.K.Denot} {I = g.row.I.Denot} {O = g.row.O.Denot} g.S.Source.content g.K.Sink.bytes g.I.Inlet.received g.O.Outlet.sent _ l c.args.item _ _ _ _ _ h.gave h.number h.over h.held
     (counts_over c.args.self.now.pads.items c.args.last c.cross.new.self l.head.given l.done (l.done ++ c.args.item ∷ []) h.counted (omega (arith, c.requires.last)) h.held (c.cross.ensures.counts l.done c.args.item (sym c.is_buffer-buffer.ensures) was))
-    ((rw c.in-Ok-Sent.field-0-is at c.in-Ok-Sent.ensures.sends) l.done h.tail) c.requires.none
+    ((rw c.in-Ok-Sent.field-0-is at c.in-Ok-Sent.ensures.sends) l.done h.tail)
+    (passed_over _ c.args.last l.head.given l.done (l.done ++ c.args.item ∷ []) h.passed (omega (arith, c.requires.last, c.args.self.now.sized)) h.held) c.requires.none
     (sent_keeps g.K.Sink.bytes g.O.Outlet.sent g.O.Outlet.place g.O.Outlet.limits g.O.Outlet.count c.args.self.now.tail c.send.new.self c.args.item _ _ _ l.head.got l.done (rw c.in-Ok-Sent.field-0-is at c.in-Ok-Sent.ensures.moves))
 
 pub returns-in-Ok-Sent-clause-ready : goal.returns-in-Ok-Sent-clause-ready
@@ -41,7 +43,7 @@ returns-in-Ok-Back-clause-goes g c =
     let back = (rw c.in-Ok-Back.field-0-is at c.in-Ok-Back.ensures.sends) l.done h.tail in
     let moves = rw c.in-Ok-Back.field-0-is at c.in-Ok-Back.ensures.moves in
     stays_goes {S = g.row.S.Denot} {K = g.row.K.Denot} {I = g.row.I.Denot} {O = g.row.O.Denot} g.S.Source.content g.K.Sink.bytes g.I.Inlet.received g.O.Outlet.sent _ l (NeedsRoom c.in-Ok-Back.number) _ _ _ _ _
-    (record { gave = h.gave; number = h.number; over = h.over; held = h.held ∙ ap (λ (z : Item). l.done ++ z ∷ []) (sym back.1); counted = h.counted; tail = back.0 })
+    (record { gave = h.gave; number = h.number; over = h.over; held = h.held ∙ ap (λ (z : Item). l.done ++ z ∷ []) (sym back.1); counted = h.counted; tail = back.0; passed = h.passed; begun = h.begun })
     (back_tells g.K.Sink.bytes g.O.Outlet.sent g.O.Outlet.place g.O.Outlet.limits g.O.Outlet.count c.args.self.now.tail c.send.new.self c.args.item _ _ _ _ moves)
     (c.send.ensures.number ∙ (rw c.in-Ok-Back.field-0-is at c.in-Ok-Back.ensures.named), back_full g.K.Sink.bytes g.O.Outlet.sent g.O.Outlet.place g.O.Outlet.limits g.O.Outlet.count c.args.self.now.tail c.send.new.self c.args.item _ _ _ _ l.done moves h.tail, record { hand = hand_of c.args.last c.in-Ok-Back.item; waits = refl; last = c.requires.last })
 
