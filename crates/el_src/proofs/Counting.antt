@@ -1,8 +1,7 @@
 -- Numbers of pieces.
-use Rattle.std.proofs.Common.{◌≡◌, ◌<◌, ◌≤◌, ◌+◌, ◌-◌, ◌*◌, ◌/◌, ◌^◌, ℕ, suc, min, inl, inr, arith, ap, sym, ◌∙◌}
-use Rattle.std.proofs.Math.Nat.{mul-le-mul, mul-le-mul_right, div-mul-le_self, div-eq_of_lt-le}
+use Rattle.std.proofs.Common.{◌≡◌, ◌<◌, ◌≤◌, ◌+◌, ◌-◌, ◌*◌, ◌/◌, ℕ, suc, min, arith}
+use Rattle.std.proofs.Math.Nat.{mul-le-mul_right}
 use Rattle.std.proofs.lemmas.Nat.{le-div, div_below}
-use Rattle.std.proofs.lemmas.Bool.{cases_lt}
 
 one_more : (n k : ℕ) → (k + 1) * n ≡ k * n + n
 one_more n k = grind arith

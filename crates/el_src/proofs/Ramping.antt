@@ -1,19 +1,16 @@
 -- The pieces of a ramp from a frame on, one piece at a time.
-use Rattle.std.proofs.Common.{◌≡◌, ◌<◌, ◌≤◌, ◌+◌, ◌-◌, ◌*◌, ◌/◌, ℕ, zero, suc, min, List, [], ◌∷◌, ◌++◌, map, refl, arith, ap, sym, ◌∙◌}
+use Rattle.std.proofs.Common.{◌≡◌, ◌<◌, ◌≤◌, ◌+◌, ◌-◌, ◌*◌, ℕ, zero, suc, [], ◌∷◌, ◌++◌, map, refl, arith, ap, sym, ◌∙◌}
 use Rattle.std.specs.List.{range_with_len}
 use Rattle.std.proofs.Math.Nat.{zero-div}
 use Rattle.audio_info.specs.Media.{caps_of}
 use Rattle.audio_info.specs.declared.sample.Sample.TheVariants.{S16LE}
 use Rattle.flow_model.specs.Item.{Item, Ev, StreamStart, NewCaps, NewSegment, Eos}
-use Rattle.flow_model.specs.Prefix.{IsPrefix}
-use Rattle.flow_model.proofs.Prefixes.{prefix_by}
 use Rattle.el_src.proofs.Counting.{pieces_more, pieces_none, pieces_whole, piece_whole}
 use Rattle.el_src.specs.declared.ramp_src.Ramp.{Ramp}
-use Rattle.el_src.specs.declared.ramp_src.RampSrc.{RampSrc}
 use Rattle.el_src.specs.declared.ramp_src.Phase.{Phase}
 use Rattle.el_src.specs.declared.ramp_src.Phase.TheVariants.{Start as AtStart, Pieces as InPieces}
-use Rattle.el_src.specs.Ramp.{frame_time, frame_count, piece, piece_count, piece_at, pieces_from, time_segment, title_tag, ramp_list}
-use Rattle.el_src.specs.RampGave.{RampGave, ramp_to_come}
+use Rattle.el_src.specs.Ramp.{frame_count, piece, piece_count, piece_at, pieces_from, time_segment, title_tag, ramp_list}
+use Rattle.el_src.specs.RampGave.{ramp_to_come}
 
 pub pieces_one : (s : Ramp) (start k : ℕ) → 1 ≤ s.samples → start + k * s.samples < frame_count s → pieces_from s start k ≡ piece_at s start k ∷ pieces_from s start (k + 1)
 pieces_one s start k some before =
@@ -57,7 +54,3 @@ due_piece phase s id start k x some is before made =
 pub due_end : (phase : Phase) (s : Ramp) (id start k : ℕ) → 1 ≤ s.samples → ramp_to_come phase s id start k ≡ pieces_from s start k ++ Ev Eos ∷ []
     → frame_count s ≤ start + k * s.samples → ramp_to_come phase s id start k ≡ Ev Eos ∷ []
 due_end phase s id start k some is behind = is ∙ ap (λ xs. xs ++ Ev Eos ∷ []) (pieces_end s start k some behind)
-
--- what was given begins what is owed
-pub ramp_gave_prefix : (ramp : RampSrc) (owed given : List Item) → RampGave ramp owed given → IsPrefix given owed
-ramp_gave_prefix ramp owed given gave = prefix_by given (ramp_to_come ramp.phase ramp.settings ramp.id ramp.start ramp.given) gave.whole

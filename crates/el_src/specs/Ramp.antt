@@ -1,5 +1,5 @@
 -- The list of a ramp source: what is owed to the pad of a ramptestsrc.
-use Rattle.std.specs.Prelude.{◌≤◌, ℕ, ◌+◌, ◌-◌, ◌*◌, ◌/◌, ◌%◌, ◌^◌, ◌==◌, ◌&&◌, nat_lt, min, Bool, true, false, if◌then◌else◌, ℤ, List, [], ◌∷◌, ◌++◌, map, Option, Some, None}
+use Rattle.std.specs.Prelude.{ℕ, ◌+◌, ◌-◌, ◌*◌, ◌/◌, ◌%◌, ◌^◌, ◌==◌, ◌&&◌, nat_lt, min, Bool, false, if◌then◌else◌, ℤ, List, [], ◌∷◌, ◌++◌, map, Option, Some, None}
 use Rattle.std.specs.List.{range_with_len, flat_map, repeat}
 use Rattle.byteorder.specs.Endian.{twos_complement}
 use Rattle.audio_info.specs.Media.{caps_of}
@@ -42,7 +42,7 @@ frames_buffer s first count = Buf (record {
 abbrev pub frames_gap : Ramp → ℕ → ℕ → Item
 frames_gap s first count = Ev (Gap (frame_time s.rate first) (frames_time s.rate first count))
 
--- whether piece k is a gap: each piece of a number is, where that is not 0
+-- whether piece k is a gap: the last of each so many is, where that number is not 0
 abbrev pub is_gap : Ramp → ℕ → Bool
 is_gap s k = nat_lt 0 s.gap_every && ((k + 1) % s.gap_every == 0)
 

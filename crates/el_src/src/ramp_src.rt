@@ -17,14 +17,15 @@ const SECOND: u64 = 1_000_000_000;
 /// How a ramp source is set.
 #[derive(Drop)]
 pub struct Ramp {
-    /// How many buffers it gives, gaps among them.
+    /// How many buffers it gives, gaps among them: up to 1,000,000.
     pub buffers: u32,
-    /// The frames of a buffer.
+    /// The frames of a buffer, from 1 to 65,536.
     pub samples: u32,
-    /// Frames a second.
+    /// Frames a second, from 1 to 768,000.
     pub rate: u32,
+    /// From 1 to 64.
     pub channels: u32,
-    /// Each buffer of this number is a gap; none is where it is 0.
+    /// The last of each so many buffers is a gap, up to 1,000,000; where it is 0 there are none.
     pub gap_every: u32,
     /// What the stream is called.
     pub title: Option<Text>,
@@ -43,7 +44,8 @@ enum Phase {
 }
 
 /// Gives STREAM_START, CAPS of samples of 16 bits, a SEGMENT in time, TAG where there is a title, buffers and gaps
-/// of a number of frames, and EOS. Each frame has the low 16 bits of its number on every channel.
+/// of a number of frames, with their times in nanoseconds and their first frame as offset, and EOS. Each frame has
+/// the low 16 bits of its number on every channel, the lower byte first.
 #[derive(Drop)]
 pub struct RampSrc {
     settings: Ramp,
