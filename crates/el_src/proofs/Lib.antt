@@ -1,3 +1,6 @@
 pub mod Blocks
+mod Counting
 pub mod Filling
 pub mod Giving
+pub mod Ramping
+mod Samples

@@ -1,2 +1,4 @@
 pub mod Cause
 pub mod Gave
+pub mod Ramp
+pub mod RampGave

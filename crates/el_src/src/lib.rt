@@ -5,9 +5,14 @@ pub mod answer;
 mod block;
 pub mod fault;
 pub mod file_src;
+mod frames;
+pub mod ramp_src;
+#[cfg(test)]
+mod ramp_tests;
 #[cfg(test)]
 mod tests;
 
 pub use answer::Next;
 pub use fault::{SizeFault, SrcFault};
 pub use file_src::FileSrc;
+pub use ramp_src::{Ramp, RampSrc};
