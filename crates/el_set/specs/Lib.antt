@@ -1,0 +1,5 @@
+pub mod Kinds
+pub mod Rows
+pub mod Numbers
+pub mod Values
+pub mod Checked

@@ -1,0 +1,16 @@
+//! The elements with their properties: what a launch line sets an element to, and what its pads take.
+#![tactic(auto)]
+
+mod checking;
+mod domain;
+mod fault;
+mod kind;
+mod number;
+mod settings;
+mod values;
+
+pub use checking::check;
+pub use fault::PropFault;
+pub use settings::{
+    CapsFilterSettings, FileSinkSettings, FileSrcSettings, QueueSettings, Settings,
+};
