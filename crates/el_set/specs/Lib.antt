@@ -3,3 +3,4 @@ pub mod Rows
 pub mod Numbers
 pub mod Values
 pub mod Checked
+pub mod Asked

@@ -7,10 +7,12 @@ mod fault;
 mod kind;
 mod number;
 mod settings;
+mod templates;
 mod values;
 
 pub use checking::check;
 pub use fault::PropFault;
+pub use templates::template;
 pub use settings::{
     CapsFilterSettings, FileSinkSettings, FileSrcSettings, QueueSettings, Settings,
 };
