@@ -12,7 +12,10 @@ mod values;
 
 pub use checking::check;
 pub use fault::PropFault;
-pub use templates::template;
 pub use settings::{
     CapsFilterSettings, FileSinkSettings, FileSrcSettings, QueueSettings, Settings,
 };
+pub use templates::template;
+
+#[cfg(test)]
+mod tests;
