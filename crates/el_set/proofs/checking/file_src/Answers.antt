@@ -1,0 +1,10 @@
+use Rattle.std.proofs.Common.{refl, codes, lit<}
+use Rattle.el_set.specs.declared.kind.Kind.TheVariants.{FileSrc}
+use Rattle.el_set.proofs.Given.{number_is}
+use Rattle.el_set.proofs.checking.file_src.Goals as goal
+
+pub returns : goal.returns
+returns c = (
+  c.in_ok-location.ensures.given,
+  number_is FileSrc (codes "blocksize") 1 1048576 4294967296 4096 c.args.props.now _ refl (lit< tt) c.requires c.short_number_or.ensures,
+)

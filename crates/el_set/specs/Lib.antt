@@ -1,0 +1,6 @@
+pub mod Kinds
+pub mod Rows
+pub mod Numbers
+pub mod Values
+pub mod Checked
+pub mod Asked

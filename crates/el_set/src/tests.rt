@@ -1,0 +1,155 @@
+//! Rows of properties.
+use super::*;
+use gst_caps::{Caps, List, Prop, Text};
+use std::alloc::Global;
+use std::test::Fail;
+
+/// A property from a word such as `blocksize=16`.
+fn prop_of(alloc: Global, word: &str) -> Result<Prop, Fail> {
+    let (name, value) = word.split_once('=').unwrap_or((word, ""));
+    Ok(Prop {
+        name: Text::from_str(alloc, name)?,
+        value: Text::from_str(alloc, value)?,
+    })
+}
+
+/// What the words of an element set it to, or why they are refused.
+fn checked(alloc: Global, words: &str) -> Result<Result<Settings, PropFault>, Fail> {
+    let (kind, rest) = words.split_once(' ').unwrap_or((words, ""));
+    let mut props = List::new(alloc);
+    for word in rest.split(' ') {
+        if !word.is_empty() {
+            props.push(alloc, prop_of(alloc, word)?)?;
+        }
+    }
+    Ok(check(alloc, kind, &props))
+}
+
+fn shown(alloc: Global, settings: &Settings) -> Result<String, Fail> {
+    match settings {
+        Settings::FileSrc(s) => {
+            Ok(format!(in alloc; "filesrc {} {}", s.location.as_str(), s.blocksize)?)
+        }
+        Settings::Identity => Ok(String::from_str(alloc, "identity")?),
+        Settings::CapsFilter(s) => {
+            let caps = caps_text::print(alloc, &s.caps)?;
+            Ok(format!(in alloc; "capsfilter {}", caps.as_str())?)
+        }
+        Settings::Queue(s) => Ok(format!(in alloc; "queue {} {} {}", s.buffers, s.bytes, s.time)?),
+        Settings::FileSink(s) => {
+            Ok(format!(in alloc; "filesink {} {}", s.location.as_str(), s.keep_flushed)?)
+        }
+        Settings::FakeSink => Ok(String::from_str(alloc, "fakesink")?),
+    }
+}
+
+fn answer_of(alloc: Global, words: &str) -> Result<String, Fail> {
+    match checked(alloc, words)? {
+        Ok(settings) => shown(alloc, &settings.copy(alloc)?),
+        Err(PropFault::NoSuchKind) => Ok(String::from_str(alloc, "NoSuchKind")?),
+        Err(PropFault::NoSuchProperty { name }) => {
+            Ok(format!(in alloc; "NoSuchProperty {}", name.as_str())?)
+        }
+        Err(PropFault::BadValue { name }) => Ok(format!(in alloc; "BadValue {}", name.as_str())?),
+        Err(PropFault::OutOfMemory) => Ok(String::from_str(alloc, "OutOfMemory")?),
+    }
+}
+
+#[test]
+fn rows_of_properties(rt: HostRuntime) -> Result<(), Fail> {
+    let alloc = rt.alloc();
+    let rows = "filesrc location=a: filesrc a 4096
+filesrc location=a blocksize=16 name=f: filesrc a 16
+filesrc location=a blocksize=0: BadValue blocksize
+filesrc blocksize=1048576 location=a: filesrc a 1048576
+filesrc blocksize=1048577 location=a: BadValue blocksize
+filesrc blocksize=00000000000000000016 location=a: filesrc a 16
+filesrc blocksize=000000000000000000016 location=a: BadValue blocksize
+filesrc blocksize=+5 location=a: BadValue blocksize
+filesrc blocksize= location=a: BadValue blocksize
+filesrc: BadValue location
+filesrc blocksize=x: BadValue blocksize
+filesrc size=1 blocksize=x: NoSuchProperty size
+filesrc location=a location=b: filesrc b 4096
+filesrc blocksize=x blocksize=5 location=a: BadValue blocksize
+filesrc location=: filesrc  4096
+identity name=i-1_B: identity
+identity name=a.b: BadValue name
+identity name=: BadValue name
+identity silent=true: NoSuchProperty silent
+capsfilter: capsfilter ANY
+capsfilter caps=EMPTY caps=audio/x-raw,rate=8000: capsfilter audio/x-raw, rate=(int)8000
+capsfilter caps=audio: BadValue caps
+queue: queue 200 10485760 1000000000
+queue max-size-buffers=4294967295 max-size-bytes=0 max-size-time=9223372036854775807 leaky=no: queue 4294967295 0 9223372036854775807
+queue max-size-buffers=4294967296: BadValue max-size-buffers
+queue max-size-bytes=4294967296: BadValue max-size-bytes
+queue max-size-time=9223372036854775808: BadValue max-size-time
+queue leaky=0: queue 200 10485760 1000000000
+queue leaky=upstream: BadValue leaky
+queue leaky=false: BadValue leaky
+filesink location=a: filesink a false
+filesink location=a keep-flushed=yes sync=0: filesink a true
+filesink location=a keep-flushed=true keep-flushed=no: filesink a false
+filesink location=a keep-flushed=2: BadValue keep-flushed
+filesink sync=true location=a: BadValue sync
+filesink keep-flushed=1: BadValue location
+fakesink sync=no: fakesink
+fakesink location=a: NoSuchProperty location
+nosuch location=a: NoSuchKind";
+    for row in rows.lines() {
+        let (words, wanted) = row.split_once(": ").unwrap_or((row, ""));
+        assert_eq!(rt; answer_of(alloc, words)?.as_str(), wanted);
+    }
+    Ok(())
+}
+
+/// The pads of an element, and what may be done to it: the numbers of its pads, and letters for source, sink, queue,
+/// replaced, settable caps and location.
+fn asked(alloc: Global, settings: &Settings) -> Result<String, Fail> {
+    let mut text = format!(in alloc; "{}{}", settings.sink_pads(), settings.source_pads())?;
+    let answers = [
+        (settings.is_source(), 's'),
+        (settings.is_sink(), 'k'),
+        (settings.is_queue(), 'q'),
+        (settings.may_be_replaced(), 'r'),
+        (settings.is_settable("caps"), 'c'),
+        (settings.location().is_some(), 'l'),
+    ];
+    for (answer, letter) in answers {
+        if answer {
+            text.push(letter)?;
+        }
+    }
+    Ok(text)
+}
+
+#[test]
+fn rows_of_questions(rt: HostRuntime) -> Result<(), Fail> {
+    let alloc = rt.alloc();
+    let rows = "filesrc location=a: 01sl
+identity: 11r
+capsfilter: 11rc
+queue: 11q
+filesink location=a: 10kl
+fakesink: 10k";
+    for row in rows.lines() {
+        let (words, wanted) = row.split_once(": ").unwrap_or((row, ""));
+        if let Ok(settings) = checked(alloc, words)? {
+            assert_eq!(rt; asked(alloc, &settings)?.as_str(), wanted);
+        }
+    }
+    Ok(())
+}
+
+#[test]
+fn a_template_is_the_filter(rt: HostRuntime) -> Result<(), Fail> {
+    let alloc = rt.alloc();
+    let settings = Settings::CapsFilter(CapsFilterSettings {
+        caps: caps_text::parse(alloc, "audio/x-raw")?,
+    });
+    let filter = template(alloc, &settings, true, 0)?;
+    assert_eq!(rt; caps_text::print(alloc, &filter)?.as_str(), "audio/x-raw");
+    assert!(rt; matches!(template(alloc, &Settings::Identity, false, 0)?, Caps::Any));
+    Ok(())
+}

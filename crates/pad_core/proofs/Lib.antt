@@ -1,0 +1,3 @@
+pub mod Crossed
+pub mod Again
+pub mod Accepted
