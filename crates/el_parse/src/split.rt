@@ -104,9 +104,7 @@ impl Split {
         ensures { (frames : ℕ) (calls : List Call) (put : List Item) (number : ℕ) → Regrouped frames self.old calls put
             → Regrouped frames self.new (calls ++ Feed (Ev (FlushStop number)) ∷ []) (put ++ Ev (FlushStop number) ∷ []) }
     {
-        self.begun = false;
-        self.pts = None;
-        self.next = 0;
+        self.begin();
         self.waiting = Waiting::empty();
         self.got = 0;
         self.reached = 0;
@@ -285,10 +283,19 @@ impl Split {
         ensures fault { IfErr result (λ fault. IsFaultOf (split_answer self.old.frames (come self.old) (Ev (NewSegment segment))) fault) }
     {
         self.put_rest(alloc, Some(Event::Segment(segment)), out)?;
+        self.begin();
+        Ok(())
+    }
+
+    /// Counts frames from 0, and takes its time from the next buffer.
+    fn begin(&mut self)
+        ensures come { come self.new ≡ record (come self.old) { begun = false; pts = None; next = 0 } }
+        ensures frames { self.new.frames ≡ self.old.frames }
+        ensures ended { self.new.ended ≡ self.old.ended }
+    {
         self.begun = false;
         self.pts = None;
         self.next = 0;
-        Ok(())
     }
 
     /// Puts out what waits and EOS.
