@@ -1,3 +1,9 @@
+pub mod Accepted
+pub mod Cutting
+pub mod Grouping
 pub mod Parsing
+pub mod Regrouping
 pub mod Seen
 pub mod Steps
+pub mod Timed
+pub mod Views

@@ -27,7 +27,7 @@ abbrev pub seen_all : Seen → List Item → Seen
 seen_all s [] = s
 seen_all s (x ∷ xs) = seen_all (seen_one s x) xs
 
-has_beginning_push : (h : List Item) (x : Item) → has_beginning (h ++ x ∷ []) ≡ (begins_part x || has_beginning h)
+pub has_beginning_push : (h : List Item) (x : Item) → has_beginning (h ++ x ∷ []) ≡ (begins_part x || has_beginning h)
 has_beginning_push [] x = refl
 has_beginning_push (y ∷ ys) x = rw (has_beginning_push ys x) (go (begins_part y) (begins_part x))
   where
@@ -49,7 +49,7 @@ last_part_push (y ∷ ys) x = rw (has_beginning_push ys x, last_part_push ys x) 
     go false false true = refl
     go false false false = refl
 
-bytes_push : (h : List Item) (x : Item) → bytes_of (h ++ x ∷ []) ≡ bytes_of h ++ body_of x
+pub bytes_push : (h : List Item) (x : Item) → bytes_of (h ++ x ∷ []) ≡ bytes_of h ++ body_of x
 bytes_push [] x = append-nil (body_of x)
 bytes_push (y ∷ ys) x = ap (λ bytes. body_of y ++ bytes) (bytes_push ys x) ∙ sym (append_assoc (body_of y) (bytes_of ys) (body_of x))
 
@@ -60,7 +60,7 @@ part_bytes_push h x = rw (last_part_push h x) (go (begins_part x))
     go true = refl
     go false = bytes_push (last_part h) x
 
-latest_since : (passes : Item → Bool) (h : List Item) (x : Item)
+pub latest_since : (passes : Item → Bool) (h : List Item) (x : Item)
     → latest passes (since_flush_stop (h ++ x ∷ [])) ≡ (if is_flush_stop x then [] else (if passes x then x ∷ [] else latest passes (since_flush_stop h)))
 latest_since passes h x = rw (since_push h x) (go (is_flush_stop x))
   where

@@ -2,10 +2,16 @@
 #![tactic(auto)]
 
 mod cut;
+mod pieces;
 mod put_out;
 pub mod raw_parse;
+pub mod split;
+mod template;
+mod timing;
+mod waiting;
 
 pub use raw_parse::RawParse;
+pub use split::Split;
 
 #[cfg(test)]
 mod rows;

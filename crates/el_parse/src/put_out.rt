@@ -3,7 +3,7 @@ ghost use Rattle.std.specs.Prelude.{◌≡◌, ◌++◌, ◌∷◌, [], OnOk, On
 ghost use Rattle.flow_model.specs.Item.{Ev, NewCaps, NewSegment, is_eos};
 ghost use Rattle.flow_model.specs.Feeding.{on_pad};
 ghost use Rattle.audio_info.specs.Media.{caps_of};
-ghost use Rattle.el_parse.specs.Frames.{time_segment, buffers_of};
+ghost use Rattle.el_parse.specs.Frames.{time_segment, buffers_of, events_of};
 
 use audio_info::Info;
 use gst_caps::OutOfMemory;
@@ -39,6 +39,27 @@ pub(crate) fn put_opening(
     queue.push_back(on_pad(Item::Event(Event::Segment(segment_from(start)))))?;
     if let Some(buffer) = buffer {
         queue.push_back(on_pad(Item::Buffer(buffer)))?;
+    }
+    out.pour(alloc, &mut queue)
+}
+
+/// Puts a buffer and an event out on the only source pad, each where it is there. Where there is no memory nothing
+/// is put out.
+pub(crate) fn put_both(
+    alloc: Global,
+    buffer: Option<Buffer>,
+    event: Option<Event>,
+    out: &mut Outs,
+) -> Result<(), OutOfMemory>
+    ensures ok { OnOk result (out.new ≡ out.old ++ on_pad 0 (buffers_of buffer ++ events_of event)) }
+    ensures err { OnErr result (out.new ≡ out.old) }
+{
+    let mut queue = VecDeque::with_capacity(alloc, 2)?;
+    if let Some(buffer) = buffer {
+        queue.push_back(on_pad(Item::Buffer(buffer)))?;
+    }
+    if let Some(event) = event {
+        queue.push_back(on_pad(Item::Event(event)))?;
     }
     out.pour(alloc, &mut queue)
 }

@@ -2,7 +2,7 @@
 ghost use Rattle.std.specs.Prelude.{◌≡◌, false};
 ghost use Rattle.flow_model.specs.Item.{is_flush_stop};
 
-use audio_info::Info;
+use audio_info::{Info, LARGEST_RATE, Sample};
 use gst_caps::Text;
 use gst_item::{Body, Buffer, ElementFault, Event, Flow, Item, Outs};
 use gst_time::{Format, Segment};
@@ -18,7 +18,8 @@ fn segment_by(format: Format, start: &str) -> Result<Event, Fail> {
     Ok(Event::Segment(segment))
 }
 
-/// `+` and letters are a buffer of these bytes, `bytes=N` and `time=N` are segments.
+/// `+` and letters are a buffer of these bytes, with `@N` behind them one of this time; `bytes=N` and `time=N` are
+/// segments, and `rate=N` are CAPS of this rate.
 pub(crate) fn item_by(alloc: Global, caps: &Info, word: &str) -> Result<Item, Fail> {
     if let Some(letters) = word.strip_prefix('+') {
         let (letters, pts) = match letters.split_once('@') {
@@ -40,6 +41,15 @@ pub(crate) fn item_by(alloc: Global, caps: &Info, word: &str) -> Result<Item, Fa
     if let Some(start) = word.strip_prefix("time=") {
         return Ok(Item::Event(segment_by(Format::Time, start)?));
     }
+    if let Some(rate) = word.strip_prefix("rate=") {
+        let rate = rate.parse().unwrap_or(1).clamp(1, LARGEST_RATE);
+        let other = Info {
+            format: caps.format,
+            rate,
+            channels: caps.channels,
+        };
+        return Ok(Item::Event(Event::Caps(other.to_fixed(alloc)?)));
+    }
     Ok(Item::Event(event_by(alloc, caps, word)?))
 }
 
@@ -47,6 +57,14 @@ fn event_by(alloc: Global, caps: &Info, word: &str) -> Result<Event, Fail> {
     match word {
         "start" => Ok(Event::StreamStart { id: 1 }),
         "caps" => Ok(Event::Caps(caps.to_fixed(alloc)?)),
+        "mulaw" => {
+            let law = Info {
+                format: Sample::MuLaw,
+                rate: caps.rate,
+                channels: caps.channels,
+            };
+            Ok(Event::Caps(law.to_fixed(alloc)?))
+        }
         "tag" => Ok(Event::Tag {
             title: Text::from_str(alloc, "title")?,
         }),

@@ -1,9 +1,9 @@
 //! Rows of calls, with what they answer and put out.
-use crate::RawParse;
 use crate::rows::{is_flush, item_by, tell_answer, tell_out};
+use crate::{RawParse, Split};
 use audio_info::{Info, Sample};
 use gst_caps::List;
-use gst_item::Outs;
+use gst_item::{Body, Buffer, Event, Item, Outs};
 use std::alloc::Global;
 use std::process::Abort;
 use std::test::Fail;
@@ -80,5 +80,108 @@ fn parses(rt: HostRuntime) -> Result<(), Fail> {
     for line in PARSED.lines() {
         check_parser(&rt, alloc, info, line)?;
     }
+    Ok(())
+}
+
+/// Frames of two bytes, 8000 in a second, in buffers of four frames.
+const SPLIT: &str =
+    "start caps time=0 +aa@0 +bb +cc +dd +ee eos -> + + + + + + + + + : start caps time=0 +aabbccdd,0,0,500000 +ee,4,500000,125000 eos
+caps +aa +bb +cc drain +dd -> + + + + - + : caps +aabbcc,0,-,375000
+caps +aabb +ccddee +ffgghhii -> + + + + : caps +aabbccdd,0,-,500000 +eeffgghh,4,-,500000
+caps +aabbccddeeffgghh@7 eos -> + + + : caps +aabbccdd,0,7,500000 +eeffgghh,4,500007,500000 eos
+caps time=0 +aa@1000 +bb@7000000 +cc time=9 +dd@50 +ee@60 eos -> + + + + + + + + + : caps time=0 +aabbcc,0,1000,375000 time=9 +ddee,0,50,250000 eos
+caps time=0 +aa +bb@9 time=0 + +cc@5 eos -> + + + + + + + + : caps time=0 +aabb,0,-,250000 time=0 +cc,0,-,125000 eos
+caps +aabbcc@0 rate=16000 +ddeeff eos -> + + + + + : caps +aabbcc,0,0,375000 caps +ddeeff,3,187500,187500 eos
+caps +aabbcc flush +ddee drain eos -> + + - + - + : caps +ddee,0,-,250000 eos
+caps +aa eos +bb drain flush +cc eos -> + + + . - - + + : caps +aa,0,-,125000 eos +cc,0,-,125000 eos
+caps +aa tag gap +bb eos -> + + + + + + : caps tag gap +aabb,0,-,250000 eos
++aa caps +aa eos -> none + + + : caps +aa,0,-,125000 eos
+caps +aa mulaw +bb eos -> + + other + + : caps +aabb,0,-,250000 eos
+caps +aa +bbb +bb flush +bbb -> + + bad:5 + - bad:3 : caps
+caps +aa@9223372036854775807 eos -> + + + : caps +aa,0,9223372036854775807,125000 eos
+caps +aabbccddee@9223372036854775807 eos time=0 -> + + long:9223372036854775807,500000 long:9223372036854775807,500000 : caps +aabbccdd,0,9223372036854775807,500000
+caps +aabbccddeeffgghh@9223372036854775807 +aa@3 drain -> + long:9223372036854775807,500000 + - : caps +aa,0,3,125000
+";
+
+fn call_split(
+    alloc: Global,
+    split: &mut Split,
+    info: &Info,
+    word: &str,
+    text: &mut String,
+    out: &mut Outs,
+) -> Result<(), Fail> {
+    match word {
+        "flush" => {
+            split.flush();
+            text.push_str("- ")?;
+        }
+        "drain" => {
+            let drained = split.drain(alloc, out).is_ok();
+            text.push_str(if drained { "- " } else { "! " })?;
+        }
+        _ => {
+            let item = item_by(alloc, info, word)?;
+            if !is_flush(&item) {
+                let answer = split.feed(alloc, 0, item, out);
+                tell_answer(text, &answer)?;
+            }
+        }
+    }
+    Ok(())
+}
+
+fn check_split(rt: &impl Abort, alloc: Global, info: &Info, line: &str) -> Result<(), Fail> {
+    let (calls, wanted) = line.split_once(" -> ").ok_or("two sides")?;
+    let mut split = Split::new(4).copy(alloc)?;
+    let mut text = String::new(alloc);
+    let mut out = List::new(alloc);
+    for word in calls.split(' ') {
+        call_split(alloc, &mut split, info, word, &mut text, &mut out)?;
+        split = split.copy(alloc)?;
+    }
+    tell_out(&mut text, &out)?;
+    assert_eq!(rt; text.as_str(), wanted);
+    Ok(())
+}
+
+#[test]
+fn splits(rt: HostRuntime) -> Result<(), Fail> {
+    let alloc = rt.alloc();
+    let info = Info {
+        format: Sample::S16LE,
+        rate: 8000,
+        channels: 1,
+    };
+    for line in SPLIT.lines() {
+        check_split(&rt, alloc, &info, line)?;
+    }
+    Ok(())
+}
+
+/// A buffer of 100 frames in buffers of three: 33 of them, and one frame at the drain.
+#[test]
+fn splits_a_long_buffer(rt: HostRuntime) -> Result<(), Fail> {
+    let alloc = rt.alloc();
+    let info = Info {
+        format: Sample::S16LE,
+        rate: 8000,
+        channels: 1,
+    };
+    let mut split = Split::new(3);
+    let mut out = List::new(alloc);
+    let caps = Item::Event(Event::Caps(info.to_fixed(alloc)?));
+    assert!(rt; split.feed(alloc, 0, caps, &mut out).is_ok());
+    let buffer = Item::Buffer(Buffer {
+        body: Body::from_vec(alloc, vec![in alloc; 0u8; 200]?)?,
+        pts: None,
+        duration: None,
+        offset: None,
+        discont: true,
+    });
+    assert!(rt; split.feed(alloc, 0, buffer, &mut out).is_ok());
+    assert_eq!(rt; out.as_slice().len(), 1 + 33);
+    assert!(rt; split.drain(alloc, &mut out).is_ok());
+    assert_eq!(rt; out.as_slice().len(), 1 + 33 + 1);
     Ok(())
 }

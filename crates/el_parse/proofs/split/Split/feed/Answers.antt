@@ -1,0 +1,17 @@
+use Rattle.std.proofs.Common.{[], sym, append-nil}
+use Rattle.el_parse.specs.Parses.{answered}
+use Rattle.el_parse.specs.Splits.{split_answer}
+use Rattle.el_parse.specs.Regrouped.{come}
+use Rattle.el_parse.proofs.Grouping.{split_item, split_behind}
+use Rattle.el_parse.proofs.split.Split.feed.Goals as goal
+
+pub returns-then-self-clause-fed : goal.returns-then-self-clause-fed
+returns-then-self-clause-fed c = λ frames calls put p.
+    let did = split_behind c.args.self.now c.args.item c.requires.no_flush c.if-self.true frames calls put p in
+    ([], did.0, sym (append-nil c.args.out.now), did.1)
+
+pub returns-clause-fed : goal.returns-clause-fed
+returns-clause-fed c = λ frames calls put p.
+    let by = c.in_ok-split.ensures in
+    let did = split_item c.args.self.now c.split.new.self c.args.item c.requires.no_flush c.if-self.false by.answer by.come by.frames (by.eos c.if-self.false) frames calls put p in
+    (answered (split_answer c.args.self.now.frames (come c.args.self.now) c.args.item), did.0, by.out, did.1)

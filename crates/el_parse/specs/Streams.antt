@@ -1,0 +1,89 @@
+-- Raw audio by the CAPS before it: what its frames are, and how many of them items have.
+use Rattle.std.specs.Prelude.{ℕ, ◌+◌, ◌*◌, ◌/◌, pos, Bool, false, ◌||◌, if◌then◌else◌, List, [], ◌∷◌, length, Option, Some, None, codes, unwrap_or}
+use Rattle.std.specs.Option.{option_map}
+use Rattle.gst_caps.specs.Description.{Description}
+use Rattle.gst_caps.specs.declared.caps.Caps.{Caps}
+use Rattle.gst_caps.specs.declared.caps.Caps.TheVariants.{Of}
+use Rattle.gst_caps.specs.declared.value.One.{One}
+use Rattle.gst_caps.specs.declared.value.One.TheVariants.{Text as Words, IntRange}
+use Rattle.gst_caps.specs.declared.value.Value.{Value}
+use Rattle.gst_caps.specs.declared.value.Value.TheVariants.{One as Single, Many}
+use Rattle.audio_info.specs.Media.{sample_of, rate_of, channels_of}
+use Rattle.audio_info.specs.Packing.{sample_width}
+use Rattle.audio_info.specs.declared.info.Info.{Info}
+use Rattle.flow_model.specs.Item.{Item, Buf, Ev, NewCaps, is_buffer, body_of}
+use Rattle.flow_model.specs.Sticky.{since_flush_stop}
+use Rattle.el_parse.specs.Part.{has_beginning, bytes_of}
+
+-- the whole numbers from 1 to the most
+abbrev pub up_to_most : ℕ → Value
+up_to_most most = Single (IntRange (pos 1) (pos most))
+
+-- the formats of raw audio
+abbrev pub raw_formats : Value
+raw_formats =
+    Many (Words (codes "S8") ∷ Words (codes "U8") ∷ Words (codes "S16LE") ∷ Words (codes "S16BE")
+    ∷ Words (codes "S24LE") ∷ Words (codes "S32LE") ∷ [])
+
+-- raw audio of any format, interleaved, of 1 to 64 channels and a rate of 1 to 768000
+abbrev pub raw_structure : Description Value
+raw_structure = record {
+  media = codes "audio/x-raw";
+  fields = (codes "channels", up_to_most 64) ∷ (codes "format", raw_formats)
+      ∷ (codes "layout", Single (Words (codes "interleaved"))) ∷ (codes "rate", up_to_most 768000) ∷ [];
+}
+
+-- the template of raw audio
+abbrev pub raw_template : Caps
+raw_template = Of (raw_structure ∷ [])
+
+-- what the frames of a stream are: the bytes of each, and how many play in a second
+pub record Stream : Type 0 where
+  pub width : ℕ
+  pub rate : ℕ
+
+-- by caps, and by what they say
+abbrev pub stream_of : Description One → Stream
+stream_of caps = record {
+  width = unwrap_or (channels_of caps) 0 * unwrap_or (option_map sample_width (sample_of caps)) 0;
+  rate = unwrap_or (rate_of caps) 0;
+}
+
+abbrev pub stream_by : Info → Stream
+stream_by info = record { width = info.channels * sample_width info.format; rate = info.rate }
+
+-- the stream behind an item, and behind items: that of the last CAPS among them, and else the one before
+abbrev pub stream_behind : Option Stream → Item → Option Stream
+stream_behind before (Ev (NewCaps caps)) = Some (stream_of caps)
+stream_behind before x = before
+
+abbrev pub stream_after : Option Stream → List Item → Option Stream
+stream_after before [] = before
+stream_after before (x ∷ xs) = stream_after (stream_behind before x) xs
+
+-- the frames that bytes have; before any CAPS there are none
+abbrev pub frames_in : Option Stream → List ℕ → ℕ
+frames_in None bytes = 0
+frames_in (Some s) bytes = length bytes / s.width
+
+-- the frames of the last part of items, by the stream before them
+abbrev pub frames_from : Option Stream → List Item → ℕ
+frames_from before [] = 0
+frames_from before (x ∷ xs) = (if has_beginning (x ∷ xs) then 0 else frames_in before (body_of x)) + frames_from (stream_behind before x) xs
+
+abbrev pub part_frames : List Item → ℕ
+part_frames h = frames_from None h
+
+-- whether there is a buffer, and the time of the first one, where it has one
+abbrev pub has_buffer : List Item → Bool
+has_buffer [] = false
+has_buffer (x ∷ xs) = is_buffer x || has_buffer xs
+
+abbrev pub first_pts : List Item → Option ℕ
+first_pts [] = None
+first_pts (Buf b ∷ xs) = b.pts
+first_pts (Ev e ∷ xs) = first_pts xs
+
+-- how many bytes a list has since its last FLUSH_STOP
+abbrev pub bytes_got : List Item → ℕ
+bytes_got h = length (bytes_of (since_flush_stop h))
