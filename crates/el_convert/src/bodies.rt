@@ -1,9 +1,10 @@
 //! Bodies of raw audio in another format and number of channels.
-ghost use Rattle.std.specs.Prelude.{◌≡◌, ◌≤◌, ◌<◌, ◌++◌, length, IfOk, ℤ, ◌+ℤ◌};
+ghost use Rattle.std.specs.Prelude.{◌≡◌, ◌≤◌, ◌*◌, ◌^◌, ◌++◌, length, map, IfOk, pos, ◌+ℤ◌};
+ghost use Rattle.std.specs.List.{flat_map};
 ghost use Rattle.std.specs.Int.{int_shr};
 ghost use Rattle.audio_info.specs.Packing.{IsRaw, FitsBytes, sample_width, sample_value};
 ghost use Rattle.gst_item.specs.declared.body.TheConstants.{LARGEST_BODY};
-ghost use Rattle.el_convert.specs.Bodies.{converted_bytes, rescaled as rescaled_value, repacked};
+ghost use Rattle.el_convert.specs.Bodies.{converted_bytes, half_sum as half_sum_of, rescaled as rescaled_value, repacked};
 
 use audio_info::{Info, Sample, get, put};
 use gst_caps::OutOfMemory;
@@ -83,10 +84,18 @@ fn kept<const IN: usize, const OUT: usize>(
     from: Sample,
     to: Sample,
     samples: &[[u8; IN]],
-) -> Result<Vec<u8>, OutOfMemory> {
+) -> Result<Vec<u8>, OutOfMemory>
+    requires from { IsRaw from }
+    requires to { IsRaw to }
+    requires bytes_in { sample_width from ≡ IN }
+    requires bytes_out { sample_width to ≡ OUT }
+    requires small { length samples.now ≤ LARGEST_BODY }
+    ensures { IfOk result (λ made. made.items ≡ flat_map (λ s. repacked from to (sample_value from s)) samples.now) }
+{
     let mut made = Vec::with_capacity(alloc, OUT * samples.len())?;
     for sample in samples {
-        made.extend_from_slice(&repacked::<IN, OUT>(to, get(from, sample)))?;
+        let bytes = packed::<IN, OUT>(from, to, get(from, sample));
+        made.extend_from_slice(&bytes)?;
     }
     Ok(made)
 }
@@ -97,10 +106,17 @@ fn doubled<const IN: usize, const OUT: usize>(
     from: Sample,
     to: Sample,
     samples: &[[u8; IN]],
-) -> Result<Vec<u8>, OutOfMemory> {
+) -> Result<Vec<u8>, OutOfMemory>
+    requires from { IsRaw from }
+    requires to { IsRaw to }
+    requires bytes_in { sample_width from ≡ IN }
+    requires bytes_out { sample_width to ≡ OUT }
+    requires small { length samples.now ≤ LARGEST_BODY }
+    ensures { IfOk result (λ made. made.items ≡ flat_map (λ s. repacked from to (sample_value from s) ++ repacked from to (sample_value from s)) samples.now) }
+{
     let mut made = Vec::with_capacity(alloc, 2 * OUT * samples.len())?;
     for sample in samples {
-        let bytes = repacked::<IN, OUT>(to, get(from, sample));
+        let bytes = packed::<IN, OUT>(from, to, get(from, sample));
         made.extend_from_slice(&bytes)?;
         made.extend_from_slice(&bytes)?;
     }
@@ -113,13 +129,30 @@ fn halved<const IN: usize, const OUT: usize>(
     from: Sample,
     to: Sample,
     pairs: &[[[u8; IN]; 2]],
-) -> Result<Vec<u8>, OutOfMemory> {
+) -> Result<Vec<u8>, OutOfMemory>
+    requires from { IsRaw from }
+    requires to { IsRaw to }
+    requires bytes_in { sample_width from ≡ IN }
+    requires bytes_out { sample_width to ≡ OUT }
+    requires small { length pairs.now ≤ LARGEST_BODY }
+    ensures { IfOk result (λ made. made.items ≡ flat_map (λ p. repacked from to (half_sum_of (map (sample_value from) p))) pairs.now) }
+{
     let mut made = Vec::with_capacity(alloc, OUT * pairs.len())?;
-    for [left, right] in pairs {
-        let half = half_sum(get(from, left), get(from, right));
-        made.extend_from_slice(&repacked::<IN, OUT>(to, half))?;
+    for pair in pairs {
+        let bytes = packed::<IN, OUT>(from, to, half::<IN>(from, pair));
+        made.extend_from_slice(&bytes)?;
     }
     Ok(made)
+}
+
+/// The floor of half the sum of two samples.
+fn half<const IN: usize>(from: Sample, pair: &[[u8; IN]; 2]) -> i32
+    requires raw { IsRaw from }
+    requires bytes_in { sample_width from ≡ IN }
+    ensures value { result ≡ half_sum_of (map (sample_value from) pair.now) }
+    ensures range { FitsBytes (sample_width from) result }
+{
+    half_sum(get(from, &pair[0]), get(from, &pair[1]))
 }
 
 /// The floor of half the sum of two numbers.
@@ -129,8 +162,14 @@ fn half_sum(left: i32, right: i32) -> i32
     ((i64::from(left) + i64::from(right)) >> 1) as i32
 }
 
-/// The bytes of a number that had `IN` bytes, as a sample of `OUT` bytes.
-fn repacked<const IN: usize, const OUT: usize>(to: Sample, value: i32) -> [u8; OUT] {
+/// The bytes of a sample of `IN` bytes in another format, whose samples have `OUT` bytes.
+fn packed<const IN: usize, const OUT: usize>(from: Sample, to: Sample, value: i32) -> [u8; OUT]
+    requires raw { IsRaw to }
+    requires bytes_in { sample_width from ≡ IN }
+    requires bytes_out { sample_width to ≡ OUT }
+    requires range { FitsBytes (sample_width from) value }
+    ensures { result ≡ repacked from to value }
+{
     let mut bytes = [0; OUT];
     put(to, rescaled(value, IN as u32, OUT as u32), &mut bytes);
     bytes
@@ -139,8 +178,12 @@ fn repacked<const IN: usize, const OUT: usize>(to: Sample, value: i32) -> [u8; O
 /// A number of `from` bytes as one of `to` bytes: bytes of zeros are put behind it, or its last bytes are left
 /// out.
 fn rescaled(value: i32, from: u32, to: u32) -> i32
-    ensures value { result ≡ rescaled_value from to value }
-    ensures range { FitsBytes to result }
+    requires some { 1 ≤ from }
+    requires few { from ≤ 4 }
+    requires some_to { 1 ≤ to }
+    requires few_to { to ≤ 4 }
+    requires range { FitsBytes from value }
+    ensures { result ≡ rescaled_value from to value }
 {
     if from <= to {
         value * factor(to - from)
@@ -150,7 +193,10 @@ fn rescaled(value: i32, from: u32, to: u32) -> i32
 }
 
 /// 256 to the power of a number of bytes.
-fn factor(bytes: u32) -> i32 {
+fn factor(bytes: u32) -> i32
+    requires { bytes ≤ 3 }
+    ensures { result ≡ pos (2 ^ (8 * bytes)) }
+{
     match bytes {
         0 => 1,
         1 => 0x100,

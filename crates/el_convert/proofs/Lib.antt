@@ -1,0 +1,5 @@
+pub mod Choosing
+pub mod Conversion
+pub mod Converting
+pub mod Same
+pub mod Scaling
