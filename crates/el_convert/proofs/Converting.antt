@@ -67,20 +67,22 @@ got_push h x plain = rw (since_push h x, plain) (sum_by_push (λ y. length (body
 got_flushed : (h : List Item) (number : ℕ) → bytes_got (h ++ Ev (FlushStop number) ∷ []) ≡ 0
 got_flushed h number = rw (since_push h (Ev (FlushStop number))) refl
 
-same_known : (a b : Caps) (o p c d : Option (Description One)) (m n : ℕ) → a ≡ b → o ≡ p → c ≡ d → m ≡ n
-    → record { allowed = a; offered = o; chosen = c; got = m } ≡ record { allowed = b; offered = p; chosen = d; got = n }
+abbrev knowing : Caps → Option (Description One) → Option (Description One) → ℕ → Known
+knowing allowed offered chosen got = record { allowed = allowed; offered = offered; chosen = chosen; got = got }
+
+same_known : (a b : Caps) (o p c d : Option (Description One)) (m n : ℕ) → a ≡ b → o ≡ p → c ≡ d → m ≡ n → knowing a o c m ≡ knowing b p d n
 same_known a b o p c d m n e f g h = rw (e, f, g, h) refl
 
 -- what is known with one more call
 known_taken : (first : Caps) (given : List Call) (out ys : List Item) (over ends : Bool) (x : Item) → is_flush_stop x ≡ false
     → known first (record { given = given ++ Feed x ∷ []; out = out ++ ys; over = ends })
-    ≡ record { allowed = allowed_in first given; offered = caps_behind (caps_in_force (items given)) x; chosen = caps_after (caps_in_force out) ys; got = bytes_got (items given) + length (body_of x) }
+    ≡ knowing (allowed_in first given) (caps_behind (caps_in_force (items given)) x) (caps_after (caps_in_force out) ys) (bytes_got (items given) + length (body_of x))
 known_taken first given out ys over ends x plain =
     same_known _ _ _ _ _ _ _ _ (allowed_fed first given x) (ap caps_in_force (items_push given x) ∙ caps_push (items given) x) (caps_more out ys) (ap bytes_got (items_push given x) ∙ got_push (items given) x plain)
 
 known_flushed : (first : Caps) (given : List Call) (out : List Item) (number : ℕ)
     → known first (record { given = given ++ Feed (Ev (FlushStop number)) ∷ []; out = out ++ Ev (FlushStop number) ∷ []; over = false })
-    ≡ record { allowed = allowed_in first given; offered = caps_in_force (items given); chosen = caps_in_force out; got = 0 }
+    ≡ knowing (allowed_in first given) (caps_in_force (items given)) (caps_in_force out) 0
 known_flushed first given out number =
     let x = Ev (FlushStop number) in
     same_known _ _ _ _ _ _ _ _ (allowed_fed first given x) (ap caps_in_force (items_push given x) ∙ caps_push (items given) x) (caps_push out x) (ap bytes_got (items_push given x) ∙ got_flushed (items given) number)
@@ -111,7 +113,7 @@ converted_item old new x plain begun ok moved ends first calls put p =
         over = ap (λ (s : Fed). s.over) same ∙ sym ends;
         eos = eos_taken calls x plain (p.eos ∙ begun) ∙ sym ends;
         as_far = ap (known first) same ∙ known_taken first fed.given fed.out ys fed.over (is_eos x) x plain
-            ∙ ap (λ (k : Known). record { allowed = k.allowed; offered = caps_behind k.offered x; chosen = caps_after k.chosen ys; got = k.got + length (body_of x) }) p.as_far ∙ sym moved;
+            ∙ ap (λ (k : Known). knowing k.allowed (caps_behind k.offered x) (caps_after k.chosen ys) (k.got + length (body_of x))) p.as_far ∙ sym moved;
       },
     )
 
@@ -139,7 +141,7 @@ converted_flush old new anew begun first calls put number p =
       owed = ap (λ zs. zs ++ Ev (FlushStop number) ∷ []) p.owed ∙ sym (ap (λ (s : Fed). s.out) same);
       over = ap (λ (s : Fed). s.over) same ∙ sym begun;
       eos = eos_flushed calls number ∙ sym begun;
-      as_far = ap (known first) same ∙ known_flushed first fed.given fed.out number ∙ ap (λ (k : Known). record k { got = 0 }) p.as_far ∙ sym anew;
+      as_far = ap (known first) same ∙ known_flushed first fed.given fed.out number ∙ ap (λ (k : Known). knowing k.allowed k.offered k.chosen 0) p.as_far ∙ sym anew;
     }
 
 pub converted_drain : (element : Convert) (first : Caps) (calls : List Call) (put : List Item) → IsConverted first element calls put → IsConverted first element (calls ++ Act Drain ∷ []) put
@@ -173,5 +175,5 @@ converted_set old new caps set ended first calls put p =
       eos = eos_act calls mark ∙ p.eos ∙ sym ended;
       as_far = ap (known first) same
           ∙ same_known _ _ _ _ _ _ _ _ (allowed_set first fed.given caps) (ap caps_in_force (items_act fed.given mark)) refl (ap bytes_got (items_act fed.given mark))
-          ∙ ap (λ (k : Known). record k { allowed = caps }) p.as_far ∙ sym set;
+          ∙ ap (λ (k : Known). knowing caps k.offered k.chosen k.got) p.as_far ∙ sym set;
     }

@@ -1,34 +1,37 @@
 //! Whether two choices are the same.
-ghost use Rattle.std.specs.Prelude.{◌≡◌, ◌↔◌, IsTrue};
+ghost use Rattle.std.specs.Prelude.{◌≡◌};
+ghost use Rattle.std.specs.Option.{option_map};
 ghost use Rattle.gst_caps.specs.Common.{same};
-ghost use Rattle.el_convert.specs.Choice.{same_caps as same_caps_of, same_field as same_field_of};
+ghost use Rattle.el_convert.specs.Choice.{same_caps as same_caps_of, same_given};
 
 use gst_caps::{Fixed, One};
 
 /// Whether two fixed caps are equal.
 pub(crate) fn same_caps(one: &Fixed, other: &Fixed) -> bool
-    ensures same { result ≡ same_caps_of one.now other.now }
-    ensures equal { IsTrue result ↔ (one.now ≡ other.now) }
+    ensures { result ≡ same_caps_of one.now other.now }
 {
-    if one.media() != other.media() || one.fields() != other.fields() {
+    if one.media() != other.media() {
+        return false;
+    }
+    if one.fields() != other.fields() {
         return false;
     }
     for place in 0..one.fields() {
-        let (Some(field), Some(wanted)) = (one.field(place), other.field(place)) else {
-            return false;
-        };
-        if !same_field(field, wanted) {
+        if !same_at(one.field(place), other.field(place)) {
             return false;
         }
     }
     true
 }
 
-/// Whether two fields have the same name and the same value.
-fn same_field(one: (&str, &One), other: (&str, &One)) -> bool
-    ensures { result ≡ same_field_of (one.0.now, one.1.now) (other.0.now, other.1.now) }
+/// Whether two fields are there and have the same name and the same value.
+fn same_at(one: Option<(&str, &One)>, other: Option<(&str, &One)>) -> bool
+    ensures { result ≡ same_given (option_map (λ f. (f.0.now, f.1.now)) one.entry) (option_map (λ f. (f.0.now, f.1.now)) other.entry) }
 {
-    one.0 == other.0 && same_value(one.1, other.1)
+    match (one, other) {
+        (Some((name, value)), Some((wanted, other))) => name == wanted && same_value(value, other),
+        _ => false,
+    }
 }
 
 /// Whether two values are equal.

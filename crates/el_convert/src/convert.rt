@@ -1,5 +1,6 @@
 //! The element that converts raw audio to the caps that are allowed behind it, as GStreamer's audioconvert.
-ghost use Rattle.std.specs.Prelude.{◌≡◌, ◌<◌, ◌^◌, ◌+◌, ◌++◌, ◌∷◌, [], ℕ, List, length, Option, Some, None, Ok, false, true, IfOk, OnOk, OnErr, IfErr, IsOk, IfSome, MatchOption};
+ghost use Rattle.std.specs.Prelude.{◌≡◌, ◌<◌, ◌^◌, ◌+◌, ◌++◌, ◌∷◌, [], ℕ, List, length, Option, Some, None, Ok, false, true, IfOk, OnOk, OnErr, IfErr, IsOk, MatchOption};
+ghost use Rattle.std.specs.Option.{ForSome};
 ghost use Rattle.el_convert.specs.Choice.{choice};
 
 use crate::choice::same_caps;
@@ -23,7 +24,7 @@ pub struct Convert {
     got: u64,
     ended: bool,
     ghost below_limit: { got < 2 ^ 63 },
-    ghost up_to_date: { anew ≡ false → IfSome stream (λ s. choice s.offered allowed ≡ Some s.chosen) },
+    ghost up_to_date: { anew ≡ false → ForSome stream (λ s. choice s.offered allowed ≡ Some s.chosen) },
 }
 
 impl Convert {
