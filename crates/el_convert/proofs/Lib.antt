@@ -1,5 +1,6 @@
 pub mod Choosing
 pub mod Conversion
 pub mod Converting
+pub mod Copies
 pub mod Same
 pub mod Scaling
