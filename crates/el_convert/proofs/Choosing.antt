@@ -1,8 +1,7 @@
 -- A choice is raw audio.
-use Rattle.std.proofs.Common.{◌≡◌, ◌≢◌, ◌≤◌, ◌<◌, ℕ, suc, ℤ, pos, negsuc, ◌≤ℤ◌, ◌<ℤ◌, Bool, true, false, cond, if◌then◌else◌, ◌&&◌, ◌||◌, ◌==◌, nat_le, ◌⊎◌, inl, inr, List, [], ◌∷◌, ◌++◌, map, Option, Some, None, is_some, codes, refl, sym, ap, ◌∙◌, subst, append-nil, arith}
-use Rattle.std.specs.List.{cons_option, filter, filter_map, flat_map, find, list_any, list_all}
-use Rattle.std.specs.Option.{option_map, option_map_or, option_and_then, unwrap_or}
-use Rattle.std.specs.Ordering.{int_eq}
+use Rattle.std.proofs.Common.{◌≡◌, ◌≤◌, ℕ, ℤ, pos, ◌≤ℤ◌, Bool, true, false, cond, if◌then◌else◌, ◌&&◌, ◌||◌, ◌==◌, nat_le, ◌⊎◌, inl, inr, List, [], ◌∷◌, ◌++◌, map, Option, Some, None, is_some, codes, refl, sym, ap, ◌∙◌, subst, arith}
+use Rattle.std.specs.List.{cons_option, filter, filter_map, find, list_any}
+use Rattle.std.specs.Option.{option_map, option_and_then, unwrap_or}
 use Rattle.std.specs.Prelude.{int_lt}
 use Rattle.std.specs.Int.{int_max, int_min}
 use Rattle.std.specs.Str.{bytes_eq}
@@ -11,8 +10,8 @@ use Rattle.std.proofs.lemmas.Int.{ints, clamps}
 use Rattle.std.proofs.lemmas.Slice.Eq.{bytes_eq-Decides}
 use Rattle.gst_caps.proofs.FieldLaws.{and_left, and_right}
 use Rattle.gst_caps.proofs.Fixing.{least_common_is}
-use Rattle.gst_caps.specs.Accepts.{value_at, each_at, agrees, structures_meet, narrowed, merged, met, meet, all_meets, intersection, fixed, first_structure, fixation}
-use Rattle.gst_caps.specs.Common.{members, same, ends, span, common_of, common_one, commons, common, as_value, have_common, least_of, first_least, least}
+use Rattle.gst_caps.specs.Accepts.{value_at, agrees, structures_meet, narrowed, merged, met, meet, intersection, fixed, first_structure, fixation}
+use Rattle.gst_caps.specs.Common.{members, same, ends, span, common_of, common_one, commons, least_of, first_least, least}
 use Rattle.gst_caps.specs.Description.{Description}
 use Rattle.gst_caps.specs.Names.{Each, is_before}
 use Rattle.gst_caps.specs.declared.caps.Caps.{Caps}
@@ -21,11 +20,11 @@ use Rattle.gst_caps.specs.declared.value.One.{One}
 use Rattle.gst_caps.specs.declared.value.One.TheVariants.{Int, Bool as Truth, Text as Words, Fraction, IntRange}
 use Rattle.gst_caps.specs.declared.value.Value.{Value}
 use Rattle.gst_caps.specs.declared.value.Value.TheVariants.{One as Single, Many}
-use Rattle.audio_info.specs.Media.{field_of, number_up_to, raw_sample, raw_samples, sample_name, sample_of, rate_of, channels_of}
+use Rattle.audio_info.specs.Media.{field_of, number_up_to, raw_sample, raw_samples, sample_of, rate_of, channels_of}
 use Rattle.audio_info.specs.Packing.{IsRaw}
 use Rattle.audio_info.specs.declared.sample.Sample.{Sample}
 use Rattle.audio_info.specs.declared.sample.Sample.TheVariants.{S8, U8, S16LE, S16BE, S24LE, S32LE, MuLaw, ALaw}
-use Rattle.el_convert.specs.Raw.{raw, format_name, channels_from, options_from, format_in, channels_in, rate_in, options}
+use Rattle.el_convert.specs.Raw.{raw, format_name, channels_from, options_from}
 use Rattle.el_convert.specs.Choice.{choice}
 
 abbrev Fields : Type 0
@@ -257,7 +256,7 @@ value_fixed n (f ∷ fs) = go (bytes_eq f.0 n) (value_fixed n fs)
     go true e = refl
     go false e = e
 
-found_same : (name : List ℕ) (fields : List (List ℕ × One)) → field_of name fields ≡ value_at name fields
+pub found_same : (name : List ℕ) (fields : List (List ℕ × One)) → field_of name fields ≡ value_at name fields
 found_same name [] = refl
 found_same name (f ∷ fs) = go (bytes_eq f.0 name) (found_same name fs)
   where
@@ -286,9 +285,15 @@ fixed_field_of n fs v e = found_same n (map (λ f. (f.0, least f.1)) fs) ∙ val
 chosen_alone : (channels formats rate : Value) → IsChosen channels formats rate (fixed (raw channels formats rate))
 chosen_alone channels formats rate = record {
   media = refl;
-  other_channels = None; channels_agree = refl; channels_is = refl;
-  other_formats = None; formats_agree = refl; format_is = refl;
-  other_rate = None; rate_agrees = refl; rate_is = refl;
+  other_channels = None;
+  channels_agree = refl;
+  channels_is = refl;
+  other_formats = None;
+  formats_agree = refl;
+  format_is = refl;
+  other_rate = None;
+  rate_agrees = refl;
+  rate_is = refl;
 }
 
 chosen_met : (channels formats rate : Value) (t : Description Value) → structures_meet (raw channels formats rate) t ≡ true → IsChosen channels formats rate (fixed (met (raw channels formats rate) t))

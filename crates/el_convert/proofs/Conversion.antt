@@ -1,5 +1,5 @@
 -- The bytes of samples, one by one, two for one and one for two.
-use Rattle.std.proofs.Common.{◌≡◌, ◌<◌, ◌≤◌, ◌+◌, ◌*◌, ◌/◌, ℕ, zero, suc, ℤ, pos, nat_lt, Bool, true, false, if◌then◌else◌, List, [], ◌∷◌, ◌++◌, map, length, take, drop, get_or, refl, sym, ap, ◌∙◌, append-nil, append_assoc, arith, ◌+ℤ◌, Result, Ok, Err}
+use Rattle.std.proofs.Common.{◌≡◌, ◌<◌, ◌≤◌, ◌+◌, ◌/◌, ℕ, zero, suc, ℤ, List, [], ◌∷◌, ◌++◌, map, length, take, drop, get_or, refl, sym, ap, ◌∙◌, append-nil, append_assoc, arith, ◌+ℤ◌, Result, Ok, Err}
 use Rattle.std.specs.Prelude.{IfOk}
 use Rattle.std.specs.Int.{int_shr}
 use Rattle.std.proofs.lemmas.List.{take_more, take-map, drop-map}
@@ -11,7 +11,7 @@ use Rattle.std.specs.List.{flat_map}
 use Rattle.std.specs.Simd.{first_chunks}
 use Rattle.audio_info.specs.Packing.{sample_width, sample_value}
 use Rattle.audio_info.specs.declared.sample.Sample.{Sample}
-use Rattle.el_convert.specs.Bodies.{pieces, values, half_sum, mixed, repacked, converted_bytes}
+use Rattle.el_convert.specs.Bodies.{pieces, half_sum, repacked, converted_bytes}
 
 -- what is made of one more piece
 pub flat_map_step : {X A : Type 0} (f : X → List A) (xs : List X) (i : ℕ) (x : X) (ys zs : List A) → i < length xs → x ≡ get_or xs i x → ys ≡ flat_map f (take i xs) → zs ≡ ys ++ f x → zs ≡ flat_map f (take (i + 1) xs)

@@ -1,7 +1,6 @@
 -- A converter with one more call.
 use Rattle.std.proofs.Common.{◌≡◌, ◌+◌, ℕ, Bool, true, false, if◌then◌else◌, List, [], ◌∷◌, ◌++◌, length, Option, refl, sym, ap, ◌∙◌, append-nil, append_assoc, Result, Ok, Err}
 use Rattle.std.specs.Prelude.{IsOk}
-use Rattle.std.specs.List.{sum_by}
 use Rattle.std.proofs.lemmas.List.Sums.{sum_by_push}
 use Rattle.gst_caps.specs.Description.{Description}
 use Rattle.gst_caps.specs.declared.caps.Caps.{Caps}

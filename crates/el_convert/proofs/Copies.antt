@@ -33,8 +33,15 @@ raw_prop f = hlevel props
 
 as_it_is : (s : Stream) → SameStream s s.offered s.chosen
 as_it_is s a b c d e f g =
-    rw (format_prop s.offered s.input.format a s.format_in, rate_prop s.offered s.input.rate b s.rate_in, channels_prop s.offered s.input.channels c s.channels_in, raw_prop s.input.format d s.raw_in,
-      format_prop s.chosen s.output.format e s.format_out, channels_prop s.chosen s.output.channels f s.channels_out, raw_prop s.output.format g s.raw_out) refl
+    rw (
+      format_prop s.offered s.input.format a s.format_in,
+      rate_prop s.offered s.input.rate b s.rate_in,
+      channels_prop s.offered s.input.channels c s.channels_in,
+      raw_prop s.input.format d s.raw_in,
+      format_prop s.chosen s.output.format e s.format_out,
+      channels_prop s.chosen s.output.channels f s.channels_out,
+      raw_prop s.output.format g s.raw_out,
+    ) refl
 
 pub stream_same : (s : Stream) (offered chosen : Description One) → offered ≡ s.offered → chosen ≡ s.chosen → SameStream s offered chosen
 stream_same s offered chosen p q =

@@ -1,3 +1,5 @@
+pub mod Accepted
+pub mod Buffers
 pub mod Choosing
 pub mod Conversion
 pub mod Converting

@@ -1,5 +1,5 @@
 -- Fixed caps are compared field by field.
-use Rattle.std.proofs.Common.{◌≡◌, ◌≢◌, ◌<◌, ◌≤◌, ◌+◌, ℕ, zero, suc, Bool, true, false, not, ◌&&◌, List, [], ◌∷◌, length, drop, Option, Some, None, refl, sym, ap, ◌∙◌, subst, add-one, arith}
+use Rattle.std.proofs.Common.{◌≡◌, ◌≢◌, ◌<◌, ◌≤◌, ◌+◌, ℕ, zero, suc, Bool, true, false, not, ◌&&◌, List, [], ◌∷◌, length, drop, Option, None, refl, sym, ap, ◌∙◌, subst, add-one, arith}
 use Rattle.std.specs.Prelude.{slice_get}
 use Rattle.std.specs.Bool.{Decides}
 use Rattle.std.specs.Option.{option_map}
@@ -66,9 +66,9 @@ field name value = (name, value)
 -- the test decides
 field_decides : (f g : Field) → Decides (same_field f g) (f ≡ g)
 field_decides f g = (
-      (λ h. parts f.0 g.0 f.1 g.1 ((bytes_eq-Decides f.0 g.0).0 (and_left (bytes_eq f.0 g.0) (same f.1 g.1) h)) (same_is f.1 g.1 (and_right (bytes_eq f.0 g.0) (same f.1 g.1) h))),
-      (λ e. subst (λ (h : Field). same_field f h ≡ true) e (and_true _ _ ((bytes_eq-Decides f.0 f.0).1 refl) (same_itself f.1))),
-    )
+  (λ h. parts f.0 g.0 f.1 g.1 ((bytes_eq-Decides f.0 g.0).0 (and_left (bytes_eq f.0 g.0) (same f.1 g.1) h)) (same_is f.1 g.1 (and_right (bytes_eq f.0 g.0) (same f.1 g.1) h))),
+  (λ e. subst (λ (h : Field). same_field f h ≡ true) e (and_true _ _ ((bytes_eq-Decides f.0 f.0).1 refl) (same_itself f.1))),
+)
   where
     parts : (m n : List ℕ) (v w : One) → m ≡ n → v ≡ w → field m v ≡ field n w
     parts m n v w p q = rw (p, q) refl
@@ -82,11 +82,11 @@ same_parts m n fs gs p q = rw (p, q) refl
 pub caps_decide : (x y : Description One) → Decides (same_caps x y) (x ≡ y)
 unfolding same_caps
 caps_decide x y = (
-      (λ h. same_parts x.media y.media x.fields y.fields ((bytes_eq-Decides x.media y.media).0 (and_left (bytes_eq x.media y.media) (pointwise same_field x.fields y.fields) h))
-          ((slice_eq-Decides field_decides x.fields y.fields _ refl).0 (and_right (bytes_eq x.media y.media) (pointwise same_field x.fields y.fields) h))),
-      (λ e. subst (λ (z : Description One). (bytes_eq x.media z.media && pointwise same_field x.fields z.fields) ≡ true) e
-          (and_true _ _ ((bytes_eq-Decides x.media x.media).1 refl) ((slice_eq-Decides field_decides x.fields x.fields _ refl).1 refl))),
-    )
+  (λ h. same_parts x.media y.media x.fields y.fields ((bytes_eq-Decides x.media y.media).0 (and_left (bytes_eq x.media y.media) (pointwise same_field x.fields y.fields) h))
+      ((slice_eq-Decides field_decides x.fields y.fields _ refl).0 (and_right (bytes_eq x.media y.media) (pointwise same_field x.fields y.fields) h))),
+  (λ e. subst (λ (z : Description One). (bytes_eq x.media z.media && pointwise same_field x.fields z.fields) ≡ true) e
+      (and_true _ _ ((bytes_eq-Decides x.media x.media).1 refl) ((slice_eq-Decides field_decides x.fields x.fields _ refl).1 refl))),
+)
 
 -- what the comparison finds
 pub media_differ : (x y : Description One) (m n : List ℕ) → m ≡ x.media → n ≡ y.media → true ≡ not (bytes_eq m n) → false ≡ same_caps x y

@@ -1,5 +1,5 @@
 -- For which fed and put-out lists a converter stands.
-use Rattle.std.specs.Prelude.{◌≡◌, false, List, Option, Some}
+use Rattle.std.specs.Prelude.{◌≡◌, false, List, Some}
 use Rattle.std.specs.Option.{option_map}
 use Rattle.gst_caps.specs.declared.caps.Caps.{Caps}
 use Rattle.flow_model.specs.Item.{Item}

@@ -249,11 +249,7 @@ fn bytes_of(alloc: Global, digits: &str) -> Result<Vec<u8>, Fail> {
 fn body_for(alloc: Global, from: Info, to: Info, bytes: Vec<u8>) -> Result<Item, Fail> {
     let mut structure = Structure::new(alloc, "audio/x-raw")?;
     set_format(alloc, &mut structure, to.format.name())?;
-    structure.set(
-        alloc,
-        "channels",
-        Value::One(One::Int(to.channels as i32)),
-    )?;
+    structure.set(alloc, "channels", Value::One(One::Int(to.channels as i32)))?;
     let mut structures = List::new(alloc);
     structures.push(alloc, structure)?;
     let mut convert = Convert::new(Caps::Of(structures));

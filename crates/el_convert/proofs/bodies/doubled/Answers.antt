@@ -21,4 +21,4 @@ loop-sample-preserved g c =
     flat_map_step (λ s. repacked c.args.from c.args.to (sample_value c.args.from s) ++ repacked c.args.from c.args.to (sample_value c.args.from s)) c.args.samples.now c.loop-sample.sample-index c.sample-item.result c.loop-sample.made.items c.extend_from_slice-in-loop-sample.new.self.items
     c.loop-sample-test.true c.sample-item.is c.loop-sample.invariant
     (c.in_ok-extend_from_slice-2.ensures.items ∙ ap (λ m. m ++ c.packed-bytes.result) c.in_ok-extend_from_slice.ensures.items
-        ∙ append_assoc c.loop-sample.made.items c.packed-bytes.result c.packed-bytes.result ∙ ap (λ b. c.loop-sample.made.items ++ (b ++ b)) bytes)
+    ∙ append_assoc c.loop-sample.made.items c.packed-bytes.result c.packed-bytes.result ∙ ap (λ b. c.loop-sample.made.items ++ (b ++ b)) bytes)

@@ -5,11 +5,11 @@ use Rattle.el_convert.proofs.stream.stream_of.Goals as goal
 
 pub returns-in_default-clause-fault : goal.returns-in_default-clause-fault
 returns-in_default-clause-fault c = (
-      (choice_known c.args.offered c.args.allowed.now _ _ _ c.requires.format c.requires.rate c.requires.channels
-          ∙ sym (ap (λ o. fixation (intersection o c.args.allowed.now)) c.in_ok-options.ensures) ∙ sym c.in_ok-chosen.ensures ∙ c.in_default.is),
-      refl,
-      c.in_ok-copy.ensures,
-    )
+  (choice_known c.args.offered c.args.allowed.now _ _ _ c.requires.format c.requires.rate c.requires.channels
+      ∙ sym (ap (λ o. fixation (intersection o c.args.allowed.now)) c.in_ok-options.ensures) ∙ sym c.in_ok-chosen.ensures ∙ c.in_default.is),
+  refl,
+  c.in_ok-copy.ensures,
+)
 
 pub unreachable-requires : goal.unreachable-requires
 unreachable-requires c =

@@ -1,4 +1,5 @@
-use Rattle.std.proofs.Common.{sym, ◌∙◌, ap}
+use Rattle.std.proofs.Common.{◌≡◌, sym, ◌∙◌, ap, Some}
+use Rattle.el_convert.specs.Choice.{choice}
 use Rattle.el_convert.proofs.Same.{caps_decide}
 use Rattle.el_convert.proofs.convert.Convert.other_choice.Goals as goal
 
@@ -10,7 +11,19 @@ returns-then-not-self-clause-choice c = record {
 }
 
 pub returns-then-same_caps-clause-choice : goal.returns-then-same_caps-clause-choice
-returns-then-same_caps-clause-choice c = let a = c.in_ok-other.ensures.chosen in let b = c.in_ok-copy.ensures in let d = c.same_caps.ensures in let e = c.if-same_caps.true in ?
+returns-then-same_caps-clause-choice c =
+    let same : c.in-Some.stream.chosen ≡ c.in_ok-other.other.chosen = (caps_decide c.in-Some.stream.chosen c.in_ok-other.other.chosen).0 (sym c.same_caps.ensures ∙ c.if-same_caps.true) in
+    record {
+      stream = c.in-Some.stream;
+      is = c.in-Some.is;
+      chosen = ap (λ o. choice o c.args.self.now.allowed) (sym c.in_ok-copy.ensures) ∙ c.in_ok-other.ensures.chosen ∙ ap Some (sym same);
+    }
 
 pub returns-clause-choice : goal.returns-clause-choice
-returns-clause-choice c = let a = c.in_ok-other.ensures.offered in ?
+returns-clause-choice c = record {
+  stream = c.in-Some.stream;
+  is = c.in-Some.is;
+  same_stream = c.in_ok-other.ensures.offered ∙ c.in_ok-copy.ensures;
+  chosen = ap (λ o. choice o c.args.self.now.allowed) (sym c.in_ok-copy.ensures) ∙ c.in_ok-other.ensures.chosen;
+  differs = sym c.same_caps.ensures ∙ c.if-same_caps.false;
+}
