@@ -4,7 +4,7 @@ use Rattle.gst_caps.specs.declared.caps.Caps.{Caps}
 use Rattle.gst_item.proofs.Kept.{latest_push}
 use Rattle.flow_model.specs.Item.{Item, Buf, Ev, StreamStart, NewCaps, NewSegment, Tag, Gap, FlushStop, Eos, is_caps, is_flush_stop, is_eos}
 use Rattle.flow_model.specs.Sticky.{latest}
-use Rattle.flow_model.specs.Call.{Call, Feed, Act, Drain, Set, Filter, items}
+use Rattle.flow_model.specs.Call.{Call, Feed, Act, Drain, Set, Filter, Allowed, items}
 use Rattle.flow_model.specs.Rule.{Fed}
 use Rattle.el_basic.specs.declared.caps_filter.CapsFilter.{CapsFilter}
 use Rattle.el_basic.specs.Filters.{filter_in, caps_of, caps_in_force, filter_answer, filters, caps_behind}
@@ -17,18 +17,21 @@ filter_fed first [] x = refl
 filter_fed first (Feed y ∷ calls) x = filter_fed first calls x
 filter_fed first (Act Drain ∷ calls) x = filter_fed first calls x
 filter_fed first (Act (Set (Filter caps)) ∷ calls) x = filter_fed caps calls x
+filter_fed first (Act (Set (Allowed caps)) ∷ calls) x = filter_fed first calls x
 
 pub filter_drained : (first : Caps) (calls : List Call) → filter_in first (calls ++ Act Drain ∷ []) ≡ filter_in first calls
 filter_drained first [] = refl
 filter_drained first (Feed y ∷ calls) = filter_drained first calls
 filter_drained first (Act Drain ∷ calls) = filter_drained first calls
 filter_drained first (Act (Set (Filter caps)) ∷ calls) = filter_drained caps calls
+filter_drained first (Act (Set (Allowed caps)) ∷ calls) = filter_drained first calls
 
 pub filter_set : (first : Caps) (calls : List Call) (caps : Caps) → filter_in first (calls ++ Act (Set (Filter caps)) ∷ []) ≡ caps
 filter_set first [] caps = refl
 filter_set first (Feed y ∷ calls) caps = filter_set first calls caps
 filter_set first (Act Drain ∷ calls) caps = filter_set first calls caps
 filter_set first (Act (Set (Filter old)) ∷ calls) caps = filter_set old calls caps
+filter_set first (Act (Set (Allowed old)) ∷ calls) caps = filter_set first calls caps
 
 -- the caps in force behind one more item
 caps_by : (x : Item) (h : List Item) → caps_of (if is_caps x then x ∷ [] else latest is_caps h) ≡ caps_behind (caps_in_force h) x

@@ -7,7 +7,7 @@ use Rattle.gst_caps.specs.declared.caps.Caps.TheVariants.{Any, Of}
 use Rattle.gst_caps.specs.declared.value.One.{One}
 use Rattle.flow_model.specs.Item.{Item, Buf, Ev, NewCaps, is_caps}
 use Rattle.flow_model.specs.Sticky.{latest}
-use Rattle.flow_model.specs.Call.{Call, Feed, Act, Drain, Set, Filter, items}
+use Rattle.flow_model.specs.Call.{Call, Feed, Act, Drain, Set, Filter, Allowed, items}
 use Rattle.flow_model.specs.Rule.{Fault, NotNegotiated, Response}
 
 -- the filter in force: the one that was set last, and the first one where none was set
@@ -16,6 +16,7 @@ filter_in filter [] = filter
 filter_in filter (Feed x ∷ calls) = filter_in filter calls
 filter_in filter (Act Drain ∷ calls) = filter_in filter calls
 filter_in filter (Act (Set (Filter caps)) ∷ calls) = filter_in caps calls
+filter_in filter (Act (Set (Allowed caps)) ∷ calls) = filter_in filter calls
 
 -- the caps of the first item, where it is CAPS
 abbrev pub caps_of : List Item → Option (Description One)

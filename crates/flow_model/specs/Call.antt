@@ -3,9 +3,10 @@ use Rattle.std.specs.Prelude.{ℕ, suc, ◌==◌, List, [], ◌∷◌, ◌++◌,
 use Rattle.gst_caps.specs.declared.caps.Caps.{Caps}
 use Rattle.flow_model.specs.Item.{Item}
 
--- a property that a running element is given: the caps of a filter
+-- what a running element is given: the caps of a filter, or the caps that a converter is allowed to put out
 pub data Setting : Type 0 where
   Filter : (caps : Caps) → Setting
+  Allowed : (caps : Caps) → Setting
 
 -- Control's marks: the element is drained, or a property of it is set.
 pub data Mark : Type 0 where

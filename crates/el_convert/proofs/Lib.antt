@@ -1,0 +1,8 @@
+pub mod Accepted
+pub mod Buffers
+pub mod Choosing
+pub mod Conversion
+pub mod Converting
+pub mod Copies
+pub mod Same
+pub mod Scaling

@@ -1,0 +1,6 @@
+pub mod Bodies
+pub mod Choice
+pub mod Converted
+pub mod Converts
+pub mod Raw
+pub mod Refused

@@ -1,0 +1,59 @@
+-- Raw audio, as in GStreamer's documents on it: its template, and what a converter can make of it.
+use Rattle.std.specs.Prelude.{ℕ, pos, ◌==◌, List, [], ◌∷◌, codes, map, if◌then◌else◌}
+use Rattle.std.specs.Option.{unwrap_or}
+use Rattle.gst_caps.specs.Description.{Description}
+use Rattle.gst_caps.specs.declared.caps.Caps.{Caps}
+use Rattle.gst_caps.specs.declared.caps.Caps.TheVariants.{Of}
+use Rattle.gst_caps.specs.declared.value.One.{One}
+use Rattle.gst_caps.specs.declared.value.One.TheVariants.{Int, Text as Words, IntRange}
+use Rattle.gst_caps.specs.declared.value.Value.{Value}
+use Rattle.gst_caps.specs.declared.value.Value.TheVariants.{One as Single, Many}
+use Rattle.audio_info.specs.Media.{sample_name, raw_samples, sample_of, rate_of, channels_of}
+use Rattle.audio_info.specs.declared.sample.Sample.{Sample}
+use Rattle.audio_info.specs.declared.sample.Sample.TheVariants.{S8}
+
+-- raw audio with these channels, formats and rates, interleaved
+abbrev pub raw : Value → Value → Value → Description Value
+raw channels formats rate = record {
+  media = codes "audio/x-raw";
+  fields = (codes "channels", channels) ∷ (codes "format", formats)
+      ∷ (codes "layout", Single (Words (codes "interleaved"))) ∷ (codes "rate", rate) ∷ [];
+}
+
+-- the name of a format, as a value
+abbrev pub format_name : Sample → One
+format_name format = Words (sample_name format)
+
+-- the whole numbers from 1 to the most
+abbrev pub up_to_most : ℕ → Value
+up_to_most most = Single (IntRange (pos 1) (pos most))
+
+-- all formats, 1 to 64 channels and a rate of 1 to 768000
+abbrev pub raw_structure : Description Value
+raw_structure = raw (up_to_most 64) (Many (map format_name raw_samples)) (up_to_most 768000)
+
+abbrev pub raw_template : Caps
+raw_template = Of (raw_structure ∷ [])
+
+-- the numbers of channels that a number of them can become: one can become two, and two can become one
+abbrev pub channels_from : ℕ → List One
+channels_from n = if n == 1 then Int (pos 1) ∷ Int (pos 2) ∷ [] else (if n == 2 then Int (pos 2) ∷ Int (pos 1) ∷ [] else Int (pos n) ∷ [])
+
+-- What audio of this kind can become: what it has comes first, then the other formats and numbers of channels. The
+-- rate stays.
+abbrev pub options_from : Sample → ℕ → ℕ → Description Value
+options_from format rate channels = raw (Many (channels_from channels)) (Many (map format_name (format ∷ raw_samples))) (Single (Int (pos rate)))
+
+-- the format and the number of channels of caps of raw audio
+abbrev pub format_in : Description One → Sample
+format_in caps = unwrap_or (sample_of caps) S8
+
+abbrev pub channels_in : Description One → ℕ
+channels_in caps = unwrap_or (channels_of caps) 0
+
+abbrev pub rate_in : Description One → ℕ
+rate_in caps = unwrap_or (rate_of caps) 0
+
+-- what audio of these caps can become
+abbrev pub options : Description One → Caps
+options caps = Of (options_from (format_in caps) (rate_in caps) (channels_in caps) ∷ [])

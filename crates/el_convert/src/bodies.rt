@@ -1,0 +1,206 @@
+//! Bodies of raw audio in another format and number of channels.
+ghost use Rattle.std.specs.Prelude.{◌≡◌, ◌≤◌, ◌*◌, ◌^◌, ◌++◌, length, map, IfOk, pos, ◌+ℤ◌};
+ghost use Rattle.std.specs.List.{flat_map};
+ghost use Rattle.std.specs.Int.{int_shr};
+ghost use Rattle.audio_info.specs.Packing.{IsRaw, FitsBytes, sample_width, sample_value};
+ghost use Rattle.gst_item.specs.declared.body.TheConstants.{LARGEST_BODY};
+ghost use Rattle.el_convert.specs.Bodies.{converted_bytes, half_sum as half_sum_of, rescaled as rescaled_value, repacked};
+
+use audio_info::{Info, Sample, get, put};
+use gst_caps::OutOfMemory;
+use std::alloc::Global;
+
+/// The bytes of a body with the samples and channels of `output` in place of those of `input`.
+pub(crate) fn converted(
+    alloc: Global,
+    input: Info,
+    output: Info,
+    bytes: &[u8],
+) -> Result<Vec<u8>, OutOfMemory>
+    requires from { IsRaw input.format }
+    requires to { IsRaw output.format }
+    requires small { length bytes.now ≤ LARGEST_BODY }
+    ensures { IfOk result (λ made. made.items ≡ converted_bytes input.format output.format input.channels output.channels bytes.now) }
+{
+    match input.format {
+        Sample::S8 | Sample::U8 => from_width::<1>(alloc, input, output, bytes),
+        Sample::S16LE | Sample::S16BE => from_width::<2>(alloc, input, output, bytes),
+        Sample::S24LE => from_width::<3>(alloc, input, output, bytes),
+        Sample::S32LE => from_width::<4>(alloc, input, output, bytes),
+        Sample::MuLaw | Sample::ALaw => unreachable!(),
+    }
+}
+
+/// The same, where a sample that comes in has `IN` bytes.
+fn from_width<const IN: usize>(
+    alloc: Global,
+    input: Info,
+    output: Info,
+    bytes: &[u8],
+) -> Result<Vec<u8>, OutOfMemory>
+    requires from { IsRaw input.format }
+    requires to { IsRaw output.format }
+    requires bytes_in { sample_width input.format ≡ IN }
+    requires small { length bytes.now ≤ LARGEST_BODY }
+    ensures { IfOk result (λ made. made.items ≡ converted_bytes input.format output.format input.channels output.channels bytes.now) }
+{
+    match output.format {
+        Sample::S8 | Sample::U8 => to_width::<IN, 1>(alloc, input, output, bytes),
+        Sample::S16LE | Sample::S16BE => to_width::<IN, 2>(alloc, input, output, bytes),
+        Sample::S24LE => to_width::<IN, 3>(alloc, input, output, bytes),
+        Sample::S32LE => to_width::<IN, 4>(alloc, input, output, bytes),
+        Sample::MuLaw | Sample::ALaw => unreachable!(),
+    }
+}
+
+/// The same, where a sample that goes out has `OUT` bytes.
+fn to_width<const IN: usize, const OUT: usize>(
+    alloc: Global,
+    input: Info,
+    output: Info,
+    bytes: &[u8],
+) -> Result<Vec<u8>, OutOfMemory>
+    requires from { IsRaw input.format }
+    requires to { IsRaw output.format }
+    requires bytes_in { sample_width input.format ≡ IN }
+    requires bytes_out { sample_width output.format ≡ OUT }
+    requires small { length bytes.now ≤ LARGEST_BODY }
+    ensures { IfOk result (λ made. made.items ≡ converted_bytes input.format output.format input.channels output.channels bytes.now) }
+{
+    let (samples, _) = bytes.as_chunks::<IN>();
+    if input.channels < output.channels {
+        doubled::<IN, OUT>(alloc, input.format, output.format, samples)
+    } else if output.channels < input.channels {
+        let (pairs, _) = samples.as_chunks::<2>();
+        halved::<IN, OUT>(alloc, input.format, output.format, pairs)
+    } else {
+        kept::<IN, OUT>(alloc, input.format, output.format, samples)
+    }
+}
+
+/// Each sample once.
+fn kept<const IN: usize, const OUT: usize>(
+    alloc: Global,
+    from: Sample,
+    to: Sample,
+    samples: &[[u8; IN]],
+) -> Result<Vec<u8>, OutOfMemory>
+    requires from { IsRaw from }
+    requires to { IsRaw to }
+    requires bytes_in { sample_width from ≡ IN }
+    requires bytes_out { sample_width to ≡ OUT }
+    requires small { length samples.now ≤ LARGEST_BODY }
+    ensures { IfOk result (λ made. made.items ≡ flat_map (λ s. repacked from to (sample_value from s)) samples.now) }
+{
+    let mut made = Vec::with_capacity(alloc, OUT * samples.len())?;
+    for sample in samples {
+        let bytes = packed::<IN, OUT>(from, to, get(from, sample));
+        made.extend_from_slice(&bytes)?;
+    }
+    Ok(made)
+}
+
+/// Each sample twice.
+fn doubled<const IN: usize, const OUT: usize>(
+    alloc: Global,
+    from: Sample,
+    to: Sample,
+    samples: &[[u8; IN]],
+) -> Result<Vec<u8>, OutOfMemory>
+    requires from { IsRaw from }
+    requires to { IsRaw to }
+    requires bytes_in { sample_width from ≡ IN }
+    requires bytes_out { sample_width to ≡ OUT }
+    requires small { length samples.now ≤ LARGEST_BODY }
+    ensures { IfOk result (λ made. made.items ≡ flat_map (λ s. repacked from to (sample_value from s) ++ repacked from to (sample_value from s)) samples.now) }
+{
+    let mut made = Vec::with_capacity(alloc, 2 * OUT * samples.len())?;
+    for sample in samples {
+        let bytes = packed::<IN, OUT>(from, to, get(from, sample));
+        made.extend_from_slice(&bytes)?;
+        made.extend_from_slice(&bytes)?;
+    }
+    Ok(made)
+}
+
+/// One sample for two, with the floor of half their sum.
+fn halved<const IN: usize, const OUT: usize>(
+    alloc: Global,
+    from: Sample,
+    to: Sample,
+    pairs: &[[[u8; IN]; 2]],
+) -> Result<Vec<u8>, OutOfMemory>
+    requires from { IsRaw from }
+    requires to { IsRaw to }
+    requires bytes_in { sample_width from ≡ IN }
+    requires bytes_out { sample_width to ≡ OUT }
+    requires small { length pairs.now ≤ LARGEST_BODY }
+    ensures { IfOk result (λ made. made.items ≡ flat_map (λ p. repacked from to (half_sum_of (map (sample_value from) p))) pairs.now) }
+{
+    let mut made = Vec::with_capacity(alloc, OUT * pairs.len())?;
+    for pair in pairs {
+        let bytes = packed::<IN, OUT>(from, to, half::<IN>(from, pair));
+        made.extend_from_slice(&bytes)?;
+    }
+    Ok(made)
+}
+
+/// The floor of half the sum of two samples.
+fn half<const IN: usize>(from: Sample, pair: &[[u8; IN]; 2]) -> i32
+    requires raw { IsRaw from }
+    requires bytes_in { sample_width from ≡ IN }
+    ensures value { result ≡ half_sum_of (map (sample_value from) pair.now) }
+    ensures range { FitsBytes (sample_width from) result }
+{
+    half_sum(get(from, &pair[0]), get(from, &pair[1]))
+}
+
+/// The floor of half the sum of two numbers.
+fn half_sum(left: i32, right: i32) -> i32
+    ensures { result ≡ int_shr (left +ℤ right) 1 }
+{
+    ((i64::from(left) + i64::from(right)) >> 1) as i32
+}
+
+/// The bytes of a sample of `IN` bytes in another format, whose samples have `OUT` bytes.
+fn packed<const IN: usize, const OUT: usize>(from: Sample, to: Sample, value: i32) -> [u8; OUT]
+    requires raw { IsRaw to }
+    requires bytes_in { sample_width from ≡ IN }
+    requires bytes_out { sample_width to ≡ OUT }
+    requires range { FitsBytes (sample_width from) value }
+    ensures { result ≡ repacked from to value }
+{
+    let mut bytes = [0; OUT];
+    put(to, rescaled(value, IN as u32, OUT as u32), &mut bytes);
+    bytes
+}
+
+/// A number of `from` bytes as one of `to` bytes: bytes of zeros are put behind it, or its last bytes are left
+/// out.
+fn rescaled(value: i32, from: u32, to: u32) -> i32
+    requires some { 1 ≤ from }
+    requires few { from ≤ 4 }
+    requires some_to { 1 ≤ to }
+    requires few_to { to ≤ 4 }
+    requires range { FitsBytes from value }
+    ensures { result ≡ rescaled_value from to value }
+{
+    if from <= to {
+        value * factor(to - from)
+    } else {
+        value >> (8 * (from - to))
+    }
+}
+
+/// 256 to the power of a number of bytes.
+fn factor(bytes: u32) -> i32
+    requires { bytes ≤ 3 }
+    ensures { result ≡ pos (2 ^ (8 * bytes)) }
+{
+    match bytes {
+        0 => 1,
+        1 => 0x100,
+        2 => 0x1_0000,
+        _ => 0x100_0000,
+    }
+}

@@ -1,0 +1,14 @@
+//! The element that converts raw audio to the caps that are allowed behind it.
+#![tactic(auto)]
+
+mod bodies;
+mod choice;
+pub mod convert;
+mod put_out;
+mod raw;
+pub(crate) mod stream;
+
+pub use convert::Convert;
+
+#[cfg(test)]
+mod tests;

@@ -1,0 +1,116 @@
+//! What a converter knows of its stream.
+ghost use Rattle.std.specs.Prelude.{◌≡◌, ◌<◌, ◌^◌, ◌+◌, length, Some, List, IfOk, IfErr, OnOk, Ok};
+ghost use Rattle.audio_info.specs.Media.{sample_of, rate_of, channels_of};
+ghost use Rattle.audio_info.specs.Packing.{IsRaw};
+ghost use Rattle.flow_model.specs.Item.{Item};
+ghost use Rattle.flow_model.specs.Feeding.{IsFaultOf};
+ghost use Rattle.el_convert.specs.Choice.{choice};
+ghost use Rattle.el_convert.specs.Converts.{frame_width, whole_frames, converted_buffer as buffer_of};
+ghost use Rattle.el_convert.specs.Refused.{IsRefusal};
+
+use crate::bodies::converted;
+use crate::raw::options;
+use audio_info::Info;
+use gst_caps::{Caps, Fixed, OutOfMemory, choose};
+use gst_item::{Body, Buffer, ElementFault, StreamKind};
+use gst_time::LIMIT;
+use std::alloc::Global;
+
+/// The caps of the stream that comes in, and the choice for it that was put out last.
+#[derive(Drop)]
+pub(crate) struct Stream {
+    pub(crate) offered: Fixed,
+    pub(crate) input: Info,
+    pub(crate) chosen: Fixed,
+    pub(crate) output: Info,
+    ghost format_in: { sample_of offered ≡ Some input.format },
+    ghost rate_in: { rate_of offered ≡ Some input.rate },
+    ghost channels_in: { channels_of offered ≡ Some input.channels },
+    ghost raw_in: { IsRaw input.format },
+    ghost format_out: { sample_of chosen ≡ Some output.format },
+    ghost channels_out: { channels_of chosen ≡ Some output.channels },
+    ghost raw_out: { IsRaw output.format },
+}
+
+impl Stream {
+    /// The same once more.
+    pub(crate) fn copy(&self, alloc: Global) -> Result<Stream, OutOfMemory>
+        ensures { IfOk result (λ made. made ≡ self.now) }
+    {
+        Ok(Stream {
+            offered: self.offered.copy(alloc)?,
+            input: self.input,
+            chosen: self.chosen.copy(alloc)?,
+            output: self.output,
+        })
+    }
+}
+
+/// The choice for caps of raw audio. Where nothing of what they can become is allowed, the answer is
+/// `NotNegotiated`.
+pub(crate) fn stream_of(
+    alloc: Global,
+    offered: Fixed,
+    input: Info,
+    allowed: &Caps,
+) -> Result<Stream, ElementFault>
+    requires format { sample_of offered ≡ Some input.format }
+    requires rate { rate_of offered ≡ Some input.rate }
+    requires channels { channels_of offered ≡ Some input.channels }
+    requires raw { IsRaw input.format }
+    ensures offered { IfOk result (λ made. made.offered ≡ offered) }
+    ensures chosen { IfOk result (λ made. choice offered allowed.now ≡ Some made.chosen) }
+    ensures fault { IfErr result (IsRefusal offered allowed.now) }
+{
+    let options = options(alloc, &input)?;
+    let Some(chosen) = choose(alloc, &options, allowed)? else {
+        return Err(ElementFault::NotNegotiated {
+            offered: Some(offered),
+            wanted: allowed.copy(alloc)?,
+        });
+    };
+    let Ok(output) = Info::from_fixed(&chosen) else {
+        unreachable!()
+    };
+    Ok(Stream {
+        offered,
+        input,
+        chosen,
+        output,
+    })
+}
+
+/// A buffer converted to the choice for its stream, where it is a whole number of frames. Its times and its offset
+/// stay. `got` bytes came before it.
+pub(crate) fn converted_buffer(
+    alloc: Global,
+    stream: &Stream,
+    got: u64,
+    buffer: &Buffer,
+) -> Result<Buffer, ElementFault>
+    requires { got < 2 ^ 63 }
+    ensures made { IfOk result (λ made. made ≡ buffer_of stream.now.offered stream.now.chosen buffer.now) }
+    ensures fits { OnOk result (got + length buffer.now.body < 2 ^ 63) }
+    ensures whole { OnOk result ((owed : List Item) → whole_frames (frame_width stream.now.offered) got buffer.now owed ≡ Ok owed) }
+    ensures fault { IfErr result (λ fault. (owed : List Item) → IsFaultOf (whole_frames (frame_width stream.now.offered) got buffer.now owed) fault) }
+{
+    let bytes = buffer.body.as_slice();
+    let length = bytes.len() as u64;
+    if length % u64::from(stream.input.width()) != 0 {
+        return Err(ElementFault::BadStream {
+            place: got + length,
+            kind: StreamKind::SplitFrame,
+        });
+    }
+    if got + length >= LIMIT {
+        return Err(ElementFault::TooLong { a: got, b: length });
+    }
+    let made = converted(alloc, stream.input, stream.output, bytes)?;
+    Ok(Buffer {
+        body: Body::from_vec(alloc, made)?,
+        pts: buffer.pts,
+        duration: buffer.duration,
+        offset: buffer.offset,
+        discont: false,
+    })
+}

@@ -1,0 +1,315 @@
+//! Rows of bodies and of calls. A letter stands for a call, and for what it answers and puts out.
+ghost use Rattle.std.specs.Prelude.{◌≡◌, ◌≤◌, false, IfOk};
+ghost use Rattle.flow_model.specs.Item.{is_flush_stop};
+
+use super::*;
+use audio_info::{Info, Sample};
+use gst_caps::{Caps, Fixed, List, One, Structure, Text, Value};
+use gst_item::{Body, Buffer, ElementFault, Event, Flow, Item, Outs, StreamKind};
+use gst_time::{Format, Segment};
+use std::alloc::Global;
+use std::test::Fail;
+
+/// Caps at 8000 frames a second: `l` S16LE, `b` S16BE, `3` S24LE, `4` S32LE, `8` S8, `m` mu-law, and others U8.
+fn info_by(letter: u8, channels: u32) -> Info
+    requires some { 1 ≤ channels }
+    requires few { channels ≤ 64 }
+{
+    let format = match letter {
+        b'l' => Sample::S16LE,
+        b'b' => Sample::S16BE,
+        b'3' => Sample::S24LE,
+        b'4' => Sample::S32LE,
+        b'8' => Sample::S8,
+        b'm' => Sample::MuLaw,
+        _ => Sample::U8,
+    };
+    Info {
+        format,
+        rate: 8000,
+        channels,
+    }
+}
+
+/// Allowed caps: all, or raw audio in a format of one channel or two, or at another rate.
+fn allowed_by(alloc: Global, letter: u8) -> Result<Caps, Fail> {
+    let mut made = Structure::new(alloc, "audio/x-raw")?;
+    match letter {
+        b'A' => return Ok(Caps::Any),
+        b'R' => made.set(alloc, "rate", Value::One(One::Int(44_100)))?,
+        b'W' => {
+            set_format(alloc, &mut made, "S24LE")?;
+            made.set(alloc, "channels", Value::One(One::Int(2)))?;
+        }
+        b'O' => made.set(alloc, "channels", Value::One(One::Int(1)))?,
+        _ => set_format(alloc, &mut made, "U8")?,
+    }
+    let mut structures = List::new(alloc);
+    structures.push(alloc, made)?;
+    Ok(Caps::Of(structures))
+}
+
+fn set_format(alloc: Global, structure: &mut Structure, name: &str) -> Result<(), Fail> {
+    let name = Text::from_str(alloc, name)?;
+    Ok(structure.set(alloc, "format", Value::One(One::Text(name)))?)
+}
+
+/// `2` are CAPS of two channels in S16LE, and other small letters those of one.
+fn event_by(alloc: Global, letter: u8) -> Result<Event, Fail> {
+    match letter {
+        b's' => Ok(Event::StreamStart { id: 1 }),
+        b'l' | b'u' | b'm' => Ok(Event::Caps(info_by(letter, 1).to_fixed(alloc)?)),
+        b'2' => Ok(Event::Caps(info_by(b'l', 2).to_fixed(alloc)?)),
+        b'g' => Ok(Event::Segment(Segment::new(Format::Time))),
+        b't' => Ok(Event::Tag {
+            title: Text::from_str(alloc, "title")?,
+        }),
+        b'p' => Ok(Event::Gap {
+            pts: 0,
+            duration: 1,
+        }),
+        _ => Ok(Event::Eos),
+    }
+}
+
+/// `N` is a buffer of no bytes, and `B`, `C` and `D` are those of two to four.
+fn item_by(alloc: Global, letter: u8) -> Result<Item, Fail> {
+    match letter {
+        b'N' => buffer_of(alloc, &[]),
+        b'B' => buffer_of(alloc, &[1, 2]),
+        b'C' => buffer_of(alloc, &[1, 2, 3]),
+        b'D' => buffer_of(alloc, &[1, 2, 3, 4]),
+        _ => Ok(Item::Event(event_by(alloc, letter)?)),
+    }
+}
+
+fn buffer_of(alloc: Global, bytes: &[u8]) -> Result<Item, Fail>
+    ensures { IfOk result (λ item. is_flush_stop item ≡ false) }
+{
+    Ok(Item::Buffer(Buffer {
+        body: Body::from_vec(alloc, Vec::from_slice(alloc, bytes)?)?,
+        pts: Some(1),
+        duration: Some(2),
+        offset: Some(3),
+        discont: true,
+    }))
+}
+
+fn letter_of(item: &Item) -> u8 {
+    match item {
+        Item::Buffer(buffer) => *b"NABCDEFGH"
+            .get(buffer.body.as_slice().len())
+            .unwrap_or(&b'Z'),
+        Item::Event(Event::StreamStart { .. }) => b's',
+        Item::Event(Event::Caps(caps)) => letter_of_caps(caps),
+        Item::Event(Event::Segment(_)) => b'g',
+        Item::Event(Event::Tag { .. }) => b't',
+        Item::Event(Event::Gap { .. }) => b'p',
+        Item::Event(Event::FlushStop { .. }) => b'f',
+        Item::Event(Event::Eos) => b'e',
+    }
+}
+
+/// `w` for S24LE in two channels, and `v` for U8 in two; `?` where they are not caps that an element makes at 8000
+/// frames a second.
+fn letter_of_caps(caps: &Fixed) -> u8 {
+    let Ok(info) = Info::from_fixed(caps) else {
+        return b'?';
+    };
+    if info.rate != 8000 || caps.fields() != 4 {
+        return b'?';
+    }
+    match (info.format, info.channels) {
+        (Sample::S16LE, 1) => b'l',
+        (Sample::S16LE, 2) => b'2',
+        (Sample::S24LE, 2) => b'w',
+        (Sample::U8, 1) => b'u',
+        (Sample::U8, 2) => b'v',
+        _ => b'?',
+    }
+}
+
+/// `+` for Ok, `.` for Eos, `0` for no caps that are offered, `x` for some with a wanted set that holds S16LE of one
+/// channel at 8000, `y` for some with another one, and for a split frame its place.
+fn letter_of_answer(alloc: Global, answer: Result<Flow, ElementFault>) -> Result<u8, Fail> {
+    Ok(match answer {
+        Ok(Flow::Ok) => b'+',
+        Ok(Flow::Eos) => b'.',
+        Err(ElementFault::NotNegotiated { offered: None, .. }) => b'0',
+        Err(
+            ElementFault::NotNegotiated {
+                offered: Some(_),
+                wanted,
+            },
+        ) => {
+            let common = info_by(b'l', 1).to_fixed(alloc)?;
+            if wanted.accepts(&common) { b'x' } else { b'y' }
+        }
+        Err(
+            ElementFault::BadStream {
+                place,
+                kind: StreamKind::SplitFrame,
+            },
+        ) => *b"-123456789".get(place as usize).unwrap_or(&b'Z'),
+        _ => b'!',
+    })
+}
+
+fn is_flush(item: &Item) -> bool
+    ensures { result ≡ is_flush_stop item.now }
+{
+    matches!(item, Item::Event(Event::FlushStop { .. }))
+}
+
+/// Makes one call: `f` is a flush, `d` a drain, `A`, `O`, `R`, `U` and `W` set the allowed caps, and all others
+/// feed.
+fn call(alloc: Global, convert: &mut Convert, letter: u8, out: &mut Outs) -> Result<u8, Fail> {
+    match letter {
+        b'f' => convert.flush(),
+        b'd' => {
+            if convert.drain(alloc, out).is_err() {
+                return Ok(b'!');
+            }
+        }
+        b'A' | b'O' | b'R' | b'U' | b'W' => convert.set_allowed(allowed_by(alloc, letter)?),
+        _ => {
+            let item = item_by(alloc, letter)?;
+            if !is_flush(&item) {
+                let answer = convert.feed(alloc, 0, item, out);
+                return letter_of_answer(alloc, answer);
+            }
+        }
+    }
+    Ok(b'-')
+}
+
+/// The answers, a `:`, and what was put out.
+fn trace_of(alloc: Global, calls: &[u8]) -> Result<Vec<u8>, Fail> {
+    let mut convert = Convert::new(Caps::Any).copy(alloc)?;
+    let mut out = List::new(alloc);
+    let mut trace = Vec::new(alloc);
+    for letter in calls {
+        trace.push(call(alloc, &mut convert, *letter, &mut out)?)?;
+    }
+    trace.push(b':')?;
+    for one in out.as_slice() {
+        trace.push(letter_of(&one.item))?;
+    }
+    Ok(trace)
+}
+
+#[test]
+fn calls(rt: HostRuntime) -> Result<(), Fail> {
+    let alloc = rt.alloc();
+    let rows: [(&'static [u8], &'static [u8]); 17] = [
+        (b"slgtBNpe", b"++++++++:slgtBNpe"),
+        (b"Bs", b"0+:s"),
+        (b"mlB", b"x++:lB"),
+        (b"lBWBB", b"++-++:lBwFF"),
+        (b"WlB", b"-++:wF"),
+        (b"lBAB", b"++-+:lBB"),
+        (b"lBRBAB", b"++-y-+:lBB"),
+        (b"lRlAB", b"+-y-+:lB"),
+        (b"WlBRAB", b"-++--+:wFlB"),
+        (b"lWfB", b"+--+:lwF"),
+        (b"ll", b"++:ll"),
+        (b"2OD", b"+-+:2lB"),
+        (b"2UDAD", b"+-+-+:2vB2D"),
+        (b"uCWC", b"++-+:uCwZ"),
+        (b"lBCfC", b"++5-3:lB"),
+        (b"leBlfB", b"++..-+:leB"),
+        (b"lRC", b"+-y:l"),
+    ];
+    for (calls, wanted) in rows {
+        let trace = trace_of(alloc, calls)?;
+        assert_eq!(rt; trace.as_slice(), wanted);
+    }
+    Ok(())
+}
+
+fn digit_of(letter: u8) -> u8 {
+    match letter {
+        b'0'..=b'9' => letter - b'0',
+        b'A'..=b'F' => letter - b'A' + 10,
+        _ => 0,
+    }
+}
+
+/// The bytes of hexadecimal digits.
+fn bytes_of(alloc: Global, digits: &str) -> Result<Vec<u8>, Fail> {
+    let mut made = Vec::new(alloc);
+    let (pairs, _) = digits.as_bytes().as_chunks::<2>();
+    for [high, low] in pairs {
+        made.push(digit_of(*high) % 16 * 16 + digit_of(*low) % 16)?;
+    }
+    Ok(made)
+}
+
+/// The body that is put out for a body in one format and number of channels, in others.
+fn body_for(alloc: Global, from: Info, to: Info, bytes: Vec<u8>) -> Result<Item, Fail> {
+    let mut structure = Structure::new(alloc, "audio/x-raw")?;
+    set_format(alloc, &mut structure, to.format.name())?;
+    structure.set(alloc, "channels", Value::One(One::Int(to.channels as i32)))?;
+    let mut structures = List::new(alloc);
+    structures.push(alloc, structure)?;
+    let mut convert = Convert::new(Caps::Of(structures));
+    let mut out = List::new(alloc);
+    let caps = Item::Event(Event::Caps(from.to_fixed(alloc)?));
+    let _ = convert.feed(alloc, 0, caps, &mut out).is_ok();
+    let buffer = buffer_of(alloc, bytes.as_slice())?;
+    let _ = convert.feed(alloc, 0, buffer, &mut out).is_ok();
+    match out.into_vec().pop() {
+        Some(one) => Ok(one.item),
+        None => Ok(Item::Event(Event::Eos)),
+    }
+}
+
+/// The letter and the channels of caps.
+fn caps_of(word: &str) -> Info {
+    match word.as_bytes() {
+        [letter, b'2'] => info_by(*letter, 2),
+        [letter, ..] => info_by(*letter, 1),
+        [] => info_by(b'u', 1),
+    }
+}
+
+/// The caps and the bytes that come in, and those that go out.
+const BODIES: &str = "\
+l1 000001000200 32 000000000000000100000100000200000200
+l2 0300FCFF l1 FFFF
+l2 FFFF0000 l1 FFFF
+u1 0080FF l1 00800000007F
+l1 00800000007FFF80 u1 0080FF00
+41 FFFFFFFFFFFFFF7F 81 FF7F
+b1 1234 l1 3412
+l1 1234 b1 3412
+82 0102 l1 0001
+42 0000008000000080FFFFFF7FFFFFFF7F 41 00000080FFFFFF7F
+31 563412 41 00563412
+31 FFFFFF l2 FFFFFFFF
+41 00000080 31 000080
+u2 00FF u1 7F
+81 80FF u1 007F";
+
+#[test]
+fn bodies(rt: HostRuntime) -> Result<(), Fail> {
+    let alloc = rt.alloc();
+    for line in BODIES.lines() {
+        let mut words = line.split(' ');
+        let from = caps_of(words.next().unwrap_or(""));
+        let bytes = bytes_of(alloc, words.next().unwrap_or(""))?;
+        let to = caps_of(words.next().unwrap_or(""));
+        let wanted = bytes_of(alloc, words.next().unwrap_or(""))?;
+        match body_for(alloc, from, to, bytes)? {
+            Item::Buffer(buffer) => {
+                assert_eq!(rt; buffer.body.as_slice(), wanted.as_slice(), "{line}");
+                assert_eq!(rt; buffer.pts, Some(1));
+                assert_eq!(rt; buffer.duration, Some(2));
+                assert_eq!(rt; buffer.offset, Some(3));
+                assert!(rt; !buffer.discont);
+            }
+            Item::Event(_) => assert!(rt; false, "{line}"),
+        }
+    }
+    Ok(())
+}
