@@ -3,3 +3,4 @@ mod Lines
 mod Kept
 mod Cutting
 mod Rows
+mod Steps
