@@ -4,3 +4,8 @@ mod Kept
 mod Cutting
 mod Rows
 mod Steps
+mod Splitting
+mod Answering
+mod Calm
+mod Spelling
+mod Facts

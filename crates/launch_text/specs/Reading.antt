@@ -1,10 +1,13 @@
 -- How the words of a line are read, one behind the other.
-use Rattle.std.specs.Prelude.{◌≡◌, ℕ, Bool, true, false, cond, ◌==◌, List, [], ◌∷◌, ◌++◌, Option, Some, None, Result, Ok, Err, codes, length, nat_lt}
+use Rattle.std.specs.Prelude.{◌≡◌, ℕ, Bool, true, false, cond, ◌==◌, ◌<◌, List, [], ◌∷◌, ◌++◌, Option, Some, None, Result, Ok, Err, codes, length, nat_lt, take, drop}
+use Rattle.std.specs.List.{list_all}
 use Rattle.std.specs.Str.{bytes_eq}
 use Rattle.gst_caps.specs.declared.name.Prop.{Prop}
-use Rattle.launch_text.specs.Bytes.{is_run}
-use Rattle.launch_text.specs.Words.{begins_caps, is_closed, plain, taken}
+use Rattle.launch_text.specs.Bytes.{is_run, is_white}
+use Rattle.launch_text.specs.Words.{begins_caps, is_closed, is_start, plain, taken, word_length}
 use Rattle.launch_text.specs.declared.class.Class.TheVariants.{Kind, Name, Property}
+use Rattle.launch_text.specs.declared.fault.LineFault.{LineFault}
+use Rattle.launch_text.specs.declared.fault.LineFault.TheVariants.{BadLine, OutOfMemory as NoMemory}
 use Rattle.launch_text.specs.declared.fault.Refusal.{Refusal}
 use Rattle.launch_text.specs.declared.fault.Refusal.TheVariants.{Stuck, OutOfMemory}
 use Rattle.launch_text.specs.declared.line.Last.{Last}
@@ -181,3 +184,52 @@ none = (record { outer = []; parts = []; nodes = [] }, Start)
 -- the tree of words
 abbrev pub tree_of : List (List ℕ) → Option Tree
 tree_of words = run (Some none) words >>= finish
+
+-- the word at the front of a text
+abbrev pub first_word : List ℕ → List ℕ
+first_word text = take (word_length plain text) text
+
+abbrev pub behind_word : List ℕ → List ℕ
+behind_word text = drop (word_length plain text) text
+
+-- the words of a text up to a rest, with white space before each word and behind the last one
+abbrev pub Splits : List (List ℕ) → List ℕ → List ℕ → Type 0
+Splits [] text rest = (white : List ℕ) × (text ≡ white ++ rest) × (list_all is_white white ≡ true)
+Splits (w ∷ ws) text rest = (white mid : List ℕ) × (text ≡ white ++ (w ++ mid)) × (list_all is_white white ≡ true) × (0 < length w) × (word_length plain (w ++ mid) ≡ length w) × Splits ws mid rest
+
+-- the text is read up to a rest
+pub record Passed (text rest : List ℕ) (state : State) : Type 0 where
+  pub words : List (List ℕ)
+  pub splits : Splits words text rest
+  pub reads : run (Some none) words ≡ Some state
+
+-- the rest can't go on
+abbrev pub IsStuck : State → List ℕ → Type 0
+IsStuck s [] = finish s ≡ None
+IsStuck s (b ∷ bs) = step s (first_word (b ∷ bs)) ≡ None
+
+-- a text that is read up to a rest, which begins with no white space and can't go on
+pub record Stopped (text : List ℕ) : Type 0 where
+  pub rest : List ℕ
+  pub state : State
+  pub passed : Passed text rest state
+  pub start : is_start rest ≡ true
+  pub stuck : IsStuck state rest
+
+-- what is told of a text
+abbrev pub Told : List ℕ → Result Tree LineFault → Type 0
+Told text (Ok tree) = (words : List (List ℕ)) × Splits words text [] × (tree_of words ≡ Some tree)
+Told text (Err (BadLine place kind)) = Stopped text
+Told text (Err NoMemory) = Unit {0}
+
+-- the fault of a refusal
+abbrev pub Faults : Refusal → LineFault → Type 0
+Faults Stuck (BadLine place kind) = Unit {0}
+Faults Stuck NoMemory = ⊥
+Faults OutOfMemory fault = fault ≡ NoMemory
+
+-- the text has this tree, unless memory is wanting
+abbrev pub Answers : Result Tree LineFault → Tree → Type 0
+Answers (Ok tree) wanted = tree ≡ wanted
+Answers (Err (BadLine place kind)) wanted = ⊥
+Answers (Err NoMemory) wanted = Unit {0}

@@ -1,6 +1,7 @@
 //! Reads a line.
 ghost use Rattle.std.specs.Prelude.{◌≡◌, ◌<◌, ◌≤◌, length, Err, OnOk};
 ghost use Rattle.launch_text.specs.declared.fault.LineFault.TheVariants.{BadLine};
+ghost use Rattle.launch_text.specs.Reading.{Faults, Told};
 ghost use Rattle.launch_text.specs.declared.fault.LineKind.TheVariants.{TooLong};
 
 use crate::fault::{LineFault, LineKind, Refusal};
@@ -16,7 +17,9 @@ use std::alloc::Global;
 const LONGEST: usize = 65_536;
 
 /// The fault of a line that is refused at its stop.
-fn fault_at(refusal: Refusal, stop: &Stop<'_>) -> LineFault {
+fn fault_at(refusal: Refusal, stop: &Stop<'_>) -> LineFault
+    ensures { Faults refusal result }
+{
     match refusal {
         Refusal::Stuck => stop.fault(),
         Refusal::OutOfMemory => LineFault::OutOfMemory,
@@ -24,7 +27,9 @@ fn fault_at(refusal: Refusal, stop: &Stop<'_>) -> LineFault {
 }
 
 /// Reads a line of a length that is allowed.
-fn read_line(alloc: Global, line: &str) -> Result<Tree, LineFault> {
+fn read_line(alloc: Global, line: &str) -> Result<Tree, LineFault>
+    ensures { Told line.now result }
+{
     let mut parts = Parts::new(alloc);
     let mut last = Last::Start;
     let mut rest = behind_white(line);
