@@ -9,3 +9,4 @@ mod Answering
 mod Calm
 mod Spelling
 mod Facts
+mod Complete
