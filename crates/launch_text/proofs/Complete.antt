@@ -290,11 +290,11 @@ PartRuns p = (room : ℕ) (outer : List (List Part)) (ps : List Part) (h : Held)
 abbrev TreeRuns : Tree → Type 0
 TreeRuns t = (room : ℕ) (outer : List (List Part)) (ps : List Part) (h : Held) (last : Last) (ws : List (List ℕ)) → Ready (base outer ps) h last → length outer + room ≤ 16 → tree_fits t room ≡ true → Spells (tree_tokens t) ws → Leads (h, last) ws (base outer (ps ++ t.parts))
 
-fits_chain : (c : Links) (room : ℕ) → part_fits (ChainPart c) room ≡ is_chain c.nodes
+pub fits_chain : (c : Links) (room : ℕ) → part_fits (ChainPart c) room ≡ is_chain c.nodes
 unfolding roll-Part roll
 fits_chain c room = ap (λ f. f room) (fold-roll-Part (ℕ → Bool) (ℕ → Bool) fits_part fits_tree (Links-F c))
 
-fits_bin : (t : Tree) (room : ℕ) → part_fits (BinPart t) (suc room) ≡ tree_fits t room
+pub fits_bin : (t : Tree) (room : ℕ) → part_fits (BinPart t) (suc room) ≡ tree_fits t room
 unfolding roll-Part roll
 fits_bin t room = ap (λ f. f (suc room)) (fold-roll-Part (ℕ → Bool) (ℕ → Bool) fits_part fits_tree (Bin-F t))
 

@@ -10,3 +10,5 @@ mod Calm
 mod Spelling
 mod Facts
 mod Complete
+mod Sound
+mod Parsing

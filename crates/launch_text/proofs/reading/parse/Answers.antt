@@ -1,0 +1,6 @@
+-- What the line gives.
+use Rattle.launch_text.proofs.Parsing.{told_complete}
+use Rattle.launch_text.proofs.reading.parse.Goals as goal
+
+pub returns-clause-complete : goal.returns-clause-complete
+returns-clause-complete c tree short h = told_complete c.args.text.now c.read_line.result tree c.read_line.ensures h
