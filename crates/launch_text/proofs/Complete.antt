@@ -232,14 +232,14 @@ others_run (m ∷ []) h n ws a s =
     let o = s.3 in
     let is : ws ≡ codes "!" ∷ p.0 = words_one s.0 s.1 ws o.0 s.2 o.1 ∙ (λ i. o.2 i ∷ s.1) ∙ ap (λ l. codes "!" ∷ l) (p.2 ∙ ap (λ l. p.0 ++ l) p.4 ∙ append-nil p.0) in
     same_end (h, last_of n) ws _ _ (ap (λ l. base h.outer (h.parts ++ ChainPart (record { nodes = l }) ∷ [])) (append_assoc h.nodes (n ∷ []) (m ∷ [])))
-        (behind_state (h, last_of n) (linked_to h n) (codes "!" ∷ []) p.0 ws _ is (link_at h n) (end_run (linked_to h n).0 m p.0 a p.3))
+    (behind_state (h, last_of n) (linked_to h n) (codes "!" ∷ []) p.0 ws _ is (link_at h n) (end_run (linked_to h n).0 m p.0 a p.3))
 others_run (m ∷ m2 ∷ ms) h n ws a s =
     let p = spells_parts (node_tokens m) (linked (m2 ∷ ms)) s.1 s.4 in
     let o = s.3 in
     let is : ws ≡ (codes "!" ∷ p.0) ++ p.1 = words_one s.0 s.1 ws o.0 s.2 o.1 ∙ (λ i. o.2 i ∷ s.1) ∙ ap (λ l. codes "!" ∷ l) p.2 in
     let first : run (Some (h, last_of n)) (codes "!" ∷ p.0) ≡ Some ((linked_to h n).0, last_of m) = ap (λ x. run x p.0) (link_at h n) ∙ middle_run (linked_to h n).0 m p.0 (and_left (is_middle m) (are_others (m2 ∷ ms)) a) p.3 in
     same_end (h, last_of n) ws _ _ (ap (λ l. base h.outer (h.parts ++ ChainPart (record { nodes = l }) ∷ [])) (append_assoc h.nodes (n ∷ []) (m ∷ m2 ∷ ms)))
-        (behind_state (h, last_of n) ((linked_to h n).0, last_of m) (codes "!" ∷ p.0) p.1 ws _ is first (others_run (m2 ∷ ms) (linked_to h n).0 m p.1 (and_right (is_middle m) (are_others (m2 ∷ ms)) a) p.4))
+    (behind_state (h, last_of n) ((linked_to h n).0, last_of m) (codes "!" ∷ p.0) p.1 ws _ is first (others_run (m2 ∷ ms) (linked_to h n).0 m p.1 (and_right (is_middle m) (are_others (m2 ∷ ms)) a) p.4))
 
 kind_begins : (g : Held) (k : List ℕ) → is_run Kind k ≡ true → begin_part g k ≡ Some (g, Element k [])
 unfolding begin_part
@@ -262,7 +262,7 @@ first_run g h last (ReferenceNode name pad) ws r m s =
     let f = o.2.1 in
     let q = o.2.2 in
     single_run (h, last) (g, Reference (ReferenceNode name pad)) (reference name pad) ws o
-        (ap (λ v. step_from h last v) o.2.0 ∙ begin_at g h last (reference_text name pad) r (reference_no_property name pad f q) (reference_differs name pad (codes "!") f q refl) (reference_differs name pad (codes ")") f q refl) ∙ reference_begins g name pad f q)
+    (ap (λ v. step_from h last v) o.2.0 ∙ begin_at g h last (reference_text name pad) r (reference_no_property name pad f q) (reference_differs name pad (codes "!") f q refl) (reference_differs name pad (codes ")") f q refl) ∙ reference_begins g name pad f q)
 
 -- a chain
 pub chain_run : (ns : List Node) (outer : List (List Part)) (ps : List Part) (h : Held) (last : Last) (ws : List (List ℕ)) → Ready (base outer ps) h last → is_chain ns ≡ true → Spells (chain_tokens ns) ws → Leads (h, last) ws (base outer (ps ++ ChainPart (record { nodes = ns }) ∷ []))
@@ -339,8 +339,8 @@ bin_runs t ih (suc room) outer ps h last ws r d f s =
     let inside = ih room (outer ++ ps ∷ []) [] (base (outer ++ ps ∷ []) []) Start p.0 refl (omega (arith, d, length-append outer (ps ∷ []))) (sym (fits_bin t room) ∙ f) p.3 in
     let close : step inside.state c.0 ≡ Some (base outer (ps ++ BinPart t ∷ []), Bin) = ap (step inside.state) c.2 ∙ close_at (base (outer ++ ps ∷ []) t.parts) inside.state.0 inside.state.1 inside.ended ∙ ap (λ x. x >>= λ y. Some (y, Bin)) (closed_last (base (outer ++ ps ∷ []) t.parts) outer ps refl) in
     behind_state (h, last) (base (outer ++ ps ∷ []) [], Start) (codes "(" ∷ []) (p.0 ++ p.1) ws _ is first
-        (behind_state (base (outer ++ ps ∷ []) [], Start) inside.state p.0 p.1 (p.0 ++ p.1) _ refl inside.reads
-            (record { state = (base outer (ps ++ BinPart t ∷ []), Bin); reads = single_run inside.state (base outer (ps ++ BinPart t ∷ []), Bin) closes p.1 c close; ended = refl }))
+    (behind_state (base (outer ++ ps ∷ []) [], Start) inside.state p.0 p.1 (p.0 ++ p.1) _ refl inside.reads
+    (record { state = (base outer (ps ++ BinPart t ∷ []), Bin); reads = single_run inside.state (base outer (ps ++ BinPart t ∷ []), Bin) closes p.1 c close; ended = refl }))
 
 abbrev Proved : Type 0
 Proved = (p : Part) × PartRuns p

@@ -11,4 +11,5 @@ mod Spelling
 mod Facts
 mod Complete
 mod Sound
+mod Again
 mod Parsing

@@ -69,10 +69,10 @@ spells_parts (x ∷ xs) ys w h =
     (h.0 ++ r.0, r.1, h.2 ∙ ap (λ l. h.0 ++ l) r.2 ∙ sym (append_assoc h.0 r.0 r.1), (h.0, r.0, refl, h.3, r.3), r.4)
 
 -- a word that is closed
-record IsWhole (w : List ℕ) : Type 0 where
-  some : 0 < length w
-  all : word_length plain w ≡ length w
-  closed : is_closed w ≡ true
+pub record IsWhole (w : List ℕ) : Type 0 where
+  pub some : 0 < length w
+  pub all : word_length plain w ≡ length w
+  pub closed : is_closed w ≡ true
 
 whole_calm : (w v : List ℕ) → w ≡ v → 0 < length v → word_length plain v ≡ length v → is_closed v ≡ true → IsWhole w
 whole_calm w v e some all closed = subst IsWhole (sym e) (record { some = some; all = all; closed = closed })
@@ -119,15 +119,14 @@ ends_white (b ∷ bs) x some h = and_left (is_white b) (list_all is_white bs) h
 apart_words : (m : Spaced) (ms : List Spaced) (mid : List ℕ) → flat_map with_white (m ∷ ms) ++ mid ≡ m.0 ++ (m.1 ++ (flat_map with_white ms ++ mid))
 apart_words m ms mid = append_assoc (m.0 ++ m.1) (flat_map with_white ms) mid ∙ append_assoc m.0 m.1 (flat_map with_white ms ++ mid)
 
-more_facts : (m : Spaced) → is_more m ≡ true → (not (eqb (length m.0) 0) ≡ true) × (list_all is_white m.0 ≡ true) × (is_word m.1 ≡ true) × (is_closed m.1 ≡ true)
+pub more_facts : (m : Spaced) → is_more m ≡ true → (not (eqb (length m.0) 0) ≡ true) × (list_all is_white m.0 ≡ true) × (is_word m.1 ≡ true) × (is_closed m.1 ≡ true)
 more_facts m h = four (not (eqb (length m.0) 0)) (list_all is_white m.0) (is_word m.1) (is_closed m.1) h
 
 more_split : (more : List Spaced) (mid : List ℕ) (ws : List (List ℕ)) → list_all is_more more ≡ true → ends mid ≡ true → Splits ws mid [] → Splits (map alone more ++ ws) (flat_map with_white more ++ mid) [] × (ends (flat_map with_white more ++ mid) ≡ true)
 more_split [] mid ws h en k = (k, en)
 more_split (m ∷ ms) mid ws h en k =
     let f = more_facts m (and_left (is_more m) (list_all is_more ms) h) in
-    let ih = more_split ms mid ws (and_right (is_more m) (list_all is_more ms) h) en k in
-    (
+    let ih = more_split ms mid ws (and_right (is_more m) (list_all is_more ms) h) en k in (
       split_one (flat_map with_white (m ∷ ms) ++ mid) m.0 m.1 (flat_map with_white ms ++ mid) (map alone ms ++ ws) (apart_words m ms mid) f.1 (record { some = word_some m.1 f.2; all = word_all m.1 f.2; closed = f.3 }) ih.1 ih.0,
       ap ends (apart_words m ms mid) ∙ ends_white m.0 (m.1 ++ (flat_map with_white ms ++ mid)) f.0 f.1,
     )
@@ -154,8 +153,7 @@ single t ts text mid r m f ih = (r.word ∷ ih.0, split_one text r.white r.word 
 caps_first : (text : List ℕ) (ts : List Token) (all mid : List ℕ) (r : ReadsOne (caps text) all mid) (a : AreCaps r.word text) → Spelt ts mid → Spelt (caps text ∷ ts) all
 caps_first text ts all mid r a ih =
     let k = more_split a.more mid ih.0 a.are_words r.ended ih.1 in
-    let is : all ≡ r.white ++ (a.first ++ (flat_map with_white a.more ++ mid)) = r.parts ∙ ap (λ l. r.white ++ (l ++ mid)) a.words ∙ ap (λ l. r.white ++ l) (append_assoc a.first (flat_map with_white a.more) mid) in
-    (
+    let is : all ≡ r.white ++ (a.first ++ (flat_map with_white a.more ++ mid)) = r.parts ∙ ap (λ l. r.white ++ (l ++ mid)) a.words ∙ ap (λ l. r.white ++ l) (append_assoc a.first (flat_map with_white a.more) mid) in (
       a.first ∷ (map alone a.more ++ ih.0),
       split_one all r.white a.first (flat_map with_white a.more ++ mid) (map alone a.more ++ ih.0) is r.are_white (record { some = word_some a.first a.is_one; all = word_all a.first a.is_one; closed = a.closed }) k.1 k.0,
       (a.first ∷ map alone a.more, ih.0, refl, record { first = a.first; more = map alone a.more; begun = a.begun; closed = a.closed; all_closed = more_closed a.more a.are_words; all_plain = sym (all_alone a.more) ∙ a.no_link; is = refl; says = a.says ∙ ap (λ l. taken Caps plain a.first ++ l) (said_alone a.more) }, ih.2),

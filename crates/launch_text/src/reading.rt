@@ -1,5 +1,5 @@
 //! Reads a line.
-ghost use Rattle.std.specs.Prelude.{◌≡◌, ◌<◌, ◌≤◌, length, Err, OnOk};
+ghost use Rattle.std.specs.Prelude.{◌≡◌, ◌<◌, ◌≤◌, length, Err, IfOk, OnOk};
 ghost use Rattle.launch_text.specs.declared.fault.LineFault.TheVariants.{BadLine};
 ghost use Rattle.launch_text.specs.Grammar.{IsLine};
 ghost use Rattle.launch_text.specs.Reading.{Answers, Faults, Told};
@@ -66,6 +66,7 @@ fn read_line(alloc: Global, line: &str) -> Result<Tree, LineFault>
 /// The tree for which the text stands, as `filesrc location=a ! identity ! filesink location=b`. A line has at most
 /// 65,536 bytes, and brackets are at most 16 deep.
 pub fn parse(alloc: Global, text: &str) -> Result<Tree, LineFault>
+    ensures sound { IfOk result (λ tree. IsLine text.now tree) }
     ensures complete { (tree : TreeOf) → length text.now ≤ 65536 → IsLine text.now tree → Answers result tree }
     ensures long { 65536 < length text.now → result ≡ Err (BadLine 65536 TooLong) }
     ensures short { OnOk result (length text.now ≤ 65536) }
