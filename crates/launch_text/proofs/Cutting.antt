@@ -96,7 +96,7 @@ whole m (b ∷ bs) = step (whole (after m b) bs) (is_plain m && is_white b) refl
     step ih true e = refl
     step ih false e = rw e (ap suc ih)
 
-some_word : (x : List ℕ) → is_start x ≡ true → 0 < length x → 0 < word_length plain x
+pub some_word : (x : List ℕ) → is_start x ≡ true → 0 < length x → 0 < word_length plain x
 some_word [] s h = absurd (omega (arith, h))
 some_word (b ∷ bs) s h = step (is_white b) refl
   where
@@ -107,7 +107,7 @@ some_word (b ∷ bs) s h = step (is_white b) refl
     step true e = absurd (no (rw e at s))
     step false e = omega arith
 
-length_front : (x : List ℕ) (n : ℕ) → n ≤ length x → length (take n x) ≡ n
+pub length_front : (x : List ℕ) (n : ℕ) → n ≤ length x → length (take n x) ≡ n
 length_front x zero h = refl
 length_front [] (suc n) h = absurd (omega (arith, h))
 length_front (b ∷ bs) (suc n) h = ap suc (length_front bs n (omega (arith, h)))

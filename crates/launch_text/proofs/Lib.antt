@@ -3,3 +3,13 @@ mod Lines
 mod Kept
 mod Cutting
 mod Rows
+mod Steps
+mod Splitting
+mod Answering
+mod Calm
+mod Spelling
+mod Facts
+mod Complete
+mod Sound
+mod Again
+mod Parsing

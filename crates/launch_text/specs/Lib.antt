@@ -3,3 +3,4 @@ pub mod Tokens
 pub mod Printed
 pub mod Words
 pub mod Grammar
+pub mod Reading

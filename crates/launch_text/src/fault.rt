@@ -45,18 +45,33 @@ pub(crate) enum Refusal {
 }
 
 impl From<OutOfMemory> for Refusal {
+    ghost use Rattle.std.specs.Prelude.{◌≡◌};
+    ghost use Rattle.launch_text.specs.declared.fault.Refusal.TheVariants.{OutOfMemory as NoMemory};
+
+    ghost from_gives = { λ _ refusal. refusal ≡ NoMemory };
+
     fn from(_refused: OutOfMemory) -> Refusal {
         Refusal::OutOfMemory
     }
 }
 
 impl From<AllocError> for Refusal {
+    ghost use Rattle.std.specs.Prelude.{◌≡◌};
+    ghost use Rattle.launch_text.specs.declared.fault.Refusal.TheVariants.{OutOfMemory as NoMemory};
+
+    ghost from_gives = { λ _ refusal. refusal ≡ NoMemory };
+
     fn from(_refused: AllocError) -> Refusal {
         Refusal::OutOfMemory
     }
 }
 
 impl<T: Drop> From<AllocFailed<T>> for Refusal {
+    ghost use Rattle.std.specs.Prelude.{◌≡◌};
+    ghost use Rattle.launch_text.specs.declared.fault.Refusal.TheVariants.{OutOfMemory as NoMemory};
+
+    ghost from_gives = { λ _ refusal. refusal ≡ NoMemory };
+
     fn from(_refused: AllocFailed<T>) -> Refusal {
         Refusal::OutOfMemory
     }

@@ -5,6 +5,7 @@ mod characters;
 mod class;
 pub mod fault;
 mod front;
+mod laws;
 mod line;
 mod parts;
 mod place;
@@ -15,6 +16,7 @@ mod value;
 mod word;
 
 pub use fault::{LineFault, LineKind};
+pub use laws::printed_again;
 pub use printing::print;
 pub use reading::parse;
 pub use tree::{Chain, Node, Part, Tree};

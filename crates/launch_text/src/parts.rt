@@ -1,11 +1,7 @@
 //! What is whole of a line.
-ghost use Rattle.std.specs.Prelude.{◌≡◌, ◌++◌, ◌∷◌, ◌<◌, [], List as Members, length, OnOk};
-ghost use Rattle.launch_text.specs.declared.tree.Part.{Part as PartOf};
-ghost use Rattle.launch_text.specs.declared.tree.Part.TheVariants.{Bin, Chain as Links};
-
 use crate::fault::Refusal;
 use crate::tree::{Chain, Node, Part, Tree};
-use gst_caps::List;
+use gst_caps::{List, OutOfMemory};
 use std::alloc::Global;
 use std::mem;
 
@@ -24,6 +20,9 @@ pub(crate) struct Parts {
 }
 
 impl Parts {
+    ghost use Rattle.std.specs.Prelude.{◌≡◌, [], OnOk};
+    ghost use Rattle.launch_text.specs.Reading.{Gives, closed, ended, held, opened};
+
     /// Nothing.
     pub(crate) fn new(alloc: Global) -> Parts
         ensures outer { result.outer.items ≡ [] }
@@ -38,10 +37,8 @@ impl Parts {
     }
 
     /// Ends the chain with this node.
-    pub(crate) fn end_chain(&mut self, alloc: Global, last: Node) -> Result<(), Refusal>
-        ensures outer { OnOk result (self.new.outer.items ≡ self.old.outer.items) }
-        ensures parts { OnOk result (self.new.parts ≡ self.old.parts ++ Links (record { nodes = self.old.nodes ++ last ∷ [] }) ∷ []) }
-        ensures nodes { OnOk result (self.new.nodes ≡ []) }
+    pub(crate) fn end_chain(&mut self, alloc: Global, last: Node) -> Result<(), OutOfMemory>
+        ensures { OnOk result (held self.new ≡ ended (held self.old) last) }
     {
         let mut nodes = mem::replace(&mut self.nodes, List::new(alloc));
         nodes.push(alloc, last)?;
@@ -50,11 +47,9 @@ impl Parts {
     }
 
     /// Opens a bracket.
+    #[tactic(auto, unfolding(crate::specs::Reading::opened))]
     pub(crate) fn open(&mut self, alloc: Global) -> Result<(), Refusal>
-        ensures room { OnOk result (length self.old.outer.items < 16) }
-        ensures outer { OnOk result (self.new.outer.items ≡ self.old.outer.items ++ self.old.parts ∷ []) }
-        ensures parts { OnOk result (self.new.parts ≡ []) }
-        ensures nodes { OnOk result (self.new.nodes ≡ self.old.nodes) }
+        ensures { Gives (λ _. held self.new) result (opened (held self.old)) }
     {
         if self.outer.len() >= DEEPEST {
             return Err(Refusal::Stuck);
@@ -65,9 +60,9 @@ impl Parts {
     }
 
     /// Closes the last open bracket.
+    #[tactic(auto, unfolding(crate::specs::Reading::closed))]
     pub(crate) fn close(&mut self, alloc: Global) -> Result<(), Refusal>
-        ensures parts { OnOk result ((before : Members PartOf) × (self.old.outer.items ≡ self.new.outer.items ++ before ∷ []) × (self.new.parts ≡ before ++ Bin (record { parts = self.old.parts }) ∷ [])) }
-        ensures nodes { OnOk result (self.new.nodes ≡ self.old.nodes) }
+        ensures { Gives (λ _. held self.new) result (closed (held self.old)) }
     {
         let Some(before) = self.outer.pop() else {
             return Err(Refusal::Stuck);

@@ -1,4 +1,7 @@
 //! Where and why a text is no line.
+ghost use Rattle.launch_text.specs.Reading.{Faults};
+ghost use Rattle.launch_text.specs.declared.fault.Refusal.TheVariants.{Stuck};
+
 use crate::fault::{LineFault, LineKind};
 use crate::front::{Spot, front_length};
 use crate::parts::DEEPEST;
@@ -89,7 +92,9 @@ impl Stop<'_> {
     }
 
     /// The fault of the line.
-    pub(crate) fn fault(&self) -> LineFault {
+    pub(crate) fn fault(&self) -> LineFault
+        ensures { Faults Stuck result }
+    {
         let front = front_length(self.spot, self.word, self.depth);
         LineFault::BadLine {
             place: u32::try_from(self.place.saturating_add(front)).unwrap_or(u32::MAX),

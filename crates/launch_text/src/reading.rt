@@ -1,6 +1,9 @@
 //! Reads a line.
-ghost use Rattle.std.specs.Prelude.{◌≡◌, ◌<◌, ◌≤◌, length, Err, OnOk};
+ghost use Rattle.std.specs.Prelude.{◌≡◌, ◌<◌, ◌≤◌, length, Err, IfOk, OnOk};
 ghost use Rattle.launch_text.specs.declared.fault.LineFault.TheVariants.{BadLine};
+ghost use Rattle.launch_text.specs.Grammar.{IsLine};
+ghost use Rattle.launch_text.specs.Reading.{Answers, Faults, Told};
+ghost use Rattle.launch_text.specs.declared.tree.Tree.{Tree as TreeOf};
 ghost use Rattle.launch_text.specs.declared.fault.LineKind.TheVariants.{TooLong};
 
 use crate::fault::{LineFault, LineKind, Refusal};
@@ -16,7 +19,9 @@ use std::alloc::Global;
 const LONGEST: usize = 65_536;
 
 /// The fault of a line that is refused at its stop.
-fn fault_at(refusal: Refusal, stop: &Stop<'_>) -> LineFault {
+fn fault_at(refusal: Refusal, stop: &Stop<'_>) -> LineFault
+    ensures { Faults refusal result }
+{
     match refusal {
         Refusal::Stuck => stop.fault(),
         Refusal::OutOfMemory => LineFault::OutOfMemory,
@@ -24,7 +29,9 @@ fn fault_at(refusal: Refusal, stop: &Stop<'_>) -> LineFault {
 }
 
 /// Reads a line of a length that is allowed.
-fn read_line(alloc: Global, line: &str) -> Result<Tree, LineFault> {
+fn read_line(alloc: Global, line: &str) -> Result<Tree, LineFault>
+    ensures { Told line.now result }
+{
     let mut parts = Parts::new(alloc);
     let mut last = Last::Start;
     let mut rest = behind_white(line);
@@ -59,6 +66,8 @@ fn read_line(alloc: Global, line: &str) -> Result<Tree, LineFault> {
 /// The tree for which the text stands, as `filesrc location=a ! identity ! filesink location=b`. A line has at most
 /// 65,536 bytes, and brackets are at most 16 deep.
 pub fn parse(alloc: Global, text: &str) -> Result<Tree, LineFault>
+    ensures sound { IfOk result (λ tree. IsLine text.now tree) }
+    ensures complete { (tree : TreeOf) → length text.now ≤ 65536 → IsLine text.now tree → Answers result tree }
     ensures long { 65536 < length text.now → result ≡ Err (BadLine 65536 TooLong) }
     ensures short { OnOk result (length text.now ≤ 65536) }
 {

@@ -1,15 +1,18 @@
 //! What words stand for.
-ghost use Rattle.std.specs.Prelude.{◌≡◌, ◌++◌, ℕ, true, IfOk, OnOk};
+ghost use Rattle.std.specs.Prelude.{◌≡◌, ◌++◌, ◌<◌, ℕ, IfOk, OnOk};
 ghost use Rattle.std.specs.String.{string_bytes};
+ghost use Rattle.std.specs.Option.{option_map};
 ghost use Rattle.std.specs.Char.{encode_utf8};
+ghost use Rattle.launch_text.specs.Reading.{Gives, cut, pad_of, property_of, reference_of, said};
 ghost use Rattle.launch_text.specs.Words.{begins_caps, is_closed, kept, plain, taken};
 
 use crate::characters::Characters;
 use crate::class::{Class, is_run};
 use crate::fault::Refusal;
 use crate::printing::Marked;
+use crate::tree::Node;
 use crate::word::Mode;
-use gst_caps::Text;
+use gst_caps::{OutOfMemory, Text};
 use std::alloc::Global;
 
 /// Puts what a character of a word adds to a value or to caps.
@@ -18,7 +21,7 @@ fn put_kept(
     marked: Marked,
     escaped: bool,
     character: char,
-) -> Result<(), Refusal>
+) -> Result<(), OutOfMemory>
     ensures { OnOk result (string_bytes into.new ≡ string_bytes into.old ++ kept marked escaped character (encode_utf8 character)) }
 {
     match marked {
@@ -28,7 +31,7 @@ fn put_kept(
 }
 
 /// To a value double quotes and backslashes add nothing but behind a backslash.
-fn put_value_part(into: &mut String, escaped: bool, character: char) -> Result<(), Refusal>
+fn put_value_part(into: &mut String, escaped: bool, character: char) -> Result<(), OutOfMemory>
     ensures { OnOk result (string_bytes into.new ≡ string_bytes into.old ++ kept Marked.Value escaped character (encode_utf8 character)) }
 {
     if !escaped && matches!(character, '"' | '\\') {
@@ -39,7 +42,7 @@ fn put_value_part(into: &mut String, escaped: bool, character: char) -> Result<(
 }
 
 /// To caps only a backslash before a space adds nothing.
-fn put_caps_part(into: &mut String, escaped: bool, character: char) -> Result<(), Refusal>
+fn put_caps_part(into: &mut String, escaped: bool, character: char) -> Result<(), OutOfMemory>
     ensures { OnOk result (string_bytes into.new ≡ string_bytes into.old ++ kept Marked.Caps escaped character (encode_utf8 character)) }
 {
     if !escaped && character == '\\' {
@@ -54,10 +57,10 @@ fn put_caps_part(into: &mut String, escaped: bool, character: char) -> Result<()
     Ok(())
 }
 
-/// Puts what a word says of a value or of caps. It has to be closed.
-fn read_marked(into: &mut String, marked: Marked, word: &str) -> Result<(), Refusal>
+/// Puts what a word says of a value or of caps.
+fn put_said(into: &mut String, marked: Marked, word: &str) -> Result<bool, OutOfMemory>
     ensures says { OnOk result (string_bytes into.new ≡ string_bytes into.old ++ taken marked plain word.now) }
-    ensures closed { OnOk result (is_closed word.now ≡ true) }
+    ensures closed { IfOk result (λ closed. closed ≡ is_closed word.now) }
 {
     let mut mode = Mode::PLAIN;
     let mut characters = Characters::new(word);
@@ -65,29 +68,20 @@ fn read_marked(into: &mut String, marked: Marked, word: &str) -> Result<(), Refu
         put_kept(into, marked, mode.escaped, character)?;
         mode = mode.after_character(character);
     }
-    if mode.is_plain() {
-        Ok(())
+    Ok(mode.is_plain())
+}
+
+/// What a word says of a value or of caps. It has to be closed.
+#[tactic(auto, unfolding(crate::specs::Reading::said))]
+pub(crate) fn read_said(alloc: Global, marked: Marked, word: &str) -> Result<Text, Refusal>
+    ensures { Gives (λ x. x) result (said marked word.now) }
+{
+    let mut told = String::new(alloc);
+    if put_said(&mut told, marked, word)? {
+        Ok(Text::from_string(told))
     } else {
         Err(Refusal::Stuck)
     }
-}
-
-/// The value that a word spells.
-pub(crate) fn read_value(alloc: Global, word: &str) -> Result<Text, Refusal>
-    ensures says { IfOk result (λ value. value ≡ taken Marked.Value plain word.now) }
-    ensures closed { IfOk result (λ value. is_closed word.now ≡ true) }
-{
-    let mut value = String::new(alloc);
-    read_marked(&mut value, Marked::Value, word)?;
-    Ok(Text::from_string(value))
-}
-
-/// Puts a word of caps behind their text.
-pub(crate) fn push_caps(into: &mut String, word: &str) -> Result<(), Refusal>
-    ensures says { OnOk result (string_bytes into.new ≡ string_bytes into.old ++ taken Marked.Caps plain word.now) }
-    ensures closed { OnOk result (is_closed word.now ≡ true) }
-{
-    read_marked(into, Marked::Caps, word)
 }
 
 /// Whether the word begins caps: it has `/` before any `=`.
@@ -105,9 +99,20 @@ pub(crate) fn begins_caps(word: &str) -> bool
     false
 }
 
+/// What stands before and behind the first such ASCII character.
+fn cut(word: &str, mark: char) -> Option<(&str, &str)>
+    requires { mark < 128 }
+    ensures { option_map (λ p. (p.0.now, p.1.now)) result ≡ cut mark word.now }
+{
+    word.split_once(mark)
+}
+
 /// The name of a property and the word of its value.
-pub(crate) fn split_property(word: &str) -> Option<(&str, &str)> {
-    let (name, value) = word.split_once('=')?;
+#[tactic(auto, unfolding(crate::specs::Reading::property_of))]
+pub(crate) fn split_property(word: &str) -> Option<(&str, &str)>
+    ensures { option_map (λ p. (p.0.now, p.1.now)) result ≡ property_of word.now }
+{
+    let (name, value) = cut(word, '=')?;
     if is_run(Class::Property, name) {
         Some((name, value))
     } else {
@@ -115,18 +120,33 @@ pub(crate) fn split_property(word: &str) -> Option<(&str, &str)> {
     }
 }
 
-/// The name of an element, and of its pad where the word has one.
-pub(crate) fn split_reference(word: &str) -> Option<(&str, Option<&str>)> {
-    let (name, pad) = word.split_once('.')?;
+/// The name of a pad, where one stands there.
+#[tactic(auto, unfolding(crate::specs::Reading::pad_of))]
+fn read_pad(alloc: Global, text: &str) -> Result<Option<Text>, Refusal>
+    ensures { Gives (λ x. x) result (pad_of text.now) }
+{
+    if text.is_empty() {
+        return Ok(None);
+    }
+    if is_run(Class::Name, text) {
+        let pad = Text::from_str(alloc, text)?;
+        return Ok(Some(pad));
+    }
+    Err(Refusal::Stuck)
+}
+
+/// A reference: the name of an element, a point, and maybe the name of a pad.
+#[tactic(auto, unfolding(crate::specs::Reading::reference_of))]
+pub(crate) fn read_reference(alloc: Global, word: &str) -> Result<Node, Refusal>
+    ensures { Gives (λ x. x) result (reference_of word.now) }
+{
+    let Some((name, pad)) = cut(word, '.') else {
+        return Err(Refusal::Stuck);
+    };
     if !is_run(Class::Name, name) {
-        return None;
+        return Err(Refusal::Stuck);
     }
-    if pad.is_empty() {
-        return Some((name, None));
-    }
-    if is_run(Class::Name, pad) {
-        Some((name, Some(pad)))
-    } else {
-        None
-    }
+    let pad = read_pad(alloc, pad)?;
+    let name = Text::from_str(alloc, name)?;
+    Ok(Node::Reference { name, pad })
 }

@@ -2,7 +2,8 @@
 ghost use Rattle.std.specs.Prelude.{◌≡◌, ◌==◌, ◌++◌, ◌<◌, ◌≤◌, false, ℕ, List, length, true};
 ghost use Rattle.std.specs.List.{list_all, take_while};
 ghost use Rattle.launch_text.specs.Bytes.{is_white};
-ghost use Rattle.launch_text.specs.Words.{after, ends, is_closed, is_plain, is_start, is_word, plain, word_length};
+ghost use Rattle.launch_text.specs.Reading.{behind_word, first_word};
+ghost use Rattle.launch_text.specs.Words.{after, is_closed, is_plain, is_start, plain, word_length};
 
 use crate::class::is_white;
 
@@ -110,10 +111,9 @@ pub(crate) fn behind_white(text: &str) -> &str
 pub(crate) fn split_word(text: &str) -> (&str, &str)
     requires start { is_start text.now ≡ true }
     requires some { (length text.now == 0) ≡ false }
-    ensures cut { text.now ≡ result.0.now ++ result.1.now }
-    ensures word { is_word result.0.now ≡ true }
+    ensures word { result.0.now ≡ first_word text.now }
+    ensures behind { result.1.now ≡ behind_word text.now }
     ensures shorter { length result.1.now < length text.now }
-    ensures ended { ends result.1.now ≡ true }
 {
     text.split_at(word_length(text))
 }

@@ -1,7 +1,7 @@
 -- A word ends at white space, which is ASCII, or at the text's end.
 use Rattle.std.proofs.Common.{◌≡◌, ◌<◌, ◌++◌, ◌∙◌, length, drop, take, sym, ap, subst}
-use Rattle.launch_text.specs.Words.{ends, is_word, plain, word_length}
-use Rattle.launch_text.proofs.Cutting.{ends_behind, one_word, positive, shorter, two_parts, word_boundary}
+use Rattle.launch_text.specs.Words.{plain, word_length}
+use Rattle.launch_text.proofs.Cutting.{positive, shorter, word_boundary}
 use Rattle.launch_text.proofs.word.split_word.Goals as goal
 
 pub split_at-requires : goal.split_at-requires
@@ -13,9 +13,4 @@ returns c =
     let some : 0 < length x = positive (length x) c.requires.some in
     let front : c.split_at.result.0.now ≡ take (word_length plain x) x = c.split_at.ensures.front ∙ ap (λ n. take n x) c.word_length.ensures in
     let back : c.split_at.result.1.now ≡ drop (word_length plain x) x = c.split_at.ensures.back ∙ ap (λ n. drop n x) c.word_length.ensures in
-    record {
-      cut = two_parts x (word_length plain x) ∙ sym (ap (λ l. l ++ c.split_at.result.1.now) front ∙ ap (λ l. take (word_length plain x) x ++ l) back);
-      word = ap is_word front ∙ one_word x c.requires.start some;
-      shorter = subst (λ l. length l < length x) (sym back) (shorter x c.requires.start some);
-      ended = ap ends back ∙ ends_behind plain x;
-    }
+    record { word = front; behind = back; shorter = subst (λ l. length l < length x) (sym back) (shorter x c.requires.start some) }

@@ -1,7 +1,7 @@
 use Rattle.std.proofs.Common.{◌≡◌, ◌++◌, length}
 use Rattle.std.specs.String.{string_bytes}
 use Rattle.launch_text.specs.Words.{behind, plain, taken}
-use Rattle.launch_text.proofs.value.read_marked.Given as goal
+use Rattle.launch_text.proofs.value.put_said.Given as goal
 
 abbrev pub invariant-loop-character : goal.invariant-loop-character
 invariant-loop-character l = (string_bytes l.into ++ taken l.marked l.mode l.characters.rest.now ≡ string_bytes l.fn.into ++ taken l.marked plain l.fn.word) × (behind l.mode l.characters.rest.now ≡ behind plain l.fn.word)

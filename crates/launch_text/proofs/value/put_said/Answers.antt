@@ -4,7 +4,7 @@ use Rattle.std.specs.String.{string_bytes}
 use Rattle.launch_text.specs.Words.{behind, taken}
 use Rattle.launch_text.proofs.Marks.{shorter_by}
 use Rattle.launch_text.proofs.Kept.{behind_step, taken_step}
-use Rattle.launch_text.proofs.value.read_marked.Goals as goal
+use Rattle.launch_text.proofs.value.put_said.Goals as goal
 
 pub loop-character-smaller : goal.loop-character-smaller
 loop-character-smaller c = shorter_by c.in-Some.character c.loop-character.characters.rest.now c.take.new.self.rest.now c.in-Some.ensures

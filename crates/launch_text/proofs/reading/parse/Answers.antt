@@ -1,0 +1,9 @@
+-- What the line gives.
+use Rattle.launch_text.proofs.Parsing.{told_complete, told_sound}
+use Rattle.launch_text.proofs.reading.parse.Goals as goal
+
+pub returns-clause-complete : goal.returns-clause-complete
+returns-clause-complete c tree short h = told_complete c.args.text.now c.read_line.result tree c.read_line.ensures h
+
+pub returns-clause-sound : goal.returns-clause-sound
+returns-clause-sound c = told_sound c.args.text.now c.read_line.result c.read_line.ensures
