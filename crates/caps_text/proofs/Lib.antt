@@ -5,7 +5,9 @@ mod Characters
 mod Choices
 mod Fields
 mod Listed
+mod Local
 mod Loops
+mod Loose
 mod Numbers
 mod Parsing
 mod Ratios

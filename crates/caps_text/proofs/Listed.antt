@@ -99,7 +99,7 @@ reads_step : (kind : Kind) (members : List One) → IsReader (List_step kind mem
 reads_step kind members = reads_iff (Then Spaces (λ s. In_step kind members)) (List_step kind members) (in_class Word) (list_step kind members) (step_words kind members) (words_step kind members) (reads_list_step kind members)
 
 -- the end of a list may stand before everything
-list_ends : (kind : Kind) (members : List One) (front rest v : List _) → List_step kind members front (done v) → list_step kind members (front ++ rest) ≡ Ok (done v, rest)
+pub list_ends : (kind : Kind) (members : List One) (front rest v : List _) → List_step kind members front (done v) → list_step kind members (front ++ rest) ≡ Ok (done v, rest)
 unfolding list_step
 list_ends kind members front rest v (inl h) =
     let s = h.0 in
@@ -203,7 +203,7 @@ reads_typed = reads_then Type_word (λ kind. Then Spaces (λ s. Plain_value (Som
     (λ s back w rest q stop. starts_stop is_space back rest (plain_opens is_space (Some kind) back w space_opens refl refl q)))
     (λ kind back w rest q stop. stops_nothing (back ++ rest))
 
-type_begins : (text : List ℕ) (kind : Kind) → Type_word text kind → (back : List ℕ) × (text ≡ 40 ∷ back)
+pub type_begins : (text : List ℕ) (kind : Kind) → Type_word text kind → (back : List ℕ) × (text ≡ 40 ∷ back)
 type_begins text Whole h = (codes "int)", h)
 type_begins text Either h = (codes "boolean)", h)
 type_begins text Words h = (codes "string)", h)

@@ -3,6 +3,7 @@ pub mod Bytes
 pub mod Grammar
 pub mod Kinds
 pub mod Parsed
+pub mod Place
 pub mod Printed
 pub mod Ratio
 pub mod Reading
