@@ -8,6 +8,8 @@ mod Listed
 mod Local
 mod Loops
 mod Loose
+mod LooseListed
+mod LooseWhole
 mod Numbers
 mod Parsing
 mod Ratios

@@ -32,10 +32,10 @@ reads_only v = record {
 }
 
 -- a member more
-abbrev over_limit : List One → One → Bool
+abbrev pub over_limit : List One → One → Bool
 over_limit members one = nat_lt 64 (length (kept_member members one))
 
-abbrev step_to : List One → One → Next (List One) (List One)
+abbrev pub step_to : List One → One → Next (List One) (List One)
 step_to members one = again (kept_member members one)
 
 abbrev One_more : Kind → List One → List ℕ → Next (List One) (List One) → Type 0
@@ -194,7 +194,7 @@ bind_bind (Err e) f g = refl
 abbrev Typed_value : List ℕ → Value → Type 0
 Typed_value = Then Type_word (λ kind. Then Spaces (λ s. Plain_value (Some kind)))
 
-abbrev from_typed : List ℕ → Answer Value
+abbrev pub from_typed : List ℕ → Answer Value
 from_typed x = read_kind x >>= λ a. read_value_from (Some a.0) (behind_spaces a.1) (after_byte 123 (behind_spaces a.1))
 
 reads_typed : IsReader Typed_value (in_class Word) from_typed
@@ -212,7 +212,7 @@ type_begins text Quotients h = (codes "fraction)", h)
 typed_begins : (text : List ℕ) (v : Value) → Typed_value text v → (back : List ℕ) × (text ≡ 40 ∷ back)
 typed_begins text v h = let b = type_begins h.0 h.2 h.4 in (b.0 ++ h.1, h.3 ∙ ap (λ l. l ++ h.1) b.1)
 
-value_split : (x : List ℕ) → read_value x ≡ cond (begins 40 x) (from_typed x) (read_value_from None x (after_byte 123 x))
+pub value_split : (x : List ℕ) → read_value x ≡ cond (begins 40 x) (from_typed x) (read_value_from None x (after_byte 123 x))
 unfolding read_value read_type
 value_split x = bind_cond (begins 40 x) (read_kind x >>= λ a. Ok (Some a.0, behind_spaces a.1)) (Ok (None, x)) (λ a. read_value_from a.0 a.1 (after_byte 123 a.1))
     ∙ ap (λ a. cond (begins 40 x) a (read_value_from None x (after_byte 123 x))) (bind_bind (read_kind x) (λ a. Ok (Some a.0, behind_spaces a.1)) (λ a. read_value_from a.0 a.1 (after_byte 123 a.1)))
