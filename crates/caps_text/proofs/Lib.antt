@@ -6,6 +6,7 @@ mod Choices
 mod Fields
 mod Listed
 mod Local
+mod LocalReaders
 mod Loops
 mod Loose
 mod LooseListed
