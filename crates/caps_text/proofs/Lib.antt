@@ -20,5 +20,7 @@ mod Strings
 mod Tokens
 mod Valid
 mod Values
+mod Viable
+mod ViableNumbers
 mod Whole
 mod Words
