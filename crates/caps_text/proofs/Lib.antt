@@ -22,5 +22,6 @@ mod Valid
 mod Values
 mod Viable
 mod ViableNumbers
+mod ViableValues
 mod Whole
 mod Words

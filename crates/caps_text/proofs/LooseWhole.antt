@@ -47,7 +47,7 @@ field_starts : (s : Description Value) (text : List ℕ) (t : Description Value)
 field_starts s text t h = subst (Starts is_space) (sym h.3) (starts_more is_space h.0 h.1 (name_starts h.0 h.2 h.4))
 
 -- a comma and a field
-abbrev Any_fields : Made → List ℕ → Outcome → Type 0
+abbrev pub Any_fields : Made → List ℕ → Outcome → Type 0
 Any_fields made = Then Spaces (λ s. As (one_field made) (Field_to None made.1))
 
 loose_fields : (made : Made) → IsLoose (Any_fields made) (in_class Word) (λ x. read_field made.1 (behind_spaces x) >>= λ s. Ok (again (made.0, s.0), s.1))
@@ -56,10 +56,10 @@ loose_fields made = loose_then Spaces (λ s. As (one_field made) (Field_to None 
     (λ s back w rest q stop. starts_stop is_space back rest (field_starts made.1 back q.0 q.1))
 
 -- a semicolon and a structure
-abbrev Any_structure : Made → List ℕ → Outcome → Type 0
+abbrev pub Any_structure : Made → List ℕ → Outcome → Type 0
 Any_structure made = Then Spaces (λ s. As (one_structure made) Head)
 
-abbrev Any_structures : Made → List ℕ → Outcome → Type 0
+abbrev pub Any_structures : Made → List ℕ → Outcome → Type 0
 Any_structures made = Then (Is (59 ∷ [])) (λ m. Any_structure made)
 
 loose_structure : (made : Made) → IsLoose (Any_structure made) (in_class Word) (λ x. read_head (behind_spaces x) >>= λ s. Ok (again (made.0 ++ made.1 ∷ [], s.0), s.1))
@@ -75,7 +75,7 @@ loose_limit made = loose_same (Any_structure made) (in_class Word) (λ x. cond {
 loose_structures_more : (made : Made) → IsLoose (Any_structures made) (in_class Word) (λ x. expect 59 x >>= λ m. few_structures made m.1 >>= λ all. read_head (behind_spaces all.1) >>= λ s. Ok (again (all.0, s.0), s.1))
 loose_structures_more made = loose_then (Is (59 ∷ [])) (λ m. Any_structure made) nothing (in_class Word) (expect 59) (λ m x. few_structures made x >>= λ all. read_head (behind_spaces all.1) >>= λ s. Ok (again (all.0, s.0), s.1)) (of_reader (Is (59 ∷ [])) nothing (expect 59) (reads_byte 59)) (λ m. loose_limit made) (λ m back w rest q stop. stops_nothing (back ++ rest))
 
-abbrev In_any_more : Made → List ℕ → Outcome → Type 0
+abbrev pub In_any_more : Made → List ℕ → Outcome → Type 0
 In_any_more made text w = Behind 44 (Any_fields made) text w ⊎ Any_structures made text w
 
 loose_in_more : (made : Made) → IsLoose (In_any_more made) (in_class Word) (λ x. more_from made x (after_byte 44 x))
@@ -87,7 +87,7 @@ in_more_starts made text w (inl h) = subst (Starts is_space) (sym h.1) refl
 in_more_starts made text w (inr h) = starts_is is_space 59 [] (λ m. Any_structure made) text w refl h
 
 -- the steps that are not the last
-abbrev Goes_on_any : Made → List ℕ → Outcome → Type 0
+abbrev pub Goes_on_any : Made → List ℕ → Outcome → Type 0
 Goes_on_any made text n =
     ((s : Description Value) × Then (Mark 44) (λ m. Field_to None made.1) text s × (n ≡ again (made.0, s)))
     ⊎ ((s : Description Value) × Then (Mark 59) (λ m. Head) text s × Unit {0} × (n ≡ again (made.0 ++ made.1 ∷ [], s)))
