@@ -13,6 +13,7 @@ mod LooseListed
 mod LooseWhole
 mod Numbers
 mod Parsing
+mod Places
 mod Ratios
 mod Readers
 mod Repeats
@@ -23,5 +24,6 @@ mod Values
 mod Viable
 mod ViableNumbers
 mod ViableValues
+mod ViableWhole
 mod Whole
 mod Words

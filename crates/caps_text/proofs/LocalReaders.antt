@@ -189,7 +189,7 @@ local_head = local_as bare read_media local_media
 local_finish : (made : Made) → IsLocal (few_structures made)
 local_finish made = local_cond (nat_lt 63 (length made.0)) (λ x. Err many) (λ x. Ok (made.0 ++ made.1 ∷ [], x)) local_many (local_ok (made.0 ++ made.1 ∷ []))
 
-abbrev begun : List (Description Value) → Description Value → Outcome
+abbrev pub begun : List (Description Value) → Description Value → Outcome
 begun all s = again (all, s)
 
 abbrev pub starting : List (Description Value) → List ℕ → Answer Outcome

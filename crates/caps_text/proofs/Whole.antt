@@ -35,7 +35,7 @@ module _ {V : Type 0} (P : List ℕ → V → Type 0) (test : ℕ → Bool) (r :
 pub none_lacks : {V : Type 0} (o : Option V) → o ≡ None → is_some o ≡ false
 none_lacks o h = ap is_some h
 
-lacks_none : {V : Type 0} (o : Option V) → is_some o ≡ false → o ≡ None
+pub lacks_none : {V : Type 0} (o : Option V) → is_some o ≡ false → o ≡ None
 lacks_none None h = refl
 lacks_none (Some v) h = absurd (cc)
 
@@ -164,7 +164,7 @@ Goes_on made text n =
     ⊎ ((s : Description Value) × Then (Mark 59) (λ m. Head) text s × (length made.0 ≤ 63) × (n ≡ again (made.0 ++ made.1 ∷ [], s)))
 
 -- a mark in front, taken apart and put together
-marked : {W : Type 0} (m : ℕ) (P : List ℕ → W → Type 0) (spaces behind tail text : List ℕ) (w : W) → text ≡ spaces ++ (m ∷ (behind ++ tail)) → Spaces spaces tt → Spaces behind tt → P tail w → Then (Mark m) (λ u. P) text w
+pub marked : {W : Type 0} (m : ℕ) (P : List ℕ → W → Type 0) (spaces behind tail text : List ℕ) (w : W) → text ≡ spaces ++ (m ∷ (behind ++ tail)) → Spaces spaces tt → Spaces behind tt → P tail w → Then (Mark m) (λ u. P) text w
 marked m P spaces behind tail text w e s t p =
     (spaces ++ (m ∷ behind), tail, tt, e ∙ sym (append_assoc spaces (m ∷ behind) tail), (spaces, m ∷ behind, tt, refl, s, (m ∷ [], behind, tt, refl, refl, t)), p)
 
