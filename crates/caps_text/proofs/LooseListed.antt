@@ -51,14 +51,14 @@ words_step kind members text n (inr h) =
     let split : text ≡ mark.0 ++ (44 ∷ (inner.1 ++ t.1)) = t.3 ∙ ap (λ l. l ++ t.1) (mark.3 ∙ ap (λ l. mark.0 ++ l) (inner.3 ∙ ap (λ l. l ++ inner.1) inner.4)) ∙ append_assoc mark.0 (44 ∷ inner.1) t.1 in
     (mark.0, 44 ∷ (inner.1 ++ t.1), tt, split, mark.4, inr (44 ∷ [], inner.1 ++ t.1, tt, refl, refl, (inner.1, t.1, tt, refl, inner.5, (h.0, t.5, h.3))))
 
-loose_step : (kind : Kind) (members : List One) → IsLoose (List_step_to None kind members) (in_class Word) (list_step kind members)
+pub loose_step : (kind : Kind) (members : List One) → IsLoose (List_step_to None kind members) (in_class Word) (list_step kind members)
 unfolding list_step
 loose_step kind members = loose_if (Then Spaces (λ s. In_any_step kind members)) (List_step_to None kind members) (in_class Word) (list_step kind members) (words_step kind members)
     (loose_then Spaces (λ s. In_any_step kind members) is_space (in_class Word) skipping (λ s x. list_step_from kind members x (after_byte 125 x)) (of_reader Spaces is_space skipping reads_spaces) (λ s. loose_in_step kind members)
     (λ s back w rest q stop. starts_stop is_space back rest (in_step_starts kind members back w q)))
 
 -- what follows a member in a list does not go on with its word
-step_stops : (kind : Kind) (members : List One) (text : List ℕ) (n : Next (List One) (List One)) → List_step_to None kind members text n → Starts (in_class Word) text
+pub step_stops : (kind : Kind) (members : List One) (text : List ℕ) (n : Next (List One) (List One)) → List_step_to None kind members text n → Starts (in_class Word) text
 step_stops kind members text n (inl h) = let s = h.0 in subst (Starts (in_class Word)) (sym s.3) (starts_spaces (in_class Word) s.0 s.1 s.4 refl (subst (Starts (in_class Word)) (sym s.5) refl))
 step_stops kind members text n (inr h) = starts_mark (in_class Word) 44 (λ m. Member (Some kind)) text h.0 refl refl h.1
 

@@ -108,7 +108,7 @@ loose_goes_on made = loose_if (Then Spaces (λ s. In_any_more made)) (Goes_on_an
     (loose_then Spaces (λ s. In_any_more made) is_space (in_class Word) skipping (λ s x. more_from made x (after_byte 44 x)) (of_reader Spaces is_space skipping reads_spaces) (λ s. loose_in_more made)
     (λ s back w rest q stop. starts_stop is_space back rest (in_more_starts made back w q)))
 
-step_starts : (made t : Made) (text : List ℕ) → Caps_step_to None made text (again t) → Starts (in_class Word) text
+pub step_starts : (made t : Made) (text : List ℕ) → Caps_step_to None made text (again t) → Starts (in_class Word) text
 step_starts made t text (inl h) = absurd (let bad = h.2 in cc)
 step_starts made t text (inr (inl h)) = starts_mark (in_class Word) 44 (λ m. Field_to None made.1) text h.0 refl refl h.1
 step_starts made t text (inr (inr h)) = starts_mark (in_class Word) 59 (λ m. Head) text h.0 refl refl h.1
@@ -122,7 +122,7 @@ caps_stop _ _ rest _ (last s text v d) stop = ended d
     ended (inr (inr h)) = absurd (let bad = h.3 in cc)
 caps_stop _ _ rest _ (more s t front back text v e d later) stop = subst (λ l. Stops (in_class Word) (l ++ rest)) (sym e) (starts_stop (in_class Word) (front ++ back) rest (starts_more (in_class Word) front back (step_starts s t front d)))
 
-caps_goes_on : (made t : Made) (front back rest : List ℕ) → Caps_step_to None made front (again t) → Stops (in_class Word) (back ++ rest) → Or_many (caps_step made (front ++ (back ++ rest))) (Ok (again t, back ++ rest))
+pub caps_goes_on : (made t : Made) (front back rest : List ℕ) → Caps_step_to None made front (again t) → Stops (in_class Word) (back ++ rest) → Or_many (caps_step made (front ++ (back ++ rest))) (Ok (again t, back ++ rest))
 unfolding caps_step
 caps_goes_on made t front back rest h stop =
     let some = some_bytes (in_class Word) front (step_starts made t front h) in

@@ -2,6 +2,7 @@ pub mod Answers
 pub mod Bytes
 pub mod Grammar
 pub mod Kinds
+pub mod Limits
 pub mod Parsed
 pub mod Place
 pub mod Printed
