@@ -12,11 +12,12 @@ use Rattle.caps_text.specs.Answers.{Answer, Stop, misspelt, many, ◌>>=◌}
 use Rattle.caps_text.specs.Bytes.{in_class}
 use Rattle.caps_text.specs.Grammar.{Then, As, Is, Spaces, Mark, Member, Type_word, Field_name, List_step_to, Field_to, Head, Caps_step, Caps_step_to, is_space}
 use Rattle.caps_text.specs.Kinds.{kind_of}
-use Rattle.caps_text.specs.Limits.{Passed, here, past, Open_list, Open_value, Open_field, Excess_field, Ends_structure, Excess, Ends_word}
-use Rattle.caps_text.specs.Reading.{Made, Next, again, done, after_byte, behind_spaces, begins, caps_step, few_fields, few_structures, list_step, more_from, read_field, read_head, read_kind, read_list, read_mark, read_member, read_members, read_more, read_name, read_structures, read_value, read_value_from, repeat, with_field}
+use Rattle.caps_text.specs.Limits.{Passed, here, past, Open_list, Open_value, Open_field, Excess_field, Excess_part, Ends_structure, Ends_word, HasExcess}
+use Rattle.caps_text.specs.Reading.{Made, Next, again, done, after_byte, behind_spaces, begins, caps_step, few_fields, few_structures, list_step, more_from, read_field, read_head, read_kind, read_list, read_mark, read_member, read_members, read_more, read_name, read_structures, read_value, read_value_from, read_whole_value, repeat, with_field}
 use Rattle.caps_text.specs.declared.class.Class.TheVariants.{Media, Name, Word}
 use Rattle.caps_text.specs.declared.kind.Kind.{Kind}
 use Rattle.caps_text.proofs.Choices.{is_byte, lacks_byte, starts_apart}
+use Rattle.caps_text.proofs.Ended.{ended}
 use Rattle.caps_text.proofs.Listed.{from_typed, type_begins, value_split}
 use Rattle.caps_text.proofs.LocalReaders.{finishing, starting}
 use Rattle.caps_text.proofs.Loops.{list_again, list_few, list_refused}
@@ -27,7 +28,7 @@ use Rattle.caps_text.proofs.Readers.{Stops, Starts, nothing, ok_is, starts_stop,
 use Rattle.caps_text.proofs.Repeats.{repeat_again, repeat_refused}
 use Rattle.caps_text.proofs.Strings.{reads_kind}
 use Rattle.caps_text.proofs.Values.{byte_opens, member_opens, reads_member, space_opens}
-use Rattle.caps_text.proofs.Whole.{Outcome, all_bytes, caps_is_step, name_starts, none_lacks, reads_field, reads_head, some_bytes, split_mark, stops_media}
+use Rattle.caps_text.proofs.Whole.{Outcome, all_bytes, caps_is_step, name_starts, none_lacks, reads_field, reads_head, some_bytes, split_mark, stops_media, value_ended}
 use Rattle.caps_text.proofs.Words.{passes, reads_byte, reads_mark, reads_name, reads_spaces, skipping, starts_is, starts_mark, starts_spaces}
 
 -- a text with too many
@@ -119,6 +120,9 @@ over_value used rest members (inr h, more) stop =
     ∙ ap (λ t. cond t (from_typed (used ++ rest)) (read_value_from None (used ++ rest) (after_byte 123 (used ++ rest)))) no
     ∙ over_plain None used rest members (h, more) stop
 
+over_whole_value : IsOver (Too_long Open_value) (in_class Word) read_whole_value
+over_whole_value used rest members h stop = value_ended (used ++ rest) ∙ ap (λ a. a >>= λ a. ended a.0 a.1) (over_value used rest members h stop)
+
 value_begins : (text : List ℕ) (members : List One) → Open_value text members → Starts is_space text
 value_begins text members (inl h) = let b = type_begins h.0 h.2 h.4 in subst (Starts is_space) (sym (h.3 ∙ ap (λ l. l ++ h.1) b.1)) refl
 value_begins text members (inr h) = open_begins is_space None text members refl h
@@ -128,8 +132,8 @@ abbrev Open_setting : List ℕ → List One → Type 0
 Open_setting = Then (Mark 61) (λ m. Too_long Open_value)
 
 over_setting : (s : Description Value) (name : List ℕ) → IsOver Open_setting (in_class Word) (setting s name)
-over_setting s name = over_then (Mark 61) (λ m. Too_long Open_value) is_space (in_class Word) (read_mark 61) (λ m x. read_value x >>= λ v. few_fields (with_field s name v.0) v.1) (of_reader (Mark 61) is_space (read_mark 61) (reads_mark 61 refl))
-    (λ m. over_first (Too_long Open_value) (in_class Word) read_value (λ v. few_fields (with_field s name v.0) v.1) over_value)
+over_setting s name = over_then (Mark 61) (λ m. Too_long Open_value) is_space (in_class Word) (read_mark 61) (λ m x. read_whole_value x >>= λ v. few_fields (with_field s name v.0) v.1) (of_reader (Mark 61) is_space (read_mark 61) (reads_mark 61 refl))
+    (λ m. over_first (Too_long Open_value) (in_class Word) read_whole_value (λ v. few_fields (with_field s name v.0) v.1) over_whole_value)
     (λ m back members rest q stop. starts_stop is_space back rest (value_begins back members q.0))
 
 abbrev Open_rest : Description Value → List ℕ → List ℕ → List One → Type 0
@@ -165,9 +169,6 @@ field_begins s text u (inl h) = let n = h.1 in subst (Starts is_space) (sym n.3)
 field_begins s text u (inr h) = let n = h.1 in subst (Starts is_space) (sym n.3) (starts_more is_space n.0 n.1 (name_starts n.0 n.2 n.4))
 
 -- structures
-abbrev Last_part : Made → List ℕ → List ℕ → Type 0
-Last_part made back rest = Then (Mark 44) (λ m. Excess_field made.1) back tt ⊎ ((63 < length made.0) × Ends_structure back rest)
-
 full_step : (made : Made) (x : List ℕ) → 0 < length x → read_more made x ≡ Err many → caps_step made x ≡ Err many
 unfolding caps_step
 full_step made x some h = ap (λ t. cond {A = Answer Outcome} t (few_structures made x >>= λ all. Ok (done all.0, all.1)) (read_more made x)) (ne_eqb (length x) 0 (λ e. omega (arith, e, some))) ∙ h
@@ -198,28 +199,29 @@ ends_over made back rest full_is h =
     ∙ ap (λ a. a >>= λ m. finishing made m.1) ((reads_byte 59).complete (59 ∷ []) rest tt refl (stops_nothing rest))
     ∙ ap (λ a. a >>= λ all. starting all.0 (behind_spaces all.1)) (full made rest full_is)
 
-last_over : (made : Made) (back rest : List ℕ) → Last_part made back rest → Stops (in_class Word) rest → caps_step made (back ++ rest) ≡ Err many
+word_ends : (rest : List ℕ) → Ends_word rest → Stops (in_class Word) rest
+word_ends [] h = tt
+word_ends (b ∷ bs) h = h
+
+last_over : (made : Made) (back rest : List ℕ) → Excess_part made back rest → caps_step made (back ++ rest) ≡ Err many
 unfolding caps_step
-last_over made back rest (inl h) stop =
-    let some = some_bytes is_digitless (back ++ rest) (starts_more is_digitless back rest (starts_mark is_digitless 44 (λ m. Excess_field made.1) back tt refl refl h)) in
-    full_step made (back ++ rest) some (more_over made back rest h stop)
-  where
-    is_digitless : ℕ → Bool
-    is_digitless b = false
-last_over made back rest (inr (more, inl h)) stop =
+last_over made back rest (inl (h, stop)) =
+    let some = some_bytes nothing (back ++ rest) (starts_more nothing back rest (starts_mark nothing 44 (λ m. Excess_field made.1) back tt refl refl h)) in
+    full_step made (back ++ rest) some (more_over made back rest h (word_ends rest stop))
+last_over made back rest (inr (more, inl h)) =
     let size = length-append back rest in
     let parts = ap length h.3 ∙ length-append h.0 h.1 in
     let mark = ap length h.5 in
-    full_step made (back ++ rest) (omega (arith, size, parts, mark)) (ends_over made back rest more h)
-last_over made back rest (inr (more, inr h)) stop =
+    full_step made (back ++ rest) (omega (arith, size, parts, mark)) (ends_over made back rest (omega (arith, more)) h)
+last_over made back rest (inr (more, inr h)) =
     let nil : back ++ rest ≡ [] = λ i. h.0 i ++ h.1 i in
     ap (λ l. cond {A = Answer Outcome} (eqb (length l) 0) (few_structures made l >>= λ all. Ok (done all.0, all.1)) (read_more made l)) nil
-    ∙ ap (λ a. a >>= λ all. Ok (done all.0, all.1)) (full made [] more)
+    ∙ ap (λ a. a >>= λ all. Ok (done all.0, all.1)) (full made [] (omega (arith, more)))
 
-last_stops : (made : Made) (back rest : List ℕ) → Last_part made back rest → Stops (in_class Word) rest → Stops (in_class Word) (back ++ rest)
-last_stops made back rest (inl h) stop = starts_stop (in_class Word) back rest (starts_mark (in_class Word) 44 (λ m. Excess_field made.1) back tt refl refl h)
-last_stops made back rest (inr (more, inl h)) stop = starts_stop (in_class Word) back rest (subst (Starts (in_class Word)) (sym h.3) (starts_spaces (in_class Word) h.0 h.1 h.4 refl (subst (Starts (in_class Word)) (sym h.5) refl)))
-last_stops made back rest (inr (more, inr h)) stop = subst (λ l. Stops (in_class Word) (l ++ rest)) (sym h.0) stop
+last_stops : (made : Made) (back rest : List ℕ) → Excess_part made back rest → Stops (in_class Word) (back ++ rest)
+last_stops made back rest (inl (h, stop)) = starts_stop (in_class Word) back rest (starts_mark (in_class Word) 44 (λ m. Excess_field made.1) back tt refl refl h)
+last_stops made back rest (inr (more, inl h)) = starts_stop (in_class Word) back rest (subst (Starts (in_class Word)) (sym h.3) (starts_spaces (in_class Word) h.0 h.1 h.4 refl (subst (Starts (in_class Word)) (sym h.5) refl)))
+last_stops made back rest (inr (more, inr h)) = let nil : back ++ rest ≡ [] = λ i. h.0 i ++ h.1 i in subst (Stops (in_class Word)) (sym nil) tt
 
 caps_passed_stop : (start made : Made) (text behind : List ℕ) → Passed (Caps_step_to None) start text made → Stops (in_class Word) behind → Stops (in_class Word) (text ++ behind)
 caps_passed_stop _ _ _ behind (here s) stop = stop
@@ -235,17 +237,12 @@ caps_over _ _ _ behind (past s t u front back text e d later) stop h =
     go (inl k) ih = repeat_again Caps_step all_bytes caps_step caps_is_step s t (front ++ (back ++ behind)) (back ++ behind) k ∙ ih
     go (inr k) ih = repeat_refused caps_step s (front ++ (back ++ behind)) many k
 
-word_ends : (rest : List ℕ) → Ends_word rest → Stops (in_class Word) rest
-word_ends [] h = tt
-word_ends (b ∷ bs) h = h
-
-pub excess_told : (text front rest : List ℕ) → text ≡ front ++ rest → Ends_word rest → Excess front rest → read_structures text ≡ Err many
+pub excess_told : (text : List ℕ) → HasExcess text → read_structures text ≡ Err many
 unfolding read_structures
-excess_told text front rest e ends h =
-    let stop = word_ends rest ends in
+excess_told text (front, rest, e, h) =
     let p = h.4 in
-    let behind = last_stops h.2 h.1 rest h.5 stop in
+    let behind = last_stops h.2 h.1 rest h.5 in
     let is : text ≡ p.0 ++ (p.1 ++ (h.1 ++ rest)) = e ∙ ap (λ l. l ++ rest) h.3 ∙ append_assoc h.0 h.1 rest ∙ ap (λ l. l ++ (h.1 ++ rest)) p.3 ∙ append_assoc p.0 p.1 (h.1 ++ rest) in
     ap (λ l. read_head l >>= λ s. repeat caps_step ([], s.0) s.1) is
     ∙ ap (λ a. a >>= λ s. repeat caps_step ([], s.0) s.1) (reads_head.complete p.0 (p.1 ++ (h.1 ++ rest)) p.2 p.4 (stops_media (p.1 ++ (h.1 ++ rest)) (caps_passed_stop ([], p.2) h.2 p.1 (h.1 ++ rest) p.5 behind)))
-    ∙ caps_over ([], p.2) h.2 p.1 (h.1 ++ rest) p.5 behind (last_over h.2 h.1 rest h.5 stop)
+    ∙ caps_over ([], p.2) h.2 p.1 (h.1 ++ rest) p.5 behind (last_over h.2 h.1 rest h.5)

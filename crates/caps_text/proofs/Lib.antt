@@ -3,6 +3,7 @@ mod AgainListed
 mod AgainWhole
 mod Characters
 mod Choices
+mod Ended
 mod Excess
 mod Fields
 mod Listed

@@ -10,11 +10,12 @@ use Rattle.caps_text.specs.Answers.{Answer, Stop, misspelt, many, ◌>>=◌, fou
 use Rattle.caps_text.specs.Bytes.{in_class}
 use Rattle.caps_text.specs.Grammar.{Then, As, Is, Spaces, Mark, Member, List_step, List_of, Plain_value, Type_word, Field_value, Repeated, last, more, is_space}
 use Rattle.caps_text.specs.Kinds.{kind_of, kind_text}
-use Rattle.caps_text.specs.Reading.{Next, again, done, after_byte, behind_spaces, begins, expect, kept_member, list_step, list_step_from, read_kind, read_list, read_mark, read_member, read_members, read_type, read_value, read_value_from, repeat, within_limit}
+use Rattle.caps_text.specs.Reading.{Next, again, done, after_byte, behind_spaces, begins, expect, kept_member, list_step, list_step_from, read_kind, read_list, read_mark, read_member, read_members, read_type, read_value, read_value_from, read_whole_member, repeat, within_limit}
 use Rattle.caps_text.specs.declared.class.Class.TheVariants.{Word}
 use Rattle.caps_text.specs.declared.kind.Kind.{Kind}
 use Rattle.caps_text.specs.declared.kind.Kind.TheVariants.{Int as Whole, Bool as Either, Text as Words, Fraction as Quotients}
 use Rattle.caps_text.proofs.Choices.{Behind, is_byte, reads_choice, reads_begun, reads_iff, lacks_byte, starts_apart}
+use Rattle.caps_text.proofs.Ended.{reads_whole_member}
 use Rattle.caps_text.proofs.Readers.{IsReader, Reads_front, Stops, Starts, nothing, ok_is, bind_ok, reads_then, reads_as, reads_weaker, reads_any, stops_nothing, starts_stop, starts_more}
 use Rattle.caps_text.proofs.Repeats.{Within, IsStep, reads_within, reads_repeat}
 use Rattle.caps_text.proofs.Strings.{reads_kind}
@@ -47,15 +48,15 @@ In_step kind members text n = Behind 125 (Only (done members)) text n ⊎ One_mo
 member_starts : (kind : Option Kind) (members : List One) (text : List ℕ) (n : Next (List One) (List One)) → Within (over_limit members) (step_to members) (Member kind) text n → Starts is_space text
 member_starts kind members text n h = member_opens is_space kind text h.0 space_opens refl h.1
 
-reads_one_more : (kind : Kind) (members : List One) → IsReader (One_more kind members) (in_class Word) (λ x. expect 44 x >>= λ m. read_member (Some kind) (behind_spaces m.1) >>= λ one. within_limit (kept_member members one.0) one.1)
-reads_one_more kind members = reads_then (Is (44 ∷ [])) (λ m. Then Spaces (λ s. Within (over_limit members) (step_to members) (Member (Some kind)))) nothing (in_class Word) (expect 44) (λ m x. read_member (Some kind) (behind_spaces x) >>= λ one. within_limit (kept_member members one.0) one.1) (reads_byte 44)
-    (λ m. reads_then Spaces (λ s. Within (over_limit members) (step_to members) (Member (Some kind))) is_space (in_class Word) skipping (λ s x. read_member (Some kind) x >>= λ one. within_limit (kept_member members one.0) one.1) reads_spaces
-    (λ s. reads_within (over_limit members) (step_to members) (Member (Some kind)) (in_class Word) (read_member (Some kind)) (reads_member (Some kind)))
+reads_one_more : (kind : Kind) (members : List One) → IsReader (One_more kind members) (in_class Word) (λ x. expect 44 x >>= λ m. read_whole_member (Some kind) (behind_spaces m.1) >>= λ one. within_limit (kept_member members one.0) one.1)
+reads_one_more kind members = reads_then (Is (44 ∷ [])) (λ m. Then Spaces (λ s. Within (over_limit members) (step_to members) (Member (Some kind)))) nothing (in_class Word) (expect 44) (λ m x. read_whole_member (Some kind) (behind_spaces x) >>= λ one. within_limit (kept_member members one.0) one.1) (reads_byte 44)
+    (λ m. reads_then Spaces (λ s. Within (over_limit members) (step_to members) (Member (Some kind))) is_space (in_class Word) skipping (λ s x. read_whole_member (Some kind) x >>= λ one. within_limit (kept_member members one.0) one.1) reads_spaces
+    (λ s. reads_within (over_limit members) (step_to members) (Member (Some kind)) (in_class Word) (read_whole_member (Some kind)) (reads_whole_member (Some kind)))
     (λ s back w rest q stop. starts_stop is_space back rest (member_starts (Some kind) members back w q)))
     (λ m back w rest q stop. stops_nothing (back ++ rest))
 
 reads_in_step : (kind : Kind) (members : List One) → IsReader (In_step kind members) (in_class Word) (λ x. list_step_from kind members x (after_byte 125 x))
-reads_in_step kind members = reads_choice 125 (Only (done members)) (One_more kind members) (in_class Word) (λ x. Ok (done members, x)) (λ x. expect 44 x >>= λ m. read_member (Some kind) (behind_spaces m.1) >>= λ one. within_limit (kept_member members one.0) one.1) (list_step_from kind members)
+reads_in_step kind members = reads_choice 125 (Only (done members)) (One_more kind members) (in_class Word) (λ x. Ok (done members, x)) (λ x. expect 44 x >>= λ m. read_whole_member (Some kind) (behind_spaces m.1) >>= λ one. within_limit (kept_member members one.0) one.1) (list_step_from kind members)
     (reads_any (Only (done members)) (in_class Word) (λ x. Ok (done members, x)) (reads_only (done members))) (reads_one_more kind members)
     (λ used v q. starts_is (is_byte 125) 44 [] (λ m. Then Spaces (λ s. Within (over_limit members) (step_to members) (Member (Some kind)))) used v refl q) (λ x y. refl) (λ x. refl)
 

@@ -10,23 +10,24 @@ use Rattle.gst_caps.specs.declared.value.One.TheVariants.{Int, Bool as Truth, Te
 use Rattle.gst_caps.specs.declared.value.Value.{Value}
 use Rattle.gst_caps.specs.declared.value.Value.TheVariants.{One as Single}
 use Rattle.caps_text.specs.Answers.{Answer, Stop, misspelt, many, ◌>>=◌, found}
-use Rattle.caps_text.specs.Bytes.{is_letter}
+use Rattle.caps_text.specs.Bytes.{in_class, is_letter}
 use Rattle.caps_text.specs.Grammar.{List_step, Caps_step}
 use Rattle.caps_text.specs.Kinds.{kind_of}
 use Rattle.caps_text.specs.Ratio.{ratio}
-use Rattle.caps_text.specs.Reading.{Made, Next, again, done, after_byte, bare, behind_minus, behind_run, behind_spaces, begins, can_begin, caps_step, digit_at, expect, few_fields, few_structures, judge, kept_member, least_number, letter_first, list_step, list_step_from, minus, more_from, range, read_digits, read_field, read_fraction, read_head, read_kind, read_kind_word, read_list, read_literal, read_mark, read_media, read_member, read_member_from, read_members, read_more, read_name, read_number, read_quoted, read_range, read_single, read_size, read_string, read_string_from, read_structures, read_truth, read_untyped, read_untyped_from, read_value, read_value_from, repeat, run_of, some_run, takes_ranges, wanted_number, with_field, within_limit}
+use Rattle.caps_text.specs.Reading.{Made, Next, again, done, after_byte, bare, behind_minus, behind_run, behind_spaces, begins, begins_run, can_begin, caps_step, digit_at, expect, few_fields, few_structures, judge, kept_member, least_number, letter_first, list_step, list_step_from, minus, more_from, range, read_digits, read_field, read_fraction, read_head, read_kind, read_kind_word, read_list, read_literal, read_mark, read_media, read_member, read_member_from, read_members, read_more, read_name, read_number, read_quoted, read_range, read_single, read_size, read_string, read_string_from, read_structures, read_truth, read_untyped, read_untyped_from, read_value, read_value_from, read_whole_member, read_whole_value, repeat, run_of, some_run, takes_ranges, wanted_number, with_field, within_limit}
 use Rattle.caps_text.specs.declared.class.Class.{Class}
 use Rattle.caps_text.specs.declared.class.Class.TheVariants.{Media, Name, Word}
 use Rattle.caps_text.specs.declared.kind.Kind.{Kind}
 use Rattle.caps_text.specs.declared.kind.Kind.TheVariants.{Int as Whole, Bool as Either, Text as Words, Fraction as Quotients}
 use Rattle.caps_text.specs.declared.number.Wanted.{Wanted}
 use Rattle.caps_text.specs.declared.number.Wanted.TheVariants.{AtLeast, Denominator}
+use Rattle.caps_text.proofs.Ended.{ended, member_ended}
 use Rattle.caps_text.proofs.Listed.{from_typed, list_is_step, value_split}
 use Rattle.caps_text.proofs.Local.{IsLocal, Kept, Same_start, local_bind, local_byte, local_choice, local_cond, local_digits, local_found, local_many, local_ok, local_quoted, local_refused, local_repeat, local_runs, local_same, local_spaces, local_test, runs, same_begins, same_digit}
 use Rattle.caps_text.proofs.LooseWhole.{naming, setting}
 use Rattle.caps_text.proofs.Readers.{nothing}
 use Rattle.caps_text.proofs.Values.{any_read}
-use Rattle.caps_text.proofs.Whole.{Outcome, all_bytes, caps_is_step, one_field}
+use Rattle.caps_text.proofs.Whole.{Outcome, all_bytes, caps_is_step, one_field, value_ended}
 use Rattle.caps_text.proofs.Words.{skipping}
 
 pub local_as : {V W : Type 0} (f : V → W) (r : List ℕ → Answer V) → IsLocal r → IsLocal (λ x. r x >>= λ a. Ok (f a.0, a.1))
@@ -125,6 +126,19 @@ local_member kind = local_cond (takes_ranges kind) (λ x. read_member_from kind 
     (local_choice 91 read_range (read_single kind) (read_member_from kind) local_range (local_single kind) (λ x y. refl) (λ x. refl))
     (local_single kind)
 
+-- members and values up to where no byte of a word follows
+same_run : (x y : List ℕ) → Same_start x y → begins_run Word x ≡ begins_run Word y
+same_run [] [] h = refl
+same_run [] (c ∷ cs) h = absurd h
+same_run (b ∷ bs) [] h = absurd h
+same_run (b ∷ bs) (c ∷ cs) h = ap (in_class Word) h
+
+local_ended : {V : Type 0} (r s : List ℕ → Answer V) → ((x : List ℕ) → s x ≡ (r x >>= λ a. ended a.0 a.1)) → IsLocal r → IsLocal s
+local_ended r s is first = local_same (λ x. r x >>= λ a. ended a.0 a.1) s is (local_bind r ended first (λ v. local_test (begins_run Word) (λ x. Err (misspelt x)) (λ x. Ok (v, x)) same_run local_refused (local_ok v)))
+
+local_whole_member : (kind : Option Kind) → IsLocal (read_whole_member kind)
+local_whole_member kind = local_ended (read_member kind) (read_whole_member kind) (member_ended kind) (local_member kind)
+
 -- lists
 local_within : (members : List One) → IsLocal (within_limit members)
 local_within members = local_cond (nat_lt 64 (length members)) (λ x. Err many) (λ x. Ok (again members, x)) local_many (local_ok (again members))
@@ -132,9 +146,9 @@ local_within members = local_cond (nat_lt 64 (length members)) (λ x. Err many) 
 pub local_step : (kind : Kind) (members : List One) → IsLocal (list_step kind members)
 unfolding list_step
 local_step kind members = local_behind (λ x. list_step_from kind members x (after_byte 125 x))
-    (local_choice 125 (λ x. Ok (done members, x)) (λ x. expect 44 x >>= λ m. read_member (Some kind) (behind_spaces m.1) >>= λ one. within_limit (kept_member members one.0) one.1) (list_step_from kind members) (local_ok (done members))
-    (local_bind (expect 44) (λ u x. read_member (Some kind) (behind_spaces x) >>= λ one. within_limit (kept_member members one.0) one.1) (local_byte 44)
-    (λ u. local_behind (λ x. read_member (Some kind) x >>= λ one. within_limit (kept_member members one.0) one.1) (local_bind (read_member (Some kind)) (λ one x. within_limit (kept_member members one) x) (local_member (Some kind)) (λ one. local_within (kept_member members one)))))
+    (local_choice 125 (λ x. Ok (done members, x)) (λ x. expect 44 x >>= λ m. read_whole_member (Some kind) (behind_spaces m.1) >>= λ one. within_limit (kept_member members one.0) one.1) (list_step_from kind members) (local_ok (done members))
+    (local_bind (expect 44) (λ u x. read_whole_member (Some kind) (behind_spaces x) >>= λ one. within_limit (kept_member members one.0) one.1) (local_byte 44)
+    (λ u. local_behind (λ x. read_whole_member (Some kind) x >>= λ one. within_limit (kept_member members one.0) one.1) (local_bind (read_whole_member (Some kind)) (λ one x. within_limit (kept_member members one) x) (local_whole_member (Some kind)) (λ one. local_within (kept_member members one)))))
     (λ x y. refl) (λ x. refl))
 
 pub local_members : (first : One) → IsLocal (read_members first)
@@ -167,12 +181,15 @@ local_value = local_same (λ x. cond (begins 40 x) (from_typed x) (read_value_fr
     (local_bind read_kind (λ kind x. read_value_from (Some kind) (behind_spaces x) (after_byte 123 (behind_spaces x))) local_kind (λ kind. local_behind (λ x. read_value_from (Some kind) x (after_byte 123 x)) (local_plain (Some kind))))
     (local_plain None))
 
+local_whole_value : IsLocal read_whole_value
+local_whole_value = local_ended read_value read_whole_value value_ended local_value
+
 -- fields
 local_few : (s : Description Value) → IsLocal (few_fields s)
 local_few s = local_cond (nat_lt 64 (length s.fields)) (λ x. Err many) (λ x. Ok (s, x)) local_many (local_ok s)
 
 local_setting : (s : Description Value) (name : List ℕ) → IsLocal (setting s name)
-local_setting s name = local_bind (read_mark 61) (λ e x. read_value x >>= λ v. few_fields (with_field s name v.0) v.1) (local_mark 61) (λ e. local_bind read_value (λ v x. few_fields (with_field s name v) x) local_value (λ v. local_few (with_field s name v)))
+local_setting s name = local_bind (read_mark 61) (λ e x. read_whole_value x >>= λ v. few_fields (with_field s name v.0) v.1) (local_mark 61) (λ e. local_bind read_whole_value (λ v x. few_fields (with_field s name v) x) local_whole_value (λ v. local_few (with_field s name v)))
 
 pub local_naming : (s : Description Value) (name : List ℕ) → IsLocal (naming s name)
 local_naming s name = local_cond (is_some (value_at name s.fields)) (λ x. Err (misspelt x)) (setting s name) local_refused (local_setting s name)

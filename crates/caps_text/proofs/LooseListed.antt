@@ -8,10 +8,11 @@ use Rattle.caps_text.specs.Answers.{Answer, Stop, misspelt, many, ◌>>=◌}
 use Rattle.caps_text.specs.Bytes.{in_class}
 use Rattle.caps_text.specs.Grammar.{Then, As, Is, Spaces, Mark, Member, List_step_to, List_to, Plain_value_to, Type_word, Field_value_to, Repeated, last, more, is_space}
 use Rattle.caps_text.specs.Kinds.{kind_of}
-use Rattle.caps_text.specs.Reading.{Next, again, done, after_byte, behind_spaces, begins, expect, kept_member, list_step, list_step_from, read_kind, read_list, read_member, read_members, read_value, read_value_from, repeat, within_limit}
+use Rattle.caps_text.specs.Reading.{Next, again, done, after_byte, behind_spaces, begins, expect, kept_member, list_step, list_step_from, read_kind, read_list, read_member, read_members, read_value, read_value_from, read_whole_member, repeat, within_limit}
 use Rattle.caps_text.specs.declared.class.Class.TheVariants.{Word}
 use Rattle.caps_text.specs.declared.kind.Kind.{Kind}
 use Rattle.caps_text.proofs.Choices.{Behind, is_byte}
+use Rattle.caps_text.proofs.Ended.{ended, ended_here, reads_whole_member}
 use Rattle.caps_text.proofs.Listed.{Only, from_typed, list_ends, over_limit, reads_only, step_to, type_begins, value_split}
 use Rattle.caps_text.proofs.Loose.{IsLoose, IsLooseStep, Or_many, loose_as, loose_begun, loose_choice, loose_if, loose_repeat, loose_same, loose_then, loose_within, of_reader}
 use Rattle.caps_text.proofs.Readers.{Stops, Starts, nothing, reads_any, stops_nothing, starts_stop, starts_more}
@@ -26,15 +27,15 @@ More_members kind members = Then (Is (44 ∷ [])) (λ m. Then Spaces (λ s. As (
 abbrev pub In_any_step : Kind → List One → List ℕ → Next (List One) (List One) → Type 0
 In_any_step kind members text n = Behind 125 (Only (done members)) text n ⊎ More_members kind members text n
 
-loose_more : (kind : Kind) (members : List One) → IsLoose (More_members kind members) (in_class Word) (λ x. expect 44 x >>= λ m. read_member (Some kind) (behind_spaces m.1) >>= λ one. within_limit (kept_member members one.0) one.1)
-loose_more kind members = loose_then (Is (44 ∷ [])) (λ m. Then Spaces (λ s. As (step_to members) (Member (Some kind)))) nothing (in_class Word) (expect 44) (λ m x. read_member (Some kind) (behind_spaces x) >>= λ one. within_limit (kept_member members one.0) one.1) (of_reader (Is (44 ∷ [])) nothing (expect 44) (reads_byte 44))
-    (λ m. loose_then Spaces (λ s. As (step_to members) (Member (Some kind))) is_space (in_class Word) skipping (λ s x. read_member (Some kind) x >>= λ one. within_limit (kept_member members one.0) one.1) (of_reader Spaces is_space skipping reads_spaces)
-    (λ s. loose_within (over_limit members) (step_to members) (Member (Some kind)) (in_class Word) (read_member (Some kind)) (of_reader (Member (Some kind)) (in_class Word) (read_member (Some kind)) (reads_member (Some kind))))
+loose_more : (kind : Kind) (members : List One) → IsLoose (More_members kind members) (in_class Word) (λ x. expect 44 x >>= λ m. read_whole_member (Some kind) (behind_spaces m.1) >>= λ one. within_limit (kept_member members one.0) one.1)
+loose_more kind members = loose_then (Is (44 ∷ [])) (λ m. Then Spaces (λ s. As (step_to members) (Member (Some kind)))) nothing (in_class Word) (expect 44) (λ m x. read_whole_member (Some kind) (behind_spaces x) >>= λ one. within_limit (kept_member members one.0) one.1) (of_reader (Is (44 ∷ [])) nothing (expect 44) (reads_byte 44))
+    (λ m. loose_then Spaces (λ s. As (step_to members) (Member (Some kind))) is_space (in_class Word) skipping (λ s x. read_whole_member (Some kind) x >>= λ one. within_limit (kept_member members one.0) one.1) (of_reader Spaces is_space skipping reads_spaces)
+    (λ s. loose_within (over_limit members) (step_to members) (Member (Some kind)) (in_class Word) (read_whole_member (Some kind)) (of_reader (Member (Some kind)) (in_class Word) (read_whole_member (Some kind)) (reads_whole_member (Some kind))))
     (λ s back w rest q stop. starts_stop is_space back rest (member_opens is_space (Some kind) back q.0 space_opens refl q.1)))
     (λ m back w rest q stop. stops_nothing (back ++ rest))
 
 loose_in_step : (kind : Kind) (members : List One) → IsLoose (In_any_step kind members) (in_class Word) (λ x. list_step_from kind members x (after_byte 125 x))
-loose_in_step kind members = loose_choice 125 (Only (done members)) (More_members kind members) (in_class Word) (λ x. Ok (done members, x)) (λ x. expect 44 x >>= λ m. read_member (Some kind) (behind_spaces m.1) >>= λ one. within_limit (kept_member members one.0) one.1) (list_step_from kind members)
+loose_in_step kind members = loose_choice 125 (Only (done members)) (More_members kind members) (in_class Word) (λ x. Ok (done members, x)) (λ x. expect 44 x >>= λ m. read_whole_member (Some kind) (behind_spaces m.1) >>= λ one. within_limit (kept_member members one.0) one.1) (list_step_from kind members)
     (of_reader (Only (done members)) (in_class Word) (λ x. Ok (done members, x)) (reads_any (Only (done members)) (in_class Word) (λ x. Ok (done members, x)) (reads_only (done members)))) (loose_more kind members)
     (λ used v q. starts_is (is_byte 125) 44 [] (λ m. Then Spaces (λ s. As (step_to members) (Member (Some kind)))) used v refl q) (λ x y. refl) (λ x. refl)
 

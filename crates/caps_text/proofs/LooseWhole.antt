@@ -8,29 +8,34 @@ use Rattle.gst_caps.specs.declared.value.Value.{Value}
 use Rattle.caps_text.specs.Answers.{Answer, Stop, misspelt, many, ◌>>=◌}
 use Rattle.caps_text.specs.Bytes.{in_class}
 use Rattle.caps_text.specs.Grammar.{Then, As, Is, Spaces, Mark, Field_name, Field_value_to, Field_to, Rest_of_field_to, Head, Caps_step_to, Structures_to, Repeated, last, more, is_space}
-use Rattle.caps_text.specs.Reading.{Made, Next, again, done, after_byte, behind_spaces, caps_step, expect, few_fields, few_structures, more_from, read_field, read_head, read_mark, read_more, read_name, read_structures, read_value, repeat, with_field}
+use Rattle.caps_text.specs.Reading.{Made, Next, again, done, after_byte, behind_spaces, caps_step, expect, few_fields, few_structures, more_from, read_field, read_head, read_mark, read_more, read_name, read_structures, read_value, read_whole_value, repeat, with_field}
 use Rattle.caps_text.specs.declared.class.Class.TheVariants.{Media, Name, Word}
 use Rattle.caps_text.proofs.Choices.{Behind, is_byte}
+use Rattle.caps_text.proofs.Ended.{ended, ended_here}
 use Rattle.caps_text.proofs.Listed.{bind_cond}
 use Rattle.caps_text.proofs.Loose.{IsLoose, IsLooseStep, Or_many, loose_as, loose_choice, loose_guarded, loose_if, loose_limited, loose_repeat, loose_same, loose_then, loose_within, of_reader, or_bind, or_from}
 use Rattle.caps_text.proofs.LooseListed.{loose_value, value_opens}
 use Rattle.caps_text.proofs.Readers.{Stops, Starts, nothing, reads_weaker, stops_nothing, starts_stop, starts_more}
-use Rattle.caps_text.proofs.Whole.{Outcome, all_bytes, at_end, head_starts, name_starts, none_lacks, one_field, one_structure, reads_head, some_bytes, split_mark, stops_media, too_many}
+use Rattle.caps_text.proofs.Whole.{Outcome, all_bytes, at_end, head_starts, name_starts, none_lacks, one_field, one_structure, reads_head, some_bytes, split_mark, stops_media, too_many, value_ended}
 use Rattle.caps_text.proofs.Words.{reads_byte, reads_mark, reads_name, reads_spaces, skipping, starts_is, starts_mark}
+
+-- a value up to where no byte of a word follows
+loose_whole_value : IsLoose (Field_value_to None) (in_class Word) read_whole_value
+loose_whole_value used rest v p stop = or_from (read_whole_value (used ++ rest)) (read_value (used ++ rest) >>= λ a. ended a.0 a.1) (Ok (v, rest)) (value_ended (used ++ rest)) (or_bind (read_value (used ++ rest)) (λ a. ended a.0 a.1) (v, rest) (Ok (v, rest)) (loose_value used rest v p stop) (inl (ended_here v rest stop)))
 
 -- a field behind its name
 abbrev pub Set_any : Description Value → List ℕ → List ℕ → Description Value → Type 0
 Set_any s name = Then (Mark 61) (λ m. As (with_field s name) (Field_value_to None))
 
 abbrev pub setting : Description Value → List ℕ → List ℕ → Answer (Description Value)
-setting s name x = read_mark 61 x >>= λ e. read_value e.1 >>= λ v. few_fields (with_field s name v.0) v.1
+setting s name x = read_mark 61 x >>= λ e. read_whole_value e.1 >>= λ v. few_fields (with_field s name v.0) v.1
 
 abbrev pub naming : Description Value → List ℕ → List ℕ → Answer (Description Value)
 naming s name x = cond (is_some (value_at name s.fields)) (Err (misspelt x)) (setting s name x)
 
 loose_set : (s : Description Value) (name : List ℕ) → IsLoose (Set_any s name) (in_class Word) (setting s name)
-loose_set s name = loose_then (Mark 61) (λ m. As (with_field s name) (Field_value_to None)) is_space (in_class Word) (read_mark 61) (λ m x. read_value x >>= λ v. few_fields (with_field s name v.0) v.1) (of_reader (Mark 61) is_space (read_mark 61) (reads_mark 61 refl))
-    (λ m. loose_within (too_many s name) (with_field s name) (Field_value_to None) (in_class Word) read_value loose_value)
+loose_set s name = loose_then (Mark 61) (λ m. As (with_field s name) (Field_value_to None)) is_space (in_class Word) (read_mark 61) (λ m x. read_whole_value x >>= λ v. few_fields (with_field s name v.0) v.1) (of_reader (Mark 61) is_space (read_mark 61) (reads_mark 61 refl))
+    (λ m. loose_within (too_many s name) (with_field s name) (Field_value_to None) (in_class Word) read_whole_value loose_whole_value)
     (λ m back w rest q stop. starts_stop is_space back rest (value_opens back q.0 q.1))
 
 loose_rest : (s : Description Value) (name : List ℕ) → IsLoose (Rest_of_field_to None s name) (in_class Word) (naming s name)

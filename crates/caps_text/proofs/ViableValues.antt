@@ -15,20 +15,21 @@ use Rattle.caps_text.specs.Bytes.{in_class, is_digit}
 use Rattle.caps_text.specs.Grammar.{Then, As, Sure, Is, Spaces, Mark, Run, Digits, Number, Wanted_number, Pair, Quotient, Bare_word, Untyped, In_quotes, Some_string, Truth_value, Single_value, Member, Type_word, List_step, List_step_to, Plain_value_to, Field_value_to, Repeated, last, more}
 use Rattle.caps_text.specs.Kinds.{kind_of, kind_text}
 use Rattle.caps_text.specs.Ratio.{fits, ratio}
-use Rattle.caps_text.specs.Reading.{Next, again, done, after_byte, behind_spaces, begins, expect, judge, judge_words, kept_member, least_number, list_step, list_step_from, range, read_fraction, read_kind, read_kind_word, read_list, read_literal, read_mark, read_member, read_member_from, read_members, read_number, read_quoted, read_range, read_single, read_string, read_string_from, read_truth, read_untyped, read_untyped_from, read_value, read_value_from, repeat, some_run, takes_ranges, within_limit}
+use Rattle.caps_text.specs.Reading.{Next, again, done, after_byte, behind_spaces, begins, begins_run, expect, judge, judge_words, kept_member, least_number, list_step, list_step_from, range, read_fraction, read_kind, read_kind_word, read_list, read_literal, read_mark, read_member, read_member_from, read_members, read_number, read_quoted, read_range, read_single, read_string, read_string_from, read_truth, read_untyped, read_untyped_from, read_value, read_value_from, read_whole_member, repeat, some_run, takes_ranges, within_limit}
 use Rattle.caps_text.specs.declared.class.Class.TheVariants.{Word}
 use Rattle.caps_text.specs.declared.kind.Kind.{Kind}
 use Rattle.caps_text.specs.declared.kind.Kind.TheVariants.{Int as Whole, Bool as Either, Text as Words, Fraction as Quotients}
 use Rattle.caps_text.specs.declared.number.Wanted.TheVariants.{AtLeast, Denominator}
 use Rattle.caps_text.proofs.Choices.{Behind}
+use Rattle.caps_text.proofs.Ended.{ended, member_ended}
 use Rattle.caps_text.proofs.Listed.{Only, from_typed, list_is_step, over_limit, step_to, value_split}
 use Rattle.caps_text.proofs.Local.{rest_is}
 use Rattle.caps_text.proofs.LooseListed.{Any_members, Any_tail, In_any_step, More_members, Typed_any}
 use Rattle.caps_text.proofs.Numbers.{and-both, reads_any_number, reads_number}
-use Rattle.caps_text.proofs.Readers.{nothing}
+use Rattle.caps_text.proofs.Readers.{Reads_front, nothing}
 use Rattle.caps_text.proofs.Strings.{To_quote, reads_kind}
 use Rattle.caps_text.proofs.Values.{Range_end, Range_high, Range_tail, any_read, reads_member}
-use Rattle.caps_text.proofs.Viable.{Begins, Filled, IsViable, fill_mark, stopped, viable_as, viable_behind, viable_byte, viable_choice, viable_cond, viable_if, viable_literal, viable_mark, viable_never, viable_quoted, viable_repeat, viable_run, viable_same, viable_then, viable_within}
+use Rattle.caps_text.proofs.Viable.{Begins, Filled, IsSound, IsViable, fill_mark, stopped, viable_as, viable_behind, viable_byte, viable_choice, viable_cond, viable_if, viable_literal, viable_mark, viable_never, viable_quoted, viable_repeat, viable_run, viable_same, viable_then, viable_within}
 use Rattle.caps_text.proofs.ViableNumbers.{Possible, even_ratio, number_on}
 use Rattle.caps_text.proofs.Words.{reads_byte, reads_mark, reads_run, skipping}
 
@@ -235,9 +236,23 @@ fill_next kind members = let f = fill_member (Some kind) in (f.0, step_to member
 fill_spaced : {W : Type 0} (P : List ℕ → W → Type 0) → Filled P → Filled (Then Spaces (λ s. P))
 fill_spaced P f = (f.0, f.1, ([], f.0, tt, refl, refl, f.2))
 
-viable_more : (kind : Kind) (members : List One) → IsViable (More_members kind members) (λ x. expect 44 x >>= λ m. read_member (Some kind) (behind_spaces m.1) >>= λ one. within_limit (kept_member members one.0) one.1)
-viable_more kind members = viable_then (Is (44 ∷ [])) (λ m. Then Spaces (λ s. As (step_to members) (Member (Some kind)))) (expect 44) (λ m x. read_member (Some kind) (behind_spaces x) >>= λ one. within_limit (kept_member members one.0) one.1) (reads_byte 44).sound (viable_byte 44)
-    (λ used m p. viable_behind (As (step_to members) (Member (Some kind))) (λ x. read_member (Some kind) x >>= λ one. within_limit (kept_member members one.0) one.1) (viable_within (over_limit members) (step_to members) (Member (Some kind)) (read_member (Some kind)) (viable_member (Some kind))) (fill_next kind members))
+pub viable_ended : {V : Type 0} (P : List ℕ → V → Type 0) (r s : List ℕ → Answer V) → ((x : List ℕ) → s x ≡ (r x >>= λ a. ended a.0 a.1)) → IsSound P r → IsViable P r → IsViable P s
+viable_ended {V} P r s is sound first x rest h = step (r x) refl (sym (is x) ∙ h)
+  where
+    behind : (v : V) (y : List ℕ) → Reads_front P x v y → (t : Bool) → cond {A = Answer V} t (Err (misspelt y)) (Ok (v, y)) ≡ Err (misspelt rest) → Begins P x rest
+    behind v y f true k = (f.0, [], v, f.1 ∙ ap (λ l. f.0 ++ l) (rest_is y rest (stopped (misspelt y) (misspelt rest) k)), subst (λ l. P l v) (sym (append-nil f.0)) f.2)
+    behind v y f false k = absurd (cc)
+
+    step : (a : Answer V) → r x ≡ a → (a >>= λ a. ended a.0 a.1) ≡ Err (misspelt rest) → Begins P x rest
+    step (Err d) e k = first x rest (e ∙ ap Err (stopped d (misspelt rest) k))
+    step (Ok p) e k = behind p.0 p.1 (sound x p.1 p.0 e) (begins_run Word p.1) k
+
+viable_whole_member : (kind : Option Kind) → IsViable (Member kind) (read_whole_member kind)
+viable_whole_member kind = viable_ended (Member kind) (read_member kind) (read_whole_member kind) (member_ended kind) (reads_member kind).sound (viable_member kind)
+
+viable_more : (kind : Kind) (members : List One) → IsViable (More_members kind members) (λ x. expect 44 x >>= λ m. read_whole_member (Some kind) (behind_spaces m.1) >>= λ one. within_limit (kept_member members one.0) one.1)
+viable_more kind members = viable_then (Is (44 ∷ [])) (λ m. Then Spaces (λ s. As (step_to members) (Member (Some kind)))) (expect 44) (λ m x. read_whole_member (Some kind) (behind_spaces x) >>= λ one. within_limit (kept_member members one.0) one.1) (reads_byte 44).sound (viable_byte 44)
+    (λ used m p. viable_behind (As (step_to members) (Member (Some kind))) (λ x. read_whole_member (Some kind) x >>= λ one. within_limit (kept_member members one.0) one.1) (viable_within (over_limit members) (step_to members) (Member (Some kind)) (read_whole_member (Some kind)) (viable_whole_member (Some kind))) (fill_next kind members))
     (λ used m p. fill_spaced (As (step_to members) (Member (Some kind))) (fill_next kind members))
 
 any_words : (kind : Kind) (members : List One) (text : List ℕ) (n : Next (List One) (List One)) → Then Spaces (λ s. In_any_step kind members) text n → List_step_to None kind members text n
@@ -256,7 +271,7 @@ viable_step : (kind : Kind) (members : List One) → IsViable (List_step_to None
 unfolding list_step
 viable_step kind members = viable_if (Then Spaces (λ s. In_any_step kind members)) (List_step_to None kind members) (list_step kind members) (λ text n p. (n, any_words kind members text n p))
     (viable_behind (In_any_step kind members) (λ x. list_step_from kind members x (after_byte 125 x))
-      (viable_choice 125 (Only (done members)) (In_any_step kind members) (λ x. Ok (done members, x)) (λ x. expect 44 x >>= λ m. read_member (Some kind) (behind_spaces m.1) >>= λ one. within_limit (kept_member members one.0) one.1) (list_step_from kind members)
+      (viable_choice 125 (Only (done members)) (In_any_step kind members) (λ x. Ok (done members, x)) (λ x. expect 44 x >>= λ m. read_whole_member (Some kind) (behind_spaces m.1) >>= λ one. within_limit (kept_member members one.0) one.1) (list_step_from kind members)
         (viable_never (Only (done members)) (λ x. (done members, x))) (λ text n p. (n, inl (text, refl, p)))
         (viable_if (More_members kind members) (In_any_step kind members) _ (λ text n p. (n, inr p)) (viable_more kind members)) (λ x y. refl) (λ x. refl))
       (codes "}", done members, inl ([], refl, (refl, refl))))

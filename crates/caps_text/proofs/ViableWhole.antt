@@ -12,20 +12,46 @@ use Rattle.caps_text.specs.Answers.{Answer, Stop, misspelt, many, ◌>>=◌}
 use Rattle.caps_text.specs.Bytes.{in_class}
 use Rattle.caps_text.specs.Grammar.{Then, As, Is, Spaces, Mark, Media_type, Field_name, List_step, List_step_to, List_of, List_to, Plain_value, Plain_value_to, Field_value, Field_value_to, Field, Field_to, Rest_of_field_to, Head, Caps_step, Caps_step_to, Structures_to, Repeated, last, more}
 use Rattle.caps_text.specs.Kinds.{kind_of}
-use Rattle.caps_text.specs.Reading.{Made, Next, again, done, after_byte, bare, behind_run, behind_spaces, caps_step, expect, few_fields, few_structures, kept_member, letter_first, more_from, read_field, read_head, read_mark, read_media, read_more, read_name, read_structures, read_value, repeat, run_of, with_field}
+use Rattle.caps_text.specs.Reading.{Made, Next, again, done, after_byte, bare, behind_run, behind_spaces, caps_step, expect, few_fields, few_structures, kept_member, letter_first, more_from, read_field, read_head, read_mark, read_media, read_more, read_name, read_structures, read_value, read_whole_value, repeat, run_of, with_field}
 use Rattle.caps_text.specs.declared.class.Class.TheVariants.{Name}
 use Rattle.caps_text.specs.declared.kind.Kind.{Kind}
 use Rattle.caps_text.proofs.Choices.{Behind}
-use Rattle.caps_text.proofs.Listed.{bind_cond}
+use Rattle.caps_text.proofs.Listed.{bind_cond, reads_value}
 use Rattle.caps_text.proofs.Local.{rest_is}
 use Rattle.caps_text.proofs.LocalReaders.{begun, finishing, starting}
 use Rattle.caps_text.proofs.LooseWhole.{Any_fields, Any_structure, Any_structures, In_any_more, Set_any, naming, setting}
 use Rattle.caps_text.proofs.Numbers.{and-both}
 use Rattle.caps_text.proofs.Readers.{Reads_front}
-use Rattle.caps_text.proofs.Viable.{Begins, Filled, IsViable, fill_mark, fill_media, stopped, viable_as, viable_behind, viable_byte, viable_choice, viable_cond, viable_if, viable_mark, viable_media, viable_never, viable_repeat, viable_same, viable_then, viable_within}
-use Rattle.caps_text.proofs.ViableValues.{fill_then, fill_value, viable_value, wider_step}
-use Rattle.caps_text.proofs.Whole.{Outcome, all_bytes, caps_is_step, lacks_none, marked, one_field, one_structure, reads_head, too_many}
+use Rattle.caps_text.proofs.Viable.{Begins, Filled, IsSound, IsViable, fill_mark, fill_media, stopped, viable_as, viable_behind, viable_byte, viable_choice, viable_cond, viable_if, viable_mark, viable_media, viable_never, viable_repeat, viable_same, viable_then, viable_within}
+use Rattle.caps_text.proofs.ViableValues.{fill_then, fill_value, viable_ended, viable_value, wider_step}
+use Rattle.caps_text.proofs.Whole.{Outcome, all_bytes, caps_is_step, lacks_none, marked, one_field, one_structure, reads_head, too_many, value_ended}
 use Rattle.caps_text.proofs.Words.{reads_byte, reads_mark, reads_name}
+
+-- what stands within the limit stands without it
+wider_repeated : {S V : Type 0} (P Q : S → List ℕ → Next S V → Type 0) → ((s : S) (text : List ℕ) (n : Next S V) → P s text n → Q s text n) → (s : S) (text : List ℕ) (v : V) → Repeated P s text v → Repeated Q s text v
+wider_repeated P Q f _ _ _ (last s text v d) = last s text v (f s text (done v) d)
+wider_repeated P Q f _ _ _ (more s t front back text v e d later) = more s t front back text v e (f s front (again t) d) (wider_repeated P Q f t back v later)
+
+wider_list : (kind : Option Kind) (text : List ℕ) (v : Value) → List_of kind text v → List_to None kind text v
+wider_list kind text v h =
+    let a = h.5 in
+    let b = a.5 in
+    let c = b.5 in
+    (h.0, h.1, h.2, h.3, h.4, (a.0, a.1, a.2, a.3, a.4, (b.0, b.1, b.2, b.3, b.4, (c.0, wider_repeated (List_step (kind_of b.2)) (List_step_to None (kind_of b.2)) (wider_step (kind_of b.2)) (b.2 ∷ []) b.1 c.0 c.1, c.2))))
+
+wider_plain : (kind : Option Kind) (text : List ℕ) (v : Value) → Plain_value kind text v → Plain_value_to None kind text v
+wider_plain kind text v (inl h) = inl (wider_list kind text v h)
+wider_plain kind text v (inr h) = inr h
+
+wider_value : (text : List ℕ) (v : Value) → Field_value text v → Field_value_to None text v
+wider_value text v (inl h) = let a = h.5 in inl (h.0, h.1, h.2, h.3, h.4, (a.0, a.1, a.2, a.3, a.4, wider_plain (Some h.2) a.1 v a.5))
+wider_value text v (inr h) = inr (wider_plain None text v h)
+
+whole_sound : IsSound (Field_value_to None) read_value
+whole_sound x rest v h = let f = reads_value.sound x rest v h in (f.0, f.1, wider_value f.0 v f.2)
+
+viable_whole_value : IsViable (Field_value_to None) read_whole_value
+viable_whole_value = viable_ended (Field_value_to None) read_value read_whole_value value_ended whole_sound viable_value
 
 -- a name that no field has
 total : List (List ℕ × Value) → ℕ
@@ -78,8 +104,8 @@ fill_set s name = fill_then (Mark 61) (λ m. As (with_field s name) (Field_value
     fill_as = let f = fill_value in (f.0, with_field s name f.1, (f.1, f.2, refl))
 
 viable_set : (s : Description Value) (name : List ℕ) → IsViable (Set_any s name) (setting s name)
-viable_set s name = viable_then (Mark 61) (λ m. As (with_field s name) (Field_value_to None)) (read_mark 61) (λ m x. read_value x >>= λ v. few_fields (with_field s name v.0) v.1) (reads_mark 61 refl).sound (viable_mark 61)
-    (λ used m p. viable_within (too_many s name) (with_field s name) (Field_value_to None) read_value viable_value)
+viable_set s name = viable_then (Mark 61) (λ m. As (with_field s name) (Field_value_to None)) (read_mark 61) (λ m x. read_whole_value x >>= λ v. few_fields (with_field s name v.0) v.1) (reads_mark 61 refl).sound (viable_mark 61)
+    (λ used m p. viable_within (too_many s name) (with_field s name) (Field_value_to None) read_whole_value viable_whole_value)
     (λ used m p. let f = fill_value in (f.0, with_field s name f.1, (f.1, f.2, refl)))
 
 -- a field
@@ -179,26 +205,6 @@ viable_end made x rest h = absurd (step (nat_lt 63 (length made.0)) h)
 viable_caps : (made : Made) → IsViable (Caps_step_to None made) (caps_step made)
 unfolding caps_step
 viable_caps made = viable_cond (Caps_step_to None made) (λ x. eqb (length x) 0) (λ x. few_structures made x >>= λ all. Ok (done all.0, all.1)) (read_more made) (viable_end made) (viable_more made)
-
--- what stands within the limit stands without it
-wider_repeated : {S V : Type 0} (P Q : S → List ℕ → Next S V → Type 0) → ((s : S) (text : List ℕ) (n : Next S V) → P s text n → Q s text n) → (s : S) (text : List ℕ) (v : V) → Repeated P s text v → Repeated Q s text v
-wider_repeated P Q f _ _ _ (last s text v d) = last s text v (f s text (done v) d)
-wider_repeated P Q f _ _ _ (more s t front back text v e d later) = more s t front back text v e (f s front (again t) d) (wider_repeated P Q f t back v later)
-
-wider_list : (kind : Option Kind) (text : List ℕ) (v : Value) → List_of kind text v → List_to None kind text v
-wider_list kind text v h =
-    let a = h.5 in
-    let b = a.5 in
-    let c = b.5 in
-    (h.0, h.1, h.2, h.3, h.4, (a.0, a.1, a.2, a.3, a.4, (b.0, b.1, b.2, b.3, b.4, (c.0, wider_repeated (List_step (kind_of b.2)) (List_step_to None (kind_of b.2)) (wider_step (kind_of b.2)) (b.2 ∷ []) b.1 c.0 c.1, c.2))))
-
-wider_plain : (kind : Option Kind) (text : List ℕ) (v : Value) → Plain_value kind text v → Plain_value_to None kind text v
-wider_plain kind text v (inl h) = inl (wider_list kind text v h)
-wider_plain kind text v (inr h) = inr h
-
-wider_value : (text : List ℕ) (v : Value) → Field_value text v → Field_value_to None text v
-wider_value text v (inl h) = let a = h.5 in inl (h.0, h.1, h.2, h.3, h.4, (a.0, a.1, a.2, a.3, a.4, wider_plain (Some h.2) a.1 v a.5))
-wider_value text v (inr h) = inr (wider_plain None text v h)
 
 wider_field : (s : Description Value) (text : List ℕ) (t : Description Value) → Field s text t → Field_to None s text t
 wider_field s text t h = let r = h.5 in let m = r.1 in let a = m.5 in (h.0, h.1, h.2, h.3, h.4, (r.0, (m.0, m.1, m.2, m.3, m.4, (a.0, wider_value m.1 a.0 a.1, a.2)), tt))

@@ -9,9 +9,10 @@ use Rattle.gst_caps.specs.declared.value.Value.{Value}
 use Rattle.caps_text.specs.Answers.{Answer, Stop, misspelt, many, ◌>>=◌, found}
 use Rattle.caps_text.specs.Bytes.{in_class, is_digit, is_letter, is_sign}
 use Rattle.caps_text.specs.Grammar.{Then, As, Is, Spaces, Mark, Run, Media_type, Field_name, Field_value, Field, Rest_of_field, Head, Caps_step, Structures, Repeated, last, more, is_space}
-use Rattle.caps_text.specs.Reading.{Made, Next, again, done, after_byte, bare, behind_spaces, caps_step, expect, few_fields, few_structures, more_from, read_field, read_head, read_mark, read_media, read_more, read_name, read_structures, read_value, repeat, with_field}
+use Rattle.caps_text.specs.Reading.{Made, Next, again, done, after_byte, bare, behind_spaces, caps_step, expect, few_fields, few_structures, more_from, read_field, read_head, read_mark, read_media, read_more, read_name, read_structures, read_value, read_whole_value, repeat, with_field}
 use Rattle.caps_text.specs.declared.class.Class.TheVariants.{Media, Name, Word}
 use Rattle.caps_text.proofs.Choices.{Behind, is_byte, reads_choice, reads_iff, starts_apart}
+use Rattle.caps_text.proofs.Ended.{ended, ended_is, reads_ended}
 use Rattle.caps_text.proofs.Listed.{bind_cond, reads_same, reads_value, value_opens}
 use Rattle.caps_text.proofs.Readers.{IsReader, Reads_front, Stops, Starts, nothing, ok_is, bind_ok, reads_then, reads_as, reads_weaker, reads_any, stops_nothing, starts_stop, starts_more}
 use Rattle.caps_text.proofs.Repeats.{Within, IsStep, reads_within, reads_repeat}
@@ -39,6 +40,13 @@ pub lacks_none : {V : Type 0} (o : Option V) → is_some o ≡ false → o ≡ N
 lacks_none None h = refl
 lacks_none (Some v) h = absurd (cc)
 
+pub value_ended : (x : List ℕ) → read_whole_value x ≡ (read_value x >>= λ a. ended a.0 a.1)
+unfolding read_whole_value
+value_ended x = ended_is (read_value x)
+
+pub reads_whole_value : IsReader Field_value (in_class Word) read_whole_value
+reads_whole_value = reads_ended Field_value read_value read_whole_value value_ended reads_value
+
 -- a field behind its name
 abbrev pub too_many : Description Value → List ℕ → Value → Bool
 too_many s name v = nat_lt 64 (length (with_field s name v).fields)
@@ -46,12 +54,12 @@ too_many s name v = nat_lt 64 (length (with_field s name v).fields)
 abbrev Set_field : Description Value → List ℕ → List ℕ → Description Value → Type 0
 Set_field s name = Then (Mark 61) (λ m. Within (too_many s name) (with_field s name) Field_value)
 
-reads_set : (s : Description Value) (name : List ℕ) → IsReader (Set_field s name) (in_class Word) (λ x. read_mark 61 x >>= λ e. read_value e.1 >>= λ v. few_fields (with_field s name v.0) v.1)
-reads_set s name = reads_then (Mark 61) (λ m. Within (too_many s name) (with_field s name) Field_value) is_space (in_class Word) (read_mark 61) (λ m x. read_value x >>= λ v. few_fields (with_field s name v.0) v.1) (reads_mark 61 refl)
-    (λ m. reads_within (too_many s name) (with_field s name) Field_value (in_class Word) read_value reads_value)
+reads_set : (s : Description Value) (name : List ℕ) → IsReader (Set_field s name) (in_class Word) (λ x. read_mark 61 x >>= λ e. read_whole_value e.1 >>= λ v. few_fields (with_field s name v.0) v.1)
+reads_set s name = reads_then (Mark 61) (λ m. Within (too_many s name) (with_field s name) Field_value) is_space (in_class Word) (read_mark 61) (λ m x. read_whole_value x >>= λ v. few_fields (with_field s name v.0) v.1) (reads_mark 61 refl)
+    (λ m. reads_within (too_many s name) (with_field s name) Field_value (in_class Word) read_whole_value reads_whole_value)
     (λ m back w rest q stop. starts_stop is_space back rest (value_opens back q.0 q.1))
 
-reads_rest : (s : Description Value) (name : List ℕ) → IsReader (Rest_of_field s name) (in_class Word) (λ x. cond (is_some (value_at name s.fields)) (Err (misspelt x)) (read_mark 61 x >>= λ e. read_value e.1 >>= λ v. few_fields (with_field s name v.0) v.1))
+reads_rest : (s : Description Value) (name : List ℕ) → IsReader (Rest_of_field s name) (in_class Word) (λ x. cond (is_some (value_at name s.fields)) (Err (misspelt x)) (read_mark 61 x >>= λ e. read_whole_value e.1 >>= λ v. few_fields (with_field s name v.0) v.1))
 reads_rest s name = reads_iff (λ text w. (is_some (value_at name s.fields) ≡ false) × Set_field s name text w) (Rest_of_field s name) (in_class Word) _
     (λ text w h. let t = h.1 in let v = t.5 in (lacks_none (value_at name s.fields) h.0, (t.0, t.1, t.2, t.3, t.4, (v.0, v.1, v.3)), subst (λ d. length d.fields ≤ 64) (sym v.3) (ltb-false 64 (length (with_field s name v.0).fields) v.2)))
     (λ text w h. let t = h.1 in let v = t.5 in (none_lacks (value_at name s.fields) h.0, (t.0, t.1, t.2, t.3, t.4, (v.0, v.1, le-ltb 64 (length (with_field s name v.0).fields) (subst (λ d. length d.fields ≤ 64) v.2 h.2), v.2))))
@@ -63,7 +71,7 @@ not_or false b h = (refl, h)
 
 pub reads_field : (s : Description Value) → IsReader (Field s) (in_class Word) (read_field s)
 unfolding read_field
-reads_field s = reads_then Field_name (Rest_of_field s) (in_class Name) (in_class Word) read_name (λ name x. cond (is_some (value_at name s.fields)) (Err (misspelt x)) (read_mark 61 x >>= λ e. read_value e.1 >>= λ v. few_fields (with_field s name v.0) v.1)) reads_name (λ name. reads_rest s name)
+reads_field s = reads_then Field_name (Rest_of_field s) (in_class Name) (in_class Word) read_name (λ name x. cond (is_some (value_at name s.fields)) (Err (misspelt x)) (read_mark 61 x >>= λ e. read_whole_value e.1 >>= λ v. few_fields (with_field s name v.0) v.1)) reads_name (λ name. reads_rest s name)
     (λ name back w rest q stop. starts_stop (in_class Name) back rest (starts_mark (in_class Name) 61 (λ m. As (with_field s name) Field_value) back w refl refl q.1))
 
 -- a media type

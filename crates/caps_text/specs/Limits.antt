@@ -34,32 +34,30 @@ Open_field s = Then Field_name (λ name text members. (value_at name s.fields �
 abbrev pub Excess_field : Description Value → List ℕ → Unit {0} → Type 0
 Excess_field s text u = ((members : List One) × Open_field s text members × (64 < length members)) ⊎ ((t : Description Value) × Field_to None s text t × (64 < length t.fields))
 
--- what ends a structure: a semicolon, or the end of the text
-abbrev pub Ends_structure : List ℕ → List ℕ → Type 0
-Ends_structure text rest = Then Spaces (λ s. Is (codes ";")) text tt ⊎ ((text ≡ []) × (rest ≡ []))
-
--- structures and fields, and then a field with which there are too many, or the end of a structure before which 64 are
-abbrev pub Excess : List ℕ → List ℕ → Type 0
-Excess text rest =
-    (front back : List ℕ) × (made : Made) × (text ≡ front ++ back) × Then Head (λ s. Passed (Caps_step_to None) ([], s)) front made
-    × (Then (Mark 44) (λ m. Excess_field made.1) back tt ⊎ ((63 < length made.0) × Ends_structure back rest))
-
 -- no byte of a word stands first
 abbrev pub Ends_word : List ℕ → Type 0
 Ends_word [] = Unit {0}
 Ends_word (b ∷ bs) = in_class Word b ≡ false
 
+-- what ends a structure: a semicolon, or the end of the text
+abbrev pub Ends_structure : List ℕ → List ℕ → Type 0
+Ends_structure text rest = Then Spaces (λ s. Is (codes ";")) text tt ⊎ ((text ≡ []) × (rest ≡ []))
+
+-- a field with which there are too many, or the end of a structure with which there are
+abbrev pub Excess_part : Made → List ℕ → List ℕ → Type 0
+Excess_part made text rest = (Then (Mark 44) (λ m. Excess_field made.1) text tt × Ends_word rest) ⊎ ((64 ≤ length made.0) × Ends_structure text rest)
+
+-- structures and fields, and then what is too many
+abbrev pub Excess : List ℕ → List ℕ → Type 0
+Excess text rest = (front back : List ℕ) × (made : Made) × (text ≡ front ++ back) × Then Head (λ s. Passed (Caps_step_to None) ([], s)) front made × Excess_part made back rest
+
 -- some beginning of the text has too many of a kind
 abbrev pub HasExcess : List ℕ → Type 0
 HasExcess text = (front rest : List ℕ) × (text ≡ front ++ rest) × Excess front rest
 
--- and what stands behind it can't belong to its last word
-abbrev pub HasPlainExcess : List ℕ → Type 0
-HasPlainExcess text = (front rest : List ℕ) × (text ≡ front ++ rest) × Ends_word rest × Excess front rest
-
--- too many are told only where there are, and nothing else is told where there plainly are
+-- it is told that there are too many exactly where there are, unless memory is wanting
 abbrev pub TellsExcess : List ℕ → Result Caps CapsTextFault → Type 0
-TellsExcess text (Ok caps) = ¬ HasPlainExcess text
-TellsExcess text (Err (BadCaps place)) = ¬ HasPlainExcess text
+TellsExcess text (Ok caps) = ¬ HasExcess text
+TellsExcess text (Err (BadCaps place)) = ¬ HasExcess text
 TellsExcess text (Err (TooMany count)) = (count ≡ 65) × HasExcess text
 TellsExcess text (Err OutOfMemory) = Unit {0}
