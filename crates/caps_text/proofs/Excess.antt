@@ -64,7 +64,7 @@ members_over kind _ _ _ rest (past s t u front back text e d later) few more sto
     go (inl k) ih = list_again kind s t (front ++ (back ++ rest)) (back ++ rest) k ∙ ih (list_few kind s t (front ++ (back ++ rest)) (back ++ rest) k)
     go (inr k) ih = list_refused kind s (front ++ (back ++ rest)) many k
 
-abbrev Too_long : (List ℕ → List One → Type 0) → List ℕ → List One → Type 0
+abbrev pub Too_long : (List ℕ → List One → Type 0) → List ℕ → List One → Type 0
 Too_long P text members = P text members × (64 < length members)
 
 abbrev Open_tail : Option Kind → List ℕ → List One → Type 0

@@ -13,7 +13,9 @@ mod Loops
 mod Loose
 mod LooseListed
 mod LooseWhole
+mod Never
 mod Numbers
+mod OnlyExcess
 mod Parsing
 mod Places
 mod Ratios

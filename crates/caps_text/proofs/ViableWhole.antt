@@ -43,7 +43,7 @@ wider_plain : (kind : Option Kind) (text : List ℕ) (v : Value) → Plain_value
 wider_plain kind text v (inl h) = inl (wider_list kind text v h)
 wider_plain kind text v (inr h) = inr h
 
-wider_value : (text : List ℕ) (v : Value) → Field_value text v → Field_value_to None text v
+pub wider_value : (text : List ℕ) (v : Value) → Field_value text v → Field_value_to None text v
 wider_value text v (inl h) = let a = h.5 in inl (h.0, h.1, h.2, h.3, h.4, (a.0, a.1, a.2, a.3, a.4, wider_plain (Some h.2) a.1 v a.5))
 wider_value text v (inr h) = inr (wider_plain None text v h)
 
@@ -209,7 +209,7 @@ viable_caps made = viable_cond (Caps_step_to None made) (λ x. eqb (length x) 0)
 wider_field : (s : Description Value) (text : List ℕ) (t : Description Value) → Field s text t → Field_to None s text t
 wider_field s text t h = let r = h.5 in let m = r.1 in let a = m.5 in (h.0, h.1, h.2, h.3, h.4, (r.0, (m.0, m.1, m.2, m.3, m.4, (a.0, wider_value m.1 a.0 a.1, a.2)), tt))
 
-wider_caps : (made : Made) (text : List ℕ) (n : Outcome) → Caps_step made text n → Caps_step_to None made text n
+pub wider_caps : (made : Made) (text : List ℕ) (n : Outcome) → Caps_step made text n → Caps_step_to None made text n
 wider_caps made text n (inl h) = inl (h.0, tt, h.2)
 wider_caps made text n (inr (inl h)) = let m = h.1 in inr (inl (h.0, (m.0, m.1, m.2, m.3, m.4, wider_field made.1 m.1 h.0 m.5), h.2))
 wider_caps made text n (inr (inr h)) = inr (inr (h.0, h.1, tt, h.3))
