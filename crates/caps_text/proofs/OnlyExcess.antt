@@ -26,6 +26,7 @@ use Rattle.caps_text.proofs.Listed.{from_typed, list_is_step, value_split}
 use Rattle.caps_text.proofs.LocalReaders.{finishing, starting}
 use Rattle.caps_text.proofs.LooseWhole.{naming, setting}
 use Rattle.caps_text.proofs.Never.{IsNever, never_byte, never_bind, never_ended, never_head, never_kind, never_mark, never_member, never_name, never_ok}
+use Rattle.caps_text.proofs.Parsing.{read_any, read_empty}
 use Rattle.caps_text.proofs.Readers.{Reads_front, Stops, nothing}
 use Rattle.caps_text.proofs.Repeats.{repeat_again, repeat_done, repeat_refused, shorter}
 use Rattle.caps_text.proofs.Strings.{reads_kind}
@@ -341,3 +342,13 @@ told_excess text (Ok caps) h = λ e. many_no (h.0, h.1) (sym h.2 ∙ excess_told
 told_excess text (Err (BadCaps place)) h = λ e. let bad : misspelt h.0 ≡ many = stopped {V = List (Description Value)} (misspelt h.0) many (sym h.1 ∙ excess_told text e) in cc
 told_excess text (Err (TooMany count)) h = (h.1, only_excess text h.0)
 told_excess text (Err OutOfMemory) h = tt
+
+-- the two words have no structures
+word_few : (word text : List ℕ) → read_structures word ≡ Err (misspelt []) → text ≡ word → HasExcess text → ⊥
+word_few word text e is h = let bad : misspelt [] ≡ many = stopped {V = List (Description Value)} (misspelt []) many (sym e ∙ ap read_structures (sym is) ∙ excess_told text h) in cc
+
+pub any_few : (text : List ℕ) → text ≡ codes "ANY" → HasExcess text → ⊥
+any_few text is h = word_few (codes "ANY") text read_any is h
+
+pub empty_few : (text : List ℕ) → text ≡ codes "EMPTY" → HasExcess text → ⊥
+empty_few text is h = word_few (codes "EMPTY") text read_empty is h
