@@ -10,11 +10,12 @@ use Rattle.caps_text.specs.Answers.{Answer, Stop, misspelt, many, ◌>>=◌, fou
 use Rattle.caps_text.specs.Bytes.{in_class}
 use Rattle.caps_text.specs.Grammar.{Then, As, Is, Spaces, Mark, Member, List_step, List_of, Plain_value, Type_word, Field_value, Repeated, last, more, is_space}
 use Rattle.caps_text.specs.Kinds.{kind_of, kind_text}
-use Rattle.caps_text.specs.Reading.{Next, again, done, after_byte, behind_spaces, begins, expect, kept_member, list_step, list_step_from, read_kind, read_list, read_mark, read_member, read_members, read_type, read_value, read_value_from, repeat, within_limit}
+use Rattle.caps_text.specs.Reading.{Next, again, done, after_byte, behind_spaces, begins, expect, kept_member, list_step, list_step_from, read_kind, read_list, read_mark, read_member, read_members, read_type, read_value, read_value_from, read_whole_member, repeat, within_limit}
 use Rattle.caps_text.specs.declared.class.Class.TheVariants.{Word}
 use Rattle.caps_text.specs.declared.kind.Kind.{Kind}
 use Rattle.caps_text.specs.declared.kind.Kind.TheVariants.{Int as Whole, Bool as Either, Text as Words, Fraction as Quotients}
 use Rattle.caps_text.proofs.Choices.{Behind, is_byte, reads_choice, reads_begun, reads_iff, lacks_byte, starts_apart}
+use Rattle.caps_text.proofs.Ended.{reads_whole_member}
 use Rattle.caps_text.proofs.Readers.{IsReader, Reads_front, Stops, Starts, nothing, ok_is, bind_ok, reads_then, reads_as, reads_weaker, reads_any, stops_nothing, starts_stop, starts_more}
 use Rattle.caps_text.proofs.Repeats.{Within, IsStep, reads_within, reads_repeat}
 use Rattle.caps_text.proofs.Strings.{reads_kind}
@@ -32,10 +33,10 @@ reads_only v = record {
 }
 
 -- a member more
-abbrev over_limit : List One → One → Bool
+abbrev pub over_limit : List One → One → Bool
 over_limit members one = nat_lt 64 (length (kept_member members one))
 
-abbrev step_to : List One → One → Next (List One) (List One)
+abbrev pub step_to : List One → One → Next (List One) (List One)
 step_to members one = again (kept_member members one)
 
 abbrev One_more : Kind → List One → List ℕ → Next (List One) (List One) → Type 0
@@ -47,15 +48,15 @@ In_step kind members text n = Behind 125 (Only (done members)) text n ⊎ One_mo
 member_starts : (kind : Option Kind) (members : List One) (text : List ℕ) (n : Next (List One) (List One)) → Within (over_limit members) (step_to members) (Member kind) text n → Starts is_space text
 member_starts kind members text n h = member_opens is_space kind text h.0 space_opens refl h.1
 
-reads_one_more : (kind : Kind) (members : List One) → IsReader (One_more kind members) (in_class Word) (λ x. expect 44 x >>= λ m. read_member (Some kind) (behind_spaces m.1) >>= λ one. within_limit (kept_member members one.0) one.1)
-reads_one_more kind members = reads_then (Is (44 ∷ [])) (λ m. Then Spaces (λ s. Within (over_limit members) (step_to members) (Member (Some kind)))) nothing (in_class Word) (expect 44) (λ m x. read_member (Some kind) (behind_spaces x) >>= λ one. within_limit (kept_member members one.0) one.1) (reads_byte 44)
-    (λ m. reads_then Spaces (λ s. Within (over_limit members) (step_to members) (Member (Some kind))) is_space (in_class Word) skipping (λ s x. read_member (Some kind) x >>= λ one. within_limit (kept_member members one.0) one.1) reads_spaces
-    (λ s. reads_within (over_limit members) (step_to members) (Member (Some kind)) (in_class Word) (read_member (Some kind)) (reads_member (Some kind)))
+reads_one_more : (kind : Kind) (members : List One) → IsReader (One_more kind members) (in_class Word) (λ x. expect 44 x >>= λ m. read_whole_member (Some kind) (behind_spaces m.1) >>= λ one. within_limit (kept_member members one.0) one.1)
+reads_one_more kind members = reads_then (Is (44 ∷ [])) (λ m. Then Spaces (λ s. Within (over_limit members) (step_to members) (Member (Some kind)))) nothing (in_class Word) (expect 44) (λ m x. read_whole_member (Some kind) (behind_spaces x) >>= λ one. within_limit (kept_member members one.0) one.1) (reads_byte 44)
+    (λ m. reads_then Spaces (λ s. Within (over_limit members) (step_to members) (Member (Some kind))) is_space (in_class Word) skipping (λ s x. read_whole_member (Some kind) x >>= λ one. within_limit (kept_member members one.0) one.1) reads_spaces
+    (λ s. reads_within (over_limit members) (step_to members) (Member (Some kind)) (in_class Word) (read_whole_member (Some kind)) (reads_whole_member (Some kind)))
     (λ s back w rest q stop. starts_stop is_space back rest (member_starts (Some kind) members back w q)))
     (λ m back w rest q stop. stops_nothing (back ++ rest))
 
 reads_in_step : (kind : Kind) (members : List One) → IsReader (In_step kind members) (in_class Word) (λ x. list_step_from kind members x (after_byte 125 x))
-reads_in_step kind members = reads_choice 125 (Only (done members)) (One_more kind members) (in_class Word) (λ x. Ok (done members, x)) (λ x. expect 44 x >>= λ m. read_member (Some kind) (behind_spaces m.1) >>= λ one. within_limit (kept_member members one.0) one.1) (list_step_from kind members)
+reads_in_step kind members = reads_choice 125 (Only (done members)) (One_more kind members) (in_class Word) (λ x. Ok (done members, x)) (λ x. expect 44 x >>= λ m. read_whole_member (Some kind) (behind_spaces m.1) >>= λ one. within_limit (kept_member members one.0) one.1) (list_step_from kind members)
     (reads_any (Only (done members)) (in_class Word) (λ x. Ok (done members, x)) (reads_only (done members))) (reads_one_more kind members)
     (λ used v q. starts_is (is_byte 125) 44 [] (λ m. Then Spaces (λ s. Within (over_limit members) (step_to members) (Member (Some kind)))) used v refl q) (λ x y. refl) (λ x. refl)
 
@@ -99,7 +100,7 @@ reads_step : (kind : Kind) (members : List One) → IsReader (List_step kind mem
 reads_step kind members = reads_iff (Then Spaces (λ s. In_step kind members)) (List_step kind members) (in_class Word) (list_step kind members) (step_words kind members) (words_step kind members) (reads_list_step kind members)
 
 -- the end of a list may stand before everything
-list_ends : (kind : Kind) (members : List One) (front rest v : List _) → List_step kind members front (done v) → list_step kind members (front ++ rest) ≡ Ok (done v, rest)
+pub list_ends : (kind : Kind) (members : List One) (front rest v : List _) → List_step kind members front (done v) → list_step kind members (front ++ rest) ≡ Ok (done v, rest)
 unfolding list_step
 list_ends kind members front rest v (inl h) =
     let s = h.0 in
@@ -194,7 +195,7 @@ bind_bind (Err e) f g = refl
 abbrev Typed_value : List ℕ → Value → Type 0
 Typed_value = Then Type_word (λ kind. Then Spaces (λ s. Plain_value (Some kind)))
 
-abbrev from_typed : List ℕ → Answer Value
+abbrev pub from_typed : List ℕ → Answer Value
 from_typed x = read_kind x >>= λ a. read_value_from (Some a.0) (behind_spaces a.1) (after_byte 123 (behind_spaces a.1))
 
 reads_typed : IsReader Typed_value (in_class Word) from_typed
@@ -203,7 +204,7 @@ reads_typed = reads_then Type_word (λ kind. Then Spaces (λ s. Plain_value (Som
     (λ s back w rest q stop. starts_stop is_space back rest (plain_opens is_space (Some kind) back w space_opens refl refl q)))
     (λ kind back w rest q stop. stops_nothing (back ++ rest))
 
-type_begins : (text : List ℕ) (kind : Kind) → Type_word text kind → (back : List ℕ) × (text ≡ 40 ∷ back)
+pub type_begins : (text : List ℕ) (kind : Kind) → Type_word text kind → (back : List ℕ) × (text ≡ 40 ∷ back)
 type_begins text Whole h = (codes "int)", h)
 type_begins text Either h = (codes "boolean)", h)
 type_begins text Words h = (codes "string)", h)
@@ -212,7 +213,7 @@ type_begins text Quotients h = (codes "fraction)", h)
 typed_begins : (text : List ℕ) (v : Value) → Typed_value text v → (back : List ℕ) × (text ≡ 40 ∷ back)
 typed_begins text v h = let b = type_begins h.0 h.2 h.4 in (b.0 ++ h.1, h.3 ∙ ap (λ l. l ++ h.1) b.1)
 
-value_split : (x : List ℕ) → read_value x ≡ cond (begins 40 x) (from_typed x) (read_value_from None x (after_byte 123 x))
+pub value_split : (x : List ℕ) → read_value x ≡ cond (begins 40 x) (from_typed x) (read_value_from None x (after_byte 123 x))
 unfolding read_value read_type
 value_split x = bind_cond (begins 40 x) (read_kind x >>= λ a. Ok (Some a.0, behind_spaces a.1)) (Ok (None, x)) (λ a. read_value_from a.0 a.1 (after_byte 123 a.1))
     ∙ ap (λ a. cond (begins 40 x) a (read_value_from None x (after_byte 123 x))) (bind_bind (read_kind x) (λ a. Ok (Some a.0, behind_spaces a.1)) (λ a. read_value_from a.0 a.1 (after_byte 123 a.1)))

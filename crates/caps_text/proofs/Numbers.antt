@@ -20,7 +20,7 @@ use Rattle.caps_text.proofs.Tokens.{after_byte_is, small_begin}
 use Rattle.caps_text.proofs.Words.{passes, reads_byte, starts_is}
 
 -- digits at the front, which write the size
-abbrev Digits_read : ℕ → List ℕ → List ℕ → ℕ → Type 0
+abbrev pub Digits_read : ℕ → List ℕ → List ℕ → ℕ → Type 0
 Digits_read size x rest n = (used : List ℕ) × (x ≡ used ++ rest) × (n ≡ size_after size used) × (list_all is_digit used ≡ true) × (is_some (digit_at x) ≡ true → 0 < length used)
 
 digits_can : (w : Wanted) (negative : Bool) (size b : ℕ) (bs rest : List ℕ) (n : ℕ) → is_digit b ≡ true → (t : Bool) → cond {A = Answer ℕ} t (read_digits w negative (size * 10 + (b - 48)) bs) (Err (misspelt (b ∷ bs))) ≡ Ok (n, rest) → (read_digits w negative (size * 10 + (b - 48)) bs ≡ Ok (n, rest) → Digits_read (size * 10 + (b - 48)) bs rest n) → Digits_read size (b ∷ bs) rest n
@@ -34,7 +34,7 @@ digits_step w negative size b bs rest n false e k f =
     let no : is_some (digit_at (b ∷ bs)) ≡ false = ap (λ t. is_some (cond {A = Option (ℕ × List ℕ)} t (Some (b - 48, bs)) None)) e in
     ([], ap (λ p. p.1) is, sym (ap (λ p. p.0) is), refl, λ d. absurd (let bad : false ≡ true = sym no ∙ d in cc))
 
-digits_sound : (w : Wanted) (negative : Bool) (size : ℕ) (x rest : List ℕ) (n : ℕ) → read_digits w negative size x ≡ Ok (n, rest) → Digits_read size x rest n
+pub digits_sound : (w : Wanted) (negative : Bool) (size : ℕ) (x rest : List ℕ) (n : ℕ) → read_digits w negative size x ≡ Ok (n, rest) → Digits_read size x rest n
 digits_sound w negative size [] rest n h = let is = ok_is (size, []) (n, rest) h in ([], ap (λ p. p.1) is, sym (ap (λ p. p.0) is), refl, λ e. absurd (cc))
 digits_sound w negative size (b ∷ bs) rest n h = digits_step w negative size b bs rest n (is_digit b) refl h (digits_sound w negative (size * 10 + (b - 48)) bs rest n)
 
@@ -47,26 +47,26 @@ ten_fold : (size b : ℕ) (bs : List ℕ) → size * 10 ≤ size_after size (b �
 ten_fold size b bs = let later = grows (size * 10 + (b - 48)) bs in omega (arith, later)
 
 -- powers of ten
-abbrev tens : ℕ → ℕ
+abbrev pub tens : ℕ → ℕ
 tens zero = 1
 tens (suc k) = 10 * tens k
 
-some_tens : (k : ℕ) → 0 < tens k
+pub some_tens : (k : ℕ) → 0 < tens k
 some_tens zero = omega arith
 some_tens (suc k) = let h = some_tens k in omega (arith, h)
 
 digit_small : (b : ℕ) → is_digit b ≡ true → b - 48 ≤ 9
 digit_small b h = grind arith
 
-and-left : (a b : Bool) → (a && b) ≡ true → a ≡ true
+pub and-left : (a b : Bool) → (a && b) ≡ true → a ≡ true
 and-left true b h = refl
 and-left false b h = h
 
-and-right : (a b : Bool) → (a && b) ≡ true → b ≡ true
+pub and-right : (a b : Bool) → (a && b) ≡ true → b ≡ true
 and-right true b h = h
 and-right false b h = absurd (cc)
 
-and-both : (a b : Bool) → a ≡ true → b ≡ true → (a && b) ≡ true
+pub and-both : (a b : Bool) → a ≡ true → b ≡ true → (a && b) ≡ true
 and-both true b p q = q
 and-both false b p q = p
 
@@ -99,7 +99,7 @@ any_at p (x ∷ xs) (suc i) less h = step (p x) (any_at p xs i (omega (arith, le
     step false k = k
 
 -- the powers of ten that are tried
-tens_at : (k : ℕ) → k < 11 → get_or powers k 0 ≡ tens k
+pub tens_at : (k : ℕ) → k < 11 → get_or powers k 0 ≡ tens k
 tens_at zero h = refl
 tens_at (suc zero) h = refl
 tens_at (suc (suc zero)) h = refl
@@ -154,7 +154,7 @@ can_reach size least ds digits fit h = elim (cases_lt (length ds) 11) [
 ]
 
 -- what a wanted number says
-wanted_parts : (w : Wanted) (negative : Bool) (size : ℕ) (n : ℤ) → wanted_number w negative size ≡ Some n → (fits negative size ≡ true) × (is_wanted w (signed negative size) ≡ true) × (n ≡ signed negative size)
+pub wanted_parts : (w : Wanted) (negative : Bool) (size : ℕ) (n : ℤ) → wanted_number w negative size ≡ Some n → (fits negative size ≡ true) × (is_wanted w (signed negative size) ≡ true) × (n ≡ signed negative size)
 unfolding wanted_number
 wanted_parts w negative size n h = step (fits negative size) (is_wanted w (signed negative size)) h
   where

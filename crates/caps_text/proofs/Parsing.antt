@@ -16,18 +16,18 @@ use Rattle.caps_text.proofs.Readers.{IsReader, ok_is}
 use Rattle.caps_text.proofs.Whole.{reads_structures}
 
 -- the two words are no structures
-read_any : read_structures (codes "ANY") ≡ Err (misspelt [])
+pub read_any : read_structures (codes "ANY") ≡ Err (misspelt [])
 unfolding read_structures read_head read_media some_run expect
 read_any = refl
 
-read_empty : read_structures (codes "EMPTY") ≡ Err (misspelt [])
+pub read_empty : read_structures (codes "EMPTY") ≡ Err (misspelt [])
 unfolding read_structures read_head read_media some_run expect
 read_empty = refl
 
 structures_read : (text : List ℕ) (ss : List (Description Value)) → Structures text ss → read_structures text ≡ Ok (ss, [])
 structures_read text ss h = ap read_structures (sym (append-nil text)) ∙ reads_structures.complete text [] ss h tt
 
-err_not_ok : (e : Stop) (p : List (Description Value) × List ℕ) → ◌≡◌ {A = Answer (List (Description Value))} (Err e) (Ok p) → ⊥
+pub err_not_ok : (e : Stop) (p : List (Description Value) × List ℕ) → ◌≡◌ {A = Answer (List (Description Value))} (Err e) (Ok p) → ⊥
 err_not_ok e p h = cc
 
 refused_word : (word text : List ℕ) (ss : List (Description Value)) → read_structures word ≡ Err (misspelt []) → text ≡ word → Structures text ss → ⊥

@@ -71,7 +71,7 @@ module _ {S V : Type 0} (Step : S → List ℕ → Next S V → Type 0) (end : �
   }
 
   -- more steps are allowed than needed
-  shorter : (s t : S) (x y : List ℕ) → step s x ≡ Ok (again t, y) → length y < length x
+  pub shorter : (s t : S) (x y : List ℕ) → step s x ≡ Ok (again t, y) → length y < length x
   shorter s t x y h =
       let f = is.sound s x y (again t) h in
       let some = is.passes s t f.0 f.2 in

@@ -21,7 +21,7 @@ use Rattle.caps_text.proofs.Readers.{IsReader, Reads_front, Stops, Starts, nothi
 use Rattle.caps_text.proofs.Strings.{To_quote, reads_to_quote, reads_string, reads_truth, word_apart}
 use Rattle.caps_text.proofs.Words.{reads_byte, reads_mark, reads_run, reads_spaces, skipping, starts_is, starts_mark, starts_spaces}
 
-abbrev any_read : List ℕ → Answer ℤ
+abbrev pub any_read : List ℕ → Answer ℤ
 any_read = read_number (AtLeast least_number)
 
 -- two numbers with a slash between

@@ -9,9 +9,10 @@ use Rattle.gst_caps.specs.declared.value.Value.{Value}
 use Rattle.caps_text.specs.Answers.{Answer, Stop, misspelt, many, ◌>>=◌, found}
 use Rattle.caps_text.specs.Bytes.{in_class, is_digit, is_letter, is_sign}
 use Rattle.caps_text.specs.Grammar.{Then, As, Is, Spaces, Mark, Run, Media_type, Field_name, Field_value, Field, Rest_of_field, Head, Caps_step, Structures, Repeated, last, more, is_space}
-use Rattle.caps_text.specs.Reading.{Made, Next, again, done, after_byte, bare, behind_spaces, caps_step, expect, few_fields, few_structures, more_from, read_field, read_head, read_mark, read_media, read_more, read_name, read_structures, read_value, repeat, with_field}
+use Rattle.caps_text.specs.Reading.{Made, Next, again, done, after_byte, bare, behind_spaces, caps_step, expect, few_fields, few_structures, more_from, read_field, read_head, read_mark, read_media, read_more, read_name, read_structures, read_value, read_whole_value, repeat, with_field}
 use Rattle.caps_text.specs.declared.class.Class.TheVariants.{Media, Name, Word}
 use Rattle.caps_text.proofs.Choices.{Behind, is_byte, reads_choice, reads_iff, starts_apart}
+use Rattle.caps_text.proofs.Ended.{ended, ended_is, reads_ended}
 use Rattle.caps_text.proofs.Listed.{bind_cond, reads_same, reads_value, value_opens}
 use Rattle.caps_text.proofs.Readers.{IsReader, Reads_front, Stops, Starts, nothing, ok_is, bind_ok, reads_then, reads_as, reads_weaker, reads_any, stops_nothing, starts_stop, starts_more}
 use Rattle.caps_text.proofs.Repeats.{Within, IsStep, reads_within, reads_repeat}
@@ -32,45 +33,52 @@ module _ {V : Type 0} (P : List ℕ → V → Type 0) (test : ℕ → Bool) (r :
   pub reads_guarded : IsReader (λ text w. (b ≡ false) × P text w) test (λ x. cond {A = Answer V} b (Err (e x)) (r x))
   reads_guarded = record { sound = guarded_sound; complete = guarded_complete }
 
-none_lacks : {V : Type 0} (o : Option V) → o ≡ None → is_some o ≡ false
+pub none_lacks : {V : Type 0} (o : Option V) → o ≡ None → is_some o ≡ false
 none_lacks o h = ap is_some h
 
-lacks_none : {V : Type 0} (o : Option V) → is_some o ≡ false → o ≡ None
+pub lacks_none : {V : Type 0} (o : Option V) → is_some o ≡ false → o ≡ None
 lacks_none None h = refl
 lacks_none (Some v) h = absurd (cc)
 
+pub value_ended : (x : List ℕ) → read_whole_value x ≡ (read_value x >>= λ a. ended a.0 a.1)
+unfolding read_whole_value
+value_ended x = ended_is (read_value x)
+
+pub reads_whole_value : IsReader Field_value (in_class Word) read_whole_value
+reads_whole_value = reads_ended Field_value read_value read_whole_value value_ended reads_value
+
 -- a field behind its name
-abbrev too_many : Description Value → List ℕ → Value → Bool
+abbrev pub too_many : Description Value → List ℕ → Value → Bool
 too_many s name v = nat_lt 64 (length (with_field s name v).fields)
 
 abbrev Set_field : Description Value → List ℕ → List ℕ → Description Value → Type 0
 Set_field s name = Then (Mark 61) (λ m. Within (too_many s name) (with_field s name) Field_value)
 
-reads_set : (s : Description Value) (name : List ℕ) → IsReader (Set_field s name) (in_class Word) (λ x. read_mark 61 x >>= λ e. read_value e.1 >>= λ v. few_fields (with_field s name v.0) v.1)
-reads_set s name = reads_then (Mark 61) (λ m. Within (too_many s name) (with_field s name) Field_value) is_space (in_class Word) (read_mark 61) (λ m x. read_value x >>= λ v. few_fields (with_field s name v.0) v.1) (reads_mark 61 refl)
-    (λ m. reads_within (too_many s name) (with_field s name) Field_value (in_class Word) read_value reads_value)
+reads_set : (s : Description Value) (name : List ℕ) → IsReader (Set_field s name) (in_class Word) (λ x. read_mark 61 x >>= λ e. read_whole_value e.1 >>= λ v. few_fields (with_field s name v.0) v.1)
+reads_set s name = reads_then (Mark 61) (λ m. Within (too_many s name) (with_field s name) Field_value) is_space (in_class Word) (read_mark 61) (λ m x. read_whole_value x >>= λ v. few_fields (with_field s name v.0) v.1) (reads_mark 61 refl)
+    (λ m. reads_within (too_many s name) (with_field s name) Field_value (in_class Word) read_whole_value reads_whole_value)
     (λ m back w rest q stop. starts_stop is_space back rest (value_opens back q.0 q.1))
 
-reads_rest : (s : Description Value) (name : List ℕ) → IsReader (Rest_of_field s name) (in_class Word) (λ x. cond (is_some (value_at name s.fields)) (Err (misspelt x)) (read_mark 61 x >>= λ e. read_value e.1 >>= λ v. few_fields (with_field s name v.0) v.1))
+reads_rest : (s : Description Value) (name : List ℕ) → IsReader (Rest_of_field s name) (in_class Word) (λ x. cond (is_some (value_at name s.fields)) (Err (misspelt x)) (read_mark 61 x >>= λ e. read_whole_value e.1 >>= λ v. few_fields (with_field s name v.0) v.1))
 reads_rest s name = reads_iff (λ text w. (is_some (value_at name s.fields) ≡ false) × Set_field s name text w) (Rest_of_field s name) (in_class Word) _
     (λ text w h. let t = h.1 in let v = t.5 in (lacks_none (value_at name s.fields) h.0, (t.0, t.1, t.2, t.3, t.4, (v.0, v.1, v.3)), subst (λ d. length d.fields ≤ 64) (sym v.3) (ltb-false 64 (length (with_field s name v.0).fields) v.2)))
     (λ text w h. let t = h.1 in let v = t.5 in (none_lacks (value_at name s.fields) h.0, (t.0, t.1, t.2, t.3, t.4, (v.0, v.1, le-ltb 64 (length (with_field s name v.0).fields) (subst (λ d. length d.fields ≤ 64) v.2 h.2), v.2))))
     (reads_guarded (Set_field s name) (in_class Word) _ (reads_set s name) (is_some (value_at name s.fields)) misspelt)
 
-not_or : (a b : Bool) → (a || b) ≡ false → (a ≡ false) × (b ≡ false)
+pub not_or : (a b : Bool) → (a || b) ≡ false → (a ≡ false) × (b ≡ false)
 not_or true b h = absurd (cc)
 not_or false b h = (refl, h)
 
 pub reads_field : (s : Description Value) → IsReader (Field s) (in_class Word) (read_field s)
 unfolding read_field
-reads_field s = reads_then Field_name (Rest_of_field s) (in_class Name) (in_class Word) read_name (λ name x. cond (is_some (value_at name s.fields)) (Err (misspelt x)) (read_mark 61 x >>= λ e. read_value e.1 >>= λ v. few_fields (with_field s name v.0) v.1)) reads_name (λ name. reads_rest s name)
+reads_field s = reads_then Field_name (Rest_of_field s) (in_class Name) (in_class Word) read_name (λ name x. cond (is_some (value_at name s.fields)) (Err (misspelt x)) (read_mark 61 x >>= λ e. read_whole_value e.1 >>= λ v. few_fields (with_field s name v.0) v.1)) reads_name (λ name. reads_rest s name)
     (λ name back w rest q stop. starts_stop (in_class Name) back rest (starts_mark (in_class Name) 61 (λ m. As (with_field s name) Field_value) back w refl refl q.1))
 
 -- a media type
 no_media : (b : ℕ) → in_class Word b ≡ false → in_class Media b ≡ false
 no_media b h = grind arith
 
-stops_media : (rest : List ℕ) → Stops (in_class Word) rest → Stops (in_class Media) rest
+pub stops_media : (rest : List ℕ) → Stops (in_class Word) rest → Stops (in_class Media) rest
 stops_media [] h = tt
 stops_media (b ∷ bs) h = no_media b h
 
@@ -79,7 +87,7 @@ unfolding read_head
 reads_head = reads_as bare Media_type (in_class Media) read_media reads_media
 
 -- a structure's media type begins with no space
-head_starts : (text : List ℕ) (s : Description Value) → Head text s → Starts is_space text
+pub head_starts : (text : List ℕ) (s : Description Value) → Head text s → Starts is_space text
 head_starts text s h = let m = h.1 in subst (Starts is_space) (sym m.3) (starts_more is_space m.0 m.1 (first m.0 m.2 m.4))
   where
     no_space : (b : ℕ) → in_class Media b ≡ true → is_space b ≡ false
@@ -93,7 +101,7 @@ head_starts text s h = let m = h.1 in subst (Starts is_space) (sym m.3) (starts_
     first [] run k = absurd (let some = k.1 in omega (arith, some))
     first (b ∷ bs) run k = no_space b (and-left (in_class Media b) (list_all (in_class Media) bs) k.2)
 
-name_starts : (text name : List ℕ) → Field_name text name → Starts is_space text
+pub name_starts : (text name : List ℕ) → Field_name text name → Starts is_space text
 name_starts [] name h = absurd (let some = h.0.1 in omega (arith, some))
 name_starts (b ∷ bs) name h = no_space b h.1
   where
@@ -104,13 +112,13 @@ field_starts : (s : Description Value) (text : List ℕ) (t : Description Value)
 field_starts s text t h = subst (Starts is_space) (sym h.3) (starts_more is_space h.0 h.1 (name_starts h.0 h.2 h.4))
 
 -- a comma and a field
-abbrev Outcome : Type 0
+abbrev pub Outcome : Type 0
 Outcome = Next Made (List (Description Value))
 
-abbrev one_field : Made → Description Value → Outcome
+abbrev pub one_field : Made → Description Value → Outcome
 one_field made s = again (made.0, s)
 
-abbrev one_structure : Made → Description Value → Outcome
+abbrev pub one_structure : Made → Description Value → Outcome
 one_structure made s = again (made.0 ++ made.1 ∷ [], s)
 
 abbrev More_fields : Made → List ℕ → Outcome → Type 0
@@ -164,7 +172,7 @@ Goes_on made text n =
     ⊎ ((s : Description Value) × Then (Mark 59) (λ m. Head) text s × (length made.0 ≤ 63) × (n ≡ again (made.0 ++ made.1 ∷ [], s)))
 
 -- a mark in front, taken apart and put together
-marked : {W : Type 0} (m : ℕ) (P : List ℕ → W → Type 0) (spaces behind tail text : List ℕ) (w : W) → text ≡ spaces ++ (m ∷ (behind ++ tail)) → Spaces spaces tt → Spaces behind tt → P tail w → Then (Mark m) (λ u. P) text w
+pub marked : {W : Type 0} (m : ℕ) (P : List ℕ → W → Type 0) (spaces behind tail text : List ℕ) (w : W) → text ≡ spaces ++ (m ∷ (behind ++ tail)) → Spaces spaces tt → Spaces behind tt → P tail w → Then (Mark m) (λ u. P) text w
 marked m P spaces behind tail text w e s t p =
     (spaces ++ (m ∷ behind), tail, tt, e ∙ sym (append_assoc spaces (m ∷ behind) tail), (spaces, m ∷ behind, tt, refl, s, (m ∷ [], behind, tt, refl, refl, t)), p)
 
@@ -181,7 +189,7 @@ more_words made text n h = go h.5
         let f = t.5 in
         inr (f.0, marked 59 Head h.0 t.0 t.1 text f.0 (h.3 ∙ ap (λ l. h.0 ++ l) (b.3 ∙ (λ i. b.4 i ++ t.3 i))) h.4 t.4 f.1, ltb-false 63 (length made.0) b.5.0, f.2)
 
-split_mark : (m : ℕ) (front back text : List ℕ) (mark : Mark m front tt) → text ≡ front ++ back → text ≡ mark.0 ++ (m ∷ (mark.5.1 ++ back))
+pub split_mark : (m : ℕ) (front back text : List ℕ) (mark : Mark m front tt) → text ≡ front ++ back → text ≡ mark.0 ++ (m ∷ (mark.5.1 ++ back))
 split_mark m front back text mark e =
     let inner = mark.5 in
     e ∙ ap (λ l. l ++ back) (mark.3 ∙ ap (λ l. mark.0 ++ l) (inner.3 ∙ ap (λ l. l ++ inner.1) inner.4)) ∙ append_assoc mark.0 (m ∷ inner.1) back
@@ -237,7 +245,7 @@ step_starts made t text (inl h) = absurd (cc)
 step_starts made t text (inr (inl h)) = starts_mark (in_class Word) 44 (λ m. Field made.1) text h.0 refl refl h.1
 step_starts made t text (inr (inr h)) = starts_mark (in_class Word) 59 (λ m. Head) text h.0 refl refl h.1
 
-at_end : (rest : List ℕ) → Stops all_bytes rest → rest ≡ []
+pub at_end : (rest : List ℕ) → Stops all_bytes rest → rest ≡ []
 at_end [] h = refl
 at_end (b ∷ bs) h = absurd (cc)
 
@@ -250,7 +258,7 @@ caps_stop _ _ rest _ (last s text v d) stop = ended d
     ended (inr (inr h)) = absurd (let bad = h.3 in cc)
 caps_stop _ _ rest _ (more s t front back text v e d later) stop = subst (λ l. Stops (in_class Word) (l ++ rest)) (sym e) (starts_stop (in_class Word) (front ++ back) rest (starts_more (in_class Word) front back (step_starts s t front d)))
 
-some_bytes : (test : ℕ → Bool) (l : List ℕ) → Starts test l → 0 < length l
+pub some_bytes : (test : ℕ → Bool) (l : List ℕ) → Starts test l → 0 < length l
 some_bytes test [] s = absurd s
 some_bytes test (b ∷ bs) s = omega arith
 

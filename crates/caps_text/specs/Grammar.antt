@@ -138,53 +138,99 @@ pub data Repeated {S V : Type 0} (Step : S → List ℕ → Next S V → Type 0)
   last : (s : S) (text : List ℕ) (v : V) → Step s text (done v) → Repeated Step s text v
   more : (s t : S) (front back text : List ℕ) (v : V) → text ≡ front ++ back → Step s front (again t) → Repeated Step t back v → Repeated Step s text v
 
--- the end of a list, or a comma and a member, where members that are equal are kept once
-abbrev pub List_step : Kind → List One → List ℕ → Next (List One) (List One) → Type 0
-List_step kind members text next =
-    (Then Spaces (λ s. Is (codes "}")) text tt × (next ≡ done members))
-    ⊎ ((one : One) × Then (Mark 44) (λ m. Member (Some kind)) text one × (length (kept_member members one) ≤ 64) × (next ≡ again (kept_member members one)))
+-- the most members of a list, fields of a structure and structures of a text, where there is a limit
+abbrev pub Limit : Type 0
+Limit = Option ℕ
 
--- a list of 1 to 64 members, all of the type of the first; one member stands alone
+-- so many are not too many
+abbrev pub Allows : Limit → ℕ → Type 0
+Allows None count = Unit {0}
+Allows (Some most) count = count ≤ most
+
+-- so many and one more are not too many
+abbrev pub Allows_more : Limit → ℕ → Type 0
+Allows_more None count = Unit {0}
+Allows_more (Some most) count = count ≤ most - 1
+
+-- the limit of caps texts
+abbrev pub the_limit : Limit
+the_limit = Some 64
+
+-- the end of a list, or a comma and a member, where members that are equal are kept once
+abbrev pub List_step_to : Limit → Kind → List One → List ℕ → Next (List One) (List One) → Type 0
+List_step_to limit kind members text next =
+    (Then Spaces (λ s. Is (codes "}")) text tt × (next ≡ done members))
+    ⊎ ((one : One) × Then (Mark 44) (λ m. Member (Some kind)) text one × Allows limit (length (kept_member members one)) × (next ≡ again (kept_member members one)))
+
+abbrev pub List_step : Kind → List One → List ℕ → Next (List One) (List One) → Type 0
+List_step = List_step_to the_limit
+
+-- a list of one member or more, all of the type of the first; one member stands alone
+abbrev pub List_to : Limit → Option Kind → List ℕ → Value → Type 0
+List_to limit kind = Then (Is (codes "{")) (λ o. Then Spaces (λ s. Then (Member kind) (λ first. As as_value (Repeated (List_step_to limit (kind_of first)) (first ∷ [])))))
+
 abbrev pub List_of : Option Kind → List ℕ → Value → Type 0
-List_of kind = Then (Is (codes "{")) (λ o. Then Spaces (λ s. Then (Member kind) (λ first. As as_value (Repeated (List_step (kind_of first)) (first ∷ [])))))
+List_of = List_to the_limit
 
 -- a value behind its type, if it has one
+abbrev pub Plain_value_to : Limit → Option Kind → List ℕ → Value → Type 0
+Plain_value_to limit kind text v = List_to limit kind text v ⊎ As Single (Member kind) text v
+
 abbrev pub Plain_value : Option Kind → List ℕ → Value → Type 0
-Plain_value kind text v = List_of kind text v ⊎ As Single (Member kind) text v
+Plain_value = Plain_value_to the_limit
 
 -- the word of a type
 abbrev pub Type_word : List ℕ → Kind → Type 0
 Type_word text kind = text ≡ kind_text kind
 
 -- a value, with a type before it or without one
-abbrev pub Field_value : List ℕ → Value → Type 0
-Field_value text v = Then Type_word (λ kind. Then Spaces (λ s. Plain_value (Some kind))) text v ⊎ Plain_value None text v
+abbrev pub Field_value_to : Limit → List ℕ → Value → Type 0
+Field_value_to limit text v = Then Type_word (λ kind. Then Spaces (λ s. Plain_value_to limit (Some kind))) text v ⊎ Plain_value_to limit None text v
 
--- a field of a new name, with which there are at most 64
+abbrev pub Field_value : List ℕ → Value → Type 0
+Field_value = Field_value_to the_limit
+
+-- a field of a new name, with which there are not too many
+abbrev pub Rest_of_field_to : Limit → Description Value → List ℕ → List ℕ → Description Value → Type 0
+Rest_of_field_to limit s name text t = (value_at name s.fields ≡ None) × Then (Mark 61) (λ m. As (with_field s name) (Field_value_to limit)) text t × Allows limit (length t.fields)
+
 abbrev pub Rest_of_field : Description Value → List ℕ → List ℕ → Description Value → Type 0
-Rest_of_field s name text t = (value_at name s.fields ≡ None) × Then (Mark 61) (λ m. As (with_field s name) Field_value) text t × (length t.fields ≤ 64)
+Rest_of_field = Rest_of_field_to the_limit
+
+abbrev pub Field_to : Limit → Description Value → List ℕ → Description Value → Type 0
+Field_to limit s = Then Field_name (Rest_of_field_to limit s)
 
 abbrev pub Field : Description Value → List ℕ → Description Value → Type 0
-Field s = Then Field_name (Rest_of_field s)
+Field = Field_to the_limit
 
 -- a structure without fields
 abbrev pub Head : List ℕ → Description Value → Type 0
 Head = As bare Media_type
 
--- the end of the text, a comma and a field, or a semicolon and another structure, where there are at most 64
+-- the end of the text, a comma and a field, or a semicolon and another structure, where there are not too many
+abbrev pub Caps_step_to : Limit → Made → List ℕ → Next Made (List (Description Value)) → Type 0
+Caps_step_to limit made text next =
+    ((text ≡ []) × Allows_more limit (length made.0) × (next ≡ done (made.0 ++ made.1 ∷ [])))
+    ⊎ ((s : Description Value) × Then (Mark 44) (λ m. Field_to limit made.1) text s × (next ≡ again (made.0, s)))
+    ⊎ ((s : Description Value) × Then (Mark 59) (λ m. Head) text s × Allows_more limit (length made.0) × (next ≡ again (made.0 ++ made.1 ∷ [], s)))
+
 abbrev pub Caps_step : Made → List ℕ → Next Made (List (Description Value)) → Type 0
-Caps_step made text next =
-    ((text ≡ []) × (length made.0 ≤ 63) × (next ≡ done (made.0 ++ made.1 ∷ [])))
-    ⊎ ((s : Description Value) × Then (Mark 44) (λ m. Field made.1) text s × (next ≡ again (made.0, s)))
-    ⊎ ((s : Description Value) × Then (Mark 59) (λ m. Head) text s × (length made.0 ≤ 63) × (next ≡ again (made.0 ++ made.1 ∷ [], s)))
+Caps_step = Caps_step_to the_limit
 
 -- structures with semicolons between
+abbrev pub Structures_to : Limit → List ℕ → List (Description Value) → Type 0
+Structures_to limit = Then Head (λ s. Repeated (Caps_step_to limit) ([], s))
+
 abbrev pub Structures : List ℕ → List (Description Value) → Type 0
-Structures = Then Head (λ s. Repeated Caps_step ([], s))
+Structures = Structures_to the_limit
 
 -- the text stands for the caps: ANY, EMPTY for no structures, or structures
-abbrev pub IsCapsText : List ℕ → Caps → Type 0
-IsCapsText text caps =
+abbrev pub IsCapsTextTo : Limit → List ℕ → Caps → Type 0
+IsCapsTextTo limit text caps =
     ((text ≡ codes "ANY") × (caps ≡ Any))
     ⊎ ((text ≡ codes "EMPTY") × (caps ≡ Of []))
-    ⊎ ((ss : List (Description Value)) × Structures text ss × (caps ≡ Of ss))
+    ⊎ ((ss : List (Description Value)) × Structures_to limit text ss × (caps ≡ Of ss))
+
+-- a list, a structure and caps hold at most 64 of a kind
+abbrev pub IsCapsText : List ℕ → Caps → Type 0
+IsCapsText = IsCapsTextTo the_limit

@@ -2,7 +2,9 @@ pub mod Answers
 pub mod Bytes
 pub mod Grammar
 pub mod Kinds
+pub mod Limits
 pub mod Parsed
+pub mod Place
 pub mod Printed
 pub mod Ratio
 pub mod Reading

@@ -208,6 +208,18 @@ read_member_from kind x None = read_single kind x
 unfoldable pub read_member : Option Kind → List ℕ → Answer One
 read_member kind x = cond (takes_ranges kind) (read_member_from kind x (after_byte 91 x)) (read_single kind x)
 
+-- a byte of this class stands first
+abbrev pub begins_run : Class → List ℕ → Bool
+begins_run class [] = false
+begins_run class (b ∷ bs) = in_class class b
+
+-- no byte of a word stands behind a value
+unfoldable pub end_word : List ℕ → Answer (Unit {0})
+end_word x = cond (begins_run Word x) (Err (misspelt x)) (Ok (tt, x))
+
+unfoldable pub read_whole_member : Option Kind → List ℕ → Answer One
+read_whole_member kind x = read_member kind x >>= λ a. end_word a.1 >>= λ e. Ok (a.0, e.1)
+
 -- what a step of a list or of structures comes to: more is to be read, or all is read
 pub data Next (S V : Type 0) : Type 0 where
   again : S → Next S V
@@ -237,7 +249,7 @@ within_limit members rest = cond (nat_lt 64 (length members)) (Err many) (Ok (ag
 
 abbrev pub list_step_from : Kind → List One → List ℕ → Option (List ℕ) → Answer (Next (List One) (List One))
 list_step_from kind members x (Some rest) = Ok (done members, rest)
-list_step_from kind members x None = expect 44 x >>= λ m. read_member (Some kind) (behind_spaces m.1) >>= λ one. within_limit (kept_member members one.0) one.1
+list_step_from kind members x None = expect 44 x >>= λ m. read_whole_member (Some kind) (behind_spaces m.1) >>= λ one. within_limit (kept_member members one.0) one.1
 
 -- the end of a list, or a comma and a member
 unfoldable pub list_step : Kind → List One → List ℕ → Answer (Next (List One) (List One))
@@ -270,6 +282,9 @@ read_value_from kind x None = read_member kind x >>= λ a. Ok (Single a.0, a.1)
 unfoldable pub read_value : List ℕ → Answer Value
 read_value x = read_type x >>= λ a. read_value_from a.0 a.1 (after_byte 123 a.1)
 
+unfoldable pub read_whole_value : List ℕ → Answer Value
+read_whole_value x = read_value x >>= λ a. end_word a.1 >>= λ e. Ok (a.0, e.1)
+
 -- a media type
 unfoldable pub read_media : List ℕ → Answer (List ℕ)
 read_media x = some_run Media x >>= λ a. expect 47 a.1 >>= λ s. some_run Media s.1 >>= λ b. Ok (a.0 ++ codes "/" ++ b.0, b.1)
@@ -296,7 +311,7 @@ few_fields s rest = cond (nat_lt 64 (length s.fields)) (Err many) (Ok (s, rest))
 -- a field of a new name
 unfoldable pub read_field : Description Value → List ℕ → Answer (Description Value)
 read_field s x =
-    read_name x >>= λ n. cond (is_some (value_at n.0 s.fields)) (Err (misspelt n.1)) (read_mark 61 n.1 >>= λ e. read_value e.1 >>= λ v. few_fields (with_field s n.0 v.0) v.1)
+    read_name x >>= λ n. cond (is_some (value_at n.0 s.fields)) (Err (misspelt n.1)) (read_mark 61 n.1 >>= λ e. read_whole_value e.1 >>= λ v. few_fields (with_field s n.0 v.0) v.1)
 
 abbrev pub bare : List ℕ → Description Value
 bare media = record { media = media; fields = [] }

@@ -3,7 +3,7 @@ ghost use Rattle.std.specs.Prelude.{◌≡◌, ◌≤◌, ℕ, List, length};
 ghost use Rattle.std.specs.List.{list_any};
 ghost use Rattle.gst_caps.specs.Common.{as_value, same};
 ghost use Rattle.caps_text.specs.Answers.{Gives, Reads};
-ghost use Rattle.caps_text.specs.Reading.{again, kept_member, list_step, next, read_list, read_members, read_type, read_value, within_limit};
+ghost use Rattle.caps_text.specs.Reading.{again, kept_member, list_step, next, read_list, read_members, read_type, read_value, read_whole_member, read_whole_value, within_limit};
 
 use crate::fault::{Misspelt, Refusal};
 use crate::kind::{Kind, kind_of, read_kind};
@@ -63,6 +63,20 @@ fn as_value(mut members: Vec<One>) -> Value
     Value::Many(List::from_vec(members))
 }
 
+/// Reads a member behind which no byte of a word stands.
+#[tactic(auto, unfolding(crate::specs::Reading::read_whole_member))]
+fn read_whole_member(
+    scanner: &mut Scanner<'_>,
+    alloc: Global,
+    kind: Option<Kind>,
+) -> Result<One, Refusal>
+    ensures { Gives (λ x. x) result scanner.new.rest.now (read_whole_member kind scanner.old.rest.now) }
+{
+    let member = read_member(scanner, alloc, kind)?;
+    scanner.end_word()?;
+    Ok(member)
+}
+
 /// Reads the end of a list, or a comma and a member. Says whether it was the end.
 #[tactic(auto, unfolding(crate::specs::Reading::list_step))]
 fn list_step(
@@ -80,7 +94,7 @@ fn list_step(
     }
     scanner.expect(',')?;
     scanner.skip_spaces();
-    let member = read_member(scanner, alloc, Some(kind))?;
+    let member = read_whole_member(scanner, alloc, Some(kind))?;
     add_member(members, member)?;
     Ok(false)
 }
@@ -135,4 +149,14 @@ pub(crate) fn read_value(scanner: &mut Scanner<'_>, alloc: Global) -> Result<Val
         return read_list(scanner, alloc, kind);
     }
     Ok(Value::One(read_member(scanner, alloc, kind)?))
+}
+
+/// Reads a value behind which no byte of a word stands.
+#[tactic(auto, unfolding(crate::specs::Reading::read_whole_value))]
+pub(crate) fn read_whole_value(scanner: &mut Scanner<'_>, alloc: Global) -> Result<Value, Refusal>
+    ensures { Gives (λ x. x) result scanner.new.rest.now (read_whole_value scanner.old.rest.now) }
+{
+    let value = read_value(scanner, alloc)?;
+    scanner.end_word()?;
+    Ok(value)
 }

@@ -2,7 +2,9 @@
 ghost use Rattle.std.specs.Prelude.{◌≡◌, ◌≢◌, ◌-◌, codes, IfOk, IfErr};
 ghost use Rattle.gst_caps.specs.declared.caps.Caps.{Caps as Wanted};
 ghost use Rattle.caps_text.specs.Grammar.{IsCapsText};
+ghost use Rattle.caps_text.specs.Limits.{TellsExcess};
 ghost use Rattle.caps_text.specs.Parsed.{AnswersCaps, IsFaultOf, Told, as_place, fault_of};
+ghost use Rattle.caps_text.specs.Place.{IsPlace};
 ghost use Rattle.caps_text.specs.Reading.{read_structures};
 
 use crate::fault::{CapsTextFault, Refusal};
@@ -48,6 +50,8 @@ pub fn parse(alloc: Global, text: &str) -> Result<Caps, CapsTextFault>
     ensures found { IfOk result (λ caps. IsCapsText text.now caps) }
     ensures only { (caps : Wanted) → IsCapsText text.now caps → AnswersCaps result caps }
     ensures fault { IfErr result (IsFaultOf text.now) }
+    ensures place { IfErr result (IsPlace text.now) }
+    ensures many { TellsExcess text.now result }
     ensures exact { text.now ≢ codes "ANY" → text.now ≢ codes "EMPTY" → Told text.now result (read_structures text.now) }
 {
     if text == "ANY" {

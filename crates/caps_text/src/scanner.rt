@@ -5,7 +5,7 @@ ghost use Rattle.std.specs.Option.{option_map};
 ghost use Rattle.std.specs.List.{list_all, take_while};
 ghost use Rattle.caps_text.specs.Answers.{Reads};
 ghost use Rattle.caps_text.specs.Bytes.{in_class, is_ascii};
-ghost use Rattle.caps_text.specs.Reading.{after_byte, begins, behind_run, behind_spaces, digit_at, expect, read_literal, read_mark, run_of, some_run};
+ghost use Rattle.caps_text.specs.Reading.{after_byte, begins, begins_run, behind_run, behind_spaces, digit_at, end_word, expect, read_literal, read_mark, run_of, some_run};
 
 use crate::class::{Class, is_digit};
 use crate::fault::Misspelt;
@@ -108,6 +108,28 @@ impl<'a> Scanner<'a> {
             Err(Misspelt)
         } else {
             Ok(run)
+        }
+    }
+
+    /// Whether a byte of this class stands next.
+    fn begins_run(&self, class: Class) -> bool
+        ensures { result ≡ begins_run class self.now.rest.now }
+    {
+        match self.rest.as_bytes().first() {
+            Some(byte) => class.holds(*byte),
+            None => false,
+        }
+    }
+
+    /// Refuses a byte of a word, where one stands next.
+    #[tactic(auto, unfolding(crate::specs::Reading::end_word))]
+    pub(crate) fn end_word(&self) -> Result<(), Misspelt>
+        ensures { Reads (λ x. x) result self.now.rest.now (end_word self.now.rest.now) }
+    {
+        if self.begins_run(Class::Word) {
+            Err(Misspelt)
+        } else {
+            Ok(())
         }
     }
 

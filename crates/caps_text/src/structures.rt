@@ -6,7 +6,7 @@ ghost use Rattle.caps_text.specs.Reading.{again, few_structures, names, read_fie
 
 use crate::class::{Class, is_letter};
 use crate::fault::{Misspelt, Refusal};
-use crate::list::read_value;
+use crate::list::read_whole_value;
 use crate::scanner::Scanner;
 use gst_caps::{List, Structure, Text};
 use std::alloc::Global;
@@ -75,7 +75,7 @@ fn read_field(
         return Err(Refusal::Misspelt);
     }
     scanner.mark('=')?;
-    let value = read_value(scanner, alloc)?;
+    let value = read_whole_value(scanner, alloc)?;
     structure.set(alloc, name, value)?;
     Ok(())
 }
