@@ -14,7 +14,7 @@ use Rattle.el_set.specs.Rows.{domain_named, InDomain}
 use Rattle.gst_caps.specs.declared.caps.Caps.{Caps}
 use Rattle.caps_text.specs.Grammar.{IsCapsText}
 
-or_else-or_else : {V : Type 0} → (a b c : Option V) → or_else (or_else a b) c ≡ or_else a (or_else b c)
+pub or_else-or_else : {V : Type 0} → (a b c : Option V) → or_else (or_else a b) c ≡ or_else a (or_else b c)
 or_else-or_else None b c = refl
 or_else-or_else (Some v) b c = refl
 

@@ -4,3 +4,5 @@ pub mod Numbers
 pub mod Values
 pub mod Checked
 pub mod Asked
+pub mod Denoted
+pub mod Stepping

@@ -2,6 +2,7 @@
 #![tactic(auto)]
 
 mod checking;
+mod denoting;
 mod domain;
 mod fault;
 mod kind;
@@ -11,6 +12,7 @@ mod templates;
 mod values;
 
 pub use checking::check;
+pub use denoting::denote;
 pub use fault::PropFault;
 pub use settings::{
     CapsFilterSettings, FileSinkSettings, FileSrcSettings, QueueSettings, Settings,

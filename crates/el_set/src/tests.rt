@@ -1,6 +1,10 @@
-//! Rows of properties.
+//! Rows of properties and of whole lists.
+ghost use Rattle.std.specs.Prelude.{◌≡◌};
+ghost use Rattle.el_set.specs.Asked.{sink_pads, source_pads};
+
 use super::*;
-use gst_caps::{Caps, List, Prop, Text};
+use gst_caps::{Caps, Fixed, List, Prop, Text};
+use gst_item::{Body, Buffer, ElementFault, Event, Item};
 use std::alloc::Global;
 use std::test::Fail;
 
@@ -151,5 +155,90 @@ fn a_template_is_the_filter(rt: HostRuntime) -> Result<(), Fail> {
     let filter = template(alloc, &settings, true, 0)?;
     assert_eq!(rt; caps_text::print(alloc, &filter)?.as_str(), "audio/x-raw");
     assert!(rt; matches!(template(alloc, &Settings::Identity, false, 0)?, Caps::Any));
+    Ok(())
+}
+
+/// The item of a letter: STREAM_START, CAPS, a buffer, FLUSH_STOP or EOS.
+fn item_of(alloc: Global, letter: char) -> Result<Item, Fail> {
+    match letter {
+        'S' => Ok(Item::Event(Event::StreamStart { id: 1 })),
+        'C' => Ok(Item::Event(Event::Caps(Fixed::new(alloc, "audio/x-raw")?))),
+        'M' => Ok(Item::Event(Event::Caps(Fixed::new(alloc, "audio/x-mulaw")?))),
+        'F' => Ok(Item::Event(Event::FlushStop { number: 1 })),
+        'E' => Ok(Item::Event(Event::Eos)),
+        _ => Ok(Item::Buffer(Buffer {
+            body: Body::from_vec(alloc, Vec::new(alloc))?,
+            pts: None,
+            duration: None,
+            offset: None,
+            discont: false,
+        })),
+    }
+}
+
+fn letter_of(item: &Item) -> char {
+    match item {
+        Item::Event(Event::StreamStart { .. }) => 'S',
+        Item::Event(Event::Caps(_)) => 'C',
+        Item::Event(Event::FlushStop { .. }) => 'F',
+        Item::Event(Event::Eos) => 'E',
+        Item::Event(_) => '?',
+        Item::Buffer(_) => 'B',
+    }
+}
+
+/// What an element with one sink pad and one source pad owes for items, by their letters.
+fn owed(alloc: Global, settings: &Settings, letters: &str) -> Result<String, Fail>
+    requires sinks { sink_pads settings.now ≡ 1 }
+    requires sources { source_pads settings.now ≡ 1 }
+{
+    let mut items = List::new(alloc);
+    for letter in letters.chars() {
+        items.push(alloc, item_of(alloc, letter)?)?;
+    }
+    let inputs = List::from_vec(vec![in alloc; items]?);
+    let mut text = String::new(alloc);
+    match denote(alloc, settings, 1, &Caps::Any, &inputs) {
+        Ok(outputs) => {
+            for output in outputs.as_slice() {
+                for item in output.as_slice() {
+                    text.push(letter_of(item))?;
+                }
+            }
+        }
+        Err(ElementFault::NotNegotiated { offered, .. }) => {
+            text.push(if offered.is_some() { 'x' } else { 'n' })?;
+        }
+        Err(_) => text.push('?')?,
+    }
+    Ok(text)
+}
+
+/// What is given, and what is owed: for a filter of audio/x-raw, and for an identity. A fault is `x` where caps were
+/// offered, and `n` where none were.
+#[test]
+fn rows_of_whole_lists(rt: HostRuntime) -> Result<(), Fail> {
+    let alloc = rt.alloc();
+    let filter = Settings::CapsFilter(CapsFilterSettings {
+        caps: caps_text::parse(alloc, "audio/x-raw")?,
+    });
+    let rows = "SCBE SCBE SCBE
+SCBEBSFB SCBEFB SCBEFB
+SB n SB
+SCBM x SCBC
+SEB SE SE
+SFCB SFCB SFCB";
+    for row in rows.lines() {
+        let mut parts = row.split(' ');
+        let given = parts.next().unwrap_or("");
+        assert_eq!(rt;
+            owed(alloc, &filter, given)?.as_str(),
+            parts.next().unwrap_or("")
+        );
+        assert_eq!(rt;
+            owed(alloc, &Settings::Identity, given)?.as_str(),
+            parts.next().unwrap_or("")
+        );
+    }
     Ok(())
 }

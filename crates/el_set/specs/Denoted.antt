@@ -1,0 +1,64 @@
+-- What an element owes for whole lists, and the first fault of its rule.
+use Rattle.std.specs.Prelude.{◌≡◌, ◌==◌, ℕ, List, [], ◌∷◌, Option, None, Some, Result, Ok, Err, if◌then◌else◌}
+use Rattle.gst_item.specs.declared.fault.ElementFault.{ElementFault}
+use Rattle.flow_model.specs.Item.{Item, is_flush_stop}
+use Rattle.flow_model.specs.Call.{feeds}
+use Rattle.flow_model.specs.Rule.{Response, Fault, Fed, unfed, fed_item, all_called, owed_for, passes}
+use Rattle.flow_model.specs.Feeding.{IsFaultOf}
+use Rattle.el_basic.specs.Filters.{filters}
+use Rattle.el_set.specs.declared.settings.Settings.{Settings}
+use Rattle.el_set.specs.declared.settings.Settings.TheVariants.{FileSrc, Identity, CapsFilter, Queue, FileSink, FakeSink}
+use Rattle.el_set.specs.Values.{or_else}
+use Rattle.el_set.specs.Asked.{source_pads}
+
+-- the rule of an element with one sink pad
+abbrev pub response_of : Settings → Response
+response_of (CapsFilter s) = filters s.caps
+response_of (FileSrc s) = passes
+response_of Identity = passes
+response_of (Queue s) = passes
+response_of (FileSink s) = passes
+response_of FakeSink = passes
+
+abbrev pub fault_of : Result (List Item) Fault → Option Fault
+fault_of (Ok owed) = None
+fault_of (Err fault) = Some fault
+
+-- a FLUSH_STOP has no fault, nor an item whose section is over
+abbrev pub fault_at : Response → Fed → Item → Option Fault
+fault_at respond s x = if is_flush_stop x then None else (if s.over then None else fault_of (respond s x))
+
+abbrev pub first_fault_from : Response → Fed → List Item → Option Fault
+first_fault_from respond s [] = None
+first_fault_from respond s (x ∷ xs) = or_else (fault_at respond s x) (first_fault_from respond (fed_item respond s x) xs)
+
+abbrev pub first_fault : Response → List Item → Option Fault
+first_fault respond items = first_fault_from respond unfed items
+
+-- the fault of one more item
+abbrev pub next_fault : Response → List Item → Item → Option Fault
+next_fault respond items x = fault_at respond (all_called respond unfed (feeds items)) x
+
+-- an element's fault is the first of its rule; memory may be wanting
+abbrev pub answered : Option Fault → Result (List Item) Fault
+answered None = Ok []
+answered (Some fault) = Err fault
+
+-- the list of the only sink pad
+abbrev pub only_input : List (List Item) → List Item
+only_input [] = []
+only_input (items ∷ more) = items
+
+-- one list for each source pad
+abbrev pub on_pads : ℕ → List Item → List (List Item)
+on_pads pads items = if pads == 0 then [] else items ∷ []
+
+abbrev pub IsOwed : Response → List Item → Result (List Item) ElementFault → Type 0
+IsOwed respond items (Ok owed) = (first_fault respond items ≡ None) × (owed ≡ owed_for respond (feeds items))
+IsOwed respond items (Err fault) = IsFaultOf (answered (first_fault respond items)) fault
+
+abbrev pub IsDenoted : Settings → List (List Item) → Result (List (List Item)) ElementFault → Type 0
+IsDenoted settings inputs (Ok outputs) =
+    (first_fault (response_of settings) (only_input inputs) ≡ None)
+    × (outputs ≡ on_pads (source_pads settings) (owed_for (response_of settings) (feeds (only_input inputs))))
+IsDenoted settings inputs (Err fault) = IsFaultOf (answered (first_fault (response_of settings) (only_input inputs))) fault
