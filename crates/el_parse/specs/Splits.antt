@@ -79,6 +79,16 @@ pieces s pts reached frames first zero bytes = Ok []
 pieces s pts reached frames first (suc n) bytes =
     ahead (timed s pts reached first frames (take (frames * s.width) bytes)) (pieces s pts reached frames (first + frames) n (drop (frames * s.width) bytes))
 
+-- how many buffers of whole frames bytes have, these buffers, and the bytes behind them
+abbrev pub whole_count : ℕ → Stream → List ℕ → ℕ
+whole_count frames s bytes = length bytes / (frames * s.width)
+
+abbrev pub whole_pieces : Stream → Option ℕ → ℕ → ℕ → ℕ → List ℕ → Result (List Item) Fault
+whole_pieces s pts reached frames first bytes = pieces s pts reached frames first (whole_count frames s bytes) bytes
+
+abbrev pub left_behind : ℕ → Stream → List ℕ → List ℕ
+left_behind frames s bytes = drop (whole_count frames s bytes * (frames * s.width)) bytes
+
 -- the time of the first buffer since the SEGMENT, with one more buffer
 abbrev pub pts_with : Cutting → Buffer → Option ℕ
 pts_with p b = if p.begun then p.pts else b.pts
@@ -90,7 +100,7 @@ buffer_answer frames p b None = Err (NotNegotiated None raw_template)
 buffer_answer frames p b (Some s) =
     if length b.body % s.width == 0 then
     (if nat_lt (p.got + length b.body) LIMIT
-    then pieces s (pts_with p b) p.reached frames p.next (length (p.held ++ b.body) / (frames * s.width)) (p.held ++ b.body)
+    then whole_pieces s (pts_with p b) p.reached frames p.next (p.held ++ b.body)
     else Err (TooLong p.got (length b.body)))
     else Err (BadStream (p.got + length b.body) SplitFrame)
 

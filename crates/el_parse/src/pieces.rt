@@ -1,12 +1,12 @@
 //! Bytes that are cut into buffers of as many frames.
-ghost use Rattle.std.specs.Prelude.{◌≡◌, ◌<◌, ◌≤◌, ◌^◌, ◌+◌, ◌*◌, ◌/◌, ◌++◌, length, drop, ◌∷◌, [], Ok, IfOk, OnOk, OnErr, IfErr, IsOk};
+ghost use Rattle.std.specs.Prelude.{◌≡◌, ◌<◌, ◌≤◌, ◌^◌, ◌+◌, ◌*◌, ◌++◌, ◌∷◌, [], Ok, IfOk, OnOk, OnErr, IfErr, IsOk};
 ghost use Rattle.flow_model.specs.Item.{Buf};
 ghost use Rattle.flow_model.specs.Feeding.{on_pad, IsFaultOf};
 ghost use Rattle.audio_info.specs.Packing.{sample_width};
 ghost use Rattle.el_parse.specs.Part.{end_of};
 ghost use Rattle.el_parse.specs.Parses.{answered};
 ghost use Rattle.el_parse.specs.Streams.{stream_by};
-ghost use Rattle.el_parse.specs.Splits.{timed, pieces, reached_by};
+ghost use Rattle.el_parse.specs.Splits.{timed, whole_count, whole_pieces, left_behind, reached_by};
 
 use crate::timing::{Timing, end_of_buffer};
 use crate::waiting::Waiting;
@@ -38,12 +38,12 @@ pub(crate) fn cut_pieces(
     requires some { 1 ≤ frames }
     requires few { frames ≤ 1000000 }
     requires fits { first < 2 ^ 53 }
-    ensures answer { OnOk result (IsOk (pieces (stream_by timing.info) timing.pts timing.reached frames first (length bytes / (frames * (stream_by timing.info).width)) bytes)) }
-    ensures whole { IfOk result (λ made. made.whole.items ≡ on_pad 0 (answered (pieces (stream_by timing.info) timing.pts timing.reached frames first (length bytes / (frames * (stream_by timing.info).width)) bytes))) }
-    ensures reached { IfOk result (λ made. made.reached ≡ reached_by timing.reached (answered (pieces (stream_by timing.info) timing.pts timing.reached frames first (length bytes / (frames * (stream_by timing.info).width)) bytes))) }
-    ensures next { IfOk result (λ made. made.next ≡ first + length bytes / (frames * (stream_by timing.info).width) * frames) }
-    ensures rest { IfOk result (λ made. made.rest ≡ drop (length bytes / (frames * (stream_by timing.info).width) * (frames * (stream_by timing.info).width)) bytes) }
-    ensures fault { IfErr result (λ fault. IsFaultOf (pieces (stream_by timing.info) timing.pts timing.reached frames first (length bytes / (frames * (stream_by timing.info).width)) bytes) fault) }
+    ensures answer { OnOk result (IsOk (whole_pieces (stream_by timing.info) timing.pts timing.reached frames first bytes)) }
+    ensures whole { IfOk result (λ made. made.whole.items ≡ on_pad 0 (answered (whole_pieces (stream_by timing.info) timing.pts timing.reached frames first bytes))) }
+    ensures reached { IfOk result (λ made. made.reached ≡ reached_by timing.reached (answered (whole_pieces (stream_by timing.info) timing.pts timing.reached frames first bytes))) }
+    ensures next { IfOk result (λ made. made.next ≡ first + whole_count frames (stream_by timing.info) bytes * frames) }
+    ensures rest { IfOk result (λ made. made.rest ≡ left_behind frames (stream_by timing.info) bytes) }
+    ensures fault { IfErr result (λ fault. IsFaultOf (whole_pieces (stream_by timing.info) timing.pts timing.reached frames first bytes) fault) }
 {
     let size = frames * timing.info.width();
     let count = bytes.as_slice().len() as u32 / size;

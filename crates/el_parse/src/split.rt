@@ -8,7 +8,7 @@ ghost use Rattle.gst_time.specs.declared.time.TheConstants.{LIMIT};
 ghost use Rattle.el_parse.specs.Frames.{events_of, buffers_of};
 ghost use Rattle.el_parse.specs.Parses.{answered};
 ghost use Rattle.el_parse.specs.Streams.{frames_in, stream_by, stream_of};
-ghost use Rattle.el_parse.specs.Splits.{splits, split_answer, pieces, rest as rest_answer, rested, behind, reached_by};
+ghost use Rattle.el_parse.specs.Splits.{splits, split_answer, whole_count, whole_pieces, left_behind, rest as rest_answer, rested, behind, reached_by};
 
 use crate::pieces::cut_pieces;
 use crate::put_out::{put_both, put_out};
@@ -217,17 +217,17 @@ impl Split {
         out: &mut Outs,
     ) -> Result<(), ElementFault>
         requires { timing.reached ≡ self.old.reached }
-        ensures answer { OnOk result (IsOk (pieces (stream_by timing.info) timing.pts timing.reached self.old.frames self.old.next (length (self.old.waiting ++ bytes) / (self.old.frames * (stream_by timing.info).width)) (self.old.waiting ++ bytes))) }
-        ensures out { OnOk result (out.new ≡ out.old ++ on_pad 0 (answered (pieces (stream_by timing.info) timing.pts timing.reached self.old.frames self.old.next (length (self.old.waiting ++ bytes) / (self.old.frames * (stream_by timing.info).width)) (self.old.waiting ++ bytes)))) }
-        ensures reached { OnOk result (self.new.reached ≡ reached_by timing.reached (answered (pieces (stream_by timing.info) timing.pts timing.reached self.old.frames self.old.next (length (self.old.waiting ++ bytes) / (self.old.frames * (stream_by timing.info).width)) (self.old.waiting ++ bytes)))) }
-        ensures next { OnOk result (self.new.next ≡ self.old.next + length (self.old.waiting ++ bytes) / (self.old.frames * (stream_by timing.info).width) * self.old.frames) }
-        ensures waiting { OnOk result (self.new.waiting ≡ drop (length (self.old.waiting ++ bytes) / (self.old.frames * (stream_by timing.info).width) * (self.old.frames * (stream_by timing.info).width)) (self.old.waiting ++ bytes)) }
+        ensures answer { OnOk result (IsOk (whole_pieces (stream_by timing.info) timing.pts timing.reached self.old.frames self.old.next (self.old.waiting ++ bytes))) }
+        ensures out { OnOk result (out.new ≡ out.old ++ on_pad 0 (answered (whole_pieces (stream_by timing.info) timing.pts timing.reached self.old.frames self.old.next (self.old.waiting ++ bytes)))) }
+        ensures reached { OnOk result (self.new.reached ≡ reached_by timing.reached (answered (whole_pieces (stream_by timing.info) timing.pts timing.reached self.old.frames self.old.next (self.old.waiting ++ bytes)))) }
+        ensures next { OnOk result (self.new.next ≡ self.old.next + whole_count self.old.frames (stream_by timing.info) (self.old.waiting ++ bytes) * self.old.frames) }
+        ensures waiting { OnOk result (self.new.waiting ≡ left_behind self.old.frames (stream_by timing.info) (self.old.waiting ++ bytes)) }
         ensures info { self.new.info ≡ self.old.info }
         ensures got { self.new.got ≡ self.old.got }
         ensures frames { self.new.frames ≡ self.old.frames }
         ensures ended { self.new.ended ≡ self.old.ended }
         ensures stays { OnErr result ((self.new ≡ self.old) × (out.new ≡ out.old)) }
-        ensures fault { IfErr result (λ fault. IsFaultOf (pieces (stream_by timing.info) timing.pts timing.reached self.old.frames self.old.next (length (self.old.waiting ++ bytes) / (self.old.frames * (stream_by timing.info).width)) (self.old.waiting ++ bytes)) fault) }
+        ensures fault { IfErr result (λ fault. IsFaultOf (whole_pieces (stream_by timing.info) timing.pts timing.reached self.old.frames self.old.next (self.old.waiting ++ bytes)) fault) }
     {
         let size = self.frames * timing.info.width();
         if self.waiting.as_slice().len() + bytes.as_slice().len() < size as usize {
