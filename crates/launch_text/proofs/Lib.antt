@@ -9,6 +9,7 @@ mod Answering
 mod Calm
 mod Spelling
 mod Facts
+mod Runs
 mod Complete
 mod Sound
 mod Again

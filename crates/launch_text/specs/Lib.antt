@@ -4,3 +4,5 @@ pub mod Printed
 pub mod Words
 pub mod Grammar
 pub mod Reading
+pub mod Places
+pub mod Parsed

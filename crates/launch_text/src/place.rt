@@ -1,5 +1,6 @@
 //! Where and why a text is no line.
-ghost use Rattle.launch_text.specs.Reading.{Faults};
+ghost use Rattle.std.specs.Prelude.{◌≤◌, length};
+ghost use Rattle.launch_text.specs.Parsed.{Faults, place_of};
 ghost use Rattle.launch_text.specs.declared.fault.Refusal.TheVariants.{Stuck};
 
 use crate::fault::{LineFault, LineKind};
@@ -13,8 +14,8 @@ use crate::word::{behind_white, is_closed, split_word};
 pub(crate) struct Stop<'a> {
     /// The whole line.
     pub(crate) line: &'a str,
-    /// The length of the line before the word, in bytes.
-    pub(crate) place: usize,
+    /// What stands from the word on.
+    pub(crate) rest: &'a str,
     /// The word, which is empty at the line's end.
     pub(crate) word: &'a str,
     /// What may follow there.
@@ -53,9 +54,8 @@ impl Stop<'_> {
         self.spot == Spot::Link && (self.word.is_empty() || self.word == ")")
     }
 
-    fn is_unclosed(&self, front: usize) -> bool {
-        self.place.saturating_add(front) == self.line.len()
-            && (self.depth > 0 || !is_closed(self.word))
+    fn is_unclosed(&self, place: usize) -> bool {
+        place == self.line.len() && (self.depth > 0 || !is_closed(self.word))
     }
 
     fn is_bad_reference(&self) -> bool {
@@ -70,13 +70,13 @@ impl Stop<'_> {
         self.takes_parts() && self.depth >= DEEPEST && self.word.starts_with('(')
     }
 
-    /// The first kind that fits, where so many bytes of the word can begin one.
-    fn kind(&self, front: usize) -> LineKind {
+    /// The first kind that fits at this place.
+    fn kind(&self, place: usize) -> LineKind {
         if self.is_empty_link() {
             LineKind::EmptyLink
         } else if self.is_trailing_link() {
             LineKind::TrailingLink
-        } else if self.is_unclosed(front) {
+        } else if self.is_unclosed(place) {
             LineKind::Unclosed
         } else if self.is_bad_reference() {
             LineKind::BadRef
@@ -93,12 +93,16 @@ impl Stop<'_> {
 
     /// The fault of the line.
     pub(crate) fn fault(&self) -> LineFault
-        ensures { Faults Stuck result }
+        requires short { length self.now.line.now ≤ 65536 }
+        requires rest { length self.now.rest.now ≤ length self.now.line.now }
+        requires word { length self.now.word.now ≤ length self.now.rest.now }
+        ensures { Faults Stuck (place_of self.now.line.now self.now.rest.now self.now.spot self.now.depth self.now.word.now) result }
     {
-        let front = front_length(self.spot, self.word, self.depth);
+        let front = front_length(self.spot, self.depth, self.word);
+        let place = self.line.len() - self.rest.len() + front;
         LineFault::BadLine {
-            place: u32::try_from(self.place.saturating_add(front)).unwrap_or(u32::MAX),
-            kind: self.kind(front),
+            place: place as u32,
+            kind: self.kind(place),
         }
     }
 }

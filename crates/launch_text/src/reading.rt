@@ -2,7 +2,7 @@
 ghost use Rattle.std.specs.Prelude.{◌≡◌, ◌<◌, ◌≤◌, length, Err, IfOk, OnOk};
 ghost use Rattle.launch_text.specs.declared.fault.LineFault.TheVariants.{BadLine};
 ghost use Rattle.launch_text.specs.Grammar.{IsLine};
-ghost use Rattle.launch_text.specs.Reading.{Answers, Faults, Told};
+ghost use Rattle.launch_text.specs.Parsed.{Answers, Faults, Told, place_of};
 ghost use Rattle.launch_text.specs.declared.tree.Tree.{Tree as TreeOf};
 ghost use Rattle.launch_text.specs.declared.fault.LineKind.TheVariants.{TooLong};
 
@@ -20,7 +20,10 @@ const LONGEST: usize = 65_536;
 
 /// The fault of a line that is refused at its stop.
 fn fault_at(refusal: Refusal, stop: &Stop<'_>) -> LineFault
-    ensures { Faults refusal result }
+    requires short { length stop.now.line.now ≤ 65536 }
+    requires rest { length stop.now.rest.now ≤ length stop.now.line.now }
+    requires word { length stop.now.word.now ≤ length stop.now.rest.now }
+    ensures { Faults refusal (place_of stop.now.line.now stop.now.rest.now stop.now.spot stop.now.depth stop.now.word.now) result }
 {
     match refusal {
         Refusal::Stuck => stop.fault(),
@@ -30,6 +33,7 @@ fn fault_at(refusal: Refusal, stop: &Stop<'_>) -> LineFault
 
 /// Reads a line of a length that is allowed.
 fn read_line(alloc: Global, line: &str) -> Result<Tree, LineFault>
+    requires { length line.now ≤ 65536 }
     ensures { Told line.now result }
 {
     let mut parts = Parts::new(alloc);
@@ -39,7 +43,7 @@ fn read_line(alloc: Global, line: &str) -> Result<Tree, LineFault>
         let (word, behind) = split_word(rest);
         let stop = Stop {
             line,
-            place: line.len().saturating_sub(rest.len()),
+            rest,
             word,
             spot: spot_of(&last),
             depth: parts.outer.len(),
@@ -52,7 +56,7 @@ fn read_line(alloc: Global, line: &str) -> Result<Tree, LineFault>
     }
     let stop = Stop {
         line,
-        place: line.len(),
+        rest,
         word: rest,
         spot: spot_of(&last),
         depth: parts.outer.len(),
