@@ -14,3 +14,7 @@ mod Complete
 mod Sound
 mod Again
 mod Parsing
+mod Extending
+mod Longest
+mod Fronts
+mod Placing

@@ -1,9 +1,11 @@
 //! Reads a line.
-ghost use Rattle.std.specs.Prelude.{◌≡◌, ◌<◌, ◌≤◌, length, Err, IfOk, OnOk};
+ghost use Rattle.std.specs.Prelude.{◌≡◌, ℕ, ◌<◌, ◌≤◌, length, Err, IfOk, OnOk};
 ghost use Rattle.launch_text.specs.declared.fault.LineFault.TheVariants.{BadLine};
 ghost use Rattle.launch_text.specs.Grammar.{IsLine};
 ghost use Rattle.launch_text.specs.Parsed.{Answers, Faults, Told, place_of};
 ghost use Rattle.launch_text.specs.declared.tree.Tree.{Tree as TreeOf};
+ghost use Rattle.launch_text.specs.Places.{IsPlace};
+ghost use Rattle.launch_text.specs.declared.fault.LineKind.{LineKind as KindOf};
 ghost use Rattle.launch_text.specs.declared.fault.LineKind.TheVariants.{TooLong};
 
 use crate::fault::{LineFault, LineKind, Refusal};
@@ -72,6 +74,7 @@ fn read_line(alloc: Global, line: &str) -> Result<Tree, LineFault>
 pub fn parse(alloc: Global, text: &str) -> Result<Tree, LineFault>
     ensures sound { IfOk result (λ tree. IsLine text.now tree) }
     ensures complete { (tree : TreeOf) → length text.now ≤ 65536 → IsLine text.now tree → Answers result tree }
+    ensures place { (place : ℕ) (kind : KindOf) → length text.now ≤ 65536 → result ≡ Err (BadLine place kind) → IsPlace text.now place }
     ensures long { 65536 < length text.now → result ≡ Err (BadLine 65536 TooLong) }
     ensures short { OnOk result (length text.now ≤ 65536) }
 {
