@@ -149,7 +149,7 @@ takes_first s v ws tree e = go (step s v) refl e
     go None f k = absurd (none_some tree (sym (ap (λ o. o >>= finish) (run_none ws)) ∙ k))
     go (Some t) f k = (t, f)
 
-module _ (text : List ℕ) (place : ℕ) (st : Stopped text place) where
+module _ (text : List ℕ) (place : ℕ) (kind_is : LineKind) (st : Stopped text place kind_is) where
   abbrev words : List (List ℕ)
   words = st.passed.words
 
@@ -248,4 +248,7 @@ module _ (text : List ℕ) (place : ℕ) (st : Stopped text place) where
 
 -- what is told of a text has its place
 pub told_place : (text : List ℕ) (r : Result Tree LineFault) (place : ℕ) (why : LineKind) → Told text r → r ≡ Err (BadLine place why) → IsPlace text place
-told_place text r place why t e = stopped_place text place (subst (Told text) e t)
+told_place text r place why t e = stopped_place text place why (subst (Told text) e t)
+
+pub told_kind : (text : List ℕ) (r : Result Tree LineFault) (place : ℕ) (why : LineKind) → Told text r → r ≡ Err (BadLine place why) → Stopped text place why
+told_kind text r place why t e = subst (Told text) e t

@@ -5,4 +5,5 @@ pub mod Words
 pub mod Grammar
 pub mod Reading
 pub mod Places
+pub mod Kinds
 pub mod Parsed

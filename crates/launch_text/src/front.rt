@@ -43,7 +43,7 @@ pub(crate) fn spot_of(last: &Last) -> Spot
 }
 
 /// Whether a word begins with this ASCII byte.
-fn begins(mark: u8, word: &str) -> bool
+pub(crate) fn begins(mark: u8, word: &str) -> bool
     ensures { result ≡ begins mark word.now }
 {
     match word.as_bytes().first() {

@@ -1,8 +1,11 @@
 //! Reads a line.
-ghost use Rattle.std.specs.Prelude.{◌≡◌, ℕ, ◌<◌, ◌≤◌, length, Err, IfOk, OnOk};
+ghost use Rattle.std.specs.Prelude.{◌≡◌, ℕ, List, [], ◌<◌, ◌≤◌, length, Err, IfOk, OnOk};
 ghost use Rattle.launch_text.specs.declared.fault.LineFault.TheVariants.{BadLine};
 ghost use Rattle.launch_text.specs.Grammar.{IsLine};
-ghost use Rattle.launch_text.specs.Parsed.{Answers, Faults, Told, place_of};
+ghost use Rattle.std.specs.List.{list_all};
+ghost use Rattle.launch_text.specs.Kinds.{is_bracket, kind_of};
+ghost use Rattle.launch_text.specs.Reading.{Splits};
+ghost use Rattle.launch_text.specs.Parsed.{Answers, Faults, Stopped, Told, Why, place_of};
 ghost use Rattle.launch_text.specs.declared.tree.Tree.{Tree as TreeOf};
 ghost use Rattle.launch_text.specs.Places.{IsPlace};
 ghost use Rattle.launch_text.specs.declared.fault.LineKind.{LineKind as KindOf};
@@ -25,7 +28,8 @@ fn fault_at(refusal: Refusal, stop: &Stop<'_>) -> LineFault
     requires short { length stop.now.line.now ≤ 65536 }
     requires rest { length stop.now.rest.now ≤ length stop.now.line.now }
     requires word { length stop.now.word.now ≤ length stop.now.rest.now }
-    ensures { Faults refusal (place_of stop.now.line.now stop.now.rest.now stop.now.spot stop.now.depth stop.now.word.now) result }
+    ensures why { (words : List (List ℕ)) → Splits words stop.now.line.now [] → Why refusal (kind_of (length stop.now.line.now) (place_of stop.now.line.now stop.now.rest.now stop.now.spot stop.now.depth stop.now.word.now) stop.now.spot stop.now.depth stop.now.word.now (list_all is_bracket words)) result }
+    ensures place { Faults refusal (place_of stop.now.line.now stop.now.rest.now stop.now.spot stop.now.depth stop.now.word.now) result }
 {
     match refusal {
         Refusal::Stuck => stop.fault(),
@@ -75,6 +79,7 @@ pub fn parse(alloc: Global, text: &str) -> Result<Tree, LineFault>
     ensures sound { IfOk result (λ tree. IsLine text.now tree) }
     ensures complete { (tree : TreeOf) → length text.now ≤ 65536 → IsLine text.now tree → Answers result tree }
     ensures place { (place : ℕ) (kind : KindOf) → length text.now ≤ 65536 → result ≡ Err (BadLine place kind) → IsPlace text.now place }
+    ensures kind { (place : ℕ) (kind : KindOf) → length text.now ≤ 65536 → result ≡ Err (BadLine place kind) → Stopped text.now place kind }
     ensures long { 65536 < length text.now → result ≡ Err (BadLine 65536 TooLong) }
     ensures short { OnOk result (length text.now ≤ 65536) }
 {
