@@ -32,7 +32,7 @@ pub closed_behind : (w : List ℕ) → is_closed w ≡ true → behind plain w �
 closed_behind w h = plain_is (behind plain w) h
 
 -- a word behind another
-wide : (m : Mode) (x y : List ℕ) → word_length m x ≡ length x → word_length (behind m x) y ≡ length y → word_length m (x ++ y) ≡ length (x ++ y)
+pub wide : (m : Mode) (x y : List ℕ) → word_length m x ≡ length x → word_length (behind m x) y ≡ length y → word_length m (x ++ y) ≡ length (x ++ y)
 wide m [] y h k = k
 wide m (b ∷ bs) y h k = step (is_plain m && is_white b) h (λ g. wide (after m b) bs y g k)
   where
@@ -150,7 +150,7 @@ joined first text (m ∷ ms) o h =
     let ih = joined (first ++ joint m) (text ++ 32 ∷ taken Caps plain m.1) ms next (and_right (is_more m) (list_all is_more ms) h) in
     subst (λ w. OneWord w (text ++ flat_map (λ w. 32 ∷ taken Caps plain w.1) (m ∷ ms))) (append_assoc first (joint m) (flat_map joint ms)) (subst (OneWord ((first ++ joint m) ++ flat_map joint ms)) (append_assoc text (32 ∷ taken Caps plain m.1) (flat_map (λ w. 32 ∷ taken Caps plain w.1) ms)) ih)
 
-begins_more : (x y : List ℕ) → begins_caps x ≡ true → begins_caps (x ++ y) ≡ true
+pub begins_more : (x y : List ℕ) → begins_caps x ≡ true → begins_caps (x ++ y) ≡ true
 begins_more [] y h = absurd (cc)
 begins_more (b ∷ bs) y h = step (eqb b 47) (eqb b 61) h (λ k. begins_more bs y k)
   where
@@ -261,7 +261,7 @@ spells_printed [] h = refl
 spells_printed (t ∷ ts) h = (token_text t ∷ [], map token_text ts, refl, h.0.says, spells_printed ts h.1)
 
 -- the printed words with a space before each
-abbrev spaced_words : List (List ℕ) → List ℕ
+abbrev pub spaced_words : List (List ℕ) → List ℕ
 spaced_words ws = flat_map (λ w. 32 ∷ w) ws
 
 behind_some : (text : List ℕ) (b : ℕ) (ws : List (List ℕ)) → fold with_word (b ∷ text) ws ≡ (b ∷ text) ++ spaced_words ws
@@ -278,15 +278,15 @@ printed_text : (w : List ℕ) (ws : List (List ℕ)) → 0 < length w → fold w
 printed_text [] ws h = absurd (omega (arith, h))
 printed_text (b ∷ bs) ws h = behind_some bs b ws
 
-abbrev AllWhole : List (List ℕ) → Type 0
+abbrev pub AllWhole : List (List ℕ) → Type 0
 AllWhole [] = Unit {0}
 AllWhole (w ∷ ws) = IsWhole w × AllWhole ws
 
-spaced_ends : (ws : List (List ℕ)) → ends (spaced_words ws) ≡ true
+pub spaced_ends : (ws : List (List ℕ)) → ends (spaced_words ws) ≡ true
 spaced_ends [] = refl
 spaced_ends (w ∷ ws) = refl
 
-spaced_splits : (ws : List (List ℕ)) → AllWhole ws → Splits ws (spaced_words ws) []
+pub spaced_splits : (ws : List (List ℕ)) → AllWhole ws → Splits ws (spaced_words ws) []
 spaced_splits [] h = ([], refl, refl)
 spaced_splits (w ∷ ws) h = (32 ∷ [], spaced_words ws, refl, refl, h.0.some, stops_more plain w (spaced_words ws) h.0.all h.0.closed (spaced_ends ws), spaced_splits ws h.1)
 

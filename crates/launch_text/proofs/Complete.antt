@@ -73,7 +73,7 @@ unfolding behind_element
 behind_is h k props w e f = ap (element_from h k props w) e ∙ ap (λ t. cond t (Some (linked_to h (ElementNode k props))) (go_on (ended h (ElementNode k props)) w)) f
 
 -- a word that begins a part
-begin_at : (g h : Held) (last : Last) (w : List ℕ) → Ready g h last → property_of w ≡ None → bytes_eq w (codes "!") ≡ false → bytes_eq w (codes ")") ≡ false → step_from h last w ≡ begin_part g w
+pub begin_at : (g h : Held) (last : Last) (w : List ℕ) → Ready g h last → property_of w ≡ None → bytes_eq w (codes "!") ≡ false → bytes_eq w (codes ")") ≡ false → step_from h last w ≡ begin_part g w
 begin_at g h Start w r e f k = ap (λ x. begin_part x w) r
 begin_at g h Bin w r e f k = ap (λ x. go_on x w) r ∙ going_on g w k
 begin_at g h Chain w r e f k = ap (λ x. go_on x w) r ∙ going_on g w k
@@ -99,7 +99,7 @@ unfolding go_on
 closing g = refl
 
 -- a closing bracket
-close_at : (g h : Held) (last : Last) → Ended g h last → step_from h last (codes ")") ≡ (closed g >>= λ x. Some (x, Bin))
+pub close_at : (g h : Held) (last : Last) → Ended g h last → step_from h last (codes ")") ≡ (closed g >>= λ x. Some (x, Bin))
 close_at g h Start r = absurd r
 close_at g h Bin r = ap (λ x. go_on x (codes ")")) r ∙ closing g
 close_at g h Chain r = ap (λ x. go_on x (codes ")")) r ∙ closing g
@@ -115,7 +115,7 @@ last_of (CapsNode text) = Caps text
 last_of (ReferenceNode name pad) = Reference (ReferenceNode name pad)
 
 -- a link behind a node
-link_at : (h : Held) (n : Node) → step_from h (last_of n) (codes "!") ≡ Some (linked_to h n)
+pub link_at : (h : Held) (n : Node) → step_from h (last_of n) (codes "!") ≡ Some (linked_to h n)
 unfolding behind_element behind_caps behind_reference
 link_at h (ElementNode k props) = ap (element_from h k props (codes "!")) link_word
 link_at h (CapsNode text) = refl
@@ -126,7 +126,7 @@ unfolding said
 said_is marked w e = ap (λ t. cond t (Some (taken marked plain w)) None) e
 
 -- the properties of an element
-property_at : (h : Held) (k : List ℕ) (done : List Prop) (name spelling value w : List ℕ) → w ≡ name ++ 61 ∷ spelling → is_run Property name ≡ true → is_closed spelling ≡ true → value ≡ taken InValue plain spelling → step_from h (Element k done) w ≡ Some (h, Element k (done ++ record { name = name; value = value } ∷ []))
+pub property_at : (h : Held) (k : List ℕ) (done : List Prop) (name spelling value w : List ℕ) → w ≡ name ++ 61 ∷ spelling → is_run Property name ≡ true → is_closed spelling ≡ true → value ≡ taken InValue plain spelling → step_from h (Element k done) w ≡ Some (h, Element k (done ++ record { name = name; value = value } ∷ []))
 unfolding behind_element
 property_at h k done name spelling value w e f c v =
     ap (λ x. behind_element h k done x) e
@@ -159,7 +159,7 @@ element_run s h k props ws p f =
 single_run : (s t : State) (tok : Token) (ws : List (List ℕ)) (o : One ws tok) → step s o.0 ≡ Some t → run (Some s) ws ≡ Some t
 single_run s t tok ws o e = ap (run (Some s)) o.1 ∙ e
 
-caps_at : (h : Held) (text v : List ℕ) → is_closed v ≡ true → bytes_eq v (codes "!") ≡ false → step_from h (Caps text) v ≡ Some (h, Caps (text ++ caps_word v))
+pub caps_at : (h : Held) (text v : List ℕ) → is_closed v ≡ true → bytes_eq v (codes "!") ≡ false → step_from h (Caps text) v ≡ Some (h, Caps (text ++ caps_word v))
 unfolding behind_caps
 caps_at h text v e f = ap (λ t. cond t (Some (linked_to h (CapsNode text))) (said InCaps v >>= λ more. Some (h, Caps (text ++ 32 ∷ more)))) f ∙ ap (λ o. o >>= λ more. Some (h, Caps (text ++ 32 ∷ more))) (said_is InCaps v e)
 
@@ -171,11 +171,11 @@ more_caps h text (w ∷ ws) c n =
     ∙ ap (λ l. Some (h, Caps l)) (append_assoc text (caps_word w) (flat_map caps_word ws))
 
 -- nodes behind a link
-kind_linked : (h : Held) (k w : List ℕ) → w ≡ k → is_run Kind k ≡ true → behind_link h w ≡ Some (h, Element k [])
+pub kind_linked : (h : Held) (k w : List ℕ) → w ≡ k → is_run Kind k ≡ true → behind_link h w ≡ Some (h, Element k [])
 unfolding behind_link
 kind_linked h k w e r = ap (λ v. behind_link h v) e ∙ ap (λ t. cond t (said InCaps k >>= λ text. Some (h, Caps text)) (cond (is_run Kind k) (Some (h, Element k [])) (reference_of k >>= λ n. Some (ended h n, Chain)))) (kind_no_caps k r) ∙ ap (λ t. cond t (Some (h, Element k [])) (reference_of k >>= λ n. Some (ended h n, Chain))) r
 
-caps_linked : (h : Held) (w : List ℕ) → begins_caps w ≡ true → is_closed w ≡ true → behind_link h w ≡ Some (h, Caps (taken InCaps plain w))
+pub caps_linked : (h : Held) (w : List ℕ) → begins_caps w ≡ true → is_closed w ≡ true → behind_link h w ≡ Some (h, Caps (taken InCaps plain w))
 unfolding behind_link
 caps_linked h w b c = ap (λ t. cond t (said InCaps w >>= λ text. Some (h, Caps text)) (cond (is_run Kind w) (Some (h, Element w [])) (reference_of w >>= λ n. Some (ended h n, Chain)))) b ∙ ap (λ o. o >>= λ text. Some (h, Caps text)) (said_is InCaps w c)
 
@@ -241,11 +241,11 @@ others_run (m ∷ m2 ∷ ms) h n ws a s =
     same_end (h, last_of n) ws _ _ (ap (λ l. base h.outer (h.parts ++ ChainPart (record { nodes = l }) ∷ [])) (append_assoc h.nodes (n ∷ []) (m ∷ m2 ∷ ms)))
     (behind_state (h, last_of n) ((linked_to h n).0, last_of m) (codes "!" ∷ p.0) p.1 ws _ is first (others_run (m2 ∷ ms) (linked_to h n).0 m p.1 (and_right (is_middle m) (are_others (m2 ∷ ms)) a) p.4))
 
-kind_begins : (g : Held) (k : List ℕ) → is_run Kind k ≡ true → begin_part g k ≡ Some (g, Element k [])
+pub kind_begins : (g : Held) (k : List ℕ) → is_run Kind k ≡ true → begin_part g k ≡ Some (g, Element k [])
 unfolding begin_part
 kind_begins g k r = ap (λ t. cond t (opened g >>= λ x. Some (x, Start)) (cond (is_run Kind k) (Some (g, Element k [])) (reference_of k >>= λ n. Some (g, Reference n)))) (kind_differs k (codes "(") r refl) ∙ ap (λ t. cond t (Some (g, Element k [])) (reference_of k >>= λ n. Some (g, Reference n))) r
 
-reference_begins : (g : Held) (name : List ℕ) (pad : Option (List ℕ)) → is_run Name name ≡ true → is_pad pad ≡ true → begin_part g (reference_text name pad) ≡ Some (g, Reference (ReferenceNode name pad))
+pub reference_begins : (g : Held) (name : List ℕ) (pad : Option (List ℕ)) → is_run Name name ≡ true → is_pad pad ≡ true → begin_part g (reference_text name pad) ≡ Some (g, Reference (ReferenceNode name pad))
 unfolding begin_part
 reference_begins g name pad r q =
     ap (λ t. cond t (opened g >>= λ x. Some (x, Start)) (cond (is_run Kind (reference_text name pad)) (Some (g, Element (reference_text name pad) [])) (reference_of (reference_text name pad) >>= λ n. Some (g, Reference n)))) (reference_differs name pad (codes "(") r q refl)
@@ -319,7 +319,7 @@ fits_parts ps room =
 chain_runs : (c : Links) → PartRuns (ChainPart c)
 chain_runs c room outer ps h last ws r d f s = chain_run c.nodes outer ps h last ws r (sym (fits_chain c room) ∙ f) (subst (λ l. Spells l ws) (chain_part c) s)
 
-open_word : property_of (codes "(") ≡ None
+pub open_word : property_of (codes "(") ≡ None
 unfolding property_of
 open_word = refl
 
@@ -369,7 +369,7 @@ part_layer (Bin-F e) = bin_runs e.0 e.1
 pub tree_runs : (t : Tree) → TreeRuns t
 tree_runs t = ind-Tree PartRuns TreeRuns (λ x y is. subst (λ z. PartRuns (roll-Part z)) is (part_layer y)) (λ x y is. subst (λ z. TreeRuns (roll-Tree z)) is (parts_tree y.parts)) t
 
-finish_ended : (g h : Held) (last : Last) → Ended g h last → finish (h, last) ≡ whole g
+pub finish_ended : (g h : Held) (last : Last) → Ended g h last → finish (h, last) ≡ whole g
 finish_ended g h Start e = absurd e
 finish_ended g h Bin e = ap whole e
 finish_ended g h Chain e = ap whole e

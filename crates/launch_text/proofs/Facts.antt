@@ -107,14 +107,14 @@ property_sound w p h = step (cut 61 w) refl h
     step (Some q) e k = inner q (is_run Property q.0) refl e k
 
 -- a reference
-abbrev is_point : ℕ → Bool
+abbrev pub is_point : ℕ → Bool
 is_point b = in_class Name b || eqb b 46
 
 points : (x : List ℕ) → list_all (in_class Name) x ≡ true → list_all is_point x ≡ true
 points [] h = refl
 points (b ∷ bs) h = both_true (is_point b) (list_all is_point bs) (rw (and_left (in_class Name b) _ h) refl) (points bs (and_right (in_class Name b) _ h))
 
-reference_points : (name : List ℕ) (pad : Option (List ℕ)) → is_run Name name ≡ true → is_pad pad ≡ true → list_all is_point (reference_text name pad) ≡ true
+pub reference_points : (name : List ℕ) (pad : Option (List ℕ)) → is_run Name name ≡ true → is_pad pad ≡ true → list_all is_point (reference_text name pad) ≡ true
 reference_points name None h k = list_all-append is_point name (46 ∷ []) ∙ both_true (list_all is_point name) true (points name (run_all Name name h)) refl
 reference_points name (Some pad) h k = list_all-append is_point name (46 ∷ pad) ∙ both_true (list_all is_point name) (list_all is_point pad) (points name (run_all Name name h)) (points pad (run_all Name pad k))
 
@@ -135,7 +135,7 @@ reference_differs name pad x h k e = differs (list_all is_point) (reference_text
 pub reference_no_caps : (name : List ℕ) (pad : Option (List ℕ)) → is_run Name name ≡ true → is_pad pad ≡ true → begins_caps (reference_text name pad) ≡ false
 reference_no_caps name pad h k = lacks_caps (reference_text name pad) (point_lacks 47 (reference_text name pad) refl (reference_points name pad h k))
 
-not_all : (test : ℕ → Bool) (x : List ℕ) (b : ℕ) (y : List ℕ) → test b ≡ false → list_all test (x ++ b ∷ y) ≡ false
+pub not_all : (test : ℕ → Bool) (x : List ℕ) (b : ℕ) (y : List ℕ) → test b ≡ false → list_all test (x ++ b ∷ y) ≡ false
 not_all test [] b y e = ap (λ t. t && list_all test y) e
 not_all test (a ∷ r) b y e = ap (λ t. test a && t) (not_all test r b y e) ∙ never (test a)
   where
@@ -143,7 +143,7 @@ not_all test (a ∷ r) b y e = ap (λ t. test a && t) (not_all test r b y e) ∙
     never true = refl
     never false = refl
 
-not_run : (class : Class) (x : List ℕ) (b : ℕ) (y : List ℕ) → in_class class b ≡ false → is_run class (x ++ b ∷ y) ≡ false
+pub not_run : (class : Class) (x : List ℕ) (b : ℕ) (y : List ℕ) → in_class class b ≡ false → is_run class (x ++ b ∷ y) ≡ false
 not_run class x b y e = ap (λ t. not (eqb (length (x ++ b ∷ y)) 0) && t) (not_all (in_class class) x b y e) ∙ never (not (eqb (length (x ++ b ∷ y)) 0))
   where
     never : (t : Bool) → (t && false) ≡ false

@@ -9,7 +9,12 @@ mod Answering
 mod Calm
 mod Spelling
 mod Facts
+mod Runs
 mod Complete
 mod Sound
 mod Again
 mod Parsing
+mod Extending
+mod Longest
+mod Fronts
+mod Placing

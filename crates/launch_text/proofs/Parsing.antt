@@ -1,7 +1,7 @@
 -- Whole lines: what is answered is what the grammar says.
 use Rattle.std.proofs.Common.{◌≡◌, ℕ, List, Result, Ok, Err, IfOk}
 use Rattle.launch_text.specs.Grammar.{IsLine}
-use Rattle.launch_text.specs.Reading.{Answers, Told}
+use Rattle.launch_text.specs.Parsed.{Answers, Told}
 use Rattle.launch_text.specs.declared.fault.LineFault.{LineFault}
 use Rattle.launch_text.specs.declared.tree.Tree.{Tree}
 use Rattle.launch_text.proofs.Answering.{told_answers}

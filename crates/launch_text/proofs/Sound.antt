@@ -131,7 +131,7 @@ open_fine h w ws b less e = step b.fits.room b.fits.size b.fits.parts_fit
           respelt _ _ (ws ++ w ∷ []) (sym is) behind;
     }
 
-innermost_sound : (xs : List (List Part)) (p : List (List Part) × List Part) → innermost xs ≡ Some p → xs ≡ p.0 ++ p.1 ∷ []
+pub innermost_sound : (xs : List (List Part)) (p : List (List Part) × List Part) → innermost xs ≡ Some p → xs ≡ p.0 ++ p.1 ∷ []
 innermost_sound [] p h = absurd (none_some p h)
 innermost_sound (x ∷ xs) p h = step (innermost xs) refl h (innermost_sound xs)
   where

@@ -1,11 +1,12 @@
 -- A text has its words in one way.
-use Rattle.std.proofs.Common.{◌≡◌, ℕ, zero, suc, ◌<◌, ◌≤◌, Bool, true, false, cond, ◌&&◌, not, List, [], ◌∷◌, ◌++◌, length, drop, take, Option, Some, None, refl, sym, ap, ◌∙◌, subst, arith, append_assoc, append-nil, length-append}
-use Rattle.std.specs.List.{list_all}
+use Rattle.std.proofs.Common.{◌≡◌, ℕ, zero, suc, ◌<◌, ◌≤◌, Bool, true, false, cond, eqb, ◌&&◌, not, List, [], ◌∷◌, ◌++◌, length, drop, take, Option, Some, None, refl, sym, ap, ◌∙◌, subst, arith, append_assoc, append-nil, length-append}
+use Rattle.std.specs.List.{list_all, take_while}
+use Rattle.std.proofs.lemmas.Bool.{eqb-true}
 use Rattle.std.proofs.lemmas.List.Folds.{list_all-append}
 use Rattle.launch_text.specs.Bytes.{is_white}
 use Rattle.launch_text.specs.Reading.{Passed, Splits, State, first_word, behind_word, none, run, step, ◌>>=◌}
 use Rattle.launch_text.specs.Words.{after, is_start, plain, word_length}
-use Rattle.launch_text.proofs.Cutting.{length_front, some_word, two_parts, within}
+use Rattle.launch_text.proofs.Cutting.{behind_start, front_white, length_front, some_word, two_parts, within}
 
 no_true : false ≡ true → ⊥
 no_true e = cc
@@ -38,13 +39,9 @@ pub run_none : (xs : List (List ℕ)) → run None xs ≡ None
 run_none [] = refl
 run_none (x ∷ xs) = run_none xs
 
--- one word more is read
-pub passed_word : (text rest word mid front next : List ℕ) (s t : State) → Passed text rest s → is_start rest ≡ true → 0 < length rest → word ≡ first_word rest → mid ≡ behind_word rest → mid ≡ front ++ next → list_all is_white front ≡ true → step s word ≡ Some t → Passed text next t
-passed_word text rest word mid front next s t p start some e f g white h = record {
-  words = p.words ++ word ∷ [];
-  splits = more_words p.words (word ∷ []) text rest next p.splits one;
-  reads = run_append (Some none) p.words (word ∷ []) ∙ ap (λ o. o >>= (λ s. step s word)) p.reads ∙ h;
-}
+-- one word at the front
+pub word_split : (rest word mid front next : List ℕ) → is_start rest ≡ true → 0 < length rest → word ≡ first_word rest → mid ≡ behind_word rest → mid ≡ front ++ next → list_all is_white front ≡ true → Splits (word ∷ []) rest next
+word_split rest word mid front next start some e f g white = ([], mid, is, refl, omega (arith, long, some_word rest start some), ap (word_length plain) (sym is) ∙ sym long, (front, g, white))
   where
     is : rest ≡ word ++ mid
     is = two_parts rest (word_length plain rest) ∙ ap (λ l. l ++ behind_word rest) (sym e) ∙ ap (λ l. word ++ l) (sym f)
@@ -52,8 +49,13 @@ passed_word text rest word mid front next s t p start some e f g white h = recor
     long : length word ≡ word_length plain rest
     long = ap length e ∙ length_front rest (word_length plain rest) (within plain rest)
 
-    one : Splits (word ∷ []) rest next
-    one = ([], mid, is, refl, omega (arith, long, some_word rest start some), ap (word_length plain) (sym is) ∙ sym long, (front, g, white))
+-- one word more is read
+pub passed_word : (text rest word mid front next : List ℕ) (s t : State) → Passed text rest s → is_start rest ≡ true → 0 < length rest → word ≡ first_word rest → mid ≡ behind_word rest → mid ≡ front ++ next → list_all is_white front ≡ true → step s word ≡ Some t → Passed text next t
+passed_word text rest word mid front next s t p start some e f g white h = record {
+  words = p.words ++ word ∷ [];
+  splits = more_words p.words (word ∷ []) text rest next p.splits (word_split rest word mid front next start some e f g white);
+  reads = run_append (Some none) p.words (word ∷ []) ∙ ap (λ o. o >>= (λ s. step s word)) p.reads ∙ h;
+}
 
 start_white : (b : ℕ) (bs ys : List ℕ) → list_all is_white (b ∷ bs) ≡ true → is_start ((b ∷ bs) ++ ys) ≡ true → ⊥
 start_white b bs ys h k = no_true (rw (and_left (is_white b) (list_all is_white bs) h) at k)
@@ -139,3 +141,37 @@ some_words b bs s h = empty h.0 h.1 h.2
     empty : (white : List ℕ) → b ∷ bs ≡ white ++ [] → list_all is_white white ≡ true → ⊥
     empty [] e w = cc
     empty (a ∷ rs) e w = start_white a rs [] w (subst (λ l. is_start l ≡ true) e s)
+
+-- whether all words pass a test is left to those behind the first, where it passes
+abbrev pub LeftTo : (List ℕ → Bool) → List ℕ → List ℕ → Type 0
+LeftTo test text rest = (words : List (List ℕ)) → Splits words text [] → (others : List (List ℕ)) × (list_all test words ≡ list_all test others) × Splits others rest []
+
+pub left_start : (test : List ℕ → Bool) (text front rest : List ℕ) → text ≡ front ++ rest → list_all is_white front ≡ true → is_start rest ≡ true → LeftTo test text rest
+left_start test text front rest e w s words h = let u = unique [] words text rest (front, e, w) s h in (u.0, ap (list_all test) u.1, u.2)
+
+left_one : (test : List ℕ → Bool) (rest word next : List ℕ) (others : List (List ℕ)) → Splits (word ∷ []) rest next → is_start next ≡ true → Splits others rest [] → (more : List (List ℕ)) × (list_all test others ≡ (test word && list_all test more)) × Splits more next []
+left_one test rest word next others one s h = let u = unique (word ∷ []) others rest next one s h in (u.0, ap (list_all test) u.1, u.2)
+
+pub left_more : (test : List ℕ → Bool) (text rest word next : List ℕ) → LeftTo test text rest → Splits (word ∷ []) rest next → is_start next ≡ true → test word ≡ true → LeftTo test text next
+left_more test text rest word next l one s t words h =
+    let o = l words h in
+    let m = left_one test rest word next o.0 one s o.2 in
+    (m.0, o.1 ∙ m.1 ∙ ap (λ b. b && list_all test m.0) t, m.2)
+
+pub left_none : (test : List ℕ → Bool) (text rest word next : List ℕ) → LeftTo test text rest → Splits (word ∷ []) rest next → is_start next ≡ true → test word ≡ false → (words : List (List ℕ)) → Splits words text [] → false ≡ list_all test words
+left_none test text rest word next l one s t words h =
+    let o = l words h in
+    let m = left_one test rest word next o.0 one s o.2 in
+    sym (o.1 ∙ m.1 ∙ ap (λ b. b && list_all test m.0) t)
+
+pub left_end : (test : List ℕ → Bool) (text : List ℕ) → LeftTo test text [] → (words : List (List ℕ)) → Splits words text [] → true ≡ list_all test words
+left_end test text l words h = let o = l words h in sym (o.1 ∙ ap (list_all test) (no_words o.0 o.2))
+
+pub left_done : (test : List ℕ → Bool) (text rest : List ℕ) → LeftTo test text rest → eqb (length rest) 0 ≡ true → (words : List (List ℕ)) → Splits words text [] → true ≡ list_all test words
+left_done test text [] l e = left_end test text l
+left_done test text (b ∷ bs) l e = absurd (let none : suc (length bs) ≡ 0 = eqb-true (suc (length bs)) 0 e in omega (arith, none))
+
+pub left_stop : (test : List ℕ → Bool) (text rest word mid : List ℕ) → LeftTo test text rest → is_start rest ≡ true → 0 < length rest → word ≡ first_word rest → mid ≡ behind_word rest → test word ≡ false → (words : List (List ℕ)) → Splits words text [] → false ≡ list_all test words
+left_stop test text rest word mid l start some e f t =
+    let w = front_white mid in
+    left_none test text rest word (drop (length (take_while is_white mid)) mid) l (word_split rest word mid w.0 (drop (length (take_while is_white mid)) mid) start some e f w.1 w.2) (behind_start mid) t

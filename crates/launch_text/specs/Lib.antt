@@ -4,3 +4,6 @@ pub mod Printed
 pub mod Words
 pub mod Grammar
 pub mod Reading
+pub mod Places
+pub mod Kinds
+pub mod Parsed

@@ -6,8 +6,6 @@ use Rattle.gst_caps.specs.declared.name.Prop.{Prop}
 use Rattle.launch_text.specs.Bytes.{is_run, is_white}
 use Rattle.launch_text.specs.Words.{begins_caps, is_closed, is_start, plain, taken, word_length}
 use Rattle.launch_text.specs.declared.class.Class.TheVariants.{Kind, Name, Property}
-use Rattle.launch_text.specs.declared.fault.LineFault.{LineFault}
-use Rattle.launch_text.specs.declared.fault.LineFault.TheVariants.{BadLine, OutOfMemory as NoMemory}
 use Rattle.launch_text.specs.declared.fault.Refusal.{Refusal}
 use Rattle.launch_text.specs.declared.fault.Refusal.TheVariants.{Stuck, OutOfMemory}
 use Rattle.launch_text.specs.declared.line.Last.{Last}
@@ -207,29 +205,3 @@ pub record Passed (text rest : List ℕ) (state : State) : Type 0 where
 abbrev pub IsStuck : State → List ℕ → Type 0
 IsStuck s [] = finish s ≡ None
 IsStuck s (b ∷ bs) = step s (first_word (b ∷ bs)) ≡ None
-
--- a text that is read up to a rest, which begins with no white space and can't go on
-pub record Stopped (text : List ℕ) : Type 0 where
-  pub rest : List ℕ
-  pub state : State
-  pub passed : Passed text rest state
-  pub start : is_start rest ≡ true
-  pub stuck : IsStuck state rest
-
--- what is told of a text
-abbrev pub Told : List ℕ → Result Tree LineFault → Type 0
-Told text (Ok tree) = (words : List (List ℕ)) × Splits words text [] × (tree_of words ≡ Some tree)
-Told text (Err (BadLine place kind)) = Stopped text
-Told text (Err NoMemory) = Unit {0}
-
--- the fault of a refusal
-abbrev pub Faults : Refusal → LineFault → Type 0
-Faults Stuck (BadLine place kind) = Unit {0}
-Faults Stuck NoMemory = ⊥
-Faults OutOfMemory fault = fault ≡ NoMemory
-
--- the text has this tree, unless memory is wanting
-abbrev pub Answers : Result Tree LineFault → Tree → Type 0
-Answers (Ok tree) wanted = tree ≡ wanted
-Answers (Err (BadLine place kind)) wanted = ⊥
-Answers (Err NoMemory) wanted = Unit {0}

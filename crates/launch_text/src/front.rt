@@ -1,8 +1,12 @@
 //! How much of a word that can't stand at a spot can begin one there.
+ghost use Rattle.std.specs.Prelude.{◌≡◌, ◌+◌, ◌≤◌, length};
+ghost use Rattle.std.specs.Option.{option_map};
+ghost use Rattle.launch_text.specs.Places.{after_point, begins, behind_run, caps_front, element_front, front_of, link_front, name_front, next_front, part_front, point_front, run_of, spot_of};
+
 use crate::class::{Class, run_length};
 use crate::line::Last;
 use crate::parts::DEEPEST;
-use crate::value::split_property;
+use crate::value::{begins_caps, cut, split_property};
 
 /// What may follow in a line.
 #[derive(Clone, Copy, PartialEq, Eq)]
@@ -24,7 +28,9 @@ pub(crate) enum Spot {
 }
 
 /// What may follow.
-pub(crate) fn spot_of(last: &Last) -> Spot {
+pub(crate) fn spot_of(last: &Last) -> Spot
+    ensures { result ≡ spot_of last.now }
+{
     match last {
         Last::Start => Spot::Start,
         Last::Bin => Spot::Bin,
@@ -36,67 +42,130 @@ pub(crate) fn spot_of(last: &Last) -> Spot {
     }
 }
 
-/// How many bytes of the word can begin a kind or a reference.
-fn name_front(word: &str) -> usize {
-    let name = run_length(Class::Name, word);
-    if name == 0 {
-        return 0;
-    }
-    match word.split_once('.') {
-        Some((before, pad)) if before.len() == name => {
-            name.saturating_add(1)
-                .saturating_add(run_length(Class::Name, pad))
-        }
-        _ => name,
+/// Whether a word begins with this ASCII byte.
+pub(crate) fn begins(mark: u8, word: &str) -> bool
+    ensures { result ≡ begins mark word.now }
+{
+    match word.as_bytes().first() {
+        Some(byte) => *byte == mark,
+        None => false,
     }
 }
 
-/// How many bytes of the word can begin caps.
-fn caps_front(word: &str) -> usize {
-    match word.split_once('=') {
-        Some((before, _)) if !before.contains('/') => before.len(),
-        _ => word.len(),
+/// The bytes of a class that stand first, and what stands behind them.
+fn split_run(class: Class, text: &str) -> (&str, &str)
+    ensures run { result.0.now ≡ run_of class text.now }
+    ensures behind { result.1.now ≡ behind_run class text.now }
+    ensures lengths { length result.0.now + length result.1.now ≡ length text.now }
+{
+    text.split_at(run_length(class, text))
+}
+
+/// What stands behind a point.
+fn after_point(text: &str) -> Option<&str>
+    ensures { option_map (λ r. r.now) result ≡ after_point text.now }
+{
+    text.strip_prefix('.')
+}
+
+/// How many bytes behind a name can go on a reference.
+fn point_front(behind: &str) -> usize
+    requires { length behind.now ≤ 65536 }
+    ensures says { result ≡ length (point_front behind.now) }
+    ensures within { result ≤ length behind.now }
+{
+    match after_point(behind) {
+        Some(pad) => 1 + split_run(Class::Name, pad).0.len(),
+        None => 0,
+    }
+}
+
+/// How many bytes of the word can begin a kind or a reference.
+#[tactic(auto, unfolding(crate::specs::Places::name_front))]
+fn name_front(word: &str) -> usize
+    requires { length word.now ≤ 65536 }
+    ensures { result ≡ length (name_front word.now) }
+{
+    let (name, behind) = split_run(Class::Name, word);
+    if name.is_empty() {
+        return 0;
+    }
+    name.len() + point_front(behind)
+}
+
+/// How many bytes of the word can begin caps or another node.
+#[tactic(auto, unfolding(crate::specs::Places::caps_front))]
+fn caps_front(word: &str) -> usize
+    ensures { result ≡ length (caps_front word.now) }
+{
+    if begins_caps(word) {
+        return word.len();
+    }
+    match cut(word, '=') {
+        Some((before, _)) => before.len(),
+        None => word.len(),
     }
 }
 
 /// How many bytes of the word can begin a part within so many brackets.
-fn part_front(word: &str, depth: usize) -> usize {
-    if word.starts_with('(') {
-        usize::from(depth < DEEPEST)
-    } else {
-        name_front(word)
+#[tactic(auto, unfolding(crate::specs::Places::part_front))]
+fn part_front(depth: usize, word: &str) -> usize
+    requires { length word.now ≤ 65536 }
+    ensures { result ≡ length (part_front depth word.now) }
+{
+    if !begins(b'(', word) {
+        return name_front(word);
     }
+    if depth < DEEPEST { 1 } else { 0 }
 }
 
 /// The same behind a whole part.
-fn next_front(word: &str, depth: usize) -> usize {
-    if word.starts_with(')') {
-        usize::from(depth > 0)
-    } else {
-        part_front(word, depth)
+#[tactic(auto, unfolding(crate::specs::Places::next_front))]
+fn next_front(depth: usize, word: &str) -> usize
+    requires { length word.now ≤ 65536 }
+    ensures { result ≡ length (next_front depth word.now) }
+{
+    if !begins(b')', word) {
+        return part_front(depth, word);
     }
+    if depth == 0 { 0 } else { 1 }
+}
+
+/// How many bytes of the word can begin a link.
+fn link_front(word: &str) -> usize
+    ensures { result ≡ length (link_front word.now) }
+{
+    if begins(b'!', word) { 1 } else { 0 }
 }
 
 /// How many bytes of the word can begin one behind an element.
-fn element_front(word: &str, depth: usize) -> usize {
+#[tactic(auto, unfolding(crate::specs::Places::element_front))]
+fn element_front(depth: usize, word: &str) -> usize
+    requires { length word.now ≤ 65536 }
+    ensures { result ≡ length (element_front depth word.now) }
+{
     if split_property(word).is_some() {
-        word.len()
-    } else if word.starts_with('!') {
-        1
-    } else {
-        next_front(word, depth)
+        return word.len();
     }
+    if begins(b'!', word) {
+        return 1;
+    }
+    next_front(depth, word)
 }
 
 /// How many bytes of the word can begin one at this spot, within so many brackets.
-pub(crate) fn front_length(spot: Spot, word: &str, depth: usize) -> usize {
+pub(crate) fn front_length(spot: Spot, depth: usize, word: &str) -> usize
+    requires { length word.now ≤ 65536 }
+    ensures says { result ≡ length (front_of spot depth word.now) }
+    ensures within { result ≤ length word.now }
+{
     match spot {
-        Spot::Start => part_front(word, depth),
-        Spot::Bin => next_front(word, depth),
-        Spot::Chain => next_front(word, depth),
-        Spot::Element => element_front(word, depth),
+        Spot::Start => part_front(depth, word),
+        Spot::Bin => next_front(depth, word),
+        Spot::Chain => next_front(depth, word),
+        Spot::Element => element_front(depth, word),
         Spot::Link => caps_front(word),
         Spot::Caps => word.len(),
-        Spot::Reference => usize::from(word.starts_with('!')),
+        Spot::Reference => link_front(word),
     }
 }

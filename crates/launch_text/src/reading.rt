@@ -1,9 +1,14 @@
 //! Reads a line.
-ghost use Rattle.std.specs.Prelude.{◌≡◌, ◌<◌, ◌≤◌, length, Err, IfOk, OnOk};
+ghost use Rattle.std.specs.Prelude.{◌≡◌, ℕ, List, [], ◌<◌, ◌≤◌, length, Err, IfOk, OnOk};
 ghost use Rattle.launch_text.specs.declared.fault.LineFault.TheVariants.{BadLine};
 ghost use Rattle.launch_text.specs.Grammar.{IsLine};
-ghost use Rattle.launch_text.specs.Reading.{Answers, Faults, Told};
+ghost use Rattle.std.specs.List.{list_all};
+ghost use Rattle.launch_text.specs.Kinds.{is_bracket, kind_of};
+ghost use Rattle.launch_text.specs.Reading.{Splits};
+ghost use Rattle.launch_text.specs.Parsed.{Answers, Faults, Stopped, Told, Why, place_of};
 ghost use Rattle.launch_text.specs.declared.tree.Tree.{Tree as TreeOf};
+ghost use Rattle.launch_text.specs.Places.{IsPlace};
+ghost use Rattle.launch_text.specs.declared.fault.LineKind.{LineKind as KindOf};
 ghost use Rattle.launch_text.specs.declared.fault.LineKind.TheVariants.{TooLong};
 
 use crate::fault::{LineFault, LineKind, Refusal};
@@ -20,7 +25,11 @@ const LONGEST: usize = 65_536;
 
 /// The fault of a line that is refused at its stop.
 fn fault_at(refusal: Refusal, stop: &Stop<'_>) -> LineFault
-    ensures { Faults refusal result }
+    requires short { length stop.now.line.now ≤ 65536 }
+    requires rest { length stop.now.rest.now ≤ length stop.now.line.now }
+    requires word { length stop.now.word.now ≤ length stop.now.rest.now }
+    ensures why { (words : List (List ℕ)) → Splits words stop.now.line.now [] → Why refusal (kind_of (length stop.now.line.now) (place_of stop.now.line.now stop.now.rest.now stop.now.spot stop.now.depth stop.now.word.now) stop.now.spot stop.now.depth stop.now.word.now (list_all is_bracket words)) result }
+    ensures place { Faults refusal (place_of stop.now.line.now stop.now.rest.now stop.now.spot stop.now.depth stop.now.word.now) result }
 {
     match refusal {
         Refusal::Stuck => stop.fault(),
@@ -30,6 +39,7 @@ fn fault_at(refusal: Refusal, stop: &Stop<'_>) -> LineFault
 
 /// Reads a line of a length that is allowed.
 fn read_line(alloc: Global, line: &str) -> Result<Tree, LineFault>
+    requires { length line.now ≤ 65536 }
     ensures { Told line.now result }
 {
     let mut parts = Parts::new(alloc);
@@ -39,7 +49,7 @@ fn read_line(alloc: Global, line: &str) -> Result<Tree, LineFault>
         let (word, behind) = split_word(rest);
         let stop = Stop {
             line,
-            place: line.len().saturating_sub(rest.len()),
+            rest,
             word,
             spot: spot_of(&last),
             depth: parts.outer.len(),
@@ -52,7 +62,7 @@ fn read_line(alloc: Global, line: &str) -> Result<Tree, LineFault>
     }
     let stop = Stop {
         line,
-        place: line.len(),
+        rest,
         word: rest,
         spot: spot_of(&last),
         depth: parts.outer.len(),
@@ -68,6 +78,8 @@ fn read_line(alloc: Global, line: &str) -> Result<Tree, LineFault>
 pub fn parse(alloc: Global, text: &str) -> Result<Tree, LineFault>
     ensures sound { IfOk result (λ tree. IsLine text.now tree) }
     ensures complete { (tree : TreeOf) → length text.now ≤ 65536 → IsLine text.now tree → Answers result tree }
+    ensures place { (place : ℕ) (kind : KindOf) → length text.now ≤ 65536 → result ≡ Err (BadLine place kind) → IsPlace text.now place }
+    ensures kind { (place : ℕ) (kind : KindOf) → length text.now ≤ 65536 → result ≡ Err (BadLine place kind) → Stopped text.now place kind }
     ensures long { 65536 < length text.now → result ≡ Err (BadLine 65536 TooLong) }
     ensures short { OnOk result (length text.now ≤ 65536) }
 {

@@ -100,7 +100,7 @@ pub(crate) fn begins_caps(word: &str) -> bool
 }
 
 /// What stands before and behind the first such ASCII character.
-fn cut(word: &str, mark: char) -> Option<(&str, &str)>
+pub(crate) fn cut(word: &str, mark: char) -> Option<(&str, &str)>
     requires { mark < 128 }
     ensures { option_map (λ p. (p.0.now, p.1.now)) result ≡ cut mark word.now }
 {

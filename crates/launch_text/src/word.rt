@@ -114,6 +114,7 @@ pub(crate) fn split_word(text: &str) -> (&str, &str)
     ensures word { result.0.now ≡ first_word text.now }
     ensures behind { result.1.now ≡ behind_word text.now }
     ensures shorter { length result.1.now < length text.now }
+    ensures within { length result.0.now ≤ length text.now }
 {
     text.split_at(word_length(text))
 }
