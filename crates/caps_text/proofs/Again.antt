@@ -1,32 +1,32 @@
 -- What is printed stands for what was printed: numbers, strings and single values.
-use Rattle.std.proofs.Common.{◌≡◌, ◌≢◌, ℕ, suc, zero, ◌<◌, ◌≤◌, ◌+◌, ◌-◌, ◌*◌, ◌/◌, ◌^◌, ◌-ℤ◌, ◌<ℤ◌, ℤ, pos, negsuc, Bool, true, false, cond, eqb, ◌&&◌, ◌||◌, not, List, [], ◌∷◌, ◌++◌, length, Option, Some, None, IfSome, SomeIff, FitsSigned, unsigned_abs, inl, inr, ◌⊎◌, refl, sym, ap, ◌∙◌, subst, arith, append_assoc, append-nil, codes, leb-true, le-leb, le-ltb}
+use Rattle.std.proofs.Common.{◌≡◌, ◌≢◌, ℕ, suc, zero, ◌<◌, ◌/◌, ◌^◌, ◌<ℤ◌, ℤ, pos, negsuc, Bool, true, false, cond, eqb, ◌&&◌, ◌||◌, not, List, [], ◌∷◌, ◌++◌, length, Option, Some, None, SomeIff, FitsSigned, unsigned_abs, inl, inr, ◌⊎◌, refl, sym, ap, ◌∙◌, subst, arith, append_assoc, codes, leb-true, le-ltb}
 use Rattle.std.specs.Prelude.{int_le}
 use Rattle.std.specs.Bool.{beq}
 use Rattle.std.specs.Fmt.{decimal, signed_decimal}
-use Rattle.std.specs.Int.{IsGcd, IsInRange, is_negative, w32}
-use Rattle.std.specs.List.{flat_map, list_all}
+use Rattle.std.specs.Int.{IsInRange, is_negative, w32}
+use Rattle.std.specs.List.{list_all}
 use Rattle.std.specs.Ordering.{int_eq}
 use Rattle.std.proofs.Math.Nat.{div-one}
-use Rattle.std.proofs.lemmas.Bool.{ne_eqb, eqb-false}
+use Rattle.std.proofs.lemmas.Bool.{eqb-false}
 use Rattle.std.proofs.lemmas.Bool.Decides.{eqb_tells}
 use Rattle.std.proofs.lemmas.Fmt.{decimal_nonempty, digits_decimal, digits_value-decimal}
 use Rattle.std.proofs.lemmas.Int.{ints}
 use Rattle.std.proofs.lemmas.Str.Parse.{IsDigitsTest, FoldsDigits, IsNumeralModel, numerals_by_fold}
 use Rattle.gst_caps.specs.Fractions.{IsReduced, signed}
-use Rattle.gst_caps.specs.Values.{IsLowest, IsSingle}
+use Rattle.gst_caps.specs.Values.{IsLowest}
 use Rattle.gst_caps.specs.declared.value.One.{One}
 use Rattle.gst_caps.specs.declared.value.One.TheVariants.{Int, Bool as Truth, Text, Fraction, IntRange}
 use Rattle.caps_text.specs.Bytes.{in_class, is_digit, is_word}
-use Rattle.caps_text.specs.Grammar.{Then, As, Is, Spaces, Mark, Run, Digits, Number, Wanted_number, Quotient, Quoted, In_quotes, Some_string, Truth_value, Bare_word, Untyped, Single_value, Range, Member, size_after}
+use Rattle.caps_text.specs.Grammar.{Digits, Number, Quotient, Quoted, Some_string, Truth_value, Single_value, Range, Member, size_after}
 use Rattle.caps_text.specs.Kinds.{kind_of}
-use Rattle.caps_text.specs.Printed.{escaped, escaped_byte, one_text, string_text, truth_text}
+use Rattle.caps_text.specs.Printed.{escaped, one_text, string_text, truth_text}
 use Rattle.caps_text.specs.Ratio.{divisor, fits, parts, ratio}
-use Rattle.caps_text.specs.Reading.{judge_words, range, takes_ranges}
+use Rattle.caps_text.specs.Reading.{range}
 use Rattle.caps_text.specs.declared.class.Class.TheVariants.{Word}
 use Rattle.caps_text.specs.declared.kind.Kind.{Kind}
 use Rattle.caps_text.specs.declared.kind.Kind.TheVariants.{Int as Whole, Bool as Either, Text as Words, Fraction as Quotients}
 use Rattle.caps_text.proofs.Ratios.{fits_from, fits_to, ratio_found}
-use Rattle.caps_text.proofs.Valid.{parts_when, ratio_kind_is, ratio_single, some_then}
+use Rattle.caps_text.proofs.Valid.{parts_when, ratio_kind_is, ratio_single}
 
 -- decimal digits
 digit_range : (b : ℕ) → is_digit b ≡ true → IsInRange 48 57 b

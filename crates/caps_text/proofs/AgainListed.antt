@@ -1,15 +1,14 @@
 -- What is printed stands for what was printed: values.
-use Rattle.std.proofs.Common.{◌≡◌, ◌≢◌, ℕ, suc, zero, ◌<◌, ◌≤◌, ◌+◌, Bool, true, false, cond, List, [], ◌∷◌, ◌++◌, length, Option, Some, None, inl, inr, ◌⊎◌, refl, sym, ap, ◌∙◌, subst, arith, append_assoc, append-nil, length-append, codes}
+use Rattle.std.proofs.Common.{◌≡◌, ℕ, ◌≤◌, Bool, true, false, cond, List, [], ◌∷◌, ◌++◌, length, Option, Some, None, inl, inr, refl, sym, ap, ◌∙◌, subst, append_assoc, append-nil, codes}
 use Rattle.std.specs.List.{list_any}
 use Rattle.gst_caps.specs.Common.{as_value, same}
-use Rattle.gst_caps.specs.Names.{Each}
 use Rattle.gst_caps.specs.declared.value.One.{One}
 use Rattle.gst_caps.specs.declared.value.Value.{Value}
 use Rattle.gst_caps.specs.declared.value.Value.TheVariants.{One as Single, Many}
-use Rattle.caps_text.specs.Grammar.{Then, As, Is, Spaces, Mark, Member, List_step, List_of, Plain_value, Type_word, Field_value, Repeated, last, more}
+use Rattle.caps_text.specs.Grammar.{Mark, Member, List_step, List_of, Plain_value, Field_value, Repeated, last, more}
 use Rattle.caps_text.specs.Kinds.{kind_of, kind_text}
 use Rattle.caps_text.specs.Printed.{joined, joined_behind, one_text, value_text}
-use Rattle.caps_text.specs.Reading.{Next, again, done, kept_member}
+use Rattle.caps_text.specs.Reading.{again, done, kept_member}
 use Rattle.caps_text.specs.declared.kind.Kind.{Kind}
 use Rattle.caps_text.proofs.Again.{Fine, member_fine, one_again}
 use Rattle.caps_text.proofs.Valid.{member_kind}

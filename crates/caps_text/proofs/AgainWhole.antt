@@ -1,5 +1,5 @@
 -- What is printed stands for what was printed: structures and caps.
-use Rattle.std.proofs.Common.{◌≡◌, ◌≢◌, ℕ, suc, zero, ◌<◌, ◌≤◌, ◌+◌, Bool, true, false, cond, List, [], ◌∷◌, ◌++◌, length, Option, Some, None, inl, inr, ◌⊎◌, refl, sym, ap, ◌∙◌, subst, arith, append_assoc, append-nil, length-append, codes, map}
+use Rattle.std.proofs.Common.{◌≡◌, ℕ, ◌≤◌, Bool, true, false, cond, List, [], ◌∷◌, ◌++◌, length, Some, None, inl, inr, refl, sym, ap, ◌∙◌, subst, arith, append_assoc, append-nil, length-append, codes, map}
 use Rattle.std.specs.Cmp.Lexicographic.{slice_cmp}
 use Rattle.std.specs.List.{filter, flat_map}
 use Rattle.std.specs.Ordering.{is_lt, nat_cmp}
@@ -15,12 +15,10 @@ use Rattle.gst_caps.specs.declared.caps.Caps.{Caps}
 use Rattle.gst_caps.specs.declared.caps.Caps.TheVariants.{Any, Of}
 use Rattle.gst_caps.specs.declared.value.One.{One}
 use Rattle.gst_caps.specs.declared.value.Value.{Value}
-use Rattle.gst_caps.specs.declared.value.Value.TheVariants.{One as Single}
-use Rattle.caps_text.specs.Grammar.{Then, As, Is, Spaces, Mark, Run, Media_type, Field_name, Field_value, Field, Rest_of_field, Head, Caps_step, Structures, IsCapsText, Repeated, last, more}
-use Rattle.caps_text.specs.Printed.{caps_text, field_text, joined, joined_behind, structure_text, typed_text, value_text}
-use Rattle.caps_text.specs.Reading.{Made, Next, again, bare, done, with_field}
+use Rattle.caps_text.specs.Grammar.{Then, Mark, Media_type, Field_name, Field, Head, Caps_step, IsCapsText, Repeated, last, more}
+use Rattle.caps_text.specs.Printed.{caps_text, field_text, joined_behind, structure_text, typed_text, value_text}
+use Rattle.caps_text.specs.Reading.{Made, again, bare, done, with_field}
 use Rattle.caps_text.specs.Singles.{of_singles, single_field}
-use Rattle.caps_text.specs.declared.class.Class.TheVariants.{Media, Name}
 use Rattle.caps_text.proofs.AgainListed.{Fine_value, value_again, value_fine}
 
 -- a field, and a structure, that some text stands for

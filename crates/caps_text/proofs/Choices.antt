@@ -1,10 +1,9 @@
 -- Readers that choose by the first byte.
-use Rattle.std.proofs.Common.{◌≡◌, ◌≢◌, ℕ, Bool, true, false, cond, eqb, List, [], ◌∷◌, ◌++◌, Option, Some, None, Result, Ok, Err, inl, inr, ◌⊎◌, refl, sym, ap, ◌∙◌, subst}
+use Rattle.std.proofs.Common.{◌≡◌, ℕ, Bool, true, false, cond, eqb, List, [], ◌∷◌, ◌++◌, Option, Some, None, Ok, inl, inr, ◌⊎◌, refl, sym, ap, ◌∙◌}
 use Rattle.std.specs.Prelude.{is_some}
-use Rattle.std.proofs.lemmas.Bool.{eq-eqb}
-use Rattle.caps_text.specs.Answers.{Answer, Stop}
+use Rattle.caps_text.specs.Answers.{Answer}
 use Rattle.caps_text.specs.Reading.{after_byte, begins}
-use Rattle.caps_text.proofs.Readers.{IsReader, Reads_front, Stops, Starts, nothing}
+use Rattle.caps_text.proofs.Readers.{IsReader, Reads_front, Stops, Starts}
 use Rattle.caps_text.proofs.Tokens.{after_byte_is}
 use Rattle.caps_text.proofs.Words.{passes}
 

@@ -1,6 +1,6 @@
 -- Members and values up to where no byte of a word follows.
-use Rattle.std.proofs.Common.{◌≡◌, ℕ, Bool, true, false, cond, List, [], ◌∷◌, ◌++◌, Option, Some, None, Result, Ok, Err, refl, sym, ap, ◌∙◌}
-use Rattle.caps_text.specs.Answers.{Answer, Stop, misspelt, ◌>>=◌}
+use Rattle.std.proofs.Common.{◌≡◌, ℕ, Bool, true, false, cond, List, [], ◌∷◌, ◌++◌, Option, Ok, Err, refl, sym, ap, ◌∙◌}
+use Rattle.caps_text.specs.Answers.{Answer, misspelt, ◌>>=◌}
 use Rattle.caps_text.specs.Bytes.{in_class}
 use Rattle.caps_text.specs.Grammar.{Member}
 use Rattle.caps_text.specs.Reading.{begins_run, end_word, read_member, read_whole_member}

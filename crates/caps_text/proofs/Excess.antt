@@ -1,20 +1,19 @@
 -- Where there are too many of a kind, this is told.
-use Rattle.std.proofs.Common.{◌≡◌, ◌≢◌, ℕ, zero, suc, ◌<◌, ◌≤◌, ◌+◌, Bool, true, false, cond, eqb, List, [], ◌∷◌, ◌++◌, length, Option, Some, None, Result, Ok, Err, inl, inr, ◌⊎◌, refl, sym, ap, ◌∙◌, subst, arith, append_assoc, append-nil, length-append, codes}
-use Rattle.std.specs.Prelude.{is_some, nat_lt}
+use Rattle.std.proofs.Common.{◌≡◌, ℕ, ◌<◌, ◌≤◌, Bool, true, false, cond, eqb, List, [], ◌∷◌, ◌++◌, length, Option, Some, None, Ok, Err, inl, inr, refl, sym, ap, ◌∙◌, subst, arith, append_assoc, length-append, codes}
+use Rattle.std.specs.Prelude.{is_some}
 use Rattle.std.proofs.lemmas.Bool.{ne_eqb, lt-ltb}
 use Rattle.gst_caps.specs.Accepts.{value_at}
 use Rattle.gst_caps.specs.Common.{as_value}
 use Rattle.gst_caps.specs.Description.{Description}
 use Rattle.gst_caps.specs.declared.value.One.{One}
 use Rattle.gst_caps.specs.declared.value.Value.{Value}
-use Rattle.gst_caps.specs.declared.value.Value.TheVariants.{One as Single}
-use Rattle.caps_text.specs.Answers.{Answer, Stop, misspelt, many, ◌>>=◌}
+use Rattle.caps_text.specs.Answers.{Answer, misspelt, many, ◌>>=◌}
 use Rattle.caps_text.specs.Bytes.{in_class}
-use Rattle.caps_text.specs.Grammar.{Then, As, Is, Spaces, Mark, Member, Type_word, Field_name, List_step_to, Field_to, Head, Caps_step, Caps_step_to, is_space}
+use Rattle.caps_text.specs.Grammar.{Then, Is, Spaces, Mark, Member, Type_word, Field_name, List_step_to, Field_to, Caps_step, Caps_step_to, is_space}
 use Rattle.caps_text.specs.Kinds.{kind_of}
-use Rattle.caps_text.specs.Limits.{Passed, here, past, Open_list, Open_value, Open_field, Excess_field, Excess_part, Ends_structure, Ends_word, HasExcess}
-use Rattle.caps_text.specs.Reading.{Made, Next, again, done, after_byte, behind_spaces, begins, caps_step, few_fields, few_structures, list_step, more_from, read_field, read_head, read_kind, read_list, read_mark, read_member, read_members, read_more, read_name, read_structures, read_value, read_value_from, read_whole_value, repeat, with_field}
-use Rattle.caps_text.specs.declared.class.Class.TheVariants.{Media, Name, Word}
+use Rattle.caps_text.specs.Limits.{Passed, here, past, Open_list, Open_value, Excess_field, Excess_part, Ends_word, HasExcess}
+use Rattle.caps_text.specs.Reading.{Made, again, done, after_byte, behind_spaces, begins, caps_step, few_fields, few_structures, list_step, more_from, read_field, read_head, read_kind, read_list, read_mark, read_member, read_members, read_more, read_name, read_structures, read_value, read_value_from, read_whole_value, repeat, with_field}
+use Rattle.caps_text.specs.declared.class.Class.TheVariants.{Name, Word}
 use Rattle.caps_text.specs.declared.kind.Kind.{Kind}
 use Rattle.caps_text.proofs.Choices.{is_byte, lacks_byte, starts_apart}
 use Rattle.caps_text.proofs.Ended.{ended}
@@ -27,9 +26,9 @@ use Rattle.caps_text.proofs.LooseWhole.{caps_goes_on, loose_field, naming, setti
 use Rattle.caps_text.proofs.Readers.{Stops, Starts, nothing, ok_is, starts_stop, starts_more, stops_nothing}
 use Rattle.caps_text.proofs.Repeats.{repeat_again, repeat_refused}
 use Rattle.caps_text.proofs.Strings.{reads_kind}
-use Rattle.caps_text.proofs.Values.{byte_opens, member_opens, reads_member, space_opens}
+use Rattle.caps_text.proofs.Values.{member_opens, reads_member, space_opens}
 use Rattle.caps_text.proofs.Whole.{Outcome, all_bytes, caps_is_step, name_starts, none_lacks, reads_field, reads_head, some_bytes, split_mark, stops_media, value_ended}
-use Rattle.caps_text.proofs.Words.{passes, reads_byte, reads_mark, reads_name, reads_spaces, skipping, starts_is, starts_mark, starts_spaces}
+use Rattle.caps_text.proofs.Words.{passes, reads_byte, reads_mark, reads_name, reads_spaces, skipping, starts_mark, starts_spaces}
 
 -- a text with too many
 abbrev pub IsOver : {V W : Type 0} → (List ℕ → W → Type 0) → (ℕ → Bool) → (List ℕ → Answer V) → Type 0
@@ -78,8 +77,8 @@ over_list : (kind : Option Kind) → IsOver (Open_tail kind) (in_class Word) (re
 unfolding read_list
 over_list kind = over_then Spaces (λ s. Then (Member kind) (λ first text members. Passed (List_step_to None (kind_of first)) (first ∷ []) text members × (64 < length members))) is_space (in_class Word) skipping (λ s x. read_member kind x >>= λ first. read_members first.0 first.1 >>= λ all. Ok (as_value all.0, all.1)) (of_reader Spaces is_space skipping reads_spaces)
     (λ s. over_then (Member kind) (λ first text members. Passed (List_step_to None (kind_of first)) (first ∷ []) text members × (64 < length members)) (in_class Word) (in_class Word) (read_member kind) (λ first x. read_members first x >>= λ all. Ok (as_value all.0, all.1)) (of_reader (Member kind) (in_class Word) (read_member kind) (reads_member kind))
-      (λ first. over_first (λ text members. Passed (List_step_to None (kind_of first)) (first ∷ []) text members × (64 < length members)) (in_class Word) (read_members first) (λ all. Ok (as_value all.0, all.1)) (over_members first))
-      (λ first back members rest q stop. passed_stop (kind_of first) (first ∷ []) members back rest q.0 stop))
+    (λ first. over_first (λ text members. Passed (List_step_to None (kind_of first)) (first ∷ []) text members × (64 < length members)) (in_class Word) (read_members first) (λ all. Ok (as_value all.0, all.1)) (over_members first))
+    (λ first back members rest q stop. passed_stop (kind_of first) (first ∷ []) members back rest q.0 stop))
     (λ s back members rest q stop. starts_stop is_space back rest (subst (Starts is_space) (sym q.3) (starts_more is_space q.0 q.1 (member_opens is_space kind q.0 q.2 space_opens refl q.4))))
 
 -- a value
@@ -102,7 +101,7 @@ Open_typed = Then Type_word (λ kind. Then Spaces (λ s. Too_long (Open_list (So
 over_typed : IsOver Open_typed (in_class Word) from_typed
 over_typed = over_then Type_word (λ kind. Then Spaces (λ s. Too_long (Open_list (Some kind)))) nothing (in_class Word) read_kind (λ kind x. read_value_from (Some kind) (behind_spaces x) (after_byte 123 (behind_spaces x))) (of_reader Type_word nothing read_kind reads_kind)
     (λ kind. over_then Spaces (λ s. Too_long (Open_list (Some kind))) is_space (in_class Word) skipping (λ s x. read_value_from (Some kind) x (after_byte 123 x)) (of_reader Spaces is_space skipping reads_spaces) (λ s. over_plain (Some kind))
-      (λ s back members rest q stop. starts_stop is_space back rest (open_begins is_space (Some kind) back members refl q.0)))
+    (λ s back members rest q stop. starts_stop is_space back rest (open_begins is_space (Some kind) back members refl q.0)))
     (λ kind back members rest q stop. stops_nothing (back ++ rest))
 
 over_value : IsOver (Too_long Open_value) (in_class Word) read_value

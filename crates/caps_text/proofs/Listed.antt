@@ -1,26 +1,25 @@
 -- Readers of lists and of values with their types.
-use Rattle.std.proofs.Common.{◌≡◌, ◌≢◌, ℕ, zero, suc, ◌<◌, ◌≤◌, ◌+◌, Bool, true, false, cond, eqb, List, [], ◌∷◌, ◌++◌, length, Option, Some, None, Result, Ok, Err, inl, inr, ◌⊎◌, refl, sym, ap, ◌∙◌, subst, arith, append_assoc, append-nil, length-append, codes, ltb-false, le-ltb}
+use Rattle.std.proofs.Common.{◌≡◌, ℕ, ◌<◌, ◌≤◌, Bool, true, false, cond, List, [], ◌∷◌, ◌++◌, length, Option, Some, None, Ok, Err, inl, inr, ◌⊎◌, refl, sym, ap, ◌∙◌, subst, arith, append_assoc, codes, ltb-false, le-ltb}
 use Rattle.std.specs.Prelude.{nat_lt}
-use Rattle.std.specs.List.{list_all}
 use Rattle.gst_caps.specs.Common.{as_value}
 use Rattle.gst_caps.specs.declared.value.One.{One}
 use Rattle.gst_caps.specs.declared.value.Value.{Value}
 use Rattle.gst_caps.specs.declared.value.Value.TheVariants.{One as Single}
-use Rattle.caps_text.specs.Answers.{Answer, Stop, misspelt, many, ◌>>=◌, found}
+use Rattle.caps_text.specs.Answers.{Answer, ◌>>=◌}
 use Rattle.caps_text.specs.Bytes.{in_class}
-use Rattle.caps_text.specs.Grammar.{Then, As, Is, Spaces, Mark, Member, List_step, List_of, Plain_value, Type_word, Field_value, Repeated, last, more, is_space}
-use Rattle.caps_text.specs.Kinds.{kind_of, kind_text}
-use Rattle.caps_text.specs.Reading.{Next, again, done, after_byte, behind_spaces, begins, expect, kept_member, list_step, list_step_from, read_kind, read_list, read_mark, read_member, read_members, read_type, read_value, read_value_from, read_whole_member, repeat, within_limit}
+use Rattle.caps_text.specs.Grammar.{Then, As, Is, Spaces, Mark, Member, List_step, Plain_value, Type_word, Field_value, Repeated, last, more, is_space}
+use Rattle.caps_text.specs.Kinds.{kind_of}
+use Rattle.caps_text.specs.Reading.{Next, again, done, after_byte, behind_spaces, begins, expect, kept_member, list_step, list_step_from, read_kind, read_list, read_member, read_members, read_type, read_value, read_value_from, read_whole_member, within_limit}
 use Rattle.caps_text.specs.declared.class.Class.TheVariants.{Word}
 use Rattle.caps_text.specs.declared.kind.Kind.{Kind}
 use Rattle.caps_text.specs.declared.kind.Kind.TheVariants.{Int as Whole, Bool as Either, Text as Words, Fraction as Quotients}
-use Rattle.caps_text.proofs.Choices.{Behind, is_byte, reads_choice, reads_begun, reads_iff, lacks_byte, starts_apart}
+use Rattle.caps_text.proofs.Choices.{Behind, is_byte, reads_choice, reads_begun, reads_iff}
 use Rattle.caps_text.proofs.Ended.{reads_whole_member}
-use Rattle.caps_text.proofs.Readers.{IsReader, Reads_front, Stops, Starts, nothing, ok_is, bind_ok, reads_then, reads_as, reads_weaker, reads_any, stops_nothing, starts_stop, starts_more}
+use Rattle.caps_text.proofs.Readers.{IsReader, Stops, Starts, nothing, ok_is, reads_then, reads_as, reads_any, stops_nothing, starts_stop, starts_more}
 use Rattle.caps_text.proofs.Repeats.{Within, IsStep, reads_within, reads_repeat}
 use Rattle.caps_text.proofs.Strings.{reads_kind}
 use Rattle.caps_text.proofs.Values.{Opens_none, byte_opens, member_opens, reads_member, space_opens}
-use Rattle.caps_text.proofs.Words.{passes, reads_byte, reads_mark, reads_spaces, skipping, starts_is, starts_mark, starts_spaces}
+use Rattle.caps_text.proofs.Words.{passes, reads_byte, reads_spaces, skipping, starts_is, starts_mark, starts_spaces}
 
 -- nothing more, and this
 abbrev pub Only : {V : Type 0} → V → List ℕ → V → Type 0

@@ -1,15 +1,13 @@
 -- What is read of a text goes by the bytes that were read and the first one behind them.
-use Rattle.std.proofs.Common.{◌≡◌, ◌≢◌, ℕ, zero, suc, ◌<◌, ◌≤◌, ◌+◌, ◌-◌, ◌*◌, Bool, true, false, cond, eqb, ◌&&◌, List, [], ◌∷◌, ◌++◌, length, Option, Some, None, Result, Ok, Err, inl, inr, ◌⊎◌, refl, sym, ap, ◌∙◌, subst, arith, append_assoc, append-nil, length-append, codes}
+use Rattle.std.proofs.Common.{◌≡◌, ℕ, zero, suc, ◌<◌, ◌+◌, ◌-◌, ◌*◌, Bool, true, false, cond, eqb, List, [], ◌∷◌, ◌++◌, length, Option, Some, None, Ok, Err, refl, sym, ap, ◌∙◌, subst, arith, append_assoc}
 use Rattle.std.specs.Prelude.{is_some}
-use Rattle.std.specs.List.{list_all}
-use Rattle.std.proofs.lemmas.Bool.{eqb-true, eqb-false, ne_eqb}
 use Rattle.caps_text.specs.Answers.{Answer, Stop, misspelt, many, ◌>>=◌, found}
 use Rattle.caps_text.specs.Bytes.{in_class, is_digit}
-use Rattle.caps_text.specs.Grammar.{Spaces, is_space}
+use Rattle.caps_text.specs.Grammar.{is_space}
 use Rattle.caps_text.specs.Reading.{Next, again, done, after_byte, behind_run, behind_spaces, begins, can_begin, digit_at, expect, passed, read_digits, read_quoted, repeat, run_of}
 use Rattle.caps_text.specs.declared.class.Class.{Class}
 use Rattle.caps_text.specs.declared.number.Wanted.{Wanted}
-use Rattle.caps_text.proofs.Readers.{IsReader, Reads_front, Stops, ok_is, bind_ok}
+use Rattle.caps_text.proofs.Readers.{Stops, ok_is}
 use Rattle.caps_text.proofs.Repeats.{IsStep, repeat_again, repeat_done, repeat_refused, shorter}
 use Rattle.caps_text.proofs.Tokens.{after_byte_is}
 use Rattle.caps_text.proofs.Words.{passes, reads_spaces, run_splits, run_whole, skipping}
@@ -58,11 +56,14 @@ module _ {V W : Type 0} (r : List ℕ → Answer V) (s : V → List ℕ → Answ
   bind_step : (x rest : List ℕ) (o : Option W) (a : Answer V) → r x ≡ a → (a >>= λ a. s a.0 a.1) ≡ found o rest → Kept both x rest o
   bind_step x rest o (Ok p) e k =
       let two = second p.0 p.1 rest o k in
-      let one = first x p.1 (Some p.0) e in
-      (one.0 ++ two.0, one.1 ∙ ap (λ l. one.0 ++ l) two.1 ∙ sym (append_assoc one.0 two.0 rest), λ y same.
-        ap both (append_assoc one.0 two.0 y)
-        ∙ ap (λ a. a >>= λ a. s a.0 a.1) (one.2 (two.0 ++ y) (subst (λ l. Same_start l (two.0 ++ y)) (sym two.1) (same_behind two.0 rest y same)))
-        ∙ two.2 y same)
+      let one = first x p.1 (Some p.0) e in (
+        one.0 ++ two.0,
+        one.1 ∙ ap (λ l. one.0 ++ l) two.1 ∙ sym (append_assoc one.0 two.0 rest),
+        λ y same.
+            ap both (append_assoc one.0 two.0 y)
+            ∙ ap (λ a. a >>= λ a. s a.0 a.1) (one.2 (two.0 ++ y) (subst (λ l. Same_start l (two.0 ++ y)) (sym two.1) (same_behind two.0 rest y same)))
+            ∙ two.2 y same,
+      )
   bind_step x rest o (Err d) e k =
       let is = refused_is d o rest k in
       let one = first x rest None (e ∙ ap Err is.1) in
@@ -123,10 +124,13 @@ local_choice m r s from f g is else x rest o h = step (after_byte m x) refl h
         let one = f z rest o (sym (is x z) ∙ k) in
         (m ∷ one.0, after_byte_is m x z e ∙ ap (λ l. m ∷ l) one.1, λ y same. ap (from (m ∷ (one.0 ++ y))) (passes m (one.0 ++ y)) ∙ is (m ∷ (one.0 ++ y)) (one.0 ++ y) ∙ one.2 y same)
     step None e k =
-        let one = g x rest o (sym (else x) ∙ k) in
-        (one.0, one.1, λ y same.
-          let lacks : begins m (one.0 ++ y) ≡ false = sym (same_begins m (one.0 ++ rest) (one.0 ++ y) (same_behind one.0 rest y same)) ∙ sym (ap (begins m) one.1) ∙ ap is_some e in
-          ap (from (one.0 ++ y)) (lacks_none (after_byte m (one.0 ++ y)) lacks) ∙ else (one.0 ++ y) ∙ one.2 y same)
+        let one = g x rest o (sym (else x) ∙ k) in (
+          one.0,
+          one.1,
+          λ y same.
+              let lacks : begins m (one.0 ++ y) ≡ false = sym (same_begins m (one.0 ++ rest) (one.0 ++ y) (same_behind one.0 rest y same)) ∙ sym (ap (begins m) one.1) ∙ ap is_some e in
+              ap (from (one.0 ++ y)) (lacks_none (after_byte m (one.0 ++ y)) lacks) ∙ else (one.0 ++ y) ∙ one.2 y same,
+        )
 
 pub local_same : {V : Type 0} (r s : List ℕ → Answer V) → ((x : List ℕ) → s x ≡ r x) → IsLocal r → IsLocal s
 local_same r s e f x rest o h = let one = f x rest o (sym (e x) ∙ h) in (one.0, one.1, λ y same. e (one.0 ++ y) ∙ one.2 y same)
@@ -172,10 +176,13 @@ runs class x = Ok (run_of class x, behind_run class x)
 pub local_runs : (class : Class) → IsLocal (runs class)
 local_runs class x rest o h =
     let is = read_is (run_of class x, behind_run class x) o rest h in
-    let s = run_splits class x in
-    (run_of class x, s.0 ∙ ap (λ l. run_of class x ++ l) (sym is.1), λ y same.
-      let w = run_whole class (run_of class x) y s.1 (stops_same (in_class class) rest y same (subst (Stops (in_class class)) (sym is.1) (run_stops class x))) in
-      (λ i. Ok (w.0 i, w.1 i)) ∙ ap (λ q. found q y) (sym is.0))
+    let s = run_splits class x in (
+      run_of class x,
+      s.0 ∙ ap (λ l. run_of class x ++ l) (sym is.1),
+      λ y same.
+          let w = run_whole class (run_of class x) y s.1 (stops_same (in_class class) rest y same (subst (Stops (in_class class)) (sym is.1) (run_stops class x))) in
+          (λ i. Ok (w.0 i, w.1 i)) ∙ ap (λ q. found q y) (sym is.0),
+    )
 
 -- digits
 pub local_digits : (w : Wanted) (negative : Bool) (size : ℕ) → IsLocal (read_digits w negative size)
@@ -183,9 +190,12 @@ local_digits w negative size x rest o h = go size x o h
   where
     digit : (size b : ℕ) (bs : List ℕ) (o : Option ℕ) → (s t : Bool) → is_digit b ≡ s → can_begin w negative (size * 10 + (b - 48)) ≡ t → cond s (cond t (read_digits w negative (size * 10 + (b - 48)) bs) (Err (misspelt (b ∷ bs)))) (Ok (size, b ∷ bs)) ≡ found o rest → (read_digits w negative (size * 10 + (b - 48)) bs ≡ found o rest → Kept (read_digits w negative (size * 10 + (b - 48))) bs rest o) → Kept (read_digits w negative size) (b ∷ bs) rest o
     digit size b bs o true true e f k ih =
-        let one = ih k in
-        (b ∷ one.0, ap (λ l. b ∷ l) one.1, λ y same. ap (λ s. cond {A = Answer ℕ} s (cond (can_begin w negative (size * 10 + (b - 48))) (read_digits w negative (size * 10 + (b - 48)) (one.0 ++ y)) (Err (misspelt (b ∷ (one.0 ++ y))))) (Ok (size, b ∷ (one.0 ++ y)))) e
-          ∙ ap (λ t. cond {A = Answer ℕ} t (read_digits w negative (size * 10 + (b - 48)) (one.0 ++ y)) (Err (misspelt (b ∷ (one.0 ++ y))))) f ∙ one.2 y same)
+        let one = ih k in (
+          b ∷ one.0,
+          ap (λ l. b ∷ l) one.1,
+          λ y same. ap (λ s. cond {A = Answer ℕ} s (cond (can_begin w negative (size * 10 + (b - 48))) (read_digits w negative (size * 10 + (b - 48)) (one.0 ++ y)) (Err (misspelt (b ∷ (one.0 ++ y))))) (Ok (size, b ∷ (one.0 ++ y)))) e
+              ∙ ap (λ t. cond {A = Answer ℕ} t (read_digits w negative (size * 10 + (b - 48)) (one.0 ++ y)) (Err (misspelt (b ∷ (one.0 ++ y))))) f ∙ one.2 y same,
+        )
     digit size b bs o true false e f k ih =
         let is = refused_is (misspelt (b ∷ bs)) o rest k in
         let rest_b : b ∷ bs ≡ rest = rest_is (b ∷ bs) rest is.1 in
@@ -194,7 +204,7 @@ local_digits w negative size x rest o h = go size x o h
         first : (y : List ℕ) → Same_start (b ∷ bs) y → read_digits w negative size y ≡ Err (misspelt y)
         first [] h = absurd h
         first (c ∷ cs) h = ap (λ s. cond {A = Answer ℕ} s (cond (can_begin w negative (size * 10 + (c - 48))) (read_digits w negative (size * 10 + (c - 48)) cs) (Err (misspelt (c ∷ cs)))) (Ok (size, c ∷ cs))) (ap is_digit (sym h) ∙ e)
-          ∙ ap (λ t. cond {A = Answer ℕ} t (read_digits w negative (size * 10 + (c - 48)) cs) (Err (misspelt (c ∷ cs)))) (ap (λ n. can_begin w negative (size * 10 + (n - 48))) (sym h) ∙ f)
+            ∙ ap (λ t. cond {A = Answer ℕ} t (read_digits w negative (size * 10 + (c - 48)) cs) (Err (misspelt (c ∷ cs)))) (ap (λ n. can_begin w negative (size * 10 + (n - 48))) (sym h) ∙ f)
     digit size b bs o false t e f k ih =
         let is = read_is (size, b ∷ bs) o rest k in
         ([], sym is.1, λ y same. first y (subst (λ l. Same_start l y) is.1 same) ∙ ap (λ q. found q y) (sym is.0))
@@ -267,11 +277,14 @@ module _ {S V : Type 0} (Step : S → List ℕ → Next S V → Type 0) (end : �
           (one.0, one.1 ∙ ap (λ l. one.0 ++ l) (sym is.1), λ y same. repeat_done step s v (one.0 ++ y) y (one.2 y (subst (λ l. Same_start l y) is.1 same)) ∙ ap (λ q. found q y) (sym is.0))
       passed_on (again t) z e ih =
           let two = ih t z (shorter Step end step is s t x z e) (sym (repeat_again Step end step is s t x z e) ∙ h) in
-          let one = local s x z (Some (again t)) e in
-          (one.0 ++ two.0, one.1 ∙ ap (λ l. one.0 ++ l) two.1 ∙ sym (append_assoc one.0 two.0 rest), λ y same.
-            ap (repeat step s) (append_assoc one.0 two.0 y)
-            ∙ repeat_again Step end step is s t (one.0 ++ (two.0 ++ y)) (two.0 ++ y) (one.2 (two.0 ++ y) (subst (λ l. Same_start l (two.0 ++ y)) (sym two.1) (same_behind two.0 rest y same)))
-            ∙ two.2 y same)
+          let one = local s x z (Some (again t)) e in (
+            one.0 ++ two.0,
+            one.1 ∙ ap (λ l. one.0 ++ l) two.1 ∙ sym (append_assoc one.0 two.0 rest),
+            λ y same.
+                ap (repeat step s) (append_assoc one.0 two.0 y)
+                ∙ repeat_again Step end step is s t (one.0 ++ (two.0 ++ y)) (two.0 ++ y) (one.2 (two.0 ++ y) (subst (λ l. Same_start l (two.0 ++ y)) (sym two.1) (same_behind two.0 rest y same)))
+                ∙ two.2 y same,
+          )
 
       go : (a : Answer (Next S V)) → step s x ≡ a → ((t : S) (y : List ℕ) → length y < length x → repeat step t y ≡ found o rest → Kept (repeat step t) y rest o) → Kept (repeat step s) x rest o
       go (Err d) e ih = refused d e (refused_is d o rest (sym (repeat_refused step s x d e) ∙ h))

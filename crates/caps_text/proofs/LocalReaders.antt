@@ -1,5 +1,5 @@
 -- Every part of a caps text is read by the bytes that were read and the first one behind them.
-use Rattle.std.proofs.Common.{◌≡◌, ℕ, zero, ◌<◌, ◌+◌, ℤ, Bool, true, false, cond, eqb, List, [], ◌∷◌, ◌++◌, length, Option, Some, None, Result, Ok, Err, refl, sym, ap, ◌∙◌, subst, codes, arith}
+use Rattle.std.proofs.Common.{◌≡◌, ℕ, ℤ, Bool, true, false, cond, eqb, List, [], ◌∷◌, ◌++◌, length, Option, Some, None, Ok, Err, refl, sym, ap, ◌∙◌, codes, arith}
 use Rattle.std.proofs.lemmas.Bool.{ne_eqb}
 use Rattle.std.specs.Prelude.{is_some, nat_lt}
 use Rattle.gst_caps.specs.Accepts.{value_at}
@@ -9,12 +9,12 @@ use Rattle.gst_caps.specs.declared.value.One.{One}
 use Rattle.gst_caps.specs.declared.value.One.TheVariants.{Int, Bool as Truth, Text}
 use Rattle.gst_caps.specs.declared.value.Value.{Value}
 use Rattle.gst_caps.specs.declared.value.Value.TheVariants.{One as Single}
-use Rattle.caps_text.specs.Answers.{Answer, Stop, misspelt, many, ◌>>=◌, found}
+use Rattle.caps_text.specs.Answers.{Answer, misspelt, many, ◌>>=◌, found}
 use Rattle.caps_text.specs.Bytes.{in_class, is_letter}
 use Rattle.caps_text.specs.Grammar.{List_step, Caps_step}
 use Rattle.caps_text.specs.Kinds.{kind_of}
 use Rattle.caps_text.specs.Ratio.{ratio}
-use Rattle.caps_text.specs.Reading.{Made, Next, again, done, after_byte, bare, behind_minus, behind_run, behind_spaces, begins, begins_run, can_begin, caps_step, digit_at, expect, few_fields, few_structures, judge, kept_member, least_number, letter_first, list_step, list_step_from, minus, more_from, range, read_digits, read_field, read_fraction, read_head, read_kind, read_kind_word, read_list, read_literal, read_mark, read_media, read_member, read_member_from, read_members, read_more, read_name, read_number, read_quoted, read_range, read_single, read_size, read_string, read_string_from, read_structures, read_truth, read_untyped, read_untyped_from, read_value, read_value_from, read_whole_member, read_whole_value, repeat, run_of, some_run, takes_ranges, wanted_number, with_field, within_limit}
+use Rattle.caps_text.specs.Reading.{Made, again, done, after_byte, bare, behind_minus, behind_spaces, begins, begins_run, can_begin, caps_step, digit_at, expect, few_fields, few_structures, judge, kept_member, least_number, letter_first, list_step, list_step_from, minus, more_from, range, read_digits, read_field, read_fraction, read_head, read_kind, read_kind_word, read_list, read_literal, read_mark, read_media, read_member, read_member_from, read_members, read_more, read_name, read_number, read_quoted, read_range, read_single, read_size, read_string, read_string_from, read_structures, read_truth, read_untyped, read_untyped_from, read_value, read_value_from, read_whole_member, read_whole_value, repeat, some_run, takes_ranges, wanted_number, with_field, within_limit}
 use Rattle.caps_text.specs.declared.class.Class.{Class}
 use Rattle.caps_text.specs.declared.class.Class.TheVariants.{Media, Name, Word}
 use Rattle.caps_text.specs.declared.kind.Kind.{Kind}
@@ -23,7 +23,7 @@ use Rattle.caps_text.specs.declared.number.Wanted.{Wanted}
 use Rattle.caps_text.specs.declared.number.Wanted.TheVariants.{AtLeast, Denominator}
 use Rattle.caps_text.proofs.Ended.{ended, member_ended}
 use Rattle.caps_text.proofs.Listed.{from_typed, list_is_step, value_split}
-use Rattle.caps_text.proofs.Local.{IsLocal, Kept, Same_start, local_bind, local_byte, local_choice, local_cond, local_digits, local_found, local_many, local_ok, local_quoted, local_refused, local_repeat, local_runs, local_same, local_spaces, local_test, runs, same_begins, same_digit}
+use Rattle.caps_text.proofs.Local.{IsLocal, Same_start, local_bind, local_byte, local_choice, local_cond, local_digits, local_found, local_many, local_ok, local_quoted, local_refused, local_repeat, local_runs, local_same, local_spaces, local_test, runs, same_begins, same_digit}
 use Rattle.caps_text.proofs.LooseWhole.{naming, setting}
 use Rattle.caps_text.proofs.Readers.{nothing}
 use Rattle.caps_text.proofs.Values.{any_read}

@@ -1,5 +1,5 @@
 -- The two loops: a step of each passes a byte or is the last.
-use Rattle.std.proofs.Common.{◌≡◌, ℕ, ◌<◌, ◌≤◌, ◌+◌, Bool, true, false, cond, List, [], ◌∷◌, ◌++◌, length, zero, suc, Result, Ok, Err, inl, inr, refl, sym, ap, ◌∙◌, subst, arith, length-append}
+use Rattle.std.proofs.Common.{◌≡◌, ℕ, ◌<◌, ◌≤◌, ◌+◌, cond, List, [], ◌∷◌, length, zero, suc, Result, Ok, Err, inl, inr, sym, ap, ◌∙◌, subst, arith, length-append}
 use Rattle.gst_caps.specs.Description.{Description}
 use Rattle.gst_caps.specs.declared.value.One.{One}
 use Rattle.gst_caps.specs.declared.value.Value.{Value}
@@ -7,13 +7,12 @@ use Rattle.caps_text.specs.Answers.{Answer, Gives, Refuses, Stop, many, misspelt
 use Rattle.caps_text.specs.declared.fault.Refusal.{Refusal}
 use Rattle.caps_text.specs.declared.fault.Refusal.TheVariants.{Misspelt as Misspelling, TooMany, OutOfMemory}
 use Rattle.caps_text.specs.Grammar.{List_step, Caps_step}
-use Rattle.caps_text.specs.Kinds.{kind_of}
 use Rattle.caps_text.specs.Reading.{Made, Next, again, done, caps_step, few_structures, follow, kept_member, list_step, read_head, read_more, read_structures, repeat}
 use Rattle.std.proofs.lemmas.Bool.{ne_eqb}
 use Rattle.caps_text.specs.declared.kind.Kind.{Kind}
 use Rattle.caps_text.proofs.Listed.{list_is_step}
 use Rattle.caps_text.proofs.Readers.{bind_ok, nothing, ok_is}
-use Rattle.caps_text.proofs.Repeats.{IsStep, repeat_again, repeat_done, repeat_refused}
+use Rattle.caps_text.proofs.Repeats.{repeat_again, repeat_done, repeat_refused}
 use Rattle.caps_text.proofs.Whole.{caps_is_step, all_bytes, done_reads}
 
 -- one member more

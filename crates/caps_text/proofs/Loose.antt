@@ -1,7 +1,7 @@
 -- What a text stands for, limits aside, is read, or there are too many of a kind.
-use Rattle.std.proofs.Common.{◌≡◌, ◌≢◌, ℕ, zero, suc, ◌<◌, ◌≤◌, ◌+◌, Bool, true, false, cond, eqb, List, [], ◌∷◌, ◌++◌, length, Option, Some, None, Result, Ok, Err, inl, inr, ◌⊎◌, refl, sym, ap, ◌∙◌, subst, arith, append_assoc, append-nil, length-append}
+use Rattle.std.proofs.Common.{◌≡◌, ℕ, zero, suc, ◌<◌, ◌+◌, Bool, true, false, cond, List, ◌∷◌, ◌++◌, length, Option, Some, None, Ok, Err, inl, inr, ◌⊎◌, refl, sym, ap, ◌∙◌, subst, arith, append_assoc, length-append}
 use Rattle.std.specs.Prelude.{is_some}
-use Rattle.caps_text.specs.Answers.{Answer, Stop, misspelt, many, ◌>>=◌}
+use Rattle.caps_text.specs.Answers.{Answer, Stop, many, ◌>>=◌}
 use Rattle.caps_text.specs.Grammar.{Then, As, Repeated, last, more}
 use Rattle.caps_text.specs.Reading.{Next, again, done, after_byte, begins, follow, repeat}
 use Rattle.caps_text.proofs.Choices.{Behind, is_byte, lacks_byte, starts_apart}
@@ -30,7 +30,7 @@ pub loose_then : {V W : Type 0} (P : List ℕ → V → Type 0) (Q : V → List 
 loose_then P Q f g r s first second apart used rest w h stop =
     let split : used ++ rest ≡ h.0 ++ (h.1 ++ rest) = ap (λ l. l ++ rest) h.3 ∙ append_assoc h.0 h.1 rest in
     or_from (r (used ++ rest) >>= λ a. s a.0 a.1) (r (h.0 ++ (h.1 ++ rest)) >>= λ a. s a.0 a.1) (Ok (w, rest)) (ap (λ l. r l >>= λ a. s a.0 a.1) split)
-      (or_bind (r (h.0 ++ (h.1 ++ rest))) (λ a. s a.0 a.1) (h.2, h.1 ++ rest) (Ok (w, rest)) (first h.0 (h.1 ++ rest) h.2 h.4 (apart h.2 h.1 w rest h.5 stop)) (second h.2 h.1 rest w h.5 stop))
+    (or_bind (r (h.0 ++ (h.1 ++ rest))) (λ a. s a.0 a.1) (h.2, h.1 ++ rest) (Ok (w, rest)) (first h.0 (h.1 ++ rest) h.2 h.4 (apart h.2 h.1 w rest h.5 stop)) (second h.2 h.1 rest w h.5 stop))
 
 pub loose_as : {V W : Type 0} (f : V → W) (P : List ℕ → V → Type 0) (test : ℕ → Bool) (r : List ℕ → Answer V) → IsLoose P test r → IsLoose (As f P) test (λ x. r x >>= λ a. Ok (f a.0, a.1))
 loose_as f P test r first used rest w h stop = or_bind (r (used ++ rest)) (λ a. Ok (f a.0, a.1)) (h.0, rest) (Ok (w, rest)) (first used rest h.0 h.1 stop) (inl (ap (λ z. Ok (z, rest)) (sym h.2)))
@@ -57,12 +57,12 @@ loose_guarded {V} P test r b e first used rest v h stop = or_from (cond {A = Ans
 pub loose_choice : {V : Type 0} (m : ℕ) (P Q : List ℕ → V → Type 0) (test : ℕ → Bool) (r s : List ℕ → Answer V) (from : List ℕ → Option (List ℕ) → Answer V) → IsLoose P test r → IsLoose Q test s → ((used : List ℕ) (v : V) → Q used v → Starts (is_byte m) used) → ((x y : List ℕ) → from x (Some y) ≡ r y) → ((x : List ℕ) → from x None ≡ s x) → IsLoose (λ text w. Behind m P text w ⊎ Q text w) test (λ x. from x (after_byte m x))
 loose_choice m P Q test r s from first second apart is else used rest v (inl h) stop =
     or_from (from (used ++ rest) (after_byte m (used ++ rest))) (r (h.0 ++ rest)) (Ok (v, rest))
-      (ap (λ l. from (l ++ rest) (after_byte m (l ++ rest))) h.1 ∙ ap (from (m ∷ (h.0 ++ rest))) (passes m (h.0 ++ rest)) ∙ is (m ∷ (h.0 ++ rest)) (h.0 ++ rest))
-      (first h.0 rest v h.2 stop)
+    (ap (λ l. from (l ++ rest) (after_byte m (l ++ rest))) h.1 ∙ ap (from (m ∷ (h.0 ++ rest))) (passes m (h.0 ++ rest)) ∙ is (m ∷ (h.0 ++ rest)) (h.0 ++ rest))
+    (first h.0 rest v h.2 stop)
 loose_choice m P Q test r s from first second apart is else used rest v (inr h) stop =
     or_from (from (used ++ rest) (after_byte m (used ++ rest))) (s (used ++ rest)) (Ok (v, rest))
-      (ap (from (used ++ rest)) (lacks_byte m (used ++ rest) (starts_apart (is_byte m) used rest (apart used v h))) ∙ else (used ++ rest))
-      (second used rest v h stop)
+    (ap (from (used ++ rest)) (lacks_byte m (used ++ rest) (starts_apart (is_byte m) used rest (apart used v h))) ∙ else (used ++ rest))
+    (second used rest v h stop)
 
 pub loose_begun : {V : Type 0} (m : ℕ) (P Q : List ℕ → V → Type 0) (test : ℕ → Bool) (r s : List ℕ → Answer V) → IsLoose P test r → IsLoose Q test s → ((used : List ℕ) (v : V) → P used v → (back : List ℕ) × (used ≡ m ∷ back)) → ((used : List ℕ) (v : V) → Q used v → Starts (is_byte m) used) → IsLoose (λ text w. P text w ⊎ Q text w) test (λ x. cond (begins m x) (r x) (s x))
 loose_begun m P Q test r s first second with apart used rest v (inl h) stop =
@@ -96,7 +96,7 @@ module _ {S V : Type 0} (Step : S → List ℕ → Next S V → Type 0) (end : �
       let sum = length-append front (back ++ rest) in
       let fewer : length (front ++ (back ++ rest)) < suc n = subst (λ l. length l < suc n) split less in
       or_from (step s (text ++ rest) >>= λ p. follow step n p.1 p.0) (step s (front ++ (back ++ rest)) >>= λ p. follow step n p.1 p.0) (Ok (v, rest)) (ap (λ l. step s l >>= λ p. follow step n p.1 p.0) split)
-        (or_bind (step s (front ++ (back ++ rest))) (λ p. follow step n p.1 p.0) (again t, back ++ rest) (Ok (v, rest)) (is.goes_on s t front back rest v d later stop) (follow_loose n t back rest v later stop (omega (arith, some, sum, fewer))))
+      (or_bind (step s (front ++ (back ++ rest))) (λ p. follow step n p.1 p.0) (again t, back ++ rest) (Ok (v, rest)) (is.goes_on s t front back rest v d later stop) (follow_loose n t back rest v later stop (omega (arith, some, sum, fewer))))
 
   pub loose_repeat : (s : S) → IsLoose (Repeated Step s) end (repeat step s)
   unfolding repeat

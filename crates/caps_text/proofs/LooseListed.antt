@@ -1,20 +1,20 @@
 -- Lists and values of the grammar without limits are read, or there are too many members.
-use Rattle.std.proofs.Common.{◌≡◌, ◌≢◌, ℕ, zero, suc, ◌<◌, ◌≤◌, ◌+◌, Bool, true, false, cond, eqb, List, [], ◌∷◌, ◌++◌, length, Option, Some, None, Result, Ok, Err, inl, inr, ◌⊎◌, refl, sym, ap, ◌∙◌, subst, arith, append_assoc}
+use Rattle.std.proofs.Common.{◌≡◌, ℕ, ◌<◌, Bool, false, cond, List, [], ◌∷◌, ◌++◌, length, Option, Some, None, Ok, inl, inr, ◌⊎◌, refl, sym, ap, ◌∙◌, subst, arith, append_assoc}
 use Rattle.gst_caps.specs.Common.{as_value}
 use Rattle.gst_caps.specs.declared.value.One.{One}
 use Rattle.gst_caps.specs.declared.value.Value.{Value}
 use Rattle.gst_caps.specs.declared.value.Value.TheVariants.{One as Single}
-use Rattle.caps_text.specs.Answers.{Answer, Stop, misspelt, many, ◌>>=◌}
+use Rattle.caps_text.specs.Answers.{◌>>=◌}
 use Rattle.caps_text.specs.Bytes.{in_class}
-use Rattle.caps_text.specs.Grammar.{Then, As, Is, Spaces, Mark, Member, List_step_to, List_to, Plain_value_to, Type_word, Field_value_to, Repeated, last, more, is_space}
+use Rattle.caps_text.specs.Grammar.{Then, As, Is, Spaces, Member, List_step_to, Plain_value_to, Type_word, Field_value_to, Repeated, last, more, is_space}
 use Rattle.caps_text.specs.Kinds.{kind_of}
-use Rattle.caps_text.specs.Reading.{Next, again, done, after_byte, behind_spaces, begins, expect, kept_member, list_step, list_step_from, read_kind, read_list, read_member, read_members, read_value, read_value_from, read_whole_member, repeat, within_limit}
+use Rattle.caps_text.specs.Reading.{Next, again, done, after_byte, behind_spaces, begins, expect, kept_member, list_step, list_step_from, read_kind, read_list, read_member, read_members, read_value, read_value_from, read_whole_member, within_limit}
 use Rattle.caps_text.specs.declared.class.Class.TheVariants.{Word}
 use Rattle.caps_text.specs.declared.kind.Kind.{Kind}
 use Rattle.caps_text.proofs.Choices.{Behind, is_byte}
-use Rattle.caps_text.proofs.Ended.{ended, ended_here, reads_whole_member}
+use Rattle.caps_text.proofs.Ended.{reads_whole_member}
 use Rattle.caps_text.proofs.Listed.{Only, from_typed, list_ends, over_limit, reads_only, step_to, type_begins, value_split}
-use Rattle.caps_text.proofs.Loose.{IsLoose, IsLooseStep, Or_many, loose_as, loose_begun, loose_choice, loose_if, loose_repeat, loose_same, loose_then, loose_within, of_reader}
+use Rattle.caps_text.proofs.Loose.{IsLoose, IsLooseStep, loose_as, loose_begun, loose_choice, loose_if, loose_repeat, loose_same, loose_then, loose_within, of_reader}
 use Rattle.caps_text.proofs.Readers.{Stops, Starts, nothing, reads_any, stops_nothing, starts_stop, starts_more}
 use Rattle.caps_text.proofs.Strings.{reads_kind}
 use Rattle.caps_text.proofs.Values.{Opens_none, byte_opens, member_opens, reads_member, space_opens}

@@ -1,14 +1,14 @@
 -- Fields, structures and whole texts of the grammar without limits are read, or there are too many of a kind.
-use Rattle.std.proofs.Common.{◌≡◌, ◌≢◌, ℕ, zero, suc, ◌<◌, ◌≤◌, ◌+◌, Bool, true, false, cond, eqb, List, [], ◌∷◌, ◌++◌, length, Option, Some, None, Result, Ok, Err, inl, inr, ◌⊎◌, refl, sym, ap, ◌∙◌, subst, arith, append_assoc, append-nil, length-append}
+use Rattle.std.proofs.Common.{◌≡◌, ℕ, Bool, true, false, cond, eqb, List, [], ◌∷◌, ◌++◌, length, None, Ok, Err, inl, inr, ◌⊎◌, refl, sym, ap, ◌∙◌, subst, arith, length-append}
 use Rattle.std.specs.Prelude.{is_some, nat_lt}
 use Rattle.std.proofs.lemmas.Bool.{ne_eqb}
 use Rattle.gst_caps.specs.Accepts.{value_at}
 use Rattle.gst_caps.specs.Description.{Description}
 use Rattle.gst_caps.specs.declared.value.Value.{Value}
-use Rattle.caps_text.specs.Answers.{Answer, Stop, misspelt, many, ◌>>=◌}
+use Rattle.caps_text.specs.Answers.{Answer, misspelt, many, ◌>>=◌}
 use Rattle.caps_text.specs.Bytes.{in_class}
 use Rattle.caps_text.specs.Grammar.{Then, As, Is, Spaces, Mark, Field_name, Field_value_to, Field_to, Rest_of_field_to, Head, Caps_step_to, Structures_to, Repeated, last, more, is_space}
-use Rattle.caps_text.specs.Reading.{Made, Next, again, done, after_byte, behind_spaces, caps_step, expect, few_fields, few_structures, more_from, read_field, read_head, read_mark, read_more, read_name, read_structures, read_value, read_whole_value, repeat, with_field}
+use Rattle.caps_text.specs.Reading.{Made, again, done, after_byte, behind_spaces, caps_step, expect, few_fields, few_structures, more_from, read_field, read_head, read_mark, read_more, read_name, read_structures, read_value, read_whole_value, repeat, with_field}
 use Rattle.caps_text.specs.declared.class.Class.TheVariants.{Media, Name, Word}
 use Rattle.caps_text.proofs.Choices.{Behind, is_byte}
 use Rattle.caps_text.proofs.Ended.{ended, ended_here}
@@ -134,8 +134,8 @@ caps_goes_on made t front back rest h stop =
     let sum = length-append front (back ++ rest) in
     let full : eqb (length (front ++ (back ++ rest))) 0 ≡ false = ne_eqb (length (front ++ (back ++ rest))) 0 (λ e. omega (arith, e, some, sum)) in
     or_from (caps_step made (front ++ (back ++ rest))) (read_more made (front ++ (back ++ rest))) (Ok (again t, back ++ rest))
-      (ap (λ b. cond {A = Answer Outcome} b (few_structures made (front ++ (back ++ rest)) >>= λ all. Ok (done all.0, all.1)) (read_more made (front ++ (back ++ rest)))) full)
-      (loose_goes_on made front (back ++ rest) (again t) (on h) stop)
+    (ap (λ b. cond {A = Answer Outcome} b (few_structures made (front ++ (back ++ rest)) >>= λ all. Ok (done all.0, all.1)) (read_more made (front ++ (back ++ rest)))) full)
+    (loose_goes_on made front (back ++ rest) (again t) (on h) stop)
   where
     on : Caps_step_to None made front (again t) → Goes_on_any made front (again t)
     on (inl h) = absurd (let bad = h.2 in cc)
@@ -147,8 +147,8 @@ caps_ends made front rest v (inl h) stop =
     let nil = at_end rest stop in
     let all : front ++ rest ≡ [] = ap (λ l. l ++ rest) h.0 ∙ nil in
     or_from (caps_step made (front ++ rest)) (few_structures made [] >>= λ all. Ok (done all.0, all.1)) (Ok (done v, rest))
-      (ap (λ l. cond {A = Answer Outcome} (eqb (length l) 0) (few_structures made l >>= λ all. Ok (done all.0, all.1)) (read_more made l)) all)
-      (or_bind (few_structures made []) (λ all. Ok (done all.0, all.1)) (made.0 ++ made.1 ∷ [], []) (Ok (done v, rest)) (limited (nat_lt 63 (length made.0))) (inl (λ i. Ok (sym h.2 i, sym nil i))))
+    (ap (λ l. cond {A = Answer Outcome} (eqb (length l) 0) (few_structures made l >>= λ all. Ok (done all.0, all.1)) (read_more made l)) all)
+    (or_bind (few_structures made []) (λ all. Ok (done all.0, all.1)) (made.0 ++ made.1 ∷ [], []) (Ok (done v, rest)) (limited (nat_lt 63 (length made.0))) (inl (λ i. Ok (sym h.2 i, sym nil i))))
   where
     limited : (t : Bool) → Or_many (cond {A = Answer (List (Description Value))} t (Err many) (Ok (made.0 ++ made.1 ∷ [], []))) (Ok (made.0 ++ made.1 ∷ [], []))
     limited true = inr refl

@@ -1,23 +1,23 @@
 -- Readers of numbers and fractions.
-use Rattle.std.proofs.Common.{◌≡◌, ◌≢◌, ℕ, zero, suc, ◌<◌, ◌≤◌, ◌+◌, ◌-◌, ◌*◌, ◌/◌, ℤ, pos, Bool, true, false, cond, eqb, leb, ◌&&◌, ◌||◌, List, [], ◌∷◌, ◌++◌, length, get_or, Option, Some, None, Result, Ok, Err, inl, inr, ◌⊎◌, refl, sym, ap, ◌∙◌, subst, arith, append_assoc, append-nil, codes, leb-true, le-leb}
+use Rattle.std.proofs.Common.{◌≡◌, ℕ, zero, suc, ◌<◌, ◌≤◌, ◌+◌, ◌-◌, ◌*◌, ◌/◌, ℤ, pos, Bool, true, false, cond, eqb, ◌&&◌, ◌||◌, List, [], ◌∷◌, ◌++◌, length, get_or, Option, Some, None, Ok, Err, inl, inr, refl, sym, ap, ◌∙◌, subst, arith, leb-true, le-leb}
 use Rattle.std.specs.Prelude.{is_some, int_le, nat_le}
 use Rattle.std.specs.List.{list_all, list_any}
-use Rattle.std.proofs.Math.Nat.{mul-le-mul_left, mul-le-mul_right, le-div_iff_mul-le}
-use Rattle.std.proofs.lemmas.Bool.{cases_lt, ne_eqb, eqb-true, eqb-false, ltb-true}
+use Rattle.std.proofs.Math.Nat.{mul-le-mul_right, le-div_iff_mul-le}
+use Rattle.std.proofs.lemmas.Bool.{cases_lt}
 use Rattle.std.proofs.lemmas.Bool.Decides.{eqb_tells}
 use Rattle.std.proofs.lemmas.Int.{ints}
 use Rattle.gst_caps.specs.Fractions.{signed}
-use Rattle.caps_text.specs.Answers.{Answer, Stop, misspelt, many, ◌>>=◌, found}
+use Rattle.caps_text.specs.Answers.{Answer, misspelt, ◌>>=◌, found}
 use Rattle.caps_text.specs.Bytes.{is_digit}
-use Rattle.caps_text.specs.Grammar.{Then, As, Sure, Is, Digits, Number, Wanted_number, Pair, Quotient, size_after}
-use Rattle.caps_text.specs.Ratio.{fits, ratio}
-use Rattle.caps_text.specs.Reading.{after_byte, behind_minus, can_begin, digit_at, expect, is_wanted, least_number, minus, powers, reaches, reaches_by, read_digits, read_fraction, read_number, read_pair, read_size, wanted_number}
+use Rattle.caps_text.specs.Grammar.{Digits, Number, Wanted_number, size_after}
+use Rattle.caps_text.specs.Ratio.{fits}
+use Rattle.caps_text.specs.Reading.{after_byte, behind_minus, can_begin, digit_at, is_wanted, least_number, minus, powers, reaches, reaches_by, read_digits, read_number, read_size, wanted_number}
 use Rattle.caps_text.specs.declared.number.Wanted.{Wanted}
 use Rattle.caps_text.specs.declared.number.Wanted.TheVariants.{AtLeast, Denominator}
 use Rattle.caps_text.proofs.Choices.{reads_iff}
-use Rattle.caps_text.proofs.Readers.{IsReader, Reads_front, Stops, Starts, nothing, ok_is, some_is, bind_ok, found_ok, reads_then, reads_as, reads_sure, reads_weaker, reads_any, stops_nothing, starts_stop}
-use Rattle.caps_text.proofs.Tokens.{after_byte_is, small_begin}
-use Rattle.caps_text.proofs.Words.{passes, reads_byte, starts_is}
+use Rattle.caps_text.proofs.Readers.{IsReader, Reads_front, Stops, Starts, ok_is, some_is, bind_ok, found_ok}
+use Rattle.caps_text.proofs.Tokens.{after_byte_is}
+use Rattle.caps_text.proofs.Words.{passes}
 
 -- digits at the front, which write the size
 abbrev pub Digits_read : ℕ → List ℕ → List ℕ → ℕ → Type 0

@@ -1,5 +1,5 @@
 -- That there are too many of a kind is told only where there are.
-use Rattle.std.proofs.Common.{◌≡◌, ◌≢◌, ℕ, zero, suc, ◌<◌, ◌≤◌, ◌+◌, Bool, true, false, cond, eqb, List, [], ◌∷◌, ◌++◌, length, Option, Some, None, Result, Ok, Err, inl, inr, ◌⊎◌, refl, sym, ap, ◌∙◌, subst, arith, append_assoc, append-nil, length-append, codes}
+use Rattle.std.proofs.Common.{◌≡◌, ℕ, zero, suc, ◌<◌, ◌≤◌, ◌+◌, Bool, true, false, cond, eqb, List, [], ◌∷◌, ◌++◌, length, Option, Some, None, Result, Ok, Err, inl, inr, ◌⊎◌, refl, sym, ap, ◌∙◌, subst, arith, append_assoc, append-nil, codes}
 use Rattle.std.specs.Prelude.{is_some, nat_lt}
 use Rattle.std.proofs.lemmas.Bool.{eqb-true, ltb-true}
 use Rattle.gst_caps.specs.Accepts.{value_at}
@@ -11,9 +11,9 @@ use Rattle.gst_caps.specs.declared.value.Value.{Value}
 use Rattle.gst_caps.specs.declared.value.Value.TheVariants.{One as Single}
 use Rattle.caps_text.specs.Answers.{Answer, Stop, misspelt, many, ◌>>=◌}
 use Rattle.caps_text.specs.Bytes.{in_class}
-use Rattle.caps_text.specs.Grammar.{Then, As, Is, Spaces, Mark, Member, Type_word, Field_name, Field_value_to, List_step, List_step_to, Field_to, Head, Caps_step, Caps_step_to}
+use Rattle.caps_text.specs.Grammar.{Then, Spaces, Mark, Member, Type_word, Field_name, Field_value_to, List_step, List_step_to, Caps_step, Caps_step_to}
 use Rattle.caps_text.specs.Kinds.{kind_of}
-use Rattle.caps_text.specs.Limits.{Passed, here, past, Open_list, Open_value, Open_field, Excess_field, Excess_part, Ends_structure, Ends_word, HasExcess, TellsExcess}
+use Rattle.caps_text.specs.Limits.{Passed, here, past, Open_list, Open_value, Excess_field, Excess_part, Ends_word, HasExcess, TellsExcess}
 use Rattle.caps_text.specs.Parsed.{Told}
 use Rattle.caps_text.specs.Reading.{Made, Next, again, done, after_byte, begins, behind_spaces, caps_step, expect, few_fields, few_structures, kept_member, list_step, list_step_from, more_from, read_field, read_head, read_kind, read_list, read_mark, read_member, read_members, read_more, read_name, read_structures, read_value, read_value_from, read_whole_member, read_whole_value, repeat, with_field, within_limit}
 use Rattle.caps_text.specs.declared.class.Class.TheVariants.{Word}
@@ -113,9 +113,15 @@ step_many kind members x h = go (after_byte 125 (behind_spaces x)) h
         let c = (reads_byte 44).sound (behind_spaces x) p.1 tt e in
         let s = reads_spaces.sound p.1 (behind_spaces p.1) tt refl in
         let m = member_many kind members (behind_spaces p.1) k in
-        let tail : behind_spaces x ≡ 44 ∷ ((s.0 ++ m.0) ++ m.1) = c.1 ∙ ap (λ l. l ++ p.1) c.2 ∙ ap (λ l. 44 ∷ l) (s.1 ∙ ap (λ l. s.0 ++ l) m.3 ∙ sym (append_assoc s.0 m.0 m.1)) in
-        (spaces.0 ++ (44 ∷ (s.0 ++ m.0)), m.1, kept_member members m.2, spaces.1 ∙ ap (λ l. spaces.0 ++ l) tail ∙ sym (append_assoc spaces.0 (44 ∷ (s.0 ++ m.0)) m.1), m.4,
-          inr (m.2, marked 44 (Member (Some kind)) spaces.0 s.0 m.0 (spaces.0 ++ (44 ∷ (s.0 ++ m.0))) m.2 refl spaces.2 s.2 m.5, tt, refl), m.6)
+        let tail : behind_spaces x ≡ 44 ∷ ((s.0 ++ m.0) ++ m.1) = c.1 ∙ ap (λ l. l ++ p.1) c.2 ∙ ap (λ l. 44 ∷ l) (s.1 ∙ ap (λ l. s.0 ++ l) m.3 ∙ sym (append_assoc s.0 m.0 m.1)) in (
+          spaces.0 ++ (44 ∷ (s.0 ++ m.0)),
+          m.1,
+          kept_member members m.2,
+          spaces.1 ∙ ap (λ l. spaces.0 ++ l) tail ∙ sym (append_assoc spaces.0 (44 ∷ (s.0 ++ m.0)) m.1),
+          m.4,
+          inr (m.2, marked 44 (Member (Some kind)) spaces.0 s.0 m.0 (spaces.0 ++ (44 ∷ (s.0 ++ m.0))) m.2 refl spaces.2 s.2 m.5, tt, refl),
+          m.6,
+        )
 
     comma : (expect 44 (behind_spaces x) ≡ Err many) ⊎ ((p : Unit {0} × List ℕ) × (expect 44 (behind_spaces x) ≡ Ok p) × ((read_whole_member (Some kind) (behind_spaces p.1) >>= λ one. within_limit (kept_member members one.0) one.1) ≡ Err many)) → Long_step kind members x
     comma (inl k) = absurd (never_byte 44 (behind_spaces x) k)
@@ -154,7 +160,7 @@ many_list : (kind : Option Kind) → IsMany (Then Spaces (λ s. Then (Member kin
 unfolding read_list
 many_list kind = many_then Spaces (λ s. Then (Member kind) (λ first. Long_rest (kind_of first) (first ∷ []))) skipping (λ s x. read_member kind x >>= λ first. read_members first.0 first.1 >>= λ all. Ok (as_value all.0, all.1)) reads_spaces.sound (never_ok (λ x. (tt, behind_spaces x)))
     (λ s. many_then (Member kind) (λ first. Long_rest (kind_of first) (first ∷ [])) (read_member kind) (λ first x. read_members first x >>= λ all. Ok (as_value all.0, all.1)) (reads_member kind).sound (never_member kind)
-      (λ first. many_first (Long_rest (kind_of first) (first ∷ [])) (read_members first) (λ all. Ok (as_value all.0, all.1)) (λ p k. cc) (many_members first)))
+    (λ first. many_first (Long_rest (kind_of first) (first ∷ [])) (read_members first) (λ all. Ok (as_value all.0, all.1)) (λ p k. cc) (many_members first)))
 
 -- values
 many_plain : (kind : Option Kind) → IsMany (Too_long (Open_list kind)) (λ x. read_value_from kind x (after_byte 123 x))
@@ -256,9 +262,12 @@ more_many made x h = go (after_byte 44 (behind_spaces x)) refl h
     field y e (inl k) =
         let s = reads_spaces.sound y (behind_spaces y) tt refl in
         let f = many_field made.1 (behind_spaces y) k in
-        let tail : behind_spaces x ≡ 44 ∷ ((s.0 ++ f.0) ++ f.1) = e ∙ ap (λ l. 44 ∷ l) (s.1 ∙ ap (λ l. s.0 ++ l) f.3 ∙ sym (append_assoc s.0 f.0 f.1)) in
-        (spaces.0 ++ (44 ∷ (s.0 ++ f.0)), f.1, spaces.1 ∙ ap (λ l. spaces.0 ++ l) tail ∙ sym (append_assoc spaces.0 (44 ∷ (s.0 ++ f.0)) f.1),
-          inl (marked 44 (Excess_field made.1) spaces.0 s.0 f.0 (spaces.0 ++ (44 ∷ (s.0 ++ f.0))) tt refl spaces.2 s.2 f.5, f.4))
+        let tail : behind_spaces x ≡ 44 ∷ ((s.0 ++ f.0) ++ f.1) = e ∙ ap (λ l. 44 ∷ l) (s.1 ∙ ap (λ l. s.0 ++ l) f.3 ∙ sym (append_assoc s.0 f.0 f.1)) in (
+          spaces.0 ++ (44 ∷ (s.0 ++ f.0)),
+          f.1,
+          spaces.1 ∙ ap (λ l. spaces.0 ++ l) tail ∙ sym (append_assoc spaces.0 (44 ∷ (s.0 ++ f.0)) f.1),
+          inl (marked 44 (Excess_field made.1) spaces.0 s.0 f.0 (spaces.0 ++ (44 ∷ (s.0 ++ f.0))) tt refl spaces.2 s.2 f.5, f.4),
+        )
     field y e (inr p) = absurd (let bad = p.2 in cc)
 
     never_start : (all : List (Description Value)) → IsNever (λ y. starting all (behind_spaces y))
@@ -267,9 +276,12 @@ more_many made x h = go (after_byte 44 (behind_spaces x)) refl h
     ended_here : (y : List ℕ) → expect 59 (behind_spaces x) ≡ Ok (tt, y) → finishing made y ≡ Err many → Part_here made x
     ended_here y e k =
         let c = (reads_byte 59).sound (behind_spaces x) y tt e in
-        let semi : behind_spaces x ≡ 59 ∷ y = c.1 ∙ ap (λ l. l ++ y) c.2 in
-        (spaces.0 ++ (59 ∷ []), y, spaces.1 ∙ ap (λ l. spaces.0 ++ l) semi ∙ sym (append_assoc spaces.0 (59 ∷ []) y),
-          inr (over (bind_many (few_structures made y) (λ all. starting all.0 (behind_spaces all.1)) k), inl (spaces.0, 59 ∷ [], tt, refl, spaces.2, refl)))
+        let semi : behind_spaces x ≡ 59 ∷ y = c.1 ∙ ap (λ l. l ++ y) c.2 in (
+          spaces.0 ++ (59 ∷ []),
+          y,
+          spaces.1 ∙ ap (λ l. spaces.0 ++ l) semi ∙ sym (append_assoc spaces.0 (59 ∷ []) y),
+          inr (over (bind_many (few_structures made y) (λ all. starting all.0 (behind_spaces all.1)) k), inl (spaces.0, 59 ∷ [], tt, refl, spaces.2, refl)),
+        )
       where
         over : (few_structures made y ≡ Err many) ⊎ ((p : List (Description Value) × List ℕ) × (few_structures made y ≡ Ok p) × (starting p.0 (behind_spaces p.1) ≡ Err many)) → 64 ≤ length made.0
         over (inl k) = structures_passed made y k

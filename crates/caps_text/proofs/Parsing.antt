@@ -1,18 +1,18 @@
 -- Whole texts: what is answered is what the grammar says.
-use Rattle.std.proofs.Common.{◌≡◌, ◌≢◌, ℕ, ◌≤◌, ◌-◌, Bool, true, false, List, [], ◌∷◌, ◌++◌, length, Result, Ok, Err, IfOk, IfErr, inl, inr, ◌⊎◌, refl, sym, ap, ◌∙◌, subst, arith, append-nil, codes}
+use Rattle.std.proofs.Common.{◌≡◌, ◌≢◌, ℕ, ◌≤◌, ◌-◌, List, [], ◌++◌, length, Result, Ok, Err, IfOk, IfErr, inl, inr, refl, sym, ap, ◌∙◌, subst, arith, append-nil, codes}
 use Rattle.std.proofs.Math.Nat.{le-min, min-le_left, min-le_right}
 use Rattle.gst_caps.specs.Description.{Description}
 use Rattle.gst_caps.specs.declared.caps.Caps.{Caps}
 use Rattle.gst_caps.specs.declared.caps.Caps.TheVariants.{Any, Of}
 use Rattle.gst_caps.specs.declared.value.Value.{Value}
-use Rattle.caps_text.specs.Answers.{Answer, Stop, misspelt, many, ◌>>=◌}
+use Rattle.caps_text.specs.Answers.{Answer, Stop, misspelt, many}
 use Rattle.caps_text.specs.Grammar.{IsCapsText, Structures}
 use Rattle.caps_text.specs.Parsed.{AnswersCaps, IsFaultOf, Told, as_place}
 use Rattle.caps_text.specs.Reading.{expect, read_head, read_media, read_structures, some_run}
 use Rattle.caps_text.specs.declared.fault.CapsTextFault.{CapsTextFault}
 use Rattle.caps_text.specs.declared.fault.CapsTextFault.TheVariants.{BadCaps, TooMany, OutOfMemory}
 use Rattle.caps_text.proofs.Loops.{structures_all}
-use Rattle.caps_text.proofs.Readers.{IsReader, ok_is}
+use Rattle.caps_text.proofs.Readers.{ok_is}
 use Rattle.caps_text.proofs.Whole.{reads_structures}
 
 -- the two words are no structures

@@ -1,17 +1,17 @@
 -- Where a text is refused.
-use Rattle.std.proofs.Common.{◌≡◌, ◌≢◌, ℕ, zero, suc, ◌<◌, ◌≤◌, ◌-◌, ◌+◌, Bool, true, false, List, [], ◌∷◌, ◌++◌, length, take, drop, Option, Some, None, Result, Ok, Err, IfOk, IfErr, inl, inr, ◌⊎◌, refl, sym, ap, ◌∙◌, subst, arith, append-nil, append_assoc, length-append, codes}
+use Rattle.std.proofs.Common.{◌≡◌, ℕ, zero, suc, ◌<◌, ◌≤◌, ◌-◌, List, [], ◌∷◌, ◌++◌, length, take, None, Result, Ok, Err, IfErr, inl, inr, refl, sym, ap, ◌∙◌, subst, arith, append-nil, append_assoc, length-append, codes}
 use Rattle.gst_caps.specs.Description.{Description}
 use Rattle.gst_caps.specs.declared.caps.Caps.{Caps}
-use Rattle.gst_caps.specs.declared.caps.Caps.TheVariants.{Any, Of}
+use Rattle.gst_caps.specs.declared.caps.Caps.TheVariants.{Of}
 use Rattle.gst_caps.specs.declared.value.Value.{Value}
-use Rattle.caps_text.specs.Answers.{Answer, Stop, misspelt, many}
-use Rattle.caps_text.specs.Grammar.{IsCapsText, IsCapsTextTo, Structures_to}
-use Rattle.caps_text.specs.Parsed.{Told, as_place}
+use Rattle.caps_text.specs.Answers.{misspelt, many}
+use Rattle.caps_text.specs.Grammar.{Structures_to}
+use Rattle.caps_text.specs.Parsed.{Told}
 use Rattle.caps_text.specs.Place.{BeginsSome, IsLongest, IsPlace, StandsUnlimited}
 use Rattle.caps_text.specs.Reading.{read_structures}
 use Rattle.caps_text.specs.declared.fault.CapsTextFault.{CapsTextFault}
 use Rattle.caps_text.specs.declared.fault.CapsTextFault.TheVariants.{BadCaps, TooMany, OutOfMemory}
-use Rattle.caps_text.proofs.Local.{Kept, Same_start, rest_is, same_self}
+use Rattle.caps_text.proofs.Local.{Kept, Same_start, rest_is}
 use Rattle.caps_text.proofs.LocalReaders.{local_structures}
 use Rattle.caps_text.proofs.Loose.{Or_many}
 use Rattle.caps_text.proofs.LooseWhole.{loose_structures}

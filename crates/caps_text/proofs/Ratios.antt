@@ -1,5 +1,5 @@
 -- Fractions: what gst_caps gives is the function of the two numbers.
-use Rattle.std.proofs.Common.{◌≡◌, ◌≢◌, ◌-ℤ◌, ℕ, zero, suc, ◌<◌, ◌≤◌, ◌+◌, ◌/◌, ◌%◌, ◌*◌, ℤ, pos, negsuc, ◌<ℤ◌, Bool, true, false, not, cond, eqb, ◌&&◌, Option, Some, None, IfSome, IfNone, FitsSigned, unsigned_abs, ◌⊎◌, inl, inr, refl, sym, subst, arith, ap, ◌∙◌, le-leb, leb-true}
+use Rattle.std.proofs.Common.{◌≡◌, ◌≢◌, ℕ, zero, suc, ◌<◌, ◌+◌, ◌/◌, ◌%◌, ℤ, pos, ◌<ℤ◌, Bool, true, false, not, ◌&&◌, Option, Some, None, IfSome, IfNone, FitsSigned, unsigned_abs, ◌⊎◌, inl, inr, refl, sym, subst, arith, ap, ◌∙◌, le-leb, leb-true}
 use Rattle.std.specs.Int.{IsGcd, is_negative, w32}
 use Rattle.std.specs.Bool.{beq}
 use Rattle.std.proofs.Math.Nat.{mod-lt, zero-div}
@@ -8,10 +8,10 @@ use Rattle.std.proofs.lemmas.Int.{ints}
 use Rattle.std.proofs.lemmas.Nat.Gcd.{IsGcd-from_zero, IsGcd-from_mod, same_from_IsGcd}
 use Rattle.gst_caps.specs.Fractions.{IsReduced, IsTooWide, signed}
 use Rattle.gst_caps.specs.Parts.{HasParts}
-use Rattle.gst_caps.specs.Values.{IsSingle, IsLowest}
+use Rattle.gst_caps.specs.Values.{IsSingle}
 use Rattle.gst_caps.specs.declared.value.One.{One}
 use Rattle.gst_caps.specs.declared.value.One.TheVariants.{Fraction}
-use Rattle.caps_text.specs.Ratio.{divisor_in, divisor, fits, parts, ratio_of, ratio}
+use Rattle.caps_text.specs.Ratio.{divisor_in, divisor, fits, ratio}
 
 IsGcd-divisor_in : (n a b : ℕ) → b < n → IsGcd a b (divisor_in n a b)
 IsGcd-divisor_in zero a b h = absurd (omega (arith, h))

@@ -1,6 +1,6 @@
 -- Readers with a limit, and readers of a step again and again.
-use Rattle.std.proofs.Common.{◌≡◌, ◌≢◌, ℕ, zero, suc, ◌<◌, ◌≤◌, ◌+◌, Bool, true, false, cond, List, [], ◌∷◌, ◌++◌, length, Option, Some, None, Result, Ok, Err, refl, sym, ap, ◌∙◌, subst, arith, append_assoc, append-nil, length-append}
-use Rattle.caps_text.specs.Answers.{Answer, Stop, misspelt, many, ◌>>=◌}
+use Rattle.std.proofs.Common.{◌≡◌, ℕ, zero, suc, ◌<◌, ◌+◌, Bool, true, false, cond, List, ◌++◌, length, Ok, Err, refl, sym, ap, ◌∙◌, subst, arith, append_assoc, length-append}
+use Rattle.caps_text.specs.Answers.{Answer, Stop, many, ◌>>=◌}
 use Rattle.caps_text.specs.Grammar.{Repeated, last, more}
 use Rattle.caps_text.specs.Reading.{Next, again, done, follow, repeat}
 use Rattle.caps_text.proofs.Readers.{IsReader, Reads_front, Stops, ok_is, bind_ok}

@@ -1,19 +1,18 @@
 -- Readers of strings, truth values and the words of types.
-use Rattle.std.proofs.Common.{◌≡◌, ◌≢◌, ℕ, zero, suc, ◌<◌, ◌≤◌, ◌+◌, Bool, true, false, cond, eqb, ◌&&◌, List, [], ◌∷◌, ◌++◌, length, Option, Some, None, Result, Ok, Err, inl, inr, ◌⊎◌, refl, sym, ap, ◌∙◌, subst, arith, append_assoc, append-nil, codes}
+use Rattle.std.proofs.Common.{◌≡◌, ◌≢◌, ℕ, Bool, true, false, cond, eqb, ◌&&◌, List, [], ◌∷◌, ◌++◌, Ok, inl, inr, ◌⊎◌, refl, sym, ap, ◌∙◌, subst, arith, append_assoc, append-nil, codes}
 use Rattle.std.specs.List.{list_all}
 use Rattle.std.proofs.lemmas.Bool.{ne_eqb, eqb-true, eqb-false}
 use Rattle.std.proofs.lemmas.Bool.Decides.{eqb_tells}
-use Rattle.caps_text.specs.Answers.{Answer, Stop, misspelt, many, ◌>>=◌, found}
+use Rattle.caps_text.specs.Answers.{Answer, ◌>>=◌}
 use Rattle.caps_text.specs.Bytes.{in_class}
-use Rattle.caps_text.specs.Grammar.{Then, As, Is, Run, Quoted, In_quotes, Truth_value, Some_string, Type_word}
+use Rattle.caps_text.specs.Grammar.{Then, As, Is, Run, Quoted, Truth_value, Some_string, Type_word}
 use Rattle.caps_text.specs.Kinds.{kind_text}
 use Rattle.caps_text.specs.Reading.{after_byte, begins, expect, read_kind, read_kind_word, read_literal, read_quoted, read_string, read_string_from, read_truth, some_run}
-use Rattle.caps_text.specs.declared.class.Class.{Class}
 use Rattle.caps_text.specs.declared.class.Class.TheVariants.{Word}
 use Rattle.caps_text.specs.declared.kind.Kind.{Kind}
 use Rattle.caps_text.specs.declared.kind.Kind.TheVariants.{Int as Whole, Bool as Either, Text as Words, Fraction as Ratio}
 use Rattle.caps_text.proofs.Choices.{Behind, is_byte, reads_choice, reads_begun, reads_iff}
-use Rattle.caps_text.proofs.Readers.{IsReader, Reads_front, Stops, Starts, nothing, ok_is, bind_ok, reads_then, reads_as, reads_weaker, reads_any, stops_nothing, starts_stop}
+use Rattle.caps_text.proofs.Readers.{IsReader, Starts, nothing, ok_is, reads_then, reads_as, reads_any, stops_nothing}
 use Rattle.caps_text.proofs.Words.{reads_byte, reads_literal, reads_run}
 
 -- what was read up to the closing quote

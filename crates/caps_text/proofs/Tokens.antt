@@ -1,5 +1,5 @@
 -- Bytes, spaces and runs at the front of a text.
-use Rattle.std.proofs.Common.{◌≡◌, ◌≢◌, ℕ, ◌<◌, ◌≤◌, ◌+◌, Bool, true, false, cond, eqb, List, [], ◌∷◌, ◌++◌, length, drop, take, get_or, Option, Some, None, MatchOption, refl, ap, sym, ◌∙◌, arith, Bor, suc, zero, rules, subst, ◌⊎◌, inl, inr, Result, Ok, Err, ◌&&◌, ◌*◌, ◌-◌, ◌/◌, ℤ, leb-true, nat_le, is_some, ◌||◌}
+use Rattle.std.proofs.Common.{◌≡◌, ◌≢◌, ℕ, ◌<◌, ◌≤◌, ◌+◌, Bool, true, false, cond, List, [], ◌∷◌, length, drop, take, get_or, Option, Some, None, MatchOption, refl, ap, arith, Bor, suc, zero, subst, inl, inr, Ok, Err, ◌&&◌, ◌*◌, ◌-◌, ◌/◌, ℤ, leb-true, nat_le, is_some, ◌||◌}
 use Rattle.std.specs.List.{take_while, list_all, list_any}
 use Rattle.std.proofs.Math.Nat.{div-le_self}
 use Rattle.std.proofs.Math.Seq.{drop-cons}
@@ -8,8 +8,8 @@ use Rattle.std.specs.Str.{IsUtf8, IsCharBoundary}
 use Rattle.std.proofs.lemmas.Bool.Decides.{eqb_tells}
 use Rattle.std.proofs.lemmas.List.Sums.{take_while-cons}
 use Rattle.std.proofs.lemmas.Str.{IsCharBoundary-start, IsCharBoundary-after_ascii}
-use Rattle.caps_text.specs.Answers.{Answer, Stop, misspelt, ◌>>=◌}
-use Rattle.caps_text.specs.Bytes.{in_class, is_digit, is_ascii, is_letter, is_sign}
+use Rattle.caps_text.specs.Answers.{Stop}
+use Rattle.caps_text.specs.Bytes.{in_class, is_digit, is_ascii}
 use Rattle.caps_text.specs.Reading.{after_byte, behind_run, behind_spaces, run_of, expect, read_literal, digit_at, read_digits, can_begin, reaches, reaches_by, wanted_number, powers, is_wanted}
 use Rattle.caps_text.specs.Ratio.{fits}
 use Rattle.gst_caps.specs.Fractions.{signed}

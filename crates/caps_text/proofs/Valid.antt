@@ -1,5 +1,5 @@
 -- What the grammar gives are values: fractions in lowest terms, ranges in order, lists of one type.
-use Rattle.std.proofs.Common.{◌≡◌, ℕ, suc, zero, ◌<◌, ◌≤◌, ◌+◌, ◌/◌, ◌≤ℤ◌, ℤ, pos, Bool, true, false, cond, eqb, ◌&&◌, not, List, [], ◌∷◌, ◌++◌, length, Option, Some, None, IfSome, SomeIff, FitsSigned, unsigned_abs, inl, inr, ◌⊎◌, refl, sym, ap, ◌∙◌, subst, arith, length-append}
+use Rattle.std.proofs.Common.{◌≡◌, ℕ, ◌<◌, ◌≤◌, ◌/◌, ◌≤ℤ◌, ℤ, pos, Bool, true, false, cond, eqb, ◌&&◌, not, List, [], ◌∷◌, ◌++◌, length, Option, Some, None, IfSome, SomeIff, FitsSigned, unsigned_abs, inl, inr, refl, sym, ap, ◌∙◌, subst, arith, length-append}
 use Rattle.std.specs.Prelude.{int_le}
 use Rattle.std.specs.Int.{is_negative, w32}
 use Rattle.std.specs.Ordering.{int_eq}
@@ -12,18 +12,16 @@ use Rattle.gst_caps.proofs.Lists.{Each-append}
 use Rattle.gst_caps.specs.Common.{as_value, same}
 use Rattle.gst_caps.specs.Fractions.{signed}
 use Rattle.gst_caps.specs.Names.{Each}
-use Rattle.gst_caps.specs.Values.{AreMembers, IsOne, IsOfOneKind, IsSingle, IsValue, kind_of as gst_kind_of, Kind as GstKind, whole, truth, words, ratio as ratio_kind}
+use Rattle.gst_caps.specs.Values.{IsOne, IsSingle, IsValue, kind_of as gst_kind_of, Kind as GstKind, whole, truth, words, ratio as ratio_kind}
 use Rattle.gst_caps.specs.declared.value.One.{One}
 use Rattle.gst_caps.specs.declared.value.One.TheVariants.{Int, Bool as Truth, Text, Fraction, IntRange}
 use Rattle.gst_caps.specs.declared.value.Value.{Value}
-use Rattle.gst_caps.specs.declared.value.Value.TheVariants.{One as Single, Many}
-use Rattle.caps_text.specs.Grammar.{Then, As, Member, Single_value, Untyped, Bare_word, Quotient, Range, List_step, List_of, Plain_value, Field_value, Repeated, last, more}
+use Rattle.caps_text.specs.Grammar.{Member, Single_value, Bare_word, Quotient, Range, List_step, List_of, Plain_value, Field_value, Repeated, last, more}
 use Rattle.caps_text.specs.Kinds.{kind_of}
-use Rattle.caps_text.specs.Ratio.{divisor, fits, parts, ratio, ratio_of}
-use Rattle.caps_text.specs.Reading.{Next, again, done, is_wanted, judge_words, kept_member, range}
+use Rattle.caps_text.specs.Ratio.{divisor, fits, parts, ratio}
+use Rattle.caps_text.specs.Reading.{again, done, kept_member}
 use Rattle.caps_text.specs.declared.kind.Kind.{Kind}
 use Rattle.caps_text.specs.declared.kind.Kind.TheVariants.{Int as Whole, Bool as Either, Text as Words, Fraction as Quotients}
-use Rattle.caps_text.specs.declared.number.Wanted.TheVariants.{AtLeast}
 use Rattle.caps_text.proofs.Ratios.{IsGcd-divisor, fits_from, fits_to}
 
 -- the kinds of the two crates

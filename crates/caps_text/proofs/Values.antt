@@ -1,23 +1,23 @@
 -- Readers of fractions, single values and ranges.
-use Rattle.std.proofs.Common.{◌≡◌, ◌≢◌, ℕ, zero, suc, ◌<◌, ◌≤◌, ◌+◌, ℤ, Bool, true, false, cond, eqb, ◌&&◌, ◌||◌, List, [], ◌∷◌, ◌++◌, length, Option, Some, None, Result, Ok, Err, inl, inr, ◌⊎◌, refl, sym, ap, ◌∙◌, subst, arith, append_assoc, append-nil, codes}
+use Rattle.std.proofs.Common.{◌≡◌, ℕ, suc, ℤ, Bool, true, false, cond, eqb, ◌&&◌, ◌||◌, List, [], ◌∷◌, ◌++◌, length, Option, Some, None, Ok, Err, inl, inr, ◌⊎◌, refl, sym, ap, ◌∙◌, subst, arith, append-nil, codes}
 use Rattle.std.specs.Prelude.{is_some}
 use Rattle.std.specs.List.{list_all}
-use Rattle.std.proofs.lemmas.Bool.{ne_eqb, eqb-true, eqb-false}
+use Rattle.std.proofs.lemmas.Bool.{eqb-true}
 use Rattle.std.proofs.lemmas.Bool.Decides.{eqb_tells}
 use Rattle.gst_caps.specs.declared.value.One.{One}
 use Rattle.gst_caps.specs.declared.value.One.TheVariants.{Int, Bool as Truth, Text}
-use Rattle.caps_text.specs.Answers.{Answer, Stop, misspelt, many, ◌>>=◌, found}
+use Rattle.caps_text.specs.Answers.{Answer, ◌>>=◌, found}
 use Rattle.caps_text.specs.Bytes.{in_class, is_digit, is_letter, is_sign}
 use Rattle.caps_text.specs.Grammar.{Then, As, Sure, Is, Spaces, Mark, Run, Number, Wanted_number, Pair, Quotient, Bare_word, Untyped, In_quotes, Some_string, Truth_value, Single_value, Range, Member, is_space}
 use Rattle.caps_text.specs.Ratio.{ratio}
-use Rattle.caps_text.specs.Reading.{after_byte, behind_spaces, expect, is_wanted, judge, judge_number, judge_pair, judge_words, least_number, range, read_fraction, read_mark, read_member, read_member_from, read_number, read_pair, read_quoted, read_range, read_single, read_string, read_truth, read_untyped, read_untyped_from, some_run, takes_ranges, whole, whole_number, whole_pair}
+use Rattle.caps_text.specs.Reading.{after_byte, behind_spaces, expect, judge, judge_number, judge_pair, judge_words, least_number, range, read_fraction, read_mark, read_member, read_member_from, read_number, read_pair, read_quoted, read_range, read_single, read_string, read_truth, read_untyped, read_untyped_from, some_run, takes_ranges, whole, whole_number, whole_pair}
 use Rattle.caps_text.specs.declared.class.Class.TheVariants.{Word}
 use Rattle.caps_text.specs.declared.kind.Kind.{Kind}
 use Rattle.caps_text.specs.declared.kind.Kind.TheVariants.{Int as Whole, Bool as Either, Text as Words, Fraction as Quotients}
 use Rattle.caps_text.specs.declared.number.Wanted.TheVariants.{AtLeast, Denominator}
 use Rattle.caps_text.proofs.Choices.{Behind, is_byte, reads_choice, reads_iff}
 use Rattle.caps_text.proofs.Numbers.{reads_number, reads_any_number, number_starts}
-use Rattle.caps_text.proofs.Readers.{IsReader, Reads_front, Stops, Starts, nothing, ok_is, some_is, bind_ok, found_ok, reads_then, reads_as, reads_sure, reads_weaker, reads_any, stops_nothing, starts_stop, starts_more}
+use Rattle.caps_text.proofs.Readers.{IsReader, Stops, Starts, nothing, ok_is, some_is, reads_then, reads_as, reads_sure, reads_weaker, reads_any, stops_nothing, starts_stop, starts_more}
 use Rattle.caps_text.proofs.Strings.{To_quote, reads_to_quote, reads_string, reads_truth, word_apart}
 use Rattle.caps_text.proofs.Words.{reads_byte, reads_mark, reads_run, reads_spaces, skipping, starts_is, starts_mark, starts_spaces}
 

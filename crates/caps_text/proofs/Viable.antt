@@ -1,21 +1,18 @@
 -- What was read of a part that is refused for its spelling begins some text of that part.
-use Rattle.std.proofs.Common.{◌≡◌, ◌≢◌, ℕ, zero, suc, ◌<◌, ◌≤◌, ◌+◌, Bool, true, false, cond, eqb, ◌&&◌, List, [], ◌∷◌, ◌++◌, length, Option, Some, None, Result, Ok, Err, inl, inr, ◌⊎◌, refl, sym, ap, ◌∙◌, subst, arith, append_assoc, append-nil, length-append, codes}
-use Rattle.std.specs.List.{list_all}
+use Rattle.std.proofs.Common.{◌≡◌, ℕ, zero, suc, ◌<◌, ◌+◌, Bool, true, false, cond, eqb, ◌&&◌, List, [], ◌∷◌, ◌++◌, length, Option, Some, None, Ok, Err, inl, inr, refl, sym, ap, ◌∙◌, subst, arith, append_assoc, append-nil, codes}
 use Rattle.std.proofs.lemmas.Bool.{eqb-true, eqb-false}
-use Rattle.std.proofs.lemmas.List.Folds.{list_all-append}
-use Rattle.caps_text.specs.Answers.{Answer, Stop, misspelt, many, ◌>>=◌, found}
+use Rattle.caps_text.specs.Answers.{Answer, Stop, misspelt, many, ◌>>=◌}
 use Rattle.caps_text.specs.Bytes.{in_class}
-use Rattle.caps_text.specs.Grammar.{Then, As, Is, Spaces, Mark, Run, Media_type, Quoted, Repeated, last, more}
-use Rattle.caps_text.specs.Reading.{Next, again, done, after_byte, behind_run, begins, expect, passed, read_literal, read_mark, read_media, read_quoted, repeat, run_of, some_run}
+use Rattle.caps_text.specs.Grammar.{Then, As, Is, Spaces, Mark, Run, Media_type, Repeated, last, more}
+use Rattle.caps_text.specs.Reading.{Next, again, done, after_byte, behind_run, expect, passed, read_literal, read_mark, read_media, read_quoted, repeat, run_of, some_run}
 use Rattle.caps_text.specs.declared.class.Class.{Class}
 use Rattle.caps_text.specs.declared.class.Class.TheVariants.{Media, Name, Word}
-use Rattle.caps_text.proofs.Local.{refused_is, rest_is}
-use Rattle.caps_text.proofs.Numbers.{and-both}
-use Rattle.caps_text.proofs.Readers.{Reads_front, Stops, ok_is}
+use Rattle.caps_text.proofs.Local.{rest_is}
+use Rattle.caps_text.proofs.Readers.{Reads_front}
 use Rattle.caps_text.proofs.Repeats.{IsStep, repeat_again, repeat_done, repeat_refused, shorter}
 use Rattle.caps_text.proofs.Strings.{To_quote}
 use Rattle.caps_text.proofs.Tokens.{after_byte_is}
-use Rattle.caps_text.proofs.Words.{reads_byte, reads_mark, reads_run, reads_spaces, run_splits, skipping}
+use Rattle.caps_text.proofs.Words.{reads_byte, reads_run, reads_spaces, run_splits, skipping}
 
 -- the front before the rest begins a text
 abbrev pub Begins : {V : Type 0} → (List ℕ → V → Type 0) → List ℕ → List ℕ → Type 0
@@ -209,9 +206,13 @@ module _ {S V : Type 0} (Old Step : S → List ℕ → Next S V → Type 0) (end
       passed_on (done v) z e ih = absurd (let bad : Ok (v, z) ≡ Err (misspelt rest) = sym (repeat_done step s v x z e) ∙ h in cc)
       passed_on (again t) z e ih =
           let two = ih t z (shorter Old end step is s t x z e) (sym (repeat_again Old end step is s t x z e) ∙ h) in
-          let one = is.sound s x z (again t) e in
-          (one.0 ++ two.0, two.1, two.2, one.1 ∙ ap (λ l. one.0 ++ l) two.3 ∙ sym (append_assoc one.0 two.0 rest),
-            more s t one.0 (two.0 ++ two.1) ((one.0 ++ two.0) ++ two.1) two.2 (append_assoc one.0 two.0 two.1) (wider s one.0 (again t) one.2) two.4)
+          let one = is.sound s x z (again t) e in (
+            one.0 ++ two.0,
+            two.1,
+            two.2,
+            one.1 ∙ ap (λ l. one.0 ++ l) two.3 ∙ sym (append_assoc one.0 two.0 rest),
+            more s t one.0 (two.0 ++ two.1) ((one.0 ++ two.0) ++ two.1) two.2 (append_assoc one.0 two.0 two.1) (wider s one.0 (again t) one.2) two.4,
+          )
 
       go : (a : Answer (Next S V)) → step s x ≡ a → ((t : S) (y : List ℕ) → length y < length x → repeat step t y ≡ Err (misspelt rest) → Begins (Repeated Step t) y rest) → Begins (Repeated Step s) x rest
       go (Err d) e ih =

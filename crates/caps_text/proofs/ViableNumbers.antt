@@ -1,5 +1,5 @@
 -- What was read of a number that is refused begins a number that is wanted.
-use Rattle.std.proofs.Common.{◌≡◌, ◌≢◌, ℕ, zero, suc, ◌<◌, ◌≤◌, ◌+◌, ◌-◌, ◌*◌, ◌/◌, ◌%◌, ℤ, pos, Bool, true, false, not, cond, eqb, leb, ◌&&◌, ◌||◌, List, [], ◌∷◌, ◌++◌, length, get_or, Option, Some, None, Result, Ok, Err, inl, inr, ◌⊎◌, refl, sym, ap, ◌∙◌, subst, arith, append_assoc, append-nil, codes, leb-true, le-leb, unsigned_abs}
+use Rattle.std.proofs.Common.{◌≡◌, ℕ, zero, suc, ◌<◌, ◌≤◌, ◌+◌, ◌-◌, ◌*◌, ◌/◌, ◌%◌, ℤ, pos, Bool, true, false, not, cond, ◌&&◌, ◌||◌, List, [], ◌∷◌, ◌++◌, length, get_or, Option, Some, None, Ok, Err, inl, inr, ◌⊎◌, refl, sym, ap, ◌∙◌, arith, codes, leb-true, le-leb, unsigned_abs}
 use Rattle.std.specs.Prelude.{is_some, int_le, nat_le}
 use Rattle.std.specs.Bool.{beq}
 use Rattle.std.specs.Int.{IsGcd, is_negative}
@@ -13,11 +13,11 @@ use Rattle.std.proofs.lemmas.Nat.Gcd.{dvd_of_mod-eq-zero, le_of_dvd}
 use Rattle.gst_caps.specs.Fractions.{signed}
 use Rattle.gst_caps.specs.declared.value.One.{One}
 use Rattle.gst_caps.specs.declared.value.One.TheVariants.{Fraction}
-use Rattle.caps_text.specs.Answers.{Answer, Stop, misspelt, many, ◌>>=◌, found}
+use Rattle.caps_text.specs.Answers.{Answer, Stop, misspelt, ◌>>=◌, found}
 use Rattle.caps_text.specs.Bytes.{is_digit}
-use Rattle.caps_text.specs.Grammar.{Digits, Number, Wanted_number, size_after}
+use Rattle.caps_text.specs.Grammar.{Wanted_number, size_after}
 use Rattle.caps_text.specs.Ratio.{divisor, fits, parts, ratio, ratio_of}
-use Rattle.caps_text.specs.Reading.{after_byte, behind_minus, can_begin, digit_at, is_wanted, minus, powers, reaches, reaches_by, read_digits, read_number, read_size, wanted_number}
+use Rattle.caps_text.specs.Reading.{after_byte, behind_minus, can_begin, is_wanted, minus, powers, reaches, reaches_by, read_digits, read_number, read_size, wanted_number}
 use Rattle.caps_text.specs.declared.number.Wanted.{Wanted}
 use Rattle.caps_text.specs.declared.number.Wanted.TheVariants.{AtLeast, Denominator}
 use Rattle.caps_text.proofs.Local.{read_is, refused_is, rest_is}

@@ -1,6 +1,6 @@
 -- What was read of a value that is refused begins some value.
-use Rattle.std.proofs.Common.{◌≡◌, ◌≢◌, ℕ, zero, suc, ◌<◌, ◌≤◌, ◌+◌, ℤ, pos, Bool, true, false, cond, eqb, ◌&&◌, List, [], ◌∷◌, ◌++◌, length, Option, Some, None, Result, Ok, Err, inl, inr, ◌⊎◌, refl, sym, ap, ◌∙◌, subst, arith, append_assoc, append-nil, length-append, codes, leb-true}
-use Rattle.std.specs.Prelude.{is_some, int_le, nat_lt}
+use Rattle.std.proofs.Common.{◌≡◌, ℕ, ◌<◌, ℤ, pos, Bool, true, false, cond, ◌&&◌, List, [], ◌∷◌, ◌++◌, length, Option, Some, None, Ok, Err, inl, inr, refl, sym, ap, ◌∙◌, subst, arith, append_assoc, append-nil, length-append, codes, leb-true}
+use Rattle.std.specs.Prelude.{is_some, int_le}
 use Rattle.std.specs.List.{list_all}
 use Rattle.std.proofs.lemmas.Int.{ints}
 use Rattle.std.proofs.lemmas.List.Folds.{list_all-append}
@@ -8,19 +8,17 @@ use Rattle.gst_caps.specs.Common.{as_value}
 use Rattle.gst_caps.specs.Fractions.{signed}
 use Rattle.gst_caps.specs.declared.value.One.{One}
 use Rattle.gst_caps.specs.declared.value.One.TheVariants.{Int, Bool as Truth, Text}
-use Rattle.gst_caps.specs.declared.value.Value.{Value}
 use Rattle.gst_caps.specs.declared.value.Value.TheVariants.{One as Single}
-use Rattle.caps_text.specs.Answers.{Answer, Stop, misspelt, many, ◌>>=◌, found}
+use Rattle.caps_text.specs.Answers.{Answer, misspelt, ◌>>=◌, found}
 use Rattle.caps_text.specs.Bytes.{in_class, is_digit}
-use Rattle.caps_text.specs.Grammar.{Then, As, Sure, Is, Spaces, Mark, Run, Digits, Number, Wanted_number, Pair, Quotient, Bare_word, Untyped, In_quotes, Some_string, Truth_value, Single_value, Member, Type_word, List_step, List_step_to, Plain_value_to, Field_value_to, Repeated, last, more}
+use Rattle.caps_text.specs.Grammar.{Then, As, Sure, Is, Spaces, Mark, Run, Digits, Number, Wanted_number, Pair, Quotient, Untyped, Some_string, Truth_value, Single_value, Member, Type_word, List_step, List_step_to, Plain_value_to, Field_value_to, Repeated, last}
 use Rattle.caps_text.specs.Kinds.{kind_of, kind_text}
 use Rattle.caps_text.specs.Ratio.{fits, ratio}
-use Rattle.caps_text.specs.Reading.{Next, again, done, after_byte, behind_spaces, begins, begins_run, expect, judge, judge_words, kept_member, least_number, list_step, list_step_from, range, read_fraction, read_kind, read_kind_word, read_list, read_literal, read_mark, read_member, read_member_from, read_members, read_number, read_quoted, read_range, read_single, read_string, read_string_from, read_truth, read_untyped, read_untyped_from, read_value, read_value_from, read_whole_member, repeat, some_run, takes_ranges, within_limit}
+use Rattle.caps_text.specs.Reading.{Next, done, after_byte, behind_spaces, begins, begins_run, expect, judge, judge_words, kept_member, least_number, list_step, list_step_from, range, read_fraction, read_kind, read_kind_word, read_list, read_literal, read_mark, read_member, read_member_from, read_members, read_number, read_quoted, read_range, read_single, read_string, read_string_from, read_truth, read_untyped, read_untyped_from, read_value, read_value_from, read_whole_member, some_run, takes_ranges, within_limit}
 use Rattle.caps_text.specs.declared.class.Class.TheVariants.{Word}
 use Rattle.caps_text.specs.declared.kind.Kind.{Kind}
 use Rattle.caps_text.specs.declared.kind.Kind.TheVariants.{Int as Whole, Bool as Either, Text as Words, Fraction as Quotients}
 use Rattle.caps_text.specs.declared.number.Wanted.TheVariants.{AtLeast, Denominator}
-use Rattle.caps_text.proofs.Choices.{Behind}
 use Rattle.caps_text.proofs.Ended.{ended, member_ended}
 use Rattle.caps_text.proofs.Listed.{Only, from_typed, list_is_step, over_limit, step_to, value_split}
 use Rattle.caps_text.proofs.Local.{rest_is}
@@ -31,7 +29,7 @@ use Rattle.caps_text.proofs.Strings.{To_quote, reads_kind}
 use Rattle.caps_text.proofs.Values.{Range_end, Range_high, Range_tail, any_read, reads_member}
 use Rattle.caps_text.proofs.Viable.{Begins, Filled, IsSound, IsViable, fill_mark, stopped, viable_as, viable_behind, viable_byte, viable_choice, viable_cond, viable_if, viable_literal, viable_mark, viable_never, viable_quoted, viable_repeat, viable_run, viable_same, viable_then, viable_within}
 use Rattle.caps_text.proofs.ViableNumbers.{Possible, even_ratio, number_on}
-use Rattle.caps_text.proofs.Words.{reads_byte, reads_mark, reads_run, skipping}
+use Rattle.caps_text.proofs.Words.{reads_byte, reads_mark, reads_run}
 
 pub fill_then : {V W : Type 0} (P : List ℕ → V → Type 0) (Q : V → List ℕ → W → Type 0) → Filled P → ((used : List ℕ) (v : V) → P used v → Filled (Q v)) → Filled (Then P Q)
 fill_then P Q one two = let t = two one.0 one.1 one.2 in (one.0 ++ t.0, t.1, (one.0, t.0, one.1, refl, one.2, t.2))
@@ -271,10 +269,10 @@ viable_step : (kind : Kind) (members : List One) → IsViable (List_step_to None
 unfolding list_step
 viable_step kind members = viable_if (Then Spaces (λ s. In_any_step kind members)) (List_step_to None kind members) (list_step kind members) (λ text n p. (n, any_words kind members text n p))
     (viable_behind (In_any_step kind members) (λ x. list_step_from kind members x (after_byte 125 x))
-      (viable_choice 125 (Only (done members)) (In_any_step kind members) (λ x. Ok (done members, x)) (λ x. expect 44 x >>= λ m. read_whole_member (Some kind) (behind_spaces m.1) >>= λ one. within_limit (kept_member members one.0) one.1) (list_step_from kind members)
-        (viable_never (Only (done members)) (λ x. (done members, x))) (λ text n p. (n, inl (text, refl, p)))
-        (viable_if (More_members kind members) (In_any_step kind members) _ (λ text n p. (n, inr p)) (viable_more kind members)) (λ x y. refl) (λ x. refl))
-      (codes "}", done members, inl ([], refl, (refl, refl))))
+    (viable_choice 125 (Only (done members)) (In_any_step kind members) (λ x. Ok (done members, x)) (λ x. expect 44 x >>= λ m. read_whole_member (Some kind) (behind_spaces m.1) >>= λ one. within_limit (kept_member members one.0) one.1) (list_step_from kind members)
+    (viable_never (Only (done members)) (λ x. (done members, x))) (λ text n p. (n, inl (text, refl, p)))
+    (viable_if (More_members kind members) (In_any_step kind members) _ (λ text n p. (n, inr p)) (viable_more kind members)) (λ x y. refl) (λ x. refl))
+    (codes "}", done members, inl ([], refl, (refl, refl))))
 
 pub wider_step : (kind : Kind) (members : List One) (text : List ℕ) (n : Next (List One) (List One)) → List_step kind members text n → List_step_to None kind members text n
 wider_step kind members text n (inl h) = inl h
@@ -294,7 +292,7 @@ viable_list : (kind : Option Kind) → IsViable (Any_tail kind) (read_list kind)
 unfolding read_list
 viable_list kind = viable_behind (Any_members kind) (λ x. read_member kind x >>= λ first. read_members first.0 first.1 >>= λ all. Ok (as_value all.0, all.1))
     (viable_then (Member kind) (λ first. As as_value (Repeated (List_step_to None (kind_of first)) (first ∷ []))) (read_member kind) (λ first x. read_members first x >>= λ all. Ok (as_value all.0, all.1)) (reads_member kind).sound (viable_member kind)
-      (λ used first p. viable_as as_value (Repeated (List_step_to None (kind_of first)) (first ∷ [])) (read_members first) (viable_members first)) (λ used first p. fill_members first))
+    (λ used first p. viable_as as_value (Repeated (List_step_to None (kind_of first)) (first ∷ [])) (read_members first) (viable_members first)) (λ used first p. fill_members first))
     (fill_then (Member kind) (λ first. As as_value (Repeated (List_step_to None (kind_of first)) (first ∷ []))) (fill_member kind) (λ used first p. fill_members first))
 
 -- values
@@ -334,8 +332,8 @@ viable_typed = viable_then Type_word (λ kind. Then Spaces (λ s. Plain_value_to
 pub viable_value : IsViable (Field_value_to None) read_value
 viable_value = viable_same (Field_value_to None) (λ x. cond (begins 40 x) (from_typed x) (read_value_from None x (after_byte 123 x))) read_value value_split
     (viable_cond (Field_value_to None) (begins 40) from_typed (λ x. read_value_from None x (after_byte 123 x))
-      (viable_if Typed_any (Field_value_to None) from_typed (λ text v p. (v, inl p)) viable_typed)
-      (viable_if (Plain_value_to None None) (Field_value_to None) (λ x. read_value_from None x (after_byte 123 x)) (λ text v p. (v, inr p)) (viable_plain None)))
+    (viable_if Typed_any (Field_value_to None) from_typed (λ text v p. (v, inl p)) viable_typed)
+    (viable_if (Plain_value_to None None) (Field_value_to None) (λ x. read_value_from None x (after_byte 123 x)) (λ text v p. (v, inr p)) (viable_plain None)))
 
 pub fill_value : Filled (Field_value_to None)
 fill_value = let f = fill_plain None in (f.0, f.1, inr f.2)

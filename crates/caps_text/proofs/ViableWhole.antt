@@ -1,5 +1,5 @@
 -- What was read of a caps text that is refused begins some caps text, limits aside.
-use Rattle.std.proofs.Common.{◌≡◌, ◌≢◌, ℕ, zero, suc, ◌<◌, ◌≤◌, ◌+◌, Bool, true, false, cond, eqb, ◌&&◌, List, [], ◌∷◌, ◌++◌, length, Option, Some, None, Result, Ok, Err, inl, inr, ◌⊎◌, refl, sym, ap, ◌∙◌, subst, arith, append_assoc, append-nil, length-append, codes}
+use Rattle.std.proofs.Common.{◌≡◌, ℕ, zero, suc, ◌<◌, ◌+◌, Bool, true, false, cond, eqb, List, [], ◌∷◌, ◌++◌, length, Option, Some, None, Ok, Err, inl, inr, refl, sym, ap, ◌∙◌, arith, append_assoc, length-append, codes}
 use Rattle.std.specs.Prelude.{is_some, nat_lt}
 use Rattle.std.specs.List.{list_all}
 use Rattle.std.specs.Str.{bytes_eq}
@@ -8,21 +8,20 @@ use Rattle.std.proofs.lemmas.Slice.Eq.{bytes_eq-Decides}
 use Rattle.gst_caps.specs.Accepts.{value_at}
 use Rattle.gst_caps.specs.Description.{Description}
 use Rattle.gst_caps.specs.declared.value.Value.{Value}
-use Rattle.caps_text.specs.Answers.{Answer, Stop, misspelt, many, ◌>>=◌}
+use Rattle.caps_text.specs.Answers.{Answer, misspelt, many, ◌>>=◌}
 use Rattle.caps_text.specs.Bytes.{in_class}
-use Rattle.caps_text.specs.Grammar.{Then, As, Is, Spaces, Mark, Media_type, Field_name, List_step, List_step_to, List_of, List_to, Plain_value, Plain_value_to, Field_value, Field_value_to, Field, Field_to, Rest_of_field_to, Head, Caps_step, Caps_step_to, Structures_to, Repeated, last, more}
+use Rattle.caps_text.specs.Grammar.{Then, As, Is, Spaces, Mark, Media_type, Field_name, List_step, List_step_to, List_of, List_to, Plain_value, Plain_value_to, Field_value, Field_value_to, Field, Field_to, Head, Caps_step, Caps_step_to, Structures_to, Repeated, last, more}
 use Rattle.caps_text.specs.Kinds.{kind_of}
-use Rattle.caps_text.specs.Reading.{Made, Next, again, done, after_byte, bare, behind_run, behind_spaces, caps_step, expect, few_fields, few_structures, kept_member, letter_first, more_from, read_field, read_head, read_mark, read_media, read_more, read_name, read_structures, read_value, read_whole_value, repeat, run_of, with_field}
+use Rattle.caps_text.specs.Reading.{Made, Next, again, done, after_byte, bare, behind_run, behind_spaces, caps_step, expect, few_fields, few_structures, letter_first, more_from, read_field, read_head, read_mark, read_media, read_more, read_name, read_structures, read_value, read_whole_value, repeat, run_of, with_field}
 use Rattle.caps_text.specs.declared.class.Class.TheVariants.{Name}
 use Rattle.caps_text.specs.declared.kind.Kind.{Kind}
-use Rattle.caps_text.proofs.Choices.{Behind}
-use Rattle.caps_text.proofs.Listed.{bind_cond, reads_value}
+use Rattle.caps_text.proofs.Listed.{reads_value}
 use Rattle.caps_text.proofs.Local.{rest_is}
-use Rattle.caps_text.proofs.LocalReaders.{begun, finishing, starting}
+use Rattle.caps_text.proofs.LocalReaders.{finishing, starting}
 use Rattle.caps_text.proofs.LooseWhole.{Any_fields, Any_structure, Any_structures, In_any_more, Set_any, naming, setting}
 use Rattle.caps_text.proofs.Numbers.{and-both}
 use Rattle.caps_text.proofs.Readers.{Reads_front}
-use Rattle.caps_text.proofs.Viable.{Begins, Filled, IsSound, IsViable, fill_mark, fill_media, stopped, viable_as, viable_behind, viable_byte, viable_choice, viable_cond, viable_if, viable_mark, viable_media, viable_never, viable_repeat, viable_same, viable_then, viable_within}
+use Rattle.caps_text.proofs.Viable.{Begins, Filled, IsSound, IsViable, fill_mark, fill_media, stopped, viable_as, viable_behind, viable_byte, viable_choice, viable_cond, viable_if, viable_mark, viable_media, viable_repeat, viable_then, viable_within}
 use Rattle.caps_text.proofs.ViableValues.{fill_then, fill_value, viable_ended, viable_value, wider_step}
 use Rattle.caps_text.proofs.Whole.{Outcome, all_bytes, caps_is_step, lacks_none, marked, one_field, one_structure, reads_head, too_many, value_ended}
 use Rattle.caps_text.proofs.Words.{reads_byte, reads_mark, reads_name}
@@ -187,10 +186,10 @@ viable_more : (made : Made) → IsViable (Caps_step_to None made) (read_more mad
 unfolding read_more
 viable_more made = viable_if (Then Spaces (λ s. In_any_more made)) (Caps_step_to None made) (read_more made) (λ text n p. (n, any_more made text n p))
     (viable_behind (In_any_more made) (λ x. more_from made x (after_byte 44 x))
-      (viable_choice 44 (Any_fields made) (In_any_more made) (λ x. read_field made.1 (behind_spaces x) >>= λ s. Ok (again (made.0, s.0), s.1)) (λ x. expect 59 x >>= λ m. finishing made m.1) (more_from made)
-        (viable_fields made) (λ text n p. (n, inl (text, refl, p)))
-        (viable_if (Any_structures made) (In_any_more made) (λ x. expect 59 x >>= λ m. finishing made m.1) (λ text n p. (n, inr p)) (viable_structures_more made)) (λ x y. refl) (λ x. refl))
-      (let f = fill_one made in (59 ∷ f.0, f.1, inr (59 ∷ [], f.0, tt, refl, refl, ([], f.0, tt, refl, refl, f.2)))))
+    (viable_choice 44 (Any_fields made) (In_any_more made) (λ x. read_field made.1 (behind_spaces x) >>= λ s. Ok (again (made.0, s.0), s.1)) (λ x. expect 59 x >>= λ m. finishing made m.1) (more_from made)
+    (viable_fields made) (λ text n p. (n, inl (text, refl, p)))
+    (viable_if (Any_structures made) (In_any_more made) (λ x. expect 59 x >>= λ m. finishing made m.1) (λ text n p. (n, inr p)) (viable_structures_more made)) (λ x y. refl) (λ x. refl))
+    (let f = fill_one made in (59 ∷ f.0, f.1, inr (59 ∷ [], f.0, tt, refl, refl, ([], f.0, tt, refl, refl, f.2)))))
 
 abbrev ending : List (Description Value) → Outcome
 ending all = done all

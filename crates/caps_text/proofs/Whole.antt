@@ -1,22 +1,22 @@
 -- Readers of fields, structures and whole texts.
-use Rattle.std.proofs.Common.{◌≡◌, ◌≢◌, ℕ, zero, suc, ◌<◌, ◌≤◌, ◌+◌, Bool, true, false, cond, eqb, ◌||◌, ◌&&◌, List, [], ◌∷◌, ◌++◌, length, Option, Some, None, Result, Ok, Err, inl, inr, ◌⊎◌, refl, sym, ap, ◌∙◌, subst, arith, append_assoc, append-nil, length-append, codes, ltb-false, le-ltb}
+use Rattle.std.proofs.Common.{◌≡◌, ℕ, suc, ◌<◌, ◌≤◌, Bool, true, false, cond, eqb, ◌||◌, ◌&&◌, List, [], ◌∷◌, ◌++◌, length, Option, Some, None, Ok, Err, inl, inr, ◌⊎◌, refl, sym, ap, ◌∙◌, subst, arith, append_assoc, length-append, ltb-false, le-ltb}
 use Rattle.std.specs.Prelude.{is_some, nat_lt}
 use Rattle.std.specs.List.{list_all}
-use Rattle.std.proofs.lemmas.Bool.{eqb-true, eqb-false, ne_eqb}
+use Rattle.std.proofs.lemmas.Bool.{eqb-true, ne_eqb}
 use Rattle.gst_caps.specs.Accepts.{value_at}
 use Rattle.gst_caps.specs.Description.{Description}
 use Rattle.gst_caps.specs.declared.value.Value.{Value}
-use Rattle.caps_text.specs.Answers.{Answer, Stop, misspelt, many, ◌>>=◌, found}
-use Rattle.caps_text.specs.Bytes.{in_class, is_digit, is_letter, is_sign}
+use Rattle.caps_text.specs.Answers.{Answer, Stop, misspelt, many, ◌>>=◌}
+use Rattle.caps_text.specs.Bytes.{in_class, is_letter}
 use Rattle.caps_text.specs.Grammar.{Then, As, Is, Spaces, Mark, Run, Media_type, Field_name, Field_value, Field, Rest_of_field, Head, Caps_step, Structures, Repeated, last, more, is_space}
 use Rattle.caps_text.specs.Reading.{Made, Next, again, done, after_byte, bare, behind_spaces, caps_step, expect, few_fields, few_structures, more_from, read_field, read_head, read_mark, read_media, read_more, read_name, read_structures, read_value, read_whole_value, repeat, with_field}
 use Rattle.caps_text.specs.declared.class.Class.TheVariants.{Media, Name, Word}
-use Rattle.caps_text.proofs.Choices.{Behind, is_byte, reads_choice, reads_iff, starts_apart}
+use Rattle.caps_text.proofs.Choices.{Behind, is_byte, reads_choice, reads_iff}
 use Rattle.caps_text.proofs.Ended.{ended, ended_is, reads_ended}
 use Rattle.caps_text.proofs.Listed.{bind_cond, reads_same, reads_value, value_opens}
-use Rattle.caps_text.proofs.Readers.{IsReader, Reads_front, Stops, Starts, nothing, ok_is, bind_ok, reads_then, reads_as, reads_weaker, reads_any, stops_nothing, starts_stop, starts_more}
+use Rattle.caps_text.proofs.Readers.{IsReader, Reads_front, Stops, Starts, nothing, ok_is, reads_then, reads_as, reads_weaker, stops_nothing, starts_stop, starts_more}
 use Rattle.caps_text.proofs.Repeats.{Within, IsStep, reads_within, reads_repeat}
-use Rattle.caps_text.proofs.Words.{passes, reads_byte, reads_mark, reads_media, reads_name, reads_spaces, skipping, starts_is, starts_mark, starts_spaces}
+use Rattle.caps_text.proofs.Words.{reads_byte, reads_mark, reads_media, reads_name, reads_spaces, skipping, starts_is, starts_mark}
 
 -- a part that is read unless something forbids it
 module _ {V : Type 0} (P : List ℕ → V → Type 0) (test : ℕ → Bool) (r : List ℕ → Answer V) (first : IsReader P test r) (b : Bool) (e : List ℕ → Stop) where

@@ -1,16 +1,15 @@
 -- Readers of marks, spaces, runs, words and quoted strings.
-use Rattle.std.proofs.Common.{◌≡◌, ◌≢◌, ℕ, zero, suc, ◌<◌, ◌≤◌, ◌+◌, Bool, true, false, cond, eqb, ◌&&◌, List, [], ◌∷◌, ◌++◌, length, Option, Some, None, Result, Ok, Err, inl, inr, ◌⊎◌, refl, sym, ap, ◌∙◌, subst, arith, append_assoc, append-nil, length-append, codes}
-use Rattle.std.specs.List.{list_all, take_while}
+use Rattle.std.proofs.Common.{◌≡◌, ◌≢◌, ℕ, ◌<◌, Bool, true, false, cond, eqb, ◌&&◌, List, [], ◌∷◌, ◌++◌, length, Option, Some, None, Ok, Err, inl, inr, refl, sym, ap, ◌∙◌, subst, arith, codes}
+use Rattle.std.specs.List.{list_all}
 use Rattle.std.proofs.lemmas.Bool.{eq-eqb, eqb-false, ne_eqb}
 use Rattle.std.proofs.lemmas.Bool.Decides.{eqb_tells}
-use Rattle.std.proofs.lemmas.List.Sums.{take_while-cons}
-use Rattle.caps_text.specs.Answers.{Answer, Stop, misspelt, many, ◌>>=◌, found}
+use Rattle.caps_text.specs.Answers.{Answer, misspelt, ◌>>=◌}
 use Rattle.caps_text.specs.Bytes.{in_class, is_letter}
-use Rattle.caps_text.specs.Grammar.{Then, As, Sure, Is, Spaces, Mark, Run, Field_name, Media_type, Quoted, In_quotes, Truth_value, Some_string, is_space}
-use Rattle.caps_text.specs.Reading.{after_byte, behind_run, behind_spaces, expect, letter_first, passed, read_literal, read_mark, read_media, read_name, read_quoted, read_string, read_string_from, read_truth, run_of, some_run, begins}
+use Rattle.caps_text.specs.Grammar.{Then, As, Is, Spaces, Mark, Run, Field_name, Media_type, is_space}
+use Rattle.caps_text.specs.Reading.{after_byte, behind_run, behind_spaces, expect, letter_first, passed, read_literal, read_mark, read_media, read_name, run_of, some_run}
 use Rattle.caps_text.specs.declared.class.Class.{Class}
-use Rattle.caps_text.specs.declared.class.Class.TheVariants.{Media, Name, Word}
-use Rattle.caps_text.proofs.Readers.{IsReader, Reads_front, Stops, Starts, nothing, ok_is, some_is, bind_ok, reads_then, reads_as, reads_sure, reads_weaker, reads_any, stops_nothing, starts_stop, starts_more}
+use Rattle.caps_text.specs.declared.class.Class.TheVariants.{Media, Name}
+use Rattle.caps_text.proofs.Readers.{IsReader, Reads_front, Stops, Starts, nothing, ok_is, bind_ok, reads_then, reads_as, stops_nothing, starts_stop, starts_more}
 use Rattle.caps_text.proofs.Tokens.{after_byte_is}
 
 pub passes : (mark : ℕ) (rest : List ℕ) → after_byte mark (mark ∷ rest) ≡ Some rest

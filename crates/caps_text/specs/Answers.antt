@@ -1,5 +1,5 @@
 -- What a function that reads a part of a text answers.
-use Rattle.std.specs.Prelude.{◌≡◌, ℕ, List, Result, Ok, Err, Option, Some, None, Bool, cond}
+use Rattle.std.specs.Prelude.{◌≡◌, ℕ, List, Result, Ok, Err, Option, Some, None}
 use Rattle.caps_text.specs.declared.fault.Misspelt.{Misspelt}
 use Rattle.caps_text.specs.declared.fault.Refusal.{Refusal}
 use Rattle.caps_text.specs.declared.fault.Refusal.TheVariants.{Misspelt as Misspelling, TooMany, OutOfMemory}

@@ -1,5 +1,5 @@
 -- The grammar of caps texts: which text stands for which value, part by part.
-use Rattle.std.specs.Prelude.{◌≡◌, ◌≢◌, ℕ, ◌+◌, ◌-◌, ◌*◌, ◌<◌, ◌≤◌, ◌==◌, ◌++◌, ◌⊎◌, ℤ, Bool, true, false, List, [], ◌∷◌, Option, Some, None, length, codes, ⊤}
+use Rattle.std.specs.Prelude.{◌≡◌, ◌≢◌, ℕ, ◌+◌, ◌-◌, ◌*◌, ◌<◌, ◌≤◌, ◌==◌, ◌++◌, ◌⊎◌, ℤ, Bool, true, false, List, [], ◌∷◌, Option, Some, None, length, codes}
 use Rattle.std.specs.List.{list_all}
 use Rattle.gst_caps.specs.Accepts.{value_at}
 use Rattle.gst_caps.specs.Common.{as_value}
@@ -11,7 +11,7 @@ use Rattle.gst_caps.specs.declared.value.One.{One}
 use Rattle.gst_caps.specs.declared.value.One.TheVariants.{Int, Bool as Truth, Text}
 use Rattle.gst_caps.specs.declared.value.Value.{Value}
 use Rattle.gst_caps.specs.declared.value.Value.TheVariants.{One as Single}
-use Rattle.caps_text.specs.Bytes.{in_class, is_digit, is_letter}
+use Rattle.caps_text.specs.Bytes.{in_class, is_digit}
 use Rattle.caps_text.specs.Kinds.{kind_of, kind_text}
 use Rattle.caps_text.specs.Ratio.{fits, ratio}
 use Rattle.caps_text.specs.Reading.{Made, Next, again, bare, done, is_wanted, judge_words, kept_member, letter_first, range, takes_ranges, with_field}
@@ -20,7 +20,7 @@ use Rattle.caps_text.specs.declared.class.Class.TheVariants.{Media, Name, Word}
 use Rattle.caps_text.specs.declared.kind.Kind.{Kind}
 use Rattle.caps_text.specs.declared.kind.Kind.TheVariants.{Int as Whole, Bool as Either, Text as Words, Fraction as Ratio}
 use Rattle.caps_text.specs.declared.number.Wanted.{Wanted}
-use Rattle.caps_text.specs.declared.number.Wanted.TheVariants.{AtLeast, Denominator}
+use Rattle.caps_text.specs.declared.number.Wanted.TheVariants.{AtLeast}
 
 -- one part and then another
 abbrev pub Then : {V W : Type 0} → (List ℕ → V → Type 0) → (V → List ℕ → W → Type 0) → List ℕ → W → Type 0

@@ -1,5 +1,5 @@
 -- Where a text has too many of a kind: 64 members of a list, fields of a structure and structures are the most.
-use Rattle.std.specs.Prelude.{◌≡◌, ℕ, ◌<◌, ◌≤◌, ◌++◌, ◌⊎◌, Bool, false, List, [], ◌∷◌, Option, Some, None, Result, Ok, Err, length, codes}
+use Rattle.std.specs.Prelude.{◌≡◌, ℕ, ◌<◌, ◌≤◌, ◌++◌, ◌⊎◌, false, List, [], ◌∷◌, Option, Some, None, Result, Ok, Err, length, codes}
 use Rattle.gst_caps.specs.Accepts.{value_at}
 use Rattle.gst_caps.specs.Description.{Description}
 use Rattle.gst_caps.specs.declared.caps.Caps.{Caps}

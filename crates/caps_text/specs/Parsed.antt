@@ -4,7 +4,7 @@ use Rattle.gst_caps.specs.Description.{Description}
 use Rattle.gst_caps.specs.declared.caps.Caps.{Caps}
 use Rattle.gst_caps.specs.declared.caps.Caps.TheVariants.{Of}
 use Rattle.gst_caps.specs.declared.value.Value.{Value}
-use Rattle.caps_text.specs.Answers.{Answer, Stop, misspelt, many}
+use Rattle.caps_text.specs.Answers.{Answer, misspelt, many}
 use Rattle.caps_text.specs.declared.fault.Refusal.{Refusal}
 use Rattle.caps_text.specs.declared.fault.Refusal.TheVariants.{Misspelt as Misspelling, TooMany as TooManyOfAKind, OutOfMemory as NoMemory}
 use Rattle.caps_text.specs.declared.fault.CapsTextFault.{CapsTextFault}

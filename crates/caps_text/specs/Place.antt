@@ -1,7 +1,7 @@
 -- Where a text is refused: how long its beginning is that some caps text begins with, limits aside.
-use Rattle.std.specs.Prelude.{◌≡◌, ℕ, ◌<◌, ◌≤◌, ◌++◌, ◌⊎◌, List, [], ◌∷◌, None, Result, Ok, Err, length, take, drop, codes}
+use Rattle.std.specs.Prelude.{◌≡◌, ℕ, ◌<◌, ◌≤◌, ◌++◌, List, None, length, take}
 use Rattle.gst_caps.specs.declared.caps.Caps.{Caps}
-use Rattle.caps_text.specs.Grammar.{IsCapsText, IsCapsTextTo}
+use Rattle.caps_text.specs.Grammar.{IsCapsTextTo}
 use Rattle.caps_text.specs.Parsed.{as_place}
 use Rattle.caps_text.specs.declared.fault.CapsTextFault.{CapsTextFault}
 use Rattle.caps_text.specs.declared.fault.CapsTextFault.TheVariants.{BadCaps, TooMany, OutOfMemory}

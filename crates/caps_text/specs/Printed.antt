@@ -1,5 +1,5 @@
 -- The text of caps.
-use Rattle.std.specs.Prelude.{ℕ, ℤ, Bool, cond, ◌==◌, ◌||◌, true, false, List, [], ◌∷◌, ◌++◌, Option, Some, None, codes}
+use Rattle.std.specs.Prelude.{ℕ, Bool, cond, ◌==◌, ◌||◌, true, false, List, [], ◌∷◌, ◌++◌, Option, Some, None, codes}
 use Rattle.std.specs.Fmt.{signed_decimal}
 use Rattle.std.specs.List.{flat_map}
 use Rattle.gst_caps.specs.Description.{Description}

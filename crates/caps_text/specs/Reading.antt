@@ -1,7 +1,6 @@
 -- How the parts of a caps text are read, from the front on.
-use Rattle.std.specs.Prelude.{ℕ, ◌+◌, ◌-◌, ◌*◌, ◌/◌, ◌==◌, ◌++◌, ℤ, pos, Bool, true, false, cond, not, ◌&&◌, ◌||◌, List, [], ◌∷◌, Option, Some, None, Ok, Err, is_some, length, drop, codes, nat_le, nat_lt, int_le, suc, zero}
+use Rattle.std.specs.Prelude.{ℕ, ◌+◌, ◌-◌, ◌*◌, ◌/◌, ◌==◌, ◌++◌, ℤ, pos, Bool, true, false, cond, ◌&&◌, ◌||◌, List, [], ◌∷◌, Option, Some, None, Ok, Err, is_some, length, codes, nat_le, nat_lt, int_le, suc, zero}
 use Rattle.std.specs.List.{list_any}
-use Rattle.std.specs.Option.{option_map}
 use Rattle.std.specs.Ordering.{int_eq}
 use Rattle.std.specs.Str.{bytes_eq}
 use Rattle.gst_caps.specs.Accepts.{value_at}
@@ -13,7 +12,7 @@ use Rattle.gst_caps.specs.declared.value.One.{One}
 use Rattle.gst_caps.specs.declared.value.One.TheVariants.{Int, Bool as Truth, Text, IntRange}
 use Rattle.gst_caps.specs.declared.value.Value.{Value}
 use Rattle.gst_caps.specs.declared.value.Value.TheVariants.{One as Single}
-use Rattle.caps_text.specs.Answers.{Answer, Stop, misspelt, many, ◌>>=◌, found}
+use Rattle.caps_text.specs.Answers.{Answer, misspelt, many, ◌>>=◌, found}
 use Rattle.caps_text.specs.Bytes.{in_class, is_digit, is_letter}
 use Rattle.caps_text.specs.Kinds.{kind_of}
 use Rattle.caps_text.specs.Ratio.{fits, ratio}

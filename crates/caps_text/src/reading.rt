@@ -1,5 +1,5 @@
 //! Reads caps.
-ghost use Rattle.std.specs.Prelude.{◌≡◌, ◌≢◌, ◌-◌, codes, IfOk, IfErr};
+ghost use Rattle.std.specs.Prelude.{◌≡◌, ◌-◌, IfOk, IfErr};
 ghost use Rattle.gst_caps.specs.declared.caps.Caps.{Caps as Wanted};
 ghost use Rattle.caps_text.specs.Grammar.{IsCapsText};
 ghost use Rattle.caps_text.specs.Limits.{TellsExcess};
@@ -46,13 +46,16 @@ fn parse_structures(alloc: Global, text: &str) -> Result<Caps, CapsTextFault>
 
 /// The caps for which the text stands: `ANY`, `EMPTY`, or structures such as
 /// `audio/x-raw, format={ S16LE, U8 }, rate=[ 8000, 48000 ]` with `;` between them.
+///
+/// A text that is none is refused with `BadCaps` and the length in bytes of its longest beginning with which some caps
+/// text begins, limits aside. Where a list, a structure or the text has a 65th member, field or structure before that,
+/// it is refused with `TooMany`.
 pub fn parse(alloc: Global, text: &str) -> Result<Caps, CapsTextFault>
     ensures found { IfOk result (λ caps. IsCapsText text.now caps) }
     ensures only { (caps : Wanted) → IsCapsText text.now caps → AnswersCaps result caps }
     ensures fault { IfErr result (IsFaultOf text.now) }
     ensures place { IfErr result (IsPlace text.now) }
     ensures many { TellsExcess text.now result }
-    ensures exact { text.now ≢ codes "ANY" → text.now ≢ codes "EMPTY" → Told text.now result (read_structures text.now) }
 {
     if text == "ANY" {
         return Ok(Caps::Any);

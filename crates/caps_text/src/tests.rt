@@ -352,6 +352,10 @@ fn limits(rt: HostRuntime) -> Result<(), Fail> {
     check_limit(&rt, alloc, 63, "a/a", ("; a/b", ""), "")?;
     let late = numbered(alloc, 65, "a/b", (", x", "=1"), "!")?;
     assert_eq!(rt; read(alloc, late.as_str())?.as_str(), "more 65");
+    let joined = numbered(alloc, 65, "a/b, x=(int){0", (", ", ""), "x }")?;
+    assert_eq!(rt; read(alloc, joined.as_str())?.as_str(), "bad 264");
+    let apart = numbered(alloc, 65, "a/b, x=(int){0", (", ", ""), " x }")?;
+    assert_eq!(rt; read(alloc, apart.as_str())?.as_str(), "more 65");
     let early = numbered(alloc, 64, "a/b", (", x", "=1"), "!, y=1")?;
     assert_eq!(rt; read(alloc, early.as_str())?.as_str(), "bad 441");
     assert_eq!(rt; read(alloc, "a/b,\tx=1")?.as_str(), "bad 4");

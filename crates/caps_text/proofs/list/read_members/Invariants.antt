@@ -1,6 +1,5 @@
 use Rattle.std.proofs.Common.{◌≡◌, ◌≤◌, length}
 use Rattle.caps_text.specs.Reading.{list_step, read_members, repeat}
-use Rattle.caps_text.proofs.Loops.{list_again}
 use Rattle.caps_text.proofs.list.read_members.Given as goal
 
 abbrev pub invariant-loop-members : goal.invariant-loop-members

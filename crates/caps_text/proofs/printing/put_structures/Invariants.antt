@@ -1,6 +1,6 @@
 use Rattle.std.proofs.Common.{◌≡◌, ◌++◌, codes, drop}
 use Rattle.std.specs.String.{string_bytes}
-use Rattle.caps_text.specs.Printed.{joined_behind, one_text, structure_text, value_text}
+use Rattle.caps_text.specs.Printed.{joined_behind, structure_text, value_text}
 use Rattle.caps_text.proofs.printing.put_structures.Given as goal
 
 abbrev pub invariant-loop-other : goal.invariant-loop-other

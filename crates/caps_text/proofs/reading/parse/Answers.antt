@@ -22,15 +22,6 @@ returns-clause-only c caps h = told_only c.args.text.now c.parse_structures.resu
     (λ e. let yes = (bytes_eq-Decides c.args.text.now (codes "EMPTY")).1 e in let no = c.if-eq-2.ensures in cc)
     c.parse_structures.ensures h
 
-pub returns-then-eq-clause-exact : goal.returns-then-eq-clause-exact
-returns-then-eq-clause-exact c a e = absurd (a ((bytes_eq-Decides c.args.text.now (codes "ANY")).0 (sym c.if-eq.ensures)))
-
-pub returns-then-eq-2-clause-exact : goal.returns-then-eq-2-clause-exact
-returns-then-eq-2-clause-exact c a e = absurd (e ((bytes_eq-Decides c.args.text.now (codes "EMPTY")).0 (sym c.if-eq-2.ensures)))
-
-pub returns-clause-exact : goal.returns-clause-exact
-returns-clause-exact c a e = c.parse_structures.ensures
-
 pub returns-clause-place : goal.returns-clause-place
 returns-clause-place c = told_place c.args.text.now c.parse_structures.result c.parse_structures.ensures
 

@@ -1,7 +1,7 @@
 -- A part more, the end, or a refusal.
-use Rattle.std.proofs.Common.{sym, ◌∙◌, arith, length, ◌<◌}
+use Rattle.std.proofs.Common.{sym, ◌∙◌, arith, length}
 use Rattle.std.proofs.lemmas.Bool.{eqb-false, eqb-true}
-use Rattle.caps_text.specs.Reading.{read_more, repeat, caps_step, few_structures}
+use Rattle.caps_text.specs.Reading.{read_more, repeat, caps_step}
 use Rattle.caps_text.proofs.Loops.{caps_again, caps_refused, caps_shorter, gives_end, gives_same, refused_too}
 use Rattle.caps_text.proofs.structures.read_structures.Goals as goal
 

@@ -1,4 +1,4 @@
-use Rattle.std.proofs.Common.{◌≡◌, length, drop}
+use Rattle.std.proofs.Common.{◌≡◌, drop}
 use Rattle.caps_text.specs.Reading.{read_literal}
 use Rattle.caps_text.proofs.scanner.Scanner.word.Given as goal
 
