@@ -1,5 +1,5 @@
 -- Why words are refused.
-use Rattle.std.specs.Prelude.{◌≡◌, ℕ, Bool, true, false, cond, List, ⊤}
+use Rattle.std.specs.Prelude.{◌≡◌, ℕ, Bool, true, false, cond, List, [], ⊤}
 use Rattle.clap.specs.Takes.{takes}
 use Rattle.clap.specs.Values.{kind_of}
 use Rattle.clap.specs.declared.error.Error.{Error}
@@ -22,3 +22,9 @@ abbrev pub RefusedFor : List (List ℕ) → WordsFault → Type 0
 RefusedFor words Words = takes the_app words ≡ false
 RefusedFor words NoLine = ⊥
 RefusedFor words OutOfMemory = ⊤
+
+-- there are no words of a line, or memory is wanted
+abbrev pub LacksLine : List (List ℕ) → WordsFault → Type 0
+LacksLine words Words = ⊥
+LacksLine words NoLine = words ≡ []
+LacksLine words OutOfMemory = ⊤

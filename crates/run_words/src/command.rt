@@ -1,15 +1,17 @@
 //! The command whose words the program takes, and what its matches say.
-ghost use Rattle.std.specs.Prelude.{◌≡◌, true, false, IfOk, IfErr, map, MatchOption};
+ghost use Rattle.std.specs.Prelude.{◌≡◌, ◌≢◌, [], true, false, IfOk, IfErr, map, MatchOption};
 ghost use Rattle.std.specs.String.{string_bytes};
 ghost use Rattle.std.specs.Str.Parse.{digits_value};
 ghost use Rattle.clap.specs.Words.{app_of, found_of, matches_of, rows_of, takes};
 ghost use Rattle.run_words.specs.Command.{the_app};
-ghost use Rattle.run_words.specs.Refused.{RefusedFor};
-ghost use Rattle.run_words.specs.Said.{is_bare, is_number, line_words_in, order_holds, order_in, quiet_in, threads_hold, threads_in};
+ghost use Rattle.run_words.specs.Line.{joined};
+ghost use Rattle.run_words.specs.Refused.{LacksLine, RefusedFor};
+ghost use Rattle.run_words.specs.Said.{is_bare, is_number, is_on, is_switch, line_words_in, order_holds, order_in, quiet_in, threads_hold, threads_in};
 
 use crate::fault::WordsFault;
-use clap::parser::ValueSource;
+use crate::line::join_words;
 use clap::{Arg, ArgAction, ArgMatches, Command, value_parser};
+use gst_caps::Text;
 use std::alloc::{AllocError, Global};
 
 /// The program's command: `[--threads on|off] [--order N] [--quiet] WORD...`.
@@ -45,14 +47,24 @@ pub(crate) fn match_words<'a>(
     Ok(matches)
 }
 
-/// Whether tasks have threads of their own: with `on`, and where nothing is said.
+/// Whether the value of a switch is `on`.
+fn read_switch(text: &str) -> Option<bool>
+    ensures { MatchOption result (is_switch text.now ≡ false) (λ on. (is_switch text.now ≡ true) × (on ≡ is_on text.now)) }
+{
+    match text {
+        "on" => Some(true),
+        "off" => Some(false),
+        _ => None,
+    }
+}
+
+/// Whether tasks have threads of their own: where `off` is not said.
 pub(crate) fn threads_of(matches: &ArgMatches<'_>) -> Option<bool>
     ensures { MatchOption result (threads_hold (rows_of (found_of matches.now)) ≡ false) (λ threads. (threads_hold (rows_of (found_of matches.now)) ≡ true) × (threads ≡ threads_in (rows_of (found_of matches.now)))) }
 {
     match matches.get_str("threads") {
-        None | Some("on") => Some(true),
-        Some("off") => Some(false),
-        Some(_) => None,
+        None => Some(true),
+        Some(text) => read_switch(text),
     }
 }
 
@@ -71,11 +83,10 @@ fn is_bare(digits: &str) -> bool
 fn read_number(digits: &str) -> Option<u64>
     ensures { MatchOption result (is_number digits.now ≡ false) (λ number. (is_number digits.now ≡ true) × (number ≡ digits_value 10 digits.now)) }
 {
-    if is_bare(digits) {
-        digits.parse::<u64>().ok()
-    } else {
-        None
+    if !is_bare(digits) {
+        return None;
     }
+    digits.parse::<u64>().ok()
 }
 
 /// The number from which turns are drawn: 0 where nothing is said.
@@ -92,12 +103,19 @@ pub(crate) fn order_of(matches: &ArgMatches<'_>) -> Option<u64>
 pub(crate) fn quiet_of(matches: &ArgMatches<'_>) -> bool
     ensures { result ≡ quiet_in (rows_of (found_of matches.now)) }
 {
-    matches.value_source("quiet") == Some(ValueSource::CommandLine)
+    match matches.get_str("quiet") {
+        None => false,
+        Some(text) => text == "true",
+    }
 }
 
-/// The words of the line.
-pub(crate) fn line_words_of<'m, 'a: 'm>(matches: &'m ArgMatches<'a>) -> &'m [&'a str]
-    ensures { map (λ word. word.now) result.now ≡ line_words_in (rows_of (found_of matches.now)) }
+/// The line that the words make.
+pub(crate) fn line_of(alloc: Global, matches: &ArgMatches<'_>) -> Result<Text, WordsFault>
+    ensures line { IfOk result (λ line. (line_words_in (rows_of (found_of matches.now)) ≢ []) × (line ≡ joined (line_words_in (rows_of (found_of matches.now))))) }
+    ensures missing { IfErr result (LacksLine (line_words_in (rows_of (found_of matches.now)))) }
 {
-    matches.get_strs("WORD").unwrap_or(&[])
+    match matches.get_strs("WORD") {
+        Some(words) if !words.is_empty() => Ok(join_words(alloc, words)?),
+        _ => Err(WordsFault::NoLine),
+    }
 }

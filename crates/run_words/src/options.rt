@@ -3,9 +3,8 @@ ghost use Rattle.std.specs.Prelude.{◌≡◌, ◌≢◌, false, [], map, IfOk, 
 ghost use Rattle.std.specs.String.{string_bytes};
 ghost use Rattle.run_words.specs.Said.{line_words, options_of, takes_words};
 
-use crate::command::{line_words_of, match_words, order_of, quiet_of, threads_of};
+use crate::command::{line_of, match_words, order_of, quiet_of, threads_of};
 use crate::fault::WordsFault;
-use crate::line::join_words;
 use gst_caps::Text;
 use std::alloc::Global;
 
@@ -33,14 +32,11 @@ pub fn read_words(alloc: Global, words: &[String]) -> Result<Options, WordsFault
     let matches = match_words(alloc, words)?;
     let threads = threads_of(&matches).ok_or(WordsFault::Words)?;
     let order = order_of(&matches).ok_or(WordsFault::Words)?;
-    let line_words = line_words_of(&matches);
-    if line_words.is_empty() {
-        return Err(WordsFault::NoLine);
-    }
+    let line = line_of(alloc, &matches)?;
     Ok(Options {
         threads,
         order,
         quiet: quiet_of(&matches),
-        line: join_words(alloc, line_words)?,
+        line,
     })
 }
