@@ -7,11 +7,14 @@ ghost use Rattle.run_words.specs.Line.{joined, with_backslashes, with_more};
 use gst_caps::{OutOfMemory, Text};
 use std::alloc::Global;
 
+/// What stands between two words, and behind a backslash inside of a word.
+const SPACE: char = ' ';
+
 /// Puts a character, with a backslash before it where it is a space.
 fn put_character(into: &mut String, character: char) -> Result<(), OutOfMemory>
     ensures { OnOk result (string_bytes into.new ≡ string_bytes into.old ++ with_backslashes (encode_utf8 character)) }
 {
-    if character == ' ' {
+    if character == SPACE {
         into.push('\\')?;
     }
     into.push(character)?;
