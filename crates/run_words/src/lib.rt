@@ -1,0 +1,14 @@
+//! The words of the program: its options, and the line that the other words make.
+#![tactic(auto)]
+
+mod command;
+pub mod fault;
+mod line;
+mod options;
+
+pub use fault::WordsFault;
+pub use line::join_words;
+pub use options::{Options, read_words};
+
+#[cfg(test)]
+mod tests;
