@@ -1,9 +1,7 @@
 //! Bytes that are cut into buffers of as many frames.
-ghost use Rattle.std.specs.Prelude.{◌≡◌, ◌<◌, ◌≤◌, ◌^◌, ◌+◌, ◌*◌, ◌++◌, ◌∷◌, [], Ok, IfOk, OnOk, OnErr, IfErr, IsOk};
+ghost use Rattle.std.specs.Prelude.{◌≡◌, ◌<◌, ◌≤◌, ◌^◌, ◌+◌, ◌*◌, ◌++◌, ◌∷◌, [], Ok, IfOk, OnOk, IfErr, IsOk};
 ghost use Rattle.flow_model.specs.Item.{Buf};
 ghost use Rattle.flow_model.specs.Feeding.{on_pad, IsFaultOf};
-ghost use Rattle.audio_info.specs.Packing.{sample_width};
-ghost use Rattle.el_parse.specs.Part.{end_of};
 ghost use Rattle.el_parse.specs.Parses.{answered};
 ghost use Rattle.el_parse.specs.Streams.{stream_by};
 ghost use Rattle.el_parse.specs.Splits.{timed, whole_count, whole_pieces, left_behind, reached_by};

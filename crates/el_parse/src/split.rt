@@ -1,13 +1,12 @@
 //! The element that cuts raw audio into buffers of as many frames, as GStreamer's audiobuffersplit.
-ghost use Rattle.std.specs.Prelude.{◌≡◌, ◌≤◌, ◌<◌, ◌^◌, ◌+◌, ◌-◌, ◌*◌, ◌/◌, ◌++◌, ◌∷◌, [], length, drop, ℕ, List, Some, None, Ok, true, false, IfOk, OnOk, OnErr, IfErr, IsOk};
+ghost use Rattle.std.specs.Prelude.{◌≡◌, ◌≤◌, ◌<◌, ◌^◌, ◌+◌, ◌-◌, ◌*◌, ◌/◌, ◌++◌, ◌∷◌, [], ℕ, List, Some, None, Ok, true, false, IfOk, OnOk, OnErr, IfErr, IsOk};
 ghost use Rattle.flow_model.specs.Item.{Item, Buf, Ev, NewCaps, NewSegment, FlushStop, Eos, is_eos, is_flush_stop};
 ghost use Rattle.flow_model.specs.Call.{Call, Feed, Act, Drain};
 ghost use Rattle.flow_model.specs.Feeding.{flow_behind, on_pad, next_owed, IsFaultOf};
-ghost use Rattle.gst_item.specs.declared.fault.ElementFault.TheVariants.{OutOfMemory as Wanting};
 ghost use Rattle.gst_time.specs.declared.time.TheConstants.{LIMIT};
 ghost use Rattle.el_parse.specs.Frames.{events_of, buffers_of};
 ghost use Rattle.el_parse.specs.Parses.{answered};
-ghost use Rattle.el_parse.specs.Streams.{frames_in, stream_by, stream_of};
+ghost use Rattle.el_parse.specs.Streams.{frames_in, stream_by};
 ghost use Rattle.el_parse.specs.Splits.{splits, split_answer, whole_count, whole_pieces, left_behind, rest as rest_answer, rested, behind, reached_by};
 
 use crate::pieces::cut_pieces;
