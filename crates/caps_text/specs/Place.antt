@@ -10,7 +10,7 @@ use Rattle.caps_text.specs.declared.fault.CapsTextFault.TheVariants.{BadCaps, To
 abbrev pub StandsUnlimited : List ℕ → Type 0
 StandsUnlimited text = (caps : Caps) × IsCapsTextTo None text caps
 
--- some bytes behind the text make it such a text
+-- some bytes behind the text, whatever they are, make it such a text
 abbrev pub BeginsSome : List ℕ → Type 0
 BeginsSome text = (more : List ℕ) × StandsUnlimited (text ++ more)
 
