@@ -1,9 +1,8 @@
 -- Why properties are refused.
-use Rattle.std.proofs.Common.{◌≡◌, ℕ, ◌+◌, ◌<◌, List, [], ◌∷◌, ◌++◌, length, take, drop, get_or, refl, sym, ap, ◌∙◌, Result, Ok, Err, Option, None, Some, add-one, drop-cons}
-use Rattle.std.proofs.lemmas.List.{take_more, take-append-drop}
+use Rattle.std.proofs.Common.{◌≡◌, ℕ, ◌+◌, ◌<◌, List, ◌∷◌, ◌++◌, length, take, drop, get_or, refl, sym, ap, ◌∙◌, Result, Err, add-one, drop-cons}
+use Rattle.std.proofs.lemmas.List.{take-append-drop}
 use Rattle.gst_caps.specs.declared.name.Prop.{Prop}
 use Rattle.gst_caps.specs.declared.caps.Caps.{Caps}
-use Rattle.caps_text.specs.Grammar.{IsCapsText}
 use Rattle.caps_text.specs.Parsed.{AnswersCaps}
 use Rattle.caps_text.specs.declared.fault.CapsTextFault.{CapsTextFault}
 use Rattle.caps_text.specs.declared.fault.CapsTextFault.TheVariants.{BadCaps, TooMany}

@@ -1,21 +1,21 @@
 -- The plain evaluation, item by item.
-use Rattle.std.proofs.Common.{◌≡◌, ℕ, ◌+◌, ◌<◌, ◌≤◌, Bool, true, false, if◌then◌else◌, List, [], ◌∷◌, ◌++◌, length, map, take, drop, get_or, refl, sym, ap, ◌∙◌, Option, None, Some, Result, Ok, Err, arith, append-nil, add-one, drop-cons}
+use Rattle.std.proofs.Common.{◌≡◌, ℕ, ◌+◌, ◌<◌, ◌≤◌, Bool, true, false, if◌then◌else◌, List, [], ◌∷◌, ◌++◌, length, map, take, drop, get_or, refl, sym, ap, ◌∙◌, Option, None, Some, Result, Ok, Err, arith, add-one, drop-cons}
 use Rattle.std.proofs.lemmas.List.{take_more, take_all, take-append-drop, length_push}
 use Rattle.gst_caps.specs.declared.caps.Caps.{Caps}
 use Rattle.gst_caps.specs.declared.caps.Caps.TheVariants.{Any}
 use Rattle.gst_caps.specs.declared.value.One.{One}
 use Rattle.gst_caps.specs.Description.{Description}
 use Rattle.gst_item.specs.declared.flow.Flow.{Flow}
-use Rattle.gst_item.specs.declared.flow.Flow.TheVariants.{Ok as Taken, Eos as BehindEos}
+use Rattle.gst_item.specs.declared.flow.Flow.TheVariants.{Ok as Taken}
 use Rattle.gst_item.specs.declared.out.Out.{Out}
 use Rattle.gst_item.specs.declared.fault.ElementFault.{ElementFault}
 use Rattle.gst_item.specs.declared.fault.ElementFault.TheVariants.{NotNegotiated as Refused, BadStream as Broken, TooLong as Passing, OutOfMemory as Wanting}
 use Rattle.flow_model.specs.Item.{Item, Buf, Ev, StreamStart, NewCaps, NewSegment, Tag, Gap, FlushStop, Eos, is_flush_stop}
 use Rattle.flow_model.specs.Call.{Call, Feed, feeds}
-use Rattle.flow_model.specs.Rule.{Response, Fault, Fed, unfed, responded, flushed, fed_item, called, all_called, owed_for, passes}
+use Rattle.flow_model.specs.Rule.{Response, Fault, Fed, unfed, responded, flushed, fed_item, all_called, owed_for, passes}
 use Rattle.flow_model.specs.Feeding.{has_eos, flow_behind, passed, on_pad, next_owed, IsFaultOf}
 use Rattle.flow_model.proofs.Sections.{called_push}
-use Rattle.el_basic.specs.Filters.{filters, filter_in, filter_answer, caps_in_force}
+use Rattle.el_basic.specs.Filters.{filters, filter_in, filter_answer}
 use Rattle.el_basic.specs.Filtered.{IsFilteredBy}
 use Rattle.el_basic.specs.declared.caps_filter.CapsFilter.{CapsFilter}
 use Rattle.el_basic.proofs.Filtering.{filter_fed}
@@ -23,7 +23,7 @@ use Rattle.el_set.specs.declared.settings.Settings.{Settings}
 use Rattle.el_set.specs.declared.settings.Settings.TheVariants.{FileSrc, Identity, CapsFilter as FilterBy, Queue, FileSink, FakeSink}
 use Rattle.el_set.specs.Values.{or_else}
 use Rattle.el_set.specs.Asked.{template_of, source_pads}
-use Rattle.el_set.specs.Denoted.{response_of, fault_of, fault_at, first_fault_from, first_fault, next_fault, answered, only_input, on_pads, IsOwed, IsDenoted}
+use Rattle.el_set.specs.Denoted.{response_of, fault_at, first_fault_from, first_fault, next_fault, answered, only_input, on_pads, IsOwed, IsDenoted}
 use Rattle.el_set.specs.Stepping.{TookAll}
 use Rattle.el_set.proofs.Given.{or_else-or_else}
 

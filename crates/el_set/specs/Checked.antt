@@ -10,7 +10,7 @@ use Rattle.el_set.specs.declared.fault.PropFault.{PropFault}
 use Rattle.el_set.specs.declared.fault.PropFault.TheVariants.{NoSuchKind, NoSuchProperty, BadValue, OutOfMemory}
 use Rattle.el_set.specs.Kinds.{kinds}
 use Rattle.el_set.specs.Rows.{find_row, domain_named, InDomain}
-use Rattle.el_set.specs.Values.{IsTaken, AllTaken, last_value, NumberOr, SwitchOr, CapsOr}
+use Rattle.el_set.specs.Values.{AllTaken, last_value, NumberOr, SwitchOr, CapsOr}
 
 -- what an element of a kind is set to
 abbrev pub IsSetTo : Kind → List Prop → Settings → Type 0

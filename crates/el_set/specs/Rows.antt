@@ -1,5 +1,5 @@
 -- The properties of each kind of element, with their values.
-use Rattle.std.specs.Prelude.{◌≡◌, ◌≤◌, ◌==◌, ◌&&◌, ◌||◌, ◌⊎◌, ℕ, Bool, true, not, List, [], ◌∷◌, Option, None, Some, if◌then◌else◌, codes, length, nat_lt, bytes_eq}
+use Rattle.std.specs.Prelude.{◌≡◌, ◌≤◌, ◌==◌, ◌&&◌, ◌||◌, ℕ, Bool, true, not, List, [], ◌∷◌, Option, None, Some, if◌then◌else◌, codes, length, nat_lt, bytes_eq}
 use Rattle.std.specs.List.{list_all}
 use Rattle.gst_caps.specs.declared.caps.Caps.{Caps}
 use Rattle.caps_text.specs.Grammar.{IsCapsText}

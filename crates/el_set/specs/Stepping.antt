@@ -1,5 +1,5 @@
 -- For which items a filter that is fed one item after the other stands.
-use Rattle.std.specs.Prelude.{◌≡◌, ℕ, List, None}
+use Rattle.std.specs.Prelude.{◌≡◌, List, None}
 use Rattle.gst_caps.specs.declared.caps.Caps.{Caps}
 use Rattle.gst_item.specs.declared.out.Out.{Out}
 use Rattle.flow_model.specs.Item.{Item}

@@ -1,5 +1,5 @@
 -- The properties that are given to an element.
-use Rattle.std.specs.Prelude.{◌≡◌, ℕ, Bool, true, false, List, [], ◌∷◌, Option, None, Some, if◌then◌else◌, bytes_eq, MatchOption}
+use Rattle.std.specs.Prelude.{◌≡◌, ℕ, Bool, false, List, [], ◌∷◌, Option, None, Some, if◌then◌else◌, bytes_eq, MatchOption}
 use Rattle.gst_caps.specs.declared.name.Prop.{Prop}
 use Rattle.gst_caps.specs.declared.caps.Caps.{Caps}
 use Rattle.gst_caps.specs.declared.caps.Caps.TheVariants.{Any}

@@ -1,7 +1,4 @@
 //! Rows of properties and of whole lists.
-ghost use Rattle.std.specs.Prelude.{◌≡◌};
-ghost use Rattle.el_set.specs.Asked.{sink_pads, source_pads};
-
 use super::*;
 use gst_caps::{Caps, Fixed, List, Prop, Text};
 use gst_item::{Body, Buffer, ElementFault, Event, Item};
@@ -187,31 +184,52 @@ fn letter_of(item: &Item) -> char {
     }
 }
 
-/// What an element with one sink pad and one source pad owes for items, by their letters.
-fn owed(alloc: Global, settings: &Settings, letters: &str) -> Result<String, Fail>
-    requires sinks { sink_pads settings.now ≡ 1 }
-    requires sources { source_pads settings.now ≡ 1 }
-{
+/// The letters of items.
+fn letters_of(alloc: Global, items: &[Item]) -> Result<String, Fail> {
+    let mut text = String::new(alloc);
+    for item in items {
+        text.push(letter_of(item))?;
+    }
+    Ok(text)
+}
+
+/// The letters of the first list.
+fn first_letters(alloc: Global, lists: &List<List<Item>>) -> Result<String, Fail> {
+    match lists.as_slice().first() {
+        Some(items) => letters_of(alloc, items.as_slice()),
+        None => Ok(String::from_str(alloc, "none")?),
+    }
+}
+
+/// The items of letters.
+fn items_of(alloc: Global, letters: &str) -> Result<List<Item>, Fail> {
     let mut items = List::new(alloc);
     for letter in letters.chars() {
         items.push(alloc, item_of(alloc, letter)?)?;
     }
-    let inputs = List::from_vec(vec![in alloc; items]?);
-    let mut text = String::new(alloc);
-    match denote(alloc, settings, 1, &Caps::Any, &inputs) {
-        Ok(outputs) => {
-            for output in outputs.as_slice() {
-                for item in output.as_slice() {
-                    text.push(letter_of(item))?;
-                }
-            }
-        }
-        Err(ElementFault::NotNegotiated { offered, .. }) => {
-            text.push(if offered.is_some() { 'x' } else { 'n' })?;
-        }
-        Err(_) => text.push('?')?,
+    Ok(items)
+}
+
+/// What an element with one sink pad and one source pad owes for items, by their letters.
+fn owed(alloc: Global, settings: &Settings, letters: &str) -> Result<String, Fail> {
+    if settings.sink_pads() != 1 || settings.source_pads() != 1 {
+        return Ok(String::from_str(alloc, "none")?);
     }
-    Ok(text)
+    let mut inputs = List::new(alloc);
+    inputs.push(alloc, items_of(alloc, letters)?)?;
+    match denote(alloc, settings, 1, &Caps::Any, &inputs) {
+        Ok(outputs) => first_letters(alloc, &outputs),
+        Err(
+            ElementFault::NotNegotiated {
+                offered: Some(_),
+                ..
+            },
+        ) => Ok(String::from_str(alloc, "x")?),
+        Err(ElementFault::NotNegotiated { offered: None, .. }) => {
+            Ok(String::from_str(alloc, "n")?)
+        }
+        Err(_) => Ok(String::from_str(alloc, "?")?),
+    }
 }
 
 /// What is given, and what is owed: for a filter of audio/x-raw, and for an identity. A fault is `x` where caps were
