@@ -1,21 +1,21 @@
 -- What is printed stands for its tree.
-use Rattle.std.proofs.Common.{◌≡◌, ◌≢◌, ℕ, zero, suc, ◌+◌, ◌<◌, ◌≤◌, Bool, true, false, cond, eqb, ◌&&◌, ◌||◌, not, List, [], ◌∷◌, ◌++◌, map, length, Option, Some, None, inl, inr, refl, sym, ap, ◌∙◌, subst, arith, append_assoc, append-nil, length-append, codes}
+use Rattle.std.proofs.Common.{◌≡◌, ℕ, suc, ◌<◌, Bool, true, false, cond, eqb, ◌&&◌, ◌||◌, not, List, [], ◌∷◌, ◌++◌, map, length, inl, inr, refl, sym, ap, ◌∙◌, subst, arith, append_assoc, append-nil, codes}
 use Rattle.std.specs.List.{flat_map, fold, list_all}
 use Rattle.std.proofs.lemmas.Bool.Decides.{eqb_tells}
 use Rattle.launch_text.specs.Bytes.{is_run, is_white}
 use Rattle.launch_text.specs.Grammar.{IsLine}
-use Rattle.launch_text.specs.Printed.{caps_text, is_marked, line_text, mark, reference_text, token_text, value_text, with_marks, with_tokens, with_word}
+use Rattle.launch_text.specs.Printed.{caps_text, is_marked, line_text, reference_text, token_text, value_text, with_marks, with_word}
 use Rattle.launch_text.specs.Reading.{Splits}
 use Rattle.launch_text.specs.Tokens.{Token, opens, closes, link, kind, property, caps, reference, tree_tokens}
-use Rattle.launch_text.specs.Words.{AreCaps, Reads, Stands, after, begins_caps, behind, ends, is_closed, is_more, is_pad, is_plain, is_word, kept, plain, taken, word_length}
-use Rattle.launch_text.specs.declared.class.Class.TheVariants.{Kind, Name, Property}
+use Rattle.launch_text.specs.Words.{AreCaps, Reads, Stands, after, begins_caps, behind, ends, is_closed, is_more, is_plain, kept, plain, taken, word_length}
+use Rattle.launch_text.specs.declared.class.Class.TheVariants.{Kind, Property}
 use Rattle.launch_text.specs.declared.printing.Marked.TheVariants.{Value, Caps}
 use Rattle.launch_text.specs.declared.tree.Tree.{Tree}
 use Rattle.launch_text.specs.declared.word.Mode.{Mode}
-use Rattle.launch_text.proofs.Calm.{calm_behind, calm_closed, calm_length, property_closed, reference_calm, reference_some, run_calm, run_some, some_more, stops_more, word_all, word_some}
+use Rattle.launch_text.proofs.Calm.{calm_behind, calm_closed, calm_length, property_closed, reference_calm, reference_some, run_calm, run_some, some_more, stops_more, word_all}
 use Rattle.launch_text.proofs.Kept.{behind_append, taken_append}
-use Rattle.launch_text.proofs.Spelling.{AreCapsWords, IsWhole, Means, One, Says, Spells, more_facts, spelt_line}
-use Rattle.launch_text.proofs.Splitting.{and_left, and_right, both_true}
+use Rattle.launch_text.proofs.Spelling.{IsWhole, Says, Spells, more_facts, spelt_line}
+use Rattle.launch_text.proofs.Splitting.{and_left, and_right}
 
 abbrev at : Bool → Bool → Mode
 at q e = record { quoted = q; escaped = e }

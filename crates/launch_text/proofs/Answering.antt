@@ -1,7 +1,7 @@
 -- What is told of a text is what its words give.
-use Rattle.std.proofs.Common.{◌≡◌, ℕ, List, [], ◌∷◌, ◌++◌, true, Option, Some, None, Result, Ok, Err, refl, sym, ap, ◌∙◌, subst, append-nil}
-use Rattle.launch_text.specs.Parsed.{Answers, Stopped, Told}
-use Rattle.launch_text.specs.Reading.{IsStuck, Passed, Splits, State, finish, none, run, step, tree_of, ◌>>=◌}
+use Rattle.std.proofs.Common.{◌≡◌, ℕ, List, [], ◌∷◌, ◌++◌, true, Some, None, Result, Ok, Err, refl, sym, ap, ◌∙◌, append-nil}
+use Rattle.launch_text.specs.Parsed.{Answers, Told}
+use Rattle.launch_text.specs.Reading.{IsStuck, Splits, State, finish, none, run, step, tree_of, ◌>>=◌}
 use Rattle.launch_text.specs.Words.{is_start}
 use Rattle.launch_text.specs.declared.fault.LineFault.{LineFault}
 use Rattle.launch_text.specs.declared.fault.LineFault.TheVariants.{BadLine, OutOfMemory}

@@ -1,5 +1,5 @@
 -- Bytes that neither end a word nor change how the next one stands.
-use Rattle.std.proofs.Common.{◌≡◌, ℕ, zero, suc, ◌<◌, ◌≤◌, Bool, true, false, cond, eqb, ◌&&◌, ◌||◌, not, List, [], ◌∷◌, ◌++◌, length, drop, Option, Some, None, inl, inr, refl, sym, ap, ◌∙◌, subst, arith, append_assoc, append-nil, length-append}
+use Rattle.std.proofs.Common.{◌≡◌, ℕ, suc, ◌<◌, Bool, true, false, cond, eqb, ◌&&◌, not, List, [], ◌∷◌, ◌++◌, length, drop, Option, Some, None, inl, inr, refl, sym, ap, ◌∙◌, arith, length-append}
 use Rattle.std.specs.List.{list_all}
 use Rattle.std.proofs.lemmas.Bool.{eqb-true}
 use Rattle.std.proofs.lemmas.Bool.Decides.{eqb_tells}
@@ -10,7 +10,7 @@ use Rattle.launch_text.specs.Words.{after, behind, ends, is_closed, is_pad, is_p
 use Rattle.launch_text.specs.declared.class.Class.{Class}
 use Rattle.launch_text.specs.declared.class.Class.TheVariants.{Kind, Name, Property}
 use Rattle.launch_text.specs.declared.word.Mode.{Mode}
-use Rattle.launch_text.proofs.Cutting.{ends_behind, within}
+use Rattle.launch_text.proofs.Cutting.{ends_behind}
 use Rattle.launch_text.proofs.Kept.{behind_append}
 use Rattle.launch_text.proofs.Splitting.{and_left, and_right, both_true, drop_front}
 

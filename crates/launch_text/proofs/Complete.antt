@@ -1,15 +1,14 @@
 -- Words that spell a tree are read as the tree.
-use Rattle.std.proofs.Common.{◌≡◌, ℕ, zero, suc, ◌+◌, ◌<◌, ◌≤◌, Bool, true, false, cond, eqb, ◌&&◌, not, List, [], ◌∷◌, ◌++◌, map, length, Option, Some, None, inl, inr, refl, sym, ap, ◌∙◌, subst, arith, append_assoc, append-nil, length-append, codes, lt-ltb}
-use Rattle.std.specs.Prelude.{nat_lt}
+use Rattle.std.proofs.Common.{◌≡◌, ℕ, zero, suc, ◌+◌, ◌<◌, ◌≤◌, Bool, true, false, cond, eqb, ◌&&◌, not, List, [], ◌∷◌, ◌++◌, map, length, Option, Some, None, refl, sym, ap, ◌∙◌, subst, arith, append_assoc, append-nil, length-append, codes, lt-ltb}
 use Rattle.std.specs.List.{flat_map, list_all}
 use Rattle.std.specs.Str.{bytes_eq}
 use Rattle.gst_caps.specs.declared.name.Prop.{Prop}
 use Rattle.launch_text.specs.Bytes.{is_run}
 use Rattle.launch_text.specs.Grammar.{are_others, fits_part, fits_tree, is_alone, is_chain, is_end, is_middle, part_fits, tree_fits}
 use Rattle.launch_text.specs.Printed.{reference_text}
-use Rattle.launch_text.specs.Reading.{Held, State, begin_part, behind_caps, behind_element, behind_link, behind_reference, closed, closed_in, element_from, ended, finish, go_on, linked_to, named, none, opened, property_of, reference_of, run, said, step, step_from, tree_of, whole, with_property, ◌>>=◌}
-use Rattle.launch_text.specs.Tokens.{Token, opens, closes, link, kind, property, caps, reference, chain_tokens, linked, node_tokens, part_tokens, prop_token, tree_tokens}
-use Rattle.launch_text.specs.Words.{begins_caps, is_closed, is_link, is_pad, plain, taken}
+use Rattle.launch_text.specs.Reading.{Held, State, begin_part, behind_caps, behind_element, behind_link, behind_reference, closed, element_from, ended, finish, go_on, linked_to, none, opened, property_of, reference_of, run, said, step, step_from, tree_of, whole, ◌>>=◌}
+use Rattle.launch_text.specs.Tokens.{Token, opens, closes, caps, reference, chain_tokens, linked, node_tokens, part_tokens, prop_token, tree_tokens}
+use Rattle.launch_text.specs.Words.{begins_caps, is_closed, is_pad, plain, taken}
 use Rattle.launch_text.specs.declared.class.Class.TheVariants.{Kind, Name, Property}
 use Rattle.launch_text.specs.declared.line.Last.{Last}
 use Rattle.launch_text.specs.declared.line.Last.TheVariants.{Start, Bin, Chain, Element, Link, Caps, Reference}
@@ -18,17 +17,17 @@ use Rattle.launch_text.specs.declared.tree.Node.{Node}
 use Rattle.launch_text.specs.declared.tree.Node.TheVariants.{Element as ElementNode, Caps as CapsNode, Reference as ReferenceNode}
 use Rattle.launch_text.specs.declared.tree.Part.{Part}
 use Rattle.launch_text.specs.declared.tree.Part.TheVariants.{Chain as ChainPart, Bin as BinPart}
-use Rattle.launch_text.specs.declared.tree.Part.TheFolds.{fold-roll-Part, fold-roll-Tree, ind-Part, ind-Tree, map-Part}
+use Rattle.launch_text.specs.declared.tree.Part.TheFolds.{fold-roll-Part, fold-roll-Tree, ind-Tree, map-Part}
 use Rattle.launch_text.specs.declared.tree.Part.TheOpen.{Part-F, Chain as Links-F, Bin as Bin-F}
 use Rattle.launch_text.specs.declared.tree.Part.TheViews.{roll-Part, roll-Tree}
 use Rattle.launch_text.specs.declared.tree.Chain.{Chain as Links}
 use denote.Hole.Carrier.{roll}
 use Rattle.launch_text.specs.declared.tree.Tree.{Tree}
 use Rattle.launch_text.proofs.Calm.{not_zero}
-use Rattle.launch_text.proofs.Facts.{differs, kind_differs, kind_no_caps, kind_no_property, link_differs, no_true, property_found, reference_differs, reference_found, reference_no_caps, reference_no_kind, reference_no_property}
+use Rattle.launch_text.proofs.Facts.{kind_differs, kind_no_caps, kind_no_property, link_differs, no_true, property_found, reference_differs, reference_found, reference_no_caps, reference_no_kind, reference_no_property}
 use Rattle.launch_text.proofs.Lines.{bin_part, chain_part, tree_parts}
-use Rattle.launch_text.proofs.Spelling.{AreCapsWords, Means, One, Says, Spells, caps_word, no_link, spells_parts}
-use Rattle.launch_text.proofs.Splitting.{and_left, and_right, both_true, run_append}
+use Rattle.launch_text.proofs.Spelling.{AreCapsWords, One, Says, Spells, caps_word, no_link, spells_parts}
+use Rattle.launch_text.proofs.Splitting.{and_left, and_right, run_append}
 use Rattle.launch_text.proofs.Steps.{closed_last}
 
 -- what is whole where a part may begin

@@ -1,5 +1,5 @@
 -- Each front of a word that was found goes on to a line.
-use Rattle.std.proofs.Common.{◌≡◌, ◌≢◌, ℕ, zero, suc, ◌+◌, ◌<◌, ◌≤◌, Bool, true, false, cond, eqb, ◌&&◌, not, List, [], ◌∷◌, ◌++◌, length, Option, Some, None, inl, inr, ◌⊎◌, refl, sym, ap, ◌∙◌, subst, arith, append_assoc, append-nil, length-append, codes, lt-ltb}
+use Rattle.std.proofs.Common.{◌≡◌, ℕ, zero, suc, ◌<◌, Bool, true, false, cond, eqb, ◌&&◌, not, List, [], ◌∷◌, ◌++◌, length, Option, Some, None, inl, inr, refl, sym, ap, ◌∙◌, subst, arith, append_assoc, append-nil, length-append, codes, lt-ltb}
 use Rattle.std.specs.Prelude.{is_some, nat_lt}
 use Rattle.std.specs.List.{list_all}
 use Rattle.std.specs.Str.{bytes_eq}
@@ -7,12 +7,12 @@ use Rattle.std.proofs.lemmas.Bool.{ltb-true}
 use Rattle.std.proofs.lemmas.Bool.Decides.{eqb_tells}
 use Rattle.gst_caps.specs.declared.name.Prop.{Prop}
 use Rattle.launch_text.specs.Bytes.{in_class, is_run, is_white}
-use Rattle.launch_text.specs.Places.{after_point, begins, behind_run, caps_before, caps_front, element_front, front_of, link_front, name_front, next_front, pad_front, part_front, point_front, run_of, spot_of}
+use Rattle.launch_text.specs.Places.{after_point, begins, behind_run, caps_before, caps_front, element_front, front_of, name_front, next_front, pad_front, part_front, point_front, run_of, spot_of}
 use Rattle.launch_text.specs.Printed.{reference_text}
-use Rattle.launch_text.specs.Reading.{Held, State, begin_part, behind_reference, closed, closed_in, cut, ended, finish, innermost, linked_to, longer, more_outer, opened, property_of, run, step, step_from, whole, ◌>>=◌}
+use Rattle.launch_text.specs.Reading.{Held, State, begin_part, behind_reference, closed, closed_in, cut, ended, finish, innermost, linked_to, longer, more_outer, opened, property_of, run, step, ◌>>=◌}
 use Rattle.launch_text.specs.Words.{after, begins_caps, behind, is_closed, is_pad, is_plain, plain, taken, word_length}
 use Rattle.launch_text.specs.declared.class.Class.{Class}
-use Rattle.launch_text.specs.declared.class.Class.TheVariants.{Kind, Name, Property}
+use Rattle.launch_text.specs.declared.class.Class.TheVariants.{Name}
 use Rattle.launch_text.specs.declared.line.Last.{Last}
 use Rattle.launch_text.specs.declared.line.Last.TheVariants.{Start, Bin, Chain, Element, Link, Caps, Reference}
 use Rattle.launch_text.specs.declared.printing.Marked.TheVariants.{Value as InValue, Caps as InCaps}
@@ -24,12 +24,11 @@ use Rattle.launch_text.specs.declared.word.Mode.{Mode}
 use Rattle.launch_text.proofs.Again.{AllWhole, begins_more, wide}
 use Rattle.launch_text.proofs.Calm.{calm_closed, calm_length, not_false, not_zero, property_closed, reference_calm, reference_some}
 use Rattle.launch_text.proofs.Complete.{Ended, Ready, begin_at, caps_at, caps_linked, close_at, ended_ready, finish_ended, kind_begins, kind_linked, link_at, open_word, property_at, reference_begins}
-use Rattle.launch_text.proofs.Facts.{cut_sound, no_true, none_some, property_sound, reference_differs, reference_no_property, same_text, some_is}
+use Rattle.launch_text.proofs.Facts.{cut_sound, none_some, property_sound, reference_differs, reference_no_property, same_text, some_is}
 use Rattle.launch_text.proofs.Kept.{behind_append}
-use Rattle.launch_text.proofs.Runs.{run_whole}
 use Rattle.launch_text.proofs.Sound.{innermost_sound}
 use Rattle.launch_text.proofs.Spelling.{IsWhole}
-use Rattle.launch_text.proofs.Splitting.{and_left, and_right, both_true}
+use Rattle.launch_text.proofs.Splitting.{both_true}
 
 -- words with which a state leads to a tree
 pub record Completes (s : State) : Type 0 where

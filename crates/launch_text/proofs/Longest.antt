@@ -1,5 +1,5 @@
 -- What stands behind a longest front is in no line.
-use Rattle.std.proofs.Common.{◌≡◌, ◌≢◌, ℕ, zero, suc, ◌+◌, ◌<◌, ◌≤◌, Bool, true, false, cond, eqb, ◌&&◌, ◌||◌, not, List, [], ◌∷◌, ◌++◌, length, Option, Some, None, inl, inr, ◌⊎◌, refl, sym, ap, ◌∙◌, subst, arith, append_assoc, append-nil, length-append, codes}
+use Rattle.std.proofs.Common.{◌≡◌, ◌≢◌, ℕ, zero, suc, ◌<◌, ◌≤◌, Bool, true, false, cond, eqb, List, [], ◌∷◌, ◌++◌, length, Option, Some, None, inl, inr, ◌⊎◌, refl, sym, ap, ◌∙◌, subst, arith, append_assoc, length-append, codes}
 use Rattle.std.specs.Prelude.{is_some, nat_lt}
 use Rattle.std.specs.List.{list_all}
 use Rattle.std.specs.Str.{bytes_eq}
@@ -8,19 +8,19 @@ use Rattle.std.proofs.lemmas.Bool.Decides.{eqb_tells}
 use Rattle.std.proofs.lemmas.List.Folds.{list_all-append}
 use Rattle.gst_caps.specs.declared.name.Prop.{Prop}
 use Rattle.launch_text.specs.Bytes.{in_class, is_run}
-use Rattle.launch_text.specs.Places.{after_point, begins, behind_run, caps_before, caps_front, element_front, front_of, link_front, name_front, next_front, pad_front, part_front, point_front, run_of, spot_of}
+use Rattle.launch_text.specs.Places.{begins, behind_run, caps_before, caps_front, element_front, front_of, link_front, name_front, next_front, part_front, point_front, run_of, spot_of}
 use Rattle.launch_text.specs.Printed.{reference_text}
-use Rattle.launch_text.specs.Reading.{Held, State, begin_part, behind_caps, behind_element, behind_link, behind_reference, closed, closed_in, cut, element_from, ended, go_on, innermost, linked_to, opened, property_of, reference_of, said, step, step_from, with_property, ◌>>=◌}
+use Rattle.launch_text.specs.Reading.{Held, State, begin_part, behind_element, behind_link, behind_reference, closed, closed_in, cut, element_from, ended, go_on, innermost, linked_to, opened, property_of, reference_of, said, step_from, ◌>>=◌}
 use Rattle.launch_text.specs.Words.{begins_caps, is_pad}
 use Rattle.launch_text.specs.declared.class.Class.{Class}
 use Rattle.launch_text.specs.declared.class.Class.TheVariants.{Kind, Name, Property}
 use Rattle.launch_text.specs.declared.line.Last.{Last}
 use Rattle.launch_text.specs.declared.line.Last.TheVariants.{Start, Bin, Chain, Element, Link, Caps, Reference}
-use Rattle.launch_text.specs.declared.printing.Marked.TheVariants.{Value as InValue, Caps as InCaps}
+use Rattle.launch_text.specs.declared.printing.Marked.TheVariants.{Caps as InCaps}
 use Rattle.launch_text.specs.declared.tree.Node.{Node}
 use Rattle.launch_text.specs.declared.tree.Node.TheVariants.{Element as ElementNode}
 use Rattle.launch_text.proofs.Calm.{not_false, not_zero, run_all, run_some}
-use Rattle.launch_text.proofs.Facts.{cut_sound, no_true, none_some, not_all, not_run, is_point, property_found, property_sound, reference_points, reference_sound, same_text, some_is}
+use Rattle.launch_text.proofs.Facts.{cut_sound, no_true, none_some, not_all, not_run, is_point, property_found, property_sound, reference_points, reference_sound, same_text}
 use Rattle.launch_text.proofs.Splitting.{and_left, and_right, both_true}
 
 -- bytes of names

@@ -1,5 +1,5 @@
 -- Whole lines: what is answered is what the grammar says.
-use Rattle.std.proofs.Common.{◌≡◌, ℕ, List, Result, Ok, Err, IfOk}
+use Rattle.std.proofs.Common.{ℕ, List, Result, Ok, Err, IfOk}
 use Rattle.launch_text.specs.Grammar.{IsLine}
 use Rattle.launch_text.specs.Parsed.{Answers, Told}
 use Rattle.launch_text.specs.declared.fault.LineFault.{LineFault}

@@ -1,15 +1,15 @@
 -- The place of a refusal is the longest front of the text with which some line begins.
-use Rattle.std.proofs.Common.{◌≡◌, ℕ, zero, suc, ◌+◌, ◌-◌, ◌<◌, ◌≤◌, Bool, true, false, cond, eqb, ◌&&◌, not, List, [], ◌∷◌, ◌++◌, length, take, drop, Option, Some, None, Result, Ok, Err, inl, inr, ◌⊎◌, refl, sym, ap, ◌∙◌, subst, arith, append_assoc, append-nil, length-append, codes}
-use Rattle.std.specs.List.{flat_map, list_all}
+use Rattle.std.proofs.Common.{◌≡◌, ℕ, zero, suc, ◌+◌, ◌-◌, ◌<◌, ◌≤◌, Bool, true, false, cond, ◌&&◌, not, List, [], ◌∷◌, ◌++◌, length, take, drop, Option, Some, None, Result, Ok, Err, inl, inr, ◌⊎◌, refl, sym, ap, ◌∙◌, subst, arith, append_assoc, append-nil, length-append}
+use Rattle.std.specs.List.{list_all}
 use Rattle.std.proofs.lemmas.Bool.{cases_lt}
 use Rattle.std.proofs.lemmas.List.Folds.{list_all-append}
-use Rattle.launch_text.specs.Bytes.{is_run, is_white}
+use Rattle.launch_text.specs.Bytes.{is_white}
 use Rattle.launch_text.specs.Grammar.{IsLine}
 use Rattle.launch_text.specs.Parsed.{Stopped, Told}
 use Rattle.launch_text.specs.Places.{IsFront, IsPlace, front_of, spot_of}
 use Rattle.launch_text.specs.Printed.{reference_text}
 use Rattle.launch_text.specs.Reading.{IsStuck, Splits, State, finish, first_word, none, run, step, tree_of, ◌>>=◌}
-use Rattle.launch_text.specs.Tokens.{Token, opens, closes, link, kind, property, caps, reference, tree_tokens}
+use Rattle.launch_text.specs.Tokens.{Token, opens, closes, link, kind, property, caps, reference}
 use Rattle.launch_text.specs.Words.{after, ends, is_closed, is_plain, is_start, plain, word_length}
 use Rattle.launch_text.specs.declared.class.Class.TheVariants.{Kind}
 use Rattle.launch_text.specs.declared.fault.LineFault.{LineFault}
@@ -20,16 +20,16 @@ use Rattle.launch_text.specs.declared.word.Mode.{Mode}
 use Rattle.launch_text.proofs.Again.{spaced_ends, spaced_splits, spaced_words}
 use Rattle.launch_text.proofs.Calm.{calm_closed, property_closed, reference_calm, run_calm, stops_alone, stops_ends, stops_more}
 use Rattle.launch_text.proofs.Complete.{tree_read}
-use Rattle.launch_text.proofs.Cutting.{length_front, some_word, two_parts, within}
+use Rattle.launch_text.proofs.Cutting.{length_front, two_parts, within}
 use Rattle.launch_text.proofs.Extending.{completes, extends}
-use Rattle.launch_text.proofs.Facts.{no_true, none_some}
+use Rattle.launch_text.proofs.Facts.{none_some}
 use Rattle.launch_text.proofs.Fronts.{front_cut}
 use Rattle.launch_text.proofs.Longest.{front_long}
 use Rattle.launch_text.proofs.Parsing.{told_sound}
 use Rattle.launch_text.proofs.Runs.{front_within}
 use Rattle.launch_text.proofs.Sound.{words_fine}
-use Rattle.launch_text.proofs.Spelling.{AreCapsWords, Means, One, Says, Spells, line_spelt}
-use Rattle.launch_text.proofs.Splitting.{and_left, and_right, both_true, drop_front, first_is, more_words, run_append, run_none, some_words, take_front, unique}
+use Rattle.launch_text.proofs.Spelling.{Means, One, Says, Spells, line_spelt}
+use Rattle.launch_text.proofs.Splitting.{and_left, and_right, both_true, first_is, more_words, run_append, run_none, some_words, take_front, unique}
 
 -- words that were read are closed
 means_closed : (w : List ℕ) (t : Token) → Means w t → is_closed w ≡ true

@@ -1,14 +1,14 @@
 -- The bytes of a class at the front of a text.
 use Rattle.std.proofs.Common.{◌≡◌, ◌≢◌, ℕ, zero, suc, ◌+◌, ◌<◌, ◌≤◌, Bool, true, false, cond, eqb, List, [], ◌∷◌, ◌++◌, length, drop, take, get_or, Bor, MatchOption, Option, Some, None, inl, inr, refl, sym, ap, ◌∙◌, subst, arith, length-append}
 use Rattle.std.specs.Prelude.{is_some, nat_lt}
-use Rattle.std.specs.List.{list_all, take_while}
+use Rattle.std.specs.List.{take_while}
 use Rattle.std.specs.Option.{option_map}
 use Rattle.std.proofs.lemmas.Bool.Decides.{eqb_tells}
 use Rattle.std.specs.Str.{IsUtf8, IsCharBoundary}
 use Rattle.std.proofs.lemmas.List.Sums.{take_while-cons}
 use Rattle.std.proofs.lemmas.Str.{IsCharBoundary-start, IsCharBoundary-after_ascii}
 use Rattle.launch_text.specs.Bytes.{in_class}
-use Rattle.launch_text.specs.Places.{after_point, begins, behind_run, caps_before, caps_front, element_front, front_of, link_front, name_front, next_front, pad_front, part_front, point_front, run_of}
+use Rattle.launch_text.specs.Places.{after_point, begins, behind_run, caps_before, caps_front, element_front, front_of, name_front, next_front, pad_front, part_front, point_front, run_of}
 use Rattle.launch_text.specs.Reading.{cut, property_of}
 use Rattle.launch_text.specs.Words.{begins_caps}
 use Rattle.launch_text.specs.declared.class.Class.{Class}

@@ -1,5 +1,5 @@
 -- Words that are read as a tree spell it.
-use Rattle.std.proofs.Common.{◌≡◌, ℕ, zero, suc, ◌+◌, ◌-◌, ◌<◌, ◌≤◌, Bool, true, false, cond, eqb, ◌&&◌, not, List, [], ◌∷◌, ◌++◌, map, length, Option, Some, None, inl, inr, refl, sym, ap, ◌∙◌, subst, arith, append_assoc, append-nil, length-append, codes}
+use Rattle.std.proofs.Common.{◌≡◌, ℕ, zero, suc, ◌+◌, ◌-◌, ◌<◌, Bool, true, false, cond, eqb, ◌&&◌, not, List, [], ◌∷◌, ◌++◌, length, Option, Some, None, refl, sym, ap, ◌∙◌, subst, arith, append_assoc, append-nil, length-append, codes}
 use Rattle.std.specs.Prelude.{nat_lt}
 use Rattle.std.specs.List.{flat_map, list_all}
 use Rattle.std.specs.Str.{bytes_eq}
@@ -10,10 +10,10 @@ use Rattle.std.proofs.lemmas.List.{map-append}
 use Rattle.gst_caps.specs.declared.name.Prop.{Prop}
 use Rattle.launch_text.specs.Bytes.{is_run}
 use Rattle.launch_text.specs.Grammar.{are_others, is_alone, is_chain, is_end, is_middle, part_fits, tree_fits}
-use Rattle.launch_text.specs.Reading.{Held, State, begin_part, behind_caps, behind_element, behind_link, behind_reference, closed, closed_in, element_from, ended, finish, finish_from, go_on, innermost, linked_to, more_outer, none, opened, property_of, reference_of, run, said, step, step_from, tree_of, whole, with_property, ◌>>=◌}
+use Rattle.launch_text.specs.Reading.{Held, State, begin_part, behind_caps, behind_element, behind_link, behind_reference, closed, closed_in, element_from, ended, finish, finish_from, go_on, innermost, linked_to, more_outer, none, opened, property_of, reference_of, run, said, step, step_from, tree_of, whole, ◌>>=◌}
 use Rattle.launch_text.specs.Tokens.{Token, opens, closes, link, kind, property, caps, reference, chain_tokens, linked, node_tokens, part_tokens, prop_token, tree_tokens}
 use Rattle.launch_text.specs.Words.{begins_caps, is_closed, plain, taken}
-use Rattle.launch_text.specs.declared.class.Class.TheVariants.{Kind, Property}
+use Rattle.launch_text.specs.declared.class.Class.TheVariants.{Kind}
 use Rattle.launch_text.specs.declared.line.Last.{Last}
 use Rattle.launch_text.specs.declared.line.Last.TheVariants.{Start, Bin, Chain, Element, Link, Caps, Reference}
 use Rattle.launch_text.specs.declared.printing.Marked.{Marked}
@@ -25,9 +25,9 @@ use Rattle.launch_text.specs.declared.tree.Part.TheVariants.{Chain as ChainPart,
 use Rattle.launch_text.specs.declared.tree.Tree.{Tree}
 use Rattle.launch_text.proofs.Calm.{not_false, not_zero}
 use Rattle.launch_text.proofs.Complete.{fits_bin, fits_chain, fits_parts}
-use Rattle.launch_text.proofs.Facts.{IsReference, link_differs_back, no_true, none_some, property_sound, reference_sound, same_text, some_is}
+use Rattle.launch_text.proofs.Facts.{link_differs_back, none_some, property_sound, reference_sound, same_text, some_is}
 use Rattle.launch_text.proofs.Lines.{bin_part, chain_part, tree_parts}
-use Rattle.launch_text.proofs.Spelling.{AreCapsWords, Means, One, Says, Spells, caps_word, no_link, spells_append, spells_parts}
+use Rattle.launch_text.proofs.Spelling.{AreCapsWords, Says, Spells, caps_word, no_link, spells_append, spells_parts}
 use Rattle.launch_text.proofs.Splitting.{and_left, and_right, both_true, run_none}
 
 -- the tokens of what was read

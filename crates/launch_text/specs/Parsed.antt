@@ -1,5 +1,5 @@
 -- What `parse` answers.
-use Rattle.std.specs.Prelude.{◌≡◌, ℕ, ◌+◌, ◌-◌, true, List, [], Option, Some, None, Result, Ok, Err, length}
+use Rattle.std.specs.Prelude.{◌≡◌, ℕ, ◌+◌, ◌-◌, true, List, [], Some, Result, Ok, Err, length}
 use Rattle.std.specs.List.{list_all}
 use Rattle.launch_text.specs.Kinds.{is_bracket, kind_of}
 use Rattle.launch_text.specs.Places.{front_of, spot_of}

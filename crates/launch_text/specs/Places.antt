@@ -1,5 +1,5 @@
 -- Where a text is no line.
-use Rattle.std.specs.Prelude.{◌≡◌, ℕ, ◌+◌, ◌-◌, ◌<◌, ◌≤◌, Bool, true, false, cond, ◌==◌, List, [], ◌∷◌, ◌++◌, Option, Some, None, Result, Ok, Err, is_some, length, nat_lt, take}
+use Rattle.std.specs.Prelude.{ℕ, ◌<◌, ◌≤◌, Bool, false, cond, ◌==◌, List, [], ◌∷◌, ◌++◌, Option, Some, None, is_some, length, nat_lt, take}
 use Rattle.launch_text.specs.Bytes.{in_class}
 use Rattle.launch_text.specs.Grammar.{IsLine}
 use Rattle.launch_text.specs.Reading.{cut, property_of}

@@ -1,10 +1,10 @@
 -- How the words of a line are read, one behind the other.
-use Rattle.std.specs.Prelude.{◌≡◌, ℕ, Bool, true, false, cond, ◌==◌, ◌<◌, List, [], ◌∷◌, ◌++◌, Option, Some, None, Result, Ok, Err, codes, length, nat_lt, take, drop}
+use Rattle.std.specs.Prelude.{◌≡◌, ℕ, true, cond, ◌==◌, ◌<◌, List, [], ◌∷◌, ◌++◌, Option, Some, None, Result, Ok, Err, codes, length, nat_lt, take, drop}
 use Rattle.std.specs.List.{list_all}
 use Rattle.std.specs.Str.{bytes_eq}
 use Rattle.gst_caps.specs.declared.name.Prop.{Prop}
 use Rattle.launch_text.specs.Bytes.{is_run, is_white}
-use Rattle.launch_text.specs.Words.{begins_caps, is_closed, is_start, plain, taken, word_length}
+use Rattle.launch_text.specs.Words.{begins_caps, is_closed, plain, taken, word_length}
 use Rattle.launch_text.specs.declared.class.Class.TheVariants.{Kind, Name, Property}
 use Rattle.launch_text.specs.declared.fault.Refusal.{Refusal}
 use Rattle.launch_text.specs.declared.fault.Refusal.TheVariants.{Stuck, OutOfMemory}

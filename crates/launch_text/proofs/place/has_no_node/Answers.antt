@@ -1,5 +1,5 @@
 -- Each word is a bracket, or one is not.
-use Rattle.std.proofs.Common.{sym, ap, ◌∙◌, arith, length, not, true, false, Bool, ◌≡◌}
+use Rattle.std.proofs.Common.{sym, ◌∙◌, length}
 use Rattle.launch_text.specs.Kinds.{is_bracket}
 use Rattle.launch_text.proofs.Cutting.{positive}
 use Rattle.launch_text.proofs.Splitting.{left_done, left_more, left_start, left_stop, word_split}
