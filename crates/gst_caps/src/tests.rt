@@ -6,6 +6,7 @@ use crate::caps::{Caps, choose};
 use crate::fault::CapsFault;
 use crate::fixed::Fixed;
 use crate::list::List;
+use crate::name::{PadName, Prop};
 use crate::ratio::fraction;
 use crate::structure::Structure;
 use crate::text::Text;
@@ -295,6 +296,40 @@ fn limits(rt: HostRuntime) -> Result<(), Fail> {
     if let Caps::Of(listed) = &apart {
         assert_eq!(rt; listed.as_slice().len(), 8);
     }
+    Ok(())
+}
+
+#[test]
+fn pushes(rt: HostRuntime) -> Result<(), Fail> {
+    let alloc = rt.alloc();
+    let mut caps = Caps::Of(List::new(alloc));
+    caps.push(alloc, structure_of(alloc, "a/r, n=1")?)?;
+    assert_eq!(rt; describe(alloc, &caps)?.as_str(), "a/r, n=1");
+    if let Caps::Of(listed) = numbered(alloc, "n", 64)? {
+        let mut full = Caps::Of(listed);
+        let more = full.push(alloc, structure_of(alloc, "a/r")?);
+        assert!(rt; matches!(&more, Err(CapsFault::TooMany { count: 65 })));
+    }
+    Ok(())
+}
+
+#[test]
+fn copies(rt: HostRuntime) -> Result<(), Fail> {
+    let alloc = rt.alloc();
+    let prop = Prop {
+        name: Text::from_str(alloc, "blocksize")?,
+        value: Text::from_str(alloc, "16")?,
+    };
+    let prop = prop.copy(alloc)?;
+    assert_eq!(rt; prop.name.as_str(), "blocksize");
+    assert_eq!(rt; prop.value.as_str(), "16");
+    let name = PadName {
+        element: Text::from_str(alloc, "identity0")?,
+        pad: Text::from_str(alloc, "src")?,
+    };
+    let name = name.copy(alloc)?;
+    assert_eq!(rt; name.element.as_str(), "identity0");
+    assert_eq!(rt; name.pad.as_str(), "src");
     Ok(())
 }
 

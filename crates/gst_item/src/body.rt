@@ -1,5 +1,5 @@
 //! Bodies of buffers.
-ghost use Rattle.std.specs.Prelude.{◌≡◌, ◌≤◌, length, slice_range, IfOk, OnOk};
+ghost use Rattle.std.specs.Prelude.{◌≡◌, ◌<◌, ◌≤◌, ◌^◌, length, slice_range, IfOk, OnOk};
 ghost use Rattle.std.specs.Borrow.{sem};
 ghost use Rattle.gst_item.specs.Lent.{LendsBytes, LendsBytesIfOk};
 
@@ -41,7 +41,7 @@ impl Body {
     /// The bytes.
     pub fn as_slice(&self) -> &[u8]
         ensures bytes { result.now ≡ self.now }
-        ensures small { length self.now ≤ LARGEST_BODY }
+        ensures small { length self.now < 2 ^ 31 }
     {
         self.bytes.as_slice()
     }

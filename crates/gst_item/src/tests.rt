@@ -58,6 +58,43 @@ fn each_holder_changes_its_own_bytes(rt: HostRuntime) -> Result<(), Fail> {
     Ok(())
 }
 
+#[test]
+fn copies_of_buffers(rt: HostRuntime) -> Result<(), Fail> {
+    let alloc = rt.alloc();
+    let buffer = Buffer {
+        body: body_of(alloc, b"abc")?,
+        pts: Some(1),
+        duration: Some(2),
+        offset: None,
+        discont: true,
+    };
+    let Item::Buffer(copied) = Item::Buffer(buffer).copy(alloc)? else {
+        return Err("a buffer")?;
+    };
+    assert_eq!(rt; copied.body.as_slice(), b"abc".as_slice());
+    assert!(rt;
+        matches!(
+            &copied,
+            Buffer {
+                pts: Some(1),
+                duration: Some(2),
+                ..
+            }
+        )
+    );
+    assert!(rt;
+        matches!(
+            &copied,
+            Buffer {
+                offset: None,
+                discont: true,
+                ..
+            }
+        )
+    );
+    Ok(())
+}
+
 /// The event that a letter stands for.
 fn event_of(alloc: Global, letter: u8) -> Result<Event, Fail> {
     match letter {
@@ -93,7 +130,10 @@ fn is_kept(event: &Event) -> bool
 fn letters_in_force(alloc: Global, letters: &[u8]) -> Result<Vec<u8>, Fail> {
     let mut sticky = Sticky::new();
     for letter in letters {
-        let event = event_of(alloc, *letter)?.copy(alloc)?;
+        let item = Item::Event(event_of(alloc, *letter)?);
+        let Item::Event(event) = item.copy(alloc)? else {
+            return Err("an event")?;
+        };
         if is_kept(&event) {
             sticky.set(event);
         } else {
