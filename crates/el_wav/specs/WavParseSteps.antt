@@ -1,0 +1,63 @@
+-- What one item does to a reader of WAV files.
+use Rattle.std.specs.Prelude.{◌≡◌, ℕ, ◌+◌, ◌-◌, List, [], ◌∷◌, ◌++◌, length, drop, Option, Some, None, Result, Ok, Err}
+use Rattle.audio_info.specs.declared.info.Info.{Info}
+use Rattle.gst_item.specs.declared.out.Out.{Out}
+use Rattle.gst_item.specs.declared.fault.ElementFault.{ElementFault}
+use Rattle.wav_format.specs.declared.head.Head.{Head}
+use Rattle.flow_model.specs.Item.{Item}
+use Rattle.flow_model.specs.Call.{Call, Feed}
+use Rattle.flow_model.specs.Rule.{Fault}
+use Rattle.flow_model.specs.Feeding.{next_owed, on_pad, IsFaultOf}
+use Rattle.el_parse.specs.Parses.{parses as parses_raw}
+use Rattle.el_wav.specs.declared.wav_gathered.Gathered.{Gathered}
+use Rattle.el_wav.specs.declared.wav_begun.Begun.{Begun}
+use Rattle.el_wav.specs.declared.wav_parse.Phase.TheVariants.{InData as Passing}
+use Rattle.el_wav.specs.declared.wav_parse.WavParse.{WavParse}
+use Rattle.el_wav.specs.WavParseHeads.{Told, Whole, More, IsFormatOf, HeadFits, ReadsHeads}
+use Rattle.el_wav.specs.WavParseParts.{Known, Part, read_as, with_item}
+use Rattle.el_wav.specs.WavParseRule.{body_item, within, left_of, pass_first, owed_with, unless_broken, answer, calls_behind}
+use Rattle.el_wav.specs.WavParseData.{IsKnown}
+use Rattle.el_wav.specs.WavParseGathered.{gathered, IsSound}
+use Rattle.el_wav.specs.WavParsed.{IsIn, KnowsHead}
+
+-- the item of the data behind a head
+abbrev pub data_item : Head → List ℕ → Item
+data_item head bytes = body_item (within head.size 0 (drop head.start bytes))
+
+-- The data behind a head was begun with the bytes.
+pub record BeganData (head : Head) (bytes : List ℕ) (begun : Begun) (before after : List Out) : Type 0 where
+  pub head_is : begun.known.head ≡ head
+  pub format : IsFormatOf head begun.known.info
+  pub ys : List Item
+  pub owed : next_owed (parses_raw begun.known.info) [] (data_item head bytes) ≡ Ok ys
+  pub out : after ≡ before ++ on_pad 0 ys
+  pub known : IsKnown (record { head = head; info = begun.known.info }) (Feed (data_item head bytes) ∷ []) begun.known
+  pub left : begun.left ≡ left_of head.size (length (drop head.start bytes))
+
+-- a fault of that
+abbrev pub IsBeginFault : Head → List ℕ → ElementFault → Type 0
+IsBeginFault head bytes fault = HeadFits head → (info : Info) × IsFormatOf head info × IsFaultOf (next_owed (parses_raw info) [] (data_item head bytes)) fault
+
+-- what is owed for a body that makes these bytes of a file
+abbrev pub head_owed : (List ℕ → Told) → List Call → List ℕ → Result (List Item) Fault
+head_owed read calls bytes = unless_broken (read_as (read bytes) bytes) (owed_with calls (pass_first (read_as (read bytes) bytes) bytes))
+
+-- The bytes go on in a head, and are gathered; or the data is begun with them.
+abbrev pub ReadOn : (List ℕ → Told) → List ℕ → Gathered → List Out → List Out → Option Begun → Type 0
+ReadOn read bytes has before after None = (read bytes ≡ More) × (gathered has ≡ bytes) × IsSound has × (after ≡ before)
+ReadOn read bytes has before after (Some begun) = (head : Head) × (read bytes ≡ Whole head begun.known.info) × BeganData head bytes begun before after
+
+-- The item was taken: what is owed for it was put out, and the reader stands for the part and the calls with it.
+pub record Took (read : List ℕ → Told) (p : Part) (calls : List Call) (x : Item) (parser : WavParse) (before after : List Out) : Type 0 where
+  pub ys : List Item
+  pub owed : answer read p calls x ≡ Ok ys
+  pub out : after ≡ before ++ on_pad 0 ys
+  pub is_in : IsIn read (with_item read p x) (calls_behind read p calls x) parser
+
+-- The same for a body in the data.
+pub record Passed (k : Known) (place : ℕ) (calls : List Call) (body : List ℕ) (parser : WavParse) (before after : List Out) : Type 0 where
+  pub ys : List Item
+  pub owed : next_owed (parses_raw k.info) calls (body_item (within k.head.size place body)) ≡ Ok ys
+  pub out : after ≡ before ++ on_pad 0 ys
+  pub known : KnowsHead (Some k) (calls ++ Feed (body_item (within k.head.size place body)) ∷ []) parser.known
+  pub phase : parser.phase ≡ Passing (left_of k.head.size (place + length body))
