@@ -58,8 +58,9 @@ stream_kind BadFmt = BadFormat
 stream_kind TagUnknown = UnknownTag
 stream_kind HeadTooLong = TooLongHead
 
--- The function tells of all bytes what the RIFF WAVE format says of them.
+-- The function tells of all bytes what the RIFF WAVE format says of them, and of a head where there is one.
 pub record ReadsHeads (read : List ℕ → Told) : Type 0 where
   pub whole : (bytes : List ℕ) (head : Head) (info : Info) → AreBytes bytes → BeginsWithHead bytes head → IsFormatOf head info → read bytes ≡ Whole head info
   pub more : (bytes : List ℕ) → AreBytes bytes → CutIn bytes → read bytes ≡ More
   pub wrong : (bytes : List ℕ) (place : ℕ) (kind : WavKind) → AreBytes bytes → FaultIn bytes place kind → read bytes ≡ Wrong place (stream_kind kind)
+  pub only : (bytes : List ℕ) (head : Head) (info : Info) → read bytes ≡ Whole head info → AreBytes bytes × BeginsWithHead bytes head × IsFormatOf head info

@@ -30,7 +30,7 @@ KnowsHead (Some k) calls (Some has) = IsKnown k calls has
 
 -- it stands where the part does
 abbrev pub StandsAs : Standing → List ℕ → Phase → Type 0
-StandsAs Unbegun bytes Fresh = Unit {0}
+StandsAs Unbegun bytes Fresh = bytes ≡ []
 StandsAs InHead bytes (Reading has) = (gathered has ≡ bytes) × IsSound has
 StandsAs (InData k place) bytes (Passing left) = left ≡ left_of k.head.size place
 StandsAs _ bytes _ = ⊥
@@ -40,7 +40,6 @@ pub record IsIn (read : List ℕ → Told) (part : Part) (given : List Call) (pa
   pub reads : ReadsHeads read
   pub knows : KnowsHead (known_in read part) given parser.known
   pub stands : StandsAs (standing read part) part.bytes parser.phase
-  pub unbegun : parser.phase ≡ Fresh → part.bytes ≡ []
 
 -- how far its rule has come
 abbrev pub parsed : (List ℕ → Told) → List Call → Fed

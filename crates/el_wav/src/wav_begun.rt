@@ -45,8 +45,11 @@ pub(crate) fn read_on(
             kind: stream_kind(kind),
         }),
         HeadAnswer::Whole(head) => {
-            let data = gathered.bytes_from(alloc, head.start)?;
-            Ok(Some(begin_data(alloc, head, data, out)?))
+            let first = gathered.bytes_from(alloc, head.start)?;
+            match begin_data(alloc, head, first, out) {
+                Ok(begun) => Ok(Some(begun)),
+                Err(fault) => Err(fault),
+            }
         }
     }
 }
@@ -55,12 +58,12 @@ pub(crate) fn read_on(
 fn begin_data(
     alloc: Global,
     head: Head,
-    data: Body,
+    first: Body,
     out: &mut Outs,
 ) -> Result<Begun, ElementFault>
-    ensures begun { IfOk result (λ begun. (bytes : List ℕ) → data ≡ drop head.start bytes → BeganData head bytes begun out.old out.new) }
+    ensures begun { IfOk result (λ begun. (bytes : List ℕ) → first ≡ drop head.start bytes → BeganData head bytes begun out.old out.new) }
     ensures out { OnErr result (out.new ≡ out.old) }
-    ensures fault { IfErr result (λ fault. (bytes : List ℕ) → data ≡ drop head.start bytes → IsBeginFault head bytes fault) }
+    ensures fault { IfErr result (λ fault. (bytes : List ℕ) → first ≡ drop head.start bytes → IsBeginFault head bytes fault) }
 {
     let Some(mut known) = KnownHead::new(head) else {
         return Err(ElementFault::BadStream {
@@ -68,9 +71,13 @@ fn begin_data(
             kind: StreamKind::BadFmt,
         });
     };
-    let (data, left) = cut_data(alloc, data, left_of(head.size, 0))?;
-    known.feed(alloc, body_item(data), out)?;
-    Ok(Begun { known, left })
+    let Ok((cut, left)) = cut_data(alloc, first, left_of(head.size, 0)) else {
+        return Err(ElementFault::OutOfMemory);
+    };
+    match known.feed(alloc, body_item(cut), out) {
+        Ok(()) => Ok(Begun { known, left }),
+        Err(fault) => Err(fault),
+    }
 }
 
 /// The fault of a stream whose bytes are no head.

@@ -85,8 +85,10 @@ impl KnownHead {
         ensures stays { OnErr result ((self.new ≡ self.old) × (out.new ≡ out.old)) }
         ensures fault { IfErr result (λ fault. (k : Known) (calls : List Call) → IsKnown k calls self.old → IsFaultOf (next_owed (parses_raw k.info) calls item) fault) }
     {
-        self.raw.feed(alloc, 0, item, out)?;
-        Ok(())
+        match self.raw.feed(alloc, 0, item, out) {
+            Ok(_) => Ok(()),
+            Err(fault) => Err(fault),
+        }
     }
 
     /// Lets the parser begin a new section.

@@ -44,11 +44,23 @@ impl Gathered {
         ensures stays { IsSound self.old → gathered self.new ≡ gathered self.old }
         ensures sound { IsSound self.old → IsSound self.new }
     {
-        if self.count < self.reader.bytes().len() {
-            let reader = read_again(alloc, &self.reader.bytes()[..self.count])?;
-            self.reader = reader;
-        }
+        self.forget_others(alloc)?;
         Ok(self.reader.read(more)?)
+    }
+
+    /// Gives up the bytes that do not count.
+    fn forget_others(&mut self, alloc: Global) -> Result<(), OutOfMemory>
+        ensures bytes { OnOk result (IsSound self.old → bytes_of self.new.reader ≡ gathered self.old) }
+        ensures count { self.new.count ≡ self.old.count }
+        ensures sound { OnOk result (IsSound self.old → IsSound self.new) }
+        ensures stays { OnErr result (self.new ≡ self.old) }
+    {
+        if self.count >= self.reader.bytes().len() {
+            return Ok(());
+        }
+        let reader = read_again(alloc, &self.reader.bytes()[..self.count])?;
+        self.reader = reader;
+        Ok(())
     }
 
     /// Lets all bytes count that were read.

@@ -1,13 +1,17 @@
 //! The element that reads WAV files, as GStreamer's wavparse.
-ghost use Rattle.std.specs.Prelude.{◌≡◌, ◌≢◌, ◌<◌, ◌+◌, ◌*◌, ◌^◌, ◌++◌, ◌∷◌, [], ℕ, List, Ok, Some, true, false, MatchOption, IfOk, OnOk, OnErr, IfErr};
+ghost use Rattle.std.specs.Prelude.{◌≡◌, ◌≢◌, ◌<◌, ◌+◌, ◌*◌, ◌^◌, ◌++◌, ◌∷◌, [], ℕ, List, Ok, Some, None, Option, length, true, false, MatchOption, IfOk, OnOk, OnErr, IfErr};
 ghost use Rattle.std.specs.Option.{option_map};
 ghost use Rattle.flow_model.specs.Item.{Item, Buf, Ev, NewSegment, FlushStop, Eos, is_caps, is_segment, is_eos, is_flush_stop};
 ghost use Rattle.flow_model.specs.Call.{Call, Feed, Act, Drain};
 ghost use Rattle.flow_model.specs.Feeding.{flow_behind, on_pad, next_owed, IsFaultOf};
 ghost use Rattle.el_wav.specs.WavParseHeads.{Told, ReadsHeads};
-ghost use Rattle.el_wav.specs.WavParseParts.{Known, Part, Standing, place_at};
+ghost use Rattle.el_wav.specs.WavParseParts.{Known, Part, Standing, goes_on, place_at};
 ghost use Rattle.el_wav.specs.WavParseRule.{parses, answer, left_of, within, body_item};
 ghost use Rattle.el_parse.specs.Parses.{parses as parses_raw};
+ghost use Rattle.el_wav.specs.WavParsed.{KnowsHead};
+ghost use Rattle.wav_format.specs.Chunks.{BeginsWithHead};
+ghost use Rattle.wav_format.specs.Format.{AreBytes};
+ghost use Rattle.gst_item.specs.declared.fault.ElementFault.TheVariants.{OutOfMemory as Wanting};
 ghost use Rattle.el_wav.specs.declared.wav_parse.Phase.TheVariants.{InData as Passing};
 
 use crate::wav_put_out::put_out;
@@ -18,7 +22,7 @@ use gst_caps::OutOfMemory;
 use gst_item::{Body, Buffer, ElementFault, Event, Flow, Item, Outs, StreamKind};
 use gst_time::{Format, Segment};
 use std::alloc::Global;
-use wav_format::Head;
+use wav_format::{Head, head_stays};
 
 /// What the next bytes are.
 #[derive(Drop)]
@@ -42,8 +46,8 @@ pub struct WavParse {
 }
 
 impl WavParse {
-    ghost use Rattle.el_wav.specs.WavParsed.{IsIn, KnowsHead, Parsed, known_behind, place_of_frame};
-    ghost use Rattle.el_wav.specs.WavParseSteps.{Took, Passed};
+    ghost use Rattle.el_wav.specs.WavParsed.{IsIn, Parsed, known_behind, place_of_frame};
+    ghost use Rattle.el_wav.specs.WavParseSteps.{Took, FedOn, IsPlaceIn, ReadFirst, head_owed};
 
     /// An element that was fed nothing yet, and knows no head.
     pub fn new() -> WavParse
@@ -94,9 +98,7 @@ impl WavParse {
         ensures { (read : List ℕ → Told) (calls : List Call) (put : List Item) (number : ℕ) → Parsed read self.old calls put
             → Parsed read self.new (calls ++ Feed (Ev (FlushStop number)) ∷ []) (put ++ Ev (FlushStop number) ∷ []) }
     {
-        if let Some(known) = &mut self.known {
-            known.flush();
-        }
+        flush_known(&mut self.known);
         set(&mut self.phase, Phase::Unbegun);
         self.ended = false;
     }
@@ -158,11 +160,22 @@ impl WavParse {
             Item::Event(Event::Segment(segment)) => self.parse_segment(alloc, segment, out),
             Item::Event(Event::Caps(_)) => Ok(()),
             Item::Event(Event::Eos) => self.end(alloc, out),
-            Item::Event(event) => {
-                put_out(alloc, Item::Event(event), out)?;
-                Ok(())
-            }
+            Item::Event(event) => self.pass(alloc, event, out),
         }
+    }
+
+    /// Lets an event pass.
+    fn pass(&self, alloc: Global, event: Event, out: &mut Outs) -> Result<(), ElementFault>
+        requires caps { is_caps (Ev event) ≡ false }
+        requires segment { is_segment (Ev event) ≡ false }
+        requires eos { is_eos (Ev event) ≡ false }
+        requires no_flush { is_flush_stop (Ev event) ≡ false }
+        ensures took { OnOk result ((read : List ℕ → Told) (part : Part) (calls : List Call) → IsIn read part calls self.now → Took read part calls (Ev event) self.now out.old out.new) }
+        ensures out { OnErr result (out.new ≡ out.old) }
+        ensures fault { IfErr result (λ fault. fault ≡ Wanting) }
+    {
+        put_out(alloc, Item::Event(event), out)?;
+        Ok(())
     }
 
     /// Takes bytes of a head or of the data.
@@ -183,18 +196,37 @@ impl WavParse {
                 let left = *left;
                 self.pass_data(alloc, buffer.body, left, out)
             }
-            Phase::InHead(gathered) => {
-                let begun = read_on(alloc, gathered, &buffer.body, out)?;
-                self.begin(begun);
-                Ok(())
-            }
-            Phase::Unbegun => {
-                let mut gathered = Gathered::new(alloc);
-                let begun = read_on(alloc, &mut gathered, &buffer.body, out)?;
+            Phase::InHead(gathered) => match read_on(alloc, gathered, &buffer.body, out) {
+                Ok(begun) => {
+                    self.begin(begun);
+                    Ok(())
+                }
+                Err(fault) => Err(fault),
+            },
+            Phase::Unbegun => self.read_first(alloc, buffer.body, out),
+        }
+    }
+
+    /// Takes the first bytes of a head, where no SEGMENT stands before them.
+    fn read_first(
+        &mut self,
+        alloc: Global,
+        body: Body,
+        out: &mut Outs,
+    ) -> Result<(), ElementFault>
+        ensures read { OnOk result ((read : List ℕ → Told) → ReadsHeads read → ReadFirst read body self.old.known self.new.known self.new.phase out.old out.new) }
+        ensures ended { self.new.ended ≡ self.old.ended }
+        ensures stays { OnErr result ((self.new ≡ self.old) × (out.new ≡ out.old)) }
+        ensures fault { IfErr result (λ fault. (read : List ℕ → Told) (calls : List Call) → ReadsHeads read → IsFaultOf (head_owed read calls body) fault) }
+    {
+        let mut gathered = Gathered::new(alloc);
+        match read_on(alloc, &mut gathered, &body, out) {
+            Ok(begun) => {
                 set(&mut self.phase, Phase::InHead(gathered));
                 self.begin(begun);
                 Ok(())
             }
+            Err(fault) => Err(fault),
         }
     }
 
@@ -206,18 +238,39 @@ impl WavParse {
         left: Option<u64>,
         out: &mut Outs,
     ) -> Result<(), ElementFault>
-        ensures took { OnOk result ((k : Known) (place : ℕ) (calls : List Call) → left ≡ left_of k.head.size place → KnowsHead (Some k) calls self.old.known → Passed k place calls body self.new out.old out.new) }
+        ensures fed { OnOk result ((k : Known) (place : ℕ) (calls : List Call) → left ≡ left_of k.head.size place → KnowsHead (Some k) calls self.old.known → FedOn k calls (body_item (within k.head.size place body)) self.new.known out.old out.new) }
+        ensures phase { OnOk result ((size : Option ℕ) (place : ℕ) → left ≡ left_of size place → self.new.phase ≡ Passing (left_of size (place + length body))) }
         ensures ended { self.new.ended ≡ self.old.ended }
         ensures stays { OnErr result ((self.new ≡ self.old) × (out.new ≡ out.old)) }
         ensures fault { IfErr result (λ fault. (k : Known) (place : ℕ) (calls : List Call) → left ≡ left_of k.head.size place → KnowsHead (Some k) calls self.old.known → IsFaultOf (next_owed (parses_raw k.info) calls (body_item (within k.head.size place body))) fault) }
+        ensures bytes { AreBytes body }
+        ensures longer { (bytes more : List ℕ) (head : Head) → BeginsWithHead bytes head → BeginsWithHead (bytes ++ more) head }
     {
-        let (data, left) = cut_data(alloc, body, left)?;
+        head_stays();
+        are_bytes(body.as_slice());
+        let (cut, left) = cut_data(alloc, body, left)?;
+        match self.feed_data(alloc, body_item(cut), out) {
+            Ok(()) => {
+                set(&mut self.phase, Phase::InData { left });
+                Ok(())
+            }
+            Err(fault) => Err(fault),
+        }
+    }
+
+    /// Gives the parser of the data an item.
+    fn feed_data(&mut self, alloc: Global, item: Item, out: &mut Outs) -> Result<(), ElementFault>
+        requires { is_flush_stop item ≡ false }
+        ensures fed { OnOk result ((k : Known) (calls : List Call) → KnowsHead (Some k) calls self.old.known → FedOn k calls item self.new.known out.old out.new) }
+        ensures phase { self.new.phase ≡ self.old.phase }
+        ensures ended { self.new.ended ≡ self.old.ended }
+        ensures stays { OnErr result ((self.new ≡ self.old) × (out.new ≡ out.old)) }
+        ensures fault { IfErr result (λ fault. (k : Known) (calls : List Call) → KnowsHead (Some k) calls self.old.known → IsFaultOf (next_owed (parses_raw k.info) calls item) fault) }
+    {
         let Some(known) = &mut self.known else {
             return Ok(());
         };
-        known.feed(alloc, body_item(data), out)?;
-        set(&mut self.phase, Phase::InData { left });
-        Ok(())
+        known.feed(alloc, item, out)
     }
 
     /// Goes on in the data, where it was begun.
@@ -243,17 +296,31 @@ impl WavParse {
         ensures stays { OnErr result ((self.new ≡ self.old) × (out.new ≡ out.old)) }
         ensures fault { IfErr result (λ fault. (read : List ℕ → Told) (part : Part) (calls : List Call) → IsIn read part calls self.old → IsFaultOf (answer read part calls (Ev (NewSegment segment))) fault) }
     {
-        let place = place_of(&segment);
-        if let Some(known) = &mut self.known {
-            if let Some(at) = known.place_in_data(place) {
-                known.feed(alloc, segment_item(at), out)?;
-                let left = left_of(known.head().size, at);
-                set(&mut self.phase, Phase::InData { left });
-                return Ok(());
+        match self.data_place(place_of(&segment)) {
+            Some((at, left)) => match self.feed_data(alloc, segment_item(at), out) {
+                Ok(()) => {
+                    set(&mut self.phase, Phase::InData { left });
+                    Ok(())
+                }
+                Err(fault) => Err(fault),
+            },
+            None => {
+                set(&mut self.phase, Phase::InHead(Gathered::new(alloc)));
+                Ok(())
             }
         }
-        set(&mut self.phase, Phase::InHead(Gathered::new(alloc)));
-        Ok(())
+    }
+
+    /// The place in the data of a place in the file, and how many bytes of data are left there. None where the known
+    /// data begins behind it, or none is known.
+    fn data_place(&self, place: u64) -> Option<(u64, Option<u64>)>
+        ensures { (known : Option Known) (calls : List Call) → KnowsHead known calls self.now.known → MatchOption result (goes_on known place ≡ None) (IsPlaceIn known place) }
+    {
+        let Some(known) = &self.known else {
+            return None;
+        };
+        let at = known.place_in_data(place)?;
+        Some((at, left_of(known.head().size, at)))
     }
 
     /// Ends the stream, where it may end.
@@ -302,6 +369,11 @@ impl Phase {
     }
 }
 
+/// A law: a slice of bytes holds bytes.
+fn are_bytes(_bytes: &[u8])
+    ensures { AreBytes _bytes.now }
+{}
+
 /// The place in the file at which a segment begins.
 fn place_of(segment: &Segment) -> u64
     ensures { result ≡ place_at segment.now.start segment.now.format }
@@ -309,6 +381,16 @@ fn place_of(segment: &Segment) -> u64
     match segment.format {
         Format::Bytes => segment.start,
         Format::Time => 0,
+    }
+}
+
+/// Lets the parser of the data begin a new section.
+fn flush_known(known: &mut Option<KnownHead>)
+    ensures { (k : Option Known) (calls : List Call) (number : ℕ) → KnowsHead k calls known.old → KnowsHead k (calls ++ Feed (Ev (FlushStop number)) ∷ []) known.new }
+{
+    match known {
+        Some(known) => known.flush(),
+        None => {}
     }
 }
 
