@@ -55,12 +55,7 @@ pub(crate) fn read_on(
 }
 
 /// Gives the parser of the data behind a head the first bytes there.
-fn begin_data(
-    alloc: Global,
-    head: Head,
-    first: Body,
-    out: &mut Outs,
-) -> Result<Begun, ElementFault>
+fn begin_data(alloc: Global, head: Head, first: Body, out: &mut Outs) -> Result<Begun, ElementFault>
     ensures begun { IfOk result (λ begun. (bytes : List ℕ) → first ≡ drop head.start bytes → BeganData head bytes begun out.old out.new) }
     ensures out { OnErr result (out.new ≡ out.old) }
     ensures fault { IfErr result (λ fault. (bytes : List ℕ) → first ≡ drop head.start bytes → IsBeginFault head bytes fault) }

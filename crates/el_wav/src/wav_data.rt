@@ -76,7 +76,12 @@ impl KnownHead {
     }
 
     /// Gives the parser an item.
-    pub(crate) fn feed(&mut self, alloc: Global, item: Item, out: &mut Outs) -> Result<(), ElementFault>
+    pub(crate) fn feed(
+        &mut self,
+        alloc: Global,
+        item: Item,
+        out: &mut Outs,
+    ) -> Result<(), ElementFault>
         requires { is_flush_stop item ≡ false }
         ensures fed { IfOk result (λ done. (k : Known) (calls : List Call) → IsKnown k calls self.old
             → (ys : List Item) × (next_owed (parses_raw k.info) calls item ≡ Ok ys) × (out.new ≡ out.old ++ on_pad 0 ys) × IsKnown k (calls ++ Feed item ∷ []) self.new) }
@@ -160,7 +165,11 @@ pub(crate) fn left_of(size: Option<u64>, place: u64) -> Option<u64>
 }
 
 /// The bytes of a body that are within the data, of which so many are left, and how many are then left.
-pub(crate) fn cut_data(alloc: Global, body: Body, left: Option<u64>) -> Result<(Body, Option<u64>), OutOfMemory>
+pub(crate) fn cut_data(
+    alloc: Global,
+    body: Body,
+    left: Option<u64>,
+) -> Result<(Body, Option<u64>), OutOfMemory>
     ensures body { IfOk result (λ cut. (size : Option ℕ) (place : ℕ) → left ≡ left_of size place → cut.0 ≡ within size place body) }
     ensures left { IfOk result (λ cut. (size : Option ℕ) (place : ℕ) → left ≡ left_of size place → cut.1 ≡ left_of size (place + length body)) }
 {

@@ -14,10 +14,10 @@ ghost use Rattle.wav_format.specs.Format.{AreBytes};
 ghost use Rattle.gst_item.specs.declared.fault.ElementFault.TheVariants.{OutOfMemory as Wanting};
 ghost use Rattle.el_wav.specs.declared.wav_parse.Phase.TheVariants.{InData as Passing};
 
-use crate::wav_put_out::put_out;
 use crate::wav_begun::{Begun, read_on};
 use crate::wav_data::{KnownHead, body_item, cut_data, left_of, segment_item};
 use crate::wav_gathered::Gathered;
+use crate::wav_put_out::put_out;
 use gst_caps::OutOfMemory;
 use gst_item::{Body, Buffer, ElementFault, Event, Flow, Item, Outs, StreamKind};
 use gst_time::{Format, Segment};
@@ -72,11 +72,11 @@ impl WavParse {
     pub fn feed(
         &mut self,
         alloc: Global,
-        pad: u32,
+        _pad: u32,
         item: Item,
         out: &mut Outs,
     ) -> Result<Flow, ElementFault>
-        requires pad { pad ≡ 0 }
+        requires pad { _pad ≡ 0 }
         requires no_flush { is_flush_stop item ≡ false }
         ensures fed { IfOk result (λ flow. (read : List ℕ → Told) (calls : List Call) (put : List Item) → Parsed read self.old calls put
             → (ys : List Item) × (next_owed (parses read) calls item ≡ Ok ys) × (out.new ≡ out.old ++ on_pad 0 ys) × Parsed read self.new (calls ++ Feed item ∷ []) (put ++ ys)) }
@@ -85,7 +85,6 @@ impl WavParse {
         ensures out { OnErr result (out.new ≡ out.old) }
         ensures fault { IfErr result (λ fault. (read : List ℕ → Told) (calls : List Call) (put : List Item) → Parsed read self.old calls put → IsFaultOf (next_owed (parses read) calls item) fault) }
     {
-        let _pad = pad;
         if self.ended {
             return Ok(Flow::Eos);
         }
@@ -208,12 +207,7 @@ impl WavParse {
     }
 
     /// Takes the first bytes of a head, where no SEGMENT stands before them.
-    fn read_first(
-        &mut self,
-        alloc: Global,
-        body: Body,
-        out: &mut Outs,
-    ) -> Result<(), ElementFault>
+    fn read_first(&mut self, alloc: Global, body: Body, out: &mut Outs) -> Result<(), ElementFault>
         ensures read { OnOk result ((read : List ℕ → Told) → ReadsHeads read → ReadFirst read body self.old.known self.new.known self.new.phase out.old out.new) }
         ensures ended { self.new.ended ≡ self.old.ended }
         ensures stays { OnErr result ((self.new ≡ self.old) × (out.new ≡ out.old)) }

@@ -13,11 +13,13 @@ use std::process::Abort;
 use std::test::Fail;
 
 /// The head of a file of frames of two bytes, 8000 in a second, up to the size of its data.
-const FRONT: &str = "524946462800000057415645666d74201000000001000100401f0000803e00000200100064617461";
+const FRONT: &str =
+    "524946462800000057415645666d74201000000001000100401f0000803e00000200100064617461";
 
 /// `+/x` is a buffer of the front and these bytes, `+/x:n` of the first n of them, `+x` one without the front, and
 /// `*/x` such bytes one by one. `@` asks for the place of frame 3 and the start of the head.
-const PARSED: &str = "start bytes=0 +/0400000001000200 eos -> + + + + : start caps=S16LE,8000,1 time=0 +01000200,0,0,250000 eos
+const PARSED: &str =
+    "start bytes=0 +/0400000001000200 eos -> + + + + : start caps=S16LE,8000,1 time=0 +01000200,0,0,250000 eos
 */0400000001000200 eos -> + + : caps=S16LE,8000,1 time=0 +0100,0,0,125000 +0200,1,125000,125000 eos
 +/04000000:43 eos -> + short:43 :
 +5249 +4658 -> + riff:3 :
@@ -158,7 +160,13 @@ fn tell_event(text: &mut String, event: &Event) -> Result<(), Fail> {
     match event {
         Event::StreamStart { .. } => text.push_str("start")?,
         Event::Caps(caps) => match Info::from_fixed(caps) {
-            Ok(info) => write!(text, "caps={},{},{}", info.format.name(), info.rate, info.channels)?,
+            Ok(info) => write!(
+                text,
+                "caps={},{},{}",
+                info.format.name(),
+                info.rate,
+                info.channels
+            )?,
             Err(_) => text.push_str("caps")?,
         },
         Event::Segment(segment) => write!(text, "time={}", segment.start)?,
