@@ -1,5 +1,5 @@
 -- The numbers of a head that bytes begin with.
-use Rattle.std.proofs.Common.{◌≡◌, ◌≢◌, ◌≤◌, ◌+◌, zero, suc, ℕ, inl, inr, Bool, true, false, List, Option, Some, None, codes, length, ◌-◌, if◌then◌else◌, refl, sym, ap, subst, ◌∙◌, arith}
+use Rattle.std.proofs.Common.{◌≡◌, ◌≢◌, ◌≤◌, ◌+◌, zero, suc, ℕ, inl, inr, Bool, true, false, List, Option, Some, None, codes, length, ◌-◌, if◌then◌else◌, refl, ap, subst, ◌∙◌, arith}
 use Rattle.std.proofs.lemmas.List.{length-drop}
 use Rattle.audio_info.specs.declared.sample.Sample.{Sample}
 use Rattle.audio_info.specs.declared.sample.Sample.TheVariants.{U8, S16LE, S24LE, S32LE, MuLaw, ALaw}

@@ -1,19 +1,16 @@
 -- A part with one more item.
-use Rattle.std.proofs.Common.{◌≡◌, ◌≤◌, ◌<◌, ◌+◌, ◌-◌, ℕ, Bool, true, false, if◌then◌else◌, List, [], ◌∷◌, ◌++◌, length, drop, Option, Some, None, refl, sym, ap, subst, ◌∙◌, arith, length-append, append-nil, codes, inl, inr, MatchOption, Result, Ok, Err}
+use Rattle.std.proofs.Common.{◌≡◌, ◌≤◌, ◌<◌, ◌+◌, ◌-◌, ℕ, Bool, true, false, if◌then◌else◌, List, [], ◌∷◌, ◌++◌, length, Option, Some, None, refl, sym, ap, subst, ◌∙◌, arith, length-append, append-nil, inl, MatchOption}
 use Rattle.std.specs.Prelude.{nat_le, unwrap_or}
 use Rattle.std.proofs.lemmas.Bool.{le-leb, lt-leb}
 use Rattle.std.proofs.lemmas.List.{length-drop}
 use Rattle.gst_item.specs.declared.out.Out.{Out}
-use Rattle.gst_item.specs.declared.fault.ElementFault.{ElementFault}
-use Rattle.audio_info.specs.declared.info.Info.{Info}
 use Rattle.wav_format.specs.declared.head.Head.{Head}
 use Rattle.wav_format.specs.Chunks.{BeginsWithHead}
-use Rattle.wav_format.specs.Cuts.{CutIn}
 use Rattle.wav_format.specs.Format.{AreBytes}
-use Rattle.flow_model.specs.Item.{Item, Buf, Ev, Event, Buffer, Segment, StreamStart, NewCaps, NewSegment, Tag, Gap, FlushStop, Eos, is_caps, is_segment, is_eos, is_flush_stop}
+use Rattle.flow_model.specs.Item.{Buf, Ev, Event, Buffer, Segment, StreamStart, NewCaps, NewSegment, Tag, Gap, FlushStop, Eos, is_caps, is_segment, is_eos, is_flush_stop}
 use Rattle.flow_model.specs.Source.{bytes_segment}
 use Rattle.flow_model.specs.Call.{Call, Feed}
-use Rattle.flow_model.specs.Feeding.{next_owed, on_pad, IsFaultOf}
+use Rattle.flow_model.specs.Feeding.{next_owed, on_pad}
 use Rattle.el_parse.specs.Parses.{parses as parses_raw}
 use Rattle.el_wav.specs.declared.wav_begun.Begun.{Begun}
 use Rattle.el_wav.specs.declared.wav_data.KnownHead.{KnownHead}
@@ -21,15 +18,15 @@ use Rattle.el_wav.specs.declared.wav_gathered.Gathered.{Gathered}
 use Rattle.el_wav.specs.declared.wav_parse.Phase.{Phase}
 use Rattle.el_wav.specs.declared.wav_parse.Phase.TheVariants.{Unbegun as Fresh, InHead as Reading, InData as Passing}
 use Rattle.el_wav.specs.declared.wav_parse.WavParse.{WavParse}
-use Rattle.el_wav.specs.WavParseHeads.{Told, Whole, More, Wrong, IsFormatOf, ReadsHeads}
+use Rattle.el_wav.specs.WavParseHeads.{Told, Whole, More, Wrong, ReadsHeads}
 use Rattle.el_wav.specs.WavParseParts.{Known, Part, Standing, Unbegun, InHead, InData, Broken, goes_on, read_as, stands_at, stands_from, standing, known_by, known_in, place_at, with_item}
-use Rattle.el_wav.specs.WavParseRule.{within, left_of, Passed, Nothing, OneMore, First, body_item, pass_first, pass_body, pass_segment, passed, calls_with, owed_with, calls_behind, unless_broken, end_owed, answer}
+use Rattle.el_wav.specs.WavParseRule.{within, left_of, Passed, Nothing, OneMore, First, body_item, pass_first, pass_body, pass_segment, passed, calls_with, owed_with, calls_behind, unless_broken, answer}
 use Rattle.el_wav.specs.WavParseData.{IsKnown}
 use Rattle.el_wav.specs.WavParseGathered.{gathered, IsSound}
 use Rattle.el_wav.proofs.WavParseFits.{head_within}
 use Rattle.el_wav.proofs.WavParseGathering.{bytes_joined}
 use Rattle.el_wav.specs.WavParsed.{KnowsHead, StandsAs, IsIn}
-use Rattle.el_wav.specs.WavParseSteps.{BeganData, ReadOn, IsBehind, FedOn, IsPlaceIn, Took, data_item, head_owed}
+use Rattle.el_wav.specs.WavParseSteps.{ReadOn, IsBehind, FedOn, IsPlaceIn, Took, data_item, head_owed}
 
 -- ---- where a reader stands
 

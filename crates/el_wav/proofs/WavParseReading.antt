@@ -1,5 +1,5 @@
 -- Reading on in a head.
-use Rattle.std.proofs.Common.{◌≡◌, ◌≢◌, ◌+◌, ℕ, inl, inr, List, [], ◌∷◌, ◌++◌, length, drop, Option, Some, None, refl, sym, ap, subst, ◌∙◌, arith, Result, Ok, Err}
+use Rattle.std.proofs.Common.{◌≡◌, ◌+◌, ℕ, inl, inr, List, [], ◌∷◌, ◌++◌, length, drop, Option, refl, ap, subst, ◌∙◌, arith, Ok, Err}
 use Rattle.audio_info.specs.declared.info.Info.{Info}
 use Rattle.gst_item.specs.declared.out.Out.{Out}
 use Rattle.gst_item.specs.declared.fault.ElementFault.{ElementFault}
@@ -15,9 +15,8 @@ use Rattle.flow_model.specs.Call.{Call, Feed}
 use Rattle.flow_model.specs.Rule.{BadStream}
 use Rattle.flow_model.specs.Feeding.{next_owed, on_pad, IsFaultOf}
 use Rattle.el_parse.specs.Parses.{parses as parses_raw}
-use Rattle.el_wav.specs.declared.wav_begun.Begun.{Begun}
 use Rattle.el_wav.specs.declared.wav_data.KnownHead.{KnownHead}
-use Rattle.el_wav.specs.WavParseHeads.{Told, Whole, More, Wrong, IsFormatOf, ReadsHeads, stream_kind}
+use Rattle.el_wav.specs.WavParseHeads.{Told, Whole, More, IsFormatOf, ReadsHeads, stream_kind}
 use Rattle.el_wav.specs.WavParseRule.{body_item, within, left_of}
 use Rattle.el_wav.specs.WavParseData.{IsKnown}
 use Rattle.el_wav.specs.WavParseSteps.{BeganData, IsBeginFault, data_item, head_owed}

@@ -1,7 +1,6 @@
 -- A reader of WAV files with one more call.
-use Rattle.std.proofs.Common.{◌≡◌, ℕ, Bool, true, false, List, [], ◌∷◌, ◌++◌, refl, sym, ap, subst, ◌∙◌, append-nil, Result, Ok, Err, fold, OnOk, IfOk, IfErr}
+use Rattle.std.proofs.Common.{◌≡◌, ℕ, true, false, List, [], ◌∷◌, ◌++◌, refl, sym, ap, subst, ◌∙◌, append-nil, Result, Ok, Err, fold, OnOk, IfOk, IfErr}
 use Rattle.gst_item.specs.declared.out.Out.{Out}
-use Rattle.gst_item.specs.declared.fault.ElementFault.{ElementFault}
 use Rattle.flow_model.specs.Item.{Item, Ev, FlushStop, Eos, is_flush_stop, is_eos}
 use Rattle.flow_model.specs.Call.{Call, Feed, Act, Drain, items}
 use Rattle.flow_model.specs.Rule.{Fed}

@@ -1,7 +1,5 @@
 -- What a reader of WAV files has gathered of a head.
-use Rattle.std.specs.Prelude.{◌≡◌, ◌≤◌, ℕ, List, [], ◌∷◌, ◌++◌, length, take, drop, Option, Some, None, Ok}
-use Rattle.wav_format.specs.declared.head.HeadAnswer.{HeadAnswer}
-use Rattle.wav_format.specs.Answers.{AnswerIn}
+use Rattle.std.specs.Prelude.{◌≤◌, ℕ, List, length, take}
 use Rattle.wav_format.specs.Format.{AreBytes}
 use Rattle.wav_format.specs.Gathered.{StandsBehind, bytes_of}
 use Rattle.el_wav.specs.declared.wav_gathered.Gathered.{Gathered}

@@ -3,12 +3,11 @@
 use Rattle.std.specs.Prelude.{ℕ, ◌-◌, false, List, [], ◌∷◌, ◌++◌, length, take, drop, Option, Some, None, Result, Ok, Err}
 use Rattle.std.specs.Option.{option_map}
 use Rattle.audio_info.specs.declared.info.Info.{Info}
-use Rattle.gst_item.specs.declared.fault.StreamKind.{StreamKind}
 use Rattle.gst_item.specs.declared.fault.StreamKind.TheVariants.{Short}
-use Rattle.flow_model.specs.Item.{Item, Buf, Ev, Buffer, NewCaps, NewSegment, FlushStop, Eos}
+use Rattle.flow_model.specs.Item.{Item, Buf, Ev, NewCaps, NewSegment, FlushStop, Eos}
 use Rattle.flow_model.specs.Source.{bytes_segment}
 use Rattle.flow_model.specs.Call.{Call, Feed, items}
-use Rattle.flow_model.specs.Rule.{Fed, Fault, BadStream, Response}
+use Rattle.flow_model.specs.Rule.{Fault, BadStream, Response}
 use Rattle.flow_model.specs.Feeding.{next_owed}
 use Rattle.el_parse.specs.Parses.{parses as parses_raw}
 use Rattle.el_wav.specs.WavParseHeads.{Told}

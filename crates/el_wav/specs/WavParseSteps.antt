@@ -1,5 +1,5 @@
 -- What one item does to a reader of WAV files.
-use Rattle.std.specs.Prelude.{◌≡◌, ℕ, ◌+◌, ◌-◌, List, [], ◌∷◌, ◌++◌, length, drop, Option, Some, None, Result, Ok, Err}
+use Rattle.std.specs.Prelude.{◌≡◌, ℕ, ◌-◌, List, [], ◌∷◌, ◌++◌, length, drop, Option, Some, None, Result, Ok}
 use Rattle.audio_info.specs.declared.info.Info.{Info}
 use Rattle.gst_item.specs.declared.out.Out.{Out}
 use Rattle.gst_item.specs.declared.fault.ElementFault.{ElementFault}
@@ -15,7 +15,7 @@ use Rattle.el_wav.specs.declared.wav_data.KnownHead.{KnownHead}
 use Rattle.el_wav.specs.declared.wav_parse.Phase.{Phase}
 use Rattle.el_wav.specs.declared.wav_parse.Phase.TheVariants.{InHead as Reading, InData as Passing}
 use Rattle.el_wav.specs.declared.wav_parse.WavParse.{WavParse}
-use Rattle.el_wav.specs.WavParseHeads.{Told, Whole, More, IsFormatOf, HeadFits, ReadsHeads}
+use Rattle.el_wav.specs.WavParseHeads.{Told, Whole, More, IsFormatOf, HeadFits}
 use Rattle.el_wav.specs.WavParseParts.{Known, Part, goes_on, read_as, with_item}
 use Rattle.el_wav.specs.WavParseRule.{body_item, within, left_of, pass_first, owed_with, unless_broken, answer, calls_behind}
 use Rattle.el_wav.specs.WavParseData.{IsKnown}

@@ -1,22 +1,16 @@
 -- For which fed and put-out lists a reader of WAV files stands.
-use Rattle.std.specs.Prelude.{◌≡◌, ◌≤◌, ℕ, ◌+◌, ◌-◌, ◌*◌, List, [], ◌++◌, length, take, Option, Some, None}
-use Rattle.std.specs.Option.{option_map}
-use Rattle.wav_format.specs.declared.head.Head.{Head}
-use Rattle.wav_format.specs.Format.{AreBytes}
-use Rattle.wav_format.specs.Gathered.{StandsBehind, bytes_of}
+use Rattle.std.specs.Prelude.{◌≡◌, ℕ, ◌+◌, ◌*◌, List, [], Option, Some, None}
 use Rattle.flow_model.specs.Item.{Item}
 use Rattle.flow_model.specs.Call.{Call, items}
 use Rattle.flow_model.specs.Rule.{Fed, unfed, all_called, owed_for}
 use Rattle.flow_model.specs.Feeding.{has_eos}
 use Rattle.el_parse.specs.Frames.{frame_width}
-use Rattle.el_parse.specs.Parsed.{Parsed as RawParsed}
 use Rattle.el_wav.specs.declared.wav_data.KnownHead.{KnownHead}
-use Rattle.el_wav.specs.declared.wav_gathered.Gathered.{Gathered}
 use Rattle.el_wav.specs.declared.wav_parse.Phase.{Phase}
 use Rattle.el_wav.specs.declared.wav_parse.Phase.TheVariants.{Unbegun as Fresh, InHead as Reading, InData as Passing}
 use Rattle.el_wav.specs.declared.wav_parse.WavParse.{WavParse}
 use Rattle.el_wav.specs.WavParseHeads.{Told, ReadsHeads}
-use Rattle.el_wav.specs.WavParseParts.{Known, Part, Standing, Unbegun, InHead, InData, Broken, standing, known_in, last_part}
+use Rattle.el_wav.specs.WavParseParts.{Known, Part, Standing, Unbegun, InHead, InData, standing, known_in, last_part}
 use Rattle.el_wav.specs.WavParseRule.{left_of, data_calls, parses}
 use Rattle.el_wav.specs.WavParseGathered.{gathered, IsSound}
 use Rattle.el_wav.specs.WavParseData.{IsKnown}

@@ -1,4 +1,4 @@
-use Rattle.std.proofs.Common.{ℕ, List, ◌++◌, ◌≤◌, length, sym, subst, arith}
+use Rattle.std.proofs.Common.{ℕ, List, ◌≤◌, length, sym, subst, arith}
 use Rattle.wav_format.specs.Format.{AreBytes}
 use Rattle.wav_format.specs.Gathered.{bytes_of}
 use Rattle.el_wav.proofs.WavParseGathering.{bytes_joined, counted_within}
