@@ -1,5 +1,5 @@
 -- A part with one more item.
-use Rattle.std.proofs.Common.{◌≡◌, ◌≤◌, ◌<◌, ◌+◌, ◌-◌, ℕ, Bool, true, false, if◌then◌else◌, List, [], ◌∷◌, ◌++◌, length, Option, Some, None, refl, sym, ap, subst, ◌∙◌, arith, length-append, append-nil, inl, MatchOption}
+use Rattle.std.proofs.Common.{◌≡◌, ◌≤◌, ◌<◌, ◌+◌, ◌-◌, ℕ, Bool, true, false, if◌then◌else◌, List, [], ◌∷◌, ◌++◌, length, Option, Some, None, refl, sym, ap, subst, ◌∙◌, arith, length-append, append-nil, inl, MatchOption, map, Result, Ok, Err}
 use Rattle.std.specs.Prelude.{nat_le, unwrap_or}
 use Rattle.std.proofs.lemmas.Bool.{le-leb, lt-leb}
 use Rattle.std.proofs.lemmas.List.{length-drop}
@@ -7,10 +7,13 @@ use Rattle.gst_item.specs.declared.out.Out.{Out}
 use Rattle.wav_format.specs.declared.head.Head.{Head}
 use Rattle.wav_format.specs.Chunks.{BeginsWithHead}
 use Rattle.wav_format.specs.Format.{AreBytes}
-use Rattle.flow_model.specs.Item.{Buf, Ev, Event, Buffer, Segment, StreamStart, NewCaps, NewSegment, Tag, Gap, FlushStop, Eos, is_caps, is_segment, is_eos, is_flush_stop}
+use Rattle.gst_item.specs.declared.fault.ElementFault.{ElementFault}
+use Rattle.gst_item.specs.declared.fault.ElementFault.TheVariants.{NotNegotiated as Refused, BadStream as Broken, TooLong as TooFar, OutOfMemory as Wanting}
+use Rattle.flow_model.specs.Rule.{Fault}
+use Rattle.flow_model.specs.Item.{Item, Buf, Ev, Event, Buffer, Segment, StreamStart, NewCaps, NewSegment, Tag, Gap, FlushStop, Eos, is_caps, is_segment, is_eos, is_flush_stop}
 use Rattle.flow_model.specs.Source.{bytes_segment}
 use Rattle.flow_model.specs.Call.{Call, Feed}
-use Rattle.flow_model.specs.Feeding.{next_owed, on_pad}
+use Rattle.flow_model.specs.Feeding.{next_owed, on_pad, IsFaultOf}
 use Rattle.el_parse.specs.Parses.{parses as parses_raw}
 use Rattle.el_wav.specs.declared.wav_begun.Begun.{Begun}
 use Rattle.el_wav.specs.declared.wav_data.KnownHead.{KnownHead}
@@ -20,13 +23,13 @@ use Rattle.el_wav.specs.declared.wav_parse.Phase.TheVariants.{Unbegun as Fresh, 
 use Rattle.el_wav.specs.declared.wav_parse.WavParse.{WavParse}
 use Rattle.el_wav.specs.WavParseHeads.{Told, Whole, More, Wrong, ReadsHeads}
 use Rattle.el_wav.specs.WavParseParts.{Known, Part, Standing, Unbegun, InHead, InData, Broken, goes_on, read_as, stands_at, stands_from, standing, known_by, known_in, place_at, with_item}
-use Rattle.el_wav.specs.WavParseRule.{within, left_of, Passed, Nothing, OneMore, First, body_item, pass_first, pass_body, pass_segment, passed, calls_with, owed_with, calls_behind, unless_broken, answer}
+use Rattle.el_wav.specs.WavParseRule.{last_of, last_owed, Reopens, within, left_of, Passed, Nothing, OneMore, First, body_item, pass_first, pass_body, pass_segment, passed, calls_with, owed_with, calls_behind, unless_broken, answer}
 use Rattle.el_wav.specs.WavParseData.{IsKnown}
 use Rattle.el_wav.specs.WavParseGathered.{gathered, IsSound}
 use Rattle.el_wav.proofs.WavParseFits.{head_within}
 use Rattle.el_wav.proofs.WavParseGathering.{bytes_joined}
 use Rattle.el_wav.specs.WavParsed.{KnowsHead, StandsAs, IsIn}
-use Rattle.el_wav.specs.WavParseSteps.{ReadOn, IsBehind, FedOn, IsPlaceIn, Took, data_item, head_owed}
+use Rattle.el_wav.specs.WavParseSteps.{ReadOn, IsBehind, FedOn, WentOn, IsPlaceIn, Took, data_item, head_owed}
 
 -- ---- where a reader stands
 
@@ -304,27 +307,54 @@ pub record Inside (known : Option Known) (place at : ℕ) (left : Option ℕ) : 
   pub left_is : left ≡ left_of k.head.size at
 
 pub segment_passes : (read : List ℕ → Told) (p : Part) (s : Segment) (place at : ℕ) (left : Option ℕ) → place ≡ place_at s.start s.format → (i : Inside (known_in read p) place at left)
-    → passed read p (Ev (NewSegment s)) ≡ OneMore i.k.info (Ev (NewSegment (bytes_segment at)))
+    → passed read p (Ev (NewSegment s)) ≡ Reopens i.k.info (Ev (NewSegment (bytes_segment at)))
 segment_passes read p s place at left e i =
-    ap (λ n. pass_segment (goes_on (known_in read p) n) n) (sym e) ∙ ap (λ g. pass_segment g place) i.goes ∙ ap (λ n. OneMore i.k.info (Ev (NewSegment (bytes_segment n)))) (sym i.at_is)
+    ap (λ n. pass_segment (goes_on (known_in read p) n) n) (sym e) ∙ ap (λ g. pass_segment g place) i.goes ∙ ap (λ n. Reopens i.k.info (Ev (NewSegment (bytes_segment n)))) (sym i.at_is)
 
 pub segment_answer : (read : List ℕ → Told) (p : Part) (s : Segment) (calls : List Call) (place at : ℕ) (left : Option ℕ) → place ≡ place_at s.start s.format → (i : Inside (known_in read p) place at left)
-    → answer read p calls (Ev (NewSegment s)) ≡ next_owed (parses_raw i.k.info) calls (Ev (NewSegment (bytes_segment at)))
+    → answer read p calls (Ev (NewSegment s)) ≡ last_owed (next_owed (parses_raw i.k.info) calls (Ev (NewSegment (bytes_segment at))))
 segment_answer read p s calls place at left e i = ap (owed_with calls) (segment_passes read p s place at left e i)
+
+last_push : (xs : List Out) (x : Out) → last_of (xs ++ x ∷ []) ≡ x ∷ []
+last_push [] x = refl
+last_push (y ∷ []) x = refl
+last_push (y ∷ z ∷ zs) x = last_push (z ∷ zs) x
+
+last_map : {A B : Type 0} (f : A → B) (xs : List A) → last_of (map f xs) ≡ map f (last_of xs)
+last_map f [] = refl
+last_map f (x ∷ []) = refl
+last_map f (x ∷ y ∷ ys) = last_map f (y ∷ ys)
+
+pub last_taken : (made front : List Out) (x : Out) → made ≡ front ++ x ∷ [] → last_of made ≡ x ∷ []
+last_taken made front x e = ap last_of e ∙ last_push front x
+
+pub last_none : (made : List Out) → length made ≡ 0 → last_of made ≡ []
+last_none [] e = refl
+last_none (x ∷ xs) e = absurd (omega (arith, e))
+
+pub went_on : (k : Known) (calls : List Call) (x : Item) (known : Option KnownHead) (before after made : List Out) → FedOn k calls x known [] made → after ≡ before ++ last_of made → WentOn k calls x known before after
+went_on k calls x known before after made (ys, owed, out, knows) e =
+    (ys, owed, e ∙ ap (λ zs. before ++ zs) (ap last_of out ∙ last_map (λ item. record { pad = 0; item = item }) ys), knows)
+
+pub last_fault : (owed : Result (List Item) Fault) (fault : ElementFault) → IsFaultOf owed fault → IsFaultOf (last_owed owed) fault
+last_fault owed (Refused offered wanted) e = ap last_owed e
+last_fault owed (Broken place kind) e = ap last_owed e
+last_fault owed (TooFar a b) e = ap last_owed e
+last_fault owed Wanting e = tt
 
 no_bytes : (n : ℕ) → n + 0 ≡ n
 no_bytes n = omega arith
 
 pub took_inside : (read : List ℕ → Told) (p : Part) (s : Segment) (calls : List Call) (place at : ℕ) (left : Option ℕ) (new : WavParse) (before after : List Out)
     → ReadsHeads read → place ≡ place_at s.start s.format → (i : Inside (known_in read p) place at left)
-    → FedOn i.k calls (Ev (NewSegment (bytes_segment at))) new.known before after → new.phase ≡ Passing left → Took read p calls (Ev (NewSegment s)) new before after
+    → WentOn i.k calls (Ev (NewSegment (bytes_segment at))) new.known before after → new.phase ≡ Passing left → Took read p calls (Ev (NewSegment s)) new before after
 took_inside read p s calls place at left new before after reads e i (ys, owed, out, knows) phase =
     let st : standing read (with_item read p (Ev (NewSegment s))) ≡ InData i.k (place - i.k.head.start + 0) =
     ap (λ n. stands_at read (goes_on (known_in read p) n) n []) (sym e) ∙ ap (λ g. stands_at read g place []) i.goes in
     let q = segment_passes read p s place at left e i in
     record {
-      ys = ys;
-      owed = segment_answer read p s calls place at left e i ∙ owed;
+      ys = last_of ys;
+      owed = segment_answer read p s calls place at left e i ∙ ap last_owed owed;
       out = out;
       is_in = record {
         reads = reads;

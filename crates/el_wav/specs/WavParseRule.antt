@@ -22,12 +22,13 @@ within (Some size) place bytes = take (size - place) bytes
 abbrev pub left_of : Option ℕ → ℕ → Option ℕ
 left_of size place = option_map (λ n. n - place) size
 
--- What the parser of the data is given for an item: nothing, one item more, or an item before which it was given
--- nothing, because a head was read.
+-- What the parser of the data is given for an item: nothing, one item more, an item before which it was given
+-- nothing, because a head was read, or a SEGMENT.
 pub data Passed : Type 0 where
   Nothing : Passed
   OneMore : (info : Info) (item : Item) → Passed
   First : (info : Info) (item : Item) → Passed
+  Reopens : (info : Info) (item : Item) → Passed
 
 abbrev pub body_item : List ℕ → Item
 body_item bytes = Buf (record { body = bytes; pts = None; duration = None; offset = None; discont = false })
@@ -48,7 +49,7 @@ pass_body (Broken place kind) after bytes body = Nothing
 -- for a SEGMENT in the data, one at its place there
 abbrev pub pass_segment : Option Known → ℕ → Passed
 pass_segment None start = Nothing
-pass_segment (Some k) start = OneMore k.info (Ev (NewSegment (bytes_segment (start - k.head.start))))
+pass_segment (Some k) start = Reopens k.info (Ev (NewSegment (bytes_segment (start - k.head.start))))
 
 abbrev pub passed : (List ℕ → Told) → Part → Item → Passed
 passed read p (Buf b) = pass_body (standing read p) (standing read (with_item read p (Buf b))) (p.bytes ++ b.body) b.body
@@ -60,12 +61,24 @@ abbrev pub calls_with : List Call → Passed → List Call
 calls_with calls Nothing = calls
 calls_with calls (OneMore info x) = calls ++ Feed x ∷ []
 calls_with calls (First info x) = Feed x ∷ []
+calls_with calls (Reopens info x) = calls ++ Feed x ∷ []
 
--- what it owes for that
+-- the last item, as a list of at most one
+abbrev pub last_of : {A : Type 0} → List A → List A
+last_of [] = []
+last_of (x ∷ []) = x ∷ []
+last_of (x ∷ y ∷ ys) = last_of (y ∷ ys)
+
+abbrev pub last_owed : Result (List Item) Fault → Result (List Item) Fault
+last_owed (Ok ys) = Ok (last_of ys)
+last_owed (Err fault) = Err fault
+
+-- What it owes for that. Of the CAPS and the SEGMENT that it owes for a SEGMENT the CAPS are left out.
 abbrev pub owed_with : List Call → Passed → Result (List Item) Fault
 owed_with calls Nothing = Ok []
 owed_with calls (OneMore info x) = next_owed (parses_raw info) calls x
 owed_with calls (First info x) = next_owed (parses_raw info) [] x
+owed_with calls (Reopens info x) = last_owed (next_owed (parses_raw info) calls x)
 
 -- What the parser of the data of the known head was given for items, behind a part and some calls. It is given each
 -- FLUSH_STOP.

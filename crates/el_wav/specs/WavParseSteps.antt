@@ -17,7 +17,7 @@ use Rattle.el_wav.specs.declared.wav_parse.Phase.TheVariants.{InHead as Reading,
 use Rattle.el_wav.specs.declared.wav_parse.WavParse.{WavParse}
 use Rattle.el_wav.specs.WavParseHeads.{Told, Whole, More, IsFormatOf, HeadFits}
 use Rattle.el_wav.specs.WavParseParts.{Known, Part, goes_on, read_as, with_item}
-use Rattle.el_wav.specs.WavParseRule.{body_item, within, left_of, pass_first, owed_with, unless_broken, answer, calls_behind}
+use Rattle.el_wav.specs.WavParseRule.{last_of, body_item, within, left_of, pass_first, owed_with, unless_broken, answer, calls_behind}
 use Rattle.el_wav.specs.WavParseData.{IsKnown}
 use Rattle.el_wav.specs.WavParseGathered.{gathered, IsSound}
 use Rattle.el_wav.specs.WavParsed.{IsIn, KnowsHead}
@@ -64,6 +64,10 @@ pub record Took (read : List ℕ → Told) (p : Part) (calls : List Call) (x : I
 -- The parser of the data was given the item.
 abbrev pub FedOn : Known → List Call → Item → Option KnownHead → List Out → List Out → Type 0
 FedOn k calls x known before after = (ys : List Item) × (next_owed (parses_raw k.info) calls x ≡ Ok ys) × (after ≡ before ++ on_pad 0 ys) × KnowsHead (Some k) (calls ++ Feed x ∷ []) known
+
+-- The same for a SEGMENT: only the last of what it put out is put out.
+abbrev pub WentOn : Known → List Call → Item → Option KnownHead → List Out → List Out → Type 0
+WentOn k calls x known before after = (ys : List Item) × (next_owed (parses_raw k.info) calls x ≡ Ok ys) × (after ≡ before ++ on_pad 0 (last_of ys)) × KnowsHead (Some k) (calls ++ Feed x ∷ []) known
 
 -- the place in the data of a place in the file, and what is left there
 abbrev pub IsPlaceIn : Option Known → ℕ → (ℕ × Option ℕ) → Type 0

@@ -17,8 +17,8 @@ ghost use Rattle.el_wav.specs.declared.wav_parse.Phase.TheVariants.{InData as Pa
 use crate::wav_begun::{Begun, read_on};
 use crate::wav_data::{KnownHead, body_item, cut_data, left_of, segment_item};
 use crate::wav_gathered::Gathered;
-use crate::wav_put_out::put_out;
-use gst_caps::OutOfMemory;
+use crate::wav_put_out::{put_last, put_out};
+use gst_caps::{List as Items, OutOfMemory};
 use gst_item::{Body, Buffer, ElementFault, Event, Flow, Item, Outs, StreamKind};
 use gst_time::{Format, Segment};
 use std::alloc::Global;
@@ -47,7 +47,7 @@ pub struct WavParse {
 
 impl WavParse {
     ghost use Rattle.el_wav.specs.WavParsed.{IsIn, Parsed, known_behind, place_of_frame};
-    ghost use Rattle.el_wav.specs.WavParseSteps.{Took, FedOn, IsPlaceIn, ReadFirst, head_owed};
+    ghost use Rattle.el_wav.specs.WavParseSteps.{Took, FedOn, WentOn, IsPlaceIn, ReadFirst, head_owed};
 
     /// An element that was fed nothing yet, and knows no head.
     pub fn new() -> WavParse
@@ -291,7 +291,7 @@ impl WavParse {
         ensures fault { IfErr result (λ fault. (read : List ℕ → Told) (part : Part) (calls : List Call) → IsIn read part calls self.old → IsFaultOf (answer read part calls (Ev (NewSegment segment))) fault) }
     {
         match self.data_place(place_of(&segment)) {
-            Some((at, left)) => match self.feed_data(alloc, segment_item(at), out) {
+            Some((at, left)) => match self.go_on(alloc, segment_item(at), out) {
                 Ok(()) => {
                     set(&mut self.phase, Phase::InData { left });
                     Ok(())
@@ -302,6 +302,32 @@ impl WavParse {
                 set(&mut self.phase, Phase::InHead(Gathered::new(alloc)));
                 Ok(())
             }
+        }
+    }
+
+    /// Gives the parser of the data a SEGMENT, and puts out the SEGMENT that it puts out.
+    fn go_on(&mut self, alloc: Global, item: Item, out: &mut Outs) -> Result<(), ElementFault>
+        requires { is_flush_stop item ≡ false }
+        ensures fed { OnOk result ((k : Known) (calls : List Call) → KnowsHead (Some k) calls self.old.known → WentOn k calls item self.new.known out.old out.new) }
+        ensures phase { self.new.phase ≡ self.old.phase }
+        ensures ended { self.new.ended ≡ self.old.ended }
+        ensures stays { OnErr result ((self.new ≡ self.old) × (out.new ≡ out.old)) }
+        ensures fault { IfErr result (λ fault. (k : Known) (calls : List Call) → KnowsHead (Some k) calls self.old.known → IsFaultOf (next_owed (parses_raw k.info) calls item) fault) }
+    {
+        let Some(known) = &self.known else {
+            return Ok(());
+        };
+        let Ok(mut again) = known.copy(alloc) else {
+            return Err(ElementFault::OutOfMemory);
+        };
+        let mut made = Items::new(alloc);
+        match again.feed(alloc, item, &mut made) {
+            Ok(()) => {
+                put_last(alloc, made, out)?;
+                set(&mut self.known, Some(again));
+                Ok(())
+            }
+            Err(fault) => Err(fault),
         }
     }
 
