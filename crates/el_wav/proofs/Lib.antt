@@ -1,0 +1,5 @@
+pub mod WavParseFits
+pub mod WavParseGathering
+pub mod WavParseParting
+pub mod WavParseReading
+pub mod WavParsing

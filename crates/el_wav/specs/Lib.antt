@@ -1,0 +1,7 @@
+pub mod WavParseData
+pub mod WavParseGathered
+pub mod WavParseHeads
+pub mod WavParseParts
+pub mod WavParseRule
+pub mod WavParseSteps
+pub mod WavParsed

@@ -1,0 +1,12 @@
+-- What a reader of WAV files has gathered of a head.
+use Rattle.std.specs.Prelude.{◌≤◌, ℕ, List, length, take}
+use Rattle.wav_format.specs.Format.{AreBytes}
+use Rattle.wav_format.specs.Gathered.{StandsBehind, bytes_of}
+use Rattle.el_wav.specs.declared.wav_gathered.Gathered.{Gathered}
+
+-- The bytes that count; those behind them were given with a fault.
+abbrev pub gathered : Gathered → List ℕ
+gathered has = take has.count (bytes_of has.reader)
+
+abbrev pub IsSound : Gathered → Type 0
+IsSound has = StandsBehind has.reader × AreBytes (bytes_of has.reader) × (has.count ≤ length (bytes_of has.reader))

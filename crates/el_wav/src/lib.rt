@@ -1,0 +1,13 @@
+//! Elements that read and write WAV files.
+#![tactic(auto)]
+
+mod wav_begun;
+mod wav_data;
+mod wav_gathered;
+pub mod wav_parse;
+mod wav_put_out;
+
+pub use wav_parse::WavParse;
+
+#[cfg(test)]
+mod wav_parse_tests;

@@ -1,0 +1,279 @@
+//! Rows of calls, with what they answer and put out.
+ghost use Rattle.std.specs.Prelude.{◌≡◌, false, IfOk};
+ghost use Rattle.flow_model.specs.Item.{Ev, is_flush_stop};
+
+use crate::WavParse;
+use audio_info::Info;
+use gst_caps::{Fixed, List, Text};
+use gst_item::{Body, Buffer, ElementFault, Event, Flow, Item, Outs, StreamKind};
+use gst_time::{Format, Segment};
+use std::alloc::Global;
+use std::fmt::Write;
+use std::process::Abort;
+use std::test::Fail;
+
+/// The head of a file of frames of two bytes, 8000 in a second, up to the size of its data.
+const FRONT: &str =
+    "524946462800000057415645666d74201000000001000100401f0000803e00000200100064617461";
+
+/// `+/x` is a buffer of the front and these bytes, `+/x:n` of the first n of them, `+x` one without the front, and
+/// `*/x` such bytes one by one. `@` asks for the place of frame 3 and the start of the head.
+const PARSED: &str =
+    "start bytes=0 +/0400000001000200 eos -> + + + + : start caps=S16LE,8000,1 time=0 +01000200,0,0,250000 eos
+*/0400000001000200 eos -> + + : caps=S16LE,8000,1 time=0 +0100,0,0,125000 +0200,1,125000,125000 eos
++/04000000:43 eos -> + short:43 :
++5249 +4658 -> + riff:3 :
++52494646280000005741564566 +6d74201000000001000100401f0000803e000003001000 -> + fmt:20 :
++/007d000001000200 eos -> + + : caps=S16LE,8000,1 time=0 +01000200,0,0,250000 eos
++/ffffffff01000200 +0300 eos -> + + + : caps=S16LE,8000,1 time=0 +01000200,0,0,250000 +0300,2,250000,125000 eos
++/0400000001 +00020003 +0400 eos -> + + + + : caps=S16LE,8000,1 time=0 +01000200,0,0,250000 eos
+@ +/0400000001000200 @ bytes=46 +02000300 eos -> - + 50,44 + + + : caps=S16LE,8000,1 time=0 +01000200,0,0,250000 time=125000 +0200,1,125000,125000 eos
++/0400000001000200 bytes=10 @ +52 eos -> + + 50,44 + short:1 : caps=S16LE,8000,1 time=0 +01000200,0,0,250000
++/04000000010002 flush @ eos +00 flush bytes=44 +0100 -> + - 50,44 + . - + + : caps=S16LE,8000,1 time=0 +0100,0,0,125000 eos time=0 +0100,0,0,125000
+eos caps tag gap -> short:0 + + + : tag gap
++/04000000010002 time=9 +52 flush +/04000000:40 drain -> + + + - + short:40 : caps=S16LE,8000,1 time=0 +0100,0,0,125000
++/000000000100 bytes=18446744073709551615 -> + long:125000,9223372036854650808 : caps=S16LE,8000,1 time=0 +0100,0,0,125000
++52494646280000005741564566 +6d74201000000007000200401f0000803e0000020008006461746100000000d5d5d5 drain -> + + - : caps=MULAW,8000,2 time=0 +d5d5,0,0,125000
+";
+
+/// The bytes whose hexadecimal digits stand in a text.
+fn bytes_by(alloc: Global, digits: &str, bytes: &mut Vec<u8>) -> Result<(), Fail> {
+    let mut rest = digits;
+    for _ in 0..digits.len() {
+        let Some((pair, more)) = rest.split_at_checked(2) else {
+            return Ok(());
+        };
+        bytes.push(u8::from_str_radix(pair, 16).unwrap_or(0))?;
+        rest = more;
+    }
+    Ok(())
+}
+
+/// The bytes of a word behind its first character.
+fn file_by(alloc: Global, word: &str) -> Result<Vec<u8>, Fail> {
+    let mut bytes = Vec::new(alloc);
+    let (digits, most) = match word.split_once(':') {
+        Some((digits, most)) => (digits, most.parse().unwrap_or(0)),
+        None => (word, 1000),
+    };
+    match digits.strip_prefix('/') {
+        Some(digits) => {
+            bytes_by(alloc, FRONT, &mut bytes)?;
+            bytes_by(alloc, digits, &mut bytes)?;
+        }
+        None => bytes_by(alloc, digits, &mut bytes)?,
+    }
+    bytes.truncate(most);
+    Ok(bytes)
+}
+
+fn buffer_of(alloc: Global, bytes: Vec<u8>) -> Result<Item, Fail>
+    ensures { IfOk result (λ item. is_flush_stop item ≡ false) }
+{
+    Ok(Item::Buffer(Buffer {
+        body: Body::from_vec(alloc, bytes)?,
+        pts: None,
+        duration: None,
+        offset: Some(7),
+        discont: true,
+    }))
+}
+
+fn segment_by(format: Format, start: &str) -> Event
+    ensures { is_flush_stop (Ev result) ≡ false }
+{
+    let start = start.parse().unwrap_or(0);
+    let mut segment = Segment::new(format);
+    segment.start = start;
+    Event::Segment(segment)
+}
+
+fn event_by(alloc: Global, word: &str) -> Result<Event, Fail>
+    ensures { IfOk result (λ event. is_flush_stop (Ev event) ≡ false) }
+{
+    if let Some(start) = word.strip_prefix("bytes=") {
+        return Ok(segment_by(Format::Bytes, start));
+    }
+    if let Some(start) = word.strip_prefix("time=") {
+        return Ok(segment_by(Format::Time, start));
+    }
+    match word {
+        "start" => Ok(Event::StreamStart { id: 1 }),
+        "caps" => Ok(Event::Caps(Fixed::new(alloc, "audio/x-wav")?)),
+        "tag" => Ok(Event::Tag {
+            title: Text::from_str(alloc, "title")?,
+        }),
+        "gap" => Ok(Event::Gap {
+            pts: 0,
+            duration: 1,
+        }),
+        _ => Ok(Event::Eos),
+    }
+}
+
+fn tell_kind(kind: StreamKind) -> &'static str {
+    match kind {
+        StreamKind::NotRiff => "riff",
+        StreamKind::BadFmt => "fmt",
+        StreamKind::Short => "short",
+        _ => "other",
+    }
+}
+
+fn tell_fault(text: &mut String, fault: &ElementFault) -> Result<(), Fail> {
+    match fault {
+        ElementFault::TooLong { a, b } => write!(text, "long:{a},{b} ")?,
+        ElementFault::BadStream { place, kind } => write!(text, "{}:{place} ", tell_kind(*kind))?,
+        _ => text.push_str("fault ")?,
+    }
+    Ok(())
+}
+
+fn tell_answer(text: &mut String, answer: &Result<Flow, ElementFault>) -> Result<(), Fail> {
+    match answer {
+        Ok(Flow::Ok) => text.push_str("+ ")?,
+        Ok(_) => text.push_str(". ")?,
+        Err(fault) => tell_fault(text, fault)?,
+    }
+    Ok(())
+}
+
+fn tell_number(text: &mut String, number: Option<u64>) -> Result<(), Fail> {
+    match number {
+        Some(number) => write!(text, ",{number}")?,
+        None => text.push_str(",-")?,
+    }
+    Ok(())
+}
+
+fn tell_buffer(text: &mut String, buffer: &Buffer) -> Result<(), Fail> {
+    text.push_str("+")?;
+    for byte in buffer.body.as_slice() {
+        write!(text, "{byte:02x}")?;
+    }
+    tell_number(text, buffer.offset)?;
+    tell_number(text, buffer.pts)?;
+    tell_number(text, buffer.duration)
+}
+
+fn tell_event(text: &mut String, event: &Event) -> Result<(), Fail> {
+    match event {
+        Event::StreamStart { .. } => text.push_str("start")?,
+        Event::Caps(caps) => match Info::from_fixed(caps) {
+            Ok(info) => write!(
+                text,
+                "caps={},{},{}",
+                info.format.name(),
+                info.rate,
+                info.channels
+            )?,
+            Err(_) => text.push_str("caps")?,
+        },
+        Event::Segment(segment) => write!(text, "time={}", segment.start)?,
+        Event::Tag { .. } => text.push_str("tag")?,
+        Event::Gap { .. } => text.push_str("gap")?,
+        Event::FlushStop { .. } => text.push_str("flush")?,
+        Event::Eos => text.push_str("eos")?,
+    }
+    Ok(())
+}
+
+fn tell_out(text: &mut String, out: &Outs) -> Result<(), Fail> {
+    text.push_str(":")?;
+    for one in out.as_slice() {
+        text.push_str(" ")?;
+        match &one.item {
+            Item::Buffer(buffer) => tell_buffer(text, buffer)?,
+            Item::Event(event) => tell_event(text, event)?,
+        }
+    }
+    Ok(())
+}
+
+fn tell_place(text: &mut String, parser: &WavParse) -> Result<(), Fail> {
+    match (parser.place_of(3), parser.head()) {
+        (Some(place), Some(head)) => write!(text, "{place},{} ", head.start)?,
+        _ => text.push_str("- ")?,
+    }
+    Ok(())
+}
+
+fn feed_each(
+    alloc: Global,
+    parser: &mut WavParse,
+    bytes: &[u8],
+    out: &mut Outs,
+) -> Result<(), Fail> {
+    for byte in bytes {
+        let one = buffer_of(alloc, Vec::from_slice(alloc, &[*byte])?)?;
+        if parser.feed(alloc, 0, one, out).is_err() {
+            return Ok(());
+        }
+    }
+    Ok(())
+}
+
+fn call_parser(
+    alloc: Global,
+    parser: &mut WavParse,
+    word: &str,
+    text: &mut String,
+    out: &mut Outs,
+) -> Result<(), Fail> {
+    match word {
+        "flush" => {
+            parser.flush();
+            text.push_str("- ")?;
+        }
+        "drain" => match parser.drain(alloc, out) {
+            Ok(()) => text.push_str("- ")?,
+            Err(fault) => tell_fault(text, &fault)?,
+        },
+        "@" => tell_place(text, parser)?,
+        _ => feed_word(alloc, parser, word, text, out)?,
+    }
+    Ok(())
+}
+
+fn feed_word(
+    alloc: Global,
+    parser: &mut WavParse,
+    word: &str,
+    text: &mut String,
+    out: &mut Outs,
+) -> Result<(), Fail> {
+    if let Some(bytes) = word.strip_prefix('*') {
+        feed_each(alloc, parser, &file_by(alloc, bytes)?, out)?;
+        text.push_str("+ ")?;
+        return Ok(());
+    }
+    let item = match word.strip_prefix('+') {
+        Some(bytes) => buffer_of(alloc, file_by(alloc, bytes)?)?,
+        None => Item::Event(event_by(alloc, word)?),
+    };
+    let answer = parser.feed(alloc, 0, item, out);
+    tell_answer(text, &answer)
+}
+
+fn check_parser(rt: &impl Abort, alloc: Global, line: &str) -> Result<(), Fail> {
+    let (calls, wanted) = line.split_once(" -> ").ok_or("two sides")?;
+    let mut parser = WavParse::new();
+    let mut text = String::new(alloc);
+    let mut out = List::new(alloc);
+    for word in calls.split(' ') {
+        call_parser(alloc, &mut parser, word, &mut text, &mut out)?;
+        parser = parser.copy(alloc)?;
+    }
+    tell_out(&mut text, &out)?;
+    assert_eq!(rt; text.as_str(), wanted);
+    Ok(())
+}
+
+#[test]
+fn parses(rt: HostRuntime) -> Result<(), Fail> {
+    let alloc = rt.alloc();
+    for line in PARSED.lines() {
+        check_parser(&rt, alloc, line)?;
+    }
+    Ok(())
+}
