@@ -1,3 +1,5 @@
 mod Taken
 mod Values
 mod Spaces
+mod Plain
+mod Written

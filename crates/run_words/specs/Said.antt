@@ -25,7 +25,7 @@ abbrev pub is_bare : List ℕ → Bool
 is_bare [] = false
 is_bare (first ∷ rest) = not (first == 43) && (not (first == 48) || (length rest == 0))
 
--- bare decimal digits that write a number of 64 bits
+-- bare decimal digits that write a number of 64 bits: `u64` alone would read `+1` and `01` as well
 abbrev pub is_number : List ℕ → Bool
 is_number text = is_bare text && is_unsigned_in 0 (2 ^ 64 - 1) text
 
@@ -58,7 +58,7 @@ line_words_in rows = unwrap_or (all_of (codes "WORD") rows) []
 
 -- ---- what the words say
 
--- the command takes the words, and their options have values that they may have
+-- the command takes the words, and each option has a value that it may have
 abbrev pub takes_words : List (List ℕ) → Bool
 takes_words words = takes the_app words && values_hold (matches_of the_app words)
 

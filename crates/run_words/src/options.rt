@@ -21,7 +21,11 @@ pub struct Options {
     pub line: Text,
 }
 
-/// Reads the program's words, which do not have its name among them. The options stand anywhere before a `--`.
+/// Reads the program's words, which do not have its name among them: `[--threads on|off] [--order N] [--quiet] WORD...`.
+///
+/// Options may stand behind words of the line too, up to a `--`. A word that begins with a hyphen stands behind a `--`,
+/// except for a hyphen alone. Where the command does not take the words, or a value is none of its option's, the answer
+/// is `Words`; where it takes them and no word of a line is there, it is `NoLine`.
 pub fn read_words(alloc: Global, words: &[String]) -> Result<Options, WordsFault>
     ensures said { IfOk result (λ options. options ≡ options_of (map string_bytes words.now)) }
     ensures taken { OnOk result (IsTrue (takes_words (map string_bytes words.now))) }

@@ -1,8 +1,7 @@
 -- The command is put together rule by rule.
-use Rattle.std.proofs.Common.{rules, ◌≡◌, ◌∙◌, ap, ap₂, sym, true, codes, Option, Some, None, IfOk, IsSomeAnd}
+use Rattle.std.proofs.Common.{rules, ◌≡◌, ◌∙◌, ap, ap₂, codes, Option, Some, None, IsSomeAnd}
 use Rattle.std.proofs.lemmas.Result.{IfOk-weaker}
-use Rattle.clap.specs.Words.{App, app_of, new_app, rule_of, with_rule}
-use Rattle.clap.specs.Simple.{app_of_fields}
+use Rattle.clap.specs.Words.{app_of, rule_of, with_rule}
 use Rattle.clap.specs.declared.builder.range.ValueRange.{ValueRange}
 use Rattle.run_words.specs.Command.{any_number, flag_rule, number_rule, option_rule, plain_app, words_rule}
 use Rattle.run_words.proofs.command.command.Goals as goal

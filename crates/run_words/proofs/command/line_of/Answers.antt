@@ -1,5 +1,5 @@
 -- The words that `get_strs` shows are those of the line.
-use Rattle.std.proofs.Common.{◌<◌, ◌≡◌, ◌∙◌, length, arith, sym, ap}
+use Rattle.std.proofs.Common.{◌≡◌, ◌∙◌, length, sym, ap}
 use Rattle.std.proofs.lemmas.Bool.{eqb-true}
 use Rattle.clap.specs.Words.{found_of}
 use Rattle.run_words.specs.Line.{joined}

@@ -1,8 +1,7 @@
 -- The parse takes the words exactly where the command does.
-use Rattle.std.proofs.Common.{rules, ◌≡◌, ◌∙◌, ap, ap₂, refl, sym, true, false, map}
+use Rattle.std.proofs.Common.{◌∙◌, ap, sym, map}
 use Rattle.std.specs.String.{string_bytes}
-use Rattle.clap.specs.Words.{app_of, fault_of, is_simple_and_free, takes}
-use Rattle.run_words.specs.Command.{the_app}
+use Rattle.clap.specs.Words.{fault_of, is_simple_and_free, takes}
 use Rattle.run_words.proofs.Taken.{faultless, refused_up}
 use Rattle.run_words.proofs.command.match_words.Goals as goal
 

@@ -1,8 +1,8 @@
 -- Nothing is said, or a value is.
-use Rattle.std.proofs.Common.{true, codes}
+use Rattle.std.proofs.Common.{codes}
 use Rattle.std.specs.Str.Parse.{digits_value}
 use Rattle.clap.specs.Words.{first_of, found_of, rows_of}
-use Rattle.run_words.specs.Said.{is_number, is_on, is_switch}
+use Rattle.run_words.specs.Said.{is_number}
 use Rattle.run_words.proofs.Values.{none_shown, some_shown, value_none, value_some}
 use Rattle.run_words.proofs.command.order_of.Goals as goal
 

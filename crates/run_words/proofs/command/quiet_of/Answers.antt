@@ -1,5 +1,5 @@
 -- The flag is not there, or it has a value.
-use Rattle.std.proofs.Common.{◌∙◌, ap, sym, false, codes}
+use Rattle.std.proofs.Common.{◌∙◌, ap, false, codes}
 use Rattle.std.specs.Option.{option_map_or}
 use Rattle.std.specs.Str.{bytes_eq}
 use Rattle.clap.specs.Words.{found_of}

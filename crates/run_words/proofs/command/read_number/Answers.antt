@@ -1,5 +1,5 @@
 -- The digits are bare, and `parse` reads them or not.
-use Rattle.std.proofs.Common.{◌∙◌, sym, subst, MatchOption, true, false}
+use Rattle.std.proofs.Common.{◌∙◌, sym}
 use Rattle.run_words.proofs.Values.{number_read}
 use Rattle.run_words.proofs.command.read_number.Goals as goal
 
