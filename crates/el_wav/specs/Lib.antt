@@ -4,4 +4,5 @@ pub mod WavParseHeads
 pub mod WavParseParts
 pub mod WavParseRule
 pub mod WavParseSteps
+pub mod WavParseTold
 pub mod WavParsed
