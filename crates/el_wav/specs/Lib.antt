@@ -1,3 +1,4 @@
+pub mod WavParse
 pub mod WavParseData
 pub mod WavParseGathered
 pub mod WavParseHeads
