@@ -1,29 +1,27 @@
 -- Bytes have the answer that is told of them.
-use Rattle.std.proofs.Common.{◌≡◌, ◌≢◌, ℕ, zero, suc, ◌+◌, ◌<◌, ◌≤◌, ◌⊎◌, inl, inr, Bool, true, false, not, cond, ltb, ◌==◌, ◌&&◌, Option, Some, None, List, [], ◌∷◌, length, take, drop, get_or, codes, option_map, MatchOption, refl, sym, ap, subst, ◌∙◌, arith}
+use Rattle.std.proofs.Common.{◌≡◌, ℕ, zero, suc, ◌+◌, ◌≤◌, inl, inr, Bool, true, false, not, cond, ltb, ◌==◌, ◌&&◌, Option, Some, None, List, [], ◌∷◌, length, drop, codes, option_map, MatchOption, refl, sym, ◌∙◌, arith}
 use Rattle.std.specs.Prelude.{unwrap_or}
 use Rattle.std.proofs.lemmas.Bool.{and_cases, and_parts, cond_both, eqb-true, eqb-false, ltb-true, ltb-false, not-true, not-false, true≢false}
 use Rattle.std.proofs.lemmas.Bool.Decides.{not_from_Decides}
 use Rattle.std.proofs.lemmas.List.{length-drop, length-take}
 use Rattle.wav_format.specs.declared.format.SampleFormat.{SampleFormat}
 use Rattle.wav_format.specs.declared.head.HeadAnswer.{HeadAnswer}
-use Rattle.wav_format.specs.declared.head.HeadAnswer.TheVariants.{Whole, NeedMore, Bad}
-use Rattle.wav_format.specs.declared.head.WavKind.{WavKind}
-use Rattle.wav_format.specs.declared.head.WavKind.TheVariants.{NotRiff, NotWave, NoFmt, BadFmt, TagUnknown, HeadTooLong}
+use Rattle.wav_format.specs.declared.head.HeadAnswer.TheVariants.{Bad}
+use Rattle.wav_format.specs.declared.head.WavKind.TheVariants.{BadFmt, TagUnknown}
 use Rattle.wav_format.specs.Answers.{AnswerAt, AnswerIn}
-use Rattle.wav_format.specs.Chunks.{IsOpened, IsPassed, Leads, Reaches, Spot, begins, behind, body_at, body_size, chunk_length, first_chunk, longest_head}
-use Rattle.wav_format.specs.Cuts.{HasRoom, deciding, fronts}
+use Rattle.wav_format.specs.Chunks.{IsOpened, IsPassed, Leads, Spot, begins, behind, body_at, body_size, chunk_length, first_chunk, longest_head}
 use Rattle.wav_format.specs.Faults.{Differs, MayBeFormat, MayFit}
 use Rattle.wav_format.specs.Format.{AreBytes}
-use Rattle.wav_format.specs.Told.{chunk_told, chunks_told, data_told, difference, format_agrees, format_told, headed_told, numbers_agree, opened_told, told}
+use Rattle.wav_format.specs.Told.{chunk_told, chunks_told, data_told, difference, format_agrees, headed_told, numbers_agree, opened_told, told}
 use Rattle.wav_format.proofs.Bodies.{bytes-drop, bytes-take}
 use Rattle.wav_format.proofs.Formats.{fit_to_numbers, format_to_given, given_to_format, numbers_to_fit}
 use Rattle.wav_format.proofs.Fronts.{begins_from}
 use Rattle.wav_format.proofs.Longer.{begins_long}
 use Rattle.wav_format.proofs.Openings.{Same}
 use Rattle.wav_format.proofs.Reached.{answered}
-use Rattle.wav_format.proofs.Tests.{format_decides, numbers_decide}
+use Rattle.wav_format.proofs.Agreeing.{format_decides, numbers_decide}
 use Rattle.wav_format.proofs.Whole.{passed}
-use Rattle.wav_format.proofs.Words.{fronts_from, same_take}
+use Rattle.wav_format.proofs.Words.{fronts_from}
 
 -- ---- a `fmt ` chunk
 

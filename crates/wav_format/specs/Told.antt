@@ -1,5 +1,5 @@
 -- The answer that bytes have, as a function of them.
-use Rattle.std.specs.Prelude.{ℕ, zero, suc, ◌+◌, ◌*◌, ◌/◌, ◌%◌, Bool, true, false, not, ◌&&◌, ◌||◌, ◌==◌, List, [], ◌∷◌, length, drop, codes, slice_index, Option, Some, None, option_map, unwrap_or, if◌then◌else◌, nat_lt, nat_le}
+use Rattle.std.specs.Prelude.{ℕ, zero, suc, ◌+◌, ◌*◌, ◌/◌, ◌%◌, Bool, false, not, ◌&&◌, ◌||◌, ◌==◌, List, [], ◌∷◌, length, drop, codes, slice_index, Option, Some, None, option_map, unwrap_or, if◌then◌else◌, nat_lt, nat_le}
 use Rattle.byteorder.specs.Endian.{little_from}
 use Rattle.wav_format.specs.declared.format.SampleFormat.{SampleFormat}
 use Rattle.wav_format.specs.declared.head.HeadAnswer.{HeadAnswer}
