@@ -1,21 +1,19 @@
 -- What is told of bytes is what the RIFF WAVE format says of them.
-use Rattle.std.proofs.Common.{◌≡◌, ◌≤◌, ◌<◌, ℕ, zero, suc, inl, inr, Bool, true, false, ltb, leb, cond, List, [], ◌∷◌, ◌++◌, length, get_or, Option, Some, None, refl, sym, ap, subst, ◌∙◌, arith}
+use Rattle.std.proofs.Common.{◌≡◌, ◌≤◌, ◌<◌, ℕ, zero, suc, inl, inr, Bool, true, false, ltb, leb, cond, List, [], ◌∷◌, length, Option, Some, None, refl, sym, ap, subst, ◌∙◌, arith}
 use Rattle.std.proofs.Props.{props}
-use Rattle.std.proofs.lemmas.Bool.{and_from, and_parts, cases_Bool, le-leb, lt-ltb, ltb-true}
+use Rattle.std.proofs.lemmas.Bool.{and_from, and_parts, le-leb, lt-ltb, ltb-true}
 use Rattle.audio_info.specs.declared.info.Info.{Info}
 use Rattle.audio_info.specs.declared.sample.Sample.{Sample}
 use Rattle.wav_format.specs.declared.head.Head.{Head}
 use Rattle.wav_format.specs.declared.head.HeadAnswer.{HeadAnswer}
 use Rattle.wav_format.specs.declared.head.HeadAnswer.TheVariants.{Whole as WholeHead, NeedMore, Bad}
-use Rattle.wav_format.specs.declared.head.WavKind.{WavKind}
 use Rattle.wav_format.specs.Answers.{AnswerIn}
 use Rattle.wav_format.specs.Chunks.{BeginsWithHead}
 use Rattle.wav_format.specs.Cuts.{CutIn, deciding, opening_length}
-use Rattle.wav_format.specs.Faults.{FaultIn}
 use Rattle.wav_format.specs.Format.{AreBytes}
 use Rattle.wav_format.specs.Told.{told}
-use Rattle.el_wav.specs.WavParseHeads.{Told, Whole, More, Wrong, IsFormatOf, ReadsHeads, coding, stream_kind}
-use Rattle.el_wav.specs.WavParseTold.{IsInLimits, are_bytes, as_told, head_told, in_limits, info_of, info_with, is_in_limits, wav_told}
+use Rattle.el_wav.specs.WavParseHeads.{Whole, More, IsFormatOf, ReadsHeads, coding}
+use Rattle.el_wav.specs.WavParseTold.{are_bytes, as_told, head_told, info_of, info_with, is_in_limits, wav_told}
 
 -- ---- bytes
 

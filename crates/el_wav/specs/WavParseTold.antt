@@ -1,5 +1,5 @@
 -- What the first bytes of a WAV file say, as a function of them.
-use Rattle.std.specs.Prelude.{◌≡◌, ◌≤◌, ℕ, zero, suc, Bool, true, false, ◌&&◌, nat_le, nat_lt, if◌then◌else◌, refl, List, [], ◌∷◌, Option, Some, None}
+use Rattle.std.specs.Prelude.{◌≡◌, ◌≤◌, ℕ, Bool, true, false, ◌&&◌, nat_le, nat_lt, if◌then◌else◌, refl, List, [], ◌∷◌, Option, Some, None}
 use Rattle.std.proofs.lemmas.Bool.{and_parts, leb-true}
 use Rattle.audio_info.specs.declared.info.Info.{Info}
 use Rattle.audio_info.specs.declared.sample.Sample.{Sample}
