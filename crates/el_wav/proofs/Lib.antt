@@ -2,4 +2,5 @@ pub mod WavParseFits
 pub mod WavParseGathering
 pub mod WavParseParting
 pub mod WavParseReading
+pub mod WavParseTelling
 pub mod WavParsing

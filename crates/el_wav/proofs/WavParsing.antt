@@ -10,8 +10,8 @@ use Rattle.el_wav.specs.declared.wav_parse.Phase.TheVariants.{Unbegun as Fresh}
 use Rattle.el_wav.specs.declared.wav_parse.WavParse.{WavParse}
 use Rattle.el_wav.specs.WavParseHeads.{Told}
 use Rattle.el_wav.specs.WavParseParts.{Part, Unbegun, known_in, with_item, first_part, last_part}
-use Rattle.el_wav.specs.WavParseRule.{calls_behind, data_calls_from, data_calls, answer, parses}
-use Rattle.el_wav.specs.WavParsed.{KnowsHead, StandsAs, IsIn, parsed, Parsed}
+use Rattle.el_wav.specs.WavParseRule.{calls_behind, data_calls_from, data_calls, answer, parses_by}
+use Rattle.el_wav.specs.WavParsed.{KnowsHead, StandsAs, IsIn, parsed_by, ParsedBy}
 use Rattle.el_wav.specs.WavParseSteps.{Took}
 
 -- ---- results that are handed on
@@ -56,12 +56,12 @@ moved read h x parser is =
 -- ---- calls
 
 pub parsed_item : (old new : WavParse) (x : Item) (before after : List Out) → is_flush_stop x ≡ false → old.ended ≡ false → new.ended ≡ is_eos x
-    → (read : List ℕ → Told) (calls : List Call) (put : List Item) → Parsed read old calls put
-    → (t : Took read (last_part read (items (parsed read calls).given)) (data_calls read (items (parsed read calls).given)) x new before after)
-    → (next_owed (parses read) calls x ≡ Ok t.ys) × Parsed read new (calls ++ Feed x ∷ []) (put ++ t.ys)
+    → (read : List ℕ → Told) (calls : List Call) (put : List Item) → ParsedBy read old calls put
+    → (t : Took read (last_part read (items (parsed_by read calls).given)) (data_calls read (items (parsed_by read calls).given)) x new before after)
+    → (next_owed (parses_by read) calls x ≡ Ok t.ys) × ParsedBy read new (calls ++ Feed x ∷ []) (put ++ t.ys)
 parsed_item old new x before after plain begun ends read calls put p t =
-    let fed = parsed read calls in
-    let same = fed_taken (parses read) calls x t.ys (p.over ∙ begun) plain t.owed in
+    let fed = parsed_by read calls in
+    let same = fed_taken (parses_by read) calls x t.ys (p.over ∙ begun) plain t.owed in
     let more : List Call = fed.given ++ Feed x ∷ [] in
     let is_in : IsBehindItems read (items more) new = subst (λ h. IsBehindItems read h new) (sym (items_push fed.given x)) (moved read (items fed.given) x new t.is_in) in (
       (rw (p.over, begun) t.owed),
@@ -74,10 +74,10 @@ parsed_item old new x before after plain begun ends read calls put p t =
     )
 
 pub parsed_behind : (parser : WavParse) (x : Item) → is_flush_stop x ≡ false → parser.ended ≡ true
-    → (read : List ℕ → Told) (calls : List Call) (put : List Item) → Parsed read parser calls put
-    → (next_owed (parses read) calls x ≡ Ok []) × Parsed read parser (calls ++ Feed x ∷ []) (put ++ [])
+    → (read : List ℕ → Told) (calls : List Call) (put : List Item) → ParsedBy read parser calls put
+    → (next_owed (parses_by read) calls x ≡ Ok []) × ParsedBy read parser (calls ++ Feed x ∷ []) (put ++ [])
 parsed_behind parser x plain ended read calls put p =
-    let same = fed_behind (parses read) calls x (p.over ∙ ended) plain in (
+    let same = fed_behind (parses_by read) calls x (p.over ∙ ended) plain in (
       rw (p.over, ended) refl,
       record {
         owed = append-nil put ∙ p.owed ∙ sym (ap (λ (s : Fed). s.out) same);
@@ -89,23 +89,23 @@ parsed_behind parser x plain ended read calls put p =
 
 -- after a fault it stands as before
 pub parsed_still : (old new : WavParse) → new.ended ≡ old.ended → ((read : List ℕ → Told) (part : Part) (calls : List Call) → IsIn read part calls old → IsIn read part calls new)
-    → (read : List ℕ → Told) (calls : List Call) (put : List Item) → Parsed read old calls put → Parsed read new calls put
+    → (read : List ℕ → Told) (calls : List Call) (put : List Item) → ParsedBy read old calls put → ParsedBy read new calls put
 parsed_still old new ended still read calls put p = record {
   owed = p.owed;
   over = p.over ∙ sym ended;
   eos = p.eos ∙ sym ended;
-  is_in = still read (last_part read (items (parsed read calls).given)) (data_calls read (items (parsed read calls).given)) p.is_in;
+  is_in = still read (last_part read (items (parsed_by read calls).given)) (data_calls read (items (parsed_by read calls).given)) p.is_in;
 }
 
 pub parsed_flush : (old new : WavParse) → new.ended ≡ false → new.phase ≡ Fresh
     → (read : List ℕ → Told) (calls : List Call) (put : List Item) (number : ℕ)
-    → (KnowsHead (known_in read (last_part read (items (parsed read calls).given))) (data_calls read (items (parsed read calls).given)) old.known
-    → KnowsHead (known_in read (last_part read (items (parsed read calls).given))) (data_calls read (items (parsed read calls).given) ++ Feed (Ev (FlushStop number)) ∷ []) new.known)
-    → Parsed read old calls put → Parsed read new (calls ++ Feed (Ev (FlushStop number)) ∷ []) (put ++ Ev (FlushStop number) ∷ [])
+    → (KnowsHead (known_in read (last_part read (items (parsed_by read calls).given))) (data_calls read (items (parsed_by read calls).given)) old.known
+    → KnowsHead (known_in read (last_part read (items (parsed_by read calls).given))) (data_calls read (items (parsed_by read calls).given) ++ Feed (Ev (FlushStop number)) ∷ []) new.known)
+    → ParsedBy read old calls put → ParsedBy read new (calls ++ Feed (Ev (FlushStop number)) ∷ []) (put ++ Ev (FlushStop number) ∷ [])
 parsed_flush old new begun fresh read calls put number knows p =
-    let fed = parsed read calls in
+    let fed = parsed_by read calls in
     let x = Ev (FlushStop number) in
-    let same = fed_flush (parses read) calls number in
+    let same = fed_flush (parses_by read) calls number in
     let more : List Call = fed.given ++ Feed x ∷ [] in
     let here : IsIn read (with_item read (last_part read (items fed.given)) x) (calls_behind read (last_part read (items fed.given)) (data_calls read (items fed.given)) x) new =
     record { reads = p.is_in.reads; knows = knows p.is_in.knows; stands = subst (StandsAs Unbegun []) (sym fresh) refl } in
@@ -117,9 +117,9 @@ parsed_flush old new begun fresh read calls put number knows p =
       is_in = subst (λ (s : Fed). IsBehindItems read (items s.given) new) (sym same) is_in;
     }
 
-drained_so : (parser : WavParse) (read : List ℕ → Told) (calls : List Call) (put : List Item) → Parsed read parser calls put
-    → items (parsed read (calls ++ Act Drain ∷ [])).given ≡ items (parsed read calls).given → (parsed read (calls ++ Act Drain ∷ [])).out ≡ (parsed read calls).out
-    → (parsed read (calls ++ Act Drain ∷ [])).over ≡ (parsed read calls).over → Parsed read parser (calls ++ Act Drain ∷ []) put
+drained_so : (parser : WavParse) (read : List ℕ → Told) (calls : List Call) (put : List Item) → ParsedBy read parser calls put
+    → items (parsed_by read (calls ++ Act Drain ∷ [])).given ≡ items (parsed_by read calls).given → (parsed_by read (calls ++ Act Drain ∷ [])).out ≡ (parsed_by read calls).out
+    → (parsed_by read (calls ++ Act Drain ∷ [])).over ≡ (parsed_by read calls).over → ParsedBy read parser (calls ++ Act Drain ∷ []) put
 drained_so parser read calls put p given out over = record {
   owed = p.owed ∙ sym out;
   over = over ∙ p.over;
@@ -127,15 +127,15 @@ drained_so parser read calls put p given out over = record {
   is_in = subst (λ h. IsBehindItems read h parser) (sym given) p.is_in;
 }
 
-pub parsed_over : (parser : WavParse) → parser.ended ≡ true → (read : List ℕ → Told) (calls : List Call) (put : List Item) → Parsed read parser calls put → Parsed read parser (calls ++ Act Drain ∷ []) put
+pub parsed_over : (parser : WavParse) → parser.ended ≡ true → (read : List ℕ → Told) (calls : List Call) (put : List Item) → ParsedBy read parser calls put → ParsedBy read parser (calls ++ Act Drain ∷ []) put
 parsed_over parser ended read calls put p =
-    let same = drained_behind (parses read) calls (p.over ∙ ended) in
+    let same = drained_behind (parses_by read) calls (p.over ∙ ended) in
     drained_so parser read calls put p (ap (λ (s : Fed). items s.given) same) (ap (λ (s : Fed). s.out) same) (ap (λ (s : Fed). s.over) same)
 
 pub parsed_drain : (parser : WavParse) → parser.ended ≡ false → (read : List ℕ → Told) (calls : List Call) (put : List Item)
-    → (IsBehindItems read (items (parsed read calls).given) parser → answer read (last_part read (items (parsed read calls).given)) (data_calls read (items (parsed read calls).given)) (Ev Eos) ≡ Ok (Ev Eos ∷ []))
-    → Parsed read parser calls put → Parsed read parser (calls ++ Act Drain ∷ []) put
+    → (IsBehindItems read (items (parsed_by read calls).given) parser → answer read (last_part read (items (parsed_by read calls).given)) (data_calls read (items (parsed_by read calls).given)) (Ev Eos) ≡ Ok (Ev Eos ∷ []))
+    → ParsedBy read parser calls put → ParsedBy read parser (calls ++ Act Drain ∷ []) put
 parsed_drain parser begun read calls put ends p =
-    let same = drained_begun (parses read) calls (Ev Eos ∷ []) (p.over ∙ begun) (ends p.is_in) in
-    drained_so parser read calls put p (ap (λ (s : Fed). items s.given) same ∙ items_act (parsed read calls).given Drain)
-    (ap (λ (s : Fed). s.out) same ∙ append-nil (parsed read calls).out) (ap (λ (s : Fed). s.over) same)
+    let same = drained_begun (parses_by read) calls (Ev Eos ∷ []) (p.over ∙ begun) (ends p.is_in) in
+    drained_so parser read calls put p (ap (λ (s : Fed). items s.given) same ∙ items_act (parsed_by read calls).given Drain)
+    (ap (λ (s : Fed). s.out) same ∙ append-nil (parsed_by read calls).out) (ap (λ (s : Fed). s.over) same)

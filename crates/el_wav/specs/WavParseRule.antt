@@ -120,5 +120,5 @@ answer read p calls (Ev (NewCaps caps)) = Ok []
 answer read p calls (Ev Eos) = end_owed (standing read p) p
 answer read p calls x = Ok (x ∷ [])
 
-abbrev pub parses : (List ℕ → Told) → Response
-parses read fed x = answer read (last_part read (items fed.given)) (data_calls read (items fed.given)) x
+abbrev pub parses_by : (List ℕ → Told) → Response
+parses_by read fed x = answer read (last_part read (items fed.given)) (data_calls read (items fed.given)) x

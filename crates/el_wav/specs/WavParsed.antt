@@ -11,7 +11,7 @@ use Rattle.el_wav.specs.declared.wav_parse.Phase.TheVariants.{Unbegun as Fresh, 
 use Rattle.el_wav.specs.declared.wav_parse.WavParse.{WavParse}
 use Rattle.el_wav.specs.WavParseHeads.{Told, ReadsHeads}
 use Rattle.el_wav.specs.WavParseParts.{Known, Part, Standing, Unbegun, InHead, InData, standing, known_in, last_part}
-use Rattle.el_wav.specs.WavParseRule.{left_of, data_calls, parses}
+use Rattle.el_wav.specs.WavParseRule.{left_of, data_calls, parses_by}
 use Rattle.el_wav.specs.WavParseGathered.{gathered, IsSound}
 use Rattle.el_wav.specs.WavParseData.{IsKnown}
 
@@ -36,12 +36,12 @@ pub record IsIn (read : List ℕ → Told) (part : Part) (given : List Call) (pa
   pub stands : StandsAs (standing read part) part.bytes parser.phase
 
 -- how far its rule has come
-abbrev pub parsed : (List ℕ → Told) → List Call → Fed
-parsed read calls = all_called (parses read) unfed calls
+abbrev pub parsed_by : (List ℕ → Told) → List Call → Fed
+parsed_by read calls = all_called (parses_by read) unfed calls
 
 -- the head that is known behind calls
-abbrev pub known_behind : (List ℕ → Told) → List Call → Option Known
-known_behind read calls = known_in read (last_part read (items (parsed read calls).given))
+abbrev pub known_behind_by : (List ℕ → Told) → List Call → Option Known
+known_behind_by read calls = known_in read (last_part read (items (parsed_by read calls).given))
 
 -- the place in the file of a frame of the data of a head
 abbrev pub place_of_frame : ℕ → Known → ℕ
@@ -49,8 +49,8 @@ place_of_frame frame k = k.head.start + frame * frame_width k.info
 
 -- It was given the calls, of which none was a fault, and put out what is owed for them, each FLUSH_STOP at its place.
 -- It stands for the part in which they end, and knows whether EOS was fed since the last FLUSH_STOP.
-pub record Parsed (read : List ℕ → Told) (parser : WavParse) (calls : List Call) (put : List Item) : Type 0 where
-  pub owed : put ≡ owed_for (parses read) calls
-  pub over : (parsed read calls).over ≡ parser.ended
+pub record ParsedBy (read : List ℕ → Told) (parser : WavParse) (calls : List Call) (put : List Item) : Type 0 where
+  pub owed : put ≡ owed_for (parses_by read) calls
+  pub over : (parsed_by read calls).over ≡ parser.ended
   pub eos : has_eos calls ≡ parser.ended
-  pub is_in : IsIn read (last_part read (items (parsed read calls).given)) (data_calls read (items (parsed read calls).given)) parser
+  pub is_in : IsIn read (last_part read (items (parsed_by read calls).given)) (data_calls read (items (parsed_by read calls).given)) parser

@@ -6,8 +6,10 @@ mod wav_data;
 mod wav_gathered;
 pub mod wav_parse;
 mod wav_put_out;
+mod wav_told;
 
 pub use wav_parse::WavParse;
+pub use wav_told::heads_are_told;
 
 #[cfg(test)]
 mod wav_parse_tests;

@@ -6,7 +6,7 @@ ghost use Rattle.flow_model.specs.Call.{Call, Feed, Act, Drain};
 ghost use Rattle.flow_model.specs.Feeding.{flow_behind, on_pad, next_owed, IsFaultOf};
 ghost use Rattle.el_wav.specs.WavParseHeads.{Told, ReadsHeads};
 ghost use Rattle.el_wav.specs.WavParseParts.{Known, Part, Standing, goes_on, place_at};
-ghost use Rattle.el_wav.specs.WavParseRule.{parses, answer, left_of, within, body_item};
+ghost use Rattle.el_wav.specs.WavParseRule.{answer, left_of, within, body_item};
 ghost use Rattle.el_parse.specs.Parses.{parses as parses_raw};
 ghost use Rattle.el_wav.specs.WavParsed.{KnowsHead};
 ghost use Rattle.wav_format.specs.Chunks.{BeginsWithHead};
@@ -18,6 +18,7 @@ use crate::wav_begun::{Begun, read_on};
 use crate::wav_data::{KnownHead, body_item, cut_data, left_of, segment_item};
 use crate::wav_gathered::Gathered;
 use crate::wav_put_out::{put_last, put_out};
+use crate::wav_told::heads_are_told;
 use gst_caps::{List as Items, OutOfMemory};
 use gst_item::{Body, Buffer, ElementFault, Event, Flow, Item, Outs, StreamKind};
 use gst_time::{Format, Segment};
@@ -46,13 +47,15 @@ pub struct WavParse {
 }
 
 impl WavParse {
-    ghost use Rattle.el_wav.specs.WavParsed.{IsIn, Parsed, known_behind, place_of_frame};
+    ghost use Rattle.el_wav.specs.WavParse.{Parsed, known_behind, parses};
+    ghost use Rattle.el_wav.specs.WavParsed.{IsIn, place_of_frame};
     ghost use Rattle.el_wav.specs.WavParseSteps.{Took, FedOn, WentOn, IsPlaceIn, ReadFirst, head_owed};
 
     /// An element that was fed nothing yet, and knows no head.
     pub fn new() -> WavParse
-        ensures { (read : List ℕ → Told) → ReadsHeads read → Parsed read result [] [] }
+        ensures { Parsed result [] [] }
     {
+        heads_are_told();
         WavParse {
             known: None,
             phase: Phase::Unbegun,
@@ -78,12 +81,12 @@ impl WavParse {
     ) -> Result<Flow, ElementFault>
         requires pad { _pad ≡ 0 }
         requires no_flush { is_flush_stop item ≡ false }
-        ensures fed { IfOk result (λ flow. (read : List ℕ → Told) (calls : List Call) (put : List Item) → Parsed read self.old calls put
-            → (ys : List Item) × (next_owed (parses read) calls item ≡ Ok ys) × (out.new ≡ out.old ++ on_pad 0 ys) × Parsed read self.new (calls ++ Feed item ∷ []) (put ++ ys)) }
-        ensures flow { IfOk result (λ flow. (read : List ℕ → Told) (calls : List Call) (put : List Item) → Parsed read self.old calls put → flow ≡ flow_behind calls) }
-        ensures stays { OnErr result ((read : List ℕ → Told) (calls : List Call) (put : List Item) → Parsed read self.old calls put → Parsed read self.new calls put) }
+        ensures fed { IfOk result (λ flow. (calls : List Call) (put : List Item) → Parsed self.old calls put
+            → (ys : List Item) × (next_owed parses calls item ≡ Ok ys) × (out.new ≡ out.old ++ on_pad 0 ys) × Parsed self.new (calls ++ Feed item ∷ []) (put ++ ys)) }
+        ensures flow { IfOk result (λ flow. (calls : List Call) (put : List Item) → Parsed self.old calls put → flow ≡ flow_behind calls) }
+        ensures stays { OnErr result ((calls : List Call) (put : List Item) → Parsed self.old calls put → Parsed self.new calls put) }
         ensures out { OnErr result (out.new ≡ out.old) }
-        ensures fault { IfErr result (λ fault. (read : List ℕ → Told) (calls : List Call) (put : List Item) → Parsed read self.old calls put → IsFaultOf (next_owed (parses read) calls item) fault) }
+        ensures fault { IfErr result (λ fault. (calls : List Call) (put : List Item) → Parsed self.old calls put → IsFaultOf (next_owed parses calls item) fault) }
     {
         if self.ended {
             return Ok(Flow::Eos);
@@ -94,8 +97,8 @@ impl WavParse {
 
     /// Begins a new section, behind a FLUSH_STOP of any number that crosses its source pad. The known head stays.
     pub fn flush(&mut self)
-        ensures { (read : List ℕ → Told) (calls : List Call) (put : List Item) (number : ℕ) → Parsed read self.old calls put
-            → Parsed read self.new (calls ++ Feed (Ev (FlushStop number)) ∷ []) (put ++ Ev (FlushStop number) ∷ []) }
+        ensures { (calls : List Call) (put : List Item) (number : ℕ) → Parsed self.old calls put
+            → Parsed self.new (calls ++ Feed (Ev (FlushStop number)) ∷ []) (put ++ Ev (FlushStop number) ∷ []) }
     {
         flush_known(&mut self.known);
         set(&mut self.phase, Phase::Unbegun);
@@ -105,10 +108,10 @@ impl WavParse {
     /// Puts out what EOS would make it put out, which is nothing: a part of a frame stays. Where EOS would be a
     /// fault, it is that fault.
     pub fn drain(&mut self, _alloc: Global, out: &mut Outs) -> Result<(), ElementFault>
-        ensures drained { OnOk result ((read : List ℕ → Told) (calls : List Call) (put : List Item) → Parsed read self.old calls put → Parsed read self.new (calls ++ Act Drain ∷ []) put) }
+        ensures drained { OnOk result ((calls : List Call) (put : List Item) → Parsed self.old calls put → Parsed self.new (calls ++ Act Drain ∷ []) put) }
         ensures out { out.new ≡ out.old }
         ensures stays { OnErr result (self.new ≡ self.old) }
-        ensures fault { IfErr result (λ fault. (read : List ℕ → Told) (calls : List Call) (put : List Item) → Parsed read self.old calls put → IsFaultOf (next_owed (parses read) calls (Ev Eos)) fault) }
+        ensures fault { IfErr result (λ fault. (calls : List Call) (put : List Item) → Parsed self.old calls put → IsFaultOf (next_owed parses calls (Ev Eos)) fault) }
     {
         if self.ended {
             return Ok(());
@@ -119,7 +122,7 @@ impl WavParse {
     /// The place in the file, in bytes, of a frame of the data of the known head. None where no head is known.
     pub fn place_of(&self, frame: u64) -> Option<u64>
         requires { frame < 2 ^ 54 }
-        ensures { (read : List ℕ → Told) (calls : List Call) (put : List Item) → Parsed read self.now calls put → result ≡ option_map (place_of_frame frame) (known_behind read calls) }
+        ensures { (calls : List Call) (put : List Item) → Parsed self.now calls put → result ≡ option_map (place_of_frame frame) (known_behind calls) }
     {
         let known = self.known.as_ref()?;
         Some(known.place_of(frame))
@@ -127,7 +130,7 @@ impl WavParse {
 
     /// The known head. None where no head is known.
     pub fn head(&self) -> Option<Head>
-        ensures { (read : List ℕ → Told) (calls : List Call) (put : List Item) → Parsed read self.now calls put → result ≡ option_map (λ (k : Known). k.head) (known_behind read calls) }
+        ensures { (calls : List Call) (put : List Item) → Parsed self.now calls put → result ≡ option_map (λ (k : Known). k.head) (known_behind calls) }
     {
         let known = self.known.as_ref()?;
         Some(known.head())
@@ -135,7 +138,7 @@ impl WavParse {
 
     /// The same element once more.
     pub fn copy(&self, alloc: Global) -> Result<WavParse, OutOfMemory>
-        ensures { IfOk result (λ made. (read : List ℕ → Told) (calls : List Call) (put : List Item) → Parsed read self.now calls put → Parsed read made calls put) }
+        ensures { IfOk result (λ made. (calls : List Call) (put : List Item) → Parsed self.now calls put → Parsed made calls put) }
     {
         Ok(WavParse {
             known: known_again(alloc, &self.known)?,

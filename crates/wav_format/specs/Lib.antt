@@ -6,4 +6,5 @@ pub mod Format
 pub mod Gathered
 pub mod Given
 pub mod Reader
+pub mod Told
 pub mod Written

@@ -13,7 +13,7 @@ mod tests;
 mod writing;
 
 pub use head::{Head, HeadAnswer, WavKind};
-pub use laws::head_stays;
+pub use laws::{head_stays, one_is_told};
 pub use reader::HeadReader;
 pub use reading::read_head;
 pub use writing::write_head;
