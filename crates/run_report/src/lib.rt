@@ -1,0 +1,18 @@
+//! What a run reports, and the text of it.
+#![tactic(auto)]
+
+mod counts;
+mod faults;
+mod names;
+pub mod report;
+mod text;
+pub mod what;
+
+pub use report::{
+    Answer, Entry, Fault, PadCount, Place, Reason, Report, SinkCount, StallReason, StalledTask,
+};
+pub use text::{NO_MEMORY, no_memory, report_text};
+pub use what::What;
+
+#[cfg(test)]
+mod tests;
