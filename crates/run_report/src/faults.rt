@@ -2,7 +2,7 @@
 ghost use Rattle.std.specs.Prelude.{◌≡◌, ◌++◌, codes, flat_map, IfOk, OnOk};
 ghost use Rattle.std.specs.String.{string_bytes};
 ghost use Rattle.run_report.specs.FaultLines.{about_line, caps_line, cause_lines, command_text, count_line, failure_line, fault_lines, held_text, link_line, missing_line, need_text, offered_text, place_line, probe_text, stall_text, stalled_lines, stream_line, task_line, time_line, unlinked_line, value_line, word_line};
-ghost use Rattle.run_report.specs.Pads.{newline};
+ghost use Rattle.run_report.specs.Pads.{pad_text};
 
 use crate::names::{line_kind_name, stream_kind_name, what_name};
 use crate::report::{Fault, StallReason, StalledTask};
@@ -130,12 +130,22 @@ fn write_link(
 ) -> Result<(), OutOfMemory>
     ensures { OnOk result (string_bytes text.new ≡ string_bytes text.old ++ link_line a.now b.now answer) }
 {
-    let from = a.element.as_str();
-    let from_pad = a.pad.as_str();
-    let to = b.element.as_str();
-    let to_pad = b.pad.as_str();
     let code = answer.code();
-    write!(text, "fault link {from}.{from_pad} {to}.{to_pad} {code}\n")?;
+    text.push_str("fault link ")?;
+    write_pad(text, a)?;
+    text.push_str(" ")?;
+    write_pad(text, b)?;
+    write!(text, " {code}\n")?;
+    Ok(())
+}
+
+/// Writes the name of a pad.
+fn write_pad(text: &mut String, pad: &PadName) -> Result<(), OutOfMemory>
+    ensures { OnOk result (string_bytes text.new ≡ string_bytes text.old ++ pad_text pad.now) }
+{
+    let element = pad.element.as_str();
+    let name = pad.pad.as_str();
+    write!(text, "{element}.{name}")?;
     Ok(())
 }
 
