@@ -3,3 +3,4 @@ pub mod FaultLines
 pub mod Names
 pub mod Pads
 pub mod ReportText
+pub mod Rows
