@@ -83,7 +83,7 @@ pub record RunRows : Type 0 where
   pub quiet : report_lines 0 true (report_of commands Nothing) ≡ lines (codes "status 0 Eos" ∷ [])
   pub answered : report_lines 0 false (report_of commands Nothing)
       ≡ lines (codes "status 0 Eos" ∷ codes "command 1 done" ∷ codes "command 2 done i.src=5 t.src_1=0" ∷ codes "command 3 unreached"
-        ∷ codes "command 4 refused TooMany 65" ∷ codes "command 5 refused AfterEos" ∷ codes "command 6 refused NotReady" ∷ crossed)
+      ∷ codes "command 4 refused TooMany 65" ∷ codes "command 5 refused AfterEos" ∷ codes "command 6 refused NotReady" ∷ crossed)
   pub no_memory : report_lines 13 false (report_of commands NoLine) ≡ lines (codes "status 13 OutOfMemory" ∷ [])
 
 pub record LineRows : Type 0 where
@@ -114,9 +114,9 @@ pub record FlowRows : Type 0 where
 
 pub record StallRows : Type 0 where
   pub no_command : report_lines 12 true (report_of [] (Stalled None
-        (task (codes "ramptestsrc0") (NeedsRoom (pad (codes "queue0") (codes "sink"))) ∷ task (codes "queue0") (NeedsRoom (pad (codes "v") (codes "sink_0")))
-        ∷ task (codes "v") (NeedsItem (pad (codes "v") (codes "sink_1"))) ∷ [])))
+      (task (codes "ramptestsrc0") (NeedsRoom (pad (codes "queue0") (codes "sink"))) ∷ task (codes "queue0") (NeedsRoom (pad (codes "v") (codes "sink_0")))
+      ∷ task (codes "v") (NeedsItem (pad (codes "v") (codes "sink_1"))) ∷ [])))
       ≡ lines (codes "status 12 Stalled" ∷ codes "fault command none" ∷ codes "task ramptestsrc0 needs-room queue0.sink" ∷ codes "task queue0 needs-room v.sink_0" ∷ codes "task v needs-item v.sink_1" ∷ [])
   pub at_a_command : report_lines 12 true (report_of [] (Stalled (Some 3)
-        (task (codes "f") (AtProbe 3) ∷ task (codes "g") (Held (codes "o")) ∷ task (codes "h") Ended ∷ [])))
+      (task (codes "f") (AtProbe 3) ∷ task (codes "g") (Held (codes "o")) ∷ task (codes "h") Ended ∷ [])))
       ≡ lines (codes "status 12 Stalled" ∷ codes "fault command 3" ∷ codes "task f at-probe 3" ∷ codes "task g held o" ∷ codes "task h ended" ∷ [])

@@ -192,7 +192,10 @@ fn write_caps(
     let element = element.as_str();
     let offered = offered_text.as_str();
     let wanted = wanted_text.as_str();
-    write!(text, "fault caps {element} offered {offered} wanted {wanted}\n")?;
+    write!(
+        text,
+        "fault caps {element} offered {offered} wanted {wanted}\n"
+    )?;
     Ok(())
 }
 

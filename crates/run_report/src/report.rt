@@ -56,10 +56,7 @@ pub enum Answer {
     /// The stream ended before the command's place was reached.
     Unreached,
     /// It was refused, at these places, and changed nothing.
-    Refused {
-        reason: Reason,
-        places: List<Place>,
-    },
+    Refused { reason: Reason, places: List<Place> },
 }
 
 /// The answer to one command of the script.
@@ -122,17 +119,32 @@ pub enum Fault {
     NoLine,
     /// The text is no launch line. `place` is the length in bytes of its longest beginning with which some line
     /// begins.
-    BadLine { place: u32, kind: LineKind },
+    BadLine {
+        place: u32,
+        kind: LineKind,
+    },
     /// What the line names does not exist.
-    NoSuch { name: Text, what: What },
+    NoSuch {
+        name: Text,
+        what: What,
+    },
     /// A property of the element `name` has a value that it cannot have, or is missing.
-    BadValue { name: Text, property: Text },
+    BadValue {
+        name: Text,
+        property: Text,
+    },
     /// The name of an element is in use.
-    NameTaken { name: Text },
+    NameTaken {
+        name: Text,
+    },
     /// The location is in use.
-    LocationTaken { location: Text },
+    LocationTaken {
+        location: Text,
+    },
     /// A limit was passed. `count` is the number that did.
-    TooMany { count: u32 },
+    TooMany {
+        count: u32,
+    },
     /// The source pad `a` and the sink pad `b` cannot be linked.
     LinkRefused {
         a: PadName,
@@ -140,7 +152,9 @@ pub enum Fault {
         ret: LinkReturn,
     },
     /// A location could not be opened.
-    OpenFault { location: Text },
+    OpenFault {
+        location: Text,
+    },
     /// A source could not be read. Its count of failures was `before`, and then `after`.
     ReadFault {
         location: Text,
@@ -167,14 +181,21 @@ pub enum Fault {
         wanted: Caps,
     },
     /// A buffer reached a source pad without a link, after `place` items had crossed it.
-    NotLinked { pad: PadName, place: u64 },
+    NotLinked {
+        pad: PadName,
+        place: u64,
+    },
     /// No task could go on, with the command of this number, from 1 on, still to come.
     Stalled {
         command: Option<u32>,
         tasks: List<StalledTask>,
     },
     /// A number of an element passed its limit: `a` stood, and `b` more was to come.
-    TooLong { element: Text, a: u64, b: u64 },
+    TooLong {
+        element: Text,
+        a: u64,
+        b: u64,
+    },
 }
 
 /// What a run did: the answers to the commands of its script, the counts of each source pad and of each file

@@ -338,7 +338,12 @@ fn writes_rows(rt: HostRuntime) -> Result<(), Fail> {
         let (status, rest) = head.split_once(' ').unwrap_or((head, ""));
         let (quiet, case) = rest.split_once(' ').unwrap_or((rest, ""));
         let report = report(alloc, case)?;
-        let text = report_text(alloc, status.parse().unwrap_or(255), quiet == "quiet", &report)?;
+        let text = report_text(
+            alloc,
+            status.parse().unwrap_or(255),
+            quiet == "quiet",
+            &report,
+        )?;
         assert_eq!(rt; text.as_str().strip_suffix('\n'), Some(want), "at {head}");
     }
     Ok(())
