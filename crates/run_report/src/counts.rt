@@ -1,5 +1,5 @@
 //! The lines that tell what a run did.
-ghost use Rattle.std.specs.Prelude.{◌≡◌, ◌++◌, ◌+◌, codes, flat_map, OnOk};
+ghost use Rattle.std.specs.Prelude.{◌≡◌, ◌++◌, codes, flat_map, OnOk};
 ghost use Rattle.std.specs.String.{string_bytes};
 ghost use Rattle.run_report.specs.CountLines.{answer_text, count_lines, entry_line, entry_lines, limit_text, pad_line, sink_line};
 ghost use Rattle.run_report.specs.Names.{reason_name};

@@ -1,5 +1,5 @@
 //! The lines that tell which fault ended a run.
-ghost use Rattle.std.specs.Prelude.{◌≡◌, ◌++◌, codes, flat_map, IfOk, OnOk};
+ghost use Rattle.std.specs.Prelude.{◌≡◌, ◌++◌, flat_map, IfOk, OnOk};
 ghost use Rattle.std.specs.String.{string_bytes};
 ghost use Rattle.run_report.specs.FaultLines.{about_line, caps_line, cause_lines, command_text, count_line, failure_line, fault_lines, held_text, link_line, missing_line, need_text, offered_text, place_line, probe_text, stall_text, stalled_lines, stream_line, task_line, time_line, unlinked_line, value_line, word_line};
 ghost use Rattle.run_report.specs.Pads.{pad_text};
