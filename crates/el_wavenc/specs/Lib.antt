@@ -1,0 +1,5 @@
+pub mod Encoded
+pub mod Encodes
+pub mod Same
+pub mod Templates
+pub mod WavFile

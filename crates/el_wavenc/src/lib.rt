@@ -1,0 +1,14 @@
+//! The element that writes WAV files.
+#![tactic(auto)]
+
+mod file;
+mod fixed;
+mod put_out;
+mod stream;
+mod template;
+pub mod wav_enc;
+
+pub use wav_enc::WavEnc;
+
+#[cfg(test)]
+mod tests;
