@@ -1,22 +1,17 @@
 -- For which fed and put-out lists an element that writes WAV files stands.
-use Rattle.std.specs.Prelude.{◌≡◌, List, Option}
+use Rattle.std.specs.Prelude.{◌≡◌, List}
 use Rattle.std.specs.Option.{option_map}
 use Rattle.flow_model.specs.Item.{Item}
 use Rattle.flow_model.specs.Call.{Call}
 use Rattle.flow_model.specs.Rule.{Fed, unfed, all_called, owed_for}
 use Rattle.flow_model.specs.Feeding.{has_eos}
-use Rattle.el_wavenc.specs.declared.stream.Stream.{Stream as Known}
 use Rattle.el_wavenc.specs.declared.wav_enc.WavEnc.{WavEnc}
-use Rattle.el_wavenc.specs.WavFile.{Stream}
+use Rattle.el_wavenc.specs.Known.{stream_by}
 use Rattle.el_wavenc.specs.Encodes.{Progress, progress, encodes}
 
 -- how far its rule has come
 abbrev pub encoding : List Call → Fed
 encoding calls = all_called encodes unfed calls
-
--- the stream that an element knows
-abbrev pub stream_by : Known → Stream
-stream_by s = record { caps = s.caps; format = s.info.format; rate = s.info.rate; channels = s.info.channels }
 
 -- how far an element has come
 abbrev pub come : WavEnc → Progress

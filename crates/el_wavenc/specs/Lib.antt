@@ -1,5 +1,6 @@
 pub mod Encoded
 pub mod Encodes
+pub mod Known
 pub mod Same
 pub mod Templates
 pub mod WavFile

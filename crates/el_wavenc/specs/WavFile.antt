@@ -65,9 +65,12 @@ head_of s size = record {
 abbrev pub bytes_at : ℕ → List ℕ → Item
 bytes_at place bytes = Buf (record { body = bytes; pts = None; duration = None; offset = Some place; discont = false })
 
--- the head, for the beginning of the file
+-- the bytes of the head, and what is put out for them, at the beginning of the file
+unfoldable pub head_bytes : Stream → ℕ → List ℕ
+head_bytes s size = written (head_of s size) size
+
 abbrev pub head_items : Stream → ℕ → List Item
-head_items s size = Ev (NewSegment (bytes_segment 0)) ∷ bytes_at 0 (written (head_of s size) size) ∷ []
+head_items s size = Ev (NewSegment (bytes_segment 0)) ∷ bytes_at 0 (head_bytes s size) ∷ []
 
 -- the zero byte behind data of an odd size, which that size does not count
 abbrev pub padding : ℕ → List Item

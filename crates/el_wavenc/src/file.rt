@@ -1,19 +1,18 @@
 //! A WAV file, as what is put out for it.
-ghost use Rattle.std.specs.Prelude.{◌≡◌, ◌≤◌, ◌++◌, ◌∷◌, [], if◌then◌else◌, IfOk, OnOk};
+ghost use Rattle.std.specs.Prelude.{◌≡◌, ◌≤◌, ◌++◌, ◌∷◌, [], if◌then◌else◌, IfOk, OnOk, OnErr};
 ghost use Rattle.flow_model.specs.Item.{Ev, NewSegment};
 ghost use Rattle.flow_model.specs.Source.{bytes_segment};
 ghost use Rattle.flow_model.specs.Feeding.{on_pad};
-ghost use Rattle.wav_format.specs.Written.{written};
 ghost use Rattle.wav_format.specs.Format.{IsKnown};
 ghost use Rattle.el_parse.specs.Frames.{events_of};
-ghost use Rattle.el_wavenc.specs.Encoded.{stream_by};
-ghost use Rattle.el_wavenc.specs.WavFile.{bytes_at as bytes_at_of, head_items, head_of as head_of_stream, padding, tag_of as tag_of_sample};
+ghost use Rattle.el_wavenc.specs.Known.{stream_by};
+ghost use Rattle.el_wavenc.specs.WavFile.{bytes_at as bytes_at_of, head_bytes, head_items, head_of as head_of_stream, padding, tag_of as tag_of_sample};
 
-use crate::put_out::on_pad;
+use crate::put_out::{on_pad, put_out};
 use crate::stream::Stream;
 use audio_info::Sample;
 use gst_caps::OutOfMemory;
-use gst_item::{Body, Buffer, Event, Item, Out};
+use gst_item::{Body, Buffer, Event, Item, Out, Outs};
 use gst_time::{Format, Segment};
 use std::alloc::Global;
 use std::collections::VecDeque;
@@ -65,10 +64,11 @@ fn head_of(stream: &Stream, size: u64) -> Head
     }
 }
 
+#[tactic(auto, unfolding(crate::specs::WavFile::head_bytes))]
 /// The bytes of that head.
 fn head_body(alloc: Global, stream: &Stream, size: u64) -> Result<Body, OutOfMemory>
     requires { size ≤ 4294967258 }
-    ensures { IfOk result (λ made. made ≡ written (head_of_stream (stream_by stream.now) size) size) }
+    ensures { IfOk result (λ made. made ≡ head_bytes (stream_by stream.now) size) }
 {
     let mut bytes = [0; 44];
     write_head(&head_of(stream, size), &mut bytes);
@@ -148,4 +148,24 @@ pub(crate) fn push_event(
         queue.push_back(on_pad(Item::Event(event)))?;
     }
     Ok(())
+}
+
+/// Puts data out, and before it what begins the file, where that did not go out.
+pub(crate) fn put_data(
+    alloc: Global,
+    stream: &Stream,
+    opened: bool,
+    item: Item,
+    out: &mut Outs,
+) -> Result<(), OutOfMemory>
+    ensures out { OnOk result (out.new ≡ out.old ++ on_pad 0 ((if opened then [] else head_items (stream_by stream.now) 0) ++ item ∷ [])) }
+    ensures stays { OnErr result (out.new ≡ out.old) }
+{
+    if opened {
+        return put_out(alloc, item, out);
+    }
+    let mut queue = VecDeque::with_capacity(alloc, 3)?;
+    push_head(alloc, &mut queue, stream, 0)?;
+    queue.push_back(on_pad(item))?;
+    out.pour(alloc, &mut queue)
 }

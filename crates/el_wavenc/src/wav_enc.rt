@@ -1,5 +1,5 @@
 //! The element that writes WAV files, as GStreamer's wavenc.
-ghost use Rattle.std.specs.Prelude.{◌≡◌, ◌≤◌, ◌+◌, ◌++◌, ◌∷◌, [], ℕ, List, Some, None, Ok, true, false, if◌then◌else◌, IfOk, OnOk, OnErr, IfErr, IsOk};
+ghost use Rattle.std.specs.Prelude.{◌≡◌, ◌≤◌, ◌+◌, ◌++◌, ◌∷◌, [], ℕ, List, Some, None, Ok, true, false, IfOk, OnOk, OnErr, IfErr, IsOk};
 ghost use Rattle.std.specs.Option.{option_copied};
 ghost use Rattle.flow_model.specs.Item.{Item, Buf, Ev, NewCaps, FlushStop, Eos, is_eos, is_flush_stop};
 ghost use Rattle.flow_model.specs.Call.{Call, Feed, Act, Drain};
@@ -8,13 +8,11 @@ ghost use Rattle.el_parse.specs.Frames.{events_of};
 ghost use Rattle.el_parse.specs.Parses.{answered};
 ghost use Rattle.el_parse.specs.Regrouped.{drain_owed};
 ghost use Rattle.el_wavenc.specs.Encodes.{encodes, encode_answer, announcement, ending, finished, settled, behind};
-ghost use Rattle.el_wavenc.specs.Encoded.{stream_by};
-ghost use Rattle.el_wavenc.specs.WavFile.{head_items};
 
 use crate::file::{
-    HEAD_LENGTH, MOST_DATA, bytes_at, push_event, push_head, push_opening, push_padding,
+    HEAD_LENGTH, MOST_DATA, bytes_at, push_event, push_head, push_opening, push_padding, put_data,
 };
-use crate::put_out::{on_pad, put_out};
+use crate::put_out::put_out;
 use crate::fixed::{exactly, same_caps};
 use crate::stream::Stream;
 use crate::template::sink_template;
@@ -312,26 +310,6 @@ impl WavEnc {
         }
         Ok(queue)
     }
-}
-
-/// Puts data out, and before it what begins the file, where that did not go out.
-fn put_data(
-    alloc: Global,
-    stream: &Stream,
-    opened: bool,
-    item: Item,
-    out: &mut Outs,
-) -> Result<(), OutOfMemory>
-    ensures out { OnOk result (out.new ≡ out.old ++ on_pad 0 ((if opened then [] else head_items (stream_by stream.now) 0) ++ item ∷ [])) }
-    ensures stays { OnErr result (out.new ≡ out.old) }
-{
-    if opened {
-        return put_out(alloc, item, out);
-    }
-    let mut queue = VecDeque::with_capacity(alloc, 3)?;
-    push_head(alloc, &mut queue, stream, 0)?;
-    queue.push_back(on_pad(item))?;
-    out.pour(alloc, &mut queue)
 }
 
 /// The same stream once more.
