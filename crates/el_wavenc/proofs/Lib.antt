@@ -1,3 +1,5 @@
+pub mod Accepted
+pub mod Encoding
 pub mod Fields
 pub mod Same
 pub mod Steps

@@ -19,7 +19,7 @@ use Rattle.el_parse.specs.Streams.{bytes_got}
 use Rattle.el_parse.specs.Part.{bytes_of}
 use Rattle.el_parse.proofs.Seen.{bytes_push, latest_since}
 use Rattle.el_wavenc.specs.Same.{same_caps, exactly}
-use Rattle.el_wavenc.specs.Templates.{sink_template}
+use Rattle.el_wavenc.specs.Templates.{sink_template, wav_caps}
 use Rattle.el_wavenc.specs.WavFile.{Stream, stream_of, frame_width, head_length, most_data, bytes_at, head_items, padding}
 use Rattle.el_wavenc.specs.Encodes.{Progress, progress, opening, ending, file_end, buffer_answer, announcement, settled, caps_answer, encode_answer, finished, stream_behind, behind}
 use Rattle.el_wavenc.proofs.Same.{caps_decide}
@@ -125,7 +125,10 @@ holds : (b : Bool) (r : Result (List Item) Fault) (fault : Fault) (ys : List Ite
 holds true r fault ys e = refl
 holds false r fault ys e = absurd (cc)
 
-ok_same : (xs ys : List Item) → Ok xs ≡ Ok ys → xs ≡ ys
+abbrev no_fault : List Item → Result (List Item) Fault
+no_fault ys = Ok ys
+
+ok_same : (xs ys : List Item) → no_fault xs ≡ Ok ys → xs ≡ ys
 ok_same xs ys e = ap (λ (r : Result (List Item) Fault). items_of r) e
   where
     items_of : Result (List Item) Fault → List Item
@@ -150,7 +153,7 @@ buffer_took p b (Some s) ys e =
 announced_only : (p : Progress) → opened_all p.opened (announcement p) ≡ p.opened
 announced_only p = go p.announced
   where
-    go : (a : Bool) → opened_all p.opened (if a then [] else Ev (NewCaps _) ∷ []) ≡ p.opened
+    go : (a : Bool) → opened_all p.opened (if a then [] else Ev (NewCaps wav_caps) ∷ []) ≡ p.opened
     go true = refl
     go false = refl
 
@@ -191,7 +194,7 @@ caps_took : (p : Progress) (known : Option (Description One)) → p.stream ≡ o
     → with_one p (Ev (NewCaps caps)) ys ≡ behind p (Ev (NewCaps caps))
 caps_took p known is caps ys e = go (settled p) refl e
   where
-    all : (ys : List Item) (stream : Option Stream) → Ok (announcement p) ≡ Ok ys → Some (stream_of caps) ≡ stream
+    all : (ys : List Item) (stream : Option Stream) → no_fault (announcement p) ≡ Ok ys → Some (stream_of caps) ≡ stream
         → with_one p (Ev (NewCaps caps)) ys ≡ record p { stream = stream; announced = true }
     all ys stream put is = same_progress is refl (subst (λ zs. opened_all p.opened zs ≡ p.opened) (ok_same _ ys put) (announced_only p)) (plus_none p.size)
 
@@ -202,7 +205,7 @@ caps_took p known is caps ys e = go (settled p) refl e
         all ys p.stream (chosen (same_caps first caps) _ _ ys e)
         (stream_stays p known is caps first some ((caps_decide first caps).0 (holds (same_caps first caps) _ _ ys e)))
 
-passed : (p : Progress) (x : Item) (ys zs : List Item) → Ok zs ≡ Ok ys → opened_all p.opened zs ≡ p.opened → with_one p x zs ≡ record p { size = p.size + 0 } → with_one p x ys ≡ p
+passed : (p : Progress) (x : Item) (ys zs : List Item) → no_fault zs ≡ Ok ys → opened_all p.opened zs ≡ p.opened → with_one p x zs ≡ record p { size = p.size + 0 } → with_one p x ys ≡ p
 passed p x ys zs put same one =
     subst (λ us. with_one p x us ≡ p) (ok_same zs ys put) (one ∙ ap (λ n. record p { size = n }) (plus_none p.size))
 
