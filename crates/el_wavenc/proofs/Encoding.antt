@@ -1,18 +1,15 @@
 -- An element that writes WAV files with one more call.
-use Rattle.std.proofs.Common.{◌≡◌, ℕ, ◌+◌, Bool, true, false, List, [], ◌∷◌, ◌++◌, Option, Some, None, refl, sym, ap, subst, ◌∙◌, append-nil, Result, Ok, Err}
+use Rattle.std.proofs.Common.{◌≡◌, ℕ, true, false, List, [], ◌∷◌, ◌++◌, refl, sym, ap, ◌∙◌, append-nil, Result, Ok, Err}
 use Rattle.std.specs.Prelude.{IsOk, OnOk, filter}
-use Rattle.std.specs.Option.{option_map}
-use Rattle.gst_item.specs.declared.fault.ElementFault.{ElementFault}
 use Rattle.flow_model.specs.Item.{Item, Ev, FlushStop, Eos, is_flush_stop, is_eos}
 use Rattle.flow_model.specs.Call.{Call, Feed, Act, Drain, items}
 use Rattle.flow_model.specs.Rule.{Fed, Fault, not_eos}
-use Rattle.flow_model.specs.Feeding.{next_owed, IsFaultOf}
+use Rattle.flow_model.specs.Feeding.{next_owed}
 use Rattle.el_basic.specs.Filters.{caps_in_force}
 use Rattle.el_basic.proofs.Calls.{fed_taken, fed_behind, fed_flush, drained_begun, drained_behind, eos_taken, eos_stays, eos_flushed, eos_act}
 use Rattle.el_parse.specs.Parses.{answered}
 use Rattle.el_parse.specs.Regrouped.{drain_owed, without_eos}
 use Rattle.el_wavenc.specs.declared.wav_enc.WavEnc.{WavEnc}
-use Rattle.el_wavenc.specs.WavFile.{stream_of}
 use Rattle.el_wavenc.specs.Encodes.{Progress, progress, ending, encode_answer, encodes, finished, behind}
 use Rattle.el_wavenc.specs.Encoded.{encoding, come, Encoded}
 use Rattle.el_wavenc.proofs.Steps.{with_one, opened_all, opened_end, progress_fed, progress_drained, went, ending_alone}

@@ -1,16 +1,15 @@
 -- How far the rule of an element that writes WAV files is behind one more item.
-use Rattle.std.proofs.Common.{◌≡◌, ◌≤◌, ℕ, ◌+◌, Bool, true, false, if◌then◌else◌, List, [], ◌∷◌, ◌++◌, length, Option, Some, None, refl, sym, ap, subst, ◌∙◌, append-nil, append_assoc, arith, Result, Ok, Err, length-append, nat_le, is_some}
+use Rattle.std.proofs.Common.{◌≡◌, ℕ, ◌+◌, Bool, true, false, if◌then◌else◌, List, [], ◌∷◌, ◌++◌, length, Option, Some, None, refl, sym, ap, subst, ◌∙◌, append-nil, append_assoc, arith, Result, Ok, Err, length-append, nat_le, is_some}
 use Rattle.std.specs.Prelude.{◌==◌, ◌%◌, ◌||◌, filter}
 use Rattle.std.specs.Option.{option_map}
 use Rattle.gst_caps.specs.Accepts.{accepts}
 use Rattle.gst_caps.specs.Description.{Description}
 use Rattle.gst_caps.specs.declared.value.One.{One}
-use Rattle.gst_item.proofs.Kept.{since_push, latest_push}
-use Rattle.gst_item.specs.declared.fault.StreamKind.TheVariants.{SplitFrame, TooLarge}
+use Rattle.gst_item.proofs.Kept.{since_push}
 use Rattle.flow_model.specs.Item.{Item, Buf, Ev, Buffer, StreamStart, NewCaps, NewSegment, Tag, Gap, FlushStop, Eos, is_flush_stop, is_caps, is_segment, body_of}
-use Rattle.flow_model.specs.Sticky.{latest, since_flush_stop, in_force}
+use Rattle.flow_model.specs.Sticky.{latest, since_flush_stop}
 use Rattle.flow_model.specs.Call.{Call, Feed, Act, Drain, items}
-use Rattle.flow_model.specs.Rule.{Fed, Fault, NotNegotiated, BadStream, not_eos}
+use Rattle.flow_model.specs.Rule.{Fed, Fault, not_eos}
 use Rattle.flow_model.specs.Feeding.{has_item}
 use Rattle.el_basic.specs.Filters.{caps_in_force, caps_behind}
 use Rattle.el_basic.proofs.Calls.{items_push, items_act}
@@ -18,10 +17,10 @@ use Rattle.el_basic.proofs.Filtering.{caps_fed}
 use Rattle.el_parse.specs.Streams.{bytes_got}
 use Rattle.el_parse.specs.Part.{bytes_of}
 use Rattle.el_parse.proofs.Seen.{bytes_push, latest_since}
-use Rattle.el_wavenc.specs.Same.{same_caps, exactly}
+use Rattle.el_wavenc.specs.Same.{same_caps}
 use Rattle.el_wavenc.specs.Templates.{sink_template, wav_caps}
-use Rattle.el_wavenc.specs.WavFile.{Stream, stream_of, frame_width, head_length, most_data, bytes_at, head_items, padding}
-use Rattle.el_wavenc.specs.Encodes.{Progress, progress, opening, ending, file_end, buffer_answer, announcement, settled, caps_answer, encode_answer, finished, stream_behind, behind}
+use Rattle.el_wavenc.specs.WavFile.{Stream, stream_of, frame_width, head_length, most_data, bytes_at, head_items}
+use Rattle.el_wavenc.specs.Encodes.{Progress, progress, opening, ending, file_end, buffer_answer, announcement, settled, caps_answer, encode_answer, stream_behind, behind}
 use Rattle.el_wavenc.proofs.Same.{caps_decide}
 
 -- ---- what one more item changes

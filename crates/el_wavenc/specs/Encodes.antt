@@ -1,12 +1,12 @@
 -- The rule of an element that writes WAV files, after GStreamer's wavenc.
-use Rattle.std.specs.Prelude.{ℕ, ◌+◌, ◌%◌, ◌==◌, Bool, true, false, ◌||◌, if◌then◌else◌, nat_le, List, [], ◌∷◌, ◌++◌, length, Option, Some, None, is_some, Result, Ok, Err}
+use Rattle.std.specs.Prelude.{ℕ, ◌+◌, ◌%◌, ◌==◌, Bool, true, ◌||◌, if◌then◌else◌, nat_le, List, [], ◌∷◌, ◌++◌, length, Option, Some, None, is_some, Result, Ok, Err}
 use Rattle.std.specs.Option.{option_map}
 use Rattle.gst_caps.specs.Accepts.{accepts}
 use Rattle.gst_caps.specs.Description.{Description}
 use Rattle.gst_caps.specs.declared.value.One.{One}
 use Rattle.gst_item.specs.declared.fault.StreamKind.TheVariants.{SplitFrame, TooLarge}
 use Rattle.flow_model.specs.Item.{Item, Buf, Ev, Buffer, NewCaps, NewSegment, Gap, Eos, is_caps}
-use Rattle.flow_model.specs.Sticky.{latest, since_flush_stop, in_force}
+use Rattle.flow_model.specs.Sticky.{latest, since_flush_stop}
 use Rattle.flow_model.specs.Call.{items}
 use Rattle.flow_model.specs.Rule.{Fed, Fault, NotNegotiated, BadStream, Response}
 use Rattle.flow_model.specs.Feeding.{has_item}

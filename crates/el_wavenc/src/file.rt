@@ -138,10 +138,7 @@ pub(crate) fn push_padding(
 }
 
 /// Puts an event behind the others, where there is one.
-pub(crate) fn push_event(
-    queue: &mut VecDeque<Out>,
-    event: Option<Event>,
-) -> Result<(), OutOfMemory>
+pub(crate) fn push_event(queue: &mut VecDeque<Out>, event: Option<Event>) -> Result<(), OutOfMemory>
     ensures { OnOk result (queue.new.items ≡ queue.old.items ++ on_pad 0 (events_of event)) }
 {
     if let Some(event) = event {

@@ -77,12 +77,7 @@ fn as_structure(alloc: Global, caps: &Fixed) -> Result<Structure, OutOfMemory>
 }
 
 /// Sets a field to one value.
-fn add(
-    alloc: Global,
-    structure: &mut Structure,
-    name: &str,
-    value: &One,
-) -> Result<(), OutOfMemory>
+fn add(alloc: Global, structure: &mut Structure, name: &str, value: &One) -> Result<(), OutOfMemory>
     requires { IsSingle value.now }
     ensures { OnOk result (structure.new ≡ record structure.old { fields = put name.now (Single value.now) structure.old.fields }) }
 {

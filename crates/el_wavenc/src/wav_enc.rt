@@ -12,8 +12,8 @@ ghost use Rattle.el_wavenc.specs.Encodes.{encodes, encode_answer, announcement, 
 use crate::file::{
     HEAD_LENGTH, MOST_DATA, bytes_at, push_event, push_head, push_opening, push_padding, put_data,
 };
-use crate::put_out::put_out;
 use crate::fixed::{exactly, same_caps};
+use crate::put_out::put_out;
 use crate::stream::Stream;
 use crate::template::sink_template;
 use audio_info::Info;
@@ -222,12 +222,7 @@ impl WavEnc {
     }
 
     /// Takes CAPS of the template.
-    fn take_first(
-        &mut self,
-        alloc: Global,
-        caps: Fixed,
-        out: &mut Outs,
-    ) -> Result<(), ElementFault>
+    fn take_first(&mut self, alloc: Global, caps: Fixed, out: &mut Outs) -> Result<(), ElementFault>
         requires { settled (come self.old) ≡ None }
         ensures answer { OnOk result (IsOk (encode_answer (come self.old) (Ev (NewCaps caps)))) }
         ensures out { OnOk result (out.new ≡ out.old ++ on_pad 0 (answered (encode_answer (come self.old) (Ev (NewCaps caps))))) }
