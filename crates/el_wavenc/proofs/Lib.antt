@@ -3,3 +3,4 @@ pub mod Encoding
 pub mod Fields
 pub mod Same
 pub mod Steps
+pub mod WholeFile

@@ -75,7 +75,7 @@ size_push h x = rw (since_push h x) (go (is_flush_stop x))
 opened_push : (out : List Item) (y : Item) → has_item (latest is_segment (since_flush_stop (out ++ y ∷ []))) ≡ opened_one (has_item (latest is_segment (since_flush_stop out))) y
 opened_push out y = ap has_item (latest_since is_segment out y) ∙ has_if (is_flush_stop y) (is_segment y) y (latest is_segment (since_flush_stop out))
 
-opened_more : (out ys : List Item) → has_item (latest is_segment (since_flush_stop (out ++ ys))) ≡ opened_all (has_item (latest is_segment (since_flush_stop out))) ys
+pub opened_more : (out ys : List Item) → has_item (latest is_segment (since_flush_stop (out ++ ys))) ≡ opened_all (has_item (latest is_segment (since_flush_stop out))) ys
 opened_more out [] = ap (λ h. has_item (latest is_segment (since_flush_stop h))) (append-nil out)
 opened_more out (y ∷ ys) =
     ap (λ h. has_item (latest is_segment (since_flush_stop h))) (sym (append_assoc out (y ∷ []) ys)) ∙ opened_more (out ++ y ∷ []) ys ∙ ap (λ o. opened_all o ys) (opened_push out y)
@@ -116,18 +116,18 @@ or_true : (b : Bool) → true ≡ (b || true)
 or_true true = refl
 or_true false = refl
 
-chosen : (b : Bool) (r : Result (List Item) Fault) (fault : Fault) (ys : List Item) → (if b then r else Err fault) ≡ Ok ys → r ≡ Ok ys
+pub chosen : (b : Bool) (r : Result (List Item) Fault) (fault : Fault) (ys : List Item) → (if b then r else Err fault) ≡ Ok ys → r ≡ Ok ys
 chosen true r fault ys e = e
 chosen false r fault ys e = absurd (cc)
 
-holds : (b : Bool) (r : Result (List Item) Fault) (fault : Fault) (ys : List Item) → (if b then r else Err fault) ≡ Ok ys → b ≡ true
+pub holds : (b : Bool) (r : Result (List Item) Fault) (fault : Fault) (ys : List Item) → (if b then r else Err fault) ≡ Ok ys → b ≡ true
 holds true r fault ys e = refl
 holds false r fault ys e = absurd (cc)
 
-abbrev no_fault : List Item → Result (List Item) Fault
+abbrev pub no_fault : List Item → Result (List Item) Fault
 no_fault ys = Ok ys
 
-ok_same : (xs ys : List Item) → no_fault xs ≡ Ok ys → xs ≡ ys
+pub ok_same : (xs ys : List Item) → no_fault xs ≡ Ok ys → xs ≡ ys
 ok_same xs ys e = ap (λ (r : Result (List Item) Fault). items_of r) e
   where
     items_of : Result (List Item) Fault → List Item
@@ -135,7 +135,7 @@ ok_same xs ys e = ap (λ (r : Result (List Item) Fault). items_of r) e
     items_of (Err fault) = []
 
 -- a body opens the file
-opened_body : (p : Progress) (s : Stream) (place : ℕ) (body : List ℕ) → opened_all p.opened (opening p s ++ bytes_at place body ∷ []) ≡ true
+pub opened_body : (p : Progress) (s : Stream) (place : ℕ) (body : List ℕ) → opened_all p.opened (opening p s ++ bytes_at place body ∷ []) ≡ true
 opened_body p s place body = go p.opened refl
   where
     go : (o : Bool) → p.opened ≡ o → opened_all p.opened ((if o then [] else head_items s 0) ++ bytes_at place body ∷ []) ≡ true
@@ -149,7 +149,7 @@ buffer_took p b (Some s) ys e =
     let put = chosen (nat_le (p.size + length b.body) most_data) _ _ ys inner in
     subst (λ zs. opened_all p.opened zs ≡ true) (ok_same _ ys put) (opened_body p s (head_length + p.size) b.body)
 
-announced_only : (p : Progress) → opened_all p.opened (announcement p) ≡ p.opened
+pub announced_only : (p : Progress) → opened_all p.opened (announcement p) ≡ p.opened
 announced_only p = go p.announced
   where
     go : (a : Bool) → opened_all p.opened (if a then [] else Ev (NewCaps wav_caps) ∷ []) ≡ p.opened

@@ -4,3 +4,4 @@ pub mod Known
 pub mod Same
 pub mod Templates
 pub mod WavFile
+pub mod WholeFile

@@ -3,11 +3,13 @@
 
 mod file;
 mod fixed;
+mod laws;
 mod put_out;
 mod stream;
 mod template;
 pub mod wav_enc;
 
+pub use laws::file_is_whole;
 pub use wav_enc::WavEnc;
 
 #[cfg(test)]
