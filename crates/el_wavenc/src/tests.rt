@@ -2,7 +2,7 @@
 ghost use Rattle.std.specs.Prelude.{◌≡◌, ◌≤◌, false};
 ghost use Rattle.flow_model.specs.Item.{is_flush_stop};
 
-use crate::WavEnc;
+use crate::{WavEnc, file_is_whole};
 use audio_info::{Info, Sample};
 use gst_caps::{Fixed, List, Text};
 use gst_item::{Body, Buffer, ElementFault, Event, Flow, Item, Outs, StreamKind};
@@ -316,6 +316,7 @@ fn check_file(rt: &impl Abort, alloc: Global, line: &str) -> Result<(), Fail> {
 #[test]
 fn files(rt: HostRuntime) -> Result<(), Fail> {
     let alloc = rt.alloc();
+    file_is_whole();
     for line in FILES.lines() {
         check_file(&rt, alloc, line)?;
     }
