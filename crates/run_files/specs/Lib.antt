@@ -1,0 +1,4 @@
+pub mod Seen
+pub mod Ends
+pub mod Closing
+pub mod Opening

@@ -1,0 +1,97 @@
+//! Runs of files in memory.
+use super::*;
+use gst_caps::Text;
+use gst_outside::{Failed, Files, MemFiles, Sink, Source};
+use std::alloc::Global;
+use std::process::Abort;
+use std::test::Fail;
+
+/// What the elements of a line ask for: two of them read a, three write x, y and z, and one asks for nothing.
+fn asked(alloc: Global) -> Result<Vec<Option<Opening>>, Fail> {
+    let mut asked = Vec::new(alloc);
+    asked.push(Some(Opening::Read(Text::from_str(alloc, "a")?)))?;
+    asked.push(Some(Opening::Write(Text::from_str(alloc, "x")?)))?;
+    asked.push(None)?;
+    asked.push(Some(Opening::Read(Text::from_str(alloc, "a")?)))?;
+    asked.push(Some(Opening::Write(Text::from_str(alloc, "y")?)))?;
+    asked.push(Some(Opening::Write(Text::from_str(alloc, "z")?)))?;
+    Ok(asked)
+}
+
+/// Files in memory with an input, of which the openings of these numbers fail.
+fn made(alloc: Global, reads: &[u64], writes: &[u64]) -> Result<MemFiles, Fail> {
+    let mut files = MemFiles::new(alloc);
+    files.add_input(alloc, "a", b"abc", &[], &[])?;
+    files.fail_open_read(alloc, reads)?;
+    files.fail_open_write(alloc, writes)?;
+    Ok(files)
+}
+
+/// The place at which an opening fails, where the openings of these numbers fail.
+fn failing(alloc: Global, reads: &[u64], writes: &[u64]) -> Result<Option<usize>, Fail> {
+    let asked = asked(alloc)?;
+    let mut files = made(alloc, reads, writes)?;
+    let place = match open_all(alloc, &mut files, &asked) {
+        Ok(ends) => {
+            close_all(&mut files, ends);
+            None
+        }
+        Err(Unopened::Failed { place }) => Some(place),
+        Err(Unopened::OutOfMemory) => Err("memory")?,
+    };
+    if files.ends() != 0 {
+        Err("an end that is open")?;
+    }
+    Ok(place)
+}
+
+/// Writes a digit into a sink.
+fn worked<S: Source, K: Sink>(
+    end: Option<End<S, K>>,
+    digit: usize,
+) -> Result<Option<End<S, K>>, Failed> {
+    let piece = [b'0' + (digit % 10) as u8];
+    match end {
+        Some(End::Snk(mut sink)) => {
+            sink.write_at(0, &piece)?;
+            Ok(Some(End::Snk(sink)))
+        }
+        other => Ok(other),
+    }
+}
+
+/// Works with the ends of a run, and gives them back in another order.
+fn run<F: Files>(alloc: Global, files: &mut F, asked: &[Option<Opening>]) -> Result<(), Fail> {
+    let mut ends = open_all(alloc, files, asked)?;
+    let mut back = Vec::with_capacity(alloc, ends.len())?;
+    while let Some(end) = ends.pop() {
+        let digit = back.len();
+        back.push_reserved(worked(end, digit)?);
+    }
+    close_all(files, back);
+    Ok(())
+}
+
+#[test]
+fn ends_are_given_back(rt: HostRuntime) -> Result<(), Fail> {
+    let alloc = rt.alloc();
+    assert_eq!(rt; failing(alloc, &[], &[])?, None);
+    assert_eq!(rt; failing(alloc, &[1], &[])?, Some(0));
+    assert_eq!(rt; failing(alloc, &[], &[1])?, Some(1));
+    assert_eq!(rt; failing(alloc, &[2], &[])?, Some(3));
+    assert_eq!(rt; failing(alloc, &[], &[2])?, Some(4));
+    assert_eq!(rt; failing(alloc, &[], &[3])?, Some(5));
+    Ok(())
+}
+
+#[test]
+fn sinks_leave_their_bytes(rt: HostRuntime) -> Result<(), Fail> {
+    let alloc = rt.alloc();
+    let mut files = made(alloc, &[], &[])?;
+    run(alloc, &mut files, &asked(alloc)?)?;
+    assert_eq!(rt; files.output_bytes("x"), b"4".as_slice());
+    assert_eq!(rt; files.output_bytes("y"), b"1".as_slice());
+    assert_eq!(rt; files.output_bytes("z"), b"0".as_slice());
+    assert_eq!(rt; files.ends(), 0);
+    Ok(())
+}
