@@ -14,7 +14,7 @@ use Rattle.run_files.specs.Ends.{Known, is_sink_at}
 use Rattle.run_files.specs.Seen.{Seen, ToldRose}
 use Rattle.run_files.proofs.Lists.{find_none, find_only, sum_above, sum_above_of}
 
-plus_plus : (n a b : ℕ) → plus (plus n a) b ≡ plus n (b + a)
+pub plus_plus : (n a b : ℕ) → plus (plus n a) b ≡ plus n (b + a)
 plus_plus n a b = omega arith
 
 pub plus_none : (n : ℕ) → plus n 0 ≡ n

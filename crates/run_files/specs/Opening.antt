@@ -1,5 +1,5 @@
 -- How ends are opened.
-use Rattle.std.specs.Prelude.{◌≡◌, ◌≤◌, ◌<◌, ◌+◌, ◌^◌, ℕ, Bool, false, if◌then◌else◌, List, [], Option, None, Some, bytes_eq, length, map, option_map, slice_get, take}
+use Rattle.std.specs.Prelude.{◌≡◌, ◌≤◌, ◌<◌, ◌+◌, ◌^◌, ℕ, Bool, true, false, if◌then◌else◌, List, [], Option, None, Some, bytes_eq, length, map, option_map, slice_get, take}
 use Rattle.std.specs.List.{list_any}
 use Rattle.gst_outside.specs.Causes.{Rose, plus, raised}
 use Rattle.gst_outside.specs.declared.opening.OpenEnd.{OpenEnd}

@@ -1,5 +1,5 @@
 //! The files of a run are opened.
-ghost use Rattle.std.specs.Prelude.{◌≡◌, ◌∷◌, ◌≤◌, ◌+◌, ℕ, List, [], Option, IfOk, IfErr, OnOk, length, option_map, vec_capacity};
+ghost use Rattle.std.specs.Prelude.{◌≡◌, ◌∷◌, ◌≤◌, ◌+◌, ℕ, List, [], Option, Some, IfOk, IfErr, OnOk, length, option_map, vec_capacity};
 ghost use Rattle.run_files.specs.declared.end.Opening.{Opening as Openings};
 ghost use Rattle.run_files.specs.Ends.{AllOpened, Known, known_end, known_ends};
 ghost use Rattle.run_files.specs.Opening.{IsUnopened, Opens, RefusedBy, Stops, StopsAt};
@@ -10,25 +10,44 @@ use crate::end::{End, Opening, Unopened};
 use gst_outside::{Files, OpenEnd};
 use std::alloc::Global;
 
-/// Opens what an element asks for.
+/// Opens a location.
 fn open<F: Files>(
     alloc: Global,
     files: &mut F,
-    opening: &Option<Opening>,
-) -> Result<Option<End<F::Src, F::Snk>>, OpenEnd>
-    ensures opened { IfOk result (λ end. Opens (opening.now ∷ []) (option_map (known_end F.Src.location F.Src.content F.Src.faults F.Snk.location F.Snk.bytes F.Snk.faults) end ∷ []) (seen (F.input files.old) (F.output files.old) (F.faults_of files.old) (F.refused_of files.old) (F.faults files.old) (F.ends files.old)) (seen (F.input files.new) (F.output files.new) (F.faults_of files.new) (F.refused_of files.new) (F.faults files.new) (F.ends files.new))) }
-    ensures here { IfOk result (λ end. AllOpened (F.opened files.new) (option_map (known_end F.Src.location F.Src.content F.Src.faults F.Snk.location F.Snk.bytes F.Snk.faults) end ∷ [])) }
-    ensures refused { IfErr result (λ why. RefusedBy opening.now (seen (F.input files.old) (F.output files.old) (F.faults_of files.old) (F.refused_of files.old) (F.faults files.old) (F.ends files.old)) (seen (F.input files.new) (F.output files.new) (F.faults_of files.new) (F.refused_of files.new) (F.faults files.new) (F.ends files.new)) why) }
+    opening: &Opening,
+) -> Result<End<F::Src, F::Snk>, OpenEnd>
+    ensures opened { IfOk result (λ end. Opens (Some opening.now ∷ []) (Some (known_end F.Src.location F.Src.content F.Src.faults F.Snk.location F.Snk.bytes F.Snk.faults end) ∷ []) (seen (F.input files.old) (F.output files.old) (F.faults_of files.old) (F.refused_of files.old) (F.faults files.old) (F.ends files.old)) (seen (F.input files.new) (F.output files.new) (F.faults_of files.new) (F.refused_of files.new) (F.faults files.new) (F.ends files.new))) }
+    ensures here { IfOk result (λ end. AllOpened (F.opened files.new) (Some (known_end F.Src.location F.Src.content F.Src.faults F.Snk.location F.Snk.bytes F.Snk.faults end) ∷ [])) }
+    ensures refused { IfErr result (λ why. RefusedBy (Some opening.now) (seen (F.input files.old) (F.output files.old) (F.faults_of files.old) (F.refused_of files.old) (F.faults files.old) (F.ends files.old)) (seen (F.input files.new) (F.output files.new) (F.faults_of files.new) (F.refused_of files.new) (F.faults files.new) (F.ends files.new)) why) }
     ensures opened_stays { (l : List ℕ) → F.opened files.old l → F.opened files.new l }
 {
     match opening {
-        None => Ok(None),
-        Some(Opening::Read(location)) => match files.open_read(alloc, location.as_str()) {
-            Ok(source) => Ok(Some(End::Src(source))),
+        Opening::Read(location) => match files.open_read(alloc, location.as_str()) {
+            Ok(source) => Ok(End::Src(source)),
             Err(why) => Err(why),
         },
-        Some(Opening::Write(location)) => match files.open_write(alloc, location.as_str()) {
-            Ok(sink) => Ok(Some(End::Snk(sink))),
+        Opening::Write(location) => match files.open_write(alloc, location.as_str()) {
+            Ok(sink) => Ok(End::Snk(sink)),
+            Err(why) => Err(why),
+        },
+    }
+}
+
+/// Opens what an element asks for, if anything.
+fn open_entry<F: Files>(
+    alloc: Global,
+    files: &mut F,
+    entry: &Option<Opening>,
+) -> Result<Option<End<F::Src, F::Snk>>, OpenEnd>
+    ensures opened { IfOk result (λ end. Opens (entry.now ∷ []) (option_map (known_end F.Src.location F.Src.content F.Src.faults F.Snk.location F.Snk.bytes F.Snk.faults) end ∷ []) (seen (F.input files.old) (F.output files.old) (F.faults_of files.old) (F.refused_of files.old) (F.faults files.old) (F.ends files.old)) (seen (F.input files.new) (F.output files.new) (F.faults_of files.new) (F.refused_of files.new) (F.faults files.new) (F.ends files.new))) }
+    ensures here { IfOk result (λ end. AllOpened (F.opened files.new) (option_map (known_end F.Src.location F.Src.content F.Src.faults F.Snk.location F.Snk.bytes F.Snk.faults) end ∷ [])) }
+    ensures refused { IfErr result (λ why. RefusedBy entry.now (seen (F.input files.old) (F.output files.old) (F.faults_of files.old) (F.refused_of files.old) (F.faults files.old) (F.ends files.old)) (seen (F.input files.new) (F.output files.new) (F.faults_of files.new) (F.refused_of files.new) (F.faults files.new) (F.ends files.new)) why) }
+    ensures opened_stays { (l : List ℕ) → F.opened files.old l → F.opened files.new l }
+{
+    match entry {
+        None => Ok(None),
+        Some(opening) => match open(alloc, files, opening) {
+            Ok(end) => Ok(Some(end)),
             Err(why) => Err(why),
         },
     }
@@ -59,8 +78,8 @@ fn open_each<F: Files>(
     ensures here { AllOpened (F.opened files.new) (known_ends F.Src.location F.Src.content F.Src.faults F.Snk.location F.Snk.bytes F.Snk.faults ends.new.items) }
     ensures opened_stays { (l : List ℕ) → F.opened files.old l → F.opened files.new l }
 {
-    for (place, opening) in openings.iter().enumerate() {
-        match open(alloc, files, opening) {
+    for (place, entry) in openings.iter().enumerate() {
+        match open_entry(alloc, files, entry) {
             Ok(end) => ends.push_reserved(end),
             Err(why) => return Err(unopened(place, why)),
         }
