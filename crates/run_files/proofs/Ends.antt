@@ -1,8 +1,9 @@
 -- Ends that were opened by their files.
-use Rattle.std.proofs.Common.{◌≡◌, ℕ, List, [], ◌∷◌, ◌++◌, Option, Some, sym, ap, ◌∙◌, subst}
+use Rattle.std.proofs.Common.{◌≡◌, ℕ, List, [], ◌∷◌, ◌++◌, Option, None, Some, sym, ap, ◌∙◌, subst}
 use Rattle.std.specs.Prelude.{All, map, option_map}
 use Rattle.std.proofs.lemmas.List.{map-append}
 use Rattle.std.proofs.lemmas.List.Elements.{All-nil, All-cons, All-head, All-tail, All-append, All-weaker}
+use Rattle.std.proofs.lemmas.Option.{none-some, same_Some}
 use Rattle.run_files.specs.Ends.{Known, AllOpened, present}
 use Rattle.run_files.proofs.Lists.{present_append}
 
@@ -47,3 +48,13 @@ module _ {E : Type 0} (known : E → Known) (opened : List ℕ → Type 0) where
 pub opened_later : (opened later : List ℕ → Type 0) → ((l : List ℕ) → opened l → later l) → (ends : List (Option Known)) → AllOpened opened ends → AllOpened later ends
 opened_later opened later more ends h =
     All-weaker (λ (end : Known). (l : List ℕ) → end.location ≡ Some l → opened l) (λ (end : Known). (l : List ℕ) → end.location ≡ Some l → later l) (λ end f l at. more l (f l at)) (present ends) h
+
+-- an end that was moved on keeps its location
+pub opened_moved : {E : Type 0} (known : E → Known) (opened : List ℕ → Type 0) (was is : Option E) → option_map (λ (e : E). (known e).location) is ≡ option_map (λ (e : E). (known e).location) was
+    → AllOpened opened (option_map known was ∷ []) → AllOpened opened (option_map known is ∷ [])
+opened_moved known opened was None same h = All-nil (λ (end : Known). (l : List ℕ) → end.location ≡ Some l → opened l)
+opened_moved known opened None (Some is) same h = absurd (none-some (known is).location (sym same))
+opened_moved known opened (Some was) (Some is) same h =
+    All-cons (λ (end : Known). (l : List ℕ) → end.location ≡ Some l → opened l) (known is) []
+    (λ l at. All-head (λ (end : Known). (l : List ℕ) → end.location ≡ Some l → opened l) (known was) [] h l (sym (same_Some (known is).location (known was).location same) ∙ at))
+    (All-nil (λ (end : Known). (l : List ℕ) → end.location ≡ Some l → opened l))
