@@ -1,6 +1,6 @@
 -- Ends that are opened one after the other.
-use Rattle.std.proofs.Common.{◌≡◌, ◌≤◌, ℕ, ◌+◌, List, [], ◌∷◌, ◌++◌, length, min, false, true, Option, Some, None, refl, sym, ap, ◌∙◌, subst, arith, length-append, get_or, take, ◌<◌}
-use Rattle.std.specs.Prelude.{map, option_map, slice_get}
+use Rattle.std.proofs.Common.{◌≡◌, ℕ, ◌+◌, List, [], ◌∷◌, ◌++◌, length, false, true, Option, Some, None, refl, sym, ap, ◌∙◌, subst, arith, length-append, get_or, take, ◌<◌}
+use Rattle.std.specs.Prelude.{map, option_map}
 use Rattle.std.proofs.lemmas.List.{map-append, take_more}
 use Rattle.std.proofs.lemmas.Option.{slice_get_read}
 use Rattle.gst_outside.specs.Causes.{plus}

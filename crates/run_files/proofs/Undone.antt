@@ -1,11 +1,10 @@
 -- Ends that are given back because a later opening gave none.
-use Rattle.std.proofs.Common.{◌≡◌, ◌≤◌, ◌<◌, ℕ, suc, ◌+◌, ◌-◌, ◌^◌, Bool, true, false, cond, ◌||◌, List, [], ◌∷◌, ◌++◌, length, min, Option, Some, None, refl, sym, ap, ◌∙◌, subst, arith, take}
-use Rattle.std.specs.Prelude.{bytes_eq, filter, find, map, option_map, slice_get}
+use Rattle.std.proofs.Common.{◌≡◌, ◌≤◌, ℕ, suc, Bool, true, false, cond, ◌||◌, List, [], ◌∷◌, length, Option, Some, None, refl, sym, ap, ◌∙◌, arith, take}
+use Rattle.std.specs.Prelude.{bytes_eq, filter, find, option_map, slice_get}
 use Rattle.std.specs.List.{list_any}
 use Rattle.std.proofs.lemmas.Slice.Eq.{bytes_eq-Decides}
-use Rattle.gst_outside.specs.Causes.{Rose, plus, raised}
+use Rattle.gst_outside.specs.Causes.{plus, raised}
 use Rattle.gst_outside.specs.Places.{is_at}
-use Rattle.gst_outside.specs.declared.opening.OpenEnd.{OpenEnd}
 use Rattle.gst_outside.specs.declared.opening.OpenEnd.TheVariants as refusals
 use Rattle.run_files.specs.declared.end.Opening.{Opening}
 use Rattle.run_files.specs.declared.end.Opening.TheVariants.{Read, Write}
@@ -13,8 +12,8 @@ use Rattle.run_files.specs.declared.end.Unopened.{Unopened}
 use Rattle.run_files.specs.declared.end.Unopened.TheVariants.{Failed, OutOfMemory}
 use Rattle.run_files.specs.Closing.{Closes, bytes_or, fault_count, faults_at}
 use Rattle.run_files.specs.Ends.{Known, is_sink_at, present}
-use Rattle.run_files.specs.Opening.{FailsAt, GivesBack, IsUnopened, Opens, RefusedBy, Refuses, Stops, StopsAt, Untouched, Wants, fresh_end, fresh_ends, location_of, writes_to}
-use Rattle.run_files.specs.Seen.{Seen, ToldRose}
+use Rattle.run_files.specs.Opening.{FailsAt, GivesBack, IsUnopened, Opens, RefusedBy, Refuses, Stops, Untouched, Wants, fresh_end, fresh_ends, location_of, writes_to}
+use Rattle.run_files.specs.Seen.{Seen}
 use Rattle.run_files.proofs.Closes.{counts_none}
 use Rattle.run_files.proofs.Lists.{sum_more}
 

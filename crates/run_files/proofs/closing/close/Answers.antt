@@ -1,7 +1,6 @@
 use Rattle.std.proofs.Common.{Some, ap, ◌∙◌}
 use Rattle.run_files.specs.Ends.{known_end}
 use Rattle.run_files.specs.declared.end.End.TheVariants.{Src, Snk}
-use Rattle.run_files.proofs.GivenBack.{closing_all}
 use Rattle.run_files.proofs.Ends.{opened_end}
 use Rattle.run_files.proofs.closing.close.Goals as goal
 

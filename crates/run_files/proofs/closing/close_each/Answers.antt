@@ -1,9 +1,6 @@
-use Rattle.std.proofs.Common.{◌≡◌, ℕ, List, [], ◌∷◌, ◌++◌, ap, arith, ◌∙◌, length, Option, Some}
-use Rattle.std.specs.Prelude.{map, option_map}
-use Rattle.std.specs.Option.{option_to_list}
-use Rattle.run_files.specs.Closing.{Closes}
-use Rattle.run_files.specs.Ends.{Known, known_end, known_ends, present}
-use Rattle.run_files.specs.Seen.{Seen, seen}
+use Rattle.std.proofs.Common.{[], ◌∷◌, arith}
+use Rattle.run_files.specs.Ends.{known_end, known_ends}
+use Rattle.run_files.specs.Seen.{seen}
 use Rattle.run_files.proofs.GivenBack.{closing_none, closing_more, closing_all}
 use Rattle.run_files.proofs.Lists.{none_left}
 use Rattle.run_files.proofs.Ends.{opened_front, opened_back, opened_later}

@@ -1,4 +1,4 @@
-use Rattle.std.proofs.Common.{◌≡◌, ◌∷◌, ◌++◌, [], length, ap, sym, ◌∙◌, arith, length-append}
+use Rattle.std.proofs.Common.{◌∷◌, [], length, ap, arith, length-append}
 use Rattle.run_files.specs.Ends.{known_end, known_ends}
 use Rattle.run_files.specs.Seen.{seen}
 use Rattle.run_files.proofs.Ends.{opened_later, opened_push}

@@ -1,5 +1,5 @@
-use Rattle.std.proofs.Common.{◌≡◌, ◌+◌, ◌≤◌, ◌∷◌, ◌++◌, [], length, ap, arith, length-append}
-use Rattle.run_files.specs.Ends.{known_end, known_ends}
+use Rattle.std.proofs.Common.{◌∷◌, [], length, ap, arith, length-append}
+use Rattle.run_files.specs.Ends.{known_end}
 use Rattle.run_files.proofs.Ends.{opened_back, opened_front, opened_moved, opened_push}
 use Rattle.run_files.proofs.tests.work.Goals as goal
 
