@@ -12,8 +12,9 @@ use Rattle.run_files.specs.declared.end.Unopened.{Unopened}
 use Rattle.run_files.specs.declared.end.Unopened.TheVariants.{Failed, OutOfMemory}
 use Rattle.run_files.specs.Closing.{Closes, bytes_or, fault_count, faults_at}
 use Rattle.run_files.specs.Ends.{Known, is_sink_at, present}
-use Rattle.run_files.specs.Opening.{FailsAt, GivesBack, IsUnopened, Opens, RefusedBy, Refuses, Stops, Untouched, Wants, fresh_end, fresh_ends, location_of, writes_to}
+use Rattle.run_files.specs.Opening.{FailsAt, GivesBack, IsUnopened, Opens, Refuses, Wants, fresh_end, fresh_ends, location_of, writes_to}
 use Rattle.run_files.specs.Seen.{Seen}
+use Rattle.run_files.specs.Stopping.{RefusedBy, Stops, Untouched}
 use Rattle.run_files.proofs.Closes.{counts_none}
 use Rattle.run_files.proofs.Lists.{sum_more}
 
@@ -44,12 +45,12 @@ unfailed files l (Some (Read read) ∷ os) = unfailed_by (fresh_end files (Read 
 unfailed files l (Some (Write written) ∷ os) = unfailed_by (fresh_end files (Write written)) (filter (λ (end : Known). is_at end.location l) (present (fresh_ends files os))) (bytes_eq written l) refl (unfailed files l os)
 
 -- there are as many ends as locations that are asked for
-as_many : (files : Seen) (openings : List (Option Opening)) → length (present (fresh_ends files openings)) ≡ length (present openings)
+pub as_many : (files : Seen) (openings : List (Option Opening)) → length (present (fresh_ends files openings)) ≡ length (present openings)
 as_many files [] = refl
 as_many files (None ∷ os) = as_many files os
 as_many files (Some o ∷ os) = ap suc (as_many files os)
 
-no_more : (openings : List (Option Opening)) → length (present openings) ≤ length openings
+pub no_more : (openings : List (Option Opening)) → length (present openings) ≤ length openings
 no_more [] = omega arith
 no_more (None ∷ os) = let h = no_more os in omega (arith, h)
 no_more (Some o ∷ os) = let h = no_more os in omega (arith, h)

@@ -2,3 +2,4 @@ pub mod Seen
 pub mod Ends
 pub mod Closing
 pub mod Opening
+pub mod Stopping

@@ -2,8 +2,9 @@
 ghost use Rattle.std.specs.Prelude.{◌≡◌, ◌∷◌, ◌≤◌, ◌+◌, ℕ, List, [], Option, Some, IfOk, IfErr, OnOk, length, option_map, vec_capacity};
 ghost use Rattle.run_files.specs.declared.end.Opening.{Opening as Openings};
 ghost use Rattle.run_files.specs.Ends.{AllOpened, Known, known_end, known_ends};
-ghost use Rattle.run_files.specs.Opening.{IsUnopened, Opens, RefusedBy, Stops, StopsAt};
+ghost use Rattle.run_files.specs.Opening.{IsUnopened, Opens};
 ghost use Rattle.run_files.specs.Seen.{Seen, seen};
+ghost use Rattle.run_files.specs.Stopping.{RefusedBy, Stops, StopsAt};
 
 use crate::closing::close_all;
 use crate::end::{End, Opening, Unopened};
