@@ -1,5 +1,5 @@
 -- EOS through an element that passes each item or refuses it.
-use Rattle.std.proofs.Common.{◌≡◌, ◌≢◌, ◌⊎◌, ℕ, zero, suc, ◌+◌, Bool, true, false, ◌||◌, if◌then◌else◌, List, [], ◌∷◌, ◌++◌, length, refl, sym, ap, ◌∙◌, inl, inr, append_assoc, append-nil, length-append, arith, All, Result, Ok, Err}
+use Rattle.std.proofs.Common.{◌≡◌, ◌≢◌, ◌⊎◌, ℕ, zero, suc, Bool, true, false, ◌||◌, if◌then◌else◌, List, [], ◌∷◌, ◌++◌, length, refl, sym, ap, ◌∙◌, inl, inr, append_assoc, append-nil, length-append, arith, All, Result, Ok, Err}
 use Rattle.std.specs.List.{fold}
 use Rattle.gst_caps.specs.declared.caps.Caps.{Caps}
 use Rattle.gst_caps.specs.Description.{Description}
@@ -10,13 +10,13 @@ use Rattle.flow_model.specs.Item.{Item, Buf, Ev, StreamStart, NewCaps, NewSegmen
 use Rattle.flow_model.specs.Sticky.{first_found, latest, has_flush_stop, since_flush_stop, in_force}
 use Rattle.flow_model.specs.Prefix.{IsPrefix, nothing, next}
 use Rattle.flow_model.specs.Section.{section, counted_after, counted}
-use Rattle.flow_model.specs.Call.{Call, Feed, items, feeds}
+use Rattle.flow_model.specs.Call.{items, feeds}
 use Rattle.flow_model.specs.Rule.{Response, Fault, Fed, unfed, responded, flushed, fed_item, all_called, owed_for, passes}
-use Rattle.flow_model.specs.Feeding.{has_item, next_owed}
+use Rattle.flow_model.specs.Feeding.{has_item}
 use Rattle.flow_model.specs.Chain.{IsPlain}
 use Rattle.el_basic.specs.Filters.{takes_buffer, filter_in, caps_in_force, filter_answer, filters}
 use Rattle.el_src.specs.Gave.{has_eos}
-use Rattle.el_set.specs.Ends.{MeetsNoFault, EndsWithEos, owed_along, MeetNoFaults, EndWithEos}
+use Rattle.el_set.specs.Ends.{MeetsNoFault, EndsWithEos, owed_along, MeetNoFaults, RowEndsWithEos}
 
 -- whether a list has EOS, item by item
 eos_from : (b : Bool) (xs : List Item) → fold (λ eos x. eos || is_eos x) b xs ≡ (b || has_eos xs)
@@ -335,17 +335,25 @@ passing_ends respond passing =
     }
 
 -- along a row of rules
+all_first : (respond : Response) (more : List Response) → All EndsWithEos (respond ∷ more) → EndsWithEos respond
+all_first respond more each = each 0 respond (omega arith)
+
+all_behind : (respond : Response) (more : List Response) → All EndsWithEos (respond ∷ more) → All EndsWithEos more
+all_behind respond more each = λ k d within. each (suc k) d (omega (arith, within))
+
 row_plain : (rules : List Response) (list : List Item) → All EndsWithEos rules → IsPlain list → IsPlain (owed_along rules list)
 row_plain [] list each h = h
-row_plain (respond ∷ more) list each h = row_plain more (owed_for respond (feeds list)) each.1 (each.0.plain list (plain_no_flush list h))
+row_plain (respond ∷ more) list each h =
+    row_plain more (owed_for respond (feeds list)) (all_behind respond more each) ((all_first respond more each).plain list (plain_no_flush list h))
 
 row_eos : (rules : List Response) (list : List Item) → All EndsWithEos rules → IsPlain list → MeetNoFaults rules list → has_eos (owed_along rules list) ≡ has_eos list
 row_eos [] list each h met = refl
 row_eos (respond ∷ more) list each h met =
     let none = plain_no_flush list h in
-    row_eos more (owed_for respond (feeds list)) each.1 (each.0.plain list none) met.1 ∙ each.0.eos list none met.0
+    let first = all_first respond more each in
+    row_eos more (owed_for respond (feeds list)) (all_behind respond more each) (first.plain list none) met.1 ∙ first.eos list none met.0
 
-pub rows_end_with_eos : (rules : List Response) → All EndsWithEos rules → EndWithEos rules
+pub rows_end_with_eos : (rules : List Response) → All EndsWithEos rules → RowEndsWithEos rules
 rows_end_with_eos rules each = record { plain = λ list h. row_plain rules list each h; eos = λ list h met. row_eos rules list each h met }
 
 pub passes_ends : EndsWithEos passes

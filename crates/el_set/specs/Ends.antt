@@ -1,5 +1,5 @@
 -- Elements put out EOS where they were fed it, and nothing behind it.
-use Rattle.std.specs.Prelude.{◌≡◌, ◌≢◌, false, List, [], ◌∷◌, ◌++◌, Err, All}
+use Rattle.std.specs.Prelude.{◌≡◌, ◌≢◌, false, List, [], ◌∷◌, ◌++◌, Err}
 use Rattle.flow_model.specs.Item.{Item}
 use Rattle.flow_model.specs.Sticky.{has_flush_stop}
 use Rattle.flow_model.specs.Prefix.{IsPrefix}
@@ -31,6 +31,6 @@ MeetNoFaults (respond ∷ more) list = MeetsNoFault respond list × MeetNoFaults
 
 -- Along a row of rules, for each list with nothing behind an EOS: nothing is owed behind an EOS, and where no fault is
 -- met an EOS is owed exactly where there is one in the list.
-pub record EndWithEos (rules : List Response) : Type 0 where
+pub record RowEndsWithEos (rules : List Response) : Type 0 where
   pub plain : (list : List Item) → IsPlain list → IsPlain (owed_along rules list)
   pub eos : (list : List Item) → IsPlain list → MeetNoFaults rules list → has_eos (owed_along rules list) ≡ has_eos list

@@ -12,7 +12,7 @@ ghost use Rattle.flow_model.specs.Feeding.{has_item, has_eos, next_owed};
 ghost use Rattle.el_src.specs.Gave.{has_eos as eos_among};
 ghost use Rattle.el_set.specs.declared.filter.FilterElement.{FilterElement};
 ghost use Rattle.el_set.specs.Stands.{Stands};
-ghost use Rattle.el_set.specs.Ends.{MeetsNoFault, EndsWithEos, EndWithEos};
+ghost use Rattle.el_set.specs.Ends.{MeetsNoFault, EndsWithEos, RowEndsWithEos};
 
 /// What an element put out is what its rule owes for what it was given.
 #[tactic(auto, using(crate::proofs::Elements::elements_owe))]
@@ -73,7 +73,7 @@ pub fn every_rule_ends_with_eos()
 /// The same along a row of such rules, each of which is fed all that the one before it owes.
 #[tactic(auto, using(crate::proofs::Ends::rows_end_with_eos))]
 pub fn rows_end_with_eos()
-    ensures { (rules : List Response) → All EndsWithEos rules → EndWithEos rules }
+    ensures { (rules : List Response) → All EndsWithEos rules → RowEndsWithEos rules }
 {}
 
 /// An element that took a list without FLUSH_STOP met no fault at any item of it.
