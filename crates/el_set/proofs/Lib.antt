@@ -2,3 +2,4 @@ pub mod Numbers
 pub mod Given
 pub mod Faults
 pub mod WholeLists
+pub mod Elements

@@ -8,6 +8,7 @@ pub mod element;
 mod fault;
 pub mod filter;
 mod kind;
+pub mod laws;
 mod making;
 mod number;
 mod settings;
