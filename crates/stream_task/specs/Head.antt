@@ -97,7 +97,7 @@ FromLane (Some place) x tells tells' = LaneGives place x tells tells'
 abbrev pub IsIdle : {S I : Type 0} → Head S I → Option ℕ → Option (List Lane) → HeadLists → Type 0
 IsIdle (Source source) place tells l = has_eos l.given ≡ true
 IsIdle (Queue inlets) place tells l = (n : ℕ) → place ≡ Some n → IsDrained n tells l.got
-IsIdle Unlinked place tells l = Unit {0}
+IsIdle Unlinked place tells l = place ≡ None
 
 -- the count of failures of a source
 abbrev pub head_faults : {S I : Type 0} → (S → ℕ) → Head S I → Option ℕ

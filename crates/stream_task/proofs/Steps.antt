@@ -1,0 +1,153 @@
+-- What a task stands for behind a step.
+use Rattle.std.proofs.Common.{◌≡◌, ◌≢◌, ◌+◌, ℕ, List, [], ◌∷◌, ◌++◌, length, map, Option, Some, None, Bool, false, ◌||◌, refl, ap, sym, ◌∙◌, subst, inl, inr, arith, length-append, append-nil, append_assoc}
+use Rattle.std.specs.Option.{ForSome}
+use Rattle.std.proofs.lemmas.Grind.{fold-append}
+use Rattle.flow_model.specs.Item.{Item, is_eos, is_buffer}
+use Rattle.flow_model.proofs.Prefixes.{prefix_append, prefix_by}
+use Rattle.el_src.specs.Gave.{has_eos}
+use Rattle.lane_core.specs.Lane.{Lane, IsBetween}
+use Rattle.stream_task.specs.declared.step.Step.{Step}
+use Rattle.stream_task.specs.declared.step.Step.TheVariants.{Moved, NeedsRoom}
+use Rattle.stream_task.specs.declared.task.Task.{Task}
+use Rattle.stream_task.specs.declared.head.Head.{Head}
+use Rattle.stream_task.specs.declared.head.Head.TheVariants.{Source, Queue, Unlinked}
+use Rattle.stream_task.specs.Step.{idle_step}
+use Rattle.stream_task.specs.Head.{HeadLists, HeadGave, HeadAfter, IsIdle as HeadIsIdle, head_number}
+use Rattle.stream_task.specs.Tail.{TailHas}
+use Rattle.stream_task.specs.Pads.{Counts}
+use Rattle.stream_task.specs.Stage.{StageList, StagesStand, put_last, AreIdle}
+use Rattle.stream_task.specs.Task.{TaskLists, Stands, HasCrossed, Goes, HasPassed, Keeps, IsWhy, IsIdle, SameBeside, SameRules, moved_to}
+use Rattle.stream_task.proofs.Stages.{stand_keep}
+use Rattle.stream_task.proofs.Keeping.{keep_same, keep_from}
+
+-- whether EOS was given, behind one more item
+pub eos_more : (given : List Item) (x : Item) → has_eos given ≡ false → has_eos (given ++ x ∷ []) ≡ is_eos x
+eos_more given x none = fold-append (λ eos y. eos || is_eos y) false given (x ∷ []) ∙ ap (λ (b : Bool). b || is_eos x) none
+
+none_some : {A : Type 0} {a : A} → None ≡ Some a → ⊥
+none_some e = cc
+
+module _ {S K I O : Type 0} (content : S → Option (List ℕ)) (bytes : K → Option (List ℕ)) (received : I → List Item → Type 0) (sent : O → List Item → Type 0) where
+  -- what stands has crossed
+  pub has_crossed : (task : Task S K I O) (l : TaskLists) → Stands content bytes received sent task l → HasCrossed content received task l
+  has_crossed task l s = record {
+    gave = s.gave;
+    stages = stand_keep task.stages.items l.head.given l.stages s.stages;
+    begins = prefix_by l.done task.waiting.items (sym s.held);
+    counted = s.counted;
+  }
+
+  -- nothing moved
+  pub stays_goes : (task : Task S K I O) (l : TaskLists) (step : Step) (inlet outlet limit : Option ℕ) (tells tells' : Option (List Lane)) → Stands content bytes received sent task l → tells' ≡ tells
+      → IsWhy task inlet outlet limit tells' l.head.got l.done step → Goes content bytes received sent task l step inlet outlet limit tells tells'
+  stays_goes task l step inlet outlet limit tells tells' s e why = record {
+    got = l.head.got;
+    given = l.head.given;
+    stages = l.stages;
+    done = l.done;
+    stands = s;
+    rules = refl;
+    keeps = keep_same inlet outlet tells tells' l.head.got l.done e;
+    more = inl refl;
+    rests = λ _. (refl, refl, refl, refl, e);
+    why = why;
+  }
+
+  -- an item crossed a pad before the last one
+  pub passed_goes : (task : Task S K I O) (l : TaskLists) (inlet outlet limit : Option ℕ) (tells tells' : Option (List Lane)) → HasPassed content bytes received sent task l → tells' ≡ tells
+      → Goes content bytes received sent task l Moved inlet outlet limit tells tells'
+  passed_goes task l inlet outlet limit tells tells' p e = record {
+    got = l.head.got;
+    given = l.head.given;
+    stages = p.stages;
+    done = l.done;
+    stands = p.stands;
+    rules = p.rules;
+    keeps = keep_same inlet outlet tells tells' l.head.got l.done e;
+    more = inl refl;
+    rests = λ ne. absurd (ne refl);
+    why = tt;
+  }
+
+  -- an item crossed the last pad
+  pub sent_goes : (task : Task S K I O) (l : TaskLists) (x : Item) (inlet outlet limit : Option ℕ) (tells tells' : Option (List Lane))
+      → Stands content bytes received sent task (record l { done = l.done ++ x ∷ [] }) → Keeps inlet outlet tells tells' l.head.got l.done l.head.got (l.done ++ x ∷ [])
+      → Goes content bytes received sent task l Moved inlet outlet limit tells tells'
+  sent_goes task l x inlet outlet limit tells tells' s keeps = record {
+    got = l.head.got;
+    given = l.head.given;
+    stages = l.stages;
+    done = l.done ++ x ∷ [];
+    stands = s;
+    rules = refl;
+    keeps = keeps;
+    more = inl refl;
+    rests = λ ne. absurd (ne refl);
+    why = tt;
+  }
+
+  -- the parts of a task behind an item that its head gave
+  pub record Given (task : Task S K I O) (l : TaskLists) (x : Item) : Type 0 where
+    pub number : task.given ≡ length l.head.given + 1
+    pub over : task.over ≡ is_eos x
+    pub none : has_eos l.head.given ≡ false
+    pub stages : StagesStand task.stages.items (l.head.given ++ x ∷ []) l.stages
+    pub held : put_last (l.head.given ++ x ∷ []) l.stages ≡ l.done ++ task.waiting.items
+    pub counted : Counts task.last l.done
+    pub tail : TailHas bytes sent l.keep task.tail l.done
+
+  given_stands : (task : Task S K I O) (l : TaskLists) (x : Item) (got : List Item) → Given task l x → HeadGave content received task.head (record l.head { got = got; given = l.head.given ++ x ∷ [] })
+      → Stands content bytes received sent task (moved_to l got (l.head.given ++ x ∷ []) l.stages l.done)
+  given_stands task l x got g gave = record {
+    gave = gave;
+    number = omega (arith, g.number, length-append l.head.given (x ∷ []));
+    over = g.over ∙ sym (eos_more l.head.given x g.none);
+    stages = g.stages;
+    held = g.held;
+    counted = g.counted;
+    tail = g.tail;
+  }
+
+  -- the head gave an item
+  pub given_goes : (task : Task S K I O) (l : TaskLists) (x : Item) (inlet outlet limit : Option ℕ) (tells tells' : Option (List Lane)) → HeadAfter content received task.head inlet tells tells' l.head (Some x)
+      → Given task l x → Goes content bytes received sent task l Moved inlet outlet limit tells tells'
+  given_goes task l x inlet outlet limit tells tells' (inl h) g = record {
+    got = l.head.got;
+    given = l.head.given ++ x ∷ [];
+    stages = l.stages;
+    done = l.done;
+    stands = given_stands task l x l.head.got g h.0;
+    rules = refl;
+    keeps = keep_same inlet outlet tells tells' l.head.got l.done h.1;
+    more = inr (x, g.none, refl);
+    rests = λ ne. absurd (ne refl);
+    why = tt;
+  }
+  given_goes task l x inlet outlet limit tells tells' (inr h) g = record {
+    got = l.head.got ++ x ∷ [];
+    given = l.head.given ++ x ∷ [];
+    stages = l.stages;
+    done = l.done;
+    stands = given_stands task l x (l.head.got ++ x ∷ []) g h.0;
+    rules = refl;
+    keeps = keep_from inlet outlet x tells tells' l.head.got l.done h.1;
+    more = inr (x, g.none, refl);
+    rests = λ ne. absurd (ne refl);
+    why = tt;
+  }
+
+  -- why a head gave none
+  idle_why : (task : Task S K I O) (head : Head S I) (l : TaskLists) (inlet outlet limit : Option ℕ) (tells tells' : Option (List Lane)) → head ≡ task.head → HeadIsIdle head inlet tells l.head → tells' ≡ tells
+      → IsIdle task → task.over ≡ false → task.over ≡ has_eos l.head.given → IsWhy task inlet outlet limit tells' l.head.got l.done (idle_step head)
+  idle_why task (Source source) l inlet outlet limit tells tells' same h e idle over eos = (idle, eos ∙ h)
+  idle_why task (Queue inlets) l inlet outlet limit tells tells' same h e idle over eos =
+      (idle, over, ap head_number (sym same), λ n sent at small b. subst (λ (t : Option (List Lane)). ForSome t (λ _. sent ≡ l.head.got)) (sym e) (h n at sent small (subst (λ (t : Option (List Lane)). IsBetween t n sent l.head.got) e b)))
+  idle_why task Unlinked l inlet outlet limit tells tells' same h e idle over eos = (idle, over, ap head_number (sym same), λ n given at small b. absurd (none_some (sym h ∙ at)))
+
+  -- the head gave none
+  pub idle_goes : (task : Task S K I O) (l : TaskLists) (step : Step) (inlet outlet limit : Option ℕ) (tells tells' : Option (List Lane)) → HeadAfter content received task.head inlet tells tells' l.head None
+      → step ≡ idle_step task.head → IsIdle task → task.over ≡ false → (HeadGave content received task.head l.head → Stands content bytes received sent task l) → Goes content bytes received sent task l step inlet outlet limit tells tells'
+  idle_goes task l step inlet outlet limit tells tells' h is idle over stands =
+      let s = stands h.0 in
+      stays_goes task l step inlet outlet limit tells tells' s h.1
+      (subst (λ (t : Step). IsWhy task inlet outlet limit tells' l.head.got l.done t) (sym is) (idle_why task task.head l inlet outlet limit tells tells' refl h.2 h.1 idle over s.over))
