@@ -3,3 +3,4 @@ pub mod Given
 pub mod Faults
 pub mod WholeLists
 pub mod Elements
+pub mod Sources

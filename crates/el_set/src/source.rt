@@ -2,14 +2,17 @@
 ghost use Rattle.std.specs.Prelude.{◌≡◌, ◌<◌, ◌^◌, ℕ, List, IfOk, OnErr, IfErr};
 ghost use Rattle.flow_model.specs.Item.{Item as PadItem};
 
-use el_src::{FileSrc, Next, SrcFault};
+use el_src::{FileSrc, Next, RampSrc, SrcFault};
 use gst_outside::Source;
 use std::alloc::Global;
 
 /// An element with one source pad and no sink pad.
 #[derive(Drop)]
 pub enum SourceElement<S> {
+    /// It reads a file in blocks.
     File(FileSrc<S>),
+    /// It makes audio, and reads nothing.
+    Ramp(RampSrc),
 }
 
 impl<S: Source> SourceElement<S> {
@@ -31,6 +34,7 @@ impl<S: Source> SourceElement<S> {
     {
         match self {
             SourceElement::File(file) => file.next(alloc),
+            SourceElement::Ramp(ramp) => ramp.next(alloc),
         }
     }
 
@@ -42,6 +46,7 @@ impl<S: Source> SourceElement<S> {
     {
         match self {
             SourceElement::File(file) => file.end(),
+            SourceElement::Ramp(ramp) => ramp.end(),
         }
     }
 
@@ -51,6 +56,7 @@ impl<S: Source> SourceElement<S> {
     {
         match self {
             SourceElement::File(file) => file.items(),
+            SourceElement::Ramp(ramp) => ramp.items(),
         }
     }
 
@@ -60,6 +66,7 @@ impl<S: Source> SourceElement<S> {
     {
         match self {
             SourceElement::File(file) => Some(file.into_source()),
+            SourceElement::Ramp(_) => None,
         }
     }
 }
