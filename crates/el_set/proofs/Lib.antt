@@ -4,3 +4,4 @@ pub mod Faults
 pub mod WholeLists
 pub mod Elements
 pub mod Sources
+pub mod Copied
