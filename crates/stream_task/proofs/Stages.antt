@@ -16,6 +16,9 @@ use Rattle.stream_task.specs.declared.pads.Pad.{Pad}
 use Rattle.stream_task.specs.Pads.{Counts}
 use Rattle.stream_task.specs.Stage.{item_of, StageList, owes, put_at, put_last, crossed_at, element_at, StageStands, StagesStand, StageKeeps, StagesKeep, Taken, StagePassed, StageStuck, AreIdle, IsAlike, AreAlike, WaitsMore, PutFirst}
 
+some_same : {A : Type 0} {a b : A} → Some a ≡ Some b → a ≡ b
+some_same e = cc
+
 pub items_on : (more : List Item) → map item_of (on_pad 0 more) ≡ more
 items_on [] = refl
 items_on (x ∷ more) = ap (λ (ys : List Item). x ∷ ys) (items_on more)
@@ -79,7 +82,7 @@ module _ (law : (rule : Response) (filter : FilterElement) (calls : List Call) (
   passed_last [] place put ls was is out p s at end = absurd (omega arith)
   passed_last (t ∷ ss) place put [] was is out p s at end = absurd s
   passed_last (t ∷ []) zero put (l ∷ []) was is out p s at end =
-      let next = next_stage law was is put l out p (subst (λ (u : Stage). StageStands u put l) cc s.0) in
+      let next = next_stage law was is put l out p (subst (λ (u : Stage). StageStands u put l) (some_same at) s.0) in
       record { stand = (next.stands, tt); last = next.owed }
   passed_last (t ∷ []) zero put (l ∷ m ∷ ls) was is out p s at end = absurd s.1
   passed_last (t ∷ u ∷ ss) zero put (l ∷ ls) was is out p s at end = absurd (omega arith)
@@ -97,8 +100,8 @@ module _ (law : (rule : Response) (filter : FilterElement) (calls : List Call) (
   passed_inner (t ∷ []) zero put (l ∷ ls) was is next next' out p s at then w q f = absurd cc
   passed_inner (t ∷ u ∷ ss) zero put (l ∷ []) was is next next' out p s at then w q f = absurd s.1
   passed_inner (t ∷ u ∷ ss) zero put (l ∷ m ∷ ls) was is next next' out p s at then w q f =
-      let first = next_stage law was is put l out p (subst (λ (v : Stage). StageStands v put l) cc s.0) in
-      let second = grown next next' (owes l) _ p.taken.more m first.owed w q f (subst (λ (v : Stage). StageStands v (owes l) m) cc s.1.0) in
+      let first = next_stage law was is put l out p (subst (λ (v : Stage). StageStands v put l) (some_same at) s.0) in
+      let second = grown next next' (owes l) _ p.taken.more m first.owed w q f (subst (λ (v : Stage). StageStands v (owes l) m) (some_same then) s.1.0) in
       record { stand = (first.stands, second, s.1.1); last = sym (append-nil (put_last (owes m) ls)) }
   passed_inner (t ∷ ss) (suc place) put (l ∷ ls) was is next next' out p s at then w q f =
       let r = passed_inner ss place (owes l) ls was is next next' out p s.1 at then w q f in
@@ -155,7 +158,7 @@ pub stuck_at : (ss : List Stage) (place : ℕ) (put : List Item) (ls : List Stag
 stuck_at [] place put ls was is x own w q e f o s at = absurd cc
 stuck_at (t ∷ ss) place put [] was is x own w q e f o s at = absurd s
 stuck_at (t ∷ ss) zero put (l ∷ ls) was is x own w q e f o s at =
-    let stands = subst (λ (v : Stage). StageStands v put l) cc s.0 in
+    let stands = subst (λ (v : Stage). StageStands v put l) (some_same at) s.0 in
     let held = stands.held ∙ ap (λ (ys : List Item). l.crossed ++ ys) w in
     record {
       keep = (

@@ -1,7 +1,7 @@
 -- The pads of a task before its last one, with the elements behind them: what crossed each, and what was put out for
 -- it on the next.
 use Rattle.std.specs.Prelude.{◌≡◌, ◌≢◌, ◌<◌, ◌+◌, ℕ, zero, suc, List, [], ◌∷◌, ◌++◌, Some, All, length, drop, slice_get}
-use Rattle.std.specs.VecDeque.{VecDeque, deque_len, deque_capacity}
+use Rattle.std.specs.VecDeque.{deque_len, deque_capacity}
 use Rattle.gst_item.specs.declared.out.Out.{Out}
 use Rattle.gst_item.specs.declared.fault.ElementFault.{ElementFault}
 use Rattle.flow_model.specs.Item.{Item}
@@ -85,9 +85,9 @@ AreAlike [] (s' ∷ ss') = ⊥
 AreAlike (s ∷ ss) [] = ⊥
 
 -- there is room for one more item that waits at the first pad
-abbrev pub HasRoom : List Stage → VecDeque Item → Type 0
-HasRoom [] waiting = deque_len waiting < deque_capacity waiting
-HasRoom (s ∷ ss) waiting = deque_len s.waiting < deque_capacity s.waiting
+abbrev pub HasRoom : List Stage → ℕ → ℕ → Type 0
+HasRoom [] held room = held < room
+HasRoom (s ∷ ss) held room = deque_len s.waiting < deque_capacity s.waiting
 
 -- one item more waits at a stage
 pub record WaitsMore (x : Item) (was is : Stage) : Type 0 where

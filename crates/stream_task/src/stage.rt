@@ -1,5 +1,5 @@
 //! Source pads of a task, each with the element behind it.
-ghost use Rattle.std.specs.Prelude.{◌≡◌, ◌≢◌, ◌<◌, ◌+◌, ◌^◌, ◌++◌, ◌∷◌, [], map, length, IfErr, OnOk, OnErr};
+ghost use Rattle.std.specs.Prelude.{◌≡◌, ◌≢◌, ◌<◌, ◌+◌, ◌^◌, ◌++◌, ◌∷◌, [], true, map, length, IfErr, OnOk, OnErr};
 ghost use Rattle.std.specs.VecDeque.{deque_len, deque_capacity};
 ghost use Rattle.flow_model.specs.Item.{Item, is_flush_stop as flush_test, is_buffer as buffer_test};
 ghost use Rattle.stream_task.specs.Stage.{Taken, IsRefusal, StagePassed, StageStuck, item_of};

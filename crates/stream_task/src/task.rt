@@ -64,7 +64,7 @@ impl<S: Source, K: Sink, I: Inlet<Out = O>, O: Outlet<Lanes = I::Lanes>> Task<S,
     ghost use Rattle.stream_task.specs.declared.task.Last.TheVariants.{Idle, Full};
     ghost use Rattle.stream_task.specs.Stage.{StageList, StagesStand, IsFarthest};
     ghost use Rattle.stream_task.specs.Tail.{TailHas, tail_place, tail_limit, tail_len, tail_refusals};
-    ghost use Rattle.stream_task.specs.Task.{TaskLists, Stands, IsReady, Goes, HasPassed, LastGoes, SameBeside, NeedsNoRoom, step_of, step_with, IsTakeTry, IsPutTry, KeepsTable, AtFault, IsTaskCause, Frame, Burns, moves_of, IsOneMove, IsOneTry, fuel, head_of, tail_of, stages_of, last_of, unmoved};
+    ghost use Rattle.stream_task.specs.Task.{TaskLists, Stands, IsReady, Goes, HasPassed, LastGoes, SameBeside, NeedsNoRoom, step_of, step_with, IsTakeTry, IsPutTry, KeepsTable, AtFault, IsTaskCause, Frame, Burns, moves_of, IsOneMove, IsOneTry, fuel, head_of, tail_of, stages_of, last_of};
 
     /// A task of these parts that moved nothing yet. `last` is the number of the element before the tail.
     pub fn new(
@@ -336,7 +336,7 @@ fn make_room(
     stages: &mut Vec<Stage>,
     waiting: &mut VecDeque<Item>,
 ) -> Result<(), OutOfMemory>
-    ensures room { OnOk result (HasRoom stages.new.items waiting.new) }
+    ensures room { OnOk result (HasRoom stages.new.items (deque_len waiting.new) (deque_capacity waiting.new)) }
     ensures stages { AreAlike stages.old.items stages.new.items }
     ensures waiting { waiting.new.items ≡ waiting.old.items }
 {
@@ -351,7 +351,7 @@ fn make_room(
 /// Puts an item behind those that wait at the first pad, where there is room for it. Answers how many stages may have
 /// items waiting.
 fn put_first(stages: &mut Vec<Stage>, waiting: &mut VecDeque<Item>, item: Item) -> usize
-    requires { HasRoom stages.old.items waiting.old }
+    requires { HasRoom stages.old.items (deque_len waiting.old) (deque_capacity waiting.old) }
     ensures put { PutFirst item stages.old.items stages.new.items waiting.old.items waiting.new.items }
     ensures reach { AreIdle stages.old.items → AreIdle (drop result stages.new.items) }
     ensures within { result ≤ vec_len stages.new }

@@ -1,5 +1,5 @@
 use Rattle.std.proofs.Common.{refl, sym, inl}
-use Rattle.stream_task.proofs.Heads.{queue_after}
+use Rattle.stream_task.proofs.Heads.{queue_after, gave_of_all}
 use Rattle.stream_task.proofs.head.Head.next.Goals as goal
 
 pub returns-in-Ok-Item-clause-gave : goal.returns-in-Ok-Item-clause-gave
@@ -10,7 +10,7 @@ pub returns-in-Ok-Ended-clause-gave : goal.returns-in-Ok-Ended-clause-gave
 returns-in-Ok-Ended-clause-gave g c =
     λ l h.
     let was = rw c.in-Source.is at h in
-    ((rw c.in-Ok-Ended.field-0-is at (c.in-Ok-Ended.ensures.gave l.owed l.given was)).gave, refl, sym (rw c.in-Ok-Ended.field-0-is at (c.in-Ok-Ended.ensures.ended l.owed l.given was)))
+    (gave_of_all g.S.Source.content _ l.owed l.given (rw c.in-Ok-Ended.field-0-is at (c.in-Ok-Ended.ensures.gave l.owed l.given was)), refl, sym (rw c.in-Ok-Ended.field-0-is at (c.in-Ok-Ended.ensures.ended l.owed l.given was)))
 
 pub returns-in-Err-clause-kept : goal.returns-in-Err-clause-kept
 returns-in-Err-clause-kept g c = λ l h. c.in-Err.ensures.kept l.owed l.given (rw c.in-Source.is at h)
