@@ -1,14 +1,14 @@
 -- The elements between one sink pad and one source pad, kind by kind.
-use Rattle.std.proofs.Common.{◌≡◌, ℕ, Bool, true, false, List, [], ◌∷◌, ◌++◌, length, refl, sym, ap, ◌∙◌, if◌then◌else◌, append-nil, Result, Ok, Err, IfOk, IfErr, OnOk, arith}
+use Rattle.std.proofs.Common.{◌≡◌, Bool, true, false, List, [], ◌∷◌, ◌++◌, length, refl, sym, ap, ◌∙◌, if◌then◌else◌, append-nil, Result, Ok, Err, IfOk, IfErr, OnOk, arith}
 use Rattle.std.proofs.lemmas.List.{append_cancel_left, length_push}
 use Rattle.gst_caps.specs.declared.caps.Caps.{Caps}
 use Rattle.gst_item.specs.declared.flow.Flow.{Flow}
 use Rattle.gst_item.specs.declared.flow.Flow.TheVariants.{Ok as Taken, Eos as BehindEos}
 use Rattle.gst_item.specs.declared.out.Out.{Out}
 use Rattle.gst_item.specs.declared.fault.ElementFault.{ElementFault}
-use Rattle.flow_model.specs.Item.{Item, Ev, Eos, FlushStop, is_flush_stop}
+use Rattle.flow_model.specs.Item.{Item, Ev, Eos, is_flush_stop}
 use Rattle.flow_model.specs.Call.{Call, Feed, Act, Drain}
-use Rattle.flow_model.specs.Rule.{Response, Fault, Fed, unfed, all_called, owed_for, passes, not_eos}
+use Rattle.flow_model.specs.Rule.{Response, Fault, Fed, unfed, all_called, owed_for, passes}
 use Rattle.flow_model.specs.Feeding.{has_eos, flow_behind, passed, on_pad, next_owed, IsFaultOf}
 use Rattle.flow_model.proofs.Sections.{called_push}
 use Rattle.el_basic.specs.Passed.{Passed}
@@ -18,7 +18,7 @@ use Rattle.el_basic.specs.declared.identity.Identity.{Identity}
 use Rattle.el_basic.specs.declared.caps_filter.CapsFilter.{CapsFilter}
 use Rattle.el_set.specs.declared.filter.FilterElement.{FilterElement}
 use Rattle.el_set.specs.declared.filter.FilterElement.TheVariants as elements
-use Rattle.el_set.specs.Stands.{Stands, StandsAs, PutsOut, owed_at, without_eos}
+use Rattle.el_set.specs.Stands.{Stands, PutsOut, without_eos}
 
 -- what an element stands for is owed by its rule
 pub elements_owe : (respond : Response) (element : FilterElement) (calls : List Call) (put : List Item) → Stands respond element calls put → put ≡ owed_for respond calls
