@@ -19,7 +19,7 @@ use Rattle.el_set.proofs.Elements.{elements_owe}
 use Rattle.stream_task.specs.declared.stage.Stage.{Stage}
 use Rattle.stream_task.specs.declared.pads.Pad.{Pad}
 use Rattle.stream_task.specs.Pads.{Counts}
-use Rattle.stream_task.specs.Stage.{item_of, StageList, owes, put_at, put_last, crossed_at, element_at, StageStands, StagesStand, StageKeeps, StagesKeep, Taken, IsRefusal, StagePassed, StageStuck, AreIdle, IsAlike, AreAlike, WaitsMore, PutAt, IsSimilar, AreSimilar, Stopped, IsFull, PassedOn, GaveUp, StagesStop, StillCounts, numbers_of, items_crossed, room_left, WaitsAt, IsFarthest}
+use Rattle.stream_task.specs.Stage.{item_of, StageList, owes, put_at, put_last, crossed_at, element_at, StageStands, StagesStand, StageKeeps, StagesKeep, Taken, IsRefusal, StagePassed, StageStuck, AreIdle, IsAlike, AreAlike, WaitsMore, PutAt, IsSimilar, AreSimilar, Stopped, IsFull, PassedOn, GaveUp, StagesStop, IsElementFault, StillCounts, numbers_of, items_crossed, room_left, WaitsAt, IsFarthest}
 use Rattle.stream_task.specs.Fault.{fault_of}
 
 some_same : {A : Type 0} {a b : A} → Some a ≡ Some b → a ≡ b
@@ -387,19 +387,28 @@ module _ (ss ss2 : List Stage) (place : ℕ) (was is : Stage) (out out' : List O
       let r = passed_keep elements_owe ss place given ls was is out' q done s (some_at ss place was within here) (prefix_by done waiting (sym h)) in
       record { lists = behind place q.item ls; keep = keep_similar _ ss2 given given [] _ (sym (append-nil given)) same r.0; rules = behind_rules place q.item ls; begins = r.1 }
 
-  by_own : (was2 is2 : List Stage) (given : List Item) (ls : List StageList) (done : List Item) (fault : TaskFault) (element : ℕ) (own : ElementFault) → fault ≡ fault_of element own
-      → Stopped is2 given ls fault → IsPrefix done (put_last given ls) → StagesStop was2 is2 given ls done fault
-  by_own was2 is2 given ls done fault element (NotNegotiated offered wanted) e s b = subst (λ (f : TaskFault). StagesStop was2 is2 given ls done f) (sym e) (subst (λ (f : TaskFault). Stopped is2 given ls f) e s)
-  by_own was2 is2 given ls done fault element (BadStream at kind) e s b = subst (λ (f : TaskFault). StagesStop was2 is2 given ls done f) (sym e) (subst (λ (f : TaskFault). Stopped is2 given ls f) e s)
-  by_own was2 is2 given ls done fault element (TooLong x y) e s b = subst (λ (f : TaskFault). StagesStop was2 is2 given ls done f) (sym e) (inr (subst (λ (f : TaskFault). Stopped is2 given ls f) e s))
-  by_own was2 is2 given ls done fault element Wanting e s b = subst (λ (f : TaskFault). StagesStop was2 is2 given ls done f) (sym e) (record { lists = ls; keep = s.keep; rules = refl; begins = b })
+  by_own : (was2 is2 : List Stage) (waiting waiting' given : List Item) (ls : List StageList) (done : List Item) (fault : TaskFault) (element : ℕ) (own : ElementFault) → fault ≡ fault_of element own
+      → Stopped is2 given ls fault → IsPrefix done (put_last given ls) → StagesStop was2 is2 waiting waiting' given ls done fault
+  by_own was2 is2 w w' given ls done fault element (NotNegotiated offered wanted) e s b = subst (λ (f : TaskFault). StagesStop was2 is2 w w' given ls done f) (sym e) (subst (λ (f : TaskFault). Stopped is2 given ls f) e s)
+  by_own was2 is2 w w' given ls done fault element (BadStream at kind) e s b = subst (λ (f : TaskFault). StagesStop was2 is2 w w' given ls done f) (sym e) (subst (λ (f : TaskFault). Stopped is2 given ls f) e s)
+  by_own was2 is2 w w' given ls done fault element (TooLong x y) e s b = subst (λ (f : TaskFault). StagesStop was2 is2 w w' given ls done f) (sym e) (inr (subst (λ (f : TaskFault). Stopped is2 given ls f) e s))
+  by_own was2 is2 w w' given ls done fault element Wanting e s b = subst (λ (f : TaskFault). StagesStop was2 is2 w w' given ls done f) (sym e) (record { lists = ls; keep = s.keep; rules = refl; begins = b })
 
-  pub stuck_on : (fault : TaskFault) (p : StageStuck was is fault) (waiting : List Item)
-      → (given : List Item) (ls : List StageList) (done : List Item) → StagesStand ss given ls → put_last given ls ≡ done ++ waiting → StagesStop ss (slice_set ss place is) given ls done fault
-  stuck_on fault p waiting given ls done s h =
+  pub stuck_on : (fault : TaskFault) (p : StageStuck was is fault) (waiting waiting' : List Item)
+      → (given : List Item) (ls : List StageList) (done : List Item) → StagesStand ss given ls → put_last given ls ≡ done ++ waiting → StagesStop ss (slice_set ss place is) waiting waiting' given ls done fault
+  stuck_on fault p waiting waiting' given ls done s h =
       let own = p.refusal.cause in
       let stopped = stuck_at ss place given ls was is p.item own.0 p.waited p.pad p.element p.refusal.stays own.2 fault own.1 s (some_at ss place was within here) in
-      by_own ss (slice_set ss place is) given ls done fault was.element own.0 own.1 stopped (prefix_by done waiting (sym h))
+      by_own ss (slice_set ss place is) waiting waiting' given ls done fault was.element own.0 own.1 stopped (prefix_by done waiting (sym h))
+
+  by_element : (fault : TaskFault) (element : ℕ) (own : ElementFault) → fault ≡ fault_of element own → IsElementFault fault
+  by_element fault element (NotNegotiated offered wanted) e = subst IsElementFault (sym e) tt
+  by_element fault element (BadStream at kind) e = subst IsElementFault (sym e) tt
+  by_element fault element (TooLong x y) e = subst IsElementFault (sym e) tt
+  by_element fault element Wanting e = subst IsElementFault (sym e) tt
+
+  pub stuck_own : (fault : TaskFault) → StageStuck was is fault → IsElementFault fault
+  stuck_own fault p = by_element fault was.element p.refusal.cause.0 p.refusal.cause.1
 
   pub numbers_on : is.pad.element ≡ was.pad.element → is.element ≡ was.element → AreSimilar (slice_set ss place is) ss2 → numbers_of ss2 ≡ numbers_of ss
   numbers_on e f same = numbers_similar (slice_set ss place is) ss2 same ∙ numbers_set ss place was is (some_at ss place was within here) e f

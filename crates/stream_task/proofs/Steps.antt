@@ -15,8 +15,12 @@ use Rattle.stream_task.specs.Step.{idle_step}
 use Rattle.stream_task.specs.Head.{HeadLists, HeadGave, HeadAfter, IsIdle as HeadIsIdle, head_number}
 use Rattle.stream_task.specs.Tail.{TailHas}
 use Rattle.stream_task.specs.Pads.{Counts}
-use Rattle.stream_task.specs.Stage.{StageList, StagesStand, put_last, AreIdle}
-use Rattle.stream_task.specs.Task.{TaskLists, Stands, HasCrossed, Goes, HasPassed, Keeps, IsWhy, IsIdle, SameBeside, SameRules, moved_to}
+use Rattle.stream_task.specs.declared.fault.TaskFault.{TaskFault}
+use Rattle.stream_task.specs.declared.fault.TaskFault.TheVariants.{ReadFault, WriteFault, Stream, Caps, TooLong, NotLinked, OutOfMemory}
+use Rattle.stream_task.specs.declared.stage.Stage.{Stage}
+use Rattle.flow_model.specs.Prefix.{IsPrefix}
+use Rattle.stream_task.specs.Stage.{StageList, StagesStand, StagesKeep, Stopped, IsFull, StagesStop, IsElementFault, SameRules, put_last, AreIdle}
+use Rattle.stream_task.specs.Task.{TaskLists, Stands, HasCrossed, Goes, HasPassed, Keeps, IsWhy, IsIdle, SameBeside, AtFault, AtLimit, Refused, IsTaskCause, moved_to}
 use Rattle.stream_task.proofs.Stages.{stand_keep}
 use Rattle.stream_task.proofs.Keeping.{keep_same, keep_from}
 
@@ -151,3 +155,68 @@ module _ {S K I O : Type 0} (content : S → Option (List ℕ)) (bytes : K → O
       let s = stands h.0 in
       stays_goes task l step inlet outlet limit tells tells' s h.1
       (subst (λ (t : Step). IsWhy task inlet outlet limit tells' l.head.got l.done t) (sym is) (idle_why task task.head l inlet outlet limit tells tells' refl h.2 h.1 idle over s.over))
+
+  -- a task whose elements stopped
+  pub record StoppedTask (was : List Stage) (waited : List Item) (task : Task S K I O) (l : TaskLists) (fault : TaskFault) : Type 0 where
+    pub gave : HeadGave content received task.head l.head
+    pub number : task.given ≡ length l.head.given
+    pub over : task.over ≡ has_eos l.head.given
+    pub held : put_last l.head.given l.stages ≡ l.done ++ waited
+    pub counted : Counts task.last l.done
+    pub tail : TailHas bytes sent l.keep task.tail l.done
+    pub stop : StagesStop was task.stages.items waited task.waiting.items l.head.given l.stages l.done fault
+
+  left_over : (was : List Stage) (waited : List Item) (task : Task S K I O) (l : TaskLists) (fault : TaskFault) → StoppedTask was waited task l fault → (ls : List StageList) → StagesKeep task.stages.items l.head.given ls
+      → IsPrefix l.done (put_last l.head.given ls) → HasCrossed content received task (record l { stages = ls })
+  left_over was waited task l fault p ls keep begins = record { gave = p.gave; stages = keep; begins = begins; counted = p.counted }
+
+  refused : (was : List Stage) (waited : List Item) (task : Task S K I O) (l : TaskLists) (fault : TaskFault) → StoppedTask was waited task l fault → Stopped task.stages.items l.head.given l.stages fault → Refused content bytes received sent task l fault
+  refused was waited task l fault p s = record {
+    crossed = left_over was waited task l fault p l.stages s.keep (prefix_by l.done waited (sym p.held));
+    tail = p.tail;
+    place = s.place;
+    stage = s.stage;
+    list = s.list;
+    at = s.at;
+    list_at = s.list_at;
+    item = s.item;
+    next = s.next;
+    own = s.own;
+    named = s.named;
+    owed = s.owed;
+  }
+
+  limited : (was : List Stage) (waited : List Item) (task : Task S K I O) (l : TaskLists) (element a b : ℕ) → StoppedTask was waited task l (TooLong element a b)
+      → IsFull task.stages.items l.head.given l.stages element → task.waiting.items ≡ waited → a ≡ 1099511627776 → b ≡ 1 → AtLimit content bytes received sent task l element a b
+  limited was waited task l element a b p f w x y = record {
+    stands = record { gave = p.gave; number = p.number; over = p.over; stages = f.stand; held = p.held ∙ ap (λ (ys : List Item). l.done ++ ys) (sym w); counted = p.counted; tail = p.tail };
+    limit = x;
+    one = y;
+    place = f.place;
+    within = let w = f.within in omega arith;
+    named = f.named task.last;
+    full = f.full l.done;
+    more = inl (f.more l.done);
+  }
+
+  pub stopped_fault : (was : List Stage) (waited : List Item) (task : Task S K I O) (l : TaskLists) (fault : TaskFault) → IsElementFault fault → StoppedTask was waited task l fault → AtFault content bytes received sent task l fault
+  stopped_fault was waited task l (ReadFault element before after) own p = absurd own
+  stopped_fault was waited task l (WriteFault element before after) own p = absurd own
+  stopped_fault was waited task l (NotLinked element place) own p = absurd own
+  stopped_fault was waited task l (Stream element place kind) own p = refused was waited task l _ p p.stop
+  stopped_fault was waited task l (Caps element offered wanted) own p = refused was waited task l _ p p.stop
+  stopped_fault was waited task l (TooLong element a b) own p = go p.stop
+    where
+      go : StagesStop was task.stages.items waited task.waiting.items l.head.given l.stages l.done (TooLong element a b) → AtFault content bytes received sent task l (TooLong element a b)
+      go (inl f) = inl (limited was waited task l element a b p f.0 f.2 f.3 f.4)
+      go (inr s) = inr (refused was waited task l _ p s)
+  stopped_fault was waited task l OutOfMemory own p = (p.stop.lists, p.stop.rules, left_over was waited task l OutOfMemory p p.stop.lists p.stop.keep p.stop.begins)
+
+  pub element_cause : (source_faults : S → ℕ) (sink_faults : K → ℕ) (was is : Task S K I O) (fault : TaskFault) → IsElementFault fault → IsTaskCause source_faults sink_faults was is fault
+  element_cause source_faults sink_faults was is (ReadFault element before after) own = absurd own
+  element_cause source_faults sink_faults was is (WriteFault element before after) own = absurd own
+  element_cause source_faults sink_faults was is (NotLinked element place) own = absurd own
+  element_cause source_faults sink_faults was is (Stream element place kind) own = tt
+  element_cause source_faults sink_faults was is (Caps element offered wanted) own = tt
+  element_cause source_faults sink_faults was is (TooLong element a b) own = tt
+  element_cause source_faults sink_faults was is OutOfMemory own = tt

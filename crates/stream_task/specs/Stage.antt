@@ -223,10 +223,18 @@ pub record IsFull (stages : List Stage) (given : List Item) (ls : List StageList
   pub more : (done : List Item) → crossed_at ls done place ≢ put_at given ls place
 
 -- Why no item crossed the pad of a stage: its element refused it, the pad was at its limit, or memory is wanting.
-abbrev pub StagesStop : List Stage → List Stage → List Item → List StageList → List Item → TaskFault → Type 0
-StagesStop was is given ls done OutOfMemory = GaveUp is given ls done
-StagesStop was is given ls done (Faults.TooLong element a b) = (IsFull is given ls element × (is ≡ was) × (a ≡ 1099511627776) × (b ≡ 1)) ⊎ Stopped is given ls (Faults.TooLong element a b)
-StagesStop was is given ls done fault = Stopped is given ls fault
+abbrev pub StagesStop : List Stage → List Stage → List Item → List Item → List Item → List StageList → List Item → TaskFault → Type 0
+StagesStop was is waiting waiting' given ls done OutOfMemory = GaveUp is given ls done
+StagesStop was is waiting waiting' given ls done (Faults.TooLong element a b) =
+    (IsFull is given ls element × (is ≡ was) × (waiting' ≡ waiting) × (a ≡ 1099511627776) × (b ≡ 1)) ⊎ Stopped is given ls (Faults.TooLong element a b)
+StagesStop was is waiting waiting' given ls done fault = Stopped is given ls fault
+
+-- no fault of a source, of a sink or of a missing link
+abbrev pub IsElementFault : TaskFault → Type 0
+IsElementFault (Faults.ReadFault element before after) = ⊥
+IsElementFault (Faults.WriteFault element before after) = ⊥
+IsElementFault (Faults.NotLinked element place) = ⊥
+IsElementFault _ = Unit {0}
 
 -- for want of memory one item may have crossed a pad more
 abbrev pub StillCounts : TaskFault → ℕ → ℕ → Type 0

@@ -2,7 +2,7 @@
 ghost use Rattle.std.specs.Prelude.{◌≡◌, ◌≢◌, ◌≤◌, ◌<◌, ◌+◌, ◌-◌, ◌^◌, ℕ, List, [], ◌∷◌, ◌++◌, All, Some, None, true, false, slice_get, OnOk, OnErr, IfOk, IfErr, vec_len, length, map, drop, option_map};
 ghost use Rattle.std.specs.VecDeque.{deque_len, deque_capacity};
 ghost use Rattle.stream_task.specs.Head.{head_items};
-ghost use Rattle.stream_task.specs.Stage.{AreIdle, WaitsAt, PutAt, HasRoom, AreAlike, AreSimilar, IsFarthest, StageList, StagesStand, PassedOn, StagesStop, StillCounts, put_last, element_at, numbers_of, items_crossed, room_left, item_of};
+ghost use Rattle.stream_task.specs.Stage.{AreIdle, WaitsAt, PutAt, HasRoom, AreAlike, AreSimilar, IsFarthest, StageList, StagesStand, PassedOn, StagesStop, IsElementFault, StillCounts, put_last, element_at, numbers_of, items_crossed, room_left, item_of};
 ghost use Rattle.stream_task.specs.Tail.{unsent_fault};
 ghost use Rattle.flow_model.specs.Item.{Item, is_eos as eos_test};
 ghost use Rattle.gst_item.specs.declared.out.Out.{Out};
@@ -338,7 +338,8 @@ fn pass_at(
     requires farthest { IsFarthest stages.old.items place }
     requires empty { out.old ≡ [] }
     ensures passed { OnOk result ((given : List Item) (ls : List StageList) (done : List Item) → StagesStand stages.old.items given ls → put_last given ls ≡ done ++ waiting.old.items → PassedOn stages.new.items given ls done waiting.new.items) }
-    ensures stop { IfErr result (λ fault. (given : List Item) (ls : List StageList) (done : List Item) → StagesStand stages.old.items given ls → put_last given ls ≡ done ++ waiting.old.items → StagesStop stages.old.items stages.new.items given ls done fault) }
+    ensures stop { IfErr result (λ fault. (given : List Item) (ls : List StageList) (done : List Item) → StagesStand stages.old.items given ls → put_last given ls ≡ done ++ waiting.old.items → StagesStop stages.old.items stages.new.items waiting.old.items waiting.new.items given ls done fault) }
+    ensures own { IfErr result IsElementFault }
     ensures waiting { OnOk result (waiting.old.items ≢ [] → waiting.new.items ≢ []) }
     ensures reach { IfOk result (λ reach. (reach ≤ vec_len stages.new) × AreIdle (drop reach stages.new.items)) }
     ensures size { vec_len stages.new ≡ vec_len stages.old }

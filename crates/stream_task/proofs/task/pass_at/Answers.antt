@@ -1,5 +1,5 @@
 use Rattle.std.proofs.Common.{refl, sym, ap, ◌∙◌, inl, inr, ◌+◌, map, arith}
-use Rattle.stream_task.proofs.Stages.{full_at, some_at, passed_on, gave_up, stuck_on, numbers_on, numbers_set, crossed_on, burnt_on, items_lasting, same_at, few_at, renamed}
+use Rattle.stream_task.proofs.Stages.{full_at, some_at, passed_on, gave_up, stuck_on, stuck_own, numbers_on, numbers_set, crossed_on, burnt_on, items_lasting, same_at, few_at, renamed}
 use Rattle.stream_task.proofs.task.pass_at.Goals as goal
 
 pub returns-then-index-ge-MOST_ITEMS-clause-stop : goal.returns-then-index-ge-MOST_ITEMS-clause-stop
@@ -8,7 +8,7 @@ returns-then-index-ge-MOST_ITEMS-clause-stop c =
     let at = some_at c.args.stages.now.items c.args.place c.index.result.now (omega (arith, c.requires.farthest.within)) c.index.ensures in
     let same = same_at c.args.stages.now.items c.args.place c.index.result.now c.index-then-index-ge-MOST_ITEMS.result.now (omega (arith, c.requires.farthest.within)) c.index.ensures c.index-then-index-ge-MOST_ITEMS.ensures in
     rw c.too_long.ensures
-    (inl (renamed (ap (λ s. s.pad.element) same) (full_at c.args.stages.now.items c.args.place given ls c.index.result.now s at (c.requires.farthest.waits _ at) c.if-index-ge-MOST_ITEMS.true), refl, refl, refl))
+    (inl (renamed (ap (λ s. s.pad.element) same) (full_at c.args.stages.now.items c.args.place given ls c.index.result.now s at (c.requires.farthest.waits _ at) c.if-index-ge-MOST_ITEMS.true), refl, refl, refl, refl))
 
 pub pass-requires-clause-some : goal.pass-requires-clause-some
 pass-requires-clause-some c = c.requires.farthest.waits c.index_mut.result.now (some_at c.args.stages.now.items c.args.place c.index_mut.result.now (omega (arith, c.requires.farthest.within)) c.index_mut.ensures.value)
@@ -54,9 +54,14 @@ returns-in-Ok-hand_on-clause-burns c =
 pub returns-in-Err-clause-stop : goal.returns-in-Err-clause-stop
 returns-in-Err-clause-stop c =
     stuck_on c.args.stages.now.items c.args.stages.now.items c.args.place c.index_mut.result.now c.pass.new.self c.args.out.now c.args.out.now c.requires.empty c.index_mut.ensures.value (omega (arith, c.requires.farthest.within))
-    c.in-Err.fault c.in-Err.ensures.stuck c.args.waiting.now.items
+    c.in-Err.fault c.in-Err.ensures.stuck c.args.waiting.now.items c.args.waiting.now.items
 
 pub returns-in-Err-clause-numbers : goal.returns-in-Err-clause-numbers
 returns-in-Err-clause-numbers c =
     numbers_set c.args.stages.now.items c.args.place c.index_mut.result.now c.pass.new.self (some_at c.args.stages.now.items c.args.place c.index_mut.result.now (omega (arith, c.requires.farthest.within)) c.index_mut.ensures.value)
     (ap (λ p. p.element) c.in-Err.ensures.stuck.pad) c.in-Err.ensures.stuck.element
+
+pub returns-in-Err-clause-own : goal.returns-in-Err-clause-own
+returns-in-Err-clause-own c =
+    stuck_own c.args.stages.now.items c.args.stages.now.items c.args.place c.index_mut.result.now c.pass.new.self c.args.out.now c.args.out.now c.requires.empty c.index_mut.ensures.value (omega (arith, c.requires.farthest.within))
+    c.in-Err.fault c.in-Err.ensures.stuck
