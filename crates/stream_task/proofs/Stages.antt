@@ -453,3 +453,25 @@ few_at ss place one two w e f few = let same = ap (λ (s : Stage). s.pad.items) 
 
 pub renamed : {ss : List Stage} {given : List Item} {ls : List StageList} {a b : ℕ} → a ≡ b → IsFull ss given ls a → IsFull ss given ls b
 renamed {ss = ss} {given = given} {ls = ls} e f = subst (λ (n : ℕ). IsFull ss given ls n) e f
+
+-- the pad of the last place is the last pad
+pub element_last : (ss : List Stage) (put : List Item) (ls : List StageList) (last : Pad) → StagesStand ss put ls → last.element ≡ element_at ss last (length ls)
+element_last [] put [] last s = refl
+element_last [] put (l ∷ ls) last s = absurd s
+element_last (t ∷ ss) put [] last s = absurd s
+element_last (t ∷ ss) put (l ∷ ls) last s = element_last ss (owes l) ls last s.1
+
+pub crossed_last : (ls : List StageList) (done : List Item) → crossed_at ls done (length ls) ≡ done
+crossed_last [] done = refl
+crossed_last (l ∷ ls) done = crossed_last ls done
+
+pub put_at_last : (given : List Item) (ls : List StageList) → put_at given ls (length ls) ≡ put_last given ls
+put_at_last given [] = refl
+put_at_last given (l ∷ ls) = put_at_last (owes l) ls
+
+pub none_left : (xs ys : List Item) → xs ≡ xs ++ ys → ys ≡ []
+none_left xs [] e = refl
+none_left xs (y ∷ ys) e = absurd (omega (arith, ap length e, length-append xs (y ∷ ys)))
+
+pub not_nil : {A : Type 0} {y : A} {ys : List A} → (y ∷ ys) ≡ [] → ⊥
+not_nil e = cc

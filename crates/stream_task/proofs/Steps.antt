@@ -1,5 +1,5 @@
 -- What a task stands for behind a step.
-use Rattle.std.proofs.Common.{◌≡◌, ◌≢◌, ◌+◌, ℕ, List, [], ◌∷◌, ◌++◌, length, map, Option, Some, None, Bool, false, ◌||◌, refl, ap, sym, ◌∙◌, subst, inl, inr, arith, length-append, append-nil, append_assoc}
+use Rattle.std.proofs.Common.{◌≡◌, ◌≢◌, ◌≤◌, ◌<◌, ◌+◌, ℕ, List, [], ◌∷◌, ◌++◌, length, map, Option, Some, None, Bool, false, ◌||◌, refl, ap, sym, ◌∙◌, subst, inl, inr, arith, length-append, append-nil, append_assoc}
 use Rattle.std.specs.Option.{ForSome}
 use Rattle.std.proofs.lemmas.Grind.{fold-append}
 use Rattle.flow_model.specs.Item.{Item, is_eos, is_buffer}
@@ -13,7 +13,10 @@ use Rattle.stream_task.specs.declared.head.Head.{Head}
 use Rattle.stream_task.specs.declared.head.Head.TheVariants.{Source, Queue, Unlinked}
 use Rattle.stream_task.specs.Step.{idle_step}
 use Rattle.stream_task.specs.Head.{HeadLists, HeadGave, HeadAfter, IsIdle as HeadIsIdle, head_number}
-use Rattle.stream_task.specs.Tail.{TailHas}
+use Rattle.stream_task.specs.declared.pads.Pad.{Pad}
+use Rattle.stream_task.specs.declared.tail.Unsent.{Unsent}
+use Rattle.stream_task.specs.declared.tail.Unsent.TheVariants.{Unwritten, NotLinked as NoLink}
+use Rattle.stream_task.specs.Tail.{TailHas, TailUnsent, unsent_fault}
 use Rattle.stream_task.specs.Pads.{Counts}
 use Rattle.stream_task.specs.declared.fault.TaskFault.{TaskFault}
 use Rattle.stream_task.specs.declared.fault.TaskFault.TheVariants.{ReadFault, WriteFault, Stream, Caps, TooLong, NotLinked, OutOfMemory}
@@ -21,7 +24,7 @@ use Rattle.stream_task.specs.declared.stage.Stage.{Stage}
 use Rattle.flow_model.specs.Prefix.{IsPrefix}
 use Rattle.stream_task.specs.Stage.{StageList, StagesStand, StagesKeep, Stopped, IsFull, StagesStop, IsElementFault, SameRules, put_last, AreIdle}
 use Rattle.stream_task.specs.Task.{TaskLists, Stands, HasCrossed, Goes, HasPassed, Keeps, IsWhy, IsIdle, SameBeside, AtFault, AtLimit, Refused, IsTaskCause, moved_to}
-use Rattle.stream_task.proofs.Stages.{stand_keep}
+use Rattle.stream_task.proofs.Stages.{stand_keep, element_last, crossed_last, put_at_last, none_left}
 use Rattle.stream_task.proofs.Keeping.{keep_same, keep_from}
 
 -- whether EOS was given, behind one more item
@@ -30,6 +33,9 @@ eos_more given x none = fold-append (λ eos y. eos || is_eos y) false given (x �
 
 none_some : {A : Type 0} {a : A} → None ≡ Some a → ⊥
 none_some e = cc
+
+pub never : (tail done count last : ℕ) → tail ≤ done → last ≡ done → last < 1099511627776 → 1099511627776 ≤ count → count ≡ tail → ⊥
+never tail done count last a b c d e = omega arith
 
 module _ {S K I O : Type 0} (content : S → Option (List ℕ)) (bytes : K → Option (List ℕ)) (received : I → List Item → Type 0) (sent : O → List Item → Type 0) where
   -- what stands has crossed
@@ -220,3 +226,27 @@ module _ {S K I O : Type 0} (content : S → Option (List ℕ)) (bytes : K → O
   element_cause source_faults sink_faults was is (Caps element offered wanted) own = tt
   element_cause source_faults sink_faults was is (TooLong element a b) own = tt
   element_cause source_faults sink_faults was is OutOfMemory own = tt
+
+  -- the last pad is at its limit, and an item waits there
+  pub last_limit : (task : Task S K I O) (l : TaskLists) → Stands content bytes received sent task l → 1099511627776 ≤ task.last.items → task.waiting.items ≢ []
+      → AtLimit content bytes received sent task l task.last.element 1099511627776 1
+  last_limit task l s limit some = record {
+    stands = s;
+    limit = refl;
+    one = refl;
+    place = length l.stages;
+    within = omega arith;
+    named = element_last task.stages.items l.head.given l.stages task.last s.stages;
+    full = ap length (crossed_last l.stages l.done) ∙ all_of task.last.items (length l.done) s.counted.items limit task.last.limit;
+    more = inl (λ e. some (none_left l.done task.waiting.items (sym (crossed_last l.stages l.done) ∙ e ∙ put_at_last l.head.given l.stages ∙ s.held)));
+  }
+    where
+      all_of : (a b : ℕ) → a ≡ b → 1099511627776 ≤ a → a ≤ 1099511627776 → b ≡ 1099511627776
+      all_of a b e x y = omega arith
+
+  -- an item that waits at the last pad was not sent
+  pub unsent_goes : (task : Task S K I O) (l : TaskLists) (x : Item) (unsent : Unsent) (last : Pad) → HasCrossed content received task l → last ≡ task.last → IsPrefix (l.done ++ x ∷ []) (put_last l.head.given l.stages)
+      → TailUnsent bytes sent l.keep task.tail l.done x unsent → AtFault content bytes received sent task l (unsent_fault unsent last)
+  unsent_goes task l x (Unwritten element fault) last crossed e begun u = record { crossed = crossed; item = x; next = begun; part = u }
+  unsent_goes task l x NoLink last crossed e begun u =
+      record { crossed = crossed; named = ap (λ (p : Pad). p.element) e; at = ap (λ (p : Pad). p.items) e ∙ crossed.counted.items; item = x; next = begun; buffer = u.2; open_end = u.1 }

@@ -202,7 +202,7 @@ abbrev pub LastGoes : {S K I O : Type 0} → (S → Option (List ℕ)) → (K �
 LastGoes content bytes received sent task l Crossed inlet outlet limit tells tells' = Goes content bytes received sent task l Moved inlet outlet limit tells tells'
 LastGoes content bytes received sent task l Idle inlet outlet limit tells tells' = Stands content bytes received sent task l × (tells' ≡ tells) × (task.waiting.items ≡ [])
 LastGoes content bytes received sent task l (Full n) inlet outlet limit tells tells' =
-    Stands content bytes received sent task l × (tells' ≡ tells) × (tail_number task.tail ≡ Some n) × IsFullLane outlet limit tells l.done × (task.waiting.items ≢ [])
+    Stands content bytes received sent task l × (tells' ≡ tells) × (tail_number task.tail ≡ Some n) × IsFullLane outlet limit tells' l.done × (task.waiting.items ≢ [])
 
 abbrev pub head_of : {S K I O : Type 0} → Task S K I O → Head S I
 head_of task = task.head

@@ -75,6 +75,7 @@ impl<K: Sink, O: Outlet> Tail<K, O> {
         ensures unsent { IfErr result (λ unsent. (keep : Bool) (done : List Item) → TailHas K.bytes O.sent keep self.old done → TailUnsent K.bytes O.sent keep self.new done item unsent) }
         ensures moves { IfOk result (λ sending. TailMoves O.sent O.place O.limits O.count self.old item sending self.new (O.tells lanes.old) (O.tells lanes.new)) }
         ensures table { OnErr result (O.tells lanes.new ≡ O.tells lanes.old) }
+        ensures ready { OnErr result (TailOf O.place O.limits O.count self.new (O.tells lanes.new)) }
         ensures cause { IfErr result (TailCause (tail_element self.old) (tail_faults K.faults self.old) (tail_faults K.faults self.new)) }
         ensures tried { tail_refusals O.refusals self.new ≡ puts_behind result (tail_refusals O.refusals self.old) }
         ensures number { tail_number self.new ≡ tail_number self.old }

@@ -174,6 +174,10 @@ impl<S: Source, K: Sink, I: Inlet<Out = O>, O: Outlet<Lanes = I::Lanes>> Task<S,
             self.waiting.push_front_reserved(item);
             return Err(too_long(self.last.element));
         }
+        if self.tail.count() >= MOST_ITEMS {
+            self.waiting.push_front_reserved(item);
+            return Err(too_long(self.last.element));
+        }
         let buffer = is_buffer(&item);
         match self.tail.send(lanes, item) {
             Ok(Sending::Sent) => {
