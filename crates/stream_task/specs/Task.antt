@@ -294,3 +294,8 @@ step_with (Err fault) = Err fault
 abbrev pub NeedsNoRoom : Step → Type 0
 NeedsNoRoom (NeedsRoom n) = ⊥
 NeedsNoRoom _ = Unit {0}
+
+-- no item crossed the last pad
+abbrev pub IsStill : Result Last TaskFault → Type 0
+IsStill (Ok Crossed) = ⊥
+IsStill _ = Unit {0}

@@ -64,7 +64,7 @@ impl<S: Source, K: Sink, I: Inlet<Out = O>, O: Outlet<Lanes = I::Lanes>> Task<S,
     ghost use Rattle.stream_task.specs.declared.step.Step.TheVariants.{Moved, NeedsRoom};
     ghost use Rattle.stream_task.specs.declared.task.Last.TheVariants.{Idle, Full};
     ghost use Rattle.stream_task.specs.Tail.{TailHas, tail_place, tail_limit, tail_len, tail_refusals};
-    ghost use Rattle.stream_task.specs.Task.{TaskLists, Stands, IsReady, Goes, HasPassed, LastGoes, SameBeside, NeedsNoRoom, step_of, step_with, IsTakeTry, IsPutTry, KeepsTable, AtFault, IsTaskCause, Frame, Burns, moves_of, IsOneMove, IsOneTry, fuel, head_of, tail_of, stages_of, last_of};
+    ghost use Rattle.stream_task.specs.Task.{TaskLists, Stands, IsReady, Goes, HasPassed, LastGoes, SameBeside, NeedsNoRoom, IsStill, step_of, step_with, IsTakeTry, IsPutTry, KeepsTable, AtFault, IsTaskCause, Frame, Burns, moves_of, IsOneMove, IsOneTry, fuel, head_of, tail_of, stages_of, last_of};
 
     /// A task of these parts that moved nothing yet. `last` is the number of the element before the tail.
     pub fn new(
@@ -165,6 +165,8 @@ impl<S: Source, K: Sink, I: Inlet<Out = O>, O: Outlet<Lanes = I::Lanes>> Task<S,
         ensures moves { IsOneMove (step_with result) (moves_of self.old) (moves_of self.new) }
         ensures puts { IsPutTry result (tail_refusals O.refusals (tail_of self.old)) (tail_refusals O.refusals (tail_of self.new)) }
         ensures idle { result ≡ Ok Idle → self.new.waiting.items ≡ [] }
+        ensures still { result ≡ Ok Idle → SameBeside self.old self.new }
+        ensures stays { IsStill result → O.tells lanes.new ≡ O.tells lanes.old }
         ensures full { (n : ℕ) → result ≡ Ok (Full n) → self.new.waiting.items ≢ [] }
         ensures head { (self.new.head ≡ self.old.head) × (self.new.given ≡ self.old.given) }
     {
@@ -196,7 +198,7 @@ impl<S: Source, K: Sink, I: Inlet<Out = O>, O: Outlet<Lanes = I::Lanes>> Task<S,
     /// Where the last pad's lane has no room, the item that waits farthest from the head crosses its pad.
     fn pass_or_need(&mut self, alloc: Global, number: u32) -> Result<Step, TaskFault>
         ensures moved { result ≡ Ok Moved → (l : TaskLists) → Stands S.content K.bytes I.received O.sent self.old l → HasPassed S.content K.bytes I.received O.sent self.new l }
-        ensures needs { IfOk result (λ step. step ≢ Moved → (step ≡ NeedsRoom number) × AreIdle (stages_of self.new) × (stages_of self.new ≡ stages_of self.old)) }
+        ensures needs { IfOk result (λ step. step ≢ Moved → (step ≡ NeedsRoom number) × AreIdle (stages_of self.new) × (stages_of self.new ≡ stages_of self.old) × (self.new.waiting ≡ self.old.waiting)) }
         ensures fault { IfErr result (λ fault. (l : TaskLists) → Stands S.content K.bytes I.received O.sent self.old l → AtFault S.content K.bytes I.received O.sent self.new l fault) }
         ensures cause { IfErr result (λ fault. IsTaskCause S.faults K.faults self.old self.new fault) }
         ensures same { SameBeside self.old self.new }
