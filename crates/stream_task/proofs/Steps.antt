@@ -371,6 +371,15 @@ module _ {S K I O : Type 0} (content : S → Option (List ℕ)) (bytes : K → O
           no_move : Ended ≡ Moved → ⊥
           no_move e = cc
 
+  pub full_result : (was mid task : Task S K I O) (n : ℕ) (inlet outlet limit : Option ℕ) (tells tells' : Option (List Lane)) (result : Result Step TaskFault)
+      → ((l : TaskLists) → Stands content bytes received sent was l → Stands content bytes received sent mid l × (tells' ≡ tells) × (tail_number mid.tail ≡ Some n) × IsFullLane outlet limit tells' l.done × (mid.waiting.items ≢ []))
+      → (result ≡ Ok Moved → (l : TaskLists) → Stands content bytes received sent mid l → HasPassed content bytes received sent task l)
+      → IfOk result (λ step. step ≢ Moved → (step ≡ NeedsRoom n) × AreIdle task.stages.items × (task.stages.items ≡ mid.stages.items) × (task.waiting ≡ mid.waiting)) → SameBeside mid task
+      → IfOk result (λ step. (l : TaskLists) → Stands content bytes received sent was l → Goes content bytes received sent task l step inlet outlet limit tells tells')
+  full_result was mid task n inlet outlet limit tells tells' (Ok step) first moved needs same =
+      λ l s. full_goes mid task l n step inlet outlet limit tells tells' (first l s) (λ e. moved (ap Ok e) l (first l s).0) needs same
+  full_result was mid task n inlet outlet limit tells tells' (Err fault) first moved needs same = tt
+
 -- the number of the first pad's element stays where the numbers do
 pub first_same : (ss ss' : List Stage) (last last' : Pad) → numbers_of ss' ≡ numbers_of ss → last' ≡ last → element_at ss' last' 0 ≡ element_at ss last 0
 first_same [] [] last last' e f = ap (λ (p : Pad). p.element) f

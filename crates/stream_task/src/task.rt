@@ -200,6 +200,7 @@ impl<S: Source, K: Sink, I: Inlet<Out = O>, O: Outlet<Lanes = I::Lanes>> Task<S,
         ensures moved { result ≡ Ok Moved → (l : TaskLists) → Stands S.content K.bytes I.received O.sent self.old l → HasPassed S.content K.bytes I.received O.sent self.new l }
         ensures needs { IfOk result (λ step. step ≢ Moved → (step ≡ NeedsRoom number) × AreIdle (stages_of self.new) × (stages_of self.new ≡ stages_of self.old) × (self.new.waiting ≡ self.old.waiting)) }
         ensures fault { IfErr result (λ fault. (l : TaskLists) → Stands S.content K.bytes I.received O.sent self.old l → AtFault S.content K.bytes I.received O.sent self.new l fault) }
+        ensures own { IfErr result IsElementFault }
         ensures cause { IfErr result (λ fault. IsTaskCause S.faults K.faults self.old self.new fault) }
         ensures same { SameBeside self.old self.new }
         ensures waiting { OnOk result (self.old.waiting.items ≢ [] → self.new.waiting.items ≢ []) }
@@ -264,6 +265,7 @@ impl<S: Source, K: Sink, I: Inlet<Out = O>, O: Outlet<Lanes = I::Lanes>> Task<S,
         requires reach { self.old.reach ≡ place + 1 }
         ensures goes { OnOk result ((l : TaskLists) → Stands S.content K.bytes I.received O.sent self.old l → HasPassed S.content K.bytes I.received O.sent self.new l) }
         ensures fault { IfErr result (λ fault. (l : TaskLists) → Stands S.content K.bytes I.received O.sent self.old l → AtFault S.content K.bytes I.received O.sent self.new l fault) }
+        ensures own { IfErr result IsElementFault }
         ensures cause { IfErr result (λ fault. IsTaskCause S.faults K.faults self.old self.new fault) }
         ensures same { SameBeside self.old self.new }
         ensures waiting { OnOk result (self.old.waiting.items ≢ [] → self.new.waiting.items ≢ []) }
