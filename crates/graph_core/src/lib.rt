@@ -1,0 +1,23 @@
+//! The graph of a launch line: its elements by name, and the links between their pads.
+#![tactic(auto)]
+
+mod building;
+mod chains;
+mod element;
+mod elements;
+mod making;
+mod naming;
+mod ends;
+mod fault;
+mod graph;
+mod live;
+mod links;
+mod pad;
+
+pub use building::build;
+pub use fault::{BuildFault, What};
+pub use graph::Graph;
+pub use pad::{PadLink, PadPlace};
+
+#[cfg(test)]
+mod tests;
