@@ -1,1 +1,5 @@
 pub mod Flattened
+pub mod ByName
+pub mod Dashes
+pub mod Steps
+pub mod Walks

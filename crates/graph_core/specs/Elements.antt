@@ -1,5 +1,5 @@
 -- Which elements a line has, and why it has none.
-use Rattle.std.specs.Prelude.{◌≡◌, ◌<◌, ◌≤◌, ◌==◌, ◌&&◌, ◌||◌, ℕ, Bool, true, false, not, List, [], ◌∷◌, ◌++◌, Option, None, Some, Result, Ok, Err, codes, length, map, filter, count_by, bytes_eq, is_some}
+use Rattle.std.specs.Prelude.{◌≡◌, ◌⊎◌, ◌<◌, ◌≤◌, ◌==◌, ◌&&◌, ◌||◌, ℕ, Bool, true, false, not, List, [], ◌∷◌, ◌++◌, Option, None, Some, Result, Ok, Err, codes, length, map, filter, count_by, bytes_eq, is_some}
 use Rattle.std.specs.Fmt.{decimal}
 use Rattle.std.specs.List.{list_any}
 use Rattle.std.specs.Option.{option_map_or}
@@ -39,9 +39,12 @@ has_number_of kind m = m.is_numbered && bytes_eq m.kind kind
 abbrev pub numbered : List ℕ → List Made → ℕ
 numbered kind made = count_by (has_number_of kind) made
 
+abbrev pub without_dashes : List ℕ → List ℕ
+without_dashes text = filter (λ b. not (b == 45)) text
+
 -- a kind without its dashes, and a number
 abbrev pub made_name : List ℕ → ℕ → List ℕ
-made_name kind n = filter (λ b. not (b == 45)) kind ++ decimal n
+made_name kind n = without_dashes kind ++ decimal n
 
 abbrev pub given_name : List Prop → Option (List ℕ)
 given_name props = last_value (codes "name") props
@@ -106,18 +109,22 @@ Stops before declared fault = (rest : List Declared) → ElementsCome before (de
 
 -- whether an element of this name and these settings has a place behind those before it
 abbrev pub IsPlaced : List Made → List ℕ → Settings → Result (Unit {0}) BuildFault → Type 0
-IsPlaced before name settings (Ok done) = (is_name_taken name before ≡ false) × (is_location_taken settings before ≡ false) × (length before < limit)
-IsPlaced before name settings (Err (NameTaken taken)) = (taken ≡ name) × (is_name_taken name before ≡ true)
-IsPlaced before name settings (Err (LocationTaken taken)) = (location_of settings ≡ Some taken) × (is_name_taken name before ≡ false) × (is_location_taken settings before ≡ true)
-IsPlaced before name settings (Err (TooMany count)) = (count ≡ 257) × (is_name_taken name before ≡ false) × (is_location_taken settings before ≡ false) × (limit ≤ length before)
-IsPlaced before name settings (Err OutOfMemory) = Unit {0}
-IsPlaced before name settings (Err (NoSuch missing what)) = ⊥
-IsPlaced before name settings (Err (BadValue element property)) = ⊥
-IsPlaced before name settings (Err (LinkRefused a b ret)) = ⊥
+IsPlaced before text settings (Ok done) = (is_name_taken text before ≡ false) × (is_location_taken settings before ≡ false) × (length before < limit)
+IsPlaced before text settings (Err (NameTaken taken)) = (taken ≡ text) × (is_name_taken text before ≡ true)
+IsPlaced before text settings (Err (LocationTaken taken)) = (location_of settings ≡ Some taken) × (is_name_taken text before ≡ false) × (is_location_taken settings before ≡ true)
+IsPlaced before text settings (Err (TooMany count)) = (count ≡ 257) × (is_name_taken text before ≡ false) × (is_location_taken settings before ≡ false) × (limit ≤ length before)
+IsPlaced before text settings (Err OutOfMemory) = Unit {0}
+IsPlaced before text settings (Err (NoSuch _ _)) = ⊥
+IsPlaced before text settings (Err (BadValue _ _)) = ⊥
+IsPlaced before text settings (Err (LinkRefused _ _ _)) = ⊥
+
+-- this fault, or memory is wanting
+abbrev pub OrMemory : BuildFault → BuildFault → Type 0
+OrMemory wanted fault = (fault ≡ wanted) ⊎ (fault ≡ OutOfMemory)
 
 -- the fault of an element of this name whose properties have this fault
-abbrev pub IsSettingsFault : List ℕ → List ℕ → PropFault → BuildFault → Type 0
-IsSettingsFault name kind NoSuchKind fault = fault ≡ NoSuch kind Kind
-IsSettingsFault name kind (NoSuchProperty property) fault = fault ≡ NoSuch name (Property property)
-IsSettingsFault name kind (BadPropValue property) fault = fault ≡ BadValue name property
-IsSettingsFault name kind NoPropMemory fault = fault ≡ OutOfMemory
+abbrev pub settings_fault : List ℕ → List ℕ → PropFault → BuildFault
+settings_fault text word NoSuchKind = NoSuch word Kind
+settings_fault text word (NoSuchProperty p) = NoSuch text (Property p)
+settings_fault text word (BadPropValue p) = BadValue text p
+settings_fault text word NoPropMemory = OutOfMemory

@@ -2,7 +2,7 @@
 ghost use Rattle.std.specs.Prelude.{◌≡◌, ◌≤◌};
 ghost use Rattle.indexmap.specs.IndexMap.{index_map_len};
 
-use crate::element::Element;
+use crate::element::{Element, is_numbered, some_clash};
 use el_set::Settings;
 use gst_caps::OutOfMemory;
 use indexmap::IndexMap;
@@ -19,7 +19,7 @@ pub(crate) struct Elements {
 }
 
 impl Elements {
-    ghost use Rattle.std.specs.Prelude.{◌<◌, ◌++◌, ◌∷◌, [], length, IfOk, OnOk, OnErr, slice_get, position, string_bytes, Some};
+    ghost use Rattle.std.specs.Prelude.{◌<◌, ◌++◌, ◌∷◌, [], length, IfOk, OnOk, OnErr, slice_get, position, string_bytes, Some, false};
     ghost use Rattle.std.specs.Option.{option_map};
     ghost use Rattle.std.specs.List.{list_any};
     ghost use Rattle.graph_core.specs.Elements.{Made, made_of, all_made, numbered, is_named, is_name_taken, is_location_taken, limit};
@@ -84,7 +84,7 @@ impl Elements {
     pub(crate) fn is_location_taken(&self, settings: &Settings) -> bool
         ensures { result ≡ is_location_taken settings.now (all_made self.now) }
     {
-        self.by_name.values().any(|element| clash(&element.settings, settings))
+        some_clash(self.by_name.values().as_slice(), settings)
     }
 
     /// Puts an element of a new name behind these.
@@ -96,22 +96,5 @@ impl Elements {
     {
         self.by_name.insert(name, element)?;
         Ok(())
-    }
-}
-
-/// Whether the name of an element is made of this kind.
-fn is_numbered(element: &Element, kind: &str) -> bool
-    ensures { result ≡ (element.now.is_numbered && bytes_eq element.now.kind kind.now) }
-{
-    element.is_numbered && element.kind.as_str() == kind
-}
-
-/// Whether two elements cannot have their files at once: it is one file, which one of them writes.
-fn clash(one: &Settings, other: &Settings) -> bool
-    ensures { result ≡ clash one.now other.now }
-{
-    match (one.location(), other.location()) {
-        (Some(first), Some(second)) => first == second && (one.is_sink() || other.is_sink()),
-        _ => false,
     }
 }

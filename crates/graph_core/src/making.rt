@@ -1,10 +1,10 @@
 //! Makes the elements of a line.
-ghost use Rattle.std.specs.Prelude.{◌≡◌, ◌⊎◌, ◌<◌, ◌++◌, ◌∷◌, [], not, is_some, length, map, IfOk, IfErr, OnOk, OnErr, Ok, Err, true, false, codes, Result, string_bytes};
+ghost use Rattle.std.specs.Prelude.{◌≡◌, ◌⊎◌, ◌<◌, ◌++◌, ◌∷◌, [], not, is_some, length, map, IfOk, IfErr, OnOk, OnErr, Ok, Err, true, false, codes, Result, string_bytes, MatchOption};
 ghost use Rattle.gst_caps.specs.declared.name.Prop.{Prop as Property};
 ghost use Rattle.el_set.specs.Asked.{location_of};
 ghost use Rattle.el_set.specs.Checked.{IsAnswer};
 ghost use Rattle.graph_core.specs.Asked.{Declared, declared_by, chain_elements, elements_in};
-ghost use Rattle.graph_core.specs.Elements.{Made, all_made, name_of, is_name_taken, is_location_taken, limit, IsMade, IsUnmade, ElementsCome, IsPlaced, IsSettingsFault, Follows, Stops};
+ghost use Rattle.graph_core.specs.Elements.{Made, all_made, name_of, is_name_taken, is_location_taken, limit, IsMade, IsUnmade, ElementsCome, IsPlaced, OrMemory, settings_fault, given_name, Follows, Stops};
 
 use crate::element::Element;
 use crate::elements::{Elements, LIMIT};
@@ -116,11 +116,12 @@ fn put(
         Ok(()) => {}
         Err(fault) => return Err(fault),
     }
-    match named_element(alloc, kind, props.as_slice(), settings) {
-        Ok(element) => {
-            elements.push(name, element)?;
-            Ok(())
-        }
+    let element = match named_element(alloc, kind, props.as_slice(), settings) {
+        Ok(element) => element,
+        Err(OutOfMemory) => return Err(BuildFault::OutOfMemory),
+    };
+    match elements.push(name, element) {
+        Ok(()) => Ok(()),
         Err(OutOfMemory) => Err(BuildFault::OutOfMemory),
     }
 }
@@ -151,14 +152,10 @@ fn judge(
     ensures { IsPlaced (all_made before.now) name.now settings.now result }
 {
     if before.find(name).is_some() {
-        return Err(BuildFault::NameTaken {
-            name: Text::from_str(alloc, name)?,
-        });
+        return Err(name_taken(alloc, name));
     }
     if before.is_location_taken(settings) {
-        return Err(BuildFault::LocationTaken {
-            location: location_of(alloc, settings)?,
-        });
+        return Err(location_taken(alloc, settings));
     }
     if before.count() >= LIMIT {
         return Err(BuildFault::TooMany { count: 257 });
@@ -166,14 +163,27 @@ fn judge(
     Ok(())
 }
 
-/// The location of the file that these settings name.
-fn location_of(alloc: Global, settings: &Settings) -> Result<Text, OutOfMemory>
-    requires { is_some (location_of settings.now) ≡ true }
-    ensures { IfOk result (λ location. location_of settings.now ≡ Some location) }
+/// The fault of an element whose name is taken.
+fn name_taken(alloc: Global, name: &str) -> BuildFault
+    ensures { OrMemory (BuildFault.NameTaken name.now) result }
 {
-    match settings.location() {
-        Some(location) => Text::from_str(alloc, location),
-        None => unreachable!(),
+    match Text::from_str(alloc, name) {
+        Ok(name) => BuildFault::NameTaken { name },
+        Err(OutOfMemory) => BuildFault::OutOfMemory,
+    }
+}
+
+/// The fault of an element whose location is taken.
+fn location_taken(alloc: Global, settings: &Settings) -> BuildFault
+    requires { is_some (location_of settings.now) ≡ true }
+    ensures { MatchOption (location_of settings.now) ⊥ (λ location. OrMemory (BuildFault.LocationTaken location) result) }
+{
+    let Some(location) = settings.location() else {
+        unreachable!()
+    };
+    match Text::from_str(alloc, location) {
+        Ok(location) => BuildFault::LocationTaken { location },
+        Err(OutOfMemory) => BuildFault::OutOfMemory,
     }
 }
 
@@ -197,7 +207,7 @@ fn settings_for(
 
 /// The fault of an element of this name whose properties have this fault.
 fn fault_for(alloc: Global, name: &str, kind: &str, fault: PropFault) -> BuildFault
-    ensures { IsSettingsFault name.now kind.now fault result }
+    ensures { OrMemory (settings_fault name.now kind.now fault) result }
 {
     match named_fault(alloc, name, kind, fault) {
         Ok(fault) => fault,
@@ -211,7 +221,7 @@ fn named_fault(
     kind: &str,
     fault: PropFault,
 ) -> Result<BuildFault, OutOfMemory>
-    ensures { IfOk result (λ made. IsSettingsFault name.now kind.now fault made) }
+    ensures { IfOk result (λ made. made ≡ settings_fault name.now kind.now fault) }
 {
     match fault {
         PropFault::NoSuchKind => Ok(BuildFault::NoSuch {

@@ -2,7 +2,7 @@
 ghost use Rattle.std.specs.Prelude.{◌≡◌, ◌==◌, ◌++◌, not, filter, IfOk, OnOk, string_bytes};
 ghost use Rattle.std.specs.Option.{option_map};
 ghost use Rattle.graph_core.specs.Asked.{Declared};
-ghost use Rattle.graph_core.specs.Elements.{all_made, given_name, made_name, name_of};
+ghost use Rattle.graph_core.specs.Elements.{all_made, given_name, made_name, name_of, without_dashes};
 
 use crate::elements::Elements;
 use gst_caps::{OutOfMemory, Prop};
@@ -49,13 +49,19 @@ fn made_name(alloc: Global, kind: &str, number: u32) -> Result<String, OutOfMemo
 
 /// Puts a text, but for its dashes.
 fn put_without_dashes(into: &mut String, text: &str) -> Result<(), OutOfMemory>
-    ensures { OnOk result (string_bytes into.new ≡ string_bytes into.old ++ filter (λ b. not (b == 45)) text.now) }
+    ensures { OnOk result (string_bytes into.new ≡ string_bytes into.old ++ without_dashes text.now) }
 {
     let mut rest = text;
-    while let Some((before, after)) = rest.split_once('-') {
-        into.push_str(before)?;
-        rest = after;
+    loop {
+        match rest.split_once('-') {
+            Some((before, after)) => {
+                into.push_str(before)?;
+                rest = after;
+            }
+            None => {
+                into.push_str(rest)?;
+                return Ok(());
+            }
+        }
     }
-    into.push_str(rest)?;
-    Ok(())
 }
