@@ -1,13 +1,14 @@
 -- The pads that the ends of a link take.
-use Rattle.std.specs.Prelude.{◌≡◌, ◌<◌, ◌==◌, ◌&&◌, ℕ, Bool, List, [], ◌∷◌, ◌++◌, Option, None, Some, Result, Ok, Err, MatchOption, if◌then◌else◌, codes, bytes_eq, nat_lt, slice_get, position}
+use Rattle.std.specs.Prelude.{◌≡◌, ◌⊎◌, ◌<◌, ◌==◌, ◌&&◌, ℕ, Bool, List, [], ◌∷◌, ◌++◌, Option, None, Some, Result, Ok, Err, MatchOption, if◌then◌else◌, codes, bytes_eq, nat_lt, slice_get, position}
 use Rattle.std.specs.Option.{option_map, option_map_or}
+use denote.Bor.{Bor}
 use Rattle.gst_caps.specs.declared.name.PadName.{PadName}
 use Rattle.el_set.specs.Asked.{sink_pads, source_pads}
 use Rattle.el_set.specs.declared.settings.Settings.{Settings}
 use Rattle.graph_core.specs.Asked.{End, own, named}
 use Rattle.graph_core.specs.Elements.{Made, is_named}
 use Rattle.graph_core.specs.declared.fault.BuildFault.{BuildFault}
-use Rattle.graph_core.specs.declared.fault.BuildFault.TheVariants.{NoSuch}
+use Rattle.graph_core.specs.declared.fault.BuildFault.TheVariants.{NoSuch, OutOfMemory}
 use Rattle.graph_core.specs.declared.fault.What.{What}
 use Rattle.graph_core.specs.declared.fault.What.TheVariants.{Element, Pad as NoPad, SrcPad, SinkPad}
 use Rattle.graph_core.specs.declared.pad.Direction.{Direction}
@@ -66,3 +67,15 @@ name_at made element = option_map_or (λ (m : Made). m.name) (slice_get made ele
 
 abbrev pub pad_name : List Made → Pad → PadName
 pad_name made pad = record { element = name_at made pad.place.element; pad = pad_text pad.direction }
+
+-- the name of the pad that is wished
+abbrev pub wish_of : Option (Bor (List ℕ)) → Option (List ℕ)
+wish_of wish = option_map (λ name. name.now) wish
+
+-- this answer, or memory is wanting
+abbrev pub PadOrMemory : (Result Pad BuildFault → Type 0) → Result Pad BuildFault → Type 0
+PadOrMemory Is answer = Is answer ⊎ (answer ≡ Err OutOfMemory)
+
+-- the pad is one of its element
+abbrev pub IsThere : List Made → Pad → Type 0
+IsThere made pad = (m : Made) × (slice_get made pad.place.element ≡ Some m) × (pad.place.pad < pad_count pad.direction m.settings)

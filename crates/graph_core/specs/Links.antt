@@ -109,6 +109,21 @@ pub data IsUnlinked (made : List Made) (links : List PadLink) (ends : End × End
 abbrev pub LinksCome : List Made → List PadLink → List (End × End) → Result (List PadLink) BuildFault → Type 0
 LinksCome made = Comes (IsLinked made) (IsUnlinked made)
 
+-- Whatever comes of what is behind comes of these links before it.
+abbrev pub LinksFollow : List Made → List PadLink → List (End × End) → List PadLink → Type 0
+LinksFollow made before ends after = (rest : List (End × End)) (answer : Result (List PadLink) BuildFault) → LinksCome made after rest answer → LinksCome made before (ends ++ rest) answer
+
+-- One of these is the first that is refused, whatever is behind.
+abbrev pub LinksStop : List Made → List PadLink → List (End × End) → BuildFault → Type 0
+LinksStop made before ends fault = (rest : List (End × End)) → LinksCome made before (ends ++ rest) (Err fault)
+
+-- the link between two pads is made behind the others
+abbrev pub Joins : List Made → List PadLink → Pad → Pad → List PadLink → Type 0
+Joins made before from to after = (link : PadLink) × IsJoined made before from to link × (after ≡ before ++ link ∷ [])
+
+abbrev pub one_link : End → End → List (End × End)
+one_link from to = (from, to) ∷ []
+
 abbrev pub all_links : Links → List PadLink
 all_links links = links.made.items
 

@@ -14,7 +14,7 @@ pub fn build(alloc: Global, tree: &Tree) -> Result<Graph, BuildFault> {
     let chains = chains_of(alloc, tree)?;
     let elements = elements_of(alloc, chains.as_slice())?;
     let links = links_of(alloc, &elements, chains.as_slice())?;
-    let live = live_elements(alloc, &elements, links.made())?;
+    let live = live_elements(alloc, &elements, links.made.as_slice())?;
     Ok(Graph {
         elements,
         links,

@@ -1,4 +1,10 @@
 //! The pads that the ends of a link take.
+ghost use Rattle.std.specs.Prelude.{◌≡◌, ◌<◌, ◌≤◌, ◌+◌, length, IfOk, Ok, Err, Some, None, MatchOption, slice_get, position, codes, List};
+ghost use Rattle.std.specs.Option.{option_map};
+ghost use Rattle.graph_core.specs.Asked.{declared_by, end_of, named};
+ghost use Rattle.graph_core.specs.Elements.{Made, all_made, is_named, OrMemory};
+ghost use Rattle.graph_core.specs.Ends.{pad_count, pad_text, missing, pad_number, pad_named, dotted, named_pad, taken_pad, IsPadOf, IsEndPad, name_at, pad_name, wish_of, PadOrMemory};
+
 use crate::elements::Elements;
 use crate::fault::{BuildFault, What};
 use crate::pad::{Direction, Pad, PadPlace};
@@ -7,43 +13,86 @@ use gst_caps::{OutOfMemory, PadName, Text};
 use launch_text::Node;
 use std::alloc::Global;
 
-impl Direction {
-    /// How many pads of this direction an element has.
-    fn count(self, settings: &Settings) -> u32 {
-        match self {
-            Direction::Source => settings.source_pads(),
-            Direction::Sink => settings.sink_pads(),
-        }
-    }
-
-    /// The name of a pad of this direction.
-    pub(crate) fn name(self) -> &'static str {
-        match self {
-            Direction::Source => "src",
-            Direction::Sink => "sink",
-        }
-    }
-
-    /// What there is not where an element has no pad of this direction.
-    fn missing(self) -> What {
-        match self {
-            Direction::Source => What::SrcPad,
-            Direction::Sink => What::SinkPad,
-        }
-    }
-
-    /// The number of the pad of this direction and this name.
-    fn pad_named(self, settings: &Settings, name: &str) -> Option<u32> {
-        if self.count(settings) > 0 && name == self.name() {
-            Some(0)
-        } else {
-            None
+/// The pad that an end of a link takes. A node that makes an element makes the one of this number.
+pub(crate) fn end_pad(
+    alloc: Global,
+    elements: &Elements,
+    wanted: Direction,
+    node: &Node,
+    number: u32,
+) -> Result<Pad, BuildFault>
+    requires { number + length (declared_by node.now) ≤ length (all_made elements.now) }
+    ensures { PadOrMemory (IsEndPad (all_made elements.now) wanted (end_of number node.now)) result }
+{
+    match node {
+        Node::Element { .. } => pad_of(alloc, elements, wanted, number, None),
+        Node::Caps(_) => pad_of(alloc, elements, wanted, number, None),
+        Node::Reference { name, pad } => {
+            referred_pad(alloc, elements, wanted, name.as_str(), pad.as_ref())
         }
     }
 }
 
+/// The pad that a link takes of the element of this name: the one of this name, or else the first of the wanted
+/// direction.
+fn referred_pad(
+    alloc: Global,
+    elements: &Elements,
+    wanted: Direction,
+    name: &str,
+    pad: Option<&Text>,
+) -> Result<Pad, BuildFault>
+    ensures { PadOrMemory (IsEndPad (all_made elements.now) wanted (named name.now (wish_of pad.entry))) result }
+{
+    match elements.find(name) {
+        Some(element) => pad_of(alloc, elements, wanted, element, pad),
+        None => Err(no_such(alloc, name, What::Element)),
+    }
+}
+
+/// The pad that a link takes of an element: the one of this name, or else the first of the wanted direction.
+fn pad_of(
+    alloc: Global,
+    elements: &Elements,
+    wanted: Direction,
+    element: u32,
+    pad: Option<&Text>,
+) -> Result<Pad, BuildFault>
+    requires { element < length (all_made elements.now) }
+    ensures { PadOrMemory (IsPadOf (all_made elements.now) wanted element (wish_of pad.entry)) result }
+{
+    if wanted.count(elements.settings(element)) == 0 {
+        return Err(no_such(alloc, elements.name(element), wanted.missing()));
+    }
+    match pad {
+        None => Ok(Pad {
+            direction: wanted,
+            place: PadPlace { element, pad: 0 },
+        }),
+        Some(pad) => named_pad(alloc, elements, element, pad.as_str()),
+    }
+}
+
 /// The pad of this name of an element.
-fn pad_named(settings: &Settings, element: u32, name: &str) -> Option<Pad> {
+fn named_pad(
+    alloc: Global,
+    elements: &Elements,
+    element: u32,
+    name: &str,
+) -> Result<Pad, BuildFault>
+    requires { element < length (all_made elements.now) }
+    ensures { PadOrMemory (λ answer. (m : Made) × (slice_get (all_made elements.now) element ≡ Some m) × (answer ≡ named_pad m element name.now)) result }
+{
+    match pad_named(elements.settings(element), element, name) {
+        Some(pad) => Ok(pad),
+        None => Err(no_such_pad(alloc, elements.name(element), name)),
+    }
+}
+
+/// The pad of this name of an element, be it a source pad or a sink pad.
+fn pad_named(settings: &Settings, element: u32, name: &str) -> Option<Pad>
+    ensures { result ≡ pad_named settings.now element name.now }
+{
     match Direction::Source.pad_named(settings, name) {
         Some(pad) => Some(Pad {
             direction: Direction::Source,
@@ -59,103 +108,92 @@ fn pad_named(settings: &Settings, element: u32, name: &str) -> Option<Pad> {
     }
 }
 
-impl Elements {
-    /// The name of a pad.
-    pub(crate) fn pad_name(&self, alloc: Global, pad: Pad) -> Result<PadName, OutOfMemory> {
-        Ok(PadName {
-            element: Text::from_str(alloc, self.name(pad.place.element))?,
-            pad: Text::from_str(alloc, pad.direction.name())?,
-        })
-    }
-
-    /// The fault of an element without this.
-    fn lacks(&self, alloc: Global, element: u32, what: What) -> BuildFault {
-        match Text::from_str(alloc, self.name(element)) {
-            Ok(name) => BuildFault::NoSuch { name, what },
-            Err(OutOfMemory) => BuildFault::OutOfMemory,
+impl Direction {
+    /// How many pads of this direction an element has.
+    fn count(self, settings: &Settings) -> u32
+        ensures { result ≡ pad_count self settings.now }
+    {
+        match self {
+            Direction::Source => settings.source_pads(),
+            Direction::Sink => settings.sink_pads(),
         }
     }
 
-    /// The fault of an element that has no pad of this name.
-    fn lacks_pad(&self, alloc: Global, element: u32, pad: &str) -> BuildFault {
-        match dotted(alloc, self.name(element), pad) {
-            Ok(name) => BuildFault::NoSuch { name, what: What::Pad },
-            Err(OutOfMemory) => BuildFault::OutOfMemory,
+    /// The name of a pad of this direction.
+    fn name(self) -> &'static str
+        ensures { result.now ≡ pad_text self }
+    {
+        match self {
+            Direction::Source => "src",
+            Direction::Sink => "sink",
         }
     }
 
-    /// The element at an end of a link. A node that makes an element makes the one of this number.
-    fn element_at(&self, alloc: Global, node: &Node, number: u32) -> Result<u32, BuildFault> {
-        match node {
-            Node::Element { .. } => Ok(number),
-            Node::Caps(_) => Ok(number),
-            Node::Reference { name, .. } => self.element_named(alloc, name),
+    /// What there is not where an element has no pad of this direction.
+    fn missing(self) -> What
+        ensures { result ≡ missing self }
+    {
+        match self {
+            Direction::Source => What::SrcPad,
+            Direction::Sink => What::SinkPad,
         }
     }
 
-    /// The element of this name.
-    fn element_named(&self, alloc: Global, name: &Text) -> Result<u32, BuildFault> {
-        match self.find(name.as_str()) {
-            Some(element) => Ok(element),
-            None => Err(BuildFault::NoSuch {
-                name: name.copy(alloc)?,
-                what: What::Element,
-            }),
-        }
-    }
-
-    /// The pad of an element that a link takes: the one of this name, or else the first of the wanted direction.
-    fn pad_at(
-        &self,
-        alloc: Global,
-        wanted: Direction,
-        element: u32,
-        name: Option<&Text>,
-    ) -> Result<Pad, BuildFault> {
-        let settings = self.settings(element);
-        if wanted.count(settings) == 0 {
-            return Err(self.lacks(alloc, element, wanted.missing()));
-        }
-        let Some(name) = name else {
-            return Ok(Pad {
-                direction: wanted,
-                place: PadPlace { element, pad: 0 },
-            });
-        };
-        match pad_named(settings, element, name.as_str()) {
-            Some(pad) => Ok(pad),
-            None => Err(self.lacks_pad(alloc, element, name.as_str())),
-        }
-    }
-
-    /// The pad that an end of a link takes.
-    pub(crate) fn end_pad(
-        &self,
-        alloc: Global,
-        wanted: Direction,
-        node: &Node,
-        number: u32,
-    ) -> Result<Pad, BuildFault> {
-        match self.element_at(alloc, node, number) {
-            Ok(element) => self.pad_at(alloc, wanted, element, wished_pad(node)),
-            Err(fault) => Err(fault),
+    /// The number of the pad of this direction and this name.
+    fn pad_named(self, settings: &Settings, name: &str) -> Option<u32>
+        ensures { result ≡ pad_number self settings.now name.now }
+    {
+        if self.count(settings) > 0 && name == self.name() {
+            Some(0)
+        } else {
+            None
         }
     }
 }
 
-/// The name of the pad that a node asks for.
-fn wished_pad(node: &Node) -> Option<&Text> {
-    match node {
-        Node::Element { .. } => None,
-        Node::Caps(_) => None,
-        Node::Reference { pad, .. } => pad.as_ref(),
+/// The fault of a line that names something of this name which is not there.
+pub(crate) fn no_such(alloc: Global, name: &str, what: What) -> BuildFault
+    ensures { OrMemory (BuildFault.NoSuch name.now what) result }
+{
+    match Text::from_str(alloc, name) {
+        Ok(name) => BuildFault::NoSuch { name, what },
+        Err(OutOfMemory) => BuildFault::OutOfMemory,
+    }
+}
+
+/// The fault of a line that names a pad which its element does not have.
+fn no_such_pad(alloc: Global, element: &str, pad: &str) -> BuildFault
+    ensures { OrMemory (BuildFault.NoSuch (dotted element.now pad.now) What.Pad) result }
+{
+    match dotted(alloc, element, pad) {
+        Ok(name) => BuildFault::NoSuch {
+            name,
+            what: What::Pad,
+        },
+        Err(OutOfMemory) => BuildFault::OutOfMemory,
     }
 }
 
 /// The name of a pad as one text: its element, a dot and its own name.
-fn dotted(alloc: Global, element: &str, pad: &str) -> Result<Text, OutOfMemory> {
+fn dotted(alloc: Global, element: &str, pad: &str) -> Result<Text, OutOfMemory>
+    ensures { IfOk result (λ name. name ≡ dotted element.now pad.now) }
+{
     let mut name = Text::from_str(alloc, element)?;
     name.push_str(alloc, ".")?;
     name.push_str(alloc, pad)?;
     Ok(name)
+}
+
+/// The name of a pad.
+pub(crate) fn pad_name(
+    alloc: Global,
+    elements: &Elements,
+    pad: Pad,
+) -> Result<PadName, OutOfMemory>
+    requires { pad.place.element < length (all_made elements.now) }
+    ensures { IfOk result (λ name. name ≡ pad_name (all_made elements.now) pad) }
+{
+    let element = Text::from_str(alloc, elements.name(pad.place.element))?;
+    let pad = Text::from_str(alloc, pad.direction.name())?;
+    Ok(PadName { element, pad })
 }

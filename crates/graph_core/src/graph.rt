@@ -1,6 +1,8 @@
 //! The graph of a line.
 use crate::elements::Elements;
-use crate::links::{Links, sink_behind, source_before};
+use crate::ends::pad_name;
+use crate::judging::{sink_behind, source_before};
+use crate::links::Links;
 use crate::pad::{Direction, Pad, PadLink, PadPlace};
 use el_set::Settings;
 use gst_caps::{OutOfMemory, PadName};
@@ -38,38 +40,34 @@ impl Graph {
 
     /// The name of a source pad.
     pub fn source_name(&self, alloc: Global, place: PadPlace) -> Result<PadName, OutOfMemory> {
-        self.elements.pad_name(alloc, Pad {
-            direction: Direction::Source,
-            place,
-        })
+        let direction = Direction::Source;
+        pad_name(alloc, &self.elements, Pad { direction, place })
     }
 
     /// The name of a sink pad.
     pub fn sink_name(&self, alloc: Global, place: PadPlace) -> Result<PadName, OutOfMemory> {
-        self.elements.pad_name(alloc, Pad {
-            direction: Direction::Sink,
-            place,
-        })
+        let direction = Direction::Sink;
+        pad_name(alloc, &self.elements, Pad { direction, place })
     }
 
     /// The links, in the order of the line.
     pub fn links(&self) -> &[PadLink] {
-        self.links.made()
+        self.links.made.as_slice()
     }
 
     /// The sink pad to which a source pad is linked.
     pub fn sink_behind(&self, source: PadPlace) -> Option<PadPlace> {
-        sink_behind(self.links.made(), source)
+        sink_behind(self.links.made.as_slice(), source)
     }
 
     /// The source pad that is linked to a sink pad.
     pub fn source_before(&self, sink: PadPlace) -> Option<PadPlace> {
-        source_before(self.links.made(), sink)
+        source_before(self.links.made.as_slice(), sink)
     }
 
     /// The elements, each once, in an order in which each link that was ever made goes forward.
     pub fn forward(&self) -> &[u32] {
-        self.links.forward()
+        self.links.order.forward()
     }
 
     /// Whether items can come to the element: it is a source, or one of its sink pads is linked to a live element.

@@ -10,6 +10,7 @@ mod naming;
 mod ends;
 mod fault;
 mod graph;
+mod judging;
 mod live;
 mod links;
 mod pad;
