@@ -3,3 +3,4 @@ pub mod ByName
 pub mod Dashes
 pub mod Steps
 pub mod Walks
+pub mod Joining

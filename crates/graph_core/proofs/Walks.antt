@@ -1,5 +1,6 @@
 -- Lists that are gone over from the front.
-use Rattle.std.proofs.Common.{◌≡◌, ◌<◌, ◌≤◌, ◌+◌, ℕ, zero, suc, List, [], ◌∷◌, ◌++◌, length, get_or, drop, map, refl, sym, ap, ◌∙◌, subst, arith, append_assoc, append-nil, Result, Ok, Err}
+use Rattle.std.proofs.Common.{◌≡◌, ◌<◌, ◌≤◌, ◌+◌, ℕ, zero, suc, List, [], ◌∷◌, ◌++◌, length, get_or, drop, drop-cons, map, refl, sym, ap, ◌∙◌, subst, arith, append_assoc, append-nil, Result, Ok, Err}
+use Rattle.std.proofs.lemmas.List.{drop_all}
 use Rattle.graph_core.specs.Asked.{Declared, declared_by, chain_elements, elements_in}
 use Rattle.graph_core.specs.Comes.{Comes}
 use Rattle.graph_core.specs.Elements.{Made, ElementsCome, Follows, Stops}
@@ -8,22 +9,8 @@ use Rattle.launch_text.specs.declared.tree.Node.{Node}
 use Rattle.launch_text.specs.declared.tree.Chain.{Chain}
 
 -- the first of what is left
-first_left : {A : Type 0} (xs : List A) (i : ℕ) (x : A) → i < length xs → x ≡ get_or xs i x → drop i xs ≡ x ∷ drop (suc i) xs
-first_left [] i x within is = absurd (omega arith)
-first_left (y ∷ ys) zero x within is = ap (λ z. z ∷ ys) (sym is)
-first_left (y ∷ ys) (suc i) x within is = first_left ys i x (omega arith) is
-
 pub next_left : {A : Type 0} (xs : List A) (i : ℕ) (x : A) → i < length xs → x ≡ get_or xs i x → drop i xs ≡ x ∷ drop (i + 1) xs
-next_left xs i x within is = let one : suc i ≡ i + 1 = omega arith in subst (λ (n : ℕ). drop i xs ≡ x ∷ drop n xs) one (first_left xs i x within is)
-
-pub none_left : {A : Type 0} (xs : List A) (i : ℕ) → length xs ≤ i → drop i xs ≡ []
-none_left [] i past = drop_none i
-  where
-    drop_none : {A : Type 0} (i : ℕ) → drop {A = A} i [] ≡ []
-    drop_none zero = refl
-    drop_none (suc i) = refl
-none_left (x ∷ xs) zero past = absurd (omega arith)
-none_left (x ∷ xs) (suc i) past = none_left xs i (omega arith)
+next_left xs i x within is = let one : suc i ≡ i + 1 = omega arith in drop-cons xs i x within ∙ ap (λ y. y ∷ drop (suc i) xs) (sym is) ∙ ap (λ n. x ∷ drop n xs) one
 
 module _ (first now new : List Made) (nodes : List Node) (i : ℕ) (node : Node) (within : i < length nodes) (is : node ≡ get_or nodes i node)
     (so_far : (rest : List Declared) (answer : Result (List Made) BuildFault) → ElementsCome now (chain_elements (drop i nodes) ++ rest) answer → ElementsCome first (chain_elements nodes ++ rest) answer) where
@@ -38,7 +25,7 @@ module _ (first now new : List Made) (nodes : List Node) (i : ℕ) (node : Node)
 
 pub nodes_done : (first now : List Made) (nodes : List Node) (i : ℕ) → length nodes ≤ i
     → ((rest : List Declared) (answer : Result (List Made) BuildFault) → ElementsCome now (chain_elements (drop i nodes) ++ rest) answer → ElementsCome first (chain_elements nodes ++ rest) answer) → Follows first (chain_elements nodes) now
-nodes_done first now nodes i past so_far = λ rest answer comes. so_far rest answer (subst (λ (ns : List Node). ElementsCome now (chain_elements ns ++ rest) answer) (sym (none_left nodes i past)) comes)
+nodes_done first now nodes i past so_far = λ rest answer comes. so_far rest answer (subst (λ (ns : List Node). ElementsCome now (chain_elements ns ++ rest) answer) (sym (drop_all i nodes past)) comes)
 
 module _ {R : Type 0} (chain_of : R → Chain) (now new : List Made) (chains : List R) (i : ℕ) (chain : R) (within : i < length chains) (is : chain ≡ get_or chains i chain)
     (so_far : (answer : Result (List Made) BuildFault) → ElementsCome now (elements_in (map chain_of (drop i chains))) answer → ElementsCome [] (elements_in (map chain_of chains)) answer) where
@@ -53,4 +40,4 @@ module _ {R : Type 0} (chain_of : R → Chain) (now new : List Made) (chains : L
 
 pub chains_done : {R : Type 0} (chain_of : R → Chain) (now : List Made) (chains : List R) (i : ℕ) → length chains ≤ i
     → ((answer : Result (List Made) BuildFault) → ElementsCome now (elements_in (map chain_of (drop i chains))) answer → ElementsCome [] (elements_in (map chain_of chains)) answer) → ElementsCome [] (elements_in (map chain_of chains)) (Ok now)
-chains_done chain_of now chains i past so_far = so_far (Ok now) (subst (λ (cs : List _). ElementsCome now (elements_in (map chain_of cs)) (Ok now)) (sym (none_left chains i past)) (Comes.all now))
+chains_done chain_of now chains i past so_far = so_far (Ok now) (subst (λ (cs : List _). ElementsCome now (elements_in (map chain_of cs)) (Ok now)) (sym (drop_all i chains past)) (Comes.all now))

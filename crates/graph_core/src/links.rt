@@ -192,14 +192,15 @@ fn put(
         sink: right.place,
     };
     match links.order.link(alloc, left.place.element, right.place.element) {
-        Ok(Linking::Linked) => {
-            links.made.push(link)?;
-            Ok(())
-        }
+        Ok(Linking::Linked) => {}
         Ok(Linking::Loops) => {
             let name = elements.name(left.place.element);
-            Err(no_such(alloc, name, What::Order))
+            return Err(no_such(alloc, name, What::Order));
         }
-        Err(OutOfMemory) => Err(BuildFault::OutOfMemory),
+        Err(OutOfMemory) => return Err(BuildFault::OutOfMemory),
+    }
+    match links.made.push(link) {
+        Ok(()) => Ok(()),
+        Err(_) => Err(BuildFault::OutOfMemory),
     }
 }
