@@ -4,3 +4,4 @@ pub mod Dashes
 pub mod Steps
 pub mod Walks
 pub mod Joining
+pub mod Marking

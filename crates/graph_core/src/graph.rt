@@ -18,60 +18,100 @@ pub struct Graph {
 }
 
 impl Graph {
+    ghost use Rattle.std.specs.Prelude.{◌≡◌, ◌<◌, ◌≤◌, ◌↔◌, ℕ, Some, length, slice_get, position, IfOk, IsTrue};
+    ghost use Rattle.std.specs.Option.{option_map};
+    ghost use Rattle.graph_order.specs.Forward.{IsMember, GoForward};
+    ghost use Rattle.graph_core.specs.Elements.{Made, is_named, limit};
+    ghost use Rattle.graph_core.specs.Ends.{IsThere, pad_at, pad_name};
+    ghost use Rattle.graph_core.specs.Links.{sink_behind, source_before, ways};
+    ghost use Rattle.graph_core.specs.Live.{Live};
+    ghost use Rattle.graph_core.specs.Graph.{made, links, forward, is_live, IsOrdered};
+
     /// How many elements there are.
-    pub fn count(&self) -> u32 {
+    pub fn count(&self) -> u32
+        ensures count { result ≡ length (made self.now) }
+        ensures few { result ≤ limit }
+    {
         self.elements.count()
     }
 
     /// The number of the element of this name.
-    pub fn find(&self, name: &str) -> Option<u32> {
+    pub fn find(&self, name: &str) -> Option<u32>
+        ensures { result ≡ position (is_named name.now) (made self.now) }
+    {
         self.elements.find(name)
     }
 
     /// The name of an element.
-    pub fn name(&self, element: u32) -> &str {
+    pub fn name(&self, element: u32) -> &str
+        requires { element < length (made self.now) }
+        ensures { option_map (λ (m : Made). m.name) (slice_get (made self.now) element) ≡ Some result.now }
+    {
         self.elements.name(element)
     }
 
     /// What an element is set to.
-    pub fn settings(&self, element: u32) -> &Settings {
+    pub fn settings(&self, element: u32) -> &Settings
+        requires { element < length (made self.now) }
+        ensures { option_map (λ (m : Made). m.settings) (slice_get (made self.now) element) ≡ Some result.now }
+    {
         self.elements.settings(element)
     }
 
     /// The name of a source pad.
-    pub fn source_name(&self, alloc: Global, place: PadPlace) -> Result<PadName, OutOfMemory> {
+    pub fn source_name(&self, alloc: Global, place: PadPlace) -> Result<PadName, OutOfMemory>
+        requires { IsThere (made self.now) (pad_at Direction.Source place.element place.pad) }
+        ensures { IfOk result (λ name. name ≡ pad_name (made self.now) (pad_at Direction.Source place.element place.pad)) }
+    {
         let direction = Direction::Source;
         pad_name(alloc, &self.elements, Pad { direction, place })
     }
 
     /// The name of a sink pad.
-    pub fn sink_name(&self, alloc: Global, place: PadPlace) -> Result<PadName, OutOfMemory> {
+    pub fn sink_name(&self, alloc: Global, place: PadPlace) -> Result<PadName, OutOfMemory>
+        requires { IsThere (made self.now) (pad_at Direction.Sink place.element place.pad) }
+        ensures { IfOk result (λ name. name ≡ pad_name (made self.now) (pad_at Direction.Sink place.element place.pad)) }
+    {
         let direction = Direction::Sink;
         pad_name(alloc, &self.elements, Pad { direction, place })
     }
 
     /// The links, in the order of the line.
-    pub fn links(&self) -> &[PadLink] {
+    pub fn links(&self) -> &[PadLink]
+        ensures { result.now ≡ links self.now }
+    {
         self.links.made.as_slice()
     }
 
     /// The sink pad to which a source pad is linked.
-    pub fn sink_behind(&self, source: PadPlace) -> Option<PadPlace> {
+    pub fn sink_behind(&self, source: PadPlace) -> Option<PadPlace>
+        ensures { result ≡ sink_behind (links self.now) source }
+    {
         sink_behind(self.links.made.as_slice(), source)
     }
 
     /// The source pad that is linked to a sink pad.
-    pub fn source_before(&self, sink: PadPlace) -> Option<PadPlace> {
+    pub fn source_before(&self, sink: PadPlace) -> Option<PadPlace>
+        ensures { result ≡ source_before (links self.now) sink }
+    {
         source_before(self.links.made.as_slice(), sink)
     }
 
     /// The elements, each once, in an order in which each link that was ever made goes forward.
-    pub fn forward(&self) -> &[u32] {
+    pub fn forward(&self) -> &[u32]
+        ensures order { result.now ≡ forward self.now }
+        ensures once { IsOrdered self.now → length result.now ≡ length (made self.now) }
+        ensures whole { IsOrdered self.now → (e : ℕ) → e < length (made self.now) → IsMember e result.now }
+        ensures goes { IsOrdered self.now → GoForward (ways (links self.now)) result.now }
+    {
         self.links.order.forward()
     }
 
     /// Whether items can come to the element: it is a source, or one of its sink pads is linked to a live element.
-    pub fn live(&self, element: u32) -> bool {
+    pub fn live(&self, element: u32) -> bool
+        ensures mark { result ≡ is_live self.now element }
+        ensures live { IsOrdered self.now → IsTrue result ↔ Live (made self.now) (links self.now) element }
+    {
         match self.live.get(element as usize) {
             Some(live) => *live,
             None => false,
