@@ -5,3 +5,4 @@ pub mod Steps
 pub mod Walks
 pub mod Joining
 pub mod Marking
+pub mod Whole

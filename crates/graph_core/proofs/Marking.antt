@@ -1,7 +1,7 @@
 -- Live elements are marked, and no others.
 use Rattle.std.proofs.Common.{◌≡◌, ◌⊎◌, ◌<◌, ◌==◌, ◌||◌, ◌+◌, ℕ, zero, suc, Bool, true, false, List, [], ◌∷◌, ◌++◌, length, get_or, take, map, slice_get, slice_set, Option, None, Some, refl, sym, ap, ◌∙◌, subst, inl, inr, arith, option_map}
 use Rattle.std.proofs.lemmas.Bool.Decides.{Decides-eqb}
-use Rattle.std.proofs.lemmas.List.{length-map, map-append, take_more}
+use Rattle.std.proofs.lemmas.List.{get_or-map, length-map, map-append, take-map, take_more}
 use Rattle.std.proofs.lemmas.Option.{get_or_from_slice_get}
 use Rattle.graph_order.specs.Links.{IsLink, Way}
 use Rattle.graph_order.specs.Marks.{is_marked, unmarked, IsClosed}
@@ -53,15 +53,10 @@ source_more made k s b old new within at is so_far put = by (slice_get made k) r
 
 -- a link of a list
 way_at : (links : List PadLink) (k : ℕ) (link : PadLink) → k < length links → link ≡ get_or links k link → way_of link ≡ get_or (ways links) k (way_of link)
-way_at [] k link within is = absurd (omega arith)
-way_at (l ∷ ls) zero link within is = ap way_of is
-way_at (l ∷ ls) (suc k) link within is = way_at ls k link (omega arith) is
+way_at links k link within is = ap way_of is ∙ sym (get_or-map way_of links k link (way_of link) within)
 
 ways_taken : (links : List PadLink) (k : ℕ) → ways (take k links) ≡ take k (ways links)
-ways_taken [] zero = refl
-ways_taken [] (suc k) = refl
-ways_taken (l ∷ ls) zero = refl
-ways_taken (l ∷ ls) (suc k) = ap (λ ws. way_of l ∷ ws) (ways_taken ls k)
+ways_taken links k = sym (take-map way_of k links)
 
 way_within : (links : List PadLink) (k : ℕ) → k < length links → k < length (ways links)
 way_within links k within = omega (arith, length-map links way_of)
