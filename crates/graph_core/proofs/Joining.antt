@@ -57,6 +57,7 @@ named_there settings element name pad found = by (pad_number Source settings nam
       where
         inner : Some a ≡ Some b → a ≡ b
         inner e = cc
+
     by : (first second : Option ℕ) → pad_number Source settings name ≡ first → pad_number Sink settings name ≡ second
         → option_map_or (λ n. Some (pad_at Source element n)) first (option_map (pad_at Sink element) second) ≡ Some pad → PadIn settings element pad
     by (Some n) second e f h = moved (pad_at Source element n) pad h (refl, number_there Source settings name n e)

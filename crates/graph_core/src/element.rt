@@ -4,8 +4,8 @@ ghost use Rattle.std.specs.List.{list_any};
 ghost use Rattle.graph_core.specs.Elements.{clash};
 ghost use Rattle.graph_core.specs.declared.element.Element.{Element as AnElement};
 
-use gst_caps::Text;
 use el_set::Settings;
+use gst_caps::Text;
 
 /// An element of a line.
 #[derive(Drop)]
@@ -37,5 +37,7 @@ fn clash(one: &Settings, other: &Settings) -> bool
 pub(crate) fn some_clash(elements: &[Element], settings: &Settings) -> bool
     ensures { result ≡ list_any (λ (x : AnElement). clash x.settings settings.now) elements.now }
 {
-    elements.iter().any(|element| clash(&element.settings, settings))
+    elements
+        .iter()
+        .any(|element| clash(&element.settings, settings))
 }

@@ -77,7 +77,10 @@ impl Elements {
     pub(crate) fn count_numbered(&self, kind: &str) -> u32
         ensures { result ≡ numbered kind.now (all_made self.now) }
     {
-        self.by_name.values().filter(|element| is_numbered(element, kind)).count() as u32
+        self.by_name
+            .values()
+            .filter(|element| is_numbered(element, kind))
+            .count() as u32
     }
 
     /// Whether an element has the file that one of these settings would have.

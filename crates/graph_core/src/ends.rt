@@ -185,11 +185,7 @@ fn dotted(alloc: Global, element: &str, pad: &str) -> Result<Text, OutOfMemory>
 }
 
 /// The name of a pad.
-pub(crate) fn pad_name(
-    alloc: Global,
-    elements: &Elements,
-    pad: Pad,
-) -> Result<PadName, OutOfMemory>
+pub(crate) fn pad_name(alloc: Global, elements: &Elements, pad: Pad) -> Result<PadName, OutOfMemory>
     requires { pad.place.element < length (all_made elements.now) }
     ensures { IfOk result (λ name. name ≡ pad_name (all_made elements.now) pad) }
 {

@@ -26,15 +26,27 @@ pub enum What {
 #[derive(Drop)]
 pub enum BuildFault {
     /// Something that the line names is not there.
-    NoSuch { name: Text, what: What },
+    NoSuch {
+        name: Text,
+        what: What,
+    },
     /// The value is none of this property, or the element needs the property and it was not given.
-    BadValue { name: Text, property: Text },
+    BadValue {
+        name: Text,
+        property: Text,
+    },
     /// An element before has the name.
-    NameTaken { name: Text },
+    NameTaken {
+        name: Text,
+    },
     /// An element before writes the file, or reads what this one would write.
-    LocationTaken { location: Text },
+    LocationTaken {
+        location: Text,
+    },
     /// There are more elements than a graph has. `count` is 257.
-    TooMany { count: u32 },
+    TooMany {
+        count: u32,
+    },
     /// The two pads cannot be linked.
     LinkRefused {
         a: PadName,

@@ -5,14 +5,14 @@ mod building;
 mod chains;
 mod element;
 mod elements;
-mod making;
-mod naming;
 mod ends;
 mod fault;
 mod graph;
 mod judging;
-mod live;
 mod links;
+mod live;
+mod making;
+mod naming;
 mod pad;
 
 pub use building::build;

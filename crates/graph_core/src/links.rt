@@ -10,8 +10,8 @@ use crate::ends::{end_pad, no_such};
 use crate::fault::{BuildFault, What};
 use crate::judging::{refusal, refused};
 use crate::pad::{Direction, Pad, PadLink};
-use gst_caps::OutOfMemory;
 use graph_order::{Linking, Order};
+use gst_caps::OutOfMemory;
 use launch_text::{Chain, Node};
 use std::alloc::Global;
 
@@ -142,7 +142,13 @@ fn add(
         Ok(pad) => pad,
         Err(fault) => return Err(fault),
     };
-    let sink = match end_pad(alloc, elements, Direction::Sink, right, number + made_by(left)) {
+    let sink = match end_pad(
+        alloc,
+        elements,
+        Direction::Sink,
+        right,
+        number + made_by(left),
+    ) {
         Ok(pad) => pad,
         Err(fault) => return Err(fault),
     };
@@ -191,7 +197,10 @@ fn put(
         source: left.place,
         sink: right.place,
     };
-    match links.order.link(alloc, left.place.element, right.place.element) {
+    match links
+        .order
+        .link(alloc, left.place.element, right.place.element)
+    {
         Ok(Linking::Linked) => {}
         Ok(Linking::Loops) => {
             let name = elements.name(left.place.element);

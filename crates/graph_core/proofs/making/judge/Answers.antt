@@ -4,7 +4,7 @@ use Rattle.graph_core.proofs.Steps.{found_any, taken_location, name_refused, loc
 use Rattle.graph_core.proofs.making.judge.Goals as goal
 
 pub returns-then-is_some : goal.returns-then-is_some
-returns-then-is_some c = 
+returns-then-is_some c =
     let found = sym (found_any (is_named c.args.name.now) (all_made c.args.before.now)) ∙ ap is_some (sym c.find.ensures) ∙ sym c.is_some.ensures ∙ c.if-is_some.true in
     name_refused (all_made c.args.before.now) c.args.name.now c.args.settings.now c.name_taken.result found c.name_taken.ensures
 
