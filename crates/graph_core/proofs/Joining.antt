@@ -1,5 +1,5 @@
 -- One link more, or the fault of one.
-use Rattle.std.proofs.Common.{◌≡◌, ◌⊎◌, ◌<◌, ◌≤◌, ◌&&◌, ◌==◌, ◌+◌, ℕ, suc, Bool, true, false, cond, List, [], ◌∷◌, ◌++◌, length, map, refl, sym, ap, ◌∙◌, subst, arith, bytes_eq, position, slice_get, Option, None, Some, Ok, Err, Result, nat_lt, MatchOption, if◌then◌else◌, inl, inr, eqb, OnOk, IfErr, drop}
+use Rattle.std.proofs.Common.{◌≡◌, ◌⊎◌, ◌<◌, ◌≤◌, ◌&&◌, ◌==◌, ◌+◌, ℕ, suc, Bool, true, false, cond, List, [], ◌∷◌, ◌++◌, length, map, refl, sym, ap, ◌∙◌, subst, arith, bytes_eq, position, slice_get, Option, None, Some, Ok, Err, Result, nat_lt, MatchOption, if◌then◌else◌, inl, inr, eqb, OnOk, IfErr, IfOk, IfSome, drop, not, ◌||◌, All}
 use Rattle.std.specs.Option.{option_map, option_map_or}
 use Rattle.std.proofs.lemmas.Bool.{ltb-true}
 use Rattle.std.proofs.lemmas.Bool.Decides.{eqb_tells, nat_tests}
@@ -15,8 +15,8 @@ use Rattle.graph_core.specs.Asked.{End, own, named, links_in}
 use Rattle.launch_text.specs.declared.tree.Chain.{Chain}
 use Rattle.graph_core.specs.Comes.{Comes}
 use Rattle.graph_core.specs.Elements.{Made, is_named, OrMemory}
-use Rattle.graph_core.specs.Ends.{IsEndPad, IsPadOf, IsThere, PadOrMemory, dotted, missing, name_at, named_pad, pad_at, pad_count, pad_name, pad_named, pad_number, pad_text, taken_pad}
-use Rattle.graph_core.specs.Links.{IsJoined, IsJudged, IsLinked, IsUnjoined, IsUnlinked, Joins, Leads, LinksCome, LinksFollow, LinksStop, one_link, way_of, ways}
+use Rattle.graph_core.specs.Ends.{IsEndPad, IsPadOf, IsThere, PadOrMemory, dotted, missing, name_at, named_pad, pad_at, pad_count, pad_name, pad_named, pad_number, pad_text, pads_at, taken_pad}
+use Rattle.graph_core.specs.Links.{HasPads, IsJoined, IsJudged, IsLinked, IsUnjoined, IsUnlinked, Joins, Leads, LinksCome, LinksFollow, LinksStop, is_same, leaves, one_link, sink_behind, source_before, way_of, ways}
 use Rattle.graph_core.specs.declared.fault.BuildFault.{BuildFault}
 use Rattle.graph_core.specs.declared.fault.BuildFault.TheVariants.{NoSuch, LinkRefused, OutOfMemory}
 use Rattle.graph_core.specs.declared.fault.What.TheVariants.{Order as NoOrder, Pad as NoPad, Element as NoElement}
@@ -24,6 +24,8 @@ use Rattle.graph_core.specs.declared.pad.Direction.{Direction}
 use Rattle.graph_core.specs.declared.pad.Direction.TheVariants.{Source, Sink}
 use Rattle.graph_core.specs.declared.pad.Pad.{Pad}
 use Rattle.graph_core.specs.declared.pad.PadLink.{PadLink}
+use Rattle.graph_core.specs.declared.pad.PadPlace.{PadPlace}
+use Rattle.std.proofs.lemmas.List.Elements.{All-push}
 
 -- a pad that is found is there
 number_there : (direction : Direction) (settings : Settings) (name : List ℕ) (n : ℕ) → pad_number direction settings name ≡ Some n → n < pad_count direction settings
@@ -162,3 +164,54 @@ pub all_linked : {R : Type 0} (chain_of : R → Chain) (made : List Made) (links
     → ((answer : Result (List PadLink) BuildFault) → LinksCome made links (links_in n (map chain_of (drop i chains))) answer → LinksCome made [] (links_in 0 (map chain_of chains)) answer)
     → LinksCome made [] (links_in 0 (map chain_of chains)) (Ok links)
 all_linked {R} chain_of made links n chains i past follow = follow (Ok links) (subst (λ (cs : List R). LinksCome made links (links_in n (map chain_of cs)) (Ok links)) (sym (drop_all i chains past)) (Comes.all links))
+
+-- a pad of an element that has so many
+pub number_in : (made : List Made) (direction : Direction) (element number : ℕ) → number < pads_at made direction element → IsThere made (pad_at direction element number)
+number_in made direction element number h = by (slice_get made element) refl h
+  where
+    by : (o : Option Made) → slice_get made element ≡ o → number < option_map_or (λ (m : Made). pad_count direction m.settings) o 0 → IsThere made (pad_at direction element number)
+    by None e h = absurd (omega (arith, h))
+    by (Some m) e h = (m, e, h)
+
+in_number : (made : List Made) (pad : Pad) → IsThere made pad → pad.place.pad < pads_at made pad.direction pad.place.element
+in_number made pad there = let P : Option Made → Type 0 = λ o. pad.place.pad < option_map_or (λ (m : Made). pad_count pad.direction m.settings) o 0 in subst P (sym there.1) there.2
+
+rightly : (a b : Direction) → (not (leaves a) || leaves b) ≡ false → (a ≡ Source) × (b ≡ Sink)
+rightly Source Source h = absurd (cc)
+rightly Source Sink h = (refl, refl)
+rightly Sink b h = absurd (cc)
+
+joint_pads : (made : List Made) (links : List PadLink) (ends : End × End) (link : PadLink) → IsLinked made links ends link → HasPads made link
+joint_pads made links ends link h =
+    let right_ways = rightly h.left.direction h.right.direction h.joined.judged.0 in
+    let l = in_number made h.left (end_is_there made Source ends.0 h.left h.leaves) in
+    let r = in_number made h.right (end_is_there made Sink ends.1 h.right h.enters) in (
+      subst (λ (p : PadPlace). p.pad < pads_at made Source p.element) (sym h.joined.source) (subst (λ (d : Direction). h.left.place.pad < pads_at made d h.left.place.element) right_ways.0 l),
+      subst (λ (p : PadPlace). p.pad < pads_at made Sink p.element) (sym h.joined.sink) (subst (λ (d : Direction). h.right.place.pad < pads_at made d h.right.place.element) right_ways.1 r),
+    )
+
+all_pads : (made : List Made) (links : List PadLink) (ends : List (End × End)) (answer : Result (List PadLink) BuildFault) → LinksCome made links ends answer → All (HasPads made) links → IfOk answer (All (HasPads made))
+all_pads made links ends answer (Comes.all ls) h = h
+all_pads made links ends answer (Comes.more ls e l rest a makes comes) h = all_pads made (ls ++ l ∷ []) rest a comes (All-push (HasPads made) ls l h (joint_pads made ls e l makes))
+all_pads made links ends answer (Comes.stop ls e rest fault why) h = tt
+
+-- the pads of the links of a line are there
+pub linked_pads : (made : List Made) (ends : List (End × End)) (links : List PadLink) → LinksCome made [] ends (Ok links) → All (HasPads made) links
+linked_pads made ends links comes = all_pads made [] ends (Ok links) comes (λ k d within. absurd (omega arith))
+
+-- and so are those that are found in them
+pub sink_found : (made : List Made) (links : List PadLink) (source : PadPlace) → All (HasPads made) links → IfSome (sink_behind links source) (λ sink. sink.pad < pads_at made Sink sink.element)
+sink_found made [] source h = tt
+sink_found made (link ∷ links) source h = by (is_same link.source source) (sink_found made links source (λ k d within. h (suc k) d (omega (arith, within))))
+  where
+    by : (b : Bool) → IfSome (sink_behind links source) (λ sink. sink.pad < pads_at made Sink sink.element) → IfSome (if b then Some link.sink else sink_behind links source) (λ sink. sink.pad < pads_at made Sink sink.element)
+    by true rest = (h 0 link (omega arith)).1
+    by false rest = rest
+
+pub source_found : (made : List Made) (links : List PadLink) (sink : PadPlace) → All (HasPads made) links → IfSome (source_before links sink) (λ source. source.pad < pads_at made Source source.element)
+source_found made [] sink h = tt
+source_found made (link ∷ links) sink h = by (is_same link.sink sink) (source_found made links sink (λ k d within. h (suc k) d (omega (arith, within))))
+  where
+    by : (b : Bool) → IfSome (source_before links sink) (λ source. source.pad < pads_at made Source source.element) → IfSome (if b then Some link.source else source_before links sink) (λ source. source.pad < pads_at made Source source.element)
+    by true rest = (h 0 link (omega arith)).0
+    by false rest = rest

@@ -79,3 +79,7 @@ PadOrMemory Is answer = Is answer ⊎ (answer ≡ Err OutOfMemory)
 -- the pad is one of its element
 abbrev pub IsThere : List Made → Pad → Type 0
 IsThere made pad = (m : Made) × (slice_get made pad.place.element ≡ Some m) × (pad.place.pad < pad_count pad.direction m.settings)
+
+-- how many pads of a direction an element has, where it is there
+abbrev pub pads_at : List Made → Direction → ℕ → ℕ
+pads_at made direction element = option_map_or (λ (m : Made). pad_count direction m.settings) (slice_get made element) 0

@@ -1,11 +1,11 @@
 -- The graph of a launch line.
-use Rattle.std.specs.Prelude.{◌≡◌, ◌⊎◌, ◌<◌, ℕ, Bool, List, [], Result, Ok, Err, length}
+use Rattle.std.specs.Prelude.{◌≡◌, ◌⊎◌, ◌<◌, ℕ, Bool, All, List, [], Result, Ok, Err, length}
 use Rattle.launch_text.specs.declared.tree.Tree.{Tree}
 use Rattle.graph_order.specs.Forward.{IsMember, GoForward, forward_of}
 use Rattle.graph_order.specs.Marks.{is_marked}
 use Rattle.graph_core.specs.Asked.{asked, declared}
 use Rattle.graph_core.specs.Elements.{ElementsCome, Made, all_made}
-use Rattle.graph_core.specs.Links.{AreOrdered, LinksCome, all_links, ways}
+use Rattle.graph_core.specs.Links.{AreOrdered, HasPads, LinksCome, all_links, ways}
 use Rattle.graph_core.specs.Live.{AreLive}
 use Rattle.graph_core.specs.declared.fault.BuildFault.{BuildFault}
 use Rattle.graph_core.specs.declared.fault.BuildFault.TheVariants.{OutOfMemory}
@@ -39,7 +39,8 @@ IsFault tree fault =
 abbrev pub IsFaultOrMemory : Tree → BuildFault → Type 0
 IsFaultOrMemory tree fault = (fault ≡ OutOfMemory) ⊎ IsFault tree fault
 
--- Each element stands in the order once, each link goes forward, and the live elements are marked.
-pub record IsOrdered (graph : Graph) : Type 0 where
+-- Each element stands in the order once, and each link goes forward; its pads are there; the live elements are marked.
+pub record IsSound (graph : Graph) : Type 0 where
+  pub pads : All (HasPads (made graph)) (links graph)
   pub order : AreOrdered (made graph) graph.links
   pub live : AreLive (made graph) (links graph) graph.live.items

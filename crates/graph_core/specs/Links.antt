@@ -1,5 +1,5 @@
 -- Which links a line has, and why it has none.
-use Rattle.std.specs.Prelude.{◌≡◌, ◌==◌, ◌&&◌, ◌||◌, ℕ, Bool, true, false, not, List, [], ◌∷◌, ◌++◌, Option, None, Some, Result, Ok, Err, if◌then◌else◌, IsTrue, is_some, map, length, vec_len, slice_get}
+use Rattle.std.specs.Prelude.{◌≡◌, ◌<◌, ◌==◌, ◌&&◌, ◌||◌, ℕ, Bool, true, false, not, List, [], ◌∷◌, ◌++◌, Option, None, Some, Result, Ok, Err, if◌then◌else◌, IsTrue, is_some, map, length, vec_len, slice_get}
 use Rattle.std.specs.Option.{option_map_or}
 use Rattle.gst_caps.specs.Accepts.{accepts}
 use Rattle.gst_caps.specs.Description.{Description, IsFixed}
@@ -15,7 +15,7 @@ use Rattle.el_set.specs.Asked.{template_of}
 use Rattle.graph_core.specs.Comes.{Comes}
 use Rattle.graph_core.specs.Asked.{End}
 use Rattle.graph_core.specs.Elements.{Made}
-use Rattle.graph_core.specs.Ends.{IsEndPad, name_at, pad_name}
+use Rattle.graph_core.specs.Ends.{IsEndPad, name_at, pad_name, pads_at}
 use Rattle.graph_core.specs.declared.fault.BuildFault.{BuildFault}
 use Rattle.graph_core.specs.declared.fault.BuildFault.TheVariants.{NoSuch, LinkRefused, OutOfMemory}
 use Rattle.graph_core.specs.declared.fault.What.TheVariants.{Order}
@@ -108,6 +108,10 @@ pub data IsUnlinked (made : List Made) (links : List PadLink) (ends : End × End
 -- the links of a line between its elements, or why it has none
 abbrev pub LinksCome : List Made → List PadLink → List (End × End) → Result (List PadLink) BuildFault → Type 0
 LinksCome made = Comes (IsLinked made) (IsUnlinked made)
+
+-- the link's pads are those of its elements
+abbrev pub HasPads : List Made → PadLink → Type 0
+HasPads made link = (link.source.pad < pads_at made Source link.source.element) × (link.sink.pad < pads_at made Sink link.sink.element)
 
 -- Whatever comes of what is behind comes of these links before it.
 abbrev pub LinksFollow : List Made → List PadLink → List (End × End) → List PadLink → Type 0

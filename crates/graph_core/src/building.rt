@@ -1,6 +1,6 @@
 //! Builds the graph of a line.
 ghost use Rattle.std.specs.Prelude.{IfOk, IfErr};
-ghost use Rattle.graph_core.specs.Graph.{IsGraph, IsFaultOrMemory, IsOrdered};
+ghost use Rattle.graph_core.specs.Graph.{IsGraph, IsFaultOrMemory, IsSound};
 
 use crate::chains::chains_of;
 use crate::fault::BuildFault;
@@ -15,7 +15,7 @@ use std::alloc::Global;
 /// is answered.
 pub fn build(alloc: Global, tree: &Tree) -> Result<Graph, BuildFault>
     ensures graph { IfOk result (IsGraph tree.now) }
-    ensures ordered { IfOk result IsOrdered }
+    ensures sound { IfOk result IsSound }
     ensures fault { IfErr result (IsFaultOrMemory tree.now) }
 {
     let chains = chains_of(alloc, tree)?;

@@ -18,14 +18,14 @@ pub struct Graph {
 }
 
 impl Graph {
-    ghost use Rattle.std.specs.Prelude.{◌≡◌, ◌<◌, ◌≤◌, ◌↔◌, ℕ, Some, length, slice_get, position, IfOk, IsTrue};
+    ghost use Rattle.std.specs.Prelude.{◌≡◌, ◌<◌, ◌≤◌, ◌↔◌, ℕ, Some, length, slice_get, position, IfOk, IfSome, IsTrue};
     ghost use Rattle.std.specs.Option.{option_map};
     ghost use Rattle.graph_order.specs.Forward.{IsMember, GoForward};
     ghost use Rattle.graph_core.specs.Elements.{Made, is_named, limit};
-    ghost use Rattle.graph_core.specs.Ends.{IsThere, pad_at, pad_name};
+    ghost use Rattle.graph_core.specs.Ends.{pad_at, pad_name, pads_at};
     ghost use Rattle.graph_core.specs.Links.{sink_behind, source_before, ways};
     ghost use Rattle.graph_core.specs.Live.{Live};
-    ghost use Rattle.graph_core.specs.Graph.{made, links, forward, is_live, IsOrdered};
+    ghost use Rattle.graph_core.specs.Graph.{made, links, forward, is_live, IsSound};
 
     /// How many elements there are.
     pub fn count(&self) -> u32
@@ -58,9 +58,25 @@ impl Graph {
         self.elements.settings(element)
     }
 
+    /// How many source pads an element has.
+    pub fn source_pads(&self, element: u32) -> u32
+        requires { element < length (made self.now) }
+        ensures { result ≡ pads_at (made self.now) Direction.Source element }
+    {
+        self.elements.settings(element).source_pads()
+    }
+
+    /// How many sink pads an element has.
+    pub fn sink_pads(&self, element: u32) -> u32
+        requires { element < length (made self.now) }
+        ensures { result ≡ pads_at (made self.now) Direction.Sink element }
+    {
+        self.elements.settings(element).sink_pads()
+    }
+
     /// The name of a source pad.
     pub fn source_name(&self, alloc: Global, place: PadPlace) -> Result<PadName, OutOfMemory>
-        requires { IsThere (made self.now) (pad_at Direction.Source place.element place.pad) }
+        requires { place.pad < pads_at (made self.now) Direction.Source place.element }
         ensures { IfOk result (λ name. name ≡ pad_name (made self.now) (pad_at Direction.Source place.element place.pad)) }
     {
         let direction = Direction::Source;
@@ -69,7 +85,7 @@ impl Graph {
 
     /// The name of a sink pad.
     pub fn sink_name(&self, alloc: Global, place: PadPlace) -> Result<PadName, OutOfMemory>
-        requires { IsThere (made self.now) (pad_at Direction.Sink place.element place.pad) }
+        requires { place.pad < pads_at (made self.now) Direction.Sink place.element }
         ensures { IfOk result (λ name. name ≡ pad_name (made self.now) (pad_at Direction.Sink place.element place.pad)) }
     {
         let direction = Direction::Sink;
@@ -85,14 +101,16 @@ impl Graph {
 
     /// The sink pad to which a source pad is linked.
     pub fn sink_behind(&self, source: PadPlace) -> Option<PadPlace>
-        ensures { result ≡ sink_behind (links self.now) source }
+        ensures pad { result ≡ sink_behind (links self.now) source }
+        ensures there { IsSound self.now → IfSome result (λ sink. sink.pad < pads_at (made self.now) Direction.Sink sink.element) }
     {
         sink_behind(self.links.made.as_slice(), source)
     }
 
     /// The source pad that is linked to a sink pad.
     pub fn source_before(&self, sink: PadPlace) -> Option<PadPlace>
-        ensures { result ≡ source_before (links self.now) sink }
+        ensures pad { result ≡ source_before (links self.now) sink }
+        ensures there { IsSound self.now → IfSome result (λ source. source.pad < pads_at (made self.now) Direction.Source source.element) }
     {
         source_before(self.links.made.as_slice(), sink)
     }
@@ -100,9 +118,9 @@ impl Graph {
     /// The elements, each once, in an order in which each link that was ever made goes forward.
     pub fn forward(&self) -> &[u32]
         ensures order { result.now ≡ forward self.now }
-        ensures once { IsOrdered self.now → length result.now ≡ length (made self.now) }
-        ensures whole { IsOrdered self.now → (e : ℕ) → e < length (made self.now) → IsMember e result.now }
-        ensures goes { IsOrdered self.now → GoForward (ways (links self.now)) result.now }
+        ensures once { IsSound self.now → length result.now ≡ length (made self.now) }
+        ensures whole { IsSound self.now → (e : ℕ) → e < length (made self.now) → IsMember e result.now }
+        ensures goes { IsSound self.now → GoForward (ways (links self.now)) result.now }
     {
         self.links.order.forward()
     }
@@ -110,7 +128,7 @@ impl Graph {
     /// Whether items can come to the element: it is a source, or one of its sink pads is linked to a live element.
     pub fn live(&self, element: u32) -> bool
         ensures mark { result ≡ is_live self.now element }
-        ensures live { IsOrdered self.now → IsTrue result ↔ Live (made self.now) (links self.now) element }
+        ensures live { IsSound self.now → IsTrue result ↔ Live (made self.now) (links self.now) element }
     {
         match self.live.get(element as usize) {
             Some(live) => *live,

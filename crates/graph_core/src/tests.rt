@@ -93,7 +93,7 @@ fn put_element(alloc: Global, into: &mut String, graph: &Graph, element: u32) ->
         into.push('*')?;
     }
     if let Some(sink) = graph.sink_behind(PadPlace { element, pad: 0 }) {
-        if sink.element >= graph.count() {
+        if sink.element >= graph.count() || sink.pad >= graph.sink_pads(sink.element) {
             Err("a sink")?;
         }
         into.push('=')?;
