@@ -6,3 +6,4 @@ pub mod Walks
 pub mod Joining
 pub mod Marking
 pub mod Whole
+pub mod OneAnswer

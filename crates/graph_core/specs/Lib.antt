@@ -5,3 +5,4 @@ pub mod Ends
 pub mod Links
 pub mod Live
 pub mod Graph
+pub mod Laws

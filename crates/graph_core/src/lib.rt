@@ -9,6 +9,7 @@ mod ends;
 mod fault;
 mod graph;
 mod judging;
+mod laws;
 mod links;
 mod live;
 mod making;
@@ -18,6 +19,7 @@ mod pad;
 pub use building::build;
 pub use fault::{BuildFault, What};
 pub use graph::Graph;
+pub use laws::one_answer;
 pub use pad::{PadLink, PadPlace};
 
 #[cfg(test)]

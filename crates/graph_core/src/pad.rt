@@ -1,7 +1,7 @@
 //! Pads of elements.
 
 /// The way in which items pass a pad.
-#[derive(Clone, Copy, PartialEq, Eq)]
+#[derive(Clone, Copy)]
 pub(crate) enum Direction {
     Source,
     Sink,

@@ -130,11 +130,25 @@ fn check_row(rt: &impl Abort, alloc: Global, row: &str) -> Result<(), Fail> {
     Ok(())
 }
 
+/// A line of so many sinks.
+fn sinks(alloc: Global, count: u32) -> Result<String, Fail> {
+    let mut line = String::new(alloc);
+    for _ in 0..count {
+        line.push_str("fakesink ")?;
+    }
+    Ok(line)
+}
+
 #[test]
 fn rows(rt: HostRuntime) -> Result<(), Fail> {
     let alloc = rt.alloc();
     for row in ROWS.lines() {
         check_row(&rt, alloc, row)?;
     }
+    assert!(rt; told(alloc, sinks(alloc, 256)?.as_str())?.ends_with(" fakesink255"));
+    assert_eq!(rt;
+        told(alloc, sinks(alloc, 257)?.as_str())?.as_str(),
+        "TooMany 257"
+    );
     Ok(())
 }
