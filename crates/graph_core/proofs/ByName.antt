@@ -1,8 +1,8 @@
 -- Elements by their names.
-use Rattle.std.proofs.Common.{◌≡◌, ◌<◌, ◌+◌, ◌==◌, ◌&&◌, ◌||◌, ℕ, suc, Bool, true, false, not, cond, List, [], ◌∷◌, ◌++◌, length, map, refl, sym, ap, ◌∙◌, arith, bytes_eq, count_by, fold, position, Option, None, Some, is_some, is_none, nat_lt, String, string_bytes, string_eq, if◌then◌else◌}
+use Rattle.std.proofs.Common.{◌≡◌, ◌+◌, ◌&&◌, ◌||◌, ℕ, Bool, true, false, not, cond, List, [], ◌∷◌, ◌++◌, map, refl, ap, bytes_eq, count_by, fold, position, String, string_bytes, string_eq, if◌then◌else◌}
 use Rattle.std.proofs.lemmas.List.{length-map}
 use Rattle.indexmap.specs.IndexMap.{insert_entry}
-use Rattle.std.specs.List.{list_any, prefix_len, position_or_len}
+use Rattle.std.specs.List.{list_any, position_or_len}
 use Rattle.el_set.specs.declared.settings.Settings.{Settings}
 use Rattle.graph_core.specs.Elements.{Made, made_of, has_number_of, numbered, is_named, is_name_taken, clash, is_location_taken}
 use Rattle.graph_core.specs.declared.element.Element.{Element}

@@ -1,14 +1,12 @@
 -- One link more, or the fault of one.
-use Rattle.std.proofs.Common.{◌≡◌, ◌⊎◌, ◌<◌, ◌≤◌, ◌&&◌, ◌==◌, ◌+◌, ℕ, suc, Bool, true, false, cond, List, [], ◌∷◌, ◌++◌, length, map, refl, sym, ap, ◌∙◌, subst, arith, bytes_eq, position, slice_get, Option, None, Some, Ok, Err, Result, nat_lt, MatchOption, if◌then◌else◌, inl, inr, eqb, OnOk, IfErr, IfOk, IfSome, drop, not, ◌||◌, All}
+use Rattle.std.proofs.Common.{◌≡◌, ◌<◌, ◌≤◌, ◌&&◌, ◌==◌, ℕ, suc, Bool, true, false, List, [], ◌∷◌, ◌++◌, length, map, refl, sym, ap, ◌∙◌, subst, arith, bytes_eq, position, slice_get, Option, None, Some, Ok, Err, Result, nat_lt, MatchOption, if◌then◌else◌, inl, inr, OnOk, IfErr, IfOk, IfSome, drop, not, ◌||◌, All}
 use Rattle.std.specs.Option.{option_map, option_map_or}
 use Rattle.std.proofs.lemmas.Bool.{ltb-true}
-use Rattle.std.proofs.lemmas.Bool.Decides.{eqb_tells, nat_tests}
+use Rattle.std.proofs.lemmas.Bool.Decides.{nat_tests}
 use Rattle.std.proofs.lemmas.List.{drop_all, map-append}
 use Rattle.std.proofs.lemmas.Option.{slice_get_within}
-use Rattle.graph_order.specs.Forward.{IsForward, AfterLink, count_of, link_of, links_of}
-use Rattle.graph_order.specs.declared.link.Link.{Link}
+use Rattle.graph_order.specs.Forward.{link_of, links_of}
 use Rattle.graph_order.specs.declared.order.Order.{Order}
-use Rattle.graph_order.specs.declared.order.Linking.TheVariants.{Linked, Loops}
 use Rattle.el_set.specs.declared.settings.Settings.{Settings}
 use Rattle.pad_core.specs.declared.linking.LinkReturn.{LinkReturn}
 use Rattle.graph_core.specs.Asked.{End, own, named, links_in}
@@ -16,7 +14,7 @@ use Rattle.launch_text.specs.declared.tree.Chain.{Chain}
 use Rattle.graph_core.specs.Comes.{Comes}
 use Rattle.graph_core.specs.Elements.{Made, is_named, OrMemory}
 use Rattle.graph_core.specs.Ends.{IsEndPad, IsPadOf, IsThere, PadOrMemory, dotted, missing, name_at, named_pad, pad_at, pad_count, pad_name, pad_named, pad_number, pad_text, pads_at, taken_pad}
-use Rattle.graph_core.specs.Links.{HasPads, IsJoined, IsJudged, IsLinked, IsUnjoined, IsUnlinked, Joins, Leads, LinksCome, LinksFollow, LinksStop, is_same, leaves, one_link, sink_behind, source_before, way_of, ways}
+use Rattle.graph_core.specs.Links.{HasPads, IsJudged, IsLinked, IsUnjoined, IsUnlinked, Joins, Leads, LinksCome, LinksFollow, LinksStop, is_same, leaves, sink_behind, source_before, way_of, ways}
 use Rattle.graph_core.specs.declared.fault.BuildFault.{BuildFault}
 use Rattle.graph_core.specs.declared.fault.BuildFault.TheVariants.{NoSuch, LinkRefused, OutOfMemory}
 use Rattle.graph_core.specs.declared.fault.What.TheVariants.{Order as NoOrder, Pad as NoPad, Element as NoElement}

@@ -4,14 +4,14 @@ use Rattle.std.proofs.lemmas.Bool.Decides.{Decides-eqb}
 use Rattle.std.proofs.lemmas.List.{get_or-map, length-map, map-append, take-map, take_more}
 use Rattle.std.proofs.lemmas.Option.{get_or_from_slice_get}
 use Rattle.graph_order.specs.Links.{IsLink, Way}
-use Rattle.graph_order.specs.Marks.{is_marked, unmarked, IsClosed}
+use Rattle.graph_order.specs.Marks.{is_marked, IsClosed}
 use Rattle.graph_order.specs.declared.link.Link.{Link}
-use Rattle.graph_order.proofs.Reached.{set_only, ways_marked, link_at, closed_with, get_or-irrelevant}
+use Rattle.graph_order.proofs.Reached.{set_only, ways_marked, link_at, closed_with}
 use Rattle.el_set.specs.Asked.{sink_pads}
 use Rattle.el_set.specs.declared.settings.Settings.{Settings}
 use Rattle.graph_core.specs.Elements.{Made}
 use Rattle.graph_core.specs.Links.{way_of, ways}
-use Rattle.graph_core.specs.Live.{Live, AllLive, AreLive, is_source}
+use Rattle.graph_core.specs.Live.{Live, AllLive, is_source}
 use Rattle.graph_core.specs.declared.pad.PadLink.{PadLink}
 
 pub mark_live : (made : List Made) (links : List PadLink) (from to : ℕ) (marks : List Bool) → IsLink from to (ways links) → is_marked marks from ≡ true → AllLive made links marks → AllLive made links (slice_set marks to true)

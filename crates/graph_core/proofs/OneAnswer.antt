@@ -1,16 +1,16 @@
 -- A line has one graph, or one fault.
-use Rattle.std.proofs.Common.{◌≡◌, ◌⊎◌, ◌<◌, ◌≤◌, ◌||◌, ℕ, Bool, true, false, not, List, [], ◌∷◌, ◌++◌, length, Option, None, Some, Result, Ok, Err, MatchOption, position, slice_get, refl, sym, ap, ◌∙◌, subst, inl, inr, arith, is_some}
+use Rattle.std.proofs.Common.{◌≡◌, ◌⊎◌, ℕ, Bool, true, false, List, [], ◌∷◌, ◌++◌, Option, None, Some, Result, Ok, Err, MatchOption, position, slice_get, refl, sym, ap, ◌∙◌, subst, inl, inr, arith}
 use Rattle.el_set.specs.Asked.{location_of}
 use Rattle.el_set.specs.Checked.{IsAnswer}
 use Rattle.el_set.specs.declared.fault.PropFault.{PropFault}
-use Rattle.el_set.specs.declared.fault.PropFault.TheVariants.{NoSuchKind, NoSuchProperty, BadValue as BadPropValue, OutOfMemory as NoPropMemory}
+use Rattle.el_set.specs.declared.fault.PropFault.TheVariants.{NoSuchKind, NoSuchProperty, BadValue as BadPropValue}
 use Rattle.el_set.specs.declared.settings.Settings.{Settings}
 use Rattle.pad_core.specs.declared.linking.LinkReturn.{LinkReturn}
 use Rattle.pad_core.specs.declared.linking.LinkReturn.TheVariants.{WasLinked, WrongDirection, NoFormat}
 use Rattle.launch_text.specs.declared.tree.Tree.{Tree}
 use Rattle.graph_core.specs.Asked.{Declared, End, own, named, asked, declared}
 use Rattle.graph_core.specs.Comes.{Comes}
-use Rattle.graph_core.specs.Elements.{Made, ElementsCome, IsMade, IsUnmade, IsPlaced, is_name_taken, is_location_taken, is_named, limit, name_of, settings_fault, given_name}
+use Rattle.graph_core.specs.Elements.{Made, ElementsCome, IsMade, IsUnmade, IsPlaced, is_name_taken, is_location_taken, is_named, name_of, settings_fault}
 use Rattle.graph_core.specs.Ends.{IsEndPad, IsPadOf, name_at, pad_name, taken_pad}
 use Rattle.graph_core.specs.Graph.{IsFault, IsGraph, links as links_in, made as made_in}
 use Rattle.graph_core.specs.Laws.{AreAlike, AreSame, IsFree, IsUnjudged, NeverBoth, OneFault, OneGraph, OneSetting}
@@ -23,7 +23,6 @@ use Rattle.graph_core.specs.declared.pad.Direction.{Direction}
 use Rattle.graph_core.specs.declared.pad.Direction.TheVariants.{Source, Sink}
 use Rattle.graph_core.specs.declared.pad.Pad.{Pad}
 use Rattle.graph_core.specs.declared.pad.PadLink.{PadLink}
-use Rattle.graph_core.specs.declared.pad.PadPlace.{PadPlace}
 
 -- two answers are one, or memory is wanting in one of them
 abbrev pub Agree : {Y : Type 0} → Result (List Y) BuildFault → Result (List Y) BuildFault → Type 0

@@ -1,9 +1,9 @@
 -- One element more, or the fault of one.
-use Rattle.std.proofs.Common.{◌≡◌, ◌⊎◌, ◌<◌, ◌≤◌, ◌&&◌, ◌||◌, ◌+◌, ℕ, suc, Bool, true, false, not, cond, List, [], ◌∷◌, ◌++◌, length, map, refl, sym, ap, ◌∙◌, subst, arith, bytes_eq, position, Option, None, Some, Ok, Err, Result, is_some, nat_lt, codes, inl, inr, append_assoc, MatchOption}
-use Rattle.std.specs.List.{list_any, prefix_len, position_or_len}
+use Rattle.std.proofs.Common.{◌≡◌, ◌&&◌, ◌||◌, ◌+◌, ℕ, suc, Bool, true, false, not, cond, List, [], ◌∷◌, ◌++◌, length, refl, sym, ap, ◌∙◌, subst, arith, position, Option, None, Some, Ok, Err, Result, is_some, nat_lt, inl, inr, MatchOption}
+use Rattle.std.specs.List.{list_any, position_or_len}
 use Rattle.std.proofs.lemmas.Bool.{lt-ltb}
 use Rattle.std.proofs.lemmas.Bool.Decides.{nat_tests}
-use Rattle.el_set.specs.Asked.{location_of, source_pads}
+use Rattle.el_set.specs.Asked.{location_of}
 use Rattle.el_set.specs.Checked.{IsAnswer}
 use Rattle.el_set.specs.declared.settings.Settings.{Settings}
 use Rattle.el_set.specs.declared.fault.PropFault.{PropFault}
@@ -12,7 +12,7 @@ use Rattle.graph_core.specs.Asked.{Declared}
 use Rattle.graph_core.specs.Comes.{Comes}
 use Rattle.gst_caps.specs.declared.name.Prop.{Prop}
 use Rattle.graph_core.specs.declared.element.Element.{Element}
-use Rattle.graph_core.specs.Elements.{Made, made_of, given_name, name_of, is_name_taken, is_location_taken, same_location, clash, limit, IsMade, IsUnmade, ElementsCome, Follows, Stops, IsPlaced, OrMemory, settings_fault}
+use Rattle.graph_core.specs.Elements.{Made, made_of, given_name, name_of, is_name_taken, is_location_taken, same_location, clash, IsMade, IsUnmade, ElementsCome, Follows, Stops, IsPlaced, OrMemory, settings_fault}
 use Rattle.graph_core.specs.declared.fault.BuildFault.{BuildFault}
 use Rattle.graph_core.specs.declared.fault.BuildFault.TheVariants.{NoSuch, BadValue, NameTaken, LocationTaken, TooMany, LinkRefused, OutOfMemory}
 

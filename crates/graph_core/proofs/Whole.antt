@@ -1,13 +1,13 @@
 -- What holds of all elements and all links of a line.
-use Rattle.std.proofs.Common.{◌≡◌, ◌<◌, ◌+◌, ℕ, suc, List, [], ◌∷◌, ◌++◌, length, map, All, Result, Ok, Err, IfOk, vec_len, refl, sym, ap, ◌∙◌, subst, arith, length-append, slice_index_or}
+use Rattle.std.proofs.Common.{◌≡◌, ◌<◌, ◌+◌, List, [], ◌∷◌, ◌++◌, length, All, Result, Ok, Err, IfOk, ap, subst, arith, length-append}
 use Rattle.std.proofs.lemmas.List.{length-map}
 use Rattle.std.proofs.Math.ListN.{get_or-map}
-use Rattle.graph_order.specs.Forward.{count_of, links_of}
+use Rattle.graph_order.specs.Forward.{count_of}
 use Rattle.graph_order.specs.declared.link.Link.{Link}
 use Rattle.graph_core.specs.Asked.{Declared}
 use Rattle.graph_core.specs.Comes.{Comes}
 use Rattle.graph_core.specs.Elements.{Made, ElementsCome}
-use Rattle.graph_core.specs.Links.{AreOrdered, all_links, way_of, ways}
+use Rattle.graph_core.specs.Links.{AreOrdered, all_links, way_of}
 use Rattle.graph_core.specs.declared.fault.BuildFault.{BuildFault}
 use Rattle.graph_core.specs.declared.links.Links.{Links}
 use Rattle.graph_core.specs.declared.pad.PadLink.{PadLink}

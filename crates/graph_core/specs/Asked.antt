@@ -1,5 +1,5 @@
 -- What a launch line says of elements and of links, in its order.
-use Rattle.std.specs.Prelude.{ℕ, suc, ◌+◌, List, [], ◌∷◌, ◌++◌, Option, None, codes, length}
+use Rattle.std.specs.Prelude.{ℕ, ◌+◌, List, [], ◌∷◌, ◌++◌, Option, codes, length}
 use Rattle.std.specs.List.{flat_map}
 use Rattle.gst_caps.specs.declared.name.Prop.{Prop}
 use Rattle.launch_text.specs.declared.tree.Chain.{Chain}

@@ -1,11 +1,11 @@
 -- Which elements a line has, and why it has none.
-use Rattle.std.specs.Prelude.{◌≡◌, ◌⊎◌, ◌<◌, ◌≤◌, ◌==◌, ◌&&◌, ◌||◌, ℕ, Bool, true, false, not, List, [], ◌∷◌, ◌++◌, Option, None, Some, Result, Ok, Err, codes, length, map, filter, count_by, bytes_eq, is_some}
+use Rattle.std.specs.Prelude.{◌≡◌, ◌⊎◌, ◌<◌, ◌≤◌, ◌==◌, ◌&&◌, ◌||◌, ℕ, Bool, true, false, not, List, ◌++◌, Option, None, Some, Result, Ok, Err, codes, length, map, filter, count_by, bytes_eq, is_some}
 use Rattle.std.specs.Fmt.{decimal}
 use Rattle.std.specs.List.{list_any}
 use Rattle.std.specs.Option.{option_map_or}
 use Rattle.std.specs.String.{string_bytes}
 use Rattle.gst_caps.specs.declared.name.Prop.{Prop}
-use Rattle.el_set.specs.Asked.{location_of, sink_pads, source_pads}
+use Rattle.el_set.specs.Asked.{location_of, source_pads}
 use Rattle.el_set.specs.Checked.{IsAnswer}
 use Rattle.el_set.specs.Values.{last_value}
 use Rattle.el_set.specs.declared.settings.Settings.{Settings}

@@ -1,11 +1,11 @@
 -- The graph of a launch line.
-use Rattle.std.specs.Prelude.{◌≡◌, ◌⊎◌, ◌<◌, ℕ, Bool, All, List, [], Result, Ok, Err, length}
+use Rattle.std.specs.Prelude.{◌≡◌, ◌⊎◌, ℕ, Bool, All, List, [], Ok, Err}
 use Rattle.launch_text.specs.declared.tree.Tree.{Tree}
-use Rattle.graph_order.specs.Forward.{IsMember, GoForward, forward_of}
+use Rattle.graph_order.specs.Forward.{forward_of}
 use Rattle.graph_order.specs.Marks.{is_marked}
 use Rattle.graph_core.specs.Asked.{asked, declared}
 use Rattle.graph_core.specs.Elements.{ElementsCome, Made, all_made}
-use Rattle.graph_core.specs.Links.{AreOrdered, HasPads, LinksCome, all_links, ways}
+use Rattle.graph_core.specs.Links.{AreOrdered, HasPads, LinksCome, all_links}
 use Rattle.graph_core.specs.Live.{AreLive}
 use Rattle.graph_core.specs.declared.fault.BuildFault.{BuildFault}
 use Rattle.graph_core.specs.declared.fault.BuildFault.TheVariants.{OutOfMemory}

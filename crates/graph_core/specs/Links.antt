@@ -1,5 +1,5 @@
 -- Which links a line has, and why it has none.
-use Rattle.std.specs.Prelude.{◌≡◌, ◌<◌, ◌==◌, ◌&&◌, ◌||◌, ℕ, Bool, true, false, not, List, [], ◌∷◌, ◌++◌, Option, None, Some, Result, Ok, Err, if◌then◌else◌, IsTrue, is_some, map, length, vec_len, slice_get}
+use Rattle.std.specs.Prelude.{◌≡◌, ◌<◌, ◌==◌, ◌&&◌, ◌||◌, ℕ, Bool, true, false, not, List, [], ◌∷◌, ◌++◌, Option, None, Some, Result, Ok, Err, if◌then◌else◌, IsTrue, is_some, map, length, slice_get}
 use Rattle.std.specs.Option.{option_map_or}
 use Rattle.gst_caps.specs.Accepts.{accepts}
 use Rattle.gst_caps.specs.Description.{Description, IsFixed}

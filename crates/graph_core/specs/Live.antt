@@ -1,5 +1,5 @@
 -- Which elements are live.
-use Rattle.std.specs.Prelude.{◌≡◌, ◌==◌, ℕ, Bool, true, false, List, [], ◌∷◌, Some, slice_get}
+use Rattle.std.specs.Prelude.{◌≡◌, ◌==◌, ℕ, Bool, true, List, Some, slice_get}
 use Rattle.graph_order.specs.Links.{IsLink}
 use Rattle.graph_order.specs.Marks.{is_marked}
 use Rattle.el_set.specs.Asked.{sink_pads}

@@ -2,7 +2,7 @@ use Rattle.std.proofs.Common.{◌+◌, ℕ, Ok, Err, ap, subst}
 use Rattle.graph_core.specs.Asked.{end_of, behind}
 use Rattle.graph_core.specs.Elements.{all_made}
 use Rattle.graph_core.specs.Ends.{IsEndPad, PadOrMemory}
-use Rattle.graph_core.specs.Links.{all_links, IsUnjoined, Joins, LinksStop, one_link}
+use Rattle.graph_core.specs.Links.{all_links, IsUnjoined, LinksStop, one_link}
 use Rattle.graph_core.specs.declared.pad.Direction.TheVariants.{Source, Sink}
 use Rattle.graph_core.proofs.Joining.{end_there, left_stops, right_stops, joint_stops, joint_follows, where_ok, where_fault}
 use Rattle.graph_core.proofs.links.add.Goals as goal

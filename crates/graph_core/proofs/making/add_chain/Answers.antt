@@ -1,6 +1,5 @@
-use Rattle.std.proofs.Common.{arith}
 use Rattle.graph_core.specs.Elements.{all_made}
-use Rattle.graph_core.proofs.Walks.{node_follows, node_stops, nodes_done}
+use Rattle.graph_core.proofs.Walks.{node_follows, node_stops}
 use Rattle.graph_core.proofs.making.add_chain.Goals as goal
 
 pub loop-node-preserved : goal.loop-node-preserved

@@ -1,4 +1,4 @@
-use Rattle.std.proofs.Common.{subst, sym, List}
+use Rattle.std.proofs.Common.{subst, List}
 use Rattle.graph_core.specs.Asked.{chain_elements}
 use Rattle.graph_core.specs.Elements.{all_made, Follows, Stops}
 use Rattle.graph_core.proofs.Walks.{chain_follows, chain_stops, chains_done}

@@ -1,7 +1,7 @@
-use Rattle.std.proofs.Common.{◌∷◌, [], ◌∙◌, sym, subst, string_bytes, Err}
+use Rattle.std.proofs.Common.{◌∙◌, string_bytes, Err}
 use Rattle.graph_core.specs.Asked.{Declared}
-use Rattle.graph_core.specs.Elements.{all_made, made_of, IsMade, IsUnmade, IsPlaced, Stops}
-use Rattle.graph_core.proofs.Steps.{follows_one, stops_one, unplaced, placed_named, made_behind}
+use Rattle.graph_core.specs.Elements.{all_made, IsUnmade}
+use Rattle.graph_core.proofs.Steps.{stops_one, unplaced, placed_named, made_behind}
 use Rattle.graph_core.proofs.making.put.Goals as goal
 
 pub returns-in-Err-clause-fault : goal.returns-in-Err-clause-fault

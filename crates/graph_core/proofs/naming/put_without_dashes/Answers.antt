@@ -1,5 +1,5 @@
 -- What stands before a dash stays, and the dash is lost.
-use Rattle.std.proofs.Common.{Some, None, string_bytes, ap, lit<, rules}
+use Rattle.std.proofs.Common.{Some, None, string_bytes, lit<, rules}
 use Rattle.std.proofs.lemmas.Str.Pattern.{split_parts}
 use Rattle.graph_core.proofs.Dashes.{kept_more, kept_all, shorter}
 use Rattle.graph_core.proofs.naming.put_without_dashes.Goals as goal

@@ -1,4 +1,4 @@
-use Rattle.std.proofs.Common.{map, ap, sym, ◌∙◌, string_bytes}
+use Rattle.std.proofs.Common.{ap, sym, ◌∙◌, string_bytes}
 use Rattle.std.specs.List.{list_any}
 use Rattle.graph_core.proofs.ByName.{taken_made}
 use Rattle.graph_core.specs.Elements.{clash}

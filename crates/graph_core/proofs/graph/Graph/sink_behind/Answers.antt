@@ -1,4 +1,4 @@
-use Rattle.std.proofs.Common.{◌<◌, ◌∙◌, List, Option, IfSome, ap, subst, sym}
+use Rattle.std.proofs.Common.{◌<◌, ◌∙◌, Option, IfSome, ap, subst, sym}
 use Rattle.graph_core.specs.Ends.{pads_at}
 use Rattle.graph_core.specs.Graph.{links, made}
 use Rattle.graph_core.specs.Links.{sink_behind}
