@@ -1,5 +1,5 @@
 -- The given properties one by one.
-use Rattle.std.proofs.Common.{◌≡◌, ℕ, ◌+◌, ◌<◌, Bool, List, [], ◌∷◌, ◌++◌, length, take, get_or, refl, sym, ap, ◌∙◌, if◌then◌else◌, Option, None, Some, bytes_eq, MatchOption, true, false, arith}
+use Rattle.std.proofs.Common.{◌≡◌, ℕ, ◌+◌, ◌<◌, ◌≤◌, Bool, List, [], ◌∷◌, ◌++◌, length, take, get_or, refl, sym, ap, ◌∙◌, if◌then◌else◌, Option, None, Some, bytes_eq, MatchOption, true, false, arith}
 use Rattle.std.specs.Bool.{⊤}
 use Rattle.std.proofs.lemmas.Slice.Eq.{bytes_eq-Decides}
 use Rattle.std.specs.Option.{option_map}
@@ -95,3 +95,16 @@ pub caps_taken : {V : Type 0} (f : V → List ℕ) (kind : Kind) (name : List �
     → (o : Option V) → option_map f o ≡ last_value name props → MatchOption o ⊤ (λ v. (caps : Caps) × IsCapsText (f v) caps)
 caps_taken f kind name props row all None e = tt
 caps_taken f kind name props row all (Some v) e = taken_value kind name CapsTexts props row all (f v) (sym e)
+
+-- and it is one of its property
+pub number_within : (kind : Kind) (name : List ℕ) (least most plain : ℕ) (props : List Prop) (r : ℕ)
+    → domain_named kind name ≡ Some (Number least most) → least ≤ plain → plain ≤ most → AllTaken kind props → NumberOr name plain props r
+    → (least ≤ r) × (r ≤ most)
+number_within kind name least most plain props r row some few all given = go (last_value name props) refl given
+  where
+    go : (o : Option (List ℕ)) → last_value name props ≡ o → MatchOption o (r ≡ plain) (λ text. IsNumber text r) → (least ≤ r) × (r ≤ most)
+    go None same e = rw e (some, few)
+    go (Some text) same is =
+        let n = taken_value kind name (Number least most) props row all text same in
+        let value : r ≡ n.0 = sym is.2 ∙ n.1.2 in
+        rw value (n.2, n.3)

@@ -29,12 +29,18 @@ abbrev pub is_queue : Settings → Bool
 is_queue (Queue s) = true
 is_queue _ = false
 
+-- the element that stands between one sink pad and one source pad, and is no queue
+abbrev pub is_filter : Settings → Bool
+is_filter Identity = true
+is_filter (CapsFilter s) = true
+is_filter _ = false
+
 -- what a template takes: a filter's caps, and else all caps
 abbrev pub template_of : Settings → Caps
 template_of (CapsFilter s) = s.caps
 template_of _ = Any
 
--- the element that stands between one sink pad and one source pad, and is no queue
+-- the elements that may be replaced while they run
 abbrev pub may_be_replaced : Settings → Bool
 may_be_replaced Identity = true
 may_be_replaced (CapsFilter s) = true

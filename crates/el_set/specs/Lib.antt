@@ -6,3 +6,9 @@ pub mod Checked
 pub mod Asked
 pub mod Denoted
 pub mod Stepping
+pub mod Stands
+pub mod Failures
+pub mod Gives
+pub mod Holds
+pub mod Roles
+pub mod Made

@@ -4,19 +4,30 @@
 mod checking;
 mod denoting;
 mod domain;
+pub mod element;
 mod fault;
+pub mod filter;
 mod kind;
+pub mod laws;
+mod making;
 mod number;
 mod settings;
+pub mod sink;
+pub mod source;
 mod templates;
 mod values;
 
 pub use checking::check;
 pub use denoting::denote;
+pub use element::Element;
 pub use fault::PropFault;
+pub use filter::FilterElement;
+pub use making::{filter_of, sink_of, source_of};
 pub use settings::{
     CapsFilterSettings, FileSinkSettings, FileSrcSettings, QueueSettings, Settings,
 };
+pub use sink::SinkElement;
+pub use source::SourceElement;
 pub use templates::template;
 
 #[cfg(test)]

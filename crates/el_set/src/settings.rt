@@ -1,5 +1,5 @@
 //! What an element is set to.
-ghost use Rattle.std.specs.Prelude.{◌≡◌, IfOk};
+ghost use Rattle.std.specs.Prelude.{◌≡◌, ◌≤◌, IfOk};
 
 use gst_caps::{Caps, OutOfMemory, Text};
 use std::alloc::Global;
@@ -10,6 +10,8 @@ pub struct FileSrcSettings {
     pub location: Text,
     /// How many bytes a block has.
     pub blocksize: u32,
+    ghost some: { 1 ≤ blocksize },
+    ghost small: { blocksize ≤ 1048576 },
 }
 
 /// What a capsfilter is set to.
@@ -49,9 +51,9 @@ pub enum Settings {
 }
 
 impl Settings {
-    ghost use Rattle.std.specs.Prelude.{◌==◌, ◌≤◌};
+    ghost use Rattle.std.specs.Prelude.{◌==◌};
     ghost use Rattle.std.specs.Option.{option_map};
-    ghost use Rattle.el_set.specs.Asked.{sink_pads, source_pads, is_queue, may_be_replaced, is_settable, location_of};
+    ghost use Rattle.el_set.specs.Asked.{sink_pads, source_pads, is_queue, is_filter, may_be_replaced, is_settable, location_of};
 
     /// How many sink pads the element has.
     pub fn sink_pads(&self) -> u32
@@ -99,6 +101,13 @@ impl Settings {
         ensures { result ≡ is_queue self.now }
     {
         matches!(self, Settings::Queue(_))
+    }
+
+    /// Whether the element stands between one sink pad and one source pad, and is no queue.
+    pub fn is_filter(&self) -> bool
+        ensures { result ≡ is_filter self.now }
+    {
+        matches!(self, Settings::Identity | Settings::CapsFilter(_))
     }
 
     /// Whether a running element may be replaced, and stand in place of another.

@@ -1,7 +1,9 @@
 //! Rows of properties and of whole lists.
 use super::*;
+use el_src::Next;
 use gst_caps::{Caps, Fixed, List, Prop, Text};
-use gst_item::{Body, Buffer, ElementFault, Event, Item};
+use gst_item::{Body, Buffer, ElementFault, Event, Flow, Item, Outs};
+use gst_outside::{MemSink, MemSource, Sink, Source};
 use std::alloc::Global;
 use std::test::Fail;
 
@@ -258,5 +260,128 @@ SFCB SFCB SFCB";
             parts.next().unwrap_or("")
         );
     }
+    Ok(())
+}
+
+/// What an element puts out for letters. A FLUSH_STOP flushes it, `D` drains it, `.` is an item that it answers with
+/// EOS, and `x` a fault.
+fn fed(alloc: Global, settings: &Settings, letters: &str) -> Result<String, Fail> {
+    let mut text = String::new(alloc);
+    let Some(mut element) = filter_of(alloc, settings)? else {
+        return Ok(text);
+    };
+    for letter in letters.chars() {
+        let mut out = List::new(alloc);
+        let mut copy = element.copy(alloc)?;
+        text.push(answer_to(alloc, &mut copy, letter, &mut out)?)?;
+        for one in out.as_slice() {
+            text.push(letter_of(&one.item))?;
+        }
+        element = copy;
+    }
+    Ok(text)
+}
+
+fn answer_to(
+    alloc: Global,
+    element: &mut FilterElement,
+    letter: char,
+    out: &mut Outs,
+) -> Result<char, Fail> {
+    if letter == 'D' {
+        return Ok(if element.drain(alloc, out).is_err() {
+            'x'
+        } else {
+            '-'
+        });
+    }
+    let item = item_of(alloc, letter)?;
+    if matches!(item, Item::Event(Event::FlushStop { .. })) {
+        element.flush();
+        return Ok('f');
+    }
+    match element.feed(alloc, 0, item, out) {
+        Ok(Flow::Ok) => Ok('-'),
+        Ok(_) => Ok('.'),
+        Err(_) => Ok('x'),
+    }
+}
+
+/// What is given, and the answers with what is put out: for a filter of audio/x-raw, and for an identity.
+#[test]
+fn rows_of_elements(rt: HostRuntime) -> Result<(), Fail> {
+    let alloc = rt.alloc();
+    let filter = Settings::CapsFilter(CapsFilterSettings {
+        caps: caps_text::parse(alloc, "audio/x-raw")?,
+    });
+    let rows = "SCBE -S-C-B-E -S-C-B-E
+EBDFB -E.-fx -E.-f-B
+SBCBM -Sx-C-Bx -S-B-C-B-C";
+    for row in rows.lines() {
+        let mut parts = row.split(' ');
+        let given = parts.next().unwrap_or("");
+        assert_eq!(rt;
+            fed(alloc, &filter, given)?.as_str(),
+            parts.next().unwrap_or("")
+        );
+        assert_eq!(rt;
+            fed(alloc, &Settings::Identity, given)?.as_str(),
+            parts.next().unwrap_or("")
+        );
+    }
+    Ok(())
+}
+
+/// Carries all items of a source to a sink, and tells the length of the sink's file.
+fn carry<S: Source, K: Sink>(
+    alloc: Global,
+    mut source: SourceElement<S>,
+    mut sink: SinkElement<K>,
+) -> Option<u64> {
+    for _ in 0..9 {
+        carry_one(alloc, &mut source, &mut sink);
+    }
+    sink.len()
+}
+
+fn carry_one<S: Source, K: Sink>(
+    alloc: Global,
+    source: &mut SourceElement<S>,
+    sink: &mut SinkElement<K>,
+) {
+    if source.items() > 9 {
+        return;
+    }
+    if let Ok(Next::Item(item)) = source.next(alloc) {
+        if sink.render(&item).is_err() {
+            source.end();
+        }
+    }
+}
+
+/// The length of the file behind five bytes in blocks of two, by the words of the sink.
+fn carried(alloc: Global, words: &str) -> Result<Option<u64>, Fail> {
+    let content = List::from_vec(b"abcde".to_vec(alloc)?);
+    let input = Text::from_str(alloc, "in")?;
+    let read = MemSource::new(input, content, List::new(alloc), List::new(alloc));
+    let output = Text::from_str(alloc, "out")?;
+    let written = MemSink::new(alloc, output, 16, List::new(alloc), List::new(alloc))?;
+    let (Ok(from), Ok(to)) = (
+        checked(alloc, "filesrc location=in blocksize=2")?,
+        checked(alloc, words)?,
+    ) else {
+        return Ok(Some(0));
+    };
+    match (source_of(&from, Some(read), 0), sink_of(&to, Some(written))) {
+        (Some(source), Some(sink)) => Ok(carry(alloc, source, sink)),
+        _ => Ok(Some(0)),
+    }
+}
+
+#[test]
+fn bytes_are_carried(rt: HostRuntime) -> Result<(), Fail> {
+    let alloc = rt.alloc();
+    assert_eq!(rt; carried(alloc, "filesink location=out")?, Some(5));
+    assert_eq!(rt; carried(alloc, "fakesink")?, None);
     Ok(())
 }

@@ -1,0 +1,65 @@
+-- What is made by settings.
+use Rattle.std.specs.Prelude.{◌≡◌, ℕ, Bool, true, false, List, [], Option, None, Some, is_some}
+use Rattle.std.specs.Option.{ForSome, option_map}
+use Rattle.flow_model.specs.Item.{Item}
+use Rattle.flow_model.specs.Source.{file_list}
+use Rattle.el_set.specs.declared.settings.Settings.{Settings}
+use Rattle.el_set.specs.declared.settings.Settings.TheVariants.{FileSrc, FileSink, FakeSink}
+use Rattle.el_set.specs.declared.filter.FilterElement.{FilterElement}
+use Rattle.el_set.specs.declared.source.SourceElement.{SourceElement}
+use Rattle.el_set.specs.declared.sink.SinkElement.{SinkElement}
+use Rattle.el_set.specs.Asked.{is_filter}
+use Rattle.el_set.specs.Denoted.{response_of}
+use Rattle.el_set.specs.Stands.{Stands}
+use Rattle.el_set.specs.Gives.{SourceGave, source_items, source_file}
+use Rattle.el_set.specs.Holds.{SinkHeld, sink_file, sink_len}
+
+-- it has the rule of its settings, and was given nothing yet
+abbrev pub IsFilterFor : Settings → Option FilterElement → Type 0
+IsFilterFor settings None = is_filter settings ≡ false
+IsFilterFor settings (Some element) = (is_filter settings ≡ true) × Stands (response_of settings) element [] []
+
+-- whether there is a source of these settings that reads this
+abbrev pub makes_source : {S : Type 0} → Settings → Option S → Bool
+makes_source (FileSrc s) file = is_some file
+makes_source _ file = false
+
+-- what a source of these settings owes, by the content of its file
+abbrev pub list_of : Settings → ℕ → List ℕ → List Item
+list_of (FileSrc s) id content = file_list id s.blocksize content
+list_of _ id content = []
+
+-- it owes the list of its settings, gave nothing yet, and reads the file
+abbrev pub IsSourceFor : {S : Type 0} → (S → Option (List ℕ)) → Settings → Option S → ℕ → Option (SourceElement S) → Type 0
+IsSourceFor content settings file id None = makes_source settings file ≡ false
+IsSourceFor content settings file id (Some source) =
+    (makes_source settings file ≡ true) × SourceGave content source (list_of settings id) [] × (source_items source ≡ 0) × (source_file source ≡ file)
+
+-- whether there is a sink of these settings that writes this
+abbrev pub makes_sink : {K : Type 0} → Settings → Option K → Bool
+makes_sink (FileSink s) file = is_some file
+makes_sink FakeSink file = true
+makes_sink _ file = false
+
+-- what a sink of these settings writes; a fake sink writes nothing
+abbrev pub file_for : {K : Type 0} → Settings → Option K → Option K
+file_for (FileSink s) file = file
+file_for _ file = None
+
+-- whether a flush keeps what was written
+abbrev pub keeps_flushed : Settings → Bool
+keeps_flushed (FileSink s) = s.keep_flushed
+keeps_flushed _ = false
+
+abbrev pub IsEmpty : {K : Type 0} → (K → Option (List ℕ)) → Option K → Type 0
+IsEmpty bytes None = Unit {0}
+IsEmpty bytes (Some file) = ForSome (bytes file) (λ b. b ≡ [])
+
+-- it was given nothing yet, and writes the file, which is empty
+abbrev pub IsSinkFor : {K : Type 0} → (K → Option (List ℕ)) → Settings → Option K → Option (SinkElement K) → Type 0
+IsSinkFor bytes settings file None = makes_sink settings file ≡ false
+IsSinkFor bytes settings file (Some sink) =
+    (makes_sink settings file ≡ true)
+    × (IsEmpty bytes (file_for settings file) → SinkHeld bytes (keeps_flushed settings) sink [])
+    × (sink_file sink ≡ file_for settings file)
+    × (sink_len sink ≡ option_map (λ k. 0) (file_for settings file))

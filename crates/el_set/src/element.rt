@@ -1,0 +1,28 @@
+//! The elements, by their role.
+ghost use Rattle.std.specs.Prelude.{◌≡◌};
+
+use crate::filter::FilterElement;
+use crate::settings::QueueSettings;
+use crate::sink::SinkElement;
+use crate::source::SourceElement;
+
+/// An element, by its role in a stream.
+#[derive(Drop)]
+pub enum Element<S, K> {
+    Source(SourceElement<S>),
+    Filter(FilterElement),
+    /// A queue of these limits, which passes all. Its items stand in its lane.
+    Queue(QueueSettings),
+    Sink(SinkElement<K>),
+}
+
+impl<S: Drop, K: Drop> Element<S, K> {
+    ghost use Rattle.el_set.specs.Roles.{is_lane};
+
+    /// Whether a link to the element is a lane.
+    pub fn is_queue(&self) -> bool
+        ensures { result ≡ is_lane self.now }
+    {
+        matches!(self, Element::Queue(_))
+    }
+}

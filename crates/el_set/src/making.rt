@@ -1,0 +1,62 @@
+//! Elements, made by what they are set to.
+ghost use Rattle.std.specs.Prelude.{◌≡◌, IfOk};
+ghost use Rattle.el_set.specs.Made.{IsFilterFor, IsSourceFor, IsSinkFor};
+
+use crate::filter::FilterElement;
+use crate::settings::Settings;
+use crate::sink::SinkElement;
+use crate::source::SourceElement;
+use el_basic::{CapsFilter, Identity};
+use el_sink::{FakeSink, FileSink};
+use el_src::FileSrc;
+use gst_caps::OutOfMemory;
+use gst_outside::{Sink, Source};
+use std::alloc::Global;
+
+/// The element of these settings between one sink pad and one source pad, which was fed nothing yet. None where they
+/// are those of a source, a queue or a sink.
+pub fn filter_of(alloc: Global, settings: &Settings) -> Result<Option<FilterElement>, OutOfMemory>
+    ensures { IfOk result (IsFilterFor settings.now) }
+{
+    match settings {
+        Settings::Identity => Ok(Some(FilterElement::Identity(Identity::new()))),
+        Settings::CapsFilter(settings) => {
+            let caps = settings.caps.copy(alloc)?;
+            Ok(Some(FilterElement::CapsFilter(CapsFilter::new(caps))))
+        }
+        Settings::FileSrc(_) | Settings::Queue(_) | Settings::FileSink(_) | Settings::FakeSink => {
+            Ok(None)
+        }
+    }
+}
+
+/// The source of these settings, of the number `id`, which was asked for nothing yet; `file` is what it reads. None
+/// where they are those of no source, or of one that reads a file and none is given.
+pub fn source_of<S: Source>(
+    settings: &Settings,
+    file: Option<S>,
+    id: u32,
+) -> Option<SourceElement<S>>
+    ensures { IsSourceFor S.content settings.now file id result }
+{
+    match (settings, file) {
+        (Settings::FileSrc(settings), Some(file)) => {
+            Some(SourceElement::File(FileSrc::new(file, settings.blocksize, id)))
+        }
+        _ => None,
+    }
+}
+
+/// The sink of these settings, which was given nothing yet; `file` is what it writes, empty at first. None where they
+/// are those of no sink, or of one that writes a file and none is given.
+pub fn sink_of<K: Sink>(settings: &Settings, file: Option<K>) -> Option<SinkElement<K>>
+    ensures { IsSinkFor K.bytes settings.now file result }
+{
+    match (settings, file) {
+        (Settings::FileSink(settings), Some(file)) => {
+            Some(SinkElement::File(FileSink::new(file, settings.keep_flushed)))
+        }
+        (Settings::FakeSink, _) => Some(SinkElement::Fake(FakeSink::new())),
+        _ => None,
+    }
+}
