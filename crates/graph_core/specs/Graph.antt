@@ -1,0 +1,46 @@
+-- The graph of a launch line.
+use Rattle.std.specs.Prelude.{◌≡◌, ◌⊎◌, ℕ, Bool, All, List, [], Ok, Err}
+use Rattle.launch_text.specs.declared.tree.Tree.{Tree}
+use Rattle.graph_order.specs.Forward.{forward_of}
+use Rattle.graph_order.specs.Marks.{is_marked}
+use Rattle.graph_core.specs.Asked.{asked, declared}
+use Rattle.graph_core.specs.Elements.{ElementsCome, Made, all_made}
+use Rattle.graph_core.specs.Links.{AreOrdered, HasPads, LinksCome, all_links}
+use Rattle.graph_core.specs.Live.{AreLive}
+use Rattle.graph_core.specs.declared.fault.BuildFault.{BuildFault}
+use Rattle.graph_core.specs.declared.fault.BuildFault.TheVariants.{OutOfMemory}
+use Rattle.graph_core.specs.declared.graph.Graph.{Graph}
+use Rattle.graph_core.specs.declared.pad.PadLink.{PadLink}
+
+abbrev pub made : Graph → List Made
+made graph = all_made graph.elements
+
+abbrev pub links : Graph → List PadLink
+links graph = all_links graph.links
+
+abbrev pub forward : Graph → List ℕ
+forward graph = forward_of graph.links.order
+
+abbrev pub is_live : Graph → ℕ → Bool
+is_live graph e = is_marked graph.live.items e
+
+-- a line has this graph
+pub record IsGraph (tree : Tree) (graph : Graph) : Type 0 where
+  pub elements : ElementsCome [] (declared tree) (Ok (made graph))
+  pub links : LinksCome (made graph) [] (asked tree) (Ok (links graph))
+
+-- A line has no graph: the fault is the first of its elements, or that of its links where it has its elements.
+abbrev pub IsFault : Tree → BuildFault → Type 0
+IsFault tree fault =
+    ElementsCome [] (declared tree) (Err fault)
+    ⊎ ((elements : List Made) × ElementsCome [] (declared tree) (Ok elements) × LinksCome elements [] (asked tree) (Err fault))
+
+-- the fault of a line, or memory is wanting
+abbrev pub IsFaultOrMemory : Tree → BuildFault → Type 0
+IsFaultOrMemory tree fault = (fault ≡ OutOfMemory) ⊎ IsFault tree fault
+
+-- Each element stands in the order once, and each link goes forward; its pads are there; the live elements are marked.
+pub record IsSound (graph : Graph) : Type 0 where
+  pub pads : All (HasPads (made graph)) (links graph)
+  pub order : AreOrdered (made graph) graph.links
+  pub live : AreLive (made graph) (links graph) graph.live.items

@@ -1,0 +1,36 @@
+//! Builds the graph of a line.
+ghost use Rattle.std.specs.Prelude.{IfOk, IfErr};
+ghost use Rattle.graph_core.specs.Graph.{IsGraph, IsFaultOrMemory, IsSound};
+
+use crate::chains::chains_of;
+use crate::fault::BuildFault;
+use crate::graph::Graph;
+use crate::links::links_of;
+use crate::live::live_elements;
+use crate::making::elements_of;
+use launch_text::Tree;
+use std::alloc::Global;
+
+/// The graph of a launch line. The elements are checked in the order of the line, and then the links; the first fault
+/// is answered.
+pub fn build(alloc: Global, tree: &Tree) -> Result<Graph, BuildFault>
+    ensures graph { IfOk result (IsGraph tree.now) }
+    ensures sound { IfOk result IsSound }
+    ensures fault { IfErr result (IsFaultOrMemory tree.now) }
+{
+    let chains = chains_of(alloc, tree)?;
+    let elements = match elements_of(alloc, chains.as_slice()) {
+        Ok(elements) => elements,
+        Err(fault) => return Err(fault),
+    };
+    let links = match links_of(alloc, &elements, chains.as_slice()) {
+        Ok(links) => links,
+        Err(fault) => return Err(fault),
+    };
+    let live = live_elements(alloc, &elements, links.made.as_slice())?;
+    Ok(Graph {
+        elements,
+        links,
+        live,
+    })
+}

@@ -1,0 +1,103 @@
+//! The elements of a line by their names.
+ghost use Rattle.std.specs.Prelude.{◌≡◌, ◌≤◌};
+ghost use Rattle.indexmap.specs.IndexMap.{index_map_len};
+
+use crate::element::{Element, is_numbered, some_clash};
+use el_set::Settings;
+use gst_caps::OutOfMemory;
+use indexmap::IndexMap;
+use std::alloc::Global;
+
+/// How many elements a graph has at most.
+pub(crate) const LIMIT: u32 = 256;
+
+/// Elements by their names, in the order of their numbers.
+#[derive(Drop)]
+pub(crate) struct Elements {
+    by_name: IndexMap<String, Element>,
+    ghost few: { index_map_len by_name ≤ 256 },
+}
+
+impl Elements {
+    ghost use Rattle.std.specs.Prelude.{◌<◌, ◌++◌, ◌∷◌, [], length, IfOk, OnOk, OnErr, slice_get, position, string_bytes, Some, false};
+    ghost use Rattle.std.specs.Option.{option_map};
+    ghost use Rattle.std.specs.List.{list_any};
+    ghost use Rattle.graph_core.specs.Elements.{Made, made_of, all_made, numbered, is_named, is_name_taken, is_location_taken, limit};
+
+    /// No elements.
+    pub(crate) fn new(alloc: Global) -> Elements
+        ensures { all_made result ≡ [] }
+    {
+        Elements {
+            by_name: IndexMap::new(alloc),
+        }
+    }
+
+    /// How many elements there are.
+    pub(crate) fn count(&self) -> u32
+        ensures count { result ≡ length (all_made self.now) }
+        ensures few { result ≤ limit }
+    {
+        self.by_name.len() as u32
+    }
+
+    /// The number of the element of this name.
+    pub(crate) fn find(&self, name: &str) -> Option<u32>
+        ensures { result ≡ position (is_named name.now) (all_made self.now) }
+    {
+        match self.by_name.get_index_of(name) {
+            Some(number) => Some(number as u32),
+            None => None,
+        }
+    }
+
+    /// The name of an element.
+    pub(crate) fn name(&self, element: u32) -> &str
+        requires { element < length (all_made self.now) }
+        ensures { option_map (λ (m : Made). m.name) (slice_get (all_made self.now) element) ≡ Some result.now }
+    {
+        match self.by_name.get_index(element as usize) {
+            Some((name, _)) => name.as_str(),
+            None => unreachable!(),
+        }
+    }
+
+    /// What an element is set to.
+    pub(crate) fn settings(&self, element: u32) -> &Settings
+        requires { element < length (all_made self.now) }
+        ensures { option_map (λ (m : Made). m.settings) (slice_get (all_made self.now) element) ≡ Some result.now }
+    {
+        match self.by_name.get_index(element as usize) {
+            Some((_, element)) => &element.settings,
+            None => unreachable!(),
+        }
+    }
+
+    /// How many elements have names that are made of this kind.
+    pub(crate) fn count_numbered(&self, kind: &str) -> u32
+        ensures { result ≡ numbered kind.now (all_made self.now) }
+    {
+        self.by_name
+            .values()
+            .filter(|element| is_numbered(element, kind))
+            .count() as u32
+    }
+
+    /// Whether an element has the file that one of these settings would have.
+    pub(crate) fn is_location_taken(&self, settings: &Settings) -> bool
+        ensures { result ≡ is_location_taken settings.now (all_made self.now) }
+    {
+        some_clash(self.by_name.values().as_slice(), settings)
+    }
+
+    /// Puts an element of a new name behind these.
+    pub(crate) fn push(&mut self, name: String, element: Element) -> Result<(), OutOfMemory>
+        requires new { is_name_taken (string_bytes name) (all_made self.old) ≡ false }
+        requires room { length (all_made self.old) < limit }
+        ensures made { OnOk result (all_made self.new ≡ all_made self.old ++ made_of (string_bytes name) element ∷ []) }
+        ensures stays { OnErr result (all_made self.new ≡ all_made self.old) }
+    {
+        self.by_name.insert(name, element)?;
+        Ok(())
+    }
+}

@@ -1,0 +1,138 @@
+//! The graph of a line.
+use crate::elements::Elements;
+use crate::ends::pad_name;
+use crate::judging::{sink_behind, source_before};
+use crate::links::Links;
+use crate::pad::{Direction, Pad, PadLink, PadPlace};
+use el_set::Settings;
+use gst_caps::{OutOfMemory, PadName};
+use std::alloc::Global;
+
+/// The elements of a launch line, numbered from 0 on in its order, and the links between their pads. The source pads of
+/// an element have numbers of their own from 0 on, and so have its sink pads.
+#[derive(Drop)]
+pub struct Graph {
+    pub(crate) elements: Elements,
+    pub(crate) links: Links,
+    pub(crate) live: Vec<bool>,
+}
+
+impl Graph {
+    ghost use Rattle.std.specs.Prelude.{◌≡◌, ◌<◌, ◌≤◌, ◌↔◌, ℕ, Some, length, slice_get, position, IfOk, IfSome, IsTrue};
+    ghost use Rattle.std.specs.Option.{option_map};
+    ghost use Rattle.graph_order.specs.Forward.{IsMember, GoForward};
+    ghost use Rattle.graph_core.specs.Elements.{Made, is_named, limit};
+    ghost use Rattle.graph_core.specs.Ends.{pad_at, pad_name, pads_at};
+    ghost use Rattle.graph_core.specs.Links.{sink_behind, source_before, ways};
+    ghost use Rattle.graph_core.specs.Live.{Live};
+    ghost use Rattle.graph_core.specs.Graph.{made, links, forward, is_live, IsSound};
+
+    /// How many elements there are.
+    pub fn count(&self) -> u32
+        ensures count { result ≡ length (made self.now) }
+        ensures few { result ≤ limit }
+    {
+        self.elements.count()
+    }
+
+    /// The number of the element of this name.
+    pub fn find(&self, name: &str) -> Option<u32>
+        ensures { result ≡ position (is_named name.now) (made self.now) }
+    {
+        self.elements.find(name)
+    }
+
+    /// The name of an element.
+    pub fn name(&self, element: u32) -> &str
+        requires { element < length (made self.now) }
+        ensures { option_map (λ (m : Made). m.name) (slice_get (made self.now) element) ≡ Some result.now }
+    {
+        self.elements.name(element)
+    }
+
+    /// What an element is set to.
+    pub fn settings(&self, element: u32) -> &Settings
+        requires { element < length (made self.now) }
+        ensures { option_map (λ (m : Made). m.settings) (slice_get (made self.now) element) ≡ Some result.now }
+    {
+        self.elements.settings(element)
+    }
+
+    /// How many source pads an element has.
+    pub fn source_pads(&self, element: u32) -> u32
+        requires { element < length (made self.now) }
+        ensures { result ≡ pads_at (made self.now) Direction.Source element }
+    {
+        self.elements.settings(element).source_pads()
+    }
+
+    /// How many sink pads an element has.
+    pub fn sink_pads(&self, element: u32) -> u32
+        requires { element < length (made self.now) }
+        ensures { result ≡ pads_at (made self.now) Direction.Sink element }
+    {
+        self.elements.settings(element).sink_pads()
+    }
+
+    /// The name of a source pad.
+    pub fn source_name(&self, alloc: Global, place: PadPlace) -> Result<PadName, OutOfMemory>
+        requires { place.pad < pads_at (made self.now) Direction.Source place.element }
+        ensures { IfOk result (λ name. name ≡ pad_name (made self.now) (pad_at Direction.Source place.element place.pad)) }
+    {
+        let direction = Direction::Source;
+        pad_name(alloc, &self.elements, Pad { direction, place })
+    }
+
+    /// The name of a sink pad.
+    pub fn sink_name(&self, alloc: Global, place: PadPlace) -> Result<PadName, OutOfMemory>
+        requires { place.pad < pads_at (made self.now) Direction.Sink place.element }
+        ensures { IfOk result (λ name. name ≡ pad_name (made self.now) (pad_at Direction.Sink place.element place.pad)) }
+    {
+        let direction = Direction::Sink;
+        pad_name(alloc, &self.elements, Pad { direction, place })
+    }
+
+    /// The links, in the order of the line.
+    pub fn links(&self) -> &[PadLink]
+        ensures { result.now ≡ links self.now }
+    {
+        self.links.made.as_slice()
+    }
+
+    /// The sink pad to which a source pad is linked.
+    pub fn sink_behind(&self, source: PadPlace) -> Option<PadPlace>
+        ensures pad { result ≡ sink_behind (links self.now) source }
+        ensures there { IsSound self.now → IfSome result (λ sink. sink.pad < pads_at (made self.now) Direction.Sink sink.element) }
+    {
+        sink_behind(self.links.made.as_slice(), source)
+    }
+
+    /// The source pad that is linked to a sink pad.
+    pub fn source_before(&self, sink: PadPlace) -> Option<PadPlace>
+        ensures pad { result ≡ source_before (links self.now) sink }
+        ensures there { IsSound self.now → IfSome result (λ source. source.pad < pads_at (made self.now) Direction.Source source.element) }
+    {
+        source_before(self.links.made.as_slice(), sink)
+    }
+
+    /// The elements, each once, in an order in which each link that was ever made goes forward.
+    pub fn forward(&self) -> &[u32]
+        ensures order { result.now ≡ forward self.now }
+        ensures once { IsSound self.now → length result.now ≡ length (made self.now) }
+        ensures whole { IsSound self.now → (e : ℕ) → e < length (made self.now) → IsMember e result.now }
+        ensures goes { IsSound self.now → GoForward (ways (links self.now)) result.now }
+    {
+        self.links.order.forward()
+    }
+
+    /// Whether items can come to the element: it is a source, or one of its sink pads is linked to a live element.
+    pub fn live(&self, element: u32) -> bool
+        ensures mark { result ≡ is_live self.now element }
+        ensures live { IsSound self.now → IsTrue result ↔ Live (made self.now) (links self.now) element }
+    {
+        match self.live.get(element as usize) {
+            Some(live) => *live,
+            None => false,
+        }
+    }
+}

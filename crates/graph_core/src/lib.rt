@@ -1,0 +1,26 @@
+//! The graph of a launch line: its elements by name, and the links between their pads.
+#![tactic(auto)]
+
+mod building;
+mod chains;
+mod element;
+mod elements;
+mod ends;
+mod fault;
+mod graph;
+mod judging;
+mod laws;
+mod links;
+mod live;
+mod making;
+mod naming;
+mod pad;
+
+pub use building::build;
+pub use fault::{BuildFault, What};
+pub use graph::Graph;
+pub use laws::one_answer;
+pub use pad::{PadLink, PadPlace};
+
+#[cfg(test)]
+mod tests;
