@@ -1,9 +1,9 @@
 -- What a task stands for behind a step.
-use Rattle.std.proofs.Common.{◌≡◌, ◌≢◌, ◌≤◌, ◌<◌, ◌+◌, ℕ, List, [], ◌∷◌, ◌++◌, length, map, Result, Ok, Err, IfOk, IfErr, Option, Some, None, Bool, false, ◌||◌, refl, ap, sym, ◌∙◌, subst, inl, inr, arith, length-append, append-nil, append_assoc}
+use Rattle.std.proofs.Common.{◌≡◌, ◌≢◌, ◌≤◌, ◌<◌, ◌+◌, ℕ, List, [], ◌∷◌, ◌++◌, length, Result, Ok, Err, IfOk, IfErr, Option, Some, None, Bool, false, ◌||◌, refl, ap, sym, ◌∙◌, subst, inl, inr, arith, length-append, append-nil}
 use Rattle.std.specs.Option.{ForSome}
 use Rattle.std.proofs.lemmas.Grind.{fold-append}
-use Rattle.flow_model.specs.Item.{Item, is_eos, is_buffer}
-use Rattle.flow_model.proofs.Prefixes.{prefix_append, prefix_by}
+use Rattle.flow_model.specs.Item.{Item, is_eos}
+use Rattle.flow_model.proofs.Prefixes.{prefix_by}
 use Rattle.el_src.specs.Gave.{has_eos}
 use Rattle.lane_core.specs.Lane.{Lane, IsBetween}
 use Rattle.stream_task.specs.declared.step.Step.{Step}
@@ -12,7 +12,7 @@ use Rattle.stream_task.specs.declared.task.Task.{Task}
 use Rattle.stream_task.specs.declared.head.Head.{Head}
 use Rattle.stream_task.specs.declared.head.Head.TheVariants.{Source, Queue, Unlinked}
 use Rattle.stream_task.specs.Step.{idle_step}
-use Rattle.stream_task.specs.Head.{HeadLists, HeadGave, HeadAfter, IsIdle as HeadIsIdle, head_number, head_faults}
+use Rattle.stream_task.specs.Head.{HeadGave, HeadAfter, IsIdle as HeadIsIdle, head_number, head_faults}
 use Rattle.stream_task.specs.declared.pads.Pad.{Pad}
 use Rattle.stream_task.specs.declared.tail.Unsent.{Unsent}
 use Rattle.stream_task.specs.declared.tail.Unsent.TheVariants.{Unwritten, NotLinked as NoLink}
@@ -22,7 +22,7 @@ use Rattle.stream_task.specs.declared.fault.TaskFault.{TaskFault}
 use Rattle.stream_task.specs.declared.fault.TaskFault.TheVariants.{ReadFault, WriteFault, Stream, Caps, TooLong, NotLinked, OutOfMemory}
 use Rattle.stream_task.specs.declared.stage.Stage.{Stage}
 use Rattle.flow_model.specs.Prefix.{IsPrefix}
-use Rattle.stream_task.specs.Stage.{StageList, StagesStand, StagesKeep, Stopped, IsFull, StagesStop, IsElementFault, SameRules, SameStages, PutAt, numbers_of, element_at, crossed_at, put_last, AreIdle}
+use Rattle.stream_task.specs.Stage.{StageList, StagesStand, StagesKeep, Stopped, IsFull, StagesStop, IsElementFault, SameStages, PutAt, numbers_of, element_at, crossed_at, put_last, AreIdle}
 use Rattle.el_src.specs.declared.fault.SrcFault.{SrcFault}
 use Rattle.el_src.specs.declared.fault.SrcFault.TheVariants.{ReadFault as SourceRead, OutOfMemory as SourceMemory}
 use Rattle.el_set.specs.Failures.{NamesRise}
@@ -354,7 +354,7 @@ module _ {S K I O : Type 0} (content : S → Option (List ℕ)) (bytes : K → O
             tail = subst (λ (tail : Tail K O). TailHas bytes sent l.keep tail l.done) (sym same.tail) h.0.tail;
           }) h.1
           (subst (λ (s : Step). IsWhy task inlet outlet limit tells' l.head.got l.done s) (sym w.0)
-            (ap tail_number same.tail ∙ h.2, h.3, record { stages = w.1; last = λ e. h.4 (sym (ap (λ (v : _). v.items) w.3) ∙ e) }))
+          (ap tail_number same.tail ∙ h.2, h.3, record { stages = w.1; last = λ e. h.4 (sym (ap (λ (v : _). v.items) w.3) ∙ e) }))
 
       go : (s : Step) → step ≡ s → Goes content bytes received sent task l step inlet outlet limit tells tells'
       go Moved e = subst (λ (s : Step). Goes content bytes received sent task l s inlet outlet limit tells tells') (sym e) (passed_goes task l inlet outlet limit tells tells' (moved e) h.1)

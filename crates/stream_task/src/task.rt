@@ -368,10 +368,7 @@ impl<S: Source, K: Sink, I: Inlet<Out = O>, O: Outlet<Lanes = I::Lanes>> Task<S,
                 Ok(Step::Moved)
             }
             Ok(None) => Ok(self.head.idle()),
-            Err(fault) => Err(source_fault(
-                fault,
-                first_element(&self.stages, &self.last),
-            )),
+            Err(fault) => Err(source_fault(fault, first_element(&self.stages, &self.last))),
         }
     }
 
@@ -458,10 +455,7 @@ fn first_element(stages: &[Stage], last: &Pad) -> u32
 }
 
 /// Takes the memory for one more item that waits at the first pad.
-fn make_room(
-    stages: &mut Vec<Stage>,
-    waiting: &mut VecDeque<Item>,
-) -> Result<(), OutOfMemory>
+fn make_room(stages: &mut Vec<Stage>, waiting: &mut VecDeque<Item>) -> Result<(), OutOfMemory>
     ensures room { OnOk result (HasRoom stages.new.items (deque_len waiting.new) (deque_capacity waiting.new)) }
     ensures stages { SameStages stages.old.items stages.new.items }
     ensures size { vec_len stages.new ≡ vec_len stages.old }

@@ -1,4 +1,4 @@
-use Rattle.std.proofs.Common.{◌+◌, ℕ, refl, sym, ◌∙◌, ap}
+use Rattle.std.proofs.Common.{◌+◌, ℕ, sym, ◌∙◌, ap}
 use Rattle.stream_task.proofs.Steps.{put_goes, idle_goes, source_goes}
 use Rattle.stream_task.proofs.task.Task.give.Goals as goal
 
