@@ -1,0 +1,103 @@
+-- The evaluation of a launch line's graph.
+use Rattle.std.specs.Prelude.{◌≡◌, ◌<◌, ◌+◌, ◌*◌, ◌/◌, ◌%◌, ◌==◌, ◌⊎◌, ℕ, zero, suc, List, [], ◌∷◌, Option, None, Some, if◌then◌else◌, map, length, slice_get}
+use Rattle.std.specs.List.{range_with_len}
+use Rattle.flow_model.specs.Item.{Item}
+use Rattle.flow_model.specs.Prefix.{IsPrefix}
+use Rattle.flow_model.specs.Call.{feeds}
+use Rattle.flow_model.specs.Chain.{first_section, IsPlain}
+use Rattle.flow_model.specs.Rule.{Rule, single, owed_for}
+use Rattle.flow_model.specs.Link.{Span, Linked}
+use Rattle.flow_model.specs.Eval.{Plan, eval}
+use Rattle.flow_model.specs.Account.{IsMember}
+use Rattle.el_set.specs.Asked.{sink_pads}
+use Rattle.el_set.specs.Denoted.{response_of}
+use Rattle.el_set.specs.Made.{list_of}
+use Rattle.graph_core.specs.Elements.{Made}
+use Rattle.graph_core.specs.Links.{source_before}
+use Rattle.graph_core.specs.declared.pad.PadLink.{PadLink}
+use Rattle.graph_core.specs.declared.pad.PadPlace.{PadPlace}
+
+-- the most source pads of an element
+abbrev pub most_pads : ℕ
+most_pads = 64
+
+-- The number of a source pad in the line: each element has room for as many as it can have.
+abbrev pub pad_id : PadPlace → ℕ
+pad_id place = place.element * most_pads + place.pad
+
+-- the pad of a number in an element
+abbrev pub owner_of : ℕ → ℕ
+owner_of p = p / most_pads
+
+-- what a sink pad is linked to from the start
+abbrev pub spans_from : Option PadPlace → List Span
+spans_from None = []
+spans_from (Some source) = Linked (pad_id source) 0 [] ∷ []
+
+abbrev pub sink_at : ℕ → ℕ → PadPlace
+sink_at e k = record { element = e; pad = k }
+
+abbrev pub sink_count : Option Made → ℕ
+sink_count None = 0
+sink_count (Some m) = sink_pads m.settings
+
+-- the links of the sink pads of an element
+abbrev pub sinks_in : List Made → List PadLink → ℕ → List (List Span)
+sinks_in made links e = map (λ k. spans_from (source_before links (sink_at e k))) (range_with_len 0 (sink_count (slice_get made e)))
+
+-- what an element owes: a source its list, by the content of its file, and each other by the rule of its settings
+abbrev pub rule_for : Option Made → ℕ → List ℕ → Rule
+rule_for None e content = λ inputs port j. []
+rule_for (Some m) e content = if sink_pads m.settings == 0 then (λ inputs port. first_section (list_of m.settings e content)) else single (response_of m.settings)
+
+-- The plan of a line: its elements with their links, what each reads, and how many items crossed each source pad.
+unfoldable pub line_plan : (ℕ → List ℕ) → List Made → List PadLink → List ℕ → (ℕ → ℕ) → Plan
+line_plan contents made links forward count =
+    record {
+      forward = forward;
+      owner = owner_of;
+      port = λ p. p % most_pads;
+      sinks = sinks_in made links;
+      rule = λ e. rule_for (slice_get made e) e (contents e);
+      log = λ p. record { cuts = []; count = count p };
+    }
+
+-- one of the links
+abbrev pub IsIn : PadLink → List PadLink → Type 0
+IsIn link [] = ⊥
+IsIn link (l ∷ links) = (link ≡ l) ⊎ IsIn link links
+
+-- each link comes from a pad of an element that stands earlier
+abbrev pub GoesAlong : List PadLink → List ℕ → List ℕ → Type 0
+GoesAlong links seen [] = Unit {0}
+GoesAlong links seen (e ∷ es) =
+    ((link : PadLink) → IsIn link links → link.sink.element ≡ e → (link.source.pad < most_pads) × IsMember link.source.element seen) × GoesAlong links (e ∷ seen) es
+
+-- what crossed the pad that an element's first sink pad is linked to
+abbrev pub before_it : (ℕ → List Item) → Option PadPlace → List Item
+before_it h None = []
+before_it h (Some source) = h (pad_id source)
+
+-- An element took a beginning of what crossed the pad before it, and each of its source pads was crossed by a
+-- beginning of what it owes for that.
+pub record Took (links : List PadLink) (h : ℕ → List Item) (m : Made) (e : ℕ) : Type 0 where
+  pub fed : List Item
+  pub begins : IsPrefix fed (before_it h (source_before links (sink_at e 0)))
+  pub plain : IsPlain (owed_for (response_of m.settings) (feeds fed))
+  pub pads : (p : ℕ) → owner_of p ≡ e → IsPrefix (h p) (owed_for (response_of m.settings) (feeds fed))
+
+-- what holds of an element without sink pads, and of one with some
+abbrev pub WithPads : ℕ → Type 0 → Type 0 → Type 0
+WithPads zero Source Other = Source
+WithPads (suc n) Source Other = Other
+
+-- the same of any element; a source gave a beginning of its list
+abbrev pub ElementHas : (ℕ → List ℕ) → List PadLink → (ℕ → List Item) → ℕ → Option Made → Type 0
+ElementHas contents links h e None = (p : ℕ) → owner_of p ≡ e → h p ≡ []
+ElementHas contents links h e (Some m) = WithPads (sink_pads m.settings) ((p : ℕ) → owner_of p ≡ e → IsPrefix (h p) (list_of m.settings e (contents e))) (Took links h m e)
+
+-- Lists that each element of a line has are the histories of the line's evaluation, cut at their lengths.
+abbrev pub LineToWhole : Type 0
+LineToWhole = (contents : ℕ → List ℕ) (made : List Made) (links : List PadLink) (forward : List ℕ) (h : ℕ → List Item) → GoesAlong links [] forward
+    → ((e : ℕ) → IsMember e forward → ElementHas contents links h e (slice_get made e))
+    → (p : ℕ) → IsMember (owner_of p) forward → eval (line_plan contents made links forward (λ q. length (h q))) p ≡ h p
