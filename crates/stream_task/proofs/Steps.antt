@@ -221,7 +221,7 @@ module _ {S K I O : Type 0} (content : S → Option (List ℕ)) (bytes : K → O
       go : StagesStop was task.stages.items waited task.waiting.items l.head.given l.stages l.done (TooLong element a b) → AtFault content bytes received sent task l (TooLong element a b)
       go (inl f) = inl (limited was waited task l element a b p f.0 f.2 f.3 f.4)
       go (inr s) = inr (refused was waited task l _ p s)
-  stopped_fault was waited task l OutOfMemory own p = (p.stop.lists, p.stop.rules, left_over was waited task l OutOfMemory p p.stop.lists p.stop.keep p.stop.begins)
+  stopped_fault was waited task l OutOfMemory own p = (p.stop.lists, p.stop.rules, left_over was waited task l OutOfMemory p p.stop.lists p.stop.keep p.stop.begins, p.tail)
 
   pub element_cause : (source_faults : S → ℕ) (sink_faults : K → ℕ) (was is : Task S K I O) (fault : TaskFault) → IsElementFault fault → IsTaskCause source_faults sink_faults was is fault
   element_cause source_faults sink_faults was is (ReadFault element before after) own = absurd own
@@ -282,9 +282,9 @@ module _ {S K I O : Type 0} (content : S → Option (List ℕ)) (bytes : K → O
       })
 
   -- a source gave no item
-  pub source_goes : (task : Task S K I O) (l : TaskLists) (element : ℕ) (fault : SrcFault) → Stands content bytes received sent task l → AtFault content bytes received sent task l (source_fault element fault)
-  source_goes task l element (SourceRead before after) s = s
-  source_goes task l element SourceMemory s = (l.stages, refl, has_crossed task l s)
+  pub source_goes : (task : Task S K I O) (l : TaskLists) (element : ℕ) (fault : SrcFault) → Stands content bytes received sent task l → IsIdle task → AtFault content bytes received sent task l (source_fault element fault)
+  source_goes task l element (SourceRead before after) s i = (s, i)
+  source_goes task l element SourceMemory s i = (l.stages, refl, has_crossed task l s, s.tail)
 
   -- nothing waits, and the head has given as many items as cross a pad
   pub first_limit : (task : Task S K I O) (l : TaskLists) (element : ℕ) → Stands content bytes received sent task l → IsIdle task → 1099511627776 ≤ task.given → task.over ≡ false
@@ -318,7 +318,7 @@ module _ {S K I O : Type 0} (content : S → Option (List ℕ)) (bytes : K → O
   }
 
   pub wanting : (task : Task S K I O) (l : TaskLists) → Stands content bytes received sent task l → AtFault content bytes received sent task l OutOfMemory
-  wanting task l s = (l.stages, refl, has_crossed task l s)
+  wanting task l s = (l.stages, refl, has_crossed task l s, s.tail)
 
   -- a task stands for the same lists as one with the same parts
   pub found_stands : (was is : Task S K I O) (l : TaskLists) → is.stages ≡ was.stages → is.waiting ≡ was.waiting → is.last ≡ was.last → is.head ≡ was.head → is.given ≡ was.given → is.over ≡ was.over → is.tail ≡ was.tail

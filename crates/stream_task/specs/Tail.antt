@@ -1,6 +1,6 @@
 -- What the tail of a task was given.
 use Rattle.std.specs.Prelude.{◌≡◌, ℕ, ◌+◌, Bool, true, List, [], ◌∷◌, ◌++◌, Option, Some, None, Result, Ok, Err, option_map}
-use Rattle.flow_model.specs.Item.{Item, is_buffer}
+use Rattle.flow_model.specs.Item.{Item, is_buffer, buffers}
 use Rattle.lane_core.specs.declared.ends.Put.TheVariants.{Stored, Full}
 use Rattle.lane_core.specs.Lane.{Lane, IsOf, IsBetween}
 use Rattle.lane_core.specs.Room.{Limits}
@@ -17,11 +17,11 @@ use Rattle.stream_task.specs.declared.tail.Sending.TheVariants.{Sent, Back}
 use Rattle.stream_task.specs.declared.tail.Unsent.{Unsent}
 use Rattle.stream_task.specs.declared.tail.Unsent.TheVariants.{Unwritten, NotLinked}
 
--- the sink was given the list, or the list was sent into the lane, or it reached nobody
+-- the sink was given the list, or the list was sent into the lane, or it reached nobody and has no buffer
 abbrev pub TailHas : {K O : Type 0} → (K → Option (List ℕ)) → (O → List Item → Type 0) → Bool → Tail K O → List Item → Type 0
 TailHas bytes sent keep (tails.Sink element sink) done = SinkHeld bytes keep sink done
 TailHas bytes sent keep (tails.Lane number outlet) done = sent outlet done
-TailHas bytes sent keep tails.Open done = Unit {0}
+TailHas bytes sent keep tails.Open done = buffers done ≡ 0
 
 -- the sink was given the list, and then an item that it could not write whole
 abbrev pub TailPart : {K O : Type 0} → (K → Option (List ℕ)) → Bool → Tail K O → List Item → Item → Type 0

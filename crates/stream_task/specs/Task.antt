@@ -106,15 +106,21 @@ pub record AtLimit {S K I O : Type 0} (content : S → Option (List ℕ)) (bytes
   pub full : length (crossed_at l.stages l.done place) ≡ most_items
   pub more : (crossed_at l.stages l.done place ≢ put_at l.head.given l.stages place) ⊎ ((place ≡ 0) × (task.over ≡ false))
 
+-- nothing waits in a task
+pub record IsIdle {S K I O : Type 0} (task : Task S K I O) : Type 0 where
+  pub stages : AreIdle task.stages.items
+  pub last : task.waiting.items ≡ []
+
 -- A task after a fault. For want of memory one more item may have crossed.
 abbrev pub AtFault : {S K I O : Type 0} → (S → Option (List ℕ)) → (K → Option (List ℕ)) → (I → List Item → Type 0) → (O → List Item → Type 0) → Task S K I O → TaskLists → TaskFault → Type 0
-AtFault content bytes received sent task l (ReadFault element before after) = Stands content bytes received sent task l
+AtFault content bytes received sent task l (ReadFault element before after) = Stands content bytes received sent task l × IsIdle task
 AtFault content bytes received sent task l (WriteFault element before after) = Unwritten content bytes received task l
 AtFault content bytes received sent task l (Stream element place kind) = Refused content bytes received sent task l (Stream element place kind)
 AtFault content bytes received sent task l (Caps element offered wanted) = Refused content bytes received sent task l (Caps element offered wanted)
 AtFault content bytes received sent task l (TooLong element a b) = AtLimit content bytes received sent task l element a b ⊎ Refused content bytes received sent task l (TooLong element a b)
 AtFault content bytes received sent task l (NotLinked element place) = Unlinked content bytes received sent task l element place
-AtFault content bytes received sent task l OutOfMemory = (ls : List StageList) × SameRules l.stages ls × HasCrossed content received task (record l { stages = ls })
+AtFault content bytes received sent task l OutOfMemory =
+    (ls : List StageList) × SameRules l.stages ls × HasCrossed content received task (record l { stages = ls }) × TailHas bytes sent l.keep task.tail l.done
 
 -- The cause of a fault: the count of the source or of the sink rose, and the fault names it and both counts.
 abbrev pub IsTaskCause : {S K I O : Type 0} → (S → ℕ) → (K → ℕ) → Task S K I O → Task S K I O → TaskFault → Type 0
@@ -147,11 +153,6 @@ IsEmptyLane inlet tells got = (n : ℕ) (sent : List Item) → inlet ≡ Some n 
 -- a lane that a table tells holds its limit
 abbrev pub IsFullLane : Option ℕ → Option ℕ → Option (List Lane) → List Item → Type 0
 IsFullLane outlet limit tells done = (n most : ℕ) (taken : List Item) → outlet ≡ Some n → limit ≡ Some most → IsBetween tells n done taken → ForSome tells (λ t. length taken + most ≤ length done)
-
--- nothing waits in a task
-pub record IsIdle {S K I O : Type 0} (task : Task S K I O) : Type 0 where
-  pub stages : AreIdle task.stages.items
-  pub last : task.waiting.items ≡ []
 
 -- items wait at the last pad alone
 pub record WaitsAtLast {S K I O : Type 0} (task : Task S K I O) : Type 0 where
@@ -241,6 +242,14 @@ pub record Frame {S K I O : Type 0} (source_location content : S → Option (Lis
   pub outlet : tail_place place_out is.tail ≡ tail_place place_out was.tail
   pub outlet_id : tail_id id_out is.tail ≡ tail_id id_out was.tail
   pub limit : tail_limit limits is.tail ≡ tail_limit limits was.tail
+
+-- how many items the head has given
+abbrev pub given_of : {S K I O : Type 0} → Task S K I O → ℕ
+given_of task = task.given
+
+-- the head gives an item only where nothing waits
+abbrev pub AskedIdle : {S K I O : Type 0} → Task S K I O → Task S K I O → Type 0
+AskedIdle was is = given_of is ≢ given_of was → IsIdle was
 
 -- how many moves a task has made: items that its head gave, and crossings of its pads
 abbrev pub moves_of : {S K I O : Type 0} → Task S K I O → ℕ

@@ -64,7 +64,7 @@ impl<S: Source, K: Sink, I: Inlet<Out = O>, O: Outlet<Lanes = I::Lanes>> Task<S,
     ghost use Rattle.stream_task.specs.declared.step.Step.TheVariants.{Moved, NeedsRoom};
     ghost use Rattle.stream_task.specs.declared.task.Last.TheVariants.{Idle, Full};
     ghost use Rattle.stream_task.specs.Tail.{TailHas, tail_place, tail_limit, tail_len, tail_refusals};
-    ghost use Rattle.stream_task.specs.Task.{TaskLists, Stands, IsReady, Goes, HasPassed, LastGoes, SameBeside, NeedsNoRoom, IsStill, step_of, step_with, IsTakeTry, IsPutTry, KeepsTable, AtFault, IsTaskCause, Frame, Burns, moves_of, IsOneMove, IsOneTry, fuel, head_of, tail_of, stages_of, last_of};
+    ghost use Rattle.stream_task.specs.Task.{TaskLists, Stands, IsReady, Goes, HasPassed, LastGoes, SameBeside, NeedsNoRoom, IsStill, AskedIdle, step_of, step_with, IsTakeTry, IsPutTry, KeepsTable, AtFault, IsTaskCause, Frame, Burns, moves_of, IsOneMove, IsOneTry, fuel, head_of, tail_of, stages_of, last_of};
 
     /// A task of these parts that moved nothing yet. `last` is the number of the element before the tail.
     pub fn new(
@@ -141,6 +141,7 @@ impl<S: Source, K: Sink, I: Inlet<Out = O>, O: Outlet<Lanes = I::Lanes>> Task<S,
         ensures frame { Frame S.location S.content K.location I.place I.id O.place O.limits O.id self.old self.new }
         ensures burns { IfOk result (λ step. Burns step (fuel self.old) (fuel self.new)) }
         ensures moves { IsOneMove result (moves_of self.old) (moves_of self.new) }
+        ensures asked { AskedIdle self.old self.new }
         ensures tries { IsOneTry result (head_refusals I.refusals (head_of self.old)) (head_refusals I.refusals (head_of self.new)) (tail_refusals O.refusals (tail_of self.old)) (tail_refusals O.refusals (tail_of self.new)) }
     {
         match self.send(lanes) {
@@ -232,6 +233,7 @@ impl<S: Source, K: Sink, I: Inlet<Out = O>, O: Outlet<Lanes = I::Lanes>> Task<S,
         ensures takes { IsTakeTry result (head_refusals I.refusals (head_of self.old)) (head_refusals I.refusals (head_of self.new)) }
         ensures tail { tail_of self.new ≡ tail_of self.old }
         ensures never { IfOk result NeedsNoRoom }
+        ensures asked { AskedIdle self.old self.new }
     {
         match self.farthest() {
             Some(place) => match self.pass(alloc, place) {
@@ -310,6 +312,7 @@ impl<S: Source, K: Sink, I: Inlet<Out = O>, O: Outlet<Lanes = I::Lanes>> Task<S,
         ensures takes { IsTakeTry result (head_refusals I.refusals (head_of self.old)) (head_refusals I.refusals (head_of self.new)) }
         ensures tail { tail_of self.new ≡ tail_of self.old }
         ensures never { IfOk result NeedsNoRoom }
+        ensures asked { AskedIdle self.old self.new }
     {
         if self.over {
             return Ok(Step::Ended);
@@ -359,6 +362,7 @@ impl<S: Source, K: Sink, I: Inlet<Out = O>, O: Outlet<Lanes = I::Lanes>> Task<S,
         ensures takes { IsTakeTry result (head_refusals I.refusals (head_of self.old)) (head_refusals I.refusals (head_of self.new)) }
         ensures tail { tail_of self.new ≡ tail_of self.old }
         ensures never { IfOk result NeedsNoRoom }
+        ensures asked { AskedIdle self.old self.new }
     {
         match self.head.next(alloc, lanes) {
             Ok(Some(item)) => {

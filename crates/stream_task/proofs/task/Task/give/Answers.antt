@@ -27,4 +27,4 @@ returns-in-Err-clause-fault g c =
     λ l s.
     rw c.source_fault.ensures
     (source_goes {S = g.row.S.Denot} {K = g.row.K.Denot} {I = g.row.I.Denot} {O = g.row.O.Denot} g.S.Source.content g.K.Sink.bytes g.I.Inlet.received g.O.Outlet.sent _ l c.first_element.result c.in-Err.fault
-    (record { gave = c.in-Err.ensures.kept l.head s.gave; number = s.number; over = s.over; stages = s.stages; held = s.held; counted = s.counted; tail = s.tail }))
+    (record { gave = c.in-Err.ensures.kept l.head s.gave; number = s.number; over = s.over; stages = s.stages; held = s.held; counted = s.counted; tail = s.tail }) (record { stages = c.requires.idle; last = c.requires.none }))
