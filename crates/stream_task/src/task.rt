@@ -167,6 +167,7 @@ impl<S: Source, K: Sink, I: Inlet<Out = O>, O: Outlet<Lanes = I::Lanes>> Task<S,
         ensures puts { IsPutTry result (tail_refusals O.refusals (tail_of self.old)) (tail_refusals O.refusals (tail_of self.new)) }
         ensures idle { result ≡ Ok Idle → self.new.waiting.items ≡ [] }
         ensures still { result ≡ Ok Idle → SameBeside self.old self.new }
+        ensures found { result ≡ Ok Idle → (self.old.waiting.items ≡ []) × (stages_of self.new ≡ stages_of self.old) }
         ensures stays { IsStill result → O.tells lanes.new ≡ O.tells lanes.old }
         ensures full { (n : ℕ) → result ≡ Ok (Full n) → self.new.waiting.items ≢ [] }
         ensures head { (self.new.head ≡ self.old.head) × (self.new.given ≡ self.old.given) }

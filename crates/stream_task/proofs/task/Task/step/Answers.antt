@@ -1,4 +1,5 @@
-use Rattle.std.proofs.Common.{Ok, ap, ◌∙◌}
+use Rattle.std.proofs.Common.{Ok, ap, subst, ◌∙◌}
+use Rattle.stream_task.specs.Stage.{AreIdle}
 use Rattle.stream_task.proofs.Steps.{full_result, same_cause, element_cause, err_with}
 use Rattle.stream_task.proofs.task.Task.step.Goals as goal
 
@@ -16,3 +17,10 @@ returns-in-Ok-Idle-clause-cause g c =
     err_with c.pass_or_ask.result
     (λ fault cause. same_cause g.S.Source.faults g.K.Sink.faults c.args.self.now c.send.new.self c.pass_or_ask.new.self fault (c.send.ensures.still (c.in-Ok-Idle.is ∙ ap Ok c.in-Ok-Idle.field-0-is)) cause)
     c.pass_or_ask.ensures.cause
+
+pub returns-in-Ok-Idle-clause-asked : goal.returns-in-Ok-Idle-clause-asked
+returns-in-Ok-Idle-clause-asked g c =
+    λ ne.
+    let found = c.send.ensures.found (c.in-Ok-Idle.is ∙ ap Ok c.in-Ok-Idle.field-0-is) in
+    let idle = c.pass_or_ask.ensures.asked (λ e. ne (e ∙ c.send.ensures.head.1)) in
+    record { stages = subst AreIdle found.1 idle.stages; last = found.0 }
