@@ -1,0 +1,12 @@
+//! Orders in which tasks take turns.
+#![tactic(auto)]
+
+mod draws;
+pub mod order;
+pub mod turns;
+
+pub use order::{Order, place};
+pub use turns::Turns;
+
+#[cfg(test)]
+mod tests;
