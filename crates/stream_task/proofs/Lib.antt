@@ -4,3 +4,6 @@ pub mod Keeping
 pub mod Rooms
 pub mod Stages
 pub mod Steps
+pub mod Places
+pub mod Closed
+pub mod Nets
