@@ -49,3 +49,18 @@ pub closed_rest : (given xs ys : List Item) → IsClosed given → given ≡ xs 
 closed_rest given xs ys h e eos =
     last_of ys (ys ≡ []) (λ none. none)
     (λ front y last. absurd (true≢false (sym (eos_longer xs front eos) ∙ h (xs ++ front) y (e ∙ ap (λ (zs : List Item). xs ++ zs) last ∙ sym (append_assoc xs front (y ∷ []))))))
+
+-- a front of such a list is one
+pub closed_front : (list xs ys : List Item) → IsClosed list → list ≡ xs ++ ys → IsClosed xs
+closed_front list xs ys h e zs z f = by_eos (has_eos zs) refl
+  where
+    not_nil : {A : Type 0} {y : A} {rest : List A} → y ∷ rest ≡ [] → ⊥
+    not_nil n = cc
+
+    by_eos : (eos : Bool) → has_eos zs ≡ eos → has_eos zs ≡ false
+    by_eos true has = absurd (not_nil (closed_rest list zs (z ∷ ys) h (e ∙ ap (λ (ws : List Item). ws ++ ys) f ∙ append_assoc zs (z ∷ []) ys) has))
+    by_eos false has = has
+
+pub first_nil : {A : Type 0} (xs ys : List A) → xs ++ ys ≡ [] → xs ≡ []
+first_nil [] ys e = refl
+first_nil (x ∷ xs) ys e = absurd cc

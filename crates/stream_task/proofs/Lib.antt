@@ -7,3 +7,6 @@ pub mod Steps
 pub mod Places
 pub mod Closed
 pub mod Nets
+pub mod Stalls
+pub mod Tries
+pub mod Turning
