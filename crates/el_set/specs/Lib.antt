@@ -1,3 +1,4 @@
+pub mod Closed
 pub mod Kinds
 pub mod Rows
 pub mod Numbers

@@ -2,6 +2,7 @@
 #![tactic(auto)]
 
 mod checking;
+pub mod closed;
 mod denoting;
 mod domain;
 pub mod element;
