@@ -6,7 +6,7 @@ use Rattle.std.proofs.lemmas.Bool.{true≢false}
 use Rattle.flow_model.specs.Item.{Item, is_eos}
 use Rattle.el_src.specs.Gave.{has_eos}
 use Rattle.stream_task.specs.Task.{GivesMore}
-use Rattle.stream_task.specs.Net.{IsClosed}
+use Rattle.el_set.specs.Closed.{IsClosed}
 
 none_last : {A : Type 0} (xs : List A) (x : A) → [] ≡ xs ++ x ∷ [] → ⊥
 none_last xs x e = omega (arith, ap length e, length-append xs (x ∷ []))

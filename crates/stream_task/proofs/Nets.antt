@@ -1,8 +1,8 @@
 -- A net stays a net behind a step of one of its tasks.
-use Rattle.std.proofs.Common.{◌≡◌, ◌≢◌, ◌<◌, ◌≤◌, ◌+◌, ℕ, suc, List, [], ◌∷◌, length, map, Some, None, Option, true, false, cond, eqb, refl, ap, sym, ◌∙◌, subst, ⊎_elim, ◌⊎◌, inl, inr, arith}
-use Rattle.std.specs.Prelude.{slice_get, slice_set, Result, Ok, Err}
+use Rattle.std.proofs.Common.{◌≡◌, ◌≢◌, ◌<◌, ◌≤◌, ◌+◌, ℕ, suc, List, [], ◌∷◌, ◌++◌, append-nil, length, map, Some, None, Option, true, false, cond, eqb, refl, ap, sym, ◌∙◌, subst, ⊎_elim, ◌⊎◌, inl, inr, arith}
+use Rattle.std.specs.Prelude.{slice_get, slice_set, IsSome, Result, Ok, Err}
 use Rattle.std.specs.Option.{ForSome}
-use Rattle.std.proofs.lemmas.Bool.{cases_eq, cond-true, cond-false, eq-eqb, ne_eqb}
+use Rattle.std.proofs.lemmas.Bool.{cases_eq, false≢true, cond-true, cond-false, eq-eqb, ne_eqb}
 use Rattle.flow_model.specs.Item.{Item}
 use Rattle.flow_model.specs.Rule.{Response}
 use Rattle.lane_core.specs.Lane.{Lane, IsBetween}
@@ -14,15 +14,23 @@ use Rattle.stream_task.specs.declared.stage.Stage.{Stage}
 use Rattle.stream_task.specs.declared.step.Step.{Step}
 use Rattle.stream_task.specs.declared.step.Step.TheVariants.{Moved, NeedsItem, NeedsRoom, Ended}
 use Rattle.stream_task.specs.declared.task.Task.{Task}
-use Rattle.stream_task.specs.Head.{head_place}
 use Rattle.stream_task.specs.Stage.{StageList, element_at}
 use Rattle.stream_task.specs.Tail.{tail_place, tail_limit}
-use Rattle.stream_task.specs.Task.{TaskLists, IsOneMove, moves_of, moved_to, Stands, Goes, Keeps, KeepsTable, IsReady, AtFault, IsTaskCause, Frame, Burns, SameRules, fuel, head_of, tail_of, stages_of, last_of, numbers_of}
+use Rattle.stream_task.specs.Task.{SameRules, numbers_of, TaskLists, IsOneMove, moves_of, moved_to, Stands, Goes, Keeps, KeepsTable, IsReady, AtFault, IsTaskCause, Frame, Burns, fuel, head_of, tail_of, stages_of, last_of}
 use Rattle.stream_task.proofs.Keeping.{ready_kept}
-use Rattle.stream_task.specs.Net.{Sends, Takes, IsWired, AllReady, IsLaid, IsClosed, IsPlain, ArePlain, IsNet, GoesOn, NetGoes, NetRests, NetStepped, NetFaulted, IsNetCause, AllFramed, Burned, has_moved, net_fuel}
+use Rattle.stream_task.specs.Net.{Sends, Takes, IsWired, AllReady, IsLaid, IsPlain, Flows, ArePlain, IsNet, GoesOn, NetGoes, NetRests, NetStepped, NetFaulted, IsNetCause, AllFramed, Burned, has_moved, net_fuel}
 use Rattle.stream_task.specs.Turns.{MovesOnce, EachMovesOnce}
-use Rattle.stream_task.proofs.Closed.{closed_more}
+use Rattle.flow_model.specs.Prefix.{IsPrefix}
+use Rattle.flow_model.proofs.Prefixes.{prefix_by, prefix_trans}
+use Rattle.stream_task.specs.declared.head.Head.{Head}
+use Rattle.stream_task.specs.declared.head.Head.TheVariants as heads
+use Rattle.stream_task.specs.Head.{HeadLists, HeadGave, head_place}
+use Rattle.stream_task.proofs.Closed.{closed_more, first_nil}
 use Rattle.stream_task.proofs.Places.{some_same, none_some, set_here, set_there, set_length, some_before, sum_set}
+
+pub some_of : {A : Type 0} (o : Option A) → IsSome o → (a : A) × (o ≡ Some a)
+some_of None h = absurd (false≢true h)
+some_of (Some a) h = (a, refl)
 
 -- the lists of a net with those of one task exchanged
 abbrev pub with_lists : ℕ → TaskLists → (ℕ → TaskLists) → ℕ → TaskLists
@@ -151,6 +159,14 @@ module _ {S K I O : Type 0} (source_location content : S → Option (List ℕ)) 
         subst (λ (t : Option (List Lane)). IsBetween t n [] (lists r).head.got) (sym same) (laid.unsent n r (λ s a. none s (sends_again was is s n e framed a)) (takes_framed was is r n e framed b));
   }
 
+  -- and so is what queues gave
+  pub flows_framed : (was is : List (Task S K I O)) (lists : ℕ → TaskLists) → length is ≡ length was → AllFramed source_location content sink_location place_in id_in place_out limits id_out was is
+      → Flows place_in place_out was lists → Flows place_in place_out is lists
+  flows_framed was is lists e framed flows = record {
+    begins = λ n s r a b. flows.begins n s r (sends_framed was is s n e framed a) (takes_framed was is r n e framed b);
+    nothing = λ n r none b. flows.nothing n r (λ s a. none s (sends_again was is s n e framed a)) (takes_framed was is r n e framed b);
+  }
+
   -- each lane lies between what was sent and received, also behind a step of a task
   pub laid_with : (was is : List (Task S K I O)) (place : ℕ) (task : Task S K I O) (lists : ℕ → TaskLists) (l : TaskLists) (tells tells' : Option (List Lane)) → length is ≡ length was
       → AllFramed source_location content sink_location place_in id_in place_out limits id_out was is → slice_get was place ≡ Some task → IsWired place_in place_out limits was
@@ -222,6 +238,33 @@ module _ {S K I O : Type 0} (source_location content : S → Option (List ℕ)) 
   net_cause source_faults sink_faults was is (TooLong element a b) f h = tt
   net_cause source_faults sink_faults was is (NotLinked element place) f h = tt
   net_cause source_faults sink_faults was is OutOfMemory f h = tt
+
+-- a queue in front of whose lane nothing was put gave all that it took
+pub queue_gave : {S I : Type 0} (content : S → Option (List ℕ)) (received : I → List Item → Type 0) (place : I → ℕ) (head : Head S I) (l : HeadLists) (n : ℕ) → head_place place head ≡ Some n → HeadGave content received head l → l.front ≡ []
+    → l.given ≡ l.got
+queue_gave content received place (heads.Source s) l n e h none = absurd (none_some e)
+queue_gave content received place heads.Unlinked l n e h none = absurd (none_some e)
+queue_gave content received place (heads.Queue q) l n e h none =
+    let whole : l.given ++ q.given.items ≡ l.got = h.whole ∙ ap (λ (f : List Item). f ++ l.got) none in
+    ⊎_elim (λ nil. sym (append-nil l.given) ∙ ap (λ (r : List Item). l.given ++ r) (sym nil) ∙ whole) (λ nil. first_nil l.given q.given.items (whole ∙ nil) ∙ sym nil) h.order
+
+-- from a lane without items before it nothing comes
+none_came : (tells : Option (List Lane)) (table : List Lane) (n : ℕ) (got : List Item) → tells ≡ Some table → IsBetween tells n [] got → got ≡ []
+none_came tells table n got told b = let lane = b table told in first_nil got lane.0.items (sym lane.2)
+
+module _ {S K I O : Type 0} (content : S → Option (List ℕ)) (bytes : K → Option (List ℕ)) (received : I → List Item → Type 0) (sent : O → List Item → Type 0) (place_in : I → ℕ) (place_out : O → ℕ) where
+  pub net_gave : (tasks : List (Task S K I O)) (lists : ℕ → TaskLists) (tells : Option (List Lane)) → IsNet content bytes received sent place_in place_out tasks lists tells → (n r : ℕ) → Takes place_in tasks r n
+      → (lists r).head.given ≡ (lists r).head.got
+  net_gave tasks lists tells net n r b = queue_gave content received place_in (head_of b.0) (lists r).head n b.2 (net.stands r b.0 b.1).gave (net.plain r b.0 b.1).front
+
+  pub net_flows : (tasks : List (Task S K I O)) (lists : ℕ → TaskLists) (tells : Option (List Lane)) (table : List Lane) → tells ≡ Some table → IsNet content bytes received sent place_in place_out tasks lists tells
+      → Flows place_in place_out tasks lists
+  net_flows tasks lists tells table told net = record {
+    begins = λ n s r a b.
+        let lane = net.laid.between n s r a b table told in
+        prefix_by (lists r).head.given lane.0.items (ap (λ (ys : List Item). ys ++ lane.0.items) (net_gave tasks lists tells net n r b) ∙ sym lane.2);
+    nothing = λ n r none b. net_gave tasks lists tells net n r b ∙ none_came tells table n (lists r).head.got told (net.laid.unsent n r none b);
+  }
 
 module _ {S K I O : Type 0} (place_in : I → ℕ) (place_out : O → ℕ) (limits : O → Limits) (count : O → ℕ) where
   -- all tasks stay ready
@@ -320,11 +363,12 @@ module _ {S K I O : Type 0} (source_location content : S → Option (List ℕ)) 
   net_stepped tasks place was is (NeedsRoom n) lists tells tells' at frame wired net g = net_rests tasks place was is (NeedsRoom n) lists tells tells' refl at frame net g
   net_stepped tasks place was is Ended lists tells tells' at frame wired net g = net_rests tasks place was is Ended lists tells tells' refl at frame net g
 
-  pub net_faulted : (tasks : List (Task S K I O)) (place : ℕ) (was is : Task S K I O) (fault : TaskFault) (lists : ℕ → TaskLists) (tells tells' : Option (List Lane)) → slice_get tasks place ≡ Some was
+  pub net_faulted : (tasks : List (Task S K I O)) (place : ℕ) (was is : Task S K I O) (fault : TaskFault) (lists : ℕ → TaskLists) (tells tells' : Option (List Lane)) → IsSome tells → slice_get tasks place ≡ Some was
       → Frame source_location content sink_location place_in id_in place_out limits id_out was is → tells' ≡ tells
       → IsNet content bytes received sent place_in place_out tasks lists tells → AtFault content bytes received sent is (lists place) fault
       → NetFaulted content bytes received sent place_in place_out (slice_set tasks place is) lists tells' place fault
-  net_faulted tasks place was is fault lists tells tells' at frame same net h =
+  net_faulted tasks place was is fault lists tells tells' told at frame same net h =
+      let table = some_of tells told in
       let framed = framed_set source_location content sink_location place_in id_in place_out limits id_out tasks place was is at frame in
       record {
         lists = lists;
@@ -333,6 +377,8 @@ module _ {S K I O : Type 0} (source_location content : S → Option (List ℕ)) 
         faulted = λ t e. subst (λ (u : Task S K I O). AtFault content bytes received sent u (lists place) fault) (sym (set_here tasks place t is e)) h;
         laid = laid_framed source_location content sink_location place_in id_in place_out limits id_out tasks (slice_set tasks place is) lists tells tells' (set_length tasks place is) framed same net.laid;
         plain = plain_same tasks (slice_set tasks place is) lists (set_length tasks place is) net.plain;
+        flows = flows_framed source_location content sink_location place_in id_in place_out limits id_out tasks (slice_set tasks place is) lists (set_length tasks place is) framed
+            (net_flows content bytes received sent place_in place_out tasks lists tells table.0 table.1 net);
       }
 
 less_sum : (a b x y : ℕ) → a + x ≡ b + y → y < x → a < b

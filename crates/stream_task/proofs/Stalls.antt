@@ -9,24 +9,23 @@ use Rattle.flow_model.specs.Rule.{Response}
 use Rattle.el_src.specs.Gave.{has_eos}
 use Rattle.el_set.specs.declared.filter.FilterElement.{FilterElement}
 use Rattle.el_set.specs.Stands.{Stands as ElementStands}
+use Rattle.el_set.specs.Closed.{IsClosed}
 use Rattle.lane_core.specs.Lane.{Lane, IsBetween}
 use Rattle.lane_core.specs.Room.{Limits}
 use Rattle.stream_task.specs.declared.stage.Stage.{Stage}
 use Rattle.stream_task.specs.declared.step.Step.{Step}
 use Rattle.stream_task.specs.declared.step.Step.TheVariants.{Moved, NeedsItem, NeedsRoom, Ended}
 use Rattle.stream_task.specs.declared.task.Task.{Task}
-use Rattle.stream_task.specs.declared.head.Head.{Head}
-use Rattle.stream_task.specs.declared.head.Head.TheVariants as heads
 use Rattle.stream_task.specs.declared.tail.Tail.{Tail}
 use Rattle.stream_task.specs.declared.tail.Tail.TheVariants as tails
-use Rattle.stream_task.specs.Head.{HeadLists, HeadGave, head_place, head_number}
+use Rattle.stream_task.specs.Head.{head_place, head_number}
 use Rattle.stream_task.specs.Tail.{tail_place, tail_number, tail_limit}
 use Rattle.stream_task.specs.Stage.{StageList, StagesStand, AreIdle, owes, put_last}
 use Rattle.stream_task.specs.Task.{TaskLists, IsEmptyLane, IsFullLane, IsIdle, IsWhy, head_of, tail_of, stages_of}
-use Rattle.stream_task.specs.Net.{Sends, Takes, IsWired, IsClosed, IsNet, NetEnded, Rests, has_moved}
+use Rattle.stream_task.specs.Net.{Sends, Takes, IsWired, IsNet, NetEnded, Rests, has_moved}
 use Rattle.stream_task.proofs.Closed.{closed_rest, closed_front, first_nil}
 use Rattle.stream_task.proofs.Places.{none_some}
-use Rattle.stream_task.proofs.Nets.{goes_on_same}
+use Rattle.stream_task.proofs.Nets.{goes_on_same, net_gave, net_flows}
 
 -- an element that was fed EOS has put it out
 abbrev pub EosIsPutOut : Type 0
@@ -57,15 +56,6 @@ stages_eos law (t ∷ ss) put (l ∷ ls) idle s h =
     let all : put ≡ l.crossed = s.0.held ∙ ap (λ (ys : List Item). l.crossed ++ ys) none ∙ append-nil l.crossed in
     stages_eos law ss (owes l) ls (λ k d w. idle (suc k) d (omega (arith, w))) s.1 (law l.rule t.filter l.crossed (owes l) s.0.fed (subst (λ (ys : List Item). has_eos ys ≡ true) all h))
 
--- a queue in front of whose lane nothing was put gave all that it took
-queue_gave : {S I : Type 0} (content : S → Option (List ℕ)) (received : I → List Item → Type 0) (place : I → ℕ) (head : Head S I) (l : HeadLists) (n : ℕ) → head_place place head ≡ Some n → HeadGave content received head l → l.front ≡ []
-    → l.given ≡ l.got
-queue_gave content received place (heads.Source s) l n e h none = absurd (none_some e)
-queue_gave content received place heads.Unlinked l n e h none = absurd (none_some e)
-queue_gave content received place (heads.Queue q) l n e h none =
-    let whole : l.given ++ q.given.items ≡ l.got = h.whole ∙ ap (λ (f : List Item). f ++ l.got) none in
-    ⊎_elim (λ nil. sym (append-nil l.given) ∙ ap (λ (r : List Item). l.given ++ r) (sym nil) ∙ whole) (λ nil. first_nil l.given q.given.items (whole ∙ nil) ∙ sym nil) h.order
-
 -- the place and the limit of a lane that has a number
 place_of : {K O : Type 0} (place : O → ℕ) (tail : Tail K O) (m : ℕ) → tail_number tail ≡ Some m → (n : ℕ) × (tail_place place tail ≡ Some n)
 place_of place (tails.Sink e s) m h = absurd (none_some h)
@@ -92,7 +82,7 @@ module _ {S K I O : Type 0} (content : S → Option (List ℕ)) (bytes : K → O
   few k t at = let s = net.stands k t at in omega (arith, s.counted.items, t.last.limit)
 
   gave_all : (n r : ℕ) → Takes place_in tasks r n → (lists r).head.given ≡ (lists r).head.got
-  gave_all n r b = queue_gave content received place_in (head_of b.0) (lists r).head n b.2 (net.stands r b.0 b.1).gave (net.plain r b.0 b.1).front
+  gave_all n r b = net_gave content bytes received sent place_in place_out tasks lists tells net n r b
 
   -- a task that is over took all that was sent to it
   behind_eos : (n s r : ℕ) → Sends place_out tasks s n → Takes place_in tasks r n → has_eos (lists r).head.given ≡ true → (lists s).done ≡ (lists r).head.got
@@ -182,8 +172,8 @@ module _ {S K I O : Type 0} (content : S → Option (List ℕ)) (bytes : K → O
     goes_on = goes_on_same lists;
     net = net;
     idle = all_idle;
-    drained = all_drained;
-    given = gave_all;
+    drained = λ n s r a b. let all = all_drained n s r a b in (all, gave_all n r b ∙ sym all);
+    nothing = (net_flows content bytes received sent place_in place_out tasks lists tells table told net).nothing;
     sources = λ k t at source. let why = rests k t at in source_over k t why.0 at source why.1 why.2;
     over = over_behind;
   }

@@ -1,7 +1,7 @@
 -- Nets behind many steps.
 use Rattle.std.proofs.Common.{◌≡◌, ◌≢◌, ◌<◌, ◌≤◌, ◌+◌, ℕ, List, length, Some, None, Option, Bool, true, false, ◌||◌, refl, sym, ◌∙◌, subst, ⊎_elim, arith}
 use Rattle.std.specs.Prelude.{slice_get, IsSome}
-use Rattle.std.proofs.lemmas.Bool.{cases_eq, false≢true}
+use Rattle.std.proofs.lemmas.Bool.{cases_eq}
 use Rattle.std.proofs.lemmas.Option.{slice_get_within}
 use Rattle.flow_model.specs.Item.{Item}
 use Rattle.lane_core.specs.Lane.{Lane}
@@ -10,12 +10,8 @@ use Rattle.stream_task.specs.declared.fault.TaskFault.{TaskFault}
 use Rattle.stream_task.specs.declared.task.Task.{Task}
 use Rattle.stream_task.specs.Task.{TaskLists}
 use Rattle.stream_task.specs.Net.{IsWired, IsNet, GoesOn, NetGoes, NetRests, NetStepped, NetAdvanced, NetEnded, NetFaulted, Rests, Burned}
-use Rattle.stream_task.proofs.Nets.{goes_on_same, goes_on_trans}
+use Rattle.stream_task.proofs.Nets.{some_of, goes_on_same, goes_on_trans}
 use Rattle.stream_task.proofs.Stalls.{EosIsPutOut, EosIsLast, net_ended}
-
-pub some_of : {A : Type 0} (o : Option A) → IsSome o → (a : A) × (o ≡ Some a)
-some_of None h = absurd (false≢true h)
-some_of (Some a) h = (a, refl)
 
 -- what steps use up together
 pub burned_both : (one two : Bool) (a b c : ℕ) → Burned one a b → Burned two b c → Burned (one || two) a c
@@ -38,7 +34,7 @@ module _ {S K I O : Type 0} (content : S → Option (List ℕ)) (bytes : K → O
     net = y.net;
     idle = y.idle;
     drained = y.drained;
-    given = y.given;
+    nothing = y.nothing;
     sources = y.sources;
     over = y.over;
   }
@@ -52,7 +48,7 @@ module _ {S K I O : Type 0} (content : S → Option (List ℕ)) (bytes : K → O
   -- a step behind others met a fault
   pub faulted_more : (tasks : List (Task S K I O)) (a b : ℕ → TaskLists) (tells : Option (List Lane)) (place : ℕ) (fault : TaskFault) → GoesOn a b
       → NetFaulted content bytes received sent place_in place_out tasks b tells place fault → NetFaulted content bytes received sent place_in place_out tasks a tells place fault
-  faulted_more tasks a b tells place fault x y = record { lists = y.lists; goes_on = goes_on_trans a b y.lists x y.goes_on; others = y.others; faulted = y.faulted; laid = y.laid; plain = y.plain }
+  faulted_more tasks a b tells place fault x y = record { lists = y.lists; goes_on = goes_on_trans a b y.lists x y.goes_on; others = y.others; faulted = y.faulted; laid = y.laid; plain = y.plain; flows = y.flows }
 
   -- no task was tried yet
   pub none_tried : (tasks : List (Task S K I O)) (lists : ℕ → TaskLists) (tells : Option (List Lane)) → IsNet content bytes received sent place_in place_out tasks lists tells
@@ -96,7 +92,7 @@ module _ {S K I O : Type 0} (content : S → Option (List ℕ)) (bytes : K → O
     net = net;
     idle = λ k t e. let within = slice_get_within tasks k t e in absurd (omega (arith, within, none));
     drained = λ n s r a b. let within = slice_get_within tasks s a.0 a.1 in absurd (omega (arith, within, none));
-    given = λ n r b. let within = slice_get_within tasks r b.0 b.1 in absurd (omega (arith, within, none));
+    nothing = λ n r only b. let within = slice_get_within tasks r b.0 b.1 in absurd (omega (arith, within, none));
     sources = λ k t e source. let within = slice_get_within tasks k t e in absurd (omega (arith, within, none));
     over = λ n s r a b eos. let within = slice_get_within tasks s a.0 a.1 in absurd (omega (arith, within, none));
   }

@@ -2,9 +2,10 @@
 use Rattle.std.specs.Prelude.{◌≡◌, ◌≢◌, ◌≤◌, ◌<◌, ◌+◌, ◌-◌, ◌*◌, ◌++◌, ℕ, Bool, true, false, List, [], ◌∷◌, length, map, sum_by, Option, Some, None, slice_get}
 use Rattle.std.specs.Option.{ForSome}
 use Rattle.flow_model.specs.Item.{Item}
-use Rattle.flow_model.specs.Rule.{Response}
+use Rattle.flow_model.specs.Prefix.{IsPrefix}
 use Rattle.gst_outside.specs.Causes.{Rose}
 use Rattle.el_src.specs.Gave.{has_eos}
+use Rattle.el_set.specs.Closed.{IsClosed}
 use Rattle.lane_core.specs.Lane.{Lane, IsBetween}
 use Rattle.lane_core.specs.Room.{Limits}
 use Rattle.stream_task.specs.declared.fault.TaskFault.{TaskFault}
@@ -46,10 +47,6 @@ pub record IsLaid {S K I O : Type 0} (place_in : I → ℕ) (place_out : O → �
   pub between : (n s r : ℕ) → Sends place_out tasks s n → Takes place_in tasks r n → IsBetween tells n (lists s).done (lists r).head.got
   pub unsent : (n r : ℕ) → ((s : ℕ) → Sends place_out tasks s n → ⊥) → Takes place_in tasks r n → IsBetween tells n [] (lists r).head.got
 
--- EOS stands at the end of a list alone
-abbrev pub IsClosed : List Item → Type 0
-IsClosed list = (xs : List Item) (x : Item) → list ≡ xs ++ x ∷ [] → has_eos xs ≡ false
-
 -- Nothing was put in front of the lane of a task, and its head gave nothing behind EOS.
 pub record IsPlain (l : TaskLists) : Type 0 where
   pub front : l.head.front ≡ []
@@ -65,6 +62,11 @@ pub record IsNet {S K I O : Type 0} (content : S → Option (List ℕ)) (bytes :
   pub laid : IsLaid place_in place_out tasks lists tells
   pub plain : ArePlain tasks lists
 
+-- What a queue gave begins what was sent into its lane, and is nothing where no task sends into it.
+pub record Flows {S K I O : Type 0} (place_in : I → ℕ) (place_out : O → ℕ) (tasks : List (Task S K I O)) (lists : ℕ → TaskLists) : Type 0 where
+  pub begins : (n s r : ℕ) → Sends place_out tasks s n → Takes place_in tasks r n → IsPrefix (lists r).head.given (lists s).done
+  pub nothing : (n r : ℕ) → ((s : ℕ) → Sends place_out tasks s n → ⊥) → Takes place_in tasks r n → (lists r).head.given ≡ []
+
 -- What sources owe, what control gave in front, the rules of the elements and what flushes keep stays.
 pub record GoesOn (was is : ℕ → TaskLists) : Type 0 where
   pub owed : (k : ℕ) → (is k).head.owed ≡ (was k).head.owed
@@ -72,16 +74,16 @@ pub record GoesOn (was is : ℕ → TaskLists) : Type 0 where
   pub rules : (k : ℕ) → SameRules (was k).stages (is k).stages
   pub keep : (k : ℕ) → (is k).keep ≡ (was k).keep
 
--- Nothing waits in a task or in a lane, all that was sent was received and given on, each source has given EOS, and so
--- has each task behind one that has.
+-- Nothing waits in a task or in a lane, each queue gave all that was sent into its lane, each source has given EOS, and
+-- so has each task behind one that has.
 pub record NetEnded {S K I O : Type 0} (content : S → Option (List ℕ)) (bytes : K → Option (List ℕ)) (received : I → List Item → Type 0) (sent : O → List Item → Type 0) (place_in : I → ℕ) (place_out : O → ℕ)
     (tasks : List (Task S K I O)) (was : ℕ → TaskLists) (tells : Option (List Lane)) : Type 0 where
   pub lists : ℕ → TaskLists
   pub goes_on : GoesOn was lists
   pub net : IsNet content bytes received sent place_in place_out tasks lists tells
   pub idle : (k : ℕ) (t : Task S K I O) → slice_get tasks k ≡ Some t → IsIdle t
-  pub drained : (n s r : ℕ) → Sends place_out tasks s n → Takes place_in tasks r n → (lists s).done ≡ (lists r).head.got
-  pub given : (n r : ℕ) → Takes place_in tasks r n → (lists r).head.given ≡ (lists r).head.got
+  pub drained : (n s r : ℕ) → Sends place_out tasks s n → Takes place_in tasks r n → ((lists s).done ≡ (lists r).head.got) × ((lists r).head.given ≡ (lists s).done)
+  pub nothing : (n r : ℕ) → ((s : ℕ) → Sends place_out tasks s n → ⊥) → Takes place_in tasks r n → (lists r).head.given ≡ []
   pub sources : (k : ℕ) (t : Task S K I O) → slice_get tasks k ≡ Some t → head_number (head_of t) ≡ None → has_eos (lists k).head.given ≡ true
   pub over : (n s r : ℕ) → Sends place_out tasks s n → Takes place_in tasks r n → has_eos (lists s).head.given ≡ true → has_eos (lists r).head.given ≡ true
 
@@ -94,6 +96,7 @@ pub record NetFaulted {S K I O : Type 0} (content : S → Option (List ℕ)) (by
   pub faulted : (t : Task S K I O) → slice_get tasks place ≡ Some t → AtFault content bytes received sent t (lists place) fault
   pub laid : IsLaid place_in place_out tasks lists tells
   pub plain : ArePlain tasks lists
+  pub flows : Flows place_in place_out tasks lists
 
 -- the cause of a fault: the count of the task's source or sink rose to what it is, and the fault names its element
 abbrev pub IsNetCause : {S K I O : Type 0} → (S → ℕ) → (K → ℕ) → Task S K I O → TaskFault → Type 0

@@ -9,7 +9,6 @@ ghost use Rattle.flow_model.specs.Rule.{Response};
 ghost use Rattle.el_src.specs.Gave.{has_eos};
 ghost use Rattle.el_set.specs.declared.filter.FilterElement.{FilterElement};
 ghost use Rattle.el_set.specs.Stands.{Stands as ElementStands};
-ghost use Rattle.stream_task.specs.Net.{IsClosed};
 ghost use Rattle.stream_task.specs.Task.{TaskLists};
 ghost use Rattle.stream_task.specs.Net.{AllReady, IsWired, IsNet, IsNetCause, NetEnded, NetFaulted, NetStepped, NetAdvanced, AllFramed, Burned, net_fuel, steps_left, has_moved as step_moved};
 ghost use Rattle.stream_task.specs.Turns.{EachMovesOnce, HasCome, RunBy};
@@ -17,6 +16,7 @@ ghost use Rattle.stream_task.specs.Turns.{EachMovesOnce, HasCome, RunBy};
 use crate::fault::TaskFault;
 use crate::step::Step;
 use crate::task::Task;
+use el_set::closed::put_is_closed;
 use gst_outside::{Sink, Source};
 use lane_core::{Inlet, Outlet};
 use std::alloc::Global;
@@ -57,6 +57,7 @@ fn step_at<S: Source, K: Sink, I: Inlet<Out = O>, O: Outlet<Lanes = I::Lanes>>(
     requires place { place < length tasks.old }
     requires ready { AllReady I.place O.place O.limits O.count tasks.old (O.tells lanes.old) }
     requires wired { IsWired I.place O.place O.limits tasks.old }
+    requires told { (table : _) → IsSome (O.tells table) }
     ensures goes { IfOk result (λ moved. (lists : ℕ → TaskLists) → IsNet S.content K.bytes I.received O.sent I.place O.place tasks.old lists (O.tells lanes.old) → NetStepped S.content K.bytes I.received O.sent I.place O.place O.limits (λ k. k ≡ place) moved tasks.new lists (O.tells lanes.old) (O.tells lanes.new)) }
     ensures faulted { IfErr result (λ stop. (lists : ℕ → TaskLists) → IsNet S.content K.bytes I.received O.sent I.place O.place tasks.old lists (O.tells lanes.old) → NetFaulted S.content K.bytes I.received O.sent I.place O.place tasks.new lists (O.tells lanes.new) stop.task stop.fault) }
     ensures within { IfErr result (λ stop. stop.task ≡ place) }
@@ -104,18 +105,13 @@ fn try_each<S: Source, K: Sink, I: Inlet<Out = O>, O: Outlet<Lanes = I::Lanes>>(
         }
     }
     eos_is_put_out();
-    eos_is_last();
+    put_is_closed();
     Ok(moved)
 }
 
 /// An element that was fed EOS has put it out.
 fn eos_is_put_out()
     ensures { (rule : Response) (element : FilterElement) (xs put : List Item) → ElementStands rule element (feeds xs) put → has_eos xs ≡ true → has_eos put ≡ true }
-{}
-
-/// An element that was fed nothing behind EOS put out nothing behind EOS.
-fn eos_is_last()
-    ensures { (rule : Response) (element : FilterElement) (xs put : List Item) → ElementStands rule element (feeds xs) put → IsClosed xs → IsClosed put }
 {}
 
 /// The next turn; or, behind so many turns that moved nothing, one step of each task. Tells whether there is more

@@ -53,7 +53,7 @@ returns-in-Err-clause-once g c = once_set c.args.tasks.now c.args.place _ c.step
 pub returns-in-Err-clause-faulted : goal.returns-in-Err-clause-faulted
 returns-in-Err-clause-faulted g c = 
     λ lists net.
-    net_faulted {S = g.row.S.Denot} {K = g.row.K.Denot} {I = g.row.I.Denot} {O = g.row.O.Denot} g.S.Source.location g.S.Source.content g.K.Sink.location g.K.Sink.bytes g.I.Inlet.received g.O.Outlet.sent g.I.Inlet.place g.I.Inlet.id g.O.Outlet.place g.O.Outlet.limits g.O.Outlet.id c.args.tasks.now c.args.place _ c.step.new.self c.in-Err.fault lists _ _ (slice_get-get_or c.args.tasks.now c.args.place c.index-tasks-place.result c.requires.place) c.step.ensures.frame c.in-Err.ensures.table net (c.in-Err.ensures.fault (lists c.args.place) (net.stands c.args.place _ (slice_get-get_or c.args.tasks.now c.args.place c.index-tasks-place.result c.requires.place)))
+    net_faulted {S = g.row.S.Denot} {K = g.row.K.Denot} {I = g.row.I.Denot} {O = g.row.O.Denot} g.S.Source.location g.S.Source.content g.K.Sink.location g.K.Sink.bytes g.I.Inlet.received g.O.Outlet.sent g.I.Inlet.place g.I.Inlet.id g.O.Outlet.place g.O.Outlet.limits g.O.Outlet.id c.args.tasks.now c.args.place _ c.step.new.self c.in-Err.fault lists _ _ (c.requires.told c.args.lanes.now) (slice_get-get_or c.args.tasks.now c.args.place c.index-tasks-place.result c.requires.place) c.step.ensures.frame c.in-Err.ensures.table net (c.in-Err.ensures.fault (lists c.args.place) (net.stands c.args.place _ (slice_get-get_or c.args.tasks.now c.args.place c.index-tasks-place.result c.requires.place)))
 
 pub returns-in-Err-clause-cause : goal.returns-in-Err-clause-cause
 returns-in-Err-clause-cause g c = 
