@@ -6,19 +6,25 @@ use Rattle.gst_item.specs.declared.flow.Flow.{Flow}
 use Rattle.gst_item.specs.declared.flow.Flow.TheVariants.{Ok as Taken, Eos as BehindEos}
 use Rattle.gst_item.specs.declared.out.Out.{Out}
 use Rattle.gst_item.specs.declared.fault.ElementFault.{ElementFault}
-use Rattle.flow_model.specs.Item.{Item, Ev, Eos, FlushStop, is_flush_stop}
-use Rattle.flow_model.specs.Call.{Call, Feed, Act, Drain}
-use Rattle.flow_model.specs.Rule.{Response, Fault, Fed, unfed, all_called, owed_for, passes, not_eos}
-use Rattle.flow_model.specs.Feeding.{has_eos, flow_behind, passed, on_pad, next_owed, IsFaultOf}
+use Rattle.flow_model.specs.Item.{Item, Ev, Eos, is_flush_stop}
+use Rattle.flow_model.specs.Sticky.{has_flush_stop, in_force}
+use Rattle.flow_model.specs.Section.{section, counted}
+use Rattle.flow_model.specs.Chain.{IsPlain}
+use Rattle.flow_model.specs.Call.{Call, Feed, Act, Drain, items, feeds}
+use Rattle.flow_model.specs.Rule.{Response, Fault, Fed, unfed, all_called, owed_for, passes}
+use Rattle.flow_model.specs.Feeding.{has_item, has_eos, flow_behind, passed, on_pad, next_owed, IsFaultOf}
 use Rattle.flow_model.proofs.Sections.{called_push}
 use Rattle.el_basic.specs.Passed.{Passed}
 use Rattle.el_basic.specs.Filters.{filters}
 use Rattle.el_basic.specs.Filtered.{IsFilteredBy}
 use Rattle.el_basic.specs.declared.identity.Identity.{Identity}
 use Rattle.el_basic.specs.declared.caps_filter.CapsFilter.{CapsFilter}
+use Rattle.el_src.specs.Gave.{has_eos as eos_among}
 use Rattle.el_set.specs.declared.filter.FilterElement.{FilterElement}
 use Rattle.el_set.specs.declared.filter.FilterElement.TheVariants as elements
-use Rattle.el_set.specs.Stands.{Stands, StandsAs, PutsOut, owed_at, without_eos}
+use Rattle.el_set.specs.Stands.{Stands, PutsOut, without_eos}
+use Rattle.el_set.specs.Ends.{MeetsNoFault, EndsWithEos}
+use Rattle.el_set.proofs.Ends.{counted_eos, counted_plain, counted_eos_since, sections_plain, items_feeds, IsPassing, passes_is_passing, filters_is_passing, passing_ends, passing_meets_no_fault}
 
 -- what an element stands for is owed by its rule
 pub elements_owe : (respond : Response) (element : FilterElement) (calls : List Call) (put : List Item) → Stands respond element calls put → put ≡ owed_for respond calls
@@ -33,6 +39,43 @@ sections_end_by_eos respond (elements.CapsFilter filter) calls put s = rw s.1 (s
 pub nothing_behind_eos : (respond : Response) (element : FilterElement) (calls : List Call) (put : List Item) (x : Item) → Stands respond element calls put
     → has_eos calls ≡ true → next_owed respond calls x ≡ Ok []
 nothing_behind_eos respond element calls put x s ended = rw (sections_end_by_eos respond element calls put s ∙ ended) refl
+
+-- each element puts out what counts of what it was given, and its rule passes or refuses
+puts_counted : (respond : Response) (element : FilterElement) (calls : List Call) (put : List Item) → Stands respond element calls put → put ≡ counted (items calls)
+puts_counted respond (elements.Identity identity) calls put s = s.1.all
+puts_counted respond (elements.CapsFilter filter) calls put s = s.2.all
+
+is_passing : (respond : Response) (element : FilterElement) (calls : List Call) (put : List Item) → Stands respond element calls put → IsPassing respond
+is_passing respond (elements.Identity identity) calls put s = rw s.0 passes_is_passing
+is_passing respond (elements.CapsFilter filter) calls put s = rw s.1 (filters_is_passing s.0)
+
+-- EOS goes through an element, and nothing behind it
+pub eos_goes_through : (respond : Response) (element : FilterElement) (calls : List Call) (put : List Item) → Stands respond element calls put
+    → has_item (in_force put).eos ≡ has_eos calls
+eos_goes_through respond element calls put s = ap (λ xs. has_item (in_force xs).eos) (puts_counted respond element calls put s) ∙ counted_eos_since (items calls)
+
+pub nothing_goes_behind_eos : (respond : Response) (element : FilterElement) (calls : List Call) (put : List Item) (j : ℕ) → Stands respond element calls put
+    → IsPlain (section j put)
+nothing_goes_behind_eos respond element calls put j s = rw (puts_counted respond element calls put s) (sections_plain j (items calls))
+
+-- the same for one section
+fed_counted : (respond : Response) (element : FilterElement) (list put : List Item) → Stands respond element (feeds list) put → put ≡ counted list
+fed_counted respond element list put s = puts_counted respond element (feeds list) put s ∙ ap counted (items_feeds list)
+
+pub put_has_eos : (respond : Response) (element : FilterElement) (list put : List Item) → Stands respond element (feeds list) put → eos_among put ≡ eos_among list
+put_has_eos respond element list put s = ap eos_among (fed_counted respond element list put s) ∙ counted_eos list
+
+pub put_is_plain : (respond : Response) (element : FilterElement) (list put : List Item) → has_flush_stop list ≡ false → Stands respond element (feeds list) put → IsPlain put
+put_is_plain respond element list put h s = rw (fed_counted respond element list put s) (counted_plain list h)
+
+-- and of the rule alone
+pub rules_end_with_eos : (respond : Response) (element : FilterElement) (calls : List Call) (put : List Item) → Stands respond element calls put → EndsWithEos respond
+rules_end_with_eos respond element calls put s = passing_ends respond (is_passing respond element calls put s)
+
+pub no_fault_was_met : (respond : Response) (element : FilterElement) (list put : List Item) → has_flush_stop list ≡ false → Stands respond element (feeds list) put → MeetsNoFault respond list
+no_fault_was_met respond element list put h s =
+    passing_meets_no_fault respond (is_passing respond element (feeds list) put s) list h
+    (sym (elements_owe respond element (feeds list) put s) ∙ fed_counted respond element list put s)
 
 -- an element that puts out an item which it takes puts out what it owes
 owed_taken : (respond : Response) (calls : List Call) (x : Item) (put : List Item) (flow : Flow) → is_flush_stop x ≡ false

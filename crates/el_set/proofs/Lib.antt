@@ -3,6 +3,7 @@ pub mod Numbers
 pub mod Given
 pub mod Faults
 pub mod WholeLists
+pub mod Ends
 pub mod Elements
 pub mod Sources
 pub mod Copied

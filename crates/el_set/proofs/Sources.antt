@@ -1,5 +1,5 @@
 -- The sources, kind by kind.
-use Rattle.std.proofs.Common.{◌≡◌, ℕ, List, [], ◌∷◌, ◌++◌, Option, Result, Ok, Err, IfOk, OnErr}
+use Rattle.std.proofs.Common.{◌≡◌, ℕ, List, [], Option, Result, Ok, Err, IfOk, OnErr}
 use Rattle.flow_model.specs.Item.{Item}
 use Rattle.el_src.specs.declared.answer.Next.{Next}
 use Rattle.el_src.specs.declared.answer.Next.TheVariants.{Item as Given, Ended}

@@ -1,6 +1,6 @@
 -- For which lists a source stands: what is owed, as it goes by the content of the file that it reads, and what was
 -- given of it since the start or the last seek. A source that reads nothing owes the same for each content.
-use Rattle.std.specs.Prelude.{◌≡◌, ℕ, List, [], ◌∷◌, ◌++◌, Option, Some, None}
+use Rattle.std.specs.Prelude.{ℕ, List, [], ◌∷◌, ◌++◌, Option, Some, None}
 use Rattle.flow_model.specs.Item.{Item}
 use Rattle.el_src.specs.declared.answer.Next.{Next}
 use Rattle.el_src.specs.declared.answer.Next.TheVariants.{Item as Given, Ended}

@@ -1,5 +1,5 @@
 -- For which lists a sink stands.
-use Rattle.std.specs.Prelude.{◌≡◌, ℕ, Bool, List, Option, Some, None}
+use Rattle.std.specs.Prelude.{ℕ, Bool, List, Option, Some, None}
 use Rattle.flow_model.specs.Item.{Item}
 use Rattle.el_sink.specs.declared.fault.WriteFault.{WriteFault}
 use Rattle.el_sink.specs.Held.{Held, HeldPart, sink_of, length_of}

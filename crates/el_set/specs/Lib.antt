@@ -8,6 +8,7 @@ pub mod Asked
 pub mod Denoted
 pub mod Stepping
 pub mod Stands
+pub mod Ends
 pub mod Failures
 pub mod Gives
 pub mod Holds

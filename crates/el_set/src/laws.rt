@@ -1,11 +1,18 @@
 //! Laws of elements. Each function does nothing: its contract is the law.
-ghost use Rattle.std.specs.Prelude.{◌≡◌, List, [], Ok, true};
+ghost use Rattle.std.specs.Prelude.{◌≡◌, ℕ, List, [], Ok, true, false, All};
+ghost use Rattle.gst_caps.specs.declared.caps.Caps.{Caps};
+ghost use Rattle.el_basic.specs.Filters.{filters};
 ghost use Rattle.flow_model.specs.Item.{Item};
-ghost use Rattle.flow_model.specs.Call.{Call};
-ghost use Rattle.flow_model.specs.Rule.{Response, unfed, all_called, owed_for};
-ghost use Rattle.flow_model.specs.Feeding.{has_eos, next_owed};
+ghost use Rattle.flow_model.specs.Call.{Call, feeds};
+ghost use Rattle.flow_model.specs.Sticky.{has_flush_stop, in_force};
+ghost use Rattle.flow_model.specs.Section.{section};
+ghost use Rattle.flow_model.specs.Chain.{IsPlain};
+ghost use Rattle.flow_model.specs.Rule.{Response, unfed, all_called, owed_for, passes};
+ghost use Rattle.flow_model.specs.Feeding.{has_item, has_eos, next_owed};
+ghost use Rattle.el_src.specs.Gave.{has_eos as eos_among};
 ghost use Rattle.el_set.specs.declared.filter.FilterElement.{FilterElement};
 ghost use Rattle.el_set.specs.Stands.{Stands};
+ghost use Rattle.el_set.specs.Ends.{MeetsNoFault, EndsWithEos, RowEndsWithEos};
 
 /// What an element put out is what its rule owes for what it was given.
 #[tactic(auto, using(crate::proofs::Elements::elements_owe))]
@@ -23,4 +30,54 @@ pub fn sections_end_by_eos()
 #[tactic(auto, using(crate::proofs::Elements::nothing_behind_eos))]
 pub fn nothing_behind_eos()
     ensures { (respond : Response) (element : FilterElement) (calls : List Call) (put : List Item) (x : Item) → Stands respond element calls put → has_eos calls ≡ true → next_owed respond calls x ≡ Ok [] }
+{}
+
+/// EOS was put out since the last FLUSH_STOP exactly where it was fed since.
+#[tactic(auto, using(crate::proofs::Elements::eos_goes_through))]
+pub fn eos_goes_through()
+    ensures { (respond : Response) (element : FilterElement) (calls : List Call) (put : List Item) → Stands respond element calls put → has_item (in_force put).eos ≡ has_eos calls }
+{}
+
+/// In no section an element puts out anything behind EOS.
+#[tactic(auto, using(crate::proofs::Elements::nothing_goes_behind_eos))]
+pub fn nothing_goes_behind_eos()
+    ensures { (respond : Response) (element : FilterElement) (calls : List Call) (put : List Item) (j : ℕ) → Stands respond element calls put → IsPlain (section j put) }
+{}
+
+/// What an element put out for a list has EOS exactly where the list has it.
+#[tactic(auto, using(crate::proofs::Elements::put_has_eos))]
+pub fn put_has_eos()
+    ensures { (respond : Response) (element : FilterElement) (list put : List Item) → Stands respond element (feeds list) put → eos_among put ≡ eos_among list }
+{}
+
+/// What an element put out for a list without FLUSH_STOP has none, and nothing behind an EOS.
+#[tactic(auto, using(crate::proofs::Elements::put_is_plain))]
+pub fn put_is_plain()
+    ensures { (respond : Response) (element : FilterElement) (list put : List Item) → has_flush_stop list ≡ false → Stands respond element (feeds list) put → IsPlain put }
+{}
+
+/// Of the rule of an element alone: behind an EOS it owes nothing, and where it meets no fault it owes an EOS exactly
+/// where one was fed.
+#[tactic(auto, using(crate::proofs::Elements::rules_end_with_eos))]
+pub fn rules_end_with_eos()
+    ensures { (respond : Response) (element : FilterElement) (calls : List Call) (put : List Item) → Stands respond element calls put → EndsWithEos respond }
+{}
+
+/// The same of the rule that passes all, and of each filter's.
+#[tactic(auto, using(crate::proofs::Ends::passes_ends, crate::proofs::Ends::filters_ends))]
+pub fn every_rule_ends_with_eos()
+    ensures passing { EndsWithEos passes }
+    ensures filtering { (first : Caps) → EndsWithEos (filters first) }
+{}
+
+/// The same along a row of such rules, each of which is fed all that the one before it owes.
+#[tactic(auto, using(crate::proofs::Ends::rows_end_with_eos))]
+pub fn rows_end_with_eos()
+    ensures { (rules : List Response) → All EndsWithEos rules → RowEndsWithEos rules }
+{}
+
+/// An element that took a list without FLUSH_STOP met no fault at any item of it.
+#[tactic(auto, using(crate::proofs::Elements::no_fault_was_met))]
+pub fn no_fault_was_met()
+    ensures { (respond : Response) (element : FilterElement) (list put : List Item) → has_flush_stop list ≡ false → Stands respond element (feeds list) put → MeetsNoFault respond list }
 {}

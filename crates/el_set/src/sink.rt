@@ -48,9 +48,9 @@ impl<K: Sink> SinkElement<K> {
     pub fn into_sink(self) -> Option<K>
         ensures { result ≡ sink_file self }
     {
-        match self {
-            SinkElement::File(file) => Some(file.into_sink()),
-            SinkElement::Fake(_) => None,
-        }
+        let SinkElement::File(file) = self else {
+            return None;
+        };
+        Some(file.into_sink())
     }
 }

@@ -20,12 +20,12 @@ queue_after content received inlets place tells tells' l (Some x) (inr h) = inr 
 
 source_begins : {S : Type 0} (content : S → Option (List ℕ)) (source : SourceElement S) (l : HeadLists) → SourceGave content source l.owed l.given → l.given ≡ [] → source_items source ≡ 0
 source_begins content (File file) l gave none = gave.count ∙ ap length none
-source_begins content (Ramp ramp) l gave none = gave.count ∙ ap length none
+source_begins content (Ramp ramp) l gave none = (gave []).count ∙ ap length none
 
 -- what gave all that is owed gave it
 pub gave_of_all : {S : Type 0} (content : S → Option (List ℕ)) (source : SourceElement S) (owed : List ℕ → List Item) (given : List Item) → SourceGaveAll content source owed given → SourceGave content source owed given
 gave_of_all content (File file) owed given all = all.gave
-gave_of_all content (Ramp ramp) owed given all = all.gave
+gave_of_all content (Ramp ramp) owed given all = λ c. (all c).gave
 
 -- a head that gave nothing has given no items
 pub begins : {S I : Type 0} (content : S → Option (List ℕ)) (received : I → List Item → Type 0) (head : Head S I) (l : HeadLists) → HeadGave content received head l → l.given ≡ [] → head_items head ≡ 0

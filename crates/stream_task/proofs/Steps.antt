@@ -1,5 +1,5 @@
 -- What a task stands for behind a step.
-use Rattle.std.proofs.Common.{◌≡◌, ◌≢◌, ◌+◌, ℕ, List, [], ◌∷◌, ◌++◌, length, map, Option, Some, None, Bool, false, ◌||◌, refl, ap, sym, ◌∙◌, subst, inl, inr, arith, length-append, append-nil, append_assoc}
+use Rattle.std.proofs.Common.{◌≡◌, ◌≢◌, ◌≤◌, ◌<◌, ◌+◌, ℕ, List, [], ◌∷◌, ◌++◌, length, map, Option, Some, None, Bool, false, ◌||◌, refl, ap, sym, ◌∙◌, subst, inl, inr, arith, length-append, append-nil, append_assoc}
 use Rattle.std.specs.Option.{ForSome}
 use Rattle.std.proofs.lemmas.Grind.{fold-append}
 use Rattle.flow_model.specs.Item.{Item, is_eos, is_buffer}
@@ -13,11 +13,18 @@ use Rattle.stream_task.specs.declared.head.Head.{Head}
 use Rattle.stream_task.specs.declared.head.Head.TheVariants.{Source, Queue, Unlinked}
 use Rattle.stream_task.specs.Step.{idle_step}
 use Rattle.stream_task.specs.Head.{HeadLists, HeadGave, HeadAfter, IsIdle as HeadIsIdle, head_number}
-use Rattle.stream_task.specs.Tail.{TailHas}
+use Rattle.stream_task.specs.declared.pads.Pad.{Pad}
+use Rattle.stream_task.specs.declared.tail.Unsent.{Unsent}
+use Rattle.stream_task.specs.declared.tail.Unsent.TheVariants.{Unwritten, NotLinked as NoLink}
+use Rattle.stream_task.specs.Tail.{TailHas, TailUnsent, unsent_fault}
 use Rattle.stream_task.specs.Pads.{Counts}
-use Rattle.stream_task.specs.Stage.{StageList, StagesStand, put_last, AreIdle}
-use Rattle.stream_task.specs.Task.{TaskLists, Stands, HasCrossed, Goes, HasPassed, Keeps, IsWhy, IsIdle, SameBeside, SameRules, moved_to}
-use Rattle.stream_task.proofs.Stages.{stand_keep}
+use Rattle.stream_task.specs.declared.fault.TaskFault.{TaskFault}
+use Rattle.stream_task.specs.declared.fault.TaskFault.TheVariants.{ReadFault, WriteFault, Stream, Caps, TooLong, NotLinked, OutOfMemory}
+use Rattle.stream_task.specs.declared.stage.Stage.{Stage}
+use Rattle.flow_model.specs.Prefix.{IsPrefix}
+use Rattle.stream_task.specs.Stage.{StageList, StagesStand, StagesKeep, Stopped, IsFull, StagesStop, IsElementFault, SameRules, put_last, AreIdle}
+use Rattle.stream_task.specs.Task.{TaskLists, Stands, HasCrossed, Goes, HasPassed, Keeps, IsWhy, IsIdle, SameBeside, AtFault, AtLimit, Refused, IsTaskCause, moved_to}
+use Rattle.stream_task.proofs.Stages.{stand_keep, element_last, crossed_last, put_at_last, none_left}
 use Rattle.stream_task.proofs.Keeping.{keep_same, keep_from}
 
 -- whether EOS was given, behind one more item
@@ -26,6 +33,9 @@ eos_more given x none = fold-append (λ eos y. eos || is_eos y) false given (x �
 
 none_some : {A : Type 0} {a : A} → None ≡ Some a → ⊥
 none_some e = cc
+
+pub never : (tail done count last : ℕ) → tail ≤ done → last ≡ done → last < 1099511627776 → 1099511627776 ≤ count → count ≡ tail → ⊥
+never tail done count last a b c d e = omega arith
 
 module _ {S K I O : Type 0} (content : S → Option (List ℕ)) (bytes : K → Option (List ℕ)) (received : I → List Item → Type 0) (sent : O → List Item → Type 0) where
   -- what stands has crossed
@@ -151,3 +161,92 @@ module _ {S K I O : Type 0} (content : S → Option (List ℕ)) (bytes : K → O
       let s = stands h.0 in
       stays_goes task l step inlet outlet limit tells tells' s h.1
       (subst (λ (t : Step). IsWhy task inlet outlet limit tells' l.head.got l.done t) (sym is) (idle_why task task.head l inlet outlet limit tells tells' refl h.2 h.1 idle over s.over))
+
+  -- a task whose elements stopped
+  pub record StoppedTask (was : List Stage) (waited : List Item) (task : Task S K I O) (l : TaskLists) (fault : TaskFault) : Type 0 where
+    pub gave : HeadGave content received task.head l.head
+    pub number : task.given ≡ length l.head.given
+    pub over : task.over ≡ has_eos l.head.given
+    pub held : put_last l.head.given l.stages ≡ l.done ++ waited
+    pub counted : Counts task.last l.done
+    pub tail : TailHas bytes sent l.keep task.tail l.done
+    pub stop : StagesStop was task.stages.items waited task.waiting.items l.head.given l.stages l.done fault
+
+  left_over : (was : List Stage) (waited : List Item) (task : Task S K I O) (l : TaskLists) (fault : TaskFault) → StoppedTask was waited task l fault → (ls : List StageList) → StagesKeep task.stages.items l.head.given ls
+      → IsPrefix l.done (put_last l.head.given ls) → HasCrossed content received task (record l { stages = ls })
+  left_over was waited task l fault p ls keep begins = record { gave = p.gave; stages = keep; begins = begins; counted = p.counted }
+
+  refused : (was : List Stage) (waited : List Item) (task : Task S K I O) (l : TaskLists) (fault : TaskFault) → StoppedTask was waited task l fault → Stopped task.stages.items l.head.given l.stages fault → Refused content bytes received sent task l fault
+  refused was waited task l fault p s = record {
+    crossed = left_over was waited task l fault p l.stages s.keep (prefix_by l.done waited (sym p.held));
+    tail = p.tail;
+    place = s.place;
+    stage = s.stage;
+    list = s.list;
+    at = s.at;
+    list_at = s.list_at;
+    item = s.item;
+    next = s.next;
+    own = s.own;
+    named = s.named;
+    owed = s.owed;
+  }
+
+  limited : (was : List Stage) (waited : List Item) (task : Task S K I O) (l : TaskLists) (element a b : ℕ) → StoppedTask was waited task l (TooLong element a b)
+      → IsFull task.stages.items l.head.given l.stages element → task.waiting.items ≡ waited → a ≡ 1099511627776 → b ≡ 1 → AtLimit content bytes received sent task l element a b
+  limited was waited task l element a b p f w x y = record {
+    stands = record { gave = p.gave; number = p.number; over = p.over; stages = f.stand; held = p.held ∙ ap (λ (ys : List Item). l.done ++ ys) (sym w); counted = p.counted; tail = p.tail };
+    limit = x;
+    one = y;
+    place = f.place;
+    within = let w = f.within in omega arith;
+    named = f.named task.last;
+    full = f.full l.done;
+    more = inl (f.more l.done);
+  }
+
+  pub stopped_fault : (was : List Stage) (waited : List Item) (task : Task S K I O) (l : TaskLists) (fault : TaskFault) → IsElementFault fault → StoppedTask was waited task l fault → AtFault content bytes received sent task l fault
+  stopped_fault was waited task l (ReadFault element before after) own p = absurd own
+  stopped_fault was waited task l (WriteFault element before after) own p = absurd own
+  stopped_fault was waited task l (NotLinked element place) own p = absurd own
+  stopped_fault was waited task l (Stream element place kind) own p = refused was waited task l _ p p.stop
+  stopped_fault was waited task l (Caps element offered wanted) own p = refused was waited task l _ p p.stop
+  stopped_fault was waited task l (TooLong element a b) own p = go p.stop
+    where
+      go : StagesStop was task.stages.items waited task.waiting.items l.head.given l.stages l.done (TooLong element a b) → AtFault content bytes received sent task l (TooLong element a b)
+      go (inl f) = inl (limited was waited task l element a b p f.0 f.2 f.3 f.4)
+      go (inr s) = inr (refused was waited task l _ p s)
+  stopped_fault was waited task l OutOfMemory own p = (p.stop.lists, p.stop.rules, left_over was waited task l OutOfMemory p p.stop.lists p.stop.keep p.stop.begins)
+
+  pub element_cause : (source_faults : S → ℕ) (sink_faults : K → ℕ) (was is : Task S K I O) (fault : TaskFault) → IsElementFault fault → IsTaskCause source_faults sink_faults was is fault
+  element_cause source_faults sink_faults was is (ReadFault element before after) own = absurd own
+  element_cause source_faults sink_faults was is (WriteFault element before after) own = absurd own
+  element_cause source_faults sink_faults was is (NotLinked element place) own = absurd own
+  element_cause source_faults sink_faults was is (Stream element place kind) own = tt
+  element_cause source_faults sink_faults was is (Caps element offered wanted) own = tt
+  element_cause source_faults sink_faults was is (TooLong element a b) own = tt
+  element_cause source_faults sink_faults was is OutOfMemory own = tt
+
+  -- the last pad is at its limit, and an item waits there
+  pub last_limit : (task : Task S K I O) (l : TaskLists) → Stands content bytes received sent task l → 1099511627776 ≤ task.last.items → task.waiting.items ≢ []
+      → AtLimit content bytes received sent task l task.last.element 1099511627776 1
+  last_limit task l s limit some = record {
+    stands = s;
+    limit = refl;
+    one = refl;
+    place = length l.stages;
+    within = omega arith;
+    named = element_last task.stages.items l.head.given l.stages task.last s.stages;
+    full = ap length (crossed_last l.stages l.done) ∙ all_of task.last.items (length l.done) s.counted.items limit task.last.limit;
+    more = inl (λ e. some (none_left l.done task.waiting.items (sym (crossed_last l.stages l.done) ∙ e ∙ put_at_last l.head.given l.stages ∙ s.held)));
+  }
+    where
+      all_of : (a b : ℕ) → a ≡ b → 1099511627776 ≤ a → a ≤ 1099511627776 → b ≡ 1099511627776
+      all_of a b e x y = omega arith
+
+  -- an item that waits at the last pad was not sent
+  pub unsent_goes : (task : Task S K I O) (l : TaskLists) (x : Item) (unsent : Unsent) (last : Pad) → HasCrossed content received task l → last ≡ task.last → IsPrefix (l.done ++ x ∷ []) (put_last l.head.given l.stages)
+      → TailUnsent bytes sent l.keep task.tail l.done x unsent → AtFault content bytes received sent task l (unsent_fault unsent last)
+  unsent_goes task l x (Unwritten element fault) last crossed e begun u = record { crossed = crossed; item = x; next = begun; part = u }
+  unsent_goes task l x NoLink last crossed e begun u =
+      record { crossed = crossed; named = ap (λ (p : Pad). p.element) e; at = ap (λ (p : Pad). p.items) e ∙ crossed.counted.items; item = x; next = begun; buffer = u.2; open_end = u.1 }

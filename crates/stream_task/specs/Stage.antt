@@ -1,6 +1,6 @@
 -- The pads of a task before its last one, with the elements behind them: what crossed each, and what was put out for
 -- it on the next.
-use Rattle.std.specs.Prelude.{◌≡◌, ◌≢◌, ◌<◌, ◌+◌, ℕ, zero, suc, List, [], ◌∷◌, ◌++◌, Some, All, length, drop, slice_get}
+use Rattle.std.specs.Prelude.{◌≡◌, ◌≢◌, ◌<◌, ◌⊎◌, ◌+◌, ◌-◌, ℕ, zero, suc, List, [], ◌∷◌, ◌++◌, Some, All, length, drop, map, sum_by, slice_get}
 use Rattle.std.specs.VecDeque.{deque_len, deque_capacity}
 use Rattle.gst_item.specs.declared.out.Out.{Out}
 use Rattle.gst_item.specs.declared.fault.ElementFault.{ElementFault}
@@ -13,6 +13,7 @@ use Rattle.el_set.specs.declared.filter.FilterElement.{FilterElement}
 use Rattle.el_set.specs.Stands.{Stands, StandsAs}
 use Rattle.stream_task.specs.declared.fault.TaskFault.{TaskFault}
 use Rattle.stream_task.specs.declared.fault.TaskFault.TheVariants.{OutOfMemory}
+use Rattle.stream_task.specs.declared.fault.TaskFault.TheVariants as Faults
 use Rattle.stream_task.specs.declared.stage.Stage.{Stage}
 use Rattle.stream_task.specs.declared.pads.Pad.{Pad}
 use Rattle.stream_task.specs.Fault.{fault_of}
@@ -89,18 +90,32 @@ abbrev pub HasRoom : List Stage → ℕ → ℕ → Type 0
 HasRoom [] held room = held < room
 HasRoom (s ∷ ss) held room = deque_len s.waiting < deque_capacity s.waiting
 
--- one item more waits at a stage
-pub record WaitsMore (x : Item) (was is : Stage) : Type 0 where
+-- items more wait at a stage
+pub record WaitsMore (more : List Item) (was is : Stage) : Type 0 where
   pub pad : is.pad ≡ was.pad
-  pub waiting : is.waiting.items ≡ was.waiting.items ++ x ∷ []
+  pub waiting : is.waiting.items ≡ was.waiting.items ++ more
   pub filter : is.filter ≡ was.filter
   pub element : is.element ≡ was.element
 
--- an item was put behind those that wait at the first pad
-abbrev pub PutFirst : Item → List Stage → List Stage → List Item → List Item → Type 0
-PutFirst x [] ss' waiting waiting' = (ss' ≡ []) × (waiting' ≡ waiting ++ x ∷ [])
-PutFirst x (s ∷ ss) [] waiting waiting' = ⊥
-PutFirst x (s ∷ ss) (s' ∷ ss') waiting waiting' = WaitsMore x s s' × (ss' ≡ ss) × (waiting' ≡ waiting)
+-- Items were put behind those that wait at the pad of a place, which is the last pad where there is no such stage.
+abbrev pub PutAt : ℕ → List Item → List Stage → List Stage → List Item → List Item → Type 0
+PutAt place more [] [] waiting waiting' = waiting' ≡ waiting ++ more
+PutAt place more [] (s' ∷ ss') waiting waiting' = ⊥
+PutAt place more (s ∷ ss) [] waiting waiting' = ⊥
+PutAt zero more (s ∷ ss) (s' ∷ ss') waiting waiting' = WaitsMore more s s' × (ss' ≡ ss) × (waiting' ≡ waiting)
+PutAt (suc place) more (s ∷ ss) (s' ∷ ss') waiting waiting' = (s' ≡ s) × PutAt place more ss ss' waiting waiting'
+
+-- the same stages, but for what waits
+pub record IsSimilar (was is : Stage) : Type 0 where
+  pub pad : is.pad ≡ was.pad
+  pub filter : is.filter ≡ was.filter
+  pub element : is.element ≡ was.element
+
+abbrev pub AreSimilar : List Stage → List Stage → Type 0
+AreSimilar [] [] = Unit {0}
+AreSimilar (s ∷ ss) (s' ∷ ss') = IsSimilar s s' × AreSimilar ss ss'
+AreSimilar [] (s' ∷ ss') = ⊥
+AreSimilar (s ∷ ss) [] = ⊥
 
 -- What was put on a pad has crossed it or waits, the pad has counted what crossed, and the element behind it took that.
 pub record StageStands (stage : Stage) (put : List Item) (l : StageList) : Type 0 where
@@ -154,3 +169,74 @@ pub record StageStuck (old new : Stage) (fault : TaskFault) : Type 0 where
   pub pad : new.pad ≡ old.pad
   pub refusal : IsRefusal old.filter new.filter old.element item fault
   pub element : new.element ≡ old.element
+
+-- the numbers of the elements of the pads, and of those behind them
+abbrev pub numbers_of : List Stage → List (ℕ × ℕ)
+numbers_of stages = map (λ stage. (stage.pad.element, stage.element)) stages
+
+-- how many items crossed the pads, and how many more may
+abbrev pub items_crossed : List Stage → ℕ
+items_crossed stages = sum_by (λ stage. stage.pad.items) stages
+
+abbrev pub room_left : List Stage → ℕ
+room_left stages = sum_by (λ stage. 1099511627776 - stage.pad.items) stages
+
+-- each pad keeps the rule of the element behind it
+abbrev pub SameRules : List StageList → List StageList → Type 0
+SameRules ls ls' = map (λ l. l.rule) ls' ≡ map (λ l. l.rule) ls
+
+-- The lists of stages behind an item that crossed one of their pads.
+pub record PassedOn (stages : List Stage) (given : List Item) (ls : List StageList) (done waiting : List Item) : Type 0 where
+  pub lists : List StageList
+  pub stand : StagesStand stages given lists
+  pub rules : SameRules ls lists
+  pub held : put_last given lists ≡ done ++ waiting
+
+-- The lists of stages that gave up what one of their elements put out.
+pub record GaveUp (stages : List Stage) (given : List Item) (ls : List StageList) (done : List Item) : Type 0 where
+  pub lists : List StageList
+  pub keep : StagesKeep stages given lists
+  pub rules : SameRules ls lists
+  pub begins : IsPrefix done (put_last given lists)
+
+-- The element of a stage refused an item.
+pub record Stopped (stages : List Stage) (given : List Item) (ls : List StageList) (fault : TaskFault) : Type 0 where
+  pub place : ℕ
+  pub keep : StagesKeep stages given ls
+  pub stage : Stage
+  pub list : StageList
+  pub at : slice_get stages place ≡ Some stage
+  pub list_at : slice_get ls place ≡ Some list
+  pub item : Item
+  pub next : IsPrefix (list.crossed ++ item ∷ []) (put_at given ls place)
+  pub own : ElementFault
+  pub named : fault ≡ fault_of stage.element own
+  pub owed : IsFaultOf (next_owed list.rule (feeds list.crossed) item) own
+
+-- The pad of a stage is at its limit, and an item waits there.
+pub record IsFull (stages : List Stage) (given : List Item) (ls : List StageList) (element : ℕ) : Type 0 where
+  pub place : ℕ
+  pub stand : StagesStand stages given ls
+  pub within : place < length ls
+  pub named : (last : Pad) → element ≡ element_at stages last place
+  pub full : (done : List Item) → length (crossed_at ls done place) ≡ 1099511627776
+  pub more : (done : List Item) → crossed_at ls done place ≢ put_at given ls place
+
+-- Why no item crossed the pad of a stage: its element refused it, the pad was at its limit, or memory is wanting.
+abbrev pub StagesStop : List Stage → List Stage → List Item → List Item → List Item → List StageList → List Item → TaskFault → Type 0
+StagesStop was is waiting waiting' given ls done OutOfMemory = GaveUp is given ls done
+StagesStop was is waiting waiting' given ls done (Faults.TooLong element a b) =
+    (IsFull is given ls element × (is ≡ was) × (waiting' ≡ waiting) × (a ≡ 1099511627776) × (b ≡ 1)) ⊎ Stopped is given ls (Faults.TooLong element a b)
+StagesStop was is waiting waiting' given ls done fault = Stopped is given ls fault
+
+-- no fault of a source, of a sink or of a missing link
+abbrev pub IsElementFault : TaskFault → Type 0
+IsElementFault (Faults.ReadFault element before after) = ⊥
+IsElementFault (Faults.WriteFault element before after) = ⊥
+IsElementFault (Faults.NotLinked element place) = ⊥
+IsElementFault _ = Unit {0}
+
+-- for want of memory one item may have crossed a pad more
+abbrev pub StillCounts : TaskFault → ℕ → ℕ → Type 0
+StillCounts OutOfMemory before after = (after ≡ before) ⊎ (after ≡ before + 1)
+StillCounts _ before after = after ≡ before

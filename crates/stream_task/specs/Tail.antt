@@ -1,5 +1,5 @@
 -- What the tail of a task was given.
-use Rattle.std.specs.Prelude.{◌≡◌, ℕ, ◌+◌, Bool, true, false, List, [], ◌∷◌, ◌++◌, Option, Some, None, Result, Ok, option_map}
+use Rattle.std.specs.Prelude.{◌≡◌, ℕ, ◌+◌, Bool, true, false, List, [], ◌∷◌, ◌++◌, Option, Some, None, Result, Ok, Err, option_map}
 use Rattle.flow_model.specs.Item.{Item, is_buffer}
 use Rattle.lane_core.specs.declared.ends.Put.TheVariants.{Stored, Full}
 use Rattle.lane_core.specs.Lane.{Lane, IsOf, IsBetween}
@@ -83,10 +83,14 @@ tail_refusals refusals (tails.Sink element sink) = None
 tail_refusals refusals (tails.Lane number outlet) = Some (refusals outlet)
 tail_refusals refusals tails.Open = None
 
--- the same behind an answer: where an item is back one put was refused
+-- how many there are behind an answer: where an item is back one more put was refused
+abbrev pub refusals_behind : Sending → ℕ → ℕ
+refusals_behind Sent refusals = refusals
+refusals_behind (Back number y) refusals = raised refusals
+
 abbrev pub puts_behind : Result Sending Unsent → Option ℕ → Option ℕ
-puts_behind (Ok (Back number y)) refusals = option_map raised refusals
-puts_behind _ refusals = refusals
+puts_behind (Ok sending) refusals = option_map (refusals_behind sending) refusals
+puts_behind (Err unsent) refusals = refusals
 
 -- the count of failures of a sink
 abbrev pub tail_faults : {K O : Type 0} → (K → ℕ) → Tail K O → Option ℕ

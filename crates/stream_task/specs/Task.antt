@@ -27,7 +27,7 @@ use Rattle.stream_task.specs.Fault.{fault_of}
 use Rattle.stream_task.specs.Head.{HeadLists, HeadGave, HeadIn, head_faults, head_place, head_number, head_id, head_location, head_content}
 use Rattle.stream_task.specs.Tail.{TailHas, TailPart, TailOf, IsOpen, tail_faults, tail_place, tail_number, tail_element, tail_id, tail_location, tail_limit}
 use Rattle.stream_task.specs.Pads.{Counts}
-use Rattle.stream_task.specs.Stage.{StageList, StagesStand, StagesKeep, put_at, put_last, crossed_at, element_at, AreIdle}
+use Rattle.stream_task.specs.Stage.{StageList, StagesStand, StagesKeep, put_at, put_last, crossed_at, element_at, numbers_of, items_crossed, room_left, SameRules, AreIdle}
 
 -- the most items that cross a pad
 abbrev pub most_items : ℕ
@@ -106,10 +106,6 @@ pub record AtLimit {S K I O : Type 0} (content : S → Option (List ℕ)) (bytes
   pub named : element ≡ element_at task.stages.items task.last place
   pub full : length (crossed_at l.stages l.done place) ≡ most_items
   pub more : (crossed_at l.stages l.done place ≢ put_at l.head.given l.stages place) ⊎ ((place ≡ 0) × (task.over ≡ false))
-
--- each pad keeps the rule of the element behind it
-abbrev pub SameRules : List StageList → List StageList → Type 0
-SameRules ls ls' = map (λ l. l.rule) ls' ≡ map (λ l. l.rule) ls
 
 -- A task after a fault. For want of memory one more item may have crossed.
 abbrev pub AtFault : {S K I O : Type 0} → (S → Option (List ℕ)) → (K → Option (List ℕ)) → (I → List Item → Type 0) → (O → List Item → Type 0) → Task S K I O → TaskLists → TaskFault → Type 0
@@ -206,7 +202,7 @@ abbrev pub LastGoes : {S K I O : Type 0} → (S → Option (List ℕ)) → (K �
 LastGoes content bytes received sent task l Crossed inlet outlet limit tells tells' = Goes content bytes received sent task l Moved inlet outlet limit tells tells'
 LastGoes content bytes received sent task l Idle inlet outlet limit tells tells' = Stands content bytes received sent task l × (tells' ≡ tells) × (task.waiting.items ≡ [])
 LastGoes content bytes received sent task l (Full n) inlet outlet limit tells tells' =
-    Stands content bytes received sent task l × (tells' ≡ tells) × (tail_number task.tail ≡ Some n) × IsFullLane outlet limit tells l.done × (task.waiting.items ≢ [])
+    Stands content bytes received sent task l × (tells' ≡ tells) × (tail_number task.tail ≡ Some n) × IsFullLane outlet limit tells' l.done × (task.waiting.items ≢ [])
 
 abbrev pub head_of : {S K I O : Type 0} → Task S K I O → Head S I
 head_of task = task.head
@@ -220,10 +216,6 @@ stages_of task = task.stages.items
 -- the last pad
 abbrev pub last_of : {S K I O : Type 0} → Task S K I O → Pad
 last_of task = task.last
-
--- the numbers of the elements of the pads but the last, and of those behind them
-abbrev pub numbers_of : List Stage → List (ℕ × ℕ)
-numbers_of stages = map (λ stage. (stage.pad.element, stage.element)) stages
 
 -- all of a task beside its stages and what waits stayed
 pub record SameBeside {S K I O : Type 0} (was is : Task S K I O) : Type 0 where
@@ -253,11 +245,11 @@ pub record Frame {S K I O : Type 0} (source_location content : S → Option (Lis
 
 -- how many moves a task has made: items that its head gave, and crossings of its pads
 abbrev pub moves_of : {S K I O : Type 0} → Task S K I O → ℕ
-moves_of task = task.given + sum_by (λ stage. stage.pad.items) task.stages.items + task.last.items
+moves_of task = task.given + items_crossed task.stages.items + task.last.items
 
 -- how many it may still make at the most
 abbrev pub fuel : {S K I O : Type 0} → Task S K I O → ℕ
-fuel task = (most_items - task.given) + sum_by (λ stage. most_items - stage.pad.items) task.stages.items + (most_items - task.last.items)
+fuel task = (most_items - task.given) + room_left task.stages.items + (most_items - task.last.items)
 
 -- A step that moves makes one move, and any other answer none; but for want of memory behind a crossing.
 abbrev pub IsOneMove : Result Step TaskFault → ℕ → ℕ → Type 0

@@ -1,7 +1,8 @@
 //! Where the items of a task go.
 ghost use Rattle.std.specs.Prelude.{◌≡◌, ◌≤◌, ◌<◌, ◌+◌, ◌^◌, ℕ, Bool, List, Some, true, IfOk, IfErr, OnErr};
 ghost use Rattle.flow_model.specs.Item.{Item, is_buffer};
-ghost use Rattle.stream_task.specs.Tail.{TailHas, TailUnsent, TailOf, TailMoves, TailCause, AfterSend, NamesLane, puts_behind, tail_faults, tail_number, tail_element, tail_refusals, tail_limit, tail_count, tail_place, tail_id, tail_location, tail_len};
+ghost use Rattle.lane_core.specs.Lane.{IsOf};
+ghost use Rattle.stream_task.specs.Tail.{TailHas, TailUnsent, TailOf, TailMoves, TailCause, AfterSend, NamesLane, LaneTakes, refusals_behind, puts_behind, tail_faults, tail_number, tail_element, tail_refusals, tail_limit, tail_count, tail_place, tail_id, tail_location, tail_len};
 
 use el_set::SinkElement;
 use el_sink::WriteFault;
@@ -74,6 +75,7 @@ impl<K: Sink, O: Outlet> Tail<K, O> {
         ensures unsent { IfErr result (λ unsent. (keep : Bool) (done : List Item) → TailHas K.bytes O.sent keep self.old done → TailUnsent K.bytes O.sent keep self.new done item unsent) }
         ensures moves { IfOk result (λ sending. TailMoves O.sent O.place O.limits O.count self.old item sending self.new (O.tells lanes.old) (O.tells lanes.new)) }
         ensures table { OnErr result (O.tells lanes.new ≡ O.tells lanes.old) }
+        ensures ready { OnErr result (TailOf O.place O.limits O.count self.new (O.tells lanes.new)) }
         ensures cause { IfErr result (TailCause (tail_element self.old) (tail_faults K.faults self.old) (tail_faults K.faults self.new)) }
         ensures tried { tail_refusals O.refusals self.new ≡ puts_behind result (tail_refusals O.refusals self.old) }
         ensures number { tail_number self.new ≡ tail_number self.old }
@@ -91,17 +93,29 @@ impl<K: Sink, O: Outlet> Tail<K, O> {
                     fault,
                 }),
             },
-            Tail::Lane { number, outlet } => match outlet.put(lanes, item) {
-                Put::Stored => Ok(Sending::Sent),
-                Put::Full(item) => Ok(Sending::Back {
-                    number: *number,
-                    item,
-                }),
-            },
+            Tail::Lane { number, outlet } => Ok(put(*number, outlet, lanes, item)),
             Tail::Open => match item {
                 Item::Event(_) => Ok(Sending::Sent),
                 Item::Buffer(_) => Err(Unsent::NotLinked),
             },
         }
+    }
+}
+
+/// Puts an item into the lane of a number.
+fn put<O: Outlet>(number: u32, outlet: &mut O, lanes: &mut O::Lanes, item: Item) -> Sending
+    requires table { IsOf (O.tells lanes.old) (O.place outlet.old) (O.limits outlet.old) (O.count outlet.old) }
+    requires count { O.count outlet.old < 2 ^ 62 }
+    ensures sends { (done : List Item) → O.sent outlet.old done → AfterSend (O.sent outlet.new) done item result }
+    ensures named { NamesLane (Some number) result }
+    ensures takes { LaneTakes (O.sent outlet.old) (O.place outlet.old) (O.limits outlet.old) (O.count outlet.old) (O.count outlet.new) item result (O.tells lanes.old) (O.tells lanes.new) }
+    ensures tried { O.refusals outlet.new ≡ refusals_behind result (O.refusals outlet.old) }
+    ensures place { O.place outlet.new ≡ O.place outlet.old }
+    ensures limits { O.limits outlet.new ≡ O.limits outlet.old }
+    ensures id { O.id outlet.new ≡ O.id outlet.old }
+{
+    match outlet.put(lanes, item) {
+        Put::Stored => Sending::Sent,
+        Put::Full(item) => Sending::Back { number, item },
     }
 }

@@ -2,7 +2,7 @@
 ghost use Rattle.std.specs.Prelude.{◌≡◌, ◌≢◌, ◌≤◌, ◌<◌, ◌+◌, ◌-◌, ◌^◌, ℕ, List, [], ◌∷◌, ◌++◌, All, Some, None, true, false, slice_get, OnOk, OnErr, IfOk, IfErr, vec_len, length, map, drop, option_map};
 ghost use Rattle.std.specs.VecDeque.{deque_len, deque_capacity};
 ghost use Rattle.stream_task.specs.Head.{head_items};
-ghost use Rattle.stream_task.specs.Stage.{AreIdle, WaitsAt, PutFirst, HasRoom, AreAlike, element_at, item_of};
+ghost use Rattle.stream_task.specs.Stage.{AreIdle, WaitsAt, PutAt, HasRoom, AreAlike, AreSimilar, IsFarthest, StageList, StagesStand, PassedOn, StagesStop, IsElementFault, StillCounts, put_last, element_at, numbers_of, items_crossed, room_left, item_of};
 ghost use Rattle.stream_task.specs.Tail.{unsent_fault};
 ghost use Rattle.flow_model.specs.Item.{Item, is_eos as eos_test};
 ghost use Rattle.gst_item.specs.declared.out.Out.{Out};
@@ -62,7 +62,6 @@ impl<S: Source, K: Sink, I: Inlet<Out = O>, O: Outlet<Lanes = I::Lanes>> Task<S,
     ghost use Rattle.std.specs.Prelude.{⊤, Ok, Err, MatchOption};
     ghost use Rattle.stream_task.specs.declared.step.Step.TheVariants.{Moved, NeedsRoom};
     ghost use Rattle.stream_task.specs.declared.task.Last.TheVariants.{Idle, Full};
-    ghost use Rattle.stream_task.specs.Stage.{StageList, StagesStand, IsFarthest};
     ghost use Rattle.stream_task.specs.Tail.{TailHas, tail_place, tail_limit, tail_len, tail_refusals};
     ghost use Rattle.stream_task.specs.Task.{TaskLists, Stands, IsReady, Goes, HasPassed, LastGoes, SameBeside, NeedsNoRoom, step_of, step_with, IsTakeTry, IsPutTry, KeepsTable, AtFault, IsTaskCause, Frame, Burns, moves_of, IsOneMove, IsOneTry, fuel, head_of, tail_of, stages_of, last_of};
 
@@ -175,6 +174,10 @@ impl<S: Source, K: Sink, I: Inlet<Out = O>, O: Outlet<Lanes = I::Lanes>> Task<S,
             self.waiting.push_front_reserved(item);
             return Err(too_long(self.last.element));
         }
+        if self.tail.count() >= MOST_ITEMS {
+            self.waiting.push_front_reserved(item);
+            return Err(too_long(self.last.element));
+        }
         let buffer = is_buffer(&item);
         match self.tail.send(lanes, item) {
             Ok(Sending::Sent) => {
@@ -265,17 +268,23 @@ impl<S: Source, K: Sink, I: Inlet<Out = O>, O: Outlet<Lanes = I::Lanes>> Task<S,
         ensures moves { OnOk result (moves_of self.new ≡ moves_of self.old + 1) }
         ensures stays { IfErr result (λ fault. IsOneMove (Err fault) (moves_of self.old) (moves_of self.new)) }
     {
-        if self.stages[place].pad.items >= MOST_ITEMS {
-            return Err(too_long(self.stages[place].pad.element));
+        let reach = pass_at(
+            alloc,
+            &mut self.stages,
+            &mut self.waiting,
+            &mut self.out,
+            place,
+        );
+        match reach {
+            Ok(reach) => {
+                self.reach = reach;
+                Ok(())
+            }
+            Err(fault) => {
+                self.reach = self.stages.len();
+                Err(fault)
+            }
         }
-        self.stages[place].pass(alloc, &mut self.out)?;
-        if place + 1 < self.stages.len() {
-            gather(alloc, &mut self.stages[place + 1].waiting, &mut self.out)?;
-            self.reach = place + 2;
-        } else {
-            gather(alloc, &mut self.waiting, &mut self.out)?;
-        }
-        Ok(())
     }
 
     /// The head gives its next item, where there is one, and it waits at the first pad.
@@ -321,6 +330,65 @@ impl<S: Source, K: Sink, I: Inlet<Out = O>, O: Outlet<Lanes = I::Lanes>> Task<S,
     }
 }
 
+/// The oldest item that waits at a stage crosses its pad, and what the element behind it puts out waits at the next.
+/// Answers how many stages may have items waiting.
+fn pass_at(
+    alloc: Global,
+    stages: &mut Vec<Stage>,
+    waiting: &mut VecDeque<Item>,
+    out: &mut Outs,
+    place: usize,
+) -> Result<usize, TaskFault>
+    requires farthest { IsFarthest stages.old.items place }
+    requires empty { out.old ≡ [] }
+    ensures passed { OnOk result ((given : List Item) (ls : List StageList) (done : List Item) → StagesStand stages.old.items given ls → put_last given ls ≡ done ++ waiting.old.items → PassedOn stages.new.items given ls done waiting.new.items) }
+    ensures stop { IfErr result (λ fault. (given : List Item) (ls : List StageList) (done : List Item) → StagesStand stages.old.items given ls → put_last given ls ≡ done ++ waiting.old.items → StagesStop stages.old.items stages.new.items waiting.old.items waiting.new.items given ls done fault) }
+    ensures own { IfErr result IsElementFault }
+    ensures waiting { OnOk result (waiting.old.items ≢ [] → waiting.new.items ≢ []) }
+    ensures reach { IfOk result (λ reach. (reach ≤ vec_len stages.new) × AreIdle (drop reach stages.new.items)) }
+    ensures size { vec_len stages.new ≡ vec_len stages.old }
+    ensures empty { out.new ≡ [] }
+    ensures numbers { numbers_of stages.new.items ≡ numbers_of stages.old.items }
+    ensures moves { OnOk result (items_crossed stages.new.items ≡ items_crossed stages.old.items + 1) }
+    ensures burns { OnOk result (room_left stages.new.items < room_left stages.old.items) }
+    ensures stays { IfErr result (λ fault. StillCounts fault (items_crossed stages.old.items) (items_crossed stages.new.items)) }
+{
+    if stages[place].pad.items >= MOST_ITEMS {
+        return Err(too_long(stages[place].pad.element));
+    }
+    match stages[place].pass(alloc, out) {
+        Ok(()) => match hand_on(alloc, stages, waiting, out, place + 1) {
+            Ok(reach) => Ok(reach),
+            Err(OutOfMemory) => Err(TaskFault::OutOfMemory),
+        },
+        Err(fault) => Err(fault),
+    }
+}
+
+/// Moves what was put out to the items that wait at the pad of a place. Answers how many stages may have items waiting.
+fn hand_on(
+    alloc: Global,
+    stages: &mut Vec<Stage>,
+    waiting: &mut VecDeque<Item>,
+    out: &mut Outs,
+    place: usize,
+) -> Result<usize, OutOfMemory>
+    requires { place ≤ vec_len stages.old }
+    ensures put { OnOk result (PutAt place (map item_of out.old) stages.old.items stages.new.items waiting.old.items waiting.new.items) }
+    ensures similar { AreSimilar stages.old.items stages.new.items }
+    ensures reach { IfOk result (λ reach. (reach ≤ vec_len stages.new) × (AreIdle (drop place stages.old.items) → AreIdle (drop reach stages.new.items))) }
+    ensures size { vec_len stages.new ≡ vec_len stages.old }
+    ensures empty { out.new ≡ [] }
+{
+    if place < stages.len() {
+        gather(alloc, &mut stages[place].waiting, out)?;
+        Ok(place + 1)
+    } else {
+        gather(alloc, waiting, out)?;
+        Ok(place)
+    }
+}
+
 /// The number of the element of the first pad.
 fn first_element(stages: &[Stage], last: &Pad) -> u32
     ensures { result ≡ element_at stages.now last.now 0 }
@@ -352,7 +420,7 @@ fn make_room(
 /// items waiting.
 fn put_first(stages: &mut Vec<Stage>, waiting: &mut VecDeque<Item>, item: Item) -> usize
     requires { HasRoom stages.old.items (deque_len waiting.old) (deque_capacity waiting.old) }
-    ensures put { PutFirst item stages.old.items stages.new.items waiting.old.items waiting.new.items }
+    ensures put { PutAt 0 (item ∷ []) stages.old.items stages.new.items waiting.old.items waiting.new.items }
     ensures reach { AreIdle stages.old.items → AreIdle (drop result stages.new.items) }
     ensures within { result ≤ vec_len stages.new }
 {
@@ -392,10 +460,13 @@ fn settled(stages: &[Stage], reach: usize) -> usize
     ensures waits { result ≢ 0 → WaitsAt stages.now (result - 1) }
 {
     let mut reach = reach;
-    while reach > 0 && stages[reach - 1].waiting.is_empty() {
+    while reach > 0 {
+        if !stages[reach - 1].waiting.is_empty() {
+            return reach;
+        }
         reach -= 1;
     }
-    reach
+    0
 }
 
 /// More items than the limit were to cross a pad of this element.

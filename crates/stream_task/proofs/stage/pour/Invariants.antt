@@ -4,7 +4,7 @@ use Rattle.stream_task.specs.Stage.{item_of}
 use Rattle.stream_task.proofs.stage.pour.Given as goal
 
 abbrev pub invariant-loop-one : goal.invariant-loop-one
-invariant-loop-one g l = l.waiting.items ++ map item_of l.outs.items ≡ l.fn.waiting.items ++ map item_of l.fn.outs.items
+invariant-loop-one l = l.waiting.items ++ map item_of l.outs.items ≡ l.fn.waiting.items ++ map item_of l.fn.outs.items
 
 abbrev pub decreases-loop-one : goal.decreases-loop-one
-decreases-loop-one g l = deque_len l.outs
+decreases-loop-one l = deque_len l.outs

@@ -1,0 +1,7 @@
+use Rattle.std.proofs.Common.{[], ◌∷◌, refl, subst}
+use Rattle.flow_model.specs.Item.{Item}
+use Rattle.stream_task.proofs.Stages.{flush_taken}
+use Rattle.stream_task.proofs.stage.flush.Goals as goal
+
+pub returns-clause-taken : goal.returns-clause-taken
+returns-clause-taken c = flush_taken c.args.filter.now c.flush.new.self c.args.item c.args.out.now c.push.new.self c.requires c.in_ok-push.ensures.ok c.flush.ensures
