@@ -14,9 +14,9 @@ use Rattle.stream_task.specs.declared.stage.Stage.{Stage}
 use Rattle.stream_task.specs.declared.step.Step.{Step}
 use Rattle.stream_task.specs.declared.step.Step.TheVariants.{Moved, NeedsItem, NeedsRoom, Ended}
 use Rattle.stream_task.specs.declared.task.Task.{Task}
-use Rattle.stream_task.specs.Stage.{StageList, element_at}
+use Rattle.stream_task.specs.Stage.{StageList, SameRules, numbers_of, element_at}
 use Rattle.stream_task.specs.Tail.{tail_place, tail_limit}
-use Rattle.stream_task.specs.Task.{SameRules, numbers_of, TaskLists, IsOneMove, moves_of, moved_to, Stands, Goes, Keeps, KeepsTable, IsReady, AtFault, IsTaskCause, Frame, Burns, fuel, head_of, tail_of, stages_of, last_of}
+use Rattle.stream_task.specs.Task.{TaskLists, IsOneMove, moves_of, moved_to, Stands, Goes, Keeps, KeepsTable, IsReady, AtFault, IsTaskCause, Frame, Burns, fuel, head_of, tail_of, stages_of, last_of}
 use Rattle.stream_task.proofs.Keeping.{ready_kept}
 use Rattle.stream_task.specs.Net.{Sends, Takes, IsWired, AllReady, IsLaid, IsPlain, Flows, ArePlain, IsNet, GoesOn, NetGoes, NetRests, NetStepped, NetFaulted, IsNetCause, AllFramed, Burned, has_moved, net_fuel}
 use Rattle.stream_task.specs.Turns.{MovesOnce, EachMovesOnce}

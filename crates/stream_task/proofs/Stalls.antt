@@ -27,9 +27,9 @@ use Rattle.stream_task.proofs.Closed.{closed_rest, closed_front, first_nil}
 use Rattle.stream_task.proofs.Places.{none_some}
 use Rattle.stream_task.proofs.Nets.{goes_on_same, net_gave, net_flows}
 
--- an element that was fed EOS has put it out
+-- an element has put out EOS exactly where it was fed it
 abbrev pub EosIsPutOut : Type 0
-EosIsPutOut = (rule : Response) (element : FilterElement) (xs put : List Item) → ElementStands rule element (feeds xs) put → has_eos xs ≡ true → has_eos put ≡ true
+EosIsPutOut = (rule : Response) (element : FilterElement) (xs put : List Item) → ElementStands rule element (feeds xs) put → has_eos put ≡ has_eos xs
 
 -- an element that was fed nothing behind EOS put out nothing behind EOS
 abbrev pub EosIsLast : Type 0
@@ -46,15 +46,15 @@ stages_closed law (t ∷ ss) put [] s h = absurd s
 stages_closed law (t ∷ ss) put (l ∷ ls) s h =
     stages_closed law ss (owes l) ls s.1 (law l.rule t.filter l.crossed (owes l) s.0.fed (closed_front put l.crossed t.waiting.items h s.0.held))
 
--- EOS that was given has come to the last pad where nothing waits
-stages_eos : EosIsPutOut → (ss : List Stage) (put : List Item) (ls : List StageList) → AreIdle ss → StagesStand ss put ls → has_eos put ≡ true → has_eos (put_last put ls) ≡ true
-stages_eos law [] put [] idle s h = h
-stages_eos law [] put (l ∷ ls) idle s h = absurd s
-stages_eos law (t ∷ ss) put [] idle s h = absurd s
-stages_eos law (t ∷ ss) put (l ∷ ls) idle s h =
+-- EOS has come to the last pad of a task in which nothing waits exactly where it was given
+stages_eos : EosIsPutOut → (ss : List Stage) (put : List Item) (ls : List StageList) → AreIdle ss → StagesStand ss put ls → has_eos (put_last put ls) ≡ has_eos put
+stages_eos law [] put [] idle s = refl
+stages_eos law [] put (l ∷ ls) idle s = absurd s
+stages_eos law (t ∷ ss) put [] idle s = absurd s
+stages_eos law (t ∷ ss) put (l ∷ ls) idle s =
     let none : t.waiting.items ≡ [] = idle 0 t (omega arith) in
     let all : put ≡ l.crossed = s.0.held ∙ ap (λ (ys : List Item). l.crossed ++ ys) none ∙ append-nil l.crossed in
-    stages_eos law ss (owes l) ls (λ k d w. idle (suc k) d (omega (arith, w))) s.1 (law l.rule t.filter l.crossed (owes l) s.0.fed (subst (λ (ys : List Item). has_eos ys ≡ true) all h))
+    stages_eos law ss (owes l) ls (λ k d w. idle (suc k) d (omega (arith, w))) s.1 ∙ law l.rule t.filter l.crossed (owes l) s.0.fed ∙ ap has_eos (sym all)
 
 -- the place and the limit of a lane that has a number
 place_of : {K O : Type 0} (place : O → ℕ) (tail : Tail K O) (m : ℕ) → tail_number tail ≡ Some m → (n : ℕ) × (tail_place place tail ≡ Some n)
@@ -158,13 +158,12 @@ module _ {S K I O : Type 0} (content : S → Option (List ℕ)) (bytes : K → O
   source_over k t (NeedsRoom m) at source none why = absurd (waits_not k t m at why.0 why.1)
   source_over k t Ended at source none why = sym (net.stands k t at).over ∙ why.1
 
-  over_behind : (n s r : ℕ) → Sends place_out tasks s n → Takes place_in tasks r n → has_eos (lists s).head.given ≡ true → has_eos (lists r).head.given ≡ true
-  over_behind n s r a b over =
+  over_behind : (n s r : ℕ) → Sends place_out tasks s n → Takes place_in tasks r n → has_eos (lists r).head.given ≡ has_eos (lists s).head.given
+  over_behind n s r a b =
       let stood = net.stands s a.0 a.1 in
       let idle = all_idle s a.0 a.1 in
-      let eos = stages_eos put_out (stages_of a.0) (lists s).head.given (lists s).stages idle.stages stood.stages over in
       let all : put_last (lists s).head.given (lists s).stages ≡ (lists s).done = stood.held ∙ ap (λ (ys : List Item). (lists s).done ++ ys) idle.last ∙ append-nil (lists s).done in
-      subst (λ (ys : List Item). has_eos ys ≡ true) (all ∙ all_drained n s r a b ∙ sym (gave_all n r b)) eos
+      ap has_eos (gave_all n r b ∙ sym (all_drained n s r a b) ∙ sym all) ∙ stages_eos put_out (stages_of a.0) (lists s).head.given (lists s).stages idle.stages stood.stages
 
   pub net_ended : NetEnded content bytes received sent place_in place_out tasks lists tells
   net_ended = record {

@@ -94,5 +94,5 @@ module _ {S K I O : Type 0} (content : S → Option (List ℕ)) (bytes : K → O
     drained = λ n s r a b. let within = slice_get_within tasks s a.0 a.1 in absurd (omega (arith, within, none));
     nothing = λ n r only b. let within = slice_get_within tasks r b.0 b.1 in absurd (omega (arith, within, none));
     sources = λ k t e source. let within = slice_get_within tasks k t e in absurd (omega (arith, within, none));
-    over = λ n s r a b eos. let within = slice_get_within tasks s a.0 a.1 in absurd (omega (arith, within, none));
+    over = λ n s r a b. let within = slice_get_within tasks s a.0 a.1 in absurd (omega (arith, within, none));
   }

@@ -14,9 +14,9 @@ use Rattle.stream_task.specs.declared.step.Step.{Step}
 use Rattle.stream_task.specs.declared.step.Step.TheVariants.{Moved}
 use Rattle.stream_task.specs.declared.task.Task.{Task}
 use Rattle.stream_task.specs.Head.{head_faults, head_number, head_place}
-use Rattle.stream_task.specs.Stage.{StageList, element_at}
+use Rattle.stream_task.specs.Stage.{SameRules, element_at}
 use Rattle.stream_task.specs.Tail.{tail_element, tail_faults, tail_limit, tail_place}
-use Rattle.stream_task.specs.Task.{TaskLists, Stands, AtFault, IsReady, IsIdle, IsWhy, Frame, SameRules, fuel, head_of, tail_of, stages_of, last_of}
+use Rattle.stream_task.specs.Task.{TaskLists, Stands, AtFault, IsReady, IsIdle, IsWhy, Frame, fuel, head_of, tail_of, stages_of, last_of}
 
 -- task s sends into lane n
 abbrev pub Sends : {S K I O : Type 0} → (O → ℕ) → List (Task S K I O) → ℕ → ℕ → Type 0
@@ -75,7 +75,7 @@ pub record GoesOn (was is : ℕ → TaskLists) : Type 0 where
   pub keep : (k : ℕ) → (is k).keep ≡ (was k).keep
 
 -- Nothing waits in a task or in a lane, each queue gave all that was sent into its lane, each source has given EOS, and
--- so has each task behind one that has.
+-- a queue exactly where the task that sends to it has.
 pub record NetEnded {S K I O : Type 0} (content : S → Option (List ℕ)) (bytes : K → Option (List ℕ)) (received : I → List Item → Type 0) (sent : O → List Item → Type 0) (place_in : I → ℕ) (place_out : O → ℕ)
     (tasks : List (Task S K I O)) (was : ℕ → TaskLists) (tells : Option (List Lane)) : Type 0 where
   pub lists : ℕ → TaskLists
@@ -85,7 +85,7 @@ pub record NetEnded {S K I O : Type 0} (content : S → Option (List ℕ)) (byte
   pub drained : (n s r : ℕ) → Sends place_out tasks s n → Takes place_in tasks r n → ((lists s).done ≡ (lists r).head.got) × ((lists r).head.given ≡ (lists s).done)
   pub nothing : (n r : ℕ) → ((s : ℕ) → Sends place_out tasks s n → ⊥) → Takes place_in tasks r n → (lists r).head.given ≡ []
   pub sources : (k : ℕ) (t : Task S K I O) → slice_get tasks k ≡ Some t → head_number (head_of t) ≡ None → has_eos (lists k).head.given ≡ true
-  pub over : (n s r : ℕ) → Sends place_out tasks s n → Takes place_in tasks r n → has_eos (lists s).head.given ≡ true → has_eos (lists r).head.given ≡ true
+  pub over : (n s r : ℕ) → Sends place_out tasks s n → Takes place_in tasks r n → has_eos (lists r).head.given ≡ has_eos (lists s).head.given
 
 -- One task met a fault, and the others stand.
 pub record NetFaulted {S K I O : Type 0} (content : S → Option (List ℕ)) (bytes : K → Option (List ℕ)) (received : I → List Item → Type 0) (sent : O → List Item → Type 0) (place_in : I → ℕ) (place_out : O → ℕ)

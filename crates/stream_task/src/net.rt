@@ -2,13 +2,6 @@
 ghost use Rattle.std.specs.Prelude.{◌≡◌, ◌≢◌, ◌<◌, ◌≤◌, ◌+◌, ◌%◌, ℕ, true, Some, Ok, length, slice_get, IfOk, IfErr, OnOk, OnErr, IsSome, if◌then◌else◌};
 ghost use Rattle.turn_order.specs.declared.order.Order.{Order};
 ghost use Rattle.turn_order.specs.Turns.{IsAmong};
-ghost use Rattle.std.specs.Prelude.{List};
-ghost use Rattle.flow_model.specs.Item.{Item};
-ghost use Rattle.flow_model.specs.Call.{feeds};
-ghost use Rattle.flow_model.specs.Rule.{Response};
-ghost use Rattle.el_src.specs.Gave.{has_eos};
-ghost use Rattle.el_set.specs.declared.filter.FilterElement.{FilterElement};
-ghost use Rattle.el_set.specs.Stands.{Stands as ElementStands};
 ghost use Rattle.stream_task.specs.Task.{TaskLists};
 ghost use Rattle.stream_task.specs.Net.{AllReady, IsWired, IsNet, IsNetCause, NetEnded, NetFaulted, NetStepped, NetAdvanced, AllFramed, Burned, net_fuel, steps_left, has_moved as step_moved};
 ghost use Rattle.stream_task.specs.Turns.{EachMovesOnce, HasCome, RunBy};
@@ -17,6 +10,7 @@ use crate::fault::TaskFault;
 use crate::step::Step;
 use crate::task::Task;
 use el_set::closed::put_is_closed;
+use el_set::laws::put_has_eos;
 use gst_outside::{Sink, Source};
 use lane_core::{Inlet, Outlet};
 use std::alloc::Global;
@@ -104,15 +98,10 @@ fn try_each<S: Source, K: Sink, I: Inlet<Out = O>, O: Outlet<Lanes = I::Lanes>>(
             Err(stop) => return Err(stop),
         }
     }
-    eos_is_put_out();
+    put_has_eos();
     put_is_closed();
     Ok(moved)
 }
-
-/// An element that was fed EOS has put it out.
-fn eos_is_put_out()
-    ensures { (rule : Response) (element : FilterElement) (xs put : List Item) → ElementStands rule element (feeds xs) put → has_eos xs ≡ true → has_eos put ≡ true }
-{}
 
 /// The next turn; or, behind so many turns that moved nothing, one step of each task. Tells whether there is more
 /// to do.

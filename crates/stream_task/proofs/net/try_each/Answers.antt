@@ -39,7 +39,7 @@ returns-in-Err-clause-frame g c = framed_trans {S = g.row.S.Denot} {K = g.row.K.
 pub returns-clause-goes : goal.returns-clause-goes
 returns-clause-goes g c =
     λ lists net.
-    all_tried {S = g.row.S.Denot} {K = g.row.K.Denot} {I = g.row.I.Denot} {O = g.row.O.Denot} g.S.Source.content g.K.Sink.bytes g.I.Inlet.received g.O.Outlet.sent g.I.Inlet.place g.O.Outlet.place g.O.Outlet.limits c.loop-place.place c.loop-place.moved c.loop-place.tasks lists _ _ (omega (arith, c.loop-place-test.false, c.loop-place.invariant.count)) (c.requires.told c.loop-place.lanes) c.eos_is_put_out.ensures c.put_is_closed.ensures c.loop-place.invariant.wired (c.loop-place.invariant.goes lists net)
+    all_tried {S = g.row.S.Denot} {K = g.row.K.Denot} {I = g.row.I.Denot} {O = g.row.O.Denot} g.S.Source.content g.K.Sink.bytes g.I.Inlet.received g.O.Outlet.sent g.I.Inlet.place g.O.Outlet.place g.O.Outlet.limits c.loop-place.place c.loop-place.moved c.loop-place.tasks lists _ _ (omega (arith, c.loop-place-test.false, c.loop-place.invariant.count)) (c.requires.told c.loop-place.lanes) c.put_has_eos.ensures c.put_is_closed.ensures c.loop-place.invariant.wired (c.loop-place.invariant.goes lists net)
 
 pub returns-in-Err-clause-once : goal.returns-in-Err-clause-once
 returns-in-Err-clause-once g c = once_more c.args.tasks.now c.loop-place.tasks c.step_at.new.tasks c.loop-place.place c.loop-place.invariant.once c.loop-place.invariant.rest c.step_at.ensures.once c.step_at.ensures.others
