@@ -4,9 +4,3 @@ pub mod Keeping
 pub mod Rooms
 pub mod Stages
 pub mod Steps
-pub mod Places
-pub mod Closed
-pub mod Nets
-pub mod Stalls
-pub mod Tries
-pub mod Turning

@@ -1,10 +1,8 @@
 pub mod Fault
 pub mod Head
 pub mod Inlets
-pub mod Net
 pub mod Pads
 pub mod Stage
 pub mod Step
 pub mod Tail
 pub mod Task
-pub mod Turns

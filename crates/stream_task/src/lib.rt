@@ -4,7 +4,6 @@
 pub mod fault;
 pub mod head;
 pub mod inlets;
-pub mod net;
 pub mod pads;
 pub mod stage;
 pub mod step;
@@ -14,7 +13,6 @@ pub mod task;
 pub use fault::TaskFault;
 pub use head::Head;
 pub use inlets::Inlets;
-pub use net::{Stopped, run_tasks};
 pub use pads::{MOST_ITEMS, Pad};
 pub use stage::Stage;
 pub use step::{Step, UNLINKED};

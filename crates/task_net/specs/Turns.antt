@@ -5,7 +5,7 @@ use Rattle.turn_order.specs.declared.turns.Turns.{Turns}
 use Rattle.turn_order.specs.Turns.{number_of, IsAmong}
 use Rattle.stream_task.specs.declared.task.Task.{Task}
 use Rattle.stream_task.specs.Task.{moves_of}
-use Rattle.stream_task.specs.Net.{net_fuel}
+use Rattle.task_net.specs.Net.{net_fuel}
 
 -- how many turns in a row moved nothing, behind one more
 abbrev pub idle_behind : ℕ → ℕ → ℕ → ℕ

@@ -1,7 +1,7 @@
 use Rattle.std.proofs.Common.{◌<◌, ◌∙◌, refl, arith}
-use Rattle.stream_task.proofs.Nets.{framed_same, framed_trans, none_moved, once_more, rest_more}
-use Rattle.stream_task.proofs.Tries.{burned_both, goes_any, faulted_more, none_tried, more_tried, all_tried}
-use Rattle.stream_task.proofs.net.try_each.Goals as goal
+use Rattle.task_net.proofs.Nets.{framed_same, framed_trans, none_moved, once_more, rest_more}
+use Rattle.task_net.proofs.Tries.{burned_both, goes_any, faulted_more, none_tried, more_tried, all_tried}
+use Rattle.task_net.proofs.net.try_each.Goals as goal
 
 pub loop-place-init : goal.loop-place-init
 loop-place-init g c = record {

@@ -9,9 +9,9 @@ use Rattle.lane_core.specs.Room.{Limits}
 use Rattle.stream_task.specs.declared.fault.TaskFault.{TaskFault}
 use Rattle.stream_task.specs.declared.task.Task.{Task}
 use Rattle.stream_task.specs.Task.{TaskLists}
-use Rattle.stream_task.specs.Net.{IsWired, IsNet, GoesOn, NetGoes, NetRests, NetStepped, NetAdvanced, NetEnded, NetFaulted, Rests, Burned}
-use Rattle.stream_task.proofs.Nets.{some_of, goes_on_same, goes_on_trans}
-use Rattle.stream_task.proofs.Stalls.{EosIsPutOut, EosIsLast, net_ended}
+use Rattle.task_net.specs.Net.{IsWired, IsNet, GoesOn, NetGoes, NetRests, NetStepped, NetAdvanced, NetEnded, NetFaulted, Rests, Burned}
+use Rattle.task_net.proofs.Nets.{some_of, goes_on_same, goes_on_trans}
+use Rattle.task_net.proofs.Stalls.{EosIsPutOut, EosIsLast, net_ended}
 
 -- what steps use up together
 pub burned_both : (one two : Bool) (a b c : ℕ) → Burned one a b → Burned two b c → Burned (one || two) a c

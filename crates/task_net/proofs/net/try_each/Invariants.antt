@@ -1,9 +1,9 @@
 use Rattle.std.proofs.Common.{◌≡◌, ◌<◌, ◌≤◌, ℕ, length}
 use Rattle.std.specs.Prelude.{slice_get}
 use Rattle.stream_task.specs.Task.{TaskLists}
-use Rattle.stream_task.specs.Net.{AllReady, IsWired, IsNet, NetStepped, AllFramed, Burned, net_fuel}
-use Rattle.stream_task.specs.Turns.{EachMovesOnce}
-use Rattle.stream_task.proofs.net.try_each.Given as goal
+use Rattle.task_net.specs.Net.{AllReady, IsWired, IsNet, NetStepped, AllFramed, Burned, net_fuel}
+use Rattle.task_net.specs.Turns.{EachMovesOnce}
+use Rattle.task_net.proofs.net.try_each.Given as goal
 
 abbrev pub invariant-loop-place : goal.invariant-loop-place
 invariant-loop-place g l = record {

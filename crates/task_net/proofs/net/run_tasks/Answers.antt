@@ -1,8 +1,8 @@
 use Rattle.std.proofs.Common.{◌∙◌, refl, ap, arith, Ok, length}
-use Rattle.stream_task.proofs.Nets.{framed_same, framed_trans}
-use Rattle.stream_task.proofs.Tries.{goes_same, goes_more, ended_more, faulted_more, none_ended}
-use Rattle.stream_task.proofs.Turning.{come_first, run_come, none_by, some_by}
-use Rattle.stream_task.proofs.net.run_tasks.Goals as goal
+use Rattle.task_net.proofs.Nets.{framed_same, framed_trans}
+use Rattle.task_net.proofs.Tries.{goes_same, goes_more, ended_more, faulted_more, none_ended}
+use Rattle.task_net.proofs.Turning.{come_first, run_come, none_by, some_by}
+use Rattle.task_net.proofs.net.run_tasks.Goals as goal
 
 pub turns-init : goal.turns-init
 turns-init g c = record {

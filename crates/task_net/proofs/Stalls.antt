@@ -22,10 +22,10 @@ use Rattle.stream_task.specs.Head.{head_place, head_number}
 use Rattle.stream_task.specs.Tail.{tail_place, tail_number, tail_limit}
 use Rattle.stream_task.specs.Stage.{StageList, StagesStand, AreIdle, owes, put_last}
 use Rattle.stream_task.specs.Task.{TaskLists, IsEmptyLane, IsFullLane, IsIdle, IsWhy, head_of, tail_of, stages_of}
-use Rattle.stream_task.specs.Net.{Sends, Takes, IsWired, IsNet, NetEnded, Rests, has_moved}
-use Rattle.stream_task.proofs.Closed.{closed_rest, closed_front, first_nil}
-use Rattle.stream_task.proofs.Places.{none_some}
-use Rattle.stream_task.proofs.Nets.{goes_on_same, net_gave, net_flows}
+use Rattle.task_net.specs.Net.{Sends, Takes, IsWired, IsNet, NetEnded, Rests, has_moved}
+use Rattle.task_net.proofs.Closed.{closed_rest, closed_front, first_nil}
+use Rattle.task_net.proofs.Places.{none_some}
+use Rattle.task_net.proofs.Nets.{goes_on_same, net_gave, net_flows}
 
 -- an element has put out EOS exactly where it was fed it
 abbrev pub EosIsPutOut : Type 0

@@ -6,8 +6,8 @@ use Rattle.turn_order.specs.declared.order.Order.{Order}
 use Rattle.turn_order.specs.declared.turns.Turns.{Turns}
 use Rattle.turn_order.specs.Turns.{number_of, IsAmong}
 use Rattle.stream_task.specs.declared.task.Task.{Task}
-use Rattle.stream_task.specs.Net.{Burned, net_fuel, steps_left}
-use Rattle.stream_task.specs.Turns.{EachMovesOnce, ByTurns, begun, turn, tries, RunBy, HasCome, idle_behind}
+use Rattle.task_net.specs.Net.{Burned, net_fuel, steps_left}
+use Rattle.task_net.specs.Turns.{EachMovesOnce, ByTurns, begun, turn, tries, RunBy, HasCome, idle_behind}
 
 -- the next turn is the same among as many tasks
 turn_same : (order : Order) (count count' n : ℕ) (turns : Turns) → count' ≡ count → IsAmong order count n turns → IsAmong order count' n turns

@@ -3,17 +3,15 @@ ghost use Rattle.std.specs.Prelude.{◌≡◌, ◌≢◌, ◌<◌, ◌≤◌, �
 ghost use Rattle.turn_order.specs.declared.order.Order.{Order};
 ghost use Rattle.turn_order.specs.Turns.{IsAmong};
 ghost use Rattle.stream_task.specs.Task.{TaskLists};
-ghost use Rattle.stream_task.specs.Net.{AllReady, IsWired, IsNet, IsNetCause, NetEnded, NetFaulted, NetStepped, NetAdvanced, AllFramed, Burned, net_fuel, steps_left, has_moved as step_moved};
-ghost use Rattle.stream_task.specs.Turns.{EachMovesOnce, HasCome, RunBy};
+ghost use Rattle.task_net.specs.Net.{AllReady, IsWired, IsNet, IsNetCause, NetEnded, NetFaulted, NetStepped, NetAdvanced, AllFramed, Burned, net_fuel, steps_left, has_moved as step_moved};
+ghost use Rattle.task_net.specs.Turns.{EachMovesOnce, HasCome, RunBy};
 
-use crate::fault::TaskFault;
-use crate::step::Step;
-use crate::task::Task;
 use el_set::closed::put_is_closed;
 use el_set::laws::put_has_eos;
 use gst_outside::{Sink, Source};
 use lane_core::{Inlet, Outlet};
 use std::alloc::Global;
+use stream_task::{Step, Task, TaskFault};
 use turn_order::Turns;
 
 /// How many turns in a row move nothing before each task is tried.

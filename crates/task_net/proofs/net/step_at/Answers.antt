@@ -2,10 +2,10 @@ use Rattle.std.proofs.Common.{subst, sym}
 use Rattle.std.specs.Prelude.{slice_set}
 use Rattle.std.proofs.lemmas.Option.{slice_get-get_or}
 use Rattle.stream_task.specs.declared.task.Task.{Task}
-use Rattle.stream_task.specs.Net.{IsNetCause}
-use Rattle.stream_task.proofs.Places.{set_here, set_there, set_length}
-use Rattle.stream_task.proofs.Nets.{framed_set, wired_framed, ready_set, net_stepped, net_faulted, net_burned, net_cause, moves_once, once_set}
-use Rattle.stream_task.proofs.net.step_at.Goals as goal
+use Rattle.task_net.specs.Net.{IsNetCause}
+use Rattle.task_net.proofs.Places.{set_here, set_there, set_length}
+use Rattle.task_net.proofs.Nets.{framed_set, wired_framed, ready_set, net_stepped, net_faulted, net_burned, net_cause, moves_once, once_set}
+use Rattle.task_net.proofs.net.step_at.Goals as goal
 
 pub step-requires-after_bounds : goal.step-requires-after_bounds
 step-requires-after_bounds g c κs within = c.requires.ready c.args.place _ (slice_get-get_or c.args.tasks.now c.args.place c.index-tasks-place.result c.requires.place)

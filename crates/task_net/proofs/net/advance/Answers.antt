@@ -1,7 +1,7 @@
 use Rattle.std.proofs.Common.{refl, arith}
-use Rattle.stream_task.proofs.Tries.{goes_any}
-use Rattle.stream_task.proofs.Turning.{idle_within, less_left, come_turn, come_stop, ok_tries, err_tries}
-use Rattle.stream_task.proofs.net.advance.Goals as goal
+use Rattle.task_net.proofs.Tries.{goes_any}
+use Rattle.task_net.proofs.Turning.{idle_within, less_left, come_turn, come_stop, ok_tries, err_tries}
+use Rattle.task_net.proofs.net.advance.Goals as goal
 
 pub returns-then-idle-eq-IDLE_TURNS-clause-come : goal.returns-then-idle-eq-IDLE_TURNS-clause-come
 returns-then-idle-eq-IDLE_TURNS-clause-come g c = ok_tries c.args.tasks.now c.try_each.new.tasks c.args.turns.now c.args.idle.now _ c.if-idle-eq-IDLE_TURNS.true refl c.try_each.ensures.count c.try_each.ensures.once c.try_each.result

@@ -15,18 +15,19 @@ use Rattle.stream_task.specs.declared.step.Step.{Step}
 use Rattle.stream_task.specs.declared.step.Step.TheVariants.{Moved, NeedsItem, NeedsRoom, Ended}
 use Rattle.stream_task.specs.declared.task.Task.{Task}
 use Rattle.stream_task.specs.Stage.{StageList, SameRules, numbers_of, element_at}
-use Rattle.stream_task.specs.Tail.{tail_place, tail_limit}
+use Rattle.stream_task.specs.Tail.{TailOf, tail_place, tail_limit}
 use Rattle.stream_task.specs.Task.{TaskLists, IsOneMove, moves_of, moved_to, Stands, Goes, Keeps, KeepsTable, IsReady, AtFault, IsTaskCause, Frame, Burns, fuel, head_of, tail_of, stages_of, last_of}
-use Rattle.stream_task.proofs.Keeping.{ready_kept}
-use Rattle.stream_task.specs.Net.{Sends, Takes, IsWired, AllReady, IsLaid, IsPlain, Flows, ArePlain, IsNet, GoesOn, NetGoes, NetRests, NetStepped, NetFaulted, IsNetCause, AllFramed, Burned, has_moved, net_fuel}
-use Rattle.stream_task.specs.Turns.{MovesOnce, EachMovesOnce}
+use Rattle.task_net.specs.Net.{Sends, Takes, IsWired, AllReady, IsLaid, IsPlain, Flows, ArePlain, IsNet, GoesOn, NetGoes, NetRests, NetStepped, NetFaulted, IsNetCause, AllFramed, Burned, has_moved, net_fuel}
+use Rattle.task_net.specs.Turns.{MovesOnce, EachMovesOnce}
 use Rattle.flow_model.specs.Prefix.{IsPrefix}
 use Rattle.flow_model.proofs.Prefixes.{prefix_by, prefix_trans}
 use Rattle.stream_task.specs.declared.head.Head.{Head}
 use Rattle.stream_task.specs.declared.head.Head.TheVariants as heads
-use Rattle.stream_task.specs.Head.{HeadLists, HeadGave, head_place}
-use Rattle.stream_task.proofs.Closed.{closed_more, first_nil}
-use Rattle.stream_task.proofs.Places.{some_same, none_some, set_here, set_there, set_length, some_before, sum_set}
+use Rattle.stream_task.specs.declared.tail.Tail.{Tail}
+use Rattle.stream_task.specs.declared.tail.Tail.TheVariants as tails
+use Rattle.stream_task.specs.Head.{HeadLists, HeadGave, HeadIn, head_place}
+use Rattle.task_net.proofs.Closed.{closed_more, first_nil}
+use Rattle.task_net.proofs.Places.{some_same, none_some, set_here, set_there, set_length, some_before, sum_set}
 
 pub some_of : {A : Type 0} (o : Option A) → IsSome o → (a : A) × (o ≡ Some a)
 some_of None h = absurd (false≢true h)
@@ -266,6 +267,18 @@ module _ {S K I O : Type 0} (content : S → Option (List ℕ)) (bytes : K → O
     nothing = λ n r none b. net_gave tasks lists tells net n r b ∙ none_came tells table n (lists r).head.got told (net.laid.unsent n r none b);
   }
 
+-- the lanes of a head and of a tail are still of the table
+head_kept : {S I : Type 0} (place_in : I → ℕ) (head : Head S I) (outlet : Option ℕ) (tells tells' : Option (List Lane)) → KeepsTable outlet tells tells' → HeadIn place_in head tells → HeadIn place_in head tells'
+head_kept place_in (heads.Source s) outlet tells tells' keeps h = tt
+head_kept place_in (heads.Queue q) outlet tells tells' keeps h = keeps.lanes _ h
+head_kept place_in heads.Unlinked outlet tells tells' keeps h = tt
+
+tail_kept : {K O : Type 0} (place_out : O → ℕ) (limits : O → Limits) (count : O → ℕ) (tail : Tail K O) (outlet : Option ℕ) (tells tells' : Option (List Lane)) → KeepsTable outlet tells tells'
+    → ((n : ℕ) → tail_place place_out tail ≡ Some n → outlet ≢ Some n) → TailOf place_out limits count tail tells → TailOf place_out limits count tail tells'
+tail_kept place_out limits count (tails.Sink e k) outlet tells tells' keeps apart h = tt
+tail_kept place_out limits count tails.Open outlet tells tells' keeps apart h = tt
+tail_kept place_out limits count (tails.Lane m o) outlet tells tells' keeps apart h = keeps.rooms _ _ _ (apart (place_out o) refl) h
+
 module _ {S K I O : Type 0} (place_in : I → ℕ) (place_out : O → ℕ) (limits : O → Limits) (count : O → ℕ) where
   -- all tasks stay ready
   pub ready_set : (tasks : List (Task S K I O)) (place : ℕ) (was is : Task S K I O) (tells tells' : Option (List Lane)) → slice_get tasks place ≡ Some was → IsWired place_in place_out limits tasks
@@ -277,7 +290,11 @@ module _ {S K I O : Type 0} (place_in : I → ℕ) (place_out : O → ℕ) (limi
       subst (λ (u : Task S K I O). IsReady place_in place_out limits count u tells') (sym (set_here tasks place t is (subst (λ (j : ℕ). slice_get (slice_set tasks place is) j ≡ Some t) here e))) ready)
       (λ ne.
       let there : slice_get tasks k ≡ Some t = sym (set_there tasks place k is ne) ∙ e in
-      ready_kept place_in place_out limits count t (tail_place place_out (tail_of was)) tells tells' keeps (λ n h h'. ne (wired.one_sends n k place (t, there, h) (was, at, h'))) (all k t there))
+      let before = all k t there in
+      record {
+        head_in = head_kept place_in (head_of t) (tail_place place_out (tail_of was)) tells tells' keeps before.head_in;
+        tail_of = tail_kept place_out limits count (tail_of t) (tail_place place_out (tail_of was)) tells tells' keeps (λ n h h'. ne (wired.one_sends n k place (t, there, h) (was, at, h'))) before.tail_of;
+      })
       (cases_eq k place)
 
 same_lists : (l : TaskLists) (got given : List Item) (stages : List StageList) (done : List Item) → got ≡ l.head.got → given ≡ l.head.given → stages ≡ l.stages → done ≡ l.done → moved_to l got given stages done ≡ l

@@ -1,0 +1,6 @@
+mod Places
+mod Closed
+mod Nets
+mod Stalls
+mod Tries
+mod Turning
