@@ -1,6 +1,7 @@
 mod Places
 mod Closed
 mod Nets
+mod Overs
 mod Stalls
 mod Tries
 mod Turning

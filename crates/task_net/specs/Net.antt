@@ -1,5 +1,5 @@
 -- Tasks that lanes join. A task has a number, its place among the tasks, and a lane is known by its place in the table.
-use Rattle.std.specs.Prelude.{◌≡◌, ◌≢◌, ◌≤◌, ◌<◌, ◌+◌, ◌-◌, ◌*◌, ◌++◌, ℕ, Bool, true, false, List, [], ◌∷◌, length, map, sum_by, Option, Some, None, slice_get}
+use Rattle.std.specs.Prelude.{◌≡◌, ◌≢◌, ◌≤◌, ◌<◌, ◌⊎◌, ◌+◌, ◌-◌, ◌*◌, ◌++◌, ℕ, Bool, true, false, List, [], ◌∷◌, length, map, sum_by, Option, Some, None, slice_get}
 use Rattle.std.specs.Option.{ForSome}
 use Rattle.flow_model.specs.Item.{Item}
 use Rattle.flow_model.specs.Prefix.{IsPrefix}
@@ -86,6 +86,15 @@ pub record NetEnded {S K I O : Type 0} (content : S → Option (List ℕ)) (byte
   pub nothing : (n r : ℕ) → ((s : ℕ) → Sends place_out tasks s n → ⊥) → Takes place_in tasks r n → (lists r).head.given ≡ []
   pub sources : (k : ℕ) (t : Task S K I O) → slice_get tasks k ≡ Some t → head_number (head_of t) ≡ None → has_eos (lists k).head.given ≡ true
   pub over : (n s r : ℕ) → Sends place_out tasks s n → Takes place_in tasks r n → has_eos (lists r).head.given ≡ has_eos (lists s).head.given
+
+-- each task has a source, or takes from a lane into which a task sends
+abbrev pub AllFed : {S K I O : Type 0} → (I → ℕ) → (O → ℕ) → List (Task S K I O) → Type 0
+AllFed {S = S} {K = K} {I = I} {O = O} place_in place_out tasks =
+    (k : ℕ) (t : Task S K I O) → slice_get tasks k ≡ Some t → (head_number (head_of t) ≡ None) ⊎ ((n : ℕ) × (s : ℕ) × Sends place_out tasks s n × Takes place_in tasks k n)
+
+-- every task has given EOS
+abbrev pub AllOver : {S K I O : Type 0} → List (Task S K I O) → (ℕ → TaskLists) → Type 0
+AllOver {S = S} {K = K} {I = I} {O = O} tasks lists = (k : ℕ) (t : Task S K I O) → slice_get tasks k ≡ Some t → has_eos (lists k).head.given ≡ true
 
 -- One task met a fault, and the others stand.
 pub record NetFaulted {S K I O : Type 0} (content : S → Option (List ℕ)) (bytes : K → Option (List ℕ)) (received : I → List Item → Type 0) (sent : O → List Item → Type 0) (place_in : I → ℕ) (place_out : O → ℕ)

@@ -26,7 +26,7 @@ pub returns-in-Ok-clause-once : goal.returns-in-Ok-clause-once
 returns-in-Ok-clause-once g c = once_set c.args.tasks.now c.args.place _ c.step.new.self (slice_get-get_or c.args.tasks.now c.args.place c.index-tasks-place.result c.requires.place) (moves_once _ c.step.new.self c.step.result c.step.ensures.moves)
 
 pub returns-in-Ok-clause-goes : goal.returns-in-Ok-clause-goes
-returns-in-Ok-clause-goes g c = 
+returns-in-Ok-clause-goes g c =
     λ lists net.
     rw c.has_moved.ensures
     (net_stepped {S = g.row.S.Denot} {K = g.row.K.Denot} {I = g.row.I.Denot} {O = g.row.O.Denot} g.S.Source.location g.S.Source.content g.K.Sink.location g.K.Sink.bytes g.I.Inlet.received g.O.Outlet.sent g.I.Inlet.place g.I.Inlet.id g.O.Outlet.place g.O.Outlet.limits g.O.Outlet.id c.args.tasks.now c.args.place _ c.step.new.self c.in-Ok.step lists _ _ (slice_get-get_or c.args.tasks.now c.args.place c.index-tasks-place.result c.requires.place) c.step.ensures.frame c.requires.wired net
@@ -51,12 +51,12 @@ pub returns-in-Err-clause-once : goal.returns-in-Err-clause-once
 returns-in-Err-clause-once g c = once_set c.args.tasks.now c.args.place _ c.step.new.self (slice_get-get_or c.args.tasks.now c.args.place c.index-tasks-place.result c.requires.place) (moves_once _ c.step.new.self c.step.result c.step.ensures.moves)
 
 pub returns-in-Err-clause-faulted : goal.returns-in-Err-clause-faulted
-returns-in-Err-clause-faulted g c = 
+returns-in-Err-clause-faulted g c =
     λ lists net.
     net_faulted {S = g.row.S.Denot} {K = g.row.K.Denot} {I = g.row.I.Denot} {O = g.row.O.Denot} g.S.Source.location g.S.Source.content g.K.Sink.location g.K.Sink.bytes g.I.Inlet.received g.O.Outlet.sent g.I.Inlet.place g.I.Inlet.id g.O.Outlet.place g.O.Outlet.limits g.O.Outlet.id c.args.tasks.now c.args.place _ c.step.new.self c.in-Err.fault lists _ _ (c.requires.told c.args.lanes.now) (slice_get-get_or c.args.tasks.now c.args.place c.index-tasks-place.result c.requires.place) c.step.ensures.frame c.in-Err.ensures.table net (c.in-Err.ensures.fault (lists c.args.place) (net.stands c.args.place _ (slice_get-get_or c.args.tasks.now c.args.place c.index-tasks-place.result c.requires.place)))
 
 pub returns-in-Err-clause-cause : goal.returns-in-Err-clause-cause
-returns-in-Err-clause-cause g c = 
+returns-in-Err-clause-cause g c =
     λ t e.
     subst (λ (u : Task g.row.S.Denot g.row.K.Denot g.row.I.Denot g.row.O.Denot). IsNetCause g.S.Source.faults g.K.Sink.faults u c.in-Err.fault) (sym (set_here c.args.tasks.now c.args.place t c.step.new.self e))
     (net_cause {S = g.row.S.Denot} {K = g.row.K.Denot} {I = g.row.I.Denot} {O = g.row.O.Denot} g.S.Source.location g.S.Source.content g.K.Sink.location g.I.Inlet.place g.I.Inlet.id g.O.Outlet.place g.O.Outlet.limits g.O.Outlet.id g.S.Source.faults g.K.Sink.faults _ c.step.new.self c.in-Err.fault c.step.ensures.frame c.in-Err.ensures.cause)
