@@ -1,5 +1,6 @@
 mod Places
 mod Closed
+mod Crossings
 mod Nets
 mod Overs
 mod Stalls

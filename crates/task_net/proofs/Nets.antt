@@ -37,14 +37,14 @@ some_of (Some a) h = (a, refl)
 abbrev pub with_lists : ℕ → TaskLists → (ℕ → TaskLists) → ℕ → TaskLists
 with_lists place l lists k = cond (eqb k place) l (lists k)
 
-lists_here : (place : ℕ) (l : TaskLists) (lists : ℕ → TaskLists) (k : ℕ) → k ≡ place → with_lists place l lists k ≡ l
+pub lists_here : (place : ℕ) (l : TaskLists) (lists : ℕ → TaskLists) (k : ℕ) → k ≡ place → with_lists place l lists k ≡ l
 lists_here place l lists k e = cond-true (eqb k place) l (lists k) (eq-eqb k place e)
 
-lists_there : (place : ℕ) (l : TaskLists) (lists : ℕ → TaskLists) (k : ℕ) → k ≢ place → with_lists place l lists k ≡ lists k
+pub lists_there : (place : ℕ) (l : TaskLists) (lists : ℕ → TaskLists) (k : ℕ) → k ≢ place → with_lists place l lists k ≡ lists k
 lists_there place l lists k ne = cond-false (eqb k place) l (lists k) (ne_eqb k place ne)
 
 -- what is the same of the exchanged lists is the same of all
-lists_same : {A : Type 0} (f : TaskLists → A) (place : ℕ) (l : TaskLists) (lists : ℕ → TaskLists) → f l ≡ f (lists place) → (k : ℕ) → f (with_lists place l lists k) ≡ f (lists k)
+pub lists_same : {A : Type 0} (f : TaskLists → A) (place : ℕ) (l : TaskLists) (lists : ℕ → TaskLists) → f l ≡ f (lists place) → (k : ℕ) → f (with_lists place l lists k) ≡ f (lists k)
 lists_same f place l lists e k =
     ⊎_elim (λ here. ap f (lists_here place l lists k here) ∙ e ∙ ap (λ j. f (lists j)) (sym here)) (λ ne. ap f (lists_there place l lists k ne)) (cases_eq k place)
 

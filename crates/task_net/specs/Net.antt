@@ -16,7 +16,7 @@ use Rattle.stream_task.specs.declared.task.Task.{Task}
 use Rattle.stream_task.specs.Head.{head_faults, head_number, head_place}
 use Rattle.stream_task.specs.Stage.{SameRules, element_at}
 use Rattle.stream_task.specs.Tail.{tail_element, tail_faults, tail_limit, tail_place}
-use Rattle.stream_task.specs.Task.{TaskLists, Stands, AtFault, IsReady, IsIdle, IsWhy, Frame, fuel, head_of, tail_of, stages_of, last_of}
+use Rattle.stream_task.specs.Task.{TaskLists, Stands, HasCrossed, AtFault, IsReady, IsIdle, IsWhy, Frame, fuel, head_of, tail_of, stages_of, last_of}
 
 -- task s sends into lane n
 abbrev pub Sends : {S K I O : Type 0} → (O → ℕ) → List (Task S K I O) → ℕ → ℕ → Type 0
@@ -105,6 +105,14 @@ pub record NetFaulted {S K I O : Type 0} (content : S → Option (List ℕ)) (by
   pub faulted : (t : Task S K I O) → slice_get tasks place ≡ Some t → AtFault content bytes received sent t (lists place) fault
   pub laid : IsLaid place_in place_out tasks lists tells
   pub plain : ArePlain tasks lists
+  pub flows : Flows place_in place_out tasks lists
+
+-- What is common to a net that has ended and to one with a fault: what crossed each pad begins what was put on it, and
+-- what a queue gave begins what was sent to it.
+pub record NetCrossed {S K I O : Type 0} (content : S → Option (List ℕ)) (received : I → List Item → Type 0) (place_in : I → ℕ) (place_out : O → ℕ) (tasks : List (Task S K I O)) (was : ℕ → TaskLists) : Type 0 where
+  pub lists : ℕ → TaskLists
+  pub goes_on : GoesOn was lists
+  pub crossed : (k : ℕ) (t : Task S K I O) → slice_get tasks k ≡ Some t → HasCrossed content received t (lists k)
   pub flows : Flows place_in place_out tasks lists
 
 -- the cause of a fault: the count of the task's source or sink rose to what it is, and the fault names its element
