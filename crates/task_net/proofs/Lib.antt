@@ -1,6 +1,7 @@
 mod Places
 mod Closed
 mod Crossings
+mod Empty
 mod Nets
 mod Overs
 mod Stalls
