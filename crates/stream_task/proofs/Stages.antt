@@ -1,5 +1,5 @@
 -- The stages of a task behind an item that crossed one of their pads.
-use Rattle.std.proofs.Common.{◌≡◌, ◌≢◌, ◌<◌, ◌≤◌, ◌+◌, ◌-◌, ℕ, zero, suc, List, [], ◌∷◌, ◌++◌, length, map, drop, get_or, sum_by, All, Some, None, true, false, inl, inr, refl, sym, ap, ◌∙◌, subst, arith, append_assoc, append-nil, length-append}
+use Rattle.std.proofs.Common.{◌≡◌, ◌≢◌, ◌<◌, ◌≤◌, ◌+◌, ◌-◌, ℕ, zero, suc, List, [], ◌∷◌, ◌++◌, length, map, drop, get_or, sum_by, Some, true, inr, refl, sym, ap, ◌∙◌, subst, arith, append_assoc, append-nil, length-append}
 use Rattle.std.specs.Prelude.{slice_get, slice_set, Result, Ok, Err, IfErr}
 use Rattle.std.proofs.lemmas.List.Sums.{sum_by-cons}
 use Rattle.gst_item.specs.declared.out.Out.{Out}
@@ -19,7 +19,7 @@ use Rattle.el_set.proofs.Elements.{elements_owe}
 use Rattle.stream_task.specs.declared.stage.Stage.{Stage}
 use Rattle.stream_task.specs.declared.pads.Pad.{Pad}
 use Rattle.stream_task.specs.Pads.{Counts}
-use Rattle.stream_task.specs.Stage.{item_of, StageList, owes, put_at, put_last, crossed_at, element_at, StageStands, StagesStand, StageKeeps, StagesKeep, Taken, IsRefusal, StagePassed, StageStuck, AreIdle, IsAlike, AreAlike, WaitsMore, PutAt, IsSimilar, AreSimilar, Stopped, IsFull, PassedOn, GaveUp, StagesStop, IsElementFault, StillCounts, numbers_of, items_crossed, room_left, WaitsAt, IsFarthest}
+use Rattle.stream_task.specs.Stage.{item_of, StageList, owes, put_at, put_last, crossed_at, element_at, StageStands, StagesStand, StageKeeps, StagesKeep, Taken, IsRefusal, StagePassed, StageStuck, AreIdle, AreAlike, SameStages, PutAt, AreSimilar, Stopped, IsFull, PassedOn, GaveUp, StagesStop, IsElementFault, numbers_of, items_crossed, room_left}
 use Rattle.stream_task.specs.Fault.{fault_of}
 
 some_same : {A : Type 0} {a b : A} → Some a ≡ Some b → a ≡ b
@@ -144,8 +144,7 @@ module _ (law : (rule : Response) (filter : FilterElement) (calls : List Call) (
   passed_keep [] place put ls was is out p done s at h = absurd cc
   passed_keep (t ∷ ss) place put [] was is out p done s at h = absurd s
   passed_keep (t ∷ ss) zero put (l ∷ ls) was is out p done s at h =
-      let first = next_stage law was is put l out p (subst (λ (v : Stage). StageStands v put l) (some_same at) s.0) in
-      (
+      let first = next_stage law was is put l out p (subst (λ (v : Stage). StageStands v put l) (some_same at) s.0) in (
         (
           record { begins = prefix_by (l.crossed ++ p.item ∷ []) is.waiting.items (sym first.stands.held); counted = first.stands.counted; fed = first.stands.fed },
           keep_similar ss ss (owes l) _ p.taken.more ls first.owed (similar_all ss) (stand_keep ss (owes l) ls s.1),
@@ -376,7 +375,7 @@ module _ (ss ss2 : List Stage) (place : ℕ) (was is : Stage) (out out' : List O
       let more : map item_of out' ≡ q.taken.more = ap (map item_of) q.taken.outs ∙ items_on q.taken.more in
       let behind_it : place + 1 ≡ suc place = omega arith in
       let put = subst (λ (n : ℕ). PutAt n q.taken.more (slice_set ss place is) ss2 waiting waiting') behind_it
-          (subst (λ (ys : List Item). PutAt (place + 1) ys (slice_set ss place is) ss2 waiting waiting') more next) in
+      (subst (λ (ys : List Item). PutAt (place + 1) ys (slice_set ss place is) ss2 waiting waiting') more next) in
       let r = passed elements_owe ss ss2 place given ls was is out' q waiting waiting' done s (some_at ss place was within here) put h in
       record { lists = behind place q.item ls; stand = r.0; rules = behind_rules place q.item ls; held = r.1 }
 
@@ -475,3 +474,56 @@ none_left xs (y ∷ ys) e = absurd (omega (arith, ap length e, length-append xs 
 
 pub not_nil : {A : Type 0} {y : A} {ys : List A} → (y ∷ ys) ≡ [] → ⊥
 not_nil e = cc
+
+similar_of : (ss ss' : List Stage) → AreAlike ss ss' → AreSimilar ss ss'
+similar_of [] [] a = tt
+similar_of [] (s' ∷ ss') a = absurd a
+similar_of (s ∷ ss) [] a = absurd a
+similar_of (s ∷ ss) (s' ∷ ss') a = (record { pad = a.0.pad; filter = a.0.filter; element = a.0.element }, similar_of ss ss' a.1)
+
+alike_idle : (ss ss' : List Stage) → AreAlike ss ss' → AreIdle ss → AreIdle ss'
+alike_idle [] [] a h = h
+alike_idle [] (s' ∷ ss') a h = absurd a
+alike_idle (s ∷ ss) [] a h = absurd a
+alike_idle (s ∷ ss) (s' ∷ ss') a h = both s' ss' (a.0.waiting ∙ h zero s (omega arith)) (alike_idle ss ss' a.1 (λ n y v. h (suc n) y (omega arith)))
+  where
+    both : (t : Stage) (ts : List Stage) → t.waiting.items ≡ [] → AreIdle ts → AreIdle (t ∷ ts)
+    both t ts e h zero x w = e
+    both t ts e h (suc k) x w = h k x (omega arith)
+
+alike_size : (ss ss' : List Stage) → AreAlike ss ss' → length ss' ≡ length ss
+alike_size [] [] a = refl
+alike_size [] (s' ∷ ss') a = absurd a
+alike_size (s ∷ ss) [] a = absurd a
+alike_size (s ∷ ss) (s' ∷ ss') a = ap suc (alike_size ss ss' a.1)
+
+pub same_stages : (ss ss' : List Stage) → AreAlike ss ss' → SameStages ss ss'
+same_stages ss ss' a =
+    let similar = similar_of ss ss' a in
+    record {
+      alike = a;
+      size = alike_size ss ss' a;
+      idle = alike_idle ss ss' a;
+      numbers = numbers_similar ss ss' similar;
+      crossed = sum_similar (λ (q : Pad). q.items) ss ss' similar;
+      room = sum_similar (λ (q : Pad). 1099511627776 - q.items) ss ss' similar;
+    }
+
+pub stages_same : (ss : List Stage) → SameStages ss ss
+stages_same ss = same_stages ss ss (alike_all ss)
+
+put_similar : (place : ℕ) (more : List Item) (ss ss' : List Stage) (waiting waiting' : List Item) → PutAt place more ss ss' waiting waiting' → AreSimilar ss ss'
+put_similar place more [] [] w w' p = tt
+put_similar place more [] (s' ∷ ss') w w' p = absurd p
+put_similar place more (s ∷ ss) [] w w' p = absurd p
+put_similar zero more (s ∷ ss) (s' ∷ ss') w w' p = (record { pad = p.0.pad; filter = p.0.filter; element = p.0.element }, subst (λ (us : List Stage). AreSimilar ss us) (sym p.1) (similar_all ss))
+put_similar (suc place) more (s ∷ ss) (s' ∷ ss') w w' p = (record { pad = ap (λ (t : Stage). t.pad) p.0; filter = ap (λ (t : Stage). t.filter) p.0; element = ap (λ (t : Stage). t.element) p.0 }, put_similar place more ss ss' w w' p.1)
+
+pub put_numbers : (more : List Item) (ss ss' : List Stage) (waiting waiting' : List Item) → PutAt 0 more ss ss' waiting waiting' → numbers_of ss' ≡ numbers_of ss
+put_numbers more ss ss' w w' p = numbers_similar ss ss' (put_similar 0 more ss ss' w w' p)
+
+pub put_crossed : (more : List Item) (ss ss' : List Stage) (waiting waiting' : List Item) → PutAt 0 more ss ss' waiting waiting' → items_crossed ss' ≡ items_crossed ss
+put_crossed more ss ss' w w' p = sum_similar (λ (q : Pad). q.items) ss ss' (put_similar 0 more ss ss' w w' p)
+
+pub put_left : (more : List Item) (ss ss' : List Stage) (waiting waiting' : List Item) → PutAt 0 more ss ss' waiting waiting' → room_left ss' ≡ room_left ss
+put_left more ss ss' w w' p = sum_similar (λ (q : Pad). 1099511627776 - q.items) ss ss' (put_similar 0 more ss ss' w w' p)

@@ -1,30 +1,35 @@
 -- What a task stands for behind a step.
-use Rattle.std.proofs.Common.{◌≡◌, ◌≢◌, ◌≤◌, ◌<◌, ◌+◌, ℕ, List, [], ◌∷◌, ◌++◌, length, map, Option, Some, None, Bool, false, ◌||◌, refl, ap, sym, ◌∙◌, subst, inl, inr, arith, length-append, append-nil, append_assoc}
+use Rattle.std.proofs.Common.{◌≡◌, ◌≢◌, ◌≤◌, ◌<◌, ◌+◌, ℕ, List, [], ◌∷◌, ◌++◌, length, Result, Ok, Err, IfOk, IfErr, Option, Some, None, Bool, false, ◌||◌, refl, ap, sym, ◌∙◌, subst, inl, inr, arith, length-append, append-nil}
 use Rattle.std.specs.Option.{ForSome}
 use Rattle.std.proofs.lemmas.Grind.{fold-append}
-use Rattle.flow_model.specs.Item.{Item, is_eos, is_buffer}
-use Rattle.flow_model.proofs.Prefixes.{prefix_append, prefix_by}
+use Rattle.flow_model.specs.Item.{Item, is_eos}
+use Rattle.flow_model.proofs.Prefixes.{prefix_by}
 use Rattle.el_src.specs.Gave.{has_eos}
 use Rattle.lane_core.specs.Lane.{Lane, IsBetween}
 use Rattle.stream_task.specs.declared.step.Step.{Step}
-use Rattle.stream_task.specs.declared.step.Step.TheVariants.{Moved, NeedsRoom}
+use Rattle.stream_task.specs.declared.step.Step.TheVariants.{Moved, NeedsItem, NeedsRoom, Ended}
 use Rattle.stream_task.specs.declared.task.Task.{Task}
 use Rattle.stream_task.specs.declared.head.Head.{Head}
 use Rattle.stream_task.specs.declared.head.Head.TheVariants.{Source, Queue, Unlinked}
 use Rattle.stream_task.specs.Step.{idle_step}
-use Rattle.stream_task.specs.Head.{HeadLists, HeadGave, HeadAfter, IsIdle as HeadIsIdle, head_number}
+use Rattle.stream_task.specs.Head.{HeadGave, HeadAfter, IsIdle as HeadIsIdle, head_number, head_faults}
 use Rattle.stream_task.specs.declared.pads.Pad.{Pad}
 use Rattle.stream_task.specs.declared.tail.Unsent.{Unsent}
 use Rattle.stream_task.specs.declared.tail.Unsent.TheVariants.{Unwritten, NotLinked as NoLink}
-use Rattle.stream_task.specs.Tail.{TailHas, TailUnsent, unsent_fault}
+use Rattle.stream_task.specs.Tail.{TailHas, TailUnsent, unsent_fault, tail_faults, tail_element, tail_number}
 use Rattle.stream_task.specs.Pads.{Counts}
 use Rattle.stream_task.specs.declared.fault.TaskFault.{TaskFault}
 use Rattle.stream_task.specs.declared.fault.TaskFault.TheVariants.{ReadFault, WriteFault, Stream, Caps, TooLong, NotLinked, OutOfMemory}
 use Rattle.stream_task.specs.declared.stage.Stage.{Stage}
 use Rattle.flow_model.specs.Prefix.{IsPrefix}
-use Rattle.stream_task.specs.Stage.{StageList, StagesStand, StagesKeep, Stopped, IsFull, StagesStop, IsElementFault, SameRules, put_last, AreIdle}
-use Rattle.stream_task.specs.Task.{TaskLists, Stands, HasCrossed, Goes, HasPassed, Keeps, IsWhy, IsIdle, SameBeside, AtFault, AtLimit, Refused, IsTaskCause, moved_to}
-use Rattle.stream_task.proofs.Stages.{stand_keep, element_last, crossed_last, put_at_last, none_left}
+use Rattle.stream_task.specs.Stage.{StageList, StagesStand, StagesKeep, Stopped, IsFull, StagesStop, IsElementFault, SameStages, PutAt, numbers_of, element_at, crossed_at, put_last, AreIdle}
+use Rattle.el_src.specs.declared.fault.SrcFault.{SrcFault}
+use Rattle.el_src.specs.declared.fault.SrcFault.TheVariants.{ReadFault as SourceRead, OutOfMemory as SourceMemory}
+use Rattle.el_set.specs.Failures.{NamesRise}
+use Rattle.stream_task.specs.Fault.{source_fault}
+use Rattle.stream_task.specs.declared.tail.Tail.{Tail}
+use Rattle.stream_task.specs.Task.{TaskLists, Stands, HasCrossed, Goes, HasPassed, Keeps, IsWhy, IsFullLane, IsIdle, SameBeside, AtFault, AtLimit, Refused, IsTaskCause, moved_to}
+use Rattle.stream_task.proofs.Stages.{stand_keep, element_last, crossed_last, put_at_last, none_left, put_more, alike_stand}
 use Rattle.stream_task.proofs.Keeping.{keep_same, keep_from}
 
 -- whether EOS was given, behind one more item
@@ -250,3 +255,163 @@ module _ {S K I O : Type 0} (content : S → Option (List ℕ)) (bytes : K → O
   unsent_goes task l x (Unwritten element fault) last crossed e begun u = record { crossed = crossed; item = x; next = begun; part = u }
   unsent_goes task l x NoLink last crossed e begun u =
       record { crossed = crossed; named = ap (λ (p : Pad). p.element) e; at = ap (λ (p : Pad). p.items) e ∙ crossed.counted.items; item = x; next = begun; buffer = u.2; open_end = u.1 }
+
+  -- a task whose head gave an item that is not on its first pad yet
+  pub record Before (task : Task S K I O) (l : TaskLists) (x : Item) : Type 0 where
+    pub number : task.given ≡ length l.head.given + 1
+    pub over : task.over ≡ is_eos x
+    pub none : has_eos l.head.given ≡ false
+    pub stages : StagesStand task.stages.items l.head.given l.stages
+    pub held : put_last l.head.given l.stages ≡ l.done ++ task.waiting.items
+    pub counted : Counts task.last l.done
+    pub tail : TailHas bytes sent l.keep task.tail l.done
+
+  pub put_goes : (mid task : Task S K I O) (l : TaskLists) (x : Item) (inlet outlet limit : Option ℕ) (tells tells' : Option (List Lane)) → HeadAfter content received mid.head inlet tells tells' l.head (Some x) → SameBeside mid task
+      → PutAt 0 (x ∷ []) mid.stages.items task.stages.items mid.waiting.items task.waiting.items → Before mid l x → Goes content bytes received sent task l Moved inlet outlet limit tells tells'
+  put_goes mid task l x inlet outlet limit tells tells' h same put b =
+      let p = put_more (x ∷ []) mid.stages.items task.stages.items l.head.given _ mid.waiting.items task.waiting.items l.stages l.done refl put b.stages b.held in
+      given_goes task l x inlet outlet limit tells tells' (subst (λ (head : Head S I). HeadAfter content received head inlet tells tells' l.head (Some x)) (sym same.head) h)
+      (record {
+        number = same.given ∙ b.number;
+        over = same.over ∙ b.over;
+        none = b.none;
+        stages = p.0;
+        held = p.1;
+        counted = subst (λ (pad : Pad). Counts pad l.done) (sym same.last) b.counted;
+        tail = subst (λ (tail : Tail K O). TailHas bytes sent l.keep tail l.done) (sym same.tail) b.tail;
+      })
+
+  -- a source gave no item
+  pub source_goes : (task : Task S K I O) (l : TaskLists) (element : ℕ) (fault : SrcFault) → Stands content bytes received sent task l → AtFault content bytes received sent task l (source_fault element fault)
+  source_goes task l element (SourceRead before after) s = s
+  source_goes task l element SourceMemory s = (l.stages, refl, has_crossed task l s)
+
+  -- nothing waits, and the head has given as many items as cross a pad
+  pub first_limit : (task : Task S K I O) (l : TaskLists) (element : ℕ) → Stands content bytes received sent task l → IsIdle task → 1099511627776 ≤ task.given → task.over ≡ false
+      → element ≡ element_at task.stages.items task.last 0 → AtLimit content bytes received sent task l element 1099511627776 1
+  first_limit task l element s idle limit over named =
+      record { stands = s; limit = refl; one = refl; place = 0; within = omega arith; named = named; full = all_given _ _ _ limit s.number first; more = inr (refl, over) }
+    where
+      all_given : (a b c : ℕ) → 1099511627776 ≤ a → a ≡ b → (c ≡ b) × (c ≤ 1099511627776) → c ≡ 1099511627776
+      all_given a b c x e f = let g = f.0 in let h = f.1 in omega arith
+
+      at_first : (ss : List Stage) (ls : List StageList) → StagesStand ss l.head.given ls → AreIdle ss → put_last l.head.given ls ≡ l.done ++ [] → (length (crossed_at ls l.done 0) ≡ length l.head.given) × (length (crossed_at ls l.done 0) ≤ 1099511627776)
+      at_first [] [] st i h = (ap length (sym (h ∙ append-nil l.done)), omega (arith, s.counted.items, task.last.limit))
+      at_first [] (m ∷ ls) st i h = absurd st
+      at_first (t ∷ ss) [] st i h = absurd st
+      at_first (t ∷ ss) (m ∷ ls) st i h =
+          (ap length (sym (st.0.held ∙ ap (λ (ys : List Item). m.crossed ++ ys) (i 0 t (omega arith)) ∙ append-nil m.crossed)), omega (arith, st.0.counted.items, t.pad.limit))
+
+      first : (length (crossed_at l.stages l.done 0) ≡ length l.head.given) × (length (crossed_at l.stages l.done 0) ≤ 1099511627776)
+      first = at_first task.stages.items l.stages s.stages idle.stages (s.held ∙ ap (λ (ys : List Item). l.done ++ ys) idle.last)
+
+  -- a task stands for the same lists as one that is the same but for room
+  pub same_stands : (was is : Task S K I O) (l : TaskLists) → SameBeside was is → SameStages was.stages.items is.stages.items → is.waiting.items ≡ was.waiting.items → Stands content bytes received sent was l → Stands content bytes received sent is l
+  same_stands was is l b t w s = record {
+    gave = subst (λ (head : Head S I). HeadGave content received head l.head) (sym b.head) s.gave;
+    number = b.given ∙ s.number;
+    over = b.over ∙ s.over;
+    stages = alike_stand was.stages.items is.stages.items l.head.given l.stages t.alike s.stages;
+    held = s.held ∙ ap (λ (ys : List Item). l.done ++ ys) (sym w);
+    counted = subst (λ (pad : Pad). Counts pad l.done) (sym b.last) s.counted;
+    tail = subst (λ (tail : Tail K O). TailHas bytes sent l.keep tail l.done) (sym b.tail) s.tail;
+  }
+
+  pub wanting : (task : Task S K I O) (l : TaskLists) → Stands content bytes received sent task l → AtFault content bytes received sent task l OutOfMemory
+  wanting task l s = (l.stages, refl, has_crossed task l s)
+
+  -- a task stands for the same lists as one with the same parts
+  pub found_stands : (was is : Task S K I O) (l : TaskLists) → is.stages ≡ was.stages → is.waiting ≡ was.waiting → is.last ≡ was.last → is.head ≡ was.head → is.given ≡ was.given → is.over ≡ was.over → is.tail ≡ was.tail
+      → Stands content bytes received sent was l → Stands content bytes received sent is l
+  found_stands was is l a b c d e f t s = record {
+    gave = subst (λ (head : Head S I). HeadGave content received head l.head) (sym d) s.gave;
+    number = e ∙ s.number;
+    over = f ∙ s.over;
+    stages = subst (λ (v : _). StagesStand v.items l.head.given l.stages) (sym a) s.stages;
+    held = s.held ∙ ap (λ (v : _). l.done ++ v.items) (sym b);
+    counted = subst (λ (pad : Pad). Counts pad l.done) (sym c) s.counted;
+    tail = subst (λ (tail : Tail K O). TailHas bytes sent l.keep tail l.done) (sym t) s.tail;
+  }
+
+  -- the last pad's lane is full, and items before it were tried
+  pub full_goes : (mid task : Task S K I O) (l : TaskLists) (n : ℕ) (step : Step) (inlet outlet limit : Option ℕ) (tells tells' : Option (List Lane))
+      → Stands content bytes received sent mid l × (tells' ≡ tells) × (tail_number mid.tail ≡ Some n) × IsFullLane outlet limit tells' l.done × (mid.waiting.items ≢ [])
+      → (step ≡ Moved → HasPassed content bytes received sent task l)
+      → (step ≢ Moved → (step ≡ NeedsRoom n) × AreIdle task.stages.items × (task.stages.items ≡ mid.stages.items) × (task.waiting ≡ mid.waiting)) → SameBeside mid task
+      → Goes content bytes received sent task l step inlet outlet limit tells tells'
+  full_goes mid task l n step inlet outlet limit tells tells' h moved needs same = go step refl
+    where
+      needed : (step ≡ NeedsRoom n) × AreIdle task.stages.items × (task.stages.items ≡ mid.stages.items) × (task.waiting ≡ mid.waiting) → Goes content bytes received sent task l step inlet outlet limit tells tells'
+      needed w =
+          stays_goes task l step inlet outlet limit tells tells'
+          (record {
+            gave = subst (λ (head : Head S I). HeadGave content received head l.head) (sym same.head) h.0.gave;
+            number = same.given ∙ h.0.number;
+            over = same.over ∙ h.0.over;
+            stages = subst (λ (ss : List Stage). StagesStand ss l.head.given l.stages) (sym w.2) h.0.stages;
+            held = h.0.held ∙ ap (λ (v : _). l.done ++ v.items) (sym w.3);
+            counted = subst (λ (pad : Pad). Counts pad l.done) (sym same.last) h.0.counted;
+            tail = subst (λ (tail : Tail K O). TailHas bytes sent l.keep tail l.done) (sym same.tail) h.0.tail;
+          }) h.1
+          (subst (λ (s : Step). IsWhy task inlet outlet limit tells' l.head.got l.done s) (sym w.0)
+          (ap tail_number same.tail ∙ h.2, h.3, record { stages = w.1; last = λ e. h.4 (sym (ap (λ (v : _). v.items) w.3) ∙ e) }))
+
+      go : (s : Step) → step ≡ s → Goes content bytes received sent task l step inlet outlet limit tells tells'
+      go Moved e = subst (λ (s : Step). Goes content bytes received sent task l s inlet outlet limit tells tells') (sym e) (passed_goes task l inlet outlet limit tells tells' (moved e) h.1)
+      go (NeedsRoom m) e = needed (needs (λ x. no_move (sym e ∙ x)))
+        where
+          no_move : NeedsRoom m ≡ Moved → ⊥
+          no_move e = cc
+      go (NeedsItem m) e = needed (needs (λ x. no_move (sym e ∙ x)))
+        where
+          no_move : NeedsItem m ≡ Moved → ⊥
+          no_move e = cc
+      go Ended e = needed (needs (λ x. no_move (sym e ∙ x)))
+        where
+          no_move : Ended ≡ Moved → ⊥
+          no_move e = cc
+
+  pub full_result : (was mid task : Task S K I O) (n : ℕ) (inlet outlet limit : Option ℕ) (tells tells' : Option (List Lane)) (result : Result Step TaskFault)
+      → ((l : TaskLists) → Stands content bytes received sent was l → Stands content bytes received sent mid l × (tells' ≡ tells) × (tail_number mid.tail ≡ Some n) × IsFullLane outlet limit tells' l.done × (mid.waiting.items ≢ []))
+      → (result ≡ Ok Moved → (l : TaskLists) → Stands content bytes received sent mid l → HasPassed content bytes received sent task l)
+      → IfOk result (λ step. step ≢ Moved → (step ≡ NeedsRoom n) × AreIdle task.stages.items × (task.stages.items ≡ mid.stages.items) × (task.waiting ≡ mid.waiting)) → SameBeside mid task
+      → IfOk result (λ step. (l : TaskLists) → Stands content bytes received sent was l → Goes content bytes received sent task l step inlet outlet limit tells tells')
+  full_result was mid task n inlet outlet limit tells tells' (Ok step) first moved needs same =
+      λ l s. full_goes mid task l n step inlet outlet limit tells tells' (first l s) (λ e. moved (ap Ok e) l (first l s).0) needs same
+  full_result was mid task n inlet outlet limit tells tells' (Err fault) first moved needs same = tt
+
+-- the number of the first pad's element stays where the numbers do
+pub first_same : (ss ss' : List Stage) (last last' : Pad) → numbers_of ss' ≡ numbers_of ss → last' ≡ last → element_at ss' last' 0 ≡ element_at ss last 0
+first_same [] [] last last' e f = ap (λ (p : Pad). p.element) f
+first_same [] (s' ∷ ss') last last' e f = absurd cc
+first_same (s ∷ ss) [] last last' e f = absurd cc
+first_same (s ∷ ss) (s' ∷ ss') last last' e f = ap first e
+  where
+    first : List (ℕ × ℕ) → ℕ
+    first [] = 0
+    first (p ∷ ps) = p.0
+
+-- the cause of a fault, by a task that is the same but for its stages
+pub same_cause : {S K I O : Type 0} (source_faults : S → ℕ) (sink_faults : K → ℕ) (was mid is : Task S K I O) (fault : TaskFault) → SameBeside was mid → IsTaskCause source_faults sink_faults mid is fault → IsTaskCause source_faults sink_faults was is fault
+same_cause {S = S} {K = K} {I = I} {O = O} source_faults sink_faults was mid is (ReadFault element before after) b h = (
+  h.0 ∙ first_same was.stages.items mid.stages.items was.last mid.last b.numbers b.last,
+  subst (λ (head : Head S I). NamesRise (head_faults source_faults head) (head_faults source_faults is.head) before after) b.head h.1,
+)
+same_cause {S = S} {K = K} {I = I} {O = O} source_faults sink_faults was mid is (WriteFault element before after) b h = (
+  ap tail_element (sym b.tail) ∙ h.0,
+  subst (λ (tail : Tail K O). NamesRise (tail_faults sink_faults tail) (tail_faults sink_faults is.tail) before after) b.tail h.1,
+)
+same_cause source_faults sink_faults was mid is (Stream element place kind) b h = tt
+same_cause source_faults sink_faults was mid is (Caps element offered wanted) b h = tt
+same_cause source_faults sink_faults was mid is (TooLong element x y) b h = tt
+same_cause source_faults sink_faults was mid is (NotLinked element place) b h = tt
+same_cause source_faults sink_faults was mid is OutOfMemory b h = tt
+
+-- a result that is handed on
+pub ok_with : {A E : Type 0} {P Q : A → Type 0} (result : Result A E) → ((a : A) → P a → Q a) → IfOk result P → IfOk result Q
+ok_with (Ok a) f h = f a h
+ok_with (Err e) f h = h
+
+pub err_with : {A E : Type 0} {P Q : E → Type 0} (result : Result A E) → ((e : E) → P e → Q e) → IfErr result P → IfErr result Q
+err_with (Ok a) f h = h
+err_with (Err e) f h = f e h

@@ -3,9 +3,7 @@ use Rattle.std.specs.Prelude.{◌≡◌, ◌⊎◌, ℕ, ◌+◌, List, [], ◌�
 use Rattle.flow_model.specs.Item.{Item}
 use Rattle.lane_core.specs.Lane.{Lane, IsIn}
 use Rattle.lane_core.specs.Moves.{raised}
-use Rattle.gst_outside.specs.Causes.{Rose}
 use Rattle.el_src.specs.declared.fault.SrcFault.{SrcFault}
-use Rattle.el_src.specs.declared.fault.SrcFault.TheVariants.{ReadFault, OutOfMemory}
 use Rattle.el_src.specs.Gave.{has_eos}
 use Rattle.el_set.specs.Gives.{SourceGave, SourceCause, source_items, source_faults, source_location, source_content}
 use Rattle.stream_task.specs.declared.head.Head.{Head}

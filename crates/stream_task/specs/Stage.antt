@@ -105,6 +105,26 @@ PutAt place more (s ∷ ss) [] waiting waiting' = ⊥
 PutAt zero more (s ∷ ss) (s' ∷ ss') waiting waiting' = WaitsMore more s s' × (ss' ≡ ss) × (waiting' ≡ waiting)
 PutAt (suc place) more (s ∷ ss) (s' ∷ ss') waiting waiting' = (s' ≡ s) × PutAt place more ss ss' waiting waiting'
 
+-- the numbers of the elements of the pads, and of those behind them
+abbrev pub numbers_of : List Stage → List (ℕ × ℕ)
+numbers_of stages = map (λ stage. (stage.pad.element, stage.element)) stages
+
+-- how many items crossed the pads, and how many more may
+abbrev pub items_crossed : List Stage → ℕ
+items_crossed stages = sum_by (λ stage. stage.pad.items) stages
+
+abbrev pub room_left : List Stage → ℕ
+room_left stages = sum_by (λ stage. 1099511627776 - stage.pad.items) stages
+
+-- The same stages, but for the room for what waits: they stand for the same lists.
+pub record SameStages (was is : List Stage) : Type 0 where
+  pub alike : AreAlike was is
+  pub size : length is ≡ length was
+  pub idle : AreIdle was → AreIdle is
+  pub numbers : numbers_of is ≡ numbers_of was
+  pub crossed : items_crossed is ≡ items_crossed was
+  pub room : room_left is ≡ room_left was
+
 -- the same stages, but for what waits
 pub record IsSimilar (was is : Stage) : Type 0 where
   pub pad : is.pad ≡ was.pad
@@ -169,17 +189,6 @@ pub record StageStuck (old new : Stage) (fault : TaskFault) : Type 0 where
   pub pad : new.pad ≡ old.pad
   pub refusal : IsRefusal old.filter new.filter old.element item fault
   pub element : new.element ≡ old.element
-
--- the numbers of the elements of the pads, and of those behind them
-abbrev pub numbers_of : List Stage → List (ℕ × ℕ)
-numbers_of stages = map (λ stage. (stage.pad.element, stage.element)) stages
-
--- how many items crossed the pads, and how many more may
-abbrev pub items_crossed : List Stage → ℕ
-items_crossed stages = sum_by (λ stage. stage.pad.items) stages
-
-abbrev pub room_left : List Stage → ℕ
-room_left stages = sum_by (λ stage. 1099511627776 - stage.pad.items) stages
 
 -- each pad keeps the rule of the element behind it
 abbrev pub SameRules : List StageList → List StageList → Type 0

@@ -1,5 +1,5 @@
 -- What the tail of a task was given.
-use Rattle.std.specs.Prelude.{◌≡◌, ℕ, ◌+◌, Bool, true, false, List, [], ◌∷◌, ◌++◌, Option, Some, None, Result, Ok, Err, option_map}
+use Rattle.std.specs.Prelude.{◌≡◌, ℕ, ◌+◌, Bool, true, List, [], ◌∷◌, ◌++◌, Option, Some, None, Result, Ok, Err, option_map}
 use Rattle.flow_model.specs.Item.{Item, is_buffer}
 use Rattle.lane_core.specs.declared.ends.Put.TheVariants.{Stored, Full}
 use Rattle.lane_core.specs.Lane.{Lane, IsOf, IsBetween}

@@ -1,11 +1,10 @@
 -- For which lists a task stands, and what its steps do to them.
-use Rattle.std.specs.Prelude.{◌≡◌, ◌≢◌, ◌≤◌, ◌<◌, ◌⊎◌, ℕ, ◌+◌, ◌-◌, false, true, List, [], ◌∷◌, ◌++◌, Option, Some, None, Bool, Result, Ok, Err, length, map, option_map, sum_by, slice_get}
+use Rattle.std.specs.Prelude.{◌≡◌, ◌≢◌, ◌≤◌, ◌<◌, ◌⊎◌, ℕ, ◌+◌, ◌-◌, false, true, List, [], ◌∷◌, ◌++◌, Option, Some, Bool, Result, Ok, Err, length, option_map, slice_get}
 use Rattle.std.specs.Option.{ForSome}
 use Rattle.gst_item.specs.declared.fault.ElementFault.{ElementFault}
 use Rattle.flow_model.specs.Item.{Item, is_buffer}
 use Rattle.flow_model.specs.Prefix.{IsPrefix}
 use Rattle.flow_model.specs.Call.{feeds}
-use Rattle.flow_model.specs.Rule.{Response}
 use Rattle.flow_model.specs.Feeding.{next_owed, IsFaultOf}
 use Rattle.lane_core.specs.Lane.{Lane, IsIn, IsOf, IsBetween}
 use Rattle.lane_core.specs.Room.{Limits}
@@ -294,3 +293,8 @@ step_with (Err fault) = Err fault
 abbrev pub NeedsNoRoom : Step → Type 0
 NeedsNoRoom (NeedsRoom n) = ⊥
 NeedsNoRoom _ = Unit {0}
+
+-- no item crossed the last pad
+abbrev pub IsStill : Result Last TaskFault → Type 0
+IsStill (Ok Crossed) = ⊥
+IsStill _ = Unit {0}

@@ -32,9 +32,16 @@ pub enum TaskFault {
         wanted: Caps,
     },
     /// A number of an element would pass its limit: `a` stood, and `b` more was to come.
-    TooLong { element: u32, a: u64, b: u64 },
+    TooLong {
+        element: u32,
+        a: u64,
+        b: u64,
+    },
     /// A buffer was to cross the source pad of this element, which is not linked; so many items had crossed it.
-    NotLinked { element: u32, place: u64 },
+    NotLinked {
+        element: u32,
+        place: u64,
+    },
     /// No memory was left for an item.
     OutOfMemory,
 }

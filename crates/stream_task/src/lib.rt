@@ -18,3 +18,6 @@ pub use stage::Stage;
 pub use step::{Step, UNLINKED};
 pub use tail::Tail;
 pub use task::Task;
+
+#[cfg(test)]
+mod tests;

@@ -2,8 +2,9 @@
 ghost use Rattle.std.specs.Prelude.{◌≡◌, ◌≢◌, ◌≤◌, ◌<◌, ◌+◌, ◌-◌, ◌^◌, ℕ, List, [], ◌∷◌, ◌++◌, All, Some, None, true, false, slice_get, OnOk, OnErr, IfOk, IfErr, vec_len, length, map, drop, option_map};
 ghost use Rattle.std.specs.VecDeque.{deque_len, deque_capacity};
 ghost use Rattle.stream_task.specs.Head.{head_items};
-ghost use Rattle.stream_task.specs.Stage.{AreIdle, WaitsAt, PutAt, HasRoom, AreAlike, AreSimilar, IsFarthest, StageList, StagesStand, PassedOn, StagesStop, IsElementFault, StillCounts, put_last, element_at, numbers_of, items_crossed, room_left, item_of};
+ghost use Rattle.stream_task.specs.Stage.{AreIdle, WaitsAt, PutAt, HasRoom, AreAlike, SameStages, AreSimilar, IsFarthest, StageList, StagesStand, PassedOn, StagesStop, IsElementFault, StillCounts, put_last, element_at, numbers_of, items_crossed, room_left, item_of};
 ghost use Rattle.stream_task.specs.Tail.{unsent_fault};
+ghost use Rattle.stream_task.specs.Fault.{source_fault};
 ghost use Rattle.flow_model.specs.Item.{Item, is_eos as eos_test};
 ghost use Rattle.gst_item.specs.declared.out.Out.{Out};
 
@@ -63,7 +64,7 @@ impl<S: Source, K: Sink, I: Inlet<Out = O>, O: Outlet<Lanes = I::Lanes>> Task<S,
     ghost use Rattle.stream_task.specs.declared.step.Step.TheVariants.{Moved, NeedsRoom};
     ghost use Rattle.stream_task.specs.declared.task.Last.TheVariants.{Idle, Full};
     ghost use Rattle.stream_task.specs.Tail.{TailHas, tail_place, tail_limit, tail_len, tail_refusals};
-    ghost use Rattle.stream_task.specs.Task.{TaskLists, Stands, IsReady, Goes, HasPassed, LastGoes, SameBeside, NeedsNoRoom, step_of, step_with, IsTakeTry, IsPutTry, KeepsTable, AtFault, IsTaskCause, Frame, Burns, moves_of, IsOneMove, IsOneTry, fuel, head_of, tail_of, stages_of, last_of};
+    ghost use Rattle.stream_task.specs.Task.{TaskLists, Stands, IsReady, Goes, HasPassed, LastGoes, SameBeside, NeedsNoRoom, IsStill, step_of, step_with, IsTakeTry, IsPutTry, KeepsTable, AtFault, IsTaskCause, Frame, Burns, moves_of, IsOneMove, IsOneTry, fuel, head_of, tail_of, stages_of, last_of};
 
     /// A task of these parts that moved nothing yet. `last` is the number of the element before the tail.
     pub fn new(
@@ -164,6 +165,8 @@ impl<S: Source, K: Sink, I: Inlet<Out = O>, O: Outlet<Lanes = I::Lanes>> Task<S,
         ensures moves { IsOneMove (step_with result) (moves_of self.old) (moves_of self.new) }
         ensures puts { IsPutTry result (tail_refusals O.refusals (tail_of self.old)) (tail_refusals O.refusals (tail_of self.new)) }
         ensures idle { result ≡ Ok Idle → self.new.waiting.items ≡ [] }
+        ensures still { result ≡ Ok Idle → SameBeside self.old self.new }
+        ensures stays { IsStill result → O.tells lanes.new ≡ O.tells lanes.old }
         ensures full { (n : ℕ) → result ≡ Ok (Full n) → self.new.waiting.items ≢ [] }
         ensures head { (self.new.head ≡ self.old.head) × (self.new.given ≡ self.old.given) }
     {
@@ -195,8 +198,9 @@ impl<S: Source, K: Sink, I: Inlet<Out = O>, O: Outlet<Lanes = I::Lanes>> Task<S,
     /// Where the last pad's lane has no room, the item that waits farthest from the head crosses its pad.
     fn pass_or_need(&mut self, alloc: Global, number: u32) -> Result<Step, TaskFault>
         ensures moved { result ≡ Ok Moved → (l : TaskLists) → Stands S.content K.bytes I.received O.sent self.old l → HasPassed S.content K.bytes I.received O.sent self.new l }
-        ensures needs { IfOk result (λ step. step ≢ Moved → (step ≡ NeedsRoom number) × AreIdle (stages_of self.new) × (stages_of self.new ≡ stages_of self.old)) }
+        ensures needs { IfOk result (λ step. step ≢ Moved → (step ≡ NeedsRoom number) × AreIdle (stages_of self.new) × (stages_of self.new ≡ stages_of self.old) × (self.new.waiting ≡ self.old.waiting)) }
         ensures fault { IfErr result (λ fault. (l : TaskLists) → Stands S.content K.bytes I.received O.sent self.old l → AtFault S.content K.bytes I.received O.sent self.new l fault) }
+        ensures own { IfErr result IsElementFault }
         ensures cause { IfErr result (λ fault. IsTaskCause S.faults K.faults self.old self.new fault) }
         ensures same { SameBeside self.old self.new }
         ensures waiting { OnOk result (self.old.waiting.items ≢ [] → self.new.waiting.items ≢ []) }
@@ -241,7 +245,7 @@ impl<S: Source, K: Sink, I: Inlet<Out = O>, O: Outlet<Lanes = I::Lanes>> Task<S,
     /// The place of the stage farthest from the head at which an item waits.
     fn farthest(&mut self) -> Option<usize>
         ensures found { MatchOption result (AreIdle (stages_of self.old)) (IsFarthest (stages_of self.old)) }
-        ensures reach { MatchOption result ⊤ (λ place. self.new.reach ≡ place + 1) }
+        ensures reach { MatchOption result (self.new.reach ≡ 0) (λ place. self.new.reach ≡ place + 1) }
         ensures stages { self.new.stages ≡ self.old.stages }
         ensures waiting { self.new.waiting ≡ self.old.waiting }
         ensures last { self.new.last ≡ self.old.last }
@@ -261,6 +265,7 @@ impl<S: Source, K: Sink, I: Inlet<Out = O>, O: Outlet<Lanes = I::Lanes>> Task<S,
         requires reach { self.old.reach ≡ place + 1 }
         ensures goes { OnOk result ((l : TaskLists) → Stands S.content K.bytes I.received O.sent self.old l → HasPassed S.content K.bytes I.received O.sent self.new l) }
         ensures fault { IfErr result (λ fault. (l : TaskLists) → Stands S.content K.bytes I.received O.sent self.old l → AtFault S.content K.bytes I.received O.sent self.new l fault) }
+        ensures own { IfErr result IsElementFault }
         ensures cause { IfErr result (λ fault. IsTaskCause S.faults K.faults self.old self.new fault) }
         ensures same { SameBeside self.old self.new }
         ensures waiting { OnOk result (self.old.waiting.items ≢ [] → self.new.waiting.items ≢ []) }
@@ -292,6 +297,7 @@ impl<S: Source, K: Sink, I: Inlet<Out = O>, O: Outlet<Lanes = I::Lanes>> Task<S,
         requires ready { IsReady I.place O.place O.limits O.count self.old (O.tells lanes.old) }
         requires none { self.old.waiting.items ≡ [] }
         requires idle { AreIdle (stages_of self.old) }
+        requires reach { self.old.reach ≡ 0 }
         ensures goes { IfOk result (λ step. (l : TaskLists) → Stands S.content K.bytes I.received O.sent self.old l → Goes S.content K.bytes I.received O.sent self.new l step (head_place I.place (head_of self.old)) (tail_place O.place (tail_of self.old)) (tail_limit O.limits (tail_of self.old)) (O.tells lanes.old) (O.tells lanes.new)) }
         ensures fault { IfErr result (λ fault. (l : TaskLists) → Stands S.content K.bytes I.received O.sent self.old l → AtFault S.content K.bytes I.received O.sent self.new l fault) }
         ensures cause { IfErr result (λ fault. IsTaskCause S.faults K.faults self.old self.new fault) }
@@ -311,22 +317,71 @@ impl<S: Source, K: Sink, I: Inlet<Out = O>, O: Outlet<Lanes = I::Lanes>> Task<S,
         if self.given >= MOST_ITEMS {
             return Err(too_long(first_element(&self.stages, &self.last)));
         }
-        make_room(&mut self.stages, &mut self.waiting)?;
+        match self.make_room() {
+            Ok(()) => self.give(alloc, lanes),
+            Err(OutOfMemory) => Err(TaskFault::OutOfMemory),
+        }
+    }
+
+    /// Takes the memory for one more item that waits at the first pad.
+    fn make_room(&mut self) -> Result<(), OutOfMemory>
+        requires reach { self.old.reach ≡ 0 }
+        requires idle { AreIdle (stages_of self.old) }
+        ensures room { OnOk result (HasRoom (stages_of self.new) (deque_len self.new.waiting) (deque_capacity self.new.waiting)) }
+        ensures same { SameBeside self.old self.new }
+        ensures stages { SameStages (stages_of self.old) (stages_of self.new) }
+        ensures waiting { self.new.waiting.items ≡ self.old.waiting.items }
+        ensures reach { self.new.reach ≡ 0 }
+        ensures moves { moves_of self.new ≡ moves_of self.old }
+        ensures fuel { fuel self.new ≡ fuel self.old }
+    {
+        make_room(&mut self.stages, &mut self.waiting)
+    }
+
+    /// The head gives its next item, where there is one, and it waits at the first pad, which has room for it.
+    fn give(&mut self, alloc: Global, lanes: &mut I::Lanes) -> Result<Step, TaskFault>
+        requires ready { IsReady I.place O.place O.limits O.count self.old (O.tells lanes.old) }
+        requires none { self.old.waiting.items ≡ [] }
+        requires idle { AreIdle (stages_of self.old) }
+        requires reach { self.old.reach ≡ 0 }
+        requires open { self.old.over ≡ false }
+        requires few { self.old.given < 2 ^ 40 }
+        requires room { HasRoom (stages_of self.old) (deque_len self.old.waiting) (deque_capacity self.old.waiting) }
+        ensures goes { IfOk result (λ step. (l : TaskLists) → Stands S.content K.bytes I.received O.sent self.old l → Goes S.content K.bytes I.received O.sent self.new l step (head_place I.place (head_of self.old)) (tail_place O.place (tail_of self.old)) (tail_limit O.limits (tail_of self.old)) (O.tells lanes.old) (O.tells lanes.new)) }
+        ensures fault { IfErr result (λ fault. (l : TaskLists) → Stands S.content K.bytes I.received O.sent self.old l → AtFault S.content K.bytes I.received O.sent self.new l fault) }
+        ensures cause { IfErr result (λ fault. IsTaskCause S.faults K.faults self.old self.new fault) }
+        ensures ready { IsReady I.place O.place O.limits O.count self.new (O.tells lanes.new) }
+        ensures lanes { KeepsTable (tail_place O.place (tail_of self.old)) (O.tells lanes.old) (O.tells lanes.new) }
+        ensures table { OnErr result (O.tells lanes.new ≡ O.tells lanes.old) }
+        ensures frame { Frame S.location S.content K.location I.place I.id O.place O.limits O.id self.old self.new }
+        ensures burns { IfOk result (λ step. Burns step (fuel self.old) (fuel self.new)) }
+        ensures moves { IsOneMove result (moves_of self.old) (moves_of self.new) }
+        ensures takes { IsTakeTry result (head_refusals I.refusals (head_of self.old)) (head_refusals I.refusals (head_of self.new)) }
+        ensures tail { tail_of self.new ≡ tail_of self.old }
+        ensures never { IfOk result NeedsNoRoom }
+    {
         match self.head.next(alloc, lanes) {
             Ok(Some(item)) => {
                 self.given += 1;
                 self.over = is_eos(&item);
-                self.reach = put_first(&mut self.stages, &mut self.waiting, item);
+                self.put(item);
                 Ok(Step::Moved)
             }
             Ok(None) => Ok(self.head.idle()),
-            Err(SrcFault::ReadFault { before, after }) => Err(TaskFault::ReadFault {
-                element: first_element(&self.stages, &self.last),
-                before,
-                after,
-            }),
-            Err(SrcFault::OutOfMemory) => Err(TaskFault::OutOfMemory),
+            Err(fault) => Err(source_fault(fault, first_element(&self.stages, &self.last))),
         }
+    }
+
+    /// Puts an item on the first pad, which has room for it.
+    fn put(&mut self, item: Item)
+        requires idle { AreIdle (stages_of self.old) }
+        requires room { HasRoom (stages_of self.old) (deque_len self.old.waiting) (deque_capacity self.old.waiting) }
+        ensures put { PutAt 0 (item ∷ []) (stages_of self.old) (stages_of self.new) self.old.waiting.items self.new.waiting.items }
+        ensures same { SameBeside self.old self.new }
+        ensures crossed { items_crossed (stages_of self.new) ≡ items_crossed (stages_of self.old) }
+        ensures left { room_left (stages_of self.new) ≡ room_left (stages_of self.old) }
+    {
+        self.reach = put_first(&mut self.stages, &mut self.waiting, item);
     }
 }
 
@@ -400,12 +455,10 @@ fn first_element(stages: &[Stage], last: &Pad) -> u32
 }
 
 /// Takes the memory for one more item that waits at the first pad.
-fn make_room(
-    stages: &mut Vec<Stage>,
-    waiting: &mut VecDeque<Item>,
-) -> Result<(), OutOfMemory>
+fn make_room(stages: &mut Vec<Stage>, waiting: &mut VecDeque<Item>) -> Result<(), OutOfMemory>
     ensures room { OnOk result (HasRoom stages.new.items (deque_len waiting.new) (deque_capacity waiting.new)) }
-    ensures stages { AreAlike stages.old.items stages.new.items }
+    ensures stages { SameStages stages.old.items stages.new.items }
+    ensures size { vec_len stages.new ≡ vec_len stages.old }
     ensures waiting { waiting.new.items ≡ waiting.old.items }
 {
     if stages.is_empty() {
@@ -423,6 +476,9 @@ fn put_first(stages: &mut Vec<Stage>, waiting: &mut VecDeque<Item>, item: Item) 
     ensures put { PutAt 0 (item ∷ []) stages.old.items stages.new.items waiting.old.items waiting.new.items }
     ensures reach { AreIdle stages.old.items → AreIdle (drop result stages.new.items) }
     ensures within { result ≤ vec_len stages.new }
+    ensures numbers { numbers_of stages.new.items ≡ numbers_of stages.old.items }
+    ensures crossed { items_crossed stages.new.items ≡ items_crossed stages.old.items }
+    ensures left { room_left stages.new.items ≡ room_left stages.old.items }
 {
     if stages.is_empty() {
         waiting.push_back_reserved(item);
@@ -430,6 +486,20 @@ fn put_first(stages: &mut Vec<Stage>, waiting: &mut VecDeque<Item>, item: Item) 
     } else {
         stages[0].waiting.push_back_reserved(item);
         1
+    }
+}
+
+/// Why the head, whose element has this number, gave no item.
+fn source_fault(fault: SrcFault, element: u32) -> TaskFault
+    ensures { result ≡ source_fault element fault }
+{
+    match fault {
+        SrcFault::ReadFault { before, after } => TaskFault::ReadFault {
+            element,
+            before,
+            after,
+        },
+        SrcFault::OutOfMemory => TaskFault::OutOfMemory,
     }
 }
 

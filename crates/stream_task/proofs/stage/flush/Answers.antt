@@ -1,5 +1,3 @@
-use Rattle.std.proofs.Common.{[], ◌∷◌, refl, subst}
-use Rattle.flow_model.specs.Item.{Item}
 use Rattle.stream_task.proofs.Stages.{flush_taken}
 use Rattle.stream_task.proofs.stage.flush.Goals as goal
 

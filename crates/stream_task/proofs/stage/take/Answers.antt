@@ -1,4 +1,3 @@
-use Rattle.std.proofs.Common.{refl}
 use Rattle.stream_task.proofs.Stages.{flush_refused}
 use Rattle.stream_task.proofs.stage.take.Goals as goal
 

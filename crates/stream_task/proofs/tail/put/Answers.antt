@@ -1,4 +1,3 @@
-use Rattle.std.proofs.Common.{refl}
 use Rattle.lane_core.specs.declared.ends.Put.TheVariants.{Full}
 use Rattle.lane_core.proofs.Between.{put_by_lane}
 use Rattle.stream_task.proofs.tail.put.Goals as goal

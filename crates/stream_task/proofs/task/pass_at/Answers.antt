@@ -1,4 +1,4 @@
-use Rattle.std.proofs.Common.{refl, sym, ap, ◌∙◌, inl, inr, ◌+◌, map, arith}
+use Rattle.std.proofs.Common.{refl, ap, inl, inr, arith}
 use Rattle.stream_task.proofs.Stages.{full_at, some_at, passed_on, gave_up, stuck_on, stuck_own, numbers_on, numbers_set, crossed_on, burnt_on, items_lasting, same_at, few_at, renamed}
 use Rattle.stream_task.proofs.task.pass_at.Goals as goal
 

@@ -1,4 +1,4 @@
-use Rattle.std.proofs.Common.{◌≡◌, ◌≤◌, drop}
+use Rattle.std.proofs.Common.{◌≤◌, drop}
 use Rattle.stream_task.specs.Stage.{AreIdle}
 use Rattle.stream_task.proofs.task.settled.Given as goal
 

@@ -1,4 +1,3 @@
-use Rattle.std.proofs.Common.{refl}
 use Rattle.stream_task.proofs.Steps.{stopped_fault, element_cause}
 use Rattle.stream_task.proofs.task.Task.pass.Goals as goal
 

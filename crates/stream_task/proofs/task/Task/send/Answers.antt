@@ -1,7 +1,6 @@
-use Rattle.std.proofs.Common.{List, ◌∷◌, [], ◌++◌, length, refl, sym, ◌∙◌, ap, subst, append_assoc, inl, arith}
+use Rattle.std.proofs.Common.{List, ◌∷◌, [], ◌++◌, length, refl, sym, ◌∙◌, ap, append_assoc, inl}
 use Rattle.flow_model.specs.Item.{Item}
 use Rattle.flow_model.proofs.Prefixes.{prefix_by}
-use Rattle.stream_task.specs.declared.step.Step.TheVariants.{Moved}
 use Rattle.stream_task.specs.Tail.{tail_count}
 use Rattle.stream_task.proofs.Stages.{not_nil, stand_keep}
 use Rattle.stream_task.proofs.Keeping.{sent_keeps, sent_table, sent_tail_of, sent_head_in, back_tells, back_full, count_of_tail}
@@ -53,8 +52,7 @@ pub returns-in-Ok-Back-clause-goes : goal.returns-in-Ok-Back-clause-goes
 returns-in-Ok-Back-clause-goes g c =
     λ l s.
     let moves = rw c.in-Ok-Back.field-0-is at c.in-Ok-Back.ensures.moves in
-    let back = (rw c.in-Ok-Back.field-0-is at c.in-Ok-Back.ensures.sends) l.keep l.done s.tail in
-    (
+    let back = (rw c.in-Ok-Back.field-0-is at c.in-Ok-Back.ensures.sends) l.keep l.done s.tail in (
       record {
         gave = s.gave;
         number = s.number;

@@ -1,0 +1,7 @@
+pub mod Encoded
+pub mod Encodes
+pub mod Known
+pub mod Same
+pub mod Templates
+pub mod WavFile
+pub mod WholeFile

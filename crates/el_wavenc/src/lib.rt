@@ -1,0 +1,16 @@
+//! The element that writes WAV files.
+#![tactic(auto)]
+
+mod file;
+mod fixed;
+mod laws;
+mod put_out;
+mod stream;
+mod template;
+pub mod wav_enc;
+
+pub use laws::file_is_whole;
+pub use wav_enc::WavEnc;
+
+#[cfg(test)]
+mod tests;

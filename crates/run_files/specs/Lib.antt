@@ -1,0 +1,5 @@
+pub mod Seen
+pub mod Ends
+pub mod Closing
+pub mod Opening
+pub mod Stopping

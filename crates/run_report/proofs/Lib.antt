@@ -1,0 +1,4 @@
+pub mod Computed
+pub mod EntryLines
+pub mod Numbers
+pub mod Parts
