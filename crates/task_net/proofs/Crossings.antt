@@ -1,5 +1,5 @@
 -- What crossed the pads of a net that has ended, or of one with a fault.
-use Rattle.std.proofs.Common.{◌≡◌, ◌≢◌, ℕ, List, [], ◌∷◌, ◌++◌, map, Some, Option, refl, ap, sym, ◌∙◌, subst, ◌⊎◌, inl, inr, ⊎_elim}
+use Rattle.std.proofs.Common.{◌≡◌, ℕ, List, [], ◌∷◌, map, Some, Option, refl, ap, sym, ◌∙◌, subst, inl, inr, ⊎_elim}
 use Rattle.std.specs.Prelude.{slice_get}
 use Rattle.std.proofs.lemmas.Bool.{cases_eq}
 use Rattle.flow_model.specs.Item.{Item}
@@ -11,7 +11,7 @@ use Rattle.stream_task.specs.declared.stage.Stage.{Stage}
 use Rattle.stream_task.specs.declared.task.Task.{Task}
 use Rattle.stream_task.specs.Stage.{StageList, StagesStand, StagesKeep, SameRules, owes}
 use Rattle.stream_task.specs.Task.{TaskLists, Stands, HasCrossed, AtFault}
-use Rattle.task_net.specs.Net.{Sends, Takes, Flows, GoesOn, NetEnded, NetFaulted, NetCrossed}
+use Rattle.task_net.specs.Net.{NetEnded, NetFaulted, NetCrossed}
 use Rattle.task_net.proofs.Places.{some_same}
 use Rattle.task_net.proofs.Nets.{goes_on_trans, with_lists, lists_same, lists_here, lists_there, net_flows}
 

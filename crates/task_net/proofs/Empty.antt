@@ -1,5 +1,5 @@
 -- No tasks are wired.
-use Rattle.std.proofs.Common.{◌≡◌, ℕ, List, [], Some, None, ap, sym, ◌∙◌}
+use Rattle.std.proofs.Common.{◌≡◌, ℕ, List, [], Some, ap, sym, ◌∙◌}
 use Rattle.std.specs.Prelude.{slice_get}
 use Rattle.lane_core.specs.Room.{Limits}
 use Rattle.stream_task.specs.declared.task.Task.{Task}

@@ -1,10 +1,9 @@
 -- A net stays a net behind a step of one of its tasks.
-use Rattle.std.proofs.Common.{◌≡◌, ◌≢◌, ◌<◌, ◌≤◌, ◌+◌, ℕ, suc, List, [], ◌∷◌, ◌++◌, append-nil, length, map, Some, None, Option, true, false, cond, eqb, refl, ap, sym, ◌∙◌, subst, ⊎_elim, ◌⊎◌, inl, inr, arith}
+use Rattle.std.proofs.Common.{◌≡◌, ◌≢◌, ◌<◌, ◌≤◌, ◌+◌, ℕ, List, [], ◌∷◌, ◌++◌, append-nil, length, map, Some, None, Option, true, false, cond, eqb, refl, ap, sym, ◌∙◌, subst, ⊎_elim, ◌⊎◌, inl, inr, arith}
 use Rattle.std.specs.Prelude.{slice_get, slice_set, IsSome, Result, Ok, Err}
 use Rattle.std.specs.Option.{ForSome}
 use Rattle.std.proofs.lemmas.Bool.{cases_eq, false≢true, cond-true, cond-false, eq-eqb, ne_eqb}
 use Rattle.flow_model.specs.Item.{Item}
-use Rattle.flow_model.specs.Rule.{Response}
 use Rattle.lane_core.specs.Lane.{Lane, IsBetween}
 use Rattle.lane_core.specs.Room.{Limits}
 use Rattle.stream_task.specs.declared.fault.TaskFault.{TaskFault}
@@ -19,8 +18,7 @@ use Rattle.stream_task.specs.Tail.{TailOf, tail_place, tail_limit}
 use Rattle.stream_task.specs.Task.{TaskLists, IsOneMove, moves_of, moved_to, Stands, Goes, Keeps, KeepsTable, IsReady, AtFault, IsTaskCause, Frame, Burns, fuel, head_of, tail_of, stages_of, last_of}
 use Rattle.task_net.specs.Net.{Sends, Takes, IsWired, AllReady, IsLaid, IsPlain, Flows, ArePlain, IsNet, GoesOn, NetGoes, NetRests, NetStepped, NetFaulted, IsNetCause, AllFramed, Burned, has_moved, net_fuel}
 use Rattle.task_net.specs.Turns.{MovesOnce, EachMovesOnce}
-use Rattle.flow_model.specs.Prefix.{IsPrefix}
-use Rattle.flow_model.proofs.Prefixes.{prefix_by, prefix_trans}
+use Rattle.flow_model.proofs.Prefixes.{prefix_by}
 use Rattle.stream_task.specs.declared.head.Head.{Head}
 use Rattle.stream_task.specs.declared.head.Head.TheVariants as heads
 use Rattle.stream_task.specs.declared.tail.Tail.{Tail}

@@ -1,5 +1,5 @@
 -- A net in which no task moves has ended.
-use Rattle.std.proofs.Common.{◌≡◌, ◌<◌, ◌≤◌, ◌+◌, ℕ, zero, suc, List, [], ◌∷◌, ◌++◌, length, Some, None, Option, Bool, true, false, refl, ap, sym, ◌∙◌, subst, ◌⊎◌, ⊎_elim, arith, length-append, append_assoc, append-nil}
+use Rattle.std.proofs.Common.{◌≡◌, ◌<◌, ◌≤◌, ◌+◌, ℕ, zero, suc, List, [], ◌∷◌, ◌++◌, length, Some, None, Option, true, false, refl, ap, sym, ◌∙◌, subst, ⊎_elim, arith, append_assoc, append-nil}
 use Rattle.std.specs.Prelude.{slice_get}
 use Rattle.std.proofs.lemmas.Bool.{true≢false, cases_eq}
 use Rattle.std.proofs.lemmas.Option.{slice_get_within}
@@ -10,7 +10,7 @@ use Rattle.el_src.specs.Gave.{has_eos}
 use Rattle.el_set.specs.declared.filter.FilterElement.{FilterElement}
 use Rattle.el_set.specs.Stands.{Stands as ElementStands}
 use Rattle.el_set.specs.Closed.{IsClosed}
-use Rattle.lane_core.specs.Lane.{Lane, IsBetween}
+use Rattle.lane_core.specs.Lane.{Lane}
 use Rattle.lane_core.specs.Room.{Limits}
 use Rattle.stream_task.specs.declared.stage.Stage.{Stage}
 use Rattle.stream_task.specs.declared.step.Step.{Step}
@@ -21,7 +21,7 @@ use Rattle.stream_task.specs.declared.tail.Tail.TheVariants as tails
 use Rattle.stream_task.specs.Head.{head_place, head_number}
 use Rattle.stream_task.specs.Tail.{tail_place, tail_number, tail_limit}
 use Rattle.stream_task.specs.Stage.{StageList, StagesStand, AreIdle, owes, put_last}
-use Rattle.stream_task.specs.Task.{TaskLists, IsEmptyLane, IsFullLane, IsIdle, IsWhy, head_of, tail_of, stages_of}
+use Rattle.stream_task.specs.Task.{TaskLists, IsFullLane, IsIdle, IsWhy, head_of, tail_of, stages_of}
 use Rattle.task_net.specs.Net.{Sends, Takes, IsWired, IsNet, NetEnded, Rests, has_moved}
 use Rattle.task_net.proofs.Closed.{closed_rest, closed_front, first_nil}
 use Rattle.task_net.proofs.Places.{none_some}
