@@ -20,9 +20,9 @@ use Rattle.stream_task.specs.declared.tail.Tail.{Tail}
 use Rattle.stream_task.specs.declared.tail.Tail.TheVariants as tails
 use Rattle.stream_task.specs.Head.{head_place, head_number}
 use Rattle.stream_task.specs.Tail.{tail_place, tail_number, tail_limit}
-use Rattle.stream_task.specs.Stage.{StageList, StagesStand, AreIdle, owes, put_last}
+use Rattle.stream_task.specs.Stage.{StageList, StagesStand, AreIdle, owes, put_at, put_last, crossed_at}
 use Rattle.stream_task.specs.Task.{TaskLists, IsFullLane, IsIdle, IsWhy, head_of, tail_of, stages_of}
-use Rattle.task_net.specs.Net.{Sends, Takes, IsWired, IsNet, NetEnded, Rests, has_moved}
+use Rattle.task_net.specs.Net.{Sends, Takes, IsWired, IsNet, IsWhole, NetEnded, Rests, has_moved}
 use Rattle.task_net.proofs.Closed.{closed_rest, closed_front, first_nil}
 use Rattle.task_net.proofs.Places.{none_some}
 use Rattle.task_net.proofs.Nets.{goes_on_same, net_gave, net_flows}
@@ -55,6 +55,17 @@ stages_eos law (t ∷ ss) put (l ∷ ls) idle s =
     let none : t.waiting.items ≡ [] = idle 0 t (omega arith) in
     let all : put ≡ l.crossed = s.0.held ∙ ap (λ (ys : List Item). l.crossed ++ ys) none ∙ append-nil l.crossed in
     stages_eos law ss (owes l) ls (λ k d w. idle (suc k) d (omega (arith, w))) s.1 ∙ law l.rule t.filter l.crossed (owes l) s.0.fed ∙ ap has_eos (sym all)
+
+-- what was put on the pads of a task in which nothing waits has crossed them
+whole_at : (ss : List Stage) (put : List Item) (ls : List StageList) (done waiting : List Item) → AreIdle ss → waiting ≡ [] → StagesStand ss put ls → put_last put ls ≡ done ++ waiting
+    → (place : ℕ) → crossed_at ls done place ≡ put_at put ls place
+whole_at [] put [] done waiting idle none s held place = sym (held ∙ ap (λ (ys : List Item). done ++ ys) none ∙ append-nil done)
+whole_at [] put (l ∷ ls) done waiting idle none s held place = absurd s
+whole_at (t ∷ ss) put [] done waiting idle none s held place = absurd s
+whole_at (t ∷ ss) put (l ∷ ls) done waiting idle none s held zero =
+    let here : t.waiting.items ≡ [] = idle 0 t (omega arith) in
+    sym (s.0.held ∙ ap (λ (ys : List Item). l.crossed ++ ys) here ∙ append-nil l.crossed)
+whole_at (t ∷ ss) put (l ∷ ls) done waiting idle none s held (suc place) = whole_at ss (owes l) ls done waiting (λ k d w. idle (suc k) d (omega (arith, w))) none s.1 held place
 
 -- the place and the limit of a lane that has a number
 place_of : {K O : Type 0} (place : O → ℕ) (tail : Tail K O) (m : ℕ) → tail_number tail ≡ Some m → (n : ℕ) × (tail_place place tail ≡ Some n)
@@ -148,6 +159,12 @@ module _ {S K I O : Type 0} (content : S → Option (List ℕ)) (bytes : K → O
   drained_by n s r a b (NeedsRoom m) none why = absurd (waits_not r b.0 m b.1 why.0 why.1)
   drained_by n s r a b Ended none why = behind_eos n s r a b (sym (net.stands r b.0 b.1).over ∙ why.1)
 
+  all_whole : (k : ℕ) (t : Task S K I O) → slice_get tasks k ≡ Some t → IsWhole (lists k)
+  all_whole k t at =
+      let stood = net.stands k t at in
+      let idle = all_idle k t at in
+      whole_at (stages_of t) (lists k).head.given (lists k).stages (lists k).done t.waiting.items idle.stages idle.last stood.stages stood.held
+
   all_drained : (n s r : ℕ) → Sends place_out tasks s n → Takes place_in tasks r n → (lists s).done ≡ (lists r).head.got
   all_drained n s r a b = let why = rests r b.0 b.1 in drained_by n s r a b why.0 why.1 why.2
 
@@ -171,6 +188,7 @@ module _ {S K I O : Type 0} (content : S → Option (List ℕ)) (bytes : K → O
     goes_on = goes_on_same lists;
     net = net;
     idle = all_idle;
+    whole = all_whole;
     drained = λ n s r a b. let all = all_drained n s r a b in (all, gave_all n r b ∙ sym all);
     nothing = (net_flows content bytes received sent place_in place_out tasks lists tells table told net).nothing;
     sources = λ k t at source. let why = rests k t at in source_over k t why.0 at source why.1 why.2;

@@ -33,6 +33,7 @@ module _ {S K I O : Type 0} (content : S → Option (List ℕ)) (bytes : K → O
     goes_on = goes_on_trans a b y.lists x y.goes_on;
     net = y.net;
     idle = y.idle;
+    whole = y.whole;
     drained = y.drained;
     nothing = y.nothing;
     sources = y.sources;
@@ -91,6 +92,7 @@ module _ {S K I O : Type 0} (content : S → Option (List ℕ)) (bytes : K → O
     goes_on = goes_on_same lists;
     net = net;
     idle = λ k t e. let within = slice_get_within tasks k t e in absurd (omega (arith, within, none));
+    whole = λ k t e. let within = slice_get_within tasks k t e in absurd (omega (arith, within, none));
     drained = λ n s r a b. let within = slice_get_within tasks s a.0 a.1 in absurd (omega (arith, within, none));
     nothing = λ n r only b. let within = slice_get_within tasks r b.0 b.1 in absurd (omega (arith, within, none));
     sources = λ k t e source. let within = slice_get_within tasks k t e in absurd (omega (arith, within, none));

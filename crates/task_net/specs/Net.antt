@@ -14,7 +14,7 @@ use Rattle.stream_task.specs.declared.step.Step.{Step}
 use Rattle.stream_task.specs.declared.step.Step.TheVariants.{Moved}
 use Rattle.stream_task.specs.declared.task.Task.{Task}
 use Rattle.stream_task.specs.Head.{head_faults, head_number, head_place}
-use Rattle.stream_task.specs.Stage.{SameRules, element_at}
+use Rattle.stream_task.specs.Stage.{SameRules, crossed_at, put_at, element_at}
 use Rattle.stream_task.specs.Tail.{tail_element, tail_faults, tail_limit, tail_place}
 use Rattle.stream_task.specs.Task.{TaskLists, Stands, HasCrossed, AtFault, IsReady, IsIdle, IsWhy, Frame, fuel, head_of, tail_of, stages_of, last_of}
 
@@ -74,14 +74,19 @@ pub record GoesOn (was is : ℕ → TaskLists) : Type 0 where
   pub rules : (k : ℕ) → SameRules (was k).stages (is k).stages
   pub keep : (k : ℕ) → (is k).keep ≡ (was k).keep
 
--- Nothing waits in a task or in a lane, each queue gave all that was sent into its lane, each source has given EOS, and
--- a queue exactly where the task that sends to it has.
+-- all that was put on each pad of a task has crossed it
+abbrev pub IsWhole : TaskLists → Type 0
+IsWhole l = (place : ℕ) → crossed_at l.stages l.done place ≡ put_at l.head.given l.stages place
+
+-- Nothing waits in a task or in a lane: all that was put on a pad has crossed it, and each queue gave all that was sent
+-- into its lane. Each source has given EOS, and a queue exactly where the task that sends to it has.
 pub record NetEnded {S K I O : Type 0} (content : S → Option (List ℕ)) (bytes : K → Option (List ℕ)) (received : I → List Item → Type 0) (sent : O → List Item → Type 0) (place_in : I → ℕ) (place_out : O → ℕ)
     (tasks : List (Task S K I O)) (was : ℕ → TaskLists) (tells : Option (List Lane)) : Type 0 where
   pub lists : ℕ → TaskLists
   pub goes_on : GoesOn was lists
   pub net : IsNet content bytes received sent place_in place_out tasks lists tells
   pub idle : (k : ℕ) (t : Task S K I O) → slice_get tasks k ≡ Some t → IsIdle t
+  pub whole : (k : ℕ) (t : Task S K I O) → slice_get tasks k ≡ Some t → IsWhole (lists k)
   pub drained : (n s r : ℕ) → Sends place_out tasks s n → Takes place_in tasks r n → ((lists s).done ≡ (lists r).head.got) × ((lists r).head.given ≡ (lists s).done)
   pub nothing : (n r : ℕ) → ((s : ℕ) → Sends place_out tasks s n → ⊥) → Takes place_in tasks r n → (lists r).head.given ≡ []
   pub sources : (k : ℕ) (t : Task S K I O) → slice_get tasks k ≡ Some t → head_number (head_of t) ≡ None → has_eos (lists k).head.given ≡ true
