@@ -1,0 +1,9 @@
+mod Places
+mod Closed
+mod Crossings
+mod Empty
+mod Nets
+mod Overs
+mod Stalls
+mod Tries
+mod Turning
