@@ -32,14 +32,14 @@ module _ {S K I O : Type 0} (content : S → Option (List ℕ)) (bytes : K → O
 
   -- a task at its fault, with stages of its own
   fault_crossed : (task : Task S K I O) (l : TaskLists) (fault : TaskFault) → AtFault content bytes received sent task l fault → (ls : List StageList) × SameRules l.stages ls × HasCrossed content received task (record l { stages = ls })
-  fault_crossed task l (ReadFault element before after) h = (l.stages, refl, task_crossed task l h)
+  fault_crossed task l (ReadFault element before after) h = (l.stages, refl, task_crossed task l h.0)
   fault_crossed task l (WriteFault element before after) h = (l.stages, refl, h.crossed)
   fault_crossed task l (Stream element place kind) h = (l.stages, refl, h.crossed)
   fault_crossed task l (Caps element offered wanted) h = (l.stages, refl, h.crossed)
   fault_crossed task l (TooLong element a b) (inl h) = (l.stages, refl, task_crossed task l h.stands)
   fault_crossed task l (TooLong element a b) (inr h) = (l.stages, refl, h.crossed)
   fault_crossed task l (NotLinked element place) h = (l.stages, refl, h.crossed)
-  fault_crossed task l OutOfMemory h = h
+  fault_crossed task l OutOfMemory h = (h.0, h.1, h.2)
 
 module _ {S K I O : Type 0} (content : S → Option (List ℕ)) (bytes : K → Option (List ℕ)) (received : I → List Item → Type 0) (sent : O → List Item → Type 0) (place_in : I → ℕ) (place_out : O → ℕ) (tasks : List (Task S K I O)) (was : ℕ → TaskLists) (tells : Option (List Lane)) where
   pub ended_crossed : (table : List Lane) → tells ≡ Some table → NetEnded content bytes received sent place_in place_out tasks was tells → NetCrossed content received place_in place_out tasks was

@@ -1,5 +1,6 @@
 mod Places
 mod Closed
+mod Closing
 mod Crossings
 mod Empty
 mod Nets

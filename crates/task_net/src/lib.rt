@@ -3,6 +3,7 @@
 
 pub mod laws;
 pub mod net;
+pub mod put_closed;
 
 pub use net::{Stopped, run_tasks};
 

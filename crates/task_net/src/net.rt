@@ -6,7 +6,7 @@ ghost use Rattle.stream_task.specs.Task.{TaskLists};
 ghost use Rattle.task_net.specs.Net.{AllReady, IsWired, IsNet, IsNetCause, NetEnded, NetFaulted, NetStepped, NetAdvanced, AllFramed, Burned, net_fuel, steps_left, has_moved as step_moved};
 ghost use Rattle.task_net.specs.Turns.{EachMovesOnce, HasCome, RunBy};
 
-use crate::closed::put_is_closed;
+use crate::put_closed::put_is_closed;
 use el_set::laws::put_has_eos;
 use gst_outside::{Sink, Source};
 use lane_core::{Inlet, Outlet};
