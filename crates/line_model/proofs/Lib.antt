@@ -1,1 +1,2 @@
+mod Graphs
 pub mod Lines

@@ -13,7 +13,9 @@ use Rattle.el_set.specs.Asked.{sink_pads}
 use Rattle.el_set.specs.Denoted.{response_of}
 use Rattle.el_set.specs.Made.{list_of}
 use Rattle.graph_core.specs.Elements.{Made}
+use Rattle.graph_core.specs.Graph.{IsSound, made as made_in, links as links_in, forward as forward_in}
 use Rattle.graph_core.specs.Links.{source_before}
+use Rattle.graph_core.specs.declared.graph.Graph.{Graph}
 use Rattle.graph_core.specs.declared.pad.PadLink.{PadLink}
 use Rattle.graph_core.specs.declared.pad.PadPlace.{PadPlace}
 
@@ -101,3 +103,13 @@ abbrev pub LineToWhole : Type 0
 LineToWhole = (contents : ℕ → List ℕ) (made : List Made) (links : List PadLink) (forward : List ℕ) (h : ℕ → List Item) → GoesAlong links [] forward
     → ((e : ℕ) → IsMember e forward → ElementHas contents links h e (slice_get made e))
     → (p : ℕ) → IsMember (owner_of p) forward → eval (line_plan contents made links forward (λ q. length (h q))) p ≡ h p
+
+-- the plan of a graph
+abbrev pub graph_plan : (ℕ → List ℕ) → Graph → (ℕ → ℕ) → Plan
+graph_plan contents graph count = line_plan contents (made_in graph) (links_in graph) (forward_in graph) count
+
+-- The same of a sound graph and of the pads of all its elements.
+abbrev pub GraphToWhole : Type 0
+GraphToWhole = (contents : ℕ → List ℕ) (graph : Graph) (h : ℕ → List Item) → IsSound graph
+    → ((e : ℕ) → e < length (made_in graph) → ElementHas contents (links_in graph) h e (slice_get (made_in graph) e))
+    → (p : ℕ) → owner_of p < length (made_in graph) → eval (graph_plan contents graph (λ q. length (h q))) p ≡ h p

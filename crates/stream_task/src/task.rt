@@ -126,8 +126,7 @@ impl<S: Source, K: Sink, I: Inlet<Out = O>, O: Outlet<Lanes = I::Lanes>> Task<S,
         (head, tail)
     }
 
-    /// One step: an item that waits crosses its pad, or the head gives its next one. Of the items that wait, the one
-    /// farthest from the head is tried first; the head is asked where none waits.
+    /// One step: an item that waits crosses its pad, or, where none waits, the head gives its next one.
     ///
     /// A refused put into a full lane does not keep items before that pad from moving on.
     pub fn step(&mut self, alloc: Global, lanes: &mut I::Lanes) -> Result<Step, TaskFault>
