@@ -75,3 +75,12 @@ told_fault text (Err (BadCaps place)) h = rw h.2 (as_place_le (length text) (len
     as_place_le m n = let a = min-le_left (m - n) 4294967295 in let b = min-le_right (m - n) 4294967295 in le-min {k = as_place (m - n)} {a = m} {b = 4294967295} (omega (arith, a)) b
 told_fault text (Err (TooMany count)) h = h.1
 told_fault text (Err OutOfMemory) h = tt
+
+-- a text stands for one caps
+pub caps_one : (text : List ℕ) (a b : Caps) → IsCapsText text a → IsCapsText text b → a ≡ b
+caps_one text a b (inl h) k = sym (any_only text a h.0 (inl h)) ∙ any_only text b h.0 k
+caps_one text a b (inr (inl h)) k = sym (empty_only text a h.0 (inr (inl h))) ∙ empty_only text b h.0 k
+caps_one text a b (inr (inr h)) (inl k) = sym (any_only text a k.0 (inr (inr h))) ∙ any_only text b k.0 (inl k)
+caps_one text a b (inr (inr h)) (inr (inl k)) = sym (empty_only text a k.0 (inr (inr h))) ∙ empty_only text b k.0 (inr (inl k))
+caps_one text a b (inr (inr h)) (inr (inr k)) =
+    h.2 ∙ ap (λ p. Of p.0) (ok_is (h.0, []) (k.0, []) (sym (structures_read text h.0 h.1) ∙ structures_read text k.0 k.1)) ∙ sym k.2

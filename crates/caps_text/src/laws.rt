@@ -1,5 +1,5 @@
 //! What is printed is read again.
-ghost use Rattle.std.specs.Prelude.{ℕ, List, ◌∷◌, []};
+ghost use Rattle.std.specs.Prelude.{◌≡◌, ℕ, List, ◌∷◌, []};
 ghost use Rattle.gst_caps.specs.Description.{Description};
 ghost use Rattle.gst_caps.specs.declared.caps.Caps.{Caps};
 ghost use Rattle.gst_caps.specs.declared.caps.Caps.TheVariants.{Of};
@@ -13,4 +13,9 @@ ghost use Rattle.caps_text.specs.Singles.{of_singles};
 pub fn printed_again()
     ensures caps { (text : List ℕ) (caps : Caps) → IsCapsText text caps → IsCapsText (caps_text caps) caps }
     ensures fixed { (text : List ℕ) (x : Description One) → IsCapsText text (Of (of_singles x ∷ [])) → IsCapsText (structure_text typed_text x) (Of (of_singles x ∷ [])) }
+{}
+
+/// A text stands for the caps of one description.
+pub fn one_reading()
+    ensures { (text : List ℕ) (a b : Caps) → IsCapsText text a → IsCapsText text b → a ≡ b }
 {}

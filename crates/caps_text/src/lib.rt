@@ -14,7 +14,7 @@ mod single;
 mod structures;
 
 pub use fault::CapsTextFault;
-pub use laws::printed_again;
+pub use laws::{one_reading, printed_again};
 pub use printing::{print, print_fixed};
 pub use reading::parse;
 

@@ -6,3 +6,4 @@ pub mod Ends
 pub mod Elements
 pub mod Sources
 pub mod Copied
+pub mod OneSet

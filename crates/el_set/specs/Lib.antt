@@ -13,3 +13,4 @@ pub mod Gives
 pub mod Holds
 pub mod Roles
 pub mod Made
+pub mod Alike

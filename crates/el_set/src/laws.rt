@@ -1,7 +1,12 @@
 //! Laws of elements. Each function does nothing: its contract is the law.
-ghost use Rattle.std.specs.Prelude.{◌≡◌, ℕ, List, [], Ok, true, false, All};
+ghost use Rattle.std.specs.Prelude.{◌≡◌, ℕ, List, [], Result, Ok, true, false, All};
 ghost use Rattle.gst_caps.specs.declared.caps.Caps.{Caps};
+ghost use Rattle.gst_caps.specs.declared.name.Prop.{Prop};
 ghost use Rattle.el_basic.specs.Filters.{filters};
+ghost use Rattle.el_set.specs.Alike.{AreAlike};
+ghost use Rattle.el_set.specs.Checked.{IsAnswer};
+ghost use Rattle.el_set.specs.declared.fault.PropFault.{PropFault};
+ghost use Rattle.el_set.specs.declared.settings.Settings.{Settings};
 ghost use Rattle.flow_model.specs.Item.{Item};
 ghost use Rattle.flow_model.specs.Call.{Call, feeds};
 ghost use Rattle.flow_model.specs.Sticky.{has_flush_stop, in_force};
@@ -81,3 +86,10 @@ pub fn rows_end_with_eos()
 pub fn no_fault_was_met()
     ensures { (respond : Response) (element : FilterElement) (list put : List Item) → has_flush_stop list ≡ false → Stands respond element (feeds list) put → MeetsNoFault respond list }
 {}
+
+/// Properties have one answer, but for want of memory.
+pub fn one_answer()
+    ensures { (kind : List ℕ) (props : List Prop) (a b : Result Settings PropFault) → IsAnswer kind props a → IsAnswer kind props b → AreAlike a b }
+{
+    caps_text::one_reading();
+}

@@ -13,7 +13,7 @@ use Rattle.graph_core.specs.Comes.{Comes}
 use Rattle.graph_core.specs.Elements.{Made, ElementsCome, IsMade, IsUnmade, IsPlaced, is_name_taken, is_location_taken, is_named, name_of, settings_fault}
 use Rattle.graph_core.specs.Ends.{IsEndPad, IsPadOf, name_at, pad_name, taken_pad}
 use Rattle.graph_core.specs.Graph.{IsFault, IsGraph, links as links_in, made as made_in}
-use Rattle.graph_core.specs.Laws.{AreAlike, AreSame, IsFree, IsUnjudged, NeverBoth, OneFault, OneGraph, OneSetting}
+use Rattle.graph_core.specs.Laws.{AreSame, IsFree, NeverBoth, OneFault, OneGraph}
 use Rattle.graph_core.specs.Links.{IsJoined, IsJudged, IsLinked, IsUnjoined, IsUnlinked, LinksCome}
 use Rattle.graph_core.specs.declared.fault.BuildFault.{BuildFault}
 use Rattle.graph_core.specs.declared.fault.BuildFault.TheVariants.{NoSuch, BadValue, NameTaken, LocationTaken, TooMany, LinkRefused, OutOfMemory}
@@ -23,6 +23,12 @@ use Rattle.graph_core.specs.declared.pad.Direction.{Direction}
 use Rattle.graph_core.specs.declared.pad.Direction.TheVariants.{Source, Sink}
 use Rattle.graph_core.specs.declared.pad.Pad.{Pad}
 use Rattle.graph_core.specs.declared.pad.PadLink.{PadLink}
+use Rattle.el_set.specs.Alike.{AreAlike, IsUnjudged}
+use Rattle.gst_caps.specs.declared.name.Prop.{Prop}
+
+-- properties have one answer
+abbrev pub OneSetting : Type 0
+OneSetting = (kind : List ℕ) (props : List Prop) (a b : Result Settings PropFault) → IsAnswer kind props a → IsAnswer kind props b → AreAlike a b
 
 -- two answers are one, or memory is wanting in one of them
 abbrev pub Agree : {Y : Type 0} → Result (List Y) BuildFault → Result (List Y) BuildFault → Type 0

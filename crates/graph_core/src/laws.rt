@@ -1,12 +1,12 @@
 //! A line has one graph, or one fault.
-ghost use Rattle.graph_core.specs.Laws.{NeverBoth, OneFault, OneGraph, OneSetting};
+ghost use Rattle.graph_core.specs.Laws.{NeverBoth, OneFault, OneGraph};
 
-/// Where the properties of an element have one answer, a line has a graph or a fault and not both, and of either it has
-/// one.
-/// So `build` gives a graph exactly where the line has one, and a fault exactly where it is the line's, unless memory
-/// is wanting.
+/// A line has a graph or a fault and not both, and of either it has one. So `build` gives a graph exactly where the
+/// line has one, and a fault exactly where it is the line's, unless memory is wanting.
 pub fn one_answer()
-    ensures both { OneSetting → NeverBoth }
-    ensures fault { OneSetting → OneFault }
-    ensures graph { OneSetting → OneGraph }
-{}
+    ensures both { NeverBoth }
+    ensures fault { OneFault }
+    ensures graph { OneGraph }
+{
+    el_set::laws::one_answer();
+}
