@@ -1,8 +1,10 @@
 -- What the elements of a line's graph have, by the tasks of a net that go along its ways.
-use Rattle.std.proofs.Common.{◌≡◌, ◌<◌, ◌⊎◌, ℕ, zero, suc, true, false, List, [], ◌∷◌, Option, None, Some, length, refl, sym, ap, ◌∙◌, subst, inl, inr, eqb}
+use Rattle.std.proofs.Common.{◌≡◌, ◌<◌, ◌⊎◌, ◌++◌, ◌-◌, map, arith, ℕ, zero, suc, true, false, List, [], ◌∷◌, Option, None, Some, length, refl, sym, ap, ◌∙◌, subst, inl, inr, eqb}
 use Rattle.std.specs.Prelude.{slice_get}
+use Rattle.std.specs.List.{range_with_len}
 use Rattle.std.proofs.lemmas.Bool.Decides.{eqb_tells}
-use Rattle.flow_model.specs.Item.{Item}
+use Rattle.flow_model.specs.Item.{Item, Ev, Eos}
+use Rattle.flow_model.specs.Source.{block_at, block_count}
 use Rattle.flow_model.specs.Prefix.{IsPrefix, nothing, next}
 use Rattle.flow_model.specs.Call.{feeds}
 use Rattle.flow_model.specs.Chain.{IsPlain}
@@ -14,10 +16,13 @@ use Rattle.el_set.specs.Asked.{sink_pads}
 use Rattle.el_set.specs.Denoted.{response_of}
 use Rattle.el_set.specs.Made.{list_of}
 use Rattle.el_set.specs.Gives.{SourceGave, source_content}
+use Rattle.el_set.specs.declared.settings.Settings.{Settings}
+use Rattle.el_set.specs.declared.settings.Settings.TheVariants.{FileSrc, Identity, CapsFilter, Queue as QueueSettings, FileSink, FakeSink}
 use Rattle.el_set.specs.declared.source.SourceElement.{SourceElement}
 use Rattle.el_set.specs.declared.source.SourceElement.TheVariants.{File, Ramp}
 use Rattle.el_set.proofs.Ends.{plain_no_flush}
 use Rattle.el_set.proofs.Elements.{put_is_plain}
+use Rattle.lane_core.specs.Room.{Limits}
 use Rattle.graph_core.specs.Elements.{Made}
 use Rattle.graph_core.specs.Links.{source_before}
 use Rattle.graph_core.specs.declared.pad.PadLink.{PadLink}
@@ -28,7 +33,7 @@ use Rattle.stream_task.specs.declared.task.Task.{Task}
 use Rattle.stream_task.specs.Head.{HeadGave}
 use Rattle.stream_task.specs.Stage.{StageList, StagesKeep, owes, put_last}
 use Rattle.stream_task.specs.Task.{TaskLists}
-use Rattle.task_net.specs.Net.{NetCrossed, Sends}
+use Rattle.task_net.specs.Net.{NetCrossed, IsWired, Sends}
 use Rattle.line_model.specs.LineGraph.{pad_id, owner_of, sink_at, before_it, Took, WithPads, ElementHas}
 use Rattle.net_line.specs.Ways.{out_at, GoAlong, IsCrossed, AreCrossed, last_on, IsSourceOf, IsHeadOf, IsPlaced, IsNetOf}
 
@@ -114,20 +119,85 @@ module _ (contents : ℕ → List ℕ) (made : List Made) (links : List PadLink)
         (pads_of h e list (owed_for passes (feeds list)) c (subst (λ (xs : List Item). IsPrefix list xs) (sym (passed_whole list (plain_begins begins plain))) (prefix_refl list)));
   }
 
+  -- what a source gave begins its list
+  source_begins : {S : Type 0} (content : S → Option (List ℕ)) (source : SourceElement S) (owed : List ℕ → List Item) (e : ℕ) (given : List Item) (is : IsSourceOf made contents e (source_content content source) owed)
+      → SourceGave content source owed given → IsPrefix given (list_of is.element.settings e (contents e))
+  source_begins {S = S} content source owed e given is gave = go source gave is.told
+    where
+      go : (one : SourceElement S) → SourceGave content one owed given → source_content content one ≡ Some (contents e) → IsPrefix given (list_of is.element.settings e (contents e))
+      go (File file) g told = prefix_by given _ (g.told (contents e) told ∙ ap (λ (f : List ℕ → List Item). f (contents e)) is.list)
+      go (Ramp ramp) g told = absurd (cc)
+
   source_has : {S : Type 0} (content : S → Option (List ℕ)) (source : SourceElement S) (owed : List ℕ → List Item) (e : ℕ) (list given : List Item)
       → IsSourceOf made contents e (source_content content source) owed → SourceGave content source owed given → IsCrossed h e list → IsPrefix list given → ElementHas contents links h e (slice_get made e)
-  source_has {S = S} content source owed e list given is gave c begins = rw (is.at, is.none) (pads_of h e list (list_of is.element.settings e (contents e)) c (prefix_trans begins (given_begins source gave is.told)))
+  source_has content source owed e list given is gave c begins =
+      rw (is.at, is.none) (pads_of h e list (list_of is.element.settings e (contents e)) c (prefix_trans begins (source_begins content source owed e given is gave)))
+
+-- the list of a source is plain
+plain_blocks : (size start : ℕ) (content : List ℕ) (ks : List ℕ) → IsPlain (map (block_at size start content) ks ++ Ev Eos ∷ [])
+plain_blocks size start content [] = (refl, λ e. refl, tt)
+plain_blocks size start content (k ∷ ks) = (refl, λ e. cc, plain_blocks size start content ks)
+
+plain_list : (s : Settings) (id : ℕ) (content : List ℕ) → IsPlain (list_of s id content)
+plain_list (FileSrc s) id content = (refl, λ e. cc, (refl, λ e. cc, plain_blocks s.blocksize 0 content (range_with_len 0 (block_count s.blocksize 0 content - 0))))
+plain_list Identity id content = tt
+plain_list (CapsFilter s) id content = tt
+plain_list (QueueSettings s) id content = tt
+plain_list (FileSink s) id content = tt
+plain_list FakeSink id content = tt
+
+-- what was put on the last pad of a way is plain where that on the first is
+last_plain : (stages : List Stage) (given : List Item) (ls : List StageList) → StagesKeep stages given ls → IsPlain given → IsPlain (put_last given ls)
+last_plain [] given [] keep plain = plain
+last_plain [] given (l ∷ ls) keep plain = absurd keep
+last_plain (s ∷ ss) given [] keep plain = absurd keep
+last_plain (s ∷ ss) given (l ∷ ls) keep plain =
+    last_plain ss (owes l) ls keep.1 (put_is_plain l.rule s.filter l.crossed (owes l) (plain_no_flush l.crossed (plain_begins keep.0.begins plain)) keep.0.fed)
+
+nothing_plain : (xs : List Item) → xs ≡ [] → IsPlain xs
+nothing_plain [] e = tt
+nothing_plain (x ∷ xs) e = absurd (cc)
+
+module _ {S K I O : Type 0} (content : S → Option (List ℕ)) (received : I → List Item → Type 0) (place_in : I → ℕ) (place_out : O → ℕ) (limits : O → Limits) (contents : ℕ → List ℕ) (made : List Made) (links : List PadLink) (h : ℕ → List Item)
+    (tasks : List (Task S K I O)) (was : ℕ → TaskLists) (crossed : NetCrossed content received place_in place_out tasks was) (wired : IsWired place_in place_out limits tasks) (net : IsNetOf content place_in place_out contents made links tasks crossed.lists h) where
+  -- what a head gave is plain where that of the tasks before it is
+  next_plain : (k : ℕ) (t : Task S K I O) → slice_get tasks k ≡ Some t
+      → ((s : ℕ) (u : Task S K I O) → slice_get tasks s ≡ Some u → wired.rank s < wired.rank k → IsPlain (crossed.lists s).head.given)
+      → IsPlain (crossed.lists k).head.given
+  next_plain k t at before = by_head t.head (crossed.crossed k t at).gave (net.heads k t at)
     where
-      given_begins : (one : SourceElement S) → SourceGave content one owed given → source_content content one ≡ Some (contents e) → IsPrefix given (list_of is.element.settings e (contents e))
-      given_begins (File file) g told = prefix_by given _ (g.told (contents e) told ∙ ap (λ (f : List ℕ → List Item). f (contents e)) is.list)
-      given_begins (Ramp ramp) g told = absurd (cc)
+      by_head : (head : Head S I) → HeadGave content received head (crossed.lists k).head → IsHeadOf content place_in place_out contents made links tasks net.first net.rest k (crossed.lists k).head.owed head
+          → IsPlain (crossed.lists k).head.given
+      by_head (Source source) gave is =
+          plain_begins (source_begins contents made links h content source (crossed.lists k).head.owed (net.first k) (crossed.lists k).head.given is gave) (plain_list is.element.settings (net.first k) (contents (net.first k)))
+      by_head (Queue inlets) gave is = from is.fed
+        where
+          from : ((s : ℕ) × Sends place_out tasks s is.lane × (u : Task S K I O) × (slice_get tasks s ≡ Some u) × (source_before links (sink_at (net.first k) 0) ≡ Some (out_at (last_on (net.first s) (net.rest s)))))
+              ⊎ ((s : ℕ) → Sends place_out tasks s is.lane → ⊥)
+              → IsPlain (crossed.lists k).head.given
+          from (inl (s, sends, u, there, linked)) =
+              let has = crossed.crossed s u there in
+              let first = before s u there (wired.rises is.lane s k sends is.takes) in
+              plain_begins (prefix_trans (crossed.flows.begins is.lane s k sends is.takes) has.begins) (last_plain u.stages.items (crossed.lists s).head.given (crossed.lists s).stages has.stages first)
+          from (inr none) = nothing_plain (crossed.lists k).head.given (crossed.flows.nothing is.lane k none is.takes)
+      by_head Unlinked gave is = nothing_plain (crossed.lists k).head.given gave
+
+  below_plain : (n k : ℕ) (t : Task S K I O) → slice_get tasks k ≡ Some t → wired.rank k < n → IsPlain (crossed.lists k).head.given
+  below_plain zero k t at w = absurd (omega (arith, w))
+  below_plain (suc n) k t at w = next_plain k t at (λ s u there less. below_plain n s u there (omega (arith, w, less)))
+
+  pub all_plain : (k : ℕ) (t : Task S K I O) → slice_get tasks k ≡ Some t → IsPlain (crossed.lists k).head.given
+  all_plain k t at = below_plain (suc (wired.rank k)) k t at (omega arith)
 
 -- The elements of a graph have what the law of its whole asks, by the tasks of a net.
-pub nets_have : {S K I O : Type 0} (content : S → Option (List ℕ)) (received : I → List Item → Type 0) (place_in : I → ℕ) (place_out : O → ℕ) (contents : ℕ → List ℕ) (made : List Made) (links : List PadLink) (h : ℕ → List Item)
-    (tasks : List (Task S K I O)) (was : ℕ → TaskLists) (crossed : NetCrossed content received place_in place_out tasks was) → IsNetOf content place_in place_out contents made links tasks crossed.lists h
+pub nets_have : {S K I O : Type 0} (content : S → Option (List ℕ)) (received : I → List Item → Type 0) (place_in : I → ℕ) (place_out : O → ℕ) (limits : O → Limits) (contents : ℕ → List ℕ) (made : List Made) (links : List PadLink) (h : ℕ → List Item)
+    (tasks : List (Task S K I O)) (was : ℕ → TaskLists) (crossed : NetCrossed content received place_in place_out tasks was) → IsWired place_in place_out limits tasks → IsNetOf content place_in place_out contents made links tasks crossed.lists h
     → (e : ℕ) → e < length made → ElementHas contents links h e (slice_get made e)
-nets_have {S = S} {K = K} {I = I} {O = O} content received place_in place_out contents made links h tasks was crossed net e there = go (net.placed e there)
+nets_have {S = S} {K = K} {I = I} {O = O} content received place_in place_out limits contents made links h tasks was crossed wired net e there = go (net.placed e there)
   where
+    plain : (k : ℕ) (t : Task S K I O) → slice_get tasks k ≡ Some t → IsPlain (crossed.lists k).head.given
+    plain = all_plain content received place_in place_out limits contents made links h tasks was crossed wired net
+
     lists : ℕ → TaskLists
     lists = crossed.lists
 
@@ -143,7 +213,7 @@ nets_have {S = S} {K = K} {I = I} {O = O} content received place_in place_out co
         by_head : (head : Head S I) → HeadGave content received head (lists k).head → IsHeadOf content place_in place_out contents made links tasks net.first net.rest k (lists k).head.owed head
             → ElementHas contents links h (net.first k) (slice_get made (net.first k))
         by_head (Source source) gave is = source_has contents made links h content source (lists k).head.owed (net.first k) one.0 (lists k).head.given is gave one.1 one.2
-        by_head (Queue inlets) gave is = queue_has contents made links h (net.first k) is.element is.at is.one is.passes one.0 (lists k).head.given one.1 one.2 (net.plain k t at) (from is.fed)
+        by_head (Queue inlets) gave is = queue_has contents made links h (net.first k) is.element is.at is.one is.passes one.0 (lists k).head.given one.1 one.2 (plain k t at) (from is.fed)
           where
             from : ((s : ℕ) × Sends place_out tasks s is.lane × (u : Task S K I O) × (slice_get tasks s ≡ Some u) × (source_before links (sink_at (net.first k) 0) ≡ Some (out_at (last_on (net.first s) (net.rest s)))))
                 ⊎ ((s : ℕ) → Sends place_out tasks s is.lane → ⊥)
@@ -161,5 +231,5 @@ nets_have {S = S} {K = K} {I = I} {O = O} content received place_in place_out co
     go (inl (k, t, at, inl same)) = subst (λ (n : ℕ). ElementHas contents links h n (slice_get made n)) (sym same) (head_has k t at)
     go (inl (k, t, at, inr on)) =
         let has = crossed.crossed k t at in
-        way_has contents made links h t.stages.items (lists k).head.given (lists k).stages (lists k).done (net.first k) (net.rest k) has.stages has.begins (net.goes k t at) (net.crossed k t at) (net.plain k t at) e on
+        way_has contents made links h t.stages.items (lists k).head.given (lists k).stages (lists k).done (net.first k) (net.rest k) has.stages has.begins (net.goes k t at) (net.crossed k t at) (plain k t at) e on
     go (inr quiet) = quiet_has contents made links h e (slice_get made e) quiet

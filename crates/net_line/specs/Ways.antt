@@ -1,7 +1,6 @@
 -- Tasks that go along ways of a launch line's graph.
 use Rattle.std.specs.Prelude.{◌≡◌, ◌≢◌, ◌<◌, ◌⊎◌, ℕ, List, [], ◌∷◌, Option, Some, length, slice_get}
 use Rattle.flow_model.specs.Item.{Item}
-use Rattle.flow_model.specs.Chain.{IsPlain}
 use Rattle.flow_model.specs.Rule.{Response, passes}
 use Rattle.flow_model.specs.Account.{IsMember}
 use Rattle.el_set.specs.Asked.{sink_pads}
@@ -93,8 +92,7 @@ IsPlaced {T = T} tasks first rest h e =
     ((k : ℕ) × (t : T) × (slice_get tasks k ≡ Some t) × ((e ≡ first k) ⊎ IsMember e (rest k)))
     ⊎ ((p : ℕ) → owner_of p ≡ e → h p ≡ [])
 
--- The tasks of a net go along ways of a graph, and what crossed its pads is what crossed those of the tasks. No list
--- that a head gave has a FLUSH_STOP, or anything behind an EOS.
+-- The tasks of a net go along ways of a graph, and what crossed its pads is what crossed those of the tasks.
 pub record IsNetOf {S K I O : Type 0} (content : S → Option (List ℕ)) (place_in : I → ℕ) (place_out : O → ℕ) (contents : ℕ → List ℕ) (made : List Made) (links : List PadLink)
     (tasks : List (Task S K I O)) (lists : ℕ → TaskLists) (h : ℕ → List Item) : Type 0 where
   pub first : ℕ → ℕ
@@ -102,5 +100,4 @@ pub record IsNetOf {S K I O : Type 0} (content : S → Option (List ℕ)) (place
   pub goes : (k : ℕ) (t : Task S K I O) → slice_get tasks k ≡ Some t → GoAlong made links (first k) (rest k) (lists k).stages
   pub crossed : (k : ℕ) (t : Task S K I O) → slice_get tasks k ≡ Some t → AreCrossed h (first k) (rest k) (lists k).stages (lists k).done
   pub heads : (k : ℕ) (t : Task S K I O) → slice_get tasks k ≡ Some t → IsHeadOf content place_in place_out contents made links tasks first rest k (lists k).head.owed (head_of t)
-  pub plain : (k : ℕ) (t : Task S K I O) → slice_get tasks k ≡ Some t → IsPlain (lists k).head.given
   pub placed : (e : ℕ) → e < length made → IsPlaced tasks first rest h e
