@@ -18,7 +18,7 @@ pub struct Graph {
 }
 
 impl Graph {
-    ghost use Rattle.std.specs.Prelude.{◌≡◌, ◌<◌, ◌≤◌, ◌↔◌, ℕ, Some, length, slice_get, position, IfOk, IfSome, IsTrue};
+    ghost use Rattle.std.specs.Prelude.{◌≡◌, ◌<◌, ◌≤◌, ◌↔◌, ℕ, None, Some, length, slice_get, position, IfOk, IfSome, IsTrue};
     ghost use Rattle.std.specs.Option.{option_map};
     ghost use Rattle.graph_order.specs.Forward.{IsMember, GoForward};
     ghost use Rattle.graph_core.specs.Elements.{Made, is_named, limit};
@@ -42,12 +42,16 @@ impl Graph {
         self.elements.find(name)
     }
 
-    /// The name of an element.
-    pub fn name(&self, element: u32) -> &str
-        requires { element < length (made self.now) }
-        ensures { option_map (λ (m : Made). m.name) (slice_get (made self.now) element) ≡ Some result.now }
+    /// The name of an element, where it is there.
+    pub fn name(&self, element: u32) -> Option<&str>
+        ensures there { IfSome result (λ name. option_map (λ (m : Made). m.name) (slice_get (made self.now) element) ≡ Some name.now) }
+        ensures none { result ≡ None → length (made self.now) ≤ element }
     {
-        self.elements.name(element)
+        if element < self.count() {
+            Some(self.elements.name(element))
+        } else {
+            None
+        }
     }
 
     /// What an element is set to.
@@ -58,38 +62,56 @@ impl Graph {
         self.elements.settings(element)
     }
 
-    /// How many source pads an element has.
+    /// How many source pads an element has; none where it is not there.
     pub fn source_pads(&self, element: u32) -> u32
-        requires { element < length (made self.now) }
         ensures { result ≡ pads_at (made self.now) Direction.Source element }
     {
-        self.elements.settings(element).source_pads()
+        if element < self.count() {
+            self.elements.settings(element).source_pads()
+        } else {
+            0
+        }
     }
 
-    /// How many sink pads an element has.
+    /// How many sink pads an element has; none where it is not there.
     pub fn sink_pads(&self, element: u32) -> u32
-        requires { element < length (made self.now) }
         ensures { result ≡ pads_at (made self.now) Direction.Sink element }
     {
-        self.elements.settings(element).sink_pads()
+        if element < self.count() {
+            self.elements.settings(element).sink_pads()
+        } else {
+            0
+        }
     }
 
-    /// The name of a source pad.
-    pub fn source_name(&self, alloc: Global, place: PadPlace) -> Result<PadName, OutOfMemory>
-        requires { place.pad < pads_at (made self.now) Direction.Source place.element }
-        ensures { IfOk result (λ name. name ≡ pad_name (made self.now) (pad_at Direction.Source place.element place.pad)) }
+    /// The name of a source pad, where it is there.
+    pub fn source_name(
+        &self,
+        alloc: Global,
+        place: PadPlace,
+    ) -> Result<Option<PadName>, OutOfMemory>
+        ensures there { IfOk result (λ found. IfSome found (λ name. name ≡ pad_name (made self.now) (pad_at Direction.Source place.element place.pad))) }
+        ensures none { IfOk result (λ found. (found ≡ None) ↔ (pads_at (made self.now) Direction.Source place.element ≤ place.pad)) }
     {
+        if place.pad >= self.source_pads(place.element) {
+            return Ok(None);
+        }
         let direction = Direction::Source;
-        pad_name(alloc, &self.elements, Pad { direction, place })
+        let name = pad_name(alloc, &self.elements, Pad { direction, place })?;
+        Ok(Some(name))
     }
 
-    /// The name of a sink pad.
-    pub fn sink_name(&self, alloc: Global, place: PadPlace) -> Result<PadName, OutOfMemory>
-        requires { place.pad < pads_at (made self.now) Direction.Sink place.element }
-        ensures { IfOk result (λ name. name ≡ pad_name (made self.now) (pad_at Direction.Sink place.element place.pad)) }
+    /// The name of a sink pad, where it is there.
+    pub fn sink_name(&self, alloc: Global, place: PadPlace) -> Result<Option<PadName>, OutOfMemory>
+        ensures there { IfOk result (λ found. IfSome found (λ name. name ≡ pad_name (made self.now) (pad_at Direction.Sink place.element place.pad))) }
+        ensures none { IfOk result (λ found. (found ≡ None) ↔ (pads_at (made self.now) Direction.Sink place.element ≤ place.pad)) }
     {
+        if place.pad >= self.sink_pads(place.element) {
+            return Ok(None);
+        }
         let direction = Direction::Sink;
-        pad_name(alloc, &self.elements, Pad { direction, place })
+        let name = pad_name(alloc, &self.elements, Pad { direction, place })?;
+        Ok(Some(name))
     }
 
     /// The links, in the order of the line.

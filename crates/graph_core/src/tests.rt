@@ -85,19 +85,19 @@ fn put_fault(into: &mut String, fault: &BuildFault) -> Result<(), Fail> {
 }
 
 fn put_element(alloc: Global, into: &mut String, graph: &Graph, element: u32) -> Result<(), Fail> {
-    if element >= graph.count() {
-        Err("an element")?;
-    }
-    write!(into, "{}", graph.name(element))?;
+    let Some(name) = graph.name(element) else {
+        return Err("an element")?;
+    };
+    into.push_str(name)?;
     if graph.live(element) {
         into.push('*')?;
     }
     if let Some(sink) = graph.sink_behind(PadPlace { element, pad: 0 }) {
-        if sink.element >= graph.count() || sink.pad >= graph.sink_pads(sink.element) {
-            Err("a sink")?;
-        }
+        let Some(name) = graph.sink_name(alloc, sink)? else {
+            return Err("a sink")?;
+        };
         into.push('=')?;
-        put_pad(into, &graph.sink_name(alloc, sink)?)?;
+        put_pad(into, &name)?;
     }
     Ok(())
 }

@@ -3,6 +3,7 @@ ghost use Rattle.std.specs.Prelude.{◌≡◌, ◌≤◌, [], length, option_map
 ghost use Rattle.run_files.specs.Ends.{AllOpened, known_end, known_ends};
 
 use super::*;
+use crate::closing::close_all;
 use gst_caps::Text;
 use gst_outside::{Files, MemFiles, Sink, Source};
 use std::alloc::Global;

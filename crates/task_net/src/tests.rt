@@ -1,5 +1,6 @@
 //! A run without tasks, over lanes in memory.
 use super::*;
+use crate::net::run_tasks;
 use gst_outside::{MemSink, MemSource};
 use lane_core::{MemInlet, MemLanes, MemOutlet};
 use std::process::Abort;

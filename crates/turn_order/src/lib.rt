@@ -5,7 +5,7 @@ mod draws;
 pub mod order;
 pub mod turns;
 
-pub use order::{Order, place};
+pub use order::Order;
 pub use turns::Turns;
 
 #[cfg(test)]

@@ -14,7 +14,7 @@ pub enum Order {
 }
 
 /// Whose turn a number tells, among so many.
-pub fn place(number: u64, count: usize) -> usize
+pub(crate) fn place(number: u64, count: usize) -> usize
     requires some { 0 < count }
     ensures place { result ≡ number % count }
     ensures within { result < count }

@@ -1,5 +1,6 @@
 //! Orders against numbers from outside.
 use super::*;
+use crate::order::place;
 use gst_caps::List;
 use std::alloc::Global;
 use std::fmt::Write;

@@ -61,14 +61,18 @@ impl Turns {
     }
 
     /// Whose turn the next number tells, among so many. It takes constant time and no memory, and knows no last value.
+    /// Among none it is 0, and no number is taken.
     pub fn next_among(&mut self, count: usize) -> usize
-        requires some { 0 < count }
-        ensures place { (order : Orders) (n : ℕ) → IsAmong order count n self.old → result ≡ number_of order n % count }
-        ensures among { (order : Orders) (n : ℕ) → IsAmong order count n self.old → IsAmong order count (n + 1) self.new }
-        ensures place_at { (order : Orders) (n : ℕ) → IsAt order n self.old → result ≡ number_of order n % count }
-        ensures at { (order : Orders) (n : ℕ) → IsAt order n self.old → IsWithin order (n + 1) → IsAt order (n + 1) self.new }
-        ensures within { result < count }
+        ensures place { 0 < count → (order : Orders) (n : ℕ) → IsAmong order count n self.old → result ≡ number_of order n % count }
+        ensures among { 0 < count → (order : Orders) (n : ℕ) → IsAmong order count n self.old → IsAmong order count (n + 1) self.new }
+        ensures place_at { 0 < count → (order : Orders) (n : ℕ) → IsAt order n self.old → result ≡ number_of order n % count }
+        ensures at { 0 < count → (order : Orders) (n : ℕ) → IsAt order n self.old → IsWithin order (n + 1) → IsAt order (n + 1) self.new }
+        ensures within { 0 < count → result < count }
+        ensures none { count ≡ 0 → (result ≡ 0) × (self.new ≡ self.old) }
     {
+        if count == 0 {
+            return 0;
+        }
         self.reduce(count);
         place(self.next(), count)
     }

@@ -16,7 +16,7 @@ pub returns-in-Ok-clause-come : goal.returns-in-Ok-clause-come
 returns-in-Ok-clause-come g c =
     λ order start first h.
     come_turn order start first c.args.tasks.now c.step_at.new.tasks c.args.turns.now c.next_among-place.new.self c.args.idle.now c.idle_turns.result c.in-Ok.moved c.next_among-place.result h c.requires.some
-    (omega (arith, c.requires.idle, c.if-idle-eq-IDLE_TURNS.false)) c.next_among-place.ensures.place c.next_among-place.ensures.among c.idle_turns.ensures c.step_at.ensures.others c.step_at.ensures.count c.in-Ok.ensures.burns c.step_at.ensures.once
+    (omega (arith, c.requires.idle, c.if-idle-eq-IDLE_TURNS.false)) (c.next_among-place.ensures.place c.requires.some) (c.next_among-place.ensures.among c.requires.some) c.idle_turns.ensures c.step_at.ensures.others c.step_at.ensures.count c.in-Ok.ensures.burns c.step_at.ensures.once
 
 pub returns-in-Ok-clause-idle : goal.returns-in-Ok-clause-idle
 returns-in-Ok-clause-idle g c = idle_within c.in-Ok.moved c.idle_turns.result c.args.idle.now c.idle_turns.ensures (omega (arith, c.requires.idle, c.if-idle-eq-IDLE_TURNS.false))
@@ -28,4 +28,4 @@ pub returns-in-Err-clause-stopped : goal.returns-in-Err-clause-stopped
 returns-in-Err-clause-stopped g c =
     λ order start first h.
     come_stop order start first c.args.tasks.now c.step_at.new.tasks c.args.turns.now c.next_among-place.new.self c.args.idle.now c.next_among-place.result h c.requires.some (omega (arith, c.requires.idle, c.if-idle-eq-IDLE_TURNS.false))
-    c.next_among-place.ensures.place c.next_among-place.ensures.among c.step_at.ensures.others c.step_at.ensures.count c.step_at.ensures.once
+    (c.next_among-place.ensures.place c.requires.some) (c.next_among-place.ensures.among c.requires.some) c.step_at.ensures.others c.step_at.ensures.count c.step_at.ensures.once
