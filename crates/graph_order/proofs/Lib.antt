@@ -1,2 +1,3 @@
 pub mod Parted
 pub mod Reached
+pub mod Once
