@@ -1,0 +1,5 @@
+pub mod Chains
+pub mod Heads
+pub mod Nexts
+pub mod Once
+pub mod Places

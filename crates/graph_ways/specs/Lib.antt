@@ -1,0 +1,3 @@
+pub mod Once
+pub mod Ways
+pub mod Steps
