@@ -1,0 +1,3 @@
+mod Wiring
+mod Histories
+mod Nets
