@@ -12,11 +12,10 @@ use Rattle.graph_core.specs.declared.graph.Graph.{Graph}
 use Rattle.graph_core.specs.declared.pad.PadLink.{PadLink}
 use Rattle.graph_core.specs.declared.pad.PadPlace.{PadPlace}
 use Rattle.el_set.specs.Asked.{is_filter}
-use Rattle.graph_ways.specs.Ways.{AreWays, EndsAt, GoOver, LeadsTo, StandsAt, WayEnds, first_pad, has, last_on}
-use Rattle.graph_ways.specs.declared.way.End.{End}
+use Rattle.graph_ways.specs.Ways.{AreWays, GoOver, LeadsTo, StandsAt, WayEnds, first_pad, has, last_on}
 use Rattle.graph_ways.specs.declared.way.End.TheVariants.{Queue}
 use Rattle.graph_ways.specs.declared.way.Way.{Way}
-use Rattle.graph_ways.proofs.Places.{way_at}
+use Rattle.graph_ways.proofs.Places.{end_is, way_at}
 
 pub last_more : (e : ℕ) (ds : List ℕ) (d : ℕ) → last_on e (ds ++ d ∷ []) ≡ d
 last_more e [] d = refl
@@ -142,7 +141,7 @@ ways_rise graph ways sound are = ((λ k. rank_in (forward_in graph) (slice_get w
     goes_to s d ends =
         let way = way_at (made_in graph) (links_in graph) ways are s ends.way ends.is in
         let few = shortens (made_in graph) (links_in graph) (forward_in graph) (order_once graph sound) (order_goes graph sound) ends.way.first ends.way.behind.items way.goes in
-        let leads = (subst (λ (x : End). EndsAt (made_in graph) (links_in graph) (last_on ends.way.first ends.way.behind.items) x) ends.ends way.ends).0 in
+        let leads = (end_is (made_in graph) (links_in graph) ways are s (Queue d) ends).0 in
         let less = after_less (last_on ends.way.first ends.way.behind.items) d (forward_in graph) (order_once graph sound) (leads_forward (links_in graph) (forward_in graph) (last_on ends.way.first ends.way.behind.items) d (order_goes graph sound) leads) in
         omega (arith, few, less)
 

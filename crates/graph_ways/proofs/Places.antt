@@ -210,7 +210,7 @@ module _ (made : List Made) (links : List PadLink) (ways : List Way) where
   first_heads : AreWays made links ways → (k e : ℕ) → StandsAt ways k 0 e → has is_head made e ≡ true
   first_heads are k e s = chosen_all (has is_head made) (range_with_len 0 (length made)) k e (head_stands are k e s)
 
-  behind_at : AreWays made links ways → (k i d : ℕ) → StandsAt ways k (suc i) d → (c : ℕ) × StandsAt ways k i c × LeadsTo links c d × (has is_filter made d ≡ true)
+  pub behind_at : AreWays made links ways → (k i d : ℕ) → StandsAt ways k (suc i) d → (c : ℕ) × StandsAt ways k i c × LeadsTo links c d × (has is_filter made d ≡ true)
   behind_at are k i d s =
       let before = behind_one made links s.way.first s.way.behind.items (way_at are k s.way s.is).goes i d s.at in
       (before.0, record { way = s.way; is = s.is; at = before.1 }, before.2, before.3)
@@ -259,8 +259,11 @@ module _ (made : List Made) (links : List PadLink) (ways : List Way) where
       by (inr ends) = record { way = s.way; is = s.is; ends = end_sink made links e d s.way.end ends leads sink }
 
   -- the last element of a way leads to its end
-  last_stands : (k : ℕ) (way : Way) → slice_get ways k ≡ Some way → StandsAt ways k (length way.behind.items) (last_on way.first way.behind.items)
+  pub last_stands : (k : ℕ) (way : Way) → slice_get ways k ≡ Some way → StandsAt ways k (length way.behind.items) (last_on way.first way.behind.items)
   last_stands k way is = record { way = way; is = is; at = last_at way.first way.behind.items }
+
+  pub end_is : AreWays made links ways → (k : ℕ) (end : End) (ended : WayEnds ways k end) → EndsAt made links (last_on ended.way.first ended.way.behind.items) end
+  end_is are k end ended = subst (λ (x : End). EndsAt made links (last_on ended.way.first ended.way.behind.items) x) ended.ends (way_at are k ended.way ended.is).ends
 
   one_end : AreOnce links → AreWays made links ways → (k other d : ℕ) (way also : Way) → slice_get ways k ≡ Some way → slice_get ways other ≡ Some also
       → LeadsTo links (last_on way.first way.behind.items) d → LeadsTo links (last_on also.first also.behind.items) d → k ≡ other
@@ -272,10 +275,8 @@ module _ (made : List Made) (links : List PadLink) (ways : List Way) where
   -- at a queue and at a sink one way ends
   pub one_at_queue : AreOnce links → AreWays made links ways → (k other d : ℕ) → WayEnds ways k (Queue d) → WayEnds ways other (Queue d) → k ≡ other
   one_at_queue once are k other d one two =
-      one_end once are k other d one.way two.way one.is two.is (subst (λ (x : End). EndsAt made links (last_on one.way.first one.way.behind.items) x) one.ends (way_at are k one.way one.is).ends).0
-      (subst (λ (x : End). EndsAt made links (last_on two.way.first two.way.behind.items) x) two.ends (way_at are other two.way two.is).ends).0
+      one_end once are k other d one.way two.way one.is two.is (end_is are k (Queue d) one).0 (end_is are other (Queue d) two).0
 
   pub one_at_sink : AreOnce links → AreWays made links ways → (k other d : ℕ) → WayEnds ways k (Sink d) → WayEnds ways other (Sink d) → k ≡ other
   one_at_sink once are k other d one two =
-      one_end once are k other d one.way two.way one.is two.is (subst (λ (x : End). EndsAt made links (last_on one.way.first one.way.behind.items) x) one.ends (way_at are k one.way one.is).ends).0
-      (subst (λ (x : End). EndsAt made links (last_on two.way.first two.way.behind.items) x) two.ends (way_at are other two.way two.is).ends).0
+      one_end once are k other d one.way two.way one.is two.is (end_is are k (Sink d) one).0 (end_is are other (Sink d) two).0

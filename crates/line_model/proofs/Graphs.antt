@@ -1,5 +1,5 @@
 -- The order of a graph has each element once, and so there is a whole of it.
-use Rattle.std.proofs.Common.{◌≡◌, ◌<◌, ◌≤◌, ◌⊎◌, ℕ, zero, suc, List, [], ◌∷◌, ◌++◌, All, Option, None, Some, length, refl, sym, ap, ◌∙◌, subst, inl, inr, arith}
+use Rattle.std.proofs.Common.{◌≡◌, ◌<◌, ◌≤◌, ◌⊎◌, ℕ, suc, List, [], ◌∷◌, All, Option, None, Some, length, sym, ◌∙◌, subst, inl, inr, arith}
 use Rattle.std.specs.Prelude.{slice_get}
 use Rattle.std.specs.Option.{option_map_or}
 use Rattle.flow_model.specs.Account.{IsMember as IsListed}
@@ -10,8 +10,9 @@ use Rattle.el_set.specs.Asked.{source_pads}
 use Rattle.el_set.specs.declared.settings.Settings.{Settings}
 use Rattle.el_set.specs.declared.settings.Settings.TheVariants.{FileSrc, Identity, CapsFilter, Queue, FileSink, FakeSink}
 use Rattle.graph_core.specs.Elements.{Made}
-use Rattle.graph_core.specs.Graph.{made as made_in, links as links_in, forward as forward_in}
+use Rattle.graph_core.specs.Graph.{IsSound, made as made_in, links as links_in, forward as forward_in}
 use Rattle.graph_core.specs.Links.{HasPads, ways}
+use Rattle.graph_core.specs.declared.graph.Graph.{Graph}
 use Rattle.graph_core.specs.declared.pad.PadLink.{PadLink}
 use Rattle.line_model.specs.LineGraph.{owner_of, IsIn, GoesAlong, GraphToWhole}
 use Rattle.line_model.proofs.Lines.{line_to_whole}
@@ -41,12 +42,12 @@ goes_at [] order g link is = absurd is
 goes_at (l ∷ ls) order g link (inl same) = subst (λ (k : PadLink). StandsBefore k.source.element k.sink.element order) (sym same) g.0
 goes_at (l ∷ ls) order g link (inr is) = goes_at ls order g.1 link is
 
-pads_at_link : (made : List Made) (links : List PadLink) → All (HasPads made) links → (link : PadLink) → IsIn link links → HasPads made link
+pub pads_at_link : (made : List Made) (links : List PadLink) → All (HasPads made) links → (link : PadLink) → IsIn link links → HasPads made link
 pads_at_link made [] all link is = absurd is
 pads_at_link made (l ∷ ls) all link (inl same) = subst (λ (k : PadLink). HasPads made k) (sym same) (all 0 l (omega arith))
 pads_at_link made (l ∷ ls) all link (inr is) = pads_at_link made ls (λ k d w. all (suc k) d (omega (arith, w))) link is
 
-one_source : (s : Settings) → source_pads s ≤ 1
+pub one_source : (s : Settings) → source_pads s ≤ 1
 one_source (FileSrc s) = omega arith
 one_source Identity = omega arith
 one_source (CapsFilter s) = omega arith
@@ -58,28 +59,27 @@ few_pads : (found : Option Made) (pad : ℕ) → pad < option_map_or (λ (m : Ma
 few_pads None pad w = absurd (omega (arith, w))
 few_pads (Some m) pad w = let one = one_source m.settings in omega (arith, w, one)
 
-listed : (e : ℕ) (xs : List ℕ) → IsMember e xs → IsListed e xs
+pub listed : (e : ℕ) (xs : List ℕ) → IsMember e xs → IsListed e xs
 listed e [] m = absurd m
 listed e (x ∷ xs) (inl same) = inl (sym same)
 listed e (x ∷ xs) (inr m) = inr (listed e xs m)
 
-member : (e : ℕ) (xs : List ℕ) → IsListed e xs → IsMember e xs
+pub member : (e : ℕ) (xs : List ℕ) → IsListed e xs → IsMember e xs
 member e [] m = absurd m
 member e (x ∷ xs) (inl same) = inl (sym same)
 member e (x ∷ xs) (inr m) = inr (member e xs m)
 
--- Lists that each element of a sound graph has are the histories of its evaluation.
-pub graph_to_whole : GraphToWhole
-graph_to_whole contents graph h sound has p there =
-    line_to_whole contents (made_in graph) (links_in graph) (forward_in graph) h goes (λ e m. has e (within (length (made_in graph)) (forward_in graph) covers size e (member e (forward_in graph) m))) p
-    (listed (owner_of p) (forward_in graph) (covers (owner_of p) there))
+-- the order of a sound graph has as many elements as the graph, and each of these
+pub order_size : (graph : Graph) → IsSound graph → length (forward_in graph) ≡ length (made_in graph)
+order_size graph sound = sym graph.links.order.forward.ok.0 ∙ sound.order.count
+
+pub order_covers : (graph : Graph) → IsSound graph → Covers (length (made_in graph)) (forward_in graph)
+order_covers graph sound e w = sound.order.forward.whole e (omega (arith, w, sound.order.count))
+
+-- each link of a sound graph comes from a pad of an element that stands earlier in its order
+pub graph_goes : (graph : Graph) → IsSound graph → GoesAlong (links_in graph) [] (forward_in graph)
+graph_goes graph sound = along (links_in graph) [] (forward_in graph) (once_by (length (made_in graph)) [] (forward_in graph) (order_covers graph sound) (order_size graph sound)) comes
   where
-    size : length (forward_in graph) ≡ length (made_in graph)
-    size = sym graph.links.order.forward.ok.0 ∙ sound.order.count
-
-    covers : Covers (length (made_in graph)) (forward_in graph)
-    covers e w = sound.order.forward.whole e (omega (arith, w, sound.order.count))
-
     forward_goes : GoForward (ways (links_in graph)) (forward_in graph)
     forward_goes = subst (λ (ls : List Link). GoForward ls (forward_in graph)) sound.order.ways sound.order.forward.goes
 
@@ -87,5 +87,9 @@ graph_to_whole contents graph h sound has p there =
     comes link is m =
         (few_pads (slice_get (made_in graph) link.source.element) link.source.pad (pads_at_link (made_in graph) (links_in graph) sound.pads link is).0, inr (goes_at (links_in graph) (forward_in graph) forward_goes link is))
 
-    goes : GoesAlong (links_in graph) [] (forward_in graph)
-    goes = along (links_in graph) [] (forward_in graph) (once_by (length (made_in graph)) [] (forward_in graph) covers size) comes
+-- Lists that each element of a sound graph has are the histories of its evaluation.
+pub graph_to_whole : GraphToWhole
+graph_to_whole contents graph h sound has p there =
+    line_to_whole contents (made_in graph) (links_in graph) (forward_in graph) h (graph_goes graph sound)
+    (λ e m. has e (within (length (made_in graph)) (forward_in graph) (order_covers graph sound) (order_size graph sound) e (member e (forward_in graph) m))) p
+    (listed (owner_of p) (forward_in graph) (order_covers graph sound (owner_of p) there))

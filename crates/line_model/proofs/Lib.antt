@@ -1,2 +1,2 @@
-mod Graphs
+pub mod Graphs
 pub mod Lines

@@ -32,11 +32,11 @@ feeds_prefix nothing = nothing
 feeds_prefix (next p) = next (feeds_prefix p)
 
 -- the pad of a number belongs to its element
-owner_at : (place : PadPlace) → place.pad < 64 → owner_of (pad_id place) ≡ place.element
+pub owner_at : (place : PadPlace) → place.pad < 64 → owner_of (pad_id place) ≡ place.element
 owner_at place few = div-mul-add place.element 64 place.pad few
 
 -- what a linked sink pad is linked to is one of the links
-found_in : (links : List PadLink) (sink source : PadPlace) → source_before links sink ≡ Some source → (link : PadLink) × IsIn link links × (link.source ≡ source) × (is_same link.sink sink ≡ true)
+pub found_in : (links : List PadLink) (sink source : PadPlace) → source_before links sink ≡ Some source → (link : PadLink) × IsIn link links × (link.source ≡ source) × (is_same link.sink sink ≡ true)
 found_in [] sink source e = absurd (none_some e)
   where
     none_some : {A : Type 0} {a : A} → None ≡ Some a → ⊥
@@ -55,7 +55,7 @@ found_in (l ∷ links) sink source e = go (is_same l.sink sink) refl e (found_in
 not_true : false ≡ true → ⊥
 not_true e = cc
 
-same_element : (one other : PadPlace) → is_same one other ≡ true → one.element ≡ other.element
+pub same_element : (one other : PadPlace) → is_same one other ≡ true → one.element ≡ other.element
 same_element one other e = go (eqb_tells one.element other.element) e
   where
     go : ((eqb one.element other.element ≡ true) × (one.element ≡ other.element)) ⊎ ((eqb one.element other.element ≡ false) × (one.element ≡ other.element → ⊥))
@@ -64,7 +64,7 @@ same_element one other e = go (eqb_tells one.element other.element) e
     go (inr t) e = absurd (not_true (rw t.0 at e))
 
 -- what an element's first sink pad is given
-given_calls : (h : ℕ → List Item) (source : Option PadPlace) → input_of h (spans_from source) ≡ feeds (before_it h source)
+pub given_calls : (h : ℕ → List Item) (source : Option PadPlace) → input_of h (spans_from source) ≡ feeds (before_it h source)
 given_calls h None = refl
 given_calls h (Some source) = chain_input h (pad_id source)
 
@@ -87,10 +87,10 @@ all_sources links seen e before [] = tt
 all_sources links seen e before (k ∷ ks) = (sources_at links seen e k before, all_sources links seen e before ks)
 
 module _ (contents : ℕ → List ℕ) (made : List Made) (links : List PadLink) (forward : List ℕ) (h : ℕ → List Item) where
-  abbrev plan : Plan
+  abbrev pub plan : Plan
   plan = line_plan contents made links forward (λ (q : ℕ). length (h q))
 
-  goes_forward : (seen es : List ℕ) → GoesAlong links seen es → GoesForward plan seen es
+  pub goes_forward : (seen es : List ℕ) → GoesAlong links seen es → GoesForward plan seen es
   unfolding line_plan
   goes_forward seen [] g = tt
   goes_forward seen (e ∷ es) g = (all_sources links seen e g.0 (range_with_len 0 (sink_count (slice_get made e))), goes_forward (e ∷ seen) es g.1)

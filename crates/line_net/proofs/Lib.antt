@@ -1,3 +1,6 @@
-mod Wiring
-mod Histories
-mod Nets
+pub mod Wiring
+pub mod Histories
+pub mod Nets
+pub mod Counts
+pub mod Puts
+pub mod Sinks

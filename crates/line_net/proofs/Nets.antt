@@ -22,7 +22,7 @@ use Rattle.graph_ways.specs.declared.way.End.{End}
 use Rattle.graph_ways.specs.declared.way.End.TheVariants as ends
 use Rattle.graph_ways.specs.declared.way.Way.{Way}
 use Rattle.graph_ways.proofs.Once.{linked_once}
-use Rattle.graph_ways.proofs.Places.{way_at}
+use Rattle.graph_ways.proofs.Places.{end_is, way_at}
 use Rattle.launch_text.specs.declared.tree.Tree.{Tree}
 use Rattle.lane_core.specs.Room.{Limits}
 use Rattle.stream_task.specs.declared.head.Head.{Head}
@@ -146,7 +146,7 @@ module _ {S K I O : Type 0} (content : S → Option (List ℕ)) (place_in : I �
   fed_by once ways_are are e queue fed (inl (s, ended)) =
       let task = also_there tasks ways s ended.way are.size ended.is in
       let tail = (are.each s ended.way task.0 ended.is task.1).tail in
-      let goes = subst (λ (x : End). EndsAt made links (ways_of.last_on ended.way.first ended.way.behind.items) x) ended.ends (way_at made links ways ways_are s ended.way ended.is).ends in
+      let goes = end_is made links ways ways_are s (ends.Queue e) ended in
       inl (
         s,
         (task.0, task.1, sends_into place_out limits lane e (tail_of task.0) (subst (λ (x : End). TailAlong place_out limits lane x (tail_of task.0)) ended.ends tail)),
@@ -236,7 +236,7 @@ rules_stay made (d ∷ ds) (l ∷ ls) (l' ∷ ls') rules same = (record { elemen
 owed_stays : {S I : Type 0} (content : S → Option (List ℕ)) (made : List Made) (contents : ℕ → List ℕ) (e : ℕ) (owed owed' : List ℕ → List Item) (head : Head S I) → owed' ≡ owed → OwedBy content made contents e owed head → OwedBy content made contents e owed' head
 owed_stays content made contents e owed owed' head same owes = subst (λ (f : List ℕ → List Item). OwedBy content made contents e f head) (sym same) owes
 
-lists_stay : {S K I O : Type 0} (content : S → Option (List ℕ)) (made : List Made) (contents : ℕ → List ℕ) (ways : List Way) (tasks : List (Task S K I O)) (was lists : ℕ → TaskLists) → GoesOn was lists → ListsAlong content made contents ways tasks was → ListsAlong content made contents ways tasks lists
+pub lists_stay : {S K I O : Type 0} (content : S → Option (List ℕ)) (made : List Made) (contents : ℕ → List ℕ) (ways : List Way) (tasks : List (Task S K I O)) (was lists : ℕ → TaskLists) → GoesOn was lists → ListsAlong content made contents ways tasks was → ListsAlong content made contents ways tasks lists
 lists_stay content made contents ways tasks was lists on along = record {
   rules = λ k way is. rules_stay made way.behind.items (was k).stages (lists k).stages (along.rules k way is) (on.rules k);
   owed = λ k way task is at. owed_stays content made contents way.first (was k).head.owed (lists k).head.owed (head_of task) (on.owed k) (along.owed k way task is at);

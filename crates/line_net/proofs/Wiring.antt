@@ -12,13 +12,13 @@ use Rattle.graph_core.specs.declared.graph.Graph.{Graph}
 use Rattle.graph_core.specs.declared.pad.PadLink.{PadLink}
 use Rattle.graph_core.specs.declared.pad.PadPlace.{PadPlace}
 use Rattle.graph_ways.specs.Once.{AreOnce}
-use Rattle.graph_ways.specs.Ways.{AreWays, EndsAt, StandsAt, WayEnds, first_pad, has, is_head, last_on}
+use Rattle.graph_ways.specs.Ways.{AreWays, StandsAt, WayEnds, first_pad, has, is_head, last_on}
 use Rattle.graph_ways.specs.declared.way.End.{End}
 use Rattle.graph_ways.specs.declared.way.End.TheVariants as ends
 use Rattle.graph_ways.specs.declared.way.Way.{Way}
 use Rattle.graph_ways.proofs.Chains.{ways_rise}
 use Rattle.graph_ways.proofs.Once.{linked_once}
-use Rattle.graph_ways.proofs.Places.{alone, begun, one_at_queue, way_at}
+use Rattle.graph_ways.proofs.Places.{alone, begun, end_is, one_at_queue}
 use Rattle.launch_text.specs.declared.tree.Tree.{Tree}
 use Rattle.lane_core.specs.Room.{Limits}
 use Rattle.stream_task.specs.declared.head.Head.{Head}
@@ -81,7 +81,7 @@ takes_at place_in lane made links e (heads.Source source) n along takes = absurd
 takes_at place_in lane made links e (heads.Queue inlets) n along takes = (along.0, along.1, sym along.2 ∙ some_number (place_of place_in inlets) n takes)
 takes_at place_in lane made links e heads.Unlinked n along takes = absurd (cc)
 
-queue_no_source : (found : Option Made) → option_map_or (λ (m : Made). is_queue m.settings) found false ≡ true → option_map_or (λ (m : Made). is_source m.settings) found false ≡ true → ⊥
+pub queue_no_source : (found : Option Made) → option_map_or (λ (m : Made). is_queue m.settings) found false ≡ true → option_map_or (λ (m : Made). is_source m.settings) found false ≡ true → ⊥
 queue_no_source None queue source = absurd (cc)
 queue_no_source (Some m) queue source = go m.settings queue source
   where
@@ -137,8 +137,7 @@ module _ {S K I O : Type 0} (place_in : I → ℕ) (place_out : O → ℕ) (limi
   -- something is linked to a queue at which a way ends
   pub end_fed : AreOnce links → AreWays made links ways → (s d : ℕ) → WayEnds ways s (ends.Queue d) → (has is_queue made d ≡ true) × IsFed links d
   end_fed once ways_are s d ended =
-      let way = way_at made links ways ways_are s ended.way ended.is in
-      let goes = subst (λ (x : End). EndsAt made links (last_on ended.way.first ended.way.behind.items) x) ended.ends way.ends in
+      let goes = end_is made links ways ways_are s (ends.Queue d) ended in
       (goes.1, some_fed (source_before links (first_pad d)) (first_pad (last_on ended.way.first ended.way.behind.items)) (once.there (first_pad (last_on ended.way.first ended.way.behind.items)) (first_pad d) goes.0))
 
   -- the task of the way that begins with a queue at which another ends takes from its lane

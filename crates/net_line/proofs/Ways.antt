@@ -37,7 +37,7 @@ use Rattle.task_net.specs.Net.{NetCrossed, IsWired, Sends}
 use Rattle.line_model.specs.LineGraph.{pad_id, owner_of, sink_at, before_it, Took, WithPads, ElementHas}
 use Rattle.net_line.specs.Ways.{out_at, GoAlong, IsCrossed, AreCrossed, last_on, IsSourceOf, IsHeadOf, IsPlaced, IsNetOf}
 
-plain_begins : {xs ys : List Item} → IsPrefix xs ys → IsPlain ys → IsPlain xs
+pub plain_begins : {xs ys : List Item} → IsPrefix xs ys → IsPlain ys → IsPlain xs
 plain_begins nothing h = tt
 plain_begins (next p) h = (h.0, (λ eos. none_of p (h.1 eos)), plain_begins p h.2)
   where
@@ -138,7 +138,7 @@ plain_blocks : (size start : ℕ) (content : List ℕ) (ks : List ℕ) → IsPla
 plain_blocks size start content [] = (refl, λ e. refl, tt)
 plain_blocks size start content (k ∷ ks) = (refl, λ e. cc, plain_blocks size start content ks)
 
-plain_list : (s : Settings) (id : ℕ) (content : List ℕ) → IsPlain (list_of s id content)
+pub plain_list : (s : Settings) (id : ℕ) (content : List ℕ) → IsPlain (list_of s id content)
 plain_list (FileSrc s) id content = (refl, λ e. cc, (refl, λ e. cc, plain_blocks s.blocksize 0 content (range_with_len 0 (block_count s.blocksize 0 content - 0))))
 plain_list Identity id content = tt
 plain_list (CapsFilter s) id content = tt

@@ -42,13 +42,17 @@ module _ {S K I O : Type 0} (content : S → Option (List ℕ)) (bytes : K → O
   fault_crossed task l OutOfMemory h = (h.0, h.1, h.2)
 
 module _ {S K I O : Type 0} (content : S → Option (List ℕ)) (bytes : K → Option (List ℕ)) (received : I → List Item → Type 0) (sent : O → List Item → Type 0) (place_in : I → ℕ) (place_out : O → ℕ) (tasks : List (Task S K I O)) (was : ℕ → TaskLists) (tells : Option (List Lane)) where
-  pub ended_crossed : (table : List Lane) → tells ≡ Some table → NetEnded content bytes received sent place_in place_out tasks was tells → NetCrossed content received place_in place_out tasks was
-  ended_crossed table told ended = record {
-    lists = ended.lists;
-    goes_on = ended.goes_on;
-    crossed = λ k t at. task_crossed content bytes received sent t (ended.lists k) (ended.net.stands k t at);
-    flows = net_flows content bytes received sent place_in place_out tasks ended.lists tells table told ended.net;
-  }
+  pub ended_crossed : (table : List Lane) → tells ≡ Some table → (ended : NetEnded content bytes received sent place_in place_out tasks was tells)
+      → (crossed : NetCrossed content received place_in place_out tasks was) × (crossed.lists ≡ ended.lists)
+  ended_crossed table told ended = (
+    record {
+      lists = ended.lists;
+      goes_on = ended.goes_on;
+      crossed = λ k t at. task_crossed content bytes received sent t (ended.lists k) (ended.net.stands k t at);
+      flows = net_flows content bytes received sent place_in place_out tasks ended.lists tells table told ended.net;
+    },
+    refl,
+  )
 
   pub faulted_crossed : (place : ℕ) (fault : TaskFault) (t : Task S K I O) → slice_get tasks place ≡ Some t → NetFaulted content bytes received sent place_in place_out tasks was tells place fault
       → NetCrossed content received place_in place_out tasks was

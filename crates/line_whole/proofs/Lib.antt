@@ -1,0 +1,3 @@
+mod Evals
+mod Lines
+mod Ended
