@@ -207,7 +207,7 @@ module _ (made : List Made) (links : List PadLink) (ways : List Way) where
   head_stands : AreWays made links ways → (k e : ℕ) → StandsAt ways k 0 e → slice_get (heads_in made) k ≡ Some e
   head_stands are k e s = head_at are k s.way s.is ∙ s.at
 
-  first_heads : AreWays made links ways → (k e : ℕ) → StandsAt ways k 0 e → has is_head made e ≡ true
+  pub first_heads : AreWays made links ways → (k e : ℕ) → StandsAt ways k 0 e → has is_head made e ≡ true
   first_heads are k e s = chosen_all (has is_head made) (range_with_len 0 (length made)) k e (head_stands are k e s)
 
   pub behind_at : AreWays made links ways → (k i d : ℕ) → StandsAt ways k (suc i) d → (c : ℕ) × StandsAt ways k i c × LeadsTo links c d × (has is_filter made d ≡ true)

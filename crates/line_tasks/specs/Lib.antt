@@ -1,0 +1,4 @@
+pub mod Lanes
+pub mod Parts
+pub mod Making
+pub mod Plan
