@@ -53,15 +53,15 @@ head_no_sink (QueueSettings s) head sink = absurd (cc)
 head_no_sink (FileSink s) head sink = absurd (cc)
 head_no_sink FakeSink head sink = absurd (cc)
 
-found_no_sink : (found : Option Made) → option_map_or (λ (m : Made). is_head m.settings) found false ≡ true → option_map_or (λ (m : Made). is_sink m.settings) found false ≡ true → ⊥
+pub found_no_sink : (found : Option Made) → option_map_or (λ (m : Made). is_head m.settings) found false ≡ true → option_map_or (λ (m : Made). is_sink m.settings) found false ≡ true → ⊥
 found_no_sink None head sink = absurd (cc)
 found_no_sink (Some m) head sink = head_no_sink m.settings head sink
 
-there : (asked : Settings → Bool) (found : Option Made) → option_map_or (λ (m : Made). asked m.settings) found false ≡ true → (m : Made) × (found ≡ Some m) × (asked m.settings ≡ true)
+pub there : (asked : Settings → Bool) (found : Option Made) → option_map_or (λ (m : Made). asked m.settings) found false ≡ true → (m : Made) × (found ≡ Some m) × (asked m.settings ≡ true)
 there asked None h = absurd (cc)
 there asked (Some m) h = (m, refl, h)
 
-asked_there : (asked : Settings → Bool) (found : Option Made) (m : Made) → found ≡ Some m → asked m.settings ≡ true → option_map_or (λ (one : Made). asked one.settings) found false ≡ true
+pub asked_there : (asked : Settings → Bool) (found : Option Made) (m : Made) → found ≡ Some m → asked m.settings ≡ true → option_map_or (λ (one : Made). asked one.settings) found false ≡ true
 asked_there asked found m is h = ap (λ (o : Option Made). option_map_or (λ (one : Made). asked one.settings) o false) is ∙ h
 
 -- a head is a source or a queue
@@ -74,7 +74,7 @@ source_or_queue (FileSink s) h = absurd (cc)
 source_or_queue FakeSink h = absurd (cc)
 
 -- what is made a source is one, and a source with its file is made
-made_source : {S : Type 0} (s : Settings) (file : Option S) → makes_source s file ≡ true → is_source s ≡ true
+pub made_source : {S : Type 0} (s : Settings) (file : Option S) → makes_source s file ≡ true → is_source s ≡ true
 made_source (FileSrc s) file h = refl
 made_source Identity file h = absurd (cc)
 made_source (CapsFilter s) file h = absurd (cc)
@@ -164,21 +164,21 @@ exit_sink place limits count sent made links (ends_of.Sink c) (exits.Sink e) d i
 module _ {S K I O : Type 0} (content : S → Option (List ℕ)) (bytes : K → Option (List ℕ)) (received : I → List Item → Type 0) (sent : O → List Item → Type 0) (place_in : I → ℕ) (place_out : O → ℕ) (limits : O → Limits) (count : O → ℕ)
     (made : List Made) (links : List PadLink) (ways : List Way) (parts : List (Part I O)) (table : List Lane) (parts_are : AreParts place_in received place_out limits count sent made links ways parts table) where
   -- the way of a part
-  way_of : (j : ℕ) (part : Part I O) → slice_get parts j ≡ Some part → (way : Way) × (slice_get ways j ≡ Some way) × IsPart place_in received place_out limits count sent made links way part
+  pub way_of : (j : ℕ) (part : Part I O) → slice_get parts j ≡ Some part → (way : Way) × (slice_get ways j ≡ Some way) × IsPart place_in received place_out limits count sent made links way part
   way_of j part at = let way = also_there ways parts j part (sym parts_are.size) at in (way.0, way.1, parts_are.each j way.0 part way.1 at)
 
-  begins : (k : ℕ) (way : Way) → slice_get ways k ≡ Some way → StandsAt ways k 0 way.first
+  pub begins : (k : ℕ) (way : Way) → slice_get ways k ≡ Some way → StandsAt ways k 0 way.first
   begins k way is = record { way = way; is = is; at = refl }
 
   module _ (once : AreOnce links) (ways_are : AreWays made links ways) where
-    head_there : (k : ℕ) (way : Way) → slice_get ways k ≡ Some way → has is_head made way.first ≡ true
+    pub head_there : (k : ℕ) (way : Way) → slice_get ways k ≡ Some way → has is_head made way.first ≡ true
     head_there k way is = first_heads made links ways ways_are k way.first (begins k way is)
 
-    sink_there : (k : ℕ) (way : Way) (d : ℕ) → slice_get ways k ≡ Some way → way.end ≡ ends_of.Sink d → has is_sink made d ≡ true
+    pub sink_there : (k : ℕ) (way : Way) (d : ℕ) → slice_get ways k ≡ Some way → way.end ≡ ends_of.Sink d → has is_sink made d ≡ true
     sink_there k way d is end = (end_is made links ways ways_are k (ends_of.Sink d) (record { way = way; is = is; ends = end })).1
 
     -- a first element is taken by the part of its way alone
-    leaves_first : (k : ℕ) (way : Way) → slice_get ways k ≡ Some way → (j : ℕ) (other : Part I O) → j < k → slice_get parts j ≡ Some other → Leaves other way.first
+    pub leaves_first : (k : ℕ) (way : Way) → slice_get ways k ≡ Some way → (j : ℕ) (other : Part I O) → j < k → slice_get parts j ≡ Some other → Leaves other way.first
     leaves_first k way is j other below at = record { first = first; sink = sink }
       where
         own : (w : Way) × (slice_get ways j ≡ Some w) × IsPart place_in received place_out limits count sent made links w other
@@ -195,7 +195,7 @@ module _ {S K I O : Type 0} (content : S → Option (List ℕ)) (bytes : K → O
             found_no_sink (slice_get made way.first) (head_there k way is) (subst (λ (n : ℕ). has is_sink made n ≡ true) same (sink_there j own.0 d own.1 ends))
 
     -- and so is a sink
-    leaves_sink : (k : ℕ) (way : Way) (d : ℕ) → slice_get ways k ≡ Some way → way.end ≡ ends_of.Sink d → (j : ℕ) (other : Part I O) → j < k → slice_get parts j ≡ Some other → Leaves other d
+    pub leaves_sink : (k : ℕ) (way : Way) (d : ℕ) → slice_get ways k ≡ Some way → way.end ≡ ends_of.Sink d → (j : ℕ) (other : Part I O) → j < k → slice_get parts j ≡ Some other → Leaves other d
     leaves_sink k way d is end j other below at = record { first = first; sink = sink }
       where
         own : (w : Way) × (slice_get ways j ≡ Some w) × IsPart place_in received place_out limits count sent made links w other
@@ -249,7 +249,7 @@ module _ {S K I O : Type 0} (content : S → Option (List ℕ)) (bytes : K → O
           tail : TailAlong place_out limits (lane_place made links) way.end (tail_of task)
           tail = tail_along bytes place_out limits count sent made links way.end part.0.exit (λ d. sink_end (end_at (behind_head made part.0.first part.0.inlet one.0) d)) (tail_of task) sink_file own.exit_at one.1.tail
 
-      start_along : AreAlong place_in place_out limits (lane_place made links) made links ways tasks
+      pub start_along : AreAlong place_in place_out limits (lane_place made links) made links ways tasks
       start_along = record {
         size = made_size content bytes received sent place_in made parts ends tasks left are ∙ parts_are.size;
         each = along_one;

@@ -85,6 +85,23 @@ lane_has (Some p) (Some m) h = (go m.settings h, refl)
     go (FileSink s) q = absurd (cc)
     go FakeSink q = absurd (cc)
 
+-- such a queue's lane has its room
+room_of_queue : (before : Option PadPlace) (found : Option Made) → option_map_or (λ (m : Made). is_queue m.settings) found false ≡ true → IsSome before → (room : ℕ) × ((if is_some before then option_map_or (λ (m : Made). room_by m.settings) found None else None) ≡ Some room)
+room_of_queue None found queue fed = absurd (cc)
+room_of_queue (Some p) None queue fed = absurd (cc)
+room_of_queue (Some p) (Some m) queue fed = go m.settings queue
+  where
+    go : (s : Settings) → is_queue s ≡ true → (room : ℕ) × (room_by s ≡ Some room)
+    go (FileSrc s) q = absurd (cc)
+    go Identity q = absurd (cc)
+    go (CapsFilter s) q = absurd (cc)
+    go (Queue s) q = (room_of s, refl)
+    go (FileSink s) q = absurd (cc)
+    go FakeSink q = absurd (cc)
+
+pub lane_of_queue : (made : List Made) (links : List PadLink) (e : ℕ) → has is_queue made e ≡ true → IsFed links e → (room : ℕ) × (lane_room made links e ≡ Some room)
+lane_of_queue made links e queue fed = room_of_queue (source_before links (first_pad e)) (slice_get made e) queue fed
+
 pub queue_with_lane : (made : List Made) (links : List PadLink) (e : ℕ) → has_lane made links e ≡ true → (has is_queue made e ≡ true) × IsFed links e
 queue_with_lane made links e h = lane_has (source_before links (first_pad e)) (slice_get made e) h
 
