@@ -37,7 +37,7 @@ fn close_each<F: Files>(files: &mut F, mut ends: Vec<Option<End<F::Src, F::Snk>>
 /// Each was opened by these files. A location of sinks is left with the bytes of the first of them; every other
 /// output stays, and so does every input. The failures of calls of the ends are added to those of the files and of
 /// their locations.
-pub(crate) fn close_all<F: Files>(files: &mut F, ends: Vec<Option<End<F::Src, F::Snk>>>)
+pub fn close_all<F: Files>(files: &mut F, ends: Vec<Option<End<F::Src, F::Snk>>>)
     requires opened_here { AllOpened (F.opened files.old) (known_ends F.Src.location F.Src.content F.Src.faults F.Snk.location F.Snk.bytes F.Snk.faults ends.items) }
     ensures closes { Closes (present (known_ends F.Src.location F.Src.content F.Src.faults F.Snk.location F.Snk.bytes F.Snk.faults ends.items)) (seen (F.input files.old) (F.output files.old) (F.faults_of files.old) (F.refused_of files.old) (F.faults files.old) (F.ends files.old)) (seen (F.input files.new) (F.output files.new) (F.faults_of files.new) (F.refused_of files.new) (F.faults files.new) (F.ends files.new)) }
     ensures alone { (l : List ℕ) (end : Known) → Contains (present (known_ends F.Src.location F.Src.content F.Src.faults F.Snk.location F.Snk.bytes F.Snk.faults ends.items)) end → IsTrue (is_sink_at l end) → count_by (is_sink_at l) (present (known_ends F.Src.location F.Src.content F.Src.faults F.Snk.location F.Snk.bytes F.Snk.faults ends.items)) ≡ 1 → F.output files.new l ≡ end.bytes }

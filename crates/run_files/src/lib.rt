@@ -5,6 +5,7 @@ pub mod closing;
 pub mod end;
 pub mod opening;
 
+pub use closing::close_all;
 pub use end::{End, Opening, Unopened};
 pub use opening::open_all;
 

@@ -5,7 +5,7 @@ pub mod laws;
 pub mod net;
 pub mod put_closed;
 
-pub use net::Stopped;
+pub use net::{Stopped, run_tasks};
 
 #[cfg(test)]
 mod tests;

@@ -145,7 +145,7 @@ fn advance<S: Source, K: Sink, I: Inlet<Out = O>, O: Outlet<Lanes = I::Lanes>>(
 /// Runs tasks by turns, until nothing is left to do or one meets a fault. Each turn steps one task: the next number
 /// of the order tells which, by its remainder. Behind 4,096 turns in a row that moved nothing each task is tried once;
 /// where none of them moves either, the run has ended. Without tasks no turn is made.
-pub(crate) fn run_tasks<S: Source, K: Sink, I: Inlet<Out = O>, O: Outlet<Lanes = I::Lanes>>(
+pub fn run_tasks<S: Source, K: Sink, I: Inlet<Out = O>, O: Outlet<Lanes = I::Lanes>>(
     alloc: Global,
     tasks: &mut [Task<S, K, I, O>],
     lanes: &mut I::Lanes,
