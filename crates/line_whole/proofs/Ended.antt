@@ -56,7 +56,7 @@ use Rattle.line_whole.specs.Whole.{PutWhole, WholeAt, gives, is_source_pad}
 use Rattle.line_whole.proofs.Lines.{line_is_whole, source_is}
 
 -- the kinds of elements that give
-kind_of : (s : Settings) → gives s ≡ true → (is_source s ≡ true) ⊎ ((is_queue s ≡ true) ⊎ (is_filter s ≡ true))
+pub kind_of : (s : Settings) → gives s ≡ true → (is_source s ≡ true) ⊎ ((is_queue s ≡ true) ⊎ (is_filter s ≡ true))
 kind_of (FileSrc s) h = inl refl
 kind_of Identity h = inr (inr refl)
 kind_of (CapsFilter s) h = inr (inr refl)
@@ -64,7 +64,7 @@ kind_of (QueueSettings s) h = inr (inl refl)
 kind_of (FileSink s) h = absurd (cc)
 kind_of FakeSink h = absurd (cc)
 
-source_pads_none : (s : Settings) → is_source s ≡ true → (sink_pads s ≡ 0) × (is_head s ≡ true) × (is_queue s ≡ false)
+pub source_pads_none : (s : Settings) → is_source s ≡ true → (sink_pads s ≡ 0) × (is_head s ≡ true) × (is_queue s ≡ false)
 source_pads_none (FileSrc s) h = (refl, refl, refl)
 source_pads_none Identity h = absurd (cc)
 source_pads_none (CapsFilter s) h = absurd (cc)
@@ -72,7 +72,7 @@ source_pads_none (QueueSettings s) h = absurd (cc)
 source_pads_none (FileSink s) h = absurd (cc)
 source_pads_none FakeSink h = absurd (cc)
 
-queue_pads : (s : Settings) → is_queue s ≡ true → (sink_pads s ≡ 1) × (is_head s ≡ true) × (is_source s ≡ false) × (response_of s ≡ passes)
+pub queue_pads : (s : Settings) → is_queue s ≡ true → (sink_pads s ≡ 1) × (is_head s ≡ true) × (is_source s ≡ false) × (response_of s ≡ passes)
 queue_pads (FileSrc s) h = absurd (cc)
 queue_pads Identity h = absurd (cc)
 queue_pads (CapsFilter s) h = absurd (cc)
@@ -80,7 +80,7 @@ queue_pads (QueueSettings s) h = (refl, refl, refl, refl)
 queue_pads (FileSink s) h = absurd (cc)
 queue_pads FakeSink h = absurd (cc)
 
-filter_pads : (s : Settings) → is_filter s ≡ true → (sink_pads s ≡ 1) × (is_source s ≡ false) × (is_queue s ≡ false)
+pub filter_pads : (s : Settings) → is_filter s ≡ true → (sink_pads s ≡ 1) × (is_source s ≡ false) × (is_queue s ≡ false)
 filter_pads (FileSrc s) h = absurd (cc)
 filter_pads Identity h = (refl, refl, refl)
 filter_pads (CapsFilter s) h = (refl, refl, refl)
@@ -89,10 +89,10 @@ filter_pads (FileSink s) h = absurd (cc)
 filter_pads FakeSink h = absurd (cc)
 
 -- what is asked of an element that is there, both ways
-asked_there : (asked : Settings → Bool) (found : Option Made) (m : Made) → found ≡ Some m → option_map_or (λ (one : Made). asked one.settings) found false ≡ asked m.settings
+pub asked_there : (asked : Settings → Bool) (found : Option Made) (m : Made) → found ≡ Some m → option_map_or (λ (one : Made). asked one.settings) found false ≡ asked m.settings
 asked_there asked found m is = ap (λ (o : Option Made). option_map_or (λ (one : Made). asked one.settings) o false) is
 
-both_ways : {b : Bool} → b ≡ true → b ≡ false → ⊥
+pub both_ways : {b : Bool} → b ≡ true → b ≡ false → ⊥
 both_ways t f = absurd (cc)
 
 -- a source that has given EOS has given its whole list
@@ -107,11 +107,11 @@ source_whole : {S : Type 0} (content : S → Option (List ℕ)) (source : Source
 source_whole content (File file) owed given c gave told eos = all_given file.phase given (owed c) file.id file.blocksize file.place c (gave.eos ∙ eos) (gave.told c told)
 source_whole content (Ramp ramp) owed given c gave told eos = absurd (cc)
 
-put_first : (given : List Item) (ls : List StageList) → put_at given ls 0 ≡ given
+pub put_first : (given : List Item) (ls : List StageList) → put_at given ls 0 ≡ given
 put_first given [] = refl
 put_first given (l ∷ ls) = refl
 
-put_next : (given : List Item) (ls : List StageList) (i : ℕ) (l : StageList) → slice_get ls i ≡ Some l → put_at given ls (suc i) ≡ owes l
+pub put_next : (given : List Item) (ls : List StageList) (i : ℕ) (l : StageList) → slice_get ls i ≡ Some l → put_at given ls (suc i) ≡ owes l
 put_next given [] i l at = absurd (cc)
 put_next given (x ∷ ls) zero l at = put_first (owes x) ls ∙ ap owes (same at)
   where
@@ -119,7 +119,7 @@ put_next given (x ∷ ls) zero l at = put_first (owes x) ls ∙ ap owes (same at
     same h = cc
 put_next given (x ∷ ls) (suc i) l at = put_next (owes x) ls i l at
 
-crossed_here : (ls : List StageList) (done : List Item) (i : ℕ) (l : StageList) → slice_get ls i ≡ Some l → crossed_at ls done i ≡ l.crossed
+pub crossed_here : (ls : List StageList) (done : List Item) (i : ℕ) (l : StageList) → slice_get ls i ≡ Some l → crossed_at ls done i ≡ l.crossed
 crossed_here [] done i l at = absurd (cc)
 crossed_here (x ∷ ls) done zero l at = ap (λ (y : StageList). y.crossed) (same at)
   where
@@ -128,7 +128,7 @@ crossed_here (x ∷ ls) done zero l at = ap (λ (y : StageList). y.crossed) (sam
 crossed_here (x ∷ ls) done (suc i) l at = crossed_here ls done i l at
 
 -- the list of the element at a place behind the first of a way, with its rule
-ruled_at : (made : List Made) (ds : List ℕ) (ls : List StageList) → RulesAlong made ds ls → (i d : ℕ) → slice_get ds i ≡ Some d → (l : StageList) × (slice_get ls i ≡ Some l) × (m : Made) × (slice_get made d ≡ Some m) × (l.rule ≡ response_of m.settings)
+pub ruled_at : (made : List Made) (ds : List ℕ) (ls : List StageList) → RulesAlong made ds ls → (i d : ℕ) → slice_get ds i ≡ Some d → (l : StageList) × (slice_get ls i ≡ Some l) × (m : Made) × (slice_get made d ≡ Some m) × (l.rule ≡ response_of m.settings)
 ruled_at made [] ls rules i d at = absurd (cc)
 ruled_at made (x ∷ ds) [] rules i d at = absurd rules
 ruled_at made (x ∷ ds) (l ∷ ls) rules zero d at = (l, refl, rules.0.element, subst (λ (n : ℕ). slice_get made n ≡ Some rules.0.element) (some_number x d at) rules.0.at, rules.0.rule)

@@ -1,3 +1,3 @@
 mod Evals
-mod Lines
-mod Ended
+pub mod Lines
+pub mod Ended

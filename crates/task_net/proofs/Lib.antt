@@ -1,7 +1,7 @@
 mod Places
 mod Closed
 mod Closing
-mod Crossings
+pub mod Crossings
 mod Empty
 mod Nets
 mod Overs

@@ -1,0 +1,4 @@
+pub mod Told
+pub mod Owed
+pub mod Ended
+pub mod World
