@@ -15,14 +15,14 @@ use Rattle.task_net.specs.Net.{NetEnded, NetFaulted, NetCrossed}
 use Rattle.task_net.proofs.Places.{some_same}
 use Rattle.task_net.proofs.Nets.{goes_on_trans, with_lists, lists_same, lists_here, lists_there, net_flows}
 
-pub stages_keep : (ss : List Stage) (put : List Item) (ls : List StageList) → StagesStand ss put ls → StagesKeep ss put ls
+stages_keep : (ss : List Stage) (put : List Item) (ls : List StageList) → StagesStand ss put ls → StagesKeep ss put ls
 stages_keep [] put [] s = tt
 stages_keep [] put (l ∷ ls) s = absurd s
 stages_keep (t ∷ ss) put [] s = absurd s
 stages_keep (t ∷ ss) put (l ∷ ls) s = (record { begins = prefix_by l.crossed t.waiting.items (sym s.0.held); counted = s.0.counted; fed = s.0.fed }, stages_keep ss (owes l) ls s.1)
 
 module _ {S K I O : Type 0} (content : S → Option (List ℕ)) (bytes : K → Option (List ℕ)) (received : I → List Item → Type 0) (sent : O → List Item → Type 0) where
-  pub task_crossed : (task : Task S K I O) (l : TaskLists) → Stands content bytes received sent task l → HasCrossed content received task l
+  task_crossed : (task : Task S K I O) (l : TaskLists) → Stands content bytes received sent task l → HasCrossed content received task l
   task_crossed task l s = record {
     gave = s.gave;
     stages = stages_keep task.stages.items l.head.given l.stages s.stages;

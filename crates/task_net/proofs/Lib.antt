@@ -1,7 +1,7 @@
 mod Places
 mod Closed
 mod Closing
-pub mod Crossings
+mod Crossings
 mod Empty
 mod Nets
 mod Overs
