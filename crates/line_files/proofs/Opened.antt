@@ -19,7 +19,7 @@ use Rattle.line_start.specs.Start.{AreTold, HasFiles, writes}
 use Rattle.line_files.specs.Files.{LineOpens, WereTold, made_opening, opening_of}
 
 -- what stands at a place is there
-at_place : {A : Type 0} (xs : List (Option A)) (e : ℕ) (x : A) → slice_get xs e ≡ Some (Some x) → slice_index_or xs e None ≡ Some x
+pub at_place : {A : Type 0} (xs : List (Option A)) (e : ℕ) (x : A) → slice_get xs e ≡ Some (Some x) → slice_index_or xs e None ≡ Some x
 at_place [] e x at = absurd (cc)
 at_place (y ∷ ys) zero x at = same at
   where
@@ -27,7 +27,7 @@ at_place (y ∷ ys) zero x at = same at
     same h = cc
 at_place (y ∷ ys) (suc e) x at = at_place ys e x at
 
-place_of : {A : Type 0} (xs : List (Option A)) (e : ℕ) (x : A) → slice_index_or xs e None ≡ Some x → slice_get xs e ≡ Some (Some x)
+pub place_of : {A : Type 0} (xs : List (Option A)) (e : ℕ) (x : A) → slice_index_or xs e None ≡ Some x → slice_get xs e ≡ Some (Some x)
 place_of [] e x at = absurd (cc)
 place_of (y ∷ ys) zero x at = ap Some at
 place_of (y ∷ ys) (suc e) x at = place_of ys e x at
@@ -47,7 +47,7 @@ module _ {S K : Type 0} (source_location content : S → Option (List ℕ)) (sou
 
   module _ (made : List Made) (ends : List (Option (End S K))) (before after : Seen) (opens : LineOpens source_location content source_faults sink_location bytes sink_faults made ends before after) where
     -- what is known of the end of an element is what its opening gives
-    known_at : (e : ℕ) → option_map (option_map (known_end source_location content source_faults sink_location bytes sink_faults)) (slice_get ends e) ≡ option_map (λ (m : Made). option_map (fresh_end before) (made_opening m)) (slice_get made e)
+    pub known_at : (e : ℕ) → option_map (option_map (known_end source_location content source_faults sink_location bytes sink_faults)) (slice_get ends e) ≡ option_map (λ (m : Made). option_map (fresh_end before) (made_opening m)) (slice_get made e)
     known_at e =
         sym (slice_get-map (option_map (known_end source_location content source_faults sink_location bytes sink_faults)) ends e) ∙ ap (λ (ks : List (Option Known)). slice_get ks e) opens.made
         ∙ slice_get-map (option_map (fresh_end before)) (map made_opening made) e ∙ ap (option_map (option_map (fresh_end before))) (slice_get-map made_opening made e) ∙ twice (slice_get made e)
@@ -56,7 +56,7 @@ module _ {S K : Type 0} (source_location content : S → Option (List ℕ)) (sou
         twice None = refl
         twice (Some m) = refl
 
-    opened_at : (e : ℕ) (m : Made) (opening : Opening) → slice_get made e ≡ Some m → opening_of m.settings ≡ Some opening → (end : End S K) × (end_at ends e ≡ Some end) × (known_end source_location content source_faults sink_location bytes sink_faults end ≡ fresh_end before opening)
+    pub opened_at : (e : ℕ) (m : Made) (opening : Opening) → slice_get made e ≡ Some m → opening_of m.settings ≡ Some opening → (end : End S K) × (end_at ends e ≡ Some end) × (known_end source_location content source_faults sink_location bytes sink_faults end ≡ fresh_end before opening)
     opened_at e m opening at opening_is =
         let found = known_found (slice_get ends e) (fresh_end before opening) (known_at e ∙ ap (option_map (λ (one : Made). option_map (fresh_end before) (made_opening one))) at ∙ ap (λ o. Some (option_map (fresh_end before) o)) opening_is) in
         (found.0, at_place ends e found.0 found.1, found.2)

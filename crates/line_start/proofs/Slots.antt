@@ -48,7 +48,7 @@ pub record Leaves {I O : Type 0} (part : Part I O) (e : ℕ) : Type 0 where
   pub sink : (d : ℕ) → part.exit ≡ exits.Sink d → d ≡ e → ⊥
 
 module _ {S K I O : Type 0} (content : S → Option (List ℕ)) (bytes : K → Option (List ℕ)) (received : I → List Item → Type 0) (sent : O → List Item → Type 0) (place : I → ℕ) (made : List Made) where
-  part_other : (part : Part I O) (e : ℕ) (ends : List (Option (End S K))) → Leaves part e → end_at (behind_part made part ends) e ≡ end_at ends e
+  pub part_other : (part : Part I O) (e : ℕ) (ends : List (Option (End S K))) → Leaves part e → end_at (behind_part made part ends) e ≡ end_at ends e
   part_other part e ends leaves = tail_other made part.exit e (behind_head made part.first part.inlet ends) leaves.sink ∙ head_other made part.first e part.inlet ends leaves.first
 
   -- the ends with which the task of a place is made: those that no part before it takes stand as at first

@@ -8,10 +8,8 @@ use Rattle.gst_outside.specs.Causes.{Rose}
 use Rattle.flow_model.specs.Eval.{eval}
 use Rattle.flow_model.specs.Item.{Item}
 use Rattle.graph_core.specs.Elements.{Made}
-use Rattle.graph_core.specs.Ends.{pad_at, pad_name}
 use Rattle.graph_core.specs.Graph.{made as made_in, links as links_in}
 use Rattle.graph_core.specs.declared.graph.Graph.{Graph}
-use Rattle.graph_core.specs.declared.pad.Direction.TheVariants.{Source}
 use Rattle.line_files.specs.Files.{WereTold, opening_of}
 use Rattle.line_model.specs.LineGraph.{graph_plan, owner_of}
 use Rattle.run_files.specs.Seen.{Seen}
@@ -19,7 +17,7 @@ use Rattle.run_files.specs.declared.end.Opening.TheVariants.{Read, Write}
 use Rattle.run_report.specs.declared.report.Fault.TheVariants as faults
 use Rattle.run_report.specs.declared.report.Report.{Report}
 use Rattle.line_world.specs.Owed.{AreOver, AreWhole, AreWritten, IsPartWritten, IsWritten, Refuses, WantsLink, went_from}
-use Rattle.line_world.specs.Told.{element_fault, element_status, pad_entries, sink_entries}
+use Rattle.line_world.specs.Told.{element_fault, element_status, pad_entries, sink_entries, source_pad}
 use Rattle.line_world.specs.declared.ended.WorldEnd.{WorldEnd}
 
 -- the most items that cross a pad
@@ -95,7 +93,7 @@ pub record EndsUnlinked (graph : Graph) (before : Seen) (Holds : (ℕ → List �
   pub status : end.status ≡ 11
   pub e : ℕ
   pub place : ℕ
-  pub fault : end.report.fault ≡ faults.NotLinked (pad_name (made_in graph) (pad_at Source e 0)) place
+  pub fault : end.report.fault ≡ faults.NotLinked (source_pad (made_in graph) e) place
   pub tells : TellsRun graph before Holds end.report
       (λ contents h bytes. AreWritten (made_in graph) (links_in graph) h bytes × (length (went_from h e) ≡ place) × WantsLink contents (made_in graph) (links_in graph) h e)
 

@@ -2,3 +2,8 @@ pub mod Told
 pub mod Owed
 pub mod Ended
 pub mod World
+pub mod Stops
+pub mod Back
+pub mod Start
+pub mod Ran
+pub mod Prepared

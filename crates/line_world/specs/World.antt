@@ -1,5 +1,5 @@
 -- How a run of a launch line ends.
-use Rattle.std.specs.Prelude.{◌≡◌, ◌⊎◌, ℕ, List, [], Some, slice_get}
+use Rattle.std.specs.Prelude.{◌≡◌, ◌⊎◌, ℕ, List, [], Option, Some, slice_get}
 use Rattle.std.specs.Option.{ForSome}
 use Rattle.gst_outside.specs.Causes.{Rose}
 use Rattle.graph_core.specs.Elements.{Made}
@@ -7,7 +7,7 @@ use Rattle.graph_core.specs.Graph.{IsGraph, made as made_in}
 use Rattle.graph_core.specs.declared.graph.Graph.{Graph}
 use Rattle.launch_text.specs.declared.tree.Tree.{Tree}
 use Rattle.line_files.specs.Files.{opening_of}
-use Rattle.run_files.specs.Opening.{location_of}
+use Rattle.run_files.specs.Opening.{Refuses, location_of}
 use Rattle.run_files.specs.Seen.{Seen, ToldRose}
 use Rattle.run_files.specs.declared.end.Opening.{Opening}
 use Rattle.run_files.specs.declared.end.Opening.TheVariants.{Write}
@@ -47,6 +47,18 @@ FileFailed graph before after e = (m : Made) (opening : Opening) → slice_get (
 pub record RunEnded (graph : Graph) (before after : Seen) (end : WorldEnd) : Type 0 where
   pub entries : end.report.entries ≡ []
   pub ended : HasEnded graph before (FilesHold graph after) (FileFailed graph before after) end
+
+-- a run that did not begin, by what its elements open
+pub record NotBegun (openings : List (Option Opening)) (before after : Seen) (end : WorldEnd) : Type 0 where
+  pub status : end.status ≡ 6
+  pub place : ℕ
+  pub opening : Opening
+  pub at : slice_get openings place ≡ Some (Some opening)
+  pub fault : end.report.fault ≡ OpenFault (location_of opening)
+  pub refuses : Refuses opening before after
+  pub entries : end.report.entries ≡ []
+  pub pads : end.report.pads ≡ []
+  pub sinks : end.report.sinks ≡ []
 
 abbrev pub IsWorldEnd : Graph → Seen → Seen → WorldEnd → Type 0
 IsWorldEnd graph before after end = RunUnopened graph before after end ⊎ RunEnded graph before after end

@@ -2,5 +2,7 @@
 #![tactic(auto)]
 
 pub mod ended;
+mod giving;
+mod report;
 
 pub use ended::WorldEnd;

@@ -1,0 +1,12 @@
+mod Framed
+mod Numbers
+mod Owing
+mod Backs
+mod Started
+mod Left
+mod Located
+mod Given
+mod Telling
+mod Held
+mod Ran
+mod Faulted
