@@ -38,6 +38,10 @@ module _ {T A : Type 0} (one : T → List A → List A) where
   fold_more [] t xs = refl
   fold_more (u ∷ us) t xs = ap (one u) (fold_more us t xs)
 
+  -- the last of them first
+  pub fold_step : (ts us : List T) (t : T) (xs ys zs : List A) → ts ≡ us ++ t ∷ [] → ys ≡ one t xs → fold_back one ts xs ≡ zs → fold_back one us ys ≡ zs
+  fold_step ts us t xs ys zs is put before = ap (fold_back one us) put ∙ sym (fold_more us t xs) ∙ ap (λ (vs : List T). fold_back one vs xs) (sym is) ∙ before
+
   pub fold_size : ((t : T) (xs : List A) → length (one t xs) ≡ length xs) → (ts : List T) (xs : List A) → length (fold_back one ts xs) ≡ length xs
   fold_size keeps [] xs = refl
   fold_size keeps (t ∷ ts) xs = keeps t (fold_back one ts xs) ∙ fold_size keeps ts xs

@@ -1,6 +1,6 @@
 -- Where a line's task met a fault, told of the line.
 use Rattle.std.proofs.Common.{◌≡◌, ◌≢◌, ◌<◌, ◌≤◌, ◌+◌, ◌⊎◌, ◌==◌, ℕ, zero, suc, Bool, true, false, List, [], ◌∷◌, ◌++◌, Option, None, Some, if◌then◌else◌, length, map, take, refl, sym, ap, ◌∙◌, subst, inl, inr, ⊎_elim, eqb, arith}
-use Rattle.std.specs.Prelude.{is_some, slice_get}
+use Rattle.std.specs.Prelude.{is_some, slice_get, unwrap_or}
 use Rattle.std.specs.Option.{option_map, option_map_or}
 use Rattle.std.proofs.lemmas.Bool.{cases_eq}
 use Rattle.std.proofs.lemmas.Bool.Decides.{eqb_tells}
@@ -19,24 +19,27 @@ use Rattle.el_set.specs.declared.settings.Settings.TheVariants.{FileSrc, Identit
 use Rattle.el_set.specs.declared.sink.SinkElement.{SinkElement}
 use Rattle.el_set.specs.declared.sink.SinkElement.TheVariants as sinks
 use Rattle.el_set.specs.declared.source.SourceElement.TheVariants as sources
+use Rattle.el_src.specs.Gave.{source_of}
 use Rattle.graph_core.specs.Elements.{Made}
 use Rattle.graph_core.specs.Graph.{made as made_in, links as links_in}
 use Rattle.graph_core.specs.declared.graph.Graph.{Graph}
 use Rattle.graph_core.specs.declared.pad.PadLink.{PadLink}
-use Rattle.graph_ways.specs.Ways.{StandsAt, WayEnds, has, is_sink}
+use Rattle.el_set.specs.Asked.{is_filter}
+use Rattle.graph_ways.specs.Ways.{StandsAt, WayEnds, has, is_head, is_sink, last_on}
 use Rattle.graph_ways.specs.declared.way.End.{End as WayEnd}
 use Rattle.graph_ways.specs.declared.way.End.TheVariants as ends_of
 use Rattle.graph_ways.specs.declared.way.Way.{Way}
-use Rattle.graph_ways.proofs.Places.{alone, end_is, one_at_sink}
+use Rattle.graph_ways.proofs.Places.{alone, behind_at, end_is, first_heads, one_at_sink}
 use Rattle.graph_ways.proofs.Once.{linked_once}
 use Rattle.lane_core.specs.Lane.{Lane}
 use Rattle.lane_core.specs.Room.{Limits}
 use Rattle.line_files.specs.Files.{WereTold, opening_of}
-use Rattle.line_net.specs.Along.{HeadAlong, TailAlong, is_source}
+use Rattle.line_net.specs.Along.{AreAlong, HeadAlong, TailAlong, is_source}
 use Rattle.line_net.proofs.Wiring.{also_there}
 use Rattle.line_start.specs.Start.{start_lists, writes}
 use Rattle.line_start.proofs.Along.{there}
 use Rattle.line_tasks.specs.Lanes.{lane_place}
+use Rattle.line_tasks.specs.Parts.{pairs_on}
 use Rattle.run_files.specs.Ends.{Known, known_end, known_ends}
 use Rattle.run_files.specs.Opening.{location_of as location_in}
 use Rattle.run_files.specs.Seen.{Seen}
@@ -55,24 +58,25 @@ use Rattle.stream_task.specs.declared.tail.Tail.TheVariants as tails
 use Rattle.stream_task.specs.declared.task.Task.{Task}
 use Rattle.stream_task.specs.Fault.{fault_of}
 use Rattle.stream_task.specs.Head.{head_faults}
-use Rattle.stream_task.specs.Stage.{element_at}
+use Rattle.stream_task.specs.declared.stage.Stage.{Stage}
+use Rattle.stream_task.specs.Stage.{StageList, StagesStand, element_at, numbers_of, owes}
 use Rattle.stream_task.specs.Tail.{IsOpen, TailHas, TailPart, tail_element, tail_faults}
-use Rattle.stream_task.specs.Task.{AtFault, HasCrossed, Stands, TaskLists, head_of, last_of, stages_of, tail_of}
+use Rattle.stream_task.specs.Task.{AtFault, AtLimit, HasCrossed, Refused, Stands, Unlinked, Unwritten, TaskLists, head_of, last_of, stages_of, tail_of}
 use Rattle.task_net.specs.Net.{AllFramed, IsNetCause, NetCrossed, NetFaulted}
 use Rattle.line_world.specs.Back.{head_end}
-use Rattle.line_world.specs.Ended.{EndsRefused, EndsTooLong, EndsUnlinked, EndsUnread, EndsUnwritten, HasEnded, most_items}
+use Rattle.line_world.specs.Ended.{EndsRefused, EndsTooLong, EndsUnlinked, EndsUnread, EndsUnwritten, HasEnded, IsRendered, most_items}
 use Rattle.line_world.specs.Owed.{AreWritten, IsPartWritten, IsWritten, Refuses, WantsLink, came_to, went_from}
 use Rattle.line_world.specs.Prepared.{HasRoom}
 use Rattle.line_world.specs.Ran.{KnownFailed, KnownHold, TellsEnd}
 use Rattle.line_world.specs.Start.{IsStarted}
-use Rattle.line_world.specs.Stops.{IsFull, IsUnlinked, RefusedBy, Stops}
+use Rattle.line_world.specs.Stops.{IsAwaited, IsFull, IsUnlinked}
 use Rattle.line_world.specs.Told.{element_fault, element_status, location_named, task_fault, task_status}
 use Rattle.line_world.specs.declared.ended.WorldEnd.{WorldEnd}
-use Rattle.line_world.proofs.Given.{pairs, read_at, written_on}
+use Rattle.line_world.proofs.Given.{back, goes, pairs, read_at, written_on}
 use Rattle.line_world.proofs.Held.{held_at, part_at, run_goes, run_owes}
 use Rattle.line_world.proofs.Located.{reads_file, writer_is, writes_file}
-use Rattle.line_world.proofs.Numbers.{element_is}
-use Rattle.line_world.proofs.Owing.{awaited, stops}
+use Rattle.line_world.proofs.Numbers.{element_is, pairs_size, stage_is}
+use Rattle.line_world.proofs.Owing.{awaited, full_at, refuses_at, unlinked_at}
 use Rattle.line_world.proofs.Ran.{Holds, bytes_there, counted, h, known, rendered, run_lengths, task_crossed, whole_bytes}
 use Rattle.line_world.proofs.Telling.{name_is, status_by_rule, told_by_name}
 
@@ -127,9 +131,9 @@ at_tail content bytes received sent place_out limits lane d task l (TooLong e a 
 at_tail {K = K} {O = O} content bytes received sent place_out limits lane d task l (NotLinked e place) other plain along at = absurd (no_sink (tail_of task) at.open_end along)
   where
     no_sink : (tail : Tail K O) → IsOpen tail → TailAlong place_out limits lane (ends_of.Sink d) tail → ⊥
-    no_sink (tails.Sink element sink) unlinked goes = unlinked
-    no_sink (tails.Lane n outlet) unlinked goes = unlinked
-    no_sink tails.Open unlinked goes = goes
+    no_sink (tails.Sink element sink) unlinked along_it = unlinked
+    no_sink (tails.Lane n outlet) unlinked along_it = unlinked
+    no_sink tails.Open unlinked along_it = along_it
 at_tail content bytes received sent place_out limits lane d task l OutOfMemory other plain along at = absurd (other refl)
 
 -- the way at whose end the sink of a task stands
@@ -150,10 +154,10 @@ sink_failures {K = K} {O = O} faults tail element sink file n is file_is told = 
 
 -- and those of a head are those of the file that it reads
 head_failures : {S K I : Type 0} (faults : S → ℕ) (head : Head S I) (file : S) (n : ℕ) → head_end {S = S} {K = K} head ≡ Some (Some (Src file)) → head_faults faults head ≡ Some n → faults file ≡ n
-head_failures faults (heads.Source (sources.File f)) file n is told = ap faults (sym (same is)) ∙ some_same told
+head_failures {S = S} {K = K} {I = I} faults (heads.Source (sources.File f)) file n is told = ap faults (sym (same (source_of f) file (head_end {S = S} {K = K} {I = I} (heads.Source (sources.File f))) refl is)) ∙ some_same told
   where
-    same : Some (Some (Src {S = _} {K = _} _)) ≡ Some (Some (Src file)) → _ ≡ file
-    same h = cc
+    same : (a b : S) (x : Option (Option (End S K))) → x ≡ Some (Some (Src a)) → x ≡ Some (Some (Src b)) → a ≡ b
+    same a b x one other = cc
 head_failures faults (heads.Source (sources.Ramp ramp)) file n is told = absurd (none_some is)
 head_failures faults (heads.Queue inlets) file n is told = absurd (none_some is)
 head_failures faults heads.Unlinked file n is told = absurd (none_some is)
@@ -163,3 +167,209 @@ head_source : {S I : Type 0} (faults : S → ℕ) (place_in : I → ℕ) (lane :
 head_source faults place_in lane made links e n (heads.Source one) along told = along
 head_source faults place_in lane made links e n (heads.Queue inlets) along told = absurd (none_some told)
 head_source faults place_in lane made links e n heads.Unlinked along told = absurd (none_some told)
+
+module _ {S K I O : Type 0} (source_location content : S → Option (List ℕ)) (source_faults : S → ℕ) (sink_location bytes : K → Option (List ℕ)) (sink_faults : K → ℕ) (received : I → List Item → Type 0) (sent : O → List Item → Type 0) (place_in : I → ℕ) (id_in : I → List (List ℕ)) (place_out : O → ℕ) (limits : O → Limits) (count_of : O → ℕ) (id_out : O → List (List ℕ))
+    (graph : Graph) (tasks : List (Task S K I O)) (left : List (Option (End S K))) (tells : Option (List Lane)) (before : Seen)
+    (s : IsStarted source_location content source_faults sink_location bytes sink_faults received sent place_in place_out limits count_of graph tasks left tells before)
+    (is : List (Task S K I O)) (framed : AllFramed source_location content sink_location place_in id_in place_out limits id_out tasks is) (same : length is ≡ length tasks)
+    (pads : List Pad) (none : List ℕ) (room : HasRoom (length (made_in graph)) pads none)
+    (tells' : Option (List Lane)) (place : ℕ) (t : Task S K I O) (at : slice_get is place ≡ Some t) where
+  abbrev made : List Made
+  made = made_in graph
+
+  abbrev links : List PadLink
+  links = links_in graph
+
+  the_goes : AreAlong place_in place_out limits (lane_place made links) made links s.ways is
+  the_goes = goes source_location content source_faults sink_location bytes sink_faults received sent place_in id_in place_out limits count_of id_out graph tasks left tells before s is framed same
+
+  way : (w : Way) × (slice_get s.ways place ≡ Some w)
+  way = also_there s.ways is place t (sym the_goes.size) at
+
+  abbrev gave : List (Option Known)
+  gave = known source_location content source_faults sink_location bytes sink_faults received sent place_in id_in place_out limits count_of id_out graph tasks left tells before s is framed same pads none room
+
+  abbrev numbers : List ℕ
+  numbers = run_lengths source_location content source_faults sink_location bytes sink_faults received sent place_in id_in place_out limits count_of id_out graph tasks left tells before s is framed same pads none room
+
+  abbrev counts : List Pad
+  counts = counted source_location content source_faults sink_location bytes sink_faults received sent place_in id_in place_out limits count_of id_out graph tasks left tells before s is framed same pads none room
+
+  -- a net with a fault that is not want of memory, as one of which it is known what crossed its pads
+  abbrev stopped_as : (fault : TaskFault) → (fault ≡ OutOfMemory → ⊥) → NetFaulted content bytes received sent place_in place_out is (start_lists made s.ways) tells' place fault → NetCrossed content received place_in place_out is (start_lists made s.ways)
+  stopped_as fault other f = record {
+    lists = f.lists;
+    goes_on = f.goes_on;
+    crossed = λ k u e.
+        ⊎_elim
+        (λ here. subst (λ (n : ℕ). HasCrossed content received u (f.lists n)) (sym here)
+        (at_crossed content bytes received sent u (f.lists place) fault other (f.faulted u (subst (λ (n : ℕ). slice_get is n ≡ Some u) here e))))
+        (λ ne. task_crossed content bytes received sent u (f.lists k) (f.others k u ne e))
+        (cases_eq k place);
+    flows = f.flows;
+  }
+
+  module _ (fault : TaskFault) (other : fault ≡ OutOfMemory → ⊥) (f : NetFaulted content bytes received sent place_in place_out is (start_lists made s.ways) tells' place fault) where
+    module _ (contents : ℕ → List ℕ) (told : WereTold (made_in graph) before contents) where
+      abbrev hist : ℕ → List Item
+      hist = h source_location content source_faults sink_location bytes sink_faults received sent place_in id_in place_out limits count_of id_out graph tasks left tells before s is framed same pads none room contents told (stopped_as fault other f)
+
+      abbrev HoldsNow : ℕ → List ℕ → Type 0
+      HoldsNow = Holds source_location content source_faults sink_location bytes sink_faults received sent place_in id_in place_out limits count_of id_out graph tasks left tells before s is framed same pads none room contents told (stopped_as fault other f)
+
+      -- a filesink whose task stands has all that came to it
+      stands_held : (d : ℕ) (m : Made) (location : List ℕ) → slice_get made d ≡ Some m → opening_of m.settings ≡ Some (Write location)
+          → (WayEnds s.ways place (ends_of.Sink d) → TailHas bytes sent (f.lists place).keep (tail_of t) (f.lists place).done) → HoldsNow d (sink_bytes (keeps_flushed m.settings) (came_to links hist d))
+      stands_held d m location there_m opens here =
+          held_at source_location content source_faults sink_location bytes sink_faults received sent place_in id_in place_out limits count_of id_out graph tasks left tells before s is framed same contents told (stopped_as fault other f) none room.nothing d m location there_m opens
+          (λ k u ended there_u.
+              ⊎_elim
+              (λ is_here.
+                  let at_place = subst (λ (n : ℕ). slice_get is n ≡ Some u) is_here there_u in
+                  let one = some_same (sym at ∙ at_place) in
+                  subst (λ (n : ℕ). TailHas bytes sent (f.lists n).keep (tail_of u) (f.lists n).done) (sym is_here)
+                  (subst (λ (x : Task S K I O). TailHas bytes sent (f.lists place).keep (tail_of x) (f.lists place).done) one (here (subst (λ (n : ℕ). WayEnds s.ways n (ends_of.Sink d)) is_here ended))))
+              (λ ne. (f.others k u ne there_u).tail)
+              (cases_eq k place))
+
+      -- where no write failed, all files hold what came to their sinks
+      all_held : IsNoWrite fault → (d : ℕ) (m : Made) (location : List ℕ) → slice_get made d ≡ Some m → opening_of m.settings ≡ Some (Write location) → HoldsNow d (whole_bytes made links hist d)
+      all_held plain d m location there_m opens =
+          subst (λ (xs : List ℕ). HoldsNow d xs) (sym (bytes_there made links hist d m there_m))
+          (stands_held d m location there_m opens
+          (λ ended. at_tail content bytes received sent place_out limits (lane_place made links) d t (f.lists place) fault other plain
+          (subst (λ (x : WayEnd). TailAlong place_out limits (lane_place (made_in graph) (links_in graph)) x (tail_of t)) ended.ends (the_goes.each place ended.way t ended.is at).tail) (f.faulted t at)))
+
+      -- so what is told is rendered
+      told_so : IsNoWrite fault → (end : WorldEnd) → TellsEnd made (Some fault) counts numbers end → (Cause : (ℕ → List Item) → (ℕ → List ℕ) → Type 0) → Cause hist (whole_bytes made links hist) → IsRendered contents graph (KnownHold graph gave) end.report Cause
+      told_so plain end tell Cause cause =
+          rendered source_location content source_faults sink_location bytes sink_faults received sent place_in id_in place_out limits count_of id_out graph tasks left tells before s is framed same pads none room contents told (stopped_as fault other f) end tell.pads_are tell.sinks_are
+          (whole_bytes made links hist) (all_held plain) Cause cause
+
+      are_written : AreWritten made links hist (whole_bytes made links hist)
+      are_written d m there_m writing = bytes_there made links hist d m there_m
+
+  -- the names of what is asked of a line, with all that is known of the run
+  stands_first : StandsAt s.ways place 0 way.0.first
+  stands_first = record { way = way.0; is = way.1; at = refl }
+
+  pair : (numbers_of (stages_of t) ≡ pairs_on way.0.first way.0.behind.items) × ((last_of t).element ≡ last_on way.0.first way.0.behind.items)
+  pair = pairs source_location content source_faults sink_location bytes sink_faults received sent place_in id_in place_out limits count_of id_out graph tasks left tells before s is framed same place way.0 t way.1 at
+
+  -- an element on a way is there
+  element_there : (k i e : ℕ) → StandsAt s.ways k i e → (m : Made) × (slice_get made e ≡ Some m)
+  element_there k zero e stands = let m = there is_head (slice_get made e) (first_heads made links s.ways s.ways_are k e stands) in (m.0, m.1)
+  element_there k (suc i) e stands = let m = there is_filter (slice_get made e) (behind_at made links s.ways s.ways_are k i e stands).3 in (m.0, m.1)
+
+  -- what is known of an end that was given back
+  known_back : (e : ℕ) (end : End S K) → slice_get (back source_location content source_faults sink_location bytes sink_faults received sent place_in id_in place_out limits count_of id_out graph tasks left tells before s is framed same) e ≡ Some (Some end)
+      → slice_get gave e ≡ Some (Some (known_end source_location content source_faults sink_location bytes sink_faults end))
+  known_back e end is_there =
+      slice_get-map (option_map (known_end source_location content source_faults sink_location bytes sink_faults)) _ e ∙ ap (option_map (option_map (known_end source_location content source_faults sink_location bytes sink_faults))) is_there
+
+  -- a read failed
+  ends_unread : (e first second : ℕ) → NetFaulted content bytes received sent place_in place_out is (start_lists made s.ways) tells' place (ReadFault e first second) → IsNetCause source_faults sink_faults t (ReadFault e first second) → (end : WorldEnd) → TellsEnd made (Some (ReadFault e first second)) counts numbers end
+      → EndsUnread graph before (KnownHold graph gave) (KnownFailed gave) end
+  ends_unread e first second f cause end tell =
+      let goes_here = the_goes.each place way.0 t way.1 at in
+      let source = head_source source_faults place_in (lane_place made links) made links way.0.first second (head_of t) goes_here.head cause.1 in
+      let m = there is_source (slice_get made way.0.first) source in
+      let file = reads_file m.0.settings m.2 in
+      let read = read_at source_location content source_faults sink_location bytes sink_faults received sent place_in id_in place_out limits count_of id_out graph tasks left tells before s is framed same way.0.first m.0 file.0 m.1 file.1 in
+      let same_way = (alone made links s.ways (linked_once s.tree graph s.is) s.ways_are read.0 0 place 0 way.0.first read.1 stands_first).0 in
+      let same_task = some_same (sym (subst (λ (n : ℕ). slice_get is n ≡ Some read.2) same_way read.3) ∙ at) in
+      let failures = head_failures {K = K} source_faults (head_of t) read.4 second (subst (λ (x : Task S K I O). head_end {S = S} {K = K} (head_of x) ≡ Some (Some (Src read.4))) same_task read.5) cause.1 in
+      let named : e ≡ way.0.first = cause.0 ∙ some_same (sym (element_is (stages_of t) (last_of t) way.0.first way.0.behind.items pair.0 pair.1 0 (omega arith))) in
+      record {
+        status = tell.status;
+        e = way.0.first;
+        element = m.0;
+        at = m.1;
+        location = file.0;
+        reads = file.1;
+        first = first;
+        second = second;
+        fault = tell.fault ∙ ap (λ (l : List ℕ). faults.ReadFault l first second) (ap (location_named made) named ∙ named_location made way.0.first m.0 (Read file.0) m.1 file.1);
+        rose = cause.2;
+        failed = (known_end source_location content source_faults sink_location bytes sink_faults (Src read.4), known_back way.0.first (Src read.4) read.7, subst (λ (n : ℕ). Rose 0 n) (sym failures) (rose_zero first second cause.2));
+        tells = λ contents told. told_so (ReadFault e first second) (λ no_memory. absurd (cc)) f contents told tt end tell (λ hist_of b. AreWritten made links hist_of b) (are_written (ReadFault e first second) (λ no_memory. absurd (cc)) f contents told);
+      }
+
+  -- an element refused an item
+  ends_refused : (fault : TaskFault) (other : fault ≡ OutOfMemory → ⊥) → IsNoWrite fault → (f : NetFaulted content bytes received sent place_in place_out is (start_lists made s.ways) tells' place fault) → Refused content bytes received sent t (f.lists place) fault → (end : WorldEnd) → TellsEnd made (Some fault) counts numbers end
+      → EndsRefused graph before (KnownHold graph gave) end
+  ends_refused fault other plain f r end tell =
+      let here : slice_get way.0.behind.items r.place ≡ Some r.stage.element = stage_is (stages_of t) way.0.first way.0.behind.items pair.0 r.place r.stage r.at in
+      let m = element_there place (suc r.place) r.stage.element (record { way = way.0; is = way.1; at = here }) in
+      record {
+        d = r.stage.element;
+        element = m.0;
+        at = m.1;
+        own = r.own;
+        status = tell.status ∙ ap task_status r.named ∙ status_by_rule r.stage.element r.own;
+        fault = tell.fault ∙ ap (task_fault made) r.named ∙ told_by_name made r.stage.element m.0 m.1 r.own;
+        tells = λ contents told.
+            told_so fault other f contents told plain end tell (λ hist_of b. AreWritten made links hist_of b × Refuses contents made links hist_of r.stage.element m.0.settings r.own)
+            (
+              are_written fault other f contents told,
+              refuses_at content received place_in place_out limits s.tree graph contents (lane_place made links) s.ways is (start_lists made s.ways) s.is s.sound s.ways_are
+              (run_goes source_location content source_faults sink_location bytes sink_faults received sent place_in id_in place_out limits count_of id_out graph tasks left tells before s is framed same contents told (stopped_as fault other f) none room.nothing)
+              (run_owes source_location content source_faults sink_location bytes sink_faults received sent place_in id_in place_out limits count_of id_out graph tasks left tells before s is framed same contents told (stopped_as fault other f) none room.nothing)
+              (stopped_as fault other f)
+              (pairs source_location content source_faults sink_location bytes sink_faults received sent place_in id_in place_out limits count_of id_out graph tasks left tells before s is framed same)
+              place t at bytes sent fault r m.0 m.1,
+            );
+      }
+
+  -- a pad was at its limit
+  ends_too_long : (e a b : ℕ) (f : NetFaulted content bytes received sent place_in place_out is (start_lists made s.ways) tells' place (TooLong e a b)) → AtLimit content bytes received sent t (f.lists place) e a b → (end : WorldEnd) → TellsEnd made (Some (TooLong e a b)) counts numbers end
+      → EndsTooLong graph before (KnownHold graph gave) end
+  ends_too_long e a b f r end tell =
+      let on_way : slice_get (way.0.first ∷ way.0.behind.items) r.place ≡ Some e = element_is (stages_of t) (last_of t) way.0.first way.0.behind.items pair.0 pair.1 r.place (within_way r.place r.within r.stands) ∙ ap Some (sym r.named) in
+      let m = element_there place r.place e (record { way = way.0; is = way.1; at = on_way }) in
+      record {
+        status = tell.status;
+        e = e;
+        element = m.0;
+        at = m.1;
+        fault = tell.fault ∙ ap (λ (name : List ℕ). faults.TooLong name a b) (name_is made e m.0 m.1) ∙ ap (λ (n : ℕ). faults.TooLong m.0.name n b) r.limit ∙ ap (λ (n : ℕ). faults.TooLong m.0.name most_items n) r.one;
+        tells = λ contents told.
+            told_so (TooLong e a b) (λ no_memory. absurd (cc)) f contents told tt end tell (λ hist_of bs. AreWritten made links hist_of bs × (length (went_from hist_of e) ≡ most_items))
+            (
+              are_written (TooLong e a b) (λ no_memory. absurd (cc)) f contents told,
+              (full_at content received place_in place_out limits s.tree graph contents (lane_place made links) s.ways is (start_lists made s.ways) s.is s.sound s.ways_are
+              (run_goes source_location content source_faults sink_location bytes sink_faults received sent place_in id_in place_out limits count_of id_out graph tasks left tells before s is framed same contents told (stopped_as (TooLong e a b) (λ no_memory. absurd (cc)) f) none room.nothing)
+              (run_owes source_location content source_faults sink_location bytes sink_faults received sent place_in id_in place_out limits count_of id_out graph tasks left tells before s is framed same contents told (stopped_as (TooLong e a b) (λ no_memory. absurd (cc)) f) none room.nothing)
+              (stopped_as (TooLong e a b) (λ no_memory. absurd (cc)) f)
+              (pairs source_location content source_faults sink_location bytes sink_faults received sent place_in id_in place_out limits count_of id_out graph tasks left tells before s is framed same)
+              place t at bytes sent e a b r).full,
+            );
+      }
+    where
+      stages_size : (ss : List Stage) (given : List Item) (ls : List StageList) → StagesStand ss given ls → length ls ≡ length ss
+      stages_size [] given [] stand = refl
+      stages_size [] given (l ∷ ls) stand = absurd stand
+      stages_size (x ∷ xs) given [] stand = absurd stand
+      stages_size (x ∷ xs) given (l ∷ ls) stand = ap suc (stages_size xs (owes l) ls stand.1)
+
+      within_way : (i : ℕ) → i ≤ length (f.lists place).stages → Stands content bytes received sent t (f.lists place) → i ≤ length way.0.behind.items
+      within_way i within stand = subst (λ (n : ℕ). i ≤ n) (stages_size (stages_of t) (f.lists place).head.given (f.lists place).stages stand.stages ∙ pairs_size (stages_of t) way.0.first way.0.behind.items pair.0) within
+
+  -- a buffer stood at a pad without a link
+  ends_unlinked : (e n : ℕ) (f : NetFaulted content bytes received sent place_in place_out is (start_lists made s.ways) tells' place (NotLinked e n)) → Unlinked content bytes received sent t (f.lists place) e n → (end : WorldEnd) → TellsEnd made (Some (NotLinked e n)) counts numbers end
+      → EndsUnlinked graph before (KnownHold graph gave) end
+  ends_unlinked e n f r end tell = record {
+    status = tell.status;
+    e = e;
+    place = n;
+    fault = tell.fault;
+    tells = λ contents told.
+        let unlinked = unlinked_at content received place_in place_out limits s.tree graph contents (lane_place made links) s.ways is (start_lists made s.ways) s.is s.sound s.ways_are
+            (run_goes source_location content source_faults sink_location bytes sink_faults received sent place_in id_in place_out limits count_of id_out graph tasks left tells before s is framed same contents told (stopped_as (NotLinked e n) (λ no_memory. absurd (cc)) f) none room.nothing)
+            (run_owes source_location content source_faults sink_location bytes sink_faults received sent place_in id_in place_out limits count_of id_out graph tasks left tells before s is framed same contents told (stopped_as (NotLinked e n) (λ no_memory. absurd (cc)) f) none room.nothing)
+            (stopped_as (NotLinked e n) (λ no_memory. absurd (cc)) f)
+            (pairs source_location content source_faults sink_location bytes sink_faults received sent place_in id_in place_out limits count_of id_out graph tasks left tells before s is framed same)
+            place t at bytes sent e n r in
+        told_so (NotLinked e n) (λ no_memory. absurd (cc)) f contents told tt end tell (λ hist_of bs. AreWritten made links hist_of bs × (length (went_from hist_of e) ≡ n) × WantsLink contents made links hist_of e)
+        (are_written (NotLinked e n) (λ no_memory. absurd (cc)) f contents told, unlinked.crossed, unlinked.wants);
+  }

@@ -1,5 +1,5 @@
 -- The ends that a line's tasks give back: each file stands at the number of its element.
-use Rattle.std.proofs.Common.{◌≡◌, ◌≢◌, ◌<◌, ◌⊎◌, ℕ, zero, suc, Bool, true, false, List, [], ◌∷◌, Option, None, Some, length, map, refl, sym, ap, ◌∙◌, subst, inl, inr, ⊎_elim, arith}
+use Rattle.std.proofs.Common.{◌≡◌, ◌≢◌, ◌<◌, ◌⊎◌, ℕ, zero, suc, Bool, true, false, List, [], ◌∷◌, Option, None, Some, length, map, refl, sym, ap, ◌∙◌, subst, inl, inr, ⊎_elim, arith, eqb}
 use Rattle.std.specs.Prelude.{slice_get, slice_index_or}
 use Rattle.std.specs.Option.{option_map, option_map_or}
 use Rattle.std.proofs.lemmas.Bool.Decides.{eqb_tells}
@@ -93,7 +93,7 @@ index_of (y ∷ ys) (suc e) x h = index_of ys e x h
 
 -- what an element of a line is asked
 asked_no : (asked : Settings → Bool) (found : Option Made) (m : Made) → found ≡ Some m → asked m.settings ≡ false → option_map_or (λ (one : Made). asked one.settings) found false ≡ true → ⊥
-asked_no asked found m is no yes = both_ways yes (ap (λ (o : Option Made). option_map_or (λ (one : Made). asked one.settings) o false) is ∙ no)
+asked_no asked found m is refused holds = both_ways holds (ap (λ (o : Option Made). option_map_or (λ (one : Made). asked one.settings) o false) is ∙ refused)
 
 -- A way ends at a sink, or none does.
 unfoldable pub SinkEnding : List Way → ℕ → Type 0
@@ -107,7 +107,7 @@ at_sink_or_not (ends_of.Sink c) d = go (eqb_tells c d)
     same_sink : ends_of.Sink c ≡ ends_of.Sink d → c ≡ d
     same_sink h = cc
 
-    go : ((_ ≡ true) × (c ≡ d)) ⊎ ((_ ≡ false) × (c ≡ d → ⊥)) → (ends_of.Sink c ≡ ends_of.Sink d) ⊎ (ends_of.Sink c ≡ ends_of.Sink d → ⊥)
+    go : ((eqb c d ≡ true) × (c ≡ d)) ⊎ ((eqb c d ≡ false) × (c ≡ d → ⊥)) → (ends_of.Sink c ≡ ends_of.Sink d) ⊎ (ends_of.Sink c ≡ ends_of.Sink d → ⊥)
     go (inl t) = inl (ap (λ (n : ℕ). ends_of.Sink n) t.1)
     go (inr f) = inr (λ h. f.1 (same_sink h))
 
@@ -129,8 +129,11 @@ sink_ends_or_not (w ∷ ws) d = go (at_sink_or_not w.end d) (sink_ends_or_not ws
     go (inr none) (inl (k, s)) = inl (suc k, record { way = s.way; is = s.is; ends = s.ends })
     go (inr none) (inr rest) = inr (nowhere none rest)
 
+same_exit : {O : Type 0} (e d : ℕ) (one other : Exit O) → one ≡ exits.Sink e → other ≡ exits.Sink d → one ≡ other → e ≡ d
+same_exit e d one other is too same = cc
+
 -- the exit of a way that does not end at a sink leads to none
-exit_no_sink : {I O : Type 0} (place : O → ℕ) (limits : O → Limits) (count : O → ℕ) (sent : O → List Item → Type 0) (made : List Made) (links : List PadLink) (end : WayEnd) (exit : Exit O) (d : ℕ) → ExitAt place limits count sent made links end exit → exit ≡ exits.Sink d → end ≡ ends_of.Sink d
+exit_no_sink : {O : Type 0} (place : O → ℕ) (limits : O → Limits) (count : O → ℕ) (sent : O → List Item → Type 0) (made : List Made) (links : List PadLink) (end : WayEnd) (exit : Exit O) (d : ℕ) → ExitAt place limits count sent made links end exit → exit ≡ exits.Sink d → end ≡ ends_of.Sink d
 exit_no_sink place limits count sent made links ends_of.Nothing exits.Open d at is = absurd (cc)
 exit_no_sink place limits count sent made links ends_of.Nothing (exits.Lane q o) d at is = absurd at
 exit_no_sink place limits count sent made links ends_of.Nothing (exits.Sink e) d at is = absurd at
@@ -139,10 +142,7 @@ exit_no_sink place limits count sent made links (ends_of.Queue c) (exits.Lane q 
 exit_no_sink place limits count sent made links (ends_of.Queue c) (exits.Sink e) d at is = absurd at
 exit_no_sink place limits count sent made links (ends_of.Sink c) exits.Open d at is = absurd at
 exit_no_sink place limits count sent made links (ends_of.Sink c) (exits.Lane q o) d at is = absurd at
-exit_no_sink place limits count sent made links (ends_of.Sink c) (exits.Sink e) d at is = ap (λ (n : ℕ). ends_of.Sink n) (sym at ∙ same_sink is)
-  where
-    same_sink : exits.Sink {O = O} e ≡ exits.Sink d → e ≡ d
-    same_sink h = cc
+exit_no_sink place limits count sent made links (ends_of.Sink c) (exits.Sink e) d at is = ap (λ (n : ℕ). ends_of.Sink n) (sym at ∙ same_exit e d (exits.Sink e) (exits.Sink d) refl refl is)
 
 module _ {S K I O : Type 0} (source_location content : S → Option (List ℕ)) (source_faults : S → ℕ) (sink_location bytes : K → Option (List ℕ)) (sink_faults : K → ℕ) (received : I → List Item → Type 0) (sent : O → List Item → Type 0) (place_in : I → ℕ) (id_in : I → List (List ℕ)) (place_out : O → ℕ) (limits : O → Limits) (count : O → ℕ) (id_out : O → List (List ℕ))
     (graph : Graph) (tasks : List (Task S K I O)) (left : List (Option (End S K))) (tells : Option (List Lane)) (before : Seen)
@@ -319,7 +319,7 @@ module _ {S K I O : Type 0} (source_location content : S → Option (List ℕ)) 
           let own = s.parts_are.each j way.0 part way.1 part_at in
           record {
             first = λ is_first. found_no_sink (slice_get made d) (head_there_of j way.0 way.1 d (sym own.first ∙ is_first)) is_sink_there;
-            sink = λ c exit is_d. away j (record { way = way.0; is = way.1; ends = exit_no_sink {I = I} place_out limits count sent made links way.0.end part.exit c own.exit_at exit ∙ ap (λ (n : ℕ). ends_of.Sink n) is_d });
+            sink = λ c exit is_d. away j (record { way = way.0; is = way.1; ends = exit_no_sink place_out limits count sent made links way.0.end part.exit c own.exit_at exit ∙ ap (λ (n : ℕ). ends_of.Sink n) is_d });
           }
 
       by : has is_sink made d ≡ true → (end : End S K) → end_at s.ends d ≡ Some end → known_end source_location content source_faults sink_location bytes sink_faults end ≡ fresh_end before (Write location)

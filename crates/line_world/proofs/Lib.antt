@@ -10,3 +10,4 @@ mod Telling
 mod Held
 mod Ran
 mod Faulted
+mod Choosing

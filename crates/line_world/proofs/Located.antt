@@ -159,6 +159,6 @@ module _ {S K I : Type 0} (made : List Made) where
   -- a head leaves what is no file of its own
   pub head_quiet : (place_in : I → ℕ) (lane : ℕ → ℕ) (links : List PadLink) (first e : ℕ) (head : Head S I) (xs : List (Option (End S K))) → HeadAlong place_in lane made links first head → (first ≡ e → has is_source made e ≡ true → ⊥) → slice_get (with_value first (head_end head) xs) e ≡ slice_get xs e
   head_quiet place_in lane links first e (heads.Source one) xs goes quiet =
-      ⊎_elim (λ same. absurd (quiet same (subst (λ (n : ℕ). has is_source made n ≡ true) same goes))) (λ other. value_there first e (head_end (heads.Source one)) xs other) (cases_eq first e)
+      ⊎_elim (λ same. absurd (quiet same (subst (λ (n : ℕ). has is_source made n ≡ true) same goes))) (λ other. value_there first e (head_end {S = S} {K = K} {I = I} (heads.Source one)) xs other) (cases_eq first e)
   head_quiet place_in lane links first e (heads.Queue inlets) xs goes quiet = refl
   head_quiet place_in lane links first e heads.Unlinked xs goes quiet = refl

@@ -47,17 +47,16 @@ use Rattle.net_line.proofs.Ways.{all_plain, nets_have}
 use Rattle.stream_task.specs.declared.head.Head.{Head}
 use Rattle.stream_task.specs.declared.head.Head.TheVariants as heads
 use Rattle.stream_task.specs.declared.fault.TaskFault.{TaskFault}
-use Rattle.stream_task.specs.declared.fault.TaskFault.TheVariants.{ReadFault, WriteFault, Stream, Caps, TooLong, NotLinked, OutOfMemory}
 use Rattle.stream_task.specs.declared.tail.Tail.{Tail}
 use Rattle.stream_task.specs.declared.tail.Tail.TheVariants as tails
 use Rattle.stream_task.specs.declared.task.Task.{Task}
 use Rattle.stream_task.specs.Head.{HeadGave, head_place}
 use Rattle.stream_task.specs.Stage.{StageList, crossed_at, owes, put_at, put_last}
 use Rattle.stream_task.specs.Tail.{IsOpen}
-use Rattle.stream_task.specs.Task.{AtFault, AtLimit, Refused, TaskLists, Unlinked, Unwritten, head_of, last_of, stages_of, tail_of}
+use Rattle.stream_task.specs.Task.{AtLimit, Refused, TaskLists, Unlinked, Unwritten, head_of, last_of, stages_of, tail_of}
 use Rattle.task_net.specs.Net.{IsWired, NetCrossed, Takes}
-use Rattle.line_world.specs.Owed.{IsNext, by_pads, came_to, owed_by, went_from}
-use Rattle.line_world.specs.Stops.{ArePaired, IsAwaited, IsFull, IsUnlinked, RefusedBy, Stops}
+use Rattle.line_world.specs.Owed.{IsNext, Refuses, by_pads, came_to, owed_by, went_from}
+use Rattle.line_world.specs.Stops.{ArePaired, IsAwaited, IsFull, IsUnlinked}
 use Rattle.line_world.proofs.Numbers.{crossed_last_at, element_is, put_last_at, rules_size, stage_is}
 
 none_some : {A : Type 0} {a : A} → None ≡ Some a → ⊥
@@ -227,12 +226,12 @@ module _ {S K I O : Type 0} (content : S → Option (List ℕ)) (received : I �
 
   -- the next item at the pad of a place is the next that is owed to the pad of its element
   pub next_at : (k place e : ℕ) (s : StandsAt ways k place e) (item : Item) → IsPrefix (crossed_at (crossed.lists k).stages (crossed.lists k).done place ++ item ∷ []) (put_at (crossed.lists k).head.given (crossed.lists k).stages place) → IsNext contents made links history e item
-  next_at k place e s item next =
+  next_at k place e s item following =
       let put = put_owed k place e s in
       record {
         element = put.0;
         at = put.1;
-        next = prefix_trans (subst (λ (xs : List Item). IsPrefix (xs ++ item ∷ []) (put_at (crossed.lists k).head.given (crossed.lists k).stages place)) (sym (histories.on_ways k place e s)) next) put.2;
+        next = prefix_trans (subst (λ (xs : List Item). IsPrefix (xs ++ item ∷ []) (put_at (crossed.lists k).head.given (crossed.lists k).stages place)) (sym (histories.on_ways k place e s)) following) put.2;
       }
 
   -- the last element of a way
@@ -240,43 +239,37 @@ module _ {S K I O : Type 0} (content : S → Option (List ℕ)) (received : I �
   last_at k way at = subst (λ (n : ℕ). StandsAt ways k n (last_on way.first way.behind.items)) (sym (way_size k way at)) (last_stands made links ways k way at)
 
   pub last_next : (k : ℕ) (way : Way) → slice_get ways k ≡ Some way → (item : Item) → IsPrefix ((crossed.lists k).done ++ item ∷ []) (put_last (crossed.lists k).head.given (crossed.lists k).stages) → IsNext contents made links history (last_on way.first way.behind.items) item
-  last_next k way at item next =
+  last_next k way at item following =
       next_at k (length (crossed.lists k).stages) (last_on way.first way.behind.items) (last_at k way at) item
       (subst (λ (xs : List Item). IsPrefix (xs ++ item ∷ []) (put_at (crossed.lists k).head.given (crossed.lists k).stages (length (crossed.lists k).stages))) (sym (crossed_last_at (crossed.lists k).stages (crossed.lists k).done))
-      (subst (λ (xs : List Item). IsPrefix ((crossed.lists k).done ++ item ∷ []) xs) (put_last_at (crossed.lists k).head.given (crossed.lists k).stages) next))
+      (subst (λ (xs : List Item). IsPrefix ((crossed.lists k).done ++ item ∷ []) xs) (put_last_at (crossed.lists k).head.given (crossed.lists k).stages) following))
 
   pub went_last : (k : ℕ) (way : Way) → slice_get ways k ≡ Some way → went_from history (last_on way.first way.behind.items) ≡ (crossed.lists k).done
   went_last k way at = histories.on_ways k (length (crossed.lists k).stages) (last_on way.first way.behind.items) (last_at k way at) ∙ crossed_last_at (crossed.lists k).stages (crossed.lists k).done
 
   module _ (paired : ArePaired ways tasks) where
     -- an element refused the item that was to cross the pad before it
-    refused_by : (k : ℕ) (t : Task S K I O) → slice_get tasks k ≡ Some t → (bytes : K → Option (List ℕ)) (sent : O → List Item → Type 0) (fault : TaskFault) → Refused content bytes received sent t (crossed.lists k) fault → RefusedBy contents graph history fault
-    refused_by k t at bytes sent fault r =
+    pub refuses_at : (k : ℕ) (t : Task S K I O) → slice_get tasks k ≡ Some t → (bytes : K → Option (List ℕ)) (sent : O → List Item → Type 0) (fault : TaskFault) (r : Refused content bytes received sent t (crossed.lists k) fault) (m : Made) → slice_get made r.stage.element ≡ Some m
+        → Refuses contents made links history r.stage.element m.settings r.own
+    refuses_at k t at bytes sent fault r m m_at =
         let way = also_there ways tasks k t (sym are.size) at in
         let here : slice_get way.0.behind.items r.place ≡ Some r.stage.element = stage_is (stages_of t) way.0.first way.0.behind.items (paired k way.0 t way.1 at).0 r.place r.stage r.at in
         let stands : StandsAt ways k (suc r.place) r.stage.element = record { way = way.0; is = way.1; at = here } in
         let behind = behind_at made links ways ways_are k r.place r.stage.element stands in
         let ruled = ruled_at made way.0.behind.items (crossed.lists k).stages (along.rules k way.0 way.1) r.place r.stage.element here in
         let came = before_place k r.place r.stage.element behind.0 behind.1 behind.2 r.list r.list_at in
-        let rule : r.list.rule ≡ response_of ruled.2.settings = ap (λ (l : StageList). l.rule) (same_one r.list ruled.0 r.list_at ruled.1) ∙ ruled.4 in
+        let rule : r.list.rule ≡ response_of m.settings = ap (λ (l : StageList). l.rule) (same_one r.list ruled.0 r.list_at ruled.1) ∙ ruled.4 ∙ ap (λ (x : Made). response_of x.settings) (same_one ruled.2 m ruled.3 m_at) in
         record {
-          d = r.stage.element;
-          element = ruled.2;
-          at = ruled.3;
-          own = r.own;
-          named = r.named;
-          refuses = record {
-            before = behind.0;
-            linked = once.there (first_pad behind.0) (first_pad r.stage.element) behind.2;
-            item = r.item;
-            next = next_at k r.place behind.0 behind.1 r.item
-                (subst (λ (xs : List Item). IsPrefix (xs ++ r.item ∷ []) (put_at (crossed.lists k).head.given (crossed.lists k).stages r.place)) (sym (crossed_here (crossed.lists k).stages (crossed.lists k).done r.place r.list r.list_at)) r.next);
-            owed = subst (λ (xs : List Item). IsFaultOf (next_owed (response_of ruled.2.settings) (feeds xs) r.item) r.own) (sym came)
-                (subst (λ (f : Response). IsFaultOf (next_owed f (feeds r.list.crossed) r.item) r.own) rule r.owed);
-          };
+          before = behind.0;
+          linked = once.there (first_pad behind.0) (first_pad r.stage.element) behind.2;
+          item = r.item;
+          next = next_at k r.place behind.0 behind.1 r.item
+              (subst (λ (xs : List Item). IsPrefix (xs ++ r.item ∷ []) (put_at (crossed.lists k).head.given (crossed.lists k).stages r.place)) (sym (crossed_here (crossed.lists k).stages (crossed.lists k).done r.place r.list r.list_at)) r.next);
+          owed = subst (λ (xs : List Item). IsFaultOf (next_owed (response_of m.settings) (feeds xs) r.item) r.own) (sym came)
+              (subst (λ (f : Response). IsFaultOf (next_owed f (feeds r.list.crossed) r.item) r.own) rule r.owed);
         }
 
-    full_at : (k : ℕ) (t : Task S K I O) → slice_get tasks k ≡ Some t → (bytes : K → Option (List ℕ)) (sent : O → List Item → Type 0) (e a b : ℕ) → AtLimit content bytes received sent t (crossed.lists k) e a b → IsFull graph history e a b
+    pub full_at : (k : ℕ) (t : Task S K I O) → slice_get tasks k ≡ Some t → (bytes : K → Option (List ℕ)) (sent : O → List Item → Type 0) (e a b : ℕ) → AtLimit content bytes received sent t (crossed.lists k) e a b → IsFull graph history e a b
     full_at k t at bytes sent e a b r =
         let way = also_there ways tasks k t (sym are.size) at in
         let pair = paired k way.0 t way.1 at in
@@ -291,7 +284,7 @@ module _ {S K I O : Type 0} (content : S → Option (List ℕ)) (received : I �
           full = ap length (histories.on_ways k r.place e stands) ∙ r.full;
         }
 
-    unlinked_at : (k : ℕ) (t : Task S K I O) → slice_get tasks k ≡ Some t → (bytes : K → Option (List ℕ)) (sent : O → List Item → Type 0) (e place : ℕ) → Unlinked content bytes received sent t (crossed.lists k) e place → IsUnlinked contents graph history e place
+    pub unlinked_at : (k : ℕ) (t : Task S K I O) → slice_get tasks k ≡ Some t → (bytes : K → Option (List ℕ)) (sent : O → List Item → Type 0) (e place : ℕ) → Unlinked content bytes received sent t (crossed.lists k) e place → IsUnlinked contents graph history e place
     unlinked_at k t at bytes sent e place r =
         let way = also_there ways tasks k t (sym are.size) at in
         let same : e ≡ last_on way.0.first way.0.behind.items = r.named ∙ (paired k way.0 t way.1 at).1 in
@@ -314,17 +307,6 @@ module _ {S K I O : Type 0} (content : S → Option (List ℕ)) (received : I �
         open_end (AtSink d) (tails.Sink e sink) unlinked goes = absurd unlinked
         open_end (AtSink d) (tails.Lane n out) unlinked goes = absurd unlinked
         open_end (AtSink d) tails.Open unlinked goes = absurd goes
-
-    -- why a task stopped, as it is known of the line
-    pub stops : (k : ℕ) (t : Task S K I O) → slice_get tasks k ≡ Some t → (bytes : K → Option (List ℕ)) (sent : O → List Item → Type 0) (fault : TaskFault) → AtFault content bytes received sent t (crossed.lists k) fault → Stops contents graph history fault
-    stops k t at bytes sent (ReadFault e first second) r = tt
-    stops k t at bytes sent (WriteFault e first second) r = tt
-    stops k t at bytes sent (Stream e place kind) r = refused_by k t at bytes sent (Stream e place kind) r
-    stops k t at bytes sent (Caps e offered wanted) r = refused_by k t at bytes sent (Caps e offered wanted) r
-    stops k t at bytes sent (TooLong e a b) (inl r) = inl (full_at k t at bytes sent e a b r)
-    stops k t at bytes sent (TooLong e a b) (inr r) = inr (refused_by k t at bytes sent (TooLong e a b) r)
-    stops k t at bytes sent (NotLinked e place) r = unlinked_at k t at bytes sent e place r
-    stops k t at bytes sent OutOfMemory r = tt
 
     -- the item that could not be written whole is the next that is owed to the pad before its sink
     pub awaited : (k : ℕ) (t : Task S K I O) → slice_get tasks k ≡ Some t → (bytes : K → Option (List ℕ)) (d : ℕ) → (ended : WayEnds ways k (AtSink d)) → (r : Unwritten content bytes received t (crossed.lists k)) → IsAwaited contents graph history d r.item

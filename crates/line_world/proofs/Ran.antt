@@ -44,7 +44,7 @@ use Rattle.stream_task.specs.Task.{HasCrossed, Stands, TaskLists, tail_of}
 use Rattle.task_net.specs.Net.{AllFramed, NetCrossed, NetEnded}
 use Rattle.line_world.specs.Back.{fold_back, with_length}
 use Rattle.line_world.specs.Ended.{EndsEos, IsRendered}
-use Rattle.line_world.specs.Owed.{AreOver, AreWhole, AreWritten, IsWritten, came_to}
+use Rattle.line_world.specs.Owed.{AreWhole, AreWritten, IsWritten, came_to}
 use Rattle.line_world.specs.Prepared.{HasRoom}
 use Rattle.line_world.specs.Ran.{KnownHold, TellsEnd}
 use Rattle.line_world.specs.Start.{IsStarted}
@@ -52,7 +52,8 @@ use Rattle.line_world.specs.Told.{pads_told, sinks_told}
 use Rattle.line_world.specs.declared.ended.WorldEnd.{WorldEnd}
 use Rattle.line_world.proofs.Backs.{set_size}
 use Rattle.line_world.proofs.Framed.{numbered_kept}
-use Rattle.line_world.proofs.Held.{HoldsBytes, given_back, held_at, run_goes, run_history, run_owes}
+use Rattle.line_world.proofs.Given.{back}
+use Rattle.line_world.proofs.Held.{HoldsBytes, held_at, run_goes, run_history, run_owes}
 use Rattle.line_world.proofs.Located.{writes_file}
 use Rattle.line_world.proofs.Owing.{evaluated, histories}
 use Rattle.line_world.proofs.Started.{start_numbered}
@@ -96,7 +97,7 @@ module _ {S K I O : Type 0} (source_location content : S → Option (List ℕ)) 
 
   -- the ends that were given back, as far as they are known
   abbrev pub known : List (Option Known)
-  known = known_ends source_location content source_faults sink_location bytes sink_faults (given_back source_location content source_faults sink_location bytes sink_faults received sent place_in id_in place_out limits count_of id_out graph tasks left tells before s is framed same)
+  known = known_ends source_location content source_faults sink_location bytes sink_faults (back source_location content source_faults sink_location bytes sink_faults received sent place_in id_in place_out limits count_of id_out graph tasks left tells before s is framed same)
 
   -- the lengths of files that the tasks gave back
   abbrev pub run_lengths : List ℕ
@@ -180,7 +181,7 @@ module _ {S K I O : Type 0} (source_location content : S → Option (List ℕ)) 
             subst (λ (xs : List ℕ). Holds contents told crossed d xs) (sym (bytes_there made links history d m at))
             (held_at source_location content source_faults sink_location bytes sink_faults received sent place_in id_in place_out limits count_of id_out graph tasks left tells before s is framed same contents told crossed none room.nothing d m location at opens
             (λ k task ends at_k. (ended.net.stands k task at_k).tail)))
-        (λ hist b. AreWritten made links hist b × AreWhole contents graph hist × AreOver graph hist)
+        (λ hist b. AreWritten made links hist b × AreWhole contents graph hist)
         (
           λ d m at writing. bytes_there made links history d m at,
           λ count p within pad.
@@ -188,6 +189,5 @@ module _ {S K I O : Type 0} (source_location content : S → Option (List ℕ)) 
               (run_goes source_location content source_faults sink_location bytes sink_faults received sent place_in id_in place_out limits count_of id_out graph tasks left tells before s is framed same contents told crossed none room.nothing)
               (run_owes source_location content source_faults sink_location bytes sink_faults received sent place_in id_in place_out limits count_of id_out graph tasks left tells before s is framed same contents told crossed none room.nothing) ended
               (run_histories contents told crossed) p within pad,
-          ?,
         );
   }

@@ -113,17 +113,17 @@ module _ {S K I O : Type 0} (source_location content : S → Option (List ℕ)) 
       let one = made_of k way at task there in
       let own = own_of k way at in
       let leaves = leaves_first content bytes received sent place_in place_out limits count made links s.ways s.parts s.table s.parts_are once s.ways_are k way at in
-      by (part_of k way at).0.inlet head
+      by one.0 (part_of k way at).0.inlet head
       (subst (λ (x : Head S I). HeadMade content received place_in made way.first (part_of k way at).0.inlet (source_end (end_at one.0 way.first)) x) same
       (subst (λ (n : ℕ). HeadMade content received place_in made n (part_of k way at).0.inlet (source_end (end_at one.0 n)) (head_of task)) own.first one.1.head)) (one.2 way.first leaves)
     where
-      by : {at_that : List (Option (End S K))} (inlet : Option I) (head : Head S I) → HeadMade content received place_in made way.first inlet (source_end (end_at at_that way.first)) head → end_at at_that way.first ≡ end_at s.ends way.first → ReadsEnd s.ends way.first head
-      by None (heads.Source one) h kept = h.2.3 ∙ ap source_end kept
-      by None (heads.Queue inlets) h kept = tt
-      by None heads.Unlinked h kept = tt
-      by (Some lane) (heads.Source one) h kept = absurd h
-      by (Some lane) (heads.Queue inlets) h kept = tt
-      by (Some lane) heads.Unlinked h kept = tt
+      by : (at_that : List (Option (End S K))) (inlet : Option I) (head : Head S I) → HeadMade content received place_in made way.first inlet (source_end (end_at at_that way.first)) head → end_at at_that way.first ≡ end_at s.ends way.first → ReadsEnd s.ends way.first head
+      by at_that None (heads.Source one) h kept = h.2.3 ∙ ap source_end kept
+      by at_that None (heads.Queue inlets) h kept = tt
+      by at_that None heads.Unlinked h kept = tt
+      by at_that (Some lane) (heads.Source one) h kept = absurd h
+      by at_that (Some lane) (heads.Queue inlets) h kept = tt
+      by at_that (Some lane) heads.Unlinked h kept = tt
 
   -- a sink writes the end of its element
   pub start_sink : (k : ℕ) (way : Way) (task : Task S K I O) → slice_get s.ways k ≡ Some way → slice_get tasks k ≡ Some task → (d : ℕ) → way.end ≡ ends_of.Sink d → (m : Made) → slice_get made d ≡ Some m → (tail : Tail K O) → tail_of task ≡ tail → WritesEnd s.ends d m tail
@@ -134,15 +134,15 @@ module _ {S K I O : Type 0} (source_location content : S → Option (List ℕ)) 
       let first = found_no_sink (slice_get made d) in
       let not_first : (part_of k way at).0.first ≡ d → ⊥ = λ is_first. first (subst (λ (n : ℕ). has is_head made n ≡ true) (sym own.first ∙ is_first) (head_there content bytes received sent place_in place_out limits count made links s.ways s.parts s.table s.parts_are once s.ways_are k way at))
           (sink_there content bytes received sent place_in place_out limits count made links s.ways s.parts s.table s.parts_are once s.ways_are k way d at ends) in
-      by (part_of k way at).0.exit tail (subst (λ (e : _). ExitAt place_out limits count sent made links e (part_of k way at).0.exit) ends own.exit_at)
+      by (behind_head made (part_of k way at).0.first (part_of k way at).0.inlet one.0) (part_of k way at).0.exit tail (subst (λ (e : _). ExitAt place_out limits count sent made links e (part_of k way at).0.exit) ends own.exit_at)
       (subst (λ (x : Tail K O). TailMade bytes made (part_of k way at).0.exit (λ c. sink_end (end_at (behind_head made (part_of k way at).0.first (part_of k way at).0.inlet one.0) c)) x) same one.1.tail)
       (head_other made (part_of k way at).0.first d (part_of k way at).0.inlet one.0 not_first ∙ one.2 d leaves)
     where
-      by : {ends_there : List (Option (End S K))} (exit : Exit O) (tail : Tail K O) → ExitAt place_out limits count sent made links (ends_of.Sink d) exit → TailMade bytes made exit (λ c. sink_end (end_at ends_there c)) tail → end_at ends_there d ≡ end_at s.ends d → WritesEnd s.ends d m tail
-      by exits.Open tail at_end h kept = absurd at_end
-      by (exits.Lane q o) tail at_end h kept = absurd at_end
-      by (exits.Sink c) (tails.Lane n o) at_end h kept = tt
-      by (exits.Sink c) tails.Open at_end h kept = tt
-      by {ends_there = there_ends} (exits.Sink c) (tails.Sink element sink) at_end h kept =
+      by : (ends_there : List (Option (End S K))) (exit : Exit O) (tail : Tail K O) → ExitAt place_out limits count sent made links (ends_of.Sink d) exit → TailMade bytes made exit (λ c. sink_end (end_at ends_there c)) tail → end_at ends_there d ≡ end_at s.ends d → WritesEnd s.ends d m tail
+      by ends_there exits.Open tail at_end h kept = absurd at_end
+      by ends_there (exits.Lane q o) tail at_end h kept = absurd at_end
+      by ends_there (exits.Sink c) (tails.Lane n o) at_end h kept = tt
+      by ends_there (exits.Sink c) tails.Open at_end h kept = tt
+      by there_ends (exits.Sink c) (tails.Sink element sink) at_end h kept =
           let at_d = subst (λ (n : ℕ). SinkAt bytes made n (sink_end (end_at there_ends n)) (Some sink)) at_end h.1 in
           at_d.2.2 ∙ ap (λ (x : Made). file_for x.settings (sink_end (end_at there_ends d))) (same_one at_d.0 m at_d.1 m_at) ∙ ap (λ (end : Option (End S K)). file_for m.settings (sink_end end)) kept

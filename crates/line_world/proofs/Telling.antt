@@ -46,21 +46,21 @@ there_within : (asked : Settings → Bool) (made : List Made) (e : ℕ) → has 
 there_within asked made e h = by (slice_get made e) refl h
   where
     by : (found : Option Made) → slice_get made e ≡ found → option_map_or (λ (m : Made). asked m.settings) found false ≡ true → e < length made
-    by None is yes = absurd (cc)
-    by (Some m) is yes = slice_get_within made e m is
+    by None is holds = absurd (cc)
+    by (Some m) is holds = slice_get_within made e m is
 
 pub pads_are_told : (made : List Made) (pads : List Pad) (h : ℕ → List Item) → length pads ≡ length made → CountHistories pads h → pads_told made pads ≡ pad_entries made h
 pads_are_told made pads h size counts = same_choice (pad_told made pads) (pad_entry made h) (range_with_len 0 (length made)) (λ e. choose e (has gives made e) refl)
   where
     of_pad : (e : ℕ) (pad : Pad) → Counts pad (h (pad_id (first_pad e))) → (found : Option Pad) → found ≡ Some pad
-        → option_map (λ (one : Pad). record { pad = source_pad made e; items = one.items; buffers = one.buffers }) found ≡ Some (record { pad = source_pad made e; items = length (h (pad_id (first_pad e))); buffers = buffers (h (pad_id (first_pad e))) })
+        → option_map {U = PadCount} (λ (one : Pad). record { pad = source_pad made e; items = one.items; buffers = one.buffers }) found ≡ Some (record { pad = source_pad made e; items = length (h (pad_id (first_pad e))); buffers = buffers (h (pad_id (first_pad e))) })
     of_pad e pad count found is =
-        ap (option_map (λ (one : Pad). record { pad = source_pad made e; items = one.items; buffers = one.buffers })) is
+        ap (option_map {U = PadCount} (λ (one : Pad). record { pad = source_pad made e; items = one.items; buffers = one.buffers })) is
         ∙ ap (λ (n : ℕ). Some (record { pad = source_pad made e; items = n; buffers = pad.buffers })) count.items
         ∙ ap (λ (n : ℕ). Some (record { pad = source_pad made e; items = length (h (pad_id (first_pad e))); buffers = n })) count.buffers
 
     choose : (e : ℕ) (b : Bool) → has gives made e ≡ b
-        → (if b then option_map (λ (one : Pad). record { pad = source_pad made e; items = one.items; buffers = one.buffers }) (slice_get pads e) else None)
+        → (if b then option_map {U = PadCount} (λ (one : Pad). record { pad = source_pad made e; items = one.items; buffers = one.buffers }) (slice_get pads e) else None)
         ≡ (if b then Some (record { pad = source_pad made e; items = length (h (pad_id (first_pad e))); buffers = buffers (h (pad_id (first_pad e))) }) else None)
     choose e true giving =
         let pad = get_within pads e (subst (λ (n : ℕ). e < n) (sym size) (there_within gives made e giving)) in
@@ -71,8 +71,8 @@ pub sinks_are_told : (made : List Made) (lengths : List ℕ) (bytes : ℕ → Li
 sinks_are_told made lengths bytes are = same_choice (sink_told made lengths) (sink_entry made bytes) (range_with_len 0 (length made)) (λ e. choose e (has writes made e) refl)
   where
     choose : (e : ℕ) (b : Bool) → has writes made e ≡ b
-        → (if b then option_map (λ n. record { name = name_at made e; bytes = n }) (slice_get lengths e) else None) ≡ (if b then Some (record { name = name_at made e; bytes = length (bytes e) }) else None)
-    choose e true writing = ap (option_map (λ n. record { name = name_at made e; bytes = n })) (are e writing)
+        → (if b then option_map {U = SinkCount} (λ n. record { name = name_at made e; bytes = n }) (slice_get lengths e) else None) ≡ (if b then Some (record { name = name_at made e; bytes = length (bytes e) }) else None)
+    choose e true writing = ap (option_map {U = SinkCount} (λ n. record { name = name_at made e; bytes = n })) (are e writing)
     choose e false writing = refl
 
 -- no count is above the limit of a pad
@@ -80,18 +80,18 @@ pub pads_within : (made : List Made) (pads : List Pad) → All (λ (count : PadC
 pads_within made pads = go (range_with_len 0 (length made))
   where
     put : (found : Option PadCount) (counts : List PadCount) → ((c : PadCount) → found ≡ Some c → c.items ≤ 1099511627776) → All (λ (count : PadCount). count.items ≤ 1099511627776) counts → All (λ (count : PadCount). count.items ≤ 1099511627776) (cons_option found counts)
-    put None counts one rest = rest
+    put None counts one rest k x w = rest k x w
     put (Some c) counts one rest zero x w = one c refl
     put (Some c) counts one rest (suc k) x w = rest k x (omega (arith, w))
 
-    of_pad : (e : ℕ) (found : Option Pad) (c : PadCount) → option_map (λ (one : Pad). record { pad = source_pad made e; items = one.items; buffers = one.buffers }) found ≡ Some c → c.items ≤ 1099511627776
+    of_pad : (e : ℕ) (found : Option Pad) (c : PadCount) → option_map {U = PadCount} (λ (one : Pad). record { pad = source_pad made e; items = one.items; buffers = one.buffers }) found ≡ Some c → c.items ≤ 1099511627776
     of_pad e None c is = absurd (none_some is)
     of_pad e (Some pad) c is = subst (λ (n : ℕ). n ≤ 1099511627776) (ap (λ (x : PadCount). x.items) (same is)) pad.limit
       where
         same : {x y : PadCount} → Some x ≡ Some y → x ≡ y
         same h = cc
 
-    choose : (e : ℕ) (b : Bool) (c : PadCount) → (if b then option_map (λ (one : Pad). record { pad = source_pad made e; items = one.items; buffers = one.buffers }) (slice_get pads e) else None) ≡ Some c → c.items ≤ 1099511627776
+    choose : (e : ℕ) (b : Bool) (c : PadCount) → (if b then option_map {U = PadCount} (λ (one : Pad). record { pad = source_pad made e; items = one.items; buffers = one.buffers }) (slice_get pads e) else None) ≡ Some c → c.items ≤ 1099511627776
     choose e true c is = of_pad e (slice_get pads e) c is
     choose e false c is = absurd (none_some is)
 

@@ -1,9 +1,8 @@
 //! The report of a run.
-ghost use Rattle.std.specs.Prelude.{◌≡◌, ◌<◌, [], ℕ, Some, IfOk, length, slice_get, unwrap_or};
-ghost use Rattle.std.specs.Option.{option_map_or};
+ghost use Rattle.std.specs.Prelude.{◌≡◌, ◌<◌, ◌++◌, [], IfOk, OnOk, length};
+ghost use Rattle.std.specs.List.{cons_option};
 ghost use Rattle.graph_core.specs.Ends.{name_at};
 ghost use Rattle.graph_core.specs.Graph.{made as made_in};
-ghost use Rattle.graph_ways.specs.Ways.{has};
 ghost use Rattle.line_start.specs.Start.{writes};
 ghost use Rattle.line_world.specs.Ran.{TellsEnd, stop_fault, stop_status};
 ghost use Rattle.line_world.specs.Told.{location_named, pad_told, pads_told, sink_told, sinks_told, source_pad, task_fault, task_status};
@@ -118,6 +117,16 @@ fn status_of(fault: &TaskFault) -> u8
     }
 }
 
+/// Puts a value at the end of a list, where there is one.
+fn push_some<T: Drop>(alloc: Global, list: &mut List<T>, value: Option<T>) -> Result<(), OutOfMemory>
+    ensures { OnOk result (list.new ≡ list.old ++ cons_option value []) }
+{
+    match value {
+        Some(value) => list.push(alloc, value),
+        None => Ok(()),
+    }
+}
+
 /// What the source pad of an element has counted, where it has one.
 fn count_at(
     alloc: Global,
@@ -147,9 +156,7 @@ fn counts_of(alloc: Global, graph: &Graph, pads: &[Pad]) -> Result<List<PadCount
 {
     let mut counts = List::new(alloc);
     for element in 0..graph.count() {
-        if let Some(count) = count_at(alloc, graph, pads, element)? {
-            counts.push(alloc, count)?;
-        }
+        push_some(alloc, &mut counts, count_at(alloc, graph, pads, element)?)?;
     }
     Ok(counts)
 }
@@ -193,9 +200,7 @@ fn lengths_of(
 {
     let mut counts = List::new(alloc);
     for element in 0..graph.count() {
-        if let Some(count) = length_at(alloc, graph, lengths, element)? {
-            counts.push(alloc, count)?;
-        }
+        push_some(alloc, &mut counts, length_at(alloc, graph, lengths, element)?)?;
     }
     Ok(counts)
 }
