@@ -64,7 +64,7 @@ use Rattle.stream_task.specs.Tail.{IsOpen, TailHas, TailPart, tail_element, tail
 use Rattle.stream_task.specs.Task.{AtFault, AtLimit, HasCrossed, Refused, Stands, Unlinked, Unwritten, TaskLists, head_of, last_of, stages_of, tail_of}
 use Rattle.task_net.specs.Net.{AllFramed, IsNetCause, NetCrossed, NetFaulted}
 use Rattle.line_world.specs.Back.{head_end}
-use Rattle.line_world.specs.Ended.{EndsRefused, EndsTooLong, EndsUnlinked, EndsUnread, EndsUnwritten, HasEnded, IsRendered, most_items}
+use Rattle.line_world.specs.Ended.{EndsRefused, EndsTooLong, EndsUnlinked, EndsUnread, EndsUnwritten, HasEnded, IsRendered, TellsRun, most_items}
 use Rattle.line_world.specs.Owed.{AreWritten, IsPartWritten, IsWritten, Refuses, WantsLink, came_to, went_from}
 use Rattle.line_world.specs.Prepared.{HasRoom}
 use Rattle.line_world.specs.Ran.{KnownFailed, KnownHold, TellsEnd}
@@ -373,3 +373,114 @@ module _ {S K I O : Type 0} (source_location content : S → Option (List ℕ)) 
         told_so (NotLinked e n) (λ no_memory. absurd (cc)) f contents told tt end tell (λ hist_of bs. AreWritten made links hist_of bs × (length (went_from hist_of e) ≡ n) × WantsLink contents made links hist_of e)
         (are_written (NotLinked e n) (λ no_memory. absurd (cc)) f contents told, unlinked.crossed, unlinked.wants);
   }
+
+  -- a write failed
+  ends_unwritten : (d first second : ℕ) → NetFaulted content bytes received sent place_in place_out is (start_lists made s.ways) tells' place (WriteFault d first second) → IsNetCause source_faults sink_faults t (WriteFault d first second) → (end : WorldEnd) → TellsEnd made (Some (WriteFault d first second)) counts numbers end
+      → EndsUnwritten graph before (KnownHold graph gave) (KnownFailed gave) end
+  ends_unwritten d first second f cause end tell =
+      let file = writes_file m.0.settings writing in
+      let on = written_on source_location content source_faults sink_location bytes sink_faults received sent place_in id_in place_out limits count_of id_out graph tasks left tells before s is framed same d m.0 file.0 m.1 file.1 place ended t at in
+      let failures = sink_failures sink_faults (tail_of t) on.0 on.1 on.2 second on.3 on.4 cause.1 in
+      record {
+        status = tell.status;
+        d = d;
+        element = m.0;
+        at = m.1;
+        location = file.0;
+        writes = file.1;
+        first = first;
+        second = second;
+        fault = tell.fault ∙ ap (λ (l : List ℕ). faults.WriteFault l first second) (named_location made d m.0 (Write file.0) m.1 file.1);
+        rose = cause.2;
+        failed = (known_end source_location content source_faults sink_location bytes sink_faults (Snk on.2), known_back d (Snk on.2) on.6, subst (λ (n : ℕ). Rose 0 n) (sym failures) (rose_zero first second cause.2));
+        tells = tells_part file.0 file.1;
+      }
+    where
+      ended : WayEnds s.ways place (ends_of.Sink d)
+      ended = record { way = way.0; is = way.1; ends = sink_end_of place_out limits (lane_place made links) way.0.end (tail_of t) d (the_goes.each place way.0 t way.1 at).tail cause.0 }
+
+      m : (x : Made) × (slice_get made d ≡ Some x) × (is_sink x.settings ≡ true)
+      m = there is_sink (slice_get made d) (end_is made links s.ways s.ways_are place (ends_of.Sink d) ended).1
+
+      writing : writes m.0.settings ≡ true
+      writing = ?
+
+      r : Unwritten content bytes received t (f.lists place)
+      r = f.faulted t at
+
+      other : WriteFault d first second ≡ OutOfMemory → ⊥
+      other no_memory = absurd (cc)
+
+      -- the bytes of all files, of which that of the sink ends in a part
+      part_bytes : (ℕ → List Item) → List ℕ → ℕ → List ℕ
+      part_bytes hist_of part c = if eqb c d then part else whole_bytes made links hist_of c
+
+      part_here : (hist_of : ℕ → List Item) (part : List ℕ) → part_bytes hist_of part d ≡ part
+      part_here hist_of part = by (eqb_tells d d)
+        where
+          by : ((eqb d d ≡ true) × (d ≡ d)) ⊎ ((eqb d d ≡ false) × (d ≡ d → ⊥)) → part_bytes hist_of part d ≡ part
+          by (inl t) = rw t.0 refl
+          by (inr f) = absurd (f.1 refl)
+
+      part_there : (hist_of : ℕ → List Item) (part : List ℕ) (c : ℕ) → c ≢ d → part_bytes hist_of part c ≡ whole_bytes made links hist_of c
+      part_there hist_of part c ne = by (eqb_tells c d)
+        where
+          by : ((eqb c d ≡ true) × (c ≡ d)) ⊎ ((eqb c d ≡ false) × (c ≡ d → ⊥)) → part_bytes hist_of part c ≡ whole_bytes made links hist_of c
+          by (inl t) = absurd (ne t.1)
+          by (inr f) = rw f.0 refl
+
+      sink_same : {a b : ℕ} → ends_of.Sink a ≡ ends_of.Sink b → a ≡ b
+      sink_same h = cc
+
+      tells_part : (location : List ℕ) → opening_of m.0.settings ≡ Some (Write location) → TellsRun graph before (KnownHold graph gave) end.report
+          (λ contents h_of b. ((c : ℕ) → c ≢ d → IsWritten made links h_of b c) × IsPartWritten contents made links h_of b d m.0.settings)
+      tells_part location opens contents told =
+          let crossed = stopped_as (WriteFault d first second) other f in
+          let hist_of = hist (WriteFault d first second) other f contents told in
+          let part = part_at source_location content source_faults sink_location bytes sink_faults received sent place_in id_in place_out limits count_of id_out graph tasks left tells before s is framed same contents told crossed none room.nothing d m.0 location m.1 opens place t ended at r.item r.part in
+          let body = written (disk_after (keeps_flushed m.0.settings) (came_to links hist_of d)).bytes (disk_after (keeps_flushed m.0.settings) (came_to links hist_of d)).place (take part.0 (body_of r.item)) in
+          let waits = awaited content received place_in place_out limits s.tree graph contents (lane_place made links) s.ways is (start_lists made s.ways) s.is s.sound s.ways_are
+              (run_goes source_location content source_faults sink_location bytes sink_faults received sent place_in id_in place_out limits count_of id_out graph tasks left tells before s is framed same contents told crossed none room.nothing)
+              (run_owes source_location content source_faults sink_location bytes sink_faults received sent place_in id_in place_out limits count_of id_out graph tasks left tells before s is framed same contents told crossed none room.nothing)
+              crossed
+              (pairs source_location content source_faults sink_location bytes sink_faults received sent place_in id_in place_out limits count_of id_out graph tasks left tells before s is framed same)
+              place t at bytes d ended r in
+          rendered source_location content source_faults sink_location bytes sink_faults received sent place_in id_in place_out limits count_of id_out graph tasks left tells before s is framed same pads none room contents told crossed end tell.pads_are tell.sinks_are
+          (part_bytes hist_of body)
+          (λ c x place_of_c c_at c_opens.
+              ⊎_elim
+              (λ is_d.
+                  subst (λ (n : ℕ). HoldsNow (WriteFault d first second) other f contents told n (part_bytes hist_of body n)) (sym is_d)
+                  (subst (λ (xs : List ℕ). HoldsNow (WriteFault d first second) other f contents told d xs) (sym (part_here hist_of body)) part.1))
+              (λ ne.
+                  subst (λ (xs : List ℕ). HoldsNow (WriteFault d first second) other f contents told c xs) (sym (part_there hist_of body c ne ∙ bytes_there made links hist_of c x c_at))
+                  (stands_held (WriteFault d first second) other f contents told c x place_of_c c_at c_opens
+                  (λ ends_c. absurd (ne (sink_same (sym (ap (λ (w : Way). w.end) (some_same (sym ended.is ∙ ends_c.is)) ∙ ends_c.ends) ∙ ended.ends))))))
+              (cases_eq c d))
+          (λ h_of b. ((c : ℕ) → c ≢ d → IsWritten made links h_of b c) × IsPartWritten contents made links h_of b d m.0.settings)
+          (
+            λ c ne x c_at c_writes. part_there hist_of body c ne ∙ bytes_there made links hist_of c x c_at,
+            record {
+              before = waits.before;
+              linked = waits.linked;
+              item = r.item;
+              next = waits.next;
+              part = part.0;
+              bytes_are = part_here hist_of body;
+            },
+          )
+
+  -- so each fault that is not want of memory ends a run of the line
+  pub faulted_ends : (fault : TaskFault) → (fault ≡ OutOfMemory → ⊥) → NetFaulted content bytes received sent place_in place_out is (start_lists made s.ways) tells' place fault → IsNetCause source_faults sink_faults t fault → (end : WorldEnd) → TellsEnd made (Some fault) counts numbers end
+      → HasEnded graph before (KnownHold graph gave) (KnownFailed gave) end
+  faulted_ends (ReadFault e first second) other f cause end tell = inr (inl (ends_unread e first second f cause end tell))
+  faulted_ends (WriteFault d first second) other f cause end tell = inr (inr (inl (ends_unwritten d first second f cause end tell)))
+  faulted_ends (Stream d n kind) other f cause end tell = inr (inr (inr (inl (ends_refused (Stream d n kind) other tt f (f.faulted t at) end tell))))
+  faulted_ends (Caps d offered wanted) other f cause end tell = inr (inr (inr (inl (ends_refused (Caps d offered wanted) other tt f (f.faulted t at) end tell))))
+  faulted_ends (NotLinked e n) other f cause end tell = inr (inr (inr (inr (inl (ends_unlinked e n f (f.faulted t at) end tell)))))
+  faulted_ends (TooLong e a b) other f cause end tell = by (f.faulted t at)
+    where
+      by : AtLimit content bytes received sent t (f.lists place) e a b ⊎ Refused content bytes received sent t (f.lists place) (TooLong e a b) → HasEnded graph before (KnownHold graph gave) (KnownFailed gave) end
+      by (inl r) = inr (inr (inr (inr (inr (ends_too_long e a b f r end tell)))))
+      by (inr r) = inr (inr (inr (inl (ends_refused (TooLong e a b) other tt f r end tell))))
+  faulted_ends OutOfMemory other f cause end tell = absurd (other refl)
