@@ -135,7 +135,7 @@ ruled_at made (x ∷ ds) (l ∷ ls) rules zero d at = (l, refl, rules.0.element,
 ruled_at made (x ∷ ds) (l ∷ ls) rules (suc i) d at = ruled_at made ds ls rules.1 i d at
 
 -- the element of a stage stands for what crossed the pad before it
-stage_at : (ss : List Stage) (put : List Item) (ls : List StageList) → StagesStand ss put ls → (i : ℕ) (l : StageList) → slice_get ls i ≡ Some l → (s : Stage) × (given : List Item) × StageStands s given l
+pub stage_at : (ss : List Stage) (put : List Item) (ls : List StageList) → StagesStand ss put ls → (i : ℕ) (l : StageList) → slice_get ls i ≡ Some l → (s : Stage) × (given : List Item) × StageStands s given l
 stage_at [] put [] stand i l at = absurd (cc)
 stage_at [] put (x ∷ ls) stand i l at = absurd stand
 stage_at (s ∷ ss) put [] stand i l at = absurd stand

@@ -34,7 +34,7 @@ use Rattle.line_whole.specs.Whole.{GoesForwardOn, IsWholeAt, LineIsWhole, PutWho
 use Rattle.line_whole.proofs.Evals.{wholes_to_whole}
 
 -- an element that has a source pad gives
-giving : (found : Option Made) (pad : ℕ) → pad < option_map_or (λ (m : Made). source_pads m.settings) found 0 → (option_map_or (λ (m : Made). gives m.settings) found false ≡ true) × (pad ≡ 0)
+pub giving : (found : Option Made) (pad : ℕ) → pad < option_map_or (λ (m : Made). source_pads m.settings) found 0 → (option_map_or (λ (m : Made). gives m.settings) found false ≡ true) × (pad ≡ 0)
 giving None pad w = absurd (omega (arith, w))
 giving (Some m) pad w = go m.settings w
   where
