@@ -1,5 +1,5 @@
 -- For which lists a task stands, and what its steps do to them.
-use Rattle.std.specs.Prelude.{◌≡◌, ◌≢◌, ◌≤◌, ◌<◌, ◌⊎◌, ℕ, ◌+◌, ◌-◌, false, true, List, [], ◌∷◌, ◌++◌, Option, Some, Bool, Result, Ok, Err, length, option_map, slice_get}
+use Rattle.std.specs.Prelude.{◌≡◌, ◌≢◌, ◌≤◌, ◌<◌, ◌⊎◌, ℕ, ◌+◌, ◌-◌, false, true, List, [], ◌∷◌, ◌++◌, Option, Some, Bool, Result, Ok, Err, length, is_some, option_map, slice_get}
 use Rattle.std.specs.Option.{ForSome}
 use Rattle.gst_item.specs.declared.fault.ElementFault.{ElementFault}
 use Rattle.flow_model.specs.Item.{Item, is_buffer}
@@ -24,7 +24,7 @@ use Rattle.stream_task.specs.declared.head.Head.{Head}
 use Rattle.stream_task.specs.declared.tail.Tail.{Tail}
 use Rattle.stream_task.specs.Fault.{fault_of}
 use Rattle.stream_task.specs.Head.{HeadLists, HeadGave, HeadIn, head_faults, head_place, head_number, head_id, head_location, head_content}
-use Rattle.stream_task.specs.Tail.{TailHas, TailPart, TailOf, IsOpen, tail_faults, tail_place, tail_number, tail_element, tail_id, tail_location, tail_limit}
+use Rattle.stream_task.specs.Tail.{TailHas, TailPart, TailOf, IsOpen, tail_faults, tail_place, tail_number, tail_element, tail_id, tail_location, tail_limit, tail_len}
 use Rattle.stream_task.specs.Pads.{Counts}
 use Rattle.stream_task.specs.Stage.{StageList, StagesStand, StagesKeep, put_at, put_last, crossed_at, element_at, numbers_of, items_crossed, room_left, SameRules, AreIdle}
 
@@ -242,6 +242,7 @@ pub record Frame {S K I O : Type 0} (source_location content : S → Option (Lis
   pub outlet : tail_place place_out is.tail ≡ tail_place place_out was.tail
   pub outlet_id : tail_id id_out is.tail ≡ tail_id id_out was.tail
   pub limit : tail_limit limits is.tail ≡ tail_limit limits was.tail
+  pub sink_file : is_some (tail_len is.tail) ≡ is_some (tail_len was.tail)
 
 -- how many items the head has given
 abbrev pub given_of : {S K I O : Type 0} → Task S K I O → ℕ

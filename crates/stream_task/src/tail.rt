@@ -1,5 +1,5 @@
 //! Where the items of a task go.
-ghost use Rattle.std.specs.Prelude.{◌≡◌, ◌≤◌, ◌<◌, ◌+◌, ◌^◌, ℕ, Bool, List, Some, true, IfOk, IfErr, OnErr};
+ghost use Rattle.std.specs.Prelude.{◌≡◌, ◌≤◌, ◌<◌, ◌+◌, ◌^◌, ℕ, Bool, List, Some, true, is_some, IfOk, IfErr, OnErr};
 ghost use Rattle.flow_model.specs.Item.{Item, is_buffer};
 ghost use Rattle.lane_core.specs.Lane.{IsOf};
 ghost use Rattle.stream_task.specs.Tail.{TailHas, TailUnsent, TailOf, TailMoves, TailCause, AfterSend, NamesLane, LaneTakes, refusals_behind, puts_behind, tail_faults, tail_number, tail_element, tail_refusals, tail_limit, tail_count, tail_place, tail_id, tail_location, tail_len};
@@ -84,6 +84,7 @@ impl<K: Sink, O: Outlet> Tail<K, O> {
         ensures limit { tail_limit O.limits self.new ≡ tail_limit O.limits self.old }
         ensures id { tail_id O.id self.new ≡ tail_id O.id self.old }
         ensures location { tail_location K.location self.new ≡ tail_location K.location self.old }
+        ensures file { is_some (tail_len self.new) ≡ is_some (tail_len self.old) }
     {
         match self {
             Tail::Sink { element, sink } => match sink.render(&item) {

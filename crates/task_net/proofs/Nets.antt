@@ -80,6 +80,7 @@ module _ {S K I O : Type 0} (source_location content : S → Option (List ℕ)) 
     outlet = refl;
     outlet_id = refl;
     limit = refl;
+    sink_file = refl;
   }
 
   frame_trans : (a b c : Task S K I O) → Frame source_location content sink_location place_in id_in place_out limits id_out a b → Frame source_location content sink_location place_in id_in place_out limits id_out b c
@@ -98,6 +99,7 @@ module _ {S K I O : Type 0} (source_location content : S → Option (List ℕ)) 
     outlet = y.outlet ∙ x.outlet;
     outlet_id = y.outlet_id ∙ x.outlet_id;
     limit = y.limit ∙ x.limit;
+    sink_file = y.sink_file ∙ x.sink_file;
   }
 
   -- frames stay over steps
