@@ -12,7 +12,7 @@ use Rattle.flow_model.specs.Item.{Item, body_of}
 use Rattle.flow_model.specs.SinkBytes.{disk_after, sink_bytes}
 use Rattle.el_set.specs.Asked.{location_of}
 use Rattle.el_set.specs.Gives.{source_faults as faults_of_source}
-use Rattle.el_set.specs.Holds.{sink_faults as faults_of_sink, sink_file}
+use Rattle.el_set.specs.Holds.{sink_faults as faults_of_sink, sink_file, sink_len}
 use Rattle.el_set.specs.Made.{file_for, keeps_flushed}
 use Rattle.el_set.specs.declared.settings.Settings.{Settings}
 use Rattle.el_set.specs.declared.settings.Settings.TheVariants.{FileSrc, Identity, CapsFilter, Queue as QueueSettings, FileSink, FakeSink}
@@ -60,18 +60,21 @@ use Rattle.stream_task.specs.Fault.{fault_of}
 use Rattle.stream_task.specs.Head.{head_faults}
 use Rattle.stream_task.specs.declared.stage.Stage.{Stage}
 use Rattle.stream_task.specs.Stage.{StageList, StagesStand, element_at, numbers_of, owes}
-use Rattle.stream_task.specs.Tail.{IsOpen, TailHas, TailPart, tail_element, tail_faults}
-use Rattle.stream_task.specs.Task.{AtFault, AtLimit, HasCrossed, Refused, Stands, Unlinked, Unwritten, TaskLists, head_of, last_of, stages_of, tail_of}
+use Rattle.stream_task.specs.Tail.{IsOpen, TailHas, TailPart, tail_element, tail_faults, tail_len}
+use Rattle.stream_task.specs.Task.{AtFault, AtLimit, Frame, HasCrossed, Refused, Stands, Unlinked, Unwritten, TaskLists, head_of, last_of, stages_of, tail_of}
 use Rattle.task_net.specs.Net.{AllFramed, IsNetCause, NetCrossed, NetFaulted}
 use Rattle.line_world.specs.Back.{head_end}
 use Rattle.line_world.specs.Ended.{EndsRefused, EndsTooLong, EndsUnlinked, EndsUnread, EndsUnwritten, HasEnded, IsRendered, TellsRun, most_items}
 use Rattle.line_world.specs.Owed.{AreWritten, IsPartWritten, IsWritten, Refuses, WantsLink, came_to, went_from}
 use Rattle.line_world.specs.Prepared.{HasRoom}
 use Rattle.line_world.specs.Ran.{KnownFailed, KnownHold, TellsEnd}
-use Rattle.line_world.specs.Start.{IsStarted}
+use Rattle.line_world.specs.Start.{IsStarted, WritesEnd}
 use Rattle.line_world.specs.Stops.{IsAwaited, IsFull, IsUnlinked}
 use Rattle.line_world.specs.Told.{element_fault, element_status, location_named, task_fault, task_status}
 use Rattle.line_world.specs.declared.ended.WorldEnd.{WorldEnd}
+use Rattle.line_tasks.specs.Making.{end_at, sink_end}
+use Rattle.line_world.proofs.Framed.{before_that}
+use Rattle.line_world.proofs.Started.{start_goes, start_sink}
 use Rattle.line_world.proofs.Given.{back, goes, pairs, read_at, written_on}
 use Rattle.line_world.proofs.Held.{held_at, part_at, run_goes, run_owes}
 use Rattle.line_world.proofs.Located.{reads_file, writer_is, writes_file}
@@ -161,6 +164,41 @@ head_failures {S = S} {K = K} {I = I} faults (heads.Source (sources.File f)) fil
 head_failures faults (heads.Source (sources.Ramp ramp)) file n is told = absurd (none_some is)
 head_failures faults (heads.Queue inlets) file n is told = absurd (none_some is)
 head_failures faults heads.Unlinked file n is told = absurd (none_some is)
+
+-- a sink whose calls failed writes a file, as it did from the start, and so does its element
+sink_writes : (x : Settings) → is_sink x ≡ true → (writes x ≡ true) ⊎ ((K : Type 0) (file : Option K) → file_for x file ≡ None)
+sink_writes (FileSrc x) h = absurd (cc)
+sink_writes Identity h = absurd (cc)
+sink_writes (CapsFilter x) h = absurd (cc)
+sink_writes (QueueSettings x) h = absurd (cc)
+sink_writes (FileSink x) h = inl refl
+sink_writes FakeSink h = inr (λ K file. refl)
+
+fails_writes : {S K O : Type 0} (faults : K → ℕ) (ends : List (Option (End S K))) (d : ℕ) (m : Made) (was is : Tail K O) (n : ℕ) (place_out : O → ℕ) (limits : O → Limits) (lane : ℕ → ℕ) → is_sink m.settings ≡ true → TailAlong place_out limits lane (ends_of.Sink d) was → WritesEnd ends d m was
+    → is_some (tail_len is) ≡ is_some (tail_len was) → tail_faults faults is ≡ Some n → writes m.settings ≡ true
+fails_writes {S = S} {K = K} {O = O} faults ends d m was is n place_out limits lane sink along start kept failed = by (sink_writes m.settings sink)
+  where
+    none_written : (one : SinkElement K) → sink_file one ≡ None → is_some (sink_len one) ≡ false
+    none_written (sinks.File file) none = absurd (none_some (sym none))
+    none_written (sinks.Fake fake) none = refl
+
+    so_none : (tail : Tail K O) → TailAlong place_out limits lane (ends_of.Sink d) tail → WritesEnd ends d m tail → ((file : Option K) → file_for m.settings file ≡ None) → is_some (tail_len tail) ≡ false
+    so_none (tails.Sink element one) goes_along writes_end none = none_written one (writes_end ∙ none (sink_end (end_at ends d)))
+    so_none (tails.Lane number outlet) goes_along writes_end none = refl
+    so_none tails.Open goes_along writes_end none = refl
+
+    some_failed : (tail : Tail K O) → tail_faults faults tail ≡ Some n → is_some (tail_len tail) ≡ true
+    some_failed (tails.Sink element (sinks.File file)) told = refl
+    some_failed (tails.Sink element (sinks.Fake fake)) told = absurd (none_some told)
+    some_failed (tails.Lane number outlet) told = absurd (none_some told)
+    some_failed tails.Open told = absurd (none_some told)
+
+    both : true ≡ false → ⊥
+    both h = cc
+
+    by : (writes m.settings ≡ true) ⊎ ((T : Type 0) (file : Option T) → file_for m.settings file ≡ None) → writes m.settings ≡ true
+    by (inl written_there) = written_there
+    by (inr none) = absurd (both (sym (some_failed is failed) ∙ kept ∙ so_none was along start (λ file. none K file)))
 
 -- a head whose failures are told is that of a source
 head_source : {S I : Type 0} (faults : S → ℕ) (place_in : I → ℕ) (lane : ℕ → ℕ) (made : List Made) (links : List PadLink) (e n : ℕ) (head : Head S I) → HeadAlong place_in lane made links e head → head_faults faults head ≡ Some n → has is_source made e ≡ true
@@ -402,8 +440,17 @@ module _ {S K I O : Type 0} (source_location content : S → Option (List ℕ)) 
       m : (x : Made) × (slice_get made d ≡ Some x) × (is_sink x.settings ≡ true)
       m = there is_sink (slice_get made d) (end_is made links s.ways s.ways_are place (ends_of.Sink d) ended).1
 
+      old : (x : Task S K I O) × (slice_get tasks place ≡ Some x) × Frame source_location content sink_location place_in id_in place_out limits id_out x t
+      old = before_that source_location content sink_location place_in id_in place_out limits id_out tasks is framed same place t at
+
+      old_along : TailAlong place_out limits (lane_place made links) (ends_of.Sink d) (tail_of old.0)
+      old_along = subst (λ (x : WayEnd). TailAlong place_out limits (lane_place (made_in graph) (links_in graph)) x (tail_of old.0)) ended.ends
+          ((start_goes source_location content source_faults sink_location bytes sink_faults received sent place_in place_out limits count_of graph tasks left tells before s).each place way.0 old.0 way.1 old.1).tail
+
       writing : writes m.0.settings ≡ true
-      writing = ?
+      writing = fails_writes sink_faults s.ends d m.0 (tail_of old.0) (tail_of t) second place_out limits (lane_place made links) m.2 old_along
+          (start_sink source_location content source_faults sink_location bytes sink_faults received sent place_in place_out limits count_of graph tasks left tells before s place way.0 old.0 way.1 old.1 d ended.ends m.0 m.1 (tail_of old.0) refl)
+          old.2.sink_file cause.1
 
       r : Unwritten content bytes received t (f.lists place)
       r = f.faulted t at

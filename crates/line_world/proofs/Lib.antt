@@ -10,4 +10,7 @@ mod Telling
 mod Held
 mod Ran
 mod Faulted
+mod Runs
+mod Closing
+mod Rooms
 mod Choosing

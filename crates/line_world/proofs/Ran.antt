@@ -29,6 +29,7 @@ use Rattle.line_start.specs.Start.{start_lists, writes}
 use Rattle.line_start.proofs.Along.{there}
 use Rattle.line_tasks.specs.Lanes.{lane_place}
 use Rattle.line_whole.proofs.Ended.{ended_whole}
+use Rattle.line_over.proofs.Over.{ended_over}
 use Rattle.run_files.specs.Ends.{Known, known_end, known_ends}
 use Rattle.run_files.specs.Seen.{Seen}
 use Rattle.run_files.specs.declared.end.End.{End}
@@ -44,7 +45,7 @@ use Rattle.stream_task.specs.Task.{HasCrossed, Stands, TaskLists, tail_of}
 use Rattle.task_net.specs.Net.{AllFramed, NetCrossed, NetEnded}
 use Rattle.line_world.specs.Back.{fold_back, with_length}
 use Rattle.line_world.specs.Ended.{EndsEos, IsRendered}
-use Rattle.line_world.specs.Owed.{AreWhole, AreWritten, IsWritten, came_to}
+use Rattle.line_world.specs.Owed.{AreOver, AreWhole, AreWritten, IsWritten, came_to}
 use Rattle.line_world.specs.Prepared.{HasRoom}
 use Rattle.line_world.specs.Ran.{KnownHold, TellsEnd}
 use Rattle.line_world.specs.Start.{IsStarted}
@@ -181,7 +182,7 @@ module _ {S K I O : Type 0} (source_location content : S → Option (List ℕ)) 
             subst (λ (xs : List ℕ). Holds contents told crossed d xs) (sym (bytes_there made links history d m at))
             (held_at source_location content source_faults sink_location bytes sink_faults received sent place_in id_in place_out limits count_of id_out graph tasks left tells before s is framed same contents told crossed none room.nothing d m location at opens
             (λ k task ends at_k. (ended.net.stands k task at_k).tail)))
-        (λ hist b. AreWritten made links hist b × AreWhole contents graph hist)
+        (λ hist b. AreWritten made links hist b × AreWhole contents graph hist × AreOver graph hist)
         (
           λ d m at writing. bytes_there made links history d m at,
           λ count p within pad.
@@ -189,5 +190,10 @@ module _ {S K I O : Type 0} (source_location content : S → Option (List ℕ)) 
               (run_goes source_location content source_faults sink_location bytes sink_faults received sent place_in id_in place_out limits count_of id_out graph tasks left tells before s is framed same contents told crossed none room.nothing)
               (run_owes source_location content source_faults sink_location bytes sink_faults received sent place_in id_in place_out limits count_of id_out graph tasks left tells before s is framed same contents told crossed none room.nothing) ended
               (run_histories contents told crossed) p within pad,
+          λ d m at sink live.
+              ended_over content bytes received sent place_in place_out limits s.tree graph contents (lane_place made links) s.ways is (start_lists made s.ways) tells' history s.is s.sound s.ways_are
+              (run_goes source_location content source_faults sink_location bytes sink_faults received sent place_in id_in place_out limits count_of id_out graph tasks left tells before s is framed same contents told crossed none room.nothing)
+              (run_owes source_location content source_faults sink_location bytes sink_faults received sent place_in id_in place_out limits count_of id_out graph tasks left tells before s is framed same contents told crossed none room.nothing) ended
+              (run_histories contents told crossed) d m at sink live,
         );
   }

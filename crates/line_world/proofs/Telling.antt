@@ -36,7 +36,7 @@ same_choice f g [] same = refl
 same_choice f g (x ∷ xs) same = rw (same x, same_choice f g xs same) refl
 
 -- a number within a list is that of something in it
-get_within : {A : Type 0} (xs : List A) (e : ℕ) → e < length xs → (x : A) × (slice_get xs e ≡ Some x)
+pub get_within : {A : Type 0} (xs : List A) (e : ℕ) → e < length xs → (x : A) × (slice_get xs e ≡ Some x)
 get_within [] e within = absurd (omega (arith, within))
 get_within (x ∷ xs) zero within = (x, refl)
 get_within (x ∷ xs) (suc e) within = get_within xs e (omega (arith, within))

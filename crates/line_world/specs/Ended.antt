@@ -16,7 +16,7 @@ use Rattle.run_files.specs.Seen.{Seen}
 use Rattle.run_files.specs.declared.end.Opening.TheVariants.{Read, Write}
 use Rattle.run_report.specs.declared.report.Fault.TheVariants as faults
 use Rattle.run_report.specs.declared.report.Report.{Report}
-use Rattle.line_world.specs.Owed.{AreWhole, AreWritten, IsPartWritten, IsWritten, Refuses, WantsLink, went_from}
+use Rattle.line_world.specs.Owed.{AreOver, AreWhole, AreWritten, IsPartWritten, IsWritten, Refuses, WantsLink, went_from}
 use Rattle.line_world.specs.Told.{element_fault, element_status, pad_entries, sink_entries, source_pad}
 use Rattle.line_world.specs.declared.ended.WorldEnd.{WorldEnd}
 
@@ -44,7 +44,7 @@ TellsRun graph before Holds report Cause = (contents : ℕ → List ℕ) → Wer
 pub record EndsEos (graph : Graph) (before : Seen) (Holds : (ℕ → List ℕ) → Type 0) (end : WorldEnd) : Type 0 where
   pub status : end.status ≡ 0
   pub fault : end.report.fault ≡ faults.Nothing
-  pub tells : TellsRun graph before Holds end.report (λ contents h bytes. AreWritten (made_in graph) (links_in graph) h bytes × AreWhole contents graph h)
+  pub tells : TellsRun graph before Holds end.report (λ contents h bytes. AreWritten (made_in graph) (links_in graph) h bytes × AreWhole contents graph h × AreOver graph h)
 
 -- A source could not be read.
 pub record EndsUnread (graph : Graph) (before : Seen) (Holds : (ℕ → List ℕ) → Type 0) (Failed : ℕ → Type 0) (end : WorldEnd) : Type 0 where

@@ -7,4 +7,3 @@ pub mod Back
 pub mod Start
 pub mod Ran
 pub mod Prepared
-pub mod Plan

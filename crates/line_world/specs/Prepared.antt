@@ -1,5 +1,5 @@
 -- What a run of a line takes the memory for before a file is open.
-use Rattle.std.specs.Prelude.{◌≡◌, ◌<◌, ℕ, List, Option, Some, length, map, slice_get}
+use Rattle.std.specs.Prelude.{◌≡◌, ◌<◌, ◌≤◌, ℕ, List, Option, Some, length, map, slice_get}
 use Rattle.flow_model.specs.Item.{Item}
 use Rattle.graph_core.specs.Graph.{made as made_in, links as links_in}
 use Rattle.graph_core.specs.declared.graph.Graph.{Graph}
@@ -23,6 +23,7 @@ pub record HasRoom (n : ℕ) (pads : List Pad) (lengths : List ℕ) : Type 0 whe
   pub size : length pads ≡ n
   pub uncounted : AreUncounted pads
   pub nothing : NothingYet n lengths
+  pub few : n ≤ 256
 
 -- The parts of the tasks of a graph's ways with the table of their lanes, room for what is counted, and what its elements
 -- open.

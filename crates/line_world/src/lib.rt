@@ -4,7 +4,5 @@
 pub mod ended;
 mod giving;
 mod report;
-mod run;
 
 pub use ended::WorldEnd;
-pub use run::run_turns;
