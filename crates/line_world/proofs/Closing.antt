@@ -37,23 +37,23 @@ none_some : {A : Type 0} {a : A} → None ≡ Some a → ⊥
 none_some h = cc
 
 -- the same is told of a run by what is known otherwise of its files
-tells_with : {graph : Graph} {before : Seen} (Holds Other : (ℕ → List ℕ) → Type 0) {report : Report} {Cause : (ℕ → List ℕ) → (ℕ → List Item) → (ℕ → List ℕ) → Type 0} → ((b : ℕ → List ℕ) → Holds b → Other b) → TellsRun graph before Holds report Cause → TellsRun graph before Other report Cause
-tells_with Holds Other more tells contents told =
+tells_with : (graph : Graph) (before : Seen) (Holds Other : (ℕ → List ℕ) → Type 0) (report : Report) (Cause : (ℕ → List ℕ) → (ℕ → List Item) → (ℕ → List ℕ) → Type 0) → ((b : ℕ → List ℕ) → Holds b → Other b) → TellsRun graph before Holds report Cause → TellsRun graph before Other report Cause
+tells_with graph before Holds Other report Cause more tells contents told =
     let one = tells contents told in
     record { h = one.h; evaluated = one.evaluated; pads = one.pads; limit = one.limit; bytes = one.bytes; sinks = one.sinks; files = more one.bytes one.files; cause = one.cause }
 
-pub ended_with : (graph : Graph) (before : Seen) (Holds Other : (ℕ → List ℕ) → Type 0) (Failed More : ℕ → Type 0) (end : WorldEnd) → ((b : ℕ → List ℕ) → Holds b → Other b) → ((e : ℕ) → Failed e → More e) → HasEnded graph before Holds Failed end → HasEnded graph before Other More end
-ended_with graph before Holds Other Failed More end holds fails (inl x) = inl (record { status = x.status; fault = x.fault; tells = tells_with Holds Other holds x.tells })
-ended_with graph before Holds Other Failed More end holds fails (inr (inl x)) =
-    inr (inl (record { status = x.status; e = x.e; element = x.element; at = x.at; location = x.location; reads = x.reads; first = x.first; second = x.second; fault = x.fault; rose = x.rose; failed = fails x.e x.failed; tells = tells_with Holds Other holds x.tells }))
-ended_with graph before Holds Other Failed More end holds fails (inr (inr (inl x))) =
-    inr (inr (inl (record { status = x.status; d = x.d; element = x.element; at = x.at; location = x.location; writes = x.writes; first = x.first; second = x.second; fault = x.fault; rose = x.rose; failed = fails x.d x.failed; tells = tells_with Holds Other holds x.tells })))
-ended_with graph before Holds Other Failed More end holds fails (inr (inr (inr (inl x)))) =
-    inr (inr (inr (inl (record { d = x.d; element = x.element; at = x.at; own = x.own; status = x.status; fault = x.fault; tells = tells_with Holds Other holds x.tells }))))
-ended_with graph before Holds Other Failed More end holds fails (inr (inr (inr (inr (inl x))))) =
-    inr (inr (inr (inr (inl (record { status = x.status; e = x.e; place = x.place; fault = x.fault; tells = tells_with Holds Other holds x.tells })))))
-ended_with graph before Holds Other Failed More end holds fails (inr (inr (inr (inr (inr x))))) =
-    inr (inr (inr (inr (inr (record { status = x.status; e = x.e; element = x.element; at = x.at; fault = x.fault; tells = tells_with Holds Other holds x.tells })))))
+pub ended_with : (graph : Graph) (before : Seen) (Holds Other : (ℕ → List ℕ) → Type 0) (Fails More : ℕ → Type 0) (end : WorldEnd) → ((b : ℕ → List ℕ) → Holds b → Other b) → ((e : ℕ) → Fails e → More e) → HasEnded graph before Holds Fails end → HasEnded graph before Other More end
+ended_with graph before Holds Other Fails More end holds fails (inl x) = inl (record { status = x.status; fault = x.fault; tells = tells_with graph before Holds Other end.report _ holds x.tells })
+ended_with graph before Holds Other Fails More end holds fails (inr (inl x)) =
+    inr (inl (record { status = x.status; e = x.e; element = x.element; at = x.at; location = x.location; reads = x.reads; first = x.first; second = x.second; fault = x.fault; rose = x.rose; failed = fails x.e x.failed; tells = tells_with graph before Holds Other end.report _ holds x.tells }))
+ended_with graph before Holds Other Fails More end holds fails (inr (inr (inl x))) =
+    inr (inr (inl (record { status = x.status; d = x.d; element = x.element; at = x.at; location = x.location; writes = x.writes; first = x.first; second = x.second; fault = x.fault; rose = x.rose; failed = fails x.d x.failed; tells = tells_with graph before Holds Other end.report _ holds x.tells })))
+ended_with graph before Holds Other Fails More end holds fails (inr (inr (inr (inl x)))) =
+    inr (inr (inr (inl (record { d = x.d; element = x.element; at = x.at; own = x.own; status = x.status; fault = x.fault; tells = tells_with graph before Holds Other end.report _ holds x.tells }))))
+ended_with graph before Holds Other Fails More end holds fails (inr (inr (inr (inr (inl x))))) =
+    inr (inr (inr (inr (inl (record { status = x.status; e = x.e; place = x.place; fault = x.fault; tells = tells_with graph before Holds Other end.report _ holds x.tells })))))
+ended_with graph before Holds Other Fails More end holds fails (inr (inr (inr (inr (inr x))))) =
+    inr (inr (inr (inr (inr (record { status = x.status; e = x.e; element = x.element; at = x.at; fault = x.fault; tells = tells_with graph before Holds Other end.report _ holds x.tells })))))
 
 rose_more : (before mid after : ℕ) → before ≤ mid → Rose mid after → Rose before after
 rose_more before mid after more rose = omega (arith, more, rose)
@@ -69,14 +69,13 @@ module _ (tree : Tree) (graph : Graph) (is : IsGraph tree graph) (known : List (
       subst (λ (o : Option (List ℕ)). ForSome o (λ file. file ≡ b d)) (sym (alone location held.0 (is_present known d held.0 held.1) sink (one_sink tree graph known d m location is located at opens_it))) held.2
     where
       sink_there : (k : Known) (l : List ℕ) → k.is_sink ≡ true → k.location ≡ Some l → IsTrue (is_sink_at l k)
-      sink_there k l sink place = subst (λ (x : Bool). IsTrue x) (sym (ap (λ (x : Bool). x && is_at k.location l) sink ∙ ap (λ (o : Option (List ℕ)). is_at o l) place ∙ (bytes_eq-Decides l l).1 refl)) ?
+      sink_there k l sink place = subst (λ (x : Bool). IsTrue x) (sym (ap (λ (x : Bool). x && is_at k.location l) sink ∙ ap (λ (o : Option (List ℕ)). is_at o l) place ∙ (bytes_eq-Decides l l).1 refl)) refl
 
   -- where calls of an end failed, the failures of the files rose
   pub file_failed : ((end : Known) → Contains (present known) end → Rose 0 end.faults → Rose mid.faults after.faults) → ((l : List ℕ) (end : Known) → Contains (present known) end → Rose 0 end.faults → end.location ≡ Some l → ToldRose (mid.faults_of l) (after.faults_of l))
       → (e : ℕ) → KnownFailed known e → FileFailed graph before after e
   file_failed rose rose_of e failed m opening at opens_it =
-      let place = place_of m opening at opens_it in
-      (
+      let place = place_of m opening at opens_it in (
         rose_more before.faults mid.faults after.faults opens.faults (rose failed.0 (is_present known e failed.0 failed.1) failed.2),
         subst (λ (o : Option ℕ). ToldRose o (after.faults_of (location_of opening))) (opens.faults_of (location_of opening)) (rose_of (location_of opening) failed.0 (is_present known e failed.0 failed.1) failed.2 place),
       )
@@ -162,3 +161,13 @@ unopened_ends graph before after why u few small =
     take_few zero xs = omega arith
     take_few (suc n) [] = omega arith
     take_few (suc n) (x ∷ xs) = omega (arith, take_few n xs)
+
+-- openings that are those of a line
+pub opens_line : (made : List Made) (openings : List (Option Opening)) (opened : List (Option Known)) (before after : Seen) → openings ≡ map made_opening made → Opens openings opened before after → Opens (map made_opening made) opened before after
+opens_line made openings opened before after same opens = subst (λ (os : List (Option Opening)). Opens os opened before after) same opens
+
+pub unopened_line : (made : List Made) (openings : List (Option Opening)) (before after : Seen) (why : Unopened) → openings ≡ map made_opening made → IsUnopened openings before after why → IsUnopened (map made_opening made) before after why
+unopened_line made openings before after why same u = subst (λ (os : List (Option Opening)). IsUnopened os before after why) same u
+
+pub not_begun_line : (made : List Made) (openings : List (Option Opening)) (before after : Seen) (end : WorldEnd) → openings ≡ map made_opening made → NotBegun openings before after end → NotBegun (map made_opening made) before after end
+not_begun_line made openings before after end same n = subst (λ (os : List (Option Opening)). NotBegun os before after end) same n

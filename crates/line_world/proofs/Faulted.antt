@@ -261,14 +261,14 @@ module _ {S K I O : Type 0} (source_location content : S → Option (List ℕ)) 
       stands_held d m location there_m opens here =
           held_at source_location content source_faults sink_location bytes sink_faults received sent place_in id_in place_out limits count_of id_out graph tasks left tells before s is framed same contents told (stopped_as fault other f) none room.nothing d m location there_m opens
           (λ k u ended there_u.
-              ⊎_elim
-              (λ is_here.
-                  let at_place = subst (λ (n : ℕ). slice_get is n ≡ Some u) is_here there_u in
-                  let one = some_same (sym at ∙ at_place) in
-                  subst (λ (n : ℕ). TailHas bytes sent (f.lists n).keep (tail_of u) (f.lists n).done) (sym is_here)
-                  (subst (λ (x : Task S K I O). TailHas bytes sent (f.lists place).keep (tail_of x) (f.lists place).done) one (here (subst (λ (n : ℕ). WayEnds s.ways n (ends_of.Sink d)) is_here ended))))
-              (λ ne. (f.others k u ne there_u).tail)
-              (cases_eq k place))
+          ⊎_elim
+          (λ is_here.
+          let at_place = subst (λ (n : ℕ). slice_get is n ≡ Some u) is_here there_u in
+          let one = some_same (sym at ∙ at_place) in
+          subst (λ (n : ℕ). TailHas bytes sent (f.lists n).keep (tail_of u) (f.lists n).done) (sym is_here)
+          (subst (λ (x : Task S K I O). TailHas bytes sent (f.lists place).keep (tail_of x) (f.lists place).done) one (here (subst (λ (n : ℕ). WayEnds s.ways n (ends_of.Sink d)) is_here ended))))
+          (λ ne. (f.others k u ne there_u).tail)
+          (cases_eq k place))
 
       -- where no write failed, all files hold what came to their sinks
       all_held : IsNoWrite fault → (d : ℕ) (m : Made) (location : List ℕ) → slice_get made d ≡ Some m → opening_of m.settings ≡ Some (Write location) → HoldsNow d (whole_bytes made links hist d)
@@ -347,15 +347,14 @@ module _ {S K I O : Type 0} (source_location content : S → Option (List ℕ)) 
         status = tell.status ∙ ap task_status r.named ∙ status_by_rule r.stage.element r.own;
         fault = tell.fault ∙ ap (task_fault made) r.named ∙ told_by_name made r.stage.element m.0 m.1 r.own;
         tells = λ contents told.
-            told_so fault other f contents told plain end tell (λ hist_of b. AreWritten made links hist_of b × Refuses contents made links hist_of r.stage.element m.0.settings r.own)
-            (
+            told_so fault other f contents told plain end tell (λ hist_of b. AreWritten made links hist_of b × Refuses contents made links hist_of r.stage.element m.0.settings r.own) (
               are_written fault other f contents told,
               refuses_at content received place_in place_out limits s.tree graph contents (lane_place made links) s.ways is (start_lists made s.ways) s.is s.sound s.ways_are
-              (run_goes source_location content source_faults sink_location bytes sink_faults received sent place_in id_in place_out limits count_of id_out graph tasks left tells before s is framed same contents told (stopped_as fault other f) none room.nothing)
-              (run_owes source_location content source_faults sink_location bytes sink_faults received sent place_in id_in place_out limits count_of id_out graph tasks left tells before s is framed same contents told (stopped_as fault other f) none room.nothing)
-              (stopped_as fault other f)
-              (pairs source_location content source_faults sink_location bytes sink_faults received sent place_in id_in place_out limits count_of id_out graph tasks left tells before s is framed same)
-              place t at bytes sent fault r m.0 m.1,
+                  (run_goes source_location content source_faults sink_location bytes sink_faults received sent place_in id_in place_out limits count_of id_out graph tasks left tells before s is framed same contents told (stopped_as fault other f) none room.nothing)
+                  (run_owes source_location content source_faults sink_location bytes sink_faults received sent place_in id_in place_out limits count_of id_out graph tasks left tells before s is framed same contents told (stopped_as fault other f) none room.nothing)
+                  (stopped_as fault other f)
+                  (pairs source_location content source_faults sink_location bytes sink_faults received sent place_in id_in place_out limits count_of id_out graph tasks left tells before s is framed same)
+                  place t at bytes sent fault r m.0 m.1,
             );
       }
 
@@ -372,15 +371,14 @@ module _ {S K I O : Type 0} (source_location content : S → Option (List ℕ)) 
         at = m.1;
         fault = tell.fault ∙ ap (λ (name : List ℕ). faults.TooLong name a b) (name_is made e m.0 m.1) ∙ ap (λ (n : ℕ). faults.TooLong m.0.name n b) r.limit ∙ ap (λ (n : ℕ). faults.TooLong m.0.name most_items n) r.one;
         tells = λ contents told.
-            told_so (TooLong e a b) (λ no_memory. absurd (cc)) f contents told tt end tell (λ hist_of bs. AreWritten made links hist_of bs × (length (went_from hist_of e) ≡ most_items))
-            (
+            told_so (TooLong e a b) (λ no_memory. absurd (cc)) f contents told tt end tell (λ hist_of bs. AreWritten made links hist_of bs × (length (went_from hist_of e) ≡ most_items)) (
               are_written (TooLong e a b) (λ no_memory. absurd (cc)) f contents told,
               (full_at content received place_in place_out limits s.tree graph contents (lane_place made links) s.ways is (start_lists made s.ways) s.is s.sound s.ways_are
-              (run_goes source_location content source_faults sink_location bytes sink_faults received sent place_in id_in place_out limits count_of id_out graph tasks left tells before s is framed same contents told (stopped_as (TooLong e a b) (λ no_memory. absurd (cc)) f) none room.nothing)
-              (run_owes source_location content source_faults sink_location bytes sink_faults received sent place_in id_in place_out limits count_of id_out graph tasks left tells before s is framed same contents told (stopped_as (TooLong e a b) (λ no_memory. absurd (cc)) f) none room.nothing)
-              (stopped_as (TooLong e a b) (λ no_memory. absurd (cc)) f)
-              (pairs source_location content source_faults sink_location bytes sink_faults received sent place_in id_in place_out limits count_of id_out graph tasks left tells before s is framed same)
-              place t at bytes sent e a b r).full,
+                  (run_goes source_location content source_faults sink_location bytes sink_faults received sent place_in id_in place_out limits count_of id_out graph tasks left tells before s is framed same contents told (stopped_as (TooLong e a b) (λ no_memory. absurd (cc)) f) none room.nothing)
+                  (run_owes source_location content source_faults sink_location bytes sink_faults received sent place_in id_in place_out limits count_of id_out graph tasks left tells before s is framed same contents told (stopped_as (TooLong e a b) (λ no_memory. absurd (cc)) f) none room.nothing)
+                  (stopped_as (TooLong e a b) (λ no_memory. absurd (cc)) f)
+                  (pairs source_location content source_faults sink_location bytes sink_faults received sent place_in id_in place_out limits count_of id_out graph tasks left tells before s is framed same)
+                  place t at bytes sent e a b r).full,
             );
       }
     where
@@ -403,11 +401,11 @@ module _ {S K I O : Type 0} (source_location content : S → Option (List ℕ)) 
     fault = tell.fault;
     tells = λ contents told.
         let unlinked = unlinked_at content received place_in place_out limits s.tree graph contents (lane_place made links) s.ways is (start_lists made s.ways) s.is s.sound s.ways_are
-            (run_goes source_location content source_faults sink_location bytes sink_faults received sent place_in id_in place_out limits count_of id_out graph tasks left tells before s is framed same contents told (stopped_as (NotLinked e n) (λ no_memory. absurd (cc)) f) none room.nothing)
-            (run_owes source_location content source_faults sink_location bytes sink_faults received sent place_in id_in place_out limits count_of id_out graph tasks left tells before s is framed same contents told (stopped_as (NotLinked e n) (λ no_memory. absurd (cc)) f) none room.nothing)
-            (stopped_as (NotLinked e n) (λ no_memory. absurd (cc)) f)
-            (pairs source_location content source_faults sink_location bytes sink_faults received sent place_in id_in place_out limits count_of id_out graph tasks left tells before s is framed same)
-            place t at bytes sent e n r in
+        (run_goes source_location content source_faults sink_location bytes sink_faults received sent place_in id_in place_out limits count_of id_out graph tasks left tells before s is framed same contents told (stopped_as (NotLinked e n) (λ no_memory. absurd (cc)) f) none room.nothing)
+        (run_owes source_location content source_faults sink_location bytes sink_faults received sent place_in id_in place_out limits count_of id_out graph tasks left tells before s is framed same contents told (stopped_as (NotLinked e n) (λ no_memory. absurd (cc)) f) none room.nothing)
+        (stopped_as (NotLinked e n) (λ no_memory. absurd (cc)) f)
+        (pairs source_location content source_faults sink_location bytes sink_faults received sent place_in id_in place_out limits count_of id_out graph tasks left tells before s is framed same)
+        place t at bytes sent e n r in
         told_so (NotLinked e n) (λ no_memory. absurd (cc)) f contents told tt end tell (λ hist_of bs. AreWritten made links hist_of bs × (length (went_from hist_of e) ≡ n) × WantsLink contents made links hist_of e)
         (are_written (NotLinked e n) (λ no_memory. absurd (cc)) f contents told, unlinked.crossed, unlinked.wants);
   }
@@ -487,25 +485,24 @@ module _ {S K I O : Type 0} (source_location content : S → Option (List ℕ)) 
           let part = part_at source_location content source_faults sink_location bytes sink_faults received sent place_in id_in place_out limits count_of id_out graph tasks left tells before s is framed same contents told crossed none room.nothing d m.0 location m.1 opens place t ended at r.item r.part in
           let body = written (disk_after (keeps_flushed m.0.settings) (came_to links hist_of d)).bytes (disk_after (keeps_flushed m.0.settings) (came_to links hist_of d)).place (take part.0 (body_of r.item)) in
           let waits = awaited content received place_in place_out limits s.tree graph contents (lane_place made links) s.ways is (start_lists made s.ways) s.is s.sound s.ways_are
-              (run_goes source_location content source_faults sink_location bytes sink_faults received sent place_in id_in place_out limits count_of id_out graph tasks left tells before s is framed same contents told crossed none room.nothing)
-              (run_owes source_location content source_faults sink_location bytes sink_faults received sent place_in id_in place_out limits count_of id_out graph tasks left tells before s is framed same contents told crossed none room.nothing)
-              crossed
-              (pairs source_location content source_faults sink_location bytes sink_faults received sent place_in id_in place_out limits count_of id_out graph tasks left tells before s is framed same)
-              place t at bytes d ended r in
+          (run_goes source_location content source_faults sink_location bytes sink_faults received sent place_in id_in place_out limits count_of id_out graph tasks left tells before s is framed same contents told crossed none room.nothing)
+          (run_owes source_location content source_faults sink_location bytes sink_faults received sent place_in id_in place_out limits count_of id_out graph tasks left tells before s is framed same contents told crossed none room.nothing)
+          crossed
+          (pairs source_location content source_faults sink_location bytes sink_faults received sent place_in id_in place_out limits count_of id_out graph tasks left tells before s is framed same)
+          place t at bytes d ended r in
           rendered source_location content source_faults sink_location bytes sink_faults received sent place_in id_in place_out limits count_of id_out graph tasks left tells before s is framed same pads none room contents told crossed end tell.pads_are tell.sinks_are
           (part_bytes hist_of body)
           (λ c x place_of_c c_at c_opens.
-              ⊎_elim
-              (λ is_d.
-                  subst (λ (n : ℕ). HoldsNow (WriteFault d first second) other f contents told n (part_bytes hist_of body n)) (sym is_d)
-                  (subst (λ (xs : List ℕ). HoldsNow (WriteFault d first second) other f contents told d xs) (sym (part_here hist_of body)) part.1))
-              (λ ne.
-                  subst (λ (xs : List ℕ). HoldsNow (WriteFault d first second) other f contents told c xs) (sym (part_there hist_of body c ne ∙ bytes_there made links hist_of c x c_at))
-                  (stands_held (WriteFault d first second) other f contents told c x place_of_c c_at c_opens
-                  (λ ends_c. absurd (ne (sink_same (sym (ap (λ (w : Way). w.end) (some_same (sym ended.is ∙ ends_c.is)) ∙ ends_c.ends) ∙ ended.ends))))))
-              (cases_eq c d))
-          (λ h_of b. ((c : ℕ) → c ≢ d → IsWritten made links h_of b c) × IsPartWritten contents made links h_of b d m.0.settings)
-          (
+          ⊎_elim
+          (λ is_d.
+          subst (λ (n : ℕ). HoldsNow (WriteFault d first second) other f contents told n (part_bytes hist_of body n)) (sym is_d)
+          (subst (λ (xs : List ℕ). HoldsNow (WriteFault d first second) other f contents told d xs) (sym (part_here hist_of body)) part.1))
+          (λ ne.
+          subst (λ (xs : List ℕ). HoldsNow (WriteFault d first second) other f contents told c xs) (sym (part_there hist_of body c ne ∙ bytes_there made links hist_of c x c_at))
+          (stands_held (WriteFault d first second) other f contents told c x place_of_c c_at c_opens
+          (λ ends_c. absurd (ne (sink_same (sym (ap (λ (w : Way). w.end) (some_same (sym ended.is ∙ ends_c.is)) ∙ ends_c.ends) ∙ ended.ends))))))
+          (cases_eq c d))
+          (λ h_of b. ((c : ℕ) → c ≢ d → IsWritten made links h_of b c) × IsPartWritten contents made links h_of b d m.0.settings) (
             λ c ne x c_at c_writes. part_there hist_of body c ne ∙ bytes_there made links hist_of c x c_at,
             record {
               before = waits.before;

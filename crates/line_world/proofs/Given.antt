@@ -238,8 +238,7 @@ module _ {S K I O : Type 0} (source_location content : S → Option (List ℕ)) 
       let first : stands.1.way.first ≡ e = some_number stands.1.way.first e stands.1.at in
       let file = head_file {K = K} source_location (head_of task.0) location (head_at stands.0 stands.1.way task.0 m location stands.1.is task.1 (subst (λ (n : ℕ). slice_get made n ≡ Some m) (sym first) at) opens) in
       let no_tail : has writes made e ≡ true → ⊥ = asked_no writes (slice_get made e) m at kind.2 in
-      let one = goes.each stands.0 stands.1.way task.0 stands.1.is task.1 in
-      (
+      let one = goes.each stands.0 stands.1.way task.0 stands.1.is task.1 in (
         stands.0,
         stands.1,
         task.0,
@@ -248,10 +247,10 @@ module _ {S K I O : Type 0} (source_location content : S → Option (List ℕ)) 
         file.1,
         file.2,
         fold_there (with_files made) files_size e (Some (Src file.0)) is left stands.0 task.0 task.1 (within e m at)
-        (λ ys w.
+            (λ ys w.
             tail_quiet made place_out limits (lane_place made links) stands.1.way.end (tail_of task.0) e (with_value (first_in task.0) (head_end (head_of task.0)) ys) one.tail (λ ends writing. no_tail writing)
             ∙ subst (λ (n : ℕ). slice_get (with_value n (head_end (head_of task.0)) ys) e ≡ Some (Some (Src file.0))) (sym (first_is stands.0 stands.1.way task.0 stands.1.is task.1 ∙ first)) (value_here e (head_end (head_of task.0)) (Some (Src file.0)) ys file.1 w))
-        (λ j u ne there.
+            (λ j u ne there.
             let way = way_at j u there in
             files_quiet e j way.0 u way.1 there
             (λ is_first source. ne (alone made links s.ways once s.ways_are j 0 stands.0 0 e (record { way = way.0; is = way.1; at = ap Some is_first }) stands.1).0)
@@ -279,10 +278,9 @@ module _ {S K I O : Type 0} (source_location content : S → Option (List ℕ)) 
       let old_tail = subst (λ (x : WayEnd). TailAlong place_out limits (lane_place (made_in graph) (links_in graph)) x (tail_of old.0)) ended.ends (old_goes.each k ended.way old.0 ended.is old.1).tail in
       let tail = subst (λ (x : WayEnd). TailAlong place_out limits (lane_place (made_in graph) (links_in graph)) x (tail_of t)) ended.ends (goes.each k ended.way t ended.is there).tail in
       let told = old.2.sink
-          ∙ tail_told d m location end.0 (tail_of old.0) old_tail
-          (start_sink source_location content source_faults sink_location bytes sink_faults received sent place_in place_out limits count graph tasks left tells before s k ended.way old.0 ended.is old.1 d ended.ends m at (tail_of old.0) refl) end.1 end.2 kind.0 in
-      let puts = tail_puts made place_out limits (lane_place made links) d (tail_of t) sink_location location tail told writing in
-      (
+      ∙ tail_told d m location end.0 (tail_of old.0) old_tail
+      (start_sink source_location content source_faults sink_location bytes sink_faults received sent place_in place_out limits count graph tasks left tells before s k ended.way old.0 ended.is old.1 d ended.ends m at (tail_of old.0) refl) end.1 end.2 kind.0 in
+      let puts = tail_puts made place_out limits (lane_place made links) d (tail_of t) sink_location location tail told writing in (
         puts.0,
         puts.1,
         puts.2,
@@ -290,8 +288,8 @@ module _ {S K I O : Type 0} (source_location content : S → Option (List ℕ)) 
         puts.4,
         puts.5,
         fold_there (with_files made) files_size d (Some (Snk puts.2)) is left k t there (within d m at)
-        (λ ys w. puts.6 (with_value (first_in t) (head_end (head_of t)) ys) (subst (λ (n : ℕ). d < n) (sym (value_size (first_in t) (head_end (head_of t)) ys)) w))
-        (λ j u ne at_j.
+            (λ ys w. puts.6 (with_value (first_in t) (head_end (head_of t)) ys) (subst (λ (n : ℕ). d < n) (sym (value_size (first_in t) (head_end (head_of t)) ys)) w))
+            (λ j u ne at_j.
             let way = way_at j u at_j in
             files_quiet d j way.0 u way.1 at_j
             (λ is_first source. found_no_sink (slice_get made d) (head_there_of j way.0 way.1 d is_first) is_sink_there)
@@ -328,12 +326,12 @@ module _ {S K I O : Type 0} (source_location content : S → Option (List ℕ)) 
       by is_sink_there (Snk file) there known = (
         file,
         fold_quiet (with_files made) d is left
-        (λ j u at_j.
+            (λ j u at_j.
             let way = way_at j u at_j in
             files_quiet d j way.0 u way.1 at_j
             (λ is_first source. found_no_sink (slice_get made d) (head_there_of j way.0 way.1 d is_first) is_sink_there)
             (λ ends also. away j (record { way = way.0; is = way.1; ends = ends })))
-        ∙ place_of left d (Snk file) (left_there content bytes received sent place_in made s.parts s.ends tasks left s.made d (leaves is_sink_there) ∙ there),
+            ∙ place_of left d (Snk file) (left_there content bytes received sent place_in made s.parts s.ends tasks left s.made d (leaves is_sink_there) ∙ there),
         ap (λ (k : Known). k.location) known,
         ap (λ (k : Known). k.bytes) known,
       )
@@ -343,10 +341,10 @@ module _ {S K I O : Type 0} (source_location content : S → Option (List ℕ)) 
   none_at e m at opens =
       fold_quiet (with_files made) e is left
       (λ j u at_j.
-          let way = way_at j u at_j in
-          files_quiet e j way.0 u way.1 at_j
-          (λ is_first source. no_reader source)
-          (λ ends writing. no_writer writing))
+      let way = way_at j u at_j in
+      files_quiet e j way.0 u way.1 at_j
+      (λ is_first source. no_reader source)
+      (λ ends writing. no_writer writing))
       ∙ none_place left e (within e m at) (left_none content bytes received sent place_in made s.parts s.ends tasks left s.made e none_there)
     where
       no_reader : has is_source made e ≡ true → ⊥

@@ -65,12 +65,11 @@ held_bytes bytes keep (sinks.Fake fake) file list is held = absurd (none_some is
 -- and behind an item that was not written whole
 part_bytes : {K : Type 0} (bytes : K → Option (List ℕ)) (keep : Bool) (sink : SinkElement K) (file : K) (list : List Item) (item : Item) → sink_file sink ≡ Some file → SinkPart bytes keep sink list item
     → (n : ℕ) × (sink_len sink ≡ Some (length (written (disk_after keep list).bytes (disk_after keep list).place (take n (body_of item))))) × ForSome (bytes file) (λ x. x ≡ written (disk_after keep list).bytes (disk_after keep list).place (take n (body_of item)))
-part_bytes {K = K} bytes keep (sinks.File one) file list item is part =
-    (
-      part.count,
-      ap (λ (n : ℕ). Some n) part.size,
-      subst (λ (k : K). ForSome (bytes k) (λ x. x ≡ written (disk_after keep list).bytes (disk_after keep list).place (take part.count (body_of item)))) (same is) part.told,
-    )
+part_bytes {K = K} bytes keep (sinks.File one) file list item is part = (
+  part.count,
+  ap (λ (n : ℕ). Some n) part.size,
+  subst (λ (k : K). ForSome (bytes k) (λ x. x ≡ written (disk_after keep list).bytes (disk_after keep list).place (take part.count (body_of item)))) (same is) part.told,
+)
   where
     same : Some (sink_of one) ≡ Some file → sink_of one ≡ file
     same h = cc
@@ -153,16 +152,16 @@ module _ {S K I O : Type 0} (source_location content : S → Option (List ℕ)) 
       fold_there with_length length_size d n is none k t there (within d m at)
       (λ ys w. tail_length_here place_out limits (lane_place made links) d (tail_of t) element sink n ys (subst (λ (x : WayEnd). TailAlong place_out limits (lane_place (made_in graph) (links_in graph)) x (tail_of t)) ended.ends (run_goes.each k ended.way t ended.is there).tail) tail_is len w)
       (λ j u ne at_j ys.
-          let way = also_there s.ways is j u (sym run_goes.size) at_j in
-          tail_length_quiet place_out limits (lane_place made links) way.0.end (tail_of u) d ys (run_goes.each j way.0 u way.1 at_j).tail
-          (λ ends. ne (one_at_sink made links s.ways (linked_once s.tree graph s.is) s.ways_are j k d (record { way = way.0; is = way.1; ends = ends }) ended)))
+      let way = also_there s.ways is j u (sym run_goes.size) at_j in
+      tail_length_quiet place_out limits (lane_place made links) way.0.end (tail_of u) d ys (run_goes.each j way.0 u way.1 at_j).tail
+      (λ ends. ne (one_at_sink made links s.ways (linked_once s.tree graph s.is) s.ways_are j k d (record { way = way.0; is = way.1; ends = ends }) ended)))
 
   length_off : (d : ℕ) (m : Made) → slice_get made d ≡ Some m → ((k : ℕ) → WayEnds s.ways k (ends_of.Sink d) → ⊥) → slice_get lengths d ≡ Some 0
   length_off d m at away =
       fold_quiet with_length d is none
       (λ j u at_j ys.
-          let way = also_there s.ways is j u (sym run_goes.size) at_j in
-          tail_length_quiet place_out limits (lane_place made links) way.0.end (tail_of u) d ys (run_goes.each j way.0 u way.1 at_j).tail (λ ends. away j (record { way = way.0; is = way.1; ends = ends })))
+      let way = also_there s.ways is j u (sym run_goes.size) at_j in
+      tail_length_quiet place_out limits (lane_place made links) way.0.end (tail_of u) d ys (run_goes.each j way.0 u way.1 at_j).tail (λ ends. away j (record { way = way.0; is = way.1; ends = ends })))
       ∙ nothing_yet d (slice_get_within made d m at)
 
   -- all that came to a filesink is in its file, where its task has written what it was given
@@ -180,8 +179,7 @@ module _ {S K I O : Type 0} (source_location content : S → Option (List ℕ)) 
           let came = before_sink content received place_in place_out limits s.tree graph contents (lane_place made links) s.ways is (start_lists made s.ways) s.is s.sound s.ways_are run_goes run_owes crossed k d ended in
           let b = held_bytes bytes (crossed.lists k).keep on.1 on.2 (crossed.lists k).done on.4 held in
           let same_bytes : sink_bytes (crossed.lists k).keep (crossed.lists k).done ≡ sink_bytes (keeps_flushed m.settings) (came_to links run_history d) =
-              ap (λ (keep : Bool). sink_bytes keep (crossed.lists k).done) (keep_is k d ended m at) ∙ ap (λ (xs : List Item). sink_bytes (keeps_flushed m.settings) xs) (sym came) in
-          (
+          ap (λ (keep : Bool). sink_bytes keep (crossed.lists k).done) (keep_is k d ended m at) ∙ ap (λ (xs : List Item). sink_bytes (keeps_flushed m.settings) xs) (sym came) in (
             on.2,
             on.6,
             subst (λ (xs : List ℕ). slice_get lengths d ≡ Some (length xs)) same_bytes (length_on d k ended m at task.0 task.1 on.0 on.1 (length (sink_bytes (crossed.lists k).keep (crossed.lists k).done)) on.3 b.0),
@@ -201,10 +199,9 @@ module _ {S K I O : Type 0} (source_location content : S → Option (List ℕ)) 
       let one : SinkPart bytes (crossed.lists k).keep on.1 (crossed.lists k).done item = subst (λ (x : Tail K O). TailPart bytes (crossed.lists k).keep x (crossed.lists k).done item) on.3 part in
       let came = before_sink content received place_in place_out limits s.tree graph contents (lane_place made links) s.ways is (start_lists made s.ways) s.is s.sound s.ways_are run_goes run_owes crossed k d ended in
       let b = part_bytes bytes (crossed.lists k).keep on.1 on.2 (crossed.lists k).done item on.4 one in
-      let keep = keep_is k d ended m at in
-      (
+      let keep = keep_is k d ended m at in (
         b.0,
         subst (λ (xs : List Item). HoldsBytes d (written (disk_after (keeps_flushed m.settings) xs).bytes (disk_after (keeps_flushed m.settings) xs).place (take b.0 (body_of item)))) (sym came)
-        (subst (λ (keeps : Bool). HoldsBytes d (written (disk_after keeps (crossed.lists k).done).bytes (disk_after keeps (crossed.lists k).done).place (take b.0 (body_of item)))) keep
-        (on.2, on.6, length_on d k ended m at t there on.0 on.1 (length (written (disk_after (crossed.lists k).keep (crossed.lists k).done).bytes (disk_after (crossed.lists k).keep (crossed.lists k).done).place (take b.0 (body_of item)))) on.3 b.1, b.2)),
+            (subst (λ (keeps : Bool). HoldsBytes d (written (disk_after keeps (crossed.lists k).done).bytes (disk_after keeps (crossed.lists k).done).place (take b.0 (body_of item)))) keep
+            (on.2, on.6, length_on d k ended m at t there on.0 on.1 (length (written (disk_after (crossed.lists k).keep (crossed.lists k).done).bytes (disk_after (crossed.lists k).keep (crossed.lists k).done).place (take b.0 (body_of item)))) on.3 b.1, b.2)),
       )

@@ -13,4 +13,5 @@ mod Faulted
 mod Runs
 mod Closing
 mod Rooms
+mod Whole
 mod Choosing

@@ -142,8 +142,7 @@ module _ {S K O : Type 0} (made : List Made) where
   tail_puts place_out limits lane d (tails.Lane n outlet) location_of location goes told writing = absurd goes
   tail_puts place_out limits lane d tails.Open location_of location goes told writing = absurd goes
   tail_puts place_out limits lane d (tails.Sink element sink) location_of location goes told writing =
-      let file = sink_with_location location_of sink location told in
-      (
+      let file = sink_with_location location_of sink location told in (
         element,
         sink,
         file.0,

@@ -171,7 +171,6 @@ module _ {S K I O : Type 0} (content : S → Option (List ℕ)) (received : I �
       subst (λ (r : Response). IsPrefix given (owed_for r (feeds before))) (sym (queue_pads m.settings queue).3)
       (subst (λ (xs : List Item). IsPrefix xs (owed_for passes (feeds before))) passed (owed_for_prefix passes (feeds_prefix begins)))
 
-
   -- what was put on the pad of a place begins what its element owes
   pub put_owed : (k place e : ℕ) → StandsAt ways k place e → (m : Made) × (slice_get made e ≡ Some m) × IsPrefix (put_at (crossed.lists k).head.given (crossed.lists k).stages place) (owed_by contents links history e m.settings)
   put_owed k zero e s =
@@ -185,25 +184,23 @@ module _ {S K I O : Type 0} (content : S → Option (List ℕ)) (received : I �
       of_queue : has is_queue made e ≡ true → (t : Task S K I O) → slice_get tasks k ≡ Some t → (m : Made) × (slice_get made e ≡ Some m) × IsPrefix (put_at (crossed.lists k).head.given (crossed.lists k).stages 0) (owed_by contents links history e m.settings)
       of_queue queue t at =
           let m = there is_queue (slice_get made e) queue in
-          let plain = all_plain content received place_in place_out limits contents made links history tasks was crossed wired found.2 k t at in
-          (
+          let plain = all_plain content received place_in place_out limits contents made links history tasks was crossed wired found.2 k t at in (
             m.0,
             m.1,
             as_given m.0
-            (subst (λ (n : ℕ). IsPrefix (crossed.lists k).head.given (by_pads n (list_of m.0.settings e (contents e)) (owed_for (response_of m.0.settings) (feeds (came_to links history e))))) (sym (queue_pads m.0.settings m.2).0)
-            (queue_owes m.0 m.2 (crossed.lists k).head.given (came_to links history e) (queue_begins e queue k s t at (ends_or_not ways e)) (passed_whole (crossed.lists k).head.given plain))),
+                (subst (λ (n : ℕ). IsPrefix (crossed.lists k).head.given (by_pads n (list_of m.0.settings e (contents e)) (owed_for (response_of m.0.settings) (feeds (came_to links history e))))) (sym (queue_pads m.0.settings m.2).0)
+                (queue_owes m.0 m.2 (crossed.lists k).head.given (came_to links history e) (queue_begins e queue k s t at (ends_or_not ways e)) (passed_whole (crossed.lists k).head.given plain))),
           )
 
       by : (head : Head S I) → head ≡ head → HeadAlong place_in lane made links e head → HeadGave content received head (crossed.lists k).head → OwedBy content made contents e (crossed.lists k).head.owed head → (t : Task S K I O) → slice_get tasks k ≡ Some t
           → (m : Made) × (slice_get made e ≡ Some m) × IsPrefix (put_at (crossed.lists k).head.given (crossed.lists k).stages 0) (owed_by contents links history e m.settings)
       by (heads.Source one) same goes gave owes t at =
-          let m = there is_source (slice_get made e) goes in
-          (
+          let m = there is_source (slice_get made e) goes in (
             m.0,
             m.1,
             as_given m.0
-            (subst (λ (n : ℕ). IsPrefix (crossed.lists k).head.given (by_pads n (list_of m.0.settings e (contents e)) (owed_for (response_of m.0.settings) (feeds (came_to links history e))))) (sym (source_pads_none m.0.settings m.2).0)
-            (source_begins e m.0 m.1 one (crossed.lists k).head.owed (crossed.lists k).head.given gave owes)),
+                (subst (λ (n : ℕ). IsPrefix (crossed.lists k).head.given (by_pads n (list_of m.0.settings e (contents e)) (owed_for (response_of m.0.settings) (feeds (came_to links history e))))) (sym (source_pads_none m.0.settings m.2).0)
+                (source_begins e m.0 m.1 one (crossed.lists k).head.owed (crossed.lists k).head.given gave owes)),
           )
       by (heads.Queue inlets) same goes gave owes t at = of_queue goes.0 t at
       by heads.Unlinked same goes gave owes t at = of_queue goes.0 t at
@@ -212,12 +209,11 @@ module _ {S K I O : Type 0} (content : S → Option (List ℕ)) (received : I �
       let ruled = ruled_at made s.way.behind.items (crossed.lists k).stages (along.rules k s.way s.is) i e s.at in
       let before = before_place k i e behind.0 behind.1 behind.2 ruled.0 ruled.1 in
       let filter : is_filter ruled.2.settings ≡ true = sym (asked_there is_filter (slice_get made e) ruled.2 ruled.3) ∙ behind.3 in
-      let owed : owes ruled.0 ≡ owed_for (response_of ruled.2.settings) (feeds (came_to links history e)) = ap (λ (r : Response). owed_for r (feeds ruled.0.crossed)) ruled.4 ∙ ap (λ (xs : List Item). owed_for (response_of ruled.2.settings) (feeds xs)) (sym before) in
-      (
+      let owed : owes ruled.0 ≡ owed_for (response_of ruled.2.settings) (feeds (came_to links history e)) = ap (λ (r : Response). owed_for r (feeds ruled.0.crossed)) ruled.4 ∙ ap (λ (xs : List Item). owed_for (response_of ruled.2.settings) (feeds xs)) (sym before) in (
         ruled.2,
         ruled.3,
         subst (λ (n : ℕ). IsPrefix (put_at (crossed.lists k).head.given (crossed.lists k).stages (suc i)) (by_pads n (list_of ruled.2.settings e (contents e)) (owed_for (response_of ruled.2.settings) (feeds (came_to links history e))))) (sym (filter_pads ruled.2.settings filter).0)
-        (subst (λ (xs : List Item). IsPrefix (put_at (crossed.lists k).head.given (crossed.lists k).stages (suc i)) xs) (put_next (crossed.lists k).head.given (crossed.lists k).stages i ruled.0 ruled.1 ∙ owed) (prefix_refl (put_at (crossed.lists k).head.given (crossed.lists k).stages (suc i)))),
+            (subst (λ (xs : List Item). IsPrefix (put_at (crossed.lists k).head.given (crossed.lists k).stages (suc i)) xs) (put_next (crossed.lists k).head.given (crossed.lists k).stages i ruled.0 ruled.1 ∙ owed) (prefix_refl (put_at (crossed.lists k).head.given (crossed.lists k).stages (suc i)))),
       )
 
   -- the lists of a task have as many stages as its way has elements behind the first

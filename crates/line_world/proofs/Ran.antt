@@ -74,7 +74,7 @@ task_crossed content bytes received sent task l s = record {
   counted = s.counted;
 }
 
-with_pads_size : (more pads : List Pad) → length (with_pads more pads) ≡ length pads
+pub with_pads_size : (more pads : List Pad) → length (with_pads more pads) ≡ length pads
 with_pads_size [] pads = refl
 with_pads_size (p ∷ ps) pads = with_pads_size ps (slice_set pads p.element p) ∙ set_size pads p.element p
 
@@ -143,8 +143,7 @@ module _ {S K I O : Type 0} (source_location content : S → Option (List ℕ)) 
       bytes = b;
       sinks = sinks_are ∙ sinks_are_told made run_lengths b length_there;
       files = λ d m location at opens.
-          let held = holds d m location at opens in
-          (
+          let held = holds d m location at opens in (
             known_end source_location content source_faults sink_location bytes sink_faults (Snk held.0),
             slice_get-map (option_map (known_end source_location content source_faults sink_location bytes sink_faults)) _ d ∙ ap (option_map (option_map (known_end source_location content source_faults sink_location bytes sink_faults))) held.1,
             held.3,
@@ -179,11 +178,10 @@ module _ {S K I O : Type 0} (source_location content : S → Option (List ℕ)) 
         let history = h contents told crossed in
         rendered contents told crossed end t.pads_are t.sinks_are (whole_bytes made links history)
         (λ d m location at opens.
-            subst (λ (xs : List ℕ). Holds contents told crossed d xs) (sym (bytes_there made links history d m at))
-            (held_at source_location content source_faults sink_location bytes sink_faults received sent place_in id_in place_out limits count_of id_out graph tasks left tells before s is framed same contents told crossed none room.nothing d m location at opens
-            (λ k task ends at_k. (ended.net.stands k task at_k).tail)))
-        (λ hist b. AreWritten made links hist b × AreWhole contents graph hist × AreOver graph hist)
-        (
+        subst (λ (xs : List ℕ). Holds contents told crossed d xs) (sym (bytes_there made links history d m at))
+        (held_at source_location content source_faults sink_location bytes sink_faults received sent place_in id_in place_out limits count_of id_out graph tasks left tells before s is framed same contents told crossed none room.nothing d m location at opens
+        (λ k task ends at_k. (ended.net.stands k task at_k).tail)))
+        (λ hist b. AreWritten made links hist b × AreWhole contents graph hist × AreOver graph hist) (
           λ d m at writing. bytes_there made links history d m at,
           λ count p within pad.
               ended_whole content bytes received sent place_in place_out limits s.tree graph contents (lane_place made links) s.ways is (start_lists made s.ways) tells' history count s.is s.sound s.ways_are

@@ -1,5 +1,5 @@
 -- Room for what one element more counts.
-use Rattle.std.proofs.Common.{◌≡◌, ◌<◌, ◌+◌, ◌⊎◌, ℕ, zero, suc, List, [], ◌∷◌, ◌++◌, Option, None, Some, length, refl, sym, ap, ◌∙◌, subst, inl, inr, arith}
+use Rattle.std.proofs.Common.{◌≡◌, ◌<◌, ◌≤◌, ◌+◌, ◌⊎◌, ℕ, zero, suc, List, [], ◌∷◌, ◌++◌, Option, None, Some, length, refl, sym, ap, ◌∙◌, subst, inl, inr, arith}
 use Rattle.std.specs.Prelude.{slice_get}
 use Rattle.std.proofs.lemmas.List.{length-append}
 use Rattle.flow_model.specs.Item.{Item}
@@ -55,3 +55,17 @@ nothing_more n xs ys size are put d within = ap (λ (zs : List ℕ). slice_get z
 
 pub size_more : {A : Type 0} (n : ℕ) (xs ys : List A) (x : A) → length xs ≡ n → ys ≡ xs ++ x ∷ [] → length ys ≡ n + 1
 size_more n xs ys x size put = ap length put ∙ length-append xs (x ∷ []) ∙ ap (λ (k : ℕ). k + 1) size
+
+-- and room for nothing
+pub none_counted : (xs : List Pad) → xs ≡ [] → AreUncounted xs
+none_counted xs none e pad at = absurd (none_some (sym (ap (λ (ys : List Pad). slice_get ys e) none) ∙ at))
+  where
+    none_some : {A : Type 0} {a : A} → None ≡ Some a → ⊥
+    none_some h = cc
+
+pub nothing_counted : (xs : List ℕ) → NothingYet 0 xs
+nothing_counted xs d within = absurd (omega (arith, within))
+
+-- a loop has come to its end
+pub the_end : (n end size : ℕ) → end ≤ n → n ≤ end → end ≡ size → n ≡ size
+the_end n end size a b same = omega (arith, a, b, same)

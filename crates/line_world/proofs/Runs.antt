@@ -26,7 +26,11 @@ use Rattle.stream_task.specs.declared.fault.TaskFault.{TaskFault}
 use Rattle.stream_task.specs.declared.fault.TaskFault.TheVariants.{OutOfMemory}
 use Rattle.stream_task.specs.declared.pads.Pad.{Pad}
 use Rattle.stream_task.specs.declared.task.Task.{Task}
-use Rattle.task_net.specs.Net.{AllFramed, IsNetCause, NetEnded, NetFaulted}
+use Rattle.stream_task.specs.Task.{TaskLists}
+use Rattle.line_net.specs.Pads.{all_pads, with_pads}
+use Rattle.line_world.specs.Back.{fold_back, with_length}
+use Rattle.line_world.proofs.Started.{start_net}
+use Rattle.task_net.specs.Net.{AllFramed, IsNet, IsNetCause, NetEnded, NetFaulted}
 use Rattle.task_net.specs.declared.net.Stopped.{Stopped}
 use Rattle.line_world.specs.Ended.{HasEnded}
 use Rattle.line_world.specs.Prepared.{HasRoom}
@@ -38,6 +42,11 @@ use Rattle.line_world.proofs.Faulted.{faulted_ends}
 use Rattle.line_world.proofs.Given.{SinkEnding, back, goes, none_at, read_at, sink_ends_or_not, size, written_off, written_on}
 use Rattle.line_world.proofs.Ran.{counted, ends_eos, known, run_lengths}
 use Rattle.line_world.proofs.Telling.{get_within}
+
+-- what is told by others that are the same
+pub told_by : (made : List Made) (end : WorldEnd) {stop stop' : Option TaskFault} {pads pads' : List Pad} {lengths lengths' : List ℕ} → stop' ≡ stop → pads' ≡ pads → lengths' ≡ lengths → TellsEnd made stop' pads' lengths' end → TellsEnd made stop pads lengths end
+told_by made end {stop = stop} {stop' = stop'} {pads = pads} {pads' = pads'} {lengths = lengths} {lengths' = lengths'} one two three told =
+    subst (λ (o : Option TaskFault). TellsEnd made o pads lengths end) one (subst (λ (ps : List Pad). TellsEnd made stop' ps lengths end) two (subst (λ (ns : List ℕ). TellsEnd made stop' pads' ns end) three told))
 
 module _ {S K I O : Type 0} (source_location content : S → Option (List ℕ)) (source_faults : S → ℕ) (sink_location bytes : K → Option (List ℕ)) (sink_faults : K → ℕ) (received : I → List Item → Type 0) (sent : O → List Item → Type 0) (place_in : I → ℕ) (id_in : I → List (List ℕ)) (place_out : O → ℕ) (limits : O → Limits) (count_of : O → ℕ) (id_out : O → List (List ℕ))
     (graph : Graph) (tasks : List (Task S K I O)) (left : List (Option (End S K))) (tells : Option (List Lane)) (before : Seen)
@@ -64,6 +73,24 @@ module _ {S K I O : Type 0} (source_location content : S → Option (List ℕ)) 
       let t = get_within is stop.task within in
       faulted_ends source_location content source_faults sink_location bytes sink_faults received sent place_in id_in place_out limits count_of id_out graph tasks left tells before s is framed same pads none room tells' stop.task t.0 t.1 stop.fault
       (λ wanting. found (told.status ∙ ap task_status wanting)) faulted (cause t.0 t.1) end told
+
+  -- the same by what is said of all lists
+  pub run_ends_so : (was tells' : Option (List Lane)) → was ≡ tells → (result : Result (Unit {0}) Stopped)
+      → IfOk result (λ done. (lists : ℕ → TaskLists) → IsNet content bytes received sent place_in place_out tasks lists was → NetEnded content bytes received sent place_in place_out is lists tells')
+      → IfErr result (λ stop. (lists : ℕ → TaskLists) → IsNet content bytes received sent place_in place_out tasks lists was → NetFaulted content bytes received sent place_in place_out is lists tells' stop.task stop.fault) → IfErr result (λ stop. stop.task < length is)
+      → IfErr result (λ stop. (t : Task S K I O) → slice_get is stop.task ≡ Some t → IsNetCause source_faults sink_faults t stop.fault)
+      → (end : WorldEnd)
+      → TellsEnd made (stop_of result) (with_pads (all_pads is) pads) (fold_back with_length is none) end → end.status ≢ 13 → HasEnded graph before (KnownHold graph gave) (KnownFailed gave) end
+  run_ends_so was tells' same_table (Ok done) ended faulted within cause end told found =
+      run_ends tells' (Ok done) (ended (start_lists made s.ways) net) tt tt tt end told found
+    where
+      net : IsNet content bytes received sent place_in place_out tasks (start_lists made s.ways) was
+      net = subst (λ (t : Option (List Lane)). IsNet content bytes received sent place_in place_out tasks (start_lists (made_in graph) s.ways) t) (sym same_table) (start_net source_location content source_faults sink_location bytes sink_faults received sent place_in place_out limits count_of graph tasks left tells before s)
+  run_ends_so was tells' same_table (Err stop) ended faulted within cause end told found =
+      run_ends tells' (Err stop) tt (faulted (start_lists made s.ways) net) within cause end told found
+    where
+      net : IsNet content bytes received sent place_in place_out tasks (start_lists made s.ways) was
+      net = subst (λ (t : Option (List Lane)). IsNet content bytes received sent place_in place_out tasks (start_lists (made_in graph) s.ways) t) (sym same_table) (start_net source_location content source_faults sink_location bytes sink_faults received sent place_in place_out limits count_of graph tasks left tells before s)
 
   known_there : (e : ℕ) (end : Option (End S K)) → slice_get (back source_location content source_faults sink_location bytes sink_faults received sent place_in id_in place_out limits count_of id_out graph tasks left tells before s is framed same) e ≡ Some end
       → slice_get gave e ≡ Some (option_map (known_end source_location content source_faults sink_location bytes sink_faults) end)

@@ -133,7 +133,7 @@ module _ {S K I O : Type 0} (source_location content : S → Option (List ℕ)) 
       let leaves = leaves_sink content bytes received sent place_in place_out limits count made links s.ways s.parts s.table s.parts_are once s.ways_are k way d at ends in
       let first = found_no_sink (slice_get made d) in
       let not_first : (part_of k way at).0.first ≡ d → ⊥ = λ is_first. first (subst (λ (n : ℕ). has is_head made n ≡ true) (sym own.first ∙ is_first) (head_there content bytes received sent place_in place_out limits count made links s.ways s.parts s.table s.parts_are once s.ways_are k way at))
-          (sink_there content bytes received sent place_in place_out limits count made links s.ways s.parts s.table s.parts_are once s.ways_are k way d at ends) in
+      (sink_there content bytes received sent place_in place_out limits count made links s.ways s.parts s.table s.parts_are once s.ways_are k way d at ends) in
       by (behind_head made (part_of k way at).0.first (part_of k way at).0.inlet one.0) (part_of k way at).0.exit tail (subst (λ (e : _). ExitAt place_out limits count sent made links e (part_of k way at).0.exit) ends own.exit_at)
       (subst (λ (x : Tail K O). TailMade bytes made (part_of k way at).0.exit (λ c. sink_end (end_at (behind_head made (part_of k way at).0.first (part_of k way at).0.inlet one.0) c)) x) same one.1.tail)
       (head_other made (part_of k way at).0.first d (part_of k way at).0.inlet one.0 not_first ∙ one.2 d leaves)

@@ -7,3 +7,4 @@ pub mod Back
 pub mod Start
 pub mod Ran
 pub mod Prepared
+pub mod Plan

@@ -108,12 +108,7 @@ fn give_task<S: Source, K: Sink, I: Inlet<Out = O>, O: Outlet<Lanes = I::Lanes>>
 
 /// Puts the files of tasks at the numbers of their elements, and the lengths of what they wrote, in bytes. What waited in
 /// the tasks is given up.
-pub(crate) fn give_back<
-    S: Source,
-    K: Sink,
-    I: Inlet<Out = O>,
-    O: Outlet<Lanes = I::Lanes>,
->(
+pub(crate) fn give_back<S: Source, K: Sink, I: Inlet<Out = O>, O: Outlet<Lanes = I::Lanes>>(
     graph: &Graph,
     mut tasks: Vec<Task<S, K, I, O>>,
     ends: &mut Vec<Option<End<S, K>>>,

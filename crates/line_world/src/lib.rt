@@ -4,5 +4,7 @@
 pub mod ended;
 mod giving;
 mod report;
+mod run;
 
 pub use ended::WorldEnd;
+pub use run::run_turns;

@@ -118,7 +118,11 @@ fn status_of(fault: &TaskFault) -> u8
 }
 
 /// Puts a value at the end of a list, where there is one.
-fn push_some<T: Drop>(alloc: Global, list: &mut List<T>, value: Option<T>) -> Result<(), OutOfMemory>
+fn push_some<T: Drop>(
+    alloc: Global,
+    list: &mut List<T>,
+    value: Option<T>,
+) -> Result<(), OutOfMemory>
     ensures { OnOk result (list.new ≡ list.old ++ cons_option value []) }
 {
     match value {
@@ -191,16 +195,16 @@ fn length_at(
 }
 
 /// The lengths of the files of all filesinks, in their order.
-fn lengths_of(
-    alloc: Global,
-    graph: &Graph,
-    lengths: &[u64],
-) -> Result<List<SinkCount>, OutOfMemory>
+fn lengths_of(alloc: Global, graph: &Graph, lengths: &[u64]) -> Result<List<SinkCount>, OutOfMemory>
     ensures { IfOk result (λ counts. counts ≡ sinks_told (made_in graph.now) lengths.now) }
 {
     let mut counts = List::new(alloc);
     for element in 0..graph.count() {
-        push_some(alloc, &mut counts, length_at(alloc, graph, lengths, element)?)?;
+        push_some(
+            alloc,
+            &mut counts,
+            length_at(alloc, graph, lengths, element)?,
+        )?;
     }
     Ok(counts)
 }
