@@ -18,8 +18,10 @@ pub record AreAlike (one other : Request) : Type 0 where
 abbrev pub NeverBoth : Type 0
 NeverBoth = (words : List (List ℕ)) (request : Request) (refusal : Refusal) → IsRequest words request → ¬ IsRefusal words refusal
 
+-- words are refused with one status, for one fault
 abbrev pub OneRefusal : Type 0
 OneRefusal = (words : List (List ℕ)) (one other : Refusal) → IsRefusal words one → IsRefusal words other → one ≡ other
 
+-- words ask for one run
 abbrev pub OneRequest : Type 0
 OneRequest = (words : List (List ℕ)) (one other : Request) → IsRequest words one → IsRequest words other → AreAlike one other

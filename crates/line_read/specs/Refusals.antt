@@ -19,10 +19,11 @@ use Rattle.run_report.specs.declared.report.Fault.TheVariants.{Nothing, Words, N
 use Rattle.line_read.specs.Lines.{HasLine, HasTree, line_of, longest}
 use Rattle.line_read.specs.declared.refusal.Refusal.{Refusal}
 
+-- the refusal with this status and this fault
 abbrev pub refused : ℕ → Fault → Refusal
 refused status fault = record { status = status; fault = fault }
 
--- memory is wanting
+-- the refusal for want of memory
 abbrev pub wanting : Refusal
 wanting = refused 13 Nothing
 
