@@ -16,6 +16,7 @@ pub line_rows : LineRows
 line_rows = record {
   words = rw (decimal_digit 1 (omega arith)) refl;
   no_line = rw (decimal_digit 1 (omega arith)) refl;
+  both_lines = rw (decimal_digit 1 (omega arith)) refl;
   place = rw (decimal_digit 2 (omega arith), twenty) refl;
   kind = rw (decimal_digit 3 (omega arith)) refl;
   property = rw (decimal_digit 3 (omega arith)) refl;

@@ -13,11 +13,11 @@ use Rattle.pad_core.specs.declared.linking.LinkReturn.{LinkReturn}
 use Rattle.run_report.specs.Names.{line_kind_name, stream_kind_name, what_name}
 use Rattle.run_report.specs.Pads.{newline, pad_text}
 use Rattle.run_report.specs.declared.report.Fault.{Fault}
-use Rattle.run_report.specs.declared.report.Fault.TheVariants.{Nothing, Words, NoLine, BadLine, NoSuch, BadValue, NameTaken, LocationTaken, TooMany, LinkRefused, OpenFault, ReadFault, WriteFault, BadStream, NotNegotiated, NotLinked, Stalled, TooLong}
+use Rattle.run_report.specs.declared.report.Fault.TheVariants.{Nothing, Words, NoLine, BothLines, BadLine, NoSuch, BadValue, NameTaken, LocationTaken, TooMany, LinkRefused, OpenFault, ReadFault, WriteFault, BadStream, NotNegotiated, NotLinked, Stalled, TooLong}
 use Rattle.run_report.specs.declared.report.StallReason.{StallReason}
 use Rattle.run_report.specs.declared.report.StallReason.TheVariants.{NeedsItem, NeedsRoom, AtProbe, Held, Ended}
 use Rattle.run_report.specs.declared.report.StalledTask.{StalledTask}
-use Rattle.run_report.specs.declared.what.What.{What}
+use Rattle.graph_core.specs.declared.fault.What.{What}
 
 -- a line of one word
 abbrev pub word_line : List ℕ → List ℕ
@@ -95,6 +95,7 @@ abbrev pub fault_lines : Fault → List ℕ
 fault_lines Nothing = []
 fault_lines Words = word_line (codes "Words")
 fault_lines NoLine = word_line (codes "NoLine")
+fault_lines BothLines = word_line (codes "BothLines")
 fault_lines (BadLine place kind) = place_line place kind
 fault_lines (NoSuch name what) = missing_line name what
 fault_lines (BadValue name property) = value_line name property

@@ -8,8 +8,8 @@ use Rattle.run_report.specs.declared.report.Fault.{Fault}
 use Rattle.run_report.specs.declared.report.Fault.TheVariants.{NoSuch, BadValue, NameTaken, LocationTaken, TooMany}
 use Rattle.run_report.specs.declared.report.Reason.{Reason}
 use Rattle.run_report.specs.declared.report.Reason.TheVariants.{NoSuch as Missing, BadValue as WrongValue, NameTaken as SameName, LocationTaken as SameLocation, TooMany as Limit, NotPeer, NotPlain, AfterEos, WasLinked, WouldLoop, FedElsewhere, NoFormat, NotReady, NotSeekable, BeyondEnd}
-use Rattle.run_report.specs.declared.what.What.{What}
-use Rattle.run_report.specs.declared.what.What.TheVariants.{Kind, Property, Element, Pad, SrcPad, SinkPad, Order}
+use Rattle.graph_core.specs.declared.fault.What.{What}
+use Rattle.graph_core.specs.declared.fault.What.TheVariants.{Kind, Property, Element, Pad, SrcPad, SinkPad, Order}
 
 -- status 3 has the name of what is wrong in the line
 abbrev pub refused_name : Fault → List ℕ

@@ -15,7 +15,7 @@ use Rattle.run_report.specs.ReportText.{report_lines}
 use Rattle.run_report.specs.declared.report.Answer.TheVariants.{Done, Unreached, Refused}
 use Rattle.run_report.specs.declared.report.Answer.{Answer}
 use Rattle.run_report.specs.declared.report.Entry.{Entry}
-use Rattle.run_report.specs.declared.report.Fault.TheVariants.{Nothing, Words, NoLine, BadLine, NoSuch, BadValue, NameTaken, LocationTaken, TooMany, LinkRefused, OpenFault, ReadFault, WriteFault, BadStream, NotNegotiated, NotLinked, Stalled, TooLong}
+use Rattle.run_report.specs.declared.report.Fault.TheVariants.{Nothing, Words, NoLine, BothLines, BadLine, NoSuch, BadValue, NameTaken, LocationTaken, TooMany, LinkRefused, OpenFault, ReadFault, WriteFault, BadStream, NotNegotiated, NotLinked, Stalled, TooLong}
 use Rattle.run_report.specs.declared.report.Fault.{Fault}
 use Rattle.run_report.specs.declared.report.PadCount.{PadCount}
 use Rattle.run_report.specs.declared.report.Place.{Place}
@@ -24,7 +24,7 @@ use Rattle.run_report.specs.declared.report.Report.{Report}
 use Rattle.run_report.specs.declared.report.StallReason.TheVariants.{NeedsItem, NeedsRoom, AtProbe, Held, Ended}
 use Rattle.run_report.specs.declared.report.StallReason.{StallReason}
 use Rattle.run_report.specs.declared.report.StalledTask.{StalledTask}
-use Rattle.run_report.specs.declared.what.What.TheVariants.{Kind, Property}
+use Rattle.graph_core.specs.declared.fault.What.TheVariants.{Kind, Property}
 
 -- lines of a text, each with a newline at its end
 abbrev pub lines : List (List ℕ) → List ℕ
@@ -89,6 +89,7 @@ pub record RunRows : Type 0 where
 pub record LineRows : Type 0 where
   pub words : report_lines 1 false (report_without Words) ≡ lines (codes "status 1 BadWords" ∷ codes "fault Words" ∷ [])
   pub no_line : report_lines 1 false (report_without NoLine) ≡ lines (codes "status 1 BadWords" ∷ codes "fault NoLine" ∷ [])
+  pub both_lines : report_lines 1 false (report_without BothLines) ≡ lines (codes "status 1 BadWords" ∷ codes "fault BothLines" ∷ [])
   pub place : report_lines 2 false (report_without (BadLine 20 TrailingLink)) ≡ lines (codes "status 2 BadLine" ∷ codes "fault place 20 TrailingLink" ∷ [])
   pub kind : report_lines 3 false (report_without (NoSuch (codes "nosuch") Kind)) ≡ lines (codes "status 3 NoSuch" ∷ codes "fault NoSuch nosuch Kind" ∷ [])
   pub property : report_lines 3 false (report_without (NoSuch (codes "identity0") (Property (codes "foo"))))

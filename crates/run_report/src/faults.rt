@@ -6,8 +6,8 @@ ghost use Rattle.run_report.specs.Pads.{pad_text};
 
 use crate::names::{line_kind_name, stream_kind_name, what_name};
 use crate::report::{Fault, StallReason, StalledTask};
-use crate::what::What;
 use caps_text::{print, print_fixed};
+use graph_core::What;
 use gst_caps::{Caps, Fixed, List, OutOfMemory, PadName, Text};
 use gst_item::StreamKind;
 use launch_text::LineKind;
@@ -40,6 +40,7 @@ fn write_fault(alloc: Global, text: &mut String, fault: &Fault) -> Result<(), Ou
         Fault::Nothing => Ok(()),
         Fault::Words => write_word(text, "Words"),
         Fault::NoLine => write_word(text, "NoLine"),
+        Fault::BothLines => write_word(text, "BothLines"),
         Fault::BadLine { place, kind } => write_place(text, *place, *kind),
         Fault::NoSuch { name, what } => write_missing(text, name, what),
         Fault::BadValue { name, property } => write_value(text, name, property),

@@ -7,14 +7,13 @@ mod names;
 pub mod report;
 mod rows;
 mod text;
-pub mod what;
 
+pub use graph_core::What;
 pub use report::{
     Answer, Entry, Fault, PadCount, Place, Reason, Report, SinkCount, StallReason, StalledTask,
 };
 pub use rows::{flow_rows, line_rows, run_rows, stall_rows};
 pub use text::{NO_MEMORY, no_memory, report_text};
-pub use what::What;
 
 #[cfg(test)]
 mod tests;

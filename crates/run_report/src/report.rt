@@ -1,5 +1,5 @@
 //! The report of a run.
-use crate::what::What;
+use graph_core::What;
 use gst_caps::{Caps, Fixed, List, PadName, Text};
 use gst_item::StreamKind;
 use launch_text::LineKind;
@@ -117,6 +117,8 @@ pub enum Fault {
     Words,
     /// There is no launch line.
     NoLine,
+    /// There are words of a line, and a line that the program makes.
+    BothLines,
     /// The text is no launch line. `place` is the length in bytes of its longest beginning with which some line
     /// begins.
     BadLine {

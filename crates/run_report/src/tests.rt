@@ -32,6 +32,10 @@ fault Words
 status 1 BadWords
 fault NoLine
 
+1 whole both lines
+status 1 BadWords
+fault BothLines
+
 2 whole line
 status 2 BadLine
 fault place 20 TrailingLink
@@ -239,6 +243,7 @@ fn fault(alloc: Global, case: &str) -> Result<Fault, Fail> {
     match case {
         "words" => Ok(Fault::Words),
         "no line" => Ok(Fault::NoLine),
+        "both lines" => Ok(Fault::BothLines),
         "line" => Ok(Fault::BadLine {
             place: 20,
             kind: LineKind::TrailingLink,

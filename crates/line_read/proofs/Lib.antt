@@ -1,0 +1,3 @@
+mod Stops
+mod OneAnswer
+mod Refused

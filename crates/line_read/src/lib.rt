@@ -1,0 +1,15 @@
+//! The graph for which a program's words ask, or why there is none.
+#![tactic(auto)]
+
+mod laws;
+mod reading;
+mod refusal;
+mod request;
+
+pub use laws::one_answer;
+pub use reading::read_request;
+pub use refusal::Refusal;
+pub use request::Request;
+
+#[cfg(test)]
+mod tests;
