@@ -1,6 +1,2 @@
-pub mod Numbers
-pub mod Properties
-pub mod ReportLines
-pub mod TailLoop
-pub mod Tails
 pub mod Writes
+pub mod Quiet

@@ -1,36 +1,47 @@
 -- What a run of words reports.
-use Rattle.std.specs.Prelude.{◌≡◌, ◌⊎◌, ℕ, List, [], Option, option_map, take}
+use Rattle.std.specs.Prelude.{◌≡◌, ◌⊎◌, ℕ, Bool, List, [], Option, option_map, take}
 use Rattle.gst_outside.specs.Bytes.{written}
-use Rattle.gst_outside.specs.Causes.{Rose}
-use Rattle.flow_model.specs.declared.report.Fault.TheVariants.{Form}
-use Rattle.world_core.specs.declared.line.Line.{Line}
-use Rattle.world_core.specs.declared.ended.WorldEnd.{WorldEnd}
-use Rattle.world_core.specs.World.{Seen, IsWorldEnd}
-use Rattle.gst_run.specs.declared.report.Outcome.{Outcome}
-use Rattle.gst_run.specs.Words.{IsForm}
+use Rattle.line_read.specs.Refusals.{IsRefusal}
+use Rattle.line_read.specs.Requests.{IsRequest}
+use Rattle.line_read.specs.declared.refusal.Refusal.{Refusal}
+use Rattle.line_read.specs.declared.request.Request.{Request}
+use Rattle.line_world.specs.World.{IsUnwritten, IsWorldEnd}
+use Rattle.line_world.specs.declared.ended.WorldEnd.{WorldEnd}
+use Rattle.run_files.specs.Seen.{Seen}
+use Rattle.run_words.specs.Said.{options_of}
+use Rattle.gst_run.specs.declared.outcome.Outcome.{Outcome}
 
 -- what an outcome says of the run itself
 abbrev pub world_end : Outcome → WorldEnd
 world_end outcome = record { status = outcome.reported; report = outcome.report }
 
--- no line has these words
-pub record ReportsForm (words : List (List ℕ)) (before after : Seen) (end : WorldEnd) : Type 0 where
-  pub status : end.status ≡ 2
-  pub none : (line : Line) → ¬ IsForm words line
-  pub fault : end.report.fault ≡ Form
+-- whether the words ask for a short report
+abbrev pub is_quiet : List (List ℕ) → Bool
+is_quiet words = (options_of words).quiet
+
+-- the words ask for no run, and the files are as they were
+pub record ReportsRefusal (words : List (List ℕ)) (before after : Seen) (end : WorldEnd) : Type 0 where
+  pub refusal : Refusal
+  pub is : IsRefusal words refusal
+  pub status : end.status ≡ refusal.status
+  pub fault : end.report.fault ≡ refusal.fault
   pub entries : end.report.entries ≡ []
   pub pads : end.report.pads ≡ []
   pub sinks : end.report.sinks ≡ []
-  pub output : (l : List ℕ) → after.output l ≡ before.output l
+  pub untouched : after ≡ before
 
--- a line has these words, and its run ended so
+-- the words ask for a run, which ended so
 pub record ReportsRun (words : List (List ℕ)) (before after : Seen) (end : WorldEnd) : Type 0 where
-  pub line : Line
-  pub form : IsForm words line
-  pub ended : IsWorldEnd line before after end
+  pub request : Request
+  pub is : IsRequest words request
+  pub ended : IsWorldEnd request.graph before after end
 
 abbrev pub IsReported : List (List ℕ) → Seen → Seen → WorldEnd → Type 0
-IsReported words before after end = ReportsForm words before after end ⊎ ReportsRun words before after end
+IsReported words before after end = ReportsRefusal words before after end ⊎ ReportsRun words before after end
+
+-- no filesink of a line that the words ask for writes this location
+abbrev pub IsUntouched : List (List ℕ) → List ℕ → Type 0
+IsUntouched words location = (request : Request) → IsRequest words request → IsUnwritten request.graph location
 
 -- a text that was written from place 0 on
 abbrev pub Wrote : List ℕ → Option (List ℕ) → Option (List ℕ) → Type 0

@@ -1,4 +1,1 @@
 pub mod Headline
-pub mod Parts
-pub mod Reading
-pub mod Words

@@ -1,9 +1,9 @@
-//! `gst_run WORD...`: runs a launch line on the files of the host, and prints its report.
+//! `gst_run [--threads on|off] [--order N] [--quiet] WORD...`: runs a launch line on the files of the host, and prints
+//! its report.
 #![tactic(auto)]
 
-mod report;
+mod outcome;
 mod run;
-mod words;
 
 use gst_outside::{HostClock, HostFiles, OpenGate, OutSink};
 use std::process::ExitCode;

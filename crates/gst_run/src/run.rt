@@ -1,57 +1,68 @@
 //! The top call.
-ghost use Rattle.std.specs.Prelude.{◌≡◌, ◌≢◌, ◌<◌, ◌⊎◌, ◌^◌, ℕ, List, [], map, false, string_bytes, OnOk, OnErr};
+ghost use Rattle.std.specs.Prelude.{◌≡◌, ◌≢◌, ◌<◌, ◌⊎◌, ◌^◌, ℕ, Bool, List, [], map, string_bytes, OnOk, OnErr};
 ghost use Rattle.gst_outside.specs.Causes.{Rose};
-ghost use Rattle.flow_model.specs.ReportText.{report_lines};
-ghost use Rattle.world_core.specs.declared.line.Line.{Line};
-ghost use Rattle.world_core.specs.World.{Seen, seen};
-ghost use Rattle.gst_run.specs.Words.{IsForm};
-ghost use Rattle.gst_run.specs.Headline.{IsReported, Wrote, WrotePart, world_end};
+ghost use Rattle.run_files.specs.Seen.{Seen, seen};
+ghost use Rattle.run_report.specs.ReportText.{report_lines};
+ghost use Rattle.gst_run.specs.Headline.{IsReported, IsUntouched, Wrote, WrotePart, is_quiet, world_end};
 
-use crate::report::{Outcome, no_memory, report_text};
-use crate::words::read_line;
-use flow_model::{Fault, Report};
+use crate::outcome::{Outcome, report_text};
 use gst_caps::{List, OutOfMemory};
 use gst_outside::{Clock, Failed, Files, Sink, TaskGate};
+use line_read::{Refusal, read_request};
+use line_world::{WorldEnd, run_turns};
+use run_report::{Fault, Report, no_memory};
 use std::alloc::Global;
 use std::sync::Wait;
 use std::thread::Threads;
-use world_core::{WorldEnd, run_turns};
+use turn_order::Order;
 
 const OUT_OF_MEMORY: u8 = 13;
 
 const REPORT_FAULT: u8 = 14;
 
+/// How a call ended, and whether its report is to be short.
+struct Ended {
+    end: WorldEnd,
+    quiet: bool,
+}
+
 /// The end of a call that ran no line.
-fn not_begun(alloc: Global, status: u8, fault: Fault) -> WorldEnd
-    ensures status { result.status ≡ status }
-    ensures fault { result.report.fault ≡ fault }
+fn not_begun(alloc: Global, refusal: Refusal) -> WorldEnd
+    ensures status { result.status ≡ refusal.status }
+    ensures fault { result.report.fault ≡ refusal.fault }
     ensures entries { result.report.entries ≡ [] }
     ensures pads { result.report.pads ≡ [] }
     ensures sinks { result.report.sinks ≡ [] }
 {
     WorldEnd {
-        status,
+        status: refusal.status,
         report: Report {
             entries: List::new(alloc),
             pads: List::new(alloc),
             sinks: List::new(alloc),
-            fault,
+            fault: refusal.fault,
         },
     }
 }
 
-/// Reads the words and runs their line.
-fn run_words<F: Files>(alloc: Global, words: &[String], files: &mut F) -> WorldEnd
-    ensures reported { result.status ≢ 13 → IsReported (map string_bytes words.now) (seen (F.input files.old) (F.output files.old) (F.faults_of files.old) (F.refused_of files.old) (F.faults files.old)) (seen (F.input files.new) (F.output files.new) (F.faults_of files.new) (F.refused_of files.new) (F.faults files.new)) result }
-    ensures status { result.status ≢ 14 }
+/// Reads the words and runs their line, by turns that are drawn from the order of the words.
+fn run_words<F: Files>(alloc: Global, words: &[String], files: &mut F) -> Ended
+    ensures reported { result.end.status ≢ 13 → IsReported (map string_bytes words.now) (seen (F.input files.old) (F.output files.old) (F.faults_of files.old) (F.refused_of files.old) (F.faults files.old) (F.ends files.old)) (seen (F.input files.new) (F.output files.new) (F.faults_of files.new) (F.refused_of files.new) (F.faults files.new) (F.ends files.new)) result.end }
+    ensures status { result.end.status ≢ 14 }
+    ensures text { report_lines result.end.status result.quiet result.end.report ≡ report_lines result.end.status (is_quiet (map string_bytes words.now)) result.end.report }
     ensures given_back { F.ends files.old < 2 ^ 63 → F.ends files.new ≡ F.ends files.old }
     ensures inputs { (l : List ℕ) → F.input files.new l ≡ F.input files.old l }
-    ensures others { (l : List ℕ) → ((line : Line) → IsForm (map string_bytes words.now) line → l ≢ line.sink) → F.output files.new l ≡ F.output files.old l }
+    ensures others { (l : List ℕ) → IsUntouched (map string_bytes words.now) l → F.output files.new l ≡ F.output files.old l }
 {
-    match read_line(alloc, words) {
-        Ok(Some(line)) => run_turns(alloc, &line, files, &[]),
-        Ok(None) => not_begun(alloc, 2, Fault::Form),
-        Err(OutOfMemory) => not_begun(alloc, OUT_OF_MEMORY, Fault::Nothing),
+    match read_request(alloc, words) {
+        Ok(request) => Ended {
+            end: run_turns(alloc, request.graph, files, Order::Drawn(request.order)),
+            quiet: request.quiet,
+        },
+        Err(refusal) => Ended {
+            end: not_begun(alloc, refusal),
+            quiet: false,
+        },
     }
 }
 
@@ -69,15 +80,20 @@ fn write_text<O: Sink>(out: &mut O, text: &[u8]) -> Result<(), Failed>
 }
 
 /// Writes the text of an outcome. Where there is no memory for it the outcome is that.
-fn write_report<O: Sink>(alloc: Global, outcome: &mut Outcome, out: &mut O) -> Result<(), Failed>
-    ensures whole { OnOk result (Wrote (report_lines outcome.new.reported false outcome.new.report) (O.bytes out.old) (O.bytes out.new)) }
-    ensures part { OnErr result (WrotePart (report_lines outcome.new.reported false outcome.new.report) (O.bytes out.old) (O.bytes out.new)) }
+fn write_report<O: Sink>(
+    alloc: Global,
+    outcome: &mut Outcome,
+    quiet: bool,
+    out: &mut O,
+) -> Result<(), Failed>
+    ensures whole { OnOk result (Wrote (report_lines outcome.new.reported quiet outcome.new.report) (O.bytes out.old) (O.bytes out.new)) }
+    ensures part { OnErr result (WrotePart (report_lines outcome.new.reported quiet outcome.new.report) (O.bytes out.old) (O.bytes out.new)) }
     ensures cause { OnErr result (Rose (O.faults out.old) (O.faults out.new)) }
     ensures stays { outcome.new.reported ≢ 13 → outcome.new ≡ outcome.old }
     ensures status { outcome.old.status ≡ outcome.old.reported → outcome.new.status ≡ outcome.new.reported }
     ensures before { outcome.new.out_before ≡ outcome.old.out_before }
 {
-    match report_text(alloc, outcome, false) {
+    match report_text(alloc, outcome, quiet) {
         Ok(text) => write_text(out, text.as_str().as_bytes()),
         Err(OutOfMemory) => {
             outcome.status = OUT_OF_MEMORY;
@@ -88,15 +104,16 @@ fn write_report<O: Sink>(alloc: Global, outcome: &mut Outcome, out: &mut O) -> R
 }
 
 /// Writes the report of an end, and gives the outcome of the call.
-fn tell<O: Sink>(alloc: Global, end: WorldEnd, out: &mut O) -> Outcome
-    requires { end.status ≢ 14 }
+fn tell<O: Sink>(alloc: Global, ended: Ended, out: &mut O) -> Outcome
+    requires { ended.end.status ≢ 14 }
     ensures before { result.out_before ≡ O.faults out.old }
     ensures after { result.out_after ≡ O.faults out.new }
-    ensures reported { result.reported ≢ 13 → world_end result ≡ end }
+    ensures reported { result.reported ≢ 13 → world_end result ≡ ended.end }
     ensures status { (result.status ≡ result.reported) ⊎ ((result.status ≡ 14) × Rose (O.faults out.old) (O.faults out.new)) }
-    ensures whole { result.status ≢ 14 → Wrote (report_lines result.reported false result.report) (O.bytes out.old) (O.bytes out.new) }
-    ensures part { result.status ≡ 14 → WrotePart (report_lines result.reported false result.report) (O.bytes out.old) (O.bytes out.new) }
+    ensures whole { result.status ≢ 14 → Wrote (report_lines result.reported ended.quiet result.report) (O.bytes out.old) (O.bytes out.new) }
+    ensures part { result.status ≡ 14 → WrotePart (report_lines result.reported ended.quiet result.report) (O.bytes out.old) (O.bytes out.new) }
 {
+    let Ended { end, quiet } = ended;
     let out_before = out.faults();
     let mut outcome = Outcome {
         status: end.status,
@@ -105,7 +122,7 @@ fn tell<O: Sink>(alloc: Global, end: WorldEnd, out: &mut O) -> Outcome
         out_after: out_before,
         report: end.report,
     };
-    match write_report(alloc, &mut outcome, out) {
+    match write_report(alloc, &mut outcome, quiet, out) {
         Ok(()) => {
             outcome.out_after = out.faults();
             outcome
@@ -120,8 +137,12 @@ fn tell<O: Sink>(alloc: Global, end: WorldEnd, out: &mut O) -> Outcome
 
 /// Runs the launch line that the words spell, and writes its report to `out`.
 ///
-/// The status is that of the run, or 2 where the words spell no line, 13 where memory is wanting, and 14 where the
-/// report could not be written; `reported` is then the status whose place 14 took.
+/// The words are `[--threads on|off] [--order N] [--quiet] WORD...`. The WORDs are joined by one space each, and a space
+/// inside of a WORD gets a backslash. The tasks take turns on one thread, drawn from N, with both values of `--threads`.
+///
+/// The status is that of the run, or 1 where the words are not taken or have no line, 2 where they spell no line, 3 and
+/// 4 where the line has no graph, 13 where memory is wanting, and 14 where the report could not be written;
+/// `reported` is then the status whose place 14 took.
 pub fn run<H: Threads + Wait + Copy + Send + 'static, F: Files, C: Clock, G: TaskGate, O: Sink>(
     _rt: &H,
     alloc: Global,
@@ -131,19 +152,16 @@ pub fn run<H: Threads + Wait + Copy + Send + 'static, F: Files, C: Clock, G: Tas
     _gate: &G,
     out: &mut O,
 ) -> Outcome
-    ensures headline { result.reported ≢ 13 → IsReported (map string_bytes words.now) (seen (F.input files.old) (F.output files.old) (F.faults_of files.old) (F.refused_of files.old) (F.faults files.old)) (seen (F.input files.new) (F.output files.new) (F.faults_of files.new) (F.refused_of files.new) (F.faults files.new)) (world_end result) }
+    ensures headline { result.reported ≢ 13 → IsReported (map string_bytes words.now) (seen (F.input files.old) (F.output files.old) (F.faults_of files.old) (F.refused_of files.old) (F.faults files.old) (F.ends files.old)) (seen (F.input files.new) (F.output files.new) (F.faults_of files.new) (F.refused_of files.new) (F.faults files.new) (F.ends files.new)) (world_end result) }
     ensures status { (result.status ≡ result.reported) ⊎ ((result.status ≡ 14) × Rose result.out_before result.out_after) }
     ensures before { result.out_before ≡ O.faults out.old }
     ensures after { result.out_after ≡ O.faults out.new }
-    ensures text { result.status ≢ 14 → Wrote (report_lines result.reported false result.report) (O.bytes out.old) (O.bytes out.new) }
-    ensures text_part { result.status ≡ 14 → WrotePart (report_lines result.reported false result.report) (O.bytes out.old) (O.bytes out.new) }
+    ensures text { result.status ≢ 14 → Wrote (report_lines result.reported (is_quiet (map string_bytes words.now)) result.report) (O.bytes out.old) (O.bytes out.new) }
+    ensures text_part { result.status ≡ 14 → WrotePart (report_lines result.reported (is_quiet (map string_bytes words.now)) result.report) (O.bytes out.old) (O.bytes out.new) }
     ensures given_back { F.ends files.old < 2 ^ 63 → F.ends files.new ≡ F.ends files.old }
     ensures inputs { (l : List ℕ) → F.input files.new l ≡ F.input files.old l }
-    ensures others { (l : List ℕ) → ((line : Line) → IsForm (map string_bytes words.now) line → l ≢ line.sink) → F.output files.new l ≡ F.output files.old l }
+    ensures others { (l : List ℕ) → IsUntouched (map string_bytes words.now) l → F.output files.new l ≡ F.output files.old l }
 {
-    let end = run_words(alloc, words, files);
-    tell(alloc, end, out)
+    let ended = run_words(alloc, words, files);
+    tell(alloc, ended, out)
 }
-
-#[cfg(test)]
-mod tests;

@@ -1,6 +1,12 @@
-use Rattle.std.proofs.Common.{inr}
+use Rattle.std.proofs.Common.{false, inr, map}
+use Rattle.std.specs.String.{string_bytes}
+use Rattle.gst_run.specs.Headline.{is_quiet}
+use Rattle.gst_run.proofs.Quiet.{nothing_left_out}
 use Rattle.gst_run.proofs.run.run_words.Goals as goal
 
-pub returns-in-Ok-Some-clause-reported : goal.returns-in-Ok-Some-clause-reported
-returns-in-Ok-Some-clause-reported g c =
-    λ found. inr (record { line = c.in-Ok-Some.line; form = rw c.in-Ok-Some.field-0-is at c.in-Ok-Some.ensures; ended = c.run_turns.ensures.ended found })
+pub returns-in-Ok-clause-reported : goal.returns-in-Ok-clause-reported
+returns-in-Ok-clause-reported g c = λ found. inr (record { request = c.in-Ok.request; is = c.in-Ok.ensures.request; ended = c.run_turns.ensures.ended found })
+
+pub returns-in-Err-clause-text : goal.returns-in-Err-clause-text
+returns-in-Err-clause-text g c =
+    nothing_left_out c.not_begun.result.status false (is_quiet (map string_bytes c.args.words.now)) c.not_begun.result.report c.not_begun.ensures.entries c.not_begun.ensures.pads c.not_begun.ensures.sinks

@@ -1,8 +1,0 @@
--- The lines of the members so far stand behind the text.
-use Rattle.std.proofs.Common.{◌≡◌, ◌++◌, flat_map, take}
-use Rattle.std.specs.String.{string_bytes}
-use Rattle.flow_model.specs.ReportText.{pad_line}
-use Rattle.gst_run.proofs.report.write_pads.Given as goal
-
-abbrev pub invariant-loop-count : goal.invariant-loop-count
-invariant-loop-count l = string_bytes l.text ≡ string_bytes l.initial.text ++ flat_map pad_line (take l.count-index l.count-items)

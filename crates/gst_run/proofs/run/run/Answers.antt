@@ -1,0 +1,17 @@
+use Rattle.std.proofs.Common.{List, ℕ, map, subst}
+use Rattle.std.specs.String.{string_bytes}
+use Rattle.gst_run.specs.Headline.{Wrote, WrotePart, is_quiet}
+use Rattle.gst_run.proofs.Quiet.{told_the_same}
+use Rattle.gst_run.proofs.run.run.Goals as goal
+
+pub returns-clause-text : goal.returns-clause-text
+returns-clause-text g c =
+    λ fine.
+    subst (λ (text : List ℕ). Wrote text (g.O.Sink.bytes c.args.out.now) (g.O.Sink.bytes c.tell.new.out))
+    (told_the_same c.tell.result.reported c.tell.result.report c.run_words-ended.result.end c.run_words-ended.result.quiet (is_quiet (map string_bytes c.args.words.now)) c.tell.ensures.reported c.run_words-ended.ensures.text) (c.tell.ensures.whole fine)
+
+pub returns-clause-text_part : goal.returns-clause-text_part
+returns-clause-text_part g c =
+    λ failed.
+    subst (λ (text : List ℕ). WrotePart text (g.O.Sink.bytes c.args.out.now) (g.O.Sink.bytes c.tell.new.out))
+    (told_the_same c.tell.result.reported c.tell.result.report c.run_words-ended.result.end c.run_words-ended.result.quiet (is_quiet (map string_bytes c.args.words.now)) c.tell.ensures.reported c.run_words-ended.ensures.text) (c.tell.ensures.part failed)

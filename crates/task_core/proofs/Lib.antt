@@ -1,8 +1,0 @@
-pub mod Crossing
-pub mod Drained
-pub mod Heads
-pub mod Keeping
-pub mod Parts
-pub mod Rooms
-pub mod Steps
-pub mod Through
