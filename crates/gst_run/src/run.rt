@@ -10,7 +10,7 @@ use gst_caps::{List, OutOfMemory};
 use gst_outside::{Clock, Failed, Files, Sink, TaskGate};
 use line_read::{Refusal, read_request};
 use line_world::{WorldEnd, run_turns};
-use run_report::{Fault, Report, no_memory};
+use run_report::{Report, no_memory};
 use std::alloc::Global;
 use std::sync::Wait;
 use std::thread::Threads;
@@ -165,3 +165,6 @@ pub fn run<H: Threads + Wait + Copy + Send + 'static, F: Files, C: Clock, G: Tas
     let ended = run_words(alloc, words, files);
     tell(alloc, ended, out)
 }
+
+#[cfg(test)]
+mod tests;
