@@ -1,11 +1,11 @@
 -- What an element of a law puts out for a call.
-use Rattle.std.proofs.Common.{◌≡◌, Bool, true, false, if◌then◌else◌, List, [], ◌∷◌, ◌++◌, Result, Ok, refl, sym, ap, ◌∙◌, append-nil}
+use Rattle.std.proofs.Common.{◌≡◌, Bool, true, false, if◌then◌else◌, List, [], ◌∷◌, ◌++◌, Ok, refl, sym, ◌∙◌, append-nil}
 use Rattle.gst_item.specs.declared.out.Out.{Out}
 use Rattle.flow_model.specs.Item.{Item, Ev, Eos, is_flush_stop, is_eos}
 use Rattle.flow_model.specs.Call.{Feed, Act, Drain}
 use Rattle.flow_model.specs.Feeding.{on_pad}
 use Rattle.el_law.specs.declared.law.Law.{Law}
-use Rattle.el_law.specs.Laws.{law_answer, recoded, recodes, frame_behind, got_behind}
+use Rattle.el_law.specs.Laws.{law_answer, recoded, frame_behind, got_behind}
 use Rattle.el_law.specs.Recoded.{recoding}
 use Rattle.el_law.specs.Puts.{Puts, without_eos}
 use Rattle.el_law.proofs.Recoding.{recoded_taken, recoded_behind, recoded_drain}
