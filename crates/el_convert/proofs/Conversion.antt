@@ -66,3 +66,7 @@ half_of v (a ∷ b ∷ d ∷ ps) two = absurd (omega arith)
 pub weaken : {T E : Type 0} (r : Result T E) (P Q : T → Type 0) → ((x : T) → P x → Q x) → IfOk r P → IfOk r Q
 weaken (Ok x) P Q f h = f x h
 weaken (Err e) P Q f h = tt
+
+-- the same bytes, where the formats are the same
+pub same_formats : (f f' g g' : Sample) (a b : ℕ) (bytes made : List ℕ) → f ≡ f' → g ≡ g' → made ≡ converted_bytes f g a b bytes → made ≡ converted_bytes f' g' a b bytes
+same_formats f f' g g' a b bytes made p q h = rw (← p, ← q) h

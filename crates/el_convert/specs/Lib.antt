@@ -2,5 +2,6 @@ pub mod Bodies
 pub mod Choice
 pub mod Converted
 pub mod Converts
+pub mod Puts
 pub mod Raw
 pub mod Refused

@@ -1,5 +1,5 @@
 //! Bodies of raw audio in another format and number of channels.
-ghost use Rattle.std.specs.Prelude.{◌≡◌, ◌≤◌, ◌*◌, ◌^◌, ◌++◌, length, map, IfOk, pos, ◌+ℤ◌};
+ghost use Rattle.std.specs.Prelude.{◌≡◌, ◌≤◌, ◌*◌, ◌%◌, ◌^◌, ◌++◌, length, map, true, IfOk, pos, ◌+ℤ◌};
 ghost use Rattle.std.specs.List.{flat_map};
 ghost use Rattle.std.specs.Int.{int_shr};
 ghost use Rattle.audio_info.specs.Packing.{IsRaw, FitsBytes, sample_width, sample_value};
@@ -8,13 +8,48 @@ ghost use Rattle.el_convert.specs.Bodies.{converted_bytes, half_sum as half_sum_
 
 use audio_info::{Info, Sample, get, put};
 use gst_caps::OutOfMemory;
+use gst_item::Body;
 use std::alloc::Global;
 
-/// The bytes of a body with the samples and channels of `output` in place of those of `input`.
+/// A body of whole samples with the samples and channels of `output` in place of those of `input`. Where these are the
+/// same it is the body itself.
 pub(crate) fn converted(
     alloc: Global,
     input: Info,
     output: Info,
+    body: Body,
+) -> Result<Body, OutOfMemory>
+    requires from { IsRaw input.format }
+    requires to { IsRaw output.format }
+    requires whole { length body % sample_width input.format ≡ 0 }
+    ensures { IfOk result (λ made. made ≡ converted_bytes input.format output.format input.channels output.channels body) }
+{
+    if is_same(input, output) {
+        unchanged(input.format, input.channels, body.as_slice());
+        return Ok(body);
+    }
+    let made = converted_samples(alloc, input, output, body.as_slice())?;
+    Ok(Body::from_vec(alloc, made)?)
+}
+
+/// Whether format and channels are the same.
+fn is_same(input: Info, output: Info) -> bool
+    ensures { result ≡ true → (input.format ≡ output.format) × (input.channels ≡ output.channels) }
+{
+    input.format == output.format && input.channels == output.channels
+}
+
+/// A law: where format and channels stay, whole samples stay as they are.
+fn unchanged(_format: Sample, _channels: u32, _bytes: &[u8])
+    ensures { IsRaw _format → length _bytes.now % sample_width _format ≡ 0 → converted_bytes _format _format _channels _channels _bytes.now ≡ _bytes.now }
+{}
+
+/// The bytes of a body with the samples and channels of `output` in place of those of `input`. Each pair of formats
+/// has loops of its own.
+fn converted_samples(
+    alloc: Global,
+    input: Info,
+    output: Info,
     bytes: &[u8],
 ) -> Result<Vec<u8>, OutOfMemory>
     requires from { IsRaw input.format }
@@ -22,62 +57,74 @@ pub(crate) fn converted(
     requires small { length bytes.now ≤ LARGEST_BODY }
     ensures { IfOk result (λ made. made.items ≡ converted_bytes input.format output.format input.channels output.channels bytes.now) }
 {
+    let channels = input.channels;
     match input.format {
-        Sample::S8 | Sample::U8 => from_width::<1>(alloc, input, output, bytes),
-        Sample::S16LE | Sample::S16BE => from_width::<2>(alloc, input, output, bytes),
-        Sample::S24LE => from_width::<3>(alloc, input, output, bytes),
-        Sample::S32LE => from_width::<4>(alloc, input, output, bytes),
+        Sample::S8 => from_width::<1>(alloc, Sample::S8, channels, output, bytes),
+        Sample::U8 => from_width::<1>(alloc, Sample::U8, channels, output, bytes),
+        Sample::S16LE => from_width::<2>(alloc, Sample::S16LE, channels, output, bytes),
+        Sample::S16BE => from_width::<2>(alloc, Sample::S16BE, channels, output, bytes),
+        Sample::S24LE => from_width::<3>(alloc, Sample::S24LE, channels, output, bytes),
+        Sample::S32LE => from_width::<4>(alloc, Sample::S32LE, channels, output, bytes),
         Sample::MuLaw | Sample::ALaw => unreachable!(),
     }
 }
 
-/// The same, where a sample that comes in has `IN` bytes.
+#[inline(always)]
+/// The same, for samples of `IN` bytes that come in.
 fn from_width<const IN: usize>(
     alloc: Global,
-    input: Info,
+    from: Sample,
+    channels: u32,
     output: Info,
     bytes: &[u8],
 ) -> Result<Vec<u8>, OutOfMemory>
-    requires from { IsRaw input.format }
+    requires from { IsRaw from }
     requires to { IsRaw output.format }
-    requires bytes_in { sample_width input.format ≡ IN }
+    requires bytes_in { sample_width from ≡ IN }
     requires small { length bytes.now ≤ LARGEST_BODY }
-    ensures { IfOk result (λ made. made.items ≡ converted_bytes input.format output.format input.channels output.channels bytes.now) }
+    ensures { IfOk result (λ made. made.items ≡ converted_bytes from output.format channels output.channels bytes.now) }
 {
+    let after = output.channels;
     match output.format {
-        Sample::S8 | Sample::U8 => to_width::<IN, 1>(alloc, input, output, bytes),
-        Sample::S16LE | Sample::S16BE => to_width::<IN, 2>(alloc, input, output, bytes),
-        Sample::S24LE => to_width::<IN, 3>(alloc, input, output, bytes),
-        Sample::S32LE => to_width::<IN, 4>(alloc, input, output, bytes),
+        Sample::S8 => to_width::<IN, 1>(alloc, from, Sample::S8, channels, after, bytes),
+        Sample::U8 => to_width::<IN, 1>(alloc, from, Sample::U8, channels, after, bytes),
+        Sample::S16LE => to_width::<IN, 2>(alloc, from, Sample::S16LE, channels, after, bytes),
+        Sample::S16BE => to_width::<IN, 2>(alloc, from, Sample::S16BE, channels, after, bytes),
+        Sample::S24LE => to_width::<IN, 3>(alloc, from, Sample::S24LE, channels, after, bytes),
+        Sample::S32LE => to_width::<IN, 4>(alloc, from, Sample::S32LE, channels, after, bytes),
         Sample::MuLaw | Sample::ALaw => unreachable!(),
     }
 }
 
-/// The same, where a sample that goes out has `OUT` bytes.
+#[inline(always)]
+/// The same, for samples of `OUT` bytes that go out, and by the number of channels before and after.
 fn to_width<const IN: usize, const OUT: usize>(
     alloc: Global,
-    input: Info,
-    output: Info,
+    from: Sample,
+    to: Sample,
+    before: u32,
+    after: u32,
     bytes: &[u8],
 ) -> Result<Vec<u8>, OutOfMemory>
-    requires from { IsRaw input.format }
-    requires to { IsRaw output.format }
-    requires bytes_in { sample_width input.format ≡ IN }
-    requires bytes_out { sample_width output.format ≡ OUT }
+    requires from { IsRaw from }
+    requires to { IsRaw to }
+    requires bytes_in { sample_width from ≡ IN }
+    requires bytes_out { sample_width to ≡ OUT }
     requires small { length bytes.now ≤ LARGEST_BODY }
-    ensures { IfOk result (λ made. made.items ≡ converted_bytes input.format output.format input.channels output.channels bytes.now) }
+    ensures { IfOk result (λ made. made.items ≡ converted_bytes from to before after bytes.now) }
 {
     let (samples, _) = bytes.as_chunks::<IN>();
-    if input.channels < output.channels {
-        doubled::<IN, OUT>(alloc, input.format, output.format, samples)
-    } else if output.channels < input.channels {
+    if before < after {
+        doubled::<IN, OUT>(alloc, from, to, samples)
+    } else if after < before {
         let (pairs, _) = samples.as_chunks::<2>();
-        halved::<IN, OUT>(alloc, input.format, output.format, pairs)
+        halved::<IN, OUT>(alloc, from, to, pairs)
     } else {
-        kept::<IN, OUT>(alloc, input.format, output.format, samples)
+        kept::<IN, OUT>(alloc, from, to, samples)
     }
 }
 
+#[inline(always)]
 /// Each sample once.
 fn kept<const IN: usize, const OUT: usize>(
     alloc: Global,
@@ -100,6 +147,7 @@ fn kept<const IN: usize, const OUT: usize>(
     Ok(made)
 }
 
+#[inline(always)]
 /// Each sample twice.
 fn doubled<const IN: usize, const OUT: usize>(
     alloc: Global,
@@ -123,6 +171,7 @@ fn doubled<const IN: usize, const OUT: usize>(
     Ok(made)
 }
 
+#[inline(always)]
 /// One sample for two, with the floor of half their sum.
 fn halved<const IN: usize, const OUT: usize>(
     alloc: Global,
@@ -145,6 +194,7 @@ fn halved<const IN: usize, const OUT: usize>(
     Ok(made)
 }
 
+#[inline(always)]
 /// The floor of half the sum of two samples.
 fn half<const IN: usize>(from: Sample, pair: &[[u8; IN]; 2]) -> i32
     requires raw { IsRaw from }
@@ -155,6 +205,7 @@ fn half<const IN: usize>(from: Sample, pair: &[[u8; IN]; 2]) -> i32
     half_sum(get(from, &pair[0]), get(from, &pair[1]))
 }
 
+#[inline(always)]
 /// The floor of half the sum of two numbers.
 fn half_sum(left: i32, right: i32) -> i32
     ensures { result ≡ int_shr (left +ℤ right) 1 }
@@ -162,6 +213,7 @@ fn half_sum(left: i32, right: i32) -> i32
     ((i64::from(left) + i64::from(right)) >> 1) as i32
 }
 
+#[inline(always)]
 /// The bytes of a sample of `IN` bytes in another format, whose samples have `OUT` bytes.
 fn packed<const IN: usize, const OUT: usize>(from: Sample, to: Sample, value: i32) -> [u8; OUT]
     requires raw { IsRaw to }
@@ -175,6 +227,7 @@ fn packed<const IN: usize, const OUT: usize>(from: Sample, to: Sample, value: i3
     bytes
 }
 
+#[inline(always)]
 /// A number of `from` bytes as one of `to` bytes: bytes of zeros are put behind it, or its last bytes are left
 /// out.
 fn rescaled(value: i32, from: u32, to: u32) -> i32
@@ -192,6 +245,7 @@ fn rescaled(value: i32, from: u32, to: u32) -> i32
     }
 }
 
+#[inline(always)]
 /// 256 to the power of a number of bytes.
 fn factor(bytes: u32) -> i32
     requires { bytes ≤ 3 }

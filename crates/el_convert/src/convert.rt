@@ -36,6 +36,7 @@ impl Convert {
     ghost use Rattle.el_convert.specs.Raw.{raw_template};
     ghost use Rattle.el_convert.specs.Converts.{converts, convert_answer, answered, behind};
     ghost use Rattle.el_convert.specs.Converted.{IsConverted, knows, Stays, Changes};
+    ghost use Rattle.el_convert.specs.Puts.{Puts};
 
     /// An element that was fed nothing yet, with the caps that it is allowed to put out at first.
     pub fn new(allowed: Caps) -> Convert
@@ -70,6 +71,7 @@ impl Convert {
         ensures fed { IfOk result (λ flow. (first : Caps) (calls : List Call) (put : List Item) → IsConverted first self.old calls put
             → (ys : List Item) × (next_owed (converts first) calls item ≡ Ok ys) × (out.new ≡ out.old ++ on_pad 0 ys) × IsConverted first self.new (calls ++ Feed item ∷ []) (put ++ ys)) }
         ensures flow { IfOk result (λ flow. (first : Caps) (calls : List Call) (put : List Item) → IsConverted first self.old calls put → flow ≡ flow_behind calls) }
+        ensures puts { IfOk result (λ flow. Puts self.old self.new (Feed item) out.old out.new) }
         ensures stays { OnErr result ((self.new ≡ self.old) × (out.new ≡ out.old)) }
         ensures fault { IfErr result (λ fault. (first : Caps) (calls : List Call) (put : List Item) → IsConverted first self.old calls put → IsFaultOf (next_owed (converts first) calls item) fault) }
     {
@@ -95,6 +97,7 @@ impl Convert {
         ensures ok { IsOk result }
         ensures out { _out.new ≡ _out.old }
         ensures drained { (first : Caps) (calls : List Call) (put : List Item) → IsConverted first self.old calls put → IsConverted first self.new (calls ++ Act Drain ∷ []) put }
+        ensures puts { OnOk result (Puts self.old self.new (Act Drain) _out.old _out.new) }
     {
         Ok(())
     }
@@ -202,7 +205,7 @@ impl Convert {
             unreachable!()
         };
         let length = buffer.body.as_slice().len() as u64;
-        let made = converted_buffer(alloc, stream, self.got, &buffer)?;
+        let made = converted_buffer(alloc, stream, self.got, buffer)?;
         put_out(alloc, Item::Buffer(made), out)?;
         self.anew = false;
         self.got += length;
@@ -226,7 +229,7 @@ impl Convert {
         ensures fault { IfErr result (λ fault. IsFaultOf (convert_answer (knows self.old) (Buf buffer)) fault) }
     {
         let length = buffer.body.as_slice().len() as u64;
-        let made = converted_buffer(alloc, &stream, self.got, &buffer)?;
+        let made = converted_buffer(alloc, &stream, self.got, buffer)?;
         put_with_caps(alloc, stream.chosen.copy(alloc)?, made, out)?;
         self.anew = false;
         self.stream = Some(stream);

@@ -12,7 +12,7 @@ use crate::bodies::converted;
 use crate::raw::options;
 use audio_info::Info;
 use gst_caps::{Caps, Fixed, OutOfMemory, choose};
-use gst_item::{Body, Buffer, ElementFault, StreamKind};
+use gst_item::{Buffer, ElementFault, StreamKind};
 use gst_time::LIMIT;
 use std::alloc::Global;
 
@@ -86,16 +86,15 @@ pub(crate) fn converted_buffer(
     alloc: Global,
     stream: &Stream,
     got: u64,
-    buffer: &Buffer,
+    buffer: Buffer,
 ) -> Result<Buffer, ElementFault>
     requires { got < 2 ^ 63 }
-    ensures made { IfOk result (λ made. made ≡ buffer_of stream.now.offered stream.now.chosen buffer.now) }
-    ensures fits { OnOk result (got + length buffer.now.body < 2 ^ 63) }
-    ensures whole { OnOk result ((owed : List Item) → whole_frames (frame_width stream.now.offered) got buffer.now owed ≡ Ok owed) }
-    ensures fault { IfErr result (λ fault. (owed : List Item) → IsFaultOf (whole_frames (frame_width stream.now.offered) got buffer.now owed) fault) }
+    ensures made { IfOk result (λ made. made ≡ buffer_of stream.now.offered stream.now.chosen buffer) }
+    ensures fits { OnOk result (got + length buffer.body < 2 ^ 63) }
+    ensures whole { OnOk result ((owed : List Item) → whole_frames (frame_width stream.now.offered) got buffer owed ≡ Ok owed) }
+    ensures fault { IfErr result (λ fault. (owed : List Item) → IsFaultOf (whole_frames (frame_width stream.now.offered) got buffer owed) fault) }
 {
-    let bytes = buffer.body.as_slice();
-    let length = bytes.len() as u64;
+    let length = buffer.body.as_slice().len() as u64;
     if length % u64::from(stream.input.width()) != 0 {
         return Err(ElementFault::BadStream {
             place: got + length,
@@ -105,9 +104,9 @@ pub(crate) fn converted_buffer(
     if got + length >= LIMIT {
         return Err(ElementFault::TooLong { a: got, b: length });
     }
-    let made = converted(alloc, stream.input, stream.output, bytes)?;
+    let body = converted(alloc, stream.input, stream.output, buffer.body)?;
     Ok(Buffer {
-        body: Body::from_vec(alloc, made)?,
+        body,
         pts: buffer.pts,
         duration: buffer.duration,
         offset: buffer.offset,

@@ -1,4 +1,5 @@
 pub mod Accepted
 pub mod Decoding
 pub mod Pieces
+pub mod Putting
 pub mod Recoding

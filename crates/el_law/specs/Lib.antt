@@ -1,4 +1,5 @@
 pub mod Companding
 pub mod Laws
+pub mod Puts
 pub mod Recoded
 pub mod Templates

@@ -33,6 +33,7 @@ impl Law {
     ghost use Rattle.flow_model.specs.Feeding.{flow_behind, passed, on_pad, next_owed, IsFaultOf};
     ghost use Rattle.el_law.specs.Laws.{recodes, recoded as recoded_item, recoded_caps, frame_width, law_answer, frame_behind, got_behind};
     ghost use Rattle.el_law.specs.Recoded.{Recoded};
+    ghost use Rattle.el_law.specs.Puts.{Puts};
 
     /// An element that was fed nothing yet.
     pub fn new(kind: LawKind) -> Law
@@ -64,6 +65,7 @@ impl Law {
         ensures out { IfOk result (λ flow. (kind : LawKind) (calls : List Call) (put : List Item) → Recoded kind self.old calls put → out.new ≡ out.old ++ on_pad 0 (passed flow (recoded_item kind item))) }
         ensures fed { IfOk result (λ flow. (kind : LawKind) (calls : List Call) (put : List Item) → Recoded kind self.old calls put → Recoded kind self.new (calls ++ Feed item ∷ []) (put ++ passed flow (recoded_item kind item))) }
         ensures flow { IfOk result (λ flow. (kind : LawKind) (calls : List Call) (put : List Item) → Recoded kind self.old calls put → flow ≡ flow_behind calls) }
+        ensures puts { IfOk result (λ flow. Puts self.old self.new (Feed item) out.old out.new) }
         ensures stays { OnErr result ((self.new ≡ self.old) × (out.new ≡ out.old)) }
         ensures fault { IfErr result (λ fault. (kind : LawKind) (calls : List Call) (put : List Item) → Recoded kind self.old calls put → IsFaultOf (next_owed (recodes kind) calls item) fault) }
     {
@@ -89,6 +91,7 @@ impl Law {
         ensures ok { IsOk result }
         ensures out { _out.new ≡ _out.old }
         ensures drained { (kind : LawKind) (calls : List Call) (put : List Item) → Recoded kind self.old calls put → Recoded kind self.new (calls ++ Act Drain ∷ []) put }
+        ensures puts { OnOk result (Puts self.old self.new (Act Drain) _out.old _out.new) }
     {
         Ok(())
     }

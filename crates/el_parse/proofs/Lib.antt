@@ -2,6 +2,7 @@ pub mod Accepted
 pub mod Cutting
 pub mod Grouping
 pub mod Parsing
+pub mod Putting
 pub mod Regrouping
 pub mod Seen
 pub mod Steps

@@ -1,7 +1,10 @@
 pub mod Frames
+pub mod OwedAt
 pub mod Parsed
 pub mod Parses
 pub mod Part
+pub mod RawParsePuts
 pub mod Regrouped
+pub mod SplitPuts
 pub mod Splits
 pub mod Streams

@@ -36,6 +36,7 @@ pub struct RawParse {
 
 impl RawParse {
     ghost use Rattle.el_parse.specs.Parsed.{Parsed, come};
+    ghost use Rattle.el_parse.specs.RawParsePuts.{RawParsePuts};
 
     /// An element that was fed nothing yet, for frames of this format.
     pub fn new(info: Info) -> RawParse
@@ -69,6 +70,7 @@ impl RawParse {
         ensures fed { IfOk result (λ flow. (info : Info) (calls : List Call) (put : List Item) → Parsed info self.old calls put
             → (ys : List Item) × (next_owed (parses info) calls item ≡ Ok ys) × (out.new ≡ out.old ++ on_pad 0 ys) × Parsed info self.new (calls ++ Feed item ∷ []) (put ++ ys)) }
         ensures flow { IfOk result (λ flow. (info : Info) (calls : List Call) (put : List Item) → Parsed info self.old calls put → flow ≡ flow_behind calls) }
+        ensures puts { IfOk result (λ flow. RawParsePuts self.old self.new (Feed item) out.old out.new) }
         ensures stays { OnErr result ((self.new ≡ self.old) × (out.new ≡ out.old)) }
         ensures fault { IfErr result (λ fault. (info : Info) (calls : List Call) (put : List Item) → Parsed info self.old calls put → IsFaultOf (next_owed (parses info) calls item) fault) }
     {
@@ -96,6 +98,7 @@ impl RawParse {
         ensures ok { IsOk result }
         ensures out { _out.new ≡ _out.old }
         ensures drained { (info : Info) (calls : List Call) (put : List Item) → Parsed info self.old calls put → Parsed info self.new (calls ++ Act Drain ∷ []) put }
+        ensures puts { OnOk result (RawParsePuts self.old self.new (Act Drain) _out.old _out.new) }
     {
         Ok(())
     }

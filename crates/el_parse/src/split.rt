@@ -47,6 +47,7 @@ pub struct Split {
 
 impl Split {
     ghost use Rattle.el_parse.specs.Regrouped.{Regrouped, come, drain_owed};
+    ghost use Rattle.el_parse.specs.SplitPuts.{SplitPuts};
 
     /// An element that was fed nothing yet, for buffers of this many frames.
     pub fn new(frames: u32) -> Split
@@ -87,6 +88,7 @@ impl Split {
         ensures fed { IfOk result (λ flow. (frames : ℕ) (calls : List Call) (put : List Item) → Regrouped frames self.old calls put
             → (ys : List Item) × (next_owed (splits frames) calls item ≡ Ok ys) × (out.new ≡ out.old ++ on_pad 0 ys) × Regrouped frames self.new (calls ++ Feed item ∷ []) (put ++ ys)) }
         ensures flow { IfOk result (λ flow. (frames : ℕ) (calls : List Call) (put : List Item) → Regrouped frames self.old calls put → flow ≡ flow_behind calls) }
+        ensures puts { IfOk result (λ flow. SplitPuts self.old self.new (Feed item) out.old out.new) }
         ensures stays { OnErr result ((self.new ≡ self.old) × (out.new ≡ out.old)) }
         ensures fault { IfErr result (λ fault. (frames : ℕ) (calls : List Call) (put : List Item) → Regrouped frames self.old calls put → IsFaultOf (next_owed (splits frames) calls item) fault) }
     {
@@ -114,6 +116,7 @@ impl Split {
     pub fn drain(&mut self, alloc: Global, out: &mut Outs) -> Result<(), ElementFault>
         ensures drained { OnOk result ((frames : ℕ) (calls : List Call) (put : List Item) → Regrouped frames self.old calls put
             → (ys : List Item) × (drain_owed (splits frames) calls ≡ Ok ys) × (out.new ≡ out.old ++ on_pad 0 ys) × Regrouped frames self.new (calls ++ Act Drain ∷ []) (put ++ ys)) }
+        ensures puts { OnOk result (SplitPuts self.old self.new (Act Drain) out.old out.new) }
         ensures stays { OnErr result ((self.new ≡ self.old) × (out.new ≡ out.old)) }
         ensures fault { IfErr result (λ fault. (frames : ℕ) (calls : List Call) (put : List Item) → Regrouped frames self.old calls put → IsFaultOf (drain_owed (splits frames) calls) fault) }
     {

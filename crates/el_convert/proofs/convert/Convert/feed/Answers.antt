@@ -3,6 +3,7 @@ use Rattle.el_convert.specs.Converts.{convert_answer, answered}
 use Rattle.el_convert.specs.Converted.{knows}
 use Rattle.el_convert.proofs.Converting.{converted_item, converted_behind, fault_known}
 use Rattle.el_convert.proofs.Buffers.{handed_on}
+use Rattle.el_convert.proofs.Putting.{puts_taken, puts_behind}
 use Rattle.el_convert.proofs.convert.Convert.feed.Goals as goal
 
 pub returns-then-self-clause-fed : goal.returns-then-self-clause-fed
@@ -19,3 +20,11 @@ returns-clause-fed c = λ first calls put p.
 pub returns-in_err-take-clause-fault : goal.returns-in_err-take-clause-fault
 returns-in_err-take-clause-fault c =
     handed_on c.from_residual.result c.in_err-take.field-0.0 _ c.from_residual.ensures.1 (fault_known c.args.self.now c.args.item c.in_err-take.field-0.0 c.if-self.false c.in_err-take.ensures.fault)
+
+pub returns-then-self-clause-puts : goal.returns-then-self-clause-puts
+returns-then-self-clause-puts c = puts_behind c.args.self.now c.args.item c.args.out.now c.requires.no_flush c.if-self.true
+
+pub returns-clause-puts : goal.returns-clause-puts
+returns-clause-puts c =
+    let by = c.in_ok-take.ensures in
+    puts_taken c.args.self.now c.take.new.self c.args.item _ _ c.requires.no_flush c.if-self.false by.answer by.knows (by.eos c.if-self.false) by.out
