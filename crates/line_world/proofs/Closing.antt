@@ -1,5 +1,5 @@
 -- From the ends that a run gave back to its files.
-use Rattle.std.proofs.Common.{◌≡◌, ◌≢◌, ◌<◌, ◌≤◌, ◌+◌, ◌-◌, ◌^◌, ◌⊎◌, ◌&&◌, ℕ, zero, suc, Bool, true, false, List, [], ◌∷◌, Option, None, Some, IsTrue, if◌then◌else◌, length, map, take, bytes_eq, refl, sym, ap, ◌∙◌, subst, inl, inr, arith}
+use Rattle.std.proofs.Common.{◌≡◌, ◌<◌, ◌≤◌, ◌-◌, ◌^◌, ◌&&◌, ℕ, zero, suc, Bool, true, false, List, [], ◌∷◌, Option, None, Some, IsTrue, if◌then◌else◌, length, map, take, bytes_eq, refl, sym, ap, ◌∙◌, subst, inl, inr, arith}
 use Rattle.std.specs.Prelude.{Contains, count_by, slice_get}
 use Rattle.std.specs.List.{list_any}
 use Rattle.std.specs.Option.{ForSome, option_map}
@@ -16,7 +16,8 @@ use Rattle.launch_text.specs.declared.tree.Tree.{Tree}
 use Rattle.line_ends.specs.Located.{AreLocated}
 use Rattle.line_ends.proofs.Located.{is_present, no_sink, one_sink, same_count}
 use Rattle.line_files.specs.Files.{made_opening, opening_of}
-use Rattle.run_files.specs.Closing.{Closes}
+use Rattle.run_files.proofs.Lists.{sum_above, sum_above_of}
+use Rattle.run_files.specs.Closing.{Closes, faults_at}
 use Rattle.run_files.specs.Ends.{Known, is_sink_at, present}
 use Rattle.run_files.specs.Opening.{GivesBack, IsUnopened, Opens, location_of, writes_to}
 use Rattle.run_files.specs.Seen.{Seen, ToldRose}
@@ -25,9 +26,9 @@ use Rattle.run_files.specs.declared.end.Opening.TheVariants.{Read, Write}
 use Rattle.run_files.specs.declared.end.Unopened.{Unopened}
 use Rattle.run_files.specs.declared.end.Unopened.TheVariants.{Failed, OutOfMemory}
 use Rattle.run_report.specs.declared.report.Report.{Report}
-use Rattle.line_world.specs.Ended.{EndsEos, EndsRefused, EndsTooLong, EndsUnlinked, EndsUnread, EndsUnwritten, HasEnded, IsRendered, TellsRun}
+use Rattle.line_world.specs.Ended.{HasEnded, TellsRun}
 use Rattle.line_world.specs.Ran.{KnownFailed, KnownHold}
-use Rattle.line_world.specs.World.{FileFailed, FilesHold, IsUnwritten, NotBegun, RunUnopened}
+use Rattle.line_world.specs.World.{FileFailed, FilesHold, IsUnwritten, NotBegun, RoseBy, RunUnopened}
 use Rattle.line_world.specs.declared.ended.WorldEnd.{WorldEnd}
 
 some_same : {A : Type 0} {a b : A} → Some a ≡ Some b → a ≡ b
@@ -42,16 +43,16 @@ tells_with graph before Holds Other report Cause more tells contents told =
     let one = tells contents told in
     record { h = one.h; evaluated = one.evaluated; pads = one.pads; limit = one.limit; bytes = one.bytes; sinks = one.sinks; files = more one.bytes one.files; cause = one.cause }
 
-pub ended_with : (graph : Graph) (before : Seen) (Holds Other : (ℕ → List ℕ) → Type 0) (Fails More : ℕ → Type 0) (end : WorldEnd) → ((b : ℕ → List ℕ) → Holds b → Other b) → ((e : ℕ) → Fails e → More e) → HasEnded graph before Holds Fails end → HasEnded graph before Other More end
+pub ended_with : (graph : Graph) (before : Seen) (Holds Other : (ℕ → List ℕ) → Type 0) (Fails More : ℕ → ℕ → Type 0) (end : WorldEnd) → ((b : ℕ → List ℕ) → Holds b → Other b) → ((e n : ℕ) → Fails e n → More e n) → HasEnded graph before Holds Fails end → HasEnded graph before Other More end
 ended_with graph before Holds Other Fails More end holds fails (inl x) = inl (record { status = x.status; fault = x.fault; tells = tells_with graph before Holds Other end.report _ holds x.tells })
 ended_with graph before Holds Other Fails More end holds fails (inr (inl x)) =
-    inr (inl (record { status = x.status; e = x.e; element = x.element; at = x.at; location = x.location; reads = x.reads; first = x.first; second = x.second; fault = x.fault; rose = x.rose; failed = fails x.e x.failed; tells = tells_with graph before Holds Other end.report _ holds x.tells }))
+    inr (inl (record { status = x.status; e = x.e; element = x.element; at = x.at; location = x.location; reads = x.reads; first = x.first; second = x.second; fault = x.fault; rose = x.rose; failed = fails x.e x.second x.failed; tells = tells_with graph before Holds Other end.report _ holds x.tells }))
 ended_with graph before Holds Other Fails More end holds fails (inr (inr (inl x))) =
-    inr (inr (inl (record { status = x.status; d = x.d; element = x.element; at = x.at; location = x.location; writes = x.writes; first = x.first; second = x.second; fault = x.fault; rose = x.rose; failed = fails x.d x.failed; tells = tells_with graph before Holds Other end.report _ holds x.tells })))
+    inr (inr (inl (record { status = x.status; d = x.d; element = x.element; at = x.at; location = x.location; writes = x.writes; first = x.first; second = x.second; fault = x.fault; rose = x.rose; failed = fails x.d x.second x.failed; tells = tells_with graph before Holds Other end.report _ holds x.tells })))
 ended_with graph before Holds Other Fails More end holds fails (inr (inr (inr (inl x)))) =
     inr (inr (inr (inl (record { d = x.d; element = x.element; at = x.at; own = x.own; status = x.status; fault = x.fault; tells = tells_with graph before Holds Other end.report _ holds x.tells }))))
 ended_with graph before Holds Other Fails More end holds fails (inr (inr (inr (inr (inl x))))) =
-    inr (inr (inr (inr (inl (record { status = x.status; e = x.e; place = x.place; fault = x.fault; tells = tells_with graph before Holds Other end.report _ holds x.tells })))))
+    inr (inr (inr (inr (inl (record { status = x.status; e = x.e; element = x.element; at = x.at; alone = x.alone; place = x.place; fault = x.fault; tells = tells_with graph before Holds Other end.report _ holds x.tells })))))
 ended_with graph before Holds Other Fails More end holds fails (inr (inr (inr (inr (inr x))))) =
     inr (inr (inr (inr (inr (record { status = x.status; e = x.e; element = x.element; at = x.at; fault = x.fault; tells = tells_with graph before Holds Other end.report _ holds x.tells })))))
 
@@ -73,13 +74,27 @@ module _ (tree : Tree) (graph : Graph) (is : IsGraph tree graph) (known : List (
 
   -- where calls of an end failed, the failures of the files rose
   pub file_failed : ((end : Known) → Contains (present known) end → Rose 0 end.faults → Rose mid.faults after.faults) → ((l : List ℕ) (end : Known) → Contains (present known) end → Rose 0 end.faults → end.location ≡ Some l → ToldRose (mid.faults_of l) (after.faults_of l))
-      → (e : ℕ) → KnownFailed known e → FileFailed graph before after e
-  file_failed rose rose_of e failed m opening at opens_it =
+      → Closes (present known) mid after → (e n : ℕ) → KnownFailed known e n → FileFailed graph before after e n
+  file_failed rose rose_of closes e n failed m opening at opens_it =
       let place = place_of m opening at opens_it in (
         rose_more before.faults mid.faults after.faults opens.faults (rose failed.0 (is_present known e failed.0 failed.1) failed.2),
         subst (λ (o : Option ℕ). ToldRose o (after.faults_of (location_of opening))) (opens.faults_of (location_of opening)) (rose_of (location_of opening) failed.0 (is_present known e failed.0 failed.1) failed.2 place),
+        all_by,
+        (λ x was y is. told_by (location_of opening) place x was y is),
       )
     where
+      there : Contains (present known) failed.0
+      there = is_present known e failed.0 failed.1
+
+      all_by : RoseBy n (Some before.faults) (Some after.faults)
+      all_by x was y is =
+          omega (arith, some_same was, some_same is, opens.faults, closes.faults, failed.3, sum_above (λ (end : Known). end.faults) (present known) failed.0 there)
+
+      told_by : (l : List ℕ) → failed.0.location ≡ Some l → RoseBy n (before.faults_of l) (after.faults_of l)
+      told_by l place x was y is =
+          let told : y ≡ plus x (faults_at l (present known)) = some_same (sym is ∙ closes.faults_of l ∙ ap (λ (o : Option ℕ). option_map (λ k. plus k (faults_at l (present known))) o) (opens.faults_of l ∙ was)) in
+          omega (arith, told, failed.3, sum_above_of (λ (end : Known). end.faults) (λ (end : Known). is_at end.location l) (present known) failed.0 there (ap (λ (o : Option (List ℕ)). is_at o l) place ∙ (bytes_eq-Decides l l).1 refl))
+
       place_of : (x : Made) (o : Opening) → slice_get (made_in graph) e ≡ Some x → opening_of x.settings ≡ Some o → failed.0.location ≡ Some (location_of o)
       place_of x (Read location) x_at x_opens = let own = located.read e x location x_at x_opens in ap (λ (k : Known). k.location) (sym (some_same (some_same (sym own.1 ∙ failed.1)))) ∙ own.3
       place_of x (Write location) x_at x_opens = let own = located.written e x location x_at x_opens in ap (λ (k : Known). k.location) (sym (some_same (some_same (sym own.1 ∙ failed.1)))) ∙ own.3
@@ -120,6 +135,7 @@ unopened_run graph before after end n = by (slice_get (made_in graph) n.place) r
       fault = n.fault;
       rose = n.refuses.rose;
       refused = n.refuses.rose_of;
+      back = n.back;
       entries = n.entries;
       pads = n.pads;
       sinks = n.sinks;

@@ -1,17 +1,15 @@
 -- Where a line's task met a fault, told of the line.
-use Rattle.std.proofs.Common.{◌≡◌, ◌≢◌, ◌<◌, ◌≤◌, ◌+◌, ◌⊎◌, ◌==◌, ℕ, zero, suc, Bool, true, false, List, [], ◌∷◌, ◌++◌, Option, None, Some, if◌then◌else◌, length, map, take, refl, sym, ap, ◌∙◌, subst, inl, inr, ⊎_elim, eqb, arith}
+use Rattle.std.proofs.Common.{◌≡◌, ◌≢◌, ◌≤◌, ◌⊎◌, ℕ, zero, suc, true, false, List, [], ◌∷◌, Option, None, Some, if◌then◌else◌, length, take, refl, sym, ap, ◌∙◌, subst, inl, inr, ⊎_elim, eqb, arith}
 use Rattle.std.specs.Prelude.{is_some, slice_get, unwrap_or}
 use Rattle.std.specs.Option.{option_map, option_map_or}
 use Rattle.std.proofs.lemmas.Bool.{cases_eq}
 use Rattle.std.proofs.lemmas.Bool.Decides.{eqb_tells}
 use Rattle.std.proofs.lemmas.Option.{slice_get-map}
-use Rattle.gst_item.specs.declared.fault.ElementFault.{ElementFault}
 use Rattle.gst_outside.specs.Bytes.{written}
 use Rattle.gst_outside.specs.Causes.{Rose}
 use Rattle.flow_model.specs.Item.{Item, body_of}
 use Rattle.flow_model.specs.SinkBytes.{disk_after, sink_bytes}
 use Rattle.el_set.specs.Asked.{location_of}
-use Rattle.el_set.specs.Gives.{source_faults as faults_of_source}
 use Rattle.el_set.specs.Holds.{sink_faults as faults_of_sink, sink_file, sink_len}
 use Rattle.el_set.specs.Made.{file_for, keeps_flushed}
 use Rattle.el_set.specs.declared.settings.Settings.{Settings}
@@ -22,14 +20,15 @@ use Rattle.el_set.specs.declared.source.SourceElement.TheVariants as sources
 use Rattle.el_src.specs.Gave.{source_of}
 use Rattle.graph_core.specs.Elements.{Made}
 use Rattle.graph_core.specs.Graph.{made as made_in, links as links_in}
+use Rattle.graph_core.specs.Links.{sink_behind}
 use Rattle.graph_core.specs.declared.graph.Graph.{Graph}
 use Rattle.graph_core.specs.declared.pad.PadLink.{PadLink}
 use Rattle.el_set.specs.Asked.{is_filter}
-use Rattle.graph_ways.specs.Ways.{StandsAt, WayEnds, has, is_head, is_sink, last_on}
+use Rattle.graph_ways.specs.Ways.{StandsAt, WayEnds, first_pad, has, is_head, is_sink, last_on}
 use Rattle.graph_ways.specs.declared.way.End.{End as WayEnd}
 use Rattle.graph_ways.specs.declared.way.End.TheVariants as ends_of
 use Rattle.graph_ways.specs.declared.way.Way.{Way}
-use Rattle.graph_ways.proofs.Places.{alone, behind_at, end_is, first_heads, one_at_sink}
+use Rattle.graph_ways.proofs.Places.{alone, behind_at, end_is, first_heads}
 use Rattle.graph_ways.proofs.Once.{linked_once}
 use Rattle.lane_core.specs.Lane.{Lane}
 use Rattle.lane_core.specs.Room.{Limits}
@@ -40,7 +39,7 @@ use Rattle.line_start.specs.Start.{start_lists, writes}
 use Rattle.line_start.proofs.Along.{there}
 use Rattle.line_tasks.specs.Lanes.{lane_place}
 use Rattle.line_tasks.specs.Parts.{pairs_on}
-use Rattle.run_files.specs.Ends.{Known, known_end, known_ends}
+use Rattle.run_files.specs.Ends.{Known, known_end}
 use Rattle.run_files.specs.Opening.{location_of as location_in}
 use Rattle.run_files.specs.Seen.{Seen}
 use Rattle.run_files.specs.declared.end.End.{End}
@@ -56,11 +55,10 @@ use Rattle.stream_task.specs.declared.pads.Pad.{Pad}
 use Rattle.stream_task.specs.declared.tail.Tail.{Tail}
 use Rattle.stream_task.specs.declared.tail.Tail.TheVariants as tails
 use Rattle.stream_task.specs.declared.task.Task.{Task}
-use Rattle.stream_task.specs.Fault.{fault_of}
 use Rattle.stream_task.specs.Head.{head_faults}
 use Rattle.stream_task.specs.declared.stage.Stage.{Stage}
-use Rattle.stream_task.specs.Stage.{StageList, StagesStand, element_at, numbers_of, owes}
-use Rattle.stream_task.specs.Tail.{IsOpen, TailHas, TailPart, tail_element, tail_faults, tail_len}
+use Rattle.stream_task.specs.Stage.{StageList, StagesStand, numbers_of, owes}
+use Rattle.stream_task.specs.Tail.{IsOpen, TailHas, tail_element, tail_faults, tail_len}
 use Rattle.stream_task.specs.Task.{AtFault, AtLimit, Frame, HasCrossed, Refused, Stands, Unlinked, Unwritten, TaskLists, head_of, last_of, stages_of, tail_of}
 use Rattle.task_net.specs.Net.{AllFramed, IsNetCause, NetCrossed, NetFaulted}
 use Rattle.line_world.specs.Back.{head_end}
@@ -69,15 +67,14 @@ use Rattle.line_world.specs.Owed.{AreWritten, IsPartWritten, IsWritten, Refuses,
 use Rattle.line_world.specs.Prepared.{HasRoom}
 use Rattle.line_world.specs.Ran.{KnownFailed, KnownHold, TellsEnd}
 use Rattle.line_world.specs.Start.{IsStarted, WritesEnd}
-use Rattle.line_world.specs.Stops.{IsAwaited, IsFull, IsUnlinked}
-use Rattle.line_world.specs.Told.{element_fault, element_status, location_named, task_fault, task_status}
+use Rattle.line_world.specs.Told.{location_named, task_fault, task_status}
 use Rattle.line_world.specs.declared.ended.WorldEnd.{WorldEnd}
 use Rattle.line_tasks.specs.Making.{end_at, sink_end}
 use Rattle.line_world.proofs.Framed.{before_that}
 use Rattle.line_world.proofs.Started.{start_goes, start_sink}
 use Rattle.line_world.proofs.Given.{back, goes, pairs, read_at, written_on}
 use Rattle.line_world.proofs.Held.{held_at, part_at, run_goes, run_owes}
-use Rattle.line_world.proofs.Located.{reads_file, writer_is, writes_file}
+use Rattle.line_world.proofs.Located.{reads_file, writes_file}
 use Rattle.line_world.proofs.Numbers.{element_is, pairs_size, stage_is}
 use Rattle.line_world.proofs.Owing.{awaited, full_at, refuses_at, unlinked_at}
 use Rattle.line_world.proofs.Ran.{Holds, bytes_there, counted, h, known, rendered, run_lengths, task_crossed, whole_bytes}
@@ -206,6 +203,21 @@ head_source faults place_in lane made links e n (heads.Source one) along told = 
 head_source faults place_in lane made links e n (heads.Queue inlets) along told = absurd (none_some told)
 head_source faults place_in lane made links e n heads.Unlinked along told = absurd (none_some told)
 
+-- a way at whose end no link is
+open_way : {K O : Type 0} (place_out : O → ℕ) (limits : O → Limits) (lane : ℕ → ℕ) (end : WayEnd) (tail : Tail K O) → IsOpen tail → TailAlong place_out limits lane end tail → end ≡ ends_of.Nothing
+open_way place_out limits lane ends_of.Nothing tail unlinked along = refl
+open_way place_out limits lane (ends_of.Queue d) (tails.Sink e sink) unlinked along = absurd unlinked
+open_way place_out limits lane (ends_of.Queue d) (tails.Lane n out) unlinked along = absurd unlinked
+open_way place_out limits lane (ends_of.Queue d) tails.Open unlinked along = absurd along
+open_way place_out limits lane (ends_of.Sink d) (tails.Sink e sink) unlinked along = absurd unlinked
+open_way place_out limits lane (ends_of.Sink d) (tails.Lane n out) unlinked along = absurd unlinked
+open_way place_out limits lane (ends_of.Sink d) tails.Open unlinked along = absurd along
+
+-- the last element of a way
+last_there : (first : ℕ) (behind : List ℕ) → slice_get (first ∷ behind) (length behind) ≡ Some (last_on first behind)
+last_there first [] = refl
+last_there first (b ∷ bs) = last_there b bs
+
 module _ {S K I O : Type 0} (source_location content : S → Option (List ℕ)) (source_faults : S → ℕ) (sink_location bytes : K → Option (List ℕ)) (sink_faults : K → ℕ) (received : I → List Item → Type 0) (sent : O → List Item → Type 0) (place_in : I → ℕ) (id_in : I → List (List ℕ)) (place_out : O → ℕ) (limits : O → Limits) (count_of : O → ℕ) (id_out : O → List (List ℕ))
     (graph : Graph) (tasks : List (Task S K I O)) (left : List (Option (End S K))) (tells : Option (List Lane)) (before : Seen)
     (s : IsStarted source_location content source_faults sink_location bytes sink_faults received sent place_in place_out limits count_of graph tasks left tells before)
@@ -329,7 +341,7 @@ module _ {S K I O : Type 0} (source_location content : S → Option (List ℕ)) 
         second = second;
         fault = tell.fault ∙ ap (λ (l : List ℕ). faults.ReadFault l first second) (ap (location_named made) named ∙ named_location made way.0.first m.0 (Read file.0) m.1 file.1);
         rose = cause.2;
-        failed = (known_end source_location content source_faults sink_location bytes sink_faults (Src read.4), known_back way.0.first (Src read.4) read.7, subst (λ (n : ℕ). Rose 0 n) (sym failures) (rose_zero first second cause.2));
+        failed = (known_end source_location content source_faults sink_location bytes sink_faults (Src read.4), known_back way.0.first (Src read.4) read.7, subst (λ (n : ℕ). Rose 0 n) (sym failures) (rose_zero first second cause.2), failures);
         tells = λ contents told. told_so (ReadFault e first second) (λ no_memory. absurd (cc)) f contents told tt end tell (λ hist_of b. AreWritten made links hist_of b) (are_written (ReadFault e first second) (λ no_memory. absurd (cc)) f contents told);
       }
 
@@ -397,6 +409,9 @@ module _ {S K I O : Type 0} (source_location content : S → Option (List ℕ)) 
   ends_unlinked e n f r end tell = record {
     status = tell.status;
     e = e;
+    element = m.0;
+    at = m.1;
+    alone = lone;
     place = n;
     fault = tell.fault;
     tells = λ contents told.
@@ -409,6 +424,21 @@ module _ {S K I O : Type 0} (source_location content : S → Option (List ℕ)) 
         told_so (NotLinked e n) (λ no_memory. absurd (cc)) f contents told tt end tell (λ hist_of bs. AreWritten made links hist_of bs × (length (went_from hist_of e) ≡ n) × WantsLink contents made links hist_of e)
         (are_written (NotLinked e n) (λ no_memory. absurd (cc)) f contents told, unlinked.crossed, unlinked.wants);
   }
+    where
+      named : e ≡ last_on way.0.first way.0.behind.items
+      named = r.named ∙ pair.1
+
+      ended : WayEnds s.ways place ends_of.Nothing
+      ended = record { way = way.0; is = way.1; ends = open_way place_out limits (lane_place made links) way.0.end (tail_of t) r.open_end (the_goes.each place way.0 t way.1 at).tail }
+
+      lone : sink_behind links (first_pad e) ≡ None
+      lone = subst (λ (x : ℕ). sink_behind (links_in graph) (first_pad x) ≡ None) (sym named) (end_is made links s.ways s.ways_are place ends_of.Nothing ended)
+
+      on_way : slice_get (way.0.first ∷ way.0.behind.items) (length way.0.behind.items) ≡ Some e
+      on_way = last_there way.0.first way.0.behind.items ∙ ap Some (sym named)
+
+      m : (x : Made) × (slice_get made e ≡ Some x)
+      m = element_there place (length way.0.behind.items) e (record { way = way.0; is = way.1; at = on_way })
 
   -- a write failed
   ends_unwritten : (d first second : ℕ) → NetFaulted content bytes received sent place_in place_out is (start_lists made s.ways) tells' place (WriteFault d first second) → IsNetCause source_faults sink_faults t (WriteFault d first second) → (end : WorldEnd) → TellsEnd made (Some (WriteFault d first second)) counts numbers end
@@ -428,7 +458,7 @@ module _ {S K I O : Type 0} (source_location content : S → Option (List ℕ)) 
         second = second;
         fault = tell.fault ∙ ap (λ (l : List ℕ). faults.WriteFault l first second) (named_location made d m.0 (Write file.0) m.1 file.1);
         rose = cause.2;
-        failed = (known_end source_location content source_faults sink_location bytes sink_faults (Snk on.2), known_back d (Snk on.2) on.6, subst (λ (n : ℕ). Rose 0 n) (sym failures) (rose_zero first second cause.2));
+        failed = (known_end source_location content source_faults sink_location bytes sink_faults (Snk on.2), known_back d (Snk on.2) on.6, subst (λ (n : ℕ). Rose 0 n) (sym failures) (rose_zero first second cause.2), failures);
         tells = tells_part file.0 file.1;
       }
     where

@@ -1,5 +1,5 @@
 -- Tasks along the ways of a line go along them still behind a run.
-use Rattle.std.proofs.Common.{◌≡◌, ◌≤◌, ℕ, List, [], ◌∷◌, ◌++◌, Option, None, Some, map, length, refl, sym, ap, ◌∙◌, subst}
+use Rattle.std.proofs.Common.{◌≡◌, ◌≤◌, ℕ, List, [], ◌∷◌, ◌++◌, Option, Some, map, length, refl, sym, ap, ◌∙◌, subst}
 use Rattle.std.specs.Prelude.{slice_get}
 use Rattle.flow_model.specs.Item.{Item}
 use Rattle.graph_core.specs.Elements.{Made}
@@ -9,7 +9,7 @@ use Rattle.graph_ways.specs.declared.way.End.TheVariants as ends
 use Rattle.graph_ways.specs.declared.way.Way.{Way}
 use Rattle.lane_core.specs.Room.{Limits}
 use Rattle.line_net.specs.Along.{AreAlong, HeadAlong, ListsAlong, OwedBy, TailAlong}
-use Rattle.line_net.specs.Pads.{AreNumbered, element_of, pad_of, task_pads}
+use Rattle.line_net.specs.Pads.{AreNumbered, element_of, pad_of}
 use Rattle.line_net.proofs.Wiring.{also_there}
 use Rattle.stream_task.specs.declared.head.Head.{Head}
 use Rattle.stream_task.specs.declared.head.Head.TheVariants as heads

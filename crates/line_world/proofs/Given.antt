@@ -1,11 +1,10 @@
 -- The ends that a line's tasks give back: each file stands at the number of its element.
-use Rattle.std.proofs.Common.{◌≡◌, ◌≢◌, ◌<◌, ◌⊎◌, ℕ, zero, suc, Bool, true, false, List, [], ◌∷◌, Option, None, Some, length, map, refl, sym, ap, ◌∙◌, subst, inl, inr, ⊎_elim, arith, eqb}
+use Rattle.std.proofs.Common.{◌≡◌, ◌<◌, ◌⊎◌, ℕ, zero, suc, Bool, true, false, List, [], ◌∷◌, Option, None, Some, length, map, refl, sym, ap, ◌∙◌, subst, inl, inr, arith, eqb}
 use Rattle.std.specs.Prelude.{slice_get, slice_index_or}
 use Rattle.std.specs.Option.{option_map, option_map_or}
 use Rattle.std.proofs.lemmas.Bool.Decides.{eqb_tells}
 use Rattle.std.proofs.lemmas.Option.{slice_get_within}
 use Rattle.flow_model.specs.Item.{Item}
-use Rattle.el_set.specs.Asked.{is_queue}
 use Rattle.el_set.specs.Holds.{sink_file}
 use Rattle.el_set.specs.declared.settings.Settings.{Settings}
 use Rattle.el_set.specs.declared.sink.SinkElement.{SinkElement}
@@ -19,11 +18,11 @@ use Rattle.graph_ways.specs.declared.way.End.{End as WayEnd}
 use Rattle.graph_ways.specs.declared.way.End.TheVariants as ends_of
 use Rattle.graph_ways.specs.declared.way.Way.{Way}
 use Rattle.graph_ways.proofs.Once.{linked_once}
-use Rattle.graph_ways.proofs.Places.{alone, begun, end_is, first_heads, one_at_sink}
+use Rattle.graph_ways.proofs.Places.{alone, begun, first_heads, one_at_sink}
 use Rattle.lane_core.specs.Lane.{Lane}
 use Rattle.lane_core.specs.Room.{Limits}
 use Rattle.line_files.specs.Files.{made_opening, opening_of}
-use Rattle.line_files.proofs.Opened.{at_place, known_at, opened_at, place_of}
+use Rattle.line_files.proofs.Opened.{known_at, opened_at, place_of}
 use Rattle.line_net.specs.Along.{AreAlong, HeadAlong, TailAlong, is_source}
 use Rattle.line_net.proofs.Wiring.{also_there, queue_no_source, some_number}
 use Rattle.line_start.specs.Start.{writes}
@@ -48,10 +47,9 @@ use Rattle.stream_task.specs.declared.tail.Tail.TheVariants as tails
 use Rattle.stream_task.specs.declared.task.Task.{Task}
 use Rattle.stream_task.specs.Head.{head_location}
 use Rattle.stream_task.specs.Tail.{tail_location}
-use Rattle.stream_task.specs.Stage.{numbers_of}
 use Rattle.stream_task.specs.Task.{head_of, last_of, stages_of, tail_of}
 use Rattle.task_net.specs.Net.{AllFramed}
-use Rattle.line_world.specs.Back.{first_in, fold_back, head_end, with_files, with_tail, with_value}
+use Rattle.line_world.specs.Back.{first_in, fold_back, head_end, with_files, with_value}
 use Rattle.line_world.specs.Start.{IsStarted, ReadsEnd, WritesEnd}
 use Rattle.line_world.specs.Stops.{ArePaired}
 use Rattle.line_world.proofs.Backs.{fold_quiet, fold_size, fold_there, value_here, value_size}

@@ -1,5 +1,5 @@
 -- What the files of a line's filesinks hold behind a run.
-use Rattle.std.proofs.Common.{◌≡◌, ◌≢◌, ◌<◌, ◌⊎◌, ℕ, zero, suc, Bool, true, false, List, [], ◌∷◌, Option, None, Some, length, take, refl, sym, ap, ◌∙◌, subst, inl, inr}
+use Rattle.std.proofs.Common.{◌≡◌, ◌<◌, ℕ, Bool, false, List, [], Option, None, Some, length, take, refl, sym, ap, ◌∙◌, subst, inl, inr}
 use Rattle.std.specs.Prelude.{slice_get}
 use Rattle.std.specs.Option.{ForSome, option_map, option_map_or}
 use Rattle.std.proofs.lemmas.Option.{slice_get_within}
@@ -15,7 +15,7 @@ use Rattle.graph_core.specs.Elements.{Made}
 use Rattle.graph_core.specs.Graph.{made as made_in, links as links_in}
 use Rattle.graph_core.specs.declared.graph.Graph.{Graph}
 use Rattle.graph_core.specs.declared.pad.PadLink.{PadLink}
-use Rattle.graph_ways.specs.Ways.{WayEnds, has, is_sink}
+use Rattle.graph_ways.specs.Ways.{WayEnds, is_sink}
 use Rattle.graph_ways.specs.declared.way.End.{End as WayEnd}
 use Rattle.graph_ways.specs.declared.way.End.TheVariants as ends_of
 use Rattle.graph_ways.specs.declared.way.Way.{Way}
@@ -37,7 +37,7 @@ use Rattle.stream_task.specs.declared.tail.Tail.{Tail}
 use Rattle.stream_task.specs.declared.tail.Tail.TheVariants as tails
 use Rattle.stream_task.specs.declared.task.Task.{Task}
 use Rattle.stream_task.specs.Tail.{TailHas, TailPart}
-use Rattle.stream_task.specs.Task.{TaskLists, tail_of}
+use Rattle.stream_task.specs.Task.{tail_of}
 use Rattle.task_net.specs.Net.{AllFramed, NetCrossed}
 use Rattle.line_world.specs.Back.{fold_back, tail_length, with_length}
 use Rattle.line_world.specs.Owed.{came_to}

@@ -1,10 +1,8 @@
 -- Where the files of a line stand among the ends that its tasks give back.
-use Rattle.std.proofs.Common.{◌≡◌, ◌≢◌, ◌<◌, ◌⊎◌, ℕ, zero, suc, Bool, true, false, List, [], ◌∷◌, Option, None, Some, if◌then◌else◌, length, map, refl, sym, ap, ◌∙◌, subst, inl, inr, ⊎_elim}
-use Rattle.std.specs.Prelude.{slice_get, slice_index_or}
-use Rattle.std.specs.Option.{option_map, option_map_or}
+use Rattle.std.proofs.Common.{◌≡◌, ◌<◌, ℕ, Bool, true, false, List, Option, None, Some, if◌then◌else◌, length, refl, sym, ap, ◌∙◌, subst, ⊎_elim}
+use Rattle.std.specs.Prelude.{slice_get}
+use Rattle.std.specs.Option.{option_map}
 use Rattle.std.proofs.lemmas.Bool.{cases_eq}
-use Rattle.flow_model.specs.Item.{Item}
-use Rattle.el_set.specs.Asked.{is_queue}
 use Rattle.el_set.specs.Gives.{source_file, source_location as location_in}
 use Rattle.el_set.specs.Holds.{sink_file, sink_location as location_at}
 use Rattle.el_set.specs.Made.{file_for}
@@ -18,10 +16,9 @@ use Rattle.el_src.specs.Gave.{source_of}
 use Rattle.el_sink.specs.Held.{sink_of}
 use Rattle.graph_core.specs.Elements.{Made}
 use Rattle.graph_core.specs.declared.pad.PadLink.{PadLink}
-use Rattle.graph_ways.specs.Ways.{WayEnds, has, is_sink}
+use Rattle.graph_ways.specs.Ways.{has, is_sink}
 use Rattle.graph_ways.specs.declared.way.End.{End as WayEnd}
 use Rattle.graph_ways.specs.declared.way.End.TheVariants as ends_of
-use Rattle.graph_ways.specs.declared.way.Way.{Way}
 use Rattle.lane_core.specs.Room.{Limits}
 use Rattle.line_files.specs.Files.{opening_of}
 use Rattle.line_net.specs.Along.{HeadAlong, TailAlong, is_source}

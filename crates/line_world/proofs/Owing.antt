@@ -1,5 +1,5 @@
 -- What was put on the pads of tasks along ways begins what the elements of the line owe.
-use Rattle.std.proofs.Common.{◌≡◌, ◌<◌, ◌≤◌, ◌⊎◌, ℕ, zero, suc, true, false, List, [], ◌∷◌, ◌++◌, Option, None, Some, length, refl, sym, ap, ◌∙◌, subst, inl, inr}
+use Rattle.std.proofs.Common.{◌≡◌, ◌<◌, ◌≤◌, ℕ, zero, suc, true, List, [], ◌∷◌, ◌++◌, Option, None, Some, length, refl, sym, ap, ◌∙◌, subst, inl, inr}
 use Rattle.std.specs.Prelude.{slice_get}
 use Rattle.flow_model.specs.Call.{feeds}
 use Rattle.flow_model.specs.Eval.{eval}
@@ -10,11 +10,10 @@ use Rattle.flow_model.specs.Rule.{Response, owed_for, passes}
 use Rattle.flow_model.proofs.Chains.{passed_whole}
 use Rattle.flow_model.proofs.Prefixes.{prefix_by, prefix_refl, prefix_trans}
 use Rattle.flow_model.proofs.Sections.{owed_for_prefix}
-use Rattle.el_set.specs.Asked.{is_filter, is_queue, sink_pads}
+use Rattle.el_set.specs.Asked.{is_filter, is_queue}
 use Rattle.el_set.specs.Denoted.{response_of}
 use Rattle.el_set.specs.Gives.{SourceGave, source_content}
 use Rattle.el_set.specs.Made.{list_of}
-use Rattle.el_set.specs.declared.settings.Settings.{Settings}
 use Rattle.el_set.specs.declared.source.SourceElement.{SourceElement}
 use Rattle.el_set.specs.declared.source.SourceElement.TheVariants.{File, Ramp}
 use Rattle.graph_core.specs.Elements.{Made}

@@ -1,24 +1,18 @@
 -- How a line's tasks ran, told of the line.
-use Rattle.std.proofs.Common.{◌≡◌, ◌≢◌, ◌<◌, ◌≤◌, ◌⊎◌, ◌==◌, ℕ, zero, suc, Bool, true, false, List, [], ◌∷◌, ◌++◌, Option, None, Some, All, if◌then◌else◌, length, map, take, refl, sym, ap, ◌∙◌, subst, inl, inr, ⊎_elim, eqb}
+use Rattle.std.proofs.Common.{◌≡◌, ◌≤◌, ℕ, true, List, [], ◌∷◌, Option, None, Some, All, length, refl, sym, ap, ◌∙◌, subst}
 use Rattle.std.specs.Prelude.{slice_get, slice_set}
-use Rattle.std.specs.Option.{ForSome, option_map, option_map_or}
-use Rattle.std.proofs.lemmas.Bool.{cases_eq}
-use Rattle.std.proofs.lemmas.Bool.Decides.{eqb_tells}
-use Rattle.std.proofs.lemmas.Option.{slice_get-map, slice_get_within}
-use Rattle.gst_outside.specs.Bytes.{written}
-use Rattle.gst_outside.specs.Causes.{Rose}
-use Rattle.flow_model.specs.Item.{Item, body_of}
+use Rattle.std.specs.Option.{option_map, option_map_or}
+use Rattle.std.proofs.lemmas.Option.{slice_get-map}
+use Rattle.flow_model.specs.Item.{Item}
 use Rattle.flow_model.specs.Prefix.{IsPrefix}
-use Rattle.flow_model.specs.SinkBytes.{disk_after, sink_bytes}
+use Rattle.flow_model.specs.SinkBytes.{sink_bytes}
 use Rattle.flow_model.proofs.Prefixes.{prefix_by, prefix_refl}
 use Rattle.el_set.specs.Made.{keeps_flushed}
 use Rattle.graph_core.specs.Elements.{Made}
 use Rattle.graph_core.specs.Graph.{made as made_in, links as links_in}
 use Rattle.graph_core.specs.declared.graph.Graph.{Graph}
 use Rattle.graph_core.specs.declared.pad.PadLink.{PadLink}
-use Rattle.graph_ways.specs.Ways.{WayEnds, has}
-use Rattle.graph_ways.specs.declared.way.End.TheVariants as ends_of
-use Rattle.graph_ways.specs.declared.way.Way.{Way}
+use Rattle.graph_ways.specs.Ways.{has}
 use Rattle.lane_core.specs.Lane.{Lane}
 use Rattle.lane_core.specs.Room.{Limits}
 use Rattle.line_files.specs.Files.{WereTold, opening_of}
@@ -35,17 +29,15 @@ use Rattle.run_files.specs.Seen.{Seen}
 use Rattle.run_files.specs.declared.end.End.{End}
 use Rattle.run_files.specs.declared.end.End.TheVariants.{Snk}
 use Rattle.run_files.specs.declared.end.Opening.TheVariants.{Write}
-use Rattle.stream_task.specs.declared.fault.TaskFault.{TaskFault}
 use Rattle.stream_task.specs.declared.pads.Pad.{Pad}
 use Rattle.stream_task.specs.declared.stage.Stage.{Stage}
 use Rattle.stream_task.specs.declared.task.Task.{Task}
 use Rattle.stream_task.specs.Stage.{StageList, StagesKeep, StagesStand, owes}
-use Rattle.stream_task.specs.Tail.{TailHas}
-use Rattle.stream_task.specs.Task.{HasCrossed, Stands, TaskLists, tail_of}
+use Rattle.stream_task.specs.Task.{HasCrossed, Stands, TaskLists}
 use Rattle.task_net.specs.Net.{AllFramed, NetCrossed, NetEnded}
 use Rattle.line_world.specs.Back.{fold_back, with_length}
 use Rattle.line_world.specs.Ended.{EndsEos, IsRendered}
-use Rattle.line_world.specs.Owed.{AreOver, AreWhole, AreWritten, IsWritten, came_to}
+use Rattle.line_world.specs.Owed.{AreOver, AreWhole, AreWritten, came_to}
 use Rattle.line_world.specs.Prepared.{HasRoom}
 use Rattle.line_world.specs.Ran.{KnownHold, TellsEnd}
 use Rattle.line_world.specs.Start.{IsStarted}

@@ -1,5 +1,5 @@
 -- How the run of a line's tasks ends, and where its ends stand.
-use Rattle.std.proofs.Common.{◌≡◌, ◌≢◌, ◌<◌, ◌⊎◌, ℕ, zero, suc, true, false, List, [], ◌∷◌, Option, None, Some, Result, Ok, Err, length, map, refl, sym, ap, ◌∙◌, subst, inl, inr, arith}
+use Rattle.std.proofs.Common.{◌≡◌, ◌≢◌, ◌<◌, ◌⊎◌, ℕ, true, List, Option, None, Some, Result, Ok, Err, length, refl, sym, ap, ◌∙◌, subst, inl, inr}
 use Rattle.std.specs.Prelude.{IfErr, IfOk, slice_get}
 use Rattle.std.specs.Option.{option_map}
 use Rattle.std.proofs.lemmas.List.{length-map}
@@ -10,20 +10,18 @@ use Rattle.graph_core.specs.Graph.{made as made_in}
 use Rattle.graph_core.specs.declared.graph.Graph.{Graph}
 use Rattle.graph_ways.specs.Ways.{WayEnds}
 use Rattle.graph_ways.specs.declared.way.End.TheVariants as ends_of
-use Rattle.graph_ways.specs.declared.way.Way.{Way}
 use Rattle.lane_core.specs.Lane.{Lane}
 use Rattle.lane_core.specs.Room.{Limits}
 use Rattle.line_ends.specs.Located.{AreLocated}
 use Rattle.line_files.specs.Files.{opening_of}
 use Rattle.line_net.proofs.Wiring.{also_there}
 use Rattle.line_start.specs.Start.{start_lists}
-use Rattle.run_files.specs.Ends.{Known, known_end, known_ends}
+use Rattle.run_files.specs.Ends.{Known, known_end}
 use Rattle.run_files.specs.Seen.{Seen}
 use Rattle.run_files.specs.declared.end.End.{End}
 use Rattle.run_files.specs.declared.end.End.TheVariants.{Snk, Src}
-use Rattle.run_files.specs.declared.end.Opening.TheVariants.{Read, Write}
+use Rattle.run_files.specs.declared.end.Opening.TheVariants.{Write}
 use Rattle.stream_task.specs.declared.fault.TaskFault.{TaskFault}
-use Rattle.stream_task.specs.declared.fault.TaskFault.TheVariants.{OutOfMemory}
 use Rattle.stream_task.specs.declared.pads.Pad.{Pad}
 use Rattle.stream_task.specs.declared.task.Task.{Task}
 use Rattle.stream_task.specs.Task.{TaskLists}

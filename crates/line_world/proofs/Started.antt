@@ -1,17 +1,14 @@
 -- What is known of the tasks with which the run of a line starts.
-use Rattle.std.proofs.Common.{◌≡◌, ◌<◌, ◌⊎◌, ℕ, true, false, List, [], ◌∷◌, Option, None, Some, length, map, refl, sym, ap, ◌∙◌, subst}
-use Rattle.std.specs.Prelude.{slice_get, slice_index_or}
-use Rattle.std.specs.Option.{option_map, option_map_or}
+use Rattle.std.proofs.Common.{◌≡◌, ◌<◌, ℕ, true, List, Option, None, Some, sym, ap, ◌∙◌, subst}
+use Rattle.std.specs.Prelude.{slice_get}
 use Rattle.flow_model.specs.Item.{Item}
-use Rattle.el_set.specs.Gives.{source_file}
-use Rattle.el_set.specs.Holds.{sink_file}
 use Rattle.el_set.specs.Made.{file_for}
 use Rattle.graph_core.specs.Elements.{Made}
 use Rattle.graph_core.specs.Graph.{made as made_in, links as links_in}
 use Rattle.graph_core.specs.declared.graph.Graph.{Graph}
 use Rattle.graph_core.specs.declared.pad.PadLink.{PadLink}
 use Rattle.graph_ways.specs.Once.{AreOnce}
-use Rattle.graph_ways.specs.Ways.{has, is_head, is_sink}
+use Rattle.graph_ways.specs.Ways.{has, is_head}
 use Rattle.graph_ways.specs.declared.way.End.TheVariants as ends_of
 use Rattle.graph_ways.specs.declared.way.Way.{Way}
 use Rattle.graph_ways.proofs.Once.{linked_once}
@@ -22,7 +19,7 @@ use Rattle.line_files.specs.Files.{WereTold}
 use Rattle.line_net.specs.Along.{AreAlong, ListsAlong}
 use Rattle.line_net.specs.Pads.{AreNumbered}
 use Rattle.line_net.proofs.Wiring.{also_there, wired_along}
-use Rattle.line_start.specs.Start.{HasFiles, start_lists, writes}
+use Rattle.line_start.specs.Start.{HasFiles, start_lists}
 use Rattle.line_start.proofs.Along.{found_no_sink, graph_along, graph_numbered, head_there, leaves_first, leaves_sink, sink_there}
 use Rattle.line_start.proofs.Slots.{Leaves, head_other, made_at}
 use Rattle.line_start.proofs.Started.{lists_along, starts_net, starts_ready}
@@ -40,7 +37,7 @@ use Rattle.stream_task.specs.declared.tail.Tail.{Tail}
 use Rattle.stream_task.specs.declared.tail.Tail.TheVariants as tails
 use Rattle.stream_task.specs.declared.task.Task.{Task}
 use Rattle.stream_task.specs.Stage.{numbers_of}
-use Rattle.stream_task.specs.Task.{TaskLists, head_of, last_of, stages_of, tail_of}
+use Rattle.stream_task.specs.Task.{head_of, tail_of}
 use Rattle.task_net.specs.Net.{AllReady, IsNet, IsWired}
 use Rattle.line_world.specs.Start.{IsStarted, ReadsEnd, WritesEnd}
 use Rattle.line_world.specs.Stops.{ArePaired}

@@ -1,5 +1,5 @@
 -- The counts of pads and of files, told by lists in the order of the elements, are those of the histories and of the files.
-use Rattle.std.proofs.Common.{◌≡◌, ◌<◌, ◌≤◌, ◌⊎◌, ℕ, zero, suc, Bool, true, false, List, [], ◌∷◌, Option, None, Some, All, if◌then◌else◌, cond, length, refl, sym, ap, ◌∙◌, subst, arith}
+use Rattle.std.proofs.Common.{◌≡◌, ◌<◌, ◌≤◌, ℕ, zero, suc, Bool, true, false, List, [], ◌∷◌, Option, None, Some, All, if◌then◌else◌, length, refl, sym, ap, ◌∙◌, subst, arith}
 use Rattle.std.specs.List.{cons_option}
 use Rattle.std.specs.Prelude.{filter_map, slice_get}
 use Rattle.std.specs.List.{range_with_len}
@@ -18,7 +18,6 @@ use Rattle.line_start.specs.Start.{writes}
 use Rattle.line_whole.specs.Whole.{gives}
 use Rattle.run_report.specs.declared.report.PadCount.{PadCount}
 use Rattle.run_report.specs.declared.report.SinkCount.{SinkCount}
-use Rattle.stream_task.specs.declared.fault.TaskFault.TheVariants as tasks
 use Rattle.stream_task.specs.declared.pads.Pad.{Pad}
 use Rattle.stream_task.specs.Fault.{fault_of}
 use Rattle.stream_task.specs.Pads.{Counts}

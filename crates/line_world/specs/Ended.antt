@@ -1,15 +1,16 @@
 -- How a run of a launch line that began has ended: what its report says, what its files hold, and the cause of its status.
 -- `Holds` says that the files of the filesinks hold these bytes, by the numbers of the elements, and `Failed` that calls of
--- the file of an element failed.
-use Rattle.std.specs.Prelude.{◌≡◌, ◌≢◌, ◌≤◌, ◌<◌, ◌⊎◌, ℕ, All, List, [], length, Some, slice_get}
-use Rattle.std.specs.Option.{ForSome}
+-- the file of an element failed, and how many.
+use Rattle.std.specs.Prelude.{◌≡◌, ◌≢◌, ◌≤◌, ◌<◌, ◌⊎◌, ℕ, All, List, length, None, Some, slice_get}
 use Rattle.gst_item.specs.declared.fault.ElementFault.{ElementFault}
 use Rattle.gst_outside.specs.Causes.{Rose}
 use Rattle.flow_model.specs.Eval.{eval}
 use Rattle.flow_model.specs.Item.{Item}
 use Rattle.graph_core.specs.Elements.{Made}
 use Rattle.graph_core.specs.Graph.{made as made_in, links as links_in}
+use Rattle.graph_core.specs.Links.{sink_behind}
 use Rattle.graph_core.specs.declared.graph.Graph.{Graph}
+use Rattle.graph_ways.specs.Ways.{first_pad}
 use Rattle.line_files.specs.Files.{WereTold, opening_of}
 use Rattle.line_model.specs.LineGraph.{graph_plan, owner_of}
 use Rattle.run_files.specs.Seen.{Seen}
@@ -47,7 +48,7 @@ pub record EndsEos (graph : Graph) (before : Seen) (Holds : (ℕ → List ℕ) �
   pub tells : TellsRun graph before Holds end.report (λ contents h bytes. AreWritten (made_in graph) (links_in graph) h bytes × AreWhole contents graph h × AreOver graph h)
 
 -- A source could not be read.
-pub record EndsUnread (graph : Graph) (before : Seen) (Holds : (ℕ → List ℕ) → Type 0) (Failed : ℕ → Type 0) (end : WorldEnd) : Type 0 where
+pub record EndsUnread (graph : Graph) (before : Seen) (Holds : (ℕ → List ℕ) → Type 0) (Failed : ℕ → ℕ → Type 0) (end : WorldEnd) : Type 0 where
   pub status : end.status ≡ 7
   pub e : ℕ
   pub element : Made
@@ -58,11 +59,11 @@ pub record EndsUnread (graph : Graph) (before : Seen) (Holds : (ℕ → List ℕ
   pub second : ℕ
   pub fault : end.report.fault ≡ faults.ReadFault location first second
   pub rose : Rose first second
-  pub failed : Failed e
+  pub failed : Failed e second
   pub tells : TellsRun graph before Holds end.report (λ contents h bytes. AreWritten (made_in graph) (links_in graph) h bytes)
 
 -- A filesink could not be written: of the next item that was owed to it a part stands in its file.
-pub record EndsUnwritten (graph : Graph) (before : Seen) (Holds : (ℕ → List ℕ) → Type 0) (Failed : ℕ → Type 0) (end : WorldEnd) : Type 0 where
+pub record EndsUnwritten (graph : Graph) (before : Seen) (Holds : (ℕ → List ℕ) → Type 0) (Failed : ℕ → ℕ → Type 0) (end : WorldEnd) : Type 0 where
   pub status : end.status ≡ 8
   pub d : ℕ
   pub element : Made
@@ -73,7 +74,7 @@ pub record EndsUnwritten (graph : Graph) (before : Seen) (Holds : (ℕ → List 
   pub second : ℕ
   pub fault : end.report.fault ≡ faults.WriteFault location first second
   pub rose : Rose first second
-  pub failed : Failed d
+  pub failed : Failed d second
   pub tells : TellsRun graph before Holds end.report
       (λ contents h bytes. ((c : ℕ) → c ≢ d → IsWritten (made_in graph) (links_in graph) h bytes c) × IsPartWritten contents (made_in graph) (links_in graph) h bytes d element.settings)
 
@@ -92,6 +93,9 @@ pub record EndsRefused (graph : Graph) (before : Seen) (Holds : (ℕ → List �
 pub record EndsUnlinked (graph : Graph) (before : Seen) (Holds : (ℕ → List ℕ) → Type 0) (end : WorldEnd) : Type 0 where
   pub status : end.status ≡ 11
   pub e : ℕ
+  pub element : Made
+  pub at : slice_get (made_in graph) e ≡ Some element
+  pub alone : sink_behind (links_in graph) (first_pad e) ≡ None
   pub place : ℕ
   pub fault : end.report.fault ≡ faults.NotLinked (source_pad (made_in graph) e) place
   pub tells : TellsRun graph before Holds end.report
@@ -106,7 +110,7 @@ pub record EndsTooLong (graph : Graph) (before : Seen) (Holds : (ℕ → List �
   pub fault : end.report.fault ≡ faults.TooLong element.name most_items 1
   pub tells : TellsRun graph before Holds end.report (λ contents h bytes. AreWritten (made_in graph) (links_in graph) h bytes × (length (went_from h e) ≡ most_items))
 
-abbrev pub HasEnded : Graph → Seen → ((ℕ → List ℕ) → Type 0) → (ℕ → Type 0) → WorldEnd → Type 0
+abbrev pub HasEnded : Graph → Seen → ((ℕ → List ℕ) → Type 0) → (ℕ → ℕ → Type 0) → WorldEnd → Type 0
 HasEnded graph before Holds Failed end =
     EndsEos graph before Holds end ⊎ EndsUnread graph before Holds Failed end ⊎ EndsUnwritten graph before Holds Failed end
     ⊎ EndsRefused graph before Holds end ⊎ EndsUnlinked graph before Holds end ⊎ EndsTooLong graph before Holds end

@@ -8,3 +8,4 @@ pub mod Start
 pub mod Ran
 pub mod Prepared
 pub mod Plan
+pub mod Turned

@@ -21,9 +21,9 @@ abbrev pub KnownHold : Graph → List (Option Known) → (ℕ → List ℕ) → 
 KnownHold graph known bytes = (d : ℕ) (m : Made) (location : List ℕ) → slice_get (made_in graph) d ≡ Some m → opening_of m.settings ≡ Some (Write location)
     → (k : Known) × (slice_get known d ≡ Some (Some k)) × ForSome k.bytes (λ file. file ≡ bytes d)
 
--- calls of the end of an element failed
-abbrev pub KnownFailed : List (Option Known) → ℕ → Type 0
-KnownFailed known e = (k : Known) × (slice_get known e ≡ Some (Some k)) × Rose 0 k.faults
+-- calls of the end of an element failed, so many in all
+abbrev pub KnownFailed : List (Option Known) → ℕ → ℕ → Type 0
+KnownFailed known e n = (k : Known) × (slice_get known e ≡ Some (Some k)) × Rose 0 k.faults × (k.faults ≡ n)
 
 -- the fault at which tasks stopped, if any
 abbrev pub stop_of : {A : Type 0} → Result A Stopped → Option TaskFault

@@ -15,6 +15,7 @@ ghost use Rattle.line_world.specs.Plan.{prepared_lanes, prepared_lengths, prepar
 ghost use Rattle.line_world.specs.Prepared.{HasRoom, IsPrepared};
 ghost use Rattle.line_world.specs.Ran.{KnownFailed, KnownHold, stop_of};
 ghost use Rattle.line_world.specs.Start.{IsStarted};
+ghost use Rattle.line_world.specs.Turned.{HasTurned, RanByTurns};
 ghost use Rattle.line_world.specs.World.{IsOfLine, IsRunStatus, IsUnwritten, IsWorldEnd, NotBegun};
 
 use crate::ended::WorldEnd;
@@ -121,6 +122,7 @@ fn run_all<S: Source, K: Sink, I: Inlet<Out = O>, O: Outlet<Lanes = I::Lanes>>(
     ensures cause { IfErr result (λ stop. (t : _) → slice_get tasks.new.items stop.task ≡ Some t → IsNetCause S.faults K.faults t stop.fault) }
     ensures frame { AllFramed S.location S.content K.location I.place I.id O.place O.limits O.id tasks.old.items tasks.new.items }
     ensures count { length tasks.new.items ≡ length tasks.old.items }
+    ensures turned { HasTurned turns tasks.old.items tasks.new.items }
 {
     let mut turns = Turns::new(turns);
     run_tasks(alloc, tasks, lanes, &mut turns)
@@ -150,6 +152,7 @@ fn run_made<S: Source, K: Sink, I: Inlet<Out = O>, O: Outlet<Lanes = I::Lanes>>(
     requires room { HasRoom (length (made_in graph.now)) counts.pads.items counts.lengths.items }
     ensures ended { (before : Seen) → IsStarted S.location S.content S.faults K.location K.bytes K.faults I.received O.sent I.place O.place O.limits O.count graph.now made.tasks.items made.loose.items (O.tells lanes.old) before → result.end.status ≢ 13 → HasEnded graph.now before (KnownHold graph.now (known_ends S.location S.content S.faults K.location K.bytes K.faults result.ends.items)) (KnownFailed (known_ends S.location S.content S.faults K.location K.bytes K.faults result.ends.items)) result.end }
     ensures located { (before : Seen) → IsStarted S.location S.content S.faults K.location K.bytes K.faults I.received O.sent I.place O.place O.limits O.count graph.now made.tasks.items made.loose.items (O.tells lanes.old) before → AreLocated (made_in graph.now) (known_ends S.location S.content S.faults K.location K.bytes K.faults result.ends.items) }
+    ensures turned { (before : Seen) → IsStarted S.location S.content S.faults K.location K.bytes K.faults I.received O.sent I.place O.place O.limits O.count graph.now made.tasks.items made.loose.items (O.tells lanes.old) before → result.end.status ≢ 13 → RanByTurns S.location S.content S.faults K.location K.bytes K.faults I.received O.sent I.place O.place O.limits O.count graph.now turns before result.end }
     ensures entries { result.end.report.entries ≡ [] }
     ensures statuses { IsRunStatus result.end.status }
 {
@@ -194,6 +197,7 @@ fn run_opened<S: Source, K: Sink>(
     requires opened { (before after : Seen) × LineOpens S.location S.content S.faults K.location K.bytes K.faults (made_in graph.now) ends.items before after }
     ensures ended { (before after : Seen) → LineOpens S.location S.content S.faults K.location K.bytes K.faults (made_in graph.now) ends.items before after → result.end.status ≢ 13 → HasEnded graph.now before (KnownHold graph.now (known_ends S.location S.content S.faults K.location K.bytes K.faults result.ends.items)) (KnownFailed (known_ends S.location S.content S.faults K.location K.bytes K.faults result.ends.items)) result.end }
     ensures located { (before after : Seen) → LineOpens S.location S.content S.faults K.location K.bytes K.faults (made_in graph.now) ends.items before after → AreLocated (made_in graph.now) (known_ends S.location S.content S.faults K.location K.bytes K.faults result.ends.items) }
+    ensures turned { (before after : Seen) → LineOpens S.location S.content S.faults K.location K.bytes K.faults (made_in graph.now) ends.items before after → result.end.status ≢ 13 → RanByTurns S.location S.content S.faults K.location K.bytes K.faults ⟦<MemInlet as Inlet>⟧.received ⟦<MemOutlet as Outlet>⟧.sent ⟦<MemInlet as Inlet>⟧.place ⟦<MemOutlet as Outlet>⟧.place ⟦<MemOutlet as Outlet>⟧.limits ⟦<MemOutlet as Outlet>⟧.count graph.now turns before result.end }
     ensures entries { result.end.report.entries ≡ [] }
     ensures statuses { IsRunStatus result.end.status }
 {
@@ -250,6 +254,7 @@ pub fn run_turns<F: Files>(alloc: Global, graph: Graph, files: &mut F, turns: Or
     requires line { IsOfLine graph }
     requires sound { IsSound graph }
     ensures ended { result.status ≢ 13 → IsWorldEnd graph (seen (F.input files.old) (F.output files.old) (F.faults_of files.old) (F.refused_of files.old) (F.faults files.old) (F.ends files.old)) (seen (F.input files.new) (F.output files.new) (F.faults_of files.new) (F.refused_of files.new) (F.faults files.new) (F.ends files.new)) result }
+    ensures turned { result.status ≢ 13 → result.status ≢ 6 → RanByTurns F.Src.location F.Src.content F.Src.faults F.Snk.location F.Snk.bytes F.Snk.faults ⟦<MemInlet as Inlet>⟧.received ⟦<MemOutlet as Outlet>⟧.sent ⟦<MemInlet as Inlet>⟧.place ⟦<MemOutlet as Outlet>⟧.place ⟦<MemOutlet as Outlet>⟧.limits ⟦<MemOutlet as Outlet>⟧.count graph turns (seen (F.input files.old) (F.output files.old) (F.faults_of files.old) (F.refused_of files.old) (F.faults files.old) (F.ends files.old)) result }
     ensures statuses { IsRunStatus result.status }
     ensures given_back { F.ends files.old < 2 ^ 63 → F.ends files.new ≡ F.ends files.old }
     ensures inputs { (l : List ℕ) → F.input files.new l ≡ F.input files.old l }

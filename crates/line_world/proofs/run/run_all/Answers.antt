@@ -24,3 +24,8 @@ returns-clause-within g c =
 pub returns-clause-cause : goal.returns-clause-cause
 returns-clause-cause g c =
     rw (whole_again c.args.tasks.now.items c.run_tasks.new.tasks c.args.tasks.now.len (omega (arith, c.args.tasks.now.ok.0)) (c.run_tasks.ensures.count ∙ ap length c.deref_mut.ensures.value)) c.run_tasks.ensures.cause
+
+pub returns-clause-turned : goal.returns-clause-turned
+returns-clause-turned g c =
+    rw (whole_again c.args.tasks.now.items c.run_tasks.new.tasks c.args.tasks.now.len (omega (arith, c.args.tasks.now.ok.0)) (c.run_tasks.ensures.count ∙ ap length c.deref_mut.ensures.value), ← c.deref_mut.ensures.value)
+    (c.run_tasks.new.turns, c.run_tasks.ensures.by_turns c.args.turns 0 (c.new-turns.ensures.among (length c.deref_mut.result.now)))

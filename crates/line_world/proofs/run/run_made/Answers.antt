@@ -1,5 +1,6 @@
-use Rattle.std.proofs.Common.{◌∙◌, refl}
+use Rattle.std.proofs.Common.{◌∙◌, ap, refl}
 use Rattle.graph_core.specs.Graph.{made}
+use Rattle.line_world.specs.Told.{pads_told, sinks_told}
 use Rattle.line_world.proofs.Runs.{run_ends_so, run_located, told_by}
 use Rattle.line_world.proofs.Started.{start_ready, start_wired}
 use Rattle.line_world.proofs.run.run_made.Goals as goal
@@ -23,3 +24,20 @@ returns-in-Ok-clause-located g c = λ before s. rw c.give_back.ensures.ends (run
 
 pub returns-clause-located : goal.returns-clause-located
 returns-clause-located g c = λ before s. rw c.give_back.ensures.ends (run_located g.S.Source.location g.S.Source.content g.S.Source.faults g.K.Sink.location g.K.Sink.bytes g.K.Sink.faults g.I.Inlet.received g.O.Outlet.sent g.I.Inlet.place g.I.Inlet.id g.O.Outlet.place g.O.Outlet.limits g.O.Outlet.count g.O.Outlet.id c.args.graph.now c.args.made.tasks.items c.args.made.loose.items (g.O.Outlet.tells c.args.lanes.now) before s c.run_all-ran.new.tasks.items c.run_all-ran.ensures.frame c.run_all-ran.ensures.count c.args.counts.pads.items c.args.counts.lengths.items c.requires.room)
+
+pub returns-in-Ok-clause-turned : goal.returns-in-Ok-clause-turned
+returns-in-Ok-clause-turned g c =
+    λ before s found.
+    record {
+      first = c.args.made.tasks.items;
+      left = c.args.made.loose.items;
+      tells = g.O.Outlet.tells c.args.lanes.now;
+      started = s;
+      last = c.run_all-ran.new.tasks.items;
+      turned = c.run_all-ran.ensures.turned;
+      none = c.args.counts.pads.items;
+      lengths = c.args.counts.lengths.items;
+      room = c.requires.room;
+      pads = c.in-Ok.ensures.pads_are ∙ ap (pads_told (made c.args.graph.now)) (c.as_slice.ensures.value ∙ c.put_all.ensures);
+      sinks = c.in-Ok.ensures.sinks_are ∙ ap (sinks_told (made c.args.graph.now)) (c.as_slice-2.ensures.value ∙ c.give_back.ensures.lengths);
+    }
