@@ -5,8 +5,8 @@ use Rattle.line_read.specs.Refusals.{IsRefusal}
 use Rattle.line_read.specs.Requests.{IsRequest}
 use Rattle.line_read.specs.declared.refusal.Refusal.{Refusal}
 use Rattle.line_read.specs.declared.request.Request.{Request}
-use Rattle.line_world.specs.World.{IsUnwritten, IsWorldEnd}
-use Rattle.line_world.specs.declared.ended.WorldEnd.{WorldEnd}
+use Rattle.world_core.specs.World.{IsUnwritten, IsWorldEnd}
+use Rattle.world_core.specs.declared.ended.WorldEnd.{WorldEnd}
 use Rattle.run_files.specs.Seen.{Seen}
 use Rattle.run_words.specs.Said.{options_of}
 use Rattle.gst_run.specs.declared.outcome.Outcome.{Outcome}

@@ -9,12 +9,12 @@ use crate::outcome::{Outcome, report_text};
 use gst_caps::{List, OutOfMemory};
 use gst_outside::{Clock, Failed, Files, Sink, TaskGate};
 use line_read::{Refusal, read_request};
-use line_world::{WorldEnd, run_turns};
 use run_report::{Report, no_memory};
 use std::alloc::Global;
 use std::sync::Wait;
 use std::thread::Threads;
 use turn_order::Order;
+use world_core::{WorldEnd, run_turns};
 
 const OUT_OF_MEMORY: u8 = 13;
 

@@ -7,12 +7,12 @@ use Rattle.flow_model.specs.Item.{Item}
 use Rattle.graph_ways.specs.Ways.{StandsAt, first_pad}
 use Rattle.graph_ways.specs.declared.way.Way.{Way}
 use Rattle.line_model.specs.LineGraph.{owner_of, pad_id}
-use Rattle.stream_task.specs.declared.pads.Pad.{Pad}
-use Rattle.stream_task.specs.declared.stage.Stage.{Stage}
-use Rattle.stream_task.specs.declared.task.Task.{Task}
-use Rattle.stream_task.specs.Pads.{Counts}
-use Rattle.stream_task.specs.Stage.{StageList, StagesKeep, crossed_at, owes}
-use Rattle.stream_task.specs.Task.{TaskLists, last_of, stages_of}
+use Rattle.task_core.specs.declared.pads.Pad.{Pad}
+use Rattle.task_core.specs.declared.stage.Stage.{Stage}
+use Rattle.task_core.specs.declared.task.Task.{Task}
+use Rattle.task_core.specs.Pads.{Counts}
+use Rattle.task_core.specs.Stage.{StageList, StagesKeep, crossed_at, owes}
+use Rattle.task_core.specs.Task.{TaskLists, last_of, stages_of}
 use Rattle.task_net.specs.Net.{NetCrossed}
 use Rattle.line_net.specs.Along.{AreHistories}
 use Rattle.line_net.specs.Pads.{AreNumbered, AreUncounted, CountHistories, all_pads, element_of, pad_of, task_pads, with_pads}

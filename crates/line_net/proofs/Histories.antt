@@ -13,8 +13,8 @@ use Rattle.graph_ways.specs.declared.way.End.TheVariants.{Nothing, Queue, Sink}
 use Rattle.graph_ways.specs.declared.way.Way.{Way}
 use Rattle.graph_ways.proofs.Places.{alone}
 use Rattle.line_model.specs.LineGraph.{owner_of, pad_id}
-use Rattle.stream_task.specs.Stage.{crossed_at}
-use Rattle.stream_task.specs.Task.{TaskLists}
+use Rattle.task_core.specs.Stage.{crossed_at}
+use Rattle.task_core.specs.Task.{TaskLists}
 use Rattle.line_net.specs.Along.{AreHistories}
 
 -- a number stands at a place of a list, or at none

@@ -25,12 +25,12 @@ use Rattle.graph_ways.proofs.Once.{linked_once}
 use Rattle.graph_ways.proofs.Places.{end_is, way_at}
 use Rattle.launch_text.specs.declared.tree.Tree.{Tree}
 use Rattle.lane_core.specs.Room.{Limits}
-use Rattle.stream_task.specs.declared.head.Head.{Head}
-use Rattle.stream_task.specs.declared.head.Head.TheVariants as heads
-use Rattle.stream_task.specs.declared.task.Task.{Task}
-use Rattle.stream_task.specs.Head.{head_place}
-use Rattle.stream_task.specs.Stage.{StageList, SameRules, crossed_at}
-use Rattle.stream_task.specs.Task.{TaskLists, head_of, tail_of}
+use Rattle.task_core.specs.declared.head.Head.{Head}
+use Rattle.task_core.specs.declared.head.Head.TheVariants as heads
+use Rattle.task_core.specs.declared.task.Task.{Task}
+use Rattle.task_core.specs.Head.{head_place}
+use Rattle.task_core.specs.Stage.{StageList, SameRules, crossed_at}
+use Rattle.task_core.specs.Task.{TaskLists, head_of, tail_of}
 use Rattle.task_net.specs.Net.{GoesOn, NetCrossed, Sends}
 use Rattle.line_model.specs.LineGraph.{owner_of, pad_id}
 use Rattle.net_line.specs.Ways.{AreCrossed, GoAlong, IsAlone, IsHeadOf, IsNetOf, IsPlaced, IsQueueOf, IsSourceOf, last_on, out_at}

@@ -3,10 +3,10 @@ use Rattle.std.proofs.Common.{◌≡◌, ◌<◌, ◌+◌, ℕ, List, [], ◌∷
 use Rattle.std.specs.Prelude.{get_or, slice_set}
 use Rattle.std.proofs.lemmas.Grind.{flat_map-append}
 use Rattle.std.proofs.lemmas.List.{append-nil, map-append, take_more}
-use Rattle.stream_task.specs.declared.pads.Pad.{Pad}
-use Rattle.stream_task.specs.declared.stage.Stage.{Stage}
-use Rattle.stream_task.specs.declared.task.Task.{Task}
-use Rattle.stream_task.specs.Task.{last_of, stages_of}
+use Rattle.task_core.specs.declared.pads.Pad.{Pad}
+use Rattle.task_core.specs.declared.stage.Stage.{Stage}
+use Rattle.task_core.specs.declared.task.Task.{Task}
+use Rattle.task_core.specs.Task.{last_of, stages_of}
 use Rattle.line_net.specs.Pads.{all_pads, pad_of, task_pads, with_pads}
 
 with_both : (first then pads : List Pad) → with_pads (first ++ then) pads ≡ with_pads then (with_pads first pads)

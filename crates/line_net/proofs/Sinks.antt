@@ -15,9 +15,9 @@ use Rattle.graph_ways.proofs.Once.{linked_once}
 use Rattle.graph_ways.proofs.Places.{end_is, last_stands}
 use Rattle.launch_text.specs.declared.tree.Tree.{Tree}
 use Rattle.line_model.specs.LineGraph.{before_it}
-use Rattle.stream_task.specs.declared.task.Task.{Task}
-use Rattle.stream_task.specs.Stage.{StageList, crossed_at}
-use Rattle.stream_task.specs.Task.{TaskLists}
+use Rattle.task_core.specs.declared.task.Task.{Task}
+use Rattle.task_core.specs.Stage.{StageList, crossed_at}
+use Rattle.task_core.specs.Task.{TaskLists}
 use Rattle.task_net.specs.Net.{NetCrossed}
 use Rattle.line_net.specs.Along.{AreHistories, ListsAlong, RulesAlong}
 use Rattle.line_net.proofs.Nets.{lists_stay}

@@ -21,15 +21,15 @@ use Rattle.graph_ways.proofs.Once.{linked_once}
 use Rattle.graph_ways.proofs.Places.{alone, begun, end_is, one_at_queue}
 use Rattle.launch_text.specs.declared.tree.Tree.{Tree}
 use Rattle.lane_core.specs.Room.{Limits}
-use Rattle.stream_task.specs.declared.head.Head.{Head}
-use Rattle.stream_task.specs.declared.head.Head.TheVariants as heads
-use Rattle.stream_task.specs.declared.tail.Tail.{Tail}
-use Rattle.stream_task.specs.declared.tail.Tail.TheVariants as tails
-use Rattle.stream_task.specs.declared.task.Task.{Task}
-use Rattle.stream_task.specs.Head.{head_place}
-use Rattle.stream_task.specs.Inlets.{place_of}
-use Rattle.stream_task.specs.Tail.{tail_place, tail_limit}
-use Rattle.stream_task.specs.Task.{head_of, tail_of}
+use Rattle.task_core.specs.declared.head.Head.{Head}
+use Rattle.task_core.specs.declared.head.Head.TheVariants as heads
+use Rattle.task_core.specs.declared.tail.Tail.{Tail}
+use Rattle.task_core.specs.declared.tail.Tail.TheVariants as tails
+use Rattle.task_core.specs.declared.task.Task.{Task}
+use Rattle.task_core.specs.Head.{head_place}
+use Rattle.task_core.specs.Inlets.{place_of}
+use Rattle.task_core.specs.Tail.{tail_place, tail_limit}
+use Rattle.task_core.specs.Task.{head_of, tail_of}
 use Rattle.task_net.specs.Net.{IsWired, Sends, Takes}
 use Rattle.line_net.specs.Along.{AreAlong, HeadAlong, IsFed, TailAlong, is_source}
 

@@ -14,14 +14,14 @@ use Rattle.graph_ways.specs.declared.way.End.{End}
 use Rattle.graph_ways.specs.declared.way.End.TheVariants as ends
 use Rattle.graph_ways.specs.declared.way.Way.{Way}
 use Rattle.lane_core.specs.Room.{Limits}
-use Rattle.stream_task.specs.declared.head.Head.{Head}
-use Rattle.stream_task.specs.declared.head.Head.TheVariants as heads
-use Rattle.stream_task.specs.declared.tail.Tail.{Tail}
-use Rattle.stream_task.specs.declared.tail.Tail.TheVariants as tails
-use Rattle.stream_task.specs.declared.task.Task.{Task}
-use Rattle.stream_task.specs.Inlets.{place_of}
-use Rattle.stream_task.specs.Stage.{StageList, crossed_at}
-use Rattle.stream_task.specs.Task.{TaskLists, head_of, tail_of}
+use Rattle.task_core.specs.declared.head.Head.{Head}
+use Rattle.task_core.specs.declared.head.Head.TheVariants as heads
+use Rattle.task_core.specs.declared.tail.Tail.{Tail}
+use Rattle.task_core.specs.declared.tail.Tail.TheVariants as tails
+use Rattle.task_core.specs.declared.task.Task.{Task}
+use Rattle.task_core.specs.Inlets.{place_of}
+use Rattle.task_core.specs.Stage.{StageList, crossed_at}
+use Rattle.task_core.specs.Task.{TaskLists, head_of, tail_of}
 use Rattle.line_model.specs.LineGraph.{pad_id}
 
 -- items come from a source by itself

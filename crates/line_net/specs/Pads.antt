@@ -4,11 +4,11 @@ use Rattle.flow_model.specs.Item.{Item}
 use Rattle.graph_ways.specs.Ways.{first_pad}
 use Rattle.graph_ways.specs.declared.way.Way.{Way}
 use Rattle.line_model.specs.LineGraph.{pad_id}
-use Rattle.stream_task.specs.declared.pads.Pad.{Pad}
-use Rattle.stream_task.specs.declared.stage.Stage.{Stage}
-use Rattle.stream_task.specs.declared.task.Task.{Task}
-use Rattle.stream_task.specs.Pads.{Counts}
-use Rattle.stream_task.specs.Task.{last_of, stages_of}
+use Rattle.task_core.specs.declared.pads.Pad.{Pad}
+use Rattle.task_core.specs.declared.stage.Stage.{Stage}
+use Rattle.task_core.specs.declared.task.Task.{Task}
+use Rattle.task_core.specs.Pads.{Counts}
+use Rattle.task_core.specs.Task.{last_of, stages_of}
 
 abbrev pub pad_of : Stage → Pad
 pad_of stage = stage.pad

@@ -1,11 +1,11 @@
 //! The counts of a line's pads.
 ghost use Rattle.std.specs.Prelude.{◌≡◌, map, slice_set};
-ghost use Rattle.stream_task.specs.Task.{stages_of};
+ghost use Rattle.task_core.specs.Task.{stages_of};
 ghost use Rattle.line_net.specs.Pads.{all_pads, pad_of, task_pads, with_pads};
 
 use gst_outside::{Sink, Source};
 use lane_core::{Inlet, Outlet};
-use stream_task::{Pad, Stage, Task};
+use task_core::{Pad, Stage, Task};
 
 /// Puts the source pads of tasks, with their counts, into a list by the numbers of their elements.
 pub fn put_pads<S: Source, K: Sink, I: Inlet<Out = O>, O: Outlet<Lanes = I::Lanes>>(

@@ -27,12 +27,12 @@ use Rattle.line_model.specs.LineGraph.{before_it}
 use Rattle.line_net.specs.Along.{AreAlong, AreHistories, HeadAlong, ListsAlong, TailAlong, is_source}
 use Rattle.line_net.proofs.Nets.{lists_stay}
 use Rattle.line_net.proofs.Wiring.{also_there, paired_with, sends_into, some_number}
-use Rattle.stream_task.specs.declared.head.Head.{Head}
-use Rattle.stream_task.specs.declared.head.Head.TheVariants as heads
-use Rattle.stream_task.specs.declared.task.Task.{Task}
-use Rattle.stream_task.specs.Head.{head_number}
-use Rattle.stream_task.specs.Stage.{crossed_at, owes}
-use Rattle.stream_task.specs.Task.{TaskLists, head_of, tail_of}
+use Rattle.task_core.specs.declared.head.Head.{Head}
+use Rattle.task_core.specs.declared.head.Head.TheVariants as heads
+use Rattle.task_core.specs.declared.task.Task.{Task}
+use Rattle.task_core.specs.Head.{head_number}
+use Rattle.task_core.specs.Stage.{crossed_at, owes}
+use Rattle.task_core.specs.Task.{TaskLists, head_of, tail_of}
 use Rattle.task_net.specs.Net.{NetEnded}
 use Rattle.line_whole.specs.Whole.{gives}
 use Rattle.line_whole.proofs.Ended.{asked_there, both_ways, crossed_here, kind_of, put_first, put_next, ruled_at, source_pads_none, stage_at}

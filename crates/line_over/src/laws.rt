@@ -11,8 +11,8 @@ ghost use Rattle.graph_ways.specs.declared.way.Way.{Way as WayOf};
 ghost use Rattle.launch_text.specs.declared.tree.Tree.{Tree};
 ghost use Rattle.line_model.specs.LineGraph.{before_it};
 ghost use Rattle.line_net.specs.Along.{AreAlong, AreHistories, ListsAlong};
-ghost use Rattle.stream_task.specs.Task.{TaskLists};
-ghost use Rattle.stream_task.specs.declared.task.Task.{Task as TaskOf};
+ghost use Rattle.task_core.specs.Task.{TaskLists};
+ghost use Rattle.task_core.specs.declared.task.Task.{Task as TaskOf};
 ghost use Rattle.task_net.specs.Net.{NetEnded};
 
 use gst_outside::{Sink, Source};

@@ -26,15 +26,15 @@ use Rattle.line_net.specs.Along.{AreAlong, HeadAlong, IsAlong, TailAlong}
 use Rattle.line_net.specs.Pads.{AreNumbered, element_of, pad_of}
 use Rattle.line_net.proofs.Wiring.{also_there}
 use Rattle.run_files.specs.declared.end.End.{End}
-use Rattle.stream_task.specs.declared.head.Head.{Head}
-use Rattle.stream_task.specs.declared.head.Head.TheVariants as heads
-use Rattle.stream_task.specs.declared.pads.Pad.{Pad}
-use Rattle.stream_task.specs.declared.stage.Stage.{Stage}
-use Rattle.stream_task.specs.declared.tail.Tail.{Tail}
-use Rattle.stream_task.specs.declared.tail.Tail.TheVariants as tails
-use Rattle.stream_task.specs.declared.task.Task.{Task}
-use Rattle.stream_task.specs.Stage.{numbers_of}
-use Rattle.stream_task.specs.Task.{head_of, last_of, stages_of, tail_of}
+use Rattle.task_core.specs.declared.head.Head.{Head}
+use Rattle.task_core.specs.declared.head.Head.TheVariants as heads
+use Rattle.task_core.specs.declared.pads.Pad.{Pad}
+use Rattle.task_core.specs.declared.stage.Stage.{Stage}
+use Rattle.task_core.specs.declared.tail.Tail.{Tail}
+use Rattle.task_core.specs.declared.tail.Tail.TheVariants as tails
+use Rattle.task_core.specs.declared.task.Task.{Task}
+use Rattle.task_core.specs.Stage.{numbers_of}
+use Rattle.task_core.specs.Task.{head_of, last_of, stages_of, tail_of}
 use Rattle.line_tasks.specs.declared.part.Exit.{Exit}
 use Rattle.line_tasks.specs.declared.part.Exit.TheVariants as exits
 use Rattle.line_tasks.specs.declared.part.Part.{Part}

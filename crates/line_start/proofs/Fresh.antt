@@ -20,13 +20,13 @@ use Rattle.graph_ways.specs.declared.way.End.{End as WayEnd}
 use Rattle.graph_ways.specs.declared.way.End.TheVariants as ends_of
 use Rattle.lane_core.specs.Room.{Limits}
 use Rattle.line_net.specs.Along.{OwedBy, RulesAlong}
-use Rattle.stream_task.specs.declared.head.Head.{Head}
-use Rattle.stream_task.specs.declared.head.Head.TheVariants as heads
-use Rattle.stream_task.specs.declared.tail.Tail.{Tail}
-use Rattle.stream_task.specs.declared.tail.Tail.TheVariants as tails
-use Rattle.stream_task.specs.Head.{HeadGave}
-use Rattle.stream_task.specs.Stage.{fresh_list}
-use Rattle.stream_task.specs.Tail.{TailHas}
+use Rattle.task_core.specs.declared.head.Head.{Head}
+use Rattle.task_core.specs.declared.head.Head.TheVariants as heads
+use Rattle.task_core.specs.declared.tail.Tail.{Tail}
+use Rattle.task_core.specs.declared.tail.Tail.TheVariants as tails
+use Rattle.task_core.specs.Head.{HeadGave}
+use Rattle.task_core.specs.Stage.{fresh_list}
+use Rattle.task_core.specs.Tail.{TailHas}
 use Rattle.line_tasks.specs.declared.part.Exit.{Exit}
 use Rattle.line_tasks.specs.declared.part.Exit.TheVariants as exits
 use Rattle.line_tasks.specs.Lanes.{InletAt}

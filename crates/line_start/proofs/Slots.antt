@@ -5,7 +5,7 @@ use Rattle.flow_model.specs.Item.{Item}
 use Rattle.graph_core.specs.Elements.{Made}
 use Rattle.graph_ways.specs.Ways.{has, is_sink}
 use Rattle.run_files.specs.declared.end.End.{End}
-use Rattle.stream_task.specs.declared.task.Task.{Task}
+use Rattle.task_core.specs.declared.task.Task.{Task}
 use Rattle.line_tasks.specs.declared.part.Exit.{Exit}
 use Rattle.line_tasks.specs.declared.part.Exit.TheVariants as exits
 use Rattle.line_tasks.specs.declared.part.Part.{Part}

@@ -22,17 +22,17 @@ use Rattle.line_net.specs.Along.{AreAlong, ListsAlong, OwedBy, RulesAlong}
 use Rattle.line_net.proofs.Wiring.{also_there, taker}
 use Rattle.run_files.specs.declared.end.End.{End}
 use Rattle.run_files.specs.declared.end.End.TheVariants.{Src, Snk}
-use Rattle.stream_task.specs.declared.head.Head.{Head}
-use Rattle.stream_task.specs.declared.head.Head.TheVariants as heads
-use Rattle.stream_task.specs.declared.stage.Stage.{Stage}
-use Rattle.stream_task.specs.declared.tail.Tail.{Tail}
-use Rattle.stream_task.specs.declared.tail.Tail.TheVariants as tails
-use Rattle.stream_task.specs.declared.task.Task.{Task}
-use Rattle.stream_task.specs.Head.{HeadIn}
-use Rattle.stream_task.specs.Inlets.{place_of}
-use Rattle.stream_task.specs.Stage.{StagesStand, fresh_list}
-use Rattle.stream_task.specs.Tail.{TailOf}
-use Rattle.stream_task.specs.Task.{Stands, TaskLists, head_of, tail_of}
+use Rattle.task_core.specs.declared.head.Head.{Head}
+use Rattle.task_core.specs.declared.head.Head.TheVariants as heads
+use Rattle.task_core.specs.declared.stage.Stage.{Stage}
+use Rattle.task_core.specs.declared.tail.Tail.{Tail}
+use Rattle.task_core.specs.declared.tail.Tail.TheVariants as tails
+use Rattle.task_core.specs.declared.task.Task.{Task}
+use Rattle.task_core.specs.Head.{HeadIn}
+use Rattle.task_core.specs.Inlets.{place_of}
+use Rattle.task_core.specs.Stage.{StagesStand, fresh_list}
+use Rattle.task_core.specs.Tail.{TailOf}
+use Rattle.task_core.specs.Task.{Stands, TaskLists, head_of, tail_of}
 use Rattle.task_net.specs.Closed.{IsClosed}
 use Rattle.task_net.specs.Net.{AllReady, IsNet, Takes}
 use Rattle.line_tasks.specs.declared.part.Exit.{Exit}

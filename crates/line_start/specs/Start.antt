@@ -14,8 +14,8 @@ use Rattle.line_tasks.specs.Making.{end_at, is_source}
 use Rattle.line_tasks.specs.Parts.{rule_at}
 use Rattle.run_files.specs.declared.end.End.{End}
 use Rattle.run_files.specs.declared.end.End.TheVariants.{Src, Snk}
-use Rattle.stream_task.specs.Stage.{fresh_list}
-use Rattle.stream_task.specs.Task.{TaskLists}
+use Rattle.task_core.specs.Stage.{fresh_list}
+use Rattle.task_core.specs.Task.{TaskLists}
 
 -- a sink writes a file
 abbrev pub writes : Settings → Bool

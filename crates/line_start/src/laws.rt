@@ -12,7 +12,7 @@ ghost use Rattle.line_tasks.specs.Making.{AreMade};
 ghost use Rattle.line_tasks.specs.Parts.{AreParts};
 ghost use Rattle.line_tasks.specs.declared.part.Part.{Part as PartOf};
 ghost use Rattle.run_files.specs.declared.end.End.{End as EndOf};
-ghost use Rattle.stream_task.specs.declared.task.Task.{Task as TaskOf};
+ghost use Rattle.task_core.specs.declared.task.Task.{Task as TaskOf};
 ghost use Rattle.task_net.specs.Net.{AllReady, IsNet};
 ghost use Rattle.line_start.specs.Start.{AreTold, HasFiles, start_lists};
 

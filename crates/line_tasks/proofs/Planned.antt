@@ -4,7 +4,7 @@ use Rattle.std.proofs.lemmas.List.{append-nil, append_assoc}
 use Rattle.flow_model.specs.Item.{Item}
 use Rattle.graph_core.specs.Elements.{Made}
 use Rattle.run_files.specs.declared.end.End.{End}
-use Rattle.stream_task.specs.declared.task.Task.{Task}
+use Rattle.task_core.specs.declared.task.Task.{Task}
 use Rattle.line_tasks.specs.declared.part.Part.{Part}
 use Rattle.line_tasks.specs.Making.{AreMade, IsMade, behind_part}
 

@@ -5,8 +5,8 @@ use Rattle.std.proofs.lemmas.List.{map-append, take_more}
 use Rattle.flow_model.specs.Rule.{Response}
 use Rattle.graph_core.specs.Elements.{Made}
 use Rattle.graph_ways.specs.Ways.{last_on}
-use Rattle.stream_task.specs.Stage.{StageStands, StagesStand, fresh_list}
-use Rattle.stream_task.specs.declared.stage.Stage.{Stage}
+use Rattle.task_core.specs.Stage.{StageStands, StagesStand, fresh_list}
+use Rattle.task_core.specs.declared.stage.Stage.{Stage}
 use Rattle.line_tasks.specs.Parts.{AreStages, pairs_on, rule_at}
 
 pub last_more : (e : ℕ) (ds : List ℕ) (d : ℕ) → last_on e (ds ++ d ∷ []) ≡ d

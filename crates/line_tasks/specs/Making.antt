@@ -10,16 +10,16 @@ use Rattle.graph_core.specs.Elements.{Made}
 use Rattle.graph_ways.specs.Ways.{has, is_sink}
 use Rattle.run_files.specs.declared.end.End.{End}
 use Rattle.run_files.specs.declared.end.End.TheVariants as ends
-use Rattle.stream_task.specs.declared.head.Head.{Head}
-use Rattle.stream_task.specs.declared.head.Head.TheVariants as heads
-use Rattle.stream_task.specs.declared.tail.Tail.{Tail}
-use Rattle.stream_task.specs.declared.tail.Tail.TheVariants as tails
-use Rattle.stream_task.specs.declared.task.Task.{Task}
-use Rattle.stream_task.specs.Head.{HeadGave}
-use Rattle.stream_task.specs.Inlets.{Fed, number_of, place_of}
-use Rattle.stream_task.specs.Stage.{StagesStand}
-use Rattle.stream_task.specs.Tail.{TailHas}
-use Rattle.stream_task.specs.Task.{Stands, TaskLists, head_of, last_of, stages_of, tail_of}
+use Rattle.task_core.specs.declared.head.Head.{Head}
+use Rattle.task_core.specs.declared.head.Head.TheVariants as heads
+use Rattle.task_core.specs.declared.tail.Tail.{Tail}
+use Rattle.task_core.specs.declared.tail.Tail.TheVariants as tails
+use Rattle.task_core.specs.declared.task.Task.{Task}
+use Rattle.task_core.specs.Head.{HeadGave}
+use Rattle.task_core.specs.Inlets.{Fed, number_of, place_of}
+use Rattle.task_core.specs.Stage.{StagesStand}
+use Rattle.task_core.specs.Tail.{TailHas}
+use Rattle.task_core.specs.Task.{Stands, TaskLists, head_of, last_of, stages_of, tail_of}
 use Rattle.line_tasks.specs.declared.part.Exit.{Exit}
 use Rattle.line_tasks.specs.declared.part.Exit.TheVariants as exits
 use Rattle.line_tasks.specs.declared.part.Part.{Part}

@@ -15,8 +15,8 @@ use Rattle.graph_ways.specs.declared.way.End.TheVariants as ends
 use Rattle.graph_ways.specs.declared.way.Way.{Way}
 use Rattle.lane_core.specs.Lane.{Lane, lane_of}
 use Rattle.lane_core.specs.Room.{Limits}
-use Rattle.stream_task.specs.Stage.{StagesStand, fresh_list, numbers_of}
-use Rattle.stream_task.specs.declared.stage.Stage.{Stage}
+use Rattle.task_core.specs.Stage.{StagesStand, fresh_list, numbers_of}
+use Rattle.task_core.specs.declared.stage.Stage.{Stage}
 use Rattle.line_tasks.specs.Lanes.{InletAt, OutletAt, lane_rooms}
 use Rattle.line_tasks.specs.declared.part.Exit.{Exit}
 use Rattle.line_tasks.specs.declared.part.Exit.TheVariants as exits

@@ -11,7 +11,7 @@ use gst_outside::{Sink, Source};
 use lane_core::{Inlet, Outlet};
 use run_files::End;
 use std::alloc::Global;
-use stream_task::{Head, Inlets, Tail, Task};
+use task_core::{Head, Inlets, Tail, Task};
 
 /// The task of a part.
 pub(crate) fn task_of<S: Source, K: Sink, I: Inlet<Out = O>, O: Outlet<Lanes = I::Lanes>>(

@@ -1,7 +1,7 @@
 //! What tasks are made of.
 use lane_core::MemLanes;
 use std::collections::VecDeque;
-use stream_task::Stage;
+use task_core::Stage;
 
 /// Where the items of a way go.
 #[derive(Drop)]

@@ -15,7 +15,7 @@ use gst_caps::OutOfMemory;
 use lane_core::{Inlet, MemInlet, MemOutlet, Outlet};
 use std::alloc::Global;
 use std::collections::VecDeque;
-use stream_task::Stage;
+use task_core::Stage;
 
 /// What the tasks of a graph's ways are made of, before the files of their sources and sinks are open.
 pub fn parts_of(

@@ -11,7 +11,7 @@ use lane_core::{Inlet, Outlet};
 use run_files::End;
 use std::alloc::Global;
 use std::collections::VecDeque;
-use stream_task::Task;
+use task_core::Task;
 
 /// The parts of a line's tasks, with room for the tasks.
 #[derive(Drop)]

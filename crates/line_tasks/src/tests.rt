@@ -11,7 +11,7 @@ use std::alloc::Global;
 use std::fmt::Write;
 use std::process::Abort;
 use std::test::Fail;
-use stream_task::{Head, Tail, Task};
+use task_core::{Head, Tail, Task};
 
 /// Each row: a line, and the parts of its tasks: the first element, with a star where it takes from a lane, the elements
 /// whose source pads a part has, and where the items go.

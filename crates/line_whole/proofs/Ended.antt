@@ -44,13 +44,13 @@ use Rattle.line_net.proofs.Histories.{Ending, Standing, ends_or_not, owner_first
 use Rattle.line_net.proofs.Nets.{lists_stay}
 use Rattle.line_net.proofs.Sinks.{before_end}
 use Rattle.line_net.proofs.Wiring.{also_there, paired_with, same_queue, queue_no_source, sender, sends_into, some_number}
-use Rattle.stream_task.specs.declared.head.Head.{Head}
-use Rattle.stream_task.specs.declared.head.Head.TheVariants as heads
-use Rattle.stream_task.specs.declared.stage.Stage.{Stage}
-use Rattle.stream_task.specs.declared.task.Task.{Task}
-use Rattle.stream_task.specs.Head.{HeadGave, head_number, head_place}
-use Rattle.stream_task.specs.Stage.{StageList, StageStands, StagesStand, crossed_at, owes, put_at}
-use Rattle.stream_task.specs.Task.{TaskLists, head_of, tail_of}
+use Rattle.task_core.specs.declared.head.Head.{Head}
+use Rattle.task_core.specs.declared.head.Head.TheVariants as heads
+use Rattle.task_core.specs.declared.stage.Stage.{Stage}
+use Rattle.task_core.specs.declared.task.Task.{Task}
+use Rattle.task_core.specs.Head.{HeadGave, head_number, head_place}
+use Rattle.task_core.specs.Stage.{StageList, StageStands, StagesStand, crossed_at, owes, put_at}
+use Rattle.task_core.specs.Task.{TaskLists, head_of, tail_of}
 use Rattle.task_net.specs.Net.{NetEnded, Takes}
 use Rattle.line_whole.specs.Whole.{PutWhole, WholeAt, gives, is_source_pad}
 use Rattle.line_whole.proofs.Lines.{line_is_whole, source_is}

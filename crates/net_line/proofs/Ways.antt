@@ -26,13 +26,13 @@ use Rattle.lane_core.specs.Room.{Limits}
 use Rattle.graph_core.specs.Elements.{Made}
 use Rattle.graph_core.specs.Links.{source_before}
 use Rattle.graph_core.specs.declared.pad.PadLink.{PadLink}
-use Rattle.stream_task.specs.declared.head.Head.{Head}
-use Rattle.stream_task.specs.declared.head.Head.TheVariants.{Source, Queue, Unlinked}
-use Rattle.stream_task.specs.declared.stage.Stage.{Stage}
-use Rattle.stream_task.specs.declared.task.Task.{Task}
-use Rattle.stream_task.specs.Head.{HeadGave}
-use Rattle.stream_task.specs.Stage.{StageList, StagesKeep, owes, put_last}
-use Rattle.stream_task.specs.Task.{TaskLists}
+use Rattle.task_core.specs.declared.head.Head.{Head}
+use Rattle.task_core.specs.declared.head.Head.TheVariants.{Source, Queue, Unlinked}
+use Rattle.task_core.specs.declared.stage.Stage.{Stage}
+use Rattle.task_core.specs.declared.task.Task.{Task}
+use Rattle.task_core.specs.Head.{HeadGave}
+use Rattle.task_core.specs.Stage.{StageList, StagesKeep, owes, put_last}
+use Rattle.task_core.specs.Task.{TaskLists}
 use Rattle.task_net.specs.Net.{NetCrossed, IsWired, Sends}
 use Rattle.line_model.specs.LineGraph.{pad_id, owner_of, sink_at, before_it, Took, WithPads, ElementHas}
 use Rattle.net_line.specs.Ways.{out_at, GoAlong, IsCrossed, AreCrossed, last_on, IsSourceOf, IsHeadOf, IsPlaced, IsNetOf}

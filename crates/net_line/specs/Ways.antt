@@ -11,11 +11,11 @@ use Rattle.graph_core.specs.Elements.{Made}
 use Rattle.graph_core.specs.Links.{source_before}
 use Rattle.graph_core.specs.declared.pad.PadLink.{PadLink}
 use Rattle.graph_core.specs.declared.pad.PadPlace.{PadPlace}
-use Rattle.stream_task.specs.declared.head.Head.{Head}
-use Rattle.stream_task.specs.declared.head.Head.TheVariants.{Source, Queue, Unlinked}
-use Rattle.stream_task.specs.declared.task.Task.{Task}
-use Rattle.stream_task.specs.Stage.{StageList}
-use Rattle.stream_task.specs.Task.{TaskLists, head_of}
+use Rattle.task_core.specs.declared.head.Head.{Head}
+use Rattle.task_core.specs.declared.head.Head.TheVariants.{Source, Queue, Unlinked}
+use Rattle.task_core.specs.declared.task.Task.{Task}
+use Rattle.task_core.specs.Stage.{StageList}
+use Rattle.task_core.specs.Task.{TaskLists, head_of}
 use Rattle.task_net.specs.Net.{Sends, Takes}
 use Rattle.line_model.specs.LineGraph.{pad_id, owner_of, sink_at}
 

@@ -7,8 +7,8 @@ ghost use Rattle.flow_model.specs.Eval.{eval};
 ghost use Rattle.graph_core.specs.declared.graph.Graph.{Graph};
 ghost use Rattle.graph_core.specs.Graph.{IsSound, made as made_in, links as links_in};
 ghost use Rattle.line_model.specs.LineGraph.{graph_plan, owner_of};
-ghost use Rattle.stream_task.specs.declared.task.Task.{Task};
-ghost use Rattle.stream_task.specs.Task.{TaskLists};
+ghost use Rattle.task_core.specs.declared.task.Task.{Task};
+ghost use Rattle.task_core.specs.Task.{TaskLists};
 ghost use Rattle.task_net.specs.Net.{NetCrossed, IsWired};
 ghost use Rattle.net_line.specs.Ways.{IsNetOf};
 

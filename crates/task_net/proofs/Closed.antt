@@ -5,7 +5,7 @@ use Rattle.std.specs.Prelude.{fold}
 use Rattle.std.proofs.lemmas.Bool.{true≢false}
 use Rattle.flow_model.specs.Item.{Item, is_eos}
 use Rattle.el_src.specs.Gave.{has_eos}
-use Rattle.stream_task.specs.Task.{GivesMore}
+use Rattle.task_core.specs.Task.{GivesMore}
 use Rattle.task_net.specs.Closed.{IsClosed}
 
 none_last : {A : Type 0} (xs : List A) (x : A) → [] ≡ xs ++ x ∷ [] → ⊥

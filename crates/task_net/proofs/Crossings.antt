@@ -5,12 +5,12 @@ use Rattle.std.proofs.lemmas.Bool.{cases_eq}
 use Rattle.flow_model.specs.Item.{Item}
 use Rattle.flow_model.proofs.Prefixes.{prefix_by}
 use Rattle.lane_core.specs.Lane.{Lane}
-use Rattle.stream_task.specs.declared.fault.TaskFault.{TaskFault}
-use Rattle.stream_task.specs.declared.fault.TaskFault.TheVariants.{ReadFault, WriteFault, Stream, Caps, TooLong, NotLinked, OutOfMemory}
-use Rattle.stream_task.specs.declared.stage.Stage.{Stage}
-use Rattle.stream_task.specs.declared.task.Task.{Task}
-use Rattle.stream_task.specs.Stage.{StageList, StagesStand, StagesKeep, SameRules, owes}
-use Rattle.stream_task.specs.Task.{TaskLists, Stands, HasCrossed, AtFault}
+use Rattle.task_core.specs.declared.fault.TaskFault.{TaskFault}
+use Rattle.task_core.specs.declared.fault.TaskFault.TheVariants.{ReadFault, WriteFault, Stream, Caps, TooLong, NotLinked, OutOfMemory}
+use Rattle.task_core.specs.declared.stage.Stage.{Stage}
+use Rattle.task_core.specs.declared.task.Task.{Task}
+use Rattle.task_core.specs.Stage.{StageList, StagesStand, StagesKeep, SameRules, owes}
+use Rattle.task_core.specs.Task.{TaskLists, Stands, HasCrossed, AtFault}
 use Rattle.task_net.specs.Net.{NetEnded, NetFaulted, NetCrossed}
 use Rattle.task_net.proofs.Places.{some_same}
 use Rattle.task_net.proofs.Nets.{goes_on_trans, with_lists, lists_same, lists_here, lists_there, net_flows}

@@ -2,7 +2,7 @@
 use Rattle.std.proofs.Common.{◌≡◌, ℕ, List, [], Some, ap, sym, ◌∙◌}
 use Rattle.std.specs.Prelude.{slice_get}
 use Rattle.lane_core.specs.Room.{Limits}
-use Rattle.stream_task.specs.declared.task.Task.{Task}
+use Rattle.task_core.specs.declared.task.Task.{Task}
 use Rattle.task_net.specs.Net.{IsWired}
 use Rattle.task_net.proofs.Places.{none_some}
 

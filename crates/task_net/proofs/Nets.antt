@@ -6,24 +6,24 @@ use Rattle.std.proofs.lemmas.Bool.{cases_eq, false≢true, cond-true, cond-false
 use Rattle.flow_model.specs.Item.{Item}
 use Rattle.lane_core.specs.Lane.{Lane, IsBetween}
 use Rattle.lane_core.specs.Room.{Limits}
-use Rattle.stream_task.specs.declared.fault.TaskFault.{TaskFault}
-use Rattle.stream_task.specs.declared.fault.TaskFault.TheVariants.{ReadFault, WriteFault, Stream, Caps, TooLong, NotLinked, OutOfMemory}
-use Rattle.stream_task.specs.declared.pads.Pad.{Pad}
-use Rattle.stream_task.specs.declared.stage.Stage.{Stage}
-use Rattle.stream_task.specs.declared.step.Step.{Step}
-use Rattle.stream_task.specs.declared.step.Step.TheVariants.{Moved, NeedsItem, NeedsRoom, Ended}
-use Rattle.stream_task.specs.declared.task.Task.{Task}
-use Rattle.stream_task.specs.Stage.{StageList, SameRules, numbers_of, element_at}
-use Rattle.stream_task.specs.Tail.{TailOf, tail_place, tail_limit}
-use Rattle.stream_task.specs.Task.{TaskLists, IsOneMove, moves_of, moved_to, Stands, Goes, Keeps, KeepsTable, IsReady, AtFault, IsTaskCause, Frame, Burns, fuel, head_of, tail_of, stages_of, last_of}
+use Rattle.task_core.specs.declared.fault.TaskFault.{TaskFault}
+use Rattle.task_core.specs.declared.fault.TaskFault.TheVariants.{ReadFault, WriteFault, Stream, Caps, TooLong, NotLinked, OutOfMemory}
+use Rattle.task_core.specs.declared.pads.Pad.{Pad}
+use Rattle.task_core.specs.declared.stage.Stage.{Stage}
+use Rattle.task_core.specs.declared.step.Step.{Step}
+use Rattle.task_core.specs.declared.step.Step.TheVariants.{Moved, NeedsItem, NeedsRoom, Ended}
+use Rattle.task_core.specs.declared.task.Task.{Task}
+use Rattle.task_core.specs.Stage.{StageList, SameRules, numbers_of, element_at}
+use Rattle.task_core.specs.Tail.{TailOf, tail_place, tail_limit}
+use Rattle.task_core.specs.Task.{TaskLists, IsOneMove, moves_of, moved_to, Stands, Goes, Keeps, KeepsTable, IsReady, AtFault, IsTaskCause, Frame, Burns, fuel, head_of, tail_of, stages_of, last_of}
 use Rattle.task_net.specs.Net.{Sends, Takes, IsWired, AllReady, IsLaid, IsPlain, Flows, ArePlain, IsNet, GoesOn, NetGoes, NetRests, NetStepped, NetFaulted, IsNetCause, AllFramed, Burned, has_moved, net_fuel}
 use Rattle.task_net.specs.Turns.{MovesOnce, EachMovesOnce}
 use Rattle.flow_model.proofs.Prefixes.{prefix_by}
-use Rattle.stream_task.specs.declared.head.Head.{Head}
-use Rattle.stream_task.specs.declared.head.Head.TheVariants as heads
-use Rattle.stream_task.specs.declared.tail.Tail.{Tail}
-use Rattle.stream_task.specs.declared.tail.Tail.TheVariants as tails
-use Rattle.stream_task.specs.Head.{HeadLists, HeadGave, HeadIn, head_place}
+use Rattle.task_core.specs.declared.head.Head.{Head}
+use Rattle.task_core.specs.declared.head.Head.TheVariants as heads
+use Rattle.task_core.specs.declared.tail.Tail.{Tail}
+use Rattle.task_core.specs.declared.tail.Tail.TheVariants as tails
+use Rattle.task_core.specs.Head.{HeadLists, HeadGave, HeadIn, head_place}
 use Rattle.task_net.proofs.Closed.{closed_more, first_nil}
 use Rattle.task_net.proofs.Places.{some_same, none_some, set_here, set_there, set_length, some_before, sum_set}
 

@@ -5,9 +5,9 @@ use Rattle.flow_model.specs.Item.{Item}
 use Rattle.el_src.specs.Gave.{has_eos}
 use Rattle.lane_core.specs.Lane.{Lane}
 use Rattle.lane_core.specs.Room.{Limits}
-use Rattle.stream_task.specs.declared.task.Task.{Task}
-use Rattle.stream_task.specs.Head.{head_number}
-use Rattle.stream_task.specs.Task.{TaskLists, head_of}
+use Rattle.task_core.specs.declared.task.Task.{Task}
+use Rattle.task_core.specs.Head.{head_number}
+use Rattle.task_core.specs.Task.{TaskLists, head_of}
 use Rattle.task_net.specs.Net.{Sends, Takes, IsWired, NetEnded, AllFed, AllOver}
 
 module _ {S K I O : Type 0} (content : S → Option (List ℕ)) (bytes : K → Option (List ℕ)) (received : I → List Item → Type 0) (sent : O → List Item → Type 0) (place_in : I → ℕ) (place_out : O → ℕ) (limits : O → Limits)

@@ -12,16 +12,16 @@ use Rattle.el_set.specs.Stands.{Stands as ElementStands}
 use Rattle.task_net.specs.Closed.{IsClosed}
 use Rattle.lane_core.specs.Lane.{Lane}
 use Rattle.lane_core.specs.Room.{Limits}
-use Rattle.stream_task.specs.declared.stage.Stage.{Stage}
-use Rattle.stream_task.specs.declared.step.Step.{Step}
-use Rattle.stream_task.specs.declared.step.Step.TheVariants.{Moved, NeedsItem, NeedsRoom, Ended}
-use Rattle.stream_task.specs.declared.task.Task.{Task}
-use Rattle.stream_task.specs.declared.tail.Tail.{Tail}
-use Rattle.stream_task.specs.declared.tail.Tail.TheVariants as tails
-use Rattle.stream_task.specs.Head.{head_place, head_number}
-use Rattle.stream_task.specs.Tail.{tail_place, tail_number, tail_limit}
-use Rattle.stream_task.specs.Stage.{StageList, StagesStand, AreIdle, owes, put_at, put_last, crossed_at}
-use Rattle.stream_task.specs.Task.{TaskLists, IsFullLane, IsIdle, IsWhy, head_of, tail_of, stages_of}
+use Rattle.task_core.specs.declared.stage.Stage.{Stage}
+use Rattle.task_core.specs.declared.step.Step.{Step}
+use Rattle.task_core.specs.declared.step.Step.TheVariants.{Moved, NeedsItem, NeedsRoom, Ended}
+use Rattle.task_core.specs.declared.task.Task.{Task}
+use Rattle.task_core.specs.declared.tail.Tail.{Tail}
+use Rattle.task_core.specs.declared.tail.Tail.TheVariants as tails
+use Rattle.task_core.specs.Head.{head_place, head_number}
+use Rattle.task_core.specs.Tail.{tail_place, tail_number, tail_limit}
+use Rattle.task_core.specs.Stage.{StageList, StagesStand, AreIdle, owes, put_at, put_last, crossed_at}
+use Rattle.task_core.specs.Task.{TaskLists, IsFullLane, IsIdle, IsWhy, head_of, tail_of, stages_of}
 use Rattle.task_net.specs.Net.{Sends, Takes, IsWired, IsNet, IsWhole, NetEnded, Rests, has_moved}
 use Rattle.task_net.proofs.Closed.{closed_rest, closed_front, first_nil}
 use Rattle.task_net.proofs.Places.{none_some}

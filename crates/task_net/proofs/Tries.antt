@@ -6,9 +6,9 @@ use Rattle.std.proofs.lemmas.Option.{slice_get_within}
 use Rattle.flow_model.specs.Item.{Item}
 use Rattle.lane_core.specs.Lane.{Lane}
 use Rattle.lane_core.specs.Room.{Limits}
-use Rattle.stream_task.specs.declared.fault.TaskFault.{TaskFault}
-use Rattle.stream_task.specs.declared.task.Task.{Task}
-use Rattle.stream_task.specs.Task.{TaskLists}
+use Rattle.task_core.specs.declared.fault.TaskFault.{TaskFault}
+use Rattle.task_core.specs.declared.task.Task.{Task}
+use Rattle.task_core.specs.Task.{TaskLists}
 use Rattle.task_net.specs.Net.{IsWired, IsNet, GoesOn, NetGoes, NetRests, NetStepped, NetAdvanced, NetEnded, NetFaulted, Rests, Burned}
 use Rattle.task_net.proofs.Nets.{some_of, goes_on_same, goes_on_trans}
 use Rattle.task_net.proofs.Stalls.{EosIsPutOut, EosIsLast, net_ended}

@@ -5,7 +5,7 @@ use Rattle.std.proofs.lemmas.Bool.{cond-true, cond-false, eq-eqb, ne_eqb, trueâ‰
 use Rattle.turn_order.specs.declared.order.Order.{Order}
 use Rattle.turn_order.specs.declared.turns.Turns.{Turns}
 use Rattle.turn_order.specs.Turns.{number_of, IsAmong}
-use Rattle.stream_task.specs.declared.task.Task.{Task}
+use Rattle.task_core.specs.declared.task.Task.{Task}
 use Rattle.task_net.specs.Net.{Burned, net_fuel, steps_left}
 use Rattle.task_net.specs.Turns.{EachMovesOnce, ByTurns, begun, turn, tries, RunBy, HasCome, idle_behind}
 

@@ -8,15 +8,15 @@ use Rattle.el_src.specs.Gave.{has_eos}
 use Rattle.task_net.specs.Closed.{IsClosed}
 use Rattle.lane_core.specs.Lane.{Lane, IsBetween}
 use Rattle.lane_core.specs.Room.{Limits}
-use Rattle.stream_task.specs.declared.fault.TaskFault.{TaskFault}
-use Rattle.stream_task.specs.declared.fault.TaskFault.TheVariants.{ReadFault, WriteFault}
-use Rattle.stream_task.specs.declared.step.Step.{Step}
-use Rattle.stream_task.specs.declared.step.Step.TheVariants.{Moved}
-use Rattle.stream_task.specs.declared.task.Task.{Task}
-use Rattle.stream_task.specs.Head.{head_faults, head_number, head_place}
-use Rattle.stream_task.specs.Stage.{SameRules, crossed_at, put_at, element_at}
-use Rattle.stream_task.specs.Tail.{tail_element, tail_faults, tail_limit, tail_place}
-use Rattle.stream_task.specs.Task.{TaskLists, Stands, HasCrossed, AtFault, IsReady, IsIdle, IsWhy, Frame, fuel, head_of, tail_of, stages_of, last_of}
+use Rattle.task_core.specs.declared.fault.TaskFault.{TaskFault}
+use Rattle.task_core.specs.declared.fault.TaskFault.TheVariants.{ReadFault, WriteFault}
+use Rattle.task_core.specs.declared.step.Step.{Step}
+use Rattle.task_core.specs.declared.step.Step.TheVariants.{Moved}
+use Rattle.task_core.specs.declared.task.Task.{Task}
+use Rattle.task_core.specs.Head.{head_faults, head_number, head_place}
+use Rattle.task_core.specs.Stage.{SameRules, crossed_at, put_at, element_at}
+use Rattle.task_core.specs.Tail.{tail_element, tail_faults, tail_limit, tail_place}
+use Rattle.task_core.specs.Task.{TaskLists, Stands, HasCrossed, AtFault, IsReady, IsIdle, IsWhy, Frame, fuel, head_of, tail_of, stages_of, last_of}
 
 -- task s sends into lane n
 abbrev pub Sends : {S K I O : Type 0} → (O → ℕ) → List (Task S K I O) → ℕ → ℕ → Type 0

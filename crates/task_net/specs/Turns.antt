@@ -3,8 +3,8 @@ use Rattle.std.specs.Prelude.{◌≡◌, ◌≢◌, ◌<◌, ◌≤◌, ◌==◌
 use Rattle.turn_order.specs.declared.order.Order.{Order}
 use Rattle.turn_order.specs.declared.turns.Turns.{Turns}
 use Rattle.turn_order.specs.Turns.{number_of, IsAmong}
-use Rattle.stream_task.specs.declared.task.Task.{Task}
-use Rattle.stream_task.specs.Task.{moves_of}
+use Rattle.task_core.specs.declared.task.Task.{Task}
+use Rattle.task_core.specs.Task.{moves_of}
 use Rattle.task_net.specs.Net.{net_fuel}
 
 -- how many turns in a row moved nothing, behind one more

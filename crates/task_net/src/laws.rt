@@ -1,7 +1,7 @@
 //! Laws of nets. Each function does nothing: its contract is the law.
 ghost use Rattle.std.specs.Prelude.{◌≡◌, ◌<◌, ℕ, IsSome, length};
-ghost use Rattle.stream_task.specs.declared.fault.TaskFault.{TaskFault as Fault};
-ghost use Rattle.stream_task.specs.Task.{TaskLists};
+ghost use Rattle.task_core.specs.declared.fault.TaskFault.{TaskFault as Fault};
+ghost use Rattle.task_core.specs.Task.{TaskLists};
 ghost use Rattle.task_net.specs.Net.{IsWired, NetEnded, NetFaulted, NetCrossed, AllFed, AllOver};
 
 use gst_outside::{Sink, Source};

@@ -2,7 +2,7 @@
 ghost use Rattle.std.specs.Prelude.{◌≡◌, ◌≢◌, ◌<◌, ◌≤◌, ◌+◌, ◌%◌, ℕ, true, Some, Ok, length, slice_get, IfOk, IfErr, OnOk, OnErr, IsSome, if◌then◌else◌};
 ghost use Rattle.turn_order.specs.declared.order.Order.{Order};
 ghost use Rattle.turn_order.specs.Turns.{IsAmong};
-ghost use Rattle.stream_task.specs.Task.{TaskLists};
+ghost use Rattle.task_core.specs.Task.{TaskLists};
 ghost use Rattle.task_net.specs.Net.{AllReady, IsWired, IsNet, IsNetCause, NetEnded, NetFaulted, NetStepped, NetAdvanced, AllFramed, Burned, net_fuel, steps_left, has_moved as step_moved};
 ghost use Rattle.task_net.specs.Turns.{EachMovesOnce, HasCome, RunBy};
 
@@ -11,7 +11,7 @@ use el_set::laws::put_has_eos;
 use gst_outside::{Sink, Source};
 use lane_core::{Inlet, Outlet};
 use std::alloc::Global;
-use stream_task::{Step, Task, TaskFault};
+use task_core::{Step, Task, TaskFault};
 use turn_order::Turns;
 
 /// How many turns in a row move nothing before each task is tried.

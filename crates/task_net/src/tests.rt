@@ -5,7 +5,7 @@ use gst_outside::{MemSink, MemSource};
 use lane_core::{MemInlet, MemLanes, MemOutlet};
 use std::process::Abort;
 use std::test::Fail;
-use stream_task::Task;
+use task_core::Task;
 use turn_order::{Order, Turns};
 
 #[test]

@@ -1,8 +1,8 @@
 use Rattle.std.proofs.Common.{ap, ◌∙◌}
 use Rattle.std.proofs.Common.{List, map}
 use Rattle.std.specs.Prelude.{slice_set}
-use Rattle.stream_task.specs.declared.pads.Pad.{Pad}
-use Rattle.stream_task.specs.declared.stage.Stage.{Stage}
+use Rattle.task_core.specs.declared.pads.Pad.{Pad}
+use Rattle.task_core.specs.declared.stage.Stage.{Stage}
 use Rattle.line_net.specs.Pads.{pad_of, with_pads}
 use Rattle.line_net.proofs.Puts.{task_put}
 use Rattle.line_net.proofs.pads.put_pads.Goals as goal

@@ -1,6 +1,6 @@
 use Rattle.std.proofs.Common.{ap, ◌∙◌}
 use Rattle.std.specs.Prelude.{slice_set}
-use Rattle.stream_task.specs.declared.pads.Pad.{Pad}
+use Rattle.task_core.specs.declared.pads.Pad.{Pad}
 use Rattle.line_net.proofs.Puts.{stage_put}
 use Rattle.line_net.proofs.pads.put_stages.Goals as goal
 

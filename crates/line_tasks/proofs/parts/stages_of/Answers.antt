@@ -4,7 +4,7 @@ use Rattle.el_set.specs.Stands.{Stands}
 use Rattle.el_set.specs.declared.filter.FilterElement.{FilterElement}
 use Rattle.graph_core.specs.Graph.{made as made_in}
 use Rattle.graph_ways.specs.Ways.{has}
-use Rattle.stream_task.specs.declared.stage.Stage.{Stage}
+use Rattle.task_core.specs.declared.stage.Stage.{Stage}
 use Rattle.line_tasks.specs.Parts.{AreFilters, AreStages, IsFilterAt, rule_at}
 use Rattle.line_tasks.proofs.Stages.{last_taken, no_stages, stages_taken}
 use Rattle.line_tasks.proofs.parts.stages_of.Goals as goal

@@ -1,7 +1,7 @@
 use Rattle.std.proofs.Common.{◌≡◌, ◌≤◌, ◌<◌, ℕ, length}
 use Rattle.turn_order.specs.declared.order.Order.{Order}
 use Rattle.turn_order.specs.Turns.{IsAmong}
-use Rattle.stream_task.specs.Task.{TaskLists}
+use Rattle.task_core.specs.Task.{TaskLists}
 use Rattle.task_net.specs.Net.{AllReady, IsWired, IsNet, NetGoes, AllFramed, net_fuel, steps_left}
 use Rattle.task_net.specs.Turns.{HasCome}
 use Rattle.task_net.proofs.net.run_tasks.Given as goal

@@ -1,7 +1,7 @@
 use Rattle.std.proofs.Common.{subst, sym}
 use Rattle.std.specs.Prelude.{slice_set}
 use Rattle.std.proofs.lemmas.Option.{slice_get-get_or}
-use Rattle.stream_task.specs.declared.task.Task.{Task}
+use Rattle.task_core.specs.declared.task.Task.{Task}
 use Rattle.task_net.specs.Net.{IsNetCause}
 use Rattle.task_net.proofs.Places.{set_here, set_there, set_length}
 use Rattle.task_net.proofs.Nets.{framed_set, wired_framed, ready_set, net_stepped, net_faulted, net_burned, net_cause, moves_once, once_set}

@@ -1,6 +1,6 @@
 use Rattle.std.proofs.Common.{◌≡◌, ◌<◌, ◌≤◌, ℕ, length}
 use Rattle.std.specs.Prelude.{slice_get}
-use Rattle.stream_task.specs.Task.{TaskLists}
+use Rattle.task_core.specs.Task.{TaskLists}
 use Rattle.task_net.specs.Net.{AllReady, IsWired, IsNet, NetStepped, AllFramed, Burned, net_fuel}
 use Rattle.task_net.specs.Turns.{EachMovesOnce}
 use Rattle.task_net.proofs.net.try_each.Given as goal

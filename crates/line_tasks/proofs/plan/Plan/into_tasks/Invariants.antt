@@ -3,7 +3,7 @@ use Rattle.std.specs.Prelude.{vec_capacity, vec_len}
 use Rattle.std.specs.VecDeque.{deque_len}
 use Rattle.graph_core.specs.Graph.{made}
 use Rattle.run_files.specs.declared.end.End.{End}
-use Rattle.stream_task.specs.declared.task.Task.{Task}
+use Rattle.task_core.specs.declared.task.Task.{Task}
 use Rattle.line_tasks.specs.Making.{AreMade}
 use Rattle.line_tasks.specs.Plan.{parts_in}
 use Rattle.line_tasks.proofs.plan.Plan.into_tasks.Given as goal

@@ -1,8 +1,0 @@
-use Rattle.graph_core.specs.Graph.{made}
-use Rattle.line_world.specs.Told.{pad_told}
-use Rattle.line_world.proofs.Choosing.{chosen_next}
-use Rattle.line_world.proofs.report.counts_of.Goals as goal
-
-pub loop-element-preserved : goal.loop-element-preserved
-loop-element-preserved c =
-    chosen_next (pad_told (made c.args.graph.now) c.args.pads.now) c.loop-element.element c.in_ok-count_at.field-0 c.loop-element.counts c.push_some.new.list c.in_ok-count_at.ensures c.loop-element.invariant c.in_ok-push_some.ensures

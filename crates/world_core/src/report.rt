@@ -1,0 +1,269 @@
+//! The report of a run.
+ghost use Rattle.std.specs.Prelude.{◌≡◌, ◌<◌, ◌++◌, [], IfOk, OnOk, length};
+ghost use Rattle.std.specs.List.{cons_option};
+ghost use Rattle.graph_core.specs.Ends.{name_at};
+ghost use Rattle.graph_core.specs.Graph.{made as made_in};
+ghost use Rattle.line_start.specs.Start.{writes};
+ghost use Rattle.world_core.specs.Ran.{TellsEnd, stop_fault, stop_status};
+ghost use Rattle.world_core.specs.Told.{location_named, pad_told, pads_told, sink_told, sinks_told, source_pad, task_fault, task_status};
+
+use crate::ended::WorldEnd;
+use el_set::Settings;
+use graph_core::{Graph, PadPlace};
+use gst_caps::{List, OutOfMemory, PadName, Text};
+use run_report::{Fault, PadCount, Report, SinkCount};
+use std::alloc::Global;
+use task_core::{Pad, TaskFault};
+
+/// The name of an element, and no name where it is not there.
+fn name_of(alloc: Global, graph: &Graph, element: u32) -> Result<Text, OutOfMemory>
+    ensures { IfOk result (λ name. name ≡ name_at (made_in graph.now) element) }
+{
+    match graph.name(element) {
+        Some(name) => Text::from_str(alloc, name),
+        None => Ok(Text::new(alloc)),
+    }
+}
+
+/// The location of an element's file, and none where it opens none.
+fn location_of(alloc: Global, graph: &Graph, element: u32) -> Result<Text, OutOfMemory>
+    ensures { IfOk result (λ location. location ≡ location_named (made_in graph.now) element) }
+{
+    if element >= graph.count() {
+        return Ok(Text::new(alloc));
+    }
+    match graph.settings(element).location() {
+        Some(location) => Text::from_str(alloc, location),
+        None => Ok(Text::new(alloc)),
+    }
+}
+
+/// The name of an element's source pad.
+fn pad_of(alloc: Global, graph: &Graph, element: u32) -> Result<PadName, OutOfMemory>
+    ensures { IfOk result (λ name. name ≡ source_pad (made_in graph.now) element) }
+{
+    Ok(PadName {
+        element: name_of(alloc, graph, element)?,
+        pad: Text::from_str(alloc, "src")?,
+    })
+}
+
+/// The fault of a task, as a report tells it.
+fn fault_of(alloc: Global, graph: &Graph, fault: TaskFault) -> Result<Fault, OutOfMemory>
+    ensures { IfOk result (λ told. told ≡ task_fault (made_in graph.now) fault) }
+{
+    match fault {
+        TaskFault::ReadFault {
+            element,
+            before,
+            after,
+        } => Ok(Fault::ReadFault {
+            location: location_of(alloc, graph, element)?,
+            before,
+            after,
+        }),
+        TaskFault::WriteFault {
+            element,
+            before,
+            after,
+        } => Ok(Fault::WriteFault {
+            location: location_of(alloc, graph, element)?,
+            before,
+            after,
+        }),
+        TaskFault::Stream {
+            element,
+            place,
+            kind,
+        } => Ok(Fault::BadStream {
+            element: name_of(alloc, graph, element)?,
+            place,
+            kind,
+        }),
+        TaskFault::Caps {
+            element,
+            offered,
+            wanted,
+        } => Ok(Fault::NotNegotiated {
+            element: name_of(alloc, graph, element)?,
+            offered,
+            wanted,
+        }),
+        TaskFault::TooLong { element, a, b } => Ok(Fault::TooLong {
+            element: name_of(alloc, graph, element)?,
+            a,
+            b,
+        }),
+        TaskFault::NotLinked { element, place } => Ok(Fault::NotLinked {
+            pad: pad_of(alloc, graph, element)?,
+            place,
+        }),
+        TaskFault::OutOfMemory => Ok(Fault::Nothing),
+    }
+}
+
+/// The status of the fault of a task.
+fn status_of(fault: &TaskFault) -> u8
+    ensures { result ≡ task_status fault.now }
+{
+    match fault {
+        TaskFault::ReadFault { .. } => 7,
+        TaskFault::WriteFault { .. } => 8,
+        TaskFault::Stream { .. } => 9,
+        TaskFault::Caps { .. } => 10,
+        TaskFault::NotLinked { .. } => 11,
+        TaskFault::OutOfMemory => 13,
+        TaskFault::TooLong { .. } => 15,
+    }
+}
+
+/// Puts a value at the end of a list, where there is one.
+fn push_some<T: Drop>(
+    alloc: Global,
+    list: &mut List<T>,
+    value: Option<T>,
+) -> Result<(), OutOfMemory>
+    ensures { OnOk result (list.new ≡ list.old ++ cons_option value []) }
+{
+    match value {
+        Some(value) => list.push(alloc, value),
+        None => Ok(()),
+    }
+}
+
+/// What the source pad of an element has counted, where it has one.
+fn count_at(
+    alloc: Global,
+    graph: &Graph,
+    pads: &[Pad],
+    element: u32,
+) -> Result<Option<PadCount>, OutOfMemory>
+    requires { element < length (made_in graph.now) }
+    ensures { IfOk result (λ count. count ≡ pad_told (made_in graph.now) pads.now element) }
+{
+    if graph.settings(element).is_sink() {
+        return Ok(None);
+    }
+    match pads.get(element as usize) {
+        Some(pad) => Ok(Some(PadCount {
+            pad: pad_of(alloc, graph, element)?,
+            items: pad.items,
+            buffers: pad.buffers,
+        })),
+        None => Ok(None),
+    }
+}
+
+/// What the source pads of all elements have counted, in their order.
+fn counts_of(alloc: Global, graph: &Graph, pads: &[Pad]) -> Result<List<PadCount>, OutOfMemory>
+    ensures { IfOk result (λ counts. counts ≡ pads_told (made_in graph.now) pads.now) }
+{
+    let mut counts = List::new(alloc);
+    for element in 0..graph.count() {
+        push_some(alloc, &mut counts, count_at(alloc, graph, pads, element)?)?;
+    }
+    Ok(counts)
+}
+
+/// Whether the element writes a file.
+fn writes_file(settings: &Settings) -> bool
+    ensures { result ≡ writes settings.now }
+{
+    settings.is_sink() && settings.location().is_some()
+}
+
+/// The length of the file of an element, where it writes one.
+fn length_at(
+    alloc: Global,
+    graph: &Graph,
+    lengths: &[u64],
+    element: u32,
+) -> Result<Option<SinkCount>, OutOfMemory>
+    requires { element < length (made_in graph.now) }
+    ensures { IfOk result (λ count. count ≡ sink_told (made_in graph.now) lengths.now element) }
+{
+    if !writes_file(graph.settings(element)) {
+        return Ok(None);
+    }
+    match lengths.get(element as usize) {
+        Some(bytes) => Ok(Some(SinkCount {
+            name: name_of(alloc, graph, element)?,
+            bytes: *bytes,
+        })),
+        None => Ok(None),
+    }
+}
+
+/// The lengths of the files of all filesinks, in their order.
+fn lengths_of(alloc: Global, graph: &Graph, lengths: &[u64]) -> Result<List<SinkCount>, OutOfMemory>
+    ensures { IfOk result (λ counts. counts ≡ sinks_told (made_in graph.now) lengths.now) }
+{
+    let mut counts = List::new(alloc);
+    for element in 0..graph.count() {
+        push_some(
+            alloc,
+            &mut counts,
+            length_at(alloc, graph, lengths, element)?,
+        )?;
+    }
+    Ok(counts)
+}
+
+/// The status and the fault of a run, by the fault at which its tasks stopped.
+fn stop_told(
+    alloc: Global,
+    graph: &Graph,
+    stop: Option<TaskFault>,
+) -> Result<(u8, Fault), OutOfMemory>
+    ensures { IfOk result (λ told. (told.0 ≡ stop_status stop) × (told.1 ≡ stop_fault (made_in graph.now) stop)) }
+{
+    match stop {
+        None => Ok((0, Fault::Nothing)),
+        Some(fault) => {
+            let status = status_of(&fault);
+            Ok((status, fault_of(alloc, graph, fault)?))
+        }
+    }
+}
+
+/// How a run ended, by the fault at which its tasks stopped, the counts of the source pads of its elements and the
+/// lengths of their files, in bytes, in the order of the elements.
+pub(crate) fn end_of(
+    alloc: Global,
+    graph: &Graph,
+    stop: Option<TaskFault>,
+    pads: &[Pad],
+    lengths: &[u64],
+) -> Result<WorldEnd, OutOfMemory>
+    ensures { IfOk result (TellsEnd (made_in graph.now) stop pads.now lengths.now) }
+{
+    let (status, fault) = stop_told(alloc, graph, stop)?;
+    Ok(WorldEnd {
+        status,
+        report: Report {
+            entries: List::new(alloc),
+            pads: counts_of(alloc, graph, pads)?,
+            sinks: lengths_of(alloc, graph, lengths)?,
+            fault,
+        },
+    })
+}
+
+/// The end of a run that did not begin, or that found no memory.
+pub(crate) fn without_counts(alloc: Global, status: u8, fault: Fault) -> WorldEnd
+    ensures status { result.status ≡ status }
+    ensures fault { result.report.fault ≡ fault }
+    ensures entries { result.report.entries ≡ [] }
+    ensures pads { result.report.pads ≡ [] }
+    ensures sinks { result.report.sinks ≡ [] }
+{
+    WorldEnd {
+        status,
+        report: Report {
+            entries: List::new(alloc),
+            pads: List::new(alloc),
+            sinks: List::new(alloc),
+            fault,
+        },
+    }
+}
