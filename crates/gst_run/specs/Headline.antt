@@ -39,6 +39,10 @@ pub record ReportsRun (words : List (List ℕ)) (before after : Seen) (end : Wor
 abbrev pub IsReported : List (List ℕ) → Seen → Seen → WorldEnd → Type 0
 IsReported words before after end = ReportsRefusal words before after end ⊎ ReportsRun words before after end
 
+-- the words ask for no run, or for one that went so
+abbrev pub HasGone : List (List ℕ) → (Request → Type 0) → Type 0
+HasGone words Went = ((refusal : Refusal) × IsRefusal words refusal) ⊎ ((request : Request) × IsRequest words request × Went request)
+
 -- no filesink of a line that the words ask for writes this location
 abbrev pub IsUntouched : List (List ℕ) → List ℕ → Type 0
 IsUntouched words location = (request : Request) → IsRequest words request → IsUnwritten request.graph location

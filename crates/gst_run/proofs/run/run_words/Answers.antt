@@ -1,4 +1,4 @@
-use Rattle.std.proofs.Common.{false, inr, map}
+use Rattle.std.proofs.Common.{false, inl, inr, map}
 use Rattle.std.specs.String.{string_bytes}
 use Rattle.gst_run.specs.Headline.{is_quiet}
 use Rattle.gst_run.proofs.Quiet.{nothing_left_out}
@@ -10,3 +10,9 @@ returns-in-Ok-clause-reported g c = λ found. inr (record { request = c.in-Ok.re
 pub returns-in-Err-clause-text : goal.returns-in-Err-clause-text
 returns-in-Err-clause-text g c =
     nothing_left_out c.not_begun.result.status false (is_quiet (map string_bytes c.args.words.now)) c.not_begun.result.report c.not_begun.ensures.entries c.not_begun.ensures.pads c.not_begun.ensures.sinks
+
+pub returns-in-Ok-clause-turned : goal.returns-in-Ok-clause-turned
+returns-in-Ok-clause-turned g c = λ found began. inr (c.in-Ok.request, c.in-Ok.ensures.request, c.run_turns.ensures.turned found began)
+
+pub returns-in-Err-clause-turned : goal.returns-in-Err-clause-turned
+returns-in-Err-clause-turned g c = λ found began. inl (c.in-Err.refusal, c.in-Err.ensures.refusal)
