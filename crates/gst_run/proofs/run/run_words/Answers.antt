@@ -1,4 +1,4 @@
-use Rattle.std.proofs.Common.{false, inl, inr, map}
+use Rattle.std.proofs.Common.{false, inl, inr, map, ◌∙◌}
 use Rattle.std.specs.String.{string_bytes}
 use Rattle.gst_run.specs.Headline.{is_quiet}
 use Rattle.gst_run.proofs.Quiet.{nothing_left_out}
@@ -15,4 +15,4 @@ pub returns-in-Ok-clause-turned : goal.returns-in-Ok-clause-turned
 returns-in-Ok-clause-turned g c = λ found began. inr (c.in-Ok.request, c.in-Ok.ensures.request, c.run_turns.ensures.turned found began)
 
 pub returns-in-Err-clause-turned : goal.returns-in-Err-clause-turned
-returns-in-Err-clause-turned g c = λ found began. inl (c.in-Err.refusal, c.in-Err.ensures.refusal)
+returns-in-Err-clause-turned g c = λ found began. inl (c.in-Err.refusal, c.in-Err.ensures.refusal (λ wanting. found (c.not_begun.ensures.status ∙ wanting)))
