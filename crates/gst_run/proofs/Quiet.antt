@@ -2,7 +2,7 @@
 use Rattle.std.proofs.Common.{◌≡◌, ◌≢◌, ◌⊎◌, ◌==◌, ℕ, Bool, true, false, List, [], ◌++◌, if◌then◌else◌, refl, sym, ap, ◌∙◌, subst, inl, inr, eqb}
 use Rattle.std.proofs.lemmas.Bool.Decides.{eqb_tells}
 use Rattle.world_core.specs.declared.ended.WorldEnd.{WorldEnd}
-use Rattle.run_report.specs.CountLines.{count_lines, entry_lines, pad_line, sink_line}
+use Rattle.run_report.specs.CountLines.{count_lines}
 use Rattle.run_report.specs.FaultLines.{cause_lines}
 use Rattle.run_report.specs.ReportText.{report_lines, status_line}
 use Rattle.run_report.specs.declared.report.Report.{Report}

@@ -1,5 +1,5 @@
-use Rattle.std.proofs.Common.{arith, length, take, drop, ◌-◌, ◌≤◌}
-use Rattle.gst_run.proofs.Writes.{write_more, wrote_nothing}
+use Rattle.std.proofs.Common.{arith}
+use Rattle.gst_run.proofs.Writes.{write_more}
 use Rattle.gst_run.proofs.run.write_text.Goals as goal
 
 pub loop-done-preserved : goal.loop-done-preserved
