@@ -6,19 +6,48 @@ mod outcome;
 mod run;
 
 use gst_outside::{HostClock, HostFiles, OpenGate, OutSink};
+use run::Untaken;
+use std::alloc::Global;
+use std::io::ErrorKind;
 use std::process::ExitCode;
 use std::{env, io};
 
+/// Why the words could not be taken, by the error of the system.
+fn untaken(error: &io::Error) -> Untaken {
+    match error.kind() {
+        ErrorKind::InvalidData => Untaken::NotText,
+        _ => Untaken::OutOfMemory,
+    }
+}
+
+/// The words behind the program's name.
+fn program_words(rt: &HostRuntime, alloc: Global) -> Result<Vec<String>, Untaken> {
+    let args = match env::args(rt) {
+        Ok(args) => args,
+        Err(error) => return Err(untaken(&error)),
+    };
+    let mut words = Vec::new(alloc);
+    for word in args.skip(1) {
+        if words.push(word).is_err() {
+            return Err(Untaken::OutOfMemory);
+        }
+    }
+    Ok(words)
+}
+
 fn main(rt: HostRuntime) -> io::Result<ExitCode> {
     let alloc = rt.alloc();
-    let mut words = Vec::new(alloc);
-    for word in env::args(&rt)?.skip(1) {
-        words.push(word)?;
-    }
+    let mut out = OutSink::new(rt.stdout());
+    let words = match program_words(&rt, alloc) {
+        Ok(words) => words,
+        Err(untaken) => {
+            let outcome = run::refuse(alloc, untaken, &mut out);
+            return Ok(ExitCode::from(outcome.status));
+        }
+    };
     let mut files = HostFiles::new(rt.clone()?);
     let mut clock = HostClock::new(rt.clone()?);
     let gate = OpenGate;
-    let mut out = OutSink::new(rt.stdout());
     let outcome = run::run(
         &rt,
         alloc,

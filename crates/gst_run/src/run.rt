@@ -1,10 +1,12 @@
 //! The top call.
-ghost use Rattle.std.specs.Prelude.{◌≡◌, ◌≢◌, ◌<◌, ◌⊎◌, ◌^◌, ℕ, Bool, List, [], map, string_bytes, OnOk, OnErr};
+ghost use Rattle.std.specs.Prelude.{◌≡◌, ◌≢◌, ◌<◌, ◌⊎◌, ◌^◌, ℕ, Bool, false, List, [], map, string_bytes, OnOk, OnErr};
 ghost use Rattle.gst_outside.specs.Causes.{Rose};
 ghost use Rattle.run_files.specs.Seen.{Seen, seen};
 ghost use Rattle.run_report.specs.ReportText.{report_lines};
 ghost use Rattle.turn_order.specs.declared.order.Order.TheVariants as orders;
 ghost use Rattle.world_core.specs.Turned.{RanByTurns};
+ghost use Rattle.run_report.specs.declared.report.Fault.TheVariants as faults;
+ghost use Rattle.gst_run.specs.declared.run.Untaken.TheVariants.{NotText};
 ghost use Rattle.gst_run.specs.Headline.{HasGone, IsReported, IsUntouched, Wrote, WrotePart, is_quiet, world_end};
 
 use crate::outcome::{Outcome, report_text};
@@ -12,12 +14,14 @@ use gst_caps::{List, OutOfMemory};
 use gst_outside::{Clock, Failed, Files, Sink, TaskGate};
 use lane_core::{Inlet, MemInlet, MemOutlet, Outlet};
 use line_read::{Refusal, read_request};
-use run_report::{Report, no_memory};
+use run_report::{Fault, Report, no_memory};
 use std::alloc::Global;
 use std::sync::Wait;
 use std::thread::Threads;
 use turn_order::Order;
 use world_core::{WorldEnd, run_turns};
+
+const BAD_WORDS: u8 = 1;
 
 const OUT_OF_MEMORY: u8 = 13;
 
@@ -137,6 +141,46 @@ fn tell<O: Sink>(alloc: Global, ended: Ended, out: &mut O) -> Outcome
             outcome
         }
     }
+}
+
+/// Why a program's words could not be taken from the system.
+pub enum Untaken {
+    /// One of them is no text in UTF-8.
+    NotText,
+    /// There is no memory for them.
+    OutOfMemory,
+}
+
+/// What words that could not be taken are refused with: such words are none that the command takes.
+fn untaken_refusal(untaken: Untaken) -> Refusal
+    ensures text { untaken ≡ NotText → (result.status ≡ 1) × (result.fault ≡ faults.Words) }
+    ensures memory { untaken ≢ NotText → result.status ≡ 13 }
+{
+    match untaken {
+        Untaken::NotText => Refusal {
+            status: BAD_WORDS,
+            fault: Fault::Words,
+        },
+        Untaken::OutOfMemory => Refusal {
+            status: OUT_OF_MEMORY,
+            fault: Fault::Nothing,
+        },
+    }
+}
+
+/// Writes the report of a call whose words could not be taken: that of words that the command does not take, or that of
+/// want of memory.
+pub fn refuse<O: Sink>(alloc: Global, untaken: Untaken, out: &mut O) -> Outcome
+    ensures refused { result.reported ≢ 13 → (untaken ≡ NotText) × (result.reported ≡ 1) × (result.report.fault ≡ faults.Words) }
+    ensures counts { result.reported ≢ 13 → (result.report.entries ≡ []) × (result.report.pads ≡ []) × (result.report.sinks ≡ []) }
+    ensures status { (result.status ≡ result.reported) ⊎ ((result.status ≡ 14) × Rose result.out_before result.out_after) }
+    ensures before { result.out_before ≡ O.faults out.old }
+    ensures after { result.out_after ≡ O.faults out.new }
+    ensures text { result.status ≢ 14 → Wrote (report_lines result.reported false result.report) (O.bytes out.old) (O.bytes out.new) }
+    ensures text_part { result.status ≡ 14 → WrotePart (report_lines result.reported false result.report) (O.bytes out.old) (O.bytes out.new) }
+{
+    let end = not_begun(alloc, untaken_refusal(untaken));
+    tell(alloc, Ended { end, quiet: false }, out)
 }
 
 /// Runs the launch line that the words spell, and writes its report to `out`.

@@ -19,8 +19,8 @@ use Rattle.world_core.specs.declared.ended.WorldEnd.{WorldEnd}
 abbrev pub IsOfLine : Graph → Type 0
 IsOfLine graph = (tree : Tree) × IsGraph tree graph
 
--- A location of an element could not be opened, and the run did not begin: what the elements before it opened was given
--- back, and of what they write nothing stands.
+-- A location of an element could not be opened, and no other one was refused; the run did not begin. What the elements before
+-- it opened was given back, and of what they write nothing stands.
 pub record RunUnopened (graph : Graph) (before after : Seen) (end : WorldEnd) : Type 0 where
   pub status : end.status ≡ 6
   pub e : ℕ
@@ -29,8 +29,7 @@ pub record RunUnopened (graph : Graph) (before after : Seen) (end : WorldEnd) : 
   pub opening : Opening
   pub opens : opening_of element.settings ≡ Some opening
   pub fault : end.report.fault ≡ OpenFault (location_of opening)
-  pub rose : Rose before.faults after.faults
-  pub refused : ToldRose (before.refused_of (location_of opening)) (after.refused_of (location_of opening))
+  pub refuses : Refuses opening before after
   pub back : GivesBack (take e (map made_opening (made_in graph))) before after
   pub entries : end.report.entries ≡ []
   pub pads : end.report.pads ≡ []
