@@ -320,7 +320,7 @@ last_push [] x = refl
 last_push (y ∷ []) x = refl
 last_push (y ∷ z ∷ zs) x = last_push (z ∷ zs) x
 
-last_map : {A B : Type 0} (f : A → B) (xs : List A) → last_of (map f xs) ≡ map f (last_of xs)
+pub last_map : {A B : Type 0} (f : A → B) (xs : List A) → last_of (map f xs) ≡ map f (last_of xs)
 last_map f [] = refl
 last_map f (x ∷ []) = refl
 last_map f (x ∷ y ∷ ys) = last_map f (y ∷ ys)

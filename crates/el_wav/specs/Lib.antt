@@ -1,8 +1,10 @@
 pub mod WavParse
+pub mod WavParseAppends
 pub mod WavParseData
 pub mod WavParseGathered
 pub mod WavParseHeads
 pub mod WavParseParts
+pub mod WavParsePuts
 pub mod WavParseRule
 pub mod WavParseSteps
 pub mod WavParseTold

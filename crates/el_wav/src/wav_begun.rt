@@ -1,5 +1,5 @@
 //! From the bytes of a head to the data behind it.
-ghost use Rattle.std.specs.Prelude.{◌≡◌, ◌++◌, ℕ, List, drop, IfOk, IfErr, OnErr};
+ghost use Rattle.std.specs.Prelude.{◌≡◌, ◌++◌, ℕ, List, drop, IfOk, IfErr, OnOk, OnErr};
 ghost use Rattle.flow_model.specs.Call.{Call};
 ghost use Rattle.flow_model.specs.Feeding.{IsFaultOf};
 ghost use Rattle.wav_format.specs.Gathered.{bytes_of};
@@ -7,6 +7,7 @@ ghost use Rattle.wav_format.specs.Format.{AreBytes};
 ghost use Rattle.el_wav.specs.WavParseHeads.{Told, ReadsHeads, stream_kind};
 ghost use Rattle.el_wav.specs.WavParseGathered.{gathered as gathered_bytes, IsSound};
 ghost use Rattle.el_wav.specs.WavParseSteps.{BeganData, IsBeginFault, ReadOn, head_owed};
+ghost use Rattle.el_wav.specs.WavParseAppends.{Appends};
 
 use crate::wav_data::{KnownHead, body_item, cut_data, left_of};
 use crate::wav_gathered::Gathered;
@@ -30,6 +31,7 @@ pub(crate) fn read_on(
     out: &mut Outs,
 ) -> Result<Option<Begun>, ElementFault>
     ensures read { IfOk result (λ begun. (read : List ℕ → Told) → ReadsHeads read → IsSound gathered.old → ReadOn read (gathered_bytes gathered.old ++ body.now) gathered.new out.old out.new begun) }
+    ensures appends { OnOk result (Appends out.old out.new) }
     ensures bytes { OnErr result (IsSound gathered.old → gathered_bytes gathered.new ≡ gathered_bytes gathered.old) }
     ensures sound { OnErr result (IsSound gathered.old → IsSound gathered.new) }
     ensures out { OnErr result (out.new ≡ out.old) }
@@ -57,6 +59,7 @@ pub(crate) fn read_on(
 /// Gives the parser of the data behind a head the first bytes there.
 fn begin_data(alloc: Global, head: Head, first: Body, out: &mut Outs) -> Result<Begun, ElementFault>
     ensures begun { IfOk result (λ begun. (bytes : List ℕ) → first ≡ drop head.start bytes → BeganData head bytes begun out.old out.new) }
+    ensures appends { OnOk result (Appends out.old out.new) }
     ensures out { OnErr result (out.new ≡ out.old) }
     ensures fault { IfErr result (λ fault. (bytes : List ℕ) → first ≡ drop head.start bytes → IsBeginFault head bytes fault) }
 {

@@ -10,6 +10,7 @@ ghost use Rattle.el_parse.specs.Frames.{frame_width};
 ghost use Rattle.el_wav.specs.WavParseHeads.{coding, pcm, IsFormatOf, HeadFits};
 ghost use Rattle.el_wav.specs.WavParseParts.{Known};
 ghost use Rattle.el_wav.specs.WavParseRule.{within, left_of, body_item};
+ghost use Rattle.el_wav.specs.WavParseAppends.{Appends};
 
 use audio_info::{Info, LARGEST_RATE, MOST_CHANNELS, Sample};
 use el_parse::RawParse;
@@ -85,6 +86,7 @@ impl KnownHead {
         requires { is_flush_stop item ≡ false }
         ensures fed { IfOk result (λ done. (k : Known) (calls : List Call) → IsKnown k calls self.old
             → (ys : List Item) × (next_owed (parses_raw k.info) calls item ≡ Ok ys) × (out.new ≡ out.old ++ on_pad 0 ys) × IsKnown k (calls ++ Feed item ∷ []) self.new) }
+        ensures appends { OnOk result (Appends out.old out.new) }
         ensures head { self.new.head ≡ self.old.head }
         ensures info { self.new.info ≡ self.old.info }
         ensures stays { OnErr result ((self.new ≡ self.old) × (out.new ≡ out.old)) }

@@ -8,6 +8,7 @@ ghost use Rattle.el_wav.specs.WavParseHeads.{Told, ReadsHeads};
 ghost use Rattle.el_wav.specs.WavParseParts.{Known, Part, Standing, goes_on, place_at};
 ghost use Rattle.el_wav.specs.WavParseRule.{answer, left_of, within, body_item};
 ghost use Rattle.el_parse.specs.Parses.{parses as parses_raw};
+ghost use Rattle.el_wav.specs.WavParseAppends.{Appends};
 ghost use Rattle.el_wav.specs.WavParsed.{KnowsHead};
 ghost use Rattle.wav_format.specs.Chunks.{BeginsWithHead};
 ghost use Rattle.wav_format.specs.Format.{AreBytes};
@@ -48,6 +49,7 @@ pub struct WavParse {
 
 impl WavParse {
     ghost use Rattle.el_wav.specs.WavParse.{Parsed, known_behind, parses};
+    ghost use Rattle.el_wav.specs.WavParsePuts.{Puts};
     ghost use Rattle.el_wav.specs.WavParsed.{IsIn, place_of_frame};
     ghost use Rattle.el_wav.specs.WavParseSteps.{Took, FedOn, WentOn, IsPlaceIn, ReadFirst, head_owed};
 
@@ -84,6 +86,7 @@ impl WavParse {
         ensures fed { IfOk result (λ flow. (calls : List Call) (put : List Item) → Parsed self.old calls put
             → (ys : List Item) × (next_owed parses calls item ≡ Ok ys) × (out.new ≡ out.old ++ on_pad 0 ys) × Parsed self.new (calls ++ Feed item ∷ []) (put ++ ys)) }
         ensures flow { IfOk result (λ flow. (calls : List Call) (put : List Item) → Parsed self.old calls put → flow ≡ flow_behind calls) }
+        ensures puts { IfOk result (λ flow. Puts self.old self.new (Feed item) out.old out.new) }
         ensures stays { OnErr result ((calls : List Call) (put : List Item) → Parsed self.old calls put → Parsed self.new calls put) }
         ensures out { OnErr result (out.new ≡ out.old) }
         ensures fault { IfErr result (λ fault. (calls : List Call) (put : List Item) → Parsed self.old calls put → IsFaultOf (next_owed parses calls item) fault) }
@@ -109,6 +112,7 @@ impl WavParse {
     /// fault, it is that fault.
     pub fn drain(&mut self, _alloc: Global, out: &mut Outs) -> Result<(), ElementFault>
         ensures drained { OnOk result ((calls : List Call) (put : List Item) → Parsed self.old calls put → Parsed self.new (calls ++ Act Drain ∷ []) put) }
+        ensures puts { OnOk result (Puts self.old self.new (Act Drain) out.old out.new) }
         ensures out { out.new ≡ out.old }
         ensures stays { OnErr result (self.new ≡ self.old) }
         ensures fault { IfErr result (λ fault. (calls : List Call) (put : List Item) → Parsed self.old calls put → IsFaultOf (next_owed parses calls (Ev Eos)) fault) }
@@ -151,6 +155,7 @@ impl WavParse {
     fn parse(&mut self, alloc: Global, item: Item, out: &mut Outs) -> Result<(), ElementFault>
         requires { is_flush_stop item ≡ false }
         ensures took { OnOk result ((read : List ℕ → Told) (part : Part) (calls : List Call) → IsIn read part calls self.old → Took read part calls item self.new out.old out.new) }
+        ensures appends { OnOk result (Appends out.old out.new) }
         ensures eos { OnOk result (self.old.ended ≡ false → self.new.ended ≡ is_eos item) }
         ensures ended { OnErr result (self.new.ended ≡ self.old.ended) }
         ensures stays { OnErr result ((read : List ℕ → Told) (part : Part) (calls : List Call) → IsIn read part calls self.old → IsIn read part calls self.new) }
@@ -173,6 +178,7 @@ impl WavParse {
         requires eos { is_eos (Ev event) ≡ false }
         requires no_flush { is_flush_stop (Ev event) ≡ false }
         ensures took { OnOk result ((read : List ℕ → Told) (part : Part) (calls : List Call) → IsIn read part calls self.now → Took read part calls (Ev event) self.now out.old out.new) }
+        ensures appends { OnOk result (Appends out.old out.new) }
         ensures out { OnErr result (out.new ≡ out.old) }
         ensures fault { IfErr result (λ fault. fault ≡ Wanting) }
     {
@@ -188,6 +194,7 @@ impl WavParse {
         out: &mut Outs,
     ) -> Result<(), ElementFault>
         ensures took { OnOk result ((read : List ℕ → Told) (part : Part) (calls : List Call) → IsIn read part calls self.old → Took read part calls (Buf buffer) self.new out.old out.new) }
+        ensures appends { OnOk result (Appends out.old out.new) }
         ensures ended { self.new.ended ≡ self.old.ended }
         ensures stays { OnErr result ((read : List ℕ → Told) (part : Part) (calls : List Call) → IsIn read part calls self.old → IsIn read part calls self.new) }
         ensures out { OnErr result (out.new ≡ out.old) }
@@ -212,6 +219,7 @@ impl WavParse {
     /// Takes the first bytes of a head, where no SEGMENT stands before them.
     fn read_first(&mut self, alloc: Global, body: Body, out: &mut Outs) -> Result<(), ElementFault>
         ensures read { OnOk result ((read : List ℕ → Told) → ReadsHeads read → ReadFirst read body self.old.known self.new.known self.new.phase out.old out.new) }
+        ensures appends { OnOk result (Appends out.old out.new) }
         ensures ended { self.new.ended ≡ self.old.ended }
         ensures stays { OnErr result ((self.new ≡ self.old) × (out.new ≡ out.old)) }
         ensures fault { IfErr result (λ fault. (read : List ℕ → Told) (calls : List Call) → ReadsHeads read → IsFaultOf (head_owed read calls body) fault) }
@@ -236,6 +244,7 @@ impl WavParse {
         out: &mut Outs,
     ) -> Result<(), ElementFault>
         ensures fed { OnOk result ((k : Known) (place : ℕ) (calls : List Call) → left ≡ left_of k.head.size place → KnowsHead (Some k) calls self.old.known → FedOn k calls (body_item (within k.head.size place body)) self.new.known out.old out.new) }
+        ensures appends { OnOk result (Appends out.old out.new) }
         ensures phase { OnOk result ((size : Option ℕ) (place : ℕ) → left ≡ left_of size place → self.new.phase ≡ Passing (left_of size (place + length body))) }
         ensures ended { self.new.ended ≡ self.old.ended }
         ensures stays { OnErr result ((self.new ≡ self.old) × (out.new ≡ out.old)) }
@@ -259,6 +268,7 @@ impl WavParse {
     fn feed_data(&mut self, alloc: Global, item: Item, out: &mut Outs) -> Result<(), ElementFault>
         requires { is_flush_stop item ≡ false }
         ensures fed { OnOk result ((k : Known) (calls : List Call) → KnowsHead (Some k) calls self.old.known → FedOn k calls item self.new.known out.old out.new) }
+        ensures appends { OnOk result (Appends out.old out.new) }
         ensures phase { self.new.phase ≡ self.old.phase }
         ensures ended { self.new.ended ≡ self.old.ended }
         ensures stays { OnErr result ((self.new ≡ self.old) × (out.new ≡ out.old)) }
@@ -289,6 +299,7 @@ impl WavParse {
         out: &mut Outs,
     ) -> Result<(), ElementFault>
         ensures took { OnOk result ((read : List ℕ → Told) (part : Part) (calls : List Call) → IsIn read part calls self.old → Took read part calls (Ev (NewSegment segment)) self.new out.old out.new) }
+        ensures appends { OnOk result (Appends out.old out.new) }
         ensures ended { self.new.ended ≡ self.old.ended }
         ensures stays { OnErr result ((self.new ≡ self.old) × (out.new ≡ out.old)) }
         ensures fault { IfErr result (λ fault. (read : List ℕ → Told) (part : Part) (calls : List Call) → IsIn read part calls self.old → IsFaultOf (answer read part calls (Ev (NewSegment segment))) fault) }
@@ -312,6 +323,7 @@ impl WavParse {
     fn go_on(&mut self, alloc: Global, item: Item, out: &mut Outs) -> Result<(), ElementFault>
         requires { is_flush_stop item ≡ false }
         ensures fed { OnOk result ((k : Known) (calls : List Call) → KnowsHead (Some k) calls self.old.known → WentOn k calls item self.new.known out.old out.new) }
+        ensures appends { OnOk result (Appends out.old out.new) }
         ensures phase { self.new.phase ≡ self.old.phase }
         ensures ended { self.new.ended ≡ self.old.ended }
         ensures stays { OnErr result ((self.new ≡ self.old) × (out.new ≡ out.old)) }
@@ -349,6 +361,7 @@ impl WavParse {
     /// Ends the stream, where it may end.
     fn end(&mut self, alloc: Global, out: &mut Outs) -> Result<(), ElementFault>
         ensures took { OnOk result ((read : List ℕ → Told) (part : Part) (calls : List Call) → IsIn read part calls self.old → Took read part calls (Ev Eos) self.new out.old out.new) }
+        ensures appends { OnOk result (Appends out.old out.new) }
         ensures ended { OnOk result (self.new.ended ≡ true) }
         ensures stays { OnErr result ((self.new ≡ self.old) × (out.new ≡ out.old)) }
         ensures fault { IfErr result (λ fault. (read : List ℕ → Told) (part : Part) (calls : List Call) → IsIn read part calls self.old → IsFaultOf (answer read part calls (Ev Eos)) fault) }

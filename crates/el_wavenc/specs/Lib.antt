@@ -1,6 +1,7 @@
 pub mod Encoded
 pub mod Encodes
 pub mod Known
+pub mod Puts
 pub mod Same
 pub mod Templates
 pub mod WavFile

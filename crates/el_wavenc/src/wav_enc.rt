@@ -40,6 +40,7 @@ pub struct WavEnc {
 
 impl WavEnc {
     ghost use Rattle.el_wavenc.specs.Encoded.{Encoded, come};
+    ghost use Rattle.el_wavenc.specs.Puts.{Puts};
 
     /// An element that was fed nothing yet.
     pub fn new() -> WavEnc
@@ -78,6 +79,7 @@ impl WavEnc {
         ensures fed { IfOk result (λ flow. (calls : List Call) (put : List Item) → Encoded self.old calls put
             → (ys : List Item) × (next_owed encodes calls item ≡ Ok ys) × (out.new ≡ out.old ++ on_pad 0 ys) × Encoded self.new (calls ++ Feed item ∷ []) (put ++ ys)) }
         ensures flow { IfOk result (λ flow. (calls : List Call) (put : List Item) → Encoded self.old calls put → flow ≡ flow_behind calls) }
+        ensures puts { IfOk result (λ flow. Puts self.old self.new (Feed item) out.old out.new) }
         ensures stays { OnErr result ((self.new ≡ self.old) × (out.new ≡ out.old)) }
         ensures fault { IfErr result (λ fault. (calls : List Call) (put : List Item) → Encoded self.old calls put → IsFaultOf (next_owed encodes calls item) fault) }
     {
@@ -104,6 +106,7 @@ impl WavEnc {
     pub fn drain(&mut self, alloc: Global, out: &mut Outs) -> Result<(), ElementFault>
         ensures drained { OnOk result ((calls : List Call) (put : List Item) → Encoded self.old calls put
             → (ys : List Item) × (drain_owed encodes calls ≡ Ok ys) × (out.new ≡ out.old ++ on_pad 0 ys) × Encoded self.new (calls ++ Act Drain ∷ []) (put ++ ys)) }
+        ensures puts { OnOk result (Puts self.old self.new (Act Drain) out.old out.new) }
         ensures stays { OnErr result ((self.new ≡ self.old) × (out.new ≡ out.old)) }
         ensures fault { IfErr result (λ fault. (calls : List Call) (put : List Item) → Encoded self.old calls put → IsFaultOf (drain_owed encodes calls) fault) }
     {

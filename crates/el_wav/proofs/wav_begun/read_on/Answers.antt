@@ -3,6 +3,7 @@ use Rattle.wav_format.specs.Gathered.{bytes_of}
 use Rattle.flow_model.specs.Rule.{BadStream}
 use Rattle.el_wav.specs.WavParseGathered.{gathered as gathered_bytes}
 use Rattle.el_wav.proofs.WavParseReading.{read_of, says_more, says_whole, says_wrong, first_of, whole_fault}
+use Rattle.el_wav.proofs.WavParsePutting.{appends_none}
 use Rattle.el_wav.proofs.wav_begun.read_on.Goals as goal
 
 pub returns-in-NeedMore-clause-read : goal.returns-in-NeedMore-clause-read
@@ -46,3 +47,6 @@ returns-in-Err-clause-fault c = λ read calls reads sound.
     let first = c.in_ok-first-in-Whole.first in
     whole_fault read calls before body now answer head c.in-Err.fault reads r c.in-Whole.is
     (c.in-Err.ensures.fault (before ++ body) (first_of before body now first answer head.start r c.in_ok-first-in-Whole.ensures))
+
+pub returns-in-NeedMore-clause-appends : goal.returns-in-NeedMore-clause-appends
+returns-in-NeedMore-clause-appends c = appends_none c.args.out.now

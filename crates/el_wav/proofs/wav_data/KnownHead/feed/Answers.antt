@@ -8,3 +8,6 @@ returns-in-Ok-clause-fed c = λ k calls (head, info, (put, p)).
 
 pub returns-in-Err-clause-fault : goal.returns-in-Err-clause-fault
 returns-in-Err-clause-fault c = λ k calls (head, info, (put, p)). c.in-Err.ensures.fault k.info calls put p
+
+pub returns-in-Ok-clause-appends : goal.returns-in-Ok-clause-appends
+returns-in-Ok-clause-appends c = (c.in-Ok.ensures.puts.more, c.in-Ok.ensures.puts.outs)

@@ -1,8 +1,10 @@
 use Rattle.std.proofs.Common.{Some, sym, subst}
 use Rattle.el_wav.specs.WavParseData.{IsKnown}
 use Rattle.el_wav.specs.WavParsed.{KnowsHead}
+use Rattle.el_wav.specs.WavParseAppends.{Appends}
 use Rattle.el_wav.specs.WavParseSteps.{FedOn, WentOn}
 use Rattle.el_wav.proofs.WavParseParting.{went_on}
+use Rattle.el_wav.proofs.WavParsePutting.{appends_none, appends_last}
 use Rattle.el_wav.proofs.wav_parse.WavParse.go_on.Goals as goal
 
 pub returns-in_ok-put_last-in-Ok-feed-clause-fed : goal.returns-in_ok-put_last-in-Ok-feed-clause-fed
@@ -15,3 +17,10 @@ returns-in_ok-put_last-in-Ok-feed-clause-fed c = λ k calls knows.
 pub returns-in-Err-clause-fault : goal.returns-in-Err-clause-fault
 returns-in-Err-clause-fault c = λ k calls knows.
     c.in-Err.ensures.fault k calls (subst (λ known. IsKnown k calls known) (sym c.in-Ok.ensures) (subst (KnowsHead (Some k) calls) c.in-Some.is knows))
+
+pub returns-in_ok-put_last-in-Ok-feed-clause-appends : goal.returns-in_ok-put_last-in-Ok-feed-clause-appends
+returns-in_ok-put_last-in-Ok-feed-clause-appends c =
+    appends_last c.feed.new.out c.args.out.now c.put_last.new.out (subst (λ made. Appends made c.feed.new.out) c.new-made.ensures c.in-Ok-feed.ensures.appends) c.in_ok-put_last-in-Ok-feed.ensures.ok
+
+pub returns-in_default-clause-appends : goal.returns-in_default-clause-appends
+returns-in_default-clause-appends c = appends_none c.args.out.now

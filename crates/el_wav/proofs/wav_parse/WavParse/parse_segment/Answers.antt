@@ -5,6 +5,7 @@ use Rattle.el_wav.specs.WavParseParts.{known_in}
 use Rattle.el_wav.specs.WavParsed.{KnowsHead}
 use Rattle.el_wav.specs.WavParseSteps.{WentOn}
 use Rattle.el_wav.proofs.WavParseParting.{inside_of, segment_answer, took_inside, took_start, last_fault}
+use Rattle.el_wav.proofs.WavParsePutting.{appends_none}
 use Rattle.el_wav.proofs.wav_parse.WavParse.parse_segment.Goals as goal
 
 pub returns-in-Ok-clause-took : goal.returns-in-Ok-clause-took
@@ -27,3 +28,6 @@ pub returns-in-None-clause-took : goal.returns-in-None-clause-took
 returns-in-None-clause-took c = λ read part calls is.
     took_start read part c.args.segment calls c.place_of.result _ c.new.result c.args.out.now is.reads c.place_of.ensures (c.in-None.ensures (known_in read part) calls is.knows) is.knows
     c.new.ensures.none c.new.ensures.sound c.set-in-None.ensures
+
+pub returns-in-None-clause-appends : goal.returns-in-None-clause-appends
+returns-in-None-clause-appends c = appends_none c.args.out.now
