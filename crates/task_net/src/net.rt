@@ -4,7 +4,7 @@ ghost use Rattle.turn_order.specs.declared.order.Order.{Order};
 ghost use Rattle.turn_order.specs.Turns.{IsAmong};
 ghost use Rattle.task_core.specs.Task.{TaskLists};
 ghost use Rattle.task_net.specs.Net.{AllReady, IsWired, IsNet, IsNetCause, NetEnded, NetFaulted, NetStepped, NetAdvanced, AllFramed, Burned, net_fuel, steps_left, has_moved as step_moved};
-ghost use Rattle.task_net.specs.Turns.{EachMovesOnce, HasCome, RunBy};
+ghost use Rattle.task_net.specs.Turns.{AreTried, EachMovesOnce, HasAdvanced, HasCome, HasMetTrying, RunBy, stop_of};
 
 use crate::put_closed::put_is_closed;
 use el_set::laws::put_has_eos;
@@ -87,7 +87,8 @@ fn try_each<S: Source, K: Sink, I: Inlet<Out = O>, O: Outlet<Lanes = I::Lanes>>(
     ensures frame { AllFramed S.location S.content K.location I.place I.id O.place O.limits O.id tasks.old tasks.new }
     ensures count { length tasks.new ≡ length tasks.old }
     ensures burns { IfOk result (λ moved. Burned moved (net_fuel tasks.old) (net_fuel tasks.new)) }
-    ensures once { EachMovesOnce tasks.old tasks.new }
+    ensures tried { IfOk result (λ moved. AreTried S.content K.bytes I.received O.sent I.place O.place O.limits tasks.old (O.tells lanes.old) (length tasks.old) moved tasks.new (O.tells lanes.new)) }
+    ensures met { IfErr result (λ stop. HasMetTrying S.content K.bytes I.received O.sent I.place O.place O.limits stop.fault tasks.old tasks.new (O.tells lanes.old) (O.tells lanes.new)) }
 {
     let mut moved = false;
     for place in 0..tasks.len() {
@@ -123,8 +124,8 @@ fn advance<S: Source, K: Sink, I: Inlet<Out = O>, O: Outlet<Lanes = I::Lanes>>(
     ensures wired { IsWired I.place O.place O.limits tasks.new }
     ensures frame { AllFramed S.location S.content K.location I.place I.id O.place O.limits O.id tasks.old tasks.new }
     ensures count { length tasks.new ≡ length tasks.old }
-    ensures come { OnOk result ((order : Order) (start : ℕ) (first : _) → HasCome order start first tasks.old turns.old idle.old → HasCome order start first tasks.new turns.new idle.new) }
-    ensures stopped { OnErr result ((order : Order) (start : ℕ) (first : _) → HasCome order start first tasks.old turns.old idle.old → RunBy order start first tasks.new turns.new) }
+    ensures come { IfOk result (λ more. (order : Order) (start : ℕ) (first : _) (told : _) → HasCome S.content K.bytes I.received O.sent I.place O.place O.limits order start first told turns.old idle.old tasks.old (O.tells lanes.old) → HasAdvanced S.content K.bytes I.received O.sent I.place O.place O.limits order start first told turns.new idle.new more tasks.new (O.tells lanes.new)) }
+    ensures stopped { IfErr result (λ stop. (order : Order) (start : ℕ) (first : _) (told : _) → HasCome S.content K.bytes I.received O.sent I.place O.place O.limits order start first told turns.old idle.old tasks.old (O.tells lanes.old) → RunBy S.content K.bytes I.received O.sent I.place O.place O.limits order start first told turns.new (Some stop.fault) tasks.new (O.tells lanes.new)) }
     ensures idle { idle.new ≤ 4096 }
     ensures less { result ≡ Ok true → steps_left (net_fuel tasks.new) idle.new < steps_left (net_fuel tasks.old) idle.old }
 {
@@ -158,7 +159,7 @@ pub fn run_tasks<S: Source, K: Sink, I: Inlet<Out = O>, O: Outlet<Lanes = I::Lan
     ensures faulted { IfErr result (λ stop. (lists : ℕ → TaskLists) → IsNet S.content K.bytes I.received O.sent I.place O.place tasks.old lists (O.tells lanes.old) → NetFaulted S.content K.bytes I.received O.sent I.place O.place tasks.new lists (O.tells lanes.new) stop.task stop.fault) }
     ensures within { IfErr result (λ stop. stop.task < length tasks.new) }
     ensures cause { IfErr result (λ stop. (t : _) → slice_get tasks.new stop.task ≡ Some t → IsNetCause S.faults K.faults t stop.fault) }
-    ensures by_turns { (order : Order) (start : ℕ) → IsAmong order (length tasks.old) start turns.old → RunBy order start tasks.old tasks.new turns.new }
+    ensures by_turns { (order : Order) (start : ℕ) → IsAmong order (length tasks.old) start turns.old → RunBy S.content K.bytes I.received O.sent I.place O.place O.limits order start tasks.old (O.tells lanes.old) turns.new (stop_of result) tasks.new (O.tells lanes.new) }
     ensures ready { AllReady I.place O.place O.limits O.count tasks.new (O.tells lanes.new) }
     ensures wired { IsWired I.place O.place O.limits tasks.new }
     ensures frame { AllFramed S.location S.content K.location I.place I.id O.place O.limits O.id tasks.old tasks.new }

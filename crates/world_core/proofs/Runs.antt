@@ -32,7 +32,8 @@ use Rattle.task_net.specs.Net.{AllFramed, IsNet, IsNetCause, NetEnded, NetFaulte
 use Rattle.task_net.specs.declared.net.Stopped.{Stopped}
 use Rattle.world_core.specs.Ended.{HasEnded}
 use Rattle.world_core.specs.Prepared.{HasRoom}
-use Rattle.world_core.specs.Ran.{KnownFailed, KnownHold, TellsEnd, stop_of}
+use Rattle.task_net.specs.Turns.{stop_of}
+use Rattle.world_core.specs.Ran.{KnownFailed, KnownHold, TellsEnd}
 use Rattle.world_core.specs.Start.{IsStarted}
 use Rattle.world_core.specs.Told.{task_status}
 use Rattle.world_core.specs.declared.ended.WorldEnd.{WorldEnd}

@@ -1,5 +1,5 @@
 -- How the tasks of a line ran, by the ends that they gave back and what is told of them.
-use Rattle.std.specs.Prelude.{◌≡◌, ℕ, List, [], Option, None, Some, Result, Ok, Err, slice_get}
+use Rattle.std.specs.Prelude.{◌≡◌, ℕ, List, [], Option, None, Some, slice_get}
 use Rattle.std.specs.Option.{ForSome}
 use Rattle.gst_outside.specs.Causes.{Rose}
 use Rattle.graph_core.specs.Elements.{Made}
@@ -12,7 +12,6 @@ use Rattle.run_report.specs.declared.report.Fault.{Fault}
 use Rattle.run_report.specs.declared.report.Fault.TheVariants as faults
 use Rattle.task_core.specs.declared.fault.TaskFault.{TaskFault}
 use Rattle.task_core.specs.declared.pads.Pad.{Pad}
-use Rattle.task_net.specs.declared.net.Stopped.{Stopped}
 use Rattle.world_core.specs.Told.{pads_told, sinks_told, task_fault, task_status}
 use Rattle.world_core.specs.declared.ended.WorldEnd.{WorldEnd}
 
@@ -25,12 +24,7 @@ KnownHold graph known bytes = (d : ℕ) (m : Made) (location : List ℕ) → sli
 abbrev pub KnownFailed : List (Option Known) → ℕ → ℕ → Type 0
 KnownFailed known e n = (k : Known) × (slice_get known e ≡ Some (Some k)) × Rose 0 k.faults × (k.faults ≡ n)
 
--- the fault at which tasks stopped, if any
-abbrev pub stop_of : {A : Type 0} → Result A Stopped → Option TaskFault
-stop_of (Ok done) = None
-stop_of (Err stop) = Some stop.fault
-
--- the status and the fault that are told of that
+-- the status and the fault that are told of the fault at which tasks stopped, if any
 abbrev pub stop_status : Option TaskFault → ℕ
 stop_status None = 0
 stop_status (Some fault) = task_status fault

@@ -3,7 +3,7 @@ use Rattle.std.specs.Prelude.{◌≡◌, ◌≤◌, ◌⊎◌, ℕ, List, [], Op
 use Rattle.std.specs.Option.{ForSome}
 use Rattle.gst_outside.specs.Causes.{Rose, plus}
 use Rattle.graph_core.specs.Elements.{Made}
-use Rattle.graph_core.specs.Graph.{IsGraph, made as made_in}
+use Rattle.graph_core.specs.Graph.{IsGraph, IsSound, made as made_in}
 use Rattle.graph_core.specs.declared.graph.Graph.{Graph}
 use Rattle.launch_text.specs.declared.tree.Tree.{Tree}
 use Rattle.line_files.specs.Files.{made_opening, opening_of}
@@ -15,9 +15,11 @@ use Rattle.run_report.specs.declared.report.Fault.TheVariants.{OpenFault}
 use Rattle.world_core.specs.Ended.{HasEnded}
 use Rattle.world_core.specs.declared.ended.WorldEnd.{WorldEnd}
 
--- some line has this graph
-abbrev pub IsOfLine : Graph → Type 0
-IsOfLine graph = (tree : Tree) × IsGraph tree graph
+-- some line has this graph: it is what `build` gives for its tree
+pub record IsBuilt (graph : Graph) : Type 0 where
+  pub tree : Tree
+  pub line : IsGraph tree graph
+  pub sound : IsSound graph
 
 -- A location of an element could not be opened, and no other one was refused; the run did not begin. What the elements before
 -- it opened was given back, and of what they write nothing stands.

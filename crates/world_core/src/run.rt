@@ -1,6 +1,6 @@
 //! Runs of lines by turns.
 ghost use Rattle.std.specs.Prelude.{◌≡◌, ◌≢◌, ◌<◌, ◌^◌, ℕ, List, [], Option, Some, IfOk, IfErr, IsSome, length, slice_get};
-ghost use Rattle.graph_core.specs.Graph.{IsSound, made as made_in};
+ghost use Rattle.graph_core.specs.Graph.{made as made_in};
 ghost use Rattle.line_ends.specs.Located.{AreLocated};
 ghost use Rattle.run_files.specs.Ends.{known_ends};
 ghost use Rattle.run_files.specs.Opening.{IsUnopened, location_of as location_in};
@@ -10,13 +10,14 @@ ghost use Rattle.line_files.specs.Files.{LineOpens};
 ghost use Rattle.line_net.specs.Pads.{all_pads, with_pads};
 ghost use Rattle.task_core.specs.Task.{TaskLists};
 ghost use Rattle.task_net.specs.Net.{AllFramed, AllReady, IsNet, IsNetCause, IsWired, NetEnded, NetFaulted};
+ghost use Rattle.task_net.specs.Turns.{stop_of};
 ghost use Rattle.world_core.specs.Ended.{HasEnded};
 ghost use Rattle.world_core.specs.Plan.{prepared_lanes, prepared_lengths, prepared_openings, prepared_pads, prepared_parts};
 ghost use Rattle.world_core.specs.Prepared.{HasRoom, IsPrepared};
-ghost use Rattle.world_core.specs.Ran.{KnownFailed, KnownHold, stop_of};
+ghost use Rattle.world_core.specs.Ran.{KnownFailed, KnownHold};
 ghost use Rattle.world_core.specs.Start.{IsStarted};
 ghost use Rattle.world_core.specs.Turned.{HasTurned, RanByTurns};
-ghost use Rattle.world_core.specs.World.{IsOfLine, IsRunStatus, IsUnwritten, IsWorldEnd, NotBegun};
+ghost use Rattle.world_core.specs.World.{IsBuilt, IsRunStatus, IsUnwritten, IsWorldEnd, NotBegun};
 
 use crate::ended::WorldEnd;
 use crate::giving::give_back;
@@ -82,8 +83,7 @@ fn prepare<S: Source, K: Sink>(
     alloc: Global,
     graph: &Graph,
 ) -> Result<Prepared<S, K, MemInlet, MemOutlet>, OutOfMemory>
-    requires line { IsOfLine graph.now }
-    requires sound { IsSound graph.now }
+    requires built { IsBuilt graph.now }
     ensures { IfOk result (λ p. IsPrepared ⟦<MemInlet as Inlet>⟧.received ⟦<MemOutlet as Outlet>⟧.sent ⟦<MemInlet as Inlet>⟧.place ⟦<MemOutlet as Outlet>⟧.place ⟦<MemOutlet as Outlet>⟧.limits ⟦<MemOutlet as Outlet>⟧.count graph.now (prepared_parts p) (prepared_lanes p) (prepared_pads p) (prepared_lengths p) (prepared_openings p)) }
 {
     let ways = ways_of(alloc, graph)?;
@@ -122,7 +122,7 @@ fn run_all<S: Source, K: Sink, I: Inlet<Out = O>, O: Outlet<Lanes = I::Lanes>>(
     ensures cause { IfErr result (λ stop. (t : _) → slice_get tasks.new.items stop.task ≡ Some t → IsNetCause S.faults K.faults t stop.fault) }
     ensures frame { AllFramed S.location S.content K.location I.place I.id O.place O.limits O.id tasks.old.items tasks.new.items }
     ensures count { length tasks.new.items ≡ length tasks.old.items }
-    ensures turned { HasTurned turns tasks.old.items tasks.new.items }
+    ensures turned { HasTurned S.content K.bytes I.received O.sent I.place O.place O.limits turns tasks.old.items (O.tells lanes.old) (stop_of result) tasks.new.items (O.tells lanes.new) }
 {
     let mut turns = Turns::new(turns);
     run_tasks(alloc, tasks, lanes, &mut turns)
@@ -191,8 +191,7 @@ fn run_opened<S: Source, K: Sink>(
     ends: Vec<Option<End<S, K>>>,
     turns: Order,
 ) -> Ran<S, K>
-    requires line { IsOfLine graph.now }
-    requires sound { IsSound graph.now }
+    requires built { IsBuilt graph.now }
     requires prepared { IsPrepared ⟦<MemInlet as Inlet>⟧.received ⟦<MemOutlet as Outlet>⟧.sent ⟦<MemInlet as Inlet>⟧.place ⟦<MemOutlet as Outlet>⟧.place ⟦<MemOutlet as Outlet>⟧.limits ⟦<MemOutlet as Outlet>⟧.count graph.now (prepared_parts prepared) (prepared_lanes prepared) (prepared_pads prepared) (prepared_lengths prepared) (prepared_openings prepared) }
     requires opened { (before after : Seen) × LineOpens S.location S.content S.faults K.location K.bytes K.faults (made_in graph.now) ends.items before after }
     ensures ended { (before after : Seen) → LineOpens S.location S.content S.faults K.location K.bytes K.faults (made_in graph.now) ends.items before after → result.end.status ≢ 13 → HasEnded graph.now before (KnownHold graph.now (known_ends S.location S.content S.faults K.location K.bytes K.faults result.ends.items)) (KnownFailed (known_ends S.location S.content S.faults K.location K.bytes K.faults result.ends.items)) result.end }
@@ -251,8 +250,7 @@ fn not_begun(alloc: Global, openings: &[Option<Opening>], unopened: Unopened) ->
 /// not be read or a filesink not be written, 9, 10 and 15 where an element's rule refuses an item, 11 where a buffer is
 /// owed to a pad without a link, 13 where memory is wanting, and 15 where more than 2^40 items were to cross a pad.
 pub fn run_turns<F: Files>(alloc: Global, graph: Graph, files: &mut F, turns: Order) -> WorldEnd
-    requires line { IsOfLine graph }
-    requires sound { IsSound graph }
+    requires built { IsBuilt graph }
     ensures ended { result.status ≢ 13 → IsWorldEnd graph (seen (F.input files.old) (F.output files.old) (F.faults_of files.old) (F.refused_of files.old) (F.faults files.old) (F.ends files.old)) (seen (F.input files.new) (F.output files.new) (F.faults_of files.new) (F.refused_of files.new) (F.faults files.new) (F.ends files.new)) result }
     ensures turned { result.status ≢ 13 → result.status ≢ 6 → RanByTurns F.Src.location F.Src.content F.Src.faults F.Snk.location F.Snk.bytes F.Snk.faults ⟦<MemInlet as Inlet>⟧.received ⟦<MemOutlet as Outlet>⟧.sent ⟦<MemInlet as Inlet>⟧.place ⟦<MemOutlet as Outlet>⟧.place ⟦<MemOutlet as Outlet>⟧.limits ⟦<MemOutlet as Outlet>⟧.count graph turns (seen (F.input files.old) (F.output files.old) (F.faults_of files.old) (F.refused_of files.old) (F.faults files.old) (F.ends files.old)) result }
     ensures statuses { IsRunStatus result.status }

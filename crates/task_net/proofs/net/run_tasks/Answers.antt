@@ -1,7 +1,7 @@
 use Rattle.std.proofs.Common.{◌∙◌, refl, ap, arith, Ok, length}
 use Rattle.task_net.proofs.Nets.{framed_same, framed_trans}
 use Rattle.task_net.proofs.Tries.{goes_same, goes_more, ended_more, faulted_more, none_ended}
-use Rattle.task_net.proofs.Turning.{come_first, run_come, none_by, some_by}
+use Rattle.task_net.proofs.Turning.{come_first, run_without, none_by, some_by}
 use Rattle.task_net.proofs.net.run_tasks.Goals as goal
 
 pub turns-init : goal.turns-init
@@ -12,7 +12,7 @@ turns-init g c = record {
   wired = c.requires.wired;
   frame = framed_same {S = g.row.S.Denot} {K = g.row.K.Denot} {I = g.row.I.Denot} {O = g.row.O.Denot} g.S.Source.location g.S.Source.content g.K.Sink.location g.I.Inlet.place g.I.Inlet.id g.O.Outlet.place g.O.Outlet.limits g.O.Outlet.id c.args.tasks.now;
   goes = λ lists net. goes_same {S = g.row.S.Denot} {K = g.row.K.Denot} {I = g.row.I.Denot} {O = g.row.O.Denot} g.S.Source.content g.K.Sink.bytes g.I.Inlet.received g.O.Outlet.sent g.I.Inlet.place g.O.Outlet.place g.O.Outlet.limits c.args.tasks.now lists _ net;
-  come = λ order start next. come_first {S = g.row.S.Denot} {K = g.row.K.Denot} {I = g.row.I.Denot} {O = g.row.O.Denot} order start c.args.tasks.now c.args.turns.now 0 refl next;
+  come = λ order start next. come_first {S = g.row.S.Denot} {K = g.row.K.Denot} {I = g.row.I.Denot} {O = g.row.O.Denot} g.S.Source.content g.K.Sink.bytes g.I.Inlet.received g.O.Outlet.sent g.I.Inlet.place g.O.Outlet.place g.O.Outlet.limits order start c.args.tasks.now _ c.args.turns.now 0 refl next;
   idle = omega arith;
 }
 
@@ -26,7 +26,7 @@ turns-preserved g c = record {
   goes = λ lists net.
       let h = c.turns.invariant.goes lists net in
       goes_more {S = g.row.S.Denot} {K = g.row.K.Denot} {I = g.row.I.Denot} {O = g.row.O.Denot} g.S.Source.content g.K.Sink.bytes g.I.Inlet.received g.O.Outlet.sent g.I.Inlet.place g.O.Outlet.place g.O.Outlet.limits c.advance.new.tasks lists h.lists _ h.goes_on ((rw c.in-Ok-true.field-0-test at c.in-Ok-true.ensures.goes) h.lists h.net);
-  come = λ order start next. c.in-Ok-true.ensures.come order start c.args.tasks.now (c.turns.invariant.come order start next);
+  come = λ order start next. (rw c.in-Ok-true.field-0-test at c.in-Ok-true.ensures.come) order start c.args.tasks.now _ (c.turns.invariant.come order start next);
   idle = c.advance.ensures.idle;
 }
 
@@ -37,7 +37,7 @@ pub returns-then-is_empty-clause-ended : goal.returns-then-is_empty-clause-ended
 returns-then-is_empty-clause-ended g c = λ lists net. none_ended {S = g.row.S.Denot} {K = g.row.K.Denot} {I = g.row.I.Denot} {O = g.row.O.Denot} g.S.Source.content g.K.Sink.bytes g.I.Inlet.received g.O.Outlet.sent g.I.Inlet.place g.O.Outlet.place g.O.Outlet.limits c.args.tasks.now lists _ (none_by (length c.args.tasks.now) c.is_empty.result c.is_empty.ensures c.if-is_empty.true) net
 
 pub returns-then-is_empty-clause-by_turns : goal.returns-then-is_empty-clause-by_turns
-returns-then-is_empty-clause-by_turns g c = λ order start next. run_come order start c.args.tasks.now c.args.tasks.now c.args.turns.now 0 (come_first {S = g.row.S.Denot} {K = g.row.K.Denot} {I = g.row.I.Denot} {O = g.row.O.Denot} order start c.args.tasks.now c.args.turns.now 0 refl next)
+returns-then-is_empty-clause-by_turns g c = λ order start next. run_without {S = g.row.S.Denot} {K = g.row.K.Denot} {I = g.row.I.Denot} {O = g.row.O.Denot} g.S.Source.content g.K.Sink.bytes g.I.Inlet.received g.O.Outlet.sent g.I.Inlet.place g.O.Outlet.place g.O.Outlet.limits order start c.args.tasks.now _ c.args.turns.now (none_by (length c.args.tasks.now) c.is_empty.result c.is_empty.ensures c.if-is_empty.true) next
 
 pub returns-then-is_empty-clause-frame : goal.returns-then-is_empty-clause-frame
 returns-then-is_empty-clause-frame g c = framed_same {S = g.row.S.Denot} {K = g.row.K.Denot} {I = g.row.I.Denot} {O = g.row.O.Denot} g.S.Source.location g.S.Source.content g.K.Sink.location g.I.Inlet.place g.I.Inlet.id g.O.Outlet.place g.O.Outlet.limits g.O.Outlet.id c.args.tasks.now
@@ -61,7 +61,7 @@ pub returns-in-Err-clause-frame : goal.returns-in-Err-clause-frame
 returns-in-Err-clause-frame g c = framed_trans {S = g.row.S.Denot} {K = g.row.K.Denot} {I = g.row.I.Denot} {O = g.row.O.Denot} g.S.Source.location g.S.Source.content g.K.Sink.location g.I.Inlet.place g.I.Inlet.id g.O.Outlet.place g.O.Outlet.limits g.O.Outlet.id c.args.tasks.now c.turns.tasks c.advance.new.tasks c.turns.invariant.count c.turns.invariant.frame c.advance.ensures.frame
 
 pub returns-in-Ok-false-clause-by_turns : goal.returns-in-Ok-false-clause-by_turns
-returns-in-Ok-false-clause-by_turns g c = λ order start next. run_come order start c.args.tasks.now c.advance.new.tasks c.advance.new.turns c.advance.new.idle (c.in-Ok-false.ensures.come order start c.args.tasks.now (c.turns.invariant.come order start next))
+returns-in-Ok-false-clause-by_turns g c = λ order start next. (rw c.in-Ok-false.field-0-test at c.in-Ok-false.ensures.come) order start c.args.tasks.now _ (c.turns.invariant.come order start next)
 
 pub returns-in-Err-clause-by_turns : goal.returns-in-Err-clause-by_turns
-returns-in-Err-clause-by_turns g c = λ order start next. c.in-Err.ensures.stopped order start c.args.tasks.now (c.turns.invariant.come order start next)
+returns-in-Err-clause-by_turns g c = λ order start next. c.in-Err.ensures.stopped order start c.args.tasks.now _ (c.turns.invariant.come order start next)

@@ -14,7 +14,7 @@ invariant-turns g l = record {
   wired : IsWired {S = g.row.S.Denot} {K = g.row.K.Denot} {I = g.row.I.Denot} {O = g.row.O.Denot} g.I.Inlet.place g.O.Outlet.place g.O.Outlet.limits l.tasks;
   frame : AllFramed {S = g.row.S.Denot} {K = g.row.K.Denot} {I = g.row.I.Denot} {O = g.row.O.Denot} g.S.Source.location g.S.Source.content g.K.Sink.location g.I.Inlet.place g.I.Inlet.id g.O.Outlet.place g.O.Outlet.limits g.O.Outlet.id l.fn.tasks l.tasks;
   goes : (lists : ℕ → TaskLists) → IsNet {S = g.row.S.Denot} {K = g.row.K.Denot} {I = g.row.I.Denot} {O = g.row.O.Denot} g.S.Source.content g.K.Sink.bytes g.I.Inlet.received g.O.Outlet.sent g.I.Inlet.place g.O.Outlet.place l.fn.tasks lists (g.O.Outlet.tells l.fn.lanes) → NetGoes {S = g.row.S.Denot} {K = g.row.K.Denot} {I = g.row.I.Denot} {O = g.row.O.Denot} g.S.Source.content g.K.Sink.bytes g.I.Inlet.received g.O.Outlet.sent g.I.Inlet.place g.O.Outlet.place l.tasks lists (g.O.Outlet.tells l.lanes);
-  come : (order : Order) (start : ℕ) → IsAmong order (length l.fn.tasks) start l.fn.turns → HasCome {S = g.row.S.Denot} {K = g.row.K.Denot} {I = g.row.I.Denot} {O = g.row.O.Denot} order start l.fn.tasks l.tasks l.turns l.idle;
+  come : (order : Order) (start : ℕ) → IsAmong order (length l.fn.tasks) start l.fn.turns → HasCome {S = g.row.S.Denot} {K = g.row.K.Denot} {I = g.row.I.Denot} {O = g.row.O.Denot} g.S.Source.content g.K.Sink.bytes g.I.Inlet.received g.O.Outlet.sent g.I.Inlet.place g.O.Outlet.place g.O.Outlet.limits order start l.fn.tasks (g.O.Outlet.tells l.fn.lanes) l.turns l.idle l.tasks (g.O.Outlet.tells l.lanes);
   idle : l.idle ≤ 4096;
 }
 

@@ -1,5 +1,7 @@
 use Rattle.std.proofs.Common.{◌<◌, ◌∙◌, refl, arith}
-use Rattle.task_net.proofs.Nets.{framed_same, framed_trans, none_moved, once_more, rest_more}
+use Rattle.task_net.proofs.Nets.{framed_same, framed_trans}
+use Rattle.task_net.proofs.Turning.{met_at, tried_more, tried_all}
+use Rattle.task_net.specs.Turns.{none}
 use Rattle.task_net.proofs.Tries.{burned_both, goes_any, faulted_more, none_tried, more_tried, all_tried}
 use Rattle.task_net.proofs.net.try_each.Goals as goal
 
@@ -11,8 +13,8 @@ loop-place-init g c = record {
   frame = framed_same {S = g.row.S.Denot} {K = g.row.K.Denot} {I = g.row.I.Denot} {O = g.row.O.Denot} g.S.Source.location g.S.Source.content g.K.Sink.location g.I.Inlet.place g.I.Inlet.id g.O.Outlet.place g.O.Outlet.limits g.O.Outlet.id c.args.tasks.now;
   goes = λ lists net. none_tried {S = g.row.S.Denot} {K = g.row.K.Denot} {I = g.row.I.Denot} {O = g.row.O.Denot} g.S.Source.content g.K.Sink.bytes g.I.Inlet.received g.O.Outlet.sent g.I.Inlet.place g.O.Outlet.place g.O.Outlet.limits c.args.tasks.now lists _ net;
   burns = refl;
-  once = none_moved c.args.tasks.now;
-  rest = λ k w. refl;
+  within = omega arith;
+  tried = none;
 }
 
 pub loop-place-preserved : goal.loop-place-preserved
@@ -23,8 +25,8 @@ loop-place-preserved g c = record {
   frame = framed_trans {S = g.row.S.Denot} {K = g.row.K.Denot} {I = g.row.I.Denot} {O = g.row.O.Denot} g.S.Source.location g.S.Source.content g.K.Sink.location g.I.Inlet.place g.I.Inlet.id g.O.Outlet.place g.O.Outlet.limits g.O.Outlet.id c.args.tasks.now c.loop-place.tasks c.step_at.new.tasks c.loop-place.invariant.count c.loop-place.invariant.frame c.step_at.ensures.frame;
   goes = λ lists net. more_tried {S = g.row.S.Denot} {K = g.row.K.Denot} {I = g.row.I.Denot} {O = g.row.O.Denot} g.S.Source.content g.K.Sink.bytes g.I.Inlet.received g.O.Outlet.sent g.I.Inlet.place g.O.Outlet.place g.O.Outlet.limits c.loop-place.place c.loop-place.moved c.in-Ok.stepped c.loop-place.tasks c.step_at.new.tasks lists _ _ _ (c.loop-place.invariant.goes lists net) c.in-Ok.ensures.goes c.step_at.ensures.others;
   burns = burned_both c.loop-place.moved c.in-Ok.stepped _ _ _ c.loop-place.invariant.burns c.in-Ok.ensures.burns;
-  once = once_more c.args.tasks.now c.loop-place.tasks c.step_at.new.tasks c.loop-place.place c.loop-place.invariant.once c.loop-place.invariant.rest c.step_at.ensures.once c.step_at.ensures.others;
-  rest = rest_more c.args.tasks.now c.loop-place.tasks c.step_at.new.tasks c.loop-place.place c.loop-place.invariant.rest c.step_at.ensures.others;
+  within = omega (arith, c.loop-place-test.true, c.loop-place.invariant.count);
+  tried = tried_more {S = g.row.S.Denot} {K = g.row.K.Denot} {I = g.row.I.Denot} {O = g.row.O.Denot} g.S.Source.content g.K.Sink.bytes g.I.Inlet.received g.O.Outlet.sent g.I.Inlet.place g.O.Outlet.place g.O.Outlet.limits c.args.tasks.now c.loop-place.tasks c.step_at.new.tasks _ _ _ c.loop-place.place c.loop-place.moved c.in-Ok.stepped c.loop-place.invariant.tried c.step_at.ensures.others c.step_at.ensures.once c.in-Ok.ensures.burns c.in-Ok.ensures.goes;
 }
 
 pub returns-in-Err-clause-faulted : goal.returns-in-Err-clause-faulted
@@ -41,5 +43,16 @@ returns-clause-goes g c =
     λ lists net.
     all_tried {S = g.row.S.Denot} {K = g.row.K.Denot} {I = g.row.I.Denot} {O = g.row.O.Denot} g.S.Source.content g.K.Sink.bytes g.I.Inlet.received g.O.Outlet.sent g.I.Inlet.place g.O.Outlet.place g.O.Outlet.limits c.loop-place.place c.loop-place.moved c.loop-place.tasks lists _ _ (omega (arith, c.loop-place-test.false, c.loop-place.invariant.count)) (c.requires.told c.loop-place.lanes) c.put_has_eos.ensures c.put_is_closed.ensures c.loop-place.invariant.wired (c.loop-place.invariant.goes lists net)
 
-pub returns-in-Err-clause-once : goal.returns-in-Err-clause-once
-returns-in-Err-clause-once g c = once_more c.args.tasks.now c.loop-place.tasks c.step_at.new.tasks c.loop-place.place c.loop-place.invariant.once c.loop-place.invariant.rest c.step_at.ensures.once c.step_at.ensures.others
+pub returns-clause-tried : goal.returns-clause-tried
+returns-clause-tried g c = tried_all {S = g.row.S.Denot} {K = g.row.K.Denot} {I = g.row.I.Denot} {O = g.row.O.Denot} g.S.Source.content g.K.Sink.bytes g.I.Inlet.received g.O.Outlet.sent g.I.Inlet.place g.O.Outlet.place g.O.Outlet.limits c.args.tasks.now c.loop-place.tasks _ _ c.loop-place.place c.loop-place.moved (omega (arith, c.loop-place-test.false, c.loop-place.invariant.count, c.loop-place.invariant.within)) c.loop-place.invariant.tried
+
+pub returns-in-Err-clause-met : goal.returns-in-Err-clause-met
+returns-in-Err-clause-met g c = record {
+  place = c.loop-place.place;
+  within = omega (arith, c.loop-place-test.true, c.loop-place.invariant.count);
+  moved = c.loop-place.moved;
+  was = c.loop-place.tasks;
+  tells = _;
+  tried = c.loop-place.invariant.tried;
+  met = met_at {S = g.row.S.Denot} {K = g.row.K.Denot} {I = g.row.I.Denot} {O = g.row.O.Denot} g.S.Source.content g.K.Sink.bytes g.I.Inlet.received g.O.Outlet.sent g.I.Inlet.place g.O.Outlet.place g.O.Outlet.limits c.loop-place.tasks c.step_at.new.tasks _ _ c.loop-place.place c.in-Err.stop.task c.in-Err.stop.fault c.in-Err.ensures.within c.step_at.ensures.others c.step_at.ensures.once c.in-Err.ensures.faulted;
+}

@@ -1,8 +1,7 @@
 use Rattle.std.proofs.Common.{◌≡◌, ◌<◌, ◌≤◌, ℕ, length}
-use Rattle.std.specs.Prelude.{slice_get}
 use Rattle.task_core.specs.Task.{TaskLists}
 use Rattle.task_net.specs.Net.{AllReady, IsWired, IsNet, NetStepped, AllFramed, Burned, net_fuel}
-use Rattle.task_net.specs.Turns.{EachMovesOnce}
+use Rattle.task_net.specs.Turns.{AreTried}
 use Rattle.task_net.proofs.net.try_each.Given as goal
 
 abbrev pub invariant-loop-place : goal.invariant-loop-place
@@ -15,6 +14,6 @@ invariant-loop-place g l = record {
       → NetStepped {S = g.row.S.Denot} {K = g.row.K.Denot} {I = g.row.I.Denot} {O = g.row.O.Denot} g.S.Source.content g.K.Sink.bytes g.I.Inlet.received g.O.Outlet.sent g.I.Inlet.place g.O.Outlet.place g.O.Outlet.limits
       (λ k. k < l.place) l.moved l.tasks lists (g.O.Outlet.tells l.fn.lanes) (g.O.Outlet.tells l.lanes);
   burns : Burned l.moved (net_fuel {S = g.row.S.Denot} {K = g.row.K.Denot} {I = g.row.I.Denot} {O = g.row.O.Denot} l.fn.tasks) (net_fuel {S = g.row.S.Denot} {K = g.row.K.Denot} {I = g.row.I.Denot} {O = g.row.O.Denot} l.tasks);
-  once : EachMovesOnce {S = g.row.S.Denot} {K = g.row.K.Denot} {I = g.row.I.Denot} {O = g.row.O.Denot} l.fn.tasks l.tasks;
-  rest : (k : ℕ) → l.place ≤ k → slice_get l.tasks k ≡ slice_get l.fn.tasks k;
+  within : l.place ≤ length l.fn.tasks;
+  tried : AreTried {S = g.row.S.Denot} {K = g.row.K.Denot} {I = g.row.I.Denot} {O = g.row.O.Denot} g.S.Source.content g.K.Sink.bytes g.I.Inlet.received g.O.Outlet.sent g.I.Inlet.place g.O.Outlet.place g.O.Outlet.limits l.fn.tasks (g.O.Outlet.tells l.fn.lanes) l.place l.moved l.tasks (g.O.Outlet.tells l.lanes);
 }

@@ -4,8 +4,8 @@ use Rattle.world_core.proofs.run.prepare.Goals as goal
 pub returns : goal.returns
 returns g c = record {
   ways = c.in_ok-ways.ways.items;
-  ways_are = c.in_ok-ways.ensures c.requires.sound;
-  parts_are = rw (c.in_ok-new.ensures, c.lanes.view_is, ← c.as_slice.ensures.value) (c.in_ok-parts.ensures (linked_once c.requires.line.0 c.args.graph.now c.requires.line.1) (rw c.as_slice.ensures.value (c.in_ok-ways.ensures c.requires.sound)));
+  ways_are = c.in_ok-ways.ensures c.requires.built.sound;
+  parts_are = rw (c.in_ok-new.ensures, c.lanes.view_is, ← c.as_slice.ensures.value) (c.in_ok-parts.ensures (linked_once c.requires.built.tree c.args.graph.now c.requires.built.line) (rw c.as_slice.ensures.value (c.in_ok-ways.ensures c.requires.built.sound)));
   room = c.in_ok-counts_for.ensures;
   openings_are = c.in_ok-openings_of.ensures;
 }

@@ -1,5 +1,7 @@
 use Rattle.std.proofs.Common.{◌∙◌, ap, refl}
 use Rattle.graph_core.specs.Graph.{made}
+use Rattle.task_net.specs.Turns.{stop_of}
+use Rattle.world_core.specs.Ran.{stop_fault, stop_status}
 use Rattle.world_core.specs.Told.{pads_told, sinks_told}
 use Rattle.world_core.proofs.Runs.{run_ends_so, run_located, told_by}
 use Rattle.world_core.proofs.Started.{start_ready, start_wired}
@@ -34,7 +36,11 @@ returns-in-Ok-clause-turned g c =
       tells = g.O.Outlet.tells c.args.lanes.now;
       started = s;
       last = c.run_all-ran.new.tasks.items;
+      stop = stop_of c.run_all-ran.result;
+      over = g.O.Outlet.tells c.run_all-ran.new.lanes;
       turned = c.run_all-ran.ensures.turned;
+      status = c.in-Ok.ensures.status ∙ ap stop_status c.stop_in.ensures;
+      fault = c.in-Ok.ensures.fault ∙ ap (stop_fault (made c.args.graph.now)) c.stop_in.ensures;
       none = c.args.counts.pads.items;
       lengths = c.args.counts.lengths.items;
       room = c.requires.room;

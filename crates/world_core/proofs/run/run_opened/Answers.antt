@@ -6,9 +6,9 @@ pub returns-clause-ended : goal.returns-clause-ended
 returns-clause-ended g c =
     λ before after opens found.
     c.run_made.ensures.ended before record {
-      tree = c.requires.line.0;
-      is = c.requires.line.1;
-      sound = c.requires.sound;
+      tree = c.requires.built.tree;
+      is = c.requires.built.line;
+      sound = c.requires.built.sound;
       ways = c.requires.prepared.ways;
       ways_are = c.requires.prepared.ways_are;
       parts = prepared_parts c.args.prepared;
@@ -25,9 +25,9 @@ pub returns-clause-located : goal.returns-clause-located
 returns-clause-located g c =
     λ before after opens.
     c.run_made.ensures.located before record {
-      tree = c.requires.line.0;
-      is = c.requires.line.1;
-      sound = c.requires.sound;
+      tree = c.requires.built.tree;
+      is = c.requires.built.line;
+      sound = c.requires.built.sound;
       ways = c.requires.prepared.ways;
       ways_are = c.requires.prepared.ways_are;
       parts = prepared_parts c.args.prepared;
@@ -44,9 +44,9 @@ pub returns-clause-turned : goal.returns-clause-turned
 returns-clause-turned g c =
     λ before after opens found.
     c.run_made.ensures.turned before record {
-      tree = c.requires.line.0;
-      is = c.requires.line.1;
-      sound = c.requires.sound;
+      tree = c.requires.built.tree;
+      is = c.requires.built.line;
+      sound = c.requires.built.sound;
       ways = c.requires.prepared.ways;
       ways_are = c.requires.prepared.ways_are;
       parts = prepared_parts c.args.prepared;

@@ -36,17 +36,17 @@ returns-clause-ended g c =
     inr (record {
       entries = c.run_opened-end.ensures.entries;
       ended = ended_with c.args.graph (seen (g.F.Files.input c.args.files.now) (g.F.Files.output c.args.files.now) (g.F.Files.faults_of c.args.files.now) (g.F.Files.refused_of c.args.files.now) (g.F.Files.faults c.args.files.now) (g.F.Files.ends c.args.files.now)) (KnownHold c.args.graph (known_ends g.F.Src.Source.location g.F.Src.Source.content g.F.Src.Source.faults g.F.Snk.Sink.location g.F.Snk.Sink.bytes g.F.Snk.Sink.faults c.run_opened-end.result.ends.items)) (FilesHold c.args.graph (seen (g.F.Files.input c.close_all.new.files) (g.F.Files.output c.close_all.new.files) (g.F.Files.faults_of c.close_all.new.files) (g.F.Files.refused_of c.close_all.new.files) (g.F.Files.faults c.close_all.new.files) (g.F.Files.ends c.close_all.new.files))) (KnownFailed (known_ends g.F.Src.Source.location g.F.Src.Source.content g.F.Src.Source.faults g.F.Snk.Sink.location g.F.Snk.Sink.bytes g.F.Snk.Sink.faults c.run_opened-end.result.ends.items)) (FileFailed c.args.graph (seen (g.F.Files.input c.args.files.now) (g.F.Files.output c.args.files.now) (g.F.Files.faults_of c.args.files.now) (g.F.Files.refused_of c.args.files.now) (g.F.Files.faults c.args.files.now) (g.F.Files.ends c.args.files.now)) (seen (g.F.Files.input c.close_all.new.files) (g.F.Files.output c.close_all.new.files) (g.F.Files.faults_of c.close_all.new.files) (g.F.Files.refused_of c.close_all.new.files) (g.F.Files.faults c.close_all.new.files) (g.F.Files.ends c.close_all.new.files))) c.run_opened-end.result.end
-          (files_hold c.requires.line.0 c.args.graph c.requires.line.1 (known_ends g.F.Src.Source.location g.F.Src.Source.content g.F.Src.Source.faults g.F.Snk.Sink.location g.F.Snk.Sink.bytes g.F.Snk.Sink.faults c.run_opened-end.result.ends.items) (c.run_opened-end.ensures.located (seen (g.F.Files.input c.args.files.now) (g.F.Files.output c.args.files.now) (g.F.Files.faults_of c.args.files.now) (g.F.Files.refused_of c.args.files.now) (g.F.Files.faults c.args.files.now) (g.F.Files.ends c.args.files.now)) (seen (g.F.Files.input c.open_all.new.files) (g.F.Files.output c.open_all.new.files) (g.F.Files.faults_of c.open_all.new.files) (g.F.Files.refused_of c.open_all.new.files) (g.F.Files.faults c.open_all.new.files) (g.F.Files.ends c.open_all.new.files)) (opens_line (made c.args.graph) c.as_slice.result.now (known_ends g.F.Src.Source.location g.F.Src.Source.content g.F.Src.Source.faults g.F.Snk.Sink.location g.F.Snk.Sink.bytes g.F.Snk.Sink.faults c.in-Ok-open_all.ends.items) (seen (g.F.Files.input c.args.files.now) (g.F.Files.output c.args.files.now) (g.F.Files.faults_of c.args.files.now) (g.F.Files.refused_of c.args.files.now) (g.F.Files.faults c.args.files.now) (g.F.Files.ends c.args.files.now)) (seen (g.F.Files.input c.open_all.new.files) (g.F.Files.output c.open_all.new.files) (g.F.Files.faults_of c.open_all.new.files) (g.F.Files.refused_of c.open_all.new.files) (g.F.Files.faults c.open_all.new.files) (g.F.Files.ends c.open_all.new.files)) (c.as_slice.ensures.value ∙ c.in-Ok.ensures.openings_are) c.in-Ok-open_all.ensures.opened)) (seen (g.F.Files.input c.args.files.now) (g.F.Files.output c.args.files.now) (g.F.Files.faults_of c.args.files.now) (g.F.Files.refused_of c.args.files.now) (g.F.Files.faults c.args.files.now) (g.F.Files.ends c.args.files.now)) (seen (g.F.Files.input c.open_all.new.files) (g.F.Files.output c.open_all.new.files) (g.F.Files.faults_of c.open_all.new.files) (g.F.Files.refused_of c.open_all.new.files) (g.F.Files.faults c.open_all.new.files) (g.F.Files.ends c.open_all.new.files)) (seen (g.F.Files.input c.close_all.new.files) (g.F.Files.output c.close_all.new.files) (g.F.Files.faults_of c.close_all.new.files) (g.F.Files.refused_of c.close_all.new.files) (g.F.Files.faults c.close_all.new.files) (g.F.Files.ends c.close_all.new.files)) (known_ends g.F.Src.Source.location g.F.Src.Source.content g.F.Src.Source.faults g.F.Snk.Sink.location g.F.Snk.Sink.bytes g.F.Snk.Sink.faults c.in-Ok-open_all.ends.items) (opens_line (made c.args.graph) c.as_slice.result.now (known_ends g.F.Src.Source.location g.F.Src.Source.content g.F.Src.Source.faults g.F.Snk.Sink.location g.F.Snk.Sink.bytes g.F.Snk.Sink.faults c.in-Ok-open_all.ends.items) (seen (g.F.Files.input c.args.files.now) (g.F.Files.output c.args.files.now) (g.F.Files.faults_of c.args.files.now) (g.F.Files.refused_of c.args.files.now) (g.F.Files.faults c.args.files.now) (g.F.Files.ends c.args.files.now)) (seen (g.F.Files.input c.open_all.new.files) (g.F.Files.output c.open_all.new.files) (g.F.Files.faults_of c.open_all.new.files) (g.F.Files.refused_of c.open_all.new.files) (g.F.Files.faults c.open_all.new.files) (g.F.Files.ends c.open_all.new.files)) (c.as_slice.ensures.value ∙ c.in-Ok.ensures.openings_are) c.in-Ok-open_all.ensures.opened) c.close_all.ensures.alone) (file_failed c.requires.line.0 c.args.graph c.requires.line.1 (known_ends g.F.Src.Source.location g.F.Src.Source.content g.F.Src.Source.faults g.F.Snk.Sink.location g.F.Snk.Sink.bytes g.F.Snk.Sink.faults c.run_opened-end.result.ends.items) (c.run_opened-end.ensures.located (seen (g.F.Files.input c.args.files.now) (g.F.Files.output c.args.files.now) (g.F.Files.faults_of c.args.files.now) (g.F.Files.refused_of c.args.files.now) (g.F.Files.faults c.args.files.now) (g.F.Files.ends c.args.files.now)) (seen (g.F.Files.input c.open_all.new.files) (g.F.Files.output c.open_all.new.files) (g.F.Files.faults_of c.open_all.new.files) (g.F.Files.refused_of c.open_all.new.files) (g.F.Files.faults c.open_all.new.files) (g.F.Files.ends c.open_all.new.files)) (opens_line (made c.args.graph) c.as_slice.result.now (known_ends g.F.Src.Source.location g.F.Src.Source.content g.F.Src.Source.faults g.F.Snk.Sink.location g.F.Snk.Sink.bytes g.F.Snk.Sink.faults c.in-Ok-open_all.ends.items) (seen (g.F.Files.input c.args.files.now) (g.F.Files.output c.args.files.now) (g.F.Files.faults_of c.args.files.now) (g.F.Files.refused_of c.args.files.now) (g.F.Files.faults c.args.files.now) (g.F.Files.ends c.args.files.now)) (seen (g.F.Files.input c.open_all.new.files) (g.F.Files.output c.open_all.new.files) (g.F.Files.faults_of c.open_all.new.files) (g.F.Files.refused_of c.open_all.new.files) (g.F.Files.faults c.open_all.new.files) (g.F.Files.ends c.open_all.new.files)) (c.as_slice.ensures.value ∙ c.in-Ok.ensures.openings_are) c.in-Ok-open_all.ensures.opened)) (seen (g.F.Files.input c.args.files.now) (g.F.Files.output c.args.files.now) (g.F.Files.faults_of c.args.files.now) (g.F.Files.refused_of c.args.files.now) (g.F.Files.faults c.args.files.now) (g.F.Files.ends c.args.files.now)) (seen (g.F.Files.input c.open_all.new.files) (g.F.Files.output c.open_all.new.files) (g.F.Files.faults_of c.open_all.new.files) (g.F.Files.refused_of c.open_all.new.files) (g.F.Files.faults c.open_all.new.files) (g.F.Files.ends c.open_all.new.files)) (seen (g.F.Files.input c.close_all.new.files) (g.F.Files.output c.close_all.new.files) (g.F.Files.faults_of c.close_all.new.files) (g.F.Files.refused_of c.close_all.new.files) (g.F.Files.faults c.close_all.new.files) (g.F.Files.ends c.close_all.new.files)) (known_ends g.F.Src.Source.location g.F.Src.Source.content g.F.Src.Source.faults g.F.Snk.Sink.location g.F.Snk.Sink.bytes g.F.Snk.Sink.faults c.in-Ok-open_all.ends.items) (opens_line (made c.args.graph) c.as_slice.result.now (known_ends g.F.Src.Source.location g.F.Src.Source.content g.F.Src.Source.faults g.F.Snk.Sink.location g.F.Snk.Sink.bytes g.F.Snk.Sink.faults c.in-Ok-open_all.ends.items) (seen (g.F.Files.input c.args.files.now) (g.F.Files.output c.args.files.now) (g.F.Files.faults_of c.args.files.now) (g.F.Files.refused_of c.args.files.now) (g.F.Files.faults c.args.files.now) (g.F.Files.ends c.args.files.now)) (seen (g.F.Files.input c.open_all.new.files) (g.F.Files.output c.open_all.new.files) (g.F.Files.faults_of c.open_all.new.files) (g.F.Files.refused_of c.open_all.new.files) (g.F.Files.faults c.open_all.new.files) (g.F.Files.ends c.open_all.new.files)) (c.as_slice.ensures.value ∙ c.in-Ok.ensures.openings_are) c.in-Ok-open_all.ensures.opened) c.close_all.ensures.rose c.close_all.ensures.rose_of c.close_all.ensures.closes) (c.run_opened-end.ensures.ended (seen (g.F.Files.input c.args.files.now) (g.F.Files.output c.args.files.now) (g.F.Files.faults_of c.args.files.now) (g.F.Files.refused_of c.args.files.now) (g.F.Files.faults c.args.files.now) (g.F.Files.ends c.args.files.now)) (seen (g.F.Files.input c.open_all.new.files) (g.F.Files.output c.open_all.new.files) (g.F.Files.faults_of c.open_all.new.files) (g.F.Files.refused_of c.open_all.new.files) (g.F.Files.faults c.open_all.new.files) (g.F.Files.ends c.open_all.new.files)) (opens_line (made c.args.graph) c.as_slice.result.now (known_ends g.F.Src.Source.location g.F.Src.Source.content g.F.Src.Source.faults g.F.Snk.Sink.location g.F.Snk.Sink.bytes g.F.Snk.Sink.faults c.in-Ok-open_all.ends.items) (seen (g.F.Files.input c.args.files.now) (g.F.Files.output c.args.files.now) (g.F.Files.faults_of c.args.files.now) (g.F.Files.refused_of c.args.files.now) (g.F.Files.faults c.args.files.now) (g.F.Files.ends c.args.files.now)) (seen (g.F.Files.input c.open_all.new.files) (g.F.Files.output c.open_all.new.files) (g.F.Files.faults_of c.open_all.new.files) (g.F.Files.refused_of c.open_all.new.files) (g.F.Files.faults c.open_all.new.files) (g.F.Files.ends c.open_all.new.files)) (c.as_slice.ensures.value ∙ c.in-Ok.ensures.openings_are) c.in-Ok-open_all.ensures.opened) found);
+          (files_hold c.requires.built.tree c.args.graph c.requires.built.line (known_ends g.F.Src.Source.location g.F.Src.Source.content g.F.Src.Source.faults g.F.Snk.Sink.location g.F.Snk.Sink.bytes g.F.Snk.Sink.faults c.run_opened-end.result.ends.items) (c.run_opened-end.ensures.located (seen (g.F.Files.input c.args.files.now) (g.F.Files.output c.args.files.now) (g.F.Files.faults_of c.args.files.now) (g.F.Files.refused_of c.args.files.now) (g.F.Files.faults c.args.files.now) (g.F.Files.ends c.args.files.now)) (seen (g.F.Files.input c.open_all.new.files) (g.F.Files.output c.open_all.new.files) (g.F.Files.faults_of c.open_all.new.files) (g.F.Files.refused_of c.open_all.new.files) (g.F.Files.faults c.open_all.new.files) (g.F.Files.ends c.open_all.new.files)) (opens_line (made c.args.graph) c.as_slice.result.now (known_ends g.F.Src.Source.location g.F.Src.Source.content g.F.Src.Source.faults g.F.Snk.Sink.location g.F.Snk.Sink.bytes g.F.Snk.Sink.faults c.in-Ok-open_all.ends.items) (seen (g.F.Files.input c.args.files.now) (g.F.Files.output c.args.files.now) (g.F.Files.faults_of c.args.files.now) (g.F.Files.refused_of c.args.files.now) (g.F.Files.faults c.args.files.now) (g.F.Files.ends c.args.files.now)) (seen (g.F.Files.input c.open_all.new.files) (g.F.Files.output c.open_all.new.files) (g.F.Files.faults_of c.open_all.new.files) (g.F.Files.refused_of c.open_all.new.files) (g.F.Files.faults c.open_all.new.files) (g.F.Files.ends c.open_all.new.files)) (c.as_slice.ensures.value ∙ c.in-Ok.ensures.openings_are) c.in-Ok-open_all.ensures.opened)) (seen (g.F.Files.input c.args.files.now) (g.F.Files.output c.args.files.now) (g.F.Files.faults_of c.args.files.now) (g.F.Files.refused_of c.args.files.now) (g.F.Files.faults c.args.files.now) (g.F.Files.ends c.args.files.now)) (seen (g.F.Files.input c.open_all.new.files) (g.F.Files.output c.open_all.new.files) (g.F.Files.faults_of c.open_all.new.files) (g.F.Files.refused_of c.open_all.new.files) (g.F.Files.faults c.open_all.new.files) (g.F.Files.ends c.open_all.new.files)) (seen (g.F.Files.input c.close_all.new.files) (g.F.Files.output c.close_all.new.files) (g.F.Files.faults_of c.close_all.new.files) (g.F.Files.refused_of c.close_all.new.files) (g.F.Files.faults c.close_all.new.files) (g.F.Files.ends c.close_all.new.files)) (known_ends g.F.Src.Source.location g.F.Src.Source.content g.F.Src.Source.faults g.F.Snk.Sink.location g.F.Snk.Sink.bytes g.F.Snk.Sink.faults c.in-Ok-open_all.ends.items) (opens_line (made c.args.graph) c.as_slice.result.now (known_ends g.F.Src.Source.location g.F.Src.Source.content g.F.Src.Source.faults g.F.Snk.Sink.location g.F.Snk.Sink.bytes g.F.Snk.Sink.faults c.in-Ok-open_all.ends.items) (seen (g.F.Files.input c.args.files.now) (g.F.Files.output c.args.files.now) (g.F.Files.faults_of c.args.files.now) (g.F.Files.refused_of c.args.files.now) (g.F.Files.faults c.args.files.now) (g.F.Files.ends c.args.files.now)) (seen (g.F.Files.input c.open_all.new.files) (g.F.Files.output c.open_all.new.files) (g.F.Files.faults_of c.open_all.new.files) (g.F.Files.refused_of c.open_all.new.files) (g.F.Files.faults c.open_all.new.files) (g.F.Files.ends c.open_all.new.files)) (c.as_slice.ensures.value ∙ c.in-Ok.ensures.openings_are) c.in-Ok-open_all.ensures.opened) c.close_all.ensures.alone) (file_failed c.requires.built.tree c.args.graph c.requires.built.line (known_ends g.F.Src.Source.location g.F.Src.Source.content g.F.Src.Source.faults g.F.Snk.Sink.location g.F.Snk.Sink.bytes g.F.Snk.Sink.faults c.run_opened-end.result.ends.items) (c.run_opened-end.ensures.located (seen (g.F.Files.input c.args.files.now) (g.F.Files.output c.args.files.now) (g.F.Files.faults_of c.args.files.now) (g.F.Files.refused_of c.args.files.now) (g.F.Files.faults c.args.files.now) (g.F.Files.ends c.args.files.now)) (seen (g.F.Files.input c.open_all.new.files) (g.F.Files.output c.open_all.new.files) (g.F.Files.faults_of c.open_all.new.files) (g.F.Files.refused_of c.open_all.new.files) (g.F.Files.faults c.open_all.new.files) (g.F.Files.ends c.open_all.new.files)) (opens_line (made c.args.graph) c.as_slice.result.now (known_ends g.F.Src.Source.location g.F.Src.Source.content g.F.Src.Source.faults g.F.Snk.Sink.location g.F.Snk.Sink.bytes g.F.Snk.Sink.faults c.in-Ok-open_all.ends.items) (seen (g.F.Files.input c.args.files.now) (g.F.Files.output c.args.files.now) (g.F.Files.faults_of c.args.files.now) (g.F.Files.refused_of c.args.files.now) (g.F.Files.faults c.args.files.now) (g.F.Files.ends c.args.files.now)) (seen (g.F.Files.input c.open_all.new.files) (g.F.Files.output c.open_all.new.files) (g.F.Files.faults_of c.open_all.new.files) (g.F.Files.refused_of c.open_all.new.files) (g.F.Files.faults c.open_all.new.files) (g.F.Files.ends c.open_all.new.files)) (c.as_slice.ensures.value ∙ c.in-Ok.ensures.openings_are) c.in-Ok-open_all.ensures.opened)) (seen (g.F.Files.input c.args.files.now) (g.F.Files.output c.args.files.now) (g.F.Files.faults_of c.args.files.now) (g.F.Files.refused_of c.args.files.now) (g.F.Files.faults c.args.files.now) (g.F.Files.ends c.args.files.now)) (seen (g.F.Files.input c.open_all.new.files) (g.F.Files.output c.open_all.new.files) (g.F.Files.faults_of c.open_all.new.files) (g.F.Files.refused_of c.open_all.new.files) (g.F.Files.faults c.open_all.new.files) (g.F.Files.ends c.open_all.new.files)) (seen (g.F.Files.input c.close_all.new.files) (g.F.Files.output c.close_all.new.files) (g.F.Files.faults_of c.close_all.new.files) (g.F.Files.refused_of c.close_all.new.files) (g.F.Files.faults c.close_all.new.files) (g.F.Files.ends c.close_all.new.files)) (known_ends g.F.Src.Source.location g.F.Src.Source.content g.F.Src.Source.faults g.F.Snk.Sink.location g.F.Snk.Sink.bytes g.F.Snk.Sink.faults c.in-Ok-open_all.ends.items) (opens_line (made c.args.graph) c.as_slice.result.now (known_ends g.F.Src.Source.location g.F.Src.Source.content g.F.Src.Source.faults g.F.Snk.Sink.location g.F.Snk.Sink.bytes g.F.Snk.Sink.faults c.in-Ok-open_all.ends.items) (seen (g.F.Files.input c.args.files.now) (g.F.Files.output c.args.files.now) (g.F.Files.faults_of c.args.files.now) (g.F.Files.refused_of c.args.files.now) (g.F.Files.faults c.args.files.now) (g.F.Files.ends c.args.files.now)) (seen (g.F.Files.input c.open_all.new.files) (g.F.Files.output c.open_all.new.files) (g.F.Files.faults_of c.open_all.new.files) (g.F.Files.refused_of c.open_all.new.files) (g.F.Files.faults c.open_all.new.files) (g.F.Files.ends c.open_all.new.files)) (c.as_slice.ensures.value ∙ c.in-Ok.ensures.openings_are) c.in-Ok-open_all.ensures.opened) c.close_all.ensures.rose c.close_all.ensures.rose_of c.close_all.ensures.closes) (c.run_opened-end.ensures.ended (seen (g.F.Files.input c.args.files.now) (g.F.Files.output c.args.files.now) (g.F.Files.faults_of c.args.files.now) (g.F.Files.refused_of c.args.files.now) (g.F.Files.faults c.args.files.now) (g.F.Files.ends c.args.files.now)) (seen (g.F.Files.input c.open_all.new.files) (g.F.Files.output c.open_all.new.files) (g.F.Files.faults_of c.open_all.new.files) (g.F.Files.refused_of c.open_all.new.files) (g.F.Files.faults c.open_all.new.files) (g.F.Files.ends c.open_all.new.files)) (opens_line (made c.args.graph) c.as_slice.result.now (known_ends g.F.Src.Source.location g.F.Src.Source.content g.F.Src.Source.faults g.F.Snk.Sink.location g.F.Snk.Sink.bytes g.F.Snk.Sink.faults c.in-Ok-open_all.ends.items) (seen (g.F.Files.input c.args.files.now) (g.F.Files.output c.args.files.now) (g.F.Files.faults_of c.args.files.now) (g.F.Files.refused_of c.args.files.now) (g.F.Files.faults c.args.files.now) (g.F.Files.ends c.args.files.now)) (seen (g.F.Files.input c.open_all.new.files) (g.F.Files.output c.open_all.new.files) (g.F.Files.faults_of c.open_all.new.files) (g.F.Files.refused_of c.open_all.new.files) (g.F.Files.faults c.open_all.new.files) (g.F.Files.ends c.open_all.new.files)) (c.as_slice.ensures.value ∙ c.in-Ok.ensures.openings_are) c.in-Ok-open_all.ensures.opened) found);
     })
 
 pub returns-clause-given_back : goal.returns-clause-given_back
-returns-clause-given_back g c = λ small. ends_same c.requires.line.0 c.args.graph c.requires.line.1 (known_ends g.F.Src.Source.location g.F.Src.Source.content g.F.Src.Source.faults g.F.Snk.Sink.location g.F.Snk.Sink.bytes g.F.Snk.Sink.faults c.run_opened-end.result.ends.items) (c.run_opened-end.ensures.located (seen (g.F.Files.input c.args.files.now) (g.F.Files.output c.args.files.now) (g.F.Files.faults_of c.args.files.now) (g.F.Files.refused_of c.args.files.now) (g.F.Files.faults c.args.files.now) (g.F.Files.ends c.args.files.now)) (seen (g.F.Files.input c.open_all.new.files) (g.F.Files.output c.open_all.new.files) (g.F.Files.faults_of c.open_all.new.files) (g.F.Files.refused_of c.open_all.new.files) (g.F.Files.faults c.open_all.new.files) (g.F.Files.ends c.open_all.new.files)) (opens_line (made c.args.graph) c.as_slice.result.now (known_ends g.F.Src.Source.location g.F.Src.Source.content g.F.Src.Source.faults g.F.Snk.Sink.location g.F.Snk.Sink.bytes g.F.Snk.Sink.faults c.in-Ok-open_all.ends.items) (seen (g.F.Files.input c.args.files.now) (g.F.Files.output c.args.files.now) (g.F.Files.faults_of c.args.files.now) (g.F.Files.refused_of c.args.files.now) (g.F.Files.faults c.args.files.now) (g.F.Files.ends c.args.files.now)) (seen (g.F.Files.input c.open_all.new.files) (g.F.Files.output c.open_all.new.files) (g.F.Files.faults_of c.open_all.new.files) (g.F.Files.refused_of c.open_all.new.files) (g.F.Files.faults c.open_all.new.files) (g.F.Files.ends c.open_all.new.files)) (c.as_slice.ensures.value ∙ c.in-Ok.ensures.openings_are) c.in-Ok-open_all.ensures.opened)) (seen (g.F.Files.input c.args.files.now) (g.F.Files.output c.args.files.now) (g.F.Files.faults_of c.args.files.now) (g.F.Files.refused_of c.args.files.now) (g.F.Files.faults c.args.files.now) (g.F.Files.ends c.args.files.now)) (seen (g.F.Files.input c.open_all.new.files) (g.F.Files.output c.open_all.new.files) (g.F.Files.faults_of c.open_all.new.files) (g.F.Files.refused_of c.open_all.new.files) (g.F.Files.faults c.open_all.new.files) (g.F.Files.ends c.open_all.new.files)) (seen (g.F.Files.input c.close_all.new.files) (g.F.Files.output c.close_all.new.files) (g.F.Files.faults_of c.close_all.new.files) (g.F.Files.refused_of c.close_all.new.files) (g.F.Files.faults c.close_all.new.files) (g.F.Files.ends c.close_all.new.files)) (known_ends g.F.Src.Source.location g.F.Src.Source.content g.F.Src.Source.faults g.F.Snk.Sink.location g.F.Snk.Sink.bytes g.F.Snk.Sink.faults c.in-Ok-open_all.ends.items) (opens_line (made c.args.graph) c.as_slice.result.now (known_ends g.F.Src.Source.location g.F.Src.Source.content g.F.Src.Source.faults g.F.Snk.Sink.location g.F.Snk.Sink.bytes g.F.Snk.Sink.faults c.in-Ok-open_all.ends.items) (seen (g.F.Files.input c.args.files.now) (g.F.Files.output c.args.files.now) (g.F.Files.faults_of c.args.files.now) (g.F.Files.refused_of c.args.files.now) (g.F.Files.faults c.args.files.now) (g.F.Files.ends c.args.files.now)) (seen (g.F.Files.input c.open_all.new.files) (g.F.Files.output c.open_all.new.files) (g.F.Files.faults_of c.open_all.new.files) (g.F.Files.refused_of c.open_all.new.files) (g.F.Files.faults c.open_all.new.files) (g.F.Files.ends c.open_all.new.files)) (c.as_slice.ensures.value ∙ c.in-Ok.ensures.openings_are) c.in-Ok-open_all.ensures.opened) c.close_all.ensures.closes c.in-Ok.ensures.room.few small
+returns-clause-given_back g c = λ small. ends_same c.requires.built.tree c.args.graph c.requires.built.line (known_ends g.F.Src.Source.location g.F.Src.Source.content g.F.Src.Source.faults g.F.Snk.Sink.location g.F.Snk.Sink.bytes g.F.Snk.Sink.faults c.run_opened-end.result.ends.items) (c.run_opened-end.ensures.located (seen (g.F.Files.input c.args.files.now) (g.F.Files.output c.args.files.now) (g.F.Files.faults_of c.args.files.now) (g.F.Files.refused_of c.args.files.now) (g.F.Files.faults c.args.files.now) (g.F.Files.ends c.args.files.now)) (seen (g.F.Files.input c.open_all.new.files) (g.F.Files.output c.open_all.new.files) (g.F.Files.faults_of c.open_all.new.files) (g.F.Files.refused_of c.open_all.new.files) (g.F.Files.faults c.open_all.new.files) (g.F.Files.ends c.open_all.new.files)) (opens_line (made c.args.graph) c.as_slice.result.now (known_ends g.F.Src.Source.location g.F.Src.Source.content g.F.Src.Source.faults g.F.Snk.Sink.location g.F.Snk.Sink.bytes g.F.Snk.Sink.faults c.in-Ok-open_all.ends.items) (seen (g.F.Files.input c.args.files.now) (g.F.Files.output c.args.files.now) (g.F.Files.faults_of c.args.files.now) (g.F.Files.refused_of c.args.files.now) (g.F.Files.faults c.args.files.now) (g.F.Files.ends c.args.files.now)) (seen (g.F.Files.input c.open_all.new.files) (g.F.Files.output c.open_all.new.files) (g.F.Files.faults_of c.open_all.new.files) (g.F.Files.refused_of c.open_all.new.files) (g.F.Files.faults c.open_all.new.files) (g.F.Files.ends c.open_all.new.files)) (c.as_slice.ensures.value ∙ c.in-Ok.ensures.openings_are) c.in-Ok-open_all.ensures.opened)) (seen (g.F.Files.input c.args.files.now) (g.F.Files.output c.args.files.now) (g.F.Files.faults_of c.args.files.now) (g.F.Files.refused_of c.args.files.now) (g.F.Files.faults c.args.files.now) (g.F.Files.ends c.args.files.now)) (seen (g.F.Files.input c.open_all.new.files) (g.F.Files.output c.open_all.new.files) (g.F.Files.faults_of c.open_all.new.files) (g.F.Files.refused_of c.open_all.new.files) (g.F.Files.faults c.open_all.new.files) (g.F.Files.ends c.open_all.new.files)) (seen (g.F.Files.input c.close_all.new.files) (g.F.Files.output c.close_all.new.files) (g.F.Files.faults_of c.close_all.new.files) (g.F.Files.refused_of c.close_all.new.files) (g.F.Files.faults c.close_all.new.files) (g.F.Files.ends c.close_all.new.files)) (known_ends g.F.Src.Source.location g.F.Src.Source.content g.F.Src.Source.faults g.F.Snk.Sink.location g.F.Snk.Sink.bytes g.F.Snk.Sink.faults c.in-Ok-open_all.ends.items) (opens_line (made c.args.graph) c.as_slice.result.now (known_ends g.F.Src.Source.location g.F.Src.Source.content g.F.Src.Source.faults g.F.Snk.Sink.location g.F.Snk.Sink.bytes g.F.Snk.Sink.faults c.in-Ok-open_all.ends.items) (seen (g.F.Files.input c.args.files.now) (g.F.Files.output c.args.files.now) (g.F.Files.faults_of c.args.files.now) (g.F.Files.refused_of c.args.files.now) (g.F.Files.faults c.args.files.now) (g.F.Files.ends c.args.files.now)) (seen (g.F.Files.input c.open_all.new.files) (g.F.Files.output c.open_all.new.files) (g.F.Files.faults_of c.open_all.new.files) (g.F.Files.refused_of c.open_all.new.files) (g.F.Files.faults c.open_all.new.files) (g.F.Files.ends c.open_all.new.files)) (c.as_slice.ensures.value ∙ c.in-Ok.ensures.openings_are) c.in-Ok-open_all.ensures.opened) c.close_all.ensures.closes c.in-Ok.ensures.room.few small
 
 pub returns-clause-inputs : goal.returns-clause-inputs
 returns-clause-inputs g c = λ l. c.close_all.ensures.closes.input l ∙ (opens_line (made c.args.graph) c.as_slice.result.now (known_ends g.F.Src.Source.location g.F.Src.Source.content g.F.Src.Source.faults g.F.Snk.Sink.location g.F.Snk.Sink.bytes g.F.Snk.Sink.faults c.in-Ok-open_all.ends.items) (seen (g.F.Files.input c.args.files.now) (g.F.Files.output c.args.files.now) (g.F.Files.faults_of c.args.files.now) (g.F.Files.refused_of c.args.files.now) (g.F.Files.faults c.args.files.now) (g.F.Files.ends c.args.files.now)) (seen (g.F.Files.input c.open_all.new.files) (g.F.Files.output c.open_all.new.files) (g.F.Files.faults_of c.open_all.new.files) (g.F.Files.refused_of c.open_all.new.files) (g.F.Files.faults c.open_all.new.files) (g.F.Files.ends c.open_all.new.files)) (c.as_slice.ensures.value ∙ c.in-Ok.ensures.openings_are) c.in-Ok-open_all.ensures.opened).input l
 
 pub returns-clause-others : goal.returns-clause-others
-returns-clause-others g c = others_stay c.requires.line.0 c.args.graph c.requires.line.1 (known_ends g.F.Src.Source.location g.F.Src.Source.content g.F.Src.Source.faults g.F.Snk.Sink.location g.F.Snk.Sink.bytes g.F.Snk.Sink.faults c.run_opened-end.result.ends.items) (c.run_opened-end.ensures.located (seen (g.F.Files.input c.args.files.now) (g.F.Files.output c.args.files.now) (g.F.Files.faults_of c.args.files.now) (g.F.Files.refused_of c.args.files.now) (g.F.Files.faults c.args.files.now) (g.F.Files.ends c.args.files.now)) (seen (g.F.Files.input c.open_all.new.files) (g.F.Files.output c.open_all.new.files) (g.F.Files.faults_of c.open_all.new.files) (g.F.Files.refused_of c.open_all.new.files) (g.F.Files.faults c.open_all.new.files) (g.F.Files.ends c.open_all.new.files)) (opens_line (made c.args.graph) c.as_slice.result.now (known_ends g.F.Src.Source.location g.F.Src.Source.content g.F.Src.Source.faults g.F.Snk.Sink.location g.F.Snk.Sink.bytes g.F.Snk.Sink.faults c.in-Ok-open_all.ends.items) (seen (g.F.Files.input c.args.files.now) (g.F.Files.output c.args.files.now) (g.F.Files.faults_of c.args.files.now) (g.F.Files.refused_of c.args.files.now) (g.F.Files.faults c.args.files.now) (g.F.Files.ends c.args.files.now)) (seen (g.F.Files.input c.open_all.new.files) (g.F.Files.output c.open_all.new.files) (g.F.Files.faults_of c.open_all.new.files) (g.F.Files.refused_of c.open_all.new.files) (g.F.Files.faults c.open_all.new.files) (g.F.Files.ends c.open_all.new.files)) (c.as_slice.ensures.value ∙ c.in-Ok.ensures.openings_are) c.in-Ok-open_all.ensures.opened)) (seen (g.F.Files.input c.args.files.now) (g.F.Files.output c.args.files.now) (g.F.Files.faults_of c.args.files.now) (g.F.Files.refused_of c.args.files.now) (g.F.Files.faults c.args.files.now) (g.F.Files.ends c.args.files.now)) (seen (g.F.Files.input c.open_all.new.files) (g.F.Files.output c.open_all.new.files) (g.F.Files.faults_of c.open_all.new.files) (g.F.Files.refused_of c.open_all.new.files) (g.F.Files.faults c.open_all.new.files) (g.F.Files.ends c.open_all.new.files)) (seen (g.F.Files.input c.close_all.new.files) (g.F.Files.output c.close_all.new.files) (g.F.Files.faults_of c.close_all.new.files) (g.F.Files.refused_of c.close_all.new.files) (g.F.Files.faults c.close_all.new.files) (g.F.Files.ends c.close_all.new.files)) (known_ends g.F.Src.Source.location g.F.Src.Source.content g.F.Src.Source.faults g.F.Snk.Sink.location g.F.Snk.Sink.bytes g.F.Snk.Sink.faults c.in-Ok-open_all.ends.items) (opens_line (made c.args.graph) c.as_slice.result.now (known_ends g.F.Src.Source.location g.F.Src.Source.content g.F.Src.Source.faults g.F.Snk.Sink.location g.F.Snk.Sink.bytes g.F.Snk.Sink.faults c.in-Ok-open_all.ends.items) (seen (g.F.Files.input c.args.files.now) (g.F.Files.output c.args.files.now) (g.F.Files.faults_of c.args.files.now) (g.F.Files.refused_of c.args.files.now) (g.F.Files.faults c.args.files.now) (g.F.Files.ends c.args.files.now)) (seen (g.F.Files.input c.open_all.new.files) (g.F.Files.output c.open_all.new.files) (g.F.Files.faults_of c.open_all.new.files) (g.F.Files.refused_of c.open_all.new.files) (g.F.Files.faults c.open_all.new.files) (g.F.Files.ends c.open_all.new.files)) (c.as_slice.ensures.value ∙ c.in-Ok.ensures.openings_are) c.in-Ok-open_all.ensures.opened) c.close_all.ensures.others
+returns-clause-others g c = others_stay c.requires.built.tree c.args.graph c.requires.built.line (known_ends g.F.Src.Source.location g.F.Src.Source.content g.F.Src.Source.faults g.F.Snk.Sink.location g.F.Snk.Sink.bytes g.F.Snk.Sink.faults c.run_opened-end.result.ends.items) (c.run_opened-end.ensures.located (seen (g.F.Files.input c.args.files.now) (g.F.Files.output c.args.files.now) (g.F.Files.faults_of c.args.files.now) (g.F.Files.refused_of c.args.files.now) (g.F.Files.faults c.args.files.now) (g.F.Files.ends c.args.files.now)) (seen (g.F.Files.input c.open_all.new.files) (g.F.Files.output c.open_all.new.files) (g.F.Files.faults_of c.open_all.new.files) (g.F.Files.refused_of c.open_all.new.files) (g.F.Files.faults c.open_all.new.files) (g.F.Files.ends c.open_all.new.files)) (opens_line (made c.args.graph) c.as_slice.result.now (known_ends g.F.Src.Source.location g.F.Src.Source.content g.F.Src.Source.faults g.F.Snk.Sink.location g.F.Snk.Sink.bytes g.F.Snk.Sink.faults c.in-Ok-open_all.ends.items) (seen (g.F.Files.input c.args.files.now) (g.F.Files.output c.args.files.now) (g.F.Files.faults_of c.args.files.now) (g.F.Files.refused_of c.args.files.now) (g.F.Files.faults c.args.files.now) (g.F.Files.ends c.args.files.now)) (seen (g.F.Files.input c.open_all.new.files) (g.F.Files.output c.open_all.new.files) (g.F.Files.faults_of c.open_all.new.files) (g.F.Files.refused_of c.open_all.new.files) (g.F.Files.faults c.open_all.new.files) (g.F.Files.ends c.open_all.new.files)) (c.as_slice.ensures.value ∙ c.in-Ok.ensures.openings_are) c.in-Ok-open_all.ensures.opened)) (seen (g.F.Files.input c.args.files.now) (g.F.Files.output c.args.files.now) (g.F.Files.faults_of c.args.files.now) (g.F.Files.refused_of c.args.files.now) (g.F.Files.faults c.args.files.now) (g.F.Files.ends c.args.files.now)) (seen (g.F.Files.input c.open_all.new.files) (g.F.Files.output c.open_all.new.files) (g.F.Files.faults_of c.open_all.new.files) (g.F.Files.refused_of c.open_all.new.files) (g.F.Files.faults c.open_all.new.files) (g.F.Files.ends c.open_all.new.files)) (seen (g.F.Files.input c.close_all.new.files) (g.F.Files.output c.close_all.new.files) (g.F.Files.faults_of c.close_all.new.files) (g.F.Files.refused_of c.close_all.new.files) (g.F.Files.faults c.close_all.new.files) (g.F.Files.ends c.close_all.new.files)) (known_ends g.F.Src.Source.location g.F.Src.Source.content g.F.Src.Source.faults g.F.Snk.Sink.location g.F.Snk.Sink.bytes g.F.Snk.Sink.faults c.in-Ok-open_all.ends.items) (opens_line (made c.args.graph) c.as_slice.result.now (known_ends g.F.Src.Source.location g.F.Src.Source.content g.F.Src.Source.faults g.F.Snk.Sink.location g.F.Snk.Sink.bytes g.F.Snk.Sink.faults c.in-Ok-open_all.ends.items) (seen (g.F.Files.input c.args.files.now) (g.F.Files.output c.args.files.now) (g.F.Files.faults_of c.args.files.now) (g.F.Files.refused_of c.args.files.now) (g.F.Files.faults c.args.files.now) (g.F.Files.ends c.args.files.now)) (seen (g.F.Files.input c.open_all.new.files) (g.F.Files.output c.open_all.new.files) (g.F.Files.faults_of c.open_all.new.files) (g.F.Files.refused_of c.open_all.new.files) (g.F.Files.faults c.open_all.new.files) (g.F.Files.ends c.open_all.new.files)) (c.as_slice.ensures.value ∙ c.in-Ok.ensures.openings_are) c.in-Ok-open_all.ensures.opened) c.close_all.ensures.others
 
 pub returns-in-Err-open_all-clause-turned : goal.returns-in-Err-open_all-clause-turned
 returns-in-Err-open_all-clause-turned g c = λ found other. absurd (other (c.not_begun.ensures.ended found (seen (g.F.Files.input c.args.files.now) (g.F.Files.output c.args.files.now) (g.F.Files.faults_of c.args.files.now) (g.F.Files.refused_of c.args.files.now) (g.F.Files.faults c.args.files.now) (g.F.Files.ends c.args.files.now)) (seen (g.F.Files.input c.open_all.new.files) (g.F.Files.output c.open_all.new.files) (g.F.Files.faults_of c.open_all.new.files) (g.F.Files.refused_of c.open_all.new.files) (g.F.Files.faults c.open_all.new.files) (g.F.Files.ends c.open_all.new.files)) (rw (c.as_slice-in-Err-open_all.ensures.value, ← c.as_slice.ensures.value) c.in-Err-open_all.ensures.unopened)).status)
