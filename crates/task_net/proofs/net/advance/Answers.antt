@@ -13,7 +13,7 @@ pub returns-in-Ok-clause-goes : goal.returns-in-Ok-clause-goes
 returns-in-Ok-clause-goes g c = λ lists net. goes_any {S = g.row.S.Denot} {K = g.row.K.Denot} {I = g.row.I.Denot} {O = g.row.O.Denot} g.S.Source.content g.K.Sink.bytes g.I.Inlet.received g.O.Outlet.sent g.I.Inlet.place g.O.Outlet.place g.O.Outlet.limits _ c.in-Ok.moved c.step_at.new.tasks lists _ _ (c.in-Ok.ensures.goes lists net)
 
 pub returns-in-Ok-clause-come : goal.returns-in-Ok-clause-come
-returns-in-Ok-clause-come g c = 
+returns-in-Ok-clause-come g c =
     λ order start first told h.
     come_turn {S = g.row.S.Denot} {K = g.row.K.Denot} {I = g.row.I.Denot} {O = g.row.O.Denot} g.S.Source.content g.K.Sink.bytes g.I.Inlet.received g.O.Outlet.sent g.I.Inlet.place g.O.Outlet.place g.O.Outlet.limits order start first told c.args.tasks.now c.step_at.new.tasks _ _ c.args.turns.now c.next_among-place.new.self c.args.idle.now c.idle_turns.result c.in-Ok.moved c.next_among-place.result h c.requires.some
     (omega (arith, c.requires.idle, c.if-idle-eq-IDLE_TURNS.false)) (c.next_among-place.ensures.place c.requires.some) (c.next_among-place.ensures.among c.requires.some) c.idle_turns.ensures c.step_at.ensures.others c.step_at.ensures.count c.in-Ok.ensures.burns c.step_at.ensures.once c.in-Ok.ensures.goes
@@ -25,7 +25,7 @@ pub returns-in-Ok-clause-less : goal.returns-in-Ok-clause-less
 returns-in-Ok-clause-less g c = λ _. less_left c.in-Ok.moved c.idle_turns.result c.args.idle.now _ _ c.idle_turns.ensures (omega (arith, c.requires.idle, c.if-idle-eq-IDLE_TURNS.false)) c.in-Ok.ensures.burns
 
 pub returns-in-Err-clause-stopped : goal.returns-in-Err-clause-stopped
-returns-in-Err-clause-stopped g c = 
+returns-in-Err-clause-stopped g c =
     λ order start first told h.
     come_stop {S = g.row.S.Denot} {K = g.row.K.Denot} {I = g.row.I.Denot} {O = g.row.O.Denot} g.S.Source.content g.K.Sink.bytes g.I.Inlet.received g.O.Outlet.sent g.I.Inlet.place g.O.Outlet.place g.O.Outlet.limits order start first told c.args.tasks.now c.step_at.new.tasks _ _ c.args.turns.now c.next_among-place.new.self c.args.idle.now c.next_among-place.result c.in-Err.stop.task c.in-Err.stop.fault c.in-Err.ensures.within h c.requires.some (omega (arith, c.requires.idle, c.if-idle-eq-IDLE_TURNS.false))
     (c.next_among-place.ensures.place c.requires.some) (c.next_among-place.ensures.among c.requires.some) c.step_at.ensures.others c.step_at.ensures.count c.step_at.ensures.once c.in-Err.ensures.faulted
