@@ -1,9 +1,11 @@
 //! Rows of properties and of whole lists.
 use super::*;
-use el_src::Next;
+use el_law::LawKind;
+use el_src::{Next, Ramp};
 use gst_caps::{Caps, Fixed, List, Prop, Text};
 use gst_item::{Body, Buffer, ElementFault, Event, Flow, Item, Outs};
 use gst_outside::{MemSink, MemSource, Sink, Source};
+use gst_time::{Format, Segment};
 use std::alloc::Global;
 use std::test::Fail;
 
@@ -33,16 +35,52 @@ fn shown(alloc: Global, settings: &Settings) -> Result<String, Fail> {
         Settings::FileSrc(s) => {
             Ok(format!(in alloc; "filesrc {} {}", s.location.as_str(), s.blocksize)?)
         }
+        Settings::RampTestSrc(s) => shown_ramp(alloc, &s.ramp),
         Settings::Identity => Ok(String::from_str(alloc, "identity")?),
         Settings::CapsFilter(s) => {
             let caps = caps_text::print(alloc, &s.caps)?;
             Ok(format!(in alloc; "capsfilter {}", caps.as_str())?)
         }
         Settings::Queue(s) => Ok(format!(in alloc; "queue {} {} {}", s.buffers, s.bytes, s.time)?),
+        Settings::AudioConvert(s) => {
+            let caps = caps_text::print(alloc, &s.allowed)?;
+            Ok(format!(in alloc; "audioconvert {}", caps.as_str())?)
+        }
+        Settings::Law(kind) => Ok(String::from_str(alloc, law_of(*kind))?),
+        Settings::RawAudioParse(info) => {
+            Ok(format!(in alloc; "{} {} {}", info.format.name(), info.rate, info.channels)?)
+        }
+        Settings::AudioBufferSplit(s) => Ok(format!(in alloc; "audiobuffersplit {}", s.frames)?),
+        Settings::WavParse => Ok(String::from_str(alloc, "wavparse")?),
+        Settings::WavEnc => Ok(String::from_str(alloc, "wavenc")?),
         Settings::FileSink(s) => {
             Ok(format!(in alloc; "filesink {} {}", s.location.as_str(), s.keep_flushed)?)
         }
         Settings::FakeSink => Ok(String::from_str(alloc, "fakesink")?),
+    }
+}
+
+fn shown_ramp(alloc: Global, ramp: &Ramp) -> Result<String, Fail> {
+    let title = match &ramp.title {
+        Some(title) => title.as_str(),
+        None => "none",
+    };
+    let size = format!(in alloc; "{} {} {}", ramp.buffers, ramp.samples, ramp.rate)?;
+    Ok(format!(in alloc;
+        "ramp {} {} {} {}",
+        size.as_str(),
+        ramp.channels,
+        ramp.gap_every,
+        title
+    )?)
+}
+
+fn law_of(kind: LawKind) -> &'static str {
+    match kind {
+        LawKind::MulawEnc => "mulawenc",
+        LawKind::AlawEnc => "alawenc",
+        LawKind::MulawDec => "mulawdec",
+        LawKind::AlawDec => "alawdec",
     }
 }
 
@@ -99,6 +137,41 @@ filesink sync=true location=a: BadValue sync
 filesink keep-flushed=1: BadValue location
 fakesink sync=no: fakesink
 fakesink location=a: NoSuchProperty location
+ramptestsrc: ramp 16 1024 44100 1 0 none
+ramptestsrc num-buffers=1000000 samplesperbuffer=65536 rate=768000 channels=64 gap-every=1000000 title=t: ramp 1000000 65536 768000 64 1000000 t
+ramptestsrc num-buffers=0 samplesperbuffer=1 rate=1 title= name=r: ramp 0 1 1 1 0 
+ramptestsrc num-buffers=1000001: BadValue num-buffers
+ramptestsrc samplesperbuffer=0: BadValue samplesperbuffer
+ramptestsrc samplesperbuffer=65537: BadValue samplesperbuffer
+ramptestsrc rate=768001: BadValue rate
+ramptestsrc rate=0: BadValue rate
+ramptestsrc channels=65: BadValue channels
+ramptestsrc gap-every=1000001: BadValue gap-every
+ramptestsrc num-buffers=140738 samplesperbuffer=65536 rate=1: BadValue num-buffers
+ramptestsrc num-buffers=140737 samplesperbuffer=65536 rate=1: ramp 140737 65536 1 1 0 none
+ramptestsrc num-buffers=140738 samplesperbuffer=65536 rate=1 channels=0: BadValue channels
+ramptestsrc location=a: NoSuchProperty location
+audioconvert: audioconvert ANY
+audioconvert channels=1: NoSuchProperty channels
+mulawenc: mulawenc
+alawenc name=a: alawenc
+mulawdec: mulawdec
+alawdec: alawdec
+alawdec rate=8000: NoSuchProperty rate
+rawaudioparse: S16LE 44100 2
+rawaudioparse pcm-format=s8 sample-rate=768000 num-channels=64: S8 768000 64
+rawaudioparse pcm-format=s24le pcm-format=s32le: S32LE 44100 2
+rawaudioparse pcm-format=S16LE: BadValue pcm-format
+rawaudioparse pcm-format=f32le: BadValue pcm-format
+rawaudioparse sample-rate=0: BadValue sample-rate
+rawaudioparse num-channels=65: BadValue num-channels
+audiobuffersplit: audiobuffersplit 1024
+audiobuffersplit frames=1000000: audiobuffersplit 1000000
+audiobuffersplit frames=0: BadValue frames
+audiobuffersplit frames=1000001: BadValue frames
+wavparse: wavparse
+wavparse location=a: NoSuchProperty location
+wavenc: wavenc
 nosuch location=a: NoSuchKind";
     for row in rows.lines() {
         let (words, wanted) = row.split_once(": ").unwrap_or((row, ""));
@@ -108,7 +181,7 @@ nosuch location=a: NoSuchKind";
 }
 
 /// The pads of an element, and what may be done to it: the numbers of its pads, and letters for source, sink, queue,
-/// replaced, settable caps and location.
+/// replaced, settable caps, location, title and allowed caps.
 fn asked(alloc: Global, settings: &Settings) -> Result<String, Fail> {
     let mut text = format!(in alloc; "{}{}", settings.sink_pads(), settings.source_pads())?;
     let answers = [
@@ -118,6 +191,8 @@ fn asked(alloc: Global, settings: &Settings) -> Result<String, Fail> {
         (settings.may_be_replaced(), 'r'),
         (settings.is_settable("caps"), 'c'),
         (settings.location().is_some(), 'l'),
+        (settings.title().is_some(), 't'),
+        (settings.is_converter(), 'a'),
     ];
     for (answer, letter) in answers {
         if answer {
@@ -131,7 +206,14 @@ fn asked(alloc: Global, settings: &Settings) -> Result<String, Fail> {
 fn rows_of_questions(rt: HostRuntime) -> Result<(), Fail> {
     let alloc = rt.alloc();
     let rows = "filesrc location=a: 01sl
+ramptestsrc title=t: 01st
 identity: 11r
+audioconvert: 11ra
+mulawenc: 11r
+rawaudioparse: 11r
+audiobuffersplit: 11r
+wavparse: 11r
+wavenc: 11r
 capsfilter: 11rc
 queue: 11q
 filesink location=a: 10kl
@@ -154,6 +236,89 @@ fn a_template_is_the_filter(rt: HostRuntime) -> Result<(), Fail> {
     let filter = template(alloc, &settings, true, 0)?;
     assert_eq!(rt; caps_text::print(alloc, &filter)?.as_str(), "audio/x-raw");
     assert!(rt; matches!(template(alloc, &Settings::Identity, false, 0)?, Caps::Any));
+    Ok(())
+}
+
+/// The text of a template.
+fn template_text(alloc: Global, words: &str, sink: bool) -> Result<String, Fail> {
+    let Ok(settings) = checked(alloc, words)? else {
+        return Ok(String::new(alloc));
+    };
+    let pads = if sink {
+        settings.sink_pads()
+    } else {
+        settings.source_pads()
+    };
+    if pads == 0 {
+        return Ok(String::new(alloc));
+    }
+    let caps = template(alloc, &settings, sink, 0)?;
+    let text = caps_text::print(alloc, &caps)?;
+    Ok(String::from_str(alloc, text.as_str())?)
+}
+
+/// Raw audio of a format, or of a list of them.
+fn raw_text(alloc: Global, formats: &str) -> Result<String, Fail> {
+    Ok(format!(in alloc;
+        "audio/x-raw, channels=(int)[ 1, 64 ], format=(string){}, layout=(string)interleaved, rate=(int)[ 1, 768000 ]",
+        formats
+    )?)
+}
+
+/// The templates that a row names: `r` raw audio, `s` samples of 16 bits, `m` and `a` the laws, `w` a WAV file, `i`
+/// what one is read as, `o` what one is written of, and `*` all caps.
+fn named(alloc: Global, letter: &str) -> Result<String, Fail> {
+    let laws =
+        "audio/x-mulaw, channels=(int)[ 1, 64 ], rate=(int)[ 1, 768000 ]; audio/x-alaw, channels=(int)[ 1, 64 ], rate=(int)[ 1, 768000 ]";
+    let (mulaw, alaw) = laws.split_once("; ").unwrap_or(("", ""));
+    match letter {
+        "r" => raw_text(alloc, "{ S8, U8, S16LE, S16BE, S24LE, S32LE }"),
+        "s" => raw_text(alloc, "S16LE"),
+        "m" => Ok(String::from_str(alloc, mulaw)?),
+        "a" => Ok(String::from_str(alloc, alaw)?),
+        "w" => Ok(String::from_str(alloc, "audio/x-wav")?),
+        "i" => {
+            let raw = raw_text(alloc, "{ S8, U8, S16LE, S16BE, S24LE, S32LE }")?;
+            Ok(format!(in alloc; "{}; {}", raw.as_str(), laws)?)
+        }
+        "o" => {
+            let raw = raw_text(alloc, "{ U8, S16LE, S24LE, S32LE }")?;
+            Ok(format!(in alloc; "{}; {}", raw.as_str(), laws)?)
+        }
+        "*" => Ok(String::from_str(alloc, "ANY")?),
+        _ => Ok(String::new(alloc)),
+    }
+}
+
+#[test]
+fn rows_of_templates(rt: HostRuntime) -> Result<(), Fail> {
+    let alloc = rt.alloc();
+    let rows = "filesrc location=a:-*
+ramptestsrc:-s
+identity:**
+queue:**
+audioconvert:rr
+mulawenc:sm
+alawenc:sa
+mulawdec:ms
+alawdec:as
+rawaudioparse:*r
+audiobuffersplit:rr
+wavparse:*i
+wavenc:ow
+fakesink:*-";
+    for row in rows.lines() {
+        let (words, pads) = row.split_once(":").unwrap_or((row, ""));
+        let (sink, source) = pads.split_at(1);
+        assert_eq!(rt;
+            template_text(alloc, words, true)?.as_str(),
+            named(alloc, sink)?.as_str()
+        );
+        assert_eq!(rt;
+            template_text(alloc, words, false)?.as_str(),
+            named(alloc, source)?.as_str()
+        );
+    }
     Ok(())
 }
 
@@ -257,6 +422,155 @@ SFCB SFCB SFCB";
         );
         assert_eq!(rt;
             owed(alloc, &Settings::Identity, given)?.as_str(),
+            parts.next().unwrap_or("")
+        );
+    }
+    Ok(())
+}
+
+/// The bytes of a row, two digits each.
+fn bytes_of(alloc: Global, digits: &str) -> Result<Vec<u8>, Fail> {
+    let mut bytes = Vec::new(alloc);
+    let mut high = None;
+    for digit in digits.chars() {
+        let value = digit.to_digit(16).unwrap_or(0);
+        match high {
+            None => high = Some(value * 16),
+            Some(first) => {
+                bytes.push((first + value) as u8)?;
+                high = None;
+            }
+        }
+    }
+    Ok(bytes)
+}
+
+/// STREAM_START, the caps where there are some, a SEGMENT in bytes, the bytes as one buffer, and EOS.
+fn stream_of(alloc: Global, caps: &str, bytes: &str) -> Result<List<Item>, Fail> {
+    let mut items = List::new(alloc);
+    items.push(alloc, Item::Event(Event::StreamStart { id: 1 }))?;
+    if let Some(fixed) = caps_text::parse(alloc, caps)?.fixate(alloc)? {
+        items.push(alloc, Item::Event(Event::Caps(fixed)))?;
+    }
+    items.push(
+        alloc,
+        Item::Event(Event::Segment(Segment::new(Format::Bytes))),
+    )?;
+    let body = Body::from_vec(alloc, bytes_of(alloc, bytes)?)?;
+    items.push(
+        alloc,
+        Item::Buffer(Buffer {
+            body,
+            pts: None,
+            duration: None,
+            offset: None,
+            discont: false,
+        }),
+    )?;
+    items.push(alloc, Item::Event(Event::Eos))?;
+    Ok(items)
+}
+
+/// An item with its format, its bytes and its time.
+fn told(alloc: Global, item: &Item) -> Result<String, Fail> {
+    match item {
+        Item::Event(Event::Caps(caps)) => {
+            let text = caps_text::print_fixed(alloc, caps)?;
+            let format = text.as_str().split_once("format=(string)");
+            let name = match format {
+                Some((_, rest)) => rest.split_once(",").unwrap_or((rest, "")).0,
+                None => text
+                    .as_str()
+                    .split_once(",")
+                    .unwrap_or((text.as_str(), ""))
+                    .0,
+            };
+            Ok(format!(in alloc; "C{}", name)?)
+        }
+        Item::Event(Event::Segment(_)) => Ok(String::from_str(alloc, "G")?),
+        Item::Buffer(buffer) => {
+            let mut text = String::from_str(alloc, "B")?;
+            for byte in buffer.body.as_slice() {
+                text.push(char::from_digit(u32::from(*byte) / 16, 16).unwrap_or('?'))?;
+                text.push(char::from_digit(u32::from(*byte) % 16, 16).unwrap_or('?'))?;
+            }
+            Ok(text)
+        }
+        other => {
+            let mut text = String::new(alloc);
+            text.push(letter_of(other))?;
+            Ok(text)
+        }
+    }
+}
+
+/// What an element owes for a stream, item by item.
+fn denoted(
+    alloc: Global,
+    words: &str,
+    allowed: &str,
+    caps: &str,
+    bytes: &str,
+) -> Result<String, Fail> {
+    let mut text = String::new(alloc);
+    let Ok(settings) = checked(alloc, words)? else {
+        return Ok(text);
+    };
+    if settings.sink_pads() != 1 || settings.source_pads() != 1 {
+        return Ok(text);
+    }
+    let mut inputs = List::new(alloc);
+    inputs.push(alloc, stream_of(alloc, caps, bytes)?)?;
+    let allowed = caps_text::parse(alloc, allowed)?;
+    let Ok(outputs) = denote(alloc, &settings, 1, &allowed, &inputs) else {
+        return Ok(String::from_str(alloc, "fault")?);
+    };
+    for items in outputs.as_slice() {
+        for item in items.as_slice() {
+            text.push(' ')?;
+            text.push_str(told(alloc, item)?.as_str())?;
+        }
+    }
+    Ok(text)
+}
+
+/// The words of an element, the allowed caps, the caps and the bytes that it is fed, and what it owes.
+#[test]
+fn rows_of_audio(rt: HostRuntime) -> Result<(), Fail> {
+    let alloc = rt.alloc();
+    let rows = "audioconvert|audio/x-raw, format=S16BE|S16LE|0102| S CS16BE G B0201 E
+audioconvert|audio/x-raw, rate=44100|S16LE|0102|fault
+audioconvert|ANY|U8|80| S CU8 G B80 E
+mulawenc|ANY|S16LE|0000ff7f0080ffff0100| S Caudio/x-mulaw G Bff80007fff E
+alawenc|ANY|S16LE|0000ffffff7f0080| S Caudio/x-alaw G Bd555aa2a E
+alawenc|ANY|S16BE|0000|fault
+mulawdec|ANY|mulaw|ff00| S CS16LE G B00008482 E
+alawdec|ANY|alaw|d5| S CS16LE G B0800 E
+mulawdec|ANY|alaw|d5|fault
+rawaudioparse num-channels=1 sample-rate=8000|ANY|mulaw|010002| S CS16LE G B0100 E
+rawaudioparse num-channels=1 pcm-format=u8|ANY|mulaw|010002| S CU8 G B010002 E
+audiobuffersplit frames=1|ANY|S16LE|010002000300| S CS16LE G B0100 B0200 B0300 E
+audiobuffersplit frames=2|ANY|S16LE|010002000300| S CS16LE G B01000200 B0300 E
+wavenc|ANY|S16LE|01000200| S Caudio/x-wav G B524946462400000057415645666d74201000000001000100401f0000803e0000020010006461746100000000 B01000200 G B524946462800000057415645666d74201000000001000100401f0000803e0000020010006461746104000000 E
+wavparse|ANY|mulaw|524946462800000057415645666d74201000000001000100401f0000803e0000020010006461746104000000010002000900| S CS16LE G B01000200 E
+wavparse|ANY|mulaw|52494658|fault";
+    for row in rows.lines() {
+        let mut parts = row.split('|');
+        let words = parts.next().unwrap_or("");
+        let allowed = parts.next().unwrap_or("");
+        let caps = match parts.next().unwrap_or("") {
+            "mulaw" => String::from_str(alloc, "audio/x-mulaw, channels=1, rate=8000")?,
+            "alaw" => String::from_str(alloc, "audio/x-alaw, channels=1, rate=8000")?,
+            format => {
+                format!(in alloc;
+                    "audio/x-raw, channels=1, format={}, layout=interleaved, rate=8000",
+                    format
+                )?
+            }
+        };
+        let bytes = parts.next().unwrap_or("");
+        assert_eq!(rt;
+            denoted(alloc, words, allowed, caps.as_str(), bytes)?.as_str(),
             parts.next().unwrap_or("")
         );
     }
@@ -372,7 +686,10 @@ fn carried(alloc: Global, words: &str) -> Result<Option<u64>, Fail> {
     ) else {
         return Ok(Some(0));
     };
-    match (source_of(&from, Some(read), 0), sink_of(&to, Some(written))) {
+    match (
+        source_of(&from, None, Some(read), 0),
+        sink_of(&to, Some(written)),
+    ) {
         (Some(source), Some(sink)) => Ok(carry(alloc, source, sink)),
         _ => Ok(Some(0)),
     }

@@ -5,7 +5,7 @@ use Rattle.std.specs.Option.{option_map_or}
 use Rattle.std.proofs.lemmas.Bool.{eq-eqb}
 use Rattle.el_set.specs.Asked.{sink_pads}
 use Rattle.el_set.specs.declared.settings.Settings.{Settings}
-use Rattle.el_set.specs.declared.settings.Settings.TheVariants.{FileSrc, Identity, CapsFilter, Queue, FileSink, FakeSink}
+use Rattle.el_set.specs.declared.settings.Settings.TheVariants.{FileSrc, RampTestSrc, Identity, AudioConvert, Law, RawAudioParse, AudioBufferSplit, WavParse, WavEnc, CapsFilter, Queue, FileSink, FakeSink}
 use Rattle.graph_order.specs.Links.{IsLink}
 use Rattle.graph_core.specs.Asked.{End, asked}
 use Rattle.graph_core.specs.Comes.{Comes}
@@ -95,7 +95,14 @@ first_sink (Some m) pad w = go m.settings w
   where
     go : (s : Settings) → pad < sink_pads s → pad ≡ 0
     go (FileSrc s) w = absurd (omega (arith, w))
+    go (RampTestSrc s) w = absurd (omega (arith, w))
     go Identity w = omega (arith, w)
+    go (AudioConvert s) w = omega (arith, w)
+    go (Law kind) w = omega (arith, w)
+    go (RawAudioParse info) w = omega (arith, w)
+    go (AudioBufferSplit s) w = omega (arith, w)
+    go WavParse w = omega (arith, w)
+    go WavEnc w = omega (arith, w)
     go (CapsFilter s) w = omega (arith, w)
     go (Queue s) w = omega (arith, w)
     go (FileSink s) w = omega (arith, w)

@@ -76,6 +76,12 @@ head_content content (Source source) = source_content content source
 head_content content (Queue inlets) = None
 head_content content Unlinked = None
 
+-- whether it is a source that reads a file
+abbrev pub head_reads : {S I : Type 0} → Head S I → Bool
+head_reads (Source source) = is_some (source_file source)
+head_reads (Queue inlets) = false
+head_reads Unlinked = false
+
 -- the lane of a queue is of the table
 abbrev pub HeadIn : {S I : Type 0} → (I → ℕ) → Head S I → Option (List Lane) → Type 0
 HeadIn place (Source source) tells = Unit {0}

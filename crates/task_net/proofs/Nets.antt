@@ -72,6 +72,7 @@ module _ {S K I O : Type 0} (source_location content : S → Option (List ℕ)) 
     sink_number = refl;
     source = refl;
     contents = refl;
+    source_file = refl;
     sink = refl;
     inlet_number = refl;
     outlet_number = refl;
@@ -91,6 +92,7 @@ module _ {S K I O : Type 0} (source_location content : S → Option (List ℕ)) 
     sink_number = y.sink_number ∙ x.sink_number;
     source = y.source ∙ x.source;
     contents = y.contents ∙ x.contents;
+    source_file = y.source_file ∙ x.source_file;
     sink = y.sink ∙ x.sink;
     inlet_number = y.inlet_number ∙ x.inlet_number;
     outlet_number = y.outlet_number ∙ x.outlet_number;

@@ -55,7 +55,7 @@ use Rattle.world_core.specs.Stops.{ArePaired}
 use Rattle.world_core.proofs.Backs.{fold_quiet, fold_size, fold_there, value_here, value_size}
 use Rattle.world_core.proofs.Framed.{along_kept, before_that, paired_kept}
 use Rattle.world_core.proofs.Left.{left_none, left_size, left_there}
-use Rattle.world_core.proofs.Located.{file_location, file_of_writer, head_file, head_quiet, reader_is, reads_file, sink_location_is, tail_puts, tail_quiet, tail_size, writer_is, writes_file}
+use Rattle.world_core.proofs.Located.{file_location, file_of_writer, head_file, head_quiet, read_whole, reader_is, reads_file, sink_location_is, tail_puts, tail_quiet, tail_size, writer_is, writes_file}
 use Rattle.world_core.proofs.Numbers.{element_is}
 use Rattle.world_core.proofs.Started.{start_goes, start_paired, start_sink, start_source}
 
@@ -208,13 +208,13 @@ module _ {S K I O : Type 0} (source_location content : S → Option (List ℕ)) 
   within e m at = subst (λ (n : ℕ). e < n) (sym size_left) (slice_get_within made e m at)
 
   -- where a head is that of a source, its location is that of the source's element
-  head_told : (e : ℕ) (location : List ℕ) (end : End S K) (head : Head S I) → HeadAlong place_in (lane_place made links) made links e head → ReadsEnd s.ends e head → end_at s.ends e ≡ Some end → known_end source_location content source_faults sink_location bytes sink_faults end ≡ fresh_end before (Read location) → has is_source made e ≡ true
+  head_told : (e : ℕ) (m : Made) (location : List ℕ) (end : End S K) (head : Head S I) → opening_of m.settings ≡ Some (Read location) → HeadAlong place_in (lane_place made links) made links e head → ReadsEnd s.ends e m head → end_at s.ends e ≡ Some end → known_end source_location content source_faults sink_location bytes sink_faults end ≡ fresh_end before (Read location) → has is_source made e ≡ true
       → head_location source_location head ≡ Some location
-  head_told e location (Src file) (heads.Source one) along reads there known source =
-      file_location source_location one file (reads ∙ ap source_end there) ∙ ap (λ (k : Known). k.location) known
-  head_told e location (Snk file) (heads.Source one) along reads there known source = absurd (let no = ap (λ (k : Known). k.is_sink) known in cc)
-  head_told e location end (heads.Queue inlets) along reads there known source = absurd (queue_no_source (slice_get made e) along.0 source)
-  head_told e location end heads.Unlinked along reads there known source = absurd (queue_no_source (slice_get made e) along.0 source)
+  head_told e m location (Src file) (heads.Source one) opens along reads there known source =
+      file_location source_location one file (reads ∙ read_whole m.settings location _ opens ∙ ap source_end there) ∙ ap (λ (k : Known). k.location) known
+  head_told e m location (Snk file) (heads.Source one) opens along reads there known source = absurd (let no = ap (λ (k : Known). k.is_sink) known in cc)
+  head_told e m location end (heads.Queue inlets) opens along reads there known source = absurd (queue_no_source (slice_get made e) along.0 source)
+  head_told e m location end heads.Unlinked opens along reads there known source = absurd (queue_no_source (slice_get made e) along.0 source)
 
   -- what the head of a task reads has the location of its element
   head_at : (k : ℕ) (way : Way) (t : Task S K I O) (m : Made) (location : List ℕ) → slice_get s.ways k ≡ Some way → slice_get is k ≡ Some t → slice_get made way.first ≡ Some m → opening_of m.settings ≡ Some (Read location) → head_location source_location (head_of t) ≡ Some location
@@ -222,8 +222,8 @@ module _ {S K I O : Type 0} (source_location content : S → Option (List ℕ)) 
       let old = before_that source_location content sink_location place_in id_in place_out limits id_out tasks is framed same k t at in
       let end = opened_at source_location content source_faults sink_location bytes sink_faults made s.ends before s.opened s.opens way.first m (Read location) is_m opens in
       old.2.source
-      ∙ head_told way.first location end.0 (head_of old.0) (old_goes.each k way old.0 there old.1).head
-      (start_source source_location content source_faults sink_location bytes sink_faults received sent place_in place_out limits count graph tasks left tells before s k way old.0 there old.1 (head_of old.0) refl) end.1 end.2
+      ∙ head_told way.first m location end.0 (head_of old.0) opens (old_goes.each k way old.0 there old.1).head
+      (start_source source_location content source_faults sink_location bytes sink_faults received sent place_in place_out limits count graph tasks left tells before s k way old.0 there old.1 m is_m (head_of old.0) refl) end.1 end.2
       (asked_there is_source (slice_get made way.first) m is_m (reader_is m.settings location opens).0)
 
   -- the file of a source is at the number of its element

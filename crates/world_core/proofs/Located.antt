@@ -7,7 +7,7 @@ use Rattle.el_set.specs.Gives.{source_file, source_location as location_in}
 use Rattle.el_set.specs.Holds.{sink_file, sink_location as location_at}
 use Rattle.el_set.specs.Made.{file_for}
 use Rattle.el_set.specs.declared.settings.Settings.{Settings}
-use Rattle.el_set.specs.declared.settings.Settings.TheVariants.{FileSrc, Identity, CapsFilter, Queue as QueueSettings, FileSink, FakeSink}
+use Rattle.el_set.specs.declared.settings.Settings.TheVariants.{FileSrc, RampTestSrc, Identity, AudioConvert, Law, RawAudioParse, AudioBufferSplit, WavParse, WavEnc, CapsFilter, Queue as QueueSettings, FileSink, FakeSink}
 use Rattle.el_set.specs.declared.sink.SinkElement.{SinkElement}
 use Rattle.el_set.specs.declared.sink.SinkElement.TheVariants as sinks
 use Rattle.el_set.specs.declared.source.SourceElement.{SourceElement}
@@ -42,17 +42,47 @@ both_ways : {b : Bool} → b ≡ true → b ≡ false → ⊥
 both_ways t f = absurd (cc)
 
 -- what opens a file
-pub reads_file : (s : Settings) → is_source s ≡ true → (location : List ℕ) × (opening_of s ≡ Some (Read location))
+pub reads_file : (s : Settings) → reads s ≡ true → (location : List ℕ) × (opening_of s ≡ Some (Read location))
 reads_file (FileSrc s) h = (s.location, refl)
+reads_file (RampTestSrc s) h = absurd (cc)
 reads_file Identity h = absurd (cc)
+reads_file (AudioConvert s) h = absurd (cc)
+reads_file (Law kind) h = absurd (cc)
+reads_file (RawAudioParse info) h = absurd (cc)
+reads_file (AudioBufferSplit s) h = absurd (cc)
+reads_file WavParse h = absurd (cc)
+reads_file WavEnc h = absurd (cc)
 reads_file (CapsFilter s) h = absurd (cc)
 reads_file (QueueSettings s) h = absurd (cc)
 reads_file (FileSink s) h = absurd (cc)
 reads_file FakeSink h = absurd (cc)
 
+-- what is read of a file is all of it
+pub read_whole : {S : Type 0} (s : Settings) (location : List ℕ) (file : Option S) → opening_of s ≡ Some (Read location) → read_for s file ≡ file
+read_whole (FileSrc s) location file opens = refl
+read_whole (RampTestSrc s) location file opens = absurd (cc)
+read_whole Identity location file opens = absurd (cc)
+read_whole (AudioConvert s) location file opens = absurd (cc)
+read_whole (Law kind) location file opens = absurd (cc)
+read_whole (RawAudioParse info) location file opens = absurd (cc)
+read_whole (AudioBufferSplit s) location file opens = absurd (cc)
+read_whole WavParse location file opens = absurd (cc)
+read_whole WavEnc location file opens = absurd (cc)
+read_whole (CapsFilter s) location file opens = absurd (cc)
+read_whole (QueueSettings s) location file opens = absurd (cc)
+read_whole (FileSink s) location file opens = absurd (cc)
+read_whole FakeSink location file opens = absurd (cc)
+
 pub writes_file : (s : Settings) → writes s ≡ true → (location : List ℕ) × (opening_of s ≡ Some (Write location))
 writes_file (FileSrc s) h = absurd (cc)
+writes_file (RampTestSrc s) h = absurd (cc)
 writes_file Identity h = absurd (cc)
+writes_file (AudioConvert s) h = absurd (cc)
+writes_file (Law kind) h = absurd (cc)
+writes_file (RawAudioParse info) h = absurd (cc)
+writes_file (AudioBufferSplit s) h = absurd (cc)
+writes_file WavParse h = absurd (cc)
+writes_file WavEnc h = absurd (cc)
 writes_file (CapsFilter s) h = absurd (cc)
 writes_file (QueueSettings s) h = absurd (cc)
 writes_file (FileSink s) h = (s.location, refl)
@@ -61,7 +91,14 @@ writes_file FakeSink h = absurd (cc)
 -- and what kind of element does
 pub reader_is : (s : Settings) (location : List ℕ) → opening_of s ≡ Some (Read location) → (is_source s ≡ true) × (is_sink s ≡ false) × (writes s ≡ false)
 reader_is (FileSrc s) location h = (refl, refl, refl)
+reader_is (RampTestSrc s) location h = absurd (cc)
 reader_is Identity location h = absurd (cc)
+reader_is (AudioConvert s) location h = absurd (cc)
+reader_is (Law kind) location h = absurd (cc)
+reader_is (RawAudioParse info) location h = absurd (cc)
+reader_is (AudioBufferSplit s) location h = absurd (cc)
+reader_is WavParse location h = absurd (cc)
+reader_is WavEnc location h = absurd (cc)
 reader_is (CapsFilter s) location h = absurd (cc)
 reader_is (QueueSettings s) location h = absurd (cc)
 reader_is (FileSink s) location h = absurd (cc)
@@ -69,7 +106,14 @@ reader_is FakeSink location h = absurd (cc)
 
 pub writer_is : (s : Settings) (location : List ℕ) → opening_of s ≡ Some (Write location) → (writes s ≡ true) × (is_sink s ≡ true) × (is_source s ≡ false)
 writer_is (FileSrc s) location h = absurd (cc)
+writer_is (RampTestSrc s) location h = absurd (cc)
 writer_is Identity location h = absurd (cc)
+writer_is (AudioConvert s) location h = absurd (cc)
+writer_is (Law kind) location h = absurd (cc)
+writer_is (RawAudioParse info) location h = absurd (cc)
+writer_is (AudioBufferSplit s) location h = absurd (cc)
+writer_is WavParse location h = absurd (cc)
+writer_is WavEnc location h = absurd (cc)
 writer_is (CapsFilter s) location h = absurd (cc)
 writer_is (QueueSettings s) location h = absurd (cc)
 writer_is (FileSink s) location h = (refl, refl, refl)
@@ -78,7 +122,14 @@ writer_is FakeSink location h = absurd (cc)
 -- a filesink's file is that which it is given
 pub file_of_writer : {K : Type 0} (s : Settings) (file : Option K) → writes s ≡ true → file_for s file ≡ file
 file_of_writer (FileSrc s) file h = absurd (cc)
+file_of_writer (RampTestSrc s) file h = absurd (cc)
 file_of_writer Identity file h = absurd (cc)
+file_of_writer (AudioConvert s) file h = absurd (cc)
+file_of_writer (Law kind) file h = absurd (cc)
+file_of_writer (RawAudioParse info) file h = absurd (cc)
+file_of_writer (AudioBufferSplit s) file h = absurd (cc)
+file_of_writer WavParse file h = absurd (cc)
+file_of_writer WavEnc file h = absurd (cc)
 file_of_writer (CapsFilter s) file h = absurd (cc)
 file_of_writer (QueueSettings s) file h = absurd (cc)
 file_of_writer (FileSink s) file h = refl
