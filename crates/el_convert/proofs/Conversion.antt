@@ -1,5 +1,5 @@
 -- The bytes of samples, one by one, two for one and one for two.
-use Rattle.std.proofs.Common.{◌≡◌, ◌<◌, ◌≤◌, ◌+◌, ◌/◌, ℕ, zero, suc, ℤ, List, [], ◌∷◌, ◌++◌, map, length, take, drop, get_or, refl, sym, ap, ◌∙◌, append-nil, append_assoc, arith, ◌+ℤ◌, Result, Ok, Err}
+use Rattle.std.proofs.Common.{◌≡◌, ◌<◌, ◌≤◌, ◌+◌, ◌*◌, ◌/◌, ℕ, zero, suc, ℤ, List, [], ◌∷◌, ◌++◌, map, length, take, drop, get_or, refl, sym, ap, ◌∙◌, append-nil, append_assoc, arith, ◌+ℤ◌, Result, Ok, Err}
 use Rattle.std.specs.Prelude.{IfOk}
 use Rattle.std.specs.Int.{int_shr}
 use Rattle.std.proofs.lemmas.List.{take_more, take-map, drop-map}
@@ -7,6 +7,7 @@ use Rattle.std.proofs.lemmas.List.Concat.{flat_map-append}
 use Rattle.std.proofs.lemmas.List.Folds.{flat_map-map}
 use Rattle.std.proofs.lemmas.Bool.{lt-ltb, le-ltb}
 use Rattle.std.proofs.lemmas.List.{length-map}
+use Rattle.std.proofs.Math.Nat.{mul-le-mul_left}
 use Rattle.std.specs.List.{flat_map}
 use Rattle.std.specs.Simd.{first_chunks}
 use Rattle.audio_info.specs.Packing.{sample_width, sample_value}
@@ -17,6 +18,36 @@ use Rattle.el_convert.specs.Bodies.{pieces, half_sum, repacked, converted_bytes}
 pub flat_map_step : {X A : Type 0} (f : X → List A) (xs : List X) (i : ℕ) (x : X) (ys zs : List A) → i < length xs → x ≡ get_or xs i x → ys ≡ flat_map f (take i xs) → zs ≡ ys ++ f x → zs ≡ flat_map f (take (i + 1) xs)
 flat_map_step f xs i x ys zs within is made more =
     rw (more, made, take_more xs i x within, flat_map-append f (take i xs) (get_or xs i x ∷ []), ← is) (ap (λ s. flat_map f (take i xs) ++ s) (sym (append-nil (f x))))
+
+-- what is put behind with one more of some bytes
+pub appended : (old made new bytes : List ℕ) (i d : ℕ) → i < length bytes → made ≡ old ++ take i bytes → new ≡ made ++ get_or bytes i d ∷ [] → new ≡ old ++ take (i + 1) bytes
+appended old made new bytes i d within so more = rw (more, so, take_more bytes i d within) (append_assoc old (take i bytes) (get_or bytes i d ∷ []))
+
+-- how many bytes there are behind one more piece of n bytes, and that there is memory for it
+pub next_len : (n i a b : ℕ) → a ≡ n * i → b ≡ a + n → b ≡ n * (i + 1)
+next_len n i a b is more = rw (more, is) (omega arith)
+
+pub has_room : (n i m a room : ℕ) → i < m → a ≡ n * i → room ≡ n * m → a + n ≤ room
+has_room n i m a room within is has =
+    let le : n * suc i ≤ n * m = mul-le-mul_left n (omega arith) in
+    rw (is, has) (omega (arith, le))
+
+-- that there is memory for the first of two pieces of n bytes, and for the second
+pub first_room : (a n room : ℕ) → a + 2 * n ≤ room → a + n ≤ room
+first_room a n room both = omega (arith, both)
+
+pub second_room : (a n room next left : ℕ) → a + 2 * n ≤ room → next ≡ a + n → left ≡ room → next + n ≤ left
+second_room a n room next left both more same = omega (arith, both, more, same)
+
+pub at_most_four : (width n : ℕ) → width ≤ 4 → width ≡ n → n ≤ 4
+at_most_four width n few is = omega (arith, few, is)
+
+pub twice_more : (a n next last : ℕ) → next ≡ a + n → last ≡ next + n → last ≡ a + 2 * n
+twice_more a n next last first second = omega (arith, first, second)
+
+-- the same bytes put behind twice
+pub behind_twice : (old once new part bytes : List ℕ) → once ≡ old ++ part → new ≡ once ++ part → part ≡ bytes → new ≡ old ++ (bytes ++ bytes)
+behind_twice old once new part bytes first second is = second ∙ ap (λ l. l ++ part) first ∙ append_assoc old part part ∙ ap (λ l. old ++ (l ++ l)) is
 
 -- each value twice
 twice : {X A : Type 0} (h : ℤ → List A) (v : X → ℤ) (xs : List X) → flat_map (λ x. h (v x) ++ h (v x)) xs ≡ flat_map h (flat_map (λ y. y ∷ y ∷ []) (map v xs))

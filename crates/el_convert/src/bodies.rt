@@ -1,12 +1,12 @@
 //! Bodies of raw audio in another format and number of channels.
-ghost use Rattle.std.specs.Prelude.{◌≡◌, ◌≤◌, ◌*◌, ◌%◌, ◌^◌, ◌++◌, length, map, true, IfOk, pos, ◌+ℤ◌};
+ghost use Rattle.std.specs.Prelude.{◌≡◌, ◌≤◌, ◌+◌, ◌*◌, ◌%◌, ◌^◌, ◌++◌, length, map, take, true, IfOk, pos, ◌+ℤ◌, vec_len, vec_capacity};
 ghost use Rattle.std.specs.List.{flat_map};
 ghost use Rattle.std.specs.Int.{int_shr};
-ghost use Rattle.audio_info.specs.Packing.{IsRaw, FitsBytes, sample_width, sample_value};
+ghost use Rattle.audio_info.specs.Packing.{IsRaw, FitsBytes, sample_width, sample_value, sample_bytes};
 ghost use Rattle.gst_item.specs.declared.body.TheConstants.{LARGEST_BODY};
 ghost use Rattle.el_convert.specs.Bodies.{converted_bytes, half_sum as half_sum_of, rescaled as rescaled_value, repacked};
 
-use audio_info::{Info, Sample, get, put};
+use audio_info::{Info, Sample, get};
 use gst_caps::OutOfMemory;
 use gst_item::Body;
 use std::alloc::Global;
@@ -59,19 +59,20 @@ fn converted_samples(
 {
     let channels = input.channels;
     match input.format {
-        Sample::S8 => from_width::<1>(alloc, Sample::S8, channels, output, bytes),
-        Sample::U8 => from_width::<1>(alloc, Sample::U8, channels, output, bytes),
-        Sample::S16LE => from_width::<2>(alloc, Sample::S16LE, channels, output, bytes),
-        Sample::S16BE => from_width::<2>(alloc, Sample::S16BE, channels, output, bytes),
-        Sample::S24LE => from_width::<3>(alloc, Sample::S24LE, channels, output, bytes),
-        Sample::S32LE => from_width::<4>(alloc, Sample::S32LE, channels, output, bytes),
+        Sample::S8 => from_width::<1, 0>(alloc, Sample::S8, channels, output, bytes),
+        Sample::U8 => from_width::<1, 1>(alloc, Sample::U8, channels, output, bytes),
+        Sample::S16LE => from_width::<2, 0>(alloc, Sample::S16LE, channels, output, bytes),
+        Sample::S16BE => from_width::<2, 1>(alloc, Sample::S16BE, channels, output, bytes),
+        Sample::S24LE => from_width::<3, 0>(alloc, Sample::S24LE, channels, output, bytes),
+        Sample::S32LE => from_width::<4, 0>(alloc, Sample::S32LE, channels, output, bytes),
         Sample::MuLaw | Sample::ALaw => unreachable!(),
     }
 }
 
 #[inline(always)]
-/// The same, for samples of `IN` bytes that come in.
-fn from_width<const IN: usize>(
+/// The same, for samples of `IN` bytes that come in. `PLACE` tells the formats of one width apart, so that the compiler
+/// makes a function of each, whose loops ask nothing about the format.
+fn from_width<const IN: usize, const PLACE: usize>(
     alloc: Global,
     from: Sample,
     channels: u32,
@@ -142,7 +143,7 @@ fn kept<const IN: usize, const OUT: usize>(
     let mut made = Vec::with_capacity(alloc, OUT * samples.len())?;
     for sample in samples {
         let bytes = packed::<IN, OUT>(from, to, get(from, sample));
-        made.extend_from_slice(&bytes)?;
+        append::<OUT>(&mut made, &bytes);
     }
     Ok(made)
 }
@@ -165,8 +166,8 @@ fn doubled<const IN: usize, const OUT: usize>(
     let mut made = Vec::with_capacity(alloc, 2 * OUT * samples.len())?;
     for sample in samples {
         let bytes = packed::<IN, OUT>(from, to, get(from, sample));
-        made.extend_from_slice(&bytes)?;
-        made.extend_from_slice(&bytes)?;
+        append::<OUT>(&mut made, &bytes);
+        append::<OUT>(&mut made, &bytes);
     }
     Ok(made)
 }
@@ -189,7 +190,7 @@ fn halved<const IN: usize, const OUT: usize>(
     let mut made = Vec::with_capacity(alloc, OUT * pairs.len())?;
     for pair in pairs {
         let bytes = packed::<IN, OUT>(from, to, half::<IN>(from, pair));
-        made.extend_from_slice(&bytes)?;
+        append::<OUT>(&mut made, &bytes);
     }
     Ok(made)
 }
@@ -214,17 +215,53 @@ fn half_sum(left: i32, right: i32) -> i32
 }
 
 #[inline(always)]
-/// The bytes of a sample of `IN` bytes in another format, whose samples have `OUT` bytes.
-fn packed<const IN: usize, const OUT: usize>(from: Sample, to: Sample, value: i32) -> [u8; OUT]
+/// Puts the first `COUNT` bytes behind those of a vector that has memory for them.
+fn append<const COUNT: usize>(made: &mut Vec<u8>, bytes: &[u8; 4])
+    requires few { COUNT ≤ 4 }
+    requires room { vec_len made.old + COUNT ≤ vec_capacity made.old }
+    ensures items { made.new.items ≡ made.old.items ++ take COUNT bytes.now }
+    ensures len { vec_len made.new ≡ vec_len made.old + COUNT }
+    ensures capacity { vec_capacity made.new ≡ vec_capacity made.old }
+{
+    for place in 0..COUNT {
+        made.push_reserved(bytes[place]);
+    }
+}
+
+#[inline(always)]
+/// The bytes of a sample of `IN` bytes in another format, whose samples have `OUT` bytes, and others behind them.
+fn packed<const IN: usize, const OUT: usize>(from: Sample, to: Sample, value: i32) -> [u8; 4]
     requires raw { IsRaw to }
     requires bytes_in { sample_width from ≡ IN }
     requires bytes_out { sample_width to ≡ OUT }
     requires range { FitsBytes (sample_width from) value }
-    ensures { result ≡ repacked from to value }
+    ensures { take OUT result ≡ repacked from to value }
 {
-    let mut bytes = [0; OUT];
-    put(to, rescaled(value, IN as u32, OUT as u32), &mut bytes);
-    bytes
+    bytes_of(to, rescaled(value, IN as u32, OUT as u32))
+}
+
+#[inline(always)]
+/// The bytes of the sample of a value, and others behind them.
+fn bytes_of(to: Sample, value: i32) -> [u8; 4]
+    requires raw { IsRaw to }
+    requires range { FitsBytes (sample_width to) value }
+    ensures { take (sample_width to) result ≡ sample_bytes to value }
+{
+    match to {
+        Sample::S8 => [(value as i8).cast_unsigned(), 0, 0, 0],
+        Sample::U8 => [(value + 128) as u8, 0, 0, 0],
+        Sample::S16LE => {
+            let bytes = (value as i16).to_le_bytes();
+            [bytes[0], bytes[1], 0, 0]
+        }
+        Sample::S16BE => {
+            let bytes = (value as i16).to_be_bytes();
+            [bytes[0], bytes[1], 0, 0]
+        }
+        Sample::S24LE => value.to_le_bytes(),
+        Sample::S32LE => value.to_le_bytes(),
+        Sample::MuLaw | Sample::ALaw => unreachable!(),
+    }
 }
 
 #[inline(always)]

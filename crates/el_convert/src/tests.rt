@@ -8,6 +8,7 @@ use gst_caps::{Caps, Fixed, List, One, Structure, Text, Value};
 use gst_item::{Body, Buffer, ElementFault, Event, Flow, Item, Outs, StreamKind};
 use gst_time::{Format, Segment};
 use std::alloc::Global;
+use std::process::Abort;
 use std::test::Fail;
 
 /// Caps at 8000 frames a second: `l` S16LE, `b` S16BE, `3` S24LE, `4` S32LE, `8` S8, `m` mu-law, and others U8.
@@ -201,7 +202,7 @@ fn trace_of(alloc: Global, calls: &[u8]) -> Result<Vec<u8>, Fail> {
 #[test]
 fn calls(rt: HostRuntime) -> Result<(), Fail> {
     let alloc = rt.alloc();
-    let rows: [(&'static [u8], &'static [u8]); 17] = [
+    let rows: [(&'static [u8], &'static [u8]); 18] = [
         (b"slgtBNpe", b"++++++++:slgtBNpe"),
         (b"Bs", b"0+:s"),
         (b"mlB", b"x++:lB"),
@@ -209,6 +210,7 @@ fn calls(rt: HostRuntime) -> Result<(), Fail> {
         (b"WlB", b"-++:wF"),
         (b"lBAB", b"++-+:lBB"),
         (b"lBRBAB", b"++-y-+:lBB"),
+        (b"lBRBB", b"++-yy:lB"),
         (b"lRlAB", b"+-y-+:lB"),
         (b"WlBRAB", b"-++--+:wFlB"),
         (b"lWfB", b"+--+:lwF"),
@@ -309,6 +311,122 @@ fn bodies(rt: HostRuntime) -> Result<(), Fail> {
                 assert!(rt; !buffer.discont);
             }
             Item::Event(_) => assert!(rt; false, "{line}"),
+        }
+    }
+    Ok(())
+}
+
+/// 16 samples of 32 bits at equal distances, from the least to the greatest.
+const RAMP: [i32; 16] = [
+    -0x8000_0000,
+    -0x6EEE_EEEF,
+    -0x5DDD_DDDE,
+    -0x4CCC_CCCD,
+    -0x3BBB_BBBC,
+    -0x2AAA_AAAB,
+    -0x1999_999A,
+    -0x0888_8889,
+    0x0888_8888,
+    0x1999_9999,
+    0x2AAA_AAAA,
+    0x3BBB_BBBB,
+    0x4CCC_CCCC,
+    0x5DDD_DDDD,
+    0x6EEE_EEEE,
+    0x7FFF_FFFF,
+];
+
+/// The bits of a sample of 32 bits that a sample of the format has.
+fn bits_of(format: Sample) -> i32 {
+    match format {
+        Sample::S16LE | Sample::S16BE => -0x1_0000,
+        Sample::S24LE => -0x100,
+        Sample::S32LE => -1,
+        _ => -0x100_0000,
+    }
+}
+
+/// Adds the sample of the format that has the high bytes of this one.
+fn push_sample(bytes: &mut Vec<u8>, format: Sample, sample: i32) -> Result<(), Fail> {
+    let [first, second, third, last] = sample.to_be_bytes();
+    match format {
+        Sample::U8 => bytes.push(first ^ 0x80)?,
+        Sample::S16LE => bytes.extend_from_slice(&[second, first])?,
+        Sample::S16BE => bytes.extend_from_slice(&[first, second])?,
+        Sample::S24LE => bytes.extend_from_slice(&[third, second, first])?,
+        Sample::S32LE => bytes.extend_from_slice(&[last, third, second, first])?,
+        _ => bytes.push(first)?,
+    }
+    Ok(())
+}
+
+fn push_samples(bytes: &mut Vec<u8>, format: Sample, samples: &[i32]) -> Result<(), Fail> {
+    for sample in samples {
+        push_sample(bytes, format, *sample)?;
+    }
+    Ok(())
+}
+
+/// Adds what two samples become that stand one behind the other in a body: two frames of one channel, or one of two.
+fn push_pair(bytes: &mut Vec<u8>, from: Info, to: Info, pair: [i32; 2]) -> Result<(), Fail> {
+    let bits = bits_of(from.format);
+    let [left, right] = [pair[0] & bits, pair[1] & bits];
+    let middle = (left >> 1)
+        .wrapping_add(right >> 1)
+        .wrapping_add(left & right & 1);
+    match (from.channels, to.channels) {
+        (1, 2) => push_samples(bytes, to.format, &[left, left, right, right]),
+        (2, 1) => push_samples(bytes, to.format, &[middle & bits]),
+        _ => push_samples(bytes, to.format, &[left, right]),
+    }
+}
+
+/// Each format in one channel and in two.
+fn infos() -> [Info; 12] {
+    [
+        info_by(b'8', 1),
+        info_by(b'8', 2),
+        info_by(b'u', 1),
+        info_by(b'u', 2),
+        info_by(b'l', 1),
+        info_by(b'l', 2),
+        info_by(b'b', 1),
+        info_by(b'b', 2),
+        info_by(b'3', 1),
+        info_by(b'3', 2),
+        info_by(b'4', 1),
+        info_by(b'4', 2),
+    ]
+}
+
+fn check_pair(rt: &impl Abort, alloc: Global, from: Info, to: Info) -> Result<(), Fail> {
+    let mut bytes = Vec::new(alloc);
+    let mut wanted = Vec::new(alloc);
+    for left in RAMP {
+        for right in RAMP {
+            push_sample(&mut bytes, from.format, left)?;
+            push_sample(&mut bytes, from.format, right)?;
+            push_pair(&mut wanted, from, to, [left, right])?;
+        }
+    }
+    match body_for(alloc, from, to, bytes)? {
+        Item::Buffer(buffer) => {
+            assert!(rt;
+                buffer.body.as_slice() == wanted.as_slice(),
+                "{from:?} {to:?}"
+            );
+        }
+        Item::Event(_) => assert!(rt; false, "{from:?} {to:?}"),
+    }
+    Ok(())
+}
+
+/// Every pair of formats and of one channel and two, on all pairs of samples of the ramp.
+#[test]
+fn all_pairs(rt: HostRuntime) -> Result<(), Fail> {
+    for from in infos() {
+        for to in infos() {
+            check_pair(&rt, rt.alloc(), from, to)?;
         }
     }
     Ok(())

@@ -6,7 +6,7 @@ ghost use Rattle.el_law.specs.Companding.{format_of};
 ghost use Rattle.el_law.specs.Laws.{format_in, format_out, recoded_bytes};
 
 use crate::kind::LawKind;
-use audio_info::{Sample, alaw_dec, alaw_enc, get, mulaw_dec, mulaw_enc, put};
+use audio_info::{Sample, alaw_dec, alaw_enc, get, mulaw_dec, mulaw_enc};
 use gst_caps::OutOfMemory;
 use std::alloc::Global;
 
@@ -69,9 +69,16 @@ fn decoded(alloc: Global, law: Companding, codes: &[u8]) -> Result<Vec<u8>, OutO
 {
     let mut samples = Vec::with_capacity(alloc, 2 * codes.len())?;
     for code in codes {
-        let mut sample = [0; 2];
-        put(Sample::S16LE, i32::from(law.decode(*code)), &mut sample);
-        samples.extend_from_slice(&sample)?;
+        let sample = linear_bytes(law.decode(*code));
+        samples.push_reserved(sample[0]);
+        samples.push_reserved(sample[1]);
     }
     Ok(samples)
+}
+
+/// The bytes of a sample of 16 bits, the lower first.
+fn linear_bytes(sample: i16) -> [u8; 2]
+    ensures { result ≡ sample_bytes Linear sample }
+{
+    sample.to_le_bytes()
 }
