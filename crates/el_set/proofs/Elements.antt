@@ -1,5 +1,5 @@
 -- The elements between one sink pad and one source pad, kind by kind.
-use Rattle.std.proofs.Common.{◌≡◌, ℕ, Bool, true, false, List, [], ◌∷◌, ◌++◌, length, refl, sym, ap, ◌∙◌, if◌then◌else◌, append-nil, Result, Ok, Err, IfOk, IfErr, OnOk, arith}
+use Rattle.std.proofs.Common.{◌≡◌, ◌⊎◌, ℕ, Bool, true, false, List, [], ◌∷◌, ◌++◌, length, refl, sym, ap, ◌∙◌, inl, inr, if◌then◌else◌, append-nil, Result, Ok, Err, IfOk, IfErr, OnOk, arith}
 use Rattle.std.proofs.lemmas.List.{append_cancel_left, length_push}
 use Rattle.gst_caps.specs.declared.caps.Caps.{Caps}
 use Rattle.gst_item.specs.declared.flow.Flow.{Flow}
@@ -22,60 +22,104 @@ use Rattle.el_basic.specs.declared.caps_filter.CapsFilter.{CapsFilter}
 use Rattle.el_src.specs.Gave.{has_eos as eos_among}
 use Rattle.el_set.specs.declared.filter.FilterElement.{FilterElement}
 use Rattle.el_set.specs.declared.filter.FilterElement.TheVariants as elements
-use Rattle.el_set.specs.Stands.{Stands, PutsOut, without_eos}
+use Rattle.el_set.specs.Stands.{Stands, PutsOut, MeetsNone, without_eos}
 use Rattle.el_set.specs.Ends.{MeetsNoFault, EndsWithEos}
-use Rattle.el_set.proofs.Ends.{counted_eos, counted_plain, counted_eos_since, sections_plain, items_feeds, IsPassing, passes_is_passing, filters_is_passing, passing_ends, passing_meets_no_fault}
+use Rattle.el_set.proofs.Ends.{counted_eos, counted_eos_since, sections_plain, items_feeds, IsPassing, passes_is_passing, filters_is_passing, passing_ends, passing_meets_no_fault}
+use Rattle.el_set.proofs.Ending.{IsEnding, ending_eos, ending_sections, ending_among, ending_ends, met_none}
+use Rattle.el_set.proofs.Rules.{converts_ending, recodes_ending, raw_ending, splits_ending, wav_ending, encodes_ending}
 
 -- what an element stands for is owed by its rule
 pub elements_owe : (respond : Response) (element : FilterElement) (calls : List Call) (put : List Item) → Stands respond element calls put → put ≡ owed_for respond calls
 elements_owe respond (elements.Identity identity) calls put s = rw s.0 s.1.owed
 elements_owe respond (elements.CapsFilter filter) calls put s = rw s.1 s.2.owed
+elements_owe respond (elements.Convert convert) calls put s = rw s.1 s.2.owed
+elements_owe respond (elements.Law law) calls put s = rw s.1 s.2.owed
+elements_owe respond (elements.RawParse parser) calls put s = rw s.1 s.2.owed
+elements_owe respond (elements.Split split) calls put s = rw s.1 s.2.owed
+elements_owe respond (elements.WavParse parser) calls put s = rw s.1 s.2.owed
+elements_owe respond (elements.WavEnc encoder) calls put s = rw s.1 s.2.owed
 
 pub sections_end_by_eos : (respond : Response) (element : FilterElement) (calls : List Call) (put : List Item) → Stands respond element calls put
     → (all_called respond unfed calls).over ≡ has_eos calls
 sections_end_by_eos respond (elements.Identity identity) calls put s = rw s.0 (s.1.over ∙ sym s.1.eos)
 sections_end_by_eos respond (elements.CapsFilter filter) calls put s = rw s.1 (s.2.over ∙ sym s.2.eos)
+sections_end_by_eos respond (elements.Convert convert) calls put s = rw s.1 (s.2.over ∙ sym s.2.eos)
+sections_end_by_eos respond (elements.Law law) calls put s = rw s.1 (s.2.over ∙ sym s.2.eos)
+sections_end_by_eos respond (elements.RawParse parser) calls put s = rw s.1 (s.2.over ∙ sym s.2.eos)
+sections_end_by_eos respond (elements.Split split) calls put s = rw s.1 (s.2.over ∙ sym s.2.eos)
+sections_end_by_eos respond (elements.WavParse parser) calls put s = rw s.1 (s.2.over ∙ sym s.2.eos)
+sections_end_by_eos respond (elements.WavEnc encoder) calls put s = rw s.1 (s.2.over ∙ sym s.2.eos)
 
 pub nothing_behind_eos : (respond : Response) (element : FilterElement) (calls : List Call) (put : List Item) (x : Item) → Stands respond element calls put
     → has_eos calls ≡ true → next_owed respond calls x ≡ Ok []
 nothing_behind_eos respond element calls put x s ended = rw (sections_end_by_eos respond element calls put s ∙ ended) refl
 
--- each element puts out what counts of what it was given, and its rule passes or refuses
-puts_counted : (respond : Response) (element : FilterElement) (calls : List Call) (put : List Item) → Stands respond element calls put → put ≡ counted (items calls)
-puts_counted respond (elements.Identity identity) calls put s = s.1.all
-puts_counted respond (elements.CapsFilter filter) calls put s = s.2.all
+-- An element puts out what counts of what it was given, and its rule passes or refuses; or its rule owes EOS behind all
+-- else for EOS, and it met no fault.
+record PutsCounted (respond : Response) (calls : List Call) (put : List Item) : Type 0 where
+  passing : IsPassing respond
+  counts : put ≡ counted (items calls)
 
-is_passing : (respond : Response) (element : FilterElement) (calls : List Call) (put : List Item) → Stands respond element calls put → IsPassing respond
-is_passing respond (elements.Identity identity) calls put s = rw s.0 passes_is_passing
-is_passing respond (elements.CapsFilter filter) calls put s = rw s.1 (filters_is_passing s.0)
+record PutsOwed (respond : Response) (calls : List Call) : Type 0 where
+  ending : IsEnding respond
+  none : MeetsNone respond calls
+
+puts_by : (respond : Response) (element : FilterElement) (calls : List Call) (put : List Item) → Stands respond element calls put → PutsCounted respond calls put ⊎ PutsOwed respond calls
+puts_by respond (elements.Identity identity) calls put s = inl (record { passing = rw s.0 passes_is_passing; counts = s.1.all })
+puts_by respond (elements.CapsFilter filter) calls put s = inl (record { passing = rw s.1 (filters_is_passing s.0); counts = s.2.all })
+puts_by respond (elements.Convert convert) calls put s = inr (record { ending = rw s.1 (converts_ending s.0); none = s.3 })
+puts_by respond (elements.Law law) calls put s = inr (record { ending = rw s.1 (recodes_ending s.0); none = s.3 })
+puts_by respond (elements.RawParse parser) calls put s = inr (record { ending = rw s.1 (raw_ending s.0); none = s.3 })
+puts_by respond (elements.Split split) calls put s = inr (record { ending = rw s.1 (splits_ending s.0); none = s.3 })
+puts_by respond (elements.WavParse parser) calls put s = inr (record { ending = rw s.1 wav_ending; none = s.3 })
+puts_by respond (elements.WavEnc encoder) calls put s = inr (record { ending = rw s.1 encodes_ending; none = s.3 })
 
 -- EOS goes through an element, and nothing behind it
 pub eos_goes_through : (respond : Response) (element : FilterElement) (calls : List Call) (put : List Item) → Stands respond element calls put
     → has_item (in_force put).eos ≡ has_eos calls
-eos_goes_through respond element calls put s = ap (λ xs. has_item (in_force xs).eos) (puts_counted respond element calls put s) ∙ counted_eos_since (items calls)
+eos_goes_through respond element calls put s = go (puts_by respond element calls put s)
+  where
+    go : PutsCounted respond calls put ⊎ PutsOwed respond calls → has_item (in_force put).eos ≡ has_eos calls
+    go (inl p) = ap (λ (xs : List Item). has_item (in_force xs).eos) p.counts ∙ counted_eos_since (items calls)
+    go (inr p) =
+        ap (λ (xs : List Item). has_item (in_force xs).eos) (elements_owe respond element calls put s) ∙ ending_eos respond calls p.ending p.none
+        ∙ sections_end_by_eos respond element calls put s
 
 pub nothing_goes_behind_eos : (respond : Response) (element : FilterElement) (calls : List Call) (put : List Item) (j : ℕ) → Stands respond element calls put
     → IsPlain (section j put)
-nothing_goes_behind_eos respond element calls put j s = rw (puts_counted respond element calls put s) (sections_plain j (items calls))
+nothing_goes_behind_eos respond element calls put j s = go (puts_by respond element calls put s)
+  where
+    go : PutsCounted respond calls put ⊎ PutsOwed respond calls → IsPlain (section j put)
+    go (inl p) = rw p.counts (sections_plain j (items calls))
+    go (inr p) = rw (elements_owe respond element calls put s) (ending_sections respond calls j p.ending p.none)
 
 -- the same for one section
-fed_counted : (respond : Response) (element : FilterElement) (list put : List Item) → Stands respond element (feeds list) put → put ≡ counted list
-fed_counted respond element list put s = puts_counted respond element (feeds list) put s ∙ ap counted (items_feeds list)
-
 pub put_has_eos : (respond : Response) (element : FilterElement) (list put : List Item) → Stands respond element (feeds list) put → eos_among put ≡ eos_among list
-put_has_eos respond element list put s = ap eos_among (fed_counted respond element list put s) ∙ counted_eos list
-
-pub put_is_plain : (respond : Response) (element : FilterElement) (list put : List Item) → has_flush_stop list ≡ false → Stands respond element (feeds list) put → IsPlain put
-put_is_plain respond element list put h s = rw (fed_counted respond element list put s) (counted_plain list h)
+put_has_eos respond element list put s = go (puts_by respond element (feeds list) put s)
+  where
+    go : PutsCounted respond (feeds list) put ⊎ PutsOwed respond (feeds list) → eos_among put ≡ eos_among list
+    go (inl p) = ap eos_among (p.counts ∙ ap counted (items_feeds list)) ∙ counted_eos list
+    go (inr p) = ap eos_among (elements_owe respond element (feeds list) put s) ∙ ending_among respond list p.ending p.none
 
 -- and of the rule alone
 pub rules_end_with_eos : (respond : Response) (element : FilterElement) (calls : List Call) (put : List Item) → Stands respond element calls put → EndsWithEos respond
-rules_end_with_eos respond element calls put s = passing_ends respond (is_passing respond element calls put s)
+rules_end_with_eos respond element calls put s = go (puts_by respond element calls put s)
+  where
+    go : PutsCounted respond calls put ⊎ PutsOwed respond calls → EndsWithEos respond
+    go (inl p) = passing_ends respond p.passing
+    go (inr p) = ending_ends respond p.ending
+
+pub put_is_plain : (respond : Response) (element : FilterElement) (list put : List Item) → has_flush_stop list ≡ false → Stands respond element (feeds list) put → IsPlain put
+put_is_plain respond element list put h s =
+    rw (elements_owe respond element (feeds list) put s) ((rules_end_with_eos respond element (feeds list) put s).plain list h)
 
 pub no_fault_was_met : (respond : Response) (element : FilterElement) (list put : List Item) → has_flush_stop list ≡ false → Stands respond element (feeds list) put → MeetsNoFault respond list
-no_fault_was_met respond element list put h s =
-    passing_meets_no_fault respond (is_passing respond element (feeds list) put s) list h
-    (sym (elements_owe respond element (feeds list) put s) ∙ fed_counted respond element list put s)
+no_fault_was_met respond element list put h s = go (puts_by respond element (feeds list) put s)
+  where
+    go : PutsCounted respond (feeds list) put ⊎ PutsOwed respond (feeds list) → MeetsNoFault respond list
+    go (inl p) =
+        passing_meets_no_fault respond p.passing list h (sym (elements_owe respond element (feeds list) put s) ∙ p.counts ∙ ap counted (items_feeds list))
+    go (inr p) = met_none respond list p.none
 
 -- an element that puts out an item which it takes puts out what it owes
 owed_taken : (respond : Response) (calls : List Call) (x : Item) (put : List Item) (flow : Flow) → is_flush_stop x ≡ false

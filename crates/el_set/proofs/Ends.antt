@@ -24,7 +24,7 @@ eos_from true [] = refl
 eos_from false xs = refl
 eos_from true (x ∷ xs) = eos_from true xs
 
-eos_first : (x : Item) (xs : List Item) → has_eos (x ∷ xs) ≡ (is_eos x || has_eos xs)
+pub eos_first : (x : Item) (xs : List Item) → has_eos (x ∷ xs) ≡ (is_eos x || has_eos xs)
 eos_first x xs = eos_from (is_eos x) xs
 
 pub eos_latest : (xs : List Item) → has_item (latest is_eos xs) ≡ has_eos xs
@@ -38,7 +38,7 @@ eos_latest (x ∷ xs) = go (is_eos x) (latest is_eos xs) (has_eos xs) (eos_lates
     go false (z ∷ zs) h is = is
 
 -- no FLUSH_STOP in a list, item by item
-none_first : (x : Item) (xs : List Item) → has_flush_stop (x ∷ xs) ≡ false → (is_flush_stop x ≡ false) × (has_flush_stop xs ≡ false)
+pub none_first : (x : Item) (xs : List Item) → has_flush_stop (x ∷ xs) ≡ false → (is_flush_stop x ≡ false) × (has_flush_stop xs ≡ false)
 none_first x xs h = go (is_flush_stop x) refl h
   where
     go : (b : Bool) → is_flush_stop x ≡ b → (if b then true else has_flush_stop xs) ≡ false → (is_flush_stop x ≡ false) × (has_flush_stop xs ≡ false)
@@ -140,7 +140,7 @@ eos_next x c xs same more first some = go (has_flush_stop xs) (is_flush_stop x) 
 eos_all : (xs : List Item) → has_item (latest is_eos (counted xs)) ≡ has_item (latest is_eos xs)
 eos_all xs = eos_latest (counted xs) ∙ counted_eos xs ∙ sym (eos_latest xs)
 
-flush_is_no_eos : (x : Item) → is_flush_stop x ≡ true → is_eos x ≡ false
+pub flush_is_no_eos : (x : Item) → is_flush_stop x ≡ true → is_eos x ≡ false
 flush_is_no_eos (Ev Eos) e = absurd (cc)
 flush_is_no_eos (Buf b) e = refl
 flush_is_no_eos (Ev (StreamStart id)) e = refl

@@ -1,17 +1,18 @@
 -- The given properties one by one.
-use Rattle.std.proofs.Common.{◌≡◌, ℕ, ◌+◌, ◌<◌, ◌≤◌, Bool, List, [], ◌∷◌, ◌++◌, length, take, get_or, refl, sym, ap, ◌∙◌, if◌then◌else◌, Option, None, Some, bytes_eq, MatchOption, true, false, arith}
+use Rattle.std.proofs.Common.{◌≡◌, ℕ, ◌+◌, ◌<◌, ◌≤◌, Bool, List, [], ◌∷◌, ◌++◌, length, take, get_or, refl, sym, ap, ◌∙◌, if◌then◌else◌, Option, None, Some, bytes_eq, is_some, MatchOption, true, false, arith}
 use Rattle.std.specs.Bool.{⊤}
 use Rattle.std.proofs.lemmas.Slice.Eq.{bytes_eq-Decides}
 use Rattle.std.specs.Option.{option_map}
 use Rattle.std.proofs.lemmas.List.{take_more}
 use Rattle.gst_caps.specs.declared.name.Prop.{Prop}
 use Rattle.el_set.specs.declared.kind.Kind.{Kind}
-use Rattle.el_set.specs.Values.{IsTaken, AllTaken, or_else, last_value, NumberOr}
+use Rattle.el_set.specs.Values.{IsTaken, AllTaken, or_else, last_value, NumberOr, FormatOr}
 use Rattle.el_set.specs.declared.domain.Domain.{Domain}
-use Rattle.el_set.specs.declared.domain.Domain.TheVariants.{Number, Caps as CapsTexts}
+use Rattle.el_set.specs.declared.domain.Domain.TheVariants.{Number, Format, Caps as CapsTexts}
 use Rattle.el_set.specs.Numbers.{IsNumber}
-use Rattle.el_set.specs.Rows.{domain_named, InDomain}
+use Rattle.el_set.specs.Rows.{domain_named, find_row, formats, InDomain}
 use Rattle.gst_caps.specs.declared.caps.Caps.{Caps}
+use Rattle.audio_info.specs.declared.sample.Sample.{Sample}
 use Rattle.caps_text.specs.Grammar.{IsCapsText}
 
 pub or_else-or_else : {V : Type 0} → (a b c : Option V) → or_else (or_else a b) c ≡ or_else a (or_else b c)
@@ -90,6 +91,22 @@ number_is kind name least most limit plain props r row fits all given = go (last
     go (Some text) same e =
         let n = taken_value kind name (Number least most) props row all text same in
         rw (e n.0 n.1 (omega (arith, fits, n.3))) n.1
+
+-- and so is a format
+pub format_is : (kind : Kind) (name : List ℕ) (plain : Sample) (props : List Prop) (r : Sample) → domain_named kind name ≡ Some Format → AllTaken kind props
+    → MatchOption (last_value name props) (r ≡ plain) (λ text. (format : Sample) → find_row text formats ≡ Some format → r ≡ format)
+    → FormatOr name plain props r
+format_is kind name plain props r row all given = go (last_value name props) refl given
+  where
+    read : (text : List ℕ) (o : Option Sample) → find_row text formats ≡ o → is_some o ≡ true → ((format : Sample) → find_row text formats ≡ Some format → r ≡ format)
+        → find_row text formats ≡ Some r
+    read text None is some e = absurd (cc)
+    read text (Some format) is some e = is ∙ ap (λ f. Some f) (sym (e format is))
+
+    go : (o : Option (List ℕ)) → last_value name props ≡ o → MatchOption o (r ≡ plain) (λ text. (format : Sample) → find_row text formats ≡ Some format → r ≡ format)
+        → MatchOption o (r ≡ plain) (λ text. find_row text formats ≡ Some r)
+    go None same e = e
+    go (Some text) same e = read text (find_row text formats) refl (taken_value kind name Format props row all text same) e
 
 pub caps_taken : {V : Type 0} (f : V → List ℕ) (kind : Kind) (name : List ℕ) (props : List Prop) → domain_named kind name ≡ Some CapsTexts → AllTaken kind props
     → (o : Option V) → option_map f o ≡ last_value name props → MatchOption o ⊤ (λ v. (caps : Caps) × IsCapsText (f v) caps)

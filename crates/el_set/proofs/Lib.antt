@@ -3,7 +3,13 @@ pub mod Given
 pub mod Faults
 pub mod WholeLists
 pub mod Ends
+pub mod Ending
+pub mod Rules
+pub mod Following
+pub mod SettingRules
 pub mod Elements
 pub mod Sources
+pub mod Ramps
 pub mod Copied
 pub mod OneSet
+pub mod Lists

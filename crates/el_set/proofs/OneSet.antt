@@ -1,26 +1,31 @@
 -- What properties set an element to is one thing, or one fault.
-use Rattle.std.proofs.Common.{◌≡◌, ◌≤◌, ℕ, Bool, false, List, [], ◌∷◌, ◌++◌, Option, None, Some, Result, Ok, Err, MatchOption, refl, sym, ap, ◌∙◌, subst, inl, inr, codes}
+use Rattle.std.proofs.Common.{◌≡◌, ◌≤◌, ◌<◌, ◌*◌, ◌^◌, ℕ, Bool, false, List, [], ◌∷◌, ◌++◌, Option, None, Some, Result, Ok, Err, MatchOption, refl, sym, ap, ◌∙◌, subst, inl, inr, codes, arith}
 use Rattle.gst_caps.specs.declared.caps.Caps.{Caps}
 use Rattle.gst_caps.specs.declared.caps.Caps.TheVariants.{Any}
 use Rattle.gst_caps.specs.declared.name.Prop.{Prop}
-use Rattle.el_set.specs.Checked.{IsSetTo, needed, Lacks, IsOwnFault, IsFirstFault, IsFault, IsAnswerFor, IsAnswer, IsNoKind}
+use Rattle.audio_info.specs.declared.info.Info.{Info}
+use Rattle.audio_info.specs.declared.sample.Sample.{Sample}
+use Rattle.audio_info.specs.declared.sample.Sample.TheVariants.{S16LE}
+use Rattle.el_src.specs.Ramp.{frame_time}
+use Rattle.el_set.specs.Checked.{IsSetTo, EndsTooLate, IsUnfit, IsOwnFault, IsFirstFault, IsFault, IsAnswerFor, IsAnswer, IsNoKind}
 use Rattle.el_set.specs.Kinds.{kinds}
 use Rattle.el_set.specs.Numbers.{IsNumber}
-use Rattle.el_set.specs.Rows.{find_row, domain_named, InDomain, spells_true}
-use Rattle.el_set.specs.Values.{IsTaken, AllTaken, last_value, NumberOr, SwitchOr, CapsOr}
+use Rattle.el_set.specs.Rows.{find_row, formats, domain_named, InDomain, spells_true}
+use Rattle.el_set.specs.Values.{IsTaken, AllTaken, last_value, NumberOr, SwitchOr, FormatOr, CapsOr}
 use Rattle.el_set.specs.declared.domain.Domain.{Domain}
 use Rattle.el_set.specs.declared.fault.PropFault.{PropFault}
 use Rattle.el_set.specs.declared.fault.PropFault.TheVariants.{NoSuchKind, NoSuchProperty, BadValue, OutOfMemory}
 use Rattle.el_set.specs.declared.kind.Kind.{Kind}
-use Rattle.el_set.specs.declared.kind.Kind.TheVariants.{FileSrc, Identity, CapsFilter, Queue, FileSink, FakeSink}
+use Rattle.el_set.specs.declared.kind.Kind.TheVariants.{FileSrc, RampTestSrc, Identity, CapsFilter, Queue, AudioConvert, Law, RawAudioParse, AudioBufferSplit, WavParse, WavEnc, FileSink, FakeSink}
 use Rattle.el_set.specs.declared.settings.FileSrcSettings.{FileSrcSettings}
 use Rattle.el_set.specs.declared.settings.QueueSettings.{QueueSettings}
+use Rattle.el_set.specs.declared.settings.RampTestSrcSettings.{RampTestSrcSettings}
 use Rattle.el_set.specs.declared.settings.FileSinkSettings.{FileSinkSettings}
 use Rattle.el_set.specs.declared.settings.Settings.{Settings}
-use Rattle.el_set.specs.declared.settings.Settings.TheVariants.{FileSrc as FileSrcBy, Identity as IdentityBy, CapsFilter as CapsFilterBy, Queue as QueueBy, FileSink as FileSinkBy, FakeSink as FakeSinkBy}
+use Rattle.el_set.specs.declared.settings.Settings.TheVariants.{FileSrc as FileSrcBy, RampTestSrc as RampTestSrcBy, Identity as IdentityBy, CapsFilter as CapsFilterBy, Queue as QueueBy, AudioConvert as AudioConvertBy, Law as LawBy, RawAudioParse as RawAudioParseBy, AudioBufferSplit as AudioBufferSplitBy, WavParse as WavParseBy, WavEnc as WavEncBy, FileSink as FileSinkBy, FakeSink as FakeSinkBy}
 use Rattle.caps_text.specs.Grammar.{IsCapsText}
 use Rattle.el_set.specs.Alike.{AreAlike, AreLike, IsUnjudged}
-use Rattle.el_set.proofs.Copied.{file_same}
+use Rattle.el_set.proofs.Copied.{file_same, ramp_same, split_same, info_same}
 
 -- each text stands for one caps
 abbrev pub OneReading : Type 0
@@ -46,6 +51,13 @@ switch_one name props a b h g = by (last_value name props) h g
     by None h g = h ∙ sym g
     by (Some text) h g = h ∙ sym g
 
+format_one : (name : List ℕ) (plain : Sample) (props : List Prop) (a b : Sample) → FormatOr name plain props a → FormatOr name plain props b → a ≡ b
+format_one name plain props a b h g = by (last_value name props) h g
+  where
+    by : (o : Option (List ℕ)) → MatchOption o (a ≡ plain) (λ text. find_row text formats ≡ Some a) → MatchOption o (b ≡ plain) (λ text. find_row text formats ≡ Some b) → a ≡ b
+    by None h g = h ∙ sym g
+    by (Some text) h g = some_one (find_row text formats) a b h g
+
 caps_one : OneReading → (name : List ℕ) (props : List Prop) (a b : Caps) → CapsOr name props a → CapsOr name props b → a ≡ b
 caps_one one name props a b h g = by (last_value name props) h g
   where
@@ -65,10 +77,26 @@ queue_one : (s t : QueueSettings) → s.buffers ≡ t.buffers → s.bytes ≡ t.
 queue_one s t e f g =
     ap (λ n. let r : QueueSettings = record { buffers = n; bytes = s.bytes; time = s.time } in r) e ∙ ap (λ n. let r : QueueSettings = record { buffers = t.buffers; bytes = n; time = s.time } in r) f ∙ ap (λ n. let r : QueueSettings = record { buffers = t.buffers; bytes = t.bytes; time = n } in r) g
 
+-- the settings of a ramp, of raw audio and of buffers of as many frames
+ramp_one : (props : List Prop) (s t : RampTestSrcSettings) → IsSetTo RampTestSrc props (RampTestSrcBy s) → IsSetTo RampTestSrc props (RampTestSrcBy t) → s ≡ t
+ramp_one props s t h g =
+    ramp_same s t (number_one (codes "num-buffers") 16 props s.ramp.buffers t.ramp.buffers h.0 g.0)
+    (number_one (codes "samplesperbuffer") 1024 props s.ramp.samples t.ramp.samples h.1 g.1) (number_one (codes "rate") 44100 props s.ramp.rate t.ramp.rate h.2 g.2)
+    (number_one (codes "channels") 1 props s.ramp.channels t.ramp.channels h.3 g.3) (number_one (codes "gap-every") 0 props s.ramp.gap_every t.ramp.gap_every h.4 g.4)
+    (sym h.5 ∙ g.5)
+
+parse_one : (props : List Prop) (s t : Info) → IsSetTo RawAudioParse props (RawAudioParseBy s) → IsSetTo RawAudioParse props (RawAudioParseBy t) → s ≡ t
+parse_one props s t h g =
+    info_same s t (format_one (codes "pcm-format") S16LE props s.format t.format h.0 g.0) (number_one (codes "sample-rate") 44100 props s.rate t.rate h.1 g.1)
+    (number_one (codes "num-channels") 2 props s.channels t.channels h.2 g.2)
+
 set_one : OneReading → (kind : Kind) (props : List Prop) (s t : Settings) → IsSetTo kind props s → IsSetTo kind props t → s ≡ t
 set_one one FileSrc props (FileSrcBy s) (FileSrcBy t) h g = ap FileSrcBy (file_src_one s t (some_one (last_value (codes "location") props) s.location t.location h.0 g.0) (number_one (codes "blocksize") 4096 props s.blocksize t.blocksize h.1 g.1))
 set_one one FileSrc props (FileSrcBy s) _ h g = absurd g
 set_one one FileSrc props _ t h g = absurd h
+set_one one RampTestSrc props (RampTestSrcBy s) (RampTestSrcBy t) h g = ap RampTestSrcBy (ramp_one props s t h g)
+set_one one RampTestSrc props (RampTestSrcBy s) _ h g = absurd g
+set_one one RampTestSrc props _ t h g = absurd h
 set_one one Identity props IdentityBy IdentityBy h g = refl
 set_one one Identity props IdentityBy _ h g = absurd g
 set_one one Identity props _ t h g = absurd h
@@ -79,6 +107,25 @@ set_one one Queue props (QueueBy s) (QueueBy t) h g =
     ap QueueBy (queue_one s t (number_one (codes "max-size-buffers") 200 props s.buffers t.buffers h.0 g.0) (number_one (codes "max-size-bytes") 10485760 props s.bytes t.bytes h.1 g.1) (number_one (codes "max-size-time") 1000000000 props s.time t.time h.2 g.2))
 set_one one Queue props (QueueBy s) _ h g = absurd g
 set_one one Queue props _ t h g = absurd h
+set_one one AudioConvert props (AudioConvertBy s) (AudioConvertBy t) h g = ap (λ (c : Caps). AudioConvertBy (record { allowed = c })) (h ∙ sym g)
+set_one one AudioConvert props (AudioConvertBy s) _ h g = absurd g
+set_one one AudioConvert props _ t h g = absurd h
+set_one one (Law kind) props (LawBy s) (LawBy t) h g = ap LawBy (h ∙ sym g)
+set_one one (Law kind) props (LawBy s) _ h g = absurd g
+set_one one (Law kind) props _ t h g = absurd h
+set_one one RawAudioParse props (RawAudioParseBy s) (RawAudioParseBy t) h g = ap RawAudioParseBy (parse_one props s t h g)
+set_one one RawAudioParse props (RawAudioParseBy s) _ h g = absurd g
+set_one one RawAudioParse props _ t h g = absurd h
+set_one one AudioBufferSplit props (AudioBufferSplitBy s) (AudioBufferSplitBy t) h g =
+    ap AudioBufferSplitBy (split_same s t (number_one (codes "frames") 1024 props s.frames t.frames h g))
+set_one one AudioBufferSplit props (AudioBufferSplitBy s) _ h g = absurd g
+set_one one AudioBufferSplit props _ t h g = absurd h
+set_one one WavParse props WavParseBy WavParseBy h g = refl
+set_one one WavParse props WavParseBy _ h g = absurd g
+set_one one WavParse props _ t h g = absurd h
+set_one one WavEnc props WavEncBy WavEncBy h g = refl
+set_one one WavEnc props WavEncBy _ h g = absurd g
+set_one one WavEnc props _ t h g = absurd h
 set_one one FileSink props (FileSinkBy s) (FileSinkBy t) h g = ap FileSinkBy (file_sink_one s t (some_one (last_value (codes "location") props) s.location t.location h.0 g.0) (switch_one (codes "keep-flushed") props s.keep_flushed t.keep_flushed h.1 g.1))
 set_one one FileSink props (FileSinkBy s) _ h g = absurd g
 set_one one FileSink props _ t h g = absurd h
@@ -127,29 +174,56 @@ first_one kind props f g h k = place_one kind h.before k.before h.prop k.prop h.
 first_taken : (kind : Kind) (props : List Prop) (f : PropFault) → IsFirstFault kind props f → AllTaken kind props → IsUnjudged f
 first_taken kind props f h all = own_taken kind h.prop f h.own (taken_at kind h.before h.prop h.after (subst (AllTaken kind) h.place all))
 
-lacks_one : (kind : Kind) (props : List Prop) (a b : List ℕ) → Lacks (needed kind) props a → Lacks (needed kind) props b → a ≡ b
-lacks_one FileSrc props a b (inl h) (inl g) = h.1 ∙ sym g.1
-lacks_one FileSrc props a b (inl h) (inr g) = absurd g
-lacks_one FileSrc props a b (inr h) g = absurd h
-lacks_one FileSink props a b (inl h) (inl g) = h.1 ∙ sym g.1
-lacks_one FileSink props a b (inl h) (inr g) = absurd g
-lacks_one FileSink props a b (inr h) g = absurd h
-lacks_one Identity props a b h g = absurd h
-lacks_one CapsFilter props a b h g = absurd h
-lacks_one Queue props a b h g = absurd h
-lacks_one FakeSink props a b h g = absurd h
+unfit_one : (kind : Kind) (props : List Prop) (a b : List ℕ) → IsUnfit kind props a → IsUnfit kind props b → a ≡ b
+unfit_one FileSrc props a b (inl h) (inl g) = h.1 ∙ sym g.1
+unfit_one FileSrc props a b (inl h) (inr g) = absurd g
+unfit_one FileSrc props a b (inr h) g = absurd h
+unfit_one RampTestSrc props a b h g = h.told ∙ sym g.told
+unfit_one FileSink props a b (inl h) (inl g) = h.1 ∙ sym g.1
+unfit_one FileSink props a b (inl h) (inr g) = absurd g
+unfit_one FileSink props a b (inr h) g = absurd h
+unfit_one Identity props a b h g = absurd h
+unfit_one CapsFilter props a b h g = absurd h
+unfit_one Queue props a b h g = absurd h
+unfit_one AudioConvert props a b h g = absurd h
+unfit_one (Law kind) props a b h g = absurd h
+unfit_one RawAudioParse props a b h g = absurd h
+unfit_one AudioBufferSplit props a b h g = absurd h
+unfit_one WavParse props a b h g = absurd h
+unfit_one WavEnc props a b h g = absurd h
+unfit_one FakeSink props a b h g = absurd h
 
-set_lacks : (kind : Kind) (props : List Prop) (s : Settings) (name : List ℕ) → IsSetTo kind props s → Lacks (needed kind) props name → ⊥
-set_lacks FileSrc props (FileSrcBy s) name h (inl g) = some_none (last_value (codes "location") props) s.location h.0 g.0
-set_lacks FileSrc props (FileSrcBy s) name h (inr g) = g
-set_lacks FileSrc props _ name h g = absurd h
-set_lacks FileSink props (FileSinkBy s) name h (inl g) = some_none (last_value (codes "location") props) s.location h.0 g.0
-set_lacks FileSink props (FileSinkBy s) name h (inr g) = g
-set_lacks FileSink props _ name h g = absurd h
-set_lacks Identity props s name h g = absurd g
-set_lacks CapsFilter props s name h g = absurd g
-set_lacks Queue props s name h g = absurd g
-set_lacks FakeSink props s name h g = absurd g
+-- a ramp that is set does not end too late
+too_late : (props : List Prop) (s : RampTestSrcSettings) (name : List ℕ) → IsSetTo RampTestSrc props (RampTestSrcBy s) → EndsTooLate props name → ⊥
+too_late props s name h g =
+    let buffers : g.buffers ≡ s.ramp.buffers = number_one (codes "num-buffers") 16 props g.buffers s.ramp.buffers g.buffers_given h.0 in
+    let samples : g.samples ≡ s.ramp.samples = number_one (codes "samplesperbuffer") 1024 props g.samples s.ramp.samples g.samples_given h.1 in
+    let rate : g.rate ≡ s.ramp.rate = number_one (codes "rate") 44100 props g.rate s.ramp.rate g.rate_given h.2 in
+    let same : frame_time g.rate (g.buffers * g.samples) ≡ frame_time s.ramp.rate (s.ramp.buffers * s.ramp.samples) = rw (buffers, samples, rate) refl in
+    not_both (frame_time g.rate (g.buffers * g.samples)) (frame_time s.ramp.rate (s.ramp.buffers * s.ramp.samples)) same g.late s.times_fit
+  where
+    not_both : (n m : ℕ) → n ≡ m → 2 ^ 63 ≤ n → m < 2 ^ 63 → ⊥
+    not_both n m e low high = omega (arith, e, low, high)
+
+set_unfit : (kind : Kind) (props : List Prop) (s : Settings) (name : List ℕ) → IsSetTo kind props s → IsUnfit kind props name → ⊥
+set_unfit FileSrc props (FileSrcBy s) name h (inl g) = some_none (last_value (codes "location") props) s.location h.0 g.0
+set_unfit FileSrc props (FileSrcBy s) name h (inr g) = g
+set_unfit FileSrc props _ name h g = absurd h
+set_unfit RampTestSrc props (RampTestSrcBy s) name h g = too_late props s name h g
+set_unfit RampTestSrc props _ name h g = absurd h
+set_unfit FileSink props (FileSinkBy s) name h (inl g) = some_none (last_value (codes "location") props) s.location h.0 g.0
+set_unfit FileSink props (FileSinkBy s) name h (inr g) = g
+set_unfit FileSink props _ name h g = absurd h
+set_unfit Identity props s name h g = absurd g
+set_unfit CapsFilter props s name h g = absurd g
+set_unfit Queue props s name h g = absurd g
+set_unfit AudioConvert props s name h g = absurd g
+set_unfit (Law kind) props s name h g = absurd g
+set_unfit RawAudioParse props s name h g = absurd g
+set_unfit AudioBufferSplit props s name h g = absurd g
+set_unfit WavParse props s name h g = absurd g
+set_unfit WavEnc props s name h g = absurd g
+set_unfit FakeSink props s name h g = absurd g
 
 fault_one : (kind : Kind) (props : List Prop) (f g : PropFault) → IsFault kind props f → IsFault kind props g → AreLike f g
 fault_one kind props (NoSuchProperty a) (NoSuchProperty b) h g = first_one kind props (NoSuchProperty a) (NoSuchProperty b) h g
@@ -162,7 +236,7 @@ fault_one kind props (BadValue a) (NoSuchProperty b) (inr h) g = inr (inr (first
 fault_one kind props (BadValue a) (BadValue b) (inl h) (inl g) = first_one kind props (BadValue a) (BadValue b) h g
 fault_one kind props (BadValue a) (BadValue b) (inl h) (inr g) = inr (inl (first_taken kind props (BadValue a) h g.0))
 fault_one kind props (BadValue a) (BadValue b) (inr h) (inl g) = inr (inr (first_taken kind props (BadValue b) g h.0))
-fault_one kind props (BadValue a) (BadValue b) (inr h) (inr g) = inl (ap BadValue (lacks_one kind props a b h.1 g.1))
+fault_one kind props (BadValue a) (BadValue b) (inr h) (inr g) = inl (ap BadValue (unfit_one kind props a b h.1 g.1))
 fault_one kind props (BadValue a) NoSuchKind h g = absurd g
 fault_one kind props (BadValue a) OutOfMemory h g = inr (inr refl)
 fault_one kind props NoSuchKind g' h g = absurd h
@@ -171,7 +245,7 @@ fault_one kind props OutOfMemory g' h g = inr (inl refl)
 set_fault : (kind : Kind) (props : List Prop) (s : Settings) (f : PropFault) → AllTaken kind props → IsSetTo kind props s → IsFault kind props f → IsUnjudged f
 set_fault kind props s (NoSuchProperty a) all set h = first_taken kind props (NoSuchProperty a) h all
 set_fault kind props s (BadValue a) all set (inl h) = first_taken kind props (BadValue a) h all
-set_fault kind props s (BadValue a) all set (inr h) = absurd (set_lacks kind props s a set h.1)
+set_fault kind props s (BadValue a) all set (inr h) = absurd (set_unfit kind props s a set h.1)
 set_fault kind props s NoSuchKind all set h = absurd h
 set_fault kind props s OutOfMemory all set h = refl
 

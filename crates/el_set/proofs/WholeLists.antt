@@ -1,30 +1,27 @@
 -- The plain evaluation, item by item.
-use Rattle.std.proofs.Common.{◌≡◌, ℕ, ◌+◌, ◌<◌, ◌≤◌, Bool, true, false, if◌then◌else◌, List, [], ◌∷◌, ◌++◌, length, map, take, drop, get_or, refl, sym, ap, ◌∙◌, Option, None, Some, Result, Ok, Err, arith, add-one, drop-cons}
-use Rattle.std.proofs.lemmas.List.{take_more, take_all, take-append-drop, length_push}
+use Rattle.std.proofs.Common.{◌≡◌, ℕ, ◌+◌, ◌<◌, ◌≤◌, Bool, true, false, List, [], ◌∷◌, ◌++◌, length, map, take, drop, get_or, refl, sym, ap, ◌∙◌, Option, None, Some, Result, Ok, Err, arith, add-one, drop-cons}
+use Rattle.std.proofs.lemmas.List.{take_more, take_all, take-append-drop}
 use Rattle.gst_caps.specs.declared.caps.Caps.{Caps}
-use Rattle.gst_caps.specs.declared.caps.Caps.TheVariants.{Any}
-use Rattle.gst_caps.specs.declared.value.One.{One}
-use Rattle.gst_caps.specs.Description.{Description}
-use Rattle.gst_item.specs.declared.flow.Flow.{Flow}
-use Rattle.gst_item.specs.declared.flow.Flow.TheVariants.{Ok as Taken}
 use Rattle.gst_item.specs.declared.out.Out.{Out}
 use Rattle.gst_item.specs.declared.fault.ElementFault.{ElementFault}
 use Rattle.gst_item.specs.declared.fault.ElementFault.TheVariants.{NotNegotiated as Refused, BadStream as Broken, TooLong as Passing, OutOfMemory as Wanting}
-use Rattle.flow_model.specs.Item.{Item, Buf, Ev, StreamStart, NewCaps, NewSegment, Tag, Gap, FlushStop, Eos, is_flush_stop}
+use Rattle.flow_model.specs.Item.{Item, Ev, FlushStop, is_flush_stop}
 use Rattle.flow_model.specs.Call.{Call, Feed, feeds}
-use Rattle.flow_model.specs.Rule.{Response, Fault, Fed, unfed, responded, flushed, fed_item, all_called, owed_for, passes}
-use Rattle.flow_model.specs.Feeding.{has_eos, flow_behind, passed, on_pad, next_owed, IsFaultOf}
-use Rattle.flow_model.proofs.Sections.{called_push}
-use Rattle.el_basic.specs.Filters.{filters, filter_in, filter_answer}
-use Rattle.el_basic.specs.Filtered.{IsFilteredBy}
-use Rattle.el_basic.specs.declared.caps_filter.CapsFilter.{CapsFilter}
-use Rattle.el_basic.proofs.Filtering.{filter_fed}
+use Rattle.flow_model.specs.Rule.{Response, Fault, Fed, unfed, fed_item, all_called, passes}
+use Rattle.flow_model.specs.Feeding.{on_pad, next_owed, IsFaultOf}
+use Rattle.el_basic.specs.Passed.{Passed}
+use Rattle.el_basic.specs.declared.identity.Identity.{Identity as PassingAll}
+use Rattle.el_set.specs.declared.filter.FilterElement.{FilterElement}
+use Rattle.el_set.specs.declared.filter.FilterElement.TheVariants as elements
 use Rattle.el_set.specs.declared.settings.Settings.{Settings}
-use Rattle.el_set.specs.declared.settings.Settings.TheVariants.{FileSrc, Identity, CapsFilter as FilterBy, Queue, FileSink, FakeSink}
+use Rattle.el_set.specs.declared.settings.Settings.TheVariants.{FileSrc, RampTestSrc, Identity, CapsFilter as FilterBy, Queue, AudioConvert, Law, RawAudioParse, AudioBufferSplit, WavParse, WavEnc, FileSink, FakeSink}
 use Rattle.el_set.specs.Values.{or_else}
-use Rattle.el_set.specs.Asked.{template_of, source_pads}
+use Rattle.el_set.specs.Asked.{source_pads, is_filter, with_allowed}
 use Rattle.el_set.specs.Denoted.{response_of, fault_at, first_fault_from, first_fault, next_fault, answered, only_input, on_pads, IsOwed, IsDenoted}
+use Rattle.el_set.specs.Made.{IsFilterFor}
+use Rattle.el_set.specs.Stands.{Stands, PutsOut}
 use Rattle.el_set.specs.Stepping.{TookAll}
+use Rattle.el_set.proofs.Elements.{elements_owe}
 use Rattle.el_set.proofs.Given.{or_else-or_else}
 
 feeds_push : (items : List Item) (x : Item) → feeds (items ++ x ∷ []) ≡ feeds items ++ Feed x ∷ []
@@ -54,65 +51,49 @@ none_behind : (respond : Response) (items : List Item) (x : Item) → first_faul
 none_behind respond items x before at = first_split respond unfed items x [] ∙ rw (before, at) refl
 
 -- an item that was taken had no fault
-no_fault : (respond : Response) (calls : List Call) (x : Item) (put : List Item) (flow : Flow) → is_flush_stop x ≡ false
-    → put ≡ owed_for respond calls → put ++ passed flow x ≡ owed_for respond (calls ++ Feed x ∷ []) → flow ≡ flow_behind calls
-    → has_eos calls ≡ (all_called respond unfed calls).over
+no_fault : (respond : Response) (calls : List Call) (x : Item) (more : List Item) → is_flush_stop x ≡ false → next_owed respond calls x ≡ Ok more
     → fault_at respond (all_called respond unfed calls) x ≡ None
-no_fault respond calls x put flow plain owed more answer same =
-    go (all_called respond unfed calls).over refl (respond (all_called respond unfed calls) x) refl
+no_fault respond calls x more plain owed = go (all_called respond unfed calls).over refl (respond (all_called respond unfed calls) x) refl
   where
-    taken : (all_called respond unfed calls).over ≡ false → flow ≡ Taken
-    taken begun = answer ∙ rw (same ∙ begun) refl
-
-    longer : (xs : List Item) → xs ++ x ∷ [] ≡ xs → ⊥
-    longer xs e = let n = length_push xs x in let m = ap (λ (ys : List Item). length ys) e in omega (arith, n, m)
-
     go : (over : Bool) → (all_called respond unfed calls).over ≡ over → (r : Result (List Item) Fault) → respond (all_called respond unfed calls) x ≡ r
         → fault_at respond (all_called respond unfed calls) x ≡ None
     go true e r a = rw (plain, e) refl
     go false e (Ok ys) a = rw (plain, e, a) refl
-    go false e (Err f) a =
-        let all : owed_for respond (calls ++ Feed x ∷ []) ≡ owed_for respond calls =
-        ap (λ (s : Fed). s.out) (called_push respond unfed calls (Feed x)) ∙ rw (plain, e, a) refl
-        in let kept : put ++ x ∷ [] ≡ put = ap (λ f. put ++ passed f x) (sym (taken e)) ∙ more ∙ all ∙ sym owed in
-        absurd (longer put kept)
+    go false e (Err f) a = let none : Err f ≡ Ok more = rw (e, a) at owed in absurd (cc)
 
-pub took_fed : (old new : CapsFilter) (x copy : Item) (before after : List Out) (flow : Flow) → copy ≡ x → is_flush_stop x ≡ false
-    → after ≡ before ++ on_pad 0 (passed flow copy)
-    → ((first : Caps) (calls : List Call) (put : List Item) → IsFilteredBy first old calls put → IsFilteredBy first new (calls ++ Feed copy ∷ []) (put ++ passed flow copy))
-    → ((first : Caps) (calls : List Call) (put : List Item) → IsFilteredBy first old calls put → flow ≡ flow_behind calls)
-    → (first : Caps) (items : List Item) → TookAll first old items before → TookAll first new (items ++ x ∷ []) after
-took_fed old new x copy before after flow same plain outs fed answer first items p =
-    let calls = feeds items in
-    let stood : IsFilteredBy first new (calls ++ Feed x ∷ []) (p.put ++ passed flow x) = rw same at fed first calls p.put p.filtered in
-    let put_out : after ≡ before ++ on_pad 0 (passed flow x) = rw same at outs in
+pub took_first : (respond : Response) (element : FilterElement) (out : List Out) → out ≡ [] → Stands respond element [] [] → TookAll respond element [] out
+took_first respond element out is s = record { put = []; stands = s; outs = is; whole = refl }
+
+pub took_fed : (old new : FilterElement) (x copy : Item) (before after : List Out) → copy ≡ x → is_flush_stop x ≡ false → PutsOut old new (Feed copy) before after
+    → (respond : Response) (items : List Item) → TookAll respond old items before → TookAll respond new (items ++ x ∷ []) after
+took_fed old new x copy before after same plain puts respond items p =
+    let m : PutsOut old new (Feed x) before after = rw same at puts in
     record {
-      put = p.put ++ passed flow x;
-      filtered = rw (feeds_push items x) stood;
-      outs = put_out ∙ ap (λ os. os ++ on_pad 0 (passed flow x)) p.outs ∙ sym (on_pad_append 0 p.put (passed flow x));
-      whole = none_behind (filters first) items x p.whole
-          (no_fault (filters first) calls x p.put flow plain p.filtered.owed stood.owed (answer first calls p.put p.filtered) (p.filtered.eos ∙ sym p.filtered.over));
+      put = p.put ++ m.more;
+      stands = rw (feeds_push items x) (m.stands respond (feeds items) p.put p.stands);
+      outs = m.outs ∙ ap (λ os. os ++ on_pad 0 m.more) p.outs ∙ sym (on_pad_append 0 p.put m.more);
+      whole = none_behind respond items x p.whole (no_fault respond (feeds items) x m.more plain (m.owed respond (feeds items) p.put p.stands));
     }
 
 flush_is : (x : Item) → is_flush_stop x ≡ true → (number : ℕ) × (x ≡ Ev (FlushStop number))
 flush_is (Ev (FlushStop number)) e = (number, refl)
 flush_is _ e = absurd (cc)
 
-pub took_flush : (old new : CapsFilter) (x copy : Item) (before after : List Out) → copy ≡ x → is_flush_stop x ≡ true
+pub took_flush : (old new : FilterElement) (x copy : Item) (before after : List Out) → copy ≡ x → is_flush_stop x ≡ true
     → after ≡ before ++ (record { pad = 0; item = copy }) ∷ []
-    → ((first : Caps) (calls : List Call) (put : List Item) (number : ℕ) → IsFilteredBy first old calls put
-    → IsFilteredBy first new (calls ++ Feed (Ev (FlushStop number)) ∷ []) (put ++ Ev (FlushStop number) ∷ []))
-    → (first : Caps) (items : List Item) → TookAll first old items before → TookAll first new (items ++ x ∷ []) after
-took_flush old new x copy before after same stop outs flushed_by first items p =
+    → ((respond : Response) (calls : List Call) (put : List Item) (number : ℕ) → Stands respond old calls put
+    → Stands respond new (calls ++ Feed (Ev (FlushStop number)) ∷ []) (put ++ Ev (FlushStop number) ∷ []))
+    → (respond : Response) (items : List Item) → TookAll respond old items before → TookAll respond new (items ++ x ∷ []) after
+took_flush old new x copy before after same stop outs flushed_by respond items p =
     let calls = feeds items in
     let n = flush_is x stop in
-    let stood : IsFilteredBy first new (calls ++ Feed x ∷ []) (p.put ++ x ∷ []) = rw n.1 (flushed_by first calls p.put n.0 p.filtered) in
+    let stood : Stands respond new (calls ++ Feed x ∷ []) (p.put ++ x ∷ []) = rw n.1 (flushed_by respond calls p.put n.0 p.stands) in
     let put_out : after ≡ before ++ on_pad 0 (x ∷ []) = rw same at outs in
     record {
       put = p.put ++ x ∷ [];
-      filtered = rw (feeds_push items x) stood;
+      stands = rw (feeds_push items x) stood;
       outs = put_out ∙ ap (λ os. os ++ on_pad 0 (x ∷ [])) p.outs ∙ sym (on_pad_append 0 p.put (x ∷ []));
-      whole = none_behind (filters first) items x p.whole (rw stop refl);
+      whole = none_behind respond items x p.whole (rw stop refl);
     }
 
 -- the fault of the element is that of its next item
@@ -153,78 +134,72 @@ owed_fault respond items i x fault within is before p =
     ap (first_fault respond) (split_at items i x within is) ∙ first_split respond unfed (take i items) x (drop (i + 1) items) ∙ rw before refl
     in rw whole (moved (next_fault respond (take i items) x) later fault p)
 
-pub took_more : (first : Caps) (element : CapsFilter) (items : List Item) (i : ℕ) (x : Item) (out : List Out) → i < length items → x ≡ get_or items i x
-    → TookAll first element (take i items ++ x ∷ []) out → TookAll first element (take (i + 1) items) out
-took_more first element items i x out within is p = rw (take_more items i x within, ← is) p
+pub took_more : (respond : Response) (element : FilterElement) (items : List Item) (i : ℕ) (x : Item) (out : List Out) → i < length items → x ≡ get_or items i x
+    → TookAll respond element (take i items ++ x ∷ []) out → TookAll respond element (take (i + 1) items) out
+took_more respond element items i x out within is p = rw (take_more items i x within, ← is) p
 
-pub took_whole : (first : Caps) (element : CapsFilter) (items : List Item) (i : ℕ) (out : List Out) → length items ≤ i
-    → TookAll first element (take i items) out → TookAll first element items out
-took_whole first element items i out end p = rw (take_all i items end) at p
+pub took_whole : (respond : Response) (element : FilterElement) (items : List Item) (i : ℕ) (out : List Out) → length items ≤ i
+    → TookAll respond element (take i items) out → TookAll respond element items out
+took_whole respond element items i out end p = rw (take_all i items end) at p
 
-pub owed_all : (first : Caps) (element : CapsFilter) (items : List Item) (out : List Out) (made : List Item) → TookAll first element items out
-    → made ≡ map (λ (o : Out). o.item) out → IsOwed (filters first) items (Ok made)
-owed_all first element items out made p e =
-    (p.whole, e ∙ ap (λ (os : List Out). map (λ (o : Out). o.item) os) p.outs ∙ items_on_pad 0 p.put ∙ p.filtered.owed)
+pub owed_all : (respond : Response) (element : FilterElement) (items : List Item) (out : List Out) (made : List Item) → TookAll respond element items out
+    → made ≡ map (λ (o : Out). o.item) out → IsOwed respond items (Ok made)
+owed_all respond element items out made p e =
+    (p.whole, e ∙ ap (λ (os : List Out). map (λ (o : Out). o.item) os) p.outs ∙ items_on_pad 0 p.put ∙ elements_owe respond element (feeds items) p.put p.stands)
 
--- a filter of all caps passes all
-any_answers : (caps : Option (Description One)) (x : Item) → filter_answer Any caps x ≡ Ok (x ∷ [])
-any_answers None (Buf b) = refl
-any_answers (Some c) (Buf b) = refl
-any_answers caps (Ev (StreamStart id)) = refl
-any_answers caps (Ev (NewCaps new)) = refl
-any_answers caps (Ev (NewSegment segment)) = refl
-any_answers caps (Ev (Tag title)) = refl
-any_answers caps (Ev (Gap pts duration)) = refl
-any_answers caps (Ev (FlushStop number)) = refl
-any_answers caps (Ev Eos) = refl
+-- an element that is no filter passes all
+others_pass : (settings : Settings) → is_filter settings ≡ false → response_of settings ≡ passes
+others_pass (FileSrc s) e = refl
+others_pass (RampTestSrc s) e = refl
+others_pass (Queue s) e = refl
+others_pass (FileSink s) e = refl
+others_pass FakeSink e = refl
+others_pass Identity e = refl
+others_pass (FilterBy s) e = absurd (cc)
+others_pass (AudioConvert s) e = absurd (cc)
+others_pass (Law kind) e = absurd (cc)
+others_pass (RawAudioParse info) e = absurd (cc)
+others_pass (AudioBufferSplit s) e = absurd (cc)
+others_pass WavParse e = absurd (cc)
+others_pass WavEnc e = absurd (cc)
 
-any_responds : (s : Fed) (x : Item) → filter_in Any s.given ≡ Any → filters Any s x ≡ Ok (x ∷ [])
-any_responds s x e = rw e (any_answers _ x)
+-- by what is made of the settings
+pub made_some : (settings own : Settings) (caps : Caps) (o : Option FilterElement) (element : FilterElement) → own ≡ with_allowed caps settings → o ≡ Some element → IsFilterFor own o
+    → Stands (response_of (with_allowed caps settings)) element [] []
+made_some settings own caps o element is found made = let m : IsFilterFor (with_allowed caps settings) (Some element) = rw (is, found) at made in m.1
 
-any_fed : (s : Fed) (x : Item) → filter_in Any s.given ≡ Any → fed_item (filters Any) s x ≡ fed_item passes s x
-any_fed s x e = rw (any_responds s x e) refl
+pub made_none : (settings own : Settings) (caps : Caps) (o : Option FilterElement) (identity : PassingAll) → own ≡ with_allowed caps settings → o ≡ None → IsFilterFor own o
+    → Passed identity [] [] → Stands (response_of (with_allowed caps settings)) (elements.Identity identity) [] []
+made_none settings own caps o identity is found made passed = let m : IsFilterFor (with_allowed caps settings) None = rw (is, found) at made in (others_pass (with_allowed caps settings) m, passed)
 
-any_stays : (s : Fed) (x : Item) → filter_in Any s.given ≡ Any → filter_in Any (fed_item passes s x).given ≡ Any
-any_stays s x e = go (is_flush_stop x) s.over
-  where
-    go : (f o : Bool) → filter_in Any (if f then flushed s x else (if o then s else responded s x (Ok (x ∷ [])))).given ≡ Any
-    go true o = filter_fed Any s.given x ∙ e
-    go false true = e
-    go false false = filter_fed Any s.given x ∙ e
+-- the allowed caps change no pad
+allowed_pads : (caps : Caps) (settings : Settings) → source_pads (with_allowed caps settings) ≡ source_pads settings
+allowed_pads caps (AudioConvert s) = refl
+allowed_pads caps (FileSrc s) = refl
+allowed_pads caps (RampTestSrc s) = refl
+allowed_pads caps Identity = refl
+allowed_pads caps (FilterBy s) = refl
+allowed_pads caps (Queue s) = refl
+allowed_pads caps (Law kind) = refl
+allowed_pads caps (RawAudioParse info) = refl
+allowed_pads caps (AudioBufferSplit s) = refl
+allowed_pads caps WavParse = refl
+allowed_pads caps WavEnc = refl
+allowed_pads caps (FileSink s) = refl
+allowed_pads caps FakeSink = refl
 
-any_called : (s : Fed) (items : List Item) → filter_in Any s.given ≡ Any → all_called (filters Any) s (feeds items) ≡ all_called passes s (feeds items)
-any_called s [] e = refl
-any_called s (x ∷ xs) e = ap (λ (t : Fed). all_called (filters Any) t (feeds xs)) (any_fed s x e) ∙ any_called (fed_item passes s x) xs (any_stays s x e)
+pub denoted_ok : (settings : Settings) (caps : Caps) (inputs : List (List Item)) (items : List Item) (r : Result (List Item) ElementFault) (owed : List Item) (outputs : List (List Item)) → r ≡ Ok owed
+    → only_input inputs ≡ items → IsOwed (response_of (with_allowed caps settings)) items r → outputs ≡ on_pads (source_pads settings) owed
+    → IsDenoted (with_allowed caps settings) inputs (Ok outputs)
+denoted_ok settings caps inputs items r owed outputs is only p made =
+    let q : IsOwed (response_of (with_allowed caps settings)) items (Ok owed) = rw is at p in
+    rw (only, allowed_pads caps settings) (q.0, made ∙ ap (on_pads (source_pads settings)) q.1)
 
-any_at : (s : Fed) (x : Item) → filter_in Any s.given ≡ Any → fault_at (filters Any) s x ≡ fault_at passes s x
-any_at s x e = rw (any_responds s x e) refl
-
-any_fault : (s : Fed) (items : List Item) → filter_in Any s.given ≡ Any → first_fault_from (filters Any) s items ≡ first_fault_from passes s items
-any_fault s [] e = refl
-any_fault s (x ∷ xs) e = rw (any_at s x e, any_fed s x e) (ap (λ o. or_else (fault_at passes s x) o) (any_fault (fed_item passes s x) xs (any_stays s x e)))
-
-any_owed : (items : List Item) (r : Result (List Item) ElementFault) → IsOwed (filters Any) items r → IsOwed passes items r
-any_owed items (Ok owed) p = (sym (any_fault unfed items refl) ∙ p.0, p.1 ∙ ap (λ (s : Fed). s.out) (any_called unfed items refl))
-any_owed items (Err fault) p = rw (any_fault unfed items refl) at p
-
-of_settings : (settings : Settings) (items : List Item) (r : Result (List Item) ElementFault) → IsOwed (filters (template_of settings)) items r → IsOwed (response_of settings) items r
-of_settings (FilterBy s) items r p = p
-of_settings (FileSrc s) items r p = any_owed items r p
-of_settings Identity items r p = any_owed items r p
-of_settings (Queue s) items r p = any_owed items r p
-of_settings (FileSink s) items r p = any_owed items r p
-of_settings FakeSink items r p = any_owed items r p
-
-pub denoted_ok : (settings : Settings) (filter : Caps) (inputs : List (List Item)) (items owed : List Item) (outputs : List (List Item)) → filter ≡ template_of settings
-    → only_input inputs ≡ items → IsOwed (filters filter) items (Ok owed) → outputs ≡ on_pads (source_pads settings) owed → IsDenoted settings inputs (Ok outputs)
-denoted_ok settings filter inputs items owed outputs same only p made =
-    let q = of_settings settings items (Ok owed) (rw same at p) in
-    rw only (q.0, made ∙ ap (on_pads (source_pads settings)) q.1)
-
-pub denoted_err : (settings : Settings) (filter : Caps) (inputs : List (List Item)) (items : List Item) (fault : ElementFault) → filter ≡ template_of settings
-    → only_input inputs ≡ items → IsOwed (filters filter) items (Err fault) → IsDenoted settings inputs (Err fault)
-denoted_err settings filter inputs items fault same only p =
-    rw only (of_settings settings items (Err fault) (rw same at p))
+pub denoted_err : (settings : Settings) (caps : Caps) (inputs : List (List Item)) (items : List Item) (r : Result (List Item) ElementFault) (fault : ElementFault) → r ≡ Err fault
+    → only_input inputs ≡ items → IsOwed (response_of (with_allowed caps settings)) items r → IsDenoted (with_allowed caps settings) inputs (Err fault)
+denoted_err settings caps inputs items r fault is only p =
+    let q : IsOwed (response_of (with_allowed caps settings)) items (Err fault) = rw is at p in
+    rw only q
 
 pub first_is : (inputs slice : List (List Item)) (input list : List Item) → slice ≡ inputs → 0 < length slice → input ≡ get_or slice 0 input → list ≡ input
     → only_input inputs ≡ list

@@ -2,22 +2,41 @@
 use Rattle.std.specs.Prelude.{ℕ, ◌<◌, Bool, true, false, if◌then◌else◌, List, Option, None, Some, codes, bytes_eq}
 use Rattle.gst_caps.specs.declared.caps.Caps.{Caps}
 use Rattle.gst_caps.specs.declared.caps.Caps.TheVariants.{Any}
+use Rattle.audio_info.specs.declared.sample.Sample.TheVariants.{S16LE}
+use Rattle.el_convert.specs.Raw.{raw_template}
+use Rattle.el_law.specs.Laws.{format_in, format_out}
+use Rattle.el_law.specs.Templates.{template}
+use Rattle.el_set.specs.Templates.{read_audio, written_audio, wav_file}
 use Rattle.el_set.specs.declared.settings.Settings.{Settings}
-use Rattle.el_set.specs.declared.settings.Settings.TheVariants.{FileSrc, Identity, CapsFilter, Queue, FileSink, FakeSink}
+use Rattle.el_set.specs.declared.settings.Settings.TheVariants.{FileSrc, RampTestSrc, Identity, CapsFilter, Queue, AudioConvert, Law, RawAudioParse, AudioBufferSplit, WavParse, WavEnc, FileSink, FakeSink}
 
 abbrev pub sink_pads : Settings → ℕ
 sink_pads (FileSrc s) = 0
+sink_pads (RampTestSrc s) = 0
 sink_pads Identity = 1
 sink_pads (CapsFilter s) = 1
 sink_pads (Queue s) = 1
+sink_pads (AudioConvert s) = 1
+sink_pads (Law kind) = 1
+sink_pads (RawAudioParse info) = 1
+sink_pads (AudioBufferSplit s) = 1
+sink_pads WavParse = 1
+sink_pads WavEnc = 1
 sink_pads (FileSink s) = 1
 sink_pads FakeSink = 1
 
 abbrev pub source_pads : Settings → ℕ
 source_pads (FileSrc s) = 1
+source_pads (RampTestSrc s) = 1
 source_pads Identity = 1
 source_pads (CapsFilter s) = 1
 source_pads (Queue s) = 1
+source_pads (AudioConvert s) = 1
+source_pads (Law kind) = 1
+source_pads (RawAudioParse info) = 1
+source_pads (AudioBufferSplit s) = 1
+source_pads WavParse = 1
+source_pads WavEnc = 1
 source_pads (FileSink s) = 0
 source_pads FakeSink = 0
 
@@ -33,26 +52,52 @@ is_queue _ = false
 abbrev pub is_filter : Settings → Bool
 is_filter Identity = true
 is_filter (CapsFilter s) = true
+is_filter (AudioConvert s) = true
+is_filter (Law kind) = true
+is_filter (RawAudioParse info) = true
+is_filter (AudioBufferSplit s) = true
+is_filter WavParse = true
+is_filter WavEnc = true
 is_filter _ = false
 
--- what a template takes: a filter's caps, and else all caps
-abbrev pub template_of : Settings → Caps
-template_of (CapsFilter s) = s.caps
-template_of _ = Any
+-- what the template of a sink pad takes, or else of a source pad
+abbrev pub template_of : Settings → Bool → Caps
+template_of (CapsFilter s) sink = s.caps
+template_of (RampTestSrc s) sink = template S16LE
+template_of (AudioConvert s) sink = raw_template
+template_of (Law kind) sink = if sink then template (format_in kind) else template (format_out kind)
+template_of (RawAudioParse info) sink = if sink then Any else raw_template
+template_of (AudioBufferSplit s) sink = raw_template
+template_of WavParse sink = if sink then Any else read_audio
+template_of WavEnc sink = if sink then written_audio else wav_file
+template_of settings sink = Any
 
 -- the elements that may be replaced while they run
 abbrev pub may_be_replaced : Settings → Bool
-may_be_replaced Identity = true
-may_be_replaced (CapsFilter s) = true
-may_be_replaced _ = false
+may_be_replaced settings = is_filter settings
 
 -- the properties that may be set while the element runs
 abbrev pub is_settable : Settings → List ℕ → Bool
 is_settable (CapsFilter s) name = bytes_eq name (codes "caps")
 is_settable _ name = false
 
+-- the element that chooses its caps among those that are allowed behind it
+abbrev pub is_converter : Settings → Bool
+is_converter (AudioConvert s) = true
+is_converter _ = false
+
+-- the settings of a converter that may put out these caps; others stay
+abbrev pub with_allowed : Caps → Settings → Settings
+with_allowed caps (AudioConvert s) = AudioConvert (record { allowed = caps })
+with_allowed caps settings = settings
+
 -- the file that the element opens
 abbrev pub location_of : Settings → Option (List ℕ)
 location_of (FileSrc s) = Some s.location
 location_of (FileSink s) = Some s.location
 location_of _ = None
+
+-- what the element says that its stream is called
+abbrev pub title_of : Settings → Option (List ℕ)
+title_of (RampTestSrc s) = s.ramp.title
+title_of _ = None

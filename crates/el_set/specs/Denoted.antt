@@ -6,8 +6,14 @@ use Rattle.flow_model.specs.Call.{feeds}
 use Rattle.flow_model.specs.Rule.{Response, Fault, Fed, unfed, fed_item, all_called, owed_for, passes}
 use Rattle.flow_model.specs.Feeding.{IsFaultOf}
 use Rattle.el_basic.specs.Filters.{filters}
+use Rattle.el_convert.specs.Converts.{converts}
+use Rattle.el_law.specs.Laws.{recodes}
+use Rattle.el_parse.specs.Parses.{parses as parses_raw}
+use Rattle.el_parse.specs.Splits.{splits}
+use Rattle.el_wav.specs.WavParse.{parses as parses_wav}
+use Rattle.el_wavenc.specs.Encodes.{encodes}
 use Rattle.el_set.specs.declared.settings.Settings.{Settings}
-use Rattle.el_set.specs.declared.settings.Settings.TheVariants.{FileSrc, Identity, CapsFilter, Queue, FileSink, FakeSink}
+use Rattle.el_set.specs.declared.settings.Settings.TheVariants.{FileSrc, RampTestSrc, Identity, CapsFilter, Queue, AudioConvert, Law, RawAudioParse, AudioBufferSplit, WavParse, WavEnc, FileSink, FakeSink}
 use Rattle.el_set.specs.Values.{or_else}
 use Rattle.el_set.specs.Asked.{source_pads}
 
@@ -15,8 +21,15 @@ use Rattle.el_set.specs.Asked.{source_pads}
 abbrev pub response_of : Settings → Response
 response_of (CapsFilter s) = filters s.caps
 response_of (FileSrc s) = passes
+response_of (RampTestSrc s) = passes
 response_of Identity = passes
 response_of (Queue s) = passes
+response_of (AudioConvert s) = converts s.allowed
+response_of (Law kind) = recodes kind
+response_of (RawAudioParse info) = parses_raw info
+response_of (AudioBufferSplit s) = splits s.frames
+response_of WavParse = parses_wav
+response_of WavEnc = encodes
 response_of (FileSink s) = passes
 response_of FakeSink = passes
 

@@ -36,7 +36,7 @@ abbrev pub source_file : {S : Type 0} → SourceElement S → Option S
 source_file (File file) = Some (source_of file)
 source_file (Ramp ramp) = None
 
--- the count of failures, the location and the content of what a source reads
+-- the count of failures, the location and the content of what a source reads; a ramp reads nothing
 abbrev pub source_faults : {S : Type 0} → (S → ℕ) → SourceElement S → Option ℕ
 source_faults faults (File file) = Some (faults (source_of file))
 source_faults faults (Ramp ramp) = None
@@ -47,7 +47,7 @@ source_location location (Ramp ramp) = None
 
 abbrev pub source_content : {S : Type 0} → (S → Option (List ℕ)) → SourceElement S → Option (List ℕ)
 source_content content_of (File file) = content_of (source_of file)
-source_content content_of (Ramp ramp) = None
+source_content content_of (Ramp ramp) = Some []
 
 -- a read failed only where the count of failures rose; want of memory says nothing
 abbrev pub SourceCause : Option ℕ → Option ℕ → SrcFault → Type 0

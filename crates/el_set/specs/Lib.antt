@@ -3,6 +3,7 @@ pub mod Rows
 pub mod Numbers
 pub mod Values
 pub mod Checked
+pub mod Templates
 pub mod Asked
 pub mod Denoted
 pub mod Stepping

@@ -3,8 +3,9 @@ use Rattle.std.specs.Prelude.{◌≡◌, ℕ, Bool, true, false, List, [], Optio
 use Rattle.std.specs.Option.{ForSome, option_map}
 use Rattle.flow_model.specs.Item.{Item}
 use Rattle.flow_model.specs.Source.{file_list}
+use Rattle.el_src.specs.Ramp.{ramp_list}
 use Rattle.el_set.specs.declared.settings.Settings.{Settings}
-use Rattle.el_set.specs.declared.settings.Settings.TheVariants.{FileSrc, FileSink, FakeSink}
+use Rattle.el_set.specs.declared.settings.Settings.TheVariants.{FileSrc, RampTestSrc, FileSink, FakeSink}
 use Rattle.el_set.specs.declared.filter.FilterElement.{FilterElement}
 use Rattle.el_set.specs.declared.source.SourceElement.{SourceElement}
 use Rattle.el_set.specs.declared.sink.SinkElement.{SinkElement}
@@ -22,18 +23,30 @@ IsFilterFor settings (Some element) = (is_filter settings ≡ true) × Stands (r
 -- whether there is a source of these settings that reads this
 abbrev pub makes_source : {S : Type 0} → Settings → Option S → Bool
 makes_source (FileSrc s) file = is_some file
+makes_source (RampTestSrc s) file = true
 makes_source _ file = false
+
+-- the content of what a source of these settings reads, by that of its file
+abbrev pub read_content : Settings → List ℕ → List ℕ
+read_content (FileSrc s) content = content
+read_content _ content = []
 
 -- what a source of these settings owes, by the content of its file
 abbrev pub list_of : Settings → ℕ → List ℕ → List Item
 list_of (FileSrc s) id content = file_list id s.blocksize content
+list_of (RampTestSrc s) id content = ramp_list s.ramp id
 list_of _ id content = []
+
+-- what a source of these settings reads; a ramp reads nothing
+abbrev pub read_for : {S : Type 0} → Settings → Option S → Option S
+read_for (FileSrc s) file = file
+read_for _ file = None
 
 -- it owes the list of its settings, gave nothing yet, and reads the file
 abbrev pub IsSourceFor : {S : Type 0} → (S → Option (List ℕ)) → Settings → Option S → ℕ → Option (SourceElement S) → Type 0
 IsSourceFor content settings file id None = makes_source settings file ≡ false
 IsSourceFor content settings file id (Some source) =
-    (makes_source settings file ≡ true) × SourceGave content source (list_of settings id) [] × (source_items source ≡ 0) × (source_file source ≡ file)
+    (makes_source settings file ≡ true) × SourceGave content source (list_of settings id) [] × (source_items source ≡ 0) × (source_file source ≡ read_for settings file)
 
 -- whether there is a sink of these settings that writes this
 abbrev pub makes_sink : {K : Type 0} → Settings → Option K → Bool

@@ -1,12 +1,14 @@
 -- The properties of each kind of element, with their values.
-use Rattle.std.specs.Prelude.{◌≡◌, ◌≤◌, ◌==◌, ◌&&◌, ◌||◌, ℕ, Bool, true, not, List, [], ◌∷◌, Option, None, Some, if◌then◌else◌, codes, length, nat_lt, bytes_eq}
+use Rattle.std.specs.Prelude.{◌≡◌, ◌≤◌, ◌==◌, ◌&&◌, ◌||◌, ℕ, Bool, true, not, List, [], ◌∷◌, Option, None, Some, if◌then◌else◌, is_some, codes, length, nat_lt, bytes_eq}
 use Rattle.std.specs.List.{list_all}
 use Rattle.gst_caps.specs.declared.caps.Caps.{Caps}
+use Rattle.audio_info.specs.declared.sample.Sample.{Sample}
+use Rattle.audio_info.specs.declared.sample.Sample.TheVariants.{S8, U8, S16LE, S16BE, S24LE, S32LE}
 use Rattle.caps_text.specs.Grammar.{IsCapsText}
 use Rattle.el_set.specs.declared.kind.Kind.{Kind}
-use Rattle.el_set.specs.declared.kind.Kind.TheVariants.{FileSrc, Identity, CapsFilter, Queue, FileSink, FakeSink}
+use Rattle.el_set.specs.declared.kind.Kind.TheVariants.{FileSrc, RampTestSrc, Identity, CapsFilter, Queue, AudioConvert, Law, RawAudioParse, AudioBufferSplit, WavParse, WavEnc, FileSink, FakeSink}
 use Rattle.el_set.specs.declared.domain.Domain.{Domain}
-use Rattle.el_set.specs.declared.domain.Domain.TheVariants.{Name, Text, Number, Switch, Off, NotLeaky, Caps as CapsTexts}
+use Rattle.el_set.specs.declared.domain.Domain.TheVariants.{Name, Text, Number, Switch, Off, NotLeaky, Format, Caps as CapsTexts}
 use Rattle.el_set.specs.Numbers.{IsNumber}
 
 -- the row of a name in a table
@@ -16,11 +18,20 @@ find_row name (row ∷ rows) = if bytes_eq name row.0 then Some row.1 else find_
 
 abbrev pub own_rows : Kind → List (List ℕ × Domain)
 own_rows FileSrc = (codes "location", Text) ∷ (codes "blocksize", Number 1 1048576) ∷ []
+own_rows RampTestSrc =
+    (codes "num-buffers", Number 0 1000000) ∷ (codes "samplesperbuffer", Number 1 65536) ∷ (codes "rate", Number 1 768000)
+    ∷ (codes "channels", Number 1 64) ∷ (codes "gap-every", Number 0 1000000) ∷ (codes "title", Text) ∷ []
 own_rows Identity = []
 own_rows CapsFilter = (codes "caps", CapsTexts) ∷ []
 own_rows Queue =
     (codes "max-size-buffers", Number 0 4294967295) ∷ (codes "max-size-bytes", Number 0 4294967295) ∷ (codes "max-size-time", Number 0 9223372036854775807)
     ∷ (codes "leaky", NotLeaky) ∷ []
+own_rows AudioConvert = []
+own_rows (Law kind) = []
+own_rows RawAudioParse = (codes "pcm-format", Format) ∷ (codes "sample-rate", Number 1 768000) ∷ (codes "num-channels", Number 1 64) ∷ []
+own_rows AudioBufferSplit = (codes "frames", Number 1 1000000) ∷ []
+own_rows WavParse = []
+own_rows WavEnc = []
 own_rows FileSink = (codes "location", Text) ∷ (codes "keep-flushed", Switch) ∷ (codes "sync", Off) ∷ []
 own_rows FakeSink = (codes "sync", Off) ∷ []
 
@@ -41,6 +52,11 @@ spells_true text = bytes_eq text (codes "true") || bytes_eq text (codes "yes") |
 abbrev pub spells_false : List ℕ → Bool
 spells_false text = bytes_eq text (codes "false") || bytes_eq text (codes "no") || bytes_eq text (codes "0")
 
+-- the formats of raw audio, by how a parser of it is told them
+abbrev pub formats : List (List ℕ × Sample)
+formats =
+    (codes "s8", S8) ∷ (codes "u8", U8) ∷ (codes "s16le", S16LE) ∷ (codes "s16be", S16BE) ∷ (codes "s24le", S24LE) ∷ (codes "s32le", S32LE) ∷ []
+
 -- which texts are values
 abbrev pub InDomain : Domain → List ℕ → Type 0
 InDomain Name text = is_name text ≡ true
@@ -49,4 +65,5 @@ InDomain (Number least most) text = (n : ℕ) × IsNumber text n × (least ≤ n
 InDomain Switch text = (spells_true text || spells_false text) ≡ true
 InDomain Off text = spells_false text ≡ true
 InDomain NotLeaky text = (bytes_eq text (codes "no") || bytes_eq text (codes "0")) ≡ true
+InDomain Format text = is_some (find_row text formats) ≡ true
 InDomain CapsTexts text = (caps : Caps) × IsCapsText text caps

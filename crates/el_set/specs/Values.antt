@@ -3,11 +3,12 @@ use Rattle.std.specs.Prelude.{◌≡◌, ℕ, Bool, false, List, [], ◌∷◌, 
 use Rattle.gst_caps.specs.declared.name.Prop.{Prop}
 use Rattle.gst_caps.specs.declared.caps.Caps.{Caps}
 use Rattle.gst_caps.specs.declared.caps.Caps.TheVariants.{Any}
+use Rattle.audio_info.specs.declared.sample.Sample.{Sample}
 use Rattle.caps_text.specs.Grammar.{IsCapsText}
 use Rattle.el_set.specs.declared.kind.Kind.{Kind}
 use Rattle.el_set.specs.declared.domain.Domain.{Domain}
 use Rattle.el_set.specs.Numbers.{IsNumber}
-use Rattle.el_set.specs.Rows.{domain_named, InDomain, spells_true}
+use Rattle.el_set.specs.Rows.{domain_named, find_row, formats, InDomain, spells_true}
 
 -- the element has this property, and the value is one of it
 abbrev pub IsTaken : Kind → Prop → Type 0
@@ -32,6 +33,9 @@ NumberOr name plain props n = MatchOption (last_value name props) (n ≡ plain) 
 
 abbrev pub SwitchOr : List ℕ → List Prop → Bool → Type 0
 SwitchOr name props on = MatchOption (last_value name props) (on ≡ false) (λ text. on ≡ spells_true text)
+
+abbrev pub FormatOr : List ℕ → Sample → List Prop → Sample → Type 0
+FormatOr name plain props format = MatchOption (last_value name props) (format ≡ plain) (λ text. find_row text formats ≡ Some format)
 
 abbrev pub CapsOr : List ℕ → List Prop → Caps → Type 0
 CapsOr name props caps = MatchOption (last_value name props) (caps ≡ Any) (λ text. IsCapsText text caps)

@@ -1,42 +1,59 @@
 //! The plain evaluation of elements over whole lists.
 ghost use Rattle.std.specs.Prelude.{◌≡◌, ◌≢◌, true, false, ◌++◌, ◌∷◌, [], List, map, length, IfOk, IfErr, OnOk};
-ghost use Rattle.gst_caps.specs.declared.caps.Caps.{Caps as FilterCaps};
 ghost use Rattle.flow_model.specs.Item.{Item as PadItem, is_flush_stop};
 ghost use Rattle.flow_model.specs.Feeding.{IsFaultOf};
-ghost use Rattle.el_basic.specs.Filters.{filters};
-ghost use Rattle.el_set.specs.Asked.{sink_pads, source_pads};
-ghost use Rattle.el_set.specs.Denoted.{IsDenoted, IsOwed, on_pads, answered, next_fault};
+ghost use Rattle.flow_model.specs.Rule.{Response};
+ghost use Rattle.el_set.specs.Asked.{sink_pads, source_pads, with_allowed};
+ghost use Rattle.el_set.specs.Denoted.{IsDenoted, IsOwed, on_pads, answered, next_fault, response_of};
+ghost use Rattle.el_set.specs.Stands.{Stands};
 ghost use Rattle.el_set.specs.Stepping.{TookAll};
 
+use crate::filter::FilterElement;
+use crate::making::filter_of;
 use crate::settings::Settings;
-use crate::templates::template;
-use el_basic::CapsFilter;
+use el_basic::Identity;
 use gst_caps::{Caps, List, OutOfMemory};
 use gst_item::{ElementFault, Event, Item, Out, Outs};
 use std::alloc::Global;
 use std::collections::VecDeque;
 
 /// What an element with these settings owes for whole lists, one for each sink pad: a list for each of its source
-/// pads. The fault is the first of the element's rule.
+/// pads. A converter may put out the allowed caps. The fault is the first of the element's rule.
 pub fn denote(
     alloc: Global,
     settings: &Settings,
     _pads: u32,
-    _allowed: &Caps,
+    allowed: &Caps,
     inputs: &List<List<Item>>,
 ) -> Result<List<List<Item>>, ElementFault>
     requires no_source { sink_pads settings.now ≢ 0 }
     requires inputs { length inputs.now ≡ sink_pads settings.now }
     requires pads { _pads ≡ source_pads settings.now }
-    ensures { IsDenoted settings.now inputs.now result }
+    ensures { IsDenoted (with_allowed allowed.now settings.now) inputs.now result }
 {
-    let filter = template(alloc, settings, true, 0)?;
+    let element = element_of(alloc, settings, allowed)?;
     let Some(input) = inputs.as_slice().first() else {
         unreachable!()
     };
-    match filtered(alloc, filter, input.as_slice()) {
+    match evaluated(alloc, element, input.as_slice()) {
         Ok(output) => Ok(on_pads(alloc, settings, output)?),
         Err(fault) => Err(fault),
+    }
+}
+
+/// An element of the settings' rule, which was fed nothing yet.
+fn element_of(
+    alloc: Global,
+    settings: &Settings,
+    allowed: &Caps,
+) -> Result<FilterElement, OutOfMemory>
+    ensures { IfOk result (λ made. Stands (response_of (with_allowed allowed.now settings.now)) made [] []) }
+{
+    let mut own = settings.copy(alloc)?;
+    own.set_allowed(allowed.copy(alloc)?);
+    match filter_of(alloc, &own)? {
+        Some(element) => Ok(element),
+        None => Ok(FilterElement::Identity(Identity::new())),
     }
 }
 
@@ -55,14 +72,18 @@ fn on_pads(
     Ok(outputs)
 }
 
-/// What a filter owes for a whole list.
-fn filtered(alloc: Global, filter: Caps, items: &[Item]) -> Result<List<Item>, ElementFault>
-    ensures { IsOwed (filters filter) items.now result }
+/// What an element that was fed nothing owes for a whole list.
+fn evaluated(
+    alloc: Global,
+    element: FilterElement,
+    items: &[Item],
+) -> Result<List<Item>, ElementFault>
+    ensures { (respond : Response) → Stands respond element [] [] → IsOwed respond items.now result }
 {
-    let mut element = CapsFilter::new(filter);
+    let mut running = element;
     let mut out = List::new(alloc);
     for item in items {
-        match take(alloc, &mut element, item, &mut out) {
+        match take(alloc, &mut running, item, &mut out) {
             Ok(()) => {}
             Err(fault) => return Err(fault),
         }
@@ -73,12 +94,12 @@ fn filtered(alloc: Global, filter: Caps, items: &[Item]) -> Result<List<Item>, E
 /// Feeds a copy of an item, or flushes the element.
 fn take(
     alloc: Global,
-    element: &mut CapsFilter,
+    element: &mut FilterElement,
     item: &Item,
     out: &mut Outs,
 ) -> Result<(), ElementFault>
-    ensures taken { OnOk result ((first : FilterCaps) (items : List PadItem) → TookAll first element.old items out.old → TookAll first element.new (items ++ item.now ∷ []) out.new) }
-    ensures fault { IfErr result (λ fault. (first : FilterCaps) (items : List PadItem) → TookAll first element.old items out.old → IsFaultOf (answered (next_fault (filters first) items item.now)) fault) }
+    ensures taken { OnOk result ((respond : Response) (items : List PadItem) → TookAll respond element.old items out.old → TookAll respond element.new (items ++ item.now ∷ []) out.new) }
+    ensures fault { IfErr result (λ fault. (respond : Response) (items : List PadItem) → TookAll respond element.old items out.old → IsFaultOf (answered (next_fault respond items item.now)) fault) }
 {
     if matches!(item, Item::Event(Event::FlushStop { .. })) {
         Ok(flush(alloc, element, item, out)?)
@@ -90,12 +111,12 @@ fn take(
 /// Begins a new section behind a FLUSH_STOP.
 fn flush(
     alloc: Global,
-    element: &mut CapsFilter,
+    element: &mut FilterElement,
     item: &Item,
     out: &mut Outs,
 ) -> Result<(), OutOfMemory>
     requires { is_flush_stop item.now ≡ true }
-    ensures { OnOk result ((first : FilterCaps) (items : List PadItem) → TookAll first element.old items out.old → TookAll first element.new (items ++ item.now ∷ []) out.new) }
+    ensures { OnOk result ((respond : Response) (items : List PadItem) → TookAll respond element.old items out.old → TookAll respond element.new (items ++ item.now ∷ []) out.new) }
 {
     let item = item.copy(alloc)?;
     out.push(alloc, Out { pad: 0, item })?;
@@ -106,13 +127,13 @@ fn flush(
 /// Feeds a copy of an item.
 fn feed(
     alloc: Global,
-    element: &mut CapsFilter,
+    element: &mut FilterElement,
     item: &Item,
     out: &mut Outs,
 ) -> Result<(), ElementFault>
     requires { is_flush_stop item.now ≡ false }
-    ensures taken { OnOk result ((first : FilterCaps) (items : List PadItem) → TookAll first element.old items out.old → TookAll first element.new (items ++ item.now ∷ []) out.new) }
-    ensures fault { IfErr result (λ fault. (first : FilterCaps) (items : List PadItem) → TookAll first element.old items out.old → IsFaultOf (answered (next_fault (filters first) items item.now)) fault) }
+    ensures taken { OnOk result ((respond : Response) (items : List PadItem) → TookAll respond element.old items out.old → TookAll respond element.new (items ++ item.now ∷ []) out.new) }
+    ensures fault { IfErr result (λ fault. (respond : Response) (items : List PadItem) → TookAll respond element.old items out.old → IsFaultOf (answered (next_fault respond items item.now)) fault) }
 {
     let copy = item.copy(alloc)?;
     match element.feed(alloc, 0, copy, out) {

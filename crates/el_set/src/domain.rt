@@ -1,10 +1,11 @@
 //! Which properties an element takes, and which values.
 ghost use Rattle.std.specs.Prelude.{◌≡◌, IfOk, MatchBool, List};
 ghost use Rattle.std.specs.List.{list_all};
-ghost use Rattle.el_set.specs.Rows.{find_row, own_rows, domain_named, InDomain, is_name_byte, is_name, spells_true, spells_false};
+ghost use Rattle.el_set.specs.Rows.{find_row, own_rows, domain_named, formats, InDomain, is_name_byte, is_name, spells_true, spells_false};
 
 use crate::kind::Kind;
 use crate::number::read_number;
+use audio_info::Sample;
 use caps_text::CapsTextFault;
 use gst_caps::OutOfMemory;
 use std::alloc::Global;
@@ -24,6 +25,8 @@ pub(crate) enum Domain {
     Off,
     /// `no` or `0`.
     NotLeaky,
+    /// A format of raw audio, in small letters.
+    Format,
     /// A text of caps.
     Caps,
 }
@@ -37,9 +40,16 @@ pub(crate) fn domain_named(kind: Kind, name: &str) -> Option<Domain>
     }
     match kind {
         Kind::FileSrc => of_file_src(name),
+        Kind::RampTestSrc => of_ramp_test_src(name),
         Kind::Identity => None,
         Kind::CapsFilter => of_caps_filter(name),
         Kind::Queue => of_queue(name),
+        Kind::AudioConvert => None,
+        Kind::Law(_) => None,
+        Kind::RawAudioParse => of_raw_audio_parse(name),
+        Kind::AudioBufferSplit => of_audio_buffer_split(name),
+        Kind::WavParse => None,
+        Kind::WavEnc => None,
         Kind::FileSink => of_file_sink(name),
         Kind::FakeSink => of_fake_sink(name),
     }
@@ -54,6 +64,32 @@ fn of_file_src(name: &str) -> Option<Domain>
             least: 1,
             most: 1_048_576,
         }),
+        _ => None,
+    }
+}
+
+fn of_ramp_test_src(name: &str) -> Option<Domain>
+    ensures { result ≡ find_row name.now (own_rows Kind.RampTestSrc) }
+{
+    match name {
+        "num-buffers" => Some(Domain::Number {
+            least: 0,
+            most: 1_000_000,
+        }),
+        "samplesperbuffer" => Some(Domain::Number {
+            least: 1,
+            most: 65_536,
+        }),
+        "rate" => Some(Domain::Number {
+            least: 1,
+            most: 768_000,
+        }),
+        "channels" => Some(Domain::Number { least: 1, most: 64 }),
+        "gap-every" => Some(Domain::Number {
+            least: 0,
+            most: 1_000_000,
+        }),
+        "title" => Some(Domain::Text),
         _ => None,
     }
 }
@@ -80,6 +116,32 @@ fn of_queue(name: &str) -> Option<Domain>
             most: 9_223_372_036_854_775_807,
         }),
         "leaky" => Some(Domain::NotLeaky),
+        _ => None,
+    }
+}
+
+fn of_raw_audio_parse(name: &str) -> Option<Domain>
+    ensures { result ≡ find_row name.now (own_rows Kind.RawAudioParse) }
+{
+    match name {
+        "pcm-format" => Some(Domain::Format),
+        "sample-rate" => Some(Domain::Number {
+            least: 1,
+            most: 768_000,
+        }),
+        "num-channels" => Some(Domain::Number { least: 1, most: 64 }),
+        _ => None,
+    }
+}
+
+fn of_audio_buffer_split(name: &str) -> Option<Domain>
+    ensures { result ≡ find_row name.now (own_rows Kind.AudioBufferSplit) }
+{
+    match name {
+        "frames" => Some(Domain::Number {
+            least: 1,
+            most: 1_000_000,
+        }),
         _ => None,
     }
 }
@@ -116,6 +178,7 @@ impl Domain {
             Domain::Switch => Ok(spells_true(text) || spells_false(text)),
             Domain::Off => Ok(spells_false(text)),
             Domain::NotLeaky => Ok(text == "no" || text == "0"),
+            Domain::Format => Ok(format_named(text).is_some()),
             Domain::Caps => is_caps(alloc, text),
         }
     }
@@ -163,6 +226,21 @@ fn spells_false(text: &str) -> bool
     ensures { result ≡ spells_false text.now }
 {
     text == "false" || text == "no" || text == "0"
+}
+
+/// The format of raw audio of this name.
+pub(crate) fn format_named(name: &str) -> Option<Sample>
+    ensures { result ≡ find_row name.now formats }
+{
+    match name {
+        "s8" => Some(Sample::S8),
+        "u8" => Some(Sample::U8),
+        "s16le" => Some(Sample::S16LE),
+        "s16be" => Some(Sample::S16BE),
+        "s24le" => Some(Sample::S24LE),
+        "s32le" => Some(Sample::S32LE),
+        _ => None,
+    }
 }
 
 /// Whether a text stands for caps.

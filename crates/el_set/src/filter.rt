@@ -6,6 +6,11 @@ ghost use Rattle.flow_model.specs.Rule.{Response};
 ghost use Rattle.flow_model.specs.Feeding.{flow_behind, next_owed, IsFaultOf};
 
 use el_basic::{CapsFilter, Identity};
+use el_convert::Convert;
+use el_law::Law;
+use el_parse::{RawParse, Split};
+use el_wav::WavParse;
+use el_wavenc::WavEnc;
 use gst_caps::OutOfMemory;
 use gst_item::{ElementFault, Flow, Item, Outs};
 use std::alloc::Global;
@@ -15,6 +20,12 @@ use std::alloc::Global;
 pub enum FilterElement {
     Identity(Identity),
     CapsFilter(CapsFilter),
+    Convert(Convert),
+    Law(Law),
+    RawParse(RawParse),
+    Split(Split),
+    WavParse(WavParse),
+    WavEnc(WavEnc),
 }
 
 impl FilterElement {
@@ -41,6 +52,12 @@ impl FilterElement {
         match self {
             FilterElement::Identity(identity) => identity.feed(alloc, pad, item, out),
             FilterElement::CapsFilter(filter) => filter.feed(alloc, pad, item, out),
+            FilterElement::Convert(convert) => convert.feed(alloc, pad, item, out),
+            FilterElement::Law(law) => law.feed(alloc, pad, item, out),
+            FilterElement::RawParse(parser) => parser.feed(alloc, pad, item, out),
+            FilterElement::Split(split) => split.feed(alloc, pad, item, out),
+            FilterElement::WavParse(parser) => parser.feed(alloc, pad, item, out),
+            FilterElement::WavEnc(encoder) => encoder.feed(alloc, pad, item, out),
         }
     }
 
@@ -52,6 +69,12 @@ impl FilterElement {
         match self {
             FilterElement::Identity(identity) => identity.flush(),
             FilterElement::CapsFilter(filter) => filter.flush(),
+            FilterElement::Convert(convert) => convert.flush(),
+            FilterElement::Law(law) => law.flush(),
+            FilterElement::RawParse(parser) => parser.flush(),
+            FilterElement::Split(split) => split.flush(),
+            FilterElement::WavParse(parser) => parser.flush(),
+            FilterElement::WavEnc(encoder) => encoder.flush(),
         }
     }
 
@@ -65,6 +88,12 @@ impl FilterElement {
         match self {
             FilterElement::Identity(identity) => identity.drain(alloc, out),
             FilterElement::CapsFilter(filter) => filter.drain(alloc, out),
+            FilterElement::Convert(convert) => convert.drain(alloc, out),
+            FilterElement::Law(law) => law.drain(alloc, out),
+            FilterElement::RawParse(parser) => parser.drain(alloc, out),
+            FilterElement::Split(split) => split.drain(alloc, out),
+            FilterElement::WavParse(parser) => parser.drain(alloc, out),
+            FilterElement::WavEnc(encoder) => encoder.drain(alloc, out),
         }
     }
 
@@ -75,6 +104,12 @@ impl FilterElement {
         match self {
             FilterElement::Identity(identity) => Ok(FilterElement::Identity(identity.copy(alloc)?)),
             FilterElement::CapsFilter(filter) => Ok(FilterElement::CapsFilter(filter.copy(alloc)?)),
+            FilterElement::Convert(convert) => Ok(FilterElement::Convert(convert.copy(alloc)?)),
+            FilterElement::Law(law) => Ok(FilterElement::Law(law.copy(alloc)?)),
+            FilterElement::RawParse(parser) => Ok(FilterElement::RawParse(parser.copy(alloc)?)),
+            FilterElement::Split(split) => Ok(FilterElement::Split(split.copy(alloc)?)),
+            FilterElement::WavParse(parser) => Ok(FilterElement::WavParse(parser.copy(alloc)?)),
+            FilterElement::WavEnc(encoder) => Ok(FilterElement::WavEnc(encoder.copy(alloc)?)),
         }
     }
 }

@@ -5,6 +5,7 @@ ghost use Rattle.gst_caps.specs.declared.name.Prop.{Prop};
 ghost use Rattle.el_basic.specs.Filters.{filters};
 ghost use Rattle.el_set.specs.Alike.{AreAlike};
 ghost use Rattle.el_set.specs.Checked.{IsAnswer};
+ghost use Rattle.el_set.specs.Denoted.{response_of};
 ghost use Rattle.el_set.specs.declared.fault.PropFault.{PropFault};
 ghost use Rattle.el_set.specs.declared.settings.Settings.{Settings};
 ghost use Rattle.flow_model.specs.Item.{Item};
@@ -68,11 +69,12 @@ pub fn rules_end_with_eos()
     ensures { (respond : Response) (element : FilterElement) (calls : List Call) (put : List Item) → Stands respond element calls put → EndsWithEos respond }
 {}
 
-/// The same of the rule that passes all, and of each filter's.
-#[tactic(auto, using(crate::proofs::Ends::passes_ends, crate::proofs::Ends::filters_ends))]
+/// The same of the rule that passes all, of each filter's, and of the rule of all settings.
+#[tactic(auto, using(crate::proofs::Ends::passes_ends, crate::proofs::Ends::filters_ends, crate::proofs::SettingRules::settings_end))]
 pub fn every_rule_ends_with_eos()
     ensures passing { EndsWithEos passes }
     ensures filtering { (first : Caps) → EndsWithEos (filters first) }
+    ensures settings { (settings : Settings) → EndsWithEos (response_of settings) }
 {}
 
 /// The same along a row of such rules, each of which is fed all that the one before it owes.

@@ -11,6 +11,7 @@ mod kind;
 pub mod laws;
 mod making;
 mod number;
+mod pad_caps;
 mod settings;
 pub mod sink;
 pub mod source;
@@ -24,7 +25,8 @@ pub use fault::PropFault;
 pub use filter::FilterElement;
 pub use making::{filter_of, sink_of, source_of};
 pub use settings::{
-    CapsFilterSettings, FileSinkSettings, FileSrcSettings, QueueSettings, Settings,
+    AudioBufferSplitSettings, AudioConvertSettings, CapsFilterSettings, FileSinkSettings,
+    FileSrcSettings, QueueSettings, RampTestSrcSettings, Settings,
 };
 pub use sink::SinkElement;
 pub use source::SourceElement;

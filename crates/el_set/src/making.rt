@@ -1,5 +1,6 @@
 //! Elements, made by what they are set to.
 ghost use Rattle.std.specs.Prelude.{◌≡◌, IfOk};
+ghost use Rattle.el_set.specs.Asked.{title_of};
 ghost use Rattle.el_set.specs.Made.{IsFilterFor, IsSourceFor, IsSinkFor};
 
 use crate::filter::FilterElement;
@@ -7,9 +8,14 @@ use crate::settings::Settings;
 use crate::sink::SinkElement;
 use crate::source::SourceElement;
 use el_basic::{CapsFilter, Identity};
+use el_convert::Convert;
+use el_law::Law;
+use el_parse::{RawParse, Split};
 use el_sink::{FakeSink, FileSink};
-use el_src::FileSrc;
-use gst_caps::OutOfMemory;
+use el_src::{FileSrc, Ramp, RampSrc};
+use el_wav::WavParse;
+use el_wavenc::WavEnc;
+use gst_caps::{OutOfMemory, Text};
 use gst_outside::{Sink, Source};
 use std::alloc::Global;
 
@@ -24,24 +30,51 @@ pub fn filter_of(alloc: Global, settings: &Settings) -> Result<Option<FilterElem
             let caps = settings.caps.copy(alloc)?;
             Ok(Some(FilterElement::CapsFilter(CapsFilter::new(caps))))
         }
-        Settings::FileSrc(_) | Settings::Queue(_) | Settings::FileSink(_) | Settings::FakeSink => {
-            Ok(None)
+        Settings::AudioConvert(settings) => {
+            let allowed = settings.allowed.copy(alloc)?;
+            Ok(Some(FilterElement::Convert(Convert::new(allowed))))
         }
+        Settings::Law(kind) => Ok(Some(FilterElement::Law(Law::new(*kind)))),
+        Settings::RawAudioParse(info) => Ok(Some(FilterElement::RawParse(RawParse::new(*info)))),
+        Settings::AudioBufferSplit(settings) => {
+            Ok(Some(FilterElement::Split(Split::new(settings.frames))))
+        }
+        Settings::WavParse => Ok(Some(FilterElement::WavParse(WavParse::new()))),
+        Settings::WavEnc => Ok(Some(FilterElement::WavEnc(WavEnc::new()))),
+        Settings::FileSrc(_)
+        | Settings::RampTestSrc(_)
+        | Settings::Queue(_)
+        | Settings::FileSink(_)
+        | Settings::FakeSink => Ok(None),
     }
 }
 
-/// The source of these settings, of the number `id`, which was asked for nothing yet; `file` is what it reads. None
-/// where they are those of no source, or of one that reads a file and none is given.
+/// The source of these settings, of the number `id`, which was asked for nothing yet; `title` is what they say that its
+/// stream is called, and `file` is what it reads. None where they are those of no source, or of one that reads a file and
+/// none is given. Takes no memory.
 pub fn source_of<S: Source>(
     settings: &Settings,
+    title: Option<Text>,
     file: Option<S>,
     id: u32,
 ) -> Option<SourceElement<S>>
+    requires { title ≡ title_of settings.now }
     ensures { IsSourceFor S.content settings.now file id result }
 {
     match (settings, file) {
         (Settings::FileSrc(settings), Some(file)) => {
             Some(SourceElement::File(FileSrc::new(file, settings.blocksize, id)))
+        }
+        (Settings::RampTestSrc(settings), _) => {
+            let ramp = Ramp {
+                buffers: settings.ramp.buffers,
+                samples: settings.ramp.samples,
+                rate: settings.ramp.rate,
+                channels: settings.ramp.channels,
+                gap_every: settings.ramp.gap_every,
+                title,
+            };
+            Some(SourceElement::Ramp(RampSrc::new(ramp, id)))
         }
         _ => None,
     }

@@ -1,5 +1,5 @@
 //! The elements that make a stream.
-ghost use Rattle.std.specs.Prelude.{◌≡◌, ◌<◌, ◌^◌, ℕ, List, IfOk, OnErr, IfErr};
+ghost use Rattle.std.specs.Prelude.{◌≡◌, ◌<◌, ◌^◌, ℕ, List, IfOk, OnErr, IfErr, is_some};
 ghost use Rattle.flow_model.specs.Item.{Item as PadItem};
 
 use el_src::{FileSrc, Next, RampSrc, SrcFault};
@@ -30,6 +30,7 @@ impl<S: Source> SourceElement<S> {
         ensures cause { IfErr result (λ fault. SourceCause (source_faults S.faults self.old) (source_faults S.faults self.new) fault) }
         ensures content_stays { source_content S.content self.new ≡ source_content S.content self.old }
         ensures location_stays { source_location S.location self.new ≡ source_location S.location self.old }
+        ensures reading_stays { is_some (source_file self.new) ≡ is_some (source_file self.old) }
         ensures never_falls { NeverFalls (source_faults S.faults self.old) (source_faults S.faults self.new) }
     {
         match self {

@@ -1,6 +1,10 @@
 //! Rows of properties and of whole lists.
+ghost use Rattle.std.specs.Prelude.{◌≡◌, IfOk};
+ghost use Rattle.el_set.specs.Asked.{title_of};
+
 use super::*;
-use el_src::Next;
+use el_law::LawKind;
+use el_src::{Next, Ramp};
 use gst_caps::{Caps, Fixed, List, Prop, Text};
 use gst_item::{Body, Buffer, ElementFault, Event, Flow, Item, Outs};
 use gst_outside::{MemSink, MemSource, Sink, Source};
@@ -33,16 +37,52 @@ fn shown(alloc: Global, settings: &Settings) -> Result<String, Fail> {
         Settings::FileSrc(s) => {
             Ok(format!(in alloc; "filesrc {} {}", s.location.as_str(), s.blocksize)?)
         }
+        Settings::RampTestSrc(s) => shown_ramp(alloc, &s.ramp),
         Settings::Identity => Ok(String::from_str(alloc, "identity")?),
         Settings::CapsFilter(s) => {
             let caps = caps_text::print(alloc, &s.caps)?;
             Ok(format!(in alloc; "capsfilter {}", caps.as_str())?)
         }
         Settings::Queue(s) => Ok(format!(in alloc; "queue {} {} {}", s.buffers, s.bytes, s.time)?),
+        Settings::AudioConvert(s) => {
+            let caps = caps_text::print(alloc, &s.allowed)?;
+            Ok(format!(in alloc; "audioconvert {}", caps.as_str())?)
+        }
+        Settings::Law(kind) => Ok(String::from_str(alloc, law_of(*kind))?),
+        Settings::RawAudioParse(info) => {
+            Ok(format!(in alloc; "{} {} {}", info.format.name(), info.rate, info.channels)?)
+        }
+        Settings::AudioBufferSplit(s) => Ok(format!(in alloc; "audiobuffersplit {}", s.frames)?),
+        Settings::WavParse => Ok(String::from_str(alloc, "wavparse")?),
+        Settings::WavEnc => Ok(String::from_str(alloc, "wavenc")?),
         Settings::FileSink(s) => {
             Ok(format!(in alloc; "filesink {} {}", s.location.as_str(), s.keep_flushed)?)
         }
         Settings::FakeSink => Ok(String::from_str(alloc, "fakesink")?),
+    }
+}
+
+fn shown_ramp(alloc: Global, ramp: &Ramp) -> Result<String, Fail> {
+    let title = match &ramp.title {
+        Some(title) => title.as_str(),
+        None => "none",
+    };
+    let size = format!(in alloc; "{} {} {}", ramp.buffers, ramp.samples, ramp.rate)?;
+    Ok(format!(in alloc;
+        "ramp {} {} {} {}",
+        size.as_str(),
+        ramp.channels,
+        ramp.gap_every,
+        title
+    )?)
+}
+
+fn law_of(kind: LawKind) -> &'static str {
+    match kind {
+        LawKind::MulawEnc => "mulawenc",
+        LawKind::AlawEnc => "alawenc",
+        LawKind::MulawDec => "mulawdec",
+        LawKind::AlawDec => "alawdec",
     }
 }
 
@@ -99,6 +139,41 @@ filesink sync=true location=a: BadValue sync
 filesink keep-flushed=1: BadValue location
 fakesink sync=no: fakesink
 fakesink location=a: NoSuchProperty location
+ramptestsrc: ramp 16 1024 44100 1 0 none
+ramptestsrc num-buffers=1000000 samplesperbuffer=65536 rate=768000 channels=64 gap-every=1000000 title=t: ramp 1000000 65536 768000 64 1000000 t
+ramptestsrc num-buffers=0 samplesperbuffer=1 rate=1 title= name=r: ramp 0 1 1 1 0 
+ramptestsrc num-buffers=1000001: BadValue num-buffers
+ramptestsrc samplesperbuffer=0: BadValue samplesperbuffer
+ramptestsrc samplesperbuffer=65537: BadValue samplesperbuffer
+ramptestsrc rate=768001: BadValue rate
+ramptestsrc rate=0: BadValue rate
+ramptestsrc channels=65: BadValue channels
+ramptestsrc gap-every=1000001: BadValue gap-every
+ramptestsrc num-buffers=140738 samplesperbuffer=65536 rate=1: BadValue num-buffers
+ramptestsrc num-buffers=140737 samplesperbuffer=65536 rate=1: ramp 140737 65536 1 1 0 none
+ramptestsrc num-buffers=140738 samplesperbuffer=65536 rate=1 channels=0: BadValue channels
+ramptestsrc location=a: NoSuchProperty location
+audioconvert: audioconvert ANY
+audioconvert channels=1: NoSuchProperty channels
+mulawenc: mulawenc
+alawenc name=a: alawenc
+mulawdec: mulawdec
+alawdec: alawdec
+alawdec rate=8000: NoSuchProperty rate
+rawaudioparse: S16LE 44100 2
+rawaudioparse pcm-format=s8 sample-rate=768000 num-channels=64: S8 768000 64
+rawaudioparse pcm-format=s24le pcm-format=s32le: S32LE 44100 2
+rawaudioparse pcm-format=S16LE: BadValue pcm-format
+rawaudioparse pcm-format=f32le: BadValue pcm-format
+rawaudioparse sample-rate=0: BadValue sample-rate
+rawaudioparse num-channels=65: BadValue num-channels
+audiobuffersplit: audiobuffersplit 1024
+audiobuffersplit frames=1000000: audiobuffersplit 1000000
+audiobuffersplit frames=0: BadValue frames
+audiobuffersplit frames=1000001: BadValue frames
+wavparse: wavparse
+wavparse location=a: NoSuchProperty location
+wavenc: wavenc
 nosuch location=a: NoSuchKind";
     for row in rows.lines() {
         let (words, wanted) = row.split_once(": ").unwrap_or((row, ""));
@@ -108,7 +183,7 @@ nosuch location=a: NoSuchKind";
 }
 
 /// The pads of an element, and what may be done to it: the numbers of its pads, and letters for source, sink, queue,
-/// replaced, settable caps and location.
+/// replaced, settable caps, location, title and allowed caps.
 fn asked(alloc: Global, settings: &Settings) -> Result<String, Fail> {
     let mut text = format!(in alloc; "{}{}", settings.sink_pads(), settings.source_pads())?;
     let answers = [
@@ -118,6 +193,8 @@ fn asked(alloc: Global, settings: &Settings) -> Result<String, Fail> {
         (settings.may_be_replaced(), 'r'),
         (settings.is_settable("caps"), 'c'),
         (settings.location().is_some(), 'l'),
+        (settings.title().is_some(), 't'),
+        (settings.is_converter(), 'a'),
     ];
     for (answer, letter) in answers {
         if answer {
@@ -131,7 +208,14 @@ fn asked(alloc: Global, settings: &Settings) -> Result<String, Fail> {
 fn rows_of_questions(rt: HostRuntime) -> Result<(), Fail> {
     let alloc = rt.alloc();
     let rows = "filesrc location=a: 01sl
+ramptestsrc title=t: 01st
 identity: 11r
+audioconvert: 11ra
+mulawenc: 11r
+rawaudioparse: 11r
+audiobuffersplit: 11r
+wavparse: 11r
+wavenc: 11r
 capsfilter: 11rc
 queue: 11q
 filesink location=a: 10kl
@@ -154,6 +238,89 @@ fn a_template_is_the_filter(rt: HostRuntime) -> Result<(), Fail> {
     let filter = template(alloc, &settings, true, 0)?;
     assert_eq!(rt; caps_text::print(alloc, &filter)?.as_str(), "audio/x-raw");
     assert!(rt; matches!(template(alloc, &Settings::Identity, false, 0)?, Caps::Any));
+    Ok(())
+}
+
+/// The text of a template.
+fn template_text(alloc: Global, words: &str, sink: bool) -> Result<String, Fail> {
+    let Ok(settings) = checked(alloc, words)? else {
+        return Ok(String::new(alloc));
+    };
+    let pads = if sink {
+        settings.sink_pads()
+    } else {
+        settings.source_pads()
+    };
+    if pads == 0 {
+        return Ok(String::new(alloc));
+    }
+    let caps = template(alloc, &settings, sink, 0)?;
+    let text = caps_text::print(alloc, &caps)?;
+    Ok(String::from_str(alloc, text.as_str())?)
+}
+
+/// Raw audio of a format, or of a list of them.
+fn raw_text(alloc: Global, formats: &str) -> Result<String, Fail> {
+    Ok(format!(in alloc;
+        "audio/x-raw, channels=(int)[ 1, 64 ], format=(string){}, layout=(string)interleaved, rate=(int)[ 1, 768000 ]",
+        formats
+    )?)
+}
+
+/// The templates that a row names: `r` raw audio, `s` samples of 16 bits, `m` and `a` the laws, `w` a WAV file, `i`
+/// what one is read as, `o` what one is written of, and `*` all caps.
+fn named(alloc: Global, letter: &str) -> Result<String, Fail> {
+    let laws =
+        "audio/x-mulaw, channels=(int)[ 1, 64 ], rate=(int)[ 1, 768000 ]; audio/x-alaw, channels=(int)[ 1, 64 ], rate=(int)[ 1, 768000 ]";
+    let (mulaw, alaw) = laws.split_once("; ").unwrap_or(("", ""));
+    match letter {
+        "r" => raw_text(alloc, "{ S8, U8, S16LE, S16BE, S24LE, S32LE }"),
+        "s" => raw_text(alloc, "S16LE"),
+        "m" => Ok(String::from_str(alloc, mulaw)?),
+        "a" => Ok(String::from_str(alloc, alaw)?),
+        "w" => Ok(String::from_str(alloc, "audio/x-wav")?),
+        "i" => {
+            let raw = raw_text(alloc, "{ S8, U8, S16LE, S16BE, S24LE, S32LE }")?;
+            Ok(format!(in alloc; "{}; {}", raw.as_str(), laws)?)
+        }
+        "o" => {
+            let raw = raw_text(alloc, "{ U8, S16LE, S24LE, S32LE }")?;
+            Ok(format!(in alloc; "{}; {}", raw.as_str(), laws)?)
+        }
+        "*" => Ok(String::from_str(alloc, "ANY")?),
+        _ => Ok(String::new(alloc)),
+    }
+}
+
+#[test]
+fn rows_of_templates(rt: HostRuntime) -> Result<(), Fail> {
+    let alloc = rt.alloc();
+    let rows = "filesrc location=a:-:*
+ramptestsrc:-:s
+identity:*:*
+queue:*:*
+audioconvert:r:r
+mulawenc:s:m
+alawenc:s:a
+mulawdec:m:s
+alawdec:a:s
+rawaudioparse:*:r
+audiobuffersplit:r:r
+wavparse:*:i
+wavenc:o:w
+fakesink:*:-";
+    for row in rows.lines() {
+        let (words, pads) = row.split_once(":").unwrap_or((row, ""));
+        let (sink, source) = pads.split_once(":").unwrap_or((pads, ""));
+        assert_eq!(rt;
+            template_text(alloc, words, true)?.as_str(),
+            named(alloc, sink)?.as_str()
+        );
+        assert_eq!(rt;
+            template_text(alloc, words, false)?.as_str(),
+            named(alloc, source)?.as_str()
+        );
+    }
     Ok(())
 }
 
@@ -266,18 +433,29 @@ SFCB SFCB SFCB";
 /// What an element puts out for letters. A FLUSH_STOP flushes it, `D` drains it, `.` is an item that it answers with
 /// EOS, and `x` a fault.
 fn fed(alloc: Global, settings: &Settings, letters: &str) -> Result<String, Fail> {
-    let mut text = String::new(alloc);
-    let Some(mut element) = filter_of(alloc, settings)? else {
-        return Ok(text);
-    };
-    for letter in letters.chars() {
-        let mut out = List::new(alloc);
-        let mut copy = element.copy(alloc)?;
-        text.push(answer_to(alloc, &mut copy, letter, &mut out)?)?;
-        for one in out.as_slice() {
-            text.push(letter_of(&one.item))?;
+    match filter_of(alloc, settings)? {
+        Some(element) => {
+            let mut copy = element.copy(alloc)?;
+            fed_to(alloc, &mut copy, letters)
         }
-        element = copy;
+        None => Ok(String::new(alloc)),
+    }
+}
+
+fn fed_to(alloc: Global, element: &mut FilterElement, letters: &str) -> Result<String, Fail> {
+    let mut text = String::new(alloc);
+    for letter in letters.chars() {
+        text.push_str(fed_one(alloc, element, letter)?.as_str())?;
+    }
+    Ok(text)
+}
+
+fn fed_one(alloc: Global, element: &mut FilterElement, letter: char) -> Result<String, Fail> {
+    let mut text = String::new(alloc);
+    let mut out = List::new(alloc);
+    text.push(answer_to(alloc, element, letter, &mut out)?)?;
+    for one in out.as_slice() {
+        text.push(letter_of(&one.item))?;
     }
     Ok(text)
 }
@@ -359,6 +537,16 @@ fn carry_one<S: Source, K: Sink>(
     }
 }
 
+/// The title of settings.
+fn title_in(alloc: Global, settings: &Settings) -> Result<Option<Text>, Fail>
+    ensures { IfOk result (λ title. title ≡ title_of settings.now) }
+{
+    match settings.title() {
+        Some(title) => Ok(Some(Text::from_str(alloc, title)?)),
+        None => Ok(None),
+    }
+}
+
 /// The length of the file behind five bytes in blocks of two, by the words of the sink.
 fn carried(alloc: Global, words: &str) -> Result<Option<u64>, Fail> {
     let content = List::from_vec(b"abcde".to_vec(alloc)?);
@@ -372,7 +560,11 @@ fn carried(alloc: Global, words: &str) -> Result<Option<u64>, Fail> {
     ) else {
         return Ok(Some(0));
     };
-    match (source_of(&from, Some(read), 0), sink_of(&to, Some(written))) {
+    let title = title_in(alloc, &from)?;
+    match (
+        source_of(&from, title, Some(read), 0),
+        sink_of(&to, Some(written)),
+    ) {
         (Some(source), Some(sink)) => Ok(carry(alloc, source, sink)),
         _ => Ok(Some(0)),
     }

@@ -1,14 +1,16 @@
 //! The values of properties that count.
-ghost use Rattle.std.specs.Prelude.{◌≡◌, ◌<◌, ◌^◌, ℕ, List, ⊤, false, IfOk, MatchOption};
+ghost use Rattle.std.specs.Prelude.{◌≡◌, ◌<◌, ◌^◌, ℕ, List, ⊤, Some, false, IfOk, MatchOption};
 ghost use Rattle.std.specs.Option.{option_map};
 ghost use Rattle.gst_caps.specs.declared.caps.Caps.{Caps as FilterCaps};
 ghost use Rattle.caps_text.specs.Grammar.{IsCapsText};
 ghost use Rattle.el_set.specs.Numbers.{IsNumber};
-ghost use Rattle.el_set.specs.Rows.{spells_true};
+ghost use Rattle.el_set.specs.Rows.{find_row, formats, spells_true};
+ghost use Rattle.audio_info.specs.declared.sample.Sample.{Sample as Format};
 ghost use Rattle.el_set.specs.Values.{last_value};
 
-use crate::domain::spells_true;
+use crate::domain::{format_named, spells_true};
 use crate::number::read_number;
+use audio_info::Sample;
 use caps_text::CapsTextFault;
 use gst_caps::{Caps, OutOfMemory, Prop};
 use std::alloc::Global;
@@ -45,6 +47,16 @@ pub(crate) fn short_number_or(props: &[Prop], name: &str, plain: u32) -> u32
     ensures { MatchOption (last_value name.now props.now) (result ≡ plain) (λ text. (n : ℕ) → IsNumber text n → n < 2 ^ 32 → result ≡ n) }
 {
     number_or(props, name, u64::from(plain)).min(u64::from(u32::MAX)) as u32
+}
+
+/// The format of raw audio that is given for the property of a name, or the plain one.
+pub(crate) fn format_or(props: &[Prop], name: &str, plain: Sample) -> Sample
+    ensures { MatchOption (last_value name.now props.now) (result ≡ plain) (λ text. (format : Format) → find_row text formats ≡ Some format → result ≡ format) }
+{
+    let Some(text) = last_value(props, name) else {
+        return plain;
+    };
+    format_named(text).unwrap_or(plain)
 }
 
 /// Whether a switch is on. It is off where no value is given.
