@@ -1,7 +1,10 @@
 -- Elements by their names.
-use Rattle.std.proofs.Common.{◌≡◌, ◌+◌, ◌&&◌, ◌||◌, ℕ, Bool, true, false, not, cond, List, [], ◌∷◌, ◌++◌, map, refl, ap, bytes_eq, count_by, fold, position, String, string_bytes, string_eq, if◌then◌else◌}
+use Rattle.std.proofs.Common.{◌≡◌, ◌+◌, ◌&&◌, ◌||◌, ℕ, zero, suc, Bool, true, false, not, cond, List, [], ◌∷◌, ◌++◌, Some, map, slice_get, slice_set, refl, sym, ap, ◌∙◌, bytes_eq, count_by, fold, position, String, string_bytes, string_eq, if◌then◌else◌}
 use Rattle.std.proofs.lemmas.List.{length-map}
-use Rattle.indexmap.specs.IndexMap.{insert_entry}
+use Rattle.indexmap.specs.IndexMap.{insert_entry, set_value_at}
+use Rattle.gst_caps.specs.declared.caps.Caps.{Caps}
+use Rattle.el_set.specs.Asked.{with_allowed}
+use Rattle.graph_core.specs.Allowed.{with_caps}
 use Rattle.std.specs.List.{list_any, position_or_len}
 use Rattle.el_set.specs.declared.settings.Settings.{Settings}
 use Rattle.graph_core.specs.Elements.{Made, made_of, has_number_of, numbered, is_named, is_name_taken, clash, is_location_taken}
@@ -29,6 +32,17 @@ module _ {K : Type 0} (bytes : K → List ℕ) where
   pub taken_made : (settings : Settings) (es : List (K × Element)) → is_location_taken settings (map made_by es) ≡ list_any (λ (x : Element). clash x.settings settings) (map (λ e. e.1) es)
   taken_made settings [] = refl
   taken_made settings (e ∷ es) = ap (λ b. clash e.1.settings settings || b) (taken_made settings es)
+
+  -- an element is set to put out these caps
+  pub set_made : (es : List (K × Element)) (i : ℕ) (x : Element) (caps : Caps) (settings : Settings) (m : Made) → slice_get (map (λ e. e.1) es) i ≡ Some x → slice_get (map made_by es) i ≡ Some m → settings ≡ with_allowed caps x.settings
+      → map made_by (set_value_at es i (record { kind = x.kind; is_numbered = x.is_numbered; settings = settings })) ≡ slice_set (map made_by es) i (with_caps caps m)
+  set_made [] i x caps settings m at made is = absurd (cc)
+  set_made (e ∷ es) zero x caps settings m at made is =
+      let same : e.1 ≡ x = cc in
+      let own : made_by e ≡ m = cc in
+      ap (λ (y : Made). y ∷ map made_by es)
+      (ap (λ (s : Settings). let r : Made = record { name = bytes e.0; kind = x.kind; is_numbered = x.is_numbered; settings = s } in r) is ∙ ap (λ (z : Element). with_caps caps (made_by (e.0, z))) (sym same) ∙ ap (with_caps caps) own)
+  set_made (e ∷ es) (suc i) x caps settings m at made is = ap (λ (l : List Made). made_by e ∷ l) (set_made es i x caps settings m at made is)
 
 -- an element of a new name stands behind the others
 pub push_made : {Z : Type 0} (name : String Z) (x : Element) (es : List (String Z × Element)) → is_name_taken (string_bytes name) (map (made_by string_bytes) es) ≡ false

@@ -6,4 +6,8 @@ pub mod Walks
 pub mod Joining
 pub mod Marking
 pub mod Whole
+pub mod Ranks
+pub mod Allowing
+pub mod Answering
+pub mod Built
 pub mod OneAnswer

@@ -3,6 +3,7 @@ pub mod Asked
 pub mod Elements
 pub mod Ends
 pub mod Links
+pub mod Allowed
 pub mod Live
 pub mod Graph
 pub mod Laws

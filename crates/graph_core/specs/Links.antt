@@ -50,9 +50,9 @@ leaves Sink = false
 abbrev pub is_wrong : Pad → Pad → Bool
 is_wrong left right = not (leaves left.direction) || leaves right.direction
 
--- the caps that an element's pads take, where it is there
-abbrev pub caps_at : List Made → ℕ → Caps
-caps_at made element = option_map_or (λ (m : Made). template_of m.settings) (slice_get made element) Any
+-- the caps that an element's sink pads take, or else its source pads, where it is there
+abbrev pub caps_at : List Made → Bool → ℕ → Caps
+caps_at made sink element = option_map_or (λ (m : Made). template_of m.settings sink) (slice_get made element) Any
 
 -- some fixed caps are in both
 abbrev pub HaveCommon : Caps → Caps → Type 0
@@ -60,10 +60,10 @@ HaveCommon one other = (x : Description One) × IsFixed x × IsTrue (accepts one
 
 -- Two pads are refused for their directions, for another link, for want of common caps, in this order, or are not.
 abbrev pub IsJudged : List Made → List PadLink → Pad → Pad → Option LinkReturn → Type 0
-IsJudged made links left right None = (is_wrong left right ≡ false) × (is_linked links left right ≡ false) × HaveCommon (caps_at made left.place.element) (caps_at made right.place.element)
+IsJudged made links left right None = (is_wrong left right ≡ false) × (is_linked links left right ≡ false) × HaveCommon (caps_at made false left.place.element) (caps_at made true right.place.element)
 IsJudged made links left right (Some WrongDirection) = is_wrong left right ≡ true
 IsJudged made links left right (Some WasLinked) = (is_wrong left right ≡ false) × (is_linked links left right ≡ true)
-IsJudged made links left right (Some NoFormat) = (is_wrong left right ≡ false) × (is_linked links left right ≡ false) × ¬ HaveCommon (caps_at made left.place.element) (caps_at made right.place.element)
+IsJudged made links left right (Some NoFormat) = (is_wrong left right ≡ false) × (is_linked links left right ≡ false) × ¬ HaveCommon (caps_at made false left.place.element) (caps_at made true right.place.element)
 IsJudged made links left right (Some _) = ⊥
 
 -- the links between elements

@@ -2,6 +2,7 @@
 ghost use Rattle.std.specs.Prelude.{IfOk, IfErr};
 ghost use Rattle.graph_core.specs.Graph.{IsGraph, IsFaultOrMemory, IsSound};
 
+use crate::allowed::allow;
 use crate::chains::chains_of;
 use crate::fault::BuildFault;
 use crate::graph::Graph;
@@ -11,15 +12,15 @@ use crate::making::elements_of;
 use launch_text::Tree;
 use std::alloc::Global;
 
-/// The graph of a launch line. The elements are checked in the order of the line, and then the links; the first fault
-/// is answered.
+/// The graph of a launch line. The elements are checked in the order of the line, then the links, and then what each
+/// converter is allowed to put out; the first fault is answered.
 pub fn build(alloc: Global, tree: &Tree) -> Result<Graph, BuildFault>
     ensures graph { IfOk result (IsGraph tree.now) }
     ensures sound { IfOk result IsSound }
     ensures fault { IfErr result (IsFaultOrMemory tree.now) }
 {
     let chains = chains_of(alloc, tree)?;
-    let elements = match elements_of(alloc, chains.as_slice()) {
+    let mut elements = match elements_of(alloc, chains.as_slice()) {
         Ok(elements) => elements,
         Err(fault) => return Err(fault),
     };
@@ -27,6 +28,10 @@ pub fn build(alloc: Global, tree: &Tree) -> Result<Graph, BuildFault>
         Ok(links) => links,
         Err(fault) => return Err(fault),
     };
+    match allow(alloc, &mut elements, &links) {
+        Ok(()) => {}
+        Err(fault) => return Err(fault),
+    }
     let live = live_elements(alloc, &elements, links.made.as_slice())?;
     Ok(Graph {
         elements,

@@ -4,7 +4,7 @@ ghost use Rattle.indexmap.specs.IndexMap.{index_map_len};
 
 use crate::element::{Element, is_numbered, some_clash};
 use el_set::Settings;
-use gst_caps::OutOfMemory;
+use gst_caps::{Caps, OutOfMemory};
 use indexmap::IndexMap;
 use std::alloc::Global;
 
@@ -19,9 +19,10 @@ pub(crate) struct Elements {
 }
 
 impl Elements {
-    ghost use Rattle.std.specs.Prelude.{◌<◌, ◌++◌, ◌∷◌, [], length, IfOk, OnOk, OnErr, slice_get, position, string_bytes, Some, false};
+    ghost use Rattle.std.specs.Prelude.{◌<◌, ◌++◌, ◌∷◌, [], length, IfOk, OnOk, OnErr, slice_get, slice_set, position, string_bytes, Some, false};
     ghost use Rattle.std.specs.Option.{option_map};
     ghost use Rattle.std.specs.List.{list_any};
+    ghost use Rattle.graph_core.specs.Allowed.{with_caps};
     ghost use Rattle.graph_core.specs.Elements.{Made, made_of, all_made, numbered, is_named, is_name_taken, is_location_taken, limit};
 
     /// No elements.
@@ -69,6 +70,17 @@ impl Elements {
     {
         match self.by_name.get_index(element as usize) {
             Some((_, element)) => &element.settings,
+            None => unreachable!(),
+        }
+    }
+
+    /// From now on an element may put out these caps, if it is a converter. All other settings stay.
+    pub(crate) fn set_allowed(&mut self, element: u32, caps: Caps)
+        requires { element < length (all_made self.old) }
+        ensures { (m : Made) → slice_get (all_made self.old) element ≡ Some m → all_made self.new ≡ slice_set (all_made self.old) element (with_caps caps m) }
+    {
+        match self.by_name.get_index_mut(element as usize) {
+            Some(element) => element.settings.set_allowed(caps),
             None => unreachable!(),
         }
     }

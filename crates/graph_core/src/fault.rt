@@ -1,5 +1,5 @@
 //! Why a launch line has no graph.
-use gst_caps::{OutOfMemory, PadName, Text};
+use gst_caps::{CapsFault, OutOfMemory, PadName, Text};
 use pad_core::LinkReturn;
 use std::alloc::{AllocError, AllocFailed};
 
@@ -43,7 +43,8 @@ pub enum BuildFault {
     LocationTaken {
         location: Text,
     },
-    /// There are more elements than a graph has. `count` is 257.
+    /// There are more elements than a graph has, and `count` is 257; or what a converter is allowed to put out has more
+    /// structures, fields of one or members of one list than caps have, and `count` is 65.
     TooMany {
         count: u32,
     },
@@ -86,5 +87,19 @@ impl<T: Drop> From<AllocFailed<T>> for BuildFault {
 
     fn from(_refused: AllocFailed<T>) -> BuildFault {
         BuildFault::OutOfMemory
+    }
+}
+
+impl From<CapsFault> for BuildFault {
+    ghost use Rattle.std.specs.Prelude.{◌≡◌};
+    ghost use Rattle.graph_core.specs.Allowed.{build_fault};
+
+    ghost from_gives = { λ refused fault. fault ≡ build_fault refused };
+
+    fn from(refused: CapsFault) -> BuildFault {
+        match refused {
+            CapsFault::TooMany { count } => BuildFault::TooMany { count },
+            CapsFault::OutOfMemory => BuildFault::OutOfMemory,
+        }
     }
 }

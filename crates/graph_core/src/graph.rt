@@ -1,11 +1,12 @@
 //! The graph of a line.
+use crate::allowed::allowed_caps;
 use crate::elements::Elements;
 use crate::ends::pad_name;
 use crate::judging::{sink_behind, source_before};
 use crate::links::Links;
 use crate::pad::{Direction, Pad, PadLink, PadPlace};
 use el_set::Settings;
-use gst_caps::{OutOfMemory, PadName};
+use gst_caps::{Caps, CapsFault, OutOfMemory, PadName};
 use std::alloc::Global;
 
 /// The elements of a launch line, numbered from 0 on in its order, and the links between their pads. The source pads of
@@ -21,6 +22,8 @@ impl Graph {
     ghost use Rattle.std.specs.Prelude.{◌≡◌, ◌<◌, ◌≤◌, ◌↔◌, ℕ, None, Some, length, slice_get, position, IfOk, IfSome, IsTrue};
     ghost use Rattle.std.specs.Option.{option_map};
     ghost use Rattle.graph_order.specs.Forward.{IsMember, GoForward};
+    ghost use Rattle.gst_caps.specs.Limit.{TooManyWhere};
+    ghost use Rattle.graph_core.specs.Allowed.{Allows};
     ghost use Rattle.graph_core.specs.Elements.{Made, is_named, limit};
     ghost use Rattle.graph_core.specs.Ends.{pad_at, pad_name, pads_at};
     ghost use Rattle.graph_core.specs.Links.{sink_behind, source_before, ways};
@@ -135,6 +138,19 @@ impl Graph {
         ensures there { IsSound self.now → IfSome result (λ source. source.pad < pads_at (made self.now) Direction.Source source.element) }
     {
         source_before(self.links.made.as_slice(), sink)
+    }
+
+    /// The caps that a source pad is allowed to have: all where it is not linked, those of the next source pad through an
+    /// identity or a queue, and through a capsfilter those of them that are its own too, in the order of its own. Before
+    /// any other element they are what the sink pad takes.
+    ///
+    /// Answers `TooMany` where a capsfilter and what is allowed behind it have too many caps in common.
+    pub fn allowed(&self, alloc: Global, source: PadPlace) -> Result<Caps, CapsFault>
+        requires { source.pad < pads_at (made self.now) Direction.Source source.element }
+        ensures caps { IfOk result (λ caps. IsSound self.now → Allows (made self.now) (links self.now) source (Some caps)) }
+        ensures too_many { IsSound self.now → TooManyWhere result (Allows (made self.now) (links self.now) source None) }
+    {
+        allowed_caps(alloc, &self.elements, &self.links, source)
     }
 
     /// The elements, each once, in an order in which each link that was ever made goes forward.

@@ -1,5 +1,5 @@
 //! Whether two pads can be linked.
-ghost use Rattle.std.specs.Prelude.{◌≡◌, ◌⊎◌, ◌<◌, ◌↔◌, length, IfOk, IsTrue, Err, None, false};
+ghost use Rattle.std.specs.Prelude.{◌≡◌, ◌⊎◌, ◌<◌, ◌↔◌, length, IfOk, IsTrue, Err, None, true, false};
 ghost use Rattle.graph_core.specs.Elements.{all_made, OrMemory};
 ghost use Rattle.graph_core.specs.Ends.{IsThere, pad_name};
 ghost use Rattle.graph_core.specs.Links.{is_same, sink_behind, source_before, is_linked, is_wrong, leaves, caps_at, HaveCommon, IsJudged};
@@ -99,7 +99,7 @@ fn have_common(
     requires left { IsThere (all_made elements.now) left }
     requires right { IsThere (all_made elements.now) right }
     requires directions { is_wrong left right ≡ false }
-    ensures { IfOk result (λ common. IsTrue common ↔ HaveCommon (caps_at (all_made elements.now) left.place.element) (caps_at (all_made elements.now) right.place.element)) }
+    ensures { IfOk result (λ common. IsTrue common ↔ HaveCommon (caps_at (all_made elements.now) false left.place.element) (caps_at (all_made elements.now) true right.place.element)) }
 {
     let source = elements.settings(left.place.element);
     let sink = elements.settings(right.place.element);

@@ -1,6 +1,7 @@
 //! The graph of a launch line: its elements by name, and the links between their pads.
 #![tactic(auto)]
 
+mod allowed;
 mod building;
 mod chains;
 mod element;

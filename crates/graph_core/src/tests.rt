@@ -1,5 +1,7 @@
 //! Rows of lines and their graphs.
 use super::*;
+use caps_text::print;
+use el_set::Settings;
 use gst_caps::{PadName, Text};
 use launch_text::parse;
 use std::alloc::Global;
@@ -38,6 +40,14 @@ identity name=a ! identity name=b b. ! a. -> NoSuch b Order
 capsfilter caps=audio/x-raw ! capsfilter caps=audio/x-wav -> LinkRefused capsfilter0.src capsfilter1.sink -4
 capsfilter caps=audio/x-raw ! audio/x-wav;audio/x-raw ! fakesink -> capsfilter0=capsfilter1.sink capsfilter1=fakesink0.sink fakesink0
 filesrc location=a ! audio/x-raw,rate= ! fakesink -> BadValue capsfilter0 caps
+audioconvert -> audioconvert0[ANY]
+filesrc location=a ! audioconvert ! audio/x-raw,rate=8000 ! fakesink -> filesrc0*=audioconvert0.sink audioconvert0*[audio/x-raw, rate=(int)8000]=capsfilter0.sink capsfilter0*=fakesink0.sink fakesink0*
+audioconvert ! identity ! queue ! audio/x-raw,rate=8000 ! identity -> audioconvert0[audio/x-raw, rate=(int)8000]=identity0.sink identity0=queue0.sink queue0=capsfilter0.sink capsfilter0=identity1.sink identity1
+audioconvert ! audio/x-raw,a=2;audio/x-raw,a=1 ! audio/x-raw,a=1;audio/x-raw,a=2;audio/x-raw,a=3 ! queue -> audioconvert0[audio/x-raw, a=(int)2; audio/x-raw, a=(int)1]=capsfilter0.sink capsfilter0=capsfilter1.sink capsfilter1=queue0.sink queue0
+audioconvert ! audio/x-raw,a={1,2} ! audio/x-raw,a={2,3} ! audio/x-raw,a={1,3} ! queue -> audioconvert0[EMPTY]=capsfilter0.sink capsfilter0=capsfilter1.sink capsfilter1=capsfilter2.sink capsfilter2=queue0.sink queue0
+audioconvert ! mulawenc -> audioconvert0[audio/x-raw, channels=(int)[ 1, 64 ], format=(string)S16LE, layout=(string)interleaved, rate=(int)[ 1, 768000 ]]=mulawenc0.sink mulawenc0
+audioconvert ! audio/x-raw,rate=8000 ! audioconvert ! mulawenc ! wavenc -> audioconvert0[audio/x-raw, channels=(int)[ 1, 64 ], format=(string){ S8, U8, S16LE, S16BE, S24LE, S32LE }, layout=(string)interleaved, rate=(int)8000]=capsfilter0.sink capsfilter0=audioconvert1.sink audioconvert1[audio/x-raw, channels=(int)[ 1, 64 ], format=(string)S16LE, layout=(string)interleaved, rate=(int)[ 1, 768000 ]]=mulawenc0.sink mulawenc0=wavenc0.sink wavenc0
+audioconvert ! wavenc -> audioconvert0[audio/x-raw, channels=(int)[ 1, 64 ], format=(string){ U8, S16LE, S24LE, S32LE }, layout=(string)interleaved, rate=(int)[ 1, 768000 ]; audio/x-mulaw, channels=(int)[ 1, 64 ], rate=(int)[ 1, 768000 ]; audio/x-alaw, channels=(int)[ 1, 64 ], rate=(int)[ 1, 768000 ]]=wavenc0.sink wavenc0
 identity name=c queue name=q ! c. filesrc location=a ! q. -> filesrc0*=q.sink q*=c.sink c*";
 
 fn put_what(into: &mut String, what: &What) -> Result<(), Fail> {
@@ -92,12 +102,31 @@ fn put_element(alloc: Global, into: &mut String, graph: &Graph, element: u32) ->
     if graph.live(element) {
         into.push('*')?;
     }
+    put_allowed(alloc, into, graph, element)?;
     if let Some(sink) = graph.sink_behind(PadPlace { element, pad: 0 }) {
         let Some(name) = graph.sink_name(alloc, sink)? else {
             return Err("a sink")?;
         };
         into.push('=')?;
         put_pad(into, &name)?;
+    }
+    Ok(())
+}
+
+/// What a converter is set to put out, which is what its source pad is allowed.
+fn put_allowed(alloc: Global, into: &mut String, graph: &Graph, element: u32) -> Result<(), Fail> {
+    if graph.source_pads(element) == 0 || element >= graph.count() {
+        return Ok(());
+    }
+    let Settings::AudioConvert(settings) = graph.settings(element) else {
+        return Ok(());
+    };
+    let allowed = graph.allowed(alloc, PadPlace { element, pad: 0 })?;
+    let set = print(alloc, &settings.allowed)?;
+    let found = print(alloc, &allowed)?;
+    write!(into, "[{}]", set.as_str())?;
+    if set.as_str() != found.as_str() {
+        return Err("what is allowed")?;
     }
     Ok(())
 }
@@ -137,6 +166,44 @@ fn sinks(alloc: Global, count: u32) -> Result<String, Fail> {
         line.push_str("fakesink ")?;
     }
     Ok(line)
+}
+
+/// Puts the caps of raw audio that has this field, with the numbers from 0 on.
+fn put_numbered(line: &mut String, field: &str, count: u32) -> Result<(), Fail> {
+    for number in 0..count {
+        write!(line, "audio/x-raw,{field}={number};")?;
+    }
+    Ok(())
+}
+
+/// A line of an element and two filters. So many times eight structures are in both.
+fn filters(alloc: Global, first: &str, count: u32, behind: &str) -> Result<String, Fail> {
+    let mut line = String::new(alloc);
+    write!(line, "{first} ! ")?;
+    put_numbered(&mut line, "a", count)?;
+    line.push_str("audio/x-wav ! ")?;
+    put_numbered(&mut line, "b", 8)?;
+    write!(line, "audio/x-mulaw ! {behind}")?;
+    Ok(line)
+}
+
+#[test]
+fn converters_with_too_many_caps(rt: HostRuntime) -> Result<(), Fail> {
+    let alloc = rt.alloc();
+    let most = filters(alloc, "audioconvert", 8, "fakesink")?;
+    let more = filters(alloc, "audioconvert", 9, "fakesink")?;
+    let unlinked = filters(alloc, "audioconvert", 9, "k.")?;
+    let other = filters(alloc, "identity", 9, "fakesink")?;
+    assert!(rt;
+        told(alloc, most.as_str())?.starts_with("audioconvert0[audio/x-raw, a=(int)0, b=(int)0;")
+    );
+    assert_eq!(rt; told(alloc, more.as_str())?.as_str(), "TooMany 65");
+    assert_eq!(rt;
+        told(alloc, unlinked.as_str())?.as_str(),
+        "NoSuch k Element"
+    );
+    assert!(rt; told(alloc, other.as_str())?.starts_with("identity0=capsfilter0.sink"));
+    Ok(())
 }
 
 #[test]

@@ -4,7 +4,7 @@ use Rattle.std.specs.Prelude.{slice_get}
 use Rattle.std.specs.Option.{option_map_or}
 use Rattle.el_set.specs.Asked.{sink_pads}
 use Rattle.el_set.specs.declared.settings.Settings.{Settings}
-use Rattle.el_set.specs.declared.settings.Settings.TheVariants.{FileSrc, Identity, CapsFilter, Queue as QueueSettings, FileSink, FakeSink}
+use Rattle.el_set.specs.declared.settings.Settings.TheVariants.{FileSrc, RampTestSrc, Identity, AudioConvert, Law, RawAudioParse, AudioBufferSplit, WavParse, WavEnc, CapsFilter, Queue as QueueSettings, FileSink, FakeSink}
 use Rattle.graph_core.specs.Elements.{Made}
 use Rattle.graph_core.specs.Links.{sink_behind}
 use Rattle.graph_core.specs.declared.pad.PadLink.{PadLink}
@@ -17,7 +17,14 @@ use Rattle.graph_ways.specs.declared.ways.Next.TheVariants.{Filter, Stop}
 
 one_sink : (s : Settings) → sink_pads s ≤ 1
 one_sink (FileSrc s) = omega arith
+one_sink (RampTestSrc s) = omega arith
 one_sink Identity = omega arith
+one_sink (AudioConvert s) = omega arith
+one_sink (Law kind) = omega arith
+one_sink (RawAudioParse info) = omega arith
+one_sink (AudioBufferSplit s) = omega arith
+one_sink WavParse = omega arith
+one_sink WavEnc = omega arith
 one_sink (CapsFilter s) = omega arith
 one_sink (QueueSettings s) = omega arith
 one_sink (FileSink s) = omega arith

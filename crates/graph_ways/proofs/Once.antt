@@ -2,6 +2,7 @@
 use Rattle.std.proofs.Common.{◌≡◌, ◌⊎◌, ◌||◌, ℕ, Bool, true, false, List, [], ◌∷◌, ◌++◌, Option, None, Some, Result, Ok, IfOk, refl, sym, ap, ◌∙◌, subst, inl, inr, eqb, if◌then◌else◌}
 use Rattle.std.specs.Prelude.{is_some}
 use Rattle.std.proofs.lemmas.Bool.Decides.{eqb_tells}
+use Rattle.graph_core.specs.Allowed.{checked}
 use Rattle.graph_core.specs.Asked.{End, asked}
 use Rattle.graph_core.specs.Comes.{Comes}
 use Rattle.graph_core.specs.Elements.{Made}
@@ -142,7 +143,7 @@ none_lead = ((λ one other h. absurd (cc)), (λ one other h. absurd (cc)))
 pub linked_once : (tree : Tree) (graph : Graph) → IsGraph tree graph → AreOnce (links_in graph)
 unfolding Both LeadBack source_of sink_of
 linked_once tree graph is =
-    let both = both_come (made_in graph) [] (asked tree) (Ok (links_in graph)) is.links none_lead in
+    let both = both_come (checked (made_in graph)) [] (asked tree) (Ok (links_in graph)) is.links none_lead in
     record {
       there = λ source sink h. before_looks (links_in graph) sink ∙ both.0 source sink (sym (behind_looks (links_in graph) source) ∙ h);
       back = λ source sink h. behind_looks (links_in graph) source ∙ both.1 sink source (sym (before_looks (links_in graph) sink) ∙ h);

@@ -6,7 +6,7 @@ use Rattle.std.specs.Option.{option_map, option_map_or}
 use Rattle.std.proofs.lemmas.Option.{slice_get-map, slice_get_within, get_or_from_slice_get}
 use Rattle.el_set.specs.Asked.{is_queue, is_filter}
 use Rattle.el_set.specs.declared.settings.Settings.{Settings}
-use Rattle.el_set.specs.declared.settings.Settings.TheVariants.{FileSrc, Identity, CapsFilter, Queue as QueueSettings, FileSink, FakeSink}
+use Rattle.el_set.specs.declared.settings.Settings.TheVariants.{FileSrc, RampTestSrc, Identity, AudioConvert, Law, RawAudioParse, AudioBufferSplit, WavParse, WavEnc, CapsFilter, Queue as QueueSettings, FileSink, FakeSink}
 use Rattle.graph_core.specs.Elements.{Made}
 use Rattle.graph_core.specs.declared.pad.PadLink.{PadLink}
 use Rattle.graph_core.specs.declared.pad.PadPlace.{PadPlace}
@@ -89,7 +89,14 @@ chosen_all p (x ∷ xs) k e at = by (p x) refl k at (λ i here. chosen_all p xs 
 -- the asked of a head, a filter, a sink and a queue exclude each other
 kinds_apart : (s : Settings) → is_filter s ≡ true → (is_head s ≡ false) × (is_queue s ≡ false) × (is_sink s ≡ false)
 kinds_apart (FileSrc s) h = absurd (cc)
+kinds_apart (RampTestSrc s) h = absurd (cc)
 kinds_apart Identity h = (refl, refl, refl)
+kinds_apart (AudioConvert s) h = (refl, refl, refl)
+kinds_apart (Law kind) h = (refl, refl, refl)
+kinds_apart (RawAudioParse info) h = (refl, refl, refl)
+kinds_apart (AudioBufferSplit s) h = (refl, refl, refl)
+kinds_apart WavParse h = (refl, refl, refl)
+kinds_apart WavEnc h = (refl, refl, refl)
 kinds_apart (CapsFilter s) h = (refl, refl, refl)
 kinds_apart (QueueSettings s) h = absurd (cc)
 kinds_apart (FileSink s) h = absurd (cc)
@@ -97,7 +104,14 @@ kinds_apart FakeSink h = absurd (cc)
 
 queues_apart : (s : Settings) → is_queue s ≡ true → is_sink s ≡ false
 queues_apart (FileSrc s) h = absurd (cc)
+queues_apart (RampTestSrc s) h = absurd (cc)
 queues_apart Identity h = absurd (cc)
+queues_apart (AudioConvert s) h = absurd (cc)
+queues_apart (Law kind) h = absurd (cc)
+queues_apart (RawAudioParse info) h = absurd (cc)
+queues_apart (AudioBufferSplit s) h = absurd (cc)
+queues_apart WavParse h = absurd (cc)
+queues_apart WavEnc h = absurd (cc)
 queues_apart (CapsFilter s) h = absurd (cc)
 queues_apart (QueueSettings s) h = refl
 queues_apart (FileSink s) h = absurd (cc)

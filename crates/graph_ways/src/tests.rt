@@ -18,7 +18,8 @@ filesrc location=a ! queue ! identity ! queue ! queue ! fakesink -> filesrc0|que
 queue ! fakesink filesrc location=a ! identity -> queue0>fakesink0 filesrc0 identity0.
 identity ! fakesink filesrc location=a -> filesrc0.
 identity name=i ! fakesink queue name=q ! i. filesrc location=a ! q. -> q i>fakesink0 filesrc0|q
-identity ! queue ! identity -> queue0 identity1.";
+identity ! queue ! identity -> queue0 identity1.
+ramptestsrc ! audioconvert ! audiobuffersplit ! mulawenc ! wavenc ! wavparse ! rawaudioparse ! fakesink -> ramptestsrc0 audioconvert0 audiobuffersplit0 mulawenc0 wavenc0 wavparse0 rawaudioparse0>fakesink0";
 
 fn put_name(into: &mut String, graph: &Graph, element: u32) -> Result<(), Fail> {
     let Some(name) = graph.name(element) else {

@@ -81,9 +81,16 @@ fn next_at(graph: &Graph, element: u32) -> Next
         return Next::Stop(End::Nothing);
     }
     match graph.settings(element) {
-        Settings::Identity | Settings::CapsFilter(_) => Next::Filter(element),
+        Settings::Identity
+        | Settings::CapsFilter(_)
+        | Settings::AudioConvert(_)
+        | Settings::Law(_)
+        | Settings::RawAudioParse(_)
+        | Settings::AudioBufferSplit(_)
+        | Settings::WavParse
+        | Settings::WavEnc => Next::Filter(element),
         Settings::Queue(_) => Next::Stop(End::Queue(element)),
         Settings::FileSink(_) | Settings::FakeSink => Next::Stop(End::Sink(element)),
-        Settings::FileSrc(_) => Next::Stop(End::Nothing),
+        Settings::FileSrc(_) | Settings::RampTestSrc(_) => Next::Stop(End::Nothing),
     }
 }

@@ -1,0 +1,248 @@
+-- Answers for source pads, and elements whose converters are set to what they are allowed.
+use Rattle.std.proofs.Common.{◌≡◌, ◌<◌, ◌≤◌, ◌+◌, ◌⊎◌, ℕ, zero, suc, Bool, true, false, List, [], ◌∷◌, ◌++◌, Option, None, Some, Result, Ok, Err, All, IfOk, IfSome, length, slice_get, slice_set, get_or, refl, sym, ap, ◌∙◌, subst, inl, inr, arith, if◌then◌else◌}
+use Rattle.std.specs.Prelude.{bytes_eq}
+use Rattle.std.specs.Option.{option_map}
+use Rattle.std.proofs.lemmas.List.{map-append}
+use Rattle.std.proofs.lemmas.Option.{slice_get_within}
+use Rattle.gst_caps.specs.Accepts.{intersection, passes}
+use Rattle.gst_caps.specs.Limit.{TooManyWhere}
+use Rattle.gst_caps.specs.declared.caps.Caps.{Caps}
+use Rattle.gst_caps.specs.declared.caps.Caps.TheVariants.{Any}
+use Rattle.gst_caps.specs.declared.fault.CapsFault.{CapsFault}
+use Rattle.gst_caps.specs.declared.fault.CapsFault.TheVariants.{TooMany, OutOfMemory}
+use Rattle.gst_caps.specs.declared.name.Prop.{Prop}
+use Rattle.el_set.specs.Asked.{is_converter, template_of, with_allowed}
+use Rattle.el_set.specs.Checked.{IsAnswer, IsAnswerFor}
+use Rattle.el_set.specs.Kinds.{kinds}
+use Rattle.el_set.specs.Rows.{find_row}
+use Rattle.el_set.specs.declared.settings.AudioConvertSettings.{AudioConvertSettings}
+use Rattle.el_set.specs.declared.settings.Settings.{Settings}
+use Rattle.el_set.specs.declared.settings.Settings.TheVariants.{CapsFilter, AudioConvert}
+use Rattle.graph_core.specs.Allowed.{Allows, Answers, AreAllowed, AreAllowedBelow, IsWideFault, allowed_before, allowed_of, build_fault, checked, filtered, first_pad, hands_on, with_caps}
+use Rattle.graph_core.specs.Asked.{Declared}
+use Rattle.graph_core.specs.Comes.{Comes}
+use Rattle.graph_core.specs.Elements.{Made, ElementsCome, IsMade}
+use Rattle.graph_core.specs.Ends.{pad_count, pads_at}
+use Rattle.graph_core.specs.Links.{AreOrdered, HasPads, sink_behind}
+use Rattle.graph_core.specs.declared.fault.BuildFault.{BuildFault}
+use Rattle.graph_core.specs.declared.fault.BuildFault.TheVariants.{TooMany as TooManyMade}
+use Rattle.graph_core.specs.declared.links.Links.{Links}
+use Rattle.graph_core.specs.declared.pad.Direction.{Direction}
+use Rattle.graph_core.specs.declared.pad.Direction.TheVariants.{Source, Sink}
+use Rattle.graph_core.specs.declared.pad.PadLink.{PadLink}
+use Rattle.graph_core.specs.declared.pad.PadPlace.{PadPlace}
+use Rattle.graph_core.proofs.Joining.{sink_found}
+use Rattle.graph_core.proofs.Allowing.{allowed_given, allows_alike, like_given, one_allowed, sinks_set, sources_set, wide_alike}
+
+-- the intersection of a filter and of what is allowed behind it
+pub intersected : (a b : Caps) (r : Result Caps CapsFault) → IfOk r (λ made. made ≡ intersection a b) → TooManyWhere r (passes (intersection a b) ≡ true) → Answers (λ answer. answer ≡ filtered a (Some b)) r
+intersected a b (Ok caps) is few = go (passes (intersection a b)) few
+  where
+    go : (many : Bool) → (many ≡ true → ⊥) → Some caps ≡ (if many then None else Some (intersection a b))
+    go true few = absurd (few refl)
+    go false few = ap Some is
+intersected a b (Err (TooMany count)) is many = (go (passes (intersection a b)) many.0, many.1)
+  where
+    go : (many : Bool) → many ≡ true → None ≡ (if many then None else Some (intersection a b))
+    go true e = refl
+    go false e = absurd (cc)
+intersected a b (Err OutOfMemory) is many = tt
+
+before_none : (s : Settings) → allowed_before s None ≡ None
+before_none (CapsFilter s) = refl
+before_none _ = refl
+
+-- what an element is set to, where it is there
+pub made_at : (made : List Made) (e : ℕ) (s : Settings) → option_map (λ (m : Made). m.settings) (slice_get made e) ≡ Some s → (m : Made) × (slice_get made e ≡ Some m) × (m.settings ≡ s)
+made_at made e s at = by (slice_get made e) refl at
+  where
+    by : (o : Option Made) → slice_get made e ≡ o → option_map (λ (m : Made). m.settings) o ≡ Some s → (m : Made) × (slice_get made e ≡ Some m) × (m.settings ≡ s)
+    by None is h = absurd (cc)
+    by (Some m) is h = (m, is, cc)
+
+module _ (made : List Made) (links : List PadLink) (source sink : PadPlace) (s : Settings) (linked : sink_behind links source ≡ Some sink) (at : option_map (λ (m : Made). m.settings) (slice_get made sink.element) ≡ Some s) where
+  takes : hands_on s ≡ false → Allows made links source (Some (template_of s true))
+  takes hands =
+      let found = made_at made sink.element s at in
+      subst (λ (x : Settings). Allows made links source (Some (template_of x true))) found.2 (Allows.taken source sink found.0 linked found.1 (ap hands_on found.2 ∙ hands))
+
+  goes_through : (behind : Option Caps) → hands_on s ≡ true → Allows made links (first_pad sink.element) behind → Allows made links source (allowed_before s behind)
+  goes_through behind hands rest =
+      let found = made_at made sink.element s at in
+      subst (λ (x : Settings). Allows made links source (allowed_before x behind)) found.2 (Allows.through source sink found.0 behind linked found.1 (ap hands_on found.2 ∙ hands) rest)
+
+  pub answers_taken : hands_on s ≡ false → (r : Result Caps CapsFault) → Answers (λ answer. answer ≡ Some (template_of s true)) r → Answers (Allows made links source) r
+  answers_taken hands (Ok caps) h = subst (λ (x : Option Caps). Allows made links source x) (sym h) (takes hands)
+  answers_taken hands (Err (TooMany count)) h = absurd (cc)
+  answers_taken hands (Err OutOfMemory) h = tt
+
+  pub answers_through : hands_on s ≡ true → (behind : Caps) → Allows made links (first_pad sink.element) (Some behind) → (r : Result Caps CapsFault) → Answers (λ answer. answer ≡ allowed_before s (Some behind)) r → Answers (Allows made links source) r
+  answers_through hands behind rest (Ok caps) h = subst (λ (x : Option Caps). Allows made links source x) (sym h) (goes_through (Some behind) hands rest)
+  answers_through hands behind rest (Err (TooMany count)) h = (subst (λ (x : Option Caps). Allows made links source x) (sym h.0) (goes_through (Some behind) hands rest), h.1)
+  answers_through hands behind rest (Err OutOfMemory) h = tt
+
+  pub fault_through : hands_on s ≡ true → (fault : CapsFault) → Answers (Allows made links (first_pad sink.element)) (Err fault) → Answers (Allows made links source) (Err fault)
+  fault_through hands (TooMany count) h = (subst (λ (x : Option Caps). Allows made links source x) (before_none s) (goes_through None hands h.0), h.1)
+  fault_through hands OutOfMemory h = tt
+
+-- a sink pad that is linked is there
+pub sink_there : (made : List Made) (links : List PadLink) (source sink : PadPlace) → All (HasPads made) links → sink_behind links source ≡ Some sink → pads_at made Sink sink.element ≤ sink.pad → ⊥
+sink_there made links source sink pads linked past =
+    let within : sink.pad < pads_at made Sink sink.element = subst (λ (o : Option PadPlace). IfSome o (λ (p : PadPlace). p.pad < pads_at made Sink p.element)) linked (sink_found made links source pads) in
+    omega (arith, within, past)
+
+-- an answer says where there are too many
+pub answers_where : (made : List Made) (links : List PadLink) (source : PadPlace) (r : Result Caps CapsFault) → Answers (Allows made links source) r → TooManyWhere r (Allows made links source None)
+answers_where made links source (Ok caps) h = λ none. let e = one_allowed made links source (Some caps) None h none in cc
+answers_where made links source (Err (TooMany count)) h = h
+answers_where made links source (Err OutOfMemory) h = tt
+
+pub answers_ok : (made : List Made) (links : List PadLink) (source : PadPlace) (caps : Caps) → Answers (Allows made links source) (Ok caps) → Allows made links source (Some caps)
+answers_ok made links source caps h = h
+
+-- what holds of each row of a table, and where there is none, holds of the row of a name
+abbrev EachRow : {V : Type 0} → (Option V → Type 0) → List (List ℕ × V) → Type 0
+EachRow P [] = P None
+EachRow P (row ∷ rows) = P (Some row.1) × EachRow P rows
+
+by_row : {V : Type 0} (P : Option V → Type 0) (name : List ℕ) (rows : List (List ℕ × V)) → EachRow P rows → P (find_row name rows)
+by_row P name [] each = each
+by_row P name (row ∷ rows) each = by (bytes_eq name row.0) (by_row P name rows each.1)
+  where
+    by : (b : Bool) → P (find_row name rows) → P (if b then Some row.1 else find_row name rows)
+    by true rest = each.0
+    by false rest = rest
+
+-- properties allow a converter all caps
+any_allowed : (kind : List ℕ) (props : List Prop) (s : AudioConvertSettings) → IsAnswerFor (find_row kind kinds) props (Ok (AudioConvert s)) → s.allowed ≡ Any
+any_allowed kind props s = by_row (λ o. IsAnswerFor o props (Ok (AudioConvert s)) → s.allowed ≡ Any) kind kinds
+    (wrong, (wrong, (wrong, (wrong, (wrong, ((λ h. h.1), (wrong, (wrong, (wrong, (wrong, (wrong, (wrong, (wrong, (wrong, (wrong, (wrong, λ h. absurd h))))))))))))))))
+  where
+    wrong : {P : Type 0} → P × ⊥ → s.allowed ≡ Any
+    wrong h = absurd h.1
+
+set_any : (kind : List ℕ) (props : List Prop) (s : Settings) → IsAnswer kind props (Ok s) → with_allowed Any s ≡ s
+set_any kind props (AudioConvert s) h = ap (λ (c : Caps). AudioConvert (record { allowed = c })) (sym (any_allowed kind props s h))
+set_any kind props _ h = refl
+
+made_any : (before : List Made) (d : Declared) (m : Made) → IsMade before d m → with_caps Any m ≡ m
+made_any before d m is = ap (λ (s : Settings). let r : Made = record { name = m.name; kind = m.kind; is_numbered = m.is_numbered; settings = s } in r) (set_any d.kind d.props m.settings is.set)
+
+all_any : (made : List Made) (ds : List Declared) (answer : Result (List Made) BuildFault) → ElementsCome made ds answer → checked made ≡ made → IfOk answer (λ ms. checked ms ≡ ms)
+all_any made ds answer (Comes.all ms) same = same
+all_any made ds answer (Comes.more ms d y rest a makes comes) same =
+    all_any (ms ++ y ∷ []) rest a comes (map-append (with_caps Any) ms (y ∷ []) ∙ ap (λ (l : List Made). l ++ with_caps Any y ∷ []) same ∙ ap (λ (x : Made). ms ++ x ∷ []) (made_any ms d y makes))
+all_any made ds answer (Comes.stop ms d rest fault why) same = tt
+
+-- the elements of a line as they are made
+pub made_checked : (ds : List Declared) (made : List Made) → ElementsCome [] ds (Ok made) → checked made ≡ made
+made_checked ds made comes = all_any [] ds (Ok made) comes refl
+
+-- what holds of elements alike
+pads_set : (caps : Caps) (direction : Direction) (s : Settings) → pad_count direction (with_allowed caps s) ≡ pad_count direction s
+pads_set caps Source s = sources_set caps s
+pads_set caps Sink s = sinks_set caps s
+
+pub same_pads : (made : List Made) (direction : Direction) (e : ℕ) → pads_at (checked made) direction e ≡ pads_at made direction e
+same_pads [] direction e = refl
+same_pads (m ∷ ms) direction zero = pads_set Any direction m.settings
+same_pads (m ∷ ms) direction (suc e) = same_pads ms direction e
+
+checked_length : (made : List Made) → length (checked made) ≡ length made
+checked_length [] = refl
+checked_length (m ∷ ms) = ap suc (checked_length ms)
+
+module _ (ms ns : List Made) (same : checked ms ≡ checked ns) where
+  pub same_length : length ms ≡ length ns
+  same_length = sym (checked_length ms) ∙ ap length same ∙ checked_length ns
+
+  pads_alike : (direction : Direction) (e : ℕ) → pads_at ms direction e ≡ pads_at ns direction e
+  pads_alike direction e = sym (same_pads ms direction e) ∙ ap (λ (x : List Made). pads_at x direction e) same ∙ same_pads ns direction e
+
+  pub has_pads : (links : List PadLink) → All (HasPads ms) links → All (HasPads ns) links
+  has_pads links h = λ k d within.
+      let pads = h k d within in
+      (omega (arith, pads.0, pads_alike Source (get_or links k d).source.element), omega (arith, pads.1, pads_alike Sink (get_or links k d).sink.element))
+
+  pub are_ordered : (links : Links) → AreOrdered ms links → AreOrdered ns links
+  are_ordered links ordered = record { count = ordered.count ∙ same_length; ways = ordered.ways; forward = ordered.forward }
+
+-- one converter more is set
+set_at : (made : List Made) (k : ℕ) (y : Made) → k < length made → slice_get (slice_set made k y) k ≡ Some y
+set_at [] k y within = absurd (omega (arith, within))
+set_at (x ∷ xs) zero y within = refl
+set_at (x ∷ xs) (suc k) y within = set_at xs k y (omega (arith, within))
+
+set_elsewhere : (made : List Made) (k e : ℕ) (y : Made) → e < k → slice_get (slice_set made k y) e ≡ slice_get made e
+set_elsewhere [] k e y less = refl
+set_elsewhere (x ∷ xs) zero e y less = absurd (omega (arith, less))
+set_elsewhere (x ∷ xs) (suc k) zero y less = refl
+set_elsewhere (x ∷ xs) (suc k) (suc e) y less = set_elsewhere xs k e y (omega (arith, less))
+
+pub set_alike : (made : List Made) (k : ℕ) (caps : Caps) (m : Made) → slice_get made k ≡ Some m → checked (slice_set made k (with_caps caps m)) ≡ checked made
+set_alike [] k caps m at = absurd (cc)
+set_alike (x ∷ xs) zero caps m at = let is : x ≡ m = cc in ap (λ (z : Made). z ∷ checked xs) (like_given caps m ∙ ap (with_caps Any) (sym is))
+set_alike (x ∷ xs) (suc k) caps m at = ap (λ (l : List Made). with_caps Any x ∷ l) (set_alike xs k caps m at)
+
+less_or_last : (e k : ℕ) → e < k + 1 → (e < k) ⊎ (e ≡ k)
+less_or_last zero zero w = inr refl
+less_or_last zero (suc k) w = inl (omega arith)
+less_or_last (suc e) zero w = absurd (omega (arith, w))
+less_or_last (suc e) (suc k) w = by (less_or_last e k (omega (arith, w)))
+  where
+    by : (e < k) ⊎ (e ≡ k) → (suc e < suc k) ⊎ (suc e ≡ suc k)
+    by (inl less) = inl (omega (arith, less))
+    by (inr same) = inr (ap suc same)
+
+module _ (made : List Made) (links : List PadLink) (k : ℕ) (m : Made) (at : slice_get made k ≡ Some m) where
+  pub set_one : (caps : Caps) (new : List Made) → new ≡ slice_set made k (with_caps caps m) → is_converter m.settings ≡ true → Allows made links (first_pad k) (Some caps) → AreAllowedBelow k made links → AreAllowedBelow (k + 1) new links
+  set_one caps new is converts allows below = subst (λ (x : List Made). AreAllowedBelow (k + 1) x links) (sym is) go
+    where
+      later : List Made
+      later = slice_set made k (with_caps caps m)
+
+      alike : checked made ≡ checked (slice_set made k (with_caps caps m))
+      alike = sym (set_alike made k caps m at)
+
+      last : (n : Made) → slice_get (slice_set made k (with_caps caps m)) k ≡ Some n → Allows (slice_set made k (with_caps caps m)) links (first_pad k) (Some (allowed_of n.settings))
+      last n there =
+          let is : with_caps caps m ≡ n = same_some (sym (set_at made k (with_caps caps m) (slice_get_within made k m at)) ∙ there) in
+          subst (λ (c : Caps). Allows (slice_set made k (with_caps caps m)) links (first_pad k) (Some c)) (sym (ap (λ (x : Made). allowed_of x.settings) (sym is) ∙ allowed_given caps m converts)) (allows_alike made (slice_set made k (with_caps caps m)) links alike (first_pad k) (Some caps) allows)
+        where
+          same_some : Some (with_caps caps m) ≡ Some n → with_caps caps m ≡ n
+          same_some e = cc
+
+      go : AreAllowedBelow (k + 1) (slice_set made k (with_caps caps m)) links
+      go = λ e n w there on. by e n there on (less_or_last e k w)
+        where
+          by : (e : ℕ) (n : Made) → slice_get (slice_set made k (with_caps caps m)) e ≡ Some n → is_converter n.settings ≡ true → (e < k) ⊎ (e ≡ k) → Allows (slice_set made k (with_caps caps m)) links (first_pad e) (Some (allowed_of n.settings))
+          by e n there on (inl less) = allows_alike made (slice_set made k (with_caps caps m)) links alike (first_pad e) (Some (allowed_of n.settings)) (below e n less (sym (set_elsewhere made k e (with_caps caps m) less) ∙ there) on)
+          by e n there on (inr same) = subst (λ (d : ℕ). Allows (slice_set made k (with_caps caps m)) links (first_pad d) (Some (allowed_of n.settings))) (sym same) (last n (subst (λ (d : ℕ). slice_get (slice_set made k (with_caps caps m)) d ≡ Some n) same there))
+
+  pub set_none : is_converter m.settings ≡ false → AreAllowedBelow k made links → AreAllowedBelow (k + 1) made links
+  set_none other below = λ e n w there on. by e n there on (less_or_last e k w)
+    where
+      by : (e : ℕ) (n : Made) → slice_get made e ≡ Some n → is_converter n.settings ≡ true → (e < k) ⊎ (e ≡ k) → Allows made links (first_pad e) (Some (allowed_of n.settings))
+      by e n there on (inl less) = below e n less there on
+      by e n there on (inr same) = absurd (never (subst (λ (d : ℕ). slice_get made d ≡ Some n) same there))
+        where
+          never : slice_get made k ≡ Some n → ⊥
+          never also = let is : m ≡ n = same_some (sym at ∙ also) in no_converter (ap (λ (x : Made). is_converter x.settings) is ∙ on)
+            where
+              same_some : Some m ≡ Some n → m ≡ n
+              same_some e = cc
+
+              no_converter : is_converter m.settings ≡ true → ⊥
+              no_converter h = let both = sym other ∙ h in absurd (cc)
+
+  pub wide_one : is_converter m.settings ≡ true → (fault : CapsFault) (put : BuildFault) → put ≡ build_fault fault → Answers (Allows made links (first_pad k)) (Err fault) → IsWideFault made links put
+  wide_one converts (TooMany count) put is h = inr (record { element = k; converter = m; there = at; converts = converts; wide = h.0 }, is ∙ ap TooManyMade h.1)
+  wide_one converts OutOfMemory put is h = inl is
+
+-- when all are set
+pub all_set : (made : List Made) (links : List PadLink) (n : ℕ) → length made ≤ n → AreAllowedBelow n made links → AreAllowed made links
+all_set made links n past below = λ e m there on. below e m (let within = slice_get_within made e m there in omega (arith, within, past)) there on
+
+pub wide_before : (ms ns : List Made) (links : List PadLink) (fault : BuildFault) → checked ms ≡ checked ns → IsWideFault ms links fault → IsWideFault ns links fault
+wide_before ms ns links fault same (inl free) = inl free
+wide_before ms ns links fault same (inr (wide, is)) = inr (wide_alike ms ns links same wide, is)

@@ -1,0 +1,16 @@
+use Rattle.std.proofs.Common.{sym, arith}
+use Rattle.graph_core.specs.Elements.{all_made}
+use Rattle.graph_core.specs.Links.{all_links}
+use Rattle.graph_core.proofs.Answering.{all_set, has_pads, same_length, wide_before}
+use Rattle.graph_core.proofs.allowed.allow.Goals as goal
+
+pub allow_one-requires-clause-pads : goal.allow_one-requires-clause-pads
+allow_one-requires-clause-pads c = has_pads (all_made c.args.elements.now) (all_made c.loop-element.elements) (sym c.loop-element.invariant.stay) (all_links c.args.links.now) c.requires.pads
+
+pub returns-in-Err-clause-fault : goal.returns-in-Err-clause-fault
+returns-in-Err-clause-fault c = wide_before (all_made c.loop-element.elements) (all_made c.args.elements.now) (all_links c.args.links.now) c.in-Err.fault c.loop-element.invariant.stay c.in-Err.ensures.fault
+
+pub returns-clause-allowed : goal.returns-clause-allowed
+returns-clause-allowed c =
+    let same = same_length (all_made c.loop-element.elements) (all_made c.args.elements.now) c.loop-element.invariant.stay in
+    all_set (all_made c.loop-element.elements) (all_links c.args.links.now) c.loop-element.element (omega (arith, same, c.loop-element-test.false, c.count-element-end.ensures.count)) c.loop-element.invariant.allowed
