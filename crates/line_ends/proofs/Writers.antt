@@ -7,7 +7,10 @@ use Rattle.std.proofs.lemmas.Slice.Eq.{bytes_eq-Decides}
 use Rattle.launch_text.specs.declared.tree.Tree.{Tree}
 use Rattle.el_set.specs.Asked.{location_of, source_pads}
 use Rattle.el_set.specs.declared.settings.Settings.{Settings}
-use Rattle.el_set.specs.declared.settings.Settings.TheVariants.{FileSrc, Identity, CapsFilter, Queue, FileSink, FakeSink}
+use Rattle.el_set.specs.declared.settings.Settings.TheVariants.{FileSrc, RampTestSrc, Identity, AudioConvert, Law, RawAudioParse, AudioBufferSplit, WavParse, WavEnc, CapsFilter, Queue, FileSink, FakeSink}
+use Rattle.gst_caps.specs.declared.caps.Caps.TheVariants.{Any}
+use Rattle.graph_core.proofs.Allowing.{checked_at, clash_checked}
+use Rattle.graph_core.specs.Allowed.{checked, with_caps}
 use Rattle.graph_core.specs.Asked.{Declared, declared}
 use Rattle.graph_core.specs.Comes.{Comes}
 use Rattle.graph_core.specs.Elements.{ElementsCome, Made, clash, is_location_taken}
@@ -47,12 +50,19 @@ opens_location (FileSrc s) opening location is which = ap Some (by which)
     by : (opening ≡ Read location) ⊎ (opening ≡ Write location) → s.location ≡ location
     by (inl read) = let same = same_Some (Read s.location) opening is ∙ read in cc
     by (inr write) = absurd (let same = same_Some (Read s.location) opening is ∙ write in cc)
+opens_location (RampTestSrc s) opening location is which = absurd (none-some opening is)
 opens_location (FileSink s) opening location is which = ap Some (by which)
   where
     by : (opening ≡ Read location) ⊎ (opening ≡ Write location) → s.location ≡ location
     by (inl read) = absurd (let same = same_Some (Write s.location) opening is ∙ read in cc)
     by (inr write) = let same = same_Some (Write s.location) opening is ∙ write in cc
 opens_location Identity opening location is which = absurd (none-some opening is)
+opens_location (AudioConvert s) opening location is which = absurd (none-some opening is)
+opens_location (Law kind) opening location is which = absurd (none-some opening is)
+opens_location (RawAudioParse info) opening location is which = absurd (none-some opening is)
+opens_location (AudioBufferSplit s) opening location is which = absurd (none-some opening is)
+opens_location WavParse opening location is which = absurd (none-some opening is)
+opens_location WavEnc opening location is which = absurd (none-some opening is)
 opens_location (CapsFilter s) opening location is which = absurd (none-some opening is)
 opens_location (Queue s) opening location is which = absurd (none-some opening is)
 opens_location FakeSink opening location is which = absurd (none-some opening is)
@@ -60,8 +70,15 @@ opens_location FakeSink opening location is which = absurd (none-some opening is
 -- an element that writes a file has no source pad
 writer_ends : (s : Settings) (location : List ℕ) → opening_of s ≡ Some (Write location) → source_pads s ≡ 0
 writer_ends (FileSrc s) location is = absurd (let same = same_Some (Read s.location) (Write location) is in cc)
+writer_ends (RampTestSrc s) location is = absurd (none-some (Write location) is)
 writer_ends (FileSink s) location is = refl
 writer_ends Identity location is = absurd (none-some (Write location) is)
+writer_ends (AudioConvert s) location is = absurd (none-some (Write location) is)
+writer_ends (Law kind) location is = absurd (none-some (Write location) is)
+writer_ends (RawAudioParse info) location is = absurd (none-some (Write location) is)
+writer_ends (AudioBufferSplit s) location is = absurd (none-some (Write location) is)
+writer_ends WavParse location is = absurd (none-some (Write location) is)
+writer_ends WavEnc location is = absurd (none-some (Write location) is)
 writer_ends (CapsFilter s) location is = absurd (none-some (Write location) is)
 writer_ends (Queue s) location is = absurd (none-some (Write location) is)
 writer_ends FakeSink location is = absurd (none-some (Write location) is)
@@ -123,7 +140,9 @@ same_or_other (suc d) (suc e) = by (same_or_other d e)
 module _ (tree : Tree) (graph : Graph) (is : IsGraph tree graph) (d e : ℕ) (m n : Made) (location : List ℕ) where
   -- the elements of a graph are apart
   are_apart : Apart (made_in graph)
-  are_apart = apart_come [] (declared tree) (Ok (made_in graph)) is.elements none_apart
+  unfolding Apart
+  are_apart = λ d e m n first second before.
+      sym (clash_checked m n) ∙ apart_come [] (declared tree) (Ok (checked (made_in graph))) is.elements none_apart d e (with_caps Any m) (with_caps Any n) (checked_at (made_in graph) d m first) (checked_at (made_in graph) e n second) before
 
   -- two elements with one location, the first of which writes it, are one element
   one_opens : slice_get (made_in graph) d ≡ Some m → slice_get (made_in graph) e ≡ Some n → location_of m.settings ≡ Some location → location_of n.settings ≡ Some location

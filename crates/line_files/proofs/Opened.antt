@@ -5,7 +5,7 @@ use Rattle.std.specs.Option.{option_map}
 use Rattle.std.proofs.lemmas.Option.{slice_get-map}
 use Rattle.el_set.specs.Made.{IsEmpty}
 use Rattle.el_set.specs.declared.settings.Settings.{Settings}
-use Rattle.el_set.specs.declared.settings.Settings.TheVariants.{FileSrc, Identity, CapsFilter, Queue, FileSink, FakeSink}
+use Rattle.el_set.specs.declared.settings.Settings.TheVariants.{FileSrc, RampTestSrc, Identity, AudioConvert, Law, RawAudioParse, AudioBufferSplit, WavParse, WavEnc, CapsFilter, Queue, FileSink, FakeSink}
 use Rattle.graph_core.specs.Elements.{Made}
 use Rattle.run_files.specs.Ends.{Known, known_end}
 use Rattle.run_files.specs.Opening.{fresh_end}
@@ -14,8 +14,8 @@ use Rattle.run_files.specs.declared.end.End.{End}
 use Rattle.run_files.specs.declared.end.End.TheVariants.{Src, Snk}
 use Rattle.run_files.specs.declared.end.Opening.{Opening}
 use Rattle.run_files.specs.declared.end.Opening.TheVariants.{Read, Write}
-use Rattle.line_tasks.specs.Making.{end_at, is_source}
-use Rattle.line_start.specs.Start.{AreTold, HasFiles, writes}
+use Rattle.line_tasks.specs.Making.{end_at}
+use Rattle.line_start.specs.Start.{AreTold, HasFiles, reads, writes}
 use Rattle.line_files.specs.Files.{LineOpens, WereTold, made_opening, opening_of}
 
 -- what stands at a place is there
@@ -69,17 +69,31 @@ module _ {S K : Type 0} (source_location content : S → Option (List ℕ)) (sou
     sink_end_of location (Src source) is = absurd (let no = ap (λ (k : Known). k.is_sink) is in cc)
     sink_end_of location (Snk sink) is = (sink, refl, ap (λ (k : Known). k.bytes) is)
 
-    reads : (s : Settings) → is_source s ≡ true → (location : List ℕ) × (opening_of s ≡ Some (Read location))
-    reads (FileSrc s) h = (s.location, refl)
-    reads Identity h = absurd (cc)
-    reads (CapsFilter s) h = absurd (cc)
-    reads (Queue s) h = absurd (cc)
-    reads (FileSink s) h = absurd (cc)
-    reads FakeSink h = absurd (cc)
+    read : (s : Settings) → reads s ≡ true → (location : List ℕ) × (opening_of s ≡ Some (Read location))
+    read (FileSrc s) h = (s.location, refl)
+    read (RampTestSrc s) h = absurd (cc)
+    read Identity h = absurd (cc)
+    read (AudioConvert s) h = absurd (cc)
+    read (Law kind) h = absurd (cc)
+    read (RawAudioParse info) h = absurd (cc)
+    read (AudioBufferSplit s) h = absurd (cc)
+    read WavParse h = absurd (cc)
+    read WavEnc h = absurd (cc)
+    read (CapsFilter s) h = absurd (cc)
+    read (Queue s) h = absurd (cc)
+    read (FileSink s) h = absurd (cc)
+    read FakeSink h = absurd (cc)
 
     written : (s : Settings) → writes s ≡ true → (location : List ℕ) × (opening_of s ≡ Some (Write location))
     written (FileSrc s) h = absurd (cc)
+    written (RampTestSrc s) h = absurd (cc)
     written Identity h = absurd (cc)
+    written (AudioConvert s) h = absurd (cc)
+    written (Law kind) h = absurd (cc)
+    written (RawAudioParse info) h = absurd (cc)
+    written (AudioBufferSplit s) h = absurd (cc)
+    written WavParse h = absurd (cc)
+    written WavEnc h = absurd (cc)
     written (CapsFilter s) h = absurd (cc)
     written (Queue s) h = absurd (cc)
     written (FileSink s) h = (s.location, refl)
@@ -95,9 +109,9 @@ module _ {S K : Type 0} (source_location content : S → Option (List ℕ)) (sou
     pub has_files : HasFiles bytes made ends
     has_files = record {
       sources = λ e m at source.
-          let read = reads m.settings source in
-          let end = opened_at e m (Read read.0) at read.1 in
-          let is = source_end_of read.0 end.0 end.2 in
+          let found = read m.settings source in
+          let end = opened_at e m (Read found.0) at found.1 in
+          let is = source_end_of found.0 end.0 end.2 in
           (is.0, end.1 ∙ ap Some is.1);
       sinks = λ e m at writing.
           let write = written m.settings writing in

@@ -28,7 +28,6 @@ fn opening_of(alloc: Global, settings: &Settings) -> Result<Option<Opening>, Out
     match settings {
         Settings::FileSrc(settings) => Ok(Some(Opening::Read(settings.location.copy(alloc)?))),
         Settings::FileSink(settings) => Ok(Some(Opening::Write(settings.location.copy(alloc)?))),
-        Settings::Identity | Settings::CapsFilter(_) | Settings::Queue(_) | Settings::FakeSink =>
-            Ok(None),
+        _ => Ok(None),
     }
 }

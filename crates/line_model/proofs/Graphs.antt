@@ -8,7 +8,7 @@ use Rattle.graph_order.specs.declared.link.Link.{Link}
 use Rattle.graph_order.proofs.Once.{Covers, within, Once, once_by, behind_member}
 use Rattle.el_set.specs.Asked.{source_pads}
 use Rattle.el_set.specs.declared.settings.Settings.{Settings}
-use Rattle.el_set.specs.declared.settings.Settings.TheVariants.{FileSrc, Identity, CapsFilter, Queue, FileSink, FakeSink}
+use Rattle.el_set.specs.declared.settings.Settings.TheVariants.{FileSrc, RampTestSrc, Identity, AudioConvert, Law, RawAudioParse, AudioBufferSplit, WavParse, WavEnc, CapsFilter, Queue, FileSink, FakeSink}
 use Rattle.graph_core.specs.Elements.{Made}
 use Rattle.graph_core.specs.Graph.{IsSound, made as made_in, links as links_in, forward as forward_in}
 use Rattle.graph_core.specs.Links.{HasPads, ways}
@@ -49,7 +49,14 @@ pads_at_link made (l ∷ ls) all link (inr is) = pads_at_link made ls (λ k d w.
 
 pub one_source : (s : Settings) → source_pads s ≤ 1
 one_source (FileSrc s) = omega arith
+one_source (RampTestSrc s) = omega arith
 one_source Identity = omega arith
+one_source (AudioConvert s) = omega arith
+one_source (Law kind) = omega arith
+one_source (RawAudioParse info) = omega arith
+one_source (AudioBufferSplit s) = omega arith
+one_source WavParse = omega arith
+one_source WavEnc = omega arith
 one_source (CapsFilter s) = omega arith
 one_source (Queue s) = omega arith
 one_source (FileSink s) = omega arith

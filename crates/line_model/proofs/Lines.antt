@@ -17,7 +17,7 @@ use Rattle.flow_model.proofs.Sections.{single_prefix}
 use Rattle.flow_model.proofs.Chains.{chain_input, account_by, plain_section}
 use Rattle.flow_model.proofs.Whole.{parts_to_whole}
 use Rattle.el_set.specs.declared.settings.Settings.{Settings}
-use Rattle.el_set.specs.declared.settings.Settings.TheVariants.{FileSrc, Identity, CapsFilter, Queue, FileSink, FakeSink}
+use Rattle.el_set.specs.declared.settings.Settings.TheVariants.{FileSrc, RampTestSrc, Identity, AudioConvert, Law, RawAudioParse, AudioBufferSplit, WavParse, WavEnc, CapsFilter, Queue, FileSink, FakeSink}
 use Rattle.el_set.specs.Asked.{sink_pads}
 use Rattle.el_set.specs.Denoted.{response_of}
 use Rattle.el_set.specs.Made.{list_of}
@@ -128,7 +128,14 @@ module _ (contents : ℕ → List ℕ) (made : List Made) (links : List PadLink)
 
   one_pad : (s : Settings) → (sink_pads s ≡ 0) ⊎ (sink_pads s ≡ 1)
   one_pad (FileSrc s) = inl refl
+  one_pad (RampTestSrc s) = inl refl
   one_pad Identity = inr refl
+  one_pad (AudioConvert s) = inr refl
+  one_pad (Law kind) = inr refl
+  one_pad (RawAudioParse info) = inr refl
+  one_pad (AudioBufferSplit s) = inr refl
+  one_pad WavParse = inr refl
+  one_pad WavEnc = inr refl
   one_pad (CapsFilter s) = inr refl
   one_pad (Queue s) = inr refl
   one_pad (FileSink s) = inr refl

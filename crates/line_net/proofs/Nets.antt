@@ -9,7 +9,7 @@ use Rattle.el_set.specs.Asked.{sink_pads, is_filter, is_queue}
 use Rattle.el_set.specs.Denoted.{response_of}
 use Rattle.el_set.specs.Gives.{source_content}
 use Rattle.el_set.specs.declared.settings.Settings.{Settings}
-use Rattle.el_set.specs.declared.settings.Settings.TheVariants.{FileSrc, Identity, CapsFilter, Queue as QueueSettings, FileSink, FakeSink}
+use Rattle.el_set.specs.declared.settings.Settings.TheVariants.{FileSrc, RampTestSrc, Identity, AudioConvert, Law, RawAudioParse, AudioBufferSplit, WavParse, WavEnc, CapsFilter, Queue as QueueSettings, FileSink, FakeSink}
 use Rattle.graph_core.specs.Elements.{Made}
 use Rattle.graph_core.specs.Graph.{IsGraph, made as made_in, links as links_in}
 use Rattle.graph_core.specs.Links.{source_before}
@@ -41,7 +41,14 @@ use Rattle.line_net.proofs.Histories.{Ending, Standing, are_histories, ends_or_n
 -- one sink pad
 filter_one : (s : Settings) → is_filter s ≡ true → sink_pads s ≡ 1
 filter_one (FileSrc s) h = absurd (cc)
+filter_one (RampTestSrc s) h = absurd (cc)
 filter_one Identity h = refl
+filter_one (AudioConvert s) h = refl
+filter_one (Law kind) h = refl
+filter_one (RawAudioParse info) h = refl
+filter_one (AudioBufferSplit s) h = refl
+filter_one WavParse h = refl
+filter_one WavEnc h = refl
 filter_one (CapsFilter s) h = refl
 filter_one (QueueSettings s) h = absurd (cc)
 filter_one (FileSink s) h = absurd (cc)
@@ -49,7 +56,14 @@ filter_one FakeSink h = absurd (cc)
 
 queue_one : (s : Settings) → is_queue s ≡ true → (sink_pads s ≡ 1) × (response_of s ≡ passes)
 queue_one (FileSrc s) h = absurd (cc)
+queue_one (RampTestSrc s) h = absurd (cc)
 queue_one Identity h = absurd (cc)
+queue_one (AudioConvert s) h = absurd (cc)
+queue_one (Law kind) h = absurd (cc)
+queue_one (RawAudioParse info) h = absurd (cc)
+queue_one (AudioBufferSplit s) h = absurd (cc)
+queue_one WavParse h = absurd (cc)
+queue_one WavEnc h = absurd (cc)
 queue_one (CapsFilter s) h = absurd (cc)
 queue_one (QueueSettings s) h = (refl, refl)
 queue_one (FileSink s) h = absurd (cc)
@@ -57,7 +71,14 @@ queue_one FakeSink h = absurd (cc)
 
 source_none : (s : Settings) → is_source s ≡ true → sink_pads s ≡ 0
 source_none (FileSrc s) h = refl
+source_none (RampTestSrc s) h = refl
 source_none Identity h = absurd (cc)
+source_none (AudioConvert s) h = absurd (cc)
+source_none (Law kind) h = absurd (cc)
+source_none (RawAudioParse info) h = absurd (cc)
+source_none (AudioBufferSplit s) h = absurd (cc)
+source_none WavParse h = absurd (cc)
+source_none WavEnc h = absurd (cc)
 source_none (CapsFilter s) h = absurd (cc)
 source_none (QueueSettings s) h = absurd (cc)
 source_none (FileSink s) h = absurd (cc)

@@ -4,7 +4,7 @@ use Rattle.std.specs.Prelude.{slice_get, IsSome}
 use Rattle.std.specs.Option.{ForSome, option_map_or}
 use Rattle.el_set.specs.Asked.{is_queue}
 use Rattle.el_set.specs.declared.settings.Settings.{Settings}
-use Rattle.el_set.specs.declared.settings.Settings.TheVariants.{FileSrc, Identity, CapsFilter, Queue as QueueSettings, FileSink, FakeSink}
+use Rattle.el_set.specs.declared.settings.Settings.TheVariants.{FileSrc, RampTestSrc, Identity, AudioConvert, Law, RawAudioParse, AudioBufferSplit, WavParse, WavEnc, CapsFilter, Queue as QueueSettings, FileSink, FakeSink}
 use Rattle.graph_core.specs.Elements.{Made}
 use Rattle.graph_core.specs.Graph.{IsGraph, IsSound, made as made_in, links as links_in}
 use Rattle.graph_core.specs.Links.{source_before}
@@ -87,7 +87,14 @@ queue_no_source (Some m) queue source = go m.settings queue source
   where
     go : (s : Settings) → is_queue s ≡ true → is_source s ≡ true → ⊥
     go (FileSrc s) queue source = absurd (cc)
+    go (RampTestSrc s) queue source = absurd (cc)
     go Identity queue source = absurd (cc)
+    go (AudioConvert s) queue source = absurd (cc)
+    go (Law kind) queue source = absurd (cc)
+    go (RawAudioParse info) queue source = absurd (cc)
+    go (AudioBufferSplit s) queue source = absurd (cc)
+    go WavParse queue source = absurd (cc)
+    go WavEnc queue source = absurd (cc)
     go (CapsFilter s) queue source = absurd (cc)
     go (QueueSettings s) queue source = absurd (cc)
     go (FileSink s) queue source = absurd (cc)
@@ -113,7 +120,14 @@ queue_heads (Some m) queue = go m.settings queue
   where
     go : (s : Settings) → is_queue s ≡ true → is_head s ≡ true
     go (FileSrc s) queue = refl
+    go (RampTestSrc s) queue = refl
     go Identity queue = absurd (cc)
+    go (AudioConvert s) queue = absurd (cc)
+    go (Law kind) queue = absurd (cc)
+    go (RawAudioParse info) queue = absurd (cc)
+    go (AudioBufferSplit s) queue = absurd (cc)
+    go WavParse queue = absurd (cc)
+    go WavEnc queue = absurd (cc)
     go (CapsFilter s) queue = absurd (cc)
     go (QueueSettings s) queue = refl
     go (FileSink s) queue = absurd (cc)

@@ -4,7 +4,7 @@ use Rattle.flow_model.specs.Item.{Item}
 use Rattle.el_set.specs.Asked.{sink_pads, is_queue}
 use Rattle.el_set.specs.Denoted.{response_of}
 use Rattle.el_set.specs.Gives.{source_content}
-use Rattle.el_set.specs.Made.{list_of}
+use Rattle.el_set.specs.Made.{list_of, read_content}
 use Rattle.el_set.specs.declared.settings.Settings.{Settings}
 use Rattle.graph_core.specs.Elements.{Made}
 use Rattle.graph_core.specs.Links.{source_before}
@@ -74,7 +74,7 @@ pub record IsOwed (made : List Made) (contents : ℕ → List ℕ) (e : ℕ) (co
   pub element : Made
   pub at : slice_get made e ≡ Some element
   pub list : owed ≡ list_of element.settings e
-  pub told : content ≡ Some (contents e)
+  pub told : content ≡ Some (read_content element.settings (contents e))
 
 abbrev pub OwedBy : {S I : Type 0} → (S → Option (List ℕ)) → List Made → (ℕ → List ℕ) → ℕ → (List ℕ → List Item) → Head S I → Type 0
 OwedBy content made contents e owed (heads.Source source) = IsOwed made contents e (source_content content source) owed

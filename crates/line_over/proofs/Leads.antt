@@ -5,8 +5,9 @@ use Rattle.std.specs.Option.{option_map_or}
 use Rattle.std.proofs.lemmas.Bool.{eq-eqb}
 use Rattle.el_set.specs.Asked.{sink_pads}
 use Rattle.el_set.specs.declared.settings.Settings.{Settings}
-use Rattle.el_set.specs.declared.settings.Settings.TheVariants.{FileSrc, Identity, CapsFilter, Queue, FileSink, FakeSink}
+use Rattle.el_set.specs.declared.settings.Settings.TheVariants.{FileSrc, RampTestSrc, Identity, AudioConvert, Law, RawAudioParse, AudioBufferSplit, WavParse, WavEnc, CapsFilter, Queue, FileSink, FakeSink}
 use Rattle.graph_order.specs.Links.{IsLink}
+use Rattle.graph_core.specs.Allowed.{checked}
 use Rattle.graph_core.specs.Asked.{End, asked}
 use Rattle.graph_core.specs.Comes.{Comes}
 use Rattle.graph_core.specs.Elements.{Made}
@@ -95,7 +96,14 @@ first_sink (Some m) pad w = go m.settings w
   where
     go : (s : Settings) → pad < sink_pads s → pad ≡ 0
     go (FileSrc s) w = absurd (omega (arith, w))
+    go (RampTestSrc s) w = absurd (omega (arith, w))
     go Identity w = omega (arith, w)
+    go (AudioConvert s) w = omega (arith, w)
+    go (Law kind) w = omega (arith, w)
+    go (RawAudioParse info) w = omega (arith, w)
+    go (AudioBufferSplit s) w = omega (arith, w)
+    go WavParse w = omega (arith, w)
+    go WavEnc w = omega (arith, w)
     go (CapsFilter s) w = omega (arith, w)
     go (Queue s) w = omega (arith, w)
     go (FileSink s) w = omega (arith, w)
@@ -111,5 +119,5 @@ link_leads tree graph is sound a b link =
     let into = first_sink (slice_get (made_in graph) found.0.sink.element) found.0.sink.pad pads.1 in
     let source : found.0.source ≡ first_pad a = ap (λ (n : ℕ). place_of found.0.source.element n) from.1 ∙ ap first_pad found.2 in
     let sink : found.0.sink ≡ first_pad b = ap (λ (n : ℕ). place_of found.0.sink.element n) into ∙ ap first_pad found.3 in
-    let leads = lead_come (made_in graph) [] (asked tree) (Ok (links_in graph)) is.links none_lead found.0 found.1 in
+    let leads = lead_come (checked (made_in graph)) [] (asked tree) (Ok (links_in graph)) is.links none_lead found.0 found.1 in
     (subst (λ (p : PadPlace). sink_behind (links_in graph) p ≡ Some (first_pad b)) source (leads ∙ ap Some sink), subst (λ (n : ℕ). has gives (made_in graph) n ≡ true) found.2 from.0)

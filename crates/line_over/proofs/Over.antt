@@ -5,7 +5,7 @@ use Rattle.std.specs.Option.{option_map_or}
 use Rattle.flow_model.specs.Item.{Item}
 use Rattle.el_set.specs.Asked.{sink_pads, is_filter, is_queue}
 use Rattle.el_set.specs.declared.settings.Settings.{Settings}
-use Rattle.el_set.specs.declared.settings.Settings.TheVariants.{FileSrc, Identity, CapsFilter, Queue as QueueSettings, FileSink, FakeSink}
+use Rattle.el_set.specs.declared.settings.Settings.TheVariants.{FileSrc, RampTestSrc, Identity, AudioConvert, Law, RawAudioParse, AudioBufferSplit, WavParse, WavEnc, CapsFilter, Queue as QueueSettings, FileSink, FakeSink}
 use Rattle.el_set.proofs.Elements.{put_has_eos}
 use Rattle.el_src.specs.Gave.{has_eos}
 use Rattle.graph_core.specs.Elements.{Made}
@@ -41,7 +41,14 @@ use Rattle.line_over.proofs.Leads.{link_leads}
 -- a sink has a sink pad
 sink_no_source : (s : Settings) → is_sink s ≡ true → sink_pads s ≡ 0 → ⊥
 sink_no_source (FileSrc s) sink none = absurd (cc)
+sink_no_source (RampTestSrc s) sink none = absurd (cc)
 sink_no_source Identity sink none = absurd (cc)
+sink_no_source (AudioConvert s) sink none = absurd (cc)
+sink_no_source (Law kind) sink none = absurd (cc)
+sink_no_source (RawAudioParse info) sink none = absurd (cc)
+sink_no_source (AudioBufferSplit s) sink none = absurd (cc)
+sink_no_source WavParse sink none = absurd (cc)
+sink_no_source WavEnc sink none = absurd (cc)
 sink_no_source (CapsFilter s) sink none = absurd (cc)
 sink_no_source (QueueSettings s) sink none = absurd (cc)
 sink_no_source (FileSink s) sink none = absurd (cc)

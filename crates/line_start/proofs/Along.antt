@@ -6,7 +6,7 @@ use Rattle.flow_model.specs.Item.{Item}
 use Rattle.el_set.specs.Asked.{is_queue}
 use Rattle.el_set.specs.Made.{makes_sink, makes_source}
 use Rattle.el_set.specs.declared.settings.Settings.{Settings}
-use Rattle.el_set.specs.declared.settings.Settings.TheVariants.{FileSrc, Identity, CapsFilter, Queue as QueueSettings, FileSink, FakeSink}
+use Rattle.el_set.specs.declared.settings.Settings.TheVariants.{FileSrc, RampTestSrc, Identity, AudioConvert, Law, RawAudioParse, AudioBufferSplit, WavParse, WavEnc, CapsFilter, Queue as QueueSettings, FileSink, FakeSink}
 use Rattle.graph_core.specs.Elements.{Made}
 use Rattle.graph_core.specs.Graph.{IsGraph, made as made_in, links as links_in}
 use Rattle.graph_core.specs.Links.{source_before}
@@ -41,13 +41,20 @@ use Rattle.line_tasks.specs.declared.part.Part.{Part}
 use Rattle.line_tasks.specs.Lanes.{InletAt, lane_place}
 use Rattle.line_tasks.specs.Making.{AreMade, HeadMade, IsMade, SinkAt, TailMade, behind_head, end_at, is_source, sink_end, source_end}
 use Rattle.line_tasks.specs.Parts.{AreParts, ExitAt, IsPart, pairs_on}
-use Rattle.line_start.specs.Start.{HasFiles, writes}
+use Rattle.line_start.specs.Start.{HasFiles, reads, writes}
 use Rattle.line_start.proofs.Lanes.{lane_has_room, lanes_apart, queue_with_lane, queue_without_lane}
 use Rattle.line_start.proofs.Slots.{Leaves, head_other, made_at, made_size}
 
 head_no_sink : (s : Settings) → is_head s ≡ true → is_sink s ≡ true → ⊥
 head_no_sink (FileSrc s) head sink = absurd (cc)
+head_no_sink (RampTestSrc s) head sink = absurd (cc)
 head_no_sink Identity head sink = absurd (cc)
+head_no_sink (AudioConvert s) head sink = absurd (cc)
+head_no_sink (Law kind) head sink = absurd (cc)
+head_no_sink (RawAudioParse info) head sink = absurd (cc)
+head_no_sink (AudioBufferSplit s) head sink = absurd (cc)
+head_no_sink WavParse head sink = absurd (cc)
+head_no_sink WavEnc head sink = absurd (cc)
 head_no_sink (CapsFilter s) head sink = absurd (cc)
 head_no_sink (QueueSettings s) head sink = absurd (cc)
 head_no_sink (FileSink s) head sink = absurd (cc)
@@ -67,36 +74,64 @@ asked_there asked found m is h = ap (λ (o : Option Made). option_map_or (λ (on
 -- a head is a source or a queue
 source_or_queue : (s : Settings) → is_head s ≡ true → (is_source s ≡ true) ⊎ (is_queue s ≡ true)
 source_or_queue (FileSrc s) h = inl refl
+source_or_queue (RampTestSrc s) h = inl refl
 source_or_queue Identity h = absurd (cc)
+source_or_queue (AudioConvert s) h = absurd (cc)
+source_or_queue (Law kind) h = absurd (cc)
+source_or_queue (RawAudioParse info) h = absurd (cc)
+source_or_queue (AudioBufferSplit s) h = absurd (cc)
+source_or_queue WavParse h = absurd (cc)
+source_or_queue WavEnc h = absurd (cc)
 source_or_queue (CapsFilter s) h = absurd (cc)
 source_or_queue (QueueSettings s) h = inr refl
 source_or_queue (FileSink s) h = absurd (cc)
 source_or_queue FakeSink h = absurd (cc)
 
--- what is made a source is one, and a source with its file is made
+-- what is made a source is one, and a source is made, with its file where it reads one
 pub made_source : {S : Type 0} (s : Settings) (file : Option S) → makes_source s file ≡ true → is_source s ≡ true
 made_source (FileSrc s) file h = refl
+made_source (RampTestSrc s) file h = refl
 made_source Identity file h = absurd (cc)
+made_source (AudioConvert s) file h = absurd (cc)
+made_source (Law kind) file h = absurd (cc)
+made_source (RawAudioParse info) file h = absurd (cc)
+made_source (AudioBufferSplit s) file h = absurd (cc)
+made_source WavParse file h = absurd (cc)
+made_source WavEnc file h = absurd (cc)
 made_source (CapsFilter s) file h = absurd (cc)
 made_source (QueueSettings s) file h = absurd (cc)
 made_source (FileSink s) file h = absurd (cc)
 made_source FakeSink file h = absurd (cc)
 
-source_made : {S : Type 0} (s : Settings) (file : Option S) (source : S) → is_source s ≡ true → file ≡ Some source → makes_source s file ≡ false → ⊥
-source_made (FileSrc s) file source is has not = absurd (let some = ap is_some has in not_both (sym some ∙ not))
+source_made : {S : Type 0} (s : Settings) (file : Option S) → is_source s ≡ true → (reads s ≡ true → (source : S) × (file ≡ Some source)) → makes_source s file ≡ false → ⊥
+source_made (FileSrc s) file is has not = absurd (let some = ap is_some (has refl).1 in not_both (sym some ∙ not))
   where
     not_both : true ≡ false → ⊥
     not_both h = cc
-source_made Identity file source is has not = absurd (cc)
-source_made (CapsFilter s) file source is has not = absurd (cc)
-source_made (QueueSettings s) file source is has not = absurd (cc)
-source_made (FileSink s) file source is has not = absurd (cc)
-source_made FakeSink file source is has not = absurd (cc)
+source_made (RampTestSrc s) file is has not = absurd (cc)
+source_made Identity file is has not = absurd (cc)
+source_made (AudioConvert s) file is has not = absurd (cc)
+source_made (Law kind) file is has not = absurd (cc)
+source_made (RawAudioParse info) file is has not = absurd (cc)
+source_made (AudioBufferSplit s) file is has not = absurd (cc)
+source_made WavParse file is has not = absurd (cc)
+source_made WavEnc file is has not = absurd (cc)
+source_made (CapsFilter s) file is has not = absurd (cc)
+source_made (QueueSettings s) file is has not = absurd (cc)
+source_made (FileSink s) file is has not = absurd (cc)
+source_made FakeSink file is has not = absurd (cc)
 
 -- so is a sink, with its file where it writes one
 sink_made : {K : Type 0} (s : Settings) (file : Option K) → is_sink s ≡ true → (writes s ≡ true → (sink : K) × (file ≡ Some sink)) → makes_sink s file ≡ false → ⊥
 sink_made (FileSrc s) file is has not = absurd (cc)
+sink_made (RampTestSrc s) file is has not = absurd (cc)
 sink_made Identity file is has not = absurd (cc)
+sink_made (AudioConvert s) file is has not = absurd (cc)
+sink_made (Law kind) file is has not = absurd (cc)
+sink_made (RawAudioParse info) file is has not = absurd (cc)
+sink_made (AudioBufferSplit s) file is has not = absurd (cc)
+sink_made WavParse file is has not = absurd (cc)
+sink_made WavEnc file is has not = absurd (cc)
 sink_made (CapsFilter s) file is has not = absurd (cc)
 sink_made (QueueSettings s) file is has not = absurd (cc)
 sink_made (FileSink s) file is has not = absurd (let some = ap is_some (has refl).1 in not_both (sym some ∙ not))
@@ -107,7 +142,7 @@ sink_made FakeSink file is has not = absurd (cc)
 
 -- the head that is made of the end of a lane, or of a file
 head_along : {S I : Type 0} (content : S → Option (List ℕ)) (received : I → List Item → Type 0) (place : I → ℕ) (made : List Made) (links : List PadLink) (e : ℕ) (inlet : Option I) (file : Option S) (head : Head S I)
-    → has is_head made e ≡ true → ((m : Made) → slice_get made e ≡ Some m → is_source m.settings ≡ true → (source : S) × (file ≡ Some source)) → InletAt place received made links e inlet → HeadMade content received place made e inlet file head
+    → has is_head made e ≡ true → ((m : Made) → slice_get made e ≡ Some m → reads m.settings ≡ true → (source : S) × (file ≡ Some source)) → InletAt place received made links e inlet → HeadMade content received place made e inlet file head
     → HeadAlong place (lane_place made links) made links e head
 head_along content received place made links e (Some lane) file (heads.Queue inlets) is_one files at one = let queue = queue_with_lane made links e at.0 in (queue.0, queue.1, one.0 ∙ at.1)
 head_along content received place made links e (Some lane) file (heads.Source source) is_one files at one = absurd one
@@ -120,7 +155,7 @@ head_along content received place made links e None file heads.Unlinked is_one f
     m = there is_head (slice_get made e) is_one
 
     by : (is_source m.0.settings ≡ true) ⊎ (is_queue m.0.settings ≡ true) → (has is_queue made e ≡ true) × (source_before links (first_pad e) ≡ None)
-    by (inl source) = let file_is = files m.0 m.1 source in absurd (source_made m.0.settings file file_is.0 source file_is.1 (one m.0 m.1))
+    by (inl source) = absurd (source_made m.0.settings file source (files m.0 m.1) (one m.0 m.1))
     by (inr queue) = let is_queue_there = asked_there is_queue (slice_get made e) m.0 m.1 queue in (is_queue_there, queue_without_lane made links e is_queue_there at)
 
 -- and the tail that is made of an exit
@@ -223,7 +258,7 @@ module _ {S K I O : Type 0} (content : S → Option (List ℕ)) (bytes : K → O
           one : (at_that : List (Option (End S K))) × IsMade content bytes received sent place_in made part.0 at_that task × ((e : ℕ) → ((j : ℕ) (other : Part I O) → j < k → slice_get parts j ≡ Some other → Leaves other e) → end_at at_that e ≡ end_at ends e)
           one = made_at content bytes received sent place_in made parts ends tasks left are k part.0 task part.1 at
 
-          source_file : (m : Made) → slice_get made way.first ≡ Some m → is_source m.settings ≡ true → (source : S) × (source_end (end_at one.0 way.first) ≡ Some source)
+          source_file : (m : Made) → slice_get made way.first ≡ Some m → reads m.settings ≡ true → (source : S) × (source_end (end_at one.0 way.first) ≡ Some source)
           source_file m there_m source =
               let file = files.sources way.first m there_m source in
               (file.0, ap source_end (one.2 way.first (leaves_first k way is) ∙ file.1))

@@ -1,5 +1,5 @@
 -- Tasks that are made of the parts of ways stand for the lists with which a line starts.
-use Rattle.std.proofs.Common.{◌≡◌, ℕ, Bool, true, false, List, [], ◌∷◌, Option, None, Some, map, refl, sym, ap, ◌∙◌, subst}
+use Rattle.std.proofs.Common.{◌≡◌, ℕ, Bool, true, false, List, [], ◌∷◌, Option, None, Some, is_some, map, refl, sym, ap, ◌∙◌, subst}
 use Rattle.std.specs.Prelude.{slice_get}
 use Rattle.std.specs.Option.{option_map_or}
 use Rattle.flow_model.specs.Item.{Item}
@@ -8,9 +8,9 @@ use Rattle.el_set.specs.Asked.{is_filter}
 use Rattle.el_set.specs.Denoted.{response_of}
 use Rattle.el_set.specs.Gives.{SourceGave, source_content, source_file}
 use Rattle.el_set.specs.Holds.{SinkHeld}
-use Rattle.el_set.specs.Made.{IsEmpty, file_for, keeps_flushed, list_of, makes_sink}
+use Rattle.el_set.specs.Made.{IsEmpty, file_for, keeps_flushed, list_of, makes_sink, makes_source, read_content, read_for}
 use Rattle.el_set.specs.declared.settings.Settings.{Settings}
-use Rattle.el_set.specs.declared.settings.Settings.TheVariants.{FileSrc, Identity, CapsFilter, Queue as QueueSettings, FileSink, FakeSink}
+use Rattle.el_set.specs.declared.settings.Settings.TheVariants.{FileSrc, RampTestSrc, Identity, AudioConvert, Law, RawAudioParse, AudioBufferSplit, WavParse, WavEnc, CapsFilter, Queue as QueueSettings, FileSink, FakeSink}
 use Rattle.el_set.specs.declared.source.SourceElement.{SourceElement}
 use Rattle.el_set.specs.declared.source.SourceElement.TheVariants.{File, Ramp}
 use Rattle.graph_core.specs.Elements.{Made}
@@ -57,7 +57,14 @@ head_fresh content received place made links e None file heads.Unlinked at one =
 -- and the tail was given nothing
 sink_fresh : {K : Type 0} (bytes : K → Option (List ℕ)) (s : Settings) (file : Option K) → (writes s ≡ true → (sink : K) × (file ≡ Some sink) × IsEmpty bytes (Some sink)) → makes_sink s file ≡ true → IsEmpty bytes (file_for s file)
 sink_fresh bytes (FileSrc s) file files makes = absurd (cc)
+sink_fresh bytes (RampTestSrc s) file files makes = absurd (cc)
 sink_fresh bytes Identity file files makes = absurd (cc)
+sink_fresh bytes (AudioConvert s) file files makes = absurd (cc)
+sink_fresh bytes (Law kind) file files makes = absurd (cc)
+sink_fresh bytes (RawAudioParse info) file files makes = absurd (cc)
+sink_fresh bytes (AudioBufferSplit s) file files makes = absurd (cc)
+sink_fresh bytes WavParse file files makes = absurd (cc)
+sink_fresh bytes WavEnc file files makes = absurd (cc)
 sink_fresh bytes (CapsFilter s) file files makes = absurd (cc)
 sink_fresh bytes (QueueSettings s) file files makes = absurd (cc)
 sink_fresh {K = K} bytes (FileSink s) file files makes = let one = files refl in subst (λ (f : Option K). IsEmpty bytes f) (sym one.1) one.2
@@ -93,25 +100,37 @@ rules_fresh made links e (d ∷ ds) go =
     (record { element = m.0; at = m.1; rule = found_rule made d m.0 m.1 }, rules_fresh made links d ds go.2)
 
 -- a source owes its list, for the content of its file
-content_of : {S : Type 0} (content : S → Option (List ℕ)) (source : SourceElement S) (file : S) (c : List ℕ) → source_file source ≡ Some file → content file ≡ Some c → source_content content source ≡ Some c
-content_of content (File one) file c is told = ap content (same is) ∙ told
+content_read : {S : Type 0} (content : S → Option (List ℕ)) (s : Settings) (source : SourceElement S) (file : Option S) (c : List ℕ) → makes_source s file ≡ true → source_file source ≡ read_for s file → ((one : S) → file ≡ Some one → content one ≡ Some c) → source_content content source ≡ Some (read_content s c)
+content_read content (FileSrc s) (File one) file c makes is told = told one.source (sym is)
+content_read content (FileSrc s) (Ramp one) file c makes is told = absurd (let none = ap is_some is in both_of (none ∙ makes))
   where
-    same : source_file (File one) ≡ Some file → one.source ≡ file
-    same h = cc
-content_of content (Ramp one) file c is told = absurd (cc)
+    both_of : false ≡ true → ⊥
+    both_of h = cc
+content_read content (RampTestSrc s) (File one) file c makes is told = absurd (cc)
+content_read content (RampTestSrc s) (Ramp one) file c makes is told = refl
+content_read content Identity source file c makes is told = absurd (cc)
+content_read content (AudioConvert s) source file c makes is told = absurd (cc)
+content_read content (Law kind) source file c makes is told = absurd (cc)
+content_read content (RawAudioParse info) source file c makes is told = absurd (cc)
+content_read content (AudioBufferSplit s) source file c makes is told = absurd (cc)
+content_read content WavParse source file c makes is told = absurd (cc)
+content_read content WavEnc source file c makes is told = absurd (cc)
+content_read content (CapsFilter s) source file c makes is told = absurd (cc)
+content_read content (QueueSettings s) source file c makes is told = absurd (cc)
+content_read content (FileSink s) source file c makes is told = absurd (cc)
+content_read content FakeSink source file c makes is told = absurd (cc)
 
 pub owed_fresh : {S I : Type 0} (content : S → Option (List ℕ)) (received : I → List Item → Type 0) (place : I → ℕ) (made : List Made) (contents : ℕ → List ℕ) (e : ℕ) (inlet : Option I) (file : Option S) (head : Head S I)
-    → ((source : S) → file ≡ Some source → content source ≡ Some (contents e)) → ((m : Made) → slice_get made e ≡ Some m → is_source m.settings ≡ true → (source : S) × (file ≡ Some source)) → HeadMade content received place made e inlet file head → OwedBy content made contents e (owed_at made e) head
-owed_fresh content received place made contents e (Some lane) file (heads.Queue inlets) told files one = tt
-owed_fresh content received place made contents e (Some lane) file (heads.Source source) told files one = absurd one
-owed_fresh content received place made contents e (Some lane) file heads.Unlinked told files one = absurd one
-owed_fresh content received place made contents e None file (heads.Queue inlets) told files one = absurd one
-owed_fresh content received place made contents e None file (heads.Source source) told files one =
-    let from = files one.0 one.1 (made_source one.0.settings file one.2.0) in
+    → ((source : S) → file ≡ Some source → content source ≡ Some (contents e)) → HeadMade content received place made e inlet file head → OwedBy content made contents e (owed_at made e) head
+owed_fresh content received place made contents e (Some lane) file (heads.Queue inlets) told one = tt
+owed_fresh content received place made contents e (Some lane) file (heads.Source source) told one = absurd one
+owed_fresh content received place made contents e (Some lane) file heads.Unlinked told one = absurd one
+owed_fresh content received place made contents e None file (heads.Queue inlets) told one = absurd one
+owed_fresh content received place made contents e None file (heads.Source source) told one =
     record {
       element = one.0;
       at = one.1;
       list = found_owes made e one.0 one.1;
-      told = content_of content source from.0 (contents e) (one.2.3 ∙ from.1) (told from.0 from.1);
+      told = content_read content one.0.settings source file (contents e) one.2.0 one.2.3 told;
     }
-owed_fresh content received place made contents e None file heads.Unlinked told files one = tt
+owed_fresh content received place made contents e None file heads.Unlinked told one = tt

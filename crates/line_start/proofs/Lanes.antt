@@ -9,7 +9,7 @@ use Rattle.std.proofs.lemmas.List.FromFn.{filter_of_map_range_with_len_more}
 use Rattle.el_set.specs.Asked.{is_queue}
 use Rattle.el_set.specs.declared.settings.QueueSettings.{QueueSettings}
 use Rattle.el_set.specs.declared.settings.Settings.{Settings}
-use Rattle.el_set.specs.declared.settings.Settings.TheVariants.{FileSrc, Identity, CapsFilter, Queue, FileSink, FakeSink}
+use Rattle.el_set.specs.declared.settings.Settings.TheVariants.{FileSrc, RampTestSrc, Identity, AudioConvert, Law, RawAudioParse, AudioBufferSplit, WavParse, WavEnc, CapsFilter, Queue, FileSink, FakeSink}
 use Rattle.graph_core.specs.Elements.{Made}
 use Rattle.graph_core.specs.Links.{source_before}
 use Rattle.graph_core.specs.declared.pad.PadLink.{PadLink}
@@ -65,7 +65,14 @@ lane_is (Some p) (Some m) queue fed = go m.settings queue
   where
     go : (s : Settings) → is_queue s ≡ true → is_some (room_by s) ≡ true
     go (FileSrc s) q = absurd (cc)
+    go (RampTestSrc s) q = absurd (cc)
     go Identity q = absurd (cc)
+    go (AudioConvert s) q = absurd (cc)
+    go (Law kind) q = absurd (cc)
+    go (RawAudioParse info) q = absurd (cc)
+    go (AudioBufferSplit s) q = absurd (cc)
+    go WavParse q = absurd (cc)
+    go WavEnc q = absurd (cc)
     go (CapsFilter s) q = absurd (cc)
     go (Queue s) q = refl
     go (FileSink s) q = absurd (cc)
@@ -79,7 +86,14 @@ lane_has (Some p) (Some m) h = (go m.settings h, refl)
   where
     go : (s : Settings) → is_some (room_by s) ≡ true → is_queue s ≡ true
     go (FileSrc s) q = absurd (cc)
+    go (RampTestSrc s) q = absurd (cc)
     go Identity q = absurd (cc)
+    go (AudioConvert s) q = absurd (cc)
+    go (Law kind) q = absurd (cc)
+    go (RawAudioParse info) q = absurd (cc)
+    go (AudioBufferSplit s) q = absurd (cc)
+    go WavParse q = absurd (cc)
+    go WavEnc q = absurd (cc)
     go (CapsFilter s) q = absurd (cc)
     go (Queue s) q = refl
     go (FileSink s) q = absurd (cc)
@@ -93,7 +107,14 @@ room_of_queue (Some p) (Some m) queue fed = go m.settings queue
   where
     go : (s : Settings) → is_queue s ≡ true → (room : ℕ) × (room_by s ≡ Some room)
     go (FileSrc s) q = absurd (cc)
+    go (RampTestSrc s) q = absurd (cc)
     go Identity q = absurd (cc)
+    go (AudioConvert s) q = absurd (cc)
+    go (Law kind) q = absurd (cc)
+    go (RawAudioParse info) q = absurd (cc)
+    go (AudioBufferSplit s) q = absurd (cc)
+    go WavParse q = absurd (cc)
+    go WavEnc q = absurd (cc)
     go (CapsFilter s) q = absurd (cc)
     go (Queue s) q = (room_of s, refl)
     go (FileSink s) q = absurd (cc)
@@ -155,7 +176,14 @@ room_found (Some p) (Some m) n h = go m.settings h
   where
     go : (s : Settings) → room_by s ≡ Some n → 1 ≤ n
     go (FileSrc s) r = absurd (cc)
+    go (RampTestSrc s) r = absurd (cc)
     go Identity r = absurd (cc)
+    go (AudioConvert s) r = absurd (cc)
+    go (Law kind) r = absurd (cc)
+    go (RawAudioParse info) r = absurd (cc)
+    go (AudioBufferSplit s) r = absurd (cc)
+    go WavParse r = absurd (cc)
+    go WavEnc r = absurd (cc)
     go (CapsFilter s) r = absurd (cc)
     go (Queue s) r = subst (λ (k : ℕ). 1 ≤ k) (same r) (some_room s)
       where

@@ -132,8 +132,7 @@ module _ {S K I O : Type 0} (content : S → Option (List ℕ)) (bytes : K → O
 
     owed_of : (contents : ℕ → List ℕ) → AreTold content ends contents → OwedBy content made contents way.first (owed_at made way.first) (head_of task)
     owed_of contents told =
-        owed_fresh content received place_in made contents way.first part.0.inlet (source_end (end_at one.0 way.first)) (head_of task) told_of
-        (λ m there source. let file = files.sources way.first m there source in (file.0, ap source_end (slot ∙ file.1))) head_made
+        owed_fresh content received place_in made contents way.first part.0.inlet (source_end (end_at one.0 way.first)) (head_of task) told_of head_made
       where
         of_end : (end : Option (End S K)) (source : S) → source_end end ≡ Some source → end ≡ Some (Src source)
         of_end None source h = absurd (cc)

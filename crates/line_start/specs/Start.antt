@@ -21,9 +21,13 @@ use Rattle.task_core.specs.Task.{TaskLists}
 abbrev pub writes : Settings → Bool
 writes settings = is_sink settings && is_some (location_of settings)
 
--- Each source has its file among the ends of the elements, and each sink that writes one an empty one.
+-- a source reads a file
+abbrev pub reads : Settings → Bool
+reads settings = is_source settings && is_some (location_of settings)
+
+-- Each source that reads a file has it among the ends of the elements, and each sink that writes one an empty one.
 pub record HasFiles {S K : Type 0} (bytes : K → Option (List ℕ)) (made : List Made) (ends : List (Option (End S K))) : Type 0 where
-  pub sources : (e : ℕ) (m : Made) → slice_get made e ≡ Some m → is_source m.settings ≡ true → (source : S) × (end_at ends e ≡ Some (Src source))
+  pub sources : (e : ℕ) (m : Made) → slice_get made e ≡ Some m → reads m.settings ≡ true → (source : S) × (end_at ends e ≡ Some (Src source))
   pub sinks : (e : ℕ) (m : Made) → slice_get made e ≡ Some m → writes m.settings ≡ true → (sink : K) × (end_at ends e ≡ Some (Snk sink)) × IsEmpty bytes (Some sink)
 
 -- the content of each source's file is told

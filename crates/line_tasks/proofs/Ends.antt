@@ -7,7 +7,7 @@ use Rattle.std.proofs.lemmas.Option.{slice_get-get_or, slice_get-map, slice_get_
 use Rattle.flow_model.specs.Item.{Item}
 use Rattle.el_set.specs.Asked.{is_filter, is_queue}
 use Rattle.el_set.specs.declared.settings.Settings.{Settings}
-use Rattle.el_set.specs.declared.settings.Settings.TheVariants.{FileSrc, Identity, CapsFilter, Queue, FileSink, FakeSink}
+use Rattle.el_set.specs.declared.settings.Settings.TheVariants.{FileSrc, RampTestSrc, Identity, AudioConvert, Law, RawAudioParse, AudioBufferSplit, WavParse, WavEnc, CapsFilter, Queue, FileSink, FakeSink}
 use Rattle.graph_core.specs.Elements.{Made}
 use Rattle.graph_core.specs.Links.{source_before}
 use Rattle.graph_core.specs.declared.pad.PadLink.{PadLink}
@@ -41,7 +41,14 @@ chosen_within p a (suc n) k e at = by (p a) k at (λ i here. chosen_within p (a 
 
 queue_has_room : (s : Settings) → is_queue s ≡ true → room_by s ≡ None → ⊥
 queue_has_room (FileSrc s) queue none = absurd (cc)
+queue_has_room (RampTestSrc s) queue none = absurd (cc)
 queue_has_room Identity queue none = absurd (cc)
+queue_has_room (AudioConvert s) queue none = absurd (cc)
+queue_has_room (Law kind) queue none = absurd (cc)
+queue_has_room (RawAudioParse info) queue none = absurd (cc)
+queue_has_room (AudioBufferSplit s) queue none = absurd (cc)
+queue_has_room WavParse queue none = absurd (cc)
+queue_has_room WavEnc queue none = absurd (cc)
 queue_has_room (CapsFilter s) queue none = absurd (cc)
 queue_has_room (Queue s) queue none = absurd (cc)
 queue_has_room (FileSink s) queue none = absurd (cc)

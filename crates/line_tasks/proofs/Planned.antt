@@ -1,5 +1,5 @@
 -- One task more is made of the parts of a plan.
-use Rattle.std.proofs.Common.{◌≡◌, ℕ, List, [], ◌∷◌, ◌++◌, Option, length, refl, sym, ap, ◌∙◌, subst, arith}
+use Rattle.std.proofs.Common.{◌≡◌, ℕ, suc, All, List, [], ◌∷◌, ◌++◌, Option, length, refl, sym, ap, ◌∙◌, subst, arith}
 use Rattle.std.proofs.lemmas.List.{append-nil, append_assoc}
 use Rattle.flow_model.specs.Item.{Item}
 use Rattle.graph_core.specs.Elements.{Made}
@@ -11,6 +11,13 @@ use Rattle.line_tasks.specs.Making.{AreMade, IsMade, behind_part}
 pub none_there : {A : Type 0} (xs : List A) → length xs ≡ 0 → xs ≡ []
 none_there [] h = refl
 none_there (x ∷ xs) h = absurd (omega (arith, h))
+
+-- what holds of all holds of the first, and of the rest
+pub first_all : {A : Type 0} (P : A → Type 0) (all rest : List A) (x : A) → all ≡ x ∷ rest → All P all → P x
+first_all P all rest x is holds = (subst (λ (xs : List _). All P xs) is holds) 0 x (omega arith)
+
+pub rest_all : {A : Type 0} (P : A → Type 0) (all rest : List A) (x : A) → all ≡ x ∷ rest → All P all → All P rest
+rest_all P all rest x is holds = λ k d within. (subst (λ (xs : List _). All P xs) is holds) (suc k) d (omega (arith, within))
 
 module _ {S K I O : Type 0} (content : S → Option (List ℕ)) (bytes : K → Option (List ℕ)) (received : I → List Item → Type 0) (sent : O → List Item → Type 0) (place : I → ℕ) (made : List Made) (all : List (Part I O)) (ends : List (Option (End S K))) where
   -- what completes these parts completes all

@@ -3,7 +3,7 @@ use Rattle.std.specs.Prelude.{◌≡◌, ℕ, true, false, List, [], ◌∷◌, 
 use Rattle.std.specs.Option.{option_map_or}
 use Rattle.flow_model.specs.Item.{Item}
 use Rattle.flow_model.specs.Rule.{Response, passes}
-use Rattle.el_set.specs.Asked.{is_filter}
+use Rattle.el_set.specs.Asked.{is_filter, title_of}
 use Rattle.el_set.specs.Denoted.{response_of}
 use Rattle.el_set.specs.Stands.{Stands}
 use Rattle.el_set.specs.declared.filter.FilterElement.{FilterElement}
@@ -67,6 +67,14 @@ ExitAt place limits count sent made links ends.Nothing exits.Open = Unit {0}
 ExitAt place limits count sent made links (ends.Queue d) (exits.Lane queue outlet) = (queue ≡ d) × OutletAt place limits count sent made links d (Some outlet)
 ExitAt place limits count sent made links (ends.Sink d) (exits.Sink e) = e ≡ d
 ExitAt place limits count sent made links _ _ = ⊥
+
+-- what the source of a number says that its stream is called
+abbrev pub title_at : List Made → ℕ → Option (List ℕ)
+title_at made e = option_map_or (λ (m : Made). title_of m.settings) (slice_get made e) None
+
+-- a part has the title of its source
+abbrev pub IsTitled : {I O : Type 0} → List Made → Part I O → Type 0
+IsTitled made part = part.title ≡ title_at made part.first
 
 -- What the task of a way is made of: the end of the lane into its queue, its filters, to which nothing was fed, and
 -- its exit.

@@ -1,4 +1,5 @@
 //! What tasks are made of.
+use gst_caps::Text;
 use lane_core::MemLanes;
 use std::collections::VecDeque;
 use task_core::Stage;
@@ -19,6 +20,8 @@ pub enum Exit<O> {
 pub struct Part<I, O> {
     /// The number of the source or the queue that the way begins with.
     pub first: u32,
+    /// What the source says that its stream is called.
+    pub title: Option<Text>,
     /// What the queue takes from. None for a source, and for a queue to which nothing is linked.
     pub inlet: Option<I>,
     /// The source pads but the last, each with the filter behind it.

@@ -1,9 +1,9 @@
 //! The parts of the tasks of a graph.
-ghost use Rattle.std.specs.Prelude.{◌≡◌, None, IfOk, slice_index_or, slice_set};
+ghost use Rattle.std.specs.Prelude.{◌≡◌, All, None, IfOk, slice_index_or, slice_set};
 ghost use Rattle.graph_core.specs.Graph.{made as made_in, links as links_in};
 ghost use Rattle.graph_ways.specs.Once.{AreOnce};
 ghost use Rattle.graph_ways.specs.Ways.{AreWays, last_on};
-ghost use Rattle.line_tasks.specs.Parts.{AreFilters, AreParts, AreStages, IsFilterAt, exit_to, without_end};
+ghost use Rattle.line_tasks.specs.Parts.{AreFilters, AreParts, AreStages, IsFilterAt, IsTitled, exit_to, title_at, without_end};
 
 use crate::lanes::{Lanes, lanes_of};
 use crate::part::{Exit, Part, Parts};
@@ -11,7 +11,7 @@ use crate::taking::taken;
 use el_set::{FilterElement, filter_of};
 use graph_core::Graph;
 use graph_ways::{End, Way};
-use gst_caps::OutOfMemory;
+use gst_caps::{OutOfMemory, Text};
 use lane_core::{Inlet, MemInlet, MemOutlet, Outlet};
 use std::alloc::Global;
 use std::collections::VecDeque;
@@ -23,7 +23,8 @@ pub fn parts_of(
     graph: &Graph,
     ways: &[Way],
 ) -> Result<Parts<MemInlet, MemOutlet>, OutOfMemory>
-    ensures { IfOk result (λ parts. AreOnce (links_in graph.now) → AreWays (made_in graph.now) (links_in graph.now) ways.now → AreParts ⟦<MemInlet as Inlet>⟧.place ⟦<MemInlet as Inlet>⟧.received ⟦<MemOutlet as Outlet>⟧.place ⟦<MemOutlet as Outlet>⟧.limits ⟦<MemOutlet as Outlet>⟧.count ⟦<MemOutlet as Outlet>⟧.sent (made_in graph.now) (links_in graph.now) ways.now parts.parts.items parts.lanes) }
+    ensures titles { IfOk result (λ parts. All (IsTitled (made_in graph.now)) parts.parts.items) }
+    ensures parts { IfOk result (λ parts. AreOnce (links_in graph.now) → AreWays (made_in graph.now) (links_in graph.now) ways.now → AreParts ⟦<MemInlet as Inlet>⟧.place ⟦<MemInlet as Inlet>⟧.received ⟦<MemOutlet as Outlet>⟧.place ⟦<MemOutlet as Outlet>⟧.limits ⟦<MemOutlet as Outlet>⟧.count ⟦<MemOutlet as Outlet>⟧.sent (made_in graph.now) (links_in graph.now) ways.now parts.parts.items parts.lanes) }
 {
     let Lanes {
         table,
@@ -32,9 +33,11 @@ pub fn parts_of(
     } = lanes_of(alloc, graph)?;
     let mut parts = VecDeque::with_capacity(alloc, ways.len())?;
     for way in ways {
+        let title = title_at(alloc, graph, way.first)?;
         let stages = stages_of(alloc, graph, way)?;
         let part = Part {
             first: way.first,
+            title,
             inlet: taken(&mut inlets, way.first),
             stages,
             last: last_of(way),
@@ -46,6 +49,19 @@ pub fn parts_of(
         parts,
         lanes: table,
     })
+}
+
+/// What the source of this number says that its stream is called. None for another element.
+fn title_at(alloc: Global, graph: &Graph, element: u32) -> Result<Option<Text>, OutOfMemory>
+    ensures { IfOk result (λ title. title ≡ title_at (made_in graph.now) element) }
+{
+    if element >= graph.count() {
+        return Ok(None);
+    }
+    match graph.settings(element).title() {
+        Some(title) => Ok(Some(Text::from_str(alloc, title)?)),
+        None => Ok(None),
+    }
 }
 
 /// The source pads of a way but the last, each with the filter behind it.

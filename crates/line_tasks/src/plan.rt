@@ -1,5 +1,5 @@
 //! The tasks of a line.
-ghost use Rattle.std.specs.Prelude.{◌≡◌, ◌≤◌, IfOk, vec_len, vec_capacity};
+ghost use Rattle.std.specs.Prelude.{◌≡◌, ◌≤◌, All, IfOk, vec_len, vec_capacity};
 ghost use Rattle.std.specs.VecDeque.{deque_len};
 
 use crate::making::task_of;
@@ -32,6 +32,7 @@ pub struct Made<S, K, I, O> {
 impl<S: Source, K: Sink, I: Inlet<Out = O>, O: Outlet<Lanes = I::Lanes>> Plan<S, K, I, O> {
     ghost use Rattle.graph_core.specs.Graph.{made as made_in};
     ghost use Rattle.line_tasks.specs.Making.{AreMade};
+    ghost use Rattle.line_tasks.specs.Parts.{IsTitled};
     ghost use Rattle.line_tasks.specs.Plan.{parts_in};
 
     /// Takes the memory for the tasks of parts.
@@ -42,7 +43,7 @@ impl<S: Source, K: Sink, I: Inlet<Out = O>, O: Outlet<Lanes = I::Lanes>> Plan<S,
         Ok(Plan { parts, tasks })
     }
 
-    /// The tasks of the parts, in their order. Each takes the file of its source and that of its sink from the ends of
+    /// The tasks of the parts of this graph, in their order. Each takes the file of its source and that of its sink from the ends of
     /// the elements. It takes no memory.
     pub fn into_tasks(
         self,
@@ -50,6 +51,7 @@ impl<S: Source, K: Sink, I: Inlet<Out = O>, O: Outlet<Lanes = I::Lanes>> Plan<S,
         graph: &Graph,
         ends: Vec<Option<End<S, K>>>,
     ) -> Made<S, K, I, O>
+        requires titled { All (IsTitled (made_in graph.now)) (parts_in self) }
         ensures { AreMade S.content K.bytes I.received O.sent I.place (made_in graph.now) (parts_in self) ends.items result.tasks.items result.loose.items }
     {
         let Plan {

@@ -12,9 +12,14 @@ use Rattle.flow_model.proofs.Chains.{passed_whole}
 use Rattle.el_set.specs.Asked.{sink_pads, is_filter, is_queue}
 use Rattle.el_set.specs.Denoted.{response_of}
 use Rattle.el_set.specs.Gives.{SourceGave, source_content}
-use Rattle.el_set.specs.Made.{list_of}
+use Rattle.el_set.specs.Made.{list_of, read_content}
+use Rattle.el_set.proofs.Lists.{list_read}
+use Rattle.el_src.specs.declared.ramp_src.Phase.{Phase as RampPhase}
+use Rattle.el_src.specs.declared.ramp_src.Phase.TheVariants as ramps
+use Rattle.el_src.specs.declared.ramp_src.Ramp.{Ramp as RampSettings}
+use Rattle.el_src.specs.RampGave.{ramp_is_over, ramp_to_come}
 use Rattle.el_set.specs.declared.settings.Settings.{Settings}
-use Rattle.el_set.specs.declared.settings.Settings.TheVariants.{FileSrc, Identity, CapsFilter, Queue as QueueSettings, FileSink, FakeSink}
+use Rattle.el_set.specs.declared.settings.Settings.TheVariants.{FileSrc, RampTestSrc, Identity, AudioConvert, Law, RawAudioParse, AudioBufferSplit, WavParse, WavEnc, CapsFilter, Queue as QueueSettings, FileSink, FakeSink}
 use Rattle.el_set.specs.declared.source.SourceElement.{SourceElement}
 use Rattle.el_set.specs.declared.source.SourceElement.TheVariants.{File, Ramp}
 use Rattle.el_set.proofs.Elements.{put_is_plain}
@@ -58,7 +63,14 @@ use Rattle.line_whole.proofs.Lines.{line_is_whole, source_is}
 -- the kinds of elements that give
 pub kind_of : (s : Settings) → gives s ≡ true → (is_source s ≡ true) ⊎ ((is_queue s ≡ true) ⊎ (is_filter s ≡ true))
 kind_of (FileSrc s) h = inl refl
+kind_of (RampTestSrc s) h = inl refl
 kind_of Identity h = inr (inr refl)
+kind_of (AudioConvert s) h = inr (inr refl)
+kind_of (Law kind) h = inr (inr refl)
+kind_of (RawAudioParse info) h = inr (inr refl)
+kind_of (AudioBufferSplit s) h = inr (inr refl)
+kind_of WavParse h = inr (inr refl)
+kind_of WavEnc h = inr (inr refl)
 kind_of (CapsFilter s) h = inr (inr refl)
 kind_of (QueueSettings s) h = inr (inl refl)
 kind_of (FileSink s) h = absurd (cc)
@@ -66,7 +78,14 @@ kind_of FakeSink h = absurd (cc)
 
 pub source_pads_none : (s : Settings) → is_source s ≡ true → (sink_pads s ≡ 0) × (is_head s ≡ true) × (is_queue s ≡ false)
 source_pads_none (FileSrc s) h = (refl, refl, refl)
+source_pads_none (RampTestSrc s) h = (refl, refl, refl)
 source_pads_none Identity h = absurd (cc)
+source_pads_none (AudioConvert s) h = absurd (cc)
+source_pads_none (Law kind) h = absurd (cc)
+source_pads_none (RawAudioParse info) h = absurd (cc)
+source_pads_none (AudioBufferSplit s) h = absurd (cc)
+source_pads_none WavParse h = absurd (cc)
+source_pads_none WavEnc h = absurd (cc)
 source_pads_none (CapsFilter s) h = absurd (cc)
 source_pads_none (QueueSettings s) h = absurd (cc)
 source_pads_none (FileSink s) h = absurd (cc)
@@ -74,7 +93,14 @@ source_pads_none FakeSink h = absurd (cc)
 
 pub queue_pads : (s : Settings) → is_queue s ≡ true → (sink_pads s ≡ 1) × (is_head s ≡ true) × (is_source s ≡ false) × (response_of s ≡ passes)
 queue_pads (FileSrc s) h = absurd (cc)
+queue_pads (RampTestSrc s) h = absurd (cc)
 queue_pads Identity h = absurd (cc)
+queue_pads (AudioConvert s) h = absurd (cc)
+queue_pads (Law kind) h = absurd (cc)
+queue_pads (RawAudioParse info) h = absurd (cc)
+queue_pads (AudioBufferSplit s) h = absurd (cc)
+queue_pads WavParse h = absurd (cc)
+queue_pads WavEnc h = absurd (cc)
 queue_pads (CapsFilter s) h = absurd (cc)
 queue_pads (QueueSettings s) h = (refl, refl, refl, refl)
 queue_pads (FileSink s) h = absurd (cc)
@@ -82,7 +108,14 @@ queue_pads FakeSink h = absurd (cc)
 
 pub filter_pads : (s : Settings) → is_filter s ≡ true → (sink_pads s ≡ 1) × (is_source s ≡ false) × (is_queue s ≡ false)
 filter_pads (FileSrc s) h = absurd (cc)
+filter_pads (RampTestSrc s) h = absurd (cc)
 filter_pads Identity h = (refl, refl, refl)
+filter_pads (AudioConvert s) h = (refl, refl, refl)
+filter_pads (Law kind) h = (refl, refl, refl)
+filter_pads (RawAudioParse info) h = (refl, refl, refl)
+filter_pads (AudioBufferSplit s) h = (refl, refl, refl)
+filter_pads WavParse h = (refl, refl, refl)
+filter_pads WavEnc h = (refl, refl, refl)
 filter_pads (CapsFilter s) h = (refl, refl, refl)
 filter_pads (QueueSettings s) h = absurd (cc)
 filter_pads (FileSink s) h = absurd (cc)
@@ -103,9 +136,18 @@ all_given Blocks given rest id size place content over told = absurd (cc)
 all_given Eos given rest id size place content over told = absurd (cc)
 all_given Ended given rest id size place content over told = sym (append-nil given) ∙ told
 
+ramp_given : (phase : RampPhase) (given rest : List Item) (settings : RampSettings) (id start count : ℕ) → ramp_is_over phase ≡ true → given ++ ramp_to_come phase settings id start count ≡ rest → given ≡ rest
+ramp_given ramps.Start given rest settings id start count over told = absurd (cc)
+ramp_given ramps.Caps given rest settings id start count over told = absurd (cc)
+ramp_given ramps.Segment given rest settings id start count over told = absurd (cc)
+ramp_given ramps.Tag given rest settings id start count over told = absurd (cc)
+ramp_given ramps.Pieces given rest settings id start count over told = absurd (cc)
+ramp_given ramps.Eos given rest settings id start count over told = absurd (cc)
+ramp_given ramps.Ended given rest settings id start count over told = sym (append-nil given) ∙ told
+
 source_whole : {S : Type 0} (content : S → Option (List ℕ)) (source : SourceElement S) (owed : List ℕ → List Item) (given : List Item) (c : List ℕ) → SourceGave content source owed given → source_content content source ≡ Some c → has_eos given ≡ true → given ≡ owed c
 source_whole content (File file) owed given c gave told eos = all_given file.phase given (owed c) file.id file.blocksize file.place c (gave.eos ∙ eos) (gave.told c told)
-source_whole content (Ramp ramp) owed given c gave told eos = absurd (cc)
+source_whole content (Ramp ramp) owed given c gave told eos = ramp_given ramp.phase given (owed c) ramp.settings ramp.id ramp.start ramp.given ((gave c).eos ∙ eos) (gave c).whole
 
 pub put_first : (given : List Item) (ls : List StageList) → put_at given ls 0 ≡ given
 put_first given [] = refl
@@ -189,8 +231,8 @@ module _ {S K I O : Type 0} (content : S → Option (List ℕ)) (bytes : K → O
       by : (k : ℕ) (head : Head S I) → HeadAlong place_in lane (made_in graph) (links_in graph) e head → HeadGave content received head (ended.lists k).head → OwedBy content (made_in graph) contents e (ended.lists k).head.owed head
           → (head_number head ≡ None → has_eos (ended.lists k).head.given ≡ true) → (ended.lists k).head.given ≡ list_of m.settings e (contents e)
       by k (heads.Source one) goes gave owes eos =
-          source_whole content one (ended.lists k).head.owed (ended.lists k).head.given (contents e) gave owes.told (eos refl)
-          ∙ ap (λ (f : List ℕ → List Item). f (contents e)) owes.list ∙ ap (λ (x : Made). list_of x.settings e (contents e)) (same_made owes.element owes.at)
+          source_whole content one (ended.lists k).head.owed (ended.lists k).head.given (read_content owes.element.settings (contents e)) gave owes.told (eos refl)
+          ∙ ap (λ (f : List ℕ → List Item). f (read_content owes.element.settings (contents e))) owes.list ∙ list_read owes.element.settings e (contents e) ∙ ap (λ (x : Made). list_of x.settings e (contents e)) (same_made owes.element owes.at)
       by k (heads.Queue inlets) goes gave owes eos = absurd (no_queue goes.0)
       by k heads.Unlinked goes gave owes eos = absurd (no_queue goes.0)
 

@@ -18,7 +18,7 @@ use Rattle.el_set.specs.Asked.{sink_pads, source_pads}
 use Rattle.el_set.specs.Denoted.{response_of}
 use Rattle.el_set.specs.Made.{list_of}
 use Rattle.el_set.specs.declared.settings.Settings.{Settings}
-use Rattle.el_set.specs.declared.settings.Settings.TheVariants.{FileSrc, Identity, CapsFilter, Queue, FileSink, FakeSink}
+use Rattle.el_set.specs.declared.settings.Settings.TheVariants.{FileSrc, RampTestSrc, Identity, AudioConvert, Law, RawAudioParse, AudioBufferSplit, WavParse, WavEnc, CapsFilter, Queue, FileSink, FakeSink}
 use Rattle.graph_core.specs.Elements.{Made}
 use Rattle.graph_core.specs.Graph.{made as made_in, links as links_in, forward as forward_in}
 use Rattle.graph_core.specs.Links.{HasPads, source_before}
@@ -40,7 +40,14 @@ giving (Some m) pad w = go m.settings w
   where
     go : (s : Settings) → pad < source_pads s → (gives s ≡ true) × (pad ≡ 0)
     go (FileSrc s) w = (refl, omega (arith, w))
+    go (RampTestSrc s) w = (refl, omega (arith, w))
     go Identity w = (refl, omega (arith, w))
+    go (AudioConvert s) w = (refl, omega (arith, w))
+    go (Law kind) w = (refl, omega (arith, w))
+    go (RawAudioParse info) w = (refl, omega (arith, w))
+    go (AudioBufferSplit s) w = (refl, omega (arith, w))
+    go WavParse w = (refl, omega (arith, w))
+    go WavEnc w = (refl, omega (arith, w))
     go (CapsFilter s) w = (refl, omega (arith, w))
     go (Queue s) w = (refl, omega (arith, w))
     go (FileSink s) w = absurd (omega (arith, w))
@@ -48,7 +55,14 @@ giving (Some m) pad w = go m.settings w
 
 one_pad : (s : Settings) → (sink_pads s ≡ 0) ⊎ (sink_pads s ≡ 1)
 one_pad (FileSrc s) = inl refl
+one_pad (RampTestSrc s) = inl refl
 one_pad Identity = inr refl
+one_pad (AudioConvert s) = inr refl
+one_pad (Law kind) = inr refl
+one_pad (RawAudioParse info) = inr refl
+one_pad (AudioBufferSplit s) = inr refl
+one_pad WavParse = inr refl
+one_pad WavEnc = inr refl
 one_pad (CapsFilter s) = inr refl
 one_pad (Queue s) = inr refl
 one_pad (FileSink s) = inr refl

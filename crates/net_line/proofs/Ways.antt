@@ -14,14 +14,15 @@ use Rattle.flow_model.proofs.Prefixes.{prefix_refl, prefix_trans, prefix_by}
 use Rattle.flow_model.proofs.Chains.{passed_whole}
 use Rattle.el_set.specs.Asked.{sink_pads}
 use Rattle.el_set.specs.Denoted.{response_of}
-use Rattle.el_set.specs.Made.{list_of}
+use Rattle.el_set.specs.Made.{list_of, read_content}
 use Rattle.el_set.specs.Gives.{SourceGave, source_content}
 use Rattle.el_set.specs.declared.settings.Settings.{Settings}
-use Rattle.el_set.specs.declared.settings.Settings.TheVariants.{FileSrc, Identity, CapsFilter, Queue as QueueSettings, FileSink, FakeSink}
+use Rattle.el_set.specs.declared.settings.Settings.TheVariants.{FileSrc, RampTestSrc, Identity, AudioConvert, Law, RawAudioParse, AudioBufferSplit, WavParse, WavEnc, CapsFilter, Queue as QueueSettings, FileSink, FakeSink}
 use Rattle.el_set.specs.declared.source.SourceElement.{SourceElement}
 use Rattle.el_set.specs.declared.source.SourceElement.TheVariants.{File, Ramp}
 use Rattle.el_set.proofs.Ends.{plain_no_flush}
 use Rattle.el_set.proofs.Elements.{put_is_plain}
+use Rattle.el_set.proofs.Lists.{list_read, plain_ramp}
 use Rattle.lane_core.specs.Room.{Limits}
 use Rattle.graph_core.specs.Elements.{Made}
 use Rattle.graph_core.specs.Links.{source_before}
@@ -124,9 +125,15 @@ module _ (contents : ℕ → List ℕ) (made : List Made) (links : List PadLink)
       → SourceGave content source owed given → IsPrefix given (list_of is.element.settings e (contents e))
   source_begins {S = S} content source owed e given is gave = go source gave is.told
     where
-      go : (one : SourceElement S) → SourceGave content one owed given → source_content content one ≡ Some (contents e) → IsPrefix given (list_of is.element.settings e (contents e))
-      go (File file) g told = prefix_by given _ (g.told (contents e) told ∙ ap (λ (f : List ℕ → List Item). f (contents e)) is.list)
-      go (Ramp ramp) g told = absurd (cc)
+      read : List ℕ
+      read = read_content is.element.settings (contents e)
+
+      owes : owed read ≡ list_of is.element.settings e (contents e)
+      owes = ap (λ (f : List ℕ → List Item). f read) is.list ∙ list_read is.element.settings e (contents e)
+
+      go : (one : SourceElement S) → SourceGave content one owed given → source_content content one ≡ Some read → IsPrefix given (list_of is.element.settings e (contents e))
+      go (File file) g told = prefix_by given _ (g.told read told ∙ owes)
+      go (Ramp ramp) g told = prefix_by given _ ((g read).whole ∙ owes)
 
   source_has : {S : Type 0} (content : S → Option (List ℕ)) (source : SourceElement S) (owed : List ℕ → List Item) (e : ℕ) (list given : List Item)
       → IsSourceOf made contents e (source_content content source) owed → SourceGave content source owed given → IsCrossed h e list → IsPrefix list given → ElementHas contents links h e (slice_get made e)
@@ -140,7 +147,14 @@ plain_blocks size start content (k ∷ ks) = (refl, λ e. cc, plain_blocks size 
 
 pub plain_list : (s : Settings) (id : ℕ) (content : List ℕ) → IsPlain (list_of s id content)
 plain_list (FileSrc s) id content = (refl, λ e. cc, (refl, λ e. cc, plain_blocks s.blocksize 0 content (range_with_len 0 (block_count s.blocksize 0 content - 0))))
+plain_list (RampTestSrc s) id content = plain_ramp s.ramp id
 plain_list Identity id content = tt
+plain_list (AudioConvert s) id content = tt
+plain_list (Law kind) id content = tt
+plain_list (RawAudioParse info) id content = tt
+plain_list (AudioBufferSplit s) id content = tt
+plain_list WavParse id content = tt
+plain_list WavEnc id content = tt
 plain_list (CapsFilter s) id content = tt
 plain_list (QueueSettings s) id content = tt
 plain_list (FileSink s) id content = tt

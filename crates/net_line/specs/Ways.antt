@@ -5,7 +5,7 @@ use Rattle.flow_model.specs.Rule.{Response, passes}
 use Rattle.flow_model.specs.Account.{IsMember}
 use Rattle.el_set.specs.Asked.{sink_pads}
 use Rattle.el_set.specs.Denoted.{response_of}
-use Rattle.el_set.specs.Made.{list_of}
+use Rattle.el_set.specs.Made.{list_of, read_content}
 use Rattle.el_set.specs.Gives.{source_content}
 use Rattle.graph_core.specs.Elements.{Made}
 use Rattle.graph_core.specs.Links.{source_before}
@@ -61,7 +61,7 @@ pub record IsSourceOf (made : List Made) (contents : ℕ → List ℕ) (e : ℕ)
   pub at : slice_get made e ≡ Some element
   pub none : sink_pads element.settings ≡ 0
   pub list : owed ≡ list_of element.settings e
-  pub told : content ≡ Some (contents e)
+  pub told : content ≡ Some (read_content element.settings (contents e))
 
 -- A queue of a graph passes all that comes. It takes from the lane into which the task before it sends, or from one into
 -- which none does.

@@ -1,11 +1,11 @@
 -- What the head of a task has given.
-use Rattle.std.specs.Prelude.{◌≡◌, ◌⊎◌, ℕ, ◌+◌, List, [], ◌∷◌, ◌++◌, Option, Some, None, Result, Ok, Err, option_map, true}
+use Rattle.std.specs.Prelude.{◌≡◌, ◌⊎◌, ℕ, ◌+◌, Bool, true, false, List, [], ◌∷◌, ◌++◌, Option, Some, None, Result, Ok, Err, is_some, option_map}
 use Rattle.flow_model.specs.Item.{Item}
 use Rattle.lane_core.specs.Lane.{Lane, IsIn}
 use Rattle.lane_core.specs.Moves.{raised}
 use Rattle.el_src.specs.declared.fault.SrcFault.{SrcFault}
 use Rattle.el_src.specs.Gave.{has_eos}
-use Rattle.el_set.specs.Gives.{SourceGave, SourceCause, source_items, source_faults, source_location, source_content}
+use Rattle.el_set.specs.Gives.{SourceGave, SourceCause, source_items, source_faults, source_file, source_location, source_content}
 use Rattle.task_core.specs.declared.head.Head.{Head}
 use Rattle.task_core.specs.declared.head.Head.TheVariants.{Source, Queue, Unlinked}
 use Rattle.task_core.specs.Inlets.{Fed, LaneGives, IsDrained, place_of, id_of, number_of, refusals_of}
@@ -75,6 +75,12 @@ abbrev pub head_content : {S I : Type 0} → (S → Option (List ℕ)) → Head 
 head_content content (Source source) = source_content content source
 head_content content (Queue inlets) = None
 head_content content Unlinked = None
+
+-- whether it is a source that reads a file
+abbrev pub head_reads : {S I : Type 0} → Head S I → Bool
+head_reads (Source source) = is_some (source_file source)
+head_reads (Queue inlets) = false
+head_reads Unlinked = false
 
 -- the lane of a queue is of the table
 abbrev pub HeadIn : {S I : Type 0} → (I → ℕ) → Head S I → Option (List Lane) → Type 0

@@ -23,7 +23,7 @@ use Rattle.task_core.specs.declared.stage.Stage.{Stage}
 use Rattle.task_core.specs.declared.head.Head.{Head}
 use Rattle.task_core.specs.declared.tail.Tail.{Tail}
 use Rattle.task_core.specs.Fault.{fault_of}
-use Rattle.task_core.specs.Head.{HeadLists, HeadGave, HeadIn, head_faults, head_place, head_number, head_id, head_location, head_content}
+use Rattle.task_core.specs.Head.{HeadLists, HeadGave, HeadIn, head_faults, head_place, head_number, head_id, head_location, head_content, head_reads}
 use Rattle.task_core.specs.Tail.{TailHas, TailPart, TailOf, IsOpen, tail_faults, tail_place, tail_number, tail_element, tail_id, tail_location, tail_limit, tail_len}
 use Rattle.task_core.specs.Pads.{Counts}
 use Rattle.task_core.specs.Stage.{StageList, StagesStand, StagesKeep, put_at, put_last, crossed_at, element_at, numbers_of, items_crossed, room_left, SameRules, AreIdle}
@@ -234,6 +234,7 @@ pub record Frame {S K I O : Type 0} (source_location content : S → Option (Lis
   pub sink_number : tail_element is.tail ≡ tail_element was.tail
   pub source : head_location source_location is.head ≡ head_location source_location was.head
   pub contents : head_content content is.head ≡ head_content content was.head
+  pub source_file : head_reads is.head ≡ head_reads was.head
   pub sink : tail_location sink_location is.tail ≡ tail_location sink_location was.tail
   pub inlet_number : head_number is.head ≡ head_number was.head
   pub outlet_number : tail_number is.tail ≡ tail_number was.tail

@@ -22,7 +22,7 @@ pub enum Head<S, I> {
 impl<S: Source, I: Inlet> Head<S, I> {
     ghost use Rattle.task_core.specs.Step.{idle_step};
     ghost use Rattle.task_core.specs.Inlets.{KeepsRooms};
-    ghost use Rattle.task_core.specs.Head.{HeadLists, HeadGave, HeadAfter, HeadIn, HeadCause, head_items, items_behind, head_faults, head_number, head_place, head_refusals, takes_behind, head_id, head_location, head_content};
+    ghost use Rattle.task_core.specs.Head.{HeadLists, HeadGave, HeadAfter, HeadIn, HeadCause, head_items, items_behind, head_faults, head_number, head_place, head_reads, head_refusals, takes_behind, head_id, head_location, head_content};
 
     /// The next item, if there is one now. Where it fails nothing was given.
     pub(crate) fn next(
@@ -44,6 +44,7 @@ impl<S: Source, I: Inlet> Head<S, I> {
         ensures id { head_id I.id self.new ≡ head_id I.id self.old }
         ensures location { head_location S.location self.new ≡ head_location S.location self.old }
         ensures content { head_content S.content self.new ≡ head_content S.content self.old }
+        ensures reads { head_reads self.new ≡ head_reads self.old }
     {
         match self {
             Head::Source(source) => match source.next(alloc) {

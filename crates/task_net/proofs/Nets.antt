@@ -72,6 +72,7 @@ module _ {S K I O : Type 0} (source_location content : S → Option (List ℕ)) 
     sink_number = refl;
     source = refl;
     contents = refl;
+    source_file = refl;
     sink = refl;
     inlet_number = refl;
     outlet_number = refl;
@@ -91,6 +92,7 @@ module _ {S K I O : Type 0} (source_location content : S → Option (List ℕ)) 
     sink_number = y.sink_number ∙ x.sink_number;
     source = y.source ∙ x.source;
     contents = y.contents ∙ x.contents;
+    source_file = y.source_file ∙ x.source_file;
     sink = y.sink ∙ x.sink;
     inlet_number = y.inlet_number ∙ x.inlet_number;
     outlet_number = y.outlet_number ∙ x.outlet_number;
@@ -434,9 +436,6 @@ moves_once was is (Err OutOfMemory) e = moves_by was is e
 moves_none : {S K I O : Type 0} (t : Task S K I O) → MovesOnce t t
 moves_none t = record { kept = omega arith; most = omega arith }
 
-pub none_moved : {S K I O : Type 0} (tasks : List (Task S K I O)) → EachMovesOnce tasks tasks
-none_moved {S = S} {K = K} {I = I} {O = O} tasks k before after e f = subst (λ (t : Task S K I O). MovesOnce before t) (some_same (sym e ∙ f)) (moves_none before)
-
 -- a net of which one task made a step
 pub once_set : {S K I O : Type 0} (tasks : List (Task S K I O)) (place : ℕ) (was is : Task S K I O) → slice_get tasks place ≡ Some was → MovesOnce was is → EachMovesOnce tasks (slice_set tasks place is)
 once_set {S = S} {K = K} {I = I} {O = O} tasks place was is at f k before after e e' =
@@ -447,13 +446,3 @@ once_set {S = S} {K = K} {I = I} {O = O} tasks place was is at f k before after 
     subst (λ (t : Task S K I O). MovesOnce before t) (sym two) (subst (λ (t : Task S K I O). MovesOnce t is) (sym one) f))
     (λ ne. subst (λ (t : Task S K I O). MovesOnce before t) (some_same (sym e ∙ sym (set_there tasks place k is ne) ∙ e')) (moves_none before))
     (cases_eq k place)
-
--- a step of a task that was not yet tried
-pub once_more : {S K I O : Type 0} (first tasks tasks' : List (Task S K I O)) (place : ℕ) → EachMovesOnce first tasks → ((k : ℕ) → place ≤ k → slice_get tasks k ≡ slice_get first k) → EachMovesOnce tasks tasks'
-    → ((k : ℕ) → k ≢ place → slice_get tasks' k ≡ slice_get tasks k) → EachMovesOnce first tasks'
-once_more first tasks tasks' place x rest y others k before after e e' =
-    ⊎_elim (λ here. y k before after (rest k (omega (arith, here)) ∙ e) e') (λ ne. x k before after e (sym (others k ne) ∙ e')) (cases_eq k place)
-
-pub rest_more : {S K I O : Type 0} (first tasks tasks' : List (Task S K I O)) (place : ℕ) → ((k : ℕ) → place ≤ k → slice_get tasks k ≡ slice_get first k)
-    → ((k : ℕ) → k ≢ place → slice_get tasks' k ≡ slice_get tasks k) → (k : ℕ) → place + 1 ≤ k → slice_get tasks' k ≡ slice_get first k
-rest_more first tasks tasks' place rest others k w = others k (λ e. omega (arith, w, e)) ∙ rest k (omega (arith, w))

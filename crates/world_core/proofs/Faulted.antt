@@ -11,9 +11,9 @@ use Rattle.flow_model.specs.Item.{Item, body_of}
 use Rattle.flow_model.specs.SinkBytes.{disk_after, sink_bytes}
 use Rattle.el_set.specs.Asked.{location_of}
 use Rattle.el_set.specs.Holds.{sink_faults as faults_of_sink, sink_file, sink_len}
-use Rattle.el_set.specs.Made.{file_for, keeps_flushed}
+use Rattle.el_set.specs.Made.{file_for, keeps_flushed, read_for}
 use Rattle.el_set.specs.declared.settings.Settings.{Settings}
-use Rattle.el_set.specs.declared.settings.Settings.TheVariants.{FileSrc, Identity, CapsFilter, Queue as QueueSettings, FileSink, FakeSink}
+use Rattle.el_set.specs.declared.settings.Settings.TheVariants.{FileSrc, RampTestSrc, Identity, AudioConvert, Law, RawAudioParse, AudioBufferSplit, WavParse, WavEnc, CapsFilter, Queue as QueueSettings, FileSink, FakeSink}
 use Rattle.el_set.specs.declared.sink.SinkElement.{SinkElement}
 use Rattle.el_set.specs.declared.sink.SinkElement.TheVariants as sinks
 use Rattle.el_set.specs.declared.source.SourceElement.TheVariants as sources
@@ -35,7 +35,7 @@ use Rattle.lane_core.specs.Room.{Limits}
 use Rattle.line_files.specs.Files.{WereTold, opening_of}
 use Rattle.line_net.specs.Along.{AreAlong, HeadAlong, TailAlong, is_source}
 use Rattle.line_net.proofs.Wiring.{also_there}
-use Rattle.line_start.specs.Start.{start_lists, writes}
+use Rattle.line_start.specs.Start.{reads, start_lists, writes}
 use Rattle.line_start.proofs.Along.{there}
 use Rattle.line_tasks.specs.Lanes.{lane_place}
 use Rattle.line_tasks.specs.Parts.{pairs_on}
@@ -55,7 +55,7 @@ use Rattle.task_core.specs.declared.pads.Pad.{Pad}
 use Rattle.task_core.specs.declared.tail.Tail.{Tail}
 use Rattle.task_core.specs.declared.tail.Tail.TheVariants as tails
 use Rattle.task_core.specs.declared.task.Task.{Task}
-use Rattle.task_core.specs.Head.{head_faults}
+use Rattle.task_core.specs.Head.{head_faults, head_reads}
 use Rattle.task_core.specs.declared.stage.Stage.{Stage}
 use Rattle.task_core.specs.Stage.{StageList, StagesStand, numbers_of, owes}
 use Rattle.task_core.specs.Tail.{IsOpen, TailHas, tail_element, tail_faults, tail_len}
@@ -66,12 +66,12 @@ use Rattle.world_core.specs.Ended.{EndsRefused, EndsTooLong, EndsUnlinked, EndsU
 use Rattle.world_core.specs.Owed.{AreWritten, IsPartWritten, IsWritten, Refuses, WantsLink, came_to, went_from}
 use Rattle.world_core.specs.Prepared.{HasRoom}
 use Rattle.world_core.specs.Ran.{KnownFailed, KnownHold, TellsEnd}
-use Rattle.world_core.specs.Start.{IsStarted, WritesEnd}
+use Rattle.world_core.specs.Start.{IsStarted, ReadsEnd, WritesEnd}
 use Rattle.world_core.specs.Told.{location_named, task_fault, task_status}
 use Rattle.world_core.specs.declared.ended.WorldEnd.{WorldEnd}
-use Rattle.line_tasks.specs.Making.{end_at, sink_end}
+use Rattle.line_tasks.specs.Making.{end_at, sink_end, source_end}
 use Rattle.world_core.proofs.Framed.{before_that}
-use Rattle.world_core.proofs.Started.{start_goes, start_sink}
+use Rattle.world_core.proofs.Started.{start_goes, start_sink, start_source}
 use Rattle.world_core.proofs.Given.{back, goes, pairs, read_at, written_on}
 use Rattle.world_core.proofs.Held.{held_at, part_at, run_goes, run_owes}
 use Rattle.world_core.proofs.Located.{reads_file, writes_file}
@@ -93,7 +93,14 @@ rose_zero before after rose = omega (arith, rose)
 -- the location of what an element opens
 location_opens : (s : Settings) (opening : Opening) → opening_of s ≡ Some opening → location_of s ≡ Some (location_in opening)
 location_opens (FileSrc s) opening h = ap (λ (o : Opening). Some (location_in o)) (some_same h)
+location_opens (RampTestSrc s) opening h = absurd (none_some h)
 location_opens Identity opening h = absurd (none_some h)
+location_opens (AudioConvert s) opening h = absurd (none_some h)
+location_opens (Law kind) opening h = absurd (none_some h)
+location_opens (RawAudioParse info) opening h = absurd (none_some h)
+location_opens (AudioBufferSplit s) opening h = absurd (none_some h)
+location_opens WavParse opening h = absurd (none_some h)
+location_opens WavEnc opening h = absurd (none_some h)
 location_opens (CapsFilter s) opening h = absurd (none_some h)
 location_opens (QueueSettings s) opening h = absurd (none_some h)
 location_opens (FileSink s) opening h = ap (λ (o : Opening). Some (location_in o)) (some_same h)
@@ -165,7 +172,14 @@ head_failures faults heads.Unlinked file n is told = absurd (none_some is)
 -- a sink whose calls failed writes a file, as it did from the start, and so does its element
 sink_writes : (x : Settings) → is_sink x ≡ true → (writes x ≡ true) ⊎ ((K : Type 0) (file : Option K) → file_for x file ≡ None)
 sink_writes (FileSrc x) h = absurd (cc)
+sink_writes (RampTestSrc x) h = absurd (cc)
 sink_writes Identity h = absurd (cc)
+sink_writes (AudioConvert s) h = absurd (cc)
+sink_writes (Law kind) h = absurd (cc)
+sink_writes (RawAudioParse info) h = absurd (cc)
+sink_writes (AudioBufferSplit s) h = absurd (cc)
+sink_writes WavParse h = absurd (cc)
+sink_writes WavEnc h = absurd (cc)
 sink_writes (CapsFilter x) h = absurd (cc)
 sink_writes (QueueSettings x) h = absurd (cc)
 sink_writes (FileSink x) h = inl refl
@@ -196,6 +210,43 @@ fails_writes {S = S} {K = K} {O = O} faults ends d m was is n place_out limits l
     by : (writes m.settings ≡ true) ⊎ ((T : Type 0) (file : Option T) → file_for m.settings file ≡ None) → writes m.settings ≡ true
     by (inl written_there) = written_there
     by (inr none) = absurd (both (sym (some_failed is failed) ∙ kept ∙ so_none was along start (λ file. none K file)))
+
+-- a source whose calls failed reads a file, as it did from the start, and so does its element
+source_reads : (x : Settings) → is_source x ≡ true → (reads x ≡ true) ⊎ ((S : Type 0) (file : Option S) → read_for x file ≡ None)
+source_reads (FileSrc x) h = inl refl
+source_reads (RampTestSrc x) h = inr (λ S file. refl)
+source_reads Identity h = absurd (cc)
+source_reads (AudioConvert x) h = absurd (cc)
+source_reads (Law kind) h = absurd (cc)
+source_reads (RawAudioParse info) h = absurd (cc)
+source_reads (AudioBufferSplit x) h = absurd (cc)
+source_reads WavParse h = absurd (cc)
+source_reads WavEnc h = absurd (cc)
+source_reads (CapsFilter x) h = absurd (cc)
+source_reads (QueueSettings x) h = absurd (cc)
+source_reads (FileSink x) h = absurd (cc)
+source_reads FakeSink h = absurd (cc)
+
+fails_reads : {S K I : Type 0} (faults : S → ℕ) (ends : List (Option (End S K))) (e : ℕ) (m : Made) (was is : Head S I) (n : ℕ) → is_source m.settings ≡ true → ReadsEnd ends e m was → head_reads is ≡ head_reads was → head_faults faults is ≡ Some n → reads m.settings ≡ true
+fails_reads {S = S} {K = K} {I = I} faults ends e m was is n source start kept failed = by (source_reads m.settings source)
+  where
+    so_none : (head : Head S I) → ReadsEnd ends e m head → ((file : Option S) → read_for m.settings file ≡ None) → head_reads head ≡ false
+    so_none (heads.Source one) reads_end none = ap is_some (reads_end ∙ none (source_end (end_at ends e)))
+    so_none (heads.Queue inlets) reads_end none = refl
+    so_none heads.Unlinked reads_end none = refl
+
+    some_failed : (head : Head S I) → head_faults faults head ≡ Some n → head_reads head ≡ true
+    some_failed (heads.Source (sources.File file)) told = refl
+    some_failed (heads.Source (sources.Ramp ramp)) told = absurd (none_some told)
+    some_failed (heads.Queue inlets) told = absurd (none_some told)
+    some_failed heads.Unlinked told = absurd (none_some told)
+
+    both : true ≡ false → ⊥
+    both h = cc
+
+    by : (reads m.settings ≡ true) ⊎ ((T : Type 0) (file : Option T) → read_for m.settings file ≡ None) → reads m.settings ≡ true
+    by (inl reads_there) = reads_there
+    by (inr none) = absurd (both (sym (some_failed is failed) ∙ kept ∙ so_none was start (λ file. none S file)))
 
 -- a head whose failures are told is that of a source
 head_source : {S I : Type 0} (faults : S → ℕ) (place_in : I → ℕ) (lane : ℕ → ℕ) (made : List Made) (links : List PadLink) (e n : ℕ) (head : Head S I) → HeadAlong place_in lane made links e head → head_faults faults head ≡ Some n → has is_source made e ≡ true
@@ -324,7 +375,9 @@ module _ {S K I O : Type 0} (source_location content : S → Option (List ℕ)) 
       let goes_here = the_goes.each place way.0 t way.1 at in
       let source = head_source source_faults place_in (lane_place made links) made links way.0.first second (head_of t) goes_here.head cause.1 in
       let m = there is_source (slice_get made way.0.first) source in
-      let file = reads_file m.0.settings m.2 in
+      let old = before_that source_location content sink_location place_in id_in place_out limits id_out tasks is framed same place t at in
+      let start = start_source source_location content source_faults sink_location bytes sink_faults received sent place_in place_out limits count_of graph tasks left tells before s place way.0 old.0 way.1 old.1 m.0 m.1 (head_of old.0) refl in
+      let file = reads_file m.0.settings (fails_reads source_faults s.ends way.0.first m.0 (head_of old.0) (head_of t) second m.2 start old.2.source_file cause.1) in
       let read = read_at source_location content source_faults sink_location bytes sink_faults received sent place_in id_in place_out limits count_of id_out graph tasks left tells before s is framed same way.0.first m.0 file.0 m.1 file.1 in
       let same_way = (alone made links s.ways (linked_once s.tree graph s.is) s.ways_are read.0 0 place 0 way.0.first read.1 stands_first).0 in
       let same_task = some_same (sym (subst (λ (n : ℕ). slice_get is n ≡ Some read.2) same_way read.3) ∙ at) in
@@ -504,6 +557,14 @@ module _ {S K I O : Type 0} (source_location content : S → Option (List ℕ)) 
           by (inl t) = absurd (ne t.1)
           by (inr f) = rw f.0 refl
 
+      -- what holds of the part at the sink, and of the whole at each other element, holds of all
+      chosen : (Holds : ℕ → List ℕ → Type 0) (hist_of : ℕ → List Item) (part : List ℕ) (c : ℕ) → Holds d part → (c ≢ d → Holds c (whole_bytes made links hist_of c)) → Holds c (part_bytes hist_of part c)
+      chosen Holds hist_of part c here there = by (eqb_tells c d)
+        where
+          by : ((eqb c d ≡ true) × (c ≡ d)) ⊎ ((eqb c d ≡ false) × (c ≡ d → ⊥)) → Holds c (part_bytes hist_of part c)
+          by (inl t) = rw t.0 (subst (λ (n : ℕ). Holds n part) (sym t.1) here)
+          by (inr f) = rw f.0 (there f.1)
+
       sink_same : {a b : ℕ} → ends_of.Sink a ≡ ends_of.Sink b → a ≡ b
       sink_same h = cc
 
@@ -523,15 +584,11 @@ module _ {S K I O : Type 0} (source_location content : S → Option (List ℕ)) 
           rendered source_location content source_faults sink_location bytes sink_faults received sent place_in id_in place_out limits count_of id_out graph tasks left tells before s is framed same pads none room contents told crossed end tell.pads_are tell.sinks_are
           (part_bytes hist_of body)
           (λ c x place_of_c c_at c_opens.
-          ⊎_elim
-          (λ is_d.
-          subst (λ (n : ℕ). HoldsNow (WriteFault d first second) other f contents told n (part_bytes hist_of body n)) (sym is_d)
-          (subst (λ (xs : List ℕ). HoldsNow (WriteFault d first second) other f contents told d xs) (sym (part_here hist_of body)) part.1))
+          chosen (HoldsNow (WriteFault d first second) other f contents told) hist_of body c part.1
           (λ ne.
-          subst (λ (xs : List ℕ). HoldsNow (WriteFault d first second) other f contents told c xs) (sym (part_there hist_of body c ne ∙ bytes_there made links hist_of c x c_at))
+          subst (HoldsNow (WriteFault d first second) other f contents told c) (sym (bytes_there made links hist_of c x c_at))
           (stands_held (WriteFault d first second) other f contents told c x place_of_c c_at c_opens
-          (λ ends_c. absurd (ne (sink_same (sym (ap (λ (w : Way). w.end) (some_same (sym ended.is ∙ ends_c.is)) ∙ ends_c.ends) ∙ ended.ends))))))
-          (cases_eq c d))
+          (λ ends_c. absurd (ne (sink_same (sym (ap (λ (w : Way). w.end) (some_same (sym ended.is ∙ ends_c.is)) ∙ ends_c.ends) ∙ ended.ends)))))))
           (λ h_of b. ((c : ℕ) → c ≢ d → IsWritten made links h_of b c) × IsPartWritten contents made links h_of b d m.0.settings) (
             λ c ne x c_at c_writes. part_there hist_of body c ne ∙ bytes_there made links hist_of c x c_at,
             record {

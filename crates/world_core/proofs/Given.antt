@@ -25,7 +25,7 @@ use Rattle.line_files.specs.Files.{made_opening, opening_of}
 use Rattle.line_files.proofs.Opened.{known_at, opened_at, place_of}
 use Rattle.line_net.specs.Along.{AreAlong, HeadAlong, TailAlong, is_source}
 use Rattle.line_net.proofs.Wiring.{also_there, queue_no_source, some_number}
-use Rattle.line_start.specs.Start.{writes}
+use Rattle.line_start.specs.Start.{reads, writes}
 use Rattle.line_start.proofs.Along.{asked_there, found_no_sink}
 use Rattle.line_start.proofs.Slots.{Leaves}
 use Rattle.line_tasks.specs.Lanes.{lane_place}
@@ -49,13 +49,13 @@ use Rattle.task_core.specs.Head.{head_location}
 use Rattle.task_core.specs.Tail.{tail_location}
 use Rattle.task_core.specs.Task.{head_of, last_of, stages_of, tail_of}
 use Rattle.task_net.specs.Net.{AllFramed}
-use Rattle.world_core.specs.Back.{first_in, fold_back, head_end, with_files, with_value}
+use Rattle.world_core.specs.Back.{first_in, fold_back, head_end, with_files, with_head}
 use Rattle.world_core.specs.Start.{IsStarted, ReadsEnd, WritesEnd}
 use Rattle.world_core.specs.Stops.{ArePaired}
-use Rattle.world_core.proofs.Backs.{fold_quiet, fold_size, fold_there, value_here, value_size}
+use Rattle.world_core.proofs.Backs.{fold_quiet, fold_size, fold_there}
 use Rattle.world_core.proofs.Framed.{along_kept, before_that, paired_kept}
 use Rattle.world_core.proofs.Left.{left_none, left_size, left_there}
-use Rattle.world_core.proofs.Located.{file_location, file_of_writer, head_file, head_quiet, reader_is, reads_file, sink_location_is, tail_puts, tail_quiet, tail_size, writer_is, writes_file}
+use Rattle.world_core.proofs.Located.{file_location, file_of_writer, head_file, head_puts, head_quiet, head_size, read_whole, reader_is, reads_file, sink_location_is, tail_puts, tail_quiet, tail_size, writer_is, writes_file}
 use Rattle.world_core.proofs.Numbers.{element_is}
 use Rattle.world_core.proofs.Started.{start_goes, start_paired, start_sink, start_source}
 
@@ -178,17 +178,15 @@ module _ {S K I O : Type 0} (source_location content : S → Option (List ℕ)) 
       some_number (first_in t) way.first (sym (element_is (stages_of t) (last_of t) way.first way.behind.items pair.0 pair.1 0 (omega arith)))
 
   files_size : (t : Task S K I O) (xs : List (Option (End S K))) → length (with_files made t xs) ≡ length xs
-  files_size t xs = tail_size made (tail_of t) (with_value (first_in t) (head_end (head_of t)) xs) ∙ value_size (first_in t) (head_end (head_of t)) xs
+  files_size t xs = tail_size made (tail_of t) (with_head made (first_in t) (head_of t) xs) ∙ head_size made (first_in t) (head_of t) xs
 
   -- a task leaves what is no file of its own
-  files_quiet : (e j : ℕ) (way : Way) (t : Task S K I O) → slice_get s.ways j ≡ Some way → slice_get is j ≡ Some t → (way.first ≡ e → has is_source made e ≡ true → ⊥) → (way.end ≡ ends_of.Sink e → has writes made e ≡ true → ⊥)
+  files_quiet : (e j : ℕ) (way : Way) (t : Task S K I O) → slice_get s.ways j ≡ Some way → slice_get is j ≡ Some t → (way.first ≡ e → has reads made e ≡ true → ⊥) → (way.end ≡ ends_of.Sink e → has writes made e ≡ true → ⊥)
       → (xs : List (Option (End S K))) → slice_get (with_files made t xs) e ≡ slice_get xs e
   files_quiet e j way t there at no_head no_tail xs =
       let one = goes.each j way t there at in
-      tail_quiet made place_out limits (lane_place made links) way.end (tail_of t) e (with_value (first_in t) (head_end (head_of t)) xs) one.tail no_tail
-      ∙ head_quiet made place_in (lane_place made links) links (first_in t) e (head_of t) xs
-      (subst (λ (n : ℕ). HeadAlong place_in (lane_place (made_in graph) (links_in graph)) (made_in graph) (links_in graph) n (head_of t)) (sym (first_is j way t there at)) one.head)
-      (λ at_first. no_head (sym (first_is j way t there at) ∙ at_first))
+      tail_quiet made place_out limits (lane_place made links) way.end (tail_of t) e (with_head made (first_in t) (head_of t) xs) one.tail no_tail
+      ∙ head_quiet made (first_in t) e (head_of t) xs (λ at_first. no_head (sym (first_is j way t there at) ∙ at_first))
 
   -- an element that reads a file is the first of a way
   source_way : (e : ℕ) (m : Made) → slice_get made e ≡ Some m → is_source m.settings ≡ true → (k : ℕ) × StandsAt s.ways k 0 e
@@ -208,13 +206,13 @@ module _ {S K I O : Type 0} (source_location content : S → Option (List ℕ)) 
   within e m at = subst (λ (n : ℕ). e < n) (sym size_left) (slice_get_within made e m at)
 
   -- where a head is that of a source, its location is that of the source's element
-  head_told : (e : ℕ) (location : List ℕ) (end : End S K) (head : Head S I) → HeadAlong place_in (lane_place made links) made links e head → ReadsEnd s.ends e head → end_at s.ends e ≡ Some end → known_end source_location content source_faults sink_location bytes sink_faults end ≡ fresh_end before (Read location) → has is_source made e ≡ true
+  head_told : (e : ℕ) (m : Made) (location : List ℕ) (end : End S K) (head : Head S I) → opening_of m.settings ≡ Some (Read location) → HeadAlong place_in (lane_place made links) made links e head → ReadsEnd s.ends e m head → end_at s.ends e ≡ Some end → known_end source_location content source_faults sink_location bytes sink_faults end ≡ fresh_end before (Read location) → has is_source made e ≡ true
       → head_location source_location head ≡ Some location
-  head_told e location (Src file) (heads.Source one) along reads there known source =
-      file_location source_location one file (reads ∙ ap source_end there) ∙ ap (λ (k : Known). k.location) known
-  head_told e location (Snk file) (heads.Source one) along reads there known source = absurd (let no = ap (λ (k : Known). k.is_sink) known in cc)
-  head_told e location end (heads.Queue inlets) along reads there known source = absurd (queue_no_source (slice_get made e) along.0 source)
-  head_told e location end heads.Unlinked along reads there known source = absurd (queue_no_source (slice_get made e) along.0 source)
+  head_told e m location (Src file) (heads.Source one) opens along reads there known source =
+      file_location source_location one file (reads ∙ read_whole m.settings location _ opens ∙ ap source_end there) ∙ ap (λ (k : Known). k.location) known
+  head_told e m location (Snk file) (heads.Source one) opens along reads there known source = absurd (let no = ap (λ (k : Known). k.is_sink) known in cc)
+  head_told e m location end (heads.Queue inlets) opens along reads there known source = absurd (queue_no_source (slice_get made e) along.0 source)
+  head_told e m location end heads.Unlinked opens along reads there known source = absurd (queue_no_source (slice_get made e) along.0 source)
 
   -- what the head of a task reads has the location of its element
   head_at : (k : ℕ) (way : Way) (t : Task S K I O) (m : Made) (location : List ℕ) → slice_get s.ways k ≡ Some way → slice_get is k ≡ Some t → slice_get made way.first ≡ Some m → opening_of m.settings ≡ Some (Read location) → head_location source_location (head_of t) ≡ Some location
@@ -222,8 +220,8 @@ module _ {S K I O : Type 0} (source_location content : S → Option (List ℕ)) 
       let old = before_that source_location content sink_location place_in id_in place_out limits id_out tasks is framed same k t at in
       let end = opened_at source_location content source_faults sink_location bytes sink_faults made s.ends before s.opened s.opens way.first m (Read location) is_m opens in
       old.2.source
-      ∙ head_told way.first location end.0 (head_of old.0) (old_goes.each k way old.0 there old.1).head
-      (start_source source_location content source_faults sink_location bytes sink_faults received sent place_in place_out limits count graph tasks left tells before s k way old.0 there old.1 (head_of old.0) refl) end.1 end.2
+      ∙ head_told way.first m location end.0 (head_of old.0) opens (old_goes.each k way old.0 there old.1).head
+      (start_source source_location content source_faults sink_location bytes sink_faults received sent place_in place_out limits count graph tasks left tells before s k way old.0 there old.1 m is_m (head_of old.0) refl) end.1 end.2
       (asked_there is_source (slice_get made way.first) m is_m (reader_is m.settings location opens).0)
 
   -- the file of a source is at the number of its element
@@ -235,6 +233,7 @@ module _ {S K I O : Type 0} (source_location content : S → Option (List ℕ)) 
       let task = also_there is s.ways stands.0 stands.1.way goes.size stands.1.is in
       let first : stands.1.way.first ≡ e = some_number stands.1.way.first e stands.1.at in
       let file = head_file {K = K} source_location (head_of task.0) location (head_at stands.0 stands.1.way task.0 m location stands.1.is task.1 (subst (λ (n : ℕ). slice_get made n ≡ Some m) (sym first) at) opens) in
+      let reading : has reads made e ≡ true = asked_there reads (slice_get made e) m at kind.3 in
       let no_tail : has writes made e ≡ true → ⊥ = asked_no writes (slice_get made e) m at kind.2 in
       let one = goes.each stands.0 stands.1.way task.0 stands.1.is task.1 in (
         stands.0,
@@ -246,8 +245,8 @@ module _ {S K I O : Type 0} (source_location content : S → Option (List ℕ)) 
         file.2,
         fold_there (with_files made) files_size e (Some (Src file.0)) is left stands.0 task.0 task.1 (within e m at)
             (λ ys w.
-            tail_quiet made place_out limits (lane_place made links) stands.1.way.end (tail_of task.0) e (with_value (first_in task.0) (head_end (head_of task.0)) ys) one.tail (λ ends writing. no_tail writing)
-            ∙ subst (λ (n : ℕ). slice_get (with_value n (head_end (head_of task.0)) ys) e ≡ Some (Some (Src file.0))) (sym (first_is stands.0 stands.1.way task.0 stands.1.is task.1 ∙ first)) (value_here e (head_end (head_of task.0)) (Some (Src file.0)) ys file.1 w))
+            tail_quiet made place_out limits (lane_place made links) stands.1.way.end (tail_of task.0) e (with_head made (first_in task.0) (head_of task.0) ys) one.tail (λ ends writing. no_tail writing)
+            ∙ subst (λ (n : ℕ). slice_get (with_head made n (head_of task.0) ys) e ≡ Some (Some (Src file.0))) (sym (first_is stands.0 stands.1.way task.0 stands.1.is task.1 ∙ first)) (head_puts made e (head_of task.0) file.0 ys reading file.1 w))
             (λ j u ne there.
             let way = way_at j u there in
             files_quiet e j way.0 u way.1 there
@@ -286,7 +285,7 @@ module _ {S K I O : Type 0} (source_location content : S → Option (List ℕ)) 
         puts.4,
         puts.5,
         fold_there (with_files made) files_size d (Some (Snk puts.2)) is left k t there (within d m at)
-            (λ ys w. puts.6 (with_value (first_in t) (head_end (head_of t)) ys) (subst (λ (n : ℕ). d < n) (sym (value_size (first_in t) (head_end (head_of t)) ys)) w))
+            (λ ys w. puts.6 (with_head made (first_in t) (head_of t) ys) (subst (λ (n : ℕ). d < n) (sym (head_size made (first_in t) (head_of t) ys)) w))
             (λ j u ne at_j.
             let way = way_at j u at_j in
             files_quiet d j way.0 u way.1 at_j
@@ -345,10 +344,10 @@ module _ {S K I O : Type 0} (source_location content : S → Option (List ℕ)) 
       (λ ends writing. no_writer writing))
       ∙ none_place left e (within e m at) (left_none content bytes received sent place_in made s.parts s.ends tasks left s.made e none_there)
     where
-      no_reader : has is_source made e ≡ true → ⊥
-      no_reader source = by_kind m.settings (sym (ap (λ (o : Option Made). option_map_or (λ (x : Made). is_source x.settings) o false) at) ∙ source) opens
+      no_reader : has reads made e ≡ true → ⊥
+      no_reader source = by_kind m.settings (sym (ap (λ (o : Option Made). option_map_or (λ (x : Made). reads x.settings) o false) at) ∙ source) opens
         where
-          by_kind : (x : Settings) → is_source x ≡ true → opening_of x ≡ None → ⊥
+          by_kind : (x : Settings) → reads x ≡ true → opening_of x ≡ None → ⊥
           by_kind x h none = none_some (sym none ∙ (reads_file x h).1)
 
       no_writer : has writes made e ≡ true → ⊥

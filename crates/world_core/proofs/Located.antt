@@ -5,9 +5,9 @@ use Rattle.std.specs.Option.{option_map}
 use Rattle.std.proofs.lemmas.Bool.{cases_eq}
 use Rattle.el_set.specs.Gives.{source_file, source_location as location_in}
 use Rattle.el_set.specs.Holds.{sink_file, sink_location as location_at}
-use Rattle.el_set.specs.Made.{file_for}
+use Rattle.el_set.specs.Made.{file_for, read_for}
 use Rattle.el_set.specs.declared.settings.Settings.{Settings}
-use Rattle.el_set.specs.declared.settings.Settings.TheVariants.{FileSrc, Identity, CapsFilter, Queue as QueueSettings, FileSink, FakeSink}
+use Rattle.el_set.specs.declared.settings.Settings.TheVariants.{FileSrc, RampTestSrc, Identity, AudioConvert, Law, RawAudioParse, AudioBufferSplit, WavParse, WavEnc, CapsFilter, Queue as QueueSettings, FileSink, FakeSink}
 use Rattle.el_set.specs.declared.sink.SinkElement.{SinkElement}
 use Rattle.el_set.specs.declared.sink.SinkElement.TheVariants as sinks
 use Rattle.el_set.specs.declared.source.SourceElement.{SourceElement}
@@ -22,7 +22,7 @@ use Rattle.graph_ways.specs.declared.way.End.TheVariants as ends_of
 use Rattle.lane_core.specs.Room.{Limits}
 use Rattle.line_files.specs.Files.{opening_of}
 use Rattle.line_net.specs.Along.{HeadAlong, TailAlong, is_source}
-use Rattle.line_start.specs.Start.{writes}
+use Rattle.line_start.specs.Start.{reads, writes}
 use Rattle.run_files.specs.declared.end.End.{End}
 use Rattle.run_files.specs.declared.end.End.TheVariants.{Src, Snk}
 use Rattle.run_files.specs.declared.end.Opening.TheVariants.{Read, Write}
@@ -32,7 +32,7 @@ use Rattle.task_core.specs.declared.tail.Tail.{Tail}
 use Rattle.task_core.specs.declared.tail.Tail.TheVariants as tails
 use Rattle.task_core.specs.Head.{head_location}
 use Rattle.task_core.specs.Tail.{tail_location}
-use Rattle.world_core.specs.Back.{head_end, with_tail, with_value}
+use Rattle.world_core.specs.Back.{head_end, with_head, with_tail, with_value}
 use Rattle.world_core.proofs.Backs.{value_here, value_size, value_there}
 
 none_some : {A : Type 0} {a : A} → None ≡ Some a → ⊥
@@ -42,26 +42,63 @@ both_ways : {b : Bool} → b ≡ true → b ≡ false → ⊥
 both_ways t f = absurd (cc)
 
 -- what opens a file
-pub reads_file : (s : Settings) → is_source s ≡ true → (location : List ℕ) × (opening_of s ≡ Some (Read location))
+pub reads_file : (s : Settings) → reads s ≡ true → (location : List ℕ) × (opening_of s ≡ Some (Read location))
 reads_file (FileSrc s) h = (s.location, refl)
+reads_file (RampTestSrc s) h = absurd (cc)
 reads_file Identity h = absurd (cc)
+reads_file (AudioConvert s) h = absurd (cc)
+reads_file (Law kind) h = absurd (cc)
+reads_file (RawAudioParse info) h = absurd (cc)
+reads_file (AudioBufferSplit s) h = absurd (cc)
+reads_file WavParse h = absurd (cc)
+reads_file WavEnc h = absurd (cc)
 reads_file (CapsFilter s) h = absurd (cc)
 reads_file (QueueSettings s) h = absurd (cc)
 reads_file (FileSink s) h = absurd (cc)
 reads_file FakeSink h = absurd (cc)
 
+-- what is read of a file is all of it
+pub read_whole : {S : Type 0} (s : Settings) (location : List ℕ) (file : Option S) → opening_of s ≡ Some (Read location) → read_for s file ≡ file
+read_whole (FileSrc s) location file opens = refl
+read_whole (RampTestSrc s) location file opens = absurd (cc)
+read_whole Identity location file opens = absurd (cc)
+read_whole (AudioConvert s) location file opens = absurd (cc)
+read_whole (Law kind) location file opens = absurd (cc)
+read_whole (RawAudioParse info) location file opens = absurd (cc)
+read_whole (AudioBufferSplit s) location file opens = absurd (cc)
+read_whole WavParse location file opens = absurd (cc)
+read_whole WavEnc location file opens = absurd (cc)
+read_whole (CapsFilter s) location file opens = absurd (cc)
+read_whole (QueueSettings s) location file opens = absurd (cc)
+read_whole (FileSink s) location file opens = absurd (cc)
+read_whole FakeSink location file opens = absurd (cc)
+
 pub writes_file : (s : Settings) → writes s ≡ true → (location : List ℕ) × (opening_of s ≡ Some (Write location))
 writes_file (FileSrc s) h = absurd (cc)
+writes_file (RampTestSrc s) h = absurd (cc)
 writes_file Identity h = absurd (cc)
+writes_file (AudioConvert s) h = absurd (cc)
+writes_file (Law kind) h = absurd (cc)
+writes_file (RawAudioParse info) h = absurd (cc)
+writes_file (AudioBufferSplit s) h = absurd (cc)
+writes_file WavParse h = absurd (cc)
+writes_file WavEnc h = absurd (cc)
 writes_file (CapsFilter s) h = absurd (cc)
 writes_file (QueueSettings s) h = absurd (cc)
 writes_file (FileSink s) h = (s.location, refl)
 writes_file FakeSink h = absurd (cc)
 
 -- and what kind of element does
-pub reader_is : (s : Settings) (location : List ℕ) → opening_of s ≡ Some (Read location) → (is_source s ≡ true) × (is_sink s ≡ false) × (writes s ≡ false)
-reader_is (FileSrc s) location h = (refl, refl, refl)
+pub reader_is : (s : Settings) (location : List ℕ) → opening_of s ≡ Some (Read location) → (is_source s ≡ true) × (is_sink s ≡ false) × (writes s ≡ false) × (reads s ≡ true)
+reader_is (FileSrc s) location h = (refl, refl, refl, refl)
+reader_is (RampTestSrc s) location h = absurd (cc)
 reader_is Identity location h = absurd (cc)
+reader_is (AudioConvert s) location h = absurd (cc)
+reader_is (Law kind) location h = absurd (cc)
+reader_is (RawAudioParse info) location h = absurd (cc)
+reader_is (AudioBufferSplit s) location h = absurd (cc)
+reader_is WavParse location h = absurd (cc)
+reader_is WavEnc location h = absurd (cc)
 reader_is (CapsFilter s) location h = absurd (cc)
 reader_is (QueueSettings s) location h = absurd (cc)
 reader_is (FileSink s) location h = absurd (cc)
@@ -69,7 +106,14 @@ reader_is FakeSink location h = absurd (cc)
 
 pub writer_is : (s : Settings) (location : List ℕ) → opening_of s ≡ Some (Write location) → (writes s ≡ true) × (is_sink s ≡ true) × (is_source s ≡ false)
 writer_is (FileSrc s) location h = absurd (cc)
+writer_is (RampTestSrc s) location h = absurd (cc)
 writer_is Identity location h = absurd (cc)
+writer_is (AudioConvert s) location h = absurd (cc)
+writer_is (Law kind) location h = absurd (cc)
+writer_is (RawAudioParse info) location h = absurd (cc)
+writer_is (AudioBufferSplit s) location h = absurd (cc)
+writer_is WavParse location h = absurd (cc)
+writer_is WavEnc location h = absurd (cc)
 writer_is (CapsFilter s) location h = absurd (cc)
 writer_is (QueueSettings s) location h = absurd (cc)
 writer_is (FileSink s) location h = (refl, refl, refl)
@@ -78,7 +122,14 @@ writer_is FakeSink location h = absurd (cc)
 -- a filesink's file is that which it is given
 pub file_of_writer : {K : Type 0} (s : Settings) (file : Option K) → writes s ≡ true → file_for s file ≡ file
 file_of_writer (FileSrc s) file h = absurd (cc)
+file_of_writer (RampTestSrc s) file h = absurd (cc)
 file_of_writer Identity file h = absurd (cc)
+file_of_writer (AudioConvert s) file h = absurd (cc)
+file_of_writer (Law kind) file h = absurd (cc)
+file_of_writer (RawAudioParse info) file h = absurd (cc)
+file_of_writer (AudioBufferSplit s) file h = absurd (cc)
+file_of_writer WavParse file h = absurd (cc)
+file_of_writer WavEnc file h = absurd (cc)
 file_of_writer (CapsFilter s) file h = absurd (cc)
 file_of_writer (QueueSettings s) file h = absurd (cc)
 file_of_writer (FileSink s) file h = refl
@@ -152,9 +203,21 @@ module _ {S K O : Type 0} (made : List Made) where
       )
 
 module _ {S K I : Type 0} (made : List Made) where
+  pub head_size : (first : ℕ) (head : Head S I) (xs : List (Option (End S K))) → length (with_head made first head xs) ≡ length xs
+  head_size first head xs = by (has reads made first)
+    where
+      by : (b : Bool) → length (if b then with_value first (head_end head) xs else xs) ≡ length xs
+      by true = value_size first (head_end head) xs
+      by false = refl
+
   -- a head leaves what is no file of its own
-  pub head_quiet : (place_in : I → ℕ) (lane : ℕ → ℕ) (links : List PadLink) (first e : ℕ) (head : Head S I) (xs : List (Option (End S K))) → HeadAlong place_in lane made links first head → (first ≡ e → has is_source made e ≡ true → ⊥) → slice_get (with_value first (head_end head) xs) e ≡ slice_get xs e
-  head_quiet place_in lane links first e (heads.Source one) xs goes quiet =
-      ⊎_elim (λ same. absurd (quiet same (subst (λ (n : ℕ). has is_source made n ≡ true) same goes))) (λ other. value_there first e (head_end {S = S} {K = K} {I = I} (heads.Source one)) xs other) (cases_eq first e)
-  head_quiet place_in lane links first e (heads.Queue inlets) xs goes quiet = refl
-  head_quiet place_in lane links first e heads.Unlinked xs goes quiet = refl
+  pub head_quiet : (first e : ℕ) (head : Head S I) (xs : List (Option (End S K))) → (first ≡ e → has reads made e ≡ true → ⊥) → slice_get (with_head made first head xs) e ≡ slice_get xs e
+  head_quiet first e head xs quiet = by (has reads made first) refl
+    where
+      by : (b : Bool) → has reads made first ≡ b → slice_get (if b then with_value first (head_end head) xs else xs) e ≡ slice_get xs e
+      by true reading = ⊎_elim (λ same. absurd (quiet same (subst (λ (n : ℕ). has reads made n ≡ true) same reading))) (λ other. value_there first e (head_end {S = S} {K = K} {I = I} head) xs other) (cases_eq first e)
+      by false reading = refl
+
+  -- a head puts its file at its element's number
+  pub head_puts : (e : ℕ) (head : Head S I) (file : S) (xs : List (Option (End S K))) → has reads made e ≡ true → head_end {S = S} {K = K} head ≡ Some (Some (Src file)) → e < length xs → slice_get (with_head made e head xs) e ≡ Some (Some (Src file))
+  head_puts e head file xs reading is within = rw reading (value_here e (head_end {S = S} {K = K} {I = I} head) (Some (Src file)) xs is within)

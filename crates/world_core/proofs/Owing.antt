@@ -13,7 +13,8 @@ use Rattle.flow_model.proofs.Sections.{owed_for_prefix}
 use Rattle.el_set.specs.Asked.{is_filter, is_queue}
 use Rattle.el_set.specs.Denoted.{response_of}
 use Rattle.el_set.specs.Gives.{SourceGave, source_content}
-use Rattle.el_set.specs.Made.{list_of}
+use Rattle.el_set.specs.Made.{list_of, read_content}
+use Rattle.el_set.proofs.Lists.{list_read}
 use Rattle.el_set.specs.declared.source.SourceElement.{SourceElement}
 use Rattle.el_set.specs.declared.source.SourceElement.TheVariants.{File, Ramp}
 use Rattle.graph_core.specs.Elements.{Made}
@@ -138,10 +139,13 @@ module _ {S K I O : Type 0} (content : S → Option (List ℕ)) (received : I �
   pub none_to_sink : (d : ℕ) → has is_sink made d ≡ true → ((k : ℕ) → WayEnds ways k (AtSink d) → ⊥) → came_to links history d ≡ []
   none_to_sink d sink away = none_before d (λ k place c stands leads. away k (ends_at_sink made links ways ways_are k place c d stands leads sink))
 
+  source_owes : (e : ℕ) (m : Made) → slice_get made e ≡ Some m → (owed : List ℕ → List Item) (element : Made) → slice_get made e ≡ Some element → owed ≡ list_of element.settings e → owed (read_content element.settings (contents e)) ≡ list_of m.settings e (contents e)
+  source_owes e m at owed element there list =
+      ap (λ (f : List ℕ → List Item). f (read_content element.settings (contents e))) list ∙ list_read element.settings e (contents e) ∙ ap (λ (x : Made). list_of x.settings e (contents e)) (same_one element m there at)
+
   source_begins : (e : ℕ) (m : Made) → slice_get made e ≡ Some m → (one : SourceElement S) (owed : List ℕ → List Item) (given : List Item) → SourceGave content one owed given → IsOwed made contents e (source_content content one) owed → IsPrefix given (list_of m.settings e (contents e))
-  source_begins e m at (File file) owed given gave owes =
-      prefix_by given _ (gave.told (contents e) owes.told ∙ ap (λ (f : List ℕ → List Item). f (contents e)) owes.list ∙ ap (λ (x : Made). list_of x.settings e (contents e)) (same_one owes.element m owes.at at))
-  source_begins e m at (Ramp ramp) owed given gave owes = absurd (none_some owes.told)
+  source_begins e m at (File file) owed given gave owes = prefix_by given _ (gave.told (read_content owes.element.settings (contents e)) owes.told ∙ source_owes e m at owed owes.element owes.at owes.list)
+  source_begins e m at (Ramp ramp) owed given gave owes = prefix_by given _ ((gave (read_content owes.element.settings (contents e))).whole ∙ source_owes e m at owed owes.element owes.at owes.list)
 
   -- a queue gave a beginning of what crossed the pad before it
   queue_begins : (e : ℕ) → has is_queue made e ≡ true → (k : ℕ) (s : StandsAt ways k 0 e) (t : Task S K I O) → slice_get tasks k ≡ Some t → Ending ways e → IsPrefix (crossed.lists k).head.given (came_to links history e)

@@ -2,7 +2,7 @@
 use Rattle.std.proofs.Common.{◌≡◌, ◌<◌, ℕ, true, List, Option, None, Some, sym, ap, ◌∙◌, subst}
 use Rattle.std.specs.Prelude.{slice_get}
 use Rattle.flow_model.specs.Item.{Item}
-use Rattle.el_set.specs.Made.{file_for}
+use Rattle.el_set.specs.Made.{file_for, read_for}
 use Rattle.graph_core.specs.Elements.{Made}
 use Rattle.graph_core.specs.Graph.{made as made_in, links as links_in}
 use Rattle.graph_core.specs.declared.graph.Graph.{Graph}
@@ -105,8 +105,8 @@ module _ {S K I O : Type 0} (source_location content : S → Option (List ℕ)) 
       (ap numbers_of one.stages ∙ own.numbers, one.last ∙ own.last_is)
 
   -- a source reads the end of its element
-  pub start_source : (k : ℕ) (way : Way) (task : Task S K I O) → slice_get s.ways k ≡ Some way → slice_get tasks k ≡ Some task → (head : Head S I) → head_of task ≡ head → ReadsEnd s.ends way.first head
-  start_source k way task at there head same =
+  pub start_source : (k : ℕ) (way : Way) (task : Task S K I O) → slice_get s.ways k ≡ Some way → slice_get tasks k ≡ Some task → (m : Made) → slice_get made way.first ≡ Some m → (head : Head S I) → head_of task ≡ head → ReadsEnd s.ends way.first m head
+  start_source k way task at there m m_at head same =
       let one = made_of k way at task there in
       let own = own_of k way at in
       let leaves = leaves_first content bytes received sent place_in place_out limits count made links s.ways s.parts s.table s.parts_are once s.ways_are k way at in
@@ -114,8 +114,9 @@ module _ {S K I O : Type 0} (source_location content : S → Option (List ℕ)) 
       (subst (λ (x : Head S I). HeadMade content received place_in made way.first (part_of k way at).0.inlet (source_end (end_at one.0 way.first)) x) same
       (subst (λ (n : ℕ). HeadMade content received place_in made n (part_of k way at).0.inlet (source_end (end_at one.0 n)) (head_of task)) own.first one.1.head)) (one.2 way.first leaves)
     where
-      by : (at_that : List (Option (End S K))) (inlet : Option I) (head : Head S I) → HeadMade content received place_in made way.first inlet (source_end (end_at at_that way.first)) head → end_at at_that way.first ≡ end_at s.ends way.first → ReadsEnd s.ends way.first head
-      by at_that None (heads.Source one) h kept = h.2.3 ∙ ap source_end kept
+      by : (at_that : List (Option (End S K))) (inlet : Option I) (head : Head S I) → HeadMade content received place_in made way.first inlet (source_end (end_at at_that way.first)) head → end_at at_that way.first ≡ end_at s.ends way.first → ReadsEnd s.ends way.first m head
+      by at_that None (heads.Source one) h kept =
+          h.2.3 ∙ ap (λ (x : Made). read_for x.settings (source_end (end_at at_that way.first))) (same_one h.0 m h.1 m_at) ∙ ap (λ (end : Option (End S K)). read_for m.settings (source_end end)) kept
       by at_that None (heads.Queue inlets) h kept = tt
       by at_that None heads.Unlinked h kept = tt
       by at_that (Some lane) (heads.Source one) h kept = absurd h

@@ -4,7 +4,7 @@ use Rattle.el_set.specs.Gives.{source_file}
 use Rattle.el_set.specs.Holds.{sink_file, sink_len}
 use Rattle.graph_core.specs.Elements.{Made}
 use Rattle.graph_ways.specs.Ways.{has}
-use Rattle.line_start.specs.Start.{writes}
+use Rattle.line_start.specs.Start.{reads, writes}
 use Rattle.run_files.specs.declared.end.End.{End}
 use Rattle.run_files.specs.declared.end.End.TheVariants.{Src, Snk}
 use Rattle.task_core.specs.declared.head.Head.{Head}
@@ -26,6 +26,10 @@ head_end (heads.Source one) = option_map (λ file. Some (Src file)) (source_file
 head_end (heads.Queue inlets) = None
 head_end heads.Unlinked = None
 
+-- the ends with the file of a head whose element reads one
+abbrev pub with_head : {S K I : Type 0} → List Made → ℕ → Head S I → List (Option (End S K)) → List (Option (End S K))
+with_head made first head ends = if has reads made first then with_value first (head_end head) ends else ends
+
 -- the ends with the file of a tail whose element writes one
 abbrev pub with_tail : {S K O : Type 0} → List Made → Tail K O → List (Option (End S K)) → List (Option (End S K))
 with_tail made (tails.Sink d sink) ends = if has writes made d then with_value d (option_map (λ file. Some (Snk file)) (sink_file sink)) ends else ends
@@ -38,7 +42,7 @@ first_in task = element_at (stages_of task) (last_of task) 0
 
 -- the ends with the files of a task
 abbrev pub with_files : {S K I O : Type 0} → List Made → Task S K I O → List (Option (End S K)) → List (Option (End S K))
-with_files made task ends = with_tail made (tail_of task) (with_value (first_in task) (head_end (head_of task)) ends)
+with_files made task ends = with_tail made (tail_of task) (with_head made (first_in task) (head_of task) ends)
 
 -- the lengths of files with that of a tail's
 abbrev pub tail_length : {K O : Type 0} → Tail K O → List ℕ → List ℕ

@@ -1,5 +1,5 @@
 -- What a run of a line takes the memory for before a file is open.
-use Rattle.std.specs.Prelude.{◌≡◌, ◌<◌, ◌≤◌, ℕ, List, Option, Some, length, map, slice_get}
+use Rattle.std.specs.Prelude.{◌≡◌, ◌<◌, ◌≤◌, ℕ, All, List, Option, Some, length, map, slice_get}
 use Rattle.flow_model.specs.Item.{Item}
 use Rattle.graph_core.specs.Graph.{made as made_in, links as links_in}
 use Rattle.graph_core.specs.declared.graph.Graph.{Graph}
@@ -9,7 +9,7 @@ use Rattle.lane_core.specs.Lane.{Lane}
 use Rattle.lane_core.specs.Room.{Limits}
 use Rattle.line_files.specs.Files.{made_opening}
 use Rattle.line_net.specs.Pads.{AreUncounted}
-use Rattle.line_tasks.specs.Parts.{AreParts}
+use Rattle.line_tasks.specs.Parts.{AreParts, IsTitled}
 use Rattle.line_tasks.specs.declared.part.Part.{Part}
 use Rattle.run_files.specs.declared.end.Opening.{Opening}
 use Rattle.task_core.specs.declared.pads.Pad.{Pad}
@@ -32,5 +32,6 @@ pub record IsPrepared {I O : Type 0} (received : I → List Item → Type 0) (se
   pub ways : List Way
   pub ways_are : AreWays (made_in graph) (links_in graph) ways
   pub parts_are : AreParts place_in received place_out limits count sent (made_in graph) (links_in graph) ways parts table
+  pub titled : All (IsTitled (made_in graph)) parts
   pub room : HasRoom (length (made_in graph)) pads lengths
   pub openings_are : openings ≡ map made_opening (made_in graph)

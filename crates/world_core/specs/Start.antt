@@ -3,7 +3,7 @@ use Rattle.std.specs.Prelude.{◌≡◌, ℕ, List, Option, Some}
 use Rattle.flow_model.specs.Item.{Item}
 use Rattle.el_set.specs.Gives.{source_file}
 use Rattle.el_set.specs.Holds.{sink_file}
-use Rattle.el_set.specs.Made.{file_for}
+use Rattle.el_set.specs.Made.{file_for, read_for}
 use Rattle.graph_core.specs.Elements.{Made}
 use Rattle.graph_core.specs.Graph.{IsGraph, IsSound, made as made_in, links as links_in}
 use Rattle.graph_core.specs.declared.graph.Graph.{Graph}
@@ -24,11 +24,11 @@ use Rattle.task_core.specs.declared.tail.Tail.{Tail}
 use Rattle.task_core.specs.declared.tail.Tail.TheVariants as tails
 use Rattle.task_core.specs.declared.task.Task.{Task}
 
--- a source reads the end of the element of a number
-abbrev pub ReadsEnd : {S K I : Type 0} → List (Option (End S K)) → ℕ → Head S I → Type 0
-ReadsEnd ends e (heads.Source one) = source_file one ≡ source_end (end_at ends e)
-ReadsEnd ends e (heads.Queue inlets) = Unit {0}
-ReadsEnd ends e heads.Unlinked = Unit {0}
+-- a source reads the end of the element of a number, where that reads one
+abbrev pub ReadsEnd : {S K I : Type 0} → List (Option (End S K)) → ℕ → Made → Head S I → Type 0
+ReadsEnd ends e m (heads.Source one) = source_file one ≡ read_for m.settings (source_end (end_at ends e))
+ReadsEnd ends e m (heads.Queue inlets) = Unit {0}
+ReadsEnd ends e m heads.Unlinked = Unit {0}
 
 -- a sink writes the end of the element of a number, where that writes one
 abbrev pub WritesEnd : {S K O : Type 0} → List (Option (End S K)) → ℕ → Made → Tail K O → Type 0

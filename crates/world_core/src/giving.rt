@@ -2,8 +2,8 @@
 ghost use Rattle.std.specs.Prelude.{◌≡◌, slice_set};
 ghost use Rattle.graph_core.specs.Graph.{made as made_in};
 ghost use Rattle.graph_ways.specs.Ways.{has};
-ghost use Rattle.line_start.specs.Start.{writes};
-ghost use Rattle.world_core.specs.Back.{first_in, fold_back, head_end, tail_length, with_files, with_length, with_tail, with_value};
+ghost use Rattle.line_start.specs.Start.{reads, writes};
+ghost use Rattle.world_core.specs.Back.{first_in, fold_back, head_end, tail_length, with_files, with_head, with_length, with_tail};
 ghost use Rattle.task_core.specs.Task.{head_of, tail_of};
 
 use graph_core::Graph;
@@ -34,6 +34,17 @@ fn put<T: Drop>(list: &mut Vec<T>, place: u32, value: T)
     }
 }
 
+/// Whether the element of this number reads a file.
+fn reads_file(graph: &Graph, element: u32) -> bool
+    ensures { result ≡ has reads (made_in graph.now) element }
+{
+    if element >= graph.count() {
+        return false;
+    }
+    let settings = graph.settings(element);
+    settings.is_source() && settings.location().is_some()
+}
+
 /// Whether the element of this number writes a file.
 fn writes_file(graph: &Graph, element: u32) -> bool
     ensures { result ≡ has writes (made_in graph.now) element }
@@ -47,12 +58,16 @@ fn writes_file(graph: &Graph, element: u32) -> bool
 
 /// Puts the file of a head at the number of its element.
 fn give_head<S: Source, K: Sink, I: Inlet>(
+    graph: &Graph,
     head: Head<S, I>,
     first: u32,
     ends: &mut Vec<Option<End<S, K>>>,
 )
-    ensures { ends.new.items ≡ with_value first (head_end head) ends.old.items }
+    ensures { ends.new.items ≡ with_head (made_in graph.now) first head ends.old.items }
 {
+    if !reads_file(graph, first) {
+        return;
+    }
     if let Head::Source(source) = head {
         if let Some(file) = source.into_source() {
             put(ends, first, Some(End::Src(file)));
@@ -101,7 +116,7 @@ fn give_task<S: Source, K: Sink, I: Inlet<Out = O>, O: Outlet<Lanes = I::Lanes>>
 {
     let first = first_of(&task);
     let (head, tail) = task.into_ends();
-    give_head(head, first, ends);
+    give_head(graph, head, first, ends);
     give_length(&tail, lengths);
     give_tail(graph, tail, ends);
 }

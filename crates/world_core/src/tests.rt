@@ -138,6 +138,93 @@ fn rows(rt: HostRuntime) -> Result<(), Fail> {
     Ok(())
 }
 
+/// Each row: the bytes at `a`; behind a colon the line; the lines of its report; and the bytes at `b`. A byte is two digits.
+const AUDIO: &str = "\
+: ramptestsrc num-buffers=1 rate=44100 ! audio/x-raw,rate=8000 ! fakesink => status 10 NotNegotiated / fault caps capsfilter0 offered audio/x-raw, channels=(int)1, format=(string)S16LE, layout=(string)interleaved, rate=(int)44100 wanted audio/x-raw, rate=(int)8000 / pad ramptestsrc0.src items 1 buffers 0 / pad capsfilter0.src items 1 buffers 0 / b=
+: ramptestsrc num-buffers=1 rate=44100 ! audio/x-raw,rate=8000;audio/x-raw,rate=44100 ! fakesink => status 0 Eos / pad ramptestsrc0.src items 5 buffers 1 / pad capsfilter0.src items 5 buffers 1 / b=
+: ramptestsrc num-buffers=1 samplesperbuffer=9 rate=8000 ! mulawenc ! filesink location=b => status 0 Eos / pad ramptestsrc0.src items 5 buffers 1 / pad mulawenc0.src items 5 buffers 1 / sink filesink0 bytes 9 / b=FFFFFFFFFEFEFEFEFE
+: ramptestsrc num-buffers=1 samplesperbuffer=3 rate=8000 ! audioconvert ! audio/x-raw,format=S24LE,channels=2 ! filesink location=b => status 0 Eos / pad ramptestsrc0.src items 5 buffers 1 / pad audioconvert0.src items 5 buffers 1 / pad capsfilter0.src items 5 buffers 1 / sink filesink0 bytes 18 / b=000000000000000100000100000200000200
+: ramptestsrc num-buffers=1 samplesperbuffer=3 rate=8000 ! audioconvert ! audio/x-raw,rate=44100 ! fakesink => status 10 NotNegotiated / fault caps audioconvert0 offered audio/x-raw, channels=(int)1, format=(string)S16LE, layout=(string)interleaved, rate=(int)8000 wanted audio/x-raw, rate=(int)44100 / pad ramptestsrc0.src items 1 buffers 0 / pad audioconvert0.src items 1 buffers 0 / pad capsfilter0.src items 1 buffers 0 / b=
+: ramptestsrc num-buffers=2 samplesperbuffer=2 ! audioconvert ! queue ! identity ! audio/x-raw,format=U8 ! filesink location=b => status 0 Eos / pad ramptestsrc0.src items 6 buffers 2 / pad audioconvert0.src items 6 buffers 2 / pad queue0.src items 6 buffers 2 / pad identity0.src items 6 buffers 2 / pad capsfilter0.src items 6 buffers 2 / sink filesink0 bytes 4 / b=80808080
+: ramptestsrc num-buffers=2 samplesperbuffer=1 channels=2 gap-every=2 title=x ! filesink location=b => status 0 Eos / pad ramptestsrc0.src items 7 buffers 1 / sink filesink0 bytes 4 / b=00000000
+: ramptestsrc num-buffers=0 ! filesink location=b => status 0 Eos / pad ramptestsrc0.src items 4 buffers 0 / sink filesink0 bytes 0 / b=
+: ramptestsrc num-buffers=1 samplesperbuffer=3 ! alawenc ! alawdec ! filesink location=b => status 0 Eos / pad ramptestsrc0.src items 5 buffers 1 / pad alawenc0.src items 5 buffers 1 / pad alawdec0.src items 5 buffers 1 / sink filesink0 bytes 6 / b=080008000800
+0000FF7F0080FFFF0100: filesrc location=a ! rawaudioparse num-channels=1 sample-rate=8000 ! mulawenc ! filesink location=b => status 0 Eos / pad filesrc0.src items 4 buffers 1 / pad rawaudioparse0.src items 5 buffers 1 / pad mulawenc0.src items 5 buffers 1 / sink filesink0 bytes 5 / b=FF80007FFF
+0000FFFFFF7F0080: filesrc location=a ! rawaudioparse num-channels=1 sample-rate=8000 ! alawenc ! filesink location=b => status 0 Eos / pad filesrc0.src items 4 buffers 1 / pad rawaudioparse0.src items 5 buffers 1 / pad alawenc0.src items 5 buffers 1 / sink filesink0 bytes 4 / b=D555AA2A
+01000200: filesrc location=a ! rawaudioparse num-channels=1 sample-rate=8000 ! wavenc ! filesink location=b => status 0 Eos / pad filesrc0.src items 4 buffers 1 / pad rawaudioparse0.src items 5 buffers 1 / pad wavenc0.src items 8 buffers 3 / sink filesink0 bytes 48 / b=524946462800000057415645666D74201000000001000100401F0000803E000002001000646174610400000001000200
+010002: filesrc location=a ! rawaudioparse num-channels=1 sample-rate=8000 ! filesink location=b => status 0 Eos / pad filesrc0.src items 4 buffers 1 / pad rawaudioparse0.src items 5 buffers 1 / sink filesink0 bytes 2 / b=0100
+01000200030004000500: filesrc location=a blocksize=2 ! rawaudioparse num-channels=1 sample-rate=8000 ! audiobuffersplit frames=4 ! filesink location=b => status 0 Eos / pad filesrc0.src items 8 buffers 5 / pad rawaudioparse0.src items 9 buffers 5 / pad audiobuffersplit0.src items 6 buffers 2 / sink filesink0 bytes 10 / b=01000200030004000500
+6162: filesrc location=a ! mulawenc ! fakesink => status 10 NotNegotiated / fault caps mulawenc0 offered none wanted audio/x-raw, channels=(int)[ 1, 64 ], format=(string)S16LE, layout=(string)interleaved, rate=(int)[ 1, 768000 ] / pad filesrc0.src items 2 buffers 0 / pad mulawenc0.src items 2 buffers 0 / b=
+524946462800000057415645666D74201000000001000100401F0000803E000002001000646174610400000001000200: filesrc location=a ! wavparse name=w ! filesink name=o location=b => status 0 Eos / pad filesrc0.src items 4 buffers 1 / pad w.src items 5 buffers 1 / sink o bytes 4 / b=01000200
+524946462800000057415645666D74201000000001000100401F0000803E00000200100064617461040000: filesrc location=a ! wavparse name=w ! filesink name=o location=b => status 9 BadStream / fault stream w place 43 Short / pad filesrc0.src items 3 buffers 1 / pad w.src items 1 buffers 0 / sink o bytes 0 / b=
+524946582800000057415645666D74201000000001000100401F0000803E000002001000646174610400000001000200: filesrc location=a ! wavparse name=w ! filesink name=o location=b => status 9 BadStream / fault stream w place 3 NotRiff / pad filesrc0.src items 2 buffers 0 / pad w.src items 1 buffers 0 / sink o bytes 0 / b=
+524946462800000057415645666D74201000000001000100401F0000C05D000003001000646174610400000001000200: filesrc location=a ! wavparse name=w ! filesink name=o location=b => status 9 BadStream / fault stream w place 20 BadFmt / pad filesrc0.src items 2 buffers 0 / pad w.src items 1 buffers 0 / sink o bytes 0 / b=
+524946462800000057415645666D74201000000001000100401F0000803E000002001000646174619001000001000200: filesrc location=a ! wavparse name=w ! filesink name=o location=b => status 0 Eos / pad filesrc0.src items 4 buffers 1 / pad w.src items 5 buffers 1 / sink o bytes 4 / b=01000200
+524946462800000057415645666D74201000000001000100401F0000803E00000200100064617461FFFFFFFF01000200: filesrc location=a ! wavparse name=w ! filesink name=o location=b => status 0 Eos / pad filesrc0.src items 4 buffers 1 / pad w.src items 5 buffers 1 / sink o bytes 4 / b=01000200
+524946462800000057415645666D74201000000001000100401F0000803E0000020010006461746104000000010002: filesrc location=a ! wavparse name=w ! filesink name=o location=b => status 0 Eos / pad filesrc0.src items 4 buffers 1 / pad w.src items 5 buffers 1 / sink o bytes 2 / b=0100
+524946462800000057415645666D74201000000001000100401F0000803E000002001000646174610400000001000200: filesrc location=a blocksize=7 ! wavparse name=w ! filesink name=o location=b => status 0 Eos / pad filesrc0.src items 10 buffers 7 / pad w.src items 5 buffers 1 / sink o bytes 4 / b=01000200";
+
+/// The bytes that some digits stand for.
+fn bytes_of(alloc: Global, digits: &str) -> Result<Vec<u8>, Fail> {
+    let mut bytes = Vec::new(alloc);
+    let (pairs, _) = digits.as_bytes().as_chunks::<2>();
+    for pair in pairs {
+        bytes.push(digit_of(pair[0]) << 4 | digit_of(pair[1]))?;
+    }
+    Ok(bytes)
+}
+
+/// The number of a digit.
+fn digit_of(digit: u8) -> u8 {
+    if digit < b'A' {
+        digit % 16
+    } else {
+        digit % 16 + 9
+    }
+}
+
+/// Puts bytes, two digits each.
+fn put_digits(into: &mut String, bytes: &[u8]) -> Result<(), Fail> {
+    for byte in bytes {
+        into.push(digit_for(*byte / 16))?;
+        into.push(digit_for(*byte % 16))?;
+    }
+    Ok(())
+}
+
+/// The digit of a number.
+fn digit_for(number: u8) -> char {
+    match char::from_digit(u32::from(number), 16) {
+        Some(digit) => digit.to_ascii_uppercase(),
+        None => '?',
+    }
+}
+
+/// What came of the run of a line of audio, and what is to come of it.
+fn check_audio(rt: &impl Abort, alloc: Global, row: &str) -> Result<(), Fail> {
+    let (left, wanted) = row.split_once(" => ").ok_or("a row")?;
+    let (digits, line) = left.split_once(": ").ok_or("a line")?;
+    let mut files = MemFiles::new(alloc);
+    files.add_input(alloc, "a", bytes_of(alloc, digits)?.as_slice(), &[], &[])?;
+    files.add_output(alloc, "b", 4096, &[], &[])?;
+    let mut row = String::new(alloc);
+    put_run(alloc, &mut row, line, &mut files, listed(alloc, "")?)?;
+    row.push_str("b=")?;
+    put_digits(&mut row, files.output_bytes("b"))?;
+    assert!(rt; row.as_str() == wanted, "{left}: {row}");
+    assert_eq!(rt; files.ends(), 0);
+    Ok(())
+}
+
+#[test]
+fn lines_of_audio(rt: HostRuntime) -> Result<(), Fail> {
+    let alloc = rt.alloc();
+    for row in AUDIO.lines() {
+        check_audio(&rt, alloc, row)?;
+    }
+    Ok(())
+}
+
 /// A line whose lanes are full again and again.
 const NARROW: &str =
     "filesrc location=a blocksize=1 ! queue max-size-buffers=1 ! identity ! queue max-size-buffers=2 ! filesink location=b";
