@@ -1,5 +1,5 @@
 //! Rows of calls, with what they answer and put out.
-ghost use Rattle.std.specs.Prelude.{◌≡◌, false, IfOk};
+ghost use Rattle.std.specs.Prelude.{◌≡◌, ◌≢◌, false, IfOk};
 ghost use Rattle.flow_model.specs.Item.{Ev, is_flush_stop};
 
 use crate::WavParse;
@@ -24,7 +24,13 @@ const PARSED: &str =
 +/04000000:43 eos -> + short:43 :
 +5249 +4658 -> + riff:3 :
 +52494646280000005741564566 +6d74201000000001000100401f0000803e000003001000 -> + fmt:20 :
++524946462800000058 -> wave:8 :
++52494646280000005741564658 -> wave:11 :
++5249464628000000574156456461 +7461 -> + nofmt:12 :
++52494646280000005741564566 +6d7420100000000200 -> + tag:20 :
++5249464628000000574156454c495354ffffffff eos -> head:12 short:0 :
 +/007d000001000200 eos -> + + : caps=S16LE,8000,1 time=0 +01000200,0,0,250000 eos
++/04000000010002 eos -> + + : caps=S16LE,8000,1 time=0 +0100,0,0,125000 eos
 +/ffffffff01000200 +0300 eos -> + + + : caps=S16LE,8000,1 time=0 +01000200,0,0,250000 +0300,2,250000,125000 eos
 +/0400000001 +00020003 +0400 eos -> + + + + : caps=S16LE,8000,1 time=0 +01000200,0,0,250000 eos
 @ +/0400000001000200 @ bytes=46 +02000300 eos -> - + 50,44 + + + : caps=S16LE,8000,1 time=0 +01000200,0,0,250000 time=125000 +0200,1,125000,125000 eos
@@ -114,7 +120,11 @@ fn event_by(alloc: Global, word: &str) -> Result<Event, Fail>
 fn tell_kind(kind: StreamKind) -> &'static str {
     match kind {
         StreamKind::NotRiff => "riff",
+        StreamKind::NotWave => "wave",
+        StreamKind::NoFmt => "nofmt",
         StreamKind::BadFmt => "fmt",
+        StreamKind::TagUnknown => "tag",
+        StreamKind::HeadTooLong => "head",
         StreamKind::Short => "short",
         _ => "other",
     }
@@ -274,6 +284,66 @@ fn parses(rt: HostRuntime) -> Result<(), Fail> {
     let alloc = rt.alloc();
     for line in PARSED.lines() {
         check_parser(&rt, alloc, line)?;
+    }
+    Ok(())
+}
+
+/// A file of the front, a size of its data and so many bytes of data.
+fn file_of(alloc: Global, size: u32, count: u32) -> Result<Vec<u8>, Fail> {
+    let mut bytes = Vec::new(alloc);
+    bytes_by(alloc, FRONT, &mut bytes)?;
+    bytes.extend_from_slice(&size.to_le_bytes())?;
+    for place in 0..count {
+        bytes.push((place % 251) as u8)?;
+    }
+    Ok(bytes)
+}
+
+/// The bytes of the buffers that are put out for a file in blocks of a size.
+fn data_of(rt: &impl Abort, alloc: Global, file: &[u8], block: usize) -> Result<Vec<u8>, Fail>
+    requires { block ≢ 0 }
+{
+    let mut parser = WavParse::new();
+    let mut out = List::new(alloc);
+    for bytes in file.chunks(block) {
+        let item = buffer_of(alloc, Vec::from_slice(alloc, bytes)?)?;
+        assert!(rt; parser.feed(alloc, 0, item, &mut out).is_ok());
+    }
+    let end = Item::Event(Event::Eos);
+    assert!(rt; parser.feed(alloc, 0, end, &mut out).is_ok());
+    let mut data = Vec::new(alloc);
+    for one in out.as_slice() {
+        if let Item::Buffer(buffer) = &one.item {
+            data.extend_from_slice(buffer.body.as_slice())?;
+        }
+    }
+    Ok(data)
+}
+
+/// A file of 8000 frames gives the same bytes in blocks of any size, whatever its head says of the size of its data,
+/// and where it is cut or goes on behind the data.
+#[test]
+fn blocks(rt: HostRuntime) -> Result<(), Fail> {
+    let alloc = rt.alloc();
+    let rows = [
+        (16_000, 16_000, 16_044),
+        (32_000, 16_000, 16_044),
+        (u32::MAX, 16_000, 16_044),
+        (0, 16_000, 16_044),
+        (16_000, 15_001, 15_044),
+        (16_000, 16_009, 16_044),
+        (15_999, 16_000, 16_042),
+    ];
+    for (size, count, end) in rows {
+        let file = file_of(alloc, size, count)?;
+        for block in [1, 7, 4096, 1_048_576] {
+            assert!(rt; block != 0);
+            let data = data_of(&rt, alloc, &file, block)?;
+            assert!(rt;
+                file.get(44..end) == Some(data.as_slice()),
+                "{count} bytes of {size} in blocks of {block}"
+            );
+        }
     }
     Ok(())
 }

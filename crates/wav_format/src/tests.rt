@@ -1,4 +1,5 @@
 use super::*;
+use std::alloc::Global;
 use std::test::*;
 
 /// The head of a mono file of 4 bytes of data, S16LE at 8000 Hz.
@@ -53,9 +54,21 @@ fn changed(changes: &[(usize, u8)]) -> [u8; 44] {
 
 #[test]
 fn reads_changed_heads(rt: HostRuntime) {
-    let rows: [(&[(usize, u8)], HeadAnswer); 17] = [
+    let rows: [(&[(usize, u8)], HeadAnswer); 24] = [
+        (&[(0, b'r'), (3, b'X')], bad(0, WavKind::NotRiff)),
         (&[(3, b'X')], bad(3, WavKind::NotRiff)),
+        (&[(8, b'w')], bad(8, WavKind::NotWave)),
         (&[(10, b'W')], bad(10, WavKind::NotWave)),
+        (&[(11, b'X')], bad(11, WavKind::NotWave)),
+        (&[(4, 0)], HeadAnswer::Whole(mono(Some(4)))),
+        (
+            &[(4, 0xFF), (5, 0xFF), (6, 0xFF), (7, 0xFF)],
+            HeadAnswer::Whole(mono(Some(4))),
+        ),
+        (
+            &[(28, 0xFF), (29, 0xFF), (30, 0xFF), (31, 0xFF)],
+            HeadAnswer::Whole(mono(Some(4))),
+        ),
         (&[(32, 3)], bad(20, WavKind::BadFmt)),
         (&[(40, 0)], HeadAnswer::Whole(mono(None))),
         (
@@ -65,6 +78,13 @@ fn reads_changed_heads(rt: HostRuntime) {
         (&[(22, 0)], bad(20, WavKind::BadFmt)),
         (&[(22, 65), (32, 130)], bad(20, WavKind::BadFmt)),
         (&[(24, 0), (25, 0)], bad(20, WavKind::BadFmt)),
+        (
+            &[(24, 1), (25, 0)],
+            HeadAnswer::Whole(Head {
+                rate: 1,
+                ..mono(Some(4))
+            }),
+        ),
         (&[(26, 12)], bad(20, WavKind::BadFmt)),
         (
             &[(22, 64), (32, 128)],
@@ -145,21 +165,104 @@ fn reads_past_chunks(rt: HostRuntime) -> Result<(), Fail> {
     }
     assert_eq!(rt; last, HeadAnswer::Whole(head));
     assert_eq!(rt; reader.bytes(), bytes.as_slice());
-    for (len, want) in [
-        (12, 16),
-        (20, 28),
-        (24, 28),
-        (48, 56),
-        (57, 58),
-        (80, 81),
-        (81, 82),
-        (82, 104),
-        (103, 104),
-    ] {
-        if let Some(front) = bytes.as_slice().get(..len) {
-            assert_eq!(rt; read_head(front), HeadAnswer::NeedMore(want), "at {len}");
+    let lengths: [u64; 104] = [
+        1, 2, 3, 4, 9, 9, 9, 9, 9, 10, 11, 12, 16, 20, 20, 20, 20, 20, 20, 20, 28, 28, 28, 28, 28,
+        32, 32, 32, 32, 32, 32, 32, 33, 34, 35, 36, 39, 39, 39, 40, 45, 45, 45, 45, 45, 46, 47, 48,
+        56, 56, 56, 56, 56, 56, 56, 56, 57, 58, 59, 60, 63, 63, 63, 64, 69, 69, 69, 69, 69, 70, 71,
+        72, 81, 81, 81, 81, 81, 81, 81, 81, 81, 82, 104, 104, 104, 104, 104, 104, 104, 104, 104,
+        104, 104, 104, 104, 104, 104, 104, 104, 104, 104, 104, 104, 104,
+    ];
+    let mut reader = HeadReader::new(rt.alloc());
+    for (len, want) in lengths.iter().enumerate() {
+        let answer = HeadAnswer::NeedMore(*want);
+        assert!(rt; len < bytes.len());
+        assert_eq!(rt; read_head(&bytes[..len]), answer, "at {len}");
+        if len > 0 {
+            assert_eq!(rt; reader.read(&bytes[len - 1..len])?, answer, "at {len}");
         }
     }
+    Ok(())
+}
+
+/// A head with a `fmt ` chunk of the size, of which the numbers are those of a mono file, S16LE at 8000 Hz.
+fn sized(alloc: Global, tag: u16, size: u8) -> Result<Vec<u8>, Fail> {
+    let mut body = [0u8; 42];
+    body[..16].copy_from_slice(&MONO[20..36]);
+    [body[0], body[1]] = tag.to_le_bytes();
+    body[24] = 1;
+    let mut bytes = Vec::new(alloc);
+    bytes.extend_from_slice(&MONO[..16])?;
+    bytes.extend_from_slice(&[size, 0, 0, 0])?;
+    for byte in body.iter().take(usize::from(size) + usize::from(size % 2)) {
+        bytes.push(*byte)?;
+    }
+    bytes.extend_from_slice(&MONO[36..])?;
+    Ok(bytes)
+}
+
+#[test]
+fn knows_sizes_of_formats(rt: HostRuntime) -> Result<(), Fail> {
+    // tag, size of the body; where the data begins
+    let rows: [(u16, u8, Option<u64>); 10] = [
+        (1, 0, None),
+        (1, 14, None),
+        (1, 15, None),
+        (1, 16, Some(44)),
+        (1, 17, Some(46)),
+        (1, 18, Some(46)),
+        (0xFFFE, 16, None),
+        (0xFFFE, 39, None),
+        (0xFFFE, 40, Some(68)),
+        (0xFFFE, 41, Some(70)),
+    ];
+    for (tag, size, start) in rows {
+        let want = match start {
+            None => bad(20, WavKind::BadFmt),
+            Some(start) => HeadAnswer::Whole(Head {
+                start,
+                ..mono(Some(4))
+            }),
+        };
+        let bytes = sized(rt.alloc(), tag, size)?;
+        assert_eq!(rt; read_head(&bytes), want, "tag {tag}, size {size}");
+    }
+    Ok(())
+}
+
+/// The heads of a `fmt ` chunk and of a chunk of the size behind it.
+fn followed(alloc: Global, size: u32) -> Result<Vec<u8>, Fail> {
+    let mut bytes = Vec::new(alloc);
+    bytes.extend_from_slice(&MONO[..36])?;
+    bytes.extend_from_slice(b"LIST")?;
+    bytes.extend_from_slice(&size.to_le_bytes())?;
+    Ok(bytes)
+}
+
+#[test]
+fn ends_within_the_limit(rt: HostRuntime) -> Result<(), Fail> {
+    let rows = [
+        (16_777_163, HeadAnswer::NeedMore(16_777_216)),
+        (16_777_164, HeadAnswer::NeedMore(16_777_216)),
+        (16_777_165, bad(16_777_210, WavKind::HeadTooLong)),
+        (16_777_166, bad(16_777_210, WavKind::HeadTooLong)),
+        (16_777_172, bad(16_777_216, WavKind::HeadTooLong)),
+        (16_777_173, bad(36, WavKind::HeadTooLong)),
+        (u32::MAX, bad(36, WavKind::HeadTooLong)),
+    ];
+    for (size, want) in rows {
+        assert_eq!(rt; read_head(&followed(rt.alloc(), size)?), want, "{size}");
+    }
+    let mut bytes = followed(rt.alloc(), 16_777_164)?;
+    let body = vec![in rt.alloc(); 0u8; 16_777_164]?;
+    bytes.extend_from_slice(&body)?;
+    bytes.extend_from_slice(&MONO[36..])?;
+    assert_eq!(rt;
+        read_head(&bytes),
+        HeadAnswer::Whole(Head {
+            start: 16_777_216,
+            ..mono(Some(4))
+        })
+    );
     Ok(())
 }
 
@@ -196,6 +299,79 @@ fn knows_codings(rt: HostRuntime) {
             read_head(&changed(&[(20, tag), (34, bits), (32, align)])),
             want
         );
+    }
+}
+
+/// What is wrong with a tag and these bits, in a `fmt ` body of which all else is right.
+fn coding_fault(tag: u16, bits: u16) -> Option<WavKind> {
+    match (tag, bits) {
+        (1, 8 | 16 | 24 | 32) | (6 | 7, 8) => None,
+        _ => Some(WavKind::TagUnknown),
+    }
+}
+
+/// The answer to a mono head of this tag and these bits, whose data begins at `start`.
+fn coded(tag: u16, bits: u16, start: u64, fault: Option<WavKind>) -> HeadAnswer {
+    match fault {
+        Some(kind) => bad(20, kind),
+        None => HeadAnswer::Whole(Head {
+            tag,
+            bits,
+            start,
+            ..mono(Some(4))
+        }),
+    }
+}
+
+/// Bits of a sample, and the block align of one channel of them.
+const WIDTHS: [(u8, u8); 5] = [(8, 1), (16, 2), (24, 3), (32, 4), (40, 5)];
+
+#[test]
+fn knows_all_tags(rt: HostRuntime) {
+    let mut bytes = MONO;
+    for (bits, align) in WIDTHS {
+        bytes[32] = align;
+        bytes[34] = bits;
+        let bits = u16::from(bits);
+        for tag in 0..=u16::MAX {
+            [bytes[20], bytes[21]] = tag.to_le_bytes();
+            let fault = match tag {
+                0xFFFE => Some(WavKind::BadFmt),
+                _ => coding_fault(tag, bits),
+            };
+            assert_eq!(rt;
+                read_head(&bytes),
+                coded(tag, bits, 44, fault),
+                "tag {tag} of {bits} bits"
+            );
+        }
+    }
+}
+
+/// The head of a mono file of 4 bytes of data in the extensible form, with the true tag 0 and no bits.
+const EXTENDED: [u8; 68] = [
+    0x52, 0x49, 0x46, 0x46, 0x40, 0x00, 0x00, 0x00, 0x57, 0x41, 0x56, 0x45, 0x66, 0x6D, 0x74, 0x20,
+    0x28, 0x00, 0x00, 0x00, 0xFE, 0xFF, 0x01, 0x00, 0x40, 0x1F, 0x00, 0x00, 0x80, 0x3E, 0x00, 0x00,
+    0x00, 0x00, 0x00, 0x00, 0x16, 0x00, 0x01, 0x00, 0x03, 0x00, 0x00, 0x00, 0x00, 0x00, 0x00, 0x00,
+    0x00, 0x00, 0x10, 0x00, 0x80, 0x00, 0x00, 0xAA, 0x00, 0x38, 0x9B, 0x71, 0x64, 0x61, 0x74, 0x61,
+    0x04, 0x00, 0x00, 0x00,
+];
+
+#[test]
+fn knows_all_true_tags(rt: HostRuntime) {
+    let mut bytes = EXTENDED;
+    for (bits, align) in WIDTHS {
+        bytes[32] = align;
+        bytes[34] = bits;
+        let bits = u16::from(bits);
+        for tag in 0..=u16::MAX {
+            [bytes[44], bytes[45]] = tag.to_le_bytes();
+            assert_eq!(rt;
+                read_head(&bytes),
+                coded(tag, bits, 68, coding_fault(tag, bits)),
+                "true tag {tag} of {bits} bits"
+            );
+        }
     }
 }
 
