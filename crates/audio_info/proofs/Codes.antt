@@ -1,20 +1,12 @@
 -- From a held magnitude to the code.
-use Rattle.std.proofs.Common.{◌≡◌, ◌<◌, ◌≤◌, ℕ, ◌+◌, ◌-◌, ◌*◌, ◌/◌, ◌%◌, ◌^◌, ℤ, pos, negsuc, max, min, ◌<ℤ◌, ◌≤ℤ◌, arith, bit_or, bit_xor, unsigned_abs, zero-add, refl, ap, sym, ◌∙◌, subst, inl, inr}
+use Rattle.std.proofs.Common.{◌≡◌, ◌<◌, ℕ, ◌+◌, ◌-◌, ◌^◌, ℤ, pos, negsuc, min, ◌<ℤ◌, ◌≤ℤ◌, arith, bit_or, bit_xor, unsigned_abs, zero-add, refl, ap, sym, ◌∙◌, subst}
 use Rattle.std.proofs.Math.Numerals.{add-one}
-use Rattle.std.proofs.Math.Nat.{pow-le-pow_right}
-use Rattle.std.proofs.lemmas.Bool.{cases_lt}
 use Rattle.std.proofs.lemmas.Int.{ints}
 use Rattle.std.proofs.lemmas.Nat.{or_shifted, xor_of_8}
 use Rattle.std.specs.Int.Bits.{xor_assoc, xor_self, xor_zero_r}
-use Rattle.audio_info.specs.Segments.{mulaw_segments, mulaw_magnitude, mulaw_code, alaw_segments, alaw_magnitude, alaw_inverted, alaw_code, Holds, HoldsMuLaw, HoldsALaw}
-use Rattle.audio_info.proofs.Intervals.{mulaw_finds, alaw_finds, interval_only, mulaw_holds, alaw_holds}
-
--- the place of the highest bit of a biased magnitude
-pub highest_bit : (r m : ℕ) → 2 ^ r ≤ m → m < 2 * 2 ^ r → 128 ≤ m → m < 2 ^ 15 → (7 ≤ r) × (r < 15)
-highest_bit r m low high least most = (
-  elim (cases_lt r 7) [ inl h ↦ (let p : 2 ^ r ≤ 2 ^ 6 = pow-le-pow_right {n = 2} (omega arith) {i = r} {j = 6} (omega arith) in absurd (omega (arith, p))) | inr h ↦ h ],
-  elim (cases_lt r 15) [ inl h ↦ h | inr h ↦ (let p : 2 ^ 15 ≤ 2 ^ r = pow-le-pow_right {n = 2} (omega arith) {i = 15} {j = r} (omega arith) in absurd (omega (arith, p))) ],
-)
+use Rattle.audio_info.specs.Segments.{mulaw_segments, mulaw_magnitude, mulaw_code, alaw_segments, alaw_magnitude, alaw_inverted, alaw_code, interval_of, Holds, HoldsMuLaw, HoldsALaw}
+use Rattle.audio_info.proofs.Intervals.{mulaw_finds, alaw_finds, interval_only}
+use Rattle.audio_info.proofs.Lines.{mulaw_holds, alaw_holds}
 
 -- ---- the mu-law
 
@@ -36,13 +28,11 @@ magnitude_is : (v : ℤ) → min (unsigned_abs v) 32635 + 132 ≡ mulaw_magnitud
 magnitude_is (pos n) = refl
 magnitude_is (negsuc n) = rw add-one refl
 
-pub mulaw_held : (v : ℤ) (m r p : ℕ) → m ≡ min (unsigned_abs v) 32635 → 2 ^ r ≤ m + 132 → m + 132 < 2 * 2 ^ r → p ≡ (r - 7) * 16 + (m + 132) / 2 ^ (r - 7 + 3) % 16 → Holds mulaw_segments p (mulaw_magnitude v) × (p < 128)
-mulaw_held v m r p clipped low high place =
-    let bit = highest_bit r (m + 132) low high (omega arith) (omega arith) in
-    let back : r - 7 + 7 ≡ r = omega arith in
-    let held : Holds mulaw_segments p (m + 132) = rw place (mulaw_holds (r - 7) (m + 132) (omega arith) (rw back low) (rw back high)) in
+mulaw_held : (v : ℤ) (m p : ℕ) → m ≡ min (unsigned_abs v) 32635 → p ≡ interval_of mulaw_segments (m + 132) → Holds mulaw_segments p (mulaw_magnitude v) × (p < 128)
+mulaw_held v m p clipped found =
     let same : m + 132 ≡ mulaw_magnitude v = ap (λ k. k + 132) clipped ∙ magnitude_is v in
-    (subst (λ (k : ℕ). Holds mulaw_segments p k) same held, omega arith)
+    let held = mulaw_holds (m + 132) (omega arith) (omega arith) in
+    rw found (subst (λ (k : ℕ). Holds mulaw_segments (interval_of mulaw_segments (m + 132)) k) same held.0, held.1)
 
 or_sign : (p : ℕ) → p < 128 → bit_or 128 p ≡ 128 + p
 or_sign p h = or_shifted 1 7 p h
@@ -74,9 +64,9 @@ mulaw_only (negsuc n) c h held =
     rw only (omega arith)
 
 -- what the encoder owes, from what it computes
-pub mulaw_encoded : (v : ℤ) (s m r p : ℕ) → s ≡ mulaw_sign v → m ≡ min (unsigned_abs v) 32635 → 2 ^ r ≤ m + 132 → m + 132 < 2 * 2 ^ r → p ≡ (r - 7) * 16 + (m + 132) / 2 ^ (r - 7 + 3) % 16 → (255 - bit_or s p ≡ mulaw_code v) × HoldsMuLaw (255 - bit_or s p) v × ((c : ℕ) → c < 256 → HoldsMuLaw c v → c ≡ 255 - bit_or s p)
-mulaw_encoded v s m r p sign clipped low high place =
-    let held = mulaw_held v m r p clipped low high place in
+pub mulaw_encoded : (v : ℤ) (s m p : ℕ) → s ≡ mulaw_sign v → m ≡ min (unsigned_abs v) 32635 → p ≡ interval_of mulaw_segments (m + 132) → (255 - bit_or s p ≡ mulaw_code v) × HoldsMuLaw (255 - bit_or s p) v × ((c : ℕ) → c < 256 → HoldsMuLaw c v → c ≡ 255 - bit_or s p)
+mulaw_encoded v s m p sign clipped found =
+    let held = mulaw_held v m p clipped found in
     let code = mulaw_coded v s p sign held.1 held.0 in
     (code, mulaw_holds_code v s p sign held.1 held.0, λ c h holds. mulaw_only v c h holds ∙ sym code)
 
@@ -103,12 +93,10 @@ pub inverted-lt : (c : ℕ) → c < 256 → alaw_inverted c < 256
 unfolding alaw_inverted
 inverted-lt c h = xor_of_8 c 85 h (omega arith)
 
-alaw_held : (v : ℤ) (m r p : ℕ) → m ≡ alaw_magnitude v → m < 2 ^ 15 → 2 ^ r ≤ max m 128 → max m 128 < 2 * 2 ^ r → p ≡ (r - 7) * 16 + m / 2 ^ (max (r - 7) 1 + 3) % 16 → Holds alaw_segments p (alaw_magnitude v) × (p < 128)
-alaw_held v m r p folded fits low high place =
-    let bit = highest_bit r (max m 128) low high (omega arith) (omega arith) in
-    let back : r - 7 + 7 ≡ r = omega arith in
-    let held : Holds alaw_segments p m = rw place (alaw_holds (r - 7) m (omega arith) (rw back low) (rw back high)) in
-    (subst (λ (k : ℕ). Holds alaw_segments p k) folded held, omega arith)
+alaw_held : (v : ℤ) (m p : ℕ) → m ≡ alaw_magnitude v → m < 2 ^ 15 → p ≡ interval_of alaw_segments m → Holds alaw_segments p (alaw_magnitude v) × (p < 128)
+alaw_held v m p folded fits found =
+    let held = alaw_holds m (omega arith) in
+    rw found (subst (λ (k : ℕ). Holds alaw_segments (interval_of alaw_segments m) k) folded held.0, held.1)
 
 signed_code : (v : ℤ) (s p : ℕ) → s ≡ alaw_sign v → p < 128 → bit_xor (bit_or s p) 85 ≡ alaw_inverted (alaw_sign v + p)
 unfolding alaw_inverted
@@ -138,9 +126,9 @@ alaw_only (negsuc n) c h held =
     rw only (sym (inverted_twice c))
 
 -- what the encoder owes, from what it computes
-pub alaw_encoded : (v : ℤ) (s m r p : ℕ) → s ≡ alaw_sign v → m ≡ alaw_magnitude v → m < 2 ^ 15 → 2 ^ r ≤ max m 128 → max m 128 < 2 * 2 ^ r → p ≡ (r - 7) * 16 + m / 2 ^ (max (r - 7) 1 + 3) % 16 → (bit_xor (bit_or s p) 85 ≡ alaw_code v) × HoldsALaw (bit_xor (bit_or s p) 85) v × ((c : ℕ) → c < 256 → HoldsALaw c v → c ≡ bit_xor (bit_or s p) 85)
-alaw_encoded v s m r p sign folded fits low high place =
-    let held = alaw_held v m r p folded fits low high place in
+pub alaw_encoded : (v : ℤ) (s m p : ℕ) → s ≡ alaw_sign v → m ≡ alaw_magnitude v → m < 2 ^ 15 → p ≡ interval_of alaw_segments m → (bit_xor (bit_or s p) 85 ≡ alaw_code v) × HoldsALaw (bit_xor (bit_or s p) 85) v × ((c : ℕ) → c < 256 → HoldsALaw c v → c ≡ bit_xor (bit_or s p) 85)
+alaw_encoded v s m p sign folded fits found =
+    let held = alaw_held v m p folded fits found in
     let signed = signed_code v s p sign held.1 in
     let code = signed ∙ alaw_coded v p held.1 held.0 in
     (code, rw signed (alaw_holds_code v p held.1 held.0), λ c h holds. alaw_only v c h holds ∙ sym code)

@@ -1,8 +1,8 @@
 -- A magnitude is held by one interval of a law.
-use Rattle.std.proofs.Common.{◌≡◌, ◌<◌, ◌≤◌, ℕ, zero, suc, ◌+◌, ◌-◌, ◌*◌, ◌/◌, ◌%◌, ◌^◌, max, List, arith, refl, ap, sym, ◌∙◌}
+use Rattle.std.proofs.Common.{◌≡◌, ◌<◌, ◌≤◌, ℕ, zero, suc, ◌+◌, ◌-◌, ◌*◌, ◌/◌, ◌%◌, ◌^◌, List, arith, refl, ap}
 use Rattle.std.proofs.lemmas.Bool.Decides.{nat_tests}
-use Rattle.std.proofs.lemmas.Nat.{div-mul-add, mod-mul-add, div-add-mod', div_below, le-div, mod_below}
-use Rattle.std.proofs.Math.Nat.{add-mul, mul-le-mul_right}
+use Rattle.std.proofs.lemmas.Nat.{div-mul-add, mod-mul-add, div-add-mod', div_below, mod_below}
+use Rattle.std.proofs.Math.Nat.{mul-le-mul_right}
 use Rattle.audio_info.specs.Segments.{Segment, mulaw_segments, alaw_segments, segment_at, segment_of, interval_of, least_of, width_of, middle_of, Holds}
 
 -- a law finds the segment of each magnitude that the segment spans
@@ -88,56 +88,28 @@ pub holds_middle : (law : List Segment) (i : ℕ) → 0 < width_of law i → Hol
 unfolding middle_of
 holds_middle law i h = record { low = omega arith; high = omega arith }
 
--- what the code computes of a magnitude, in a segment that starts at sixteen widths
-row_holds : (law : List Segment) (g m w : ℕ) → (segment_at law g).start ≡ 16 * w → (segment_at law g).width ≡ w → 0 < w → 16 * w ≤ m → m < 32 * w → Holds law (g * 16 + m / w % 16) m
-row_holds law g m w start width some low high =
-    let q = div-add-mod' m w in
-    let r = mod_below m w some in
-    let least : 16 ≤ m / w = le-div 16 m w some low in
-    let most : m / w < 32 = div_below m w 32 some high in
-    let place : m / w % 16 ≡ m / w - 16 = omega arith in
-    let spread : (m / w - 16) * w + 16 * w ≡ m / w * w = sym (add-mul (m / w - 16) 16 w) ∙ ap (λ (k : ℕ). k * w) (omega arith) in
-    rw place (holds_at law g (m / w - 16) m (omega arith) (rw (start, width) (omega (arith, spread, q, r))) (rw (start, width) (omega (arith, spread, q, r))))
+-- the interval that a law finds for a magnitude holds it
+pub interval_holds : (law : List Segment) → Finds law → (g m : ℕ) → g < 8 → (segment_at law g).start ≤ m → m < (segment_at law g).start + 16 * (segment_at law g).width → Holds law (interval_of law m) m × (interval_of law m < 128)
+unfolding interval_of
+interval_holds law finds g m h low high =
+    let seg : Segment = segment_at law g in
+    let some : 0 < seg.width = omega arith in
+    let found = finds.found g m h low high in
+    let q = div-add-mod' (m - seg.start) seg.width in
+    let r = mod_below (m - seg.start) seg.width some in
+    let few : (m - seg.start) / seg.width < 16 = div_below (m - seg.start) seg.width 16 some (omega arith) in
+    let turned : 16 * g ≡ g * 16 = omega arith in
+    rw (found, turned) (holds_at law g ((m - seg.start) / seg.width) m few (omega (arith, q, r)) (omega (arith, q, r)), omega arith)
 
 -- ---- the mu-law
 
 pub mulaw_finds : Finds mulaw_segments
 mulaw_finds = record { found = mulaw_found }
 
-pub mulaw_holds : (g m : ℕ) → g < 8 → 2 ^ (g + 7) ≤ m → m < 2 * 2 ^ (g + 7) → Holds mulaw_segments (g * 16 + m / 2 ^ (g + 3) % 16) m
-unfolding mulaw_segments
-mulaw_holds zero m h low high = row_holds mulaw_segments 0 m 8 refl refl (omega arith) (omega arith) (omega arith)
-mulaw_holds (suc zero) m h low high = row_holds mulaw_segments 1 m 16 refl refl (omega arith) (omega arith) (omega arith)
-mulaw_holds (suc (suc zero)) m h low high = row_holds mulaw_segments 2 m 32 refl refl (omega arith) (omega arith) (omega arith)
-mulaw_holds (suc (suc (suc zero))) m h low high = row_holds mulaw_segments 3 m 64 refl refl (omega arith) (omega arith) (omega arith)
-mulaw_holds (suc (suc (suc (suc zero)))) m h low high = row_holds mulaw_segments 4 m 128 refl refl (omega arith) (omega arith) (omega arith)
-mulaw_holds (suc (suc (suc (suc (suc zero))))) m h low high = row_holds mulaw_segments 5 m 256 refl refl (omega arith) (omega arith) (omega arith)
-mulaw_holds (suc (suc (suc (suc (suc (suc zero)))))) m h low high = row_holds mulaw_segments 6 m 512 refl refl (omega arith) (omega arith) (omega arith)
-mulaw_holds (suc (suc (suc (suc (suc (suc (suc zero))))))) m h low high = row_holds mulaw_segments 7 m 1024 refl refl (omega arith) (omega arith) (omega arith)
-mulaw_holds (suc (suc (suc (suc (suc (suc (suc (suc g)))))))) m h low high = absurd (omega arith)
-
 -- ---- the A-law
 
 pub alaw_finds : Finds alaw_segments
 alaw_finds = record { found = alaw_found }
-
-alaw_first : (m : ℕ) → m < 256 → Holds alaw_segments (0 * 16 + m / 16 % 16) m
-unfolding alaw_segments
-alaw_first m h =
-    let place : m / 16 % 16 ≡ m / 16 = omega arith in
-    rw place (holds_at alaw_segments 0 (m / 16) m (omega arith) (omega arith) (omega arith))
-
-pub alaw_holds : (g m : ℕ) → g < 8 → 2 ^ (g + 7) ≤ max m 128 → max m 128 < 2 * 2 ^ (g + 7) → Holds alaw_segments (g * 16 + m / 2 ^ (max g 1 + 3) % 16) m
-unfolding alaw_segments
-alaw_holds zero m h low high = alaw_first m (omega arith)
-alaw_holds (suc zero) m h low high = row_holds alaw_segments 1 m 16 refl refl (omega arith) (omega arith) (omega arith)
-alaw_holds (suc (suc zero)) m h low high = row_holds alaw_segments 2 m 32 refl refl (omega arith) (omega arith) (omega arith)
-alaw_holds (suc (suc (suc zero))) m h low high = row_holds alaw_segments 3 m 64 refl refl (omega arith) (omega arith) (omega arith)
-alaw_holds (suc (suc (suc (suc zero)))) m h low high = row_holds alaw_segments 4 m 128 refl refl (omega arith) (omega arith) (omega arith)
-alaw_holds (suc (suc (suc (suc (suc zero))))) m h low high = row_holds alaw_segments 5 m 256 refl refl (omega arith) (omega arith) (omega arith)
-alaw_holds (suc (suc (suc (suc (suc (suc zero)))))) m h low high = row_holds alaw_segments 6 m 512 refl refl (omega arith) (omega arith) (omega arith)
-alaw_holds (suc (suc (suc (suc (suc (suc (suc zero))))))) m h low high = row_holds alaw_segments 7 m 1024 refl refl (omega arith) (omega arith) (omega arith)
-alaw_holds (suc (suc (suc (suc (suc (suc (suc (suc g)))))))) m h low high = absurd (omega arith)
 
 -- ---- the middles
 

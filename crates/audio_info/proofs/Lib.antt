@@ -2,3 +2,4 @@ pub mod Codes
 pub mod Decoded
 pub mod Fields
 pub mod Intervals
+pub mod Lines

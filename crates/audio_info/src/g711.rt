@@ -1,6 +1,6 @@
 //! The two laws of ITU-T G.711, which keep a sample of 16 bits in a byte.
 ghost use Rattle.std.specs.Prelude.{◌≡◌, ◌≢◌, ℕ, ◌<◌, ◌≤◌, ◌+◌, ◌*◌, ◌/◌, ◌%◌, ◌^◌, nat_le, pos, neg_ℤ, if◌then◌else◌};
-ghost use Rattle.audio_info.specs.Segments.{HoldsALaw, HoldsMuLaw, alaw_code, alaw_magnitude, alaw_segments, alaw_value, middle_of, mulaw_code, mulaw_segments, mulaw_value};
+ghost use Rattle.audio_info.specs.Segments.{HoldsALaw, HoldsMuLaw, alaw_code, alaw_magnitude, alaw_segments, alaw_value, interval_of, middle_of, mulaw_code, mulaw_segments, mulaw_value};
 
 /// The greatest magnitude that mu-law tells apart.
 const MULAW_CLIP: u16 = 32_635;
@@ -22,8 +22,25 @@ pub fn mulaw_enc(v: i16) -> u8
 {
     let sign = if v < 0 { SIGN } else { 0 };
     let magnitude = v.unsigned_abs().min(MULAW_CLIP) + MULAW_BIAS;
-    let segment = magnitude.ilog2() - 7;
-    !(sign | interval(magnitude, segment, segment + 3))
+    !(sign | mulaw_interval(magnitude))
+}
+
+// The interval of a magnitude of mu-law, counted through all segments. In each segment the intervals are those of a
+// line, and a later segment's line rises half as steeply: so it is the least of the lines.
+fn mulaw_interval(magnitude: u16) -> u8
+    requires low { 128 ≤ magnitude }
+    requires high { magnitude < 2 ^ 15 }
+    ensures { result ≡ interval_of mulaw_segments magnitude }
+{
+    let least = (magnitude >> 3)
+        .min((magnitude >> 4) + 16)
+        .min((magnitude >> 5) + 32)
+        .min((magnitude >> 6) + 48)
+        .min((magnitude >> 7) + 64)
+        .min((magnitude >> 8) + 80)
+        .min((magnitude >> 9) + 96)
+        .min((magnitude >> 10) + 112);
+    (least - 16) as u8
 }
 
 /// The sample of a mu-law code.
@@ -54,9 +71,21 @@ pub fn alaw_enc(v: i16) -> u8
     ensures only { (c : ℕ) → c < 256 → HoldsALaw c v → c ≡ result }
 {
     let sign = if v < 0 { 0 } else { SIGN };
-    let magnitude = folded(v);
-    let segment = magnitude.max(128).ilog2() - 7;
-    (sign | interval(magnitude, segment, segment.max(1) + 3)) ^ ALAW_MASK
+    (sign | alaw_interval(folded(v))) ^ ALAW_MASK
+}
+
+// The interval of a magnitude of A-law, likewise. The first two segments are of one line.
+fn alaw_interval(magnitude: u16) -> u8
+    requires { magnitude < 2 ^ 15 }
+    ensures { result ≡ interval_of alaw_segments magnitude }
+{
+    (magnitude >> 4)
+        .min((magnitude >> 5) + 16)
+        .min((magnitude >> 6) + 32)
+        .min((magnitude >> 7) + 48)
+        .min((magnitude >> 8) + 64)
+        .min((magnitude >> 9) + 80)
+        .min((magnitude >> 10) + 96) as u8
 }
 
 /// The sample of an A-law code.
@@ -92,16 +121,6 @@ fn folded(v: i16) -> u16
     ensures fits { result < 2 ^ 15 }
 {
     if v < 0 { (-1 - v) as u16 } else { v as u16 }
-}
-
-// The interval of a magnitude, counted through all segments: the four bits above the `shift` lowest, and the
-// segment above them.
-fn interval(magnitude: u16, segment: u32, shift: u32) -> u8
-    requires segment { segment < 8 }
-    requires shift { shift < 16 }
-    ensures { result ≡ segment * 16 + magnitude / 2 ^ shift % 16 }
-{
-    (segment as u8) << 4 | ((magnitude >> shift) & 0xF) as u8
 }
 
 // The number of this magnitude and sign.

@@ -1,17 +1,15 @@
 -- Caps that the template of an element accepts are audio, of the format that the element takes.
-use Rattle.std.proofs.Common.{◌≡◌, ℕ, ℤ, pos, negsuc, Bool, true, false, cond, if◌then◌else◌, ◌&&◌, ◌||◌, nat_le, ◌*◌, ◌⊎◌, inl, inr, List, [], ◌∷◌, Option, Some, None, codes, refl, sym, ap, ◌∙◌, is_some, int_le}
-use Rattle.std.specs.List.{find, list_all, list_any}
-use Rattle.std.specs.Option.{option_map, option_map_or, option_and_then, unwrap_or}
+use Rattle.std.proofs.Common.{◌≡◌, ℕ, pos, negsuc, Bool, true, false, cond, if◌then◌else◌, ◌&&◌, ◌||◌, nat_le, ◌*◌, ◌⊎◌, inl, inr, List, [], ◌∷◌, Option, Some, None, codes, refl, sym, ap, ◌∙◌, is_some, int_le}
+use Rattle.std.specs.List.{find}
+use Rattle.std.specs.Option.{option_map, option_and_then, unwrap_or}
 use Rattle.std.specs.Str.{bytes_eq}
 use Rattle.std.proofs.lemmas.Slice.Eq.{bytes_eq-Decides}
 use Rattle.gst_caps.proofs.FieldLaws.{and_left, and_right}
 use Rattle.gst_caps.specs.Accepts.{value_at, contains_given, takes, accepts}
-use Rattle.gst_caps.specs.Common.{holds}
 use Rattle.gst_caps.specs.Description.{Description}
 use Rattle.gst_caps.specs.declared.caps.Caps.{Caps}
 use Rattle.gst_caps.specs.declared.value.One.{One}
 use Rattle.gst_caps.specs.declared.value.One.TheVariants.{Int, Bool as Truth, Text as Words, Fraction, IntRange}
-use Rattle.gst_caps.specs.declared.value.Value.{Value}
 use Rattle.gst_caps.specs.declared.value.Value.TheVariants.{One as Single}
 use Rattle.audio_info.specs.Media.{field_of, number_up_to, raw_sample, sample_of, rate_of, channels_of}
 use Rattle.audio_info.specs.Packing.{sample_width}

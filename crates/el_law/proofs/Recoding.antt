@@ -1,6 +1,5 @@
 -- An element of a law with one more call.
-use Rattle.std.proofs.Common.{◌≡◌, ◌+◌, ℕ, Bool, true, false, if◌then◌else◌, List, [], ◌∷◌, ◌++◌, map, length, Option, None, Some, refl, sym, ap, ◌∙◌, append-nil, Ok, Result}
-use Rattle.std.specs.List.{sum_by}
+use Rattle.std.proofs.Common.{◌≡◌, ℕ, Bool, true, false, List, [], ◌∷◌, ◌++◌, map, length, Option, refl, sym, ap, ◌∙◌, append-nil, Ok}
 use Rattle.std.specs.Option.{option_map}
 use Rattle.std.proofs.lemmas.List.{map-append}
 use Rattle.std.proofs.lemmas.List.Sums.{sum_by_push}
@@ -12,7 +11,7 @@ use Rattle.gst_item.specs.declared.fault.ElementFault.{ElementFault}
 use Rattle.flow_model.specs.Item.{Item, Buf, Ev, StreamStart, NewCaps, NewSegment, Tag, Gap, FlushStop, Eos, is_flush_stop, is_eos, body_of}
 use Rattle.flow_model.specs.Section.{counted}
 use Rattle.flow_model.specs.Call.{Call, Feed, Act, Drain, items}
-use Rattle.flow_model.specs.Rule.{Fed, Fault, unfed, all_called}
+use Rattle.flow_model.specs.Rule.{Fed}
 use Rattle.flow_model.specs.Feeding.{next_owed, IsFaultOf}
 use Rattle.el_basic.specs.Filters.{caps_in_force, caps_behind}
 use Rattle.el_basic.proofs.Counted.{counted_taken, counted_behind, counted_flush, counted_act}

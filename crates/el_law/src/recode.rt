@@ -58,7 +58,7 @@ fn encoded(alloc: Global, law: Companding, bytes: &[u8]) -> Result<Vec<u8>, OutO
     let (samples, _) = bytes.as_chunks::<2>();
     let mut codes = Vec::with_capacity(alloc, samples.len())?;
     for sample in samples {
-        codes.push(law.encode(get(Sample::S16LE, sample) as i16))?;
+        codes.push_reserved(law.encode(get(Sample::S16LE, sample) as i16));
     }
     Ok(codes)
 }

@@ -1,13 +1,9 @@
-use Rattle.std.proofs.Common.{◌≡◌, ◌<◌, ◌^◌, arith, sym, ◌∙◌}
+use Rattle.std.proofs.Common.{◌≡◌, arith, sym, ◌∙◌}
 use Rattle.std.proofs.lemmas.Int.{ints, to_z-of_z}
 use Rattle.audio_info.specs.Segments.{alaw_magnitude}
-use Rattle.audio_info.proofs.Codes.{highest_bit, alaw_encoded, alaw_sign, alaw_sign-negative, alaw_sign-other}
+use Rattle.audio_info.proofs.Codes.{alaw_encoded, alaw_sign, alaw_sign-negative, alaw_sign-other}
 use Rattle.audio_info.proofs.g711.alaw_enc.Goals as goal
 use Rattle.audio_info.proofs.g711.alaw_enc.Goals.{then-v-lt0, else-v-lt0}
-
-pub overflow_sub-segment : goal.overflow_sub-segment
-overflow_sub-segment c =
-    (highest_bit c.ilog2-segment.result c.max.result c.ilog2-segment.ensures.power_le c.ilog2-segment.ensures.next_power_gt (omega arith) (let fits : c.folded-magnitude.result < 2 ^ 15 = c.folded-magnitude.ensures.fits in omega arith)).0
 
 pub returns : goal.returns
 returns c =
@@ -15,6 +11,6 @@ returns c =
       | then-v-lt0 w ↦ w.sign-is ∙ sym (alaw_sign-negative c.args.v (grind (arith, ints)))
       | else-v-lt0 w ↦ w.sign-is ∙ sym (alaw_sign-other c.args.v (grind (arith, ints)))
     ] in
-    let folded : c.folded-magnitude.result ≡ alaw_magnitude c.args.v = grind (arith, to_z-of_z) in
-    let all = alaw_encoded c.args.v c.if-v-lt0.sign c.folded-magnitude.result c.ilog2-segment.result c.interval.result sign folded c.folded-magnitude.ensures.fits (omega arith) (omega arith) (rw (← c.max-2.ensures) c.interval.ensures) in
+    let folded : c.folded.result ≡ alaw_magnitude c.args.v = grind (arith, to_z-of_z) in
+    let all = alaw_encoded c.args.v c.if-v-lt0.sign c.folded.result c.alaw_interval.result sign folded c.folded.ensures.fits c.alaw_interval.ensures in
     record { code = all.0; holds = all.1; only = all.2 }
