@@ -1,3 +1,7 @@
+pub mod WavParseAhead
+pub mod WavParseAsking
+pub mod WavParseDeciding
+pub mod WavParseFaulty
 pub mod WavParseFits
 pub mod WavParseGathering
 pub mod WavParseParting

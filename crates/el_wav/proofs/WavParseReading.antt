@@ -1,5 +1,5 @@
 -- Reading on in a head.
-use Rattle.std.proofs.Common.{◌≡◌, ◌+◌, ℕ, inl, inr, List, [], ◌∷◌, ◌++◌, length, drop, Option, refl, ap, subst, ◌∙◌, arith, Ok, Err}
+use Rattle.std.proofs.Common.{◌≡◌, ◌+◌, ◌-◌, ℕ, inl, inr, List, [], ◌∷◌, ◌++◌, length, drop, Option, refl, sym, ap, subst, ◌∙◌, arith, Ok, Err}
 use Rattle.audio_info.specs.declared.info.Info.{Info}
 use Rattle.gst_item.specs.declared.out.Out.{Out}
 use Rattle.gst_item.specs.declared.fault.ElementFault.{ElementFault}
@@ -20,6 +20,11 @@ use Rattle.el_wav.specs.WavParseHeads.{Told, Whole, More, IsFormatOf, ReadsHeads
 use Rattle.el_wav.specs.WavParseRule.{body_item, within, left_of}
 use Rattle.el_wav.specs.WavParseData.{IsKnown}
 use Rattle.el_wav.specs.WavParseSteps.{BeganData, IsBeginFault, data_item, head_owed}
+use Rattle.el_wav.specs.declared.wav_gathered.Gathered.{Gathered}
+use Rattle.el_wav.specs.WavParseGathered.{IsSound, gathered}
+use Rattle.wav_format.specs.Gathered.{bytes_of}
+use Rattle.el_wav.proofs.WavParseAhead.{head_ahead, drop_behind}
+use Rattle.el_wav.proofs.WavParseGathering.{bytes_joined, bytes_taken}
 use Rattle.el_wav.proofs.WavParseFits.{head_fits}
 
 no_more : (n : ℕ) → 0 + n ≡ n
@@ -51,37 +56,43 @@ begin_fault head info bytes first cut item fault format f c i is =
     λ fits. (info, format, subst (λ x. IsFaultOf (next_owed (parses_raw info) [] x) fault) (same_item head bytes first cut item f c i) is)
 
 -- What was read, of a body whose bytes are these.
-pub record Read (before body now : List ℕ) (answer : HeadAnswer) : Type 0 where
+pub record Read (before body : List ℕ) (answer : HeadAnswer) : Type 0 where
   pub said : AnswerIn (before ++ body) answer
   pub fine : AreBytes (before ++ body)
-  pub is : now ≡ before ++ body
 
-pub read_of : (before more body now : List ℕ) (answer : HeadAnswer) → more ≡ body → now ≡ before ++ more → AreBytes now → AnswerIn (before ++ more) answer → Read before body now answer
-read_of before more body now answer e n fine said =
-    let is = n ∙ ap (λ xs. before ++ xs) e in
-    record { said = subst (λ xs. AnswerIn (before ++ xs) answer) e said; fine = subst AreBytes is fine; is = is }
+pub read_of : (has : Gathered) (more body : List ℕ) (answer : HeadAnswer) → IsSound has → more ≡ body → AreBytes more → AnswerIn (gathered has ++ more) answer → Read (gathered has) body answer
+read_of has more body answer sound e fine said =
+    let all = bytes_joined (gathered has) more (bytes_taken has.count (bytes_of has.reader) sound.fine) fine in
+    record { said = subst (λ xs. AnswerIn (gathered has ++ xs) answer) e said; fine = subst (λ xs. AreBytes (gathered has ++ xs)) e all }
 
-cut_in : (bytes : List ℕ) (n : ℕ) → CutsAt bytes n → CutIn bytes
+pub cut_in : (bytes : List ℕ) (n : ℕ) → CutsAt bytes n → CutIn bytes
 cut_in bytes n (inl (cut, e)) = inl cut
 cut_in bytes n (inr (s, reached, cut, e)) = inr (s, reached, cut)
 
-pub says_more : (read : List ℕ → Told) (before body now : List ℕ) (answer : HeadAnswer) (n : ℕ) → ReadsHeads read → Read before body now answer → answer ≡ NeedMore n → read (before ++ body) ≡ More
-says_more read before body now answer n reads r e = reads.more (before ++ body) r.fine (cut_in (before ++ body) n (subst (AnswerIn (before ++ body)) e r.said))
+pub says_more : (read : List ℕ → Told) (before body : List ℕ) (answer : HeadAnswer) (n : ℕ) → ReadsHeads read → Read before body answer → answer ≡ NeedMore n → read (before ++ body) ≡ More
+says_more read before body answer n reads r e = reads.more (before ++ body) r.fine (cut_in (before ++ body) n (subst (AnswerIn (before ++ body)) e r.said))
 
-pub says_whole : (read : List ℕ → Told) (before body now : List ℕ) (answer : HeadAnswer) (head : Head) (info : Info) → ReadsHeads read → Read before body now answer → answer ≡ WholeHead head → IsFormatOf head info → read (before ++ body) ≡ Whole head info
-says_whole read before body now answer head info reads r e format = reads.whole (before ++ body) head info r.fine (subst (AnswerIn (before ++ body)) e r.said) format
+pub says_whole : (read : List ℕ → Told) (before body : List ℕ) (answer : HeadAnswer) (head : Head) (info : Info) → ReadsHeads read → Read before body answer → answer ≡ WholeHead head → IsFormatOf head info → read (before ++ body) ≡ Whole head info
+says_whole read before body answer head info reads r e format = reads.whole (before ++ body) head info r.fine (subst (AnswerIn (before ++ body)) e r.said) format
 
-pub says_wrong : (read : List ℕ → Told) (calls : List Call) (before body now : List ℕ) (answer : HeadAnswer) (place : ℕ) (kind : WavKind) → ReadsHeads read → Read before body now answer → answer ≡ Bad place kind
+pub says_wrong : (read : List ℕ → Told) (calls : List Call) (before body : List ℕ) (answer : HeadAnswer) (place : ℕ) (kind : WavKind) → ReadsHeads read → Read before body answer → answer ≡ Bad place kind
     → head_owed read calls (before ++ body) ≡ Err (BadStream place (stream_kind kind))
-says_wrong read calls before body now answer place kind reads r e = rw (reads.wrong (before ++ body) place kind r.fine (subst (AnswerIn (before ++ body)) e r.said)) refl
+says_wrong read calls before body answer place kind reads r e = rw (reads.wrong (before ++ body) place kind r.fine (subst (AnswerIn (before ++ body)) e r.said)) refl
 
--- the data behind the head
-pub first_of : (before body now first : List ℕ) (answer : HeadAnswer) (start : ℕ) → Read before body now answer → first ≡ drop start now → first ≡ drop start (before ++ body)
-first_of before body now first answer start r f = f ∙ ap (drop start) r.is
+-- the bytes so far, where they go on in a head
+pub cut_now : (before body now : List ℕ) (answer : HeadAnswer) (n : ℕ) → Read before body answer → answer ≡ NeedMore n → now ≡ before ++ body → CutIn now
+cut_now before body now answer n r e is = subst CutIn (sym is) (cut_in (before ++ body) n (subst (AnswerIn (before ++ body)) e r.said))
 
-pub whole_fault : (read : List ℕ → Told) (calls : List Call) (before body now : List ℕ) (answer : HeadAnswer) (head : Head) (fault : ElementFault) → ReadsHeads read → Read before body now answer → answer ≡ WholeHead head
+-- the data behind the head, which begins in the body
+pub first_of : (before body first : List ℕ) (answer : HeadAnswer) (head : Head) (count : ℕ) → CutIn before → count ≡ length before → Read before body answer → answer ≡ WholeHead head
+    → first ≡ drop (head.start - count) body → first ≡ drop head.start (before ++ body)
+first_of before body first answer head count cut c r e f =
+    let ahead = head_ahead before body head cut (subst (AnswerIn (before ++ body)) e r.said) in
+    f ∙ ap (λ n. drop (head.start - n) body) c ∙ sym (drop_behind before body head.start (omega (arith, ahead)))
+
+pub whole_fault : (read : List ℕ → Told) (calls : List Call) (before body : List ℕ) (answer : HeadAnswer) (head : Head) (fault : ElementFault) → ReadsHeads read → Read before body answer → answer ≡ WholeHead head
     → IsBeginFault head (before ++ body) fault → IsFaultOf (head_owed read calls (before ++ body)) fault
-whole_fault read calls before body now answer head fault reads r e is =
+whole_fault read calls before body answer head fault reads r e is =
     let whole = subst (AnswerIn (before ++ body)) e r.said in
     let by = is (head_fits (before ++ body) head whole) in
-    rw (says_whole read before body now answer head by.0 reads r e by.1) by.2
+    rw (says_whole read before body answer head by.0 reads r e by.1) by.2

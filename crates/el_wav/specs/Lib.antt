@@ -2,6 +2,7 @@ pub mod WavParse
 pub mod WavParseAppends
 pub mod WavParseData
 pub mod WavParseGathered
+pub mod WavParseGiven
 pub mod WavParseHeads
 pub mod WavParseParts
 pub mod WavParsePuts

@@ -1,5 +1,5 @@
 //! From the bytes of a head to the data behind it.
-ghost use Rattle.std.specs.Prelude.{◌≡◌, ◌++◌, ℕ, List, drop, IfOk, IfErr, OnOk, OnErr};
+ghost use Rattle.std.specs.Prelude.{◌≡◌, ◌-◌, ◌++◌, ℕ, List, drop, IfOk, IfErr, OnOk, OnErr};
 ghost use Rattle.flow_model.specs.Call.{Call};
 ghost use Rattle.flow_model.specs.Feeding.{IsFaultOf};
 ghost use Rattle.wav_format.specs.Gathered.{bytes_of};
@@ -47,13 +47,22 @@ pub(crate) fn read_on(
             kind: stream_kind(kind),
         }),
         HeadAnswer::Whole(head) => {
-            let first = gathered.bytes_from(alloc, head.start)?;
+            let first = body_from(alloc, body, gathered.count(), head.start)?;
             match begin_data(alloc, head, first, out) {
                 Ok(begun) => Ok(Some(begun)),
                 Err(fault) => Err(fault),
             }
         }
     }
+}
+
+/// The bytes of a body from place `start` of its file on, where the body begins at place `before`.
+fn body_from(alloc: Global, body: &Body, before: u64, start: u64) -> Result<Body, OutOfMemory>
+    ensures { IfOk result (λ made. made ≡ drop (start - before) body.now) }
+{
+    let len = body.as_slice().len() as u64;
+    let at = start.saturating_sub(before).min(len);
+    body.slice(alloc, at as u32, len as u32)
 }
 
 /// Gives the parser of the data behind a head the first bytes there.

@@ -1,13 +1,16 @@
 //! The bytes of a head that is not yet whole.
-ghost use Rattle.std.specs.Prelude.{◌≡◌, ◌≤◌, ◌++◌, [], length, take, drop, IfOk, OnOk, OnErr};
+ghost use Rattle.std.specs.Prelude.{◌≡◌, ◌≤◌, ◌++◌, [], ℕ, length, take, IfOk, OnOk, OnErr, MatchOption};
 ghost use Rattle.wav_format.specs.Answers.{AnswerIn};
+ghost use Rattle.wav_format.specs.Cuts.{CutIn};
 ghost use Rattle.wav_format.specs.Format.{AreBytes};
 ghost use Rattle.wav_format.specs.Gathered.{StandsBehind, bytes_of};
+ghost use Rattle.wav_format.specs.declared.head.HeadAnswer.TheVariants.{Whole, NeedMore};
+ghost use Rattle.wav_format.specs.declared.head.Head.{Head};
+ghost use Rattle.el_wav.specs.WavParseGiven.{Grown, IsDone, IsNext};
 
 use gst_caps::OutOfMemory;
-use gst_item::Body;
-use std::alloc::Global;
-use wav_format::{HeadAnswer, HeadReader};
+use std::alloc::{AllocError, Global};
+use wav_format::{HeadAnswer, HeadReader, head_stays};
 
 /// The bytes of a head, of which the first `count` count. Those behind them came with an item that was not taken.
 #[derive(Drop)]
@@ -37,15 +40,17 @@ impl Gathered {
         self.count as u64
     }
 
-    /// What the bytes say with more bytes, which do not count yet.
+    /// What the bytes say with more bytes, which do not count yet. None behind the head is taken in.
     pub(crate) fn read(&mut self, alloc: Global, more: &[u8]) -> Result<HeadAnswer, OutOfMemory>
         ensures answer { IfOk result (λ answer. IsSound self.old → AnswerIn (gathered self.old ++ more.now) answer) }
-        ensures bytes { OnOk result (IsSound self.old → bytes_of self.new.reader ≡ gathered self.old ++ more.now) }
+        ensures bytes { IfOk result (λ answer. (n : ℕ) → answer ≡ NeedMore n → IsSound self.old → bytes_of self.new.reader ≡ gathered self.old ++ more.now) }
+        ensures head { IfOk result (λ answer. (head : Head) → answer ≡ Whole head → IsSound self.old → length (bytes_of self.new.reader) ≤ head.start) }
         ensures stays { IsSound self.old → gathered self.new ≡ gathered self.old }
         ensures sound { IsSound self.old → IsSound self.new }
+        ensures fine { AreBytes more.now }
     {
         self.forget_others(alloc)?;
-        Ok(self.reader.read(more)?)
+        Ok(read_in_parts(&mut self.reader, more)?)
     }
 
     /// Gives up the bytes that do not count.
@@ -66,18 +71,9 @@ impl Gathered {
     /// Lets all bytes count that were read.
     pub(crate) fn keep(&mut self)
         ensures all { gathered self.new ≡ bytes_of self.old.reader }
-        ensures sound { IsSound self.old → IsSound self.new }
+        ensures sound { IsSound self.old → CutIn (bytes_of self.old.reader) → IsSound self.new }
     {
         self.count = self.reader.bytes().len();
-    }
-
-    /// The bytes that were read from place `start` on.
-    pub(crate) fn bytes_from(&self, alloc: Global, start: u64) -> Result<Body, OutOfMemory>
-        ensures { IfOk result (λ made. made ≡ drop start (bytes_of self.now.reader)) }
-    {
-        let bytes = self.reader.bytes();
-        let start = start.min(bytes.len() as u64) as usize;
-        Body::from_vec(alloc, Vec::from_slice(alloc, &bytes[start..])?)
     }
 
     /// The same bytes once more.
@@ -100,4 +96,43 @@ fn read_again(alloc: Global, bytes: &[u8]) -> Result<HeadReader, OutOfMemory>
     let mut reader = HeadReader::new(alloc);
     reader.read(bytes)?;
     Ok(reader)
+}
+
+/// What the bytes of a reader say with more bytes. It is given no more of them at a time than it asks for, so that
+/// none behind the head is given. At a fault it is given all, since more bytes may make another fault of it.
+fn read_in_parts(reader: &mut HeadReader, more: &[u8]) -> Result<HeadAnswer, AllocError>
+    ensures answer { IfOk result (λ answer. StandsBehind reader.old → AnswerIn (bytes_of reader.old ++ more.now) answer) }
+    ensures stands { StandsBehind reader.old → StandsBehind reader.new }
+    ensures given { Grown (bytes_of reader.old) more.now (bytes_of reader.new) }
+    ensures all { IfOk result (λ answer. (n : ℕ) → answer ≡ NeedMore n → bytes_of reader.new ≡ bytes_of reader.old ++ more.now) }
+    ensures head { IfOk result (λ answer. (head : Head) → answer ≡ Whole head → StandsBehind reader.old → AreBytes (bytes_of reader.old) → CutIn (bytes_of reader.old) → length (bytes_of reader.new) ≤ head.start) }
+{
+    head_stays();
+    let mut answer = reader.read(&[])?;
+    let mut at = 0;
+    'parts: loop {
+        let Some(part) = next_part(&answer, reader.bytes().len(), more.len() - at) else {
+            return Ok(answer);
+        };
+        answer = reader.read(&more[at..at + part])?;
+        at += part;
+    }
+}
+
+/// How many of the bytes that are left a reader of `count` bytes with this answer is given next. None where that is
+/// the answer of all of them.
+fn next_part(answer: &HeadAnswer, count: usize, left: usize) -> Option<usize>
+    ensures { MatchOption result (IsDone answer.now left) (IsNext answer.now count left) }
+{
+    if left == 0 {
+        return None;
+    }
+    match answer {
+        HeadAnswer::Whole(_) => None,
+        HeadAnswer::NeedMore(length) => {
+            let wanted = length.saturating_sub(count as u64).max(1);
+            Some(wanted.min(left as u64) as usize)
+        }
+        HeadAnswer::Bad { .. } => Some(left),
+    }
 }
