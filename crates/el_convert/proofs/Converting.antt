@@ -19,27 +19,13 @@ use Rattle.el_convert.specs.declared.convert.Convert.{Convert}
 use Rattle.el_convert.specs.Converts.{Known, known, allowed_in, bytes_got, convert_answer, converts, answered, caps_after, behind}
 use Rattle.el_convert.specs.Converted.{converted, knows, IsConverted}
 
--- the allowed caps with one more call
-allowed_fed : (first : Caps) (calls : List Call) (x : Item) → allowed_in first (calls ++ Feed x ∷ []) ≡ allowed_in first calls
-allowed_fed first [] x = refl
-allowed_fed first (Feed y ∷ calls) x = allowed_fed first calls x
-allowed_fed first (Act Drain ∷ calls) x = allowed_fed first calls x
-allowed_fed first (Act (Set (Filter caps)) ∷ calls) x = allowed_fed first calls x
-allowed_fed first (Act (Set (Allowed caps)) ∷ calls) x = allowed_fed caps calls x
-
-allowed_drained : (first : Caps) (calls : List Call) → allowed_in first (calls ++ Act Drain ∷ []) ≡ allowed_in first calls
-allowed_drained first [] = refl
-allowed_drained first (Feed y ∷ calls) = allowed_drained first calls
-allowed_drained first (Act Drain ∷ calls) = allowed_drained first calls
-allowed_drained first (Act (Set (Filter caps)) ∷ calls) = allowed_drained first calls
-allowed_drained first (Act (Set (Allowed caps)) ∷ calls) = allowed_drained caps calls
-
-allowed_set : (first : Caps) (calls : List Call) (caps : Caps) → allowed_in first (calls ++ Act (Set (Allowed caps)) ∷ []) ≡ caps
-allowed_set first [] caps = refl
-allowed_set first (Feed y ∷ calls) caps = allowed_set first calls caps
-allowed_set first (Act Drain ∷ calls) caps = allowed_set first calls caps
-allowed_set first (Act (Set (Filter old)) ∷ calls) caps = allowed_set first calls caps
-allowed_set first (Act (Set (Allowed old)) ∷ calls) caps = allowed_set old calls caps
+-- the allowed caps with more calls
+pub allowed_more : (first : Caps) (calls more : List Call) → allowed_in first (calls ++ more) ≡ allowed_in (allowed_in first calls) more
+allowed_more first [] more = refl
+allowed_more first (Feed x ∷ calls) more = allowed_more first calls more
+allowed_more first (Act Drain ∷ calls) more = allowed_more first calls more
+allowed_more first (Act (Set (Filter caps)) ∷ calls) more = allowed_more first calls more
+allowed_more first (Act (Set (Allowed caps)) ∷ calls) more = allowed_more caps calls more
 
 -- the caps in force with more items
 caps_by : (x : Item) (h : List Item) → caps_of (if is_caps x then x ∷ [] else latest is_caps h) ≡ caps_behind (caps_in_force h) x
@@ -77,16 +63,16 @@ known_taken : (first : Caps) (given : List Call) (out ys : List Item) (over ends
     → known first (record { given = given ++ Feed x ∷ []; out = out ++ ys; over = ends })
     ≡ knowing (allowed_in first given) (caps_behind (caps_in_force (items given)) x) (caps_after (caps_in_force out) ys) (bytes_got (items given) + length (body_of x))
 known_taken first given out ys over ends x plain =
-    same_known _ _ _ _ _ _ _ _ (allowed_fed first given x) (ap caps_in_force (items_push given x) ∙ caps_push (items given) x) (caps_more out ys) (ap bytes_got (items_push given x) ∙ got_push (items given) x plain)
+    same_known _ _ _ _ _ _ _ _ (allowed_more first given (Feed x ∷ [])) (ap caps_in_force (items_push given x) ∙ caps_push (items given) x) (caps_more out ys) (ap bytes_got (items_push given x) ∙ got_push (items given) x plain)
 
 known_flushed : (first : Caps) (given : List Call) (out : List Item) (number : ℕ)
     → known first (record { given = given ++ Feed (Ev (FlushStop number)) ∷ []; out = out ++ Ev (FlushStop number) ∷ []; over = false })
     ≡ knowing (allowed_in first given) (caps_in_force (items given)) (caps_in_force out) 0
 known_flushed first given out number =
     let x = Ev (FlushStop number) in
-    same_known _ _ _ _ _ _ _ _ (allowed_fed first given x) (ap caps_in_force (items_push given x) ∙ caps_push (items given) x) (caps_push out x) (ap bytes_got (items_push given x) ∙ got_flushed (items given) number)
+    same_known _ _ _ _ _ _ _ _ (allowed_more first given (Feed x ∷ [])) (ap caps_in_force (items_push given x) ∙ caps_push (items given) x) (caps_push out x) (ap bytes_got (items_push given x) ∙ got_flushed (items given) number)
 
-ok_answered : (r : Result (List Item) Fault) → IsOk r → r ≡ Ok (answered r)
+pub ok_answered : (r : Result (List Item) Fault) → IsOk r → r ≡ Ok (answered r)
 ok_answered (Ok ys) ok = refl
 ok_answered (Err fault) ok = absurd (cc)
 
@@ -160,7 +146,7 @@ converted_drain element first calls put p = go (converted first calls).over refl
     go false begun =
         let fed = converted first calls in
         after _ (drained_begun (converts first) calls (Ev Eos ∷ []) begun refl) (append-nil fed.out) refl
-        (same_known _ _ _ _ _ _ _ _ (allowed_drained first fed.given) (ap caps_in_force (items_act fed.given Drain)) (ap caps_in_force (append-nil fed.out)) (ap bytes_got (items_act fed.given Drain)))
+        (same_known _ _ _ _ _ _ _ _ (allowed_more first fed.given (Act Drain ∷ [])) (ap caps_in_force (items_act fed.given Drain)) (ap caps_in_force (append-nil fed.out)) (ap bytes_got (items_act fed.given Drain)))
 
 pub converted_set : (old new : Convert) (caps : Caps) → knows new ≡ record (knows old) { allowed = caps } → new.ended ≡ old.ended
     → (first : Caps) (calls : List Call) (put : List Item) → IsConverted first old calls put → IsConverted first new (calls ++ Act (Set (Allowed caps)) ∷ []) put
@@ -173,6 +159,6 @@ converted_set old new caps set ended first calls put p =
       over = ap (λ (s : Fed). s.over) same ∙ p.over ∙ sym ended;
       eos = eos_act calls mark ∙ p.eos ∙ sym ended;
       as_far = ap (known first) same
-          ∙ same_known _ _ _ _ _ _ _ _ (allowed_set first fed.given caps) (ap caps_in_force (items_act fed.given mark)) refl (ap bytes_got (items_act fed.given mark))
+          ∙ same_known _ _ _ _ _ _ _ _ (allowed_more first fed.given (Act mark ∷ [])) (ap caps_in_force (items_act fed.given mark)) refl (ap bytes_got (items_act fed.given mark))
           ∙ ap (λ (k : Known). knowing caps k.offered k.chosen k.got) p.as_far ∙ sym set;
     }

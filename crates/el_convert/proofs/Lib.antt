@@ -4,6 +4,7 @@ pub mod Choosing
 pub mod Conversion
 pub mod Converting
 pub mod Copies
+pub mod Placing
 pub mod Putting
 pub mod Same
 pub mod Scaling

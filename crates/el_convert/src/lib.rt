@@ -4,6 +4,7 @@
 mod bodies;
 mod choice;
 pub mod convert;
+pub mod laws;
 mod put_out;
 mod raw;
 pub(crate) mod stream;
