@@ -13,3 +13,4 @@ pub mod Ramps
 pub mod Copied
 pub mod OneSet
 pub mod Lists
+pub mod ToldTemplates

@@ -140,7 +140,8 @@ fn ramp_test_src(alloc: Global, props: &[Prop]) -> Result<Settings, PropFault>
     }))
 }
 
-/// The number that is given for a property of these limits, or the plain one.
+/// The number that is given for a property of these limits, or the plain one. The kind is that of the element, whose
+/// property has these limits.
 fn number_in(kind: Kind, props: &[Prop], name: &str, least: u32, most: u32, plain: u32) -> u32
     requires row { domain_named kind name.now ≡ Some (Domain.Number least most) }
     requires some { least ≤ plain }
@@ -217,7 +218,7 @@ fn raw_audio_parse(props: &[Prop]) -> Settings
     })
 }
 
-/// The format of raw audio that is given for a property, or the plain one.
+/// The format of raw audio that is given for a property of an element of this kind, or the plain one.
 fn format_in(kind: Kind, props: &[Prop], name: &str, plain: Sample) -> Sample
     requires row { domain_named kind name.now ≡ Some Domain.Format }
     requires taken { AllTaken kind props.now }

@@ -3,11 +3,16 @@ ghost use Rattle.std.specs.Prelude.{◌≡◌, ℕ, List, [], Result, Ok, true, 
 ghost use Rattle.gst_caps.specs.declared.caps.Caps.{Caps};
 ghost use Rattle.gst_caps.specs.declared.name.Prop.{Prop};
 ghost use Rattle.el_basic.specs.Filters.{filters};
+ghost use Rattle.el_parse.specs.Streams.{raw_template as split_template};
 ghost use Rattle.el_set.specs.Alike.{AreAlike};
+ghost use Rattle.el_set.specs.Asked.{template_of};
 ghost use Rattle.el_set.specs.Checked.{IsAnswer};
 ghost use Rattle.el_set.specs.Denoted.{response_of};
 ghost use Rattle.el_set.specs.declared.fault.PropFault.{PropFault};
+ghost use Rattle.el_set.specs.declared.settings.AudioBufferSplitSettings.{AudioBufferSplitSettings};
 ghost use Rattle.el_set.specs.declared.settings.Settings.{Settings};
+ghost use Rattle.el_set.specs.declared.settings.Settings.TheVariants.{AudioBufferSplit as Splitting, WavEnc as WritingWav};
+ghost use Rattle.el_wavenc.specs.Templates.{sink_template as wavenc_template};
 ghost use Rattle.flow_model.specs.Item.{Item};
 ghost use Rattle.flow_model.specs.Call.{Call, feeds};
 ghost use Rattle.flow_model.specs.Sticky.{has_flush_stop, in_force};
@@ -87,6 +92,13 @@ pub fn rows_end_with_eos()
 #[tactic(auto, using(crate::proofs::Elements::no_fault_was_met))]
 pub fn no_fault_was_met()
     ensures { (respond : Response) (element : FilterElement) (list put : List Item) → has_flush_stop list ≡ false → Stands respond element (feeds list) put → MeetsNoFault respond list }
+{}
+
+/// The template of a sink pad is the one that its element tells where it refuses caps.
+#[tactic(auto, using(crate::proofs::ToldTemplates::wavenc_tells, crate::proofs::ToldTemplates::split_tells))]
+pub fn templates_are_told()
+    ensures wavenc { template_of WritingWav true ≡ wavenc_template }
+    ensures split { (settings : AudioBufferSplitSettings) → template_of (Splitting settings) true ≡ split_template }
 {}
 
 /// Properties have one answer, but for want of memory.
