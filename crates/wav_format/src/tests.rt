@@ -229,10 +229,15 @@ fn knows_sizes_of_formats(rt: HostRuntime) -> Result<(), Fail> {
     Ok(())
 }
 
-/// The heads of a `fmt ` chunk and of a chunk of the size behind it.
+/// A `fmt ` chunk, and the head of a chunk of the size behind it.
 fn followed(alloc: Global, size: u32) -> Result<Vec<u8>, Fail> {
+    listed(alloc, &MONO[..36], size)
+}
+
+/// These bytes, and the head of a LIST chunk of the size behind them.
+fn listed(alloc: Global, front: &[u8], size: u32) -> Result<Vec<u8>, Fail> {
     let mut bytes = Vec::new(alloc);
-    bytes.extend_from_slice(&MONO[..36])?;
+    bytes.extend_from_slice(front)?;
     bytes.extend_from_slice(b"LIST")?;
     bytes.extend_from_slice(&size.to_le_bytes())?;
     Ok(bytes)
@@ -262,6 +267,11 @@ fn ends_within_the_limit(rt: HostRuntime) -> Result<(), Fail> {
             start: 16_777_216,
             ..mono(Some(4))
         })
+    );
+    let before_formats = listed(rt.alloc(), &MONO[..12], 16_777_188)?;
+    assert_eq!(rt;
+        read_head(&before_formats),
+        HeadAnswer::NeedMore(16_777_212)
     );
     Ok(())
 }
