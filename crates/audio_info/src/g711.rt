@@ -1,5 +1,5 @@
 //! The two laws of ITU-T G.711, which keep a sample of 16 bits in a byte.
-ghost use Rattle.std.specs.Prelude.{◌≡◌, ◌≢◌, ℕ, ◌<◌, ◌≤◌, ◌+◌, ◌*◌, ◌/◌, ◌%◌, ◌^◌, nat_le, pos, neg_ℤ, if◌then◌else◌};
+ghost use Rattle.std.specs.Prelude.{◌≡◌, ◌≢◌, ℕ, ◌<◌, ◌≤◌, ◌+◌, ◌*◌, ◌/◌, ◌%◌, ◌^◌, nat_le, pos, neg_ℤ, min, if◌then◌else◌};
 ghost use Rattle.audio_info.specs.Segments.{HoldsALaw, HoldsMuLaw, alaw_code, alaw_magnitude, alaw_segments, alaw_value, interval_of, middle_of, mulaw_code, mulaw_segments, mulaw_value};
 
 /// The greatest magnitude that mu-law tells apart.
@@ -7,6 +7,15 @@ const MULAW_CLIP: u16 = 32_635;
 
 /// What mu-law adds to a magnitude, so that each segment starts at a power of two.
 const MULAW_BIAS: u16 = 132;
+
+/// The least magnitude of the upper half of mu-law's segments.
+const MULAW_UPPER: u16 = 2_048;
+
+/// The least magnitude of the upper half of A-law's segments.
+const ALAW_UPPER: u16 = 4_096;
+
+/// By how many intervals the lines of the upper half come later than those of the lower.
+const UPPER_FIRST: u16 = 64;
 
 /// The highest bit of a code, for the sign.
 const SIGN: u8 = 0x80;
@@ -25,22 +34,31 @@ pub fn mulaw_enc(v: i16) -> u8
     !(sign | mulaw_interval(magnitude))
 }
 
-// The interval of a magnitude of mu-law, counted through all segments. In each segment the intervals are those of a
-// line, and a later segment's line rises half as steeply: so it is the least of the lines.
+// The interval of a magnitude of mu-law, counted through all segments. The upper half of them is as the lower, of magnitudes
+// 16 times as great.
 fn mulaw_interval(magnitude: u16) -> u8
     requires low { 128 ≤ magnitude }
     requires high { magnitude < 2 ^ 15 }
     ensures { result ≡ interval_of mulaw_segments magnitude }
 {
-    let least = (magnitude >> 3)
-        .min((magnitude >> 4) + 16)
-        .min((magnitude >> 5) + 32)
-        .min((magnitude >> 6) + 48)
-        .min((magnitude >> 7) + 64)
-        .min((magnitude >> 8) + 80)
-        .min((magnitude >> 9) + 96)
-        .min((magnitude >> 10) + 112);
-    (least - 16) as u8
+    let (steps, first) = if magnitude < MULAW_UPPER {
+        (magnitude >> 3, 0)
+    } else {
+        (magnitude >> 7, UPPER_FIRST)
+    };
+    (least_line(steps) + first - 16) as u8
+}
+
+// The interval of a magnitude in half of a law's segments, by how many of its narrowest intervals lie below it. In each segment
+// the intervals are those of a line, and a later segment's line rises half as steeply: so it is the least of the lines.
+fn least_line(steps: u16) -> u16
+    requires { steps < 256 }
+    ensures { result ≡ min (min (min steps (steps / 2 + 16)) (steps / 4 + 32)) (steps / 8 + 48) }
+{
+    steps
+        .min((steps >> 1) + 16)
+        .min((steps >> 2) + 32)
+        .min((steps >> 3) + 48)
 }
 
 /// The sample of a mu-law code.
@@ -74,18 +92,17 @@ pub fn alaw_enc(v: i16) -> u8
     (sign | alaw_interval(folded(v))) ^ ALAW_MASK
 }
 
-// The interval of a magnitude of A-law, likewise. The first two segments are of one line.
+// The interval of a magnitude of A-law, likewise. Its first two segments are of one line, and both are of the lower half.
 fn alaw_interval(magnitude: u16) -> u8
     requires { magnitude < 2 ^ 15 }
     ensures { result ≡ interval_of alaw_segments magnitude }
 {
-    (magnitude >> 4)
-        .min((magnitude >> 5) + 16)
-        .min((magnitude >> 6) + 32)
-        .min((magnitude >> 7) + 48)
-        .min((magnitude >> 8) + 64)
-        .min((magnitude >> 9) + 80)
-        .min((magnitude >> 10) + 96) as u8
+    let (steps, first) = if magnitude < ALAW_UPPER {
+        (magnitude >> 4, 0)
+    } else {
+        (magnitude >> 8, UPPER_FIRST)
+    };
+    (least_line(steps) + first) as u8
 }
 
 /// The sample of an A-law code.
