@@ -1,5 +1,5 @@
--- The interval of a magnitude is the least of the lines of the lower or the upper half of a law's segments.
-use Rattle.std.proofs.Common.{◌≡◌, ◌<◌, ◌≤◌, ℕ, ◌+◌, ◌*◌, ◌/◌, min, List, inl, inr, arith}
+-- The interval of a magnitude is the least of the lines of a law's segments, or of half of them.
+use Rattle.std.proofs.Common.{◌≡◌, ◌<◌, ◌≤◌, ℕ, zero, suc, ◌+◌, ◌*◌, ◌/◌, min, List, inl, inr, arith}
 use Rattle.std.proofs.lemmas.Bool.{cases_lt}
 use Rattle.audio_info.specs.Segments.{Segment, mulaw_segments, alaw_segments, segment_at, interval_of, Holds}
 use Rattle.audio_info.proofs.Intervals.{mulaw_finds, alaw_finds, interval_holds}
@@ -14,7 +14,7 @@ record Spans (law : List Segment) (m : ℕ) : Type 0 where
 below : {A : Type 0} (b m : ℕ) → (m < b → A) → (b ≤ m → A) → A
 below b m then else = elim (cases_lt m b) [ inl h ↦ then h | inr h ↦ else h ]
 
--- the least of the lines of half of a law's segments, by how many of the narrowest intervals there lie below a magnitude
+-- the least of the lines of half of the segments, by how many of the narrowest intervals there lie below a magnitude
 abbrev pub least_line : ℕ → ℕ
 least_line s = min (min (min s (s / 2 + 16)) (s / 4 + 32)) (s / 8 + 48)
 
@@ -69,23 +69,26 @@ alaw_spans m high =
     below 16384 m (λ h. record { g = 6; few = omega arith; low = omega arith; high = omega arith }) λ h6.
     record { g = 7; few = omega arith; low = omega arith; high = omega arith }
 
--- in each segment of the lower half its own line is the least
-pub alaw_lower : (m : ℕ) → m < 4096 → least_line (m / 16) ≡ interval_of alaw_segments m
-unfolding interval_of alaw_segments
-alaw_lower m high =
-    below 256 m (λ h. rw (alaw_finds.found 0 m (omega arith) (omega arith) (omega arith)) (omega arith)) λ h0.
-    below 512 m (λ h. rw (alaw_finds.found 1 m (omega arith) (omega arith) (omega arith)) (omega arith)) λ h1.
-    below 1024 m (λ h. rw (alaw_finds.found 2 m (omega arith) (omega arith) (omega arith)) (omega arith)) λ h2.
-    below 2048 m (λ h. rw (alaw_finds.found 3 m (omega arith) (omega arith) (omega arith)) (omega arith)) λ h3.
-    rw (alaw_finds.found 4 m (omega arith) (omega arith) (omega arith)) (omega arith)
+abbrev pub alaw_least : ℕ → ℕ
+alaw_least m = min (min (min (min (min (min (m / 16) (m / 32 + 16)) (m / 64 + 32)) (m / 128 + 48)) (m / 256 + 64)) (m / 512 + 80)) (m / 1024 + 96)
 
--- in each segment of the upper half its own line is the least
-pub alaw_upper : (m : ℕ) → 4096 ≤ m → m < 32768 → least_line (m / 256) + 64 ≡ interval_of alaw_segments m
+-- in each segment its own line is the least
+alaw_line : (g m : ℕ) → g < 8 → (segment_at alaw_segments g).start ≤ m → m < (segment_at alaw_segments g).start + 16 * (segment_at alaw_segments g).width → alaw_least m ≡ interval_of alaw_segments m
 unfolding interval_of alaw_segments
-alaw_upper m low high =
-    below 8192 m (λ h. rw (alaw_finds.found 5 m (omega arith) (omega arith) (omega arith)) (omega arith)) λ h5.
-    below 16384 m (λ h. rw (alaw_finds.found 6 m (omega arith) (omega arith) (omega arith)) (omega arith)) λ h6.
-    rw (alaw_finds.found 7 m (omega arith) (omega arith) (omega arith)) (omega arith)
+alaw_line zero m h low high = rw (alaw_finds.found 0 m h low high) (omega arith)
+alaw_line (suc zero) m h low high = rw (alaw_finds.found 1 m h low high) (omega arith)
+alaw_line (suc (suc zero)) m h low high = rw (alaw_finds.found 2 m h low high) (omega arith)
+alaw_line (suc (suc (suc zero))) m h low high = rw (alaw_finds.found 3 m h low high) (omega arith)
+alaw_line (suc (suc (suc (suc zero)))) m h low high = rw (alaw_finds.found 4 m h low high) (omega arith)
+alaw_line (suc (suc (suc (suc (suc zero))))) m h low high = rw (alaw_finds.found 5 m h low high) (omega arith)
+alaw_line (suc (suc (suc (suc (suc (suc zero)))))) m h low high = rw (alaw_finds.found 6 m h low high) (omega arith)
+alaw_line (suc (suc (suc (suc (suc (suc (suc zero))))))) m h low high = rw (alaw_finds.found 7 m h low high) (omega arith)
+alaw_line (suc (suc (suc (suc (suc (suc (suc (suc g)))))))) m h low high = absurd (omega arith)
+
+pub alaw_least_is : (m : ℕ) → m < 32768 → alaw_least m ≡ interval_of alaw_segments m
+alaw_least_is m high =
+    let s = alaw_spans m high in
+    alaw_line s.g m s.few s.low s.high
 
 pub alaw_holds : (m : ℕ) → m < 32768 → Holds alaw_segments (interval_of alaw_segments m) m × (interval_of alaw_segments m < 128)
 alaw_holds m high =

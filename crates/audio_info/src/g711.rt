@@ -11,9 +11,6 @@ const MULAW_BIAS: u16 = 132;
 /// The least magnitude of the upper half of mu-law's segments.
 const MULAW_UPPER: u16 = 2_048;
 
-/// The least magnitude of the upper half of A-law's segments.
-const ALAW_UPPER: u16 = 4_096;
-
 /// By how many intervals the lines of the upper half come later than those of the lower.
 const UPPER_FIRST: u16 = 64;
 
@@ -49,7 +46,7 @@ fn mulaw_interval(magnitude: u16) -> u8
     (least_line(steps) + first - 16) as u8
 }
 
-// The interval of a magnitude in half of a law's segments, by how many of its narrowest intervals lie below it. In each segment
+// The interval of a magnitude in half of the segments, by how many of its narrowest intervals lie below it. In each segment
 // the intervals are those of a line, and a later segment's line rises half as steeply: so it is the least of the lines.
 fn least_line(steps: u16) -> u16
     requires { steps < 256 }
@@ -92,17 +89,18 @@ pub fn alaw_enc(v: i16) -> u8
     (sign | alaw_interval(folded(v))) ^ ALAW_MASK
 }
 
-// The interval of a magnitude of A-law, likewise. Its first two segments are of one line, and both are of the lower half.
+// The interval of a magnitude of A-law, as the least of the lines of all segments. The first two are of one line.
 fn alaw_interval(magnitude: u16) -> u8
     requires { magnitude < 2 ^ 15 }
     ensures { result ≡ interval_of alaw_segments magnitude }
 {
-    let (steps, first) = if magnitude < ALAW_UPPER {
-        (magnitude >> 4, 0)
-    } else {
-        (magnitude >> 8, UPPER_FIRST)
-    };
-    (least_line(steps) + first) as u8
+    (magnitude >> 4)
+        .min((magnitude >> 5) + 16)
+        .min((magnitude >> 6) + 32)
+        .min((magnitude >> 7) + 48)
+        .min((magnitude >> 8) + 64)
+        .min((magnitude >> 9) + 80)
+        .min((magnitude >> 10) + 96) as u8
 }
 
 /// The sample of an A-law code.
