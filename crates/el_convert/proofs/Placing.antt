@@ -82,6 +82,13 @@ drained_more first s = go s.over
     go true = omega arith
     go false = longer s.out []
 
+-- a setting counts from its place on
+before_place : (allowed caps : Caps) (place : ℕ) (later : List (ℕ × Caps)) (n : ℕ) → n < place → allowed_at allowed ((place, caps) ∷ later) n ≡ allowed
+before_place allowed caps place later n before = ap (λ (b : Bool). if b then allowed_at caps later n else allowed) (lt-leb place n before)
+
+from_place : (allowed caps : Caps) (place : ℕ) (later : List (ℕ × Caps)) (n : ℕ) → place ≤ n → allowed_at allowed ((place, caps) ∷ later) n ≡ allowed_at caps later n
+from_place allowed caps place later n within = ap (λ (b : Bool). if b then allowed_at caps later n else allowed) (le-leb place n within)
+
 -- a setting that comes when more was put out does not count yet
 not_yet : (first : Caps) (s : Fed) (calls : List Call) (n : ℕ) (allowed : Caps) → n < length s.out → allowed_at allowed (settings_in first s calls) n ≡ allowed
 not_yet first s [] n allowed before = refl
@@ -92,7 +99,8 @@ not_yet first s (Act Drain ∷ calls) n allowed before =
     let more = drained_more first s in
     not_yet first (called (converts first) s (Act Drain)) calls n allowed (omega (arith, more, before))
 not_yet first s (Act (Set (Filter caps)) ∷ calls) n allowed before = not_yet first (called (converts first) s (Act (Set (Filter caps)))) calls n allowed before
-not_yet first s (Act (Set (Allowed caps)) ∷ calls) n allowed before = rw (lt-leb (length s.out) n before) refl
+not_yet first s (Act (Set (Allowed caps)) ∷ calls) n allowed before =
+    before_place allowed caps _ (settings_in first (called (converts first) s (Act (Set (Allowed caps)))) calls) n (omega (arith, before))
 
 -- ---- the two rules side by side
 
@@ -198,7 +206,7 @@ beside_set first settings s t caps calls p = record {
   ahead = λ n within.
       let rest = settings_in first (called (converts first) s (Act (Set (Allowed caps)))) calls in
       p.ahead n within
-      ∙ ap (λ (b : Bool). if b then allowed_at caps rest n else allowed_in first s.given) (le-leb (length s.out) n within)
+      ∙ from_place (allowed_in first s.given) caps _ rest n (omega (arith, within))
       ∙ ap (λ a. allowed_at a rest n) (sym (allowed_more first s.given (Act (Set (Allowed caps)) ∷ [])));
 }
 
