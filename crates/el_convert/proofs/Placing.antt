@@ -114,7 +114,7 @@ record AreBeside (first : Caps) (settings : List (ℕ × Caps)) (s t : Fed) (cal
 
 -- behind a call that sets nothing
 beside_more : (first : Caps) (settings : List (ℕ × Caps)) (s t s' t' : Fed) (call : Call) (calls : List Call) → AreBeside first settings s t (call ∷ calls)
-    → setting_at (length s.out) call ≡ [] → called (converts first) s call ≡ s' → called (converts_placed first settings) t call ≡ t'
+    → ((place : ℕ) → setting_at place call ≡ []) → called (converts first) s call ≡ s' → called (converts_placed first settings) t call ≡ t'
     → s'.out ≡ t'.out → s'.over ≡ t'.over → items s'.given ≡ items t'.given → length s.out ≤ length s'.out → allowed_in first s'.given ≡ allowed_in first s.given
     → AreBeside first settings (called (converts first) s call) (called (converts_placed first settings) t call) calls
 beside_more first settings s t s' t' call calls p none e f out over given more same = record {
@@ -125,7 +125,7 @@ beside_more first settings s t s' t' call calls p none e f out over given more s
       let long = ap (λ (u : Fed). length u.out) e in
       let rest = settings_in first (called (converts first) s call) calls in
       p.ahead n (omega (arith, long, more, within))
-      ∙ ap (λ ms. allowed_at (allowed_in first s.given) (ms ++ rest) n) none
+      ∙ ap (λ ms. allowed_at (allowed_in first s.given) (ms ++ rest) n) (none _)
       ∙ ap (λ a. allowed_at a rest n) (sym same ∙ sym (ap (λ (u : Fed). allowed_in first u.given) e));
 }
 
@@ -160,11 +160,11 @@ beside_fed first settings s t x calls p taken = go (is_flush_stop x) refl s.over
     go : (flush : Bool) → is_flush_stop x ≡ flush → (over : Bool) → s.over ≡ over
         → AreBeside first settings (called (converts first) s (Feed x)) (called (converts_placed first settings) t (Feed x)) calls
     go true flush over is =
-        beside_more first settings s t (flushed s x) (flushed t x) (Feed x) calls p refl
+        beside_more first settings s t (flushed s x) (flushed t x) (Feed x) calls p (λ place. refl)
         (fed_as (converts first) s x true over _ flush is refl) (fed_as (converts_placed first settings) t x true over _ flush (sym p.over ∙ is) refl)
         (ap (λ ys. ys ++ x ∷ []) p.out) refl fed_same (longer s.out (x ∷ [])) (allowed_more first s.given (Feed x ∷ []))
     go false plain true over =
-        beside_more first settings s t s t (Feed x) calls p refl
+        beside_more first settings s t s t (Feed x) calls p (λ place. refl)
         (fed_as (converts first) s x false true _ plain over refl) (fed_as (converts_placed first settings) t x false true _ plain (sym p.over ∙ over) refl)
         p.out p.over p.given (omega arith) refl
     go false plain false begun =
@@ -177,7 +177,7 @@ beside_fed first settings s t x calls p taken = go (is_flush_stop x) refl s.over
         ap (λ (zs : List Item). allowed_at first settings (length zs)) (sym p.out) ∙ p.ahead (length s.out) (omega arith)
         ∙ not_yet first (called (converts first) s (Feed x)) calls (length s.out) (allowed_in first s.given) (omega (arith, long, some)) in
         let owed_placed : converts_placed first settings t x ≡ Ok ys = answer_placed first settings s t x p.out p.given allowed ∙ owed in
-        beside_more first settings s t (responded s x (Ok ys)) (responded t x (Ok ys)) (Feed x) calls p refl
+        beside_more first settings s t (responded s x (Ok ys)) (responded t x (Ok ys)) (Feed x) calls p (λ place. refl)
         here (fed_as (converts_placed first settings) t x false false (Ok ys) plain (sym p.over ∙ begun) owed_placed)
         (ap (λ zs. zs ++ ys) p.out) refl fed_same (longer s.out ys) (allowed_more first s.given (Feed x ∷ []))
 
@@ -190,10 +190,10 @@ beside_drained first settings s t calls p = go s.over refl
   where
     go : (over : Bool) → s.over ≡ over → AreBeside first settings (called (converts first) s (Act Drain)) (called (converts_placed first settings) t (Act Drain)) calls
     go true over =
-        beside_more first settings s t s t (Act Drain) calls p refl (drained_as s true over) (drained_as t true (sym p.over ∙ over)) p.out p.over p.given (omega arith) refl
+        beside_more first settings s t s t (Act Drain) calls p (λ place. refl) (drained_as s true over) (drained_as t true (sym p.over ∙ over)) p.out p.over p.given (omega arith) refl
     go false begun =
         let owed = Ok (Ev Eos ∷ []) in
-        beside_more first settings s t (drained s owed) (drained t owed) (Act Drain) calls p refl (drained_as s false begun) (drained_as t false (sym p.over ∙ begun))
+        beside_more first settings s t (drained s owed) (drained t owed) (Act Drain) calls p (λ place. refl) (drained_as s false begun) (drained_as t false (sym p.over ∙ begun))
         (ap (λ ys. ys ++ []) p.out) p.over (items_act s.given Drain ∙ p.given ∙ sym (items_act t.given Drain)) (longer s.out []) (allowed_more first s.given (Act Drain ∷ []))
 
 -- a setting is left out of the calls of the rule by places
