@@ -31,8 +31,8 @@ pub fn mulaw_enc(v: i16) -> u8
     !(sign | mulaw_interval(magnitude))
 }
 
-// The interval of a magnitude of mu-law, counted through all segments. The upper half of them is as the lower, of magnitudes
-// 16 times as great.
+// The interval of a magnitude of mu-law, counted through all segments. The upper half of them is as the lower, of
+// magnitudes 16 times as great.
 fn mulaw_interval(magnitude: u16) -> u8
     requires low { 128 ≤ magnitude }
     requires high { magnitude < 2 ^ 15 }
@@ -46,8 +46,9 @@ fn mulaw_interval(magnitude: u16) -> u8
     (least_line(steps) + first - 16) as u8
 }
 
-// The interval of a magnitude in half of the segments, by how many of its narrowest intervals lie below it. In each segment
-// the intervals are those of a line, and a later segment's line rises half as steeply: so it is the least of the lines.
+// The interval of a magnitude in half of the segments, by how many of its narrowest intervals lie below it. In each
+// segment the intervals are those of a line, and a later segment's line rises half as steeply: so it is the least of
+// the lines.
 fn least_line(steps: u16) -> u16
     requires { steps < 256 }
     ensures { result ≡ min (min (min steps (steps / 2 + 16)) (steps / 4 + 32)) (steps / 8 + 48) }

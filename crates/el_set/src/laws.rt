@@ -94,7 +94,8 @@ pub fn no_fault_was_met()
     ensures { (respond : Response) (element : FilterElement) (list put : List Item) → has_flush_stop list ≡ false → Stands respond element (feeds list) put → MeetsNoFault respond list }
 {}
 
-/// The template of a sink pad is the one that its element tells where it refuses caps.
+/// The template of a sink pad is the one that its element tells where it refuses caps: wavenc before its CAPS are
+/// settled, audiobuffersplit always.
 #[tactic(auto, using(crate::proofs::ToldTemplates::wavenc_tells, crate::proofs::ToldTemplates::split_tells))]
 pub fn templates_are_told()
     ensures wavenc { template_of WritingWav true ≡ wavenc_template }

@@ -50,8 +50,8 @@ pub fn filter_of(alloc: Global, settings: &Settings) -> Result<Option<FilterElem
 }
 
 /// The source of these settings, of the number `id`, which was asked for nothing yet; `title` is a copy of
-/// `settings.title()`, what they say that its stream is called, and `file` is what it reads. None where they are those of
-/// no source, or of one that reads a file and none is given. Takes no memory.
+/// `settings.title()`, what they say that its stream is called, and `file` is what it reads. None where they are those
+/// of no source, or of one that reads a file and none is given. Takes no memory.
 pub fn source_of<S: Source>(
     settings: &Settings,
     title: Option<Text>,

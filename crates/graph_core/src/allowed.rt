@@ -77,8 +77,8 @@ pub(crate) fn allowed_caps(
 }
 
 /// The caps that a source pad is allowed to have, where fewer than `limit` elements come one behind the other from it.
-/// In a graph whose links lead from pads that are there to pads that are there, and round in no circle, the limit is not
-/// reached, and each sink pad is that of an element.
+/// In a graph whose links lead from pads that are there to pads that are there, and round in no circle, the limit is
+/// not reached, and each sink pad is that of an element.
 fn allowed_within(
     alloc: Global,
     elements: &Elements,

@@ -140,9 +140,9 @@ impl Graph {
         source_before(self.links.made.as_slice(), sink)
     }
 
-    /// The caps that a source pad is allowed to have: all where it is not linked, those of the next source pad through an
-    /// identity or a queue, and through a capsfilter those of them that are its own too, in the order of its own. Before
-    /// any other element they are what the sink pad takes.
+    /// The caps that a source pad is allowed to have: all where it is not linked, those of the next source pad through
+    /// an identity or a queue, and through a capsfilter those of them that are its own too, in the order of its own.
+    /// Before any other element they are what the sink pad takes.
     ///
     /// Answers `TooMany` where a capsfilter and what is allowed behind it have too many caps in common.
     pub fn allowed(&self, alloc: Global, source: PadPlace) -> Result<Caps, CapsFault>

@@ -23,8 +23,8 @@ pub fn elements_stand_once()
     ensures begun { (made : List Made) (links : List LinkOf) (ways : List WayOf) → AreWays made links ways → (e : ℕ) → has is_head made e ≡ true → (k : ℕ) × StandsAt ways k 0 e }
 {}
 
-/// A way goes as far as it can: a filter that an element on it leads to stands behind that one, and at a queue or a sink
-/// it ends. At each of these one way ends at the most.
+/// A way goes as far as it can: a filter that an element on it leads to stands behind that one, and at a queue or a
+/// sink it ends. At each of these one way ends at the most.
 pub fn ways_go_on()
     ensures filters { (made : List Made) (links : List LinkOf) (ways : List WayOf) → AreWays made links ways → (k place e d : ℕ) → StandsAt ways k place e → LeadsTo links e d → has is_filter made d ≡ true → StandsAt ways k (place + 1) d }
     ensures queues { (made : List Made) (links : List LinkOf) (ways : List WayOf) → AreWays made links ways → (k place e d : ℕ) → StandsAt ways k place e → LeadsTo links e d → has is_queue made d ≡ true → WayEnds ways k (Queue d) }

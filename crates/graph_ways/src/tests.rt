@@ -7,8 +7,8 @@ use std::alloc::Global;
 use std::process::Abort;
 use std::test::Fail;
 
-/// Each row: a line, and then its ways. Each begins with a source or a queue, goes on over filters, and ends at nothing,
-/// at a queue or at a sink.
+/// Each row: a line, and then its ways. Each begins with a source or a queue, goes on over filters, and ends at
+/// nothing, at a queue or at a sink.
 const ROWS: &str = "\
 fakesink ->
 filesrc location=a -> filesrc0.

@@ -185,8 +185,9 @@ pub fn refuse<O: Sink>(alloc: Global, untaken: Untaken, out: &mut O) -> Outcome
 
 /// Runs the launch line that the words spell, and writes its report to `out`.
 ///
-/// The words are `[--threads on|off] [--order N] [--quiet] WORD...`. The WORDs are joined by one space each, and a space
-/// inside of a WORD gets a backslash. The tasks take turns on one thread, drawn from N, with both values of `--threads`.
+/// The words are `[--threads on|off] [--order N] [--quiet] WORD...`. The WORDs are joined by one space each, and a
+/// space inside of a WORD gets a backslash. The tasks take turns on one thread, drawn from N, with both values of
+/// `--threads`.
 ///
 /// The status is that of the run, or 1 where the words are not taken or have no line, 2 where they spell no line, 3 and
 /// 4 where the line has no graph, 13 where memory is wanting, and 14 where the report could not be written;

@@ -13,14 +13,15 @@ ghost use Rattle.run_files.specs.declared.end.Opening.TheVariants.{Read, Write};
 
 use gst_outside::Files;
 
-/// A location that an element of a line writes is opened by no other element of that line, neither to write it nor to read it.
+/// A location that an element of a line writes is opened by no other element of that line, neither to write it nor to
+/// read it.
 pub fn locations_have_one_writer()
     ensures writers { (tree : Tree) (graph : GraphOf) → IsGraph tree graph → (d e : ℕ) (m n : Made) (location : List ℕ) → slice_get (made_in graph) d ≡ Some m → slice_get (made_in graph) e ≡ Some n → opening_of m.settings ≡ Some (Write location) → opening_of n.settings ≡ Some (Write location) → d ≡ e }
     ensures readers { (tree : Tree) (graph : GraphOf) → IsGraph tree graph → (d e : ℕ) (m n : Made) (location : List ℕ) → slice_get (made_in graph) d ≡ Some m → slice_get (made_in graph) e ≡ Some n → opening_of m.settings ≡ Some (Write location) → opening_of n.settings ≡ Some (Read location) → ⊥ }
 {}
 
-/// Of ends that are where they were opened, one is a sink at a location that an element writes, and none at another. Each end that is
-/// known of an element is among those that are there, and there are as many as were opened.
+/// Of ends that are where they were opened, one is a sink at a location that an element writes, and none at another.
+/// Each end that is known of an element is among those that are there, and there are as many as were opened.
 pub fn ends_are_where_they_were_opened()
     ensures one_sink { (tree : Tree) (graph : GraphOf) (known : List (Option Known)) (e : ℕ) (m : Made) (location : List ℕ) → IsGraph tree graph → AreLocated (made_in graph) known → slice_get (made_in graph) e ≡ Some m → opening_of m.settings ≡ Some (Write location) → count_by (is_sink_at location) (present known) ≡ 1 }
     ensures no_sink { (l : List ℕ) (made : List Made) (known : List (Option Known)) → AreLocated made known → ((e : ℕ) (m : Made) → slice_get made e ≡ Some m → opening_of m.settings ≡ Some (Write l) → ⊥) → count_by (is_sink_at l) (present known) ≡ 0 }

@@ -8,8 +8,8 @@ ghost use Rattle.line_files.specs.Files.{LineOpens, WereTold};
 
 use gst_outside::{Sink, Source};
 
-/// The ends that a line's elements opened are the files with which its tasks start, where what its sinks write is told; and where
-/// the content of what its sources read was told, it is that of these files.
+/// The ends that a line's elements opened are the files with which its tasks start, where what its sinks write is told;
+/// and where the content of what its sources read was told, it is that of these files.
 pub fn opened_lines_have_files<S: Source, K: Sink>()
     ensures files { (made : List Made) (ends : List (Option (EndOf S K))) (before after : Seen) → LineOpens S.location S.content S.faults K.location K.bytes K.faults made ends before after → HasFiles K.bytes made ends }
     ensures told { (made : List Made) (ends : List (Option (EndOf S K))) (before after : Seen) (contents : ℕ → List ℕ) → LineOpens S.location S.content S.faults K.location K.bytes K.faults made ends before after → WereTold made before contents → AreTold S.content ends contents }

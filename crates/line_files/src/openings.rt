@@ -9,8 +9,8 @@ use gst_caps::OutOfMemory;
 use run_files::Opening;
 use std::alloc::Global;
 
-/// What each element of a line opens, in the order of the line: a filesrc reads its location, a filesink writes its own,
-/// and the others open nothing.
+/// What each element of a line opens, in the order of the line: a filesrc reads its location, a filesink writes its
+/// own, and the others open nothing.
 pub fn openings_of(alloc: Global, graph: &Graph) -> Result<Vec<Option<Opening>>, OutOfMemory>
     ensures { IfOk result (λ openings. openings.items ≡ map made_opening (made_in graph.now)) }
 {

@@ -46,8 +46,8 @@ pub fn tasks_along_ways_give_the_whole<
     net_to_whole::<S, K, I, O>();
 }
 
-/// Where the pads of tasks along ways are put into a list of pads that counted nothing, each has counted what crossed it,
-/// at the end of a run and where a task met a fault.
+/// Where the pads of tasks along ways are put into a list of pads that counted nothing, each has counted what crossed
+/// it, at the end of a run and where a task met a fault.
 pub fn put_pads_count_histories<
     S: Source,
     K: Sink,

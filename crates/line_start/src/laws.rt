@@ -19,8 +19,8 @@ ghost use Rattle.line_start.specs.Start.{AreTold, HasFiles, start_lists};
 use gst_outside::{Sink, Source};
 use lane_core::{Inlet, Outlet};
 
-/// Tasks that are made of a line's parts, with the files of its sources and sinks, go along the ways of its graph, and have
-/// the pads of the elements on these.
+/// Tasks that are made of a line's parts, with the files of its sources and sinks, go along the ways of its graph, and
+/// have the pads of the elements on these.
 pub fn tasks_start_along<S: Source, K: Sink, I: Inlet<Out = O>, O: Outlet<Lanes = I::Lanes>>()
     ensures along { (tree : Tree) (graph : GraphOf) (ways : List WayOf) (parts : List (PartOf I O)) (table : _) (ends : List (Option (EndOf S K))) (tasks : List (TaskOf S K I O)) (left : List (Option (EndOf S K))) → IsGraph tree graph → AreWays (made_in graph) (links_in graph) ways
         → AreParts I.place I.received O.place O.limits O.count O.sent (made_in graph) (links_in graph) ways parts table → HasFiles K.bytes (made_in graph) ends → AreMade S.content K.bytes I.received O.sent I.place (made_in graph) parts ends tasks left → AreAlong I.place O.place O.limits (lane_place (made_in graph) (links_in graph)) (made_in graph) (links_in graph) ways tasks }
@@ -28,8 +28,8 @@ pub fn tasks_start_along<S: Source, K: Sink, I: Inlet<Out = O>, O: Outlet<Lanes 
         → AreParts I.place I.received O.place O.limits O.count O.sent (made_in graph) (links_in graph) ways parts table → AreMade S.content K.bytes I.received O.sent I.place (made_in graph) parts ends tasks left → AreNumbered ways tasks }
 {}
 
-/// Such tasks are a net with the table of their lanes, as `run_tasks` asks, and stand for the lists with which a line starts; where
-/// the content of each source's file is told, each source owes the list of its settings for that.
+/// Such tasks are a net with the table of their lanes, as `run_tasks` asks, and stand for the lists with which a line
+/// starts; where the content of each source's file is told, each source owes the list of its settings for that.
 pub fn lines_start<S: Source, K: Sink, I: Inlet<Out = O>, O: Outlet<Lanes = I::Lanes>>()
     ensures net { (tree : Tree) (graph : GraphOf) (ways : List WayOf) (parts : List (PartOf I O)) (table : _) (ends : List (Option (EndOf S K))) (tasks : List (TaskOf S K I O)) (left : List (Option (EndOf S K))) → IsGraph tree graph → AreWays (made_in graph) (links_in graph) ways
         → AreParts I.place I.received O.place O.limits O.count O.sent (made_in graph) (links_in graph) ways parts table → HasFiles K.bytes (made_in graph) ends → AreMade S.content K.bytes I.received O.sent I.place (made_in graph) parts ends tasks left

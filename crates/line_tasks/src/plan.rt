@@ -43,8 +43,8 @@ impl<S: Source, K: Sink, I: Inlet<Out = O>, O: Outlet<Lanes = I::Lanes>> Plan<S,
         Ok(Plan { parts, tasks })
     }
 
-    /// The tasks of the parts of this graph, in their order. Each takes the file of its source and that of its sink from
-    /// the ends of the elements. It takes no memory.
+    /// The tasks of the parts of this graph, in their order. Each takes the file of its source and that of its sink
+    /// from the ends of the elements. It takes no memory.
     pub fn into_tasks(
         self,
         alloc: Global,

@@ -13,8 +13,8 @@ use std::process::Abort;
 use std::test::Fail;
 use task_core::{Head, Tail, Task};
 
-/// Each row: a line, and the parts of its tasks: the first element, with a star where it takes from a lane, the elements
-/// whose source pads a part has, and where the items go.
+/// Each row: a line, and the parts of its tasks: the first element, with a star where it takes from a lane, the
+/// elements whose source pads a part has, and where the items go.
 const ROWS: &str = "\
 fakesink ->
 filesrc location=a -> filesrc0: filesrc0.

@@ -21,7 +21,7 @@ pub struct Options {
     pub line: Text,
 }
 
-/// Reads the program's words, which do not have its name among them: `[--threads on|off] [--order N] [--quiet] WORD...`.
+/// Reads the program's words, its name not among them: `[--threads on|off] [--order N] [--quiet] WORD...`.
 ///
 /// Options may stand behind words of the line too, up to a `--`. A word that begins with a hyphen stands behind a `--`,
 /// except for a hyphen alone. Where the command does not take the words, or a value is none of its option's, the answer

@@ -261,7 +261,8 @@ impl<S: Source, K: Sink, I: Inlet<Out = O>, O: Outlet<Lanes = I::Lanes>> Task<S,
         reach.checked_sub(1)
     }
 
-    /// The oldest item that waits at a stage crosses its pad, and what the element behind it puts out waits at the next.
+    /// The oldest item that waits at a stage crosses its pad, and what the element behind it puts out waits at the
+    /// next.
     fn pass(&mut self, alloc: Global, place: usize) -> Result<(), TaskFault>
         requires farthest { IsFarthest (stages_of self.old) place }
         requires reach { self.old.reach ≡ place + 1 }

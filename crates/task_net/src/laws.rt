@@ -17,8 +17,8 @@ pub fn behind_sources_all_are_over<
     ensures { (tasks : _) (was : ℕ → TaskLists) (tells : _) → IsWired I.place O.place O.limits tasks → (ended : NetEnded S.content K.bytes I.received O.sent I.place O.place tasks was tells) → AllFed I.place O.place tasks → AllOver tasks ended.lists }
 {}
 
-/// At the end, by the lists of the end, and also where a task met a fault, what crossed each pad begins what was put on it,
-/// and what a queue gave begins what was sent to it.
+/// At the end, by the lists of the end, and also where a task met a fault, what crossed each pad begins what was put on
+/// it, and what a queue gave begins what was sent to it.
 pub fn nets_have_crossed<S: Source, K: Sink, I: Inlet<Out = O>, O: Outlet<Lanes = I::Lanes>>()
     ensures ended { (tasks : _) (was : ℕ → TaskLists) (tells : _) → IsSome tells → (ended : NetEnded S.content K.bytes I.received O.sent I.place O.place tasks was tells) → (crossed : NetCrossed S.content I.received I.place O.place tasks was) × (crossed.lists ≡ ended.lists) }
     ensures faulted { (tasks : _) (was : ℕ → TaskLists) (tells : _) (place : ℕ) (fault : Fault) → place < length tasks → NetFaulted S.content K.bytes I.received O.sent I.place O.place tasks was tells place fault → NetCrossed S.content I.received I.place O.place tasks was }

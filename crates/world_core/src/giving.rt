@@ -121,8 +121,8 @@ fn give_task<S: Source, K: Sink, I: Inlet<Out = O>, O: Outlet<Lanes = I::Lanes>>
     give_tail(graph, tail, ends);
 }
 
-/// Puts the files of tasks at the numbers of their elements, and the lengths of what they wrote, in bytes. What waited in
-/// the tasks is given up.
+/// Puts the files of tasks at the numbers of their elements, and the lengths of what they wrote, in bytes. What waited
+/// in the tasks is given up.
 pub(crate) fn give_back<S: Source, K: Sink, I: Inlet<Out = O>, O: Outlet<Lanes = I::Lanes>>(
     graph: &Graph,
     mut tasks: Vec<Task<S, K, I, O>>,

@@ -246,9 +246,10 @@ fn not_begun(alloc: Global, openings: &[Option<Opening>], unopened: Unopened) ->
 /// There is a task for each source and each queue. Each turn steps the task whose place among them is the order's next
 /// number modulo their count. A filesink's file begins empty.
 ///
-/// The status is 0 where EOS came to all live sinks, 6 where a location could not be opened, 7 and 8 where a source could
-/// not be read or a filesink not be written, 9, 10 and 15 where an element's rule refuses an item, 11 where a buffer is
-/// owed to a pad without a link, 13 where memory is wanting, and 15 where more than 2^40 items were to cross a pad.
+/// The status is 0 where EOS came to all live sinks, 6 where a location could not be opened, 7 and 8 where a source
+/// could not be read or a filesink not be written, 9, 10 and 15 where an element's rule refuses an item, 11 where a
+/// buffer is owed to a pad without a link, 13 where memory is wanting, and 15 where more than 2^40 items were to cross
+/// a pad.
 pub fn run_turns<F: Files>(alloc: Global, graph: Graph, files: &mut F, turns: Order) -> WorldEnd
     requires built { IsBuilt graph }
     ensures ended { result.status ≢ 13 → IsWorldEnd graph (seen (F.input files.old) (F.output files.old) (F.faults_of files.old) (F.refused_of files.old) (F.faults files.old) (F.ends files.old)) (seen (F.input files.new) (F.output files.new) (F.faults_of files.new) (F.refused_of files.new) (F.faults files.new) (F.ends files.new)) result }

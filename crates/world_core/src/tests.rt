@@ -10,10 +10,10 @@ use std::process::Abort;
 use std::test::Fail;
 use turn_order::Order;
 
-/// Each row: the call that fails, if one does, with its number; behind a colon the turns, a digit each, that come before
-/// 0, 1, 2 and so on; the line; the lines of its report; and the bytes at `b` and at `d`. At `a` stands `abcdef`, at `c`
-/// `xyz`, and at every other location nothing. `r` is a read of `a`, `w` a write of `b`, `i` an opening for reading and
-/// `o` one for writing.
+/// Each row: the call that fails, if one does, with its number; behind a colon the turns, a digit each, that come
+/// before 0, 1, 2 and so on; the line; the lines of its report; and the bytes at `b` and at `d`. At `a` stands
+/// `abcdef`, at `c` `xyz`, and at every other location nothing. `r` is a read of `a`, `w` a write of `b`, `i` an
+/// opening for reading and `o` one for writing.
 const ROWS: &str = "\
 -: filesrc location=a blocksize=2 ! filesink location=b => status 0 Eos / pad filesrc0.src items 6 buffers 3 / sink filesink0 bytes 6 / b=abcdef d=
 -: filesrc location=a blocksize=4 ! identity ! queue max-size-buffers=1 ! identity ! queue ! filesink location=b => status 0 Eos / pad filesrc0.src items 5 buffers 2 / pad identity0.src items 5 buffers 2 / pad queue0.src items 5 buffers 2 / pad identity1.src items 5 buffers 2 / pad queue1.src items 5 buffers 2 / sink filesink0 bytes 6 / b=abcdef d=
@@ -138,7 +138,8 @@ fn rows(rt: HostRuntime) -> Result<(), Fail> {
     Ok(())
 }
 
-/// Each row: the bytes at `a`; behind a colon the line; the lines of its report; and the bytes at `b`. A byte is two digits.
+/// Each row: the bytes at `a`; behind a colon the line; the lines of its report; and the bytes at `b`. A byte is two
+/// digits.
 const AUDIO: &str = "\
 : ramptestsrc num-buffers=1 rate=44100 ! audio/x-raw,rate=8000 ! fakesink => status 10 NotNegotiated / fault caps capsfilter0 offered audio/x-raw, channels=(int)1, format=(string)S16LE, layout=(string)interleaved, rate=(int)44100 wanted audio/x-raw, rate=(int)8000 / pad ramptestsrc0.src items 1 buffers 0 / pad capsfilter0.src items 1 buffers 0 / b=
 : ramptestsrc num-buffers=1 rate=44100 ! audio/x-raw,rate=8000;audio/x-raw,rate=44100 ! fakesink => status 0 Eos / pad ramptestsrc0.src items 5 buffers 1 / pad capsfilter0.src items 5 buffers 1 / b=
