@@ -6,8 +6,8 @@ use Rattle.wav_format.specs.declared.head.WavKind.{WavKind}
 use Rattle.wav_format.specs.declared.head.WavKind.TheVariants.{NotRiff, NotWave, NoFmt, BadFmt, TagUnknown, HeadTooLong}
 use Rattle.wav_format.specs.declared.chunk.Reading.{Reading}
 use Rattle.wav_format.specs.declared.chunk.Reading.TheVariants.{Passed, Ended}
-use Rattle.wav_format.specs.Chunks.{BeginsWithHead, EndsHead, IsPassed, Reaches, Spot, chunk_length, format_after, longest_head}
-use Rattle.wav_format.specs.Cuts.{ChunkCut, OpeningCut, deciding, opening_length}
+use Rattle.wav_format.specs.Chunks.{BeginsWithHead, EndsHead, Reaches, Spot, chunk_length, format_after, longest_head}
+use Rattle.wav_format.specs.Cuts.{ChunkCut, IsDecided, OpeningCut, deciding, opening_length}
 use Rattle.wav_format.specs.Faults.{ChunkFault, FaultIn, MayBeFormat, MayFit}
 
 -- what is wrong with a `fmt ` body of that size which begins with these bytes
@@ -26,7 +26,7 @@ AnswerAt s (NeedMore n) = ChunkCut s × (n ≡ deciding s)
 AnswerAt s (Bad place kind) = ChunkFault s place kind
 
 abbrev pub ReadsAt : Spot → Reading → Type 0
-ReadsAt s (Passed len format) = IsPassed longest_head s × (len ≡ chunk_length s.left) × (format ≡ format_after s)
+ReadsAt s (Passed len format) = IsDecided s × (len ≡ chunk_length s.left) × (format ≡ format_after s)
 ReadsAt s (Ended answer) = AnswerAt s answer
 
 -- the bytes end before a head does, and decide more from the length n on

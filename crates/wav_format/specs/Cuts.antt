@@ -70,6 +70,16 @@ deciding_body s =
 abbrev pub deciding : Spot → ℕ
 deciding s = if nat_lt (length s.left) 8 then deciding_head s else deciding_body s
 
+-- The next length of the body that decides more, or None of a chunk whose body has nothing more to decide.
+abbrev pub open_length : List ℕ → Option ℕ
+open_length left = if begins (codes "fmt ") left then body_length (little_from 0 2 (body_at left) == extensible) (length (body_at left)) else None
+
+-- A chunk is decided, whether or not the bytes end in it.
+pub record IsDecided (s : Spot) : Type 0 where
+  pub headed : IsHeaded s
+  pub room : HasRoom s
+  pub said : open_length s.left ≡ None
+
 -- n is the least length that decides more: bytes that go on, but are shorter than n, are cut too, and some that
 -- are n long are not.
 pub record IsLeast (bytes : List ℕ) (n : ℕ) : Type 0 where

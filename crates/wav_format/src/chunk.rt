@@ -3,8 +3,9 @@ ghost use Rattle.std.specs.Prelude.{◌≡◌, ◌≢◌, ℕ, ◌+◌, ◌-◌,
 ghost use Rattle.byteorder.specs.Endian.{little_from};
 ghost use Rattle.wav_format.specs.Answers.{AnswerAt, BodyFault, ReadsAt};
 ghost use Rattle.wav_format.specs.Chunks.{Spot, begins, body_at, body_size, chunk_length, data_size, format_after};
-ghost use Rattle.wav_format.specs.Cuts.{ChunkCut, HasRoom, body_length, deciding, deciding_body, deciding_head, fronts};
+ghost use Rattle.wav_format.specs.Cuts.{ChunkCut, HasRoom, body_length, deciding, deciding_head, fronts, open_length};
 ghost use Rattle.wav_format.specs.Faults.{IsHeaded, MayBeFormat};
+ghost use Rattle.wav_format.specs.declared.head.HeadAnswer.TheVariants.{NeedMore};
 ghost use Rattle.wav_format.specs.declared.format.SampleFormat.{SampleFormat};
 ghost use Rattle.wav_format.specs.Format.{IsFormat, extensible, format_of};
 
@@ -21,7 +22,8 @@ const CHUNK_HEAD: u64 = 8;
 /// What reading one chunk gives.
 #[derive(Clone, Copy, Debug, PartialEq, Eq)]
 pub enum Reading {
-    /// A chunk before `data`: its length in bytes, and the format that is known behind it.
+    /// A chunk before `data` that is decided, be it there whole or not: its length in bytes, and the format that is
+    /// known behind it.
     Passed {
         length: u64,
         format: Option<SampleFormat>,
@@ -117,21 +119,16 @@ fn deciding_head(left: &[u8], at: u64, no_format: bool) -> u64
     }
 }
 
-// The same where they end in its body.
-fn deciding_body(left: &[u8], at: u64, known: Option<SampleFormat>) -> u64
-    requires spot { at ≤ 16777216 }
-    requires headed { 8 ≤ length left.now }
-    ensures { result ≡ deciding_body (record { at = at; known = known; left = left.now }) }
+// The next length of the body that decides more, or None where the chunk is decided.
+fn open_length(left: &[u8]) -> Option<u64>
+    requires { 8 ≤ length left.now }
+    ensures { MatchOption result (open_length left.now ≡ None) (λ longer. (open_length left.now ≡ Some longer) × (longer ≤ 26)) }
 {
-    let length = length_at(left);
-    if begins(left, b"fmt ") {
-        let body = body_at(left);
-        at + CHUNK_HEAD + body_length(is_extensible(body), body.len()).unwrap_or(length)
-    } else if known.is_none() {
-        at + length + 4
-    } else {
-        at + length + 8
+    if !begins(left, b"fmt ") {
+        return None;
     }
+    let body = body_at(left);
+    body_length(is_extensible(body), body.len())
 }
 
 // The answer at the head of `data`.
@@ -175,7 +172,8 @@ fn chunk_fault(left: &[u8], at: u64) -> Option<HeadAnswer>
     requires spot { at + 8 ≤ 16777216 }
     requires headed { 8 ≤ length left.now }
     requires other { begins (codes "data") left.now ≡ false }
-    ensures { MatchOption result (HasRoom (record { at = at; known = None; left = left.now })) (λ answer. (known : Option SampleFormat) → AnswerAt (record { at = at; known = known; left = left.now }) answer) }
+    ensures fault { MatchOption result (HasRoom (record { at = at; known = None; left = left.now })) (λ answer. (known : Option SampleFormat) → AnswerAt (record { at = at; known = known; left = left.now }) answer) }
+    ensures bad { (n : ℕ) → result ≢ Some (NeedMore n) }
 {
     let end = at + length_at(left);
     if end > LONGEST_HEAD {
@@ -202,7 +200,8 @@ fn chunk_fault(left: &[u8], at: u64) -> Option<HeadAnswer>
 /// Reads the chunk at the front of the bytes, which stand at that place in the file.
 pub(crate) fn read_chunk(left: &[u8], at: u64, known: Option<SampleFormat>) -> Reading
     requires { at + 8 ≤ 16777216 }
-    ensures { ReadsAt (record { at = at; known = known; left = left.now }) result }
+    ensures reads { ReadsAt (record { at = at; known = known; left = left.now }) result }
+    ensures few { (n : ℕ) → result ≡ Reading.Ended (NeedMore n) → length left.now ≤ 33 }
 {
     if begins(left, b"data") {
         return Reading::Ended(read_data(left, at, known));
@@ -213,21 +212,19 @@ pub(crate) fn read_chunk(left: &[u8], at: u64, known: Option<SampleFormat>) -> R
     if let Some(fault) = chunk_fault(left, at) {
         return Reading::Ended(fault);
     }
-    let length = length_at(left);
-    if (left.len() as u64) < length {
-        return Reading::Ended(HeadAnswer::NeedMore(deciding_body(left, at, known)));
+    if let Some(longer) = open_length(left) {
+        return Reading::Ended(HeadAnswer::NeedMore(at + CHUNK_HEAD + longer));
     }
     Reading::Passed {
-        length,
+        length: length_at(left),
         format: format_behind(left, known),
     }
 }
 
-// The format that is known behind a chunk which is there.
+// The format that is known behind a chunk which is decided.
 fn format_behind(left: &[u8], known: Option<SampleFormat>) -> Option<SampleFormat>
     requires headed { 8 ≤ length left.now }
-    requires whole { chunk_length left.now ≤ length left.now }
-    requires format { begins (codes "fmt ") left.now ≡ true → IsFormat (body_at left.now) }
+    requires said { open_length left.now ≡ None }
     ensures { result ≡ format_after (record { at = 0; known = known; left = left.now }) }
 {
     if begins(left, b"fmt ") {

@@ -32,10 +32,10 @@ pub(crate) fn is_extensible(body: &[u8]) -> bool
     body.len() >= 2 && number_at(body, 0) == EXTENSIBLE
 }
 
-/// The format that a body says.
+/// The format that a body says, of which maybe only the bytes that decide are there.
 pub(crate) fn read_format(body: &[u8]) -> SampleFormat
     requires long { 16 ≤ length body.now }
-    requires extended { little_from 0 2 body.now ≡ extensible → 40 ≤ length body.now }
+    requires extended { little_from 0 2 body.now ≡ extensible → 26 ≤ length body.now }
     ensures { result ≡ format_of body.now }
 {
     SampleFormat {

@@ -1,61 +1,97 @@
 //! Reading a head from bytes that come piece by piece.
-ghost use Rattle.std.specs.Prelude.{◌≡◌, ◌≤◌, ◌+◌, ◌++◌, [], vec_len, IfOk, OnOk, OnErr};
+ghost use Rattle.std.specs.Prelude.{ℕ, List, length, drop, ◌≡◌, ◌≤◌, ◌+◌, ◌-◌, ◌++◌, [], IfOk, OnOk, OnErr};
 ghost use Rattle.wav_format.specs.Answers.{AnswerIn};
+ghost use Rattle.wav_format.specs.Format.{AreBytes};
+ghost use Rattle.wav_format.specs.declared.head.HeadAnswer.TheVariants.{NeedMore};
 
 use crate::head::HeadAnswer;
 use crate::reading::{START, Standing, read_on};
 use std::alloc::{AllocError, Global};
 
-/// Reads a head from bytes that come piece by piece, and keeps them.
+/// Reads a head from bytes that come piece by piece. It keeps none of a chunk that it has passed.
 #[derive(Drop)]
 pub struct HeadReader {
-    bytes: Vec<u8>,
+    count: u64,
     standing: Standing,
-    ghost within: { standing.place ≤ vec_len bytes },
+    // The bytes from the place on where it stands.
+    bytes: Vec<u8>,
     ghost room: { standing.place + 8 ≤ 16777216 },
 }
 
 impl HeadReader {
-    ghost use Rattle.wav_format.specs.Gathered.{StandsBehind, bytes_of};
+    ghost use Rattle.wav_format.specs.Gathered.{WasGiven, kept};
 
-    /// A reader that has no bytes.
+    /// A reader that was given no bytes.
     pub fn new(alloc: Global) -> HeadReader
-        ensures stands { StandsBehind result }
-        ensures none { bytes_of result ≡ [] }
+        ensures given { WasGiven result [] }
     {
         HeadReader {
-            bytes: Vec::new(alloc),
+            count: 0,
             standing: START,
+            bytes: Vec::new(alloc),
         }
     }
 
     /// What the bytes so far say of the head of their file, with more bytes, as `read_head` says it. Reading goes
-    /// on at the chunk where it ended, so that no chunk that was passed is read again, and of the chunk that it
-    /// ended in only the head and the first 26 bytes. Where memory is wanting the bytes stay.
+    /// on at the chunk where it ended. A chunk is passed as soon as its head is there, or of a `fmt ` its first 16
+    /// bytes, 26 of an extensible one; of its further bytes none is kept. Where memory is wanting, or the count of
+    /// all bytes would not fit, the reader stays as it was.
     pub fn read(&mut self, more: &[u8]) -> Result<HeadAnswer, AllocError>
-        ensures answer { IfOk result (λ answer. StandsBehind self.old → AnswerIn (bytes_of self.old ++ more.now) answer) }
-        ensures stands { StandsBehind self.old → StandsBehind self.new }
-        ensures bytes { OnOk result (bytes_of self.new ≡ bytes_of self.old ++ more.now) }
-        ensures stays { OnErr result (bytes_of self.new ≡ bytes_of self.old) }
+        ensures answer { IfOk result (λ answer. (given : List ℕ) → WasGiven self.old given → AnswerIn (given ++ more.now) answer) }
+        ensures given { OnOk result ((given : List ℕ) → WasGiven self.old given → WasGiven self.new (given ++ more.now)) }
+        ensures stays { OnErr result ((given : List ℕ) → WasGiven self.old given → WasGiven self.new given) }
+
+        // Where more is asked for, what it keeps is short, however much it was given.
+        ensures few { IfOk result (λ answer. (n : ℕ) → answer ≡ NeedMore n → kept self.new ≤ 33) }
     {
-        self.bytes.extend_from_slice(more)?;
-        let (answer, standing) = read_on(&self.bytes, self.standing);
+        let Some(count) = self.count.checked_add(more.len() as u64) else {
+            return Err(AllocError);
+        };
+        let left = self.left_with(more)?;
+        let (answer, standing) = read_on(&left, self.standing);
+        let passed = standing.place - self.standing.place;
+        let bytes = Vec::from_slice(*self.bytes.allocator(), behind(&left, passed))?;
+        self.count = count;
         self.standing = standing;
+        self.bytes = bytes;
         Ok(answer)
     }
 
-    /// The bytes so far.
-    pub fn bytes(&self) -> &[u8]
-        ensures { result.now ≡ bytes_of self.now }
+    /// The bytes from the place on where it stands, with more bytes.
+    fn left_with(&self, more: &[u8]) -> Result<Vec<u8>, AllocError>
+        ensures { IfOk result (λ left. left.items ≡ self.now.bytes.items ++ drop (self.now.standing.place - self.now.count) more.now) }
     {
-        self.bytes.as_slice()
+        let mut left = Vec::from_slice(*self.bytes.allocator(), &self.bytes)?;
+        let passed = self.standing.place.saturating_sub(self.count);
+        left.extend_from_slice(behind(more, passed))?;
+        Ok(left)
     }
 
-    /// Gives up the bytes.
-    pub fn into_bytes(self) -> Vec<u8>
-        ensures { result.items ≡ bytes_of self }
+    /// How many bytes it was given.
+    pub fn count(&self) -> u64
+        ensures { (given : List ℕ) → WasGiven self.now given → result ≡ length given }
     {
-        let HeadReader { bytes, .. } = self;
-        bytes
+        self.count
     }
+
+    /// A reader that was given the same bytes.
+    pub fn copy(&self, alloc: Global) -> Result<HeadReader, AllocError>
+        ensures { IfOk result (λ made. (given : List ℕ) → WasGiven self.now given → WasGiven made given) }
+    {
+        Ok(HeadReader {
+            count: self.count,
+            standing: self.standing,
+            bytes: Vec::from_slice(alloc, &self.bytes)?,
+        })
+    }
+}
+
+/// The bytes from a place on, or none where it lies beyond them.
+fn behind(bytes: &[u8], place: u64) -> &[u8]
+    ensures { result.now ≡ drop place bytes.now }
+{
+    if place >= bytes.len() as u64 {
+        return &[];
+    }
+    &bytes[place as usize..]
 }

@@ -1,11 +1,11 @@
 //! Reading the head of a WAV file from its first bytes.
-ghost use Rattle.std.specs.Prelude.{◌≡◌, ◌≤◌, ◌<◌, ◌+◌, ◌++◌, ◌↔◌, ℕ, List, length, drop, codes, true, false, MatchOption, None};
+ghost use Rattle.std.specs.Prelude.{◌≡◌, ◌≤◌, ◌<◌, ◌+◌, ◌++◌, ◌↔◌, ℕ, List, length, drop, codes, true, false, MatchOption, None, Some};
 ghost use Rattle.wav_format.specs.Answers.{AnswerIn, CutsAt};
 ghost use Rattle.wav_format.specs.Chunks.{BeginsWithHead, FrontsSomeHead, HeadThen, HeadWith, IsOpened, longest_head};
 ghost use Rattle.wav_format.specs.Cuts.{IsLeast, fronts, opening_length};
 ghost use Rattle.wav_format.specs.Faults.{Differs, FaultIn};
 ghost use Rattle.wav_format.specs.Format.{AreBytes};
-ghost use Rattle.wav_format.specs.Reader.{HasPassed, StandsIn};
+ghost use Rattle.wav_format.specs.Reader.{StandsBehind, StandsIn};
 ghost use Rattle.wav_format.specs.Told.{told};
 ghost use Rattle.wav_format.specs.declared.head.Head.{Head};
 ghost use Rattle.wav_format.specs.declared.head.HeadAnswer;
@@ -40,7 +40,8 @@ fn opening_length(len: usize) -> u64
 
 // The answer of bytes that do not have all of `RIFF`, a size and `WAVE` at their front.
 fn opening(bytes: &[u8]) -> Option<HeadAnswer>
-    ensures { MatchOption result (IsOpened bytes.now) (AnswerIn bytes.now) }
+    ensures answer { MatchOption result (IsOpened bytes.now) (AnswerIn bytes.now) }
+    ensures few { (n : ℕ) → result ≡ Some (HeadAnswer.NeedMore n) → length bytes.now < 12 }
 {
     if let Some(place) = first_difference(bytes, b"RIFF") {
         return Some(HeadAnswer::Bad {
@@ -65,9 +66,10 @@ fn opening(bytes: &[u8]) -> Option<HeadAnswer>
 /// Where a reader of a head stands.
 #[derive(Clone, Copy)]
 pub(crate) struct Standing {
-    // Bytes from the start of the file to the chunk that is read next, or 0 where nothing is read.
-    place: usize,
-    known: Option<SampleFormat>,
+    /// Bytes from the start of the file to the chunk that is read next, or 0 where nothing is read. It may lie
+    /// beyond the bytes that are there.
+    pub(crate) place: u64,
+    pub(crate) known: Option<SampleFormat>,
 }
 
 /// Where nothing is read.
@@ -82,38 +84,40 @@ const FIRST_CHUNK: Standing = Standing {
     known: None,
 };
 
-/// Reads on from where a reader stands.
-pub(crate) fn read_on(bytes: &[u8], from: Standing) -> (HeadAnswer, Standing)
-    requires within { from.place ≤ length bytes.now }
+/// Reads on from where a reader stands, in the bytes from that place on.
+pub(crate) fn read_on(left: &[u8], from: Standing) -> (HeadAnswer, Standing)
     requires room { from.place + 8 ≤ 16777216 }
-    ensures answer { StandsIn from bytes.now → AnswerIn bytes.now result.0 }
-    ensures stands { StandsIn from bytes.now → StandsIn result.1 bytes.now }
-    ensures within { result.1.place ≤ length bytes.now }
+    ensures answer { (given : List ℕ) → StandsIn from given → left.now ≡ drop from.place given → AnswerIn given result.0 }
+    ensures stands { (given : List ℕ) → StandsIn from given → left.now ≡ drop from.place given → StandsIn result.1 given }
     ensures room { result.1.place + 8 ≤ 16777216 }
+    ensures onward { from.place ≤ result.1.place }
+    ensures few { (n : ℕ) → result.0 ≡ HeadAnswer.NeedMore n → from.place + length left.now ≤ result.1.place + 33 }
 {
     if from.place > 0 {
-        return read_chunks(bytes, from);
+        return read_chunks(left, from);
     }
-    match opening(bytes) {
-        Some(answer) => (answer, START),
-        None => read_chunks(bytes, FIRST_CHUNK),
+    match opening(left) {
+        Some(answer) => (answer, from),
+        None => read_chunks(&left[12..], FIRST_CHUNK),
     }
 }
 
-fn read_chunks(bytes: &[u8], from: Standing) -> (HeadAnswer, Standing)
-    requires within { from.place ≤ length bytes.now }
+fn read_chunks(left: &[u8], from: Standing) -> (HeadAnswer, Standing)
     requires room { from.place + 8 ≤ 16777216 }
-    ensures answer { HasPassed from bytes.now → AnswerIn bytes.now result.0 }
-    ensures passed { HasPassed from bytes.now → HasPassed result.1 bytes.now }
-    ensures within { result.1.place ≤ length bytes.now }
+    ensures answer { (given : List ℕ) → StandsBehind from given → left.now ≡ drop from.place given → AnswerIn given result.0 }
+    ensures stands { (given : List ℕ) → StandsBehind from given → left.now ≡ drop from.place given → StandsBehind result.1 given }
     ensures room { result.1.place + 8 ≤ 16777216 }
+    ensures onward { from.place ≤ result.1.place }
+    ensures few { (n : ℕ) → result.0 ≡ HeadAnswer.NeedMore n → from.place + length left.now ≤ result.1.place + 33 }
 {
+    let mut at = 0;
     let mut place = from.place;
     let mut known = from.known;
     'chunks: loop {
-        match read_chunk(&bytes[place..], place as u64, known) {
+        match read_chunk(&left[at..], place, known) {
             Reading::Passed { length, format } => {
-                place += length as usize;
+                at += (length as usize).min(left.len() - at);
+                place += length;
                 known = format;
             }
             Reading::Ended(answer) => return (answer, Standing { place, known }),

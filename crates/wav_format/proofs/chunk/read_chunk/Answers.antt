@@ -1,14 +1,23 @@
-use Rattle.std.proofs.Common.{◌≤◌, ◌∙◌, length, arith, sym}
-use Rattle.wav_format.specs.Chunks.{chunk_length}
-use Rattle.wav_format.proofs.Whole.{passed}
+use Rattle.std.proofs.Common.{inr, sym, ◌∙◌, arith}
+use Rattle.wav_format.specs.Format.{AreBytes}
+use Rattle.wav_format.proofs.Decided.{Opens, opens}
 use Rattle.wav_format.proofs.chunk.read_chunk.Goals as goal
 
-pub format_behind-requires-clause-format : goal.format_behind-requires-clause-format
-format_behind-requires-clause-format c h =
-    let whole : chunk_length c.args.left.now ≤ length c.args.left.now = omega (arith, c.length_at-length.ensures.exact) in
-    (passed c.args.at c.args.known c.args.left.now c.if-left-lt8.false (sym c.begins.ensures ∙ c.if-begins.false) c.in_default.ensures whole).format h
+pub returns-in-Some-clause-reads : goal.returns-in-Some-clause-reads
+returns-in-Some-clause-reads c = c.in-Some.ensures.fault c.args.known
 
-pub returns : goal.returns
-returns c =
-    let whole : chunk_length c.args.left.now ≤ length c.args.left.now = omega (arith, c.length_at-length.ensures.exact) in
-    (passed c.args.at c.args.known c.args.left.now c.if-left-lt8.false (sym c.begins.ensures ∙ c.if-begins.false) c.in_default.ensures whole, c.length_at-length.ensures.exact, c.format_behind.ensures)
+pub returns-in-Some-open_length-clause-reads : goal.returns-in-Some-open_length-clause-reads
+returns-in-Some-open_length-clause-reads c =
+    let fine : AreBytes c.args.left.now = λ i. let f = c.type_inv.left i in omega arith in
+    let long = c.if-left-lt8.false in
+    let has = c.in_default.ensures.fault in
+    let o = opens (record { at = c.args.at; known = c.args.known; left = c.args.left.now }) c.in-Some-open_length.longer fine long (record { room = has.room; format = has.format }) c.in-Some-open_length.ensures.0 in
+    let next = o.next in
+    (inr (record { headed = record { headed = long; other = sym c.begins.ensures ∙ c.if-begins.false }; room = record { room = has.room; format = has.format }; short = o.cut }), omega (arith, next))
+
+pub returns-in-Some-open_length-clause-few : goal.returns-in-Some-open_length-clause-few
+returns-in-Some-open_length-clause-few c =
+    let fine : AreBytes c.args.left.now = λ i. let f = c.type_inv.left i in omega arith in
+    let has = c.in_default.ensures.fault in
+    let o = opens (record { at = c.args.at; known = c.args.known; left = c.args.left.now }) c.in-Some-open_length.longer fine c.if-left-lt8.false (record { room = has.room; format = has.format }) c.in-Some-open_length.ensures.0 in
+    λ n e. o.few

@@ -14,7 +14,7 @@ pub returns : goal.returns
 returns c =
     let bytes = c.args.bytes.now in
     let fine : AreBytes bytes = λ i. let f = c.type_inv.bytes i in omega arith in
-    let answered : AnswerIn bytes c.read_on.result.0 = c.read_on.ensures.answer (inl refl) in
+    let answered : AnswerIn bytes c.read_on.result.0 = c.read_on.ensures.answer bytes (inl refl) refl in
     let one = one_answer bytes fine c.read_on.result.0 in
     record {
       whole = λ h. (λ e. subst (AnswerIn bytes) e answered, λ begins. one (Whole h) answered begins);
