@@ -2,6 +2,7 @@
 ghost use Rattle.std.specs.Prelude.{ℕ, List, length, drop, ◌≡◌, ◌≤◌, ◌+◌, ◌-◌, ◌++◌, [], IfOk, OnOk, OnErr};
 ghost use Rattle.wav_format.specs.Answers.{AnswerIn};
 ghost use Rattle.wav_format.specs.Format.{AreBytes};
+ghost use Rattle.wav_format.specs.Reader.{StandsIn};
 ghost use Rattle.wav_format.specs.declared.head.HeadAnswer.TheVariants.{NeedMore};
 
 use crate::head::HeadAnswer;
@@ -47,24 +48,29 @@ impl HeadReader {
         let Some(count) = self.count.checked_add(more.len() as u64) else {
             return Err(AllocError);
         };
-        let left = self.left_with(more)?;
-        let (answer, standing) = read_on(&left, self.standing);
-        let passed = standing.place - self.standing.place;
-        let bytes = Vec::from_slice(*self.bytes.allocator(), behind(&left, passed))?;
+        let unread = behind(more, self.standing.place.saturating_sub(self.count));
+        if self.bytes.is_empty() {
+            return self.read_left(unread, count);
+        }
+        let mut left = Vec::from_slice(*self.bytes.allocator(), &self.bytes)?;
+        left.extend_from_slice(unread)?;
+        self.read_left(&left, count)
+    }
+
+    // Reads on in the bytes from the place on where it stands, the last of `count` bytes that it is given.
+    fn read_left(&mut self, left: &[u8], count: u64) -> Result<HeadAnswer, AllocError>
+        ensures answer { IfOk result (λ answer. (given : List ℕ) → StandsIn self.old.standing given → left.now ≡ drop self.old.standing.place given → AnswerIn given answer) }
+        ensures given { OnOk result ((given : List ℕ) → AreBytes given → count ≡ length given → StandsIn self.old.standing given → left.now ≡ drop self.old.standing.place given → WasGiven self.new given) }
+        ensures stays { OnErr result (self.new ≡ self.old) }
+        ensures few { IfOk result (λ answer. (n : ℕ) → answer ≡ NeedMore n → kept self.new ≤ 33) }
+    {
+        let (answer, standing) = read_on(left, self.standing);
+        let rest = behind(left, standing.place - self.standing.place);
+        let bytes = Vec::from_slice(*self.bytes.allocator(), rest)?;
         self.count = count;
         self.standing = standing;
         self.bytes = bytes;
         Ok(answer)
-    }
-
-    /// The bytes from the place on where it stands, with more bytes.
-    fn left_with(&self, more: &[u8]) -> Result<Vec<u8>, AllocError>
-        ensures { IfOk result (λ left. left.items ≡ self.now.bytes.items ++ drop (self.now.standing.place - self.now.count) more.now) }
-    {
-        let mut left = Vec::from_slice(*self.bytes.allocator(), &self.bytes)?;
-        let passed = self.standing.place.saturating_sub(self.count);
-        left.extend_from_slice(behind(more, passed))?;
-        Ok(left)
     }
 
     /// How many bytes it was given.
