@@ -26,29 +26,30 @@ part_in_head bytes part (NeedMore n) h fine said follows begins =
 part_in_head bytes part (Bad place kind) h fine said follows begins = absurd (fault_begins_none bytes part place kind h fine said begins)
 
 -- bytes that were cut, where none follow
-pub none_in_head : (bytes now : List ℕ) (answer : HeadAnswer) (h : Head) → now ≡ bytes ++ [] → CutIn bytes → AnswerIn (bytes ++ []) answer → answer ≡ Whole h → length now ≤ h.start
-none_in_head bytes now answer h e cut said whole =
+pub none_in_head : (bytes : List ℕ) (answer : HeadAnswer) (h : Head) → CutIn bytes → AnswerIn (bytes ++ []) answer → answer ≡ Whole h → length (bytes ++ []) ≤ h.start
+none_in_head bytes answer h cut said whole =
     let ahead = head_ahead bytes [] h cut (subst (AnswerIn (bytes ++ [])) whole said) in
-    omega (arith, ahead, ap length (e ∙ append-nil bytes))
+    omega (arith, ahead, ap length (append-nil bytes))
 
 -- ---- one part behind the other
 
-pub parts_joined : (at part : ℕ) (before more now next given : List ℕ) → at + part ≤ length more → now ≡ before ++ take at more → given ≡ take part (drop at more) → next ≡ now ++ given → next ≡ before ++ take (at + part) more
-parts_joined at part before more now next given within e f g =
+pub parts_joined : (at part : ℕ) (before more given : List ℕ) → at + part ≤ length more → given ≡ take part (drop at more) → (before ++ take at more) ++ given ≡ before ++ take (at + part) more
+parts_joined at part before more given within f =
     let front : take at (take (at + part) more) ≡ take at more = take-take at (at + part) more (omega arith) in
     let back : drop at (take (at + part) more) ≡ take part (drop at more) = drop-take at part more in
     let joined : take at more ++ take part (drop at more) ≡ take (at + part) more = sym (ap (λ xs. xs ++ take part (drop at more)) front) ∙ sym (ap (λ xs. take at (take (at + part) more) ++ xs) back) ∙ take-append-drop at (take (at + part) more) in
-    g ∙ ap (λ xs. now ++ xs) f ∙ ap (λ xs. xs ++ take part (drop at more)) e ∙ append_assoc before (take at more) (take part (drop at more)) ∙ ap (λ xs. before ++ xs) joined
+    ap (λ xs. (before ++ take at more) ++ xs) f ∙ append_assoc before (take at more) (take part (drop at more)) ∙ ap (λ xs. before ++ xs) joined
 
-pub part_kept : (before more now given next shown : List ℕ) (at part : ℕ) (answer answer' : HeadAnswer) (h : Head) → AreBytes before → AreBytes more → at + part ≤ length more → now ≡ before ++ take at more → given ≡ take part (drop at more) → next ≡ now ++ given
-    → shown ≡ now → MayFollow answer (length shown) part → AnswerIn (before ++ take at more) answer → AnswerIn (now ++ given) answer' → answer' ≡ Whole h → length next ≤ h.start
-part_kept before more now given next shown at part answer answer' h fine fine' within e f g s follows said said' whole =
-    let joined = sym g ∙ parts_joined at part before more now next given within e f g in
+pub part_kept : (before more given : List ℕ) (count at part : ℕ) (answer answer' : HeadAnswer) (h : Head) → AreBytes before → AreBytes more → at + part ≤ length more → given ≡ take part (drop at more)
+    → count ≡ length (before ++ take at more) → MayFollow answer count part → AnswerIn (before ++ take at more) answer → AnswerIn ((before ++ take at more) ++ given) answer' → answer' ≡ Whole h → length (before ++ take (at + part) more) ≤ h.start
+part_kept before more given count at part answer answer' h fine fine' within f c follows said said' whole =
+    let now = before ++ take at more in
+    let joined : now ++ given ≡ before ++ take (at + part) more = parts_joined at part before more given within f in
     let all : AreBytes (now ++ given) = subst AreBytes (sym joined) (bytes_joined before (take (at + part) more) fine (bytes_taken (at + part) more fine')) in
     let long : length given ≡ part = ap length f ∙ length-take-le part (drop at more) (omega (arith, within, length-drop at more)) in
-    let follows' = subst (λ n. MayFollow answer (length now) n) (sym long) (subst (λ n. MayFollow answer n part) (ap length s) follows) in
-    let in_head = part_in_head now given answer h all (subst (λ (xs : List ℕ). AnswerIn xs answer) (sym e) said) follows' (subst (AnswerIn (now ++ given)) whole said') in
-    omega (arith, in_head, ap length g)
+    let follows' = subst (λ n. MayFollow answer (length now) n) (sym long) (subst (λ n. MayFollow answer n part) c follows) in
+    let in_head = part_in_head now given answer h all said follows' (subst (AnswerIn (now ++ given)) whole said') in
+    omega (arith, in_head, ap length joined)
 
 -- ---- where no more are given
 
@@ -60,6 +61,6 @@ all_answered before more at answer stays within (inr (head, is)) said =
     let begins = stays (before ++ take at more) (drop at more) head (subst (AnswerIn (before ++ take at more)) is said) in
     subst (AnswerIn (before ++ more)) (sym is) (subst (λ (xs : List ℕ). BeginsWithHead xs head) all begins)
 
-pub all_given : (before more now : List ℕ) (at n : ℕ) (answer : HeadAnswer) → at ≤ length more → IsDone answer (length more - at) → answer ≡ NeedMore n → now ≡ before ++ take at more → now ≡ before ++ more
-all_given before more now at n answer within (inl none) e is = is ∙ ap (λ xs. before ++ xs) (take_all at more (omega (arith, none)))
-all_given before more now at n answer within (inr (head, whole)) e is = let clash = sym e ∙ whole in absurd cc
+pub all_given : (before more : List ℕ) (at n : ℕ) (answer : HeadAnswer) → at ≤ length more → IsDone answer (length more - at) → answer ≡ NeedMore n → before ++ take at more ≡ before ++ more
+all_given before more at n answer within (inl none) e = ap (λ xs. before ++ xs) (take_all at more (omega (arith, none)))
+all_given before more at n answer within (inr (head, whole)) e = let clash = sym e ∙ whole in absurd cc

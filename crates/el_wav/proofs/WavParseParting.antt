@@ -25,7 +25,7 @@ use Rattle.el_wav.specs.WavParseHeads.{Told, Whole, More, Wrong, ReadsHeads}
 use Rattle.el_wav.specs.WavParseParts.{Known, Part, Standing, Unbegun, InHead, InData, Broken, goes_on, read_as, stands_at, stands_from, standing, known_by, known_in, place_at, with_item}
 use Rattle.el_wav.specs.WavParseRule.{last_of, last_owed, Reopens, within, left_of, Passed, Nothing, OneMore, First, body_item, pass_first, pass_body, pass_segment, passed, calls_with, owed_with, calls_behind, unless_broken, answer}
 use Rattle.el_wav.specs.WavParseData.{IsKnown}
-use Rattle.el_wav.specs.WavParseGathered.{gathered, IsSound}
+use Rattle.el_wav.specs.WavParseGathered.{HasGathered}
 use Rattle.el_wav.proofs.WavParseFits.{head_within}
 use Rattle.el_wav.proofs.WavParseGathering.{bytes_joined}
 use Rattle.el_wav.specs.WavParsed.{KnowsHead, StandsAs, IsIn}
@@ -39,9 +39,9 @@ fresh_is InHead bytes phase e s = absurd (subst (StandsAs InHead bytes) e s)
 fresh_is (InData k place) bytes phase e s = absurd (subst (StandsAs (InData k place) bytes) e s)
 fresh_is (Broken place kind) bytes phase e s = absurd (subst (StandsAs (Broken place kind) bytes) e s)
 
-pub reading_is : (st : Standing) (bytes : List ℕ) (phase : Phase) (has : Gathered) → phase ≡ Reading has → StandsAs st bytes phase → (st ≡ InHead) × (gathered has ≡ bytes) × IsSound has
+pub reading_is : (st : Standing) (bytes : List ℕ) (phase : Phase) (has : Gathered) → phase ≡ Reading has → StandsAs st bytes phase → (st ≡ InHead) × HasGathered has bytes
 reading_is Unbegun bytes phase has e s = absurd (subst (StandsAs Unbegun bytes) e s)
-reading_is InHead bytes phase has e s = let t : StandsAs InHead bytes (Reading has) = subst (StandsAs InHead bytes) e s in (refl, t.0, t.1)
+reading_is InHead bytes phase has e s = (refl, subst (StandsAs InHead bytes) e s)
 reading_is (InData k place) bytes phase has e s = absurd (subst (StandsAs (InData k place) bytes) e s)
 reading_is (Broken place kind) bytes phase has e s = absurd (subst (StandsAs (Broken place kind) bytes) e s)
 
@@ -162,14 +162,14 @@ is_in_by read p b calls new st q reads s e knows stands = record {
 took_more : (read : List ℕ → Told) (p : Part) (b : Buffer) (calls : List Call) (new : WavParse) (has : Gathered) (before after : List Out)
     → ReadsHeads read → Heading read p b → KnowsHead p.known calls new.known → new.phase ≡ Reading has
     → ReadOn read (joined p b) has before after None → Took read p calls (Buf b) new before after
-took_more read p b calls new has before after reads h knows phase (more, is, sound, out) =
+took_more read p b calls new has before after reads h knows phase (more, has_gathered, out) =
     let st : behind_body read p b ≡ InHead = h.after ∙ ap (λ t. read_as t (joined p b)) more in
     let q : passed read p (Buf b) ≡ Nothing = h.passes ∙ ap (λ t. pass_first (read_as t (joined p b)) (joined p b)) more in
     record {
       ys = [];
       owed = head_answer read p b calls h ∙ ap (λ t. unless_broken (read_as t (joined p b)) (owed_with calls (pass_first (read_as t (joined p b)) (joined p b)))) more;
       out = out ∙ sym (append-nil before);
-      is_in = is_in_by read p b calls new InHead Nothing reads st q knows (subst (StandsAs InHead (joined p b)) (sym phase) (is, sound));
+      is_in = is_in_by read p b calls new InHead Nothing reads st q knows (subst (StandsAs InHead (joined p b)) (sym phase) has_gathered);
     }
 
 took_whole : (read : List ℕ → Told) (p : Part) (b : Buffer) (calls : List Call) (new : WavParse) (has : Gathered) (begun : Begun) (before after : List Out)
@@ -282,8 +282,8 @@ nothing_more read reads = reads.more [] nothing_fine (inl (record { short = omeg
 
 pub took_start : (read : List ℕ → Told) (p : Part) (s : Segment) (calls : List Call) (place : ℕ) (new : WavParse) (has : Gathered) (before : List Out)
     → ReadsHeads read → place ≡ place_at s.start s.format → goes_on (known_in read p) place ≡ None → KnowsHead (known_in read p) calls new.known
-    → gathered has ≡ [] → IsSound has → new.phase ≡ Reading has → Took read p calls (Ev (NewSegment s)) new before before
-took_start read p s calls place new has before reads at none knows is sound phase =
+    → HasGathered has [] → new.phase ≡ Reading has → Took read p calls (Ev (NewSegment s)) new before before
+took_start read p s calls place new has before reads at none knows fresh phase =
     let none_there : goes_on (known_in read p) (place_at s.start s.format) ≡ None = ap (goes_on (known_in read p)) (sym at) ∙ none in
     let st : standing read (with_item read p (Ev (NewSegment s))) ≡ InHead = ap (λ g. stands_at read g (place_at s.start s.format) []) none_there ∙ ap (λ t. read_as t []) (nothing_more read reads) in
     let q : passed read p (Ev (NewSegment s)) ≡ Nothing = ap (λ g. pass_segment g (place_at s.start s.format)) none_there in
@@ -294,7 +294,7 @@ took_start read p s calls place new has before reads at none knows is sound phas
       is_in = record {
         reads = reads;
         knows = subst (λ t. KnowsHead (known_by t (known_in read p)) (calls_with calls (passed read p (Ev (NewSegment s)))) new.known) (sym st) (subst (λ r. KnowsHead (known_in read p) (calls_with calls r) new.known) (sym q) knows);
-        stands = subst (λ t. StandsAs t [] new.phase) (sym st) (subst (StandsAs InHead []) (sym phase) (is, sound));
+        stands = subst (λ t. StandsAs t [] new.phase) (sym st) (subst (StandsAs InHead []) (sym phase) fresh);
       };
     }
 

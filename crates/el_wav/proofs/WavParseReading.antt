@@ -21,10 +21,9 @@ use Rattle.el_wav.specs.WavParseRule.{body_item, within, left_of}
 use Rattle.el_wav.specs.WavParseData.{IsKnown}
 use Rattle.el_wav.specs.WavParseSteps.{BeganData, IsBeginFault, data_item, head_owed}
 use Rattle.el_wav.specs.declared.wav_gathered.Gathered.{Gathered}
-use Rattle.el_wav.specs.WavParseGathered.{IsSound, gathered}
-use Rattle.wav_format.specs.Gathered.{bytes_of}
+use Rattle.el_wav.specs.WavParseGathered.{HasGathered}
 use Rattle.el_wav.proofs.WavParseAhead.{head_ahead, drop_behind}
-use Rattle.el_wav.proofs.WavParseGathering.{bytes_joined, bytes_taken}
+use Rattle.el_wav.proofs.WavParseGathering.{bytes_joined}
 use Rattle.el_wav.proofs.WavParseFits.{head_fits}
 
 no_more : (n : ℕ) → 0 + n ≡ n
@@ -60,10 +59,11 @@ pub record Read (before body : List ℕ) (answer : HeadAnswer) : Type 0 where
   pub said : AnswerIn (before ++ body) answer
   pub fine : AreBytes (before ++ body)
 
-pub read_of : (has : Gathered) (more body : List ℕ) (answer : HeadAnswer) → IsSound has → more ≡ body → AreBytes more → AnswerIn (gathered has ++ more) answer → Read (gathered has) body answer
-read_of has more body answer sound e fine said =
-    let all = bytes_joined (gathered has) more (bytes_taken has.count (bytes_of has.reader) sound.fine) fine in
-    record { said = subst (λ xs. AnswerIn (gathered has ++ xs) answer) e said; fine = subst (λ xs. AreBytes (gathered has ++ xs)) e all }
+pub read_of : (has : Gathered) (before more body : List ℕ) (answer : HeadAnswer) → HasGathered has before → more ≡ body → AreBytes more → AnswerIn (before ++ more) answer → Read before body answer
+read_of has before more body answer gathered e fine said = record {
+  said = subst (λ xs. AnswerIn (before ++ xs) answer) e said;
+  fine = subst (λ xs. AreBytes (before ++ xs)) e (bytes_joined before more gathered.fine fine);
+}
 
 pub cut_in : (bytes : List ℕ) (n : ℕ) → CutsAt bytes n → CutIn bytes
 cut_in bytes n (inl (cut, e)) = inl cut
@@ -80,8 +80,8 @@ pub says_wrong : (read : List ℕ → Told) (calls : List Call) (before body : L
 says_wrong read calls before body answer place kind reads r e = rw (reads.wrong (before ++ body) place kind r.fine (subst (AnswerIn (before ++ body)) e r.said)) refl
 
 -- the bytes so far, where they go on in a head
-pub cut_now : (before body now : List ℕ) (answer : HeadAnswer) (n : ℕ) → Read before body answer → answer ≡ NeedMore n → now ≡ before ++ body → CutIn now
-cut_now before body now answer n r e is = subst CutIn (sym is) (cut_in (before ++ body) n (subst (AnswerIn (before ++ body)) e r.said))
+pub cut_now : (before body : List ℕ) (answer : HeadAnswer) (n : ℕ) → Read before body answer → answer ≡ NeedMore n → CutIn (before ++ body)
+cut_now before body answer n r e = cut_in (before ++ body) n (subst (AnswerIn (before ++ body)) e r.said)
 
 -- the data behind the head, which begins in the body
 pub first_of : (before body first : List ℕ) (answer : HeadAnswer) (head : Head) (count : ℕ) → CutIn before → count ≡ length before → Read before body answer → answer ≡ WholeHead head

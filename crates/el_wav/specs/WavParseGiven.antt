@@ -1,12 +1,14 @@
 -- Which bytes a reader of a head is given.
-use Rattle.std.specs.Prelude.{◌≡◌, ◌≤◌, ◌<◌, ◌-◌, ◌⊎◌, ◌++◌, ⊤, ℕ, List, take}
+use Rattle.std.specs.Prelude.{◌≡◌, ◌≤◌, ◌<◌, ◌-◌, ◌⊎◌, ◌++◌, ⊤, ℕ, List, length, take}
 use Rattle.wav_format.specs.declared.head.Head.{Head}
 use Rattle.wav_format.specs.declared.head.HeadAnswer.{HeadAnswer}
 use Rattle.wav_format.specs.declared.head.HeadAnswer.TheVariants.{Whole, NeedMore, Bad}
+use Rattle.wav_format.specs.declared.reader.HeadReader.{HeadReader}
+use Rattle.wav_format.specs.Gathered.{WasGiven}
 
--- to the bytes before came some at the front of more
-abbrev pub Grown : List ℕ → List ℕ → List ℕ → Type 0
-Grown before more now = (count : ℕ) × (now ≡ before ++ take count more)
+-- a reader that had bytes was given some at the front of more, and none behind the head
+abbrev pub GivenInHead : Head → List ℕ → List ℕ → HeadReader → Type 0
+GivenInHead head before more reader = (count : ℕ) × WasGiven reader (before ++ take count more) × (length (before ++ take count more) ≤ head.start)
 
 -- a reader with this answer is given no more of the bytes that are left
 abbrev pub IsDone : HeadAnswer → ℕ → Type 0

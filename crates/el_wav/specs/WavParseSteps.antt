@@ -19,7 +19,7 @@ use Rattle.el_wav.specs.WavParseHeads.{Told, Whole, More, IsFormatOf, HeadFits}
 use Rattle.el_wav.specs.WavParseParts.{Known, Part, goes_on, read_as, with_item}
 use Rattle.el_wav.specs.WavParseRule.{last_of, body_item, within, left_of, pass_first, owed_with, unless_broken, answer, calls_behind}
 use Rattle.el_wav.specs.WavParseData.{IsKnown}
-use Rattle.el_wav.specs.WavParseGathered.{gathered, IsSound}
+use Rattle.el_wav.specs.WavParseGathered.{HasGathered}
 use Rattle.el_wav.specs.WavParsed.{IsIn, KnowsHead}
 
 -- the item of the data behind a head
@@ -46,7 +46,7 @@ head_owed read calls bytes = unless_broken (read_as (read bytes) bytes) (owed_wi
 
 -- The bytes go on in a head, and are gathered; or the data is begun with them.
 abbrev pub ReadOn : (List ℕ → Told) → List ℕ → Gathered → List Out → List Out → Option Begun → Type 0
-ReadOn read bytes has before after None = (read bytes ≡ More) × (gathered has ≡ bytes) × IsSound has × (after ≡ before)
+ReadOn read bytes has before after None = (read bytes ≡ More) × HasGathered has bytes × (after ≡ before)
 ReadOn read bytes has before after (Some begun) = (head : Head) × (began : BeganData head bytes begun before after) × (read bytes ≡ Whole head began.info)
 
 -- where a reader is behind that

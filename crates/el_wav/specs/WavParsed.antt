@@ -12,7 +12,7 @@ use Rattle.el_wav.specs.declared.wav_parse.WavParse.{WavParse}
 use Rattle.el_wav.specs.WavParseHeads.{Told, ReadsHeads}
 use Rattle.el_wav.specs.WavParseParts.{Known, Part, Standing, Unbegun, InHead, InData, standing, known_in, last_part}
 use Rattle.el_wav.specs.WavParseRule.{left_of, data_calls, parses_by}
-use Rattle.el_wav.specs.WavParseGathered.{gathered, IsSound}
+use Rattle.el_wav.specs.WavParseGathered.{HasGathered}
 use Rattle.el_wav.specs.WavParseData.{IsKnown}
 
 -- what is known of a head is this one, and its parser was given the calls
@@ -25,7 +25,7 @@ KnowsHead (Some k) calls (Some has) = IsKnown k calls has
 -- it stands where the part does
 abbrev pub StandsAs : Standing → List ℕ → Phase → Type 0
 StandsAs Unbegun bytes Fresh = bytes ≡ []
-StandsAs InHead bytes (Reading has) = (gathered has ≡ bytes) × IsSound has
+StandsAs InHead bytes (Reading has) = HasGathered has bytes
 StandsAs (InData k place) bytes (Passing left) = left ≡ left_of k.head.size place
 StandsAs _ bytes _ = ⊥
 

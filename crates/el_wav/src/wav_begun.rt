@@ -2,10 +2,9 @@
 ghost use Rattle.std.specs.Prelude.{◌≡◌, ◌-◌, ◌++◌, ℕ, List, drop, IfOk, IfErr, OnOk, OnErr};
 ghost use Rattle.flow_model.specs.Call.{Call};
 ghost use Rattle.flow_model.specs.Feeding.{IsFaultOf};
-ghost use Rattle.wav_format.specs.Gathered.{bytes_of};
 ghost use Rattle.wav_format.specs.Format.{AreBytes};
 ghost use Rattle.el_wav.specs.WavParseHeads.{Told, ReadsHeads, stream_kind};
-ghost use Rattle.el_wav.specs.WavParseGathered.{gathered as gathered_bytes, IsSound};
+ghost use Rattle.el_wav.specs.WavParseGathered.{HasGathered};
 ghost use Rattle.el_wav.specs.WavParseSteps.{BeganData, IsBeginFault, ReadOn, head_owed};
 ghost use Rattle.el_wav.specs.WavParseAppends.{Appends};
 
@@ -30,16 +29,15 @@ pub(crate) fn read_on(
     body: &Body,
     out: &mut Outs,
 ) -> Result<Option<Begun>, ElementFault>
-    ensures read { IfOk result (λ begun. (read : List ℕ → Told) → ReadsHeads read → IsSound gathered.old → ReadOn read (gathered_bytes gathered.old ++ body.now) gathered.new out.old out.new begun) }
+    ensures read { IfOk result (λ begun. (read : List ℕ → Told) (bytes : List ℕ) → ReadsHeads read → HasGathered gathered.old bytes → ReadOn read (bytes ++ body.now) gathered.new out.old out.new begun) }
     ensures appends { OnOk result (Appends out.old out.new) }
-    ensures bytes { OnErr result (IsSound gathered.old → gathered_bytes gathered.new ≡ gathered_bytes gathered.old) }
-    ensures sound { OnErr result (IsSound gathered.old → IsSound gathered.new) }
-    ensures out { OnErr result (out.new ≡ out.old) }
-    ensures fault { IfErr result (λ fault. (read : List ℕ → Told) (calls : List Call) → ReadsHeads read → IsSound gathered.old → IsFaultOf (head_owed read calls (gathered_bytes gathered.old ++ body.now)) fault) }
+    ensures stays { OnErr result ((gathered.new ≡ gathered.old) × (out.new ≡ out.old)) }
+    ensures fault { IfErr result (λ fault. (read : List ℕ → Told) (calls : List Call) (bytes : List ℕ) → ReadsHeads read → HasGathered gathered.old bytes → IsFaultOf (head_owed read calls (bytes ++ body.now)) fault) }
 {
-    match gathered.read(alloc, body.as_slice())? {
+    let (answer, reader) = gathered.read(alloc, body.as_slice())?;
+    match answer {
         HeadAnswer::NeedMore(_) => {
-            gathered.keep();
+            gathered.keep(reader);
             Ok(None)
         }
         HeadAnswer::Bad { place, kind } => Err(ElementFault::BadStream {

@@ -289,14 +289,34 @@ fn parses(rt: HostRuntime) -> Result<(), Fail> {
     Ok(())
 }
 
+/// Adds so many bytes.
+fn add_bytes(bytes: &mut Vec<u8>, count: u32) -> Result<(), Fail> {
+    for place in 0..count {
+        bytes.push((place % 251) as u8)?;
+    }
+    Ok(())
+}
+
 /// A file of the front, a size of its data and so many bytes of data.
 fn file_of(alloc: Global, size: u32, count: u32) -> Result<Vec<u8>, Fail> {
     let mut bytes = Vec::new(alloc);
     bytes_by(alloc, FRONT, &mut bytes)?;
     bytes.extend_from_slice(&size.to_le_bytes())?;
-    for place in 0..count {
-        bytes.push((place % 251) as u8)?;
-    }
+    add_bytes(&mut bytes, count)?;
+    Ok(bytes)
+}
+
+/// A file of 8000 frames with a `LIST` chunk of 70,001 bytes before its data, which begins at 70,054.
+fn file_with_list(alloc: Global) -> Result<Vec<u8>, Fail> {
+    let mut bytes = Vec::new(alloc);
+    bytes_by(alloc, FRONT, &mut bytes)?;
+    bytes.truncate(36);
+    bytes.extend_from_slice(b"LIST")?;
+    bytes.extend_from_slice(&70_001u32.to_le_bytes())?;
+    add_bytes(&mut bytes, 70_002)?;
+    bytes.extend_from_slice(b"data")?;
+    bytes.extend_from_slice(&16_000u32.to_le_bytes())?;
+    add_bytes(&mut bytes, 16_000)?;
     Ok(bytes)
 }
 
@@ -345,6 +365,22 @@ fn blocks(rt: HostRuntime) -> Result<(), Fail> {
                 "{count} bytes of {size} in blocks of {block}"
             );
         }
+    }
+    Ok(())
+}
+
+/// A file with a long chunk before its data gives its data.
+#[test]
+fn long_chunk(rt: HostRuntime) -> Result<(), Fail> {
+    let alloc = rt.alloc();
+    let file = file_with_list(alloc)?;
+    for block in [1, 4096] {
+        assert!(rt; block != 0);
+        let data = data_of(&rt, alloc, &file, block)?;
+        assert!(rt;
+            file.get(70_054..) == Some(data.as_slice()),
+            "in blocks of {block}"
+        );
     }
     Ok(())
 }

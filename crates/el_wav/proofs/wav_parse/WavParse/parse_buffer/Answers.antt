@@ -1,7 +1,8 @@
-use Rattle.std.proofs.Common.{◌++◌, refl, sym, ap, subst, ◌∙◌}
+use Rattle.std.proofs.Common.{◌++◌, refl, sym, ap, subst}
 use Rattle.flow_model.specs.Feeding.{IsFaultOf}
 use Rattle.el_wav.specs.declared.wav_parse.Phase.TheVariants.{InHead as Reading}
 use Rattle.el_wav.specs.WavParseParts.{Unbegun, InHead, standing}
+use Rattle.el_wav.specs.WavParseGathered.{HasGathered}
 use Rattle.el_wav.specs.WavParsed.{StandsAs}
 use Rattle.el_wav.specs.WavParseSteps.{ReadOn, head_owed}
 use Rattle.el_wav.proofs.WavParseParting.{fresh_is, reading_is, passing_is, none_at_front, heading_fresh, heading_reading, head_answer, took_read, data_answer, took_data, knows_data, knows_before, behind_of}
@@ -26,7 +27,7 @@ pub returns-in-Ok-clause-took : goal.returns-in-Ok-clause-took
 returns-in-Ok-clause-took c = λ read part calls is.
     let at = reading_is (standing read part) part.bytes c.args.self.now.phase c.in-InHead.gathered c.in-InHead.is is.stands in
     let knows = knows_before read part calls c.args.self.now.known InHead at.0 refl is.knows in
-    let on = subst (λ xs. ReadOn read (xs ++ c.args.buffer.body) c.read_on.new.gathered c.args.out.now c.read_on.new.out c.in-Ok.begun) at.1 (c.in-Ok.ensures.read read is.reads at.2) in
+    let on = c.in-Ok.ensures.read read part.bytes is.reads at.1 in
     took_read read part c.args.buffer calls c.begin.new.self c.read_on.new.gathered c.args.self.now.known c.in-Ok.begun c.args.out.now c.read_on.new.out is.reads (heading_reading read part c.args.buffer at.0) knows
     (behind_of c.in-Ok.begun (record { known = c.args.self.now.known; phase = Reading c.read_on.new.gathered; ended = c.args.self.now.ended }) c.begin.new.self c.read_on.new.gathered refl c.begin.ensures.begun) on
 
@@ -36,14 +37,14 @@ returns-in-InHead-clause-stays c = λ read part calls is.
     record {
       reads = is.reads;
       knows = is.knows;
-      stands = subst (λ st. StandsAs st part.bytes (Reading c.read_on.new.gathered)) (sym at.0) (c.in-Err.ensures.bytes at.2 ∙ at.1, c.in-Err.ensures.sound at.2);
+      stands = subst (λ st. StandsAs st part.bytes (Reading c.read_on.new.gathered)) (sym at.0) (subst (λ has. HasGathered has part.bytes) (sym c.in-Err.ensures.stays.0) at.1);
     }
 
 pub returns-in-InHead-clause-fault : goal.returns-in-InHead-clause-fault
 returns-in-InHead-clause-fault c = λ read part calls is.
     let at = reading_is (standing read part) part.bytes c.args.self.now.phase c.in-InHead.gathered c.in-InHead.is is.stands in
     subst (λ owed. IsFaultOf owed c.in-Err.fault) (sym (head_answer read part c.args.buffer calls (heading_reading read part c.args.buffer at.0)))
-    (subst (λ xs. IsFaultOf (head_owed read calls (xs ++ c.args.buffer.body)) c.in-Err.fault) at.1 (c.in-Err.ensures.fault read calls is.reads at.2))
+    (c.in-Err.ensures.fault read calls part.bytes is.reads at.1)
 
 pub returns-clause-took : goal.returns-clause-took
 returns-clause-took c = on_ok c.read_first.result (λ first read part calls is.

@@ -27,7 +27,7 @@ returns-in-Err-clause-fault c = λ read part calls is.
 pub returns-in-None-clause-took : goal.returns-in-None-clause-took
 returns-in-None-clause-took c = λ read part calls is.
     took_start read part c.args.segment calls c.place_of.result _ c.new.result c.args.out.now is.reads c.place_of.ensures (c.in-None.ensures (known_in read part) calls is.knows) is.knows
-    c.new.ensures.none c.new.ensures.sound c.set-in-None.ensures
+    c.new.ensures c.set-in-None.ensures
 
 pub returns-in-None-clause-appends : goal.returns-in-None-clause-appends
 returns-in-None-clause-appends c = appends_none c.args.out.now
