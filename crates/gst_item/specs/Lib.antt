@@ -1,4 +1,5 @@
 pub mod Flow
 pub mod Item
 pub mod Sticky
+pub mod Held
 pub mod Lent
