@@ -5,7 +5,7 @@ use Rattle.gst_caps.specs.declared.memory.OutOfMemory.{OutOfMemory}
 use Rattle.gst_item.specs.declared.body.Held.{Held}
 use Rattle.gst_item.specs.declared.body.Held.TheVariants.{Owned}
 use Rattle.gst_item.specs.contracts.body.Body.{the_row}
-use Rattle.gst_item.specs.contracts.body.Block.{the_row as block_row}
+use Rattle.gst_item.specs.contracts.body.OwnedBytes.{the_row as block_row}
 use Rattle.gst_item.specs.contracts.body.Held.{the_row as held_row}
 
 -- a body behind a change of its bytes, which keeps its length

@@ -13,13 +13,13 @@ use std::marker::Model;
 /// The most bytes that a body holds.
 pub const LARGEST_BODY: usize = 2_147_483_647;
 
-/// Bytes that one body owns.
+/// Bytes that one body owns, at most `LARGEST_BODY` of them.
 #[derive(Drop)]
-struct Block {
+struct OwnedBytes {
     bytes: Vec<u8>,
 }
 
-impl Model for Block {
+impl Model for OwnedBytes {
     ghost use Rattle.std.specs.Prelude.{ℕ, List, ◌≤◌, vec_len};
     ghost use Rattle.gst_item.specs.declared.body.TheConstants.{LARGEST_BODY};
 
@@ -30,13 +30,13 @@ impl Model for Block {
     ghost invariant = { λ s. vec_len s.bytes ≤ LARGEST_BODY };
 }
 
-/// Bytes that bodies share.
+/// Bytes that bodies may share, at most `LARGEST_BODY` of them.
 #[derive(Drop)]
-struct Part {
+struct SharedBytes {
     bytes: Bytes,
 }
 
-impl Model for Part {
+impl Model for SharedBytes {
     ghost use Rattle.std.specs.Prelude.{ℕ, List, ◌≤◌, length};
     ghost use Rattle.gst_item.specs.declared.body.TheConstants.{LARGEST_BODY};
 
@@ -47,11 +47,11 @@ impl Model for Part {
     ghost invariant = { λ s. length s.bytes ≤ LARGEST_BODY };
 }
 
-/// The two ways of holding bytes.
+/// The two ways of holding bytes. Each of them keeps the limit.
 #[derive(Drop)]
 enum Held {
-    Owned(Block),
-    Shared(Part),
+    Owned(OwnedBytes),
+    Shared(SharedBytes),
 }
 
 /// The bytes of a buffer, at most `LARGEST_BODY` of them, seen as their list.
@@ -83,16 +83,18 @@ impl Body {
         }
     }
 
+    /// A body of bytes that further bodies may share.
     fn shared(bytes: Bytes) -> Body
         requires small { length bytes ≤ LARGEST_BODY }
         ensures { result ≡ bytes }
     {
         Body {
-            held: Held::Shared(Part { bytes }),
+            held: Held::Shared(SharedBytes { bytes }),
         }
     }
 
     /// The bytes.
+    #[inline]
     pub fn as_slice(&self) -> &[u8]
         ensures bytes { result.now ≡ self.now }
         ensures small { length self.now < 2 ^ 31 }
@@ -100,23 +102,24 @@ impl Body {
         self.held.as_slice()
     }
 
-    /// The bytes from place `from` up to place `to`.
+    /// The bytes from place `from` up to place `to`. They are shared, and copied only out of a body that `make_mut`
+    /// has changed.
     pub fn slice(&self, alloc: Global, from: u32, to: u32) -> Result<Body, OutOfMemory>
         requires order { from ≤ to }
         requires within { to ≤ length self.now }
         ensures { IfOk result (λ made. made ≡ slice_range self.now from to) }
     {
         Ok(Body {
-            held: Held::Shared(self.held.part(alloc, from as usize, to as usize)?),
+            held: Held::Shared(self.held.slice(alloc, from as usize, to as usize)?),
         })
     }
 
-    /// The same bytes in a further holder.
+    /// The same bytes in a further holder. They are shared, and copied only out of a body that `make_mut` has changed.
     pub fn share(&self, alloc: Global) -> Result<Body, OutOfMemory>
         ensures { IfOk result (λ made. made ≡ self.now) }
     {
         Ok(Body {
-            held: Held::Shared(self.held.whole(alloc)?),
+            held: Held::Shared(self.held.share(alloc)?),
         })
     }
 
@@ -133,60 +136,70 @@ impl Body {
     }
 
     /// The bytes as a block of this body alone.
-    fn own(&mut self, alloc: Global) -> Result<&mut Block, OutOfMemory>
+    fn own(&mut self, alloc: Global) -> Result<&mut OwnedBytes, OutOfMemory>
         ensures* writes_back { sem 𝓛 (LendsBlockIfOk self.entry result) }
         ensures bytes { IfOk result (λ block. block.now ≡ self.old) }
     {
-        self.part(alloc)?;
+        self.unshare(alloc)?;
         self.held.owned()
     }
 
-    /// Parts the body from all that share its bytes.
-    fn part(&mut self, alloc: Global) -> Result<(), OutOfMemory>
+    /// Makes the bytes those of this body alone, if they are shared.
+    fn unshare(&mut self, alloc: Global) -> Result<(), OutOfMemory>
         ensures { self.new ≡ self.old }
     {
-        if let Held::Shared(part) = &self.held {
-            self.held = Held::Owned(part.copied(alloc)?);
+        if let Held::Shared(bytes) = &self.held {
+            self.held = Held::Owned(bytes.copied(alloc)?);
         }
         Ok(())
+    }
+
+    /// Whether no other body holds these bytes.
+    #[cfg(test)]
+    pub(crate) fn holds_alone(&self) -> bool {
+        match &self.held {
+            Held::Owned(_) => true,
+            Held::Shared(shared) => shared.bytes.is_unique(),
+        }
     }
 }
 
 impl Held {
+    #[inline]
     fn as_slice(&self) -> &[u8]
         ensures bytes { result.now ≡ held_bytes self.now }
         ensures small { length (held_bytes self.now) < 2 ^ 31 }
     {
         match self {
-            Held::Owned(block) => block.as_slice(),
-            Held::Shared(part) => part.as_slice(),
+            Held::Owned(bytes) => bytes.as_slice(),
+            Held::Shared(bytes) => bytes.as_slice(),
         }
     }
 
     /// The bytes from place `from` up to place `to`.
-    fn part(&self, alloc: Global, from: usize, to: usize) -> Result<Part, OutOfMemory>
+    fn slice(&self, alloc: Global, from: usize, to: usize) -> Result<SharedBytes, OutOfMemory>
         requires order { from ≤ to }
         requires within { to ≤ length (held_bytes self.now) }
         ensures { IfOk result (λ made. made ≡ slice_range (held_bytes self.now) from to) }
     {
         match self {
-            Held::Owned(block) => block.part(alloc, from, to),
-            Held::Shared(part) => part.part(from, to),
+            Held::Owned(bytes) => bytes.slice(alloc, from, to),
+            Held::Shared(bytes) => bytes.slice(from, to),
         }
     }
 
     /// All the bytes.
-    fn whole(&self, alloc: Global) -> Result<Part, OutOfMemory>
+    fn share(&self, alloc: Global) -> Result<SharedBytes, OutOfMemory>
         ensures { IfOk result (λ made. made ≡ held_bytes self.now) }
     {
         match self {
-            Held::Owned(block) => block.whole(alloc),
-            Held::Shared(part) => part.again(),
+            Held::Owned(bytes) => bytes.share(alloc),
+            Held::Shared(bytes) => bytes.share(),
         }
     }
 
     /// The block, where there is one.
-    fn owned(&mut self) -> Result<&mut Block, OutOfMemory>
+    fn owned(&mut self) -> Result<&mut OwnedBytes, OutOfMemory>
         ensures* writes_back { sem 𝓛 (LendsOwnedIfOk self.entry result) }
         ensures bytes { IfOk result (λ block. Owned block.now ≡ self.old) }
     {
@@ -197,7 +210,8 @@ impl Held {
     }
 }
 
-impl Block {
+impl OwnedBytes {
+    #[inline]
     fn as_slice(&self) -> &[u8]
         ensures bytes { result.now ≡ self.now }
         ensures small { length self.now < 2 ^ 31 }
@@ -214,25 +228,26 @@ impl Block {
     }
 
     /// A copy of the bytes from place `from` up to place `to`.
-    fn part(&self, alloc: Global, from: usize, to: usize) -> Result<Part, OutOfMemory>
+    fn slice(&self, alloc: Global, from: usize, to: usize) -> Result<SharedBytes, OutOfMemory>
         requires order { from ≤ to }
         requires within { to ≤ length self.now }
         ensures { IfOk result (λ made. made ≡ slice_range self.now from to) }
     {
         let bytes = Bytes::copy_from_slice(alloc, &self.bytes[from..to])?;
-        Ok(Part { bytes })
+        Ok(SharedBytes { bytes })
     }
 
     /// A copy of the bytes.
-    fn whole(&self, alloc: Global) -> Result<Part, OutOfMemory>
+    fn share(&self, alloc: Global) -> Result<SharedBytes, OutOfMemory>
         ensures { IfOk result (λ made. made ≡ self.now) }
     {
         let bytes = Bytes::copy_from_slice(alloc, self.bytes.as_slice())?;
-        Ok(Part { bytes })
+        Ok(SharedBytes { bytes })
     }
 }
 
-impl Part {
+impl SharedBytes {
+    #[inline]
     fn as_slice(&self) -> &[u8]
         ensures bytes { result.now ≡ self.now }
         ensures small { length self.now < 2 ^ 31 }
@@ -241,28 +256,28 @@ impl Part {
     }
 
     /// The bytes from place `from` up to place `to`, which are not copied.
-    fn part(&self, from: usize, to: usize) -> Result<Part, OutOfMemory>
+    fn slice(&self, from: usize, to: usize) -> Result<SharedBytes, OutOfMemory>
         requires order { from ≤ to }
         requires within { to ≤ length self.now }
         ensures { IfOk result (λ made. made ≡ slice_range self.now from to) }
     {
         let bytes = self.bytes.slice(from..to)?;
-        Ok(Part { bytes })
+        Ok(SharedBytes { bytes })
     }
 
     /// The same bytes, which are not copied.
-    fn again(&self) -> Result<Part, OutOfMemory>
+    fn share(&self) -> Result<SharedBytes, OutOfMemory>
         ensures { IfOk result (λ made. made ≡ self.now) }
     {
         let bytes = self.bytes.clone()?;
-        Ok(Part { bytes })
+        Ok(SharedBytes { bytes })
     }
 
     /// A copy of the bytes.
-    fn copied(&self, alloc: Global) -> Result<Block, OutOfMemory>
+    fn copied(&self, alloc: Global) -> Result<OwnedBytes, OutOfMemory>
         ensures { IfOk result (λ made. made ≡ self.now) }
     {
         let bytes = Vec::from_slice(alloc, self.bytes.as_slice())?;
-        Ok(Block { bytes })
+        Ok(OwnedBytes { bytes })
     }
 }

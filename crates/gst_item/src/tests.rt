@@ -58,6 +58,54 @@ fn each_holder_changes_its_own_bytes(rt: HostRuntime) -> Result<(), Fail> {
     Ok(())
 }
 
+/// Writes a byte at a place.
+fn write(alloc: Global, body: &mut Body, place: usize, byte: u8) -> Result<(), Fail> {
+    let bytes = body.make_mut(alloc)?;
+    if place < bytes.len() {
+        bytes[place] = byte;
+    }
+    Ok(())
+}
+
+#[test]
+fn a_change_reaches_no_other_holder(rt: HostRuntime) -> Result<(), Fail> {
+    let alloc = rt.alloc();
+    let mut first = body_of(alloc, &[1, 2, 3, 4])?;
+    let mut second = first.share(alloc)?;
+    if first.as_slice().len() < 3 {
+        return Err("four bytes")?;
+    }
+    let part = first.slice(alloc, 1, 3)?;
+    write(alloc, &mut second, 0, 9)?;
+    assert_eq!(rt; first.as_slice(), [1, 2, 3, 4].as_slice());
+    assert_eq!(rt; second.as_slice(), [9, 2, 3, 4].as_slice());
+    assert_eq!(rt; part.as_slice(), [2, 3].as_slice());
+    write(alloc, &mut first, 1, 8)?;
+    assert_eq!(rt; first.as_slice(), [1, 8, 3, 4].as_slice());
+    assert_eq!(rt; second.as_slice(), [9, 2, 3, 4].as_slice());
+    assert_eq!(rt; part.as_slice(), [2, 3].as_slice());
+    Ok(())
+}
+
+#[test]
+fn holders_share_their_memory(rt: HostRuntime) -> Result<(), Fail> {
+    let alloc = rt.alloc();
+    let first = body_of(alloc, b"abc")?;
+    assert!(rt; first.holds_alone());
+    let second = first.share(alloc)?;
+    assert!(rt; !first.holds_alone());
+    assert!(rt; !second.holds_alone());
+    let third = body_of(alloc, b"abc")?;
+    assert!(rt; third.holds_alone());
+    if third.as_slice().len() < 3 {
+        return Err("three bytes")?;
+    }
+    let part = third.slice(alloc, 1, 2)?;
+    assert!(rt; !third.holds_alone());
+    assert!(rt; !part.holds_alone());
+    Ok(())
+}
+
 #[test]
 fn copies_of_buffers(rt: HostRuntime) -> Result<(), Fail> {
     let alloc = rt.alloc();

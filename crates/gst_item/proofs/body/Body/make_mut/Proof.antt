@@ -44,14 +44,14 @@ use Rattle.gst_caps.specs.contracts.memory.OutOfMemory as Want
 use Rattle.gst_caps.proofs.memory.OutOfMemory.TheLaws as Want'
 use Rattle.gst_item.specs.Lent.{LendsBytes, LendsBlockIfOk, changed}
 use Rattle.gst_item.specs.contracts.body.Body.{the_row as R}
-use Rattle.gst_item.specs.contracts.body.Block.{the_row as B}
+use Rattle.gst_item.specs.contracts.body.OwnedBytes.{the_row as B}
 use Rattle.gst_item.specs.contracts.body.Body.make_mut as f
 use Rattle.gst_item.specs.contracts.body.Body.own as o
-use Rattle.gst_item.specs.contracts.body.Block.bytes_mut as g
+use Rattle.gst_item.specs.contracts.body.OwnedBytes.bytes_mut as g
 use Rattle.gst_item.proofs.body.Body.make_mut.Statement.{statement}
 use Rattle.gst_item.proofs.body.Body.make_mut.Code as code
 use Rattle.gst_item.proofs.body.Body.own.Met.{met as own_met}
-use Rattle.gst_item.proofs.body.Block.bytes_mut.Met.{met}
+use Rattle.gst_item.proofs.body.OwnedBytes.bytes_mut.Met.{met}
 
 abbrev stayed : Stays f.ended.signature.params f.ended.kept
 stayed = (stay_dropped (mut_ref_to (0 ∷ []) tt (plain (λ _. R))) no, (stay_dropped (plain (λ _. Al.the_row)) yes, tt))
@@ -112,51 +112,51 @@ make_mut_spec 𝓤 𝓛 𝓜 𝓡 wired =
     -- [what `own` gave; what becomes of the body; the token; nothing]
     result_had ! Block Wanting u v
     (λ b bs good landed.
-      rewrite ! 1 (λ (n : Result (MutBor (List ℕ)) OutOfMemory). ‵ (LendsBlockIfOk r n)) good refl $
-      let at_first : b.now ≡ r.now = subst (λ (n : Result (MutBor (List ℕ)) OutOfMemory). IfOk n (λ m. m.now ≡ r.now)) good same in
-      peeks ! Block _ (shows 𝓛 Block) b bs (λ is. let told = mut_Tells (named 0) κ B b bs is in
-      rewrite ! 0 (λ (us : List Val). ‵ (Block.own_val b us)) told refl $
-      lands_as ! (landed ∙ ap (λ (us : List Val). live 0 (of_list (us ++ []))) told) refl (tt, (record { fits = lit< tt }, (tt, tt))) $
-      first ! $ switches_on ! (get_tag ! (vrt ! refl (fld ! refl (stop !))) (whole !)) $ exec ! 𝓣.C 𝓣.Λ En (arm_body 0 both) Then $
-      sets ! (of_opd ! (get_in ! (vrt ! refl (fld ! refl (stop !))) (in_variant ! 0 0 refl refl (whole !)))) refl (tt, tt) $
-      sets ! (addr ! (through ! refl (stop !))) refl (tt, tt) $
-      let G = triple_of 𝓛 g.signature (g.spec 𝓛 𝓜.mem 𝓡.returns) in
-      let z : G.Ghost = (((κ, tt), (q, tt), tt, (b, tt), (mut_vals b, tt)), tt) in
-      nothing ! $ move ! (1 ∷ 0 ∷ []) $ join ! $ nothing ! $ move ! (3 ∷ 0 ∷ []) $ join ! $ join ! $
-      nothing ! $ move ! (1 ∷ 0 ∷ []) $ use2 𝓛 (raw (G.pre z)) (id⊢ 𝓤 _) $
-      calls_at ! (framed 𝓤 𝓛.H 𝓜 𝓣) G (met 𝓤 𝓛 𝓜 𝓡 (code.calls-gst_item::body::Block::bytes_mut 𝓡.env wired)) z
-      (and_then ! (get ! refl) (no_more !)) (λ lent.
-      use1 𝓛 (later (some (λ (s : MutBor (List ℕ)). ((‵ (flft κ q) ⊛ ‵ ftrue) ⊛ ‵ (Slice.own_val s (lent ∷ []))) ⊛
-      some (λ (us : Unit {0} × Unit {0}). ‵ (lasts g.ended κs z.0.3 us) ⊛ (‵ (LendsBytes b s) ⊛ raw (fact 𝓤 (s.now ≡ b.now))))))) (id⊢ 𝓤 _) $
-      await ! tt $ pick ! (λ s. split ! $ split ! $ split ! $
-      move ! (3 ∷ []) $ pick ! (λ us. split ! $ drop ! $ split ! $ move ! (1 ∷ []) $ heard ! _ (λ kept. move ! (3 ∷ 0 ∷ 4 ∷ 1 ∷ []) $
-      -- [the loan; what becomes of the block; what becomes of the body; the token; nothing]
-      peeks ! Slice _ (shows 𝓛 Slice) s (lent ∷ []) (λ fit. rewrite ! 0 (λ (ns : List Val). ‵ (Slice.own_val s ns)) fit.0.0 refl $
-      lands_as ! (ap only fit.0.0) refl (tt, (tt, (record { fits = fit.0.1.0 }, tt))) $
-      sets_last ! (agg ! (and_then ! (lit ! tt) (and_then ! (get ! refl) (no_more !)))) refl (tt, (record { fits = lit< tt }, ((tt, (record { fits = fit.0.1.0 }, tt)), tt))) $
-      exec ! 𝓣.C 𝓣.Λ En code.Mir.t-4 (at_ret En (W.post y)) $
-      sets ! (of_opd ! (get ! refl)) refl (tt, (record { fits = lit< tt }, ((tt, (record { fits = fit.0.1.0 }, tt)), tt))) $
-      move ! (2 ∷ 1 ∷ []) $ use2 𝓛 (‵ (follows R (Array u8 0) r.ghost_name s.ghost_name (changed b.now)))
-      (follows_then 𝓛 R B (Array u8 0) (λ bytes. bytes) (changed b.now) r.ghost_name b.ghost_name s.ghost_name) $
-      rewrite ! 0 (λ (bytes : List ℕ). ‵ (follows R (Array u8 0) r.ghost_name s.ghost_name (changed bytes))) at_first refl $
-      returns ! (look_at ! 0 refl) $ free_all ! refl $ keep ! (1 ∷ 2 ∷ 0 ∷ []) $
-      let value = live 0 (of_list (mut_slice_vals s)) in
-      use1 𝓛 (‵ ((RS.the_row Slice Wanting).own_val (Ok s) (value ∷ []))) (ok_of 𝓛 Slice Wanting s (slice_val s.ref_ptr (length s.now))) $
-      suffices ! _ (ends_at 𝓛 f.ended stayed c y value (Ok s) (tt, (tt, tt)) (tt, (tt, tt))) $
-      nothing ! $ nothing ! $ join ! $ nothing ! $ join ! $ join ! $ nothing ! $ move ! (2 ∷ 0 ∷ []) $ join ! $ join ! $ frame ! $ says ! (kept ∙ at_first) $ done !)))))))
+    rewrite ! 1 (λ (n : Result (MutBor (List ℕ)) OutOfMemory). ‵ (LendsBlockIfOk r n)) good refl $
+    let at_first : b.now ≡ r.now = subst (λ (n : Result (MutBor (List ℕ)) OutOfMemory). IfOk n (λ m. m.now ≡ r.now)) good same in
+    peeks ! Block _ (shows 𝓛 Block) b bs (λ is. let told = mut_Tells (named 0) κ B b bs is in
+    rewrite ! 0 (λ (us : List Val). ‵ (Block.own_val b us)) told refl $
+    lands_as ! (landed ∙ ap (λ (us : List Val). live 0 (of_list (us ++ []))) told) refl (tt, (record { fits = lit< tt }, (tt, tt))) $
+    first ! $ switches_on ! (get_tag ! (vrt ! refl (fld ! refl (stop !))) (whole !)) $ exec ! 𝓣.C 𝓣.Λ En (arm_body 0 both) Then $
+    sets ! (of_opd ! (get_in ! (vrt ! refl (fld ! refl (stop !))) (in_variant ! 0 0 refl refl (whole !)))) refl (tt, tt) $
+    sets ! (addr ! (through ! refl (stop !))) refl (tt, tt) $
+    let G = triple_of 𝓛 g.signature (g.spec 𝓛 𝓜.mem 𝓡.returns) in
+    let z : G.Ghost = (((κ, tt), (q, tt), tt, (b, tt), (mut_vals b, tt)), tt) in
+    nothing ! $ move ! (1 ∷ 0 ∷ []) $ join ! $ nothing ! $ move ! (3 ∷ 0 ∷ []) $ join ! $ join ! $
+    nothing ! $ move ! (1 ∷ 0 ∷ []) $ use2 𝓛 (raw (G.pre z)) (id⊢ 𝓤 _) $
+    calls_at ! (framed 𝓤 𝓛.H 𝓜 𝓣) G (met 𝓤 𝓛 𝓜 𝓡 (code.calls-gst_item::body::OwnedBytes::bytes_mut 𝓡.env wired)) z
+    (and_then ! (get ! refl) (no_more !)) (λ lent.
+    use1 𝓛 (later (some (λ (s : MutBor (List ℕ)). ((‵ (flft κ q) ⊛ ‵ ftrue) ⊛ ‵ (Slice.own_val s (lent ∷ []))) ⊛
+    some (λ (us : Unit {0} × Unit {0}). ‵ (lasts g.ended κs z.0.3 us) ⊛ (‵ (LendsBytes b s) ⊛ raw (fact 𝓤 (s.now ≡ b.now))))))) (id⊢ 𝓤 _) $
+    await ! tt $ pick ! (λ s. split ! $ split ! $ split ! $
+    move ! (3 ∷ []) $ pick ! (λ us. split ! $ drop ! $ split ! $ move ! (1 ∷ []) $ heard ! _ (λ kept. move ! (3 ∷ 0 ∷ 4 ∷ 1 ∷ []) $
+    -- [the loan; what becomes of the block; what becomes of the body; the token; nothing]
+    peeks ! Slice _ (shows 𝓛 Slice) s (lent ∷ []) (λ fit. rewrite ! 0 (λ (ns : List Val). ‵ (Slice.own_val s ns)) fit.0.0 refl $
+    lands_as ! (ap only fit.0.0) refl (tt, (tt, (record { fits = fit.0.1.0 }, tt))) $
+    sets_last ! (agg ! (and_then ! (lit ! tt) (and_then ! (get ! refl) (no_more !)))) refl (tt, (record { fits = lit< tt }, ((tt, (record { fits = fit.0.1.0 }, tt)), tt))) $
+    exec ! 𝓣.C 𝓣.Λ En code.Mir.t-4 (at_ret En (W.post y)) $
+    sets ! (of_opd ! (get ! refl)) refl (tt, (record { fits = lit< tt }, ((tt, (record { fits = fit.0.1.0 }, tt)), tt))) $
+    move ! (2 ∷ 1 ∷ []) $ use2 𝓛 (‵ (follows R (Array u8 0) r.ghost_name s.ghost_name (changed b.now)))
+    (follows_then 𝓛 R B (Array u8 0) (λ bytes. bytes) (changed b.now) r.ghost_name b.ghost_name s.ghost_name) $
+    rewrite ! 0 (λ (bytes : List ℕ). ‵ (follows R (Array u8 0) r.ghost_name s.ghost_name (changed bytes))) at_first refl $
+    returns ! (look_at ! 0 refl) $ free_all ! refl $ keep ! (1 ∷ 2 ∷ 0 ∷ []) $
+    let value = live 0 (of_list (mut_slice_vals s)) in
+    use1 𝓛 (‵ ((RS.the_row Slice Wanting).own_val (Ok s) (value ∷ []))) (ok_of 𝓛 Slice Wanting s (slice_val s.ref_ptr (length s.now))) $
+    suffices ! _ (ends_at 𝓛 f.ended stayed c y value (Ok s) (tt, (tt, tt)) (tt, (tt, tt))) $
+    nothing ! $ nothing ! $ join ! $ nothing ! $ join ! $ join ! $ nothing ! $ move ! (2 ∷ 0 ∷ []) $ join ! $ join ! $ frame ! $ says ! (kept ∙ at_first) $ done !)))))))
     (λ w bs bad landed.
-      rewrite ! 1 (λ (n : Result (MutBor (List ℕ)) OutOfMemory). ‵ (LendsBlockIfOk r n)) bad refl $
-      peeks ! Wanting _ (shows 𝓛 Wanting) w bs (λ is. let told = LL.tells Want.the_type Want'.the_laws w bs is in
-      let fault : Val = LL.val Want.the_type Want'.the_laws w in
-      rewrite ! 0 (λ (us : List Val). ‵ (Wanting.own_val w us)) told refl $
-      lands_as ! (landed ∙ ap (λ (us : List Val). live 1 (of_list (us ++ []))) told) refl (tt, (record { fits = lit< tt }, (tt, tt))) $
-      first ! $ switches_on ! (get_tag ! (vrt ! refl (fld ! refl (stop !))) (whole !)) $ exec ! 𝓣.C 𝓣.Λ En (arm_body 1 both) Then $
-      sets ! (of_opd ! (get_in ! (vrt ! refl (fld ! refl (stop !))) (in_variant ! 1 0 refl refl (whole !)))) refl (tt, tt) $
-      sets_last ! (agg ! (and_then ! (lit ! tt) (and_then ! (get ! refl) (no_more !)))) refl (tt, (record { fits = lit< tt }, (tt, tt))) $
-      exec ! 𝓣.C 𝓣.Λ En code.Mir.t-4 (at_ret En (W.post y)) $
-      sets ! (of_opd ! (get ! refl)) refl (tt, (record { fits = lit< tt }, (tt, tt))) $
-      returns ! (look_at ! 0 refl) $ free_all ! refl $ keep ! (0 ∷ 2 ∷ 1 ∷ []) $
-      let value = live 1 (of_list (fault ∷ [])) in
-      use1 𝓛 (‵ ((RS.the_row Slice Wanting).own_val (Err w) (value ∷ []))) (err_of 𝓛 Slice Wanting w fault) $
-      suffices ! _ (ends_at 𝓛 f.ended stayed c y value (Err w) (tt, (tt, tt)) (tt, (tt, tt))) $
-      nothing ! $ nothing ! $ join ! $ nothing ! $ join ! $ join ! $ nothing ! $ move ! (2 ∷ 0 ∷ []) $ join ! $ join ! $ frame ! $ says ! tt $ done !))))))))
+    rewrite ! 1 (λ (n : Result (MutBor (List ℕ)) OutOfMemory). ‵ (LendsBlockIfOk r n)) bad refl $
+    peeks ! Wanting _ (shows 𝓛 Wanting) w bs (λ is. let told = LL.tells Want.the_type Want'.the_laws w bs is in
+    let fault : Val = LL.val Want.the_type Want'.the_laws w in
+    rewrite ! 0 (λ (us : List Val). ‵ (Wanting.own_val w us)) told refl $
+    lands_as ! (landed ∙ ap (λ (us : List Val). live 1 (of_list (us ++ []))) told) refl (tt, (record { fits = lit< tt }, (tt, tt))) $
+    first ! $ switches_on ! (get_tag ! (vrt ! refl (fld ! refl (stop !))) (whole !)) $ exec ! 𝓣.C 𝓣.Λ En (arm_body 1 both) Then $
+    sets ! (of_opd ! (get_in ! (vrt ! refl (fld ! refl (stop !))) (in_variant ! 1 0 refl refl (whole !)))) refl (tt, tt) $
+    sets_last ! (agg ! (and_then ! (lit ! tt) (and_then ! (get ! refl) (no_more !)))) refl (tt, (record { fits = lit< tt }, (tt, tt))) $
+    exec ! 𝓣.C 𝓣.Λ En code.Mir.t-4 (at_ret En (W.post y)) $
+    sets ! (of_opd ! (get ! refl)) refl (tt, (record { fits = lit< tt }, (tt, tt))) $
+    returns ! (look_at ! 0 refl) $ free_all ! refl $ keep ! (0 ∷ 2 ∷ 1 ∷ []) $
+    let value = live 1 (of_list (fault ∷ [])) in
+    use1 𝓛 (‵ ((RS.the_row Slice Wanting).own_val (Err w) (value ∷ []))) (err_of 𝓛 Slice Wanting w fault) $
+    suffices ! _ (ends_at 𝓛 f.ended stayed c y value (Err w) (tt, (tt, tt)) (tt, (tt, tt))) $
+    nothing ! $ nothing ! $ join ! $ nothing ! $ join ! $ join ! $ nothing ! $ move ! (2 ∷ 0 ∷ []) $ join ! $ join ! $ frame ! $ says ! tt $ done !))))))))
