@@ -1,7 +1,7 @@
 -- Chunks that are decided, and further bytes of them.
-use Rattle.std.proofs.Common.{◌≡◌, ℕ, ◌+◌, ◌<◌, ◌≤◌, inl, inr, Bool, true, false, Option, Some, None, is_none, List, ◌++◌, length, drop, get_or, codes, cond, ltb, ◌==◌, ◌&&◌, refl, sym, ap, subst, ◌∙◌, arith}
-use Rattle.std.proofs.lemmas.Bool.{cases_lt, le-ltb}
-use Rattle.std.proofs.lemmas.List.{length-append, length-drop, length-take}
+use Rattle.std.proofs.Common.{◌≡◌, ℕ, ◌+◌, ◌<◌, ◌≤◌, inl, inr, Bool, true, false, Option, Some, None, is_none, List, ◌++◌, length, drop, get_or, codes, cond, ◌==◌, refl, sym, ap, subst, ◌∙◌, arith}
+use Rattle.std.proofs.lemmas.Bool.{le-ltb}
+use Rattle.std.proofs.lemmas.List.{length-append}
 use Rattle.std.specs.Prelude.{unwrap_or}
 use Rattle.byteorder.specs.Endian.{little_from}
 use Rattle.wav_format.specs.declared.format.SampleFormat.{SampleFormat}
@@ -12,7 +12,7 @@ use Rattle.wav_format.proofs.Bodies.{bytes-drop, bytes-take}
 use Rattle.wav_format.proofs.Formats.{format_to_given}
 use Rattle.wav_format.proofs.Kept.{Step, kept_all, step}
 use Rattle.wav_format.proofs.Least.{body_length_of, deciding_fmt, deciding_other, longer_fits, longer_same, next_within, stays_open}
-use Rattle.wav_format.proofs.Longer.{begins_more, body_more, ext, length_more}
+use Rattle.wav_format.proofs.Longer.{begins_more, ext, length_more}
 use Rattle.wav_format.proofs.Whole.{passed}
 
 -- of a `fmt ` chunk, its body decides

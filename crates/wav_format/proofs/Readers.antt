@@ -1,7 +1,7 @@
 -- Where a reader stands in more bytes, and behind one chunk more.
-use Rattle.std.proofs.Common.{◌≡◌, ℕ, ◌+◌, ◌-◌, ◌<◌, ◌≤◌, min, inl, inr, true, false, Option, Some, None, is_none, List, [], ◌++◌, length, drop, drop_of_length-le, codes, cond, refl, sym, ap, subst, ◌∙◌, arith}
+use Rattle.std.proofs.Common.{◌≡◌, ℕ, ◌+◌, ◌-◌, ◌≤◌, min, inl, inr, true, false, Option, Some, None, is_none, List, [], ◌++◌, length, drop, drop_of_length-le, cond, refl, sym, ap, subst, ◌∙◌, arith}
 use Rattle.std.proofs.Math.Seq.{drop-append-add}
-use Rattle.std.proofs.lemmas.Bool.{cases_lt, lt-ltb}
+use Rattle.std.proofs.lemmas.Bool.{cases_lt}
 use Rattle.std.proofs.lemmas.List.{drop-append-le, drop-drop, length-append, length-drop}
 use Rattle.wav_format.specs.declared.format.SampleFormat.{SampleFormat}
 use Rattle.wav_format.specs.declared.head.HeadAnswer.{HeadAnswer}
@@ -10,13 +10,13 @@ use Rattle.wav_format.specs.declared.head.WavKind.TheVariants.{NotRiff, NotWave,
 use Rattle.wav_format.specs.declared.reading.Standing.{Standing}
 use Rattle.wav_format.specs.Answers.{AnswerAt, AnswerIn}
 use Rattle.wav_format.specs.Chunks.{IsOpened, Reaches, Spot, chunk_length, format_after, longest_head}
-use Rattle.wav_format.specs.Cuts.{ChunkCut, IsDecided, deciding}
+use Rattle.wav_format.specs.Cuts.{IsDecided, deciding}
 use Rattle.wav_format.specs.Format.{AreBytes}
 use Rattle.wav_format.specs.Reader.{HasPassed, IsAhead, StandsBehind, StandsIn, spot_in}
 use Rattle.wav_format.proofs.Bodies.{bytes-drop}
 use Rattle.wav_format.proofs.Decided.{decided_cut, decided_more, decided_passed, deciding_ahead, format_still}
 use Rattle.wav_format.proofs.Least.{reached_more}
-use Rattle.wav_format.proofs.Longer.{ext, length_more}
+use Rattle.wav_format.proofs.Longer.{length_more}
 use Rattle.wav_format.proofs.Reached.{answered, reaches_next}
 
 -- ---- lists

@@ -164,7 +164,7 @@ fn reads_past_chunks(rt: HostRuntime) -> Result<(), Fail> {
         last = reader.read(&[*byte])?;
     }
     assert_eq!(rt; last, HeadAnswer::Whole(head));
-    assert_eq!(rt; reader.bytes(), bytes.as_slice());
+    assert_eq!(rt; reader.count(), bytes.len() as u64);
     let lengths: [u64; 104] = [
         1, 2, 3, 4, 9, 9, 9, 9, 9, 10, 11, 12, 16, 20, 20, 20, 20, 20, 20, 20, 28, 28, 28, 28, 28,
         32, 32, 32, 32, 32, 32, 32, 33, 34, 35, 36, 39, 39, 39, 40, 45, 45, 45, 45, 45, 46, 47, 48,
@@ -179,6 +179,52 @@ fn reads_past_chunks(rt: HostRuntime) -> Result<(), Fail> {
         assert_eq!(rt; read_head(&bytes[..len]), answer, "at {len}");
         if len > 0 {
             assert_eq!(rt; reader.read(&bytes[len - 1..len])?, answer, "at {len}");
+        }
+    }
+    Ok(())
+}
+
+/// A mono file with a chunk of 70,001 bytes before the chunks of `MONO` from a place on. Its body begins as that
+/// of a `fmt `.
+fn with_long(alloc: Global, name: &[u8; 4], from: usize) -> Result<Vec<u8>, Fail> {
+    let mut bytes = Vec::new(alloc);
+    bytes.extend_from_slice(&MONO[..12])?;
+    bytes.extend_from_slice(name)?;
+    bytes.extend_from_slice(&70_001u32.to_le_bytes())?;
+    bytes.extend_from_slice(&MONO[20..36])?;
+    bytes.extend_from_slice(&vec![in alloc; 0u8; 69_986]?)?;
+    bytes.extend_from_slice(&MONO[from.min(44)..])?;
+    bytes.extend_from_slice(b"abcd")?;
+    Ok(bytes)
+}
+
+/// Whether a reader that is given pieces of so many bytes, and copied behind each, answers as `read_head` does.
+fn reads_alike(alloc: Global, bytes: &[u8], len: usize) -> Result<bool, Fail> {
+    let mut reader = HeadReader::new(alloc);
+    let mut count = 0;
+    for piece in bytes.chunks(len.max(1)) {
+        count = piece.len().saturating_add(count).min(bytes.len());
+        if reader.read(piece)? != read_head(&bytes[..count]) {
+            return Ok(false);
+        }
+        reader = reader.copy(alloc)?;
+    }
+    Ok(reader.count() == bytes.len() as u64)
+}
+
+#[test]
+fn reads_past_long_chunks(rt: HostRuntime) -> Result<(), Fail> {
+    // the name of the long chunk, the chunks behind it; where the data begins
+    let rows: [(&[u8; 4], usize, u64); 2] = [(b"LIST", 12, 70_054), (b"fmt ", 36, 70_030)];
+    for (name, from, start) in rows {
+        let bytes = with_long(rt.alloc(), name, from)?;
+        let want = HeadAnswer::Whole(Head {
+            start,
+            ..mono(Some(4))
+        });
+        assert_eq!(rt; read_head(&bytes), want);
+        for len in [1, 7, 4096] {
+            assert!(rt; reads_alike(rt.alloc(), &bytes, len)?, "pieces of {len}");
         }
     }
     Ok(())

@@ -1,6 +1,6 @@
 use Rattle.std.proofs.Common.{inr, sym, ◌∙◌, arith}
 use Rattle.wav_format.specs.Format.{AreBytes}
-use Rattle.wav_format.proofs.Decided.{Opens, opens}
+use Rattle.wav_format.proofs.Decided.{opens}
 use Rattle.wav_format.proofs.chunk.read_chunk.Goals as goal
 
 pub returns-in-Some-clause-reads : goal.returns-in-Some-clause-reads
