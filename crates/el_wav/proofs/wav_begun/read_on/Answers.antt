@@ -1,4 +1,4 @@
-use Rattle.std.proofs.Common.{◌≡◌, ◌++◌, refl, sym, ap, subst, ◌∙◌, Err}
+use Rattle.std.proofs.Common.{◌++◌, refl, sym, ap, subst, ◌∙◌, Err}
 use Rattle.wav_format.specs.Gathered.{WasGiven}
 use Rattle.flow_model.specs.Rule.{BadStream}
 use Rattle.el_wav.proofs.WavParseReading.{read_of, says_more, says_whole, says_wrong, cut_now, first_of, whole_fault}

@@ -1,4 +1,3 @@
-use Rattle.std.proofs.Common.{arith}
 use Rattle.el_wav.proofs.wav_gathered.Gathered.read.Goals as goal
 
 pub returns-clause-head : goal.returns-clause-head
