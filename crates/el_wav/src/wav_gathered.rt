@@ -1,4 +1,4 @@
-//! The bytes of a head that is not yet whole.
+//! A head that is not yet whole.
 ghost use Rattle.std.specs.Prelude.{◌≡◌, ◌++◌, [], ℕ, List, length, IfOk, MatchOption};
 ghost use Rattle.wav_format.specs.Answers.{AnswerIn};
 ghost use Rattle.wav_format.specs.Cuts.{CutIn};
@@ -12,7 +12,7 @@ use gst_caps::OutOfMemory;
 use std::alloc::{AllocError, Global};
 use wav_format::{HeadAnswer, HeadReader, head_stays};
 
-/// What the bytes so far say of a head.
+/// A reader of a head that was given bytes which are not all of it.
 #[derive(Drop)]
 pub(crate) struct Gathered {
     reader: HeadReader,
@@ -30,14 +30,15 @@ impl Gathered {
         }
     }
 
-    /// How many bytes there are.
+    /// How many bytes it was given.
     pub(crate) fn count(&self) -> u64
         ensures { (bytes : List ℕ) → HasGathered self.now bytes → result ≡ length bytes }
     {
         self.reader.count()
     }
 
-    /// What the bytes say with more bytes, and a reader that was given more of them, but none behind the head.
+    /// What the bytes say with more bytes, and a reader that was given more of them, none behind the head. At a fault
+    /// and where memory is wanting nothing is to be undone, since this one stays.
     pub(crate) fn read(
         &self,
         alloc: Global,
@@ -53,7 +54,7 @@ impl Gathered {
         Ok((answer, reader))
     }
 
-    /// Goes on with a reader that was given more bytes.
+    /// Goes on with the reader that was given more bytes.
     pub(crate) fn keep(&mut self, reader: HeadReader)
         ensures { (bytes : List ℕ) → WasGiven reader bytes → AreBytes bytes → CutIn bytes → HasGathered self.new bytes }
     {
