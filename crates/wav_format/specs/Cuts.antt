@@ -74,7 +74,8 @@ deciding s = if nat_lt (length s.left) 8 then deciding_head s else deciding_body
 abbrev pub open_length : List ℕ → Option ℕ
 open_length left = if begins (codes "fmt ") left then body_length (little_from 0 2 (body_at left) == extensible) (length (body_at left)) else None
 
--- A chunk is decided, whether or not the bytes end in it.
+-- A chunk other than `data` is decided, whether or not the bytes end in it: its head is there, it is not at fault, and
+-- nothing in it can decide more.
 pub record IsDecided (s : Spot) : Type 0 where
   pub headed : IsHeaded s
   pub room : HasRoom s

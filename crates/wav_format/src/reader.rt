@@ -35,8 +35,8 @@ impl HeadReader {
 
     /// What the bytes so far say of the head of their file, with more bytes, as `read_head` says it. Reading goes
     /// on at the chunk where it ended. A chunk is passed as soon as its head is there, or of a `fmt ` its first 16
-    /// bytes, 26 of an extensible one; of its further bytes none is kept. Where memory is wanting, or the count of
-    /// all bytes would not fit, the reader stays as it was.
+    /// bytes, 26 of an extensible one; of its further bytes none is kept. Where memory is wanting, or a `u64` would not
+    /// count all bytes, the reader stays as it was.
     pub fn read(&mut self, more: &[u8]) -> Result<HeadAnswer, AllocError>
         ensures answer { IfOk result (λ answer. (given : List ℕ) → WasGiven self.old given → AnswerIn (given ++ more.now) answer) }
         ensures given { OnOk result ((given : List ℕ) → WasGiven self.old given → WasGiven self.new (given ++ more.now)) }
@@ -57,22 +57,6 @@ impl HeadReader {
         self.read_left(&left, count)
     }
 
-    // Reads on in the bytes from the place on where it stands, the last of `count` bytes that it is given.
-    fn read_left(&mut self, left: &[u8], count: u64) -> Result<HeadAnswer, AllocError>
-        ensures answer { IfOk result (λ answer. (given : List ℕ) → StandsIn self.old.standing given → left.now ≡ drop self.old.standing.place given → AnswerIn given answer) }
-        ensures given { OnOk result ((given : List ℕ) → AreBytes given → count ≡ length given → StandsIn self.old.standing given → left.now ≡ drop self.old.standing.place given → WasGiven self.new given) }
-        ensures stays { OnErr result (self.new ≡ self.old) }
-        ensures few { IfOk result (λ answer. (n : ℕ) → answer ≡ NeedMore n → kept self.new ≤ 33) }
-    {
-        let (answer, standing) = read_on(left, self.standing);
-        let rest = behind(left, standing.place - self.standing.place);
-        let bytes = Vec::from_slice(*self.bytes.allocator(), rest)?;
-        self.count = count;
-        self.standing = standing;
-        self.bytes = bytes;
-        Ok(answer)
-    }
-
     /// How many bytes it was given.
     pub fn count(&self) -> u64
         ensures { (given : List ℕ) → WasGiven self.now given → result ≡ length given }
@@ -90,9 +74,25 @@ impl HeadReader {
             bytes: Vec::from_slice(alloc, &self.bytes)?,
         })
     }
+
+    // Reads on in the bytes from the place on where it stands. With them it was given so many bytes in all.
+    fn read_left(&mut self, left: &[u8], count: u64) -> Result<HeadAnswer, AllocError>
+        ensures answer { IfOk result (λ answer. (given : List ℕ) → StandsIn self.old.standing given → left.now ≡ drop self.old.standing.place given → AnswerIn given answer) }
+        ensures given { OnOk result ((given : List ℕ) → AreBytes given → count ≡ length given → StandsIn self.old.standing given → left.now ≡ drop self.old.standing.place given → WasGiven self.new given) }
+        ensures stays { OnErr result (self.new ≡ self.old) }
+        ensures few { IfOk result (λ answer. (n : ℕ) → answer ≡ NeedMore n → kept self.new ≤ 33) }
+    {
+        let (answer, standing) = read_on(left, self.standing);
+        let rest = behind(left, standing.place - self.standing.place);
+        let bytes = Vec::from_slice(*self.bytes.allocator(), rest)?;
+        self.count = count;
+        self.standing = standing;
+        self.bytes = bytes;
+        Ok(answer)
+    }
 }
 
-/// The bytes from a place on, or none where it lies beyond them.
+// The bytes from a place on, or none where it lies beyond them.
 fn behind(bytes: &[u8], place: u64) -> &[u8]
     ensures { result.now ≡ drop place bytes.now }
 {
