@@ -45,6 +45,12 @@ reading_is InHead bytes phase has e s = (refl, subst (StandsAs InHead bytes) e s
 reading_is (InData k place) bytes phase has e s = absurd (subst (StandsAs (InData k place) bytes) e s)
 reading_is (Broken place kind) bytes phase has e s = absurd (subst (StandsAs (Broken place kind) bytes) e s)
 
+-- with a copy of what is gathered
+pub reading_again : (st : Standing) (bytes : List ℕ) (phase : Phase) (has made : Gathered) → phase ≡ Reading has → ((given : List ℕ) → HasGathered has given → HasGathered made given) → StandsAs st bytes phase → StandsAs st bytes (Reading made)
+reading_again st bytes phase has made e same s =
+    let at = reading_is st bytes phase has e s in
+    subst (λ t. StandsAs t bytes (Reading made)) (sym at.0) (same bytes at.1)
+
 -- in the data, with the head that is known
 pub record InDataOf (st : Standing) (left : Option ℕ) : Type 0 where
   pub known : Known
