@@ -1,5 +1,5 @@
 -- `make_mut` lends the bytes of the block that `own` lends: a walk of a call, a branch and a call.
-use Rattle.std.proofs.Common.{◌≡◌, ◌∙◌, sym, subst, ℕ, List, [], ◌∷◌, ◌++◌, length, refl, ap, lit<, MutBor, Result, Ok, Err}
+use Rattle.std.proofs.Common.{◌≡◌, ◌∙◌, subst, ℕ, List, [], ◌∷◌, ◌++◌, length, refl, ap, lit<, MutBor, Result, Ok, Err}
 use Rattle.std.specs.Prelude.{IfOk}
 use Rattle.std.specs.Borrow.{Array}
 use Rattle.std.proofs.raw_atomic.Walks.{proved}
