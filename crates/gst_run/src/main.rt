@@ -6,6 +6,7 @@ mod outcome;
 mod run;
 
 use gst_outside::{HostClock, HostFiles, OpenGate, OutSink};
+use read_ahead::AheadFiles;
 use run::Untaken;
 use std::alloc::Global;
 use std::io::ErrorKind;
@@ -45,7 +46,7 @@ fn main(rt: HostRuntime) -> io::Result<ExitCode> {
             return Ok(ExitCode::from(outcome.status));
         }
     };
-    let mut files = HostFiles::new(rt.clone()?);
+    let mut files = AheadFiles::new(HostFiles::new(rt.clone()?));
     let mut clock = HostClock::new(rt.clone()?);
     let gate = OpenGate;
     let outcome = run::run(
