@@ -3,3 +3,4 @@ pub mod Decoded
 pub mod Fields
 pub mod Intervals
 pub mod Lines
+pub mod Sixteen

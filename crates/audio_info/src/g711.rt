@@ -3,10 +3,10 @@ ghost use Rattle.std.specs.Prelude.{◌≡◌, ◌≢◌, ℕ, ◌<◌, ◌≤�
 ghost use Rattle.audio_info.specs.Segments.{HoldsALaw, HoldsMuLaw, alaw_code, alaw_magnitude, alaw_segments, alaw_value, interval_of, middle_of, mulaw_code, mulaw_segments, mulaw_value};
 
 /// The greatest magnitude that mu-law tells apart.
-const MULAW_CLIP: u16 = 32_635;
+pub(crate) const MULAW_CLIP: u16 = 32_635;
 
 /// What mu-law adds to a magnitude, so that each segment starts at a power of two.
-const MULAW_BIAS: u16 = 132;
+pub(crate) const MULAW_BIAS: u16 = 132;
 
 /// The least magnitude of the upper half of mu-law's segments.
 const MULAW_UPPER: u16 = 2_048;

@@ -4,10 +4,12 @@
 mod field;
 pub mod g711;
 pub mod info;
+pub mod lanes;
 pub mod sample;
 #[cfg(test)]
 mod tests;
 
 pub use g711::{alaw_dec, alaw_enc, mulaw_dec, mulaw_enc};
 pub use info::{Info, LARGEST_RATE, MOST_CHANNELS, NotAudio};
+pub use lanes::mulaw_enc_sixteen;
 pub use sample::{Sample, get, put};

@@ -1,7 +1,7 @@
-ghost use Rattle.std.specs.Prelude.{◌≤ℤ◌, negsuc, pos};
+ghost use Rattle.std.specs.Prelude.{◌≤◌, ◌≤ℤ◌, negsuc, pos};
 ghost use Rattle.audio_info.specs.Packing.{FitsBytes, IsRaw, sample_width};
 
-use crate::{Info, NotAudio, Sample, alaw_dec, alaw_enc, get, mulaw_dec, mulaw_enc, put};
+use crate::{Info, NotAudio, Sample, alaw_dec, alaw_enc, get, mulaw_dec, mulaw_enc, mulaw_enc_sixteen, put};
 use gst_caps::{Fixed, One, Text};
 use std::process::Abort;
 use std::test::Fail;
@@ -36,6 +36,30 @@ fn all_codes(rt: HostRuntime) {
     }
     assert_eq!(rt; mulaw, MULAW_CODES);
     assert_eq!(rt; alaw, ALAW_CODES);
+}
+
+/// Sixteen samples from a number on, -32768 counted as 0, in two bytes each with the lower first.
+fn sixteen_from(first: u16) -> [u8; 32]
+    requires { first ≤ 65520 }
+{
+    let mut bytes = [0; 32];
+    for place in 0..16 {
+        let [low, high] = (first + place).wrapping_add(0x8000).to_le_bytes();
+        bytes[2 * usize::from(place)] = low;
+        bytes[2 * usize::from(place) + 1] = high;
+    }
+    bytes
+}
+
+#[test]
+fn all_codes_by_sixteen(rt: HostRuntime) {
+    let mut mulaw = EMPTY;
+    for group in 0..4096 {
+        for code in mulaw_enc_sixteen(&sixteen_from(16 * group)) {
+            mulaw = hashed(mulaw, code);
+        }
+    }
+    assert_eq!(rt; mulaw, MULAW_CODES);
 }
 
 #[test]

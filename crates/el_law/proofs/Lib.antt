@@ -3,3 +3,4 @@ pub mod Decoding
 pub mod Pieces
 pub mod Putting
 pub mod Recoding
+pub mod Grouped

@@ -1,12 +1,12 @@
 //! Bodies from one format of samples to another.
 ghost use Rattle.std.specs.Prelude.{◌≡◌, ◌∷◌, [], IfOk};
 ghost use Rattle.audio_info.specs.Packing.{sample_bytes, sample_value};
-ghost use Rattle.audio_info.specs.declared.sample.Sample.TheVariants.{S16LE as Linear};
+ghost use Rattle.audio_info.specs.declared.sample.Sample.TheVariants.{S16LE as Linear, MuLaw};
 ghost use Rattle.el_law.specs.Companding.{format_of};
 ghost use Rattle.el_law.specs.Laws.{format_in, format_out, recoded_bytes};
 
 use crate::kind::LawKind;
-use audio_info::{Sample, alaw_dec, alaw_enc, get, mulaw_dec, mulaw_enc};
+use audio_info::{Sample, alaw_dec, alaw_enc, get, mulaw_dec, mulaw_enc, mulaw_enc_sixteen};
 use gst_caps::OutOfMemory;
 use std::alloc::Global;
 
@@ -44,11 +44,28 @@ pub(crate) fn recoded(alloc: Global, kind: LawKind, bytes: &[u8]) -> Result<Vec<
     ensures { IfOk result (λ made. made.items ≡ recoded_bytes (format_in kind) (format_out kind) bytes.now) }
 {
     match kind {
-        LawKind::MulawEnc => encoded(alloc, Companding::MuLaw, bytes),
+        LawKind::MulawEnc => mulaw_encoded(alloc, bytes),
         LawKind::AlawEnc => encoded(alloc, Companding::ALaw, bytes),
         LawKind::MulawDec => decoded(alloc, Companding::MuLaw, bytes),
         LawKind::AlawDec => decoded(alloc, Companding::ALaw, bytes),
     }
+}
+
+/// The mu-law codes of samples of 16 bits, the lower byte of each first, sixteen at a time as long as there are so
+/// many. A single byte at the end is left out.
+fn mulaw_encoded(alloc: Global, bytes: &[u8]) -> Result<Vec<u8>, OutOfMemory>
+    ensures { IfOk result (λ made. made.items ≡ recoded_bytes Linear MuLaw bytes.now) }
+{
+    let (groups, rest) = bytes.as_chunks::<32>();
+    let mut codes = Vec::with_capacity(alloc, bytes.len() / 2)?;
+    for group in groups {
+        codes.extend_from_slice(&mulaw_enc_sixteen(group))?;
+    }
+    let (samples, _) = rest.as_chunks::<2>();
+    for sample in samples {
+        codes.push(mulaw_enc(get(Sample::S16LE, sample) as i16))?;
+    }
+    Ok(codes)
 }
 
 /// The codes of samples of 16 bits, the lower byte of each first. A single byte at the end is left out.

@@ -1,0 +1,65 @@
+//! The mu-law codes of sixteen samples at once.
+ghost use Rattle.std.specs.Prelude.{◌≡◌, ◌≤◌, ◌<◌, ◌+◌, ◌-◌, ◌*◌, ◌/◌, map, min, All};
+ghost use Rattle.std.specs.Simd.{first_chunks};
+ghost use Rattle.audio_info.specs.Packing.{sample_value};
+ghost use Rattle.audio_info.specs.Segments.{interval_of, mulaw_code, mulaw_segments};
+ghost use Rattle.audio_info.specs.declared.sample.Sample.TheVariants.{S16LE};
+ghost use Rattle.byteorder.specs.Endian.{little_number};
+
+use crate::g711::{MULAW_BIAS, MULAW_CLIP};
+use std::simd::prelude::*;
+
+/// The mu-law codes of sixteen samples of 16 bits, the lower byte of each first.
+pub fn mulaw_enc_sixteen(samples: &[u8; 32]) -> [u8; 16]
+    ensures { result ≡ map (λ s. mulaw_code (sample_value S16LE s)) (first_chunks 2 16 samples.now) }
+{
+    let bits = bits_of(u8x32::from_slice(samples));
+    let codes = !(signs(bits) | intervals(magnitudes(bits)));
+    codes.to_array()
+}
+
+// The bits of samples, as a number each.
+fn bits_of(bytes: u8x32) -> u16x16
+    ensures bits { result ≡ map (λ s. little_number 2 s) (first_chunks 2 16 bytes) }
+    ensures small { All (λ u. u < 65536) result }
+{
+    u16x16::from_le_bytes(bytes)
+}
+
+// The sign bits of samples, given by their bits.
+fn signs(bits: u16x16) -> u8x16
+    ensures { result ≡ map (λ u. u / 32768 * 128) bits }
+{
+    (bits >> u16x16::splat(15)).cast::<u8>() << u8x16::splat(7)
+}
+
+// The magnitudes of samples, given by their bits, each with what makes its segment start at a power of two.
+fn magnitudes(bits: u16x16) -> u16x16
+    ensures { result ≡ map (λ u. min (min u (65536 - u)) 32635 + 132) bits }
+{
+    let absolute = bits.simd_min(bits.wrapping_neg());
+    absolute.simd_min(u16x16::splat(MULAW_CLIP)) + u16x16::splat(MULAW_BIAS)
+}
+
+// The intervals of magnitudes, found as for one of them, but counted in bytes. What does not fit a byte is of the
+// upper half, where it does not count.
+fn intervals(magnitudes: u16x16) -> u8x16
+    requires { All (λ m. (128 ≤ m) × (m < 32768)) magnitudes }
+    ensures { result ≡ map (λ m. interval_of mulaw_segments m) magnitudes }
+{
+    let narrow = (magnitudes >> u16x16::splat(3)).simd_min(u16x16::splat(255)).cast::<u8>();
+    let wide = (magnitudes >> u16x16::splat(7)).cast::<u8>();
+    let is_upper = wide.simd_ge(u8x16::splat(16));
+    let first = is_upper.select(u8x16::splat(64), u8x16::splat(0));
+    least_lines(is_upper.select(wide, narrow)) + first - u8x16::splat(16)
+}
+
+// The least line of each half, as for one.
+fn least_lines(steps: u8x16) -> u8x16
+    ensures { result ≡ map (λ s. min (min (min s (s / 2 + 16)) (s / 4 + 32)) (s / 8 + 48)) steps }
+{
+    steps
+        .simd_min((steps >> u8x16::splat(1)) + u8x16::splat(16))
+        .simd_min((steps >> u8x16::splat(2)) + u8x16::splat(32))
+        .simd_min((steps >> u8x16::splat(3)) + u8x16::splat(48))
+}
