@@ -1,7 +1,9 @@
 //! The elements of the two laws of G.711.
-ghost use Rattle.std.specs.Prelude.{◌≡◌, ◌≤◌, ◌<◌, ◌^◌, ◌+◌, ◌++◌, length, ◌∷◌, [], ℕ, List, Some, Ok, false, IfOk, OnOk, OnErr, IfErr, IsOk};
+ghost use Rattle.std.specs.Prelude.{◌≡◌, ◌≤◌, ◌<◌, ◌^◌, ◌+◌, ◌++◌, length, ◌∷◌, [], ℕ, List, Some, Ok, false, IfOk, OnOk, OnErr, IfErr, IsErr, IsOk, None, Err};
 ghost use Rattle.std.specs.Option.{ForSome};
 ghost use Rattle.el_law.specs.Laws.{recoded_buffer as buffer_of};
+ghost use Rattle.flow_model.specs.Feeding.{on_pad};
+ghost use Rattle.flow_model.specs.Item.{Buf};
 
 use crate::kind::LawKind;
 use crate::put_out::put_out;
@@ -28,11 +30,14 @@ pub struct Law {
 
 impl Law {
     ghost use Rattle.gst_item.specs.declared.fault.ElementFault.TheVariants.{OutOfMemory as Wanting};
-    ghost use Rattle.flow_model.specs.Item.{Item, Buf, Ev, NewCaps, FlushStop, is_caps, is_buffer, is_eos, is_flush_stop, body_of};
+    ghost use Rattle.gst_item.specs.declared.flow.Flow.TheVariants.{Ok as Taken};
+    ghost use Rattle.flow_model.specs.Item.{Item, Ev, NewCaps, FlushStop, is_caps, is_buffer, is_eos, is_flush_stop, body_of};
     ghost use Rattle.flow_model.specs.Call.{Call, Feed, Act, Drain};
-    ghost use Rattle.flow_model.specs.Feeding.{flow_behind, passed, on_pad, next_owed, IsFaultOf};
-    ghost use Rattle.el_law.specs.Laws.{recodes, recoded as recoded_item, recoded_caps, frame_width, law_answer, frame_behind, got_behind};
+    ghost use Rattle.flow_model.specs.Rule.{NotNegotiated};
+    ghost use Rattle.flow_model.specs.Feeding.{flow_behind, passed, next_owed, IsFaultOf};
+    ghost use Rattle.el_law.specs.Laws.{format_in as format_in_of, recodes, recoded as recoded_item, recoded_caps, frame_width, law_answer, frame_behind, got_behind};
     ghost use Rattle.el_law.specs.Recoded.{Recoded};
+    ghost use Rattle.el_law.specs.Templates.{template as template_of};
     ghost use Rattle.el_law.specs.Puts.{Puts};
 
     /// An element that was fed nothing yet.
@@ -72,8 +77,7 @@ impl Law {
         if self.ended {
             return Ok(Flow::Eos);
         }
-        self.take(alloc, item, out)?;
-        Ok(Flow::Ok)
+        self.take(alloc, item, out)
     }
 
     /// Begins a new section, behind a FLUSH_STOP of any number that crosses its source pad. The caps of the
@@ -109,7 +113,8 @@ impl Law {
     }
 
     /// Puts an item out recoded.
-    fn take(&mut self, alloc: Global, item: Item, out: &mut Outs) -> Result<(), ElementFault>
+    fn take(&mut self, alloc: Global, item: Item, out: &mut Outs) -> Result<Flow, ElementFault>
+        ensures flow { IfOk result (λ flow. flow ≡ Taken) }
         ensures owed { OnOk result (law_answer self.old.kind self.old.frame self.old.got item ≡ Ok (recoded_item self.old.kind item ∷ [])) }
         ensures out { OnOk result (out.new ≡ out.old ++ on_pad 0 (recoded_item self.old.kind item ∷ [])) }
         ensures kind { OnOk result (self.new.kind ≡ self.old.kind) }
@@ -132,7 +137,8 @@ impl Law {
         alloc: Global,
         buffer: Buffer,
         out: &mut Outs,
-    ) -> Result<(), ElementFault>
+    ) -> Result<Flow, ElementFault>
+        ensures flow { IfOk result (λ flow. flow ≡ Taken) }
         ensures owed { OnOk result (law_answer self.old.kind self.old.frame self.old.got (Buf buffer) ≡ Ok (Buf (buffer_of self.old.kind buffer) ∷ [])) }
         ensures out { OnOk result (out.new ≡ out.old ++ on_pad 0 (Buf (buffer_of self.old.kind buffer) ∷ [])) }
         ensures same { OnOk result ((self.new.kind ≡ self.old.kind) × (self.new.frame ≡ self.old.frame) × (self.new.ended ≡ self.old.ended)) }
@@ -141,10 +147,7 @@ impl Law {
         ensures fault { IfErr result (λ fault. IsFaultOf (law_answer self.old.kind self.old.frame self.old.got (Buf buffer)) fault) }
     {
         let Some(frame) = self.frame else {
-            return Err(ElementFault::NotNegotiated {
-                offered: None,
-                wanted: template(alloc, self.kind.format_in())?,
-            });
+            return self.refuse_buffer(alloc);
         };
         let length = buffer.body.as_slice().len() as u64;
         if length % u64::from(frame) != 0 {
@@ -159,14 +162,30 @@ impl Law {
                 b: length,
             });
         }
-        let made = recoded_buffer(alloc, self.kind, &buffer)?;
-        put_out(alloc, Item::Buffer(made), out)?;
+        put_recoded(alloc, self.kind, buffer, out)?;
         self.got += length;
-        Ok(())
+        Ok(Flow::Ok)
+    }
+
+    /// The answer to a buffer before any CAPS.
+    fn refuse_buffer(&self, alloc: Global) -> Result<Flow, ElementFault>
+        ensures err { IsErr result }
+        ensures fault { IfErr result (λ fault. IsFaultOf (Err (NotNegotiated None (template_of (format_in_of self.now.kind)))) fault) }
+    {
+        Err(ElementFault::NotNegotiated {
+            offered: None,
+            wanted: template(alloc, self.kind.format_in())?,
+        })
     }
 
     /// Puts CAPS out as those of the other format, where the template accepts them.
-    fn take_caps(&mut self, alloc: Global, caps: Fixed, out: &mut Outs) -> Result<(), ElementFault>
+    fn take_caps(
+        &mut self,
+        alloc: Global,
+        caps: Fixed,
+        out: &mut Outs,
+    ) -> Result<Flow, ElementFault>
+        ensures flow { IfOk result (λ flow. flow ≡ Taken) }
         ensures owed { OnOk result (law_answer self.old.kind self.old.frame self.old.got (Ev (NewCaps caps)) ≡ Ok (Ev (NewCaps (recoded_caps self.old.kind caps)) ∷ [])) }
         ensures out { OnOk result (out.new ≡ out.old ++ on_pad 0 (Ev (NewCaps (recoded_caps self.old.kind caps)) ∷ [])) }
         ensures same { OnOk result ((self.new.kind ≡ self.old.kind) × (self.new.got ≡ self.old.got) × (self.new.ended ≡ self.old.ended)) }
@@ -192,7 +211,7 @@ impl Law {
         .to_fixed(alloc)?;
         put_out(alloc, Item::Event(Event::Caps(made)), out)?;
         self.frame = Some(info.width());
-        Ok(())
+        Ok(Flow::Ok)
     }
 
     /// Puts another event out.
@@ -201,8 +220,9 @@ impl Law {
         alloc: Global,
         event: Event,
         out: &mut Outs,
-    ) -> Result<(), ElementFault>
+    ) -> Result<Flow, ElementFault>
         requires { is_caps (Ev event) ≡ false }
+        ensures flow { IfOk result (λ flow. flow ≡ Taken) }
         ensures out { OnOk result (out.new ≡ out.old ++ on_pad 0 (Ev event ∷ [])) }
         ensures same { OnOk result (self.new ≡ record self.old { ended = is_eos (Ev event) }) }
         ensures stays { OnErr result ((self.new ≡ self.old) × (out.new ≡ out.old)) }
@@ -211,20 +231,22 @@ impl Law {
         let ends = matches!(event, Event::Eos);
         put_out(alloc, Item::Event(event), out)?;
         self.ended = ends;
-        Ok(())
+        Ok(Flow::Ok)
     }
 }
 
-/// A buffer with its body recoded. Its times and its offset stay.
-fn recoded_buffer(alloc: Global, kind: LawKind, buffer: &Buffer) -> Result<Buffer, OutOfMemory>
-    ensures { IfOk result (λ made. made ≡ buffer_of kind buffer.now) }
+/// Puts a buffer out with its body recoded. Its times and its offset stay.
+fn put_recoded(
+    alloc: Global,
+    kind: LawKind,
+    mut buffer: Buffer,
+    out: &mut Outs,
+) -> Result<(), OutOfMemory>
+    ensures ok { OnOk result (out.new ≡ out.old ++ on_pad 0 (Buf (buffer_of kind buffer) ∷ [])) }
+    ensures err { OnErr result (out.new ≡ out.old) }
 {
     let bytes = recoded(alloc, kind, buffer.body.as_slice())?;
-    Ok(Buffer {
-        body: Body::from_vec(alloc, bytes)?,
-        pts: buffer.pts,
-        duration: buffer.duration,
-        offset: buffer.offset,
-        discont: false,
-    })
+    buffer.body = Body::from_vec(alloc, bytes)?;
+    buffer.discont = false;
+    put_out(alloc, Item::Buffer(buffer), out)
 }
