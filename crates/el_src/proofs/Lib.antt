@@ -1,3 +1,4 @@
+mod Answering
 pub mod Blocks
 mod Counting
 pub mod Filling

@@ -5,7 +5,6 @@ ghost use Rattle.gst_outside.specs.Causes.{Rose};
 ghost use Rattle.el_src.specs.Cause.{IsSrcCause};
 
 use crate::fault::SrcFault;
-use gst_item::Body;
 use gst_outside::{Failed, Source};
 use std::alloc::Global;
 
@@ -36,14 +35,14 @@ pub(crate) fn read_block<S: Source>(
     source: &mut S,
     place: u64,
     size: u32,
-) -> Result<Body, SrcFault>
+) -> Result<Vec<u8>, SrcFault>
     requires { place + size < 2 ^ 64 }
     ensures content_stays { S.content source.new ≡ S.content source.old }
     ensures location_stays { S.location source.new ≡ S.location source.old }
     ensures never_falls { S.faults source.old ≤ S.faults source.new }
     ensures cause { IfErr result (λ fault. IsSrcCause fault (S.faults source.old) (S.faults source.new)) }
-    ensures small { IfOk result (λ body. length body ≤ size) }
-    ensures bytes { IfOk result (λ body. ForSome (S.content source.old) (λ c. body ≡ take size (drop place c))) }
+    ensures small { IfOk result (λ bytes. length bytes.items ≤ size) }
+    ensures bytes { IfOk result (λ bytes. ForSome (S.content source.old) (λ c. bytes.items ≡ take size (drop place c))) }
 {
     let before = source.faults();
     let mut bytes = vec![in alloc; 0; size as usize]?;
@@ -57,5 +56,5 @@ pub(crate) fn read_block<S: Source>(
         }
     };
     bytes.truncate(got);
-    Ok(Body::from_vec(alloc, bytes)?)
+    Ok(bytes)
 }

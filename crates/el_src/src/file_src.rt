@@ -1,5 +1,5 @@
 //! The source that reads a file in blocks, as GStreamer's filesrc.
-ghost use Rattle.std.specs.Prelude.{◌≡◌, ◌≤◌, ◌<◌, ◌^◌, ◌+◌, ◌*◌, ℕ, List, [], ◌∷◌, length, Option, Some, None, Ok, take, drop, false, IfOk, OnErr, IfErr};
+ghost use Rattle.std.specs.Prelude.{◌≡◌, ◌≤◌, ◌<◌, ◌^◌, ◌+◌, ◌*◌, ℕ, List, [], ◌∷◌, length, Option, Some, None, Ok, take, drop, false, IsOk, IfOk, OnErr, IfErr};
 ghost use Rattle.flow_model.specs.Source.{bytes_segment};
 
 use crate::answer::Next;
@@ -43,6 +43,7 @@ impl<S: Source> FileSrc<S> {
     ghost use Rattle.flow_model.specs.Source.{file_list};
     ghost use Rattle.el_src.specs.Cause.{IsSrcCause, IsSizeCause};
     ghost use Rattle.el_src.specs.Gave.{Gave, AfterNext, source_of, items_given, items_after, is_ended, is_over, has_eos, still_to_come, ended_at};
+    ghost use Rattle.el_src.specs.declared.fault.SrcFault.TheVariants.{OutOfMemory as Wanting};
     ghost use Rattle.el_src.specs.declared.file_src.Phase.TheVariants.{Blocks as InBlocks};
     ghost use Rattle.std.specs.Option.{ForSome};
 
@@ -65,6 +66,7 @@ impl<S: Source> FileSrc<S> {
     }
 
     /// The next item. Where it fails nothing was given, and a later call tries once more.
+    #[tactic(auto, using(crate::proofs::Answering::never_err))]
     pub fn next(&mut self, alloc: Global) -> Result<Next, SrcFault>
         requires few { items_given self.old < 2 ^ 41 }
         ensures gave { IfOk result (λ n. (owed : List ℕ → List Item) (h : List Item) → Gave S.content self.old owed h → AfterNext S.content self.new owed h n) }
@@ -79,14 +81,14 @@ impl<S: Source> FileSrc<S> {
         match self.phase {
             Phase::Start => {
                 let event = Event::StreamStart { id: self.id };
-                Ok(self.give(Item::Event(event), self.place, Phase::Segment))
+                self.give(Item::Event(event), self.place, Phase::Segment)
             }
             Phase::Segment => {
                 let event = Event::Segment(bytes_from(self.place));
-                Ok(self.give(Item::Event(event), self.place, Phase::Blocks))
+                self.give(Item::Event(event), self.place, Phase::Blocks)
             }
             Phase::Blocks => self.next_block(alloc),
-            Phase::Eos => Ok(self.give(Item::Event(Event::Eos), self.place, Phase::Ended)),
+            Phase::Eos => self.give(Item::Event(Event::Eos), self.place, Phase::Ended),
             Phase::Ended => Ok(Next::Ended),
         }
     }
@@ -158,24 +160,29 @@ impl<S: Source> FileSrc<S> {
         ensures location_stays { S.location (source_of self.new) ≡ S.location (source_of self.old) }
         ensures never_falls { S.faults (source_of self.old) ≤ S.faults (source_of self.new) }
     {
-        let body = read_block(alloc, &mut self.source, self.place, self.blocksize)?;
-        Ok(self.give_block(body))
+        let bytes = read_block(alloc, &mut self.source, self.place, self.blocksize)?;
+        self.give_block(alloc, bytes)
     }
 
-    /// Gives what was read as the next block, or EOS where the input ended before it.
-    fn give_block(&mut self, body: Body) -> Next
+    /// Gives what was read as the next block, or EOS where the input ended before it. Where there is no memory
+    /// nothing was given.
+    #[tactic(auto, using(crate::proofs::Answering::never_err))]
+    fn give_block(&mut self, alloc: Global, bytes: Vec<u8>) -> Result<Next, SrcFault>
         requires few { self.old.items < 2 ^ 41 }
         requires blocks { self.old.phase ≡ InBlocks }
-        requires read { ForSome (S.content self.old.source) (λ c. body ≡ take self.old.blocksize (drop self.old.place c)) }
-        ensures gave { (owed : List ℕ → List Item) (h : List Item) → Gave S.content self.old owed h → AfterNext S.content self.new owed h result }
-        ensures ended { (owed : List ℕ → List Item) (h : List Item) → Gave S.content self.old owed h → is_ended result ≡ has_eos h }
-        ensures counted { items_given self.new ≡ items_after (Ok result) (items_given self.old) }
+        requires read { ForSome (S.content self.old.source) (λ c. bytes.items ≡ take self.old.blocksize (drop self.old.place c)) }
+        ensures gave { IfOk result (λ n. (owed : List ℕ → List Item) (h : List Item) → Gave S.content self.old owed h → AfterNext S.content self.new owed h n) }
+        ensures ended { IfOk result (λ n. (owed : List ℕ → List Item) (h : List Item) → Gave S.content self.old owed h → is_ended n ≡ has_eos h) }
+        ensures stays { OnErr result (self.new ≡ self.old) }
+        ensures fault { IfErr result (λ fault. fault ≡ Wanting) }
+        ensures counted { items_given self.new ≡ items_after result (items_given self.old) }
         ensures source_stays { source_of self.new ≡ source_of self.old }
     {
-        let size = body.as_slice().len();
+        let size = bytes.len();
         if size == 0 {
             return self.give(Item::Event(Event::Eos), self.place, Phase::Ended);
         }
+        let body = Body::from_vec(alloc, bytes)?;
         let block = Item::Buffer(block_at(body, self.place));
         let behind = self.place + u64::from(self.blocksize);
         if size < self.blocksize as usize {
@@ -186,21 +193,22 @@ impl<S: Source> FileSrc<S> {
     }
 
     /// Gives the item that is due; what comes next is of the phase, at the place.
-    fn give(&mut self, item: Item, place: u64, phase: Phase) -> Next
+    fn give(&mut self, item: Item, place: u64, phase: Phase) -> Result<Next, SrcFault>
         requires few { self.old.items < 2 ^ 41 }
         requires reach { place ≤ self.old.place + 2 ^ 20 }
         requires running { is_over self.old.phase ≡ false }
         requires eos { is_over phase ≡ is_eos item }
         requires due { (c : List ℕ) → S.content self.old.source ≡ Some c → still_to_come self.old.phase self.old.id self.old.blocksize self.old.place c ≡ item ∷ still_to_come phase self.old.id self.old.blocksize place c }
-        ensures gave { (owed : List ℕ → List Item) (h : List Item) → Gave S.content self.old owed h → AfterNext S.content self.new owed h result }
-        ensures ended { (owed : List ℕ → List Item) (h : List Item) → Gave S.content self.old owed h → is_ended result ≡ has_eos h }
-        ensures counted { items_given self.new ≡ items_after (Ok result) (items_given self.old) }
+        ensures ok { IsOk result }
+        ensures gave { IfOk result (λ n. (owed : List ℕ → List Item) (h : List Item) → Gave S.content self.old owed h → AfterNext S.content self.new owed h n) }
+        ensures ended { IfOk result (λ n. (owed : List ℕ → List Item) (h : List Item) → Gave S.content self.old owed h → is_ended n ≡ has_eos h) }
+        ensures counted { items_given self.new ≡ items_after result (items_given self.old) }
         ensures source_stays { source_of self.new ≡ source_of self.old }
     {
         self.items += 1;
         self.place = place;
         self.phase = phase;
-        Next::Item(item)
+        Ok(Next::Item(item))
     }
 }
 

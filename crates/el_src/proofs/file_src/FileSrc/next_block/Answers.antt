@@ -1,10 +1,18 @@
 use Rattle.std.proofs.Common.{sym, ◌∙◌}
+use Rattle.el_src.proofs.Answering.{on_ok, on_err, wanting_cause}
 use Rattle.el_src.proofs.file_src.FileSrc.next_block.Goals as goal
 
 pub returns-clause-gave : goal.returns-clause-gave
-returns-clause-gave g c = λ owed h gave.
-    c.give_block.ensures.gave owed h (record { count = gave.count; eos = gave.eos; told = λ content e. gave.told content (sym c.read_block.ensures.content_stays ∙ e) })
+returns-clause-gave g c =
+    on_ok c.give_block.result (λ n did owed h gave. did owed h (record { count = gave.count; eos = gave.eos; told = λ content e. gave.told content (sym c.read_block.ensures.content_stays ∙ e) })) c.give_block.ensures.gave
 
 pub returns-clause-ended : goal.returns-clause-ended
-returns-clause-ended g c = λ owed h gave.
-    c.give_block.ensures.ended owed h (record { count = gave.count; eos = gave.eos; told = λ content e. gave.told content (sym c.read_block.ensures.content_stays ∙ e) })
+returns-clause-ended g c =
+    on_ok c.give_block.result (λ n did owed h gave. did owed h (record { count = gave.count; eos = gave.eos; told = λ content e. gave.told content (sym c.read_block.ensures.content_stays ∙ e) })) c.give_block.ensures.ended
+
+pub returns-clause-kept : goal.returns-clause-kept
+returns-clause-kept g c =
+    on_err c.give_block.result (λ fault same owed h gave. rw same (record { count = gave.count; eos = gave.eos; told = λ content e. gave.told content (sym c.read_block.ensures.content_stays ∙ e) })) c.give_block.ensures.stays
+
+pub returns-clause-cause : goal.returns-clause-cause
+returns-clause-cause g c = on_err c.give_block.result (λ fault is. wanting_cause fault _ _ is) c.give_block.ensures.fault
