@@ -4,6 +4,7 @@ pub mod Parsed
 pub mod Parses
 pub mod Part
 pub mod RawParsePuts
+pub mod Refused
 pub mod Regrouped
 pub mod SplitPuts
 pub mod Splits

@@ -1,7 +1,6 @@
 //! Elements that cut a stream of raw audio anew.
 #![tactic(auto)]
 
-mod cut;
 mod pieces;
 mod put_out;
 pub mod raw_parse;

@@ -10,16 +10,16 @@ returns-then-self-clause-fed c = λ info calls put p.
     let did = parsed_behind c.args.self.now c.args.item c.requires.no_flush c.if-self.true info calls put p in
     ([], did.0, sym (append-nil c.args.out.now), did.1)
 
-pub returns-clause-fed : goal.returns-clause-fed
-returns-clause-fed c = λ info calls put p.
-    let by = c.in_ok-parse.ensures in
+pub returns-in-Ok-clause-fed : goal.returns-in-Ok-clause-fed
+returns-in-Ok-clause-fed c = λ info calls put p.
+    let by = c.in-Ok.ensures in
     let did = parsed_item c.args.self.now c.parse.new.self c.args.item c.requires.no_flush c.if-self.false by.answer by.come by.info (by.eos c.if-self.false) info calls put p in
     (answered (parse_answer c.args.self.now.info (come c.args.self.now) c.args.item), did.0, by.out, did.1)
 
 pub returns-then-self-clause-puts : goal.returns-then-self-clause-puts
 returns-then-self-clause-puts c = parser_puts_behind c.args.self.now c.args.item c.args.out.now c.requires.no_flush c.if-self.true
 
-pub returns-clause-puts : goal.returns-clause-puts
-returns-clause-puts c =
-    let by = c.in_ok-parse.ensures in
+pub returns-in-Ok-clause-puts : goal.returns-in-Ok-clause-puts
+returns-in-Ok-clause-puts c =
+    let by = c.in-Ok.ensures in
     parser_puts c.args.self.now c.parse.new.self c.args.item _ _ c.requires.no_flush c.if-self.false by.answer by.come by.info (by.eos c.if-self.false) by.out
