@@ -52,10 +52,10 @@ got_push h x plain = rw (since_push h x, plain) (sum_by_push (λ y. length (body
 got_flushed : (h : List Item) (number : ℕ) → bytes_got (h ++ Ev (FlushStop number) ∷ []) ≡ 0
 got_flushed h number = rw (since_push h (Ev (FlushStop number))) refl
 
-abbrev knowing : Caps → Option (Description One) → Option (Description One) → ℕ → Known
+abbrev pub knowing : Caps → Option (Description One) → Option (Description One) → ℕ → Known
 knowing allowed offered chosen got = record { allowed = allowed; offered = offered; chosen = chosen; got = got }
 
-same_known : (a b : Caps) (o p c d : Option (Description One)) (m n : ℕ) → a ≡ b → o ≡ p → c ≡ d → m ≡ n → knowing a o c m ≡ knowing b p d n
+pub same_known : (a b : Caps) (o p c d : Option (Description One)) (m n : ℕ) → a ≡ b → o ≡ p → c ≡ d → m ≡ n → knowing a o c m ≡ knowing b p d n
 same_known a b o p c d m n e f g h = rw (e, f, g, h) refl
 
 -- what is known with one more call

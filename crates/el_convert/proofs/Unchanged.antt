@@ -1,5 +1,5 @@
 -- A body whose format and channels stay is the same.
-use Rattle.std.proofs.Common.{◌≡◌, ◌<◌, ◌≤◌, ◌-◌, ◌*◌, ◌/◌, ◌%◌, ◌^◌, ℕ, zero, suc, ℤ, pos, negsuc, ◌-ℤ◌, ◌+ℤ◌, ◌*ℤ◌, Bool, true, false, if◌then◌else◌, nat_lt, List, [], ◌∷◌, length, take, drop, slice_index, refl, sym, ap, ◌∙◌, arith}
+use Rattle.std.proofs.Common.{◌≡◌, ◌<◌, ◌≤◌, ◌-◌, ◌*◌, ◌/◌, ◌%◌, ◌^◌, ℕ, zero, suc, ℤ, pos, negsuc, ◌-ℤ◌, ◌+ℤ◌, ◌*ℤ◌, Bool, true, false, if◌then◌else◌, nat_lt, List, [], ◌∷◌, length, take, drop, slice_index, Some, refl, sym, ap, ◌∙◌, arith}
 use Rattle.std.specs.List.{flat_map}
 use Rattle.std.specs.Simd.{first_chunks}
 use Rattle.std.specs.Prelude.{unsigned_abs}
@@ -12,7 +12,11 @@ use Rattle.byteorder.specs.Endian.{little_bytes, little_number, big_bytes, big_n
 use Rattle.audio_info.specs.Packing.{IsRaw, complement, sample_width, sample_value, sample_bytes}
 use Rattle.audio_info.specs.declared.sample.Sample.{Sample}
 use Rattle.audio_info.specs.declared.sample.Sample.TheVariants.{S8, U8, S16LE, S16BE, S24LE, S32LE, MuLaw, ALaw}
+use Rattle.audio_info.specs.Media.{sample_of, channels_of}
+use Rattle.gst_caps.specs.Description.{Description}
+use Rattle.gst_caps.specs.declared.value.One.{One}
 use Rattle.el_convert.specs.Bodies.{repacked, converted_bytes}
+use Rattle.el_convert.specs.Converts.{frame_width}
 
 -- ---- bytes
 
@@ -162,3 +166,8 @@ whole_samples n channels width h =
     let frames : n ≡ size * (n / size) = omega (arith, div-add-mod n size, h) in
     let samples : n ≡ n / size * channels * width = frames ∙ mul_comm size (n / size) ∙ sym (mul_assoc (n / size) channels width) in
     ap (λ k. k % width) samples ∙ mul-mod_left (n / size * channels) width
+
+pub stream_samples : (offered : Description One) (format : Sample) (channels n : ℕ) → sample_of offered ≡ Some format → channels_of offered ≡ Some channels → n % frame_width offered ≡ 0 → n % sample_width format ≡ 0
+stream_samples offered format channels n f k h =
+    let frames : n % (channels * sample_width format) ≡ 0 = rw (f, k) at h in
+    whole_samples n channels (sample_width format) frames

@@ -1,5 +1,5 @@
 //! Bodies of raw audio in another format and number of channels.
-ghost use Rattle.std.specs.Prelude.{◌≡◌, ◌≤◌, ◌+◌, ◌*◌, ◌%◌, ◌^◌, ◌++◌, length, map, take, true, IfOk, pos, ◌+ℤ◌, vec_len, vec_capacity};
+ghost use Rattle.std.specs.Prelude.{◌≡◌, ◌≤◌, ◌+◌, ◌*◌, ◌%◌, ◌^◌, ◌++◌, length, map, take, true, IfOk, OnOk, OnErr, pos, ◌+ℤ◌, vec_len, vec_capacity};
 ghost use Rattle.std.specs.List.{flat_map};
 ghost use Rattle.std.specs.Int.{int_shr};
 ghost use Rattle.audio_info.specs.Packing.{IsRaw, FitsBytes, sample_width, sample_value, sample_bytes};
@@ -11,25 +11,27 @@ use gst_caps::OutOfMemory;
 use gst_item::Body;
 use std::alloc::Global;
 
-/// A body of whole samples with the samples and channels of `output` in place of those of `input`. Where these are the
-/// same it is the body itself.
-pub(crate) fn converted(
+/// Puts the samples and channels of `output` in place of those of `input` in a body of whole samples. Where these are
+/// the same nothing is done. Where there is no memory the body stays.
+pub(crate) fn convert(
     alloc: Global,
     input: Info,
     output: Info,
-    body: Body,
-) -> Result<Body, OutOfMemory>
+    body: &mut Body,
+) -> Result<(), OutOfMemory>
     requires from { IsRaw input.format }
     requires to { IsRaw output.format }
-    requires whole { length body % sample_width input.format ≡ 0 }
-    ensures { IfOk result (λ made. made ≡ converted_bytes input.format output.format input.channels output.channels body) }
+    requires whole { length body.old % sample_width input.format ≡ 0 }
+    ensures made { OnOk result (body.new ≡ converted_bytes input.format output.format input.channels output.channels body.old) }
+    ensures stays { OnErr result (body.new ≡ body.old) }
 {
     if is_same(input, output) {
         unchanged(input.format, input.channels, body.as_slice());
-        return Ok(body);
+        return Ok(());
     }
     let made = converted_samples(alloc, input, output, body.as_slice())?;
-    Ok(Body::from_vec(alloc, made)?)
+    *body = Body::from_vec(alloc, made)?;
+    Ok(())
 }
 
 /// Whether format and channels are the same.

@@ -1,12 +1,16 @@
 //! The element that converts raw audio to the caps that are allowed behind it, as GStreamer's audioconvert.
 ghost use Rattle.std.specs.Prelude.{◌≡◌, ◌<◌, ◌^◌, ◌+◌, ◌++◌, ◌∷◌, [], ℕ, List, length, Option, Some, None, Ok, false, true, IfOk, OnOk, OnErr, IfErr, IsOk, MatchOption};
 ghost use Rattle.std.specs.Option.{ForSome};
+ghost use Rattle.std.specs.Result.{IsErrAnd};
+ghost use Rattle.flow_model.specs.Item.{Buf};
+ghost use Rattle.flow_model.specs.Feeding.{IsFaultOf};
 ghost use Rattle.el_convert.specs.Choice.{choice};
+ghost use Rattle.el_convert.specs.Converts.{Known, convert_answer};
 
 use crate::choice::same_caps;
 use crate::put_out::{put_out, put_with_caps};
 use crate::raw::template;
-use crate::stream::{Stream, converted_buffer, stream_of};
+use crate::stream::{Stream, stream_of};
 use audio_info::Info;
 use gst_caps::{Caps, Fixed, OutOfMemory};
 use gst_item::{Buffer, ElementFault, Event, Flow, Item, Outs};
@@ -29,6 +33,7 @@ pub struct Convert {
 
 impl Convert {
     ghost use Rattle.gst_item.specs.declared.fault.ElementFault.TheVariants.{OutOfMemory as Wanting};
+    ghost use Rattle.gst_item.specs.declared.flow.Flow.TheVariants.{Ok as Taken};
     ghost use Rattle.gst_caps.specs.Accepts.{accepts};
     ghost use Rattle.flow_model.specs.Item.{Item, Buf, Ev, NewCaps, FlushStop, is_caps, is_eos, is_flush_stop};
     ghost use Rattle.flow_model.specs.Call.{Call, Feed, Act, Drain, Set, Allowed};
@@ -78,8 +83,7 @@ impl Convert {
         if self.ended {
             return Ok(Flow::Eos);
         }
-        self.take(alloc, item, out)?;
-        Ok(Flow::Ok)
+        self.take(alloc, item, out)
     }
 
     /// Begins a new section, behind a FLUSH_STOP of any number that crosses its source pad. The caps of the
@@ -124,8 +128,9 @@ impl Convert {
     }
 
     /// Takes an item of a section that is not over.
-    fn take(&mut self, alloc: Global, item: Item, out: &mut Outs) -> Result<(), ElementFault>
+    fn take(&mut self, alloc: Global, item: Item, out: &mut Outs) -> Result<Flow, ElementFault>
         requires { is_flush_stop item ≡ false }
+        ensures flow { IfOk result (λ flow. flow ≡ Taken) }
         ensures answer { OnOk result (IsOk (convert_answer (knows self.old) item)) }
         ensures out { OnOk result (out.new ≡ out.old ++ on_pad 0 (answered (convert_answer (knows self.old) item))) }
         ensures knows { OnOk result (knows self.new ≡ behind (knows self.old) item) }
@@ -146,7 +151,29 @@ impl Convert {
         alloc: Global,
         buffer: Buffer,
         out: &mut Outs,
-    ) -> Result<(), ElementFault>
+    ) -> Result<Flow, ElementFault>
+        ensures flow { IfOk result (λ flow. flow ≡ Taken) }
+        ensures answer { OnOk result (IsOk (convert_answer (knows self.old) (Buf buffer))) }
+        ensures out { OnOk result (out.new ≡ out.old ++ on_pad 0 (answered (convert_answer (knows self.old) (Buf buffer)))) }
+        ensures knows { OnOk result (knows self.new ≡ behind (knows self.old) (Buf buffer)) }
+        ensures eos { OnOk result (self.new.ended ≡ self.old.ended) }
+        ensures stays { OnErr result ((self.new ≡ self.old) × (out.new ≡ out.old)) }
+        ensures fault { IfErr result (λ fault. IsFaultOf (convert_answer (knows self.old) (Buf buffer)) fault) }
+    {
+        if self.anew {
+            return self.choose_anew(alloc, buffer, out);
+        }
+        self.put_converted(alloc, buffer, out)
+    }
+
+    /// The same, where the choice may be another one than the one before.
+    fn choose_anew(
+        &mut self,
+        alloc: Global,
+        buffer: Buffer,
+        out: &mut Outs,
+    ) -> Result<Flow, ElementFault>
+        ensures flow { IfOk result (λ flow. flow ≡ Taken) }
         ensures answer { OnOk result (IsOk (convert_answer (knows self.old) (Buf buffer))) }
         ensures out { OnOk result (out.new ≡ out.old ++ on_pad 0 (answered (convert_answer (knows self.old) (Buf buffer)))) }
         ensures knows { OnOk result (knows self.new ≡ behind (knows self.old) (Buf buffer)) }
@@ -166,14 +193,8 @@ impl Convert {
         ensures fault { IfErr result (λ fault. (b : Buffer) → IsFaultOf (convert_answer (knows self.now) (Buf b)) fault) }
     {
         let Some(stream) = &self.stream else {
-            return Err(ElementFault::NotNegotiated {
-                offered: None,
-                wanted: template(alloc)?,
-            });
+            return before_caps(alloc);
         };
-        if !self.anew {
-            return Ok(None);
-        }
         let other = stream_of(
             alloc,
             stream.offered.copy(alloc)?,
@@ -190,10 +211,11 @@ impl Convert {
     fn put_converted(
         &mut self,
         alloc: Global,
-        buffer: Buffer,
+        mut buffer: Buffer,
         out: &mut Outs,
-    ) -> Result<(), ElementFault>
-        requires { Stays self.old }
+    ) -> Result<Flow, ElementFault>
+        requires kept { ForSome self.old.stream (λ s. choice s.offered self.old.allowed ≡ Some s.chosen) }
+        ensures flow { IfOk result (λ flow. flow ≡ Taken) }
         ensures answer { OnOk result (IsOk (convert_answer (knows self.old) (Buf buffer))) }
         ensures out { OnOk result (out.new ≡ out.old ++ on_pad 0 (answered (convert_answer (knows self.old) (Buf buffer)))) }
         ensures knows { OnOk result (knows self.new ≡ behind (knows self.old) (Buf buffer)) }
@@ -202,14 +224,21 @@ impl Convert {
         ensures fault { IfErr result (λ fault. IsFaultOf (convert_answer (knows self.old) (Buf buffer)) fault) }
     {
         let Some(stream) = &self.stream else {
-            unreachable!()
+            return before_caps(alloc);
         };
+        if !stream.takes(self.got, &buffer) {
+            return stream.refuse(self.got, &buffer);
+        }
         let length = buffer.body.as_slice().len() as u64;
-        let made = converted_buffer(alloc, stream, self.got, buffer)?;
-        put_out(alloc, Item::Buffer(made), out)?;
+        let Ok(()) = stream.convert(alloc, &mut buffer) else {
+            return Err(ElementFault::OutOfMemory);
+        };
+        let Ok(()) = put_out(alloc, Item::Buffer(buffer), out) else {
+            return Err(ElementFault::OutOfMemory);
+        };
         self.anew = false;
         self.got += length;
-        Ok(())
+        Ok(Flow::Ok)
     }
 
     /// Puts CAPS and a buffer out converted, by another choice, which holds from then on.
@@ -217,10 +246,11 @@ impl Convert {
         &mut self,
         alloc: Global,
         stream: Stream,
-        buffer: Buffer,
+        mut buffer: Buffer,
         out: &mut Outs,
-    ) -> Result<(), ElementFault>
+    ) -> Result<Flow, ElementFault>
         requires { Changes self.old stream }
+        ensures flow { IfOk result (λ flow. flow ≡ Taken) }
         ensures answer { OnOk result (IsOk (convert_answer (knows self.old) (Buf buffer))) }
         ensures out { OnOk result (out.new ≡ out.old ++ on_pad 0 (answered (convert_answer (knows self.old) (Buf buffer)))) }
         ensures knows { OnOk result (knows self.new ≡ behind (knows self.old) (Buf buffer)) }
@@ -228,17 +258,26 @@ impl Convert {
         ensures stays { OnErr result ((self.new ≡ self.old) × (out.new ≡ out.old)) }
         ensures fault { IfErr result (λ fault. IsFaultOf (convert_answer (knows self.old) (Buf buffer)) fault) }
     {
+        if !stream.takes(self.got, &buffer) {
+            return stream.refuse(self.got, &buffer);
+        }
         let length = buffer.body.as_slice().len() as u64;
-        let made = converted_buffer(alloc, &stream, self.got, buffer)?;
-        put_with_caps(alloc, stream.chosen.copy(alloc)?, made, out)?;
+        stream.convert(alloc, &mut buffer)?;
+        put_with_caps(alloc, stream.chosen.copy(alloc)?, buffer, out)?;
         self.anew = false;
         self.stream = Some(stream);
         self.got += length;
-        Ok(())
+        Ok(Flow::Ok)
     }
 
     /// Puts the choice for CAPS out.
-    fn take_caps(&mut self, alloc: Global, caps: Fixed, out: &mut Outs) -> Result<(), ElementFault>
+    fn take_caps(
+        &mut self,
+        alloc: Global,
+        caps: Fixed,
+        out: &mut Outs,
+    ) -> Result<Flow, ElementFault>
+        ensures flow { IfOk result (λ flow. flow ≡ Taken) }
         ensures answer { OnOk result (IsOk (convert_answer (knows self.old) (Ev (NewCaps caps)))) }
         ensures out { OnOk result (out.new ≡ out.old ++ on_pad 0 (answered (convert_answer (knows self.old) (Ev (NewCaps caps))))) }
         ensures knows { OnOk result (knows self.new ≡ behind (knows self.old) (Ev (NewCaps caps))) }
@@ -261,7 +300,7 @@ impl Convert {
         put_out(alloc, Item::Event(Event::Caps(chosen)), out)?;
         self.anew = false;
         self.stream = Some(stream);
-        Ok(())
+        Ok(Flow::Ok)
     }
 
     /// Puts another event out.
@@ -270,8 +309,9 @@ impl Convert {
         alloc: Global,
         event: Event,
         out: &mut Outs,
-    ) -> Result<(), ElementFault>
+    ) -> Result<Flow, ElementFault>
         requires { is_caps (Ev event) ≡ false }
+        ensures flow { IfOk result (λ flow. flow ≡ Taken) }
         ensures out { OnOk result (out.new ≡ out.old ++ on_pad 0 (Ev event ∷ [])) }
         ensures same { OnOk result (knows self.new ≡ knows self.old) }
         ensures eos { OnOk result (self.new.ended ≡ is_eos (Ev event)) }
@@ -281,7 +321,20 @@ impl Convert {
         let ends = matches!(event, Event::Eos);
         put_out(alloc, Item::Event(event), out)?;
         self.ended = ends;
-        Ok(())
+        Ok(Flow::Ok)
+    }
+}
+
+/// Refuses a buffer that comes before any CAPS.
+fn before_caps<T>(alloc: Global) -> Result<T, ElementFault>
+    ensures { IsErrAnd result (λ fault. (k : Known) (b : Buffer) → k.offered ≡ None → IsFaultOf (convert_answer k (Buf b)) fault) }
+{
+    match template(alloc) {
+        Ok(wanted) => Err(ElementFault::NotNegotiated {
+            offered: None,
+            wanted,
+        }),
+        Err(OutOfMemory) => Err(ElementFault::OutOfMemory),
     }
 }
 

@@ -1,5 +1,6 @@
 //! What a converter knows of its stream.
-ghost use Rattle.std.specs.Prelude.{◌≡◌, ◌<◌, ◌^◌, ◌+◌, length, Some, List, IfOk, IfErr, OnOk, Ok};
+ghost use Rattle.std.specs.Prelude.{◌≡◌, ◌==◌, ◌&&◌, ◌<◌, ◌^◌, ◌+◌, ◌%◌, nat_lt, false, length, Some, List, IfOk, IfErr, OnOk, OnErr};
+ghost use Rattle.std.specs.Result.{IsErrAnd};
 ghost use Rattle.audio_info.specs.Media.{sample_of, rate_of, channels_of};
 ghost use Rattle.audio_info.specs.Packing.{IsRaw};
 ghost use Rattle.flow_model.specs.Item.{Item};
@@ -8,11 +9,11 @@ ghost use Rattle.el_convert.specs.Choice.{choice};
 ghost use Rattle.el_convert.specs.Converts.{frame_width, whole_frames, converted_buffer as buffer_of};
 ghost use Rattle.el_convert.specs.Refused.{IsRefusal};
 
-use crate::bodies::converted;
+use crate::bodies::convert;
 use crate::raw::options;
 use audio_info::Info;
 use gst_caps::{Caps, Fixed, OutOfMemory, choose};
-use gst_item::{Buffer, ElementFault, StreamKind};
+use gst_item::{Buffer, ElementFault, Flow, StreamKind};
 use gst_time::LIMIT;
 use std::alloc::Global;
 
@@ -43,6 +44,43 @@ impl Stream {
             chosen: self.chosen.copy(alloc)?,
             output: self.output,
         })
+    }
+
+    /// Whether a buffer is a whole number of frames, and the number of bytes at its end is not too large. `got` bytes
+    /// came before it.
+    pub(crate) fn takes(&self, got: u64, buffer: &Buffer) -> bool
+        requires { got < 2 ^ 63 }
+        ensures { result ≡ (length buffer.now.body % frame_width self.now.offered == 0) && nat_lt (got + length buffer.now.body) (2 ^ 63) }
+    {
+        let length = buffer.body.as_slice().len() as u64;
+        length % u64::from(self.input.width()) == 0 && got + length < LIMIT
+    }
+
+    /// Refuses a buffer that it does not take.
+    pub(crate) fn refuse(&self, got: u64, buffer: &Buffer) -> Result<Flow, ElementFault>
+        requires bound { got < 2 ^ 63 }
+        requires refused { (length buffer.now.body % frame_width self.now.offered == 0) && nat_lt (got + length buffer.now.body) (2 ^ 63) ≡ false }
+        ensures { IsErrAnd result (λ fault. (owed : List Item) → IsFaultOf (whole_frames (frame_width self.now.offered) got buffer.now owed) fault) }
+    {
+        let length = buffer.body.as_slice().len() as u64;
+        if length % u64::from(self.input.width()) != 0 {
+            return Err(ElementFault::BadStream {
+                place: got + length,
+                kind: StreamKind::SplitFrame,
+            });
+        }
+        Err(ElementFault::TooLong { a: got, b: length })
+    }
+
+    /// Converts a buffer of whole frames to the choice. Its times and its offset stay.
+    pub(crate) fn convert(&self, alloc: Global, buffer: &mut Buffer) -> Result<(), OutOfMemory>
+        requires whole { length buffer.old.body % frame_width self.now.offered ≡ 0 }
+        ensures made { OnOk result (buffer.new ≡ buffer_of self.now.offered self.now.chosen buffer.old) }
+        ensures stays { OnErr result (buffer.new ≡ buffer.old) }
+    {
+        convert(alloc, self.input, self.output, &mut buffer.body)?;
+        buffer.discont = false;
+        Ok(())
     }
 }
 
@@ -77,39 +115,5 @@ pub(crate) fn stream_of(
         input,
         chosen,
         output,
-    })
-}
-
-/// A buffer converted to the choice for its stream, where it is a whole number of frames. Its times and its offset
-/// stay. `got` bytes came before it.
-pub(crate) fn converted_buffer(
-    alloc: Global,
-    stream: &Stream,
-    got: u64,
-    buffer: Buffer,
-) -> Result<Buffer, ElementFault>
-    requires { got < 2 ^ 63 }
-    ensures made { IfOk result (λ made. made ≡ buffer_of stream.now.offered stream.now.chosen buffer) }
-    ensures fits { OnOk result (got + length buffer.body < 2 ^ 63) }
-    ensures whole { OnOk result ((owed : List Item) → whole_frames (frame_width stream.now.offered) got buffer owed ≡ Ok owed) }
-    ensures fault { IfErr result (λ fault. (owed : List Item) → IsFaultOf (whole_frames (frame_width stream.now.offered) got buffer owed) fault) }
-{
-    let length = buffer.body.as_slice().len() as u64;
-    if length % u64::from(stream.input.width()) != 0 {
-        return Err(ElementFault::BadStream {
-            place: got + length,
-            kind: StreamKind::SplitFrame,
-        });
-    }
-    if got + length >= LIMIT {
-        return Err(ElementFault::TooLong { a: got, b: length });
-    }
-    let body = converted(alloc, stream.input, stream.output, buffer.body)?;
-    Ok(Buffer {
-        body,
-        pts: buffer.pts,
-        duration: buffer.duration,
-        offset: buffer.offset,
-        discont: false,
     })
 }

@@ -1,14 +1,15 @@
 use Rattle.std.proofs.Common.{◌≡◌, sym, ◌∙◌, ap, Some}
 use Rattle.el_convert.specs.Choice.{choice}
+use Rattle.el_convert.specs.Converted.{knows}
+use Rattle.el_convert.proofs.Buffers.{none_offered, if_err, if_no_value}
 use Rattle.el_convert.proofs.Same.{caps_decide}
 use Rattle.el_convert.proofs.convert.Convert.other_choice.Goals as goal
 
-pub returns-then-not-self-clause-choice : goal.returns-then-not-self-clause-choice
-returns-then-not-self-clause-choice c = record {
-  stream = c.in-Some.stream;
-  is = c.in-Some.is;
-  chosen = c.args.self.now.up_to_date c.if-not-self.true c.in-Some.stream c.in-Some.is;
-}
+pub returns-in_default-clause-fault : goal.returns-in_default-clause-fault
+returns-in_default-clause-fault c = if_err c.before_caps.result _ _ (λ fault h. λ b. h (knows c.args.self.now) b (none_offered c.args.self.now c.in_default.is)) c.before_caps.ensures
+
+pub returns-in_default-clause-choice : goal.returns-in_default-clause-choice
+returns-in_default-clause-choice c = if_no_value c.before_caps.result _ _ c.before_caps.ensures
 
 pub returns-then-same_caps-clause-choice : goal.returns-then-same_caps-clause-choice
 returns-then-same_caps-clause-choice c =
