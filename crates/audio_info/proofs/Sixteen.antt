@@ -49,6 +49,7 @@ less a b = elim (cases_lt a b) [
   | inl h ↦ rw ((Decides-ltb a b).1 h) (omega arith)
   | inr h ↦ rw (not_less a b h) (omega arith)
 ]
+
 -- the least of two, lane by lane
 pub min_of_maps : {V : Type 0} (w : Width) (g h : V → ℕ) (vs : List V) {xs ys : List ℕ} → xs ≡ map g vs → ys ≡ map h vs
     → sel_l (map (top (hbits w)) (zip2 (λ a b. cond (ltb a b) (2 ^ bits w - 1) 0) xs ys)) xs ys ≡ map (λ v. min (g v) (h v)) vs

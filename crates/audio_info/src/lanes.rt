@@ -47,7 +47,9 @@ fn intervals(magnitudes: u16x16) -> u8x16
     requires { All (λ m. (128 ≤ m) × (m < 32768)) magnitudes }
     ensures { result ≡ map (λ m. interval_of mulaw_segments m) magnitudes }
 {
-    let narrow = (magnitudes >> u16x16::splat(3)).simd_min(u16x16::splat(255)).cast::<u8>();
+    let narrow = (magnitudes >> u16x16::splat(3))
+        .simd_min(u16x16::splat(255))
+        .cast::<u8>();
     let wide = (magnitudes >> u16x16::splat(7)).cast::<u8>();
     let is_upper = wide.simd_ge(u8x16::splat(16));
     let first = is_upper.select(u8x16::splat(64), u8x16::splat(0));

@@ -19,5 +19,8 @@ pub(crate) fn place(number: u64, count: usize) -> usize
     ensures place { result ≡ number % count }
     ensures within { result < count }
 {
+    if count == 1 {
+        return 0;
+    }
     (number % count as u64) as usize
 }

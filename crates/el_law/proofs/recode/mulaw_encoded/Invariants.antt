@@ -12,4 +12,4 @@ invariant-loop-group l = l.codes.items ≡ flat_map (λ g. flat_map (λ s. sampl
 abbrev pub invariant-loop-sample : goal.invariant-loop-sample
 invariant-loop-sample l =
     l.codes.items ≡ flat_map (λ g. flat_map (λ s. sample_bytes MuLaw (sample_value Linear s)) (first_chunks 2 16 g)) (first_chunks 32 (length l.bytes / 32) l.bytes)
-        ++ flat_map (λ s. sample_bytes MuLaw (sample_value Linear s)) (take l.sample-index l.samples)
+    ++ flat_map (λ s. sample_bytes MuLaw (sample_value Linear s)) (take l.sample-index l.samples)
