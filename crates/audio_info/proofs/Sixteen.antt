@@ -83,6 +83,11 @@ pub narrowed : (xs : List ℕ) → map (act1 (cast unsigned unsigned w8) (s_int 
 narrowed [] = refl
 narrowed (x ∷ xs) = ap (λ (t : List ℕ). x ∷ t) (narrowed xs)
 
+-- lanes of bytes that are lanes of words
+pub widened : (xs : List ℕ) → map (act1 (cast unsigned unsigned w16) (s_int w8) (s_int w16)) xs ≡ xs
+widened [] = refl
+widened (x ∷ xs) = ap (λ (t : List ℕ). x ∷ t) (widened xs)
+
 -- a fact of each lane, by what it was made of
 pub facts_of_map : {V X : Type 0} (Q : V → Type 0) (P : X → Type 0) (g : V → X) (vs : List V) {xs : List X} → xs ≡ map g vs → Each1 Q vs → ((v : V) → Q v → P (g v)) → Each1 P xs
 facts_of_map {V} {X} Q P g vs e all each = rw e (go vs all)

@@ -1,6 +1,6 @@
 -- What is made of the pieces of a list, piece by piece.
-use Rattle.std.proofs.Common.{◌≡◌, ◌<◌, ◌+◌, ◌*◌, ℕ, zero, suc, List, [], ◌∷◌, ◌++◌, length, take, drop, get_or, refl, sym, ap, ◌∙◌, append-nil, arith}
-use Rattle.std.proofs.lemmas.List.{take_more, drop-drop, take-take, drop-take}
+use Rattle.std.proofs.Common.{◌≡◌, ◌<◌, ◌≤◌, ◌+◌, ◌*◌, ℕ, zero, suc, List, [], ◌∷◌, ◌++◌, length, take, drop, set, get_or, refl, sym, ap, ◌∙◌, append-nil, append_assoc, length-append, length-take-le, arith}
+use Rattle.std.proofs.lemmas.List.{take_more, take_at, take-set-le, get_or-set_same, length-set, drop-drop, take-take, drop-take}
 use Rattle.std.proofs.lemmas.List.Concat.{flat_map-append}
 use Rattle.std.specs.List.{flat_map}
 use Rattle.std.specs.Simd.{first_chunks}
@@ -17,6 +17,30 @@ flat_map_step f xs i x ys zs within is made more =
 pub made_more : {X A : Type 0} (f : X → List A) (xs : List X) (i : ℕ) (d : X) (made more : List A) → i < length xs → made ≡ flat_map f (take i xs) → more ≡ made ++ f (get_or xs i d) → more ≡ flat_map f (take (i + 1) xs)
 made_more f xs i d made more within was is =
     rw (is, was, take_more xs i d within, flat_map-append f (take i xs) (get_or xs i d ∷ [])) (ap (λ s. flat_map f (take i xs) ++ s) (sym (append-nil (f (get_or xs i d)))))
+
+-- what stands at a place of a list, behind a front of it
+pub put_behind : {A : Type 0} (i n : ℕ) (xs new rest : List A) → i ≤ length xs → length new ≡ n → take (i + n) (take i xs ++ (new ++ rest)) ≡ take i xs ++ new
+put_behind {A} i n xs new rest room size =
+    let front : length (take i xs) ≡ i = length-take-le i xs room in
+    ap (take (i + n)) (sym (append_assoc (take i xs) new rest)) ∙ take_at (take i xs ++ new) rest (i + n) (length-append (take i xs) new ∙ rw (front, size) refl)
+
+-- the same where more was given back behind it
+pub put_over : {A : Type 0} (i n : ℕ) (xs new made behind rest : List A) → i ≤ length xs → length made ≡ n → new ≡ made ++ behind → take (i + n) (take i xs ++ (new ++ rest)) ≡ take i xs ++ made
+put_over {A} i n xs new made behind rest room size is =
+    ap (λ (t : List A). take (i + n) (take i xs ++ (t ++ rest))) is
+    ∙ ap (λ (t : List A). take (i + n) (take i xs ++ t)) (append_assoc made behind rest)
+    ∙ put_behind i n xs made (behind ++ rest) room size
+
+-- the same for one member that is set
+pub set_behind : {A : Type 0} (i : ℕ) (xs : List A) (x : A) → i < length xs → take (i + 1) (set xs i x) ≡ take i xs ++ x ∷ []
+set_behind {A} i xs x within =
+    take_more (set xs i x) i x (rw length-set within)
+    ∙ ap (λ (t : List A). t ++ get_or (set xs i x) i x ∷ []) (take-set-le i xs i x (omega arith))
+    ∙ ap (λ (y : A). take i xs ++ y ∷ []) (get_or-set_same xs i x x within)
+
+-- a list that was lent whole, and came back of the same length
+pub lent_whole : {A : Type 0} (n : ℕ) (xs new : List A) → n ≡ length xs → length new ≡ length xs → take n (new ++ drop (length new) xs) ≡ new
+lent_whole n xs new size same = take_at new (drop (length new) xs) n (same ∙ sym size)
 
 -- the pieces of one member each
 pub single_pieces : {X A : Type 0} (f : List X → List A) (xs : List X) → flat_map f (first_chunks 1 (length xs) xs) ≡ flat_map (λ x. f (x ∷ [])) xs

@@ -1,6 +1,8 @@
 //! Bodies from one format of samples to another.
-ghost use Rattle.std.specs.Prelude.{◌≡◌, ◌∷◌, [], IfOk};
+ghost use Rattle.std.specs.Prelude.{◌≡◌, ◌≤◌, ◌+◌, ◌++◌, ◌∷◌, [], length, map, take, IfOk};
+ghost use Rattle.std.specs.Simd.{first_chunks};
 ghost use Rattle.audio_info.specs.Packing.{sample_bytes, sample_value};
+ghost use Rattle.audio_info.specs.Segments.{mulaw_code};
 ghost use Rattle.audio_info.specs.declared.sample.Sample.TheVariants.{S16LE as Linear, MuLaw};
 ghost use Rattle.el_law.specs.Companding.{format_of};
 ghost use Rattle.el_law.specs.Laws.{format_in, format_out, recoded_bytes};
@@ -57,15 +59,27 @@ fn mulaw_encoded(alloc: Global, bytes: &[u8]) -> Result<Vec<u8>, OutOfMemory>
     ensures { IfOk result (λ made. made.items ≡ recoded_bytes Linear MuLaw bytes.now) }
 {
     let (groups, rest) = bytes.as_chunks::<32>();
-    let mut codes = Vec::with_capacity(alloc, bytes.len() / 2)?;
+    let mut codes = vec![in alloc; 0; bytes.len() / 2]?;
+    let mut place = 0;
     for group in groups {
-        codes.extend_from_slice(&mulaw_enc_sixteen(group))?;
+        put_sixteen(place, group, codes.as_mut_slice());
+        place += 16;
     }
     let (samples, _) = rest.as_chunks::<2>();
     for sample in samples {
-        codes.push(mulaw_enc(get(Sample::S16LE, sample) as i16))?;
+        codes[place] = mulaw_enc(get(Sample::S16LE, sample) as i16);
+        place += 1;
     }
     Ok(codes)
+}
+
+/// Puts the codes of sixteen samples at a place, behind which there is room for them.
+fn put_sixteen(place: usize, samples: &[u8; 32], codes: &mut [u8])
+    requires { place + 16 ≤ length codes.old }
+    ensures size { length codes.new ≡ length codes.old }
+    ensures put { take (place + 16) codes.new ≡ take place codes.old ++ map (λ s. mulaw_code (sample_value Linear s)) (first_chunks 2 16 samples.now) }
+{
+    mulaw_enc_sixteen(samples, &mut codes[place..]);
 }
 
 /// The codes of samples of 16 bits, the lower byte of each first. A single byte at the end is left out.
