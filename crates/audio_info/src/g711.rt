@@ -12,7 +12,7 @@ pub(crate) const MULAW_BIAS: u16 = 132;
 const MULAW_UPPER: u16 = 2_048;
 
 /// By how many intervals the lines of the upper half come later than those of the lower.
-const UPPER_FIRST: u16 = 64;
+pub(crate) const UPPER_FIRST: u16 = 64;
 
 /// The highest bit of a code, for the sign.
 const SIGN: u8 = 0x80;

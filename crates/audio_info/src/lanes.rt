@@ -1,23 +1,23 @@
 //! The mu-law codes of sixteen samples at once.
-ghost use Rattle.std.specs.Prelude.{◌≡◌, ◌≤◌, ◌<◌, ◌+◌, ◌-◌, ◌*◌, ◌/◌, ◌++◌, length, map, drop, min, All};
+ghost use Rattle.std.specs.Prelude.{◌≡◌, ◌≤◌, ◌<◌, ◌+◌, ◌-◌, ◌*◌, ◌/◌, map, min, All};
 ghost use Rattle.std.specs.Simd.{first_chunks};
 ghost use Rattle.audio_info.specs.Packing.{sample_value};
 ghost use Rattle.audio_info.specs.Segments.{interval_of, mulaw_code, mulaw_segments};
 ghost use Rattle.audio_info.specs.declared.sample.Sample.TheVariants.{S16LE};
 ghost use Rattle.byteorder.specs.Endian.{little_number};
 
-use crate::g711::{MULAW_BIAS, MULAW_CLIP};
+use crate::g711::{MULAW_BIAS, MULAW_CLIP, UPPER_FIRST};
 use std::simd::prelude::*;
 
-/// Writes the mu-law codes of sixteen samples of 16 bits, the lower byte of each first, at the front of `into`, and
-/// leaves the rest.
-pub fn mulaw_enc_sixteen(samples: &[u8; 32], into: &mut [u8])
-    requires room { 16 ≤ length into.old }
-    ensures { into.new ≡ map (λ s. mulaw_code (sample_value S16LE s)) (first_chunks 2 16 samples.now) ++ drop 16 into.old }
+/// How many narrowest intervals of the upper half the least magnitude there has.
+const UPPER_STEPS: u8 = 16;
+
+/// The mu-law codes of sixteen samples of 16 bits, the lower byte of each first.
+pub fn mulaw_enc_sixteen(samples: &[u8; 32]) -> u8x16
+    ensures { result ≡ map (λ s. mulaw_code (sample_value S16LE s)) (first_chunks 2 16 samples.now) }
 {
     let bits = bits_of(u8x32::from_slice(samples));
-    let codes = !(signs(bits) | intervals(magnitudes(bits)));
-    codes.copy_to_slice(into);
+    !(signs(bits) | intervals(magnitudes(bits)))
 }
 
 // The bits of samples, as a number each.
@@ -53,8 +53,8 @@ fn intervals(magnitudes: u16x16) -> u8x16
         .simd_min(u16x16::splat(255))
         .cast::<u8>();
     let wide = (magnitudes >> u16x16::splat(7)).cast::<u8>();
-    let is_upper = wide.simd_ge(u8x16::splat(16));
-    let first = is_upper.select(u8x16::splat(64), u8x16::splat(0));
+    let is_upper = wide.simd_ge(u8x16::splat(UPPER_STEPS));
+    let first = is_upper.select(u8x16::splat(UPPER_FIRST as u8), u8x16::splat(0));
     least_lines(is_upper.select(wide, narrow)) + first - u8x16::splat(16)
 }
 

@@ -16,7 +16,7 @@ unfolding mulaw_code
 code_fits (pos n) = omega arith
 code_fits (negsuc n) = omega arith
 
-pub byte_of : (v : ℤ) → sample_bytes MuLaw v ≡ mulaw_code v ∷ []
+byte_of : (v : ℤ) → sample_bytes MuLaw v ≡ mulaw_code v ∷ []
 byte_of v = ap (λ (c : ℕ). c ∷ []) (code_fits v)
 
 abbrev pub coded : List ℕ → List ℕ

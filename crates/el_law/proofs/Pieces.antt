@@ -1,5 +1,5 @@
 -- What is made of the pieces of a list, piece by piece.
-use Rattle.std.proofs.Common.{◌≡◌, ◌<◌, ◌≤◌, ◌+◌, ◌*◌, ℕ, zero, suc, List, [], ◌∷◌, ◌++◌, length, take, drop, set, get_or, refl, sym, ap, ◌∙◌, append-nil, append_assoc, length-append, length-take-le, arith}
+use Rattle.std.proofs.Common.{◌≡◌, ◌<◌, ◌+◌, ◌*◌, ℕ, zero, suc, List, [], ◌∷◌, ◌++◌, length, take, drop, set, get_or, refl, sym, ap, ◌∙◌, append-nil, arith}
 use Rattle.std.proofs.lemmas.List.{take_more, take_at, take-set-le, get_or-set_same, length-set, drop-drop, take-take, drop-take}
 use Rattle.std.proofs.lemmas.List.Concat.{flat_map-append}
 use Rattle.std.specs.List.{flat_map}
@@ -18,20 +18,7 @@ pub made_more : {X A : Type 0} (f : X → List A) (xs : List X) (i : ℕ) (d : X
 made_more f xs i d made more within was is =
     rw (is, was, take_more xs i d within, flat_map-append f (take i xs) (get_or xs i d ∷ [])) (ap (λ s. flat_map f (take i xs) ++ s) (sym (append-nil (f (get_or xs i d)))))
 
--- what stands at a place of a list, behind a front of it
-pub put_behind : {A : Type 0} (i n : ℕ) (xs new rest : List A) → i ≤ length xs → length new ≡ n → take (i + n) (take i xs ++ (new ++ rest)) ≡ take i xs ++ new
-put_behind {A} i n xs new rest room size =
-    let front : length (take i xs) ≡ i = length-take-le i xs room in
-    ap (take (i + n)) (sym (append_assoc (take i xs) new rest)) ∙ take_at (take i xs ++ new) rest (i + n) (length-append (take i xs) new ∙ rw (front, size) refl)
-
--- the same where more was given back behind it
-pub put_over : {A : Type 0} (i n : ℕ) (xs new made behind rest : List A) → i ≤ length xs → length made ≡ n → new ≡ made ++ behind → take (i + n) (take i xs ++ (new ++ rest)) ≡ take i xs ++ made
-put_over {A} i n xs new made behind rest room size is =
-    ap (λ (t : List A). take (i + n) (take i xs ++ (t ++ rest))) is
-    ∙ ap (λ (t : List A). take (i + n) (take i xs ++ t)) (append_assoc made behind rest)
-    ∙ put_behind i n xs made (behind ++ rest) room size
-
--- the same for one member that is set
+-- what stands in front of a place and at it, behind a set there
 pub set_behind : {A : Type 0} (i : ℕ) (xs : List A) (x : A) → i < length xs → take (i + 1) (set xs i x) ≡ take i xs ++ x ∷ []
 set_behind {A} i xs x within =
     take_more (set xs i x) i x (rw length-set within)

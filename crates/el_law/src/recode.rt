@@ -3,7 +3,7 @@ ghost use Rattle.std.specs.Prelude.{◌≡◌, ◌≤◌, ◌+◌, ◌++◌, ◌
 ghost use Rattle.std.specs.Simd.{first_chunks};
 ghost use Rattle.audio_info.specs.Packing.{sample_bytes, sample_value};
 ghost use Rattle.audio_info.specs.Segments.{mulaw_code};
-ghost use Rattle.audio_info.specs.declared.sample.Sample.TheVariants.{S16LE as Linear, MuLaw};
+ghost use Rattle.audio_info.specs.declared.sample.Sample.TheVariants.{S16LE as Linear, MuLaw, ALaw};
 ghost use Rattle.el_law.specs.Companding.{format_of};
 ghost use Rattle.el_law.specs.Laws.{format_in, format_out, recoded_bytes};
 
@@ -47,7 +47,7 @@ pub(crate) fn recoded(alloc: Global, kind: LawKind, bytes: &[u8]) -> Result<Vec<
 {
     match kind {
         LawKind::MulawEnc => mulaw_encoded(alloc, bytes),
-        LawKind::AlawEnc => encoded(alloc, Companding::ALaw, bytes),
+        LawKind::AlawEnc => alaw_encoded(alloc, bytes),
         LawKind::MulawDec => decoded(alloc, Companding::MuLaw, bytes),
         LawKind::AlawDec => decoded(alloc, Companding::ALaw, bytes),
     }
@@ -67,7 +67,7 @@ fn mulaw_encoded(alloc: Global, bytes: &[u8]) -> Result<Vec<u8>, OutOfMemory>
     }
     let (samples, _) = rest.as_chunks::<2>();
     for sample in samples {
-        codes[place] = mulaw_enc(get(Sample::S16LE, sample) as i16);
+        codes[place] = Companding::MuLaw.encode(get(Sample::S16LE, sample) as i16);
         place += 1;
     }
     Ok(codes)
@@ -79,17 +79,17 @@ fn put_sixteen(place: usize, samples: &[u8; 32], codes: &mut [u8])
     ensures size { length codes.new ≡ length codes.old }
     ensures put { take (place + 16) codes.new ≡ take place codes.old ++ map (λ s. mulaw_code (sample_value Linear s)) (first_chunks 2 16 samples.now) }
 {
-    mulaw_enc_sixteen(samples, &mut codes[place..]);
+    mulaw_enc_sixteen(samples).copy_to_slice(&mut codes[place..]);
 }
 
-/// The codes of samples of 16 bits, the lower byte of each first. A single byte at the end is left out.
-fn encoded(alloc: Global, law: Companding, bytes: &[u8]) -> Result<Vec<u8>, OutOfMemory>
-    ensures { IfOk result (λ made. made.items ≡ recoded_bytes Linear (format_of law) bytes.now) }
+/// The A-law codes of samples of 16 bits, the lower byte of each first. A single byte at the end is left out.
+fn alaw_encoded(alloc: Global, bytes: &[u8]) -> Result<Vec<u8>, OutOfMemory>
+    ensures { IfOk result (λ made. made.items ≡ recoded_bytes Linear ALaw bytes.now) }
 {
     let (samples, _) = bytes.as_chunks::<2>();
     let mut codes = Vec::with_capacity(alloc, samples.len())?;
     for sample in samples {
-        codes.push_reserved(law.encode(get(Sample::S16LE, sample) as i16));
+        codes.push_reserved(Companding::ALaw.encode(get(Sample::S16LE, sample) as i16));
     }
     Ok(codes)
 }

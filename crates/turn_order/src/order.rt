@@ -13,7 +13,7 @@ pub enum Order {
     Drawn(u64),
 }
 
-/// Whose turn a number tells, among so many.
+/// Whose turn a number tells, among so many. Among one nothing is divided, as each step of most lines asks it.
 pub(crate) fn place(number: u64, count: usize) -> usize
     requires some { 0 < count }
     ensures place { result ≡ number % count }

@@ -1,11 +1,8 @@
-use Rattle.std.proofs.Common.{◌≡◌, ◌≤◌, ◌<◌, ◌+◌, ◌-◌, ◌*◌, ◌/◌, ◌++◌, length, map, min, take, drop, List, ℕ, bit_or, ap, ◌∙◌, arith}
+use Rattle.std.proofs.Common.{◌≡◌, ◌≤◌, ◌<◌, ◌+◌, ◌-◌, ◌*◌, ◌/◌, map, min, take, List, ℕ, bit_or, ap, ◌∙◌, arith}
 use Rattle.std.proofs.lemmas.List.{take_all}
-use Rattle.std.proofs.lemmas.Simd.{zip2_of_maps, map-map, put_chunk_is}
+use Rattle.std.proofs.lemmas.Simd.{zip2_of_maps, map-map}
 use Rattle.byteorder.specs.Endian.{little_number, twos_complement}
 use Rattle.std.specs.Simd.{first_chunks}
-use lib.Lanes.{zip2}
-use Rattle.audio_info.specs.Packing.{sample_value}
-use Rattle.audio_info.specs.declared.sample.Sample.TheVariants.{S16LE}
 use Rattle.audio_info.specs.Segments.{interval_of, mulaw_segments, mulaw_code}
 use Rattle.audio_info.proofs.Sixteen.{same_lanes, facts_at, facts_of_map, all_of, coded}
 use Rattle.audio_info.proofs.lanes.mulaw_enc_sixteen.Goals as goal
@@ -22,13 +19,8 @@ returns c =
     let whole : take 32 samples ≡ samples = take_all 32 samples (omega (arith, c.told-samples)) in
     let intervals = c.intervals.ensures ∙ ap (map (interval_of mulaw_segments)) c.magnitudes.ensures ∙ map-map (interval_of mulaw_segments) (λ u. min (min u (65536 - u)) 32635 + 132) us in
     let codes = zip2_of_maps bit_or (λ u. u / 32768 * 128) (λ u. interval_of mulaw_segments (min (min u (65536 - u)) 32635 + 132)) us c.signs.ensures intervals in
-    let made = map (λ x. 255 - x) (zip2 bit_or c.signs.result c.intervals.result) in
-    let all : made ≡ map (λ s. mulaw_code (sample_value S16LE s)) (first_chunks 2 16 samples) =
     ap (map (λ x. 255 - x)) codes ∙ map-map (λ x. 255 - x) (λ u. bit_or (u / 32768 * 128) (interval_of mulaw_segments (min (min u (65536 - u)) 32635 + 132))) us
     ∙ same_lanes (λ u. u < 65536) _ (λ u. mulaw_code (twos_complement 2 u)) us (facts_at _ us 0 c.bits_of-bits.ensures.small) (λ u fits. coded u fits)
     ∙ ap (map (λ u. mulaw_code (twos_complement 2 u))) c.bits_of-bits.ensures.bits
     ∙ ap (λ (xs : List ℕ). map (λ u. mulaw_code (twos_complement 2 u)) (map (little_number 2) (first_chunks 2 16 xs))) whole
     ∙ map-map (λ u. mulaw_code (twos_complement 2 u)) (little_number 2) (first_chunks 2 16 samples)
-    in
-    let size : length made ≡ 16 = ap length all in
-    put_chunk_is 0 c.args.into.now made (omega (arith, size, c.requires)) ∙ ap (λ n. made ++ drop n c.args.into.now) size ∙ ap (λ (t : List ℕ). t ++ drop 16 c.args.into.now) all

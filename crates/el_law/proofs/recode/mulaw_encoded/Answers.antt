@@ -3,10 +3,10 @@ use Rattle.std.proofs.lemmas.Int.{to_z-of_z}
 use Rattle.std.proofs.lemmas.List.{take_all, length-set}
 use Rattle.std.specs.List.{flat_map}
 use Rattle.std.specs.Simd.{first_chunks}
-use Rattle.audio_info.specs.Packing.{sample_value}
+use Rattle.audio_info.specs.Packing.{sample_bytes, sample_value}
 use Rattle.audio_info.specs.Segments.{mulaw_code}
-use Rattle.audio_info.specs.declared.sample.Sample.TheVariants.{S16LE as Linear}
-use Rattle.el_law.proofs.Grouped.{coded, bytes_of, byte_of, grouped_whole}
+use Rattle.audio_info.specs.declared.sample.Sample.TheVariants.{S16LE as Linear, MuLaw}
+use Rattle.el_law.proofs.Grouped.{coded, bytes_of, grouped_whole}
 use Rattle.el_law.proofs.Pieces.{made_more, set_behind, lent_whole}
 use Rattle.el_law.proofs.recode.mulaw_encoded.Goals as goal
 
@@ -32,13 +32,13 @@ loop-sample-preserved c =
     let sample = get_or samples i [] in
     let groups = flat_map (λ g. flat_map coded (first_chunks 2 16 g)) (first_chunks 32 (length c.args.bytes.now / 32) c.args.bytes.now) in
     let before = flat_map coded (take i samples) in
-    let value : c.mulaw_enc.result ≡ mulaw_code c.get.result = search (rules, to_z-of_z) in
-    let byte : c.mulaw_enc.result ∷ [] ≡ coded sample = ap (λ (k : ℕ). k ∷ []) (value ∙ ap mulaw_code c.get.ensures.value) ∙ sym (byte_of (sample_value Linear sample)) in
+    let value : sample_bytes MuLaw c.get.result ≡ c.encode.result ∷ [] = search (rules, to_z-of_z) in
+    let byte : c.encode.result ∷ [] ≡ coded sample = sym value ∙ ap (sample_bytes MuLaw) c.get.ensures.value in
     record {
       place = omega (arith, c.loop-sample.invariant.place);
-      size = length-set c.loop-sample.codes.items c.loop-sample.place c.mulaw_enc.result ∙ c.loop-sample.invariant.size;
-      done = set_behind c.loop-sample.place c.loop-sample.codes.items c.mulaw_enc.result (omega (arith, c.loop-sample.invariant.place, c.loop-sample.invariant.size, c.loop-sample-test.true, c.as_chunks-2.ensures.front_len, c.as_chunks.ensures.back_len))
-          ∙ ap (λ (t : List ℕ). t ++ c.mulaw_enc.result ∷ []) c.loop-sample.invariant.done
+      size = length-set c.loop-sample.codes.items c.loop-sample.place c.encode.result ∙ c.loop-sample.invariant.size;
+      done = set_behind c.loop-sample.place c.loop-sample.codes.items c.encode.result (omega (arith, c.loop-sample.invariant.place, c.loop-sample.invariant.size, c.loop-sample-test.true, c.as_chunks-2.ensures.front_len, c.as_chunks.ensures.back_len))
+          ∙ ap (λ (t : List ℕ). t ++ c.encode.result ∷ []) c.loop-sample.invariant.done
           ∙ ap (λ (t : List ℕ). (groups ++ before) ++ t) byte
           ∙ append_assoc groups before (coded sample)
           ∙ ap (λ (t : List ℕ). groups ++ t) (made_more coded samples i [] before (before ++ coded sample) c.loop-sample-test.true refl refl);

@@ -1,11 +1,9 @@
-use Rattle.std.proofs.Common.{map, refl, arith}
-use Rattle.std.specs.Simd.{first_chunks}
-use Rattle.audio_info.specs.Packing.{sample_value}
-use Rattle.audio_info.specs.Segments.{mulaw_code}
-use Rattle.audio_info.specs.declared.sample.Sample.TheVariants.{S16LE as Linear}
-use Rattle.el_law.proofs.Pieces.{put_over}
+use Rattle.std.proofs.Common.{◌≡◌, ◌+◌, ◌++◌, List, ℕ, length, take, ap, ◌∙◌, arith}
+use Rattle.std.proofs.lemmas.Simd.{take_more_put_chunk}
 use Rattle.el_law.proofs.recode.put_sixteen.Goals as goal
 
 pub returns-clause-put : goal.returns-clause-put
 returns-clause-put c =
-    put_over c.args.place 16 c.args.codes.now c.mulaw_enc_sixteen.new.into (map (λ s. mulaw_code (sample_value Linear s)) (first_chunks 2 16 c.args.samples.now)) _ _ (omega (arith, c.requires)) refl c.mulaw_enc_sixteen.ensures
+    let size : length c.mulaw_enc_sixteen.result ≡ 16 = ap length c.mulaw_enc_sixteen.ensures in
+    take_more_put_chunk c.args.place c.args.codes.now c.mulaw_enc_sixteen.result (c.args.place + 16) (omega (arith, size)) c.requires
+    ∙ ap (λ (t : List ℕ). take c.args.place c.args.codes.now ++ t) c.mulaw_enc_sixteen.ensures
