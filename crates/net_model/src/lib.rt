@@ -1,0 +1,69 @@
+//! The middle of a run as a moment, by the numbers of elements and source pads, and the laws of what moves it.
+//!
+//! A moment is the graph with all that was done to it, what crossed each source pad, what each element took, and what
+//! waits at pads and in inlets. A step of a task is one move of the moment, and an act of control is one function of it.
+//! Each keeps what every element stands for. From there it is one step to the evaluation of the graph.
+#![tactic(auto)]
+
+ghost use Rattle.net_model.specs.Step.{PassingKeeps, SendingKeeps, LeavingKeeps, TakingKeeps};
+ghost use Rattle.net_model.specs.Edit.{UnlinkingKeeps, LinkingKeeps, LinkingOverKeeps, ActingKeeps, EndingKeeps, EndingOverKeeps};
+ghost use Rattle.net_model.specs.Seek.{SeekingKeeps};
+ghost use Rattle.net_model.specs.Whole.{MomentIsEval, EndIsWhole};
+ghost use Rattle.net_model.specs.Over.{EosComes};
+ghost use Rattle.net_model.specs.Kept.{OthersMayMove, TasksTogether};
+
+/// At any moment, also behind a fault, the histories are those of the evaluation of the graph, cut at their lengths.
+///
+/// It needs of each element only that what crossed its pads is what it owes for what it took, and that it took
+/// beginnings of what its links give.
+pub fn moments_are_eval()
+    ensures { MomentIsEval }
+{}
+
+/// Where nothing waits at a pad and nothing stands in an inlet, the histories are those of the whole evaluation, and
+/// each element, a sink too, took all that it is given there.
+pub fn ends_are_whole()
+    ensures { EndIsWhole }
+{}
+
+/// What a task tells of its elements stays, whatever other tasks do.
+pub fn others_may_move()
+    ensures { OthersMayMove }
+{}
+
+/// Tasks that ran beside each other make one moment.
+///
+/// Where each task keeps its elements, and the head of each took beginnings of what its links give, what is needed of
+/// each element for the evaluation holds at the moment of all of them.
+pub fn tasks_come_together()
+    ensures { TasksTogether }
+{}
+
+/// Each move of a run keeps what every element stands for.
+///
+/// An item crosses a pad inside a task, into a lane or to nobody, and the head of a task takes from an inlet.
+pub fn steps_keep()
+    ensures passing { PassingKeeps }
+    ensures sending { SendingKeeps }
+    ensures leaving { LeavingKeeps }
+    ensures taking { TakingKeeps }
+{}
+
+/// Each act of control keeps what every element stands for.
+///
+/// A link is undone or made, inside a task or over a lane; it is undone with EOS; the element behind it is drained or
+/// set; and a seek flushes the graph.
+pub fn acts_keep()
+    ensures unlinking { UnlinkingKeeps }
+    ensures linking { LinkingKeeps }
+    ensures linking_over { LinkingOverKeeps }
+    ensures acting { ActingKeeps }
+    ensures ending { EndingKeeps }
+    ensures ending_over { EndingOverKeeps }
+    ensures seeking { SeekingKeeps }
+{}
+
+/// When a run is over, EOS has come to each sink pad of each live element.
+pub fn eos_comes()
+    ensures { EosComes }
+{}
