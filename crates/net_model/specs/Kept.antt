@@ -1,11 +1,13 @@
 -- Tasks are bags of elements. What a task tells of its elements depends on them alone, so tasks may be split, joined and
 -- run beside each other.
 use Rattle.std.specs.Prelude.{◌≡◌, ℕ, Bool, true, false, List}
+use Rattle.flow_model.specs.Item.{Item}
+use Rattle.flow_model.specs.Call.{Call}
 use Rattle.flow_model.specs.Prefix.{ArePrefixes}
 use Rattle.flow_model.specs.Eval.{Plan, inputs}
 use Rattle.flow_model.specs.Account.{EachSourceOf, IsMember}
 use Rattle.net_model.specs.Moment.{Moment, PadStands}
-use Rattle.net_model.specs.Whole.{OwesInOrder, PadBegins, CellBegins}
+use Rattle.net_model.specs.Whole.{OwesInOrder, PadBegins, CellBegins, given_up}
 
 -- An inner element, which pads of its own task feed, took all that it was given. Of its head a task knows only what it took.
 abbrev pub IsGiven : Bool → Moment → ℕ → Type 0
@@ -24,6 +26,10 @@ pub record CellKept (well : Bool) (mine : ℕ → Bool) (inner : ℕ → Bool) (
   -- the links of an inner element come from elements of the task
   pub near : inner e ≡ true → EachSourceOf (λ p. mine (m.plan.owner p) ≡ true) (m.plan.sinks e)
   pub in_order : OwesInOrder (m.plan.rule e) (m.took e)
+
+-- What a task told of an element while it was well it tells behind a fault too, whatever it gave up.
+abbrev pub FaultKept : Type 0
+FaultKept = (mine inner : ℕ → Bool) (m : Moment) (e : ℕ) (waits : ℕ → List Item) (held : ℕ → List (List Call)) → CellKept true mine inner m e → CellKept false mine inner (given_up waits held m) e
 
 -- the same of each element of a bag, whatever their order
 abbrev pub BagKept : Bool → (ℕ → Bool) → (ℕ → Bool) → Moment → List ℕ → Type 0

@@ -1,5 +1,5 @@
 -- Lists for the sink pads of an element, one each: what it was given, what it took of that, and what is held back.
-use Rattle.std.specs.Prelude.{◌≡◌, ℕ, zero, suc, List, [], ◌∷◌, ◌++◌}
+use Rattle.std.specs.Prelude.{◌≡◌, ℕ, zero, suc, List, [], ◌∷◌, ◌++◌, map}
 use Rattle.flow_model.specs.Call.{Call}
 
 -- sink pad i has more
@@ -13,6 +13,16 @@ abbrev pub front_calls : ℕ → Call → List (List Call) → List (List Call)
 front_calls i c [] = []
 front_calls zero c (ds ∷ dss) = (c ∷ ds) ∷ dss
 front_calls (suc i) c (ds ∷ dss) = ds ∷ front_calls i c dss
+
+-- each sink pad has more
+abbrev pub joined : List (List Call) → List (List Call) → List (List Call)
+joined [] dss = []
+joined (cs ∷ css) [] = cs ∷ joined css []
+joined (cs ∷ css) (ds ∷ dss) = (cs ++ ds) ∷ joined css dss
+
+-- each sink pad has nothing
+abbrev pub emptied : List (List Call) → List (List Call)
+emptied css = map (λ cs. []) css
 
 -- what was taken, what is held, and what was given: at each sink pad the third is the first and then the second
 pub data AreSplit : List (List Call) → List (List Call) → List (List Call) → Type 0 where

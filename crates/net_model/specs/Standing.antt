@@ -21,13 +21,21 @@ abbrev pub AllStanding : (ℕ → List Item) → List (List Span) → Type 0
 AllStanding h [] = Unit {0}
 AllStanding h (s ∷ ss) = Standing h s × AllStanding h ss
 
--- whether a link of a sink pad from this source pad still stands
+-- whether a link of a sink pad from one of these source pads still stands
+abbrev pub links_from_one : (ℕ → Bool) → List Span → Bool
+links_from_one these [] = false
+links_from_one these (Linked source from marks ∷ ss) = if these source then true else links_from_one these ss
+links_from_one these (WasLinked source from to eos marks ∷ ss) = links_from_one these ss
+links_from_one these (Flushed number ∷ ss) = links_from_one these ss
+links_from_one these (Given calls ∷ ss) = links_from_one these ss
+
+-- whether one from this source pad does
 abbrev pub links_from : ℕ → List Span → Bool
-links_from p [] = false
-links_from p (Linked source from marks ∷ ss) = if source == p then true else links_from p ss
-links_from p (WasLinked source from to eos marks ∷ ss) = links_from p ss
-links_from p (Flushed number ∷ ss) = links_from p ss
-links_from p (Given calls ∷ ss) = links_from p ss
+links_from p = links_from_one (λ source. source == p)
+
+-- whether any does
+abbrev pub is_linked : List Span → Bool
+is_linked = links_from_one (λ source. true)
 
 -- no sink pad of an element has one
 abbrev pub LinksNowhere : ℕ → List (List Span) → Type 0
@@ -39,11 +47,3 @@ abbrev pub LinksAt : ℕ → ℕ → List (List Span) → Type 0
 LinksAt p i [] = ⊥
 LinksAt p zero (ss ∷ sss) = (links_from p ss ≡ true) × LinksNowhere p sss
 LinksAt p (suc i) (ss ∷ sss) = (links_from p ss ≡ false) × LinksAt p i sss
-
--- whether any link of a sink pad still stands
-abbrev pub is_linked : List Span → Bool
-is_linked [] = false
-is_linked (Linked source from marks ∷ ss) = true
-is_linked (WasLinked source from to eos marks ∷ ss) = is_linked ss
-is_linked (Flushed number ∷ ss) = is_linked ss
-is_linked (Given calls ∷ ss) = is_linked ss

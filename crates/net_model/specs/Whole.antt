@@ -1,5 +1,6 @@
 -- From what is known of each element to the evaluation of the graph.
 use Rattle.std.specs.Prelude.{◌≡◌, ℕ, List, [], length}
+use Rattle.flow_model.specs.Item.{Item}
 use Rattle.flow_model.specs.Prefix.{IsPrefix, ArePrefixes}
 use Rattle.flow_model.specs.Call.{Call}
 use Rattle.flow_model.specs.Rule.{Rule}
@@ -31,6 +32,24 @@ pub record CellBegins (m : Moment) (e : ℕ) : Type 0 where
 abbrev pub MomentIsEval : Type 0
 MomentIsEval = (m : Moment) (forward : List ℕ) → GoesForward m.plan [] forward → ((e : ℕ) → IsMember e forward → CellBegins m e)
     → (p : ℕ) → IsMember (m.plan.owner p) forward → eval (counted m forward) p ≡ m.history p
+
+-- A moment behind a fault: some of what waited at pads or stood in inlets was given up, and this is left.
+abbrev pub given_up : (ℕ → List Item) → (ℕ → List (List Call)) → Moment → Moment
+given_up waits held m = record m { waits = waits; held = held }
+
+-- Where an element stands all that is needed of it is there.
+abbrev pub StandingBegins : Type 0
+StandingBegins = (m : Moment) (e : ℕ) → OwesInOrder (m.plan.rule e) (m.took e) → CellStands m e → CellBegins m e
+
+-- The same behind a fault, whatever was given up.
+abbrev pub FaultBegins : Type 0
+FaultBegins = (m : Moment) (e : ℕ) (waits : ℕ → List Item) (held : ℕ → List (List Call)) → OwesInOrder (m.plan.rule e) (m.took e) → CellStands m e → CellBegins (given_up waits held m) e
+
+-- So the histories are those of the evaluation there too.
+abbrev pub FaultIsEval : Type 0
+FaultIsEval = (m : Moment) (forward : List ℕ) (waits : ℕ → List Item) (held : ℕ → List (List Call)) → GoesForward m.plan [] forward
+    → ((e : ℕ) → IsMember e forward → OwesInOrder (m.plan.rule e) (m.took e)) → ((e : ℕ) → IsMember e forward → CellStands m e)
+    → (p : ℕ) → IsMember (m.plan.owner p) forward → eval (counted (given_up waits held m) forward) p ≡ m.history p
 
 -- Nothing waits at a pad, and nothing stands in an inlet.
 pub record IsOver (m : Moment) (forward : List ℕ) : Type 0 where

@@ -8,16 +8,34 @@
 ghost use Rattle.net_model.specs.Step.{PassingKeeps, SendingKeeps, LeavingKeeps, TakingKeeps};
 ghost use Rattle.net_model.specs.Edit.{UnlinkingKeeps, LinkingKeeps, LinkingOverKeeps, ActingKeeps, EndingKeeps, EndingOverKeeps};
 ghost use Rattle.net_model.specs.Seek.{SeekingKeeps};
-ghost use Rattle.net_model.specs.Whole.{MomentIsEval, EndIsWhole};
+ghost use Rattle.net_model.specs.Opening.{OpeningStands};
+ghost use Rattle.net_model.specs.Whole.{StandingBegins, FaultBegins, MomentIsEval, FaultIsEval, EndIsWhole};
 ghost use Rattle.net_model.specs.Over.{EosComes};
-ghost use Rattle.net_model.specs.Kept.{OthersMayMove, TasksTogether};
+ghost use Rattle.net_model.specs.Kept.{FaultKept, OthersMayMove, TasksTogether};
 
-/// At any moment, also behind a fault, the histories are those of the evaluation of the graph, cut at their lengths.
+/// When a run begins every element stands, in each graph to which nothing was done.
+///
+/// Nothing has crossed a pad, and at the pad of a source all waits that the source is to give.
+pub fn openings_stand()
+    ensures { OpeningStands }
+{}
+
+/// Where an element stands, all is there that the evaluation needs of it, also behind a fault that gave up what waited
+/// at its pads or stood in its inlets.
+///
+/// The rule of the element has to owe for what it took a beginning of what it owes for more.
+pub fn elements_begin()
+    ensures standing { StandingBegins }
+    ensures behind_fault { FaultBegins }
+{}
+
+/// At any moment the histories are those of the evaluation of the graph, cut at their lengths.
 ///
 /// It needs of each element only that what crossed its pads is what it owes for what it took, and that it took
-/// beginnings of what its links give.
+/// beginnings of what its links give. So it holds behind a fault too, whatever the fault gave up.
 pub fn moments_are_eval()
-    ensures { MomentIsEval }
+    ensures running { MomentIsEval }
+    ensures behind_fault { FaultIsEval }
 {}
 
 /// Where nothing waits at a pad and nothing stands in an inlet, the histories are those of the whole evaluation, and
@@ -29,6 +47,11 @@ pub fn ends_are_whole()
 /// What a task tells of its elements stays, whatever other tasks do.
 pub fn others_may_move()
     ensures { OthersMayMove }
+{}
+
+/// A task that kept its elements keeps what crossed their pads and what they took behind a fault, whatever it gave up.
+pub fn faults_keep()
+    ensures { FaultKept }
 {}
 
 /// Tasks that ran beside each other make one moment.
