@@ -8,6 +8,7 @@
 ghost use Rattle.net_model.specs.Step.{PassingKeeps, SendingKeeps, LeavingKeeps, TakingKeeps};
 ghost use Rattle.net_model.specs.Edit.{UnlinkingKeeps, LinkingKeeps, LinkingOverKeeps, ActingKeeps, EndingKeeps, EndingOverKeeps};
 ghost use Rattle.net_model.specs.Seek.{SeekingKeeps};
+ghost use Rattle.net_model.specs.Single.{SingleInOrder, SingleGrows, SingleEnds};
 ghost use Rattle.net_model.specs.Opening.{OpeningStands};
 ghost use Rattle.net_model.specs.Whole.{StandingBegins, FaultBegins, MomentIsEval, FaultIsEval, EndIsWhole};
 ghost use Rattle.net_model.specs.Over.{EosComes};
@@ -89,4 +90,14 @@ pub fn acts_keep()
 /// When a run is over, EOS has come to each sink pad of each live element.
 pub fn eos_comes()
     ensures { EosComes }
+{}
+
+/// An element with one sink pad meets what the moves and a seek ask of its rule.
+///
+/// What it puts out for more calls is what it owes more in its last section, a flush ends that section and owes nothing
+/// anew, and for what it took it owes a beginning of what it owes for more.
+pub fn single_elements_owe()
+    ensures in_order { SingleInOrder }
+    ensures fed { SingleGrows }
+    ensures flushed { SingleEnds }
 {}
