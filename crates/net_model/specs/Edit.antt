@@ -92,7 +92,7 @@ pub record EndsInside (m : Moment) (p e i : ℕ) (out : ℕ → List Item) : Typ
   pub inner : NoneAt i (m.held e)
   pub puts_out : PutsOut m e (push_calls i (Feed (Ev Eos) ∷ []) (m.took e)) out
 
--- Each act keeps what every element stands for.
+-- Each act keeps what stands.
 abbrev pub UnlinkingKeeps : Type 0
 UnlinkingKeeps = (m : Moment) (p : ℕ) → Keeps m (unlinked p m)
 

@@ -29,9 +29,10 @@ pub record CellKept (well : Bool) (mine : ℕ → Bool) (inner : ℕ → Bool) (
 
 -- What a task told of an element while it was well it tells behind a fault too, whatever it gave up.
 abbrev pub FaultKept : Type 0
-FaultKept = (mine inner : ℕ → Bool) (m : Moment) (e : ℕ) (waits : ℕ → List Item) (held : ℕ → List (List Call)) → CellKept true mine inner m e → CellKept false mine inner (given_up waits held m) e
+FaultKept = (mine inner : ℕ → Bool) (m : Moment) (e : ℕ) (waits : ℕ → List Item) (held : ℕ → List (List Call)) → CellKept true mine inner m e
+    → CellKept false mine inner (given_up waits held m) e
 
--- the same of each element of a bag, whatever their order
+-- that is told of each element of a bag, whatever their order
 abbrev pub BagKept : Bool → (ℕ → Bool) → (ℕ → Bool) → Moment → List ℕ → Type 0
 BagKept well mine inner m bag = (e : ℕ) → IsMember e bag → CellKept well mine inner m e
 
@@ -44,7 +45,8 @@ pub record AgreeOn (mine : ℕ → Bool) (m m' : Moment) : Type 0 where
 
 -- What a task tells of its elements stays where a moment comes that agrees on them, whatever others did.
 abbrev pub OthersMayMove : Type 0
-OthersMayMove = (well : Bool) (mine inner : ℕ → Bool) (m m' : Moment) (e : ℕ) → mine e ≡ true → AgreeOn mine m m' → CellKept well mine inner m e → CellKept well mine inner m' e
+OthersMayMove = (well : Bool) (mine inner : ℕ → Bool) (m m' : Moment) (e : ℕ) → mine e ≡ true → AgreeOn mine m m' → CellKept well mine inner m e
+    → CellKept well mine inner m' e
 
 -- the moment of all tasks: at each element and its pads that of its task
 abbrev pub together : Plan → (ℕ → ℕ) → (ℕ → Moment) → Moment

@@ -29,14 +29,14 @@ owed_at m p = m.plan.rule (m.plan.owner p) (m.took (m.plan.owner p)) (m.plan.por
 abbrev pub PadStands : Moment → ℕ → Type 0
 PadStands m p = Holds 0 0 (m.plan.log p).cuts (owed_at m p) (m.history p) (m.waits p)
 
--- What is said of one element: all that it owes for what it took has crossed its source pads or waits there; all that
--- its links gave it was taken or stands in its inlets; and its links are in order.
+-- An element stands where all that it owes for what it took has crossed its source pads or waits there, all that its links
+-- gave it was taken or stands in its inlets, and its links are in order.
 pub record CellStands (m : Moment) (e : ℕ) : Type 0 where
   pub pads : (p : ℕ) → m.plan.owner p ≡ e → PadStands m p
   pub input : AreSplit (m.took e) (m.held e) (inputs m.plan m.history e)
   pub standing : AllStanding m.history (m.plan.sinks e)
 
--- What every element stands for at a moment it stands for at the next.
+-- Each element that stands at a moment stands at the next.
 abbrev pub Keeps : Moment → Moment → Type 0
 Keeps m m' = (e : ℕ) → CellStands m e → CellStands m' e
 

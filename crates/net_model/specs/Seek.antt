@@ -72,6 +72,6 @@ sought s m =
 pub record Seeks (s : Seek) (m : Moment) : Type 0 where
   pub ends : (p : ℕ) → takes_part s m.plan p ≡ true → Ends 0 (m.plan.log p).cuts (owed_at m p) (owed_at (sought s m) p) (s.fresh p)
 
--- A seek keeps what every element stands for.
+-- A seek keeps what stands.
 abbrev pub SeekingKeeps : Type 0
 SeekingKeeps = (s : Seek) (m : Moment) → Seeks s m → Keeps m (sought s m)

@@ -71,7 +71,7 @@ pub record Takes (m : Moment) (e i : ℕ) (c : Call) (rest : List (List Call)) (
   pub held : m.held e ≡ front_calls i c rest
   pub puts_out : PutsOut m e (push_calls i (c ∷ []) (m.took e)) out
 
--- Each move keeps what every element stands for.
+-- Each move keeps what stands.
 abbrev pub PassingKeeps : Type 0
 PassingKeeps = (m : Moment) (p : ℕ) (x : Item) (rest : List Item) (e i : ℕ) (out : ℕ → List Item) → Passes m p x rest e i out → Keeps m (passed p x rest e i out m)
 

@@ -37,13 +37,14 @@ MomentIsEval = (m : Moment) (forward : List ℕ) → GoesForward m.plan [] forwa
 abbrev pub given_up : (ℕ → List Item) → (ℕ → List (List Call)) → Moment → Moment
 given_up waits held m = record m { waits = waits; held = held }
 
--- Where an element stands all that is needed of it is there.
+-- Where an element stands, all that is needed of it is there.
 abbrev pub StandingBegins : Type 0
 StandingBegins = (m : Moment) (e : ℕ) → OwesInOrder (m.plan.rule e) (m.took e) → CellStands m e → CellBegins m e
 
 -- The same behind a fault, whatever was given up.
 abbrev pub FaultBegins : Type 0
-FaultBegins = (m : Moment) (e : ℕ) (waits : ℕ → List Item) (held : ℕ → List (List Call)) → OwesInOrder (m.plan.rule e) (m.took e) → CellStands m e → CellBegins (given_up waits held m) e
+FaultBegins = (m : Moment) (e : ℕ) (waits : ℕ → List Item) (held : ℕ → List (List Call)) → OwesInOrder (m.plan.rule e) (m.took e) → CellStands m e
+    → CellBegins (given_up waits held m) e
 
 -- So the histories are those of the evaluation there too.
 abbrev pub FaultIsEval : Type 0
@@ -61,6 +62,7 @@ pub record OverIsWhole (m : Moment) (forward : List ℕ) : Type 0 where
   pub whole : (p : ℕ) → IsMember (m.plan.owner p) forward → eval_whole (counted m forward) p ≡ m.history p
   pub inputs : (e : ℕ) → IsMember e forward → m.took e ≡ inputs m.plan (eval_whole (counted m forward)) e
 
--- Where a run is over, that is so.
+-- That is so where a run is over.
 abbrev pub EndIsWhole : Type 0
-EndIsWhole = (m : Moment) (forward : List ℕ) → GoesForward m.plan [] forward → ((e : ℕ) → IsMember e forward → CellStands m e) → IsOver m forward → OverIsWhole m forward
+EndIsWhole = (m : Moment) (forward : List ℕ) → GoesForward m.plan [] forward → ((e : ℕ) → IsMember e forward → CellStands m e) → IsOver m forward
+    → OverIsWhole m forward

@@ -1,8 +1,10 @@
 //! The middle of a run as a moment, by the numbers of elements and source pads, and the laws of what moves it.
 //!
 //! A moment is the graph with all that was done to it, what crossed each source pad, what each element took, and what
-//! waits at pads and in inlets. A step of a task is one move of the moment, and an act of control is one function of it.
-//! Each keeps what every element stands for. From there it is one step to the evaluation of the graph.
+//! waits at pads and in inlets. An element stands there where all that it owes for what it took has crossed or waits, and
+//! all that its links gave it was taken or waits in its inlets. A step of a task is one move of the moment, and an act of
+//! control is one function of it; each keeps every element standing, also in other tasks. Where all elements stand, the
+//! histories are those of the evaluation of the graph.
 #![tactic(auto)]
 
 ghost use Rattle.net_model.specs.Step.{PassingKeeps, SendingKeeps, LeavingKeeps, TakingKeeps};
@@ -63,7 +65,7 @@ pub fn tasks_come_together()
     ensures { TasksTogether }
 {}
 
-/// Each move of a run keeps what every element stands for.
+/// Each move of a run keeps every element standing.
 ///
 /// An item crosses a pad inside a task, into a lane or to nobody, and the head of a task takes from an inlet.
 pub fn steps_keep()
@@ -73,7 +75,7 @@ pub fn steps_keep()
     ensures taking { TakingKeeps }
 {}
 
-/// Each act of control keeps what every element stands for.
+/// Each act of control keeps every element standing.
 ///
 /// A link is undone or made, inside a task or over a lane; it is undone with EOS; the element behind it is drained or
 /// set; and a seek flushes the graph.
