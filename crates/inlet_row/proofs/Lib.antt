@@ -1,0 +1,4 @@
+pub mod Appending
+pub mod Losing
+pub mod Moving
+pub mod Results

@@ -1,0 +1,4 @@
+pub mod Ends
+pub mod Feed
+pub mod Row
+pub mod Take

@@ -1,0 +1,150 @@
+//! What a sink pad is fed from.
+ghost use Rattle.std.specs.Prelude.{◌≡◌, ◌≤◌, ◌<◌, ◌+◌, ◌++◌, [], ◌∷◌, ℕ, List, Some, OnOk};
+ghost use Rattle.gst_item.specs.declared.item.Item.{Item};
+
+use crate::feeding::{Feeding, Taken, UNLINKED};
+use gst_caps::OutOfMemory;
+use gst_item::Item;
+use lane_core::Inlet;
+use std::alloc::Global;
+use std::collections::VecDeque;
+
+/// What a sink pad is fed from, in order: items that control gave, and lanes. A lane behind which something stands
+/// was undone: nothing is put into it any more. The given items take no room in a lane.
+#[derive(Drop)]
+pub struct InletRow<I> {
+    feeds: VecDeque<Feeding<I>>,
+}
+
+impl<I: Inlet> InletRow<I> {
+    ghost use Rattle.lane_core.specs.Lane.{Lane};
+    ghost use Rattle.inlet_row.specs.declared.feeding.Feeding.TheVariants.{Given, Lane as OfLane};
+    ghost use Rattle.inlet_row.specs.Row.{AreApart, RowBetween, RowGave, RowIn, feeds_of, received_of, room_of, row_holds};
+    ghost use Rattle.inlet_row.specs.Ends.{Gives, Links};
+    ghost use Rattle.inlet_row.specs.Take.{First, HoldsAfter, Moves, StaysIn, list_after, number_first};
+
+    /// A row of nothing, which takes no memory.
+    pub fn new(alloc: Global) -> InletRow<I>
+        ensures feeds { feeds_of result ≡ [] }
+        ensures gave { RowGave I.Inlet result [] }
+    {
+        InletRow {
+            feeds: VecDeque::new(alloc),
+        }
+    }
+
+    /// Takes room for this number of further things.
+    pub fn make_room(&mut self, more: usize) -> Result<(), OutOfMemory>
+        ensures feeds { feeds_of self.new ≡ feeds_of self.old }
+        ensures room { OnOk result (more ≤ room_of self.new) }
+        ensures kept { room_of self.old ≤ room_of self.new }
+    {
+        Ok(self.feeds.reserve(more)?)
+    }
+
+    /// Puts an item behind all that stands in the row.
+    pub fn give(&mut self, item: Item)
+        requires room { 0 < room_of self.old }
+        ensures feeds { feeds_of self.new ≡ feeds_of self.old ++ Given item ∷ [] }
+        ensures room { room_of self.new + 1 ≡ room_of self.old }
+        ensures gives { Gives I.Inlet self.old self.new item }
+    {
+        self.feeds.push_back_reserved(Feeding::Given(item));
+    }
+
+    /// Puts a lane behind all that stands in the row. A lane that was the last is thereby undone.
+    pub fn link(&mut self, number: u32, inlet: I)
+        requires room { 0 < room_of self.old }
+        ensures feeds { feeds_of self.new ≡ feeds_of self.old ++ OfLane number inlet ∷ [] }
+        ensures room { room_of self.new + 1 ≡ room_of self.old }
+        ensures links { Links I.Inlet self.old self.new inlet }
+    {
+        self.feeds.push_back_reserved(Feeding::Lane { number, inlet });
+    }
+
+    /// The next item, if there is one now. An undone lane in which nothing is left is dropped on the way.
+    pub fn take(&mut self, lanes: &mut I::Lanes) -> Taken
+        requires table { RowIn I.Inlet (I.Out.tells lanes.old) self.old }
+        ensures moves { Moves I.Inlet (I.Out.tells lanes.old) (I.Out.tells lanes.new) self.old self.new result }
+        ensures table { StaysIn I.Inlet (I.Out.tells lanes.old) (I.Out.tells lanes.new) self.old self.new result }
+        ensures gave { (got : List Item) → RowGave I.Inlet self.old got → RowGave I.Inlet self.new (list_after got result) }
+        ensures between { (sents : ℕ → List Item) (got : List Item) → AreApart I.Inlet self.old
+            → RowBetween I.Inlet (I.Out.tells lanes.old) sents self.old got
+            → RowBetween I.Inlet (I.Out.tells lanes.new) sents self.new (list_after got result) }
+        ensures holds { (t : List Lane) (sents : ℕ → List Item) (got : List Item) → I.Out.tells lanes.old ≡ Some t
+            → AreApart I.Inlet self.old → RowBetween I.Inlet (Some t) sents self.old got
+            → HoldsAfter I.Inlet t (I.Out.tells lanes.new) self.old self.new result }
+    {
+        self.next(lanes)
+    }
+
+    /// How many items were received from the first lane of this number.
+    pub fn received(&self, number: u32) -> Option<u64>
+        ensures { result ≡ received_of I.Inlet number (feeds_of self.now) }
+    {
+        for place in 0..self.feeds.len() {
+            if let Some(count) = self.feeds[place].received(number) {
+                return Some(count);
+            }
+        }
+        None
+    }
+
+    /// What stands in the row, in order.
+    pub fn into_feeds(self) -> VecDeque<Feeding<I>>
+        ensures { result.items ≡ feeds_of self }
+    {
+        self.feeds
+    }
+
+    fn next(&mut self, lanes: &mut I::Lanes) -> Taken
+        requires table { RowIn I.Inlet (I.Out.tells lanes.old) self.old }
+        ensures { Moves I.Inlet (I.Out.tells lanes.old) (I.Out.tells lanes.new) self.old self.new result }
+    {
+        while self.feeds.len() > 1 {
+            if let Some(item) = self.first(lanes) {
+                return Taken::Item(item);
+            }
+            self.feeds.pop_front();
+        }
+        match self.first(lanes) {
+            Some(item) => Taken::Item(item),
+            None => Taken::Empty(self.number()),
+        }
+    }
+
+    /// The item that stands first, or one that the lane there gives.
+    fn first(&mut self, lanes: &mut I::Lanes) -> Option<Item>
+        requires table { RowIn I.Inlet (I.Out.tells lanes.old) self.old }
+        ensures { First I.Inlet (I.Out.tells lanes.old) (I.Out.tells lanes.new) (feeds_of self.old) (feeds_of self.new) result }
+    {
+        if self.feeds.is_empty() {
+            return None;
+        }
+        if self.feeds[0].is_given() {
+            return self.first_given();
+        }
+        self.feeds[0].take(lanes)
+    }
+
+    /// The item that stands first.
+    fn first_given(&mut self) -> Option<Item>
+        ensures { (item : Item) (feeds : List (Feeding I)) → feeds_of self.old ≡ Given item ∷ feeds
+            → (feeds_of self.new ≡ feeds) × (result ≡ Some item) }
+    {
+        match self.feeds.pop_front() {
+            Some(first) => first.into_item(),
+            None => None,
+        }
+    }
+
+    /// The number of the lane that stands first.
+    fn number(&self) -> u32
+        ensures { result ≡ number_first (feeds_of self.now) }
+    {
+        if self.feeds.is_empty() {
+            return UNLINKED;
+        }
+        self.feeds[0].number()
+    }
+}

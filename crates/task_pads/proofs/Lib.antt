@@ -1,0 +1,4 @@
+mod Lists
+mod Spreads
+mod Waiting
+mod Sent

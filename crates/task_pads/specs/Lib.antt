@@ -1,0 +1,5 @@
+pub mod Behind
+pub mod Pads
+pub mod Crossing
+pub mod Put
+pub mod Passing

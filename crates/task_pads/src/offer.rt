@@ -1,0 +1,91 @@
+//! An item is offered to the pad at which it waits first.
+ghost use Rattle.std.specs.Prelude.{◌≡◌, ◌<◌, ◌^◌, true, false, [], List, None, OnErr, OnOk};
+ghost use Rattle.flow_model.specs.Item.{is_flush_stop, is_sticky as sticky_test};
+ghost use Rattle.pad_core.specs.Crossing.{WasKept};
+ghost use Rattle.pad_core.specs.Linking.{has_peer};
+ghost use Rattle.pad_core.specs.SrcPad.{CrossedBy, state_of, crossed_of};
+ghost use Rattle.flow_model.specs.Item.{Item as Piece};
+ghost use Rattle.task_pads.specs.Pads.{setting_of};
+ghost use Rattle.task_pads.specs.Passing.{IsOffered};
+
+use gst_caps::OutOfMemory;
+use gst_item::{Event, Item};
+use pad_core::{Crossing, SinkPad, SrcPad, link};
+use std::alloc::Global;
+
+/// What a pad answers to an item.
+#[derive(Clone, Copy)]
+pub(crate) enum Answer {
+    /// It crossed.
+    Crosses,
+    /// It is a buffer that stands at the probe of this command.
+    AtProbe(u32),
+    /// It is a buffer that would reach nobody.
+    NotLinked,
+    /// EOS has crossed the pad.
+    BehindEos,
+    /// No memory was left for the copy of a sticky event.
+    OutOfMemory,
+}
+
+/// An item crosses a pad that is active and does not flush, if it can.
+pub(crate) fn offer(alloc: Global, src: &mut SrcPad, item: &Item, sibling: bool) -> Answer
+    requires active { (state_of src.old).active ≡ true }
+    requires flows { (state_of src.old).flushing ≡ false }
+    requires few { crossed_of src.old < 2 ^ 41 }
+    requires no_flush { is_flush_stop item.now ≡ false }
+    ensures { IsOffered src.old src.new item.now sibling result }
+{
+    if keep(alloc, src, item).is_err() {
+        return Answer::OutOfMemory;
+    }
+    match src.cross(item, sibling) {
+        Crossing::Alone => Answer::Crosses,
+        Crossing::Go(_) => Answer::Crosses,
+        Crossing::AtProbe(command) => Answer::AtProbe(command),
+        Crossing::NotLinked => Answer::NotLinked,
+        Crossing::Eos => Answer::BehindEos,
+        // It does not come here.
+        Crossing::Flushing => Answer::BehindEos,
+    }
+}
+
+/// Lays a copy of a sticky event by.
+fn keep(alloc: Global, src: &mut SrcPad, item: &Item) -> Result<(), OutOfMemory>
+    ensures kept { OnOk result (WasKept (state_of src.new).kept item.now) }
+    ensures setting { setting_of src.new ≡ setting_of src.old }
+    ensures history { (h : List Piece) → CrossedBy src.old h → CrossedBy src.new h }
+    ensures crossed { crossed_of src.new ≡ crossed_of src.old }
+    ensures stays { OnErr result (src.new ≡ src.old) }
+{
+    let Item::Event(event) = item else {
+        return Ok(());
+    };
+    if is_sticky(event) {
+        return src.keep(alloc, event);
+    }
+    Ok(())
+}
+
+/// Whether an event stays in force.
+fn is_sticky(event: &Event) -> bool
+    ensures { result ≡ sticky_test event.now }
+{
+    !matches!(event, Event::Gap { .. } | Event::FlushStop { .. })
+}
+
+/// A pad of this number that nothing crossed, linked to a sink pad.
+pub(crate) fn linked_pad(number: u32, sink: u32) -> SrcPad
+    ensures number { (state_of result).number ≡ number }
+    ensures active { (state_of result).active ≡ true }
+    ensures flows { (state_of result).flushing ≡ false }
+    ensures linked { has_peer (state_of result).peer ≡ true }
+    ensures probe { (state_of result).probe ≡ None }
+    ensures history { CrossedBy result [] }
+    ensures crossed { crossed_of result ≡ 0 }
+{
+    let mut src = SrcPad::new(number, true);
+    let mut sink = SinkPad::new(sink, true);
+    link(&mut src, &mut sink, true);
+    src
+}

@@ -1,0 +1,55 @@
+-- An item goes from a pad of one element of a task to another element.
+use Rattle.std.specs.Prelude.{◌≡◌, ◌≢◌, ℕ, List, [], Some, slice_get, slice_set}
+use Rattle.flow_model.specs.Item.{Item}
+use Rattle.element_traits.specs.declared.element.TaskElement as elements
+use Rattle.element_traits.specs.declared.refusal.Refusal.{Refusal}
+use Rattle.task_pads.specs.declared.pad.Pad.{Pad}
+use Rattle.task_pads.specs.Pads.{CanTakeBack, waiting_of}
+use Rattle.task_parts.specs.declared.part.Part.{Part}
+use Rattle.task_parts.specs.Part.{PartFed, PartFell, PartGave, PartTookBack}
+
+module _ {E O : Type 0} {e : elements.Ghosts E} where
+  -- an item waits at a pad, whose last crossing can be taken back
+  pub record CanGive (parts : List (Part E O e)) (from port : ℕ) : Type 0 where
+    pub part : Part E O e
+    pub at : slice_get parts from ≡ Some part
+    pub pad : Pad O
+    pub pad_at : slice_get part.pads.items port ≡ Some pad
+    pub waits : waiting_of pad ≢ []
+    pub back : CanTakeBack pad
+
+  -- one element is another now
+  pub record PartSet (parts parts' : List (Part E O e)) (place : ℕ) (was is : Part E O e) : Type 0 where
+    pub at : slice_get parts place ≡ Some was
+    pub set : parts' ≡ slice_set parts place is
+
+  -- The item was taken from the pad, and then the element at another place took it.
+  pub record HandedOn (parts parts' : List (Part E O e)) (from port to pad : ℕ) : Type 0 where
+    pub item : Item
+    pub giver : Part E O e
+    pub gave : Part E O e
+    pub between : List (Part E O e)
+    pub given : PartSet parts between from giver gave
+    pub taken : PartGave giver gave port (Some item)
+    pub eater : Part E O e
+    pub ate : Part E O e
+    pub fed : PartSet between parts' to eater ate
+    pub took : PartFed eater ate pad item
+
+  -- The element refused it, and the crossing of the pad was taken back.
+  pub record HandedBack (parts parts' : List (Part E O e)) (from port to pad : ℕ) (refusal : Refusal) : Type 0 where
+    pub item : Item
+    pub giver : Part E O e
+    pub gave : Part E O e
+    pub between : List (Part E O e)
+    pub given : PartSet parts between from giver gave
+    pub taken : PartGave giver gave port (Some item)
+    pub eater : Part E O e
+    pub ate : Part E O e
+    pub behind : List (Part E O e)
+    pub fed : PartSet between behind to eater ate
+    pub fell : PartFell eater ate pad item refusal
+    pub again : Part E O e
+    pub is : Part E O e
+    pub back : PartSet behind parts' from again is
+    pub took_back : PartTookBack again is port

@@ -1,0 +1,54 @@
+//! Where the elements of a task stand.
+ghost use Rattle.std.specs.Prelude.{◌≡◌, ◌≤◌, true, map, vec_len, length};
+ghost use Rattle.task_parts.specs.Found.{IsAt, IsFirstBusy, all_idle};
+ghost use Rattle.task_parts.specs.Shape.{has_number, part_shape};
+
+use crate::part::Part;
+use element_traits::TaskElement;
+use lane_core::Outlet;
+
+/// The most items that cross a pad, and that a source gives.
+pub(crate) const MOST_ITEMS: u64 = 1 << 40;
+
+/// The place of the element of a number, which is tried first at `hint`.
+pub(crate) fn find<E: TaskElement, O: Outlet>(
+    parts: &[Part<E, O>],
+    number: u32,
+    hint: usize,
+) -> usize
+    requires { has_number number (map part_shape parts.now) ≡ true }
+    ensures { IsAt parts.now number result }
+{
+    if hint < parts.len() {
+        if parts[hint].number() == number {
+            return hint;
+        }
+    }
+    search(parts, number)
+}
+
+/// The place of the element of a number.
+fn search<E: TaskElement, O: Outlet>(parts: &[Part<E, O>], number: u32) -> usize
+    requires { has_number number (map part_shape parts.now) ≡ true }
+    ensures { IsAt parts.now number result }
+{
+    for place in 0..parts.len() {
+        if parts[place].number() == number {
+            return place;
+        }
+    }
+    unreachable!()
+}
+
+/// The place of the first element, from a place on, at which something waits; behind all where there is none.
+pub(crate) fn first_busy<E: TaskElement, O: Outlet>(parts: &[Part<E, O>], from: usize) -> usize
+    requires within { from ≤ length parts.now }
+    ensures { IsFirstBusy parts.now from result }
+{
+    for place in from..parts.len() {
+        if !parts[place].is_idle() {
+            return place;
+        }
+    }
+    parts.len()
+}

@@ -1,0 +1,57 @@
+//! What an element put out goes to its pads.
+ghost use Rattle.std.specs.Prelude.{◌≡◌, ◌||◌, true, vec_len, map};
+ghost use Rattle.task_pads.specs.Pads.{rest_of};
+ghost use Rattle.task_pads.specs.Put.{Spread};
+ghost use Rattle.task_parts.specs.Gathered.{are_within, pads_idle, linked_else};
+
+use gst_caps::OutOfMemory;
+use gst_item::Outs;
+use std::alloc::Global;
+use task_pads::{Behind, Pad, fill, spread};
+
+/// What was put out goes to the pads, behind what waits there. Where memory is wanting some of it stays, in its order.
+pub(crate) fn gather<O>(
+    alloc: Global,
+    pads: &mut Vec<Pad<O>>,
+    out: &mut Outs,
+) -> Result<(), OutOfMemory>
+    requires within { are_within (vec_len pads.old) out.old ≡ true }
+    ensures rest { map rest_of pads.new.items ≡ map rest_of pads.old.items }
+    ensures spread { Spread out.old out.new pads.old.items pads.new.items }
+    ensures within { are_within (vec_len pads.new) out.new ≡ true }
+{
+    if out.as_slice().is_empty() {
+        return Ok(());
+    }
+    if pads.len() == 1 {
+        fill(alloc, &mut pads[0], out);
+        return Ok(());
+    }
+    spread(alloc, pads, out)
+}
+
+/// Whether nothing waits at the pads.
+pub(crate) fn pads_idle<O>(pads: &[Pad<O>]) -> bool
+    ensures { result ≡ pads_idle pads.now }
+{
+    first_waiting(pads, 0).is_none()
+}
+
+/// Whether a pad other than that of a port is linked.
+pub(crate) fn is_linked_else<O: Outlet>(pads: &[Pad<O>], port: usize) -> bool
+    ensures { result ≡ linked_else port pads.now }
+{
+    for other in 0..pads.len() {
+        if other != port && is_linked(&pads[other]) {
+            return true;
+        }
+    }
+    false
+}
+
+/// Whether a pad leads on.
+fn is_linked<O: Outlet>(pad: &Pad<O>) -> bool
+    ensures { result ≡ leads_on (rest_of pad.now).behind }
+{
+    !matches!(pad.behind(), Behind::Nothing)
+}

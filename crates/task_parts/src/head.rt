@@ -1,0 +1,110 @@
+//! Where the items of a task come from.
+ghost use Rattle.std.specs.Prelude.{◌≡◌, ◌≤◌};
+ghost use Rattle.flow_model.specs.Item.{is_flush_stop as flush_test};
+
+use crate::find::MOST_ITEMS;
+use element_traits::{TaskSource, Unread};
+use gst_item::{Event, Item};
+use inlet_row::InletRow;
+use lane_core::Outlet;
+use std::alloc::Global;
+use task_pads::Pad;
+
+/// A source with its pad.
+#[derive(Drop)]
+pub struct SourceHead<S: TaskSource, O> {
+    /// The number of the source in the graph.
+    pub(crate) number: u32,
+    pub(crate) source: S,
+    pub(crate) pad: Pad<O>,
+    /// How many items it gave.
+    pub(crate) given: u64,
+    ghost few: { S.count source ≤ given },
+}
+
+/// What feeds an element of the task: a queue, or a fan-in element.
+#[derive(Drop)]
+pub struct InletHead<I> {
+    /// The number of the element in the graph, which is looked for first at the place `hint`.
+    pub(crate) number: u32,
+    pub(crate) hint: usize,
+    /// What each of its sink pads is fed from, by number.
+    pub(crate) rows: Vec<InletRow<I>>,
+}
+
+/// Where the items of a task come from.
+#[derive(Drop)]
+pub enum Head<S: TaskSource, I, O> {
+    Source(SourceHead<S, O>),
+    Inlets(InletHead<I>),
+}
+
+/// What a source that was asked did.
+#[derive(Clone, Copy)]
+pub(crate) enum Given {
+    /// It gave an item, which waits at its pad.
+    Item,
+    /// It gave a FLUSH_STOP, which is dropped: no source gives one by itself.
+    FlushStop,
+    /// It has given all.
+    Ended,
+    /// It has given 2^40 items.
+    AtLimit,
+}
+
+impl<S: TaskSource, O: Outlet> SourceHead<S, O> {
+    ghost use Rattle.std.specs.Prelude.{[], IfOk, IfErr};
+    ghost use Rattle.task_pads.specs.Pads.{pad_shape, rest_of};
+    ghost use Rattle.element_traits.specs.Failures.{IsReadCause};
+    ghost use Rattle.task_parts.specs.Head.{SourceGives, SourceKept};
+
+    /// A source of this number that gave nothing, with its pad, which nothing crossed.
+    pub fn new(number: u32, source: S, pad: Pad<O>) -> SourceHead<S, O>
+        requires fresh { S.count source ≡ 0 }
+        ensures number { result.number ≡ number }
+        ensures source { result.source ≡ source }
+        ensures pad { result.pad ≡ pad }
+        ensures given { result.given ≡ 0 }
+    {
+        SourceHead {
+            number,
+            source,
+            pad,
+            given: 0,
+        }
+    }
+
+    /// The source gives its next item, which waits at its pad. The memory for that is taken before it is asked.
+    pub(crate) fn give(&mut self, alloc: Global) -> Result<Given, Unread>
+        ensures gives { IfOk result (SourceGives self.old self.new) }
+        ensures kept { IfErr result (λ unread. SourceKept self.old self.new × IsReadCause (S.failures self.old.source) (S.failures self.new.source) unread) }
+        ensures number { self.new.number ≡ self.old.number }
+        ensures rest { rest_of self.new.pad ≡ rest_of self.old.pad }
+    {
+        if self.given >= MOST_ITEMS {
+            return Ok(Given::AtLimit);
+        }
+        if self.pad.make_room().is_err() {
+            return Err(Unread::OutOfMemory);
+        }
+        match self.source.next(alloc) {
+            Ok(Some(item)) => {
+                self.given += 1;
+                if is_flush_stop(&item) {
+                    return Ok(Given::FlushStop);
+                }
+                self.pad.push_reserved(item);
+                Ok(Given::Item)
+            }
+            Ok(None) => Ok(Given::Ended),
+            Err(unread) => Err(unread),
+        }
+    }
+}
+
+/// Whether an item is FLUSH_STOP.
+pub(crate) fn is_flush_stop(item: &Item) -> bool
+    ensures { result ≡ flush_test item.now }
+{
+    matches!(item, Item::Event(Event::FlushStop { .. }))
+}

@@ -1,0 +1,37 @@
+//! An item that crossed a pad goes to an element of the task.
+ghost use Rattle.std.specs.Prelude.{◌≡◌, ◌<◌, map, vec_len, OnOk, IfErr};
+ghost use Rattle.task_parts.specs.Moved.{CanGive, HandedOn, HandedBack};
+ghost use Rattle.task_parts.specs.Shape.{part_shape};
+
+use crate::part::Part;
+use element_traits::{Refusal, TaskElement};
+use lane_core::Outlet;
+use std::alloc::Global;
+
+/// The item that crossed the pad of a port of the element at one place goes to a sink pad of the element at another. Where
+/// that refuses it the item is given up, and has not crossed.
+pub(crate) fn hand_on<E: TaskElement, O: Outlet>(
+    alloc: Global,
+    parts: &mut Vec<Part<E, O>>,
+    from: usize,
+    port: usize,
+    to: usize,
+    pad: u32,
+) -> Result<(), Refusal>
+    requires to { to < vec_len parts.old }
+    requires gives { CanGive parts.old.items from port }
+    ensures handed { OnOk result (HandedOn parts.old.items parts.new.items from port to pad) }
+    ensures back { IfErr result (HandedBack parts.old.items parts.new.items from port to pad) }
+    ensures shape { map part_shape parts.new.items ≡ map part_shape parts.old.items }
+{
+    let Some(item) = parts[from].take(port) else {
+        unreachable!()
+    };
+    match parts[to].feed(alloc, pad, item) {
+        Ok(()) => Ok(()),
+        Err(refusal) => {
+            parts[from].take_back(port);
+            Err(refusal)
+        }
+    }
+}

@@ -1,0 +1,143 @@
+//! Elements of a task, with their source pads.
+ghost use Rattle.std.specs.Prelude.{◌≡◌, true, vec_len};
+ghost use Rattle.task_parts.specs.Gathered.{are_within};
+
+use crate::gather::gather;
+use element_traits::{Refusal, TaskElement};
+use gst_caps::{List, OutOfMemory};
+use gst_item::{Item, Outs};
+use lane_core::Outlet;
+use std::alloc::Global;
+use task_pads::{Behind, Crossing, Pad};
+
+/// An element of a task, the number that it has in the graph, and its source pads.
+#[derive(Drop)]
+pub struct Part<E: TaskElement, O> {
+    pub(crate) number: u32,
+    pub(crate) element: E,
+    /// What it put out and is not at its pads yet: it comes behind what waits there.
+    pub(crate) out: Outs,
+    pub(crate) pads: Vec<Pad<O>>,
+    ghost ports: { E.ports element ≡ vec_len pads },
+    ghost within: { are_within (vec_len pads) out ≡ true },
+}
+
+impl<E: TaskElement, O: Outlet> Part<E, O> {
+    ghost use Rattle.std.specs.Prelude.{◌<◌, ◌≢◌, false, [], Some, None, IfOk, IfErr, OnOk, OnErr, slice_get};
+    ghost use Rattle.flow_model.specs.Item.{is_flush_stop};
+    ghost use Rattle.task_pads.specs.Pads.{PadReady, CanTakeBack, waiting_of};
+    ghost use Rattle.task_parts.specs.Part.{PartSettled, PartFed, PartFell, PartCrossed, PartGave, PartTookBack, PartReady, CanTakeBackAt, is_idle};
+    ghost use Rattle.task_parts.specs.Shape.{part_shape};
+
+    /// An element of this number that took nothing, with its source pads, which nothing crossed.
+    pub fn new(alloc: Global, number: u32, element: E, pads: Vec<Pad<O>>) -> Part<E, O>
+        requires ports { E.ports element ≡ vec_len pads }
+        ensures number { result.number ≡ number }
+        ensures element { result.element ≡ element }
+        ensures pads { result.pads ≡ pads }
+        ensures out { result.out ≡ [] }
+    {
+        Part {
+            number,
+            element,
+            out: List::new(alloc),
+            pads,
+        }
+    }
+
+    /// Its number in the graph.
+    pub fn number(&self) -> u32
+        ensures { result ≡ self.now.number }
+    {
+        self.number
+    }
+
+    /// The element itself.
+    pub fn element(&self) -> &E
+        ensures { result.now ≡ self.now.element }
+    {
+        &self.element
+    }
+
+    /// Its source pads, by number.
+    pub fn pads(&self) -> &[Pad<O>]
+        ensures { result.now ≡ self.now.pads.items }
+    {
+        self.pads.as_slice()
+    }
+
+    /// The element. What waited at its pads is given up.
+    pub fn into_element(self) -> E
+        ensures { result ≡ self.element }
+    {
+        let Part { element, .. } = self;
+        element
+    }
+
+    /// Whether nothing waits at its pads.
+    pub(crate) fn is_idle(&self) -> bool
+        ensures { result ≡ is_idle self.now }
+    {
+        if !self.out.as_slice().is_empty() {
+            return false;
+        }
+        pads_idle(self.pads.as_slice())
+    }
+
+    /// What was put out goes to its pads.
+    pub(crate) fn settle(&mut self, alloc: Global) -> Result<(), OutOfMemory>
+        ensures { PartSettled self.old self.new }
+    {
+        gather(alloc, &mut self.pads, &mut self.out)
+    }
+
+    /// The element takes an item, and what it puts out waits at its pads.
+    pub(crate) fn feed(&mut self, alloc: Global, pad: u32, item: Item) -> Result<(), Refusal>
+        requires no_flush { is_flush_stop item ≡ false }
+        ensures fed { OnOk result (PartFed self.old self.new pad item) }
+        ensures fell { IfErr result (PartFell self.old self.new pad item) }
+        ensures shape { part_shape self.new ≡ part_shape self.old }
+    {
+        match self.element.feed(alloc, pad, item, &mut self.out) {
+            Ok(()) => {
+                self.pour(alloc);
+                Ok(())
+            }
+            Err(refusal) => Err(refusal),
+        }
+    }
+
+    /// What was put out goes to its pads, as far as there is memory.
+    fn pour(&mut self, alloc: Global)
+        ensures { PartSettled self.old self.new }
+    {
+        if gather(alloc, &mut self.pads, &mut self.out).is_err() {}
+    }
+
+    /// The oldest item that waits at the pad of a port crosses it, if it can.
+    pub(crate) fn cross(&mut self, alloc: Global, lanes: &mut O::Lanes, port: usize) -> Crossing
+        requires port { port < vec_len self.old.pads }
+        requires ready { PartReady O.Outlet (O.tells lanes.old) self.old }
+        ensures { PartCrossed O.Outlet self.old self.new port (O.tells lanes.old) (O.tells lanes.new) result }
+    {
+        let sibling = is_linked_else(self.pads.as_slice(), port);
+        self.pads[port].cross(alloc, lanes, sibling)
+    }
+
+    /// Takes the oldest item that waits at the pad of a port.
+    pub(crate) fn take(&mut self, port: usize) -> Option<Item>
+        requires port { port < vec_len self.old.pads }
+        ensures { PartGave self.old self.new port result }
+    {
+        self.pads[port].take()
+    }
+
+    /// Takes the last crossing of the pad of a port back.
+    pub(crate) fn take_back(&mut self, port: usize)
+        requires port { port < vec_len self.old.pads }
+        requires back { CanTakeBackAt self.old port }
+        ensures { PartTookBack self.old self.new port }
+    {
+        self.pads[port].take_back();
+    }
+}

@@ -1,0 +1,189 @@
+//! What one try of a pad, or of a head, moves.
+ghost use Rattle.std.specs.Prelude.{◌≡◌, ◌<◌, ◌⊎◌, true, map, vec_len, Some, slice_get};
+ghost use Rattle.task_parts.specs.Part.{PartReady};
+ghost use Rattle.task_parts.specs.Passing.{CrossesPart, CrossesSource, GivesAs, TakesNext, Settles, HasPort, InletsReady, AsksRow, HasNoRow};
+ghost use Rattle.task_pads.specs.Pads.{PadReady, crossed_count, goes_of, number_of, pad_shape, rest_of};
+ghost use Rattle.task_parts.specs.Shape.{goes_within, has_number, pads_within, part_shape};
+ghost use Rattle.task_parts.specs.declared.fault.TaskFault.TheVariants.{NotLinked as NotLinkedFault, TooLong as TooLongFault};
+
+use crate::fault::TaskFault;
+use crate::find::{MOST_ITEMS, find};
+use crate::head::{Given, InletHead, SourceHead, is_flush_stop};
+use crate::moving::hand_on;
+use crate::part::Part;
+use crate::step::{Step, Tried};
+use element_traits::{TaskElement, TaskSource};
+use gst_caps::OutOfMemory;
+use inlet_row::{Taken, UNLINKED};
+use lane_core::{Inlet, Outlet};
+use std::alloc::Global;
+use task_pads::Crossing;
+
+/// What the element at a place put out goes to its pads.
+pub fn settle<E: TaskElement, O: Outlet>(
+    alloc: Global,
+    parts: &mut Vec<Part<E, O>>,
+    place: usize,
+) -> Result<(), OutOfMemory>
+    requires place { place < vec_len parts.old }
+    ensures settled { Settles parts.old.items parts.new.items place }
+    ensures shape { map part_shape parts.new.items ≡ map part_shape parts.old.items }
+{
+    parts[place].settle(alloc)
+}
+
+/// The oldest item that waits at the pad of a port of the element at a place crosses it, if it can. Where it goes to an
+/// element of the task, that takes it.
+pub fn cross_part<E: TaskElement, O: Outlet>(
+    alloc: Global,
+    parts: &mut Vec<Part<E, O>>,
+    lanes: &mut O::Lanes,
+    place: usize,
+    port: usize,
+) -> Result<Tried, TaskFault>
+    requires closed { (part : _) → slice_get parts.old.items place ≡ Some part → pads_within (map part_shape parts.old.items) (map pad_shape part.pads.items) ≡ true }
+    requires at { HasPort parts.old.items place port }
+    requires ready { (part : _) → slice_get parts.old.items place ≡ Some part → PartReady O.Outlet (O.tells lanes.old) part }
+    ensures crosses { CrossesPart O.Outlet parts.old.items parts.new.items place port (O.tells lanes.old) (O.tells lanes.new) result }
+    ensures shape { map part_shape parts.new.items ≡ map part_shape parts.old.items }
+{
+    match parts[place].cross(alloc, lanes, port) {
+        Crossing::Idle => Ok(Tried::Idle),
+        Crossing::Gone | Crossing::BehindEos => Ok(Tried::Moved),
+        Crossing::Full { lane } => Ok(Tried::Stuck(Step::NeedsRoom(lane))),
+        Crossing::AtProbe { command } => Ok(Tried::Stuck(Step::AtProbe(command))),
+        Crossing::NotLinked => Err(not_linked(&parts[place], port)),
+        Crossing::AtLimit => Err(too_long(parts[place].number())),
+        Crossing::OutOfMemory => Err(TaskFault::OutOfMemory),
+        Crossing::To { number, hint, pad } => {
+            let to = find(parts.as_slice(), number, hint);
+            match hand_on(alloc, parts, place, port, to, pad) {
+                Ok(()) => Ok(Tried::Moved),
+                Err(refusal) => Err(TaskFault::refused(number, refusal)),
+            }
+        }
+    }
+}
+
+/// The fault of a buffer at the pad of a port, which is not linked.
+fn not_linked<E: TaskElement, O: Outlet>(part: &Part<E, O>, port: usize) -> TaskFault
+    requires { port < vec_len part.now.pads }
+    ensures { (pad : _) → slice_get part.now.pads.items port ≡ Some pad → result ≡ NotLinkedFault (number_of pad) (crossed_count pad) }
+{
+    let pad = &part.pads()[port];
+    TaskFault::NotLinked {
+        pad: pad.number(),
+        place: pad.crossed(),
+    }
+}
+
+/// The fault of an element of which more than 2^40 items were to cross a pad.
+fn too_long(element: u32) -> TaskFault
+    ensures { result ≡ TooLongFault element 1099511627776 1 }
+{
+    TaskFault::TooLong {
+        element,
+        a: MOST_ITEMS,
+        b: 1,
+    }
+}
+
+/// The oldest item that waits at the pad of a source crosses it, if it can. Where it goes to an element of the task, that
+/// takes it.
+pub fn cross_source<S: TaskSource, E: TaskElement, O: Outlet>(
+    alloc: Global,
+    head: &mut SourceHead<S, O>,
+    parts: &mut Vec<Part<E, O>>,
+    lanes: &mut O::Lanes,
+) -> Result<Tried, TaskFault>
+    requires closed { goes_within (map part_shape parts.old.items) (goes_of head.old.pad) ≡ true }
+    requires ready { PadReady O.Outlet (O.tells lanes.old) head.old.pad }
+    ensures crosses { CrossesSource O.Outlet head.old head.new parts.old.items parts.new.items (O.tells lanes.old) (O.tells lanes.new) result }
+    ensures shape { map part_shape parts.new.items ≡ map part_shape parts.old.items }
+{
+    match head.pad.cross(alloc, lanes, false) {
+        Crossing::Idle => Ok(Tried::Idle),
+        Crossing::Gone | Crossing::BehindEos => Ok(Tried::Moved),
+        Crossing::Full { lane } => Ok(Tried::Stuck(Step::NeedsRoom(lane))),
+        Crossing::AtProbe { command } => Ok(Tried::Stuck(Step::AtProbe(command))),
+        Crossing::NotLinked => Err(TaskFault::NotLinked {
+            pad: head.pad.number(),
+            place: head.pad.crossed(),
+        }),
+        Crossing::AtLimit => Err(too_long(head.number)),
+        Crossing::OutOfMemory => Err(TaskFault::OutOfMemory),
+        Crossing::To { number, hint, pad } => {
+            let to = find(parts.as_slice(), number, hint);
+            let Some(item) = head.pad.take() else {
+                unreachable!()
+            };
+            match parts[to].feed(alloc, pad, item) {
+                Ok(()) => Ok(Tried::Moved),
+                Err(refusal) => {
+                    head.pad.take_back();
+                    Err(TaskFault::refused(number, refusal))
+                }
+            }
+        }
+    }
+}
+
+/// The source gives its next item, which waits at its pad. `Tried::Idle`: it has given all.
+pub fn give<S: TaskSource, O: Outlet>(
+    alloc: Global,
+    head: &mut SourceHead<S, O>,
+) -> Result<Tried, TaskFault>
+    ensures gives { GivesAs head.old head.new result }
+    ensures number { head.new.number ≡ head.old.number }
+    ensures rest { rest_of head.new.pad ≡ rest_of head.old.pad }
+{
+    match head.give(alloc) {
+        Ok(Given::Item | Given::FlushStop) => Ok(Tried::Moved),
+        Ok(Given::Ended) => Ok(Tried::Idle),
+        Ok(Given::AtLimit) => Err(too_long(head.number)),
+        Err(unread) => Err(TaskFault::unread(head.number, unread)),
+    }
+}
+
+/// The element that a head feeds takes the next item that it wants, if there is one now. `Tried::Idle`: it wants no more.
+pub fn take<E: TaskElement, I: Inlet<Out = O>, O: Outlet<Lanes = I::Lanes>>(
+    alloc: Global,
+    head: &mut InletHead<I>,
+    parts: &mut Vec<Part<E, O>>,
+    lanes: &mut I::Lanes,
+) -> Result<Tried, TaskFault>
+    requires named { has_number head.old.number (map part_shape parts.old.items) ≡ true }
+    requires ready { InletsReady I.Inlet (O.tells lanes.old) head.old }
+    ensures takes { TakesNext I.Inlet head.old head.new parts.old.items parts.new.items (O.tells lanes.old) (O.tells lanes.new) result }
+    ensures shape { map part_shape parts.new.items ≡ map part_shape parts.old.items }
+{
+    let to = find(parts.as_slice(), head.number, head.hint);
+    head.hint = to;
+    let Some(port) = parts[to].element().wants() else {
+        return Ok(Tried::Idle);
+    };
+    match take_row(head, lanes, port) {
+        Taken::Empty(lane) => Ok(Tried::Stuck(Step::NeedsItem(lane))),
+        Taken::Item(item) => {
+            if is_flush_stop(&item) {
+                return Ok(Tried::Moved);
+            }
+            match parts[to].feed(alloc, port, item) {
+                Ok(()) => Ok(Tried::Moved),
+                Err(refusal) => Err(TaskFault::refused(parts[to].number(), refusal)),
+            }
+        }
+    }
+}
+
+/// The next item of the row of a sink pad, if there is one now.
+fn take_row<I: Inlet>(head: &mut InletHead<I>, lanes: &mut I::Lanes, port: u32) -> Taken
+    requires ready { InletsReady I.Inlet (I.Out.tells lanes.old) head.old }
+    ensures { AsksRow I.Inlet head.old head.new port (I.Out.tells lanes.old) (I.Out.tells lanes.new) result ⊎ HasNoRow I.Inlet head.old head.new port (I.Out.tells lanes.old) (I.Out.tells lanes.new) result }
+{
+    let port = port as usize;
+    if port >= head.rows.len() {
+        return Taken::Empty(UNLINKED);
+    }
+    head.rows[port].take(lanes)
+}
