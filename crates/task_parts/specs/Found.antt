@@ -1,5 +1,5 @@
 -- Places of the elements of a task.
-use Rattle.std.specs.Prelude.{◌≡◌, ◌≤◌, ◌<◌, ◌&&◌, ℕ, Bool, true, List, [], ◌∷◌, Some, length, slice_get}
+use Rattle.std.specs.Prelude.{◌≡◌, ◌≤◌, ◌<◌, ◌&&◌, ℕ, Bool, true, false, List, [], ◌∷◌, Some, length, slice_get}
 use Rattle.element_traits.specs.declared.element.TaskElement as elements
 use Rattle.task_parts.specs.declared.part.Part.{Part}
 use Rattle.task_parts.specs.Part.{is_idle}
@@ -21,3 +21,4 @@ module _ {E O : Type 0} {e : elements.Ghosts E} where
     pub behind : from ≤ place
     pub within : place ≤ length parts
     pub idle : (j : ℕ) (part : Part E O e) → from ≤ j → j < place → slice_get parts j ≡ Some part → is_idle part ≡ true
+    pub busy : (part : Part E O e) → slice_get parts place ≡ Some part → is_idle part ≡ false

@@ -30,6 +30,8 @@ module _ {S O : Type 0} {s : sources.Ghosts S} where
     pub item : Item
     pub flush : is_flush_stop item ≡ true
     pub gave : GaveMore old new item
+    pub waiting : waiting_of new.pad ≡ waiting_of old.pad
+    pub given : new.given ≡ old.given + 1
 
   abbrev pub SourceGives : SourceHead S O s → SourceHead S O s → Given → Type 0
   SourceGives old new given.Item = SourceGaveItem old new

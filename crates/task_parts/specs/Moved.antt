@@ -1,10 +1,11 @@
 -- An item goes from a pad of one element of a task to another element.
-use Rattle.std.specs.Prelude.{◌≡◌, ◌≢◌, ℕ, List, [], Some, slice_get, slice_set}
+use Rattle.std.specs.Prelude.{◌≡◌, ◌≢◌, ◌+◌, ◌++◌, ◌∷◌, ℕ, List, [], Some, slice_get, slice_set}
 use Rattle.flow_model.specs.Item.{Item}
 use Rattle.element_traits.specs.declared.element.TaskElement as elements
 use Rattle.element_traits.specs.declared.refusal.Refusal.{Refusal}
 use Rattle.task_pads.specs.declared.pad.Pad.{Pad}
-use Rattle.task_pads.specs.Pads.{CanTakeBack, waiting_of}
+use Rattle.task_pads.specs.Pads.{CanTakeBack, HasCrossed, crossed_count, pad_shape, probe_of, rest_of, waiting_of}
+use Rattle.task_pads.specs.Put.{IsTaken}
 use Rattle.task_parts.specs.declared.part.Part.{Part}
 use Rattle.task_parts.specs.Part.{PartFed, PartFell, PartGave, PartTookBack}
 
@@ -53,3 +54,29 @@ module _ {E O : Type 0} {e : elements.Ghosts E} where
     pub is : Part E O e
     pub back : PartSet behind parts' from again is
     pub took_back : PartTookBack again is port
+
+  -- The item was taken from a pad that is no element's of these, and then the element at a place took it.
+  pub record HandedIn (old new : Pad O) (parts parts' : List (Part E O e)) (to sink : ℕ) : Type 0 where
+    pub item : Item
+    pub rest : rest_of new ≡ rest_of old
+    pub taken : IsTaken old new (Some item)
+    pub eater : Part E O e
+    pub ate : Part E O e
+    pub fed : PartSet parts parts' to eater ate
+    pub took : PartFed eater ate sink item
+
+  -- The element refused it, and the crossing of the pad was taken back.
+  pub record HandedOut (old new : Pad O) (parts parts' : List (Part E O e)) (to sink : ℕ) (refusal : Refusal) : Type 0 where
+    pub item : Item
+    pub between : Pad O
+    pub rest : rest_of between ≡ rest_of old
+    pub taken : IsTaken old between (Some item)
+    pub history : (h : List Item) (x : Item) → HasCrossed between (h ++ x ∷ []) → HasCrossed new h
+    pub counted : crossed_count new + 1 ≡ crossed_count between
+    pub probe : probe_of new ≡ probe_of between
+    pub waiting : waiting_of new ≡ waiting_of between
+    pub behind : (rest_of new).behind ≡ (rest_of between).behind
+    pub eater : Part E O e
+    pub ate : Part E O e
+    pub fed : PartSet parts parts' to eater ate
+    pub fell : PartFell eater ate sink item refusal

@@ -1,5 +1,5 @@
 -- What becomes of an element of a task and of its source pads.
-use Rattle.std.specs.Prelude.{◌≡◌, ◌≢◌, ◌<◌, ◌&&◌, ℕ, Bool, true, false, List, [], ◌∷◌, ◌++◌, Option, Some, map, slice_get, slice_set}
+use Rattle.std.specs.Prelude.{◌≡◌, ◌≢◌, ◌<◌, ◌+◌, ◌&&◌, ℕ, Bool, true, false, List, [], ◌∷◌, ◌++◌, Option, Some, map, slice_get, slice_set}
 use Rattle.gst_item.specs.declared.out.Out.{Out}
 use Rattle.flow_model.specs.Item.{Item}
 use Rattle.flow_model.specs.Call.{Call, Feed}
@@ -9,12 +9,13 @@ use Rattle.lane_core.specs.declared.ends.Outlet as outlets
 use Rattle.net_model.specs.Split.{push_calls}
 use Rattle.element_traits.specs.declared.element.TaskElement as elements
 use Rattle.element_traits.specs.declared.refusal.Refusal.{Refusal}
-use Rattle.element_traits.specs.Failures.{IsWriteCause}
+use Rattle.element_traits.specs.Failures.{IsWriteCause, NeverFalls}
 use Rattle.element_traits.specs.Takes.{OwesMore, on_port}
 use Rattle.task_pads.specs.declared.pad.Pad.{Pad}
 use Rattle.task_pads.specs.declared.crossing.Crossing.{Crossing}
-use Rattle.task_pads.specs.Pads.{PadReady, pad_shape, rest_of, waiting_of, CanTakeBack, HasCrossed}
-use Rattle.task_pads.specs.Put.{TakesFirst}
+use Rattle.task_pads.specs.Behind.{place_in}
+use Rattle.task_pads.specs.Pads.{PadReady, pad_shape, rest_of, waiting_of, CanTakeBack, HasCrossed, KeepsTable, crossed_count, end_of, probe_of}
+use Rattle.task_pads.specs.Put.{IsTaken}
 use Rattle.task_pads.specs.Crossing.{IsCrossing}
 use Rattle.task_parts.specs.declared.part.Part.{Part}
 use Rattle.task_parts.specs.Gathered.{is_nothing, pads_idle, linked_else}
@@ -46,6 +47,10 @@ module _ {E O : Type 0} {e : elements.Ghosts E} where
     pub element : new.element ≡ old.element
     pub pads : PadsGrew old new []
 
+  -- where nothing waits at its pads, nothing is to go there
+  abbrev pub IsSettled : Part E O e → Type 0
+  IsSettled part = pads_idle part.pads.items ≡ true → part.out ≡ []
+
   -- The element took an item on a sink pad, and what it put out waits at its pads.
   pub record PartFed (old new : Part E O e) (pad : ℕ) (item : Item) : Type 0 where
     pub number : new.number ≡ old.number
@@ -53,6 +58,8 @@ module _ {E O : Type 0} {e : elements.Ghosts E} where
     pub stands_now : (rule : Rule) (took : List (List Call)) → e.stands old.element rule took → e.stands new.element rule (push_calls pad (Feed item ∷ []) took)
     pub owes : (rule : Rule) (took : List (List Call)) → e.stands old.element rule took → OwesMore (e.ports old.element) rule took (push_calls pad (Feed item ∷ []) took) more
     pub pads : PadsGrew old new more
+    pub never_falls : NeverFalls (e.failures old.element) (e.failures new.element)
+    pub file : e.file new.element ≡ e.file old.element
 
   -- It refused the item, and nothing else changed.
   pub record PartFell (old new : Part E O e) (pad : ℕ) (item : Item) (refusal : Refusal) : Type 0 where
@@ -62,6 +69,8 @@ module _ {E O : Type 0} {e : elements.Ghosts E} where
     pub fell : (rule : Rule) (took : List (List Call)) → e.stands old.element rule took → e.fell new.element rule took pad item
     pub refused : (rule : Rule) (took : List (List Call)) → e.stands old.element rule took → e.refuses old.element rule took pad item refusal
     pub cause : IsWriteCause (e.failures old.element) (e.failures new.element) refusal
+    pub never_falls : NeverFalls (e.failures old.element) (e.failures new.element)
+    pub file : e.file new.element ≡ e.file old.element
 
   -- One of its pads is another now.
   pub record PadSet (old new : Part E O e) (port : ℕ) (was is : Pad O) : Type 0 where
@@ -78,7 +87,7 @@ module _ {E O : Type 0} {e : elements.Ghosts E} where
     pub is : Pad O
     pub pad : PadSet old new port was is
     pub rest : rest_of is ≡ rest_of was
-    pub taken : TakesFirst was is item
+    pub taken : IsTaken was is item
 
   -- the last crossing of the pad of a port can be taken back
   abbrev pub CanTakeBackAt : Part E O e → ℕ → Type 0
@@ -90,6 +99,8 @@ module _ {E O : Type 0} {e : elements.Ghosts E} where
     pub is : Pad O
     pub pad : PadSet old new port was is
     pub history : (h : List Item) (x : Item) → HasCrossed was (h ++ x ∷ []) → HasCrossed is h
+    pub counted : crossed_count is + 1 ≡ crossed_count was
+    pub probe : probe_of is ≡ probe_of was
     pub waiting : waiting_of is ≡ waiting_of was
     pub behind : (rest_of is).behind ≡ (rest_of was).behind
 
@@ -104,3 +115,6 @@ module _ {E O L : Type 0} {e : elements.Ghosts E} (o : outlets.Ghosts O L) where
     pub is : Pad O
     pub pad : PadSet old new port was is
     pub crossed : IsCrossing o was is tells tells' (linked_else port old.pads.items) crossing
+    pub probe : probe_of is ≡ probe_of was
+    pub table : KeepsTable (place_in (end_of o was)) tells tells'
+    pub ready : PadReady o tells' is

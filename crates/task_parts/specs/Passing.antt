@@ -1,5 +1,5 @@
 -- What one try of a pad, or of a head, moves.
-use Rattle.std.specs.Prelude.{◌≡◌, ◌≢◌, ◌<◌, ◌≤◌, ◌⊎◌, ◌++◌, ℕ, true, false, List, [], ◌∷◌, Option, None, Some, Result, Ok, Err, length, slice_get, slice_set}
+use Rattle.std.specs.Prelude.{◌≡◌, ◌≢◌, ◌<◌, ◌≤◌, ◌⊎◌, ◌+◌, ◌++◌, ℕ, true, false, List, [], ◌∷◌, Option, None, Some, Result, Ok, Err, length, slice_get, slice_set}
 use Rattle.flow_model.specs.Item.{Item, is_flush_stop}
 use Rattle.lane_core.specs.Lane.{Lane}
 use Rattle.lane_core.specs.declared.ends.Inlet as inlets
@@ -12,14 +12,15 @@ use Rattle.element_traits.specs.Failures.{IsReadCause}
 use Rattle.inlet_row.specs.declared.row.InletRow.{InletRow}
 use Rattle.inlet_row.specs.declared.feeding.Taken.{Taken}
 use Rattle.inlet_row.specs.declared.feeding.Taken.TheVariants as takes
-use Rattle.inlet_row.specs.Row.{RowGave, RowIn}
-use Rattle.inlet_row.specs.Take.{StaysIn, list_after}
+use Rattle.inlet_row.specs.Row.{AreApart, RowBetween, RowGave, RowIn}
+use Rattle.inlet_row.specs.Take.{HoldsAfter, Moves, StaysIn, list_after}
 use Rattle.task_pads.specs.declared.pad.Pad.{Pad}
 use Rattle.task_pads.specs.declared.crossing.Crossing.{Crossing}
 use Rattle.task_pads.specs.declared.crossing.Crossing.TheVariants.{Idle, To, Gone, Full, AtProbe, NotLinked, BehindEos, AtLimit, OutOfMemory}
-use Rattle.task_pads.specs.Pads.{CanTakeBack, HasCrossed, number_of, crossed_count, pad_shape, rest_of, waiting_of}
+use Rattle.task_pads.specs.Behind.{place_in}
+use Rattle.task_pads.specs.Pads.{CanTakeBack, HasCrossed, KeepsTable, PadReady, crossed_count, end_of, number_of, pad_shape, probe_of, rest_of, waiting_of}
 use Rattle.task_pads.specs.Crossing.{IsCrossing}
-use Rattle.task_pads.specs.Put.{TakesFirst}
+use Rattle.task_pads.specs.Put.{IsTaken}
 use Rattle.task_parts.specs.declared.part.Part.{Part}
 use Rattle.task_parts.specs.declared.head.SourceHead.{SourceHead}
 use Rattle.task_parts.specs.declared.head.InletHead.{InletHead}
@@ -69,6 +70,13 @@ module _ {E O : Type 0} {e : elements.Ghosts E} where
   AfterPart parts parts' place port part pad AtLimit result = (parts' ≡ parts) × (result ≡ Err (faults.TooLong part.number 1099511627776 1))
   AfterPart parts parts' place port part pad OutOfMemory result = (parts' ≡ parts) × (result ≡ Err faults.OutOfMemory)
 
+  -- what an element took of an item that came from a row
+  abbrev pub RowFeeds : List (Part E O e) → List (Part E O e) → ℕ → ℕ → Item → Result Tried TaskFault → Type 0
+  RowFeeds parts parts' to port x (Ok answer) =
+      (answer ≡ tried.Moved) × (was : Part E O e) × (is : Part E O e) × PartSet parts parts' to was is × PartFed was is port x
+  RowFeeds parts parts' to port x (Err fault) =
+      (refusal : Refusal) × (was : Part E O e) × (is : Part E O e) × PartSet parts parts' to was is × PartFell was is port x refusal × (fault ≡ refusal_fault was.number refusal)
+
 -- The pad of a port of the element at a place was tried.
 pub record CrossesPart {E O L : Type 0} {e : elements.Ghosts E} (o : outlets.Ghosts O L) (parts parts' : List (Part E O e)) (place port : ℕ) (tells tells' : Option (List Lane)) (result : Result Tried TaskFault) : Type 0 where
   pub was : Part E O e
@@ -79,7 +87,7 @@ pub record CrossesPart {E O L : Type 0} {e : elements.Ghosts E} (o : outlets.Gho
   pub crossed : PartCrossed o was is port tells tells' crossing
   pub after : AfterPart between parts' place port is crossed.is crossing result
 
-module _ {S E O : Type 0} {s : sources.Ghosts S} {e : elements.Ghosts E} where
+module _ {S O : Type 0} {s : sources.Ghosts S} where
   -- the pad of a source is another now
   pub record SourceSet (head head' : SourceHead S O s) : Type 0 where
     pub number : head'.number ≡ head.number
@@ -87,12 +95,13 @@ module _ {S E O : Type 0} {s : sources.Ghosts S} {e : elements.Ghosts E} where
     pub given : head'.given ≡ head.given
     pub shape : pad_shape head'.pad ≡ pad_shape head.pad
 
+module _ {S E O : Type 0} {s : sources.Ghosts S} {e : elements.Ghosts E} where
   -- the item that crossed the source's pad was taken from it, and the element at a place took it
   pub record SourceHanded (head head' : SourceHead S O s) (parts parts' : List (Part E O e)) (to pad : ℕ) : Type 0 where
     pub item : Item
     pub set : SourceSet head head'
     pub rest : rest_of head'.pad ≡ rest_of head.pad
-    pub taken : TakesFirst head.pad head'.pad (Some item)
+    pub taken : IsTaken head.pad head'.pad (Some item)
     pub eater : Part E O e
     pub ate : Part E O e
     pub fed : PartSet parts parts' to eater ate
@@ -104,8 +113,10 @@ module _ {S E O : Type 0} {s : sources.Ghosts S} {e : elements.Ghosts E} where
     pub set : SourceSet head head'
     pub between : Pad O
     pub rest : rest_of between ≡ rest_of head.pad
-    pub taken : TakesFirst head.pad between (Some item)
+    pub taken : IsTaken head.pad between (Some item)
     pub history : (h : List Item) (x : Item) → HasCrossed between (h ++ x ∷ []) → HasCrossed head'.pad h
+    pub counted : crossed_count head'.pad + 1 ≡ crossed_count between
+    pub probe : probe_of head'.pad ≡ probe_of between
     pub waiting : waiting_of head'.pad ≡ waiting_of between
     pub behind : (rest_of head'.pad).behind ≡ (rest_of between).behind
     pub eater : Part E O e
@@ -137,6 +148,9 @@ pub record CrossesSource {S E O L : Type 0} {s : sources.Ghosts S} {e : elements
   pub set : SourceSet head between
   pub crossing : Crossing
   pub crossed : IsCrossing o head.pad between.pad tells tells' false crossing
+  pub probe : probe_of between.pad ≡ probe_of head.pad
+  pub table : KeepsTable (place_in (end_of o head.pad)) tells tells'
+  pub ready : PadReady o tells' between.pad
   pub after : AfterSource between head' parts parts' crossing result
 
 -- what a source that was asked answers as a task
@@ -148,7 +162,7 @@ GivesAs {s = s} head head' (Err fault) =
     (SourceGives head head' given.AtLimit × (fault ≡ faults.TooLong head.number 1099511627776 1))
     ⊎ ((unread : Unread) × (fault ≡ unread_fault head.number unread) × SourceKept head head' × IsReadCause (s.failures head.source) (s.failures head'.source) unread)
 
-module _ {E I O L : Type 0} {e : elements.Ghosts E} (i : inlets.Ghosts I L O) where
+module _ {I O L : Type 0} (i : inlets.Ghosts I L O) where
   -- the lanes of all rows are of the table
   abbrev pub InletsReady : Option (List Lane) → InletHead I → Type 0
   InletsReady tells head = (port : ℕ) (row : InletRow I) → slice_get head.rows.items port ≡ Some row → RowIn i tells row
@@ -159,13 +173,6 @@ module _ {E I O L : Type 0} {e : elements.Ghosts E} (i : inlets.Ghosts I L O) wh
     pub at : slice_get head.rows.items port ≡ Some was
     pub set : head'.rows.items ≡ slice_set head.rows.items port is
 
-  -- what an element took of an item that came from a row
-  abbrev pub RowFeeds : List (Part E O e) → List (Part E O e) → ℕ → ℕ → Item → Result Tried TaskFault → Type 0
-  RowFeeds parts parts' to port x (Ok answer) =
-      (answer ≡ tried.Moved) × (was : Part E O e) × (is : Part E O e) × PartSet parts parts' to was is × PartFed was is port x
-  RowFeeds parts parts' to port x (Err fault) =
-      (refusal : Refusal) × (was : Part E O e) × (is : Part E O e) × PartSet parts parts' to was is × PartFell was is port x refusal × (fault ≡ refusal_fault was.number refusal)
-
   -- the row of a sink pad was asked for its next item; an element has a row for each of its sink pads
   pub record AsksRow (head head' : InletHead I) (port : ℕ) (tells tells' : Option (List Lane)) (taken : Taken) : Type 0 where
     pub was : InletRow I
@@ -173,6 +180,9 @@ module _ {E I O L : Type 0} {e : elements.Ghosts E} (i : inlets.Ghosts I L O) wh
     pub set : RowSet head head' port was is
     pub gave : (got : List Item) → RowGave i was got → RowGave i is (list_after got taken)
     pub stays : StaysIn i tells tells' was is taken
+    pub moves : Moves i tells tells' was is taken
+    pub between : (sents : ℕ → List Item) (got : List Item) → AreApart i was → RowBetween i tells sents was got → RowBetween i tells' sents is (list_after got taken)
+    pub holds : (t : List Lane) (sents : ℕ → List Item) (got : List Item) → tells ≡ Some t → AreApart i was → RowBetween i (Some t) sents was got → HoldsAfter i t tells' was is taken
 
   -- the sink pad has no row
   pub record HasNoRow (head head' : InletHead I) (port : ℕ) (tells tells' : Option (List Lane)) (taken : Taken) : Type 0 where
@@ -182,6 +192,11 @@ module _ {E I O L : Type 0} {e : elements.Ghosts E} (i : inlets.Ghosts I L O) wh
     pub table : tells' ≡ tells
     pub empty : taken ≡ takes.Empty 4294967295
 
+  -- the row of the sink pad was asked, if it has one
+  abbrev pub RowAsked : InletHead I → InletHead I → ℕ → Option (List Lane) → Option (List Lane) → Taken → Type 0
+  RowAsked head head' port tells tells' taken = AsksRow head head' port tells tells' taken ⊎ HasNoRow head head' port tells tells' taken
+
+module _ {E I O L : Type 0} {e : elements.Ghosts E} (i : inlets.Ghosts I L O) where
   abbrev pub AfterTake : List (Part E O e) → List (Part E O e) → ℕ → ℕ → Taken → Result Tried TaskFault → Type 0
   AfterTake parts parts' to port (takes.Empty lane) result = (parts' ≡ parts) × (result ≡ Ok (tried.Stuck (steps.NeedsItem lane)))
   AfterTake parts parts' to port (takes.Item x) result =
@@ -201,7 +216,7 @@ module _ {E I O L : Type 0} {e : elements.Ghosts E} (i : inlets.Ghosts I L O) wh
     pub port : ℕ
     pub wanted : e.wanted part.element ≡ Some port
     pub taken : Taken
-    pub asks : AsksRow head head' port tells tells' taken ⊎ HasNoRow head head' port tells tells' taken
+    pub asks : RowAsked i head head' port tells tells' taken
     pub after : AfterTake parts parts' to port taken result
 
   -- The element that the head feeds was asked what it wants, and took the next item of that row, if there is one now.

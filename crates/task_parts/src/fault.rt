@@ -39,7 +39,10 @@ pub enum TaskFault {
         b: u64,
     },
     /// A buffer was to cross this source pad, which is not linked; so many items had crossed it.
-    NotLinked { pad: u32, place: u64 },
+    NotLinked {
+        pad: u32,
+        place: u64,
+    },
     /// No memory was left for an item.
     OutOfMemory,
 }

@@ -1,13 +1,15 @@
 //! What an element put out goes to its pads.
-ghost use Rattle.std.specs.Prelude.{◌≡◌, ◌||◌, true, vec_len, map};
+ghost use Rattle.std.specs.Prelude.{◌≡◌, true, vec_len, map, [], OnOk};
+ghost use Rattle.task_pads.specs.Behind.{leads_on};
 ghost use Rattle.task_pads.specs.Pads.{rest_of};
 ghost use Rattle.task_pads.specs.Put.{Spread};
-ghost use Rattle.task_parts.specs.Gathered.{are_within, pads_idle, linked_else};
+ghost use Rattle.task_parts.specs.Gathered.{are_within, pads_idle as idle_test, linked_else};
 
 use gst_caps::OutOfMemory;
 use gst_item::Outs;
+use lane_core::Outlet;
 use std::alloc::Global;
-use task_pads::{Behind, Pad, fill, spread};
+use task_pads::{Behind, Pad, fill, first_waiting, spread};
 
 /// What was put out goes to the pads, behind what waits there. Where memory is wanting some of it stays, in its order.
 pub(crate) fn gather<O>(
@@ -19,6 +21,8 @@ pub(crate) fn gather<O>(
     ensures rest { map rest_of pads.new.items ≡ map rest_of pads.old.items }
     ensures spread { Spread out.old out.new pads.old.items pads.new.items }
     ensures within { are_within (vec_len pads.new) out.new ≡ true }
+    ensures number { vec_len pads.new ≡ vec_len pads.old }
+    ensures all { OnOk result (idle_test pads.new.items ≡ true → out.new ≡ []) }
 {
     if out.as_slice().is_empty() {
         return Ok(());
@@ -32,7 +36,7 @@ pub(crate) fn gather<O>(
 
 /// Whether nothing waits at the pads.
 pub(crate) fn pads_idle<O>(pads: &[Pad<O>]) -> bool
-    ensures { result ≡ pads_idle pads.now }
+    ensures { result ≡ idle_test pads.now }
 {
     first_waiting(pads, 0).is_none()
 }

@@ -1,5 +1,8 @@
 //! Where the items of a task come from.
-ghost use Rattle.std.specs.Prelude.{◌≡◌, ◌≤◌};
+ghost use Rattle.std.specs.Prelude.{◌≡◌, ◌≤◌, ◌<◌, ◌^◌, List, IfOk, IfErr, OnErr};
+ghost use Rattle.element_traits.specs.Failures.{IsReadCause, NeverFalls};
+ghost use Rattle.element_traits.specs.Gives.{Gives, count_after};
+ghost use Rattle.flow_model.specs.Item.{Item};
 ghost use Rattle.flow_model.specs.Item.{is_flush_stop as flush_test};
 
 use crate::find::MOST_ITEMS;
@@ -53,9 +56,7 @@ pub(crate) enum Given {
 }
 
 impl<S: TaskSource, O: Outlet> SourceHead<S, O> {
-    ghost use Rattle.std.specs.Prelude.{[], IfOk, IfErr};
-    ghost use Rattle.task_pads.specs.Pads.{pad_shape, rest_of};
-    ghost use Rattle.element_traits.specs.Failures.{IsReadCause};
+    ghost use Rattle.task_pads.specs.Pads.{rest_of};
     ghost use Rattle.task_parts.specs.Head.{SourceGives, SourceKept};
 
     /// A source of this number that gave nothing, with its pad, which nothing crossed.
@@ -77,7 +78,10 @@ impl<S: TaskSource, O: Outlet> SourceHead<S, O> {
     /// The source gives its next item, which waits at its pad. The memory for that is taken before it is asked.
     pub(crate) fn give(&mut self, alloc: Global) -> Result<Given, Unread>
         ensures gives { IfOk result (SourceGives self.old self.new) }
-        ensures kept { IfErr result (λ unread. SourceKept self.old self.new × IsReadCause (S.failures self.old.source) (S.failures self.new.source) unread) }
+        ensures kept { OnErr result (SourceKept self.old self.new) }
+        ensures cause { IfErr result (IsReadCause (S.failures self.old.source) (S.failures self.new.source)) }
+        ensures never_falls { NeverFalls (S.failures self.old.source) (S.failures self.new.source) }
+        ensures file { S.file self.new.source ≡ S.file self.old.source }
         ensures number { self.new.number ≡ self.old.number }
         ensures rest { rest_of self.new.pad ≡ rest_of self.old.pad }
     {
@@ -87,9 +91,8 @@ impl<S: TaskSource, O: Outlet> SourceHead<S, O> {
         if self.pad.make_room().is_err() {
             return Err(Unread::OutOfMemory);
         }
-        match self.source.next(alloc) {
+        match ask(alloc, &mut self.source, &mut self.given) {
             Ok(Some(item)) => {
-                self.given += 1;
                 if is_flush_stop(&item) {
                     return Ok(Given::FlushStop);
                 }
@@ -107,4 +110,30 @@ pub(crate) fn is_flush_stop(item: &Item) -> bool
     ensures { result ≡ flush_test item.now }
 {
     matches!(item, Item::Event(Event::FlushStop { .. }))
+}
+
+/// A source gives its next item, which is counted.
+fn ask<S: TaskSource>(
+    alloc: Global,
+    source: &mut S,
+    given: &mut u64,
+) -> Result<Option<Item>, Unread>
+    requires counts { S.count source.old ≤ given.old }
+    requires few { given.old < 2 ^ 40 }
+    ensures gives { IfOk result (λ next. (owed given : List Item) → S.gave source.old owed given → Gives (S.gave source.new) owed given next) }
+    ensures kept { OnErr result ((owed given : List Item) → S.gave source.old owed given → S.gave source.new owed given) }
+    ensures counted { given.new ≡ count_after result given.old }
+    ensures counts { S.count source.new ≤ given.new }
+    ensures cause { IfErr result (IsReadCause (S.failures source.old) (S.failures source.new)) }
+    ensures never_falls { NeverFalls (S.failures source.old) (S.failures source.new) }
+    ensures file { S.file source.new ≡ S.file source.old }
+{
+    match source.next(alloc) {
+        Ok(Some(item)) => {
+            *given += 1;
+            Ok(Some(item))
+        }
+        Ok(None) => Ok(None),
+        Err(unread) => Err(unread),
+    }
 }

@@ -1,14 +1,19 @@
 //! Elements of a task, with their source pads.
-ghost use Rattle.std.specs.Prelude.{◌≡◌, true, vec_len};
+ghost use Rattle.std.specs.Prelude.{◌≡◌, true, false, List, vec_len, IfErr, OnOk, OnErr};
+ghost use Rattle.flow_model.specs.Call.{Call};
+ghost use Rattle.flow_model.specs.Item.{is_flush_stop};
+ghost use Rattle.flow_model.specs.Rule.{Rule};
+ghost use Rattle.element_traits.specs.Failures.{NeverFalls, IsWriteCause};
+ghost use Rattle.element_traits.specs.Takes.{Takes};
 ghost use Rattle.task_parts.specs.Gathered.{are_within};
 
-use crate::gather::gather;
+use crate::gather::{gather, is_linked_else, pads_idle};
 use element_traits::{Refusal, TaskElement};
 use gst_caps::{List, OutOfMemory};
 use gst_item::{Item, Outs};
 use lane_core::Outlet;
 use std::alloc::Global;
-use task_pads::{Behind, Crossing, Pad};
+use task_pads::{Crossing, Pad};
 
 /// An element of a task, the number that it has in the graph, and its source pads.
 #[derive(Drop)]
@@ -23,10 +28,8 @@ pub struct Part<E: TaskElement, O> {
 }
 
 impl<E: TaskElement, O: Outlet> Part<E, O> {
-    ghost use Rattle.std.specs.Prelude.{◌<◌, ◌≢◌, false, [], Some, None, IfOk, IfErr, OnOk, OnErr, slice_get};
-    ghost use Rattle.flow_model.specs.Item.{is_flush_stop};
-    ghost use Rattle.task_pads.specs.Pads.{PadReady, CanTakeBack, waiting_of};
-    ghost use Rattle.task_parts.specs.Part.{PartSettled, PartFed, PartFell, PartCrossed, PartGave, PartTookBack, PartReady, CanTakeBackAt, is_idle};
+    ghost use Rattle.std.specs.Prelude.{◌<◌, []};
+    ghost use Rattle.task_parts.specs.Part.{PartSettled, IsSettled, PartFed, PartFell, PartCrossed, PartGave, PartTookBack, PartReady, CanTakeBackAt, is_idle};
     ghost use Rattle.task_parts.specs.Shape.{part_shape};
 
     /// An element of this number that took nothing, with its source pads, which nothing crossed.
@@ -86,7 +89,9 @@ impl<E: TaskElement, O: Outlet> Part<E, O> {
 
     /// What was put out goes to its pads.
     pub(crate) fn settle(&mut self, alloc: Global) -> Result<(), OutOfMemory>
-        ensures { PartSettled self.old self.new }
+        ensures settled { PartSettled self.old self.new }
+        ensures all { OnOk result (IsSettled self.new) }
+        ensures shape { part_shape self.new ≡ part_shape self.old }
     {
         gather(alloc, &mut self.pads, &mut self.out)
     }
@@ -98,7 +103,7 @@ impl<E: TaskElement, O: Outlet> Part<E, O> {
         ensures fell { IfErr result (PartFell self.old self.new pad item) }
         ensures shape { part_shape self.new ≡ part_shape self.old }
     {
-        match self.element.feed(alloc, pad, item, &mut self.out) {
+        match eat(alloc, &mut self.element, &mut self.out, pad, item) {
             Ok(()) => {
                 self.pour(alloc);
                 Ok(())
@@ -109,7 +114,8 @@ impl<E: TaskElement, O: Outlet> Part<E, O> {
 
     /// What was put out goes to its pads, as far as there is memory.
     fn pour(&mut self, alloc: Global)
-        ensures { PartSettled self.old self.new }
+        ensures settled { PartSettled self.old self.new }
+        ensures shape { part_shape self.new ≡ part_shape self.old }
     {
         if gather(alloc, &mut self.pads, &mut self.out).is_err() {}
     }
@@ -140,4 +146,27 @@ impl<E: TaskElement, O: Outlet> Part<E, O> {
     {
         self.pads[port].take_back();
     }
+}
+
+/// An element takes an item, and what it puts out goes behind what it put out before.
+fn eat<E: TaskElement>(
+    alloc: Global,
+    element: &mut E,
+    out: &mut Outs,
+    pad: u32,
+    item: Item,
+) -> Result<(), Refusal>
+    requires within { are_within (E.ports element.old) out.old ≡ true }
+    requires no_flush { is_flush_stop item ≡ false }
+    ensures took { OnOk result (Takes (E.stands element.old) (E.stands element.new) (E.ports element.old) pad item out.old out.new) }
+    ensures fell { OnErr result ((rule : Rule) (took : List (List Call)) → E.stands element.old rule took → E.fell element.new rule took pad item) }
+    ensures refused { IfErr result (λ refusal. (rule : Rule) (took : List (List Call)) → E.stands element.old rule took → E.refuses element.old rule took pad item refusal) }
+    ensures out { OnErr result (out.new ≡ out.old) }
+    ensures cause { IfErr result (IsWriteCause (E.failures element.old) (E.failures element.new)) }
+    ensures never_falls { NeverFalls (E.failures element.old) (E.failures element.new) }
+    ensures ports { E.ports element.new ≡ E.ports element.old }
+    ensures file { E.file element.new ≡ E.file element.old }
+    ensures within { are_within (E.ports element.new) out.new ≡ true }
+{
+    element.feed(alloc, pad, item, out)
 }

@@ -1,19 +1,22 @@
 //! What one try of a pad, or of a head, moves.
-ghost use Rattle.std.specs.Prelude.{◌≡◌, ◌<◌, ◌⊎◌, true, map, vec_len, Some, slice_get};
-ghost use Rattle.task_parts.specs.Part.{PartReady};
-ghost use Rattle.task_parts.specs.Passing.{CrossesPart, CrossesSource, GivesAs, TakesNext, Settles, HasPort, InletsReady, AsksRow, HasNoRow};
+ghost use Rattle.std.specs.Prelude.{◌≡◌, ◌<◌, ◌⊎◌, true, false, map, vec_len, Some, slice_get, OnOk};
+ghost use Rattle.flow_model.specs.Item.{is_flush_stop as is_flush_item};
+ghost use Rattle.task_parts.specs.Part.{PartReady, IsSettled};
+ghost use Rattle.task_parts.specs.Passing.{CrossesPart, CrossesSource, GivesAs, TakesNext, Settles, HasPort, InletsReady, RowAsked, RowFeeds};
 ghost use Rattle.task_pads.specs.Pads.{PadReady, crossed_count, goes_of, number_of, pad_shape, rest_of};
+ghost use Rattle.element_traits.specs.Failures.{NeverFalls};
 ghost use Rattle.task_parts.specs.Shape.{goes_within, has_number, pads_within, part_shape};
 ghost use Rattle.task_parts.specs.declared.fault.TaskFault.TheVariants.{NotLinked as NotLinkedFault, TooLong as TooLongFault};
 
 use crate::fault::TaskFault;
 use crate::find::{MOST_ITEMS, find};
 use crate::head::{Given, InletHead, SourceHead, is_flush_stop};
-use crate::moving::hand_on;
+use crate::moving::{hand_in, hand_on};
 use crate::part::Part;
 use crate::step::{Step, Tried};
 use element_traits::{TaskElement, TaskSource};
 use gst_caps::OutOfMemory;
+use gst_item::Item;
 use inlet_row::{Taken, UNLINKED};
 use lane_core::{Inlet, Outlet};
 use std::alloc::Global;
@@ -27,6 +30,7 @@ pub fn settle<E: TaskElement, O: Outlet>(
 ) -> Result<(), OutOfMemory>
     requires place { place < vec_len parts.old }
     ensures settled { Settles parts.old.items parts.new.items place }
+    ensures all { OnOk result ((part : _) → slice_get parts.new.items place ≡ Some part → IsSettled part) }
     ensures shape { map part_shape parts.new.items ≡ map part_shape parts.old.items }
 {
     parts[place].settle(alloc)
@@ -41,7 +45,8 @@ pub fn cross_part<E: TaskElement, O: Outlet>(
     place: usize,
     port: usize,
 ) -> Result<Tried, TaskFault>
-    requires closed { (part : _) → slice_get parts.old.items place ≡ Some part → pads_within (map part_shape parts.old.items) (map pad_shape part.pads.items) ≡ true }
+    requires closed { (part : _) → slice_get parts.old.items place ≡ Some part
+        → pads_within (map part_shape parts.old.items) (map pad_shape part.pads.items) ≡ true }
     requires at { HasPort parts.old.items place port }
     requires ready { (part : _) → slice_get parts.old.items place ≡ Some part → PartReady O.Outlet (O.tells lanes.old) part }
     ensures crosses { CrossesPart O.Outlet parts.old.items parts.new.items place port (O.tells lanes.old) (O.tells lanes.new) result }
@@ -114,15 +119,9 @@ pub fn cross_source<S: TaskSource, E: TaskElement, O: Outlet>(
         Crossing::OutOfMemory => Err(TaskFault::OutOfMemory),
         Crossing::To { number, hint, pad } => {
             let to = find(parts.as_slice(), number, hint);
-            let Some(item) = head.pad.take() else {
-                unreachable!()
-            };
-            match parts[to].feed(alloc, pad, item) {
+            match hand_in(alloc, &mut head.pad, parts, to, pad) {
                 Ok(()) => Ok(Tried::Moved),
-                Err(refusal) => {
-                    head.pad.take_back();
-                    Err(TaskFault::refused(number, refusal))
-                }
+                Err(refusal) => Err(TaskFault::refused(number, refusal)),
             }
         }
     }
@@ -134,6 +133,8 @@ pub fn give<S: TaskSource, O: Outlet>(
     head: &mut SourceHead<S, O>,
 ) -> Result<Tried, TaskFault>
     ensures gives { GivesAs head.old head.new result }
+    ensures never_falls { NeverFalls (S.failures head.old.source) (S.failures head.new.source) }
+    ensures file { S.file head.new.source ≡ S.file head.old.source }
     ensures number { head.new.number ≡ head.old.number }
     ensures rest { rest_of head.new.pad ≡ rest_of head.old.pad }
 {
@@ -168,18 +169,35 @@ pub fn take<E: TaskElement, I: Inlet<Out = O>, O: Outlet<Lanes = I::Lanes>>(
             if is_flush_stop(&item) {
                 return Ok(Tried::Moved);
             }
-            match parts[to].feed(alloc, port, item) {
-                Ok(()) => Ok(Tried::Moved),
-                Err(refusal) => Err(TaskFault::refused(parts[to].number(), refusal)),
-            }
+            feed_row(alloc, parts, to, port, item)
         }
+    }
+}
+
+/// The element at a place takes an item that came from the row of a sink pad.
+fn feed_row<E: TaskElement, O: Outlet>(
+    alloc: Global,
+    parts: &mut Vec<Part<E, O>>,
+    to: usize,
+    port: u32,
+    item: Item,
+) -> Result<Tried, TaskFault>
+    requires to { to < vec_len parts.old }
+    requires no_flush { is_flush_item item ≡ false }
+    ensures feeds { RowFeeds parts.old.items parts.new.items to port item result }
+    ensures shape { map part_shape parts.new.items ≡ map part_shape parts.old.items }
+{
+    let number = parts[to].number();
+    match parts[to].feed(alloc, port, item) {
+        Ok(()) => Ok(Tried::Moved),
+        Err(refusal) => Err(TaskFault::refused(number, refusal)),
     }
 }
 
 /// The next item of the row of a sink pad, if there is one now.
 fn take_row<I: Inlet>(head: &mut InletHead<I>, lanes: &mut I::Lanes, port: u32) -> Taken
     requires ready { InletsReady I.Inlet (I.Out.tells lanes.old) head.old }
-    ensures { AsksRow I.Inlet head.old head.new port (I.Out.tells lanes.old) (I.Out.tells lanes.new) result ⊎ HasNoRow I.Inlet head.old head.new port (I.Out.tells lanes.old) (I.Out.tells lanes.new) result }
+    ensures { RowAsked I.Inlet head.old head.new port (I.Out.tells lanes.old) (I.Out.tells lanes.new) result }
 {
     let port = port as usize;
     if port >= head.rows.len() {
