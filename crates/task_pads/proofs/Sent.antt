@@ -1,14 +1,13 @@
 -- What a crossing does, by its two parts.
-use Rattle.std.proofs.Common.{◌≡◌, ◌≢◌, ◌<◌, ◌≤◌, ◌+◌, ℕ, Bool, true, false, List, [], ◌∷◌, ◌++◌, length, drop, Option, Some, None, refl, sym, ap, ◌∙◌, subst, arith}
+use Rattle.std.proofs.Common.{◌≡◌, ◌+◌, ℕ, Bool, true, false, List, [], ◌∷◌, ◌++◌, drop, Option, Some, None, refl, sym, ap, ◌∙◌, subst, arith}
 use Rattle.std.specs.Option.{ForSome}
 use Rattle.std.proofs.lemmas.List.{length_push, drop-append-le}
-use Rattle.gst_item.specs.declared.out.Out.{Out}
 use Rattle.flow_model.specs.Item.{Item, is_buffer}
 use Rattle.lane_core.specs.declared.ends.Outlet as outlets
 use Rattle.lane_core.specs.declared.ends.Put.TheVariants.{Stored, Full as Back}
 use Rattle.lane_core.specs.Lane.{Lane, IsIn, IsOf, IsBetween}
-use Rattle.lane_core.specs.Moves.{raised, table_after_put, AnswersRoom, IsPut}
-use Rattle.lane_core.specs.Room.{Limits, told_of}
+use Rattle.lane_core.specs.Moves.{raised, table_after_put, AnswersRoom}
+use Rattle.lane_core.specs.Room.{told_of}
 use Rattle.lane_core.proofs.Between.{put_keeps_lanes, put_keeps_others, put_keeps_other_room, put_keeps_room, put_by_lane}
 use Rattle.pad_core.specs.declared.src_pad.SrcPad.{SrcPad}
 use Rattle.pad_core.specs.Crossing.{PadState}
@@ -18,7 +17,7 @@ use Rattle.task_pads.specs.declared.pad.Behind.{Behind}
 use Rattle.task_pads.specs.declared.pad.Behind.TheVariants as behinds
 use Rattle.task_pads.specs.declared.crossing.Crossing.{Crossing}
 use Rattle.task_pads.specs.declared.crossing.Crossing.TheVariants.{Idle, To, Gone, Full, AtProbe, NotLinked, BehindEos, AtLimit, OutOfMemory}
-use Rattle.task_pads.specs.Behind.{goes, over, leads_on, LaneEnd, lane_end, end_in, place_in, EndReady, WentIn, SentIn}
+use Rattle.task_pads.specs.Behind.{goes, over, leads_on, LaneEnd, lane_end, end_in, place_in, EndReady, IsUnderLimit, WentIn, SentIn}
 use Rattle.task_pads.specs.Pads.{Seen, setting_of, IsLoose, KeepsTable}
 use Rattle.task_pads.specs.Passing.{Counted, IsStored, IsRefused, IsTakenBack, WentBy, RefusedBy, HasPassed}
 use Rattle.task_pads.specs.Crossing.{Came, WentAway, IsFull}
@@ -64,6 +63,19 @@ module _ {O L : Type 0} (o : outlets.Ghosts O L) where
     end = rw (frame.0, frame.1, frame.2, count, refusals) refl;
     table = table;
     holds = λ list got h b. put_by_lane (o.place outlet) (o.limits outlet) (Back back) tells list got (o.reading outlet') (room list h) (received list got h b) b;
+  }
+
+  -- the lane had room
+  pub stored : (outlet outlet' : O) (item : Item) (tells tells' : Option (List Lane)) → (o.id outlet' ≡ o.id outlet) × (o.place outlet' ≡ o.place outlet) × (o.limits outlet' ≡ o.limits outlet)
+      → o.count outlet' ≡ o.count outlet + 1 → o.refusals outlet' ≡ o.refusals outlet → ((list : List Item) → o.sent outlet list → AnswersRoom (o.limits outlet) list (o.reading outlet') Stored)
+      → ((list : List Item) → o.sent outlet list → o.sent outlet' (list ++ item ∷ [])) → tells' ≡ table_after_put (o.place outlet) item Stored tells
+      → ((list got : List Item) → o.sent outlet list → IsBetween tells (o.place outlet) list got → ForSome tells (λ t. o.reading outlet' ≡ told_of got))
+      → IsStored o outlet outlet' item tells tells'
+  stored outlet outlet' item tells tells' frame count refusals room sent table received = record {
+    sent = sent;
+    end = rw (frame.0, frame.1, frame.2, count, refusals) refl;
+    table = table;
+    holds = λ list got h b. put_by_lane (o.place outlet) (o.limits outlet) Stored tells list got (o.reading outlet') (room list h) (received list got h b) b;
   }
 
   -- the table behind what passed
@@ -157,14 +169,16 @@ module _ {O L : Type 0} (o : outlets.Ghosts O L) where
   went_way item old new sibling tells tells' behinds.Nothing e peer nobody w = (w.1, λ h k. nobody h k peer)
   went_way item old new sibling tells tells' (behinds.Element number hint pad) e peer nobody w = absurd w
   went_way item old new sibling tells tells' (behinds.Lane lane element pad from outlet) e peer nobody w =
-      (lane_end o outlet, ap (end_in o) e, ap (end_in o) w.1 ∙ ap Some w.2.end, w.2.table)
+      (lane_end o outlet, ap (end_in o) e, ap (end_in o) w.1 ∙ ap Some w.2.end, w.2.table, λ sent got k b. w.2.holds sent got (subst (λ (z : Behind O). WentIn o z sent) e k) b)
 
-  module _ (old : Seen O) (src : SrcPad) (item : Item) (rest : List Item) (sibling : Bool) (waited : old.waiting ≡ item ∷ rest) (c : Counted old.src src item sibling) where
+  module _ (old : Seen O) (src : SrcPad) (item : Item) (rest : List Item) (sibling : Bool) (waited : old.waiting ≡ item ∷ rest) (c : Counted old.src src item sibling)
+      (few : IsUnderLimit (crossed_of old.src) (end_in o old.behind)) where
     back_full : (new : Seen O) (number : ℕ) (tells tells' : Option (List Lane)) (back : Item) → new.waiting ≡ item ∷ rest → IsTakenBack src new.src
         → (b : Behind O) → old.behind ≡ b → goes new.behind ≡ goes old.behind → RefusedBy o back number b new.behind tells tells' → IsFull o old new number tells tells'
     back_full new number tells tells' back waits t behinds.Nothing e leads w = absurd w
     back_full new number tells tells' back waits t (behinds.Element element hint pad) e leads w = absurd w
     back_full new number tells tells' back waits t (behinds.Lane lane element pad from outlet) e leads w = record {
+      few = few;
       item = item;
       rest = rest;
       waited = waited;
@@ -175,6 +189,7 @@ module _ {O L : Type 0} (o : outlets.Ghosts O L) where
       to = ap (λ (z : Behind O). goes z) e ∙ ap (λ (k : ℕ). over k element pad from) (sym w.1);
       setting = t.setting ∙ c.setting;
       leads = leads;
+      passes = c.passes;
       history = λ h k. t.history h item (c.history h k);
       counted = omega (arith, t.counted, c.counted);
       sent = λ h k. subst (λ (z : Behind O). SentIn o z h) (sym w.2)
@@ -192,6 +207,7 @@ module _ {O L : Type 0} (o : outlets.Ghosts O L) where
     passed_came new tells tells' Idle peer p = absurd p
     passed_came new tells tells' (To number hint pad) peer p = (
       record {
+        few = few;
         item = item;
         rest = rest;
         waited = waited;
@@ -200,6 +216,7 @@ module _ {O L : Type 0} (o : outlets.Ghosts O L) where
         near = p.3;
         setting = ap (λ (z : Seen O). setting_of z.src) p.0 ∙ c.setting;
         behind = ap (λ (z : Seen O). z.behind) p.0;
+        passes = c.passes;
         history = λ h k. subst (λ (z : Seen O). CrossedBy z.src (h ++ item ∷ [])) (sym p.0) (c.history h k);
         counted = ap (λ (z : Seen O). crossed_of z.src) p.0 ∙ c.counted;
         back = subst (λ (z : Seen O). IsLoose z.src) (sym p.0) c.back;
@@ -209,10 +226,12 @@ module _ {O L : Type 0} (o : outlets.Ghosts O L) where
     passed_came new tells tells' Gone peer p =
         let same : p.0 ≡ item = cc (p.1, waited) in
         let went : WentBy o item old.behind new.behind tells tells' = subst (λ (x : Item). WentBy o x old.behind new.behind tells tells') same p.3 in record {
+          few = few;
           item = item;
           waited = p.1 ∙ ap (λ (x : Item). x ∷ new.waiting) same;
           setting = ap setting_of p.2 ∙ c.setting;
           leads = went_leads item old.behind new.behind tells tells' went;
+          passes = c.passes;
           history = λ h k. subst (λ (z : SrcPad). CrossedBy z (h ++ item ∷ [])) (sym p.2) (c.history h k);
           counted = ap crossed_of p.2 ∙ c.counted;
           sent = λ h k. went_sent item old.behind new.behind tells tells' went h;

@@ -1,9 +1,9 @@
 -- What is behind a source pad, and what is told of the lane there.
-use Rattle.std.specs.Prelude.{◌≡◌, ◌≤◌, ◌+◌, ℕ, Bool, true, false, List, [], ◌∷◌, length, drop, map, Option, None, Some}
+use Rattle.std.specs.Prelude.{◌≡◌, ◌≤◌, ◌<◌, ℕ, Bool, true, false, List, length, drop, map, Option, None, Some}
 use Rattle.gst_item.specs.declared.out.Out.{Out}
 use Rattle.flow_model.specs.Item.{Item}
 use Rattle.lane_core.specs.declared.ends.Outlet as outlets
-use Rattle.lane_core.specs.Lane.{Lane, IsOf, IsBetween}
+use Rattle.lane_core.specs.Lane.{Lane, IsOf}
 use Rattle.lane_core.specs.Room.{Limits}
 use Rattle.task_pads.specs.declared.pad.Behind.{Behind}
 use Rattle.task_pads.specs.declared.pad.Behind.TheVariants as behinds
@@ -63,6 +63,10 @@ count_in (Some end) = end.count
 abbrev pub place_in : Option LaneEnd → Option ℕ
 place_in None = None
 place_in (Some end) = Some end.place
+
+-- where a limit of 2^40 is not reached: of the items that crossed a pad, and of those that went into its lane
+abbrev pub IsUnderLimit : ℕ → Option LaneEnd → Type 0
+IsUnderLimit crossed end = (crossed < 1099511627776) × (count_in end < 1099511627776)
 
 -- the lane is of the table, has its room, and holds no more than were sent
 abbrev pub EndReady : Option (List Lane) → Option LaneEnd → Type 0

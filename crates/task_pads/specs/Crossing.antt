@@ -1,5 +1,5 @@
 -- What came of the oldest item that waits at a pad.
-use Rattle.std.specs.Prelude.{◌≡◌, ◌≢◌, ◌≤◌, ◌⊎◌, ◌+◌, ℕ, Bool, true, false, List, [], ◌∷◌, ◌++◌, Option, None, Some}
+use Rattle.std.specs.Prelude.{◌≡◌, ◌≢◌, ◌≤◌, ◌⊎◌, ◌+◌, ℕ, Bool, true, false, List, [], ◌∷◌, ◌++◌, Option, Some}
 use Rattle.flow_model.specs.Item.{Item, is_buffer, buffers}
 use Rattle.lane_core.specs.declared.ends.Outlet as outlets
 use Rattle.lane_core.specs.declared.ends.Put.TheVariants.{Stored, Full as Back}
@@ -11,12 +11,13 @@ use Rattle.pad_core.specs.SrcPad.{CrossedBy, state_of, crossed_of}
 use Rattle.task_pads.specs.declared.pad.Pad.{Pad}
 use Rattle.task_pads.specs.declared.crossing.Crossing.{Crossing}
 use Rattle.task_pads.specs.declared.crossing.Crossing.TheVariants.{Idle, To, Gone, Full, AtProbe, NotLinked, BehindEos, AtLimit, OutOfMemory}
-use Rattle.task_pads.specs.Behind.{Goes, nowhere, inside, over, goes, hint_in, LaneEnd, end_in, count_in, WentIn, SentIn}
-use Rattle.task_pads.specs.Pads.{Seen, seen, setting_of, IsLoose, StandsAs}
+use Rattle.task_pads.specs.Behind.{Goes, nowhere, inside, over, goes, hint_in, LaneEnd, end_in, count_in, IsUnderLimit, WentIn, SentIn}
+use Rattle.task_pads.specs.Pads.{Seen, seen, setting_of, is_kept, Passes, IsLoose, StandsAs}
 
 module _ {O L : Type 0} (o : outlets.Ghosts O L) where
   -- It crossed to an element of the task, and still waits first.
   pub record Crosses (old new : Seen O) (number hint pad : ℕ) : Type 0 where
+    pub few : IsUnderLimit (crossed_of old.src) (end_in o old.behind)
     pub item : Item
     pub rest : List Item
     pub waited : old.waiting ≡ item ∷ rest
@@ -25,6 +26,7 @@ module _ {O L : Type 0} (o : outlets.Ghosts O L) where
     pub near : hint_in old.behind ≡ Some hint
     pub setting : setting_of new.src ≡ setting_of old.src
     pub behind : new.behind ≡ old.behind
+    pub passes : (h : List Item) → CrossedBy old.src h → Passes old.src item h
     pub history : (h : List Item) → CrossedBy old.src h → CrossedBy new.src (h ++ item ∷ [])
     pub counted : crossed_of new.src ≡ crossed_of old.src + 1
     pub back : IsLoose new.src
@@ -37,13 +39,16 @@ module _ {O L : Type 0} (o : outlets.Ghosts O L) where
   WentAway item old new sibling tells tells' (over lane element pad from) =
       (end : LaneEnd) × (end_in o old.behind ≡ Some end) × (end_in o new.behind ≡ Some (record end { count = end.count + 1 }))
       × (tells' ≡ table_after_put end.place item Stored tells)
+      × ((sent got : List Item) → WentIn o old.behind sent → IsBetween tells end.place sent got → HoldsFor end.place end.limits Stored tells)
 
   -- It crossed into the pad's lane, or to nobody, and does not wait any more.
   pub record IsGone (old new : Seen O) (sibling : Bool) (tells tells' : Option (List Lane)) : Type 0 where
+    pub few : IsUnderLimit (crossed_of old.src) (end_in o old.behind)
     pub item : Item
     pub waited : old.waiting ≡ item ∷ new.waiting
     pub setting : setting_of new.src ≡ setting_of old.src
     pub leads : goes new.behind ≡ goes old.behind
+    pub passes : (h : List Item) → CrossedBy old.src h → Passes old.src item h
     pub history : (h : List Item) → CrossedBy old.src h → CrossedBy new.src (h ++ item ∷ [])
     pub counted : crossed_of new.src ≡ crossed_of old.src + 1
     pub sent : (h : List Item) → CrossedBy old.src h → SentIn o old.behind h → SentIn o new.behind (h ++ item ∷ [])
@@ -51,6 +56,7 @@ module _ {O L : Type 0} (o : outlets.Ghosts O L) where
 
   -- The lane of this number has no room: the item waits first, and one refusal more is counted.
   pub record IsFull (old new : Seen O) (lane : ℕ) (tells tells' : Option (List Lane)) : Type 0 where
+    pub few : IsUnderLimit (crossed_of old.src) (end_in o old.behind)
     pub item : Item
     pub rest : List Item
     pub waited : old.waiting ≡ item ∷ rest
@@ -61,6 +67,7 @@ module _ {O L : Type 0} (o : outlets.Ghosts O L) where
     pub to : goes old.behind ≡ over lane element pad from
     pub setting : setting_of new.src ≡ setting_of old.src
     pub leads : goes new.behind ≡ goes old.behind
+    pub passes : (h : List Item) → CrossedBy old.src h → Passes old.src item h
     pub history : (h : List Item) → CrossedBy old.src h → CrossedBy new.src h
     pub counted : crossed_of new.src ≡ crossed_of old.src
     pub sent : (h : List Item) → SentIn o old.behind h → SentIn o new.behind h
@@ -72,30 +79,42 @@ module _ {O L : Type 0} (o : outlets.Ghosts O L) where
 
   -- An item waits first, and the pad stands as it stood.
   pub record IsStopped (old new : Seen O) (Why : Item → List Item → Type 0) (tells tells' : Option (List Lane)) : Type 0 where
+    pub few : IsUnderLimit (crossed_of old.src) (end_in o old.behind)
     pub item : Item
     pub rest : List Item
     pub waited : old.waiting ≡ item ∷ rest
     pub waits : new.waiting ≡ item ∷ rest
     pub stands : StandsAs o old new
+    pub behind : new.behind ≡ old.behind
     pub table : tells' ≡ tells
     -- what is so of it at the pad that these items crossed
     pub why : (h : List Item) → CrossedBy old.src h → Why item h
 
   -- EOS has crossed the pad: the item is given up.
   pub record IsBehindEos (old new : Seen O) (tells tells' : Option (List Lane)) : Type 0 where
+    pub few : IsUnderLimit (crossed_of old.src) (end_in o old.behind)
     pub item : Item
     pub waited : old.waiting ≡ item ∷ new.waiting
     pub stands : StandsAs o old new
+    pub behind : new.behind ≡ old.behind
     pub table : tells' ≡ tells
     pub why : (h : List Item) → CrossedBy old.src h → has_ended h ≡ true
 
   -- a buffer stands at the probe of this command, which counted as many as crossed
   abbrev pub IsAtProbe : Seen O → ℕ → Item → List Item → Type 0
-  IsAtProbe old command item h = (is_buffer item ≡ true) × ((state_of old.src).probe ≡ Some (record { command = command; buffers = buffers h }))
+  IsAtProbe old command item h = (has_ended h ≡ false) × (is_buffer item ≡ true) × ((state_of old.src).probe ≡ Some (record { command = command; buffers = buffers h }))
 
   -- a buffer would reach nobody
   abbrev pub IsNotLinked : Seen O → Bool → Item → List Item → Type 0
-  IsNotLinked old sibling item h = (is_buffer item ≡ true) × (goes old.behind ≡ nowhere) × (sibling ≡ false)
+  IsNotLinked old sibling item h = Passes old.src item h × (is_buffer item ≡ true) × (goes old.behind ≡ nowhere) × (sibling ≡ false)
+
+  -- A copy of a sticky event is wanted, which waits first.
+  pub record WantsMemory (old : Seen O) : Type 0 where
+    pub few : IsUnderLimit (crossed_of old.src) (end_in o old.behind)
+    pub item : Item
+    pub rest : List Item
+    pub waited : old.waiting ≡ item ∷ rest
+    pub sticky : is_kept item ≡ true
 
   abbrev pub Came : Seen O → Seen O → Option (List Lane) → Option (List Lane) → Bool → Crossing → Type 0
   Came old new tells tells' sibling Idle = (old.waiting ≡ []) × (new ≡ old) × (tells' ≡ tells)
@@ -107,7 +126,7 @@ module _ {O L : Type 0} (o : outlets.Ghosts O L) where
   Came old new tells tells' sibling BehindEos = IsBehindEos old new tells tells'
   Came old new tells tells' sibling AtLimit =
       (old.waiting ≢ []) × ((1099511627776 ≤ crossed_of old.src) ⊎ (1099511627776 ≤ count_in (end_in o old.behind))) × (new ≡ old) × (tells' ≡ tells)
-  Came old new tells tells' sibling OutOfMemory = (old.waiting ≢ []) × (new ≡ old) × (tells' ≡ tells)
+  Came old new tells tells' sibling OutOfMemory = WantsMemory old × (new ≡ old) × (tells' ≡ tells)
 
   abbrev pub IsCrossing : Pad O → Pad O → Option (List Lane) → Option (List Lane) → Bool → Crossing → Type 0
   IsCrossing old new tells tells' sibling crossing = Came (seen old) (seen new) tells tells' sibling crossing

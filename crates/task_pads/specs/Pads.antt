@@ -1,18 +1,18 @@
 -- Source pads of a task, as they are seen.
-use Rattle.std.specs.Prelude.{◌≡◌, ◌≢◌, ◌<◌, ℕ, List, [], ◌∷◌, Option, None, Some}
+use Rattle.std.specs.Prelude.{◌≡◌, ◌≢◌, ◌<◌, ℕ, Bool, false, List, Option, None, Some}
 use Rattle.std.specs.VecDeque.{deque_len, deque_capacity}
 use Rattle.gst_item.specs.declared.out.Out.{Out}
-use Rattle.flow_model.specs.Item.{Item}
+use Rattle.flow_model.specs.Item.{Item, Buf, Ev, is_sticky, buffers}
 use Rattle.lane_core.specs.declared.ends.Outlet as outlets
 use Rattle.lane_core.specs.Lane.{Lane, IsIn, IsOf, IsBetween}
 use Rattle.lane_core.specs.Room.{Limits}
 use Rattle.pad_core.specs.declared.src_pad.SrcPad.{SrcPad}
 use Rattle.pad_core.specs.declared.probe.Probe.{Probe}
-use Rattle.pad_core.specs.Crossing.{PadState}
+use Rattle.pad_core.specs.Crossing.{PadState, has_ended, stopped_by}
 use Rattle.pad_core.specs.SrcPad.{CrossedBy, state_of, crossed_of, before}
 use Rattle.task_pads.specs.declared.pad.Pad.{Pad}
 use Rattle.task_pads.specs.declared.pad.Behind.{Behind}
-use Rattle.task_pads.specs.Behind.{Goes, LaneEnd, EndReady, end_in, WentIn, SentIn, goes, hint_in, place_in, items_of}
+use Rattle.task_pads.specs.Behind.{Goes, LaneEnd, EndReady, end_in, WentIn, SentIn, goes, hint_in, items_of}
 
 -- A pad: what counts at it, what waits there, oldest first, and what is behind it.
 pub record Seen (O : Type 0) : Type 0 where
@@ -60,6 +60,15 @@ pad_shape pad = record { number = number_of pad; goes = goes_of pad }
 -- how a pad is set, but for the copy of a sticky event that is laid by
 abbrev pub setting_of : SrcPad → PadState
 setting_of src = record (state_of src) { kept = None }
+
+-- a sticky event, of which a copy is laid by before it crosses
+abbrev pub is_kept : Item → Bool
+is_kept (Buf b) = false
+is_kept (Ev e) = is_sticky e
+
+-- at a pad that these items crossed, neither EOS nor a probe stops an item
+abbrev pub Passes : SrcPad → Item → List Item → Type 0
+Passes src item h = (has_ended h ≡ false) × (stopped_by (state_of src).probe (buffers h) item ≡ None)
 
 -- its last crossing can be taken back, and it is then set as it is
 pub record IsLoose (src : SrcPad) : Type 0 where

@@ -1,5 +1,5 @@
 -- The two parts of a crossing: the pad is offered the item, and what crossed goes to what is behind the pad.
-use Rattle.std.specs.Prelude.{◌≡◌, ◌≢◌, ◌+◌, ℕ, Bool, true, false, List, [], ◌∷◌, ◌++◌, Option, Some}
+use Rattle.std.specs.Prelude.{◌≡◌, ◌+◌, ℕ, Bool, true, false, List, [], ◌∷◌, ◌++◌, Option, Some}
 use Rattle.flow_model.specs.Item.{Item, is_buffer, buffers}
 use Rattle.lane_core.specs.declared.ends.Outlet as outlets
 use Rattle.lane_core.specs.declared.ends.Put.TheVariants.{Stored, Full as Back}
@@ -16,8 +16,8 @@ use Rattle.task_pads.specs.declared.crossing.Crossing.{Crossing}
 use Rattle.task_pads.specs.declared.crossing.Crossing.TheVariants.{To, Gone, Full}
 use Rattle.task_pads.specs.declared.offer.Answer.{Answer}
 use Rattle.task_pads.specs.declared.offer.Answer.TheVariants.{Crosses, AtProbe, NotLinked, BehindEos, OutOfMemory}
-use Rattle.task_pads.specs.Behind.{Goes, nowhere, inside, over, goes, hint_in, LaneEnd, lane_end, end_in}
-use Rattle.task_pads.specs.Pads.{Seen, setting_of, IsLoose}
+use Rattle.task_pads.specs.Behind.{inside, goes, hint_in, lane_end}
+use Rattle.task_pads.specs.Pads.{Seen, setting_of, is_kept, Passes, IsLoose}
 
 -- The item crossed: it is counted, and that can be taken back.
 pub record Counted (old new : SrcPad) (item : Item) (sibling : Bool) : Type 0 where
@@ -25,6 +25,7 @@ pub record Counted (old new : SrcPad) (item : Item) (sibling : Bool) : Type 0 wh
   pub counted : crossed_of new ≡ crossed_of old + 1
   pub setting : setting_of new ≡ setting_of old
   pub back : IsLoose new
+  pub passes : (h : List Item) → CrossedBy old h → Passes old item h
   pub nobody : (h : List Item) → CrossedBy old h → has_peer (state_of old).peer ≡ false → is_buffer item ≡ true → sibling ≡ true
 
 -- It did not cross: the pad stays, but for the copy of a sticky event.
@@ -37,10 +38,10 @@ pub record Waits (old new : SrcPad) (Why : List Item → Type 0) : Type 0 where
 abbrev pub IsOffered : SrcPad → SrcPad → Item → Bool → Answer → Type 0
 IsOffered old new item sibling Crosses = Counted old new item sibling
 IsOffered old new item sibling (AtProbe command) =
-    Waits old new (λ h. (is_buffer item ≡ true) × ((state_of old).probe ≡ Some (record { command = command; buffers = buffers h })))
-IsOffered old new item sibling NotLinked = Waits old new (λ h. (is_buffer item ≡ true) × (has_peer (state_of old).peer ≡ false) × (sibling ≡ false))
+    Waits old new (λ h. (has_ended h ≡ false) × (is_buffer item ≡ true) × ((state_of old).probe ≡ Some (record { command = command; buffers = buffers h })))
+IsOffered old new item sibling NotLinked = Waits old new (λ h. Passes old item h × (is_buffer item ≡ true) × (has_peer (state_of old).peer ≡ false) × (sibling ≡ false))
 IsOffered old new item sibling BehindEos = Waits old new (λ h. has_ended h ≡ true)
-IsOffered old new item sibling OutOfMemory = new ≡ old
+IsOffered old new item sibling OutOfMemory = (new ≡ old) × (is_kept item ≡ true)
 
 -- A crossing was taken back.
 pub record IsTakenBack (old new : SrcPad) : Type 0 where
@@ -54,6 +55,7 @@ module _ {O L : Type 0} (o : outlets.Ghosts O L) where
     pub sent : (list : List Item) → o.sent outlet list → o.sent outlet' (list ++ item ∷ [])
     pub end : lane_end o outlet' ≡ record (lane_end o outlet) { count = o.count outlet + 1 }
     pub table : tells' ≡ table_after_put (o.place outlet) item Stored tells
+    pub holds : (list got : List Item) → o.sent outlet list → IsBetween tells (o.place outlet) list got → HoldsFor (o.place outlet) (o.limits outlet) Stored tells
 
   -- The lane refused it.
   pub record IsRefused (outlet outlet' : O) (item : Item) (tells tells' : Option (List Lane)) : Type 0 where

@@ -58,7 +58,8 @@ pub(crate) fn cross<O: Outlet>(
     requires linked { has_peer (state_of src.old).peer ≡ leads_on behind.old }
     requires no_flush { has_flush_stop (items_of waiting.old.items) ≡ false }
     requires table { EndReady (O.tells lanes.old) (end_in O.Outlet behind.old) }
-    ensures came { Came O.Outlet (seen_in src.old waiting.old.items behind.old) (seen_in src.new waiting.new.items behind.new) (O.tells lanes.old) (O.tells lanes.new) sibling result }
+    ensures came { Came O.Outlet (seen_in src.old waiting.old.items behind.old) (seen_in src.new waiting.new.items behind.new)
+        (O.tells lanes.old) (O.tells lanes.new) sibling result }
     ensures setting { setting_of src.new ≡ setting_of src.old }
     ensures goes { goes behind.new ≡ goes behind.old }
     ensures no_flush { has_flush_stop (items_of waiting.new.items) ≡ false }
@@ -109,7 +110,8 @@ fn pass<O: Outlet>(
     requires loose { IsLoose src.old }
     requires table { EndReady (O.tells lanes.old) (end_in O.Outlet behind.old) }
     requires few { count_in (end_in O.Outlet behind.old) < 2 ^ 62 }
-    ensures { HasPassed O.Outlet (seen_in src.old waiting.old.items behind.old) (seen_in src.new waiting.new.items behind.new) (O.tells lanes.old) (O.tells lanes.new) result }
+    ensures { HasPassed O.Outlet (seen_in src.old waiting.old.items behind.old) (seen_in src.new waiting.new.items behind.new)
+        (O.tells lanes.old) (O.tells lanes.new) result }
 {
     match behind {
         Behind::Nothing => {
@@ -138,7 +140,8 @@ fn send<O: Outlet>(
     requires loose { IsLoose src.old }
     requires table { IsOf (O.tells lanes.old) (O.place outlet.old) (O.limits outlet.old) (O.count outlet.old) }
     requires few { O.count outlet.old < 2 ^ 62 }
-    ensures { IsPutBy O.Outlet lane outlet.old outlet.new (items_of waiting.old.items) (items_of waiting.new.items) src.old src.new (O.tells lanes.old) (O.tells lanes.new) result }
+    ensures { IsPutBy O.Outlet lane outlet.old outlet.new (items_of waiting.old.items) (items_of waiting.new.items) src.old src.new
+        (O.tells lanes.old) (O.tells lanes.new) result }
 {
     let Some(out) = waiting.pop_front() else {
         unreachable!()

@@ -9,3 +9,6 @@ pub mod put;
 pub use crossing::Crossing;
 pub use pad::{Behind, Pad};
 pub use put::{fill, first_waiting, spread};
+
+#[cfg(test)]
+mod tests;

@@ -5,7 +5,7 @@ ghost use Rattle.pad_core.specs.Crossing.{WasKept};
 ghost use Rattle.pad_core.specs.Linking.{has_peer};
 ghost use Rattle.pad_core.specs.SrcPad.{CrossedBy, state_of, crossed_of};
 ghost use Rattle.flow_model.specs.Item.{Item as Piece};
-ghost use Rattle.task_pads.specs.Pads.{setting_of};
+ghost use Rattle.task_pads.specs.Pads.{is_kept, setting_of};
 ghost use Rattle.task_pads.specs.Passing.{IsOffered};
 
 use gst_caps::OutOfMemory;
@@ -57,6 +57,7 @@ fn keep(alloc: Global, src: &mut SrcPad, item: &Item) -> Result<(), OutOfMemory>
     ensures history { (h : List Piece) → CrossedBy src.old h → CrossedBy src.new h }
     ensures crossed { crossed_of src.new ≡ crossed_of src.old }
     ensures stays { OnErr result (src.new ≡ src.old) }
+    ensures sticky { OnErr result (is_kept item.now ≡ true) }
 {
     let Item::Event(event) = item else {
         return Ok(());
