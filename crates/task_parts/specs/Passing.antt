@@ -77,6 +77,11 @@ module _ {E O : Type 0} {e : elements.Ghosts E} where
   RowFeeds parts parts' to port x (Err fault) =
       (refusal : Refusal) × (was : Part E O e) × (is : Part E O e) × PartSet parts parts' to was is × PartFell was is port x refusal × (fault ≡ refusal_fault was.number refusal)
 
+  -- the element at a place was given an item that came from a row; a FLUSH_STOP is given up
+  abbrev pub RowFed : List (Part E O e) → List (Part E O e) → ℕ → ℕ → Item → Result Tried TaskFault → Type 0
+  RowFed parts parts' to port x result =
+      ((is_flush_stop x ≡ true) × (parts' ≡ parts) × (result ≡ Ok tried.Moved)) ⊎ ((is_flush_stop x ≡ false) × RowFeeds parts parts' to port x result)
+
 -- The pad of a port of the element at a place was tried.
 pub record CrossesPart {E O L : Type 0} {e : elements.Ghosts E} (o : outlets.Ghosts O L) (parts parts' : List (Part E O e)) (place port : ℕ) (tells tells' : Option (List Lane)) (result : Result Tried TaskFault) : Type 0 where
   pub was : Part E O e
@@ -199,8 +204,7 @@ module _ {I O L : Type 0} (i : inlets.Ghosts I L O) where
 module _ {E I O L : Type 0} {e : elements.Ghosts E} (i : inlets.Ghosts I L O) where
   abbrev pub AfterTake : List (Part E O e) → List (Part E O e) → ℕ → ℕ → Taken → Result Tried TaskFault → Type 0
   AfterTake parts parts' to port (takes.Empty lane) result = (parts' ≡ parts) × (result ≡ Ok (tried.Stuck (steps.NeedsItem lane)))
-  AfterTake parts parts' to port (takes.Item x) result =
-      ((is_flush_stop x ≡ true) × (parts' ≡ parts) × (result ≡ Ok tried.Moved)) ⊎ ((is_flush_stop x ≡ false) × RowFeeds parts parts' to port x result)
+  AfterTake parts parts' to port (takes.Item x) result = RowFed parts parts' to port x result
 
   -- the element that the head feeds wants no more: each of its sink pads had EOS
   pub record WantsNone (head head' : InletHead I) (parts parts' : List (Part E O e)) (part : Part E O e) (tells tells' : Option (List Lane)) (result : Result Tried TaskFault) : Type 0 where

@@ -16,7 +16,7 @@ pub(crate) fn find<E: TaskElement, O: Outlet>(
     number: u32,
     hint: usize,
 ) -> usize
-    requires { has_number number (map part_shape parts.now) ≡ true }
+    requires named { has_number number (map part_shape parts.now) ≡ true }
     ensures { IsAt parts.now number result }
 {
     if hint < parts.len() {
@@ -29,7 +29,7 @@ pub(crate) fn find<E: TaskElement, O: Outlet>(
 
 /// The place of the element of a number.
 fn search<E: TaskElement, O: Outlet>(parts: &[Part<E, O>], number: u32) -> usize
-    requires { has_number number (map part_shape parts.now) ≡ true }
+    requires named { has_number number (map part_shape parts.now) ≡ true }
     ensures { IsAt parts.now number result }
 {
     for place in 0..parts.len() {

@@ -1,5 +1,5 @@
 //! What an element put out goes to its pads.
-ghost use Rattle.std.specs.Prelude.{◌≡◌, true, vec_len, map, [], OnOk};
+ghost use Rattle.std.specs.Prelude.{◌≡◌, ◌&&◌, not, true, vec_len, map, [], OnOk};
 ghost use Rattle.task_pads.specs.Behind.{leads_on};
 ghost use Rattle.task_pads.specs.Pads.{rest_of};
 ghost use Rattle.task_pads.specs.Put.{Spread};
@@ -38,7 +38,10 @@ pub(crate) fn gather<O>(
 pub(crate) fn pads_idle<O>(pads: &[Pad<O>]) -> bool
     ensures { result ≡ idle_test pads.now }
 {
-    first_waiting(pads, 0).is_none()
+    match first_waiting(pads, 0) {
+        Some(_) => false,
+        None => true,
+    }
 }
 
 /// Whether a pad other than that of a port is linked.
@@ -46,16 +49,19 @@ pub(crate) fn is_linked_else<O: Outlet>(pads: &[Pad<O>], port: usize) -> bool
     ensures { result ≡ linked_else port pads.now }
 {
     for other in 0..pads.len() {
-        if other != port && is_linked(&pads[other]) {
+        if leads_on_else(&pads[other], other == port) {
             return true;
         }
     }
     false
 }
 
-/// Whether a pad leads on.
-fn is_linked<O: Outlet>(pad: &Pad<O>) -> bool
-    ensures { result ≡ leads_on (rest_of pad.now).behind }
+/// Whether a pad is another one, and leads on.
+fn leads_on_else<O: Outlet>(pad: &Pad<O>, same: bool) -> bool
+    ensures { result ≡ (not same && leads_on (rest_of pad.now).behind) }
 {
+    if same {
+        return false;
+    }
     !matches!(pad.behind(), Behind::Nothing)
 }

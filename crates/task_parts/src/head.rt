@@ -2,6 +2,7 @@
 ghost use Rattle.std.specs.Prelude.{◌≡◌, ◌≤◌, ◌<◌, ◌^◌, List, IfOk, IfErr, OnErr};
 ghost use Rattle.element_traits.specs.Failures.{IsReadCause, NeverFalls};
 ghost use Rattle.element_traits.specs.Gives.{Gives, count_after};
+ghost use Rattle.task_parts.specs.declared.head.Given.TheVariants.{FlushStop as FlushGiven};
 ghost use Rattle.flow_model.specs.Item.{Item};
 ghost use Rattle.flow_model.specs.Item.{is_flush_stop as flush_test};
 
@@ -94,7 +95,7 @@ impl<S: TaskSource, O: Outlet> SourceHead<S, O> {
         match ask(alloc, &mut self.source, &mut self.given) {
             Ok(Some(item)) => {
                 if is_flush_stop(&item) {
-                    return Ok(Given::FlushStop);
+                    return Ok(give_up(item));
                 }
                 self.pad.push_reserved(item);
                 Ok(Given::Item)
@@ -136,4 +137,12 @@ fn ask<S: TaskSource>(
         Ok(None) => Ok(None),
         Err(unread) => Err(unread),
     }
+}
+
+/// A FLUSH_STOP is given up.
+fn give_up(item: Item) -> Given
+    ensures { result ≡ FlushGiven }
+{
+    drop(item);
+    Given::FlushStop
 }

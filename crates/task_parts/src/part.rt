@@ -160,7 +160,8 @@ fn eat<E: TaskElement>(
     requires no_flush { is_flush_stop item ≡ false }
     ensures took { OnOk result (Takes (E.stands element.old) (E.stands element.new) (E.ports element.old) pad item out.old out.new) }
     ensures fell { OnErr result ((rule : Rule) (took : List (List Call)) → E.stands element.old rule took → E.fell element.new rule took pad item) }
-    ensures refused { IfErr result (λ refusal. (rule : Rule) (took : List (List Call)) → E.stands element.old rule took → E.refuses element.old rule took pad item refusal) }
+    ensures refused { IfErr result (λ refusal. (rule : Rule) (took : List (List Call)) → E.stands element.old rule took
+        → E.refuses element.old rule took pad item refusal) }
     ensures out { OnErr result (out.new ≡ out.old) }
     ensures cause { IfErr result (IsWriteCause (E.failures element.old) (E.failures element.new)) }
     ensures never_falls { NeverFalls (E.failures element.old) (E.failures element.new) }

@@ -1,12 +1,12 @@
 //! What one try of a pad, or of a head, moves.
-ghost use Rattle.std.specs.Prelude.{◌≡◌, ◌<◌, ◌⊎◌, true, false, map, vec_len, Some, slice_get, OnOk};
-ghost use Rattle.flow_model.specs.Item.{is_flush_stop as is_flush_item};
+ghost use Rattle.std.specs.Prelude.{◌≡◌, ◌<◌, ◌⊎◌, true, map, vec_len, Some, slice_get, OnOk};
 ghost use Rattle.task_parts.specs.Part.{PartReady, IsSettled};
-ghost use Rattle.task_parts.specs.Passing.{CrossesPart, CrossesSource, GivesAs, TakesNext, Settles, HasPort, InletsReady, RowAsked, RowFeeds};
+ghost use Rattle.task_parts.specs.Passing.{CrossesPart, CrossesSource, GivesAs, TakesNext, Settles, HasPort, InletsReady, RowAsked, RowFed};
 ghost use Rattle.task_pads.specs.Pads.{PadReady, crossed_count, goes_of, number_of, pad_shape, rest_of};
 ghost use Rattle.element_traits.specs.Failures.{NeverFalls};
 ghost use Rattle.task_parts.specs.Shape.{goes_within, has_number, pads_within, part_shape};
 ghost use Rattle.task_parts.specs.declared.fault.TaskFault.TheVariants.{NotLinked as NotLinkedFault, TooLong as TooLongFault};
+ghost use Rattle.task_parts.specs.declared.step.Tried.TheVariants.{Moved as MovedOn};
 
 use crate::fault::TaskFault;
 use crate::find::{MOST_ITEMS, find};
@@ -54,7 +54,8 @@ pub fn cross_part<E: TaskElement, O: Outlet>(
 {
     match parts[place].cross(alloc, lanes, port) {
         Crossing::Idle => Ok(Tried::Idle),
-        Crossing::Gone | Crossing::BehindEos => Ok(Tried::Moved),
+        Crossing::Gone => Ok(Tried::Moved),
+        Crossing::BehindEos => Ok(Tried::Moved),
         Crossing::Full { lane } => Ok(Tried::Stuck(Step::NeedsRoom(lane))),
         Crossing::AtProbe { command } => Ok(Tried::Stuck(Step::AtProbe(command))),
         Crossing::NotLinked => Err(not_linked(&parts[place], port)),
@@ -72,7 +73,7 @@ pub fn cross_part<E: TaskElement, O: Outlet>(
 
 /// The fault of a buffer at the pad of a port, which is not linked.
 fn not_linked<E: TaskElement, O: Outlet>(part: &Part<E, O>, port: usize) -> TaskFault
-    requires { port < vec_len part.now.pads }
+    requires port { port < vec_len part.now.pads }
     ensures { (pad : _) → slice_get part.now.pads.items port ≡ Some pad → result ≡ NotLinkedFault (number_of pad) (crossed_count pad) }
 {
     let pad = &part.pads()[port];
@@ -108,7 +109,8 @@ pub fn cross_source<S: TaskSource, E: TaskElement, O: Outlet>(
 {
     match head.pad.cross(alloc, lanes, false) {
         Crossing::Idle => Ok(Tried::Idle),
-        Crossing::Gone | Crossing::BehindEos => Ok(Tried::Moved),
+        Crossing::Gone => Ok(Tried::Moved),
+        Crossing::BehindEos => Ok(Tried::Moved),
         Crossing::Full { lane } => Ok(Tried::Stuck(Step::NeedsRoom(lane))),
         Crossing::AtProbe { command } => Ok(Tried::Stuck(Step::AtProbe(command))),
         Crossing::NotLinked => Err(TaskFault::NotLinked {
@@ -139,7 +141,8 @@ pub fn give<S: TaskSource, O: Outlet>(
     ensures rest { rest_of head.new.pad ≡ rest_of head.old.pad }
 {
     match head.give(alloc) {
-        Ok(Given::Item | Given::FlushStop) => Ok(Tried::Moved),
+        Ok(Given::Item) => Ok(Tried::Moved),
+        Ok(Given::FlushStop) => Ok(Tried::Moved),
         Ok(Given::Ended) => Ok(Tried::Idle),
         Ok(Given::AtLimit) => Err(too_long(head.number)),
         Err(unread) => Err(TaskFault::unread(head.number, unread)),
@@ -165,16 +168,11 @@ pub fn take<E: TaskElement, I: Inlet<Out = O>, O: Outlet<Lanes = I::Lanes>>(
     };
     match take_row(head, lanes, port) {
         Taken::Empty(lane) => Ok(Tried::Stuck(Step::NeedsItem(lane))),
-        Taken::Item(item) => {
-            if is_flush_stop(&item) {
-                return Ok(Tried::Moved);
-            }
-            feed_row(alloc, parts, to, port, item)
-        }
+        Taken::Item(item) => feed_row(alloc, parts, to, port, item),
     }
 }
 
-/// The element at a place takes an item that came from the row of a sink pad.
+/// The element at a place takes an item that came from the row of a sink pad. A FLUSH_STOP is given up.
 fn feed_row<E: TaskElement, O: Outlet>(
     alloc: Global,
     parts: &mut Vec<Part<E, O>>,
@@ -183,10 +181,12 @@ fn feed_row<E: TaskElement, O: Outlet>(
     item: Item,
 ) -> Result<Tried, TaskFault>
     requires to { to < vec_len parts.old }
-    requires no_flush { is_flush_item item ≡ false }
-    ensures feeds { RowFeeds parts.old.items parts.new.items to port item result }
+    ensures feeds { RowFed parts.old.items parts.new.items to port item result }
     ensures shape { map part_shape parts.new.items ≡ map part_shape parts.old.items }
 {
+    if is_flush_stop(&item) {
+        return Ok(give_up(item));
+    }
     let number = parts[to].number();
     match parts[to].feed(alloc, port, item) {
         Ok(()) => Ok(Tried::Moved),
@@ -204,4 +204,12 @@ fn take_row<I: Inlet>(head: &mut InletHead<I>, lanes: &mut I::Lanes, port: u32) 
         return Taken::Empty(UNLINKED);
     }
     head.rows[port].take(lanes)
+}
+
+/// An item is given up.
+fn give_up(item: Item) -> Tried
+    ensures { result ≡ MovedOn }
+{
+    drop(item);
+    Tried::Moved
 }

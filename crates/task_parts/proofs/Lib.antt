@@ -1,0 +1,5 @@
+mod Lists
+mod Outs
+mod Turns
+mod Moves
+mod Tries

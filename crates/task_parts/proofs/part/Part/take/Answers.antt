@@ -1,0 +1,20 @@
+use Rattle.std.proofs.Common.{refl, arith}
+use Rattle.task_parts.proofs.Lists.{some_at}
+use Rattle.task_parts.proofs.Outs.{shape_of_rest}
+use Rattle.task_parts.proofs.part.Part.take.Goals as goal
+
+pub returns : goal.returns
+returns g c = record {
+  was = c.index_mut.result.now;
+  is = c.take.new.self;
+  pad = record {
+    number = refl;
+    element = refl;
+    out = refl;
+    at = some_at c.args.self.now.pads.items c.args.port c.index_mut.result.now (omega (arith, c.requires, c.args.self.now.pads.ok.0)) c.index_mut.ensures.value;
+    set = refl;
+    shape = shape_of_rest c.take.new.self c.index_mut.result.now c.take.ensures.rest;
+  };
+  rest = c.take.ensures.rest;
+  taken = c.take.ensures.taken;
+}
