@@ -1,5 +1,5 @@
 -- What is put behind a row.
-use Rattle.std.proofs.Common.{◌≡◌, ◌≢◌, ◌<◌, ◌+◌, ℕ, zero, suc, List, [], ◌∷◌, ◌++◌, length, drop, Option, Some, None, refl, ap, sym, ◌∙◌, subst, append_assoc, append-nil}
+use Rattle.std.proofs.Common.{◌≡◌, ◌≢◌, ℕ, List, [], ◌∷◌, ◌++◌, refl, ap, sym, ◌∙◌, subst, append_assoc, append-nil}
 use Rattle.std.specs.List.{slice_get}
 use Rattle.gst_item.specs.declared.item.Item.{Item}
 use Rattle.lane_core.specs.declared.ends.Inlet as inlets
@@ -8,7 +8,7 @@ use Rattle.inlet_row.specs.declared.feeding.Feeding.{Feeding}
 use Rattle.inlet_row.specs.declared.feeding.Feeding.TheVariants.{Given, Lane as OfLane}
 use Rattle.inlet_row.specs.declared.row.InletRow.{InletRow}
 use Rattle.inlet_row.specs.Row.{Apart, ForLanes, GaveInAll, GaveOf, feeds_of, held, items_of}
-use Rattle.inlet_row.specs.Ends.{Gives, Links}
+use Rattle.inlet_row.specs.Ends.{Gives, Links, Stays}
 
 module _ {I : Type 0} where
   for_append : (P : I → Type 0) (xs ys : List (Feeding I)) → ForLanes P xs → ForLanes P ys → ForLanes P (xs ++ ys)
@@ -38,6 +38,15 @@ module _ {I L O : Type 0} (i : inlets.Ghosts I L O) where
   held_append t [] ys = refl
   held_append t (Given x ∷ xs) ys = ap (λ l. x ∷ l) (held_append t xs ys)
   held_append t (OfLane n e ∷ xs) ys = ap (λ l. items_of (slice_get t (i.place e)) ++ l) (held_append t xs ys) ∙ sym (append_assoc (items_of (slice_get t (i.place e))) (held i t xs) (held i t ys))
+
+  pub stays : (row row' : InletRow I) → feeds_of row' ≡ feeds_of row → Stays i row row'
+  stays row row' e = record {
+    gave = λ got h. subst (λ feeds. GaveInAll i.received feeds got) (sym e) h;
+    between = λ tells sents got h. subst (λ feeds. GaveInAll (GaveOf i tells sents) feeds got) (sym e) h;
+    within = λ tells h. subst (λ feeds. ForLanes (λ inlet. IsIn tells (i.place inlet)) feeds) (sym e) h;
+    apart = λ h. subst (λ feeds. Apart i feeds) (sym e) h;
+    holds = λ t. ap (λ feeds. held i t feeds) e;
+  }
 
   pub gives : (row row' : InletRow I) (x : Item) → feeds_of row' ≡ feeds_of row ++ Given x ∷ [] → Gives i row row' x
   gives row row' x e = record {

@@ -1,10 +1,10 @@
 -- What stands at the front of a row is gone.
-use Rattle.std.proofs.Common.{◌≡◌, ◌≢◌, ◌<◌, ◌≤◌, ◌+◌, ◌^◌, ◌⊎◌, inl, inr, ℕ, zero, suc, List, [], ◌∷◌, ◌++◌, length, drop, Option, Some, None, refl, ap, sym, ◌∙◌, subst, arith, append_assoc, append-nil}
+use Rattle.std.proofs.Common.{◌≡◌, inl, inr, ℕ, List, [], ◌∷◌, ◌++◌, Option, Some, refl, ap, sym, ◌∙◌, append-nil}
 use Rattle.std.specs.List.{slice_get}
 use Rattle.gst_item.specs.declared.item.Item as items
 use Rattle.lane_core.specs.declared.ends.Inlet as inlets
 use Rattle.lane_core.specs.declared.ends.Take.TheVariants as took
-use Rattle.lane_core.specs.Lane.{Lane, IsIn}
+use Rattle.lane_core.specs.Lane.{Lane}
 use Rattle.lane_core.specs.Room.{number_of}
 use Rattle.lane_core.proofs.Between.{empty_by_lane}
 use Rattle.inlet_row.specs.declared.feeding.Feeding.{Feeding}

@@ -1,13 +1,13 @@
 -- What a take means for the lists that a row gave, and for what it holds.
-use Rattle.std.proofs.Common.{◌≡◌, ◌≢◌, ◌<◌, ◌≤◌, ◌+◌, ◌^◌, ◌⊎◌, inl, inr, ℕ, zero, suc, List, [], ◌∷◌, ◌++◌, length, drop, Option, Some, None, refl, ap, sym, ◌∙◌, subst, arith, append_assoc, append-nil}
+use Rattle.std.proofs.Common.{◌≡◌, ◌≢◌, ◌≤◌, ◌^◌, inl, inr, ℕ, List, [], ◌∷◌, ◌++◌, length, drop, Option, Some, refl, ap, sym, ◌∙◌, subst, append_assoc, append-nil}
 use Rattle.std.specs.List.{slice_get}
 use Rattle.gst_item.specs.declared.item.Item as items
 use Rattle.lane_core.specs.declared.ends.Inlet as inlets
 use Rattle.lane_core.specs.declared.ends.Take as takes
 use Rattle.lane_core.specs.declared.ends.Take.TheVariants as took
-use Rattle.lane_core.specs.Lane.{Lane, lane_of, IsIn, IsBetween, table_without_first}
-use Rattle.lane_core.specs.Moves.{list_after_take}
-use Rattle.lane_core.proofs.Between.{take_keeps_between, take_keeps_others, take_keeps_lanes}
+use Rattle.lane_core.specs.Lane.{Lane, lane_of, IsIn, IsOf, IsBetween, table_without_first}
+use Rattle.lane_core.specs.Moves.{list_after_take, table_after_take}
+use Rattle.lane_core.proofs.Between.{take_keeps_between, take_keeps_others, take_keeps_lanes, take_keeps_room}
 use Rattle.lane_core.proofs.Change.{updated_else, updated_here}
 use Rattle.inlet_row.specs.declared.feeding.Feeding.{Feeding}
 use Rattle.inlet_row.specs.declared.feeding.Feeding.TheVariants.{Given, Lane as OfLane}
@@ -15,7 +15,7 @@ use Rattle.inlet_row.specs.declared.feeding.Taken.{Taken}
 use Rattle.inlet_row.specs.declared.feeding.Taken.TheVariants.{Item, Empty}
 use Rattle.inlet_row.specs.declared.row.InletRow.{InletRow}
 use Rattle.inlet_row.specs.Row.{Apart, AreApart, ForLanes, GaveInAll, GaveOf, RowBetween, RowGave, RowIn, feeds_of, held, items_of, row_holds}
-use Rattle.inlet_row.specs.Take.{AreRefused, AsksLane, GivesOne, HasPlace, HoldsAfter, LosesGiven, Moves, StaysIn, Took, list_after}
+use Rattle.inlet_row.specs.Take.{AsksLane, GivesOne, HasPlace, HoldsAfter, KeepsLanes, Moves, Took, list_after}
 use Rattle.inlet_row.proofs.Losing.{apart_gone, for_both, for_gone, for_map, has_place, held_gone, lose_all, lose_first, refused_holds}
 
 whole_after : (past lane got : List items.Item) (said : takes.Take) → got ≡ past ++ lane → list_after_take got said ≡ past ++ list_after_take lane said
@@ -40,9 +40,9 @@ module _ {I L O : Type 0} (i : inlets.Ghosts I L O) where
   gave_item tells tells' row row' number rest said got m h =
       let left = lose_all i.received m.gone (OfLane number m.was ∷ rest) got (subst (λ l. GaveInAll i.received l got) m.before h) in
       subst
-        (λ l. GaveInAll i.received l (list_after_take got said))
-        (sym m.after)
-        (gave_on i.received i.received number m.was m.is rest got said (λ lane r. m.took.received lane r) (λ r. r) left)
+      (λ l. GaveInAll i.received l (list_after_take got said))
+      (sym m.after)
+      (gave_on i.received i.received number m.was m.is rest got said (λ lane r. m.took.received lane r) (λ r. r) left)
 
   pub gave_after : (tells tells' : Option (List Lane)) (row row' : InletRow I) (answer : Taken) (got : List items.Item) → Moves i tells tells' row row' answer → RowGave i row got → RowGave i row' (list_after got answer)
   gave_after tells tells' row row' (Item x) got (inl m) h =
@@ -72,20 +72,20 @@ module _ {I L O : Type 0} (i : inlets.Ghosts I L O) where
       let left = lose_all (GaveOf i tells sents) m.gone (OfLane number m.was ∷ rest) got (subst (λ l. GaveInAll (GaveOf i tells sents) l got) m.before h) in
       let others = apart_gone i m.gone (OfLane number m.was ∷ rest) (subst (λ l. Apart i l) m.before apart) in
       subst
-        (λ l. GaveInAll (GaveOf i tells' sents) l (list_after_take got said))
-        (sym m.after)
-        (gave_on
-          (GaveOf i tells sents)
-          (GaveOf i tells' sents)
-          number
-          m.was
-          m.is
-          rest
-          got
-          said
-          (λ lane g. between_here tells tells' sents m.was m.is said lane m.took g)
-          (λ r. for_both (λ other. i.place other ≢ i.place m.was) (λ e. GaveOf i tells sents e []) (λ e. GaveOf i tells' sents e []) rest (λ e a g. between_there tells tells' sents m.was m.is said e m.took a g) others.0 r)
-          left)
+      (λ l. GaveInAll (GaveOf i tells' sents) l (list_after_take got said))
+      (sym m.after)
+      (gave_on
+      (GaveOf i tells sents)
+      (GaveOf i tells' sents)
+      number
+      m.was
+      m.is
+      rest
+      got
+      said
+      (λ lane g. between_here tells tells' sents m.was m.is said lane m.took g)
+      (λ r. for_both (λ other. i.place other ≢ i.place m.was) (λ e. GaveOf i tells sents e []) (λ e. GaveOf i tells' sents e []) rest (λ e a g. between_there tells tells' sents m.was m.is said e m.took a g) others.0 r)
+      left)
 
   pub between_after : (tells tells' : Option (List Lane)) (sents : ℕ → List items.Item) (row row' : InletRow I) (answer : Taken) (got : List items.Item) → Moves i tells tells' row row' answer → AreApart i row → RowBetween i tells sents row got
       → RowBetween i tells' sents row' (list_after got answer)
@@ -101,39 +101,80 @@ module _ {I L O : Type 0} (i : inlets.Ghosts I L O) where
   in_lane tells tells' row row' number rest said m h =
       let left = for_gone (λ e. IsIn tells (i.place e)) m.gone (OfLane number m.was ∷ rest) (subst (λ l. ForLanes (λ e. IsIn tells (i.place e)) l) m.before h) in
       subst
-        (λ l. ForLanes (λ e. IsIn tells' (i.place e)) l)
-        (sym m.after)
-        (
-          subst (λ p. IsIn tells' p) (sym m.took.same.1) (take_keeps_lanes (i.place m.was) (i.place m.was) said tells tells' m.took.table left.0),
-          for_map (λ e. IsIn tells (i.place e)) (λ e. IsIn tells' (i.place e)) rest (λ e b. take_keeps_lanes (i.place m.was) (i.place e) said tells tells' m.took.table b) left.1,
-        )
+      (λ l. ForLanes (λ e. IsIn tells' (i.place e)) l)
+      (sym m.after) (
+        subst (λ p. IsIn tells' p) (sym m.took.same.1) (take_keeps_lanes (i.place m.was) (i.place m.was) said tells tells' m.took.table left.0),
+        for_map (λ e. IsIn tells (i.place e)) (λ e. IsIn tells' (i.place e)) rest (λ e b. take_keeps_lanes (i.place m.was) (i.place e) said tells tells' m.took.table b) left.1,
+      )
 
   apart_lane : (tells tells' : Option (List Lane)) (row row' : InletRow I) (number : ℕ) (rest : List (Feeding I)) (said : takes.Take) → AsksLane i tells tells' row row' number rest said → AreApart i row → AreApart i row'
   apart_lane tells tells' row row' number rest said m h =
       let left = apart_gone i m.gone (OfLane number m.was ∷ rest) (subst (λ l. Apart i l) m.before h) in
       subst (λ l. Apart i l) (sym m.after) (subst (λ p. ForLanes (λ other. i.place other ≢ p) rest) (sym m.took.same.1) left.0, left.1)
 
-  pub stays_in : (tells tells' : Option (List Lane)) (row row' : InletRow I) (answer : Taken) → Moves i tells tells' row row' answer → RowIn i tells row → StaysIn i tells tells' row row' answer
-  stays_in tells tells' row row' (Item x) (inl m) h = record {
-    one = inl m.1;
-    within = subst (λ t. ForLanes (λ e. IsIn t (i.place e)) (feeds_of row')) (sym m.1) (for_gone (λ e. IsIn tells (i.place e)) m.0.gone (Given x ∷ feeds_of row') (subst (λ l. ForLanes (λ e. IsIn tells (i.place e)) l) m.0.before h));
-    apart = λ a. apart_gone i m.0.gone (Given x ∷ feeds_of row') (subst (λ l. Apart i l) m.0.before a);
+  -- a place that no lane of the row has is not the one from which an item came
+  elsewhere : (n place : ℕ) (feeds : List (Feeding I)) → ForLanes (λ e. n ≢ i.place e) feeds → HasPlace i place feeds → n ≢ place
+  elsewhere n place [] h p = absurd p
+  elsewhere n place (Given x ∷ feeds) h p = elsewhere n place feeds h p
+  elsewhere n place (OfLane m e ∷ feeds) h (inl same) = λ q. h.0 (q ∙ same)
+  elsewhere n place (OfLane m e ∷ feeds) h (inr p) = elsewhere n place feeds h.1 p
+
+  -- what is left of the table where one lane of the row answered
+  keeps : (tells tells' : Option (List Lane)) (row row' : InletRow I) (answer : Taken) (place : ℕ) (said : takes.Take) → GivesOne i tells tells' row answer → HasPlace i place (feeds_of row) → tells' ≡ table_after_take place said tells → RowIn i tells' row' → (AreApart i row → AreApart i row')
+      → KeepsLanes i tells tells' row row' answer
+  keeps tells tells' row row' answer place said one here table within apart = record {
+    one = one;
+    lanes = λ n h. take_keeps_lanes place n said tells tells' table h;
+    rooms = λ n limits count h. take_keeps_room place n said limits count tells tells' table h;
+    others = λ n sent got away h. take_keeps_others place n said tells tells' sent got (elsewhere n place (feeds_of row) away here) table h;
+    within = within;
+    apart = apart;
   }
-  stays_in tells tells' row row' (Item x) (inr m) h = record {
-    one = inr (i.place m.2.was, subst (λ l. HasPlace i (i.place m.2.was) l) (sym m.2.before) (has_place i m.2.gone m.1 m.0 m.2.was), m.2.took.table, m.2.took.first);
-    within = in_lane tells tells' row row' m.0 m.1 (took.Item x) m.2 h;
-    apart = λ a. apart_lane tells tells' row row' m.0 m.1 (took.Item x) m.2 a;
+
+  keeps_all : (tells tells' : Option (List Lane)) (row row' : InletRow I) (answer : Taken) → GivesOne i tells tells' row answer → tells' ≡ tells → RowIn i tells' row' → (AreApart i row → AreApart i row') → KeepsLanes i tells tells' row row' answer
+  keeps_all tells tells' row row' answer one table within apart = record {
+    one = one;
+    lanes = λ n h. subst (λ t. IsIn t n) (sym table) h;
+    rooms = λ n limits count h. subst (λ t. IsOf t n limits count) (sym table) h;
+    others = λ n sent got away h. subst (λ t. IsBetween t n sent got) (sym table) h;
+    within = within;
+    apart = apart;
   }
-  stays_in tells tells' row row' (Empty number) (inl m) h = record {
-    one = m.took.table;
-    within = in_lane tells tells' row row' number [] took.Empty m h;
-    apart = λ a. apart_lane tells tells' row row' number [] took.Empty m a;
-  }
-  stays_in tells tells' row row' (Empty number) (inr m) h = record {
-    one = m.2;
-    within = subst (λ l. ForLanes (λ e. IsIn tells' (i.place e)) l) (sym m.1) tt;
-    apart = λ a. subst (λ l. Apart i l) (sym m.1) tt;
-  }
+
+  asked_place : (tells tells' : Option (List Lane)) (row row' : InletRow I) (number : ℕ) (rest : List (Feeding I)) (said : takes.Take) (m : AsksLane i tells tells' row row' number rest said) → HasPlace i (i.place m.was) (feeds_of row)
+  asked_place tells tells' row row' number rest said m = subst (λ l. HasPlace i (i.place m.was) l) (sym m.before) (has_place i m.gone rest number m.was)
+
+  pub keeps_lanes : (tells tells' : Option (List Lane)) (row row' : InletRow I) (answer : Taken) → Moves i tells tells' row row' answer → RowIn i tells row → KeepsLanes i tells tells' row row' answer
+  keeps_lanes tells tells' row row' (Item x) (inl m) h =
+      keeps_all
+      tells
+      tells'
+      row
+      row'
+      (Item x)
+      (inl m.1)
+      m.1
+      (subst (λ t. ForLanes (λ e. IsIn t (i.place e)) (feeds_of row')) (sym m.1) (for_gone (λ e. IsIn tells (i.place e)) m.0.gone (Given x ∷ feeds_of row') (subst (λ l. ForLanes (λ e. IsIn tells (i.place e)) l) m.0.before h)))
+      (λ a. apart_gone i m.0.gone (Given x ∷ feeds_of row') (subst (λ l. Apart i l) m.0.before a))
+  keeps_lanes tells tells' row row' (Item x) (inr m) h =
+      let here = asked_place tells tells' row row' m.0 m.1 (took.Item x) m.2 in
+      keeps
+      tells
+      tells'
+      row
+      row'
+      (Item x)
+      (i.place m.2.was)
+      (took.Item x)
+      (inr (i.place m.2.was, here, m.2.took.table, m.2.took.first))
+      here
+      m.2.took.table
+      (in_lane tells tells' row row' m.0 m.1 (took.Item x) m.2 h)
+      (λ a. apart_lane tells tells' row row' m.0 m.1 (took.Item x) m.2 a)
+  keeps_lanes tells tells' row row' (Empty number) (inl m) h =
+      keeps_all tells tells' row row' (Empty number) m.took.table m.took.table (in_lane tells tells' row row' number [] took.Empty m h) (λ a. apart_lane tells tells' row row' number [] took.Empty m a)
+  keeps_lanes tells tells' row row' (Empty number) (inr m) h =
+      keeps_all tells tells' row row' (Empty number) m.2 m.2 (subst (λ l. ForLanes (λ e. IsIn tells' (i.place e)) l) (sym m.1) tt) (λ a. subst (λ l. Apart i l) (sym m.1) tt)
 
   -- a take from another lane leaves what the row holds
   held_else : (t : List Lane) (place : ℕ) (feeds : List (Feeding I)) → ForLanes (λ e. i.place e ≢ place) feeds → held i (table_without_first place t) feeds ≡ held i t feeds
@@ -145,7 +186,7 @@ module _ {I L O : Type 0} (i : inlets.Ghosts I L O) where
   held_here : (t : List Lane) (place place' : ℕ) (x : items.Item) (lane : Lane) (rest : List items.Item) → place' ≡ place → slice_get t place ≡ Some lane → lane.items ≡ x ∷ rest → items_of (slice_get t place) ≡ x ∷ items_of (slice_get (table_without_first place t) place')
   held_here t place place' x lane rest same at e =
       let after : items_of (slice_get (table_without_first place t) place') ≡ rest =
-          ap (λ p. items_of (slice_get (table_without_first place t) p)) same ∙ (ap items_of (updated_here (λ s. lane_of (drop 1 s.items) s.room) t place lane at) ∙ ap (drop 1) e) in
+      ap (λ p. items_of (slice_get (table_without_first place t) p)) same ∙ (ap items_of (updated_here (λ s. lane_of (drop 1 s.items) s.room) t place lane at) ∙ ap (drop 1) e) in
       ap items_of at ∙ (e ∙ ap (λ l. x ∷ l) (sym after))
 
   pub holds_after : (t : List Lane) (sents : ℕ → List items.Item) (tells' : Option (List Lane)) (row row' : InletRow I) (answer : Taken) (got : List items.Item) → Moves i (Some t) tells' row row' answer → AreApart i row → RowBetween i (Some t) sents row got → HoldsAfter i t tells' row row' answer
@@ -160,7 +201,7 @@ module _ {I L O : Type 0} (i : inlets.Ghosts I L O) where
       let before : row_holds i t row ≡ items_of (slice_get t place) ++ held i t m.1 = ap (λ l. held i t l) m.2.before ∙ held_gone i t sents m.2.gone (OfLane m.0 m.2.was ∷ m.1) got m.2.refused all in
       let here = held_here t place (i.place m.2.is) x at.0 at.1 m.2.took.same.1 at.2 at.3 in
       let after : row_holds i (table_without_first place t) row' ≡ items_of (slice_get (table_without_first place t) (i.place m.2.is)) ++ held i t m.1 =
-          ap (λ l. held i (table_without_first place t) l) m.2.after ∙ ap (λ l. items_of (slice_get (table_without_first place t) (i.place m.2.is)) ++ l) (held_else t place m.1 others.0) in
+      ap (λ l. held i (table_without_first place t) l) m.2.after ∙ ap (λ l. items_of (slice_get (table_without_first place t) (i.place m.2.is)) ++ l) (held_else t place m.1 others.0) in
       (table_without_first place t, m.2.took.table, before ∙ (ap (λ l. l ++ held i t m.1) here ∙ ap (λ l. x ∷ l) (sym after)))
   holds_after t sents tells' row row' (Empty number) got (inl m) apart h =
       let all = subst (λ l. GaveInAll (GaveOf i (Some t) sents) l got) m.before h in

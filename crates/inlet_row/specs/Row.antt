@@ -53,7 +53,9 @@ module _ {I L O : Type 0} (i : inlets.Ghosts I L O) where
 
   -- a lane gave this list, and where a table tells its lanes, what was sent into it is that and then what it holds
   abbrev pub GaveOf : Option (List Lane) → (ℕ → List Item) → I → List Item → Type 0
-  GaveOf tells sents inlet got = i.received inlet got × (length (sents (i.place inlet)) ≤ 2 ^ 62) × IsBetween tells (i.place inlet) (sents (i.place inlet)) got
+  GaveOf tells sents inlet got =
+      let sent = sents (i.place inlet) in
+      i.received inlet got × (length sent ≤ 2 ^ 62) × IsBetween tells (i.place inlet) sent got
 
   -- the same of the row, by what was sent into the lanes at their places
   abbrev pub RowBetween : Option (List Lane) → (ℕ → List Item) → InletRow I → List Item → Type 0

@@ -1,19 +1,18 @@
 -- What a take does to a row.
-use Rattle.std.specs.Prelude.{◌≡◌, ◌≢◌, ◌≤◌, ◌⊎◌, ◌^◌, ℕ, List, [], ◌∷◌, ◌++◌, length, Option, Some, None}
+use Rattle.std.specs.Prelude.{◌≡◌, ◌≢◌, ◌≤◌, ◌⊎◌, ◌^◌, ℕ, List, [], ◌∷◌, ◌++◌, length, Option, Some}
 use Rattle.std.specs.Option.{ForSome}
 use Rattle.gst_item.specs.declared.item.Item as items
 use Rattle.lane_core.specs.declared.ends.Inlet as inlets
 use Rattle.lane_core.specs.declared.ends.Take as takes
 use Rattle.lane_core.specs.declared.ends.Take.TheVariants as took
-use Rattle.lane_core.specs.Lane.{Lane, IsIn, IsBetween}
+use Rattle.lane_core.specs.Lane.{Lane, IsIn, IsOf, IsBetween}
 use Rattle.lane_core.specs.Moves.{IsTake, TakesFirst, list_after_take, raised, table_after_take}
-use Rattle.lane_core.specs.Room.{number_of}
+use Rattle.lane_core.specs.Room.{Limits, number_of}
 use Rattle.inlet_row.specs.declared.feeding.Feeding.{Feeding}
 use Rattle.inlet_row.specs.declared.feeding.Feeding.TheVariants.{Given, Lane as OfLane}
 use Rattle.inlet_row.specs.declared.feeding.Taken.{Taken}
 use Rattle.inlet_row.specs.declared.feeding.Taken.TheVariants.{Item, Empty}
 use Rattle.inlet_row.specs.declared.row.InletRow.{InletRow}
-use Rattle.inlet_row.specs.Feed.{number_in}
 use Rattle.inlet_row.specs.Row.{AreApart, ForLanes, RowIn, feeds_of, row_holds}
 
 -- what the row gave in all, behind a take
@@ -21,15 +20,10 @@ abbrev pub list_after : List items.Item → Taken → List items.Item
 list_after got (Item x) = got ++ x ∷ []
 list_after got (Empty number) = got
 
--- what the lane answers where a thing gives this
-abbrev pub said_by : Option items.Item → takes.Take
-said_by None = took.Empty
-said_by (Some x) = took.Item x
-
--- the number of the lane that stands first
-abbrev pub number_first : {I : Type 0} → List (Feeding I) → ℕ
-number_first [] = 4294967295
-number_first (feed ∷ feeds) = number_in feed
+-- what a row answers where the lane of this number answers that
+abbrev pub answer_of : ℕ → takes.Take → Taken
+answer_of number (took.Item x) = Item x
+answer_of number took.Empty = Empty number
 
 module _ {I L O : Type 0} (i : inlets.Ghosts I L O) where
   -- one take of a lane, as its end promises it
@@ -42,7 +36,8 @@ module _ {I L O : Type 0} (i : inlets.Ghosts I L O) where
     pub received : (got : List items.Item) → i.received was got → i.received is (list_after_take got said)
     pub first : TakesFirst (i.place was) said tells
     pub table : tells' ≡ table_after_take (i.place was) said tells
-    pub sent : (sent got : List items.Item) → i.received was got → length sent ≤ 2 ^ 62 → IsBetween tells (i.place was) sent got → ForSome tells (λ t. number_of (i.reading is) ≡ length sent)
+    pub sent : (sent got : List items.Item) → i.received was got → length sent ≤ 2 ^ 62
+        → IsBetween tells (i.place was) sent got → ForSome tells (λ t. number_of (i.reading is) ≡ length sent)
 
   -- lanes alone, each of which refused a take
   abbrev pub AreRefused : Option (List Lane) → List (Feeding I) → Type 0
@@ -88,8 +83,13 @@ module _ {I L O : Type 0} (i : inlets.Ghosts I L O) where
       (tells' ≡ tells)
       ⊎ ((place : ℕ) × HasPlace place (feeds_of row) × (tells' ≡ table_after_take place (took.Item x) tells) × TakesFirst place (took.Item x) tells)
 
-  pub record StaysIn (tells tells' : Option (List Lane)) (row row' : InletRow I) (answer : Taken) : Type 0 where
+  -- the lanes of the table, those of the row and the others
+  pub record KeepsLanes (tells tells' : Option (List Lane)) (row row' : InletRow I) (answer : Taken) : Type 0 where
     pub one : GivesOne tells tells' row answer
+    pub lanes : (n : ℕ) → IsIn tells n → IsIn tells' n
+    pub rooms : (n : ℕ) (limits : Limits) (count : ℕ) → IsOf tells n limits count → IsOf tells' n limits count
+    pub others : (n : ℕ) (sent got : List items.Item) → ForLanes (λ inlet. n ≢ i.place inlet) (feeds_of row)
+        → IsBetween tells n sent got → IsBetween tells' n sent got
     pub within : RowIn i tells' row'
     pub apart : AreApart i row → AreApart i row'
 
@@ -102,13 +102,19 @@ module _ {I L O : Type 0} (i : inlets.Ghosts I L O) where
   abbrev pub IsAskable : Option (List Lane) → Feeding I → Type 0
   IsAskable tells feed = ForLanes (λ inlet. IsIn tells (i.place inlet)) (feed ∷ [])
 
-  -- a lane gave an item, or refused to
-  abbrev pub Asks : Option (List Lane) → Option (List Lane) → Feeding I → Feeding I → Option items.Item → Type 0
-  Asks tells tells' (Given x) feed' answer = Unit {0}
-  Asks tells tells' (OfLane number was) feed' answer = (is : I) × (feed' ≡ OfLane number is) × Took tells tells' was is (said_by answer)
+  -- a lane was asked for an item
+  pub record Answers (tells tells' : Option (List Lane)) (number : ℕ) (was is : I) (answer : Taken) : Type 0 where
+    pub said : takes.Take
+    pub answers : answer ≡ answer_of number said
+    pub took : Took tells tells' was is said
 
-  -- what stands first gave an item, or a lane refused to
-  abbrev pub First : Option (List Lane) → Option (List Lane) → List (Feeding I) → List (Feeding I) → Option items.Item → Type 0
-  First tells tells' [] feeds' answer = (feeds' ≡ []) × (answer ≡ None) × (tells' ≡ tells)
-  First tells tells' (Given x ∷ feeds) feeds' answer = (feeds' ≡ feeds) × (answer ≡ Some x) × (tells' ≡ tells)
-  First tells tells' (OfLane number was ∷ feeds) feeds' answer = (is : I) × (feeds' ≡ OfLane number is ∷ feeds) × Took tells tells' was is (said_by answer)
+  abbrev pub Asks : Option (List Lane) → Option (List Lane) → Feeding I → Feeding I → Taken → Type 0
+  Asks tells tells' (Given x) feed' answer = Unit {0}
+  Asks tells tells' (OfLane number was) feed' answer = (is : I) × (feed' ≡ OfLane number is) × Answers tells tells' number was is answer
+
+  -- what stands first was asked for an item
+  abbrev pub First : Option (List Lane) → Option (List Lane) → List (Feeding I) → List (Feeding I) → Taken → Type 0
+  First tells tells' [] feeds' answer = (feeds' ≡ []) × (answer ≡ Empty 4294967295) × (tells' ≡ tells)
+  First tells tells' (Given x ∷ feeds) feeds' answer = (feeds' ≡ feeds) × (answer ≡ Item x) × (tells' ≡ tells)
+  First tells tells' (OfLane number was ∷ feeds) feeds' answer =
+      (is : I) × (feeds' ≡ OfLane number is ∷ feeds) × Answers tells tells' number was is answer

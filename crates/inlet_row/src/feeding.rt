@@ -1,6 +1,6 @@
 //! One thing that a sink pad is fed from.
 ghost use Rattle.std.specs.Prelude.{◌≡◌};
-ghost use Rattle.inlet_row.specs.Feed.{is_given, item_in, number_in, received_in};
+ghost use Rattle.inlet_row.specs.Feed.{is_given, received_in};
 
 use gst_item::Item;
 use lane_core::{Inlet, Take};
@@ -27,6 +27,9 @@ pub enum Taken {
 }
 
 impl<I: Inlet> Feeding<I> {
+    ghost use Rattle.gst_item.specs.declared.item.Item.{Item};
+    ghost use Rattle.inlet_row.specs.declared.feeding.Feeding.TheVariants.{Given};
+    ghost use Rattle.inlet_row.specs.declared.feeding.Taken.TheVariants.{Item as Next};
     ghost use Rattle.inlet_row.specs.Take.{IsAskable, Asks};
 
     /// Whether control gave it.
@@ -36,16 +39,6 @@ impl<I: Inlet> Feeding<I> {
         match self {
             Feeding::Given(_) => true,
             Feeding::Lane { .. } => false,
-        }
-    }
-
-    /// The number of the lane.
-    pub(crate) fn number(&self) -> u32
-        ensures { result ≡ number_in self.now }
-    {
-        match self {
-            Feeding::Given(_) => UNLINKED,
-            Feeding::Lane { number, .. } => *number,
         }
     }
 
@@ -65,25 +58,25 @@ impl<I: Inlet> Feeding<I> {
     }
 
     /// The item that control gave.
-    pub(crate) fn into_item(self) -> Option<Item>
-        ensures { result ≡ item_in self }
+    pub(crate) fn into_taken(self) -> Taken
+        ensures { (item : Item) → self ≡ Given item → result ≡ Next item }
     {
         match self {
-            Feeding::Given(item) => Some(item),
-            Feeding::Lane { .. } => None,
+            Feeding::Given(item) => Taken::Item(item),
+            Feeding::Lane { number, .. } => Taken::Empty(number),
         }
     }
 
     /// Takes an item of the lane, if there is one now.
-    pub(crate) fn take(&mut self, lanes: &mut I::Lanes) -> Option<Item>
+    pub(crate) fn take(&mut self, lanes: &mut I::Lanes) -> Taken
         requires table { IsAskable I.Inlet (I.Out.tells lanes.old) self.old }
         ensures { Asks I.Inlet (I.Out.tells lanes.old) (I.Out.tells lanes.new) self.old self.new result }
     {
         match self {
-            Feeding::Given(_) => None,
-            Feeding::Lane { inlet, .. } => match inlet.take(lanes) {
-                Take::Item(item) => Some(item),
-                Take::Empty => None,
+            Feeding::Given(_) => Taken::Empty(UNLINKED),
+            Feeding::Lane { number, inlet } => match inlet.take(lanes) {
+                Take::Item(item) => Taken::Item(item),
+                Take::Empty => Taken::Empty(*number),
             },
         }
     }

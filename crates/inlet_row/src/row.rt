@@ -1,5 +1,5 @@
 //! What a sink pad is fed from.
-ghost use Rattle.std.specs.Prelude.{◌≡◌, ◌≤◌, ◌<◌, ◌+◌, ◌++◌, [], ◌∷◌, ℕ, List, Some, OnOk};
+ghost use Rattle.std.specs.Prelude.{◌≡◌, ◌≤◌, ◌<◌, ◌+◌, ◌++◌, [], ◌∷◌, ℕ, List, Option, Some, OnOk, OnErr, drop};
 ghost use Rattle.gst_item.specs.declared.item.Item.{Item};
 
 use crate::feeding::{Feeding, Taken, UNLINKED};
@@ -19,25 +19,30 @@ pub struct InletRow<I> {
 impl<I: Inlet> InletRow<I> {
     ghost use Rattle.lane_core.specs.Lane.{Lane};
     ghost use Rattle.inlet_row.specs.declared.feeding.Feeding.TheVariants.{Given, Lane as OfLane};
+    ghost use Rattle.inlet_row.specs.declared.feeding.Taken.TheVariants.{Item as Next};
     ghost use Rattle.inlet_row.specs.Row.{AreApart, RowBetween, RowGave, RowIn, feeds_of, received_of, room_of, row_holds};
-    ghost use Rattle.inlet_row.specs.Ends.{Gives, Links};
-    ghost use Rattle.inlet_row.specs.Take.{First, HoldsAfter, Moves, StaysIn, list_after, number_first};
+    ghost use Rattle.inlet_row.specs.Ends.{Gives, Links, Stays};
+    ghost use Rattle.inlet_row.specs.Take.{First, HoldsAfter, KeepsLanes, Moves, list_after};
 
     /// A row of nothing, which takes no memory.
     pub fn new(alloc: Global) -> InletRow<I>
         ensures feeds { feeds_of result ≡ [] }
         ensures gave { RowGave I.Inlet result [] }
+        ensures within { (tells : Option (List Lane)) → RowIn I.Inlet tells result }
+        ensures apart { AreApart I.Inlet result }
     {
         InletRow {
             feeds: VecDeque::new(alloc),
         }
     }
 
-    /// Takes room for this number of further things.
+    /// Takes room for this number of further things. It fails only where there is not room for them already.
     pub fn make_room(&mut self, more: usize) -> Result<(), OutOfMemory>
         ensures feeds { feeds_of self.new ≡ feeds_of self.old }
         ensures room { OnOk result (more ≤ room_of self.new) }
         ensures kept { room_of self.old ≤ room_of self.new }
+        ensures err { OnErr result (room_of self.old < more) }
+        ensures stays { Stays I.Inlet self.old self.new }
     {
         Ok(self.feeds.reserve(more)?)
     }
@@ -59,14 +64,15 @@ impl<I: Inlet> InletRow<I> {
         ensures room { room_of self.new + 1 ≡ room_of self.old }
         ensures links { Links I.Inlet self.old self.new inlet }
     {
-        self.feeds.push_back_reserved(Feeding::Lane { number, inlet });
+        let lane = Feeding::Lane { number, inlet };
+        self.feeds.push_back_reserved(lane);
     }
 
     /// The next item, if there is one now. An undone lane in which nothing is left is dropped on the way.
     pub fn take(&mut self, lanes: &mut I::Lanes) -> Taken
         requires table { RowIn I.Inlet (I.Out.tells lanes.old) self.old }
         ensures moves { Moves I.Inlet (I.Out.tells lanes.old) (I.Out.tells lanes.new) self.old self.new result }
-        ensures table { StaysIn I.Inlet (I.Out.tells lanes.old) (I.Out.tells lanes.new) self.old self.new result }
+        ensures table { KeepsLanes I.Inlet (I.Out.tells lanes.old) (I.Out.tells lanes.new) self.old self.new result }
         ensures gave { (got : List Item) → RowGave I.Inlet self.old got → RowGave I.Inlet self.new (list_after got result) }
         ensures between { (sents : ℕ → List Item) (got : List Item) → AreApart I.Inlet self.old
             → RowBetween I.Inlet (I.Out.tells lanes.old) sents self.old got
@@ -102,24 +108,28 @@ impl<I: Inlet> InletRow<I> {
         ensures { Moves I.Inlet (I.Out.tells lanes.old) (I.Out.tells lanes.new) self.old self.new result }
     {
         while self.feeds.len() > 1 {
-            if let Some(item) = self.first(lanes) {
-                return Taken::Item(item);
+            match self.first(lanes) {
+                Taken::Item(item) => return Taken::Item(item),
+                Taken::Empty(_) => self.drop_first(),
             }
-            self.feeds.pop_front();
         }
-        match self.first(lanes) {
-            Some(item) => Taken::Item(item),
-            None => Taken::Empty(self.number()),
-        }
+        self.first(lanes)
+    }
+
+    /// Drops what stands first.
+    fn drop_first(&mut self)
+        ensures { feeds_of self.new ≡ drop 1 (feeds_of self.old) }
+    {
+        self.feeds.pop_front();
     }
 
     /// The item that stands first, or one that the lane there gives.
-    fn first(&mut self, lanes: &mut I::Lanes) -> Option<Item>
+    fn first(&mut self, lanes: &mut I::Lanes) -> Taken
         requires table { RowIn I.Inlet (I.Out.tells lanes.old) self.old }
         ensures { First I.Inlet (I.Out.tells lanes.old) (I.Out.tells lanes.new) (feeds_of self.old) (feeds_of self.new) result }
     {
         if self.feeds.is_empty() {
-            return None;
+            return Taken::Empty(UNLINKED);
         }
         if self.feeds[0].is_given() {
             return self.first_given();
@@ -128,23 +138,13 @@ impl<I: Inlet> InletRow<I> {
     }
 
     /// The item that stands first.
-    fn first_given(&mut self) -> Option<Item>
+    fn first_given(&mut self) -> Taken
         ensures { (item : Item) (feeds : List (Feeding I)) → feeds_of self.old ≡ Given item ∷ feeds
-            → (feeds_of self.new ≡ feeds) × (result ≡ Some item) }
+            → (feeds_of self.new ≡ feeds) × (result ≡ Next item) }
     {
         match self.feeds.pop_front() {
-            Some(first) => first.into_item(),
-            None => None,
+            Some(first) => first.into_taken(),
+            None => Taken::Empty(UNLINKED),
         }
-    }
-
-    /// The number of the lane that stands first.
-    fn number(&self) -> u32
-        ensures { result ≡ number_first (feeds_of self.now) }
-    {
-        if self.feeds.is_empty() {
-            return UNLINKED;
-        }
-        self.feeds[0].number()
     }
 }

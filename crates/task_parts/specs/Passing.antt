@@ -13,7 +13,7 @@ use Rattle.inlet_row.specs.declared.row.InletRow.{InletRow}
 use Rattle.inlet_row.specs.declared.feeding.Taken.{Taken}
 use Rattle.inlet_row.specs.declared.feeding.Taken.TheVariants as takes
 use Rattle.inlet_row.specs.Row.{AreApart, RowBetween, RowGave, RowIn}
-use Rattle.inlet_row.specs.Take.{HoldsAfter, Moves, StaysIn, list_after}
+use Rattle.inlet_row.specs.Take.{HoldsAfter, Moves, KeepsLanes, list_after}
 use Rattle.task_pads.specs.declared.pad.Pad.{Pad}
 use Rattle.task_pads.specs.declared.crossing.Crossing.{Crossing}
 use Rattle.task_pads.specs.declared.crossing.Crossing.TheVariants.{Idle, To, Gone, Full, AtProbe, NotLinked, BehindEos, AtLimit, OutOfMemory}
@@ -184,7 +184,7 @@ module _ {I O L : Type 0} (i : inlets.Ghosts I L O) where
     pub is : InletRow I
     pub set : RowSet head head' port was is
     pub gave : (got : List Item) → RowGave i was got → RowGave i is (list_after got taken)
-    pub stays : StaysIn i tells tells' was is taken
+    pub stays : KeepsLanes i tells tells' was is taken
     pub moves : Moves i tells tells' was is taken
     pub between : (sents : ℕ → List Item) (got : List Item) → AreApart i was → RowBetween i tells sents was got → RowBetween i tells' sents is (list_after got taken)
     pub holds : (t : List Lane) (sents : ℕ → List Item) (got : List Item) → tells ≡ Some t → AreApart i was → RowBetween i (Some t) sents was got → HoldsAfter i t tells' was is taken

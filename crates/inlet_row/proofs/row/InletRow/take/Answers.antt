@@ -1,11 +1,11 @@
-use Rattle.std.proofs.Common.{◌≡◌, subst, Option, Some, List}
+use Rattle.std.proofs.Common.{subst, Option, List}
 use Rattle.lane_core.specs.Lane.{Lane}
 use Rattle.inlet_row.specs.Take.{Moves}
-use Rattle.inlet_row.proofs.Results.{between_after, gave_after, holds_after, stays_in}
+use Rattle.inlet_row.proofs.Results.{between_after, gave_after, holds_after, keeps_lanes}
 use Rattle.inlet_row.proofs.row.InletRow.take.Goals as goal
 
 pub returns-clause-table : goal.returns-clause-table
-returns-clause-table g c = stays_in g.I.Inlet _ _ _ _ c.next.result c.next.ensures c.requires.table
+returns-clause-table g c = keeps_lanes g.I.Inlet _ _ _ _ c.next.result c.next.ensures c.requires.table
 
 pub returns-clause-gave : goal.returns-clause-gave
 returns-clause-gave g c = λ got h. gave_after g.I.Inlet _ _ _ _ c.next.result got c.next.ensures h
@@ -17,14 +17,14 @@ pub returns-clause-holds : goal.returns-clause-holds
 returns-clause-holds g c =
     λ t sents got told apart h.
     holds_after
-      g.I.Inlet
-      t
-      sents
-      _
-      c.args.self.now
-      c.next.new.self
-      c.next.result
-      got
-      (subst (λ (tells : Option (List Lane)). Moves g.I.Inlet tells (g.I.Out.Outlet.tells c.next.new.lanes) c.args.self.now c.next.new.self c.next.result) told c.next.ensures)
-      apart
-      h
+    g.I.Inlet
+    t
+    sents
+    _
+    c.args.self.now
+    c.next.new.self
+    c.next.result
+    got
+    (subst (λ (tells : Option (List Lane)). Moves g.I.Inlet tells (g.I.Out.Outlet.tells c.next.new.lanes) c.args.self.now c.next.new.self c.next.result) told c.next.ensures)
+    apart
+    h

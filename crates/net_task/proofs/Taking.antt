@@ -1,0 +1,242 @@
+-- What it makes of the moment that the element which a head feeds takes its next item.
+use Rattle.std.proofs.Common.{◌≡◌, ◌≢◌, ◌≤◌, ◌⊎◌, ◌++◌, ◌+◌, ◌==◌, ℕ, true, false, eqb, if◌then◌else◌, List, [], ◌∷◌, length, map, Some, None, Option, refl, sym, ap, ◌∙◌, subst, inl, inr, arith, append_assoc, append-nil, length-append}
+use Rattle.std.specs.Prelude.{slice_get, slice_set, Result, Ok, Err}
+use Rattle.std.proofs.lemmas.Bool.Decides.{eqb_tells}
+use Rattle.std.proofs.lemmas.Bool.{cases_eq}
+use Rattle.flow_model.specs.Item.{Item, is_flush_stop}
+use Rattle.flow_model.specs.Call.{Call, Feed}
+use Rattle.lane_core.specs.Lane.{Lane}
+use Rattle.lane_core.specs.declared.ends.Inlet as inlets
+use Rattle.lane_core.specs.declared.ends.Outlet as outlets
+use Rattle.net_model.specs.Moment.{Moment}
+use Rattle.net_model.specs.Split.{push_calls}
+use Rattle.net_model.proofs.Inputs.{at_here}
+use Rattle.element_traits.specs.declared.element.TaskElement as elements
+use Rattle.element_traits.specs.declared.source.TaskSource as sources
+use Rattle.element_traits.specs.declared.refusal.Refusal.{Refusal}
+use Rattle.inlet_row.specs.declared.row.InletRow.{InletRow}
+use Rattle.inlet_row.specs.declared.feeding.Taken.{Taken}
+use Rattle.inlet_row.specs.declared.feeding.Taken.TheVariants as takes
+use Rattle.inlet_row.specs.Row.{RowGave}
+use Rattle.task_pads.specs.Pads.{number_of, rest_of, waiting_of}
+use Rattle.task_parts.specs.declared.part.Part.{Part}
+use Rattle.task_parts.specs.declared.head.Head.{Head}
+use Rattle.task_parts.specs.declared.head.Head.TheVariants.{Source, Inlets}
+use Rattle.task_parts.specs.declared.head.SourceHead.{SourceHead}
+use Rattle.task_parts.specs.declared.head.InletHead.{InletHead}
+use Rattle.task_parts.specs.declared.step.Tried.{Tried}
+use Rattle.task_parts.specs.declared.step.Tried.TheVariants as tried
+use Rattle.task_parts.specs.declared.step.Step.TheVariants as steps
+use Rattle.task_parts.specs.declared.fault.TaskFault.{TaskFault}
+use Rattle.task_parts.specs.declared.fault.TaskFault.TheVariants as faults
+use Rattle.task_parts.specs.Fault.{refusal_fault}
+use Rattle.task_parts.specs.Found.{IsAt}
+use Rattle.task_parts.specs.Shape.{part_shape}
+use Rattle.task_parts.specs.Head.{SourceKept}
+use Rattle.task_parts.specs.Part.{PartFed, PartFell}
+use Rattle.task_parts.specs.Moved.{PartSet}
+use Rattle.task_parts.specs.Passing.{Settles, GivesAs, RowSet, HasNoRow, AsksRow, AfterTake, RowFeeds, WantsNone, WantsOne, TakesNext}
+use Rattle.net_task.specs.Ties.{TookAt, PartTied, PartsTied, RowTied, RowsTied, SourceTied, NoneIs, AreTied, Stands, nothing_lost}
+use Rattle.net_task.specs.Moves.{Unlawful, flush_given, flush_taken, gives as gives_one, takes as takes_one, Advances, TriedAs}
+use Rattle.net_task.specs.Failed.{StandsOrFell, Left, Refuses, FailsAs, by_inlet, refused, unread, at_limit, lost_at}
+use Rattle.net_task.proofs.Lists.{some_same, set_at, set_there}
+use Rattle.net_task.proofs.Linked.{linked_rest, shape_rest, same_number}
+use Rattle.net_task.proofs.Tied.{none_leads_same, part_pads, parts_set_shape, parts_set, part_known, part_fell, part_settled, head_same, took_other, took_more}
+use Rattle.net_task.proofs.Fed.{now, out_now, fed_parts, fed_answers}
+use Rattle.net_task.proofs.Passing.{stands_set}
+use Rattle.net_task.proofs.Handing.{shape_at}
+use Rattle.net_task.proofs.Sources.{Begins, later, Later}
+use Rattle.net_task.proofs.Trying.{ok_same, err_same, not_both}
+use Rattle.inlet_row.specs.Take.{list_after}
+
+lost_here : (port : ℕ) (x : Item) → lost_at port x port ≡ x ∷ []
+lost_here port x = go (eqb_tells port port)
+  where
+    go : ((eqb port port ≡ true) × (port ≡ port)) ⊎ ((eqb port port ≡ false) × (port ≡ port → ⊥)) → (if eqb port port then x ∷ [] else []) ≡ x ∷ []
+    go (inl t) = rw t.0 refl
+    go (inr t) = absurd (t.1 refl)
+
+lost_else : (port : ℕ) (x : Item) (k : ℕ) → (k ≡ port → ⊥) → lost_at port x k ≡ []
+lost_else port x k n = go (eqb_tells k port)
+  where
+    go : ((eqb k port ≡ true) × (k ≡ port)) ⊎ ((eqb k port ≡ false) × (k ≡ port → ⊥)) → (if eqb k port then x ∷ [] else []) ≡ []
+    go (inl t) = absurd (n t.1)
+    go (inr t) = rw t.0 refl
+
+-- what an element took, or refused, by the answer
+pub record RowTook {E O : Type 0} {e : elements.Ghosts E} (parts parts' : List (Part E O e)) (to port : ℕ) (x : Item) (answer : Tried) : Type 0 where
+  pub moved : answer ≡ tried.Moved
+  pub was : Part E O e
+  pub is : Part E O e
+  pub set : PartSet parts parts' to was is
+  pub fed : PartFed was is port x
+
+pub record RowRefused {E O : Type 0} {e : elements.Ghosts E} (parts parts' : List (Part E O e)) (to port : ℕ) (x : Item) (fault : TaskFault) : Type 0 where
+  pub refusal : Refusal
+  pub was : Part E O e
+  pub is : Part E O e
+  pub set : PartSet parts parts' to was is
+  pub fell : PartFell was is port x refusal
+  pub named : fault ≡ refusal_fault was.number refusal
+
+row_took : {E O : Type 0} {e : elements.Ghosts E} (parts parts' : List (Part E O e)) (to port : ℕ) (x : Item) (r : Result Tried TaskFault) (answer : Tried) → r ≡ Ok answer → RowFeeds parts parts' to port x r → RowTook parts parts' to port x answer
+row_took parts parts' to port x (Ok given) answer q f = let same : answer ≡ given = cc in record { moved = same ∙ f.0; was = f.1; is = f.2; set = f.3; fed = f.4 }
+row_took parts parts' to port x (Err given) answer q f = absurd cc
+
+row_refused : {E O : Type 0} {e : elements.Ghosts E} (parts parts' : List (Part E O e)) (to port : ℕ) (x : Item) (r : Result Tried TaskFault) (fault : TaskFault) → r ≡ Err fault → RowFeeds parts parts' to port x r → RowRefused parts parts' to port x fault
+row_refused parts parts' to port x (Ok given) fault q f = absurd cc
+row_refused parts parts' to port x (Err given) fault q f = let same : fault ≡ given = cc in record { refusal = f.0; was = f.1; is = f.2; set = f.3; fell = f.4; named = same ∙ f.5 }
+
+module _ {S E I O L : Type 0} {s : sources.Ghosts S} {e : elements.Ghosts E} (i : inlets.Ghosts I L O) (o : outlets.Ghosts O L) (head head' : InletHead I) (parts parts' : List (Part E O e)) (to : ℕ) (at : IsAt parts head.number to)
+    (shapes : map part_shape parts' ≡ map part_shape parts) (m : Moment) (a : AreTied {S = S} {s = s} i o (Stands m) nothing_lost m (Inlets head) parts) where
+  abbrev Head_of : InletHead I → Head S I O s
+  Head_of h = Inlets h
+
+  -- no row changed
+  rows_same : head'.number ≡ head.number → head'.rows ≡ head.rows → parts' ≡ parts → AreTied {S = S} {s = s} i o (Stands m) nothing_lost m (Inlets head') parts'
+  rows_same number rows same =
+      subst (AreTied i o (Stands m) nothing_lost m (Head_of head')) (sym same)
+      (record { parts_tied = a.parts_tied; head_tied = subst (λ k. (port : ℕ) (row : InletRow I) → slice_get head'.rows.items port ≡ Some row → RowTied i [] m k port row parts) (sym number) (rw rows a.head_tied) })
+
+  -- one row changed, and what it gave
+  rows_set : (lost : ℕ → List Item) (m' : Moment) (port : ℕ) (was is : InletRow I) → RowSet i head head' port was is → RowTied i (lost port) m' head.number port is parts'
+      → ((k : ℕ) (row : InletRow I) → (k ≡ port → ⊥) → RowTied i [] m head.number k row parts → RowTied i (lost k) m' head.number k row parts') → RowsTied i lost m' head' parts'
+  rows_set lost m' port was is set here other = λ k row row_at. subst (λ n. RowTied i (lost k) m' n k row parts') (sym set.number) (go k row row_at (cases_eq k port))
+    where
+      got : (k : ℕ) (row : InletRow I) → slice_get head'.rows.items k ≡ Some row → slice_get (slice_set head.rows.items port is) k ≡ Some row
+      got k row row_at = ap (λ (rs : List (InletRow I)). slice_get rs k) (sym set.set) ∙ row_at
+
+      go : (k : ℕ) (row : InletRow I) → slice_get head'.rows.items k ≡ Some row → ((k ≡ port) ⊎ (k ≡ port → ⊥)) → RowTied i (lost k) m' head.number k row parts'
+      go k row row_at (inl same) =
+          let one : row ≡ is = some_same (sym (got k row row_at) ∙ ap (slice_get (slice_set head.rows.items port is)) same ∙ set_at head.rows.items port was is set.at) in
+          subst (λ (r : InletRow I). RowTied i (lost k) m' head.number k r parts') (sym one) (subst (λ j. RowTied i (lost j) m' head.number j is parts') (sym same) here)
+      go k row row_at (inr n) = other k row n (a.head_tied k row (sym (set_there head.rows.items port k is n) ∙ got k row row_at))
+
+  -- a row gave nothing
+  row_stays : (port : ℕ) (was is : InletRow I) → RowSet i head head' port was is → ((got : List Item) → RowGave i was got → RowGave i is got) → parts' ≡ parts → AreTied {S = S} {s = s} i o (Stands m) nothing_lost m (Inlets head') parts'
+  row_stays port was is set gave same =
+      let z = a.head_tied port was set.at in
+      record {
+        parts_tied = subst (PartsTied o (Stands m) m) (sym same) a.parts_tied;
+        head_tied = rows_set nothing_lost m port was is set (record { all = z.all; gave = gave z.all z.gave; got = z.got; whole = z.whole; took = z.took; apart = none_leads_same parts parts' head.number port shapes z.apart })
+            (λ k row n y. record { all = y.all; gave = y.gave; got = y.got; whole = y.whole; took = y.took; apart = none_leads_same parts parts' head.number k shapes y.apart });
+      }
+
+  -- the element took what a row gave
+  row_fed : (port : ℕ) (was is : InletRow I) (x : Item) → RowSet i head head' port was is → ((got : List Item) → RowGave i was got → RowGave i is (got ++ x ∷ [])) → (eater ate : Part E O e) → PartSet parts parts' to eater ate → PartFed eater ate port x
+      → Advances {S = S} {s = s} i o m (Inlets head') parts'
+  row_fed port was is x set gave eater ate eats fed =
+      let n : eater.number ≡ head.number = ap (λ (z : Part E O e). z.number) (some_same (sym eats.at ∙ at.at)) ∙ at.number_is in
+      let shape : part_shape ate ≡ part_shape eater = shape_at part_shape parts parts' shapes to eater ate eats.at (ap (λ (ps : List (Part E O e)). slice_get ps to) eats.set ∙ set_at parts to eater ate eats.at) in
+      let z = a.head_tied port was set.at in
+      let m' : Moment = now o parts parts' to port x eater ate eats shape fed m in
+      let took : m'.took head.number ≡ push_calls port (Feed x ∷ []) (m.took head.number) =
+      subst (λ k. m'.took k ≡ push_calls port (Feed x ∷ []) (m.took k)) n (at_here eater.number (push_calls port (Feed x ∷ []) (m.took eater.number)) m.took) in
+      record {
+        next = m';
+        move = takes_one eater.number port x (out_now o parts parts' to port x eater ate eats shape fed m) (fed_answers o parts parts' to port x eater ate eats shape fed m a.parts_tied);
+        tied = record {
+          parts_tied = fed_parts o parts parts' to port x eater ate eats shape fed m a.parts_tied;
+          head_tied = rows_set nothing_lost m' port was is set
+              (record {
+                all = z.all ++ x ∷ [];
+                gave = gave z.all z.gave;
+                got = z.got ++ x ∷ [];
+                whole = ap (λ ys. ys ++ x ∷ []) (z.whole ∙ append-nil z.got) ∙ sym (append-nil (z.got ++ x ∷ []));
+                took = subst (λ (ts : List (List Call)). TookAt port ts (z.got ++ x ∷ [])) (sym took) (took_more port (m.took head.number) z.got x z.took);
+                apart = none_leads_same parts parts' head.number port shapes z.apart;
+              })
+              (λ k row far y. record {
+                all = y.all;
+                gave = y.gave;
+                got = y.got;
+                whole = y.whole;
+                took = subst (λ (ts : List (List Call)). TookAt k ts y.got) (sym took) (took_other k port (Feed x ∷ []) (m.took head.number) y.got far y.took);
+                apart = none_leads_same parts parts' head.number k shapes y.apart;
+              });
+        };
+      }
+
+  -- it refused it
+  row_back : (port : ℕ) (was is : InletRow I) (x : Item) → RowSet i head head' port was is → ((got : List Item) → RowGave i was got → RowGave i is (got ++ x ∷ [])) → (refusal : Refusal) (eater ate : Part E O e) → PartSet parts parts' to eater ate → PartFell eater ate port x refusal
+      → Left {S = S} {s = s} i o m (Inlets head') parts' eater.number port x × Refuses e m eater.number port x refusal
+  row_back port was is x set gave refusal eater ate eats fell =
+      let z = a.head_tied port was set.at in
+      let tied = a.parts_tied.each to eater eats.at in (
+        record {
+          behind = m;
+          lost = lost_at port x;
+          gave_up = by_inlet;
+          tied = record {
+            parts_tied = parts_set o (Stands m) (StandsOrFell eater.number port x m) m m parts parts' to eater ate eats fell.number (λ q n y. part_known o (Stands m q) (StandsOrFell eater.number port x m q) m q inl y)
+                (part_fell o (Stands m eater) (StandsOrFell eater.number port x m ate) m eater ate fell.number fell.pads fell.out
+                (inr (fell.number, subst (λ k. e.fell ate.element (m.plan.rule k) (m.took k) port x) (sym fell.number) (fell.fell (m.plan.rule eater.number) (m.took eater.number) tied.stood))) tied)
+                a.parts_tied;
+            head_tied = rows_set (lost_at port x) m port was is set
+                (record {
+                  all = z.all ++ x ∷ [];
+                  gave = gave z.all z.gave;
+                  got = z.got;
+                  whole = ap (λ ys. ys ++ x ∷ []) (z.whole ∙ append-nil z.got) ∙ ap (λ ys. z.got ++ ys) (sym (lost_here port x));
+                  took = z.took;
+                  apart = none_leads_same parts parts' head.number port shapes z.apart;
+                })
+                (λ k row far y. record { all = y.all; gave = y.gave; got = y.got; whole = y.whole ∙ ap (λ ys. y.got ++ ys) (sym (lost_else port x k far)); took = y.took; apart = none_leads_same parts parts' head.number k shapes y.apart });
+          };
+        },
+        record {
+          was = eater.element;
+          is = ate.element;
+          stood = tied.stood;
+          why = fell.refused (m.plan.rule eater.number) (m.took eater.number) tied.stood;
+          cause = fell.cause;
+        },
+      )
+
+  after_tried : (tells tells' : Option (List Lane)) (r : Result Tried TaskFault) (port : ℕ) (taken : Taken) → AsksRow i head head' port tells tells' taken → AfterTake i parts parts' to port taken r → (answer : Tried) → r ≡ Ok answer → TriedAs {S = S} {s = s} i o m (Inlets head') parts' answer
+  after_tried tells tells' r port (takes.Empty lane) k f answer q = subst (TriedAs i o m (Head_of head') parts') (ok_same r (tried.Stuck (steps.NeedsItem lane)) answer f.1 q) (row_stays port k.was k.is k.set k.gave f.0)
+  after_tried tells tells' r port (takes.Item x) k (inl f) answer q = subst (TriedAs i o m (Head_of head') parts') (ok_same r tried.Moved answer f.2 q) (inr (flush_taken x f.0))
+  after_tried tells tells' r port (takes.Item x) k (inr f) answer q =
+      let w = row_took parts parts' to port x r answer q f.1 in
+      subst (TriedAs i o m (Head_of head') parts') (sym w.moved) (inl (row_fed port k.was k.is x k.set k.gave w.was w.is w.set w.fed))
+
+  after_failed : (tells tells' : Option (List Lane)) (r : Result Tried TaskFault) (port : ℕ) (taken : Taken) → AsksRow i head head' port tells tells' taken → AfterTake i parts parts' to port taken r → (fault : TaskFault) → r ≡ Err fault → FailsAs {S = S} {s = s} i o m (Inlets head) (Inlets head') parts' fault
+  after_failed tells tells' r port (takes.Empty lane) k f fault q = not_both r (tried.Stuck (steps.NeedsItem lane)) fault f.1 q
+  after_failed tells tells' r port (takes.Item x) k (inl f) fault q = not_both r tried.Moved fault f.2 q
+  after_failed tells tells' r port (takes.Item x) k (inr f) fault q =
+      let w = row_refused parts parts' to port x r fault q f.1 in
+      let z = row_back port k.was k.is x k.set k.gave w.refusal w.was w.is w.set w.fell in
+      subst (FailsAs i o m (Head_of head) (Head_of head') parts') (sym w.named) (refused w.was.number port x w.refusal z.0 z.1)
+
+  none_tried : (tells tells' : Option (List Lane)) (r : Result Tried TaskFault) (port : ℕ) (taken : Taken) → HasNoRow i head head' port tells tells' taken → AfterTake i parts parts' to port taken r → (answer : Tried) → r ≡ Ok answer → TriedAs {S = S} {s = s} i o m (Inlets head') parts' answer
+  none_tried tells tells' r port (takes.Empty lane) k f answer q = subst (TriedAs i o m (Head_of head') parts') (ok_same r (tried.Stuck (steps.NeedsItem lane)) answer f.1 q) (rows_same k.number k.rows f.0)
+  none_tried tells tells' r port (takes.Item x) k f answer q = absurd (let z = k.empty in cc)
+
+  none_failed : (tells tells' : Option (List Lane)) (r : Result Tried TaskFault) (port : ℕ) (taken : Taken) → HasNoRow i head head' port tells tells' taken → AfterTake i parts parts' to port taken r → (fault : TaskFault) → r ≡ Err fault → FailsAs {S = S} {s = s} i o m (Inlets head) (Inlets head') parts' fault
+  none_failed tells tells' r port (takes.Empty lane) k f fault q = not_both r (tried.Stuck (steps.NeedsItem lane)) fault f.1 q
+  none_failed tells tells' r port (takes.Item x) k f fault q = absurd (let z = k.empty in cc)
+
+module _ {S E I O L : Type 0} {s : sources.Ghosts S} {e : elements.Ghosts E} (i : inlets.Ghosts I L O) (o : outlets.Ghosts O L) (head head' : InletHead I) (parts parts' : List (Part E O e)) (tells tells' : Option (List Lane)) (r : Result Tried TaskFault)
+    (t : TakesNext i head head' parts parts' tells tells' r) (shapes : map part_shape parts' ≡ map part_shape parts) (m : Moment) (a : AreTied {S = S} {s = s} i o (Stands m) nothing_lost m (Inlets head) parts) where
+  -- what a question to the rows of a head makes of the moment
+  pub taken_tried : (answer : Tried) → r ≡ Ok answer → TriedAs {S = S} {s = s} i o m (Inlets head') parts' answer
+  taken_tried answer q = go t.next
+    where
+      go : (WantsNone i head head' parts parts' t.fed.part tells tells' r ⊎ WantsOne i head head' parts parts' t.fed.part t.to tells tells' r) → TriedAs {S = S} {s = s} i o m (Inlets head') parts' answer
+      go (inl w) = subst (TriedAs i o m (Inlets head') parts') (ok_same r tried.Idle answer w.idle q) (rows_same i o head head' parts parts' t.to t.fed shapes m a w.number w.rows w.parts_same)
+      go (inr w) = ask w.asks
+        where
+          ask : (AsksRow i head head' w.port tells tells' w.taken ⊎ HasNoRow i head head' w.port tells tells' w.taken) → TriedAs {S = S} {s = s} i o m (Inlets head') parts' answer
+          ask (inl k) = after_tried i o head head' parts parts' t.to t.fed shapes m a tells tells' r w.port w.taken k w.after answer q
+          ask (inr k) = none_tried i o head head' parts parts' t.to t.fed shapes m a tells tells' r w.port w.taken k w.after answer q
+
+  pub taken_failed : (fault : TaskFault) → r ≡ Err fault → FailsAs {S = S} {s = s} i o m (Inlets head) (Inlets head') parts' fault
+  taken_failed fault q = go t.next
+    where
+      go : (WantsNone i head head' parts parts' t.fed.part tells tells' r ⊎ WantsOne i head head' parts parts' t.fed.part t.to tells tells' r) → FailsAs {S = S} {s = s} i o m (Inlets head) (Inlets head') parts' fault
+      go (inl w) = not_both r tried.Idle fault w.idle q
+      go (inr w) = ask w.asks
+        where
+          ask : (AsksRow i head head' w.port tells tells' w.taken ⊎ HasNoRow i head head' w.port tells tells' w.taken) → FailsAs {S = S} {s = s} i o m (Inlets head) (Inlets head') parts' fault
+          ask (inl k) = after_failed i o head head' parts parts' t.to t.fed shapes m a tells tells' r w.port w.taken k w.after fault q
+          ask (inr k) = none_failed i o head head' parts parts' t.to t.fed shapes m a tells tells' r w.port w.taken k w.after fault q

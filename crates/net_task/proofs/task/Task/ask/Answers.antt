@@ -1,0 +1,14 @@
+use Rattle.std.proofs.Common.{◌≡◌, subst, sym}
+use Rattle.net_task.specs.Moves.{AfterTry}
+use Rattle.net_task.specs.Framed.{IsSourceKept}
+use Rattle.net_task.proofs.Closed.{if_err, err_at}
+use Rattle.net_task.proofs.Unread.{failed_then}
+use Rattle.net_task.proofs.task.Task.ask.Goals as goal
+
+pub returns-in-Ok-Idle-clause-faults : goal.returns-in-Ok-Idle-clause-faults
+returns-in-Ok-Idle-clause-faults g c = if_err c.ask_head.result _ (λ fault q m a. failed_then g.I.Inlet g.O.Outlet m c.args.self.now.head c.try_head.new.self.head c.ask_head.new.self.head c.ask_head.new.self.parts.items fault
+    (subst (IsSourceKept c.args.self.now c.try_head.new.self) c.in-Ok-Idle.field-0-is c.in-Ok-Idle.ensures.kept)
+    (err_at c.ask_head.result _ fault q c.ask_head.ensures.faults m (subst (AfterTry c.try_head.new.self m) c.in-Ok-Idle.field-0-is (c.in-Ok-Idle.ensures.tries m a))))
+
+pub returns-in-Ok-Moved-clause-steps : goal.returns-in-Ok-Moved-clause-steps
+returns-in-Ok-Moved-clause-steps g c m a = subst (AfterTry c.try_head.new.self m) c.in-Ok-Moved.field-0-is (c.in-Ok-Moved.ensures.tries m a)

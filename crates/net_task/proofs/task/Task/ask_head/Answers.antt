@@ -1,0 +1,44 @@
+use Rattle.std.proofs.Common.{◌≡◌, subst, sym}
+use Rattle.net_model.specs.Moment.{Moment}
+use Rattle.task_parts.specs.declared.head.Head.{Head}
+use Rattle.task_parts.specs.declared.head.Head.TheVariants.{Source, Inlets}
+use Rattle.net_task.specs.Framed.{HeadIdle}
+use Rattle.net_task.specs.Ties.{AreTied, Stands, nothing_lost}
+use Rattle.net_task.specs.Failed.{FailsAs}
+use Rattle.net_task.proofs.Asking.{given_tried, given_failed}
+use Rattle.net_task.proofs.Taking.{taken_tried, taken_failed}
+use Rattle.net_task.proofs.HeadSteps.{head_steps, head_fails, given_moves, taken_moves}
+use Rattle.net_task.proofs.task.Task.ask_head.Goals as goal
+
+pub returns-in-Source-clause-steps : goal.returns-in-Source-clause-steps
+returns-in-Source-clause-steps g c =
+    head_steps g.I.Inlet g.O.Outlet c.give.result c.step_of.result c.step_of.ensures (Source c.give.new.head) c.args.self.now.parts.items
+    (λ m. AreTied g.I.Inlet g.O.Outlet (Stands m) nothing_lost m c.args.self.now.head c.args.self.now.parts.items)
+    (given_moves c.in-Source.head c.give.new.head c.give.result c.give.ensures.gives)
+    (λ m a. given_tried g.I.Inlet g.O.Outlet (λ source owed given gave. (g.met.S.TaskSource).begins source owed given gave) c.in-Source.head c.give.new.head c.args.self.now.parts.items c.give.ensures.number c.give.ensures.rest m
+    (subst (λ (h : Head g.row.S.Denot g.row.I.Denot g.row.O.Denot g.S.TaskSource). AreTied g.I.Inlet g.O.Outlet (Stands m) nothing_lost m h c.args.self.now.parts.items) c.in-Source.is a) c.give.result c.give.ensures.gives)
+
+pub returns-in-Source-clause-faults : goal.returns-in-Source-clause-faults
+returns-in-Source-clause-faults g c =
+    head_fails g.I.Inlet g.O.Outlet c.give.result c.step_of.result c.step_of.ensures c.args.self.now.head (Source c.give.new.head) c.args.self.now.parts.items
+    (λ m. AreTied g.I.Inlet g.O.Outlet (Stands m) nothing_lost m c.args.self.now.head c.args.self.now.parts.items)
+    (λ m a fault q. subst (λ (h : Head g.row.S.Denot g.row.I.Denot g.row.O.Denot g.S.TaskSource). FailsAs g.I.Inlet g.O.Outlet m h (Source c.give.new.head) c.args.self.now.parts.items fault) (sym c.in-Source.is)
+    (given_failed g.I.Inlet g.O.Outlet (λ source owed given gave. (g.met.S.TaskSource).begins source owed given gave) c.in-Source.head c.give.new.head c.args.self.now.parts.items c.give.ensures.number c.give.ensures.rest m
+    (subst (λ (h : Head g.row.S.Denot g.row.I.Denot g.row.O.Denot g.S.TaskSource). AreTied g.I.Inlet g.O.Outlet (Stands m) nothing_lost m h c.args.self.now.parts.items) c.in-Source.is a)
+    (subst (λ (h : Head g.row.S.Denot g.row.I.Denot g.row.O.Denot g.S.TaskSource). HeadIdle h) c.in-Source.is c.requires.idle) c.give.result c.give.ensures.gives fault q))
+
+pub returns-in-Inlets-clause-steps : goal.returns-in-Inlets-clause-steps
+returns-in-Inlets-clause-steps g c =
+    head_steps g.I.Inlet g.O.Outlet c.take.result c.step_of-in-Inlets.result c.step_of-in-Inlets.ensures (Inlets c.take.new.head) c.take.new.parts.items
+    (λ m. AreTied g.I.Inlet g.O.Outlet (Stands m) nothing_lost m c.args.self.now.head c.args.self.now.parts.items)
+    (taken_moves g.I.Inlet c.in-Inlets.head c.take.new.head c.args.self.now.parts.items c.take.new.parts.items _ _ c.take.result c.take.ensures.takes)
+    (λ m a. taken_tried g.I.Inlet g.O.Outlet c.in-Inlets.head c.take.new.head c.args.self.now.parts.items c.take.new.parts.items _ _ c.take.result c.take.ensures.takes c.take.ensures.shape m
+    (subst (λ (h : Head g.row.S.Denot g.row.I.Denot g.row.O.Denot g.S.TaskSource). AreTied g.I.Inlet g.O.Outlet (Stands m) nothing_lost m h c.args.self.now.parts.items) c.in-Inlets.is a))
+
+pub returns-in-Inlets-clause-faults : goal.returns-in-Inlets-clause-faults
+returns-in-Inlets-clause-faults g c =
+    head_fails g.I.Inlet g.O.Outlet c.take.result c.step_of-in-Inlets.result c.step_of-in-Inlets.ensures c.args.self.now.head (Inlets c.take.new.head) c.take.new.parts.items
+    (λ m. AreTied g.I.Inlet g.O.Outlet (Stands m) nothing_lost m c.args.self.now.head c.args.self.now.parts.items)
+    (λ m a fault q. subst (λ (h : Head g.row.S.Denot g.row.I.Denot g.row.O.Denot g.S.TaskSource). FailsAs g.I.Inlet g.O.Outlet m h (Inlets c.take.new.head) c.take.new.parts.items fault) (sym c.in-Inlets.is)
+    (taken_failed g.I.Inlet g.O.Outlet c.in-Inlets.head c.take.new.head c.args.self.now.parts.items c.take.new.parts.items _ _ c.take.result c.take.ensures.takes c.take.ensures.shape m
+    (subst (λ (h : Head g.row.S.Denot g.row.I.Denot g.row.O.Denot g.S.TaskSource). AreTied g.I.Inlet g.O.Outlet (Stands m) nothing_lost m h c.args.self.now.parts.items) c.in-Inlets.is a) fault q))

@@ -1,0 +1,79 @@
+-- A task behind a fault, and why it met the fault.
+use Rattle.std.specs.Prelude.{◌≡◌, ◌≤◌, ◌⊎◌, ℕ, ◌==◌, true, false, if◌then◌else◌, List, [], ◌∷◌, length}
+use Rattle.flow_model.specs.Item.{Item, is_buffer}
+use Rattle.flow_model.specs.Rule.{Rule}
+use Rattle.lane_core.specs.declared.ends.Inlet as inlets
+use Rattle.lane_core.specs.declared.ends.Outlet as outlets
+use Rattle.net_model.specs.Moment.{Moment, put_at}
+use Rattle.net_model.specs.Step.{Leads, LeadsNowhere}
+use Rattle.element_traits.specs.declared.element.TaskElement as elements
+use Rattle.element_traits.specs.declared.source.TaskSource as sources
+use Rattle.element_traits.specs.declared.refusal.Refusal.{Refusal}
+use Rattle.element_traits.specs.declared.refusal.Unread.{Unread}
+use Rattle.element_traits.specs.Failures.{IsReadCause, IsWriteCause}
+use Rattle.task_parts.specs.declared.part.Part.{Part}
+use Rattle.task_parts.specs.declared.head.Head.{Head}
+use Rattle.task_parts.specs.declared.head.SourceHead.{SourceHead}
+use Rattle.task_parts.specs.declared.head.Head.TheVariants.{Source, Inlets}
+use Rattle.net_task.specs.declared.task.Task.{Task}
+use Rattle.task_parts.specs.declared.fault.TaskFault.{TaskFault}
+use Rattle.task_parts.specs.declared.fault.TaskFault.TheVariants.{TooLong, NotLinked, OutOfMemory}
+use Rattle.task_parts.specs.Fault.{refusal_fault, unread_fault}
+use Rattle.net_task.specs.Ties.{AreTied, Stands, nothing_lost}
+
+-- an item that waited first at a pad is given up
+abbrev pub without_first : ℕ → List Item → Moment → Moment
+without_first p rest m = record m { waits = put_at p rest m.waits }
+
+-- one item of a head is lost
+abbrev pub lost_at : ℕ → Item → ℕ → List Item
+lost_at port x k = if k == port then x ∷ [] else []
+
+module _ {E O : Type 0} {e : elements.Ghosts E} where
+  -- an element stands, or it is the one that refused an item and stands for that
+  abbrev pub StandsOrFell : ℕ → ℕ → Item → Moment → Part E O e → Type 0
+  StandsOrFell n i x m part = Stands m part ⊎ ((part.number ≡ n) × e.fell part.element (m.plan.rule part.number) (m.took part.number) i x)
+
+-- Where the item was that an element refused: it waited first at a pad of the task, and does no more; or it came from an
+-- inlet of the head, and is lost there. Nothing else is lost.
+pub data GaveUp (m : Moment) (n i : ℕ) (x : Item) : Moment → (ℕ → List Item) → Type 0 where
+  by_pad : (p : ℕ) (rest : List Item) → m.waits p ≡ x ∷ rest → Leads m.plan p n i → GaveUp m n i x (without_first p rest m) nothing_lost
+  by_source : (p : ℕ) (rest : List Item) → m.waits p ≡ x ∷ rest → Leads m.plan p n i → GaveUp m n i x (without_first p rest m) (lost_at 0 x)
+  by_inlet : GaveUp m n i x m (lost_at i x)
+
+module _ {E : Type 0} (e : elements.Ghosts E) where
+  -- Its rule, or a failed write of this very call, is why an element refused an item.
+  pub record Refuses (m : Moment) (n pad : ℕ) (x : Item) (refusal : Refusal) : Type 0 where
+    pub was : E
+    pub is : E
+    pub stood : e.stands was (m.plan.rule n) (m.took n)
+    pub why : e.refuses was (m.plan.rule n) (m.took n) pad x refusal
+    pub cause : IsWriteCause (e.failures was) (e.failures is) refusal
+
+module _ {S I O : Type 0} {s : sources.Ghosts S} where
+  -- the source could not be read in this very call
+  abbrev pub IsUnread : Head S I O s → Head S I O s → ℕ → Unread → Type 0
+  IsUnread (Source old) (Source new) n unread = (old.number ≡ n) × IsReadCause (s.failures old.source) (s.failures new.source) unread
+  IsUnread (Source old) (Inlets new) n unread = ⊥
+  IsUnread (Inlets old) new n unread = ⊥
+
+module _ {S E I O L : Type 0} {s : sources.Ghosts S} {e : elements.Ghosts E} (i : inlets.Ghosts I L O) (o : outlets.Ghosts O L) where
+  -- A head and elements are tied to the moment but for the one item that was given up and the element that refused it.
+  pub record Left (m : Moment) (head : Head S I O s) (parts : List (Part E O e)) (n pad : ℕ) (x : Item) : Type 0 where
+    pub behind : Moment
+    pub lost : ℕ → List Item
+    pub gave_up : GaveUp m n pad x behind lost
+    pub tied : AreTied i o (StandsOrFell n pad x behind) lost behind head parts
+
+  -- Why a head and elements met a fault at a moment, and how they stand behind it.
+  pub data FailsAs (m : Moment) (head head' : Head S I O s) (parts' : List (Part E O e)) : TaskFault → Type 0 where
+    refused : (n pad : ℕ) (x : Item) (refusal : Refusal) → Left m head' parts' n pad x → Refuses e m n pad x refusal → FailsAs m head head' parts' (refusal_fault n refusal)
+    unread : (n : ℕ) (why : Unread) → AreTied i o (Stands m) nothing_lost m head' parts' → IsUnread head head' n why → FailsAs m head head' parts' (unread_fault n why)
+    not_linked : (p : ℕ) (x : Item) (rest : List Item) → AreTied i o (Stands m) nothing_lost m head' parts' → m.waits p ≡ x ∷ rest → is_buffer x ≡ true
+        → ((q : ℕ) → m.plan.owner q ≡ m.plan.owner p → LeadsNowhere m.plan q) → FailsAs m head head' parts' (NotLinked p (length (m.history p)))
+    at_limit : (p : ℕ) → AreTied i o (Stands m) nothing_lost m head' parts' → 1099511627776 ≤ length (m.history p) → FailsAs m head head' parts' (TooLong (m.plan.owner p) 1099511627776 1)
+    no_memory : AreTied i o (Stands m) nothing_lost m head' parts' → FailsAs m head head' parts' OutOfMemory
+
+-- why a task met a fault at a moment, and how it stands behind it
+abbrev pub Failed : {S E I O L : Type 0} {s : sources.Ghosts S} {e : elements.Ghosts E} {i : inlets.Ghosts I L O} {o : outlets.Ghosts O L} → Task S E I O L s e i o → Task S E I O L s e i o → Moment → TaskFault → Type 0
+Failed {i = i} {o = o} old new m fault = FailsAs i o m old.head new.head new.parts.items fault

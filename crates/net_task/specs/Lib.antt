@@ -1,0 +1,5 @@
+pub mod Failed
+pub mod Framed
+pub mod Answers
+pub mod Moves
+pub mod Ties
