@@ -2,10 +2,10 @@
 ghost use Rattle.std.specs.Prelude.{◌≡◌, true};
 ghost use Rattle.task_parts.specs.Shape.{is_closed, shape_of};
 
+use crate::answers::{prefer, step_of, with_next};
 use element_traits::{TaskElement, TaskSource};
 use lane_core::{Inlet, Outlet};
 use std::alloc::Global;
-use crate::answers::{prefer, step_of, with_next};
 use task_parts::{Head, Part, Step, TaskFault, Tried, cross_part, cross_source, give, settle, take};
 
 /// A task: a head, and elements with their source pads, in the order in which these are tried: those that stand farthest

@@ -4,7 +4,7 @@ use Rattle.net_task.proofs.Still.{part_still}
 use Rattle.net_task.proofs.task.Task.try_pad.Goals as goal
 
 pub cross_part-requires-clause-closed : goal.cross_part-requires-clause-closed
-cross_part-requires-clause-closed g c = λ part at. closed_part c.args.self.now.head c.args.self.now.parts.items c.args.place part c.args.self.now.closed at
+cross_part-requires-clause-closed g c = λ κs w part at. closed_part c.args.self.now.head c.args.self.now.parts.items c.args.place part c.args.self.now.closed at
 
 pub returns-clause-tries : goal.returns-clause-tries
 returns-clause-tries g c =
