@@ -22,3 +22,9 @@ Grows j (c ∷ cs) owed owed' more = (owed' j ≡ owed j) × Grows (suc j) cs ow
 abbrev pub Ends : ℕ → List (ℕ × ℕ) → Owed → Owed → List Item → Type 0
 Ends j [] owed owed' now = IsPrefix (owed j) (owed' j) × (owed' (suc j) ≡ now)
 Ends j (c ∷ cs) owed owed' now = (owed' j ≡ owed j) × Ends (suc j) cs owed owed' now
+
+-- A source's pad ends its section so: all sections so far are owed as before, and what the source gives anew is owed in the
+-- next.
+abbrev pub SourceEnds : Type 0
+SourceEnds = (cuts : List (ℕ × ℕ)) (owed owed' : Owed) (now : List Item) → ((j : ℕ) → j ≤ length cuts → owed' j ≡ owed j) → owed' (suc (length cuts)) ≡ now
+    → Ends 0 cuts owed owed' now

@@ -7,6 +7,7 @@
 //! histories are those of the evaluation of the graph.
 #![tactic(auto)]
 
+ghost use Rattle.net_model.specs.Pad.{SourceEnds};
 ghost use Rattle.net_model.specs.Step.{PassingKeeps, SendingKeeps, LeavingKeeps, TakingKeeps};
 ghost use Rattle.net_model.specs.Edit.{UnlinkingKeeps, LinkingKeeps, LinkingOverKeeps, ActingKeeps, EndingKeeps, EndingOverKeeps};
 ghost use Rattle.net_model.specs.Seek.{SeekingKeeps};
@@ -102,4 +103,9 @@ pub fn single_elements_owe()
     ensures in_order { SingleInOrder }
     ensures fed { SingleGrows }
     ensures flushed { SingleEnds }
+{}
+
+/// A source meets what a seek asks of its rule, where it owes the sections so far as before and one more.
+pub fn sources_owe()
+    ensures { SourceEnds }
 {}
