@@ -4,7 +4,7 @@
 # and NAME.seen, a list of these files and their folders. NAME.seen bears the time at which the sources were last found to be those of
 # NAME.of. A start looks whether one of these files or folders was changed since (written, replaced, added, removed: all of that changes the
 # time at which the file's entry or its folder was changed, whatever time the file itself bears). Only then the checksum is made anew
-# (checks/building.sh).
+# (checks/building.sh). An older find, which reads no list of names, says so, and then it is made at each start.
 
 say() { printf '%s: %s\n' "$name" "$*" >&2; }
 
