@@ -27,7 +27,7 @@ while (($#)); do
 	shift
 done
 if [[ -z $program ]]; then
-	"$top/gst_run" </dev/null >/dev/null
+	"$top/gst_run" "" </dev/null >/dev/null
 	(($? < 125)) || fail "the program is not built"
 	program=$(readlink -f "$top/out/gst_run")
 fi

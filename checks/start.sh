@@ -1,0 +1,45 @@
+# What a start of gst_run and gst_try needs. To be sourced by sh, with the script's name in `name`, and the folder of this repository in `top`.
+#
+# A built program lies in out/ beside the scripts: out/NAME, and beside it NAME.of, a checksum of the sources that it was built from,
+# and NAME.seen, a list of these files and their folders. NAME.seen bears the time at which the sources were last found to be those of
+# NAME.of. A start looks whether one of these files or folders was changed since (written, replaced, added, removed: all of that changes the
+# time at which the file's entry or its folder was changed, whatever time the file itself bears). Only then the checksum is made anew
+# (checks/building.sh). An older find, which reads no list of names, says so, and then it is made at each start.
+
+say() { printf '%s: %s\n' "$name" "$*" >&2; }
+
+# Whether the words ask for help: there are none, or --help is among them.
+ask_help() {
+	[ $# -gt 0 ] || return 0
+	for word; do
+		case $word in
+		--help) return 0 ;;
+		--) return 1 ;;
+		esac
+	done
+	return 1
+}
+
+usage() {
+	cat >&2 <<-END
+	usage: $name [--threads on|off] [--order N] [--quiet] WORD...
+
+	The WORDs are a launch line as gst-launch-1.0 takes it, for example
+	  $name filesrc location=in.wav ! wavparse ! mulawenc ! wavenc ! filesink location=out.wav
+
+	  --quiet           print the status and a fault, and no counts
+	  --order N         the number from which the order of the tasks' turns is drawn (0 without it)
+	  --threads on|off  both run by turns on one thread today
+
+	The exit status is the status that is printed, 0 to 15; 125 where there is no program to run. README.md tells the kinds of
+	elements, the statuses and what is proved.
+
+	END
+}
+
+# Whether there is a program, and nothing was changed since its sources were last looked at. (A time that is still to come says nothing.)
+is_unchanged() {
+	seen=out/$name.seen
+	[ -x "$top/out/$name" ] && [ -f "$top/out/$name.of" ] && [ -s "$top/$seen" ] && ! [ "$top/$seen" -nt /proc/self ] &&
+		[ -z "$(CDPATH='' cd -- "${top:-/}" && exec find -files0-from "$seen" -maxdepth 0 -cnewer "$seen" -print -quit 2>&1)" ]
+}
