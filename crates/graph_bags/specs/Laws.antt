@@ -27,7 +27,8 @@ BagsAreApart = (made : List Made) (links : List PadLink) (bags : List Bag) → A
 
 -- Over no lane an element of a bag leads to elements of the same bag alone.
 abbrev pub BagsAreClosed : Type 0
-BagsAreClosed = (made : List Made) (links : List PadLink) (bag : Bag) → IsBag made links bag → (a d : ℕ) → IsMember a (numbers bag) → LeadsInside made links a d → IsMember d (numbers bag)
+BagsAreClosed = (made : List Made) (links : List PadLink) (bag : Bag) → IsBag made links bag → (a d : ℕ)
+    → IsMember a (numbers bag) → LeadsInside made links a d → IsMember d (numbers bag)
 
 -- the bag of a head
 pub record HasBag (bags : List Bag) (e : ℕ) : Type 0 where
@@ -42,7 +43,8 @@ HeadsHaveBags = (made : List Made) (links : List PadLink) (bags : List Bag) → 
 
 -- The elements of bags are elements of the graph.
 abbrev pub BagsAreThere : Type 0
-BagsAreThere = (made : List Made) (links : List PadLink) (bags : List Bag) → All (HasPads made) links → AreBags made links bags → (k e : ℕ) → StandsIn bags k e → e < length made
+BagsAreThere = (made : List Made) (links : List PadLink) (bags : List Bag) → All (HasPads made) links → AreBags made links bags
+    → (k e : ℕ) → StandsIn bags k e → e < length made
 
 -- what a link of a bag tells of the sink pad that a source pad is linked to, or of none
 abbrev pub IsLink : List Made → Option PadPlace → BagLink → Type 0
@@ -57,4 +59,5 @@ pub record TellsPads (made : List Made) (links : List PadLink) (cell : BagElemen
 
 -- It is so of each element of a bag, and of the source at its head.
 abbrev pub BagsHavePads : Type 0
-BagsHavePads = (made : List Made) (links : List PadLink) (bag : Bag) → IsBag made links bag → (place : ℕ) (cell : BagElement) → slice_get (cells bag) place ≡ Some cell → TellsPads made links cell
+BagsHavePads = (made : List Made) (links : List PadLink) (bag : Bag) → IsBag made links bag
+    → (place : ℕ) (cell : BagElement) → slice_get (cells bag) place ≡ Some cell → TellsPads made links cell

@@ -43,10 +43,15 @@ numbers_have_pads made p w = go (is_pad made p) refl w
 pub tight_is_alike : TightIsAlike
 unfolding line_plan
 tight_is_alike contents graph count sound p pad =
-    let plan = graph_plan contents graph count in (
-      eval_alike (λ q. is_pad (made_in graph) q ≡ true) (pad_owner (made_in graph)) plan.log plan (from_pads contents graph count sound) (owners_alike contents graph count) (λ q i. refl) (forward_in graph) (λ q. []) (λ q. []) (λ q i. refl) p pad,
-      whole_alike (λ q. is_pad (made_in graph) q ≡ true) (pad_owner (made_in graph)) plan.log plan (from_pads contents graph count sound) (owners_alike contents graph count) (λ q i. refl) (forward_in graph) (λ q. []) (λ q. []) (λ q i. refl) p pad,
-    )
+    let plan = graph_plan contents graph count in
+    record {
+      cut =
+          eval_alike (λ q. is_pad (made_in graph) q ≡ true) (pad_owner (made_in graph)) plan.log plan (from_pads contents graph count sound) (owners_alike contents graph count) (λ q i. refl) (forward_in graph)
+          (λ q. []) (λ q. []) (λ q i. refl) p pad;
+      whole =
+          whole_alike (λ q. is_pad (made_in graph) q ≡ true) (pad_owner (made_in graph)) plan.log plan (from_pads contents graph count sound) (owners_alike contents graph count) (λ q i. refl) (forward_in graph)
+          (λ q. []) (λ q. []) (λ q i. refl) p pad;
+    }
 
 pub orders_are_whole : OrdersAreWhole
 orders_are_whole graph sound = record { whole = in_order graph sound; within = of_order graph sound }

@@ -4,7 +4,7 @@ use Rattle.flow_model.specs.Item.{Item}
 use Rattle.flow_model.specs.Sticky.{has_flush_stop}
 use Rattle.flow_model.specs.Call.{Call, feeds}
 use Rattle.flow_model.specs.Chain.{IsPlain}
-use Rattle.flow_model.specs.Eval.{inputs, eval, eval_whole}
+use Rattle.flow_model.specs.Eval.{Plan, inputs, eval, eval_whole}
 use Rattle.flow_model.specs.Account.{GoesForward, IsMember}
 use Rattle.net_model.specs.Moment.{Moment, CellStands}
 use Rattle.net_model.specs.Split.{AreEmpty}
@@ -42,10 +42,15 @@ PadsHaveNumbers = (made : List Made) (place : PadPlace) → IsThere made place �
 abbrev pub NumbersHavePads : Type 0
 NumbersHavePads = (made : List Made) (p : ℕ) → pad_owner made p < length made → HasNumber made (place_of p) p
 
--- At each source pad the tight plan has the history that the graph's plan has, cut at the counts or whole.
+-- two plans have the same history at a source pad, cut at the counts and whole
+pub record SameAt (plan other : Plan) (p : ℕ) : Type 0 where
+  pub cut : eval plan p ≡ eval other p
+  pub whole : eval_whole plan p ≡ eval_whole other p
+
+-- At each source pad the tight plan has the histories that the graph's plan has.
 abbrev pub TightIsAlike : Type 0
 TightIsAlike = (contents : ℕ → List ℕ) (graph : Graph) (count : ℕ → ℕ) → IsSound graph → (p : ℕ) → is_pad (made_in graph) p ≡ true
-    → (eval (tight_plan contents graph count) p ≡ eval (graph_plan contents graph count) p) × (eval_whole (tight_plan contents graph count) p ≡ eval_whole (graph_plan contents graph count) p)
+    → SameAt (tight_plan contents graph count) (graph_plan contents graph count) p
 
 -- nothing was done to the graph yet
 abbrev pub MomentStarts : Type 0
@@ -69,7 +74,8 @@ OrdersAreWhole = (graph : Graph) → IsSound graph → IsWholeOrder graph
 
 -- A source pad leads to the sink pad that it is linked to, and nowhere else.
 abbrev pub LinksLead : Type 0
-LinksLead = (contents : ℕ → List ℕ) (graph : Graph) (source sink : PadPlace) → IsSound graph → AreOnce (links_in graph) → sink_behind (links_in graph) source ≡ Some sink
+LinksLead = (contents : ℕ → List ℕ) (graph : Graph) (source sink : PadPlace) → IsSound graph → AreOnce (links_in graph)
+    → sink_behind (links_in graph) source ≡ Some sink
     → Leads (moment_plan contents graph) (pad_id source) sink.element sink.pad
 
 -- One that is not linked leads nowhere.
@@ -93,7 +99,8 @@ SourcesWait = (contents : ℕ → List ℕ) (graph : Graph) (p : ℕ)
 
 -- No section of what an element owes has a FLUSH_STOP.
 abbrev pub SectionsAreOne : Type 0
-SectionsAreOne = (contents : ℕ → List ℕ) (graph : Graph) (e : ℕ) (took : List (List Call)) (port j : ℕ) → has_flush_stop ((moment_plan contents graph).rule e took port j) ≡ false
+SectionsAreOne = (contents : ℕ → List ℕ) (graph : Graph) (e : ℕ) (took : List (List Call)) (port j : ℕ)
+    → has_flush_stop ((moment_plan contents graph).rule e took port j) ≡ false
 
 -- For items without FLUSH_STOP an element owes nothing behind an EOS.
 abbrev pub OwesPlain : Type 0
