@@ -1,0 +1,6 @@
+pub mod Onces
+pub mod Walks
+pub mod Trees
+pub mod Reaching
+pub mod Heads
+pub mod Apart

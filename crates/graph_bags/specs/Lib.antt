@@ -1,0 +1,4 @@
+pub mod Links
+pub mod Bags
+pub mod Walk
+pub mod Laws

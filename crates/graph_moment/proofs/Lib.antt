@@ -1,0 +1,6 @@
+pub mod Owners
+pub mod Sources
+pub mod Leading
+pub mod Lists
+pub mod Rules
+pub mod Wholes

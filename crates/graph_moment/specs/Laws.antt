@@ -1,0 +1,130 @@
+-- What moments of a graph's run start from, and what is said of the graph by them.
+use Rattle.std.specs.Prelude.{◌≡◌, ◌<◌, ◌%◌, ◌==◌, ℕ, true, false, List, [], ◌∷◌, Option, None, Some, if◌then◌else◌, length, slice_get}
+use Rattle.flow_model.specs.Item.{Item}
+use Rattle.flow_model.specs.Sticky.{has_flush_stop}
+use Rattle.flow_model.specs.Call.{Call, feeds}
+use Rattle.flow_model.specs.Chain.{IsPlain}
+use Rattle.flow_model.specs.Eval.{Plan, inputs, eval, eval_whole}
+use Rattle.flow_model.specs.Account.{GoesForward, IsMember}
+use Rattle.net_model.specs.Moment.{Moment, CellStands}
+use Rattle.net_model.specs.Split.{AreEmpty}
+use Rattle.net_model.specs.Step.{Leads, LeadsNowhere}
+use Rattle.net_model.specs.Opening.{AtStart, opening}
+use Rattle.net_model.specs.Whole.{OwesInOrder, CellBegins}
+use Rattle.el_set.specs.Asked.{sink_pads}
+use Rattle.el_set.specs.Made.{list_of}
+use Rattle.graph_core.specs.Elements.{Made}
+use Rattle.graph_core.specs.Graph.{IsSound, made as made_in, links as links_in, forward as forward_in}
+use Rattle.graph_core.specs.Links.{sink_behind}
+use Rattle.graph_core.specs.declared.graph.Graph.{Graph}
+use Rattle.graph_core.specs.declared.pad.PadPlace.{PadPlace}
+use Rattle.graph_ways.specs.Once.{AreOnce}
+use Rattle.line_model.specs.LineGraph.{graph_plan, most_pads, owner_of, pad_id}
+use Rattle.graph_moment.specs.Pads.{IsThere, is_pad, pad_owner, at_pads}
+use Rattle.graph_moment.specs.Plans.{tight_plan, moment_plan}
+
+-- the place of a source pad by its number
+abbrev pub place_of : ℕ → PadPlace
+place_of p = record { element = owner_of p; pad = p % most_pads }
+
+-- A source pad that is there has this number, which tells its element and its place there.
+pub record HasNumber (made : List Made) (place : PadPlace) (p : ℕ) : Type 0 where
+  pub there : IsThere made place
+  pub number : p ≡ pad_id place
+  pub pad : is_pad made p ≡ true
+  pub owner : pad_owner made p ≡ place.element
+  pub port : p % most_pads ≡ place.pad
+
+abbrev pub PadsHaveNumbers : Type 0
+PadsHaveNumbers = (made : List Made) (place : PadPlace) → IsThere made place → HasNumber made place (pad_id place)
+
+-- Each number that belongs to an element is that of a source pad.
+abbrev pub NumbersHavePads : Type 0
+NumbersHavePads = (made : List Made) (p : ℕ) → pad_owner made p < length made → HasNumber made (place_of p) p
+
+-- two plans have the same history at a source pad, cut at the counts and whole
+pub record SameAt (plan other : Plan) (p : ℕ) : Type 0 where
+  pub cut : eval plan p ≡ eval other p
+  pub whole : eval_whole plan p ≡ eval_whole other p
+
+-- At each source pad the tight plan has the histories that the graph's plan has.
+abbrev pub TightIsAlike : Type 0
+TightIsAlike = (contents : ℕ → List ℕ) (graph : Graph) (count : ℕ → ℕ) → IsSound graph → (p : ℕ) → is_pad (made_in graph) p ≡ true
+    → SameAt (tight_plan contents graph count) (graph_plan contents graph count) p
+
+-- nothing was done to the graph yet
+abbrev pub MomentStarts : Type 0
+MomentStarts = (contents : ℕ → List ℕ) (graph : Graph) → AtStart (moment_plan contents graph)
+
+-- so every element stands when its run begins
+abbrev pub MomentStands : Type 0
+MomentStands = (contents : ℕ → List ℕ) (graph : Graph) (e : ℕ) → CellStands (opening (moment_plan contents graph)) e
+
+-- each link comes from an element that stands earlier in the order
+abbrev pub MomentGoes : Type 0
+MomentGoes = (contents : ℕ → List ℕ) (graph : Graph) → IsSound graph → GoesForward (moment_plan contents graph) [] (forward_in graph)
+
+-- the order has the graph's elements and no other
+pub record IsWholeOrder (graph : Graph) : Type 0 where
+  pub whole : (e : ℕ) → e < length (made_in graph) → IsMember e (forward_in graph)
+  pub within : (e : ℕ) → IsMember e (forward_in graph) → e < length (made_in graph)
+
+abbrev pub OrdersAreWhole : Type 0
+OrdersAreWhole = (graph : Graph) → IsSound graph → IsWholeOrder graph
+
+-- A source pad leads to the sink pad that it is linked to, and nowhere else.
+abbrev pub LinksLead : Type 0
+LinksLead = (contents : ℕ → List ℕ) (graph : Graph) (source sink : PadPlace) → IsSound graph → AreOnce (links_in graph)
+    → sink_behind (links_in graph) source ≡ Some sink
+    → Leads (moment_plan contents graph) (pad_id source) sink.element sink.pad
+
+-- One that is not linked leads nowhere.
+abbrev pub UnlinkedLead : Type 0
+UnlinkedLead = (contents : ℕ → List ℕ) (graph : Graph) (source : PadPlace) → IsSound graph → AreOnce (links_in graph)
+    → IsThere (made_in graph) source → sink_behind (links_in graph) source ≡ None → LeadsNowhere (moment_plan contents graph) (pad_id source)
+
+-- Whatever an element took, it owes a beginning of what it owes for more.
+abbrev pub RulesGoOn : Type 0
+RulesGoOn = (contents : ℕ → List ℕ) (graph : Graph) (e : ℕ) (took : List (List Call)) → OwesInOrder ((moment_plan contents graph).rule e) took
+
+-- what an element gives by itself before any seek: a source its list, by the content of its file, and each other nothing
+abbrev pub given_by : Option Made → ℕ → List ℕ → List Item
+given_by None e content = []
+given_by (Some m) e content = if sink_pads m.settings == 0 then list_of m.settings e content else []
+
+-- At the start what a source is to give waits at its pad, and at each other pad nothing.
+abbrev pub SourcesWait : Type 0
+SourcesWait = (contents : ℕ → List ℕ) (graph : Graph) (p : ℕ)
+    → let e = pad_owner (made_in graph) p in (opening (moment_plan contents graph)).waits p ≡ given_by (slice_get (made_in graph) e) e (contents e)
+
+-- No section of what an element owes has a FLUSH_STOP.
+abbrev pub SectionsAreOne : Type 0
+SectionsAreOne = (contents : ℕ → List ℕ) (graph : Graph) (e : ℕ) (took : List (List Call)) (port j : ℕ)
+    → has_flush_stop ((moment_plan contents graph).rule e took port j) ≡ false
+
+-- For items without FLUSH_STOP an element owes nothing behind an EOS.
+abbrev pub OwesPlain : Type 0
+OwesPlain = (contents : ℕ → List ℕ) (graph : Graph) (e : ℕ) (list : List Item) (port : ℕ) → has_flush_stop list ≡ false
+    → IsPlain ((moment_plan contents graph).rule e (feeds list ∷ []) port 0)
+
+-- Where each element took beginnings of what its links give, and what crossed its pads is what it owes for that, the histories
+-- are those of the evaluation of the graph, cut at their lengths.
+abbrev pub MomentIsGraph : Type 0
+MomentIsGraph = (contents : ℕ → List ℕ) (graph : Graph) (m : Moment) → IsSound graph → m.plan ≡ moment_plan contents graph
+    → ((e : ℕ) → e < length (made_in graph) → CellBegins m e)
+    → (p : ℕ) → eval (graph_plan contents graph (λ q. length (at_pads (made_in graph) m.history q))) p ≡ at_pads (made_in graph) m.history p
+
+-- nothing waits at a source pad, and nothing stands in an inlet
+pub record IsIdle (made : List Made) (m : Moment) : Type 0 where
+  pub pads : (p : ℕ) → is_pad made p ≡ true → m.waits p ≡ []
+  pub inlets : (e : ℕ) → e < length made → AreEmpty (m.held e)
+
+-- The histories are those of the whole evaluation of the graph, and each element, a sink too, took all that it is given there.
+pub record IsWhole (contents : ℕ → List ℕ) (graph : Graph) (m : Moment) : Type 0 where
+  pub pads : (count : ℕ → ℕ) (p : ℕ) → is_pad (made_in graph) p ≡ true → eval_whole (graph_plan contents graph count) p ≡ m.history p
+  pub inputs : (count : ℕ → ℕ) (e : ℕ) → e < length (made_in graph) → let plan = graph_plan contents graph count in m.took e ≡ inputs plan (eval_whole plan) e
+
+-- That is so where all elements stand and nothing waits.
+abbrev pub EndIsGraph : Type 0
+EndIsGraph = (contents : ℕ → List ℕ) (graph : Graph) (m : Moment) → IsSound graph → m.plan ≡ moment_plan contents graph
+    → ((e : ℕ) → e < length (made_in graph) → CellStands m e) → IsIdle (made_in graph) m → IsWhole contents graph m
