@@ -38,13 +38,3 @@ gives content_of old new (Ok Ended) same after = λ owed given o.
     )
 gives content_of old new (Err (ReadFault before after)) same kept = tt
 gives content_of old new (Err NoMemory) same kept = tt
-
--- what was given begins what is owed
-pub rest_of : {S : Type 0} (content_of : S → Option (List ℕ)) (source : SourceElement S) (content : List ℕ) (list : List ℕ → List Item) (given : List Item)
-    → source_content content_of source ≡ Some content → SourceGave content_of source list given → (rest : List Item) × (list content ≡ given ++ rest)
-rest_of content_of (File file) content list given told gave = (_, sym (gave.told content told))
-rest_of content_of (Ramp ramp) content list given told gave = (_, sym ((gave content).whole))
-
-pub owes_more : {S : Type 0} (content_of : S → Option (List ℕ)) (source : SourceElement S) (owed given : List Item) → Owes content_of source owed given
-    → (rest : List Item) × (owed ≡ given ++ rest)
-owes_more content_of source owed given o = let r = rest_of content_of source o.content o.list given o.told o.gave in (r.0, o.owed_is ∙ r.1)

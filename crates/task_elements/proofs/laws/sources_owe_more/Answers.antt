@@ -1,4 +1,4 @@
-use Rattle.task_elements.proofs.Sources.{owes_more}
+use Rattle.task_elements.specs.Owes.{owes_more}
 use Rattle.task_elements.proofs.laws.sources_owe_more.Goals as goal
 
 pub returns : goal.returns
