@@ -42,8 +42,10 @@ impl<K: Sink> StreamElement<K> {
     ) -> Result<(), Refusal>
         requires no_flush { is_flush_stop item ≡ false }
         ensures took { OnOk result (Takes (StreamStands K.bytes self.old) (StreamStands K.bytes self.new) (pads_of self.old) pad item out.old out.new) }
-        ensures fell { OnErr result ((rule : Rule) (took : List (List Call)) → StreamStands K.bytes self.old rule took → StreamFell K.bytes self.new rule took pad item) }
-        ensures refused { IfErr result (λ refusal. (rule : Rule) (took : List (List Call)) → StreamStands K.bytes self.old rule took → StreamRefuses self.old rule took pad item refusal) }
+        ensures fell { OnErr result ((rule : Rule) (took : List (List Call)) → StreamStands K.bytes self.old rule took
+            → StreamFell K.bytes self.new rule took pad item) }
+        ensures refused { IfErr result (λ refusal. (rule : Rule) (took : List (List Call)) → StreamStands K.bytes self.old rule took
+            → StreamRefuses self.old rule took pad item refusal) }
         ensures out { OnErr result (out.new ≡ out.old) }
         ensures cause { IfErr result (IsWriteCause (faults_in K.faults self.old) (faults_in K.faults self.new)) }
         ensures never_falls { NeverFalls (faults_in K.faults self.old) (faults_in K.faults self.new) }
@@ -102,8 +104,10 @@ impl<K: Sink> StreamElement<K> {
 fn pass(queue: &mut Identity, alloc: Global, item: Item, out: &mut Outs) -> Result<(), Refusal>
     requires no_flush { is_flush_stop item ≡ false }
     ensures took { OnOk result (Takes (FilterTook (passing queue.old)) (FilterTook (passing queue.new)) 1 0 item out.old out.new) }
-    ensures stays { OnErr result ((rule : Rule) (took : List (List Call)) → FilterTook (passing queue.old) rule took → FilterTook (passing queue.new) rule took) }
-    ensures refused { IfErr result (λ refusal. (rule : Rule) (took : List (List Call)) → FilterTook (passing queue.old) rule took → FilterRefuses (passing queue.old) rule took item refusal) }
+    ensures stays { OnErr result ((rule : Rule) (took : List (List Call)) → FilterTook (passing queue.old) rule took
+        → FilterTook (passing queue.new) rule took) }
+    ensures refused { IfErr result (λ refusal. (rule : Rule) (took : List (List Call)) → FilterTook (passing queue.old) rule took
+        → FilterRefuses (passing queue.old) rule took item refusal) }
     ensures cause { IfErr result (IsWriteCause None None) }
     ensures out { OnErr result (out.new ≡ out.old) }
 {
@@ -115,8 +119,10 @@ fn pass(queue: &mut Identity, alloc: Global, item: Item, out: &mut Outs) -> Resu
 
 /// A sink takes an item. Where a write fails, its file holds a beginning of the item's bytes behind what it took.
 fn render<K: Sink>(sink: &mut SinkElement<K>, item: &Item) -> Result<(), Refusal>
-    ensures took { OnOk result ((rule : Rule) (took : List (List Call)) → SinkStands K.bytes sink.old rule took → SinkStands K.bytes sink.new rule (push_calls 0 (Feed item.now ∷ []) took)) }
-    ensures fell { OnErr result ((rule : Rule) (took : List (List Call)) → SinkStands K.bytes sink.old rule took → SinkFell K.bytes sink.new item.now rule took) }
+    ensures took { OnOk result ((rule : Rule) (took : List (List Call)) → SinkStands K.bytes sink.old rule took
+        → SinkStands K.bytes sink.new rule (push_calls 0 (Feed item.now ∷ []) took)) }
+    ensures fell { OnErr result ((rule : Rule) (took : List (List Call)) → SinkStands K.bytes sink.old rule took
+        → SinkFell K.bytes sink.new item.now rule took) }
     ensures unwritten { IfErr result SinkRefuses }
     ensures cause { IfErr result (IsWriteCause (sink_faults K.faults sink.old) (sink_faults K.faults sink.new)) }
     ensures never_falls { NeverFalls (sink_faults K.faults sink.old) (sink_faults K.faults sink.new) }

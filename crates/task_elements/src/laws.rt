@@ -17,8 +17,10 @@ use gst_outside::{Sink, Source};
 pub fn rules_of_elements<K: Sink>()
     ensures plain { (element : StreamElement K) (rule : Rule) (took : List (List Call)) → StreamStands K.bytes element rule took
         → (given : List (List Call)) (port j : ℕ) → IsPlain (rule given port j) }
-    ensures in_order { (element : StreamElement K) (rule : Rule) (took : List (List Call)) → StreamStands K.bytes element rule took → (given : List (List Call)) → OwesInOrder rule given }
-    ensures opens { (element : StreamElement K) (rule : Rule) (took : List (List Call)) → StreamStands K.bytes element rule took → (port j : ℕ) → rule ([] ∷ []) port j ≡ [] }
+    ensures in_order { (element : StreamElement K) (rule : Rule) (took : List (List Call)) → StreamStands K.bytes element rule took
+        → (given : List (List Call)) → OwesInOrder rule given }
+    ensures opens { (element : StreamElement K) (rule : Rule) (took : List (List Call)) → StreamStands K.bytes element rule took
+        → (port j : ℕ) → rule ([] ∷ []) port j ≡ [] }
 {}
 
 /// What a source gave begins what it owes.

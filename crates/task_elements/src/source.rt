@@ -35,7 +35,8 @@ impl<S: Source> StreamSource<S> {
     /// more.
     pub fn next(&mut self, alloc: Global) -> Result<Option<Item>, Unread>
         requires few { source_items self.old.source < 2 ^ 41 }
-        ensures gives { IfOk result (λ next. (owed given : List PadItem) → Owes S.content self.old.source owed given → Gives (Owes S.content self.new.source) owed given next) }
+        ensures gives { IfOk result (λ next. (owed given : List PadItem) → Owes S.content self.old.source owed given
+            → Gives (Owes S.content self.new.source) owed given next) }
         ensures kept { OnErr result ((owed given : List PadItem) → Owes S.content self.old.source owed given → Owes S.content self.new.source owed given) }
         ensures counted { source_items self.new.source ≡ count_after result (source_items self.old.source) }
         ensures cause { IfErr result (IsReadCause (source_faults S.faults self.old.source) (source_faults S.faults self.new.source)) }
