@@ -184,7 +184,7 @@ filesink SCBB ---w";
         let given = parts.next().unwrap_or("");
         let (text, length) = row(alloc, word, given)?;
         assert_eq!(rt; text.as_str(), parts.next().unwrap_or(""));
-        assert_eq!(rt; length, if word == "filesink" { Some(3) } else { None });
+        assert_eq!(rt; length, if word == "filesink" { Some(2) } else { None });
     }
     Ok(())
 }
