@@ -1,0 +1,179 @@
+-- What an element with one sink pad puts out for an item is what it owes more, in the section that is open.
+use Rattle.std.proofs.Common.{◌≡◌, ◌<◌, ◌+◌, ℕ, zero, suc, Bool, true, false, if◌then◌else◌, List, [], ◌∷◌, ◌++◌, length, filter, refl, sym, ap, ◌∙◌, subst, append-nil, arith, Result, Ok, Err}
+use Rattle.flow_model.specs.Item.{Item, Ev, Eos, is_flush_stop}
+use Rattle.flow_model.specs.Sticky.{has_flush_stop}
+use Rattle.flow_model.specs.Section.{section}
+use Rattle.flow_model.specs.Call.{Call, Feed, Act, Drain, Set}
+use Rattle.flow_model.specs.Rule.{Owed, Response, Fault, Fed, unfed, responded, flushed, not_eos, drained, called, all_called, owed_for, single}
+use Rattle.flow_model.specs.Feeding.{on_pad, next_owed}
+use Rattle.net_model.specs.Pad.{Grows}
+use Rattle.element_traits.specs.Takes.{on_port, AreWithin, flush_stops}
+
+-- a rule owes no FLUSH_STOP of its own: for no item but FLUSH_STOP, which crosses the element
+abbrev pub HasNoStop : Result (List Item) Fault → Type 0
+HasNoStop (Ok ys) = has_flush_stop ys ≡ false
+HasNoStop (Err fault) = Unit {0}
+
+abbrev pub OwesNoStop : Response → Type 0
+OwesNoStop respond = (fed : Fed) (x : Item) → is_flush_stop x ≡ false → HasNoStop (respond fed x)
+
+-- how many FLUSH_STOPs a list has
+abbrev stops : List Item → ℕ
+stops [] = 0
+stops (x ∷ xs) = if is_flush_stop x then suc (stops xs) else stops xs
+
+stops_append : (xs ys : List Item) → stops (xs ++ ys) ≡ stops xs + stops ys
+stops_append [] ys = omega arith
+stops_append (x ∷ xs) ys = go (is_flush_stop x) (stops_append xs ys)
+  where
+    go : (b : Bool) → stops (xs ++ ys) ≡ stops xs + stops ys
+        → (if b then suc (stops (xs ++ ys)) else stops (xs ++ ys)) ≡ (if b then suc (stops xs) else stops xs) + stops ys
+    go true e = omega (arith, e)
+    go false e = e
+
+no_stops : (xs : List Item) → has_flush_stop xs ≡ false → stops xs ≡ 0
+no_stops [] h = refl
+no_stops (x ∷ xs) h = go (is_flush_stop x) h (no_stops xs)
+  where
+    go : (b : Bool) → (if b then true else has_flush_stop xs) ≡ false → (has_flush_stop xs ≡ false → stops xs ≡ 0) → (if b then suc (stops xs) else stops xs) ≡ 0
+    go true h rest = absurd (cc)
+    go false h rest = rest h
+
+-- without EOS there is no FLUSH_STOP either
+none_filtered : (xs : List Item) → has_flush_stop xs ≡ false → has_flush_stop (filter not_eos xs) ≡ false
+none_filtered [] h = refl
+none_filtered (x ∷ xs) h = go (is_flush_stop x) (not_eos x) refl h (none_filtered xs)
+  where
+    go : (f n : Bool) → is_flush_stop x ≡ f → (if f then true else has_flush_stop xs) ≡ false → (has_flush_stop xs ≡ false → has_flush_stop (filter not_eos xs) ≡ false)
+        → has_flush_stop (if n then x ∷ filter not_eos xs else filter not_eos xs) ≡ false
+    go true n e h rest = absurd (cc)
+    go false true e h rest = rw e (rest h)
+    go false false e h rest = rest h
+
+-- a call adds a FLUSH_STOP to what is owed where it is one
+more_stops : (s : Fed) (ys : List Item) → has_flush_stop ys ≡ false → stops (s.out ++ ys) ≡ stops s.out
+more_stops s ys h = stops_append s.out ys ∙ omega (arith, no_stops ys h)
+
+answered_stops : (s : Fed) (x : Item) (r : Result (List Item) Fault) → HasNoStop r → stops (responded s x r).out ≡ stops s.out
+answered_stops s x (Ok ys) h = more_stops s ys h
+answered_stops s x (Err fault) h = refl
+
+drained_stops : (s : Fed) (over : Bool) (r : Result (List Item) Fault) → HasNoStop r → stops (if over then s else drained s r).out ≡ stops s.out
+drained_stops s true r h = refl
+drained_stops s false (Ok ys) h = more_stops s (filter not_eos ys) (none_filtered ys h)
+drained_stops s false (Err fault) h = refl
+
+called_stops : (respond : Response) → OwesNoStop respond → (s : Fed) (c : Call) → stops (called respond s c).out ≡ stops s.out + flush_stops (c ∷ [])
+called_stops respond none s (Feed x) = go (is_flush_stop x) s.over refl
+  where
+    go : (f over : Bool) → is_flush_stop x ≡ f
+        → stops (if f then flushed s x else (if over then s else responded s x (respond s x))).out ≡ stops s.out + (if f then 1 else 0)
+    go true over e = stops_append s.out (x ∷ []) ∙ ap (λ (b : Bool). stops s.out + (if b then 1 else 0)) e
+    go false true e = omega arith
+    go false false e = answered_stops s x (respond s x) (none s x e) ∙ omega arith
+called_stops respond none s (Act Drain) = drained_stops s s.over (respond s (Ev Eos)) (none s (Ev Eos) refl) ∙ omega arith
+called_stops respond none s (Act (Set setting)) = omega arith
+
+first_stops : (c : Call) (cs : List Call) → flush_stops (c ∷ cs) ≡ flush_stops (c ∷ []) + flush_stops cs
+first_stops (Feed x) cs = go (is_flush_stop x)
+  where
+    go : (f : Bool) → (if f then suc (flush_stops cs) else flush_stops cs) ≡ (if f then 1 else 0) + flush_stops cs
+    go true = omega arith
+    go false = omega arith
+first_stops (Act mark) cs = omega arith
+
+all_stops : (respond : Response) → OwesNoStop respond → (s : Fed) (calls : List Call) → stops (all_called respond s calls).out ≡ stops s.out + flush_stops calls
+all_stops respond none s [] = omega arith
+all_stops respond none s (c ∷ cs) =
+    all_stops respond none (called respond s c) cs ∙ omega (arith, called_stops respond none s c, first_stops c cs)
+
+-- as many FLUSH_STOPs are owed as were given
+pub owed_stops : (respond : Response) → OwesNoStop respond → (calls : List Call) → stops (owed_for respond calls) ≡ flush_stops calls
+owed_stops respond none calls = all_stops respond none unfed calls ∙ omega arith
+
+-- a list without FLUSH_STOP is one section
+one_section : (more : List Item) → stops more ≡ 0 → section 0 more ≡ more
+one_section [] n = refl
+one_section (x ∷ xs) n = go (is_flush_stop x) (one_section xs) n
+  where
+    go : (b : Bool) → (stops xs ≡ 0 → section 0 xs ≡ xs) → (if b then suc (stops xs) else stops xs) ≡ 0 → (if b then [] else x ∷ section 0 xs) ≡ x ∷ xs
+    go true rest n = absurd (omega (arith, n))
+    go false rest n = ap (λ zs. x ∷ zs) (rest n)
+
+suc_same : (a b : ℕ) → suc a ≡ suc b → a ≡ b
+suc_same a b e = omega (arith, e)
+
+-- what comes behind the last FLUSH_STOP is in the last section
+last_section : (j : ℕ) (xs more : List Item) → stops xs ≡ j → stops more ≡ 0 → section j (xs ++ more) ≡ section j xs ++ more
+last_section zero [] more e n = one_section more n
+last_section (suc j) [] more e n = absurd (omega (arith, e))
+last_section zero (x ∷ xs) more e n = go (is_flush_stop x) (last_section zero xs more) e
+  where
+    go : (b : Bool) → (stops xs ≡ 0 → stops more ≡ 0 → section 0 (xs ++ more) ≡ section 0 xs ++ more) → (if b then suc (stops xs) else stops xs) ≡ 0
+        → (if b then [] else x ∷ section 0 (xs ++ more)) ≡ (if b then [] else x ∷ section 0 xs) ++ more
+    go true rest e = absurd (omega (arith, e))
+    go false rest e = ap (λ zs. x ∷ zs) (rest e n)
+last_section (suc j) (x ∷ xs) more e n = go (is_flush_stop x) (last_section j xs more) (last_section (suc j) xs more) e
+  where
+    go : (b : Bool) → (stops xs ≡ j → stops more ≡ 0 → section j (xs ++ more) ≡ section j xs ++ more)
+        → (stops xs ≡ suc j → stops more ≡ 0 → section (suc j) (xs ++ more) ≡ section (suc j) xs ++ more) → (if b then suc (stops xs) else stops xs) ≡ suc j
+        → (if b then section j (xs ++ more) else section (suc j) (xs ++ more)) ≡ (if b then section j xs else section (suc j) xs) ++ more
+    go true rest here e = rest (suc_same _ _ e) n
+    go false rest here e = here e n
+
+-- the sections before it stay
+earlier_section : (j : ℕ) (xs more : List Item) → j < stops xs → section j (xs ++ more) ≡ section j xs
+earlier_section j [] more l = absurd (omega (arith, l))
+earlier_section zero (x ∷ xs) more l = go (is_flush_stop x) (earlier_section zero xs more) l
+  where
+    go : (b : Bool) → (0 < stops xs → section 0 (xs ++ more) ≡ section 0 xs) → 0 < (if b then suc (stops xs) else stops xs)
+        → (if b then [] else x ∷ section 0 (xs ++ more)) ≡ (if b then [] else x ∷ section 0 xs)
+    go true rest l = refl
+    go false rest l = ap (λ zs. x ∷ zs) (rest l)
+earlier_section (suc j) (x ∷ xs) more l = go (is_flush_stop x) (earlier_section j xs more) (earlier_section (suc j) xs more) l
+  where
+    go : (b : Bool) → (j < stops xs → section j (xs ++ more) ≡ section j xs) → (suc j < stops xs → section (suc j) (xs ++ more) ≡ section (suc j) xs)
+        → suc j < (if b then suc (stops xs) else stops xs)
+        → (if b then section j (xs ++ more) else section (suc j) (xs ++ more)) ≡ (if b then section j xs else section (suc j) xs)
+    go true rest here l = rest (omega (arith, l))
+    go false rest here l = here l
+
+list_grows : (j : ℕ) (cuts : List (ℕ × ℕ)) (xs more : List Item) → stops xs ≡ j + length cuts → stops more ≡ 0 → Grows j cuts (λ i. section i xs) (λ i. section i (xs ++ more)) more
+list_grows j [] xs more e n = last_section j xs more (e ∙ omega arith) n
+list_grows j (c ∷ cuts) xs more e n = (earlier_section j xs more (omega (arith, e)), list_grows (suc j) cuts xs more (e ∙ omega arith) n)
+
+-- An item of a rule that owes no FLUSH_STOP of its own: with a cut for each FLUSH_STOP that was taken, the earlier sections
+-- stay, and what is put out is owed more in the last.
+pub single_grows : (respond : Response) → OwesNoStop respond → (cuts : List (ℕ × ℕ)) (calls : List Call) (x : Item) (more : List Item) → flush_stops calls ≡ length cuts
+    → has_flush_stop more ≡ false → owed_for respond (calls ++ Feed x ∷ []) ≡ owed_for respond calls ++ more → (port : ℕ)
+    → Grows 0 cuts (single respond (calls ∷ []) port) (single respond ((calls ++ Feed x ∷ []) ∷ []) port) more
+single_grows respond none cuts calls x more e h grown port =
+    subst (λ (zs : List Item). Grows 0 cuts (λ i. section i (owed_for respond calls)) (λ i. section i zs) more) (sym grown)
+    (list_grows 0 cuts (owed_for respond calls) more (owed_stops respond none calls ∙ e ∙ omega arith) (no_stops more h))
+
+-- nothing was taken
+pub none_grows : (j : ℕ) (cuts : List (ℕ × ℕ)) (owed : Owed) → Grows j cuts owed owed []
+none_grows j [] owed = sym (append-nil (owed j))
+none_grows j (c ∷ cuts) owed = (refl, none_grows (suc j) cuts owed)
+
+-- what is owed for one item
+pub next_none : (respond : Response) → OwesNoStop respond → (calls : List Call) (x : Item) (more : List Item) → is_flush_stop x ≡ false → next_owed respond calls x ≡ Ok more → has_flush_stop more ≡ false
+next_none respond none calls x more h owed = go (all_called respond unfed calls).over (respond (all_called respond unfed calls) x) (none (all_called respond unfed calls) x h) owed
+  where
+    go : (over : Bool) (r : Result (List Item) Fault) → HasNoStop r → (if over then Ok [] else r) ≡ Ok more → has_flush_stop more ≡ false
+    go true r quiet owed = let e : [] ≡ more = cc in rw (sym e) refl
+    go false (Ok ys) quiet owed = let e : ys ≡ more = cc in rw (sym e) quiet
+    go false (Err fault) quiet owed = absurd (cc)
+
+-- all of it is for the only source pad
+pub all_on_port : (more : List Item) → on_port 0 (on_pad 0 more) ≡ more
+all_on_port [] = refl
+all_on_port (x ∷ xs) = ap (λ zs. x ∷ zs) (all_on_port xs)
+
+pub all_within : (more : List Item) → has_flush_stop more ≡ false → AreWithin 1 (on_pad 0 more)
+all_within [] h = tt
+all_within (x ∷ xs) h = go (is_flush_stop x) refl h (all_within xs)
+  where
+    go : (b : Bool) → is_flush_stop x ≡ b → (if b then true else has_flush_stop xs) ≡ false → (has_flush_stop xs ≡ false → AreWithin 1 (on_pad 0 xs)) → AreWithin 1 (on_pad 0 (x ∷ xs))
+    go true e h rest = absurd (cc)
+    go false e h rest = (omega arith, e, rest h)

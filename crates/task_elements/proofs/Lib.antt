@@ -1,0 +1,7 @@
+pub mod EachKind
+pub mod Filters
+pub mod Growing
+pub mod Plain
+pub mod Roles
+pub mod RuleLaws
+pub mod Sources

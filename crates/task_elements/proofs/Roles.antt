@@ -1,0 +1,77 @@
+-- Elements of a stream, role by role.
+use Rattle.std.proofs.Common.{◌≡◌, ℕ, zero, suc, Bool, List, [], ◌∷◌, ◌++◌, Option, refl, sym, ap, ◌∙◌, subst, append-nil, arith, Result, Ok, Err, OnOk}
+use Rattle.gst_item.specs.declared.out.Out.{Out}
+use Rattle.flow_model.specs.Item.{Item}
+use Rattle.flow_model.specs.Call.{Call, Feed, feeds}
+use Rattle.flow_model.specs.Rule.{Rule}
+use Rattle.net_model.specs.Split.{push_calls}
+use Rattle.element_traits.specs.Takes.{OwesMore, Takes}
+use Rattle.el_set.specs.declared.sink.SinkElement.{SinkElement}
+use Rattle.el_set.specs.Holds.{SinkHeld}
+use Rattle.task_elements.specs.declared.element.StreamElement.{StreamElement}
+use Rattle.task_elements.specs.declared.element.StreamElement.TheVariants.{Filter, Queue, Sink}
+use Rattle.task_elements.specs.Stands.{SinkStands, StreamStands}
+use Rattle.task_elements.proofs.Growing.{none_grows}
+
+-- each took one list
+record IsOne (took : List (List Call)) : Type 0 where
+  calls : List Call
+  is : took ≡ calls ∷ []
+
+one_list : {K : Type 0} (bytes : K → Option (List ℕ)) (element : StreamElement K) (rule : Rule) (took : List (List Call)) → StreamStands bytes element rule took → IsOne took
+one_list bytes (Filter filter) rule took t = record { calls = t.calls; is = t.took_is }
+one_list bytes (Queue queue) rule took t = record { calls = t.calls; is = t.took_is }
+one_list bytes (Sink sink) rule took t = record { calls = feeds t.list; is = t.took_is }
+
+pushed_past : (pad : ℕ) (calls more : List Call) → (pad ≡ 0 → ⊥) → push_calls pad more (calls ∷ []) ≡ calls ∷ []
+pushed_past zero calls more h = absurd (h refl)
+pushed_past (suc pad) calls more h = refl
+
+pushed_none : (pad : ℕ) (took : List (List Call)) (more : List Call) → IsOne took → (pad ≡ 0 → ⊥) → push_calls pad more took ≡ took
+pushed_none pad took more one h = ap (λ css. push_calls pad more css) one.is ∙ pushed_past pad one.calls more h ∙ sym one.is
+
+-- an item for a sink pad that is not there changes nothing
+pub takes_none : {K : Type 0} (bytes : K → Option (List ℕ)) (element : StreamElement K) (ports pad : ℕ) (x : Item) (out : List Out) → (pad ≡ 0 → ⊥)
+    → Takes (StreamStands bytes element) (StreamStands bytes element) ports pad x out out
+takes_none bytes element ports pad x out h =
+    record {
+      more = [];
+      appended = sym (append-nil out);
+      within = tt;
+      stands_now = λ rule took t. subst (λ (css : List (List Call)). StreamStands bytes element rule css) (sym (same rule took t)) t;
+      owes = λ rule took t. subst (λ (css : List (List Call)). OwesMore ports rule took css []) (sym (same rule took t)) (λ cuts inside port within. none_grows 0 cuts (rule took port));
+    }
+  where
+    same : (rule : Rule) (took : List (List Call)) → StreamStands bytes element rule took → push_calls pad (Feed x ∷ []) took ≡ took
+    same rule took t = pushed_none pad took (Feed x ∷ []) (one_list bytes element rule took t) h
+
+-- what a sink was given
+feeds_push : (list : List Item) (x : Item) → feeds (list ++ x ∷ []) ≡ feeds list ++ Feed x ∷ []
+feeds_push [] x = refl
+feeds_push (y ∷ list) x = ap (λ cs. Feed y ∷ cs) (feeds_push list x)
+
+pub sink_takes : {K : Type 0} (bytes : K → Option (List ℕ)) (old new : SinkElement K) (x : Item)
+    → ((keep : Bool) (list : List Item) → SinkHeld bytes keep old list → SinkHeld bytes keep new (list ++ x ∷ []))
+    → (rule : Rule) (took : List (List Call)) → SinkStands bytes old rule took
+    → SinkStands bytes new rule (push_calls 0 (Feed x ∷ []) took)
+sink_takes bytes old new x held rule took t =
+    record {
+      keep = t.keep;
+      list = t.list ++ x ∷ [];
+      rule_is = t.rule_is;
+      took_is = ap (λ css. push_calls 0 (Feed x ∷ []) css) t.took_is ∙ ap (λ cs. cs ∷ []) (sym (feeds_push t.list x));
+      told = held t.keep t.list t.told;
+    }
+
+-- and it puts out nothing
+pub nothing_put : {E : Type 0} (r : Result (Unit {0}) E) (stood stands : Rule → List (List Call) → Type 0) (x : Item) (out : List Out)
+    → OnOk r ((rule : Rule) (took : List (List Call)) → stood rule took → stands rule (push_calls 0 (Feed x ∷ []) took)) → OnOk r (Takes stood stands 0 0 x out out)
+nothing_put (Ok done) stood stands x out more =
+    record {
+      more = [];
+      appended = sym (append-nil out);
+      within = tt;
+      stands_now = more;
+      owes = λ rule took t cuts inside port within. absurd (omega (arith, within));
+    }
+nothing_put (Err fault) stood stands x out more = tt

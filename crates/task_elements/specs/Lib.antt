@@ -1,0 +1,4 @@
+pub mod Made
+pub mod Owes
+pub mod Ruled
+pub mod Stands

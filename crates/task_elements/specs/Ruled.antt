@@ -1,0 +1,13 @@
+-- A filter that stands for some rule.
+use Rattle.std.specs.Prelude.{List}
+use Rattle.flow_model.specs.Item.{Item}
+use Rattle.flow_model.specs.Call.{Call}
+use Rattle.flow_model.specs.Rule.{Response}
+use Rattle.el_set.specs.declared.filter.FilterElement.{FilterElement}
+use Rattle.el_set.specs.Stands.{Stands}
+
+pub record IsRuled (filter : FilterElement) : Type 0 where
+  pub respond : Response
+  pub calls : List Call
+  pub put : List Item
+  pub stands : Stands respond filter calls put

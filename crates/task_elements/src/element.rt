@@ -1,0 +1,145 @@
+//! The elements of a stream that have a sink pad, by their role.
+ghost use Rattle.std.specs.Prelude.{◌≡◌, ◌∷◌, [], ℕ, false, List, Some, None, option_map, IfErr, OnOk, OnErr};
+ghost use Rattle.flow_model.specs.Item.{is_flush_stop};
+ghost use Rattle.flow_model.specs.Call.{Call, Feed};
+ghost use Rattle.flow_model.specs.Rule.{Rule};
+ghost use Rattle.net_model.specs.Split.{push_calls};
+ghost use Rattle.element_traits.specs.Takes.{Takes};
+ghost use Rattle.element_traits.specs.Failures.{NeverFalls, IsWriteCause};
+ghost use Rattle.element_traits.specs.declared.refusal.Refusal.TheVariants.{Unwritten};
+ghost use Rattle.el_set.specs.Holds.{sink_file, sink_faults};
+ghost use Rattle.task_elements.specs.Stands.{FilterTook, FilterRefuses, passing, SinkStands, SinkFell, SinkRefuses};
+
+use crate::filter::StreamFilter;
+use el_basic::Identity;
+use el_set::{FilterElement, SinkElement};
+use el_sink::WriteFault;
+use element_traits::Refusal;
+use gst_item::{Item, Outs};
+use gst_outside::Sink;
+use std::alloc::Global;
+
+/// An element with one sink pad, by its role in a stream.
+#[derive(Drop)]
+pub enum StreamElement<K> {
+    Filter(StreamFilter),
+    /// The source side of a queue, which passes all. Its items stand in its lane.
+    Queue(Identity),
+    Sink(SinkElement<K>),
+}
+
+impl<K: Sink> StreamElement<K> {
+    ghost use Rattle.task_elements.specs.Stands.{StreamStands, StreamFell, StreamRefuses, pads_of, location_in, faults_in, filter_in, sink_in, len_in};
+
+    /// Takes an item on a sink pad, and appends what it owes for it. An item for a sink pad that it has not changes
+    /// nothing. Where it refuses the item, nothing is put out.
+    pub fn feed(
+        &mut self,
+        alloc: Global,
+        pad: u32,
+        item: Item,
+        out: &mut Outs,
+    ) -> Result<(), Refusal>
+        requires no_flush { is_flush_stop item ≡ false }
+        ensures took { OnOk result (Takes (StreamStands K.bytes self.old) (StreamStands K.bytes self.new) (pads_of self.old) pad item out.old out.new) }
+        ensures fell { OnErr result ((rule : Rule) (took : List (List Call)) → StreamStands K.bytes self.old rule took
+            → StreamFell K.bytes self.new rule took pad item) }
+        ensures refused { IfErr result (λ refusal. (rule : Rule) (took : List (List Call)) → StreamStands K.bytes self.old rule took
+            → StreamRefuses self.old rule took pad item refusal) }
+        ensures out { OnErr result (out.new ≡ out.old) }
+        ensures cause { IfErr result (IsWriteCause (faults_in K.faults self.old) (faults_in K.faults self.new)) }
+        ensures never_falls { NeverFalls (faults_in K.faults self.old) (faults_in K.faults self.new) }
+        ensures ports { pads_of self.new ≡ pads_of self.old }
+        ensures file { location_in K.location self.new ≡ location_in K.location self.old }
+    {
+        if pad != 0 {
+            return Ok(());
+        }
+        match self {
+            StreamElement::Filter(filter) => filter.feed(alloc, item, out),
+            StreamElement::Queue(queue) => pass(queue, alloc, item, out),
+            StreamElement::Sink(sink) => render(sink, &item),
+        }
+    }
+
+    /// The sink pad from whose inlet it wants its next item.
+    pub fn wants(&self) -> Option<u32>
+        ensures { result ≡ Some 0 }
+    {
+        Some(0)
+    }
+
+    /// The filter, where it is one.
+    pub fn into_filter(self) -> Option<FilterElement>
+        ensures { result ≡ filter_in self }
+    {
+        let StreamElement::Filter(filter) = self else {
+            return None;
+        };
+        Some(filter.filter)
+    }
+
+    /// The sink, where it is one.
+    pub fn into_sink(self) -> Option<SinkElement<K>>
+        ensures { result ≡ sink_in self }
+    {
+        let StreamElement::Sink(sink) = self else {
+            return None;
+        };
+        Some(sink)
+    }
+
+    /// The length of the file as it stands, in bytes. None where it writes no file.
+    pub fn len(&self) -> Option<u64>
+        ensures { result ≡ len_in self.now }
+    {
+        match self {
+            StreamElement::Sink(sink) => sink.len(),
+            _ => None,
+        }
+    }
+}
+
+/// A queue takes an item and puts it out. Where it refuses it, for want of memory, it is as before.
+fn pass(queue: &mut Identity, alloc: Global, item: Item, out: &mut Outs) -> Result<(), Refusal>
+    requires no_flush { is_flush_stop item ≡ false }
+    ensures took { OnOk result (Takes (FilterTook (passing queue.old)) (FilterTook (passing queue.new)) 1 0 item out.old out.new) }
+    ensures stays { OnErr result ((rule : Rule) (took : List (List Call)) → FilterTook (passing queue.old) rule took
+        → FilterTook (passing queue.new) rule took) }
+    ensures refused { IfErr result (λ refusal. (rule : Rule) (took : List (List Call)) → FilterTook (passing queue.old) rule took
+        → FilterRefuses (passing queue.old) rule took item refusal) }
+    ensures cause { IfErr result (IsWriteCause None None) }
+    ensures out { OnErr result (out.new ≡ out.old) }
+{
+    match queue.feed(alloc, 0, item, out) {
+        Ok(_) => Ok(()),
+        Err(fault) => Err(Refusal::Fault(fault)),
+    }
+}
+
+/// A sink takes an item. Where a write fails, its file holds a beginning of the item's bytes behind what it took.
+fn render<K: Sink>(sink: &mut SinkElement<K>, item: &Item) -> Result<(), Refusal>
+    ensures took { OnOk result ((rule : Rule) (took : List (List Call)) → SinkStands K.bytes sink.old rule took
+        → SinkStands K.bytes sink.new rule (push_calls 0 (Feed item.now ∷ []) took)) }
+    ensures fell { OnErr result ((rule : Rule) (took : List (List Call)) → SinkStands K.bytes sink.old rule took
+        → SinkFell K.bytes sink.new item.now rule took) }
+    ensures unwritten { IfErr result SinkRefuses }
+    ensures cause { IfErr result (IsWriteCause (sink_faults K.faults sink.old) (sink_faults K.faults sink.new)) }
+    ensures never_falls { NeverFalls (sink_faults K.faults sink.old) (sink_faults K.faults sink.new) }
+    ensures location_stays { option_map K.location (sink_file sink.new) ≡ option_map K.location (sink_file sink.old) }
+{
+    match sink.render(item) {
+        Ok(_) => Ok(()),
+        Err(fault) => Err(unwritten(fault)),
+    }
+}
+
+/// A fault of a write.
+fn unwritten(fault: WriteFault) -> Refusal
+    ensures { result ≡ Unwritten fault.before fault.after }
+{
+    Refusal::Unwritten {
+        before: fault.before,
+        after: fault.after,
+    }
+}

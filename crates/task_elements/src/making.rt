@@ -1,0 +1,50 @@
+//! Elements of a stream, made by what they are set to.
+ghost use Rattle.std.specs.Prelude.{◌≡◌, false, IfOk};
+ghost use Rattle.el_set.specs.Asked.{is_filter as filter_test, is_queue as queue_test};
+ghost use Rattle.task_elements.specs.Made.{IsElementFor};
+
+use crate::element::StreamElement;
+use crate::filter::StreamFilter;
+use el_basic::Identity;
+use el_set::{Settings, filter_of, sink_of};
+use gst_caps::OutOfMemory;
+use gst_outside::Sink;
+use std::alloc::Global;
+
+/// The element of these settings, which was fed nothing yet; `file` is what it writes, empty at first. None where they are
+/// those of a source, or of a sink that writes a file and none is given.
+pub fn element_of<K: Sink>(
+    alloc: Global,
+    settings: &Settings,
+    file: Option<K>,
+) -> Result<Option<StreamElement<K>>, OutOfMemory>
+    ensures { IfOk result (IsElementFor K.bytes settings.now file) }
+{
+    if is_queue(settings) {
+        return Ok(Some(StreamElement::Queue(Identity::new())));
+    }
+    match filter_of(alloc, settings) {
+        Ok(Some(filter)) => Ok(Some(StreamElement::Filter(StreamFilter::new(filter)))),
+        Ok(None) => Ok(sink_element(settings, file)),
+        Err(fault) => Err(fault),
+    }
+}
+
+/// The sink of these settings, which are those of no filter and no queue.
+fn sink_element<K: Sink>(settings: &Settings, file: Option<K>) -> Option<StreamElement<K>>
+    requires filter { filter_test settings.now ≡ false }
+    requires queue { queue_test settings.now ≡ false }
+    ensures { IsElementFor K.bytes settings.now file result }
+{
+    match sink_of(settings, file) {
+        Some(sink) => Some(StreamElement::Sink(sink)),
+        None => None,
+    }
+}
+
+/// Whether these are the settings of a queue.
+fn is_queue(settings: &Settings) -> bool
+    ensures { result ≡ queue_test settings.now }
+{
+    matches!(settings, Settings::Queue(_))
+}
