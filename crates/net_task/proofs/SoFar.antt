@@ -170,7 +170,7 @@ module _ {S E I O L : Type 0} {s : sources.Ghosts S} {e : elements.Ghosts E} (i 
   settled_ready tells head parts parts' place t a = record {
     parts_ready = each_set parts parts' place t.is (λ k p. PartReady o tells p) (λ k p. PartReady o tells p) t.set.set a.parts_ready (λ k p n at ready. ready)
         (λ port pad at. let g = t.settled.pads port pad at in
-          subst (EndReady tells) (sym (ap (λ (r : Rest O). end_in o r.behind) g.rest)) (a.parts_ready place t.was t.set.at port g.was g.at));
+        subst (EndReady tells) (sym (ap (λ (r : Rest O). end_in o r.behind) g.rest)) (a.parts_ready place t.was t.set.at port g.was g.at));
     head_ready = a.head_ready;
   }
 

@@ -6,7 +6,9 @@ use crate::answers::{prefer, step_of, with_next};
 use element_traits::{TaskElement, TaskSource};
 use lane_core::{Inlet, Outlet};
 use std::alloc::Global;
-use task_parts::{Head, Part, Step, TaskFault, Tried, cross_part, cross_source, give, settle, take};
+use task_parts::{
+    Head, Part, Step, TaskFault, Tried, cross_part, cross_source, give, settle, take,
+};
 
 /// A task: a head, and elements with their source pads, in the order in which these are tried: those that stand farthest
 /// from the head first, and the pads of one element by number.
@@ -17,7 +19,12 @@ pub struct Task<S: TaskSource, E: TaskElement, I: Inlet<Out = O>, O: Outlet<Lane
     ghost closed: { is_closed (shape_of head parts.items) ≡ true },
 }
 
-impl<S: TaskSource, E: TaskElement, I: Inlet<Out = O>, O: Outlet<Lanes = I::Lanes>> Task<S, E, I, O> {
+impl<S: TaskSource, E: TaskElement, I: Inlet<Out = O>, O: Outlet<Lanes = I::Lanes>> Task<
+    S,
+    E,
+    I,
+    O,
+> {
     ghost use Rattle.std.specs.Prelude.{◌<◌, ◌≢◌, IfOk, IfErr, vec_len};
     ghost use Rattle.task_parts.specs.declared.step.Step.TheVariants.{Moved};
     ghost use Rattle.task_parts.specs.declared.step.Tried.TheVariants.{Idle};

@@ -11,8 +11,11 @@ pub returns-then-is_err-clause-faults : goal.returns-then-is_err-clause-faults
 returns-then-is_err-clause-faults g c = λ m a. no_memory (settled g.I.Inlet g.O.Outlet c.args.self.now.head c.args.self.now.parts.items c.settle.new.parts.items c.args.place c.settle.ensures.settled c.settle.ensures.shape m a)
 
 pub loop-port-init : goal.loop-port-init
-loop-port-init g c = (settled_so g.I.Inlet g.O.Outlet _ c.args.self.now _ c.args.place refl c.settle.ensures.settled c.settle.ensures.shape c.requires.ready, subst (λ (ps : List (Pad g.row.O.Denot)). PadsAre c.settle.new.parts.items c.args.place (length ps)) (sym c.pads-port-end.ensures)
-    (pads_counted c.settle.new.parts.items c.args.place c.index.result.now (parts_within c.args.self.now.parts.items c.settle.new.parts.items c.args.place c.settle.ensures.shape (subst (λ n. c.args.place < n) c.args.self.now.parts.ok.0 c.requires.place)) c.index.ensures))
+loop-port-init g c = (
+  settled_so g.I.Inlet g.O.Outlet _ c.args.self.now _ c.args.place refl c.settle.ensures.settled c.settle.ensures.shape c.requires.ready,
+  subst (λ (ps : List (Pad g.row.O.Denot)). PadsAre c.settle.new.parts.items c.args.place (length ps)) (sym c.pads-port-end.ensures)
+      (pads_counted c.settle.new.parts.items c.args.place c.index.result.now (parts_within c.args.self.now.parts.items c.settle.new.parts.items c.args.place c.settle.ensures.shape (subst (λ n. c.args.place < n) c.args.self.now.parts.ok.0 c.requires.place)) c.index.ensures),
+)
 
 pub try_pad-requires-clause-at : goal.try_pad-requires-clause-at
 try_pad-requires-clause-at g c = λ κs w. has_port c.loop-port.self.parts.items c.args.place _ c.loop-port.port c.loop-port.invariant.1 c.loop-port-test.true
@@ -26,9 +29,9 @@ returns-in-Moved-clause-tries g c = moved_so _ c.args.self.now c.loop-port.self 
 
 pub loop-port-preserved : goal.loop-port-preserved
 loop-port-preserved g c = (
-    more_so _ _ c.args.self.now c.loop-port.self c.try_pad.new.self c.loop-port.tried c.in_ok-try_pad.field-0 c.with_next-tried.result c.loop-port.invariant.0 c.in_ok-try_pad.ensures.tries c.in_ok-try_pad.ensures.still c.try_pad.ensures.head c.try_pad.ensures.shape c.with_next-tried.ensures
-    c.in_default.not-Moved,
-    pads_are c.loop-port.self.parts.items c.try_pad.new.self.parts.items c.args.place _ (ap (λ (t : TaskShape). t.parts) c.try_pad.ensures.shape) c.loop-port.invariant.1,
+  more_so _ _ c.args.self.now c.loop-port.self c.try_pad.new.self c.loop-port.tried c.in_ok-try_pad.field-0 c.with_next-tried.result c.loop-port.invariant.0 c.in_ok-try_pad.ensures.tries c.in_ok-try_pad.ensures.still c.try_pad.ensures.head c.try_pad.ensures.shape c.with_next-tried.ensures
+      c.in_default.not-Moved,
+  pads_are c.loop-port.self.parts.items c.try_pad.new.self.parts.items c.args.place _ (ap (λ (t : TaskShape). t.parts) c.try_pad.ensures.shape) c.loop-port.invariant.1,
 )
 
 pub returns-clause-tries : goal.returns-clause-tries
