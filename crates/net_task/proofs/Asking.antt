@@ -1,52 +1,34 @@
 -- What a question to the head of a task makes of the moment, and what it makes of it that what was put out goes to pads.
-use Rattle.std.proofs.Common.{◌≡◌, ◌≢◌, ◌≤◌, ◌⊎◌, ◌++◌, ◌+◌, ◌==◌, ℕ, true, false, eqb, if◌then◌else◌, List, [], ◌∷◌, length, map, Some, None, Option, refl, sym, ap, ◌∙◌, subst, inl, inr, arith, append_assoc, append-nil, length-append}
-use Rattle.std.specs.Prelude.{slice_get, slice_set, Result, Ok, Err}
-use Rattle.std.proofs.lemmas.Bool.Decides.{eqb_tells}
-use Rattle.std.proofs.lemmas.Bool.{cases_eq}
-use Rattle.flow_model.specs.Item.{Item, is_flush_stop}
-use Rattle.flow_model.specs.Call.{Call, Feed}
-use Rattle.lane_core.specs.Lane.{Lane}
+use Rattle.std.proofs.Common.{◌≡◌, ◌++◌, ◌+◌, ℕ, List, [], ◌∷◌, length, map, refl, sym, ap, ◌∙◌, subst, inl, inr, arith, append_assoc, append-nil, length-append}
+use Rattle.std.specs.Prelude.{slice_get, Result, Ok, Err}
+use Rattle.flow_model.specs.Item.{Item}
 use Rattle.lane_core.specs.declared.ends.Inlet as inlets
 use Rattle.lane_core.specs.declared.ends.Outlet as outlets
 use Rattle.net_model.specs.Moment.{Moment}
-use Rattle.net_model.specs.Split.{push_calls}
-use Rattle.net_model.proofs.Inputs.{at_here}
 use Rattle.element_traits.specs.declared.element.TaskElement as elements
 use Rattle.element_traits.specs.declared.source.TaskSource as sources
-use Rattle.element_traits.specs.declared.refusal.Refusal.{Refusal}
-use Rattle.inlet_row.specs.declared.row.InletRow.{InletRow}
-use Rattle.inlet_row.specs.declared.feeding.Taken.{Taken}
-use Rattle.inlet_row.specs.declared.feeding.Taken.TheVariants as takes
-use Rattle.inlet_row.specs.Row.{RowGave}
 use Rattle.task_pads.specs.Pads.{number_of, rest_of, waiting_of}
 use Rattle.task_parts.specs.declared.part.Part.{Part}
 use Rattle.task_parts.specs.declared.head.Head.{Head}
-use Rattle.task_parts.specs.declared.head.Head.TheVariants.{Source, Inlets}
+use Rattle.task_parts.specs.declared.head.Head.TheVariants.{Source}
 use Rattle.task_parts.specs.declared.head.SourceHead.{SourceHead}
-use Rattle.task_parts.specs.declared.head.InletHead.{InletHead}
 use Rattle.task_parts.specs.declared.step.Tried.{Tried}
 use Rattle.task_parts.specs.declared.step.Tried.TheVariants as tried
-use Rattle.task_parts.specs.declared.step.Step.TheVariants as steps
 use Rattle.task_parts.specs.declared.fault.TaskFault.{TaskFault}
 use Rattle.task_parts.specs.declared.fault.TaskFault.TheVariants as faults
-use Rattle.task_parts.specs.Fault.{refusal_fault}
-use Rattle.task_parts.specs.Found.{IsAt}
 use Rattle.task_parts.specs.Shape.{part_shape}
 use Rattle.task_parts.specs.Head.{SourceKept}
-use Rattle.task_parts.specs.Part.{PartFed, PartFell}
-use Rattle.task_parts.specs.Moved.{PartSet}
-use Rattle.task_parts.specs.Passing.{Settles, GivesAs, RowSet, HasNoRow, AsksRow, AfterTake, RowFeeds, WantsNone, WantsOne, TakesNext}
-use Rattle.net_task.specs.Ties.{TookAt, PartTied, PartsTied, RowTied, RowsTied, SourceTied, NoneIs, AreTied, Stands, nothing_lost}
-use Rattle.net_task.specs.Moves.{Unlawful, flush_given, flush_taken, gives as gives_one, takes as takes_one, Advances, TriedAs}
-use Rattle.net_task.specs.Failed.{StandsOrFell, Left, Refuses, FailsAs, by_inlet, refused, unread, at_limit, lost_at}
-use Rattle.net_task.proofs.Lists.{some_same, set_at, set_there}
+use Rattle.task_parts.specs.Passing.{Settles, GivesAs}
+use Rattle.net_task.specs.Ties.{NoneIs, AreTied, Stands, nothing_lost}
+use Rattle.net_task.specs.Moves.{flush_given, gives as gives_one, TriedAs}
+use Rattle.net_task.specs.Failed.{FailsAs, unread, at_limit}
+use Rattle.net_task.proofs.Lists.{set_at}
 use Rattle.net_task.proofs.Linked.{linked_rest, shape_rest, same_number}
-use Rattle.net_task.proofs.Tied.{none_leads_same, part_pads, parts_set_shape, parts_set, part_known, part_fell, part_settled, head_same, took_other, took_more}
-use Rattle.net_task.proofs.Fed.{now, out_now, fed_parts, fed_answers}
+use Rattle.net_task.proofs.Tied.{part_pads, parts_set, part_settled, head_same}
 use Rattle.net_task.proofs.Passing.{stands_set}
 use Rattle.net_task.proofs.Handing.{shape_at}
-use Rattle.net_task.proofs.Sources.{Begins, later, Later}
-use Rattle.net_task.proofs.Trying.{ok_same, err_same, not_both}
+use Rattle.net_task.proofs.Sources.{Begins}
+use Rattle.net_task.proofs.Trying.{ok_same, err_same}
 
 -- what was put out goes to pads
 pub settled : {S E I O L : Type 0} {s : sources.Ghosts S} {e : elements.Ghosts E} (i : inlets.Ghosts I L O) (o : outlets.Ghosts O L) (head : Head S I O s) (parts parts' : List (Part E O e)) (place : ℕ) → Settles parts parts' place

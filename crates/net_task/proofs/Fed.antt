@@ -1,6 +1,5 @@
 -- An element of a task takes an item.
-use Rattle.std.proofs.Common.{◌≡◌, ◌≢◌, ◌<◌, ◌++◌, ℕ, List, [], ◌∷◌, length, map, Some, refl, sym, ap, ◌∙◌, subst, arith}
-use Rattle.std.specs.Prelude.{slice_get, slice_set}
+use Rattle.std.proofs.Common.{◌≡◌, ◌≢◌, ◌<◌, ℕ, List, [], ◌∷◌, length, refl, sym, subst, arith}
 use Rattle.std.proofs.lemmas.Option.{slice_get_within}
 use Rattle.flow_model.specs.Item.{Item}
 use Rattle.flow_model.specs.Call.{Call, Feed}
@@ -9,17 +8,17 @@ use Rattle.lane_core.specs.declared.ends.Outlet as outlets
 use Rattle.net_model.specs.Moment.{Moment}
 use Rattle.net_model.specs.Pad.{Grows}
 use Rattle.net_model.specs.Split.{push_calls}
-use Rattle.net_model.specs.Step.{PutsOut, fed}
+use Rattle.net_model.specs.Step.{fed}
 use Rattle.net_model.proofs.Inputs.{at_here, at_other}
 use Rattle.element_traits.specs.declared.element.TaskElement as elements
 use Rattle.element_traits.specs.declared.source.TaskSource as sources
-use Rattle.element_traits.specs.Takes.{on_port, InSection}
+use Rattle.element_traits.specs.Takes.{on_port}
 use Rattle.task_parts.specs.declared.part.Part.{Part}
 use Rattle.task_parts.specs.declared.head.Head.{Head}
 use Rattle.task_parts.specs.Shape.{part_shape}
 use Rattle.task_parts.specs.Part.{PartFed}
 use Rattle.task_parts.specs.Moved.{PartSet}
-use Rattle.net_task.specs.Ties.{PartTied, PartsTied, AreTied, Stands}
+use Rattle.net_task.specs.Ties.{PartsTied, AreTied, Stands}
 use Rattle.net_task.specs.Moves.{Answers}
 use Rattle.net_task.proofs.Tied.{IsNotFed, part_pads, parts_set_shape, parts_set, part_known, part_else, part_fed, head_fed}
 

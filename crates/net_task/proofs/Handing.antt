@@ -1,8 +1,7 @@
 -- An item that crossed a pad of an element goes to an element of the task.
-use Rattle.std.proofs.Common.{◌≡◌, ◌≢◌, ◌++◌, ℕ, List, [], ◌∷◌, map, Some, Option, refl, sym, ap, ◌∙◌, subst}
+use Rattle.std.proofs.Common.{◌≡◌, ◌++◌, ℕ, List, [], ◌∷◌, map, Some, sym, ap, ◌∙◌, subst}
 use Rattle.std.specs.Prelude.{slice_get, slice_set}
 use Rattle.flow_model.specs.Item.{Item}
-use Rattle.flow_model.specs.Call.{Call, Feed}
 use Rattle.lane_core.specs.declared.ends.Inlet as inlets
 use Rattle.lane_core.specs.declared.ends.Outlet as outlets
 use Rattle.net_model.specs.Moment.{Moment}
@@ -10,23 +9,21 @@ use Rattle.net_model.specs.Split.{NoneAt}
 use Rattle.net_model.specs.Step.{Leads, crossed}
 use Rattle.element_traits.specs.declared.element.TaskElement as elements
 use Rattle.element_traits.specs.declared.source.TaskSource as sources
-use Rattle.inlet_row.specs.declared.row.InletRow.{InletRow}
 use Rattle.task_pads.specs.declared.pad.Pad.{Pad}
-use Rattle.task_pads.specs.Behind.{Goes, inside}
-use Rattle.task_pads.specs.Pads.{HasCrossed, SentOver, seen, number_of, goes_of, pad_shape, rest_of, waiting_of}
+use Rattle.task_pads.specs.Behind.{inside}
+use Rattle.task_pads.specs.Pads.{HasCrossed, seen, number_of, goes_of, rest_of, waiting_of}
 use Rattle.task_pads.specs.Crossing.{Crosses}
-use Rattle.task_pads.specs.Put.{IsTaken}
 use Rattle.task_parts.specs.declared.part.Part.{Part}
 use Rattle.task_parts.specs.declared.head.Head.{Head}
 use Rattle.task_parts.specs.declared.head.Head.TheVariants.{Source, Inlets}
-use Rattle.task_parts.specs.Shape.{PartShape, part_shape}
+use Rattle.task_parts.specs.Shape.{part_shape}
 use Rattle.task_parts.specs.Found.{IsAt}
 use Rattle.task_parts.specs.Part.{PadSet, PartGave, waits_at}
 use Rattle.task_parts.specs.Moved.{PartSet, HandedOn}
 use Rattle.net_task.specs.Ties.{LeadsAs, HeadTied, AreTied, Stands, nothing_lost}
-use Rattle.net_task.specs.Moves.{HandsOn, Move, passes, Advances}
+use Rattle.net_task.specs.Moves.{passes, Advances}
 use Rattle.net_task.proofs.Lists.{some_same, map_back, set_at}
-use Rattle.net_task.proofs.Linked.{same_goes, crossed_rest, shape_rest}
+use Rattle.net_task.proofs.Linked.{same_goes, crossed_rest}
 use Rattle.net_task.proofs.Tied.{IsNotFed, part_number, set_part_shape, parts_set_shape}
 use Rattle.net_task.proofs.Fed.{now, fed_tied, fed_answers, out_now}
 use Rattle.net_task.proofs.Passing.{sent_inside, pad_twice, part_twice, is_set, is_pad_set, port_here, try_crosses, waited_at}

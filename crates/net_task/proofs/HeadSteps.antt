@@ -1,7 +1,6 @@
 -- What a task answers whose head was asked.
-use Rattle.std.proofs.Common.{◌≡◌, ◌≢◌, ◌⊎◌, ℕ, true, List, map, Option, refl, sym, ap, ◌∙◌, subst, inl, inr}
+use Rattle.std.proofs.Common.{◌≡◌, ◌≢◌, ◌⊎◌, ℕ, List, Option, refl, sym, subst, inl, inr}
 use Rattle.std.specs.Prelude.{Result, Ok, Err, IfOk, IfErr}
-use Rattle.flow_model.specs.Item.{is_flush_stop}
 use Rattle.lane_core.specs.Lane.{Lane}
 use Rattle.lane_core.specs.declared.ends.Inlet as inlets
 use Rattle.lane_core.specs.declared.ends.Outlet as outlets
@@ -19,7 +18,7 @@ use Rattle.task_parts.specs.declared.step.Tried.TheVariants as tried
 use Rattle.task_parts.specs.declared.step.Step.{Step}
 use Rattle.task_parts.specs.declared.step.Step.TheVariants as steps
 use Rattle.task_parts.specs.declared.fault.TaskFault.{TaskFault}
-use Rattle.task_parts.specs.Passing.{GivesAs, AfterTake, RowFeeds, WantsNone, WantsOne, TakesNext}
+use Rattle.task_parts.specs.Passing.{GivesAs, AfterTake, WantsNone, WantsOne, TakesNext}
 use Rattle.net_task.specs.Moves.{TriedAs, StepsAs}
 use Rattle.net_task.specs.Failed.{FailsAs}
 use Rattle.net_task.specs.Answers.{head_step}

@@ -1,7 +1,5 @@
 -- How pads of a task stand to a moment, as items cross and elements are fed.
-use Rattle.std.proofs.Common.{◌≡◌, ◌≢◌, ◌⊎◌, ◌++◌, ℕ, true, false, eqb, if◌then◌else◌, List, [], ◌∷◌, map, Some, refl, sym, ap, ◌∙◌, subst, inl, inr}
-use Rattle.std.specs.Prelude.{slice_get, slice_set}
-use Rattle.std.proofs.lemmas.Bool.Decides.{eqb_tells}
+use Rattle.std.proofs.Common.{◌≡◌, ◌≢◌, ◌++◌, ℕ, List, [], ◌∷◌, refl, sym, ap, subst}
 use Rattle.flow_model.specs.Item.{Item}
 use Rattle.flow_model.specs.Call.{Call}
 use Rattle.lane_core.specs.declared.ends.Outlet as outlets
@@ -11,7 +9,7 @@ use Rattle.net_model.proofs.Inputs.{at_here, at_other}
 use Rattle.task_pads.specs.declared.pad.Pad.{Pad}
 use Rattle.pad_core.specs.SrcPad.{CrossedBy, state_of}
 use Rattle.task_pads.specs.Behind.{Goes, nowhere, inside, over, SentIn, goes}
-use Rattle.task_pads.specs.Pads.{HasCrossed, SentOver, PadShape, Rest, number_of, goes_of, pad_shape, rest_of, waiting_of}
+use Rattle.task_pads.specs.Pads.{HasCrossed, SentOver, PadShape, Rest, number_of, goes_of, pad_shape, rest_of}
 use Rattle.net_task.specs.Ties.{LeadsAs, PadLinked}
 use Rattle.net_task.specs.Failed.{without_first}
 

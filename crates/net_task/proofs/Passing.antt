@@ -1,42 +1,33 @@
 -- What a try of a pad of an element makes of the moment.
-use Rattle.std.proofs.Common.{◌≡◌, ◌≢◌, ◌<◌, ◌≤◌, ◌⊎◌, ◌++◌, ℕ, zero, suc, true, false, List, [], ◌∷◌, length, map, Some, Option, refl, sym, ap, ◌∙◌, subst, inl, inr, arith}
-use Rattle.std.specs.Prelude.{slice_get, slice_set, Result, Ok, Err}
-use Rattle.std.proofs.lemmas.Option.{slice_get_within}
+use Rattle.std.proofs.Common.{◌≡◌, ◌++◌, ℕ, zero, suc, List, [], ◌∷◌, map, Some, Option, refl, sym, ap, ◌∙◌, subst}
+use Rattle.std.specs.Prelude.{slice_get, slice_set}
 use Rattle.gst_item.specs.declared.out.Out.{Out}
 use Rattle.flow_model.specs.Item.{Item}
-use Rattle.flow_model.specs.Call.{Call, Feed}
 use Rattle.lane_core.specs.Lane.{Lane}
 use Rattle.lane_core.specs.declared.ends.Inlet as inlets
 use Rattle.lane_core.specs.declared.ends.Outlet as outlets
 use Rattle.net_model.specs.Moment.{Moment}
-use Rattle.net_model.specs.Pad.{Grows}
-use Rattle.net_model.specs.Split.{push_calls, NoneAt}
-use Rattle.net_model.specs.Step.{Leads, LeadsNowhere, PutsOut, crossed, fed}
+use Rattle.net_model.specs.Step.{crossed}
 use Rattle.net_model.proofs.Inputs.{at_here, at_other}
 use Rattle.element_traits.specs.declared.element.TaskElement as elements
 use Rattle.element_traits.specs.declared.source.TaskSource as sources
-use Rattle.element_traits.specs.Takes.{on_port, InSection}
-use Rattle.inlet_row.specs.declared.row.InletRow.{InletRow}
+use Rattle.element_traits.specs.Takes.{on_port}
 use Rattle.task_pads.specs.declared.pad.Pad.{Pad}
 use Rattle.task_pads.specs.declared.pad.Behind.{Behind}
 use Rattle.task_pads.specs.declared.pad.Behind.TheVariants as behinds
-use Rattle.task_pads.specs.declared.crossing.Crossing.{Crossing}
-use Rattle.task_pads.specs.declared.crossing.Crossing.TheVariants.{Idle, To, Gone, Full, AtProbe, NotLinked, BehindEos, AtLimit, OutOfMemory}
 use Rattle.task_pads.specs.Behind.{Goes, nowhere, inside, over, SentIn, goes}
-use Rattle.task_pads.specs.Pads.{HasCrossed, SentOver, Seen, seen, StandsAs, number_of, goes_of, pad_shape, rest_of, waiting_of}
-use Rattle.task_pads.specs.Crossing.{Crosses, WentAway, IsGone}
+use Rattle.task_pads.specs.Pads.{HasCrossed, SentOver, Seen, number_of, waiting_of}
+use Rattle.task_pads.specs.Crossing.{WentAway}
 use Rattle.task_parts.specs.declared.part.Part.{Part}
 use Rattle.task_parts.specs.declared.head.Head.{Head}
-use Rattle.task_parts.specs.declared.head.Head.TheVariants.{Source, Inlets}
-use Rattle.task_parts.specs.Shape.{PartShape, part_shape}
-use Rattle.task_parts.specs.Found.{IsAt}
-use Rattle.task_parts.specs.Part.{PadSet, PartFed, PartGave, PadsGrew, waits_at}
-use Rattle.task_parts.specs.Moved.{PartSet, HandedOn}
-use Rattle.net_task.specs.Ties.{LeadsAs, PadLinked, PortTied, PartTied, PartsTied, HeadTied, AreTied, Stands, nothing_lost}
-use Rattle.net_task.specs.Moves.{HandsOn, Answers, Move, passes, sends, leaves, Unlawful, behind_eos}
-use Rattle.net_task.proofs.Lists.{some_same, set_at, map_set}
-use Rattle.net_task.proofs.Linked.{same_number, same_goes, linked_stays, linked_crosses, linked_rest, shape_rest, crossed_rest, sent_rest}
-use Rattle.net_task.proofs.Tied.{IsNotFed, part_number, set_part_shape, parts_set_shape, parts_set, part_known, part_pad, part_crossed, part_else, part_fed, head_same, head_crossed, head_fed}
+use Rattle.task_parts.specs.Shape.{part_shape}
+use Rattle.task_parts.specs.Part.{PadSet, waits_at}
+use Rattle.task_parts.specs.Moved.{PartSet}
+use Rattle.net_task.specs.Ties.{LeadsAs, PortTied, PartTied, AreTied, Stands, nothing_lost}
+use Rattle.net_task.specs.Moves.{Move, sends, leaves}
+use Rattle.net_task.proofs.Lists.{some_same, set_at}
+use Rattle.net_task.proofs.Linked.{same_number, linked_stays, linked_crosses}
+use Rattle.net_task.proofs.Tied.{set_part_shape, parts_set_shape, parts_set, part_known, part_pad, part_crossed, head_same, head_crossed}
 
 -- a list that is set twice at one place
 pub set_twice : {A : Type 0} (xs : List A) (k : ℕ) (x y : A) → slice_set (slice_set xs k x) k y ≡ slice_set xs k y

@@ -1,13 +1,12 @@
 -- An item that crossed a pad of an element goes to an element of the task, which refuses it.
 use Rattle.std.proofs.Common.{◌≡◌, ◌≢◌, ◌⊎◌, ◌++◌, ℕ, List, [], ◌∷◌, map, Some, refl, sym, ap, ◌∙◌, subst, inl, inr}
-use Rattle.std.specs.Prelude.{slice_get, slice_set, vec_len}
+use Rattle.std.specs.Prelude.{slice_get}
 use Rattle.std.proofs.lemmas.Bool.{cases_eq}
 use Rattle.flow_model.specs.Item.{Item}
-use Rattle.flow_model.specs.Call.{Call}
 use Rattle.lane_core.specs.declared.ends.Inlet as inlets
 use Rattle.lane_core.specs.declared.ends.Outlet as outlets
 use Rattle.net_model.specs.Moment.{Moment}
-use Rattle.net_model.specs.Step.{Leads, crossed}
+use Rattle.net_model.specs.Step.{crossed}
 use Rattle.net_model.proofs.Inputs.{at_here, at_other}
 use Rattle.element_traits.specs.declared.element.TaskElement as elements
 use Rattle.element_traits.specs.declared.source.TaskSource as sources
@@ -15,21 +14,21 @@ use Rattle.element_traits.specs.declared.refusal.Refusal.{Refusal}
 use Rattle.element_traits.specs.Takes.{on_port}
 use Rattle.gst_item.specs.declared.out.Out.{Out}
 use Rattle.task_pads.specs.declared.pad.Pad.{Pad}
-use Rattle.task_pads.specs.Behind.{inside, goes}
-use Rattle.task_pads.specs.Pads.{HasCrossed, SentOver, seen, number_of, goes_of, pad_shape, rest_of, waiting_of}
+use Rattle.task_pads.specs.Behind.{inside}
+use Rattle.task_pads.specs.Pads.{HasCrossed, seen, number_of, goes_of, waiting_of}
 use Rattle.task_pads.specs.Crossing.{Crosses}
 use Rattle.task_parts.specs.declared.part.Part.{Part}
 use Rattle.task_parts.specs.declared.head.Head.{Head}
-use Rattle.task_parts.specs.Shape.{PartShape, part_shape}
+use Rattle.task_parts.specs.Shape.{part_shape}
 use Rattle.task_parts.specs.Found.{IsAt}
-use Rattle.task_parts.specs.Part.{PadSet, PartGave, PartFell, PartTookBack, waits_at}
+use Rattle.task_parts.specs.Part.{PadSet, PartGave, PartFell, waits_at}
 use Rattle.task_parts.specs.Moved.{PartSet, HandedBack}
-use Rattle.net_task.specs.Ties.{LeadsAs, PadLinked, PortTied, PartTied, PartsTied, AreTied, Stands, NoneIs, nothing_lost}
+use Rattle.net_task.specs.Ties.{LeadsAs, PadLinked, PortTied, PartsTied, AreTied, Stands, nothing_lost}
 use Rattle.net_task.specs.Failed.{StandsOrFell, Left, Refuses, by_pad, without_first}
-use Rattle.net_task.proofs.Lists.{some_same, set_at, set_there, map_set}
-use Rattle.net_task.proofs.Linked.{same_number, same_goes, crossed_rest, leads_same}
-use Rattle.net_task.proofs.Tied.{part_number, set_part_shape, parts_set_shape, parts_set, part_known, part_pad, part_fell, part_at, head_at, head_same}
-use Rattle.net_task.proofs.Passing.{sent_inside, pad_twice, part_twice, is_set, is_pad_set, stands_set, port_here, try_crosses, waited_at}
+use Rattle.net_task.proofs.Lists.{some_same, set_at, set_there}
+use Rattle.net_task.proofs.Linked.{same_number, same_goes, crossed_rest}
+use Rattle.net_task.proofs.Tied.{set_part_shape, parts_set_shape, parts_set, part_known, part_pad, part_fell, part_at, head_at}
+use Rattle.net_task.proofs.Passing.{sent_inside, pad_twice, part_twice, is_set, stands_set, try_crosses, waited_at}
 use Rattle.net_task.proofs.Handing.{TakenFrom, first_same, taken_from, found_number, leads_here}
 
 -- An element as it is behind a refusal by one of its task: it is as it was, or it is the one that refused, with the same pads.

@@ -1,8 +1,7 @@
 -- What a try of the pad of a source makes of the moment, whatever came of it.
-use Rattle.std.proofs.Common.{◌≡◌, ◌≢◌, ◌≤◌, ◌<◌, ◌⊎◌, ◌++◌, ◌+◌, ℕ, zero, suc, Bool, true, false, List, [], ◌∷◌, length, map, Some, None, Option, refl, sym, ap, ◌∙◌, subst, inl, inr, arith, append_assoc, length-append}
-use Rattle.std.specs.Prelude.{slice_get, slice_set, Result, Ok, Err}
+use Rattle.std.proofs.Common.{◌≡◌, ◌≤◌, ◌⊎◌, ◌++◌, ℕ, false, List, [], ◌∷◌, length, map, Option, refl, sym, ap, ◌∙◌, subst, inl, inr, arith}
+use Rattle.std.specs.Prelude.{slice_get, Result, Ok, Err}
 use Rattle.flow_model.specs.Item.{Item}
-use Rattle.flow_model.specs.Call.{Call}
 use Rattle.lane_core.specs.Lane.{Lane}
 use Rattle.lane_core.specs.declared.ends.Inlet as inlets
 use Rattle.lane_core.specs.declared.ends.Outlet as outlets
@@ -13,16 +12,13 @@ use Rattle.net_model.proofs.Inputs.{at_here, at_other}
 use Rattle.element_traits.specs.declared.element.TaskElement as elements
 use Rattle.element_traits.specs.declared.source.TaskSource as sources
 use Rattle.element_traits.specs.declared.refusal.Refusal.{Refusal}
-use Rattle.pad_core.specs.SrcPad.{CrossedBy}
-use Rattle.task_pads.specs.declared.pad.Pad.{Pad}
 use Rattle.task_pads.specs.declared.crossing.Crossing.{Crossing}
 use Rattle.task_pads.specs.declared.crossing.Crossing.TheVariants.{Idle, To, Gone, Full, AtProbe, NotLinked, BehindEos, AtLimit, OutOfMemory}
-use Rattle.task_pads.specs.Behind.{Goes, nowhere, inside, over, count_in, end_in}
-use Rattle.task_pads.specs.Pads.{HasCrossed, SentOver, Seen, seen, number_of, goes_of, crossed_count, pad_shape, rest_of, waiting_of}
+use Rattle.task_pads.specs.Behind.{inside, count_in, end_in}
+use Rattle.task_pads.specs.Pads.{HasCrossed, SentOver, seen, number_of, goes_of, crossed_count, rest_of, waiting_of}
 use Rattle.task_pads.specs.Crossing.{IsCrossing, Crosses}
 use Rattle.task_parts.specs.declared.part.Part.{Part}
-use Rattle.task_parts.specs.declared.head.Head.{Head}
-use Rattle.task_parts.specs.declared.head.Head.TheVariants.{Source, Inlets}
+use Rattle.task_parts.specs.declared.head.Head.TheVariants.{Source}
 use Rattle.task_parts.specs.declared.head.SourceHead.{SourceHead}
 use Rattle.task_parts.specs.declared.step.Tried.{Tried}
 use Rattle.task_parts.specs.declared.step.Tried.TheVariants as tried
@@ -32,14 +28,13 @@ use Rattle.task_parts.specs.declared.fault.TaskFault.TheVariants as faults
 use Rattle.task_parts.specs.Fault.{refusal_fault}
 use Rattle.task_parts.specs.Found.{IsAt}
 use Rattle.task_parts.specs.Shape.{part_shape}
-use Rattle.task_parts.specs.Moved.{PartSet}
-use Rattle.task_parts.specs.Passing.{SourceSet, SourceHanded, SourceBack, SourceHandsTo, AfterSource, CrossesSource}
-use Rattle.net_task.specs.Ties.{LeadsAs, PadLinked, PartTied, PartsTied, SourceTied, NoneIs, AreTied, Stands, nothing_lost}
-use Rattle.net_task.specs.Moves.{Unlawful, behind_eos, Move, passes, Advances, TriedAs}
-use Rattle.net_task.specs.Failed.{StandsOrFell, Left, Refuses, FailsAs, GaveUp, by_source, refused, not_linked, at_limit, no_memory, without_first, lost_at}
-use Rattle.net_task.proofs.Lists.{some_same, set_at, map_set}
-use Rattle.net_task.proofs.Linked.{same_number, same_goes, linked_stays, linked_crosses, crossed_rest, shape_rest, leads_same}
-use Rattle.net_task.proofs.Tied.{IsNotFed, none_is_same, parts_set_shape, parts_set_at, part_known, part_crossed, part_fell, part_at}
+use Rattle.task_parts.specs.Passing.{SourceHanded, SourceBack, SourceHandsTo, AfterSource, CrossesSource}
+use Rattle.net_task.specs.Ties.{LeadsAs, PartTied, AreTied, Stands, nothing_lost}
+use Rattle.net_task.specs.Moves.{behind_eos, passes, Advances, TriedAs}
+use Rattle.net_task.specs.Failed.{StandsOrFell, Left, Refuses, FailsAs, by_source, refused, not_linked, at_limit, no_memory, without_first, lost_at}
+use Rattle.net_task.proofs.Lists.{some_same, set_at}
+use Rattle.net_task.proofs.Linked.{same_number, same_goes, crossed_rest}
+use Rattle.net_task.proofs.Tied.{parts_set_at, part_known, part_fell, part_at}
 use Rattle.net_task.proofs.Fed.{now, out_now, fed_tied, fed_answers}
 use Rattle.net_task.proofs.Passing.{sent_inside, gone_move}
 use Rattle.net_task.proofs.Handing.{shape_at, first_same}

@@ -1,9 +1,9 @@
 -- What it makes of the moment that the element which a head feeds takes its next item.
-use Rattle.std.proofs.Common.{◌≡◌, ◌≢◌, ◌≤◌, ◌⊎◌, ◌++◌, ◌+◌, ◌==◌, ℕ, true, false, eqb, if◌then◌else◌, List, [], ◌∷◌, length, map, Some, None, Option, refl, sym, ap, ◌∙◌, subst, inl, inr, arith, append_assoc, append-nil, length-append}
+use Rattle.std.proofs.Common.{◌≡◌, ◌⊎◌, ◌++◌, ℕ, true, false, eqb, if◌then◌else◌, List, [], ◌∷◌, map, Some, Option, refl, sym, ap, ◌∙◌, subst, inl, inr, append-nil}
 use Rattle.std.specs.Prelude.{slice_get, slice_set, Result, Ok, Err}
 use Rattle.std.proofs.lemmas.Bool.Decides.{eqb_tells}
 use Rattle.std.proofs.lemmas.Bool.{cases_eq}
-use Rattle.flow_model.specs.Item.{Item, is_flush_stop}
+use Rattle.flow_model.specs.Item.{Item}
 use Rattle.flow_model.specs.Call.{Call, Feed}
 use Rattle.lane_core.specs.Lane.{Lane}
 use Rattle.lane_core.specs.declared.ends.Inlet as inlets
@@ -18,36 +18,28 @@ use Rattle.inlet_row.specs.declared.row.InletRow.{InletRow}
 use Rattle.inlet_row.specs.declared.feeding.Taken.{Taken}
 use Rattle.inlet_row.specs.declared.feeding.Taken.TheVariants as takes
 use Rattle.inlet_row.specs.Row.{RowGave}
-use Rattle.task_pads.specs.Pads.{number_of, rest_of, waiting_of}
 use Rattle.task_parts.specs.declared.part.Part.{Part}
 use Rattle.task_parts.specs.declared.head.Head.{Head}
-use Rattle.task_parts.specs.declared.head.Head.TheVariants.{Source, Inlets}
-use Rattle.task_parts.specs.declared.head.SourceHead.{SourceHead}
+use Rattle.task_parts.specs.declared.head.Head.TheVariants.{Inlets}
 use Rattle.task_parts.specs.declared.head.InletHead.{InletHead}
 use Rattle.task_parts.specs.declared.step.Tried.{Tried}
 use Rattle.task_parts.specs.declared.step.Tried.TheVariants as tried
 use Rattle.task_parts.specs.declared.step.Step.TheVariants as steps
 use Rattle.task_parts.specs.declared.fault.TaskFault.{TaskFault}
-use Rattle.task_parts.specs.declared.fault.TaskFault.TheVariants as faults
 use Rattle.task_parts.specs.Fault.{refusal_fault}
 use Rattle.task_parts.specs.Found.{IsAt}
 use Rattle.task_parts.specs.Shape.{part_shape}
-use Rattle.task_parts.specs.Head.{SourceKept}
 use Rattle.task_parts.specs.Part.{PartFed, PartFell}
 use Rattle.task_parts.specs.Moved.{PartSet}
-use Rattle.task_parts.specs.Passing.{Settles, GivesAs, RowSet, HasNoRow, AsksRow, AfterTake, RowFeeds, WantsNone, WantsOne, TakesNext}
-use Rattle.net_task.specs.Ties.{TookAt, PartTied, PartsTied, RowTied, RowsTied, SourceTied, NoneIs, AreTied, Stands, nothing_lost}
-use Rattle.net_task.specs.Moves.{Unlawful, flush_given, flush_taken, gives as gives_one, takes as takes_one, Advances, TriedAs}
-use Rattle.net_task.specs.Failed.{StandsOrFell, Left, Refuses, FailsAs, by_inlet, refused, unread, at_limit, lost_at}
+use Rattle.task_parts.specs.Passing.{RowSet, HasNoRow, AsksRow, AfterTake, RowFeeds, WantsNone, WantsOne, TakesNext}
+use Rattle.net_task.specs.Ties.{TookAt, PartsTied, RowTied, RowsTied, AreTied, Stands, nothing_lost}
+use Rattle.net_task.specs.Moves.{flush_taken, takes as takes_one, Advances, TriedAs}
+use Rattle.net_task.specs.Failed.{StandsOrFell, Left, Refuses, FailsAs, by_inlet, refused, lost_at}
 use Rattle.net_task.proofs.Lists.{some_same, set_at, set_there}
-use Rattle.net_task.proofs.Linked.{linked_rest, shape_rest, same_number}
-use Rattle.net_task.proofs.Tied.{none_leads_same, part_pads, parts_set_shape, parts_set, part_known, part_fell, part_settled, head_same, took_other, took_more}
+use Rattle.net_task.proofs.Tied.{none_leads_same, parts_set, part_known, part_fell, took_other, took_more}
 use Rattle.net_task.proofs.Fed.{now, out_now, fed_parts, fed_answers}
-use Rattle.net_task.proofs.Passing.{stands_set}
 use Rattle.net_task.proofs.Handing.{shape_at}
-use Rattle.net_task.proofs.Sources.{Begins, later, Later}
-use Rattle.net_task.proofs.Trying.{ok_same, err_same, not_both}
-use Rattle.inlet_row.specs.Take.{list_after}
+use Rattle.net_task.proofs.Trying.{ok_same, not_both}
 
 lost_here : (port : ℕ) (x : Item) → lost_at port x port ≡ x ∷ []
 lost_here port x = go (eqb_tells port port)

@@ -1,12 +1,11 @@
 -- How the elements of a task stand to a moment, as items cross and elements are fed.
-use Rattle.std.proofs.Common.{◌≡◌, ◌≢◌, ◌<◌, ◌⊎◌, ◌+◌, ◌++◌, ℕ, zero, suc, true, false, eqb, if◌then◌else◌, List, [], ◌∷◌, length, map, Some, refl, sym, ap, ◌∙◌, subst, inl, inr, append-nil}
-use Rattle.std.specs.Prelude.{slice_get, slice_set}
+use Rattle.std.proofs.Common.{◌≡◌, ◌≢◌, ◌⊎◌, ◌++◌, ℕ, zero, suc, true, false, eqb, if◌then◌else◌, List, [], ◌∷◌, map, Some, refl, sym, ap, ◌∙◌, subst, inl, inr, append-nil}
+use Rattle.std.specs.Prelude.{slice_get}
 use Rattle.std.proofs.lemmas.Bool.Decides.{eqb_tells}
 use Rattle.std.proofs.lemmas.Bool.{cases_eq}
 use Rattle.gst_item.specs.declared.out.Out.{Out}
 use Rattle.flow_model.specs.Item.{Item}
 use Rattle.flow_model.specs.Call.{Call, Feed, feeds}
-use Rattle.flow_model.specs.Rule.{Rule}
 use Rattle.lane_core.specs.declared.ends.Inlet as inlets
 use Rattle.lane_core.specs.declared.ends.Outlet as outlets
 use Rattle.net_model.specs.Moment.{Moment}
@@ -18,20 +17,18 @@ use Rattle.element_traits.specs.declared.source.TaskSource as sources
 use Rattle.element_traits.specs.Takes.{on_port}
 use Rattle.inlet_row.specs.declared.row.InletRow.{InletRow}
 use Rattle.task_pads.specs.declared.pad.Pad.{Pad}
-use Rattle.task_pads.specs.Behind.{inside}
-use Rattle.task_pads.specs.Pads.{HasCrossed, SentOver, number_of, goes_of, pad_shape, rest_of, waiting_of}
+use Rattle.task_pads.specs.Pads.{number_of, pad_shape, waiting_of}
 use Rattle.task_parts.specs.declared.part.Part.{Part}
 use Rattle.task_parts.specs.declared.head.SourceHead.{SourceHead}
-use Rattle.task_parts.specs.declared.head.InletHead.{InletHead}
 use Rattle.task_parts.specs.declared.head.Head.{Head}
 use Rattle.task_parts.specs.declared.head.Head.TheVariants.{Source, Inlets}
 use Rattle.task_parts.specs.Shape.{PartShape, part_shape}
 use Rattle.task_parts.specs.Part.{PadSet, PadsGrew, waits_at}
 use Rattle.task_parts.specs.Moved.{PartSet}
-use Rattle.net_task.specs.Ties.{TookAt, PadLinked, PortTied, HasPad, AreOnce, NoneLeads, NoneIs, PartTied, PartsTied, SourceTied, RowTied, RowsTied, HeadTied}
+use Rattle.net_task.specs.Ties.{TookAt, PadLinked, PortTied, HasPad, AreOnce, NoneLeads, NoneIs, PartTied, PartsTied, SourceTied, HeadTied}
 use Rattle.net_task.specs.Failed.{without_first}
 use Rattle.net_task.proofs.Lists.{each_set, map_set, map_back}
-use Rattle.net_task.proofs.Linked.{same_number, same_goes, leads_same, linked_same, linked_other, linked_rest, linked_stays, linked_fed, linked_without, shape_rest}
+use Rattle.net_task.proofs.Linked.{same_number, same_goes, linked_same, linked_other, linked_rest, linked_fed, linked_without, shape_rest}
 
 -- a pad of a number is still there
 pub has_same : {O : Type 0} (pads pads' : List (Pad O)) (m m' : Moment) (q : ℕ) → m'.plan ≡ m.plan → map pad_shape pads' ≡ map pad_shape pads → HasPad pads m q → HasPad pads' m' q

@@ -1,6 +1,6 @@
 -- What a try of a pad of an element makes of the moment, whatever came of it.
-use Rattle.std.proofs.Common.{◌≡◌, ◌≢◌, ◌≤◌, ◌<◌, ◌⊎◌, ◌++◌, ◌||◌, ℕ, zero, suc, Bool, true, false, List, [], ◌∷◌, length, drop, map, Some, None, Option, refl, sym, ap, ◌∙◌, subst, inl, inr, arith}
-use Rattle.std.specs.Prelude.{slice_get, slice_set, Result, Ok, Err}
+use Rattle.std.proofs.Common.{◌≡◌, ◌≤◌, ◌⊎◌, ◌++◌, ◌||◌, ℕ, zero, suc, Bool, true, false, List, [], ◌∷◌, length, drop, map, Some, Option, refl, sym, ap, ◌∙◌, subst, inl, inr, arith}
+use Rattle.std.specs.Prelude.{slice_get, Result, Ok, Err}
 use Rattle.std.proofs.lemmas.Bool.{cases_eq}
 use Rattle.std.proofs.lemmas.List.{length-drop}
 use Rattle.flow_model.specs.Item.{Item}
@@ -19,8 +19,8 @@ use Rattle.task_pads.specs.declared.pad.Behind.{Behind}
 use Rattle.task_pads.specs.declared.pad.Behind.TheVariants as behinds
 use Rattle.task_pads.specs.declared.crossing.Crossing.{Crossing}
 use Rattle.task_pads.specs.declared.crossing.Crossing.TheVariants.{Idle, To, Gone, Full, AtProbe, NotLinked, BehindEos, AtLimit, OutOfMemory}
-use Rattle.task_pads.specs.Behind.{Goes, nowhere, inside, over, SentIn, goes, leads_on, count_in, end_in}
-use Rattle.task_pads.specs.Pads.{HasCrossed, SentOver, Seen, seen, number_of, goes_of, crossed_count, pad_shape, rest_of, waiting_of}
+use Rattle.task_pads.specs.Behind.{nowhere, SentIn, goes, leads_on, count_in, end_in}
+use Rattle.task_pads.specs.Pads.{HasCrossed, SentOver, Seen, seen, number_of, goes_of, crossed_count, rest_of, waiting_of}
 use Rattle.task_pads.specs.Crossing.{IsCrossing}
 use Rattle.task_parts.specs.declared.part.Part.{Part}
 use Rattle.task_parts.specs.declared.head.Head.{Head}
@@ -32,16 +32,15 @@ use Rattle.task_parts.specs.declared.fault.TaskFault.TheVariants as faults
 use Rattle.task_parts.specs.Fault.{refusal_fault}
 use Rattle.task_parts.specs.Gathered.{are_linked, linked_else}
 use Rattle.task_parts.specs.Shape.{part_shape}
-use Rattle.task_parts.specs.Part.{PadSet, PartCrossed, waits_at}
+use Rattle.task_parts.specs.Part.{waits_at}
 use Rattle.task_parts.specs.Found.{IsAt}
-use Rattle.task_parts.specs.Moved.{PartSet, HandedOn, HandedBack}
+use Rattle.task_parts.specs.Moved.{HandedOn, HandedBack}
 use Rattle.task_parts.specs.Passing.{AfterPart, HandsTo, CrossesPart}
 use Rattle.net_task.specs.Ties.{LeadsAs, PortTied, AreTied, Stands, nothing_lost}
-use Rattle.net_task.specs.Moves.{Unlawful, behind_eos, Advances, TriedAs}
+use Rattle.net_task.specs.Moves.{behind_eos, TriedAs}
 use Rattle.net_task.specs.Failed.{FailsAs, refused, not_linked, at_limit, no_memory}
 use Rattle.net_task.proofs.Lists.{some_same}
-use Rattle.net_task.proofs.Linked.{same_number, same_goes}
-use Rattle.net_task.proofs.Tied.{part_number}
+use Rattle.net_task.proofs.Linked.{same_number}
 use Rattle.net_task.proofs.Passing.{tied_here, port_here, try_stays, try_crosses, waited_at, gone_move}
 use Rattle.net_task.proofs.Handing.{handed_on}
 use Rattle.net_task.proofs.Refusing.{handed_back}

@@ -1,7 +1,6 @@
 -- A task behind a fault, and why it met the fault.
-use Rattle.std.specs.Prelude.{◌≡◌, ◌≤◌, ◌⊎◌, ℕ, ◌==◌, true, false, if◌then◌else◌, List, [], ◌∷◌, length}
+use Rattle.std.specs.Prelude.{◌≡◌, ◌≤◌, ◌⊎◌, ℕ, ◌==◌, true, if◌then◌else◌, List, [], ◌∷◌, length}
 use Rattle.flow_model.specs.Item.{Item, is_buffer}
-use Rattle.flow_model.specs.Rule.{Rule}
 use Rattle.lane_core.specs.declared.ends.Inlet as inlets
 use Rattle.lane_core.specs.declared.ends.Outlet as outlets
 use Rattle.net_model.specs.Moment.{Moment, put_at}
@@ -13,7 +12,6 @@ use Rattle.element_traits.specs.declared.refusal.Unread.{Unread}
 use Rattle.element_traits.specs.Failures.{IsReadCause, IsWriteCause}
 use Rattle.task_parts.specs.declared.part.Part.{Part}
 use Rattle.task_parts.specs.declared.head.Head.{Head}
-use Rattle.task_parts.specs.declared.head.SourceHead.{SourceHead}
 use Rattle.task_parts.specs.declared.head.Head.TheVariants.{Source, Inlets}
 use Rattle.net_task.specs.declared.task.Task.{Task}
 use Rattle.task_parts.specs.declared.fault.TaskFault.{TaskFault}

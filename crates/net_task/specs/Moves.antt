@@ -1,7 +1,7 @@
 -- What a step of a task makes of the moment.
 use Rattle.std.specs.Prelude.{◌≡◌, ◌⊎◌, ◌++◌, ℕ, true, List, [], ◌∷◌}
 use Rattle.flow_model.specs.Item.{Item, is_flush_stop}
-use Rattle.flow_model.specs.Call.{Call, Feed}
+use Rattle.flow_model.specs.Call.{Feed}
 use Rattle.lane_core.specs.declared.ends.Inlet as inlets
 use Rattle.lane_core.specs.declared.ends.Outlet as outlets
 use Rattle.pad_core.specs.Crossing.{has_ended}

@@ -1,12 +1,12 @@
 -- An item goes from a pad to an element.
-use Rattle.std.proofs.Common.{◌≡◌, ◌<◌, ◌⊎◌, ℕ, List, [], ◌∷◌, length, get_or, Some, None, Option, refl, sym, ap, ◌∙◌, subst, inl, inr, arith}
+use Rattle.std.proofs.Common.{◌≡◌, ◌<◌, ◌⊎◌, ℕ, List, length, get_or, Some, None, Option, sym, ap, ◌∙◌, subst, inl, inr, arith}
 use Rattle.std.specs.Prelude.{slice_get, slice_set}
 use Rattle.std.proofs.lemmas.Bool.{cases_eq}
 use Rattle.std.proofs.lemmas.Option.{slice_get_within}
 use Rattle.flow_model.specs.Item.{Item}
 use Rattle.element_traits.specs.declared.element.TaskElement as elements
 use Rattle.task_pads.specs.declared.pad.Pad.{Pad}
-use Rattle.task_pads.specs.Pads.{IsLoose, Rest, rest_of, waiting_of}
+use Rattle.task_pads.specs.Pads.{IsLoose, Rest, waiting_of}
 use Rattle.task_parts.specs.declared.part.Part.{Part}
 use Rattle.task_parts.specs.Moved.{CanGive}
 use Rattle.task_parts.specs.Part.{CanTakeBackAt, PartGave}

@@ -1,18 +1,17 @@
 -- An element of a task and its pads.
-use Rattle.std.proofs.Common.{◌≡◌, ◌<◌, ◌⊎◌, ℕ, zero, suc, Bool, true, false, List, [], ◌∷◌, ◌++◌, ◌||◌, eqb, length, map, get_or, Some, None, Option, refl, sym, ap, ◌∙◌, subst, inl, inr, arith}
-use Rattle.std.specs.Prelude.{slice_get, slice_set, ◌+◌}
+use Rattle.std.proofs.Common.{◌≡◌, ◌<◌, ◌⊎◌, ℕ, suc, Bool, true, false, List, [], ◌∷◌, ◌++◌, ◌||◌, eqb, map, Some, refl, sym, ap, ◌∙◌, subst, inl, inr, arith}
+use Rattle.std.specs.Prelude.{slice_get, ◌+◌}
 use Rattle.std.proofs.lemmas.Bool.{cases_eq}
 use Rattle.std.proofs.lemmas.Bool.Decides.{eqb_tells}
 use Rattle.gst_item.specs.declared.out.Out.{Out}
-use Rattle.flow_model.specs.Call.{Call, Feed}
+use Rattle.flow_model.specs.Call.{Feed}
 use Rattle.flow_model.specs.Item.{Item}
-use Rattle.flow_model.specs.Rule.{Rule}
 use Rattle.net_model.specs.Split.{push_calls}
 use Rattle.element_traits.specs.declared.element.TaskElement as elements
 use Rattle.element_traits.specs.Failures.{NeverFalls}
 use Rattle.element_traits.specs.Takes.{Takes, on_port}
 use Rattle.task_pads.specs.declared.pad.Pad.{Pad}
-use Rattle.task_pads.specs.Pads.{PadShape, pad_shape, rest_of, waiting_of}
+use Rattle.task_pads.specs.Pads.{PadShape, pad_shape, waiting_of}
 use Rattle.task_pads.specs.Put.{Spread}
 use Rattle.task_parts.specs.declared.part.Part.{Part}
 use Rattle.task_parts.specs.Part.{PadSet, PartFed, PartSettled}

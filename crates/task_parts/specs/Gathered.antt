@@ -1,5 +1,5 @@
 -- The pads of an element, and what it put out and is not there yet.
-use Rattle.std.specs.Prelude.{◌==◌, ◌&&◌, ◌||◌, ℕ, zero, suc, Bool, true, false, not, List, [], ◌∷◌, nat_lt}
+use Rattle.std.specs.Prelude.{◌&&◌, ◌||◌, ℕ, zero, suc, Bool, true, false, not, List, [], ◌∷◌, nat_lt}
 use Rattle.gst_item.specs.declared.out.Out.{Out}
 use Rattle.flow_model.specs.Item.{is_flush_stop}
 use Rattle.task_pads.specs.declared.pad.Pad.{Pad}

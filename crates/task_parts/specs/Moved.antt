@@ -4,7 +4,7 @@ use Rattle.flow_model.specs.Item.{Item}
 use Rattle.element_traits.specs.declared.element.TaskElement as elements
 use Rattle.element_traits.specs.declared.refusal.Refusal.{Refusal}
 use Rattle.task_pads.specs.declared.pad.Pad.{Pad}
-use Rattle.task_pads.specs.Pads.{CanTakeBack, HasCrossed, crossed_count, pad_shape, probe_of, rest_of, waiting_of}
+use Rattle.task_pads.specs.Pads.{CanTakeBack, HasCrossed, crossed_count, probe_of, rest_of, waiting_of}
 use Rattle.task_pads.specs.Put.{IsTaken}
 use Rattle.task_parts.specs.declared.part.Part.{Part}
 use Rattle.task_parts.specs.Part.{PartFed, PartFell, PartGave, PartTookBack}

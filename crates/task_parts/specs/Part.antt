@@ -1,5 +1,5 @@
 -- What becomes of an element of a task and of its source pads.
-use Rattle.std.specs.Prelude.{◌≡◌, ◌≢◌, ◌<◌, ◌+◌, ◌&&◌, ℕ, Bool, true, false, List, [], ◌∷◌, ◌++◌, Option, Some, map, slice_get, slice_set}
+use Rattle.std.specs.Prelude.{◌≡◌, ◌+◌, ◌&&◌, ℕ, Bool, true, List, [], ◌∷◌, ◌++◌, Option, Some, slice_get, slice_set}
 use Rattle.gst_item.specs.declared.out.Out.{Out}
 use Rattle.flow_model.specs.Item.{Item}
 use Rattle.flow_model.specs.Call.{Call, Feed}
@@ -19,7 +19,6 @@ use Rattle.task_pads.specs.Put.{IsTaken}
 use Rattle.task_pads.specs.Crossing.{IsCrossing}
 use Rattle.task_parts.specs.declared.part.Part.{Part}
 use Rattle.task_parts.specs.Gathered.{is_nothing, pads_idle, linked_else}
-use Rattle.task_parts.specs.Shape.{part_shape}
 
 module _ {E O : Type 0} {e : elements.Ghosts E} where
   -- nothing waits at the pads of an element

@@ -1,5 +1,5 @@
 -- What one try of a pad, or of a head, moves.
-use Rattle.std.specs.Prelude.{◌≡◌, ◌≢◌, ◌<◌, ◌≤◌, ◌⊎◌, ◌+◌, ◌++◌, ℕ, true, false, List, [], ◌∷◌, Option, None, Some, Result, Ok, Err, length, slice_get, slice_set}
+use Rattle.std.specs.Prelude.{◌≡◌, ◌≤◌, ◌⊎◌, ◌+◌, ◌++◌, ℕ, true, false, List, [], ◌∷◌, Option, None, Some, Result, Ok, Err, length, slice_get, slice_set}
 use Rattle.flow_model.specs.Item.{Item, is_flush_stop}
 use Rattle.lane_core.specs.Lane.{Lane}
 use Rattle.lane_core.specs.declared.ends.Inlet as inlets
@@ -18,7 +18,7 @@ use Rattle.task_pads.specs.declared.pad.Pad.{Pad}
 use Rattle.task_pads.specs.declared.crossing.Crossing.{Crossing}
 use Rattle.task_pads.specs.declared.crossing.Crossing.TheVariants.{Idle, To, Gone, Full, AtProbe, NotLinked, BehindEos, AtLimit, OutOfMemory}
 use Rattle.task_pads.specs.Behind.{place_in}
-use Rattle.task_pads.specs.Pads.{CanTakeBack, HasCrossed, KeepsTable, PadReady, crossed_count, end_of, number_of, pad_shape, probe_of, rest_of, waiting_of}
+use Rattle.task_pads.specs.Pads.{HasCrossed, KeepsTable, PadReady, crossed_count, end_of, number_of, pad_shape, probe_of, rest_of, waiting_of}
 use Rattle.task_pads.specs.Crossing.{IsCrossing}
 use Rattle.task_pads.specs.Put.{IsTaken}
 use Rattle.task_parts.specs.declared.part.Part.{Part}

@@ -1,5 +1,4 @@
-use Rattle.std.proofs.Common.{ap, ◌∙◌, sym}
-use Rattle.task_parts.specs.declared.part.Part.{Part}
+use Rattle.std.proofs.Common.{◌∙◌, sym}
 use Rattle.task_parts.proofs.Lists.{some_at}
 use Rattle.task_parts.proofs.find.find.Goals as goal
 

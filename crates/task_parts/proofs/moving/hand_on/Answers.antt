@@ -1,4 +1,4 @@
-use Rattle.std.proofs.Common.{refl, arith, ap, ◌∙◌}
+use Rattle.std.proofs.Common.{refl, arith, ◌∙◌}
 use Rattle.std.specs.Prelude.{slice_set}
 use Rattle.task_parts.specs.Shape.{part_shape}
 use Rattle.task_parts.proofs.Lists.{map_set, set_length, some_at}

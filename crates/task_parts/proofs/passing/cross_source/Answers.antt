@@ -1,8 +1,7 @@
-use Rattle.std.proofs.Common.{refl, arith, ap, sym, subst, ◌∙◌, ◌≡◌, true, List, [], ◌∷◌, map}
+use Rattle.std.proofs.Common.{refl, arith, sym, subst, ◌∙◌, ◌≡◌, true, List, [], ◌∷◌, map}
 use Rattle.std.proofs.lemmas.Option.{slice_get_within}
 use Rattle.task_pads.specs.declared.crossing.Crossing.TheVariants as crossings
 use Rattle.task_parts.specs.declared.part.Part.{Part}
-use Rattle.task_parts.specs.declared.fault.TaskFault.TheVariants.{NotLinked}
 use Rattle.task_parts.specs.Shape.{has_number, part_shape}
 use Rattle.task_parts.proofs.Tries.{at_other, err_same, fault_at, named_in, source_back, source_same, source_to}
 use Rattle.task_parts.proofs.passing.cross_source.Goals as goal

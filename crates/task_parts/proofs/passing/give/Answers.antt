@@ -1,4 +1,4 @@
-use Rattle.std.proofs.Common.{refl, ap, inl, inr, ◌∙◌}
+use Rattle.std.proofs.Common.{ap, inl, inr, ◌∙◌}
 use Rattle.task_parts.specs.declared.fault.TaskFault.TheVariants.{TooLong}
 use Rattle.task_parts.specs.Fault.{unread_fault}
 use Rattle.task_parts.proofs.Tries.{gives_as}

@@ -1,5 +1,4 @@
-use Rattle.std.proofs.Common.{◌≡◌, subst, sym}
-use Rattle.net_model.specs.Moment.{Moment}
+use Rattle.std.proofs.Common.{subst, sym}
 use Rattle.task_parts.specs.declared.head.Head.{Head}
 use Rattle.task_parts.specs.declared.head.Head.TheVariants.{Source, Inlets}
 use Rattle.net_task.specs.Framed.{HeadIdle}

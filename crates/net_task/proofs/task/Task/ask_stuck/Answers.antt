@@ -1,4 +1,4 @@
-use Rattle.std.proofs.Common.{◌≡◌, subst, sym}
+use Rattle.std.proofs.Common.{subst}
 use Rattle.net_task.specs.Moves.{AfterTry}
 use Rattle.net_task.proofs.task.Task.ask_stuck.Goals as goal
 

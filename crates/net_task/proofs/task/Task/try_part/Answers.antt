@@ -1,4 +1,4 @@
-use Rattle.std.proofs.Common.{◌≡◌, ◌<◌, List, length, refl, ap, ◌∙◌, subst, sym}
+use Rattle.std.proofs.Common.{◌<◌, List, length, refl, ap, subst, sym}
 use Rattle.task_pads.specs.declared.pad.Pad.{Pad}
 use Rattle.task_parts.specs.Shape.{TaskShape}
 use Rattle.net_task.specs.Failed.{no_memory}

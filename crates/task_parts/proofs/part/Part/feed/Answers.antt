@@ -1,4 +1,4 @@
-use Rattle.std.proofs.Common.{refl, ap, sym, subst, ◌∙◌, ◌≡◌, ℕ, true}
+use Rattle.std.proofs.Common.{refl, sym, subst, ◌∙◌, ◌≡◌, ℕ, true}
 use Rattle.task_parts.specs.Gathered.{are_within}
 use Rattle.task_parts.proofs.Turns.{fed_of}
 use Rattle.task_parts.proofs.part.Part.feed.Goals as goal

@@ -1,6 +1,5 @@
 use Rattle.std.proofs.Common.{refl, ap, List}
 use Rattle.task_pads.specs.Pads.{PadShape}
-use Rattle.task_parts.specs.Shape.{PartShape}
 use Rattle.task_parts.proofs.Outs.{shapes_of_rests}
 use Rattle.task_parts.proofs.Turns.{settled_of, shape_with}
 use Rattle.task_parts.proofs.part.Part.settle.Goals as goal
