@@ -43,3 +43,7 @@ err_at (Err y) P x q f = let same : y ≡ x = cc in subst P same f
 pub handed_on : {T X : Type 0} (r : Result T X) (x : X) (P : X → Type 0) → IsErrAnd r (λ fault. fault ≡ x) → P x → IfErr r P
 handed_on (Ok t) x P f p = absurd f
 handed_on (Err y) x P f p = subst P (sym f) p
+
+pub ok_at : {T X : Type 0} (r : Result T X) (P : T → Type 0) (t : T) → r ≡ Ok t → IfOk r P → P t
+ok_at (Ok u) P t q f = let same : u ≡ t = cc in subst P same f
+ok_at (Err y) P t q f = absurd cc

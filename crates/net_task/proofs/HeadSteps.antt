@@ -54,7 +54,7 @@ given_moves head head' (Ok tried.Idle) g step q = absurd cc
 given_moves head head' (Ok (tried.Stuck given)) g step q = absurd g
 given_moves head head' (Err fault) g step q = absurd cc
 
-answers_one : (r : Result Tried TaskFault) (answer : Tried) (step : Step) → r ≡ Ok answer → r ≡ Ok (tried.Stuck step) → answer ≡ tried.Stuck step
+pub answers_one : (r : Result Tried TaskFault) (answer : Tried) (step : Step) → r ≡ Ok answer → r ≡ Ok (tried.Stuck step) → answer ≡ tried.Stuck step
 answers_one (Ok given) answer step p q = cc
 answers_one (Err fault) answer step p q = absurd cc
 

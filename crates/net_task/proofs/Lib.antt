@@ -15,3 +15,7 @@ pub mod Still
 pub mod Unread
 pub mod SoFar
 pub mod HeadSteps
+pub mod Held
+pub mod Kept
+pub mod Resting
+pub mod HeadWhy

@@ -22,7 +22,7 @@ use Rattle.net_task.proofs.Tied.{none_is_same, part_crossed}
 abbrev pub Begins : {S : Type 0} → sources.Ghosts S → Type 0
 Begins {S = S} s = (source : S) (owed given : List Item) → s.gave source owed given → (rest : List Item) × (owed ≡ given ++ rest)
 
-cancel : (h a b : List Item) → h ++ a ≡ h ++ b → a ≡ b
+pub cancel : (h a b : List Item) → h ++ a ≡ h ++ b → a ≡ b
 cancel [] a b q = q
 cancel (x ∷ h) a b q = cancel h a b (tail_same x (h ++ a) x (h ++ b) q)
   where

@@ -31,7 +31,7 @@ StillAs i o tells head parts tried.Moved = Unit {0}
 StillAs i o tells head parts tried.Idle = AreReady i o tells head parts
 StillAs i o tells head parts (tried.Stuck step) = AreReady i o tells head parts × (step ≢ Moved)
 
-moved_to : {E O : Type 0} {e : elements.Ghosts E} (parts parts' : List (Part E O e)) (place port number sink : ℕ) (r : Result Tried TaskFault) (answer : Tried) → r ≡ Ok answer → HandsTo parts parts' place port number sink r → tried.Moved ≡ answer
+pub moved_to : {E O : Type 0} {e : elements.Ghosts E} (parts parts' : List (Part E O e)) (place port number sink : ℕ) (r : Result Tried TaskFault) (answer : Tried) → r ≡ Ok answer → HandsTo parts parts' place port number sink r → tried.Moved ≡ answer
 moved_to parts parts' place port number sink (Ok given) answer q f = let same : given ≡ answer = cc in sym f.0 ∙ same
 moved_to parts parts' place port number sink (Err given) answer q f = absurd cc
 

@@ -37,7 +37,7 @@ abbrev pub SourceStays : {S I O : Type 0} {s : sources.Ghosts S} → Head S I O 
 SourceStays (Source old) (Source new) = (new.number ≡ old.number) × (new.source ≡ old.source)
 SourceStays (Source old) (Inlets new) = ⊥
 SourceStays (Inlets old) (Source new) = ⊥
-SourceStays (Inlets old) (Inlets new) = Unit {0}
+SourceStays (Inlets old) (Inlets new) = new ≡ old
 
 -- a pad was stuck, for a reason
 abbrev pub IsStuckTry : Tried → Type 0

@@ -33,6 +33,7 @@ impl<S: TaskSource, E: TaskElement, I: Inlet<Out = O>, O: Outlet<Lanes = I::Lane
     ghost use Rattle.net_task.specs.Ties.{Ties};
     ghost use Rattle.net_task.specs.Moves.{AfterTry, Steps};
     ghost use Rattle.net_task.specs.Failed.{Failed};
+    ghost use Rattle.net_task.specs.Reasons.{WaitsFor, RestsAll, RestsAt, IsKept, IsIdleAt, IsUnmoved, HeadWaits, HeadWhy, AskWhy, StuckWhy, Why};
     ghost use Rattle.net_task.specs.Framed.{IsReady, IsStill, IsHeadIdle, IsSourceKept};
 
     /// A task of these parts that moved nothing yet. Each element that a pad or the head names is one of them.
@@ -51,6 +52,7 @@ impl<S: TaskSource, E: TaskElement, I: Inlet<Out = O>, O: Outlet<Lanes = I::Lane
     pub fn step(&mut self, alloc: Global, lanes: &mut I::Lanes) -> Result<Step, TaskFault>
         requires ready { IsReady (O.tells lanes.old) self.old }
         ensures steps { IfOk result (λ step. (m : Moment) → Ties self.old m → Steps self.new m step) }
+        ensures why { IfOk result (λ step. (m : Moment) → Ties self.old m → Why (O.tells lanes.old) self.old self.new m step) }
         ensures faults { IfErr result (λ fault. (m : Moment) → Ties self.old m → Failed self.old self.new m fault) }
         ensures shape { shape_of self.new.head self.new.parts.items ≡ shape_of self.old.head self.old.parts.items }
     {
@@ -66,6 +68,9 @@ impl<S: TaskSource, E: TaskElement, I: Inlet<Out = O>, O: Outlet<Lanes = I::Lane
     fn try_parts(&mut self, alloc: Global, lanes: &mut I::Lanes) -> Result<Tried, TaskFault>
         requires ready { IsReady (O.tells lanes.old) self.old }
         ensures tries { IfOk result (λ tried. (m : Moment) → Ties self.old m → AfterTry self.new m tried) }
+        ensures held { IfOk result (λ tried. (m : Moment) → Ties self.old m → WaitsFor O.Outlet (O.tells lanes.old) m self.old.parts.items tried) }
+        ensures rest { IfOk result (λ tried. (m : Moment) → Ties self.old m → RestsAll m self.old.parts.items tried) }
+        ensures kept { IfOk result (IsKept O.Outlet (O.tells lanes.old) (O.tells lanes.new) self.old.parts.items self.new.parts.items) }
         ensures faults { IfErr result (λ fault. (m : Moment) → Ties self.old m → Failed self.old self.new m fault) }
         ensures still { IfOk result (IsStill (O.tells lanes.new) self.new) }
         ensures head { self.new.head ≡ self.old.head }
@@ -91,6 +96,9 @@ impl<S: TaskSource, E: TaskElement, I: Inlet<Out = O>, O: Outlet<Lanes = I::Lane
         requires place { place < vec_len self.old.parts }
         requires ready { IsReady (O.tells lanes.old) self.old }
         ensures tries { IfOk result (λ tried. (m : Moment) → Ties self.old m → AfterTry self.new m tried) }
+        ensures held { IfOk result (λ tried. (m : Moment) → Ties self.old m → WaitsFor O.Outlet (O.tells lanes.old) m self.old.parts.items tried) }
+        ensures rest { IfOk result (λ tried. (m : Moment) → Ties self.old m → RestsAt m self.old.parts.items place tried) }
+        ensures kept { IfOk result (IsKept O.Outlet (O.tells lanes.old) (O.tells lanes.new) self.old.parts.items self.new.parts.items) }
         ensures faults { IfErr result (λ fault. (m : Moment) → Ties self.old m → Failed self.old self.new m fault) }
         ensures still { IfOk result (IsStill (O.tells lanes.new) self.new) }
         ensures head { self.new.head ≡ self.old.head }
@@ -120,6 +128,9 @@ impl<S: TaskSource, E: TaskElement, I: Inlet<Out = O>, O: Outlet<Lanes = I::Lane
         requires at { HasPort self.old.parts.items place port }
         requires ready { IsReady (O.tells lanes.old) self.old }
         ensures tries { IfOk result (λ tried. (m : Moment) → Ties self.old m → AfterTry self.new m tried) }
+        ensures held { IfOk result (λ tried. (m : Moment) → Ties self.old m → WaitsFor O.Outlet (O.tells lanes.old) m self.old.parts.items tried) }
+        ensures idle { IfOk result (IsIdleAt self.old.parts.items self.new.parts.items place port) }
+        ensures kept { IfOk result (IsKept O.Outlet (O.tells lanes.old) (O.tells lanes.new) self.old.parts.items self.new.parts.items) }
         ensures faults { IfErr result (λ fault. (m : Moment) → Ties self.old m → Failed self.old self.new m fault) }
         ensures still { IfOk result (IsStill (O.tells lanes.new) self.new) }
         ensures head { self.new.head ≡ self.old.head }
@@ -132,6 +143,7 @@ impl<S: TaskSource, E: TaskElement, I: Inlet<Out = O>, O: Outlet<Lanes = I::Lane
     fn ask(&mut self, alloc: Global, lanes: &mut I::Lanes) -> Result<Step, TaskFault>
         requires ready { IsReady (O.tells lanes.old) self.old }
         ensures steps { IfOk result (λ step. (m : Moment) → Ties self.old m → Steps self.new m step) }
+        ensures why { IfOk result (λ step. (m : Moment) → Ties self.old m → AskWhy I.Inlet O.Outlet (O.tells lanes.old) m self.old.head self.new.head self.new.parts.items step) }
         ensures faults { IfErr result (λ fault. (m : Moment) → Ties self.old m → Failed self.old self.new m fault) }
         ensures shape { shape_of self.new.head self.new.parts.items ≡ shape_of self.old.head self.old.parts.items }
     {
@@ -153,6 +165,7 @@ impl<S: TaskSource, E: TaskElement, I: Inlet<Out = O>, O: Outlet<Lanes = I::Lane
         requires ready { IsReady (O.tells lanes.old) self.old }
         requires stuck { stuck ≢ Moved }
         ensures steps { IfOk result (λ step. (m : Moment) → Ties self.old m → Steps self.new m step) }
+        ensures why { IfOk result (λ step. (m : Moment) → Ties self.old m → StuckWhy O.Outlet (O.tells lanes.old) m self.old.head stuck step) }
         ensures faults { IfErr result (λ fault. (m : Moment) → Ties self.old m → Failed self.old self.new m fault) }
         ensures shape { shape_of self.new.head self.new.parts.items ≡ shape_of self.old.head self.old.parts.items }
     {
@@ -172,6 +185,8 @@ impl<S: TaskSource, E: TaskElement, I: Inlet<Out = O>, O: Outlet<Lanes = I::Lane
         ensures still { IfOk result (IsStill (O.tells lanes.new) self.new) }
         ensures idle { IfOk result (IsHeadIdle self.new) }
         ensures kept { IfOk result (IsSourceKept self.old self.new) }
+        ensures held { IfOk result (λ tried. (m : Moment) → Ties self.old m → HeadWaits O.Outlet (O.tells lanes.old) m self.old.head tried) }
+        ensures same { IfOk result (IsUnmoved (O.tells lanes.old) (O.tells lanes.new) self.old.parts.items self.new.parts.items) }
         ensures shape { shape_of self.new.head self.new.parts.items ≡ shape_of self.old.head self.old.parts.items }
     {
         match &mut self.head {
@@ -185,6 +200,7 @@ impl<S: TaskSource, E: TaskElement, I: Inlet<Out = O>, O: Outlet<Lanes = I::Lane
         requires ready { IsReady (O.tells lanes.old) self.old }
         requires idle { IsHeadIdle self.old Idle }
         ensures steps { IfOk result (λ step. (m : Moment) → Ties self.old m → Steps self.new m step) }
+        ensures why { IfOk result (λ step. (m : Moment) → Ties self.old m → HeadWhy I.Inlet (O.tells lanes.old) m self.old.head self.new.head self.new.parts.items step) }
         ensures faults { IfErr result (λ fault. (m : Moment) → Ties self.old m → Failed self.old self.new m fault) }
         ensures shape { shape_of self.new.head self.new.parts.items ≡ shape_of self.old.head self.old.parts.items }
     {
