@@ -1,7 +1,6 @@
 -- Why the head of a task moved nothing.
-use Rattle.std.proofs.Common.{◌≡◌, ◌≢◌, ◌⊎◌, ◌++◌, ℕ, Bool, true, false, if◌then◌else◌, List, [], ◌∷◌, map, Some, None, Option, refl, sym, ap, ◌∙◌, subst, inl, inr, append-nil}
+use Rattle.std.proofs.Common.{◌≡◌, ◌⊎◌, ◌++◌, ℕ, Bool, true, false, if◌then◌else◌, List, [], Option, refl, sym, ap, ◌∙◌, subst, inl, inr}
 use Rattle.std.specs.Prelude.{Result, Ok, Err, IfOk}
-use Rattle.flow_model.specs.Item.{Item}
 use Rattle.lane_core.specs.Lane.{Lane}
 use Rattle.lane_core.specs.declared.ends.Inlet as inlets
 use Rattle.lane_core.specs.declared.ends.Outlet as outlets
@@ -25,7 +24,6 @@ use Rattle.task_parts.specs.declared.step.Step.{Step}
 use Rattle.task_parts.specs.declared.step.Step.TheVariants as steps
 use Rattle.task_parts.specs.declared.fault.TaskFault.{TaskFault}
 use Rattle.task_parts.specs.declared.fault.TaskFault.TheVariants as faults
-use Rattle.task_parts.specs.Found.{IsAt}
 use Rattle.task_parts.specs.Passing.{CrossesSource, AfterSource, SourceHandsTo, GivesAs, AfterTake, RowAsked, RowFeeds, WantsNone, WantsOne, TakesNext}
 use Rattle.net_task.specs.Answers.{head_step, is_probe, preferred}
 use Rattle.net_task.specs.Framed.{SourceStays}

@@ -1,13 +1,12 @@
 -- A try of a pad that moves nothing: what stays of the wires, and why the item waits on.
-use Rattle.std.proofs.Common.{◌≡◌, ◌≢◌, ◌≤◌, ◌++◌, ◌&&◌, ℕ, zero, suc, Bool, true, false, List, [], ◌∷◌, drop, length, map, Some, None, Option, refl, sym, ap, ◌∙◌, subst, arith}
-use Rattle.std.specs.Prelude.{slice_get, slice_set, Result, Ok, Err}
+use Rattle.std.proofs.Common.{◌≡◌, ◌++◌, ℕ, zero, suc, List, [], ◌∷◌, drop, length, map, Some, Option, refl, sym, ap, ◌∙◌, subst, arith}
+use Rattle.std.specs.Prelude.{slice_get, slice_set}
 use Rattle.gst_item.specs.declared.out.Out.{Out}
 use Rattle.flow_model.specs.Item.{Item}
 use Rattle.lane_core.specs.Lane.{Lane}
 use Rattle.lane_core.specs.declared.ends.Outlet as outlets
 use Rattle.net_model.specs.Moment.{Moment}
 use Rattle.element_traits.specs.declared.element.TaskElement as elements
-use Rattle.element_traits.specs.Takes.{on_port}
 use Rattle.task_pads.specs.declared.pad.Pad.{Pad}
 use Rattle.task_pads.specs.declared.pad.Behind.{Behind}
 use Rattle.task_pads.specs.declared.pad.Behind.TheVariants as behinds
@@ -19,13 +18,11 @@ use Rattle.task_pads.specs.Crossing.{IsFull, IsStopped, IsAtProbe}
 use Rattle.task_pads.specs.Pads.{seen}
 use Rattle.task_parts.specs.declared.part.Part.{Part}
 use Rattle.task_parts.specs.declared.step.Step.TheVariants as steps
-use Rattle.task_parts.specs.Gathered.{pads_idle}
-use Rattle.task_parts.specs.Part.{PadSet, PadsGrew, waits_at}
+use Rattle.task_parts.specs.Part.{PadSet, PadsGrew}
 use Rattle.task_parts.specs.Moved.{PartSet}
-use Rattle.net_task.specs.Ties.{PadLinked, PortTied}
-use Rattle.net_task.specs.Reasons.{Wire, Room, room_in, wire_of, wires_in, NoRoom, PadHolds}
+use Rattle.net_task.specs.Ties.{PadLinked}
+use Rattle.net_task.specs.Reasons.{Wire, Room, room_in, wire_of, wires_in, PadHolds}
 use Rattle.net_task.proofs.Lists.{some_same}
-use Rattle.net_task.proofs.Linked.{same_number}
 
 -- where one is set and a function tells nothing new of it
 pub map_set : {A B : Type 0} (f : A → B) (xs : List A) (k : ℕ) (x y : A) → slice_get xs k ≡ Some x → f y ≡ f x → map f (slice_set xs k y) ≡ map f xs

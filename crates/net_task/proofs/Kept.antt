@@ -1,7 +1,6 @@
 -- What a try of a pad tells that moves nothing.
-use Rattle.std.proofs.Common.{◌≡◌, ◌++◌, ℕ, List, [], map, Some, Option, refl, sym, ap, ◌∙◌, subst}
-use Rattle.std.specs.Prelude.{slice_get, slice_set, Result, Ok, Err}
-use Rattle.flow_model.specs.Item.{Item}
+use Rattle.std.proofs.Common.{◌≡◌, ℕ, List, map, Option, sym, ap, ◌∙◌, subst}
+use Rattle.std.specs.Prelude.{slice_get, Result, Ok}
 use Rattle.lane_core.specs.Lane.{Lane}
 use Rattle.lane_core.specs.declared.ends.Outlet as outlets
 use Rattle.net_model.specs.Moment.{Moment}
@@ -22,11 +21,11 @@ use Rattle.task_parts.specs.declared.fault.TaskFault.TheVariants as faults
 use Rattle.task_parts.specs.Gathered.{linked_else}
 use Rattle.task_parts.specs.Passing.{CrossesPart, AfterPart}
 use Rattle.net_task.specs.Ties.{PartsTied, Stands}
-use Rattle.net_task.specs.Reasons.{Wire, wire_of, wires_in, room_in, PadHolds, IsWire, OneHolds, IsKept, WaitsFor, IdleAt, IsIdleAt}
-use Rattle.net_task.proofs.Lists.{some_same, set_at, set_here, mapped}
+use Rattle.net_task.specs.Reasons.{wire_of, wires_in, room_in, PadHolds, OneHolds, IsKept, WaitsFor, IsIdleAt}
+use Rattle.net_task.proofs.Lists.{set_at, set_here, mapped}
 use Rattle.net_task.proofs.Trying.{ok_same, not_both}
 use Rattle.net_task.proofs.Still.{moved_to}
-use Rattle.net_task.proofs.Held.{map_set, part_wires, set_wires, wire_in, rest_wire, same_wire, full_holds, full_wire, probe_holds}
+use Rattle.net_task.proofs.Held.{map_set, part_wires, set_wires, wire_in, same_wire, full_holds, full_wire, probe_holds}
 
 module _ {E O L : Type 0} {e : elements.Ghosts E} (o : outlets.Ghosts O L) (parts parts' : List (Part E O e)) (place port : ℕ) (tells tells' : Option (List Lane)) (r : Result Tried TaskFault) (t : CrossesPart o parts parts' place port tells tells' r) where
   abbrev Crosses_as : Crossing → Type 0
@@ -87,15 +86,15 @@ module _ {E O L : Type 0} {e : elements.Ghosts E} (o : outlets.Ghosts O L) (part
   module _ (m : Moment) (a : PartsTied o (Stands m) m parts) where
     one : (step : Step) → PadHolds tells m (wire_of o t.crossed.was) step → OneHolds o tells m parts step
     one step h = (
-        wire_of o t.crossed.was,
-        record {
-          place = place;
-          port = port;
-          pads = map (wire_of o) t.was.pads.items;
-          at = mapped (λ (part : Part E O e). map (wire_of o) part.pads.items) parts place t.was t.set.at;
-          pad_at = mapped (wire_of o) t.was.pads.items port t.crossed.was t.crossed.pad.at;
-        },
-        h,
+      wire_of o t.crossed.was,
+      record {
+        place = place;
+        port = port;
+        pads = map (wire_of o) t.was.pads.items;
+        at = mapped (λ (part : Part E O e). map (wire_of o) part.pads.items) parts place t.was t.set.at;
+        pad_at = mapped (wire_of o) t.was.pads.items port t.crossed.was t.crossed.pad.at;
+      },
+      h,
     )
 
     held : (crossing : Crossing) → Crosses_as crossing → (answer : Tried) → r ≡ Ok answer → After_as crossing → WaitsFor o tells m parts answer

@@ -1,5 +1,5 @@
 -- Nothing waits at the pads of an element.
-use Rattle.std.proofs.Common.{◌≡◌, ◌<◌, ◌≤◌, ◌+◌, ◌⊎◌, ◌++◌, ◌&&◌, ℕ, zero, suc, Bool, true, false, List, [], ◌∷◌, length, map, Some, None, Option, refl, sym, ap, ◌∙◌, subst, inl, inr, arith}
+use Rattle.std.proofs.Common.{◌≡◌, ◌<◌, ◌≤◌, ◌+◌, ◌⊎◌, ◌++◌, ◌&&◌, ℕ, zero, suc, Bool, true, false, List, [], ◌∷◌, length, map, Some, refl, sym, ap, ◌∙◌, subst, inl, inr, arith}
 use Rattle.std.specs.Prelude.{slice_get, Result, Ok, Err, OnOk}
 use Rattle.std.specs.Result.{is_err}
 use Rattle.std.proofs.lemmas.Bool.{cases_eq}
@@ -10,16 +10,16 @@ use Rattle.element_traits.specs.declared.element.TaskElement as elements
 use Rattle.element_traits.specs.Takes.{on_port}
 use Rattle.gst_item.specs.declared.out.Out.{Out}
 use Rattle.task_pads.specs.declared.pad.Pad.{Pad}
-use Rattle.task_pads.specs.Pads.{number_of, waiting_of}
+use Rattle.task_pads.specs.Pads.{waiting_of}
 use Rattle.task_parts.specs.declared.part.Part.{Part}
 use Rattle.task_parts.specs.declared.step.Tried.{Tried}
 use Rattle.task_parts.specs.declared.step.Tried.TheVariants as tried
 use Rattle.task_parts.specs.Gathered.{is_nothing, pads_idle}
-use Rattle.task_parts.specs.Part.{IsSettled, waits_at}
+use Rattle.task_parts.specs.Part.{IsSettled}
 use Rattle.task_parts.specs.Shape.{PartShape, part_shape}
 use Rattle.net_task.specs.Answers.{tried_both}
 use Rattle.net_task.specs.Ties.{PartsTied, Stands}
-use Rattle.net_task.specs.Reasons.{OwnerRests, AllRest, IdleAt, IsIdleAt, RestsAt, RestBefore, RestsAll}
+use Rattle.net_task.specs.Reasons.{OwnerRests, IdleAt, IsIdleAt, RestsAt, RestBefore, RestsAll}
 use Rattle.net_task.proofs.SoFar.{PadsAre}
 use Rattle.net_task.proofs.Lists.{some_same, map_back}
 

@@ -29,7 +29,7 @@ use Rattle.net_task.specs.Reasons.{Wire, wires_in, PadHolds, IsWire, OneHolds, I
 use Rattle.net_task.proofs.Held.{set_wires, grown_wires}
 use Rattle.net_task.proofs.Handing.{shape_at}
 use Rattle.net_task.specs.Framed.{AreReady, IsReady, IsStill, IsStuckTry}
-use Rattle.net_task.proofs.Lists.{some_same, some_at, set_at, each_set, mapped, unmapped}
+use Rattle.net_task.proofs.Lists.{some_at, set_at, each_set, mapped, unmapped}
 use Rattle.net_task.proofs.Asking.{settled}
 
 pub preferred_stuck : (first second : Step) → first ≢ steps.Moved → second ≢ steps.Moved → preferred first second ≢ steps.Moved

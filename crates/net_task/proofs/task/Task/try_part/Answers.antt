@@ -5,7 +5,7 @@ use Rattle.net_task.specs.Failed.{no_memory}
 use Rattle.net_task.proofs.Closed.{handed_on}
 use Rattle.net_task.proofs.Asking.{settled}
 use Rattle.net_task.proofs.SoFar.{PadsAre, kept_so, parts_within, settled_so, more_so, moved_so, tries_so, fails_so, has_port, pads_are, pads_counted}
-use Rattle.net_task.proofs.Resting.{IdleSo, on_ok, idle_first, idle_then, idle_end, rest_at}
+use Rattle.net_task.proofs.Resting.{on_ok, idle_first, idle_then, idle_end, rest_at}
 use Rattle.net_task.proofs.task.Task.try_part.Goals as goal
 
 pub returns-then-is_err-clause-faults : goal.returns-then-is_err-clause-faults
@@ -15,9 +15,9 @@ pub loop-port-init : goal.loop-port-init
 loop-port-init g c =
     let pads = subst (λ (ps : List (Pad g.row.O.Denot)). PadsAre c.settle.new.parts.items c.args.place (length ps)) (sym c.pads-port-end.ensures)
     (pads_counted c.settle.new.parts.items c.args.place c.index.result.now (parts_within c.args.self.now.parts.items c.settle.new.parts.items c.args.place c.settle.ensures.shape (subst (λ n. c.args.place < n) c.args.self.now.parts.ok.0 c.requires.place)) c.index.ensures) in (
-        settled_so g.I.Inlet g.O.Outlet _ c.args.self.now _ c.args.place refl c.settle.ensures.settled c.settle.ensures.shape c.requires.ready,
-        pads,
-        λ q. idle_first c.settle.new.parts.items c.args.place _ pads (on_ok c.settle.result _ (sym c.is_err.ensures.value ∙ c.if-is_err.false) c.settle.ensures.all),
+      settled_so g.I.Inlet g.O.Outlet _ c.args.self.now _ c.args.place refl c.settle.ensures.settled c.settle.ensures.shape c.requires.ready,
+      pads,
+      λ q. idle_first c.settle.new.parts.items c.args.place _ pads (on_ok c.settle.result _ (sym c.is_err.ensures.value ∙ c.if-is_err.false) c.settle.ensures.all),
     )
 
 pub try_pad-requires-clause-at : goal.try_pad-requires-clause-at

@@ -1,4 +1,4 @@
-use Rattle.std.proofs.Common.{◌≤◌, length, ap, ◌∙◌, arith}
+use Rattle.std.proofs.Common.{ap, ◌∙◌, arith}
 use Rattle.net_task.proofs.SoFar.{same_many, more_so}
 use Rattle.task_parts.specs.Shape.{TaskShape}
 use Rattle.net_task.proofs.Resting.{rest_then, rest_all}
