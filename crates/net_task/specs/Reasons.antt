@@ -200,3 +200,10 @@ IsUnmoved tells tells' parts parts' (tried.Stuck step) = (tells' ≡ tells) × (
 -- where an item waits on at an element, and a source's pad was tried too
 abbrev pub StuckWhy : {S I O L : Type 0} {s : sources.Ghosts S} → outlets.Ghosts O L → Option (List Lane) → Moment → Head S I O s → Step → Step → Type 0
 StuckWhy o tells m head stuck step = (step ≡ Moved) ⊎ (step ≡ stuck) ⊎ HeadHolds o tells m head step
+
+-- why a head that was asked moved nothing, and why one did whose pad was tried before
+abbrev pub WhyHead : {S E I O L : Type 0} {s : sources.Ghosts S} {e : elements.Ghosts E} {i : inlets.Ghosts I L O} {o : outlets.Ghosts O L} → Option (List Lane) → Task S E I O L s e i o → Task S E I O L s e i o → Moment → Step → Type 0
+WhyHead {i = i} tells old new m step = HeadWhy i tells m old.head new.head new.parts.items step
+
+abbrev pub WhyAsked : {S E I O L : Type 0} {s : sources.Ghosts S} {e : elements.Ghosts E} {i : inlets.Ghosts I L O} {o : outlets.Ghosts O L} → Option (List Lane) → Task S E I O L s e i o → Task S E I O L s e i o → Moment → Step → Type 0
+WhyAsked {i = i} {o = o} tells old new m step = AskWhy i o tells m old.head new.head new.parts.items step

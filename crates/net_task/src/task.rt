@@ -33,7 +33,7 @@ impl<S: TaskSource, E: TaskElement, I: Inlet<Out = O>, O: Outlet<Lanes = I::Lane
     ghost use Rattle.net_task.specs.Ties.{Ties};
     ghost use Rattle.net_task.specs.Moves.{AfterTry, Steps};
     ghost use Rattle.net_task.specs.Failed.{Failed};
-    ghost use Rattle.net_task.specs.Reasons.{WaitsFor, RestsAll, RestsAt, IsKept, IsIdleAt, IsUnmoved, HeadWaits, HeadWhy, AskWhy, StuckWhy, Why};
+    ghost use Rattle.net_task.specs.Reasons.{WaitsFor, RestsAll, RestsAt, IsKept, IsIdleAt, IsUnmoved, HeadWaits, WhyHead, WhyAsked, StuckWhy, Why};
     ghost use Rattle.net_task.specs.Framed.{IsReady, IsStill, IsHeadIdle, IsSourceKept};
 
     /// A task of these parts that moved nothing yet. Each element that a pad or the head names is one of them.
@@ -143,7 +143,7 @@ impl<S: TaskSource, E: TaskElement, I: Inlet<Out = O>, O: Outlet<Lanes = I::Lane
     fn ask(&mut self, alloc: Global, lanes: &mut I::Lanes) -> Result<Step, TaskFault>
         requires ready { IsReady (O.tells lanes.old) self.old }
         ensures steps { IfOk result (λ step. (m : Moment) → Ties self.old m → Steps self.new m step) }
-        ensures why { IfOk result (λ step. (m : Moment) → Ties self.old m → AskWhy I.Inlet O.Outlet (O.tells lanes.old) m self.old.head self.new.head self.new.parts.items step) }
+        ensures why { IfOk result (λ step. (m : Moment) → Ties self.old m → WhyAsked (O.tells lanes.old) self.old self.new m step) }
         ensures faults { IfErr result (λ fault. (m : Moment) → Ties self.old m → Failed self.old self.new m fault) }
         ensures shape { shape_of self.new.head self.new.parts.items ≡ shape_of self.old.head self.old.parts.items }
     {
@@ -200,7 +200,7 @@ impl<S: TaskSource, E: TaskElement, I: Inlet<Out = O>, O: Outlet<Lanes = I::Lane
         requires ready { IsReady (O.tells lanes.old) self.old }
         requires idle { IsHeadIdle self.old Idle }
         ensures steps { IfOk result (λ step. (m : Moment) → Ties self.old m → Steps self.new m step) }
-        ensures why { IfOk result (λ step. (m : Moment) → Ties self.old m → HeadWhy I.Inlet (O.tells lanes.old) m self.old.head self.new.head self.new.parts.items step) }
+        ensures why { IfOk result (λ step. (m : Moment) → Ties self.old m → WhyHead (O.tells lanes.old) self.old self.new m step) }
         ensures faults { IfErr result (λ fault. (m : Moment) → Ties self.old m → Failed self.old self.new m fault) }
         ensures shape { shape_of self.new.head self.new.parts.items ≡ shape_of self.old.head self.old.parts.items }
     {
