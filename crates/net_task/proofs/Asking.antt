@@ -73,14 +73,14 @@ module _ {S E I O L : Type 0} {s : sources.Ghosts S} {e : elements.Ghosts E} (i 
   kept_tied k = gave_tied [] (λ owed given g. subst (s.gave head'.source owed) (sym (append-nil given)) (k.gave owed given g)) (k.waiting ∙ sym (append-nil (waiting_of head.pad))) (let c = k.given in omega (arith, c))
 
   -- what a question to a source makes of the moment
-  pub given_tried : (r : Result Tried TaskFault) → GivesAs head head' r → (answer : Tried) → r ≡ Ok answer → TriedAs i o m (Source head') parts answer
+  pub given_tried : (r : Result Tried TaskFault) → GivesAs head head' r → (answer : Tried) → r ≡ Ok answer → TriedAs i o head.given m (Source head') parts answer
   given_tried (Ok tried.Moved) (inl g) answer q =
-      subst (TriedAs i o m (Source head') parts) (ok_same (Ok tried.Moved) tried.Moved answer refl q) (inl (record { next = m; move = gives_one; tied = gave_tied (g.item ∷ []) g.gave g.waiting g.given }))
+      subst (TriedAs i o head.given m (Source head') parts) (ok_same (Ok tried.Moved) tried.Moved answer refl q) (inl (record { next = m; gave = 1; given = g.given; move = gives_one; tied = gave_tied (g.item ∷ []) g.gave g.waiting g.given }))
   given_tried (Ok tried.Moved) (inr g) answer q =
       let z = begins head'.source (m.history p ++ m.waits p) ((m.history p ++ waiting_of head.pad) ++ g.item ∷ []) (g.gave (m.history p ++ m.waits p) (m.history p ++ waiting_of head.pad) a.head_tied.gave) in
-      subst (TriedAs i o m (Source head') parts) (ok_same (Ok tried.Moved) tried.Moved answer refl q)
+      subst (TriedAs i o head.given m (Source head') parts) (ok_same (Ok tried.Moved) tried.Moved answer refl q)
       (inr (flush_given p (m.history p ++ waiting_of head.pad) g.item z.0 (z.1 ∙ append_assoc (m.history p ++ waiting_of head.pad) (g.item ∷ []) z.0) g.flush))
-  given_tried (Ok tried.Idle) g answer q = subst (TriedAs i o m (Source head') parts) (ok_same (Ok tried.Idle) tried.Idle answer refl q) (kept_tied g.0)
+  given_tried (Ok tried.Idle) g answer q = subst (TriedAs i o head.given m (Source head') parts) (ok_same (Ok tried.Idle) tried.Idle answer refl q) (kept_tied g.0)
   given_tried (Ok (tried.Stuck step)) g answer q = absurd g
   given_tried (Err fault) g answer q = absurd cc
 

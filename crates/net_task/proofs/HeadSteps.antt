@@ -25,20 +25,20 @@ use Rattle.net_task.specs.Answers.{head_step}
 
 module _ {S E I O L : Type 0} {s : sources.Ghosts S} {e : elements.Ghosts E} (i : inlets.Ghosts I L O) (o : outlets.Ghosts O L) where
   -- a task that is stuck stays as it is
-  pub stuck_steps : (m : Moment) (head : Head S I O s) (parts : List (Part E O e)) (step : Step) → step ≢ steps.Moved → TriedAs i o m head parts (tried.Stuck step) → StepsAs i o m head parts step
-  stuck_steps m head parts steps.Moved n t = absurd (n refl)
-  stuck_steps m head parts (steps.NeedsItem lane) n t = t
-  stuck_steps m head parts (steps.NeedsRoom lane) n t = t
-  stuck_steps m head parts (steps.AtProbe command) n t = t
-  stuck_steps m head parts steps.Ended n t = t
+  pub stuck_steps : (b : ℕ) (m : Moment) (head : Head S I O s) (parts : List (Part E O e)) (step : Step) → step ≢ steps.Moved → TriedAs i o b m head parts (tried.Stuck step) → StepsAs i o b m head parts step
+  stuck_steps b m head parts steps.Moved n t = absurd (n refl)
+  stuck_steps b m head parts (steps.NeedsItem lane) n t = t
+  stuck_steps b m head parts (steps.NeedsRoom lane) n t = t
+  stuck_steps b m head parts (steps.AtProbe command) n t = t
+  stuck_steps b m head parts steps.Ended n t = t
 
-  pub head_steps : (r : Result Tried TaskFault) (result : Result Step TaskFault) → result ≡ head_step r → (head : Head S I O s) (parts : List (Part E O e)) (T : Moment → Type 0) → ((step : Step) → r ≡ Ok (tried.Stuck step) → step ≢ steps.Moved)
-      → ((m : Moment) → T m → (answer : Tried) → r ≡ Ok answer → TriedAs i o m head parts answer) → IfOk result (λ step. (m : Moment) → T m → StepsAs i o m head parts step)
-  head_steps (Ok tried.Idle) result same head parts T n f = subst (λ z. IfOk z (λ step. (m : Moment) → T m → StepsAs i o m head parts step)) (sym same) (λ m t. f m t tried.Idle refl)
-  head_steps (Ok tried.Moved) result same head parts T n f = subst (λ z. IfOk z (λ step. (m : Moment) → T m → StepsAs i o m head parts step)) (sym same) (λ m t. f m t tried.Moved refl)
-  head_steps (Ok (tried.Stuck step)) result same head parts T n f =
-      subst (λ z. IfOk z (λ step. (m : Moment) → T m → StepsAs i o m head parts step)) (sym same) (λ m t. stuck_steps m head parts step (n step refl) (f m t (tried.Stuck step) refl))
-  head_steps (Err fault) result same head parts T n f = subst (λ z. IfOk z (λ step. (m : Moment) → T m → StepsAs i o m head parts step)) (sym same) tt
+  pub head_steps : (b : ℕ) (r : Result Tried TaskFault) (result : Result Step TaskFault) → result ≡ head_step r → (head : Head S I O s) (parts : List (Part E O e)) (T : Moment → Type 0) → ((step : Step) → r ≡ Ok (tried.Stuck step) → step ≢ steps.Moved)
+      → ((m : Moment) → T m → (answer : Tried) → r ≡ Ok answer → TriedAs i o b m head parts answer) → IfOk result (λ step. (m : Moment) → T m → StepsAs i o b m head parts step)
+  head_steps b (Ok tried.Idle) result same head parts T n f = subst (λ z. IfOk z (λ step. (m : Moment) → T m → StepsAs i o b m head parts step)) (sym same) (λ m t. f m t tried.Idle refl)
+  head_steps b (Ok tried.Moved) result same head parts T n f = subst (λ z. IfOk z (λ step. (m : Moment) → T m → StepsAs i o b m head parts step)) (sym same) (λ m t. f m t tried.Moved refl)
+  head_steps b (Ok (tried.Stuck step)) result same head parts T n f =
+      subst (λ z. IfOk z (λ step. (m : Moment) → T m → StepsAs i o b m head parts step)) (sym same) (λ m t. stuck_steps b m head parts step (n step refl) (f m t (tried.Stuck step) refl))
+  head_steps b (Err fault) result same head parts T n f = subst (λ z. IfOk z (λ step. (m : Moment) → T m → StepsAs i o b m head parts step)) (sym same) tt
 
   pub head_fails : (r : Result Tried TaskFault) (result : Result Step TaskFault) → result ≡ head_step r → (old head : Head S I O s) (parts : List (Part E O e)) (T : Moment → Type 0)
       → ((m : Moment) → T m → (fault : TaskFault) → r ≡ Err fault → FailsAs i o m old head parts fault) → IfErr result (λ fault. (m : Moment) → T m → FailsAs i o m old head parts fault)

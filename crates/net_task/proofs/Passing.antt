@@ -117,7 +117,7 @@ module _ {S E I O L : Type 0} {s : sources.Ghosts S} {e : elements.Ghosts E} (i 
 
 -- an item that went away is a move
 pub gone_move : {O L : Type 0} (o : outlets.Ghosts O L) (m : Moment) (p : ℕ) (x : Item) (rest : List Item) (was is : Seen O) (sibling : _) (tells tells' : Option (List Lane)) (g : Goes)
-    → WentAway o x was is sibling tells tells' g → LeadsAs m p g → m.waits p ≡ x ∷ rest → Move m (crossed p x rest m)
+    → WentAway o x was is sibling tells tells' g → LeadsAs m p g → m.waits p ≡ x ∷ rest → Move m 0 (crossed p x rest m)
 gone_move o m p x rest was is sibling tells tells' nowhere w l waits = leaves p x rest (record { waited = waits; leads = l })
 gone_move o m p x rest was is sibling tells tells' (inside n k) w l waits = absurd w
 gone_move o m p x rest was is sibling tells tells' (over lane n k from) w l waits = sends p x rest n k (record { waited = waits; leads = l })

@@ -22,7 +22,7 @@ use Rattle.task_parts.specs.Part.{PartReady}
 use Rattle.task_parts.specs.Passing.{HasPort, Settles}
 use Rattle.net_task.specs.declared.task.Task.{Task}
 use Rattle.net_task.specs.Ties.{AreTied, Stands, nothing_lost, Ties}
-use Rattle.net_task.specs.Moves.{AfterTry}
+use Rattle.net_task.specs.Moves.{AfterTry, TriedAs, given_in}
 use Rattle.net_task.specs.Failed.{Failed, FailsAs}
 use Rattle.net_task.specs.Answers.{is_probe, preferred, tried_both}
 use Rattle.net_task.specs.Reasons.{Wire, wires_in, PadHolds, IsWire, OneHolds, IsKept, WaitsFor}
@@ -104,7 +104,7 @@ module _ {S E I O L : Type 0} {s : sources.Ghosts S} {e : elements.Ghosts E} {i 
   kept_so start tells old now tried.Moved f = tt
   kept_so start tells old now (tried.Stuck step) f = (f.table, f.wires)
 
-  pub tries_so : (start tells : Option (List Lane)) (old now : Task S E I O L s e i o) (answer : Tried) → SoFar start tells old now answer → (m : Moment) → Ties old m → AfterTry now m answer
+  pub tries_so : (start tells : Option (List Lane)) (old now : Task S E I O L s e i o) (answer : Tried) → SoFar start tells old now answer → (m : Moment) → Ties old m → AfterTry old now m answer
   tries_so start tells old now tried.Idle f m a = f.ties m a
   tries_so start tells old now tried.Moved f m a = absurd (go f.stuck)
     where
@@ -114,7 +114,7 @@ module _ {S E I O L : Type 0} {s : sources.Ghosts S} {e : elements.Ghosts E} {i 
   tries_so start tells old now (tried.Stuck step) f m a = f.ties m a
 
   -- one more pad was tried, and no item moved
-  pub more_so : (start tells tells' : Option (List Lane)) (old now after : Task S E I O L s e i o) (first next answer : Tried) → SoFar start tells old now first → ((m : Moment) → Ties now m → AfterTry after m next) → IsStill tells' after next
+  pub more_so : (start tells tells' : Option (List Lane)) (old now after : Task S E I O L s e i o) (first next answer : Tried) → SoFar start tells old now first → ((m : Moment) → Ties now m → AfterTry now after m next) → IsStill tells' after next
       → after.head ≡ now.head → shape_of after.head after.parts.items ≡ shape_of now.head now.parts.items → IsKept o tells tells' now.parts.items after.parts.items next → ((m : Moment) → Ties now m → WaitsFor o tells m now.parts.items next)
       → answer ≡ tried_both first next → answer ≢ tried.Moved → SoFar start tells' old after answer
   more_so start tells tells' old now after first tried.Idle answer f ties ready head shape kept held same n = record {
@@ -151,9 +151,11 @@ module _ {S E I O L : Type 0} {s : sources.Ghosts S} {e : elements.Ghosts E} {i 
       wait (tried.Stuck one) m x y = told_one o start m old.parts.items one step x y
 
   -- one more pad was tried, and its item moved
-  pub moved_so : (start tells : Option (List Lane)) (old now after : Task S E I O L s e i o) (first next answer : Tried) → SoFar start tells old now first → ((m : Moment) → Ties now m → AfterTry after m next) → answer ≡ tried_both first next → answer ≡ tried.Moved
-      → (m : Moment) → Ties old m → AfterTry after m answer
-  moved_so start tells old now after first next answer f ties same moved m a = subst (AfterTry after m) (next_moved first next f.stuck (sym same ∙ moved) ∙ sym moved) (ties m (f.ties m a))
+  pub moved_so : (start tells : Option (List Lane)) (old now after : Task S E I O L s e i o) (first next answer : Tried) → SoFar start tells old now first → ((m : Moment) → Ties now m → AfterTry now after m next) → answer ≡ tried_both first next → answer ≡ tried.Moved
+      → (m : Moment) → Ties old m → AfterTry old after m answer
+  moved_so start tells old now after first next answer f ties same moved m a =
+      subst (AfterTry old after m) (next_moved first next f.stuck (sym same ∙ moved) ∙ sym moved)
+      (subst (λ (h : Head S I O s). TriedAs i o (given_in h) m after.head after.parts.items next) f.head (ties m (f.ties m a)))
 
   pub fails_so : (start tells : Option (List Lane)) (old now after : Task S E I O L s e i o) (answer : Tried) (fault : TaskFault) → SoFar start tells old now answer → (m : Moment) → Ties old m → ((m : Moment) → Ties now m → Failed now after m fault) → Failed old after m fault
   fails_so start tells old now after answer fault f m a g = subst (λ (h : Head S I O s). FailsAs i o m h after.head after.parts.items fault) f.head (g m (f.ties m a))

@@ -77,7 +77,7 @@ module _ {S E I O L : Type 0} {s : sources.Ghosts S} {e : elements.Ghosts E} (i 
       (subst (λ (z : SourceHead S O s). AreTied i o (Stands m) nothing_lost m (Source z) parts) (sym h) (source_stays i o begins head t.between parts t.set m a c g w))
 
   -- the element to which the source's pad leads took the item
-  handed : (number hint sink : ℕ) → Crosses o (seen head.pad) (seen t.between.pad) number hint sink → (to : ℕ) → IsAt parts number to → SourceHanded t.between head' parts parts' to sink → Advances i o m (Source head') parts'
+  handed : (number hint sink : ℕ) → Crosses o (seen head.pad) (seen t.between.pad) number hint sink → (to : ℕ) → IsAt parts number to → SourceHanded t.between head' parts parts' to sink → Advances i o head.given m (Source head') parts'
   handed number hint sink c to at h =
       let item : c.item ≡ h.item = first_same c.item h.item c.rest (waiting_of head'.pad) (sym c.waits ∙ h.taken.0) in
       let set = set_both head t.between head' t.set h.set in
@@ -93,6 +93,8 @@ module _ {S E I O L : Type 0} {s : sources.Ghosts S} {e : elements.Ghosts E} (i 
       let ate : part_shape h.ate ≡ part_shape h.eater = shape_at part_shape parts parts' shapes to h.eater h.ate h.fed.at (ap (λ (ps : List (Part E O e)). slice_get ps to) h.fed.set ∙ set_at parts to h.eater h.ate h.fed.at) in
       record {
         next = now o parts parts' to sink h.item h.eater h.ate h.fed ate h.took m1;
+        gave = 0;
+        given = let q = set.given in omega (arith, q);
         move = passes p h.item rest h.eater.number sink (out_now o parts parts' to sink h.item h.eater h.ate h.fed ate h.took m1)
             (record {
               waited = (source_rest i o begins head head' parts set m a h.item w).whole;
@@ -153,16 +155,18 @@ module _ {S E I O L : Type 0} {s : sources.Ghosts S} {e : elements.Ghosts E} (i 
       elsewhere : (Q : Type 0) (rest : List Item) (q : Part E O e) → (q.number ≡ head.number → ⊥) → PartTied o Q m q → PartTied o Q (without_first p rest m) q
       elsewhere Q rest q apart y = part_at o Q m (without_first p rest m) q refl refl (λ k own. refl) (λ k own. at_other p rest m.waits k (λ w. apart (sym own ∙ ap m.plan.owner w ∙ a.head_tied.owner))) y
 
-  tried_by : (crossing : Crossing) → IsCrossing o head.pad t.between.pad tells tells' false crossing → (answer : Tried) → r ≡ Ok answer → AfterSource t.between head' parts parts' crossing r → TriedAs i o m (Source head') parts' answer
+  tried_by : (crossing : Crossing) → IsCrossing o head.pad t.between.pad tells tells' false crossing → (answer : Tried) → r ≡ Ok answer → AfterSource t.between head' parts parts' crossing r → TriedAs i o head.given m (Source head') parts' answer
   tried_by Idle x answer q f =
-      subst (TriedAs i o m (Source head') parts') (ok_same r tried.Idle answer f.2 q) (stays (seen_crossed head.pad t.between.pad x.1) (seen_sent o head.pad t.between.pad x.1) (seen_waiting head.pad t.between.pad x.1) f.0 f.1)
+      subst (TriedAs i o head.given m (Source head') parts') (ok_same r tried.Idle answer f.2 q) (stays (seen_crossed head.pad t.between.pad x.1) (seen_sent o head.pad t.between.pad x.1) (seen_waiting head.pad t.between.pad x.1) f.0 f.1)
   tried_by (To number hint sink) x answer q f =
       let w = from_source t.between head' parts parts' number sink r answer q f in
-      subst (TriedAs i o m (Source head') parts') (sym w.moved) (inl (handed number hint sink x.0 w.to w.at w.handed))
+      subst (TriedAs i o head.given m (Source head') parts') (sym w.moved) (inl (handed number hint sink x.0 w.to w.at w.handed))
   tried_by Gone x answer q f =
       let rest : List Item = waiting_of t.between.pad ++ (source_rest i o begins head t.between parts t.set m a x.item x.waited).rest in
-      subst (TriedAs i o m (Source head') parts') (ok_same r tried.Moved answer f.2 q) (inl (record {
+      subst (TriedAs i o head.given m (Source head') parts') (ok_same r tried.Moved answer f.2 q) (inl (record {
         next = crossed p x.item rest m;
+        gave = 0;
+        given = let q = ap (λ (z : SourceHead S O s). z.given) f.0 ∙ t.set.given in omega (arith, q);
         move = gone_move o m p x.item rest (seen head.pad) (seen t.between.pad) false tells tells' (goes_of head.pad) x.way a.head_tied.linked.leads (source_rest i o begins head t.between parts t.set m a x.item x.waited).whole;
         tied = subst (AreTied i o (Stands (crossed p x.item rest m)) nothing_lost (crossed p x.item rest m) (Source head')) (sym f.1)
             (subst (λ (z : SourceHead S O s). AreTied i o (Stands (crossed p x.item rest m)) nothing_lost (crossed p x.item rest m) (Source z) parts) (sym f.0)
@@ -170,11 +174,11 @@ module _ {S E I O L : Type 0} {s : sources.Ghosts S} {e : elements.Ghosts E} (i 
       }))
   tried_by BehindEos x answer q f =
       let z = source_rest i o begins head t.between parts t.set m a x.item x.waited in
-      subst (TriedAs i o m (Source head') parts') (ok_same r tried.Moved answer f.2 q) (inr (behind_eos p x.item (waiting_of t.between.pad ++ z.rest) z.whole (x.why (m.history p) a.head_tied.linked.crossed)))
+      subst (TriedAs i o head.given m (Source head') parts') (ok_same r tried.Moved answer f.2 q) (inr (behind_eos p x.item (waiting_of t.between.pad ++ z.rest) z.whole (x.why (m.history p) a.head_tied.linked.crossed)))
   tried_by (Full lane) x answer q f =
-      subst (TriedAs i o m (Source head') parts') (ok_same r (tried.Stuck (steps.NeedsRoom lane)) answer f.2 q) (stays x.history x.sent (x.waits ∙ sym x.waited) f.0 f.1)
+      subst (TriedAs i o head.given m (Source head') parts') (ok_same r (tried.Stuck (steps.NeedsRoom lane)) answer f.2 q) (stays x.history x.sent (x.waits ∙ sym x.waited) f.0 f.1)
   tried_by (AtProbe command) x answer q f =
-      subst (TriedAs i o m (Source head') parts') (ok_same r (tried.Stuck (steps.AtProbe command)) answer f.2 q) (stays x.stands.history x.stands.sent (x.waits ∙ sym x.waited) f.0 f.1)
+      subst (TriedAs i o head.given m (Source head') parts') (ok_same r (tried.Stuck (steps.AtProbe command)) answer f.2 q) (stays x.stands.history x.stands.sent (x.waits ∙ sym x.waited) f.0 f.1)
   tried_by NotLinked x answer q f = not_both r answer (faults.NotLinked (number_of t.between.pad) (crossed_count t.between.pad)) q f.2
   tried_by AtLimit x answer q f = not_both r answer (faults.TooLong t.between.number 1099511627776 1) q f.2
   tried_by OutOfMemory x answer q f = not_both r answer faults.OutOfMemory q f.2
@@ -209,7 +213,7 @@ module _ {S E I O L : Type 0} {s : sources.Ghosts S} {e : elements.Ghosts E} (i 
       subst (FailsAs i o m (Source head) (Source head') parts') (err_same r faults.OutOfMemory fault f.2 q) (no_memory (stays (seen_crossed head.pad t.between.pad x.1) (seen_sent o head.pad t.between.pad x.1) (seen_waiting head.pad t.between.pad x.1) f.0 f.1))
 
   -- what a try of the source's pad makes of the moment
-  pub source_tried : (answer : Tried) → r ≡ Ok answer → TriedAs i o m (Source head') parts' answer
+  pub source_tried : (answer : Tried) → r ≡ Ok answer → TriedAs i o head.given m (Source head') parts' answer
   source_tried answer q = tried_by t.crossing t.crossed answer q t.after
 
   pub source_failed : (fault : TaskFault) → r ≡ Err fault → FailsAs i o m (Source head) (Source head') parts' fault

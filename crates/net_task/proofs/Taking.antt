@@ -116,7 +116,7 @@ module _ {S E I O L : Type 0} {s : sources.Ghosts S} {e : elements.Ghosts E} (i 
 
   -- the element took what a row gave
   row_fed : (port : ℕ) (was is : InletRow I) (x : Item) → RowSet i head head' port was is → ((got : List Item) → RowGave i was got → RowGave i is (got ++ x ∷ [])) → (eater ate : Part E O e) → PartSet parts parts' to eater ate → PartFed eater ate port x
-      → Advances {S = S} {s = s} i o m (Inlets head') parts'
+      → Advances {S = S} {s = s} i o 0 m (Inlets head') parts'
   row_fed port was is x set gave eater ate eats fed =
       let n : eater.number ≡ head.number = ap (λ (z : Part E O e). z.number) (some_same (sym eats.at ∙ at.at)) ∙ at.number_is in
       let shape : part_shape ate ≡ part_shape eater = shape_at part_shape parts parts' shapes to eater ate eats.at (ap (λ (ps : List (Part E O e)). slice_get ps to) eats.set ∙ set_at parts to eater ate eats.at) in
@@ -126,6 +126,8 @@ module _ {S E I O L : Type 0} {s : sources.Ghosts S} {e : elements.Ghosts E} (i 
       subst (λ k. m'.took k ≡ push_calls port (Feed x ∷ []) (m.took k)) n (at_here eater.number (push_calls port (Feed x ∷ []) (m.took eater.number)) m.took) in
       record {
         next = m';
+        gave = 0;
+        given = refl;
         move = takes_one eater.number port x (out_now o parts parts' to port x eater ate eats shape fed m) (fed_answers o parts parts' to port x eater ate eats shape fed m a.parts_tied);
         tied = record {
           parts_tied = fed_parts o parts parts' to port x eater ate eats shape fed m a.parts_tied;
@@ -185,12 +187,12 @@ module _ {S E I O L : Type 0} {s : sources.Ghosts S} {e : elements.Ghosts E} (i 
         },
       )
 
-  after_tried : (tells tells' : Option (List Lane)) (r : Result Tried TaskFault) (port : ℕ) (taken : Taken) → AsksRow i head head' port tells tells' taken → AfterTake i parts parts' to port taken r → (answer : Tried) → r ≡ Ok answer → TriedAs {S = S} {s = s} i o m (Inlets head') parts' answer
-  after_tried tells tells' r port (takes.Empty lane) k f answer q = subst (TriedAs i o m (Head_of head') parts') (ok_same r (tried.Stuck (steps.NeedsItem lane)) answer f.1 q) (row_stays port k.was k.is k.set k.gave f.0)
-  after_tried tells tells' r port (takes.Item x) k (inl f) answer q = subst (TriedAs i o m (Head_of head') parts') (ok_same r tried.Moved answer f.2 q) (inr (flush_taken x f.0))
+  after_tried : (tells tells' : Option (List Lane)) (r : Result Tried TaskFault) (port : ℕ) (taken : Taken) → AsksRow i head head' port tells tells' taken → AfterTake i parts parts' to port taken r → (answer : Tried) → r ≡ Ok answer → TriedAs {S = S} {s = s} i o 0 m (Inlets head') parts' answer
+  after_tried tells tells' r port (takes.Empty lane) k f answer q = subst (TriedAs i o 0 m (Head_of head') parts') (ok_same r (tried.Stuck (steps.NeedsItem lane)) answer f.1 q) (row_stays port k.was k.is k.set k.gave f.0)
+  after_tried tells tells' r port (takes.Item x) k (inl f) answer q = subst (TriedAs i o 0 m (Head_of head') parts') (ok_same r tried.Moved answer f.2 q) (inr (flush_taken x f.0))
   after_tried tells tells' r port (takes.Item x) k (inr f) answer q =
       let w = row_took parts parts' to port x r answer q f.1 in
-      subst (TriedAs i o m (Head_of head') parts') (sym w.moved) (inl (row_fed port k.was k.is x k.set k.gave w.was w.is w.set w.fed))
+      subst (TriedAs i o 0 m (Head_of head') parts') (sym w.moved) (inl (row_fed port k.was k.is x k.set k.gave w.was w.is w.set w.fed))
 
   after_failed : (tells tells' : Option (List Lane)) (r : Result Tried TaskFault) (port : ℕ) (taken : Taken) → AsksRow i head head' port tells tells' taken → AfterTake i parts parts' to port taken r → (fault : TaskFault) → r ≡ Err fault → FailsAs {S = S} {s = s} i o m (Inlets head) (Inlets head') parts' fault
   after_failed tells tells' r port (takes.Empty lane) k f fault q = not_both r (tried.Stuck (steps.NeedsItem lane)) fault f.1 q
@@ -200,8 +202,8 @@ module _ {S E I O L : Type 0} {s : sources.Ghosts S} {e : elements.Ghosts E} (i 
       let z = row_back port k.was k.is x k.set k.gave w.refusal w.was w.is w.set w.fell in
       subst (FailsAs i o m (Head_of head) (Head_of head') parts') (sym w.named) (refused w.was.number port x w.refusal z.0 z.1)
 
-  none_tried : (tells tells' : Option (List Lane)) (r : Result Tried TaskFault) (port : ℕ) (taken : Taken) → HasNoRow i head head' port tells tells' taken → AfterTake i parts parts' to port taken r → (answer : Tried) → r ≡ Ok answer → TriedAs {S = S} {s = s} i o m (Inlets head') parts' answer
-  none_tried tells tells' r port (takes.Empty lane) k f answer q = subst (TriedAs i o m (Head_of head') parts') (ok_same r (tried.Stuck (steps.NeedsItem lane)) answer f.1 q) (rows_same k.number k.rows f.0)
+  none_tried : (tells tells' : Option (List Lane)) (r : Result Tried TaskFault) (port : ℕ) (taken : Taken) → HasNoRow i head head' port tells tells' taken → AfterTake i parts parts' to port taken r → (answer : Tried) → r ≡ Ok answer → TriedAs {S = S} {s = s} i o 0 m (Inlets head') parts' answer
+  none_tried tells tells' r port (takes.Empty lane) k f answer q = subst (TriedAs i o 0 m (Head_of head') parts') (ok_same r (tried.Stuck (steps.NeedsItem lane)) answer f.1 q) (rows_same k.number k.rows f.0)
   none_tried tells tells' r port (takes.Item x) k f answer q = absurd (let z = k.empty in cc)
 
   none_failed : (tells tells' : Option (List Lane)) (r : Result Tried TaskFault) (port : ℕ) (taken : Taken) → HasNoRow i head head' port tells tells' taken → AfterTake i parts parts' to port taken r → (fault : TaskFault) → r ≡ Err fault → FailsAs {S = S} {s = s} i o m (Inlets head) (Inlets head') parts' fault
@@ -211,14 +213,14 @@ module _ {S E I O L : Type 0} {s : sources.Ghosts S} {e : elements.Ghosts E} (i 
 module _ {S E I O L : Type 0} {s : sources.Ghosts S} {e : elements.Ghosts E} (i : inlets.Ghosts I L O) (o : outlets.Ghosts O L) (head head' : InletHead I) (parts parts' : List (Part E O e)) (tells tells' : Option (List Lane)) (r : Result Tried TaskFault)
     (t : TakesNext i head head' parts parts' tells tells' r) (shapes : map part_shape parts' ≡ map part_shape parts) (m : Moment) (a : AreTied {S = S} {s = s} i o (Stands m) nothing_lost m (Inlets head) parts) where
   -- what a question to the rows of a head makes of the moment
-  pub taken_tried : (answer : Tried) → r ≡ Ok answer → TriedAs {S = S} {s = s} i o m (Inlets head') parts' answer
+  pub taken_tried : (answer : Tried) → r ≡ Ok answer → TriedAs {S = S} {s = s} i o 0 m (Inlets head') parts' answer
   taken_tried answer q = go t.next
     where
-      go : (WantsNone i head head' parts parts' t.fed.part tells tells' r ⊎ WantsOne i head head' parts parts' t.fed.part t.to tells tells' r) → TriedAs {S = S} {s = s} i o m (Inlets head') parts' answer
-      go (inl w) = subst (TriedAs i o m (Inlets head') parts') (ok_same r tried.Idle answer w.idle q) (rows_same i o head head' parts parts' t.to t.fed shapes m a w.number w.rows w.parts_same)
+      go : (WantsNone i head head' parts parts' t.fed.part tells tells' r ⊎ WantsOne i head head' parts parts' t.fed.part t.to tells tells' r) → TriedAs {S = S} {s = s} i o 0 m (Inlets head') parts' answer
+      go (inl w) = subst (TriedAs i o 0 m (Inlets head') parts') (ok_same r tried.Idle answer w.idle q) (rows_same i o head head' parts parts' t.to t.fed shapes m a w.number w.rows w.parts_same)
       go (inr w) = ask w.asks
         where
-          ask : (AsksRow i head head' w.port tells tells' w.taken ⊎ HasNoRow i head head' w.port tells tells' w.taken) → TriedAs {S = S} {s = s} i o m (Inlets head') parts' answer
+          ask : (AsksRow i head head' w.port tells tells' w.taken ⊎ HasNoRow i head head' w.port tells tells' w.taken) → TriedAs {S = S} {s = s} i o 0 m (Inlets head') parts' answer
           ask (inl k) = after_tried i o head head' parts parts' t.to t.fed shapes m a tells tells' r w.port w.taken k w.after answer q
           ask (inr k) = none_tried i o head head' parts parts' t.to t.fed shapes m a tells tells' r w.port w.taken k w.after answer q
 

@@ -37,7 +37,7 @@ use Rattle.task_parts.specs.Found.{IsAt}
 use Rattle.task_parts.specs.Moved.{HandedOn, HandedBack}
 use Rattle.task_parts.specs.Passing.{AfterPart, HandsTo, CrossesPart}
 use Rattle.net_task.specs.Ties.{LeadsAs, PortTied, AreTied, Stands, nothing_lost}
-use Rattle.net_task.specs.Moves.{behind_eos, TriedAs}
+use Rattle.net_task.specs.Moves.{behind_eos, TriedAs, given_in}
 use Rattle.net_task.specs.Failed.{FailsAs, refused, not_linked, at_limit, no_memory}
 use Rattle.net_task.proofs.Lists.{some_same}
 use Rattle.net_task.proofs.Linked.{same_number}
@@ -154,31 +154,33 @@ module _ {S E I O L : Type 0} {s : sources.Ghosts S} {e : elements.Ghosts E} (i 
       go pad at (inr p) = leads_off (rest_of pad).behind (none_else t.was.pads.items port (m.plan.port q) pad others p at)
 
   tried_by : (crossing : Crossing) → IsCrossing o t.crossed.was t.crossed.is tells tells' (linked_else port t.was.pads.items) crossing → (answer : Tried) → r ≡ Ok answer
-      → AfterPart t.between parts' place port t.is t.crossed.is crossing r → TriedAs i o m head parts' answer
+      → AfterPart t.between parts' place port t.is t.crossed.is crossing r → TriedAs i o (given_in head) m head parts' answer
   tried_by Idle x answer q f =
-      subst (TriedAs i o m head parts') (ok_same r tried.Idle answer f.1 q) (stays (seen_crossed t.crossed.was t.crossed.is x.1) (seen_sent o t.crossed.was t.crossed.is x.1) (seen_waiting t.crossed.was t.crossed.is x.1) f.0)
+      subst (TriedAs i o (given_in head) m head parts') (ok_same r tried.Idle answer f.1 q) (stays (seen_crossed t.crossed.was t.crossed.is x.1) (seen_sent o t.crossed.was t.crossed.is x.1) (seen_waiting t.crossed.was t.crossed.is x.1) f.0)
   tried_by (To number hint sink) x answer q f =
       let w = handed_of t.between parts' place port number sink r answer q f in
-      subst (TriedAs i o m head parts') (sym w.moved)
+      subst (TriedAs i o (given_in head) m head parts') (sym w.moved)
       (inl (handed_on i o head parts t.between place port t.was t.is t.crossed.was t.crossed.is t.set t.crossed.pad m a number hint sink x.0 parts' w.to w.at w.handed shapes))
   tried_by Gone x answer q f =
       let p : ℕ = number_of t.crossed.was in
       let rest : List Item = waits_at t.is port t.crossed.is in
-      subst (TriedAs i o m head parts') (ok_same r tried.Moved answer f.1 q) (inl (record {
+      subst (TriedAs i o (given_in head) m head parts') (ok_same r tried.Moved answer f.1 q) (inl (record {
         next = crossed p x.item rest m;
+        gave = 0;
+        given = omega arith;
         move = gone_move o m p x.item rest (seen t.crossed.was) (seen t.crossed.is) (linked_else port t.was.pads.items) tells tells' (goes_of t.crossed.was) x.way here.linked.leads
             (waited_at i o head parts t.between place port t.was t.is t.crossed.was t.crossed.is t.set t.crossed.pad m a x.item x.waited);
         tied = subst (AreTied i o (Stands (crossed p x.item rest m)) nothing_lost (crossed p x.item rest m) head) (sym f.0)
             (try_crosses i o head parts t.between place port t.was t.is t.crossed.was t.crossed.is t.set t.crossed.pad m a x.item x.history x.sent);
       }))
   tried_by BehindEos x answer q f =
-      subst (TriedAs i o m head parts') (ok_same r tried.Moved answer f.1 q)
+      subst (TriedAs i o (given_in head) m head parts') (ok_same r tried.Moved answer f.1 q)
       (inr (behind_eos (number_of t.crossed.was) x.item (waits_at t.is port t.crossed.is)
       (waited_at i o head parts t.between place port t.was t.is t.crossed.was t.crossed.is t.set t.crossed.pad m a x.item x.waited) (x.why (m.history (number_of t.crossed.was)) here.linked.crossed)))
   tried_by (Full lane) x answer q f =
-      subst (TriedAs i o m head parts') (ok_same r (tried.Stuck (steps.NeedsRoom lane)) answer f.1 q) (stays x.history x.sent (x.waits ∙ sym x.waited) f.0)
+      subst (TriedAs i o (given_in head) m head parts') (ok_same r (tried.Stuck (steps.NeedsRoom lane)) answer f.1 q) (stays x.history x.sent (x.waits ∙ sym x.waited) f.0)
   tried_by (AtProbe command) x answer q f =
-      subst (TriedAs i o m head parts') (ok_same r (tried.Stuck (steps.AtProbe command)) answer f.1 q) (stays x.stands.history x.stands.sent (x.waits ∙ sym x.waited) f.0)
+      subst (TriedAs i o (given_in head) m head parts') (ok_same r (tried.Stuck (steps.AtProbe command)) answer f.1 q) (stays x.stands.history x.stands.sent (x.waits ∙ sym x.waited) f.0)
   tried_by NotLinked x answer q f = not_both r answer (faults.NotLinked (number_of t.crossed.is) (crossed_count t.crossed.is)) q f.1
   tried_by AtLimit x answer q f = not_both r answer (faults.TooLong t.is.number 1099511627776 1) q f.1
   tried_by OutOfMemory x answer q f = not_both r answer faults.OutOfMemory q f.1
@@ -216,7 +218,7 @@ module _ {S E I O L : Type 0} {s : sources.Ghosts S} {e : elements.Ghosts E} (i 
       subst (FailsAs i o m head head parts') (err_same r faults.OutOfMemory fault f.1 q) (no_memory (stays (seen_crossed t.crossed.was t.crossed.is x.1) (seen_sent o t.crossed.was t.crossed.is x.1) (seen_waiting t.crossed.was t.crossed.is x.1) f.0))
 
   -- what a try of the pad makes of the moment
-  pub part_tried : (answer : Tried) → r ≡ Ok answer → TriedAs i o m head parts' answer
+  pub part_tried : (answer : Tried) → r ≡ Ok answer → TriedAs i o (given_in head) m head parts' answer
   part_tried answer q = tried_by t.crossing t.crossed.crossed answer q t.after
 
   pub part_failed : (fault : TaskFault) → r ≡ Err fault → FailsAs i o m head head parts' fault

@@ -1,5 +1,5 @@
 -- A source that could not be read, where its pad was tried before.
-use Rattle.std.proofs.Common.{ℕ, List, sym, ◌∙◌, subst}
+use Rattle.std.proofs.Common.{ℕ, List, sym, ◌∙◌, subst, refl, ◌≡◌}
 use Rattle.lane_core.specs.declared.ends.Inlet as inlets
 use Rattle.lane_core.specs.declared.ends.Outlet as outlets
 use Rattle.net_model.specs.Moment.{Moment}
@@ -11,6 +11,7 @@ use Rattle.task_parts.specs.declared.part.Part.{Part}
 use Rattle.task_parts.specs.declared.head.Head.{Head}
 use Rattle.task_parts.specs.declared.head.Head.TheVariants.{Source, Inlets}
 use Rattle.task_parts.specs.declared.fault.TaskFault.{TaskFault}
+use Rattle.net_task.specs.Moves.{given_in}
 use Rattle.net_task.specs.Framed.{SourceStays}
 use Rattle.net_task.specs.Failed.{FailsAs, IsUnread, refused, unread, not_linked, at_limit, no_memory}
 
@@ -20,6 +21,13 @@ unread_then (Source old) (Source mid) (Inlets new) n why k u = absurd u
 unread_then (Source old) (Inlets mid) new n why k u = absurd k
 unread_then (Inlets old) (Source mid) new n why k u = absurd k
 unread_then (Inlets old) (Inlets mid) new n why k u = absurd u
+
+-- a source that stays has given as much
+pub given_kept : {S I O : Type 0} {s : sources.Ghosts S} (old mid : Head S I O s) → SourceStays old mid → given_in mid ≡ given_in old
+given_kept (Source old) (Source mid) k = k.2
+given_kept (Source old) (Inlets mid) k = absurd k
+given_kept (Inlets old) (Source mid) k = absurd k
+given_kept (Inlets old) (Inlets mid) k = refl
 
 -- a fault behind a pad that was tried is one of the task
 pub failed_then : {S E I O L : Type 0} {s : sources.Ghosts S} {e : elements.Ghosts E} (i : inlets.Ghosts I L O) (o : outlets.Ghosts O L) (m : Moment) (old mid new : Head S I O s) (parts : List (Part E O e)) (fault : TaskFault)

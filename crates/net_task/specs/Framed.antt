@@ -34,7 +34,7 @@ HeadIdle (Inlets head) = Unit {0}
 
 -- a source stays as it was, and its element too
 abbrev pub SourceStays : {S I O : Type 0} {s : sources.Ghosts S} → Head S I O s → Head S I O s → Type 0
-SourceStays (Source old) (Source new) = (new.number ≡ old.number) × (new.source ≡ old.source)
+SourceStays (Source old) (Source new) = (new.number ≡ old.number) × (new.source ≡ old.source) × (new.given ≡ old.given)
 SourceStays (Source old) (Inlets new) = ⊥
 SourceStays (Inlets old) (Source new) = ⊥
 SourceStays (Inlets old) (Inlets new) = new ≡ old

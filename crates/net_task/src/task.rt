@@ -51,7 +51,7 @@ impl<S: TaskSource, E: TaskElement, I: Inlet<Out = O>, O: Outlet<Lanes = I::Lane
     /// refused put into a full lane does not keep items at other pads from moving on.
     pub fn step(&mut self, alloc: Global, lanes: &mut I::Lanes) -> Result<Step, TaskFault>
         requires ready { IsReady (O.tells lanes.old) self.old }
-        ensures steps { IfOk result (λ step. (m : Moment) → Ties self.old m → Steps self.new m step) }
+        ensures steps { IfOk result (λ step. (m : Moment) → Ties self.old m → Steps self.old self.new m step) }
         ensures why { IfOk result (λ step. (m : Moment) → Ties self.old m → Why (O.tells lanes.old) self.old self.new m step) }
         ensures faults { IfErr result (λ fault. (m : Moment) → Ties self.old m → Failed self.old self.new m fault) }
         ensures shape { shape_of self.new.head self.new.parts.items ≡ shape_of self.old.head self.old.parts.items }
@@ -67,7 +67,7 @@ impl<S: TaskSource, E: TaskElement, I: Inlet<Out = O>, O: Outlet<Lanes = I::Lane
     /// The first item that can cross a pad of the elements does.
     fn try_parts(&mut self, alloc: Global, lanes: &mut I::Lanes) -> Result<Tried, TaskFault>
         requires ready { IsReady (O.tells lanes.old) self.old }
-        ensures tries { IfOk result (λ tried. (m : Moment) → Ties self.old m → AfterTry self.new m tried) }
+        ensures tries { IfOk result (λ tried. (m : Moment) → Ties self.old m → AfterTry self.old self.new m tried) }
         ensures held { IfOk result (λ tried. (m : Moment) → Ties self.old m → WaitsFor O.Outlet (O.tells lanes.old) m self.old.parts.items tried) }
         ensures rest { IfOk result (λ tried. (m : Moment) → Ties self.old m → RestsAll m self.old.parts.items tried) }
         ensures kept { IfOk result (IsKept O.Outlet (O.tells lanes.old) (O.tells lanes.new) self.old.parts.items self.new.parts.items) }
@@ -95,7 +95,7 @@ impl<S: TaskSource, E: TaskElement, I: Inlet<Out = O>, O: Outlet<Lanes = I::Lane
     ) -> Result<Tried, TaskFault>
         requires place { place < vec_len self.old.parts }
         requires ready { IsReady (O.tells lanes.old) self.old }
-        ensures tries { IfOk result (λ tried. (m : Moment) → Ties self.old m → AfterTry self.new m tried) }
+        ensures tries { IfOk result (λ tried. (m : Moment) → Ties self.old m → AfterTry self.old self.new m tried) }
         ensures held { IfOk result (λ tried. (m : Moment) → Ties self.old m → WaitsFor O.Outlet (O.tells lanes.old) m self.old.parts.items tried) }
         ensures rest { IfOk result (λ tried. (m : Moment) → Ties self.old m → RestsAt m self.old.parts.items place tried) }
         ensures kept { IfOk result (IsKept O.Outlet (O.tells lanes.old) (O.tells lanes.new) self.old.parts.items self.new.parts.items) }
@@ -127,7 +127,7 @@ impl<S: TaskSource, E: TaskElement, I: Inlet<Out = O>, O: Outlet<Lanes = I::Lane
     ) -> Result<Tried, TaskFault>
         requires at { HasPort self.old.parts.items place port }
         requires ready { IsReady (O.tells lanes.old) self.old }
-        ensures tries { IfOk result (λ tried. (m : Moment) → Ties self.old m → AfterTry self.new m tried) }
+        ensures tries { IfOk result (λ tried. (m : Moment) → Ties self.old m → AfterTry self.old self.new m tried) }
         ensures held { IfOk result (λ tried. (m : Moment) → Ties self.old m → WaitsFor O.Outlet (O.tells lanes.old) m self.old.parts.items tried) }
         ensures idle { IfOk result (IsIdleAt self.old.parts.items self.new.parts.items place port) }
         ensures kept { IfOk result (IsKept O.Outlet (O.tells lanes.old) (O.tells lanes.new) self.old.parts.items self.new.parts.items) }
@@ -142,7 +142,7 @@ impl<S: TaskSource, E: TaskElement, I: Inlet<Out = O>, O: Outlet<Lanes = I::Lane
     /// Where no element has an item that can cross: the item that waits at a source's pad crosses it, or the head is asked.
     fn ask(&mut self, alloc: Global, lanes: &mut I::Lanes) -> Result<Step, TaskFault>
         requires ready { IsReady (O.tells lanes.old) self.old }
-        ensures steps { IfOk result (λ step. (m : Moment) → Ties self.old m → Steps self.new m step) }
+        ensures steps { IfOk result (λ step. (m : Moment) → Ties self.old m → Steps self.old self.new m step) }
         ensures why { IfOk result (λ step. (m : Moment) → Ties self.old m → WhyAsked (O.tells lanes.old) self.old self.new m step) }
         ensures faults { IfErr result (λ fault. (m : Moment) → Ties self.old m → Failed self.old self.new m fault) }
         ensures shape { shape_of self.new.head self.new.parts.items ≡ shape_of self.old.head self.old.parts.items }
@@ -164,7 +164,7 @@ impl<S: TaskSource, E: TaskElement, I: Inlet<Out = O>, O: Outlet<Lanes = I::Lane
     ) -> Result<Step, TaskFault>
         requires ready { IsReady (O.tells lanes.old) self.old }
         requires stuck { stuck ≢ Moved }
-        ensures steps { IfOk result (λ step. (m : Moment) → Ties self.old m → Steps self.new m step) }
+        ensures steps { IfOk result (λ step. (m : Moment) → Ties self.old m → Steps self.old self.new m step) }
         ensures why { IfOk result (λ step. (m : Moment) → Ties self.old m → StuckWhy O.Outlet (O.tells lanes.old) m self.old.head stuck step) }
         ensures faults { IfErr result (λ fault. (m : Moment) → Ties self.old m → Failed self.old self.new m fault) }
         ensures shape { shape_of self.new.head self.new.parts.items ≡ shape_of self.old.head self.old.parts.items }
@@ -180,7 +180,7 @@ impl<S: TaskSource, E: TaskElement, I: Inlet<Out = O>, O: Outlet<Lanes = I::Lane
     /// The item that waits at a source's pad crosses it, if it can.
     fn try_head(&mut self, alloc: Global, lanes: &mut I::Lanes) -> Result<Tried, TaskFault>
         requires ready { IsReady (O.tells lanes.old) self.old }
-        ensures tries { IfOk result (λ tried. (m : Moment) → Ties self.old m → AfterTry self.new m tried) }
+        ensures tries { IfOk result (λ tried. (m : Moment) → Ties self.old m → AfterTry self.old self.new m tried) }
         ensures faults { IfErr result (λ fault. (m : Moment) → Ties self.old m → Failed self.old self.new m fault) }
         ensures still { IfOk result (IsStill (O.tells lanes.new) self.new) }
         ensures idle { IfOk result (IsHeadIdle self.new) }
@@ -199,7 +199,7 @@ impl<S: TaskSource, E: TaskElement, I: Inlet<Out = O>, O: Outlet<Lanes = I::Lane
     fn ask_head(&mut self, alloc: Global, lanes: &mut I::Lanes) -> Result<Step, TaskFault>
         requires ready { IsReady (O.tells lanes.old) self.old }
         requires idle { IsHeadIdle self.old Idle }
-        ensures steps { IfOk result (λ step. (m : Moment) → Ties self.old m → Steps self.new m step) }
+        ensures steps { IfOk result (λ step. (m : Moment) → Ties self.old m → Steps self.old self.new m step) }
         ensures why { IfOk result (λ step. (m : Moment) → Ties self.old m → WhyHead (O.tells lanes.old) self.old self.new m step) }
         ensures faults { IfErr result (λ fault. (m : Moment) → Ties self.old m → Failed self.old self.new m fault) }
         ensures shape { shape_of self.new.head self.new.parts.items ≡ shape_of self.old.head self.old.parts.items }

@@ -1,3 +1,4 @@
+use Rattle.net_task.specs.Moves.{StepsAs, given_in}
 use Rattle.net_model.specs.Moment.{Moment}
 use Rattle.std.specs.Prelude.{IfOk}
 use Rattle.net_task.specs.Reasons.{HeadWhy}
@@ -15,11 +16,13 @@ use Rattle.net_task.proofs.task.Task.ask_head.Goals as goal
 
 pub returns-in-Source-clause-steps : goal.returns-in-Source-clause-steps
 returns-in-Source-clause-steps g c =
-    head_steps g.I.Inlet g.O.Outlet c.give.result c.step_of.result c.step_of.ensures (Source c.give.new.head) c.args.self.now.parts.items
+    subst (λ (h : Head g.row.S.Denot g.row.I.Denot g.row.O.Denot g.S.TaskSource). IfOk c.step_of.result (λ step. (m : Moment) → AreTied g.I.Inlet g.O.Outlet (Stands m) nothing_lost m c.args.self.now.head c.args.self.now.parts.items
+    → StepsAs {S = g.row.S.Denot} {s = g.S.TaskSource} g.I.Inlet g.O.Outlet (given_in h) m (Source c.give.new.head) c.args.self.now.parts.items step)) (sym c.in-Source.is)
+    (head_steps g.I.Inlet g.O.Outlet c.in-Source.head.given c.give.result c.step_of.result c.step_of.ensures (Source c.give.new.head) c.args.self.now.parts.items
     (λ m. AreTied g.I.Inlet g.O.Outlet (Stands m) nothing_lost m c.args.self.now.head c.args.self.now.parts.items)
     (given_moves c.in-Source.head c.give.new.head c.give.result c.give.ensures.gives)
     (λ m a. given_tried g.I.Inlet g.O.Outlet (λ source owed given gave. (g.met.S.TaskSource).begins source owed given gave) c.in-Source.head c.give.new.head c.args.self.now.parts.items c.give.ensures.number c.give.ensures.rest m
-    (subst (λ (h : Head g.row.S.Denot g.row.I.Denot g.row.O.Denot g.S.TaskSource). AreTied g.I.Inlet g.O.Outlet (Stands m) nothing_lost m h c.args.self.now.parts.items) c.in-Source.is a) c.give.result c.give.ensures.gives)
+    (subst (λ (h : Head g.row.S.Denot g.row.I.Denot g.row.O.Denot g.S.TaskSource). AreTied g.I.Inlet g.O.Outlet (Stands m) nothing_lost m h c.args.self.now.parts.items) c.in-Source.is a) c.give.result c.give.ensures.gives))
 
 pub returns-in-Source-clause-faults : goal.returns-in-Source-clause-faults
 returns-in-Source-clause-faults g c =
@@ -32,11 +35,13 @@ returns-in-Source-clause-faults g c =
 
 pub returns-in-Inlets-clause-steps : goal.returns-in-Inlets-clause-steps
 returns-in-Inlets-clause-steps g c =
-    head_steps g.I.Inlet g.O.Outlet c.take.result c.step_of-in-Inlets.result c.step_of-in-Inlets.ensures (Inlets c.take.new.head) c.take.new.parts.items
+    subst (λ (h : Head g.row.S.Denot g.row.I.Denot g.row.O.Denot g.S.TaskSource). IfOk c.step_of-in-Inlets.result (λ step. (m : Moment) → AreTied g.I.Inlet g.O.Outlet (Stands m) nothing_lost m c.args.self.now.head c.args.self.now.parts.items
+    → StepsAs {S = g.row.S.Denot} {s = g.S.TaskSource} g.I.Inlet g.O.Outlet (given_in h) m (Inlets c.take.new.head) c.take.new.parts.items step)) (sym c.in-Inlets.is)
+    (head_steps {S = g.row.S.Denot} {s = g.S.TaskSource} g.I.Inlet g.O.Outlet 0 c.take.result c.step_of-in-Inlets.result c.step_of-in-Inlets.ensures (Inlets c.take.new.head) c.take.new.parts.items
     (λ m. AreTied g.I.Inlet g.O.Outlet (Stands m) nothing_lost m c.args.self.now.head c.args.self.now.parts.items)
     (taken_moves g.I.Inlet c.in-Inlets.head c.take.new.head c.args.self.now.parts.items c.take.new.parts.items _ _ c.take.result c.take.ensures.takes)
     (λ m a. taken_tried g.I.Inlet g.O.Outlet c.in-Inlets.head c.take.new.head c.args.self.now.parts.items c.take.new.parts.items _ _ c.take.result c.take.ensures.takes c.take.ensures.shape m
-    (subst (λ (h : Head g.row.S.Denot g.row.I.Denot g.row.O.Denot g.S.TaskSource). AreTied g.I.Inlet g.O.Outlet (Stands m) nothing_lost m h c.args.self.now.parts.items) c.in-Inlets.is a))
+    (subst (λ (h : Head g.row.S.Denot g.row.I.Denot g.row.O.Denot g.S.TaskSource). AreTied g.I.Inlet g.O.Outlet (Stands m) nothing_lost m h c.args.self.now.parts.items) c.in-Inlets.is a)))
 
 pub returns-in-Inlets-clause-faults : goal.returns-in-Inlets-clause-faults
 returns-in-Inlets-clause-faults g c =

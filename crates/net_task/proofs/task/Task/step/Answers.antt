@@ -3,4 +3,4 @@ use Rattle.net_task.specs.Moves.{AfterTry}
 use Rattle.net_task.proofs.task.Task.step.Goals as goal
 
 pub returns-in-Ok-Moved-clause-steps : goal.returns-in-Ok-Moved-clause-steps
-returns-in-Ok-Moved-clause-steps g c m a = subst (AfterTry c.try_parts.new.self m) c.in-Ok-Moved.field-0-is (c.in-Ok-Moved.ensures.tries m a)
+returns-in-Ok-Moved-clause-steps g c m a = subst (AfterTry c.args.self.now c.try_parts.new.self m) c.in-Ok-Moved.field-0-is (c.in-Ok-Moved.ensures.tries m a)

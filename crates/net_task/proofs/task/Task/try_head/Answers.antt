@@ -1,3 +1,4 @@
+use Rattle.net_task.specs.Moves.{TriedAs, given_in}
 use Rattle.net_task.specs.Reasons.{HeadWaits}
 use Rattle.net_task.proofs.HeadWhy.{source_waits, source_unmoved}
 use Rattle.std.proofs.Common.{subst, sym}
@@ -11,11 +12,12 @@ use Rattle.net_task.proofs.task.Task.try_head.Goals as goal
 
 pub returns-in-Source-clause-tries : goal.returns-in-Source-clause-tries
 returns-in-Source-clause-tries g c =
-    if_ok c.cross_source.result _ (λ answer q m a. source_tried g.I.Inlet g.O.Outlet
+    if_ok c.cross_source.result _ (λ answer q m a. subst (λ (h : Head g.row.S.Denot g.row.I.Denot g.row.O.Denot g.S.TaskSource). TriedAs g.I.Inlet g.O.Outlet (given_in h) m (Source c.cross_source.new.head) c.cross_source.new.parts.items answer) (sym c.in-Source.is)
+    (source_tried g.I.Inlet g.O.Outlet
     (λ source owed given gave. (g.met.S.TaskSource).begins source owed given gave)
     (λ outlet was sent. (g.met.O.Outlet g.world.𝓛 g.world.𝓜 g.world.𝓡 ((λ s x. x), (λ x. x), (λ x. x), λ x. x)).counts outlet was sent)
     c.in-Source.head c.cross_source.new.head c.args.self.now.parts.items c.cross_source.new.parts.items _ _ c.cross_source.result c.cross_source.ensures.crosses c.cross_source.ensures.shape m
-    (subst (λ (h : Head g.row.S.Denot g.row.I.Denot g.row.O.Denot g.S.TaskSource). AreTied g.I.Inlet g.O.Outlet (Stands m) nothing_lost m h c.args.self.now.parts.items) c.in-Source.is a) answer q)
+    (subst (λ (h : Head g.row.S.Denot g.row.I.Denot g.row.O.Denot g.S.TaskSource). AreTied g.I.Inlet g.O.Outlet (Stands m) nothing_lost m h c.args.self.now.parts.items) c.in-Source.is a) answer q))
 
 pub returns-in-Source-clause-faults : goal.returns-in-Source-clause-faults
 returns-in-Source-clause-faults g c =
