@@ -1,5 +1,5 @@
 -- What becomes of an element of a task and of its source pads.
-use Rattle.std.specs.Prelude.{◌≡◌, ◌+◌, ◌&&◌, ℕ, Bool, true, List, [], ◌∷◌, ◌++◌, Option, Some, slice_get, slice_set}
+use Rattle.std.specs.Prelude.{◌≡◌, ◌+◌, ℕ, true, List, [], ◌∷◌, ◌++◌, Option, Some, slice_get, slice_set}
 use Rattle.gst_item.specs.declared.out.Out.{Out}
 use Rattle.flow_model.specs.Item.{Item}
 use Rattle.flow_model.specs.Call.{Call, Feed}
@@ -18,13 +18,9 @@ use Rattle.task_pads.specs.Pads.{PadReady, pad_shape, rest_of, waiting_of, CanTa
 use Rattle.task_pads.specs.Put.{IsTaken}
 use Rattle.task_pads.specs.Crossing.{IsCrossing}
 use Rattle.task_parts.specs.declared.part.Part.{Part}
-use Rattle.task_parts.specs.Gathered.{is_nothing, pads_idle, linked_else}
+use Rattle.task_parts.specs.Gathered.{pads_idle, linked_else}
 
 module _ {E O : Type 0} {e : elements.Ghosts E} where
-  -- nothing waits at the pads of an element
-  abbrev pub is_idle : Part E O e → Bool
-  is_idle part = is_nothing part.out && pads_idle part.pads.items
-
   -- what waits at the pad of a port: what is there, and what was put out for it and is to go there
   abbrev pub waits_at : Part E O e → ℕ → Pad O → List Item
   waits_at part port pad = waiting_of pad ++ on_port port part.out

@@ -1,6 +1,6 @@
 //! Where the elements of a task stand.
-ghost use Rattle.std.specs.Prelude.{◌≡◌, ◌≤◌, true, map, vec_len, length};
-ghost use Rattle.task_parts.specs.Found.{IsAt, IsFirstBusy};
+ghost use Rattle.std.specs.Prelude.{◌≡◌, true, map};
+ghost use Rattle.task_parts.specs.Found.{IsAt};
 ghost use Rattle.task_parts.specs.Shape.{has_number, part_shape};
 
 use crate::part::Part;
@@ -38,17 +38,4 @@ fn search<E: TaskElement, O: Outlet>(parts: &[Part<E, O>], number: u32) -> usize
         }
     }
     unreachable!()
-}
-
-/// The place of the first element, from a place on, at which something waits; behind all where there is none.
-pub fn first_busy<E: TaskElement, O: Outlet>(parts: &[Part<E, O>], from: usize) -> usize
-    requires within { from ≤ length parts.now }
-    ensures { IsFirstBusy parts.now from result }
-{
-    for place in from..parts.len() {
-        if !parts[place].is_idle() {
-            return place;
-        }
-    }
-    parts.len()
 }

@@ -3,13 +3,13 @@ ghost use Rattle.std.specs.Prelude.{◌≡◌, ◌&&◌, not, true, vec_len, map
 ghost use Rattle.task_pads.specs.Behind.{leads_on};
 ghost use Rattle.task_pads.specs.Pads.{rest_of};
 ghost use Rattle.task_pads.specs.Put.{Spread};
-ghost use Rattle.task_parts.specs.Gathered.{are_within, pads_idle as idle_test, linked_else};
+ghost use Rattle.task_parts.specs.Gathered.{are_within, linked_else, pads_idle as idle_test};
 
 use gst_caps::OutOfMemory;
 use gst_item::Outs;
 use lane_core::Outlet;
 use std::alloc::Global;
-use task_pads::{Behind, Pad, fill, first_waiting, spread};
+use task_pads::{Behind, Pad, fill, spread};
 
 /// What was put out goes to the pads, behind what waits there. Where memory is wanting some of it stays, in its order.
 pub(crate) fn gather<O>(
@@ -32,16 +32,6 @@ pub(crate) fn gather<O>(
         return Ok(());
     }
     spread(alloc, pads, out)
-}
-
-/// Whether nothing waits at the pads.
-pub(crate) fn pads_idle<O>(pads: &[Pad<O>]) -> bool
-    ensures { result ≡ idle_test pads.now }
-{
-    match first_waiting(pads, 0) {
-        Some(_) => false,
-        None => true,
-    }
 }
 
 /// Whether a pad other than that of a port is linked.

@@ -11,7 +11,6 @@ pub mod passing;
 pub mod step;
 
 pub use fault::TaskFault;
-pub use find::first_busy;
 pub use head::{Head, InletHead, SourceHead};
 pub use part::Part;
 pub use passing::{cross_part, cross_source, give, settle, take};

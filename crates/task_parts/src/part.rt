@@ -7,7 +7,7 @@ ghost use Rattle.element_traits.specs.Failures.{NeverFalls, IsWriteCause};
 ghost use Rattle.element_traits.specs.Takes.{Takes};
 ghost use Rattle.task_parts.specs.Gathered.{are_within};
 
-use crate::gather::{gather, is_linked_else, pads_idle};
+use crate::gather::{gather, is_linked_else};
 use element_traits::{Refusal, TaskElement};
 use gst_caps::{List, OutOfMemory};
 use gst_item::{Item, Outs};
@@ -29,7 +29,7 @@ pub struct Part<E: TaskElement, O> {
 
 impl<E: TaskElement, O: Outlet> Part<E, O> {
     ghost use Rattle.std.specs.Prelude.{◌<◌, []};
-    ghost use Rattle.task_parts.specs.Part.{PartSettled, IsSettled, PartFed, PartFell, PartCrossed, PartGave, PartTookBack, PartReady, CanTakeBackAt, is_idle};
+    ghost use Rattle.task_parts.specs.Part.{PartSettled, IsSettled, PartFed, PartFell, PartCrossed, PartGave, PartTookBack, PartReady, CanTakeBackAt};
     ghost use Rattle.task_parts.specs.Shape.{part_shape};
 
     /// An element of this number that took nothing, with its source pads, which nothing crossed.
@@ -75,16 +75,6 @@ impl<E: TaskElement, O: Outlet> Part<E, O> {
     {
         let Part { element, .. } = self;
         element
-    }
-
-    /// Whether nothing waits at its pads.
-    pub(crate) fn is_idle(&self) -> bool
-        ensures { result ≡ is_idle self.now }
-    {
-        if !self.out.as_slice().is_empty() {
-            return false;
-        }
-        pads_idle(self.pads.as_slice())
     }
 
     /// What was put out goes to its pads.

@@ -1,8 +1,0 @@
-use Rattle.std.proofs.Common.{◌≡◌, ◌<◌, ◌≤◌, ℕ, true, Some}
-use Rattle.std.specs.Prelude.{slice_get}
-use Rattle.task_parts.specs.declared.part.Part.{Part}
-use Rattle.task_parts.specs.Part.{is_idle}
-use Rattle.task_parts.proofs.find.first_busy.Given as goal
-
-abbrev pub invariant-loop-place : goal.invariant-loop-place
-invariant-loop-place g l = (j : ℕ) (part : Part g.row.E.Denot g.row.O.Denot g.E.TaskElement) → j < l.place → slice_get l.fn.parts j ≡ Some part → l.fn.from ≤ j → is_idle part ≡ true
