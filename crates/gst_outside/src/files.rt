@@ -17,9 +17,9 @@ use std::alloc::Global;
 /// number of ends that were given out and not yet closed. `opened` says of a location that it was opened
 /// here. The counts stay at the last value of a `u64`.
 pub trait Files {
-    type Src: Source;
+    type Src: Source + Send;
 
-    type Snk: Sink;
+    type Snk: Sink + Send;
 
     ghost input: { Self → List ℕ → Option (List ℕ) };
 

@@ -13,7 +13,7 @@ pub const LARGEST_END: u64 = 1 << 63;
 /// Its meanings: `bytes` is what stands in it, where that is told; `location` is the location with which it
 /// was opened, where that is told; `faults` is the number of calls that failed, which never falls and stays
 /// at the last value of a `u64`. No call changes the location.
-pub trait Sink: Send + Drop + 'static {
+pub trait Sink: Drop + 'static {
     ghost bytes: { Self → Option (List ℕ) };
 
     ghost location: { Self → Option (List ℕ) };

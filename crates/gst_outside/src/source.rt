@@ -10,7 +10,7 @@ use crate::failed::Failed;
 /// Its meanings: `content` is the bytes, where they are told; `location` is the location with which it was
 /// opened, where that is told; `faults` is the number of calls that failed, which never falls and stays at
 /// the last value of a `u64`. No call changes the first two.
-pub trait Source: Send + Drop + 'static {
+pub trait Source: Drop + 'static {
     ghost content: { Self → Option (List ℕ) };
 
     ghost location: { Self → Option (List ℕ) };
