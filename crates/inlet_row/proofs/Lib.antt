@@ -2,3 +2,4 @@ pub mod Appending
 pub mod Losing
 pub mod Moving
 pub mod Results
+pub mod Lessens

@@ -1,4 +1,5 @@
 pub mod Ends
 pub mod Feed
+pub mod Left
 pub mod Row
 pub mod Take

@@ -1,13 +1,13 @@
 -- Each element that a task names is one of it.
 use Rattle.std.proofs.Common.{◌≡◌, ◌&&◌, ℕ, zero, suc, Bool, true, false, List, [], ◌∷◌, map, Some, refl, sym, subst}
-use Rattle.std.specs.Prelude.{slice_get, Result, Ok, Err, IfOk, IfErr, IsErrAnd}
+use Rattle.std.specs.Prelude.{slice_get, Result, Ok, Err, IfOk, IfErr, IsErrAnd, OnOk}
 use Rattle.element_traits.specs.declared.element.TaskElement as elements
 use Rattle.element_traits.specs.declared.source.TaskSource as sources
 use Rattle.task_pads.specs.Pads.{pad_shape}
 use Rattle.task_parts.specs.declared.part.Part.{Part}
 use Rattle.task_parts.specs.declared.head.Head.{Head}
 use Rattle.task_parts.specs.Shape.{PartShape, part_shape, head_shape, shape_of, pads_within, all_within, head_within, is_closed}
-use Rattle.net_task.proofs.Lists.{some_same}
+use Rattle.task_pads.proofs.Lists.{some_same}
 
 and_left : (a b : Bool) → a && b ≡ true → a ≡ true
 and_left true b q = refl
@@ -47,3 +47,7 @@ handed_on (Err y) x P f p = subst P (sym f) p
 pub ok_at : {T X : Type 0} (r : Result T X) (P : T → Type 0) (t : T) → r ≡ Ok t → IfOk r P → P t
 ok_at (Ok u) P t q f = let same : u ≡ t = cc in subst P same f
 ok_at (Err y) P t q f = absurd cc
+
+pub on_ok_of : {T X : Type 0} (r : Result T X) (P : Type 0) → ((t : T) → r ≡ Ok t → P) → OnOk r P
+on_ok_of (Ok t) P f = f t refl
+on_ok_of (Err x) P f = tt

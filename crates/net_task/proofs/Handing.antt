@@ -1,5 +1,5 @@
 -- An item that crossed a pad of an element goes to an element of the task.
-use Rattle.std.proofs.Common.{◌≡◌, ◌++◌, ℕ, List, [], ◌∷◌, map, Some, sym, ap, ◌∙◌, subst, arith}
+use Rattle.std.proofs.Common.{◌≡◌, ◌++◌, ℕ, List, [], ◌∷◌, map, Some, sym, ap, ◌∙◌, subst}
 use Rattle.std.specs.Prelude.{slice_get, slice_set}
 use Rattle.flow_model.specs.Item.{Item}
 use Rattle.lane_core.specs.declared.ends.Inlet as inlets
@@ -21,12 +21,13 @@ use Rattle.task_parts.specs.Found.{IsAt}
 use Rattle.task_parts.specs.Part.{PadSet, PartGave, waits_at}
 use Rattle.task_parts.specs.Moved.{PartSet, HandedOn}
 use Rattle.net_task.specs.Ties.{LeadsAs, HeadTied, AreTied, Stands, nothing_lost}
-use Rattle.net_task.specs.Moves.{passes, Advances, given_in}
-use Rattle.net_task.proofs.Lists.{some_same, map_back, set_at}
+use Rattle.net_task.specs.Moves.{passes, passing}
+use Rattle.task_pads.proofs.Lists.{some_same}
+use Rattle.task_parts.proofs.Lists.{map_back, set_at}
 use Rattle.net_task.proofs.Linked.{same_goes, crossed_rest}
 use Rattle.net_task.proofs.Tied.{IsNotFed, part_number, set_part_shape, parts_set_shape}
 use Rattle.net_task.proofs.Fed.{now, fed_tied, fed_answers, out_now}
-use Rattle.net_task.proofs.Passing.{sent_inside, pad_twice, part_twice, is_set, is_pad_set, port_here, try_crosses, waited_at}
+use Rattle.net_task.proofs.Passing.{MovesOn, sent_inside, pad_twice, part_twice, is_set, is_pad_set, port_here, try_crosses, waited_at}
 
 -- values at the same place of lists of the same values
 pub shape_at : {A B : Type 0} (f : A → B) (xs ys : List A) → map f ys ≡ map f xs → (k : ℕ) (x y : A) → slice_get xs k ≡ Some x → slice_get ys k ≡ Some y → f y ≡ f x
@@ -71,7 +72,7 @@ module _ {S E I O L : Type 0} {s : sources.Ghosts S} {e : elements.Ghosts E} (i 
   pub leads_here : Leads m.plan (number_of was) number sink × NoneAt sink (m.held number)
   leads_here = subst (LeadsAs m (number_of was)) c.to (port_here i o head parts between place port old new was is set pad m a).linked.leads
 
-  pub handed_on : (parts' : List (Part E O e)) (to : ℕ) → IsAt between number to → HandedOn between parts' place port to sink → map part_shape parts' ≡ map part_shape parts → Advances i o (given_in head) m head parts'
+  pub handed_on : (parts' : List (Part E O e)) (to : ℕ) → IsAt between number to → HandedOn between parts' place port to sink → map part_shape parts' ≡ map part_shape parts → MovesOn i o m (passing (number_of was)) head parts'
   handed_on parts' to at h shapes =
       let giver : h.giver ≡ new = is_set parts between place old new h.giver set h.given.at in
       let t = taken_from old new h.gave port was is h.item pad (subst (λ (g : Part E O e). PartGave g h.gave port (Some h.item)) giver h.taken) in
@@ -89,8 +90,6 @@ module _ {S E I O L : Type 0} {s : sources.Ghosts S} {e : elements.Ghosts E} (i 
       let ate : part_shape h.ate ≡ part_shape h.eater = shape_at part_shape h.between parts' (shapes ∙ sym mid) to h.eater h.ate h.fed.at (ap (λ (ps : List (Part E O e)). slice_get ps to) h.fed.set ∙ set_at_eater h) in
       record {
         next = now o h.between parts' to sink h.item h.eater h.ate h.fed ate h.took m1;
-        gave = 0;
-        given = omega arith;
         move = passes (number_of was) h.item (waits_at h.gave port t.behind) h.eater.number sink (out_now o h.between parts' to sink h.item h.eater h.ate h.fed ate h.took m1)
             (record {
               waited = waited_at i o head parts h.between place port old h.gave was t.behind sets pads m a h.item (c.waited ∙ sym c.waits ∙ t.waiting);

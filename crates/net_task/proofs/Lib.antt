@@ -1,21 +1,20 @@
-mod Lists
+mod Places
 pub mod Linked
 pub mod Tied
 pub mod Fed
 pub mod Passing
 pub mod Handing
 pub mod Refusing
+pub mod Bare
+pub mod Held
+pub mod GoingOn
 pub mod Trying
 pub mod Sources
 pub mod SourceTrying
 pub mod Asking
+pub mod Rows
 pub mod Taking
-pub mod Closed
-pub mod Still
-pub mod Unread
+pub mod Inlets
 pub mod SoFar
-pub mod HeadSteps
-pub mod Held
-pub mod Kept
-pub mod Resting
-pub mod HeadWhy
+pub mod Stepping
+pub mod Closed

@@ -24,8 +24,10 @@ use Rattle.task_parts.specs.Shape.{part_shape}
 use Rattle.task_parts.specs.Part.{PadSet, waits_at}
 use Rattle.task_parts.specs.Moved.{PartSet}
 use Rattle.net_task.specs.Ties.{LeadsAs, PortTied, PartTied, AreTied, Stands, nothing_lost}
-use Rattle.net_task.specs.Moves.{Move, sends, leaves}
-use Rattle.net_task.proofs.Lists.{some_same, set_at}
+use Rattle.net_task.specs.Moves.{Act, Move, given_by, leaves, leaving, sending, sends}
+use Rattle.net_task.specs.Tries.{CrossesAt}
+use Rattle.task_pads.proofs.Lists.{some_same}
+use Rattle.task_parts.proofs.Lists.{set_at}
 use Rattle.net_task.proofs.Linked.{same_number, linked_stays, linked_crosses}
 use Rattle.net_task.proofs.Tied.{set_part_shape, parts_set_shape, parts_set, part_known, part_pad, part_crossed, head_same, head_crossed}
 
@@ -115,9 +117,31 @@ module _ {S E I O L : Type 0} {s : sources.Ghosts S} {e : elements.Ghosts E} (i 
   pub waited_at : (x : Item) → waiting_of was ≡ x ∷ waiting_of is → m.waits (number_of was) ≡ x ∷ waits_at new port is
   waited_at x w = port_here.waits ∙ ap (λ ys. ys ++ on_port port old.out) w ∙ ap (λ (os : List Out). x ∷ (waiting_of is ++ on_port port os)) (sym pad.out)
 
+-- an item crossed a pad: the moment moved, and a head and elements are tied to it
+pub record MovesOn {S E I O L : Type 0} {s : sources.Ghosts S} {e : elements.Ghosts E} (i : inlets.Ghosts I L O) (o : outlets.Ghosts O L) (m : Moment) (act : Act) (head : Head S I O s) (parts : List (Part E O e)) : Type 0 where
+  pub next : Moment
+  pub move : Move m act next
+  pub tied : AreTied i o (Stands next) nothing_lost next head parts
+
+-- what an item does that goes away over a pad that leads there
+abbrev pub gone_act : Goes → ℕ → Item → Act
+gone_act nowhere p x = leaving p
+gone_act (inside n k) p x = leaving p
+gone_act (over lane n k from) p x = sending p x
+
+pub gone_at : (g : Goes) (p : ℕ) (x : Item) → CrossesAt p (gone_act g p x)
+gone_at nowhere p x = refl
+gone_at (inside n k) p x = refl
+gone_at (over lane n k from) p x = refl
+
+pub gone_given : (g : Goes) (p : ℕ) (x : Item) → given_by (gone_act g p x) ≡ 0
+gone_given nowhere p x = refl
+gone_given (inside n k) p x = refl
+gone_given (over lane n k from) p x = refl
+
 -- an item that went away is a move
 pub gone_move : {O L : Type 0} (o : outlets.Ghosts O L) (m : Moment) (p : ℕ) (x : Item) (rest : List Item) (was is : Seen O) (sibling : _) (tells tells' : Option (List Lane)) (g : Goes)
-    → WentAway o x was is sibling tells tells' g → LeadsAs m p g → m.waits p ≡ x ∷ rest → Move m 0 (crossed p x rest m)
+    → WentAway o x was is sibling tells tells' g → LeadsAs m p g → m.waits p ≡ x ∷ rest → Move m (gone_act g p x) (crossed p x rest m)
 gone_move o m p x rest was is sibling tells tells' nowhere w l waits = leaves p x rest (record { waited = waits; leads = l })
 gone_move o m p x rest was is sibling tells tells' (inside n k) w l waits = absurd w
 gone_move o m p x rest was is sibling tells tells' (over lane n k from) w l waits = sends p x rest n k (record { waited = waits; leads = l })

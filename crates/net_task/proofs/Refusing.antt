@@ -24,8 +24,9 @@ use Rattle.task_parts.specs.Found.{IsAt}
 use Rattle.task_parts.specs.Part.{PadSet, PartGave, PartFell, waits_at}
 use Rattle.task_parts.specs.Moved.{PartSet, HandedBack}
 use Rattle.net_task.specs.Ties.{LeadsAs, PadLinked, PortTied, PartsTied, AreTied, Stands, nothing_lost}
-use Rattle.net_task.specs.Failed.{StandsOrFell, Left, Refuses, by_pad, without_first}
-use Rattle.net_task.proofs.Lists.{some_same, set_at, set_there}
+use Rattle.net_task.specs.Failed.{StandsOrFell, Left, Refuses, at_pad, by_pad, without_first}
+use Rattle.task_pads.proofs.Lists.{some_same, set_there}
+use Rattle.task_parts.proofs.Lists.{set_at}
 use Rattle.net_task.proofs.Linked.{same_number, same_goes, crossed_rest}
 use Rattle.net_task.proofs.Tied.{set_part_shape, parts_set_shape, parts_set, part_known, part_pad, part_fell, part_at, head_at}
 use Rattle.net_task.proofs.Passing.{sent_inside, pad_twice, part_twice, is_set, stands_set, try_crosses, waited_at}
@@ -175,7 +176,7 @@ module _ {S E I O L : Type 0} {s : sources.Ghosts S} {e : elements.Ghosts E} (i 
       (part_known o (Stood m1 h.again) (Stood mb h.is) m1 h.again (fell_set number sink h.item m h.again h.is back_pad.number back_pad.element) (parts_fell.each place h.again h.back.at)))
       parts_fell
 
-  pub handed_back : Left i o m head parts' number sink h.item × Refuses e m number sink h.item refusal
+  pub handed_back : Left i o m (at_pad p) head parts' number sink h.item × Refuses e m number sink h.item refusal
   handed_back =
       let lead = leads_here i o head parts between place port old new was is set pad m a number hint sink c in (
         record {

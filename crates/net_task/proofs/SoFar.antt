@@ -1,15 +1,16 @@
 -- What holds of a task while its pads are tried and none lets an item pass.
-use Rattle.std.proofs.Common.{◌≡◌, ◌≢◌, ◌<◌, ◌⊎◌, ℕ, Bool, true, false, if◌then◌else◌, zero, suc, List, [], ◌∷◌, length, map, get_or, Option, Some, refl, sym, ap, ◌∙◌, subst, inl, inr, arith}
+use Rattle.std.proofs.Common.{◌≡◌, ◌≢◌, ◌<◌, ◌≤◌, ◌⊎◌, ℕ, Bool, true, false, if◌then◌else◌, zero, suc, List, [], ◌∷◌, length, map, get_or, Option, Some, refl, sym, ap, ◌∙◌, subst, inl, inr, arith}
+use Rattle.std.proofs.lemmas.Bool.{cases_eq}
 use Rattle.std.proofs.lemmas.List.{length-map}
-use Rattle.std.specs.Prelude.{slice_get}
+use Rattle.std.proofs.lemmas.Option.{slice_get_within}
+use Rattle.std.specs.Prelude.{◌+◌, slice_get, Result, Ok, Err, OnOk}
+use Rattle.std.specs.Result.{is_err}
 use Rattle.lane_core.specs.Lane.{Lane}
 use Rattle.lane_core.specs.declared.ends.Inlet as inlets
 use Rattle.lane_core.specs.declared.ends.Outlet as outlets
 use Rattle.net_model.specs.Moment.{Moment}
 use Rattle.element_traits.specs.declared.element.TaskElement as elements
 use Rattle.element_traits.specs.declared.source.TaskSource as sources
-use Rattle.task_pads.specs.Behind.{EndReady, end_in}
-use Rattle.task_pads.specs.Pads.{Rest, pad_shape}
 use Rattle.task_parts.specs.declared.part.Part.{Part}
 use Rattle.task_parts.specs.declared.head.Head.{Head}
 use Rattle.task_parts.specs.declared.step.Step.{Step}
@@ -17,148 +18,268 @@ use Rattle.task_parts.specs.declared.step.Step.TheVariants as steps
 use Rattle.task_parts.specs.declared.step.Tried.{Tried}
 use Rattle.task_parts.specs.declared.step.Tried.TheVariants as tried
 use Rattle.task_parts.specs.declared.fault.TaskFault.{TaskFault}
-use Rattle.task_parts.specs.Shape.{PartShape, HeadShape, TaskShape, part_shape, head_shape, shape_of}
-use Rattle.task_parts.specs.Part.{PartReady}
+use Rattle.task_parts.specs.declared.fault.TaskFault.TheVariants.{OutOfMemory}
+use Rattle.task_parts.specs.Shape.{part_shape}
 use Rattle.task_parts.specs.Passing.{HasPort, Settles}
 use Rattle.net_task.specs.declared.task.Task.{Task}
-use Rattle.net_task.specs.Ties.{AreTied, Stands, nothing_lost, Ties}
-use Rattle.net_task.specs.Moves.{AfterTry, TriedAs, given_in}
-use Rattle.net_task.specs.Failed.{Failed, FailsAs}
-use Rattle.net_task.specs.Answers.{is_probe, preferred, tried_both}
-use Rattle.net_task.specs.Reasons.{Wire, wires_in, PadHolds, IsWire, OneHolds, IsKept, WaitsFor}
-use Rattle.net_task.proofs.Held.{set_wires, grown_wires}
-use Rattle.net_task.proofs.Handing.{shape_at}
-use Rattle.net_task.specs.Framed.{AreReady, IsReady, IsStill, IsStuckTry}
-use Rattle.net_task.proofs.Lists.{some_at, set_at, each_set, mapped, unmapped}
-use Rattle.net_task.proofs.Asking.{settled}
+use Rattle.net_task.specs.Answers.{is_probe, preferred, tried_both, wants_room}
+use Rattle.net_task.specs.Failed.{Causes, FailsAs, Origin, at_pad}
+use Rattle.net_task.specs.Frame.{PartFrame, TaskFrame, Wire, WireAt, frame_in, frame_of, part_frame, wire_of}
+use Rattle.net_task.specs.Fuel.{head_left, moves_left}
+use Rattle.net_task.specs.Ready.{AreReady, IsReady, KeepsLanes}
+use Rattle.net_task.specs.Reasons.{IsBlocked, IsFirst, OneHolds, of_part}
+use Rattle.net_task.specs.Ties.{AreTied, Stands, Ties, nothing_lost}
+use Rattle.net_task.specs.Tries.{IsAtPort, IsFirstOf, IsOfAny, IsOfPart, PadMoves, PadsTell, SettledAt, Spends, StaysSettled, TableStays, TaskFails, TaskTries, TriedAs}
+use Rattle.task_pads.proofs.Lists.{some_at, some_same}
+use Rattle.task_parts.proofs.Lists.{map_get}
+use Rattle.net_task.proofs.GoingOn.{keeps_same}
+use Rattle.net_task.proofs.Places.{unmapped}
+use Rattle.net_task.proofs.Asking.{settled, settled_frame, settled_left, settled_ready}
 
-pub preferred_stuck : (first second : Step) → first ≢ steps.Moved → second ≢ steps.Moved → preferred first second ≢ steps.Moved
-preferred_stuck steps.Moved second f g = absurd (f refl)
-preferred_stuck (steps.NeedsItem lane) steps.Moved f g = absurd (g refl)
-preferred_stuck (steps.NeedsItem lane) (steps.NeedsItem other) f g = f
-preferred_stuck (steps.NeedsItem lane) (steps.NeedsRoom other) f g = f
-preferred_stuck (steps.NeedsItem lane) (steps.AtProbe command) f g = g
-preferred_stuck (steps.NeedsItem lane) steps.Ended f g = f
-preferred_stuck (steps.NeedsRoom lane) steps.Moved f g = absurd (g refl)
-preferred_stuck (steps.NeedsRoom lane) (steps.NeedsItem other) f g = f
-preferred_stuck (steps.NeedsRoom lane) (steps.NeedsRoom other) f g = f
-preferred_stuck (steps.NeedsRoom lane) (steps.AtProbe command) f g = g
-preferred_stuck (steps.NeedsRoom lane) steps.Ended f g = f
-preferred_stuck (steps.AtProbe command) second f g = f
-preferred_stuck steps.Ended steps.Moved f g = absurd (g refl)
-preferred_stuck steps.Ended (steps.NeedsItem other) f g = f
-preferred_stuck steps.Ended (steps.NeedsRoom other) f g = f
-preferred_stuck steps.Ended (steps.AtProbe command) f g = g
-preferred_stuck steps.Ended steps.Ended f g = f
+-- of two reasons the one that is told is one of both
+pub prefers : (P : Step → Type 0) (first second : Step) → P first → P second → P (preferred first second)
+prefers P first second f g = go (is_probe first) (is_probe second) (wants_room first) (wants_room second)
+  where
+    go : (a b c d : Bool) → P (if a then first else if b then second else if c then first else if d then second else first)
+    go true b c d = f
+    go false true c d = g
+    go false false true d = f
+    go false false false true = g
+    go false false false false = f
+
+-- no item moved
+abbrev pub NotMoved : Tried → Type 0
+NotMoved tried.Moved = ⊥
+NotMoved tried.Idle = Unit {0}
+NotMoved (tried.Stuck step) = step ≢ steps.Moved
 
 -- where an item moved, it is the pad that was tried last
-next_moved : (first next : Tried) → (first ≡ tried.Idle) ⊎ IsStuckTry first → tried_both first next ≡ tried.Moved → next ≡ tried.Moved
+next_moved : (first next : Tried) → NotMoved first → tried_both first next ≡ tried.Moved → next ≡ tried.Moved
 next_moved tried.Idle tried.Idle x q = q
-next_moved tried.Moved tried.Idle (inl x) q = absurd cc
-next_moved tried.Moved tried.Idle (inr x) q = absurd x
+next_moved tried.Moved tried.Idle x q = absurd x
 next_moved (tried.Stuck step) tried.Idle x q = absurd cc
 next_moved first tried.Moved x q = refl
 next_moved tried.Idle (tried.Stuck step) x q = absurd cc
 next_moved tried.Moved (tried.Stuck step) x q = absurd cc
 next_moved (tried.Stuck first) (tried.Stuck step) x q = absurd cc
 
--- an item that waits on at a pad does so in each task that is wired alike
-one_then : {E O L : Type 0} {e : elements.Ghosts E} (o : outlets.Ghosts O L) (tells tells' : Option (List Lane)) (m : Moment) (parts parts' : List (Part E O e)) (step : Step) → tells' ≡ tells → wires_in o parts' ≡ wires_in o parts → OneHolds o tells' m parts' step → OneHolds o tells m parts step
-one_then o tells tells' m parts parts' step table wires h = (h.0, subst (λ (ws : List (List Wire)). IsWire ws h.0) wires h.1, subst (λ z. PadHolds z m h.0 step) table h.2)
+-- none of those lets an item pass
+pub told_blocked : (tells : Option (List Lane)) (m : Moment) (frame : TaskFrame) (Was : Wire → Type 0) (answer : Tried) → PadsTell tells m frame Was answer → (wire : Wire) → Was wire → IsBlocked tells m wire
+told_blocked tells m frame Was tried.Moved t wire w = absurd t
+told_blocked tells m frame Was tried.Idle t wire w = inl (t wire w)
+told_blocked tells m frame Was (tried.Stuck step) t wire w = t.1 wire w
 
--- of two reasons the one that is told is one of both
-told_one : {E O L : Type 0} {e : elements.Ghosts E} (o : outlets.Ghosts O L) (tells : Option (List Lane)) (m : Moment) (parts : List (Part E O e)) (first second : Step) → OneHolds o tells m parts first → OneHolds o tells m parts second → OneHolds o tells m parts (preferred first second)
-told_one o tells m parts first second f g = go (is_probe first) (is_probe second)
+pub told_less : (tells : Option (List Lane)) (m : Moment) (frame : TaskFrame) (Was Was' : Wire → Type 0) (answer : Tried) → ((wire : Wire) → Was' wire → Was wire) → PadsTell tells m frame Was answer → PadsTell tells m frame Was' answer
+told_less tells m frame Was Was' tried.Moved f t = t
+told_less tells m frame Was Was' tried.Idle f t = λ wire w. t wire (f wire w)
+told_less tells m frame Was Was' (tried.Stuck step) f t = (t.0, λ wire w. t.1 wire (f wire w))
+
+told_both : (tells : Option (List Lane)) (m : Moment) (frame : TaskFrame) (Was Next : Wire → Type 0) (first next : Tried) → PadsTell tells m frame Was first → PadsTell tells m frame Next next → PadsTell tells m frame (λ wire. Was wire ⊎ Next wire) (tried_both first next)
+told_both tells m frame Was Next tried.Moved next f g = absurd f
+told_both tells m frame Was Next tried.Idle tried.Moved f g = absurd g
+told_both tells m frame Was Next (tried.Stuck one) tried.Moved f g = absurd g
+told_both tells m frame Was Next tried.Idle tried.Idle f g = go
   where
-    go : (a b : Bool) → OneHolds o tells m parts (if a then first else if b then second else first)
-    go true b = f
-    go false true = g
-    go false false = f
+    go : (wire : Wire) → (Was wire ⊎ Next wire) → m.waits wire.number ≡ []
+    go wire (inl w) = f wire w
+    go wire (inr w) = g wire w
+told_both tells m frame Was Next (tried.Stuck one) tried.Idle f g = (f.0, go)
+  where
+    go : (wire : Wire) → (Was wire ⊎ Next wire) → IsBlocked tells m wire
+    go wire (inl w) = f.1 wire w
+    go wire (inr w) = inl (g wire w)
+told_both tells m frame Was Next tried.Idle (tried.Stuck step) f g = (g.0, go)
+  where
+    go : (wire : Wire) → (Was wire ⊎ Next wire) → IsBlocked tells m wire
+    go wire (inl w) = inl (f wire w)
+    go wire (inr w) = g.1 wire w
+told_both tells m frame Was Next (tried.Stuck one) (tried.Stuck step) f g = (prefers (λ z. OneHolds tells m frame z) one step f.0 g.0, go)
+  where
+    go : (wire : Wire) → (Was wire ⊎ Next wire) → IsBlocked tells m wire
+    go wire (inl w) = f.1 wire w
+    go wire (inr w) = g.1 wire w
+
+not_both : (first next : Tried) → NotMoved first → NotMoved next → NotMoved (tried_both first next)
+not_both tried.Moved next f g = absurd f
+not_both tried.Idle tried.Idle f g = tt
+not_both tried.Idle tried.Moved f g = absurd g
+not_both tried.Idle (tried.Stuck step) f g = g
+not_both (tried.Stuck one) tried.Idle f g = f
+not_both (tried.Stuck one) tried.Moved f g = absurd g
+not_both (tried.Stuck one) (tried.Stuck step) f g = prefers (λ z. z ≢ steps.Moved) one step f g
+
+not_moved : (first next answer : Tried) → answer ≡ tried_both first next → answer ≢ tried.Moved → next ≢ tried.Moved
+not_moved first tried.Moved answer same n q = n same
+not_moved first tried.Idle answer same n q = cc
+not_moved first (tried.Stuck step) answer same n q = cc
+
+pub tabled_not : (tells tells' : Option (List Lane)) (answer : Tried) → answer ≢ tried.Moved → TableStays tells tells' answer → NotMoved answer × (tells' ≡ tells)
+tabled_not tells tells' tried.Moved n t = absurd (n refl)
+tabled_not tells tells' tried.Idle n t = (tt, t)
+tabled_not tells tells' (tried.Stuck step) n t = (t.1, t.0)
+
+pub spends_less : (before after : ℕ) (answer : Tried) → Spends before after answer → after ≤ before
+spends_less before after tried.Moved l = omega (arith, l)
+spends_less before after tried.Idle l = l
+spends_less before after (tried.Stuck step) l = l
+
+pub spends_then : (before mid after : ℕ) (answer : Tried) → mid ≤ before → Spends mid after answer → Spends before after answer
+spends_then before mid after tried.Moved l m = omega (arith, l, m)
+spends_then before mid after tried.Idle l m = omega (arith, l, m)
+spends_then before mid after (tried.Stuck step) l m = omega (arith, l, m)
 
 module _ {S E I O L : Type 0} {s : sources.Ghosts S} {e : elements.Ghosts E} {i : inlets.Ghosts I L O} {o : outlets.Ghosts O L} where
   -- none of the pads so far let an item pass
-  pub record SoFar (start tells : Option (List Lane)) (old now : Task S E I O L s e i o) (answer : Tried) : Type 0 where
-    pub ties : (m : Moment) → Ties old m → Ties now m
+  pub record SoFar (start tells : Option (List Lane)) (old now : Task S E I O L s e i o) (Was : Wire → Type 0) (answer : Tried) : Type 0 where
     pub ready : IsReady tells now
-    pub stuck : (answer ≡ tried.Idle) ⊎ IsStuckTry answer
-    pub head : now.head ≡ old.head
-    pub shape : shape_of now.head now.parts.items ≡ shape_of old.head old.parts.items
+    pub left : moves_left now ≤ moves_left old
     pub table : tells ≡ start
-    pub wires : wires_in o now.parts.items ≡ wires_in o old.parts.items
-    pub held : (m : Moment) → Ties old m → WaitsFor o start m old.parts.items answer
+    pub not_moved : NotMoved answer
+    pub head : now.head ≡ old.head
+    pub frame : frame_of now ≡ frame_of old
+    pub ties : (m : Moment) → Ties old m → Ties now m
+    pub tell : (m : Moment) → Ties old m → PadsTell start m (frame_of old) Was answer
 
-  pub still_so : (start tells : Option (List Lane)) (old now : Task S E I O L s e i o) (answer : Tried) → SoFar start tells old now answer → IsStill tells now answer
-  still_so start tells old now tried.Idle f = f.ready
-  still_so start tells old now tried.Moved f = go f.stuck
-    where
-      go : ((tried.Moved ≡ tried.Idle) ⊎ ⊥) → Unit {0}
-      go x = tt
-  still_so start tells old now (tried.Stuck step) f = (f.ready, go f.stuck)
-    where
-      go : ((tried.Stuck step ≡ tried.Idle) ⊎ IsStuckTry (tried.Stuck step)) → IsStuckTry (tried.Stuck step)
-      go (inl x) = absurd cc
-      go (inr x) = x
-
-  pub kept_so : (start tells : Option (List Lane)) (old now : Task S E I O L s e i o) (answer : Tried) → SoFar start tells old now answer → IsKept o start tells old.parts.items now.parts.items answer
-  kept_so start tells old now tried.Idle f = (f.table, f.wires)
-  kept_so start tells old now tried.Moved f = tt
-  kept_so start tells old now (tried.Stuck step) f = (f.table, f.wires)
-
-  pub tries_so : (start tells : Option (List Lane)) (old now : Task S E I O L s e i o) (answer : Tried) → SoFar start tells old now answer → (m : Moment) → Ties old m → AfterTry old now m answer
-  tries_so start tells old now tried.Idle f m a = f.ties m a
-  tries_so start tells old now tried.Moved f m a = absurd (go f.stuck)
-    where
-      go : ((tried.Moved ≡ tried.Idle) ⊎ ⊥) → ⊥
-      go (inl x) = absurd cc
-      go (inr x) = x
-  tries_so start tells old now (tried.Stuck step) f m a = f.ties m a
+  tried_ties : (tells tells' : Option (List Lane)) (frame : TaskFrame) (m : Moment) (old now : Task S E I O L s e i o) (Where : ℕ → Type 0) (Was : Wire → Type 0) (answer : Tried) → answer ≢ tried.Moved
+      → TriedAs i o tells tells' frame m old.head now.head now.parts.items Where Was answer → Ties now m × PadsTell tells m frame Was answer
+  tried_ties tells tells' frame m old now Where Was tried.Moved n t = absurd (n refl)
+  tried_ties tells tells' frame m old now Where Was tried.Idle n t = t
+  tried_ties tells tells' frame m old now Where Was (tried.Stuck step) n t = t
 
   -- one more pad was tried, and no item moved
-  pub more_so : (start tells tells' : Option (List Lane)) (old now after : Task S E I O L s e i o) (first next answer : Tried) → SoFar start tells old now first → ((m : Moment) → Ties now m → AfterTry now after m next) → IsStill tells' after next
-      → after.head ≡ now.head → shape_of after.head after.parts.items ≡ shape_of now.head now.parts.items → IsKept o tells tells' now.parts.items after.parts.items next → ((m : Moment) → Ties now m → WaitsFor o tells m now.parts.items next)
-      → answer ≡ tried_both first next → answer ≢ tried.Moved → SoFar start tells' old after answer
-  more_so start tells tells' old now after first tried.Idle answer f ties ready head shape kept held same n = record {
-    ties = λ m a. ties m (f.ties m a);
-    ready = ready;
-    stuck = subst (λ t. (t ≡ tried.Idle) ⊎ IsStuckTry t) (sym same) f.stuck;
-    head = head ∙ f.head;
-    shape = shape ∙ f.shape;
-    table = kept.0 ∙ f.table;
-    wires = kept.1 ∙ f.wires;
-    held = λ m a. subst (WaitsFor o start m old.parts.items) (sym same) (f.held m a);
-  }
-  more_so start tells tells' old now after first tried.Moved answer f ties ready head shape kept held same n = absurd (n same)
-  more_so start tells tells' old now after first (tried.Stuck step) answer f ties ready head shape kept held same n = record {
-    ties = λ m a. ties m (f.ties m a);
-    ready = ready.0;
-    stuck = inr (subst IsStuckTry (sym same) (go first f.stuck));
-    head = head ∙ f.head;
-    shape = shape ∙ f.shape;
-    table = kept.0 ∙ f.table;
-    wires = kept.1 ∙ f.wires;
-    held = λ m a. subst (WaitsFor o start m old.parts.items) (sym same) (wait first m (f.held m a) (one_then o start tells m old.parts.items now.parts.items step f.table f.wires (held m (f.ties m a))));
-  }
-    where
-      go : (t : Tried) → ((t ≡ tried.Idle) ⊎ IsStuckTry t) → IsStuckTry (tried_both t (tried.Stuck step))
-      go tried.Idle x = ready.1
-      go tried.Moved x = ready.1
-      go (tried.Stuck one) (inl x) = absurd cc
-      go (tried.Stuck one) (inr x) = preferred_stuck one step x ready.1
-
-      wait : (t : Tried) (m : Moment) → WaitsFor o start m old.parts.items t → OneHolds o start m old.parts.items step → WaitsFor o start m old.parts.items (tried_both t (tried.Stuck step))
-      wait tried.Idle m x y = y
-      wait tried.Moved m x y = y
-      wait (tried.Stuck one) m x y = told_one o start m old.parts.items one step x y
+  pub more_so : (start tells tells' : Option (List Lane)) (old now after : Task S E I O L s e i o) (Was Next Both : Wire → Type 0) (Where : Moment → ℕ → Type 0) (first next answer : Tried) → SoFar start tells old now Was first → TaskTries tells tells' now after Where Next next
+      → frame_of after ≡ frame_of now → after.head ≡ now.head → answer ≡ tried_both first next → answer ≢ tried.Moved → ((wire : Wire) → Both wire → Was wire ⊎ Next wire) → SoFar start tells' old after Both answer
+  more_so start tells tells' old now after Was Next Both Where first next answer f t frame head same n split =
+      let nn = not_moved first next answer same n in
+      let z = tabled_not tells tells' next nn t.table in
+      record {
+        ready = t.ready;
+        left = let a = f.left in let b = spends_less (moves_left now) (moves_left after) next t.spends in omega (arith, a, b);
+        table = z.1 ∙ f.table;
+        not_moved = subst NotMoved (sym same) (not_both first next f.not_moved z.0);
+        head = head ∙ f.head;
+        frame = frame ∙ f.frame;
+        ties = λ m a. (tried_ties tells tells' (frame_of now) m now after (Where m) Next next nn (t.tries m (f.ties m a))).0;
+        tell = λ m a. subst (PadsTell start m (frame_of old) Both) (sym same)
+            (told_less start m (frame_of old) (λ wire. Was wire ⊎ Next wire) Both (tried_both first next) split
+            (told_both start m (frame_of old) Was Next first next (f.tell m a)
+            (subst (λ k. PadsTell k m (frame_of old) Next next) f.table
+            (subst (λ (fr : TaskFrame). PadsTell tells m fr Next next) f.frame (tried_ties tells tells' (frame_of now) m now after (Where m) Next next nn (t.tries m (f.ties m a))).1))));
+      }
 
   -- one more pad was tried, and its item moved
-  pub moved_so : (start tells : Option (List Lane)) (old now after : Task S E I O L s e i o) (first next answer : Tried) → SoFar start tells old now first → ((m : Moment) → Ties now m → AfterTry now after m next) → answer ≡ tried_both first next → answer ≡ tried.Moved
-      → (m : Moment) → Ties old m → AfterTry old after m answer
-  moved_so start tells old now after first next answer f ties same moved m a =
-      subst (AfterTry old after m) (next_moved first next f.stuck (sym same ∙ moved) ∙ sym moved)
-      (subst (λ (h : Head S I O s). TriedAs i o (given_in h) m after.head after.parts.items next) f.head (ties m (f.ties m a)))
+  pub moved_so : (start tells tells' : Option (List Lane)) (old now after : Task S E I O L s e i o) (Was Next All : Wire → Type 0) (Where First : Moment → ℕ → Type 0) (first next answer : Tried) → SoFar start tells old now Was first → TaskTries tells tells' now after Where Next next
+      → answer ≡ tried_both first next → answer ≡ tried.Moved → ((m : Moment) → PadsTell start m (frame_of old) Was first → (p : ℕ) → Where m p → First m p) → TaskTries start tells' old after First All answer
+  moved_so start tells tells' old now after Was Next All Where First first next answer f t same moved lift =
+      let q = next_moved first next f.not_moved (sym same ∙ moved) in
+      subst (TaskTries start tells' old after First All) (sym moved)
+      (record {
+        ready = t.ready;
+        spends = let a = f.left in let b = subst (Spends (moves_left now) (moves_left after)) q t.spends in omega (arith, a, b);
+        table = tt;
+        lanes = subst (λ k. KeepsLanes (frame_of old) k tells') f.table (subst (λ (fr : TaskFrame). KeepsLanes fr tells tells') f.frame t.lanes);
+        tries = λ m a. go m a (subst (TriedAs i o tells tells' (frame_of now) m now.head after.head after.parts.items (Where m) Next) q (t.tries m (f.ties m a)));
+      })
+    where
+      go : (m : Moment) → Ties old m → PadMoves i o tells tells' (frame_of now) m now.head after.head after.parts.items (Where m) → PadMoves i o start tells' (frame_of old) m old.head after.head after.parts.items (First m)
+      go m a w =
+          let z = subst (λ k. PadMoves i o k tells' (frame_of old) m old.head after.head after.parts.items (Where m)) f.table
+          (subst (λ (fr : TaskFrame). PadMoves i o tells tells' fr m old.head after.head after.parts.items (Where m)) f.frame
+          (subst (λ (h : Head S I O s). PadMoves i o tells tells' (frame_of now) m h after.head after.parts.items (Where m)) f.head w)) in
+          record { pad = z.pad; act = z.act; next = z.next; move = z.move; at = z.at; given = z.given; lanes = z.lanes; tied = z.tied; first = lift m (f.tell m a) z.pad z.first }
 
-  pub fails_so : (start tells : Option (List Lane)) (old now after : Task S E I O L s e i o) (answer : Tried) (fault : TaskFault) → SoFar start tells old now answer → (m : Moment) → Ties old m → ((m : Moment) → Ties now m → Failed now after m fault) → Failed old after m fault
-  fails_so start tells old now after answer fault f m a g = subst (λ (h : Head S I O s). FailsAs i o m h after.head after.parts.items fault) f.head (g m (f.ties m a))
+  -- one more pad was tried, and met a fault
+  pub fails_so : (start tells : Option (List Lane)) (old now after : Task S E I O L s e i o) (Was : Wire → Type 0) (Where First : Moment → ℕ → Type 0) (answer : Tried) (fault : TaskFault) → SoFar start tells old now Was answer → TaskFails now after Where fault
+      → ((m : Moment) → PadsTell start m (frame_of old) Was answer → (p : ℕ) → Where m p → First m p) → TaskFails old after First fault
+  fails_so start tells old now after Was Where First answer fault f g lift = record {
+    cause = subst (λ (h : Head S I O s). Causes o (frame_of old) h after.head after.parts.items fault) f.head (subst (λ (fr : TaskFrame). Causes o fr now.head after.head after.parts.items fault) f.frame g.cause);
+    fails = λ m a.
+        let z = g.fails m (f.ties m a) in
+        record { origin = z.origin; fails = subst (λ (h : Head S I O s). FailsAs i o m h after.head after.parts.items z.origin fault) f.head z.fails; first = go m a z.origin z.first };
+  }
+    where
+      go : (m : Moment) → Ties old m → (origin : Origin) → ((fault ≡ OutOfMemory) ⊎ ((p : ℕ) × (origin ≡ at_pad p) × Where m p)) → (fault ≡ OutOfMemory) ⊎ ((p : ℕ) × (origin ≡ at_pad p) × First m p)
+      go m a origin (inl x) = inl x
+      go m a origin (inr x) = inr (x.0, x.1, lift m (f.tell m a) x.0 x.2)
+
+  -- all were tried
+  pub done_so : (start tells : Option (List Lane)) (old now : Task S E I O L s e i o) (Was All : Wire → Type 0) (First : Moment → ℕ → Type 0) (answer : Tried) → SoFar start tells old now Was answer → ((wire : Wire) → All wire → Was wire) → TaskTries start tells old now First All answer
+  done_so start tells old now Was All First answer f less = record {
+    ready = f.ready;
+    spends = spent answer f.not_moved f.left;
+    table = tabled answer f.not_moved f.table;
+    lanes = keeps_same (frame_of old) start tells f.table;
+    tries = λ m a. tries m answer f.not_moved (f.ties m a) (told_less start m (frame_of old) Was All answer less (f.tell m a));
+  }
+    where
+      spent : (t : Tried) → NotMoved t → moves_left now ≤ moves_left old → Spends (moves_left old) (moves_left now) t
+      spent tried.Moved n l = absurd n
+      spent tried.Idle n l = l
+      spent (tried.Stuck step) n l = l
+
+      tabled : (t : Tried) → NotMoved t → tells ≡ start → TableStays start tells t
+      tabled tried.Moved n q = absurd n
+      tabled tried.Idle n q = q
+      tabled (tried.Stuck step) n q = (q, n)
+
+      tries : (m : Moment) (t : Tried) → NotMoved t → Ties now m → PadsTell start m (frame_of old) All t → TriedAs i o start tells (frame_of old) m old.head now.head now.parts.items (First m) All t
+      tries m tried.Moved n a b = absurd n
+      tries m tried.Idle n a b = (a, b)
+      tries m (tried.Stuck step) n a b = (a, b)
+
+  -- none was tried yet, and what an element put out went to its pads
+  pub settled_so : (tells : Option (List Lane)) (old now : Task S E I O L s e i o) (place : ℕ) (Was : Wire → Type 0) → now.head ≡ old.head → Settles old.parts.items now.parts.items place → map part_shape now.parts.items ≡ map part_shape old.parts.items → IsReady tells old
+      → ((wire : Wire) → Was wire → ⊥) → SoFar tells tells old now Was tried.Idle
+  settled_so tells old now place Was head t shapes ready none = record {
+    ready = subst (λ (h : Head S I O s). AreReady i o tells h now.parts.items) (sym head) (settled_ready i o tells old.head old.parts.items now.parts.items place t shapes ready);
+    left = let a = settled_left old.parts.items now.parts.items place t shapes in let b = ap (λ (h : Head S I O s). head_left i h) head in omega (arith, a, b);
+    table = refl;
+    not_moved = tt;
+    head = head;
+    frame = ap (λ (h : Head S I O s). frame_in o h now.parts.items) head ∙ settled_frame o old.head old.parts.items now.parts.items place t shapes;
+    ties = λ m a. subst (λ (h : Head S I O s). AreTied i o (Stands m) nothing_lost m h now.parts.items) (sym head) (settled i o old.head old.parts.items now.parts.items place t shapes m a);
+    tell = λ m a wire w. absurd (none wire w);
+  }
+
+  pub none_so : (tells : Option (List Lane)) (old : Task S E I O L s e i o) (Was : Wire → Type 0) → IsReady tells old → ((wire : Wire) → Was wire → ⊥) → SoFar tells tells old old Was tried.Idle
+  none_so tells old Was ready none = record { ready = ready; left = omega arith; table = refl; not_moved = tt; head = refl; frame = refl; ties = λ m a. a; tell = λ m a wire w. absurd (none wire w) }
+
+-- the pads of an element below a port, and those of the elements before a place
+abbrev pub WasBelow : TaskFrame → ℕ → ℕ → Wire → Type 0
+WasBelow frame place port wire = (k : ℕ) × (k < port) × WireAt frame place k wire
+
+abbrev pub WasBefore : TaskFrame → ℕ → Wire → Type 0
+WasBefore frame place wire = (j : ℕ) × (k : ℕ) × (j < place) × WireAt frame j k wire
+
+pub none_below : (frame : TaskFrame) (place : ℕ) (wire : Wire) → WasBelow frame place 0 wire → ⊥
+none_below frame place wire w = let z = w.1 in omega (arith, z)
+
+pub none_before : (frame : TaskFrame) (wire : Wire) → WasBefore frame 0 wire → ⊥
+none_before frame wire w = let z = w.2 in omega (arith, z)
+
+pub one_below : (old now : TaskFrame) (place port : ℕ) → now ≡ old → (wire : Wire) → WasBelow old place (port + 1) wire → WasBelow old place port wire ⊎ WireAt now place port wire
+one_below old now place port same wire w = go (cases_eq w.0 port)
+  where
+    go : ((w.0 ≡ port) ⊎ (w.0 ≡ port → ⊥)) → WasBelow old place port wire ⊎ WireAt now place port wire
+    go (inl q) = inr (subst (λ k. WireAt now place k wire) q (subst (λ (f : TaskFrame). WireAt f place w.0 wire) (sym same) w.2))
+    go (inr n) = inl (w.0, (let z = w.1 in omega (arith, z, n)), w.2)
+
+pub one_before : (old now : TaskFrame) (place : ℕ) → now ≡ old → (wire : Wire) → WasBefore old (place + 1) wire → WasBefore old place wire ⊎ IsOfPart now place wire
+one_before old now place same wire w = go (cases_eq w.0 place)
+  where
+    go : ((w.0 ≡ place) ⊎ (w.0 ≡ place → ⊥)) → WasBefore old place wire ⊎ IsOfPart now place wire
+    go (inl q) = inr (w.1, subst (λ k. WireAt now k w.1 wire) q (subst (λ (f : TaskFrame). WireAt f w.0 w.1 wire) (sym same) w.3))
+    go (inr n) = inl (w.0, w.1, (let z = w.2 in omega (arith, z, n)), w.3)
+
+-- the first of an element, and of all
+pub first_of : (tells : Option (List Lane)) (old now : TaskFrame) (m : Moment) (place port : ℕ) (answer : Tried) → now ≡ old → PadsTell tells m old (WasBelow old place port) answer → (p : ℕ) → IsAtPort now place port p → IsFirstOf tells m old place p
+first_of tells old now m place port answer same t p w =
+    (port, w.0, subst (λ (f : TaskFrame). WireAt f place port w.0) same w.1, w.2, λ k other low at. told_blocked tells m old (WasBelow old place port) answer t other (k, low, at))
+
+pub first_all : (tells mid : Option (List Lane)) (old now : TaskFrame) (m : Moment) (place : ℕ) (answer : Tried) → now ≡ old → mid ≡ tells → PadsTell tells m old (WasBefore old place) answer → (p : ℕ) → IsFirstOf mid m now place p → IsFirst tells m old p
+first_all tells mid old now m place answer same table t p w =
+    let z = subst (λ k. IsFirstOf k m old place p) table (subst (λ (f : TaskFrame). IsFirstOf mid m f place p) same w) in
+    of_part place z.0 z.1 z.2 z.3 z.4 (λ j k other low at. told_blocked tells m old (WasBefore old place) answer t other (j, k, low, at))
 
 -- the element at a place has so many pads
 pub record PadsAre {E O : Type 0} {e : elements.Ghosts E} (parts : List (Part E O e)) (place count : ℕ) : Type 0 where
@@ -175,17 +296,41 @@ there [] k w = absurd (omega arith)
 there (x ∷ xs) zero w = record { item = x; at = refl }
 there (x ∷ xs) (suc k) w = let t = there xs k (omega arith) in record { item = t.item; at = t.at }
 
-module _ {E O : Type 0} {e : elements.Ghosts E} where
+module _ {E O L : Type 0} {e : elements.Ghosts E} (o : outlets.Ghosts O L) where
   -- a try changes no element's pads in number
-  pub pads_are : (parts parts' : List (Part E O e)) (place count : ℕ) → map part_shape parts' ≡ map part_shape parts → PadsAre parts place count → PadsAre parts' place count
-  pads_are parts parts' place count shapes p =
-      let w = unmapped part_shape parts' place (part_shape p.part) (ap (λ (zs : List PartShape). slice_get zs place) shapes ∙ mapped part_shape parts place p.part p.at) in
+  pub pads_are : (parts parts' : List (Part E O e)) (place count : ℕ) → map (part_frame o) parts' ≡ map (part_frame o) parts → PadsAre parts place count → PadsAre parts' place count
+  pads_are parts parts' place count frames p =
+      let w = unmapped (part_frame o) parts' place (part_frame o p.part) (ap (λ (zs : List PartFrame). slice_get zs place) frames ∙ map_get (part_frame o) parts place p.part p.at) in
       record {
         part = w.item;
         at = w.at;
-        many = sym (length-map w.item.pads.items pad_shape) ∙ ap (λ (z : PartShape). length z.pads) w.is ∙ length-map p.part.pads.items pad_shape ∙ p.many;
+        many = sym (length-map w.item.pads.items (wire_of o)) ∙ ap (λ (z : PartFrame). length z.wires) w.is ∙ length-map p.part.pads.items (wire_of o) ∙ p.many;
       }
 
+  -- a port of an element is below their number
+  pub below_all : (parts : List (Part E O e)) (frame : TaskFrame) (place count : ℕ) → map (part_frame o) parts ≡ frame.parts → PadsAre parts place count → (wire : Wire) → IsOfPart frame place wire → WasBelow frame place count wire
+  below_all parts frame place count frames p wire w =
+      let at = w.1 in
+      let same : at.part ≡ part_frame o p.part = some_same (sym at.at ∙ ap (λ (zs : List PartFrame). slice_get zs place) (sym frames) ∙ map_get (part_frame o) parts place p.part p.at) in
+      let low = slice_get_within at.part.wires w.0 wire at.pad_at in
+      let a = ap (λ (z : PartFrame). length z.wires) same in
+      let b = length-map p.part.pads.items (wire_of o) in
+      let c = p.many in
+      (w.0, omega (arith, low, a, b, c), at)
+
+  pub before_all : (parts : List (Part E O e)) (frame : TaskFrame) (place : ℕ) → map (part_frame o) parts ≡ frame.parts → length parts ≤ place → (wire : Wire) → IsOfAny frame wire → WasBefore frame place wire
+  before_all parts frame place frames many wire w =
+      let at = w.2 in
+      let low = slice_get_within frame.parts w.0 at.part at.at in
+      let a = ap (λ (zs : List PartFrame). length zs) frames in
+      let b = length-map parts (part_frame o) in
+      (w.0, w.1, omega (arith, low, a, b, many), at)
+
+  -- a try leaves as many elements as there were
+  pub same_many : (parts parts' : List (Part E O e)) → map (part_frame o) parts' ≡ map (part_frame o) parts → length parts' ≡ length parts
+  same_many parts parts' frames = sym (length-map parts' (part_frame o)) ∙ ap (λ (zs : List PartFrame). length zs) frames ∙ length-map parts (part_frame o)
+
+module _ {E O : Type 0} {e : elements.Ghosts E} where
   -- each number below it is one of a pad
   pub has_port : (parts : List (Part E O e)) (place count port : ℕ) → PadsAre parts place count → port < count → HasPort parts place port
   has_port parts place count port p w =
@@ -193,43 +338,24 @@ module _ {E O : Type 0} {e : elements.Ghosts E} where
       let t = there p.part.pads.items port (omega (arith, z)) in
       record { part = p.part; at = p.at; pad = t.item; pad_at = t.at }
 
-abbrev task_shape : HeadShape → List PartShape → TaskShape
-task_shape head parts = record { head = head; parts = parts }
-
--- elements of one shape have as many pads
-pub same_pads : {E O : Type 0} {e : elements.Ghosts E} (was is : Part E O e) → part_shape is ≡ part_shape was → length is.pads.items ≡ length was.pads.items
-same_pads was is shape = sym (length-map is.pads.items pad_shape) ∙ ap (λ (z : PartShape). length z.pads) shape ∙ length-map was.pads.items pad_shape
-
-module _ {S E I O L : Type 0} {s : sources.Ghosts S} {e : elements.Ghosts E} (i : inlets.Ghosts I L O) (o : outlets.Ghosts O L) where
-  -- what was put out goes to pads, and each lane is of the table as before
-  settled_ready : (tells : Option (List Lane)) (head : Head S I O s) (parts parts' : List (Part E O e)) (place : ℕ) → Settles parts parts' place → AreReady i o tells head parts → AreReady i o tells head parts'
-  settled_ready tells head parts parts' place t a = record {
-    parts_ready = each_set parts parts' place t.is (λ k p. PartReady o tells p) (λ k p. PartReady o tells p) t.set.set a.parts_ready (λ k p n at ready. ready)
-        (λ port pad at. let g = t.settled.pads port pad at in
-        subst (EndReady tells) (sym (ap (λ (r : Rest O). end_in o r.behind) g.rest)) (a.parts_ready place t.was t.set.at port g.was g.at));
-    head_ready = a.head_ready;
-  }
-
-  pub settled_so : (tells : Option (List Lane)) (old now : Task S E I O L s e i o) (place : ℕ) → now.head ≡ old.head → Settles old.parts.items now.parts.items place → map part_shape now.parts.items ≡ map part_shape old.parts.items → IsReady tells old → SoFar tells tells old now tried.Idle
-  settled_so tells old now place head t shapes ready = record {
-    ties = λ m a. subst (λ (h : Head S I O s). AreTied i o (Stands m) nothing_lost m h now.parts.items) (sym head) (settled i o old.head old.parts.items now.parts.items place t shapes m a);
-    ready = subst (λ (h : Head S I O s). AreReady i o tells h now.parts.items) (sym head) (settled_ready tells old.head old.parts.items now.parts.items place t ready);
-    stuck = inl refl;
-    head = head;
-    table = refl;
-    wires = set_wires o old.parts.items now.parts.items place t.was t.is t.set (grown_wires o t.was t.is [] t.settled.pads (same_pads t.was t.is (shape_at part_shape old.parts.items now.parts.items shapes place t.was t.is t.set.at (ap (λ (ps : List (Part E O e)). slice_get ps place) t.set.set ∙ set_at old.parts.items place t.was t.is t.set.at))));
-    held = λ m a. tt;
-    shape = ap (λ (h : Head S I O s). shape_of h now.parts.items) head ∙ ap (λ (ps : List PartShape). task_shape (head_shape old.head) ps) shapes;
-  }
-
-module _ {E O : Type 0} {e : elements.Ghosts E} where
   -- the pads of the element at a place are counted
   pub pads_counted : (parts : List (Part E O e)) (place : ℕ) (one : Part E O e) → place < length parts → one ≡ get_or parts place one → PadsAre parts place (length one.pads.items)
   pads_counted parts place one w same = record { part = one; at = some_at parts place one w same; many = refl }
 
-  -- a try leaves as many elements as there were
-  pub same_many : (parts parts' : List (Part E O e)) → map part_shape parts' ≡ map part_shape parts → length parts ≡ length parts'
-  same_many parts parts' shapes = sym (length-map parts part_shape) ∙ ap length (sym shapes) ∙ length-map parts' part_shape
-
   pub parts_within : (parts parts' : List (Part E O e)) (place : ℕ) → map part_shape parts' ≡ map part_shape parts → place < length parts → place < length parts'
-  parts_within parts parts' place shapes w = subst (λ n. place < n) (same_many parts parts' shapes) w
+  parts_within parts parts' place shapes w =
+      let a = length-map parts part_shape in
+      let b = length-map parts' part_shape in
+      let c = ap length shapes in
+      omega (arith, a, b, c, w)
+
+  -- what an element put out stays settled
+  pub settled_then : (parts : List (Part E O e)) (place : ℕ) (first next answer : Tried) → answer ≡ tried_both first next → answer ≢ tried.Moved → StaysSettled parts place next → SettledAt parts place
+  settled_then parts place first tried.Moved answer same n t = absurd (n same)
+  settled_then parts place first tried.Idle answer same n t = t
+  settled_then parts place first (tried.Stuck step) answer same n t = t
+
+-- a call that did not fail promises what it promises where it succeeds
+pub on_ok : {T X : Type 0} (r : Result T X) (P : Type 0) → is_err r ≡ false → OnOk r P → P
+on_ok (Ok t) P q p = p
+on_ok (Err x) P q p = absurd cc

@@ -1,9 +1,9 @@
--- What it makes of the moment that the element which a head feeds takes its next item.
+-- What it does to a task that the element which its head feeds takes its next item.
 use Rattle.std.proofs.Common.{◌≡◌, ◌⊎◌, ◌++◌, ℕ, true, false, eqb, if◌then◌else◌, List, [], ◌∷◌, map, Some, Option, refl, sym, ap, ◌∙◌, subst, inl, inr, append-nil}
 use Rattle.std.specs.Prelude.{slice_get, slice_set, Result, Ok, Err}
 use Rattle.std.proofs.lemmas.Bool.Decides.{eqb_tells}
 use Rattle.std.proofs.lemmas.Bool.{cases_eq}
-use Rattle.flow_model.specs.Item.{Item}
+use Rattle.flow_model.specs.Item.{Item, is_flush_stop}
 use Rattle.flow_model.specs.Call.{Call, Feed}
 use Rattle.lane_core.specs.Lane.{Lane}
 use Rattle.lane_core.specs.declared.ends.Inlet as inlets
@@ -31,14 +31,16 @@ use Rattle.task_parts.specs.Found.{IsAt}
 use Rattle.task_parts.specs.Shape.{part_shape}
 use Rattle.task_parts.specs.Part.{PartFed, PartFell}
 use Rattle.task_parts.specs.Moved.{PartSet}
-use Rattle.task_parts.specs.Passing.{RowSet, HasNoRow, AsksRow, AfterTake, RowFeeds, WantsNone, WantsOne, TakesNext}
+use Rattle.task_parts.specs.Passing.{RowAsked, RowSet, AsksRow, AfterTake, RowFeeds, WantsNone, WantsOne, TakesNext}
 use Rattle.net_task.specs.Ties.{TookAt, PartsTied, RowTied, RowsTied, AreTied, Stands, nothing_lost}
-use Rattle.net_task.specs.Moves.{flush_taken, takes as takes_one, Advances, TriedAs}
-use Rattle.net_task.specs.Failed.{StandsOrFell, Left, Refuses, FailsAs, by_inlet, refused, lost_at}
-use Rattle.net_task.proofs.Lists.{some_same, set_at, set_there}
+use Rattle.net_task.specs.Moves.{takes as takes_one, taking}
+use Rattle.net_task.specs.Failed.{StandsOrFell, Left, Refuses, at_head, by_inlet, lost_at}
+use Rattle.task_pads.proofs.Lists.{some_same, set_there}
+use Rattle.task_parts.proofs.Lists.{set_at}
 use Rattle.net_task.proofs.Tied.{none_leads_same, parts_set, part_known, part_fell, took_other, took_more}
 use Rattle.net_task.proofs.Fed.{now, out_now, fed_parts, fed_answers}
 use Rattle.net_task.proofs.Handing.{shape_at}
+use Rattle.net_task.proofs.Passing.{MovesOn}
 use Rattle.net_task.proofs.Trying.{ok_same, not_both}
 
 lost_here : (port : ℕ) (x : Item) → lost_at port x port ≡ x ∷ []
@@ -55,29 +57,66 @@ lost_else port x k n = go (eqb_tells k port)
     go (inl t) = absurd (n t.1)
     go (inr t) = rw t.0 refl
 
--- what an element took, or refused, by the answer
-pub record RowTook {E O : Type 0} {e : elements.Ghosts E} (parts parts' : List (Part E O e)) (to port : ℕ) (x : Item) (answer : Tried) : Type 0 where
-  pub moved : answer ≡ tried.Moved
-  pub was : Part E O e
-  pub is : Part E O e
-  pub set : PartSet parts parts' to was is
-  pub fed : PartFed was is port x
+-- What was taken of a row, or was not, by the answer.
+pub data TookBy {E I O L : Type 0} {e : elements.Ghosts E} (i : inlets.Ghosts I L O) (head head' : InletHead I) (parts parts' : List (Part E O e)) (part : Part E O e) (to : ℕ) (tells tells' : Option (List Lane)) (r : Result Tried TaskFault) (answer : Tried) : Type 0 where
+  took_none : answer ≡ tried.Idle → WantsNone i head head' parts parts' part tells tells' r → TookBy i head head' parts parts' part to tells tells' r answer
+  took_empty : (port lane : ℕ) → answer ≡ tried.Stuck (steps.NeedsItem lane) → e.wanted part.element ≡ Some port → RowAsked i head head' port tells tells' (takes.Empty lane) → parts' ≡ parts → TookBy i head head' parts parts' part to tells tells' r answer
+  took_flush : (port : ℕ) (x : Item) → answer ≡ tried.Moved → AsksRow i head head' port tells tells' (takes.Item x) → is_flush_stop x ≡ true → parts' ≡ parts → TookBy i head head' parts parts' part to tells tells' r answer
+  took_item : (port : ℕ) (x : Item) → answer ≡ tried.Moved → AsksRow i head head' port tells tells' (takes.Item x) → (was is : Part E O e) → PartSet parts parts' to was is → PartFed was is port x → TookBy i head head' parts parts' part to tells tells' r answer
 
-pub record RowRefused {E O : Type 0} {e : elements.Ghosts E} (parts parts' : List (Part E O e)) (to port : ℕ) (x : Item) (fault : TaskFault) : Type 0 where
+pub record Refused {E I O L : Type 0} {e : elements.Ghosts E} (i : inlets.Ghosts I L O) (head head' : InletHead I) (parts parts' : List (Part E O e)) (to : ℕ) (tells tells' : Option (List Lane)) (fault : TaskFault) : Type 0 where
+  pub port : ℕ
+  pub item : Item
+  pub asks : AsksRow i head head' port tells tells' (takes.Item item)
   pub refusal : Refusal
   pub was : Part E O e
   pub is : Part E O e
   pub set : PartSet parts parts' to was is
-  pub fell : PartFell was is port x refusal
+  pub fell : PartFell was is port item refusal
   pub named : fault ≡ refusal_fault was.number refusal
 
-row_took : {E O : Type 0} {e : elements.Ghosts E} (parts parts' : List (Part E O e)) (to port : ℕ) (x : Item) (r : Result Tried TaskFault) (answer : Tried) → r ≡ Ok answer → RowFeeds parts parts' to port x r → RowTook parts parts' to port x answer
-row_took parts parts' to port x (Ok given) answer q f = let same : answer ≡ given = cc in record { moved = same ∙ f.0; was = f.1; is = f.2; set = f.3; fed = f.4 }
-row_took parts parts' to port x (Err given) answer q f = absurd cc
+module _ {E I O L : Type 0} {e : elements.Ghosts E} (i : inlets.Ghosts I L O) (head head' : InletHead I) (parts parts' : List (Part E O e)) (tells tells' : Option (List Lane)) (r : Result Tried TaskFault)
+    (t : TakesNext i head head' parts parts' tells tells' r) where
+  asked_item : (port : ℕ) (x : Item) → RowAsked i head head' port tells tells' (takes.Item x) → AsksRow i head head' port tells tells' (takes.Item x)
+  asked_item port x (inl k) = k
+  asked_item port x (inr k) = absurd (let z = k.empty in cc)
 
-row_refused : {E O : Type 0} {e : elements.Ghosts E} (parts parts' : List (Part E O e)) (to port : ℕ) (x : Item) (r : Result Tried TaskFault) (fault : TaskFault) → r ≡ Err fault → RowFeeds parts parts' to port x r → RowRefused parts parts' to port x fault
-row_refused parts parts' to port x (Ok given) fault q f = absurd cc
-row_refused parts parts' to port x (Err given) fault q f = let same : fault ≡ given = cc in record { refusal = f.0; was = f.1; is = f.2; set = f.3; fell = f.4; named = same ∙ f.5 }
+  abbrev Took_as : Tried → Type 0
+  Took_as answer = TookBy i head head' parts parts' t.fed.part t.to tells tells' r answer
+
+  pub took_by : (answer : Tried) → r ≡ Ok answer → Took_as answer
+  took_by answer q = go t.next
+    where
+      item : (port : ℕ) (x : Item) (z : Result Tried TaskFault) → z ≡ Ok answer → RowAsked i head head' port tells tells' (takes.Item x) → RowFeeds parts parts' t.to port x z → Took_as answer
+      item port x (Ok given) y k f = let same : answer ≡ given = cc in took_item port x (same ∙ f.0) (asked_item port x k) f.1 f.2 f.3 f.4
+      item port x (Err fault) y k f = absurd cc
+
+      one : (port : ℕ) (taken : Taken) → e.wanted t.fed.part.element ≡ Some port → RowAsked i head head' port tells tells' taken → AfterTake i parts parts' t.to port taken r → Took_as answer
+      one port (takes.Empty lane) w k f = took_empty port lane (sym (ok_same r (tried.Stuck (steps.NeedsItem lane)) answer f.1 q)) w k f.0
+      one port (takes.Item x) w k (inl f) = took_flush port x (sym (ok_same r tried.Moved answer f.2 q)) (asked_item port x k) f.0 f.1
+      one port (takes.Item x) w k (inr f) = item port x r q k f.1
+
+      go : (WantsNone i head head' parts parts' t.fed.part tells tells' r ⊎ WantsOne i head head' parts parts' t.fed.part t.to tells tells' r) → Took_as answer
+      go (inl w) = took_none (sym (ok_same r tried.Idle answer w.idle q)) w
+      go (inr w) = one w.port w.taken w.wanted w.asks w.after
+
+  pub refused_by : (fault : TaskFault) → r ≡ Err fault → Refused i head head' parts parts' t.to tells tells' fault
+  refused_by fault q = go t.next
+    where
+      item : (port : ℕ) (x : Item) (z : Result Tried TaskFault) → z ≡ Err fault → RowAsked i head head' port tells tells' (takes.Item x) → RowFeeds parts parts' t.to port x z → Refused i head head' parts parts' t.to tells tells' fault
+      item port x (Ok given) y k f = absurd cc
+      item port x (Err given) y k f =
+          let same : fault ≡ given = cc in
+          record { port = port; item = x; asks = asked_item port x k; refusal = f.0; was = f.1; is = f.2; set = f.3; fell = f.4; named = same ∙ f.5 }
+
+      one : (port : ℕ) (taken : Taken) → RowAsked i head head' port tells tells' taken → AfterTake i parts parts' t.to port taken r → Refused i head head' parts parts' t.to tells tells' fault
+      one port (takes.Empty lane) k f = not_both r (tried.Stuck (steps.NeedsItem lane)) fault f.1 q
+      one port (takes.Item x) k (inl f) = not_both r tried.Moved fault f.2 q
+      one port (takes.Item x) k (inr f) = item port x r q k f.1
+
+      go : (WantsNone i head head' parts parts' t.fed.part tells tells' r ⊎ WantsOne i head head' parts parts' t.fed.part t.to tells tells' r) → Refused i head head' parts parts' t.to tells tells' fault
+      go (inl w) = not_both r tried.Idle fault w.idle q
+      go (inr w) = one w.port w.taken w.asks w.after
 
 module _ {S E I O L : Type 0} {s : sources.Ghosts S} {e : elements.Ghosts E} (i : inlets.Ghosts I L O) (o : outlets.Ghosts O L) (head head' : InletHead I) (parts parts' : List (Part E O e)) (to : ℕ) (at : IsAt parts head.number to)
     (shapes : map part_shape parts' ≡ map part_shape parts) (m : Moment) (a : AreTied {S = S} {s = s} i o (Stands m) nothing_lost m (Inlets head) parts) where
@@ -85,7 +124,7 @@ module _ {S E I O L : Type 0} {s : sources.Ghosts S} {e : elements.Ghosts E} (i 
   Head_of h = Inlets h
 
   -- no row changed
-  rows_same : head'.number ≡ head.number → head'.rows ≡ head.rows → parts' ≡ parts → AreTied {S = S} {s = s} i o (Stands m) nothing_lost m (Inlets head') parts'
+  pub rows_same : head'.number ≡ head.number → head'.rows ≡ head.rows → parts' ≡ parts → AreTied {S = S} {s = s} i o (Stands m) nothing_lost m (Inlets head') parts'
   rows_same number rows same =
       subst (AreTied i o (Stands m) nothing_lost m (Head_of head')) (sym same)
       (record { parts_tied = a.parts_tied; head_tied = subst (λ k. (port : ℕ) (row : InletRow I) → slice_get head'.rows.items port ≡ Some row → RowTied i [] m k port row parts) (sym number) (rw rows a.head_tied) })
@@ -105,7 +144,7 @@ module _ {S E I O L : Type 0} {s : sources.Ghosts S} {e : elements.Ghosts E} (i 
       go k row row_at (inr n) = other k row n (a.head_tied k row (sym (set_there head.rows.items port k is n) ∙ got k row row_at))
 
   -- a row gave nothing
-  row_stays : (port : ℕ) (was is : InletRow I) → RowSet i head head' port was is → ((got : List Item) → RowGave i was got → RowGave i is got) → parts' ≡ parts → AreTied {S = S} {s = s} i o (Stands m) nothing_lost m (Inlets head') parts'
+  pub row_stays : (port : ℕ) (was is : InletRow I) → RowSet i head head' port was is → ((got : List Item) → RowGave i was got → RowGave i is got) → parts' ≡ parts → AreTied {S = S} {s = s} i o (Stands m) nothing_lost m (Inlets head') parts'
   row_stays port was is set gave same =
       let z = a.head_tied port was set.at in
       record {
@@ -115,8 +154,8 @@ module _ {S E I O L : Type 0} {s : sources.Ghosts S} {e : elements.Ghosts E} (i 
       }
 
   -- the element took what a row gave
-  row_fed : (port : ℕ) (was is : InletRow I) (x : Item) → RowSet i head head' port was is → ((got : List Item) → RowGave i was got → RowGave i is (got ++ x ∷ [])) → (eater ate : Part E O e) → PartSet parts parts' to eater ate → PartFed eater ate port x
-      → Advances {S = S} {s = s} i o 0 m (Inlets head') parts'
+  pub row_fed : (port : ℕ) (was is : InletRow I) (x : Item) → RowSet i head head' port was is → ((got : List Item) → RowGave i was got → RowGave i is (got ++ x ∷ [])) → (eater ate : Part E O e) → PartSet parts parts' to eater ate → PartFed eater ate port x
+      → MovesOn {S = S} {s = s} i o m (taking eater.number port x) (Inlets head') parts'
   row_fed port was is x set gave eater ate eats fed =
       let n : eater.number ≡ head.number = ap (λ (z : Part E O e). z.number) (some_same (sym eats.at ∙ at.at)) ∙ at.number_is in
       let shape : part_shape ate ≡ part_shape eater = shape_at part_shape parts parts' shapes to eater ate eats.at (ap (λ (ps : List (Part E O e)). slice_get ps to) eats.set ∙ set_at parts to eater ate eats.at) in
@@ -126,8 +165,6 @@ module _ {S E I O L : Type 0} {s : sources.Ghosts S} {e : elements.Ghosts E} (i 
       subst (λ k. m'.took k ≡ push_calls port (Feed x ∷ []) (m.took k)) n (at_here eater.number (push_calls port (Feed x ∷ []) (m.took eater.number)) m.took) in
       record {
         next = m';
-        gave = 0;
-        given = refl;
         move = takes_one eater.number port x (out_now o parts parts' to port x eater ate eats shape fed m) (fed_answers o parts parts' to port x eater ate eats shape fed m a.parts_tied);
         tied = record {
           parts_tied = fed_parts o parts parts' to port x eater ate eats shape fed m a.parts_tied;
@@ -152,8 +189,8 @@ module _ {S E I O L : Type 0} {s : sources.Ghosts S} {e : elements.Ghosts E} (i 
       }
 
   -- it refused it
-  row_back : (port : ℕ) (was is : InletRow I) (x : Item) → RowSet i head head' port was is → ((got : List Item) → RowGave i was got → RowGave i is (got ++ x ∷ [])) → (refusal : Refusal) (eater ate : Part E O e) → PartSet parts parts' to eater ate → PartFell eater ate port x refusal
-      → Left {S = S} {s = s} i o m (Inlets head') parts' eater.number port x × Refuses e m eater.number port x refusal
+  pub row_back : (port : ℕ) (was is : InletRow I) (x : Item) → RowSet i head head' port was is → ((got : List Item) → RowGave i was got → RowGave i is (got ++ x ∷ [])) → (refusal : Refusal) (eater ate : Part E O e) → PartSet parts parts' to eater ate → PartFell eater ate port x refusal
+      → Left {S = S} {s = s} i o m at_head (Inlets head') parts' eater.number port x × Refuses e m eater.number port x refusal
   row_back port was is x set gave refusal eater ate eats fell =
       let z = a.head_tied port was set.at in
       let tied = a.parts_tied.each to eater eats.at in (
@@ -186,51 +223,3 @@ module _ {S E I O L : Type 0} {s : sources.Ghosts S} {e : elements.Ghosts E} (i 
           cause = fell.cause;
         },
       )
-
-  after_tried : (tells tells' : Option (List Lane)) (r : Result Tried TaskFault) (port : ℕ) (taken : Taken) → AsksRow i head head' port tells tells' taken → AfterTake i parts parts' to port taken r → (answer : Tried) → r ≡ Ok answer → TriedAs {S = S} {s = s} i o 0 m (Inlets head') parts' answer
-  after_tried tells tells' r port (takes.Empty lane) k f answer q = subst (TriedAs i o 0 m (Head_of head') parts') (ok_same r (tried.Stuck (steps.NeedsItem lane)) answer f.1 q) (row_stays port k.was k.is k.set k.gave f.0)
-  after_tried tells tells' r port (takes.Item x) k (inl f) answer q = subst (TriedAs i o 0 m (Head_of head') parts') (ok_same r tried.Moved answer f.2 q) (inr (flush_taken x f.0))
-  after_tried tells tells' r port (takes.Item x) k (inr f) answer q =
-      let w = row_took parts parts' to port x r answer q f.1 in
-      subst (TriedAs i o 0 m (Head_of head') parts') (sym w.moved) (inl (row_fed port k.was k.is x k.set k.gave w.was w.is w.set w.fed))
-
-  after_failed : (tells tells' : Option (List Lane)) (r : Result Tried TaskFault) (port : ℕ) (taken : Taken) → AsksRow i head head' port tells tells' taken → AfterTake i parts parts' to port taken r → (fault : TaskFault) → r ≡ Err fault → FailsAs {S = S} {s = s} i o m (Inlets head) (Inlets head') parts' fault
-  after_failed tells tells' r port (takes.Empty lane) k f fault q = not_both r (tried.Stuck (steps.NeedsItem lane)) fault f.1 q
-  after_failed tells tells' r port (takes.Item x) k (inl f) fault q = not_both r tried.Moved fault f.2 q
-  after_failed tells tells' r port (takes.Item x) k (inr f) fault q =
-      let w = row_refused parts parts' to port x r fault q f.1 in
-      let z = row_back port k.was k.is x k.set k.gave w.refusal w.was w.is w.set w.fell in
-      subst (FailsAs i o m (Head_of head) (Head_of head') parts') (sym w.named) (refused w.was.number port x w.refusal z.0 z.1)
-
-  none_tried : (tells tells' : Option (List Lane)) (r : Result Tried TaskFault) (port : ℕ) (taken : Taken) → HasNoRow i head head' port tells tells' taken → AfterTake i parts parts' to port taken r → (answer : Tried) → r ≡ Ok answer → TriedAs {S = S} {s = s} i o 0 m (Inlets head') parts' answer
-  none_tried tells tells' r port (takes.Empty lane) k f answer q = subst (TriedAs i o 0 m (Head_of head') parts') (ok_same r (tried.Stuck (steps.NeedsItem lane)) answer f.1 q) (rows_same k.number k.rows f.0)
-  none_tried tells tells' r port (takes.Item x) k f answer q = absurd (let z = k.empty in cc)
-
-  none_failed : (tells tells' : Option (List Lane)) (r : Result Tried TaskFault) (port : ℕ) (taken : Taken) → HasNoRow i head head' port tells tells' taken → AfterTake i parts parts' to port taken r → (fault : TaskFault) → r ≡ Err fault → FailsAs {S = S} {s = s} i o m (Inlets head) (Inlets head') parts' fault
-  none_failed tells tells' r port (takes.Empty lane) k f fault q = not_both r (tried.Stuck (steps.NeedsItem lane)) fault f.1 q
-  none_failed tells tells' r port (takes.Item x) k f fault q = absurd (let z = k.empty in cc)
-
-module _ {S E I O L : Type 0} {s : sources.Ghosts S} {e : elements.Ghosts E} (i : inlets.Ghosts I L O) (o : outlets.Ghosts O L) (head head' : InletHead I) (parts parts' : List (Part E O e)) (tells tells' : Option (List Lane)) (r : Result Tried TaskFault)
-    (t : TakesNext i head head' parts parts' tells tells' r) (shapes : map part_shape parts' ≡ map part_shape parts) (m : Moment) (a : AreTied {S = S} {s = s} i o (Stands m) nothing_lost m (Inlets head) parts) where
-  -- what a question to the rows of a head makes of the moment
-  pub taken_tried : (answer : Tried) → r ≡ Ok answer → TriedAs {S = S} {s = s} i o 0 m (Inlets head') parts' answer
-  taken_tried answer q = go t.next
-    where
-      go : (WantsNone i head head' parts parts' t.fed.part tells tells' r ⊎ WantsOne i head head' parts parts' t.fed.part t.to tells tells' r) → TriedAs {S = S} {s = s} i o 0 m (Inlets head') parts' answer
-      go (inl w) = subst (TriedAs i o 0 m (Inlets head') parts') (ok_same r tried.Idle answer w.idle q) (rows_same i o head head' parts parts' t.to t.fed shapes m a w.number w.rows w.parts_same)
-      go (inr w) = ask w.asks
-        where
-          ask : (AsksRow i head head' w.port tells tells' w.taken ⊎ HasNoRow i head head' w.port tells tells' w.taken) → TriedAs {S = S} {s = s} i o 0 m (Inlets head') parts' answer
-          ask (inl k) = after_tried i o head head' parts parts' t.to t.fed shapes m a tells tells' r w.port w.taken k w.after answer q
-          ask (inr k) = none_tried i o head head' parts parts' t.to t.fed shapes m a tells tells' r w.port w.taken k w.after answer q
-
-  pub taken_failed : (fault : TaskFault) → r ≡ Err fault → FailsAs {S = S} {s = s} i o m (Inlets head) (Inlets head') parts' fault
-  taken_failed fault q = go t.next
-    where
-      go : (WantsNone i head head' parts parts' t.fed.part tells tells' r ⊎ WantsOne i head head' parts parts' t.fed.part t.to tells tells' r) → FailsAs {S = S} {s = s} i o m (Inlets head) (Inlets head') parts' fault
-      go (inl w) = not_both r tried.Idle fault w.idle q
-      go (inr w) = ask w.asks
-        where
-          ask : (AsksRow i head head' w.port tells tells' w.taken ⊎ HasNoRow i head head' w.port tells tells' w.taken) → FailsAs {S = S} {s = s} i o m (Inlets head) (Inlets head') parts' fault
-          ask (inl k) = after_failed i o head head' parts parts' t.to t.fed shapes m a tells tells' r w.port w.taken k w.after fault q
-          ask (inr k) = none_failed i o head head' parts parts' t.to t.fed shapes m a tells tells' r w.port w.taken k w.after fault q

@@ -27,7 +27,8 @@ use Rattle.task_parts.specs.Part.{PadSet, PadsGrew, waits_at}
 use Rattle.task_parts.specs.Moved.{PartSet}
 use Rattle.net_task.specs.Ties.{TookAt, PadLinked, PortTied, HasPad, AreOnce, NoneLeads, NoneIs, PartTied, PartsTied, SourceTied, HeadTied}
 use Rattle.net_task.specs.Failed.{without_first}
-use Rattle.net_task.proofs.Lists.{each_set, map_set, map_back}
+use Rattle.task_pads.proofs.Lists.{map_set}
+use Rattle.task_parts.proofs.Lists.{each_set, map_back}
 use Rattle.net_task.proofs.Linked.{same_number, same_goes, linked_same, linked_other, linked_rest, linked_fed, linked_without, shape_rest}
 
 -- a pad of a number is still there

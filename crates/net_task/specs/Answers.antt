@@ -13,9 +13,17 @@ is_probe (steps.NeedsRoom lane) = false
 is_probe (steps.AtProbe command) = true
 is_probe steps.Ended = false
 
--- a probe goes before a lane without room, and else the first goes
+abbrev pub wants_room : Step → Bool
+wants_room steps.Moved = false
+wants_room (steps.NeedsItem lane) = false
+wants_room (steps.NeedsRoom lane) = true
+wants_room (steps.AtProbe command) = false
+wants_room steps.Ended = false
+
+-- A probe goes before a lane without room, and that before an EOS behind which nothing crosses. Of two of one kind the first goes.
 abbrev pub preferred : Step → Step → Step
-preferred first second = if is_probe first then first else if is_probe second then second else first
+preferred first second =
+    if is_probe first then first else if is_probe second then second else if wants_room first then first else if wants_room second then second else first
 
 -- two pads one behind the other
 abbrev pub tried_both : Tried → Tried → Tried

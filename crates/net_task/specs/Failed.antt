@@ -1,6 +1,7 @@
 -- A task behind a fault, and why it met the fault.
-use Rattle.std.specs.Prelude.{◌≡◌, ◌≤◌, ◌⊎◌, ℕ, ◌==◌, true, if◌then◌else◌, List, [], ◌∷◌, length}
+use Rattle.std.specs.Prelude.{◌≡◌, ◌≤◌, ◌⊎◌, ℕ, ◌==◌, true, if◌then◌else◌, List, [], ◌∷◌, Option, Some, length, slice_get}
 use Rattle.flow_model.specs.Item.{Item, is_buffer}
+use Rattle.lane_core.specs.Lane.{Lane}
 use Rattle.lane_core.specs.declared.ends.Inlet as inlets
 use Rattle.lane_core.specs.declared.ends.Outlet as outlets
 use Rattle.net_model.specs.Moment.{Moment, put_at}
@@ -13,10 +14,13 @@ use Rattle.element_traits.specs.Failures.{IsReadCause, IsWriteCause}
 use Rattle.task_parts.specs.declared.part.Part.{Part}
 use Rattle.task_parts.specs.declared.head.Head.{Head}
 use Rattle.task_parts.specs.declared.head.Head.TheVariants.{Source, Inlets}
+use Rattle.task_pads.specs.Behind.{nowhere}
 use Rattle.net_task.specs.declared.task.Task.{Task}
 use Rattle.task_parts.specs.declared.fault.TaskFault.{TaskFault}
 use Rattle.task_parts.specs.declared.fault.TaskFault.TheVariants.{TooLong, NotLinked, OutOfMemory}
 use Rattle.task_parts.specs.Fault.{refusal_fault, unread_fault}
+use Rattle.net_task.specs.Frame.{PartFrame, TaskFrame, Wire, IsWire, by_source as of_source, frame_of}
+use Rattle.net_task.specs.Reasons.{AllRest, HeadIdle, IsFirst}
 use Rattle.net_task.specs.Ties.{AreTied, Stands, nothing_lost}
 
 -- an item that waited first at a pad is given up
@@ -27,6 +31,17 @@ without_first p rest m = record m { waits = put_at p rest m.waits }
 abbrev pub lost_at : ℕ → Item → ℕ → List Item
 lost_at port x k = if k == port then x ∷ [] else []
 
+-- where a fault was met: at the item that waited first at a pad, or as the head was asked
+pub data Origin : Type 0 where
+  at_pad : ℕ → Origin
+  at_head : Origin
+
+module _ {S I O : Type 0} {s : sources.Ghosts S} where
+  -- that was the first item that could move: one at a pad, and where none waits the next of the head
+  abbrev pub WasFirst : Option (List Lane) → Moment → TaskFrame → Head S I O s → Origin → Type 0
+  WasFirst tells m frame head (at_pad p) = IsFirst tells m frame p
+  WasFirst tells m frame head at_head = AllRest m frame × HeadIdle head
+
 module _ {E O : Type 0} {e : elements.Ghosts E} where
   -- an element stands, or it is the one that refused an item and stands for that
   abbrev pub StandsOrFell : ℕ → ℕ → Item → Moment → Part E O e → Type 0
@@ -34,10 +49,10 @@ module _ {E O : Type 0} {e : elements.Ghosts E} where
 
 -- Where the item was that an element refused: it waited first at a pad of the task, and does no more; or it came from an
 -- inlet of the head, and is lost there. Nothing else is lost.
-pub data GaveUp (m : Moment) (n i : ℕ) (x : Item) : Moment → (ℕ → List Item) → Type 0 where
-  by_pad : (p : ℕ) (rest : List Item) → m.waits p ≡ x ∷ rest → Leads m.plan p n i → GaveUp m n i x (without_first p rest m) nothing_lost
-  by_source : (p : ℕ) (rest : List Item) → m.waits p ≡ x ∷ rest → Leads m.plan p n i → GaveUp m n i x (without_first p rest m) (lost_at 0 x)
-  by_inlet : GaveUp m n i x m (lost_at i x)
+pub data GaveUp (m : Moment) (n i : ℕ) (x : Item) : Origin → Moment → (ℕ → List Item) → Type 0 where
+  by_pad : (p : ℕ) (rest : List Item) → m.waits p ≡ x ∷ rest → Leads m.plan p n i → GaveUp m n i x (at_pad p) (without_first p rest m) nothing_lost
+  by_source : (p : ℕ) (rest : List Item) → m.waits p ≡ x ∷ rest → Leads m.plan p n i → GaveUp m n i x (at_pad p) (without_first p rest m) (lost_at 0 x)
+  by_inlet : GaveUp m n i x at_head m (lost_at i x)
 
 module _ {E : Type 0} (e : elements.Ghosts E) where
   -- Its rule, or a failed write of this very call, is why an element refused an item.
@@ -57,21 +72,41 @@ module _ {S I O : Type 0} {s : sources.Ghosts S} where
 
 module _ {S E I O L : Type 0} {s : sources.Ghosts S} {e : elements.Ghosts E} (i : inlets.Ghosts I L O) (o : outlets.Ghosts O L) where
   -- A head and elements are tied to the moment but for the one item that was given up and the element that refused it.
-  pub record Left (m : Moment) (head : Head S I O s) (parts : List (Part E O e)) (n pad : ℕ) (x : Item) : Type 0 where
+  pub record Left (m : Moment) (origin : Origin) (head : Head S I O s) (parts : List (Part E O e)) (n pad : ℕ) (x : Item) : Type 0 where
     pub behind : Moment
     pub lost : ℕ → List Item
-    pub gave_up : GaveUp m n pad x behind lost
+    pub gave_up : GaveUp m n pad x origin behind lost
     pub tied : AreTied i o (StandsOrFell n pad x behind) lost behind head parts
 
-  -- Why a head and elements met a fault at a moment, and how they stand behind it.
-  pub data FailsAs (m : Moment) (head head' : Head S I O s) (parts' : List (Part E O e)) : TaskFault → Type 0 where
-    refused : (n pad : ℕ) (x : Item) (refusal : Refusal) → Left m head' parts' n pad x → Refuses e m n pad x refusal → FailsAs m head head' parts' (refusal_fault n refusal)
-    unread : (n : ℕ) (why : Unread) → AreTied i o (Stands m) nothing_lost m head' parts' → IsUnread head head' n why → FailsAs m head head' parts' (unread_fault n why)
+  -- Why a head and elements met a fault at a moment, where that was, and how they stand behind it.
+  pub data FailsAs (m : Moment) (head head' : Head S I O s) (parts' : List (Part E O e)) : Origin → TaskFault → Type 0 where
+    refused : (origin : Origin) (n pad : ℕ) (x : Item) (refusal : Refusal) → Left m origin head' parts' n pad x → Refuses e m n pad x refusal
+        → FailsAs m head head' parts' origin (refusal_fault n refusal)
+    unread : (n : ℕ) (why : Unread) → AreTied i o (Stands m) nothing_lost m head' parts' → IsUnread head head' n why → FailsAs m head head' parts' at_head (unread_fault n why)
     not_linked : (p : ℕ) (x : Item) (rest : List Item) → AreTied i o (Stands m) nothing_lost m head' parts' → m.waits p ≡ x ∷ rest → is_buffer x ≡ true
-        → ((q : ℕ) → m.plan.owner q ≡ m.plan.owner p → LeadsNowhere m.plan q) → FailsAs m head head' parts' (NotLinked p (length (m.history p)))
-    at_limit : (p : ℕ) → AreTied i o (Stands m) nothing_lost m head' parts' → 1099511627776 ≤ length (m.history p) → FailsAs m head head' parts' (TooLong (m.plan.owner p) 1099511627776 1)
-    no_memory : AreTied i o (Stands m) nothing_lost m head' parts' → FailsAs m head head' parts' OutOfMemory
+        → ((q : ℕ) → m.plan.owner q ≡ m.plan.owner p → LeadsNowhere m.plan q) → FailsAs m head head' parts' (at_pad p) (NotLinked p (length (m.history p)))
+    -- more than 2^40 items were to cross a pad
+    at_limit : (p : ℕ) (x : Item) (rest : List Item) → AreTied i o (Stands m) nothing_lost m head' parts' → m.waits p ≡ x ∷ rest → 1099511627776 ≤ length (m.history p)
+        → FailsAs m head head' parts' (at_pad p) (TooLong (m.plan.owner p) 1099511627776 1)
+    no_memory : (origin : Origin) → AreTied i o (Stands m) nothing_lost m head' parts' → FailsAs m head head' parts' origin OutOfMemory
 
--- why a task met a fault at a moment, and how it stands behind it
-abbrev pub Failed : {S E I O L : Type 0} {s : sources.Ghosts S} {e : elements.Ghosts E} {i : inlets.Ghosts I L O} {o : outlets.Ghosts O L} → Task S E I O L s e i o → Task S E I O L s e i o → Moment → TaskFault → Type 0
-Failed {i = i} {o = o} old new m fault = FailsAs i o m old.head new.head new.parts.items fault
+-- Why a task met a fault at a moment to which it was tied. What it met it at was the first that could move, where memory
+-- was not wanting.
+pub record Failed {S E I O L : Type 0} {s : sources.Ghosts S} {e : elements.Ghosts E} {i : inlets.Ghosts I L O} {o : outlets.Ghosts O L} (tells : Option (List Lane)) (old new : Task S E I O L s e i o) (m : Moment) (fault : TaskFault) : Type 0 where
+  pub origin : Origin
+  pub fails : FailsAs i o m old.head new.head new.parts.items origin fault
+  pub first : (fault ≡ OutOfMemory) ⊎ WasFirst tells m (frame_of old) old.head origin
+
+-- Why a task met a fault, whatever its source owes: an element of the task refused an item, by its rule or by a write that
+-- failed in this very call; its source could not be read; a pad of it is not linked; or 2^40 items crossed one.
+pub data Causes {S E I O L : Type 0} {s : sources.Ghosts S} {e : elements.Ghosts E} (o : outlets.Ghosts O L) (frame : TaskFrame) (head head' : Head S I O s) (parts' : List (Part E O e)) : TaskFault → Type 0 where
+  by_element : (place : ℕ) (part : Part E O e) (was : Option ℕ) (refusal : Refusal) → slice_get parts' place ≡ Some part → IsWriteCause was (e.failures part.element) refusal
+      → Causes o frame head head' parts' (refusal_fault part.number refusal)
+  by_source : (n : ℕ) (why : Unread) → IsUnread head head' n why → Causes o frame head head' parts' (unread_fault n why)
+  unlinked : (wire : Wire) (place : ℕ) → IsWire frame wire → wire.leads ≡ nowhere → Causes o frame head head' parts' (NotLinked wire.number place)
+  full_at : (place : ℕ) (part : PartFrame) → slice_get frame.parts place ≡ Some part → Causes o frame head head' parts' (TooLong part.number 1099511627776 1)
+  full_head : (n : ℕ) (file : Option (Option (List ℕ))) (wire : Wire) → frame.head ≡ of_source n file wire → Causes o frame head head' parts' (TooLong n 1099511627776 1)
+  memory : Causes o frame head head' parts' OutOfMemory
+
+abbrev pub IsCause : {S E I O L : Type 0} {s : sources.Ghosts S} {e : elements.Ghosts E} {i : inlets.Ghosts I L O} {o : outlets.Ghosts O L} → Task S E I O L s e i o → Task S E I O L s e i o → TaskFault → Type 0
+IsCause {o = o} old new fault = Causes o (frame_of old) old.head new.head new.parts.items fault

@@ -1,6 +1,9 @@
-pub mod Failed
-pub mod Framed
 pub mod Answers
+pub mod Failed
+pub mod Frame
+pub mod Fuel
 pub mod Moves
+pub mod Ready
 pub mod Reasons
 pub mod Ties
+pub mod Tries

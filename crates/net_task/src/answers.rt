@@ -1,6 +1,5 @@
 //! What a task answers, by what came of its tries.
-ghost use Rattle.std.specs.Prelude.{◌≡◌, ◌≢◌};
-ghost use Rattle.task_parts.specs.declared.step.Step.TheVariants.{Moved};
+ghost use Rattle.std.specs.Prelude.{◌≡◌};
 ghost use Rattle.net_task.specs.Answers.{head_step, preferred, tried_both};
 
 use task_parts::{Step, TaskFault, Tried};
@@ -17,14 +16,16 @@ pub(crate) fn step_of(tried: Result<Tried, TaskFault>) -> Result<Step, TaskFault
     }
 }
 
-/// Of two reasons why items wait the one that is told: a probe goes before a lane without room, and else the first.
-pub(crate) fn prefer(first: Step, second: Step) -> Step
-    ensures value { result ≡ preferred first second }
-    ensures stuck { first ≢ Moved → second ≢ Moved → result ≢ Moved }
+/// Of two reasons why items wait the one that is told: a probe goes before a lane without room, that before an EOS behind
+/// which nothing crosses, and of two of one kind the first.
+fn prefer(first: Step, second: Step) -> Step
+    ensures { result ≡ preferred first second }
 {
     match (first, second) {
         (Step::AtProbe(_), _) => first,
         (_, Step::AtProbe(_)) => second,
+        (Step::NeedsRoom(_), _) => first,
+        (_, Step::NeedsRoom(_)) => second,
         _ => first,
     }
 }

@@ -2,7 +2,7 @@
 ghost use Rattle.std.specs.Prelude.{◌≡◌, true};
 ghost use Rattle.task_parts.specs.Shape.{is_closed, shape_of};
 
-use crate::answers::{prefer, step_of, with_next};
+use crate::answers::{step_of, with_next};
 use element_traits::{TaskElement, TaskSource};
 use lane_core::{Inlet, Outlet};
 use std::alloc::Global;
@@ -25,16 +25,17 @@ impl<S: TaskSource, E: TaskElement, I: Inlet<Out = O>, O: Outlet<Lanes = I::Lane
     I,
     O,
 > {
-    ghost use Rattle.std.specs.Prelude.{◌<◌, ◌≢◌, IfOk, IfErr, vec_len};
-    ghost use Rattle.task_parts.specs.declared.step.Step.TheVariants.{Moved};
-    ghost use Rattle.task_parts.specs.declared.step.Tried.TheVariants.{Idle};
+    ghost use Rattle.std.specs.Prelude.{◌<◌, IfOk, IfErr, OnOk, vec_len};
     ghost use Rattle.net_model.specs.Moment.{Moment};
     ghost use Rattle.task_parts.specs.Passing.{HasPort};
+    ghost use Rattle.net_task.specs.Failed.{Failed, IsCause};
+    ghost use Rattle.net_task.specs.Frame.{frame_of};
+    ghost use Rattle.net_task.specs.Fuel.{Burns, moves_left};
+    ghost use Rattle.net_task.specs.Moves.{Steps};
+    ghost use Rattle.net_task.specs.Ready.{IsReady, LanesGoOn};
+    ghost use Rattle.net_task.specs.Reasons.{HeadIdle, Why};
     ghost use Rattle.net_task.specs.Ties.{Ties};
-    ghost use Rattle.net_task.specs.Moves.{AfterTry, Steps};
-    ghost use Rattle.net_task.specs.Failed.{Failed};
-    ghost use Rattle.net_task.specs.Reasons.{WaitsFor, RestsAll, RestsAt, IsKept, IsIdleAt, IsUnmoved, HeadWaits, WhyHead, WhyAsked, StuckWhy, Why};
-    ghost use Rattle.net_task.specs.Framed.{IsReady, IsStill, IsHeadIdle, IsSourceKept};
+    ghost use Rattle.net_task.specs.Tries.{AskFault, AsksHead, PadFault, PadTries, PadsFault, PadsTry, PartFault, PartTries, PartsFault, PartsTry, SettledAt, SourceFault, SourceTries, StaysSettled};
 
     /// A task of these parts that moved nothing yet. Each element that a pad or the head names is one of them.
     pub fn new(head: Head<S, I, O>, parts: Vec<Part<E, O>>) -> Task<S, E, I, O>
@@ -51,30 +52,45 @@ impl<S: TaskSource, E: TaskElement, I: Inlet<Out = O>, O: Outlet<Lanes = I::Lane
     /// refused put into a full lane does not keep items at other pads from moving on.
     pub fn step(&mut self, alloc: Global, lanes: &mut I::Lanes) -> Result<Step, TaskFault>
         requires ready { IsReady (O.tells lanes.old) self.old }
-        ensures steps { IfOk result (λ step. (m : Moment) → Ties self.old m → Steps self.old self.new m step) }
+        ensures ready { OnOk result (IsReady (O.tells lanes.new) self.new) }
+        ensures lanes { OnOk result (LanesGoOn I.Inlet (frame_of self.old) self.old.head self.new.head (O.tells lanes.old) (O.tells lanes.new)) }
+        ensures steps { IfOk result (λ step. (m : Moment) → Ties self.old m → Steps (O.tells lanes.old) (O.tells lanes.new) self.old self.new m step) }
         ensures why { IfOk result (λ step. (m : Moment) → Ties self.old m → Why (O.tells lanes.old) self.old self.new m step) }
-        ensures faults { IfErr result (λ fault. (m : Moment) → Ties self.old m → Failed self.old self.new m fault) }
-        ensures shape { shape_of self.new.head self.new.parts.items ≡ shape_of self.old.head self.old.parts.items }
+        ensures faults { IfErr result (λ fault. (m : Moment) → Ties self.old m → Failed (O.tells lanes.old) self.old self.new m fault) }
+        ensures cause { IfErr result (IsCause self.old self.new) }
+        ensures frame { frame_of self.new ≡ frame_of self.old }
+        ensures burns { IfOk result (Burns (moves_left self.old) (moves_left self.new)) }
     {
-        match self.try_parts(alloc, lanes) {
-            Ok(Tried::Idle) => self.ask(alloc, lanes),
-            Ok(Tried::Stuck(step)) => self.ask_stuck(alloc, lanes, step),
+        match self.try_pads(alloc, lanes) {
+            Ok(Tried::Idle) => self.ask_head(alloc, lanes),
+            Ok(Tried::Stuck(step)) => Ok(step),
             Ok(Tried::Moved) => Ok(Step::Moved),
             Err(fault) => Err(fault),
         }
     }
 
+    /// The first item that can cross a pad does: one of an element, or else that of the source.
+    fn try_pads(&mut self, alloc: Global, lanes: &mut I::Lanes) -> Result<Tried, TaskFault>
+        requires ready { IsReady (O.tells lanes.old) self.old }
+        ensures tries { IfOk result (PadsTry (O.tells lanes.old) (O.tells lanes.new) self.old self.new) }
+        ensures faults { IfErr result (PadsFault (O.tells lanes.old) self.old self.new) }
+        ensures frame { frame_of self.new ≡ frame_of self.old }
+    {
+        let tried = self.try_parts(alloc, lanes)?;
+        if let Tried::Moved = tried {
+            return Ok(tried);
+        }
+        let next = self.try_head(alloc, lanes)?;
+        Ok(with_next(tried, next))
+    }
+
     /// The first item that can cross a pad of the elements does.
     fn try_parts(&mut self, alloc: Global, lanes: &mut I::Lanes) -> Result<Tried, TaskFault>
         requires ready { IsReady (O.tells lanes.old) self.old }
-        ensures tries { IfOk result (λ tried. (m : Moment) → Ties self.old m → AfterTry self.old self.new m tried) }
-        ensures held { IfOk result (λ tried. (m : Moment) → Ties self.old m → WaitsFor O.Outlet (O.tells lanes.old) m self.old.parts.items tried) }
-        ensures rest { IfOk result (λ tried. (m : Moment) → Ties self.old m → RestsAll m self.old.parts.items tried) }
-        ensures kept { IfOk result (IsKept O.Outlet (O.tells lanes.old) (O.tells lanes.new) self.old.parts.items self.new.parts.items) }
-        ensures faults { IfErr result (λ fault. (m : Moment) → Ties self.old m → Failed self.old self.new m fault) }
-        ensures still { IfOk result (IsStill (O.tells lanes.new) self.new) }
+        ensures tries { IfOk result (PartsTry (O.tells lanes.old) (O.tells lanes.new) self.old self.new) }
+        ensures faults { IfErr result (PartsFault (O.tells lanes.old) self.old self.new) }
+        ensures frame { frame_of self.new ≡ frame_of self.old }
         ensures head { self.new.head ≡ self.old.head }
-        ensures shape { shape_of self.new.head self.new.parts.items ≡ shape_of self.old.head self.old.parts.items }
     {
         let mut tried = Tried::Idle;
         for place in 0..self.parts.len() {
@@ -95,14 +111,10 @@ impl<S: TaskSource, E: TaskElement, I: Inlet<Out = O>, O: Outlet<Lanes = I::Lane
     ) -> Result<Tried, TaskFault>
         requires place { place < vec_len self.old.parts }
         requires ready { IsReady (O.tells lanes.old) self.old }
-        ensures tries { IfOk result (λ tried. (m : Moment) → Ties self.old m → AfterTry self.old self.new m tried) }
-        ensures held { IfOk result (λ tried. (m : Moment) → Ties self.old m → WaitsFor O.Outlet (O.tells lanes.old) m self.old.parts.items tried) }
-        ensures rest { IfOk result (λ tried. (m : Moment) → Ties self.old m → RestsAt m self.old.parts.items place tried) }
-        ensures kept { IfOk result (IsKept O.Outlet (O.tells lanes.old) (O.tells lanes.new) self.old.parts.items self.new.parts.items) }
-        ensures faults { IfErr result (λ fault. (m : Moment) → Ties self.old m → Failed self.old self.new m fault) }
-        ensures still { IfOk result (IsStill (O.tells lanes.new) self.new) }
+        ensures tries { IfOk result (PartTries (O.tells lanes.old) (O.tells lanes.new) self.old self.new place) }
+        ensures faults { IfErr result (PartFault (O.tells lanes.old) self.old self.new place) }
+        ensures frame { frame_of self.new ≡ frame_of self.old }
         ensures head { self.new.head ≡ self.old.head }
-        ensures shape { shape_of self.new.head self.new.parts.items ≡ shape_of self.old.head self.old.parts.items }
     {
         if settle(alloc, &mut self.parts, place).is_err() {
             return Err(TaskFault::OutOfMemory);
@@ -126,68 +138,23 @@ impl<S: TaskSource, E: TaskElement, I: Inlet<Out = O>, O: Outlet<Lanes = I::Lane
         port: usize,
     ) -> Result<Tried, TaskFault>
         requires at { HasPort self.old.parts.items place port }
+        requires settled { SettledAt self.old.parts.items place }
         requires ready { IsReady (O.tells lanes.old) self.old }
-        ensures tries { IfOk result (λ tried. (m : Moment) → Ties self.old m → AfterTry self.old self.new m tried) }
-        ensures held { IfOk result (λ tried. (m : Moment) → Ties self.old m → WaitsFor O.Outlet (O.tells lanes.old) m self.old.parts.items tried) }
-        ensures idle { IfOk result (IsIdleAt self.old.parts.items self.new.parts.items place port) }
-        ensures kept { IfOk result (IsKept O.Outlet (O.tells lanes.old) (O.tells lanes.new) self.old.parts.items self.new.parts.items) }
-        ensures faults { IfErr result (λ fault. (m : Moment) → Ties self.old m → Failed self.old self.new m fault) }
-        ensures still { IfOk result (IsStill (O.tells lanes.new) self.new) }
+        ensures tries { IfOk result (PadTries (O.tells lanes.old) (O.tells lanes.new) self.old self.new place port) }
+        ensures settled { IfOk result (StaysSettled self.new.parts.items place) }
+        ensures faults { IfErr result (PadFault self.old self.new place port) }
+        ensures frame { frame_of self.new ≡ frame_of self.old }
         ensures head { self.new.head ≡ self.old.head }
-        ensures shape { shape_of self.new.head self.new.parts.items ≡ shape_of self.old.head self.old.parts.items }
     {
         cross_part(alloc, &mut self.parts, lanes, place, port)
-    }
-
-    /// Where no element has an item that can cross: the item that waits at a source's pad crosses it, or the head is asked.
-    fn ask(&mut self, alloc: Global, lanes: &mut I::Lanes) -> Result<Step, TaskFault>
-        requires ready { IsReady (O.tells lanes.old) self.old }
-        ensures steps { IfOk result (λ step. (m : Moment) → Ties self.old m → Steps self.old self.new m step) }
-        ensures why { IfOk result (λ step. (m : Moment) → Ties self.old m → WhyAsked (O.tells lanes.old) self.old self.new m step) }
-        ensures faults { IfErr result (λ fault. (m : Moment) → Ties self.old m → Failed self.old self.new m fault) }
-        ensures shape { shape_of self.new.head self.new.parts.items ≡ shape_of self.old.head self.old.parts.items }
-    {
-        match self.try_head(alloc, lanes) {
-            Ok(Tried::Idle) => self.ask_head(alloc, lanes),
-            Ok(Tried::Stuck(step)) => Ok(step),
-            Ok(Tried::Moved) => Ok(Step::Moved),
-            Err(fault) => Err(fault),
-        }
-    }
-
-    /// The same where an item waits at an element and cannot cross: the head is not asked.
-    fn ask_stuck(
-        &mut self,
-        alloc: Global,
-        lanes: &mut I::Lanes,
-        stuck: Step,
-    ) -> Result<Step, TaskFault>
-        requires ready { IsReady (O.tells lanes.old) self.old }
-        requires stuck { stuck ≢ Moved }
-        ensures steps { IfOk result (λ step. (m : Moment) → Ties self.old m → Steps self.old self.new m step) }
-        ensures why { IfOk result (λ step. (m : Moment) → Ties self.old m → StuckWhy O.Outlet (O.tells lanes.old) m self.old.head stuck step) }
-        ensures faults { IfErr result (λ fault. (m : Moment) → Ties self.old m → Failed self.old self.new m fault) }
-        ensures shape { shape_of self.new.head self.new.parts.items ≡ shape_of self.old.head self.old.parts.items }
-    {
-        match self.try_head(alloc, lanes) {
-            Ok(Tried::Idle) => Ok(stuck),
-            Ok(Tried::Stuck(step)) => Ok(prefer(stuck, step)),
-            Ok(Tried::Moved) => Ok(Step::Moved),
-            Err(fault) => Err(fault),
-        }
     }
 
     /// The item that waits at a source's pad crosses it, if it can.
     fn try_head(&mut self, alloc: Global, lanes: &mut I::Lanes) -> Result<Tried, TaskFault>
         requires ready { IsReady (O.tells lanes.old) self.old }
-        ensures tries { IfOk result (λ tried. (m : Moment) → Ties self.old m → AfterTry self.old self.new m tried) }
-        ensures faults { IfErr result (λ fault. (m : Moment) → Ties self.old m → Failed self.old self.new m fault) }
-        ensures still { IfOk result (IsStill (O.tells lanes.new) self.new) }
-        ensures idle { IfOk result (IsHeadIdle self.new) }
-        ensures kept { IfOk result (IsSourceKept self.old self.new) }
-        ensures held { IfOk result (λ tried. (m : Moment) → Ties self.old m → HeadWaits O.Outlet (O.tells lanes.old) m self.old.head tried) }
-        ensures same { IfOk result (IsUnmoved (O.tells lanes.old) (O.tells lanes.new) self.old.parts.items self.new.parts.items) }
-        ensures shape { shape_of self.new.head self.new.parts.items ≡ shape_of self.old.head self.old.parts.items }
+        ensures tries { IfOk result (SourceTries (O.tells lanes.old) (O.tells lanes.new) self.old self.new) }
+        ensures faults { IfErr result (SourceFault self.old self.new) }
+        ensures frame { frame_of self.new ≡ frame_of self.old }
     {
         match &mut self.head {
             Head::Source(head) => cross_source(alloc, head, &mut self.parts, lanes),
@@ -195,14 +162,13 @@ impl<S: TaskSource, E: TaskElement, I: Inlet<Out = O>, O: Outlet<Lanes = I::Lane
         }
     }
 
-    /// The head gives or takes its next item, if there is one now.
+    /// Where nothing waits at any pad: the head gives or takes its next item, if there is one now.
     fn ask_head(&mut self, alloc: Global, lanes: &mut I::Lanes) -> Result<Step, TaskFault>
         requires ready { IsReady (O.tells lanes.old) self.old }
-        requires idle { IsHeadIdle self.old Idle }
-        ensures steps { IfOk result (λ step. (m : Moment) → Ties self.old m → Steps self.old self.new m step) }
-        ensures why { IfOk result (λ step. (m : Moment) → Ties self.old m → WhyHead (O.tells lanes.old) self.old self.new m step) }
-        ensures faults { IfErr result (λ fault. (m : Moment) → Ties self.old m → Failed self.old self.new m fault) }
-        ensures shape { shape_of self.new.head self.new.parts.items ≡ shape_of self.old.head self.old.parts.items }
+        requires idle { HeadIdle self.old.head }
+        ensures asks { IfOk result (AsksHead (O.tells lanes.old) (O.tells lanes.new) self.old self.new) }
+        ensures faults { IfErr result (AskFault self.old self.new) }
+        ensures frame { frame_of self.new ≡ frame_of self.old }
     {
         match &mut self.head {
             Head::Source(head) => step_of(give(alloc, head)),

@@ -1,4 +1,5 @@
-mod Lists
+pub mod Lists
 mod Spreads
 mod Waiting
 mod Sent
+pub mod Few

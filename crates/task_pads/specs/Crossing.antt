@@ -90,15 +90,9 @@ module _ {O L : Type 0} (o : outlets.Ghosts O L) where
     -- what is so of it at the pad that these items crossed
     pub why : (h : List Item) → CrossedBy old.src h → Why item h
 
-  -- EOS has crossed the pad: the item is given up.
-  pub record IsBehindEos (old new : Seen O) (tells tells' : Option (List Lane)) : Type 0 where
-    pub few : IsUnderLimit (crossed_of old.src) (end_in o old.behind)
-    pub item : Item
-    pub waited : old.waiting ≡ item ∷ new.waiting
-    pub stands : StandsAs o old new
-    pub behind : new.behind ≡ old.behind
-    pub table : tells' ≡ tells
-    pub why : (h : List Item) → CrossedBy old.src h → has_ended h ≡ true
+  -- EOS has crossed the pad
+  abbrev pub IsBehindEos : Item → List Item → Type 0
+  IsBehindEos item h = has_ended h ≡ true
 
   -- a buffer stands at the probe of this command, which counted as many as crossed
   abbrev pub IsAtProbe : Seen O → ℕ → Item → List Item → Type 0
@@ -122,8 +116,8 @@ module _ {O L : Type 0} (o : outlets.Ghosts O L) where
   Came old new tells tells' sibling Gone = IsGone old new sibling tells tells'
   Came old new tells tells' sibling (Full lane) = IsFull old new lane tells tells'
   Came old new tells tells' sibling (AtProbe command) = IsStopped old new (IsAtProbe old command) tells tells'
-  Came old new tells tells' sibling NotLinked = IsStopped old new (IsNotLinked old sibling) tells tells'
-  Came old new tells tells' sibling BehindEos = IsBehindEos old new tells tells'
+  Came old new tells tells' sibling NotLinked = IsStopped old new (IsNotLinked old sibling) tells tells' × (goes old.behind ≡ nowhere)
+  Came old new tells tells' sibling BehindEos = IsStopped old new IsBehindEos tells tells'
   Came old new tells tells' sibling AtLimit =
       (old.waiting ≢ []) × ((1099511627776 ≤ crossed_of old.src) ⊎ (1099511627776 ≤ count_in (end_in o old.behind))) × (new ≡ old) × (tells' ≡ tells)
   Came old new tells tells' sibling OutOfMemory = WantsMemory old × (new ≡ old) × (tells' ≡ tells)

@@ -35,11 +35,17 @@ pub record Waits (old new : SrcPad) (Why : List Item → Type 0) : Type 0 where
   pub setting : setting_of new ≡ setting_of old
   pub why : (h : List Item) → CrossedBy old h → Why h
 
+-- no linked pad answers that a buffer would reach nobody
+abbrev pub unlinked_answer : Bool → Answer
+unlinked_answer true = BehindEos
+unlinked_answer false = NotLinked
+
 abbrev pub IsOffered : SrcPad → SrcPad → Item → Bool → Answer → Type 0
 IsOffered old new item sibling Crosses = Counted old new item sibling
 IsOffered old new item sibling (AtProbe command) =
     Waits old new (λ h. (has_ended h ≡ false) × (is_buffer item ≡ true) × ((state_of old).probe ≡ Some (record { command = command; buffers = buffers h })))
-IsOffered old new item sibling NotLinked = Waits old new (λ h. Passes old item h × (is_buffer item ≡ true) × (has_peer (state_of old).peer ≡ false) × (sibling ≡ false))
+IsOffered old new item sibling NotLinked =
+    Waits old new (λ h. Passes old item h × (is_buffer item ≡ true) × (has_peer (state_of old).peer ≡ false) × (sibling ≡ false)) × (has_peer (state_of old).peer ≡ false)
 IsOffered old new item sibling BehindEos = Waits old new (λ h. has_ended h ≡ true)
 IsOffered old new item sibling OutOfMemory = (new ≡ old) × (is_kept item ≡ true)
 

@@ -36,7 +36,7 @@ pub enum Crossing {
     AtProbe { command: u32 },
     /// It is a buffer, and neither this pad nor a sibling is linked.
     NotLinked,
-    /// EOS has crossed: the item is given up.
+    /// EOS has crossed: the item waits on.
     BehindEos,
     /// 2^40 items have crossed the pad, or went into its lane.
     AtLimit,
@@ -57,12 +57,14 @@ pub(crate) fn cross<O: Outlet>(
     requires flows { (state_of src.old).flushing ≡ false }
     requires linked { has_peer (state_of src.old).peer ≡ leads_on behind.old }
     requires no_flush { has_flush_stop (items_of waiting.old.items) ≡ false }
+    requires few { crossed_of src.old ≤ 1099511627776 }
     requires table { EndReady (O.tells lanes.old) (end_in O.Outlet behind.old) }
     ensures came { Came O.Outlet (seen_in src.old waiting.old.items behind.old) (seen_in src.new waiting.new.items behind.new)
         (O.tells lanes.old) (O.tells lanes.new) sibling result }
     ensures setting { setting_of src.new ≡ setting_of src.old }
     ensures goes { goes behind.new ≡ goes behind.old }
     ensures no_flush { has_flush_stop (items_of waiting.new.items) ≡ false }
+    ensures few { crossed_of src.new ≤ 1099511627776 }
     ensures table { KeepsTable (place_in (end_in O.Outlet behind.old)) (O.tells lanes.old) (O.tells lanes.new) }
     ensures ready { EndReady (O.tells lanes.new) (end_in O.Outlet behind.new) }
 {
@@ -80,10 +82,7 @@ pub(crate) fn cross<O: Outlet>(
         Answer::AtProbe(command) => Crossing::AtProbe { command },
         Answer::NotLinked => Crossing::NotLinked,
         Answer::OutOfMemory => Crossing::OutOfMemory,
-        Answer::BehindEos => {
-            waiting.pop_front();
-            Crossing::BehindEos
-        }
+        Answer::BehindEos => Crossing::BehindEos,
     }
 }
 

@@ -6,7 +6,7 @@ ghost use Rattle.pad_core.specs.Linking.{has_peer};
 ghost use Rattle.pad_core.specs.SrcPad.{CrossedBy, state_of, crossed_of};
 ghost use Rattle.flow_model.specs.Item.{Item as Piece};
 ghost use Rattle.task_pads.specs.Pads.{is_kept, setting_of};
-ghost use Rattle.task_pads.specs.Passing.{IsOffered};
+ghost use Rattle.task_pads.specs.Passing.{IsOffered, unlinked_answer};
 
 use gst_caps::OutOfMemory;
 use gst_item::{Event, Item};
@@ -43,11 +43,21 @@ pub(crate) fn offer(alloc: Global, src: &mut SrcPad, item: &Item, sibling: bool)
         Crossing::Alone => Answer::Crosses,
         Crossing::Go(_) => Answer::Crosses,
         Crossing::AtProbe(command) => Answer::AtProbe(command),
-        Crossing::NotLinked => Answer::NotLinked,
+        Crossing::NotLinked => not_linked(src.is_linked()),
         Crossing::Eos => Answer::BehindEos,
         // It does not come here.
         Crossing::Flushing => Answer::BehindEos,
     }
+}
+
+/// The answer of a pad at which a buffer would reach nobody: no linked pad comes here.
+fn not_linked(linked: bool) -> Answer
+    ensures { result ≡ unlinked_answer linked }
+{
+    if linked {
+        return Answer::BehindEos;
+    }
+    Answer::NotLinked
 }
 
 /// Lays a copy of a sticky event by.

@@ -1,7 +1,7 @@
 //! Source pads.
-ghost use Rattle.std.specs.Prelude.{◌≡◌, true, false};
+ghost use Rattle.std.specs.Prelude.{◌≡◌, ◌≤◌, true, false};
 ghost use Rattle.gst_item.specs.Sticky.{has_flush_stop};
-ghost use Rattle.pad_core.specs.SrcPad.{state_of};
+ghost use Rattle.pad_core.specs.SrcPad.{crossed_of, state_of};
 ghost use Rattle.pad_core.specs.Linking.{has_peer};
 ghost use Rattle.task_pads.specs.Behind.{leads_on, items_of};
 
@@ -36,8 +36,8 @@ pub enum Behind<O> {
     },
 }
 
-/// A source pad, with what was put out and has not crossed it, oldest first. It is active, never flushes, and no
-/// FLUSH_STOP waits at it.
+/// A source pad, with what was put out and has not crossed it, oldest first. It is active, never flushes, no FLUSH_STOP
+/// waits at it, and at most 2^40 items have crossed it.
 #[derive(Drop)]
 pub struct Pad<O> {
     pub(crate) src: SrcPad,
@@ -47,6 +47,7 @@ pub struct Pad<O> {
     ghost flows: { (state_of src).flushing ≡ false },
     ghost linked: { has_peer (state_of src).peer ≡ leads_on behind },
     ghost no_flush: { has_flush_stop (items_of waiting.items) ≡ false },
+    ghost few: { crossed_of src ≤ 1099511627776 },
 }
 
 impl<O: Outlet> Pad<O> {
@@ -217,7 +218,7 @@ impl<O: Outlet> Pad<O> {
 
 impl<O> Behind<O> {
     ghost use Rattle.std.specs.Prelude.{[], None};
-    ghost use Rattle.pad_core.specs.SrcPad.{CrossedBy, crossed_of};
+    ghost use Rattle.pad_core.specs.SrcPad.{CrossedBy};
 
     /// A pad of this number that nothing crossed, with a peer where it leads on.
     fn source_pad(&self, number: u32) -> SrcPad

@@ -1,4 +1,4 @@
-mod Lists
+pub mod Lists
 mod Outs
 mod Turns
 mod Moves

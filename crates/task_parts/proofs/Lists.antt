@@ -1,31 +1,9 @@
 -- Places of lists.
-use Rattle.std.proofs.Common.{◌≡◌, ◌<◌, ◌⊎◌, ℕ, zero, suc, List, [], ◌∷◌, ◌++◌, length, map, get_or, Some, refl, sym, ap, ◌∙◌, subst, inl, inr, arith}
+use Rattle.std.proofs.Common.{◌≡◌, ◌⊎◌, ℕ, zero, suc, List, [], ◌∷◌, ◌++◌, length, map, get_or, Some, refl, sym, ap, ◌∙◌, subst, inl, inr, arith}
 use Rattle.std.specs.Prelude.{slice_get, slice_set}
+use Rattle.task_pads.proofs.Lists.{some_same, some_at, set_here, set_there}
 use Rattle.std.proofs.lemmas.Bool.{cases_eq}
 use Rattle.std.proofs.lemmas.Option.{slice_get_within}
-
-pub some_same : {A : Type 0} {a b : A} → Some a ≡ Some b → a ≡ b
-some_same e = cc
-
-pub some_at : {A : Type 0} (xs : List A) (place : ℕ) (was : A) → place < length xs → was ≡ get_or xs place was → slice_get xs place ≡ Some was
-some_at xs place was w e = go xs place w ∙ ap Some (sym e)
-  where
-    go : (ts : List _) (k : ℕ) → k < length ts → slice_get ts k ≡ Some (get_or ts k was)
-    go [] k w = absurd (omega arith)
-    go (t ∷ ts) zero w = refl
-    go (t ∷ ts) (suc k) w = go ts k (omega arith)
-
-pub set_here : {A : Type 0} (xs : List A) (k : ℕ) (x y : A) → slice_get (slice_set xs k y) k ≡ Some x → x ≡ y
-set_here [] k x y e = absurd cc
-set_here (z ∷ xs) zero x y e = sym (some_same e)
-set_here (z ∷ xs) (suc k) x y e = set_here xs k x y e
-
-pub set_there : {A : Type 0} (xs : List A) (k j : ℕ) (y : A) → (j ≡ k → ⊥) → slice_get (slice_set xs k y) j ≡ slice_get xs j
-set_there [] k j y ne = refl
-set_there (z ∷ xs) zero zero y ne = absurd (ne refl)
-set_there (z ∷ xs) zero (suc j) y ne = refl
-set_there (z ∷ xs) (suc k) zero y ne = refl
-set_there (z ∷ xs) (suc k) (suc j) y ne = set_there xs k j y (λ e. ne (ap suc e))
 
 pub set_at : {A : Type 0} (xs : List A) (k : ℕ) (x y : A) → slice_get xs k ≡ Some x → slice_get (slice_set xs k y) k ≡ Some y
 set_at [] k x y e = absurd cc
@@ -47,11 +25,6 @@ each_set {A = A} xs ys t y P Q set p f q k x e = go (cases_eq k t)
     go (inr n) = let old : slice_get xs k ≡ Some x = sym (set_there xs t k y n) ∙ there in f k x n old (p k x old)
 
 -- lists of the same shape
-pub map_set : {A B : Type 0} (f : A → B) (xs : List A) (k : ℕ) (x y : A) → slice_get xs k ≡ Some x → f y ≡ f x → map f (slice_set xs k y) ≡ map f xs
-map_set f [] k x y e s = refl
-map_set {B = B} f (z ∷ xs) zero x y e s = ap (λ (w : B). w ∷ map f xs) (s ∙ ap f (sym (some_same e)))
-map_set {B = B} f (z ∷ xs) (suc k) x y e s = ap (λ (ws : List B). f z ∷ ws) (map_set f xs k x y e s)
-
 pub map_get : {A B : Type 0} (f : A → B) (xs : List A) (k : ℕ) (x : A) → slice_get xs k ≡ Some x → slice_get (map f xs) k ≡ Some (f x)
 map_get f [] k x e = absurd cc
 map_get f (y ∷ xs) zero x e = ap (λ z. Some (f z)) (some_same e)
@@ -71,11 +44,6 @@ nil_of (x ∷ xs) e = absurd (omega arith)
 
 pub at_get : {A : Type 0} (xs : List A) (k : ℕ) (x y : A) → slice_get xs k ≡ Some x → y ≡ get_or xs k y → y ≡ x
 at_get xs k x y e s = some_same (sym (some_at xs k y (slice_get_within xs k x e) s) ∙ e)
-
-pub set_length : {A : Type 0} (xs : List A) (k : ℕ) (y : A) → length (slice_set xs k y) ≡ length xs
-set_length [] k y = refl
-set_length (z ∷ xs) zero y = refl
-set_length (z ∷ xs) (suc k) y = ap suc (set_length xs k y)
 
 pub nil_append : {A : Type 0} (xs : List A) → xs ++ [] ≡ xs
 nil_append [] = refl

@@ -14,8 +14,9 @@ use Rattle.task_pads.specs.Behind.{goes, leads_on}
 use Rattle.task_pads.specs.Pads.{PadShape, Rest, pad_shape, rest_of, waiting_of}
 use Rattle.task_pads.specs.Put.{Spread, SpreadAt}
 use Rattle.pad_core.specs.SrcPad.{state_of}
-use Rattle.task_parts.specs.Gathered.{are_linked, are_within, is_nothing, linked_else, pads_idle}
-use Rattle.task_parts.proofs.Lists.{map_over, map_size, some_same}
+use Rattle.task_parts.specs.Gathered.{AreFilled, are_linked, are_within, linked_else}
+use Rattle.task_pads.proofs.Lists.{some_same}
+use Rattle.task_parts.proofs.Lists.{map_over, map_size}
 
 pub and_left : (a b : Bool) → (a && b) ≡ true → a ≡ true
 and_left true b e = refl
@@ -90,38 +91,35 @@ fill_spread {O = O} (q ∷ []) p p' out out' one at rest waits = λ place pad at
     go (suc k) pad at' = absurd cc
 fill_spread (q ∷ r ∷ s) p p' out out' one at rest waits = absurd (omega (arith, one))
 
-nothing_is : {A : Type 0} (xs : List A) → is_nothing xs ≡ true → xs ≡ []
-nothing_is [] e = refl
-nothing_is (x ∷ xs) e = absurd cc
-
-pub fill_all : {O : Type 0} (pads : List (Pad O)) (p p' : Pad O) (out out' : List Out) → slice_get pads 0 ≡ Some p → (waiting_of p ≡ [] → out' ≡ []) → (waiting_of p ≢ [] → (out' ≡ out) × (waiting_of p' ≡ waiting_of p))
-    → pads_idle (slice_set pads 0 p') ≡ true → out' ≡ []
-fill_all [] p p' out out' at filled stays idle = absurd cc
-fill_all (q ∷ pads) p p' out out' at filled stays idle = go (waiting_of p) refl
+pub nil_when : {A : Type 0} (xs : List A) → eqb (length xs) 0 ≡ true → xs ≡ []
+nil_when [] e = refl
+nil_when (x ∷ xs) e = go (eqb_tells (length (x ∷ xs)) 0)
   where
-    none : waiting_of p' ≡ []
-    none = nothing_is (waiting_of p') (and_left (is_nothing (waiting_of p')) (pads_idle pads) idle)
+    go : ((eqb (length (x ∷ xs)) 0 ≡ true) × (length (x ∷ xs) ≡ 0)) ⊎ ((eqb (length (x ∷ xs)) 0 ≡ false) × (length (x ∷ xs) ≡ 0 → ⊥)) → x ∷ xs ≡ []
+    go (inl t) = absurd (let w = t.1 in omega (arith, w))
+    go (inr t) = absurd (let k : false ≡ true = sym t.0 ∙ e in cc)
 
-    go : (w : List Item) → waiting_of p ≡ w → out' ≡ []
-    go [] e = filled e
-    go (x ∷ xs) e = filled (sym ((stays (λ z. let k : x ∷ xs ≡ [] = sym e ∙ z in cc)).1) ∙ none)
+-- nothing is to go to a pad
+pub filled_none : {O : Type 0} (pads : List (Pad O)) (out : List Out) → out ≡ [] → AreFilled pads out
+filled_none pads out none = λ port pad at idle. ap (on_port port) none
+
+pub fill_all : {O : Type 0} (pads : List (Pad O)) (p p' : Pad O) (out out' : List Out) → length pads ≡ 1 → slice_get pads 0 ≡ Some p → (waiting_of p ≡ [] → out' ≡ []) → (waiting_of p ≢ [] → (out' ≡ out) × (waiting_of p' ≡ waiting_of p))
+    → AreFilled (slice_set pads 0 p') out'
+fill_all [] p p' out out' one at filled stays = absurd (omega (arith, one))
+fill_all {O = O} (q ∷ []) p p' out out' one at filled stays = λ port pad here idle. go port pad here idle (waiting_of p) refl
+  where
+    go : (port : ℕ) (pad : Pad O) → slice_get (p' ∷ []) port ≡ Some pad → waiting_of pad ≡ [] → (w : List Item) → waiting_of p ≡ w → on_port port out' ≡ []
+    go zero pad here idle [] e = ap (on_port 0) (filled e)
+    go zero pad here idle (x ∷ xs) e =
+        let none : waiting_of p' ≡ [] = ap (λ (z : Pad O). waiting_of z) (some_same here) ∙ idle in
+        ap (on_port 0) (filled (sym ((stays (λ z. let k : x ∷ xs ≡ [] = sym e ∙ z in cc)).1) ∙ none))
+    go (suc k) pad here idle w e = absurd cc
+fill_all (q ∷ r ∷ s) p p' out out' one at filled stays = absurd (omega (arith, one))
 
 pub eaten : (r : Result (Unit {0}) Refusal) (stood stands : Rule → List (List Call) → Type 0) (n n' pad : ℕ) (item : Item) (outs outs' : List Out) → OnOk r (Takes stood stands n pad item outs outs') → OnErr r (outs' ≡ outs) → n' ≡ n
     → are_within n outs ≡ true → are_within n' outs' ≡ true
 eaten (Ok u) stood stands n n' pad item outs outs' t o p w = subst (λ (k : ℕ). are_within k outs' ≡ true) (sym p) (within_append n outs t.more outs' t.appended w t.within)
 eaten (Err x) stood stands n n' pad item outs outs' t o p w = subst (λ (k : ℕ). are_within k outs' ≡ true) (sym p) (subst (λ (os : List Out). are_within n os ≡ true) (sym o) w)
-
-nothing_of : {A : Type 0} (xs : List A) → xs ≡ [] → is_nothing xs ≡ true
-nothing_of [] e = refl
-nothing_of (x ∷ xs) e = absurd cc
-
-something_of : {A : Type 0} (xs : List A) → xs ≢ [] → is_nothing xs ≡ false
-something_of [] e = absurd (e refl)
-something_of (x ∷ xs) e = refl
-
-and_no : (a b : Bool) → b ≡ false → (a && b) ≡ false
-and_no true b e = e
-and_no false b e = refl
 
 or_yes : (a b : Bool) → b ≡ true → (a || b) ≡ true
 or_yes true b e = refl
@@ -134,19 +132,6 @@ or_first false b e = absurd cc
 or_none : (a b : Bool) → a ≡ false → b ≡ false → (a || b) ≡ false
 or_none true b e f = absurd cc
 or_none false b e f = f
-
-and_first : (a b : Bool) → a ≡ false → (a && b) ≡ false
-and_first true b e = absurd cc
-and_first false b e = refl
-
-pub idle_yes : {O : Type 0} (pads : List (Pad O)) → ((j : ℕ) (pad : Pad O) → slice_get pads j ≡ Some pad → waiting_of pad ≡ []) → pads_idle pads ≡ true
-idle_yes [] f = refl
-idle_yes (p ∷ pads) f = both (is_nothing (waiting_of p)) (pads_idle pads) (nothing_of (waiting_of p) (f 0 p refl)) (idle_yes pads (λ j pad at. f (suc j) pad at))
-
-pub idle_no : {O : Type 0} (pads : List (Pad O)) (k : ℕ) (pad : Pad O) → slice_get pads k ≡ Some pad → waiting_of pad ≢ [] → pads_idle pads ≡ false
-idle_no [] k pad at w = absurd cc
-idle_no {O = O} (p ∷ pads) zero pad at w = and_first (is_nothing (waiting_of p)) (pads_idle pads) (something_of (waiting_of p) (λ z. w (ap (λ (q : Pad O). waiting_of q) (sym (some_same at)) ∙ z)))
-idle_no (p ∷ pads) (suc k) pad at w = and_no (is_nothing (waiting_of p)) (pads_idle pads) (idle_no pads k pad at w)
 
 are_yes : {O : Type 0} (pads : List (Pad O)) (k : ℕ) (pad : Pad O) → slice_get pads k ≡ Some pad → leads_on (rest_of pad).behind ≡ true → are_linked pads ≡ true
 are_yes [] k pad at w = absurd cc

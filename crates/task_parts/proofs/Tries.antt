@@ -33,7 +33,8 @@ use Rattle.task_parts.specs.Moved.{CanGive, HandedIn, HandedOut}
 use Rattle.task_parts.specs.Part.{PadSet, PartCrossed}
 use Rattle.task_parts.specs.Passing.{AfterSource, CrossesSource, HasPort, RowAsked}
 use Rattle.task_parts.specs.Shape.{PartShape, goes_within, has_number, pads_within, part_shape}
-use Rattle.task_parts.proofs.Lists.{at_get, map_get, map_set, set_at, some_same}
+use Rattle.task_pads.proofs.Lists.{map_set, some_same}
+use Rattle.task_parts.proofs.Lists.{at_get, map_get, set_at}
 use Rattle.task_parts.proofs.Outs.{and_left, and_right}
 use Rattle.task_parts.proofs.Turns.{set_shape}
 

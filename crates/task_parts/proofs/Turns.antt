@@ -16,7 +16,8 @@ use Rattle.task_pads.specs.Put.{Spread}
 use Rattle.task_parts.specs.declared.part.Part.{Part}
 use Rattle.task_parts.specs.Part.{PadSet, PartFed, PartSettled}
 use Rattle.task_parts.specs.Shape.{PartShape, has_number, part_shape}
-use Rattle.task_parts.proofs.Lists.{append_more, map_set, nil_append, some_same}
+use Rattle.task_pads.proofs.Lists.{map_set, some_same}
+use Rattle.task_parts.proofs.Lists.{append_more, nil_append}
 use Rattle.task_parts.proofs.Outs.{on_port_append}
 
 abbrev pub shape_with : ℕ → List PadShape → PartShape

@@ -1,5 +1,6 @@
 -- The pads of an element, and what it put out and is not there yet.
-use Rattle.std.specs.Prelude.{◌&&◌, ◌||◌, ℕ, zero, suc, Bool, true, false, not, List, [], ◌∷◌, nat_lt}
+use Rattle.std.specs.Prelude.{◌≡◌, ◌&&◌, ◌||◌, ℕ, zero, suc, Bool, true, false, not, List, [], ◌∷◌, Some, nat_lt, slice_get}
+use Rattle.element_traits.specs.Takes.{on_port}
 use Rattle.gst_item.specs.declared.out.Out.{Out}
 use Rattle.flow_model.specs.Item.{is_flush_stop}
 use Rattle.task_pads.specs.declared.pad.Pad.{Pad}
@@ -11,14 +12,9 @@ abbrev pub are_within : ℕ → List Out → Bool
 are_within ports [] = true
 are_within ports (o ∷ os) = nat_lt o.pad ports && (not (is_flush_stop o.item) && are_within ports os)
 
-abbrev pub is_nothing : {A : Type 0} → List A → Bool
-is_nothing [] = true
-is_nothing (x ∷ xs) = false
-
--- nothing waits at the pads
-abbrev pub pads_idle : {O : Type 0} → List (Pad O) → Bool
-pads_idle [] = true
-pads_idle (pad ∷ pads) = is_nothing (waiting_of pad) && pads_idle pads
+-- where nothing waits at a pad, nothing was put out that is to go there
+abbrev pub AreFilled : {O : Type 0} → List (Pad O) → List Out → Type 0
+AreFilled {O = O} pads out = (port : ℕ) (pad : Pad O) → slice_get pads port ≡ Some pad → waiting_of pad ≡ [] → on_port port out ≡ []
 
 abbrev pub are_linked : {O : Type 0} → List (Pad O) → Bool
 are_linked [] = false

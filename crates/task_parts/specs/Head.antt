@@ -1,5 +1,5 @@
 -- What a source that is asked for its next item does.
-use Rattle.std.specs.Prelude.{◌≡◌, ◌≤◌, ◌+◌, true, List, [], ◌∷◌, ◌++◌}
+use Rattle.std.specs.Prelude.{◌≡◌, ◌≤◌, ◌<◌, ◌+◌, true, List, [], ◌∷◌, ◌++◌}
 use Rattle.flow_model.specs.Item.{Item, is_flush_stop}
 use Rattle.element_traits.specs.declared.source.TaskSource as sources
 use Rattle.task_pads.specs.Pads.{waiting_of}
@@ -24,6 +24,7 @@ module _ {S O : Type 0} {s : sources.Ghosts S} where
     pub gave : GaveMore old new item
     pub waiting : waiting_of new.pad ≡ waiting_of old.pad ++ item ∷ []
     pub given : new.given ≡ old.given + 1
+    pub few : old.given ≤ 1099511627776
 
   -- it gave a FLUSH_STOP
   pub record SourceGaveFlush (old new : SourceHead S O s) : Type 0 where
@@ -32,9 +33,10 @@ module _ {S O : Type 0} {s : sources.Ghosts S} where
     pub gave : GaveMore old new item
     pub waiting : waiting_of new.pad ≡ waiting_of old.pad
     pub given : new.given ≡ old.given + 1
+    pub few : old.given ≤ 1099511627776
 
   abbrev pub SourceGives : SourceHead S O s → SourceHead S O s → Given → Type 0
   SourceGives old new given.Item = SourceGaveItem old new
   SourceGives old new given.FlushStop = SourceGaveFlush old new
   SourceGives old new given.Ended = SourceKept old new × ((owed all : List Item) → s.gave old.source owed all → owed ≡ all)
-  SourceGives old new given.AtLimit = SourceKept old new × (1099511627776 ≤ old.given)
+  SourceGives old new given.AtLimit = SourceKept old new × (1099511627776 < old.given)

@@ -1,5 +1,5 @@
 -- What becomes of an element of a task and of its source pads.
-use Rattle.std.specs.Prelude.{◌≡◌, ◌+◌, ℕ, true, List, [], ◌∷◌, ◌++◌, Option, Some, slice_get, slice_set}
+use Rattle.std.specs.Prelude.{◌≡◌, ◌+◌, ℕ, List, [], ◌∷◌, ◌++◌, Option, Some, slice_get, slice_set}
 use Rattle.gst_item.specs.declared.out.Out.{Out}
 use Rattle.flow_model.specs.Item.{Item}
 use Rattle.flow_model.specs.Call.{Call, Feed}
@@ -18,7 +18,7 @@ use Rattle.task_pads.specs.Pads.{PadReady, pad_shape, rest_of, waiting_of, CanTa
 use Rattle.task_pads.specs.Put.{IsTaken}
 use Rattle.task_pads.specs.Crossing.{IsCrossing}
 use Rattle.task_parts.specs.declared.part.Part.{Part}
-use Rattle.task_parts.specs.Gathered.{pads_idle, linked_else}
+use Rattle.task_parts.specs.Gathered.{AreFilled, linked_else}
 
 module _ {E O : Type 0} {e : elements.Ghosts E} where
   -- what waits at the pad of a port: what is there, and what was put out for it and is to go there
@@ -42,9 +42,9 @@ module _ {E O : Type 0} {e : elements.Ghosts E} where
     pub element : new.element ≡ old.element
     pub pads : PadsGrew old new []
 
-  -- where nothing waits at its pads, nothing is to go there
+  -- where nothing waits at one of its pads, nothing is to go there
   abbrev pub IsSettled : Part E O e → Type 0
-  IsSettled part = pads_idle part.pads.items ≡ true → part.out ≡ []
+  IsSettled part = AreFilled part.pads.items part.out
 
   -- The element took an item on a sink pad, and what it put out waits at its pads.
   pub record PartFed (old new : Part E O e) (pad : ℕ) (item : Item) : Type 0 where

@@ -63,7 +63,7 @@ module _ {E O : Type 0} {e : elements.Ghosts E} where
   AfterPart parts parts' place port part pad Idle result = (parts' ≡ parts) × (result ≡ Ok tried.Idle)
   AfterPart parts parts' place port part pad (To number hint sink) result = HandsTo parts parts' place port number sink result
   AfterPart parts parts' place port part pad Gone result = (parts' ≡ parts) × (result ≡ Ok tried.Moved)
-  AfterPart parts parts' place port part pad BehindEos result = (parts' ≡ parts) × (result ≡ Ok tried.Moved)
+  AfterPart parts parts' place port part pad BehindEos result = (parts' ≡ parts) × (result ≡ Ok (tried.Stuck steps.Ended))
   AfterPart parts parts' place port part pad (Full lane) result = (parts' ≡ parts) × (result ≡ Ok (tried.Stuck (steps.NeedsRoom lane)))
   AfterPart parts parts' place port part pad (AtProbe command) result = (parts' ≡ parts) × (result ≡ Ok (tried.Stuck (steps.AtProbe command)))
   AfterPart parts parts' place port part pad NotLinked result = (parts' ≡ parts) × (result ≡ Err (faults.NotLinked (number_of pad) (crossed_count pad)))
@@ -140,7 +140,7 @@ module _ {S E O : Type 0} {s : sources.Ghosts S} {e : elements.Ghosts E} where
   AfterSource head head' parts parts' Idle result = (head' ≡ head) × (parts' ≡ parts) × (result ≡ Ok tried.Idle)
   AfterSource head head' parts parts' (To number hint sink) result = SourceHandsTo head head' parts parts' number sink result
   AfterSource head head' parts parts' Gone result = (head' ≡ head) × (parts' ≡ parts) × (result ≡ Ok tried.Moved)
-  AfterSource head head' parts parts' BehindEos result = (head' ≡ head) × (parts' ≡ parts) × (result ≡ Ok tried.Moved)
+  AfterSource head head' parts parts' BehindEos result = (head' ≡ head) × (parts' ≡ parts) × (result ≡ Ok (tried.Stuck steps.Ended))
   AfterSource head head' parts parts' (Full lane) result = (head' ≡ head) × (parts' ≡ parts) × (result ≡ Ok (tried.Stuck (steps.NeedsRoom lane)))
   AfterSource head head' parts parts' (AtProbe command) result = (head' ≡ head) × (parts' ≡ parts) × (result ≡ Ok (tried.Stuck (steps.AtProbe command)))
   AfterSource head head' parts parts' NotLinked result = (head' ≡ head) × (parts' ≡ parts) × (result ≡ Err (faults.NotLinked (number_of head.pad) (crossed_count head.pad)))

@@ -3,7 +3,7 @@ ghost use Rattle.std.specs.Prelude.{◌≡◌, ◌&&◌, not, true, vec_len, map
 ghost use Rattle.task_pads.specs.Behind.{leads_on};
 ghost use Rattle.task_pads.specs.Pads.{rest_of};
 ghost use Rattle.task_pads.specs.Put.{Spread};
-ghost use Rattle.task_parts.specs.Gathered.{are_within, linked_else, pads_idle as idle_test};
+ghost use Rattle.task_parts.specs.Gathered.{AreFilled, are_within, linked_else};
 
 use gst_caps::OutOfMemory;
 use gst_item::Outs;
@@ -22,7 +22,7 @@ pub(crate) fn gather<O>(
     ensures spread { Spread out.old out.new pads.old.items pads.new.items }
     ensures within { are_within (vec_len pads.new) out.new ≡ true }
     ensures number { vec_len pads.new ≡ vec_len pads.old }
-    ensures all { OnOk result (idle_test pads.new.items ≡ true → out.new ≡ []) }
+    ensures all { OnOk result (AreFilled pads.new.items out.new) }
 {
     if out.as_slice().is_empty() {
         return Ok(());

@@ -52,7 +52,7 @@ pub(crate) enum Given {
     FlushStop,
     /// It has given all.
     Ended,
-    /// It has given 2^40 items.
+    /// It has given more than 2^40 items.
     AtLimit,
 }
 
@@ -86,7 +86,7 @@ impl<S: TaskSource, O: Outlet> SourceHead<S, O> {
         ensures number { self.new.number ≡ self.old.number }
         ensures rest { rest_of self.new.pad ≡ rest_of self.old.pad }
     {
-        if self.given >= MOST_ITEMS {
+        if self.given > MOST_ITEMS {
             return Ok(Given::AtLimit);
         }
         if self.pad.make_room().is_err() {
@@ -120,7 +120,7 @@ fn ask<S: TaskSource>(
     given: &mut u64,
 ) -> Result<Option<Item>, Unread>
     requires counts { S.count source.old ≤ given.old }
-    requires few { given.old < 2 ^ 40 }
+    requires few { given.old ≤ 2 ^ 40 }
     ensures gives { IfOk result (λ next. (owed given : List Item) → S.gave source.old owed given → Gives (S.gave source.new) owed given next) }
     ensures kept { OnErr result ((owed given : List Item) → S.gave source.old owed given → S.gave source.new owed given) }
     ensures counted { given.new ≡ count_after result given.old }

@@ -55,7 +55,7 @@ pub fn cross_part<E: TaskElement, O: Outlet>(
     match parts[place].cross(alloc, lanes, port) {
         Crossing::Idle => Ok(Tried::Idle),
         Crossing::Gone => Ok(Tried::Moved),
-        Crossing::BehindEos => Ok(Tried::Moved),
+        Crossing::BehindEos => Ok(Tried::Stuck(Step::Ended)),
         Crossing::Full { lane } => Ok(Tried::Stuck(Step::NeedsRoom(lane))),
         Crossing::AtProbe { command } => Ok(Tried::Stuck(Step::AtProbe(command))),
         Crossing::NotLinked => Err(not_linked(&parts[place], port)),
@@ -110,7 +110,7 @@ pub fn cross_source<S: TaskSource, E: TaskElement, O: Outlet>(
     match head.pad.cross(alloc, lanes, false) {
         Crossing::Idle => Ok(Tried::Idle),
         Crossing::Gone => Ok(Tried::Moved),
-        Crossing::BehindEos => Ok(Tried::Moved),
+        Crossing::BehindEos => Ok(Tried::Stuck(Step::Ended)),
         Crossing::Full { lane } => Ok(Tried::Stuck(Step::NeedsRoom(lane))),
         Crossing::AtProbe { command } => Ok(Tried::Stuck(Step::AtProbe(command))),
         Crossing::NotLinked => Err(TaskFault::NotLinked {

@@ -1,6 +1,6 @@
 use Rattle.std.proofs.Common.{◌∙◌, sym, arith}
 use Rattle.std.proofs.lemmas.Option.{slice_get_within}
-use Rattle.task_parts.proofs.Lists.{some_at}
+use Rattle.task_pads.proofs.Lists.{some_at}
 use Rattle.task_parts.proofs.Turns.{none_has, none_next}
 use Rattle.task_parts.proofs.find.search.Goals as goal
 

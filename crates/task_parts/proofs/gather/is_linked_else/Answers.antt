@@ -3,7 +3,7 @@ use Rattle.std.proofs.lemmas.Option.{slice_get_within}
 use Rattle.task_pads.specs.declared.pad.Pad.{Pad}
 use Rattle.task_pads.specs.Behind.{leads_on}
 use Rattle.task_pads.specs.Pads.{rest_of}
-use Rattle.task_parts.proofs.Lists.{some_at}
+use Rattle.task_pads.proofs.Lists.{some_at}
 use Rattle.task_parts.proofs.Outs.{all_next, else_no, else_yes, linked_no, linked_yes}
 use Rattle.task_parts.proofs.gather.is_linked_else.Goals as goal
 

@@ -3,7 +3,7 @@ use Rattle.flow_model.specs.Item.{Item}
 use Rattle.task_pads.specs.Pads.{IsLoose, Rest}
 use Rattle.task_pads.specs.Put.{IsTaken}
 use Rattle.task_parts.specs.Shape.{part_shape}
-use Rattle.task_parts.proofs.Lists.{map_set, some_at}
+use Rattle.task_pads.proofs.Lists.{map_set, some_at}
 use Rattle.task_parts.proofs.Outs.{shape_of_rest}
 use Rattle.task_parts.proofs.moving.hand_in.Goals as goal
 

@@ -1,7 +1,7 @@
 use Rattle.std.proofs.Common.{refl, arith, ◌∙◌}
 use Rattle.std.specs.Prelude.{slice_set}
 use Rattle.task_parts.specs.Shape.{part_shape}
-use Rattle.task_parts.proofs.Lists.{map_set, set_length, some_at}
+use Rattle.task_pads.proofs.Lists.{map_set, set_length, some_at}
 use Rattle.task_parts.proofs.Turns.{set_shape}
 use Rattle.task_parts.proofs.Moves.{again_back, again_pads, again_port, giver_gives, giver_port, giver_within}
 use Rattle.task_parts.proofs.moving.hand_on.Goals as goal

@@ -5,7 +5,8 @@ use Rattle.task_pads.specs.declared.crossing.Crossing.TheVariants as crossings
 use Rattle.task_parts.specs.declared.part.Part.{Part}
 use Rattle.task_parts.specs.declared.fault.TaskFault.TheVariants.{TooLong}
 use Rattle.task_parts.specs.Shape.{has_number, part_shape}
-use Rattle.task_parts.proofs.Lists.{at_get, set_at, set_length, some_at}
+use Rattle.task_pads.proofs.Lists.{set_length, some_at}
+use Rattle.task_parts.proofs.Lists.{at_get, set_at}
 use Rattle.task_parts.proofs.Tries.{at_other, crossed_shape, err_same, pad_in, place_within, port_in, to_gives, to_named}
 use Rattle.task_parts.proofs.passing.cross_part.Goals as goal
 

@@ -2,7 +2,8 @@ use Rattle.std.proofs.Common.{refl, arith, sym, ap, inl, inr, ◌∙◌}
 use Rattle.task_parts.specs.declared.part.Part.{Part}
 use Rattle.task_parts.specs.Fault.{refusal_fault}
 use Rattle.task_parts.specs.Shape.{part_shape}
-use Rattle.task_parts.proofs.Lists.{at_get, map_set, some_at}
+use Rattle.task_pads.proofs.Lists.{map_set, some_at}
+use Rattle.task_parts.proofs.Lists.{at_get}
 use Rattle.task_parts.proofs.Tries.{ok_same}
 use Rattle.task_parts.proofs.passing.feed_row.Goals as goal
 

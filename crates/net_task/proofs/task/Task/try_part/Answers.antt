@@ -1,23 +1,33 @@
-use Rattle.std.proofs.Common.{◌<◌, ◌∙◌, List, length, refl, ap, subst, sym}
+use Rattle.std.proofs.Common.{◌∙◌, ◌<◌, ◌+◌, List, ap, arith, inl, length, refl, subst, sym}
 use Rattle.task_pads.specs.declared.pad.Pad.{Pad}
-use Rattle.task_parts.specs.Shape.{TaskShape}
-use Rattle.net_task.specs.Failed.{no_memory}
+use Rattle.net_task.specs.Failed.{at_head, memory, no_memory}
+use Rattle.net_task.specs.Frame.{TaskFrame, WireAt, frame_of}
+use Rattle.net_task.specs.Tries.{IsAtPort, IsFirstOf, IsOfPart}
 use Rattle.net_task.proofs.Closed.{handed_on}
-use Rattle.net_task.proofs.Asking.{settled}
-use Rattle.net_task.proofs.SoFar.{PadsAre, kept_so, parts_within, settled_so, more_so, moved_so, tries_so, fails_so, has_port, pads_are, pads_counted}
-use Rattle.net_task.proofs.Resting.{on_ok, idle_first, idle_then, idle_end, rest_at}
+use Rattle.net_task.proofs.Asking.{settled, settled_frame}
+use Rattle.net_task.proofs.SoFar.{PadsAre, WasBelow, below_all, done_so, fails_so, first_of, has_port, more_so, moved_so, none_below, on_ok, one_below, pads_are, pads_counted, parts_within, settled_so, settled_then}
 use Rattle.net_task.proofs.task.Task.try_part.Goals as goal
 
 pub returns-then-is_err-clause-faults : goal.returns-then-is_err-clause-faults
-returns-then-is_err-clause-faults g c = λ m a. no_memory (settled g.I.Inlet g.O.Outlet c.args.self.now.head c.args.self.now.parts.items c.settle.new.parts.items c.args.place c.settle.ensures.settled c.settle.ensures.shape m a)
+returns-then-is_err-clause-faults g c = record {
+  cause = memory;
+  fails = λ m a. record {
+    origin = at_head;
+    fails = no_memory at_head (settled g.I.Inlet g.O.Outlet c.args.self.now.head c.args.self.now.parts.items c.settle.new.parts.items c.args.place c.settle.ensures.settled c.settle.ensures.shape m a);
+    first = inl refl;
+  };
+}
+
+pub returns-then-is_err-clause-frame : goal.returns-then-is_err-clause-frame
+returns-then-is_err-clause-frame g c = settled_frame g.O.Outlet c.args.self.now.head c.args.self.now.parts.items c.settle.new.parts.items c.args.place c.settle.ensures.settled c.settle.ensures.shape
 
 pub loop-port-init : goal.loop-port-init
 loop-port-init g c =
     let pads = subst (λ (ps : List (Pad g.row.O.Denot)). PadsAre c.settle.new.parts.items c.args.place (length ps)) (sym c.pads-port-end.ensures)
     (pads_counted c.settle.new.parts.items c.args.place c.index.result.now (parts_within c.args.self.now.parts.items c.settle.new.parts.items c.args.place c.settle.ensures.shape (subst (λ n. c.args.place < n) c.args.self.now.parts.ok.0 c.requires.place)) c.index.ensures) in (
-      settled_so g.I.Inlet g.O.Outlet _ c.args.self.now _ c.args.place refl c.settle.ensures.settled c.settle.ensures.shape c.requires.ready,
+      settled_so _ c.args.self.now _ c.args.place (WasBelow (frame_of c.args.self.now) c.args.place 0) refl c.settle.ensures.settled c.settle.ensures.shape c.requires.ready (none_below (frame_of c.args.self.now) c.args.place),
       pads,
-      λ q. idle_first c.settle.new.parts.items c.args.place _ pads (on_ok c.settle.result _ (sym c.is_err.ensures.value ∙ c.if-is_err.false) c.settle.ensures.all),
+      on_ok c.settle.result _ (sym c.is_err.ensures.value ∙ c.if-is_err.false) c.settle.ensures.all,
     )
 
 pub try_pad-requires-clause-at : goal.try_pad-requires-clause-at
@@ -25,26 +35,38 @@ try_pad-requires-clause-at g c = λ κs w. has_port c.loop-port.self.parts.items
 
 pub returns-in_err-try_pad-clause-faults : goal.returns-in_err-try_pad-clause-faults
 returns-in_err-try_pad-clause-faults g c = handed_on c.from_residual.result c.in_err-try_pad.field-0.0 _ c.from_residual.ensures.1
-    (λ m a. fails_so _ _ c.args.self.now c.loop-port.self c.try_pad.new.self c.loop-port.tried c.in_err-try_pad.field-0.0 c.loop-port.invariant.0 m a c.in_err-try_pad.ensures.faults)
+    (fails_so _ _ c.args.self.now c.loop-port.self c.try_pad.new.self (WasBelow (frame_of c.args.self.now) c.args.place c.loop-port.port) (λ m. IsAtPort (frame_of c.loop-port.self) c.args.place c.loop-port.port) (λ m. IsFirstOf _ m (frame_of c.args.self.now) c.args.place)
+    c.loop-port.tried c.in_err-try_pad.field-0.0 c.loop-port.invariant.0 c.in_err-try_pad.ensures.faults
+    (λ m t p w. first_of _ (frame_of c.args.self.now) (frame_of c.loop-port.self) m c.args.place c.loop-port.port c.loop-port.tried c.loop-port.invariant.0.frame t p w))
+
+pub returns-in_err-try_pad-clause-frame : goal.returns-in_err-try_pad-clause-frame
+returns-in_err-try_pad-clause-frame g c = c.try_pad.ensures.frame ∙ c.loop-port.invariant.0.frame
 
 pub returns-in-Moved-clause-tries : goal.returns-in-Moved-clause-tries
-returns-in-Moved-clause-tries g c = moved_so _ _ c.args.self.now c.loop-port.self c.try_pad.new.self c.loop-port.tried c.in_ok-try_pad.field-0 c.with_next-tried.result c.loop-port.invariant.0 c.in_ok-try_pad.ensures.tries c.with_next-tried.ensures c.in-Moved.is
+returns-in-Moved-clause-tries g c =
+    moved_so _ _ _ c.args.self.now c.loop-port.self c.try_pad.new.self (WasBelow (frame_of c.args.self.now) c.args.place c.loop-port.port) (WireAt (frame_of c.loop-port.self) c.args.place c.loop-port.port) (IsOfPart (frame_of c.args.self.now) c.args.place)
+    (λ m. IsAtPort (frame_of c.loop-port.self) c.args.place c.loop-port.port) (λ m. IsFirstOf _ m (frame_of c.args.self.now) c.args.place)
+    c.loop-port.tried c.in_ok-try_pad.field-0 c.with_next-tried.result c.loop-port.invariant.0 c.in_ok-try_pad.ensures.tries c.with_next-tried.ensures c.in-Moved.is
+    (λ m t p w. first_of _ (frame_of c.args.self.now) (frame_of c.loop-port.self) m c.args.place c.loop-port.port c.loop-port.tried c.loop-port.invariant.0.frame t p w)
+
+pub returns-in-Moved-clause-frame : goal.returns-in-Moved-clause-frame
+returns-in-Moved-clause-frame g c = c.try_pad.ensures.frame ∙ c.loop-port.invariant.0.frame
 
 pub loop-port-preserved : goal.loop-port-preserved
 loop-port-preserved g c = (
-  more_so _ _ _ c.args.self.now c.loop-port.self c.try_pad.new.self c.loop-port.tried c.in_ok-try_pad.field-0 c.with_next-tried.result c.loop-port.invariant.0 c.in_ok-try_pad.ensures.tries c.in_ok-try_pad.ensures.still c.try_pad.ensures.head c.try_pad.ensures.shape c.in_ok-try_pad.ensures.kept c.in_ok-try_pad.ensures.held c.with_next-tried.ensures
-      c.in_default.not-Moved,
-  pads_are c.loop-port.self.parts.items c.try_pad.new.self.parts.items c.args.place _ (ap (λ (t : TaskShape). t.parts) c.try_pad.ensures.shape) c.loop-port.invariant.1,
-  idle_then c.loop-port.self.parts.items c.try_pad.new.self.parts.items c.args.place c.loop-port.port c.loop-port.tried c.in_ok-try_pad.field-0 c.with_next-tried.result c.with_next-tried.ensures c.loop-port.invariant.2 c.in_ok-try_pad.ensures.idle,
+  more_so _ _ _ c.args.self.now c.loop-port.self c.try_pad.new.self (WasBelow (frame_of c.args.self.now) c.args.place c.loop-port.port) (WireAt (frame_of c.loop-port.self) c.args.place c.loop-port.port) (WasBelow (frame_of c.args.self.now) c.args.place (c.loop-port.port + 1))
+      (λ m. IsAtPort (frame_of c.loop-port.self) c.args.place c.loop-port.port) c.loop-port.tried c.in_ok-try_pad.field-0 c.with_next-tried.result c.loop-port.invariant.0 c.in_ok-try_pad.ensures.tries c.try_pad.ensures.frame c.try_pad.ensures.head
+      c.with_next-tried.ensures c.in_default.not-Moved (one_below (frame_of c.args.self.now) (frame_of c.loop-port.self) c.args.place c.loop-port.port c.loop-port.invariant.0.frame),
+  pads_are g.O.Outlet c.loop-port.self.parts.items c.try_pad.new.self.parts.items c.args.place _ (ap (λ (f : TaskFrame). f.parts) c.try_pad.ensures.frame) c.loop-port.invariant.1,
+  settled_then c.try_pad.new.self.parts.items c.args.place c.loop-port.tried c.in_ok-try_pad.field-0 c.with_next-tried.result c.with_next-tried.ensures c.in_default.not-Moved c.in_ok-try_pad.ensures.settled,
 )
 
 pub returns-clause-tries : goal.returns-clause-tries
-returns-clause-tries g c = tries_so _ _ c.args.self.now c.loop-port.self c.loop-port.tried c.loop-port.invariant.0
+returns-clause-tries g c =
+    let v = c.loop-port-test.false in
+    let w = c.loop-port.auto.port-end in
+    done_so _ _ c.args.self.now c.loop-port.self (WasBelow (frame_of c.args.self.now) c.args.place c.loop-port.port) (IsOfPart (frame_of c.args.self.now) c.args.place) (λ m. IsFirstOf _ m (frame_of c.args.self.now) c.args.place) c.loop-port.tried c.loop-port.invariant.0
+    (λ wire z. subst (λ n. WasBelow (frame_of c.args.self.now) c.args.place n wire) (omega (arith, v, w)) (below_all g.O.Outlet c.loop-port.self.parts.items (frame_of c.args.self.now) c.args.place _ (ap (λ (f : TaskFrame). f.parts) c.loop-port.invariant.0.frame) c.loop-port.invariant.1 wire z))
 
-pub returns-clause-rest : goal.returns-clause-rest
-returns-clause-rest g c m a =
-    rest_at g.O.Outlet m c.args.self.now.parts.items c.loop-port.self.parts.items c.args.place _ c.loop-port.tried (ap (λ (t : TaskShape). t.parts) c.loop-port.invariant.0.shape) (c.loop-port.invariant.0.ties m a).parts_tied c.loop-port.invariant.1
-    (idle_end c.loop-port.self.parts.items c.args.place c.loop-port.port _ c.loop-port.tried c.loop-port.auto.port-end c.loop-port-test.false c.loop-port.invariant.2)
-
-pub returns-clause-kept : goal.returns-clause-kept
-returns-clause-kept g c = kept_so _ _ c.args.self.now c.loop-port.self c.loop-port.tried c.loop-port.invariant.0
+pub returns-clause-frame : goal.returns-clause-frame
+returns-clause-frame g c = c.loop-port.invariant.0.frame

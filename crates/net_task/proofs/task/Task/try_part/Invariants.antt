@@ -1,11 +1,10 @@
-use Rattle.std.proofs.Common.{◌≡◌}
-use Rattle.task_parts.specs.declared.step.Tried.TheVariants.{Idle}
-use Rattle.net_task.proofs.SoFar.{SoFar, PadsAre}
-use Rattle.net_task.proofs.Resting.{IdleSo}
+use Rattle.net_task.specs.Frame.{frame_of}
+use Rattle.net_task.specs.Tries.{SettledAt}
+use Rattle.net_task.proofs.SoFar.{PadsAre, SoFar, WasBelow}
 use Rattle.net_task.proofs.task.Task.try_part.Given as goal
 
 abbrev pub invariant-loop-port : goal.invariant-loop-port
 invariant-loop-port g l =
-    SoFar (g.O.Outlet.tells l.fn.lanes) (g.O.Outlet.tells l.lanes) l.fn.self l.self l.tried
+    SoFar (g.O.Outlet.tells l.fn.lanes) (g.O.Outlet.tells l.lanes) l.fn.self l.self (WasBelow (frame_of l.fn.self) l.place l.port) l.tried
     × PadsAre l.self.parts.items l.place l.port-end
-    × (l.tried ≡ Idle → IdleSo l.self.parts.items l.place l.port)
+    × SettledAt l.self.parts.items l.place

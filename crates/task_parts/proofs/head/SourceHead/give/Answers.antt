@@ -4,8 +4,8 @@ use Rattle.task_parts.specs.declared.head.Given.TheVariants as given
 use Rattle.task_parts.proofs.Tries.{gave_item, gives_as, gave_none, no_more, one_more}
 use Rattle.task_parts.proofs.head.SourceHead.give.Goals as goal
 
-pub returns-then-self-ge-MOST_ITEMS-clause-gives : goal.returns-then-self-ge-MOST_ITEMS-clause-gives
-returns-then-self-ge-MOST_ITEMS-clause-gives g c = (record { gave = λ owed given h. h; waiting = refl; given = refl }, omega (arith, c.if-self-ge-MOST_ITEMS.true))
+pub returns-then-self-gt-MOST_ITEMS-clause-gives : goal.returns-then-self-gt-MOST_ITEMS-clause-gives
+returns-then-self-gt-MOST_ITEMS-clause-gives g c = (record { gave = λ owed given h. h; waiting = refl; given = refl }, omega (arith, c.if-self-gt-MOST_ITEMS.true))
 
 pub returns-then-is_err-clause-kept : goal.returns-then-is_err-clause-kept
 returns-then-is_err-clause-kept g c = record { gave = λ owed given h. h; waiting = c.make_room.ensures.waiting; given = refl }
@@ -17,6 +17,7 @@ returns-then-is_flush_stop-clause-gives g c = gives_as c.args.self.now _ given.F
   gave = gave_item g.S.TaskSource c.args.self.now.source c.ask.new.source c.in-Ok-Some.field-0 c.in-Ok-Some.item c.in-Ok-Some.field-0-is c.in-Ok-Some.ensures.gives;
   waiting = c.make_room.ensures.waiting;
   given = one_more c.in-Ok-Some.field-0 c.in-Ok-Some.item c.args.self.now.given c.ask.new.given c.in-Ok-Some.field-0-is c.in-Ok-Some.ensures.counted;
+  few = omega (arith, c.if-self-gt-MOST_ITEMS.false);
 })
 
 pub returns-else-is_flush_stop-clause-gives : goal.returns-else-is_flush_stop-clause-gives
@@ -25,6 +26,7 @@ returns-else-is_flush_stop-clause-gives g c = record {
   gave = gave_item g.S.TaskSource c.args.self.now.source c.ask.new.source c.in-Ok-Some.field-0 c.in-Ok-Some.item c.in-Ok-Some.field-0-is c.in-Ok-Some.ensures.gives;
   waiting = c.push_reserved.ensures.waiting ∙ ap (λ (xs : List Item). xs ++ c.in-Ok-Some.item ∷ []) c.make_room.ensures.waiting;
   given = one_more c.in-Ok-Some.field-0 c.in-Ok-Some.item c.args.self.now.given c.ask.new.given c.in-Ok-Some.field-0-is c.in-Ok-Some.ensures.counted;
+  few = omega (arith, c.if-self-gt-MOST_ITEMS.false);
 }
 
 pub returns-in-Ok-None-clause-gives : goal.returns-in-Ok-None-clause-gives

@@ -1,7 +1,7 @@
 use Rattle.std.proofs.Common.{refl, arith, subst, ap, ◌∙◌, Bool}
 use Rattle.task_pads.specs.Crossing.{IsCrossing}
 use Rattle.task_parts.specs.Gathered.{linked_else}
-use Rattle.task_parts.proofs.Lists.{some_at}
+use Rattle.task_pads.proofs.Lists.{some_at}
 use Rattle.task_parts.proofs.part.Part.cross.Goals as goal
 
 pub cross-requires-clause-table : goal.cross-requires-clause-table

@@ -1,5 +1,5 @@
 use Rattle.std.proofs.Common.{refl, arith}
-use Rattle.task_parts.proofs.Lists.{some_at}
+use Rattle.task_pads.proofs.Lists.{some_at}
 use Rattle.task_parts.proofs.Outs.{shape_of_rest}
 use Rattle.task_parts.proofs.part.Part.take.Goals as goal
 

@@ -1,5 +1,5 @@
 use Rattle.std.proofs.Common.{refl, arith}
-use Rattle.task_parts.proofs.Lists.{some_at}
+use Rattle.task_pads.proofs.Lists.{some_at}
 use Rattle.task_parts.proofs.part.Part.take_back.Goals as goal
 
 pub take_back-requires-after_bounds : goal.take_back-requires-after_bounds
