@@ -1,0 +1,127 @@
+-- Why a task that did not move cannot, and what becomes of the rows of its head.
+use Rattle.std.proofs.Common.{◌≡◌, ℕ, List, [], Option, None, Some, sym, ap, ◌∙◌, subst, ⊎_elim, arith}
+use Rattle.std.specs.Prelude.{slice_get, slice_set}
+use Rattle.std.proofs.lemmas.Bool.{cases_eq}
+use Rattle.flow_model.specs.Item.{Item}
+use Rattle.flow_model.specs.Call.{feeds}
+use Rattle.lane_core.specs.Lane.{Lane}
+use Rattle.lane_core.specs.declared.ends.Inlet as inlets
+use Rattle.lane_core.specs.declared.ends.Outlet as outlets
+use Rattle.net_model.specs.Moment.{Moment}
+use Rattle.element_traits.specs.declared.element.TaskElement as elements
+use Rattle.element_traits.specs.declared.source.TaskSource as sources
+use Rattle.inlet_row.specs.declared.feeding.Taken.TheVariants.{Empty}
+use Rattle.inlet_row.specs.declared.row.InletRow.{InletRow}
+use Rattle.inlet_row.specs.Row.{AreApart, RowBetween}
+use Rattle.task_parts.specs.declared.head.Head.{Head}
+use Rattle.task_parts.specs.declared.head.Head.TheVariants.{Source, Inlets}
+use Rattle.task_parts.specs.declared.head.InletHead.{InletHead}
+use Rattle.task_parts.specs.declared.part.Part.{Part}
+use Rattle.task_parts.specs.Passing.{AsksRow, RowAsked}
+use Rattle.net_task.specs.Frame.{head_frame}
+use Rattle.net_task.specs.Moves.{RowsKept}
+use Rattle.net_task.specs.Reasons.{HeadGaveAll}
+use Rattle.net_task.specs.Reasons as reasons
+use Rattle.task_parts.specs.Found.{IsAt}
+use Rattle.net_task.specs.Ties.{PartsTied, Stands}
+use Rattle.net_turns.specs.Net.{ListAt, RowStands}
+use Rattle.net_turns.specs.Rests.{HeadEnded, HeadLacks, Wants}
+use Rattle.net_turns.proofs.Places.{some_same, set_at, set_there}
+use Rattle.net_turns.proofs.Refused.{RowKeeps, keeps_same, moves_behind, moves_within}
+use Rattle.net_turns.proofs.Rested.{HeadKeeps}
+
+module _ {I L O : Type 0} (i : inlets.Ghosts I L O) (t : List Lane) (tells : Option (List Lane)) (told : tells ≡ Some t) where
+  -- a row that was asked for an item stood for what it stands for
+  between_told : (sents : ℕ → List Item) (row : InletRow I) (got : List Item) → RowBetween i (Some t) sents row got → RowBetween i tells sents row got
+  between_told sents row got h = subst (λ (u : Option (List Lane)). RowBetween i u sents row got) (sym told) h
+
+  pub asked_keeps : (head head' : InletHead I) (port number : ℕ) → (a : AsksRow i head head' port tells tells (Empty number)) → AreApart i a.was → RowKeeps i t a.was a.is
+  asked_keeps head head' port number a apart = record {
+    behind = λ place h. moves_behind i tells a.was a.is number place a.moves h;
+    within = moves_within i tells a.was a.is number a.moves;
+    stands = λ sents m n p h.
+        let held = a.holds t sents h.got told apart h.between in
+        record {
+          got = h.got;
+          took = h.took;
+          between = subst (λ (u : Option (List Lane)). RowBetween i u sents a.is h.got) told (a.between sents h.got apart (between_told sents a.was h.got h.between));
+          holds = subst (λ (xs : List Item). ListAt p (m.held n) (feeds xs)) (held.1 ∙ sym held.2) h.holds;
+        };
+  }
+
+  -- none stood there
+  pub asked_empty : (head head' : InletHead I) (port number n : ℕ) (sents : ℕ → List Item) (m : Moment) → (a : AsksRow i head head' port tells tells (Empty number)) → AreApart i a.was
+      → RowStands i t sents m n port a.was → ListAt port (m.held n) []
+  asked_empty head head' port number n sents m a apart h =
+      let held = a.holds t sents h.got told apart h.between in
+      subst (λ (xs : List Item). ListAt port (m.held n) (feeds xs)) held.1 h.holds
+
+module _ {S I O L : Type 0} (s : sources.Ghosts S) (i : inlets.Ghosts I L O) (t : List Lane) (tells : Option (List Lane)) (told : tells ≡ Some t) where
+  -- no two lanes of a row of a head have one place
+  abbrev pub HeadApart : Head S I O s → Type 0
+  HeadApart (Source head) = Unit {0}
+  HeadApart (Inlets head) = (port : ℕ) (row : InletRow I) → slice_get head.rows.items port ≡ Some row → AreApart i row
+
+  pub heads_kept : (was is : Head S I O s) → RowsKept was is → HeadKeeps {s = s} i t was is
+  heads_kept (Source head) is h = tt
+  heads_kept (Inlets head) (Source head') h = tt
+  heads_kept (Inlets head) (Inlets head') h = λ port row at. (row, ap (λ rows. slice_get rows.items port) h ∙ at, keeps_same i t row)
+
+  pub heads_asked : (head head' : InletHead I) (port number : ℕ) → HeadApart (Inlets head) → RowAsked i head head' port tells tells (Empty number)
+      → HeadKeeps {s = s} i t (Inlets head) (Inlets head')
+  heads_asked head head' port number apart h =
+      ⊎_elim
+      (λ a. λ p row at.
+      ⊎_elim
+      (λ same.
+      let one : a.was ≡ row = some_same (sym a.set.at ∙ ap (λ j. slice_get head.rows.items j) (sym same) ∙ at) in (
+        a.is,
+        ap (λ rows. slice_get rows p) a.set.set ∙ ap (λ j. slice_get (slice_set head.rows.items port a.is) j) same ∙ set_at head.rows.items port a.was a.is a.set.at,
+        subst (λ (r : InletRow I). RowKeeps i t r a.is) one (asked_keeps i t tells told head head' port number a (apart port a.was a.set.at)),
+      ))
+      (λ ne. (row, ap (λ rows. slice_get rows p) a.set.set ∙ set_there head.rows.items port p a.is ne ∙ at, keeps_same i t row))
+      (cases_eq p port))
+      (λ b. λ p row at. (row, ap (λ rows. slice_get rows.items p) b.rows ∙ at, keeps_same i t row))
+      h
+
+  pub heads_lacking : {E : Type 0} {e : elements.Ghosts E} (was is : Head S I O s) (parts : List (Part E O e)) (lane : ℕ) → HeadApart was
+      → reasons.HeadLacks i tells was is parts lane → HeadKeeps {s = s} i t was is
+  heads_lacking (Source head) is parts lane apart h = tt
+  heads_lacking (Inlets head) (Source head') parts lane apart h = tt
+  heads_lacking (Inlets head) (Inlets head') parts lane apart h = heads_asked head head' h.2 lane apart h.4
+
+module _ {E O L : Type 0} {e : elements.Ghosts E} (o : outlets.Ghosts O L) (m : Moment) (parts : List (Part E O e)) (tied : PartsTied o (Stands m) m parts) where
+  -- an element of the task wants this
+  wants_at : (n to : ℕ) (port : Option ℕ) → (at : IsAt parts n to) → e.wanted at.part.element ≡ port → Wants e m n port
+  wants_at n to port at wanted = record {
+    element = at.part.element;
+    stands = subst (λ (k : ℕ). e.stands at.part.element (m.plan.rule k) (m.took k)) at.number_is (tied.each to at.part at.at).stood;
+    wants = wanted;
+  }
+
+module _ {S I O L : Type 0} {s : sources.Ghosts S} (i : inlets.Ghosts I L O) (t : List Lane) (m : Moment) (sents : ℕ → List Item) where
+  -- the rows of a head stand
+  abbrev pub HeadStands : Head S I O s → Type 0
+  HeadStands (Source head) = Unit {0}
+  HeadStands (Inlets head) = (port : ℕ) (row : InletRow I) → slice_get head.rows.items port ≡ Some row → RowStands i t sents m head.number port row
+
+module _ {S E I O L : Type 0} {s : sources.Ghosts S} {e : elements.Ghosts E} (i : inlets.Ghosts I L O) (o : outlets.Ghosts O L) (t : List Lane)
+    (tells : Option (List Lane)) (told : tells ≡ Some t)
+    (m : Moment) (sents : ℕ → List Item) (parts : List (Part E O e)) (tied : PartsTied o (Stands m) m parts) where
+  pub gave_all : (was : Head S I O s) → HeadGaveAll m was parts → HeadEnded e m (head_frame o was)
+  gave_all (Source head) h = h
+  gave_all (Inlets head) h = wants_at o m parts tied head.number h.0 None h.1 h.2
+
+  pub lacks : (was is : Head S I O s) (lane : ℕ) → HeadApart s i t tells told was → HeadStands {s = s} i t m sents was → reasons.HeadLacks i tells was is parts lane
+      → HeadLacks e m (head_frame o was)
+  lacks (Source head) is lane apart rows h = absurd h
+  lacks (Inlets head) (Source head') lane apart rows h = absurd h
+  lacks (Inlets head) (Inlets head') lane apart rows h = (
+    h.2,
+    wants_at o m parts tied head.number h.0 (Some h.2) h.1 h.3,
+    λ within.
+        ⊎_elim
+        (λ a. asked_empty i t tells told head head' h.2 lane head.number sents m a (apart h.2 a.was a.set.at) (rows h.2 a.was a.set.at))
+        (λ b. absurd (omega (arith, within, b.past)))
+        h.4,
+  )

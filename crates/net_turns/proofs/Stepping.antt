@@ -1,0 +1,105 @@
+-- A net behind a step of one of its tasks.
+use Rattle.std.proofs.Common.{◌≡◌, ◌≢◌, ◌≤◌, ◌+◌, ◌^◌, ℕ, List, length, Option, Some, Bool, false, refl, sym, ap, ◌∙◌, subst, ⊎_elim, arith}
+use Rattle.std.specs.Prelude.{slice_get, slice_set}
+use Rattle.std.proofs.lemmas.Bool.{cases_eq}
+use Rattle.flow_model.specs.Item.{Item}
+use Rattle.lane_core.specs.Lane.{Lane}
+use Rattle.lane_core.specs.declared.ends.Inlet as inlets
+use Rattle.lane_core.specs.declared.ends.Outlet as outlets
+use Rattle.net_model.specs.Moment.{Moment}
+use Rattle.element_traits.specs.declared.element.TaskElement as elements
+use Rattle.element_traits.specs.declared.source.TaskSource as sources
+use Rattle.task_parts.specs.declared.fault.TaskFault.{TaskFault}
+use Rattle.task_parts.specs.declared.step.Step.{Step}
+use Rattle.task_parts.specs.declared.step.Step.TheVariants.{Moved, NeedsItem, NeedsRoom, AtProbe, Ended}
+use Rattle.net_task.specs.declared.task.Task.{Task}
+use Rattle.net_task.specs.Frame.{frame_of}
+use Rattle.net_task.specs.Fuel.{Burns, moves_left}
+use Rattle.net_turns.specs.Net.{NetStands}
+use Rattle.net_turns.specs.Rests.{AllFramed, NetFaulted, NetStepped, has_moved}
+use Rattle.net_turns.specs.Turns.{Burned, HasMet, IsStepped, TaskStepped, net_left}
+use Rattle.net_turns.proofs.Places.{set_here, set_there, some_before, some_same, sum_set}
+use Rattle.net_turns.proofs.Resting.{rested, rested_same}
+use Rattle.net_turns.proofs.Moved.{net_step}
+
+-- what the laws of an outlet say: its count is the length of what was sent, and no lane takes more than a put allows
+pub record OutletLaws {O L : Type 0} (o : outlets.Ghosts O L) : Type 0 where
+  pub counts : (outlet : O) (was : List Item) → o.sent outlet was → length was ≡ o.count outlet
+  pub bounded : (outlet : O) → o.count outlet ≤ 2 ^ 62
+
+pub burned_by : (step : Step) (before after was is : ℕ) → is + before ≡ was + after → Burns before after step → Burned (has_moved step) was is
+burned_by Moved before after was is e b = omega (arith, e, b)
+burned_by (NeedsItem lane) before after was is e b = omega (arith, e, b)
+burned_by (NeedsRoom lane) before after was is e b = omega (arith, e, b)
+burned_by (AtProbe command) before after was is e b = omega (arith, e, b)
+burned_by Ended before after was is e b = omega (arith, e, b)
+
+module _ {S E I O L : Type 0} {s : sources.Ghosts S} {e : elements.Ghosts E} {i : inlets.Ghosts I L O} {o : outlets.Ghosts O L} where
+  -- the net goes on where the task moved, and else it stands and the task rests
+  stepped_by : OutletLaws o → (m : Moment) (tasks tasks' : List (Task S E I O L s e i o)) (tells tells' : Option (List Lane)) (place : ℕ) (before after : Task S E I O L s e i o) (step : Step) → NetStands m tasks tells
+      → slice_get tasks place ≡ Some before → ((k : ℕ) → k ≢ place → slice_get tasks' k ≡ slice_get tasks k) → slice_get tasks' place ≡ Some after
+      → TaskStepped tells tells' before after step → NetStepped (λ k. k ≡ place) (has_moved step) m tasks' tells'
+  stepped_by laws m tasks tasks' tells tells' place before after Moved net at others at_after h =
+      net_step laws.counts laws.bounded m tasks tasks' tells tells' place before after net at others at_after h.ready h.frame (λ when tied. h.steps when tied)
+  stepped_by laws m tasks tasks' tells tells' place before after (NeedsItem lane) net at others at_after h =
+      rested m tasks tasks' tells tells' place before after net at others at_after h.ready h.frame (NeedsItem lane) h refl
+  stepped_by laws m tasks tasks' tells tells' place before after (NeedsRoom lane) net at others at_after h =
+      rested m tasks tasks' tells tells' place before after net at others at_after h.ready h.frame (NeedsRoom lane) h refl
+  stepped_by laws m tasks tasks' tells tells' place before after (AtProbe command) net at others at_after h =
+      rested m tasks tasks' tells tells' place before after net at others at_after h.ready h.frame (AtProbe command) h refl
+  stepped_by laws m tasks tasks' tells tells' place before after Ended net at others at_after h =
+      rested m tasks tasks' tells tells' place before after net at others at_after h.ready h.frame Ended h refl
+
+  pub net_stepped : OutletLaws o → (m : Moment) (was is : List (Task S E I O L s e i o)) (tells tells' : Option (List Lane)) (place : ℕ) (moved : Bool) → NetStands m was tells
+      → IsStepped place moved was is tells tells'
+      → NetStepped (λ k. k ≡ place) moved m is tells'
+  net_stepped laws m was is tells tells' place moved net h =
+      subst (λ (b : Bool). NetStepped (λ k. k ≡ place) b m is tells') (sym h.moved_is) (stepped_by laws m was is tells tells' place h.before h.after h.step net h.at h.others h.at_after h.stepped)
+
+  -- where it did not move the lanes are as they were
+  pub net_same : (m : Moment) (was is : List (Task S E I O L s e i o)) (tells tells' : Option (List Lane)) (place : ℕ) → NetStands m was tells
+      → IsStepped place false was is tells tells' → tells' ≡ tells
+  net_same m was is tells tells' place net h =
+      rested_same m was is tells tells' place h.before h.after net h.at h.others h.at_after h.stepped.ready h.stepped.frame h.step h.stepped (sym h.moved_is)
+
+  pub net_faulted : (m : Moment) (was is : List (Task S E I O L s e i o)) (tells : Option (List Lane)) (place : ℕ) (fault : TaskFault) → NetStands m was tells
+      → HasMet place fault was is tells → NetFaulted m is place fault
+  net_faulted m was is tells place fault net h = record {
+    last = m;
+    goes_on = refl;
+    was = was;
+    tells = tells;
+    net = net;
+    others = h.others;
+    before = h.before;
+    at = h.at;
+    after = h.after;
+    at_after = h.at_after;
+    failed = h.failed m (net.tied place h.before h.at);
+  }
+
+  -- frames stay over steps
+  pub framed_same : (tasks : List (Task S E I O L s e i o)) → AllFramed tasks tasks
+  framed_same tasks k before after x y = ap (λ u. frame_of u) (some_same (sym y ∙ x))
+
+  pub framed_trans : (a b c : List (Task S E I O L s e i o)) → length b ≡ length a → AllFramed a b → AllFramed b c → AllFramed a c
+  framed_trans a b c same x y k before after at at' =
+      some_before b a k before (frame_of after ≡ frame_of before) (sym same) at (λ middle here. y k middle after here at' ∙ x k before middle at here)
+
+  pub framed_set : (tasks : List (Task S E I O L s e i o)) (place : ℕ) (was is : Task S E I O L s e i o) → slice_get tasks place ≡ Some was → frame_of is ≡ frame_of was
+      → AllFramed tasks (slice_set tasks place is)
+  framed_set tasks place was is at f k before after x y =
+      ⊎_elim
+      (λ here.
+      let one : before ≡ was = some_same (sym x ∙ ap (λ j. slice_get tasks j) here ∙ at) in
+      let two : after ≡ is = set_here tasks place after is (subst (λ (j : ℕ). slice_get (slice_set tasks place is) j ≡ Some after) here y) in
+      ap (λ u. frame_of u) two ∙ f ∙ ap (λ u. frame_of u) (sym one))
+      (λ ne. ap (λ u. frame_of u) (some_same (sym y ∙ set_there tasks place k is ne ∙ x)))
+      (cases_eq k place)
+
+  -- what a step uses up
+  pub net_burned : (tasks : List (Task S E I O L s e i o)) (place : ℕ) (was is : Task S E I O L s e i o) (step : Step) → slice_get tasks place ≡ Some was
+      → Burns (moves_left was) (moves_left is) step
+      → Burned (has_moved step) (net_left tasks) (net_left (slice_set tasks place is))
+  net_burned tasks place was is step at b =
+      burned_by step (moves_left was) (moves_left is) (net_left tasks) (net_left (slice_set tasks place is)) (sum_set (λ (task : Task S E I O L s e i o). moves_left task) tasks place was is at) b

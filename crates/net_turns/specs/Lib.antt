@@ -1,0 +1,4 @@
+pub mod Ends
+pub mod Net
+pub mod Rests
+pub mod Turns

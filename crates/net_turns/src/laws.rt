@@ -1,0 +1,13 @@
+//! Laws of nets.
+ghost use Rattle.net_turns.specs.Ends.{LinesEnd};
+
+use element_traits::{TaskElement, TaskSource};
+use lane_core::{Inlet, Outlet};
+
+/// Where tasks of lines cannot move, nothing waits at a pad and nothing stands in an inlet.
+///
+/// A task that waits for room has its lane full, so the task behind that lane could take from it if nothing held that up in
+/// turn; ranks that rise along the lanes exclude that all of them wait for room.
+pub fn lines_end<S: TaskSource, E: TaskElement, I: Inlet<Out = O>, O: Outlet<Lanes = I::Lanes>>()
+    ensures { LinesEnd S.TaskSource E.TaskElement I.Inlet O.Outlet }
+{}
