@@ -1,35 +1,40 @@
 -- What the rules of a graph's elements owe.
-use Rattle.std.proofs.Common.{◌≡◌, ℕ, zero, suc, Bool, true, false, eqb, if◌then◌else◌, List, [], ◌∷◌, Option, None, Some, map, refl, sym, subst}
+use Rattle.std.proofs.Common.{◌≡◌, ℕ, zero, suc, Bool, true, false, eqb, if◌then◌else◌, List, [], ◌∷◌, ◌++◌, Option, None, Some, map, refl, ap, subst}
 use Rattle.std.specs.Prelude.{slice_get}
-use Rattle.flow_model.specs.Item.{Item, is_flush_stop}
-use Rattle.flow_model.specs.Sticky.{has_flush_stop}
-use Rattle.flow_model.specs.Prefix.{IsPrefix, nothing}
+use Rattle.pad_core.specs.Crossing.{has_ended, has_item}
+use Rattle.flow_model.specs.Item.{Item, is_flush_stop, is_eos}
+use Rattle.flow_model.specs.Sticky.{has_flush_stop, latest, since_flush_stop}
+use Rattle.flow_model.specs.Prefix.{nothing}
 use Rattle.flow_model.specs.Call.{Call, feeds}
 use Rattle.flow_model.specs.Chain.{first_section, IsPlain}
-use Rattle.flow_model.specs.Section.{section}
-use Rattle.flow_model.specs.Rule.{single, owed_for}
+use Rattle.flow_model.specs.Rule.{Rule, Response, only, single}
 use Rattle.flow_model.specs.Link.{Span}
 use Rattle.flow_model.proofs.Prefixes.{prefix_refl}
-use Rattle.flow_model.proofs.Chains.{plain_section}
 use Rattle.net_model.specs.Opening.{IsUntouched, free, from_start, AllUntouched}
 use Rattle.net_model.specs.Whole.{OwesInOrder}
 use Rattle.net_model.proofs.Singles.{single_in_order}
 use Rattle.net_model.proofs.Openings.{opening_stands}
-use Rattle.el_set.specs.Asked.{sink_pads}
+use Rattle.el_set.specs.Asked.{sink_pads, source_pads}
 use Rattle.el_set.specs.Denoted.{response_of}
 use Rattle.el_set.specs.Made.{list_of}
+use Rattle.el_set.specs.declared.settings.Settings.{Settings}
+use Rattle.el_set.specs.declared.settings.Settings.TheVariants.{FileSrc, RampTestSrc, Identity, AudioConvert, Law, RawAudioParse, AudioBufferSplit, WavParse, WavEnc, CapsFilter, Queue, FileSink, FakeSink}
 use Rattle.el_set.proofs.Ends.{plain_no_flush}
-use Rattle.el_set.proofs.SettingRules.{settings_end}
+use Rattle.el_set.proofs.Ending.{AreInner, IsEnding}
+use Rattle.task_elements.specs.Stands.{owes_nothing}
+use Rattle.task_elements.proofs.Plain.{ending_plain}
 use Rattle.graph_core.specs.Elements.{Made}
 use Rattle.graph_core.specs.Graph.{made as made_in, links as links_in}
 use Rattle.graph_core.specs.Links.{source_before}
+use Rattle.graph_core.specs.declared.graph.Graph.{Graph}
 use Rattle.graph_core.specs.declared.pad.PadLink.{PadLink}
 use Rattle.graph_core.specs.declared.pad.PadPlace.{PadPlace}
-use Rattle.line_model.specs.LineGraph.{spans_from, sink_at, sinks_in, line_plan, rule_for}
+use Rattle.line_model.specs.LineGraph.{spans_from, sink_at, sinks_in, line_plan}
 use Rattle.graph_moment.specs.Pads.{pad_owner}
-use Rattle.graph_moment.specs.Plans.{moment_plan}
-use Rattle.graph_moment.specs.Laws.{MomentStarts, MomentStands, RulesGoOn, SourcesWait, given_by, SectionsAreOne, OwesPlain}
+use Rattle.graph_moment.specs.Plans.{moment_plan, tight_rule}
+use Rattle.graph_moment.specs.Laws.{MomentStarts, MomentStands, RulesGoOn, SourcesWait, given_by, SectionsAreOne, SectionsArePlain, OwesNoneBehind, OwesPlain}
 use Rattle.graph_moment.proofs.Lists.{plain_list}
+use Rattle.graph_moment.proofs.Endings.{response_ending}
 
 untouched : (source : Option PadPlace) → IsUntouched (spans_from source)
 untouched None = free
@@ -46,30 +51,61 @@ moment_starts contents graph = record { uncut = λ p. refl; links = λ e. all_un
 pub moment_stands : MomentStands
 moment_stands contents graph e = opening_stands (moment_plan contents graph) (moment_starts contents graph) e
 
--- a source owes its list whatever was taken
-go_on : (found : Option Made) (e : ℕ) (content : List ℕ) (took : List (List Call)) → OwesInOrder (rule_for found e content) took
-go_on None e content took whole begins port j = nothing
-go_on (Some m) e content took whole begins port j = go (eqb (sink_pads m.settings) 0)
+-- A rule of the plan: that of an element without source pads, a list of its own, or that of one sink pad.
+data IsOneOf (rule : Rule) : Type 0 where
+  by_none : rule ≡ owes_nothing → IsOneOf rule
+  by_list : (list : List Item) → rule ≡ (λ inputs port. first_section list) → IsPlain list → IsOneOf rule
+  by_one : (respond : Response) → rule ≡ single respond → IsEnding respond → IsOneOf rule
+
+one_of : (found : Option Made) (e : ℕ) (content : List ℕ) → IsOneOf (tight_rule found e content)
+one_of None e content = by_none refl
+one_of (Some m) e content = go (eqb (source_pads m.settings) 0) (eqb (sink_pads m.settings) 0)
   where
-    go : (b : Bool) → IsPrefix ((if b then (λ inputs port. first_section (list_of m.settings e content)) else single (response_of m.settings)) took port j)
-        ((if b then (λ inputs port. first_section (list_of m.settings e content)) else single (response_of m.settings)) whole port j)
-    go true = prefix_refl (first_section (list_of m.settings e content) j)
-    go false = single_in_order (response_of m.settings) took whole begins port j
+    go : (b d : Bool) → IsOneOf (if b then owes_nothing else (if d then (λ inputs port. first_section (list_of m.settings e content)) else single (response_of m.settings)))
+    go true d = by_none refl
+    go false true = by_list (list_of m.settings e content) refl (plain_list m.settings e content)
+    go false false = by_one (response_of m.settings) refl (response_ending m.settings)
+
+rule_is : (contents : ℕ → List ℕ) (graph : Graph) (e : ℕ) → IsOneOf ((moment_plan contents graph).rule e)
+rule_is contents graph e = one_of (slice_get (made_in graph) e) e (contents e)
+
+-- for more it owes more
+go_on : (rule : Rule) (took : List (List Call)) → IsOneOf rule → OwesInOrder rule took
+go_on rule took (by_none is) = rw is (λ whole begins port j. nothing)
+go_on rule took (by_list items is plain) = rw is (λ whole begins port j. prefix_refl (first_section items j))
+go_on rule took (by_one respond is ending) = rw is (single_in_order respond took)
 
 pub rules_go_on : RulesGoOn
-unfolding line_plan
-rules_go_on contents graph e took = go_on (slice_get (made_in graph) e) e (contents e) took
+rules_go_on contents graph e took = go_on ((moment_plan contents graph).rule e) took (rule_is contents graph e)
 
 -- before it took anything an element owes what it gives by itself
-owes_first : (found : Option Made) (e : ℕ) (content : List ℕ) (sss : List (List Span)) (port : ℕ) → rule_for found e content (map (λ spans. []) sss) port 0 ≡ given_by found e content
+no_source : (s : Settings) → eqb (source_pads s) 0 ≡ true → eqb (sink_pads s) 0 ≡ false
+no_source (FileSrc s) e = absurd (cc)
+no_source (RampTestSrc s) e = absurd (cc)
+no_source Identity e = refl
+no_source (AudioConvert s) e = refl
+no_source (Law kind) e = refl
+no_source (RawAudioParse info) e = refl
+no_source (AudioBufferSplit s) e = refl
+no_source WavParse e = refl
+no_source WavEnc e = refl
+no_source (CapsFilter s) e = refl
+no_source (Queue s) e = refl
+no_source (FileSink s) e = refl
+no_source FakeSink e = refl
+
+owes_first : (found : Option Made) (e : ℕ) (content : List ℕ) (sss : List (List Span)) (port : ℕ) → tight_rule found e content (map (λ spans. []) sss) port 0 ≡ given_by found e content
 owes_first None e content sss port = refl
-owes_first (Some m) e content sss port = go (eqb (sink_pads m.settings) 0) sss
+owes_first (Some m) e content sss port = go (eqb (source_pads m.settings) 0) (eqb (sink_pads m.settings) 0) (no_source m.settings) sss
   where
-    go : (b : Bool) (sss : List (List Span)) → (if b then (λ inputs port. first_section (list_of m.settings e content)) else single (response_of m.settings)) (map (λ spans. []) sss) port 0
-        ≡ (if b then list_of m.settings e content else [])
-    go true sss = refl
-    go false [] = refl
-    go false (ss ∷ sss) = refl
+    go : (b d : Bool) → (b ≡ true → d ≡ false) → (sss : List (List Span))
+        → (if b then owes_nothing else (if d then (λ inputs port. first_section (list_of m.settings e content)) else single (response_of m.settings))) (map (λ spans. []) sss) port 0
+        ≡ (if d then list_of m.settings e content else [])
+    go true true other sss = let never : true ≡ false = other refl in absurd (cc)
+    go true false other sss = refl
+    go false true other sss = refl
+    go false false other [] = refl
+    go false false other (ss ∷ sss) = refl
 
 pub sources_wait : SourcesWait
 unfolding line_plan
@@ -77,45 +113,55 @@ sources_wait contents graph p =
     let e = pad_owner (made_in graph) p in
     owes_first (slice_get (made_in graph) e) e (contents e) (sinks_in (made_in graph) (links_in graph) e) _
 
--- no section has a FLUSH_STOP
-section_is_one : (j : ℕ) (xs : List Item) → has_flush_stop (section j xs) ≡ false
-section_is_one zero [] = refl
-section_is_one (suc j) [] = refl
-section_is_one zero (x ∷ xs) = go (is_flush_stop x) refl (section_is_one zero xs)
-  where
-    go : (b : Bool) → is_flush_stop x ≡ b → has_flush_stop (section zero xs) ≡ false → has_flush_stop (if b then [] else x ∷ section zero xs) ≡ false
-    go true is rest = refl
-    go false is rest = rw is rest
-section_is_one (suc j) (x ∷ xs) = go (is_flush_stop x) (section_is_one j xs) (section_is_one (suc j) xs)
-  where
-    go : (b : Bool) → has_flush_stop (section j xs) ≡ false → has_flush_stop (section (suc j) xs) ≡ false → has_flush_stop (if b then section j xs else section (suc j) xs) ≡ false
-    go true now later = now
-    go false now later = later
+-- each section is plain
+list_plain : (items : List Item) (j : ℕ) → IsPlain items → IsPlain (first_section items j)
+list_plain items zero plain = plain
+list_plain items (suc j) plain = tt
 
-first_is_one : (list : List Item) (j : ℕ) → IsPlain list → has_flush_stop (first_section list j) ≡ false
-first_is_one list zero plain = plain_no_flush list plain
-first_is_one list (suc j) plain = refl
+is_plain : (rule : Rule) (took : List (List Call)) (port j : ℕ) → IsOneOf rule → IsPlain (rule took port j)
+is_plain rule took port j (by_none is) = rw is tt
+is_plain rule took port j (by_list items is plain) = rw is (list_plain items j plain)
+is_plain rule took port j (by_one respond is ending) = rw is (ending_plain respond ending (only took) j)
 
-is_one : (found : Option Made) (e : ℕ) (content : List ℕ) (took : List (List Call)) (port j : ℕ) → has_flush_stop (rule_for found e content took port j) ≡ false
-is_one None e content took port j = refl
-is_one (Some m) e content took port j = go (eqb (sink_pads m.settings) 0)
-  where
-    go : (b : Bool) → has_flush_stop ((if b then (λ inputs port. first_section (list_of m.settings e content)) else single (response_of m.settings)) took port j) ≡ false
-    go true = first_is_one (list_of m.settings e content) j (plain_list m.settings e content)
-    go false = section_is_one j _
+pub sections_are_plain : SectionsArePlain
+sections_are_plain contents graph e took port j = is_plain ((moment_plan contents graph).rule e) took port j (rule_is contents graph e)
 
 pub sections_are_one : SectionsAreOne
-unfolding line_plan
-sections_are_one contents graph e took port j = is_one (slice_get (made_in graph) e) e (contents e) took port j
-
-owes_plain_list : (found : Option Made) (e : ℕ) (content : List ℕ) (list : List Item) (port : ℕ) → has_flush_stop list ≡ false → IsPlain (rule_for found e content (feeds list ∷ []) port 0)
-owes_plain_list None e content list port none = tt
-owes_plain_list (Some m) e content list port none = go (eqb (sink_pads m.settings) 0)
-  where
-    go : (b : Bool) → IsPlain ((if b then (λ inputs port. first_section (list_of m.settings e content)) else single (response_of m.settings)) (feeds list ∷ []) port 0)
-    go true = plain_list m.settings e content
-    go false = let plain = (settings_end m.settings).plain list none in subst IsPlain (sym (plain_section (owed_for (response_of m.settings) (feeds list)) plain)) plain
+sections_are_one contents graph e took port j = plain_no_flush ((moment_plan contents graph).rule e took port j) (sections_are_plain contents graph e took port j)
 
 pub owes_plain : OwesPlain
-unfolding line_plan
-owes_plain contents graph e list port none = owes_plain_list (slice_get (made_in graph) e) e (contents e) list port none
+owes_plain contents graph e list port quiet = sections_are_plain contents graph e (feeds list ∷ []) port 0
+
+-- of what is plain all but the last is without EOS
+inner_front : (front : List Item) (last : Item) → IsPlain (front ++ last ∷ []) → AreInner front
+inner_front [] last plain = tt
+inner_front (x ∷ front) last plain = (plain.0, go (is_eos x) plain.1, inner_front front last plain.2)
+  where
+    some : (xs : List Item) → xs ++ last ∷ [] ≡ [] → ⊥
+    some [] e = cc
+    some (y ∷ ys) e = cc
+
+    go : (b : Bool) → (b ≡ true → front ++ last ∷ [] ≡ []) → b ≡ false
+    go true last_one = absurd (some front (last_one refl))
+    go false last_one = refl
+
+-- what has no EOS leaves none in force
+none_latest : (xs : List Item) → AreInner xs → latest is_eos xs ≡ []
+none_latest [] h = refl
+none_latest (x ∷ xs) h = rw (none_latest xs h.2, h.1) refl
+
+since_inner : (xs : List Item) → AreInner xs → AreInner (since_flush_stop xs)
+since_inner [] h = tt
+since_inner (x ∷ xs) h = go (has_flush_stop xs) (is_flush_stop x) (since_inner xs h.2)
+  where
+    go : (b d : Bool) → AreInner (since_flush_stop xs) → AreInner (if b then since_flush_stop xs else (if d then xs else x ∷ xs))
+    go true d rest = rest
+    go false true rest = h.2
+    go false false rest = h
+
+not_ended : (xs : List Item) → AreInner xs → has_ended xs ≡ false
+not_ended xs h = ap has_item (none_latest (since_flush_stop xs) (since_inner xs h))
+
+pub owes_none_behind : OwesNoneBehind
+owes_none_behind contents graph e port took front last is =
+    not_ended front (inner_front front last (subst IsPlain is (sections_are_plain contents graph e took port 0)))

@@ -1,12 +1,14 @@
 -- The numbers of source pads, and the links that come from them.
-use Rattle.std.proofs.Common.{◌≡◌, ◌<◌, ◌%◌, ℕ, true, List, [], ◌∷◌, All, Option, None, Some, map, length, refl, ap, ◌∙◌, subst, arith}
+use Rattle.std.proofs.Common.{◌≡◌, ◌<◌, ◌%◌, ◌⊎◌, ℕ, true, false, eqb, if◌then◌else◌, List, [], ◌∷◌, All, Option, None, Some, map, length, refl, ap, ◌∙◌, subst, inl, inr, arith}
 use Rattle.std.specs.Prelude.{nat_lt, slice_get}
 use Rattle.std.specs.List.{range_with_len}
 use Rattle.std.specs.Option.{option_map_or}
-use Rattle.std.proofs.lemmas.Bool.{lt-ltb}
+use Rattle.std.proofs.lemmas.Bool.Decides.{eqb_tells}
+use Rattle.std.proofs.lemmas.Bool.{lt-ltb, ltb-true}
 use Rattle.std.proofs.lemmas.Nat.{mod-mul-add}
 use Rattle.flow_model.specs.Account.{EachSource, EachSourceOf, GoesForward, IsMember}
 use Rattle.el_set.specs.Asked.{source_pads, sink_pads}
+use Rattle.task_elements.specs.Stands.{owes_nothing}
 use Rattle.graph_core.specs.Elements.{Made}
 use Rattle.graph_core.specs.Graph.{IsSound, made as made_in, links as links_in, forward as forward_in}
 use Rattle.graph_core.specs.Links.{HasPads, source_before}
@@ -14,12 +16,12 @@ use Rattle.graph_core.specs.declared.graph.Graph.{Graph}
 use Rattle.graph_core.specs.declared.pad.PadLink.{PadLink}
 use Rattle.graph_core.specs.declared.pad.PadPlace.{PadPlace}
 use Rattle.graph_order.proofs.Once.{within}
-use Rattle.line_model.specs.LineGraph.{pad_id, owner_of, spans_from, sink_at, sink_count, graph_plan, line_plan}
+use Rattle.line_model.specs.LineGraph.{pad_id, owner_of, spans_from, sink_at, sink_count, graph_plan, line_plan, rule_for}
 use Rattle.line_model.proofs.Lines.{owner_at, found_in, goes_forward}
 use Rattle.line_model.proofs.Graphs.{pads_at_link, one_source, graph_goes, order_size, order_covers, listed, member}
 use Rattle.graph_moment.specs.Pads.{source_count, IsThere, is_pad, pad_owner}
-use Rattle.graph_moment.specs.Plans.{moment_plan}
-use Rattle.graph_moment.proofs.Owners.{FromPads, goes_owned}
+use Rattle.graph_moment.specs.Plans.{moment_plan, tight_plan, tight_rule}
+use Rattle.graph_moment.proofs.Owners.{FromPads, RulesAlike, goes_owned}
 
 pub port_at : (place : PadPlace) → place.pad < 64 → pad_id place % 64 ≡ place.pad
 port_at place few = mod-mul-add place.element 64 place.pad few
@@ -74,9 +76,23 @@ pub owners_alike : (contents : ℕ → List ℕ) (graph : Graph) (count : ℕ �
 unfolding line_plan
 owners_alike contents graph count p pad = owner_is (made_in graph) p pad
 
+-- a source pad that is there belongs to an element that has some
+rule_at : (found : Option Made) (e : ℕ) (content : List ℕ) (pad : ℕ) → nat_lt pad (option_map_or (λ (m : Made). source_pads m.settings) found 0) ≡ true → tight_rule found e content ≡ rule_for found e content
+rule_at None e content pad less = absurd (let none = ltb-true pad 0 less in omega (arith, none))
+rule_at (Some m) e content pad less = go (eqb_tells (source_pads m.settings) 0)
+  where
+    go : ((eqb (source_pads m.settings) 0 ≡ true) × (source_pads m.settings ≡ 0)) ⊎ ((eqb (source_pads m.settings) 0 ≡ false) × (source_pads m.settings ≡ 0 → ⊥))
+        → (if eqb (source_pads m.settings) 0 then owes_nothing else rule_for (Some m) e content) ≡ rule_for (Some m) e content
+    go (inl t) = absurd (let within = ltb-true pad (source_pads m.settings) less in omega (arith, within, t.1))
+    go (inr t) = rw t.0 refl
+
+pub rules_alike : (contents : ℕ → List ℕ) (graph : Graph) (count : ℕ → ℕ) → RulesAlike (λ p. is_pad (made_in graph) p ≡ true) (tight_plan contents graph count).rule (graph_plan contents graph count)
+unfolding line_plan
+rules_alike contents graph count p pad = rule_at (slice_get (made_in graph) (owner_of p)) (owner_of p) (contents (owner_of p)) (p % 64) pad
+
 pub moment_goes : (contents : ℕ → List ℕ) (graph : Graph) → IsSound graph → GoesForward (moment_plan contents graph) [] (forward_in graph)
 moment_goes contents graph sound =
-    goes_owned (λ p. is_pad (made_in graph) p ≡ true) (pad_owner (made_in graph)) (graph_plan contents graph (λ q. 0)).log (graph_plan contents graph (λ q. 0)) (from_pads contents graph (λ q. 0) sound)
+    goes_owned (λ p. is_pad (made_in graph) p ≡ true) (pad_owner (made_in graph)) (moment_plan contents graph).rule (graph_plan contents graph (λ q. 0)).log (graph_plan contents graph (λ q. 0)) (from_pads contents graph (λ q. 0) sound)
     (owners_alike contents graph (λ q. 0)) [] (forward_in graph) (goes_forward contents (made_in graph) (links_in graph) (forward_in graph) (λ q. []) [] (forward_in graph) (graph_goes graph sound))
 
 -- the order of a sound graph has its elements and no other

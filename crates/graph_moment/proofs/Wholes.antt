@@ -16,10 +16,10 @@ use Rattle.graph_core.specs.Graph.{IsSound, made as made_in, forward as forward_
 use Rattle.graph_core.specs.declared.graph.Graph.{Graph}
 use Rattle.line_model.specs.LineGraph.{graph_plan, line_plan, owner_of, pad_id}
 use Rattle.graph_moment.specs.Pads.{source_count, is_pad, pad_owner, at_pads}
-use Rattle.graph_moment.specs.Plans.{moment_plan}
+use Rattle.graph_moment.specs.Plans.{moment_plan, tight_plan}
 use Rattle.graph_moment.specs.Laws.{HasNumber, place_of, PadsHaveNumbers, NumbersHavePads, TightIsAlike, OrdersAreWhole, MomentIsGraph, IsIdle, IsWhole, EndIsGraph}
 use Rattle.graph_moment.proofs.Owners.{eval_alike, whole_alike, uncounted}
-use Rattle.graph_moment.proofs.Sources.{place_is_pad, port_at, owner_is, from_pads, owners_alike, few_there, moment_goes, in_order, of_order}
+use Rattle.graph_moment.proofs.Sources.{place_is_pad, port_at, owner_is, from_pads, owners_alike, rules_alike, few_there, moment_goes, in_order, of_order}
 use Rattle.line_model.proofs.Lines.{owner_at}
 
 pub pads_have_numbers : PadsHaveNumbers
@@ -46,10 +46,10 @@ tight_is_alike contents graph count sound p pad =
     let plan = graph_plan contents graph count in
     record {
       cut =
-          eval_alike (λ q. is_pad (made_in graph) q ≡ true) (pad_owner (made_in graph)) plan.log plan (from_pads contents graph count sound) (owners_alike contents graph count) (λ q i. refl) (forward_in graph)
+          eval_alike (λ q. is_pad (made_in graph) q ≡ true) (pad_owner (made_in graph)) (tight_plan contents graph count).rule plan.log plan (from_pads contents graph count sound) (owners_alike contents graph count) (rules_alike contents graph count) (λ q i. refl) (forward_in graph)
           (λ q. []) (λ q. []) (λ q i. refl) p pad;
       whole =
-          whole_alike (λ q. is_pad (made_in graph) q ≡ true) (pad_owner (made_in graph)) plan.log plan (from_pads contents graph count sound) (owners_alike contents graph count) (λ q i. refl) (forward_in graph)
+          whole_alike (λ q. is_pad (made_in graph) q ≡ true) (pad_owner (made_in graph)) (tight_plan contents graph count).rule plan.log plan (from_pads contents graph count sound) (owners_alike contents graph count) (rules_alike contents graph count) (λ q i. refl) (forward_in graph)
           (λ q. []) (λ q. []) (λ q i. refl) p pad;
     }
 
@@ -97,8 +97,9 @@ module _ (contents : ℕ → List ℕ) (graph : Graph) (m : Moment) (sound : IsS
   unfolding line_plan counted_log graph_log
   at_pad begins p pad =
       sym
-      (eval_alike (λ q. is_pad (made_in graph) q ≡ true) (pad_owner (made_in graph)) counted_log (graph_plan contents graph (λ q. length (at_pads (made_in graph) m.history q)))
-      (from_pads contents graph (λ q. length (at_pads (made_in graph) m.history q)) sound) (owners_alike contents graph (λ q. length (at_pads (made_in graph) m.history q))) same_log (forward_in graph)
+      (eval_alike (λ q. is_pad (made_in graph) q ≡ true) (pad_owner (made_in graph)) (moment_plan contents graph).rule counted_log (graph_plan contents graph (λ q. length (at_pads (made_in graph) m.history q)))
+      (from_pads contents graph (λ q. length (at_pads (made_in graph) m.history q)) sound) (owners_alike contents graph (λ q. length (at_pads (made_in graph) m.history q)))
+      (rules_alike contents graph (λ q. length (at_pads (made_in graph) m.history q))) same_log (forward_in graph)
       (λ q. []) (λ q. []) (λ q i. refl) p pad)
       ∙ moment_is_eval (at_plan m (moment_plan contents graph)) (forward_in graph) (moment_goes contents graph sound) (λ e i. begins e (of_order graph sound e i)) p (pad_member graph sound p pad)
 
@@ -125,8 +126,8 @@ module _ (contents : ℕ → List ℕ) (graph : Graph) (m : Moment) (sound : IsS
       → eval_whole (counted (at_plan m (moment_plan contents graph)) (forward_in graph)) p ≡ eval_whole (graph_plan contents graph count) p
   unfolding line_plan counted_log
   whole_alike_at count p pad =
-      whole_alike (λ q. is_pad (made_in graph) q ≡ true) (pad_owner (made_in graph)) counted_log (graph_plan contents graph count) (from_pads contents graph count sound) (owners_alike contents graph count)
-      (λ q i. refl) (forward_in graph) (λ q. []) (λ q. []) (λ q i. refl) p pad
+      whole_alike (λ q. is_pad (made_in graph) q ≡ true) (pad_owner (made_in graph)) (moment_plan contents graph).rule counted_log (graph_plan contents graph count) (from_pads contents graph count sound) (owners_alike contents graph count)
+      (rules_alike contents graph count) (λ q i. refl) (forward_in graph) (λ q. []) (λ q. []) (λ q i. refl) p pad
 
   took_whole : (count : ℕ → ℕ) (e : ℕ)
       → inputs (moment_plan contents graph) (eval_whole (counted (at_plan m (moment_plan contents graph)) (forward_in graph))) e ≡ inputs (graph_plan contents graph count) (eval_whole (graph_plan contents graph count)) e

@@ -1,11 +1,12 @@
 -- What moments of a graph's run start from, and what is said of the graph by them.
-use Rattle.std.specs.Prelude.{◌≡◌, ◌<◌, ◌%◌, ◌==◌, ℕ, true, false, List, [], ◌∷◌, Option, None, Some, if◌then◌else◌, length, slice_get}
+use Rattle.std.specs.Prelude.{◌≡◌, ◌<◌, ◌%◌, ◌==◌, ◌++◌, ℕ, true, false, List, [], ◌∷◌, Option, None, Some, if◌then◌else◌, length, slice_get}
 use Rattle.flow_model.specs.Item.{Item}
 use Rattle.flow_model.specs.Sticky.{has_flush_stop}
 use Rattle.flow_model.specs.Call.{Call, feeds}
 use Rattle.flow_model.specs.Chain.{IsPlain}
 use Rattle.flow_model.specs.Eval.{Plan, inputs, eval, eval_whole}
 use Rattle.flow_model.specs.Account.{GoesForward, IsMember}
+use Rattle.pad_core.specs.Crossing.{has_ended}
 use Rattle.net_model.specs.Moment.{Moment, CellStands}
 use Rattle.net_model.specs.Split.{AreEmpty}
 use Rattle.net_model.specs.Step.{Leads, LeadsNowhere}
@@ -101,6 +102,16 @@ SourcesWait = (contents : ℕ → List ℕ) (graph : Graph) (p : ℕ)
 abbrev pub SectionsAreOne : Type 0
 SectionsAreOne = (contents : ℕ → List ℕ) (graph : Graph) (e : ℕ) (took : List (List Call)) (port j : ℕ)
     → has_flush_stop ((moment_plan contents graph).rule e took port j) ≡ false
+
+-- For whatever an element took, no section of what it owes has a FLUSH_STOP or anything behind an EOS.
+abbrev pub SectionsArePlain : Type 0
+SectionsArePlain = (contents : ℕ → List ℕ) (graph : Graph) (e : ℕ) (took : List (List Call)) (port j : ℕ)
+    → IsPlain ((moment_plan contents graph).rule e took port j)
+
+-- So the last item that it owes in its first section comes behind no EOS.
+abbrev pub OwesNoneBehind : Type 0
+OwesNoneBehind = (contents : ℕ → List ℕ) (graph : Graph) (e port : ℕ) (took : List (List Call)) (front : List Item) (last : Item)
+    → (moment_plan contents graph).rule e took port 0 ≡ front ++ last ∷ [] → has_ended front ≡ false
 
 -- For items without FLUSH_STOP an element owes nothing behind an EOS.
 abbrev pub OwesPlain : Type 0

@@ -1,14 +1,28 @@
 -- The plan of a graph for the moments of its run.
-use Rattle.std.specs.Prelude.{ℕ, List}
+use Rattle.std.specs.Prelude.{◌==◌, ℕ, List, Option, None, Some, if◌then◌else◌, slice_get}
+use Rattle.flow_model.specs.Rule.{Rule}
 use Rattle.flow_model.specs.Eval.{Plan}
+use Rattle.el_set.specs.Asked.{source_pads}
+use Rattle.task_elements.specs.Stands.{owes_nothing}
+use Rattle.graph_core.specs.Elements.{Made}
 use Rattle.graph_core.specs.Graph.{made as made_in}
 use Rattle.graph_core.specs.declared.graph.Graph.{Graph}
-use Rattle.line_model.specs.LineGraph.{graph_plan}
+use Rattle.line_model.specs.LineGraph.{graph_plan, rule_for}
 use Rattle.graph_moment.specs.Pads.{pad_owner}
 
--- The plan of the graph, except that a number without a source pad belongs to no element.
+-- What an element owes at its source pads, by its settings. One that has none owes nothing.
+abbrev pub tight_rule : Option Made → ℕ → List ℕ → Rule
+tight_rule None e content = owes_nothing
+tight_rule (Some m) e content = if source_pads m.settings == 0 then owes_nothing else rule_for (Some m) e content
+
+-- The plan of the graph, except that a number without a source pad belongs to no element, and that an element without
+-- source pads owes nothing.
 abbrev pub tight_plan : (ℕ → List ℕ) → Graph → (ℕ → ℕ) → Plan
-tight_plan contents graph count = record (graph_plan contents graph count) { owner = pad_owner (made_in graph) }
+tight_plan contents graph count =
+    record (graph_plan contents graph count) {
+      owner = pad_owner (made_in graph);
+      rule = λ e. tight_rule (slice_get (made_in graph) e) e (contents e);
+    }
 
 -- the same for moments, which look at no counts
 abbrev pub moment_plan : (ℕ → List ℕ) → Graph → Plan

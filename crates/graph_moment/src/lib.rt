@@ -1,13 +1,14 @@
 //! The moments of a graph's run: their plan, the moment at which the run begins, where source pads lead there, what the
 //! rules of its elements owe, and the evaluation of the graph by a moment.
 //!
-//! The plan of a moment is that of the graph, except that a number without a source pad belongs to no element: so an
-//! element stands there by its pads alone. At each source pad both plans have the same history.
+//! The plan of a moment is that of the graph, except that a number without a source pad belongs to no element, and that an
+//! element without source pads owes nothing: so an element stands there by its pads alone. At each source pad both plans
+//! have the same history.
 #![tactic(auto)]
 
 ghost use Rattle.graph_moment.specs.Laws.{PadsHaveNumbers, NumbersHavePads, TightIsAlike};
 ghost use Rattle.graph_moment.specs.Laws.{MomentStarts, MomentStands, SourcesWait, MomentGoes, OrdersAreWhole};
-ghost use Rattle.graph_moment.specs.Laws.{LinksLead, UnlinkedLead, RulesGoOn, SectionsAreOne, OwesPlain, MomentIsGraph, EndIsGraph};
+ghost use Rattle.graph_moment.specs.Laws.{LinksLead, UnlinkedLead, RulesGoOn, SectionsAreOne, SectionsArePlain, OwesNoneBehind, OwesPlain, MomentIsGraph, EndIsGraph};
 
 /// Each source pad of a graph has a number of its own, and each number that belongs to an element is that of a pad.
 pub fn pads_have_numbers()
@@ -40,11 +41,13 @@ pub fn links_lead()
     ensures unlinked { UnlinkedLead }
 {}
 
-/// For whatever an element took it owes a beginning of what it owes for more, in sections without FLUSH_STOP; and for
-/// items without FLUSH_STOP nothing behind an EOS.
+/// For whatever an element took it owes a beginning of what it owes for more, in sections without FLUSH_STOP and with
+/// nothing behind an EOS.
 pub fn rules_owe()
     ensures in_order { RulesGoOn }
     ensures sections { SectionsAreOne }
+    ensures sections_plain { SectionsArePlain }
+    ensures behind { OwesNoneBehind }
     ensures plain { OwesPlain }
 {}
 
