@@ -2,12 +2,9 @@
 //! its report.
 #![tactic(auto)]
 
-mod outcome;
-mod run;
-
 use gst_outside::{HostClock, HostFiles, OpenGate, OutSink};
+use launch_run::Untaken;
 use read_ahead::AheadFiles;
-use run::Untaken;
 use std::alloc::Global;
 use std::io::ErrorKind;
 use std::process::ExitCode;
@@ -42,14 +39,14 @@ fn main(rt: HostRuntime) -> io::Result<ExitCode> {
     let words = match program_words(&rt, alloc) {
         Ok(words) => words,
         Err(untaken) => {
-            let outcome = run::refuse(alloc, untaken, &mut out);
+            let outcome = launch_run::refuse(alloc, untaken, &mut out);
             return Ok(ExitCode::from(outcome.status));
         }
     };
     let mut files = AheadFiles::new(HostFiles::new(rt.clone()?));
     let mut clock = HostClock::new(rt.clone()?);
     let gate = OpenGate;
-    let outcome = run::run(
+    let outcome = launch_run::run(
         &rt,
         alloc,
         words.as_slice(),

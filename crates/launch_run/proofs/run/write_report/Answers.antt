@@ -1,6 +1,6 @@
 use Rattle.std.proofs.Common.{OnErr, OnOk, List, ℕ, ◌∙◌, subst}
-use Rattle.gst_run.specs.Headline.{Wrote, WrotePart}
-use Rattle.gst_run.proofs.run.write_report.Goals as goal
+use Rattle.launch_run.specs.Headline.{Wrote, WrotePart}
+use Rattle.launch_run.proofs.run.write_report.Goals as goal
 
 pub returns-in-Err-clause-whole : goal.returns-in-Err-clause-whole
 returns-in-Err-clause-whole g c =

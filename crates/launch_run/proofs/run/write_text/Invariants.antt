@@ -1,6 +1,6 @@
 use Rattle.std.proofs.Common.{length, take, ◌-◌, ◌≤◌}
-use Rattle.gst_run.specs.Headline.{Wrote}
-use Rattle.gst_run.proofs.run.write_text.Given as goal
+use Rattle.launch_run.specs.Headline.{Wrote}
+use Rattle.launch_run.proofs.run.write_text.Given as goal
 
 abbrev pub invariant-loop-done : goal.invariant-loop-done
 invariant-loop-done g l =

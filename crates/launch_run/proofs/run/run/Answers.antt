@@ -1,9 +1,9 @@
 use Rattle.std.proofs.Common.{List, ℕ, map, subst, ap, ◌∙◌}
 use Rattle.std.specs.String.{string_bytes}
-use Rattle.gst_run.specs.Headline.{Wrote, WrotePart, is_quiet}
+use Rattle.launch_run.specs.Headline.{Wrote, WrotePart, is_quiet}
 use Rattle.world_core.specs.declared.ended.WorldEnd.{WorldEnd}
-use Rattle.gst_run.proofs.Quiet.{told_the_same}
-use Rattle.gst_run.proofs.run.run.Goals as goal
+use Rattle.launch_run.proofs.Quiet.{told_the_same}
+use Rattle.launch_run.proofs.run.run.Goals as goal
 
 pub returns-clause-text : goal.returns-clause-text
 returns-clause-text g c =

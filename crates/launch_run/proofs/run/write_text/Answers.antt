@@ -1,6 +1,6 @@
 use Rattle.std.proofs.Common.{arith}
-use Rattle.gst_run.proofs.Writes.{write_more}
-use Rattle.gst_run.proofs.run.write_text.Goals as goal
+use Rattle.launch_run.proofs.Writes.{write_more}
+use Rattle.launch_run.proofs.run.write_text.Goals as goal
 
 pub loop-done-preserved : goal.loop-done-preserved
 loop-done-preserved g c =

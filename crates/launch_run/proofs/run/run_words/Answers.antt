@@ -1,8 +1,8 @@
 use Rattle.std.proofs.Common.{false, inl, inr, map, ◌∙◌}
 use Rattle.std.specs.String.{string_bytes}
-use Rattle.gst_run.specs.Headline.{is_quiet}
-use Rattle.gst_run.proofs.Quiet.{nothing_left_out}
-use Rattle.gst_run.proofs.run.run_words.Goals as goal
+use Rattle.launch_run.specs.Headline.{is_quiet}
+use Rattle.launch_run.proofs.Quiet.{nothing_left_out}
+use Rattle.launch_run.proofs.run.run_words.Goals as goal
 
 pub returns-in-Ok-clause-reported : goal.returns-in-Ok-clause-reported
 returns-in-Ok-clause-reported g c = λ found. inr (record { request = c.in-Ok.request; is = c.in-Ok.ensures.request; ended = c.run_turns.ensures.ended found })

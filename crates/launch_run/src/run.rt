@@ -6,8 +6,8 @@ ghost use Rattle.run_report.specs.ReportText.{report_lines};
 ghost use Rattle.turn_order.specs.declared.order.Order.TheVariants as orders;
 ghost use Rattle.world_core.specs.Turned.{RanByTurns};
 ghost use Rattle.run_report.specs.declared.report.Fault.TheVariants as faults;
-ghost use Rattle.gst_run.specs.declared.run.Untaken.TheVariants.{NotText};
-ghost use Rattle.gst_run.specs.Headline.{HasGone, IsReported, IsUntouched, Wrote, WrotePart, is_quiet, world_end};
+ghost use Rattle.launch_run.specs.declared.run.Untaken.TheVariants.{NotText};
+ghost use Rattle.launch_run.specs.Headline.{HasGone, IsReported, IsUntouched, Wrote, WrotePart, is_quiet, world_end};
 
 use crate::outcome::{Outcome, report_text};
 use gst_caps::{List, OutOfMemory};

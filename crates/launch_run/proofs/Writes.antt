@@ -4,7 +4,7 @@ use Rattle.std.proofs.Math.Seq.{take-add}
 use Rattle.std.proofs.lemmas.List.{take_all}
 use Rattle.gst_outside.specs.Bytes.{written}
 use Rattle.gst_outside.proofs.Writing.{told_written-written}
-use Rattle.gst_run.specs.Headline.{Wrote}
+use Rattle.launch_run.specs.Headline.{Wrote}
 
 -- one piece more of a text
 pub write_more : (before now next : Option (List ℕ)) (text : List ℕ) (done n : ℕ) → done ≤ length text → Wrote (take done text) before now

@@ -9,7 +9,7 @@ use Rattle.world_core.specs.World.{IsUnwritten, IsWorldEnd}
 use Rattle.world_core.specs.declared.ended.WorldEnd.{WorldEnd}
 use Rattle.run_files.specs.Seen.{Seen}
 use Rattle.run_words.specs.Said.{options_of}
-use Rattle.gst_run.specs.declared.outcome.Outcome.{Outcome}
+use Rattle.launch_run.specs.declared.outcome.Outcome.{Outcome}
 
 -- what an outcome says of the run itself
 abbrev pub world_end : Outcome → WorldEnd
