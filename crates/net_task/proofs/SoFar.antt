@@ -3,7 +3,7 @@ use Rattle.std.proofs.Common.{◌≡◌, ◌≢◌, ◌<◌, ◌≤◌, ◌⊎�
 use Rattle.std.proofs.lemmas.Bool.{cases_eq}
 use Rattle.std.proofs.lemmas.List.{length-map}
 use Rattle.std.proofs.lemmas.Option.{slice_get_within}
-use Rattle.std.specs.Prelude.{◌+◌, slice_get, Result, Ok, Err, OnOk}
+use Rattle.std.specs.Prelude.{◌+◌, ◌++◌, slice_get, sum_by, Result, Ok, Err, OnOk}
 use Rattle.std.specs.Result.{is_err}
 use Rattle.lane_core.specs.Lane.{Lane}
 use Rattle.lane_core.specs.declared.ends.Inlet as inlets
@@ -19,18 +19,25 @@ use Rattle.task_parts.specs.declared.step.Tried.{Tried}
 use Rattle.task_parts.specs.declared.step.Tried.TheVariants as tried
 use Rattle.task_parts.specs.declared.fault.TaskFault.{TaskFault}
 use Rattle.task_parts.specs.declared.fault.TaskFault.TheVariants.{OutOfMemory}
+use Rattle.gst_item.specs.declared.out.Out.{Out}
+use Rattle.flow_model.specs.Item.{Item}
+use Rattle.element_traits.specs.Takes.{on_port}
+use Rattle.task_pads.specs.Pads.{waiting_of}
+use Rattle.task_parts.specs.Idle.{idle_before}
+use Rattle.task_parts.specs.Moved.{KeepsFront}
+use Rattle.task_parts.proofs.Idling.{idle_at, idle_front, idle_less, idle_out, idle_pad}
 use Rattle.task_parts.specs.Shape.{part_shape}
 use Rattle.task_parts.specs.Passing.{HasPort, Settles}
 use Rattle.net_task.specs.declared.task.Task.{Task}
 use Rattle.net_task.specs.Answers.{is_probe, preferred, tried_both, wants_room}
 use Rattle.net_task.specs.Failed.{Causes, FailsAs, Origin, at_pad}
 use Rattle.net_task.specs.Frame.{PartFrame, TaskFrame, Wire, WireAt, frame_in, frame_of, part_frame, wire_of}
-use Rattle.net_task.specs.Fuel.{head_left, moves_left}
+use Rattle.net_task.specs.Fuel.{head_left, moves_left, part_left}
 use Rattle.net_task.specs.Ready.{AreReady, IsReady, KeepsLanes}
 use Rattle.net_task.specs.Reasons.{IsBlocked, IsFirst, OneHolds, of_part}
 use Rattle.net_task.specs.Ties.{AreTied, Stands, Ties, nothing_lost}
 use Rattle.net_task.specs.Tries.{IsAtPort, IsFirstOf, IsOfAny, IsOfPart, PadMoves, PadsTell, SettledAt, Spends, StaysSettled, TableStays, TaskFails, TaskTries, TriedAs}
-use Rattle.task_pads.proofs.Lists.{some_at, some_same}
+use Rattle.task_pads.proofs.Lists.{set_there, some_at, some_same}
 use Rattle.task_parts.proofs.Lists.{map_get}
 use Rattle.net_task.proofs.GoingOn.{keeps_same}
 use Rattle.net_task.proofs.Places.{unmapped}
@@ -127,6 +134,23 @@ pub spends_then : (before mid after : ℕ) (answer : Tried) → mid ≤ before �
 spends_then before mid after tried.Moved l m = omega (arith, l, m)
 spends_then before mid after tried.Idle l m = omega (arith, l, m)
 spends_then before mid after (tried.Stuck step) l m = omega (arith, l, m)
+
+-- the pads of an element below a port, and those of the elements before a place
+abbrev pub WasBelow : TaskFrame → ℕ → ℕ → Wire → Type 0
+WasBelow frame place port wire = (k : ℕ) × (k < port) × WireAt frame place k wire
+
+abbrev pub WasBefore : TaskFrame → ℕ → Wire → Type 0
+WasBefore frame place wire = (j : ℕ) × (k : ℕ) × (j < place) × WireAt frame j k wire
+
+-- where an element is idle nothing waits at its pads by the moment either
+idle_wire : {S E I O L : Type 0} {s : sources.Ghosts S} {e : elements.Ghosts E} (i : inlets.Ghosts I L O) (o : outlets.Ghosts O L) (m : Moment) (head : Head S I O s) (parts : List (Part E O e)) (n : ℕ) → AreTied i o (Stands m) nothing_lost m head parts → idle_before n parts ≡ true
+    → (wire : Wire) → WasBefore (frame_in o head parts) n wire → m.waits wire.number ≡ []
+idle_wire {E = E} {O = O} {e = e} i o m head parts n a before wire z =
+    let w = unmapped (part_frame o) parts z.0 z.3.part z.3.at in
+    let p = unmapped (wire_of o) w.item.pads.items z.1 wire (ap (λ (f : PartFrame). slice_get f.wires z.1) w.is ∙ z.3.pad_at) in
+    let tied = (a.parts_tied.each z.0 w.item w.at).pads z.1 p.item p.at in
+    let idle = idle_at n z.0 parts w.item z.2 w.at before in
+    ap (λ (x : Wire). m.waits x.number) (sym p.is) ∙ tied.waits ∙ ap (λ (os : List Out). waiting_of p.item ++ on_port z.1 os) (idle_out w.item idle) ∙ ap (λ (xs : List Item). xs ++ []) (idle_pad w.item z.1 p.item idle p.at)
 
 module _ {S E I O L : Type 0} {s : sources.Ghosts S} {e : elements.Ghosts E} {i : inlets.Ghosts I L O} {o : outlets.Ghosts O L} where
   -- none of the pads so far let an item pass
@@ -241,21 +265,25 @@ module _ {S E I O L : Type 0} {s : sources.Ghosts S} {e : elements.Ghosts E} {i 
     tell = λ m a wire w. absurd (none wire w);
   }
 
-  pub none_so : (tells : Option (List Lane)) (old : Task S E I O L s e i o) (Was : Wire → Type 0) → IsReady tells old → ((wire : Wire) → Was wire → ⊥) → SoFar tells tells old old Was tried.Idle
-  none_so tells old Was ready none = record { ready = ready; left = omega arith; table = refl; not_moved = tt; head = refl; frame = refl; ties = λ m a. a; tell = λ m a wire w. absurd (none wire w) }
+  -- what is so of a task is so of one that is the same but for its place
+  same_so : (P : Head S I O s → List (Part E O e) → Type 0) (old now : Task S E I O L s e i o) → now.head ≡ old.head → now.parts ≡ old.parts → P old.head old.parts.items → P now.head now.parts.items
+  same_so P old now head parts p = subst (λ (h : Head S I O s). P h now.parts.items) (sym head) (subst (λ (v : _). P old.head v.items) (sym parts) p)
 
--- the pads of an element below a port, and those of the elements before a place
-abbrev pub WasBelow : TaskFrame → ℕ → ℕ → Wire → Type 0
-WasBelow frame place port wire = (k : ℕ) × (k < port) × WireAt frame place k wire
-
-abbrev pub WasBefore : TaskFrame → ℕ → Wire → Type 0
-WasBefore frame place wire = (j : ℕ) × (k : ℕ) × (j < place) × WireAt frame j k wire
+  -- none was tried yet, and nothing waits at those before the place
+  pub idle_so : (tells : Option (List Lane)) (old now : Task S E I O L s e i o) → now.head ≡ old.head → now.parts ≡ old.parts → IsReady tells old → SoFar tells tells old now (WasBefore (frame_of old) now.from) tried.Idle
+  idle_so tells old now head parts ready = record {
+    ready = same_so (AreReady i o tells) old now head parts ready;
+    left = same_so (λ h ps. head_left i h + sum_by (λ part. part_left part) ps ≤ moves_left old) old now head parts (omega arith);
+    table = refl;
+    not_moved = tt;
+    head = head;
+    frame = same_so (λ h ps. frame_in o h ps ≡ frame_of old) old now head parts refl;
+    ties = λ m a. same_so (AreTied i o (Stands m) nothing_lost m) old now head parts a;
+    tell = λ m a wire w. idle_wire i o m old.head old.parts.items now.from a (subst (λ (v : _). idle_before now.from v.items ≡ true) parts now.idle) wire w;
+  }
 
 pub none_below : (frame : TaskFrame) (place : ℕ) (wire : Wire) → WasBelow frame place 0 wire → ⊥
 none_below frame place wire w = let z = w.1 in omega (arith, z)
-
-pub none_before : (frame : TaskFrame) (wire : Wire) → WasBefore frame 0 wire → ⊥
-none_before frame wire w = let z = w.2 in omega (arith, z)
 
 pub one_below : (old now : TaskFrame) (place port : ℕ) → now ≡ old → (wire : Wire) → WasBelow old place (port + 1) wire → WasBelow old place port wire ⊎ WireAt now place port wire
 one_below old now place port same wire w = go (cases_eq w.0 port)
@@ -359,3 +387,11 @@ module _ {E O : Type 0} {e : elements.Ghosts E} where
 pub on_ok : {T X : Type 0} (r : Result T X) (P : Type 0) → is_err r ≡ false → OnOk r P → P
 on_ok (Ok t) P q p = p
 on_ok (Err x) P q p = absurd cc
+
+-- the elements before a place stay idle
+pub front_idle : {E O : Type 0} {e : elements.Ghosts E} (from from' : ℕ) (parts parts' : List (Part E O e)) → KeepsFront from from' parts parts' → idle_before from parts ≡ true → idle_before from' parts' ≡ true
+front_idle from from' parts parts' f before = idle_front from' parts parts' f.same (idle_less from' from parts f.lower before)
+
+pub settled_idle : {E O : Type 0} {e : elements.Ghosts E} (from place : ℕ) (parts parts' : List (Part E O e)) → from ≤ place → Settles parts parts' place → idle_before from parts ≡ true → idle_before from parts' ≡ true
+settled_idle {E = E} {O = O} {e = e} from place parts parts' w t before =
+    idle_front from parts parts' (λ k z. ap (λ (ps : List (Part E O e)). slice_get ps k) t.set.set ∙ set_there parts place k t.is (λ q. omega (arith, w, z, q))) before

@@ -64,7 +64,8 @@ IsAtPort frame place port p = (wire : Wire) × WireAt frame place port wire × (
 
 abbrev pub IsFirstOf : Option (List Lane) → Moment → TaskFrame → ℕ → ℕ → Type 0
 IsFirstOf tells m frame place p =
-    (port : ℕ) × (wire : Wire) × WireAt frame place port wire × (wire.number ≡ p) × ((k : ℕ) (other : Wire) → k < port → WireAt frame place k other → IsBlocked tells m other)
+    (port : ℕ) × (wire : Wire) × WireAt frame place port wire × (wire.number ≡ p)
+    × ((k : ℕ) (other : Wire) → k < port → WireAt frame place k other → IsBlocked tells m other)
 
 abbrev pub IsHeadPad : TaskFrame → ℕ → Type 0
 IsHeadPad frame p = (wire : Wire) × (head_wire frame.head ≡ Some wire) × (wire.number ≡ p)
@@ -115,10 +116,13 @@ module _ {S E I O L : Type 0} {s : sources.Ghosts S} {e : elements.Ghosts E} (i 
     pub first : (fault ≡ OutOfMemory) ⊎ ((p : ℕ) × (origin ≡ at_pad p) × Where p)
 
   -- what a try of some pads of elements makes of a moment
-  abbrev pub TriedAs : Option (List Lane) → Option (List Lane) → TaskFrame → Moment → Head S I O s → Head S I O s → List (Part E O e) → (ℕ → Type 0) → (Wire → Type 0) → Tried → Type 0
+  abbrev pub TriedAs : Option (List Lane) → Option (List Lane) → TaskFrame → Moment → Head S I O s → Head S I O s → List (Part E O e) → (ℕ → Type 0)
+      → (Wire → Type 0) → Tried → Type 0
   TriedAs tells tells' frame m head head' parts' Where Was tried.Moved = PadMoves tells tells' frame m head head' parts' Where
-  TriedAs tells tells' frame m head head' parts' Where Was tried.Idle = AreTied i o (Stands m) nothing_lost m head' parts' × PadsTell tells m frame Was tried.Idle
-  TriedAs tells tells' frame m head head' parts' Where Was (tried.Stuck step) = AreTied i o (Stands m) nothing_lost m head' parts' × PadsTell tells m frame Was (tried.Stuck step)
+  TriedAs tells tells' frame m head head' parts' Where Was tried.Idle = AreTied i o (Stands m) nothing_lost m head' parts'
+      × PadsTell tells m frame Was tried.Idle
+  TriedAs tells tells' frame m head head' parts' Where Was (tried.Stuck step) = AreTied i o (Stands m) nothing_lost m head' parts'
+      × PadsTell tells m frame Was (tried.Stuck step)
 
   -- and one of the pad of a source
   abbrev pub HeadTriedAs : Option (List Lane) → Option (List Lane) → TaskFrame → Moment → Head S I O s → Head S I O s → List (Part E O e) → Tried → Type 0
@@ -157,7 +161,8 @@ module _ {S E I O L : Type 0} {s : sources.Ghosts S} {e : elements.Ghosts E} (i 
     pub spends : Spends (left_in head parts) (left_in head' parts') answer
     pub table : TableStays tells tells' answer
     pub lanes : KeepsLanes (frame_in o head parts) tells tells'
-    pub tries : (m : Moment) → AreTied i o (Stands m) nothing_lost m head parts → TriedAs tells tells' (frame_in o head parts) m head head' parts' (Where m) Was answer
+    pub tries : (m : Moment) → AreTied i o (Stands m) nothing_lost m head parts
+        → TriedAs tells tells' (frame_in o head parts) m head head' parts' (Where m) Was answer
 
   -- The pad of a source was tried.
   pub record HeadTries (tells tells' : Option (List Lane)) (head head' : Head S I O s) (parts parts' : List (Part E O e)) (answer : Tried) : Type 0 where
@@ -182,12 +187,14 @@ module _ {S E I O L : Type 0} {s : sources.Ghosts S} {e : elements.Ghosts E} (i 
     pub ready : AreReady i o tells' head' parts'
     pub burns : Burns (left_in head parts) (left_in head' parts') step
     pub lanes : LanesGoOn i (frame_in o head parts) head head' tells tells'
-    pub steps : (m : Moment) → AreTied i o (Stands m) nothing_lost m head parts → AllRest m (frame_in o head parts) → StepsAs tells tells' (frame_in o head parts) m head head' parts' step
+    pub steps : (m : Moment) → AreTied i o (Stands m) nothing_lost m head parts → AllRest m (frame_in o head parts)
+        → StepsAs tells tells' (frame_in o head parts) m head head' parts' step
     pub why : (m : Moment) → AreTied i o (Stands m) nothing_lost m head parts → HeadWhy tells m head head' parts' step
 
 -- the same of tasks
 module _ {S E I O L : Type 0} {s : sources.Ghosts S} {e : elements.Ghosts E} {i : inlets.Ghosts I L O} {o : outlets.Ghosts O L} where
-  abbrev pub TaskTries : Option (List Lane) → Option (List Lane) → Task S E I O L s e i o → Task S E I O L s e i o → (Moment → ℕ → Type 0) → (Wire → Type 0) → Tried → Type 0
+  abbrev pub TaskTries : Option (List Lane) → Option (List Lane) → Task S E I O L s e i o → Task S E I O L s e i o → (Moment → ℕ → Type 0) → (Wire → Type 0)
+      → Tried → Type 0
   TaskTries tells tells' old new Where Was answer = Tries i o tells tells' old.head new.head old.parts.items new.parts.items Where Was answer
 
   -- Why pads that were tried met a fault, and at which of them that was.

@@ -1,5 +1,6 @@
 //! Tasks.
 ghost use Rattle.std.specs.Prelude.{◌≡◌, true};
+ghost use Rattle.task_parts.specs.Idle.{idle_before};
 ghost use Rattle.task_parts.specs.Shape.{is_closed, shape_of};
 
 use crate::answers::{step_of, with_next};
@@ -7,16 +8,18 @@ use element_traits::{TaskElement, TaskSource};
 use lane_core::{Inlet, Outlet};
 use std::alloc::Global;
 use task_parts::{
-    Head, Part, Step, TaskFault, Tried, cross_part, cross_source, give, settle, take,
+    Head, Part, Step, TaskFault, Tried, cross_part, cross_source, first_busy, give, settle, take,
 };
 
 /// A task: a head, and elements with their source pads, in the order in which these are tried: those that stand farthest
-/// from the head first, and the pads of one element by number.
+/// from the head first, and the pads of one element by number. Nothing waits at those before the place `from`.
 #[derive(Drop)]
 pub struct Task<S: TaskSource, E: TaskElement, I: Inlet<Out = O>, O: Outlet<Lanes = I::Lanes>> {
     head: Head<S, I, O>,
     parts: Vec<Part<E, O>>,
+    from: usize,
     ghost closed: { is_closed (shape_of head parts.items) ≡ true },
+    ghost idle: { idle_before from parts.items ≡ true },
 }
 
 impl<S: TaskSource, E: TaskElement, I: Inlet<Out = O>, O: Outlet<Lanes = I::Lanes>> Task<
@@ -25,7 +28,7 @@ impl<S: TaskSource, E: TaskElement, I: Inlet<Out = O>, O: Outlet<Lanes = I::Lane
     I,
     O,
 > {
-    ghost use Rattle.std.specs.Prelude.{◌<◌, IfOk, IfErr, OnOk, vec_len};
+    ghost use Rattle.std.specs.Prelude.{◌≤◌, ◌<◌, IfOk, IfErr, OnOk, vec_len};
     ghost use Rattle.net_model.specs.Moment.{Moment};
     ghost use Rattle.task_parts.specs.Passing.{HasPort};
     ghost use Rattle.net_task.specs.Failed.{Failed, IsCause};
@@ -35,7 +38,8 @@ impl<S: TaskSource, E: TaskElement, I: Inlet<Out = O>, O: Outlet<Lanes = I::Lane
     ghost use Rattle.net_task.specs.Ready.{IsReady, LanesGoOn};
     ghost use Rattle.net_task.specs.Reasons.{HeadIdle, Why};
     ghost use Rattle.net_task.specs.Ties.{Ties};
-    ghost use Rattle.net_task.specs.Tries.{AskFault, AsksHead, PadFault, PadTries, PadsFault, PadsTry, PartFault, PartTries, PartsFault, PartsTry, SettledAt, SourceFault, SourceTries, StaysSettled};
+    ghost use Rattle.net_task.specs.Tries.{AskFault, AsksHead, PadFault, PadTries, PadsFault, PadsTry, SettledAt, StaysSettled};
+    ghost use Rattle.net_task.specs.Tries.{PartFault, PartTries, PartsFault, PartsTry, SourceFault, SourceTries};
 
     /// A task of these parts that moved nothing yet. Each element that a pad or the head names is one of them.
     pub fn new(head: Head<S, I, O>, parts: Vec<Part<E, O>>) -> Task<S, E, I, O>
@@ -43,7 +47,11 @@ impl<S: TaskSource, E: TaskElement, I: Inlet<Out = O>, O: Outlet<Lanes = I::Lane
         ensures head { result.head ≡ head }
         ensures parts { result.parts ≡ parts }
     {
-        Task { head, parts }
+        Task {
+            head,
+            parts,
+            from: 0,
+        }
     }
 
     /// One step: an item that waits crosses its pad, or, where none waits, the head gives or takes its next one.
@@ -92,8 +100,9 @@ impl<S: TaskSource, E: TaskElement, I: Inlet<Out = O>, O: Outlet<Lanes = I::Lane
         ensures frame { frame_of self.new ≡ frame_of self.old }
         ensures head { self.new.head ≡ self.old.head }
     {
+        self.from = first_busy(self.parts.as_slice(), self.from);
         let mut tried = Tried::Idle;
-        for place in 0..self.parts.len() {
+        for place in self.from..self.parts.len() {
             tried = with_next(tried, self.try_part(alloc, lanes, place)?);
             if let Tried::Moved = tried {
                 return Ok(tried);
@@ -110,8 +119,10 @@ impl<S: TaskSource, E: TaskElement, I: Inlet<Out = O>, O: Outlet<Lanes = I::Lane
         place: usize,
     ) -> Result<Tried, TaskFault>
         requires place { place < vec_len self.old.parts }
+        requires from { self.old.from ≤ place }
         requires ready { IsReady (O.tells lanes.old) self.old }
         ensures tries { IfOk result (PartTries (O.tells lanes.old) (O.tells lanes.new) self.old self.new place) }
+        ensures from { self.new.from ≤ self.old.from }
         ensures faults { IfErr result (PartFault (O.tells lanes.old) self.old self.new place) }
         ensures frame { frame_of self.new ≡ frame_of self.old }
         ensures head { self.new.head ≡ self.old.head }
@@ -138,15 +149,17 @@ impl<S: TaskSource, E: TaskElement, I: Inlet<Out = O>, O: Outlet<Lanes = I::Lane
         port: usize,
     ) -> Result<Tried, TaskFault>
         requires at { HasPort self.old.parts.items place port }
+        requires from { self.old.from ≤ place }
         requires settled { SettledAt self.old.parts.items place }
         requires ready { IsReady (O.tells lanes.old) self.old }
         ensures tries { IfOk result (PadTries (O.tells lanes.old) (O.tells lanes.new) self.old self.new place port) }
         ensures settled { IfOk result (StaysSettled self.new.parts.items place) }
+        ensures from { self.new.from ≤ self.old.from }
         ensures faults { IfErr result (PadFault self.old self.new place port) }
         ensures frame { frame_of self.new ≡ frame_of self.old }
         ensures head { self.new.head ≡ self.old.head }
     {
-        cross_part(alloc, &mut self.parts, lanes, place, port)
+        cross_part(alloc, &mut self.parts, lanes, place, port, &mut self.from)
     }
 
     /// The item that waits at a source's pad crosses it, if it can.
@@ -157,7 +170,9 @@ impl<S: TaskSource, E: TaskElement, I: Inlet<Out = O>, O: Outlet<Lanes = I::Lane
         ensures frame { frame_of self.new ≡ frame_of self.old }
     {
         match &mut self.head {
-            Head::Source(head) => cross_source(alloc, head, &mut self.parts, lanes),
+            Head::Source(head) => {
+                cross_source(alloc, head, &mut self.parts, lanes, &mut self.from)
+            }
             Head::Inlets(_) => Ok(Tried::Idle),
         }
     }
@@ -172,7 +187,9 @@ impl<S: TaskSource, E: TaskElement, I: Inlet<Out = O>, O: Outlet<Lanes = I::Lane
     {
         match &mut self.head {
             Head::Source(head) => step_of(give(alloc, head)),
-            Head::Inlets(head) => step_of(take(alloc, head, &mut self.parts, lanes)),
+            Head::Inlets(head) => {
+                step_of(take(alloc, head, &mut self.parts, lanes, &mut self.from))
+            }
         }
     }
 }

@@ -3,3 +3,5 @@ mod Outs
 mod Turns
 mod Moves
 mod Tries
+pub mod Fronts
+pub mod Idling

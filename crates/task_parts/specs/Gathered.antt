@@ -16,6 +16,15 @@ are_within ports (o ∷ os) = nat_lt o.pad ports && (not (is_flush_stop o.item) 
 abbrev pub AreFilled : {O : Type 0} → List (Pad O) → List Out → Type 0
 AreFilled {O = O} pads out = (port : ℕ) (pad : Pad O) → slice_get pads port ≡ Some pad → waiting_of pad ≡ [] → on_port port out ≡ []
 
+abbrev pub is_nothing : {A : Type 0} → List A → Bool
+is_nothing [] = true
+is_nothing (x ∷ xs) = false
+
+-- nothing waits at the pads
+abbrev pub pads_idle : {O : Type 0} → List (Pad O) → Bool
+pads_idle [] = true
+pads_idle (pad ∷ pads) = is_nothing (waiting_of pad) && pads_idle pads
+
 abbrev pub are_linked : {O : Type 0} → List (Pad O) → Bool
 are_linked [] = false
 are_linked (pad ∷ pads) = leads_on (rest_of pad).behind || are_linked pads

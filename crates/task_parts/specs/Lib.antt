@@ -2,6 +2,7 @@ pub mod Fault
 pub mod Found
 pub mod Gathered
 pub mod Head
+pub mod Idle
 pub mod Moved
 pub mod Part
 pub mod Passing

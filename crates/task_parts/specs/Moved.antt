@@ -1,5 +1,5 @@
 -- An item goes from a pad of one element of a task to another element.
-use Rattle.std.specs.Prelude.{◌≡◌, ◌≢◌, ◌+◌, ◌++◌, ◌∷◌, ℕ, List, [], Some, slice_get, slice_set}
+use Rattle.std.specs.Prelude.{◌≡◌, ◌≢◌, ◌≤◌, ◌<◌, ◌+◌, ◌++◌, ◌∷◌, ℕ, List, [], Some, slice_get, slice_set}
 use Rattle.flow_model.specs.Item.{Item}
 use Rattle.element_traits.specs.declared.element.TaskElement as elements
 use Rattle.element_traits.specs.declared.refusal.Refusal.{Refusal}
@@ -80,3 +80,8 @@ module _ {E O : Type 0} {e : elements.Ghosts E} where
     pub ate : Part E O e
     pub fed : PartSet parts parts' to eater ate
     pub fell : PartFell eater ate sink item refusal
+
+  -- The elements before a place are as they were; that place is no later one than it was.
+  pub record KeepsFront (from from' : ℕ) (parts parts' : List (Part E O e)) : Type 0 where
+    pub lower : from' ≤ from
+    pub same : (k : ℕ) → k < from' → slice_get parts' k ≡ slice_get parts k

@@ -1,6 +1,7 @@
 //! Where the elements of a task stand.
 ghost use Rattle.std.specs.Prelude.{◌≡◌, true, map};
 ghost use Rattle.task_parts.specs.Found.{IsAt};
+ghost use Rattle.task_parts.specs.Idle.{idle_before};
 ghost use Rattle.task_parts.specs.Shape.{has_number, part_shape};
 
 use crate::part::Part;
@@ -38,4 +39,16 @@ fn search<E: TaskElement, O: Outlet>(parts: &[Part<E, O>], number: u32) -> usize
         }
     }
     unreachable!()
+}
+
+/// The place of the first element, from a place on, at which something waits.
+pub fn first_busy<E: TaskElement, O: Outlet>(parts: &[Part<E, O>], from: usize) -> usize
+    ensures { idle_before from parts.now ≡ true → idle_before result parts.now ≡ true }
+{
+    for place in from..parts.len() {
+        if !parts[place].is_idle() {
+            return place;
+        }
+    }
+    parts.len()
 }

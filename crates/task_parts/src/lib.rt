@@ -11,6 +11,7 @@ pub mod passing;
 pub mod step;
 
 pub use fault::TaskFault;
+pub use find::first_busy;
 pub use head::{Head, InletHead, SourceHead};
 pub use part::Part;
 pub use passing::{cross_part, cross_source, give, settle, take};

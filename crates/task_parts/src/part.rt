@@ -30,6 +30,7 @@ pub struct Part<E: TaskElement, O> {
 impl<E: TaskElement, O: Outlet> Part<E, O> {
     ghost use Rattle.std.specs.Prelude.{◌<◌, []};
     ghost use Rattle.task_parts.specs.Part.{PartSettled, IsSettled, PartFed, PartFell, PartCrossed, PartGave, PartTookBack, PartReady, CanTakeBackAt};
+    ghost use Rattle.task_parts.specs.Idle.{part_idle};
     ghost use Rattle.task_parts.specs.Shape.{part_shape};
 
     /// An element of this number that took nothing, with its source pads, which nothing crossed.
@@ -67,6 +68,21 @@ impl<E: TaskElement, O: Outlet> Part<E, O> {
         ensures { result.now ≡ self.now.pads.items }
     {
         self.pads.as_slice()
+    }
+
+    /// Whether nothing waits at its pads, and nothing that it put out is to go there.
+    pub(crate) fn is_idle(&self) -> bool
+        ensures { result ≡ true → part_idle self.now ≡ true }
+    {
+        if !self.out.as_slice().is_empty() {
+            return false;
+        }
+        for port in 0..self.pads.len() {
+            if !self.pads[port].is_idle() {
+                return false;
+            }
+        }
+        true
     }
 
     /// The element. What waited at its pads is given up.

@@ -1,5 +1,6 @@
 //! What one try of a pad, or of a head, moves.
-ghost use Rattle.std.specs.Prelude.{◌≡◌, ◌<◌, ◌⊎◌, true, map, vec_len, Some, slice_get, OnOk};
+ghost use Rattle.std.specs.Prelude.{◌≡◌, ◌≤◌, ◌<◌, ◌⊎◌, true, map, vec_len, Some, slice_get, OnOk};
+ghost use Rattle.task_parts.specs.Moved.{KeepsFront};
 ghost use Rattle.task_parts.specs.Part.{PartReady, IsSettled};
 ghost use Rattle.task_parts.specs.Passing.{CrossesPart, CrossesSource, GivesAs, TakesNext, Settles, HasPort, InletsReady, RowAsked, RowFed};
 ghost use Rattle.task_pads.specs.Pads.{PadReady, crossed_count, goes_of, number_of, pad_shape, rest_of};
@@ -37,19 +38,23 @@ pub fn settle<E: TaskElement, O: Outlet>(
 }
 
 /// The oldest item that waits at the pad of a port of the element at a place crosses it, if it can. Where it goes to an
-/// element of the task, that takes it.
+/// element of the task, that takes it. `from` is a place up to which no element changes: it becomes a lower one where an
+/// element before it takes the item.
 pub fn cross_part<E: TaskElement, O: Outlet>(
     alloc: Global,
     parts: &mut Vec<Part<E, O>>,
     lanes: &mut O::Lanes,
     place: usize,
     port: usize,
+    from: &mut usize,
 ) -> Result<Tried, TaskFault>
+    requires from { from.old ≤ place }
     requires closed { (part : _) → slice_get parts.old.items place ≡ Some part
         → pads_within (map part_shape parts.old.items) (map pad_shape part.pads.items) ≡ true }
     requires at { HasPort parts.old.items place port }
     requires ready { (part : _) → slice_get parts.old.items place ≡ Some part → PartReady O.Outlet (O.tells lanes.old) part }
     ensures crosses { CrossesPart O.Outlet parts.old.items parts.new.items place port (O.tells lanes.old) (O.tells lanes.new) result }
+    ensures front { KeepsFront from.old from.new parts.old.items parts.new.items }
     ensures shape { map part_shape parts.new.items ≡ map part_shape parts.old.items }
 {
     match parts[place].cross(alloc, lanes, port) {
@@ -63,11 +68,22 @@ pub fn cross_part<E: TaskElement, O: Outlet>(
         Crossing::OutOfMemory => Err(TaskFault::OutOfMemory),
         Crossing::To { number, hint, pad } => {
             let to = find(parts.as_slice(), number, hint);
+            lower(from, to);
             match hand_on(alloc, parts, place, port, to, pad) {
                 Ok(()) => Ok(Tried::Moved),
                 Err(refusal) => Err(TaskFault::refused(number, refusal)),
             }
         }
+    }
+}
+
+/// The lower of two places.
+fn lower(from: &mut usize, to: usize)
+    ensures lower { from.new ≤ from.old }
+    ensures below { from.new ≤ to }
+{
+    if to < *from {
+        *from = to;
     }
 }
 
@@ -101,10 +117,12 @@ pub fn cross_source<S: TaskSource, E: TaskElement, O: Outlet>(
     head: &mut SourceHead<S, O>,
     parts: &mut Vec<Part<E, O>>,
     lanes: &mut O::Lanes,
+    from: &mut usize,
 ) -> Result<Tried, TaskFault>
     requires closed { goes_within (map part_shape parts.old.items) (goes_of head.old.pad) ≡ true }
     requires ready { PadReady O.Outlet (O.tells lanes.old) head.old.pad }
     ensures crosses { CrossesSource O.Outlet head.old head.new parts.old.items parts.new.items (O.tells lanes.old) (O.tells lanes.new) result }
+    ensures front { KeepsFront from.old from.new parts.old.items parts.new.items }
     ensures shape { map part_shape parts.new.items ≡ map part_shape parts.old.items }
 {
     match head.pad.cross(alloc, lanes, false) {
@@ -121,6 +139,7 @@ pub fn cross_source<S: TaskSource, E: TaskElement, O: Outlet>(
         Crossing::OutOfMemory => Err(TaskFault::OutOfMemory),
         Crossing::To { number, hint, pad } => {
             let to = find(parts.as_slice(), number, hint);
+            lower(from, to);
             match hand_in(alloc, &mut head.pad, parts, to, pad) {
                 Ok(()) => Ok(Tried::Moved),
                 Err(refusal) => Err(TaskFault::refused(number, refusal)),
@@ -155,10 +174,12 @@ pub fn take<E: TaskElement, I: Inlet<Out = O>, O: Outlet<Lanes = I::Lanes>>(
     head: &mut InletHead<I>,
     parts: &mut Vec<Part<E, O>>,
     lanes: &mut I::Lanes,
+    from: &mut usize,
 ) -> Result<Tried, TaskFault>
     requires named { has_number head.old.number (map part_shape parts.old.items) ≡ true }
     requires ready { InletsReady I.Inlet (O.tells lanes.old) head.old }
     ensures takes { TakesNext I.Inlet head.old head.new parts.old.items parts.new.items (O.tells lanes.old) (O.tells lanes.new) result }
+    ensures front { KeepsFront from.old from.new parts.old.items parts.new.items }
     ensures shape { map part_shape parts.new.items ≡ map part_shape parts.old.items }
 {
     let to = find(parts.as_slice(), head.number, head.hint);
@@ -168,7 +189,10 @@ pub fn take<E: TaskElement, I: Inlet<Out = O>, O: Outlet<Lanes = I::Lanes>>(
     };
     match take_row(head, lanes, port) {
         Taken::Empty(lane) => Ok(Tried::Stuck(Step::NeedsItem(lane))),
-        Taken::Item(item) => feed_row(alloc, parts, to, port, item),
+        Taken::Item(item) => {
+            lower(from, to);
+            feed_row(alloc, parts, to, port, item)
+        }
     }
 }
 

@@ -8,6 +8,7 @@ use Rattle.task_parts.specs.Shape.{has_number, part_shape}
 use Rattle.task_pads.proofs.Lists.{set_length, some_at}
 use Rattle.task_parts.proofs.Lists.{at_get, set_at}
 use Rattle.task_parts.proofs.Tries.{at_other, crossed_shape, err_same, pad_in, place_within, port_in, to_gives, to_named}
+use Rattle.task_parts.proofs.Fronts.{front_back, front_handed, front_set}
 use Rattle.task_parts.proofs.passing.cross_part.Goals as goal
 
 pub index_mut-requires : goal.index_mut-requires
@@ -186,3 +187,33 @@ returns-in-Err-clause-crosses g c = record {
 
 pub returns-in-Err-clause-shape : goal.returns-in-Err-clause-shape
 returns-in-Err-clause-shape g c = c.hand_on.ensures.shape ∙ crossed_shape g.O.Outlet c.args.parts.now.items c.args.place c.args.port c.index_mut.result.now c.cross.new.self (g.O.Outlet.tells c.args.lanes.now) (g.O.Outlet.tells c.cross.new.lanes) (crossings.To c.in-To.number c.in-To.hint c.in-To.pad) (some_at c.args.parts.now.items c.args.place c.index_mut.result.now (place_within c.args.parts.now.items c.args.place c.args.port c.requires.at) c.index_mut.ensures.value) c.in-To.ensures
+
+pub returns-in-Idle-clause-front : goal.returns-in-Idle-clause-front
+returns-in-Idle-clause-front g c = front_set c.args.from.now c.args.place c.args.parts.now.items c.cross.new.self c.requires.from
+
+pub returns-in-Gone-clause-front : goal.returns-in-Gone-clause-front
+returns-in-Gone-clause-front g c = front_set c.args.from.now c.args.place c.args.parts.now.items c.cross.new.self c.requires.from
+
+pub returns-in-BehindEos-clause-front : goal.returns-in-BehindEos-clause-front
+returns-in-BehindEos-clause-front g c = front_set c.args.from.now c.args.place c.args.parts.now.items c.cross.new.self c.requires.from
+
+pub returns-in-Full-clause-front : goal.returns-in-Full-clause-front
+returns-in-Full-clause-front g c = front_set c.args.from.now c.args.place c.args.parts.now.items c.cross.new.self c.requires.from
+
+pub returns-in-AtProbe-clause-front : goal.returns-in-AtProbe-clause-front
+returns-in-AtProbe-clause-front g c = front_set c.args.from.now c.args.place c.args.parts.now.items c.cross.new.self c.requires.from
+
+pub returns-in-NotLinked-clause-front : goal.returns-in-NotLinked-clause-front
+returns-in-NotLinked-clause-front g c = front_set c.args.from.now c.args.place c.args.parts.now.items c.cross.new.self c.requires.from
+
+pub returns-in-AtLimit-clause-front : goal.returns-in-AtLimit-clause-front
+returns-in-AtLimit-clause-front g c = front_set c.args.from.now c.args.place c.args.parts.now.items c.cross.new.self c.requires.from
+
+pub returns-in-OutOfMemory-clause-front : goal.returns-in-OutOfMemory-clause-front
+returns-in-OutOfMemory-clause-front g c = front_set c.args.from.now c.args.place c.args.parts.now.items c.cross.new.self c.requires.from
+
+pub returns-in-Ok-clause-front : goal.returns-in-Ok-clause-front
+returns-in-Ok-clause-front g c = front_handed c.args.from.now c.lower.new.from c.args.place c.args.port c.find-to.result c.in-To.pad c.args.parts.now.items c.hand_on.new.parts.items c.cross.new.self c.requires.from c.lower.ensures.lower c.lower.ensures.below c.in-Ok.ensures.handed
+
+pub returns-in-Err-clause-front : goal.returns-in-Err-clause-front
+returns-in-Err-clause-front g c = front_back c.args.from.now c.lower.new.from c.args.place c.args.port c.find-to.result c.in-To.pad c.in-Err.refusal c.args.parts.now.items c.hand_on.new.parts.items c.cross.new.self c.requires.from c.lower.ensures.lower c.lower.ensures.below c.in-Err.ensures.back

@@ -4,6 +4,7 @@ use Rattle.task_pads.specs.declared.crossing.Crossing.TheVariants as crossings
 use Rattle.task_parts.specs.declared.part.Part.{Part}
 use Rattle.task_parts.specs.Shape.{has_number, part_shape}
 use Rattle.task_parts.proofs.Tries.{at_other, err_same, fault_at, named_in, source_back, source_same, source_to}
+use Rattle.task_parts.proofs.Fronts.{front_in, front_out, front_same}
 use Rattle.task_parts.proofs.passing.cross_source.Goals as goal
 
 pub find-to-requires-clause-named : goal.find-to-requires-clause-named
@@ -62,3 +63,33 @@ returns-in-Err-clause-crosses g c =
 
 pub returns-in-Err-clause-shape : goal.returns-in-Err-clause-shape
 returns-in-Err-clause-shape g c = c.hand_in.ensures.shape
+
+pub returns-in-Idle-clause-front : goal.returns-in-Idle-clause-front
+returns-in-Idle-clause-front g c = front_same c.args.from.now c.args.parts.now.items
+
+pub returns-in-Gone-clause-front : goal.returns-in-Gone-clause-front
+returns-in-Gone-clause-front g c = front_same c.args.from.now c.args.parts.now.items
+
+pub returns-in-BehindEos-clause-front : goal.returns-in-BehindEos-clause-front
+returns-in-BehindEos-clause-front g c = front_same c.args.from.now c.args.parts.now.items
+
+pub returns-in-Full-clause-front : goal.returns-in-Full-clause-front
+returns-in-Full-clause-front g c = front_same c.args.from.now c.args.parts.now.items
+
+pub returns-in-AtProbe-clause-front : goal.returns-in-AtProbe-clause-front
+returns-in-AtProbe-clause-front g c = front_same c.args.from.now c.args.parts.now.items
+
+pub returns-in-NotLinked-clause-front : goal.returns-in-NotLinked-clause-front
+returns-in-NotLinked-clause-front g c = front_same c.args.from.now c.args.parts.now.items
+
+pub returns-in-AtLimit-clause-front : goal.returns-in-AtLimit-clause-front
+returns-in-AtLimit-clause-front g c = front_same c.args.from.now c.args.parts.now.items
+
+pub returns-in-OutOfMemory-clause-front : goal.returns-in-OutOfMemory-clause-front
+returns-in-OutOfMemory-clause-front g c = front_same c.args.from.now c.args.parts.now.items
+
+pub returns-in-Ok-clause-front : goal.returns-in-Ok-clause-front
+returns-in-Ok-clause-front g c = front_in c.args.from.now c.lower.new.from c.find-to.result c.in-To.pad _ _ c.args.parts.now.items c.hand_in.new.parts.items c.lower.ensures.lower c.lower.ensures.below c.in-Ok.ensures.handed
+
+pub returns-in-Err-clause-front : goal.returns-in-Err-clause-front
+returns-in-Err-clause-front g c = front_out c.args.from.now c.lower.new.from c.find-to.result c.in-To.pad c.in-Err.refusal _ _ c.args.parts.now.items c.hand_in.new.parts.items c.lower.ensures.lower c.lower.ensures.below c.in-Err.ensures.out

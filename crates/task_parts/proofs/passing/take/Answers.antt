@@ -5,6 +5,7 @@ use Rattle.inlet_row.specs.declared.feeding.Taken.TheVariants as takes
 use Rattle.task_parts.specs.declared.part.Part.{Part}
 use Rattle.task_parts.specs.Shape.{has_number, part_shape}
 use Rattle.task_parts.proofs.Tries.{asked_from, at_other, wants_at}
+use Rattle.task_parts.proofs.Fronts.{front_fed, front_same}
 use Rattle.task_parts.proofs.passing.take.Goals as goal
 
 pub find-to-requires-clause-named : goal.find-to-requires-clause-named
@@ -61,3 +62,12 @@ returns-in-Item-clause-takes g c = record {
     after = c.feed_row.ensures.feeds;
   });
 }
+
+pub returns-in_default-clause-front : goal.returns-in_default-clause-front
+returns-in_default-clause-front g c = front_same c.args.from.now c.args.parts.now.items
+
+pub returns-in-Empty-clause-front : goal.returns-in-Empty-clause-front
+returns-in-Empty-clause-front g c = front_same c.args.from.now c.args.parts.now.items
+
+pub returns-in-Item-clause-front : goal.returns-in-Item-clause-front
+returns-in-Item-clause-front g c = front_fed c.args.from.now c.lower.new.from c.find-to.result c.in-Some.port c.in-Item.item c.args.parts.now.items c.feed_row.new.parts.items c.feed_row.result c.lower.ensures.lower c.lower.ensures.below c.feed_row.ensures.feeds

@@ -10,6 +10,7 @@ use Rattle.net_task.specs.Ties.{AreTied, Stands, nothing_lost}
 use Rattle.net_task.specs.Tries.{Asks}
 use Rattle.net_task.proofs.Asking.{gave_failed, given_frame, head_faults, source_asks, source_cause}
 use Rattle.net_task.proofs.Inlets.{inlet_asks, inlet_caused, inlet_failed, inlet_framed}
+use Rattle.net_task.proofs.SoFar.{front_idle}
 use Rattle.net_task.proofs.task.Task.ask_head.Goals as goal
 
 pub returns-in-Source-clause-asks : goal.returns-in-Source-clause-asks
@@ -50,3 +51,6 @@ returns-in-Inlets-clause-faults g c =
 
 pub returns-in-Inlets-clause-frame : goal.returns-in-Inlets-clause-frame
 returns-in-Inlets-clause-frame g c = inlet_framed g.S.TaskSource g.I.Inlet g.O.Outlet c.in-Inlets.head c.take.new.head c.args.self.now.parts.items c.take.new.parts.items _ _ c.take.result c.take.ensures.takes c.take.ensures.shape ∙ ap (λ (h : Head g.row.S.Denot g.row.I.Denot g.row.O.Denot g.S.TaskSource). frame_in g.O.Outlet h c.args.self.now.parts.items) (sym c.in-Inlets.is)
+
+pub invariant_of-self-in-Inlets-clause-idle : goal.invariant_of-self-in-Inlets-clause-idle
+invariant_of-self-in-Inlets-clause-idle g c = front_idle c.args.self.now.from c.take.new.from c.args.self.now.parts.items c.take.new.parts.items c.take.ensures.front c.args.self.now.idle

@@ -8,6 +8,7 @@ use Rattle.net_task.specs.Ties.{AreTied, Stands, nothing_lost}
 use Rattle.net_task.specs.Tries.{HeadTries, IsHeadPad, PadFails}
 use Rattle.net_task.proofs.Closed.{if_ok, if_err}
 use Rattle.net_task.proofs.SourceTrying.{inlets_tried, source_caused, source_failed, source_framed, source_lanes, source_ready, source_spends, source_stayed, source_tabled, source_tried}
+use Rattle.net_task.proofs.SoFar.{front_idle}
 use Rattle.net_task.proofs.task.Task.try_head.Goals as goal
 
 pub returns-in-Source-clause-tries : goal.returns-in-Source-clause-tries
@@ -35,3 +36,6 @@ returns-in-Source-clause-frame g c = source_framed g.I.Inlet g.O.Outlet c.in-Sou
 
 pub returns-in-Inlets-clause-tries : goal.returns-in-Inlets-clause-tries
 returns-in-Inlets-clause-tries g c = inlets_tried g.I.Inlet g.O.Outlet (g.O.Outlet.tells c.args.lanes.now) c.args.self.now.head c.args.self.now.parts.items c.in-Inlets.field-0 c.in-Inlets.is c.requires.ready
+
+pub invariant_of-self-clause-idle : goal.invariant_of-self-clause-idle
+invariant_of-self-clause-idle g c = front_idle c.args.self.now.from c.cross_source.new.from c.args.self.now.parts.items c.cross_source.new.parts.items c.cross_source.ensures.front c.args.self.now.idle

@@ -1,5 +1,6 @@
 use Rattle.net_task.proofs.Closed.{closed_part, if_ok, if_err}
 use Rattle.net_task.proofs.Trying.{part_caused, part_failed, part_framed, part_lanes, part_ready, part_settles, part_spends, part_tabled, part_tried}
+use Rattle.net_task.proofs.SoFar.{front_idle}
 use Rattle.net_task.proofs.task.Task.try_pad.Goals as goal
 
 pub cross_part-requires-clause-closed : goal.cross_part-requires-clause-closed
@@ -22,3 +23,6 @@ returns-clause-faults g c = if_err c.cross_part.result _ (λ fault q. record { c
 
 pub returns-clause-frame : goal.returns-clause-frame
 returns-clause-frame g c = part_framed g.I.Inlet g.O.Outlet c.args.self.now.head c.args.self.now.parts.items c.cross_part.new.parts.items c.args.place c.args.port _ _ c.cross_part.result c.cross_part.ensures.crosses c.cross_part.ensures.shape
+
+pub invariant_of-self-clause-idle : goal.invariant_of-self-clause-idle
+invariant_of-self-clause-idle g c = front_idle c.args.self.now.from c.cross_part.new.from c.args.self.now.parts.items c.cross_part.new.parts.items c.cross_part.ensures.front c.args.self.now.idle

@@ -5,7 +5,7 @@ use Rattle.net_task.specs.Frame.{TaskFrame, WireAt, frame_of}
 use Rattle.net_task.specs.Tries.{IsAtPort, IsFirstOf, IsOfPart}
 use Rattle.net_task.proofs.Closed.{handed_on}
 use Rattle.net_task.proofs.Asking.{settled, settled_frame}
-use Rattle.net_task.proofs.SoFar.{PadsAre, WasBelow, below_all, done_so, fails_so, first_of, has_port, more_so, moved_so, none_below, on_ok, one_below, pads_are, pads_counted, parts_within, settled_so, settled_then}
+use Rattle.net_task.proofs.SoFar.{PadsAre, WasBelow, below_all, done_so, fails_so, first_of, has_port, more_so, moved_so, none_below, on_ok, one_below, pads_are, pads_counted, parts_within, settled_idle, settled_so, settled_then}
 use Rattle.net_task.proofs.task.Task.try_part.Goals as goal
 
 pub returns-then-is_err-clause-faults : goal.returns-then-is_err-clause-faults
@@ -28,6 +28,7 @@ loop-port-init g c =
       settled_so _ c.args.self.now _ c.args.place (WasBelow (frame_of c.args.self.now) c.args.place 0) refl c.settle.ensures.settled c.settle.ensures.shape c.requires.ready (none_below (frame_of c.args.self.now) c.args.place),
       pads,
       on_ok c.settle.result _ (sym c.is_err.ensures.value ∙ c.if-is_err.false) c.settle.ensures.all,
+      omega arith,
     )
 
 pub try_pad-requires-clause-at : goal.try_pad-requires-clause-at
@@ -59,6 +60,7 @@ loop-port-preserved g c = (
       c.with_next-tried.ensures c.in_default.not-Moved (one_below (frame_of c.args.self.now) (frame_of c.loop-port.self) c.args.place c.loop-port.port c.loop-port.invariant.0.frame),
   pads_are g.O.Outlet c.loop-port.self.parts.items c.try_pad.new.self.parts.items c.args.place _ (ap (λ (f : TaskFrame). f.parts) c.try_pad.ensures.frame) c.loop-port.invariant.1,
   settled_then c.try_pad.new.self.parts.items c.args.place c.loop-port.tried c.in_ok-try_pad.field-0 c.with_next-tried.result c.with_next-tried.ensures c.in_default.not-Moved c.in_ok-try_pad.ensures.settled,
+  (let v = c.try_pad.ensures.from in let w = c.loop-port.invariant.3 in omega (arith, v, w)),
 )
 
 pub returns-clause-tries : goal.returns-clause-tries
@@ -70,3 +72,18 @@ returns-clause-tries g c =
 
 pub returns-clause-frame : goal.returns-clause-frame
 returns-clause-frame g c = c.loop-port.invariant.0.frame
+
+pub invariant_of-self-clause-idle : goal.invariant_of-self-clause-idle
+invariant_of-self-clause-idle g c = settled_idle c.args.self.now.from c.args.place c.args.self.now.parts.items c.settle.new.parts.items c.requires.from c.settle.ensures.settled c.args.self.now.idle
+
+pub try_pad-requires-clause-from : goal.try_pad-requires-clause-from
+try_pad-requires-clause-from g c = λ κs w. let v = c.requires.from in let z = c.loop-port.invariant.3 in omega (arith, v, z)
+
+pub returns-in_err-try_pad-clause-from : goal.returns-in_err-try_pad-clause-from
+returns-in_err-try_pad-clause-from g c = let v = c.try_pad.ensures.from in let w = c.loop-port.invariant.3 in omega (arith, v, w)
+
+pub returns-in-Moved-clause-from : goal.returns-in-Moved-clause-from
+returns-in-Moved-clause-from g c = let v = c.try_pad.ensures.from in let w = c.loop-port.invariant.3 in omega (arith, v, w)
+
+pub returns-clause-from : goal.returns-clause-from
+returns-clause-from g c = c.loop-port.invariant.3

@@ -1,3 +1,4 @@
+use Rattle.std.proofs.Common.{◌≤◌}
 use Rattle.net_task.specs.Frame.{frame_of}
 use Rattle.net_task.specs.Tries.{SettledAt}
 use Rattle.net_task.proofs.SoFar.{PadsAre, SoFar, WasBelow}
@@ -8,3 +9,4 @@ invariant-loop-port g l =
     SoFar (g.O.Outlet.tells l.fn.lanes) (g.O.Outlet.tells l.lanes) l.fn.self l.self (WasBelow (frame_of l.fn.self) l.place l.port) l.tried
     × PadsAre l.self.parts.items l.place l.port-end
     × SettledAt l.self.parts.items l.place
+    × (l.self.from ≤ l.fn.self.from)

@@ -1,13 +1,13 @@
-use Rattle.std.proofs.Common.{◌∙◌, ◌+◌, ap, arith, sym}
+use Rattle.std.proofs.Common.{◌∙◌, ◌+◌, ap, arith, refl, sym}
 use Rattle.net_task.specs.Frame.{TaskFrame, frame_of}
 use Rattle.net_task.specs.Reasons.{IsFirst}
 use Rattle.net_task.specs.Tries.{IsFirstOf, IsOfAny, IsOfPart}
 use Rattle.net_task.proofs.Closed.{handed_on}
-use Rattle.net_task.proofs.SoFar.{WasBefore, before_all, done_so, fails_so, first_all, more_so, moved_so, none_before, none_so, one_before, same_many}
+use Rattle.net_task.proofs.SoFar.{WasBefore, before_all, done_so, fails_so, first_all, idle_so, more_so, moved_so, one_before, same_many}
 use Rattle.net_task.proofs.task.Task.try_parts.Goals as goal
 
 pub loop-place-init : goal.loop-place-init
-loop-place-init g c = (none_so _ c.args.self.now (WasBefore (frame_of c.args.self.now) 0) c.requires.ready (none_before (frame_of c.args.self.now)), c.len-place-end.ensures ∙ c.args.self.now.parts.ok.0)
+loop-place-init g c = (idle_so _ c.args.self.now _ refl refl c.requires.ready, c.len-place-end.ensures ∙ c.args.self.now.parts.ok.0, omega arith)
 
 pub returns-in_err-try_part-clause-faults : goal.returns-in_err-try_part-clause-faults
 returns-in_err-try_part-clause-faults g c = handed_on c.from_residual.result c.in_err-try_part.field-0.0 _ c.from_residual.ensures.1
@@ -34,6 +34,7 @@ loop-place-preserved g c = (
       (λ m. IsFirstOf _ m (frame_of c.loop-place.self) c.loop-place.place) c.loop-place.tried c.in_ok-try_part.field-0 c.with_next-tried.result c.loop-place.invariant.0 c.in_ok-try_part.ensures.tries c.try_part.ensures.frame c.try_part.ensures.head
       c.with_next-tried.ensures c.in_default.not-Moved (one_before (frame_of c.args.self.now) (frame_of c.loop-place.self) c.loop-place.place c.loop-place.invariant.0.frame),
   c.loop-place.invariant.1 ∙ sym (same_many g.O.Outlet c.loop-place.self.parts.items c.try_part.new.self.parts.items (ap (λ (f : TaskFrame). f.parts) c.try_part.ensures.frame)),
+  (let v = c.try_part.ensures.from in let w = c.loop-place.invariant.2 in omega (arith, v, w)),
 )
 
 pub returns-clause-tries : goal.returns-clause-tries
@@ -45,3 +46,6 @@ returns-clause-tries g c =
 
 pub returns-clause-frame : goal.returns-clause-frame
 returns-clause-frame g c = c.loop-place.invariant.0.frame
+
+pub try_part-requires-clause-from : goal.try_part-requires-clause-from
+try_part-requires-clause-from g c = λ κs w. c.loop-place.invariant.2
