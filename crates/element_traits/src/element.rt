@@ -41,7 +41,8 @@ pub trait TaskElement: Drop {
         requires no_flush { is_flush_stop item ≡ false }
         ensures took { OnOk result (Takes (stands self.old) (stands self.new) (ports self.old) pad item out.old out.new) }
         ensures fell { OnErr result ((rule : Rule) (took : List (List Call)) → stands self.old rule took → fell self.new rule took pad item) }
-        ensures refused { IfErr result (λ refusal. (rule : Rule) (took : List (List Call)) → stands self.old rule took → refuses self.old rule took pad item refusal) }
+        ensures refused { IfErr result (λ refusal. (rule : Rule) (took : List (List Call)) → stands self.old rule took
+            → refuses self.old rule took pad item refusal) }
         ensures out { OnErr result (out.new ≡ out.old) }
         ensures cause { IfErr result (IsWriteCause (failures self.old) (failures self.new)) }
         ensures never_falls { NeverFalls (failures self.old) (failures self.new) }

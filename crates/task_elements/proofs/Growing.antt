@@ -18,7 +18,7 @@ abbrev pub OwesNoStop : Response → Type 0
 OwesNoStop respond = (fed : Fed) (x : Item) → is_flush_stop x ≡ false → HasNoStop (respond fed x)
 
 -- how many FLUSH_STOPs a list has
-abbrev stops : List Item → ℕ
+abbrev pub stops : List Item → ℕ
 stops [] = 0
 stops (x ∷ xs) = if is_flush_stop x then suc (stops xs) else stops xs
 
@@ -92,7 +92,7 @@ pub owed_stops : (respond : Response) → OwesNoStop respond → (calls : List C
 owed_stops respond none calls = all_stops respond none unfed calls ∙ omega arith
 
 -- a list without FLUSH_STOP is one section
-one_section : (more : List Item) → stops more ≡ 0 → section 0 more ≡ more
+pub one_section : (more : List Item) → stops more ≡ 0 → section 0 more ≡ more
 one_section [] n = refl
 one_section (x ∷ xs) n = go (is_flush_stop x) (one_section xs) n
   where

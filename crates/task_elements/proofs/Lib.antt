@@ -1,5 +1,6 @@
 pub mod EachKind
 pub mod Filters
+pub mod FirstEos
 pub mod Growing
 pub mod Plain
 pub mod Roles

@@ -1,3 +1,4 @@
+pub mod Ended
 pub mod Made
 pub mod Owes
 pub mod Ruled

@@ -14,12 +14,12 @@ use crate::filter::StreamFilter;
 use el_basic::Identity;
 use el_set::{FilterElement, SinkElement};
 use el_sink::WriteFault;
-use element_traits::Refusal;
+use element_traits::{Refusal, TaskElement};
 use gst_item::{Item, Outs};
 use gst_outside::Sink;
 use std::alloc::Global;
 
-/// An element with one sink pad, by its role in a stream.
+/// An element with one sink pad, by its role in a stream. It is fed and asked through `TaskElement`.
 #[derive(Drop)]
 pub enum StreamElement<K> {
     Filter(StreamFilter),
@@ -28,30 +28,24 @@ pub enum StreamElement<K> {
     Sink(SinkElement<K>),
 }
 
-impl<K: Sink> StreamElement<K> {
-    ghost use Rattle.task_elements.specs.Stands.{StreamStands, StreamFell, StreamRefuses, pads_of, location_in, faults_in, filter_in, sink_in, len_in};
+impl<K: Sink> TaskElement for StreamElement<K> {
+    ghost use Rattle.task_elements.specs.Stands.{StreamStands, StreamFell, StreamRefuses, pads_of, location_in, faults_in};
 
-    /// Takes an item on a sink pad, and appends what it owes for it. An item for a sink pad that it has not changes
-    /// nothing. Where it refuses the item, nothing is put out.
-    pub fn feed(
-        &mut self,
-        alloc: Global,
-        pad: u32,
-        item: Item,
-        out: &mut Outs,
-    ) -> Result<(), Refusal>
-        requires no_flush { is_flush_stop item ≡ false }
-        ensures took { OnOk result (Takes (StreamStands K.bytes self.old) (StreamStands K.bytes self.new) (pads_of self.old) pad item out.old out.new) }
-        ensures fell { OnErr result ((rule : Rule) (took : List (List Call)) → StreamStands K.bytes self.old rule took
-            → StreamFell K.bytes self.new rule took pad item) }
-        ensures refused { IfErr result (λ refusal. (rule : Rule) (took : List (List Call)) → StreamStands K.bytes self.old rule took
-            → StreamRefuses self.old rule took pad item refusal) }
-        ensures out { OnErr result (out.new ≡ out.old) }
-        ensures cause { IfErr result (IsWriteCause (faults_in K.faults self.old) (faults_in K.faults self.new)) }
-        ensures never_falls { NeverFalls (faults_in K.faults self.old) (faults_in K.faults self.new) }
-        ensures ports { pads_of self.new ≡ pads_of self.old }
-        ensures file { location_in K.location self.new ≡ location_in K.location self.old }
-    {
+    ghost stands = { StreamStands K.bytes };
+
+    ghost fell = { StreamFell K.bytes };
+
+    ghost refuses = { StreamRefuses };
+
+    ghost ports = { pads_of };
+
+    ghost wanted = { λ element. Some 0 };
+
+    ghost file = { location_in K.location };
+
+    ghost failures = { faults_in K.faults };
+
+    fn feed(&mut self, alloc: Global, pad: u32, item: Item, out: &mut Outs) -> Result<(), Refusal> {
         if pad != 0 {
             return Ok(());
         }
@@ -62,12 +56,13 @@ impl<K: Sink> StreamElement<K> {
         }
     }
 
-    /// The sink pad from whose inlet it wants its next item.
-    pub fn wants(&self) -> Option<u32>
-        ensures { result ≡ Some 0 }
-    {
+    fn wants(&self) -> Option<u32> {
         Some(0)
     }
+}
+
+impl<K: Sink> StreamElement<K> {
+    ghost use Rattle.task_elements.specs.Stands.{filter_in, sink_in, len_in};
 
     /// The filter, where it is one.
     pub fn into_filter(self) -> Option<FilterElement>

@@ -35,7 +35,8 @@ impl StreamFilter {
     pub(crate) fn feed(&mut self, alloc: Global, item: Item, out: &mut Outs) -> Result<(), Refusal>
         requires no_flush { is_flush_stop item ≡ false }
         ensures took { OnOk result (Takes (FilterTook self.old.filter) (FilterTook self.new.filter) 1 0 item out.old out.new) }
-        ensures stays { OnErr result ((rule : Rule) (took : List (List Call)) → FilterTook self.old.filter rule took → FilterTook self.new.filter rule took) }
+        ensures stays { OnErr result ((rule : Rule) (took : List (List Call)) → FilterTook self.old.filter rule took
+            → FilterTook self.new.filter rule took) }
         ensures refused { IfErr result (λ refusal. (rule : Rule) (took : List (List Call)) → FilterTook self.old.filter rule took
             → FilterRefuses self.old.filter rule took item refusal) }
         ensures cause { IfErr result (IsWriteCause None None) }

@@ -1,16 +1,16 @@
 //! Laws of the elements of a stream. Each function does nothing: its contract is the law.
-ghost use Rattle.std.specs.Prelude.{◌≡◌, ℕ, List, [], ◌∷◌, ◌++◌};
+ghost use Rattle.std.specs.Prelude.{◌≡◌, ◌<◌, ℕ, true, List, [], ◌∷◌};
 ghost use Rattle.flow_model.specs.Call.{Call};
 ghost use Rattle.flow_model.specs.Chain.{IsPlain};
 ghost use Rattle.flow_model.specs.Rule.{Rule};
 ghost use Rattle.net_model.specs.Whole.{OwesInOrder};
-ghost use Rattle.flow_model.specs.Item.{Item};
-ghost use Rattle.el_set.specs.declared.source.SourceElement.{SourceElement};
-ghost use Rattle.task_elements.specs.Owes.{Owes};
-ghost use Rattle.task_elements.specs.Stands.{StreamStands};
+ghost use Rattle.net_model.specs.Over.{list_ended, AllEnded};
+ghost use Rattle.element_traits.specs.Takes.{InSection};
+ghost use Rattle.task_elements.specs.Ended.{FirstEnded};
+ghost use Rattle.task_elements.specs.Stands.{StreamStands, pads_of};
 ghost use Rattle.task_elements.specs.declared.element.StreamElement.{StreamElement};
 
-use gst_outside::{Sink, Source};
+use gst_outside::Sink;
 
 /// Of each rule for which an element stands, for whatever it is given: in no section it owes anything behind an EOS, nor a
 /// FLUSH_STOP; for beginnings of lists it owes beginnings; and for nothing it owes nothing.
@@ -23,7 +23,11 @@ pub fn rules_of_elements<K: Sink>()
         → (port j : ℕ) → rule ([] ∷ []) port j ≡ [] }
 {}
 
-/// What a source gave begins what it owes.
-pub fn sources_owe_more<S: Source>()
-    ensures { (source : SourceElement S) (owed given : List Item) → Owes S.content source owed given → (rest : List Item) × (owed ≡ given ++ rest) }
+/// An element hands EOS on. Where EOS stands in the first section of what a filter or a queue took, what it owes in its first
+/// section has EOS; where no FLUSH_STOP was taken, that is EOS anywhere. A sink has no pad to which it could owe it.
+pub fn eos_goes_on<K: Sink>()
+    ensures first { (element : StreamElement K) (rule : Rule) (took : List (List Call)) → StreamStands K.bytes element rule took
+        → FirstEnded took → (port : ℕ) → port < pads_of element → list_ended (rule took port 0) ≡ true }
+    ensures whole { (element : StreamElement K) (rule : Rule) (took : List (List Call)) → StreamStands K.bytes element rule took
+        → InSection 0 took → AllEnded took → (port : ℕ) → port < pads_of element → list_ended (rule took port 0) ≡ true }
 {}

@@ -1,14 +1,11 @@
 //! The sources of a stream.
-ghost use Rattle.std.specs.Prelude.{◌≡◌, ◌<◌, ◌^◌, ℕ, List, Some, option_map, IfOk, IfErr, OnErr};
+ghost use Rattle.std.specs.Prelude.{◌≡◌, ℕ, List, Some};
 ghost use Rattle.flow_model.specs.Item.{Item as PadItem};
-ghost use Rattle.element_traits.specs.Gives.{Gives, count_after};
-ghost use Rattle.element_traits.specs.Failures.{NeverFalls, IsReadCause};
-ghost use Rattle.el_set.specs.Gives.{SourceGave, source_content, source_items, source_faults, source_file};
-ghost use Rattle.task_elements.specs.Owes.{Owes, location_read, answer_of};
+ghost use Rattle.task_elements.specs.Owes.{Owes, answer_of};
 
 use el_set::SourceElement;
 use el_src::{Next, SrcFault};
-use element_traits::Unread;
+use element_traits::{TaskSource, Unread};
 use gst_item::Item;
 use gst_outside::Source;
 use std::alloc::Global;
@@ -21,29 +18,15 @@ pub struct StreamSource<S> {
 
 impl<S: Source> StreamSource<S> {
     ghost use Rattle.std.specs.Prelude.{[]};
+    ghost use Rattle.el_set.specs.Gives.{SourceGave, source_content};
 
     /// A source that gave nothing yet.
     pub fn new(source: SourceElement<S>) -> StreamSource<S>
         ensures source { result.source ≡ source }
-        ensures opens { (content : List ℕ) (list : List ℕ → List PadItem) → source_content S.content source ≡ Some content → SourceGave S.content source list []
-            → Owes S.content result.source (list content) [] }
+        ensures opens { (content : List ℕ) (list : List ℕ → List PadItem) → source_content S.content source ≡ Some content
+            → SourceGave S.content source list [] → Owes S.content result.source (list content) [] }
     {
         StreamSource { source }
-    }
-
-    /// The next item; none where all was given, EOS last. Where it fails nothing was given, and a later call tries once
-    /// more.
-    pub fn next(&mut self, alloc: Global) -> Result<Option<Item>, Unread>
-        requires few { source_items self.old.source < 2 ^ 41 }
-        ensures gives { IfOk result (λ next. (owed given : List PadItem) → Owes S.content self.old.source owed given
-            → Gives (Owes S.content self.new.source) owed given next) }
-        ensures kept { OnErr result ((owed given : List PadItem) → Owes S.content self.old.source owed given → Owes S.content self.new.source owed given) }
-        ensures counted { source_items self.new.source ≡ count_after result (source_items self.old.source) }
-        ensures cause { IfErr result (IsReadCause (source_faults S.faults self.old.source) (source_faults S.faults self.new.source)) }
-        ensures never_falls { NeverFalls (source_faults S.faults self.old.source) (source_faults S.faults self.new.source) }
-        ensures file { location_read S.location self.new.source ≡ location_read S.location self.old.source }
-    {
-        answer(self.source.next(alloc))
     }
 
     /// The source, with what it read.
@@ -52,6 +35,25 @@ impl<S: Source> StreamSource<S> {
     {
         self.source
     }
+}
+
+impl<S: Source> TaskSource for StreamSource<S> {
+    ghost use Rattle.el_set.specs.Gives.{source_items, source_faults};
+    ghost use Rattle.task_elements.specs.Owes.{owes_more, location_read};
+
+    ghost gave = { λ s. Owes S.content s.source };
+
+    ghost count = { λ s. source_items s.source };
+
+    ghost file = { λ s. location_read S.location s.source };
+
+    ghost failures = { λ s. source_faults S.faults s.source };
+
+    fn next(&mut self, alloc: Global) -> Result<Option<Item>, Unread> {
+        answer(self.source.next(alloc))
+    }
+
+    ghost begins = { λ s. owes_more S.content s.source };
 }
 
 /// A source's answer as a task's.

@@ -1,7 +1,4 @@
 //! Elements that are fed through the traits of a task.
-//!
-//! The toolchain refuses these implementations for every sink and every source: in one it takes no call of a function
-//! with a bound that is `Send`. For types that are known it does.
 ghost use Rattle.std.specs.Prelude.{◌≡◌, ◌<◌, ◌^◌, None, IfSome};
 ghost use Rattle.el_set.specs.Asked.{title_of};
 ghost use Rattle.el_set.specs.Gives.{source_items};
@@ -16,52 +13,6 @@ use gst_item::{Body, Buffer, Event, Item, Outs};
 use gst_outside::{MemSink, MemSource, Sink, Source};
 use std::alloc::Global;
 use std::test::Fail;
-
-impl TaskElement for StreamElement<MemSink> {
-    ghost use Rattle.std.specs.Prelude.{Some};
-    ghost use Rattle.task_elements.specs.Stands.{StreamStands, StreamFell, StreamRefuses, pads_of, location_in, faults_in};
-
-    ghost stands = { StreamStands ⟦<MemSink as Sink>⟧.bytes };
-
-    ghost fell = { StreamFell ⟦<MemSink as Sink>⟧.bytes };
-
-    ghost refuses = { StreamRefuses };
-
-    ghost ports = { pads_of };
-
-    ghost wanted = { λ element. Some 0 };
-
-    ghost file = { location_in ⟦<MemSink as Sink>⟧.location };
-
-    ghost failures = { faults_in ⟦<MemSink as Sink>⟧.faults };
-
-    fn feed(&mut self, alloc: Global, pad: u32, item: Item, out: &mut Outs) -> Result<(), Refusal> {
-        StreamElement::feed(self, alloc, pad, item, out)
-    }
-
-    fn wants(&self) -> Option<u32> {
-        Some(0)
-    }
-}
-
-impl TaskSource for StreamSource<MemSource> {
-    ghost use Rattle.task_elements.specs.Owes.{Owes, owes_more, location_read};
-    ghost use Rattle.el_set.specs.Gives.{source_items, source_faults};
-
-    ghost gave = { λ s. Owes ⟦<MemSource as Source>⟧.content s.source };
-
-    ghost count = { λ s. source_items s.source };
-
-    ghost file = { λ s. location_read ⟦<MemSource as Source>⟧.location s.source };
-
-    ghost failures = { λ s. source_faults ⟦<MemSource as Source>⟧.faults s.source };
-
-    fn next(&mut self, alloc: Global) -> Result<Option<Item>, Unread> {
-        StreamSource::next(self, alloc)
-    }
-
-    ghost begins = { λ s. owes_more ⟦<MemSource as Source>⟧.content s.source };
-}
 
 /// The item of a letter: STREAM_START, CAPS, EOS, or a buffer of two bytes.
 fn item_of(alloc: Global, letter: char) -> Result<Item, Fail> {

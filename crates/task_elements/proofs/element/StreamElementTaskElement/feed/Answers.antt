@@ -1,6 +1,6 @@
 use Rattle.task_elements.proofs.Roles.{takes_none, nothing_put}
 use Rattle.task_elements.specs.Stands.{SinkStands}
-use Rattle.task_elements.proofs.element.StreamElement.feed.Goals as goal
+use Rattle.task_elements.proofs.element.StreamElementTaskElement.feed.Goals as goal
 
 pub returns-then-pad-ne0-clause-took : goal.returns-then-pad-ne0-clause-took
 returns-then-pad-ne0-clause-took g c = takes_none g.K.Sink.bytes c.args.self.now _ c.args.pad c.args.item c.args.out.now c.if-pad-ne0.true

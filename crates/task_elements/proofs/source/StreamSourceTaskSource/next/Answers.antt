@@ -1,5 +1,5 @@
 use Rattle.task_elements.proofs.Sources.{gives}
-use Rattle.task_elements.proofs.source.StreamSource.next.Goals as goal
+use Rattle.task_elements.proofs.source.StreamSourceTaskSource.next.Goals as goal
 
 pub returns-clause-gives : goal.returns-clause-gives
 returns-clause-gives g c = rw c.answer.ensures (gives g.S.Source.content c.args.self.now.source c.next.new.self c.next.result c.next.ensures.content_stays c.next.ensures.gave)
