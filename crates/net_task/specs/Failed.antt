@@ -21,7 +21,7 @@ use Rattle.task_parts.specs.declared.fault.TaskFault.TheVariants.{TooLong, NotLi
 use Rattle.task_parts.specs.Fault.{refusal_fault, unread_fault}
 use Rattle.net_task.specs.Frame.{PartFrame, TaskFrame, Wire, IsWire, by_source as of_source, frame_of}
 use Rattle.net_task.specs.Reasons.{AllRest, HeadIdle, IsFirst}
-use Rattle.net_task.specs.Ties.{AreTied, Stands, nothing_lost}
+use Rattle.net_task.specs.Ties.{AreTied, Stands, Ties, nothing_lost}
 
 -- an item that waited first at a pad is given up
 abbrev pub without_first : ℕ → List Item → Moment → Moment
@@ -110,3 +110,7 @@ pub data Causes {S E I O L : Type 0} {s : sources.Ghosts S} {e : elements.Ghosts
 
 abbrev pub IsCause : {S E I O L : Type 0} {s : sources.Ghosts S} {e : elements.Ghosts E} {i : inlets.Ghosts I L O} {o : outlets.Ghosts O L} → Task S E I O L s e i o → Task S E I O L s e i o → TaskFault → Type 0
 IsCause {o = o} old new fault = Causes o (frame_of old) old.head new.head new.parts.items fault
+
+-- the cause of a fault, and how the task stands behind it at each moment to which it was tied
+abbrev pub HasFailed : {S E I O L : Type 0} {s : sources.Ghosts S} {e : elements.Ghosts E} {i : inlets.Ghosts I L O} {o : outlets.Ghosts O L} → Option (List Lane) → Task S E I O L s e i o → Task S E I O L s e i o → TaskFault → Type 0
+HasFailed tells old new fault = IsCause old new fault × ((m : Moment) → Ties old m → Failed tells old new m fault)

@@ -19,7 +19,7 @@ use Rattle.task_parts.specs.declared.head.InletHead.{InletHead}
 use Rattle.task_parts.specs.Part.{PartReady}
 use Rattle.task_parts.specs.Passing.{InletsReady}
 use Rattle.net_task.specs.declared.task.Task.{Task}
-use Rattle.net_task.specs.Frame.{Room, Wire, TaskFrame, IsWire, WireAt, head_wire, frame_in}
+use Rattle.net_task.specs.Frame.{Room, Wire, TaskFrame, IsWire, WireAt, head_wire, frame_in, frame_of}
 
 -- each lane of the elements' pads is of the table
 abbrev pub PartsReady : {E O L : Type 0} {e : elements.Ghosts E} → outlets.Ghosts O L → Option (List Lane) → List (Part E O e) → Type 0
@@ -101,3 +101,7 @@ module _ {S I L O : Type 0} {s : sources.Ghosts S} (i : inlets.Ghosts I L O) whe
   pub record LanesGoOn (frame : TaskFrame) (head head' : Head S I O s) (tells tells' : Option (List Lane)) : Type 0 where
     pub rows : RowsGoOn head head'
     pub table : KeepsLanes frame tells tells'
+
+-- a step leaves the task ready, and its lanes and those of others as they may be
+abbrev pub LeavesReady : {S E I O L : Type 0} {s : sources.Ghosts S} {e : elements.Ghosts E} {i : inlets.Ghosts I L O} {o : outlets.Ghosts O L} → Option (List Lane) → Option (List Lane) → Task S E I O L s e i o → Task S E I O L s e i o → Type 0
+LeavesReady {i = i} tells tells' old new = IsReady tells' new × LanesGoOn i (frame_of old) old.head new.head tells tells'

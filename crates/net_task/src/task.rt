@@ -31,11 +31,11 @@ impl<S: TaskSource, E: TaskElement, I: Inlet<Out = O>, O: Outlet<Lanes = I::Lane
     ghost use Rattle.std.specs.Prelude.{◌≤◌, ◌<◌, IfOk, IfErr, OnOk, vec_len};
     ghost use Rattle.net_model.specs.Moment.{Moment};
     ghost use Rattle.task_parts.specs.Passing.{HasPort};
-    ghost use Rattle.net_task.specs.Failed.{Failed, IsCause};
+    ghost use Rattle.net_task.specs.Failed.{HasFailed};
     ghost use Rattle.net_task.specs.Frame.{frame_of};
     ghost use Rattle.net_task.specs.Fuel.{Burns, moves_left};
     ghost use Rattle.net_task.specs.Moves.{Steps};
-    ghost use Rattle.net_task.specs.Ready.{IsReady, LanesGoOn};
+    ghost use Rattle.net_task.specs.Ready.{IsReady, LeavesReady};
     ghost use Rattle.net_task.specs.Reasons.{HeadIdle, Why};
     ghost use Rattle.net_task.specs.Ties.{Ties};
     ghost use Rattle.net_task.specs.Tries.{AskFault, AsksHead, PadFault, PadTries, PadsFault, PadsTry, SettledAt, StaysSettled};
@@ -60,14 +60,11 @@ impl<S: TaskSource, E: TaskElement, I: Inlet<Out = O>, O: Outlet<Lanes = I::Lane
     /// refused put into a full lane does not keep items at other pads from moving on.
     pub fn step(&mut self, alloc: Global, lanes: &mut I::Lanes) -> Result<Step, TaskFault>
         requires ready { IsReady (O.tells lanes.old) self.old }
-        ensures ready { OnOk result (IsReady (O.tells lanes.new) self.new) }
-        ensures lanes { OnOk result (LanesGoOn I.Inlet (frame_of self.old) self.old.head self.new.head (O.tells lanes.old) (O.tells lanes.new)) }
         ensures steps { IfOk result (λ step. (m : Moment) → Ties self.old m → Steps (O.tells lanes.old) (O.tells lanes.new) self.old self.new m step) }
         ensures why { IfOk result (λ step. (m : Moment) → Ties self.old m → Why (O.tells lanes.old) self.old self.new m step) }
-        ensures faults { IfErr result (λ fault. (m : Moment) → Ties self.old m → Failed (O.tells lanes.old) self.old self.new m fault) }
-        ensures cause { IfErr result (IsCause self.old self.new) }
-        ensures frame { frame_of self.new ≡ frame_of self.old }
-        ensures burns { IfOk result (Burns (moves_left self.old) (moves_left self.new)) }
+        ensures faults { IfErr result (HasFailed (O.tells lanes.old) self.old self.new) }
+        ensures frame { (frame_of self.new ≡ frame_of self.old) × OnOk result (LeavesReady (O.tells lanes.old) (O.tells lanes.new) self.old self.new) }
+        ensures counts { IfOk result (Burns (moves_left self.old) (moves_left self.new)) }
     {
         match self.try_pads(alloc, lanes) {
             Ok(Tried::Idle) => self.ask_head(alloc, lanes),
