@@ -19,7 +19,7 @@ returns-in-Ok-clause-stepped g c =
       at_after = set_at c.args.tasks.now c.args.place _ c.step.new.self at;
       step = c.in-Ok.step;
       moved_is = c.has_moved.ensures;
-      stepped = record { ready = c.in-Ok.ensures.ready; lanes = c.in-Ok.ensures.lanes; steps = c.in-Ok.ensures.steps; why = c.in-Ok.ensures.why; frame = c.step.ensures.frame; burns = c.in-Ok.ensures.burns };
+      stepped = record { ready = c.in-Ok.ensures.frame.1.0; lanes = c.in-Ok.ensures.frame.1.1; steps = c.in-Ok.ensures.steps; why = c.in-Ok.ensures.why; frame = c.step.ensures.frame.0; burns = c.in-Ok.ensures.counts };
     }
 
 pub returns-in-Ok-clause-goes : goal.returns-in-Ok-clause-goes
@@ -28,11 +28,11 @@ returns-in-Ok-clause-goes g c = λ m net. net_stepped (record { counts = λ outl
 
 pub returns-in-Ok-clause-frames : goal.returns-in-Ok-clause-frames
 returns-in-Ok-clause-frames g c =
-    framed_set c.args.tasks.now c.args.place _ c.step.new.self (slice_get-get_or c.args.tasks.now c.args.place c.index-tasks-place.result c.requires.place) c.step.ensures.frame
+    framed_set c.args.tasks.now c.args.place _ c.step.new.self (slice_get-get_or c.args.tasks.now c.args.place c.index-tasks-place.result c.requires.place) c.step.ensures.frame.0
 
 pub returns-in-Ok-clause-burned : goal.returns-in-Ok-clause-burned
 returns-in-Ok-clause-burned g c =
-    rw c.has_moved.ensures (net_burned c.args.tasks.now c.args.place _ c.step.new.self c.in-Ok.step (slice_get-get_or c.args.tasks.now c.args.place c.index-tasks-place.result c.requires.place) c.in-Ok.ensures.burns)
+    rw c.has_moved.ensures (net_burned c.args.tasks.now c.args.place _ c.step.new.self c.in-Ok.step (slice_get-get_or c.args.tasks.now c.args.place c.index-tasks-place.result c.requires.place) c.in-Ok.ensures.counts)
 
 pub returns-in-Err-clause-met : goal.returns-in-Err-clause-met
 returns-in-Err-clause-met g c =
@@ -43,9 +43,9 @@ returns-in-Err-clause-met g c =
       at = at;
       after = c.step.new.self;
       at_after = set_at c.args.tasks.now c.args.place _ c.step.new.self at;
-      failed = c.in-Err.ensures.faults;
-      cause = c.in-Err.ensures.cause;
-      frame = c.step.ensures.frame;
+      failed = c.in-Err.ensures.faults.1;
+      cause = c.in-Err.ensures.faults.0;
+      frame = c.step.ensures.frame.0;
     }
 
 pub returns-in-Err-clause-faulted : goal.returns-in-Err-clause-faulted
@@ -53,7 +53,7 @@ returns-in-Err-clause-faulted g c = λ m net. net_faulted m c.args.tasks.now _ _
 
 pub returns-in-Err-clause-frames : goal.returns-in-Err-clause-frames
 returns-in-Err-clause-frames g c =
-    framed_set c.args.tasks.now c.args.place _ c.step.new.self (slice_get-get_or c.args.tasks.now c.args.place c.index-tasks-place.result c.requires.place) c.step.ensures.frame
+    framed_set c.args.tasks.now c.args.place _ c.step.new.self (slice_get-get_or c.args.tasks.now c.args.place c.index-tasks-place.result c.requires.place) c.step.ensures.frame.0
 
 pub returns-in-Ok-clause-ready : goal.returns-in-Ok-clause-ready
 returns-in-Ok-clause-ready g c = net_ready c.args.tasks.now _ _ _ c.args.place _ c.requires.ready (returns-in-Ok-clause-stepped g c)
