@@ -3,7 +3,7 @@
 #![tactic(auto)]
 
 use gst_outside::{HostClock, HostFiles, OpenGate, OutSink};
-use launch_run::Untaken;
+use launch_run::run::{self, Untaken};
 use read_ahead::AheadFiles;
 use std::alloc::Global;
 use std::io::ErrorKind;
@@ -39,14 +39,14 @@ fn main(rt: HostRuntime) -> io::Result<ExitCode> {
     let words = match program_words(&rt, alloc) {
         Ok(words) => words,
         Err(untaken) => {
-            let outcome = launch_run::refuse(alloc, untaken, &mut out);
+            let outcome = run::refuse(alloc, untaken, &mut out);
             return Ok(ExitCode::from(outcome.status));
         }
     };
     let mut files = AheadFiles::new(HostFiles::new(rt.clone()?));
     let mut clock = HostClock::new(rt.clone()?);
     let gate = OpenGate;
-    let outcome = launch_run::run(
+    let outcome = run::run(
         &rt,
         alloc,
         words.as_slice(),

@@ -5,4 +5,3 @@ pub mod outcome;
 pub mod run;
 
 pub use outcome::{Outcome, report_text};
-pub use run::{Untaken, refuse, run};
