@@ -1,0 +1,4 @@
+pub mod ByKind
+pub mod Slots
+pub mod BlanksLeft
+pub mod Filling

@@ -1,0 +1,39 @@
+-- What stands under the numbers of elements: the ends of their files.
+use Rattle.std.specs.Prelude.{◌==◌, ◌&&◌, ℕ, Bool, false, List, Option, None, Some, is_some, slice_get, slice_index_or}
+use Rattle.std.specs.Option.{option_map_or}
+use Rattle.el_set.specs.Asked.{location_of, sink_pads, source_pads}
+use Rattle.el_set.specs.declared.settings.Settings.{Settings}
+use Rattle.el_set.specs.declared.settings.Settings.TheVariants.{FileSrc, FileSink}
+use Rattle.graph_core.specs.Elements.{Made}
+use Rattle.run_files.specs.declared.end.End.{End}
+use Rattle.run_files.specs.declared.end.End.TheVariants.{Src, Snk}
+
+-- what stands under a number, if anything
+abbrev pub at : {A : Type 0} → List (Option A) → ℕ → Option A
+at xs e = slice_index_or xs e None
+
+abbrev pub source_end : {S K : Type 0} → Option (End S K) → Option S
+source_end (Some (Src source)) = Some source
+source_end _ = None
+
+abbrev pub sink_end : {S K : Type 0} → Option (End S K) → Option K
+sink_end (Some (Snk sink)) = Some sink
+sink_end _ = None
+
+-- what an element of these settings leaves of an end: a source takes the file that it reads, and a sink the one that it writes
+abbrev pub left_by : {S K : Type 0} → Settings → Option (End S K) → Option (End S K)
+left_by (FileSrc s) (Some (Src source)) = None
+left_by (FileSink s) (Some (Snk sink)) = None
+left_by _ end = end
+
+-- a sink writes a file
+abbrev pub writes : Settings → Bool
+writes settings = (source_pads settings == 0) && is_some (location_of settings)
+
+-- a source reads a file
+abbrev pub reads : Settings → Bool
+reads settings = (sink_pads settings == 0) && is_some (location_of settings)
+
+-- what is asked of the settings of an element, and no where it is not there
+abbrev pub has : (Settings → Bool) → List Made → ℕ → Bool
+has asked made e = option_map_or (λ (m : Made). asked m.settings) (slice_get made e) false

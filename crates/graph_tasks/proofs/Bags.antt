@@ -1,0 +1,56 @@
+-- The elements of a bag: each once, and only the head is a source.
+use Rattle.std.proofs.Common.{◌≡◌, ◌⊎◌, ◌++◌, ℕ, false, List, [], ◌∷◌, All, Some, length, map, refl, sym, ap, ◌∙◌, subst, inl, inr, arith}
+use Rattle.std.specs.Prelude.{slice_get}
+use Rattle.std.proofs.lemmas.Option.{slice_get_within}
+use Rattle.flow_model.specs.Account.{IsMember}
+use Rattle.graph_core.specs.Elements.{Made}
+use Rattle.graph_core.specs.Links.{HasPads}
+use Rattle.graph_core.specs.declared.pad.PadLink.{PadLink}
+use Rattle.graph_ways.specs.Once.{AreOnce}
+use Rattle.graph_bags.specs.Links.{has, is_source, Reaches}
+use Rattle.graph_bags.specs.Bags.{number_of, head_cells, cells, numbers, head_number, head_of, IsHead, IsBag}
+use Rattle.graph_bags.specs.declared.bag.Bag.{Bag}
+use Rattle.graph_bags.specs.declared.bag.BagElement.{BagElement}
+use Rattle.graph_bags.specs.declared.bag.BagHead.{BagHead}
+use Rattle.graph_bags.specs.declared.bag.BagHead.TheVariants.{Source, Inlets}
+use Rattle.graph_tasks.proofs.Lists.{get_map, get_front, get_last, get_member, place_once}
+use Rattle.graph_tasks.proofs.Graphs.{inlets_no_source, reached_by}
+
+module _ (made : List Made) (links : List PadLink) (bag : Bag) (is : IsBag made links bag) where
+  -- an element has its place among the numbers
+  numbered : (j : ℕ) (cell : BagElement) → slice_get bag.elements.items j ≡ Some cell → slice_get (numbers bag) j ≡ Some cell.element
+  numbered j cell at = get_map number_of (cells bag) j cell (get_front bag.elements.items (head_cells bag.head) j cell at)
+
+  pub among : (j : ℕ) (cell : BagElement) → slice_get bag.elements.items j ≡ Some cell → IsMember cell.element (numbers bag)
+  among j cell at = get_member (numbers bag) j cell.element (numbered j cell at)
+
+  -- and no other has it
+  pub elements_once : (j k : ℕ) (one other : BagElement) → slice_get bag.elements.items j ≡ Some one → slice_get bag.elements.items k ≡ Some other → one.element ≡ other.element → j ≡ k
+  elements_once j k one other at to same = place_once (numbers bag) j k one.element is.once (numbered j one at) (numbered k other to ∙ ap Some (sym same))
+
+  -- so it is with the source at the head, behind all others
+  source_numbered : (own : BagElement) → bag.head ≡ Source own → slice_get (numbers bag) (length bag.elements.items) ≡ Some own.element
+  source_numbered own head =
+      ap (λ (h : BagHead). slice_get (map number_of (bag.elements.items ++ head_cells h)) (length bag.elements.items)) head
+      ∙ get_map number_of (bag.elements.items ++ own ∷ []) (length bag.elements.items) own (get_last bag.elements.items own)
+
+  pub source_among : (own : BagElement) → bag.head ≡ Source own → IsMember own.element (numbers bag)
+  source_among own head = get_member (numbers bag) (length bag.elements.items) own.element (source_numbered own head)
+
+  pub source_apart : (own : BagElement) → bag.head ≡ Source own → (j : ℕ) (cell : BagElement) → slice_get bag.elements.items j ≡ Some cell → cell.element ≡ own.element → ⊥
+  source_apart own head j cell at same =
+      let place : j ≡ length bag.elements.items = place_once (numbers bag) j (length bag.elements.items) own.element is.once (numbered j cell at ∙ ap Some same) (source_numbered own head) in
+      let w = slice_get_within bag.elements.items j cell at in
+      omega (arith, place, w)
+
+  pub head_among : IsMember (head_of bag) (numbers bag)
+  head_among = is.whole (head_of bag) Reaches.itself
+
+  -- the others are no sources
+  pub no_source : All (HasPads made) links → AreOnce links → (j : ℕ) (cell : BagElement) → slice_get bag.elements.items j ≡ Some cell → has is_source made cell.element ≡ false
+  no_source all once j cell at = go bag.head refl is.head (reached_by made links all once (head_of bag) cell.element (is.only cell.element (among j cell at)))
+    where
+      go : (head : BagHead) → bag.head ≡ head → IsHead made head → (head_number head ≡ cell.element) ⊎ (has is_source made cell.element ≡ false) → has is_source made cell.element ≡ false
+      go head of own (inr none) = none
+      go (Source source) of own (inl same) = absurd (source_apart source of j cell at (sym same))
+      go (Inlets n) of own (inl same) = subst (λ (k : ℕ). has is_source made k ≡ false) same (inlets_no_source made n own)

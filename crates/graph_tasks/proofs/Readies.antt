@@ -1,0 +1,167 @@
+-- Where the run of a graph begins each task is ready: its lanes are of the table, each at one end of it.
+use Rattle.std.proofs.Common.{◌≡◌, ◌≢◌, ◌≤◌, ℕ, true, List, [], Option, None, Some, is_some, length, refl, sym, ap, ◌∙◌, subst, arith}
+use Rattle.std.specs.Prelude.{slice_get}
+use Rattle.std.proofs.lemmas.Option.{same_Some, slice_get_within}
+use Rattle.lane_core.specs.Lane.{Lane, lane_of}
+use Rattle.lane_core.specs.declared.ends.Inlet as inlets
+use Rattle.lane_core.specs.declared.ends.Outlet as outlets
+use Rattle.element_traits.specs.declared.element.TaskElement as elements
+use Rattle.element_traits.specs.declared.source.TaskSource as sources
+use Rattle.graph_core.specs.Graph.{made as made_in, links as links_in}
+use Rattle.graph_core.specs.Links.{sink_behind}
+use Rattle.graph_core.specs.declared.graph.Graph.{Graph}
+use Rattle.graph_core.specs.declared.pad.PadPlace.{PadPlace}
+use Rattle.graph_bags.specs.Links.{has, has_inlets, place_at, Reaches}
+use Rattle.graph_bags.specs.Bags.{IsHead, head_number, head_of}
+use Rattle.graph_bags.specs.declared.bag.Bag.{Bag}
+use Rattle.graph_bags.specs.declared.bag.BagHead.{BagHead}
+use Rattle.graph_bags.specs.declared.bag.BagHead.TheVariants as bags_heads
+use Rattle.graph_lanes.specs.Lanes.{has_lane, lane_place, lane_room}
+use Rattle.inlet_row.specs.declared.feeding.Feeding.{Feeding}
+use Rattle.inlet_row.specs.declared.row.InletRow.{InletRow}
+use Rattle.inlet_row.specs.Row.{Apart, AreApart, ForLanes, RowIn, feeds_of}
+use Rattle.lane_core.specs.Lane.{IsIn}
+use Rattle.task_pads.specs.declared.pad.Pad.{Pad}
+use Rattle.task_pads.specs.Behind.{EndReady, LaneEnd}
+use Rattle.task_pads.specs.Pads.{PadReady}
+use Rattle.task_parts.specs.declared.head.Head.{Head}
+use Rattle.net_task.specs.declared.task.Task.{Task}
+use Rattle.net_task.specs.Frame.{TaskFrame, Wire, WireAt, frame_of, head_frame}
+use Rattle.net_task.specs.Ready.{HeadApart, HeadReady, IsReady, LeadsInto, WiresApart}
+use Rattle.graph_tasks.specs.Tasks.{IsHeadOf, IsPadOf, IsRowOf, LeadsTo}
+use Rattle.graph_tasks.proofs.Lanes.{lane_stands, lanes_apart}
+use Rattle.graph_tasks.proofs.Graphs.{inlets_sinks, inlets_there, no_loop}
+use Rattle.graph_tasks.proofs.Bags.{among, elements_once, source_apart}
+use Rattle.graph_tasks.proofs.Given.{IsKnown, IsPlaced, cell_of, placed}
+use Rattle.graph_tasks.proofs.Wires.{GoesOver, end_inside, end_nowhere, goes_over, head_wire_of, one_over, wire_at}
+
+-- a lane of the table, at a place, that is empty
+pub record IsEmptyAt (table : List Lane) (place : ℕ) : Type 0 where
+  pub lane : Lane
+  pub at : slice_get table place ≡ Some lane
+  pub empty : lane.items ≡ []
+
+-- what is known of a table, as it is asked of one that may tell its lanes
+pub for_table : {table : List Lane} (P : List Lane → Type 0) → P table → (t : List Lane) → Some table ≡ Some t → P t
+for_table P h t same = subst P (same_Some _ _ same) h
+
+module _ {S E I O L : Type 0} {s : sources.Ghosts S} {e : elements.Ghosts E} {i : inlets.Ghosts I L O} {o : outlets.Ghosts O L}
+    {contents : ℕ → List ℕ} {graph : Graph} {bags : List Bag} {ends : List (Option E)} {files : List (Option S)} {tasks : List (Task S E I O L s e i o)} {table : List Lane}
+    (g : IsKnown i o contents graph bags ends files tasks table) where
+  -- the lane into an element
+  lane_in : (n room : ℕ) → has has_inlets (made_in graph) n ≡ true → lane_room (made_in graph) (links_in graph) n ≡ Some room
+      → slice_get table (lane_place (made_in graph) (links_in graph) n) ≡ Some (lane_of [] room)
+  lane_in n room fed is =
+      subst (λ (t : List Lane). slice_get t (lane_place (made_in graph) (links_in graph) n) ≡ Some (lane_of [] room)) (sym g.made_of.table_is)
+      (lane_stands (made_in graph) (links_in graph) (length (made_in graph)) n room (inlets_there (made_in graph) n fed) is)
+
+  pub lane_empty : (n : ℕ) → has has_inlets (made_in graph) n ≡ true → has_lane (made_in graph) (links_in graph) n ≡ true → IsEmptyAt table (lane_place (made_in graph) (links_in graph) n)
+  lane_empty n fed is = go (lane_room (made_in graph) (links_in graph) n) refl is
+    where
+      go : (found : Option ℕ) → lane_room (made_in graph) (links_in graph) n ≡ found → is_some found ≡ true → IsEmptyAt table (lane_place (made_in graph) (links_in graph) n)
+      go None of some = absurd (cc)
+      go (Some room) of some = record { lane = lane_of [] room; at = lane_in n room fed of; empty = refl }
+
+  -- the lane of a pad is of the table
+  pad_ready : (n k : ℕ) (pad : Pad O) → IsPadOf o (made_in graph) (links_in graph) n k pad → PadReady o (Some table) pad
+  pad_ready n k pad is = go (sink_behind (links_in graph) (place_at n k)) is.leads
+    where
+      go : (found : Option PadPlace) → LeadsTo o (made_in graph) (links_in graph) pad found → PadReady o (Some table) pad
+      go found (LeadsTo.nothing leads) = subst (λ (end : Option LaneEnd). EndReady (Some table) end) (sym (end_nowhere o pad leads)) tt
+      go found (LeadsTo.element sink inner leads) = subst (λ (end : Option LaneEnd). EndReady (Some table) end) (sym (end_inside o pad sink.element sink.pad leads)) tt
+      go found (LeadsTo.lane sink outer into) =
+          subst (λ (end : Option LaneEnd). EndReady (Some table) end) (sym into.is)
+          (for_table (λ t. (lane : Lane) × (slice_get t into.end.place ≡ Some lane) × (lane.room ≡ into.end.limits.items) × (length lane.items ≤ into.end.count))
+          (lane_of [] into.end.limits.items, ap (slice_get table) into.place ∙ lane_in sink.element into.end.limits.items outer into.room, refl, omega arith))
+
+  -- and so are those of a row
+  row_in : (n port : ℕ) (row : InletRow I) → has has_inlets (made_in graph) n ≡ true → IsRowOf i (made_in graph) (links_in graph) n port row → RowIn i (Some table) row
+  row_in n port row fed (IsRowOf.unlinked none feeds) = subst (λ (fs : List (Feeding I)). ForLanes (λ inlet. IsIn (Some table) (i.place inlet)) fs) (sym feeds) tt
+  row_in n port row fed (IsRowOf.linked inlet has_it feeds place received) =
+      let lane = lane_empty n fed has_it in
+      subst (λ (fs : List (Feeding I)). ForLanes (λ inlet. IsIn (Some table) (i.place inlet)) fs) (sym feeds)
+      (for_table (λ t. (found : Lane) × (slice_get t (i.place inlet) ≡ Some found)) (lane.lane, ap (slice_get table) place ∙ lane.at), tt)
+
+  head_ready : (bag : BagHead) (head : Head S I O s) → IsHeadOf i o (made_in graph) (links_in graph) files bag head → IsHead (made_in graph) bag → HeadReady i o (Some table) head
+  head_ready bag head (IsHeadOf.from_source cell own number file given one pad) is = pad_ready cell.element 0 own.pad pad
+  head_ready bag head (IsHeadOf.from_inlets n own number count rows) is = λ port row at. row_in n port row is (rows port row at)
+
+  -- no two rows have lanes, and no lane of a row is one of these
+  row_apart : (n port : ℕ) (row : InletRow I) → IsRowOf i (made_in graph) (links_in graph) n port row → AreApart i row
+  row_apart n port row (IsRowOf.unlinked none feeds) = subst (λ (fs : List (Feeding I)). Apart i fs) (sym feeds) tt
+  row_apart n port row (IsRowOf.linked inlet has_it feeds place received) = subst (λ (fs : List (Feeding I)). Apart i fs) (sym feeds) (tt, tt)
+
+  pub row_else : (n port : ℕ) (row : InletRow I) (P : I → Type 0) → IsRowOf i (made_in graph) (links_in graph) n port row
+      → ((inlet : I) → has_lane (made_in graph) (links_in graph) n ≡ true → i.place inlet ≡ lane_place (made_in graph) (links_in graph) n → P inlet) → ForLanes P (feeds_of row)
+  row_else n port row P (IsRowOf.unlinked none feeds) all = subst (λ (fs : List (Feeding I)). ForLanes P fs) (sym feeds) tt
+  row_else n port row P (IsRowOf.linked inlet has_it feeds place received) all = subst (λ (fs : List (Feeding I)). ForLanes P fs) (sym feeds) (all inlet has_it place, tt)
+
+  head_apart : (bag : BagHead) (head : Head S I O s) (frame : TaskFrame) → IsHeadOf i o (made_in graph) (links_in graph) files bag head → IsHead (made_in graph) bag
+      → ((n j k place : ℕ) (wire : Wire) → bag ≡ bags_heads.Inlets n → WireAt frame j k wire → LeadsInto wire place → has_lane (made_in graph) (links_in graph) n ≡ true
+      → place ≢ lane_place (made_in graph) (links_in graph) n)
+      → HeadApart i frame head
+  head_apart bag head frame (IsHeadOf.from_source cell own number file given one pad) is none = tt
+  head_apart bag head frame (IsHeadOf.from_inlets n own number count rows) is none =
+      record {
+        each = λ port row at. row_apart n port row (rows port row at);
+        rows = λ j k one other at to apart.
+            let few = inlets_sinks (made_in graph) n is in
+            let w = slice_get_within own.rows.items j one at in
+            let v = slice_get_within own.rows.items k other to in
+            absurd (apart (omega (arith, w, v, count, few)));
+        pads = λ j k place wire at into port row here. row_else n port row (λ inlet. place ≢ i.place inlet) (rows port row here) (λ inlet has_it is. λ same. none n j k place wire refl at into has_it (same ∙ is));
+      }
+
+  module _ (k : ℕ) (task : Task S E I O L s e i o) (p : IsPlaced i o graph bags ends files k task) where
+    -- a pad of an element that leads into a lane
+    over_lane : (j port place : ℕ) (wire : Wire) → WireAt (frame_of task) j port wire → LeadsInto wire place
+        → (n : ℕ) × GoesOver (made_in graph) (links_in graph) n port place × Reaches (made_in graph) (links_in graph) (head_of p.bag) n
+    over_lane j port place wire at into =
+        let a = wire_at o task.parts.items (head_frame o task.head) j port wire at in
+        let c = cell_of g k j task p a.part a.here in (
+          c.cell.element,
+          goes_over o (made_in graph) (links_in graph) c.cell.element port place a.pad (c.of.pads port a.pad a.at) (subst (λ (w : Wire). LeadsInto w place) a.is into),
+          p.is.only c.cell.element (among (made_in graph) (links_in graph) p.bag p.is j c.cell c.at),
+        )
+
+    not_back : (n j port place : ℕ) (wire : Wire) → p.bag.head ≡ bags_heads.Inlets n → WireAt (frame_of task) j port wire → LeadsInto wire place
+        → has_lane (made_in graph) (links_in graph) n ≡ true → place ≢ lane_place (made_in graph) (links_in graph) n
+    not_back n j port place wire head at into has_it same =
+        let a = over_lane j port place wire at into in
+        let over = a.1 in
+        let one = lanes_apart (made_in graph) (links_in graph) over.sink.element n over.has_it has_it (sym over.place_is ∙ same) in
+        no_loop graph g.sound (head_of p.bag) a.0 port over.sink a.2 over.linked (one ∙ sym (ap head_number head))
+
+    wires_apart : WiresApart (frame_of task)
+    wires_apart = record {
+      parts = λ j l j' l' place one other at to into into'.
+          let a = wire_at o task.parts.items (head_frame o task.head) j l one at in
+          let b = wire_at o task.parts.items (head_frame o task.head) j' l' other to in
+          let c = cell_of g k j task p a.part a.here in
+          let d = cell_of g k j' task p b.part b.here in
+          let same =
+          one_over g c.cell.element l d.cell.element l' place
+          (goes_over o (made_in graph) (links_in graph) c.cell.element l place a.pad (c.of.pads l a.pad a.at) (subst (λ (w : Wire). LeadsInto w place) a.is into))
+          (goes_over o (made_in graph) (links_in graph) d.cell.element l' place b.pad (d.of.pads l' b.pad b.at) (subst (λ (w : Wire). LeadsInto w place) b.is into')) in
+          (elements_once (made_in graph) (links_in graph) p.bag p.is j j' c.cell d.cell c.at d.at same.0, same.1);
+      source = λ j l place one other at head into into'.
+          let a = wire_at o task.parts.items (head_frame o task.head) j l one at in
+          let c = cell_of g k j task p a.part a.here in
+          let h = head_wire_of g k task p p.bag.head task.head other p.of.head head in
+          let same =
+          one_over g c.cell.element l h.0.element 0 place
+          (goes_over o (made_in graph) (links_in graph) c.cell.element l place a.pad (c.of.pads l a.pad a.at) (subst (λ (w : Wire). LeadsInto w place) a.is into))
+          (goes_over o (made_in graph) (links_in graph) h.0.element 0 place h.2 h.3 (subst (λ (w : Wire). LeadsInto w place) h.5 into')) in
+          source_apart (made_in graph) (links_in graph) p.bag p.is h.0 h.1 j c.cell c.at same.0;
+    }
+
+    ready_at : IsReady (Some table) task
+    ready_at = record {
+      parts_ready = λ j part here port pad at. let c = cell_of g k j task p part here in pad_ready c.cell.element port pad (c.of.pads port pad at);
+      head_ready = head_ready p.bag.head task.head p.of.head p.is.head;
+      wires_apart = wires_apart;
+      head_apart = head_apart p.bag.head task.head (frame_of task) p.of.head p.is.head not_back;
+    }
+
+  pub ready : (k : ℕ) (task : Task S E I O L s e i o) → slice_get tasks k ≡ Some task → IsReady (Some table) task
+  ready k task at = ready_at k task (placed g k task at)

@@ -1,0 +1,208 @@
+-- Each lane of a graph is led to by one pad of its bags, and no element stands in two of these.
+use Rattle.std.proofs.Common.{◌≡◌, ◌<◌, ◌+◌, ◌⊎◌, ◌||◌, ℕ, zero, suc, Bool, true, false, cond, if◌then◌else◌, List, [], ◌∷◌, ◌++◌, All, Option, None, Some, filter, map, length, refl, sym, ap, ◌∙◌, subst, inl, inr, arith}
+use Rattle.std.specs.Prelude.{slice_get}
+use Rattle.std.specs.List.{flat_map, range_with_len}
+use Rattle.std.specs.Option.{option_map_or}
+use Rattle.std.proofs.lemmas.List.{map-append}
+use Rattle.flow_model.specs.Account.{IsMember}
+use Rattle.graph_core.specs.Elements.{Made}
+use Rattle.graph_core.specs.Links.{sink_behind, source_before}
+use Rattle.graph_core.specs.declared.pad.PadLink.{PadLink}
+use Rattle.graph_core.specs.declared.pad.PadPlace.{PadPlace}
+use Rattle.graph_bags.specs.Bags.{AreBags, HavePads, IsBag, IsHead, Once, cells, head_number, head_of, heads_in, number_of, numbers}
+use Rattle.graph_bags.specs.Links.{has, has_inlets, is_head, is_source, link_to, pad_at, pads_of, place_at, source_count}
+use Rattle.graph_bags.specs.declared.bag.Bag.{Bag}
+use Rattle.graph_bags.specs.declared.bag.BagElement.{BagElement}
+use Rattle.graph_bags.specs.declared.bag.BagHead.{BagHead}
+use Rattle.graph_bags.specs.declared.bag.BagHead.TheVariants.{Source, Inlets}
+use Rattle.graph_bags.specs.declared.bag.BagLink.TheVariants.{Element, Lane}
+use Rattle.graph_bags.specs.declared.bag.BagPad.{BagPad}
+use Rattle.graph_bags.proofs.Apart.{same_head}
+use Rattle.graph_bags.proofs.Onces.{in_either, once_append}
+use Rattle.graph_bags.proofs.Trees.{range_once}
+use Rattle.graph_tasks.specs.Wiring.{AreLinks, BagsGiven, all_cells, cell_lanes, lane_to, pad_lanes}
+use Rattle.graph_tasks.proofs.Flats.{flat_flat, some_same}
+use Rattle.graph_tasks.proofs.Leading.{first_sink}
+
+-- a pad of these leads over the lane into an element
+record LaneBy (made : List Made) (links : List PadLink) (a d : ℕ) (ks : List ℕ) : Type 0 where
+  pub pad : ℕ
+  pub among : IsMember pad ks
+  pub sink : PadPlace
+  pub linked : sink_behind links (place_at a pad) ≡ Some sink
+  pub element : sink.element ≡ d
+  pub inlets : has has_inlets made d ≡ true
+
+more_by : (made : List Made) (links : List PadLink) (a d k : ℕ) (ks : List ℕ) → LaneBy made links a d ks → LaneBy made links a d (k ∷ ks)
+more_by made links a d k ks l = record { pad = l.pad; among = inr l.among; sink = l.sink; linked = l.linked; element = l.element; inlets = l.inlets }
+
+lanes_by : (made : List Made) (links : List PadLink) (a d : ℕ) (ks : List ℕ) → IsMember d (pad_lanes (map (pad_at made links a) ks)) → LaneBy made links a d ks
+lanes_by made links a d [] m = absurd m
+lanes_by made links a d (k ∷ ks) m = go (sink_behind links (place_at a k)) refl (λ n. more_by made links a d k ks (lanes_by made links a d ks n)) m
+  where
+    go : (o : Option PadPlace) → sink_behind links (place_at a k) ≡ o → (IsMember d (pad_lanes (map (pad_at made links a) ks)) → LaneBy made links a d (k ∷ ks))
+        → IsMember d (lane_to (link_to made o) ++ pad_lanes (map (pad_at made links a) ks)) → LaneBy made links a d (k ∷ ks)
+    go None at later m = later m
+    go (Some sink) at later m = by (has has_inlets made sink.element) refl m
+      where
+        by : (b : Bool) → has has_inlets made sink.element ≡ b
+            → IsMember d (lane_to (if b then Lane sink.element sink.pad else Element sink.element sink.pad) ++ pad_lanes (map (pad_at made links a) ks)) → LaneBy made links a d (k ∷ ks)
+        by false is m = later m
+        by true is (inl same) = record { pad = k; among = inl refl; sink = sink; linked = at; element = sym same; inlets = subst (λ (n : ℕ). has has_inlets made n ≡ true) (sym same) is }
+        by true is (inr m) = later m
+
+alike : (one other : PadPlace) → one.element ≡ other.element → one.pad ≡ other.pad → one ≡ other
+alike one other e p = ap (λ (n : ℕ). place_at n one.pad) e ∙ ap (λ (n : ℕ). place_at other.element n) p
+
+-- an element of these has a pad that leads over the lane
+record LaneFrom (made : List Made) (links : List PadLink) (d : ℕ) (own : List BagElement) : Type 0 where
+  pub from : ℕ
+  pub among : IsMember from (map number_of own)
+  pub by : LaneBy made links from d (range_with_len 0 (source_count made from))
+
+lanes_from : (made : List Made) (links : List PadLink) (own : List BagElement) → HavePads made links own → (d : ℕ) → IsMember d (cell_lanes own) → LaneFrom made links d own
+lanes_from made links [] have d m = absurd m
+lanes_from made links (x ∷ xs) have d m = go (in_either d (pad_lanes x.pads.items) (cell_lanes xs) m) (lanes_from made links xs have.1 d)
+  where
+    go : IsMember d (pad_lanes x.pads.items) ⊎ IsMember d (cell_lanes xs) → (IsMember d (cell_lanes xs) → LaneFrom made links d xs) → LaneFrom made links d (x ∷ xs)
+    go (inl n) later = record {
+      from = x.element;
+      among = inl refl;
+      by = lanes_by made links x.element d (range_with_len 0 (source_count made x.element)) (subst (λ (pads : List BagPad). IsMember d (pad_lanes pads)) have.0 n);
+    }
+    go (inr n) later = let f = later n in record { from = f.from; among = inr f.among; by = f.by }
+
+module _ (made : List Made) (links : List PadLink) (are : AreLinks made links) where
+  -- one source pad at the most leads into such an element
+  one_source : (source other sink place : PadPlace) → sink_behind links source ≡ Some sink → sink_behind links other ≡ Some place → sink.element ≡ place.element → has has_inlets made sink.element ≡ true
+      → source ≡ other
+  one_source source other sink place at to same is =
+      let zero_here = first_sink made links are source sink at is in
+      let zero_there = first_sink made links are other place to (subst (λ (n : ℕ). has has_inlets made n ≡ true) same is) in
+      let one : sink ≡ place = alike sink place same (zero_here ∙ sym zero_there) in
+      some_same (sym (are.once.there source sink at) ∙ ap (source_before links) one ∙ are.once.there other place to)
+
+  same_source : (a b d : ℕ) (ks ls : List ℕ) (l : LaneBy made links a d ks) (k : LaneBy made links b d ls) → place_at a l.pad ≡ place_at b k.pad
+  same_source a b d ks ls l k =
+      one_source (place_at a l.pad) (place_at b k.pad) l.sink k.sink l.linked k.linked (l.element ∙ sym k.element) (subst (λ (n : ℕ). has has_inlets made n ≡ true) (sym l.element) l.inlets)
+
+  once_lanes : (a : ℕ) (ks : List ℕ) → Once ks → Once (pad_lanes (map (pad_at made links a) ks))
+  once_lanes a [] o = tt
+  once_lanes a (k ∷ ks) o = go (sink_behind links (place_at a k)) refl (once_lanes a ks o.1)
+    where
+      go : (found : Option PadPlace) → sink_behind links (place_at a k) ≡ found → Once (pad_lanes (map (pad_at made links a) ks)) → Once (lane_to (link_to made found) ++ pad_lanes (map (pad_at made links a) ks))
+      go None at rest = rest
+      go (Some sink) at rest = by (has has_inlets made sink.element) refl
+        where
+          by : (b : Bool) → has has_inlets made sink.element ≡ b → Once (lane_to (if b then Lane sink.element sink.pad else Element sink.element sink.pad) ++ pad_lanes (map (pad_at made links a) ks))
+          by false is = rest
+          by true is = (λ m. again (lanes_by made links a sink.element ks m), rest)
+            where
+              again : LaneBy made links a sink.element ks → ⊥
+              again l =
+                  o.0
+                  (subst (λ (n : ℕ). IsMember n ks)
+                  (sym (ap (λ (place : PadPlace). place.pad) (one_source (place_at a k) (place_at a l.pad) sink l.sink at l.linked (sym l.element) is))) l.among)
+
+  once_cells : (own : List BagElement) → HavePads made links own → Once (map number_of own) → Once (cell_lanes own)
+  once_cells [] have once = tt
+  once_cells (x ∷ xs) have once =
+      once_append (pad_lanes x.pads.items) (cell_lanes xs)
+      (subst (λ (pads : List BagPad). Once (pad_lanes pads)) (sym have.0) (once_lanes x.element (range_with_len 0 (source_count made x.element)) (range_once 0 (source_count made x.element))))
+      (once_cells xs have.1 once.1)
+      (λ d m n.
+      let l = lanes_by made links x.element d (range_with_len 0 (source_count made x.element)) (subst (λ (pads : List BagPad). IsMember d (pad_lanes pads)) have.0 m) in
+      let f = lanes_from made links xs have.1 d n in
+      let same = same_source x.element f.from d (range_with_len 0 (source_count made x.element)) (range_with_len 0 (source_count made f.from)) l f.by in
+      once.0 (subst (λ (k : ℕ). IsMember k (map number_of xs)) (sym (ap (λ (place : PadPlace). place.element) same)) f.among))
+
+-- what stands in a filtered list
+filtered : (p : ℕ → Bool) (xs : List ℕ) (e : ℕ) → IsMember e (filter p xs) → IsMember e xs
+filtered p [] e m = absurd m
+filtered p (x ∷ xs) e m = go (p x) (filtered p xs e) m
+  where
+    go : (b : Bool) → (IsMember e (filter p xs) → IsMember e xs) → IsMember e (cond b (x ∷ filter p xs) (filter p xs)) → IsMember e (x ∷ xs)
+    go true later (inl same) = inl same
+    go true later (inr m) = inr (later m)
+    go false later m = inr (later m)
+
+once_filter : (p : ℕ → Bool) (xs : List ℕ) → Once xs → Once (filter p xs)
+once_filter p [] once = tt
+once_filter p (x ∷ xs) once = go (p x) (once_filter p xs once.1)
+  where
+    go : (b : Bool) → Once (filter p xs) → Once (cond b (x ∷ filter p xs) (filter p xs))
+    go true rest = (λ m. once.0 (filtered p xs x m), rest)
+    go false rest = rest
+
+or_true : (b : Bool) → (b || true) ≡ true
+or_true true = refl
+or_true false = refl
+
+source_is_head : (found : Option Made) → option_map_or (λ (m : Made). is_source m.settings) found false ≡ true → option_map_or (λ (m : Made). is_head m.settings) found false ≡ true
+source_is_head None is = absurd (cc)
+source_is_head (Some m) is = ap (λ (b : Bool). b || has_inlets m.settings) is
+
+inlets_are_head : (found : Option Made) → option_map_or (λ (m : Made). has_inlets m.settings) found false ≡ true → option_map_or (λ (m : Made). is_head m.settings) found false ≡ true
+inlets_are_head None is = absurd (cc)
+inlets_are_head (Some m) is = ap (λ (b : Bool). is_source m.settings || b) is ∙ or_true (is_source m.settings)
+
+head_kind : (made : List Made) (head : BagHead) → IsHead made head → has is_head made (head_number head) ≡ true
+head_kind made (Source own) is = source_is_head (slice_get made own.element) is
+head_kind made (Inlets n) is = inlets_are_head (slice_get made n) is
+
+rest_of : {A : Type 0} (P : A → Type 0) (x : A) (xs : List A) → All P (x ∷ xs) → All P xs
+rest_of P x xs all = λ k d w. all (suc k) d (omega (arith, w))
+
+have_front : (made : List Made) (links : List PadLink) (xs ys : List BagElement) → HavePads made links xs → HavePads made links ys → HavePads made links (xs ++ ys)
+have_front made links [] ys a b = b
+have_front made links (x ∷ xs) ys a b = (a.0, have_front made links xs ys a.1 b)
+
+have_all : (made : List Made) (links : List PadLink) (bags : List Bag) → All (IsBag made links) bags → HavePads made links (all_cells bags)
+have_all made links [] all = tt
+have_all made links (x ∷ xs) all = have_front made links (cells x) (all_cells xs) (all 0 x (omega arith)).pads (have_all made links xs (rest_of (IsBag made links) x xs all))
+
+numbers_all : (bags : List Bag) → map number_of (all_cells bags) ≡ flat_map numbers bags
+numbers_all [] = refl
+numbers_all (x ∷ xs) = map-append number_of (cells x) (all_cells xs) ∙ ap (λ (ns : List ℕ). numbers x ++ ns) (numbers_all xs)
+
+-- the bag in which a number stands
+record BagFor (made : List Made) (links : List PadLink) (d : ℕ) (bags : List Bag) : Type 0 where
+  pub bag : Bag
+  pub head : IsMember (head_of bag) (map head_of bags)
+  pub is : IsBag made links bag
+  pub among : IsMember d (numbers bag)
+
+bag_for : (made : List Made) (links : List PadLink) (bags : List Bag) → All (IsBag made links) bags → (d : ℕ) → IsMember d (flat_map numbers bags) → BagFor made links d bags
+bag_for made links [] all d m = absurd m
+bag_for made links (x ∷ xs) all d m = go (in_either d (numbers x) (flat_map numbers xs) m) (bag_for made links xs (rest_of (IsBag made links) x xs all) d)
+  where
+    go : IsMember d (numbers x) ⊎ IsMember d (flat_map numbers xs) → (IsMember d (flat_map numbers xs) → BagFor made links d xs) → BagFor made links d (x ∷ xs)
+    go (inl n) later = record { bag = x; head = inl refl; is = all 0 x (omega arith); among = n }
+    go (inr n) later = let b = later n in record { bag = b.bag; head = inr b.head; is = b.is; among = b.among }
+
+module _ (made : List Made) (links : List PadLink) (are : AreLinks made links) where
+  once_numbers : (bags : List Bag) → All (IsBag made links) bags → Once (map head_of bags) → Once (flat_map numbers bags)
+  once_numbers [] all once = tt
+  once_numbers (x ∷ xs) all once =
+      let own = all 0 x (omega arith) in
+      let rest = rest_of (IsBag made links) x xs all in
+      once_append (numbers x) (flat_map numbers xs) own.once (once_numbers xs rest once.1)
+      (λ d m n.
+      let b = bag_for made links xs rest d n in
+      let same = same_head made links are.all are.once (head_of x) (head_of b.bag) d (head_kind made x.head own.head) (head_kind made b.bag.head b.is.head) (own.only d m) (b.is.only d b.among) in
+      once.0 (subst (λ (k : ℕ). IsMember k (map head_of xs)) (sym same) b.head))
+
+module _ (made : List Made) (links : List PadLink) (bags : List Bag) (given : BagsGiven made links bags) where
+  -- no head stands twice
+  pub heads_once : Once (map head_of bags)
+  heads_once = subst Once (sym given.are.heads) (once_filter (has is_head made) (range_with_len 0 (length made)) (range_once 0 (length made)))
+
+  -- and no element
+  pub all_once : Once (flat_map numbers bags)
+  all_once = once_numbers made links given.links_are bags given.are.are heads_once
+
+  -- no lane is led to twice
+  pub all_lanes : Once (flat_map (λ (bag : Bag). cell_lanes (cells bag)) bags)
+  all_lanes =
+      subst Once (flat_flat cells (λ (cell : BagElement). pad_lanes cell.pads.items) bags)
+      (once_cells made links given.links_are (all_cells bags) (have_all made links bags given.are.are) (subst Once (sym (numbers_all bags)) all_once))

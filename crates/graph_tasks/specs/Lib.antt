@@ -1,0 +1,4 @@
+pub mod Start
+pub mod Tasks
+pub mod Wired
+pub mod Wiring
