@@ -123,12 +123,12 @@ fn row_of(alloc: Global, way: &str, letters: &str) -> Result<String, Fail> {
 fn rows_of_crossings(rt: HostRuntime) -> Result<(), Fail> {
     let alloc = rt.alloc();
     let rows = "nothing cBcs ing 1 1
-nothing ScEcBcc ggei 2 0
+nothing ScEcBcc ggee 2 0
 element SBEcccc ttti 3 1
 element BbBc bt 1 1
 element pBcBcqc tpt 2 2
 lane SBBcccc ggff 2 1
-lane EcBcc gei 1 0";
+lane EcBcc gee 1 0";
     for row in rows.lines() {
         let mut parts = row.split(' ');
         let way = parts.next().unwrap_or("");
