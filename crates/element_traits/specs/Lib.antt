@@ -1,3 +1,4 @@
 pub mod Failures
 pub mod Gives
+pub mod Refuses
 pub mod Takes

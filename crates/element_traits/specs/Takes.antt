@@ -4,6 +4,7 @@ use Rattle.gst_item.specs.declared.out.Out.{Out}
 use Rattle.flow_model.specs.Item.{Item, is_flush_stop}
 use Rattle.flow_model.specs.Call.{Call, Feed, Act}
 use Rattle.flow_model.specs.Rule.{Rule}
+use Rattle.net_model.specs.Moment.{Behavior}
 use Rattle.net_model.specs.Pad.{Grows}
 use Rattle.net_model.specs.Split.{push_calls}
 
@@ -33,9 +34,10 @@ OwesMore ports rule took took' more =
     (cuts : List (ℕ × ℕ)) → InSection (length cuts) took → (port : ℕ) → port < ports → Grows 0 cuts (rule took port) (rule took' port) (on_port port more)
 
 -- An item was taken on a sink pad, and this was put out for it.
-pub record Takes (stood stands : Rule → List (List Call) → Type 0) (ports pad : ℕ) (item : Item) (out out' : List Out) : Type 0 where
+pub record Takes (stood stands : Behavior → List (List Call) → Type 0) (ports pad : ℕ) (item : Item) (out out' : List Out) : Type 0 where
   pub more : List Out
   pub appended : out' ≡ out ++ more
   pub within : AreWithin ports more
-  pub stands_now : (rule : Rule) (took : List (List Call)) → stood rule took → stands rule (push_calls pad (Feed item ∷ []) took)
-  pub owes : (rule : Rule) (took : List (List Call)) → stood rule took → OwesMore ports rule took (push_calls pad (Feed item ∷ []) took) more
+  pub stands_now : (behavior : Behavior) (took : List (List Call)) → stood behavior took → stands behavior (push_calls pad (Feed item ∷ []) took)
+  pub owes : (behavior : Behavior) (took : List (List Call)) → stood behavior took
+      → OwesMore ports behavior.owes took (push_calls pad (Feed item ∷ []) took) more

@@ -3,9 +3,9 @@ ghost use Rattle.std.specs.Prelude.{◌≡◌, ℕ, false, List, Option, IfErr, 
 ghost use Rattle.gst_item.specs.declared.fault.ElementFault.{ElementFault};
 ghost use Rattle.flow_model.specs.Item.{Item, is_flush_stop};
 ghost use Rattle.flow_model.specs.Call.{Call};
-ghost use Rattle.flow_model.specs.Rule.{Rule};
-ghost use Rattle.element_traits.specs.declared.refusal.Refusal.{Refusal};
+ghost use Rattle.net_model.specs.Moment.{Behavior};
 ghost use Rattle.element_traits.specs.Takes.{Takes};
+ghost use Rattle.element_traits.specs.Refuses.{RefusesBy};
 ghost use Rattle.element_traits.specs.Failures.{NeverFalls, IsWriteCause};
 
 use crate::refusal::Refusal;
@@ -14,14 +14,11 @@ use std::alloc::Global;
 
 /// An element with sink pads: a filter, a queue, a tee, a fan-in element, or a sink, which has no source pads.
 pub trait TaskElement: Drop {
-    /// For which rule it stands, and what it took at each of its sink pads.
-    ghost stands: { Self → Rule → List (List Call) → Type 0 };
+    /// For which behavior it stands, and what it took at each of its sink pads.
+    ghost stands: { Self → Behavior → List (List Call) → Type 0 };
 
-    /// For which rule and which lists it stands, behind an item for one of its sink pads that it refused.
-    ghost fell: { Self → Rule → List (List Call) → ℕ → Item → Type 0 };
-
-    /// Why it refuses an item for one of its sink pads, by its rule and by what it took.
-    ghost refuses: { Self → Rule → List (List Call) → ℕ → Item → Refusal → Type 0 };
+    /// For which behavior and which lists it stands, behind an item for one of its sink pads that it refused.
+    ghost fell: { Self → Behavior → List (List Call) → ℕ → Item → Type 0 };
 
     /// How many source pads it has.
     ghost ports: { Self → ℕ };
@@ -40,9 +37,10 @@ pub trait TaskElement: Drop {
     fn feed(&mut self, alloc: Global, pad: u32, item: Item, out: &mut Outs) -> Result<(), Refusal>
         requires no_flush { is_flush_stop item ≡ false }
         ensures took { OnOk result (Takes (stands self.old) (stands self.new) (ports self.old) pad item out.old out.new) }
-        ensures fell { OnErr result ((rule : Rule) (took : List (List Call)) → stands self.old rule took → fell self.new rule took pad item) }
-        ensures refused { IfErr result (λ refusal. (rule : Rule) (took : List (List Call)) → stands self.old rule took
-            → refuses self.old rule took pad item refusal) }
+        ensures fell { OnErr result ((behavior : Behavior) (took : List (List Call)) → stands self.old behavior took
+            → fell self.new behavior took pad item) }
+        ensures refused { IfErr result (λ refusal. (behavior : Behavior) (took : List (List Call)) → stands self.old behavior took
+            → RefusesBy behavior took pad item refusal) }
         ensures out { OnErr result (out.new ≡ out.old) }
         ensures cause { IfErr result (IsWriteCause (failures self.old) (failures self.new)) }
         ensures never_falls { NeverFalls (failures self.old) (failures self.new) }

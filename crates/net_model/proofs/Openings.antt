@@ -23,4 +23,4 @@ all_untouched_standing [] u = tt
 all_untouched_standing (ss ∷ sss) u = (untouched_standing ss u.0, all_untouched_standing sss u.1)
 
 pub opening_stands : OpeningStands
-opening_stands plan s e = record { pads = λ p o. rw (s.uncut p) refl; input = all_untouched_given (plan.sinks e) (s.links e); standing = all_untouched_standing (plan.sinks e) (s.links e) }
+opening_stands plan answers s e = record { pads = λ p o. rw (s.uncut p) refl; input = all_untouched_given (plan.sinks e) (s.links e); standing = all_untouched_standing (plan.sinks e) (s.links e) }

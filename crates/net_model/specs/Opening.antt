@@ -3,7 +3,7 @@ use Rattle.std.specs.Prelude.{◌≡◌, ℕ, List, [], ◌∷◌, map}
 use Rattle.flow_model.specs.Call.{Call}
 use Rattle.flow_model.specs.Link.{Span, Linked}
 use Rattle.flow_model.specs.Eval.{Plan}
-use Rattle.net_model.specs.Moment.{Moment, CellStands}
+use Rattle.net_model.specs.Moment.{Answers, Moment, CellStands}
 
 -- a sink pad that is not linked, or that is linked from the start
 pub data IsUntouched : List Span → Type 0 where
@@ -25,16 +25,17 @@ no_calls plan e = map (λ spans. []) (plan.sinks e)
 
 -- Nothing has crossed, nothing was taken, and nothing stands in an inlet. What a rule owes for nothing waits: at the pad of
 -- a source all that the source is to give before any seek, and at any other pad nothing, since its element owes nothing.
-abbrev pub opening : Plan → Moment
-opening plan =
+abbrev pub opening : Plan → (ℕ → Answers) → Moment
+opening plan answers =
     record {
       plan = plan;
       history = λ p. [];
       took = no_calls plan;
       held = no_calls plan;
       waits = λ p. plan.rule (plan.owner p) (no_calls plan (plan.owner p)) (plan.port p) 0;
+      answers = answers;
     }
 
 -- Every element stands there.
 abbrev pub OpeningStands : Type 0
-OpeningStands = (plan : Plan) → AtStart plan → (e : ℕ) → CellStands (opening plan) e
+OpeningStands = (plan : Plan) (answers : ℕ → Answers) → AtStart plan → (e : ℕ) → CellStands (opening plan answers) e

@@ -5,7 +5,7 @@ use Rattle.flow_model.specs.Item.{Item}
 use Rattle.flow_model.specs.Call.{Call, Feed}
 use Rattle.lane_core.specs.declared.ends.Inlet as inlets
 use Rattle.lane_core.specs.declared.ends.Outlet as outlets
-use Rattle.net_model.specs.Moment.{Moment}
+use Rattle.net_model.specs.Moment.{Moment, behavior_at}
 use Rattle.net_model.specs.Pad.{Grows}
 use Rattle.net_model.specs.Split.{push_calls}
 use Rattle.net_model.specs.Step.{fed}
@@ -35,12 +35,12 @@ module _ {E O L : Type 0} {e : elements.Ghosts E} (o : outlets.Ghosts O L) (part
   now = fed eater.number took_now out_now m
 
   stands_else : (part : Part E O e) → part.number ≢ eater.number → Stands m part → Stands now part
-  stands_else part n st = subst (e.stands part.element (m.plan.rule part.number)) (sym (at_other eater.number took_now m.took part.number n)) st
+  stands_else part n st = subst (e.stands part.element (behavior_at m part.number)) (sym (at_other eater.number took_now m.took part.number n)) st
 
   stands_here : Stands m eater → Stands now ate
   stands_here st =
-      subst (λ n. e.stands ate.element (m.plan.rule n) (now.took n)) (sym took.number)
-      (subst (e.stands ate.element (m.plan.rule eater.number)) (sym (at_here eater.number took_now m.took)) (took.stands_now (m.plan.rule eater.number) (m.took eater.number) st))
+      subst (λ n. e.stands ate.element (behavior_at m n) (now.took n)) (sym took.number)
+      (subst (e.stands ate.element (behavior_at m eater.number)) (sym (at_here eater.number took_now m.took)) (took.stands_now (behavior_at m eater.number) (m.took eater.number) st))
 
   pub fed_parts : PartsTied o (Stands m) m parts → PartsTied o (Stands now) now parts'
   fed_parts a =
@@ -57,7 +57,7 @@ module _ {E O L : Type 0} {e : elements.Ghosts E} (o : outlets.Ghosts O L) (part
       let has = t.mine q own in
       let low : m.plan.port q < length eater.pads.items = slice_get_within eater.pads.items (m.plan.port q) has.pad has.at in
       subst (λ cs. Grows 0 cs (m.plan.rule eater.number (m.took eater.number) (m.plan.port q)) (m.plan.rule eater.number took_now (m.plan.port q)) (on_port (m.plan.port q) took.more)) (sym has.uncut)
-      (took.owes (m.plan.rule eater.number) (m.took eater.number) t.stood [] section (m.plan.port q) (let count = eater.ports in omega (arith, low, count, eater.pads.ok.0)))
+      (took.owes (behavior_at m eater.number) (m.took eater.number) t.stood [] section (m.plan.port q) (let count = eater.ports in omega (arith, low, count, eater.pads.ok.0)))
 
 module _ {S E I O L : Type 0} {s : sources.Ghosts S} {e : elements.Ghosts E} (i : inlets.Ghosts I L O) (o : outlets.Ghosts O L) (head : Head S I O s) (parts parts' : List (Part E O e)) (to sink : ℕ) (x : Item)
     (eater ate : Part E O e) (set : PartSet parts parts' to eater ate) (shape : part_shape ate ≡ part_shape eater) (took : PartFed eater ate sink x) (m : Moment) where

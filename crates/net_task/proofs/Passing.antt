@@ -6,7 +6,7 @@ use Rattle.flow_model.specs.Item.{Item}
 use Rattle.lane_core.specs.Lane.{Lane}
 use Rattle.lane_core.specs.declared.ends.Inlet as inlets
 use Rattle.lane_core.specs.declared.ends.Outlet as outlets
-use Rattle.net_model.specs.Moment.{Moment}
+use Rattle.net_model.specs.Moment.{Moment, behavior_at}
 use Rattle.net_model.specs.Step.{crossed}
 use Rattle.net_model.proofs.Inputs.{at_here, at_other}
 use Rattle.element_traits.specs.declared.element.TaskElement as elements
@@ -46,7 +46,7 @@ sent_inside o (behinds.Lane lane element pad from outlet) n i h g = absurd cc
 module _ {E O : Type 0} {e : elements.Ghosts E} where
   -- an element of which a pad is another now stands as it stood
   pub stands_set : (m : Moment) (old new : Part E O e) → new.number ≡ old.number → new.element ≡ old.element → Stands m old → Stands m new
-  stands_set m old new number element st = subst (λ n. e.stands new.element (m.plan.rule n) (m.took n)) (sym number) (subst (λ z. e.stands z (m.plan.rule old.number) (m.took old.number)) (sym element) st)
+  stands_set m old new number element st = subst (λ n. e.stands new.element (behavior_at m n) (m.took n)) (sym number) (subst (λ z. e.stands z (behavior_at m old.number) (m.took old.number)) (sym element) st)
 
   -- two changes of one pad, and of one element
   pub pad_twice : (a b c : Part E O e) (port : ℕ) (p q r : Pad O) → PadSet a b port p q → PadSet b c port q r → PadSet a c port p r

@@ -5,13 +5,14 @@ use Rattle.std.proofs.lemmas.Bool.{cases_eq}
 use Rattle.flow_model.specs.Item.{Item}
 use Rattle.lane_core.specs.declared.ends.Inlet as inlets
 use Rattle.lane_core.specs.declared.ends.Outlet as outlets
-use Rattle.net_model.specs.Moment.{Moment}
+use Rattle.net_model.specs.Moment.{Moment, behavior_at}
 use Rattle.net_model.specs.Step.{crossed}
 use Rattle.net_model.proofs.Inputs.{at_here, at_other}
 use Rattle.element_traits.specs.declared.element.TaskElement as elements
 use Rattle.element_traits.specs.declared.source.TaskSource as sources
 use Rattle.element_traits.specs.declared.refusal.Refusal.{Refusal}
 use Rattle.element_traits.specs.Takes.{on_port}
+use Rattle.element_traits.specs.Refuses.{RefusesBy}
 use Rattle.gst_item.specs.declared.out.Out.{Out}
 use Rattle.task_pads.specs.declared.pad.Pad.{Pad}
 use Rattle.task_pads.specs.Behind.{inside}
@@ -60,7 +61,7 @@ module _ {E O : Type 0} {e : elements.Ghosts E} where
   fell_set : (n sink : ℕ) (x : Item) (m : Moment) (old new : Part E O e) → new.number ≡ old.number → new.element ≡ old.element → StandsOrFell n sink x m old → StandsOrFell n sink x m new
   fell_set n sink x m old new number element (inl st) = inl (stands_set m old new number element st)
   fell_set n sink x m old new number element (inr f) =
-      inr (number ∙ f.0, subst (λ k. e.fell new.element (m.plan.rule k) (m.took k) sink x) (sym number) (subst (λ z. e.fell z (m.plan.rule old.number) (m.took old.number) sink x) (sym element) f.1))
+      inr (number ∙ f.0, subst (λ k. e.fell new.element (behavior_at m k) (m.took k) sink x) (sym number) (subst (λ z. e.fell z (behavior_at m old.number) (m.took old.number) sink x) (sym element) f.1))
 
 module _ {S E I O L : Type 0} {s : sources.Ghosts S} {e : elements.Ghosts E} (i : inlets.Ghosts I L O) (o : outlets.Ghosts O L)
     (head : Head S I O s) (parts between : List (Part E O e)) (place port : ℕ) (old new : Part E O e) (was is : Pad O)
@@ -139,7 +140,7 @@ module _ {S E I O L : Type 0} {s : sources.Ghosts S} {e : elements.Ghosts E} (i 
       (part_fell o (Stands m1 h.eater) (Stood m1 h.ate) m1 h.eater h.ate h.fell.number h.fell.pads h.fell.out
       (inr (
         h.fell.number ∙ eater_number,
-        subst (λ k. e.fell h.ate.element (m.plan.rule k) (m.took k) sink h.item) (sym h.fell.number) (h.fell.fell (m.plan.rule h.eater.number) (m.took h.eater.number) (a1.parts_tied.each to h.eater h.fed.at).stood),
+        subst (λ k. e.fell h.ate.element (behavior_at m k) (m.took k) sink h.item) (sym h.fell.number) (h.fell.fell (behavior_at m h.eater.number) (m.took h.eater.number) (a1.parts_tied.each to h.eater h.fed.at).stood),
       ))
       (a1.parts_tied.each to h.eater h.fed.at))
       a1.parts_tied
@@ -183,6 +184,7 @@ module _ {S E I O L : Type 0} {s : sources.Ghosts S} {e : elements.Ghosts E} (i 
           behind = mb;
           lost = nothing_lost;
           gave_up = by_pad p rest (waited_at i o head parts h.between place port old h.gave was gone.behind sets pads m a h.item (c.waited ∙ sym c.waits ∙ gone.waiting)) lead.0;
+          of_head = tt;
           tied = record {
             parts_tied = parts_back;
             head_tied = head_at i o nothing_lost m1 mb head h.between parts' refl refl refl
@@ -194,8 +196,8 @@ module _ {S E I O L : Type 0} {s : sources.Ghosts S} {e : elements.Ghosts E} (i 
         record {
           was = h.eater.element;
           is = h.ate.element;
-          stood = subst (λ k. e.stands h.eater.element (m.plan.rule k) (m.took k)) eater_number (a1.parts_tied.each to h.eater h.fed.at).stood;
-          why = subst (λ k. e.refuses h.eater.element (m.plan.rule k) (m.took k) sink h.item refusal) eater_number (h.fell.refused (m.plan.rule h.eater.number) (m.took h.eater.number) (a1.parts_tied.each to h.eater h.fed.at).stood);
+          stood = subst (λ k. e.stands h.eater.element (behavior_at m k) (m.took k)) eater_number (a1.parts_tied.each to h.eater h.fed.at).stood;
+          why = subst (λ k. RefusesBy (behavior_at m k) (m.took k) sink h.item refusal) eater_number (h.fell.refused (behavior_at m h.eater.number) (m.took h.eater.number) (a1.parts_tied.each to h.eater h.fed.at).stood);
           cause = h.fell.cause;
         },
       )

@@ -5,13 +5,14 @@ use Rattle.flow_model.specs.Item.{Item}
 use Rattle.lane_core.specs.Lane.{Lane}
 use Rattle.lane_core.specs.declared.ends.Inlet as inlets
 use Rattle.lane_core.specs.declared.ends.Outlet as outlets
-use Rattle.net_model.specs.Moment.{Moment}
+use Rattle.net_model.specs.Moment.{Moment, behavior_at}
 use Rattle.net_model.specs.Split.{NoneAt}
 use Rattle.net_model.specs.Step.{Leads, LeadsNowhere, crossed}
 use Rattle.net_model.proofs.Inputs.{at_here, at_other}
 use Rattle.element_traits.specs.declared.element.TaskElement as elements
 use Rattle.element_traits.specs.declared.source.TaskSource as sources
 use Rattle.element_traits.specs.declared.refusal.Refusal.{Refusal}
+use Rattle.element_traits.specs.Refuses.{RefusesBy}
 use Rattle.task_pads.specs.declared.crossing.Crossing.{Crossing}
 use Rattle.task_pads.specs.declared.crossing.Crossing.TheVariants.{Idle, To, Gone, Full, AtProbe, NotLinked, BehindEos, AtLimit, OutOfMemory}
 use Rattle.task_pads.specs.declared.pad.Pad.{Pad}
@@ -346,11 +347,12 @@ module _ {S E I O L : Type 0} {s : sources.Ghosts S} {e : elements.Ghosts E} (i 
             behind = mb;
             lost = lost_at 0 h.item;
             gave_up = by_source p rest z.whole lead.0;
+            of_head = tt;
             tied = record {
               parts_tied = parts_set_at o (Stands m) (StandsOrFell number sink h.item mb) m mb parts parts' to h.eater h.ate h.fed h.fell.number
                   (λ k q at_k y. part_known o (Stands m q) (StandsOrFell number sink h.item mb q) mb q inl (elsewhere (Stands m q) rest q (a.head_tied.apart k q at_k) y))
                   (part_fell o (Stands m h.eater) (StandsOrFell number sink h.item mb h.ate) mb h.eater h.ate h.fell.number h.fell.pads h.fell.out
-                  (inr (h.fell.number ∙ n, subst (λ k. e.fell h.ate.element (m.plan.rule k) (m.took k) sink h.item) (sym h.fell.number) (h.fell.fell (m.plan.rule h.eater.number) (m.took h.eater.number) stood)))
+                  (inr (h.fell.number ∙ n, subst (λ k. e.fell h.ate.element (behavior_at m k) (m.took k) sink h.item) (sym h.fell.number) (h.fell.fell (behavior_at m h.eater.number) (m.took h.eater.number) stood)))
                   (elsewhere (Stands m h.eater) rest h.eater (a.head_tied.apart to h.eater h.fed.at) (a.parts_tied.each to h.eater h.fed.at)))
                   a.parts_tied;
               head_tied = source_set o (h.item ∷ []) m mb head head' parts parts' set refl
@@ -367,8 +369,8 @@ module _ {S E I O L : Type 0} {s : sources.Ghosts S} {e : elements.Ghosts E} (i 
           record {
             was = h.eater.element;
             is = h.ate.element;
-            stood = subst (λ k. e.stands h.eater.element (m.plan.rule k) (m.took k)) n stood;
-            why = subst (λ k. e.refuses h.eater.element (m.plan.rule k) (m.took k) sink h.item refusal) n (h.fell.refused (m.plan.rule h.eater.number) (m.took h.eater.number) stood);
+            stood = subst (λ k. e.stands h.eater.element (behavior_at m k) (m.took k)) n stood;
+            why = subst (λ k. RefusesBy (behavior_at m k) (m.took k) sink h.item refusal) n (h.fell.refused (behavior_at m h.eater.number) (m.took h.eater.number) stood);
             cause = h.fell.cause;
           },
         )

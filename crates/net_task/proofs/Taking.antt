@@ -8,7 +8,7 @@ use Rattle.flow_model.specs.Call.{Call, Feed}
 use Rattle.lane_core.specs.Lane.{Lane}
 use Rattle.lane_core.specs.declared.ends.Inlet as inlets
 use Rattle.lane_core.specs.declared.ends.Outlet as outlets
-use Rattle.net_model.specs.Moment.{Moment}
+use Rattle.net_model.specs.Moment.{Moment, behavior_at}
 use Rattle.net_model.specs.Split.{push_calls}
 use Rattle.net_model.proofs.Inputs.{at_here}
 use Rattle.element_traits.specs.declared.element.TaskElement as elements
@@ -198,10 +198,11 @@ module _ {S E I O L : Type 0} {s : sources.Ghosts S} {e : elements.Ghosts E} (i 
           behind = m;
           lost = lost_at port x;
           gave_up = by_inlet;
+          of_head = set.number ∙ sym (ap (λ (q : Part E O e). q.number) (some_same (sym eats.at ∙ at.at)) ∙ at.number_is);
           tied = record {
             parts_tied = parts_set o (Stands m) (StandsOrFell eater.number port x m) m m parts parts' to eater ate eats fell.number (λ q n y. part_known o (Stands m q) (StandsOrFell eater.number port x m q) m q inl y)
                 (part_fell o (Stands m eater) (StandsOrFell eater.number port x m ate) m eater ate fell.number fell.pads fell.out
-                (inr (fell.number, subst (λ k. e.fell ate.element (m.plan.rule k) (m.took k) port x) (sym fell.number) (fell.fell (m.plan.rule eater.number) (m.took eater.number) tied.stood))) tied)
+                (inr (fell.number, subst (λ k. e.fell ate.element (behavior_at m k) (m.took k) port x) (sym fell.number) (fell.fell (behavior_at m eater.number) (m.took eater.number) tied.stood))) tied)
                 a.parts_tied;
             head_tied = rows_set (lost_at port x) m port was is set
                 (record {
@@ -219,7 +220,7 @@ module _ {S E I O L : Type 0} {s : sources.Ghosts S} {e : elements.Ghosts E} (i 
           was = eater.element;
           is = ate.element;
           stood = tied.stood;
-          why = fell.refused (m.plan.rule eater.number) (m.took eater.number) tied.stood;
+          why = fell.refused (behavior_at m eater.number) (m.took eater.number) tied.stood;
           cause = fell.cause;
         },
       )

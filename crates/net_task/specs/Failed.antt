@@ -4,13 +4,14 @@ use Rattle.flow_model.specs.Item.{Item, is_buffer}
 use Rattle.lane_core.specs.Lane.{Lane}
 use Rattle.lane_core.specs.declared.ends.Inlet as inlets
 use Rattle.lane_core.specs.declared.ends.Outlet as outlets
-use Rattle.net_model.specs.Moment.{Moment, put_at}
+use Rattle.net_model.specs.Moment.{Moment, put_at, behavior_at}
 use Rattle.net_model.specs.Step.{Leads, LeadsNowhere}
 use Rattle.element_traits.specs.declared.element.TaskElement as elements
 use Rattle.element_traits.specs.declared.source.TaskSource as sources
 use Rattle.element_traits.specs.declared.refusal.Refusal.{Refusal}
 use Rattle.element_traits.specs.declared.refusal.Unread.{Unread}
 use Rattle.element_traits.specs.Failures.{IsReadCause, IsWriteCause}
+use Rattle.element_traits.specs.Refuses.{RefusesBy}
 use Rattle.task_parts.specs.declared.part.Part.{Part}
 use Rattle.task_parts.specs.declared.head.Head.{Head}
 use Rattle.task_parts.specs.declared.head.Head.TheVariants.{Source, Inlets}
@@ -42,10 +43,16 @@ module _ {S I O : Type 0} {s : sources.Ghosts S} where
   WasFirst tells m frame head (at_pad p) = IsFirst tells m frame p
   WasFirst tells m frame head at_head = AllRest m frame × HeadIdle head
 
+  -- an item that was met as the head was asked was for the element of the head
+  abbrev pub IsOfHead : Origin → ℕ → Head S I O s → Type 0
+  IsOfHead (at_pad p) n head = Unit {0}
+  IsOfHead at_head n (Inlets head) = head.number ≡ n
+  IsOfHead at_head n (Source head) = ⊥
+
 module _ {E O : Type 0} {e : elements.Ghosts E} where
   -- an element stands, or it is the one that refused an item and stands for that
   abbrev pub StandsOrFell : ℕ → ℕ → Item → Moment → Part E O e → Type 0
-  StandsOrFell n i x m part = Stands m part ⊎ ((part.number ≡ n) × e.fell part.element (m.plan.rule part.number) (m.took part.number) i x)
+  StandsOrFell n i x m part = Stands m part ⊎ ((part.number ≡ n) × e.fell part.element (behavior_at m part.number) (m.took part.number) i x)
 
 -- Where the item was that an element refused: it waited first at a pad of the task, and does no more; or it came from an
 -- inlet of the head, and is lost there. Nothing else is lost.
@@ -55,12 +62,12 @@ pub data GaveUp (m : Moment) (n i : ℕ) (x : Item) : Origin → Moment → (ℕ
   by_inlet : GaveUp m n i x at_head m (lost_at i x)
 
 module _ {E : Type 0} (e : elements.Ghosts E) where
-  -- Its rule, or a failed write of this very call, is why an element refused an item.
+  -- What it answers to the item, want of memory, or a failed write of this very call is why an element refused it.
   pub record Refuses (m : Moment) (n pad : ℕ) (x : Item) (refusal : Refusal) : Type 0 where
     pub was : E
     pub is : E
-    pub stood : e.stands was (m.plan.rule n) (m.took n)
-    pub why : e.refuses was (m.plan.rule n) (m.took n) pad x refusal
+    pub stood : e.stands was (behavior_at m n) (m.took n)
+    pub why : RefusesBy (behavior_at m n) (m.took n) pad x refusal
     pub cause : IsWriteCause (e.failures was) (e.failures is) refusal
 
 module _ {S I O : Type 0} {s : sources.Ghosts S} where
@@ -76,6 +83,7 @@ module _ {S E I O L : Type 0} {s : sources.Ghosts S} {e : elements.Ghosts E} (i 
     pub behind : Moment
     pub lost : ℕ → List Item
     pub gave_up : GaveUp m n pad x origin behind lost
+    pub of_head : IsOfHead origin n head
     pub tied : AreTied i o (StandsOrFell n pad x behind) lost behind head parts
 
   -- Why a head and elements met a fault at a moment, where that was, and how they stand behind it.

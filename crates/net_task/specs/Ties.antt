@@ -5,7 +5,7 @@ use Rattle.flow_model.specs.Item.{Item}
 use Rattle.flow_model.specs.Call.{Call, feeds}
 use Rattle.lane_core.specs.declared.ends.Inlet as inlets
 use Rattle.lane_core.specs.declared.ends.Outlet as outlets
-use Rattle.net_model.specs.Moment.{Moment}
+use Rattle.net_model.specs.Moment.{Moment, behavior_at}
 use Rattle.net_model.specs.Split.{NoneAt}
 use Rattle.net_model.specs.Step.{Leads, LeadsNowhere}
 use Rattle.element_traits.specs.declared.element.TaskElement as elements
@@ -56,9 +56,9 @@ pub record HasPad {O : Type 0} (pads : List (Pad O)) (m : Moment) (p : ℕ) : Ty
   pub uncut : (m.plan.log p).cuts ≡ []
 
 module _ {E O : Type 0} {e : elements.Ghosts E} where
-  -- an element stands by its rule for what it took
+  -- an element stands by what it does for what it took
   abbrev pub Stands : Moment → Part E O e → Type 0
-  Stands m part = e.stands part.element (m.plan.rule part.number) (m.took part.number)
+  Stands m part = e.stands part.element (behavior_at m part.number) (m.took part.number)
 
   -- the numbers are different
   abbrev pub AreOnce : List (Part E O e) → Type 0

@@ -189,4 +189,27 @@ impl<S: TaskSource, E: TaskElement, I: Inlet<Out = O>, O: Outlet<Lanes = I::Lane
             }
         }
     }
+
+    /// Where its items come from.
+    pub fn head(&self) -> &Head<S, I, O>
+        ensures { result.now ≡ self.now.head }
+    {
+        &self.head
+    }
+
+    /// Its elements with their source pads, in the order in which these are tried.
+    pub fn parts(&self) -> &[Part<E, O>]
+        ensures { result.now ≡ self.now.parts.items }
+    {
+        self.parts.as_slice()
+    }
+
+    /// The head and the elements.
+    pub fn into_parts(self) -> (Head<S, I, O>, Vec<Part<E, O>>)
+        ensures head { result.0 ≡ self.head }
+        ensures parts { result.1 ≡ self.parts }
+    {
+        let Task { head, parts, .. } = self;
+        (head, parts)
+    }
 }

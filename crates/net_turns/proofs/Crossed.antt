@@ -90,7 +90,7 @@ module _ {S E I O L : Type 0} {s : sources.Ghosts S} {e : elements.Ghosts E} {i 
       passed_goes =
           record {
             now = passed p x rest n port out m;
-            goes_on = refl;
+            goes_on = record { plan = refl; answers = refl };
             net = record {
               plain = net.plain;
               tied = each_task tasks tasks' place before after c (λ task. Ties task (passed p x rest n port out m)) tied
@@ -135,7 +135,7 @@ module _ {S E I O L : Type 0} {s : sources.Ghosts S} {e : elements.Ghosts E} {i 
       left_goes =
           record {
             now = crossed p x rest m;
-            goes_on = refl;
+            goes_on = record { plan = refl; answers = refl };
             net = record {
               plain = net.plain;
               tied = each_task tasks tasks' place before after c (λ task. Ties task (crossed p x rest m)) tied
@@ -162,7 +162,7 @@ module _ {S E I O L : Type 0} {s : sources.Ghosts S} {e : elements.Ghosts E} {i 
     gave_goes tied =
         record {
           now = m;
-          goes_on = refl;
+          goes_on = record { plan = refl; answers = refl };
           net = record {
             plain = net.plain;
             tied = each_task tasks tasks' place before after c (λ task. Ties task m) tied (λ k task apart at. net.tied k task at);

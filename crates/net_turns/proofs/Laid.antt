@@ -166,7 +166,7 @@ module _ {S E I O L : Type 0} {s : sources.Ghosts S} {e : elements.Ghosts E} {i 
     sent_goes =
         record {
           now = sent p x rest n port m;
-          goes_on = refl;
+          goes_on = record { plan = refl; answers = refl };
           net = record {
             plain = net.plain;
             tied = each_task tasks tasks' place before after c (λ task. Ties task (sent p x rest n port m)) tied_then

@@ -5,7 +5,7 @@ use Rattle.flow_model.specs.Item.{Item}
 use Rattle.flow_model.specs.Call.{Call}
 use Rattle.lane_core.specs.declared.ends.Inlet as inlets
 use Rattle.lane_core.specs.declared.ends.Outlet as outlets
-use Rattle.net_model.specs.Moment.{Moment}
+use Rattle.net_model.specs.Moment.{Moment, behavior_at}
 use Rattle.net_model.specs.Split.{NoneAt}
 use Rattle.element_traits.specs.declared.element.TaskElement as elements
 use Rattle.element_traits.specs.declared.source.TaskSource as sources
@@ -27,7 +27,7 @@ use Rattle.net_turns.proofs.Owners.{IsPadOf, closed_head, number_has, of_part, o
 
 -- a moment that is another at its elements and pads, but not in its graph
 abbrev pub moved_to : Moment → (ℕ → List Item) → (ℕ → List (List Call)) → (ℕ → List (List Call)) → (ℕ → List Item) → Moment
-moved_to m history took held waits = record { plan = m.plan; history = history; took = took; held = held; waits = waits }
+moved_to m history took held waits = record m { history = history; took = took; held = held; waits = waits }
 
 module _ {S E I O L : Type 0} {s : sources.Ghosts S} {e : elements.Ghosts E} (i : inlets.Ghosts I L O) (o : outlets.Ghosts O L) where
   -- the owner of a pad of a task is an element of it
@@ -71,7 +71,7 @@ module _ {S E I O L : Type 0} {s : sources.Ghosts S} {e : elements.Ghosts E} (i 
     part_still : (j : ℕ) (part : Part E O e) → slice_get parts j ≡ Some part → PartTied o (Stands m part) m part
         → PartTied o (Stands (moved_to m history took held waits) part) (moved_to m history took held waits) part
     part_still j part at h = record {
-      stood = subst (e.stands part.element (m.plan.rule part.number)) (sym (took_same part.number (part_has o head parts j part at))) h.stood;
+      stood = subst (e.stands part.element (behavior_at m part.number)) (sym (took_same part.number (part_has o head parts j part at))) h.stood;
       pads = λ k pad pad_at. port_still k pad pad_at (h.pads k pad pad_at);
       mine = λ p owner. let one = h.mine p owner in record { pad = one.pad; at = one.at; number = one.number; uncut = one.uncut };
     }

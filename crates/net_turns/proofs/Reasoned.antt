@@ -7,7 +7,7 @@ use Rattle.flow_model.specs.Call.{feeds}
 use Rattle.lane_core.specs.Lane.{Lane}
 use Rattle.lane_core.specs.declared.ends.Inlet as inlets
 use Rattle.lane_core.specs.declared.ends.Outlet as outlets
-use Rattle.net_model.specs.Moment.{Moment}
+use Rattle.net_model.specs.Moment.{Moment, behavior_at}
 use Rattle.element_traits.specs.declared.element.TaskElement as elements
 use Rattle.element_traits.specs.declared.source.TaskSource as sources
 use Rattle.inlet_row.specs.declared.feeding.Taken.TheVariants.{Empty}
@@ -95,7 +95,7 @@ module _ {E O L : Type 0} {e : elements.Ghosts E} (o : outlets.Ghosts O L) (m : 
   wants_at : (n to : ℕ) (port : Option ℕ) → (at : IsAt parts n to) → e.wanted at.part.element ≡ port → Wants e m n port
   wants_at n to port at wanted = record {
     element = at.part.element;
-    stands = subst (λ (k : ℕ). e.stands at.part.element (m.plan.rule k) (m.took k)) at.number_is (tied.each to at.part at.at).stood;
+    stands = subst (λ (k : ℕ). e.stands at.part.element (behavior_at m k) (m.took k)) at.number_is (tied.each to at.part at.at).stood;
     wants = wanted;
   }
 

@@ -66,7 +66,7 @@ module _ {S E I O L : Type 0} {s : sources.Ghosts S} {e : elements.Ghosts E} {i 
       → HasMet place fault was is tells → NetFaulted m is place fault
   net_faulted m was is tells place fault net h = record {
     last = m;
-    goes_on = refl;
+    goes_on = record { plan = refl; answers = refl };
     was = was;
     tells = tells;
     net = net;
@@ -75,6 +75,7 @@ module _ {S E I O L : Type 0} {s : sources.Ghosts S} {e : elements.Ghosts E} {i 
     at = h.at;
     after = h.after;
     at_after = h.at_after;
+    frame = h.frame;
     failed = h.failed m (net.tied place h.before h.at);
   }
 

@@ -219,7 +219,7 @@ module _ {S E I O L : Type 0} {s : sources.Ghosts S} {e : elements.Ghosts E} {i 
     taken_goes =
         record {
           now = taken n port (Feed x) (without_first port (m.held n)) out m;
-          goes_on = refl;
+          goes_on = record { plan = refl; answers = refl };
           net = record {
             plain = net.plain;
             tied = each_task tasks tasks' place before after c (λ task. Ties task then_is)

@@ -23,21 +23,28 @@ burned_both true false a b c x y = omega (arith, x, y)
 burned_both false true a b c x y = omega (arith, x, y)
 burned_both false false a b c x y = omega (arith, x, y)
 
+-- a moment goes on to itself, and to what one to which it goes on goes on
+stays_so : (m : Moment) → GoesOn m m
+stays_so m = record { plan = refl; answers = refl }
+
+goes_both : {a b c : Moment} → GoesOn a b → GoesOn b c → GoesOn a c
+goes_both x y = record { plan = y.plan ∙ x.plan; answers = y.answers ∙ x.answers }
+
 module _ {S E I O L : Type 0} {s : sources.Ghosts S} {e : elements.Ghosts E} {i : inlets.Ghosts I L O} {o : outlets.Ghosts O L} where
   pub goes_same : (m : Moment) (tasks : List (Task S E I O L s e i o)) (tells : Option (List Lane)) → NetStands m tasks tells → NetGoes m tasks tells
-  goes_same m tasks tells net = record { now = m; goes_on = refl; net = net }
+  goes_same m tasks tells net = record { now = m; goes_on = stays_so m; net = net }
 
   pub goes_more : (a b : Moment) (tasks : List (Task S E I O L s e i o)) (tells : Option (List Lane)) → GoesOn a b → NetGoes b tasks tells → NetGoes a tasks tells
-  goes_more a b tasks tells x y = record { now = y.now; goes_on = y.goes_on ∙ x; net = y.net }
+  goes_more a b tasks tells x y = record { now = y.now; goes_on = goes_both x y.goes_on; net = y.net }
 
   pub ended_more : (a b : Moment) (tasks : List (Task S E I O L s e i o)) (tells : Option (List Lane)) → GoesOn a b → NetEnded b tasks tells → NetEnded a tasks tells
-  ended_more a b tasks tells x y = record { last = y.last; goes_on = y.goes_on ∙ x; rests = y.rests }
+  ended_more a b tasks tells x y = record { last = y.last; goes_on = goes_both x y.goes_on; rests = y.rests }
 
   -- a step behind others met a fault
   pub faulted_more : (a b : Moment) (tasks : List (Task S E I O L s e i o)) (place : ℕ) (fault : TaskFault) → GoesOn a b → NetFaulted b tasks place fault → NetFaulted a tasks place fault
   faulted_more a b tasks place fault x y = record {
     last = y.last;
-    goes_on = y.goes_on ∙ x;
+    goes_on = goes_both x y.goes_on;
     was = y.was;
     tells = y.tells;
     net = y.net;
@@ -46,6 +53,7 @@ module _ {S E I O L : Type 0} {s : sources.Ghosts S} {e : elements.Ghosts E} {i 
     at = y.at;
     after = y.after;
     at_after = y.at_after;
+    frame = y.frame;
     failed = y.failed;
   }
 
@@ -82,7 +90,7 @@ module _ {S E I O L : Type 0} {s : sources.Ghosts S} {e : elements.Ghosts E} {i 
   all_tried place true m tasks tells w h = h
   all_tried place false m tasks tells w h = record {
     last = m;
-    goes_on = refl;
+    goes_on = stays_so m;
     rests = record { net = h.net; rests = λ k task tried at. let within = slice_get_within tasks k task at in h.rests k task (omega (arith, within, w)) at };
   }
 
@@ -90,6 +98,6 @@ module _ {S E I O L : Type 0} {s : sources.Ghosts S} {e : elements.Ghosts E} {i 
   pub none_ended : (m : Moment) (tasks : List (Task S E I O L s e i o)) (tells : Option (List Lane)) → length tasks ≡ 0 → NetStands m tasks tells → NetEnded m tasks tells
   none_ended m tasks tells none net = record {
     last = m;
-    goes_on = refl;
+    goes_on = stays_so m;
     rests = record { net = net; rests = λ k task tried at. let within = slice_get_within tasks k task at in absurd (omega (arith, within, none)) };
   }

@@ -31,9 +31,10 @@ pub record IsPlain (plan : Plan) : Type 0 where
   pub calm : (e port : ℕ) (took : List (List Call)) → has_flush_stop (plan.rule e took port 0) ≡ false
   pub closed : (e port : ℕ) (took : List (List Call)) (front : List Item) (last : Item) → plan.rule e took port 0 ≡ front ++ last ∷ [] → has_ended front ≡ false
 
--- the graph stays
-abbrev pub GoesOn : Moment → Moment → Type 0
-GoesOn m m' = m'.plan ≡ m.plan
+-- The graph stays, and what each element answers.
+pub record GoesOn (m m' : Moment) : Type 0 where
+  pub plan : m'.plan ≡ m.plan
+  pub answers : m'.answers ≡ m.answers
 
 -- an element is one of a task, or its source
 pub data HasElement (frame : TaskFrame) (n : ℕ) : Type 0 where

@@ -3,7 +3,7 @@ use Rattle.std.specs.Prelude.{◌≡◌, ◌≢◌, ◌<◌, ℕ, Bool, true, fa
 use Rattle.lane_core.specs.Lane.{Lane}
 use Rattle.lane_core.specs.declared.ends.Inlet as inlets
 use Rattle.lane_core.specs.declared.ends.Outlet as outlets
-use Rattle.net_model.specs.Moment.{Moment}
+use Rattle.net_model.specs.Moment.{Moment, behavior_at}
 use Rattle.element_traits.specs.declared.element.TaskElement as elements
 use Rattle.element_traits.specs.declared.source.TaskSource as sources
 use Rattle.task_parts.specs.declared.fault.TaskFault.{TaskFault}
@@ -15,10 +15,10 @@ use Rattle.net_task.specs.Frame.{HeadFrame, by_source, by_inlets, TaskFrame, fra
 use Rattle.net_task.specs.Reasons.{AllBlocked, AllRest, OneHolds, OwnerRests}
 use Rattle.net_turns.specs.Net.{ListAt, NetStands, NetGoes, GoesOn}
 
--- An element that stands for its rule at a moment wants this item next.
+-- An element that stands at a moment wants this item next.
 pub record Wants {E : Type 0} (e : elements.Ghosts E) (m : Moment) (n : ℕ) (port : Option ℕ) : Type 0 where
   pub element : E
-  pub stands : e.stands element (m.plan.rule n) (m.took n)
+  pub stands : e.stands element (behavior_at m n) (m.took n)
   pub wants : e.wanted element ≡ port
 
 -- nothing is left for a head to give: its source has given all, or its element wants no more
@@ -82,6 +82,7 @@ module _ {S E I O L : Type 0} {s : sources.Ghosts S} {e : elements.Ghosts E} {i 
     pub at : slice_get was place ≡ Some before
     pub after : Task S E I O L s e i o
     pub at_after : slice_get tasks place ≡ Some after
+    pub frame : frame_of after ≡ frame_of before
     pub failed : Failed tells before after last fault
 
   -- no task's frame is changed

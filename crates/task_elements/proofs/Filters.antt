@@ -10,11 +10,13 @@ use Rattle.gst_item.specs.declared.fault.ElementFault.{ElementFault}
 use Rattle.flow_model.specs.Item.{Item, is_flush_stop}
 use Rattle.flow_model.specs.Sticky.{has_flush_stop}
 use Rattle.flow_model.specs.Call.{Call, Feed}
-use Rattle.flow_model.specs.Rule.{Rule, Response, owed_for, single}
+use Rattle.flow_model.specs.Rule.{Rule, Response, owed_for, single, passes}
 use Rattle.flow_model.specs.Feeding.{on_pad, next_owed, passed, flow_behind, IsFaultOf}
+use Rattle.net_model.specs.Moment.{Behavior}
 use Rattle.net_model.specs.Pad.{Grows}
 use Rattle.net_model.specs.Split.{push_calls}
 use Rattle.element_traits.specs.Takes.{on_port, OwesMore, Takes}
+use Rattle.element_traits.specs.Refuses.{RefusesBy}
 use Rattle.element_traits.specs.declared.refusal.Refusal.TheVariants.{Fault}
 use Rattle.el_basic.specs.declared.identity.Identity.{Identity}
 use Rattle.el_basic.specs.Passed.{Passed}
@@ -22,7 +24,7 @@ use Rattle.el_set.specs.declared.filter.FilterElement.{FilterElement}
 use Rattle.el_set.specs.Stands.{Stands, StandsAs, PutsOut}
 use Rattle.el_set.proofs.Elements.{elements_owe, identity_feeds}
 use Rattle.task_elements.specs.Ruled.{IsRuled}
-use Rattle.task_elements.specs.Stands.{FilterTook, FilterRefuses, passing}
+use Rattle.task_elements.specs.Stands.{FilterTook, behaves, passing}
 use Rattle.task_elements.proofs.EachKind.{is_ending}
 use Rattle.task_elements.proofs.Plain.{ending_quiet}
 use Rattle.task_elements.proofs.Growing.{OwesNoStop, single_grows, next_none, all_on_port, all_within}
@@ -66,14 +68,14 @@ grown rule respond took calls x more is one none h e =
     all cuts inside (suc port) within = absurd (omega (arith, within))
 
 -- it stands for one item more
-took_more : (old new : FilterElement) (x : Item) (out out' : List Out) → PutsOut old new (Feed x) out out' → (rule : Rule) (took : List (List Call)) → FilterTook old rule took
-    → FilterTook new rule (push_calls 0 (Feed x ∷ []) took)
-took_more old new x out out' p rule took t =
+took_more : (old new : FilterElement) (x : Item) (out out' : List Out) → PutsOut old new (Feed x) out out' → (behavior : Behavior) (took : List (List Call)) → FilterTook old behavior took
+    → FilterTook new behavior (push_calls 0 (Feed x ∷ []) took)
+took_more old new x out out' p behavior took t =
     record {
       respond = t.respond;
       calls = t.calls ++ Feed x ∷ [];
       put = t.put ++ p.more;
-      rule_is = t.rule_is;
+      behavior_is = t.behavior_is;
       took_is = ap (λ css. push_calls 0 (Feed x ∷ []) css) t.took_is;
       stands = p.stands t.respond t.calls t.put t.stands;
     }
@@ -86,8 +88,8 @@ filter_takes old new x out out' p h =
       appended = p.outs;
       within = all_within p.more h;
       stands_now = took_more old new x out out' p;
-      owes = λ rule took t.
-          grown rule t.respond took t.calls x p.more t.rule_is t.took_is (owes_no_stop t.respond old t.calls t.put t.stands) h
+      owes = λ behavior took t.
+          grown behavior.owes t.respond took t.calls x p.more (ap (λ (b : Behavior). b.owes) t.behavior_is) t.took_is (owes_no_stop t.respond old t.calls t.put t.stands) h
           (sym (elements_owe t.respond new (t.calls ++ Feed x ∷ []) (t.put ++ p.more) (p.stands t.respond t.calls t.put t.stands))
           ∙ ap (λ ys. ys ++ p.more) (elements_owe t.respond old t.calls t.put t.stands));
     }
@@ -117,18 +119,28 @@ queue_takes old new x flow out out' h outs fed answer =
     (ap has_flush_stop (more_is (passing old) (passing new) x out out' (passed flow x) put outs) ∙ passed_none flow x h)
 
 -- it stands as before
-pub took_as : (old new : FilterElement) → StandsAs old new → (rule : Rule) (took : List (List Call)) → FilterTook old rule took → FilterTook new rule took
-took_as old new as_before rule took t =
+pub took_as : (old new : FilterElement) → StandsAs old new → (behavior : Behavior) (took : List (List Call)) → FilterTook old behavior took → FilterTook new behavior took
+took_as old new as_before behavior took t =
     record {
       respond = t.respond;
       calls = t.calls;
       put = t.put;
-      rule_is = t.rule_is;
+      behavior_is = t.behavior_is;
       took_is = t.took_is;
       stands = as_before t.respond t.calls t.put t.stands;
     }
 
+-- it refuses an item for its fault
 pub refuses_by : (old : FilterElement) (x : Item) (fault : ElementFault)
     → ((respond : Response) (calls : List Call) (put : List Item) → Stands respond old calls put → IsFaultOf (next_owed respond calls x) fault)
-    → (rule : Rule) (took : List (List Call)) → FilterTook old rule took → FilterRefuses old rule took x (Fault fault)
-refuses_by old x fault faults rule took t = (t, faults t.respond t.calls t.put t.stands)
+    → (behavior : Behavior) (took : List (List Call)) → FilterTook old behavior took → RefusesBy behavior took 0 x (Fault fault)
+refuses_by old x fault faults behavior took t =
+    subst (λ (b : Behavior). RefusesBy b took 0 x (Fault fault)) (sym t.behavior_is)
+    (subst (λ (css : List (List Call)). RefusesBy (behaves t.respond) css 0 x (Fault fault)) (sym t.took_is) (faults t.respond t.calls t.put t.stands))
+
+pub queue_refuses : (old : Identity) (x : Item) (fault : ElementFault)
+    → ((calls : List Call) (put : List Item) → Passed old calls put → IsFaultOf (next_owed passes calls x) fault)
+    → (behavior : Behavior) (took : List (List Call)) → FilterTook (passing old) behavior took → RefusesBy behavior took 0 x (Fault fault)
+queue_refuses old x fault faults =
+    refuses_by (passing old) x fault
+    (λ respond calls put s. subst (λ (r : Response). IsFaultOf (next_owed r calls x) fault) (sym s.0) (faults calls put s.1))

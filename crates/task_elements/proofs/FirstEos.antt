@@ -5,10 +5,11 @@ use Rattle.flow_model.specs.Sticky.{has_flush_stop, latest, since_flush_stop}
 use Rattle.flow_model.specs.Section.{section, counted, counted_after}
 use Rattle.flow_model.specs.Prefix.{IsPrefix, nothing, next}
 use Rattle.flow_model.specs.Call.{Call, Feed, Act, items}
-use Rattle.flow_model.specs.Rule.{Rule, Response, owed_for, single}
+use Rattle.flow_model.specs.Rule.{Response, owed_for, single}
 use Rattle.flow_model.specs.Feeding.{has_item}
 use Rattle.flow_model.proofs.Prefixes.{prefix_trans, rest_of}
 use Rattle.flow_model.proofs.Sections.{section_prefix, owed_for_prefix}
+use Rattle.net_model.specs.Moment.{Behavior}
 use Rattle.net_model.specs.Over.{list_ended, AllEnded}
 use Rattle.element_traits.specs.Takes.{flush_stops, InSection}
 use Rattle.el_src.specs.Gave.{has_eos as eos_among}
@@ -125,18 +126,18 @@ owes_first respond (elements.Split e) calls put s = owed_first respond calls (is
 owes_first respond (elements.WavParse e) calls put s = owed_first respond calls (is_ending respond (elements.WavParse e) calls put s) s.3
 owes_first respond (elements.WavEnc e) calls put s = owed_first respond calls (is_ending respond (elements.WavEnc e) calls put s) s.3
 
-filter_first : (filter : FilterElement) (rule : Rule) (took : List (List Call)) → FilterTook filter rule took → FirstEnded took → (port : ℕ) → list_ended (rule took port 0) ≡ true
-filter_first filter rule took t h port =
+filter_first : (filter : FilterElement) (behavior : Behavior) (took : List (List Call)) → FilterTook filter behavior took → FirstEnded took → (port : ℕ) → list_ended (behavior.owes took port 0) ≡ true
+filter_first filter behavior took t h port =
     let ended : list_ended (section 0 (items t.calls)) ≡ true = (subst FirstEnded t.took_is h).0 in
     let owed : eos_among (section 0 (owed_for t.respond t.calls)) ≡ true = owes_first t.respond filter t.calls t.put t.stands (sym (first_ended (items t.calls)) ∙ ended) in
-    ap (λ (r : Rule). list_ended (r took port 0)) t.rule_is ∙ ap (λ (css : List (List Call)). list_ended (single t.respond css port 0)) t.took_is
+    ap (λ (b : Behavior). list_ended (b.owes took port 0)) t.behavior_is ∙ ap (λ (css : List (List Call)). list_ended (single t.respond css port 0)) t.took_is
     ∙ (first_ended (owed_for t.respond t.calls) ∙ owed)
 
-pub first_goes_on : {K : Type 0} (bytes : K → Option (List ℕ)) (element : StreamElement K) (rule : Rule) (took : List (List Call)) → StreamStands bytes element rule took → FirstEnded took
-    → (port : ℕ) → port < pads_of element → list_ended (rule took port 0) ≡ true
-first_goes_on bytes (Filter filter) rule took t h port within = filter_first filter.filter rule took t h port
-first_goes_on bytes (Queue queue) rule took t h port within = filter_first (passing queue) rule took t h port
-first_goes_on bytes (Sink sink) rule took t h port within = absurd (omega (arith, within))
+pub first_goes_on : {K : Type 0} (bytes : K → Option (List ℕ)) (element : StreamElement K) (behavior : Behavior) (took : List (List Call)) → StreamStands bytes element behavior took → FirstEnded took
+    → (port : ℕ) → port < pads_of element → list_ended (behavior.owes took port 0) ≡ true
+first_goes_on bytes (Filter filter) behavior took t h port within = filter_first filter.filter behavior took t h port
+first_goes_on bytes (Queue queue) behavior took t h port within = filter_first (passing queue) behavior took t h port
+first_goes_on bytes (Sink sink) behavior took t h port within = absurd (omega (arith, within))
 
 -- without FLUSH_STOP all is the first section
 whole_first : (cs : List Call) → flush_stops cs ≡ 0 → section 0 (items cs) ≡ items cs
@@ -153,6 +154,6 @@ all_first : (took : List (List Call)) → InSection 0 took → AllEnded took →
 all_first [] inside ended = tt
 all_first (cs ∷ css) inside ended = (ap list_ended (whole_first cs inside.0) ∙ ended.0, all_first css inside.1 ended.1)
 
-pub whole_goes_on : {K : Type 0} (bytes : K → Option (List ℕ)) (element : StreamElement K) (rule : Rule) (took : List (List Call)) → StreamStands bytes element rule took
-    → InSection 0 took → AllEnded took → (port : ℕ) → port < pads_of element → list_ended (rule took port 0) ≡ true
-whole_goes_on bytes element rule took t inside ended = first_goes_on bytes element rule took t (all_first took inside ended)
+pub whole_goes_on : {K : Type 0} (bytes : K → Option (List ℕ)) (element : StreamElement K) (behavior : Behavior) (took : List (List Call)) → StreamStands bytes element behavior took
+    → InSection 0 took → AllEnded took → (port : ℕ) → port < pads_of element → list_ended (behavior.owes took port 0) ≡ true
+whole_goes_on bytes element behavior took t inside ended = first_goes_on bytes element behavior took t (all_first took inside ended)

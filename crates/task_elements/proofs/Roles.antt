@@ -3,7 +3,7 @@ use Rattle.std.proofs.Common.{◌≡◌, ℕ, zero, suc, Bool, List, [], ◌∷�
 use Rattle.gst_item.specs.declared.out.Out.{Out}
 use Rattle.flow_model.specs.Item.{Item}
 use Rattle.flow_model.specs.Call.{Call, Feed, feeds}
-use Rattle.flow_model.specs.Rule.{Rule}
+use Rattle.net_model.specs.Moment.{Behavior}
 use Rattle.net_model.specs.Split.{push_calls}
 use Rattle.element_traits.specs.Takes.{OwesMore, Takes}
 use Rattle.el_set.specs.declared.sink.SinkElement.{SinkElement}
@@ -18,10 +18,10 @@ record IsOne (took : List (List Call)) : Type 0 where
   calls : List Call
   is : took ≡ calls ∷ []
 
-one_list : {K : Type 0} (bytes : K → Option (List ℕ)) (element : StreamElement K) (rule : Rule) (took : List (List Call)) → StreamStands bytes element rule took → IsOne took
-one_list bytes (Filter filter) rule took t = record { calls = t.calls; is = t.took_is }
-one_list bytes (Queue queue) rule took t = record { calls = t.calls; is = t.took_is }
-one_list bytes (Sink sink) rule took t = record { calls = feeds t.list; is = t.took_is }
+one_list : {K : Type 0} (bytes : K → Option (List ℕ)) (element : StreamElement K) (behavior : Behavior) (took : List (List Call)) → StreamStands bytes element behavior took → IsOne took
+one_list bytes (Filter filter) behavior took t = record { calls = t.calls; is = t.took_is }
+one_list bytes (Queue queue) behavior took t = record { calls = t.calls; is = t.took_is }
+one_list bytes (Sink sink) behavior took t = record { calls = feeds t.list; is = t.took_is }
 
 pushed_past : (pad : ℕ) (calls more : List Call) → (pad ≡ 0 → ⊥) → push_calls pad more (calls ∷ []) ≡ calls ∷ []
 pushed_past zero calls more h = absurd (h refl)
@@ -38,12 +38,12 @@ takes_none bytes element ports pad x out h =
       more = [];
       appended = sym (append-nil out);
       within = tt;
-      stands_now = λ rule took t. subst (λ (css : List (List Call)). StreamStands bytes element rule css) (sym (same rule took t)) t;
-      owes = λ rule took t. subst (λ (css : List (List Call)). OwesMore ports rule took css []) (sym (same rule took t)) (λ cuts inside port within. none_grows 0 cuts (rule took port));
+      stands_now = λ behavior took t. subst (λ (css : List (List Call)). StreamStands bytes element behavior css) (sym (same behavior took t)) t;
+      owes = λ behavior took t. subst (λ (css : List (List Call)). OwesMore ports behavior.owes took css []) (sym (same behavior took t)) (λ cuts inside port within. none_grows 0 cuts (behavior.owes took port));
     }
   where
-    same : (rule : Rule) (took : List (List Call)) → StreamStands bytes element rule took → push_calls pad (Feed x ∷ []) took ≡ took
-    same rule took t = pushed_none pad took (Feed x ∷ []) (one_list bytes element rule took t) h
+    same : (behavior : Behavior) (took : List (List Call)) → StreamStands bytes element behavior took → push_calls pad (Feed x ∷ []) took ≡ took
+    same behavior took t = pushed_none pad took (Feed x ∷ []) (one_list bytes element behavior took t) h
 
 -- what a sink was given
 feeds_push : (list : List Item) (x : Item) → feeds (list ++ x ∷ []) ≡ feeds list ++ Feed x ∷ []
@@ -52,26 +52,26 @@ feeds_push (y ∷ list) x = ap (λ cs. Feed y ∷ cs) (feeds_push list x)
 
 pub sink_takes : {K : Type 0} (bytes : K → Option (List ℕ)) (old new : SinkElement K) (x : Item)
     → ((keep : Bool) (list : List Item) → SinkHeld bytes keep old list → SinkHeld bytes keep new (list ++ x ∷ []))
-    → (rule : Rule) (took : List (List Call)) → SinkStands bytes old rule took
-    → SinkStands bytes new rule (push_calls 0 (Feed x ∷ []) took)
-sink_takes bytes old new x held rule took t =
+    → (behavior : Behavior) (took : List (List Call)) → SinkStands bytes old behavior took
+    → SinkStands bytes new behavior (push_calls 0 (Feed x ∷ []) took)
+sink_takes bytes old new x held behavior took t =
     record {
       keep = t.keep;
       list = t.list ++ x ∷ [];
-      rule_is = t.rule_is;
+      behavior_is = t.behavior_is;
       took_is = ap (λ css. push_calls 0 (Feed x ∷ []) css) t.took_is ∙ ap (λ cs. cs ∷ []) (sym (feeds_push t.list x));
       told = held t.keep t.list t.told;
     }
 
 -- and it puts out nothing
-pub nothing_put : {E : Type 0} (r : Result (Unit {0}) E) (stood stands : Rule → List (List Call) → Type 0) (x : Item) (out : List Out)
-    → OnOk r ((rule : Rule) (took : List (List Call)) → stood rule took → stands rule (push_calls 0 (Feed x ∷ []) took)) → OnOk r (Takes stood stands 0 0 x out out)
+pub nothing_put : {E : Type 0} (r : Result (Unit {0}) E) (stood stands : Behavior → List (List Call) → Type 0) (x : Item) (out : List Out)
+    → OnOk r ((behavior : Behavior) (took : List (List Call)) → stood behavior took → stands behavior (push_calls 0 (Feed x ∷ []) took)) → OnOk r (Takes stood stands 0 0 x out out)
 nothing_put (Ok done) stood stands x out more =
     record {
       more = [];
       appended = sym (append-nil out);
       within = tt;
       stands_now = more;
-      owes = λ rule took t cuts inside port within. absurd (omega (arith, within));
+      owes = λ behavior took t cuts inside port within. absurd (omega (arith, within));
     }
 nothing_put (Err fault) stood stands x out more = tt

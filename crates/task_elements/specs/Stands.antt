@@ -1,12 +1,11 @@
--- For which rule, and for which lists at its sink pad, an element of a stream stands.
+-- For which behavior, and for which lists at its sink pad, an element of a stream stands.
 use Rattle.std.specs.Prelude.{◌≡◌, ℕ, Bool, List, [], ◌∷◌, Option, None, Some}
 use Rattle.std.specs.Option.{option_map}
 use Rattle.flow_model.specs.Item.{Item}
 use Rattle.flow_model.specs.Call.{Call, feeds}
-use Rattle.flow_model.specs.Rule.{Rule, Response, single}
-use Rattle.flow_model.specs.Feeding.{next_owed, IsFaultOf}
-use Rattle.element_traits.specs.declared.refusal.Refusal.{Refusal}
-use Rattle.element_traits.specs.declared.refusal.Refusal.TheVariants.{Fault, Unwritten}
+use Rattle.flow_model.specs.Rule.{Rule, Response, only, single, passes}
+use Rattle.flow_model.specs.Feeding.{next_owed}
+use Rattle.net_model.specs.Moment.{Answers, Behavior}
 use Rattle.el_basic.specs.declared.identity.Identity.{Identity}
 use Rattle.el_set.specs.declared.filter.FilterElement.{FilterElement}
 use Rattle.el_set.specs.declared.filter.FilterElement.TheVariants.{Identity as PassesAll}
@@ -16,12 +15,20 @@ use Rattle.el_set.specs.Holds.{SinkHeld, SinkPart, sink_file, sink_len, sink_fau
 use Rattle.task_elements.specs.declared.element.StreamElement.{StreamElement}
 use Rattle.task_elements.specs.declared.element.StreamElement.TheVariants.{Filter, Queue, Sink}
 
--- It took one list, and its rule is that of one sink pad, by which it stands for the list and for what it put out.
-pub record FilterTook (filter : FilterElement) (rule : Rule) (took : List (List Call)) : Type 0 where
+-- what an element with one sink pad answers to one item more
+abbrev pub answers_by : Response → Answers
+answers_by respond took pad x = next_owed respond (only took) x
+
+-- and what it does
+abbrev pub behaves : Response → Behavior
+behaves respond = record { owes = single respond; answers = answers_by respond }
+
+-- It took one list, and does what a response says, by which it stands for the list and for what it put out.
+pub record FilterTook (filter : FilterElement) (behavior : Behavior) (took : List (List Call)) : Type 0 where
   pub respond : Response
   pub calls : List Call
   pub put : List Item
-  pub rule_is : rule ≡ single respond
+  pub behavior_is : behavior ≡ behaves respond
   pub took_is : took ≡ calls ∷ []
   pub stands : Stands respond filter calls put
 
@@ -29,51 +36,40 @@ pub record FilterTook (filter : FilterElement) (rule : Rule) (took : List (List 
 abbrev pub owes_nothing : Rule
 owes_nothing inputs port j = []
 
+-- a sink owes nothing, and has a fault at no item
+abbrev pub takes_all : Behavior
+takes_all = record { owes = owes_nothing; answers = answers_by passes }
+
 -- It took one list, of items alone, for which it owes nothing; keep says whether a flush keeps the bytes of its file.
-pub record SinkTook (Told : Bool → List Item → Type 0) (rule : Rule) (took : List (List Call)) : Type 0 where
+pub record SinkTook (Told : Bool → List Item → Type 0) (behavior : Behavior) (took : List (List Call)) : Type 0 where
   pub keep : Bool
   pub list : List Item
-  pub rule_is : rule ≡ owes_nothing
+  pub behavior_is : behavior ≡ takes_all
   pub took_is : took ≡ feeds list ∷ []
   pub told : Told keep list
 
-abbrev pub SinkStands : {K : Type 0} → (K → Option (List ℕ)) → SinkElement K → Rule → List (List Call) → Type 0
+abbrev pub SinkStands : {K : Type 0} → (K → Option (List ℕ)) → SinkElement K → Behavior → List (List Call) → Type 0
 SinkStands bytes sink = SinkTook (λ keep list. SinkHeld bytes keep sink list)
 
 -- and then an item of which a write failed
-abbrev pub SinkFell : {K : Type 0} → (K → Option (List ℕ)) → SinkElement K → Item → Rule → List (List Call) → Type 0
+abbrev pub SinkFell : {K : Type 0} → (K → Option (List ℕ)) → SinkElement K → Item → Behavior → List (List Call) → Type 0
 SinkFell bytes sink x = SinkTook (λ keep list. SinkPart bytes keep sink list x)
 
 -- a queue is a filter that passes all
 abbrev pub passing : Identity → FilterElement
 passing queue = PassesAll queue
 
--- an element of any role stands for a rule and for what it took
-abbrev pub StreamStands : {K : Type 0} → (K → Option (List ℕ)) → StreamElement K → Rule → List (List Call) → Type 0
+-- an element of any role stands for what it does and for what it took
+abbrev pub StreamStands : {K : Type 0} → (K → Option (List ℕ)) → StreamElement K → Behavior → List (List Call) → Type 0
 StreamStands bytes (Filter filter) = FilterTook filter.filter
 StreamStands bytes (Queue queue) = FilterTook (passing queue)
 StreamStands bytes (Sink sink) = SinkStands bytes sink
 
 -- the same behind an item that it refused: a filter is as before, and of a sink a write failed
-abbrev pub StreamFell : {K : Type 0} → (K → Option (List ℕ)) → StreamElement K → Rule → List (List Call) → ℕ → Item → Type 0
-StreamFell bytes (Filter filter) rule took pad x = FilterTook filter.filter rule took
-StreamFell bytes (Queue queue) rule took pad x = FilterTook (passing queue) rule took
-StreamFell bytes (Sink sink) rule took pad x = SinkFell bytes sink x rule took
-
--- A filter refuses an item for its fault by the rule, or for want of memory.
-abbrev pub FilterRefuses : FilterElement → Rule → List (List Call) → Item → Refusal → Type 0
-FilterRefuses filter rule took x (Fault fault) = (t : FilterTook filter rule took) × IsFaultOf (next_owed t.respond t.calls x) fault
-FilterRefuses filter rule took x (Unwritten before after) = ⊥
-
--- A sink refuses an item only where a write failed.
-abbrev pub SinkRefuses : Refusal → Type 0
-SinkRefuses (Fault fault) = ⊥
-SinkRefuses (Unwritten before after) = Unit {0}
-
-abbrev pub StreamRefuses : {K : Type 0} → StreamElement K → Rule → List (List Call) → ℕ → Item → Refusal → Type 0
-StreamRefuses (Filter filter) rule took pad x refusal = FilterRefuses filter.filter rule took x refusal
-StreamRefuses (Queue queue) rule took pad x refusal = FilterRefuses (passing queue) rule took x refusal
-StreamRefuses (Sink sink) rule took pad x refusal = SinkRefuses refusal
+abbrev pub StreamFell : {K : Type 0} → (K → Option (List ℕ)) → StreamElement K → Behavior → List (List Call) → ℕ → Item → Type 0
+StreamFell bytes (Filter filter) behavior took pad x = FilterTook filter.filter behavior took
+StreamFell bytes (Queue queue) behavior took pad x = FilterTook (passing queue) behavior took
+StreamFell bytes (Sink sink) behavior took pad x = SinkFell bytes sink x behavior took
 
 -- how many source pads there are
 abbrev pub pads_of : {K : Type 0} → StreamElement K → ℕ

@@ -2,13 +2,14 @@
 ghost use Rattle.std.specs.Prelude.{◌≡◌, ◌∷◌, [], ℕ, false, List, Some, None, option_map, IfErr, OnOk, OnErr};
 ghost use Rattle.flow_model.specs.Item.{is_flush_stop};
 ghost use Rattle.flow_model.specs.Call.{Call, Feed};
-ghost use Rattle.flow_model.specs.Rule.{Rule};
+ghost use Rattle.net_model.specs.Moment.{Behavior};
 ghost use Rattle.net_model.specs.Split.{push_calls};
 ghost use Rattle.element_traits.specs.Takes.{Takes};
+ghost use Rattle.element_traits.specs.Refuses.{RefusesBy};
 ghost use Rattle.element_traits.specs.Failures.{NeverFalls, IsWriteCause};
 ghost use Rattle.element_traits.specs.declared.refusal.Refusal.TheVariants.{Unwritten};
 ghost use Rattle.el_set.specs.Holds.{sink_file, sink_faults};
-ghost use Rattle.task_elements.specs.Stands.{FilterTook, FilterRefuses, passing, SinkStands, SinkFell, SinkRefuses};
+ghost use Rattle.task_elements.specs.Stands.{FilterTook, passing, SinkStands, SinkFell};
 
 use crate::filter::StreamFilter;
 use el_basic::Identity;
@@ -29,13 +30,11 @@ pub enum StreamElement<K> {
 }
 
 impl<K: Sink> TaskElement for StreamElement<K> {
-    ghost use Rattle.task_elements.specs.Stands.{StreamStands, StreamFell, StreamRefuses, pads_of, location_in, faults_in};
+    ghost use Rattle.task_elements.specs.Stands.{StreamStands, StreamFell, pads_of, location_in, faults_in};
 
     ghost stands = { StreamStands K.bytes };
 
     ghost fell = { StreamFell K.bytes };
-
-    ghost refuses = { StreamRefuses };
 
     ghost ports = { pads_of };
 
@@ -99,10 +98,10 @@ impl<K: Sink> StreamElement<K> {
 fn pass(queue: &mut Identity, alloc: Global, item: Item, out: &mut Outs) -> Result<(), Refusal>
     requires no_flush { is_flush_stop item ≡ false }
     ensures took { OnOk result (Takes (FilterTook (passing queue.old)) (FilterTook (passing queue.new)) 1 0 item out.old out.new) }
-    ensures stays { OnErr result ((rule : Rule) (took : List (List Call)) → FilterTook (passing queue.old) rule took
-        → FilterTook (passing queue.new) rule took) }
-    ensures refused { IfErr result (λ refusal. (rule : Rule) (took : List (List Call)) → FilterTook (passing queue.old) rule took
-        → FilterRefuses (passing queue.old) rule took item refusal) }
+    ensures stays { OnErr result ((behavior : Behavior) (took : List (List Call)) → FilterTook (passing queue.old) behavior took
+        → FilterTook (passing queue.new) behavior took) }
+    ensures refused { IfErr result (λ refusal. (behavior : Behavior) (took : List (List Call)) → FilterTook (passing queue.old) behavior took
+        → RefusesBy behavior took 0 item refusal) }
     ensures cause { IfErr result (IsWriteCause None None) }
     ensures out { OnErr result (out.new ≡ out.old) }
 {
@@ -114,11 +113,12 @@ fn pass(queue: &mut Identity, alloc: Global, item: Item, out: &mut Outs) -> Resu
 
 /// A sink takes an item. Where a write fails, its file holds a beginning of the item's bytes behind what it took.
 fn render<K: Sink>(sink: &mut SinkElement<K>, item: &Item) -> Result<(), Refusal>
-    ensures took { OnOk result ((rule : Rule) (took : List (List Call)) → SinkStands K.bytes sink.old rule took
-        → SinkStands K.bytes sink.new rule (push_calls 0 (Feed item.now ∷ []) took)) }
-    ensures fell { OnErr result ((rule : Rule) (took : List (List Call)) → SinkStands K.bytes sink.old rule took
-        → SinkFell K.bytes sink.new item.now rule took) }
-    ensures unwritten { IfErr result SinkRefuses }
+    ensures took { OnOk result ((behavior : Behavior) (took : List (List Call)) → SinkStands K.bytes sink.old behavior took
+        → SinkStands K.bytes sink.new behavior (push_calls 0 (Feed item.now ∷ []) took)) }
+    ensures fell { OnErr result ((behavior : Behavior) (took : List (List Call)) → SinkStands K.bytes sink.old behavior took
+        → SinkFell K.bytes sink.new item.now behavior took) }
+    ensures refused { IfErr result (λ refusal. (behavior : Behavior) (took : List (List Call)) → SinkStands K.bytes sink.old behavior took
+        → RefusesBy behavior took 0 item.now refusal) }
     ensures cause { IfErr result (IsWriteCause (sink_faults K.faults sink.old) (sink_faults K.faults sink.new)) }
     ensures never_falls { NeverFalls (sink_faults K.faults sink.old) (sink_faults K.faults sink.new) }
     ensures location_stays { option_map K.location (sink_file sink.new) ≡ option_map K.location (sink_file sink.old) }

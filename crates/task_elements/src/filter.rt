@@ -18,10 +18,11 @@ pub struct StreamFilter {
 
 impl StreamFilter {
     ghost use Rattle.flow_model.specs.Call.{Call};
-    ghost use Rattle.flow_model.specs.Rule.{Rule};
+    ghost use Rattle.net_model.specs.Moment.{Behavior};
     ghost use Rattle.element_traits.specs.Takes.{Takes};
+    ghost use Rattle.element_traits.specs.Refuses.{RefusesBy};
     ghost use Rattle.element_traits.specs.Failures.{IsWriteCause};
-    ghost use Rattle.task_elements.specs.Stands.{FilterTook, FilterRefuses};
+    ghost use Rattle.task_elements.specs.Stands.{FilterTook};
 
     /// A filter that stands for a rule, for what it was given and for what it put out.
     pub fn new(filter: FilterElement) -> StreamFilter
@@ -35,10 +36,10 @@ impl StreamFilter {
     pub(crate) fn feed(&mut self, alloc: Global, item: Item, out: &mut Outs) -> Result<(), Refusal>
         requires no_flush { is_flush_stop item ≡ false }
         ensures took { OnOk result (Takes (FilterTook self.old.filter) (FilterTook self.new.filter) 1 0 item out.old out.new) }
-        ensures stays { OnErr result ((rule : Rule) (took : List (List Call)) → FilterTook self.old.filter rule took
-            → FilterTook self.new.filter rule took) }
-        ensures refused { IfErr result (λ refusal. (rule : Rule) (took : List (List Call)) → FilterTook self.old.filter rule took
-            → FilterRefuses self.old.filter rule took item refusal) }
+        ensures stays { OnErr result ((behavior : Behavior) (took : List (List Call)) → FilterTook self.old.filter behavior took
+            → FilterTook self.new.filter behavior took) }
+        ensures refused { IfErr result (λ refusal. (behavior : Behavior) (took : List (List Call)) → FilterTook self.old.filter behavior took
+            → RefusesBy behavior took 0 item refusal) }
         ensures cause { IfErr result (IsWriteCause None None) }
         ensures out { OnErr result (out.new ≡ out.old) }
     {

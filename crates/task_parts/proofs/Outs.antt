@@ -6,7 +6,7 @@ use Rattle.std.proofs.lemmas.Bool.Decides.{eqb_tells}
 use Rattle.gst_item.specs.declared.out.Out.{Out}
 use Rattle.flow_model.specs.Item.{Item, is_flush_stop}
 use Rattle.flow_model.specs.Call.{Call}
-use Rattle.flow_model.specs.Rule.{Rule}
+use Rattle.net_model.specs.Moment.{Behavior}
 use Rattle.element_traits.specs.declared.refusal.Refusal.{Refusal}
 use Rattle.element_traits.specs.Takes.{AreWithin, Takes, on_port}
 use Rattle.task_pads.specs.declared.pad.Pad.{Pad}
@@ -116,7 +116,7 @@ fill_all {O = O} (q ∷ []) p p' out out' one at filled stays = λ port pad here
     go (suc k) pad here idle w e = absurd cc
 fill_all (q ∷ r ∷ s) p p' out out' one at filled stays = absurd (omega (arith, one))
 
-pub eaten : (r : Result (Unit {0}) Refusal) (stood stands : Rule → List (List Call) → Type 0) (n n' pad : ℕ) (item : Item) (outs outs' : List Out) → OnOk r (Takes stood stands n pad item outs outs') → OnErr r (outs' ≡ outs) → n' ≡ n
+pub eaten : (r : Result (Unit {0}) Refusal) (stood stands : Behavior → List (List Call) → Type 0) (n n' pad : ℕ) (item : Item) (outs outs' : List Out) → OnOk r (Takes stood stands n pad item outs outs') → OnErr r (outs' ≡ outs) → n' ≡ n
     → are_within n outs ≡ true → are_within n' outs' ≡ true
 eaten (Ok u) stood stands n n' pad item outs outs' t o p w = subst (λ (k : ℕ). are_within k outs' ≡ true) (sym p) (within_append n outs t.more outs' t.appended w t.within)
 eaten (Err x) stood stands n n' pad item outs outs' t o p w = subst (λ (k : ℕ). are_within k outs' ≡ true) (sym p) (subst (λ (os : List Out). are_within n os ≡ true) (sym o) w)

@@ -49,7 +49,7 @@ module _ {E O : Type 0} {e : elements.Ghosts E} where
   fed_of old mid new pad item number pads took falls file s = record {
     number = s.number ∙ number;
     more = took.more;
-    stands_now = λ rule t st. subst (λ (x : E). e.stands x rule (push_calls pad (Feed item ∷ []) t)) (sym s.element) (took.stands_now rule t st);
+    stands_now = λ behavior t st. subst (λ (x : E). e.stands x behavior (push_calls pad (Feed item ∷ []) t)) (sym s.element) (took.stands_now behavior t st);
     owes = took.owes;
     pads = λ port p at.
         let z = s.pads port p at in

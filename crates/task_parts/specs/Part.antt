@@ -3,13 +3,14 @@ use Rattle.std.specs.Prelude.{◌≡◌, ◌+◌, ℕ, List, [], ◌∷◌, ◌+
 use Rattle.gst_item.specs.declared.out.Out.{Out}
 use Rattle.flow_model.specs.Item.{Item}
 use Rattle.flow_model.specs.Call.{Call, Feed}
-use Rattle.flow_model.specs.Rule.{Rule}
 use Rattle.lane_core.specs.Lane.{Lane}
 use Rattle.lane_core.specs.declared.ends.Outlet as outlets
+use Rattle.net_model.specs.Moment.{Behavior}
 use Rattle.net_model.specs.Split.{push_calls}
 use Rattle.element_traits.specs.declared.element.TaskElement as elements
 use Rattle.element_traits.specs.declared.refusal.Refusal.{Refusal}
 use Rattle.element_traits.specs.Failures.{IsWriteCause, NeverFalls}
+use Rattle.element_traits.specs.Refuses.{RefusesBy}
 use Rattle.element_traits.specs.Takes.{OwesMore, on_port}
 use Rattle.task_pads.specs.declared.pad.Pad.{Pad}
 use Rattle.task_pads.specs.declared.crossing.Crossing.{Crossing}
@@ -50,8 +51,10 @@ module _ {E O : Type 0} {e : elements.Ghosts E} where
   pub record PartFed (old new : Part E O e) (pad : ℕ) (item : Item) : Type 0 where
     pub number : new.number ≡ old.number
     pub more : List Out
-    pub stands_now : (rule : Rule) (took : List (List Call)) → e.stands old.element rule took → e.stands new.element rule (push_calls pad (Feed item ∷ []) took)
-    pub owes : (rule : Rule) (took : List (List Call)) → e.stands old.element rule took → OwesMore (e.ports old.element) rule took (push_calls pad (Feed item ∷ []) took) more
+    pub stands_now : (behavior : Behavior) (took : List (List Call)) → e.stands old.element behavior took
+        → e.stands new.element behavior (push_calls pad (Feed item ∷ []) took)
+    pub owes : (behavior : Behavior) (took : List (List Call)) → e.stands old.element behavior took
+        → OwesMore (e.ports old.element) behavior.owes took (push_calls pad (Feed item ∷ []) took) more
     pub pads : PadsGrew old new more
     pub never_falls : NeverFalls (e.failures old.element) (e.failures new.element)
     pub file : e.file new.element ≡ e.file old.element
@@ -61,8 +64,8 @@ module _ {E O : Type 0} {e : elements.Ghosts E} where
     pub number : new.number ≡ old.number
     pub pads : new.pads ≡ old.pads
     pub out : new.out ≡ old.out
-    pub fell : (rule : Rule) (took : List (List Call)) → e.stands old.element rule took → e.fell new.element rule took pad item
-    pub refused : (rule : Rule) (took : List (List Call)) → e.stands old.element rule took → e.refuses old.element rule took pad item refusal
+    pub fell : (behavior : Behavior) (took : List (List Call)) → e.stands old.element behavior took → e.fell new.element behavior took pad item
+    pub refused : (behavior : Behavior) (took : List (List Call)) → e.stands old.element behavior took → RefusesBy behavior took pad item refusal
     pub cause : IsWriteCause (e.failures old.element) (e.failures new.element) refusal
     pub never_falls : NeverFalls (e.failures old.element) (e.failures new.element)
     pub file : e.file new.element ≡ e.file old.element

@@ -104,6 +104,46 @@ impl<S: TaskSource, O: Outlet> SourceHead<S, O> {
             Err(unread) => Err(unread),
         }
     }
+
+    /// The number of the source in the graph.
+    pub fn number(&self) -> u32
+        ensures { result ≡ self.now.number }
+    {
+        self.number
+    }
+
+    /// The source itself.
+    pub fn source(&self) -> &S
+        ensures { result.now ≡ self.now.source }
+    {
+        &self.source
+    }
+
+    /// Its source pad.
+    pub fn pad(&self) -> &Pad<O>
+        ensures { result.now ≡ self.now.pad }
+    {
+        &self.pad
+    }
+
+    /// The source. What waited at its pad is given up.
+    pub fn into_source(self) -> S
+        ensures { result ≡ self.source }
+    {
+        let SourceHead { source, .. } = self;
+        source
+    }
+}
+
+impl<I> InletHead<I> {
+    /// What feeds the element of this number, by its sink pads; it is looked for first at the place `hint`.
+    pub fn new(number: u32, hint: usize, rows: Vec<InletRow<I>>) -> InletHead<I>
+        ensures number { result.number ≡ number }
+        ensures hint { result.hint ≡ hint }
+        ensures rows { result.rows ≡ rows }
+    {
+        InletHead { number, hint, rows }
+    }
 }
 
 /// Whether an item is FLUSH_STOP.

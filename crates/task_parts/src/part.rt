@@ -2,8 +2,9 @@
 ghost use Rattle.std.specs.Prelude.{◌≡◌, true, false, List, vec_len, IfErr, OnOk, OnErr};
 ghost use Rattle.flow_model.specs.Call.{Call};
 ghost use Rattle.flow_model.specs.Item.{is_flush_stop};
-ghost use Rattle.flow_model.specs.Rule.{Rule};
+ghost use Rattle.net_model.specs.Moment.{Behavior};
 ghost use Rattle.element_traits.specs.Failures.{NeverFalls, IsWriteCause};
+ghost use Rattle.element_traits.specs.Refuses.{RefusesBy};
 ghost use Rattle.element_traits.specs.Takes.{Takes};
 ghost use Rattle.task_parts.specs.Gathered.{are_within};
 
@@ -165,9 +166,10 @@ fn eat<E: TaskElement>(
     requires within { are_within (E.ports element.old) out.old ≡ true }
     requires no_flush { is_flush_stop item ≡ false }
     ensures took { OnOk result (Takes (E.stands element.old) (E.stands element.new) (E.ports element.old) pad item out.old out.new) }
-    ensures fell { OnErr result ((rule : Rule) (took : List (List Call)) → E.stands element.old rule took → E.fell element.new rule took pad item) }
-    ensures refused { IfErr result (λ refusal. (rule : Rule) (took : List (List Call)) → E.stands element.old rule took
-        → E.refuses element.old rule took pad item refusal) }
+    ensures fell { OnErr result ((behavior : Behavior) (took : List (List Call)) → E.stands element.old behavior took
+        → E.fell element.new behavior took pad item) }
+    ensures refused { IfErr result (λ refusal. (behavior : Behavior) (took : List (List Call)) → E.stands element.old behavior took
+        → RefusesBy behavior took pad item refusal) }
     ensures out { OnErr result (out.new ≡ out.old) }
     ensures cause { IfErr result (IsWriteCause (E.failures element.old) (E.failures element.new)) }
     ensures never_falls { NeverFalls (E.failures element.old) (E.failures element.new) }

@@ -12,7 +12,7 @@ pub returns-in-Filter-clause-fell : goal.returns-in-Filter-clause-fell
 returns-in-Filter-clause-fell g c = rw c.in-Filter.is c.feed.ensures.stays
 
 pub returns-in-Filter-clause-refused : goal.returns-in-Filter-clause-refused
-returns-in-Filter-clause-refused g c = rw c.in-Filter.is c.feed.ensures.refused
+returns-in-Filter-clause-refused g c = rw (c.in-Filter.is, c.if-pad-ne0.false) c.feed.ensures.refused
 
 pub returns-in-Queue-clause-took : goal.returns-in-Queue-clause-took
 returns-in-Queue-clause-took g c = rw (c.in-Queue.is, c.if-pad-ne0.false) c.pass.ensures.took
@@ -21,7 +21,7 @@ pub returns-in-Queue-clause-fell : goal.returns-in-Queue-clause-fell
 returns-in-Queue-clause-fell g c = rw c.in-Queue.is c.pass.ensures.stays
 
 pub returns-in-Queue-clause-refused : goal.returns-in-Queue-clause-refused
-returns-in-Queue-clause-refused g c = rw c.in-Queue.is c.pass.ensures.refused
+returns-in-Queue-clause-refused g c = rw (c.in-Queue.is, c.if-pad-ne0.false) c.pass.ensures.refused
 
 pub returns-in-Sink-clause-took : goal.returns-in-Sink-clause-took
 returns-in-Sink-clause-took g c =
@@ -30,3 +30,6 @@ returns-in-Sink-clause-took g c =
 
 pub returns-in-Sink-clause-fell : goal.returns-in-Sink-clause-fell
 returns-in-Sink-clause-fell g c = rw c.in-Sink.is c.render.ensures.fell
+
+pub returns-in-Sink-clause-refused : goal.returns-in-Sink-clause-refused
+returns-in-Sink-clause-refused g c = rw (c.in-Sink.is, c.if-pad-ne0.false) c.render.ensures.refused
