@@ -13,7 +13,7 @@ use Rattle.graph_core.specs.Elements.{Made}
 use Rattle.graph_core.specs.Links.{HasPads, is_same, sink_behind, source_before}
 use Rattle.graph_core.specs.declared.pad.PadLink.{PadLink}
 use Rattle.graph_core.specs.declared.pad.PadPlace.{PadPlace}
-use Rattle.graph_ways.specs.Once.{AreOnce}
+use Rattle.graph_model.specs.Once.{AreOnce}
 use Rattle.graph_bags.specs.declared.bag.BagLink.{BagLink}
 use Rattle.graph_bags.specs.declared.bag.BagLink.TheVariants.{Nothing, Element, Lane}
 use Rattle.graph_bags.specs.Links.{has, has_inlets, is_head, source_count, place_at, link_to, pad_at, pads_of, led_to, inside, LeadsInside, Reaches}

@@ -2,3 +2,11 @@ pub mod ByKind
 pub mod Slots
 pub mod BlanksLeft
 pub mod Filling
+pub mod Locating
+pub mod Opened
+pub mod Writers
+pub mod Putting
+pub mod Counting
+pub mod Giving
+pub mod Laws
+pub mod SourceLaws

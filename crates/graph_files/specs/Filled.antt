@@ -16,7 +16,7 @@ use Rattle.task_elements.specs.declared.source.StreamSource.{StreamSource}
 use Rattle.graph_files.specs.Ends.{at, left_by, sink_end, source_end}
 
 module _ {K : Type 0} (k : sinks.Ghosts K) where
-  -- an element with a sink pad: it has the rule of its settings, took nothing yet, and writes the file, which is empty; and
+  -- an element with a sink pad: it does what its settings say, took nothing yet, and writes the file, which is empty; and
   -- its source pads are those of its settings
   abbrev pub IsMadeFor : Settings → Option K → Option (StreamElement K) → Type 0
   IsMadeFor settings file None = makes_element settings file ≡ false

@@ -9,7 +9,7 @@ use Rattle.el_set.specs.declared.settings.Settings.TheVariants.{Queue}
 use Rattle.graph_core.specs.Elements.{Made}
 use Rattle.graph_core.specs.Links.{source_before}
 use Rattle.graph_core.specs.declared.pad.PadLink.{PadLink}
-use Rattle.graph_ways.specs.Ways.{first_pad}
+use Rattle.graph_model.specs.Asked.{first_pad}
 use Rattle.lane_core.specs.Lane.{Lane, lane_of}
 use Rattle.lane_core.specs.Room.{Limits}
 

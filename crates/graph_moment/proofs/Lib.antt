@@ -4,4 +4,5 @@ pub mod Leading
 pub mod Lists
 pub mod Endings
 pub mod Rules
+pub mod Behaviors
 pub mod Wholes

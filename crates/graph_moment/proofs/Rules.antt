@@ -29,9 +29,9 @@ use Rattle.graph_core.specs.Links.{source_before}
 use Rattle.graph_core.specs.declared.graph.Graph.{Graph}
 use Rattle.graph_core.specs.declared.pad.PadLink.{PadLink}
 use Rattle.graph_core.specs.declared.pad.PadPlace.{PadPlace}
-use Rattle.line_model.specs.LineGraph.{spans_from, sink_at, sinks_in, line_plan}
+use Rattle.graph_model.specs.GraphPlan.{spans_from, sink_at, sinks_in, line_plan}
 use Rattle.graph_moment.specs.Pads.{pad_owner}
-use Rattle.graph_moment.specs.Plans.{moment_plan, tight_rule}
+use Rattle.graph_moment.specs.Plans.{moment_plan, moment_answers, tight_rule}
 use Rattle.graph_moment.specs.Laws.{MomentStarts, MomentStands, RulesGoOn, SourcesWait, given_by, SectionsAreOne, SectionsArePlain, OwesNoneBehind, OwesPlain}
 use Rattle.graph_moment.proofs.Lists.{plain_list}
 use Rattle.graph_moment.proofs.Endings.{response_ending}
@@ -49,7 +49,7 @@ unfolding line_plan
 moment_starts contents graph = record { uncut = λ p. refl; links = λ e. all_untouched (links_in graph) e _ }
 
 pub moment_stands : MomentStands
-moment_stands contents graph e = opening_stands (moment_plan contents graph) (moment_starts contents graph) e
+moment_stands contents graph e = opening_stands (moment_plan contents graph) (moment_answers graph) (moment_starts contents graph) e
 
 -- A rule of the plan: that of an element without source pads, a list of its own, or that of one sink pad.
 data IsOneOf (rule : Rule) : Type 0 where

@@ -16,9 +16,9 @@ use Rattle.graph_core.specs.declared.graph.Graph.{Graph}
 use Rattle.graph_core.specs.declared.pad.PadLink.{PadLink}
 use Rattle.graph_core.specs.declared.pad.PadPlace.{PadPlace}
 use Rattle.graph_order.proofs.Once.{within}
-use Rattle.line_model.specs.LineGraph.{pad_id, owner_of, spans_from, sink_at, sink_count, graph_plan, line_plan, rule_for}
-use Rattle.line_model.proofs.Lines.{owner_at, found_in, goes_forward}
-use Rattle.line_model.proofs.Graphs.{pads_at_link, one_source, graph_goes, order_size, order_covers, listed, member}
+use Rattle.graph_model.specs.GraphPlan.{pad_id, owner_of, spans_from, sink_at, sink_count, graph_plan, line_plan, rule_for}
+use Rattle.graph_model.proofs.Links.{owner_at, found_in, goes_forward}
+use Rattle.graph_model.proofs.Orders.{pads_at_link, one_source, graph_goes, order_size, order_covers, listed, member}
 use Rattle.graph_moment.specs.Pads.{source_count, IsThere, is_pad, pad_owner}
 use Rattle.graph_moment.specs.Plans.{moment_plan, tight_plan, tight_rule}
 use Rattle.graph_moment.proofs.Owners.{FromPads, RulesAlike, goes_owned}

@@ -7,22 +7,23 @@ use Rattle.flow_model.specs.Chain.{IsPlain}
 use Rattle.flow_model.specs.Eval.{Plan, inputs, eval, eval_whole}
 use Rattle.flow_model.specs.Account.{GoesForward, IsMember}
 use Rattle.pad_core.specs.Crossing.{has_ended}
-use Rattle.net_model.specs.Moment.{Moment, CellStands}
+use Rattle.net_model.specs.Moment.{Moment, CellStands, behavior_at}
 use Rattle.net_model.specs.Split.{AreEmpty}
 use Rattle.net_model.specs.Step.{Leads, LeadsNowhere}
 use Rattle.net_model.specs.Opening.{AtStart, opening}
 use Rattle.net_model.specs.Whole.{OwesInOrder, CellBegins}
 use Rattle.el_set.specs.Asked.{sink_pads}
 use Rattle.el_set.specs.Made.{list_of}
+use Rattle.task_elements.specs.Made.{behavior_of}
 use Rattle.graph_core.specs.Elements.{Made}
 use Rattle.graph_core.specs.Graph.{IsSound, made as made_in, links as links_in, forward as forward_in}
 use Rattle.graph_core.specs.Links.{sink_behind}
 use Rattle.graph_core.specs.declared.graph.Graph.{Graph}
 use Rattle.graph_core.specs.declared.pad.PadPlace.{PadPlace}
-use Rattle.graph_ways.specs.Once.{AreOnce}
-use Rattle.line_model.specs.LineGraph.{graph_plan, most_pads, owner_of, pad_id}
+use Rattle.graph_model.specs.Once.{AreOnce}
+use Rattle.graph_model.specs.GraphPlan.{graph_plan, most_pads, owner_of, pad_id}
 use Rattle.graph_moment.specs.Pads.{IsThere, is_pad, pad_owner, at_pads}
-use Rattle.graph_moment.specs.Plans.{tight_plan, moment_plan}
+use Rattle.graph_moment.specs.Plans.{tight_plan, moment_plan, moment_answers}
 
 -- the place of a source pad by its number
 abbrev pub place_of : ℕ → PadPlace
@@ -59,7 +60,12 @@ MomentStarts = (contents : ℕ → List ℕ) (graph : Graph) → AtStart (moment
 
 -- so every element stands when its run begins
 abbrev pub MomentStands : Type 0
-MomentStands = (contents : ℕ → List ℕ) (graph : Graph) (e : ℕ) → CellStands (opening (moment_plan contents graph)) e
+MomentStands = (contents : ℕ → List ℕ) (graph : Graph) (e : ℕ) → CellStands (opening (moment_plan contents graph) (moment_answers graph)) e
+
+-- There an element that has sink pads does what its settings say.
+abbrev pub BehaviorsAreTold : Type 0
+BehaviorsAreTold = (contents : ℕ → List ℕ) (graph : Graph) (e : ℕ) (m : Made) → slice_get (made_in graph) e ≡ Some m → (sink_pads m.settings == 0) ≡ false
+    → behavior_of m.settings ≡ behavior_at (opening (moment_plan contents graph) (moment_answers graph)) e
 
 -- each link comes from an element that stands earlier in the order
 abbrev pub MomentGoes : Type 0
@@ -96,7 +102,8 @@ given_by (Some m) e content = if sink_pads m.settings == 0 then list_of m.settin
 -- At the start what a source is to give waits at its pad, and at each other pad nothing.
 abbrev pub SourcesWait : Type 0
 SourcesWait = (contents : ℕ → List ℕ) (graph : Graph) (p : ℕ)
-    → let e = pad_owner (made_in graph) p in (opening (moment_plan contents graph)).waits p ≡ given_by (slice_get (made_in graph) e) e (contents e)
+    → let e = pad_owner (made_in graph) p in
+    (opening (moment_plan contents graph) (moment_answers graph)).waits p ≡ given_by (slice_get (made_in graph) e) e (contents e)
 
 -- No section of what an element owes has a FLUSH_STOP.
 abbrev pub SectionsAreOne : Type 0

@@ -1,13 +1,15 @@
 -- The plan of a graph for the moments of its run.
 use Rattle.std.specs.Prelude.{◌==◌, ℕ, List, Option, None, Some, if◌then◌else◌, slice_get}
-use Rattle.flow_model.specs.Rule.{Rule}
+use Rattle.flow_model.specs.Rule.{Rule, passes}
 use Rattle.flow_model.specs.Eval.{Plan}
+use Rattle.net_model.specs.Moment.{Answers}
 use Rattle.el_set.specs.Asked.{source_pads}
-use Rattle.task_elements.specs.Stands.{owes_nothing}
+use Rattle.el_set.specs.Denoted.{response_of}
+use Rattle.task_elements.specs.Stands.{owes_nothing, answers_by}
 use Rattle.graph_core.specs.Elements.{Made}
 use Rattle.graph_core.specs.Graph.{made as made_in}
 use Rattle.graph_core.specs.declared.graph.Graph.{Graph}
-use Rattle.line_model.specs.LineGraph.{graph_plan, rule_for}
+use Rattle.graph_model.specs.GraphPlan.{graph_plan, rule_for}
 use Rattle.graph_moment.specs.Pads.{pad_owner}
 
 -- What an element owes at its source pads, by its settings. One that has none owes nothing.
@@ -27,3 +29,11 @@ tight_plan contents graph count =
 -- the same for moments, which look at no counts
 abbrev pub moment_plan : (ℕ → List ℕ) → Graph → Plan
 moment_plan contents graph = tight_plan contents graph (λ q. 0)
+
+-- what an element answers to one item more, by its settings; where there is none, as one that passes all
+abbrev pub answers_for : Option Made → Answers
+answers_for None = answers_by passes
+answers_for (Some m) = answers_by (response_of m.settings)
+
+abbrev pub moment_answers : Graph → ℕ → Answers
+moment_answers graph e = answers_for (slice_get (made_in graph) e)

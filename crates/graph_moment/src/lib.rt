@@ -7,7 +7,7 @@
 #![tactic(auto)]
 
 ghost use Rattle.graph_moment.specs.Laws.{PadsHaveNumbers, NumbersHavePads, TightIsAlike};
-ghost use Rattle.graph_moment.specs.Laws.{MomentStarts, MomentStands, SourcesWait, MomentGoes, OrdersAreWhole};
+ghost use Rattle.graph_moment.specs.Laws.{MomentStarts, MomentStands, SourcesWait, BehaviorsAreTold, MomentGoes, OrdersAreWhole};
 ghost use Rattle.graph_moment.specs.Laws.{LinksLead, UnlinkedLead, RulesGoOn, SectionsAreOne, SectionsArePlain, OwesNoneBehind, OwesPlain, MomentIsGraph, EndIsGraph};
 
 /// Each source pad of a graph has a number of its own, and each number that belongs to an element is that of a pad.
@@ -27,6 +27,12 @@ pub fn runs_begin()
     ensures untouched { MomentStarts }
     ensures standing { MomentStands }
     ensures waiting { SourcesWait }
+{}
+
+/// At a moment an element that has sink pads does what its settings say: it owes by their rule, and answers to one item more
+/// by their response. So the moment of a run tells the fault of an element at an item.
+pub fn behaviors_are_told()
+    ensures { BehaviorsAreTold }
 {}
 
 /// The order of a graph has each of its elements, and in it each link of a moment's plan goes forward.

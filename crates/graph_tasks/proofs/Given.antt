@@ -10,11 +10,13 @@ use Rattle.element_traits.specs.declared.element.TaskElement as elements
 use Rattle.element_traits.specs.declared.source.TaskSource as sources
 use Rattle.graph_core.specs.Graph.{IsSound, made as made_in, links as links_in}
 use Rattle.graph_core.specs.declared.graph.Graph.{Graph}
-use Rattle.graph_ways.specs.Once.{AreOnce}
+use Rattle.graph_model.specs.Once.{AreOnce}
 use Rattle.graph_bags.specs.Bags.{AreBags, IsBag, numbers}
 use Rattle.graph_bags.specs.declared.bag.Bag.{Bag}
+use Rattle.graph_bags.specs.Links.{source_count}
 use Rattle.graph_bags.specs.declared.bag.BagElement.{BagElement}
 use Rattle.graph_bags.proofs.Apart.{bags_are_apart, bags_are_there}
+use Rattle.task_pads.specs.declared.pad.Pad.{Pad}
 use Rattle.task_parts.specs.declared.part.Part.{Part}
 use Rattle.net_task.specs.declared.task.Task.{Task}
 use Rattle.graph_tasks.specs.Tasks.{AreTasks, IsPartOf, IsTaskOf}
@@ -22,11 +24,15 @@ use Rattle.graph_tasks.specs.Start.{ElementsStand, SourcesStand}
 use Rattle.graph_tasks.proofs.Lists.{all_at, got_within}
 
 module _ {S E I O L : Type 0} {s : sources.Ghosts S} {e : elements.Ghosts E} (i : inlets.Ghosts I L O) (o : outlets.Ghosts O L) where
-  pub record IsKnown (contents : ℕ → List ℕ) (graph : Graph) (bags : List Bag) (ends : List (Option E)) (files : List (Option S)) (tasks : List (Task S E I O L s e i o)) (table : List Lane) : Type 0 where
+  pub record IsKnown (graph : Graph) (bags : List Bag) (ends : List (Option E)) (files : List (Option S)) (tasks : List (Task S E I O L s e i o)) (table : List Lane) : Type 0 where
     pub sound : IsSound graph
     pub once : AreOnce (links_in graph)
     pub are : AreBags (made_in graph) (links_in graph) bags
     pub made_of : AreTasks i o (made_in graph) (links_in graph) ends files bags tasks table
+
+  -- and where the run begins their elements stand for nothing taken, and their sources for nothing given
+  pub record IsBegun (contents : ℕ → List ℕ) (graph : Graph) (bags : List Bag) (ends : List (Option E)) (files : List (Option S)) (tasks : List (Task S E I O L s e i o)) (table : List Lane) : Type 0 where
+    pub known : IsKnown graph bags ends files tasks table
     pub stood : ElementsStand e contents graph ends
     pub gave : SourcesStand s contents graph files
 
@@ -45,8 +51,8 @@ module _ {E O L : Type 0} {e : elements.Ghosts E} (o : outlets.Ghosts O L) where
     pub of : IsPartOf o (made_in graph) (links_in graph) ends cell part
 
 module _ {S E I O L : Type 0} {s : sources.Ghosts S} {e : elements.Ghosts E} {i : inlets.Ghosts I L O} {o : outlets.Ghosts O L}
-    {contents : ℕ → List ℕ} {graph : Graph} {bags : List Bag} {ends : List (Option E)} {files : List (Option S)} {tasks : List (Task S E I O L s e i o)} {table : List Lane}
-    (g : IsKnown i o contents graph bags ends files tasks table) where
+    {graph : Graph} {bags : List Bag} {ends : List (Option E)} {files : List (Option S)} {tasks : List (Task S E I O L s e i o)} {table : List Lane}
+    (g : IsKnown i o graph bags ends files tasks table) where
   pub placed : (k : ℕ) (task : Task S E I O L s e i o) → slice_get tasks k ≡ Some task → IsPlaced i o graph bags ends files k task
   placed k task at =
       let count = g.made_of.count in
@@ -71,3 +77,11 @@ module _ {S E I O L : Type 0} {s : sources.Ghosts S} {e : elements.Ghosts E} {i 
       let w = slice_get_within task.parts.items j part at in
       let c = got_within p.bag.elements.items j (omega (arith, w, count)) in
       record { cell = c.0; at = c.1; of = p.of.parts j c.0 part c.1 at }
+
+  -- each pad of an element
+  pub pad_there : (cell : BagElement) (part : Part E O e) → IsPartOf o (made_in graph) (links_in graph) ends cell part → (port : ℕ) (pad : Pad O) → slice_get part.pads.items port ≡ Some pad
+      → port < source_count (made_in graph) cell.element
+  pad_there cell part is port pad at =
+      let w = slice_get_within part.pads.items port pad at in
+      let all = is.all in
+      omega (arith, w, all)

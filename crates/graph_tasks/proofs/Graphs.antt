@@ -15,7 +15,7 @@ use Rattle.graph_core.specs.declared.graph.Graph.{Graph}
 use Rattle.graph_core.specs.declared.pad.PadLink.{PadLink}
 use Rattle.graph_core.specs.declared.pad.PadPlace.{PadPlace}
 use Rattle.graph_core.proofs.Ranks.{after, after_falls}
-use Rattle.graph_ways.specs.Once.{AreOnce}
+use Rattle.graph_model.specs.Once.{AreOnce}
 use Rattle.graph_bags.specs.Links.{has, has_inlets, is_source, is_head, place_at, Reaches}
 use Rattle.graph_bags.proofs.Trees.{sink_there}
 use Rattle.graph_moment.specs.Laws.{given_by}

@@ -31,8 +31,8 @@ use Rattle.graph_tasks.proofs.Bags.{among, head_among, source_among}
 use Rattle.graph_tasks.proofs.Given.{IsKnown, IsPlaced, cell_of, one_task, placed}
 
 module _ {S E I O L : Type 0} {s : sources.Ghosts S} {e : elements.Ghosts E} {i : inlets.Ghosts I L O} {o : outlets.Ghosts O L}
-    {contents : ℕ → List ℕ} {graph : Graph} {bags : List Bag} {ends : List (Option E)} {files : List (Option S)} {tasks : List (Task S E I O L s e i o)} {table : List Lane}
-    (g : IsKnown i o contents graph bags ends files tasks table) where
+    {graph : Graph} {bags : List Bag} {ends : List (Option E)} {files : List (Option S)} {tasks : List (Task S E I O L s e i o)} {table : List Lane}
+    (g : IsKnown i o graph bags ends files tasks table) where
   -- the rows of a task are those of the element at the head of its bag
   pub record HasRows (bag : BagHead) (own : InletHead I) : Type 0 where
     pub is : bag ≡ bags_heads.Inlets own.number

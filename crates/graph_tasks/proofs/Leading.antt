@@ -12,8 +12,8 @@ use Rattle.graph_core.specs.Elements.{Made}
 use Rattle.graph_core.specs.Links.{HasPads, sink_behind, source_before}
 use Rattle.graph_core.specs.declared.pad.PadLink.{PadLink}
 use Rattle.graph_core.specs.declared.pad.PadPlace.{PadPlace}
-use Rattle.graph_ways.specs.Once.{AreOnce}
-use Rattle.graph_ways.specs.Ways.{first_pad}
+use Rattle.graph_model.specs.Once.{AreOnce}
+use Rattle.graph_model.specs.Asked.{first_pad}
 use Rattle.graph_bags.specs.Laws.{IsLink}
 use Rattle.graph_bags.specs.Links.{has, has_inlets, place_at, source_count}
 use Rattle.graph_bags.specs.declared.bag.BagLink.{BagLink}
@@ -23,7 +23,7 @@ use Rattle.graph_bags.proofs.Trees.{sink_there, sinks_at}
 use Rattle.graph_lanes.specs.Lanes.{OutletAt, lane_room, room_by}
 use Rattle.graph_lanes.proofs.Slots.{slot_of_set}
 use Rattle.lane_core.specs.declared.ends.Outlet as outlets
-use Rattle.line_model.specs.LineGraph.{pad_id}
+use Rattle.graph_model.specs.GraphPlan.{pad_id}
 use Rattle.task_pads.specs.Behind.{end_in, goes, inside, lane_end, nowhere, WentIn}
 use Rattle.task_pads.specs.Pads.{HasCrossed, crossed_count, number_of, probe_of, rest_of, waiting_of}
 use Rattle.task_pads.specs.declared.pad.Behind.{Behind}

@@ -17,3 +17,11 @@ pub mod Readies
 pub mod Heads
 pub mod Wired
 pub mod Starts
+pub mod Takes
+pub mod Readied
+pub mod Hands
+pub mod Framed
+pub mod Fillings
+pub mod Plans
+pub mod Begun
+pub mod Under

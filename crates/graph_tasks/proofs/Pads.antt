@@ -9,10 +9,10 @@ use Rattle.graph_core.specs.Graph.{IsSound, made as made_in, links as links_in}
 use Rattle.graph_core.specs.Links.{sink_behind}
 use Rattle.graph_core.specs.declared.graph.Graph.{Graph}
 use Rattle.graph_core.specs.declared.pad.PadPlace.{PadPlace}
-use Rattle.graph_ways.specs.Once.{AreOnce}
-use Rattle.line_model.specs.LineGraph.{pad_id}
+use Rattle.graph_model.specs.Once.{AreOnce}
+use Rattle.graph_model.specs.GraphPlan.{pad_id}
 use Rattle.graph_bags.specs.Links.{place_at, source_count}
-use Rattle.graph_moment.specs.Plans.{moment_plan}
+use Rattle.graph_moment.specs.Plans.{moment_plan, moment_answers}
 use Rattle.graph_moment.specs.Laws.{HasNumber, given_by}
 use Rattle.graph_moment.proofs.Leading.{links_lead, unlinked_lead}
 use Rattle.graph_moment.proofs.Rules.{sources_wait}
@@ -28,7 +28,7 @@ use Rattle.graph_tasks.proofs.Lists.{none_behind, none_held}
 
 -- the moment at which the run of a graph begins
 abbrev pub start : (ℕ → List ℕ) → Graph → Moment
-start contents graph = opening (moment_plan contents graph)
+start contents graph = opening (moment_plan contents graph) (moment_answers graph)
 
 nowhere_over : {A : Type 0} {lane n i from : ℕ} → nowhere ≡ over lane n i from → A
 nowhere_over e = absurd (cc)

@@ -46,8 +46,8 @@ pub for_table : {table : List Lane} (P : List Lane → Type 0) → P table → (
 for_table P h t same = subst P (same_Some _ _ same) h
 
 module _ {S E I O L : Type 0} {s : sources.Ghosts S} {e : elements.Ghosts E} {i : inlets.Ghosts I L O} {o : outlets.Ghosts O L}
-    {contents : ℕ → List ℕ} {graph : Graph} {bags : List Bag} {ends : List (Option E)} {files : List (Option S)} {tasks : List (Task S E I O L s e i o)} {table : List Lane}
-    (g : IsKnown i o contents graph bags ends files tasks table) where
+    {graph : Graph} {bags : List Bag} {ends : List (Option E)} {files : List (Option S)} {tasks : List (Task S E I O L s e i o)} {table : List Lane}
+    (g : IsKnown i o graph bags ends files tasks table) where
   -- the lane into an element
   lane_in : (n room : ℕ) → has has_inlets (made_in graph) n ≡ true → lane_room (made_in graph) (links_in graph) n ≡ Some room
       → slice_get table (lane_place (made_in graph) (links_in graph) n) ≡ Some (lane_of [] room)

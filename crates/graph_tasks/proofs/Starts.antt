@@ -27,11 +27,11 @@ use Rattle.graph_tasks.specs.Start.{TasksStart}
 use Rattle.graph_tasks.proofs.Lists.{all_empty, list_none, none_behind, none_taken}
 use Rattle.graph_tasks.proofs.Graphs.{gives_none, source_head}
 use Rattle.graph_tasks.proofs.Pads.{start}
-use Rattle.graph_tasks.proofs.Given.{IsKnown}
+use Rattle.graph_tasks.proofs.Given.{IsBegun}
 use Rattle.graph_tasks.proofs.Tied.{sinks_count, tied}
-use Rattle.graph_tasks.proofs.Readies.{for_table, lane_empty, ready}
+use Rattle.graph_tasks.proofs.Readies.{for_table, lane_empty}
 use Rattle.graph_tasks.proofs.Heads.{fed_inlets, fed_rows, source_owned}
-use Rattle.graph_tasks.proofs.Wired.{wired}
+use Rattle.graph_tasks.proofs.Readied.{net_ready}
 
 -- nothing was done to the graph but links
 is_plain : (contents : ℕ → List ℕ) (graph : Graph) → IsPlain (moment_plan contents graph)
@@ -44,13 +44,13 @@ is_plain contents graph =
 
 module _ {S E I O L : Type 0} {s : sources.Ghosts S} {e : elements.Ghosts E} {i : inlets.Ghosts I L O} {o : outlets.Ghosts O L}
     {contents : ℕ → List ℕ} {graph : Graph} {bags : List Bag} {ends : List (Option E)} {files : List (Option S)} {tasks : List (Task S E I O L s e i o)} {table : List Lane}
-    (g : IsKnown i o contents graph bags ends files tasks table) where
+    (g : IsBegun i o contents graph bags ends files tasks table) where
   -- a row gave nothing, and its lane holds nothing
   row_between : (n port : ℕ) (row : InletRow I) → has has_inlets (made_in graph) n ≡ true → IsRowOf i (made_in graph) (links_in graph) n port row → RowBetween i (Some table) (λ place. []) row []
   row_between n port row fed (IsRowOf.unlinked none feeds) =
       subst (λ (fs : List (Feeding I)). GaveInAll (GaveOf i (Some table) (λ place. [])) fs []) (sym feeds) (record { past = []; lane = []; whole = refl; front = refl; behind = tt })
   row_between n port row fed (IsRowOf.linked inlet has_it feeds place received) =
-      let lane = lane_empty g n fed has_it in
+      let lane = lane_empty g.known n fed has_it in
       subst (λ (fs : List (Feeding I)). GaveInAll (GaveOf i (Some table) (λ place. [])) fs []) (sym feeds)
       (record {
         past = [];
@@ -67,13 +67,13 @@ module _ {S E I O L : Type 0} {s : sources.Ghosts S} {e : elements.Ghosts E} {i 
   row_empty : (n port : ℕ) (row : InletRow I) → has has_inlets (made_in graph) n ≡ true → IsRowOf i (made_in graph) (links_in graph) n port row → row_holds i table row ≡ []
   row_empty n port row fed (IsRowOf.unlinked none feeds) = ap (held i table) feeds
   row_empty n port row fed (IsRowOf.linked inlet has_it feeds place received) =
-      let lane = lane_empty g n fed has_it in
+      let lane = lane_empty g.known n fed has_it in
       ap (held i table) feeds ∙ ap (λ (found : Option Lane). items_of found ++ []) (ap (slice_get table) place ∙ lane.at) ∙ ap (λ (xs : List Item). xs ++ []) lane.empty
 
   row_stands : (k n port : ℕ) (row : InletRow I) → HasRow tasks k n port row → RowStands i table (λ place. []) (start contents graph) n port row
   row_stands k n port row x =
-      let rows = fed_rows g k x.head x.fed in
-      let fed = fed_inlets g k x.head x.fed in
+      let rows = fed_rows g.known k x.head x.fed in
+      let fed = fed_inlets g.known k x.head x.fed in
       let is = rows.rows port row x.at in
       let w = slice_get_within x.head.rows.items port row x.at in
       let count = rows.count in
@@ -91,15 +91,15 @@ module _ {S E I O L : Type 0} {s : sources.Ghosts S} {e : elements.Ghosts E} {i 
   loose p none = go (has is_source (made_in graph) (pad_owner (made_in graph) p)) refl
     where
       go : (b : Bool) → has is_source (made_in graph) (pad_owner (made_in graph) p) ≡ b → (start contents graph).waits p ≡ []
-      go true is = let t = source_owned g (pad_owner (made_in graph) p) (source_head (made_in graph) (pad_owner (made_in graph) p) is) is in absurd (none t.0 t.1)
+      go true is = let t = source_owned g.known (pad_owner (made_in graph) p) (source_head (made_in graph) (pad_owner (made_in graph) p) is) is in absurd (none t.0 t.1)
       go false is = sources_wait contents graph p ∙ gives_none (made_in graph) (pad_owner (made_in graph) p) (contents (pad_owner (made_in graph) p)) is
 
   net_stands : NetStands (start contents graph) tasks (Some table)
-  net_stands = record {
+  net_stands = let net = net_ready g.known in record {
     plain = is_plain contents graph;
     tied = tied g;
-    ready = ready g;
-    wired = wired g;
+    ready = net.ready;
+    wired = net.wired;
     cells = moment_stands contents graph;
     first = λ n. (none_taken ((moment_plan contents graph).sinks n), none_taken ((moment_plan contents graph).sinks n));
     table = table;
@@ -107,11 +107,11 @@ module _ {S E I O L : Type 0} {s : sources.Ghosts S} {e : elements.Ghosts E} {i 
     sents = λ place. [];
     sent = λ k p place from n port x. sym (none_behind from [] refl);
     rows = row_stands;
-    each = λ k head fed. length-map ((moment_plan contents graph).sinks head.number) (λ spans. []) ∙ sinks_count contents graph head.number ∙ sym (fed_rows g k head fed).count;
+    each = λ k head fed. length-map ((moment_plan contents graph).sinks head.number) (λ spans. []) ∙ sinks_count contents graph head.number ∙ sym (fed_rows g.known k head fed).count;
     others = λ n other. all_empty ((moment_plan contents graph).sinks n);
     loose = loose;
   }
 
 pub tasks_start : {S E I O L : Type 0} (s : sources.Ghosts S) (e : elements.Ghosts E) (i : inlets.Ghosts I L O) (o : outlets.Ghosts O L) → TasksStart s e i o
 tasks_start s e i o contents graph bags ends files tasks table sound once are made_of stood gave =
-    net_stands (record { sound = sound; once = once; are = are; made_of = made_of; stood = stood; gave = gave })
+    net_stands (record { known = record { sound = sound; once = once; are = are; made_of = made_of }; stood = stood; gave = gave })

@@ -9,7 +9,7 @@ use Rattle.lane_core.specs.declared.ends.Inlet as inlets
 use Rattle.lane_core.specs.declared.ends.Outlet as outlets
 use Rattle.element_traits.specs.declared.element.TaskElement as elements
 use Rattle.element_traits.specs.declared.source.TaskSource as sources
-use Rattle.net_model.specs.Opening.{no_calls}
+use Rattle.net_model.specs.Moment.{behavior_at}
 use Rattle.std.specs.Option.{option_map_or}
 use Rattle.el_set.specs.Asked.{sink_pads}
 use Rattle.graph_core.specs.Elements.{Made}
@@ -17,7 +17,7 @@ use Rattle.graph_core.specs.Graph.{made as made_in, links as links_in}
 use Rattle.graph_core.specs.Links.{sink_behind, source_before}
 use Rattle.graph_core.specs.declared.graph.Graph.{Graph}
 use Rattle.graph_core.specs.declared.pad.PadPlace.{PadPlace}
-use Rattle.line_model.specs.LineGraph.{line_plan, owner_of, sink_at, sink_count as sinks_of, spans_from}
+use Rattle.graph_model.specs.GraphPlan.{line_plan, owner_of, sink_at, sink_count as sinks_of, spans_from}
 use Rattle.graph_bags.specs.Links.{has, has_inlets, is_source, place_at, source_count}
 use Rattle.graph_bags.specs.Bags.{IsHead}
 use Rattle.graph_bags.specs.declared.bag.Bag.{Bag}
@@ -45,7 +45,7 @@ use Rattle.graph_tasks.proofs.Lists.{got_within, took_none}
 use Rattle.graph_tasks.proofs.Graphs.{gives_none}
 use Rattle.graph_tasks.proofs.Bags.{among, elements_once, no_source, source_among, source_apart}
 use Rattle.graph_tasks.proofs.Pads.{start, pad_linked, pad_number, pad_waits}
-use Rattle.graph_tasks.proofs.Given.{IsKnown, cell_of, placed, there}
+use Rattle.graph_tasks.proofs.Given.{IsBegun, cell_of, pad_there, placed, there}
 
 -- how many sink pads an element has
 pub sinks_count : (contents : ℕ → List ℕ) (graph : Graph) (n : ℕ) → length ((moment_plan contents graph).sinks n) ≡ sink_count (made_in graph) n
@@ -58,28 +58,20 @@ sinks_count contents graph n = length-map-range_with_len (λ (k : ℕ). spans_fr
 
 module _ {S E I O L : Type 0} {s : sources.Ghosts S} {e : elements.Ghosts E} {i : inlets.Ghosts I L O} {o : outlets.Ghosts O L}
     {contents : ℕ → List ℕ} {graph : Graph} {bags : List Bag} {ends : List (Option E)} {files : List (Option S)} {tasks : List (Task S E I O L s e i o)} {table : List Lane}
-    (g : IsKnown i o contents graph bags ends files tasks table) where
-  -- each pad of an element
-  pub pad_there : (cell : BagElement) (part : Part E O e) → IsPartOf o (made_in graph) (links_in graph) ends cell part → (port : ℕ) (pad : Pad O) → slice_get part.pads.items port ≡ Some pad
-      → port < source_count (made_in graph) cell.element
-  pad_there cell part is port pad at =
-      let w = slice_get_within part.pads.items port pad at in
-      let all = is.all in
-      omega (arith, w, all)
-
+    (g : IsBegun i o contents graph bags ends files tasks table) where
   port_tied : (cell : BagElement) (part : Part E O e) → IsPartOf o (made_in graph) (links_in graph) ends cell part → has is_source (made_in graph) cell.element ≡ false → (port : ℕ) (pad : Pad O)
       → slice_get part.pads.items port ≡ Some pad → PortTied o (start contents graph) part.number port pad (waits_at part port pad)
   unfolding line_plan
   port_tied cell part is none port pad at =
       let own = is.pads port pad at in
-      let w = pad_there cell part is port pad at in
-      let number = pad_number o contents graph g.sound g.once cell.element port pad w own in
+      let w = pad_there g.known cell part is port pad at in
+      let number = pad_number o contents graph g.known.sound g.known.once cell.element port pad w own in
       record {
         owner = number.owner ∙ sym is.number;
         port_is = number.port;
-        linked = pad_linked o contents graph g.sound g.once cell.element port pad w own;
+        linked = pad_linked o contents graph g.known.sound g.known.once cell.element port pad w own;
         waits =
-            pad_waits o contents graph g.sound g.once cell.element port pad w own ∙ gives_none (made_in graph) cell.element (contents cell.element) none
+            pad_waits o contents graph g.known.sound g.known.once cell.element port pad w own ∙ gives_none (made_in graph) cell.element (contents cell.element) none
             ∙ sym (rw (own.idle, is.out) refl);
       }
 
@@ -105,7 +97,7 @@ module _ {S E I O L : Type 0} {s : sources.Ghosts S} {e : elements.Ghosts E} {i 
   part_tied cell part is none within =
       record {
         stood =
-            subst (λ (n : ℕ). e.stands part.element ((moment_plan contents graph).rule n) (no_calls (moment_plan contents graph) n)) (sym is.number)
+            subst (λ (n : ℕ). e.stands part.element (behavior_at (start contents graph) n) ((start contents graph).took n)) (sym is.number)
             (g.stood cell.element part.element none is.element);
         pads = port_tied cell part is none;
         mine = has_pad cell part is within;
@@ -118,15 +110,15 @@ module _ {S E I O L : Type 0} {s : sources.Ghosts S} {e : elements.Ghosts E} {i 
   unfolding line_plan
   source_tied cell head parts number file given one own is within apart =
       let w : 0 < source_count (made_in graph) cell.element = omega (arith, one) in
-      let numbered = pad_number o contents graph g.sound g.once cell.element 0 head.pad w own in
+      let numbered = pad_number o contents graph g.known.sound g.known.once cell.element 0 head.pad w own in
       let idle = ap length own.idle in
       record {
         owner = numbered.owner ∙ sym number;
         mine = mine;
-        linked = pad_linked o contents graph g.sound g.once cell.element 0 head.pad w own;
+        linked = pad_linked o contents graph g.known.sound g.known.once cell.element 0 head.pad w own;
         gave =
             subst (λ (xs : List Item). s.gave head.source ((start contents graph).waits (number_of head.pad)) xs) (sym own.idle)
-            (subst (λ (xs : List Item). s.gave head.source xs []) (sym (pad_waits o contents graph g.sound g.once cell.element 0 head.pad w own)) (g.gave cell.element head.source is file));
+            (subst (λ (xs : List Item). s.gave head.source xs []) (sym (pad_waits o contents graph g.known.sound g.known.once cell.element 0 head.pad w own)) (g.gave cell.element head.source is file));
         given = omega (arith, given, idle);
         apart = apart;
       }
@@ -194,28 +186,28 @@ module _ {S E I O L : Type 0} {s : sources.Ghosts S} {e : elements.Ghosts E} {i 
 
   pub tied : (k : ℕ) (task : Task S E I O L s e i o) → slice_get tasks k ≡ Some task → Ties task (start contents graph)
   tied k task at =
-      let p = placed g k task at in
+      let p = placed g.known k task at in
       let source = λ (own : BagElement) (is : p.bag.head ≡ bags_heads.Source own). source_among (made_in graph) (links_in graph) p.bag p.is own is in
       record {
         parts_tied = record {
           each = λ j part here.
-              let c = cell_of g k j task p part here in
-              part_tied c.cell part c.of (no_source (made_in graph) (links_in graph) p.bag p.is g.sound.pads g.once j c.cell c.at)
-              (there g k c.cell.element task p (among (made_in graph) (links_in graph) p.bag p.is j c.cell c.at));
+              let c = cell_of g.known k j task p part here in
+              part_tied c.cell part c.of (no_source (made_in graph) (links_in graph) p.bag p.is g.known.sound.pads g.known.once j c.cell c.at)
+              (there g.known k c.cell.element task p (among (made_in graph) (links_in graph) p.bag p.is j c.cell c.at));
           once = λ j l one other here too same.
-              let c = cell_of g k j task p one here in
-              let d = cell_of g k l task p other too in
+              let c = cell_of g.known k j task p one here in
+              let d = cell_of g.known k l task p other too in
               elements_once (made_in graph) (links_in graph) p.bag p.is j l c.cell d.cell c.at d.at (sym c.of.number ∙ same ∙ d.of.number);
         };
         head_tied =
             head_tied p.bag.head task.head task.parts.items p.of.head p.is.head
             (λ own is. (
-              there g k own.element task p (source own is),
+              there g.known k own.element task p (source own is),
               λ j part here same.
-                  let c = cell_of g k j task p part here in
+                  let c = cell_of g.known k j task p part here in
                   source_apart (made_in graph) (links_in graph) p.bag p.is own is j c.cell c.at (sym c.of.number ∙ same),
             ))
             (λ n port is j l part pad here there same.
-            let c = cell_of g k j task p part here in
+            let c = cell_of g.known k j task p part here in
             none_leads c.cell part c.of n port l pad (subst (λ (h : BagHead). IsHead (made_in graph) h) is p.is.head) there same);
       }

@@ -34,7 +34,7 @@ use Rattle.graph_tasks.proofs.Given.{IsKnown, IsPlaced, one_task, placed}
 use Rattle.graph_tasks.proofs.Wires.{GoesOver, goes_over, one_over, wire_of_bag}
 use Rattle.graph_tasks.proofs.Readies.{row_else}
 use Rattle.graph_tasks.proofs.Heads.{fed_among, fed_rows, inlets_of, one_owner}
-use Rattle.line_model.specs.LineGraph.{pad_id}
+use Rattle.graph_model.specs.GraphPlan.{pad_id}
 
 module _ {O L : Type 0} (o : outlets.Ghosts O L) (made : List Made) (links : List PadLink) where
   -- the sink pad behind a lane is that of the link
@@ -62,8 +62,8 @@ module _ {O L : Type 0} (o : outlets.Ghosts O L) (made : List Made) (links : Lis
           (way.0 ∙ ap (λ (place : PadPlace). place.element) (some_same at), way.1 ∙ ap (λ (place : PadPlace). place.pad) (some_same at))
 
 module _ {S E I O L : Type 0} {s : sources.Ghosts S} {e : elements.Ghosts E} {i : inlets.Ghosts I L O} {o : outlets.Ghosts O L}
-    {contents : ℕ → List ℕ} {graph : Graph} {bags : List Bag} {ends : List (Option E)} {files : List (Option S)} {tasks : List (Task S E I O L s e i o)} {table : List Lane}
-    (g : IsKnown i o contents graph bags ends files tasks table) where
+    {graph : Graph} {bags : List Bag} {ends : List (Option E)} {files : List (Option S)} {tasks : List (Task S E I O L s e i o)} {table : List Lane}
+    (g : IsKnown i o graph bags ends files tasks table) where
   -- The pad of a task that leads into a lane.
   record Sending (k p place n port : ℕ) : Type 0 where
     task : Task S E I O L s e i o

@@ -35,8 +35,7 @@ use Rattle.graph_tasks.proofs.Lists.{map_got}
 use Rattle.graph_tasks.proofs.Lanes.{lanes_apart}
 use Rattle.graph_tasks.proofs.Graphs.{one_source}
 use Rattle.graph_tasks.proofs.Bags.{among, source_among}
-use Rattle.graph_tasks.proofs.Given.{IsKnown, IsPlaced, cell_of}
-use Rattle.graph_tasks.proofs.Tied.{pad_there}
+use Rattle.graph_tasks.proofs.Given.{IsKnown, IsPlaced, cell_of, pad_there}
 
 -- A source pad of an element leads over the lane of this place.
 pub record GoesOver (made : List Made) (links : List PadLink) (n k place : ℕ) : Type 0 where
@@ -122,8 +121,8 @@ module _ {O L : Type 0} (o : outlets.Ghosts O L) where
 
 -- one pad at the most leads into a lane
 pub one_over : {S E I O L : Type 0} {s : sources.Ghosts S} {e : elements.Ghosts E} {i : inlets.Ghosts I L O} {o : outlets.Ghosts O L}
-    {contents : ℕ → List ℕ} {graph : Graph} {bags : List Bag} {ends : List (Option E)} {files : List (Option S)} {tasks : List (Task S E I O L s e i o)} {table : List Lane}
-    (g : IsKnown i o contents graph bags ends files tasks table) (n k n' k' place : ℕ) → GoesOver (made_in graph) (links_in graph) n k place → GoesOver (made_in graph) (links_in graph) n' k' place
+    {graph : Graph} {bags : List Bag} {ends : List (Option E)} {files : List (Option S)} {tasks : List (Task S E I O L s e i o)} {table : List Lane}
+    (g : IsKnown i o graph bags ends files tasks table) (n k n' k' place : ℕ) → GoesOver (made_in graph) (links_in graph) n k place → GoesOver (made_in graph) (links_in graph) n' k' place
     → (n ≡ n') × (k ≡ k')
 one_over {graph = graph} g n k n' k' place a b =
     let same = lanes_apart (made_in graph) (links_in graph) a.sink.element b.sink.element a.has_it b.has_it (sym a.place_is ∙ b.place_is) in
@@ -131,8 +130,8 @@ one_over {graph = graph} g n k n' k' place a b =
     (ap (λ (place : PadPlace). place.element) one, ap (λ (place : PadPlace). place.pad) one)
 
 module _ {S E I O L : Type 0} {s : sources.Ghosts S} {e : elements.Ghosts E} {i : inlets.Ghosts I L O} {o : outlets.Ghosts O L}
-    {contents : ℕ → List ℕ} {graph : Graph} {bags : List Bag} {ends : List (Option E)} {files : List (Option S)} {tasks : List (Task S E I O L s e i o)} {table : List Lane}
-    (g : IsKnown i o contents graph bags ends files tasks table) (k : ℕ) (task : Task S E I O L s e i o) (p : IsPlaced i o graph bags ends files k task) where
+    {graph : Graph} {bags : List Bag} {ends : List (Option E)} {files : List (Option S)} {tasks : List (Task S E I O L s e i o)} {table : List Lane}
+    (g : IsKnown i o graph bags ends files tasks table) (k : ℕ) (task : Task S E I O L s e i o) (p : IsPlaced i o graph bags ends files k task) where
   -- the pad of the source
   pub head_wire_of : (bag : BagHead) (head : Head S I O s) (wire : Wire) → IsHeadOf i o (made_in graph) (links_in graph) files bag head → head_wire (head_frame o head) ≡ Some wire
       → (own : BagElement) × (bag ≡ bags_heads.Source own) × (pad : Pad O) × IsPadOf o (made_in graph) (links_in graph) own.element 0 pad × (0 < source_count (made_in graph) own.element) × (wire ≡ wire_of o pad)

@@ -1,3 +1,8 @@
+pub mod Frames
+pub mod Making
+pub mod Plan
+pub mod Planned
+pub mod Readied
 pub mod Start
 pub mod Tasks
 pub mod Wired

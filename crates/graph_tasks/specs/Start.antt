@@ -3,13 +3,14 @@ use Rattle.std.specs.Prelude.{◌≡◌, ℕ, true, false, List, [], Option, Som
 use Rattle.lane_core.specs.Lane.{Lane}
 use Rattle.lane_core.specs.declared.ends.Inlet as inlets
 use Rattle.lane_core.specs.declared.ends.Outlet as outlets
-use Rattle.net_model.specs.Opening.{no_calls, opening}
+use Rattle.net_model.specs.Moment.{behavior_at}
+use Rattle.net_model.specs.Opening.{opening}
 use Rattle.element_traits.specs.declared.element.TaskElement as elements
 use Rattle.element_traits.specs.declared.source.TaskSource as sources
 use Rattle.graph_core.specs.Graph.{IsSound, made as made_in, links as links_in}
 use Rattle.graph_core.specs.declared.graph.Graph.{Graph}
-use Rattle.graph_ways.specs.Once.{AreOnce}
-use Rattle.graph_moment.specs.Plans.{moment_plan}
+use Rattle.graph_model.specs.Once.{AreOnce}
+use Rattle.graph_moment.specs.Plans.{moment_plan, moment_answers}
 use Rattle.graph_moment.specs.Laws.{given_by}
 use Rattle.graph_bags.specs.Bags.{AreBags}
 use Rattle.graph_bags.specs.Links.{has, is_source}
@@ -18,10 +19,10 @@ use Rattle.net_task.specs.declared.task.Task.{Task}
 use Rattle.net_turns.specs.Net.{NetStands}
 use Rattle.graph_tasks.specs.Tasks.{AreTasks, IsOf}
 
--- each element that is no source stands for its rule and took nothing
+-- each element that is no source stands for what it does where a run begins, and took nothing
 abbrev pub ElementsStand : {E : Type 0} → elements.Ghosts E → (ℕ → List ℕ) → Graph → List (Option E) → Type 0
 ElementsStand {E = E} e contents graph ends = (n : ℕ) (element : E) → has is_source (made_in graph) n ≡ false → IsOf ends n element
-    → let plan = moment_plan contents graph in e.stands element (plan.rule n) (no_calls plan n)
+    → let m = opening (moment_plan contents graph) (moment_answers graph) in e.stands element (behavior_at m n) (m.took n)
 
 -- each source owes its list, and gave nothing
 abbrev pub SourcesStand : {S : Type 0} → sources.Ghosts S → (ℕ → List ℕ) → Graph → List (Option S) → Type 0
@@ -34,4 +35,4 @@ TasksStart {S = S} {E = E} {I = I} {O = O} {L = L} s e i o =
     (contents : ℕ → List ℕ) (graph : Graph) (bags : List Bag) (ends : List (Option E)) (files : List (Option S)) (tasks : List (Task S E I O L s e i o)) (table : List Lane)
     → IsSound graph → AreOnce (links_in graph) → AreBags (made_in graph) (links_in graph) bags
     → AreTasks i o (made_in graph) (links_in graph) ends files bags tasks table → ElementsStand e contents graph ends → SourcesStand s contents graph files
-    → NetStands (opening (moment_plan contents graph)) tasks (Some table)
+    → NetStands (opening (moment_plan contents graph) (moment_answers graph)) tasks (Some table)

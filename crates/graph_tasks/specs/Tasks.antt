@@ -9,7 +9,7 @@ use Rattle.graph_core.specs.Elements.{Made}
 use Rattle.graph_core.specs.Links.{sink_behind}
 use Rattle.graph_core.specs.declared.pad.PadLink.{PadLink}
 use Rattle.graph_core.specs.declared.pad.PadPlace.{PadPlace}
-use Rattle.line_model.specs.LineGraph.{pad_id}
+use Rattle.graph_model.specs.GraphPlan.{pad_id}
 use Rattle.graph_bags.specs.Links.{has, has_inlets, place_at, source_count}
 use Rattle.graph_bags.specs.declared.bag.Bag.{Bag}
 use Rattle.graph_bags.specs.declared.bag.BagElement.{BagElement}

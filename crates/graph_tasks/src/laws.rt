@@ -1,4 +1,7 @@
 //! Laws of the tasks of a graph. Each function does nothing: its contract is the law.
+ghost use Rattle.graph_tasks.specs.Frames.{FramesKeepBags, TasksHaveBags};
+ghost use Rattle.graph_tasks.specs.Plan.{ElementsAreThere};
+ghost use Rattle.graph_tasks.specs.Readied.{TasksAreReady};
 ghost use Rattle.graph_tasks.specs.Start.{TasksStart};
 
 use element_traits::{TaskElement, TaskSource};
@@ -7,4 +10,44 @@ use lane_core::{Inlet, Outlet};
 /// Where the run of a graph begins its tasks stand as a net.
 pub fn tasks_start<S: TaskSource, E: TaskElement, I: Inlet<Out = O>, O: Outlet<Lanes = I::Lanes>>()
     ensures { TasksStart S.TaskSource E.TaskElement I.Inlet O.Outlet }
+{}
+
+/// What the wired tasks of a graph are made of is there, where each element of the graph is.
+pub fn elements_are_there<
+    S: TaskSource,
+    E: TaskElement,
+    I: Inlet<Out = O>,
+    O: Outlet<Lanes = I::Lanes>,
+>()
+    ensures { ElementsAreThere S.TaskSource E.TaskElement I.Inlet O.Outlet }
+{}
+
+/// The tasks of a graph are ready to be stepped.
+pub fn tasks_are_ready<
+    S: TaskSource,
+    E: TaskElement,
+    I: Inlet<Out = O>,
+    O: Outlet<Lanes = I::Lanes>,
+>()
+    ensures { TasksAreReady S.TaskSource E.TaskElement I.Inlet O.Outlet }
+{}
+
+/// The tasks of a graph have the elements of its bags, with their pads.
+pub fn tasks_have_bags<
+    S: TaskSource,
+    E: TaskElement,
+    I: Inlet<Out = O>,
+    O: Outlet<Lanes = I::Lanes>,
+>()
+    ensures { TasksHaveBags S.TaskSource E.TaskElement I.Inlet O.Outlet }
+{}
+
+/// So it is behind each step.
+pub fn frames_keep_bags<
+    S: TaskSource,
+    E: TaskElement,
+    I: Inlet<Out = O>,
+    O: Outlet<Lanes = I::Lanes>,
+>()
+    ensures { FramesKeepBags S.TaskSource E.TaskElement I.Inlet O.Outlet }
 {}

@@ -3,14 +3,18 @@
 #![tactic(auto)]
 
 pub mod laws;
+pub mod making;
 mod rows;
 mod source_pads;
 mod taking;
 pub mod wired_task;
 pub mod wiring;
 
+pub use making::Plan;
 pub use wired_task::{WiredHead, WiredPart, WiredTask, WiredTasks};
 pub use wiring::wire;
 
+#[cfg(test)]
+mod plain;
 #[cfg(test)]
 mod tests;

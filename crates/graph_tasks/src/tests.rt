@@ -1,7 +1,8 @@
 //! Rows of lines and the tasks of their graphs, without their elements.
 use super::*;
+use crate::plain::{Plain, PlainSource, elements_for, sources_for};
 use graph_core::build;
-use lane_core::{Inlet, Outlet};
+use lane_core::{Inlet, MemInlet, MemOutlet, Outlet};
 use launch_text::parse;
 use std::alloc::Global;
 use std::fmt::Write;
@@ -101,6 +102,50 @@ fn tasks_of_lines(rt: HostRuntime) -> Result<(), Fail> {
     let alloc = rt.alloc();
     for row in ROWS.lines() {
         assert_eq!(rt; row_of(alloc, line_of(row))?.as_str(), row);
+    }
+    Ok(())
+}
+
+/// A line, how many tasks are made of it, and under which numbers elements and sources are left. There was one of each
+/// under each number.
+const LEFT: &str = "\
+filesrc location=a ! filesink location=b -> 1: 0 / 1
+filesrc location=a ! queue ! identity ! fakesink -> 2: 0 / 1 2 3
+identity ! queue ! identity -> 1: 0 / 0 1 2";
+
+fn put_left<T>(into: &mut String, slots: &[Option<T>]) -> Result<(), Fail> {
+    for number in 0..slots.len() {
+        if slots[number].is_some() {
+            write!(into, " {number}")?;
+        }
+    }
+    Ok(())
+}
+
+/// A line with what is left of its elements.
+fn left_of(alloc: Global, line: &str) -> Result<String, Fail> {
+    let tree = parse(alloc, line)?;
+    let Ok(graph) = build(alloc, &tree) else {
+        return Err("a line without a graph")?;
+    };
+    let mut elements = elements_for(alloc, &graph)?;
+    let mut sources = sources_for(alloc, &graph)?;
+    let wired = wire(alloc, &graph)?;
+    let plan: Plan<PlainSource, Plain, MemInlet, MemOutlet> = Plan::new(alloc, wired.tasks)?;
+    let tasks = plan.into_tasks(&mut elements, &mut sources);
+    let mut row = String::new(alloc);
+    write!(&mut row, "{line} -> {}:", tasks.len())?;
+    put_left(&mut row, elements.as_slice())?;
+    row.push_str(" /")?;
+    put_left(&mut row, sources.as_slice())?;
+    Ok(row)
+}
+
+#[test]
+fn tasks_take_their_elements(rt: HostRuntime) -> Result<(), Fail> {
+    let alloc = rt.alloc();
+    for row in LEFT.lines() {
+        assert_eq!(rt; left_of(alloc, line_of(row))?.as_str(), row);
     }
     Ok(())
 }

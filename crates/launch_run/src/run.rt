@@ -1,15 +1,16 @@
 //! The top call.
 ghost use Rattle.std.specs.Prelude.{◌≡◌, ◌≢◌, ◌<◌, ◌⊎◌, ◌^◌, ℕ, Bool, false, List, [], map, string_bytes, OnOk, OnErr};
 ghost use Rattle.gst_outside.specs.Causes.{Rose};
-ghost use Rattle.run_files.specs.Seen.{Seen, seen};
 ghost use Rattle.run_report.specs.ReportText.{report_lines};
 ghost use Rattle.turn_order.specs.declared.order.Order.TheVariants as orders;
 ghost use Rattle.world_core.specs.Turned.{RanByTurns};
+ghost use Rattle.world_core.specs.World.{seen_by};
 ghost use Rattle.run_report.specs.declared.report.Fault.TheVariants as faults;
 ghost use Rattle.launch_run.specs.declared.run.Untaken.TheVariants.{NotText};
 ghost use Rattle.launch_run.specs.Headline.{HasGone, IsReported, IsUntouched, Wrote, WrotePart, is_quiet, world_end};
 
 use crate::outcome::{Outcome, report_text};
+use element_traits::{TaskElement, TaskSource};
 use gst_caps::{List, OutOfMemory};
 use gst_outside::{Clock, Failed, Files, Sink, TaskGate};
 use lane_core::{Inlet, MemInlet, MemOutlet, Outlet};
@@ -18,6 +19,7 @@ use run_report::{Fault, Report, no_memory};
 use std::alloc::Global;
 use std::sync::Wait;
 use std::thread::Threads;
+use task_elements::{StreamElement, StreamSource};
 use turn_order::Order;
 use world_core::{WorldEnd, run_turns};
 
@@ -54,8 +56,10 @@ fn not_begun(alloc: Global, refusal: Refusal) -> WorldEnd
 
 /// Reads the words and runs their line, by turns that are drawn from the order of the words.
 fn run_words<F: Files>(alloc: Global, words: &[String], files: &mut F) -> Ended
-    ensures reported { result.end.status ≢ 13 → IsReported (map string_bytes words.now) (seen (F.input files.old) (F.output files.old) (F.faults_of files.old) (F.refused_of files.old) (F.faults files.old) (F.ends files.old)) (seen (F.input files.new) (F.output files.new) (F.faults_of files.new) (F.refused_of files.new) (F.faults files.new) (F.ends files.new)) result.end }
-    ensures turned { result.end.status ≢ 13 → result.end.status ≢ 6 → HasGone (map string_bytes words.now) (λ request. RanByTurns F.Src.location F.Src.content F.Src.faults F.Snk.location F.Snk.bytes F.Snk.faults ⟦<MemInlet as Inlet>⟧.received ⟦<MemOutlet as Outlet>⟧.sent ⟦<MemInlet as Inlet>⟧.place ⟦<MemOutlet as Outlet>⟧.place ⟦<MemOutlet as Outlet>⟧.limits ⟦<MemOutlet as Outlet>⟧.count request.graph (orders.Drawn request.order) (seen (F.input files.old) (F.output files.old) (F.faults_of files.old) (F.refused_of files.old) (F.faults files.old) (F.ends files.old)) result.end) }
+    ensures reported { result.end.status ≢ 13 → IsReported (map string_bytes words.now) (seen_by F.Files files.old) (seen_by F.Files files.new) result.end }
+    ensures turned { result.end.status ≢ 13 → result.end.status ≢ 6 → HasGone (map string_bytes words.now) (λ request.
+        RanByTurns ⟦<StreamSource<F::Src> as TaskSource>⟧ ⟦<StreamElement<F::Snk> as TaskElement>⟧ ⟦<MemInlet as Inlet>⟧ ⟦<MemOutlet as Outlet>⟧
+        F.Src.Source F.Snk.Sink request.graph (orders.Drawn request.order) (seen_by F.Files files.old) result.end) }
     ensures status { result.end.status ≢ 14 }
     ensures text { report_lines result.end.status result.quiet result.end.report ≡ report_lines result.end.status (is_quiet (map string_bytes words.now)) result.end.report }
     ensures given_back { F.ends files.old < 2 ^ 63 → F.ends files.new ≡ F.ends files.old }
@@ -201,8 +205,10 @@ pub fn run<H: Threads + Wait + Copy + Send + 'static, F: Files, C: Clock, G: Tas
     _gate: &G,
     out: &mut O,
 ) -> Outcome
-    ensures headline { result.reported ≢ 13 → IsReported (map string_bytes words.now) (seen (F.input files.old) (F.output files.old) (F.faults_of files.old) (F.refused_of files.old) (F.faults files.old) (F.ends files.old)) (seen (F.input files.new) (F.output files.new) (F.faults_of files.new) (F.refused_of files.new) (F.faults files.new) (F.ends files.new)) (world_end result) }
-    ensures turned { result.reported ≢ 13 → result.reported ≢ 6 → HasGone (map string_bytes words.now) (λ request. RanByTurns F.Src.location F.Src.content F.Src.faults F.Snk.location F.Snk.bytes F.Snk.faults ⟦<MemInlet as Inlet>⟧.received ⟦<MemOutlet as Outlet>⟧.sent ⟦<MemInlet as Inlet>⟧.place ⟦<MemOutlet as Outlet>⟧.place ⟦<MemOutlet as Outlet>⟧.limits ⟦<MemOutlet as Outlet>⟧.count request.graph (orders.Drawn request.order) (seen (F.input files.old) (F.output files.old) (F.faults_of files.old) (F.refused_of files.old) (F.faults files.old) (F.ends files.old)) (world_end result)) }
+    ensures headline { result.reported ≢ 13 → IsReported (map string_bytes words.now) (seen_by F.Files files.old) (seen_by F.Files files.new) (world_end result) }
+    ensures turned { result.reported ≢ 13 → result.reported ≢ 6 → HasGone (map string_bytes words.now) (λ request.
+        RanByTurns ⟦<StreamSource<F::Src> as TaskSource>⟧ ⟦<StreamElement<F::Snk> as TaskElement>⟧ ⟦<MemInlet as Inlet>⟧ ⟦<MemOutlet as Outlet>⟧
+        F.Src.Source F.Snk.Sink request.graph (orders.Drawn request.order) (seen_by F.Files files.old) (world_end result)) }
     ensures status { (result.status ≡ result.reported) ⊎ ((result.status ≡ 14) × Rose result.out_before result.out_after) }
     ensures before { result.out_before ≡ O.faults out.old }
     ensures after { result.out_after ≡ O.faults out.new }

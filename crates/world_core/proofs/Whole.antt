@@ -5,7 +5,8 @@ use Rattle.std.proofs.Math.Seq.{take-length}
 -- what comes back of it is the slice as it is
 pub whole_again : {A : Type 0} (old new : List A) (n : ℕ) → n ≡ length old → length new ≡ length old → take n (new ++ drop (length new) old) ≡ new
 whole_again {A = A} old new n e same =
-    ap (λ (rest : List A). take n (new ++ rest)) (none_left old (length new) (omega arith)) ∙ ap (λ (xs : List A). take n xs) (append-nil new) ∙ rw (e ∙ sym same) (take-length new)
+    ap (λ (rest : List A). take n (new ++ rest)) (none_left old (length new) (omega arith)) ∙ ap (λ (xs : List A). take n xs) (append-nil new)
+    ∙ rw (e ∙ sym same) (take-length new)
   where
     none_left : (xs : List A) (k : ℕ) → length xs ≤ k → drop k xs ≡ []
     none_left [] zero w = refl

@@ -10,14 +10,14 @@ use Rattle.graph_core.specs.Elements.{Made}
 use Rattle.graph_core.specs.Graph.{made as made_in, links as links_in}
 use Rattle.graph_core.specs.Links.{sink_behind}
 use Rattle.graph_core.specs.declared.graph.Graph.{Graph}
-use Rattle.graph_ways.specs.Ways.{first_pad}
-use Rattle.line_files.specs.Files.{WereTold, opening_of}
-use Rattle.line_model.specs.LineGraph.{graph_plan, owner_of}
+use Rattle.graph_model.specs.Asked.{first_pad}
+use Rattle.graph_files.specs.Files.{WereTold, opening_of}
+use Rattle.graph_model.specs.GraphPlan.{graph_plan, owner_of}
 use Rattle.run_files.specs.Seen.{Seen}
 use Rattle.run_files.specs.declared.end.Opening.TheVariants.{Read, Write}
 use Rattle.run_report.specs.declared.report.Fault.TheVariants as faults
 use Rattle.run_report.specs.declared.report.Report.{Report}
-use Rattle.world_core.specs.Owed.{AreOver, AreWhole, AreWritten, IsPartWritten, IsWritten, Refuses, WantsLink, went_from}
+use Rattle.graph_ends.specs.Owed.{AreOver, AreWhole, AreWritten, IsPartWritten, IsWritten, Refuses, WantsLink, went_from}
 use Rattle.world_core.specs.Told.{element_fault, element_status, pad_entries, sink_entries, source_pad}
 use Rattle.world_core.specs.declared.ended.WorldEnd.{WorldEnd}
 

@@ -1,11 +1,9 @@
 pub mod Told
-pub mod Owed
 pub mod Ended
 pub mod World
-pub mod Stops
-pub mod Back
-pub mod Start
 pub mod Ran
 pub mod Prepared
-pub mod Plan
+pub mod Start
+pub mod Stopped
 pub mod Turned
+pub mod Laws

@@ -1,37 +1,42 @@
--- What a run of a line takes the memory for before a file is open.
-use Rattle.std.specs.Prelude.{◌≡◌, ◌<◌, ◌≤◌, ℕ, All, List, Option, Some, length, map, slice_get}
-use Rattle.flow_model.specs.Item.{Item}
+-- What a run of a graph takes the memory for before a file is open.
+use Rattle.std.specs.Prelude.{◌≡◌, ◌<◌, ◌≤◌, ℕ, List, Option, Some, length, map, slice_get}
+use Rattle.lane_core.specs.declared.ends.Inlet as inlets
+use Rattle.lane_core.specs.declared.ends.Outlet as outlets
 use Rattle.graph_core.specs.Graph.{made as made_in, links as links_in}
 use Rattle.graph_core.specs.declared.graph.Graph.{Graph}
-use Rattle.graph_ways.specs.Ways.{AreWays}
-use Rattle.graph_ways.specs.declared.way.Way.{Way}
+use Rattle.graph_files.specs.Blanks.{AreBlanks}
+use Rattle.graph_files.specs.Files.{made_opening}
+use Rattle.graph_files.specs.declared.counts.Count.{Count}
 use Rattle.lane_core.specs.Lane.{Lane}
-use Rattle.lane_core.specs.Room.{Limits}
-use Rattle.line_files.specs.Files.{made_opening}
-use Rattle.line_net.specs.Pads.{AreUncounted}
-use Rattle.line_tasks.specs.Parts.{AreParts, IsTitled}
-use Rattle.line_tasks.specs.declared.part.Part.{Part}
 use Rattle.run_files.specs.declared.end.Opening.{Opening}
-use Rattle.task_core.specs.declared.pads.Pad.{Pad}
+use Rattle.graph_bags.specs.Bags.{AreBags}
+use Rattle.graph_bags.specs.declared.bag.Bag.{Bag}
+use Rattle.graph_files.specs.declared.blank.Blank.{Blank}
+use Rattle.graph_tasks.specs.Wired.{AreWired}
+use Rattle.graph_tasks.specs.declared.wired_task.WiredTask.{WiredTask}
 
 -- so many numbers, all of them 0
 abbrev pub NothingYet : ℕ → List ℕ → Type 0
 NothingYet n numbers = (d : ℕ) → d < n → slice_get numbers d ≡ Some 0
 
--- room for what the pads and the files of so many elements count
-pub record HasRoom (n : ℕ) (pads : List Pad) (lengths : List ℕ) : Type 0 where
-  pub size : length pads ≡ n
-  pub uncounted : AreUncounted pads
-  pub nothing : NothingYet n lengths
-  pub few : n ≤ 256
+abbrev pub AreUncounted : ℕ → List Count → Type 0
+AreUncounted n counts = (d : ℕ) → d < n → slice_get counts d ≡ Some (record { items = 0; buffers = 0 })
 
--- The parts of the tasks of a graph's ways with the table of their lanes, room for what is counted, and what its elements
--- open.
-pub record IsPrepared {I O : Type 0} (received : I → List Item → Type 0) (sent : O → List Item → Type 0) (place_in : I → ℕ) (place_out : O → ℕ) (limits : O → Limits) (count : O → ℕ)
-    (graph : Graph) (parts : List (Part I O)) (table : List Lane) (pads : List Pad) (lengths : List ℕ) (openings : List (Option Opening)) : Type 0 where
-  pub ways : List Way
-  pub ways_are : AreWays (made_in graph) (links_in graph) ways
-  pub parts_are : AreParts place_in received place_out limits count sent (made_in graph) (links_in graph) ways parts table
-  pub titled : All (IsTitled (made_in graph)) parts
-  pub room : HasRoom (length (made_in graph)) pads lengths
+-- room for what the pads and the files of so many elements count
+pub record HasRoom (n : ℕ) (counts : List Count) (lengths : List ℕ) : Type 0 where
+  pub size : length counts ≡ n
+  pub uncounted : AreUncounted n counts
+  pub lengths_size : length lengths ≡ n
+  pub nothing : NothingYet n lengths
+
+-- The tasks of a graph without their elements, and the table of their lanes.
+pub record ArePlanned {I O L : Type 0} (i : inlets.Ghosts I L O) (o : outlets.Ghosts O L) (graph : Graph) (tasks : List (WiredTask I O)) (table : List Lane) : Type 0 where
+  pub bags : List Bag
+  pub bags_are : AreBags (made_in graph) (links_in graph) bags
+  pub wired : AreWired i o (made_in graph) (links_in graph) bags tasks table
+
+-- What is counted, what its elements are made of, and what they open.
+pub record IsReserved (graph : Graph) (counts : List Count) (lengths : List ℕ) (blanks : List Blank) (openings : List (Option Opening)) : Type 0 where
+  pub room : HasRoom (length (made_in graph)) counts lengths
+  pub blanks_are : AreBlanks (made_in graph) blanks
   pub openings_are : openings ≡ map made_opening (made_in graph)

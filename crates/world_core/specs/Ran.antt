@@ -5,13 +5,13 @@ use Rattle.gst_outside.specs.Causes.{Rose}
 use Rattle.graph_core.specs.Elements.{Made}
 use Rattle.graph_core.specs.Graph.{made as made_in}
 use Rattle.graph_core.specs.declared.graph.Graph.{Graph}
-use Rattle.line_files.specs.Files.{opening_of}
+use Rattle.graph_files.specs.Files.{opening_of}
 use Rattle.run_files.specs.Ends.{Known}
 use Rattle.run_files.specs.declared.end.Opening.TheVariants.{Write}
 use Rattle.run_report.specs.declared.report.Fault.{Fault}
 use Rattle.run_report.specs.declared.report.Fault.TheVariants as faults
-use Rattle.task_core.specs.declared.fault.TaskFault.{TaskFault}
-use Rattle.task_core.specs.declared.pads.Pad.{Pad}
+use Rattle.task_parts.specs.declared.fault.TaskFault.{TaskFault}
+use Rattle.graph_files.specs.declared.counts.Count.{Count}
 use Rattle.world_core.specs.Told.{pads_told, sinks_told, task_fault, task_status}
 use Rattle.world_core.specs.declared.ended.WorldEnd.{WorldEnd}
 
@@ -34,7 +34,7 @@ stop_fault made None = faults.Nothing
 stop_fault made (Some fault) = task_fault made fault
 
 -- What is told of a run: why it stopped, and what its pads and the files of its filesinks count.
-pub record TellsEnd (made : List Made) (stop : Option TaskFault) (pads : List Pad) (lengths : List ℕ) (end : WorldEnd) : Type 0 where
+pub record TellsEnd (made : List Made) (stop : Option TaskFault) (pads : List Count) (lengths : List ℕ) (end : WorldEnd) : Type 0 where
   pub status : end.status ≡ stop_status stop
   pub fault : end.report.fault ≡ stop_fault made stop
   pub entries : end.report.entries ≡ []

@@ -9,17 +9,17 @@ use Rattle.el_set.specs.Asked.{location_of}
 use Rattle.graph_core.specs.Elements.{Made}
 use Rattle.graph_core.specs.Ends.{name_at}
 use Rattle.gst_caps.specs.declared.name.PadName.{PadName}
-use Rattle.graph_ways.specs.Ways.{first_pad, has}
-use Rattle.line_model.specs.LineGraph.{pad_id}
-use Rattle.line_start.specs.Start.{writes}
-use Rattle.line_whole.specs.Whole.{gives}
+use Rattle.graph_model.specs.Asked.{first_pad}
+use Rattle.graph_model.specs.GraphPlan.{owner_of, pad_id}
+use Rattle.graph_files.specs.Ends.{has, writes}
+use Rattle.graph_files.specs.declared.counts.Count.{Count}
+use Rattle.graph_ends.specs.Owed.{gives}
 use Rattle.run_report.specs.declared.report.Fault.{Fault}
 use Rattle.run_report.specs.declared.report.Fault.TheVariants as faults
 use Rattle.run_report.specs.declared.report.PadCount.{PadCount}
 use Rattle.run_report.specs.declared.report.SinkCount.{SinkCount}
-use Rattle.task_core.specs.declared.fault.TaskFault.{TaskFault}
-use Rattle.task_core.specs.declared.fault.TaskFault.TheVariants as tasks
-use Rattle.task_core.specs.declared.pads.Pad.{Pad}
+use Rattle.task_parts.specs.declared.fault.TaskFault.{TaskFault}
+use Rattle.task_parts.specs.declared.fault.TaskFault.TheVariants as tasks
 
 -- the name of an element's source pad
 abbrev pub source_pad : List Made → ℕ → PadName
@@ -58,11 +58,11 @@ element_status (TooLong a b) = 15
 element_status OutOfMemory = 13
 
 -- the counts of an element's source pad, by those of pads in the order of the elements
-abbrev pub pad_told : List Made → List Pad → ℕ → Option PadCount
+abbrev pub pad_told : List Made → List Count → ℕ → Option PadCount
 pad_told made pads e =
-    if has gives made e then option_map (λ (pad : Pad). record { pad = source_pad made e; items = pad.items; buffers = pad.buffers }) (slice_get pads e) else None
+    if has gives made e then option_map (λ (pad : Count). record { pad = source_pad made e; items = pad.items; buffers = pad.buffers }) (slice_get pads e) else None
 
-abbrev pub pads_told : List Made → List Pad → List PadCount
+abbrev pub pads_told : List Made → List Count → List PadCount
 pads_told made pads = filter_map (pad_told made pads) (range_with_len 0 (length made))
 
 -- the length of the file of a filesink, by lengths in the order of the elements
@@ -83,7 +83,7 @@ task_fault made (tasks.WriteFault e before after) = faults.WriteFault (location_
 task_fault made (tasks.Stream e place kind) = faults.BadStream (name_at made e) place kind
 task_fault made (tasks.Caps e offered wanted) = faults.NotNegotiated (name_at made e) offered wanted
 task_fault made (tasks.TooLong e a b) = faults.TooLong (name_at made e) a b
-task_fault made (tasks.NotLinked e place) = faults.NotLinked (source_pad made e) place
+task_fault made (tasks.NotLinked p place) = faults.NotLinked (source_pad made (owner_of p)) place
 task_fault made tasks.OutOfMemory = faults.Nothing
 
 abbrev pub task_status : TaskFault → ℕ
@@ -92,5 +92,5 @@ task_status (tasks.WriteFault e before after) = 8
 task_status (tasks.Stream e place kind) = 9
 task_status (tasks.Caps e offered wanted) = 10
 task_status (tasks.TooLong e a b) = 15
-task_status (tasks.NotLinked e place) = 11
+task_status (tasks.NotLinked p place) = 11
 task_status tasks.OutOfMemory = 13

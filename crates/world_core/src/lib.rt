@@ -2,7 +2,7 @@
 #![tactic(auto)]
 
 pub mod ended;
-mod giving;
+mod laws;
 mod report;
 mod run;
 

@@ -3,17 +3,21 @@ ghost use Rattle.std.specs.Prelude.{◌≡◌, ◌<◌, ◌++◌, [], IfOk, OnOk
 ghost use Rattle.std.specs.List.{cons_option};
 ghost use Rattle.graph_core.specs.Ends.{name_at};
 ghost use Rattle.graph_core.specs.Graph.{made as made_in};
-ghost use Rattle.line_start.specs.Start.{writes};
+ghost use Rattle.graph_files.specs.Ends.{writes};
 ghost use Rattle.world_core.specs.Ran.{TellsEnd, stop_fault, stop_status};
 ghost use Rattle.world_core.specs.Told.{location_named, pad_told, pads_told, sink_told, sinks_told, source_pad, task_fault, task_status};
 
 use crate::ended::WorldEnd;
 use el_set::Settings;
-use graph_core::{Graph, PadPlace};
+use graph_core::Graph;
+use graph_files::Count;
 use gst_caps::{List, OutOfMemory, PadName, Text};
 use run_report::{Fault, PadCount, Report, SinkCount};
 use std::alloc::Global;
-use task_core::{Pad, TaskFault};
+use task_parts::TaskFault;
+
+/// How many source pads an element has numbers for.
+const MOST_PADS: u32 = 64;
 
 /// The name of an element, and no name where it is not there.
 fn name_of(alloc: Global, graph: &Graph, element: u32) -> Result<Text, OutOfMemory>
@@ -94,8 +98,8 @@ fn fault_of(alloc: Global, graph: &Graph, fault: TaskFault) -> Result<Fault, Out
             a,
             b,
         }),
-        TaskFault::NotLinked { element, place } => Ok(Fault::NotLinked {
-            pad: pad_of(alloc, graph, element)?,
+        TaskFault::NotLinked { pad, place } => Ok(Fault::NotLinked {
+            pad: pad_of(alloc, graph, pad / MOST_PADS)?,
             place,
         }),
         TaskFault::OutOfMemory => Ok(Fault::Nothing),
@@ -135,7 +139,7 @@ fn push_some<T: Drop>(
 fn count_at(
     alloc: Global,
     graph: &Graph,
-    pads: &[Pad],
+    pads: &[Count],
     element: u32,
 ) -> Result<Option<PadCount>, OutOfMemory>
     requires { element < length (made_in graph.now) }
@@ -155,7 +159,7 @@ fn count_at(
 }
 
 /// What the source pads of all elements have counted, in their order.
-fn counts_of(alloc: Global, graph: &Graph, pads: &[Pad]) -> Result<List<PadCount>, OutOfMemory>
+fn counts_of(alloc: Global, graph: &Graph, pads: &[Count]) -> Result<List<PadCount>, OutOfMemory>
     ensures { IfOk result (λ counts. counts ≡ pads_told (made_in graph.now) pads.now) }
 {
     let mut counts = List::new(alloc);
@@ -232,7 +236,7 @@ pub(crate) fn end_of(
     alloc: Global,
     graph: &Graph,
     stop: Option<TaskFault>,
-    pads: &[Pad],
+    pads: &[Count],
     lengths: &[u64],
 ) -> Result<WorldEnd, OutOfMemory>
     ensures { IfOk result (TellsEnd (made_in graph.now) stop pads.now lengths.now) }

@@ -1,40 +1,41 @@
 //! Runs of lines by turns.
-ghost use Rattle.std.specs.Prelude.{◌≡◌, ◌≢◌, ◌<◌, ◌^◌, ℕ, List, [], Option, Some, IfOk, IfErr, IsSome, length, slice_get};
+ghost use Rattle.std.specs.Prelude.{◌≡◌, ◌≢◌, ◌<◌, ◌^◌, ℕ, List, [], Option, Some, IfOk, IfErr, length, slice_get};
 ghost use Rattle.graph_core.specs.Graph.{made as made_in};
-ghost use Rattle.line_ends.specs.Located.{AreLocated};
-ghost use Rattle.run_files.specs.Ends.{known_ends};
+ghost use Rattle.graph_files.specs.Blanks.{blanks_in};
+ghost use Rattle.graph_files.specs.Files.{AreLocated, GraphOpens, known_of};
+ghost use Rattle.graph_tasks.specs.Planned.{planned};
+ghost use Rattle.net_model.specs.Moment.{Moment};
+ghost use Rattle.net_turns.specs.Net.{NetReady, NetStands};
+ghost use Rattle.net_turns.specs.Rests.{AllFramed, NetEnded, NetFaulted};
+ghost use Rattle.net_turns.specs.Turns.{RunBy, stop_of};
 ghost use Rattle.run_files.specs.Opening.{IsUnopened, location_of as location_in};
-ghost use Rattle.run_files.specs.Seen.{Seen, seen};
+ghost use Rattle.run_files.specs.Seen.{Seen};
 ghost use Rattle.run_files.specs.declared.end.Opening.{Opening as Openings};
-ghost use Rattle.line_files.specs.Files.{LineOpens};
-ghost use Rattle.line_net.specs.Pads.{all_pads, with_pads};
-ghost use Rattle.task_core.specs.Task.{TaskLists};
-ghost use Rattle.task_net.specs.Net.{AllFramed, AllReady, IsNet, IsNetCause, IsWired, NetEnded, NetFaulted};
-ghost use Rattle.task_net.specs.Turns.{stop_of};
+ghost use Rattle.turn_order.specs.declared.turns.Turns.{Turns as TurnsOf};
 ghost use Rattle.world_core.specs.Ended.{HasEnded};
-ghost use Rattle.world_core.specs.Plan.{prepared_lanes, prepared_lengths, prepared_openings, prepared_pads, prepared_parts};
-ghost use Rattle.world_core.specs.Prepared.{HasRoom, IsPrepared};
+ghost use Rattle.world_core.specs.Prepared.{ArePlanned, HasRoom, IsReserved};
 ghost use Rattle.world_core.specs.Ran.{KnownFailed, KnownHold};
 ghost use Rattle.world_core.specs.Start.{IsStarted};
-ghost use Rattle.world_core.specs.Turned.{HasTurned, RanByTurns};
-ghost use Rattle.world_core.specs.World.{IsBuilt, IsRunStatus, IsUnwritten, IsWorldEnd, NotBegun};
+ghost use Rattle.world_core.specs.Turned.{RanByTurns};
+ghost use Rattle.world_core.specs.World.{IsBuilt, IsRunStatus, IsUnwritten, IsWorldEnd, NotBegun, seen_by};
 
 use crate::ended::WorldEnd;
-use crate::giving::give_back;
+use crate::laws::runs_are_known;
 use crate::report::{end_of, without_counts};
+use element_traits::{TaskElement, TaskSource};
 use graph_core::Graph;
-use graph_ways::ways_of;
+use graph_files::{Blanks, Count, Filled, count_pads, openings_of, take_back};
+use graph_tasks::{Plan, WiredTasks, wire};
 use gst_caps::{OutOfMemory, Text};
 use gst_outside::{Files, Sink, Source};
 use lane_core::{Inlet, MemInlet, MemLanes, MemOutlet, Outlet};
-use line_files::openings_of;
-use line_net::put_pads;
-use line_tasks::{Made, Parts, Plan, parts_of};
+use net_task::Task;
+use net_turns::{Stopped, run_tasks};
 use run_files::{End, Opening, Unopened, close_all, open_all};
 use run_report::Fault;
 use std::alloc::Global;
-use task_core::{Pad, Task, TaskFault};
-use task_net::{Stopped, run_tasks};
+use task_elements::{StreamElement, StreamSource};
+use task_parts::TaskFault;
 use turn_order::{Order, Turns};
 
 const OUT_OF_MEMORY: u8 = 13;
@@ -45,18 +46,34 @@ const OPEN_FAULT: u8 = 6;
 #[derive(Drop)]
 struct Counts {
     /// The source pads.
-    pads: Vec<Pad>,
+    pads: Vec<Count>,
     /// The lengths of the files of filesinks, in bytes.
     lengths: Vec<u64>,
 }
 
 /// What a run takes the memory for before a file is open.
 #[derive(Drop)]
-struct Prepared<S, K, I, O> {
-    plan: Plan<S, K, I, O>,
+struct Prepared<S: Source, K: Sink>
+where
+    StreamSource<S>: TaskSource,
+    StreamElement<K>: TaskElement,
+{
+    plan: Plan<StreamSource<S>, StreamElement<K>, MemInlet, MemOutlet>,
     lanes: MemLanes,
+    blanks: Blanks<S, K>,
     counts: Counts,
     openings: Vec<Option<Opening>>,
+}
+
+/// The tasks of a graph, the elements that are of none, by their numbers, and the ends of files that no element has.
+struct Begun<S: Source, K: Sink, I: Inlet<Out = O>, O: Outlet<Lanes = I::Lanes>>
+where
+    StreamSource<S>: TaskSource,
+    StreamElement<K>: TaskElement,
+{
+    tasks: Vec<Task<StreamSource<S>, StreamElement<K>, I, O>>,
+    rest: Vec<Option<StreamElement<K>>>,
+    left: Vec<Option<End<S, K>>>,
 }
 
 /// How a run ended, with the files of its elements.
@@ -71,26 +88,27 @@ fn counts_for(alloc: Global, graph: &Graph) -> Result<Counts, OutOfMemory>
 {
     let mut pads = Vec::new(alloc);
     let mut lengths = Vec::new(alloc);
-    for element in 0..graph.count() {
-        pads.push(Pad::new(element))?;
+    for _ in 0..graph.count() {
+        pads.push(Count {
+            items: 0,
+            buffers: 0,
+        })?;
         lengths.push(0)?;
     }
     Ok(Counts { pads, lengths })
 }
 
 /// Takes the memory for a run before a file is open.
-fn prepare<S: Source, K: Sink>(
-    alloc: Global,
-    graph: &Graph,
-) -> Result<Prepared<S, K, MemInlet, MemOutlet>, OutOfMemory>
+fn prepare<S: Source, K: Sink>(alloc: Global, graph: &Graph) -> Result<Prepared<S, K>, OutOfMemory>
     requires built { IsBuilt graph.now }
-    ensures { IfOk result (λ p. IsPrepared ⟦<MemInlet as Inlet>⟧.received ⟦<MemOutlet as Outlet>⟧.sent ⟦<MemInlet as Inlet>⟧.place ⟦<MemOutlet as Outlet>⟧.place ⟦<MemOutlet as Outlet>⟧.limits ⟦<MemOutlet as Outlet>⟧.count graph.now (prepared_parts p) (prepared_lanes p) (prepared_pads p) (prepared_lengths p) (prepared_openings p)) }
+    ensures planned { IfOk result (λ p. ArePlanned ⟦<MemInlet as Inlet>⟧ ⟦<MemOutlet as Outlet>⟧ graph.now (planned p.plan) p.lanes) }
+    ensures reserved { IfOk result (λ p. IsReserved graph.now p.counts.pads.items p.counts.lengths.items (blanks_in p.blanks) p.openings.items) }
 {
-    let ways = ways_of(alloc, graph)?;
-    let Parts { parts, lanes } = parts_of(alloc, graph, ways.as_slice())?;
+    let WiredTasks { tasks, lanes } = wire(alloc, graph)?;
     Ok(Prepared {
-        plan: Plan::new(alloc, parts)?,
+        plan: Plan::new(alloc, tasks)?,
         lanes,
+        blanks: Blanks::new(alloc, graph)?,
         counts: counts_for(alloc, graph)?,
         openings: openings_of(alloc, graph)?,
     })
@@ -107,66 +125,57 @@ fn stop_in(ran: Result<(), Stopped>) -> Option<TaskFault>
 }
 
 /// Runs all tasks by turns.
-fn run_all<S: Source, K: Sink, I: Inlet<Out = O>, O: Outlet<Lanes = I::Lanes>>(
+fn run_all<S: TaskSource, E: TaskElement, I: Inlet<Out = O>, O: Outlet<Lanes = I::Lanes>>(
     alloc: Global,
-    tasks: &mut Vec<Task<S, K, I, O>>,
+    tasks: &mut Vec<Task<S, E, I, O>>,
     lanes: &mut I::Lanes,
     turns: Order,
 ) -> Result<(), Stopped>
-    requires ready { AllReady I.place O.place O.limits O.count tasks.old.items (O.tells lanes.old) }
-    requires wired { IsWired I.place O.place O.limits tasks.old.items }
-    requires told { (table : _) → IsSome (O.tells table) }
-    ensures ended { IfOk result (λ done. (lists : ℕ → TaskLists) → IsNet S.content K.bytes I.received O.sent I.place O.place tasks.old.items lists (O.tells lanes.old) → NetEnded S.content K.bytes I.received O.sent I.place O.place tasks.new.items lists (O.tells lanes.new)) }
-    ensures faulted { IfErr result (λ stop. (lists : ℕ → TaskLists) → IsNet S.content K.bytes I.received O.sent I.place O.place tasks.old.items lists (O.tells lanes.old) → NetFaulted S.content K.bytes I.received O.sent I.place O.place tasks.new.items lists (O.tells lanes.new) stop.task stop.fault) }
-    ensures within { IfErr result (λ stop. stop.task < length tasks.new.items) }
-    ensures cause { IfErr result (λ stop. (t : _) → slice_get tasks.new.items stop.task ≡ Some t → IsNetCause S.faults K.faults t stop.fault) }
-    ensures frame { AllFramed S.location S.content K.location I.place I.id O.place O.limits O.id tasks.old.items tasks.new.items }
+    requires ready { NetReady tasks.old.items (O.tells lanes.old) }
+    ensures ended { IfOk result (λ done. (m : Moment) → NetStands m tasks.old.items (O.tells lanes.old) → NetEnded m tasks.new.items (O.tells lanes.new)) }
+    ensures faulted { IfErr result (λ stop. (m : Moment) → NetStands m tasks.old.items (O.tells lanes.old) → NetFaulted m tasks.new.items stop.task stop.fault) }
+    ensures turned { (next : TurnsOf) × RunBy turns 0 tasks.old.items (O.tells lanes.old) next (stop_of result) tasks.new.items }
+    ensures frames { AllFramed tasks.old.items tasks.new.items }
     ensures count { length tasks.new.items ≡ length tasks.old.items }
-    ensures turned { HasTurned S.content K.bytes I.received O.sent I.place O.place O.limits turns tasks.old.items (O.tells lanes.old) (stop_of result) tasks.new.items (O.tells lanes.new) }
 {
     let mut turns = Turns::new(turns);
     run_tasks(alloc, tasks, lanes, &mut turns)
-}
-
-/// Puts the source pads of all tasks into a list by the numbers of their elements.
-fn put_all<S: Source, K: Sink, I: Inlet<Out = O>, O: Outlet<Lanes = I::Lanes>>(
-    pads: &mut Vec<Pad>,
-    tasks: &Vec<Task<S, K, I, O>>,
-)
-    ensures { pads.new.items ≡ with_pads (all_pads tasks.now.items) pads.old.items }
-{
-    put_pads(pads, tasks.as_slice());
 }
 
 /// Runs tasks by turns, and takes their files back.
 fn run_made<S: Source, K: Sink, I: Inlet<Out = O>, O: Outlet<Lanes = I::Lanes>>(
     alloc: Global,
     graph: &Graph,
-    made: Made<S, K, I, O>,
+    begun: Begun<S, K, I, O>,
     lanes: &mut I::Lanes,
     counts: Counts,
     turns: Order,
 ) -> Ran<S, K>
-    requires started { (before : Seen) × IsStarted S.location S.content S.faults K.location K.bytes K.faults I.received O.sent I.place O.place O.limits O.count graph.now made.tasks.items made.loose.items (O.tells lanes.old) before }
-    requires told { (table : _) → IsSome (O.tells table) }
+    requires started { (before : Seen) × IsStarted S.Source K.Sink graph.now begun.tasks.items begun.rest.items begun.left.items (O.tells lanes.old) before }
     requires room { HasRoom (length (made_in graph.now)) counts.pads.items counts.lengths.items }
-    ensures ended { (before : Seen) → IsStarted S.location S.content S.faults K.location K.bytes K.faults I.received O.sent I.place O.place O.limits O.count graph.now made.tasks.items made.loose.items (O.tells lanes.old) before → result.end.status ≢ 13 → HasEnded graph.now before (KnownHold graph.now (known_ends S.location S.content S.faults K.location K.bytes K.faults result.ends.items)) (KnownFailed (known_ends S.location S.content S.faults K.location K.bytes K.faults result.ends.items)) result.end }
-    ensures located { (before : Seen) → IsStarted S.location S.content S.faults K.location K.bytes K.faults I.received O.sent I.place O.place O.limits O.count graph.now made.tasks.items made.loose.items (O.tells lanes.old) before → AreLocated (made_in graph.now) (known_ends S.location S.content S.faults K.location K.bytes K.faults result.ends.items) }
-    ensures turned { (before : Seen) → IsStarted S.location S.content S.faults K.location K.bytes K.faults I.received O.sent I.place O.place O.limits O.count graph.now made.tasks.items made.loose.items (O.tells lanes.old) before → result.end.status ≢ 13 → RanByTurns S.location S.content S.faults K.location K.bytes K.faults I.received O.sent I.place O.place O.limits O.count graph.now turns before result.end }
+    ensures ended { (before : Seen) → IsStarted S.Source K.Sink graph.now begun.tasks.items begun.rest.items begun.left.items (O.tells lanes.old) before
+        → result.end.status ≢ 13 → let known = known_of S.Source K.Sink result.ends.items in HasEnded graph.now before (KnownHold graph.now known) (KnownFailed known) result.end }
+    ensures located { (before : Seen) → IsStarted S.Source K.Sink graph.now begun.tasks.items begun.rest.items begun.left.items (O.tells lanes.old) before
+        → AreLocated (made_in graph.now) (known_of S.Source K.Sink result.ends.items) }
+    ensures turned { (before : Seen) → IsStarted S.Source K.Sink graph.now begun.tasks.items begun.rest.items begun.left.items (O.tells lanes.old) before
+        → result.end.status ≢ 13
+        → RanByTurns ⟦<StreamSource<S> as TaskSource>⟧ ⟦<StreamElement<K> as TaskElement>⟧ I.Inlet O.Outlet S.Source K.Sink graph.now turns before result.end }
     ensures entries { result.end.report.entries ≡ [] }
     ensures statuses { IsRunStatus result.end.status }
 {
-    let Made {
+    let Begun {
         mut tasks,
-        loose: mut ends,
-    } = made;
+        rest,
+        left: mut ends,
+    } = begun;
     let Counts {
         mut pads,
         mut lengths,
     } = counts;
+    runs_are_known::<S, K, I, O>();
     let ran = run_all(alloc, &mut tasks, lanes, turns);
-    put_all(&mut pads, &tasks);
-    give_back(graph, tasks, &mut ends, &mut lengths);
+    count_pads(tasks.as_slice(), &mut pads);
+    take_back(graph, tasks, rest, &mut ends, &mut lengths);
     let told = end_of(
         alloc,
         graph,
@@ -187,27 +196,43 @@ fn run_made<S: Source, K: Sink, I: Inlet<Out = O>, O: Outlet<Lanes = I::Lanes>>(
 fn run_opened<S: Source, K: Sink>(
     alloc: Global,
     graph: &Graph,
-    prepared: Prepared<S, K, MemInlet, MemOutlet>,
+    prepared: Prepared<S, K>,
     ends: Vec<Option<End<S, K>>>,
     turns: Order,
 ) -> Ran<S, K>
     requires built { IsBuilt graph.now }
-    requires prepared { IsPrepared ⟦<MemInlet as Inlet>⟧.received ⟦<MemOutlet as Outlet>⟧.sent ⟦<MemInlet as Inlet>⟧.place ⟦<MemOutlet as Outlet>⟧.place ⟦<MemOutlet as Outlet>⟧.limits ⟦<MemOutlet as Outlet>⟧.count graph.now (prepared_parts prepared) (prepared_lanes prepared) (prepared_pads prepared) (prepared_lengths prepared) (prepared_openings prepared) }
-    requires opened { (before after : Seen) × LineOpens S.location S.content S.faults K.location K.bytes K.faults (made_in graph.now) ends.items before after }
-    ensures ended { (before after : Seen) → LineOpens S.location S.content S.faults K.location K.bytes K.faults (made_in graph.now) ends.items before after → result.end.status ≢ 13 → HasEnded graph.now before (KnownHold graph.now (known_ends S.location S.content S.faults K.location K.bytes K.faults result.ends.items)) (KnownFailed (known_ends S.location S.content S.faults K.location K.bytes K.faults result.ends.items)) result.end }
-    ensures located { (before after : Seen) → LineOpens S.location S.content S.faults K.location K.bytes K.faults (made_in graph.now) ends.items before after → AreLocated (made_in graph.now) (known_ends S.location S.content S.faults K.location K.bytes K.faults result.ends.items) }
-    ensures turned { (before after : Seen) → LineOpens S.location S.content S.faults K.location K.bytes K.faults (made_in graph.now) ends.items before after → result.end.status ≢ 13 → RanByTurns S.location S.content S.faults K.location K.bytes K.faults ⟦<MemInlet as Inlet>⟧.received ⟦<MemOutlet as Outlet>⟧.sent ⟦<MemInlet as Inlet>⟧.place ⟦<MemOutlet as Outlet>⟧.place ⟦<MemOutlet as Outlet>⟧.limits ⟦<MemOutlet as Outlet>⟧.count graph.now turns before result.end }
+    requires planned { ArePlanned ⟦<MemInlet as Inlet>⟧ ⟦<MemOutlet as Outlet>⟧ graph.now (planned prepared.plan) prepared.lanes }
+    requires reserved { IsReserved graph.now prepared.counts.pads.items prepared.counts.lengths.items (blanks_in prepared.blanks) prepared.openings.items }
+    requires opened { (before after : Seen) × GraphOpens S.Source K.Sink (made_in graph.now) ends.items before after }
+    ensures ended { (before after : Seen) → GraphOpens S.Source K.Sink (made_in graph.now) ends.items before after → result.end.status ≢ 13
+        → let known = known_of S.Source K.Sink result.ends.items in HasEnded graph.now before (KnownHold graph.now known) (KnownFailed known) result.end }
+    ensures located { (before after : Seen) → GraphOpens S.Source K.Sink (made_in graph.now) ends.items before after
+        → AreLocated (made_in graph.now) (known_of S.Source K.Sink result.ends.items) }
+    ensures turned { (before after : Seen) → GraphOpens S.Source K.Sink (made_in graph.now) ends.items before after → result.end.status ≢ 13
+        → RanByTurns ⟦<StreamSource<S> as TaskSource>⟧ ⟦<StreamElement<K> as TaskElement>⟧ ⟦<MemInlet as Inlet>⟧ ⟦<MemOutlet as Outlet>⟧
+        S.Source K.Sink graph.now turns before result.end }
     ensures entries { result.end.report.entries ≡ [] }
     ensures statuses { IsRunStatus result.end.status }
 {
     let Prepared {
         plan,
         mut lanes,
+        blanks,
         counts,
         ..
     } = prepared;
-    let made = plan.into_tasks(alloc, graph, ends);
-    run_made(alloc, graph, made, &mut lanes, counts, turns)
+    let Filled {
+        mut elements,
+        mut sources,
+        left,
+    } = blanks.fill(graph, ends);
+    let tasks = plan.into_tasks(&mut elements, &mut sources);
+    let begun = Begun {
+        tasks,
+        rest: elements,
+        left,
+    };
+    run_made(alloc, graph, begun, &mut lanes, counts, turns)
 }
 
 /// The location of an opening.
@@ -252,8 +277,10 @@ fn not_begun(alloc: Global, openings: &[Option<Opening>], unopened: Unopened) ->
 /// a pad.
 pub fn run_turns<F: Files>(alloc: Global, graph: Graph, files: &mut F, turns: Order) -> WorldEnd
     requires built { IsBuilt graph }
-    ensures ended { result.status ≢ 13 → IsWorldEnd graph (seen (F.input files.old) (F.output files.old) (F.faults_of files.old) (F.refused_of files.old) (F.faults files.old) (F.ends files.old)) (seen (F.input files.new) (F.output files.new) (F.faults_of files.new) (F.refused_of files.new) (F.faults files.new) (F.ends files.new)) result }
-    ensures turned { result.status ≢ 13 → result.status ≢ 6 → RanByTurns F.Src.location F.Src.content F.Src.faults F.Snk.location F.Snk.bytes F.Snk.faults ⟦<MemInlet as Inlet>⟧.received ⟦<MemOutlet as Outlet>⟧.sent ⟦<MemInlet as Inlet>⟧.place ⟦<MemOutlet as Outlet>⟧.place ⟦<MemOutlet as Outlet>⟧.limits ⟦<MemOutlet as Outlet>⟧.count graph turns (seen (F.input files.old) (F.output files.old) (F.faults_of files.old) (F.refused_of files.old) (F.faults files.old) (F.ends files.old)) result }
+    ensures ended { result.status ≢ 13 → IsWorldEnd graph (seen_by F.Files files.old) (seen_by F.Files files.new) result }
+    ensures turned { result.status ≢ 13 → result.status ≢ 6
+        → RanByTurns ⟦<StreamSource<F::Src> as TaskSource>⟧ ⟦<StreamElement<F::Snk> as TaskElement>⟧ ⟦<MemInlet as Inlet>⟧ ⟦<MemOutlet as Outlet>⟧
+        F.Src.Source F.Snk.Sink graph turns (seen_by F.Files files.old) result }
     ensures statuses { IsRunStatus result.status }
     ensures given_back { F.ends files.old < 2 ^ 63 → F.ends files.new ≡ F.ends files.old }
     ensures inputs { (l : List ℕ) → F.input files.new l ≡ F.input files.old l }

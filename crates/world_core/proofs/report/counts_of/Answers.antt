@@ -5,4 +5,5 @@ use Rattle.world_core.proofs.report.counts_of.Goals as goal
 
 pub loop-element-preserved : goal.loop-element-preserved
 loop-element-preserved c =
-    chosen_next (pad_told (made c.args.graph.now) c.args.pads.now) c.loop-element.element c.in_ok-count_at.field-0 c.loop-element.counts c.push_some.new.list c.in_ok-count_at.ensures c.loop-element.invariant c.in_ok-push_some.ensures
+    chosen_next (pad_told (made c.args.graph.now) c.args.pads.now) c.loop-element.element c.in_ok-count_at.field-0 c.loop-element.counts c.push_some.new.list
+    c.in_ok-count_at.ensures c.loop-element.invariant c.in_ok-push_some.ensures

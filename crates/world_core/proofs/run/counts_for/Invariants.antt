@@ -1,12 +1,11 @@
 use Rattle.std.proofs.Common.{◌≡◌, length}
-use Rattle.line_net.specs.Pads.{AreUncounted}
-use Rattle.world_core.specs.Prepared.{NothingYet}
+use Rattle.world_core.specs.Prepared.{AreUncounted, NothingYet}
 use Rattle.world_core.proofs.run.counts_for.Given as goal
 
-abbrev pub invariant-loop-element : goal.invariant-loop-element
-invariant-loop-element l = record {
-  size : length l.pads.items ≡ l.element;
-  uncounted : AreUncounted l.pads.items;
-  also : length l.lengths.items ≡ l.element;
-  nothing : NothingYet l.element l.lengths.items;
+abbrev pub invariant-loop : goal.invariant-loop
+invariant-loop l = record {
+  size : length l.pads.items ≡ l.counter;
+  uncounted : AreUncounted l.counter l.pads.items;
+  lengths_size : length l.lengths.items ≡ l.counter;
+  nothing : NothingYet l.counter l.lengths.items;
 }

@@ -1,12 +1,11 @@
-use Rattle.graph_ways.proofs.Once.{linked_once}
+use Rattle.graph_model.proofs.Once.{linked_once}
 use Rattle.world_core.proofs.run.prepare.Goals as goal
 
-pub returns : goal.returns
-returns g c = record {
-  ways = c.in_ok-ways.ways.items;
-  ways_are = c.in_ok-ways.ensures c.requires.built.sound;
-  parts_are = rw (c.in_ok-new.ensures, c.lanes.view_is, ← c.as_slice.ensures.value) (c.in_ok-parts.ensures.parts (linked_once c.requires.built.tree c.args.graph.now c.requires.built.line) (rw c.as_slice.ensures.value (c.in_ok-ways.ensures c.requires.built.sound)));
-  titled = rw c.in_ok-new.ensures c.in_ok-parts.ensures.titles;
-  room = c.in_ok-counts_for.ensures;
-  openings_are = c.in_ok-openings_of.ensures;
-}
+pub returns-clause-planned : goal.returns-clause-planned
+returns-clause-planned g c =
+    let wired = c.in_ok-tasks.ensures c.requires.built.sound (linked_once c.requires.built.tree c.args.graph.now c.requires.built.line) in
+    record { bags = wired.bags; bags_are = wired.are; wired = rw (c.in_ok-new.ensures, c.lanes.view_is) wired.tasks }
+
+pub returns-clause-reserved : goal.returns-clause-reserved
+returns-clause-reserved g c =
+    record { room = c.in_ok-counts_for.ensures; blanks_are = c.in_ok-new-2.ensures; openings_are = c.in_ok-openings_of.ensures }

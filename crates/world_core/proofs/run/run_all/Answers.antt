@@ -7,25 +7,45 @@ run_tasks-requires-clause-ready g c κs within = rw c.deref_mut.ensures.value c.
 
 pub returns-clause-ended : goal.returns-clause-ended
 returns-clause-ended g c =
-    rw (whole_again c.args.tasks.now.items c.run_tasks.new.tasks c.args.tasks.now.len (omega (arith, c.args.tasks.now.ok.0)) (c.run_tasks.ensures.count ∙ ap length c.deref_mut.ensures.value), ← c.deref_mut.ensures.value) c.run_tasks.ensures.ended
+    rw (
+      whole_again c.args.tasks.now.items c.run_tasks.new.tasks c.args.tasks.now.len (omega (arith, c.args.tasks.now.ok.0))
+          (c.run_tasks.ensures.count ∙ ap length c.deref_mut.ensures.value),
+      ← c.deref_mut.ensures.value,
+    )
+    c.run_tasks.ensures.ended
 
 pub returns-clause-faulted : goal.returns-clause-faulted
 returns-clause-faulted g c =
-    rw (whole_again c.args.tasks.now.items c.run_tasks.new.tasks c.args.tasks.now.len (omega (arith, c.args.tasks.now.ok.0)) (c.run_tasks.ensures.count ∙ ap length c.deref_mut.ensures.value), ← c.deref_mut.ensures.value) c.run_tasks.ensures.faulted
-
-pub returns-clause-frame : goal.returns-clause-frame
-returns-clause-frame g c =
-    rw (whole_again c.args.tasks.now.items c.run_tasks.new.tasks c.args.tasks.now.len (omega (arith, c.args.tasks.now.ok.0)) (c.run_tasks.ensures.count ∙ ap length c.deref_mut.ensures.value), ← c.deref_mut.ensures.value) c.run_tasks.ensures.frame
-
-pub returns-clause-within : goal.returns-clause-within
-returns-clause-within g c =
-    rw (whole_again c.args.tasks.now.items c.run_tasks.new.tasks c.args.tasks.now.len (omega (arith, c.args.tasks.now.ok.0)) (c.run_tasks.ensures.count ∙ ap length c.deref_mut.ensures.value)) c.run_tasks.ensures.within
-
-pub returns-clause-cause : goal.returns-clause-cause
-returns-clause-cause g c =
-    rw (whole_again c.args.tasks.now.items c.run_tasks.new.tasks c.args.tasks.now.len (omega (arith, c.args.tasks.now.ok.0)) (c.run_tasks.ensures.count ∙ ap length c.deref_mut.ensures.value)) c.run_tasks.ensures.cause
+    rw (
+      whole_again c.args.tasks.now.items c.run_tasks.new.tasks c.args.tasks.now.len (omega (arith, c.args.tasks.now.ok.0))
+          (c.run_tasks.ensures.count ∙ ap length c.deref_mut.ensures.value),
+      ← c.deref_mut.ensures.value,
+    )
+    c.run_tasks.ensures.faulted
 
 pub returns-clause-turned : goal.returns-clause-turned
 returns-clause-turned g c =
-    rw (whole_again c.args.tasks.now.items c.run_tasks.new.tasks c.args.tasks.now.len (omega (arith, c.args.tasks.now.ok.0)) (c.run_tasks.ensures.count ∙ ap length c.deref_mut.ensures.value), ← c.deref_mut.ensures.value)
+    rw (
+      whole_again c.args.tasks.now.items c.run_tasks.new.tasks c.args.tasks.now.len (omega (arith, c.args.tasks.now.ok.0))
+          (c.run_tasks.ensures.count ∙ ap length c.deref_mut.ensures.value),
+      ← c.deref_mut.ensures.value,
+    )
     (c.run_tasks.new.turns, c.run_tasks.ensures.by_turns c.args.turns 0 (c.new-turns.ensures.among (length c.deref_mut.result.now)))
+
+pub returns-clause-frames : goal.returns-clause-frames
+returns-clause-frames g c =
+    rw (
+      whole_again c.args.tasks.now.items c.run_tasks.new.tasks c.args.tasks.now.len (omega (arith, c.args.tasks.now.ok.0))
+          (c.run_tasks.ensures.count ∙ ap length c.deref_mut.ensures.value),
+      ← c.deref_mut.ensures.value,
+    )
+    c.run_tasks.ensures.frames
+
+pub returns-clause-count : goal.returns-clause-count
+returns-clause-count g c =
+    rw (
+      whole_again c.args.tasks.now.items c.run_tasks.new.tasks c.args.tasks.now.len (omega (arith, c.args.tasks.now.ok.0))
+          (c.run_tasks.ensures.count ∙ ap length c.deref_mut.ensures.value),
+      ← c.deref_mut.ensures.value,
+    )
+    c.run_tasks.ensures.count

@@ -1,49 +1,68 @@
-use Rattle.std.proofs.Common.{◌∙◌, ap, refl}
+use Rattle.std.proofs.Common.{◌∙◌, ap, refl, length}
 use Rattle.graph_core.specs.Graph.{made}
-use Rattle.task_net.specs.Turns.{stop_of}
+use Rattle.net_turns.specs.Turns.{stop_of}
 use Rattle.world_core.specs.Ran.{stop_fault, stop_status}
 use Rattle.world_core.specs.Told.{pads_told, sinks_told}
-use Rattle.world_core.proofs.Runs.{run_ends_so, run_located, told_by}
-use Rattle.world_core.proofs.Started.{start_ready, start_wired}
+use Rattle.world_core.proofs.RunMade.{made_ended, made_located, source_fails, told_by}
+use Rattle.world_core.proofs.Started.{started_ready}
 use Rattle.world_core.proofs.run.run_made.Goals as goal
 
 pub run_all-ran-requires-clause-ready : goal.run_all-ran-requires-clause-ready
-run_all-ran-requires-clause-ready g c κs within = start_ready g.S.Source.location g.S.Source.content g.S.Source.faults g.K.Sink.location g.K.Sink.bytes g.K.Sink.faults g.I.Inlet.received g.O.Outlet.sent g.I.Inlet.place g.O.Outlet.place g.O.Outlet.limits g.O.Outlet.count c.args.graph.now c.args.made.tasks.items c.args.made.loose.items (g.O.Outlet.tells c.args.lanes.now) c.requires.started.0 c.requires.started.1
-
-pub run_all-ran-requires-clause-wired : goal.run_all-ran-requires-clause-wired
-run_all-ran-requires-clause-wired g c κs within = start_wired g.S.Source.location g.S.Source.content g.S.Source.faults g.K.Sink.location g.K.Sink.bytes g.K.Sink.faults g.I.Inlet.received g.O.Outlet.sent g.I.Inlet.place g.O.Outlet.place g.O.Outlet.limits g.O.Outlet.count c.args.graph.now c.args.made.tasks.items c.args.made.loose.items (g.O.Outlet.tells c.args.lanes.now) c.requires.started.0 c.requires.started.1
+run_all-ran-requires-clause-ready g c κs within =
+    started_ready g.S.Source g.K.Sink c.args.graph.now c.args.begun.tasks.items c.args.begun.rest.items c.args.begun.left.items (g.O.Outlet.tells c.args.lanes.now)
+    c.requires.started.0 c.requires.started.1
 
 pub returns-in-Ok-clause-ended : goal.returns-in-Ok-clause-ended
-returns-in-Ok-clause-ended g c =
-    λ before s found.
-    rw c.give_back.ensures.ends
-    (run_ends_so g.S.Source.location g.S.Source.content g.S.Source.faults g.K.Sink.location g.K.Sink.bytes g.K.Sink.faults g.I.Inlet.received g.O.Outlet.sent g.I.Inlet.place g.I.Inlet.id g.O.Outlet.place g.O.Outlet.limits g.O.Outlet.count g.O.Outlet.id c.args.graph.now c.args.made.tasks.items c.args.made.loose.items (g.O.Outlet.tells c.args.lanes.now) before s c.run_all-ran.new.tasks.items c.run_all-ran.ensures.frame c.run_all-ran.ensures.count c.args.counts.pads.items c.args.counts.lengths.items c.requires.room
-    (g.O.Outlet.tells c.args.lanes.now) (g.O.Outlet.tells c.run_all-ran.new.lanes) refl c.run_all-ran.result c.run_all-ran.ensures.ended c.run_all-ran.ensures.faulted c.run_all-ran.ensures.within c.run_all-ran.ensures.cause c.in-Ok.end
-    (told_by (made c.args.graph.now) c.in-Ok.end c.stop_in.ensures (c.as_slice.ensures.value ∙ c.put_all.ensures) (c.as_slice-2.ensures.value ∙ c.give_back.ensures.lengths) c.in-Ok.ensures) found)
+returns-in-Ok-clause-ended g c = λ before started some.
+    made_ended g.S.Source g.K.Sink (record { ports = λ x. refl; stands = λ x behavior took stands. stands; count = λ x. refl; gave = λ x owed given owes. owes })
+    (λ x. refl) (λ x. refl) c.args.graph.now c.args.begun.tasks.items c.run_all-ran.new.tasks.items c.args.begun.rest.items c.args.begun.left.items
+    (g.O.Outlet.tells c.args.lanes.now) before started c.run_all-ran.ensures.frames c.run_all-ran.ensures.count c.runs_are_known.ensures (λ x. source_fails g.S.Source.faults x.source)
+    c.take_back.new.ends.items c.in-Ok.end c.args.turns c.run_all-ran.ensures.turned.0 (g.O.Outlet.tells c.run_all-ran.new.lanes) c.run_all-ran.result
+    c.run_all-ran.ensures.ended c.run_all-ran.ensures.faulted c.run_all-ran.ensures.turned.1
+    (record {
+      none = c.args.counts.pads.items;
+      counts = c.count_pads.new.counts.items;
+      zeros = c.args.counts.lengths.items;
+      lengths = c.take_back.new.lengths.items;
+      room = c.requires.room;
+      counted = rw (← c.as_slice.ensures.value) c.count_pads.ensures;
+      wrote = c.take_back.ensures.lengths;
+      back = c.take_back.ensures.ends;
+      tells = told_by (made c.args.graph.now) c.in-Ok.end c.stop_in.ensures c.as_slice-2.ensures.value c.as_slice-3.ensures.value c.in-Ok.ensures;
+    }) some
 
 pub returns-in-Ok-clause-located : goal.returns-in-Ok-clause-located
-returns-in-Ok-clause-located g c = λ before s. rw c.give_back.ensures.ends (run_located g.S.Source.location g.S.Source.content g.S.Source.faults g.K.Sink.location g.K.Sink.bytes g.K.Sink.faults g.I.Inlet.received g.O.Outlet.sent g.I.Inlet.place g.I.Inlet.id g.O.Outlet.place g.O.Outlet.limits g.O.Outlet.count g.O.Outlet.id c.args.graph.now c.args.made.tasks.items c.args.made.loose.items (g.O.Outlet.tells c.args.lanes.now) before s c.run_all-ran.new.tasks.items c.run_all-ran.ensures.frame c.run_all-ran.ensures.count c.args.counts.pads.items c.args.counts.lengths.items c.requires.room)
+returns-in-Ok-clause-located g c = λ before started.
+    made_located g.S.Source g.K.Sink (record { ports = λ x. refl; stands = λ x behavior took stands. stands; count = λ x. refl; gave = λ x owed given owes. owes })
+    (λ x. refl) (λ x. refl) c.args.graph.now c.args.begun.tasks.items c.run_all-ran.new.tasks.items c.args.begun.rest.items c.args.begun.left.items
+    (g.O.Outlet.tells c.args.lanes.now) before started c.run_all-ran.ensures.frames c.run_all-ran.ensures.count c.take_back.new.ends.items c.take_back.ensures.ends
 
 pub returns-clause-located : goal.returns-clause-located
-returns-clause-located g c = λ before s. rw c.give_back.ensures.ends (run_located g.S.Source.location g.S.Source.content g.S.Source.faults g.K.Sink.location g.K.Sink.bytes g.K.Sink.faults g.I.Inlet.received g.O.Outlet.sent g.I.Inlet.place g.I.Inlet.id g.O.Outlet.place g.O.Outlet.limits g.O.Outlet.count g.O.Outlet.id c.args.graph.now c.args.made.tasks.items c.args.made.loose.items (g.O.Outlet.tells c.args.lanes.now) before s c.run_all-ran.new.tasks.items c.run_all-ran.ensures.frame c.run_all-ran.ensures.count c.args.counts.pads.items c.args.counts.lengths.items c.requires.room)
+returns-clause-located g c = λ before started.
+    made_located g.S.Source g.K.Sink (record { ports = λ x. refl; stands = λ x behavior took stands. stands; count = λ x. refl; gave = λ x owed given owes. owes })
+    (λ x. refl) (λ x. refl) c.args.graph.now c.args.begun.tasks.items c.run_all-ran.new.tasks.items c.args.begun.rest.items c.args.begun.left.items
+    (g.O.Outlet.tells c.args.lanes.now) before started c.run_all-ran.ensures.frames c.run_all-ran.ensures.count c.take_back.new.ends.items c.take_back.ensures.ends
 
 pub returns-in-Ok-clause-turned : goal.returns-in-Ok-clause-turned
-returns-in-Ok-clause-turned g c =
-    λ before s found.
-    record {
-      first = c.args.made.tasks.items;
-      left = c.args.made.loose.items;
-      tells = g.O.Outlet.tells c.args.lanes.now;
-      started = s;
-      last = c.run_all-ran.new.tasks.items;
-      stop = stop_of c.run_all-ran.result;
-      over = g.O.Outlet.tells c.run_all-ran.new.lanes;
-      turned = c.run_all-ran.ensures.turned;
-      status = c.in-Ok.ensures.status ∙ ap stop_status c.stop_in.ensures;
-      fault = c.in-Ok.ensures.fault ∙ ap (stop_fault (made c.args.graph.now)) c.stop_in.ensures;
-      none = c.args.counts.pads.items;
-      lengths = c.args.counts.lengths.items;
-      room = c.requires.room;
-      pads = c.in-Ok.ensures.pads_are ∙ ap (pads_told (made c.args.graph.now)) (c.as_slice.ensures.value ∙ c.put_all.ensures);
-      sinks = c.in-Ok.ensures.sinks_are ∙ ap (sinks_told (made c.args.graph.now)) (c.as_slice-2.ensures.value ∙ c.give_back.ensures.lengths);
-    }
+returns-in-Ok-clause-turned g c = λ before started some. record {
+  first = c.args.begun.tasks.items;
+  rest = c.args.begun.rest.items;
+  left = c.args.begun.left.items;
+  tells = g.O.Outlet.tells c.args.lanes.now;
+  started = started;
+  last = c.run_all-ran.new.tasks.items;
+  stop = stop_of c.run_all-ran.result;
+  turns = c.run_all-ran.ensures.turned.0;
+  turned = c.run_all-ran.ensures.turned.1;
+  status = c.in-Ok.ensures.status ∙ ap stop_status c.stop_in.ensures;
+  fault = c.in-Ok.ensures.fault ∙ ap (stop_fault (made c.args.graph.now)) c.stop_in.ensures;
+  none = c.args.counts.pads.items;
+  zeros = c.args.counts.lengths.items;
+  room = c.requires.room;
+  counts = c.count_pads.new.counts.items;
+  counted = rw (← c.as_slice.ensures.value) c.count_pads.ensures;
+  pads = c.in-Ok.ensures.pads_are ∙ ap (pads_told (made c.args.graph.now)) c.as_slice-2.ensures.value;
+  lengths = c.take_back.new.lengths.items;
+  wrote = c.take_back.ensures.lengths;
+  sinks = c.in-Ok.ensures.sinks_are ∙ ap (sinks_told (made c.args.graph.now)) c.as_slice-3.ensures.value;
+}

@@ -1,0 +1,81 @@
+-- Why the run of a graph met a fault.
+use Rattle.std.specs.Prelude.{◌≡◌, ◌<◌, ℕ, List, Option, None, Some, length, slice_get}
+use Rattle.gst_item.specs.declared.fault.ElementFault.{ElementFault}
+use Rattle.flow_model.specs.Item.{Item}
+use Rattle.lane_core.specs.Lane.{Lane}
+use Rattle.lane_core.specs.declared.ends.Inlet as inlets
+use Rattle.lane_core.specs.declared.ends.Outlet as outlets
+use Rattle.net_model.specs.Moment.{Moment}
+use Rattle.element_traits.specs.declared.element.TaskElement as elements
+use Rattle.element_traits.specs.Failures.{IsWriteCause}
+use Rattle.element_traits.specs.declared.refusal.Refusal.{Refusal}
+use Rattle.element_traits.specs.declared.refusal.Refusal.TheVariants.{Fault, Unwritten}
+use Rattle.element_traits.specs.declared.refusal.Unread.{Unread}
+use Rattle.element_traits.specs.declared.source.TaskSource as sources
+use Rattle.gst_outside.specs.declared.sink.Sink as sinks
+use Rattle.graph_core.specs.Elements.{Made}
+use Rattle.graph_core.specs.Graph.{IsSound, made as made_in, links as links_in}
+use Rattle.graph_core.specs.Links.{sink_behind}
+use Rattle.graph_core.specs.declared.graph.Graph.{Graph}
+use Rattle.graph_core.specs.declared.pad.PadLink.{PadLink}
+use Rattle.graph_bags.specs.Bags.{AreBags}
+use Rattle.graph_bags.specs.declared.bag.Bag.{Bag}
+use Rattle.graph_model.specs.Asked.{first_pad}
+use Rattle.graph_model.specs.GraphPlan.{pad_id}
+use Rattle.task_elements.specs.declared.element.StreamElement.{StreamElement}
+use Rattle.task_parts.specs.Fault.{refusal_fault, unread_fault}
+use Rattle.task_parts.specs.declared.fault.TaskFault.{TaskFault}
+use Rattle.task_parts.specs.declared.fault.TaskFault.TheVariants.{NotLinked, OutOfMemory, TooLong}
+use Rattle.task_parts.specs.declared.part.Part.{Part}
+use Rattle.net_task.specs.declared.task.Task.{Task}
+use Rattle.net_task.specs.Failed.{Failed, IsCause, IsUnread}
+use Rattle.net_task.specs.Frame.{frame_of}
+use Rattle.graph_ends.specs.Frames.{HaveBags}
+use Rattle.graph_ends.specs.Owed.{IsAwaited, Refuses, WantsLink, went_from}
+use Rattle.graph_ends.specs.Runs.{RunsAt, crossed_in}
+use Rattle.graph_ends.specs.Written.{AreStreams}
+
+-- The rule of an element has this fault at its next item; or a write of that failed; or a source could not be read; or a buffer
+-- is owed to a pad without a link; or 2^40 items crossed a pad; or memory was wanting.
+pub data IsBlamed (contents : ℕ → List ℕ) (graph : Graph) (m : Moment) : TaskFault → Type 0 where
+  refused : (d : ℕ) (element : Made) (own : ElementFault) → slice_get (made_in graph) d ≡ Some element
+      → Refuses contents (made_in graph) (links_in graph) (crossed_in graph m) d element.settings own
+      → IsBlamed contents graph m (refusal_fault d (Fault own))
+  unwritten : (d before after : ℕ) (x : Item) → IsAwaited contents (made_in graph) (links_in graph) (crossed_in graph m) d x
+      → IsBlamed contents graph m (refusal_fault d (Unwritten before after))
+  unread : (n : ℕ) (why : Unread) → IsBlamed contents graph m (unread_fault n why)
+  not_linked : (e place : ℕ) → length (went_from (crossed_in graph m) e) ≡ place
+      → WantsLink contents (made_in graph) (links_in graph) (crossed_in graph m) e
+      → IsBlamed contents graph m (NotLinked (pad_id (first_pad e)) place)
+  full : (e : ℕ) → length (went_from (crossed_in graph m) e) ≡ 1099511627776 → IsBlamed contents graph m (TooLong e 1099511627776 1)
+  no_memory : IsBlamed contents graph m OutOfMemory
+
+module _ {S K I O L : Type 0} (k : sinks.Ghosts K) (s : sources.Ghosts S) (e : elements.Ghosts (StreamElement K)) (i : inlets.Ghosts I L O)
+    (o : outlets.Ghosts O L) where
+  -- That is so where a task of a graph met a fault, which left its frame.
+  abbrev pub FaultsAreBlamed : Type 0
+  FaultsAreBlamed = AreStreams k e → (contents : ℕ → List ℕ) (graph : Graph) (bags : List Bag) (m : Moment)
+      (tasks : List (Task S (StreamElement K) I O L s e i o)) (tells : Option (List Lane)) → RunsAt contents graph bags m tasks tells
+      → (place : ℕ) (before after : Task S (StreamElement K) I O L s e i o) (fault : TaskFault) → slice_get tasks place ≡ Some before
+      → frame_of after ≡ frame_of before → Failed tells before after m fault → IsBlamed contents graph m fault
+
+module _ {S E I O L : Type 0} {s : sources.Ghosts S} {e : elements.Ghosts E} {i : inlets.Ghosts I L O} {o : outlets.Ghosts O L} where
+  -- What is known of a fault without the contents of files: an element of the task that is one of the graph refused an item, by its
+  -- rule or by a write that failed in this very call; its source, one of the graph, could not be read in this very call; a pad that
+  -- is not linked was to be crossed; the pad of an element of the graph was full; or memory was wanting.
+  pub data IsTold (made : List Made) (links : List PadLink) (before after : Task S E I O L s e i o) : TaskFault → Type 0 where
+    refused : (place : ℕ) (part : Part E O e) (was : Option ℕ) (refusal : Refusal) → slice_get after.parts.items place ≡ Some part
+        → part.number < length made → IsWriteCause was (e.failures part.element) refusal → IsTold made links before after (refusal_fault part.number refusal)
+    unread : (n : ℕ) (why : Unread) → n < length made → IsUnread before.head after.head n why → IsTold made links before after (unread_fault n why)
+    not_linked : (n place : ℕ) (element : Made) → slice_get made n ≡ Some element → sink_behind links (first_pad n) ≡ None
+        → IsTold made links before after (NotLinked (pad_id (first_pad n)) place)
+    full : (n : ℕ) → n < length made → IsTold made links before after (TooLong n 1099511627776 1)
+    no_memory : IsTold made links before after OutOfMemory
+
+module _ {S E I O L : Type 0} (s : sources.Ghosts S) (e : elements.Ghosts E) (i : inlets.Ghosts I L O) (o : outlets.Ghosts O L) where
+  -- So much is known of each fault of a task of a graph that left its frame.
+  abbrev pub CausesAreTold : Type 0
+  CausesAreTold = (graph : Graph) (bags : List Bag) (tasks : List (Task S E I O L s e i o)) → IsSound graph
+      → AreBags (made_in graph) (links_in graph) bags → HaveBags (made_in graph) (links_in graph) bags tasks
+      → (place : ℕ) (before after : Task S E I O L s e i o) (fault : TaskFault) → slice_get tasks place ≡ Some before
+      → frame_of after ≡ frame_of before → IsCause before after fault → IsTold (made_in graph) (links_in graph) before after fault

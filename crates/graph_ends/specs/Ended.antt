@@ -1,0 +1,64 @@
+-- What is known of a graph at a moment of its run, and where the run has ended.
+use Rattle.std.specs.Prelude.{◌≡◌, ◌<◌, ◌≤◌, ℕ, true, List, [], Option, Some, length}
+use Rattle.flow_model.specs.Eval.{eval}
+use Rattle.gst_outside.specs.declared.sink.Sink as sinks
+use Rattle.lane_core.specs.Lane.{Lane}
+use Rattle.lane_core.specs.declared.ends.Inlet as inlets
+use Rattle.lane_core.specs.declared.ends.Outlet as outlets
+use Rattle.net_model.specs.Moment.{Moment}
+use Rattle.element_traits.specs.declared.element.TaskElement as elements
+use Rattle.element_traits.specs.declared.source.TaskSource as sources
+use Rattle.graph_core.specs.Graph.{IsGraph, IsSound, made as made_in, links as links_in}
+use Rattle.graph_core.specs.declared.graph.Graph.{Graph}
+use Rattle.launch_text.specs.declared.tree.Tree.{Tree}
+use Rattle.graph_model.specs.GraphPlan.{graph_plan}
+use Rattle.graph_moment.specs.Pads.{is_pad}
+use Rattle.graph_bags.specs.Laws.{StandsIn}
+use Rattle.graph_bags.specs.declared.bag.Bag.{Bag}
+use Rattle.task_elements.specs.declared.element.StreamElement.{StreamElement}
+use Rattle.net_task.specs.declared.task.Task.{Task}
+use Rattle.net_turns.specs.Ends.{NothingLeft}
+use Rattle.net_turns.specs.Rests.{NetRests}
+use Rattle.graph_ends.specs.Owed.{AreOver, AreWhole, came_to, went_from}
+use Rattle.graph_ends.specs.Runs.{RunStands, RunsAt, crossed_in}
+use Rattle.graph_ends.specs.Written.{AreStreams}
+
+-- At any moment what crossed the pads is what the evaluation of the graph gives, cut at these counts.
+abbrev pub HistoriesAreEvaluated : Type 0
+HistoriesAreEvaluated = (contents : ℕ → List ℕ) (graph : Graph) (m : Moment) → IsSound graph → RunStands contents graph m
+    → (p : ℕ) → eval (graph_plan contents graph (λ q. length (crossed_in graph m q))) p ≡ crossed_in graph m p
+
+-- Where nothing is left, every pad is whole.
+abbrev pub EndsAreWhole : Type 0
+EndsAreWhole = (contents : ℕ → List ℕ) (graph : Graph) (m : Moment) → IsSound graph → RunStands contents graph m → NothingLeft m
+    → AreWhole contents graph (crossed_in graph m)
+
+-- nothing came to an element, and nothing went from it
+pub record IsQuiet (graph : Graph) (m : Moment) (n : ℕ) : Type 0 where
+  pub came : came_to (links_in graph) (crossed_in graph m) n ≡ []
+  pub went : went_from (crossed_in graph m) n ≡ []
+
+module _ {S E I O L : Type 0} (s : sources.Ghosts S) (e : elements.Ghosts E) (i : inlets.Ghosts I L O) (o : outlets.Ghosts O L) where
+  -- An element that no head reaches is quiet.
+  abbrev pub LooseAreQuiet : Type 0
+  LooseAreQuiet = (contents : ℕ → List ℕ) (graph : Graph) (bags : List Bag) (m : Moment) (tasks : List (Task S E I O L s e i o)) (tells : Option (List Lane))
+      → RunsAt contents graph bags m tasks tells → (n : ℕ) → n < length (made_in graph) → ((k : ℕ) → StandsIn bags k n → ⊥) → IsQuiet graph m n
+
+  -- At most 2^40 items crossed a pad.
+  abbrev pub PadsAreLimited : Type 0
+  PadsAreLimited = (contents : ℕ → List ℕ) (graph : Graph) (bags : List Bag) (m : Moment) (tasks : List (Task S E I O L s e i o)) (tells : Option (List Lane))
+      → RunsAt contents graph bags m tasks tells → (p : ℕ) → is_pad (made_in graph) p ≡ true → length (m.history p) ≤ 1099511627776
+
+  -- Where no task can move nothing is left, if each element always wants an item of its first sink pad.
+  abbrev pub RunsEndEmpty : Type 0
+  RunsEndEmpty = ((element : E) → e.wanted element ≡ Some 0)
+      → (contents : ℕ → List ℕ) (graph : Graph) (bags : List Bag) (m : Moment) (tasks : List (Task S E I O L s e i o)) (tells : Option (List Lane))
+      → RunsAt contents graph bags m tasks tells → NetRests (λ k. Unit {0}) m tasks tells → NothingLeft m
+
+module _ {S K I O L : Type 0}
+    (k : sinks.Ghosts K) (s : sources.Ghosts S) (e : elements.Ghosts (StreamElement K)) (i : inlets.Ghosts I L O) (o : outlets.Ghosts O L) where
+  -- Where nothing is left EOS came to each live sink: no element met a fault at what it took.
+  abbrev pub EndsAreOver : Type 0
+  EndsAreOver = AreStreams k e → (tree : Tree) (contents : ℕ → List ℕ) (graph : Graph) (bags : List Bag) (m : Moment)
+      (tasks : List (Task S (StreamElement K) I O L s e i o)) (tells : Option (List Lane)) → IsGraph tree graph → RunsAt contents graph bags m tasks tells
+      → NothingLeft m → AreOver graph (crossed_in graph m)

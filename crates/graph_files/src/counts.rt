@@ -1,0 +1,77 @@
+//! What the source pads of tasks have counted.
+ghost use Rattle.graph_files.specs.Counts.{HeadCounted, IsCountOf, PartCounted, TaskCounted, TasksCounted};
+ghost use Rattle.graph_files.specs.Put.{Among, PutBack};
+
+use crate::placing::put_some;
+use element_traits::{TaskElement, TaskSource};
+use lane_core::{Inlet, Outlet};
+use net_task::Task;
+use task_pads::Pad;
+use task_parts::{Head, Part};
+
+/// How many items crossed a source pad, events counted, and how many of them were buffers.
+#[derive(Clone, Copy, Debug, PartialEq, Eq)]
+pub struct Count {
+    pub items: u64,
+    pub buffers: u64,
+}
+
+/// What a pad has counted.
+fn count_of<O: Outlet>(pad: &Pad<O>) -> Count
+    ensures { IsCountOf pad.now result }
+{
+    Count {
+        items: pad.crossed(),
+        buffers: pad.buffers(),
+    }
+}
+
+/// Puts what the first source pad of an element has counted at its number.
+fn count_part<E: TaskElement, O: Outlet>(part: &Part<E, O>, counts: &mut Vec<Count>)
+    ensures { PutBack (PartCounted part.now) counts.old.items counts.new.items }
+{
+    if let Some(pad) = part.pads().first() {
+        put_some(counts, part.number() as usize, Some(count_of(pad)));
+    }
+}
+
+/// Puts what the first source pads of elements have counted at their numbers.
+fn count_parts<E: TaskElement, O: Outlet>(parts: &[Part<E, O>], counts: &mut Vec<Count>)
+    ensures { PutBack (Among PartCounted parts.now) counts.old.items counts.new.items }
+{
+    for place in 0..parts.len() {
+        count_part(&parts[place], counts);
+    }
+}
+
+/// Puts what the pad of a source has counted at its number.
+fn count_head<S: TaskSource, I: Inlet, O: Outlet>(head: &Head<S, I, O>, counts: &mut Vec<Count>)
+    ensures { PutBack (HeadCounted head.now) counts.old.items counts.new.items }
+{
+    if let Head::Source(head) = head {
+        put_some(counts, head.number() as usize, Some(count_of(head.pad())));
+    }
+}
+
+/// Puts what the source pads of a task have counted at the numbers of their elements.
+fn count_task<S: TaskSource, E: TaskElement, I: Inlet<Out = O>, O: Outlet<Lanes = I::Lanes>>(
+    task: &Task<S, E, I, O>,
+    counts: &mut Vec<Count>,
+)
+    ensures { PutBack (TaskCounted task.now) counts.old.items counts.new.items }
+{
+    count_head(task.head(), counts);
+    count_parts(task.parts(), counts);
+}
+
+/// Puts what the source pads of tasks have counted at the numbers of their elements: of an element with some, its first.
+pub fn count_pads<S: TaskSource, E: TaskElement, I: Inlet<Out = O>, O: Outlet<Lanes = I::Lanes>>(
+    tasks: &[Task<S, E, I, O>],
+    counts: &mut Vec<Count>,
+)
+    ensures { PutBack (TasksCounted tasks.now) counts.old.items counts.new.items }
+{
+    for place in 0..tasks.len() {
+        count_task(&tasks[place], counts);
+    }
+}

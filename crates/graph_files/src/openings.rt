@@ -1,0 +1,33 @@
+//! What the elements of a graph open.
+ghost use Rattle.std.specs.Prelude.{◌≡◌, IfOk, map};
+ghost use Rattle.graph_core.specs.Graph.{made as made_in};
+ghost use Rattle.graph_files.specs.Files.{made_opening, opening_of};
+
+use el_set::Settings;
+use graph_core::Graph;
+use gst_caps::OutOfMemory;
+use run_files::Opening;
+use std::alloc::Global;
+
+/// What each element of a graph opens, in the order of its line: a filesrc reads its location, a filesink writes its
+/// own, and the others open nothing.
+pub fn openings_of(alloc: Global, graph: &Graph) -> Result<Vec<Option<Opening>>, OutOfMemory>
+    ensures { IfOk result (λ openings. openings.items ≡ map made_opening (made_in graph.now)) }
+{
+    let mut openings = Vec::new(alloc);
+    for element in 0..graph.count() {
+        openings.push(opening_of(alloc, graph.settings(element))?)?;
+    }
+    Ok(openings)
+}
+
+/// What an element opens that is set to this.
+fn opening_of(alloc: Global, settings: &Settings) -> Result<Option<Opening>, OutOfMemory>
+    ensures { IfOk result (λ opening. opening ≡ opening_of settings.now) }
+{
+    match settings {
+        Settings::FileSrc(settings) => Ok(Some(Opening::Read(settings.location.copy(alloc)?))),
+        Settings::FileSink(settings) => Ok(Some(Opening::Write(settings.location.copy(alloc)?))),
+        _ => Ok(None),
+    }
+}

@@ -1,5 +1,0 @@
-pub mod Chains
-pub mod Heads
-pub mod Nexts
-pub mod Once
-pub mod Places

@@ -1,3 +1,0 @@
-pub mod Once
-pub mod Ways
-pub mod Steps

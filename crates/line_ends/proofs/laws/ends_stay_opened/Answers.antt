@@ -1,5 +1,0 @@
-use Rattle.line_ends.proofs.Located.{all_opened}
-use Rattle.line_ends.proofs.laws.ends_stay_opened.Goals as goal
-
-pub returns : goal.returns
-returns g c = λ files before made known located opened. all_opened (g.F.Files.opened files) before made known located opened

@@ -1,4 +1,0 @@
-pub mod Lanes
-pub mod Parts
-pub mod Making
-pub mod Plan

@@ -1,3 +1,0 @@
-mod Evals
-pub mod Lines
-pub mod Ended

@@ -1,6 +1,0 @@
-pub mod Drained
-pub mod Heads
-pub mod Keeping
-pub mod Rooms
-pub mod Stages
-pub mod Steps

@@ -1,8 +1,0 @@
-pub mod Fault
-pub mod Head
-pub mod Inlets
-pub mod Pads
-pub mod Stage
-pub mod Step
-pub mod Tail
-pub mod Task

@@ -1,3 +1,0 @@
-pub mod Closed
-pub mod Net
-pub mod Turns

@@ -1,0 +1,133 @@
+-- Whom a fault of a run names.
+use Rattle.std.proofs.Common.{◌≡◌, ◌≢◌, ◌⊎◌, ◌<◌, ℕ, List, Option, None, Some, length, refl, sym, ap, ◌∙◌, subst, inl, inr, arith}
+use Rattle.std.specs.Prelude.{slice_get}
+use Rattle.gst_item.specs.declared.fault.ElementFault.{ElementFault}
+use Rattle.gst_item.specs.declared.fault.ElementFault.TheVariants as own_faults
+use Rattle.element_traits.specs.declared.refusal.Refusal.{Refusal}
+use Rattle.element_traits.specs.declared.refusal.Refusal.TheVariants.{Fault, Unwritten}
+use Rattle.element_traits.specs.declared.refusal.Unread.{Unread}
+use Rattle.element_traits.specs.declared.refusal.Unread.TheVariants as reads
+use Rattle.flow_model.specs.Item.{Item}
+use Rattle.graph_core.specs.Elements.{Made}
+use Rattle.graph_core.specs.Graph.{made as made_in, links as links_in}
+use Rattle.graph_core.specs.declared.graph.Graph.{Graph}
+use Rattle.graph_ends.specs.Blamed.{IsBlamed}
+use Rattle.graph_ends.specs.Owed.{IsAwaited, Refuses, WantsLink, went_from}
+use Rattle.graph_ends.specs.Runs.{crossed_in}
+use Rattle.graph_model.specs.Asked.{first_pad}
+use Rattle.graph_model.proofs.Links.{owner_at}
+use Rattle.graph_model.specs.GraphPlan.{owner_of, pad_id}
+use Rattle.net_model.specs.Moment.{Moment}
+use Rattle.task_parts.specs.Fault.{refusal_fault, unread_fault}
+use Rattle.task_parts.specs.declared.fault.TaskFault.{TaskFault}
+use Rattle.task_parts.specs.declared.fault.TaskFault.TheVariants as faults
+
+-- an element of this number has this fault at the next item that is owed to it
+pub record RefusedAt (contents : ℕ → List ℕ) (graph : Graph) (m : Moment) (n : ℕ) (own : ElementFault) : Type 0 where
+  pub element : Made
+  pub at : slice_get (made_in graph) n ≡ Some element
+  pub refuses : Refuses contents (made_in graph) (links_in graph) (crossed_in graph m) n element.settings own
+
+-- 2^40 items crossed its pad
+pub record IsFull (graph : Graph) (m : Moment) (n : ℕ) (own : ElementFault) : Type 0 where
+  pub own_is : own ≡ own_faults.TooLong 1099511627776 1
+  pub full : length (went_from (crossed_in graph m) n) ≡ 1099511627776
+
+-- a fault of an element, by its number and its own fault
+same_own : (d n : ℕ) (one other : ElementFault) → refusal_fault d (Fault one) ≡ refusal_fault n (Fault other) → other ≢ own_faults.OutOfMemory → (d ≡ n) × (one ≡ other)
+same_own d n (own_faults.NotNegotiated a b) (own_faults.NotNegotiated p q) same memory = (cc, cc)
+same_own d n (own_faults.BadStream a b) (own_faults.BadStream p q) same memory = (cc, cc)
+same_own d n (own_faults.TooLong a b) (own_faults.TooLong p q) same memory = (cc, cc)
+same_own d n one own_faults.OutOfMemory same memory = absurd (memory refl)
+same_own d n (own_faults.NotNegotiated a b) (own_faults.BadStream p q) same memory = absurd (cc)
+same_own d n (own_faults.NotNegotiated a b) (own_faults.TooLong p q) same memory = absurd (cc)
+same_own d n (own_faults.BadStream a b) (own_faults.NotNegotiated p q) same memory = absurd (cc)
+same_own d n (own_faults.BadStream a b) (own_faults.TooLong p q) same memory = absurd (cc)
+same_own d n (own_faults.TooLong a b) (own_faults.NotNegotiated p q) same memory = absurd (cc)
+same_own d n (own_faults.TooLong a b) (own_faults.BadStream p q) same memory = absurd (cc)
+same_own d n own_faults.OutOfMemory (own_faults.NotNegotiated p q) same memory = absurd (cc)
+same_own d n own_faults.OutOfMemory (own_faults.BadStream p q) same memory = absurd (cc)
+same_own d n own_faults.OutOfMemory (own_faults.TooLong p q) same memory = absurd (cc)
+
+-- other faults are none of an element's rule
+no_write : (d a b n : ℕ) (own : ElementFault) → faults.WriteFault d a b ≡ refusal_fault n (Fault own) → ⊥
+no_write d a b n (own_faults.NotNegotiated p q) same = cc
+no_write d a b n (own_faults.BadStream p q) same = cc
+no_write d a b n (own_faults.TooLong p q) same = cc
+no_write d a b n own_faults.OutOfMemory same = cc
+
+no_link : (p place n : ℕ) (own : ElementFault) → faults.NotLinked p place ≡ refusal_fault n (Fault own) → ⊥
+no_link p place n (own_faults.NotNegotiated a b) same = cc
+no_link p place n (own_faults.BadStream a b) same = cc
+no_link p place n (own_faults.TooLong a b) same = cc
+no_link p place n own_faults.OutOfMemory same = cc
+
+no_memory_own : (n : ℕ) (own : ElementFault) → faults.OutOfMemory ≡ refusal_fault n (Fault own) → own ≡ own_faults.OutOfMemory
+no_memory_own n (own_faults.NotNegotiated a b) same = absurd (cc)
+no_memory_own n (own_faults.BadStream a b) same = absurd (cc)
+no_memory_own n (own_faults.TooLong a b) same = absurd (cc)
+no_memory_own n own_faults.OutOfMemory same = refl
+
+no_read : (d : ℕ) (why : Unread) (n : ℕ) (own : ElementFault) → unread_fault d why ≡ refusal_fault n (Fault own) → own ≡ own_faults.OutOfMemory
+no_read d (reads.Failed a b) n (own_faults.NotNegotiated p q) same = absurd (cc)
+no_read d (reads.Failed a b) n (own_faults.BadStream p q) same = absurd (cc)
+no_read d (reads.Failed a b) n (own_faults.TooLong p q) same = absurd (cc)
+no_read d (reads.Failed a b) n own_faults.OutOfMemory same = refl
+no_read d reads.OutOfMemory n own same = no_memory_own n own same
+
+full_own : (d n : ℕ) (own : ElementFault) → faults.TooLong d 1099511627776 1 ≡ refusal_fault n (Fault own) → (d ≡ n) × (own ≡ own_faults.TooLong 1099511627776 1)
+full_own d n (own_faults.TooLong a b) same = (cc, cc)
+full_own d n (own_faults.NotNegotiated a b) same = absurd (cc)
+full_own d n (own_faults.BadStream a b) same = absurd (cc)
+full_own d n own_faults.OutOfMemory same = absurd (cc)
+
+module _ (contents : ℕ → List ℕ) (graph : Graph) (m : Moment) where
+  -- the fault of an element's rule was met at its next item, or its pad is full
+  pub own_blamed : (fault : TaskFault) → IsBlamed contents graph m fault → (n : ℕ) (own : ElementFault) → fault ≡ refusal_fault n (Fault own) → own ≢ own_faults.OutOfMemory
+      → RefusedAt contents graph m n own ⊎ IsFull graph m n own
+  own_blamed fault (IsBlamed.refused d element one at refuses) n own same memory =
+      let both = same_own d n one own same memory in
+      inl (subst (λ (x : ℕ). RefusedAt contents graph m x own) both.0
+      (subst (λ (f : ElementFault). RefusedAt contents graph m d f) both.1 (record { element = element; at = at; refuses = refuses })))
+  own_blamed fault (IsBlamed.unwritten d a b x awaited) n own same memory = absurd (no_write d a b n own same)
+  own_blamed fault (IsBlamed.unread d why) n own same memory = absurd (memory (no_read d why n own same))
+  own_blamed fault (IsBlamed.not_linked e place size wants) n own same memory = absurd (no_link (pad_id (first_pad e)) place n own same)
+  own_blamed fault (IsBlamed.full e size) n own same memory =
+      let both = full_own e n own same in
+      inr (record { own_is = both.1; full = subst (λ (x : ℕ). length (went_from (crossed_in graph m) x) ≡ 1099511627776) both.0 size })
+  own_blamed fault IsBlamed.no_memory n own same memory = absurd (memory (no_memory_own n own same))
+
+  -- a write failed at the next item that came to its element
+  pub write_blamed : (fault : TaskFault) → IsBlamed contents graph m fault → (n a b : ℕ) → fault ≡ faults.WriteFault n a b
+      → (x : Item) × IsAwaited contents (made_in graph) (links_in graph) (crossed_in graph m) n x
+  write_blamed fault (IsBlamed.refused d element own at refuses) n a b same = absurd (no_write n a b d own (sym same))
+  write_blamed fault (IsBlamed.unwritten d p q x awaited) n a b same = (x, subst (λ (y : ℕ). IsAwaited contents (made_in graph) (links_in graph) (crossed_in graph m) y x) number awaited)
+    where
+      number : d ≡ n
+      number = cc
+  write_blamed fault (IsBlamed.unread d (reads.Failed p q)) n a b same = absurd (cc)
+  write_blamed fault (IsBlamed.unread d reads.OutOfMemory) n a b same = absurd (cc)
+  write_blamed fault (IsBlamed.not_linked e place size wants) n a b same = absurd (cc)
+  write_blamed fault (IsBlamed.full e size) n a b same = absurd (cc)
+  write_blamed fault IsBlamed.no_memory n a b same = absurd (cc)
+
+  -- a buffer is owed to the pad that is not linked
+  pub link_blamed : (fault : TaskFault) → IsBlamed contents graph m fault → (n place : ℕ) → fault ≡ faults.NotLinked (pad_id (first_pad n)) place
+      → (length (went_from (crossed_in graph m) n) ≡ place) × WantsLink contents (made_in graph) (links_in graph) (crossed_in graph m) n
+  link_blamed fault (IsBlamed.refused d element own at refuses) n place same = absurd (no_link (pad_id (first_pad n)) place d own (sym same))
+  link_blamed fault (IsBlamed.unwritten d p q x awaited) n place same = absurd (cc)
+  link_blamed fault (IsBlamed.unread d (reads.Failed p q)) n place same = absurd (cc)
+  link_blamed fault (IsBlamed.unread d reads.OutOfMemory) n place same = absurd (cc)
+  link_blamed fault (IsBlamed.not_linked e here size wants) n place same =
+      let one : e ≡ n = sym (owner_at (first_pad e) (omega arith)) ∙ ap owner_of pads ∙ owner_at (first_pad n) (omega arith) in (
+        subst (λ (x : ℕ). length (went_from (crossed_in graph m) x) ≡ place) one (size ∙ places),
+        subst (λ (x : ℕ). WantsLink contents (made_in graph) (links_in graph) (crossed_in graph m) x) one wants,
+      )
+    where
+      pads : pad_id (first_pad e) ≡ pad_id (first_pad n)
+      pads = cc
+
+      places : here ≡ place
+      places = cc
+  link_blamed fault (IsBlamed.full e size) n place same = absurd (cc)
+  link_blamed fault IsBlamed.no_memory n place same = absurd (cc)
