@@ -1,5 +1,5 @@
 -- Each element that a task of a bag names is one of it.
-use Rattle.std.proofs.Common.{◌≡◌, ◌<◌, ◌⊎◌, ◌==◌, ◌||◌, ◌&&◌, ℕ, zero, suc, Bool, true, false, eqb, List, [], ◌∷◌, ◌++◌, Option, None, Some, map, length, refl, sym, ap, ◌∙◌, subst, inl, inr, arith}
+use Rattle.std.proofs.Common.{◌≡◌, ◌<◌, ◌⊎◌, ◌==◌, ◌||◌, ◌&&◌, ℕ, zero, suc, Bool, true, false, eqb, List, [], ◌∷◌, Option, None, Some, map, length, refl, sym, ap, ◌∙◌, subst, inl, inr, arith}
 use Rattle.std.specs.Prelude.{slice_get}
 use Rattle.std.specs.Option.{option_map_or}
 use Rattle.std.proofs.lemmas.Bool.Decides.{eqb_tells}
@@ -11,8 +11,8 @@ use Rattle.graph_core.specs.Elements.{Made}
 use Rattle.graph_core.specs.Links.{sink_behind}
 use Rattle.graph_core.specs.declared.pad.PadLink.{PadLink}
 use Rattle.graph_core.specs.declared.pad.PadPlace.{PadPlace}
-use Rattle.graph_bags.specs.Bags.{IsBag, IsHead, cells, head_cells, head_number, head_of, number_of, numbers}
-use Rattle.graph_bags.specs.Links.{has, is_source, place_at, source_count, LeadsInside, Reaches}
+use Rattle.graph_bags.specs.Bags.{IsBag, IsHead, head_cells, head_number, head_of, number_of, numbers}
+use Rattle.graph_bags.specs.Links.{is_source, place_at, source_count, LeadsInside, Reaches}
 use Rattle.graph_bags.specs.declared.bag.Bag.{Bag}
 use Rattle.graph_bags.specs.declared.bag.BagElement.{BagElement}
 use Rattle.graph_bags.specs.declared.bag.BagHead.{BagHead}
@@ -21,7 +21,6 @@ use Rattle.graph_bags.proofs.Onces.{in_back, in_either, in_front}
 use Rattle.graph_bags.proofs.Trees.{sink_there, sinks_at}
 use Rattle.lane_core.specs.declared.ends.Inlet as inlets
 use Rattle.lane_core.specs.declared.ends.Outlet as outlets
-use Rattle.task_pads.specs.Behind.{Goes}
 use Rattle.task_pads.specs.Pads.{goes_of, pad_shape}
 use Rattle.task_pads.specs.declared.pad.Pad.{Pad}
 use Rattle.task_parts.specs.Shape.{PartShape, all_within, goes_within, has_number, head_within, is_closed, pads_within}

@@ -1,12 +1,12 @@
 -- The tasks of all bags, each element in one.
-use Rattle.std.proofs.Common.{◌≡◌, ◌∙◌, ℕ, zero, suc, List, [], ◌∷◌, ◌++◌, Option, Some, length, map, refl, sym, ap, ap₂, subst, arith}
+use Rattle.std.proofs.Common.{◌≡◌, ℕ, suc, List, [], ◌∷◌, ◌++◌, Option, Some, length, map, refl, sym, ap, ap₂, subst, arith}
 use Rattle.std.specs.Prelude.{slice_get}
 use Rattle.std.specs.List.{flat_map}
 use Rattle.std.proofs.lemmas.List.{map-append}
 use Rattle.flow_model.specs.Account.{IsMember}
 use Rattle.graph_core.specs.Elements.{Made}
 use Rattle.graph_core.specs.declared.pad.PadLink.{PadLink}
-use Rattle.graph_bags.specs.Bags.{Once, cells, head_cells, number_of, numbers}
+use Rattle.graph_bags.specs.Bags.{Once, head_cells, number_of, numbers}
 use Rattle.graph_bags.specs.declared.bag.Bag.{Bag}
 use Rattle.graph_bags.specs.declared.bag.BagHead.{BagHead}
 use Rattle.graph_bags.specs.declared.bag.BagHead.TheVariants as bags
@@ -15,7 +15,7 @@ use Rattle.graph_lanes.specs.Lanes.{AreLanes}
 use Rattle.lane_core.specs.Lane.{Lane}
 use Rattle.lane_core.specs.declared.ends.Inlet as inlets
 use Rattle.lane_core.specs.declared.ends.Outlet as outlets
-use Rattle.graph_tasks.specs.Wired.{AreWired, IsWiredHead, IsWiredTask, number_in, part_numbers, source_in, source_numbers}
+use Rattle.graph_tasks.specs.Wired.{AreWired, IsWiredHead, number_in, part_numbers, source_in, source_numbers}
 use Rattle.graph_tasks.specs.Wiring.{BagsGiven, BagsMade, InletsLeft, OutletsLeft}
 use Rattle.graph_tasks.specs.declared.wired_task.WiredHead.{WiredHead}
 use Rattle.graph_tasks.specs.declared.wired_task.WiredHead.TheVariants.{Source, Inlets}

@@ -1,48 +1,41 @@
 -- The ends of lanes are taken for one pad, one element and one bag after the other.
-use Rattle.std.proofs.Common.{◌≡◌, ◌≢◌, ◌≤◌, ◌<◌, ◌+◌, ◌⊎◌, ℕ, zero, suc, Bool, true, false, eqb, List, [], ◌∷◌, ◌++◌, All, Option, None, Some, Vec, Global, length, length-set, map, take, refl, sym, ap, ◌∙◌, subst, inl, inr, append_assoc, arith}
+use Rattle.std.proofs.Common.{◌≡◌, ◌≢◌, ◌≤◌, ◌<◌, ◌+◌, ◌⊎◌, ℕ, zero, suc, true, false, List, [], ◌∷◌, ◌++◌, All, Option, None, Some, Vec, Global, length, length-set, map, take, refl, sym, ap, ◌∙◌, subst, inl, inr, append_assoc, arith}
 use Rattle.std.specs.Prelude.{slice_get, slice_index_or, slice_set}
 use Rattle.std.specs.List.{flat_map}
 use Rattle.std.specs.Option.{is_some, option_map_or}
-use Rattle.std.proofs.lemmas.Bool.Decides.{eqb_tells}
 use Rattle.std.proofs.lemmas.Grind.{flat_map-append}
 use Rattle.std.proofs.lemmas.List.{append-nil, map-append, take_all}
 use Rattle.std.proofs.lemmas.Option.{slice_get-get_or, slice_get_within}
 use Rattle.flow_model.specs.Account.{IsMember}
-use Rattle.el_set.specs.Asked.{is_queue, sink_pads, source_pads}
+use Rattle.el_set.specs.Asked.{source_pads}
 use Rattle.el_set.specs.declared.settings.Settings.{Settings}
 use Rattle.el_set.specs.declared.settings.Settings.TheVariants.{FileSrc, RampTestSrc, Identity, AudioConvert, Law, RawAudioParse, AudioBufferSplit, WavParse, WavEnc, CapsFilter, Queue, FileSink, FakeSink}
 use Rattle.graph_core.specs.Elements.{Made}
-use Rattle.graph_core.specs.Links.{sink_behind}
 use Rattle.graph_core.specs.declared.pad.PadLink.{PadLink}
-use Rattle.graph_bags.specs.Bags.{HavePads, IsBag, IsHead, Once, cells, head_cells, head_number, head_of, number_of, numbers}
-use Rattle.graph_bags.specs.Laws.{IsLink, StandsIn, TellsPads}
-use Rattle.graph_bags.specs.Links.{Reaches, has, has_inlets, is_source, place_at, source_count}
+use Rattle.graph_bags.specs.Bags.{IsBag, Once, cells, head_cells, head_of, number_of, numbers}
+use Rattle.graph_bags.specs.Links.{Reaches, is_source}
 use Rattle.graph_bags.specs.declared.bag.Bag.{Bag}
 use Rattle.graph_bags.specs.declared.bag.BagElement.{BagElement}
-use Rattle.graph_bags.specs.declared.bag.BagHead.{BagHead}
 use Rattle.graph_bags.specs.declared.bag.BagHead.TheVariants as bags
-use Rattle.graph_bags.specs.declared.bag.BagLink.{BagLink}
 use Rattle.graph_bags.specs.declared.bag.BagPad.{BagPad}
 use Rattle.graph_bags.proofs.Apart.{bags_are_there, bags_have_pads}
-use Rattle.graph_bags.proofs.Onces.{in_back, in_front, once_apart, once_back, once_front}
-use Rattle.graph_lanes.specs.Lanes.{AreLanes, InletAt, OutletAt, has_lane, lane_room}
-use Rattle.graph_lanes.proofs.Slots.{one_slot, size_more, slot_of_set}
+use Rattle.graph_bags.proofs.Onces.{in_back, in_front, once_apart, once_front}
+use Rattle.graph_lanes.specs.Lanes.{InletAt, lane_room}
+use Rattle.graph_lanes.proofs.Slots.{one_slot, slot_of_set}
 use Rattle.inlet_row.specs.Row.{feeds_of}
 use Rattle.inlet_row.specs.declared.row.InletRow.{InletRow}
-use Rattle.lane_core.specs.Lane.{Lane}
 use Rattle.lane_core.specs.declared.ends.Inlet as inlets
 use Rattle.lane_core.specs.declared.ends.Outlet as outlets
 use Rattle.task_pads.specs.declared.pad.Pad.{Pad}
 use Rattle.graph_tasks.specs.Tasks.{IsPadOf, IsRowOf, sink_count}
-use Rattle.graph_tasks.specs.Wired.{IsWiredHead, IsWiredPart, IsWiredTask}
-use Rattle.graph_tasks.specs.Wiring.{AreApart, AreLinks, BagGiven, BagMade, BagsGiven, BagsMade, CellGiven, CellsGiven, HeadGiven, HeadMade, InletsLeft, OutletsLeft, PadGiven, PadMade, PadsMade, PartsMade, cell_lanes, feeds_with, first_link, lane_to, pad_lanes}
-use Rattle.graph_tasks.specs.declared.wired_task.WiredHead.{WiredHead}
+use Rattle.graph_tasks.specs.Wired.{IsWiredPart, IsWiredTask}
+use Rattle.graph_tasks.specs.Wiring.{BagGiven, BagMade, BagsGiven, CellGiven, CellsGiven, HeadGiven, HeadMade, InletsLeft, OutletsLeft, PadGiven, PadMade, PadsMade, PartsMade, cell_lanes, feeds_with, first_link, lane_to, pad_lanes}
 use Rattle.graph_tasks.specs.declared.wired_task.WiredHead.TheVariants.{Source, Inlets}
 use Rattle.graph_tasks.specs.declared.wired_task.WiredPart.{WiredPart}
 use Rattle.graph_tasks.specs.declared.wired_task.WiredTask.{WiredTask}
-use Rattle.graph_tasks.proofs.Closed.{is_shape_closed, own_number}
+use Rattle.graph_tasks.proofs.Closed.{is_shape_closed}
 use Rattle.graph_tasks.proofs.Flats.{apart_back, at_back, at_front, flat_more, next_once, some_same, split_at, take_step}
-use Rattle.graph_tasks.proofs.Leading.{few_inlets, few_ports}
+use Rattle.graph_tasks.proofs.Leading.{few_inlets}
 use Rattle.graph_tasks.proofs.Targets.{all_lanes, heads_once}
 
 module _ (made : List Made) (links : List PadLink) where

@@ -1,35 +1,33 @@
 -- A pad leads where the graph tells, over the lane that was made for it.
-use Rattle.std.proofs.Common.{◌≡◌, ◌<◌, ◌≤◌, ◌⊎◌, ◌≢◌, ℕ, zero, suc, Bool, true, false, cond, List, [], ◌∷◌, ◌++◌, All, Option, None, Some, get_or, is_some, length, length-set, refl, sym, ap, ◌∙◌, subst, inl, inr, arith}
-use Rattle.std.specs.Prelude.{slice_get, slice_index_or, slice_set}
+use Rattle.std.proofs.Common.{◌≡◌, ◌<◌, ◌≤◌, ◌⊎◌, ◌≢◌, ℕ, true, false, cond, List, [], ◌∷◌, ◌++◌, Option, None, Some, is_some, length, length-set, refl, sym, ap, ◌∙◌, subst, inl, inr, arith}
+use Rattle.std.specs.Prelude.{slice_get, slice_index_or}
 use Rattle.std.specs.Option.{option_map_or}
 use Rattle.std.proofs.lemmas.List.{append-nil}
 use Rattle.std.proofs.lemmas.Option.{slice_get-get_or, slice_get_within}
 use Rattle.flow_model.specs.Account.{IsMember}
-use Rattle.el_set.specs.Asked.{is_queue, sink_pads, source_pads}
+use Rattle.el_set.specs.Asked.{sink_pads, source_pads}
 use Rattle.el_set.specs.declared.settings.Settings.{Settings}
 use Rattle.el_set.specs.declared.settings.Settings.TheVariants.{FileSrc, RampTestSrc, Identity, AudioConvert, Law, RawAudioParse, AudioBufferSplit, WavParse, WavEnc, CapsFilter, Queue, FileSink, FakeSink}
 use Rattle.graph_core.specs.Elements.{Made}
-use Rattle.graph_core.specs.Links.{HasPads, sink_behind, source_before}
+use Rattle.graph_core.specs.Links.{sink_behind, source_before}
 use Rattle.graph_core.specs.declared.pad.PadLink.{PadLink}
 use Rattle.graph_core.specs.declared.pad.PadPlace.{PadPlace}
-use Rattle.graph_model.specs.Once.{AreOnce}
 use Rattle.graph_model.specs.Asked.{first_pad}
-use Rattle.graph_bags.specs.Laws.{IsLink}
-use Rattle.graph_bags.specs.Links.{has, has_inlets, place_at, source_count}
+use Rattle.graph_bags.specs.Links.{has, has_inlets, place_at}
 use Rattle.graph_bags.specs.declared.bag.BagLink.{BagLink}
 use Rattle.graph_bags.specs.declared.bag.BagLink.TheVariants.{Nothing, Element, Lane}
 use Rattle.graph_bags.proofs.Onces.{in_back, in_front}
-use Rattle.graph_bags.proofs.Trees.{sink_there, sinks_at}
+use Rattle.graph_bags.proofs.Trees.{sink_there}
 use Rattle.graph_lanes.specs.Lanes.{OutletAt, lane_room, room_by}
 use Rattle.graph_lanes.proofs.Slots.{slot_of_set}
 use Rattle.lane_core.specs.declared.ends.Outlet as outlets
 use Rattle.graph_model.specs.GraphPlan.{pad_id}
-use Rattle.task_pads.specs.Behind.{end_in, goes, inside, lane_end, nowhere, WentIn}
+use Rattle.task_pads.specs.Behind.{end_in, goes, lane_end, WentIn}
 use Rattle.task_pads.specs.Pads.{HasCrossed, crossed_count, number_of, probe_of, rest_of, waiting_of}
 use Rattle.task_pads.specs.declared.pad.Behind.{Behind}
 use Rattle.task_pads.specs.declared.pad.Pad.{Pad}
-use Rattle.graph_tasks.specs.Tasks.{IsLaneTo, IsPadOf, LeadsTo}
-use Rattle.graph_tasks.specs.Wiring.{AreApart, AreLinks, IsBehind, OutletsLeft, PadGiven, PadMade, lane_to, over_lane, without_lane}
+use Rattle.graph_tasks.specs.Tasks.{IsLaneTo, LeadsTo}
+use Rattle.graph_tasks.specs.Wiring.{AreLinks, IsBehind, OutletsLeft, PadGiven, PadMade, lane_to, over_lane, without_lane}
 
 some_same : {A : Type 0} {a b : A} → Some a ≡ Some b → a ≡ b
 some_same e = cc

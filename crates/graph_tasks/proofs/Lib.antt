@@ -20,7 +20,6 @@ pub mod Starts
 pub mod Takes
 pub mod Readied
 pub mod Hands
-pub mod Framed
 pub mod Fillings
 pub mod Plans
 pub mod Begun

@@ -1,5 +1,5 @@
 -- Each lane of a graph is led to by one pad of its bags, and no element stands in two of these.
-use Rattle.std.proofs.Common.{◌≡◌, ◌<◌, ◌+◌, ◌⊎◌, ◌||◌, ℕ, zero, suc, Bool, true, false, cond, if◌then◌else◌, List, [], ◌∷◌, ◌++◌, All, Option, None, Some, filter, map, length, refl, sym, ap, ◌∙◌, subst, inl, inr, arith}
+use Rattle.std.proofs.Common.{◌≡◌, ◌⊎◌, ◌||◌, ℕ, suc, Bool, true, false, cond, if◌then◌else◌, List, [], ◌∷◌, ◌++◌, All, Option, None, Some, filter, map, length, refl, sym, ap, ◌∙◌, subst, inl, inr, arith}
 use Rattle.std.specs.Prelude.{slice_get}
 use Rattle.std.specs.List.{flat_map, range_with_len}
 use Rattle.std.specs.Option.{option_map_or}
@@ -9,8 +9,8 @@ use Rattle.graph_core.specs.Elements.{Made}
 use Rattle.graph_core.specs.Links.{sink_behind, source_before}
 use Rattle.graph_core.specs.declared.pad.PadLink.{PadLink}
 use Rattle.graph_core.specs.declared.pad.PadPlace.{PadPlace}
-use Rattle.graph_bags.specs.Bags.{AreBags, HavePads, IsBag, IsHead, Once, cells, head_number, head_of, heads_in, number_of, numbers}
-use Rattle.graph_bags.specs.Links.{has, has_inlets, is_head, is_source, link_to, pad_at, pads_of, place_at, source_count}
+use Rattle.graph_bags.specs.Bags.{HavePads, IsBag, IsHead, Once, cells, head_number, head_of, number_of, numbers}
+use Rattle.graph_bags.specs.Links.{has, has_inlets, is_head, is_source, link_to, pad_at, place_at, source_count}
 use Rattle.graph_bags.specs.declared.bag.Bag.{Bag}
 use Rattle.graph_bags.specs.declared.bag.BagElement.{BagElement}
 use Rattle.graph_bags.specs.declared.bag.BagHead.{BagHead}

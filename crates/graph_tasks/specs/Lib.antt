@@ -1,4 +1,3 @@
-pub mod Frames
 pub mod Making
 pub mod Plan
 pub mod Planned

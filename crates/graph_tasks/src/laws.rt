@@ -1,5 +1,4 @@
 //! Laws of the tasks of a graph. Each function does nothing: its contract is the law.
-ghost use Rattle.graph_tasks.specs.Frames.{FramesKeepBags, TasksHaveBags};
 ghost use Rattle.graph_tasks.specs.Plan.{ElementsAreThere};
 ghost use Rattle.graph_tasks.specs.Readied.{TasksAreReady};
 ghost use Rattle.graph_tasks.specs.Start.{TasksStart};
@@ -30,24 +29,4 @@ pub fn tasks_are_ready<
     O: Outlet<Lanes = I::Lanes>,
 >()
     ensures { TasksAreReady S.TaskSource E.TaskElement I.Inlet O.Outlet }
-{}
-
-/// The tasks of a graph have the elements of its bags, with their pads.
-pub fn tasks_have_bags<
-    S: TaskSource,
-    E: TaskElement,
-    I: Inlet<Out = O>,
-    O: Outlet<Lanes = I::Lanes>,
->()
-    ensures { TasksHaveBags S.TaskSource E.TaskElement I.Inlet O.Outlet }
-{}
-
-/// So it is behind each step.
-pub fn frames_keep_bags<
-    S: TaskSource,
-    E: TaskElement,
-    I: Inlet<Out = O>,
-    O: Outlet<Lanes = I::Lanes>,
->()
-    ensures { FramesKeepBags S.TaskSource E.TaskElement I.Inlet O.Outlet }
 {}

@@ -61,7 +61,8 @@ fn run_words<F: Files>(alloc: Global, words: &[String], files: &mut F) -> Ended
         RanByTurns ⟦<StreamSource<F::Src> as TaskSource>⟧ ⟦<StreamElement<F::Snk> as TaskElement>⟧ ⟦<MemInlet as Inlet>⟧ ⟦<MemOutlet as Outlet>⟧
         F.Src.Source F.Snk.Sink request.graph (orders.Drawn request.order) (seen_by F.Files files.old) result.end) }
     ensures status { result.end.status ≢ 14 }
-    ensures text { report_lines result.end.status result.quiet result.end.report ≡ report_lines result.end.status (is_quiet (map string_bytes words.now)) result.end.report }
+    ensures text { report_lines result.end.status result.quiet result.end.report
+        ≡ report_lines result.end.status (is_quiet (map string_bytes words.now)) result.end.report }
     ensures given_back { F.ends files.old < 2 ^ 63 → F.ends files.new ≡ F.ends files.old }
     ensures inputs { (l : List ℕ) → F.input files.new l ≡ F.input files.old l }
     ensures others { (l : List ℕ) → IsUntouched (map string_bytes words.now) l → F.output files.new l ≡ F.output files.old l }
@@ -205,15 +206,18 @@ pub fn run<H: Threads + Wait + Copy + Send + 'static, F: Files, C: Clock, G: Tas
     _gate: &G,
     out: &mut O,
 ) -> Outcome
-    ensures headline { result.reported ≢ 13 → IsReported (map string_bytes words.now) (seen_by F.Files files.old) (seen_by F.Files files.new) (world_end result) }
+    ensures headline { result.reported ≢ 13
+        → IsReported (map string_bytes words.now) (seen_by F.Files files.old) (seen_by F.Files files.new) (world_end result) }
     ensures turned { result.reported ≢ 13 → result.reported ≢ 6 → HasGone (map string_bytes words.now) (λ request.
         RanByTurns ⟦<StreamSource<F::Src> as TaskSource>⟧ ⟦<StreamElement<F::Snk> as TaskElement>⟧ ⟦<MemInlet as Inlet>⟧ ⟦<MemOutlet as Outlet>⟧
         F.Src.Source F.Snk.Sink request.graph (orders.Drawn request.order) (seen_by F.Files files.old) (world_end result)) }
     ensures status { (result.status ≡ result.reported) ⊎ ((result.status ≡ 14) × Rose result.out_before result.out_after) }
     ensures before { result.out_before ≡ O.faults out.old }
     ensures after { result.out_after ≡ O.faults out.new }
-    ensures text { result.status ≢ 14 → Wrote (report_lines result.reported (is_quiet (map string_bytes words.now)) result.report) (O.bytes out.old) (O.bytes out.new) }
-    ensures text_part { result.status ≡ 14 → WrotePart (report_lines result.reported (is_quiet (map string_bytes words.now)) result.report) (O.bytes out.old) (O.bytes out.new) }
+    ensures text { result.status ≢ 14
+        → Wrote (report_lines result.reported (is_quiet (map string_bytes words.now)) result.report) (O.bytes out.old) (O.bytes out.new) }
+    ensures text_part { result.status ≡ 14
+        → WrotePart (report_lines result.reported (is_quiet (map string_bytes words.now)) result.report) (O.bytes out.old) (O.bytes out.new) }
     ensures given_back { F.ends files.old < 2 ^ 63 → F.ends files.new ≡ F.ends files.old }
     ensures inputs { (l : List ℕ) → F.input files.new l ≡ F.input files.old l }
     ensures others { (l : List ℕ) → IsUntouched (map string_bytes words.now) l → F.output files.new l ≡ F.output files.old l }

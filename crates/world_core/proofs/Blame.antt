@@ -1,10 +1,9 @@
 -- Whom a fault of a run names.
-use Rattle.std.proofs.Common.{◌≡◌, ◌≢◌, ◌⊎◌, ◌<◌, ℕ, List, Option, None, Some, length, refl, sym, ap, ◌∙◌, subst, inl, inr, arith}
+use Rattle.std.proofs.Common.{◌≡◌, ◌≢◌, ◌⊎◌, ℕ, List, Some, length, refl, sym, ap, ◌∙◌, subst, inl, inr, arith}
 use Rattle.std.specs.Prelude.{slice_get}
 use Rattle.gst_item.specs.declared.fault.ElementFault.{ElementFault}
 use Rattle.gst_item.specs.declared.fault.ElementFault.TheVariants as own_faults
-use Rattle.element_traits.specs.declared.refusal.Refusal.{Refusal}
-use Rattle.element_traits.specs.declared.refusal.Refusal.TheVariants.{Fault, Unwritten}
+use Rattle.element_traits.specs.declared.refusal.Refusal.TheVariants.{Fault}
 use Rattle.element_traits.specs.declared.refusal.Unread.{Unread}
 use Rattle.element_traits.specs.declared.refusal.Unread.TheVariants as reads
 use Rattle.flow_model.specs.Item.{Item}

@@ -1,11 +1,9 @@
 -- How a run has ended, by what its tasks answered.
-use Rattle.std.proofs.Common.{◌≡◌, ◌≢◌, ℕ, List, Option, None, Some, Result, Ok, Err, IfOk, IfErr, length, refl, sym, ap, ◌∙◌, subst, inl}
-use Rattle.std.specs.Prelude.{slice_get}
+use Rattle.std.proofs.Common.{◌≡◌, ◌≢◌, ℕ, List, Option, Some, Result, Ok, Err, IfOk, IfErr, refl, inl}
 use Rattle.std.specs.Option.{option_map}
 use Rattle.el_set.specs.Gives.{source_file}
 use Rattle.element_traits.specs.declared.element.TaskElement as elements
 use Rattle.element_traits.specs.declared.source.TaskSource as givers
-use Rattle.graph_core.specs.Elements.{Made}
 use Rattle.graph_core.specs.Graph.{made as made_in, links as links_in}
 use Rattle.graph_core.specs.declared.graph.Graph.{Graph}
 use Rattle.graph_ends.specs.Runs.{RunsAt}
@@ -24,13 +22,11 @@ use Rattle.net_turns.specs.Net.{NetStands}
 use Rattle.net_turns.specs.Rests.{NetEnded, NetFaulted}
 use Rattle.net_turns.specs.Turns.{RunBy, stop_of}
 use Rattle.net_turns.specs.declared.net.Stopped.{Stopped}
-use Rattle.run_files.specs.Ends.{Known}
 use Rattle.run_files.specs.Seen.{Seen}
 use Rattle.run_files.specs.declared.end.End.{End}
 use Rattle.task_elements.specs.Stands.{file_in}
 use Rattle.task_elements.specs.declared.element.StreamElement.{StreamElement}
 use Rattle.task_elements.specs.declared.source.StreamSource.{StreamSource}
-use Rattle.task_parts.specs.declared.fault.TaskFault.{TaskFault}
 use Rattle.turn_order.specs.declared.order.Order.{Order}
 use Rattle.turn_order.specs.declared.turns.Turns.{Turns}
 use Rattle.world_core.specs.Ended.{HasEnded}
@@ -39,7 +35,6 @@ use Rattle.world_core.specs.Ran.{KnownFailed, KnownHold}
 use Rattle.world_core.specs.Stopped.{HasRun}
 use Rattle.world_core.specs.declared.ended.WorldEnd.{WorldEnd}
 use Rattle.world_core.proofs.FaultEnds.{met_ends}
-use Rattle.world_core.proofs.Faulted.{IsFaulted}
 use Rattle.world_core.proofs.Files.{have_bags}
 use Rattle.world_core.proofs.Held.{RestHasCame}
 use Rattle.world_core.proofs.Meeting.{Met, is_met, met_by}

@@ -1,7 +1,7 @@
 -- How a run that met a fault has ended.
-use Rattle.std.proofs.Common.{◌≡◌, ◌≢◌, ◌⊎◌, ℕ, Bool, true, false, eqb, List, Option, None, Some, length, refl, sym, ap, ◌∙◌, subst, inl, inr, arith}
+use Rattle.std.proofs.Common.{◌≡◌, ◌≢◌, ◌⊎◌, ℕ, true, false, eqb, List, Option, Some, length, sym, ap, ◌∙◌, inl, inr}
 use Rattle.std.specs.Prelude.{slice_get}
-use Rattle.std.specs.Option.{option_map, option_map_or}
+use Rattle.std.specs.Option.{option_map}
 use Rattle.std.proofs.lemmas.Bool.Decides.{eqb_tells}
 use Rattle.el_set.specs.Gives.{source_file}
 use Rattle.element_traits.specs.declared.element.TaskElement as elements
@@ -14,7 +14,6 @@ use Rattle.graph_core.specs.declared.graph.Graph.{Graph}
 use Rattle.graph_ends.specs.Owed.{went_from}
 use Rattle.graph_ends.specs.Runs.{crossed_in}
 use Rattle.graph_files.specs.Files.{WereTold, known_of}
-use Rattle.graph_files.specs.declared.counts.Count.{Count}
 use Rattle.gst_item.specs.declared.fault.ElementFault.{ElementFault}
 use Rattle.gst_item.specs.declared.fault.ElementFault.TheVariants as own_faults
 use Rattle.gst_outside.specs.declared.sink.Sink as sinks
@@ -32,12 +31,11 @@ use Rattle.task_elements.specs.declared.source.StreamSource.{StreamSource}
 use Rattle.task_parts.specs.Fault.{refusal_fault}
 use Rattle.task_parts.specs.declared.fault.TaskFault.{TaskFault}
 use Rattle.task_parts.specs.declared.fault.TaskFault.TheVariants as faults
-use Rattle.world_core.specs.Ended.{EndsRefused, EndsTooLong, HasEnded}
+use Rattle.world_core.specs.Ended.{HasEnded}
 use Rattle.world_core.specs.Ran.{KnownFailed, KnownHold}
 use Rattle.world_core.specs.Stopped.{HasRun}
 use Rattle.world_core.specs.Told.{task_status}
 use Rattle.world_core.specs.declared.ended.WorldEnd.{WorldEnd}
-use Rattle.world_core.proofs.Blame.{IsFull}
 use Rattle.world_core.proofs.Faulted.{IsFaulted, full_ends, refused_ends, unlinked_ends, unread_ends, unwritten_ends}
 use Rattle.world_core.proofs.Meeting.{IsMet}
 use Rattle.world_core.proofs.Settled.{IsTold}

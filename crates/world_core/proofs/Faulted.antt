@@ -1,8 +1,7 @@
 -- A run that stopped at a fault: how it ended.
-use Rattle.std.proofs.Common.{◌≡◌, ◌≢◌, ◌⊎◌, ◌<◌, ℕ, Bool, true, false, eqb, List, [], Option, None, Some, length, refl, sym, ap, ◌∙◌, subst, inl, inr, arith}
+use Rattle.std.proofs.Common.{◌≡◌, ◌≢◌, ◌⊎◌, ℕ, List, [], Option, None, Some, length, refl, sym, ap, ◌∙◌, subst, inl, inr, arith}
 use Rattle.std.specs.Prelude.{slice_get, unwrap_or}
 use Rattle.std.specs.Option.{option_map, option_map_or}
-use Rattle.std.proofs.lemmas.Bool.Decides.{eqb_tells}
 use Rattle.std.proofs.lemmas.Option.{none-some, same_Some}
 use Rattle.el_set.specs.Asked.{location_of}
 use Rattle.el_set.specs.Gives.{source_file}
@@ -24,7 +23,7 @@ use Rattle.graph_ends.specs.Owed.{AreWritten, Refuses, went_from}
 use Rattle.graph_ends.specs.Runs.{crossed_in}
 use Rattle.graph_files.specs.Back.{HasElement, HasSource}
 use Rattle.graph_files.specs.Ends.{at as end_at, sink_end, source_end}
-use Rattle.graph_files.specs.Files.{OpensAt, WereTold, known_of, opening_of}
+use Rattle.graph_files.specs.Files.{OpensAt, WereTold, known_of}
 use Rattle.graph_model.specs.Asked.{first_pad}
 use Rattle.gst_item.specs.declared.fault.ElementFault.{ElementFault}
 use Rattle.gst_item.specs.declared.fault.ElementFault.TheVariants as own_faults
@@ -35,24 +34,24 @@ use Rattle.lane_core.specs.Lane.{Lane}
 use Rattle.lane_core.specs.declared.ends.Inlet as inlets
 use Rattle.lane_core.specs.declared.ends.Outlet as outlets
 use Rattle.graph_model.proofs.Links.{owner_at}
-use Rattle.graph_model.specs.GraphPlan.{owner_of, pad_id}
+use Rattle.graph_model.specs.GraphPlan.{pad_id}
 use Rattle.net_model.specs.Moment.{Moment}
 use Rattle.net_task.specs.declared.task.Task.{Task}
 use Rattle.run_files.specs.Ends.{Known, known_end}
 use Rattle.run_files.specs.Seen.{Seen}
 use Rattle.run_files.specs.declared.end.End.{End}
 use Rattle.run_files.specs.declared.end.End.TheVariants.{Src, Snk}
-use Rattle.run_files.specs.declared.end.Opening.TheVariants.{Read, Write}
+use Rattle.run_files.specs.declared.end.Opening.TheVariants.{Write}
 use Rattle.run_report.specs.declared.report.Fault.TheVariants as told_faults
 use Rattle.task_elements.specs.Stands.{faults_in, file_in}
 use Rattle.task_elements.specs.declared.element.StreamElement.{StreamElement}
 use Rattle.task_elements.specs.declared.element.StreamElement.TheVariants as kinds
 use Rattle.el_set.specs.declared.sink.SinkElement.TheVariants as sink_kinds
 use Rattle.task_elements.specs.declared.source.StreamSource.{StreamSource}
-use Rattle.task_parts.specs.Fault.{refusal_fault, unread_fault}
+use Rattle.task_parts.specs.Fault.{refusal_fault}
 use Rattle.task_parts.specs.declared.fault.TaskFault.{TaskFault}
 use Rattle.task_parts.specs.declared.fault.TaskFault.TheVariants as faults
-use Rattle.world_core.specs.Ended.{EndsRefused, EndsTooLong, EndsUnlinked, EndsUnread, EndsUnwritten, HasEnded, TellsRun, most_items}
+use Rattle.world_core.specs.Ended.{EndsRefused, EndsTooLong, EndsUnlinked, EndsUnread, EndsUnwritten, TellsRun}
 use Rattle.world_core.specs.Ran.{KnownFailed, KnownHold}
 use Rattle.world_core.specs.Stopped.{HasRun}
 use Rattle.world_core.specs.Told.{element_fault, element_status, location_named, source_pad, task_fault, task_status}
@@ -61,7 +60,6 @@ use Rattle.world_core.proofs.Blame.{IsFull, RefusedAt, link_blamed, own_blamed, 
 use Rattle.world_core.proofs.Files.{element_file, head_file, known_sink, known_source, one_element}
 use Rattle.world_core.proofs.Held.{AllBehind, RestHasCame, behind_held}
 use Rattle.world_core.proofs.Openers.{reader_opens, writer_opens}
-use Rattle.world_core.proofs.Meeting.{IsMet}
 use Rattle.world_core.proofs.Parts.{part_held}
 use Rattle.world_core.proofs.Settled.{IsSettled, IsTold, all_bytes, all_written, rendered}
 

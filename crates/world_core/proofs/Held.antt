@@ -1,46 +1,32 @@
 -- What the files of a run hold that stopped.
-use Rattle.std.proofs.Common.{◌≡◌, ◌≢◌, ◌⊎◌, ◌+◌, ◌<◌, ℕ, zero, suc, Bool, true, false, eqb, List, [], ◌∷◌, Option, None, Some, if◌then◌else◌, length, map, refl, sym, ap, ◌∙◌, subst, inl, inr, arith}
-use Rattle.std.specs.Prelude.{slice_get, slice_index_or}
-use Rattle.std.specs.List.{list_any, range_with_len}
-use Rattle.std.specs.Option.{ForSome, option_map}
-use Rattle.std.proofs.lemmas.Option.{none-some, same_Some, slice_get_within}
-use Rattle.el_set.specs.Made.{IsEmpty, file_for}
+use Rattle.std.proofs.Common.{◌≡◌, ◌≢◌, ℕ, List, [], ◌∷◌, Option, Some, refl, subst, inl, inr}
+use Rattle.std.specs.Prelude.{slice_get}
 use Rattle.el_set.specs.declared.settings.Settings.{Settings}
 use Rattle.element_traits.specs.declared.element.TaskElement as elements
 use Rattle.element_traits.specs.declared.source.TaskSource as givers
-use Rattle.flow_model.specs.Call.{Call, feeds}
+use Rattle.flow_model.specs.Call.{feeds}
 use Rattle.flow_model.specs.Item.{Item}
-use Rattle.graph_bags.specs.Laws.{StandsIn}
-use Rattle.graph_core.specs.Elements.{Made}
 use Rattle.graph_core.specs.Graph.{made as made_in, links as links_in}
 use Rattle.graph_core.specs.declared.graph.Graph.{Graph}
-use Rattle.graph_ends.specs.Ended.{IsQuiet}
 use Rattle.graph_ends.specs.Owed.{IsPartWritten, came_to}
 use Rattle.graph_ends.specs.Runs.{crossed_in}
 use Rattle.graph_ends.specs.Written.{HasAll, HoldsBytes, IsBehind, StandsBehind, StandsWhole}
 use Rattle.graph_ends.proofs.SinkFiles.{feeds_same, has_all}
 use Rattle.graph_files.specs.Back.{HasElement, HasPart}
-use Rattle.graph_files.specs.Ends.{at as end_of, sink_end}
-use Rattle.graph_files.specs.Files.{OpensAt, known_of}
+use Rattle.graph_files.specs.Files.{OpensAt}
 use Rattle.graph_files.specs.Put.{Among}
-use Rattle.graph_tasks.specs.Plan.{without}
 use Rattle.gst_outside.specs.declared.sink.Sink as sinks
 use Rattle.gst_outside.specs.declared.source.Source as sources
-use Rattle.lane_core.specs.Lane.{Lane}
 use Rattle.lane_core.specs.declared.ends.Inlet as inlets
 use Rattle.lane_core.specs.declared.ends.Outlet as outlets
 use Rattle.net_model.specs.Moment.{Behavior, Moment}
 use Rattle.net_task.specs.declared.task.Task.{Task}
-use Rattle.run_files.specs.Seen.{Seen}
-use Rattle.run_files.specs.declared.end.End.{End}
 use Rattle.run_files.specs.declared.end.Opening.TheVariants.{Write}
-use Rattle.task_elements.specs.Made.{IsElementFor, behavior_of}
 use Rattle.task_elements.specs.Stands.{StreamStands, file_in}
 use Rattle.task_elements.specs.declared.element.StreamElement.{StreamElement}
 use Rattle.task_elements.specs.declared.source.StreamSource.{StreamSource}
 use Rattle.task_parts.specs.declared.fault.TaskFault.{TaskFault}
 use Rattle.task_parts.specs.declared.fault.TaskFault.TheVariants.{OutOfMemory, WriteFault}
-use Rattle.world_core.specs.Stopped.{HasRun}
 use Rattle.world_core.proofs.Settled.{AreHeld, all_bytes, keep_of}
 
 -- nothing came to an element that took nothing

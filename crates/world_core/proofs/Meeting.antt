@@ -19,7 +19,7 @@ use Rattle.lane_core.specs.declared.ends.Inlet as inlets
 use Rattle.lane_core.specs.declared.ends.Outlet as outlets
 use Rattle.graph_model.specs.GraphPlan.{pad_id}
 use Rattle.net_task.specs.Failed.{IsUnread}
-use Rattle.net_task.specs.Frame.{HeadFrame, TaskFrame, by_source as of_source, frame_of, head_frame}
+use Rattle.net_task.specs.Frame.{TaskFrame, frame_of, head_frame}
 use Rattle.net_task.specs.declared.task.Task.{Task}
 use Rattle.net_turns.specs.Turns.{HasMet, StopsBy, at_try, at_turn, ended, without}
 use Rattle.task_elements.specs.declared.element.StreamElement.{StreamElement}

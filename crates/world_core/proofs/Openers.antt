@@ -1,5 +1,5 @@
 -- What an element opens tells of its pads.
-use Rattle.std.proofs.Common.{◌≡◌, ℕ, true, false, List, Option, None, Some, refl}
+use Rattle.std.proofs.Common.{◌≡◌, ℕ, true, false, List, Option, Some, refl}
 use Rattle.std.proofs.lemmas.Option.{none-some, same_Some}
 use Rattle.el_set.specs.Asked.{location_of}
 use Rattle.el_set.specs.Made.{file_for, read_for}

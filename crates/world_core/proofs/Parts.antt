@@ -1,21 +1,20 @@
 -- What the files of a run hold of which a write failed.
-use Rattle.std.proofs.Common.{◌≡◌, ◌≢◌, ◌⊎◌, ◌<◌, ℕ, Bool, true, false, List, [], ◌∷◌, Option, None, Some, length, take, eqb, refl, sym, ap, ◌∙◌, subst, inl, inr}
+use Rattle.std.proofs.Common.{◌≡◌, ◌≢◌, ◌⊎◌, ℕ, true, false, List, Option, Some, take, eqb, sym, ap, ◌∙◌, subst, inl, inr}
 use Rattle.std.specs.Prelude.{slice_get}
 use Rattle.std.specs.Option.{option_map_or}
 use Rattle.std.proofs.lemmas.Bool.Decides.{eqb_tells}
-use Rattle.std.proofs.lemmas.Option.{none-some, same_Some}
+use Rattle.std.proofs.lemmas.Option.{same_Some}
 use Rattle.el_set.specs.Made.{keeps_flushed}
-use Rattle.el_set.specs.declared.settings.Settings.{Settings}
 use Rattle.element_traits.specs.declared.element.TaskElement as elements
 use Rattle.element_traits.specs.declared.source.TaskSource as givers
 use Rattle.flow_model.specs.Item.{Item, body_of}
-use Rattle.flow_model.specs.SinkBytes.{disk_after, sink_bytes}
+use Rattle.flow_model.specs.SinkBytes.{disk_after}
 use Rattle.graph_core.specs.Elements.{Made}
 use Rattle.graph_core.specs.Graph.{made as made_in, links as links_in}
 use Rattle.graph_core.specs.declared.graph.Graph.{Graph}
-use Rattle.graph_ends.specs.Owed.{IsAwaited, IsPartWritten, came_to}
+use Rattle.graph_ends.specs.Owed.{IsAwaited, came_to}
 use Rattle.graph_ends.specs.Runs.{crossed_in}
-use Rattle.graph_ends.specs.Written.{HasAll, HasPart, HoldsBytes, IsBehind}
+use Rattle.graph_ends.specs.Written.{HoldsBytes, IsBehind}
 use Rattle.graph_files.specs.Back.{HasElement}
 use Rattle.graph_files.specs.Files.{OpensAt}
 use Rattle.gst_outside.specs.Bytes.{written}
@@ -29,7 +28,6 @@ use Rattle.run_files.specs.declared.end.Opening.TheVariants.{Write}
 use Rattle.task_elements.specs.Stands.{file_in}
 use Rattle.task_elements.specs.declared.element.StreamElement.{StreamElement}
 use Rattle.task_elements.specs.declared.source.StreamSource.{StreamSource}
-use Rattle.task_parts.specs.declared.fault.TaskFault.{TaskFault}
 use Rattle.task_parts.specs.declared.fault.TaskFault.TheVariants.{OutOfMemory, WriteFault}
 use Rattle.world_core.proofs.Held.{AllBehind, HasCame, PartHeld, RestHasCame, behind_at, came_all}
 use Rattle.world_core.proofs.Settled.{AreHeld, all_bytes, keep_of}

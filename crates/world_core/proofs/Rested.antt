@@ -40,7 +40,7 @@ use Rattle.task_elements.specs.declared.source.StreamSource.{StreamSource}
 use Rattle.world_core.specs.Start.{IsStarted}
 use Rattle.world_core.proofs.AtHand.{made_at}
 use Rattle.world_core.proofs.ByKind.{writer}
-use Rattle.world_core.proofs.Held.{HasCame, RestHasCame, fresh_all}
+use Rattle.world_core.proofs.Held.{RestHasCame, fresh_all}
 use Rattle.world_core.proofs.Members.{flat_member, member_got, without_gone}
 use Rattle.world_core.proofs.Settled.{IsSettled}
 

@@ -1,8 +1,7 @@
 -- A run that stopped, at the moment at which it did, and what is told of it.
-use Rattle.std.proofs.Common.{◌≡◌, ◌<◌, ◌≤◌, ℕ, Bool, true, false, All, List, Option, None, Some, length, refl, sym, ap, ◌∙◌, subst}
+use Rattle.std.proofs.Common.{◌≡◌, ◌<◌, ◌≤◌, ℕ, Bool, true, false, All, List, Option, Some, length, sym, ap, ◌∙◌, subst}
 use Rattle.std.specs.Prelude.{slice_get}
-use Rattle.std.specs.Option.{ForSome, option_map, option_map_or}
-use Rattle.std.proofs.lemmas.Option.{slice_get_within}
+use Rattle.std.specs.Option.{option_map, option_map_or}
 use Rattle.el_set.specs.Gives.{source_file}
 use Rattle.el_set.specs.Made.{keeps_flushed}
 use Rattle.element_traits.specs.declared.element.TaskElement as elements
@@ -21,7 +20,7 @@ use Rattle.graph_ends.specs.Runs.{crossed_in}
 use Rattle.graph_ends.specs.Written.{HoldsBytes, TaskCrossed}
 use Rattle.graph_files.specs.Back.{GivesBack, HasElement, Wrote}
 use Rattle.graph_files.specs.Counts.{TasksCounted}
-use Rattle.graph_files.specs.Files.{OpensAt, known_of, opening_of}
+use Rattle.graph_files.specs.Files.{OpensAt, known_of}
 use Rattle.graph_files.specs.Put.{PutBack}
 use Rattle.graph_files.specs.declared.counts.Count.{Count}
 use Rattle.graph_moment.specs.Pads.{is_pad}
@@ -33,13 +32,13 @@ use Rattle.lane_core.specs.declared.ends.Outlet as outlets
 use Rattle.graph_model.specs.GraphPlan.{graph_plan}
 use Rattle.net_model.specs.Moment.{Moment}
 use Rattle.net_task.specs.declared.task.Task.{Task}
-use Rattle.run_files.specs.Ends.{Known, known_end}
+use Rattle.run_files.specs.Ends.{known_end}
 use Rattle.run_files.specs.Seen.{Seen}
 use Rattle.run_files.specs.declared.end.End.{End}
 use Rattle.run_files.specs.declared.end.End.TheVariants.{Snk}
 use Rattle.run_files.specs.declared.end.Opening.TheVariants.{Write}
 use Rattle.run_report.specs.declared.report.PadCount.{PadCount}
-use Rattle.task_elements.specs.Stands.{file_in, len_in}
+use Rattle.task_elements.specs.Stands.{file_in}
 use Rattle.task_elements.specs.declared.element.StreamElement.{StreamElement}
 use Rattle.task_elements.specs.declared.source.StreamSource.{StreamSource}
 use Rattle.task_parts.specs.declared.fault.TaskFault.{TaskFault}

@@ -1,5 +1,5 @@
 -- A run that stopped, by the laws of its graph.
-use Rattle.std.proofs.Common.{◌≡◌, ◌≢◌, ◌⊎◌, ◌<◌, ℕ, zero, suc, Bool, true, false, eqb, List, [], ◌∷◌, Option, None, Some, length, refl, sym, ap, ◌∙◌, subst, inl, inr, arith}
+use Rattle.std.proofs.Common.{◌≡◌, ◌≢◌, ◌⊎◌, ℕ, suc, true, false, eqb, List, [], ◌∷◌, Option, None, Some, length, refl, sym, ap, ◌∙◌, subst, inl, inr}
 use Rattle.std.specs.Prelude.{slice_get}
 use Rattle.std.specs.Option.{option_map}
 use Rattle.std.proofs.lemmas.Bool.Decides.{eqb_tells}
@@ -7,16 +7,12 @@ use Rattle.std.proofs.lemmas.Option.{none-some, same_Some}
 use Rattle.el_set.specs.Gives.{source_file}
 use Rattle.element_traits.specs.declared.element.TaskElement as elements
 use Rattle.element_traits.specs.declared.source.TaskSource as givers
-use Rattle.graph_bags.specs.Bags.{AreBags}
 use Rattle.graph_bags.specs.declared.bag.Bag.{Bag}
-use Rattle.graph_core.specs.Graph.{IsGraph, IsSound, made as made_in, links as links_in}
+use Rattle.graph_core.specs.Graph.{made as made_in, links as links_in}
 use Rattle.graph_core.specs.declared.graph.Graph.{Graph}
-use Rattle.graph_ends.specs.Blamed.{FaultsAreBlamed}
-use Rattle.graph_ends.specs.Ended.{EndsAreOver, EndsAreWhole, HistoriesAreEvaluated, LooseAreQuiet, PadsAreLimited, RunsEndEmpty}
 use Rattle.graph_ends.specs.Frames.{HaveBags, IsFrameOf}
-use Rattle.graph_ends.specs.Owed.{AreOver, AreWhole, AreWritten}
 use Rattle.graph_ends.specs.Runs.{RunStands, RunsAt}
-use Rattle.graph_ends.specs.Written.{AreStreams, IsBehind, StandsBehind, StandsWhole, TaskCrossed, TasksStandBehind, TasksStandWhole}
+use Rattle.graph_ends.specs.Written.{IsBehind, StandsBehind, StandsWhole, TaskCrossed}
 use Rattle.graph_files.specs.Files.{WereTold, known_of}
 use Rattle.graph_moment.specs.Plans.{moment_answers, moment_plan}
 use Rattle.graph_model.specs.Once.{AreOnce}
@@ -32,7 +28,6 @@ use Rattle.net_task.specs.declared.task.Task.{Task}
 use Rattle.net_turns.specs.Rests.{NetEnded, NetFaulted}
 use Rattle.run_files.specs.Seen.{Seen}
 use Rattle.run_files.specs.declared.end.End.{End}
-use Rattle.run_report.specs.declared.report.Fault.TheVariants as told_faults
 use Rattle.task_elements.specs.Stands.{file_in}
 use Rattle.task_elements.specs.declared.element.StreamElement.{StreamElement}
 use Rattle.task_elements.specs.declared.source.StreamSource.{StreamSource}
@@ -44,7 +39,7 @@ use Rattle.world_core.specs.Stopped.{HasRun}
 use Rattle.world_core.specs.declared.ended.WorldEnd.{WorldEnd}
 use Rattle.world_core.proofs.Faulted.{IsFaulted}
 use Rattle.world_core.proofs.Files.{have_bags}
-use Rattle.world_core.proofs.Held.{AllBehind, RestHasCame, whole_held}
+use Rattle.world_core.proofs.Held.{RestHasCame, whole_held}
 use Rattle.world_core.proofs.Settled.{IsSettled, IsTold, all_bytes, all_written, rendered}
 
 -- lists that have something at the same places are as long

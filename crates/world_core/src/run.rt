@@ -154,7 +154,8 @@ fn run_made<S: Source, K: Sink, I: Inlet<Out = O>, O: Outlet<Lanes = I::Lanes>>(
     requires started { (before : Seen) × IsStarted S.Source K.Sink graph.now begun.tasks.items begun.rest.items begun.left.items (O.tells lanes.old) before }
     requires room { HasRoom (length (made_in graph.now)) counts.pads.items counts.lengths.items }
     ensures ended { (before : Seen) → IsStarted S.Source K.Sink graph.now begun.tasks.items begun.rest.items begun.left.items (O.tells lanes.old) before
-        → result.end.status ≢ 13 → let known = known_of S.Source K.Sink result.ends.items in HasEnded graph.now before (KnownHold graph.now known) (KnownFailed known) result.end }
+        → result.end.status ≢ 13
+        → let known = known_of S.Source K.Sink result.ends.items in HasEnded graph.now before (KnownHold graph.now known) (KnownFailed known) result.end }
     ensures located { (before : Seen) → IsStarted S.Source K.Sink graph.now begun.tasks.items begun.rest.items begun.left.items (O.tells lanes.old) before
         → AreLocated (made_in graph.now) (known_of S.Source K.Sink result.ends.items) }
     ensures turned { (before : Seen) → IsStarted S.Source K.Sink graph.now begun.tasks.items begun.rest.items begun.left.items (O.tells lanes.old) before

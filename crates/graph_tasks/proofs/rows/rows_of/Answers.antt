@@ -1,4 +1,4 @@
-use Rattle.std.proofs.Common.{◌∙◌, length, ap, refl, arith}
+use Rattle.std.proofs.Common.{◌∙◌, length, ap, arith}
 use Rattle.graph_lanes.proofs.Slots.{size_more}
 use Rattle.graph_tasks.specs.Wiring.{feeds_with}
 use Rattle.graph_tasks.proofs.Rowing.{first_row, rows_begin, rows_more}

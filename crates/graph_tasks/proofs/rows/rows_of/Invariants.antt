@@ -1,6 +1,4 @@
-use Rattle.std.proofs.Common.{◌≡◌, Some, length}
-use Rattle.std.specs.Prelude.{slice_get}
-use Rattle.inlet_row.specs.declared.row.InletRow.{InletRow}
+use Rattle.std.proofs.Common.{◌≡◌, length}
 use Rattle.graph_tasks.proofs.Rowing.{RowsSo}
 use Rattle.graph_tasks.proofs.rows.rows_of.Given as goal
 

@@ -1,4 +1,4 @@
-use Rattle.std.proofs.Common.{◌≡◌, ◌∙◌, ◌++◌, Some, length, take, ap, refl, arith}
+use Rattle.std.proofs.Common.{◌≡◌, ◌++◌, Some, length, take, ap, refl, arith}
 use Rattle.std.specs.Prelude.{slice_get}
 use Rattle.std.proofs.lemmas.Option.{slice_get_read}
 use Rattle.graph_core.specs.Graph.{made as made_in, links as links_in}

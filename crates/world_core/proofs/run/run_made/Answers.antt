@@ -1,4 +1,4 @@
-use Rattle.std.proofs.Common.{◌∙◌, ap, refl, length}
+use Rattle.std.proofs.Common.{◌∙◌, ap, refl}
 use Rattle.graph_core.specs.Graph.{made}
 use Rattle.net_turns.specs.Turns.{stop_of}
 use Rattle.world_core.specs.Ran.{stop_fault, stop_status}
