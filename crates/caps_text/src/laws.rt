@@ -12,7 +12,8 @@ ghost use Rattle.caps_text.specs.Singles.{of_singles};
 /// them again. The same holds of `print_fixed` and the structure that has the values of the fixed caps.
 pub fn printed_again()
     ensures caps { (text : List ℕ) (caps : Caps) → IsCapsText text caps → IsCapsText (caps_text caps) caps }
-    ensures fixed { (text : List ℕ) (x : Description One) → IsCapsText text (Of (of_singles x ∷ [])) → IsCapsText (structure_text typed_text x) (Of (of_singles x ∷ [])) }
+    ensures fixed { (text : List ℕ) (x : Description One) → IsCapsText text (Of (of_singles x ∷ []))
+        → IsCapsText (structure_text typed_text x) (Of (of_singles x ∷ [])) }
 {}
 
 /// A text stands for the caps of one description.

@@ -7,10 +7,12 @@ use Rattle.flow_model.specs.Sticky.{latest}
 use Rattle.flow_model.specs.Call.{Call, Feed, Act, Drain, Set, Filter, Allowed, items}
 use Rattle.flow_model.specs.Rule.{Fed}
 use Rattle.el_basic.specs.declared.caps_filter.CapsFilter.{CapsFilter}
-use Rattle.el_basic.specs.Filters.{filter_in, caps_of, caps_in_force, filter_answer, filters, caps_behind}
+use Rattle.el_basic.specs.Filters.{filter_in, filter_answer, filters}
+use Rattle.flow_model.specs.CapsInForce.{caps_of, caps_in_force, caps_behind}
 use Rattle.el_basic.specs.Filtered.{filtered, IsFilteredBy}
-use Rattle.el_basic.proofs.Counted.{counted_taken, counted_behind, counted_flush, counted_act}
-use Rattle.el_basic.proofs.Calls.{items_push, items_act, fed_taken, fed_behind, fed_flush, drained_begun, drained_behind, set_push, eos_taken, eos_stays, eos_flushed, eos_act}
+use Rattle.flow_model.proofs.Counted.{counted_taken, counted_behind, counted_flush, counted_act}
+use Rattle.flow_model.proofs.Calls.{items_push, items_act, fed_taken, fed_behind, fed_flush, drained_begun, drained_behind, set_push, eos_taken, eos_stays, eos_flushed, eos_act}
+use Rattle.flow_model.proofs.CapsFed.{caps_fed}
 
 pub filter_fed : (first : Caps) (calls : List Call) (x : Item) → filter_in first (calls ++ Feed x ∷ []) ≡ filter_in first calls
 filter_fed first [] x = refl
@@ -32,20 +34,6 @@ filter_set first (Feed y ∷ calls) caps = filter_set first calls caps
 filter_set first (Act Drain ∷ calls) caps = filter_set first calls caps
 filter_set first (Act (Set (Filter old)) ∷ calls) caps = filter_set old calls caps
 filter_set first (Act (Set (Allowed old)) ∷ calls) caps = filter_set first calls caps
-
--- the caps in force behind one more item
-caps_by : (x : Item) (h : List Item) → caps_of (if is_caps x then x ∷ [] else latest is_caps h) ≡ caps_behind (caps_in_force h) x
-caps_by (Buf b) h = refl
-caps_by (Ev (StreamStart id)) h = refl
-caps_by (Ev (NewCaps caps)) h = refl
-caps_by (Ev (NewSegment segment)) h = refl
-caps_by (Ev (Tag title)) h = refl
-caps_by (Ev (Gap pts duration)) h = refl
-caps_by (Ev (FlushStop number)) h = refl
-caps_by (Ev Eos) h = refl
-
-pub caps_fed : (calls : List Call) (x : Item) → caps_in_force (items (calls ++ Feed x ∷ [])) ≡ caps_behind (caps_in_force (items calls)) x
-caps_fed calls x = rw (items_push calls x, latest_push is_caps (items calls) x) (caps_by x (items calls))
 
 -- the answer of the rule, by what the element knows
 answer_known : (first : Caps) (element : CapsFilter) (calls : List Call) (put : List Item) (x : Item) (r : Result (List Item) _) → IsFilteredBy first element calls put

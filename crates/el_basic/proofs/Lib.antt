@@ -1,4 +1,2 @@
-pub mod Calls
-pub mod Counted
 pub mod Filtering
 pub mod Passing

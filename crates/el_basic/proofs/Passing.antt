@@ -5,8 +5,8 @@ use Rattle.flow_model.specs.Call.{Call, Feed, Act, Drain}
 use Rattle.flow_model.specs.Rule.{Fed, unfed, all_called, passes}
 use Rattle.el_basic.specs.declared.identity.Identity.{Identity}
 use Rattle.el_basic.specs.Passed.{Passed}
-use Rattle.el_basic.proofs.Counted.{counted_taken, counted_behind, counted_flush, counted_act}
-use Rattle.el_basic.proofs.Calls.{fed_taken, fed_behind, fed_flush, drained_begun, drained_behind, eos_taken, eos_stays, eos_flushed, eos_act}
+use Rattle.flow_model.proofs.Counted.{counted_taken, counted_behind, counted_flush, counted_act}
+use Rattle.flow_model.proofs.Calls.{fed_taken, fed_behind, fed_flush, drained_begun, drained_behind, eos_taken, eos_stays, eos_flushed, eos_act}
 
 pub passed_item : (old new : Identity) (x : Item) → is_flush_stop x ≡ false → old.ended ≡ false → new.ended ≡ is_eos x
     → (calls : List Call) (put : List Item) → Passed old calls put → Passed new (calls ++ Feed x ∷ []) (put ++ x ∷ [])

@@ -7,7 +7,8 @@ use Rattle.flow_model.specs.Call.{Call, items}
 use Rattle.flow_model.specs.Rule.{Fed, unfed, all_called, owed_for}
 use Rattle.flow_model.specs.Feeding.{has_eos}
 use Rattle.el_basic.specs.declared.caps_filter.CapsFilter.{CapsFilter}
-use Rattle.el_basic.specs.Filters.{filter_in, caps_in_force, filters}
+use Rattle.el_basic.specs.Filters.{filter_in, filters}
+use Rattle.flow_model.specs.CapsInForce.{caps_in_force}
 
 -- how far its rule has come
 abbrev pub filtered : Caps → List Call → Fed

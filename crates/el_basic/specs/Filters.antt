@@ -9,6 +9,7 @@ use Rattle.flow_model.specs.Item.{Item, Buf, Ev, NewCaps, is_caps}
 use Rattle.flow_model.specs.Sticky.{latest}
 use Rattle.flow_model.specs.Call.{Call, Feed, Act, Drain, Set, Filter, Allowed, items}
 use Rattle.flow_model.specs.Rule.{Fault, NotNegotiated, Response}
+use Rattle.flow_model.specs.CapsInForce.{caps_in_force}
 
 -- the filter in force: the one that was set last, and the first one where none was set
 abbrev pub filter_in : Caps → List Call → Caps
@@ -17,15 +18,6 @@ filter_in filter (Feed x ∷ calls) = filter_in filter calls
 filter_in filter (Act Drain ∷ calls) = filter_in filter calls
 filter_in filter (Act (Set (Filter caps)) ∷ calls) = filter_in caps calls
 filter_in filter (Act (Set (Allowed caps)) ∷ calls) = filter_in filter calls
-
--- the caps of the first item, where it is CAPS
-abbrev pub caps_of : List Item → Option (Description One)
-caps_of (Ev (NewCaps caps) ∷ xs) = Some caps
-caps_of _ = None
-
--- the caps of the last CAPS of a list
-abbrev pub caps_in_force : List Item → Option (Description One)
-caps_in_force h = caps_of (latest is_caps h)
 
 -- whether a filter takes a buffer: it accepts its caps, and only all caps take one without
 abbrev pub takes_buffer : Caps → Option (Description One) → Bool
@@ -43,8 +35,3 @@ filter_answer filter caps x = Ok (x ∷ [])
 -- the rule of a filter that begins with these caps
 abbrev pub filters : Caps → Response
 filters first fed x = filter_answer (filter_in first fed.given) (caps_in_force (items fed.given)) x
-
--- the caps in force behind an item
-abbrev pub caps_behind : Option (Description One) → Item → Option (Description One)
-caps_behind caps (Ev (NewCaps new)) = Some new
-caps_behind caps x = caps

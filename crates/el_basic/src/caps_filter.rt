@@ -3,7 +3,8 @@ ghost use Rattle.std.specs.Prelude.{◌≡◌, ◌++◌, ◌∷◌, [], ℕ, Lis
 ghost use Rattle.flow_model.specs.Item.{Item, Buf, Ev, NewCaps, FlushStop, is_buffer, is_caps, is_eos, is_flush_stop};
 ghost use Rattle.flow_model.specs.Call.{Call, Feed, Act, Drain, Set, Filter};
 ghost use Rattle.flow_model.specs.Feeding.{flow_behind, passed, on_pad, next_owed, IsFaultOf};
-ghost use Rattle.el_basic.specs.Filters.{filters, filter_answer, takes_buffer, caps_behind};
+ghost use Rattle.el_basic.specs.Filters.{filters, filter_answer, takes_buffer};
+ghost use Rattle.flow_model.specs.CapsInForce.{caps_behind};
 ghost use Rattle.gst_item.specs.declared.fault.ElementFault.TheVariants.{OutOfMemory as Wanting};
 ghost use Rattle.el_basic.specs.Filtered.{IsFilteredBy};
 
@@ -46,10 +47,14 @@ impl CapsFilter {
         requires pad { _pad ≡ 0 }
         requires no_flush { is_flush_stop item ≡ false }
         ensures out { IfOk result (λ flow. out.new ≡ out.old ++ on_pad 0 (passed flow item)) }
-        ensures fed { IfOk result (λ flow. (first : Caps) (calls : List Call) (put : List Item) → IsFilteredBy first self.old calls put → IsFilteredBy first self.new (calls ++ Feed item ∷ []) (put ++ passed flow item)) }
-        ensures flow { IfOk result (λ flow. (first : Caps) (calls : List Call) (put : List Item) → IsFilteredBy first self.old calls put → flow ≡ flow_behind calls) }
+        ensures fed { IfOk result (λ flow. (first : Caps) (calls : List Call) (put : List Item) → IsFilteredBy first self.old calls put
+            → IsFilteredBy first self.new (calls ++ Feed item ∷ []) (put ++ passed flow item)) }
+        ensures flow { IfOk result (λ flow. (first : Caps) (calls : List Call) (put : List Item) → IsFilteredBy first self.old calls put
+            → flow ≡ flow_behind calls) }
         ensures stays { OnErr result ((self.new ≡ self.old) × (out.new ≡ out.old)) }
-        ensures fault { IfErr result (λ fault. (first : Caps) (calls : List Call) (put : List Item) → IsFilteredBy first self.old calls put → IsFaultOf (next_owed (filters first) calls item) fault) }
+        ensures fault { IfErr result
+            (λ fault. (first : Caps) (calls : List Call) (put : List Item) → IsFilteredBy first self.old calls put
+            → IsFaultOf (next_owed (filters first) calls item) fault) }
     {
         if self.ended {
             return Ok(Flow::Eos);
@@ -71,14 +76,16 @@ impl CapsFilter {
     pub fn drain(&mut self, _alloc: Global, _out: &mut Outs) -> Result<(), ElementFault>
         ensures ok { IsOk result }
         ensures out { _out.new ≡ _out.old }
-        ensures drained { (first : Caps) (calls : List Call) (put : List Item) → IsFilteredBy first self.old calls put → IsFilteredBy first self.new (calls ++ Act Drain ∷ []) put }
+        ensures drained { (first : Caps) (calls : List Call) (put : List Item) → IsFilteredBy first self.old calls put
+            → IsFilteredBy first self.new (calls ++ Act Drain ∷ []) put }
     {
         Ok(())
     }
 
     /// Another filter, which counts from the next item on.
     pub fn set_caps(&mut self, caps: Caps)
-        ensures { (first : Caps) (calls : List Call) (put : List Item) → IsFilteredBy first self.old calls put → IsFilteredBy first self.new (calls ++ Act (Set (Filter caps)) ∷ []) put }
+        ensures { (first : Caps) (calls : List Call) (put : List Item) → IsFilteredBy first self.old calls put
+            → IsFilteredBy first self.new (calls ++ Act (Set (Filter caps)) ∷ []) put }
     {
         self.filter = caps;
     }

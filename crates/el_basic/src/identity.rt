@@ -28,6 +28,7 @@ impl Identity {
 
     /// Takes an item. Behind EOS, up to the next flush, the answer is `Flow::Eos` and nothing is put out, and
     /// else it is `Flow::Ok` and the item is put out. The only fault is want of memory.
+    #[inline(always)]
     pub fn feed(
         &mut self,
         alloc: Global,
@@ -38,10 +39,12 @@ impl Identity {
         requires pad { _pad ≡ 0 }
         requires no_flush { is_flush_stop item ≡ false }
         ensures out { IfOk result (λ flow. out.new ≡ out.old ++ on_pad 0 (passed flow item)) }
-        ensures fed { IfOk result (λ flow. (calls : List Call) (put : List Item) → Passed self.old calls put → Passed self.new (calls ++ Feed item ∷ []) (put ++ passed flow item)) }
+        ensures fed { IfOk result (λ flow. (calls : List Call) (put : List Item) → Passed self.old calls put
+            → Passed self.new (calls ++ Feed item ∷ []) (put ++ passed flow item)) }
         ensures flow { IfOk result (λ flow. (calls : List Call) (put : List Item) → Passed self.old calls put → flow ≡ flow_behind calls) }
         ensures stays { OnErr result ((self.new ≡ self.old) × (out.new ≡ out.old)) }
-        ensures fault { IfErr result (λ fault. (calls : List Call) (put : List Item) → Passed self.old calls put → IsFaultOf (next_owed passes calls item) fault) }
+        ensures fault { IfErr result
+            (λ fault. (calls : List Call) (put : List Item) → Passed self.old calls put → IsFaultOf (next_owed passes calls item) fault) }
     {
         if self.ended {
             return Ok(Flow::Eos);

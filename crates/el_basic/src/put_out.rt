@@ -9,6 +9,7 @@ use std::alloc::Global;
 
 /// Puts an item out on the only source pad. Where there is no memory nothing is put out, and the item is given
 /// up.
+#[inline(always)]
 pub(crate) fn put_out(alloc: Global, item: Item, out: &mut Outs) -> Result<(), OutOfMemory>
     ensures ok { OnOk result (out.new ≡ out.old ++ on_pad 0 (item ∷ [])) }
     ensures err { OnErr result (out.new ≡ out.old) }
@@ -17,6 +18,7 @@ pub(crate) fn put_out(alloc: Global, item: Item, out: &mut Outs) -> Result<(), O
 }
 
 /// Whether an item ends its stream.
+#[inline(always)]
 pub(crate) fn is_end(item: &Item) -> bool
     ensures { result ≡ is_eos item.now }
 {

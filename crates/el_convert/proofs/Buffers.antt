@@ -13,7 +13,8 @@ use Rattle.flow_model.specs.Feeding.{IsFaultOf}
 use Rattle.el_convert.specs.declared.convert.Convert.{Convert}
 use Rattle.el_convert.specs.declared.stream.Stream.{Stream}
 use Rattle.el_convert.specs.Choice.{choice}
-use Rattle.el_convert.specs.Converts.{Known, convert_answer, whole_frames, frame_width, caps_before, converted_buffer, answered, caps_after, behind}
+use Rattle.el_convert.specs.Converts.{Known, convert_answer, whole_frames, frame_width, caps_before, converted_buffer, caps_after, behind}
+use Rattle.flow_model.specs.Owed.{answered}
 use Rattle.el_convert.specs.Converted.{knows, Stays, Changes}
 use Rattle.el_convert.proofs.Converting.{knowing, same_known}
 use Rattle.el_convert.proofs.Same.{caps_decide}

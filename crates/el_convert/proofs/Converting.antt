@@ -13,10 +13,11 @@ use Rattle.flow_model.specs.Call.{Call, Feed, Act, Drain, Set, Filter, Allowed, 
 use Rattle.flow_model.specs.Rule.{Fed, Fault}
 use Rattle.flow_model.specs.Feeding.{next_owed, IsFaultOf}
 use Rattle.gst_item.specs.declared.fault.ElementFault.{ElementFault}
-use Rattle.el_basic.specs.Filters.{caps_of, caps_in_force, caps_behind}
-use Rattle.el_basic.proofs.Calls.{items_push, items_act, fed_taken, fed_behind, fed_flush, drained_begun, drained_behind, set_push, eos_taken, eos_stays, eos_flushed, eos_act}
+use Rattle.flow_model.specs.CapsInForce.{caps_of, caps_in_force, caps_behind}
+use Rattle.flow_model.proofs.Calls.{items_push, items_act, fed_taken, fed_behind, fed_flush, drained_begun, drained_behind, set_push, eos_taken, eos_stays, eos_flushed, eos_act}
 use Rattle.el_convert.specs.declared.convert.Convert.{Convert}
-use Rattle.el_convert.specs.Converts.{Known, known, allowed_in, bytes_got, convert_answer, converts, answered, caps_after, behind}
+use Rattle.el_convert.specs.Converts.{Known, known, allowed_in, bytes_got, convert_answer, converts, caps_after, behind}
+use Rattle.flow_model.specs.Owed.{answered}
 use Rattle.el_convert.specs.Converted.{converted, knows, IsConverted}
 
 -- the allowed caps with more calls

@@ -11,11 +11,12 @@ use Rattle.flow_model.specs.Item.{Item, Buf, Buffer, Ev, StreamStart, NewCaps, N
 use Rattle.flow_model.specs.Call.{Call, Feed, Act, Drain, Set, Filter, Allowed, items}
 use Rattle.flow_model.specs.Rule.{Response, Fault, NotNegotiated, BadStream, TooLong, Fed, unfed, responded, flushed, fed_item, drained, called, all_called, owed_for}
 use Rattle.flow_model.specs.Feeding.{next_owed}
-use Rattle.el_basic.specs.Filters.{caps_in_force}
-use Rattle.el_basic.proofs.Calls.{items_push, items_act}
+use Rattle.flow_model.specs.CapsInForce.{caps_in_force}
+use Rattle.flow_model.proofs.Calls.{items_push, items_act}
 use Rattle.el_convert.specs.Choice.{choice}
 use Rattle.el_convert.specs.Raw.{raw_template}
-use Rattle.el_convert.specs.Converts.{Known, known, allowed_in, bytes_got, frame_width, caps_before, whole_frames, buffer_answer, fed_buffer, caps_answer, converted_buffer, convert_answer, converts, answered}
+use Rattle.el_convert.specs.Converts.{Known, known, allowed_in, bytes_got, frame_width, caps_before, whole_frames, buffer_answer, fed_buffer, caps_answer, converted_buffer, convert_answer, converts}
+use Rattle.flow_model.specs.Owed.{answered}
 use Rattle.el_convert.specs.Placed.{allowed_at, converts_placed, setting_at, settings_in, unset, IsTaken, TakesAll}
 use Rattle.el_convert.proofs.Converting.{allowed_more, ok_answered}
 

@@ -10,9 +10,10 @@ use Rattle.flow_model.specs.Item.{Item, Ev, Eos, is_flush_stop, is_eos}
 use Rattle.flow_model.specs.Call.{Call, Feed, Act, Drain}
 use Rattle.flow_model.specs.Feeding.{on_pad, flow_behind}
 use Rattle.el_convert.specs.declared.convert.Convert.{Convert}
-use Rattle.el_convert.specs.Converts.{convert_answer, answered, behind}
+use Rattle.el_convert.specs.Converts.{convert_answer, behind}
+use Rattle.flow_model.specs.Owed.{answered, without_eos}
 use Rattle.el_convert.specs.Converted.{converted, knows, IsConverted}
-use Rattle.el_convert.specs.Puts.{Puts, without_eos}
+use Rattle.el_convert.specs.Puts.{Puts}
 use Rattle.el_convert.proofs.Converting.{converted_item, converted_behind, converted_drain}
 
 -- for an item in a section that is not over

@@ -11,7 +11,8 @@ use Rattle.audio_info.specs.Packing.{sample_width}
 use Rattle.flow_model.specs.Item.{Item, Buffer, Buf, Ev, NewCaps, body_of}
 use Rattle.flow_model.specs.Call.{Call, Feed, Act, Drain, Set, Filter, Allowed, items}
 use Rattle.flow_model.specs.Rule.{Fed, Fault, NotNegotiated, BadStream, TooLong, Response}
-use Rattle.el_basic.specs.Filters.{caps_in_force, caps_behind}
+use Rattle.flow_model.specs.CapsInForce.{caps_in_force, caps_behind}
+use Rattle.flow_model.specs.Owed.{answered}
 use Rattle.el_convert.specs.Raw.{raw_template, format_in, channels_in}
 use Rattle.el_convert.specs.Choice.{choice, same_caps}
 use Rattle.el_convert.specs.Bodies.{converted_bytes}
@@ -92,11 +93,6 @@ convert_answer k x = Ok (x ∷ [])
 -- the rule of a converter that begins with these allowed caps
 abbrev pub converts : Caps → Response
 converts first fed x = convert_answer (known first fed) x
-
--- what is owed for an item that is taken
-abbrev pub answered : Result (List Item) Fault → List Item
-answered (Ok ys) = ys
-answered (Err fault) = []
 
 -- the caps in force behind more items
 abbrev pub caps_after : Option (Description One) → List Item → Option (Description One)

@@ -39,7 +39,8 @@ impl Convert {
     ghost use Rattle.flow_model.specs.Call.{Call, Feed, Act, Drain, Set, Allowed};
     ghost use Rattle.flow_model.specs.Feeding.{flow_behind, on_pad, next_owed, IsFaultOf};
     ghost use Rattle.el_convert.specs.Raw.{raw_template};
-    ghost use Rattle.el_convert.specs.Converts.{converts, convert_answer, answered, behind};
+    ghost use Rattle.el_convert.specs.Converts.{converts, convert_answer, behind};
+    ghost use Rattle.flow_model.specs.Owed.{answered};
     ghost use Rattle.el_convert.specs.Converted.{IsConverted, knows, Stays, Changes};
     ghost use Rattle.el_convert.specs.Puts.{Puts};
 
@@ -75,10 +76,13 @@ impl Convert {
         requires no_flush { is_flush_stop item ≡ false }
         ensures fed { IfOk result (λ flow. (first : Caps) (calls : List Call) (put : List Item) → IsConverted first self.old calls put
             → (ys : List Item) × (next_owed (converts first) calls item ≡ Ok ys) × (out.new ≡ out.old ++ on_pad 0 ys) × IsConverted first self.new (calls ++ Feed item ∷ []) (put ++ ys)) }
-        ensures flow { IfOk result (λ flow. (first : Caps) (calls : List Call) (put : List Item) → IsConverted first self.old calls put → flow ≡ flow_behind calls) }
+        ensures flow { IfOk result (λ flow. (first : Caps) (calls : List Call) (put : List Item) → IsConverted first self.old calls put
+            → flow ≡ flow_behind calls) }
         ensures puts { IfOk result (λ flow. Puts self.old self.new (Feed item) out.old out.new) }
         ensures stays { OnErr result ((self.new ≡ self.old) × (out.new ≡ out.old)) }
-        ensures fault { IfErr result (λ fault. (first : Caps) (calls : List Call) (put : List Item) → IsConverted first self.old calls put → IsFaultOf (next_owed (converts first) calls item) fault) }
+        ensures fault { IfErr result
+            (λ fault. (first : Caps) (calls : List Call) (put : List Item) → IsConverted first self.old calls put
+            → IsFaultOf (next_owed (converts first) calls item) fault) }
     {
         if self.ended {
             return Ok(Flow::Eos);
@@ -100,7 +104,8 @@ impl Convert {
     pub fn drain(&mut self, _alloc: Global, _out: &mut Outs) -> Result<(), ElementFault>
         ensures ok { IsOk result }
         ensures out { _out.new ≡ _out.old }
-        ensures drained { (first : Caps) (calls : List Call) (put : List Item) → IsConverted first self.old calls put → IsConverted first self.new (calls ++ Act Drain ∷ []) put }
+        ensures drained { (first : Caps) (calls : List Call) (put : List Item) → IsConverted first self.old calls put
+            → IsConverted first self.new (calls ++ Act Drain ∷ []) put }
         ensures puts { OnOk result (Puts self.old self.new (Act Drain) _out.old _out.new) }
     {
         Ok(())
@@ -108,7 +113,8 @@ impl Convert {
 
     /// Other allowed caps, which count from the next item on.
     pub fn set_allowed(&mut self, allowed: Caps)
-        ensures { (first : Caps) (calls : List Call) (put : List Item) → IsConverted first self.old calls put → IsConverted first self.new (calls ++ Act (Set (Allowed allowed)) ∷ []) put }
+        ensures { (first : Caps) (calls : List Call) (put : List Item) → IsConverted first self.old calls put
+            → IsConverted first self.new (calls ++ Act (Set (Allowed allowed)) ∷ []) put }
     {
         self.anew = true;
         self.allowed = allowed;

@@ -13,7 +13,8 @@ use Rattle.el_law.specs.declared.law.Law.{Law}
 use Rattle.el_law.specs.Laws.{format_in, law_answer, recodes, recoded, frame_behind, got_behind}
 use Rattle.el_law.specs.Templates.{template}
 use Rattle.el_law.specs.Recoded.{Recoded, recoding}
-use Rattle.el_law.specs.Puts.{Puts, without_eos}
+use Rattle.el_law.specs.Puts.{Puts}
+use Rattle.flow_model.specs.Owed.{without_eos}
 use Rattle.el_law.proofs.Recoding.{fault_known, recoded_taken, recoded_behind, recoded_drain}
 
 -- an item in a section that is not over

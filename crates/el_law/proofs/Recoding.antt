@@ -13,10 +13,10 @@ use Rattle.flow_model.specs.Section.{counted}
 use Rattle.flow_model.specs.Call.{Call, Feed, Act, Drain, items}
 use Rattle.flow_model.specs.Rule.{Fed}
 use Rattle.flow_model.specs.Feeding.{next_owed, IsFaultOf}
-use Rattle.el_basic.specs.Filters.{caps_in_force, caps_behind}
-use Rattle.el_basic.proofs.Counted.{counted_taken, counted_behind, counted_flush, counted_act}
-use Rattle.el_basic.proofs.Calls.{items_push, items_act, fed_taken, fed_behind, fed_flush, drained_begun, drained_behind, eos_taken, eos_stays, eos_flushed, eos_act}
-use Rattle.el_basic.proofs.Filtering.{caps_fed}
+use Rattle.flow_model.specs.CapsInForce.{caps_in_force, caps_behind}
+use Rattle.flow_model.proofs.Counted.{counted_taken, counted_behind, counted_flush, counted_act}
+use Rattle.flow_model.proofs.Calls.{items_push, items_act, fed_taken, fed_behind, fed_flush, drained_begun, drained_behind, eos_taken, eos_stays, eos_flushed, eos_act}
+use Rattle.flow_model.proofs.CapsFed.{caps_fed}
 use Rattle.el_law.specs.declared.kind.LawKind.{LawKind}
 use Rattle.el_law.specs.declared.law.Law.{Law}
 use Rattle.el_law.specs.Laws.{frame_width, frame_in_force, bytes_got, law_answer, recodes, recoded, frame_behind, got_behind}

@@ -16,7 +16,7 @@ use Rattle.audio_info.specs.declared.sample.Sample.TheVariants.{S16LE, MuLaw, AL
 use Rattle.flow_model.specs.Item.{Item, Buffer, Buf, Ev, NewCaps, body_of}
 use Rattle.flow_model.specs.Call.{items}
 use Rattle.flow_model.specs.Rule.{Fault, NotNegotiated, BadStream, TooLong, Response}
-use Rattle.el_basic.specs.Filters.{caps_in_force}
+use Rattle.flow_model.specs.CapsInForce.{caps_in_force}
 use Rattle.el_law.specs.Templates.{template}
 use Rattle.el_law.specs.declared.kind.LawKind.{LawKind}
 use Rattle.el_law.specs.declared.kind.LawKind.TheVariants.{MulawEnc, AlawEnc, MulawDec, AlawDec}

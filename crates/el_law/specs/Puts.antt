@@ -5,21 +5,11 @@ use Rattle.flow_model.specs.Item.{Item, Ev, Eos}
 use Rattle.flow_model.specs.Call.{Call, Feed, Act, Drain, Set}
 use Rattle.flow_model.specs.Rule.{Response, Fault, not_eos}
 use Rattle.flow_model.specs.Feeding.{on_pad, next_owed}
+use Rattle.flow_model.specs.Owed.{owed_at}
 use Rattle.el_law.specs.declared.kind.LawKind.{LawKind}
 use Rattle.el_law.specs.declared.law.Law.{Law}
 use Rattle.el_law.specs.Laws.{recodes}
 use Rattle.el_law.specs.Recoded.{Recoded}
-
-abbrev pub without_eos : Result (List Item) Fault → Result (List Item) Fault
-without_eos (Ok owed) = Ok (filter not_eos owed)
-without_eos (Err fault) = Err fault
-
--- What is owed for a call behind other calls: for an item what the rule says, and for a drain what it would say of
--- EOS, without the EOS. A setting owes nothing.
-abbrev pub owed_at : Response → List Call → Call → Result (List Item) Fault
-owed_at respond calls (Feed x) = next_owed respond calls x
-owed_at respond calls (Act Drain) = without_eos (next_owed respond calls (Ev Eos))
-owed_at respond calls (Act (Set setting)) = Ok []
 
 -- It put out these items for a call, on its source pad. They are what each rule owes by which it stands.
 pub record Puts (old new : Law) (call : Call) (out out' : List Out) : Type 0 where

@@ -67,12 +67,17 @@ impl Law {
     ) -> Result<Flow, ElementFault>
         requires pad { _pad ≡ 0 }
         requires no_flush { is_flush_stop item ≡ false }
-        ensures out { IfOk result (λ flow. (kind : LawKind) (calls : List Call) (put : List Item) → Recoded kind self.old calls put → out.new ≡ out.old ++ on_pad 0 (passed flow (recoded_item kind item))) }
-        ensures fed { IfOk result (λ flow. (kind : LawKind) (calls : List Call) (put : List Item) → Recoded kind self.old calls put → Recoded kind self.new (calls ++ Feed item ∷ []) (put ++ passed flow (recoded_item kind item))) }
-        ensures flow { IfOk result (λ flow. (kind : LawKind) (calls : List Call) (put : List Item) → Recoded kind self.old calls put → flow ≡ flow_behind calls) }
+        ensures out { IfOk result (λ flow. (kind : LawKind) (calls : List Call) (put : List Item) → Recoded kind self.old calls put
+            → out.new ≡ out.old ++ on_pad 0 (passed flow (recoded_item kind item))) }
+        ensures fed { IfOk result (λ flow. (kind : LawKind) (calls : List Call) (put : List Item) → Recoded kind self.old calls put
+            → Recoded kind self.new (calls ++ Feed item ∷ []) (put ++ passed flow (recoded_item kind item))) }
+        ensures flow { IfOk result (λ flow. (kind : LawKind) (calls : List Call) (put : List Item) → Recoded kind self.old calls put
+            → flow ≡ flow_behind calls) }
         ensures puts { IfOk result (λ flow. Puts self.old self.new (Feed item) out.old out.new) }
         ensures stays { OnErr result ((self.new ≡ self.old) × (out.new ≡ out.old)) }
-        ensures fault { IfErr result (λ fault. (kind : LawKind) (calls : List Call) (put : List Item) → Recoded kind self.old calls put → IsFaultOf (next_owed (recodes kind) calls item) fault) }
+        ensures fault { IfErr result
+            (λ fault. (kind : LawKind) (calls : List Call) (put : List Item) → Recoded kind self.old calls put
+            → IsFaultOf (next_owed (recodes kind) calls item) fault) }
     {
         if self.ended {
             return Ok(Flow::Eos);
@@ -94,7 +99,8 @@ impl Law {
     pub fn drain(&mut self, _alloc: Global, _out: &mut Outs) -> Result<(), ElementFault>
         ensures ok { IsOk result }
         ensures out { _out.new ≡ _out.old }
-        ensures drained { (kind : LawKind) (calls : List Call) (put : List Item) → Recoded kind self.old calls put → Recoded kind self.new (calls ++ Act Drain ∷ []) put }
+        ensures drained { (kind : LawKind) (calls : List Call) (put : List Item) → Recoded kind self.old calls put
+            → Recoded kind self.new (calls ++ Act Drain ∷ []) put }
         ensures puts { OnOk result (Puts self.old self.new (Act Drain) _out.old _out.new) }
     {
         Ok(())
@@ -186,7 +192,8 @@ impl Law {
         out: &mut Outs,
     ) -> Result<Flow, ElementFault>
         ensures flow { IfOk result (λ flow. flow ≡ Taken) }
-        ensures owed { OnOk result (law_answer self.old.kind self.old.frame self.old.got (Ev (NewCaps caps)) ≡ Ok (Ev (NewCaps (recoded_caps self.old.kind caps)) ∷ [])) }
+        ensures owed { OnOk result (law_answer self.old.kind self.old.frame self.old.got (Ev (NewCaps caps))
+            ≡ Ok (Ev (NewCaps (recoded_caps self.old.kind caps)) ∷ [])) }
         ensures out { OnOk result (out.new ≡ out.old ++ on_pad 0 (Ev (NewCaps (recoded_caps self.old.kind caps)) ∷ [])) }
         ensures same { OnOk result ((self.new.kind ≡ self.old.kind) × (self.new.got ≡ self.old.got) × (self.new.ended ≡ self.old.ended)) }
         ensures frame { OnOk result (self.new.frame ≡ Some (frame_width self.old.kind caps)) }

@@ -11,7 +11,7 @@ use Rattle.flow_model.specs.Item.{Item, Buf, Buffer, is_buffer}
 use Rattle.flow_model.specs.Feeding.{on_pad, IsFaultOf}
 use Rattle.flow_model.specs.Rule.{Fault, TooLong}
 use Rattle.el_parse.specs.Part.{end_of}
-use Rattle.el_parse.specs.Parses.{answered}
+use Rattle.flow_model.specs.Owed.{answered}
 use Rattle.el_parse.specs.Streams.{Stream}
 use Rattle.el_parse.specs.Splits.{time_at, piece, in_time, in_sum, timed, ahead, pieces, reached_by}
 

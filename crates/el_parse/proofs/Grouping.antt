@@ -12,12 +12,12 @@ use Rattle.flow_model.specs.Item.{Item, Ev, NewCaps, FlushStop, Eos, is_flush_st
 use Rattle.flow_model.specs.Call.{Call, Feed, Act, Drain, items}
 use Rattle.flow_model.specs.Rule.{Fed, Fault, not_eos}
 use Rattle.flow_model.specs.Feeding.{next_owed}
-use Rattle.el_basic.proofs.Calls.{items_push, items_act, fed_taken, fed_behind, fed_flush, drained_begun, drained_behind, eos_taken, eos_stays, eos_flushed, eos_act}
+use Rattle.flow_model.proofs.Calls.{items_push, items_act, fed_taken, fed_behind, fed_flush, drained_begun, drained_behind, eos_taken, eos_stays, eos_flushed, eos_act}
 use Rattle.el_parse.specs.declared.split.Split.{Split}
-use Rattle.el_parse.specs.Parses.{answered}
+use Rattle.flow_model.specs.Owed.{answered, drain_owed, without_eos}
 use Rattle.el_parse.specs.Streams.{Stream, raw_template, stream_by}
 use Rattle.el_parse.specs.Splits.{Cutting, cutting, ahead, rest, rested, split_answer, splits, behind}
-use Rattle.el_parse.specs.Regrouped.{splitting, come, KeepsBytes, Regrouped, drain_owed, without_eos}
+use Rattle.el_parse.specs.Regrouped.{splitting, come, KeepsBytes, Regrouped}
 use Rattle.el_parse.proofs.Steps.{some_width}
 use Rattle.el_parse.proofs.Views.{View, view, view_push, view_append}
 use Rattle.el_parse.proofs.Regrouping.{Moved, went, rest_moved, rest_alone, flushed_cutting, flush_moved}

@@ -6,10 +6,11 @@ use Rattle.flow_model.specs.Item.{Item, Ev, FlushStop, Eos, is_flush_stop, is_eo
 use Rattle.flow_model.specs.Call.{Call, Feed, Act, Drain, items}
 use Rattle.flow_model.specs.Rule.{Fed, Fault}
 use Rattle.flow_model.specs.Feeding.{next_owed}
-use Rattle.el_basic.proofs.Calls.{items_push, items_act, fed_taken, fed_behind, fed_flush, drained_begun, drained_behind, eos_taken, eos_stays, eos_flushed, eos_act}
+use Rattle.flow_model.proofs.Calls.{items_push, items_act, fed_taken, fed_behind, fed_flush, drained_begun, drained_behind, eos_taken, eos_stays, eos_flushed, eos_act}
 use Rattle.el_parse.specs.declared.raw_parse.RawParse.{RawParse}
 use Rattle.el_parse.specs.Frames.{frame_width, bytes_in}
-use Rattle.el_parse.specs.Parses.{Progress, progress, parse_answer, parses, behind, answered}
+use Rattle.el_parse.specs.Parses.{Progress, progress, parse_answer, parses, behind}
+use Rattle.flow_model.specs.Owed.{answered}
 use Rattle.el_parse.specs.Parsed.{parsed, come, PutFrames, Parsed}
 use Rattle.el_parse.proofs.Seen.{Seen, seen, seen_one, seen_all, seen_push, seen_append}
 use Rattle.el_parse.proofs.Steps.{progress_by, Split, Went, went, nothing_seen, begins_anew}

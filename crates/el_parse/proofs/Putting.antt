@@ -7,12 +7,12 @@ use Rattle.flow_model.specs.Call.{Feed, Act, Drain}
 use Rattle.flow_model.specs.Feeding.{on_pad}
 use Rattle.el_parse.specs.declared.raw_parse.RawParse.{RawParse}
 use Rattle.el_parse.specs.declared.split.Split.{Split}
-use Rattle.el_parse.specs.Parses.{parse_answer, behind, answered}
+use Rattle.el_parse.specs.Parses.{parse_answer, behind}
+use Rattle.flow_model.specs.Owed.{answered, without_eos}
 use Rattle.el_parse.specs.Parsed.{parsed, come}
 use Rattle.el_parse.specs.RawParsePuts.{RawParsePuts}
 use Rattle.el_parse.specs.Splits.{split_answer, rest, rested}
 use Rattle.el_parse.specs.Splits.{behind as split_behind_of}
-use Rattle.el_parse.specs.Regrouped.{without_eos}
 use Rattle.el_parse.specs.Regrouped.{come as split_come}
 use Rattle.el_parse.specs.SplitPuts.{SplitPuts}
 use Rattle.el_parse.proofs.Parsing.{parsed_item, parsed_behind, parsed_drain}

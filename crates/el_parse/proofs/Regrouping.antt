@@ -10,7 +10,7 @@ use Rattle.gst_item.specs.declared.fault.StreamKind.TheVariants.{SplitFrame}
 use Rattle.flow_model.specs.Item.{Item, Buf, Ev, Buffer, StreamStart, NewCaps, NewSegment, Tag, Gap, FlushStop, Eos, Segment, is_flush_stop, is_buffer}
 use Rattle.flow_model.specs.Rule.{Fault, NotNegotiated, BadStream, TooLong, not_eos}
 use Rattle.el_parse.specs.Part.{end_of}
-use Rattle.el_parse.specs.Parses.{answered}
+use Rattle.flow_model.specs.Owed.{answered}
 use Rattle.el_parse.specs.Streams.{Stream, raw_template, stream_of, frames_in}
 use Rattle.el_parse.specs.Splits.{Cutting, timed, ahead, pieces, pts_with, buffer_answer, rest_by, rest, split_answer, reached_by, rested, size_of, cut_behind, behind}
 use Rattle.el_parse.proofs.Cutting.{timed_ok, both_ok}

@@ -5,7 +5,9 @@ use Rattle.std.specs.Prelude.{◌||◌}
 use Rattle.gst_item.proofs.Kept.{since_push, latest_push}
 use Rattle.flow_model.specs.Item.{Item, is_segment, is_flush_stop, is_buffer, body_of}
 use Rattle.flow_model.specs.Sticky.{latest, since_flush_stop, in_force}
-use Rattle.el_parse.specs.Part.{begins_part, has_beginning, last_part, bytes_of, part_bytes}
+use Rattle.el_parse.specs.Part.{begins_part, has_beginning, last_part, part_bytes}
+use Rattle.flow_model.specs.Looking.{bytes_of}
+use Rattle.flow_model.proofs.Looking.{bytes_push, latest_since}
 
 pub record Seen : Type 0 where
   pub bytes : List ℕ
@@ -49,24 +51,12 @@ last_part_push (y ∷ ys) x = rw (has_beginning_push ys x, last_part_push ys x) 
     go false false true = refl
     go false false false = refl
 
-pub bytes_push : (h : List Item) (x : Item) → bytes_of (h ++ x ∷ []) ≡ bytes_of h ++ body_of x
-bytes_push [] x = append-nil (body_of x)
-bytes_push (y ∷ ys) x = ap (λ bytes. body_of y ++ bytes) (bytes_push ys x) ∙ sym (append_assoc (body_of y) (bytes_of ys) (body_of x))
-
 pub part_bytes_push : (h : List Item) (x : Item) → part_bytes (h ++ x ∷ []) ≡ (if begins_part x then [] else part_bytes h ++ body_of x)
 part_bytes_push h x = rw (last_part_push h x) (go (begins_part x))
   where
     go : (b : Bool) → bytes_of (if b then [] else last_part h ++ x ∷ []) ≡ (if b then [] else part_bytes h ++ body_of x)
     go true = refl
     go false = bytes_push (last_part h) x
-
-pub latest_since : (passes : Item → Bool) (h : List Item) (x : Item)
-    → latest passes (since_flush_stop (h ++ x ∷ [])) ≡ (if is_flush_stop x then [] else (if passes x then x ∷ [] else latest passes (since_flush_stop h)))
-latest_since passes h x = rw (since_push h x) (go (is_flush_stop x))
-  where
-    go : (f : Bool) → latest passes (if f then [] else since_flush_stop h ++ x ∷ []) ≡ (if f then [] else (if passes x then x ∷ [] else latest passes (since_flush_stop h)))
-    go true = refl
-    go false = latest_push passes (since_flush_stop h) x
 
 pub seen_push : (h : List Item) (x : Item) → seen (h ++ x ∷ []) ≡ seen_one (seen h) x
 seen_push h x = rw (part_bytes_push h x, latest_since is_segment h x, latest_since is_buffer h x) refl

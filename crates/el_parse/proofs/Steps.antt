@@ -15,7 +15,8 @@ use Rattle.flow_model.specs.Feeding.{has_item}
 use Rattle.flow_model.specs.Rule.{Fault, TooLong}
 use Rattle.el_parse.specs.Part.{end_of}
 use Rattle.el_parse.specs.Frames.{frame_width, frame_time, opening, frames_buffer, frame_at, first_frame}
-use Rattle.el_parse.specs.Parses.{Progress, in_time, beginning, parse_answer, behind, answered}
+use Rattle.el_parse.specs.Parses.{Progress, in_time, beginning, parse_answer, behind}
+use Rattle.flow_model.specs.Owed.{answered}
 use Rattle.el_parse.proofs.Seen.{Seen, seen_one, seen_all}
 
 -- by what is seen of the items that were given, and of those that were put out

@@ -4,9 +4,11 @@ use Rattle.std.specs.Prelude.{◌||◌}
 use Rattle.gst_item.proofs.Kept.{since_push}
 use Rattle.flow_model.specs.Item.{Item, Buf, Ev, is_flush_stop, is_buffer, body_of}
 use Rattle.flow_model.specs.Sticky.{latest, since_flush_stop}
-use Rattle.el_parse.specs.Part.{begins_part, has_beginning, last_part, bytes_of, part_bytes}
-use Rattle.el_parse.specs.Streams.{Stream, stream_behind, stream_after, frames_in, frames_from, part_frames, has_buffer, first_pts, bytes_got}
-use Rattle.el_parse.proofs.Seen.{has_beginning_push, last_part_push, part_bytes_push, bytes_push, latest_since}
+use Rattle.el_parse.specs.Part.{begins_part, has_beginning, last_part, part_bytes}
+use Rattle.flow_model.specs.Looking.{bytes_of, bytes_got}
+use Rattle.el_parse.specs.Streams.{Stream, stream_behind, stream_after, frames_in, frames_from, part_frames, has_buffer, first_pts}
+use Rattle.el_parse.proofs.Seen.{has_beginning_push, last_part_push, part_bytes_push}
+use Rattle.flow_model.proofs.Looking.{bytes_push, latest_since}
 
 pub record View : Type 0 where
   pub stream : Option Stream

@@ -51,8 +51,3 @@ bytes_in (Some body) = body
 abbrev pub buffers_of : Option Buffer → List Item
 buffers_of None = []
 buffers_of (Some b) = Buf b ∷ []
-
--- and an event
-abbrev pub events_of : Option Event → List Item
-events_of None = []
-events_of (Some event) = Ev event ∷ []

@@ -1,5 +1,4 @@
 pub mod Frames
-pub mod OwedAt
 pub mod Parsed
 pub mod Parses
 pub mod Part

@@ -8,7 +8,8 @@ use Rattle.flow_model.specs.Item.{Item, Buf, Ev, NewCaps, NewSegment}
 use Rattle.flow_model.specs.Sticky.{in_force}
 use Rattle.flow_model.specs.Call.{items}
 use Rattle.flow_model.specs.Rule.{Fed, Fault, TooLong, Response}
-use Rattle.el_parse.specs.Part.{part_bytes, held_bytes, has_opened, end_put_out}
+use Rattle.el_parse.specs.Part.{part_bytes, held_bytes, end_put_out}
+use Rattle.flow_model.specs.Looking.{has_opened}
 use Rattle.el_parse.specs.Frames.{frame_width, frame_time, opening, frames_buffer, frame_at, first_frame}
 
 -- How far a parser has come: whether it put out a SEGMENT, the next frame, the bytes that it was given and did
@@ -68,11 +69,6 @@ abbrev pub behind : Info → Progress → Item → Progress
 behind info p (Buf b) = put_frames info p (p.held ++ b.body) (length (p.held ++ b.body) / frame_width info)
 behind info p (Ev (NewSegment s)) = record { opened = true; next = frame_at (frame_width info) s.start s.format; held = []; reached = p.reached }
 behind info p x = p
-
--- the items of an answer, and none of a fault
-abbrev pub answered : Result (List Item) Fault → List Item
-answered (Ok ys) = ys
-answered (Err fault) = []
 
 -- a fault at a frame whose time does not fit; memory may be wanting at any item
 abbrev pub IsLate : Info → Progress → ℕ → ElementFault → Type 0

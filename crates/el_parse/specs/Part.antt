@@ -5,6 +5,7 @@ use Rattle.flow_model.specs.Sticky.{latest, since_flush_stop, in_force}
 use Rattle.flow_model.specs.Call.{items}
 use Rattle.flow_model.specs.Rule.{Fed}
 use Rattle.flow_model.specs.Feeding.{has_item}
+use Rattle.flow_model.specs.Looking.{bytes_of}
 
 -- a SEGMENT and a FLUSH_STOP begin a part
 abbrev pub begins_part : Item → Bool
@@ -19,11 +20,6 @@ abbrev pub last_part : List Item → List Item
 last_part [] = []
 last_part (x ∷ xs) = if has_beginning xs then last_part xs else (if begins_part x then xs else x ∷ xs)
 
--- the bytes of items, one body behind the other
-abbrev pub bytes_of : List Item → List ℕ
-bytes_of [] = []
-bytes_of (x ∷ xs) = body_of x ++ bytes_of xs
-
 -- the bytes of the last part
 abbrev pub part_bytes : List Item → List ℕ
 part_bytes h = bytes_of (last_part h)
@@ -31,10 +27,6 @@ part_bytes h = bytes_of (last_part h)
 -- the bytes of the last part that were given and not yet put out
 abbrev pub held_bytes : Fed → List ℕ
 held_bytes fed = drop (length (part_bytes fed.out)) (part_bytes (items fed.given))
-
--- whether a SEGMENT was put out since the last FLUSH_STOP
-abbrev pub has_opened : Fed → Bool
-has_opened fed = has_item (in_force fed.out).segment
 
 -- the time at which the first item ends, where it is a buffer with times
 abbrev pub end_of : List Item → ℕ

@@ -3,8 +3,8 @@ use Rattle.std.specs.Prelude.{◌≡◌, ℕ, List, [], ◌++◌, None, Result, 
 use Rattle.std.specs.Option.{option_map}
 use Rattle.flow_model.specs.Item.{Item, Ev, Eos}
 use Rattle.flow_model.specs.Call.{Call, items}
-use Rattle.flow_model.specs.Rule.{Fed, Fault, Response, unfed, all_called, owed_for, not_eos}
-use Rattle.flow_model.specs.Feeding.{has_eos, next_owed}
+use Rattle.flow_model.specs.Rule.{Fed, Fault, Response, unfed, all_called, owed_for}
+use Rattle.flow_model.specs.Feeding.{has_eos}
 use Rattle.el_parse.specs.declared.split.Split.{Split}
 use Rattle.el_parse.specs.Part.{part_bytes}
 use Rattle.el_parse.specs.Streams.{stream_by, stream_after}
@@ -43,11 +43,3 @@ pub record Regrouped (frames : ℕ) (split : Split) (calls : List Call) (put : L
   pub same : split.frames ≡ frames
   pub as_far : cutting (splitting frames calls) ≡ come split
   pub bytes : KeepsBytes (splitting frames calls) split.waiting
-
--- what a drain owes: what EOS would, without the EOS
-abbrev pub without_eos : Result (List Item) Fault → Result (List Item) Fault
-without_eos (Ok ys) = Ok (filter not_eos ys)
-without_eos (Err fault) = Err fault
-
-abbrev pub drain_owed : Response → List Call → Result (List Item) Fault
-drain_owed respond calls = without_eos (next_owed respond calls (Ev Eos))

@@ -5,7 +5,7 @@ use Rattle.flow_model.specs.Item.{Item}
 use Rattle.flow_model.specs.Call.{Call}
 use Rattle.flow_model.specs.Feeding.{on_pad}
 use Rattle.el_parse.specs.declared.split.Split.{Split}
-use Rattle.el_parse.specs.OwedAt.{owed_at}
+use Rattle.flow_model.specs.Owed.{owed_at}
 use Rattle.el_parse.specs.Splits.{splits}
 use Rattle.el_parse.specs.Regrouped.{Regrouped}
 

@@ -13,7 +13,8 @@ use Rattle.audio_info.specs.Packing.{sample_width}
 use Rattle.audio_info.specs.declared.info.Info.{Info}
 use Rattle.flow_model.specs.Item.{Item, Buf, Ev, NewCaps, is_buffer, body_of}
 use Rattle.flow_model.specs.Sticky.{since_flush_stop}
-use Rattle.el_parse.specs.Part.{has_beginning, bytes_of}
+use Rattle.el_parse.specs.Part.{has_beginning}
+use Rattle.flow_model.specs.Looking.{bytes_of}
 
 -- the whole numbers from 1 to the most
 abbrev pub up_to_most : ℕ → Value
@@ -83,7 +84,3 @@ abbrev pub first_pts : List Item → Option ℕ
 first_pts [] = None
 first_pts (Buf b ∷ xs) = b.pts
 first_pts (Ev e ∷ xs) = first_pts xs
-
--- how many bytes a list has since its last FLUSH_STOP
-abbrev pub bytes_got : List Item → ℕ
-bytes_got h = length (bytes_of (since_flush_stop h))

@@ -2,7 +2,7 @@
 ghost use Rattle.std.specs.Prelude.{◌≡◌, ◌<◌, ◌≤◌, ◌^◌, ◌+◌, ◌*◌, ◌++◌, ◌∷◌, [], Ok, IfOk, OnOk, IfErr, IsOk};
 ghost use Rattle.flow_model.specs.Item.{Buf};
 ghost use Rattle.flow_model.specs.Feeding.{on_pad, IsFaultOf};
-ghost use Rattle.el_parse.specs.Parses.{answered};
+ghost use Rattle.flow_model.specs.Owed.{answered};
 ghost use Rattle.el_parse.specs.Streams.{stream_by};
 ghost use Rattle.el_parse.specs.Splits.{timed, whole_count, whole_pieces, left_behind, reached_by};
 
@@ -37,8 +37,10 @@ pub(crate) fn cut_pieces(
     requires few { frames ≤ 1000000 }
     requires fits { first < 2 ^ 53 }
     ensures answer { OnOk result (IsOk (whole_pieces (stream_by timing.info) timing.pts timing.reached frames first bytes)) }
-    ensures whole { IfOk result (λ made. made.whole.items ≡ on_pad 0 (answered (whole_pieces (stream_by timing.info) timing.pts timing.reached frames first bytes))) }
-    ensures reached { IfOk result (λ made. made.reached ≡ reached_by timing.reached (answered (whole_pieces (stream_by timing.info) timing.pts timing.reached frames first bytes))) }
+    ensures whole { IfOk result (λ made. made.whole.items
+        ≡ on_pad 0 (answered (whole_pieces (stream_by timing.info) timing.pts timing.reached frames first bytes))) }
+    ensures reached { IfOk result (λ made. made.reached
+        ≡ reached_by timing.reached (answered (whole_pieces (stream_by timing.info) timing.pts timing.reached frames first bytes))) }
     ensures next { IfOk result (λ made. made.next ≡ first + whole_count frames (stream_by timing.info) bytes * frames) }
     ensures rest { IfOk result (λ made. made.rest ≡ left_behind frames (stream_by timing.info) bytes) }
     ensures fault { IfErr result (λ fault. IsFaultOf (whole_pieces (stream_by timing.info) timing.pts timing.reached frames first bytes) fault) }
@@ -72,8 +74,10 @@ fn push_piece(
 ) -> Result<u64, ElementFault>
     requires { first < 2 ^ 53 }
     ensures answer { OnOk result (IsOk (timed (stream_by timing.info) timing.pts timing.reached first frames body)) }
-    ensures into { OnOk result (into.new.items ≡ into.old.items ++ on_pad 0 (answered (timed (stream_by timing.info) timing.pts timing.reached first frames body))) }
-    ensures reached { IfOk result (λ reached. reached ≡ reached_by timing.reached (answered (timed (stream_by timing.info) timing.pts timing.reached first frames body))) }
+    ensures into { OnOk result (into.new.items
+        ≡ into.old.items ++ on_pad 0 (answered (timed (stream_by timing.info) timing.pts timing.reached first frames body))) }
+    ensures reached { IfOk result (λ reached. reached
+        ≡ reached_by timing.reached (answered (timed (stream_by timing.info) timing.pts timing.reached first frames body))) }
     ensures fits { OnOk result (first + frames < 2 ^ 53) }
     ensures fault { IfErr result (λ fault. IsFaultOf (timed (stream_by timing.info) timing.pts timing.reached first frames body) fault) }
 {

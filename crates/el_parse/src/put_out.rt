@@ -3,7 +3,8 @@ ghost use Rattle.std.specs.Prelude.{◌≡◌, ◌++◌, ◌∷◌, [], OnOk, On
 ghost use Rattle.flow_model.specs.Item.{Ev, NewCaps, NewSegment, is_eos};
 ghost use Rattle.flow_model.specs.Feeding.{on_pad};
 ghost use Rattle.audio_info.specs.Media.{caps_of};
-ghost use Rattle.el_parse.specs.Frames.{time_segment, buffers_of, events_of};
+ghost use Rattle.el_parse.specs.Frames.{time_segment, buffers_of};
+ghost use Rattle.flow_model.specs.Owed.{events_of};
 
 use audio_info::Info;
 use gst_caps::OutOfMemory;
@@ -30,7 +31,9 @@ pub(crate) fn put_opening(
     buffer: Option<Buffer>,
     out: &mut Outs,
 ) -> Result<(), OutOfMemory>
-    ensures ok { OnOk result (out.new ≡ out.old ++ on_pad 0 (Ev (NewCaps (caps_of info.now.format info.now.rate info.now.channels)) ∷ Ev (NewSegment (time_segment start)) ∷ buffers_of buffer)) }
+    ensures ok { OnOk result (out.new
+        ≡ out.old ++ on_pad 0 (Ev (NewCaps (caps_of info.now.format info.now.rate info.now.channels)) ∷ Ev (NewSegment (time_segment start))
+        ∷ buffers_of buffer)) }
     ensures err { OnErr result (out.new ≡ out.old) }
 {
     let caps = info.to_fixed(alloc)?;

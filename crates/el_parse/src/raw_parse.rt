@@ -6,7 +6,8 @@ ghost use Rattle.flow_model.specs.Feeding.{flow_behind, on_pad, next_owed, IsFau
 ghost use Rattle.audio_info.specs.declared.info.Info.{Info};
 ghost use Rattle.gst_time.specs.declared.time.TheConstants.{LIMIT};
 ghost use Rattle.el_parse.specs.Frames.{frame_width, frame_time, frame_at, frames_buffer, bytes_in};
-ghost use Rattle.el_parse.specs.Parses.{parses, parse_answer, beginning, whole_frames, put_frames as behind_frames, behind, answered, IsLate};
+ghost use Rattle.el_parse.specs.Parses.{parses, parse_answer, beginning, whole_frames, put_frames as behind_frames, behind, IsLate};
+ghost use Rattle.flow_model.specs.Owed.{answered};
 
 use crate::put_out::{put_opening, put_out};
 use audio_info::Info;
@@ -94,7 +95,9 @@ impl RawParse {
         ensures flow { IfOk result (λ flow. (info : Info) (calls : List Call) (put : List Item) → Parsed info self.old calls put → flow ≡ flow_behind calls) }
         ensures puts { IfOk result (λ flow. RawParsePuts self.old self.new (Feed item) out.old out.new) }
         ensures stays { OnErr result ((self.new ≡ self.old) × (out.new ≡ out.old)) }
-        ensures fault { IfErr result (λ fault. (info : Info) (calls : List Call) (put : List Item) → Parsed info self.old calls put → IsFaultOf (next_owed (parses info) calls item) fault) }
+        ensures fault { IfErr result
+            (λ fault. (info : Info) (calls : List Call) (put : List Item) → Parsed info self.old calls put
+            → IsFaultOf (next_owed (parses info) calls item) fault) }
     {
         if self.ended {
             return Ok(Flow::Eos);
@@ -122,7 +125,8 @@ impl RawParse {
     pub fn drain(&mut self, _alloc: Global, _out: &mut Outs) -> Result<(), ElementFault>
         ensures ok { IsOk result }
         ensures out { _out.new ≡ _out.old }
-        ensures drained { (info : Info) (calls : List Call) (put : List Item) → Parsed info self.old calls put → Parsed info self.new (calls ++ Act Drain ∷ []) put }
+        ensures drained { (info : Info) (calls : List Call) (put : List Item) → Parsed info self.old calls put
+            → Parsed info self.new (calls ++ Act Drain ∷ []) put }
         ensures puts { OnOk result (RawParsePuts self.old self.new (Act Drain) _out.old _out.new) }
     {
         Ok(())
@@ -197,12 +201,15 @@ impl RawParse {
     /// Puts the whole frames of bytes out, and keeps what stands behind them.
     fn parse_bytes(&mut self, alloc: Global, bytes: Body, out: &mut Outs) -> Result<(), Refusal>
         ensures answer { OnOk result (IsOk (whole_frames self.old.info (come self.old) bytes (length bytes / frame_width self.old.info))) }
-        ensures out { OnOk result (out.new ≡ out.old ++ on_pad 0 (answered (whole_frames self.old.info (come self.old) bytes (length bytes / frame_width self.old.info)))) }
+        ensures out { OnOk result (out.new
+            ≡ out.old ++ on_pad 0 (answered (whole_frames self.old.info (come self.old) bytes (length bytes / frame_width self.old.info)))) }
         ensures come { OnOk result (come self.new ≡ behind_frames self.old.info (come self.old) bytes (length bytes / frame_width self.old.info)) }
         ensures info { self.new.info ≡ self.old.info }
         ensures ended { self.new.ended ≡ self.old.ended }
         ensures stays { OnErr result ((self.new ≡ self.old) × (out.new ≡ out.old)) }
-        ensures refusal { IfErr result (λ refusal. IsFaultOf (whole_frames self.old.info (come self.old) bytes (length bytes / frame_width self.old.info)) (fault_at (come self.old) refusal)) }
+        ensures refusal { IfErr result
+            (λ refusal. IsFaultOf (whole_frames self.old.info (come self.old) bytes (length bytes / frame_width self.old.info))
+            (fault_at (come self.old) refusal)) }
     {
         let width = self.info.width();
         let size = bytes.as_slice().len() as u32;
@@ -250,8 +257,10 @@ impl RawParse {
     ) -> Result<(), Refusal>
         requires { end ≤ length bytes }
         ensures fits { OnOk result (frame_time self.old.info (self.old.next + frames) < LIMIT) }
-        ensures out { OnOk result (out.new ≡ out.old ++ on_pad 0 (beginning self.old.info (come self.old) ++ Buf (frames_buffer self.old.info self.old.next frames (take end bytes)) ∷ [])) }
-        ensures come { OnOk result (come self.new ≡ record { opened = true; next = self.old.next + frames; held = drop end bytes; reached = frame_time self.old.info (self.old.next + frames) }) }
+        ensures out { OnOk result (out.new
+            ≡ out.old ++ on_pad 0 (beginning self.old.info (come self.old) ++ Buf (frames_buffer self.old.info self.old.next frames (take end bytes)) ∷ [])) }
+        ensures come { OnOk result (come self.new
+            ≡ record { opened = true; next = self.old.next + frames; held = drop end bytes; reached = frame_time self.old.info (self.old.next + frames) }) }
         ensures info { self.new.info ≡ self.old.info }
         ensures ended { self.new.ended ≡ self.old.ended }
         ensures stays { OnErr result ((self.new ≡ self.old) × (out.new ≡ out.old)) }
@@ -274,8 +283,15 @@ impl RawParse {
         out: &mut Outs,
     ) -> Result<(), Refusal>
         ensures fits { OnOk result (frame_time self.old.info (self.old.next + frames) < LIMIT) }
-        ensures out { OnOk result (out.new ≡ out.old ++ on_pad 0 (beginning self.old.info (come self.old) ++ Buf (frames_buffer self.old.info self.old.next frames whole) ∷ [])) }
-        ensures come { OnOk result (come self.new ≡ record { opened = true; next = self.old.next + frames; held = bytes_in self.old.rest; reached = frame_time self.old.info (self.old.next + frames) }) }
+        ensures out { OnOk result (out.new
+            ≡ out.old ++ on_pad 0 (beginning self.old.info (come self.old) ++ Buf (frames_buffer self.old.info self.old.next frames whole) ∷ [])) }
+        ensures come { OnOk result (come self.new
+            ≡ record {
+              opened = true;
+              next = self.old.next + frames;
+              held = bytes_in self.old.rest;
+              reached = frame_time self.old.info (self.old.next + frames);
+            }) }
         ensures info { self.new.info ≡ self.old.info }
         ensures ended { self.new.ended ≡ self.old.ended }
         ensures stays { OnErr result ((self.new ≡ self.old) × (out.new ≡ out.old)) }
@@ -322,7 +338,8 @@ impl RawParse {
         ensures info { self.new.info ≡ self.old.info }
         ensures ended { self.new.ended ≡ self.old.ended }
         ensures stays { OnErr result ((self.new ≡ self.old) × (out.new ≡ out.old)) }
-        ensures refusal { IfErr result (λ refusal. IsFaultOf (parse_answer self.old.info (come self.old) (Ev (NewSegment segment))) (fault_at (come self.old) refusal)) }
+        ensures refusal { IfErr result
+            (λ refusal. IsFaultOf (parse_answer self.old.info (come self.old) (Ev (NewSegment segment))) (fault_at (come self.old) refusal)) }
     {
         let frame = frame_of(&segment, self.info.width());
         let start = self.time_of(frame)?;

@@ -4,8 +4,8 @@ ghost use Rattle.flow_model.specs.Item.{Item, Buf, Ev, NewCaps, NewSegment, Flus
 ghost use Rattle.flow_model.specs.Call.{Call, Feed, Act, Drain};
 ghost use Rattle.flow_model.specs.Feeding.{flow_behind, on_pad, next_owed, IsFaultOf};
 ghost use Rattle.gst_time.specs.declared.time.TheConstants.{LIMIT};
-ghost use Rattle.el_parse.specs.Frames.{events_of, buffers_of};
-ghost use Rattle.el_parse.specs.Parses.{answered};
+ghost use Rattle.el_parse.specs.Frames.{buffers_of};
+ghost use Rattle.flow_model.specs.Owed.{events_of, answered};
 ghost use Rattle.el_parse.specs.Streams.{frames_in, stream_by};
 ghost use Rattle.el_parse.specs.Splits.{splits, split_answer, whole_count, whole_pieces, left_behind, rest as rest_answer, rested, behind, reached_by};
 
@@ -46,7 +46,8 @@ pub struct Split {
 }
 
 impl Split {
-    ghost use Rattle.el_parse.specs.Regrouped.{Regrouped, come, drain_owed};
+    ghost use Rattle.el_parse.specs.Regrouped.{Regrouped, come};
+    ghost use Rattle.flow_model.specs.Owed.{drain_owed};
     ghost use Rattle.el_parse.specs.SplitPuts.{SplitPuts};
 
     /// An element that was fed nothing yet, for buffers of this many frames.
@@ -87,10 +88,13 @@ impl Split {
         requires no_flush { is_flush_stop item ≡ false }
         ensures fed { IfOk result (λ flow. (frames : ℕ) (calls : List Call) (put : List Item) → Regrouped frames self.old calls put
             → (ys : List Item) × (next_owed (splits frames) calls item ≡ Ok ys) × (out.new ≡ out.old ++ on_pad 0 ys) × Regrouped frames self.new (calls ++ Feed item ∷ []) (put ++ ys)) }
-        ensures flow { IfOk result (λ flow. (frames : ℕ) (calls : List Call) (put : List Item) → Regrouped frames self.old calls put → flow ≡ flow_behind calls) }
+        ensures flow { IfOk result (λ flow. (frames : ℕ) (calls : List Call) (put : List Item) → Regrouped frames self.old calls put
+            → flow ≡ flow_behind calls) }
         ensures puts { IfOk result (λ flow. SplitPuts self.old self.new (Feed item) out.old out.new) }
         ensures stays { OnErr result ((self.new ≡ self.old) × (out.new ≡ out.old)) }
-        ensures fault { IfErr result (λ fault. (frames : ℕ) (calls : List Call) (put : List Item) → Regrouped frames self.old calls put → IsFaultOf (next_owed (splits frames) calls item) fault) }
+        ensures fault { IfErr result
+            (λ fault. (frames : ℕ) (calls : List Call) (put : List Item) → Regrouped frames self.old calls put
+            → IsFaultOf (next_owed (splits frames) calls item) fault) }
     {
         if self.ended {
             return Ok(Flow::Eos);
@@ -118,7 +122,9 @@ impl Split {
             → (ys : List Item) × (drain_owed (splits frames) calls ≡ Ok ys) × (out.new ≡ out.old ++ on_pad 0 ys) × Regrouped frames self.new (calls ++ Act Drain ∷ []) (put ++ ys)) }
         ensures puts { OnOk result (SplitPuts self.old self.new (Act Drain) out.old out.new) }
         ensures stays { OnErr result ((self.new ≡ self.old) × (out.new ≡ out.old)) }
-        ensures fault { IfErr result (λ fault. (frames : ℕ) (calls : List Call) (put : List Item) → Regrouped frames self.old calls put → IsFaultOf (drain_owed (splits frames) calls) fault) }
+        ensures fault { IfErr result
+            (λ fault. (frames : ℕ) (calls : List Call) (put : List Item) → Regrouped frames self.old calls put
+            → IsFaultOf (drain_owed (splits frames) calls) fault) }
     {
         if self.ended {
             return Ok(());
@@ -219,17 +225,25 @@ impl Split {
         out: &mut Outs,
     ) -> Result<(), ElementFault>
         requires { timing.reached ≡ self.old.reached }
-        ensures answer { OnOk result (IsOk (whole_pieces (stream_by timing.info) timing.pts timing.reached self.old.frames self.old.next (self.old.waiting ++ bytes))) }
-        ensures out { OnOk result (out.new ≡ out.old ++ on_pad 0 (answered (whole_pieces (stream_by timing.info) timing.pts timing.reached self.old.frames self.old.next (self.old.waiting ++ bytes)))) }
-        ensures reached { OnOk result (self.new.reached ≡ reached_by timing.reached (answered (whole_pieces (stream_by timing.info) timing.pts timing.reached self.old.frames self.old.next (self.old.waiting ++ bytes)))) }
-        ensures next { OnOk result (self.new.next ≡ self.old.next + whole_count self.old.frames (stream_by timing.info) (self.old.waiting ++ bytes) * self.old.frames) }
+        ensures answer { OnOk result
+            (IsOk (whole_pieces (stream_by timing.info) timing.pts timing.reached self.old.frames self.old.next (self.old.waiting ++ bytes))) }
+        ensures out { OnOk result (out.new
+            ≡ out.old ++ on_pad 0 (answered
+            (whole_pieces (stream_by timing.info) timing.pts timing.reached self.old.frames self.old.next (self.old.waiting ++ bytes)))) }
+        ensures reached { OnOk result
+            (self.new.reached ≡ reached_by timing.reached
+            (answered (whole_pieces (stream_by timing.info) timing.pts timing.reached self.old.frames self.old.next (self.old.waiting ++ bytes)))) }
+        ensures next { OnOk result (self.new.next
+            ≡ self.old.next + whole_count self.old.frames (stream_by timing.info) (self.old.waiting ++ bytes) * self.old.frames) }
         ensures waiting { OnOk result (self.new.waiting ≡ left_behind self.old.frames (stream_by timing.info) (self.old.waiting ++ bytes)) }
         ensures info { self.new.info ≡ self.old.info }
         ensures got { self.new.got ≡ self.old.got }
         ensures frames { self.new.frames ≡ self.old.frames }
         ensures ended { self.new.ended ≡ self.old.ended }
         ensures stays { OnErr result ((self.new ≡ self.old) × (out.new ≡ out.old)) }
-        ensures fault { IfErr result (λ fault. IsFaultOf (whole_pieces (stream_by timing.info) timing.pts timing.reached self.old.frames self.old.next (self.old.waiting ++ bytes)) fault) }
+        ensures fault { IfErr result
+            (λ fault. IsFaultOf (whole_pieces (stream_by timing.info) timing.pts timing.reached self.old.frames self.old.next
+            (self.old.waiting ++ bytes)) fault) }
     {
         let size = self.frames * timing.info.width();
         if self.waiting.as_slice().len() + bytes.as_slice().len() < size as usize {

@@ -53,7 +53,8 @@ impl Timing {
         ensures fits { OnOk result (time_at (stream_by self.info) frame < LIMIT) }
         ensures few { OnOk result (frame < 2 ^ 53) }
         ensures passes { OnOk result ((owed : Result (List Item) Fault) → in_time self.reached (time_at (stream_by self.info) frame) owed ≡ owed) }
-        ensures fault { IfErr result (λ fault. (owed : Result (List Item) Fault) → IsFaultOf (in_time self.reached (time_at (stream_by self.info) frame) owed) fault) }
+        ensures fault { IfErr result
+            (λ fault. (owed : Result (List Item) Fault) → IsFaultOf (in_time self.reached (time_at (stream_by self.info) frame) owed) fault) }
     {
         scale(frame, SECOND, u64::from(self.info.rate)).ok_or(ElementFault::TooLong {
             a: self.reached,

@@ -22,7 +22,8 @@ use Rattle.el_basic.specs.declared.caps_filter.CapsFilter.{CapsFilter}
 use Rattle.el_src.specs.Gave.{has_eos as eos_among}
 use Rattle.el_set.specs.declared.filter.FilterElement.{FilterElement}
 use Rattle.el_set.specs.declared.filter.FilterElement.TheVariants as elements
-use Rattle.el_set.specs.Stands.{Stands, PutsOut, MeetsNone, without_eos}
+use Rattle.el_set.specs.Stands.{Stands, PutsOut, MeetsNone}
+use Rattle.flow_model.specs.Owed.{without_eos}
 use Rattle.el_set.specs.Ends.{MeetsNoFault, EndsWithEos}
 use Rattle.el_set.proofs.Ends.{counted_eos, counted_eos_since, sections_plain, items_feeds, IsPassing, passes_is_passing, filters_is_passing, passing_ends, passing_meets_no_fault}
 use Rattle.el_set.proofs.Ending.{IsEnding, ending_eos, ending_sections, ending_among, ending_ends, met_none}

@@ -11,9 +11,10 @@ use Rattle.flow_model.specs.Feeding.{has_item}
 use Rattle.flow_model.specs.Chain.{IsPlain}
 use Rattle.flow_model.proofs.Prefixes.{append_prefix}
 use Rattle.flow_model.proofs.Sections.{called_push}
-use Rattle.el_basic.proofs.Calls.{items_push, items_act}
+use Rattle.flow_model.proofs.Calls.{items_push, items_act}
 use Rattle.el_src.specs.Gave.{has_eos as eos_among}
-use Rattle.el_set.specs.Stands.{owed_at, without_eos, MeetsNone}
+use Rattle.el_set.specs.Stands.{MeetsNone}
+use Rattle.flow_model.specs.Owed.{owed_at, without_eos}
 use Rattle.el_set.specs.Ends.{MeetsNoFault, EndsWithEos}
 use Rattle.el_set.proofs.Ends.{eos_first, none_first, items_feeds}
 

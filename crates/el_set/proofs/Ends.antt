@@ -14,7 +14,8 @@ use Rattle.flow_model.specs.Call.{items, feeds}
 use Rattle.flow_model.specs.Rule.{Response, Fault, Fed, unfed, responded, flushed, fed_item, all_called, owed_for, passes}
 use Rattle.flow_model.specs.Feeding.{has_item}
 use Rattle.flow_model.specs.Chain.{IsPlain}
-use Rattle.el_basic.specs.Filters.{takes_buffer, filter_in, caps_in_force, filter_answer, filters}
+use Rattle.el_basic.specs.Filters.{takes_buffer, filter_in, filter_answer, filters}
+use Rattle.flow_model.specs.CapsInForce.{caps_in_force}
 use Rattle.el_src.specs.Gave.{has_eos}
 use Rattle.el_set.specs.Ends.{MeetsNoFault, EndsWithEos, owed_along, MeetNoFaults, RowEndsWithEos}
 

@@ -7,7 +7,7 @@ use Rattle.gst_item.specs.declared.fault.ElementFault.{ElementFault}
 use Rattle.gst_item.specs.declared.fault.ElementFault.TheVariants.{NotNegotiated as Refused, BadStream as Broken, TooLong as Passing, OutOfMemory as Wanting}
 use Rattle.audio_info.specs.declared.info.Info.{Info}
 use Rattle.flow_model.specs.Item.{Item, Ev, FlushStop, Eos}
-use Rattle.flow_model.specs.Call.{Call, Feed, Act, Drain, Set}
+use Rattle.flow_model.specs.Call.{Call, Feed, Act, Drain}
 use Rattle.flow_model.specs.Rule.{Response, Fault, Fed, unfed, all_called}
 use Rattle.flow_model.specs.Feeding.{next_owed, flow_behind, IsFaultOf}
 use Rattle.el_convert.specs.declared.convert.Convert.{Convert}
@@ -19,11 +19,10 @@ use Rattle.el_law.specs.declared.law.Law.{Law}
 use Rattle.el_law.specs.Laws.{recodes}
 use Rattle.el_law.specs.Recoded.{Recoded}
 use Rattle.el_law.specs.Puts as law_puts
-use Rattle.el_parse.specs.OwedAt as parse_owes
 use Rattle.el_parse.specs.Parses.{parses as parses_raw}
 use Rattle.el_parse.specs.Parsed.{Parsed as RawParsed}
 use Rattle.el_parse.specs.RawParsePuts.{RawParsePuts}
-use Rattle.el_parse.specs.Regrouped as regrouped
+use Rattle.el_parse.specs.Regrouped.{Regrouped}
 use Rattle.el_parse.specs.Splits.{splits}
 use Rattle.el_parse.specs.SplitPuts.{SplitPuts}
 use Rattle.el_parse.specs.declared.raw_parse.RawParse.{RawParse}
@@ -37,36 +36,9 @@ use Rattle.el_wavenc.specs.Puts as wavenc_puts
 use Rattle.el_wavenc.specs.declared.wav_enc.WavEnc.{WavEnc}
 use Rattle.el_set.specs.declared.filter.FilterElement.{FilterElement}
 use Rattle.el_set.specs.declared.filter.FilterElement.TheVariants as elements
-use Rattle.el_set.specs.Stands.{StandsAs, PutsOut, Follows, owed_at, without_eos}
+use Rattle.el_set.specs.Stands.{StandsAs, PutsOut, Follows}
+use Rattle.flow_model.specs.Owed.{owed_at, without_eos}
 use Rattle.el_set.proofs.Ending.{none_more, none_at_first, ok_no_fault}
-
--- each crate's words for what is owed for a call are one
-law_without : (r : Result (List Item) Fault) → without_eos r ≡ law_puts.without_eos r
-law_without (Ok ys) = refl
-law_without (Err fault) = refl
-
-law_owed : (respond : Response) (calls : List Call) (call : Call) → owed_at respond calls call ≡ law_puts.owed_at respond calls call
-law_owed respond calls (Feed x) = refl
-law_owed respond calls (Act Drain) = law_without (next_owed respond calls (Ev Eos))
-law_owed respond calls (Act (Set setting)) = refl
-
-convert_without : (r : Result (List Item) Fault) → without_eos r ≡ convert_puts.without_eos r
-convert_without (Ok ys) = refl
-convert_without (Err fault) = refl
-
-convert_owed : (respond : Response) (calls : List Call) (call : Call) → owed_at respond calls call ≡ convert_puts.owed_at respond calls call
-convert_owed respond calls (Feed x) = refl
-convert_owed respond calls (Act Drain) = convert_without (next_owed respond calls (Ev Eos))
-convert_owed respond calls (Act (Set setting)) = refl
-
-parse_without : (r : Result (List Item) Fault) → without_eos r ≡ regrouped.without_eos r
-parse_without (Ok ys) = refl
-parse_without (Err fault) = refl
-
-parse_owed : (respond : Response) (calls : List Call) (call : Call) → owed_at respond calls call ≡ parse_owes.owed_at respond calls call
-parse_owed respond calls (Feed x) = refl
-parse_owed respond calls (Act Drain) = parse_without (next_owed respond calls (Ev Eos))
-parse_owed respond calls (Act (Set setting)) = refl
 
 -- one more call
 more_followed : {X E : Type 0} (rule : X → Response) (Told : X → E → List Call → List Item → Type 0) (old new : E) (call : Call) (more : List Item)
@@ -137,25 +109,25 @@ same_as rule Told old new is respond calls put s = (s.0, s.1, subst (λ e. Told 
 pub convert_put : (element : FilterElement) (old new : Convert) (call : Call) (out out' : List Out) → element ≡ elements.Convert old
     → convert_puts.Puts old new call out out' → PutsOut element (elements.Convert new) call out out'
 convert_put element old new call out out' is p =
-    let both = more_followed converts IsConverted old new call p.more (λ x calls put s. convert_owed (converts x) calls call ∙ p.owed x calls put s) p.stands in
+    let both = more_followed converts IsConverted old new call p.more p.owed p.stands in
     rw is (record { more = p.more; outs = p.outs; owed = λ respond calls put s. (both respond calls put s).0; stands = λ respond calls put s. (both respond calls put s).1 })
 
 pub law_put : (element : FilterElement) (old new : Law) (call : Call) (out out' : List Out) → element ≡ elements.Law old
     → law_puts.Puts old new call out out' → PutsOut element (elements.Law new) call out out'
 law_put element old new call out out' is p =
-    let both = more_followed recodes Recoded old new call p.more (λ x calls put s. law_owed (recodes x) calls call ∙ p.owed x calls put s) p.stands in
+    let both = more_followed recodes Recoded old new call p.more p.owed p.stands in
     rw is (record { more = p.more; outs = p.outs; owed = λ respond calls put s. (both respond calls put s).0; stands = λ respond calls put s. (both respond calls put s).1 })
 
 pub raw_put : (element : FilterElement) (old new : RawParse) (call : Call) (out out' : List Out) → element ≡ elements.RawParse old
     → RawParsePuts old new call out out' → PutsOut element (elements.RawParse new) call out out'
 raw_put element old new call out out' is p =
-    let both = more_followed parses_raw RawParsed old new call p.more (λ x calls put s. parse_owed (parses_raw x) calls call ∙ p.owed x calls put s) p.stands in
+    let both = more_followed parses_raw RawParsed old new call p.more p.owed p.stands in
     rw is (record { more = p.more; outs = p.outs; owed = λ respond calls put s. (both respond calls put s).0; stands = λ respond calls put s. (both respond calls put s).1 })
 
 pub split_put : (element : FilterElement) (old new : Split) (call : Call) (out out' : List Out) → element ≡ elements.Split old
     → SplitPuts old new call out out' → PutsOut element (elements.Split new) call out out'
 split_put element old new call out out' is p =
-    let both = more_followed splits regrouped.Regrouped old new call p.more (λ x calls put s. parse_owed (splits x) calls call ∙ p.owed x calls put s) p.stands in
+    let both = more_followed splits Regrouped old new call p.more p.owed p.stands in
     rw is (record { more = p.more; outs = p.outs; owed = λ respond calls put s. (both respond calls put s).0; stands = λ respond calls put s. (both respond calls put s).1 })
 
 abbrev pub by_wav : Unit {0} → Response
@@ -167,7 +139,7 @@ told_wav x e given owed = WavParsed e given owed
 pub wav_put : (element : FilterElement) (old new : WavParse) (call : Call) (out out' : List Out) → element ≡ elements.WavParse old
     → wav_puts.Puts old new call out out' → PutsOut element (elements.WavParse new) call out out'
 wav_put element old new call out out' is p =
-    let both = more_followed by_wav told_wav old new call p.more (λ x calls put s. parse_owed parses_wav calls call ∙ p.owed calls put s) (λ x calls put s. p.stands calls put s) in
+    let both = more_followed by_wav told_wav old new call p.more (λ x calls put s. p.owed calls put s) (λ x calls put s. p.stands calls put s) in
     rw is (record { more = p.more; outs = p.outs; owed = λ respond calls put s. (both respond calls put s).0; stands = λ respond calls put s. (both respond calls put s).1 })
 
 abbrev pub by_enc : Unit {0} → Response
@@ -179,7 +151,7 @@ told_enc x e given owed = Encoded e given owed
 pub wavenc_put : (element : FilterElement) (old new : WavEnc) (call : Call) (out out' : List Out) → element ≡ elements.WavEnc old
     → wavenc_puts.Puts old new call out out' → PutsOut element (elements.WavEnc new) call out out'
 wavenc_put element old new call out out' is p =
-    let both = more_followed by_enc told_enc old new call p.more (λ x calls put s. parse_owed encodes calls call ∙ p.owed calls put s) (λ x calls put s. p.stands calls put s) in
+    let both = more_followed by_enc told_enc old new call p.more (λ x calls put s. p.owed calls put s) (λ x calls put s. p.stands calls put s) in
     rw is (record { more = p.more; outs = p.outs; owed = λ respond calls put s. (both respond calls put s).0; stands = λ respond calls put s. (both respond calls put s).1 })
 
 -- by the answer of the call
@@ -238,21 +210,6 @@ drain_fault r (Refused offered wanted) h = ap without_eos h
 drain_fault r (Broken place kind) h = ap without_eos h
 drain_fault r (Passing a b) h = ap without_eos h
 drain_fault r Wanting h = tt
-
-pub drain_parse : (respond : Response) (calls : List Call) (fault : ElementFault) → IsFaultOf (regrouped.drain_owed respond calls) fault → IsFaultOf (owed_at respond calls (Act Drain)) fault
-drain_parse respond calls fault h = subst (λ (r : Result (List Item) Fault). IsFaultOf r fault) (sym (parse_without (next_owed respond calls (Ev Eos)))) h
-
-pub drain_by : {X E R : Type 0} (rule : X → Response) (Told : X → E → List Call → List Item → Type 0) (r : Result R ElementFault) (old : E)
-    → IfErr r (λ fault. (x : X) (calls : List Call) (put : List Item) → Told x old calls put → IsFaultOf (regrouped.drain_owed (rule x) calls) fault)
-    → IfErr r (λ fault. (x : X) (calls : List Call) (put : List Item) → Told x old calls put → IsFaultOf (owed_at (rule x) calls (Act Drain)) fault)
-drain_by rule Told (Ok x) old h = tt
-drain_by rule Told (Err fault) old h = λ x calls put s. drain_parse (rule x) calls fault (h x calls put s)
-
-pub drain_alone : {E R : Type 0} (respond : Response) (Told : E → List Call → List Item → Type 0) (r : Result R ElementFault) (old : E)
-    → IfErr r (λ fault. (calls : List Call) (put : List Item) → Told old calls put → IsFaultOf (regrouped.drain_owed respond calls) fault)
-    → IfErr r (λ fault. (calls : List Call) (put : List Item) → Told old calls put → IsFaultOf (owed_at respond calls (Act Drain)) fault)
-drain_alone respond Told (Ok x) old h = tt
-drain_alone respond Told (Err fault) old h = λ calls put s. drain_parse respond calls fault (h calls put s)
 
 pub drain_of_eos : {E R : Type 0} (respond : Response) (Told : E → List Call → List Item → Type 0) (r : Result R ElementFault) (old : E)
     → IfErr r (λ fault. (calls : List Call) (put : List Item) → Told old calls put → IsFaultOf (next_owed respond calls (Ev Eos)) fault)

@@ -1,10 +1,14 @@
 pub mod Numbers
+pub mod Roles
+pub mod Openings
+pub mod Allowing
 pub mod Given
 pub mod Faults
 pub mod WholeLists
 pub mod Ends
 pub mod Ending
 pub mod Rules
+pub mod EachEnding
 pub mod Following
 pub mod SettingRules
 pub mod Elements

@@ -1,31 +1,34 @@
 -- The lists that sources owe.
-use Rattle.std.proofs.Common.{◌≡◌, ◌++◌, ◌*◌, ℕ, Bool, true, false, List, [], ◌∷◌, map, Option, None, Some, refl, sym, ◌∙◌}
+use Rattle.std.proofs.Common.{◌≡◌, ◌≤◌, ◌++◌, ◌*◌, ◌-◌, ◌||◌, eqb, ℕ, Bool, true, false, List, [], ◌∷◌, map, Option, None, Some, refl, sym, ◌∙◌}
 use Rattle.std.specs.Prelude.{if◌then◌else◌}
 use Rattle.std.specs.List.{range_with_len}
 use Rattle.std.proofs.lemmas.Bool.{true≢false}
-use Rattle.flow_model.specs.Item.{Item, Ev, Eos, is_eos, is_flush_stop}
+use Rattle.flow_model.specs.Item.{Item, Ev, StreamStart, NewSegment, Eos, is_eos, is_flush_stop}
+use Rattle.flow_model.specs.Source.{block_at, block_count, blocks_from, bytes_segment, file_list}
 use Rattle.flow_model.specs.Chain.{IsPlain}
+use Rattle.el_src.specs.Gave.{has_eos}
 use Rattle.el_src.specs.declared.ramp_src.Ramp.{Ramp}
 use Rattle.el_src.specs.Ramp.{frames_buffer, frames_gap, is_gap, piece, ramp_list, title_tag}
 use Rattle.el_set.specs.declared.settings.Settings.{Settings}
-use Rattle.el_set.specs.declared.settings.Settings.TheVariants.{FileSrc, RampTestSrc, Identity, CapsFilter, Queue, AudioConvert, Law, RawAudioParse, AudioBufferSplit, WavParse, WavEnc, FileSink, FakeSink}
+use Rattle.el_set.specs.declared.settings.Settings.TheVariants.{FileSrc, RampTestSrc}
+use Rattle.el_set.specs.Asked.{reads, sink_pads}
 use Rattle.el_set.specs.Made.{list_of, read_content}
+use Rattle.el_set.proofs.Ends.{eos_first}
 
 -- a source's list goes by what it reads of its file
 pub list_read : (s : Settings) (id : ℕ) (content : List ℕ) → list_of s id (read_content s content) ≡ list_of s id content
 list_read (FileSrc s) id content = refl
-list_read (RampTestSrc s) id content = refl
-list_read Identity id content = refl
-list_read (AudioConvert s) id content = refl
-list_read (Law kind) id content = refl
-list_read (RawAudioParse info) id content = refl
-list_read (AudioBufferSplit s) id content = refl
-list_read WavParse id content = refl
-list_read WavEnc id content = refl
-list_read (CapsFilter s) id content = refl
-list_read (Queue s) id content = refl
-list_read (FileSink s) id content = refl
-list_read FakeSink id content = refl
+list_read _ id content = refl
+
+-- that of a source that reads a file is the file in blocks
+pub record IsInBlocks (s : Settings) : Type 0 where
+  pub size : ℕ
+  pub some : 1 ≤ size
+  pub is : (id : ℕ) (content : List ℕ) → list_of s id content ≡ file_list id size content
+
+pub read_list : (s : Settings) → reads s ≡ true → IsInBlocks s
+read_list (FileSrc s) reading = record { size = s.blocksize; some = s.some; is = λ id content. refl }
+read_list _ reading = absurd (cc)
 
 pieces_end : Ramp → List ℕ → List Item
 pieces_end ramp ks = map (λ k. piece ramp k (k * ramp.samples) ramp.samples) ks ++ Ev Eos ∷ []
@@ -52,3 +55,34 @@ unfolding pieces_end
 plain_ramp ramp id =
     let pieces = range_with_len 0 ramp.buffers in
     (refl, λ e. cc, (refl, λ e. cc, (refl, λ e. cc, plain_title ramp.title (pieces_end ramp pieces) (plain_pieces ramp pieces))))
+
+plain_blocks : (size start : ℕ) (content : List ℕ) (ks : List ℕ) → IsPlain (map (block_at size start content) ks ++ Ev Eos ∷ [])
+plain_blocks size start content [] = (refl, λ e. refl, tt)
+plain_blocks size start content (k ∷ ks) = (refl, λ e. cc, plain_blocks size start content ks)
+
+-- the list of a source has no FLUSH_STOP, and nothing behind an EOS
+pub plain_list : (s : Settings) (id : ℕ) (content : List ℕ) → IsPlain (list_of s id content)
+plain_list (FileSrc s) id content = (refl, λ e. cc, (refl, λ e. cc, plain_blocks s.blocksize 0 content (range_with_len 0 (block_count s.blocksize 0 content - 0))))
+plain_list (RampTestSrc s) id content = plain_ramp s.ramp id
+plain_list _ id content = tt
+
+-- EOS in a longer list
+pub eos_later : (x : Item) (xs : List Item) → has_eos xs ≡ true → has_eos (x ∷ xs) ≡ true
+eos_later x xs h = eos_first x xs ∙ or_true (is_eos x) (has_eos xs) h
+  where
+    or_true : (b d : Bool) → d ≡ true → (b || d) ≡ true
+    or_true true d is = refl
+    or_true false d is = is
+
+eos_behind : (xs ys : List Item) → has_eos ys ≡ true → has_eos (xs ++ ys) ≡ true
+eos_behind [] ys h = h
+eos_behind (x ∷ xs) ys h = eos_later x (xs ++ ys) (eos_behind xs ys h)
+
+-- and it has EOS
+pub source_eos : (s : Settings) (id : ℕ) (content : List ℕ) → eqb (sink_pads s) 0 ≡ true → has_eos (list_of s id content) ≡ true
+source_eos (FileSrc s) id content none =
+    eos_behind (Ev (StreamStart id) ∷ Ev (NewSegment (bytes_segment 0)) ∷ blocks_from s.blocksize 0 content 0) (Ev Eos ∷ []) refl
+source_eos (RampTestSrc s) id content none =
+    let pieces = map (λ (k : ℕ). piece s.ramp k (k * s.ramp.samples) s.ramp.samples) (range_with_len 0 s.ramp.buffers) in
+    eos_behind (title_tag s.ramp.title) (pieces ++ Ev Eos ∷ []) (eos_behind pieces (Ev Eos ∷ []) refl)
+source_eos _ id content none = absurd (cc)

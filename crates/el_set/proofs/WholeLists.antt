@@ -7,22 +7,23 @@ use Rattle.gst_item.specs.declared.fault.ElementFault.{ElementFault}
 use Rattle.gst_item.specs.declared.fault.ElementFault.TheVariants.{NotNegotiated as Refused, BadStream as Broken, TooLong as Passing, OutOfMemory as Wanting}
 use Rattle.flow_model.specs.Item.{Item, Ev, FlushStop, is_flush_stop}
 use Rattle.flow_model.specs.Call.{Call, Feed, feeds}
-use Rattle.flow_model.specs.Rule.{Response, Fault, Fed, unfed, fed_item, all_called, passes}
+use Rattle.flow_model.specs.Rule.{Response, Fault, Fed, unfed, fed_item, all_called}
 use Rattle.flow_model.specs.Feeding.{on_pad, next_owed, IsFaultOf}
 use Rattle.el_basic.specs.Passed.{Passed}
 use Rattle.el_basic.specs.declared.identity.Identity.{Identity as PassingAll}
 use Rattle.el_set.specs.declared.filter.FilterElement.{FilterElement}
 use Rattle.el_set.specs.declared.filter.FilterElement.TheVariants as elements
 use Rattle.el_set.specs.declared.settings.Settings.{Settings}
-use Rattle.el_set.specs.declared.settings.Settings.TheVariants.{FileSrc, RampTestSrc, Identity, CapsFilter as FilterBy, Queue, AudioConvert, Law, RawAudioParse, AudioBufferSplit, WavParse, WavEnc, FileSink, FakeSink}
 use Rattle.el_set.specs.Values.{or_else}
-use Rattle.el_set.specs.Asked.{source_pads, is_filter, with_allowed}
+use Rattle.el_set.specs.Asked.{source_pads, with_allowed}
 use Rattle.el_set.specs.Denoted.{response_of, fault_at, first_fault_from, first_fault, next_fault, answered, only_input, on_pads, IsOwed, IsDenoted}
 use Rattle.el_set.specs.Made.{IsFilterFor}
 use Rattle.el_set.specs.Stands.{Stands, PutsOut}
 use Rattle.el_set.specs.Stepping.{TookAll}
+use Rattle.el_set.proofs.Allowing.{sources_set}
 use Rattle.el_set.proofs.Elements.{elements_owe}
 use Rattle.el_set.proofs.Given.{or_else-or_else}
+use Rattle.el_set.proofs.Roles.{others_pass}
 
 feeds_push : (items : List Item) (x : Item) → feeds (items ++ x ∷ []) ≡ feeds items ++ Feed x ∷ []
 feeds_push [] x = refl
@@ -147,22 +148,6 @@ pub owed_all : (respond : Response) (element : FilterElement) (items : List Item
 owed_all respond element items out made p e =
     (p.whole, e ∙ ap (λ (os : List Out). map (λ (o : Out). o.item) os) p.outs ∙ items_on_pad 0 p.put ∙ elements_owe respond element (feeds items) p.put p.stands)
 
--- an element that is no filter passes all
-others_pass : (settings : Settings) → is_filter settings ≡ false → response_of settings ≡ passes
-others_pass (FileSrc s) e = refl
-others_pass (RampTestSrc s) e = refl
-others_pass (Queue s) e = refl
-others_pass (FileSink s) e = refl
-others_pass FakeSink e = refl
-others_pass Identity e = refl
-others_pass (FilterBy s) e = absurd (cc)
-others_pass (AudioConvert s) e = absurd (cc)
-others_pass (Law kind) e = absurd (cc)
-others_pass (RawAudioParse info) e = absurd (cc)
-others_pass (AudioBufferSplit s) e = absurd (cc)
-others_pass WavParse e = absurd (cc)
-others_pass WavEnc e = absurd (cc)
-
 -- by what is made of the settings
 pub made_some : (settings own : Settings) (caps : Caps) (o : Option FilterElement) (element : FilterElement) → own ≡ with_allowed caps settings → o ≡ Some element → IsFilterFor own o
     → Stands (response_of (with_allowed caps settings)) element [] []
@@ -172,28 +157,12 @@ pub made_none : (settings own : Settings) (caps : Caps) (o : Option FilterElemen
     → Passed identity [] [] → Stands (response_of (with_allowed caps settings)) (elements.Identity identity) [] []
 made_none settings own caps o identity is found made passed = let m : IsFilterFor (with_allowed caps settings) None = rw (is, found) at made in (others_pass (with_allowed caps settings) m, passed)
 
--- the allowed caps change no pad
-allowed_pads : (caps : Caps) (settings : Settings) → source_pads (with_allowed caps settings) ≡ source_pads settings
-allowed_pads caps (AudioConvert s) = refl
-allowed_pads caps (FileSrc s) = refl
-allowed_pads caps (RampTestSrc s) = refl
-allowed_pads caps Identity = refl
-allowed_pads caps (FilterBy s) = refl
-allowed_pads caps (Queue s) = refl
-allowed_pads caps (Law kind) = refl
-allowed_pads caps (RawAudioParse info) = refl
-allowed_pads caps (AudioBufferSplit s) = refl
-allowed_pads caps WavParse = refl
-allowed_pads caps WavEnc = refl
-allowed_pads caps (FileSink s) = refl
-allowed_pads caps FakeSink = refl
-
 pub denoted_ok : (settings : Settings) (caps : Caps) (inputs : List (List Item)) (items : List Item) (r : Result (List Item) ElementFault) (owed : List Item) (outputs : List (List Item)) → r ≡ Ok owed
     → only_input inputs ≡ items → IsOwed (response_of (with_allowed caps settings)) items r → outputs ≡ on_pads (source_pads settings) owed
     → IsDenoted (with_allowed caps settings) inputs (Ok outputs)
 denoted_ok settings caps inputs items r owed outputs is only p made =
     let q : IsOwed (response_of (with_allowed caps settings)) items (Ok owed) = rw is at p in
-    rw (only, allowed_pads caps settings) (q.0, made ∙ ap (on_pads (source_pads settings)) q.1)
+    rw (only, sources_set caps settings) (q.0, made ∙ ap (on_pads (source_pads settings)) q.1)
 
 pub denoted_err : (settings : Settings) (caps : Caps) (inputs : List (List Item)) (items : List Item) (r : Result (List Item) ElementFault) (fault : ElementFault) → r ≡ Err fault
     → only_input inputs ≡ items → IsOwed (response_of (with_allowed caps settings)) items r → IsDenoted (with_allowed caps settings) inputs (Err fault)

@@ -1,5 +1,5 @@
--- What is asked of an element's settings: its pads, and what may be done to it.
-use Rattle.std.specs.Prelude.{ℕ, ◌<◌, Bool, true, false, if◌then◌else◌, List, Option, None, Some, codes, bytes_eq}
+-- What is asked of an element's settings: its pads, its file, and what may be done to it.
+use Rattle.std.specs.Prelude.{ℕ, ◌<◌, ◌==◌, ◌&&◌, Bool, true, false, if◌then◌else◌, List, Option, None, Some, is_some, codes, bytes_eq}
 use Rattle.gst_caps.specs.declared.caps.Caps.{Caps}
 use Rattle.gst_caps.specs.declared.caps.Caps.TheVariants.{Any}
 use Rattle.audio_info.specs.declared.sample.Sample.TheVariants.{S16LE}
@@ -7,6 +7,7 @@ use Rattle.el_convert.specs.Raw.{raw_template}
 use Rattle.el_law.specs.Laws.{format_in, format_out}
 use Rattle.el_law.specs.Templates.{template}
 use Rattle.el_set.specs.Templates.{read_audio, written_audio, wav_file}
+use Rattle.el_set.specs.declared.settings.QueueSettings.{QueueSettings}
 use Rattle.el_set.specs.declared.settings.Settings.{Settings}
 use Rattle.el_set.specs.declared.settings.Settings.TheVariants.{FileSrc, RampTestSrc, Identity, CapsFilter, Queue, AudioConvert, Law, RawAudioParse, AudioBufferSplit, WavParse, WavEnc, FileSink, FakeSink}
 
@@ -47,6 +48,11 @@ HasPad settings sink pad = pad < (if sink then sink_pads settings else source_pa
 abbrev pub is_queue : Settings → Bool
 is_queue (Queue s) = true
 is_queue _ = false
+
+-- the limits of a queue
+abbrev pub limits_of : Settings → Option QueueSettings
+limits_of (Queue s) = Some s
+limits_of _ = None
 
 -- the element that stands between one sink pad and one source pad, and is no queue
 abbrev pub is_filter : Settings → Bool
@@ -91,11 +97,41 @@ abbrev pub with_allowed : Caps → Settings → Settings
 with_allowed caps (AudioConvert s) = AudioConvert (record { allowed = caps })
 with_allowed caps settings = settings
 
+-- what a converter may put out at most; others may put out all caps
+abbrev pub allowed_of : Settings → Caps
+allowed_of (AudioConvert s) = s.allowed
+allowed_of _ = Any
+
+-- what a converter is set to put out
+abbrev pub allowed_caps : Settings → Option Caps
+allowed_caps (AudioConvert s) = Some s.allowed
+allowed_caps _ = None
+
+-- the element that takes what is allowed behind it
+abbrev pub hands_on : Settings → Bool
+hands_on Identity = true
+hands_on (CapsFilter s) = true
+hands_on (Queue s) = true
+hands_on _ = false
+
+-- the caps that an element lets through, of those that are taken behind it
+abbrev pub filter_caps : Settings → Option Caps
+filter_caps (CapsFilter s) = Some s.caps
+filter_caps _ = None
+
 -- the file that the element opens
 abbrev pub location_of : Settings → Option (List ℕ)
 location_of (FileSrc s) = Some s.location
 location_of (FileSink s) = Some s.location
 location_of _ = None
+
+-- a source reads its file
+abbrev pub reads : Settings → Bool
+reads settings = (sink_pads settings == 0) && is_some (location_of settings)
+
+-- and a sink writes its own
+abbrev pub writes : Settings → Bool
+writes settings = (source_pads settings == 0) && is_some (location_of settings)
 
 -- what the element says that its stream is called
 abbrev pub title_of : Settings → Option (List ℕ)

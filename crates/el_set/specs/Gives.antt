@@ -1,6 +1,6 @@
 -- For which lists a source stands: what is owed, as it goes by the content of the file that it reads, and what was
 -- given of it since the start or the last seek. A source that reads nothing owes the same for each content.
-use Rattle.std.specs.Prelude.{ℕ, List, [], ◌∷◌, ◌++◌, Option, Some, None}
+use Rattle.std.specs.Prelude.{◌≡◌, ℕ, List, [], ◌∷◌, ◌++◌, Option, Some, None}
 use Rattle.flow_model.specs.Item.{Item}
 use Rattle.el_src.specs.declared.answer.Next.{Next}
 use Rattle.el_src.specs.declared.answer.Next.TheVariants.{Item as Given, Ended}
@@ -49,7 +49,7 @@ abbrev pub source_content : {S : Type 0} → (S → Option (List ℕ)) → Sourc
 source_content content_of (File file) = content_of (source_of file)
 source_content content_of (Ramp ramp) = Some []
 
--- a read failed only where the count of failures rose; want of memory says nothing
+-- a read failed only where the count of failures rose; where memory was wanting none failed
 abbrev pub SourceCause : Option ℕ → Option ℕ → SrcFault → Type 0
 SourceCause was is (ReadFault before after) = NamesRise was is before after
-SourceCause was is OutOfMemory = Unit {0}
+SourceCause was is OutOfMemory = is ≡ was

@@ -1,12 +1,13 @@
 -- For which rule, and for which calls and put-out items, an element between one sink pad and one source pad stands.
-use Rattle.std.specs.Prelude.{◌≡◌, ◌≢◌, List, [], ◌∷◌, ◌++◌, Result, Ok, Err, filter}
+use Rattle.std.specs.Prelude.{◌≡◌, ◌≢◌, List, [], ◌∷◌, ◌++◌, Ok, Err}
 use Rattle.gst_caps.specs.declared.caps.Caps.{Caps}
 use Rattle.gst_item.specs.declared.out.Out.{Out}
-use Rattle.flow_model.specs.Item.{Item, Ev, Eos}
+use Rattle.flow_model.specs.Item.{Item}
 use Rattle.flow_model.specs.Prefix.{IsPrefix}
-use Rattle.flow_model.specs.Call.{Call, Feed, Act, Drain, Set}
-use Rattle.flow_model.specs.Rule.{Response, Fault, passes, not_eos}
-use Rattle.flow_model.specs.Feeding.{on_pad, next_owed}
+use Rattle.flow_model.specs.Call.{Call}
+use Rattle.flow_model.specs.Rule.{Response, Fault, passes}
+use Rattle.flow_model.specs.Feeding.{on_pad}
+use Rattle.flow_model.specs.Owed.{owed_at}
 use Rattle.el_basic.specs.Passed.{Passed}
 use Rattle.el_basic.specs.Filters.{filters}
 use Rattle.el_basic.specs.Filtered.{IsFilteredBy}
@@ -23,17 +24,6 @@ use Rattle.el_wavenc.specs.Encodes.{encodes}
 use Rattle.el_wavenc.specs.Encoded.{Encoded}
 use Rattle.el_set.specs.declared.filter.FilterElement.{FilterElement}
 use Rattle.el_set.specs.declared.filter.FilterElement.TheVariants.{Identity, CapsFilter, Convert, Law, RawParse, Split, WavParse, WavEnc}
-
-abbrev pub without_eos : Result (List Item) Fault → Result (List Item) Fault
-without_eos (Ok owed) = Ok (filter not_eos owed)
-without_eos (Err fault) = Err fault
-
--- What is owed for a call behind other calls: for an item what the rule says, and for a drain what it would say of
--- EOS, without the EOS. A setting owes nothing.
-abbrev pub owed_at : Response → List Call → Call → Result (List Item) Fault
-owed_at respond calls (Feed x) = next_owed respond calls x
-owed_at respond calls (Act Drain) = without_eos (next_owed respond calls (Ev Eos))
-owed_at respond calls (Act (Set setting)) = Ok []
 
 -- at none of the calls the rule meets a fault
 abbrev pub MeetsNone : Response → List Call → Type 0

@@ -98,8 +98,10 @@ fn take(
     item: &Item,
     out: &mut Outs,
 ) -> Result<(), ElementFault>
-    ensures taken { OnOk result ((respond : Response) (items : List PadItem) → TookAll respond element.old items out.old → TookAll respond element.new (items ++ item.now ∷ []) out.new) }
-    ensures fault { IfErr result (λ fault. (respond : Response) (items : List PadItem) → TookAll respond element.old items out.old → IsFaultOf (answered (next_fault respond items item.now)) fault) }
+    ensures taken { OnOk result ((respond : Response) (items : List PadItem) → TookAll respond element.old items out.old
+        → TookAll respond element.new (items ++ item.now ∷ []) out.new) }
+    ensures fault { IfErr result (λ fault. (respond : Response) (items : List PadItem) → TookAll respond element.old items out.old
+        → IsFaultOf (answered (next_fault respond items item.now)) fault) }
 {
     if matches!(item, Item::Event(Event::FlushStop { .. })) {
         Ok(flush(alloc, element, item, out)?)
@@ -116,7 +118,8 @@ fn flush(
     out: &mut Outs,
 ) -> Result<(), OutOfMemory>
     requires { is_flush_stop item.now ≡ true }
-    ensures { OnOk result ((respond : Response) (items : List PadItem) → TookAll respond element.old items out.old → TookAll respond element.new (items ++ item.now ∷ []) out.new) }
+    ensures { OnOk result ((respond : Response) (items : List PadItem) → TookAll respond element.old items out.old
+        → TookAll respond element.new (items ++ item.now ∷ []) out.new) }
 {
     let item = item.copy(alloc)?;
     out.push(alloc, Out { pad: 0, item })?;
@@ -132,8 +135,10 @@ fn feed(
     out: &mut Outs,
 ) -> Result<(), ElementFault>
     requires { is_flush_stop item.now ≡ false }
-    ensures taken { OnOk result ((respond : Response) (items : List PadItem) → TookAll respond element.old items out.old → TookAll respond element.new (items ++ item.now ∷ []) out.new) }
-    ensures fault { IfErr result (λ fault. (respond : Response) (items : List PadItem) → TookAll respond element.old items out.old → IsFaultOf (answered (next_fault respond items item.now)) fault) }
+    ensures taken { OnOk result ((respond : Response) (items : List PadItem) → TookAll respond element.old items out.old
+        → TookAll respond element.new (items ++ item.now ∷ []) out.new) }
+    ensures fault { IfErr result (λ fault. (respond : Response) (items : List PadItem) → TookAll respond element.old items out.old
+        → IsFaultOf (answered (next_fault respond items item.now)) fault) }
 {
     let copy = item.copy(alloc)?;
     match element.feed(alloc, 0, copy, out) {

@@ -29,11 +29,13 @@ pub enum FilterElement {
 }
 
 impl FilterElement {
-    ghost use Rattle.el_set.specs.Stands.{Stands, StandsAs, PutsOut, owed_at};
+    ghost use Rattle.el_set.specs.Stands.{Stands, StandsAs, PutsOut};
+    ghost use Rattle.flow_model.specs.Owed.{owed_at};
 
     /// Takes an item, and appends what it owes for it. Behind EOS, up to the next flush, the answer is `Flow::Eos`
     /// and nothing is put out, and else it is `Flow::Ok`. A fault is that of the element's rule at this item, or
     /// want of memory.
+    #[inline(always)]
     pub fn feed(
         &mut self,
         alloc: Global,
@@ -44,10 +46,13 @@ impl FilterElement {
         requires pad { pad ≡ 0 }
         requires no_flush { is_flush_stop item ≡ false }
         ensures fed { IfOk result (λ flow. PutsOut self.old self.new (Feed item) out.old out.new) }
-        ensures flow { IfOk result (λ flow. (respond : Response) (calls : List Call) (put : List Item) → Stands respond self.old calls put → flow ≡ flow_behind calls) }
+        ensures flow { IfOk result (λ flow. (respond : Response) (calls : List Call) (put : List Item) → Stands respond self.old calls put
+            → flow ≡ flow_behind calls) }
         ensures stays { OnErr result (StandsAs self.old self.new) }
         ensures out { OnErr result (out.new ≡ out.old) }
-        ensures fault { IfErr result (λ fault. (respond : Response) (calls : List Call) (put : List Item) → Stands respond self.old calls put → IsFaultOf (next_owed respond calls item) fault) }
+        ensures fault { IfErr result
+            (λ fault. (respond : Response) (calls : List Call) (put : List Item) → Stands respond self.old calls put
+            → IsFaultOf (next_owed respond calls item) fault) }
     {
         match self {
             FilterElement::Identity(identity) => identity.feed(alloc, pad, item, out),
@@ -83,7 +88,9 @@ impl FilterElement {
         ensures drained { OnOk result (PutsOut self.old self.new (Act Drain) out.old out.new) }
         ensures stays { OnErr result (StandsAs self.old self.new) }
         ensures out { OnErr result (out.new ≡ out.old) }
-        ensures fault { IfErr result (λ fault. (respond : Response) (calls : List Call) (put : List Item) → Stands respond self.old calls put → IsFaultOf (owed_at respond calls (Act Drain)) fault) }
+        ensures fault { IfErr result
+            (λ fault. (respond : Response) (calls : List Call) (put : List Item) → Stands respond self.old calls put
+            → IsFaultOf (owed_at respond calls (Act Drain)) fault) }
     {
         match self {
             FilterElement::Identity(identity) => identity.drain(alloc, out),

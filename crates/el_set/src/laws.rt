@@ -28,31 +28,36 @@ ghost use Rattle.el_set.specs.Ends.{MeetsNoFault, EndsWithEos, RowEndsWithEos};
 /// What an element put out is what its rule owes for what it was given.
 #[tactic(auto, using(crate::proofs::Elements::elements_owe))]
 pub fn elements_owe()
-    ensures { (respond : Response) (element : FilterElement) (calls : List Call) (put : List Item) → Stands respond element calls put → put ≡ owed_for respond calls }
+    ensures { (respond : Response) (element : FilterElement) (calls : List Call) (put : List Item) → Stands respond element calls put
+        → put ≡ owed_for respond calls }
 {}
 
 /// A section of an element is over exactly where it was fed EOS, and by no fault of the rule.
 #[tactic(auto, using(crate::proofs::Elements::sections_end_by_eos))]
 pub fn sections_end_by_eos()
-    ensures { (respond : Response) (element : FilterElement) (calls : List Call) (put : List Item) → Stands respond element calls put → (all_called respond unfed calls).over ≡ has_eos calls }
+    ensures { (respond : Response) (element : FilterElement) (calls : List Call) (put : List Item) → Stands respond element calls put
+        → (all_called respond unfed calls).over ≡ has_eos calls }
 {}
 
 /// Behind EOS, up to the next flush, an element owes nothing for an item.
 #[tactic(auto, using(crate::proofs::Elements::nothing_behind_eos))]
 pub fn nothing_behind_eos()
-    ensures { (respond : Response) (element : FilterElement) (calls : List Call) (put : List Item) (x : Item) → Stands respond element calls put → has_eos calls ≡ true → next_owed respond calls x ≡ Ok [] }
+    ensures { (respond : Response) (element : FilterElement) (calls : List Call) (put : List Item) (x : Item) → Stands respond element calls put
+        → has_eos calls ≡ true → next_owed respond calls x ≡ Ok [] }
 {}
 
 /// EOS was put out since the last FLUSH_STOP exactly where it was fed since.
 #[tactic(auto, using(crate::proofs::Elements::eos_goes_through))]
 pub fn eos_goes_through()
-    ensures { (respond : Response) (element : FilterElement) (calls : List Call) (put : List Item) → Stands respond element calls put → has_item (in_force put).eos ≡ has_eos calls }
+    ensures { (respond : Response) (element : FilterElement) (calls : List Call) (put : List Item) → Stands respond element calls put
+        → has_item (in_force put).eos ≡ has_eos calls }
 {}
 
 /// In no section an element puts out anything behind EOS.
 #[tactic(auto, using(crate::proofs::Elements::nothing_goes_behind_eos))]
 pub fn nothing_goes_behind_eos()
-    ensures { (respond : Response) (element : FilterElement) (calls : List Call) (put : List Item) (j : ℕ) → Stands respond element calls put → IsPlain (section j put) }
+    ensures { (respond : Response) (element : FilterElement) (calls : List Call) (put : List Item) (j : ℕ) → Stands respond element calls put
+        → IsPlain (section j put) }
 {}
 
 /// What an element put out for a list has EOS exactly where the list has it.
@@ -64,7 +69,8 @@ pub fn put_has_eos()
 /// What an element put out for a list without FLUSH_STOP has none, and nothing behind an EOS.
 #[tactic(auto, using(crate::proofs::Elements::put_is_plain))]
 pub fn put_is_plain()
-    ensures { (respond : Response) (element : FilterElement) (list put : List Item) → has_flush_stop list ≡ false → Stands respond element (feeds list) put → IsPlain put }
+    ensures { (respond : Response) (element : FilterElement) (list put : List Item) → has_flush_stop list ≡ false → Stands respond element (feeds list) put
+        → IsPlain put }
 {}
 
 /// Of the rule of an element alone: behind an EOS it owes nothing, and where it meets no fault it owes an EOS exactly
@@ -91,7 +97,8 @@ pub fn rows_end_with_eos()
 /// An element that took a list without FLUSH_STOP met no fault at any item of it.
 #[tactic(auto, using(crate::proofs::Elements::no_fault_was_met))]
 pub fn no_fault_was_met()
-    ensures { (respond : Response) (element : FilterElement) (list put : List Item) → has_flush_stop list ≡ false → Stands respond element (feeds list) put → MeetsNoFault respond list }
+    ensures { (respond : Response) (element : FilterElement) (list put : List Item) → has_flush_stop list ≡ false → Stands respond element (feeds list) put
+        → MeetsNoFault respond list }
 {}
 
 /// The template of a sink pad is the one that its element tells where it refuses caps: wavenc before its CAPS are

@@ -33,4 +33,6 @@ pub use source::SourceElement;
 pub use templates::template;
 
 #[cfg(test)]
+mod denoting_tests;
+#[cfg(test)]
 mod tests;

@@ -78,7 +78,8 @@ pub(crate) fn wav_file(alloc: Global) -> Result<Caps, OutOfMemory>
 /// Raw audio of these formats, and the laws of G.711.
 fn audio(alloc: Global, formats: Value) -> Result<Caps, OutOfMemory>
     requires { IsValue formats }
-    ensures { IfOk result (λ made. made ≡ Caps.Of (raw_of (up_to_most 64) formats (up_to_most 768000) ∷ law_template (codes "audio/x-mulaw") ∷ law_template (codes "audio/x-alaw") ∷ [])) }
+    ensures { IfOk result (λ made. made
+        ≡ Caps.Of (raw_of (up_to_most 64) formats (up_to_most 768000) ∷ law_template (codes "audio/x-mulaw") ∷ law_template (codes "audio/x-alaw") ∷ [])) }
 {
     let raw = raw(alloc, formats)?;
     let mulaw = law(alloc, "audio/x-mulaw")?;

@@ -96,7 +96,8 @@ pub enum Settings {
 
 impl Settings {
     ghost use Rattle.std.specs.Prelude.{◌==◌};
-    ghost use Rattle.el_set.specs.Asked.{sink_pads, source_pads, is_queue, is_filter, may_be_replaced, is_settable, is_converter, with_allowed, location_of, title_of};
+    ghost use Rattle.el_set.specs.Asked.{sink_pads, source_pads, is_queue, limits_of, is_filter, may_be_replaced, is_settable};
+    ghost use Rattle.el_set.specs.Asked.{allowed_caps, is_converter, with_allowed, hands_on, filter_caps, location_of, reads, writes, title_of};
 
     /// How many sink pads the element has.
     pub fn sink_pads(&self) -> u32
@@ -159,6 +160,16 @@ impl Settings {
         matches!(self, Settings::Queue(_))
     }
 
+    /// The limits of a queue.
+    pub fn limits(&self) -> Option<QueueSettings>
+        ensures { result ≡ limits_of self.now }
+    {
+        match self {
+            Settings::Queue(settings) => Some(*settings),
+            _ => None,
+        }
+    }
+
     /// Whether the element stands between one sink pad and one source pad, and is no queue.
     pub fn is_filter(&self) -> bool
         ensures { result ≡ is_filter self.now }
@@ -200,12 +211,42 @@ impl Settings {
         matches!(self, Settings::AudioConvert(_))
     }
 
+    /// What a converter's source pad may have.
+    pub fn allowed(&self) -> Option<&Caps>
+        ensures { option_map (λ caps. caps.now) result ≡ allowed_caps self.now }
+    {
+        match self {
+            Settings::AudioConvert(settings) => Some(&settings.allowed),
+            _ => None,
+        }
+    }
+
     /// From now on a converter's source pad may have these caps. All other settings stay.
     pub fn set_allowed(&mut self, caps: Caps)
         ensures { self.new ≡ with_allowed caps self.old }
     {
         if let Settings::AudioConvert(settings) = self {
             settings.allowed = caps;
+        }
+    }
+
+    /// Whether the element takes what is allowed behind it.
+    pub fn hands_on(&self) -> bool
+        ensures { result ≡ hands_on self.now }
+    {
+        matches!(
+            self,
+            Settings::Identity | Settings::CapsFilter(_) | Settings::Queue(_)
+        )
+    }
+
+    /// The caps that the element lets through, of those that are taken behind it.
+    pub fn filter_caps(&self) -> Option<&Caps>
+        ensures { option_map (λ caps. caps.now) result ≡ filter_caps self.now }
+    {
+        match self {
+            Settings::CapsFilter(settings) => Some(&settings.caps),
+            _ => None,
         }
     }
 
@@ -218,6 +259,20 @@ impl Settings {
             Settings::FileSink(settings) => Some(settings.location.as_str()),
             _ => None,
         }
+    }
+
+    /// Whether the element is a source that reads a file.
+    pub fn reads(&self) -> bool
+        ensures { result ≡ reads self.now }
+    {
+        matches!(self, Settings::FileSrc(_))
+    }
+
+    /// Whether the element is a sink that writes a file.
+    pub fn writes(&self) -> bool
+        ensures { result ≡ writes self.now }
+    {
+        matches!(self, Settings::FileSink(_))
     }
 
     /// What the element says that its stream is called.

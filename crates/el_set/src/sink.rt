@@ -21,7 +21,8 @@ impl<K: Sink> SinkElement<K> {
     /// Takes an item. Behind EOS, up to the next FLUSH_STOP, the answer is `Flow::Eos` and nothing is written, and
     /// else it is `Flow::Ok`. Where a write failed the bytes that were written before it stand. Takes no memory.
     pub fn render(&mut self, item: &Item) -> Result<Flow, WriteFault>
-        ensures held { OnOk result ((keep : Bool) (list : List PadItem) → SinkHeld K.bytes keep self.old list → SinkHeld K.bytes keep self.new (list ++ item.now ∷ [])) }
+        ensures held { OnOk result ((keep : Bool) (list : List PadItem) → SinkHeld K.bytes keep self.old list
+            → SinkHeld K.bytes keep self.new (list ++ item.now ∷ [])) }
         ensures flow { IfOk result (λ flow. (keep : Bool) (list : List PadItem) → SinkHeld K.bytes keep self.old list → flow ≡ flow_behind list item.now) }
         ensures part { OnErr result ((keep : Bool) (list : List PadItem) → SinkHeld K.bytes keep self.old list → SinkPart K.bytes keep self.new list item.now) }
         ensures cause { IfErr result (λ fault. SinkCause (sink_faults K.faults self.old) (sink_faults K.faults self.new) fault) }

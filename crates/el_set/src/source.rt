@@ -1,5 +1,5 @@
 //! The elements that make a stream.
-ghost use Rattle.std.specs.Prelude.{◌≡◌, ◌<◌, ◌^◌, ℕ, List, IfOk, OnErr, IfErr, is_some};
+ghost use Rattle.std.specs.Prelude.{◌≡◌, ◌<◌, ◌^◌, ℕ, List, IfOk, OnOk, OnErr, IfErr, is_some};
 ghost use Rattle.flow_model.specs.Item.{Item as PadItem};
 
 use el_src::{FileSrc, Next, RampSrc, SrcFault};
@@ -17,17 +17,25 @@ pub enum SourceElement<S> {
 
 impl<S: Source> SourceElement<S> {
     ghost use Rattle.el_src.specs.Gave.{items_after, is_ended, has_eos, ended_at};
+    ghost use Rattle.el_src.specs.Short.{StopsShort};
     ghost use Rattle.el_set.specs.Failures.{NeverFalls};
     ghost use Rattle.el_set.specs.Gives.{SourceGave, SourceAfter, SourceCause, source_items, source_file, source_faults, source_location, source_content};
 
-    /// The next item. Where it fails nothing was given, and a later call tries once more.
+    /// The next item. Where it fails nothing was given, and a later call tries once more. Each read that failed is told in its
+    /// call, which is one for a block: EOS was not given before.
     pub fn next(&mut self, alloc: Global) -> Result<Next, SrcFault>
         requires few { source_items self.old < 2 ^ 41 }
-        ensures gave { IfOk result (λ n. (owed : List ℕ → List PadItem) (given : List PadItem) → SourceGave S.content self.old owed given → SourceAfter S.content self.new owed given n) }
-        ensures ended { IfOk result (λ n. (owed : List ℕ → List PadItem) (given : List PadItem) → SourceGave S.content self.old owed given → is_ended n ≡ has_eos given) }
-        ensures kept { OnErr result ((owed : List ℕ → List PadItem) (given : List PadItem) → SourceGave S.content self.old owed given → SourceGave S.content self.new owed given) }
+        ensures gave { IfOk result (λ n. (owed : List ℕ → List PadItem) (given : List PadItem) → SourceGave S.content self.old owed given
+            → SourceAfter S.content self.new owed given n) }
+        ensures ended { IfOk result (λ n. (owed : List ℕ → List PadItem) (given : List PadItem) → SourceGave S.content self.old owed given
+            → is_ended n ≡ has_eos given) }
+        ensures kept { OnErr result ((owed : List ℕ → List PadItem) (given : List PadItem) → SourceGave S.content self.old owed given
+            → SourceGave S.content self.new owed given) }
         ensures counted { source_items self.new ≡ items_after result (source_items self.old) }
         ensures cause { IfErr result (λ fault. SourceCause (source_faults S.faults self.old) (source_faults S.faults self.new) fault) }
+        ensures faults_stay { OnOk result (source_faults S.faults self.new ≡ source_faults S.faults self.old) }
+        ensures short { IfErr result (λ fault. (owed : List ℕ → List PadItem) (given : List PadItem) → SourceGave S.content self.old owed given
+            → StopsShort (source_content S.content self.old) owed given fault) }
         ensures content_stays { source_content S.content self.new ≡ source_content S.content self.old }
         ensures location_stays { source_location S.location self.new ≡ source_location S.location self.old }
         ensures reading_stays { is_some (source_file self.new) ≡ is_some (source_file self.old) }
@@ -41,7 +49,8 @@ impl<S: Source> SourceElement<S> {
 
     /// From now on EOS comes next, unless it was given. Takes no memory.
     pub fn end(&mut self)
-        ensures gave { (owed : List ℕ → List PadItem) (given : List PadItem) → SourceGave S.content self.old owed given → SourceGave S.content self.new (ended_at given owed) given }
+        ensures gave { (owed : List ℕ → List PadItem) (given : List PadItem) → SourceGave S.content self.old owed given
+            → SourceGave S.content self.new (ended_at given owed) given }
         ensures count_stays { source_items self.new ≡ source_items self.old }
         ensures file_stays { source_file self.new ≡ source_file self.old }
     {

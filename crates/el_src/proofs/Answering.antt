@@ -19,6 +19,11 @@ pub on_err : {P Q : SrcFault → Type 0} (answer : Result Next SrcFault) → ((f
 on_err (Ok n) step known = tt
 on_err (Err fault) step known = step fault known
 
--- want of memory has no cause to name
-pub wanting_cause : (fault : SrcFault) (before after : ℕ) → fault ≡ Wanting → IsSrcCause fault before after
-wanting_cause fault before after is = rw is tt
+-- what is so for each fault
+pub at_fault : {P : SrcFault → Type 0} (answer : Result Next SrcFault) → ((fault : SrcFault) → P fault) → IfErr answer P
+at_fault (Ok n) each = tt
+at_fault (Err fault) each = each fault
+
+-- where memory was wanting the count stayed
+pub wanting_cause : (fault : SrcFault) (before after : ℕ) → fault ≡ Wanting → after ≡ before → IsSrcCause fault before after
+wanting_cause fault before after is stays = rw is stays

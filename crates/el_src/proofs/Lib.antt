@@ -5,3 +5,4 @@ pub mod Filling
 pub mod Giving
 pub mod Ramping
 mod Samples
+mod Shortening

@@ -5,10 +5,10 @@ use Rattle.el_src.specs.declared.fault.SrcFault.{SrcFault}
 use Rattle.el_src.specs.declared.fault.SrcFault.TheVariants.{ReadFault, OutOfMemory}
 use Rattle.el_src.specs.declared.fault.SizeFault.{SizeFault}
 
--- a read failed only where the count rose, and both counts are named; want of memory says nothing
+-- a read failed only where the count rose, and both counts are named; where memory was wanting none failed
 abbrev pub IsSrcCause : SrcFault → ℕ → ℕ → Type 0
 IsSrcCause (ReadFault before after) was is = (before ≡ was) × (after ≡ is) × Rose was is
-IsSrcCause OutOfMemory was is = Unit {0}
+IsSrcCause OutOfMemory was is = is ≡ was
 
 -- the same where the size was asked
 abbrev pub IsSizeCause : SizeFault → ℕ → ℕ → Type 0

@@ -1,5 +1,5 @@
 //! Blocks of what is read.
-ghost use Rattle.std.specs.Prelude.{◌≡◌, ◌≤◌, ◌+◌, ◌^◌, ◌<◌, ℕ, length, take, drop, IfOk, OnErr, IfErr};
+ghost use Rattle.std.specs.Prelude.{◌≡◌, ◌≤◌, ◌+◌, ◌^◌, ◌<◌, ℕ, length, take, drop, IfOk, OnOk, OnErr, IfErr};
 ghost use Rattle.std.specs.Option.{ForSome};
 ghost use Rattle.gst_outside.specs.Causes.{Rose};
 ghost use Rattle.el_src.specs.Cause.{IsSrcCause};
@@ -15,6 +15,7 @@ fn fill<S: Source>(source: &mut S, place: u64, into: &mut [u8]) -> Result<usize,
     ensures location_stays { S.location source.new ≡ S.location source.old }
     ensures never_falls { S.faults source.old ≤ S.faults source.new }
     ensures failed { OnErr result (Rose (S.faults source.old) (S.faults source.new)) }
+    ensures faults_stay { OnOk result (S.faults source.new ≡ S.faults source.old) }
     ensures room { IfOk result (λ n. n ≤ length into.old) }
     ensures bytes { IfOk result (λ n. ForSome (S.content source.old) (λ c. take n into.new ≡ take (length into.old) (drop place c))) }
 {
@@ -41,6 +42,7 @@ pub(crate) fn read_block<S: Source>(
     ensures location_stays { S.location source.new ≡ S.location source.old }
     ensures never_falls { S.faults source.old ≤ S.faults source.new }
     ensures cause { IfErr result (λ fault. IsSrcCause fault (S.faults source.old) (S.faults source.new)) }
+    ensures faults_stay { OnOk result (S.faults source.new ≡ S.faults source.old) }
     ensures small { IfOk result (λ bytes. length bytes.items ≤ size) }
     ensures bytes { IfOk result (λ bytes. ForSome (S.content source.old) (λ c. bytes.items ≡ take size (drop place c))) }
 {

@@ -1,5 +1,5 @@
 //! The source that reads a file in blocks, as GStreamer's filesrc.
-ghost use Rattle.std.specs.Prelude.{◌≡◌, ◌≤◌, ◌<◌, ◌^◌, ◌+◌, ◌*◌, ℕ, List, [], ◌∷◌, length, Option, Some, None, Ok, take, drop, false, IsOk, IfOk, OnErr, IfErr};
+ghost use Rattle.std.specs.Prelude.{◌≡◌, ◌≤◌, ◌<◌, ◌^◌, ◌+◌, ◌*◌, ℕ, List, [], ◌∷◌, length, Option, Some, None, Ok, take, drop, false, IsOk, IfOk, OnOk, OnErr, IfErr};
 ghost use Rattle.flow_model.specs.Source.{bytes_segment};
 
 use crate::answer::Next;
@@ -43,6 +43,7 @@ impl<S: Source> FileSrc<S> {
     ghost use Rattle.flow_model.specs.Source.{file_list};
     ghost use Rattle.el_src.specs.Cause.{IsSrcCause, IsSizeCause};
     ghost use Rattle.el_src.specs.Gave.{Gave, AfterNext, source_of, items_given, items_after, is_ended, is_over, has_eos, still_to_come, ended_at};
+    ghost use Rattle.el_src.specs.Short.{StopsShort};
     ghost use Rattle.el_src.specs.declared.fault.SrcFault.TheVariants.{OutOfMemory as Wanting};
     ghost use Rattle.el_src.specs.declared.file_src.Phase.TheVariants.{Blocks as InBlocks};
     ghost use Rattle.std.specs.Option.{ForSome};
@@ -65,7 +66,8 @@ impl<S: Source> FileSrc<S> {
         }
     }
 
-    /// The next item. Where it fails nothing was given, and a later call tries once more.
+    /// The next item. Where it fails nothing was given, and a later call tries once more; a read that failed is never tried
+    /// again within a call, nor passed over: it was one of a block, and EOS was not given before.
     #[tactic(auto, using(crate::proofs::Answering::never_err))]
     pub fn next(&mut self, alloc: Global) -> Result<Next, SrcFault>
         requires few { items_given self.old < 2 ^ 41 }
@@ -74,6 +76,9 @@ impl<S: Source> FileSrc<S> {
         ensures kept { OnErr result ((owed : List ℕ → List Item) (h : List Item) → Gave S.content self.old owed h → Gave S.content self.new owed h) }
         ensures counted { items_given self.new ≡ items_after result (items_given self.old) }
         ensures cause { IfErr result (λ fault. IsSrcCause fault (S.faults (source_of self.old)) (S.faults (source_of self.new))) }
+        ensures faults_stay { OnOk result (S.faults (source_of self.new) ≡ S.faults (source_of self.old)) }
+        ensures short { IfErr result (λ fault. (owed : List ℕ → List Item) (h : List Item) → Gave S.content self.old owed h
+            → StopsShort (S.content (source_of self.old)) owed h fault) }
         ensures content_stays { S.content (source_of self.new) ≡ S.content (source_of self.old) }
         ensures location_stays { S.location (source_of self.new) ≡ S.location (source_of self.old) }
         ensures never_falls { S.faults (source_of self.old) ≤ S.faults (source_of self.new) }
@@ -156,6 +161,9 @@ impl<S: Source> FileSrc<S> {
         ensures kept { OnErr result ((owed : List ℕ → List Item) (h : List Item) → Gave S.content self.old owed h → Gave S.content self.new owed h) }
         ensures counted { items_given self.new ≡ items_after result (items_given self.old) }
         ensures cause { IfErr result (λ fault. IsSrcCause fault (S.faults (source_of self.old)) (S.faults (source_of self.new))) }
+        ensures faults_stay { OnOk result (S.faults (source_of self.new) ≡ S.faults (source_of self.old)) }
+        ensures short { IfErr result (λ fault. (owed : List ℕ → List Item) (h : List Item) → Gave S.content self.old owed h
+            → StopsShort (S.content (source_of self.old)) owed h fault) }
         ensures content_stays { S.content (source_of self.new) ≡ S.content (source_of self.old) }
         ensures location_stays { S.location (source_of self.new) ≡ S.location (source_of self.old) }
         ensures never_falls { S.faults (source_of self.old) ≤ S.faults (source_of self.new) }
@@ -198,7 +206,8 @@ impl<S: Source> FileSrc<S> {
         requires reach { place ≤ self.old.place + 2 ^ 20 }
         requires running { is_over self.old.phase ≡ false }
         requires eos { is_over phase ≡ is_eos item }
-        requires due { (c : List ℕ) → S.content self.old.source ≡ Some c → still_to_come self.old.phase self.old.id self.old.blocksize self.old.place c ≡ item ∷ still_to_come phase self.old.id self.old.blocksize place c }
+        requires due { (c : List ℕ) → S.content self.old.source ≡ Some c
+            → still_to_come self.old.phase self.old.id self.old.blocksize self.old.place c ≡ item ∷ still_to_come phase self.old.id self.old.blocksize place c }
         ensures ok { IsOk result }
         ensures gave { IfOk result (λ n. (owed : List ℕ → List Item) (h : List Item) → Gave S.content self.old owed h → AfterNext S.content self.new owed h n) }
         ensures ended { IfOk result (λ n. (owed : List ℕ → List Item) (h : List Item) → Gave S.content self.old owed h → is_ended n ≡ has_eos h) }

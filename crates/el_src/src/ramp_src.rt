@@ -215,7 +215,8 @@ impl RampSrc {
     fn next_piece(&mut self, alloc: Global) -> Result<Next, SrcFault>
         requires few { self.old.items < 2 ^ 41 }
         requires running { ramp_is_over self.old.phase ≡ false }
-        requires pieces { ramp_to_come self.old.phase self.old.settings self.old.id self.old.start self.old.given ≡ pieces_from self.old.settings self.old.start self.old.given ++ Ev Eos ∷ [] }
+        requires pieces { ramp_to_come self.old.phase self.old.settings self.old.id self.old.start self.old.given
+            ≡ pieces_from self.old.settings self.old.start self.old.given ++ Ev Eos ∷ [] }
         ensures gave { IfOk result (λ n. (owed h : List Item) → RampGave self.old owed h → AfterRampNext self.new owed h n) }
         ensures ended { IfOk result (λ n. (owed h : List Item) → RampGave self.old owed h → is_ended n ≡ has_eos h) }
         ensures kept { OnErr result ((owed h : List Item) → RampGave self.old owed h → RampGave self.new owed h) }
@@ -259,7 +260,8 @@ impl RampSrc {
         requires few { self.old.items < 2 ^ 41 }
         requires running { ramp_is_over self.old.phase ≡ false }
         requires eos { ramp_is_over phase ≡ is_eos (Ev event) }
-        requires due { ramp_to_come self.old.phase self.old.settings self.old.id self.old.start self.old.given ≡ Ev event ∷ ramp_to_come phase self.old.settings self.old.id self.old.start self.old.given }
+        requires due { ramp_to_come self.old.phase self.old.settings self.old.id self.old.start self.old.given
+            ≡ Ev event ∷ ramp_to_come phase self.old.settings self.old.id self.old.start self.old.given }
         ensures gave { (owed h : List Item) → RampGave self.old owed h → AfterRampNext self.new owed h result }
         ensures ended { (owed h : List Item) → RampGave self.old owed h → is_ended result ≡ has_eos h }
         ensures counted { ramp_items self.new ≡ items_after (Ok result) (ramp_items self.old) }
@@ -273,7 +275,8 @@ impl RampSrc {
         requires reach { given ≤ self.old.settings.buffers }
         requires running { ramp_is_over self.old.phase ≡ false }
         requires eos { ramp_is_over phase ≡ is_eos item }
-        requires due { ramp_to_come self.old.phase self.old.settings self.old.id self.old.start self.old.given ≡ item ∷ ramp_to_come phase self.old.settings self.old.id self.old.start given }
+        requires due { ramp_to_come self.old.phase self.old.settings self.old.id self.old.start self.old.given
+            ≡ item ∷ ramp_to_come phase self.old.settings self.old.id self.old.start given }
         ensures gave { (owed h : List Item) → RampGave self.old owed h → AfterRampNext self.new owed h result }
         ensures ended { (owed h : List Item) → RampGave self.old owed h → is_ended result ≡ has_eos h }
         ensures counted { ramp_items self.new ≡ items_after (Ok result) (ramp_items self.old) }

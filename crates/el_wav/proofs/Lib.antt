@@ -9,3 +9,6 @@ pub mod WavParsePutting
 pub mod WavParseReading
 pub mod WavParseTelling
 pub mod WavParsing
+pub mod WholeFile
+pub mod WholeFrames
+pub mod WholeTimes

@@ -283,7 +283,7 @@ knows_before read p calls slot st at same knows = subst (λ o. KnowsHead o calls
 nothing_fine : AreBytes []
 nothing_fine i = omega arith
 
-nothing_more : (read : List ℕ → Told) → ReadsHeads read → read [] ≡ More
+pub nothing_more : (read : List ℕ → Told) → ReadsHeads read → read [] ≡ More
 nothing_more read reads = reads.more [] nothing_fine (inl (record { short = omega arith; riff = refl; wave = refl }))
 
 pub took_start : (read : List ℕ → Told) (p : Part) (s : Segment) (calls : List Call) (place : ℕ) (new : WavParse) (has : Gathered) (before : List Out)

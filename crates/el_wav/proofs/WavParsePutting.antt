@@ -5,8 +5,7 @@ use Rattle.gst_item.specs.declared.out.Out.{Out}
 use Rattle.flow_model.specs.Item.{Item, Ev, Eos}
 use Rattle.flow_model.specs.Call.{Call, Act, Drain, items}
 use Rattle.flow_model.specs.Feeding.{on_pad}
-use Rattle.el_parse.specs.OwedAt.{owed_at}
-use Rattle.el_parse.specs.Regrouped.{without_eos}
+use Rattle.flow_model.specs.Owed.{owed_at, without_eos}
 use Rattle.el_wav.specs.declared.wav_parse.WavParse.{WavParse}
 use Rattle.el_wav.specs.WavParse.{Parsed, parses}
 use Rattle.el_wav.specs.WavParseParts.{last_part}

@@ -5,7 +5,7 @@ use Rattle.flow_model.specs.Item.{Item, Ev, FlushStop, Eos, is_flush_stop, is_eo
 use Rattle.flow_model.specs.Call.{Call, Feed, Act, Drain, items}
 use Rattle.flow_model.specs.Rule.{Fed}
 use Rattle.flow_model.specs.Feeding.{next_owed}
-use Rattle.el_basic.proofs.Calls.{items_push, items_act, fed_taken, fed_behind, fed_flush, drained_begun, drained_behind, eos_taken, eos_stays, eos_flushed, eos_act}
+use Rattle.flow_model.proofs.Calls.{items_push, items_act, fed_taken, fed_behind, fed_flush, drained_begun, drained_behind, eos_taken, eos_stays, eos_flushed, eos_act}
 use Rattle.el_wav.specs.declared.wav_parse.Phase.TheVariants.{Unbegun as Fresh}
 use Rattle.el_wav.specs.declared.wav_parse.WavParse.{WavParse}
 use Rattle.el_wav.specs.WavParseHeads.{Told}
@@ -34,11 +34,11 @@ if_err (Err e) f p = f e p
 
 -- ---- lists with one more item
 
-part_from : (read : List ℕ → Told) (p : Part) (h : List Item) (x : Item) → fold (with_item read) p (h ++ x ∷ []) ≡ with_item read (fold (with_item read) p h) x
+pub part_from : (read : List ℕ → Told) (p : Part) (h : List Item) (x : Item) → fold (with_item read) p (h ++ x ∷ []) ≡ with_item read (fold (with_item read) p h) x
 part_from read p [] x = refl
 part_from read p (y ∷ ys) x = part_from read (with_item read p y) ys x
 
-calls_from : (read : List ℕ → Told) (p : Part) (calls : List Call) (h : List Item) (x : Item)
+pub calls_from : (read : List ℕ → Told) (p : Part) (calls : List Call) (h : List Item) (x : Item)
     → data_calls_from read p calls (h ++ x ∷ []) ≡ calls_behind read (fold (with_item read) p h) (data_calls_from read p calls h) x
 calls_from read p calls [] x = refl
 calls_from read p calls (y ∷ ys) x = calls_from read (with_item read p y) (calls_behind read p calls y) ys x

@@ -10,3 +10,4 @@ pub mod WavParseRule
 pub mod WavParseSteps
 pub mod WavParseTold
 pub mod WavParsed
+pub mod WholeFile

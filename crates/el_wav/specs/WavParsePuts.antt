@@ -4,7 +4,7 @@ use Rattle.gst_item.specs.declared.out.Out.{Out}
 use Rattle.flow_model.specs.Item.{Item}
 use Rattle.flow_model.specs.Call.{Call}
 use Rattle.flow_model.specs.Feeding.{on_pad}
-use Rattle.el_parse.specs.OwedAt.{owed_at}
+use Rattle.flow_model.specs.Owed.{owed_at}
 use Rattle.el_wav.specs.declared.wav_parse.WavParse.{WavParse}
 use Rattle.el_wav.specs.WavParse.{Parsed, parses}
 

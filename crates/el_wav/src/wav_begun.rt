@@ -29,10 +29,12 @@ pub(crate) fn read_on(
     body: &Body,
     out: &mut Outs,
 ) -> Result<Option<Begun>, ElementFault>
-    ensures read { IfOk result (λ begun. (read : List ℕ → Told) (bytes : List ℕ) → ReadsHeads read → HasGathered gathered.old bytes → ReadOn read (bytes ++ body.now) gathered.new out.old out.new begun) }
+    ensures read { IfOk result (λ begun. (read : List ℕ → Told) (bytes : List ℕ) → ReadsHeads read → HasGathered gathered.old bytes
+        → ReadOn read (bytes ++ body.now) gathered.new out.old out.new begun) }
     ensures appends { OnOk result (Appends out.old out.new) }
     ensures stays { OnErr result ((gathered.new ≡ gathered.old) × (out.new ≡ out.old)) }
-    ensures fault { IfErr result (λ fault. (read : List ℕ → Told) (calls : List Call) (bytes : List ℕ) → ReadsHeads read → HasGathered gathered.old bytes → IsFaultOf (head_owed read calls (bytes ++ body.now)) fault) }
+    ensures fault { IfErr result (λ fault. (read : List ℕ → Told) (calls : List Call) (bytes : List ℕ) → ReadsHeads read → HasGathered gathered.old bytes
+        → IsFaultOf (head_owed read calls (bytes ++ body.now)) fault) }
 {
     let (answer, reader) = gathered.read(alloc, body.as_slice())?;
     match answer {

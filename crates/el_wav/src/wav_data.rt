@@ -90,7 +90,8 @@ impl KnownHead {
         ensures head { self.new.head ≡ self.old.head }
         ensures info { self.new.info ≡ self.old.info }
         ensures stays { OnErr result ((self.new ≡ self.old) × (out.new ≡ out.old)) }
-        ensures fault { IfErr result (λ fault. (k : Known) (calls : List Call) → IsKnown k calls self.old → IsFaultOf (next_owed (parses_raw k.info) calls item) fault) }
+        ensures fault { IfErr result
+            (λ fault. (k : Known) (calls : List Call) → IsKnown k calls self.old → IsFaultOf (next_owed (parses_raw k.info) calls item) fault) }
     {
         match self.raw.feed(alloc, 0, item, out) {
             Ok(_) => Ok(()),

@@ -45,8 +45,10 @@ impl Gathered {
         more: &[u8],
     ) -> Result<(HeadAnswer, HeadReader), OutOfMemory>
         ensures answer { IfOk result (λ read. (bytes : List ℕ) → HasGathered self.now bytes → AnswerIn (bytes ++ more.now) read.0) }
-        ensures all { IfOk result (λ read. (n : ℕ) → read.0 ≡ NeedMore n → (bytes : List ℕ) → HasGathered self.now bytes → WasGiven read.1 (bytes ++ more.now)) }
-        ensures head { IfOk result (λ read. (head : Head) → read.0 ≡ Whole head → (bytes : List ℕ) → HasGathered self.now bytes → GivenInHead head bytes more.now read.1) }
+        ensures all { IfOk result (λ read. (n : ℕ) → read.0 ≡ NeedMore n → (bytes : List ℕ) → HasGathered self.now bytes
+            → WasGiven read.1 (bytes ++ more.now)) }
+        ensures head { IfOk result (λ read. (head : Head) → read.0 ≡ Whole head → (bytes : List ℕ) → HasGathered self.now bytes
+            → GivenInHead head bytes more.now read.1) }
         ensures fine { AreBytes more.now }
     {
         let mut reader = self.reader.copy(alloc)?;
@@ -75,8 +77,10 @@ impl Gathered {
 /// none behind the head is given. At a fault it is given all, since more bytes may make another fault of it.
 fn read_in_parts(reader: &mut HeadReader, more: &[u8]) -> Result<HeadAnswer, AllocError>
     ensures answer { IfOk result (λ answer. (given : List ℕ) → WasGiven reader.old given → AnswerIn (given ++ more.now) answer) }
-    ensures all { IfOk result (λ answer. (n : ℕ) → answer ≡ NeedMore n → (given : List ℕ) → WasGiven reader.old given → WasGiven reader.new (given ++ more.now)) }
-    ensures head { IfOk result (λ answer. (head : Head) → answer ≡ Whole head → (given : List ℕ) → WasGiven reader.old given → AreBytes given → CutIn given → GivenInHead head given more.now reader.new) }
+    ensures all { IfOk result (λ answer. (n : ℕ) → answer ≡ NeedMore n → (given : List ℕ) → WasGiven reader.old given
+        → WasGiven reader.new (given ++ more.now)) }
+    ensures head { IfOk result (λ answer. (head : Head) → answer ≡ Whole head → (given : List ℕ) → WasGiven reader.old given → AreBytes given → CutIn given
+        → GivenInHead head given more.now reader.new) }
 {
     head_stays();
     let mut answer = reader.read(&[])?;

@@ -89,7 +89,8 @@ impl WavParse {
         ensures puts { IfOk result (λ flow. Puts self.old self.new (Feed item) out.old out.new) }
         ensures stays { OnErr result ((calls : List Call) (put : List Item) → Parsed self.old calls put → Parsed self.new calls put) }
         ensures out { OnErr result (out.new ≡ out.old) }
-        ensures fault { IfErr result (λ fault. (calls : List Call) (put : List Item) → Parsed self.old calls put → IsFaultOf (next_owed parses calls item) fault) }
+        ensures fault { IfErr result
+            (λ fault. (calls : List Call) (put : List Item) → Parsed self.old calls put → IsFaultOf (next_owed parses calls item) fault) }
     {
         if self.ended {
             return Ok(Flow::Eos);
@@ -115,7 +116,8 @@ impl WavParse {
         ensures puts { OnOk result (Puts self.old self.new (Act Drain) out.old out.new) }
         ensures out { out.new ≡ out.old }
         ensures stays { OnErr result (self.new ≡ self.old) }
-        ensures fault { IfErr result (λ fault. (calls : List Call) (put : List Item) → Parsed self.old calls put → IsFaultOf (next_owed parses calls (Ev Eos)) fault) }
+        ensures fault { IfErr result
+            (λ fault. (calls : List Call) (put : List Item) → Parsed self.old calls put → IsFaultOf (next_owed parses calls (Ev Eos)) fault) }
     {
         if self.ended {
             return Ok(());
@@ -154,13 +156,17 @@ impl WavParse {
     /// Takes an item of a section that is not over.
     fn parse(&mut self, alloc: Global, item: Item, out: &mut Outs) -> Result<(), ElementFault>
         requires { is_flush_stop item ≡ false }
-        ensures took { OnOk result ((read : List ℕ → Told) (part : Part) (calls : List Call) → IsIn read part calls self.old → Took read part calls item self.new out.old out.new) }
+        ensures took { OnOk result ((read : List ℕ → Told) (part : Part) (calls : List Call) → IsIn read part calls self.old
+            → Took read part calls item self.new out.old out.new) }
         ensures appends { OnOk result (Appends out.old out.new) }
         ensures eos { OnOk result (self.old.ended ≡ false → self.new.ended ≡ is_eos item) }
         ensures ended { OnErr result (self.new.ended ≡ self.old.ended) }
-        ensures stays { OnErr result ((read : List ℕ → Told) (part : Part) (calls : List Call) → IsIn read part calls self.old → IsIn read part calls self.new) }
+        ensures stays { OnErr result
+            ((read : List ℕ → Told) (part : Part) (calls : List Call) → IsIn read part calls self.old → IsIn read part calls self.new) }
         ensures out { OnErr result (out.new ≡ out.old) }
-        ensures fault { IfErr result (λ fault. (read : List ℕ → Told) (part : Part) (calls : List Call) → IsIn read part calls self.old → IsFaultOf (answer read part calls item) fault) }
+        ensures fault { IfErr result
+            (λ fault. (read : List ℕ → Told) (part : Part) (calls : List Call) → IsIn read part calls self.old
+            → IsFaultOf (answer read part calls item) fault) }
     {
         match item {
             Item::Buffer(buffer) => self.parse_buffer(alloc, buffer, out),
@@ -177,7 +183,8 @@ impl WavParse {
         requires segment { is_segment (Ev event) ≡ false }
         requires eos { is_eos (Ev event) ≡ false }
         requires no_flush { is_flush_stop (Ev event) ≡ false }
-        ensures took { OnOk result ((read : List ℕ → Told) (part : Part) (calls : List Call) → IsIn read part calls self.now → Took read part calls (Ev event) self.now out.old out.new) }
+        ensures took { OnOk result ((read : List ℕ → Told) (part : Part) (calls : List Call) → IsIn read part calls self.now
+            → Took read part calls (Ev event) self.now out.old out.new) }
         ensures appends { OnOk result (Appends out.old out.new) }
         ensures out { OnErr result (out.new ≡ out.old) }
         ensures fault { IfErr result (λ fault. fault ≡ Wanting) }
@@ -193,12 +200,16 @@ impl WavParse {
         buffer: Buffer,
         out: &mut Outs,
     ) -> Result<(), ElementFault>
-        ensures took { OnOk result ((read : List ℕ → Told) (part : Part) (calls : List Call) → IsIn read part calls self.old → Took read part calls (Buf buffer) self.new out.old out.new) }
+        ensures took { OnOk result ((read : List ℕ → Told) (part : Part) (calls : List Call) → IsIn read part calls self.old
+            → Took read part calls (Buf buffer) self.new out.old out.new) }
         ensures appends { OnOk result (Appends out.old out.new) }
         ensures ended { self.new.ended ≡ self.old.ended }
-        ensures stays { OnErr result ((read : List ℕ → Told) (part : Part) (calls : List Call) → IsIn read part calls self.old → IsIn read part calls self.new) }
+        ensures stays { OnErr result
+            ((read : List ℕ → Told) (part : Part) (calls : List Call) → IsIn read part calls self.old → IsIn read part calls self.new) }
         ensures out { OnErr result (out.new ≡ out.old) }
-        ensures fault { IfErr result (λ fault. (read : List ℕ → Told) (part : Part) (calls : List Call) → IsIn read part calls self.old → IsFaultOf (answer read part calls (Buf buffer)) fault) }
+        ensures fault { IfErr result
+            (λ fault. (read : List ℕ → Told) (part : Part) (calls : List Call) → IsIn read part calls self.old
+            → IsFaultOf (answer read part calls (Buf buffer)) fault) }
     {
         match &mut self.phase {
             Phase::InData { left } => {
@@ -218,7 +229,8 @@ impl WavParse {
 
     /// Takes the first bytes of a head, where no SEGMENT stands before them.
     fn read_first(&mut self, alloc: Global, body: Body, out: &mut Outs) -> Result<(), ElementFault>
-        ensures read { OnOk result ((read : List ℕ → Told) → ReadsHeads read → ReadFirst read body self.old.known self.new.known self.new.phase out.old out.new) }
+        ensures read { OnOk result ((read : List ℕ → Told) → ReadsHeads read
+            → ReadFirst read body self.old.known self.new.known self.new.phase out.old out.new) }
         ensures appends { OnOk result (Appends out.old out.new) }
         ensures ended { self.new.ended ≡ self.old.ended }
         ensures stays { OnErr result ((self.new ≡ self.old) × (out.new ≡ out.old)) }
@@ -243,12 +255,16 @@ impl WavParse {
         left: Option<u64>,
         out: &mut Outs,
     ) -> Result<(), ElementFault>
-        ensures fed { OnOk result ((k : Known) (place : ℕ) (calls : List Call) → left ≡ left_of k.head.size place → KnowsHead (Some k) calls self.old.known → FedOn k calls (body_item (within k.head.size place body)) self.new.known out.old out.new) }
+        ensures fed { OnOk result ((k : Known) (place : ℕ) (calls : List Call) → left ≡ left_of k.head.size place → KnowsHead (Some k) calls self.old.known
+            → FedOn k calls (body_item (within k.head.size place body)) self.new.known out.old out.new) }
         ensures appends { OnOk result (Appends out.old out.new) }
-        ensures phase { OnOk result ((size : Option ℕ) (place : ℕ) → left ≡ left_of size place → self.new.phase ≡ Passing (left_of size (place + length body))) }
+        ensures phase { OnOk result ((size : Option ℕ) (place : ℕ) → left ≡ left_of size place
+            → self.new.phase ≡ Passing (left_of size (place + length body))) }
         ensures ended { self.new.ended ≡ self.old.ended }
         ensures stays { OnErr result ((self.new ≡ self.old) × (out.new ≡ out.old)) }
-        ensures fault { IfErr result (λ fault. (k : Known) (place : ℕ) (calls : List Call) → left ≡ left_of k.head.size place → KnowsHead (Some k) calls self.old.known → IsFaultOf (next_owed (parses_raw k.info) calls (body_item (within k.head.size place body))) fault) }
+        ensures fault { IfErr result
+            (λ fault. (k : Known) (place : ℕ) (calls : List Call) → left ≡ left_of k.head.size place → KnowsHead (Some k) calls self.old.known
+            → IsFaultOf (next_owed (parses_raw k.info) calls (body_item (within k.head.size place body))) fault) }
         ensures bytes { AreBytes body }
         ensures longer { (bytes more : List ℕ) (head : Head) → BeginsWithHead bytes head → BeginsWithHead (bytes ++ more) head }
     {
@@ -267,12 +283,14 @@ impl WavParse {
     /// Gives the parser of the data an item.
     fn feed_data(&mut self, alloc: Global, item: Item, out: &mut Outs) -> Result<(), ElementFault>
         requires { is_flush_stop item ≡ false }
-        ensures fed { OnOk result ((k : Known) (calls : List Call) → KnowsHead (Some k) calls self.old.known → FedOn k calls item self.new.known out.old out.new) }
+        ensures fed { OnOk result ((k : Known) (calls : List Call) → KnowsHead (Some k) calls self.old.known
+            → FedOn k calls item self.new.known out.old out.new) }
         ensures appends { OnOk result (Appends out.old out.new) }
         ensures phase { self.new.phase ≡ self.old.phase }
         ensures ended { self.new.ended ≡ self.old.ended }
         ensures stays { OnErr result ((self.new ≡ self.old) × (out.new ≡ out.old)) }
-        ensures fault { IfErr result (λ fault. (k : Known) (calls : List Call) → KnowsHead (Some k) calls self.old.known → IsFaultOf (next_owed (parses_raw k.info) calls item) fault) }
+        ensures fault { IfErr result
+            (λ fault. (k : Known) (calls : List Call) → KnowsHead (Some k) calls self.old.known → IsFaultOf (next_owed (parses_raw k.info) calls item) fault) }
     {
         let Some(known) = &mut self.known else {
             return Ok(());
@@ -298,11 +316,14 @@ impl WavParse {
         segment: Segment,
         out: &mut Outs,
     ) -> Result<(), ElementFault>
-        ensures took { OnOk result ((read : List ℕ → Told) (part : Part) (calls : List Call) → IsIn read part calls self.old → Took read part calls (Ev (NewSegment segment)) self.new out.old out.new) }
+        ensures took { OnOk result ((read : List ℕ → Told) (part : Part) (calls : List Call) → IsIn read part calls self.old
+            → Took read part calls (Ev (NewSegment segment)) self.new out.old out.new) }
         ensures appends { OnOk result (Appends out.old out.new) }
         ensures ended { self.new.ended ≡ self.old.ended }
         ensures stays { OnErr result ((self.new ≡ self.old) × (out.new ≡ out.old)) }
-        ensures fault { IfErr result (λ fault. (read : List ℕ → Told) (part : Part) (calls : List Call) → IsIn read part calls self.old → IsFaultOf (answer read part calls (Ev (NewSegment segment))) fault) }
+        ensures fault { IfErr result
+            (λ fault. (read : List ℕ → Told) (part : Part) (calls : List Call) → IsIn read part calls self.old
+            → IsFaultOf (answer read part calls (Ev (NewSegment segment))) fault) }
     {
         match self.data_place(place_of(&segment)) {
             Some((at, left)) => match self.go_on(alloc, segment_item(at), out) {
@@ -322,12 +343,14 @@ impl WavParse {
     /// Gives the parser of the data a SEGMENT, and puts out the SEGMENT that it puts out.
     fn go_on(&mut self, alloc: Global, item: Item, out: &mut Outs) -> Result<(), ElementFault>
         requires { is_flush_stop item ≡ false }
-        ensures fed { OnOk result ((k : Known) (calls : List Call) → KnowsHead (Some k) calls self.old.known → WentOn k calls item self.new.known out.old out.new) }
+        ensures fed { OnOk result ((k : Known) (calls : List Call) → KnowsHead (Some k) calls self.old.known
+            → WentOn k calls item self.new.known out.old out.new) }
         ensures appends { OnOk result (Appends out.old out.new) }
         ensures phase { self.new.phase ≡ self.old.phase }
         ensures ended { self.new.ended ≡ self.old.ended }
         ensures stays { OnErr result ((self.new ≡ self.old) × (out.new ≡ out.old)) }
-        ensures fault { IfErr result (λ fault. (k : Known) (calls : List Call) → KnowsHead (Some k) calls self.old.known → IsFaultOf (next_owed (parses_raw k.info) calls item) fault) }
+        ensures fault { IfErr result
+            (λ fault. (k : Known) (calls : List Call) → KnowsHead (Some k) calls self.old.known → IsFaultOf (next_owed (parses_raw k.info) calls item) fault) }
     {
         let Some(known) = &self.known else {
             return Ok(());
@@ -349,7 +372,8 @@ impl WavParse {
     /// The place in the data of a place in the file, and how many bytes of data are left there. None where the known
     /// data begins behind it, or none is known.
     fn data_place(&self, place: u64) -> Option<(u64, Option<u64>)>
-        ensures { (known : Option Known) (calls : List Call) → KnowsHead known calls self.now.known → MatchOption result (goes_on known place ≡ None) (IsPlaceIn known place) }
+        ensures { (known : Option Known) (calls : List Call) → KnowsHead known calls self.now.known
+            → MatchOption result (goes_on known place ≡ None) (IsPlaceIn known place) }
     {
         let Some(known) = &self.known else {
             return None;
@@ -360,11 +384,14 @@ impl WavParse {
 
     /// Ends the stream, where it may end.
     fn end(&mut self, alloc: Global, out: &mut Outs) -> Result<(), ElementFault>
-        ensures took { OnOk result ((read : List ℕ → Told) (part : Part) (calls : List Call) → IsIn read part calls self.old → Took read part calls (Ev Eos) self.new out.old out.new) }
+        ensures took { OnOk result ((read : List ℕ → Told) (part : Part) (calls : List Call) → IsIn read part calls self.old
+            → Took read part calls (Ev Eos) self.new out.old out.new) }
         ensures appends { OnOk result (Appends out.old out.new) }
         ensures ended { OnOk result (self.new.ended ≡ true) }
         ensures stays { OnErr result ((self.new ≡ self.old) × (out.new ≡ out.old)) }
-        ensures fault { IfErr result (λ fault. (read : List ℕ → Told) (part : Part) (calls : List Call) → IsIn read part calls self.old → IsFaultOf (answer read part calls (Ev Eos)) fault) }
+        ensures fault { IfErr result
+            (λ fault. (read : List ℕ → Told) (part : Part) (calls : List Call) → IsIn read part calls self.old
+            → IsFaultOf (answer read part calls (Ev Eos)) fault) }
     {
         self.may_end()?;
         put_out(alloc, Item::Event(Event::Eos), out)?;
@@ -374,8 +401,11 @@ impl WavParse {
 
     /// Whether the stream may end here, which it may not in a head.
     fn may_end(&self) -> Result<(), ElementFault>
-        ensures ends { OnOk result ((read : List ℕ → Told) (part : Part) (calls : List Call) → IsIn read part calls self.now → answer read part calls (Ev Eos) ≡ Ok (Ev Eos ∷ [])) }
-        ensures fault { IfErr result (λ fault. (read : List ℕ → Told) (part : Part) (calls : List Call) → IsIn read part calls self.now → IsFaultOf (answer read part calls (Ev Eos)) fault) }
+        ensures ends { OnOk result ((read : List ℕ → Told) (part : Part) (calls : List Call) → IsIn read part calls self.now
+            → answer read part calls (Ev Eos) ≡ Ok (Ev Eos ∷ [])) }
+        ensures fault { IfErr result
+            (λ fault. (read : List ℕ → Told) (part : Part) (calls : List Call) → IsIn read part calls self.now
+            → IsFaultOf (answer read part calls (Ev Eos)) fault) }
     {
         let place = match &self.phase {
             Phase::InData { .. } => return Ok(()),
@@ -422,7 +452,8 @@ fn place_of(segment: &Segment) -> u64
 
 /// Lets the parser of the data begin a new section.
 fn flush_known(known: &mut Option<KnownHead>)
-    ensures { (k : Option Known) (calls : List Call) (number : ℕ) → KnowsHead k calls known.old → KnowsHead k (calls ++ Feed (Ev (FlushStop number)) ∷ []) known.new }
+    ensures { (k : Option Known) (calls : List Call) (number : ℕ) → KnowsHead k calls known.old
+        → KnowsHead k (calls ++ Feed (Ev (FlushStop number)) ∷ []) known.new }
 {
     match known {
         Some(known) => known.flush(),

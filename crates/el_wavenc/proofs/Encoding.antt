@@ -5,10 +5,9 @@ use Rattle.flow_model.specs.Item.{Item, Ev, FlushStop, Eos, is_flush_stop, is_eo
 use Rattle.flow_model.specs.Call.{Call, Feed, Act, Drain, items}
 use Rattle.flow_model.specs.Rule.{Fed, Fault, not_eos}
 use Rattle.flow_model.specs.Feeding.{next_owed}
-use Rattle.el_basic.specs.Filters.{caps_in_force}
-use Rattle.el_basic.proofs.Calls.{fed_taken, fed_behind, fed_flush, drained_begun, drained_behind, eos_taken, eos_stays, eos_flushed, eos_act}
-use Rattle.el_parse.specs.Parses.{answered}
-use Rattle.el_parse.specs.Regrouped.{drain_owed, without_eos}
+use Rattle.flow_model.specs.CapsInForce.{caps_in_force}
+use Rattle.flow_model.proofs.Calls.{fed_taken, fed_behind, fed_flush, drained_begun, drained_behind, eos_taken, eos_stays, eos_flushed, eos_act}
+use Rattle.flow_model.specs.Owed.{answered, drain_owed, without_eos}
 use Rattle.el_wavenc.specs.declared.wav_enc.WavEnc.{WavEnc}
 use Rattle.el_wavenc.specs.Encodes.{Progress, progress, ending, encode_answer, encodes, finished, behind}
 use Rattle.el_wavenc.specs.Encoded.{encoding, come, Encoded}

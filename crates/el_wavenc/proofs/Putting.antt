@@ -5,7 +5,7 @@ use Rattle.gst_item.specs.declared.out.Out.{Out}
 use Rattle.flow_model.specs.Item.{Item, is_flush_stop, is_eos}
 use Rattle.flow_model.specs.Call.{Feed, Act, Drain}
 use Rattle.flow_model.specs.Feeding.{on_pad}
-use Rattle.el_parse.specs.Parses.{answered}
+use Rattle.flow_model.specs.Owed.{answered}
 use Rattle.el_wavenc.specs.declared.wav_enc.WavEnc.{WavEnc}
 use Rattle.el_wavenc.specs.Encodes.{ending, encode_answer, finished, behind}
 use Rattle.el_wavenc.specs.Encoded.{come}

@@ -11,12 +11,11 @@ use Rattle.flow_model.specs.Sticky.{latest, since_flush_stop}
 use Rattle.flow_model.specs.Call.{Call, Feed, Act, Drain, items}
 use Rattle.flow_model.specs.Rule.{Fed, Fault, not_eos}
 use Rattle.flow_model.specs.Feeding.{has_item}
-use Rattle.el_basic.specs.Filters.{caps_in_force, caps_behind}
-use Rattle.el_basic.proofs.Calls.{items_push, items_act}
-use Rattle.el_basic.proofs.Filtering.{caps_fed}
-use Rattle.el_parse.specs.Streams.{bytes_got}
-use Rattle.el_parse.specs.Part.{bytes_of}
-use Rattle.el_parse.proofs.Seen.{bytes_push, latest_since}
+use Rattle.flow_model.specs.CapsInForce.{caps_in_force, caps_behind}
+use Rattle.flow_model.proofs.Calls.{items_push, items_act}
+use Rattle.flow_model.proofs.CapsFed.{caps_fed}
+use Rattle.flow_model.specs.Looking.{bytes_got, bytes_of}
+use Rattle.flow_model.proofs.Looking.{bytes_push, latest_since}
 use Rattle.el_wavenc.specs.Same.{same_caps}
 use Rattle.el_wavenc.specs.Templates.{sink_template, wav_caps}
 use Rattle.el_wavenc.specs.WavFile.{Stream, stream_of, frame_width, head_length, most_data, bytes_at, head_items}

@@ -16,10 +16,10 @@ use Rattle.flow_model.specs.Sticky.{since_flush_stop}
 use Rattle.flow_model.specs.Call.{Feed, feeds, items}
 use Rattle.flow_model.specs.Rule.{Fed, Fault, unfed, responded, called, all_called, owed_for}
 use Rattle.flow_model.specs.SinkBytes.{Disk, empty_disk, next_disk, disk_after, sink_bytes}
-use Rattle.el_basic.specs.Filters.{caps_in_force}
-use Rattle.el_basic.proofs.Calls.{items_push, fed_taken}
-use Rattle.el_parse.specs.Part.{bytes_of}
-use Rattle.el_parse.proofs.Seen.{bytes_push}
+use Rattle.flow_model.specs.CapsInForce.{caps_in_force}
+use Rattle.flow_model.proofs.Calls.{items_push, fed_taken}
+use Rattle.flow_model.specs.Looking.{bytes_of}
+use Rattle.flow_model.proofs.Looking.{bytes_push}
 use Rattle.el_wavenc.specs.Same.{same_caps}
 use Rattle.el_wavenc.specs.Templates.{sink_template, wav_caps}
 use Rattle.el_wavenc.specs.WavFile.{Stream, stream_of, frame_width, head_length, most_data, bytes_at, head_bytes, head_items, padding}

@@ -10,9 +10,8 @@ use Rattle.flow_model.specs.Sticky.{latest, since_flush_stop}
 use Rattle.flow_model.specs.Call.{items}
 use Rattle.flow_model.specs.Rule.{Fed, Fault, NotNegotiated, BadStream, Response}
 use Rattle.flow_model.specs.Feeding.{has_item}
-use Rattle.el_basic.specs.Filters.{caps_in_force}
-use Rattle.el_parse.specs.Part.{has_opened}
-use Rattle.el_parse.specs.Streams.{bytes_got}
+use Rattle.flow_model.specs.CapsInForce.{caps_in_force}
+use Rattle.flow_model.specs.Looking.{has_opened, bytes_got}
 use Rattle.el_wavenc.specs.Same.{same_caps, exactly}
 use Rattle.el_wavenc.specs.Templates.{sink_template, wav_caps}
 use Rattle.el_wavenc.specs.WavFile.{Stream, stream_of, frame_width, head_length, most_data, bytes_at, head_items, padding}

@@ -4,7 +4,7 @@ use Rattle.gst_item.specs.declared.out.Out.{Out}
 use Rattle.flow_model.specs.Item.{Item}
 use Rattle.flow_model.specs.Call.{Call}
 use Rattle.flow_model.specs.Feeding.{on_pad}
-use Rattle.el_parse.specs.OwedAt.{owed_at}
+use Rattle.flow_model.specs.Owed.{owed_at}
 use Rattle.el_wavenc.specs.declared.wav_enc.WavEnc.{WavEnc}
 use Rattle.el_wavenc.specs.Encodes.{encodes}
 use Rattle.el_wavenc.specs.Encoded.{Encoded}

@@ -4,7 +4,7 @@ use Rattle.flow_model.specs.Item.{Item}
 use Rattle.flow_model.specs.Sticky.{since_flush_stop}
 use Rattle.flow_model.specs.Call.{feeds, items}
 use Rattle.flow_model.specs.Rule.{unfed, all_called}
-use Rattle.el_parse.specs.Part.{bytes_of}
+use Rattle.flow_model.specs.Looking.{bytes_of}
 use Rattle.el_wavenc.specs.WavFile.{Stream, head_bytes}
 use Rattle.el_wavenc.specs.Encodes.{encodes}
 

@@ -6,7 +6,7 @@ ghost use Rattle.flow_model.specs.Item.{Item, Ev, Eos};
 ghost use Rattle.flow_model.specs.Call.{feeds};
 ghost use Rattle.flow_model.specs.Rule.{unfed, all_called, owed_for};
 ghost use Rattle.flow_model.specs.SinkBytes.{sink_bytes};
-ghost use Rattle.el_basic.specs.Filters.{caps_in_force};
+ghost use Rattle.flow_model.specs.CapsInForce.{caps_in_force};
 ghost use Rattle.el_wavenc.specs.WavFile.{stream_of};
 ghost use Rattle.el_wavenc.specs.Encodes.{encodes};
 ghost use Rattle.el_wavenc.specs.WholeFile.{wav_file, taken, data_taken};

@@ -4,9 +4,7 @@ ghost use Rattle.std.specs.Option.{option_copied};
 ghost use Rattle.flow_model.specs.Item.{Item, Buf, Ev, NewCaps, FlushStop, Eos, is_eos, is_flush_stop};
 ghost use Rattle.flow_model.specs.Call.{Call, Feed, Act, Drain};
 ghost use Rattle.flow_model.specs.Feeding.{flow_behind, on_pad, next_owed, IsFaultOf};
-ghost use Rattle.el_parse.specs.Frames.{events_of};
-ghost use Rattle.el_parse.specs.Parses.{answered};
-ghost use Rattle.el_parse.specs.Regrouped.{drain_owed};
+ghost use Rattle.flow_model.specs.Owed.{events_of, answered, drain_owed};
 ghost use Rattle.el_wavenc.specs.Encodes.{encodes, encode_answer, announcement, ending, finished, settled, behind};
 
 use crate::file::{
@@ -81,7 +79,8 @@ impl WavEnc {
         ensures flow { IfOk result (λ flow. (calls : List Call) (put : List Item) → Encoded self.old calls put → flow ≡ flow_behind calls) }
         ensures puts { IfOk result (λ flow. Puts self.old self.new (Feed item) out.old out.new) }
         ensures stays { OnErr result ((self.new ≡ self.old) × (out.new ≡ out.old)) }
-        ensures fault { IfErr result (λ fault. (calls : List Call) (put : List Item) → Encoded self.old calls put → IsFaultOf (next_owed encodes calls item) fault) }
+        ensures fault { IfErr result
+            (λ fault. (calls : List Call) (put : List Item) → Encoded self.old calls put → IsFaultOf (next_owed encodes calls item) fault) }
     {
         if self.ended {
             return Ok(Flow::Eos);
@@ -108,7 +107,8 @@ impl WavEnc {
             → (ys : List Item) × (drain_owed encodes calls ≡ Ok ys) × (out.new ≡ out.old ++ on_pad 0 ys) × Encoded self.new (calls ++ Act Drain ∷ []) (put ++ ys)) }
         ensures puts { OnOk result (Puts self.old self.new (Act Drain) out.old out.new) }
         ensures stays { OnErr result ((self.new ≡ self.old) × (out.new ≡ out.old)) }
-        ensures fault { IfErr result (λ fault. (calls : List Call) (put : List Item) → Encoded self.old calls put → IsFaultOf (drain_owed encodes calls) fault) }
+        ensures fault { IfErr result
+            (λ fault. (calls : List Call) (put : List Item) → Encoded self.old calls put → IsFaultOf (drain_owed encodes calls) fault) }
     {
         if self.ended {
             return Ok(());

@@ -1,10 +1,13 @@
 pub mod Account
 pub mod Call
+pub mod CapsInForce
 pub mod Chain
 pub mod Eval
 pub mod Feeding
 pub mod Item
 pub mod Link
+pub mod Looking
+pub mod Owed
 pub mod Prefix
 pub mod ReportText
 pub mod Rule

@@ -7,13 +7,12 @@ use Rattle.std.proofs.lemmas.Bool.Decides.{eqb_tells}
 use Rattle.std.proofs.lemmas.Option.{slice_get_within}
 use Rattle.flow_model.specs.Account.{IsMember}
 use Rattle.el_set.specs.Asked.{sink_pads}
-use Rattle.el_set.specs.declared.settings.Settings.{Settings}
-use Rattle.el_set.specs.declared.settings.Settings.TheVariants.{FileSrc, RampTestSrc, Identity, AudioConvert, Law, RawAudioParse, AudioBufferSplit, WavParse, WavEnc, CapsFilter, Queue, FileSink, FakeSink}
+use Rattle.el_set.proofs.Roles.{one_sink}
 use Rattle.graph_core.specs.Elements.{Made}
 use Rattle.graph_core.specs.Links.{HasPads, is_same, sink_behind, source_before}
 use Rattle.graph_core.specs.declared.pad.PadLink.{PadLink}
 use Rattle.graph_core.specs.declared.pad.PadPlace.{PadPlace}
-use Rattle.graph_model.specs.Once.{AreOnce}
+use Rattle.graph_core.specs.LinkedOnce.{AreOnce}
 use Rattle.graph_bags.specs.declared.bag.BagLink.{BagLink}
 use Rattle.graph_bags.specs.declared.bag.BagLink.TheVariants.{Nothing, Element, Lane}
 use Rattle.graph_bags.specs.Links.{has, has_inlets, is_head, source_count, place_at, link_to, pad_at, pads_of, led_to, inside, LeadsInside, Reaches}
@@ -116,25 +115,9 @@ sink_there made (l ∷ ls) all source sink at = go (is_same l.source source) at 
     go true at later = subst (λ (place : PadPlace). place.pad < sinks_at made place.element) (some_same at) (all 0 l (omega arith)).1
     go false at later = later at
 
--- an element that is not fed from inlets has one sink pad at the most
-one_sink : (s : Settings) → has_inlets s ≡ false → sink_pads s ≤ 1
-one_sink (FileSrc s) none = omega arith
-one_sink (RampTestSrc s) none = omega arith
-one_sink Identity none = omega arith
-one_sink (AudioConvert s) none = omega arith
-one_sink (Law kind) none = omega arith
-one_sink (RawAudioParse info) none = omega arith
-one_sink (AudioBufferSplit s) none = omega arith
-one_sink WavParse none = omega arith
-one_sink WavEnc none = omega arith
-one_sink (CapsFilter s) none = omega arith
-one_sink (Queue s) none = omega arith
-one_sink (FileSink s) none = omega arith
-one_sink FakeSink none = omega arith
-
 only_sink : (found : Option Made) (pad : ℕ) → option_map_or (λ (m : Made). has_inlets m.settings) found false ≡ false → pad < option_map_or (λ (m : Made). sink_pads m.settings) found 0 → pad ≡ 0
 only_sink None pad none w = absurd (omega (arith, w))
-only_sink (Some m) pad none w = let few = one_sink m.settings none in omega (arith, few, w)
+only_sink (Some m) pad none w = let few = one_sink m.settings in omega (arith, few, w)
 
 place_of : ℕ → ℕ → PadPlace
 place_of element pad = record { element = element; pad = pad }

@@ -5,7 +5,7 @@ use Rattle.graph_core.specs.Elements.{Made}
 use Rattle.graph_core.specs.Links.{HasPads, sink_behind}
 use Rattle.graph_core.specs.declared.pad.PadLink.{PadLink}
 use Rattle.graph_core.specs.declared.pad.PadPlace.{PadPlace}
-use Rattle.graph_model.specs.Once.{AreOnce}
+use Rattle.graph_core.specs.LinkedOnce.{AreOnce}
 use Rattle.graph_bags.specs.Links.{has, has_inlets, is_head, source_count, place_at, LeadsInside}
 use Rattle.graph_bags.specs.Bags.{cells, numbers, head_of, IsBag, AreBags}
 use Rattle.graph_bags.specs.declared.bag.Bag.{Bag}

@@ -1,7 +1,7 @@
 //! The bags of a graph.
 ghost use Rattle.std.specs.Prelude.{◌≡◌, ◌<◌, ◌++◌, ◌∷◌, [], List, true, false, length, IfOk};
 ghost use Rattle.graph_core.specs.Graph.{IsSound, made as made_in, links as links_in};
-ghost use Rattle.graph_model.specs.Once.{AreOnce};
+ghost use Rattle.graph_core.specs.LinkedOnce.{AreOnce};
 ghost use Rattle.graph_bags.specs.Links.{has, is_head};
 ghost use Rattle.graph_bags.specs.Bags.{cells, AreBags};
 ghost use Rattle.graph_bags.specs.Walk.{IsBagOf};

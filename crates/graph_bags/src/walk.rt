@@ -1,7 +1,7 @@
 //! The walk from a head over links that are no lane.
 ghost use Rattle.std.specs.Prelude.{◌≡◌, ◌<◌, ◌++◌, true, length, IfOk};
 ghost use Rattle.graph_core.specs.Graph.{IsSound, made as made_in, links as links_in};
-ghost use Rattle.graph_model.specs.Once.{AreOnce};
+ghost use Rattle.graph_core.specs.LinkedOnce.{AreOnce};
 ghost use Rattle.graph_bags.specs.Links.{has, has_inlets, is_head, link_to, led_to, inside, pads_of};
 ghost use Rattle.graph_bags.specs.Walk.{Goes, AreReached};
 

@@ -1,11 +1,12 @@
 -- What source pads are allowed is one, and does not depend on what converters are set to.
 use Rattle.std.proofs.Common.{◌≡◌, ◌⊎◌, ℕ, zero, suc, Bool, true, false, List, [], ◌∷◌, Option, None, Some, slice_get, refl, sym, ap, ◌∙◌, subst, inl, inr}
+use Rattle.std.specs.Option.{option_map_or}
 use Rattle.gst_caps.specs.declared.caps.Caps.{Caps}
 use Rattle.gst_caps.specs.declared.caps.Caps.TheVariants.{Any}
-use Rattle.el_set.specs.Asked.{is_converter, location_of, sink_pads, source_pads, template_of, with_allowed}
+use Rattle.el_set.specs.Asked.{allowed_of, hands_on, is_converter, template_of, with_allowed}
 use Rattle.el_set.specs.declared.settings.Settings.{Settings}
-use Rattle.el_set.specs.declared.settings.Settings.TheVariants.{AudioConvert}
-use Rattle.graph_core.specs.Allowed.{Allows, AreAllowed, IsTooWide, allowed_before, allowed_of, checked, first_pad, hands_on, with_caps}
+use Rattle.el_set.proofs.Allowing.{allowed_other, allowed_set, converter_set, filter_set, hands_set, location_set, set_own, set_twice, sources_set, template_set}
+use Rattle.graph_core.specs.Allowed.{Allows, AreAllowed, IsTooWide, allowed_before, checked, filtered, first_pad, with_caps}
 use Rattle.graph_core.specs.Elements.{Made, clash}
 use Rattle.graph_core.specs.Links.{sink_behind}
 use Rattle.graph_core.specs.declared.pad.PadLink.{PadLink}
@@ -79,46 +80,9 @@ module _ (made : List Made) (links : List PadLink) where
   one_allowed source a b (Allows.through s sink m behind linked there hands rest) h = through_one source sink m linked there behind b hands (λ c g. one_allowed (first_pad sink.element) behind c rest g) (told source b h)
   one_allowed source a b (Allows.taken s sink m linked there hands) h = taken_one source sink m linked there b hands (told source b h)
 
--- what converters are allowed does not matter for what is asked here
-hands_set : (caps : Caps) (s : Settings) → hands_on (with_allowed caps s) ≡ hands_on s
-hands_set caps (AudioConvert s) = refl
-hands_set caps _ = refl
-
+-- what converters are allowed does not matter for what is allowed before an element
 before_set : (caps : Caps) (behind : Option Caps) (s : Settings) → allowed_before (with_allowed caps s) behind ≡ allowed_before s behind
-before_set caps behind (AudioConvert s) = refl
-before_set caps behind _ = refl
-
-template_set : (caps : Caps) (s : Settings) → template_of (with_allowed caps s) true ≡ template_of s true
-template_set caps (AudioConvert s) = refl
-template_set caps _ = refl
-
-converter_set : (caps : Caps) (s : Settings) → is_converter (with_allowed caps s) ≡ is_converter s
-converter_set caps (AudioConvert s) = refl
-converter_set caps _ = refl
-
-pub sinks_set : (caps : Caps) (s : Settings) → sink_pads (with_allowed caps s) ≡ sink_pads s
-sinks_set caps (AudioConvert s) = refl
-sinks_set caps _ = refl
-
-pub sources_set : (caps : Caps) (s : Settings) → source_pads (with_allowed caps s) ≡ source_pads s
-sources_set caps (AudioConvert s) = refl
-sources_set caps _ = refl
-
-set_twice : (caps other : Caps) (s : Settings) → with_allowed caps (with_allowed other s) ≡ with_allowed caps s
-set_twice caps other (AudioConvert s) = refl
-set_twice caps other _ = refl
-
-set_own : (s : Settings) → with_allowed (allowed_of s) s ≡ s
-set_own (AudioConvert s) = refl
-set_own _ = refl
-
-allowed_set : (caps : Caps) (s : Settings) → is_converter s ≡ true → allowed_of (with_allowed caps s) ≡ caps
-allowed_set caps (AudioConvert s) h = refl
-allowed_set caps _ h = absurd (cc)
-
-allowed_other : (s : Settings) → is_converter s ≡ false → allowed_of s ≡ Any
-allowed_other (AudioConvert s) h = absurd (cc)
-allowed_other _ h = refl
+before_set caps behind s = ap (λ (o : Option Caps). option_map_or (λ own. filtered own behind) o behind) (filter_set caps s)
 
 pub converter_like : (m n : Made) → with_caps Any m ≡ with_caps Any n → is_converter m.settings ≡ is_converter n.settings
 converter_like m n same = sym (converter_set Any m.settings) ∙ ap (λ (x : Made). is_converter x.settings) same ∙ converter_set Any n.settings
@@ -156,7 +120,7 @@ module _ (ms ns : List Made) (links : List PadLink) (same : checked ms ≡ check
     where
       taken : (n : Made) × (slice_get ns sink.element ≡ Some n) × (with_caps Any m ≡ with_caps Any n) → Allows ns links source (Some (template_of m.settings true))
       taken (n, at, like) =
-          subst (λ (x : Caps). Allows ns links source (Some x)) (sym (template_set Any n.settings) ∙ ap (λ (x : Made). template_of x.settings true) (sym like) ∙ template_set Any m.settings)
+          subst (λ (x : Caps). Allows ns links source (Some x)) (sym (template_set Any true n.settings) ∙ ap (λ (x : Made). template_of x.settings true) (sym like) ∙ template_set Any true m.settings)
           (Allows.taken source sink n linked at (sym (hands_set Any n.settings) ∙ ap (λ (x : Made). hands_on x.settings) (sym like) ∙ hands_set Any m.settings ∙ hands))
 
   pub wide_alike : IsTooWide ms links → IsTooWide ns links
@@ -170,10 +134,6 @@ pub checked_at : (made : List Made) (e : ℕ) (m : Made) → slice_get made e �
 checked_at [] e m at = absurd (cc)
 checked_at (x ∷ xs) zero m at = let is : x ≡ m = cc in ap (λ (y : Made). Some (with_caps Any y)) is
 checked_at (x ∷ xs) (suc e) m at = checked_at xs e m at
-
-location_set : (caps : Caps) (s : Settings) → location_of (with_allowed caps s) ≡ location_of s
-location_set caps (AudioConvert s) = refl
-location_set caps _ = refl
 
 -- has the location that it has
 pub clash_checked : (m n : Made) → clash (with_caps Any m).settings (with_caps Any n).settings ≡ clash m.settings n.settings

@@ -1,24 +1,17 @@
 -- Answers for source pads, and elements whose converters are set to what they are allowed.
-use Rattle.std.proofs.Common.{◌≡◌, ◌<◌, ◌≤◌, ◌+◌, ◌⊎◌, ℕ, zero, suc, Bool, true, false, List, [], ◌∷◌, ◌++◌, Option, None, Some, Result, Ok, Err, All, IfOk, IfSome, length, slice_get, slice_set, get_or, refl, sym, ap, ◌∙◌, subst, inl, inr, arith, if◌then◌else◌}
-use Rattle.std.specs.Prelude.{bytes_eq}
-use Rattle.std.specs.Option.{option_map}
+use Rattle.std.proofs.Common.{◌≡◌, ◌<◌, ◌≤◌, ◌+◌, ◌⊎◌, ℕ, zero, suc, true, false, List, [], ◌∷◌, ◌++◌, Option, None, Some, Result, Ok, Err, All, IfOk, IfSome, length, slice_get, slice_set, get_or, refl, sym, ap, ◌∙◌, subst, inl, inr, arith}
+use Rattle.std.specs.Prelude.{IsErrAnd}
+use Rattle.std.specs.Option.{option_map, option_map_or}
 use Rattle.std.proofs.lemmas.List.{map-append}
 use Rattle.std.proofs.lemmas.Option.{slice_get_within}
-use Rattle.gst_caps.specs.Accepts.{intersection, passes}
 use Rattle.gst_caps.specs.Limit.{TooManyWhere}
 use Rattle.gst_caps.specs.declared.caps.Caps.{Caps}
 use Rattle.gst_caps.specs.declared.caps.Caps.TheVariants.{Any}
 use Rattle.gst_caps.specs.declared.fault.CapsFault.{CapsFault}
 use Rattle.gst_caps.specs.declared.fault.CapsFault.TheVariants.{TooMany, OutOfMemory}
-use Rattle.gst_caps.specs.declared.name.Prop.{Prop}
-use Rattle.el_set.specs.Asked.{is_converter, template_of, with_allowed}
-use Rattle.el_set.specs.Checked.{IsAnswer, IsAnswerFor}
-use Rattle.el_set.specs.Kinds.{kinds}
-use Rattle.el_set.specs.Rows.{find_row}
-use Rattle.el_set.specs.declared.settings.AudioConvertSettings.{AudioConvertSettings}
+use Rattle.el_set.specs.Asked.{allowed_of, filter_caps, hands_on, is_converter, template_of, with_allowed}
 use Rattle.el_set.specs.declared.settings.Settings.{Settings}
-use Rattle.el_set.specs.declared.settings.Settings.TheVariants.{CapsFilter, AudioConvert}
-use Rattle.graph_core.specs.Allowed.{Allows, Answers, AreAllowed, AreAllowedBelow, IsWideFault, allowed_before, allowed_of, build_fault, checked, filtered, first_pad, hands_on, with_caps}
+use Rattle.graph_core.specs.Allowed.{Allows, Answers, AreAllowed, AreAllowedBelow, IsWideFault, allowed_before, build_fault, checked, filtered, first_pad, with_caps}
 use Rattle.graph_core.specs.Asked.{Declared}
 use Rattle.graph_core.specs.Comes.{Comes}
 use Rattle.graph_core.specs.Elements.{Made, ElementsCome, IsMade}
@@ -32,25 +25,24 @@ use Rattle.graph_core.specs.declared.pad.Direction.TheVariants.{Source, Sink}
 use Rattle.graph_core.specs.declared.pad.PadLink.{PadLink}
 use Rattle.graph_core.specs.declared.pad.PadPlace.{PadPlace}
 use Rattle.graph_core.proofs.Joining.{sink_found}
-use Rattle.graph_core.proofs.Allowing.{allowed_given, allows_alike, like_given, one_allowed, sinks_set, sources_set, wide_alike}
+use Rattle.el_set.proofs.Allowing.{set_any, sinks_set, sources_set}
+use Rattle.graph_core.proofs.Allowing.{allowed_given, allows_alike, like_given, one_allowed, wide_alike}
 
--- the intersection of a filter and of what is allowed behind it
-pub intersected : (a b : Caps) (r : Result Caps CapsFault) → IfOk r (λ made. made ≡ intersection a b) → TooManyWhere r (passes (intersection a b) ≡ true) → Answers (λ answer. answer ≡ filtered a (Some b)) r
-intersected a b (Ok caps) is few = go (passes (intersection a b)) few
-  where
-    go : (many : Bool) → (many ≡ true → ⊥) → Some caps ≡ (if many then None else Some (intersection a b))
-    go true few = absurd (few refl)
-    go false few = ap Some is
-intersected a b (Err (TooMany count)) is many = (go (passes (intersection a b)) many.0, many.1)
-  where
-    go : (many : Bool) → many ≡ true → None ≡ (if many then None else Some (intersection a b))
-    go true e = refl
-    go false e = absurd (cc)
-intersected a b (Err OutOfMemory) is many = tt
-
+-- too many caps behind an element are too many before it
 before_none : (s : Settings) → allowed_before s None ≡ None
-before_none (CapsFilter s) = refl
-before_none _ = refl
+before_none s = by (filter_caps s)
+  where
+    by : (o : Option Caps) → option_map_or (λ caps. filtered caps None) o None ≡ None
+    by None = refl
+    by (Some caps) = refl
+
+-- the fault of a call that is handed on, and want of memory
+pub answers_fault : (Is : Option Caps → Type 0) (r : Result Caps CapsFault) (fault : CapsFault) → IsErrAnd r (λ f. f ≡ fault) → Answers Is (Err fault) → Answers Is r
+answers_fault Is (Ok caps) fault h answers = absurd h
+answers_fault Is (Err other) fault h answers = subst (λ (f : CapsFault). Answers Is (Err f)) (sym h) answers
+
+pub answers_memory : (Is : Option Caps → Type 0) (r : Result Caps CapsFault) → IsErrAnd r (λ f. f ≡ OutOfMemory) → Answers Is r
+answers_memory Is r h = answers_fault Is r OutOfMemory h tt
 
 -- what an element is set to, where it is there
 pub made_at : (made : List Made) (e : ℕ) (s : Settings) → option_map (λ (m : Made). m.settings) (slice_get made e) ≡ Some s → (m : Made) × (slice_get made e ≡ Some m) × (m.settings ≡ s)
@@ -61,7 +53,7 @@ made_at made e s at = by (slice_get made e) refl at
     by (Some m) is h = (m, is, cc)
 
 module _ (made : List Made) (links : List PadLink) (source sink : PadPlace) (s : Settings) (linked : sink_behind links source ≡ Some sink) (at : option_map (λ (m : Made). m.settings) (slice_get made sink.element) ≡ Some s) where
-  takes : hands_on s ≡ false → Allows made links source (Some (template_of s true))
+  pub takes : hands_on s ≡ false → Allows made links source (Some (template_of s true))
   takes hands =
       let found = made_at made sink.element s at in
       subst (λ (x : Settings). Allows made links source (Some (template_of x true))) found.2 (Allows.taken source sink found.0 linked found.1 (ap hands_on found.2 ∙ hands))
@@ -70,11 +62,6 @@ module _ (made : List Made) (links : List PadLink) (source sink : PadPlace) (s :
   goes_through behind hands rest =
       let found = made_at made sink.element s at in
       subst (λ (x : Settings). Allows made links source (allowed_before x behind)) found.2 (Allows.through source sink found.0 behind linked found.1 (ap hands_on found.2 ∙ hands) rest)
-
-  pub answers_taken : hands_on s ≡ false → (r : Result Caps CapsFault) → Answers (λ answer. answer ≡ Some (template_of s true)) r → Answers (Allows made links source) r
-  answers_taken hands (Ok caps) h = subst (λ (x : Option Caps). Allows made links source x) (sym h) (takes hands)
-  answers_taken hands (Err (TooMany count)) h = absurd (cc)
-  answers_taken hands (Err OutOfMemory) h = tt
 
   pub answers_through : hands_on s ≡ true → (behind : Caps) → Allows made links (first_pad sink.element) (Some behind) → (r : Result Caps CapsFault) → Answers (λ answer. answer ≡ allowed_before s (Some behind)) r → Answers (Allows made links source) r
   answers_through hands behind rest (Ok caps) h = subst (λ (x : Option Caps). Allows made links source x) (sym h) (goes_through (Some behind) hands rest)
@@ -99,31 +86,6 @@ answers_where made links source (Err OutOfMemory) h = tt
 
 pub answers_ok : (made : List Made) (links : List PadLink) (source : PadPlace) (caps : Caps) → Answers (Allows made links source) (Ok caps) → Allows made links source (Some caps)
 answers_ok made links source caps h = h
-
--- what holds of each row of a table, and where there is none, holds of the row of a name
-abbrev EachRow : {V : Type 0} → (Option V → Type 0) → List (List ℕ × V) → Type 0
-EachRow P [] = P None
-EachRow P (row ∷ rows) = P (Some row.1) × EachRow P rows
-
-by_row : {V : Type 0} (P : Option V → Type 0) (name : List ℕ) (rows : List (List ℕ × V)) → EachRow P rows → P (find_row name rows)
-by_row P name [] each = each
-by_row P name (row ∷ rows) each = by (bytes_eq name row.0) (by_row P name rows each.1)
-  where
-    by : (b : Bool) → P (find_row name rows) → P (if b then Some row.1 else find_row name rows)
-    by true rest = each.0
-    by false rest = rest
-
--- properties allow a converter all caps
-any_allowed : (kind : List ℕ) (props : List Prop) (s : AudioConvertSettings) → IsAnswerFor (find_row kind kinds) props (Ok (AudioConvert s)) → s.allowed ≡ Any
-any_allowed kind props s = by_row (λ o. IsAnswerFor o props (Ok (AudioConvert s)) → s.allowed ≡ Any) kind kinds
-    (wrong, (wrong, (wrong, (wrong, (wrong, ((λ h. h.1), (wrong, (wrong, (wrong, (wrong, (wrong, (wrong, (wrong, (wrong, (wrong, (wrong, λ h. absurd h))))))))))))))))
-  where
-    wrong : {P : Type 0} → P × ⊥ → s.allowed ≡ Any
-    wrong h = absurd h.1
-
-set_any : (kind : List ℕ) (props : List Prop) (s : Settings) → IsAnswer kind props (Ok s) → with_allowed Any s ≡ s
-set_any kind props (AudioConvert s) h = ap (λ (c : Caps). AudioConvert (record { allowed = c })) (sym (any_allowed kind props s h))
-set_any kind props _ h = refl
 
 made_any : (before : List Made) (d : Declared) (m : Made) → IsMade before d m → with_caps Any m ≡ m
 made_any before d m is = ap (λ (s : Settings). let r : Made = record { name = m.name; kind = m.kind; is_numbered = m.is_numbered; settings = s } in r) (set_any d.kind d.props m.settings is.set)

@@ -12,7 +12,7 @@ use Rattle.pad_core.specs.declared.linking.LinkReturn.{LinkReturn}
 use Rattle.graph_core.specs.Asked.{End, own, named, links_in}
 use Rattle.launch_text.specs.declared.tree.Chain.{Chain}
 use Rattle.graph_core.specs.Comes.{Comes}
-use Rattle.graph_core.specs.Elements.{Made, is_named, OrMemory}
+use Rattle.graph_core.specs.Elements.{Made, is_named}
 use Rattle.graph_core.specs.Ends.{IsEndPad, IsPadOf, IsThere, PadOrMemory, dotted, missing, name_at, named_pad, pad_at, pad_count, pad_name, pad_named, pad_number, pad_text, pads_at, taken_pad}
 use Rattle.graph_core.specs.Links.{HasPads, IsJudged, IsLinked, IsUnjoined, IsUnlinked, Joins, Leads, LinksCome, LinksFollow, LinksStop, is_same, leaves, sink_behind, source_before, way_of, ways}
 use Rattle.graph_core.specs.declared.fault.BuildFault.{BuildFault}
@@ -128,13 +128,11 @@ module _ (made : List Made) (links : List PadLink) (ends : End × End) where
         (subst (λ (ls : List PadLink). LinksCome made ls rest answer) grown comes)
 
 module _ (made : List Made) (links : List PadLink) (left right : Pad) where
-  pub refusal_unjoined : (ret : LinkReturn) (fault : BuildFault) → IsJudged made links left right (Some ret) → OrMemory (LinkRefused (pad_name made left) (pad_name made right) ret) fault → IsUnjoined made links left right fault
-  refusal_unjoined ret fault judged (inl e) = subst (IsUnjoined made links left right) (sym e) (IsUnjoined.refused ret judged)
-  refusal_unjoined ret fault judged (inr e) = subst (IsUnjoined made links left right) (sym e) IsUnjoined.memory
+  pub refusal_unjoined : (ret : LinkReturn) (fault : BuildFault) → IsJudged made links left right (Some ret) → fault ≡ LinkRefused (pad_name made left) (pad_name made right) ret → IsUnjoined made links left right fault
+  refusal_unjoined ret fault judged e = subst (IsUnjoined made links left right) (sym e) (IsUnjoined.refused ret judged)
 
-  pub loop_unjoined : (name : List ℕ) (fault : BuildFault) → name ≡ name_at made left.place.element → IsJudged made links left right None → Leads links right.place.element left.place.element → OrMemory (NoSuch name NoOrder) fault → IsUnjoined made links left right fault
-  loop_unjoined name fault told judged leads (inl e) = subst (IsUnjoined made links left right) (sym (e ∙ ap (λ t. NoSuch t NoOrder) told)) (IsUnjoined.loops judged leads)
-  loop_unjoined name fault told judged leads (inr e) = subst (IsUnjoined made links left right) (sym e) IsUnjoined.memory
+  pub loop_unjoined : (name : List ℕ) (fault : BuildFault) → name ≡ name_at made left.place.element → IsJudged made links left right None → Leads links right.place.element left.place.element → fault ≡ NoSuch name NoOrder → IsUnjoined made links left right fault
+  loop_unjoined name fault told judged leads e = subst (IsUnjoined made links left right) (sym (e ∙ ap (λ t. NoSuch t NoOrder) told)) (IsUnjoined.loops judged leads)
 
 -- the name of an element that is there
 pub name_told : (made : List Made) (element : ℕ) (name : List ℕ) → option_map (λ (m : Made). m.name) (slice_get made element) ≡ Some name → name ≡ name_at made element

@@ -10,4 +10,10 @@ pub mod Ranks
 pub mod Allowing
 pub mod Answering
 pub mod Built
+pub mod ElementsAgree
+pub mod LinksAgree
 pub mod OneAnswer
+pub mod NumberedPads
+pub mod Orders
+pub mod LinkedOnce
+pub mod HandedOn

@@ -1,5 +1,6 @@
 -- One element more, or the fault of one.
-use Rattle.std.proofs.Common.{◌≡◌, ◌&&◌, ◌||◌, ◌+◌, ℕ, suc, Bool, true, false, not, cond, List, [], ◌∷◌, ◌++◌, length, refl, sym, ap, ◌∙◌, subst, arith, position, Option, None, Some, Ok, Err, Result, is_some, nat_lt, inl, inr, MatchOption}
+use Rattle.std.proofs.Common.{◌≡◌, ◌&&◌, ◌||◌, ◌+◌, ℕ, suc, Bool, true, false, not, cond, List, [], ◌∷◌, ◌++◌, length, refl, sym, ap, ◌∙◌, subst, arith, position, Option, None, Some, Ok, Err, Result, is_some, nat_lt, MatchOption}
+use Rattle.std.specs.Prelude.{IsErrAnd}
 use Rattle.std.specs.List.{list_any, position_or_len}
 use Rattle.std.proofs.lemmas.Bool.{lt-ltb}
 use Rattle.std.proofs.lemmas.Bool.Decides.{nat_tests}
@@ -12,7 +13,7 @@ use Rattle.graph_core.specs.Asked.{Declared}
 use Rattle.graph_core.specs.Comes.{Comes}
 use Rattle.gst_caps.specs.declared.name.Prop.{Prop}
 use Rattle.graph_core.specs.declared.element.Element.{Element}
-use Rattle.graph_core.specs.Elements.{Made, made_of, given_name, name_of, is_name_taken, is_location_taken, same_location, clash, IsMade, IsUnmade, ElementsCome, Follows, Stops, IsPlaced, OrMemory, settings_fault}
+use Rattle.graph_core.specs.Elements.{Made, made_of, given_name, name_of, is_name_taken, is_location_taken, same_location, clash, IsMade, IsUnmade, ElementsCome, Follows, Stops, IsPlaced, settings_fault}
 use Rattle.graph_core.specs.declared.fault.BuildFault.{BuildFault}
 use Rattle.graph_core.specs.declared.fault.BuildFault.TheVariants.{NoSuch, BadValue, NameTaken, LocationTaken, TooMany, LinkRefused, OutOfMemory}
 
@@ -65,14 +66,10 @@ taken_location settings (m ∷ ms) h = by (clash m.settings settings) refl h (ta
     by true e h rest = clash_location m.settings settings e
     by false e h rest = rest h
 
-pub name_refused : (before : List Made) (text : List ℕ) (settings : Settings) (fault : BuildFault) → is_name_taken text before ≡ true → OrMemory (NameTaken text) fault → IsPlaced before text settings (Err fault)
-name_refused before text settings fault taken (inl e) = subst (λ (f : BuildFault). IsPlaced before text settings (Err f)) (sym e) (refl, taken)
-name_refused before text settings fault taken (inr e) = subst (λ (f : BuildFault). IsPlaced before text settings (Err f)) (sym e) tt
-
-pub location_refused : (before : List Made) (text l : List ℕ) (settings : Settings) (fault : BuildFault) → is_name_taken text before ≡ false → is_location_taken settings before ≡ true → location_of settings ≡ Some l → OrMemory (LocationTaken l) fault
-    → IsPlaced before text settings (Err fault)
-location_refused before text l settings fault free taken has (inl e) = subst (λ (f : BuildFault). IsPlaced before text settings (Err f)) (sym e) (has, free, taken)
-location_refused before text l settings fault free taken has (inr e) = subst (λ (f : BuildFault). IsPlaced before text settings (Err f)) (sym e) tt
+-- where memory is wanting nothing is said of the place
+pub memory_refused : (before : List Made) (text : List ℕ) (settings : Settings) (answer : Result (Unit {0}) BuildFault) → IsErrAnd answer (λ fault. fault ≡ OutOfMemory) → IsPlaced before text settings answer
+memory_refused before text settings (Ok done) h = absurd h
+memory_refused before text settings (Err fault) h = subst (λ (f : BuildFault). IsPlaced before text settings (Err f)) (sym h) tt
 
 -- why the element is not made
 pub unplaced : (before : List Made) (d : Declared) (settings : Settings) (fault : BuildFault) → IsAnswer d.kind d.props (Ok settings) → IsPlaced before (name_of before d) settings (Err fault) → IsUnmade before d fault
@@ -90,18 +87,17 @@ own_fault before d (NoSuchProperty p) why = IsUnmade.property p why
 own_fault before d (BadPropValue p) why = IsUnmade.value p why
 own_fault before d NoPropMemory why = IsUnmade.memory
 
-pub unset : (before : List Made) (d : Declared) (text : List ℕ) (why : PropFault) (fault : BuildFault) → text ≡ name_of before d → IsAnswer d.kind d.props (Err why) → OrMemory (settings_fault text d.kind why) fault → IsUnmade before d fault
-unset before d text why fault named own (inl e) = subst (IsUnmade before d) (sym (e ∙ ap (λ t. settings_fault t d.kind why) named)) (own_fault before d why own)
-unset before d text why fault named own (inr e) = subst (IsUnmade before d) (sym e) IsUnmade.memory
+pub unset : (before : List Made) (d : Declared) (text : List ℕ) (why : PropFault) (fault : BuildFault) → text ≡ name_of before d → IsAnswer d.kind d.props (Err why) → fault ≡ settings_fault text d.kind why → IsUnmade before d fault
+unset before d text why fault named own e = subst (IsUnmade before d) (sym (e ∙ ap (λ t. settings_fault t d.kind why) named)) (own_fault before d why own)
 
 -- the location of settings that have one is taken
 pub location_told : (before : List Made) (text : List ℕ) (settings : Settings) (fault : BuildFault) → is_name_taken text before ≡ false → is_location_taken settings before ≡ true
-    → MatchOption (location_of settings) ⊥ (λ l. OrMemory (LocationTaken l) fault) → IsPlaced before text settings (Err fault)
+    → MatchOption (location_of settings) ⊥ (λ l. fault ≡ LocationTaken l) → IsPlaced before text settings (Err fault)
 location_told before text settings fault free taken h = by (location_of settings) refl h
   where
-    by : (o : Option (List ℕ)) → location_of settings ≡ o → MatchOption o ⊥ (λ l. OrMemory (LocationTaken l) fault) → IsPlaced before text settings (Err fault)
+    by : (o : Option (List ℕ)) → location_of settings ≡ o → MatchOption o ⊥ (λ l. fault ≡ LocationTaken l) → IsPlaced before text settings (Err fault)
     by None e h = absurd h
-    by (Some l) e h = location_refused before text l settings fault free taken e h
+    by (Some l) e h = subst (λ (f : BuildFault). IsPlaced before text settings (Err f)) (sym h) (e, free, taken)
 
 pub placed_named : (before : List Made) (text name : List ℕ) (settings : Settings) (answer : Result (Unit {0}) BuildFault) → text ≡ name → IsPlaced before text settings answer → IsPlaced before name settings answer
 placed_named before text name settings answer same h = subst (λ (t : List ℕ). IsPlaced before t settings answer) same h

@@ -1,13 +1,13 @@
 -- The caps that converters are allowed to put out: those that are taken behind them.
-use Rattle.std.specs.Prelude.{◌≡◌, ◌<◌, ◌⊎◌, ℕ, Bool, true, false, List, Option, None, Some, Result, Ok, Err, if◌then◌else◌, map, slice_get}
+use Rattle.std.specs.Prelude.{◌≡◌, ◌<◌, ◌⊎◌, ℕ, true, false, List, Option, None, Some, Result, Ok, Err, if◌then◌else◌, map, slice_get}
+use Rattle.std.specs.Option.{option_map_or}
 use Rattle.gst_caps.specs.Accepts.{intersection, passes}
 use Rattle.gst_caps.specs.declared.caps.Caps.{Caps}
 use Rattle.gst_caps.specs.declared.caps.Caps.TheVariants.{Any}
 use Rattle.gst_caps.specs.declared.fault.CapsFault.{CapsFault}
 use Rattle.gst_caps.specs.declared.fault.CapsFault.TheVariants.{TooMany, OutOfMemory}
-use Rattle.el_set.specs.Asked.{is_converter, template_of, with_allowed}
+use Rattle.el_set.specs.Asked.{allowed_of, filter_caps, hands_on, is_converter, template_of, with_allowed}
 use Rattle.el_set.specs.declared.settings.Settings.{Settings}
-use Rattle.el_set.specs.declared.settings.Settings.TheVariants.{Identity, CapsFilter, Queue, AudioConvert}
 use Rattle.graph_core.specs.Elements.{Made}
 use Rattle.graph_core.specs.Links.{sink_behind}
 use Rattle.graph_core.specs.declared.fault.BuildFault.{BuildFault}
@@ -19,13 +19,6 @@ use Rattle.graph_core.specs.declared.pad.PadPlace.{PadPlace}
 abbrev pub first_pad : ℕ → PadPlace
 first_pad e = record { element = e; pad = 0 }
 
--- an element that takes what is allowed behind it
-abbrev pub hands_on : Settings → Bool
-hands_on Identity = true
-hands_on (CapsFilter s) = true
-hands_on (Queue s) = true
-hands_on _ = false
-
 -- the caps of a filter that are also allowed behind it; None where these are too many, here or behind
 abbrev pub filtered : Caps → Option Caps → Option Caps
 filtered caps None = None
@@ -33,8 +26,7 @@ filtered caps (Some behind) = if passes (intersection caps behind) then None els
 
 -- what is allowed before an element, by what is allowed behind it
 abbrev pub allowed_before : Settings → Option Caps → Option Caps
-allowed_before (CapsFilter s) behind = filtered s.caps behind
-allowed_before _ behind = behind
+allowed_before settings behind = option_map_or (λ caps. filtered caps behind) (filter_caps settings) behind
 
 -- The caps that a source pad is allowed to have, and None where they are too many: all where it is not linked, what is
 -- allowed before an element that hands it on, or else what the sink pad takes.
@@ -42,11 +34,6 @@ pub data Allows (made : List Made) (links : List PadLink) : PadPlace → Option 
   unlinked : (source : PadPlace) → sink_behind links source ≡ None → Allows made links source (Some Any)
   through : (source sink : PadPlace) (m : Made) (behind : Option Caps) → sink_behind links source ≡ Some sink → slice_get made sink.element ≡ Some m → hands_on m.settings ≡ true → Allows made links (first_pad sink.element) behind → Allows made links source (allowed_before m.settings behind)
   taken : (source sink : PadPlace) (m : Made) → sink_behind links source ≡ Some sink → slice_get made sink.element ≡ Some m → hands_on m.settings ≡ false → Allows made links source (Some (template_of m.settings true))
-
--- what a converter is set to put out at most; others put out all caps
-abbrev pub allowed_of : Settings → Caps
-allowed_of (AudioConvert s) = s.allowed
-allowed_of _ = Any
 
 -- an element that is set to put out these caps, where it is a converter
 abbrev pub with_caps : Caps → Made → Made

@@ -1,5 +1,5 @@
 -- Which elements a line has, and why it has none.
-use Rattle.std.specs.Prelude.{◌≡◌, ◌⊎◌, ◌<◌, ◌≤◌, ◌==◌, ◌&&◌, ◌||◌, ℕ, Bool, true, false, not, List, ◌++◌, Option, None, Some, Result, Ok, Err, codes, length, map, filter, count_by, bytes_eq, is_some}
+use Rattle.std.specs.Prelude.{◌≡◌, ◌<◌, ◌≤◌, ◌==◌, ◌&&◌, ◌||◌, ℕ, Bool, true, false, not, List, ◌++◌, Option, None, Some, Result, Ok, Err, codes, length, map, filter, count_by, bytes_eq, is_some, slice_get}
 use Rattle.std.specs.Fmt.{decimal}
 use Rattle.std.specs.List.{list_any}
 use Rattle.std.specs.Option.{option_map_or}
@@ -64,9 +64,17 @@ same_location None other = false
 same_location (Some one) None = false
 same_location (Some one) (Some other) = bytes_eq one other
 
+-- items end at a sink
+abbrev pub is_sink : Settings → Bool
+is_sink settings = source_pads settings == 0
+
+-- what is asked of the settings of an element, and no where it is not there
+abbrev pub has : (Settings → Bool) → List Made → ℕ → Bool
+has asked made e = option_map_or (λ (m : Made). asked m.settings) (slice_get made e) false
+
 -- two elements that name one file, which one of them writes
 abbrev pub clash : Settings → Settings → Bool
-clash one other = same_location (location_of one) (location_of other) && (source_pads one == 0 || source_pads other == 0)
+clash one other = same_location (location_of one) (location_of other) && (is_sink one || is_sink other)
 
 abbrev pub is_location_taken : Settings → List Made → Bool
 is_location_taken settings before = list_any (λ (m : Made). clash m.settings settings) before
@@ -117,10 +125,6 @@ IsPlaced before text settings (Err OutOfMemory) = Unit {0}
 IsPlaced before text settings (Err (NoSuch _ _)) = ⊥
 IsPlaced before text settings (Err (BadValue _ _)) = ⊥
 IsPlaced before text settings (Err (LinkRefused _ _ _)) = ⊥
-
--- this fault, or memory is wanting
-abbrev pub OrMemory : BuildFault → BuildFault → Type 0
-OrMemory wanted fault = (fault ≡ wanted) ⊎ (fault ≡ OutOfMemory)
 
 -- the fault of an element of this name whose properties have this fault
 abbrev pub settings_fault : List ℕ → List ℕ → PropFault → BuildFault

@@ -7,3 +7,5 @@ pub mod Allowed
 pub mod Live
 pub mod Graph
 pub mod Laws
+pub mod GraphPlan
+pub mod LinkedOnce

@@ -1,8 +1,8 @@
 //! The caps that converters are allowed to put out: those that are taken behind them.
-ghost use Rattle.std.specs.Prelude.{◌≡◌, ◌<◌, ◌≤◌, ◌+◌, ℕ, All, None, Some, IfErr, IfSome, OnOk, length, slice_get, true};
+ghost use Rattle.std.specs.Prelude.{◌≡◌, ◌<◌, ◌≤◌, ◌+◌, ℕ, All, None, Some, IfErr, IfSome, OnOk, length, slice_get};
 ghost use Rattle.std.specs.Option.{option_map};
-ghost use Rattle.el_set.specs.Asked.{sink_pads, template_of};
-ghost use Rattle.graph_core.specs.Allowed.{Allows, Answers, AreAllowed, AreAllowedBelow, Falls, IsWideFault, allowed_before, checked, hands_on};
+ghost use Rattle.el_set.specs.Asked.{sink_pads};
+ghost use Rattle.graph_core.specs.Allowed.{Allows, Answers, AreAllowed, AreAllowedBelow, Falls, IsWideFault, allowed_before, checked};
 ghost use Rattle.graph_core.specs.Elements.{Made, all_made};
 ghost use Rattle.graph_core.specs.Ends.{pads_at};
 ghost use Rattle.graph_core.specs.Links.{AreOrdered, HasPads, all_links};
@@ -14,7 +14,7 @@ use crate::judging::sink_behind;
 use crate::links::Links;
 use crate::pad::{PadLink, PadPlace};
 use el_set::{Settings, template};
-use gst_caps::{Caps, CapsFault, OutOfMemory};
+use gst_caps::{Caps, CapsFault};
 use std::alloc::Global;
 
 /// Sets each converter to what its source pad is allowed, in the order of the line.
@@ -28,10 +28,7 @@ pub(crate) fn allow(alloc: Global, elements: &mut Elements, links: &Links) -> Re
     ensures fault { IfErr result (IsWideFault (all_made elements.old) (all_links links.now)) }
 {
     for element in 0..elements.count() {
-        match allow_one(alloc, elements, links, element) {
-            Ok(()) => {}
-            Err(fault) => return Err(fault),
-        }
+        allow_one(alloc, elements, links, element)?;
     }
     Ok(())
 }
@@ -47,7 +44,8 @@ fn allow_one(
     requires ordered { AreOrdered (all_made elements.old) links.now }
     requires pads { All (HasPads (all_made elements.old)) (all_links links.now) }
     ensures stay { OnOk result (checked (all_made elements.new) ≡ checked (all_made elements.old)) }
-    ensures allowed { OnOk result (AreAllowedBelow element (all_made elements.old) (all_links links.now) → AreAllowedBelow (element + 1) (all_made elements.new) (all_links links.now)) }
+    ensures allowed { OnOk result (AreAllowedBelow element (all_made elements.old) (all_links links.now)
+        → AreAllowedBelow (element + 1) (all_made elements.new) (all_links links.now)) }
     ensures fault { IfErr result (IsWideFault (all_made elements.old) (all_links links.now)) }
 {
     if !elements.settings(element).is_converter() {
@@ -70,7 +68,8 @@ pub(crate) fn allowed_caps(
     source: PadPlace,
 ) -> Result<Caps, CapsFault>
     requires { source.element < length (all_made elements.now) }
-    ensures { AreOrdered (all_made elements.now) links.now → All (HasPads (all_made elements.now)) (all_links links.now) → Answers (Allows (all_made elements.now) (all_links links.now) source) result }
+    ensures { AreOrdered (all_made elements.now) links.now → All (HasPads (all_made elements.now)) (all_links links.now)
+        → Answers (Allows (all_made elements.now) (all_links links.now) source) result }
 {
     let links = links.made.as_slice();
     allowed_within(alloc, elements, links, source, elements.count())
@@ -86,7 +85,8 @@ fn allowed_within(
     source: PadPlace,
     limit: u32,
 ) -> Result<Caps, CapsFault>
-    ensures { (rank : ℕ → ℕ) → All (HasPads (all_made elements.now)) links.now → Falls links.now rank → rank source.element < limit → Answers (Allows (all_made elements.now) links.now source) result }
+    ensures { (rank : ℕ → ℕ) → All (HasPads (all_made elements.now)) links.now → Falls links.now rank → rank source.element < limit
+        → Answers (Allows (all_made elements.now) links.now source) result }
 {
     if limit == 0 {
         return Ok(Caps::Any);
@@ -97,22 +97,21 @@ fn allowed_within(
     let Some(settings) = taker(elements, sink) else {
         return Ok(Caps::Any);
     };
-    if !hands_on(settings) {
-        return taken(alloc, settings, sink);
+    if !settings.hands_on() {
+        return Ok(template(alloc, settings, true, sink.pad)?);
     }
     let next = PadPlace {
         element: sink.element,
         pad: 0,
     };
-    match allowed_within(alloc, elements, links, next, limit - 1) {
-        Ok(behind) => allowed_before(alloc, settings, behind),
-        Err(fault) => Err(fault),
-    }
+    let behind = allowed_within(alloc, elements, links, next, limit - 1)?;
+    allowed_before(alloc, settings, behind)
 }
 
 /// What the element of a sink pad is set to, where the pad is there.
 fn taker(elements: &Elements, sink: PadPlace) -> Option<&Settings>
-    ensures there { IfSome result (λ settings. (option_map (λ (m : Made). m.settings) (slice_get (all_made elements.now) sink.element) ≡ Some settings.now) × (sink.pad < sink_pads settings.now)) }
+    ensures there { IfSome result (λ settings.
+        (option_map (λ (m : Made). m.settings) (slice_get (all_made elements.now) sink.element) ≡ Some settings.now) × (sink.pad < sink_pads settings.now)) }
     ensures none { result ≡ None → pads_at (all_made elements.now) Sink sink.element ≤ sink.pad }
 {
     if sink.element >= elements.count() {
@@ -125,33 +124,12 @@ fn taker(elements: &Elements, sink: PadPlace) -> Option<&Settings>
     Some(settings)
 }
 
-/// Whether an element takes what is allowed behind it.
-fn hands_on(settings: &Settings) -> bool
-    ensures { result ≡ hands_on settings.now }
-{
-    matches!(
-        settings,
-        Settings::Identity | Settings::CapsFilter(_) | Settings::Queue(_)
-    )
-}
-
-/// What a sink pad of an element takes.
-fn taken(alloc: Global, settings: &Settings, sink: PadPlace) -> Result<Caps, CapsFault>
-    requires { sink.pad < sink_pads settings.now }
-    ensures { Answers (λ answer. answer ≡ Some (template_of settings.now true)) result }
-{
-    match template(alloc, settings, true, sink.pad) {
-        Ok(caps) => Ok(caps),
-        Err(OutOfMemory) => Err(CapsFault::OutOfMemory),
-    }
-}
-
 /// What is allowed before an element, by what is allowed behind it.
 fn allowed_before(alloc: Global, settings: &Settings, behind: Caps) -> Result<Caps, CapsFault>
     ensures { Answers (λ answer. answer ≡ allowed_before settings.now (Some behind)) result }
 {
-    match settings {
-        Settings::CapsFilter(filter) => filter.caps.intersect(alloc, &behind),
-        _ => Ok(behind),
+    match settings.filter_caps() {
+        Some(caps) => caps.intersect(alloc, &behind),
+        None => Ok(behind),
     }
 }

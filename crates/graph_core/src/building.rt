@@ -20,18 +20,9 @@ pub fn build(alloc: Global, tree: &Tree) -> Result<Graph, BuildFault>
     ensures fault { IfErr result (IsFaultOrMemory tree.now) }
 {
     let chains = chains_of(alloc, tree)?;
-    let mut elements = match elements_of(alloc, chains.as_slice()) {
-        Ok(elements) => elements,
-        Err(fault) => return Err(fault),
-    };
-    let links = match links_of(alloc, &elements, chains.as_slice()) {
-        Ok(links) => links,
-        Err(fault) => return Err(fault),
-    };
-    match allow(alloc, &mut elements, &links) {
-        Ok(()) => {}
-        Err(fault) => return Err(fault),
-    }
+    let mut elements = elements_of(alloc, chains.as_slice())?;
+    let links = links_of(alloc, &elements, chains.as_slice())?;
+    allow(alloc, &mut elements, &links)?;
     let live = live_elements(alloc, &elements, links.made.as_slice())?;
     Ok(Graph {
         elements,

@@ -12,10 +12,7 @@ fn put_part<'a>(into: &mut Vec<&'a Chain>, part: &'a Part) -> Result<(), OutOfMe
     ensures { OnOk result (map (λ c. c.now) into.new.items ≡ map (λ c. c.now) into.old.items ++ part_chains part.now) }
 {
     match part {
-        Part::Chain(chain) => {
-            into.push(chain)?;
-            Ok(())
-        }
+        Part::Chain(chain) => Ok(into.push(chain)?),
         Part::Bin(tree) => put_parts(into, tree),
     }
 }

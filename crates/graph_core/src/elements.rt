@@ -19,9 +19,8 @@ pub(crate) struct Elements {
 }
 
 impl Elements {
-    ghost use Rattle.std.specs.Prelude.{◌<◌, ◌++◌, ◌∷◌, [], length, IfOk, OnOk, OnErr, slice_get, slice_set, position, string_bytes, Some, false};
+    ghost use Rattle.std.specs.Prelude.{◌<◌, ◌++◌, ◌∷◌, [], length, OnOk, OnErr, slice_get, slice_set, position, string_bytes, Some, false};
     ghost use Rattle.std.specs.Option.{option_map};
-    ghost use Rattle.std.specs.List.{list_any};
     ghost use Rattle.graph_core.specs.Allowed.{with_caps};
     ghost use Rattle.graph_core.specs.Elements.{Made, made_of, all_made, numbered, is_named, is_name_taken, is_location_taken, limit};
 

@@ -1,9 +1,9 @@
 //! The pads that the ends of a link take.
-ghost use Rattle.std.specs.Prelude.{◌≡◌, ◌<◌, ◌≤◌, ◌+◌, length, IfOk, Ok, Err, Some, None, MatchOption, slice_get, position, codes, List};
+ghost use Rattle.std.specs.Prelude.{◌≡◌, ◌<◌, ◌≤◌, ◌+◌, length, IfOk, Some, slice_get};
 ghost use Rattle.std.specs.Option.{option_map};
-ghost use Rattle.graph_core.specs.Asked.{declared_by, end_of, named};
-ghost use Rattle.graph_core.specs.Elements.{Made, all_made, is_named, OrMemory};
-ghost use Rattle.graph_core.specs.Ends.{pad_count, pad_text, missing, pad_number, pad_named, dotted, named_pad, taken_pad, IsPadOf, IsEndPad, name_at, pad_name, wish_of, PadOrMemory};
+ghost use Rattle.graph_core.specs.Asked.{declared_by, end_of};
+ghost use Rattle.graph_core.specs.Elements.{Made, all_made};
+ghost use Rattle.graph_core.specs.Ends.{pad_count, pad_text, missing, pad_number, pad_named, dotted, named_pad, IsPadOf, IsEndPad, pad_at, pad_name, wish_of, PadOrMemory};
 
 use crate::elements::Elements;
 use crate::fault::{BuildFault, What};
@@ -25,28 +25,11 @@ pub(crate) fn end_pad(
     ensures { PadOrMemory (IsEndPad (all_made elements.now) wanted (end_of number node.now)) result }
 {
     match node {
-        Node::Element { .. } => pad_of(alloc, elements, wanted, number, None),
-        Node::Caps(_) => pad_of(alloc, elements, wanted, number, None),
-        Node::Reference { name, pad } => {
-            referred_pad(alloc, elements, wanted, name.as_str(), pad.as_ref())
-        }
-    }
-}
-
-/// The pad that a link takes of the element of this name: the one of this name, or else the first of the wanted
-/// direction.
-fn referred_pad(
-    alloc: Global,
-    elements: &Elements,
-    wanted: Direction,
-    name: &str,
-    pad: Option<&Text>,
-) -> Result<Pad, BuildFault>
-    ensures { PadOrMemory (IsEndPad (all_made elements.now) wanted (named name.now (wish_of pad.entry))) result }
-{
-    match elements.find(name) {
-        Some(element) => pad_of(alloc, elements, wanted, element, pad),
-        None => Err(no_such(alloc, name, What::Element)),
+        Node::Element { .. } | Node::Caps(_) => pad_of(alloc, elements, wanted, number, None),
+        Node::Reference { name, pad } => match elements.find(name.as_str()) {
+            Some(element) => pad_of(alloc, elements, wanted, element, pad.as_ref()),
+            None => Err(no_such(alloc, name.as_str(), What::Element)?),
+        },
     }
 }
 
@@ -62,7 +45,7 @@ fn pad_of(
     ensures { PadOrMemory (IsPadOf (all_made elements.now) wanted element (wish_of pad.entry)) result }
 {
     if wanted.count(elements.settings(element)) == 0 {
-        return Err(no_such(alloc, elements.name(element), wanted.missing()));
+        return Err(no_such(alloc, elements.name(element), wanted.missing())?);
     }
     match pad {
         None => Ok(Pad {
@@ -85,7 +68,7 @@ fn named_pad(
 {
     match pad_named(elements.settings(element), element, name) {
         Some(pad) => Ok(pad),
-        None => Err(no_such_pad(alloc, elements.name(element), name)),
+        None => Err(no_such_pad(alloc, elements.name(element), name)?),
     }
 }
 
@@ -93,18 +76,9 @@ fn named_pad(
 fn pad_named(settings: &Settings, element: u32, name: &str) -> Option<Pad>
     ensures { result ≡ pad_named settings.now element name.now }
 {
-    match Direction::Source.pad_named(settings, name) {
-        Some(pad) => Some(Pad {
-            direction: Direction::Source,
-            place: PadPlace { element, pad },
-        }),
-        None => match Direction::Sink.pad_named(settings, name) {
-            Some(pad) => Some(Pad {
-                direction: Direction::Sink,
-                place: PadPlace { element, pad },
-            }),
-            None => None,
-        },
+    match Direction::Source.pad_named(settings, element, name) {
+        Some(pad) => Some(pad),
+        None => Direction::Sink.pad_named(settings, element, name),
     }
 }
 
@@ -139,49 +113,39 @@ impl Direction {
         }
     }
 
-    /// The number of the pad of this direction and this name.
-    fn pad_named(self, settings: &Settings, name: &str) -> Option<u32>
-        ensures { result ≡ pad_number self settings.now name.now }
+    /// The pad of this direction and this name of an element.
+    fn pad_named(self, settings: &Settings, element: u32, name: &str) -> Option<Pad>
+        ensures { result ≡ option_map (pad_at self element) (pad_number self settings.now name.now) }
     {
-        if self.count(settings) > 0 && name == self.name() {
-            Some(0)
-        } else {
-            None
+        if self.count(settings) == 0 || name != self.name() {
+            return None;
         }
+        Some(Pad {
+            direction: self,
+            place: PadPlace { element, pad: 0 },
+        })
     }
 }
 
 /// The fault of a line that names something of this name which is not there.
-pub(crate) fn no_such(alloc: Global, name: &str, what: What) -> BuildFault
-    ensures { OrMemory (BuildFault.NoSuch name.now what) result }
+pub(crate) fn no_such(alloc: Global, name: &str, what: What) -> Result<BuildFault, OutOfMemory>
+    ensures { IfOk result (λ fault. fault ≡ BuildFault.NoSuch name.now what) }
 {
-    match Text::from_str(alloc, name) {
-        Ok(name) => BuildFault::NoSuch { name, what },
-        Err(OutOfMemory) => BuildFault::OutOfMemory,
-    }
+    let name = Text::from_str(alloc, name)?;
+    Ok(BuildFault::NoSuch { name, what })
 }
 
 /// The fault of a line that names a pad which its element does not have.
-fn no_such_pad(alloc: Global, element: &str, pad: &str) -> BuildFault
-    ensures { OrMemory (BuildFault.NoSuch (dotted element.now pad.now) What.Pad) result }
-{
-    match dotted(alloc, element, pad) {
-        Ok(name) => BuildFault::NoSuch {
-            name,
-            what: What::Pad,
-        },
-        Err(OutOfMemory) => BuildFault::OutOfMemory,
-    }
-}
-
-/// The name of a pad as one text: its element, a dot and its own name.
-fn dotted(alloc: Global, element: &str, pad: &str) -> Result<Text, OutOfMemory>
-    ensures { IfOk result (λ name. name ≡ dotted element.now pad.now) }
+///
+/// The pad's name is told as one text: its element, a dot and its own name.
+fn no_such_pad(alloc: Global, element: &str, pad: &str) -> Result<BuildFault, OutOfMemory>
+    ensures { IfOk result (λ fault. fault ≡ BuildFault.NoSuch (dotted element.now pad.now) What.Pad) }
 {
     let mut name = Text::from_str(alloc, element)?;
     name.push_str(alloc, ".")?;
     name.push_str(alloc, pad)?;
-    Ok(name)
+    let what = What::Pad;
+    Ok(BuildFault::NoSuch { name, what })
 }
 
 /// The name of a pad.

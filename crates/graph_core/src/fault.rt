@@ -1,4 +1,8 @@
 //! Why a launch line has no graph.
+ghost use Rattle.std.specs.Prelude.{◌≡◌};
+ghost use Rattle.graph_core.specs.Allowed.{build_fault};
+ghost use Rattle.graph_core.specs.declared.fault.BuildFault.TheVariants.{OutOfMemory as NoMemory};
+
 use gst_caps::{CapsFault, OutOfMemory, PadName, Text};
 use pad_core::LinkReturn;
 use std::alloc::{AllocError, AllocFailed};
@@ -58,9 +62,6 @@ pub enum BuildFault {
 }
 
 impl From<OutOfMemory> for BuildFault {
-    ghost use Rattle.std.specs.Prelude.{◌≡◌};
-    ghost use Rattle.graph_core.specs.declared.fault.BuildFault.TheVariants.{OutOfMemory as NoMemory};
-
     ghost from_gives = { λ _ fault. fault ≡ NoMemory };
 
     fn from(_refused: OutOfMemory) -> BuildFault {
@@ -69,9 +70,6 @@ impl From<OutOfMemory> for BuildFault {
 }
 
 impl From<AllocError> for BuildFault {
-    ghost use Rattle.std.specs.Prelude.{◌≡◌};
-    ghost use Rattle.graph_core.specs.declared.fault.BuildFault.TheVariants.{OutOfMemory as NoMemory};
-
     ghost from_gives = { λ _ fault. fault ≡ NoMemory };
 
     fn from(_refused: AllocError) -> BuildFault {
@@ -80,9 +78,6 @@ impl From<AllocError> for BuildFault {
 }
 
 impl<T: Drop> From<AllocFailed<T>> for BuildFault {
-    ghost use Rattle.std.specs.Prelude.{◌≡◌};
-    ghost use Rattle.graph_core.specs.declared.fault.BuildFault.TheVariants.{OutOfMemory as NoMemory};
-
     ghost from_gives = { λ _ fault. fault ≡ NoMemory };
 
     fn from(_refused: AllocFailed<T>) -> BuildFault {
@@ -91,9 +86,6 @@ impl<T: Drop> From<AllocFailed<T>> for BuildFault {
 }
 
 impl From<CapsFault> for BuildFault {
-    ghost use Rattle.std.specs.Prelude.{◌≡◌};
-    ghost use Rattle.graph_core.specs.Allowed.{build_fault};
-
     ghost from_gives = { λ refused fault. fault ≡ build_fault refused };
 
     fn from(refused: CapsFault) -> BuildFault {

@@ -100,8 +100,7 @@ impl Graph {
             return Ok(None);
         }
         let direction = Direction::Source;
-        let name = pad_name(alloc, &self.elements, Pad { direction, place })?;
-        Ok(Some(name))
+        Ok(Some(pad_name(alloc, &self.elements, Pad { direction, place })?))
     }
 
     /// The name of a sink pad, where it is there.
@@ -113,8 +112,7 @@ impl Graph {
             return Ok(None);
         }
         let direction = Direction::Sink;
-        let name = pad_name(alloc, &self.elements, Pad { direction, place })?;
-        Ok(Some(name))
+        Ok(Some(pad_name(alloc, &self.elements, Pad { direction, place })?))
     }
 
     /// The links, in the order of the line.
@@ -168,9 +166,6 @@ impl Graph {
         ensures mark { result ≡ is_live self.now element }
         ensures live { IsSound self.now → IsTrue result ↔ Live (made self.now) (links self.now) element }
     {
-        match self.live.get(element as usize) {
-            Some(live) => *live,
-            None => false,
-        }
+        matches!(self.live.get(element as usize), Some(true))
     }
 }

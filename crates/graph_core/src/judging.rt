@@ -1,15 +1,15 @@
 //! Whether two pads can be linked.
-ghost use Rattle.std.specs.Prelude.{◌≡◌, ◌⊎◌, ◌<◌, ◌↔◌, length, IfOk, IsTrue, Err, None, true, false};
-ghost use Rattle.graph_core.specs.Elements.{all_made, OrMemory};
+ghost use Rattle.std.specs.Prelude.{◌≡◌, ◌<◌, ◌↔◌, length, IfOk, IsTrue, true, false};
+ghost use Rattle.graph_core.specs.Elements.{all_made};
 ghost use Rattle.graph_core.specs.Ends.{IsThere, pad_name};
-ghost use Rattle.graph_core.specs.Links.{is_same, sink_behind, source_before, is_linked, is_wrong, leaves, caps_at, HaveCommon, IsJudged};
+ghost use Rattle.graph_core.specs.Links.{is_same, sink_behind, source_before, is_linked, is_wrong, caps_at, HaveCommon, IsJudged};
 
 use crate::elements::Elements;
 use crate::ends::pad_name;
 use crate::fault::BuildFault;
 use crate::pad::{Direction, Pad, PadLink, PadPlace};
 use el_set::template;
-use gst_caps::{OutOfMemory, PadName};
+use gst_caps::OutOfMemory;
 use pad_core::LinkReturn;
 use std::alloc::Global;
 
@@ -51,18 +51,11 @@ fn is_linked(links: &[PadLink], left: Pad, right: Pad) -> bool
     sink_behind(links, left.place).is_some() || source_before(links, right.place).is_some()
 }
 
-/// Whether items leave an element by pads of this direction.
-fn leaves(direction: Direction) -> bool
-    ensures { result ≡ leaves direction }
-{
-    matches!(direction, Direction::Source)
-}
-
 /// Whether two pads are not a source pad and a sink pad.
 fn is_wrong(left: Pad, right: Pad) -> bool
     ensures { result ≡ is_wrong left right }
 {
-    !leaves(left.direction) || leaves(right.direction)
+    !matches!(left.direction, Direction::Source) || matches!(right.direction, Direction::Source)
 }
 
 /// Why two pads cannot be linked, but for a loop.
@@ -99,7 +92,8 @@ fn have_common(
     requires left { IsThere (all_made elements.now) left }
     requires right { IsThere (all_made elements.now) right }
     requires directions { is_wrong left right ≡ false }
-    ensures { IfOk result (λ common. IsTrue common ↔ HaveCommon (caps_at (all_made elements.now) false left.place.element) (caps_at (all_made elements.now) true right.place.element)) }
+    ensures { IfOk result (λ common. IsTrue common
+        ↔ HaveCommon (caps_at (all_made elements.now) false left.place.element) (caps_at (all_made elements.now) true right.place.element)) }
 {
     let source = elements.settings(left.place.element);
     let sink = elements.settings(right.place.element);
@@ -115,29 +109,12 @@ pub(crate) fn refused(
     left: Pad,
     right: Pad,
     ret: LinkReturn,
-) -> BuildFault
+) -> Result<BuildFault, OutOfMemory>
     requires left { left.place.element < length (all_made elements.now) }
     requires right { right.place.element < length (all_made elements.now) }
-    ensures { OrMemory (BuildFault.LinkRefused (pad_name (all_made elements.now) left) (pad_name (all_made elements.now) right) ret) result }
-{
-    match pad_names(alloc, elements, left, right) {
-        Ok((a, b)) => BuildFault::LinkRefused { a, b, ret },
-        Err(OutOfMemory) => BuildFault::OutOfMemory,
-    }
-}
-
-/// The names of two pads.
-fn pad_names(
-    alloc: Global,
-    elements: &Elements,
-    left: Pad,
-    right: Pad,
-) -> Result<(PadName, PadName), OutOfMemory>
-    requires left { left.place.element < length (all_made elements.now) }
-    requires right { right.place.element < length (all_made elements.now) }
-    ensures { IfOk result (λ names. (names.0 ≡ pad_name (all_made elements.now) left) × (names.1 ≡ pad_name (all_made elements.now) right)) }
+    ensures { IfOk result (λ fault. fault ≡ BuildFault.LinkRefused (pad_name (all_made elements.now) left) (pad_name (all_made elements.now) right) ret) }
 {
     let a = pad_name(alloc, elements, left)?;
     let b = pad_name(alloc, elements, right)?;
-    Ok((a, b))
+    Ok(BuildFault::LinkRefused { a, b, ret })
 }

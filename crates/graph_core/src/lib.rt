@@ -20,7 +20,7 @@ mod pad;
 pub use building::build;
 pub use fault::{BuildFault, What};
 pub use graph::Graph;
-pub use laws::one_answer;
+pub use laws::{one_answer, pads_are_linked_once};
 pub use pad::{PadLink, PadPlace};
 
 #[cfg(test)]

@@ -31,15 +31,13 @@ pub(crate) fn links_of(
     requires { length (elements_in (map (λ c. c.now) chains.now)) ≡ length (all_made elements.now) }
     ensures ordered { IfOk result (AreOrdered (all_made elements.now)) }
     ensures made { IfOk result (λ links. LinksCome (all_made elements.now) [] (links_in 0 (map (λ c. c.now) chains.now)) (Ok (all_links links))) }
-    ensures fault { IfErr result (λ fault. (fault ≡ BuildFault.OutOfMemory) ⊎ LinksCome (all_made elements.now) [] (links_in 0 (map (λ c. c.now) chains.now)) (Err fault)) }
+    ensures fault { IfErr result (λ fault. (fault ≡ BuildFault.OutOfMemory)
+        ⊎ LinksCome (all_made elements.now) [] (links_in 0 (map (λ c. c.now) chains.now)) (Err fault)) }
 {
     let mut links = unlinked(alloc, elements)?;
     let mut number = 0;
     for chain in chains {
-        match add_chain(alloc, elements, &mut links, chain.nodes.as_slice(), number) {
-            Ok(behind) => number = behind,
-            Err(fault) => return Err(fault),
-        }
+        number = add_chain(alloc, elements, &mut links, chain.nodes.as_slice(), number)?;
     }
     Ok(links)
 }
@@ -101,10 +99,7 @@ fn add_others(
     let mut left = node;
     let mut number = first;
     for right in others {
-        match add(alloc, elements, links, left, right, number) {
-            Ok(()) => {}
-            Err(fault) => return Err(fault),
-        }
+        add(alloc, elements, links, left, right, number)?;
         number += made_by(left);
         left = right;
     }
@@ -116,8 +111,7 @@ fn made_by(node: &Node) -> u32
     ensures { result ≡ length (declared_by node.now) }
 {
     match node {
-        Node::Element { .. } => 1,
-        Node::Caps(_) => 1,
+        Node::Element { .. } | Node::Caps(_) => 1,
         Node::Reference { .. } => 0,
     }
 }
@@ -135,23 +129,14 @@ fn add(
     requires right { behind number left.now + length (declared_by right.now) ≤ length (all_made elements.now) }
     requires ordered { AreOrdered (all_made elements.now) links.old }
     ensures ordered { OnOk result (AreOrdered (all_made elements.now) links.new) }
-    ensures made { OnOk result (LinksFollow (all_made elements.now) (all_links links.old) (one_link (end_of number left.now) (end_of (behind number left.now) right.now)) (all_links links.new)) }
-    ensures fault { IfErr result (λ fault. LinksStop (all_made elements.now) (all_links links.old) (one_link (end_of number left.now) (end_of (behind number left.now) right.now)) fault) }
+    ensures made { OnOk result (LinksFollow (all_made elements.now) (all_links links.old)
+        (one_link (end_of number left.now) (end_of (behind number left.now) right.now)) (all_links links.new)) }
+    ensures fault { IfErr result (λ fault. LinksStop (all_made elements.now) (all_links links.old)
+        (one_link (end_of number left.now) (end_of (behind number left.now) right.now)) fault) }
 {
-    let source = match end_pad(alloc, elements, Direction::Source, left, number) {
-        Ok(pad) => pad,
-        Err(fault) => return Err(fault),
-    };
-    let sink = match end_pad(
-        alloc,
-        elements,
-        Direction::Sink,
-        right,
-        number + made_by(left),
-    ) {
-        Ok(pad) => pad,
-        Err(fault) => return Err(fault),
-    };
+    let source = end_pad(alloc, elements, Direction::Source, left, number)?;
+    let behind = number + made_by(left);
+    let sink = end_pad(alloc, elements, Direction::Sink, right, behind)?;
     join(alloc, elements, links, source, sink)
 }
 
@@ -170,10 +155,9 @@ fn join(
     ensures made { OnOk result (Joins (all_made elements.now) (all_links links.old) left right (all_links links.new)) }
     ensures fault { IfErr result (IsUnjoined (all_made elements.now) (all_links links.old) left right) }
 {
-    match refusal(alloc, elements, links.made.as_slice(), left, right) {
-        Ok(None) => put(alloc, elements, links, left, right),
-        Ok(Some(ret)) => Err(refused(alloc, elements, left, right, ret)),
-        Err(OutOfMemory) => Err(BuildFault::OutOfMemory),
+    match refusal(alloc, elements, links.made.as_slice(), left, right)? {
+        None => put(alloc, elements, links, left, right),
+        Some(ret) => Err(refused(alloc, elements, left, right, ret)?),
     }
 }
 
@@ -197,19 +181,13 @@ fn put(
         source: left.place,
         sink: right.place,
     };
-    match links
+    let linking = links
         .order
-        .link(alloc, left.place.element, right.place.element)
-    {
-        Ok(Linking::Linked) => {}
-        Ok(Linking::Loops) => {
-            let name = elements.name(left.place.element);
-            return Err(no_such(alloc, name, What::Order));
-        }
-        Err(OutOfMemory) => return Err(BuildFault::OutOfMemory),
+        .link(alloc, left.place.element, right.place.element)?;
+    if let Linking::Loops = linking {
+        let name = elements.name(left.place.element);
+        return Err(no_such(alloc, name, What::Order)?);
     }
-    match links.made.push(link) {
-        Ok(()) => Ok(()),
-        Err(_) => Err(BuildFault::OutOfMemory),
-    }
+    links.made.push(link)?;
+    Ok(())
 }

@@ -1,5 +1,5 @@
 //! Which elements are live.
-ghost use Rattle.std.specs.Prelude.{◌≡◌, ◌<◌, ◌==◌, ℕ, All, true, false, length, map, IfOk, vec_len, List};
+ghost use Rattle.std.specs.Prelude.{◌≡◌, ◌<◌, ℕ, All, true, false, length, map, IfOk, vec_len, List};
 ghost use Rattle.graph_order.specs.Links.{IsLink};
 ghost use Rattle.graph_order.specs.Marks.{is_marked, unmarked, IsClosed};
 ghost use Rattle.graph_core.specs.Elements.{Made, all_made};
@@ -60,7 +60,8 @@ fn mark(live: &mut Vec<bool>, link: PadLink) -> bool
     requires from { link.source.element < vec_len live.old }
     requires to { link.sink.element < vec_len live.old }
     ensures size { vec_len live.new ≡ vec_len live.old }
-    ensures live { (made : List Made) (links : List LinkOf) → IsLink link.source.element link.sink.element (ways links) → AllLive made links live.old.items → AllLive made links live.new.items }
+    ensures live { (made : List Made) (links : List LinkOf) → IsLink link.source.element link.sink.element (ways links) → AllLive made links live.old.items
+        → AllLive made links live.new.items }
     ensures stay { (e : ℕ) → is_marked live.old.items e ≡ true → is_marked live.new.items e ≡ true }
     ensures same { result ≡ false → live.new.items ≡ live.old.items }
     ensures closed { result ≡ false → is_marked live.old.items link.source.element ≡ true → is_marked live.old.items link.sink.element ≡ true }

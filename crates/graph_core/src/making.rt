@@ -1,10 +1,10 @@
 //! Makes the elements of a line.
-ghost use Rattle.std.specs.Prelude.{◌≡◌, ◌⊎◌, ◌<◌, ◌++◌, ◌∷◌, [], not, is_some, length, map, IfOk, IfErr, OnOk, OnErr, Ok, Err, true, false, codes, Result, string_bytes, MatchOption};
+ghost use Rattle.std.specs.Prelude.{◌≡◌, ◌∷◌, [], is_some, map, IfOk, IfErr, OnOk, Ok, Err, true, codes, string_bytes, MatchOption};
 ghost use Rattle.gst_caps.specs.declared.name.Prop.{Prop as Property};
 ghost use Rattle.el_set.specs.Asked.{location_of};
 ghost use Rattle.el_set.specs.Checked.{IsAnswer};
 ghost use Rattle.graph_core.specs.Asked.{Declared, declared_by, chain_elements, elements_in};
-ghost use Rattle.graph_core.specs.Elements.{Made, all_made, name_of, is_name_taken, is_location_taken, limit, IsMade, IsUnmade, ElementsCome, IsPlaced, OrMemory, settings_fault, given_name, Follows, Stops};
+ghost use Rattle.graph_core.specs.Elements.{all_made, name_of, ElementsCome, IsPlaced, settings_fault, Follows, Stops};
 
 use crate::element::Element;
 use crate::elements::{Elements, LIMIT};
@@ -22,10 +22,7 @@ pub(crate) fn elements_of(alloc: Global, chains: &[&Chain]) -> Result<Elements, 
 {
     let mut elements = Elements::new(alloc);
     for chain in chains {
-        match add_chain(alloc, &mut elements, chain.nodes.as_slice()) {
-            Ok(()) => {}
-            Err(fault) => return Err(fault),
-        }
+        add_chain(alloc, &mut elements, chain.nodes.as_slice())?;
     }
     Ok(elements)
 }
@@ -36,10 +33,7 @@ fn add_chain(alloc: Global, elements: &mut Elements, nodes: &[Node]) -> Result<(
     ensures fault { IfErr result (λ fault. Stops (all_made elements.old) (chain_elements nodes.now) fault) }
 {
     for node in nodes {
-        match add_node(alloc, elements, node) {
-            Ok(()) => {}
-            Err(fault) => return Err(fault),
-        }
+        add_node(alloc, elements, node)?;
     }
     Ok(())
 }
@@ -61,10 +55,8 @@ fn add_filter(alloc: Global, elements: &mut Elements, caps: &Text) -> Result<(),
     ensures made { OnOk result (Follows (all_made elements.old) (declared_by (Node.Caps caps.now)) (all_made elements.new)) }
     ensures fault { IfErr result (λ fault. Stops (all_made elements.old) (declared_by (Node.Caps caps.now)) fault) }
 {
-    match caps_prop(alloc, caps) {
-        Ok(props) => add(alloc, elements, "capsfilter", &props),
-        Err(OutOfMemory) => Err(BuildFault::OutOfMemory),
-    }
+    let props = caps_prop(alloc, caps)?;
+    add(alloc, elements, "capsfilter", &props)
 }
 
 /// The properties of a capsfilter.
@@ -85,16 +77,14 @@ fn add(
     kind: &str,
     props: &List<Prop>,
 ) -> Result<(), BuildFault>
-    ensures made { OnOk result (Follows (all_made elements.old) ((let d : Declared = record { kind = kind.now; props = props.now } in d) ∷ []) (all_made elements.new)) }
+    ensures made { OnOk result (Follows (all_made elements.old)
+        ((let d : Declared = record { kind = kind.now; props = props.now } in d) ∷ []) (all_made elements.new)) }
     ensures fault { IfErr result (λ fault. Stops (all_made elements.old) ((let d : Declared = record { kind = kind.now; props = props.now } in d) ∷ []) fault) }
 {
-    let name = match name_for(alloc, elements, kind, props.as_slice()) {
-        Ok(name) => name,
-        Err(OutOfMemory) => return Err(BuildFault::OutOfMemory),
-    };
-    match settings_for(alloc, elements, name.as_str(), kind, props) {
+    let name = name_for(alloc, elements, kind, props.as_slice())?;
+    match check(alloc, kind, props) {
         Ok(settings) => put(alloc, elements, name, kind, props, settings),
-        Err(fault) => Err(fault),
+        Err(fault) => Err(named_fault(alloc, name.as_str(), kind, fault)?),
     }
 }
 
@@ -109,37 +99,18 @@ fn put(
 ) -> Result<(), BuildFault>
     requires name { string_bytes name ≡ name_of (all_made elements.old) (record { kind = kind.now; props = props.now }) }
     requires set { IsAnswer kind.now props.now (Ok settings) }
-    ensures made { OnOk result (Follows (all_made elements.old) ((let d : Declared = record { kind = kind.now; props = props.now } in d) ∷ []) (all_made elements.new)) }
+    ensures made { OnOk result (Follows (all_made elements.old)
+        ((let d : Declared = record { kind = kind.now; props = props.now } in d) ∷ []) (all_made elements.new)) }
     ensures fault { IfErr result (λ fault. Stops (all_made elements.old) ((let d : Declared = record { kind = kind.now; props = props.now } in d) ∷ []) fault) }
 {
-    match judge(alloc, elements, name.as_str(), &settings) {
-        Ok(()) => {}
-        Err(fault) => return Err(fault),
-    }
-    let element = match named_element(alloc, kind, props.as_slice(), settings) {
-        Ok(element) => element,
-        Err(OutOfMemory) => return Err(BuildFault::OutOfMemory),
-    };
-    match elements.push(name, element) {
-        Ok(()) => Ok(()),
-        Err(OutOfMemory) => Err(BuildFault::OutOfMemory),
-    }
-}
-
-/// An element of a kind.
-fn named_element(
-    alloc: Global,
-    kind: &str,
-    props: &[Prop],
-    settings: Settings,
-) -> Result<Element, OutOfMemory>
-    ensures { IfOk result (λ element. (element.kind ≡ kind.now) × (element.is_numbered ≡ not (is_some (given_name props.now))) × (element.settings ≡ settings)) }
-{
-    Ok(Element {
+    judge(alloc, elements, name.as_str(), &settings)?;
+    let element = Element {
         kind: Text::from_str(alloc, kind)?,
-        is_numbered: given_name(props).is_none(),
+        is_numbered: given_name(props.as_slice()).is_none(),
         settings,
-    })
+    };
+    elements.push(name, element)?;
+    Ok(())
 }
 
 /// Whether an element of this name and these settings has a place behind those before it.
@@ -152,10 +123,11 @@ fn judge(
     ensures { IsPlaced (all_made before.now) name.now settings.now result }
 {
     if before.find(name).is_some() {
-        return Err(name_taken(alloc, name));
+        let name = Text::from_str(alloc, name)?;
+        return Err(BuildFault::NameTaken { name });
     }
     if before.is_location_taken(settings) {
-        return Err(location_taken(alloc, settings));
+        return Err(location_taken(alloc, settings)?);
     }
     if before.count() >= LIMIT {
         return Err(BuildFault::TooMany { count: 257 });
@@ -163,58 +135,19 @@ fn judge(
     Ok(())
 }
 
-/// The fault of an element whose name is taken.
-fn name_taken(alloc: Global, name: &str) -> BuildFault
-    ensures { OrMemory (BuildFault.NameTaken name.now) result }
-{
-    match Text::from_str(alloc, name) {
-        Ok(name) => BuildFault::NameTaken { name },
-        Err(OutOfMemory) => BuildFault::OutOfMemory,
-    }
-}
-
 /// The fault of an element whose location is taken.
-fn location_taken(alloc: Global, settings: &Settings) -> BuildFault
+fn location_taken(alloc: Global, settings: &Settings) -> Result<BuildFault, OutOfMemory>
     requires { is_some (location_of settings.now) ≡ true }
-    ensures { MatchOption (location_of settings.now) ⊥ (λ location. OrMemory (BuildFault.LocationTaken location) result) }
+    ensures { IfOk result (λ fault. MatchOption (location_of settings.now) ⊥ (λ location. fault ≡ BuildFault.LocationTaken location)) }
 {
     let Some(location) = settings.location() else {
         unreachable!()
     };
-    match Text::from_str(alloc, location) {
-        Ok(location) => BuildFault::LocationTaken { location },
-        Err(OutOfMemory) => BuildFault::OutOfMemory,
-    }
-}
-
-/// What an element of this name is set to.
-fn settings_for(
-    alloc: Global,
-    before: &Elements,
-    name: &str,
-    kind: &str,
-    props: &List<Prop>,
-) -> Result<Settings, BuildFault>
-    requires { name.now ≡ name_of (all_made before.now) (record { kind = kind.now; props = props.now }) }
-    ensures set { IfOk result (λ settings. IsAnswer kind.now props.now (Ok settings)) }
-    ensures fault { IfErr result (λ fault. IsUnmade (all_made before.now) (record { kind = kind.now; props = props.now }) fault) }
-{
-    match check(alloc, kind, props) {
-        Ok(settings) => Ok(settings),
-        Err(fault) => Err(fault_for(alloc, name, kind, fault)),
-    }
+    let location = Text::from_str(alloc, location)?;
+    Ok(BuildFault::LocationTaken { location })
 }
 
 /// The fault of an element of this name whose properties have this fault.
-fn fault_for(alloc: Global, name: &str, kind: &str, fault: PropFault) -> BuildFault
-    ensures { OrMemory (settings_fault name.now kind.now fault) result }
-{
-    match named_fault(alloc, name, kind, fault) {
-        Ok(fault) => fault,
-        Err(OutOfMemory) => BuildFault::OutOfMemory,
-    }
-}
-
 fn named_fault(
     alloc: Global,
     name: &str,

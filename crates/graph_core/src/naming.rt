@@ -1,7 +1,6 @@
 //! The names of elements.
-ghost use Rattle.std.specs.Prelude.{◌≡◌, ◌==◌, ◌++◌, not, filter, IfOk, OnOk, string_bytes};
+ghost use Rattle.std.specs.Prelude.{◌≡◌, ◌++◌, IfOk, OnOk, string_bytes};
 ghost use Rattle.std.specs.Option.{option_map};
-ghost use Rattle.graph_core.specs.Asked.{Declared};
 ghost use Rattle.graph_core.specs.Elements.{all_made, given_name, made_name, name_of, without_dashes};
 
 use crate::elements::Elements;
@@ -52,16 +51,10 @@ fn put_without_dashes(into: &mut String, text: &str) -> Result<(), OutOfMemory>
     ensures { OnOk result (string_bytes into.new ≡ string_bytes into.old ++ without_dashes text.now) }
 {
     let mut rest = text;
-    loop {
-        match rest.split_once('-') {
-            Some((before, after)) => {
-                into.push_str(before)?;
-                rest = after;
-            }
-            None => {
-                into.push_str(rest)?;
-                return Ok(());
-            }
-        }
+    while let Some((before, after)) = rest.split_once('-') {
+        into.push_str(before)?;
+        rest = after;
     }
+    into.push_str(rest)?;
+    Ok(())
 }

@@ -1,7 +1,6 @@
 //! Rows of lines and their graphs.
 use super::*;
 use caps_text::print;
-use el_set::Settings;
 use gst_caps::{PadName, Text};
 use launch_text::parse;
 use std::alloc::Global;
@@ -118,11 +117,11 @@ fn put_allowed(alloc: Global, into: &mut String, graph: &Graph, element: u32) ->
     if graph.source_pads(element) == 0 || element >= graph.count() {
         return Ok(());
     }
-    let Settings::AudioConvert(settings) = graph.settings(element) else {
+    let Some(caps) = graph.settings(element).allowed() else {
         return Ok(());
     };
     let allowed = graph.allowed(alloc, PadPlace { element, pad: 0 })?;
-    let set = print(alloc, &settings.allowed)?;
+    let set = print(alloc, caps)?;
     let found = print(alloc, &allowed)?;
     write!(into, "[{}]", set.as_str())?;
     if set.as_str() != found.as_str() {

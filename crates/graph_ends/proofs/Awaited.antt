@@ -28,9 +28,9 @@ use Rattle.graph_core.specs.Links.{source_before}
 use Rattle.graph_core.specs.declared.graph.Graph.{Graph}
 use Rattle.graph_core.specs.declared.pad.PadLink.{PadLink}
 use Rattle.graph_core.specs.declared.pad.PadPlace.{PadPlace}
-use Rattle.graph_model.specs.Asked.{first_pad}
-use Rattle.graph_model.specs.GraphPlan.{line_plan, pad_id, rule_for, sink_at, sink_count, spans_from}
-use Rattle.graph_model.proofs.Links.{given_calls}
+use Rattle.graph_core.specs.Allowed.{first_pad}
+use Rattle.graph_core.specs.GraphPlan.{line_plan, pad_id, rule_for, sink_at, sink_count, spans_from}
+use Rattle.graph_core.proofs.NumberedPads.{given_calls}
 use Rattle.graph_moment.specs.Pads.{IsThere, at_pads}
 use Rattle.graph_moment.specs.Plans.{moment_plan, tight_rule}
 use Rattle.graph_moment.proofs.Wholes.{pads_have_numbers}

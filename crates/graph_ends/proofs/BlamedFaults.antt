@@ -14,18 +14,19 @@ use Rattle.lane_core.specs.declared.ends.Outlet as outlets
 use Rattle.net_model.specs.Moment.{Behavior, Moment, behavior_at}
 use Rattle.net_model.specs.Split.{AreEmpty}
 use Rattle.net_model.specs.Step.{Leads}
-use Rattle.element_traits.specs.declared.element.TaskElement as elements
-use Rattle.element_traits.specs.declared.refusal.Refusal.{Refusal}
-use Rattle.element_traits.specs.declared.refusal.Refusal.TheVariants.{Fault, Unwritten}
-use Rattle.element_traits.specs.declared.source.TaskSource as sources
-use Rattle.element_traits.specs.Refuses.{RefusesBy}
+use Rattle.net_model.specs.declared.element.TaskElement as elements
+use Rattle.net_model.specs.declared.refusal.Refusal.{Refusal}
+use Rattle.net_model.specs.declared.refusal.Refusal.TheVariants.{Fault, Unwritten}
+use Rattle.net_model.specs.declared.refusal.Unread.{Unread}
+use Rattle.net_model.specs.declared.source.TaskSource as sources
+use Rattle.net_model.specs.Refuses.{RefusesBy}
 use Rattle.el_set.specs.Asked.{sink_pads}
 use Rattle.el_set.specs.Denoted.{response_of}
 use Rattle.graph_core.specs.Graph.{made as made_in, links as links_in}
 use Rattle.graph_core.specs.declared.graph.Graph.{Graph}
-use Rattle.graph_bags.specs.Links.{has, has_inlets}
+use Rattle.graph_bags.specs.Links.{has, has_inlets, is_source, source_count}
 use Rattle.graph_bags.specs.declared.bag.Bag.{Bag}
-use Rattle.graph_model.specs.GraphPlan.{owner_of}
+use Rattle.graph_core.specs.GraphPlan.{owner_of}
 use Rattle.graph_moment.proofs.Sources.{owner_is}
 use Rattle.task_elements.specs.declared.element.StreamElement.{StreamElement}
 use Rattle.task_parts.specs.Fault.{refusal_fault}
@@ -34,16 +35,19 @@ use Rattle.task_parts.specs.declared.fault.TaskFault.TheVariants.{NotLinked, Too
 use Rattle.task_parts.specs.declared.head.Head.{Head}
 use Rattle.task_parts.specs.declared.head.Head.TheVariants.{Inlets, Source}
 use Rattle.net_task.specs.declared.task.Task.{Task}
-use Rattle.net_task.specs.Failed.{FailsAs, GaveUp, IsOfHead, Left, Origin, Refuses, at_head, by_inlet, by_pad, by_source}
+use Rattle.net_task.specs.Short.{CrossedShort}
+use Rattle.net_task.specs.Failed.{FailsAs, GaveUp, IsOfHead, IsUnread, Left, Origin, Refuses, at_head, by_inlet, by_pad, by_source}
 use Rattle.net_task.specs.Frame.{TaskFrame, frame_of, head_frame}
 use Rattle.graph_ends.specs.Blamed.{FaultsAreBlamed, IsBlamed}
 use Rattle.graph_ends.specs.Owed.{IsAwaited}
 use Rattle.graph_ends.specs.Runs.{RunsAt, crossed_in}
+use Rattle.graph_ends.specs.Short.{UnreadAt}
 use Rattle.graph_ends.specs.Written.{AreStreams}
-use Rattle.graph_ends.proofs.BlamedFrames.{bag_of, fed_there}
+use Rattle.graph_ends.proofs.BlamedFrames.{bag_of, fed_there, source_is}
 use Rattle.graph_ends.proofs.BlamedLimits.{limited}
 use Rattle.graph_ends.proofs.BlamedLinks.{IsBehind, awaited, took_all, unlinked}
-use Rattle.graph_ends.proofs.BlamedPads.{is_first, waits_at_pad, went_is}
+use Rattle.graph_ends.proofs.BlamedPads.{is_first, next_at, waits_at_pad, went_is}
+use Rattle.graph_ends.proofs.CutShort.{cut_short}
 use Rattle.graph_ends.proofs.BlamedQueues.{does, queue_passes, queue_refuses}
 
 not_both : true ≡ false → ⊥
@@ -121,9 +125,20 @@ module _ {S K I O L : Type 0} (k : sinks.Ghosts K) {s : sources.Ghosts S} {e : e
             IsBlamed.no_memory
         go false none = refused_at n pad x refusal origin left.behind left.lost none left.gave_up left.of_head why.why
 
+    -- a source that can't be read is one of the graph
+    unread_short : (n : ℕ) (why : Unread) (head head' : Head S I O s) → before.head ≡ head → IsUnread head head' n why → CrossedShort m n why
+        → UnreadAt contents (made_in graph) (crossed_in graph m) n why
+    unread_short n why (Source old) (Source new) is unread_at short =
+        let b = bag_of (made_in graph) (links_in graph) bags tasks at.bags_are at.have place before here in
+        let t = source_is (made_in graph) (links_in graph) bags place (frame_of before) at.sound.pads at.bags_are b old.number (s.file old.source) _ (ap (head_frame o) is) in
+        let own = subst (λ (j : ℕ). (has is_source (made_in graph) j ≡ true) × (source_count (made_in graph) j ≡ 1)) unread_at.0 t in
+        cut_short contents graph m at.plan at.net.cells n own.0 own.1 why short
+    unread_short n why (Source old) (Inlets new) is unread_at short = absurd unread_at
+    unread_short n why (Inlets old) head' is unread_at short = absurd unread_at
+
     pub blamed : (origin : Origin) (fault : TaskFault) → FailsAs i o m before.head after.head after.parts.items origin fault → IsBlamed contents graph m fault
     blamed origin fault (FailsAs.refused own n pad x refusal left why) = refused n pad x refusal origin left why
-    blamed origin fault (FailsAs.unread n why tied is) = IsBlamed.unread n why
+    blamed origin fault (FailsAs.unread n why tied is short) = IsBlamed.unread n why (unread_short n why before.head after.head refl is short)
     blamed origin fault (FailsAs.not_linked p x rest tied waits buffer nowhere) =
         let pad = waits_at_pad contents graph m at.sound at.plan at.net.cells p x rest waits in
         subst (λ (q : ℕ). IsBlamed contents graph m (NotLinked q (length (m.history p)))) (sym (is_first (made_in graph) p pad).first)
@@ -135,7 +150,8 @@ module _ {S K I O L : Type 0} (k : sinks.Ghosts K) {s : sources.Ghosts S} {e : e
         let went = went_is graph m at.sound p pad in
         let owner : m.plan.owner p ≡ owner_of p = subst (λ (pl : Plan). pl.owner p ≡ owner_of p) (sym at.plan) (owner_is (made_in graph) p pad) in
         subst (λ (n : ℕ). IsBlamed contents graph m (TooLong n 1099511627776 1)) (sym owner)
-        (IsBlamed.full (owner_of p) (let same = ap length went in omega (arith, same, few, limit)))
+        (IsBlamed.full (owner_of p) (let same = ap length went in omega (arith, same, few, limit))
+        (x, next_at contents graph m at.sound at.plan at.net.cells p x rest waits))
     blamed origin fault (FailsAs.no_memory own tied) = IsBlamed.no_memory
 
 pub faults_are_blamed : {S K I O L : Type 0} (k : sinks.Ghosts K) (s : sources.Ghosts S) (e : elements.Ghosts (StreamElement K)) (i : inlets.Ghosts I L O)

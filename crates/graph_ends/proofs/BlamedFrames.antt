@@ -6,24 +6,24 @@ use Rattle.std.proofs.lemmas.Option.{slice_get_within}
 use Rattle.flow_model.specs.Account.{IsMember}
 use Rattle.lane_core.specs.declared.ends.Inlet as inlets
 use Rattle.lane_core.specs.declared.ends.Outlet as outlets
-use Rattle.element_traits.specs.declared.element.TaskElement as elements
-use Rattle.element_traits.specs.declared.source.TaskSource as sources
+use Rattle.net_model.specs.declared.element.TaskElement as elements
+use Rattle.net_model.specs.declared.source.TaskSource as sources
 use Rattle.el_set.specs.Asked.{source_pads}
+use Rattle.el_set.proofs.Roles.{one_source}
 use Rattle.graph_core.specs.Elements.{Made}
 use Rattle.graph_core.specs.Links.{HasPads, sink_behind}
 use Rattle.graph_core.specs.declared.pad.PadLink.{PadLink}
 use Rattle.graph_core.specs.declared.pad.PadPlace.{PadPlace}
 use Rattle.graph_bags.specs.Bags.{AreBags, IsBag, IsHead, head_cells, number_of, numbers}
-use Rattle.graph_bags.specs.Links.{has, has_inlets, link_to, source_count}
+use Rattle.graph_bags.specs.Links.{has, has_inlets, is_source, link_to, source_count}
 use Rattle.graph_bags.specs.declared.bag.Bag.{Bag}
 use Rattle.graph_bags.specs.declared.bag.BagElement.{BagElement}
 use Rattle.graph_bags.specs.declared.bag.BagHead.{BagHead}
 use Rattle.graph_bags.specs.declared.bag.BagHead.TheVariants.{Inlets, Source}
 use Rattle.graph_bags.specs.declared.bag.BagLink.TheVariants.{Element, Lane}
 use Rattle.graph_bags.proofs.Apart.{bags_are_there}
-use Rattle.graph_model.specs.Asked.{first_pad}
-use Rattle.graph_model.specs.GraphPlan.{pad_id}
-use Rattle.graph_model.proofs.Orders.{one_source}
+use Rattle.graph_core.specs.Allowed.{first_pad}
+use Rattle.graph_core.specs.GraphPlan.{pad_id}
 use Rattle.task_pads.specs.Behind.{nowhere}
 use Rattle.net_task.specs.declared.task.Task.{Task}
 use Rattle.net_task.specs.Frame.{HeadFrame, IsWire, PartFrame, TaskFrame, Wire, by_inlets, by_source, frame_of, head_wire, of_head, of_part}
@@ -137,6 +137,15 @@ module _ (made : List Made) (links : List PadLink) (bags : List Bag) (place : �
           (member_there cell.element (subst (λ (h : BagHead). IsMember cell.element (map number_of (b.bag.elements.items ++ head_cells h))) (sym same)
           (member_last b.bag.elements.items cell)))
       go (Inlets k) same of = absurd of
+
+  -- it is a source of the graph, with one source pad
+  pub source_is : (n : ℕ) (file : Option (Option (List ℕ))) (wire : Wire) → frame.head ≡ by_source n file wire
+      → (has is_source made n ≡ true) × (source_count made n ≡ 1)
+  source_is n file wire is = go b.bag.head (subst (IsHeadFrame made links b.bag.head) is b.of.head) b.is.head
+    where
+      go : (own : BagHead) → IsHeadFrame made links own (by_source n file wire) → IsHead made own → (has is_source made n ≡ true) × (source_count made n ≡ 1)
+      go (Source cell) of head = subst (λ (j : ℕ). (has is_source made j ≡ true) × (source_count made j ≡ 1)) (sym of.0) (head, of.1)
+      go (Inlets k) of head = absurd of
 
   -- the element at the head of a task that is fed from inlets is one that has them
   pub fed_there : (n rows : ℕ) → frame.head ≡ by_inlets n rows → has has_inlets made n ≡ true

@@ -13,6 +13,7 @@ use Rattle.net_model.specs.Standing.{LinksAt, LinksNowhere}
 use Rattle.net_model.specs.Step.{Leads, LeadsNowhere}
 use Rattle.net_model.proofs.Splits.{split_all}
 use Rattle.el_set.specs.Asked.{sink_pads, source_pads}
+use Rattle.el_set.proofs.Roles.{one_sink}
 use Rattle.graph_core.specs.Elements.{Made}
 use Rattle.graph_core.specs.Graph.{IsSound, made as made_in, links as links_in}
 use Rattle.graph_core.specs.Links.{sink_behind, source_before}
@@ -20,15 +21,15 @@ use Rattle.graph_core.specs.declared.graph.Graph.{Graph}
 use Rattle.graph_core.specs.declared.pad.PadPlace.{PadPlace}
 use Rattle.graph_bags.specs.Links.{place_at}
 use Rattle.graph_bags.proofs.Trees.{sink_there}
-use Rattle.graph_model.specs.Once.{AreOnce}
-use Rattle.graph_model.specs.Asked.{first_pad}
-use Rattle.graph_model.specs.GraphPlan.{owner_of, pad_id, sink_count}
+use Rattle.graph_core.specs.LinkedOnce.{AreOnce}
+use Rattle.graph_core.specs.Allowed.{first_pad}
+use Rattle.graph_core.specs.GraphPlan.{owner_of, pad_id, sink_count}
 use Rattle.graph_moment.specs.Pads.{IsThere, is_pad, source_count}
 use Rattle.graph_moment.specs.Plans.{moment_plan}
 use Rattle.graph_moment.proofs.Leading.{links_lead, unlinked_lead}
 use Rattle.graph_ends.specs.Owed.{IsAwaited, WantsLink, came_to}
 use Rattle.graph_ends.specs.Runs.{crossed_in}
-use Rattle.graph_ends.proofs.BlamedPads.{given_is, is_first, next_at, one_sink, waits_at_pad}
+use Rattle.graph_ends.proofs.BlamedPads.{given_is, is_first, next_at, waits_at_pad}
 
 -- a pad that leads to a sink pad of an element does not lead to none of them
 leads_one : (p i : ℕ) (sss : List (List Span)) → LinksAt p i sss → LinksNowhere p sss → ⊥

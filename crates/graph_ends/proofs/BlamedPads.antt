@@ -21,40 +21,22 @@ use Rattle.net_model.proofs.Splits.{split_begins}
 use Rattle.el_set.specs.Asked.{sink_pads, source_pads}
 use Rattle.el_set.specs.Denoted.{response_of}
 use Rattle.el_set.specs.Made.{list_of}
-use Rattle.el_set.specs.declared.settings.Settings.{Settings}
-use Rattle.el_set.specs.declared.settings.Settings.TheVariants.{FileSrc, RampTestSrc, Identity, AudioConvert, Law, RawAudioParse, AudioBufferSplit, WavParse, WavEnc, CapsFilter, Queue, FileSink, FakeSink}
+use Rattle.el_set.proofs.Roles.{one_sink, one_source}
 use Rattle.task_elements.specs.Stands.{owes_nothing}
 use Rattle.graph_core.specs.Elements.{Made}
 use Rattle.graph_core.specs.Graph.{IsSound, made as made_in, links as links_in}
 use Rattle.graph_core.specs.Links.{source_before}
 use Rattle.graph_core.specs.declared.graph.Graph.{Graph}
 use Rattle.graph_core.specs.declared.pad.PadPlace.{PadPlace}
-use Rattle.graph_model.specs.Asked.{first_pad}
-use Rattle.graph_model.specs.GraphPlan.{before_it, line_plan, most_pads, owner_of, pad_id, sink_at, sink_count, spans_from}
-use Rattle.graph_model.proofs.Orders.{one_source}
-use Rattle.graph_model.proofs.Links.{given_calls}
+use Rattle.graph_core.specs.Allowed.{first_pad}
+use Rattle.graph_core.specs.GraphPlan.{before_it, line_plan, most_pads, owner_of, pad_id, sink_at, sink_count, spans_from}
+use Rattle.graph_core.proofs.NumberedPads.{given_calls}
 use Rattle.graph_moment.specs.Pads.{at_pads, is_pad, pad_owner, source_count}
 use Rattle.graph_moment.specs.Plans.{moment_plan, tight_rule}
 use Rattle.graph_moment.proofs.Rules.{rules_go_on}
 use Rattle.graph_moment.proofs.Sources.{linked_there, owner_is, place_is_pad}
 use Rattle.graph_ends.specs.Owed.{IsNext, by_pads, came_to, went_from}
 use Rattle.graph_ends.specs.Runs.{crossed_in}
-
--- an element has one sink pad at the most
-pub one_sink : (s : Settings) → sink_pads s ≤ 1
-one_sink (FileSrc s) = omega arith
-one_sink (RampTestSrc s) = omega arith
-one_sink Identity = omega arith
-one_sink (AudioConvert s) = omega arith
-one_sink (Law kind) = omega arith
-one_sink (RawAudioParse info) = omega arith
-one_sink (AudioBufferSplit s) = omega arith
-one_sink WavParse = omega arith
-one_sink WavEnc = omega arith
-one_sink (CapsFilter s) = omega arith
-one_sink (Queue s) = omega arith
-one_sink (FileSink s) = omega arith
-one_sink FakeSink = omega arith
 
 not_there : (front rest : List Item) (x : Item) → [] ≡ front ++ x ∷ rest → ⊥
 not_there [] rest x e = cc

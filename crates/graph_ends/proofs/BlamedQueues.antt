@@ -11,14 +11,14 @@ use Rattle.flow_model.specs.Feeding.{IsFaultOf, next_owed}
 use Rattle.flow_model.specs.Item.{Item, Ev, Eos}
 use Rattle.flow_model.specs.Rule.{Fault, Rule, all_called, only, passes, unfed}
 use Rattle.net_model.specs.Moment.{Answers, Behavior, Moment, behavior_at}
-use Rattle.element_traits.specs.declared.element.TaskElement as elements
-use Rattle.element_traits.specs.declared.refusal.Refusal.{Refusal}
-use Rattle.element_traits.specs.declared.refusal.Refusal.TheVariants as refusals
-use Rattle.element_traits.specs.Failures.{IsWriteCause}
-use Rattle.element_traits.specs.Refuses.{RefusesBy}
+use Rattle.net_model.specs.declared.element.TaskElement as elements
+use Rattle.net_model.specs.declared.refusal.Refusal.{Refusal}
+use Rattle.net_model.specs.declared.refusal.Refusal.TheVariants as refusals
+use Rattle.net_model.specs.Failures.{IsWriteCause}
+use Rattle.net_model.specs.Refuses.{RefusesBy}
 use Rattle.el_set.specs.Asked.{is_queue, sink_pads}
 use Rattle.el_set.specs.declared.settings.Settings.{Settings}
-use Rattle.el_set.specs.declared.settings.Settings.TheVariants.{FileSrc, RampTestSrc, Identity, AudioConvert, Law, RawAudioParse, AudioBufferSplit, WavParse, WavEnc, CapsFilter, Queue, FileSink, FakeSink}
+use Rattle.el_set.proofs.Roles.{queue_no_filter, queue_passes as answers_passing, queue_sinks}
 use Rattle.task_elements.specs.Made.{behavior_of}
 use Rattle.task_elements.specs.Stands.{StreamStands, behaves, faults_in, takes_all}
 use Rattle.task_elements.specs.declared.element.StreamElement.{StreamElement}
@@ -33,34 +33,10 @@ use Rattle.graph_ends.specs.Written.{AreStreams}
 
 -- what a queue does, and that it has a sink pad
 queue_does : (s : Settings) → is_queue s ≡ true → behavior_of s ≡ behaves passes
-queue_does (FileSrc s) is = absurd cc
-queue_does (RampTestSrc s) is = absurd cc
-queue_does Identity is = absurd cc
-queue_does (AudioConvert s) is = absurd cc
-queue_does (Law kind) is = absurd cc
-queue_does (RawAudioParse info) is = absurd cc
-queue_does (AudioBufferSplit s) is = absurd cc
-queue_does WavParse is = absurd cc
-queue_does WavEnc is = absurd cc
-queue_does (CapsFilter s) is = absurd cc
-queue_does (Queue s) is = refl
-queue_does (FileSink s) is = absurd cc
-queue_does FakeSink is = absurd cc
+queue_does s is = rw (queue_no_filter s is, is, answers_passing s is) refl
 
 queue_takes : (s : Settings) → is_queue s ≡ true → eqb (sink_pads s) 0 ≡ false
-queue_takes (FileSrc s) is = absurd cc
-queue_takes (RampTestSrc s) is = absurd cc
-queue_takes Identity is = refl
-queue_takes (AudioConvert s) is = refl
-queue_takes (Law kind) is = refl
-queue_takes (RawAudioParse info) is = refl
-queue_takes (AudioBufferSplit s) is = refl
-queue_takes WavParse is = refl
-queue_takes WavEnc is = refl
-queue_takes (CapsFilter s) is = refl
-queue_takes (Queue s) is = refl
-queue_takes (FileSink s) is = refl
-queue_takes FakeSink is = refl
+queue_takes s is = ap (λ (n : ℕ). eqb n 0) (queue_sinks s is)
 
 -- what an element with a sink pad does at a moment of the run
 pub does : (contents : ℕ → List ℕ) (graph : Graph) (m : Moment) → m.plan ≡ moment_plan contents graph → m.answers ≡ moment_answers graph

@@ -9,18 +9,15 @@ use Rattle.flow_model.specs.Item.{Item}
 use Rattle.flow_model.specs.Link.{Span}
 use Rattle.net_model.specs.Standing.{links_from, LinksAt}
 use Rattle.net_model.specs.Step.{Leads}
-use Rattle.el_set.specs.Asked.{sink_pads, source_pads}
-use Rattle.el_set.specs.declared.settings.Settings.{Settings}
-use Rattle.el_set.specs.declared.settings.Settings.TheVariants.{FileSrc, RampTestSrc, Identity, AudioConvert, Law, RawAudioParse, AudioBufferSplit, WavParse}
-use Rattle.el_set.specs.declared.settings.Settings.TheVariants.{WavEnc, CapsFilter, Queue, FileSink, FakeSink}
+use Rattle.el_set.specs.Asked.{source_pads}
+use Rattle.el_set.proofs.Roles.{one_sink, one_source}
 use Rattle.graph_core.specs.Elements.{Made}
 use Rattle.graph_core.specs.Graph.{IsSound, made as made_in, links as links_in}
 use Rattle.graph_core.specs.Links.{source_before}
 use Rattle.graph_core.specs.declared.graph.Graph.{Graph}
 use Rattle.graph_core.specs.declared.pad.PadPlace.{PadPlace}
-use Rattle.graph_model.specs.Asked.{first_pad}
-use Rattle.graph_model.specs.GraphPlan.{before_it, line_plan, pad_id, sink_at, sink_count, spans_from}
-use Rattle.graph_model.proofs.Orders.{one_source}
+use Rattle.graph_core.specs.Allowed.{first_pad}
+use Rattle.graph_core.specs.GraphPlan.{before_it, line_plan, pad_id, sink_at, sink_count, spans_from}
 use Rattle.graph_moment.specs.Pads.{IsThere, at_pads}
 use Rattle.graph_moment.specs.Plans.{moment_plan}
 use Rattle.graph_moment.proofs.Sources.{linked_there, place_is_pad}
@@ -31,21 +28,6 @@ none_some e = cc
 
 not_true : false ≡ true → ⊥
 not_true e = cc
-
-one_sink : (s : Settings) → sink_pads s ≤ 1
-one_sink (FileSrc s) = omega arith
-one_sink (RampTestSrc s) = omega arith
-one_sink Identity = omega arith
-one_sink (AudioConvert s) = omega arith
-one_sink (Law kind) = omega arith
-one_sink (RawAudioParse info) = omega arith
-one_sink (AudioBufferSplit s) = omega arith
-one_sink WavParse = omega arith
-one_sink WavEnc = omega arith
-one_sink (CapsFilter s) = omega arith
-one_sink (Queue s) = omega arith
-one_sink (FileSink s) = omega arith
-one_sink FakeSink = omega arith
 
 few_sinks : (found : Option Made) → sink_count found ≤ 1
 few_sinks None = omega arith

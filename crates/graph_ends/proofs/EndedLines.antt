@@ -2,7 +2,7 @@
 use Rattle.std.proofs.Common.{◌≡◌, ◌<◌, ◌≤◌, ◌⊎◌, ◌||◌, ℕ, Bool, true, false, eqb, if◌then◌else◌, List, Option, None, Some, length, map, refl, sym, ap}
 use Rattle.std.proofs.Common.{◌∙◌, subst, inl, inr, arith}
 use Rattle.std.specs.Prelude.{nat_lt, slice_get}
-use Rattle.std.specs.Option.{option_map_or}
+use Rattle.std.specs.Option.{option_map, option_map_or}
 use Rattle.std.proofs.lemmas.Bool.Decides.{eqb_tells}
 use Rattle.std.proofs.lemmas.Option.{same_Some, slice_get_within}
 use Rattle.flow_model.specs.Account.{IsMember}
@@ -10,20 +10,19 @@ use Rattle.lane_core.specs.Lane.{Lane}
 use Rattle.lane_core.specs.declared.ends.Inlet as inlets
 use Rattle.lane_core.specs.declared.ends.Outlet as outlets
 use Rattle.net_model.specs.Moment.{Moment}
-use Rattle.element_traits.specs.declared.element.TaskElement as elements
-use Rattle.element_traits.specs.declared.source.TaskSource as sources
-use Rattle.el_set.specs.Asked.{sink_pads}
+use Rattle.net_model.specs.declared.element.TaskElement as elements
+use Rattle.net_model.specs.declared.source.TaskSource as sources
+use Rattle.el_set.specs.Asked.{limits_of}
 use Rattle.el_set.specs.declared.settings.QueueSettings.{QueueSettings}
 use Rattle.el_set.specs.declared.settings.Settings.{Settings}
-use Rattle.el_set.specs.declared.settings.Settings.TheVariants.{FileSrc, RampTestSrc, Identity, AudioConvert, Law, RawAudioParse, AudioBufferSplit}
-use Rattle.el_set.specs.declared.settings.Settings.TheVariants.{WavParse, WavEnc, CapsFilter, Queue, FileSink, FakeSink}
+use Rattle.el_set.proofs.Roles.{queue_sinks}
 use Rattle.graph_core.specs.Elements.{Made}
 use Rattle.graph_core.specs.Graph.{made as made_in, links as links_in}
 use Rattle.graph_core.specs.Links.{sink_behind}
 use Rattle.graph_core.specs.declared.graph.Graph.{Graph}
 use Rattle.graph_core.specs.declared.pad.PadLink.{PadLink}
 use Rattle.graph_core.specs.declared.pad.PadPlace.{PadPlace}
-use Rattle.graph_model.specs.GraphPlan.{sink_count}
+use Rattle.graph_core.specs.GraphPlan.{sink_count}
 use Rattle.graph_bags.specs.Bags.{IsHead, head_cells, head_of, number_of, numbers}
 use Rattle.graph_bags.specs.Links.{has, has_inlets, link_to, place_at}
 use Rattle.graph_bags.specs.declared.bag.Bag.{Bag}
@@ -59,19 +58,11 @@ room_some s = go (eqb_tells s.buffers 0) (nat_lt most_held s.buffers)
     go (inr f) b = rw f.0 (by_most b f.1)
 
 room_by_some : (s : Settings) (n : ℕ) → room_by s ≡ Some n → 1 ≤ n
-room_by_some (Queue s) n is = subst (λ (k : ℕ). 1 ≤ k) (same_Some _ _ is) (room_some s)
-room_by_some (FileSrc s) n is = absurd (cc)
-room_by_some (RampTestSrc s) n is = absurd (cc)
-room_by_some Identity n is = absurd (cc)
-room_by_some (AudioConvert s) n is = absurd (cc)
-room_by_some (Law kind) n is = absurd (cc)
-room_by_some (RawAudioParse info) n is = absurd (cc)
-room_by_some (AudioBufferSplit s) n is = absurd (cc)
-room_by_some WavParse n is = absurd (cc)
-room_by_some WavEnc n is = absurd (cc)
-room_by_some (CapsFilter s) n is = absurd (cc)
-room_by_some (FileSink s) n is = absurd (cc)
-room_by_some FakeSink n is = absurd (cc)
+room_by_some s n is = by (limits_of s) is
+  where
+    by : (limits : Option QueueSettings) → option_map room_of limits ≡ Some n → 1 ≤ n
+    by None is = absurd (cc)
+    by (Some own) is = subst (λ (k : ℕ). 1 ≤ k) (same_Some _ _ is) (room_some own)
 
 lane_some : (b : Bool) (found : Option Made) (n : ℕ) → (if b then option_map_or (λ (m : Made). room_by m.settings) found None else None) ≡ Some n → 1 ≤ n
 lane_some true None n is = absurd (cc)
@@ -79,21 +70,6 @@ lane_some true (Some m) n is = room_by_some m.settings n is
 lane_some false found n is = absurd (cc)
 
 -- an element that is fed from inlets has one sink pad
-queue_sinks : (s : Settings) → has_inlets s ≡ true → sink_pads s ≡ 1
-queue_sinks (Queue s) is = refl
-queue_sinks (FileSrc s) is = absurd (cc)
-queue_sinks (RampTestSrc s) is = absurd (cc)
-queue_sinks Identity is = refl
-queue_sinks (AudioConvert s) is = refl
-queue_sinks (Law kind) is = refl
-queue_sinks (RawAudioParse info) is = refl
-queue_sinks (AudioBufferSplit s) is = refl
-queue_sinks WavParse is = refl
-queue_sinks WavEnc is = refl
-queue_sinks (CapsFilter s) is = refl
-queue_sinks (FileSink s) is = refl
-queue_sinks FakeSink is = refl
-
 inlets_sinks : (found : Option Made) → option_map_or (λ (m : Made). has_inlets m.settings) found false ≡ true → sink_count found ≡ 1
 inlets_sinks None is = absurd (cc)
 inlets_sinks (Some m) is = queue_sinks m.settings is

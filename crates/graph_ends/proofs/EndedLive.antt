@@ -18,10 +18,10 @@ use Rattle.graph_core.specs.declared.fault.BuildFault.{BuildFault}
 use Rattle.graph_core.specs.declared.graph.Graph.{Graph}
 use Rattle.graph_core.specs.declared.pad.PadLink.{PadLink}
 use Rattle.graph_core.specs.declared.pad.PadPlace.{PadPlace}
-use Rattle.graph_model.specs.Once.{AreOnce}
+use Rattle.graph_core.specs.LinkedOnce.{AreOnce}
 use Rattle.launch_text.specs.declared.tree.Tree.{Tree}
-use Rattle.graph_model.specs.GraphPlan.{IsIn, sink_at, sink_count}
-use Rattle.graph_model.proofs.Orders.{pads_at_link}
+use Rattle.graph_core.specs.GraphPlan.{IsIn, sink_at, sink_count}
+use Rattle.graph_core.proofs.Orders.{pads_at_link}
 use Rattle.graph_moment.proofs.Sources.{linked_there, sinks_are}
 use Rattle.graph_bags.specs.Bags.{AreBags, numbers}
 use Rattle.graph_bags.specs.Laws.{StandsIn}

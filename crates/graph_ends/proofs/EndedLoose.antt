@@ -15,17 +15,17 @@ use Rattle.net_model.specs.Moment.{Moment, CellStands}
 use Rattle.net_model.specs.Opening.{no_calls}
 use Rattle.net_model.specs.Split.{AreEmpty}
 use Rattle.net_model.proofs.Splits.{split_all}
-use Rattle.element_traits.specs.declared.element.TaskElement as elements
-use Rattle.element_traits.specs.declared.source.TaskSource as sources
+use Rattle.net_model.specs.declared.element.TaskElement as elements
+use Rattle.net_model.specs.declared.source.TaskSource as sources
 use Rattle.graph_core.specs.Graph.{IsSound, made as made_in, links as links_in}
 use Rattle.graph_core.specs.Links.{source_before}
 use Rattle.graph_core.specs.declared.graph.Graph.{Graph}
 use Rattle.graph_core.specs.declared.pad.PadLink.{PadLink}
 use Rattle.graph_core.specs.declared.pad.PadPlace.{PadPlace}
-use Rattle.graph_model.specs.Once.{AreOnce}
-use Rattle.graph_model.specs.Asked.{first_pad}
-use Rattle.graph_model.specs.GraphPlan.{line_plan, pad_id, sink_at, sink_count, spans_from}
-use Rattle.graph_model.proofs.Links.{owner_at}
+use Rattle.graph_core.specs.LinkedOnce.{AreOnce}
+use Rattle.graph_core.specs.Allowed.{first_pad}
+use Rattle.graph_core.specs.GraphPlan.{line_plan, pad_id, sink_at, sink_count, spans_from}
+use Rattle.graph_core.proofs.NumberedPads.{owner_at}
 use Rattle.graph_moment.specs.Pads.{is_pad, pad_owner}
 use Rattle.graph_moment.specs.Plans.{moment_plan}
 use Rattle.graph_moment.specs.Laws.{given_by}

@@ -22,20 +22,20 @@ use Rattle.net_model.specs.Moment.{Answers, Moment, behavior_at}
 use Rattle.net_model.specs.Over.{list_ended, AllEnded, FromStart, IsLive, PassesEos}
 use Rattle.net_model.proofs.Overs.{eos_comes}
 use Rattle.net_model.proofs.Splits.{split_all}
-use Rattle.element_traits.specs.declared.element.TaskElement as elements
-use Rattle.element_traits.specs.declared.source.TaskSource as sources
+use Rattle.net_model.specs.declared.element.TaskElement as elements
+use Rattle.net_model.specs.declared.source.TaskSource as sources
 use Rattle.el_set.specs.Asked.{sink_pads, source_pads}
 use Rattle.el_set.specs.Denoted.{response_of}
 use Rattle.el_src.specs.Gave.{has_eos}
-use Rattle.graph_core.specs.Elements.{Made}
+use Rattle.graph_core.specs.Elements.{Made, is_sink}
 use Rattle.graph_core.specs.Graph.{IsGraph, is_live, made as made_in, links as links_in, forward as forward_in}
 use Rattle.graph_core.specs.Links.{source_before}
 use Rattle.graph_core.specs.Live.{Live}
 use Rattle.graph_core.specs.declared.graph.Graph.{Graph}
 use Rattle.graph_core.specs.declared.pad.PadPlace.{PadPlace}
-use Rattle.graph_model.specs.Asked.{first_pad, is_sink}
+use Rattle.graph_core.specs.Allowed.{first_pad}
 use Rattle.launch_text.specs.declared.tree.Tree.{Tree}
-use Rattle.graph_model.specs.GraphPlan.{before_it, line_plan, pad_id, sink_at, sink_count, sinks_in, spans_from}
+use Rattle.graph_core.specs.GraphPlan.{before_it, line_plan, pad_id, sink_at, sink_count, sinks_in, spans_from}
 use Rattle.graph_moment.specs.Pads.{at_pads, is_pad, pad_owner, source_count}
 use Rattle.graph_moment.specs.Plans.{answers_for, moment_plan, tight_rule}
 use Rattle.graph_moment.proofs.Sources.{in_order, linked_there, moment_goes, place_is_pad}

@@ -9,7 +9,7 @@ use Rattle.flow_model.specs.Rule.{Rule, Response, Fault, unfed, responded, singl
 use Rattle.flow_model.specs.Section.{section}
 use Rattle.net_model.specs.Moment.{Answers, Behavior}
 use Rattle.net_model.specs.Over.{list_ended, AllEnded}
-use Rattle.element_traits.specs.Takes.{InSection}
+use Rattle.net_model.specs.Takes.{InSection}
 use Rattle.el_set.specs.Asked.{sink_pads, source_pads}
 use Rattle.el_set.specs.Denoted.{response_of}
 use Rattle.el_set.specs.Made.{list_of}

@@ -7,10 +7,10 @@ use Rattle.flow_model.specs.Eval.{Plan}
 use Rattle.net_model.specs.Whole.{OwesInOrder}
 use Rattle.net_model.proofs.Wholes.{begins_of}
 use Rattle.el_set.specs.Asked.{source_pads}
-use Rattle.graph_core.specs.Elements.{Made}
+use Rattle.graph_core.specs.Elements.{Made, has}
 use Rattle.graph_core.specs.Graph.{made as made_in}
-use Rattle.graph_model.specs.Asked.{first_pad, has}
-use Rattle.graph_model.specs.GraphPlan.{owner_of, pad_id}
+use Rattle.graph_core.specs.Allowed.{first_pad}
+use Rattle.graph_core.specs.GraphPlan.{owner_of, pad_id}
 use Rattle.graph_moment.specs.Pads.{is_pad}
 use Rattle.graph_moment.proofs.Rules.{rules_go_on}
 use Rattle.graph_moment.proofs.Sources.{place_is_pad}

@@ -19,5 +19,6 @@ mod BlamedFrames
 mod BlamedTold
 mod BlamedQueues
 mod BlamedLimits
+mod CutShort
 mod BlamedFaults
 pub mod EndedLines

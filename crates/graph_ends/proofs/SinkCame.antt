@@ -11,19 +11,15 @@ use Rattle.flow_model.specs.Eval.{Plan}
 use Rattle.net_model.specs.Moment.{Moment, CellStands}
 use Rattle.net_model.specs.Split.{AreEmpty}
 use Rattle.net_model.proofs.Splits.{split_all}
-use Rattle.el_set.specs.Asked.{is_queue}
-use Rattle.el_set.specs.declared.settings.QueueSettings.{QueueSettings}
-use Rattle.el_set.specs.declared.settings.Settings.{Settings}
-use Rattle.el_set.specs.declared.settings.Settings.TheVariants.{FileSrc, RampTestSrc, Identity, AudioConvert, Law, RawAudioParse, AudioBufferSplit, WavParse}
-use Rattle.el_set.specs.declared.settings.Settings.TheVariants.{WavEnc, CapsFilter, Queue, FileSink, FakeSink}
+use Rattle.el_set.proofs.Roles.{queue_passes, queue_sinks, queue_sources}
 use Rattle.task_elements.specs.Stands.{owes_nothing}
 use Rattle.graph_core.specs.Elements.{Made}
 use Rattle.graph_core.specs.Graph.{IsSound, made as made_in, links as links_in}
 use Rattle.graph_core.specs.Links.{source_before}
 use Rattle.graph_core.specs.declared.graph.Graph.{Graph}
-use Rattle.graph_model.specs.Asked.{first_pad}
-use Rattle.graph_model.specs.GraphPlan.{before_it, line_plan, sink_at, sink_count, spans_from}
-use Rattle.graph_model.proofs.Links.{given_calls}
+use Rattle.graph_core.specs.Allowed.{first_pad}
+use Rattle.graph_core.specs.GraphPlan.{before_it, line_plan, sink_at, sink_count, spans_from}
+use Rattle.graph_core.proofs.NumberedPads.{given_calls}
 use Rattle.graph_moment.specs.Pads.{at_pads}
 use Rattle.graph_moment.specs.Plans.{moment_plan, tight_rule}
 use Rattle.graph_bags.specs.Links.{has, has_inlets}
@@ -34,26 +30,11 @@ use Rattle.graph_ends.proofs.SinkFiles.{feeds_same}
 not_so : false ≡ true → ⊥
 not_so e = cc
 
-queue_is : (s : Settings) → is_queue s ≡ true → (q : QueueSettings) × (s ≡ Queue q)
-queue_is (FileSrc s) is = absurd (not_so is)
-queue_is (RampTestSrc s) is = absurd (not_so is)
-queue_is Identity is = absurd (not_so is)
-queue_is (AudioConvert s) is = absurd (not_so is)
-queue_is (Law kind) is = absurd (not_so is)
-queue_is (RawAudioParse info) is = absurd (not_so is)
-queue_is (AudioBufferSplit s) is = absurd (not_so is)
-queue_is WavParse is = absurd (not_so is)
-queue_is WavEnc is = absurd (not_so is)
-queue_is (CapsFilter s) is = absurd (not_so is)
-queue_is (Queue s) is = (s, refl)
-queue_is (FileSink s) is = absurd (not_so is)
-queue_is FakeSink is = absurd (not_so is)
-
 -- an element that is fed from inlets passes all
 pub queue_rule : (found : Option Made) (e : ℕ) (content : List ℕ) → option_map_or (λ (m : Made). has_inlets m.settings) found false ≡ true
     → tight_rule found e content ≡ single passes
 queue_rule None e content is = absurd (not_so is)
-queue_rule (Some m) e content is = let q = queue_is m.settings is in rw q.1 refl
+queue_rule (Some m) e content is = rw (queue_sources m.settings is, queue_sinks m.settings is, queue_passes m.settings is) refl
 
 one_item : Ev Eos ∷ [] ≡ [] → ⊥
 one_item e = cc

@@ -8,7 +8,7 @@ use Rattle.flow_model.specs.Item.{Item, body_of, is_flush_stop}
 use Rattle.flow_model.specs.Call.{Call, feeds, items}
 use Rattle.flow_model.specs.SinkBytes.{Disk, disk_after, empty_disk, next_disk, rendered, sink_bytes}
 use Rattle.net_model.specs.Moment.{Behavior}
-use Rattle.element_traits.specs.Takes.{InSection, flush_stops}
+use Rattle.net_model.specs.Takes.{InSection, flush_stops}
 use Rattle.el_set.specs.declared.sink.SinkElement.{SinkElement}
 use Rattle.el_set.specs.declared.sink.SinkElement.TheVariants as sink_kinds
 use Rattle.el_sink.specs.declared.file_sink.FileSink.{FileSink}

@@ -12,11 +12,11 @@ use Rattle.lane_core.specs.Lane.{Lane}
 use Rattle.lane_core.specs.declared.ends.Inlet as inlets
 use Rattle.lane_core.specs.declared.ends.Outlet as outlets
 use Rattle.net_model.specs.Moment.{Behavior, Moment, behavior_at}
-use Rattle.element_traits.specs.declared.element.TaskElement as elements
-use Rattle.element_traits.specs.declared.source.TaskSource as sources
-use Rattle.element_traits.specs.declared.refusal.Refusal.{Refusal}
-use Rattle.element_traits.specs.declared.refusal.Refusal.TheVariants.{Fault, Unwritten}
-use Rattle.element_traits.specs.Refuses.{RefusesBy}
+use Rattle.net_model.specs.declared.element.TaskElement as elements
+use Rattle.net_model.specs.declared.source.TaskSource as sources
+use Rattle.net_model.specs.declared.refusal.Refusal.{Refusal}
+use Rattle.net_model.specs.declared.refusal.Refusal.TheVariants.{Fault, Unwritten}
+use Rattle.net_model.specs.Refuses.{RefusesBy}
 use Rattle.graph_core.specs.Graph.{made as made_in, links as links_in}
 use Rattle.graph_core.specs.declared.graph.Graph.{Graph}
 use Rattle.graph_bags.specs.Links.{has, has_inlets}
@@ -181,7 +181,7 @@ module _ {S K I O L : Type 0} (k : sinks.Ghosts K) (s : sources.Ghosts S) (e : e
         → StandsBehind k contents graph m fault after
     fails_so origin fault (FailsAs.refused at n pad x refusal left refuses) =
         gave_up n pad x refusal refuses.why at left.behind left.lost left.gave_up left.of_head left.tied
-    fails_so origin fault (FailsAs.unread n why tied is) = all_stand fault after tied
+    fails_so origin fault (FailsAs.unread n why tied is short) = all_stand fault after tied
     fails_so origin fault (FailsAs.not_linked p x rest tied waits buffer nowhere) = all_stand fault after tied
     fails_so origin fault (FailsAs.at_limit p x rest tied waits many) = all_stand fault after tied
     fails_so origin fault (FailsAs.no_memory at tied) = all_stand fault after tied

@@ -6,12 +6,12 @@ use Rattle.lane_core.specs.Lane.{Lane}
 use Rattle.lane_core.specs.declared.ends.Inlet as inlets
 use Rattle.lane_core.specs.declared.ends.Outlet as outlets
 use Rattle.net_model.specs.Moment.{Moment}
-use Rattle.element_traits.specs.declared.element.TaskElement as elements
-use Rattle.element_traits.specs.Failures.{IsWriteCause}
-use Rattle.element_traits.specs.declared.refusal.Refusal.{Refusal}
-use Rattle.element_traits.specs.declared.refusal.Refusal.TheVariants.{Fault, Unwritten}
-use Rattle.element_traits.specs.declared.refusal.Unread.{Unread}
-use Rattle.element_traits.specs.declared.source.TaskSource as sources
+use Rattle.net_model.specs.declared.element.TaskElement as elements
+use Rattle.net_model.specs.Failures.{IsWriteCause}
+use Rattle.net_model.specs.declared.refusal.Refusal.{Refusal}
+use Rattle.net_model.specs.declared.refusal.Refusal.TheVariants.{Fault, Unwritten}
+use Rattle.net_model.specs.declared.refusal.Unread.{Unread}
+use Rattle.net_model.specs.declared.source.TaskSource as sources
 use Rattle.gst_outside.specs.declared.sink.Sink as sinks
 use Rattle.graph_core.specs.Elements.{Made}
 use Rattle.graph_core.specs.Graph.{IsSound, made as made_in, links as links_in}
@@ -20,8 +20,8 @@ use Rattle.graph_core.specs.declared.graph.Graph.{Graph}
 use Rattle.graph_core.specs.declared.pad.PadLink.{PadLink}
 use Rattle.graph_bags.specs.Bags.{AreBags}
 use Rattle.graph_bags.specs.declared.bag.Bag.{Bag}
-use Rattle.graph_model.specs.Asked.{first_pad}
-use Rattle.graph_model.specs.GraphPlan.{pad_id}
+use Rattle.graph_core.specs.Allowed.{first_pad}
+use Rattle.graph_core.specs.GraphPlan.{pad_id}
 use Rattle.task_elements.specs.declared.element.StreamElement.{StreamElement}
 use Rattle.task_parts.specs.Fault.{refusal_fault, unread_fault}
 use Rattle.task_parts.specs.declared.fault.TaskFault.{TaskFault}
@@ -31,23 +31,26 @@ use Rattle.net_task.specs.declared.task.Task.{Task}
 use Rattle.net_task.specs.Failed.{Failed, IsCause, IsUnread}
 use Rattle.net_task.specs.Frame.{frame_of}
 use Rattle.graph_ends.specs.Frames.{HaveBags}
-use Rattle.graph_ends.specs.Owed.{IsAwaited, Refuses, WantsLink, went_from}
+use Rattle.graph_ends.specs.Owed.{IsAwaited, IsOwedMore, Refuses, WantsLink, went_from}
 use Rattle.graph_ends.specs.Runs.{RunsAt, crossed_in}
+use Rattle.graph_ends.specs.Short.{UnreadAt}
 use Rattle.graph_ends.specs.Written.{AreStreams}
 
--- The rule of an element has this fault at its next item; or a write of that failed; or a source could not be read; or a buffer
--- is owed to a pad without a link; or 2^40 items crossed a pad; or memory was wanting.
+-- The rule of an element has this fault at its next item; or a write of that failed; or a source could not be read, and what
+-- crossed its pad ends short; or a buffer
+-- is owed to a pad without a link; or another item is owed to a pad that 2^40 items crossed; or memory was wanting.
 pub data IsBlamed (contents : ℕ → List ℕ) (graph : Graph) (m : Moment) : TaskFault → Type 0 where
   refused : (d : ℕ) (element : Made) (own : ElementFault) → slice_get (made_in graph) d ≡ Some element
       → Refuses contents (made_in graph) (links_in graph) (crossed_in graph m) d element.settings own
       → IsBlamed contents graph m (refusal_fault d (Fault own))
   unwritten : (d before after : ℕ) (x : Item) → IsAwaited contents (made_in graph) (links_in graph) (crossed_in graph m) d x
       → IsBlamed contents graph m (refusal_fault d (Unwritten before after))
-  unread : (n : ℕ) (why : Unread) → IsBlamed contents graph m (unread_fault n why)
+  unread : (n : ℕ) (why : Unread) → UnreadAt contents (made_in graph) (crossed_in graph m) n why → IsBlamed contents graph m (unread_fault n why)
   not_linked : (e place : ℕ) → length (went_from (crossed_in graph m) e) ≡ place
       → WantsLink contents (made_in graph) (links_in graph) (crossed_in graph m) e
       → IsBlamed contents graph m (NotLinked (pad_id (first_pad e)) place)
-  full : (e : ℕ) → length (went_from (crossed_in graph m) e) ≡ 1099511627776 → IsBlamed contents graph m (TooLong e 1099511627776 1)
+  full : (e : ℕ) → length (went_from (crossed_in graph m) e) ≡ 1099511627776
+      → IsOwedMore contents (made_in graph) (links_in graph) (crossed_in graph m) e → IsBlamed contents graph m (TooLong e 1099511627776 1)
   no_memory : IsBlamed contents graph m OutOfMemory
 
 module _ {S K I O L : Type 0} (k : sinks.Ghosts K) (s : sources.Ghosts S) (e : elements.Ghosts (StreamElement K)) (i : inlets.Ghosts I L O)

@@ -1,4 +1,5 @@
 pub mod Owed
+pub mod Short
 pub mod Frames
 pub mod Runs
 pub mod Ended

@@ -9,19 +9,19 @@ use Rattle.flow_model.specs.Item.{Item, body_of, is_buffer}
 use Rattle.flow_model.specs.Prefix.{IsPrefix}
 use Rattle.flow_model.specs.Rule.{owed_for}
 use Rattle.flow_model.specs.SinkBytes.{disk_after, sink_bytes}
-use Rattle.el_set.specs.Asked.{sink_pads}
+use Rattle.el_set.specs.Asked.{sink_pads, writes}
 use Rattle.el_set.specs.Denoted.{response_of}
 use Rattle.el_set.specs.Made.{keeps_flushed, list_of}
 use Rattle.el_set.specs.declared.settings.Settings.{Settings}
 use Rattle.el_src.specs.Gave.{has_eos}
-use Rattle.graph_core.specs.Elements.{Made}
+use Rattle.graph_core.specs.Elements.{Made, is_sink}
 use Rattle.graph_core.specs.Graph.{is_live, made as made_in, links as links_in}
 use Rattle.graph_core.specs.Links.{sink_behind, source_before}
 use Rattle.graph_core.specs.declared.graph.Graph.{Graph}
 use Rattle.graph_core.specs.declared.pad.PadLink.{PadLink}
-use Rattle.graph_files.specs.Ends.{has, writes}
-use Rattle.graph_model.specs.Asked.{first_pad, is_sink}
-use Rattle.graph_model.specs.GraphPlan.{before_it, graph_plan, owner_of, pad_id}
+use Rattle.graph_files.specs.Ends.{has}
+use Rattle.graph_core.specs.Allowed.{first_pad}
+use Rattle.graph_core.specs.GraphPlan.{before_it, graph_plan, owner_of, pad_id}
 
 -- what crossed the pad before an element
 abbrev pub came_to : List PadLink → (ℕ → List Item) → ℕ → List Item
@@ -47,6 +47,10 @@ pub record IsNext (contents : ℕ → List ℕ) (made : List Made) (links : List
   pub element : Made
   pub at : slice_get made e ≡ Some element
   pub next : IsPrefix (went_from h e ++ item ∷ []) (owed_by contents links h e element.settings)
+
+-- another item is owed to an element's source pad
+abbrev pub IsOwedMore : (ℕ → List ℕ) → List Made → List PadLink → (ℕ → List Item) → ℕ → Type 0
+IsOwedMore contents made links h e = (item : Item) × IsNext contents made links h e item
 
 -- this is the next item that is owed to the pad before an element
 pub record IsAwaited (contents : ℕ → List ℕ) (made : List Made) (links : List PadLink) (h : ℕ → List Item) (d : ℕ) (item : Item) : Type 0 where

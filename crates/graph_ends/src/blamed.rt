@@ -2,9 +2,9 @@
 ghost use Rattle.graph_ends.specs.Blamed.{CausesAreTold, FaultsAreBlamed};
 ghost use Rattle.graph_ends.specs.Written.{AreStreams};
 
-use element_traits::{TaskElement, TaskSource};
 use gst_outside::Sink;
 use lane_core::{Inlet, Outlet};
+use net_model::{TaskElement, TaskSource};
 use task_elements::StreamElement;
 
 /// The elements of a stream are such as the laws of files and of faults speak of.

@@ -1,9 +1,9 @@
 //! Laws of a graph at a moment of its run, and where the run has ended. Each function does nothing: its contract is the law.
 ghost use Rattle.graph_ends.specs.Ended.{HistoriesAreEvaluated, EndsAreOver, EndsAreWhole, LooseAreQuiet, PadsAreLimited, RunsEndEmpty};
 
-use element_traits::{TaskElement, TaskSource};
 use gst_outside::Sink;
 use lane_core::{Inlet, Outlet};
+use net_model::{TaskElement, TaskSource};
 use net_turns::laws::lines_end;
 use task_elements::StreamElement;
 

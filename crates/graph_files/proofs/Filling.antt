@@ -11,7 +11,6 @@ use Rattle.task_elements.specs.declared.element.StreamElement.{StreamElement}
 use Rattle.task_elements.specs.declared.source.StreamSource.{StreamSource}
 use Rattle.graph_files.specs.Ends.{at, left_by, sink_end, source_end}
 use Rattle.graph_files.specs.Filled.{AreFilled, IsFilled, IsGiverFor, IsMadeFor, PairAt}
-use Rattle.graph_files.proofs.ByKind.{left_none}
 use Rattle.graph_files.proofs.Slots.{at_front, at_last, below_or, none_past, set_here, set_there, size_more}
 
 module _ {S K : Type 0} (s : sources.Ghosts S) (k : sinks.Ghosts K) (made : List Made) (ends : List (Option (End S K))) where
@@ -65,7 +64,7 @@ module _ {S K : Type 0} (s : sources.Ghosts S) (k : sinks.Ghosts K) (made : List
         where
           kept : pair.left ≡ left_by m.settings (at left n) → at (set left n pair.left) n ≡ pair.left
           kept left_is =
-              subst (λ (end : Option (End S K)). at (set left n end) n ≡ end) (sym left_is) (set_here (left_by m.settings) left n (left_none m.settings))
+              subst (λ (end : Option (End S K)). at (set left n end) n ≡ end) (sym left_is) (set_here (left_by m.settings) left n refl)
 
       by : (e : ℕ) (m : Made) → slice_get made e ≡ Some m → (e < n) ⊎ (e ≡ n) → IsFilled s k m.settings e (at ends e) (at elements' e) (at sources' e) (at left' e)
       by e m is (inl less) =

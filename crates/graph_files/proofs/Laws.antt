@@ -2,8 +2,8 @@
 use Rattle.std.proofs.Common.{◌≡◌, ◌<◌, ℕ, true, List, Option, None, Some, length, refl, sym, ap, ◌∙◌, subst, inl, inr}
 use Rattle.std.specs.Prelude.{slice_get}
 use Rattle.el_set.specs.Gives.{source_file}
-use Rattle.element_traits.specs.declared.element.TaskElement as elements
-use Rattle.element_traits.specs.declared.source.TaskSource as sources
+use Rattle.net_model.specs.declared.element.TaskElement as elements
+use Rattle.net_model.specs.declared.source.TaskSource as sources
 use Rattle.flow_model.specs.Item.{Item, buffers}
 use Rattle.graph_core.specs.Elements.{Made}
 use Rattle.lane_core.specs.declared.ends.Inlet as inlets
@@ -19,7 +19,8 @@ use Rattle.task_pads.specs.declared.pad.Pad.{Pad}
 use Rattle.task_parts.specs.declared.part.Part.{Part}
 use Rattle.graph_files.specs.Back.{GivesBack, HasElement, HasSource, Wrote, by_element, by_source, read_end, written_end}
 use Rattle.graph_files.specs.Counts.{HeadCounted, IsCountOf, PartCounted, TaskCounted, TasksCounted}
-use Rattle.graph_files.specs.Ends.{has, reads, writes}
+use Rattle.el_set.specs.Asked.{reads, writes}
+use Rattle.graph_files.specs.Ends.{has}
 use Rattle.graph_files.specs.Put.{Among, PutBack}
 use Rattle.graph_files.specs.declared.counts.Count.{Count}
 use Rattle.graph_files.proofs.Putting.{kept_at, put_at, same_some}

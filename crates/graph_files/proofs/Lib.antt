@@ -1,4 +1,4 @@
-pub mod ByKind
+pub mod OwnFiles
 pub mod Slots
 pub mod BlanksLeft
 pub mod Filling

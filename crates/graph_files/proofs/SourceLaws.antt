@@ -1,8 +1,8 @@
 -- What stands at the number of a source behind the end of a run, for a reader who knows which head has it.
 use Rattle.std.proofs.Common.{◌≡◌, ◌<◌, ℕ, List, Some, length, refl, sym, ap, ◌∙◌, subst, inl, inr}
 use Rattle.std.specs.Prelude.{slice_get}
-use Rattle.element_traits.specs.declared.element.TaskElement as elements
-use Rattle.element_traits.specs.declared.source.TaskSource as sources
+use Rattle.net_model.specs.declared.element.TaskElement as elements
+use Rattle.net_model.specs.declared.source.TaskSource as sources
 use Rattle.flow_model.specs.Item.{Item, buffers}
 use Rattle.lane_core.specs.declared.ends.Inlet as inlets
 use Rattle.lane_core.specs.declared.ends.Outlet as outlets

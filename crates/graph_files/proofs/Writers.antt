@@ -7,7 +7,6 @@ use Rattle.std.proofs.lemmas.Slice.Eq.{bytes_eq-Decides}
 use Rattle.launch_text.specs.declared.tree.Tree.{Tree}
 use Rattle.el_set.specs.Asked.{location_of, source_pads}
 use Rattle.el_set.specs.declared.settings.Settings.{Settings}
-use Rattle.el_set.specs.declared.settings.Settings.TheVariants.{FileSrc, RampTestSrc, Identity, AudioConvert, Law, RawAudioParse, AudioBufferSplit, WavParse, WavEnc, CapsFilter, Queue, FileSink, FakeSink}
 use Rattle.gst_caps.specs.declared.caps.Caps.TheVariants.{Any}
 use Rattle.graph_core.proofs.Allowing.{checked_at, clash_checked}
 use Rattle.graph_core.specs.Allowed.{checked, with_caps}
@@ -17,9 +16,9 @@ use Rattle.graph_core.specs.Elements.{ElementsCome, Made, clash, is_location_tak
 use Rattle.graph_core.specs.Graph.{IsGraph, made as made_in}
 use Rattle.graph_core.specs.declared.fault.BuildFault.{BuildFault}
 use Rattle.graph_core.specs.declared.graph.Graph.{Graph}
-use Rattle.run_files.specs.declared.end.Opening.{Opening}
 use Rattle.run_files.specs.declared.end.Opening.TheVariants.{Read, Write}
 use Rattle.graph_files.specs.Files.{opening_of}
+use Rattle.graph_files.proofs.OwnFiles.{reader, writer}
 
 -- one element more at the end of a list
 push_cases : {A : Type 0} (xs : List A) (y x : A) (k : ℕ) → slice_get (xs ++ y ∷ []) k ≡ Some x → (slice_get xs k ≡ Some x) ⊎ ((k ≡ length xs) × (y ≡ x))
@@ -42,46 +41,6 @@ none_passes : {A : Type 0} (p : A → Bool) (xs : List A) (k : ℕ) (x : A) → 
 none_passes p [] k x none at = absurd (none-some x at)
 none_passes p (y ∷ ys) zero x none at = ap p (sym (same_Some y x at)) ∙ (neither (p y) (list_any p ys) none).0
 none_passes p (y ∷ ys) (suc k) x none at = none_passes p ys k x (neither (p y) (list_any p ys) none).1 at
-
--- what an element opens is its location
-opens_location : (s : Settings) (opening : Opening) (location : List ℕ) → opening_of s ≡ Some opening → (opening ≡ Read location) ⊎ (opening ≡ Write location) → location_of s ≡ Some location
-opens_location (FileSrc s) opening location is which = ap Some (by which)
-  where
-    by : (opening ≡ Read location) ⊎ (opening ≡ Write location) → s.location ≡ location
-    by (inl read) = let same = same_Some (Read s.location) opening is ∙ read in cc
-    by (inr write) = absurd (let same = same_Some (Read s.location) opening is ∙ write in cc)
-opens_location (RampTestSrc s) opening location is which = absurd (none-some opening is)
-opens_location (FileSink s) opening location is which = ap Some (by which)
-  where
-    by : (opening ≡ Read location) ⊎ (opening ≡ Write location) → s.location ≡ location
-    by (inl read) = absurd (let same = same_Some (Write s.location) opening is ∙ read in cc)
-    by (inr write) = let same = same_Some (Write s.location) opening is ∙ write in cc
-opens_location Identity opening location is which = absurd (none-some opening is)
-opens_location (AudioConvert s) opening location is which = absurd (none-some opening is)
-opens_location (Law kind) opening location is which = absurd (none-some opening is)
-opens_location (RawAudioParse info) opening location is which = absurd (none-some opening is)
-opens_location (AudioBufferSplit s) opening location is which = absurd (none-some opening is)
-opens_location WavParse opening location is which = absurd (none-some opening is)
-opens_location WavEnc opening location is which = absurd (none-some opening is)
-opens_location (CapsFilter s) opening location is which = absurd (none-some opening is)
-opens_location (Queue s) opening location is which = absurd (none-some opening is)
-opens_location FakeSink opening location is which = absurd (none-some opening is)
-
--- an element that writes a file has no source pad
-writer_ends : (s : Settings) (location : List ℕ) → opening_of s ≡ Some (Write location) → source_pads s ≡ 0
-writer_ends (FileSrc s) location is = absurd (let same = same_Some (Read s.location) (Write location) is in cc)
-writer_ends (RampTestSrc s) location is = absurd (none-some (Write location) is)
-writer_ends (FileSink s) location is = refl
-writer_ends Identity location is = absurd (none-some (Write location) is)
-writer_ends (AudioConvert s) location is = absurd (none-some (Write location) is)
-writer_ends (Law kind) location is = absurd (none-some (Write location) is)
-writer_ends (RawAudioParse info) location is = absurd (none-some (Write location) is)
-writer_ends (AudioBufferSplit s) location is = absurd (none-some (Write location) is)
-writer_ends WavParse location is = absurd (none-some (Write location) is)
-writer_ends WavEnc location is = absurd (none-some (Write location) is)
-writer_ends (CapsFilter s) location is = absurd (none-some (Write location) is)
-writer_ends (Queue s) location is = absurd (none-some (Write location) is)
-writer_ends FakeSink location is = absurd (none-some (Write location) is)
 
 -- two elements of one location clash where one of them has no source pad
 clash_at : (one other : Settings) (location : List ℕ) → location_of one ≡ Some location → location_of other ≡ Some location → (source_pads one ≡ 0) ⊎ (source_pads other ≡ 0) → clash one other ≡ true
@@ -158,12 +117,14 @@ module _ (tree : Tree) (graph : Graph) (is : IsGraph tree graph) (d e : ℕ) (m 
   -- a location is written by one element of a line at the most
   pub one_writer : slice_get (made_in graph) d ≡ Some m → slice_get (made_in graph) e ≡ Some n → opening_of m.settings ≡ Some (Write location) → opening_of n.settings ≡ Some (Write location) → d ≡ e
   one_writer first second writes also =
-      one_opens first second (opens_location m.settings (Write location) location writes (inr refl)) (opens_location n.settings (Write location) location also (inr refl)) (writer_ends m.settings location writes)
+      let one = writer m.settings location writes in
+      one_opens first second one.place (writer n.settings location also).place one.no_pad
 
   -- and no element reads a location that one writes
   pub reader_is_no_writer : slice_get (made_in graph) d ≡ Some m → slice_get (made_in graph) e ≡ Some n → opening_of m.settings ≡ Some (Write location) → opening_of n.settings ≡ Some (Read location) → ⊥
   reader_is_no_writer first second writes reads =
-      let same = one_opens first second (opens_location m.settings (Write location) location writes (inr refl)) (opens_location n.settings (Read location) location reads (inl refl)) (writer_ends m.settings location writes) in
+      let one = writer m.settings location writes in
+      let same = one_opens first second one.place (reader n.settings location reads).place one.no_pad in
       not_both (same_Some m n (sym first ∙ ap (slice_get (made_in graph)) same ∙ second))
     where
       not_both : m ≡ n → ⊥

@@ -1,8 +1,8 @@
 -- What tasks, and elements that no task took, give back: their files, and the lengths of those that they wrote.
 use Rattle.std.specs.Prelude.{◌≡◌, ◌⊎◌, ℕ, List, Option, None, Some, if◌then◌else◌, option_map, slice_get}
 use Rattle.el_set.specs.Gives.{source_file}
-use Rattle.element_traits.specs.declared.element.TaskElement as elements
-use Rattle.element_traits.specs.declared.source.TaskSource as sources
+use Rattle.net_model.specs.declared.element.TaskElement as elements
+use Rattle.net_model.specs.declared.source.TaskSource as sources
 use Rattle.graph_core.specs.Elements.{Made}
 use Rattle.lane_core.specs.declared.ends.Inlet as inlets
 use Rattle.lane_core.specs.declared.ends.Outlet as outlets
@@ -15,7 +15,8 @@ use Rattle.task_elements.specs.declared.source.StreamSource.{StreamSource}
 use Rattle.task_parts.specs.declared.head.Head.{Head}
 use Rattle.task_parts.specs.declared.head.Head.TheVariants.{Source, Inlets}
 use Rattle.task_parts.specs.declared.part.Part.{Part}
-use Rattle.graph_files.specs.Ends.{has, reads, writes}
+use Rattle.el_set.specs.Asked.{reads, writes}
+use Rattle.graph_files.specs.Ends.{has}
 use Rattle.graph_files.specs.Put.{Among}
 
 module _ {S K : Type 0} where

@@ -1,9 +1,8 @@
 -- What stands under the numbers of elements: the ends of their files.
-use Rattle.std.specs.Prelude.{◌==◌, ◌&&◌, ℕ, Bool, false, List, Option, None, Some, is_some, slice_get, slice_index_or}
+use Rattle.std.specs.Prelude.{ℕ, Bool, false, List, Option, None, Some, if◌then◌else◌, slice_get, slice_index_or}
 use Rattle.std.specs.Option.{option_map_or}
-use Rattle.el_set.specs.Asked.{location_of, sink_pads, source_pads}
+use Rattle.el_set.specs.Asked.{reads, writes}
 use Rattle.el_set.specs.declared.settings.Settings.{Settings}
-use Rattle.el_set.specs.declared.settings.Settings.TheVariants.{FileSrc, FileSink}
 use Rattle.graph_core.specs.Elements.{Made}
 use Rattle.run_files.specs.declared.end.End.{End}
 use Rattle.run_files.specs.declared.end.End.TheVariants.{Src, Snk}
@@ -22,17 +21,9 @@ sink_end _ = None
 
 -- what an element of these settings leaves of an end: a source takes the file that it reads, and a sink the one that it writes
 abbrev pub left_by : {S K : Type 0} → Settings → Option (End S K) → Option (End S K)
-left_by (FileSrc s) (Some (Src source)) = None
-left_by (FileSink s) (Some (Snk sink)) = None
-left_by _ end = end
-
--- a sink writes a file
-abbrev pub writes : Settings → Bool
-writes settings = (source_pads settings == 0) && is_some (location_of settings)
-
--- a source reads a file
-abbrev pub reads : Settings → Bool
-reads settings = (sink_pads settings == 0) && is_some (location_of settings)
+left_by settings None = None
+left_by settings (Some (Src source)) = if reads settings then None else Some (Src source)
+left_by settings (Some (Snk sink)) = if writes settings then None else Some (Snk sink)
 
 -- what is asked of the settings of an element, and no where it is not there
 abbrev pub has : (Settings → Bool) → List Made → ℕ → Bool

@@ -1,36 +1,34 @@
 -- What the elements of a graph open, and where their ends are.
-use Rattle.std.specs.Prelude.{◌≡◌, ℕ, Bool, true, false, Contains, List, Option, None, Some, count_by, length, map, slice_get}
+use Rattle.std.specs.Prelude.{◌≡◌, ◌==◌, ℕ, Bool, true, false, Contains, List, Option, None, Some, count_by, if◌then◌else◌, length, map, slice_get}
+use Rattle.std.specs.Option.{option_map}
+use Rattle.el_set.specs.Asked.{location_of, sink_pads}
 use Rattle.el_set.specs.declared.settings.Settings.{Settings}
-use Rattle.el_set.specs.declared.settings.Settings.TheVariants.{FileSrc, FileSink}
 use Rattle.graph_core.specs.Elements.{Made}
 use Rattle.graph_core.specs.Graph.{IsGraph, made as made_in}
 use Rattle.graph_core.specs.declared.graph.Graph.{Graph}
+use Rattle.gst_outside.specs.Seen.{Seen}
 use Rattle.gst_outside.specs.declared.sink.Sink as sinks
 use Rattle.gst_outside.specs.declared.source.Source as sources
 use Rattle.launch_text.specs.declared.tree.Tree.{Tree}
 use Rattle.run_files.specs.Ends.{AllOpened, Known, is_sink_at, known_ends, present}
 use Rattle.run_files.specs.Opening.{Opens, fresh_ends}
-use Rattle.run_files.specs.Seen.{Seen}
 use Rattle.run_files.specs.declared.end.End.{End}
 use Rattle.run_files.specs.declared.end.Opening.{Opening}
 use Rattle.run_files.specs.declared.end.Opening.TheVariants.{Read, Write}
 
--- a file source reads its location, a file sink writes its own
+-- a source reads its location, and another element writes it
+abbrev pub opened_by : Bool → List ℕ → Opening
+opened_by source location = if source then Read location else Write location
+
 abbrev pub opening_of : Settings → Option Opening
-opening_of (FileSrc s) = Some (Read s.location)
-opening_of (FileSink s) = Some (Write s.location)
-opening_of _ = None
+opening_of settings = option_map (opened_by (sink_pads settings == 0)) (location_of settings)
 
 abbrev pub made_opening : Made → Option Opening
 made_opening m = opening_of m.settings
 
--- what is known of the ends of elements
-abbrev pub known_of : {S K : Type 0} → sources.Ghosts S → sinks.Ghosts K → List (Option (End S K)) → List (Option Known)
-known_of s k ends = known_ends s.location s.content s.faults k.location k.bytes k.faults ends
-
 -- the ends of all elements of a graph, opened so
 abbrev pub GraphOpens : {S K : Type 0} → sources.Ghosts S → sinks.Ghosts K → List Made → List (Option (End S K)) → Seen → Seen → Type 0
-GraphOpens s k made ends before after = Opens (map made_opening made) (known_of s k ends) before after
+GraphOpens s k made ends before after = Opens (map made_opening made) (known_ends s k ends) before after
 
 -- the content of each file source's location was told as this
 abbrev pub WereTold : List Made → Seen → (ℕ → List ℕ) → Type 0

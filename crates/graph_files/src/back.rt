@@ -2,7 +2,8 @@
 ghost use Rattle.std.specs.Prelude.{◌≡◌};
 ghost use Rattle.graph_core.specs.Graph.{made as made_in};
 ghost use Rattle.graph_files.specs.Back.{Gives, GivesBack, HasElement, HasHead, HasLength, HasPart, HasSource, IsHead, IsPart, Wrote, read_end, written_end};
-ghost use Rattle.graph_files.specs.Ends.{has, reads, writes};
+ghost use Rattle.el_set.specs.Asked.{reads, writes};
+ghost use Rattle.graph_files.specs.Ends.{has};
 ghost use Rattle.graph_files.specs.Put.{Among, PutBack};
 ghost use Rattle.graph_files.specs.Single.{IsAt, IsNone, IsSingle};
 ghost use Rattle.task_elements.specs.Stands.{file_in};
@@ -23,8 +24,7 @@ fn reads_file(graph: &Graph, number: usize) -> bool
     if number >= graph.count() as usize {
         return false;
     }
-    let settings = graph.settings(number as u32);
-    settings.is_source() && settings.location().is_some()
+    graph.settings(number as u32).reads()
 }
 
 /// Whether the element of this number writes a file.
@@ -34,8 +34,7 @@ fn writes_file(graph: &Graph, number: usize) -> bool
     if number >= graph.count() as usize {
         return false;
     }
-    let settings = graph.settings(number as u32);
-    settings.is_sink() && settings.location().is_some()
+    graph.settings(number as u32).writes()
 }
 
 /// The file that an element writes.

@@ -3,8 +3,8 @@ ghost use Rattle.graph_files.specs.Counts.{HeadCounted, IsCountOf, PartCounted, 
 ghost use Rattle.graph_files.specs.Put.{Among, PutBack};
 
 use crate::placing::put_some;
-use element_traits::{TaskElement, TaskSource};
 use lane_core::{Inlet, Outlet};
+use net_model::{TaskElement, TaskSource};
 use net_task::Task;
 use task_pads::Pad;
 use task_parts::{Head, Part};

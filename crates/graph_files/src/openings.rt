@@ -5,12 +5,12 @@ ghost use Rattle.graph_files.specs.Files.{made_opening, opening_of};
 
 use el_set::Settings;
 use graph_core::Graph;
-use gst_caps::OutOfMemory;
+use gst_caps::{OutOfMemory, Text};
 use run_files::Opening;
 use std::alloc::Global;
 
-/// What each element of a graph opens, in the order of its line: a filesrc reads its location, a filesink writes its
-/// own, and the others open nothing.
+/// What each element of a graph opens, in the order of its line: a source that has a location reads it, a sink writes
+/// its own, and the others open nothing.
 pub fn openings_of(alloc: Global, graph: &Graph) -> Result<Vec<Option<Opening>>, OutOfMemory>
     ensures { IfOk result (λ openings. openings.items ≡ map made_opening (made_in graph.now)) }
 {
@@ -25,9 +25,12 @@ pub fn openings_of(alloc: Global, graph: &Graph) -> Result<Vec<Option<Opening>>,
 fn opening_of(alloc: Global, settings: &Settings) -> Result<Option<Opening>, OutOfMemory>
     ensures { IfOk result (λ opening. opening ≡ opening_of settings.now) }
 {
-    match settings {
-        Settings::FileSrc(settings) => Ok(Some(Opening::Read(settings.location.copy(alloc)?))),
-        Settings::FileSink(settings) => Ok(Some(Opening::Write(settings.location.copy(alloc)?))),
-        _ => Ok(None),
+    let Some(location) = settings.location() else {
+        return Ok(None);
+    };
+    let location = Text::from_str(alloc, location)?;
+    if settings.is_source() {
+        return Ok(Some(Opening::Read(location)));
     }
+    Ok(Some(Opening::Write(location)))
 }

@@ -1,5 +1,5 @@
 //! What is made of one element with the end of its file.
-ghost use Rattle.std.specs.Prelude.{◌≡◌, ◌<◌, false, length};
+ghost use Rattle.std.specs.Prelude.{◌≡◌, ◌<◌, None, Some, false, length};
 ghost use Rattle.el_set.specs.Asked.{is_filter as filter_test, is_queue as queue_test, title_of};
 ghost use Rattle.el_set.specs.Made.{IsFilterFor, file_for, read_for};
 ghost use Rattle.graph_core.specs.Graph.{made as made_in};
@@ -86,22 +86,54 @@ fn part_end<S: Source, K: Sink>(settings: &Settings, end: Option<End<S, K>>) -> 
     ensures sink { result.sink ≡ file_for settings.now (sink_end end) }
     ensures left { result.left ≡ left_by settings.now end }
 {
-    match (settings, end) {
-        (Settings::FileSrc(_), Some(End::Src(source))) => Parted {
+    match end {
+        Some(End::Src(source)) => part_source(settings, source),
+        Some(End::Snk(sink)) => part_sink(settings, sink),
+        None => Parted {
+            source: None,
+            sink: None,
+            left: None,
+        },
+    }
+}
+
+/// A source for an element that reads one; else it is left.
+fn part_source<S: Source, K: Sink>(settings: &Settings, source: S) -> Parted<S, K>
+    ensures source { result.source ≡ read_for settings.now (Some source) }
+    ensures sink { result.sink ≡ None }
+    ensures left { result.left ≡ left_by settings.now (Some (End.Src source)) }
+{
+    if settings.reads() {
+        return Parted {
             source: Some(source),
             sink: None,
             left: None,
-        },
-        (Settings::FileSink(_), Some(End::Snk(sink))) => Parted {
+        };
+    }
+    Parted {
+        source: None,
+        sink: None,
+        left: Some(End::Src(source)),
+    }
+}
+
+/// A sink for an element that writes one; else it is left.
+fn part_sink<S: Source, K: Sink>(settings: &Settings, sink: K) -> Parted<S, K>
+    ensures source { result.source ≡ None }
+    ensures sink { result.sink ≡ file_for settings.now (Some sink) }
+    ensures left { result.left ≡ left_by settings.now (Some (End.Snk sink)) }
+{
+    if settings.writes() {
+        return Parted {
             source: None,
             sink: Some(sink),
             left: None,
-        },
-        (_, left) => Parted {
-            source: None,
-            sink: None,
-            left,
-        },
+        };
+    }
+    Parted {
+        source: None,
+        sink: None,
+        left: Some(End::Snk(sink)),
     }
 }
 

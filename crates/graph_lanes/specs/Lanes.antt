@@ -1,15 +1,15 @@
 -- The lanes into the queues of a graph.
 use Rattle.std.specs.Prelude.{◌≡◌, ◌==◌, ◌||◌, ℕ, Bool, true, List, [], Option, None, Some, if◌then◌else◌, filter, filter_map, is_some, length, map, nat_lt, slice_get}
 use Rattle.std.specs.List.{range_with_len}
-use Rattle.std.specs.Option.{option_map_or}
+use Rattle.std.specs.Option.{option_map, option_map_or}
 use Rattle.flow_model.specs.Item.{Item}
+use Rattle.el_set.specs.Asked.{limits_of}
 use Rattle.el_set.specs.declared.settings.QueueSettings.{QueueSettings}
 use Rattle.el_set.specs.declared.settings.Settings.{Settings}
-use Rattle.el_set.specs.declared.settings.Settings.TheVariants.{Queue}
 use Rattle.graph_core.specs.Elements.{Made}
 use Rattle.graph_core.specs.Links.{source_before}
 use Rattle.graph_core.specs.declared.pad.PadLink.{PadLink}
-use Rattle.graph_model.specs.Asked.{first_pad}
+use Rattle.graph_core.specs.Allowed.{first_pad}
 use Rattle.lane_core.specs.Lane.{Lane, lane_of}
 use Rattle.lane_core.specs.Room.{Limits}
 
@@ -22,8 +22,7 @@ abbrev pub room_of : QueueSettings → ℕ
 room_of settings = if (settings.buffers == 0) || nat_lt most_held settings.buffers then most_held else settings.buffers
 
 abbrev pub room_by : Settings → Option ℕ
-room_by (Queue settings) = Some (room_of settings)
-room_by _ = None
+room_by settings = option_map room_of (limits_of settings)
 
 -- how many items the lane into an element holds, where it is a queue to whose sink pad something is linked
 abbrev pub lane_room : List Made → List PadLink → ℕ → Option ℕ

@@ -4,7 +4,7 @@ ghost use Rattle.graph_core.specs.Graph.{made as made_in, links as links_in};
 ghost use Rattle.lane_core.specs.Lane.{lane_of};
 ghost use Rattle.graph_lanes.specs.Lanes.{AreLanes, InletAt, OutletAt, lane_place, lane_room, room_of};
 
-use el_set::{QueueSettings, Settings};
+use el_set::QueueSettings;
 use graph_core::{Graph, PadPlace};
 use gst_caps::OutOfMemory;
 use lane_core::{Inlet, MemInlet, MemLanes, MemOutlet, Outlet, memory_lane};
@@ -23,7 +23,10 @@ pub struct Lanes<I, O> {
 
 /// A lane for each queue to whose sink pad something is linked, in the order of the line.
 pub fn lanes_of(alloc: Global, graph: &Graph) -> Result<Lanes<MemInlet, MemOutlet>, OutOfMemory>
-    ensures { IfOk result (λ lanes. AreLanes ⟦<MemInlet as Inlet>⟧.place ⟦<MemInlet as Inlet>⟧.received ⟦<MemOutlet as Outlet>⟧.place ⟦<MemOutlet as Outlet>⟧.limits ⟦<MemOutlet as Outlet>⟧.count ⟦<MemOutlet as Outlet>⟧.sent (made_in graph.now) (links_in graph.now) lanes.table lanes.inlets.items lanes.outlets.items) }
+    ensures { IfOk result (λ lanes. AreLanes
+        ⟦<MemInlet as Inlet>⟧.place ⟦<MemInlet as Inlet>⟧.received
+        ⟦<MemOutlet as Outlet>⟧.place ⟦<MemOutlet as Outlet>⟧.limits ⟦<MemOutlet as Outlet>⟧.count ⟦<MemOutlet as Outlet>⟧.sent
+        (made_in graph.now) (links_in graph.now) lanes.table lanes.inlets.items lanes.outlets.items) }
 {
     let mut table = MemLanes::new(alloc);
     let mut inlets = Vec::new(alloc);
@@ -51,8 +54,12 @@ fn ends_of(
     requires within { element < length (made_in graph.now) }
     requires before { length table.old ≡ lane_place (made_in graph.now) (links_in graph.now) element }
     ensures table { OnOk result (table.new ≡ table.old ++ map (lane_of []) (option_to_list (lane_room (made_in graph.now) (links_in graph.now) element))) }
-    ensures outlet { IfOk result (λ ends. OutletAt ⟦<MemOutlet as Outlet>⟧.place ⟦<MemOutlet as Outlet>⟧.limits ⟦<MemOutlet as Outlet>⟧.count ⟦<MemOutlet as Outlet>⟧.sent (made_in graph.now) (links_in graph.now) element ends.0) }
-    ensures inlet { IfOk result (λ ends. InletAt ⟦<MemInlet as Inlet>⟧.place ⟦<MemInlet as Inlet>⟧.received (made_in graph.now) (links_in graph.now) element ends.1) }
+    ensures outlet { IfOk result (λ ends. OutletAt
+        ⟦<MemOutlet as Outlet>⟧.place ⟦<MemOutlet as Outlet>⟧.limits ⟦<MemOutlet as Outlet>⟧.count ⟦<MemOutlet as Outlet>⟧.sent
+        (made_in graph.now) (links_in graph.now) element ends.0) }
+    ensures inlet { IfOk result (λ ends. InletAt
+        ⟦<MemInlet as Inlet>⟧.place ⟦<MemInlet as Inlet>⟧.received
+        (made_in graph.now) (links_in graph.now) element ends.1) }
 {
     match lane_room(graph, element) {
         Some(room) => {
@@ -68,22 +75,22 @@ fn lane_room(graph: &Graph, element: u32) -> Option<u32>
     requires { element < length (made_in graph.now) }
     ensures { result ≡ lane_room (made_in graph.now) (links_in graph.now) element }
 {
-    let Settings::Queue(settings) = graph.settings(element) else {
+    let Some(limits) = graph.settings(element).limits() else {
         return None;
     };
     if graph.source_before(PadPlace { element, pad: 0 }).is_none() {
         return None;
     }
-    Some(room_of(settings))
+    Some(room_of(limits))
 }
 
-/// How many items a queue of these settings holds: without a limit, or above the most, it is the most.
-fn room_of(settings: &QueueSettings) -> u32
-    ensures { result ≡ room_of settings.now }
+/// How many items a queue of these limits holds: without a limit, or above the most, it is the most.
+fn room_of(limits: QueueSettings) -> u32
+    ensures { result ≡ room_of limits }
 {
-    if settings.buffers == 0 || settings.buffers > MOST_HELD {
+    if limits.buffers == 0 || limits.buffers > MOST_HELD {
         MOST_HELD
     } else {
-        settings.buffers
+        limits.buffers
     }
 }

@@ -1,31 +1,31 @@
 -- What an element of a graph does is told by its settings.
-use Rattle.std.proofs.Common.{◌≡◌, ℕ, false, eqb, List, Option, Some, refl, sym, ap, ◌∙◌, subst}
-use Rattle.el_set.specs.Asked.{sink_pads}
-use Rattle.el_set.specs.declared.settings.Settings.{Settings}
-use Rattle.el_set.specs.declared.settings.Settings.TheVariants.{FileSrc, RampTestSrc, Identity, AudioConvert, Law, RawAudioParse, AudioBufferSplit, WavParse, WavEnc, CapsFilter, Queue, FileSink, FakeSink}
-use Rattle.task_elements.specs.Made.{behavior_of}
+use Rattle.std.proofs.Common.{◌≡◌, not, ℕ, Bool, true, false, eqb, if◌then◌else◌, List, Option, Some, refl, sym, ap, ◌∙◌}
+use Rattle.flow_model.specs.Chain.{first_section}
+use Rattle.flow_model.specs.Rule.{Rule, single}
+use Rattle.net_model.specs.Moment.{Behavior}
+use Rattle.el_set.specs.Asked.{sink_pads, source_pads}
+use Rattle.el_set.specs.Denoted.{response_of}
+use Rattle.el_set.specs.Made.{list_of}
+use Rattle.el_set.proofs.Roles.{between_pads}
+use Rattle.task_elements.specs.Made.{behavior_of, rule_of}
+use Rattle.task_elements.specs.Stands.{answers_by, owes_nothing}
 use Rattle.graph_core.specs.Elements.{Made}
 use Rattle.graph_moment.specs.Plans.{answers_for, tight_rule}
 use Rattle.graph_moment.specs.Laws.{BehaviorsAreTold}
 
-told_of : (m : Made) (e : ℕ) (content : List ℕ) → eqb (sink_pads m.settings) 0 ≡ false
-    → behavior_of m.settings ≡ record { owes = tight_rule (Some m) e content; answers = answers_for (Some m) }
-told_of m e content some = go m.settings refl
-  where
-    go : (s : Settings) → m.settings ≡ s → behavior_of m.settings ≡ record { owes = tight_rule (Some m) e content; answers = answers_for (Some m) }
-    go (FileSrc s) is = absurd (let never : eqb (sink_pads (FileSrc s)) 0 ≡ false = subst (λ (t : Settings). eqb (sink_pads t) 0 ≡ false) is some in cc)
-    go (RampTestSrc s) is = absurd (let never : eqb (sink_pads (RampTestSrc s)) 0 ≡ false = subst (λ (t : Settings). eqb (sink_pads t) 0 ≡ false) is some in cc)
-    go Identity is = rw is refl
-    go (AudioConvert s) is = rw is refl
-    go (Law kind) is = rw is refl
-    go (RawAudioParse info) is = rw is refl
-    go (AudioBufferSplit s) is = rw is refl
-    go WavParse is = rw is refl
-    go WavEnc is = rw is refl
-    go (CapsFilter s) is = rw is refl
-    go (Queue s) is = rw is refl
-    go (FileSink s) is = rw is refl
-    go FakeSink is = rw is refl
+module _ (m : Made) (e : ℕ) (content : List ℕ) (some : eqb (sink_pads m.settings) 0 ≡ false) where
+  -- an element with a sink pad owes by its rule where it has a source pad too, and else nothing
+  rule_told : rule_of m.settings ≡ tight_rule (Some m) e content
+  rule_told =
+      ap (λ (b : Bool). if b then single (response_of m.settings) else owes_nothing) (between_pads m.settings some) ∙ by (eqb (source_pads m.settings) 0)
+      ∙ ap (λ (b : Bool). if eqb (source_pads m.settings) 0 then owes_nothing else (if b then (λ inputs port. first_section (list_of m.settings e content)) else single (response_of m.settings))) (sym some)
+    where
+      by : (none : Bool) → (if not none then single (response_of m.settings) else owes_nothing) ≡ (if none then owes_nothing else single (response_of m.settings))
+      by true = refl
+      by false = refl
+
+  told_of : behavior_of m.settings ≡ record { owes = tight_rule (Some m) e content; answers = answers_for (Some m) }
+  told_of = ap (λ (rule : Rule). let b : Behavior = record { owes = rule; answers = answers_by (response_of m.settings) } in b) rule_told
 
 pub behaviors_are_told : BehaviorsAreTold
 behaviors_are_told contents graph e m at some =

@@ -10,10 +10,10 @@ use Rattle.graph_core.specs.Graph.{made as made_in, links as links_in}
 use Rattle.graph_core.specs.Links.{HasPads, is_same, sink_behind, source_before}
 use Rattle.graph_core.specs.declared.pad.PadLink.{PadLink}
 use Rattle.graph_core.specs.declared.pad.PadPlace.{PadPlace}
-use Rattle.graph_model.specs.Once.{AreOnce}
-use Rattle.graph_model.specs.GraphPlan.{pad_id, owner_of, spans_from, sink_at, sink_count, line_plan}
-use Rattle.graph_model.proofs.Links.{owner_at, found_in}
-use Rattle.graph_model.proofs.Orders.{pads_at_link}
+use Rattle.graph_core.specs.LinkedOnce.{AreOnce}
+use Rattle.graph_core.specs.GraphPlan.{pad_id, owner_of, spans_from, sink_at, sink_count, line_plan}
+use Rattle.graph_core.proofs.NumberedPads.{owner_at, found_in}
+use Rattle.graph_core.proofs.Orders.{pads_at_link}
 use Rattle.graph_moment.specs.Laws.{LinksLead, UnlinkedLead}
 use Rattle.graph_moment.proofs.Sources.{port_at, sinks_are, few_there, linked_there}
 

@@ -17,10 +17,11 @@ use Rattle.net_model.proofs.Openings.{opening_stands}
 use Rattle.el_set.specs.Asked.{sink_pads, source_pads}
 use Rattle.el_set.specs.Denoted.{response_of}
 use Rattle.el_set.specs.Made.{list_of}
-use Rattle.el_set.specs.declared.settings.Settings.{Settings}
-use Rattle.el_set.specs.declared.settings.Settings.TheVariants.{FileSrc, RampTestSrc, Identity, AudioConvert, Law, RawAudioParse, AudioBufferSplit, WavParse, WavEnc, CapsFilter, Queue, FileSink, FakeSink}
+use Rattle.el_set.proofs.EachEnding.{response_ending}
 use Rattle.el_set.proofs.Ends.{plain_no_flush}
 use Rattle.el_set.proofs.Ending.{AreInner, IsEnding}
+use Rattle.el_set.proofs.Lists.{plain_list}
+use Rattle.el_set.proofs.Roles.{end_no_source}
 use Rattle.task_elements.specs.Stands.{owes_nothing}
 use Rattle.task_elements.proofs.Plain.{ending_plain}
 use Rattle.graph_core.specs.Elements.{Made}
@@ -29,12 +30,10 @@ use Rattle.graph_core.specs.Links.{source_before}
 use Rattle.graph_core.specs.declared.graph.Graph.{Graph}
 use Rattle.graph_core.specs.declared.pad.PadLink.{PadLink}
 use Rattle.graph_core.specs.declared.pad.PadPlace.{PadPlace}
-use Rattle.graph_model.specs.GraphPlan.{spans_from, sink_at, sinks_in, line_plan}
+use Rattle.graph_core.specs.GraphPlan.{spans_from, sink_at, sinks_in, line_plan}
 use Rattle.graph_moment.specs.Pads.{pad_owner}
 use Rattle.graph_moment.specs.Plans.{moment_plan, moment_answers, tight_rule}
 use Rattle.graph_moment.specs.Laws.{MomentStarts, MomentStands, RulesGoOn, SourcesWait, given_by, SectionsAreOne, SectionsArePlain, OwesNoneBehind, OwesPlain}
-use Rattle.graph_moment.proofs.Lists.{plain_list}
-use Rattle.graph_moment.proofs.Endings.{response_ending}
 
 untouched : (source : Option PadPlace) → IsUntouched (spans_from source)
 untouched None = free
@@ -79,24 +78,9 @@ pub rules_go_on : RulesGoOn
 rules_go_on contents graph e took = go_on ((moment_plan contents graph).rule e) took (rule_is contents graph e)
 
 -- before it took anything an element owes what it gives by itself
-no_source : (s : Settings) → eqb (source_pads s) 0 ≡ true → eqb (sink_pads s) 0 ≡ false
-no_source (FileSrc s) e = absurd (cc)
-no_source (RampTestSrc s) e = absurd (cc)
-no_source Identity e = refl
-no_source (AudioConvert s) e = refl
-no_source (Law kind) e = refl
-no_source (RawAudioParse info) e = refl
-no_source (AudioBufferSplit s) e = refl
-no_source WavParse e = refl
-no_source WavEnc e = refl
-no_source (CapsFilter s) e = refl
-no_source (Queue s) e = refl
-no_source (FileSink s) e = refl
-no_source FakeSink e = refl
-
 owes_first : (found : Option Made) (e : ℕ) (content : List ℕ) (sss : List (List Span)) (port : ℕ) → tight_rule found e content (map (λ spans. []) sss) port 0 ≡ given_by found e content
 owes_first None e content sss port = refl
-owes_first (Some m) e content sss port = go (eqb (source_pads m.settings) 0) (eqb (sink_pads m.settings) 0) (no_source m.settings) sss
+owes_first (Some m) e content sss port = go (eqb (source_pads m.settings) 0) (eqb (sink_pads m.settings) 0) (end_no_source m.settings) sss
   where
     go : (b d : Bool) → (b ≡ true → d ≡ false) → (sss : List (List Span))
         → (if b then owes_nothing else (if d then (λ inputs port. first_section (list_of m.settings e content)) else single (response_of m.settings))) (map (λ spans. []) sss) port 0

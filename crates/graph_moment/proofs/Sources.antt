@@ -8,6 +8,7 @@ use Rattle.std.proofs.lemmas.Bool.{lt-ltb, ltb-true}
 use Rattle.std.proofs.lemmas.Nat.{mod-mul-add}
 use Rattle.flow_model.specs.Account.{EachSource, EachSourceOf, GoesForward, IsMember}
 use Rattle.el_set.specs.Asked.{source_pads, sink_pads}
+use Rattle.el_set.proofs.Roles.{one_source}
 use Rattle.task_elements.specs.Stands.{owes_nothing}
 use Rattle.graph_core.specs.Elements.{Made}
 use Rattle.graph_core.specs.Graph.{IsSound, made as made_in, links as links_in, forward as forward_in}
@@ -16,9 +17,9 @@ use Rattle.graph_core.specs.declared.graph.Graph.{Graph}
 use Rattle.graph_core.specs.declared.pad.PadLink.{PadLink}
 use Rattle.graph_core.specs.declared.pad.PadPlace.{PadPlace}
 use Rattle.graph_order.proofs.Once.{within}
-use Rattle.graph_model.specs.GraphPlan.{pad_id, owner_of, spans_from, sink_at, sink_count, graph_plan, line_plan, rule_for}
-use Rattle.graph_model.proofs.Links.{owner_at, found_in, goes_forward}
-use Rattle.graph_model.proofs.Orders.{pads_at_link, one_source, graph_goes, order_size, order_covers, listed, member}
+use Rattle.graph_core.specs.GraphPlan.{pad_id, owner_of, spans_from, sink_at, sink_count, graph_plan, line_plan, rule_for}
+use Rattle.graph_core.proofs.NumberedPads.{owner_at, found_in, goes_forward}
+use Rattle.graph_core.proofs.Orders.{pads_at_link, graph_goes, order_size, order_covers, listed, member}
 use Rattle.graph_moment.specs.Pads.{source_count, IsThere, is_pad, pad_owner}
 use Rattle.graph_moment.specs.Plans.{moment_plan, tight_plan, tight_rule}
 use Rattle.graph_moment.proofs.Owners.{FromPads, RulesAlike, goes_owned}

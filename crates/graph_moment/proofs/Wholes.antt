@@ -14,13 +14,13 @@ use Rattle.el_set.specs.Asked.{source_pads}
 use Rattle.graph_core.specs.Elements.{Made}
 use Rattle.graph_core.specs.Graph.{IsSound, made as made_in, forward as forward_in}
 use Rattle.graph_core.specs.declared.graph.Graph.{Graph}
-use Rattle.graph_model.specs.GraphPlan.{graph_plan, line_plan, owner_of, pad_id}
+use Rattle.graph_core.specs.GraphPlan.{graph_plan, line_plan, owner_of, pad_id}
 use Rattle.graph_moment.specs.Pads.{source_count, is_pad, pad_owner, at_pads}
 use Rattle.graph_moment.specs.Plans.{moment_plan, tight_plan}
 use Rattle.graph_moment.specs.Laws.{HasNumber, place_of, PadsHaveNumbers, NumbersHavePads, TightIsAlike, OrdersAreWhole, MomentIsGraph, IsIdle, IsWhole, EndIsGraph}
 use Rattle.graph_moment.proofs.Owners.{eval_alike, whole_alike, uncounted}
 use Rattle.graph_moment.proofs.Sources.{place_is_pad, port_at, owner_is, from_pads, owners_alike, rules_alike, few_there, moment_goes, in_order, of_order}
-use Rattle.graph_model.proofs.Links.{owner_at}
+use Rattle.graph_core.proofs.NumberedPads.{owner_at}
 
 pub pads_have_numbers : PadsHaveNumbers
 pads_have_numbers made place there =

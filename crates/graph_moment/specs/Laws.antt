@@ -20,8 +20,8 @@ use Rattle.graph_core.specs.Graph.{IsSound, made as made_in, links as links_in, 
 use Rattle.graph_core.specs.Links.{sink_behind}
 use Rattle.graph_core.specs.declared.graph.Graph.{Graph}
 use Rattle.graph_core.specs.declared.pad.PadPlace.{PadPlace}
-use Rattle.graph_model.specs.Once.{AreOnce}
-use Rattle.graph_model.specs.GraphPlan.{graph_plan, most_pads, owner_of, pad_id}
+use Rattle.graph_core.specs.LinkedOnce.{AreOnce}
+use Rattle.graph_core.specs.GraphPlan.{graph_plan, most_pads, owner_of, pad_id}
 use Rattle.graph_moment.specs.Pads.{IsThere, is_pad, pad_owner, at_pads}
 use Rattle.graph_moment.specs.Plans.{tight_plan, moment_plan, moment_answers}
 

@@ -5,7 +5,7 @@ use Rattle.flow_model.specs.Item.{Item}
 use Rattle.el_set.specs.Asked.{source_pads}
 use Rattle.graph_core.specs.Elements.{Made}
 use Rattle.graph_core.specs.declared.pad.PadPlace.{PadPlace}
-use Rattle.graph_model.specs.GraphPlan.{most_pads, owner_of}
+use Rattle.graph_core.specs.GraphPlan.{most_pads, owner_of}
 
 -- how many source pads an element has, where it is there
 abbrev pub source_count : List Made → ℕ → ℕ

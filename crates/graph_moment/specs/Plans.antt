@@ -9,7 +9,7 @@ use Rattle.task_elements.specs.Stands.{owes_nothing, answers_by}
 use Rattle.graph_core.specs.Elements.{Made}
 use Rattle.graph_core.specs.Graph.{made as made_in}
 use Rattle.graph_core.specs.declared.graph.Graph.{Graph}
-use Rattle.graph_model.specs.GraphPlan.{graph_plan, rule_for}
+use Rattle.graph_core.specs.GraphPlan.{graph_plan, rule_for}
 use Rattle.graph_moment.specs.Pads.{pad_owner}
 
 -- What an element owes at its source pads, by its settings. One that has none owes nothing.

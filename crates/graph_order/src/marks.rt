@@ -53,7 +53,8 @@ fn mark(marks: &mut Vec<bool>, link: Link) -> bool
     requires from { link.from < vec_len marks.old }
     requires to { link.to < vec_len marks.old }
     ensures size { vec_len marks.new ≡ vec_len marks.old }
-    ensures reached { (a : ℕ) (links : Items LinkOf) → IsLink link.from link.to links → AllReached links a marks.old.items → AllReached links a marks.new.items }
+    ensures reached { (a : ℕ) (links : Items LinkOf) → IsLink link.from link.to links → AllReached links a marks.old.items
+        → AllReached links a marks.new.items }
     ensures stay { (e : ℕ) → is_marked marks.old.items e ≡ true → is_marked marks.new.items e ≡ true }
     ensures same { result ≡ false → marks.new.items ≡ marks.old.items }
     ensures closed { result ≡ false → is_marked marks.old.items link.from ≡ true → is_marked marks.old.items link.to ≡ true }

@@ -6,7 +6,7 @@ use Rattle.flow_model.specs.Account.{IsMember}
 use Rattle.graph_core.specs.Elements.{Made}
 use Rattle.graph_core.specs.Links.{HasPads}
 use Rattle.graph_core.specs.declared.pad.PadLink.{PadLink}
-use Rattle.graph_model.specs.Once.{AreOnce}
+use Rattle.graph_core.specs.LinkedOnce.{AreOnce}
 use Rattle.graph_bags.specs.Links.{has, is_source, Reaches}
 use Rattle.graph_bags.specs.Bags.{number_of, head_cells, cells, numbers, head_number, head_of, IsHead, IsBag}
 use Rattle.graph_bags.specs.declared.bag.Bag.{Bag}

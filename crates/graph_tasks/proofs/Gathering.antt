@@ -8,8 +8,7 @@ use Rattle.std.proofs.lemmas.List.{append-nil, map-append, take_all}
 use Rattle.std.proofs.lemmas.Option.{slice_get-get_or, slice_get_within}
 use Rattle.flow_model.specs.Account.{IsMember}
 use Rattle.el_set.specs.Asked.{source_pads}
-use Rattle.el_set.specs.declared.settings.Settings.{Settings}
-use Rattle.el_set.specs.declared.settings.Settings.TheVariants.{FileSrc, RampTestSrc, Identity, AudioConvert, Law, RawAudioParse, AudioBufferSplit, WavParse, WavEnc, CapsFilter, Queue, FileSink, FakeSink}
+use Rattle.el_set.proofs.Roles.{source_sources}
 use Rattle.graph_core.specs.Elements.{Made}
 use Rattle.graph_core.specs.declared.pad.PadLink.{PadLink}
 use Rattle.graph_bags.specs.Bags.{IsBag, Once, cells, head_cells, head_of, number_of, numbers}
@@ -93,24 +92,9 @@ module _ (made : List Made) (links : List PadLink) where
     apart = given.apart;
   }
 
-one_source : (s : Settings) → is_source s ≡ true → source_pads s ≡ 1
-one_source (FileSrc s) is = refl
-one_source (RampTestSrc s) is = refl
-one_source Identity is = absurd (cc)
-one_source (AudioConvert s) is = absurd (cc)
-one_source (Law kind) is = absurd (cc)
-one_source (RawAudioParse info) is = absurd (cc)
-one_source (AudioBufferSplit s) is = absurd (cc)
-one_source WavParse is = absurd (cc)
-one_source WavEnc is = absurd (cc)
-one_source (CapsFilter s) is = absurd (cc)
-one_source (Queue s) is = absurd (cc)
-one_source (FileSink s) is = absurd (cc)
-one_source FakeSink is = absurd (cc)
-
 source_has : (found : Option Made) → option_map_or (λ (m : Made). is_source m.settings) found false ≡ true → option_map_or (λ (m : Made). source_pads m.settings) found 0 ≡ 1
 source_has None is = absurd (cc)
-source_has (Some m) is = one_source m.settings is
+source_has (Some m) is = source_sources m.settings is
 
 module _ {O L : Type 0} (o : outlets.Ghosts O L) (made : List Made) (links : List PadLink) where
   -- The pads of the first ports of an element were made.

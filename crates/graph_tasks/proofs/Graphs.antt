@@ -6,8 +6,7 @@ use Rattle.std.proofs.lemmas.Bool.Decides.{eqb_tells}
 use Rattle.std.proofs.lemmas.Option.{slice_get_within}
 use Rattle.el_set.specs.Asked.{sink_pads}
 use Rattle.el_set.specs.Made.{list_of}
-use Rattle.el_set.specs.declared.settings.Settings.{Settings}
-use Rattle.el_set.specs.declared.settings.Settings.TheVariants.{FileSrc, RampTestSrc, Identity, AudioConvert, Law, RawAudioParse, AudioBufferSplit, WavParse, WavEnc, CapsFilter, Queue, FileSink, FakeSink}
+use Rattle.el_set.proofs.Roles.{queue_sinks}
 use Rattle.graph_core.specs.Elements.{Made}
 use Rattle.graph_core.specs.Graph.{IsSound, made as made_in, links as links_in, forward as forward_in}
 use Rattle.graph_core.specs.Links.{HasPads, sink_behind, source_before}
@@ -15,7 +14,7 @@ use Rattle.graph_core.specs.declared.graph.Graph.{Graph}
 use Rattle.graph_core.specs.declared.pad.PadLink.{PadLink}
 use Rattle.graph_core.specs.declared.pad.PadPlace.{PadPlace}
 use Rattle.graph_core.proofs.Ranks.{after, after_falls}
-use Rattle.graph_model.specs.Once.{AreOnce}
+use Rattle.graph_core.specs.LinkedOnce.{AreOnce}
 use Rattle.graph_bags.specs.Links.{has, has_inlets, is_source, is_head, place_at, Reaches}
 use Rattle.graph_bags.proofs.Trees.{sink_there}
 use Rattle.graph_moment.specs.Laws.{given_by}
@@ -23,22 +22,6 @@ use Rattle.graph_tasks.specs.Tasks.{sink_count}
 
 pub not_true : {A : Type 0} → false ≡ true → A
 not_true e = absurd (cc)
-
--- an element that is fed from inlets has one sink pad
-queue_sinks : (s : Settings) → has_inlets s ≡ true → sink_pads s ≡ 1
-queue_sinks (FileSrc s) is = absurd (cc)
-queue_sinks (RampTestSrc s) is = absurd (cc)
-queue_sinks Identity is = refl
-queue_sinks (AudioConvert s) is = refl
-queue_sinks (Law kind) is = refl
-queue_sinks (RawAudioParse info) is = refl
-queue_sinks (AudioBufferSplit s) is = refl
-queue_sinks WavParse is = refl
-queue_sinks WavEnc is = refl
-queue_sinks (CapsFilter s) is = refl
-queue_sinks (Queue s) is = refl
-queue_sinks (FileSink s) is = refl
-queue_sinks FakeSink is = refl
 
 module _ (made : List Made) (e : ℕ) where
   pub inlets_sinks : has has_inlets made e ≡ true → sink_count made e ≡ 1

@@ -6,13 +6,13 @@ use Rattle.std.proofs.lemmas.Option.{slice_get_within}
 use Rattle.lane_core.specs.Lane.{Lane}
 use Rattle.lane_core.specs.declared.ends.Inlet as inlets
 use Rattle.lane_core.specs.declared.ends.Outlet as outlets
-use Rattle.element_traits.specs.declared.element.TaskElement as elements
-use Rattle.element_traits.specs.declared.source.TaskSource as sources
+use Rattle.net_model.specs.declared.element.TaskElement as elements
+use Rattle.net_model.specs.declared.source.TaskSource as sources
 use Rattle.el_set.specs.Asked.{source_pads}
 use Rattle.graph_core.specs.Elements.{Made}
 use Rattle.graph_core.specs.Graph.{IsSound, made as made_in, links as links_in}
 use Rattle.graph_core.specs.declared.graph.Graph.{Graph}
-use Rattle.graph_model.specs.Once.{AreOnce}
+use Rattle.graph_core.specs.LinkedOnce.{AreOnce}
 use Rattle.graph_bags.specs.Bags.{AreBags, IsBag, IsHead}
 use Rattle.graph_bags.specs.Links.{has, is_source, source_count}
 use Rattle.graph_bags.specs.declared.bag.Bag.{Bag}

@@ -1,27 +1,28 @@
 -- A pad leads where the graph tells, over the lane that was made for it.
 use Rattle.std.proofs.Common.{◌≡◌, ◌<◌, ◌≤◌, ◌⊎◌, ◌≢◌, ℕ, true, false, cond, List, [], ◌∷◌, ◌++◌, Option, None, Some, is_some, length, length-set, refl, sym, ap, ◌∙◌, subst, inl, inr, arith}
 use Rattle.std.specs.Prelude.{slice_get, slice_index_or}
-use Rattle.std.specs.Option.{option_map_or}
+use Rattle.std.specs.Option.{option_map, option_map_or}
 use Rattle.std.proofs.lemmas.List.{append-nil}
 use Rattle.std.proofs.lemmas.Option.{slice_get-get_or, slice_get_within}
 use Rattle.flow_model.specs.Account.{IsMember}
-use Rattle.el_set.specs.Asked.{sink_pads, source_pads}
+use Rattle.el_set.specs.Asked.{limits_of, sink_pads, source_pads}
+use Rattle.el_set.specs.declared.settings.QueueSettings.{QueueSettings}
 use Rattle.el_set.specs.declared.settings.Settings.{Settings}
-use Rattle.el_set.specs.declared.settings.Settings.TheVariants.{FileSrc, RampTestSrc, Identity, AudioConvert, Law, RawAudioParse, AudioBufferSplit, WavParse, WavEnc, CapsFilter, Queue, FileSink, FakeSink}
+use Rattle.el_set.proofs.Roles.{one_sink, one_source, queue_limits}
 use Rattle.graph_core.specs.Elements.{Made}
 use Rattle.graph_core.specs.Links.{sink_behind, source_before}
 use Rattle.graph_core.specs.declared.pad.PadLink.{PadLink}
 use Rattle.graph_core.specs.declared.pad.PadPlace.{PadPlace}
-use Rattle.graph_model.specs.Asked.{first_pad}
+use Rattle.graph_core.specs.Allowed.{first_pad}
 use Rattle.graph_bags.specs.Links.{has, has_inlets, place_at}
 use Rattle.graph_bags.specs.declared.bag.BagLink.{BagLink}
 use Rattle.graph_bags.specs.declared.bag.BagLink.TheVariants.{Nothing, Element, Lane}
 use Rattle.graph_bags.proofs.Onces.{in_back, in_front}
 use Rattle.graph_bags.proofs.Trees.{sink_there}
-use Rattle.graph_lanes.specs.Lanes.{OutletAt, lane_room, room_by}
+use Rattle.graph_lanes.specs.Lanes.{OutletAt, lane_room, room_by, room_of}
 use Rattle.graph_lanes.proofs.Slots.{slot_of_set}
 use Rattle.lane_core.specs.declared.ends.Outlet as outlets
-use Rattle.graph_model.specs.GraphPlan.{pad_id}
+use Rattle.graph_core.specs.GraphPlan.{pad_id}
 use Rattle.task_pads.specs.Behind.{end_in, goes, lane_end, WentIn}
 use Rattle.task_pads.specs.Pads.{HasCrossed, crossed_count, number_of, probe_of, rest_of, waiting_of}
 use Rattle.task_pads.specs.declared.pad.Behind.{Behind}
@@ -32,52 +33,13 @@ use Rattle.graph_tasks.specs.Wiring.{AreLinks, IsBehind, OutletsLeft, PadGiven, 
 some_same : {A : Type 0} {a b : A} → Some a ≡ Some b → a ≡ b
 some_same e = cc
 
--- an element that is fed from inlets has one sink pad at the most
-few_sinks : (s : Settings) → has_inlets s ≡ true → sink_pads s ≤ 1
-few_sinks (FileSrc s) is = omega arith
-few_sinks (RampTestSrc s) is = omega arith
-few_sinks Identity is = omega arith
-few_sinks (AudioConvert s) is = omega arith
-few_sinks (Law kind) is = omega arith
-few_sinks (RawAudioParse info) is = omega arith
-few_sinks (AudioBufferSplit s) is = omega arith
-few_sinks WavParse is = omega arith
-few_sinks WavEnc is = omega arith
-few_sinks (CapsFilter s) is = omega arith
-few_sinks (Queue s) is = omega arith
-few_sinks (FileSink s) is = omega arith
-few_sinks FakeSink is = omega arith
-
-few_sources : (s : Settings) → source_pads s ≤ 1
-few_sources (FileSrc s) = omega arith
-few_sources (RampTestSrc s) = omega arith
-few_sources Identity = omega arith
-few_sources (AudioConvert s) = omega arith
-few_sources (Law kind) = omega arith
-few_sources (RawAudioParse info) = omega arith
-few_sources (AudioBufferSplit s) = omega arith
-few_sources WavParse = omega arith
-few_sources WavEnc = omega arith
-few_sources (CapsFilter s) = omega arith
-few_sources (Queue s) = omega arith
-few_sources (FileSink s) = omega arith
-few_sources FakeSink = omega arith
-
--- and a lane, where something is linked to that
+-- an element that is fed from inlets has a lane, where something is linked to it
 has_room : (s : Settings) → has_inlets s ≡ true → room_by s ≡ None → ⊥
-has_room (FileSrc s) queue none = absurd (cc)
-has_room (RampTestSrc s) queue none = absurd (cc)
-has_room Identity queue none = absurd (cc)
-has_room (AudioConvert s) queue none = absurd (cc)
-has_room (Law kind) queue none = absurd (cc)
-has_room (RawAudioParse info) queue none = absurd (cc)
-has_room (AudioBufferSplit s) queue none = absurd (cc)
-has_room WavParse queue none = absurd (cc)
-has_room WavEnc queue none = absurd (cc)
-has_room (CapsFilter s) queue none = absurd (cc)
-has_room (Queue s) queue none = absurd (cc)
-has_room (FileSink s) queue none = absurd (cc)
-has_room FakeSink queue none = absurd (cc)
+has_room s queue none = by (limits_of s) (queue_limits s ∙ queue) none
+  where
+    by : (limits : Option QueueSettings) → is_some limits ≡ true → option_map room_of limits ≡ None → ⊥
+    by None is none = absurd (cc)
+    by (Some own) is none = absurd (cc)
 
 room_where : (before : Option PadPlace) (found : Option Made) (p : PadPlace) → before ≡ Some p → option_map_or (λ (m : Made). has_inlets m.settings) found false ≡ true
     → cond (is_some before) (option_map_or (λ (m : Made). room_by m.settings) found None) None ≡ None → ⊥
@@ -87,15 +49,15 @@ room_where (Some q) (Some m) p is queue none = has_room m.settings queue none
 
 first_of : (found : Option Made) (pad : ℕ) → option_map_or (λ (m : Made). has_inlets m.settings) found false ≡ true → pad < option_map_or (λ (m : Made). sink_pads m.settings) found 0 → pad ≡ 0
 first_of None pad is w = absurd (omega (arith, w))
-first_of (Some m) pad is w = let few = few_sinks m.settings is in omega (arith, few, w)
+first_of (Some m) pad is w = let few = one_sink m.settings in omega (arith, few, w)
 
 pub few_inlets : (found : Option Made) → option_map_or (λ (m : Made). has_inlets m.settings) found false ≡ true → option_map_or (λ (m : Made). sink_pads m.settings) found 0 ≤ 1
 few_inlets None is = omega arith
-few_inlets (Some m) is = few_sinks m.settings is
+few_inlets (Some m) is = one_sink m.settings
 
 pub few_ports : (found : Option Made) (port : ℕ) → port < option_map_or (λ (m : Made). source_pads m.settings) found 0 → port < 64
 few_ports None port w = absurd (omega (arith, w))
-few_ports (Some m) port w = let few = few_sources m.settings in omega (arith, few, w)
+few_ports (Some m) port w = let few = one_source m.settings in omega (arith, few, w)
 
 module _ (made : List Made) (links : List PadLink) (are : AreLinks made links) where
   -- of an element that is fed from inlets the first sink pad alone is linked

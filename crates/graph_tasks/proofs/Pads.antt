@@ -9,8 +9,8 @@ use Rattle.graph_core.specs.Graph.{IsSound, made as made_in, links as links_in}
 use Rattle.graph_core.specs.Links.{sink_behind}
 use Rattle.graph_core.specs.declared.graph.Graph.{Graph}
 use Rattle.graph_core.specs.declared.pad.PadPlace.{PadPlace}
-use Rattle.graph_model.specs.Once.{AreOnce}
-use Rattle.graph_model.specs.GraphPlan.{pad_id}
+use Rattle.graph_core.specs.LinkedOnce.{AreOnce}
+use Rattle.graph_core.specs.GraphPlan.{pad_id}
 use Rattle.graph_bags.specs.Links.{place_at, source_count}
 use Rattle.graph_moment.specs.Plans.{moment_plan, moment_answers}
 use Rattle.graph_moment.specs.Laws.{HasNumber, given_by}

@@ -5,8 +5,8 @@ use Rattle.std.specs.List.{AllZip}
 use Rattle.flow_model.specs.Account.{IsMember}
 use Rattle.lane_core.specs.declared.ends.Inlet as inlets
 use Rattle.lane_core.specs.declared.ends.Outlet as outlets
-use Rattle.element_traits.specs.declared.element.TaskElement as elements
-use Rattle.element_traits.specs.declared.source.TaskSource as sources
+use Rattle.net_model.specs.declared.element.TaskElement as elements
+use Rattle.net_model.specs.declared.source.TaskSource as sources
 use Rattle.graph_bags.specs.Bags.{Once}
 use Rattle.graph_bags.proofs.Onces.{in_back, in_front, once_apart, once_back, once_front}
 use Rattle.task_parts.specs.declared.head.Head.{Head}

@@ -4,8 +4,8 @@ use Rattle.flow_model.specs.Account.{IsMember}
 use Rattle.lane_core.specs.Lane.{Lane}
 use Rattle.lane_core.specs.declared.ends.Inlet as inlets
 use Rattle.lane_core.specs.declared.ends.Outlet as outlets
-use Rattle.element_traits.specs.declared.element.TaskElement as elements
-use Rattle.element_traits.specs.declared.source.TaskSource as sources
+use Rattle.net_model.specs.declared.element.TaskElement as elements
+use Rattle.net_model.specs.declared.source.TaskSource as sources
 use Rattle.graph_core.specs.Elements.{Made}
 use Rattle.graph_core.specs.Graph.{made as made_in, links as links_in}
 use Rattle.graph_core.specs.Links.{sink_behind}
@@ -34,7 +34,7 @@ use Rattle.graph_tasks.proofs.Given.{IsKnown, IsPlaced, one_task, placed}
 use Rattle.graph_tasks.proofs.Wires.{GoesOver, goes_over, one_over, wire_of_bag}
 use Rattle.graph_tasks.proofs.Readies.{row_else}
 use Rattle.graph_tasks.proofs.Heads.{fed_among, fed_rows, inlets_of, one_owner}
-use Rattle.graph_model.specs.GraphPlan.{pad_id}
+use Rattle.graph_core.specs.GraphPlan.{pad_id}
 
 module _ {O L : Type 0} (o : outlets.Ghosts O L) (made : List Made) (links : List PadLink) where
   -- the sink pad behind a lane is that of the link

@@ -7,7 +7,7 @@ use Rattle.lane_core.specs.declared.ends.Outlet as outlets
 use Rattle.graph_core.specs.Elements.{Made}
 use Rattle.graph_core.specs.Links.{HasPads, sink_behind}
 use Rattle.graph_core.specs.declared.pad.PadLink.{PadLink}
-use Rattle.graph_model.specs.Once.{AreOnce}
+use Rattle.graph_core.specs.LinkedOnce.{AreOnce}
 use Rattle.graph_bags.specs.Bags.{AreBags, IsBag, IsHead, Once, cells, head_cells, head_number, head_of, number_of}
 use Rattle.graph_bags.specs.Laws.{IsLink, TellsPads}
 use Rattle.graph_bags.specs.Links.{place_at, source_count}

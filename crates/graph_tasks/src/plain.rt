@@ -5,10 +5,10 @@ ghost use Rattle.graph_core.specs.Elements.{Made};
 ghost use Rattle.graph_core.specs.Graph.{made as made_in};
 ghost use Rattle.graph_tasks.specs.Plan.{ElementAt, SourceAt};
 
-use element_traits::{Refusal, TaskElement, TaskSource, Unread};
 use graph_core::Graph;
 use gst_caps::OutOfMemory;
 use gst_item::{Item, Outs};
+use net_model::{Refused, TaskElement, TaskSource, Unread};
 use std::alloc::Global;
 
 /// An element that has so many source pads, and puts nothing out.
@@ -40,7 +40,7 @@ impl TaskElement for Plain {
         _pad: u32,
         item: Item,
         _out: &mut Outs,
-    ) -> Result<(), Refusal> {
+    ) -> Result<(), Refused> {
         drop(item);
         Ok(())
     }

@@ -1,7 +1,7 @@
 //! The source pads of a graph's elements, each leading where the graph tells.
 ghost use Rattle.std.specs.Prelude.{◌≡◌, ◌<◌, ℕ, List, IfOk, length};
 ghost use Rattle.graph_core.specs.Graph.{made as made_in, links as links_in};
-ghost use Rattle.graph_model.specs.GraphPlan.{most_pads, pad_id};
+ghost use Rattle.graph_core.specs.GraphPlan.{most_pads, pad_id};
 ghost use Rattle.graph_bags.specs.Links.{place_at};
 ghost use Rattle.graph_tasks.specs.Wiring.{CellGiven, IsBehind, LooksAt, OutletsLeft, PadGiven, PadMade, PadsMade, over_lane, without_lane};
 

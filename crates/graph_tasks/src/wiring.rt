@@ -1,7 +1,7 @@
 //! The tasks of a graph, without their elements.
 ghost use Rattle.std.specs.Prelude.{◌≡◌, ℕ, List, [], IfOk};
 ghost use Rattle.graph_core.specs.Graph.{IsSound, made as made_in, links as links_in};
-ghost use Rattle.graph_model.specs.Once.{AreOnce};
+ghost use Rattle.graph_core.specs.LinkedOnce.{AreOnce};
 ghost use Rattle.graph_tasks.specs.Wired.{IsWired};
 ghost use Rattle.graph_tasks.specs.Wiring.{BagGiven, BagMade, BagsGiven, BagsMade, CellsGiven, HeadGiven, HeadMade, InletsLeft, OutletsLeft, PartsMade, first_link};
 

@@ -165,7 +165,8 @@ fn all_meets(
     second: &[Structure],
 ) -> Result<List<Structure>, CapsFault>
     ensures order { IfOk result (λ made. made ≡ all_meets first.now second.now) }
-    ensures members { OnOk result ((x : Description FieldOne) → list_any (λ s. takes s x) (all_meets first.now second.now) ≡ (list_any (λ s. takes s x) first.now && list_any (λ s. takes s x) second.now)) }
+    ensures members { OnOk result ((x : Description FieldOne)
+        → list_any (λ s. takes s x) (all_meets first.now second.now) ≡ (list_any (λ s. takes s x) first.now && list_any (λ s. takes s x) second.now)) }
     ensures too_many { TooManyWhere result (structures_pass (all_meets first.now second.now) ≡ true) }
 {
     let mut made = List::new(alloc);
@@ -190,7 +191,8 @@ fn has_structure(structures: &[Structure]) -> bool
 
 /// Whether a structure of the first meets one of the second.
 fn some_meet(first: &[Structure], second: &[Structure]) -> bool
-    ensures { IsTrue result ↔ ((x : Description FieldOne) × IsFixed x × IsTrue (list_any (λ s. takes s x) first.now) × IsTrue (list_any (λ s. takes s x) second.now)) }
+    ensures { IsTrue result ↔ ((x : Description FieldOne) × IsFixed x × IsTrue (list_any (λ s. takes s x) first.now)
+        × IsTrue (list_any (λ s. takes s x) second.now)) }
 {
     for one in first {
         if one.meets_one(second) {

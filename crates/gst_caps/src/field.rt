@@ -28,8 +28,10 @@ fn count_before<V>(fields: &[(Text, V)], name: &str) -> usize
 fn place_of<V>(fields: &[(Text, V)], name: &str) -> Result<usize, usize>
     requires { Rises fields.now }
     ensures within { MatchResult result (λ place. place < length fields.now) (λ place. place ≤ length fields.now) }
-    ensures count { MatchResult result (λ _. (v : V) → length (put name.now v fields.now) ≡ length fields.now) (λ _. (v : V) → length (put name.now v fields.now) ≡ length fields.now + 1) }
-    ensures found { IfOk result (λ place. (v : V) (d : List ℕ × V) → slice_set fields.now place ((slice_index_or fields.now place d).0, v) ≡ put name.now v fields.now) }
+    ensures count { MatchResult result (λ _. (v : V) → length (put name.now v fields.now) ≡ length fields.now)
+        (λ _. (v : V) → length (put name.now v fields.now) ≡ length fields.now + 1) }
+    ensures found { IfOk result (λ place. (v : V) (d : List ℕ × V)
+        → slice_set fields.now place ((slice_index_or fields.now place d).0, v) ≡ put name.now v fields.now) }
     ensures absent { IfErr result (λ place. (v : V) → insert fields.now place (name.now, v) ≡ put name.now v fields.now) }
 {
     let place = count_before(fields, name);

@@ -74,8 +74,10 @@ fn fix_next(
     requires others { Rises others.now }
     requires field { field < length fields.now }
     requires place { place < length others.now }
-    ensures ok { IfOk result (λ next. made.new.items ++ map fixed_field (merged_from next.0 next.1 fields.now others.now) ≡ made.old.items ++ map fixed_field (merged_from field place fields.now others.now)) }
-    ensures forth { IfOk result (λ next. (field ≤ next.0) × (place ≤ next.1) × (field + place < next.0 + next.1) × (next.0 ≤ length fields.now) × (next.1 ≤ length others.now)) }
+    ensures ok { IfOk result (λ next. made.new.items ++ map fixed_field (merged_from next.0 next.1 fields.now others.now)
+        ≡ made.old.items ++ map fixed_field (merged_from field place fields.now others.now)) }
+    ensures forth { IfOk result (λ next. (field ≤ next.0) × (place ≤ next.1) × (field + place < next.0 + next.1) × (next.0 ≤ length fields.now)
+        × (next.1 ≤ length others.now)) }
 {
     let one = &fields[field];
     let other = &others[place];

@@ -23,6 +23,7 @@ impl<T> Model for List<T> {
 
 impl<T> List<T> {
     /// The list without members, which takes no memory.
+    #[inline(always)]
     pub fn new(alloc: Global) -> List<T>
         ensures { result ≡ [] }
     {
@@ -32,6 +33,7 @@ impl<T> List<T> {
     }
 
     /// The members of a vector, which are not copied.
+    #[inline(always)]
     pub fn from_vec(members: Vec<T>) -> List<T>
         ensures { result ≡ members.items }
     {
@@ -39,6 +41,7 @@ impl<T> List<T> {
     }
 
     /// The members, as a vector.
+    #[inline(always)]
     pub fn into_vec(self) -> Vec<T>
         ensures { result.items ≡ self }
     {
@@ -47,6 +50,7 @@ impl<T> List<T> {
     }
 
     /// The members, in their order.
+    #[inline(always)]
     pub fn as_slice(&self) -> &[T]
         ensures { result.now ≡ self.now }
     {
@@ -56,6 +60,7 @@ impl<T> List<T> {
 
 impl<T: Drop> List<T> {
     /// Puts a member behind the list. Where there is no memory the list stays, and the member is given up.
+    #[inline(always)]
     pub fn push(&mut self, _alloc: Global, one: T) -> Result<(), OutOfMemory>
         ensures ok { OnOk result (self.new ≡ self.old ++ one ∷ []) }
         ensures err { OnErr result (self.new ≡ self.old) }

@@ -52,9 +52,11 @@ fn merge_next(
     requires within { fields_pass made.old.items ≡ false }
     requires field { field < length fields.now }
     requires place { place < length others.now }
-    ensures ok { IfOk result (λ next. made.new.items ++ merged_from next.0 next.1 fields.now others.now ≡ made.old.items ++ merged_from field place fields.now others.now) }
+    ensures ok { IfOk result (λ next. made.new.items ++ merged_from next.0 next.1 fields.now others.now
+        ≡ made.old.items ++ merged_from field place fields.now others.now) }
     ensures within { OnOk result (fields_pass made.new.items ≡ false) }
-    ensures forth { IfOk result (λ next. (field ≤ next.0) × (place ≤ next.1) × (field + place < next.0 + next.1) × (next.0 ≤ length fields.now) × (next.1 ≤ length others.now)) }
+    ensures forth { IfOk result (λ next. (field ≤ next.0) × (place ≤ next.1) × (field + place < next.0 + next.1) × (next.0 ≤ length fields.now)
+        × (next.1 ≤ length others.now)) }
     ensures too_many { IfErr result (λ fault. IsFaultWhere fault (fields_pass (made.old.items ++ merged_from field place fields.now others.now) ≡ true)) }
 {
     let one = &fields[field];

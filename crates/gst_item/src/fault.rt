@@ -2,6 +2,9 @@
 ghost use Rattle.std.specs.Prelude.{◌≡◌};
 
 use gst_caps::{Caps, Fixed, OutOfMemory};
+use std::fmt;
+use std::fmt::{Debug, Display, Formatter, Write};
+use thiserror::Error;
 
 /// What is wrong with the bytes of a stream.
 #[derive(Clone, Copy, Debug, PartialEq, Eq)]
@@ -27,24 +30,35 @@ pub enum StreamKind {
 }
 
 /// Why an element did not take an item. It and what it put out are then as before.
-#[derive(Drop)]
+#[derive(Drop, Error)]
 pub enum ElementFault {
     /// The caps of the stream are not those that are wanted. Without `offered` it had none.
+    #[error("the caps are not those that are wanted")]
     NotNegotiated {
         offered: Option<Fixed>,
         wanted: Caps,
     },
     /// The bytes of the stream are wrong behind the first `place` of them.
+    #[error("a wrong stream at byte {place}: {kind:?}")]
     BadStream {
         place: u64,
         kind: StreamKind,
     },
     /// A number passed its limit: `a` stood, and `b` more was to come.
+    #[error("{a} and {b} more pass the limit")]
     TooLong {
         a: u64,
         b: u64,
     },
+    #[error("out of memory")]
     OutOfMemory,
+}
+
+/// Written as its message, since caps have no `Debug`.
+impl Debug for ElementFault {
+    fn fmt<W: Write>(&self, formatter: &mut Formatter<W>) -> fmt::Result {
+        Display::fmt(self, formatter)
+    }
 }
 
 impl From<OutOfMemory> for ElementFault {

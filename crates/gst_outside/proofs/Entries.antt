@@ -9,7 +9,7 @@ use Rattle.std.proofs.lemmas.Option.{slice_get-get_or, slice_get_past}
 use Rattle.std.proofs.lemmas.Slice.Eq.{bytes_eq-Decides}
 use Rattle.std.proofs.lemmas.Bool.{ltb-true, ltb-false}
 use Rattle.gst_outside.specs.declared.mem_file.MemFile.{MemFile}
-use Rattle.gst_outside.specs.Table.{is_of, new_file, file_at, has_file}
+use Rattle.gst_outside.specs.Table.{Changes, is_of, new_file, file_at, has_file}
 
 from_test : (b : Bool) (k i : ℕ) → cond b (Some k) None ≡ Some i → (b ≡ true) × (k ≡ i)
 from_test true k i e = (refl, cc)
@@ -69,6 +69,10 @@ changed_case files location i new e same l true h =
 changed_case files location i new e same l false h =
     find_past (is_of l) files i new new (ap (λ m. bytes_eq m l) (found_location files location i new e) ∙ h) (ap (λ m. bytes_eq m l) same ∙ h)
 
+-- the index that a look through the same entries gave
+pub same_found : (seen files : List MemFile) (location : List ℕ) (i : ℕ) → position (is_of location) seen ≡ Some i → seen ≡ files → position (is_of location) files ≡ Some i
+same_found seen files location i e same = ap (position (is_of location)) (sym same) ∙ e
+
 -- a change of the entry that is found
 found_changed : (files : List MemFile) (location : List ℕ) (i : ℕ) (new : MemFile) → position (is_of location) files ≡ Some i → new.location ≡ location → (l : List ℕ) → find (is_of l) (set files i new) ≡ (if bytes_eq location l then Some new else find (is_of l) files)
 found_changed files location i new e same l = changed_case files location i new e same l (bytes_eq location l) refl
@@ -79,7 +83,7 @@ file_case true l m files f new h = h refl
 file_case false l m files f new h = refl
 
 -- a change of the entry that is found changes the file there, and no other
-pub changed_file : (f : MemFile → MemFile) → ((x : MemFile) → (f x).location ≡ x.location) → (files : List MemFile) (location : List ℕ) (i : ℕ) (old new : MemFile) → position (is_of location) files ≡ Some i → old ≡ get_or files i old → new ≡ f old → (l : List ℕ) → file_at (set files i new) l ≡ (if bytes_eq location l then f (file_at files l) else file_at files l)
+changed_file : (f : MemFile → MemFile) → ((x : MemFile) → (f x).location ≡ x.location) → (files : List MemFile) (location : List ℕ) (i : ℕ) (old new : MemFile) → position (is_of location) files ≡ Some i → old ≡ get_or files i old → new ≡ f old → (l : List ℕ) → file_at (set files i new) l ≡ (if bytes_eq location l then f (file_at files l) else file_at files l)
 changed_file f keeps files location i old new e read is l =
     let there : old.location ≡ location = ap (λ x. x.location) read ∙ found_location files location i old e in
     let same : new.location ≡ location = ap (λ x. x.location) is ∙ keeps old ∙ there in
@@ -92,11 +96,21 @@ there_case true new o h = refl
 there_case false new o h = h
 
 -- and no entry goes
-pub changed_there : (f : MemFile → MemFile) → ((x : MemFile) → (f x).location ≡ x.location) → (files : List MemFile) (location : List ℕ) (i : ℕ) (old new : MemFile) → position (is_of location) files ≡ Some i → old ≡ get_or files i old → new ≡ f old → (l : List ℕ) → IsTrue (has_file files l) → IsTrue (has_file (set files i new) l)
+changed_there : (f : MemFile → MemFile) → ((x : MemFile) → (f x).location ≡ x.location) → (files : List MemFile) (location : List ℕ) (i : ℕ) (old new : MemFile) → position (is_of location) files ≡ Some i → old ≡ get_or files i old → new ≡ f old → (l : List ℕ) → IsTrue (has_file files l) → IsTrue (has_file (set files i new) l)
 changed_there f keeps files location i old new e read is l h =
     let there : old.location ≡ location = ap (λ x. x.location) read ∙ found_location files location i old e in
     let same : new.location ≡ location = ap (λ x. x.location) is ∙ keeps old ∙ there in
     ap is_some (found_changed files location i new e same l) ∙ there_case (bytes_eq location l) new (find (is_of l) files) h
+
+-- both, for the entry that a look through the same entries found
+pub changed : (f : MemFile → MemFile) → ((x : MemFile) → (f x).location ≡ x.location) → (looked files : List MemFile) (location : List ℕ) (i : ℕ) (old new : MemFile) → position (is_of location) looked ≡ Some i → looked ≡ files → old ≡ get_or files i old → new ≡ f old
+    → Changes f location files (set files i new)
+changed f keeps looked files location i old new found same read is =
+    let e = same_found looked files location i found same in
+    record {
+      file = changed_file f keeps files location i old new e read is;
+      kept = changed_there f keeps files location i old new e read is;
+    }
 
 pushed_case : (l location : List ℕ) (o : Option MemFile) (b : Bool) → bytes_eq location l ≡ b → unwrap_or (option_or o (cond b (Some (new_file location)) None)) (new_file l) ≡ unwrap_or o (new_file l)
 pushed_case l location (Some x) b h = refl
@@ -125,10 +139,6 @@ pub pushed_self : (files : List MemFile) (location : List ℕ) → IsTrue (has_f
 pushed_self files location =
     ap is_some (find-append (is_of location) files (new_file location ∷ []))
     ∙ last_some (find (is_of location) files) (new_file location) (bytes_eq location location) ((bytes_eq-Decides location location).1 refl)
-
--- the index that a look through the same entries gave
-pub same_found : (seen files : List MemFile) (location : List ℕ) (i : ℕ) → position (is_of location) seen ≡ Some i → seen ≡ files → position (is_of location) files ≡ Some i
-same_found seen files location i e same = ap (position (is_of location)) (sym same) ∙ e
 
 -- the entry that was put last, where there was none
 pub pushed_found : (files : List MemFile) (location : List ℕ) (n : ℕ) (d : MemFile) → position (is_of location) files ≡ None → n ≡ length files → get_or (files ++ new_file location ∷ []) n d ≡ file_at (files ++ new_file location ∷ []) location

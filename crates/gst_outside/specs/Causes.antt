@@ -1,5 +1,5 @@
 -- Counts of failures, and what a failure does to them.
-use Rattle.std.specs.Prelude.{◌≡◌, ◌≤◌, ℕ, ◌+◌, ◌-◌, min, Option, option_map, Result, Ok, Err}
+use Rattle.std.specs.Prelude.{◌≡◌, ◌≤◌, ◌<◌, ℕ, ◌+◌, ◌-◌, min, Option, option_map, Result, Ok, Err, IfOk, OnErr}
 use Rattle.gst_outside.specs.declared.opening.OpenEnd.{OpenEnd}
 use Rattle.gst_outside.specs.declared.opening.OpenEnd.TheVariants.{Failed, OutOfMemory}
 
@@ -18,6 +18,13 @@ raised n = plus n 1
 -- a count rose by one or more, or stands at its last value
 abbrev pub Rose : ℕ → ℕ → Type 0
 Rose before after = raised before ≤ after
+
+-- some of a piece of so many bytes was written, or a call failed
+pub record WritesSome {E : Type 0} (size : ℕ) (result : Result ℕ E) (before after : ℕ) : Type 0 where
+  pub never_falls : before ≤ after
+  pub failed : OnErr result (Rose before after)
+  pub part : IfOk result (λ n. n ≤ size)
+  pub some : IfOk result (λ n. 0 < n)
 
 -- what an opening that gave no end says of the count of failures: it rose, or memory was wanting and it stayed
 abbrev pub OpenCause : OpenEnd → ℕ → ℕ → Type 0

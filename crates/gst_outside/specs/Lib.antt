@@ -1,7 +1,10 @@
 pub mod Bytes
+pub mod Calls
 pub mod Causes
-pub mod Numbers
+pub mod Ends
+pub mod Memory
 pub mod Openings
 pub mod Places
 pub mod Room
+pub mod Seen
 pub mod Table

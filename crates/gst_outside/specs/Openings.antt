@@ -1,6 +1,7 @@
 -- Openings of files in memory.
-use Rattle.std.specs.Prelude.{◌≡◌, ℕ, Bool, true, false, Result, Ok, Err}
-use Rattle.gst_outside.specs.Causes.{raised}
+use Rattle.std.specs.Prelude.{◌≡◌, Bool, true, false, Result, Ok, Err}
+use Rattle.gst_outside.specs.Calls.{counted}
+use Rattle.gst_outside.specs.declared.calls.Calls.{Calls}
 use Rattle.gst_outside.specs.declared.opening.OpenEnd.{OpenEnd}
 use Rattle.gst_outside.specs.declared.opening.OpenEnd.TheVariants.{Failed, OutOfMemory}
 
@@ -10,8 +11,8 @@ FailsWhere (Ok _) listed = listed ≡ false
 FailsWhere (Err Failed) listed = listed ≡ true
 FailsWhere (Err OutOfMemory) listed = Unit {0}
 
--- how many openings were made: one for which memory was wanting does not count
-abbrev pub made_after : {T : Type 0} → Result T OpenEnd → ℕ → ℕ
-made_after (Ok _) made = raised made
-made_after (Err Failed) made = raised made
-made_after (Err OutOfMemory) made = made
+-- the openings that were made: one for which memory was wanting does not count
+abbrev pub calls_after : {T : Type 0} → Result T OpenEnd → Calls → Calls
+calls_after (Ok _) calls = counted calls
+calls_after (Err Failed) calls = counted calls
+calls_after (Err OutOfMemory) calls = calls

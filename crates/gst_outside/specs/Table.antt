@@ -1,6 +1,7 @@
 -- Files in memory by their locations.
-use Rattle.std.specs.Prelude.{ℕ, Bool, List, [], bytes_eq, is_some, unwrap_or, Option, Some, IsTrue}
+use Rattle.std.specs.Prelude.{◌≡◌, ℕ, Bool, if◌then◌else◌, List, [], bytes_eq, is_some, unwrap_or, Option, Some, IsTrue}
 use Rattle.std.specs.List.{find}
+use Rattle.gst_outside.specs.Causes.{plus, raised}
 use Rattle.gst_outside.specs.declared.mem_file.MemFile.{MemFile}
 use Rattle.gst_outside.specs.declared.mem_file.TheConstants.{AMPLE_ROOM}
 
@@ -48,3 +49,30 @@ refused_at files location = Some (file_at files location).refused
 -- a location has an entry
 abbrev pub IsOpened : List MemFile → List ℕ → Type 0
 IsOpened files location = IsTrue (has_file files location)
+
+-- the files stay, and no entry goes
+pub record SameFiles (before after : List MemFile) : Type 0 where
+  pub file : (l : List ℕ) → file_at after l ≡ file_at before l
+  pub kept : (l : List ℕ) → IsOpened before l → IsOpened after l
+
+-- the file at one location is changed, and no entry goes
+pub record Changes (change : MemFile → MemFile) (location : List ℕ) (before after : List MemFile) : Type 0 where
+  pub file : (l : List ℕ) → file_at after l ≡ (if bytes_eq location l then change (file_at before l) else file_at before l)
+  pub kept : (l : List ℕ) → IsOpened before l → IsOpened after l
+
+-- Changes of a file: what sources read, with the numbers of their calls that are to fail; the room of sinks, with those of
+-- their calls; what a sink left; more failures of ends; one more refusal.
+abbrev pub with_input : List ℕ → List ℕ → List ℕ → MemFile → MemFile
+with_input input reads sizes file = record file { input = input; reads = reads; sizes = sizes }
+
+abbrev pub with_sinks : ℕ → List ℕ → List ℕ → MemFile → MemFile
+with_sinks room writes cuts file = record file { room = room; writes = writes; cuts = cuts }
+
+abbrev pub with_output : List ℕ → MemFile → MemFile
+with_output output file = record file { output = output }
+
+abbrev pub with_faults : ℕ → MemFile → MemFile
+with_faults faults file = record file { faults = plus file.faults faults }
+
+abbrev pub with_refusal : MemFile → MemFile
+with_refusal file = record file { refused = raised file.refused }

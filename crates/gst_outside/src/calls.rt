@@ -1,7 +1,6 @@
 //! Calls that are counted, some of which are to fail.
-ghost use Rattle.std.specs.Prelude.{◌≡◌, [], IfOk};
-ghost use Rattle.gst_outside.specs.Causes.{raised};
-ghost use Rattle.gst_outside.specs.Numbers.{is_listed};
+ghost use Rattle.std.specs.Prelude.{◌≡◌, IfOk};
+ghost use Rattle.gst_outside.specs.Calls.{counted, new_calls, next_fails};
 
 use gst_caps::{List, OutOfMemory};
 use std::alloc::Global;
@@ -17,26 +16,23 @@ pub struct Calls {
 impl Calls {
     /// No call yet, and the numbers of those that are to fail.
     pub fn new(failing: List<u64>) -> Calls
-        ensures made { result.made ≡ 0 }
-        ensures failing { result.failing ≡ failing }
+        ensures { result ≡ new_calls failing }
     {
         Calls { made: 0, failing }
     }
 
     /// Whether the next call is to fail.
     pub fn next_fails(&self) -> bool
-        ensures { result ≡ is_listed self.now.failing (raised self.now.made) }
+        ensures { result ≡ next_fails self.now }
     {
-        self.failing
-            .as_slice()
-            .contains(&self.made.saturating_add(1))
+        let next = self.made.saturating_add(1);
+        self.failing.as_slice().contains(&next)
     }
 
     /// Counts the next call, and tells whether it is to fail.
     pub fn count(&mut self) -> bool
-        ensures fails { result ≡ is_listed self.old.failing (raised self.old.made) }
-        ensures made { self.new.made ≡ raised self.old.made }
-        ensures failing { self.new.failing ≡ self.old.failing }
+        ensures fails { result ≡ next_fails self.old }
+        ensures counted { self.new ≡ counted self.old }
     {
         let fails = self.next_fails();
         self.made = self.made.saturating_add(1);

@@ -1,6 +1,6 @@
 //! Files of the host that are written.
-ghost use Rattle.std.specs.Prelude.{◌≡◌, ◌≤◌, ◌<◌, None, Some, OnErr, OnOk, IfOk, length};
-ghost use Rattle.gst_outside.specs.Causes.{raised, Rose};
+ghost use Rattle.std.specs.Prelude.{◌≡◌, None, Some, length};
+ghost use Rattle.gst_outside.specs.Causes.{WritesSome, raised};
 
 use crate::failed::Failed;
 use crate::sink::{LARGEST_END, Sink};
@@ -30,35 +30,29 @@ impl FileSink {
         }
     }
 
-    fn raise(&mut self)
-        ensures location { self.new.location ≡ self.old.location }
-        ensures faults { self.new.faults ≡ raised self.old.faults }
+    fn fail(&mut self) -> Failed
+        ensures { self.new ≡ record self.old { faults = raised self.old.faults } }
     {
         self.faults = self.faults.saturating_add(1);
+        Failed
     }
 
     /// Writes some of a piece that is not empty.
     fn write_some(&mut self, place: u64, piece: &[u8]) -> Result<usize, Failed>
         ensures location { self.new.location ≡ self.old.location }
-        ensures never_falls { self.old.faults ≤ self.new.faults }
-        ensures failed { OnErr result (Rose self.old.faults self.new.faults) }
-        ensures part { IfOk result (λ n. n ≤ length piece.now) }
-        ensures some { IfOk result (λ n. 0 < n) }
+        ensures writes { WritesSome (length piece.now) result self.old.faults self.new.faults }
     {
         for _ in 0..u64::MAX {
             match self.file.write_at(piece, place) {
                 Ok(0) => break,
                 Ok(count) => return Ok(count),
-                Err(error) => {
-                    self.raise();
-                    if error.kind() != ErrorKind::Interrupted {
-                        return Err(Failed);
-                    }
+                Err(error) if error.kind() == ErrorKind::Interrupted => {
+                    self.fail();
                 }
+                Err(_) => break,
             }
         }
-        self.raise();
-        Err(Failed)
+        Err(self.fail())
     }
 }
 
@@ -71,8 +65,7 @@ impl Sink for FileSink {
 
     fn write_at(&mut self, place: u64, piece: &[u8]) -> Result<usize, Failed> {
         if place > LARGEST_END || piece.len() as u64 > LARGEST_END - place {
-            self.raise();
-            return Err(Failed);
+            return Err(self.fail());
         }
         if piece.is_empty() {
             return Ok(0);
@@ -87,8 +80,7 @@ impl Sink for FileSink {
             Err(error) => Err(error),
         };
         if cut.is_err() {
-            self.raise();
-            return Err(Failed);
+            return Err(self.fail());
         }
         Ok(())
     }

@@ -30,11 +30,11 @@ impl FileSource {
         }
     }
 
-    fn raise(&mut self)
-        ensures location { self.new.location ≡ self.old.location }
-        ensures faults { self.new.faults ≡ raised self.old.faults }
+    fn fail(&mut self) -> Failed
+        ensures { self.new ≡ record self.old { faults = raised self.old.faults } }
     {
         self.faults = self.faults.saturating_add(1);
+        Failed
     }
 }
 
@@ -49,25 +49,17 @@ impl Source for FileSource {
         for _ in 0..u64::MAX {
             match self.file.read_at(into, place) {
                 Ok(count) => return Ok(count),
-                Err(error) => {
-                    self.raise();
-                    if error.kind() != ErrorKind::Interrupted {
-                        return Err(Failed);
-                    }
-                }
+                Err(error) if error.kind() == ErrorKind::Interrupted => {}
+                Err(_) => break,
             }
         }
-        self.raise();
-        Err(Failed)
+        Err(self.fail())
     }
 
     fn size(&mut self) -> Result<u64, Failed> {
         match self.file.metadata() {
             Ok(metadata) => Ok(metadata.len()),
-            Err(_) => {
-                self.raise();
-                Err(Failed)
-            }
+            Err(_) => Err(self.fail()),
         }
     }
 

@@ -1,6 +1,7 @@
 //! Files of the host.
-ghost use Rattle.std.specs.Prelude.{◌≡◌, None};
+ghost use Rattle.std.specs.Prelude.{◌≡◌};
 ghost use Rattle.gst_outside.specs.Causes.{raised};
+ghost use Rattle.gst_outside.specs.Seen.{untold};
 
 use crate::file_sink::FileSink;
 use crate::file_source::FileSource;
@@ -40,8 +41,7 @@ impl<R: fs::Files<File = File> + Drop> HostFiles<R> {
 
     fn refuse(&mut self) -> OpenEnd
         ensures answer { result ≡ OpenEnd.Failed }
-        ensures faults { self.new.faults ≡ raised self.old.faults }
-        ensures ends { self.new.ends ≡ self.old.ends }
+        ensures leaves { self.new ≡ record self.old { faults = raised self.old.faults } }
     {
         self.faults = self.faults.saturating_add(1);
         OpenEnd::Failed
@@ -53,40 +53,26 @@ impl<R: fs::Files<File = File> + Drop> Files for HostFiles<R> {
 
     type Snk = FileSink;
 
-    ghost input = { λ _ _. None };
-
-    ghost output = { λ _ _. None };
-
-    ghost faults_of = { λ _ _. None };
-
-    ghost refused_of = { λ _ _. None };
-
-    ghost faults = { λ m. m.faults };
-
-    ghost ends = { λ m. m.ends };
+    ghost seen = { λ m. untold m.faults m.ends };
 
     ghost opened = { λ _ _. Unit {0} };
 
     fn open_read(&mut self, alloc: Global, location: &str) -> Result<FileSource, OpenEnd> {
         let place = Text::from_str(alloc, location)?;
-        match fs::open(&self.host, location) {
-            Ok(file) => {
-                self.ends = self.ends.saturating_add(1);
-                Ok(FileSource::new(file, place))
-            }
-            Err(_) => Err(self.refuse()),
-        }
+        let Ok(file) = fs::open(&self.host, location) else {
+            return Err(self.refuse());
+        };
+        self.ends = self.ends.saturating_add(1);
+        Ok(FileSource::new(file, place))
     }
 
     fn open_write(&mut self, alloc: Global, location: &str) -> Result<FileSink, OpenEnd> {
         let place = Text::from_str(alloc, location)?;
-        match fs::create(&self.host, location) {
-            Ok(file) => {
-                self.ends = self.ends.saturating_add(1);
-                Ok(FileSink::new(file, place))
-            }
-            Err(_) => Err(self.refuse()),
-        }
+        let Ok(file) = fs::create(&self.host, location) else {
+            return Err(self.refuse());
+        };
+        self.ends = self.ends.saturating_add(1);
+        Ok(FileSink::new(file, place))
     }
 
     fn close_read(&mut self, end: FileSource) {

@@ -1,5 +1,7 @@
 //! What files in memory keep of one location.
-ghost use Rattle.std.specs.Prelude.{◌≡◌, [], IfOk};
+ghost use Rattle.std.specs.Prelude.{◌≡◌, IfOk};
+ghost use Rattle.gst_outside.specs.Ends.{IsNewSink, new_source};
+ghost use Rattle.gst_outside.specs.Table.{new_file};
 
 use crate::calls::copy_list;
 use crate::mem_sink::MemSink;
@@ -29,8 +31,6 @@ pub struct MemFile {
 }
 
 impl MemFile {
-    ghost use Rattle.gst_outside.specs.Table.{new_file};
-
     /// An empty file with ample room, on which no call fails.
     pub fn new(alloc: Global, location: &str) -> Result<MemFile, OutOfMemory>
         ensures { IfOk result (λ made. made ≡ new_file location.now) }
@@ -51,13 +51,7 @@ impl MemFile {
 
     /// A source of the input.
     pub fn source(&self, alloc: Global) -> Result<MemSource, OutOfMemory>
-        ensures location { IfOk result (λ s. s.location ≡ self.now.location) }
-        ensures content { IfOk result (λ s. s.content ≡ self.now.input) }
-        ensures faults { IfOk result (λ s. s.faults ≡ 0) }
-        ensures reads { IfOk result (λ s. s.reading.failing ≡ self.now.reads) }
-        ensures sizes { IfOk result (λ s. s.sizing.failing ≡ self.now.sizes) }
-        ensures read { IfOk result (λ s. s.reading.made ≡ 0) }
-        ensures sized { IfOk result (λ s. s.sizing.made ≡ 0) }
+        ensures { IfOk result (λ s. s ≡ new_source self.now.location self.now.input self.now.reads self.now.sizes) }
     {
         Ok(MemSource::new(
             self.location.copy(alloc)?,
@@ -69,14 +63,7 @@ impl MemFile {
 
     /// An empty sink.
     pub fn sink(&self, alloc: Global) -> Result<MemSink, OutOfMemory>
-        ensures location { IfOk result (λ k. k.location ≡ self.now.location) }
-        ensures empty { IfOk result (λ k. k.bytes.items ≡ []) }
-        ensures room { IfOk result (λ k. k.room ≡ self.now.room) }
-        ensures faults { IfOk result (λ k. k.faults ≡ 0) }
-        ensures writes { IfOk result (λ k. k.writing.failing ≡ self.now.writes) }
-        ensures cuts { IfOk result (λ k. k.cutting.failing ≡ self.now.cuts) }
-        ensures wrote { IfOk result (λ k. k.writing.made ≡ 0) }
-        ensures cut { IfOk result (λ k. k.cutting.made ≡ 0) }
+        ensures { IfOk result (IsNewSink self.now.location self.now.room self.now.writes self.now.cuts) }
     {
         MemSink::new(
             alloc,

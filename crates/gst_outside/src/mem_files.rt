@@ -1,10 +1,12 @@
 //! Files in memory.
-ghost use Rattle.std.specs.Prelude.{◌≡◌, ◌≤◌, ◌-◌, ℕ, List, [], Option, Some, option_map, bytes_eq, is_ok, if◌then◌else◌, IfOk, OnOk, IfErr, OnErr, slice_index_or};
-ghost use Rattle.gst_outside.specs.Causes.{plus, raised, OpenCause, refused_after};
-ghost use Rattle.gst_outside.specs.Numbers.{is_listed};
-ghost use Rattle.gst_outside.specs.Openings.{FailsWhere, made_after};
+ghost use Rattle.std.specs.Prelude.{◌≡◌, ℕ, List, Some, if◌then◌else◌, IfOk, OnOk, OnErr};
+ghost use Rattle.gst_outside.specs.Calls.{next_fails};
+ghost use Rattle.gst_outside.specs.Causes.{raised};
+ghost use Rattle.gst_outside.specs.Ends.{IsNewSink, new_source};
+ghost use Rattle.gst_outside.specs.Memory.{AreNew, Closes, FilesStay, OnlyTable, OpeningsStay, Opens, mem_seen};
+ghost use Rattle.gst_outside.specs.Openings.{FailsWhere, calls_after};
 ghost use Rattle.gst_outside.specs.Places.{is_at};
-ghost use Rattle.gst_outside.specs.Table.{new_file, file_at, input_at, output_at, faults_at, refused_at, IsOpened};
+ghost use Rattle.gst_outside.specs.Table.{Changes, IsOpened, SameFiles, faults_at, file_at, output_at, refused_at, with_input, with_refusal, with_sinks};
 
 use crate::calls::{Calls, copy_list};
 use crate::files::Files;
@@ -30,13 +32,7 @@ pub struct MemFiles {
 impl MemFiles {
     /// Files of which nothing is said, and whose openings do not fail. This takes no memory.
     pub fn new(alloc: Global) -> MemFiles
-        ensures table { result.table.items ≡ [] }
-        ensures faults { result.faults ≡ 0 }
-        ensures ends { result.ends ≡ 0 }
-        ensures reading { result.reading.failing ≡ [] }
-        ensures writing { result.writing.failing ≡ [] }
-        ensures read { result.reading.made ≡ 0 }
-        ensures wrote { result.writing.made ≡ 0 }
+        ensures { AreNew result }
     {
         MemFiles {
             table: Vec::new(alloc),
@@ -57,13 +53,9 @@ impl MemFiles {
         reads: &[u64],
         sizes: &[u64],
     ) -> Result<(), OutOfMemory>
-        ensures file { (l : List ℕ) → OnOk result (file_at self.new.table.items l ≡ (if bytes_eq location.now l then record (file_at self.old.table.items l) { input = input.now; reads = reads.now; sizes = sizes.now } else file_at self.old.table.items l)) }
-        ensures wanting { (l : List ℕ) → OnErr result (file_at self.new.table.items l ≡ file_at self.old.table.items l) }
-        ensures opened_stays { (l : List ℕ) → IsOpened self.old.table.items l → IsOpened self.new.table.items l }
-        ensures faults_stay { self.new.faults ≡ self.old.faults }
-        ensures ends_stay { self.new.ends ≡ self.old.ends }
-        ensures reading_stays { self.new.reading ≡ self.old.reading }
-        ensures writing_stays { self.new.writing ≡ self.old.writing }
+        ensures changes { OnOk result (Changes (with_input input.now reads.now sizes.now) location.now self.old.table.items self.new.table.items) }
+        ensures wanting { OnErr result (SameFiles self.old.table.items self.new.table.items) }
+        ensures rest_stays { OnlyTable self.old self.new }
     {
         let input = copy_list(alloc, input)?;
         let reads = copy_list(alloc, reads)?;
@@ -83,13 +75,9 @@ impl MemFiles {
         writes: &[u64],
         cuts: &[u64],
     ) -> Result<(), OutOfMemory>
-        ensures file { (l : List ℕ) → OnOk result (file_at self.new.table.items l ≡ (if bytes_eq location.now l then record (file_at self.old.table.items l) { room = room; writes = writes.now; cuts = cuts.now } else file_at self.old.table.items l)) }
-        ensures wanting { (l : List ℕ) → OnErr result (file_at self.new.table.items l ≡ file_at self.old.table.items l) }
-        ensures opened_stays { (l : List ℕ) → IsOpened self.old.table.items l → IsOpened self.new.table.items l }
-        ensures faults_stay { self.new.faults ≡ self.old.faults }
-        ensures ends_stay { self.new.ends ≡ self.old.ends }
-        ensures reading_stays { self.new.reading ≡ self.old.reading }
-        ensures writing_stays { self.new.writing ≡ self.old.writing }
+        ensures changes { OnOk result (Changes (with_sinks room writes.now cuts.now) location.now self.old.table.items self.new.table.items) }
+        ensures wanting { OnErr result (SameFiles self.old.table.items self.new.table.items) }
+        ensures rest_stays { OnlyTable self.old self.new }
     {
         let writes = copy_list(alloc, writes)?;
         let cuts = copy_list(alloc, cuts)?;
@@ -100,13 +88,10 @@ impl MemFiles {
 
     /// Says the numbers, counted from 1 over all locations, of the openings for reading that are to fail.
     pub fn fail_open_read(&mut self, alloc: Global, numbers: &[u64]) -> Result<(), OutOfMemory>
-        ensures failing { OnOk result (self.new.reading.failing ≡ numbers.now) }
-        ensures wanting { OnErr result (self.new.reading.failing ≡ self.old.reading.failing) }
-        ensures made { self.new.reading.made ≡ self.old.reading.made }
-        ensures table_stays { self.new.table.items ≡ self.old.table.items }
-        ensures faults_stay { self.new.faults ≡ self.old.faults }
-        ensures ends_stay { self.new.ends ≡ self.old.ends }
+        ensures failing { OnOk result (self.new.reading ≡ record self.old.reading { failing = numbers.now }) }
+        ensures wanting { OnErr result (self.new.reading ≡ self.old.reading) }
         ensures writing_stays { self.new.writing ≡ self.old.writing }
+        ensures files_stay { FilesStay self.old self.new }
     {
         self.reading.failing = copy_list(alloc, numbers)?;
         Ok(())
@@ -114,13 +99,10 @@ impl MemFiles {
 
     /// Says the numbers, counted from 1 over all locations, of the openings for writing that are to fail.
     pub fn fail_open_write(&mut self, alloc: Global, numbers: &[u64]) -> Result<(), OutOfMemory>
-        ensures failing { OnOk result (self.new.writing.failing ≡ numbers.now) }
-        ensures wanting { OnErr result (self.new.writing.failing ≡ self.old.writing.failing) }
-        ensures made { self.new.writing.made ≡ self.old.writing.made }
-        ensures table_stays { self.new.table.items ≡ self.old.table.items }
-        ensures faults_stay { self.new.faults ≡ self.old.faults }
-        ensures ends_stay { self.new.ends ≡ self.old.ends }
+        ensures failing { OnOk result (self.new.writing ≡ record self.old.writing { failing = numbers.now }) }
+        ensures wanting { OnErr result (self.new.writing ≡ self.old.writing) }
         ensures reading_stays { self.new.reading ≡ self.old.reading }
+        ensures files_stay { FilesStay self.old self.new }
     {
         self.writing.failing = copy_list(alloc, numbers)?;
         Ok(())
@@ -130,30 +112,21 @@ impl MemFiles {
     pub fn output_bytes(&self, location: &str) -> &[u8]
         ensures { output_at self.now.table.items location.now ≡ Some result.now }
     {
-        match file_of(self.table.as_slice(), location) {
-            Some(file) => file.output.as_slice(),
-            None => &[],
-        }
+        file_of(self.table.as_slice(), location).map_or(&[], |file| file.output.as_slice())
     }
 
     /// How many failures the ends had that were closed at a location.
     pub fn faults_of(&self, location: &str) -> u64
         ensures { faults_at self.now.table.items location.now ≡ Some result }
     {
-        match file_of(self.table.as_slice(), location) {
-            Some(file) => file.faults,
-            None => 0,
-        }
+        file_of(self.table.as_slice(), location).map_or(0, |file| file.faults)
     }
 
     /// How many openings of a location were refused.
     pub fn refused_of(&self, location: &str) -> u64
         ensures { refused_at self.now.table.items location.now ≡ Some result }
     {
-        match file_of(self.table.as_slice(), location) {
-            Some(file) => file.refused,
-            None => 0,
-        }
+        file_of(self.table.as_slice(), location).map_or(0, |file| file.refused)
     }
 
     /// How many ends were given out and not yet closed.
@@ -163,38 +136,14 @@ impl MemFiles {
         self.ends
     }
 
-    /// A source of the input at a location, which is not counted yet.
-    #[tactic(auto, using(crate::proofs::Entries::file_location))]
-    fn source_at(&mut self, alloc: Global, location: &str) -> Result<MemSource, OutOfMemory>
-        ensures location { IfOk result (λ s. s.location ≡ location.now) }
-        ensures content { IfOk result (λ s. s.content ≡ (file_at self.old.table.items location.now).input) }
-        ensures fresh { IfOk result (λ s. s.faults ≡ 0) }
-        ensures reads { IfOk result (λ s. s.reading.failing ≡ (file_at self.old.table.items location.now).reads) }
-        ensures sizes { IfOk result (λ s. s.sizing.failing ≡ (file_at self.old.table.items location.now).sizes) }
-        ensures read { IfOk result (λ s. s.reading.made ≡ 0) }
-        ensures sized { IfOk result (λ s. s.sizing.made ≡ 0) }
-        ensures there { OnOk result (IsOpened self.new.table.items location.now) }
-        ensures opened_stays { (l : List ℕ) → IsOpened self.old.table.items l → IsOpened self.new.table.items l }
-        ensures files_stay { (l : List ℕ) → file_at self.new.table.items l ≡ file_at self.old.table.items l }
-        ensures faults_stay { self.new.faults ≡ self.old.faults }
-        ensures ends_stay { self.new.ends ≡ self.old.ends }
-        ensures reading_stays { self.new.reading ≡ self.old.reading }
-        ensures writing_stays { self.new.writing ≡ self.old.writing }
-    {
-        let index = entry(&mut self.table, alloc, location)?;
-        self.table[index].source(alloc)
-    }
-
     /// Refuses an opening of a location that has an entry.
     fn refuse(&mut self, location: &str) -> OpenEnd
         requires { IsOpened self.old.table.items location.now }
         ensures answer { result ≡ OpenEnd.Failed }
-        ensures opened_stays { (l : List ℕ) → IsOpened self.old.table.items l → IsOpened self.new.table.items l }
-        ensures file { (l : List ℕ) → file_at self.new.table.items l ≡ (if bytes_eq location.now l then record (file_at self.old.table.items l) { refused = raised (file_at self.old.table.items l).refused } else file_at self.old.table.items l) }
+        ensures changes { Changes with_refusal location.now self.old.table.items self.new.table.items }
         ensures faults { self.new.faults ≡ raised self.old.faults }
         ensures ends_stay { self.new.ends ≡ self.old.ends }
-        ensures reading_stays { self.new.reading ≡ self.old.reading }
-        ensures writing_stays { self.new.writing ≡ self.old.writing }
+        ensures openings_stay { OpeningsStay self.old self.new }
     {
         self.faults = self.faults.saturating_add(1);
         add_refusal(&mut self.table, location);
@@ -207,43 +156,21 @@ impl Files for MemFiles {
 
     type Snk = MemSink;
 
-    ghost input = { λ m l. input_at m.table.items l };
-
-    ghost output = { λ m l. output_at m.table.items l };
-
-    ghost faults_of = { λ m l. faults_at m.table.items l };
-
-    ghost refused_of = { λ m l. refused_at m.table.items l };
-
-    ghost faults = { λ m. m.faults };
-
-    ghost ends = { λ m. m.ends };
+    ghost seen = { mem_seen };
 
     ghost opened = { λ m l. IsOpened m.table.items l };
 
+    #[tactic(auto, using(crate::proofs::Entries::file_location))]
     fn open_read(&mut self, alloc: Global, location: &str) -> Result<MemSource, OpenEnd>
-        ensures content { IfOk result (λ s. Some s.content ≡ input_at self.old.table.items location.now) }
-        ensures place { IfOk result (λ s. Some s.location ≡ Some location.now) }
-        ensures fresh { IfOk result (λ s. s.faults ≡ 0) }
-        ensures reads { IfOk result (λ s. s.reading.failing ≡ (file_at self.old.table.items location.now).reads) }
-        ensures sizes { IfOk result (λ s. s.sizing.failing ≡ (file_at self.old.table.items location.now).sizes) }
-        ensures read { IfOk result (λ s. s.reading.made ≡ 0) }
-        ensures sized { IfOk result (λ s. s.sizing.made ≡ 0) }
-        ensures opened { OnOk result (IsOpened self.new.table.items location.now) }
-        ensures opened_stays { (l : List ℕ) → IsOpened self.old.table.items l → IsOpened self.new.table.items l }
-        ensures ends { self.new.ends ≡ (if is_ok result then raised self.old.ends else self.old.ends) }
-        ensures input_stays { (l : List ℕ) → input_at self.new.table.items l ≡ input_at self.old.table.items l }
-        ensures output_stays { (l : List ℕ) → output_at self.new.table.items l ≡ output_at self.old.table.items l }
-        ensures faults_of_stays { (l : List ℕ) → faults_at self.new.table.items l ≡ faults_at self.old.table.items l }
-        ensures refused { (l : List ℕ) → refused_at self.new.table.items l ≡ (if bytes_eq location.now l then refused_after result (refused_at self.old.table.items l) else refused_at self.old.table.items l) }
-        ensures never_falls { self.old.faults ≤ self.new.faults }
-        ensures cause { IfErr result (λ e. OpenCause e self.old.faults self.new.faults) }
-        ensures fails { FailsWhere result (is_listed self.old.reading.failing (raised self.old.reading.made)) }
-        ensures counted { self.new.reading.made ≡ made_after result self.old.reading.made }
-        ensures failing_stays { self.new.reading.failing ≡ self.old.reading.failing }
+        ensures source { let file = file_at self.old.table.items location.now in
+            IfOk result (λ s. s ≡ new_source location.now file.input file.reads file.sizes) }
+        ensures leaves { Opens location.now result self.old self.new }
+        ensures fails { FailsWhere result (next_fails self.old.reading) }
+        ensures counted { self.new.reading ≡ calls_after result self.old.reading }
         ensures writing_stays { self.new.writing ≡ self.old.writing }
     {
-        let end = self.source_at(alloc, location)?;
+        let index = entry(&mut self.table, alloc, location)?;
+        let end = self.table[index].source(alloc)?;
         if self.reading.count() {
             return Err(self.refuse(location));
         }
@@ -253,26 +180,11 @@ impl Files for MemFiles {
 
     #[tactic(auto, using(crate::proofs::Entries::file_location))]
     fn open_write(&mut self, alloc: Global, location: &str) -> Result<MemSink, OpenEnd>
-        ensures empty { IfOk result (λ k. Some k.bytes.items ≡ option_map (λ _. []) (output_at self.old.table.items location.now)) }
-        ensures place { IfOk result (λ k. Some k.location ≡ Some location.now) }
-        ensures fresh { IfOk result (λ k. k.faults ≡ 0) }
-        ensures room { IfOk result (λ k. k.room ≡ (file_at self.old.table.items location.now).room) }
-        ensures writes { IfOk result (λ k. k.writing.failing ≡ (file_at self.old.table.items location.now).writes) }
-        ensures cuts { IfOk result (λ k. k.cutting.failing ≡ (file_at self.old.table.items location.now).cuts) }
-        ensures wrote { IfOk result (λ k. k.writing.made ≡ 0) }
-        ensures cut { IfOk result (λ k. k.cutting.made ≡ 0) }
-        ensures opened { OnOk result (IsOpened self.new.table.items location.now) }
-        ensures opened_stays { (l : List ℕ) → IsOpened self.old.table.items l → IsOpened self.new.table.items l }
-        ensures ends { self.new.ends ≡ (if is_ok result then raised self.old.ends else self.old.ends) }
-        ensures input_stays { (l : List ℕ) → input_at self.new.table.items l ≡ input_at self.old.table.items l }
-        ensures output_stays { (l : List ℕ) → output_at self.new.table.items l ≡ output_at self.old.table.items l }
-        ensures faults_of_stays { (l : List ℕ) → faults_at self.new.table.items l ≡ faults_at self.old.table.items l }
-        ensures refused { (l : List ℕ) → refused_at self.new.table.items l ≡ (if bytes_eq location.now l then refused_after result (refused_at self.old.table.items l) else refused_at self.old.table.items l) }
-        ensures never_falls { self.old.faults ≤ self.new.faults }
-        ensures cause { IfErr result (λ e. OpenCause e self.old.faults self.new.faults) }
-        ensures fails { FailsWhere result (is_listed self.old.writing.failing (raised self.old.writing.made)) }
-        ensures counted { self.new.writing.made ≡ made_after result self.old.writing.made }
-        ensures failing_stays { self.new.writing.failing ≡ self.old.writing.failing }
+        ensures sink { let file = file_at self.old.table.items location.now in
+            IfOk result (IsNewSink location.now file.room file.writes file.cuts) }
+        ensures leaves { Opens location.now result self.old self.new }
+        ensures fails { FailsWhere result (next_fails self.old.writing) }
+        ensures counted { self.new.writing ≡ calls_after result self.old.writing }
         ensures reading_stays { self.new.reading ≡ self.old.reading }
     {
         let index = entry(&mut self.table, alloc, location)?;
@@ -286,16 +198,8 @@ impl Files for MemFiles {
 
     fn close_read(&mut self, end: MemSource)
         requires opened_here { IsOpened self.old.table.items end.location }
-        ensures ends { self.new.ends ≡ self.old.ends - 1 }
-        ensures never_falls { self.old.faults ≤ self.new.faults }
-        ensures faults { self.new.faults ≡ plus self.old.faults end.faults }
-        ensures faults_of { (l : List ℕ) → faults_at self.new.table.items l ≡ (if is_at (Some end.location) l then option_map (λ n. plus n end.faults) (faults_at self.old.table.items l) else faults_at self.old.table.items l) }
-        ensures input_stays { (l : List ℕ) → input_at self.new.table.items l ≡ input_at self.old.table.items l }
+        ensures leaves { Closes end.location end.faults self.old self.new }
         ensures output_stays { (l : List ℕ) → output_at self.new.table.items l ≡ output_at self.old.table.items l }
-        ensures refused_of_stays { (l : List ℕ) → refused_at self.new.table.items l ≡ refused_at self.old.table.items l }
-        ensures opened_stays { (l : List ℕ) → IsOpened self.old.table.items l → IsOpened self.new.table.items l }
-        ensures reading_stays { self.new.reading ≡ self.old.reading }
-        ensures writing_stays { self.new.writing ≡ self.old.writing }
     {
         self.ends = self.ends.saturating_sub(1);
         self.faults = self.faults.saturating_add(end.faults);
@@ -304,27 +208,15 @@ impl Files for MemFiles {
 
     fn close_write(&mut self, end: MemSink)
         requires opened_here { IsOpened self.old.table.items end.location }
-        ensures ends { self.new.ends ≡ self.old.ends - 1 }
-        ensures never_falls { self.old.faults ≤ self.new.faults }
-        ensures faults { self.new.faults ≡ plus self.old.faults end.faults }
-        ensures faults_of { (l : List ℕ) → faults_at self.new.table.items l ≡ (if is_at (Some end.location) l then option_map (λ n. plus n end.faults) (faults_at self.old.table.items l) else faults_at self.old.table.items l) }
-        ensures input_stays { (l : List ℕ) → input_at self.new.table.items l ≡ input_at self.old.table.items l }
-        ensures output { (l : List ℕ) → output_at self.new.table.items l ≡ (if is_at (Some end.location) l then Some end.bytes.items else output_at self.old.table.items l) }
-        ensures refused_of_stays { (l : List ℕ) → refused_at self.new.table.items l ≡ refused_at self.old.table.items l }
-        ensures opened_stays { (l : List ℕ) → IsOpened self.old.table.items l → IsOpened self.new.table.items l }
-        ensures reading_stays { self.new.reading ≡ self.old.reading }
-        ensures writing_stays { self.new.writing ≡ self.old.writing }
+        ensures leaves { Closes end.location end.faults self.old self.new }
+        ensures output { (l : List ℕ)
+            → output_at self.new.table.items l ≡ (if is_at (Some end.location) l then Some end.bytes.items else output_at self.old.table.items l) }
     {
-        let MemSink {
-            location,
-            bytes,
-            faults,
-            ..
-        } = end;
+        let bytes = Members::from_vec(end.bytes);
         self.ends = self.ends.saturating_sub(1);
-        self.faults = self.faults.saturating_add(faults);
-        add_faults(&mut self.table, location.as_str(), faults);
-        set_output(&mut self.table, location.as_str(), Members::from_vec(bytes));
+        self.faults = self.faults.saturating_add(end.faults);
+        add_faults(&mut self.table, end.location.as_str(), end.faults);
+        set_output(&mut self.table, end.location.as_str(), bytes);
     }
 
     fn faults(&self) -> u64 {

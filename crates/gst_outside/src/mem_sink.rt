@@ -1,8 +1,8 @@
 //! Sinks in memory.
-ghost use Rattle.std.specs.Prelude.{◌≡◌, ◌≤◌, ◌<◌, ◌+◌, ◌^◌, ℕ, List, [], ◌||◌, not, Option, Some, length, take, is_err, IfOk, OnOk, OnErr, vec_len, vec_capacity, ◌++◌, ◌-◌, replicate};
+ghost use Rattle.std.specs.Prelude.{◌≡◌, ◌≤◌, ◌<◌, ◌+◌, ◌-◌, ◌^◌, ◌++◌, ◌||◌, not, Some, length, take, replicate, is_err, IfOk, vec_capacity};
 ghost use Rattle.gst_outside.specs.Bytes.{put, written};
-ghost use Rattle.gst_outside.specs.Causes.{raised, Rose};
-ghost use Rattle.gst_outside.specs.Numbers.{is_listed};
+ghost use Rattle.gst_outside.specs.Calls.{counted, next_fails};
+ghost use Rattle.gst_outside.specs.Causes.{raised};
 ghost use Rattle.gst_outside.specs.Room.{has_room};
 
 use crate::calls::Calls;
@@ -26,6 +26,8 @@ pub struct MemSink {
 }
 
 impl MemSink {
+    ghost use Rattle.gst_outside.specs.Ends.{IsNewSink};
+
     /// An empty sink with room for `room` bytes, with the numbers, counted from 1, of the writes and of the
     /// cuts that are to fail.
     pub fn new(
@@ -35,14 +37,7 @@ impl MemSink {
         writes: Members<u64>,
         cuts: Members<u64>,
     ) -> Result<MemSink, OutOfMemory>
-        ensures location { IfOk result (λ k. k.location ≡ location) }
-        ensures empty { IfOk result (λ k. k.bytes.items ≡ []) }
-        ensures room { IfOk result (λ k. k.room ≡ room) }
-        ensures faults { IfOk result (λ k. k.faults ≡ 0) }
-        ensures writes { IfOk result (λ k. k.writing.failing ≡ writes) }
-        ensures cuts { IfOk result (λ k. k.cutting.failing ≡ cuts) }
-        ensures wrote { IfOk result (λ k. k.writing.made ≡ 0) }
-        ensures cut { IfOk result (λ k. k.cutting.made ≡ 0) }
+        ensures { IfOk result (IsNewSink location room writes cuts) }
     {
         if room as u64 > LARGEST_END {
             return Err(OutOfMemory);
@@ -65,12 +60,7 @@ impl MemSink {
     }
 
     fn fail(&mut self) -> Failed
-        ensures location { self.new.location ≡ self.old.location }
-        ensures bytes { self.new.bytes ≡ self.old.bytes }
-        ensures room { self.new.room ≡ self.old.room }
-        ensures faults { self.new.faults ≡ raised self.old.faults }
-        ensures writing { self.new.writing ≡ self.old.writing }
-        ensures cutting { self.new.cutting ≡ self.old.cutting }
+        ensures { self.new ≡ record self.old { faults = raised self.old.faults } }
     {
         self.faults = self.faults.saturating_add(1);
         Failed
@@ -87,10 +77,7 @@ fn fits(room: usize, place: u64, piece: &[u8]) -> bool
     } else {
         room as u64
     };
-    match place.checked_add(piece.len() as u64) {
-        Some(sum) => sum <= end,
-        None => false,
-    }
+    matches!(place.checked_add(piece.len() as u64), Some(sum) if sum <= end)
 }
 
 /// Puts zeros behind bytes that are fewer than `end`, where there is memory for them.
@@ -127,6 +114,8 @@ fn store(bytes: &mut Vec<u8>, place: usize, piece: &[u8])
 }
 
 impl Sink for MemSink {
+    ghost use Rattle.gst_outside.specs.Ends.{AfterCall};
+
     ghost bytes = { λ k. Some k.bytes.items };
 
     ghost location = { λ k. Some k.location };
@@ -134,17 +123,11 @@ impl Sink for MemSink {
     ghost faults = { λ k. k.faults };
 
     fn write_at(&mut self, place: u64, piece: &[u8]) -> Result<usize, Failed>
-        ensures location_stays { self.new.location ≡ self.old.location }
-        ensures fails { is_err result ≡ (is_listed self.old.writing.failing (raised self.old.writing.made) || not (has_room self.old.room place piece.now)) }
-        ensures faults { OnErr result (self.new.faults ≡ raised self.old.faults) }
-        ensures faults_stay { OnOk result (self.new.faults ≡ self.old.faults) }
-        ensures kept { OnErr result (self.new.bytes.items ≡ self.old.bytes.items) }
+        ensures fails { is_err result ≡ (next_fails self.old.writing || not (has_room self.old.room place piece.now)) }
         ensures whole { IfOk result (λ n. n ≡ length piece.now) }
-        ensures wrote { OnOk result (self.new.bytes.items ≡ written self.old.bytes.items place piece.now) }
-        ensures counted { self.new.writing.made ≡ raised self.old.writing.made }
-        ensures writes_stay { self.new.writing.failing ≡ self.old.writing.failing }
+        ensures leaves { AfterCall result (written self.old.bytes.items place piece.now) self.old self.new }
+        ensures counted { self.new.writing ≡ counted self.old.writing }
         ensures cutting_stays { self.new.cutting ≡ self.old.cutting }
-        ensures room_stays { self.new.room ≡ self.old.room }
     {
         let fails = self.writing.count();
         if fails || !fits(self.room, place, piece) {
@@ -155,16 +138,10 @@ impl Sink for MemSink {
     }
 
     fn cut(&mut self, len: u64) -> Result<(), Failed>
-        ensures location_stays { self.new.location ≡ self.old.location }
-        ensures fails { is_err result ≡ is_listed self.old.cutting.failing (raised self.old.cutting.made) }
-        ensures faults { OnErr result (self.new.faults ≡ raised self.old.faults) }
-        ensures faults_stay { OnOk result (self.new.faults ≡ self.old.faults) }
-        ensures kept { OnErr result (self.new.bytes.items ≡ self.old.bytes.items) }
-        ensures cut { OnOk result (self.new.bytes.items ≡ take len self.old.bytes.items) }
-        ensures counted { self.new.cutting.made ≡ raised self.old.cutting.made }
-        ensures cuts_stay { self.new.cutting.failing ≡ self.old.cutting.failing }
+        ensures fails { is_err result ≡ next_fails self.old.cutting }
+        ensures leaves { AfterCall result (take len self.old.bytes.items) self.old self.new }
+        ensures counted { self.new.cutting ≡ counted self.old.cutting }
         ensures writing_stays { self.new.writing ≡ self.old.writing }
-        ensures room_stays { self.new.room ≡ self.old.room }
     {
         if self.cutting.count() {
             return Err(self.fail());
@@ -173,9 +150,7 @@ impl Sink for MemSink {
         Ok(())
     }
 
-    fn faults(&self) -> u64
-        ensures { result ≡ self.now.faults }
-    {
+    fn faults(&self) -> u64 {
         self.faults
     }
 }

@@ -1,8 +1,8 @@
 //! Sources in memory.
-ghost use Rattle.std.specs.Prelude.{◌≡◌, ◌≤◌, ◌<◌, ◌-◌, ℕ, List, [], Option, Some, length, take, drop, min, is_err, IfOk, OnOk, OnErr, OnSome};
-ghost use Rattle.std.specs.Option.{ForSome};
-ghost use Rattle.gst_outside.specs.Causes.{raised, Rose};
-ghost use Rattle.gst_outside.specs.Numbers.{is_listed};
+ghost use Rattle.std.specs.Prelude.{◌≡◌, ◌-◌, Some, length, take, drop, min, is_err, IfOk};
+ghost use Rattle.gst_outside.specs.Calls.{counted, next_fails};
+ghost use Rattle.gst_outside.specs.Causes.{raised};
+ghost use Rattle.gst_outside.specs.Ends.{faults_after, new_source};
 
 use crate::calls::Calls;
 use crate::failed::Failed;
@@ -29,13 +29,7 @@ impl MemSource {
         reads: Members<u64>,
         sizes: Members<u64>,
     ) -> MemSource
-        ensures location { result.location ≡ location }
-        ensures content { result.content ≡ content }
-        ensures faults { result.faults ≡ 0 }
-        ensures reads { result.reading.failing ≡ reads }
-        ensures sizes { result.sizing.failing ≡ sizes }
-        ensures read { result.reading.made ≡ 0 }
-        ensures sized { result.sizing.made ≡ 0 }
+        ensures { result ≡ new_source location content reads sizes }
     {
         MemSource {
             location,
@@ -47,11 +41,7 @@ impl MemSource {
     }
 
     fn fail(&mut self) -> Failed
-        ensures location { self.new.location ≡ self.old.location }
-        ensures content { self.new.content ≡ self.old.content }
-        ensures faults { self.new.faults ≡ raised self.old.faults }
-        ensures reading { self.new.reading ≡ self.old.reading }
-        ensures sizing { self.new.sizing ≡ self.old.sizing }
+        ensures { self.new ≡ record self.old { faults = raised self.old.faults } }
     {
         self.faults = self.faults.saturating_add(1);
         Failed
@@ -80,16 +70,10 @@ impl Source for MemSource {
     ghost faults = { λ s. s.faults };
 
     fn read_at(&mut self, place: u64, into: &mut [u8]) -> Result<usize, Failed>
-        ensures content_stays { self.new.content ≡ self.old.content }
-        ensures location_stays { self.new.location ≡ self.old.location }
-        ensures fails { is_err result ≡ is_listed self.old.reading.failing (raised self.old.reading.made) }
-        ensures faults { OnErr result (self.new.faults ≡ raised self.old.faults) }
-        ensures faults_stay { OnOk result (self.new.faults ≡ self.old.faults) }
+        ensures fails { is_err result ≡ next_fails self.old.reading }
         ensures count { IfOk result (λ n. n ≡ min (length into.old) (length self.old.content - place)) }
         ensures bytes { IfOk result (λ n. take n into.new ≡ take n (drop place self.old.content)) }
-        ensures counted { self.new.reading.made ≡ raised self.old.reading.made }
-        ensures reads_stay { self.new.reading.failing ≡ self.old.reading.failing }
-        ensures sizing_stays { self.new.sizing ≡ self.old.sizing }
+        ensures leaves { self.new ≡ record self.old { faults = faults_after result self.old.faults; reading = counted self.old.reading } }
     {
         if self.reading.count() {
             return Err(self.fail());
@@ -98,15 +82,9 @@ impl Source for MemSource {
     }
 
     fn size(&mut self) -> Result<u64, Failed>
-        ensures content_stays { self.new.content ≡ self.old.content }
-        ensures location_stays { self.new.location ≡ self.old.location }
-        ensures fails { is_err result ≡ is_listed self.old.sizing.failing (raised self.old.sizing.made) }
-        ensures faults { OnErr result (self.new.faults ≡ raised self.old.faults) }
-        ensures faults_stay { OnOk result (self.new.faults ≡ self.old.faults) }
+        ensures fails { is_err result ≡ next_fails self.old.sizing }
         ensures size { IfOk result (λ n. n ≡ length self.old.content) }
-        ensures counted { self.new.sizing.made ≡ raised self.old.sizing.made }
-        ensures sizes_stay { self.new.sizing.failing ≡ self.old.sizing.failing }
-        ensures reading_stays { self.new.reading ≡ self.old.reading }
+        ensures leaves { self.new ≡ record self.old { faults = faults_after result self.old.faults; sizing = counted self.old.sizing } }
     {
         if self.sizing.count() {
             return Err(self.fail());
@@ -114,9 +92,7 @@ impl Source for MemSource {
         Ok(self.content.as_slice().len() as u64)
     }
 
-    fn faults(&self) -> u64
-        ensures { result ≡ self.now.faults }
-    {
+    fn faults(&self) -> u64 {
         self.faults
     }
 }

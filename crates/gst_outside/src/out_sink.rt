@@ -1,6 +1,6 @@
 //! Standard output as a sink.
-ghost use Rattle.std.specs.Prelude.{◌≡◌, ◌≤◌, ◌<◌, None, OnErr, IfOk, length};
-ghost use Rattle.gst_outside.specs.Causes.{raised, Rose};
+ghost use Rattle.std.specs.Prelude.{◌≡◌, None, length};
+ghost use Rattle.gst_outside.specs.Causes.{WritesSome, raised};
 
 use crate::failed::Failed;
 use crate::sink::{LARGEST_END, Sink};
@@ -28,35 +28,29 @@ impl<W: Write> OutSink<W> {
         }
     }
 
-    fn raise(&mut self)
-        ensures reached { self.new.reached ≡ self.old.reached }
-        ensures faults { self.new.faults ≡ raised self.old.faults }
+    fn fail(&mut self) -> Failed
+        ensures { self.new ≡ record self.old { faults = raised self.old.faults } }
     {
         self.faults = self.faults.saturating_add(1);
+        Failed
     }
 
     /// Writes some of a piece that is not empty.
     fn write_some(&mut self, piece: &[u8]) -> Result<usize, Failed>
-        ensures never_falls { self.old.faults ≤ self.new.faults }
-        ensures failed { OnErr result (Rose self.old.faults self.new.faults) }
-        ensures part { IfOk result (λ n. n ≤ length piece.now) }
-        ensures some { IfOk result (λ n. 0 < n) }
+        ensures writes { WritesSome (length piece.now) result self.old.faults self.new.faults }
         ensures reached { self.new.reached ≡ self.old.reached }
     {
         for _ in 0..u64::MAX {
             match self.out.write(piece) {
                 Ok(0) => break,
                 Ok(count) => return Ok(count),
-                Err(error) => {
-                    self.raise();
-                    if error.kind() != ErrorKind::Interrupted {
-                        return Err(Failed);
-                    }
+                Err(error) if error.kind() == ErrorKind::Interrupted => {
+                    self.fail();
                 }
+                Err(_) => break,
             }
         }
-        self.raise();
-        Err(Failed)
+        Err(self.fail())
     }
 }
 
@@ -69,15 +63,13 @@ impl<W: Write + Send + Drop + 'static> Sink for OutSink<W> {
 
     fn write_at(&mut self, place: u64, piece: &[u8]) -> Result<usize, Failed> {
         if place > LARGEST_END || piece.len() as u64 > LARGEST_END - place {
-            self.raise();
-            return Err(Failed);
+            return Err(self.fail());
         }
         if piece.is_empty() {
             return Ok(0);
         }
         if place != self.reached {
-            self.raise();
-            return Err(Failed);
+            return Err(self.fail());
         }
         let count = self.write_some(piece)?;
         self.reached = place + count as u64;
@@ -86,8 +78,7 @@ impl<W: Write + Send + Drop + 'static> Sink for OutSink<W> {
 
     fn cut(&mut self, len: u64) -> Result<(), Failed> {
         if len < self.reached {
-            self.raise();
-            return Err(Failed);
+            return Err(self.fail());
         }
         Ok(())
     }

@@ -1,5 +1,5 @@
 //! What is read from: files and their like.
-ghost use Rattle.std.specs.Prelude.{◌≡◌, ◌≤◌, ◌<◌, ◌-◌, ℕ, List, Option, length, take, drop, IfOk, OnErr};
+ghost use Rattle.std.specs.Prelude.{◌≡◌, ◌≤◌, ◌<◌, ◌-◌, ℕ, List, Option, length, take, drop, IfOk, OnOk, OnErr};
 ghost use Rattle.std.specs.Option.{ForSome};
 ghost use Rattle.gst_outside.specs.Causes.{Rose};
 
@@ -9,7 +9,7 @@ use crate::failed::Failed;
 ///
 /// Its meanings: `content` is the bytes, where they are told; `location` is the location with which it was
 /// opened, where that is told; `faults` is the number of calls that failed, which never falls and stays at
-/// the last value of a `u64`. No call changes the first two.
+/// the last value of a `u64`. No call changes the first two, and none that succeeds the third.
 pub trait Source: Drop + 'static {
     ghost content: { Self → Option (List ℕ) };
 
@@ -24,6 +24,7 @@ pub trait Source: Drop + 'static {
         ensures location_stays { location self.new ≡ location self.old }
         ensures never_falls { faults self.old ≤ faults self.new }
         ensures failed { OnErr result (Rose (faults self.old) (faults self.new)) }
+        ensures faults_stay { OnOk result (faults self.new ≡ faults self.old) }
         ensures room { IfOk result (λ n. n ≤ length into.old) }
         ensures inside { IfOk result (λ n. ForSome (content self.old) (λ c. n ≤ length c - place)) }
         ensures bytes { IfOk result (λ n. ForSome (content self.old) (λ c. take n into.new ≡ take n (drop place c))) }
@@ -35,6 +36,7 @@ pub trait Source: Drop + 'static {
         ensures location_stays { location self.new ≡ location self.old }
         ensures never_falls { faults self.old ≤ faults self.new }
         ensures failed { OnErr result (Rose (faults self.old) (faults self.new)) }
+        ensures faults_stay { OnOk result (faults self.new ≡ faults self.old) }
         ensures size { IfOk result (λ n. ForSome (content self.old) (λ c. n ≡ length c)) };
 
     /// How many of its calls failed.

@@ -1,5 +1,5 @@
 //! Clocks whose readings are given beforehand.
-ghost use Rattle.std.specs.Prelude.{◌≡◌, ◌<◌, ◌+◌, ◌-◌, ℕ, ◌∷◌, Option, Some, length, min, slice_index, IfOk, Contains, vec_len};
+ghost use Rattle.std.specs.Prelude.{◌≡◌, ◌<◌, ◌+◌, ◌-◌, ◌∷◌, Some, length, min, slice_index, IfOk, Contains, vec_len};
 ghost use Rattle.gst_outside.specs.Causes.{raised};
 
 use crate::clock::Clock;
@@ -54,9 +54,7 @@ impl Clock for StepClock {
         reading
     }
 
-    fn reads(&self) -> u64
-        ensures { result ≡ self.now.reads }
-    {
+    fn reads(&self) -> u64 {
         self.reads
     }
 

@@ -1,8 +1,7 @@
 //! The table of files in memory.
-ghost use Rattle.std.specs.Prelude.{◌≡◌, ℕ, List, Some, if◌then◌else◌, bytes_eq, IsTrue, IfOk, OnOk, ◌<◌, length, slice_index_or, option_copied};
+ghost use Rattle.std.specs.Prelude.{◌≡◌, ◌<◌, Some, IsTrue, IfOk, OnOk, length, option_copied, slice_index_or};
 ghost use Rattle.std.specs.List.{find, position};
-ghost use Rattle.gst_outside.specs.Causes.{plus, raised};
-ghost use Rattle.gst_outside.specs.Table.{is_of, new_file, file_at, has_file};
+ghost use Rattle.gst_outside.specs.Table.{Changes, SameFiles, file_at, has_file, is_of, new_file, with_faults, with_input, with_output, with_refusal, with_sinks};
 
 use crate::mem_file::MemFile;
 use gst_caps::{List as Members, OutOfMemory};
@@ -33,8 +32,7 @@ pub(crate) fn entry(
     ensures index { IfOk result (λ i. i < length files.new.items) }
     ensures found { IfOk result (λ i. slice_index_or files.new.items i (new_file location.now) ≡ file_at files.new.items location.now) }
     ensures there { OnOk result (IsTrue (has_file files.new.items location.now)) }
-    ensures stays { (l : List ℕ) → file_at files.new.items l ≡ file_at files.old.items l }
-    ensures kept { (l : List ℕ) → IsTrue (has_file files.old.items l) → IsTrue (has_file files.new.items l) }
+    ensures stays { SameFiles files.old.items files.new.items }
 {
     if let Some(index) = index_of(files.as_slice(), location) {
         return Ok(index);
@@ -59,8 +57,7 @@ fn known_index(files: &[MemFile], location: &str) -> usize
 /// One more refused opening of a location.
 pub(crate) fn add_refusal(files: &mut Vec<MemFile>, location: &str)
     requires { IsTrue (has_file files.old.items location.now) }
-    ensures file { (l : List ℕ) → file_at files.new.items l ≡ (if bytes_eq location.now l then record (file_at files.old.items l) { refused = raised (file_at files.old.items l).refused } else file_at files.old.items l) }
-    ensures kept { (l : List ℕ) → IsTrue (has_file files.old.items l) → IsTrue (has_file files.new.items l) }
+    ensures { Changes with_refusal location.now files.old.items files.new.items }
 {
     let index = known_index(files.as_slice(), location);
     let file = &mut files[index];
@@ -70,8 +67,7 @@ pub(crate) fn add_refusal(files: &mut Vec<MemFile>, location: &str)
 /// More failures of the ends that were closed at a location.
 pub(crate) fn add_faults(files: &mut Vec<MemFile>, location: &str, faults: u64)
     requires { IsTrue (has_file files.old.items location.now) }
-    ensures file { (l : List ℕ) → file_at files.new.items l ≡ (if bytes_eq location.now l then record (file_at files.old.items l) { faults = plus (file_at files.old.items l).faults faults } else file_at files.old.items l) }
-    ensures kept { (l : List ℕ) → IsTrue (has_file files.old.items l) → IsTrue (has_file files.new.items l) }
+    ensures { Changes (with_faults faults) location.now files.old.items files.new.items }
 {
     let index = known_index(files.as_slice(), location);
     let file = &mut files[index];
@@ -81,8 +77,7 @@ pub(crate) fn add_faults(files: &mut Vec<MemFile>, location: &str, faults: u64)
 /// What a sink left at a location.
 pub(crate) fn set_output(files: &mut Vec<MemFile>, location: &str, output: Members<u8>)
     requires { IsTrue (has_file files.old.items location.now) }
-    ensures file { (l : List ℕ) → file_at files.new.items l ≡ (if bytes_eq location.now l then record (file_at files.old.items l) { output = output } else file_at files.old.items l) }
-    ensures kept { (l : List ℕ) → IsTrue (has_file files.old.items l) → IsTrue (has_file files.new.items l) }
+    ensures { Changes (with_output output) location.now files.old.items files.new.items }
 {
     let index = known_index(files.as_slice(), location);
     let file = &mut files[index];
@@ -98,8 +93,7 @@ pub(crate) fn set_input(
     sizes: Members<u64>,
 )
     requires { IsTrue (has_file files.old.items location.now) }
-    ensures file { (l : List ℕ) → file_at files.new.items l ≡ (if bytes_eq location.now l then record (file_at files.old.items l) { input = input; reads = reads; sizes = sizes } else file_at files.old.items l) }
-    ensures kept { (l : List ℕ) → IsTrue (has_file files.old.items l) → IsTrue (has_file files.new.items l) }
+    ensures { Changes (with_input input reads sizes) location.now files.old.items files.new.items }
 {
     let index = known_index(files.as_slice(), location);
     let file = &mut files[index];
@@ -117,8 +111,7 @@ pub(crate) fn set_sinks(
     cuts: Members<u64>,
 )
     requires { IsTrue (has_file files.old.items location.now) }
-    ensures file { (l : List ℕ) → file_at files.new.items l ≡ (if bytes_eq location.now l then record (file_at files.old.items l) { room = room; writes = writes; cuts = cuts } else file_at files.old.items l) }
-    ensures kept { (l : List ℕ) → IsTrue (has_file files.old.items l) → IsTrue (has_file files.new.items l) }
+    ensures { Changes (with_sinks room writes cuts) location.now files.old.items files.new.items }
 {
     let index = known_index(files.as_slice(), location);
     let file = &mut files[index];

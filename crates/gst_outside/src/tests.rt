@@ -119,6 +119,36 @@ fn bytes_and_failures_in_memory(rt: HostRuntime) -> Result<(), Fail> {
     Ok(())
 }
 
+/// What three looks at the size of a location give.
+fn three_sizes<F: Files>(
+    files: &mut F,
+    alloc: Global,
+    location: &str,
+) -> Result<[Result<u64, Failed>; 3], OpenEnd> {
+    let mut source = files.open_read(alloc, location)?;
+    let sizes = [source.size(), source.size(), source.size()];
+    files.close_read(source);
+    Ok(sizes)
+}
+
+#[test]
+fn sizes_in_memory(rt: HostRuntime) -> Result<(), Fail> {
+    let alloc = rt.alloc();
+    let rows: [(&'static [u64], [Result<u64, Failed>; 3], u64); 4] = [
+        (&[], [Ok(6), Ok(6), Ok(6)], 0),
+        (&[1], [Err(Failed), Ok(6), Ok(6)], 1),
+        (&[3, 2], [Ok(6), Err(Failed), Err(Failed)], 2),
+        (&[4], [Ok(6), Ok(6), Ok(6)], 0),
+    ];
+    for (failing, sizes, faults) in rows {
+        let mut files = MemFiles::new(alloc);
+        files.add_input(alloc, "a", b"abcdef", &[], failing)?;
+        assert_eq!(rt; three_sizes(&mut files, alloc, "a")?, sizes);
+        assert_eq!(rt; files.faults_of("a"), faults);
+    }
+    Ok(())
+}
+
 #[test]
 fn refused_openings(rt: HostRuntime) -> Result<(), Fail> {
     let alloc = rt.alloc();
@@ -224,6 +254,8 @@ fn output_in_order(rt: HostRuntime) {
     let mut out = OutSink::new(rt.stdout());
     assert_eq!(rt; out.write_at(0, b"in order\n"), Ok(9));
     assert_eq!(rt; out.write_at(4, b"too early\n"), Err(Failed));
+    assert_eq!(rt; out.write_at(10, b"past the end\n"), Err(Failed));
+    assert_eq!(rt; out.cut(8), Err(Failed));
     assert_eq!(rt; out.cut(9), Ok(()));
-    assert_eq!(rt; out.faults(), 1);
+    assert_eq!(rt; out.faults(), 3);
 }

@@ -1,8 +1,13 @@
 //! Times.
-ghost use Rattle.std.specs.Prelude.{◌≡◌, ◌≢◌, ◌<◌, ◌≤◌, ◌*◌, ◌/◌, ◌↔◌, IsNone, IfSome};
+ghost use Rattle.std.specs.Prelude.{◌≡◌, ◌≢◌, ◌<◌, ◌≤◌, ◌*◌, ◌/◌, ◌^◌, ◌↔◌, IsNone, IfSome};
 
-/// Times are below this.
+/// Times are below this, which is 2^63.
 pub const LIMIT: u64 = 1 << 63;
+
+/// What the limit is.
+pub fn limit_is_a_power()
+    ensures { LIMIT ≡ 2 ^ 63 }
+{}
 
 /// `n * num / den` with no loss on the way, rounded down, as GStreamer's `gst_util_uint64_scale`. `None` where
 /// that is `LIMIT` or more.

@@ -33,6 +33,7 @@ impl<I: Inlet> Feeding<I> {
     ghost use Rattle.inlet_row.specs.Take.{IsAskable, Asks};
 
     /// Whether control gave it.
+    #[inline(always)]
     pub(crate) fn is_given(&self) -> bool
         ensures { result ≡ is_given self.now }
     {
@@ -68,6 +69,7 @@ impl<I: Inlet> Feeding<I> {
     }
 
     /// Takes an item of the lane, if there is one now.
+    #[inline(always)]
     pub(crate) fn take(&mut self, lanes: &mut I::Lanes) -> Taken
         requires table { IsAskable I.Inlet (I.Out.tells lanes.old) self.old }
         ensures { Asks I.Inlet (I.Out.tells lanes.old) (I.Out.tells lanes.new) self.old self.new result }

@@ -69,6 +69,7 @@ impl<I: Inlet> InletRow<I> {
     }
 
     /// The next item, if there is one now. An undone lane in which nothing is left is dropped on the way.
+    #[inline(always)]
     pub fn take(&mut self, lanes: &mut I::Lanes) -> Taken
         requires table { RowIn I.Inlet (I.Out.tells lanes.old) self.old }
         ensures moves { Moves I.Inlet (I.Out.tells lanes.old) (I.Out.tells lanes.new) self.old self.new result }
@@ -103,6 +104,7 @@ impl<I: Inlet> InletRow<I> {
         self.feeds
     }
 
+    #[inline(always)]
     fn next(&mut self, lanes: &mut I::Lanes) -> Taken
         requires table { RowIn I.Inlet (I.Out.tells lanes.old) self.old }
         ensures { Moves I.Inlet (I.Out.tells lanes.old) (I.Out.tells lanes.new) self.old self.new result }
@@ -124,6 +126,7 @@ impl<I: Inlet> InletRow<I> {
     }
 
     /// The item that stands first, or one that the lane there gives.
+    #[inline(always)]
     fn first(&mut self, lanes: &mut I::Lanes) -> Taken
         requires table { RowIn I.Inlet (I.Out.tells lanes.old) self.old }
         ensures { First I.Inlet (I.Out.tells lanes.old) (I.Out.tells lanes.new) (feeds_of self.old) (feeds_of self.new) result }

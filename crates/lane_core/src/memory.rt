@@ -107,6 +107,7 @@ impl Outlet for MemOutlet {
 
     ghost bounded = { λ o. o.bounded };
 
+    #[inline(always)]
     fn put(&mut self, lanes: &mut MemLanes, item: Item) -> Put {
         let held = lanes.len_of(self.place) as u64;
         self.reading = self.count - held;
@@ -150,6 +151,7 @@ impl Inlet for MemInlet {
 
     ghost bounded = { λ i. i.bounded };
 
+    #[inline(always)]
     fn take(&mut self, lanes: &mut MemLanes) -> Take {
         let held = lanes.len_of(self.place) as u64;
         self.reading = self.count.saturating_add(held).min(MOST_ITEMS);

@@ -46,6 +46,7 @@ impl MemLane {
     }
 
     /// Puts an item behind the others.
+    #[inline(always)]
     fn put(&mut self, item: Item)
         requires { length self.old.items < self.old.room }
         ensures { self.new ≡ lane_of (self.old.items ++ item ∷ []) self.old.room }
@@ -54,6 +55,7 @@ impl MemLane {
     }
 
     /// Takes the oldest item, if there is one.
+    #[inline(always)]
     fn take(&mut self) -> Option<Item>
         ensures room { self.new.room ≡ self.old.room }
         ensures items { MatchOption result ((self.old.items ≡ []) × (self.new.items ≡ [])) (λ item. self.old.items ≡ item ∷ self.new.items) }
@@ -117,6 +119,7 @@ impl MemLanes {
     }
 
     /// Puts an item into a lane.
+    #[inline(always)]
     pub(crate) fn put(&mut self, place: u64, item: Item)
         requires { (lane : Lane) × (slice_get self.old place ≡ Some lane) × (length lane.items < lane.room) }
         ensures { self.new ≡ table_with_item item place self.old }
@@ -125,6 +128,7 @@ impl MemLanes {
     }
 
     /// Takes the oldest item of a lane, if there is one.
+    #[inline(always)]
     pub(crate) fn take(&mut self, place: u64) -> Option<Item>
         requires { (lane : Lane) × (slice_get self.old place ≡ Some lane) }
         ensures { (lane : Lane) → slice_get self.old place ≡ Some lane

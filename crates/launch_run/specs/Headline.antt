@@ -1,13 +1,13 @@
 -- What a run of words reports.
 use Rattle.std.specs.Prelude.{◌≡◌, ◌⊎◌, ℕ, Bool, List, [], Option, option_map, take}
 use Rattle.gst_outside.specs.Bytes.{written}
+use Rattle.gst_outside.specs.Seen.{Seen}
 use Rattle.line_read.specs.Refusals.{IsRefusal}
 use Rattle.line_read.specs.Requests.{IsRequest}
 use Rattle.line_read.specs.declared.refusal.Refusal.{Refusal}
 use Rattle.line_read.specs.declared.request.Request.{Request}
 use Rattle.world_core.specs.World.{IsUnwritten, IsWorldEnd}
 use Rattle.world_core.specs.declared.ended.WorldEnd.{WorldEnd}
-use Rattle.run_files.specs.Seen.{Seen}
 use Rattle.run_words.specs.Said.{options_of}
 use Rattle.launch_run.specs.declared.outcome.Outcome.{Outcome}
 

@@ -4,17 +4,16 @@ ghost use Rattle.gst_outside.specs.Causes.{Rose};
 ghost use Rattle.run_report.specs.ReportText.{report_lines};
 ghost use Rattle.turn_order.specs.declared.order.Order.TheVariants as orders;
 ghost use Rattle.world_core.specs.Turned.{RanByTurns};
-ghost use Rattle.world_core.specs.World.{seen_by};
 ghost use Rattle.run_report.specs.declared.report.Fault.TheVariants as faults;
 ghost use Rattle.launch_run.specs.declared.run.Untaken.TheVariants.{NotText};
 ghost use Rattle.launch_run.specs.Headline.{HasGone, IsReported, IsUntouched, Wrote, WrotePart, is_quiet, world_end};
 
 use crate::outcome::{Outcome, report_text};
-use element_traits::{TaskElement, TaskSource};
 use gst_caps::{List, OutOfMemory};
 use gst_outside::{Clock, Failed, Files, Sink, TaskGate};
 use lane_core::{Inlet, MemInlet, MemOutlet, Outlet};
 use line_read::{Refusal, read_request};
+use net_model::{TaskElement, TaskSource};
 use run_report::{Fault, Report, no_memory};
 use std::alloc::Global;
 use std::sync::Wait;
@@ -56,16 +55,16 @@ fn not_begun(alloc: Global, refusal: Refusal) -> WorldEnd
 
 /// Reads the words and runs their line, by turns that are drawn from the order of the words.
 fn run_words<F: Files>(alloc: Global, words: &[String], files: &mut F) -> Ended
-    ensures reported { result.end.status ≢ 13 → IsReported (map string_bytes words.now) (seen_by F.Files files.old) (seen_by F.Files files.new) result.end }
+    ensures reported { result.end.status ≢ 13 → IsReported (map string_bytes words.now) (F.seen files.old) (F.seen files.new) result.end }
     ensures turned { result.end.status ≢ 13 → result.end.status ≢ 6 → HasGone (map string_bytes words.now) (λ request.
         RanByTurns ⟦<StreamSource<F::Src> as TaskSource>⟧ ⟦<StreamElement<F::Snk> as TaskElement>⟧ ⟦<MemInlet as Inlet>⟧ ⟦<MemOutlet as Outlet>⟧
-        F.Src.Source F.Snk.Sink request.graph (orders.Drawn request.order) (seen_by F.Files files.old) result.end) }
+        F.Src.Source F.Snk.Sink request.graph (orders.Drawn request.order) (F.seen files.old) result.end) }
     ensures status { result.end.status ≢ 14 }
     ensures text { report_lines result.end.status result.quiet result.end.report
         ≡ report_lines result.end.status (is_quiet (map string_bytes words.now)) result.end.report }
-    ensures given_back { F.ends files.old < 2 ^ 63 → F.ends files.new ≡ F.ends files.old }
-    ensures inputs { (l : List ℕ) → F.input files.new l ≡ F.input files.old l }
-    ensures others { (l : List ℕ) → IsUntouched (map string_bytes words.now) l → F.output files.new l ≡ F.output files.old l }
+    ensures given_back { (F.seen files.old).ends < 2 ^ 63 → (F.seen files.new).ends ≡ (F.seen files.old).ends }
+    ensures inputs { (l : List ℕ) → (F.seen files.new).input l ≡ (F.seen files.old).input l }
+    ensures others { (l : List ℕ) → IsUntouched (map string_bytes words.now) l → (F.seen files.new).output l ≡ (F.seen files.old).output l }
 {
     match read_request(alloc, words) {
         Ok(request) => Ended {
@@ -207,10 +206,10 @@ pub fn run<H: Threads + Wait + Copy + Send + 'static, F: Files, C: Clock, G: Tas
     out: &mut O,
 ) -> Outcome
     ensures headline { result.reported ≢ 13
-        → IsReported (map string_bytes words.now) (seen_by F.Files files.old) (seen_by F.Files files.new) (world_end result) }
+        → IsReported (map string_bytes words.now) (F.seen files.old) (F.seen files.new) (world_end result) }
     ensures turned { result.reported ≢ 13 → result.reported ≢ 6 → HasGone (map string_bytes words.now) (λ request.
         RanByTurns ⟦<StreamSource<F::Src> as TaskSource>⟧ ⟦<StreamElement<F::Snk> as TaskElement>⟧ ⟦<MemInlet as Inlet>⟧ ⟦<MemOutlet as Outlet>⟧
-        F.Src.Source F.Snk.Sink request.graph (orders.Drawn request.order) (seen_by F.Files files.old) (world_end result)) }
+        F.Src.Source F.Snk.Sink request.graph (orders.Drawn request.order) (F.seen files.old) (world_end result)) }
     ensures status { (result.status ≡ result.reported) ⊎ ((result.status ≡ 14) × Rose result.out_before result.out_after) }
     ensures before { result.out_before ≡ O.faults out.old }
     ensures after { result.out_after ≡ O.faults out.new }
@@ -218,9 +217,10 @@ pub fn run<H: Threads + Wait + Copy + Send + 'static, F: Files, C: Clock, G: Tas
         → Wrote (report_lines result.reported (is_quiet (map string_bytes words.now)) result.report) (O.bytes out.old) (O.bytes out.new) }
     ensures text_part { result.status ≡ 14
         → WrotePart (report_lines result.reported (is_quiet (map string_bytes words.now)) result.report) (O.bytes out.old) (O.bytes out.new) }
-    ensures given_back { F.ends files.old < 2 ^ 63 → F.ends files.new ≡ F.ends files.old }
-    ensures inputs { (l : List ℕ) → F.input files.new l ≡ F.input files.old l }
-    ensures others { (l : List ℕ) → IsUntouched (map string_bytes words.now) l → F.output files.new l ≡ F.output files.old l }
+    ensures clock { C.reads _clock.new ≡ C.reads _clock.old }
+    ensures given_back { (F.seen files.old).ends < 2 ^ 63 → (F.seen files.new).ends ≡ (F.seen files.old).ends }
+    ensures inputs { (l : List ℕ) → (F.seen files.new).input l ≡ (F.seen files.old).input l }
+    ensures others { (l : List ℕ) → IsUntouched (map string_bytes words.now) l → (F.seen files.new).output l ≡ (F.seen files.old).output l }
 {
     let ended = run_words(alloc, words, files);
     tell(alloc, ended, out)

@@ -139,7 +139,10 @@ impl Stop<'_> {
         requires rest { length self.now.rest.now ≤ length self.now.line.now }
         requires word { length self.now.word.now ≤ length self.now.rest.now }
         ensures place { Faults Stuck (place_of self.now.line.now self.now.rest.now self.now.spot self.now.depth self.now.word.now) result }
-        ensures why { (words : List (List ℕ)) → Splits words self.now.line.now [] → Why Stuck (kind_of (length self.now.line.now) (place_of self.now.line.now self.now.rest.now self.now.spot self.now.depth self.now.word.now) self.now.spot self.now.depth self.now.word.now (list_all is_bracket words)) result }
+        ensures why { (words : List (List ℕ)) → Splits words self.now.line.now []
+            → Why Stuck (kind_of (length self.now.line.now)
+            (place_of self.now.line.now self.now.rest.now self.now.spot self.now.depth self.now.word.now) self.now.spot self.now.depth self.now.word.now
+            (list_all is_bracket words)) result }
     {
         let front = front_length(self.spot, self.depth, self.word);
         let place = self.line.len() - self.rest.len() + front;

@@ -28,7 +28,10 @@ fn fault_at(refusal: Refusal, stop: &Stop<'_>) -> LineFault
     requires short { length stop.now.line.now ≤ 65536 }
     requires rest { length stop.now.rest.now ≤ length stop.now.line.now }
     requires word { length stop.now.word.now ≤ length stop.now.rest.now }
-    ensures why { (words : List (List ℕ)) → Splits words stop.now.line.now [] → Why refusal (kind_of (length stop.now.line.now) (place_of stop.now.line.now stop.now.rest.now stop.now.spot stop.now.depth stop.now.word.now) stop.now.spot stop.now.depth stop.now.word.now (list_all is_bracket words)) result }
+    ensures why { (words : List (List ℕ)) → Splits words stop.now.line.now []
+        → Why refusal (kind_of (length stop.now.line.now)
+        (place_of stop.now.line.now stop.now.rest.now stop.now.spot stop.now.depth stop.now.word.now) stop.now.spot stop.now.depth stop.now.word.now
+        (list_all is_bracket words)) result }
     ensures place { Faults refusal (place_of stop.now.line.now stop.now.rest.now stop.now.spot stop.now.depth stop.now.word.now) result }
 {
     match refusal {

@@ -5,8 +5,10 @@ use Rattle.flow_model.specs.Item.{Item}
 use Rattle.lane_core.specs.declared.ends.Inlet as inlets
 use Rattle.lane_core.specs.declared.ends.Outlet as outlets
 use Rattle.net_model.specs.Moment.{Moment}
-use Rattle.element_traits.specs.declared.element.TaskElement as elements
-use Rattle.element_traits.specs.declared.source.TaskSource as sources
+use Rattle.net_model.specs.declared.element.TaskElement as elements
+use Rattle.net_model.specs.declared.refusal.Unread.{Unread}
+use Rattle.net_model.specs.declared.source.TaskSource as sources
+use Rattle.net_model.specs.Short.{StopsShort}
 use Rattle.pad_core.specs.SrcPad.{crossed_of}
 use Rattle.task_pads.specs.Behind.{EndReady, end_in}
 use Rattle.task_pads.specs.Pads.{Rest, number_of, rest_of, waiting_of}
@@ -30,6 +32,7 @@ use Rattle.net_task.specs.Ready.{AreReady, HeadApart, LanesGoOn, WiresApart}
 use Rattle.net_task.specs.Reasons.{AllRest, OwnerRests}
 use Rattle.net_task.specs.Moves.{flush_given, giving, gives as gives_one}
 use Rattle.net_task.specs.Failed.{Causes, FailsAs, at_head, by_source as cause_source, full_head, unread}
+use Rattle.net_task.specs.Short.{CrossedShort}
 use Rattle.net_task.specs.Tries.{Asks, StepsAs, left_in}
 use Rattle.net_task.specs.Fuel.{Burns, part_left}
 use Rattle.task_pads.proofs.Few.{few_crossed}
@@ -171,13 +174,21 @@ module _ {S E I O L : Type 0} {s : sources.Ghosts S} {e : elements.Ghosts E} (i 
   gave_moved tells none all (Ok (tried.Stuck step)) g q = absurd g
   gave_moved tells none all (Err fault) g q = absurd cc
 
+  -- where nothing waits at the pad of a source, all that it gave has crossed
+  crossed_short : waiting_of head.pad ≡ [] → (why : Unread) → ((owed gave : List Item) → s.gave head.source owed gave → StopsShort owed gave why) → CrossedShort m head.number why
+  crossed_short none why short q own =
+      let t = a.head_tied in
+      subst (λ k. StopsShort (m.history k ++ m.waits k) (m.history k) why) (sym (t.mine q own))
+      (subst (λ gave. StopsShort (m.history p ++ m.waits p) gave why) (ap (λ ys. m.history p ++ ys) none ∙ append-nil (m.history p))
+      (short (m.history p ++ m.waits p) (m.history p ++ waiting_of head.pad) t.gave))
+
   -- no source is asked that has given more than 2^40 items
   pub gave_failed : waiting_of head.pad ≡ [] → (r : Result Tried TaskFault) → GivesAs head head' r → (fault : TaskFault) → r ≡ Err fault → FailsAs i o m (Source head) (Source head') parts at_head fault
   gave_failed none (Ok answer) g fault q = absurd cc
   gave_failed none (Err given) (inl g) fault q =
       absurd (let c = a.head_tied.given in let d = ap length none in let f = g.0.1 in let k = few_crossed head.pad in let h = a.head_tied.linked.crossed.crossed in omega (arith, c, d, f, k, h))
   gave_failed none (Err given) (inr g) fault q =
-      subst (FailsAs i o m (Source head) (Source head') parts at_head) (sym g.1 ∙ err_same (Err given) given fault refl q) (unread head.number g.0 (kept_tied g.2) (refl, g.3))
+      subst (FailsAs i o m (Source head) (Source head') parts at_head) (sym g.1 ∙ err_same (Err given) given fault refl q) (unread head.number g.0 (kept_tied g.2) (refl, g.3) (crossed_short none g.0 g.4))
 
 -- what a question to a source leaves to move
 module _ {S E I O L : Type 0} {s : sources.Ghosts S} {e : elements.Ghosts E} (i : inlets.Ghosts I L O) (o : outlets.Ghosts O L) (head head' : SourceHead S O s) (parts : List (Part E O e)) (rest : rest_of head'.pad ≡ rest_of head.pad) where

@@ -6,8 +6,8 @@ use Rattle.lane_core.specs.Room.{Limits}
 use Rattle.lane_core.specs.declared.ends.Inlet as inlets
 use Rattle.lane_core.specs.declared.ends.Outlet as outlets
 use Rattle.net_model.specs.Moment.{Moment}
-use Rattle.element_traits.specs.declared.element.TaskElement as elements
-use Rattle.element_traits.specs.declared.source.TaskSource as sources
+use Rattle.net_model.specs.declared.element.TaskElement as elements
+use Rattle.net_model.specs.declared.source.TaskSource as sources
 use Rattle.inlet_row.specs.declared.feeding.Taken.TheVariants as takes
 use Rattle.inlet_row.specs.Left.{row_left}
 use Rattle.task_pads.specs.Behind.{EndReady, LaneEnd}

@@ -8,11 +8,11 @@ use Rattle.lane_core.specs.declared.ends.Outlet as outlets
 use Rattle.net_model.specs.Moment.{Moment, behavior_at}
 use Rattle.net_model.specs.Step.{crossed}
 use Rattle.net_model.proofs.Inputs.{at_here, at_other}
-use Rattle.element_traits.specs.declared.element.TaskElement as elements
-use Rattle.element_traits.specs.declared.source.TaskSource as sources
-use Rattle.element_traits.specs.declared.refusal.Refusal.{Refusal}
-use Rattle.element_traits.specs.Takes.{on_port}
-use Rattle.element_traits.specs.Refuses.{RefusesBy}
+use Rattle.net_model.specs.declared.element.TaskElement as elements
+use Rattle.net_model.specs.declared.source.TaskSource as sources
+use Rattle.net_model.specs.declared.refusal.Refusal.{Refusal}
+use Rattle.net_model.specs.Takes.{on_port}
+use Rattle.net_model.specs.Refuses.{RefusesBy}
 use Rattle.gst_item.specs.declared.out.Out.{Out}
 use Rattle.task_pads.specs.declared.pad.Pad.{Pad}
 use Rattle.task_pads.specs.Behind.{inside}

@@ -4,10 +4,10 @@ use Rattle.lane_core.specs.Lane.{Lane}
 use Rattle.lane_core.specs.declared.ends.Inlet as inlets
 use Rattle.lane_core.specs.declared.ends.Outlet as outlets
 use Rattle.net_model.specs.Moment.{Moment}
-use Rattle.element_traits.specs.declared.element.TaskElement as elements
-use Rattle.element_traits.specs.declared.source.TaskSource as sources
-use Rattle.element_traits.specs.declared.refusal.Unread.{Unread}
-use Rattle.element_traits.specs.Failures.{IsReadCause}
+use Rattle.net_model.specs.declared.element.TaskElement as elements
+use Rattle.net_model.specs.declared.source.TaskSource as sources
+use Rattle.net_model.specs.declared.refusal.Unread.{Unread}
+use Rattle.net_model.specs.Failures.{IsReadCause}
 use Rattle.inlet_row.specs.declared.feeding.Taken.TheVariants as takes
 use Rattle.task_parts.specs.declared.part.Part.{Part}
 use Rattle.task_parts.specs.declared.head.Head.{Head}
@@ -292,7 +292,7 @@ module _ {S E I O L : Type 0} {s : sources.Ghosts S} {e : elements.Ghosts E} (i 
 
   failed_then : (old mid new : Head S I O s) (parts' : List (Part E O e)) (origin : Origin) (fault : TaskFault) → SourceStays old mid → FailsAs i o m mid new parts' origin fault → FailsAs i o m old new parts' origin fault
   failed_then old mid new parts' _ _ k (refused origin n pad x refusal l w) = refused origin n pad x refusal l w
-  failed_then old mid new parts' _ _ k (unread n why a u) = unread n why a (unread_then old mid new n why k u)
+  failed_then old mid new parts' _ _ k (unread n why a u h) = unread n why a (unread_then old mid new n why k u) h
   failed_then old mid new parts' _ _ k (not_linked p x rest a w b n) = not_linked p x rest a w b n
   failed_then old mid new parts' _ _ k (at_limit p x rest a w l) = at_limit p x rest a w l
   failed_then old mid new parts' _ _ k (no_memory origin a) = no_memory origin a

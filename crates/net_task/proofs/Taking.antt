@@ -11,9 +11,9 @@ use Rattle.lane_core.specs.declared.ends.Outlet as outlets
 use Rattle.net_model.specs.Moment.{Moment, behavior_at}
 use Rattle.net_model.specs.Split.{push_calls}
 use Rattle.net_model.proofs.Inputs.{at_here}
-use Rattle.element_traits.specs.declared.element.TaskElement as elements
-use Rattle.element_traits.specs.declared.source.TaskSource as sources
-use Rattle.element_traits.specs.declared.refusal.Refusal.{Refusal}
+use Rattle.net_model.specs.declared.element.TaskElement as elements
+use Rattle.net_model.specs.declared.source.TaskSource as sources
+use Rattle.net_model.specs.declared.refusal.Refusal.{Refusal}
 use Rattle.inlet_row.specs.declared.row.InletRow.{InletRow}
 use Rattle.inlet_row.specs.declared.feeding.Taken.{Taken}
 use Rattle.inlet_row.specs.declared.feeding.Taken.TheVariants as takes

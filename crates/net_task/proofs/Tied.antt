@@ -12,9 +12,9 @@ use Rattle.net_model.specs.Moment.{Moment}
 use Rattle.net_model.specs.Split.{push_calls}
 use Rattle.net_model.specs.Step.{crossed, fed}
 use Rattle.net_model.proofs.Inputs.{at_here, at_other}
-use Rattle.element_traits.specs.declared.element.TaskElement as elements
-use Rattle.element_traits.specs.declared.source.TaskSource as sources
-use Rattle.element_traits.specs.Takes.{on_port}
+use Rattle.net_model.specs.declared.element.TaskElement as elements
+use Rattle.net_model.specs.declared.source.TaskSource as sources
+use Rattle.net_model.specs.Takes.{on_port}
 use Rattle.inlet_row.specs.declared.row.InletRow.{InletRow}
 use Rattle.task_pads.specs.declared.pad.Pad.{Pad}
 use Rattle.task_pads.specs.Pads.{number_of, pad_shape, waiting_of}

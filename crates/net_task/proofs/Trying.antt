@@ -12,10 +12,10 @@ use Rattle.lane_core.specs.declared.ends.Inlet as inlets
 use Rattle.lane_core.specs.declared.ends.Outlet as outlets
 use Rattle.net_model.specs.Moment.{Moment}
 use Rattle.net_model.specs.Step.{LeadsNowhere, crossed}
-use Rattle.element_traits.specs.declared.element.TaskElement as elements
-use Rattle.element_traits.specs.declared.source.TaskSource as sources
-use Rattle.element_traits.specs.declared.refusal.Refusal.{Refusal}
-use Rattle.element_traits.specs.Takes.{on_port}
+use Rattle.net_model.specs.declared.element.TaskElement as elements
+use Rattle.net_model.specs.declared.source.TaskSource as sources
+use Rattle.net_model.specs.declared.refusal.Refusal.{Refusal}
+use Rattle.net_model.specs.Takes.{on_port}
 use Rattle.pad_core.specs.SrcPad.{CrossedBy, crossed_of}
 use Rattle.task_pads.specs.declared.pad.Pad.{Pad}
 use Rattle.task_pads.specs.declared.pad.Behind.{Behind}
@@ -48,7 +48,7 @@ use Rattle.task_parts.specs.Passing.{AfterPart, HandsTo, CrossesPart}
 use Rattle.net_task.specs.Ties.{LeadsAs, PortTied, AreTied, Stands, nothing_lost}
 use Rattle.net_task.specs.Moves.{Act, LanesBy, RowsStay, given_by, passing}
 use Rattle.net_task.specs.Failed.{Causes, FailsAs, at_limit, at_pad, by_element, full_at, memory, no_memory, not_linked, refused, unlinked}
-use Rattle.element_traits.specs.Failures.{IsWriteCause}
+use Rattle.net_model.specs.Failures.{IsWriteCause}
 use Rattle.task_pads.specs.Crossing.{WentAway}
 use Rattle.net_task.specs.Tries.{CrossesAt, IsAtPort, PadFails, SettledAt, Spends, StaysSettled, TableStays, TriedAs}
 use Rattle.task_pads.proofs.Lists.{set_there, some_same}

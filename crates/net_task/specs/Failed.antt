@@ -6,12 +6,12 @@ use Rattle.lane_core.specs.declared.ends.Inlet as inlets
 use Rattle.lane_core.specs.declared.ends.Outlet as outlets
 use Rattle.net_model.specs.Moment.{Moment, put_at, behavior_at}
 use Rattle.net_model.specs.Step.{Leads, LeadsNowhere}
-use Rattle.element_traits.specs.declared.element.TaskElement as elements
-use Rattle.element_traits.specs.declared.source.TaskSource as sources
-use Rattle.element_traits.specs.declared.refusal.Refusal.{Refusal}
-use Rattle.element_traits.specs.declared.refusal.Unread.{Unread}
-use Rattle.element_traits.specs.Failures.{IsReadCause, IsWriteCause}
-use Rattle.element_traits.specs.Refuses.{RefusesBy}
+use Rattle.net_model.specs.declared.element.TaskElement as elements
+use Rattle.net_model.specs.declared.source.TaskSource as sources
+use Rattle.net_model.specs.declared.refusal.Refusal.{Refusal}
+use Rattle.net_model.specs.declared.refusal.Unread.{Unread}
+use Rattle.net_model.specs.Failures.{IsReadCause, IsWriteCause}
+use Rattle.net_model.specs.Refuses.{RefusesBy}
 use Rattle.task_parts.specs.declared.part.Part.{Part}
 use Rattle.task_parts.specs.declared.head.Head.{Head}
 use Rattle.task_parts.specs.declared.head.Head.TheVariants.{Source, Inlets}
@@ -21,6 +21,7 @@ use Rattle.task_parts.specs.declared.fault.TaskFault.{TaskFault}
 use Rattle.task_parts.specs.declared.fault.TaskFault.TheVariants.{TooLong, NotLinked, OutOfMemory}
 use Rattle.task_parts.specs.Fault.{refusal_fault, unread_fault}
 use Rattle.net_task.specs.Frame.{PartFrame, TaskFrame, Wire, IsWire, by_source as of_source, frame_of}
+use Rattle.net_task.specs.Short.{CrossedShort}
 use Rattle.net_task.specs.Reasons.{AllRest, HeadIdle, IsFirst}
 use Rattle.net_task.specs.Ties.{AreTied, Stands, Ties, nothing_lost}
 
@@ -90,7 +91,8 @@ module _ {S E I O L : Type 0} {s : sources.Ghosts S} {e : elements.Ghosts E} (i 
   pub data FailsAs (m : Moment) (head head' : Head S I O s) (parts' : List (Part E O e)) : Origin → TaskFault → Type 0 where
     refused : (origin : Origin) (n pad : ℕ) (x : Item) (refusal : Refusal) → Left m origin head' parts' n pad x → Refuses e m n pad x refusal
         → FailsAs m head head' parts' origin (refusal_fault n refusal)
-    unread : (n : ℕ) (why : Unread) → AreTied i o (Stands m) nothing_lost m head' parts' → IsUnread head head' n why → FailsAs m head head' parts' at_head (unread_fault n why)
+    unread : (n : ℕ) (why : Unread) → AreTied i o (Stands m) nothing_lost m head' parts' → IsUnread head head' n why → CrossedShort m n why
+        → FailsAs m head head' parts' at_head (unread_fault n why)
     not_linked : (p : ℕ) (x : Item) (rest : List Item) → AreTied i o (Stands m) nothing_lost m head' parts' → m.waits p ≡ x ∷ rest → is_buffer x ≡ true
         → ((q : ℕ) → m.plan.owner q ≡ m.plan.owner p → LeadsNowhere m.plan q) → FailsAs m head head' parts' (at_pad p) (NotLinked p (length (m.history p)))
     -- more than 2^40 items were to cross a pad

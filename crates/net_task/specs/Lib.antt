@@ -1,9 +1,11 @@
 pub mod Answers
+pub mod Counted
 pub mod Failed
 pub mod Frame
 pub mod Fuel
 pub mod Moves
 pub mod Ready
 pub mod Reasons
+pub mod Short
 pub mod Ties
 pub mod Tries

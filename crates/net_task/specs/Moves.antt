@@ -11,9 +11,9 @@ use Rattle.inlet_row.specs.declared.feeding.Taken.TheVariants.{Item}
 use Rattle.net_model.specs.Moment.{Moment}
 use Rattle.net_model.specs.Split.{NoneAt, push_calls}
 use Rattle.net_model.specs.Step.{Leads, Sends, Leaves, PutsOut, crossed, passed, fed}
-use Rattle.element_traits.specs.declared.element.TaskElement as elements
-use Rattle.element_traits.specs.declared.source.TaskSource as sources
-use Rattle.element_traits.specs.Takes.{InSection}
+use Rattle.net_model.specs.declared.element.TaskElement as elements
+use Rattle.net_model.specs.declared.source.TaskSource as sources
+use Rattle.net_model.specs.Takes.{InSection}
 use Rattle.task_parts.specs.declared.part.Part.{Part}
 use Rattle.task_parts.specs.declared.head.Head.{Head}
 use Rattle.task_parts.specs.declared.head.Head.TheVariants.{Source, Inlets}

@@ -9,8 +9,8 @@ use Rattle.lane_core.specs.declared.ends.Put.TheVariants.{Full}
 use Rattle.pad_core.specs.Crossing.{has_ended}
 use Rattle.inlet_row.specs.declared.feeding.Taken.TheVariants.{Empty}
 use Rattle.net_model.specs.Moment.{Moment}
-use Rattle.element_traits.specs.declared.element.TaskElement as elements
-use Rattle.element_traits.specs.declared.source.TaskSource as sources
+use Rattle.net_model.specs.declared.element.TaskElement as elements
+use Rattle.net_model.specs.declared.source.TaskSource as sources
 use Rattle.task_pads.specs.Behind.{over}
 use Rattle.task_pads.specs.Pads.{waiting_of}
 use Rattle.task_parts.specs.declared.part.Part.{Part}

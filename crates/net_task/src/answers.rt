@@ -2,10 +2,10 @@
 ghost use Rattle.std.specs.Prelude.{◌≡◌};
 ghost use Rattle.net_task.specs.Answers.{head_step, preferred, tried_both};
 
-use task_parts::{Step, TaskFault, Tried};
+use task_parts::{Failure, Step, Tried};
 
 /// What a task whose head was asked answers.
-pub(crate) fn step_of(tried: Result<Tried, TaskFault>) -> Result<Step, TaskFault>
+pub(crate) fn step_of(tried: Result<Tried, Failure>) -> Result<Step, Failure>
     ensures { result ≡ head_step tried }
 {
     match tried {

@@ -4,11 +4,12 @@ ghost use Rattle.task_parts.specs.Idle.{idle_before};
 ghost use Rattle.task_parts.specs.Shape.{is_closed, shape_of};
 
 use crate::answers::{step_of, with_next};
-use element_traits::{TaskElement, TaskSource};
 use lane_core::{Inlet, Outlet};
+use net_model::{TaskElement, TaskSource};
 use std::alloc::Global;
 use task_parts::{
-    Head, Part, Step, TaskFault, Tried, cross_part, cross_source, first_busy, give, settle, take,
+    Failure, Head, Part, Step, Tried, cross_part, cross_source, first_busy, give, sent, settle,
+    take,
 };
 
 /// A task: a head, and elements with their source pads, in the order in which these are tried: those that stand farthest
@@ -31,6 +32,9 @@ impl<S: TaskSource, E: TaskElement, I: Inlet<Out = O>, O: Outlet<Lanes = I::Lane
     ghost use Rattle.std.specs.Prelude.{◌≤◌, ◌<◌, IfOk, IfErr, OnOk, vec_len};
     ghost use Rattle.net_model.specs.Moment.{Moment};
     ghost use Rattle.task_parts.specs.Passing.{HasPort};
+    ghost use Rattle.inlet_row.specs.Feed.{first_some};
+    ghost use Rattle.task_parts.specs.Ends.{sent_among};
+    ghost use Rattle.net_task.specs.Counted.{received_by, sent_by_head};
     ghost use Rattle.net_task.specs.Failed.{HasFailed};
     ghost use Rattle.net_task.specs.Frame.{frame_of};
     ghost use Rattle.net_task.specs.Fuel.{Burns, moves_left};
@@ -58,7 +62,7 @@ impl<S: TaskSource, E: TaskElement, I: Inlet<Out = O>, O: Outlet<Lanes = I::Lane
     ///
     /// The elements' pads are tried in their order, and then the pad of a source; the first item that can cross does. A
     /// refused put into a full lane does not keep items at other pads from moving on.
-    pub fn step(&mut self, alloc: Global, lanes: &mut I::Lanes) -> Result<Step, TaskFault>
+    pub fn step(&mut self, alloc: Global, lanes: &mut I::Lanes) -> Result<Step, Failure>
         requires ready { IsReady (O.tells lanes.old) self.old }
         ensures steps { IfOk result (λ step. (m : Moment) → Ties self.old m → Steps (O.tells lanes.old) (O.tells lanes.new) self.old self.new m step) }
         ensures why { IfOk result (λ step. (m : Moment) → Ties self.old m → Why (O.tells lanes.old) self.old self.new m step) }
@@ -70,12 +74,12 @@ impl<S: TaskSource, E: TaskElement, I: Inlet<Out = O>, O: Outlet<Lanes = I::Lane
             Ok(Tried::Idle) => self.ask_head(alloc, lanes),
             Ok(Tried::Stuck(step)) => Ok(step),
             Ok(Tried::Moved) => Ok(Step::Moved),
-            Err(fault) => Err(fault),
+            Err(failure) => Err(failure),
         }
     }
 
     /// The first item that can cross a pad does: one of an element, or else that of the source.
-    fn try_pads(&mut self, alloc: Global, lanes: &mut I::Lanes) -> Result<Tried, TaskFault>
+    fn try_pads(&mut self, alloc: Global, lanes: &mut I::Lanes) -> Result<Tried, Failure>
         requires ready { IsReady (O.tells lanes.old) self.old }
         ensures tries { IfOk result (PadsTry (O.tells lanes.old) (O.tells lanes.new) self.old self.new) }
         ensures faults { IfErr result (PadsFault (O.tells lanes.old) self.old self.new) }
@@ -90,7 +94,7 @@ impl<S: TaskSource, E: TaskElement, I: Inlet<Out = O>, O: Outlet<Lanes = I::Lane
     }
 
     /// The first item that can cross a pad of the elements does.
-    fn try_parts(&mut self, alloc: Global, lanes: &mut I::Lanes) -> Result<Tried, TaskFault>
+    fn try_parts(&mut self, alloc: Global, lanes: &mut I::Lanes) -> Result<Tried, Failure>
         requires ready { IsReady (O.tells lanes.old) self.old }
         ensures tries { IfOk result (PartsTry (O.tells lanes.old) (O.tells lanes.new) self.old self.new) }
         ensures faults { IfErr result (PartsFault (O.tells lanes.old) self.old self.new) }
@@ -114,7 +118,7 @@ impl<S: TaskSource, E: TaskElement, I: Inlet<Out = O>, O: Outlet<Lanes = I::Lane
         alloc: Global,
         lanes: &mut I::Lanes,
         place: usize,
-    ) -> Result<Tried, TaskFault>
+    ) -> Result<Tried, Failure>
         requires place { place < vec_len self.old.parts }
         requires from { self.old.from ≤ place }
         requires ready { IsReady (O.tells lanes.old) self.old }
@@ -125,7 +129,7 @@ impl<S: TaskSource, E: TaskElement, I: Inlet<Out = O>, O: Outlet<Lanes = I::Lane
         ensures head { self.new.head ≡ self.old.head }
     {
         if settle(alloc, &mut self.parts, place).is_err() {
-            return Err(TaskFault::OutOfMemory);
+            return Err(Failure::out_of_memory());
         }
         let mut tried = Tried::Idle;
         for port in 0..self.parts[place].pads().len() {
@@ -144,7 +148,7 @@ impl<S: TaskSource, E: TaskElement, I: Inlet<Out = O>, O: Outlet<Lanes = I::Lane
         lanes: &mut I::Lanes,
         place: usize,
         port: usize,
-    ) -> Result<Tried, TaskFault>
+    ) -> Result<Tried, Failure>
         requires at { HasPort self.old.parts.items place port }
         requires from { self.old.from ≤ place }
         requires settled { SettledAt self.old.parts.items place }
@@ -160,7 +164,7 @@ impl<S: TaskSource, E: TaskElement, I: Inlet<Out = O>, O: Outlet<Lanes = I::Lane
     }
 
     /// The item that waits at a source's pad crosses it, if it can.
-    fn try_head(&mut self, alloc: Global, lanes: &mut I::Lanes) -> Result<Tried, TaskFault>
+    fn try_head(&mut self, alloc: Global, lanes: &mut I::Lanes) -> Result<Tried, Failure>
         requires ready { IsReady (O.tells lanes.old) self.old }
         ensures tries { IfOk result (SourceTries (O.tells lanes.old) (O.tells lanes.new) self.old self.new) }
         ensures faults { IfErr result (SourceFault self.old self.new) }
@@ -175,7 +179,7 @@ impl<S: TaskSource, E: TaskElement, I: Inlet<Out = O>, O: Outlet<Lanes = I::Lane
     }
 
     /// Where nothing waits at any pad: the head gives or takes its next item, if there is one now.
-    fn ask_head(&mut self, alloc: Global, lanes: &mut I::Lanes) -> Result<Step, TaskFault>
+    fn ask_head(&mut self, alloc: Global, lanes: &mut I::Lanes) -> Result<Step, Failure>
         requires ready { IsReady (O.tells lanes.old) self.old }
         requires idle { HeadIdle self.old.head }
         ensures asks { IfOk result (AsksHead (O.tells lanes.old) (O.tells lanes.new) self.old self.new) }
@@ -187,6 +191,28 @@ impl<S: TaskSource, E: TaskElement, I: Inlet<Out = O>, O: Outlet<Lanes = I::Lane
             Head::Inlets(head) => {
                 step_of(take(alloc, head, &mut self.parts, lanes, &mut self.from))
             }
+        }
+    }
+
+    /// How many items it sent into the lane of this number. None where none of its pads leads there.
+    pub fn sent(&self, lane: u32) -> Option<u64>
+        ensures { result ≡ first_some (sent_by_head O.Outlet lane self.now.head) (sent_among O.Outlet lane self.now.parts.items) }
+    {
+        if let Head::Source(head) = &self.head {
+            if let Some(count) = head.pad().sent(lane) {
+                return Some(count);
+            }
+        }
+        sent(self.parts.as_slice(), lane)
+    }
+
+    /// How many items it received from the lane of this number. None where its head is not fed from it.
+    pub fn received(&self, lane: u32) -> Option<u64>
+        ensures { result ≡ received_by I.Inlet lane self.now.head }
+    {
+        match &self.head {
+            Head::Source(_) => None,
+            Head::Inlets(head) => head.received(lane),
         }
     }
 

@@ -4,7 +4,7 @@ use Rattle.flow_model.specs.Item.{Item, is_flush_stop}
 use Rattle.flow_model.specs.Call.{Call, Feed, Act, feeds}
 use Rattle.gst_item.specs.Sticky.{has_flush_stop}
 use Rattle.net_model.specs.Split.{NoneAt, push_calls, front_calls}
-use Rattle.element_traits.specs.Takes.{InSection, flush_stops}
+use Rattle.net_model.specs.Takes.{InSection, flush_stops}
 use Rattle.net_turns.specs.Net.{ListAt}
 
 -- sink pad i has its first call no more

@@ -12,9 +12,9 @@ use Rattle.net_model.specs.Split.{push_calls}
 use Rattle.net_model.specs.Step.{Leads, Leaves, crossed, passed}
 use Rattle.net_model.proofs.Inputs.{at_other}
 use Rattle.net_model.proofs.Steps.{leaving_keeps, passing_keeps}
-use Rattle.element_traits.specs.declared.element.TaskElement as elements
-use Rattle.element_traits.specs.declared.source.TaskSource as sources
-use Rattle.element_traits.specs.Takes.{InSection}
+use Rattle.net_model.specs.declared.element.TaskElement as elements
+use Rattle.net_model.specs.declared.source.TaskSource as sources
+use Rattle.net_model.specs.Takes.{InSection}
 use Rattle.inlet_row.specs.declared.row.InletRow.{InletRow}
 use Rattle.task_pads.specs.Behind.{inside}
 use Rattle.net_task.specs.declared.task.Task.{Task}

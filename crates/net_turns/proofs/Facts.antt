@@ -10,8 +10,8 @@ use Rattle.lane_core.specs.declared.ends.Outlet as outlets
 use Rattle.net_model.specs.Moment.{Moment}
 use Rattle.net_model.specs.Standing.{LinksAt, LinksNowhere}
 use Rattle.net_model.specs.Step.{Leads, LeadsNowhere}
-use Rattle.element_traits.specs.declared.element.TaskElement as elements
-use Rattle.element_traits.specs.declared.source.TaskSource as sources
+use Rattle.net_model.specs.declared.element.TaskElement as elements
+use Rattle.net_model.specs.declared.source.TaskSource as sources
 use Rattle.inlet_row.specs.declared.row.InletRow.{InletRow}
 use Rattle.inlet_row.specs.Row.{AreApart, ForLanes, RowIn, feeds_of}
 use Rattle.task_pads.specs.declared.pad.Pad.{Pad}

@@ -15,9 +15,9 @@ use Rattle.net_model.specs.Split.{AreEmpty, NoneAt, push_calls}
 use Rattle.net_model.specs.Step.{Sends, crossed, sent}
 use Rattle.net_model.proofs.Inputs.{at_other}
 use Rattle.net_model.proofs.Steps.{sending_keeps}
-use Rattle.element_traits.specs.declared.element.TaskElement as elements
-use Rattle.element_traits.specs.declared.source.TaskSource as sources
-use Rattle.element_traits.specs.Takes.{InSection}
+use Rattle.net_model.specs.declared.element.TaskElement as elements
+use Rattle.net_model.specs.declared.source.TaskSource as sources
+use Rattle.net_model.specs.Takes.{InSection}
 use Rattle.inlet_row.specs.declared.row.InletRow.{InletRow}
 use Rattle.inlet_row.specs.Row.{AreApart, ForLanes, RowIn, feeds_of, row_holds}
 use Rattle.task_pads.specs.declared.pad.Pad.{Pad}

@@ -9,8 +9,8 @@ use Rattle.lane_core.specs.declared.ends.Outlet as outlets
 use Rattle.net_model.specs.Moment.{Moment}
 use Rattle.net_model.specs.Split.{NoneAt, push_calls}
 use Rattle.net_model.specs.Step.{Leads, Leaves, Sends, crossed, fed, passed}
-use Rattle.element_traits.specs.declared.element.TaskElement as elements
-use Rattle.element_traits.specs.declared.source.TaskSource as sources
+use Rattle.net_model.specs.declared.element.TaskElement as elements
+use Rattle.net_model.specs.declared.source.TaskSource as sources
 use Rattle.inlet_row.specs.declared.row.InletRow.{InletRow}
 use Rattle.inlet_row.specs.Row.{row_holds}
 use Rattle.task_pads.specs.declared.pad.Pad.{Pad}

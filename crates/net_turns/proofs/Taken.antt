@@ -13,9 +13,9 @@ use Rattle.net_model.specs.Split.{AreEmpty, NoneAt, push_calls}
 use Rattle.net_model.specs.Step.{Takes, fed, taken}
 use Rattle.net_model.proofs.Inputs.{at_other}
 use Rattle.net_model.proofs.Steps.{taking_keeps}
-use Rattle.element_traits.specs.declared.element.TaskElement as elements
-use Rattle.element_traits.specs.declared.source.TaskSource as sources
-use Rattle.element_traits.specs.Takes.{InSection}
+use Rattle.net_model.specs.declared.element.TaskElement as elements
+use Rattle.net_model.specs.declared.source.TaskSource as sources
+use Rattle.net_model.specs.Takes.{InSection}
 use Rattle.inlet_row.specs.declared.feeding.Taken.TheVariants.{Item}
 use Rattle.inlet_row.specs.declared.row.InletRow.{InletRow}
 use Rattle.inlet_row.specs.Row.{ForLanes, RowBetween, feeds_of, row_holds}

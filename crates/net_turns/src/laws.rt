@@ -1,8 +1,8 @@
 //! Laws of nets.
 ghost use Rattle.net_turns.specs.Ends.{LinesEnd};
 
-use element_traits::{TaskElement, TaskSource};
 use lane_core::{Inlet, Outlet};
+use net_model::{TaskElement, TaskSource};
 
 /// Where tasks of lines cannot move, nothing waits at a pad and nothing stands in an inlet.
 ///

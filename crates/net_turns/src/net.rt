@@ -7,11 +7,11 @@ ghost use Rattle.net_turns.specs.Net.{NetReady, NetStands};
 ghost use Rattle.net_turns.specs.Rests.{AllFramed, NetAdvanced, NetEnded, NetFaulted, NetStepped, has_moved as step_moved};
 ghost use Rattle.net_turns.specs.Turns.{AreTried, Burned, HasAdvanced, HasCome, HasMet, HasMetTrying, IsStepped, RunBy, net_left, steps_left, stop_of};
 
-use element_traits::{TaskElement, TaskSource};
 use lane_core::{Inlet, Outlet};
+use net_model::{TaskElement, TaskSource};
 use net_task::Task;
 use std::alloc::Global;
-use task_parts::{Step, TaskFault};
+use task_parts::{Failure, Step};
 use turn_order::Turns;
 
 /// How many turns in a row move nothing before each task is tried.
@@ -21,7 +21,7 @@ const IDLE_TURNS: u32 = 4096;
 #[derive(Drop)]
 pub struct Stopped {
     pub task: usize,
-    pub fault: TaskFault,
+    pub fault: Failure,
 }
 
 /// Whether a step moved.
@@ -49,7 +49,8 @@ fn step_at<S: TaskSource, E: TaskElement, I: Inlet<Out = O>, O: Outlet<Lanes = I
     requires place { place < length tasks.old }
     requires ready { NetReady tasks.old (O.tells lanes.old) }
     ensures ready { OnOk result (NetReady tasks.new (O.tells lanes.new)) }
-    ensures goes { IfOk result (λ moved. (m : Moment) → NetStands m tasks.old (O.tells lanes.old) → NetStepped (λ k. k ≡ place) moved m tasks.new (O.tells lanes.new)) }
+    ensures goes { IfOk result (λ moved. (m : Moment) → NetStands m tasks.old (O.tells lanes.old)
+        → NetStepped (λ k. k ≡ place) moved m tasks.new (O.tells lanes.new)) }
     ensures faulted { IfErr result (λ stop. (m : Moment) → NetStands m tasks.old (O.tells lanes.old) → NetFaulted m tasks.new stop.task stop.fault) }
     ensures stepped { IfOk result (λ moved. IsStepped place moved tasks.old tasks.new (O.tells lanes.old) (O.tells lanes.new)) }
     ensures met { IfErr result (λ stop. HasMet place stop.fault tasks.old tasks.new (O.tells lanes.old)) }
@@ -107,9 +108,11 @@ fn advance<S: TaskSource, E: TaskElement, I: Inlet<Out = O>, O: Outlet<Lanes = I
     ensures ready { OnOk result (NetReady tasks.new (O.tells lanes.new)) }
     ensures goes { IfOk result (λ more. (m : Moment) → NetStands m tasks.old (O.tells lanes.old) → NetAdvanced more m tasks.new (O.tells lanes.new)) }
     ensures faulted { IfErr result (λ stop. (m : Moment) → NetStands m tasks.old (O.tells lanes.old) → NetFaulted m tasks.new stop.task stop.fault) }
-    ensures come { IfOk result (λ more. (order : Order) (start : ℕ) (first : _) (told : _) → HasCome order start first told turns.old idle.old tasks.old (O.tells lanes.old)
+    ensures come { IfOk result (λ more. (order : Order) (start : ℕ) (first : _) (told : _)
+        → HasCome order start first told turns.old idle.old tasks.old (O.tells lanes.old)
         → HasAdvanced order start first told turns.new idle.new more tasks.new (O.tells lanes.new)) }
-    ensures stopped { IfErr result (λ stop. (order : Order) (start : ℕ) (first : _) (told : _) → HasCome order start first told turns.old idle.old tasks.old (O.tells lanes.old)
+    ensures stopped { IfErr result (λ stop. (order : Order) (start : ℕ) (first : _) (told : _)
+        → HasCome order start first told turns.old idle.old tasks.old (O.tells lanes.old)
         → RunBy order start first told turns.new (Some stop.fault) tasks.new) }
     ensures within { IfErr result (λ stop. stop.task < length tasks.new) }
     ensures frames { AllFramed tasks.old tasks.new }

@@ -1,11 +1,11 @@
 -- A pad with one more item.
-use Rattle.std.proofs.Common.{◌≡◌, ℕ, ◌+◌, Bool, true, false, if◌then◌else◌, List, [], ◌∷◌, ◌++◌, refl, sym, ap, ◌∙◌, arith, Some, IsTrue, add-zero, ◌⊎◌, inl, inr, map, Result, Ok, Err, IfOk}
+use Rattle.std.proofs.Common.{◌≡◌, ℕ, ◌+◌, Bool, true, false, if◌then◌else◌, List, [], ◌∷◌, ◌++◌, refl, sym, ap, subst, ◌∙◌, arith, Some, IsTrue, add-zero, ◌⊎◌, inl, inr, map, Result, Ok, Err, IfOk}
 use Rattle.std.proofs.lemmas.List.{length_push}
 use Rattle.std.proofs.lemmas.List.Sums.{sum_by_push}
 use Rattle.gst_item.proofs.Kept.{in_force_push, buffer_passes, gap_passes}
 use Rattle.gst_caps.specs.declared.memory.OutOfMemory.{OutOfMemory}
 use Rattle.gst_item.specs.Sticky.{InForce, in_force, stickies}
-use Rattle.pad_core.specs.Item.{Item, Buf, Ev, Event, StreamStart, NewCaps, NewSegment, Tag, Gap, FlushStop, Eos, is_eos, is_flush_stop, is_buffer, is_sticky, buffers}
+use Rattle.pad_core.specs.Item.{Item, Buf, Ev, Buffer, Event, StreamStart, NewCaps, NewSegment, Tag, Gap, FlushStop, Eos, is_eos, is_flush_stop, is_buffer, is_sticky, buffers}
 use Rattle.pad_core.specs.Counts.{IsStickyKept, AreSticky}
 use Rattle.pad_core.proofs.Again.{listed_sticky, stickies_push}
 use Rattle.pad_core.specs.declared.last.Last.{Last}
@@ -116,6 +116,26 @@ settled old new last same nothing crossed buffered ended did h p =
       buffers = buffered ∙ p.buffers;
       ended = ended ∙ p.ended;
       stickies = settled_nothing new.settled new.last h nothing (settles old.settled new.settled last h did (rw same p.stickies));
+    }
+
+-- a buffer behind a buffer
+pub counted_next : (old new : SrcPad) (b : Buffer) → old.ended ≡ false → old.last ≡ LastBuffer
+    → new.crossed ≡ old.crossed + 1 → new.buffers ≡ old.buffers + 1 → new.ended ≡ false → new.settled ≡ old.settled → new.last ≡ LastBuffer
+    → (h : List Item) → CrossedBy old h → CrossedBy new (h ++ Buf b ∷ [])
+counted_next old new b begun behind crossed buffered ended apart same h p =
+    record {
+      crossed = crossed ∙ ap (λ n. n + 1) p.crossed ∙ sym (length_push h (Buf b));
+      buffers = buffered ∙ ap (λ n. n + 1) p.buffers ∙ sym (buffers_push h (Buf b));
+      ended = ended ∙ sym (ended_push h (Buf b) refl (sym p.ended ∙ begun));
+      stickies = as_last new.settled new.last (h ++ Buf b ∷ []) (Buf b) (rw same tt)
+          (record {
+            earlier = h;
+            item = Buf b;
+            whole = refl;
+            kind = rw same tt;
+            in_force_then = apart ∙ settles old.settled old.settled LastBuffer h refl (subst (λ last. Settled old.settled last h) behind p.stickies);
+            not_ended = sym p.ended ∙ begun;
+          });
     }
 
 -- a sticky event, of which a copy was laid by

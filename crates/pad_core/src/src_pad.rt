@@ -1,8 +1,8 @@
 //! Source pads.
-ghost use Rattle.std.specs.Prelude.{◌≡◌, ◌+◌, ◌<◌, ◌≤◌, ◌^◌, ◌++◌, ◌∷◌, [], ℕ, List, Bool, false, map, Some, None, IsSome, IsTrue, IfOk, OnErr, length};
+ghost use Rattle.std.specs.Prelude.{◌≡◌, ◌+◌, ◌<◌, ◌≤◌, ◌^◌, ◌++◌, ◌∷◌, [], ℕ, List, Bool, false, true, map, Some, None, IsSome, IsTrue, IfOk, OnErr, length};
 ghost use Rattle.pad_core.specs.Item.{Item, Buf, Ev, Buffer, Event as PadEvent, Gap, FlushStop, is_sticky, is_flush_stop, buffers};
 ghost use Rattle.gst_item.specs.Sticky.{in_force, stickies};
-ghost use Rattle.pad_core.specs.declared.last.Last.TheVariants.{Nothing as NotAny};
+ghost use Rattle.pad_core.specs.declared.last.Last.TheVariants.{Nothing as NotAny, Buffer as BufferLast};
 ghost use Rattle.pad_core.specs.Counts.{last_buffers, last_events, is_apart, IsStickyKept, AreSticky};
 
 use crate::crossing::Crossing;
@@ -81,6 +81,7 @@ impl SrcPad {
     /// Whether an item crosses, and where it goes; `sibling` says whether another pad of the element is linked.
     /// An item that crosses is counted. A FLUSH_STOP that crosses ends flushing and EOS. A sticky event stays in
     /// force.
+    #[inline(always)]
     pub fn cross(&mut self, item: &Item, sibling: bool) -> Crossing
         requires kept { WasKept (state_of self.old).kept item.now }
         requires few { crossed_of self.old < 2 ^ 41 }
@@ -237,6 +238,7 @@ impl SrcPad {
     }
 
     /// The answer to an item.
+    #[inline(always)]
     fn answer(&self, item: &Item, sibling: bool) -> Crossing
         ensures { result ≡ crossing_for (state_of self.now) self.now.ended self.now.buffers sibling item.now }
     {
@@ -254,6 +256,7 @@ impl SrcPad {
     }
 
     /// The answer to a buffer, where the pad is open.
+    #[inline(always)]
     fn answer_buffer(&self, sibling: bool) -> Crossing
         ensures { (b : Buffer) → result ≡ unless_stopped (stopped_by self.now.probe self.now.buffers (Buf b)) (goes_to self.now.peer sibling (Buf b)) }
     {
@@ -270,6 +273,7 @@ impl SrcPad {
     }
 
     /// The answer to an event, where the pad is open.
+    #[inline(always)]
     fn answer_event(&self) -> Crossing
         ensures { (e : PadEvent) (sibling : Bool) → result ≡ goes_to self.now.peer sibling (Ev e) }
     {
@@ -280,6 +284,7 @@ impl SrcPad {
     }
 
     /// Counts an item that crosses.
+    #[inline(always)]
     fn count(&mut self, item: &Item)
         requires kept { WasKept (state_of self.old).kept item.now }
         requires few { crossed_of self.old < 2 ^ 41 }
@@ -289,11 +294,37 @@ impl SrcPad {
         ensures crossed { crossed_of self.new ≡ crossed_of self.old + 1 }
         ensures back { is_flush_stop item.now ≡ false → before self.new ≡ Some (state_of self.old) }
     {
+        if matches!(item, Item::Buffer(_)) && self.is_behind_buffer() {
+            return self.count_next_buffer();
+        }
         self.settle();
         match item {
             Item::Buffer(_) => self.count_buffer(),
             Item::Event(event) => self.count_event(event),
         }
+    }
+
+    /// Whether a buffer crossed last, and can be taken back.
+    #[inline(always)]
+    fn is_behind_buffer(&self) -> bool
+        ensures { result ≡ true → self.now.last ≡ BufferLast }
+    {
+        matches!(self.last, Last::Buffer)
+    }
+
+    /// Counts a buffer behind a buffer: what can be taken back is one buffer again.
+    #[inline(always)]
+    fn count_next_buffer(&mut self)
+        requires few { self.old.crossed < 2 ^ 41 }
+        requires behind { self.old.last ≡ BufferLast }
+        requires not_ended { self.old.ended ≡ false }
+        ensures history { (h : List Item) (b : Buffer) → CrossedBy self.old h → CrossedBy self.new (h ++ Buf b ∷ []) }
+        ensures state { state_of self.new ≡ state_of self.old }
+        ensures back { before self.new ≡ Some (state_of self.old) }
+        ensures crossed { self.new.crossed ≡ self.old.crossed + 1 }
+    {
+        self.crossed += 1;
+        self.buffers += 1;
     }
 
     /// Counts a buffer.

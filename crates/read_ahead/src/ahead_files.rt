@@ -25,17 +25,7 @@ impl<F: Files> Files for AheadFiles<F> {
 
     type Snk = F::Snk;
 
-    ghost input = { λ m. F.input m.files };
-
-    ghost output = { λ m. F.output m.files };
-
-    ghost faults_of = { λ m. F.faults_of m.files };
-
-    ghost refused_of = { λ m. F.refused_of m.files };
-
-    ghost faults = { λ m. F.faults m.files };
-
-    ghost ends = { λ m. F.ends m.files };
+    ghost seen = { λ m. F.seen m.files };
 
     ghost opened = { λ m. F.opened m.files };
 

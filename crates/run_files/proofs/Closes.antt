@@ -9,9 +9,9 @@ use Rattle.std.proofs.lemmas.Option.{same_Some}
 use Rattle.std.proofs.lemmas.Slice.Eq.{bytes_eq-Decides}
 use Rattle.gst_outside.specs.Causes.{Rose, plus}
 use Rattle.gst_outside.specs.Places.{is_at}
+use Rattle.gst_outside.specs.Seen.{Seen, ToldRose}
 use Rattle.run_files.specs.Closing.{Closes, bytes_or, fault_count, faults_at}
 use Rattle.run_files.specs.Ends.{Known, is_sink_at}
-use Rattle.run_files.specs.Seen.{Seen, ToldRose}
 use Rattle.run_files.proofs.Lists.{find_none, find_only, sum_above, sum_above_of}
 
 pub plus_plus : (n a b : ℕ) → plus (plus n a) b ≡ plus n (b + a)

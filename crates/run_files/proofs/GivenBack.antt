@@ -2,9 +2,9 @@
 use Rattle.std.proofs.Common.{◌≡◌, List, [], ◌∷◌, ◌++◌, Option, sym, ap, ◌∙◌, subst, append_assoc}
 use Rattle.std.specs.Prelude.{map, option_map}
 use Rattle.std.proofs.lemmas.List.{append-nil}
+use Rattle.gst_outside.specs.Seen.{Seen}
 use Rattle.run_files.specs.Closing.{Closes}
 use Rattle.run_files.specs.Ends.{Known, present}
-use Rattle.run_files.specs.Seen.{Seen}
 use Rattle.run_files.proofs.Closes.{closes_none, closes_join}
 use Rattle.run_files.proofs.Lists.{present_more}
 

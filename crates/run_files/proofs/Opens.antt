@@ -4,12 +4,12 @@ use Rattle.std.specs.Prelude.{map, option_map}
 use Rattle.std.proofs.lemmas.List.{map-append, take_more}
 use Rattle.std.proofs.lemmas.Option.{slice_get_read}
 use Rattle.gst_outside.specs.Causes.{plus}
+use Rattle.gst_outside.specs.Seen.{Seen}
 use Rattle.gst_outside.specs.declared.opening.OpenEnd.{OpenEnd}
 use Rattle.run_files.specs.declared.end.Opening.{Opening}
 use Rattle.run_files.specs.declared.end.Opening.TheVariants.{Read, Write}
 use Rattle.run_files.specs.Ends.{Known, present}
 use Rattle.run_files.specs.Opening.{Opens, fresh_end, fresh_ends}
-use Rattle.run_files.specs.Seen.{Seen}
 use Rattle.run_files.specs.Stopping.{RefusedBy, StopsAt}
 use Rattle.run_files.proofs.Closes.{plus_none, plus_plus}
 use Rattle.run_files.proofs.Lists.{present_append}

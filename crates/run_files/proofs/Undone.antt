@@ -5,6 +5,7 @@ use Rattle.std.specs.List.{list_any}
 use Rattle.std.proofs.lemmas.Slice.Eq.{bytes_eq-Decides}
 use Rattle.gst_outside.specs.Causes.{plus, raised}
 use Rattle.gst_outside.specs.Places.{is_at}
+use Rattle.gst_outside.specs.Seen.{Seen}
 use Rattle.gst_outside.specs.declared.opening.OpenEnd.TheVariants as refusals
 use Rattle.run_files.specs.declared.end.Opening.{Opening}
 use Rattle.run_files.specs.declared.end.Opening.TheVariants.{Read, Write}
@@ -13,7 +14,6 @@ use Rattle.run_files.specs.declared.end.Unopened.TheVariants.{Failed, OutOfMemor
 use Rattle.run_files.specs.Closing.{Closes, bytes_or, fault_count, faults_at}
 use Rattle.run_files.specs.Ends.{Known, is_sink_at, present}
 use Rattle.run_files.specs.Opening.{FailsAt, GivesBack, IsUnopened, Opens, Refuses, Wants, fresh_end, fresh_ends, location_of, writes_to}
-use Rattle.run_files.specs.Seen.{Seen}
 use Rattle.run_files.specs.Stopping.{RefusedBy, Stops, Untouched}
 use Rattle.run_files.proofs.Closes.{counts_none}
 use Rattle.run_files.proofs.Lists.{sum_more}

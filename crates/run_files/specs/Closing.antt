@@ -2,8 +2,8 @@
 use Rattle.std.specs.Prelude.{◌≡◌, ◌-◌, ℕ, List, Option, None, Some, filter, find, length, option_map, sum_by}
 use Rattle.gst_outside.specs.Causes.{plus}
 use Rattle.gst_outside.specs.Places.{is_at}
+use Rattle.gst_outside.specs.Seen.{Seen}
 use Rattle.run_files.specs.Ends.{Known, is_sink_at}
-use Rattle.run_files.specs.Seen.{Seen}
 
 -- how many calls of ends failed, and those of the ends at a location
 abbrev pub fault_count : List Known → ℕ

@@ -1,6 +1,8 @@
 -- What is known of the ends of a run: the sources and sinks of its elements.
 use Rattle.std.specs.Prelude.{◌≡◌, ℕ, Bool, true, false, ◌&&◌, List, Option, Some, All, filter_map, map, option_map}
 use Rattle.gst_outside.specs.Places.{is_at}
+use Rattle.gst_outside.specs.declared.sink.Sink as sink
+use Rattle.gst_outside.specs.declared.source.Source as source
 use Rattle.run_files.specs.declared.end.End.{End}
 use Rattle.run_files.specs.declared.end.End.TheVariants.{Src, Snk}
 
@@ -11,24 +13,14 @@ pub record Known : Type 0 where
   pub bytes : Option (List ℕ)
   pub faults : ℕ
 
--- what is known of an end, by the meanings of sources and of sinks
-abbrev pub known_end : {S K : Type 0} → (S → Option (List ℕ)) → (S → Option (List ℕ)) → (S → ℕ) → (K → Option (List ℕ)) → (K → Option (List ℕ)) → (K → ℕ) → End S K → Known
-known_end source_location content source_faults sink_location bytes sink_faults (Src source) = record {
-  is_sink = false;
-  location = source_location source;
-  bytes = content source;
-  faults = source_faults source;
-}
-known_end source_location content source_faults sink_location bytes sink_faults (Snk sink) = record {
-  is_sink = true;
-  location = sink_location sink;
-  bytes = bytes sink;
-  faults = sink_faults sink;
-}
+-- what is known of an end, by the meanings of sources and of sinks, and of the ends of all elements, of which some have none
+module _ {S K : Type 0} (s : source.Ghosts S) (k : sink.Ghosts K) where
+  abbrev pub known_end : End S K → Known
+  known_end (Src end) = record { is_sink = false; location = s.location end; bytes = s.content end; faults = s.faults end }
+  known_end (Snk end) = record { is_sink = true; location = k.location end; bytes = k.bytes end; faults = k.faults end }
 
--- what is known of the ends of all elements, of which some have none
-abbrev pub known_ends : {S K : Type 0} → (S → Option (List ℕ)) → (S → Option (List ℕ)) → (S → ℕ) → (K → Option (List ℕ)) → (K → Option (List ℕ)) → (K → ℕ) → List (Option (End S K)) → List (Option Known)
-known_ends source_location content source_faults sink_location bytes sink_faults ends = map (option_map (known_end source_location content source_faults sink_location bytes sink_faults)) ends
+  abbrev pub known_ends : List (Option (End S K)) → List (Option Known)
+  known_ends ends = map (option_map known_end) ends
 
 -- those that are there
 abbrev pub present : {A : Type 0} → List (Option A) → List A

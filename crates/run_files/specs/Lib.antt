@@ -1,4 +1,3 @@
-pub mod Seen
 pub mod Ends
 pub mod Closing
 pub mod Opening

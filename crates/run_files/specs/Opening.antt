@@ -2,12 +2,12 @@
 use Rattle.std.specs.Prelude.{◌≡◌, ◌≤◌, ◌<◌, ◌+◌, ◌^◌, ℕ, Bool, true, false, if◌then◌else◌, List, [], Option, None, Some, bytes_eq, length, map, option_map, slice_get, take}
 use Rattle.std.specs.List.{list_any}
 use Rattle.gst_outside.specs.Causes.{Rose, plus, raised}
+use Rattle.gst_outside.specs.Seen.{Seen, ToldRose}
 use Rattle.run_files.specs.declared.end.Opening.{Opening}
 use Rattle.run_files.specs.declared.end.Opening.TheVariants.{Read, Write}
 use Rattle.run_files.specs.declared.end.Unopened.{Unopened}
 use Rattle.run_files.specs.declared.end.Unopened.TheVariants.{Failed, OutOfMemory}
 use Rattle.run_files.specs.Ends.{Known, present}
-use Rattle.run_files.specs.Seen.{Seen, ToldRose}
 
 abbrev pub location_of : Opening → List ℕ
 location_of (Read location) = location

@@ -1,5 +1,6 @@
 -- Openings that stopped at one that gave no end.
 use Rattle.std.specs.Prelude.{◌≡◌, ◌≤◌, ℕ, List, Option, None, Some, slice_get, take}
+use Rattle.gst_outside.specs.Seen.{Seen}
 use Rattle.gst_outside.specs.declared.opening.OpenEnd.{OpenEnd}
 use Rattle.gst_outside.specs.declared.opening.OpenEnd.TheVariants as refusals
 use Rattle.run_files.specs.declared.end.Opening.{Opening}
@@ -7,7 +8,6 @@ use Rattle.run_files.specs.declared.end.Unopened.{Unopened}
 use Rattle.run_files.specs.declared.end.Unopened.TheVariants.{Failed, OutOfMemory}
 use Rattle.run_files.specs.Ends.{Known}
 use Rattle.run_files.specs.Opening.{Opens, Refuses}
-use Rattle.run_files.specs.Seen.{Seen}
 
 -- An opening that gave no end: nothing changed but the failures and, where it was refused, the refusals.
 pub record Untouched (before after : Seen) : Type 0 where

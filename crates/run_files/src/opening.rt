@@ -1,9 +1,9 @@
 //! The files of a run are opened.
 ghost use Rattle.std.specs.Prelude.{◌≡◌, ◌∷◌, ◌≤◌, ◌+◌, ℕ, List, [], Option, Some, IfOk, IfErr, OnOk, length, option_map, vec_capacity};
+ghost use Rattle.gst_outside.specs.Seen.{Seen};
 ghost use Rattle.run_files.specs.declared.end.Opening.{Opening as Openings};
 ghost use Rattle.run_files.specs.Ends.{AllOpened, Known, known_end, known_ends};
 ghost use Rattle.run_files.specs.Opening.{IsUnopened, Opens};
-ghost use Rattle.run_files.specs.Seen.{Seen, seen};
 ghost use Rattle.run_files.specs.Stopping.{RefusedBy, Stops, StopsAt};
 
 use crate::closing::close_all;
@@ -17,9 +17,10 @@ fn open<F: Files>(
     files: &mut F,
     opening: &Opening,
 ) -> Result<End<F::Src, F::Snk>, OpenEnd>
-    ensures opened { IfOk result (λ end. Opens (Some opening.now ∷ []) (Some (known_end F.Src.location F.Src.content F.Src.faults F.Snk.location F.Snk.bytes F.Snk.faults end) ∷ []) (seen (F.input files.old) (F.output files.old) (F.faults_of files.old) (F.refused_of files.old) (F.faults files.old) (F.ends files.old)) (seen (F.input files.new) (F.output files.new) (F.faults_of files.new) (F.refused_of files.new) (F.faults files.new) (F.ends files.new))) }
-    ensures here { IfOk result (λ end. AllOpened (F.opened files.new) (Some (known_end F.Src.location F.Src.content F.Src.faults F.Snk.location F.Snk.bytes F.Snk.faults end) ∷ [])) }
-    ensures refused { IfErr result (λ why. RefusedBy (Some opening.now) (seen (F.input files.old) (F.output files.old) (F.faults_of files.old) (F.refused_of files.old) (F.faults files.old) (F.ends files.old)) (seen (F.input files.new) (F.output files.new) (F.faults_of files.new) (F.refused_of files.new) (F.faults files.new) (F.ends files.new)) why) }
+    ensures opened { IfOk result (λ end. Opens (Some opening.now ∷ []) (Some (known_end F.Src.Source F.Snk.Sink end) ∷ [])
+        (F.seen files.old) (F.seen files.new)) }
+    ensures here { IfOk result (λ end. AllOpened (F.opened files.new) (Some (known_end F.Src.Source F.Snk.Sink end) ∷ [])) }
+    ensures refused { IfErr result (λ why. RefusedBy (Some opening.now) (F.seen files.old) (F.seen files.new) why) }
     ensures opened_stays { (l : List ℕ) → F.opened files.old l → F.opened files.new l }
 {
     match opening {
@@ -40,9 +41,10 @@ fn open_entry<F: Files>(
     files: &mut F,
     entry: &Option<Opening>,
 ) -> Result<Option<End<F::Src, F::Snk>>, OpenEnd>
-    ensures opened { IfOk result (λ end. Opens (entry.now ∷ []) (option_map (known_end F.Src.location F.Src.content F.Src.faults F.Snk.location F.Snk.bytes F.Snk.faults) end ∷ []) (seen (F.input files.old) (F.output files.old) (F.faults_of files.old) (F.refused_of files.old) (F.faults files.old) (F.ends files.old)) (seen (F.input files.new) (F.output files.new) (F.faults_of files.new) (F.refused_of files.new) (F.faults files.new) (F.ends files.new))) }
-    ensures here { IfOk result (λ end. AllOpened (F.opened files.new) (option_map (known_end F.Src.location F.Src.content F.Src.faults F.Snk.location F.Snk.bytes F.Snk.faults) end ∷ [])) }
-    ensures refused { IfErr result (λ why. RefusedBy entry.now (seen (F.input files.old) (F.output files.old) (F.faults_of files.old) (F.refused_of files.old) (F.faults files.old) (F.ends files.old)) (seen (F.input files.new) (F.output files.new) (F.faults_of files.new) (F.refused_of files.new) (F.faults files.new) (F.ends files.new)) why) }
+    ensures opened { IfOk result (λ end. Opens (entry.now ∷ []) (option_map (known_end F.Src.Source F.Snk.Sink) end ∷ [])
+        (F.seen files.old) (F.seen files.new)) }
+    ensures here { IfOk result (λ end. AllOpened (F.opened files.new) (option_map (known_end F.Src.Source F.Snk.Sink) end ∷ [])) }
+    ensures refused { IfErr result (λ why. RefusedBy entry.now (F.seen files.old) (F.seen files.new) why) }
     ensures opened_stays { (l : List ℕ) → F.opened files.old l → F.opened files.new l }
 {
     match entry {
@@ -56,7 +58,8 @@ fn open_entry<F: Files>(
 
 /// Why the opening at a place gave no end.
 fn unopened(place: usize, why: OpenEnd) -> Unopened
-    ensures { (openings : List (Option Openings)) (opened : List (Option Known)) (before after : Seen) → StopsAt openings opened before after place why → Stops openings opened before after result }
+    ensures { (openings : List (Option Openings)) (opened : List (Option Known)) (before after : Seen)
+        → StopsAt openings opened before after place why → Stops openings opened before after result }
 {
     match why {
         OpenEnd::Failed => Unopened::Failed { place },
@@ -74,9 +77,10 @@ fn open_each<F: Files>(
 ) -> Result<(), Unopened>
     requires empty { ends.old.items ≡ [] }
     requires room { length openings.now ≤ vec_capacity ends.old }
-    ensures opened { OnOk result (Opens openings.now (known_ends F.Src.location F.Src.content F.Src.faults F.Snk.location F.Snk.bytes F.Snk.faults ends.new.items) (seen (F.input files.old) (F.output files.old) (F.faults_of files.old) (F.refused_of files.old) (F.faults files.old) (F.ends files.old)) (seen (F.input files.new) (F.output files.new) (F.faults_of files.new) (F.refused_of files.new) (F.faults files.new) (F.ends files.new))) }
-    ensures stopped { IfErr result (λ why. Stops openings.now (known_ends F.Src.location F.Src.content F.Src.faults F.Snk.location F.Snk.bytes F.Snk.faults ends.new.items) (seen (F.input files.old) (F.output files.old) (F.faults_of files.old) (F.refused_of files.old) (F.faults files.old) (F.ends files.old)) (seen (F.input files.new) (F.output files.new) (F.faults_of files.new) (F.refused_of files.new) (F.faults files.new) (F.ends files.new)) why) }
-    ensures here { AllOpened (F.opened files.new) (known_ends F.Src.location F.Src.content F.Src.faults F.Snk.location F.Snk.bytes F.Snk.faults ends.new.items) }
+    ensures opened { OnOk result (Opens openings.now (known_ends F.Src.Source F.Snk.Sink ends.new.items) (F.seen files.old) (F.seen files.new)) }
+    ensures stopped { IfErr result (λ why. Stops openings.now (known_ends F.Src.Source F.Snk.Sink ends.new.items)
+        (F.seen files.old) (F.seen files.new) why) }
+    ensures here { AllOpened (F.opened files.new) (known_ends F.Src.Source F.Snk.Sink ends.new.items) }
     ensures opened_stays { (l : List ℕ) → F.opened files.old l → F.opened files.new l }
 {
     for (place, entry) in openings.iter().enumerate() {
@@ -98,9 +102,9 @@ pub fn open_all<F: Files>(
     files: &mut F,
     openings: &[Option<Opening>],
 ) -> Result<Vec<Option<End<F::Src, F::Snk>>>, Unopened>
-    ensures opened { IfOk result (λ ends. Opens openings.now (known_ends F.Src.location F.Src.content F.Src.faults F.Snk.location F.Snk.bytes F.Snk.faults ends.items) (seen (F.input files.old) (F.output files.old) (F.faults_of files.old) (F.refused_of files.old) (F.faults files.old) (F.ends files.old)) (seen (F.input files.new) (F.output files.new) (F.faults_of files.new) (F.refused_of files.new) (F.faults files.new) (F.ends files.new))) }
-    ensures here { IfOk result (λ ends. AllOpened (F.opened files.new) (known_ends F.Src.location F.Src.content F.Src.faults F.Snk.location F.Snk.bytes F.Snk.faults ends.items)) }
-    ensures unopened { IfErr result (λ why. IsUnopened openings.now (seen (F.input files.old) (F.output files.old) (F.faults_of files.old) (F.refused_of files.old) (F.faults files.old) (F.ends files.old)) (seen (F.input files.new) (F.output files.new) (F.faults_of files.new) (F.refused_of files.new) (F.faults files.new) (F.ends files.new)) why) }
+    ensures opened { IfOk result (λ ends. Opens openings.now (known_ends F.Src.Source F.Snk.Sink ends.items) (F.seen files.old) (F.seen files.new)) }
+    ensures here { IfOk result (λ ends. AllOpened (F.opened files.new) (known_ends F.Src.Source F.Snk.Sink ends.items)) }
+    ensures unopened { IfErr result (λ why. IsUnopened openings.now (F.seen files.old) (F.seen files.new) why) }
     ensures opened_stays { (l : List ℕ) → F.opened files.old l → F.opened files.new l }
 {
     let Ok(mut ends) = Vec::with_capacity(alloc, openings.len()) else {

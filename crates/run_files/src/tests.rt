@@ -51,7 +51,7 @@ fn failing(alloc: Global, reads: &[u64], writes: &[u64]) -> Result<Option<usize>
 
 /// Writes a digit into a sink.
 fn worked<S: Source, K: Sink>(end: Option<End<S, K>>, digit: usize) -> Option<End<S, K>>
-    ensures { option_map (λ e. (known_end S.location S.content S.faults K.location K.bytes K.faults e).location) result ≡ option_map (λ e. (known_end S.location S.content S.faults K.location K.bytes K.faults e).location) end }
+    ensures { option_map (λ e. (known_end S.Source K.Sink e).location) result ≡ option_map (λ e. (known_end S.Source K.Sink e).location) end }
 {
     let piece = [b'0' + (digit % 10) as u8];
     match end {
@@ -69,7 +69,7 @@ fn work<F: Files>(
     mut ends: Vec<Option<End<F::Src, F::Snk>>>,
     mut back: Vec<Option<End<F::Src, F::Snk>>>,
 )
-    requires here { AllOpened (F.opened files.old) (known_ends F.Src.location F.Src.content F.Src.faults F.Snk.location F.Snk.bytes F.Snk.faults ends.items) }
+    requires here { AllOpened (F.opened files.old) (known_ends F.Src.Source F.Snk.Sink ends.items) }
     requires none { back.items ≡ [] }
     requires room { length ends.items ≤ vec_capacity back }
 {

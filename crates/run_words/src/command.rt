@@ -60,7 +60,8 @@ fn read_switch(text: &str) -> Option<bool>
 
 /// Whether tasks have threads of their own: where `off` is not said.
 pub(crate) fn threads_of(matches: &ArgMatches<'_>) -> Option<bool>
-    ensures { MatchOption result (threads_hold (rows_of (found_of matches.now)) ≡ false) (λ threads. (threads_hold (rows_of (found_of matches.now)) ≡ true) × (threads ≡ threads_in (rows_of (found_of matches.now)))) }
+    ensures { MatchOption result (threads_hold (rows_of (found_of matches.now)) ≡ false)
+        (λ threads. (threads_hold (rows_of (found_of matches.now)) ≡ true) × (threads ≡ threads_in (rows_of (found_of matches.now)))) }
 {
     match matches.get_str("threads") {
         None => Some(true),
@@ -91,7 +92,8 @@ fn read_number(digits: &str) -> Option<u64>
 
 /// The number from which turns are drawn: 0 where nothing is said.
 pub(crate) fn order_of(matches: &ArgMatches<'_>) -> Option<u64>
-    ensures { MatchOption result (order_holds (rows_of (found_of matches.now)) ≡ false) (λ order. (order_holds (rows_of (found_of matches.now)) ≡ true) × (order ≡ order_in (rows_of (found_of matches.now)))) }
+    ensures { MatchOption result (order_holds (rows_of (found_of matches.now)) ≡ false)
+        (λ order. (order_holds (rows_of (found_of matches.now)) ≡ true) × (order ≡ order_in (rows_of (found_of matches.now)))) }
 {
     match matches.get_str("order") {
         None => Some(0),
@@ -111,7 +113,8 @@ pub(crate) fn quiet_of(matches: &ArgMatches<'_>) -> bool
 
 /// The line that the words make.
 pub(crate) fn line_of(alloc: Global, matches: &ArgMatches<'_>) -> Result<Text, WordsFault>
-    ensures line { IfOk result (λ line. (line_words_in (rows_of (found_of matches.now)) ≢ []) × (line ≡ joined (line_words_in (rows_of (found_of matches.now))))) }
+    ensures line { IfOk result (λ line. (line_words_in (rows_of (found_of matches.now)) ≢ [])
+        × (line ≡ joined (line_words_in (rows_of (found_of matches.now))))) }
     ensures missing { IfErr result (LacksLine (line_words_in (rows_of (found_of matches.now)))) }
 {
     match matches.get_strs("WORD") {

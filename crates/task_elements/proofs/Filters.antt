@@ -15,9 +15,9 @@ use Rattle.flow_model.specs.Feeding.{on_pad, next_owed, passed, flow_behind, IsF
 use Rattle.net_model.specs.Moment.{Behavior}
 use Rattle.net_model.specs.Pad.{Grows}
 use Rattle.net_model.specs.Split.{push_calls}
-use Rattle.element_traits.specs.Takes.{on_port, OwesMore, Takes}
-use Rattle.element_traits.specs.Refuses.{RefusesBy}
-use Rattle.element_traits.specs.declared.refusal.Refusal.TheVariants.{Fault}
+use Rattle.net_model.specs.Takes.{on_port, OwesMore, Takes}
+use Rattle.net_model.specs.Refuses.{RefusesBy}
+use Rattle.net_model.specs.declared.refusal.Refusal.TheVariants.{Fault}
 use Rattle.el_basic.specs.declared.identity.Identity.{Identity}
 use Rattle.el_basic.specs.Passed.{Passed}
 use Rattle.el_set.specs.declared.filter.FilterElement.{FilterElement}
@@ -25,7 +25,7 @@ use Rattle.el_set.specs.Stands.{Stands, StandsAs, PutsOut}
 use Rattle.el_set.proofs.Elements.{elements_owe, identity_feeds}
 use Rattle.task_elements.specs.Ruled.{IsRuled}
 use Rattle.task_elements.specs.Stands.{FilterTook, behaves, passing}
-use Rattle.task_elements.proofs.EachKind.{is_ending}
+use Rattle.el_set.proofs.EachEnding.{is_ending}
 use Rattle.task_elements.proofs.Plain.{ending_quiet}
 use Rattle.task_elements.proofs.Growing.{OwesNoStop, single_grows, next_none, all_on_port, all_within}
 

@@ -1,5 +1,5 @@
 -- Where EOS stands in the first section of what an element took, what it owes there has EOS.
-use Rattle.std.proofs.Common.{◌≡◌, ◌<◌, ℕ, suc, Bool, true, false, ◌||◌, if◌then◌else◌, List, [], ◌∷◌, ◌++◌, Option, refl, sym, ap, ◌∙◌, subst, arith}
+use Rattle.std.proofs.Common.{◌≡◌, ◌<◌, ◌⊎◌, ℕ, suc, Bool, true, false, ◌||◌, if◌then◌else◌, List, [], ◌∷◌, ◌++◌, Option, refl, sym, ap, ◌∙◌, subst, inl, inr, arith}
 use Rattle.flow_model.specs.Item.{Item, is_flush_stop, is_eos}
 use Rattle.flow_model.specs.Sticky.{has_flush_stop, latest, since_flush_stop}
 use Rattle.flow_model.specs.Section.{section, counted, counted_after}
@@ -11,19 +11,18 @@ use Rattle.flow_model.proofs.Prefixes.{prefix_trans, rest_of}
 use Rattle.flow_model.proofs.Sections.{section_prefix, owed_for_prefix}
 use Rattle.net_model.specs.Moment.{Behavior}
 use Rattle.net_model.specs.Over.{list_ended, AllEnded}
-use Rattle.element_traits.specs.Takes.{flush_stops, InSection}
+use Rattle.net_model.specs.Takes.{flush_stops, InSection}
 use Rattle.el_src.specs.Gave.{has_eos as eos_among}
 use Rattle.el_set.specs.declared.filter.FilterElement.{FilterElement}
-use Rattle.el_set.specs.declared.filter.FilterElement.TheVariants as elements
 use Rattle.el_set.specs.Stands.{Stands, MeetsNone}
 use Rattle.el_set.proofs.Ends.{eos_first, eos_latest, none_first}
+use Rattle.el_set.proofs.EachEnding.{counts_or_meets, is_ending}
 use Rattle.el_set.proofs.Ending.{IsEnding, sane}
 use Rattle.el_set.proofs.Elements.{elements_owe}
 use Rattle.task_elements.specs.declared.element.StreamElement.{StreamElement}
 use Rattle.task_elements.specs.declared.element.StreamElement.TheVariants.{Filter, Queue, Sink}
 use Rattle.task_elements.specs.Stands.{FilterTook, StreamStands, passing, pads_of}
 use Rattle.task_elements.specs.Ended.{FirstEnded}
-use Rattle.task_elements.proofs.EachKind.{is_ending}
 use Rattle.task_elements.proofs.Plain.{ending_quiet}
 use Rattle.task_elements.proofs.Growing.{owed_stops, one_section}
 
@@ -114,17 +113,14 @@ counts_first : (respond : Response) (calls : List Call) (put : List Item) → pu
     → eos_among (section 0 (owed_for respond calls)) ≡ true
 counts_first respond calls put owed counts h = ap (λ (ys : List Item). eos_among (section 0 ys)) (sym owed ∙ counts) ∙ counted_first (items calls) ∙ h
 
--- kind by kind
+-- of a filter
 owes_first : (respond : Response) (element : FilterElement) (calls : List Call) (put : List Item) → Stands respond element calls put → eos_among (section 0 (items calls)) ≡ true
     → eos_among (section 0 (owed_for respond calls)) ≡ true
-owes_first respond (elements.Identity e) calls put s = counts_first respond calls put (elements_owe respond (elements.Identity e) calls put s) s.1.all
-owes_first respond (elements.CapsFilter e) calls put s = counts_first respond calls put (elements_owe respond (elements.CapsFilter e) calls put s) s.2.all
-owes_first respond (elements.Convert e) calls put s = owed_first respond calls (is_ending respond (elements.Convert e) calls put s) s.3
-owes_first respond (elements.Law e) calls put s = owed_first respond calls (is_ending respond (elements.Law e) calls put s) s.3
-owes_first respond (elements.RawParse e) calls put s = owed_first respond calls (is_ending respond (elements.RawParse e) calls put s) s.3
-owes_first respond (elements.Split e) calls put s = owed_first respond calls (is_ending respond (elements.Split e) calls put s) s.3
-owes_first respond (elements.WavParse e) calls put s = owed_first respond calls (is_ending respond (elements.WavParse e) calls put s) s.3
-owes_first respond (elements.WavEnc e) calls put s = owed_first respond calls (is_ending respond (elements.WavEnc e) calls put s) s.3
+owes_first respond element calls put s = by (counts_or_meets respond element calls put s)
+  where
+    by : (put ≡ counted (items calls)) ⊎ MeetsNone respond calls → eos_among (section 0 (items calls)) ≡ true → eos_among (section 0 (owed_for respond calls)) ≡ true
+    by (inl counts) = counts_first respond calls put (elements_owe respond element calls put s) counts
+    by (inr met) = owed_first respond calls (is_ending respond element calls put s) met
 
 filter_first : (filter : FilterElement) (behavior : Behavior) (took : List (List Call)) → FilterTook filter behavior took → FirstEnded took → (port : ℕ) → list_ended (behavior.owes took port 0) ≡ true
 filter_first filter behavior took t h port =

@@ -7,7 +7,7 @@ use Rattle.flow_model.specs.Call.{Call, Feed, Act, Drain, Set}
 use Rattle.flow_model.specs.Rule.{Owed, Response, Fault, Fed, unfed, responded, flushed, not_eos, drained, called, all_called, owed_for, single}
 use Rattle.flow_model.specs.Feeding.{on_pad, next_owed}
 use Rattle.net_model.specs.Pad.{Grows}
-use Rattle.element_traits.specs.Takes.{on_port, AreWithin, flush_stops}
+use Rattle.net_model.specs.Takes.{on_port, AreWithin, flush_stops}
 
 -- a rule owes no FLUSH_STOP of its own: for no item but FLUSH_STOP, which crosses the element
 abbrev pub HasNoStop : Result (List Item) Fault → Type 0

@@ -5,7 +5,7 @@ use Rattle.flow_model.specs.Item.{Item}
 use Rattle.flow_model.specs.Call.{Call, Feed, feeds}
 use Rattle.net_model.specs.Moment.{Behavior}
 use Rattle.net_model.specs.Split.{push_calls}
-use Rattle.element_traits.specs.Takes.{OwesMore, Takes}
+use Rattle.net_model.specs.Takes.{OwesMore, Takes}
 use Rattle.el_set.specs.declared.sink.SinkElement.{SinkElement}
 use Rattle.el_set.specs.Holds.{SinkHeld}
 use Rattle.task_elements.specs.declared.element.StreamElement.{StreamElement}

@@ -13,7 +13,7 @@ use Rattle.el_set.proofs.Ending.{IsEnding}
 use Rattle.task_elements.specs.declared.element.StreamElement.{StreamElement}
 use Rattle.task_elements.specs.declared.element.StreamElement.TheVariants.{Filter, Queue, Sink}
 use Rattle.task_elements.specs.Stands.{FilterTook, owes_nothing, passing, StreamStands}
-use Rattle.task_elements.proofs.EachKind.{is_ending}
+use Rattle.el_set.proofs.EachEnding.{is_ending}
 use Rattle.task_elements.proofs.Plain.{ending_plain}
 
 -- a rule of one sink pad, or one that owes nothing

@@ -1,11 +1,13 @@
 -- Sources of a stream.
-use Rattle.std.proofs.Common.{◌≡◌, ℕ, List, [], ◌∷◌, ◌++◌, Option, Some, sym, ◌∙◌, Result, Ok, Err, IfOk}
+use Rattle.std.proofs.Common.{◌≡◌, ℕ, List, [], ◌∷◌, ◌++◌, Option, Some, sym, ◌∙◌, Result, Ok, Err, IfOk, IfErr}
 use Rattle.flow_model.specs.Item.{Item}
 use Rattle.el_src.specs.declared.answer.Next.{Next}
 use Rattle.el_src.specs.declared.answer.Next.TheVariants.{Item as Given, Ended}
 use Rattle.el_src.specs.declared.fault.SrcFault.{SrcFault}
 use Rattle.el_src.specs.declared.fault.SrcFault.TheVariants.{ReadFault, OutOfMemory as NoMemory}
-use Rattle.element_traits.specs.Gives.{Gives}
+use Rattle.el_src.specs.Short.{StopsShort as SourceStops}
+use Rattle.net_model.specs.Gives.{Gives}
+use Rattle.net_model.specs.Short.{StopsShort}
 use Rattle.el_set.specs.declared.source.SourceElement.{SourceElement}
 use Rattle.el_set.specs.declared.source.SourceElement.TheVariants.{File, Ramp}
 use Rattle.el_set.specs.Gives.{SourceGave, SourceGaveAll, SourceAfter, source_content}
@@ -38,3 +40,15 @@ gives content_of old new (Ok Ended) same after = λ owed given o.
     )
 gives content_of old new (Err (ReadFault before after)) same kept = tt
 gives content_of old new (Err NoMemory) same kept = tt
+
+-- where the source can't be read
+pub stops : {S : Type 0} (content_of : S → Option (List ℕ)) (source : SourceElement S) (r : Result Next SrcFault)
+    → IfErr r (λ fault. (list : List ℕ → List Item) (given : List Item) → SourceGave content_of source list given → SourceStops (source_content content_of source) list given fault)
+    → IfErr (answer_of r) (λ unread. (owed given : List Item) → Owes content_of source owed given → StopsShort owed given unread)
+stops content_of source (Ok (Given x)) short = tt
+stops content_of source (Ok Ended) short = tt
+stops content_of source (Err (ReadFault before after)) short = λ owed given o.
+    let s = short o.list given o.gave in
+    let e = s.1 o.content o.told in
+    record { eos = s.0; left = e.left; buffers = e.buffers; owes = o.owed_is ∙ e.owes }
+stops content_of source (Err NoMemory) short = λ owed given o. tt

@@ -4,20 +4,18 @@ ghost use Rattle.flow_model.specs.Item.{is_flush_stop};
 ghost use Rattle.flow_model.specs.Call.{Call, Feed};
 ghost use Rattle.net_model.specs.Moment.{Behavior};
 ghost use Rattle.net_model.specs.Split.{push_calls};
-ghost use Rattle.element_traits.specs.Takes.{Takes};
-ghost use Rattle.element_traits.specs.Refuses.{RefusesBy};
-ghost use Rattle.element_traits.specs.Failures.{NeverFalls, IsWriteCause};
-ghost use Rattle.element_traits.specs.declared.refusal.Refusal.TheVariants.{Unwritten};
+ghost use Rattle.net_model.specs.Takes.{Takes};
+ghost use Rattle.net_model.specs.Refuses.{RefusesBy};
+ghost use Rattle.net_model.specs.Failures.{NeverFalls, IsWriteCause};
 ghost use Rattle.el_set.specs.Holds.{sink_file, sink_faults};
 ghost use Rattle.task_elements.specs.Stands.{FilterTook, passing, SinkStands, SinkFell};
 
 use crate::filter::StreamFilter;
 use el_basic::Identity;
 use el_set::{FilterElement, SinkElement};
-use el_sink::WriteFault;
-use element_traits::{Refusal, TaskElement};
 use gst_item::{Item, Outs};
 use gst_outside::Sink;
+use net_model::{Refused, TaskElement};
 use std::alloc::Global;
 
 /// An element with one sink pad, by its role in a stream. It is fed and asked through `TaskElement`.
@@ -44,7 +42,8 @@ impl<K: Sink> TaskElement for StreamElement<K> {
 
     ghost failures = { faults_in K.faults };
 
-    fn feed(&mut self, alloc: Global, pad: u32, item: Item, out: &mut Outs) -> Result<(), Refusal> {
+    #[inline(always)]
+    fn feed(&mut self, alloc: Global, pad: u32, item: Item, out: &mut Outs) -> Result<(), Refused> {
         if pad != 0 {
             return Ok(());
         }
@@ -95,7 +94,8 @@ impl<K: Sink> StreamElement<K> {
 }
 
 /// A queue takes an item and puts it out. Where it refuses it, for want of memory, it is as before.
-fn pass(queue: &mut Identity, alloc: Global, item: Item, out: &mut Outs) -> Result<(), Refusal>
+#[inline(always)]
+fn pass(queue: &mut Identity, alloc: Global, item: Item, out: &mut Outs) -> Result<(), Refused>
     requires no_flush { is_flush_stop item ≡ false }
     ensures took { OnOk result (Takes (FilterTook (passing queue.old)) (FilterTook (passing queue.new)) 1 0 item out.old out.new) }
     ensures stays { OnErr result ((behavior : Behavior) (took : List (List Call)) → FilterTook (passing queue.old) behavior took
@@ -107,12 +107,13 @@ fn pass(queue: &mut Identity, alloc: Global, item: Item, out: &mut Outs) -> Resu
 {
     match queue.feed(alloc, 0, item, out) {
         Ok(_) => Ok(()),
-        Err(fault) => Err(Refusal::Fault(fault)),
+        Err(fault) => Err(Refused::fault(alloc, fault)),
     }
 }
 
 /// A sink takes an item. Where a write fails, its file holds a beginning of the item's bytes behind what it took.
-fn render<K: Sink>(sink: &mut SinkElement<K>, item: &Item) -> Result<(), Refusal>
+#[inline(always)]
+fn render<K: Sink>(sink: &mut SinkElement<K>, item: &Item) -> Result<(), Refused>
     ensures took { OnOk result ((behavior : Behavior) (took : List (List Call)) → SinkStands K.bytes sink.old behavior took
         → SinkStands K.bytes sink.new behavior (push_calls 0 (Feed item.now ∷ []) took)) }
     ensures fell { OnErr result ((behavior : Behavior) (took : List (List Call)) → SinkStands K.bytes sink.old behavior took
@@ -125,16 +126,6 @@ fn render<K: Sink>(sink: &mut SinkElement<K>, item: &Item) -> Result<(), Refusal
 {
     match sink.render(item) {
         Ok(_) => Ok(()),
-        Err(fault) => Err(unwritten(fault)),
-    }
-}
-
-/// A fault of a write.
-fn unwritten(fault: WriteFault) -> Refusal
-    ensures { result ≡ Unwritten fault.before fault.after }
-{
-    Refusal::Unwritten {
-        before: fault.before,
-        after: fault.after,
+        Err(fault) => Err(Refused::unwritten(fault.before, fault.after)),
     }
 }

@@ -4,8 +4,8 @@ ghost use Rattle.flow_model.specs.Item.{is_flush_stop};
 ghost use Rattle.task_elements.specs.Ruled.{IsRuled};
 
 use el_set::FilterElement;
-use element_traits::Refusal;
 use gst_item::{Item, Outs};
+use net_model::Refused;
 use std::alloc::Global;
 
 /// An element with one sink pad and one source pad, both of number 0, that stands for some rule. So it puts out no
@@ -19,9 +19,9 @@ pub struct StreamFilter {
 impl StreamFilter {
     ghost use Rattle.flow_model.specs.Call.{Call};
     ghost use Rattle.net_model.specs.Moment.{Behavior};
-    ghost use Rattle.element_traits.specs.Takes.{Takes};
-    ghost use Rattle.element_traits.specs.Refuses.{RefusesBy};
-    ghost use Rattle.element_traits.specs.Failures.{IsWriteCause};
+    ghost use Rattle.net_model.specs.Takes.{Takes};
+    ghost use Rattle.net_model.specs.Refuses.{RefusesBy};
+    ghost use Rattle.net_model.specs.Failures.{IsWriteCause};
     ghost use Rattle.task_elements.specs.Stands.{FilterTook};
 
     /// A filter that stands for a rule, for what it was given and for what it put out.
@@ -33,7 +33,8 @@ impl StreamFilter {
     }
 
     /// Takes an item on its sink pad, and appends what it owes for it. Where it refuses it, it is as before.
-    pub(crate) fn feed(&mut self, alloc: Global, item: Item, out: &mut Outs) -> Result<(), Refusal>
+    #[inline(always)]
+    pub(crate) fn feed(&mut self, alloc: Global, item: Item, out: &mut Outs) -> Result<(), Refused>
         requires no_flush { is_flush_stop item ≡ false }
         ensures took { OnOk result (Takes (FilterTook self.old.filter) (FilterTook self.new.filter) 1 0 item out.old out.new) }
         ensures stays { OnErr result ((behavior : Behavior) (took : List (List Call)) → FilterTook self.old.filter behavior took
@@ -45,7 +46,7 @@ impl StreamFilter {
     {
         match self.filter.feed(alloc, 0, item, out) {
             Ok(_) => Ok(()),
-            Err(fault) => Err(Refusal::Fault(fault)),
+            Err(fault) => Err(Refused::fault(alloc, fault)),
         }
     }
 }

@@ -20,7 +20,7 @@ pub fn element_of<K: Sink>(
 ) -> Result<Option<StreamElement<K>>, OutOfMemory>
     ensures { IfOk result (IsElementFor K.bytes settings.now file) }
 {
-    if is_queue(settings) {
+    if settings.is_queue() {
         return Ok(Some(StreamElement::Queue(Identity::new())));
     }
     match filter_of(alloc, settings) {
@@ -40,11 +40,4 @@ fn sink_element<K: Sink>(settings: &Settings, file: Option<K>) -> Option<StreamE
         Some(sink) => Some(StreamElement::Sink(sink)),
         None => None,
     }
-}
-
-/// Whether these are the settings of a queue.
-fn is_queue(settings: &Settings) -> bool
-    ensures { result ≡ queue_test settings.now }
-{
-    matches!(settings, Settings::Queue(_))
 }

@@ -7,10 +7,10 @@ use super::*;
 use el_set::{
     CapsFilterSettings, FileSinkSettings, FileSrcSettings, QueueSettings, Settings, source_of,
 };
-use element_traits::{Refusal, TaskElement, TaskSource, Unread};
 use gst_caps::{Fixed, List, Text};
 use gst_item::{Body, Buffer, Event, Item, Outs};
 use gst_outside::{MemSink, MemSource, Sink, Source};
+use net_model::{TaskElement, TaskSource, Unread, Why};
 use std::alloc::Global;
 use std::test::Fail;
 
@@ -82,8 +82,10 @@ fn answer_to<E: TaskElement>(
     }
     match element.feed(alloc, pad, item, out) {
         Ok(()) => Ok('-'),
-        Err(Refusal::Fault(_)) => Ok('x'),
-        Err(Refusal::Unwritten { .. }) => Ok('w'),
+        Err(refused) => match refused.into_why() {
+            Why::Unwritten { .. } => Ok('w'),
+            _ => Ok('x'),
+        },
     }
 }
 

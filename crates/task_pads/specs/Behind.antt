@@ -1,5 +1,5 @@
 -- What is behind a source pad, and what is told of the lane there.
-use Rattle.std.specs.Prelude.{◌≡◌, ◌≤◌, ◌<◌, ℕ, Bool, true, false, List, length, drop, map, Option, None, Some}
+use Rattle.std.specs.Prelude.{◌≡◌, ◌≤◌, ◌<◌, ◌==◌, cond, ℕ, Bool, true, false, List, length, drop, map, Option, None, Some}
 use Rattle.gst_item.specs.declared.out.Out.{Out}
 use Rattle.flow_model.specs.Item.{Item}
 use Rattle.lane_core.specs.declared.ends.Outlet as outlets
@@ -81,6 +81,12 @@ module _ {O L : Type 0} (o : outlets.Ghosts O L) where
   end_in behinds.Nothing = None
   end_in (behinds.Element number hint pad) = None
   end_in (behinds.Lane lane element pad from outlet) = Some (lane_end outlet)
+
+  -- how many items were sent into the lane of a number, where that is behind
+  abbrev pub sent_in : ℕ → Behind O → Option ℕ
+  sent_in wanted (behinds.Lane lane element pad from outlet) = cond (lane == wanted) (Some (o.count outlet)) None
+  sent_in wanted behinds.Nothing = None
+  sent_in wanted (behinds.Element number hint pad) = None
 
   -- the list went into the lane
   abbrev pub WentIn : Behind O → List Item → Type 0

@@ -45,6 +45,7 @@ pub enum Crossing {
 }
 
 /// The oldest item that waits crosses a pad, if it can.
+#[inline(always)]
 pub(crate) fn cross<O: Outlet>(
     alloc: Global,
     src: &mut SrcPad,
@@ -99,6 +100,7 @@ impl<O: Outlet> Behind<O> {
 }
 
 /// An item that has crossed the pad, and waits first, goes to what is behind it.
+#[inline(always)]
 fn pass<O: Outlet>(
     src: &mut SrcPad,
     waiting: &mut VecDeque<Out>,
@@ -128,6 +130,7 @@ fn pass<O: Outlet>(
 
 /// An item that has crossed the pad, and waits first, is put into the lane of a number. Where that has no room, the
 /// crossing is taken back.
+#[inline(always)]
 fn send<O: Outlet>(
     lane: u32,
     outlet: &mut O,

@@ -29,6 +29,7 @@ pub(crate) enum Answer {
 }
 
 /// An item crosses a pad that is active and does not flush, if it can.
+#[inline(always)]
 pub(crate) fn offer(alloc: Global, src: &mut SrcPad, item: &Item, sibling: bool) -> Answer
     requires active { (state_of src.old).active ≡ true }
     requires flows { (state_of src.old).flushing ≡ false }
@@ -51,6 +52,7 @@ pub(crate) fn offer(alloc: Global, src: &mut SrcPad, item: &Item, sibling: bool)
 }
 
 /// The answer of a pad at which a buffer would reach nobody: no linked pad comes here.
+#[inline(always)]
 fn not_linked(linked: bool) -> Answer
     ensures { result ≡ unlinked_answer linked }
 {
@@ -61,6 +63,7 @@ fn not_linked(linked: bool) -> Answer
 }
 
 /// Lays a copy of a sticky event by.
+#[inline(always)]
 fn keep(alloc: Global, src: &mut SrcPad, item: &Item) -> Result<(), OutOfMemory>
     ensures kept { OnOk result (WasKept (state_of src.new).kept item.now) }
     ensures setting { setting_of src.new ≡ setting_of src.old }
@@ -79,6 +82,7 @@ fn keep(alloc: Global, src: &mut SrcPad, item: &Item) -> Result<(), OutOfMemory>
 }
 
 /// Whether an event stays in force.
+#[inline(always)]
 fn is_sticky(event: &Event) -> bool
     ensures { result ≡ sticky_test event.now }
 {

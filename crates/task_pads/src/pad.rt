@@ -55,7 +55,7 @@ impl<O: Outlet> Pad<O> {
     ghost use Rattle.std.specs.VecDeque.{deque_len, deque_capacity};
     ghost use Rattle.flow_model.specs.Item.{is_flush_stop, buffers};
     ghost use Rattle.flow_model.specs.Item.{Item as Piece};
-    ghost use Rattle.task_pads.specs.Behind.{goes, SetsHint, place_in};
+    ghost use Rattle.task_pads.specs.Behind.{goes, SetsHint, place_in, sent_in};
     ghost use Rattle.task_pads.specs.Pads.{seen, number_of, goes_of, waiting_of, rest_of, end_of, probe_of, pad_shape, crossed_count, HasCrossed, CanTakeBack, StandsAs, PadReady, KeepsTable, HasRoom};
     ghost use Rattle.task_pads.specs.Crossing.{IsCrossing};
     ghost use Rattle.task_pads.specs.Put.{IsTaken};
@@ -114,8 +114,28 @@ impl<O: Outlet> Pad<O> {
         &self.behind
     }
 
+    /// How many items it sent into the lane of this number. None where it does not lead there.
+    pub fn sent(&self, lane: u32) -> Option<u64>
+        ensures { result ≡ sent_in O.Outlet lane (rest_of self.now).behind }
+    {
+        match &self.behind {
+            Behind::Lane {
+                lane: number,
+                outlet,
+                ..
+            } => {
+                if *number == lane {
+                    return Some(outlet.count());
+                }
+                None
+            }
+            Behind::Nothing | Behind::Element { .. } => None,
+        }
+    }
+
     /// The oldest item that waits crosses the pad, if it can. `sibling` says whether another source pad of the element
     /// is linked. Where it goes to an element of the task it waits on until it is taken.
+    #[inline(always)]
     pub fn cross(&mut self, alloc: Global, lanes: &mut O::Lanes, sibling: bool) -> Crossing
         requires table { PadReady O.Outlet (O.tells lanes.old) self.old }
         ensures crossing { IsCrossing O.Outlet self.old self.new (O.tells lanes.old) (O.tells lanes.new) sibling result }
@@ -135,6 +155,7 @@ impl<O: Outlet> Pad<O> {
     }
 
     /// Takes the oldest item that waits, which has crossed the pad.
+    #[inline(always)]
     pub fn take(&mut self) -> Option<Item>
         ensures taken { IsTaken self.old self.new result }
         ensures rest { rest_of self.new ≡ rest_of self.old }
@@ -147,6 +168,7 @@ impl<O: Outlet> Pad<O> {
 
     /// Takes the last crossing back, where the last call but `take` was a `cross` that answered `To`. The pad is then as
     /// it was before it, but that the item waits no more if it was taken.
+    #[inline(always)]
     pub fn take_back(&mut self)
         requires { CanTakeBack self.old }
         ensures history { (h : List Piece) (x : Piece) → HasCrossed self.old (h ++ x ∷ []) → HasCrossed self.new h }
@@ -172,6 +194,7 @@ impl<O: Outlet> Pad<O> {
     }
 
     /// Takes the memory for one more item that waits.
+    #[inline(always)]
     pub fn make_room(&mut self) -> Result<(), OutOfMemory>
         ensures room { OnOk result (HasRoom self.new) }
         ensures waiting { waiting_of self.new ≡ waiting_of self.old }
@@ -182,6 +205,7 @@ impl<O: Outlet> Pad<O> {
     }
 
     /// Puts an item behind those that wait, into room that was made before.
+    #[inline(always)]
     pub fn push_reserved(&mut self, item: Item)
         requires room { HasRoom self.old }
         requires no_flush { is_flush_stop item ≡ false }

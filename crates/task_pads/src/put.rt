@@ -1,6 +1,6 @@
 //! What an element put out goes to its source pads.
 ghost use Rattle.std.specs.Prelude.{◌≡◌, ◌≢◌, ◌++◌, [], map, length, OnOk, MatchOption};
-ghost use Rattle.element_traits.specs.Takes.{on_port, AreWithin};
+ghost use Rattle.net_model.specs.Takes.{on_port, AreWithin};
 ghost use Rattle.task_pads.specs.Pads.{rest_of, waiting_of, HasRoom};
 ghost use Rattle.task_pads.specs.Put.{AreIdle, FirstNoFlush, MovesFirst, Spread, WaitsFirst};
 
@@ -13,6 +13,7 @@ use std::mem;
 
 /// For an element with one pad: where nothing waits at the pad, all that was put out waits there. No item is moved and
 /// no memory is taken. Where something waits all stays.
+#[inline(always)]
 pub fn fill<O>(alloc: Global, pad: &mut Pad<O>, out: &mut Outs)
     requires { AreWithin 1 out.old }
     ensures rest { rest_of pad.new ≡ rest_of pad.old }

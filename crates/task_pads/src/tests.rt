@@ -1,7 +1,7 @@
 //! Rows of crossings, over lanes in memory.
 ghost use Rattle.std.specs.Prelude.{◌≡◌, ◌<◌, false, ℕ, IfOk};
 ghost use Rattle.flow_model.specs.Item.{is_flush_stop};
-ghost use Rattle.element_traits.specs.Takes.{AreWithin};
+ghost use Rattle.net_model.specs.Takes.{AreWithin};
 ghost use Rattle.task_pads.specs.Pads.{PadReady, rest_of};
 
 use super::*;

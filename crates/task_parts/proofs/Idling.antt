@@ -2,7 +2,7 @@
 use Rattle.std.proofs.Common.{◌≡◌, ◌<◌, ◌≤◌, ℕ, zero, suc, true, List, [], ◌∷◌, length, Some, refl, sym, ap, ◌∙◌, arith}
 use Rattle.std.specs.Prelude.{slice_get}
 use Rattle.std.proofs.lemmas.Option.{slice_get_within}
-use Rattle.element_traits.specs.declared.element.TaskElement as elements
+use Rattle.net_model.specs.declared.element.TaskElement as elements
 use Rattle.task_pads.specs.declared.pad.Pad.{Pad}
 use Rattle.task_pads.specs.Pads.{waiting_of}
 use Rattle.task_parts.specs.declared.part.Part.{Part}

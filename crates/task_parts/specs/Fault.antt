@@ -1,10 +1,10 @@
 -- Faults of elements and of sources as faults of a task.
 use Rattle.std.specs.Prelude.{ℕ}
 use Rattle.gst_item.specs.declared.fault.ElementFault.TheVariants as elements
-use Rattle.element_traits.specs.declared.refusal.Refusal.{Refusal}
-use Rattle.element_traits.specs.declared.refusal.Refusal.TheVariants.{Fault, Unwritten}
-use Rattle.element_traits.specs.declared.refusal.Unread.{Unread}
-use Rattle.element_traits.specs.declared.refusal.Unread.TheVariants.{Failed, OutOfMemory as NoMemory}
+use Rattle.net_model.specs.declared.refusal.Refusal.{Refusal}
+use Rattle.net_model.specs.declared.refusal.Refusal.TheVariants.{Fault, Unwritten}
+use Rattle.net_model.specs.declared.refusal.Unread.{Unread}
+use Rattle.net_model.specs.declared.refusal.Unread.TheVariants.{Failed, OutOfMemory as NoMemory}
 use Rattle.task_parts.specs.declared.fault.TaskFault.{TaskFault}
 use Rattle.task_parts.specs.declared.fault.TaskFault.TheVariants.{ReadFault, WriteFault, Stream, Caps, TooLong, OutOfMemory}
 

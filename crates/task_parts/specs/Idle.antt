@@ -1,6 +1,6 @@
 -- Elements at which nothing waits.
 use Rattle.std.specs.Prelude.{◌&&◌, ℕ, zero, suc, Bool, true, List, [], ◌∷◌}
-use Rattle.element_traits.specs.declared.element.TaskElement as elements
+use Rattle.net_model.specs.declared.element.TaskElement as elements
 use Rattle.task_parts.specs.declared.part.Part.{Part}
 use Rattle.task_parts.specs.Gathered.{is_nothing, pads_idle}
 

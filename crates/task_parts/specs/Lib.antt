@@ -1,3 +1,5 @@
+pub mod Cause
+pub mod Ends
 pub mod Fault
 pub mod Found
 pub mod Gathered

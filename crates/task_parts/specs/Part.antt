@@ -7,11 +7,11 @@ use Rattle.lane_core.specs.Lane.{Lane}
 use Rattle.lane_core.specs.declared.ends.Outlet as outlets
 use Rattle.net_model.specs.Moment.{Behavior}
 use Rattle.net_model.specs.Split.{push_calls}
-use Rattle.element_traits.specs.declared.element.TaskElement as elements
-use Rattle.element_traits.specs.declared.refusal.Refusal.{Refusal}
-use Rattle.element_traits.specs.Failures.{IsWriteCause, NeverFalls}
-use Rattle.element_traits.specs.Refuses.{RefusesBy}
-use Rattle.element_traits.specs.Takes.{OwesMore, on_port}
+use Rattle.net_model.specs.declared.element.TaskElement as elements
+use Rattle.net_model.specs.declared.refusal.Refusal.{Refusal}
+use Rattle.net_model.specs.Failures.{IsWriteCause, NeverFalls}
+use Rattle.net_model.specs.Refuses.{RefusesBy}
+use Rattle.net_model.specs.Takes.{OwesMore, on_port}
 use Rattle.task_pads.specs.declared.pad.Pad.{Pad}
 use Rattle.task_pads.specs.declared.crossing.Crossing.{Crossing}
 use Rattle.task_pads.specs.Behind.{place_in}

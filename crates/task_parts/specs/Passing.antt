@@ -4,11 +4,12 @@ use Rattle.flow_model.specs.Item.{Item, is_flush_stop}
 use Rattle.lane_core.specs.Lane.{Lane}
 use Rattle.lane_core.specs.declared.ends.Inlet as inlets
 use Rattle.lane_core.specs.declared.ends.Outlet as outlets
-use Rattle.element_traits.specs.declared.element.TaskElement as elements
-use Rattle.element_traits.specs.declared.source.TaskSource as sources
-use Rattle.element_traits.specs.declared.refusal.Refusal.{Refusal}
-use Rattle.element_traits.specs.declared.refusal.Unread.{Unread}
-use Rattle.element_traits.specs.Failures.{IsReadCause}
+use Rattle.net_model.specs.declared.element.TaskElement as elements
+use Rattle.net_model.specs.declared.source.TaskSource as sources
+use Rattle.net_model.specs.declared.refusal.Refusal.{Refusal}
+use Rattle.net_model.specs.declared.refusal.Unread.{Unread}
+use Rattle.net_model.specs.Failures.{IsReadCause}
+use Rattle.net_model.specs.Short.{StopsShort}
 use Rattle.inlet_row.specs.declared.row.InletRow.{InletRow}
 use Rattle.inlet_row.specs.declared.feeding.Taken.{Taken}
 use Rattle.inlet_row.specs.declared.feeding.Taken.TheVariants as takes
@@ -165,7 +166,8 @@ GivesAs head head' (Ok tried.Idle) = SourceGives head head' given.Ended
 GivesAs head head' (Ok (tried.Stuck step)) = ⊥
 GivesAs {s = s} head head' (Err fault) =
     (SourceGives head head' given.AtLimit × (fault ≡ faults.TooLong head.number 1099511627776 1))
-    ⊎ ((unread : Unread) × (fault ≡ unread_fault head.number unread) × SourceKept head head' × IsReadCause (s.failures head.source) (s.failures head'.source) unread)
+    ⊎ ((unread : Unread) × (fault ≡ unread_fault head.number unread) × SourceKept head head' × IsReadCause (s.failures head.source) (s.failures head'.source) unread
+    × ((owed gave : List Item) → s.gave head.source owed gave → StopsShort owed gave unread))
 
 module _ {I O L : Type 0} (i : inlets.Ghosts I L O) where
   -- the lanes of all rows are of the table

@@ -1,9 +1,11 @@
 //! Why a task went no further.
 ghost use Rattle.std.specs.Prelude.{◌≡◌};
 
-use element_traits::{Refusal, Unread};
-use gst_caps::{Caps, Fixed, OutOfMemory};
-use gst_item::{ElementFault, StreamKind};
+use crate::find::MOST_ITEMS;
+use gst_caps::{Caps, Fixed};
+use gst_item::StreamKind;
+use net_model::{Mismatch, Refused, Unread, Why};
+use std::marker::Model;
 
 /// Why a task went no further. Elements and source pads are named by their numbers.
 #[derive(Drop)]
@@ -47,47 +49,173 @@ pub enum TaskFault {
     OutOfMemory,
 }
 
-impl TaskFault {
-    ghost use Rattle.task_parts.specs.Fault.{refusal_fault, unread_fault};
+/// What a `Failure` holds.
+#[derive(Drop)]
+enum Cause {
+    Read {
+        element: u32,
+        before: u64,
+        after: u64,
+    },
+    Write {
+        element: u32,
+        before: u64,
+        after: u64,
+    },
+    Stream {
+        element: u32,
+        place: u64,
+        kind: StreamKind,
+    },
+    Caps {
+        element: u32,
+        mismatch: Box<Mismatch>,
+    },
+    TooLong {
+        element: u32,
+        a: u64,
+        b: u64,
+    },
+    NotLinked {
+        pad: u32,
+        place: u64,
+    },
+    OutOfMemory,
+}
 
-    /// The fault of the element of this number.
-    pub(crate) fn refused(element: u32, refusal: Refusal) -> TaskFault
-        ensures { result ≡ refusal_fault element refusal }
+/// Why a task went no further, in three words, since each answer inside of a step has room for it; seen as the fault.
+#[derive(Drop)]
+pub struct Failure {
+    cause: Cause,
+}
+
+impl Model for Failure {
+    ghost use Rattle.task_parts.specs.declared.fault.TaskFault.{TaskFault};
+
+    ghost Value = { TaskFault };
+
+    ghost use Rattle.task_parts.specs.Cause.{fault_of};
+
+    ghost view = { λ failure. fault_of failure.cause };
+}
+
+impl Failure {
+    ghost use Rattle.task_parts.specs.Fault.{refusal_fault, unread_fault};
+    ghost use Rattle.task_parts.specs.declared.fault.TaskFault.TheVariants.{NotLinked as NotLinkedFault, TooLong as TooLongFault, OutOfMemory as NoMemory};
+
+    /// The element of this number refused an item.
+    #[cold]
+    pub(crate) fn refused(element: u32, refused: Refused) -> Failure
+        ensures { result ≡ refusal_fault element refused }
     {
-        match refusal {
-            Refusal::Unwritten { before, after } => TaskFault::WriteFault {
+        let cause = match refused.into_why() {
+            Why::Unwritten { before, after } => Cause::Write {
                 element,
                 before,
                 after,
             },
-            Refusal::Fault(fault) => match fault {
-                ElementFault::NotNegotiated { offered, wanted } => TaskFault::Caps {
+            Why::Caps(mismatch) => Cause::Caps { element, mismatch },
+            Why::Stream { place, kind } => Cause::Stream {
+                element,
+                place,
+                kind,
+            },
+            Why::TooLong { a, b } => Cause::TooLong { element, a, b },
+            Why::OutOfMemory => Cause::OutOfMemory,
+        };
+        Failure { cause }
+    }
+
+    /// The source of this number gave no item.
+    #[cold]
+    pub(crate) fn unread(element: u32, unread: Unread) -> Failure
+        ensures { result ≡ unread_fault element unread }
+    {
+        let cause = match unread {
+            Unread::Failed { before, after } => Cause::Read {
+                element,
+                before,
+                after,
+            },
+            Unread::OutOfMemory => Cause::OutOfMemory,
+        };
+        Failure { cause }
+    }
+
+    /// More than 2^40 items of an element were to cross a pad, or to be given.
+    #[cold]
+    pub(crate) fn too_long(element: u32) -> Failure
+        ensures { result ≡ TooLongFault element 1099511627776 1 }
+    {
+        let cause = Cause::TooLong {
+            element,
+            a: MOST_ITEMS,
+            b: 1,
+        };
+        Failure { cause }
+    }
+
+    /// A buffer was to cross a pad that is not linked, which so many items had crossed.
+    #[cold]
+    pub(crate) fn not_linked(pad: u32, place: u64) -> Failure
+        ensures { result ≡ NotLinkedFault pad place }
+    {
+        let cause = Cause::NotLinked { pad, place };
+        Failure { cause }
+    }
+
+    /// No memory was left.
+    #[cold]
+    pub fn out_of_memory() -> Failure
+        ensures { result ≡ NoMemory }
+    {
+        let cause = Cause::OutOfMemory;
+        Failure { cause }
+    }
+
+    /// The fault itself.
+    pub fn into_fault(self) -> TaskFault
+        ensures { result ≡ self }
+    {
+        match self.cause {
+            Cause::Read {
+                element,
+                before,
+                after,
+            } => TaskFault::ReadFault {
+                element,
+                before,
+                after,
+            },
+            Cause::Write {
+                element,
+                before,
+                after,
+            } => TaskFault::WriteFault {
+                element,
+                before,
+                after,
+            },
+            Cause::Stream {
+                element,
+                place,
+                kind,
+            } => TaskFault::Stream {
+                element,
+                place,
+                kind,
+            },
+            Cause::Caps { element, mismatch } => {
+                let Mismatch { offered, wanted } = Box::into_inner(mismatch);
+                TaskFault::Caps {
                     element,
                     offered,
                     wanted,
-                },
-                ElementFault::BadStream { place, kind } => TaskFault::Stream {
-                    element,
-                    place,
-                    kind,
-                },
-                ElementFault::TooLong { a, b } => TaskFault::TooLong { element, a, b },
-                ElementFault::OutOfMemory => TaskFault::OutOfMemory,
-            },
-        }
-    }
-
-    /// The fault of the source of this number.
-    pub(crate) fn unread(element: u32, unread: Unread) -> TaskFault
-        ensures { result ≡ unread_fault element unread }
-    {
-        match unread {
-            Unread::Failed { before, after } => TaskFault::ReadFault {
-                element,
-                before,
-                after,
-            },
-            Unread::OutOfMemory => TaskFault::OutOfMemory,
+                }
+            }
+            Cause::TooLong { element, a, b } => TaskFault::TooLong { element, a, b },
+            Cause::NotLinked { pad, place } => TaskFault::NotLinked { pad, place },
+            Cause::OutOfMemory => TaskFault::OutOfMemory,
         }
     }
 }

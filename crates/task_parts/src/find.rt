@@ -1,17 +1,19 @@
 //! Where the elements of a task stand.
 ghost use Rattle.std.specs.Prelude.{◌≡◌, true, map};
+ghost use Rattle.task_parts.specs.Ends.{sent_among};
 ghost use Rattle.task_parts.specs.Found.{IsAt};
 ghost use Rattle.task_parts.specs.Idle.{idle_before};
 ghost use Rattle.task_parts.specs.Shape.{has_number, part_shape};
 
 use crate::part::Part;
-use element_traits::TaskElement;
 use lane_core::Outlet;
+use net_model::TaskElement;
 
 /// The most items that cross a pad, and that a source gives.
 pub(crate) const MOST_ITEMS: u64 = 1 << 40;
 
 /// The place of the element of a number, which is tried first at `hint`.
+#[inline(always)]
 pub(crate) fn find<E: TaskElement, O: Outlet>(
     parts: &[Part<E, O>],
     number: u32,
@@ -39,6 +41,18 @@ fn search<E: TaskElement, O: Outlet>(parts: &[Part<E, O>], number: u32) -> usize
         }
     }
     unreachable!()
+}
+
+/// How many items went into the lane of a number from the pads of elements. None where none of them leads there.
+pub fn sent<E: TaskElement, O: Outlet>(parts: &[Part<E, O>], lane: u32) -> Option<u64>
+    ensures { result ≡ sent_among O.Outlet lane parts.now }
+{
+    for place in 0..parts.len() {
+        if let Some(count) = parts[place].sent(lane) {
+            return Some(count);
+        }
+    }
+    None
 }
 
 /// The place of the first element, from a place on, at which something waits.

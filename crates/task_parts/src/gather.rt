@@ -12,6 +12,7 @@ use std::alloc::Global;
 use task_pads::{Behind, Pad, fill, spread};
 
 /// What was put out goes to the pads, behind what waits there. Where memory is wanting some of it stays, in its order.
+#[inline(always)]
 pub(crate) fn gather<O>(
     alloc: Global,
     pads: &mut Vec<Pad<O>>,
@@ -35,6 +36,7 @@ pub(crate) fn gather<O>(
 }
 
 /// Whether a pad other than that of a port is linked.
+#[inline(always)]
 pub(crate) fn is_linked_else<O: Outlet>(pads: &[Pad<O>], port: usize) -> bool
     ensures { result ≡ linked_else port pads.now }
 {
@@ -47,6 +49,7 @@ pub(crate) fn is_linked_else<O: Outlet>(pads: &[Pad<O>], port: usize) -> bool
 }
 
 /// Whether a pad is another one, and leads on.
+#[inline(always)]
 fn leads_on_else<O: Outlet>(pad: &Pad<O>, same: bool) -> bool
     ensures { result ≡ (not same && leads_on (rest_of pad.now).behind) }
 {

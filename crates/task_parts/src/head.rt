@@ -1,16 +1,17 @@
 //! Where the items of a task come from.
 ghost use Rattle.std.specs.Prelude.{◌≡◌, ◌≤◌, ◌<◌, ◌^◌, List, IfOk, IfErr, OnErr};
-ghost use Rattle.element_traits.specs.Failures.{IsReadCause, NeverFalls};
-ghost use Rattle.element_traits.specs.Gives.{Gives, count_after};
+ghost use Rattle.net_model.specs.Failures.{IsReadCause, NeverFalls};
+ghost use Rattle.net_model.specs.Gives.{Gives, count_after};
+ghost use Rattle.net_model.specs.Short.{StopsShort};
 ghost use Rattle.task_parts.specs.declared.head.Given.TheVariants.{FlushStop as FlushGiven};
 ghost use Rattle.flow_model.specs.Item.{Item};
 ghost use Rattle.flow_model.specs.Item.{is_flush_stop as flush_test};
 
 use crate::find::MOST_ITEMS;
-use element_traits::{TaskSource, Unread};
 use gst_item::{Event, Item};
 use inlet_row::InletRow;
-use lane_core::Outlet;
+use lane_core::{Inlet, Outlet};
+use net_model::{TaskSource, Unread};
 use std::alloc::Global;
 use task_pads::Pad;
 
@@ -81,6 +82,7 @@ impl<S: TaskSource, O: Outlet> SourceHead<S, O> {
         ensures gives { IfOk result (SourceGives self.old self.new) }
         ensures kept { OnErr result (SourceKept self.old self.new) }
         ensures cause { IfErr result (IsReadCause (S.failures self.old.source) (S.failures self.new.source)) }
+        ensures short { IfErr result (λ unread. (owed given : List Item) → S.gave self.old.source owed given → StopsShort owed given unread) }
         ensures never_falls { NeverFalls (S.failures self.old.source) (S.failures self.new.source) }
         ensures file { S.file self.new.source ≡ S.file self.old.source }
         ensures number { self.new.number ≡ self.old.number }
@@ -146,6 +148,22 @@ impl<I> InletHead<I> {
     }
 }
 
+impl<I: Inlet> InletHead<I> {
+    ghost use Rattle.task_parts.specs.Ends.{received_among};
+
+    /// How many items were received from the lane of this number. None where none of its sink pads is fed from it.
+    pub fn received(&self, lane: u32) -> Option<u64>
+        ensures { result ≡ received_among I.Inlet lane self.now.rows.items }
+    {
+        for port in 0..self.rows.len() {
+            if let Some(count) = self.rows[port].received(lane) {
+                return Some(count);
+            }
+        }
+        None
+    }
+}
+
 /// Whether an item is FLUSH_STOP.
 pub(crate) fn is_flush_stop(item: &Item) -> bool
     ensures { result ≡ flush_test item.now }
@@ -166,6 +184,7 @@ fn ask<S: TaskSource>(
     ensures counted { given.new ≡ count_after result given.old }
     ensures counts { S.count source.new ≤ given.new }
     ensures cause { IfErr result (IsReadCause (S.failures source.old) (S.failures source.new)) }
+    ensures short { IfErr result (λ unread. (owed given : List Item) → S.gave source.old owed given → StopsShort owed given unread) }
     ensures never_falls { NeverFalls (S.failures source.old) (S.failures source.new) }
     ensures file { S.file source.new ≡ S.file source.old }
 {

@@ -10,8 +10,8 @@ pub mod part;
 pub mod passing;
 pub mod step;
 
-pub use fault::TaskFault;
-pub use find::first_busy;
+pub use fault::{Failure, TaskFault};
+pub use find::{first_busy, sent};
 pub use head::{Head, InletHead, SourceHead};
 pub use part::Part;
 pub use passing::{cross_part, cross_source, give, settle, take};

@@ -5,13 +5,14 @@ ghost use Rattle.task_parts.specs.Moved.{CanGive, HandedOn, HandedBack, HandedIn
 ghost use Rattle.task_parts.specs.Shape.{part_shape};
 
 use crate::part::Part;
-use element_traits::{Refusal, TaskElement};
 use lane_core::Outlet;
+use net_model::{Refused, TaskElement};
 use std::alloc::Global;
 use task_pads::Pad;
 
 /// The item that crossed the pad of a port of the element at one place goes to a sink pad of the element at another. Where
 /// that refuses it the item is given up, and has not crossed.
+#[inline(always)]
 pub(crate) fn hand_on<E: TaskElement, O: Outlet>(
     alloc: Global,
     parts: &mut Vec<Part<E, O>>,
@@ -19,7 +20,7 @@ pub(crate) fn hand_on<E: TaskElement, O: Outlet>(
     port: usize,
     to: usize,
     pad: u32,
-) -> Result<(), Refusal>
+) -> Result<(), Refused>
     requires to { to < vec_len parts.old }
     requires gives { CanGive parts.old.items from port }
     ensures handed { OnOk result (HandedOn parts.old.items parts.new.items from port to pad) }
@@ -40,13 +41,14 @@ pub(crate) fn hand_on<E: TaskElement, O: Outlet>(
 
 /// The item that crossed a pad, which is no element's of these, goes to a sink pad of the element at a place. Where that
 /// refuses it the item is given up, and has not crossed.
+#[inline(always)]
 pub(crate) fn hand_in<E: TaskElement, O: Outlet>(
     alloc: Global,
     pad: &mut Pad<O>,
     parts: &mut Vec<Part<E, O>>,
     to: usize,
     sink: u32,
-) -> Result<(), Refusal>
+) -> Result<(), Refused>
     requires to { to < vec_len parts.old }
     requires waits { waiting_of pad.old ≢ [] }
     requires back { CanTakeBack pad.old }

@@ -3,16 +3,16 @@ ghost use Rattle.std.specs.Prelude.{◌≡◌, true, false, List, vec_len, IfErr
 ghost use Rattle.flow_model.specs.Call.{Call};
 ghost use Rattle.flow_model.specs.Item.{is_flush_stop};
 ghost use Rattle.net_model.specs.Moment.{Behavior};
-ghost use Rattle.element_traits.specs.Failures.{NeverFalls, IsWriteCause};
-ghost use Rattle.element_traits.specs.Refuses.{RefusesBy};
-ghost use Rattle.element_traits.specs.Takes.{Takes};
+ghost use Rattle.net_model.specs.Failures.{NeverFalls, IsWriteCause};
+ghost use Rattle.net_model.specs.Refuses.{RefusesBy};
+ghost use Rattle.net_model.specs.Takes.{Takes};
 ghost use Rattle.task_parts.specs.Gathered.{are_within};
 
 use crate::gather::{gather, is_linked_else};
-use element_traits::{Refusal, TaskElement};
 use gst_caps::{List, OutOfMemory};
 use gst_item::{Item, Outs};
 use lane_core::Outlet;
+use net_model::{Refused, TaskElement};
 use std::alloc::Global;
 use task_pads::{Crossing, Pad};
 
@@ -31,6 +31,7 @@ pub struct Part<E: TaskElement, O> {
 impl<E: TaskElement, O: Outlet> Part<E, O> {
     ghost use Rattle.std.specs.Prelude.{◌<◌, []};
     ghost use Rattle.task_parts.specs.Part.{PartSettled, IsSettled, PartFed, PartFell, PartCrossed, PartGave, PartTookBack, PartReady, CanTakeBackAt};
+    ghost use Rattle.task_parts.specs.Ends.{sent_from};
     ghost use Rattle.task_parts.specs.Idle.{part_idle};
     ghost use Rattle.task_parts.specs.Shape.{part_shape};
 
@@ -71,7 +72,20 @@ impl<E: TaskElement, O: Outlet> Part<E, O> {
         self.pads.as_slice()
     }
 
+    /// How many items went into the lane of this number from its pads. None where none of them leads there.
+    pub fn sent(&self, lane: u32) -> Option<u64>
+        ensures { result ≡ sent_from O.Outlet lane self.now.pads.items }
+    {
+        for port in 0..self.pads.len() {
+            if let Some(count) = self.pads[port].sent(lane) {
+                return Some(count);
+            }
+        }
+        None
+    }
+
     /// Whether nothing waits at its pads, and nothing that it put out is to go there.
+    #[inline(always)]
     pub(crate) fn is_idle(&self) -> bool
         ensures { result ≡ true → part_idle self.now ≡ true }
     {
@@ -95,6 +109,7 @@ impl<E: TaskElement, O: Outlet> Part<E, O> {
     }
 
     /// What was put out goes to its pads.
+    #[inline(always)]
     pub(crate) fn settle(&mut self, alloc: Global) -> Result<(), OutOfMemory>
         ensures settled { PartSettled self.old self.new }
         ensures all { OnOk result (IsSettled self.new) }
@@ -104,7 +119,8 @@ impl<E: TaskElement, O: Outlet> Part<E, O> {
     }
 
     /// The element takes an item, and what it puts out waits at its pads.
-    pub(crate) fn feed(&mut self, alloc: Global, pad: u32, item: Item) -> Result<(), Refusal>
+    #[inline(always)]
+    pub(crate) fn feed(&mut self, alloc: Global, pad: u32, item: Item) -> Result<(), Refused>
         requires no_flush { is_flush_stop item ≡ false }
         ensures fed { OnOk result (PartFed self.old self.new pad item) }
         ensures fell { IfErr result (PartFell self.old self.new pad item) }
@@ -120,6 +136,7 @@ impl<E: TaskElement, O: Outlet> Part<E, O> {
     }
 
     /// What was put out goes to its pads, as far as there is memory.
+    #[inline(always)]
     fn pour(&mut self, alloc: Global)
         ensures settled { PartSettled self.old self.new }
         ensures shape { part_shape self.new ≡ part_shape self.old }
@@ -128,6 +145,7 @@ impl<E: TaskElement, O: Outlet> Part<E, O> {
     }
 
     /// The oldest item that waits at the pad of a port crosses it, if it can.
+    #[inline(always)]
     pub(crate) fn cross(&mut self, alloc: Global, lanes: &mut O::Lanes, port: usize) -> Crossing
         requires port { port < vec_len self.old.pads }
         requires ready { PartReady O.Outlet (O.tells lanes.old) self.old }
@@ -138,6 +156,7 @@ impl<E: TaskElement, O: Outlet> Part<E, O> {
     }
 
     /// Takes the oldest item that waits at the pad of a port.
+    #[inline(always)]
     pub(crate) fn take(&mut self, port: usize) -> Option<Item>
         requires port { port < vec_len self.old.pads }
         ensures { PartGave self.old self.new port result }
@@ -146,6 +165,7 @@ impl<E: TaskElement, O: Outlet> Part<E, O> {
     }
 
     /// Takes the last crossing of the pad of a port back.
+    #[inline(always)]
     pub(crate) fn take_back(&mut self, port: usize)
         requires port { port < vec_len self.old.pads }
         requires back { CanTakeBackAt self.old port }
@@ -156,13 +176,14 @@ impl<E: TaskElement, O: Outlet> Part<E, O> {
 }
 
 /// An element takes an item, and what it puts out goes behind what it put out before.
+#[inline(always)]
 fn eat<E: TaskElement>(
     alloc: Global,
     element: &mut E,
     out: &mut Outs,
     pad: u32,
     item: Item,
-) -> Result<(), Refusal>
+) -> Result<(), Refused>
     requires within { are_within (E.ports element.old) out.old ≡ true }
     requires no_flush { is_flush_stop item ≡ false }
     ensures took { OnOk result (Takes (E.stands element.old) (E.stands element.new) (E.ports element.old) pad item out.old out.new) }

@@ -4,26 +4,27 @@ ghost use Rattle.task_parts.specs.Moved.{KeepsFront};
 ghost use Rattle.task_parts.specs.Part.{PartReady, IsSettled};
 ghost use Rattle.task_parts.specs.Passing.{CrossesPart, CrossesSource, GivesAs, TakesNext, Settles, HasPort, InletsReady, RowAsked, RowFed};
 ghost use Rattle.task_pads.specs.Pads.{PadReady, crossed_count, goes_of, number_of, pad_shape, rest_of};
-ghost use Rattle.element_traits.specs.Failures.{NeverFalls};
+ghost use Rattle.net_model.specs.Failures.{NeverFalls};
 ghost use Rattle.task_parts.specs.Shape.{goes_within, has_number, pads_within, part_shape};
-ghost use Rattle.task_parts.specs.declared.fault.TaskFault.TheVariants.{NotLinked as NotLinkedFault, TooLong as TooLongFault};
+ghost use Rattle.task_parts.specs.declared.fault.TaskFault.TheVariants.{NotLinked as NotLinkedFault};
 ghost use Rattle.task_parts.specs.declared.step.Tried.TheVariants.{Moved as MovedOn};
 
-use crate::fault::TaskFault;
-use crate::find::{MOST_ITEMS, find};
+use crate::fault::Failure;
+use crate::find::find;
 use crate::head::{Given, InletHead, SourceHead, is_flush_stop};
 use crate::moving::{hand_in, hand_on};
 use crate::part::Part;
 use crate::step::{Step, Tried};
-use element_traits::{TaskElement, TaskSource};
 use gst_caps::OutOfMemory;
 use gst_item::Item;
 use inlet_row::{Taken, UNLINKED};
 use lane_core::{Inlet, Outlet};
+use net_model::{TaskElement, TaskSource};
 use std::alloc::Global;
 use task_pads::Crossing;
 
 /// What the element at a place put out goes to its pads.
+#[inline(always)]
 pub fn settle<E: TaskElement, O: Outlet>(
     alloc: Global,
     parts: &mut Vec<Part<E, O>>,
@@ -40,6 +41,7 @@ pub fn settle<E: TaskElement, O: Outlet>(
 /// The oldest item that waits at the pad of a port of the element at a place crosses it, if it can. Where it goes to an
 /// element of the task, that takes it. `from` is a place up to which no element changes: it becomes a lower one where an
 /// element before it takes the item.
+#[inline(always)]
 pub fn cross_part<E: TaskElement, O: Outlet>(
     alloc: Global,
     parts: &mut Vec<Part<E, O>>,
@@ -47,7 +49,7 @@ pub fn cross_part<E: TaskElement, O: Outlet>(
     place: usize,
     port: usize,
     from: &mut usize,
-) -> Result<Tried, TaskFault>
+) -> Result<Tried, Failure>
     requires from { from.old ≤ place }
     requires closed { (part : _) → slice_get parts.old.items place ≡ Some part
         → pads_within (map part_shape parts.old.items) (map pad_shape part.pads.items) ≡ true }
@@ -64,20 +66,21 @@ pub fn cross_part<E: TaskElement, O: Outlet>(
         Crossing::Full { lane } => Ok(Tried::Stuck(Step::NeedsRoom(lane))),
         Crossing::AtProbe { command } => Ok(Tried::Stuck(Step::AtProbe(command))),
         Crossing::NotLinked => Err(not_linked(&parts[place], port)),
-        Crossing::AtLimit => Err(too_long(parts[place].number())),
-        Crossing::OutOfMemory => Err(TaskFault::OutOfMemory),
+        Crossing::AtLimit => Err(Failure::too_long(parts[place].number())),
+        Crossing::OutOfMemory => Err(Failure::out_of_memory()),
         Crossing::To { number, hint, pad } => {
             let to = find(parts.as_slice(), number, hint);
             lower(from, to);
             match hand_on(alloc, parts, place, port, to, pad) {
                 Ok(()) => Ok(Tried::Moved),
-                Err(refusal) => Err(TaskFault::refused(number, refusal)),
+                Err(refusal) => Err(Failure::refused(number, refusal)),
             }
         }
     }
 }
 
 /// The lower of two places.
+#[inline(always)]
 fn lower(from: &mut usize, to: usize)
     ensures lower { from.new ≤ from.old }
     ensures below { from.new ≤ to }
@@ -88,37 +91,24 @@ fn lower(from: &mut usize, to: usize)
 }
 
 /// The fault of a buffer at the pad of a port, which is not linked.
-fn not_linked<E: TaskElement, O: Outlet>(part: &Part<E, O>, port: usize) -> TaskFault
+fn not_linked<E: TaskElement, O: Outlet>(part: &Part<E, O>, port: usize) -> Failure
     requires port { port < vec_len part.now.pads }
     ensures { (pad : _) → slice_get part.now.pads.items port ≡ Some pad → result ≡ NotLinkedFault (number_of pad) (crossed_count pad) }
 {
     let pad = &part.pads()[port];
-    TaskFault::NotLinked {
-        pad: pad.number(),
-        place: pad.crossed(),
-    }
-}
-
-/// The fault of an element of which more than 2^40 items were to cross a pad.
-fn too_long(element: u32) -> TaskFault
-    ensures { result ≡ TooLongFault element 1099511627776 1 }
-{
-    TaskFault::TooLong {
-        element,
-        a: MOST_ITEMS,
-        b: 1,
-    }
+    Failure::not_linked(pad.number(), pad.crossed())
 }
 
 /// The oldest item that waits at the pad of a source crosses it, if it can. Where it goes to an element of the task, that
 /// takes it.
+#[inline(always)]
 pub fn cross_source<S: TaskSource, E: TaskElement, O: Outlet>(
     alloc: Global,
     head: &mut SourceHead<S, O>,
     parts: &mut Vec<Part<E, O>>,
     lanes: &mut O::Lanes,
     from: &mut usize,
-) -> Result<Tried, TaskFault>
+) -> Result<Tried, Failure>
     requires closed { goes_within (map part_shape parts.old.items) (goes_of head.old.pad) ≡ true }
     requires ready { PadReady O.Outlet (O.tells lanes.old) head.old.pad }
     ensures crosses { CrossesSource O.Outlet head.old head.new parts.old.items parts.new.items (O.tells lanes.old) (O.tells lanes.new) result }
@@ -131,28 +121,26 @@ pub fn cross_source<S: TaskSource, E: TaskElement, O: Outlet>(
         Crossing::BehindEos => Ok(Tried::Stuck(Step::Ended)),
         Crossing::Full { lane } => Ok(Tried::Stuck(Step::NeedsRoom(lane))),
         Crossing::AtProbe { command } => Ok(Tried::Stuck(Step::AtProbe(command))),
-        Crossing::NotLinked => Err(TaskFault::NotLinked {
-            pad: head.pad.number(),
-            place: head.pad.crossed(),
-        }),
-        Crossing::AtLimit => Err(too_long(head.number)),
-        Crossing::OutOfMemory => Err(TaskFault::OutOfMemory),
+        Crossing::NotLinked => Err(Failure::not_linked(head.pad.number(), head.pad.crossed())),
+        Crossing::AtLimit => Err(Failure::too_long(head.number)),
+        Crossing::OutOfMemory => Err(Failure::out_of_memory()),
         Crossing::To { number, hint, pad } => {
             let to = find(parts.as_slice(), number, hint);
             lower(from, to);
             match hand_in(alloc, &mut head.pad, parts, to, pad) {
                 Ok(()) => Ok(Tried::Moved),
-                Err(refusal) => Err(TaskFault::refused(number, refusal)),
+                Err(refusal) => Err(Failure::refused(number, refusal)),
             }
         }
     }
 }
 
 /// The source gives its next item, which waits at its pad. `Tried::Idle`: it has given all.
+#[inline(always)]
 pub fn give<S: TaskSource, O: Outlet>(
     alloc: Global,
     head: &mut SourceHead<S, O>,
-) -> Result<Tried, TaskFault>
+) -> Result<Tried, Failure>
     ensures gives { GivesAs head.old head.new result }
     ensures never_falls { NeverFalls (S.failures head.old.source) (S.failures head.new.source) }
     ensures file { S.file head.new.source ≡ S.file head.old.source }
@@ -163,19 +151,20 @@ pub fn give<S: TaskSource, O: Outlet>(
         Ok(Given::Item) => Ok(Tried::Moved),
         Ok(Given::FlushStop) => Ok(Tried::Moved),
         Ok(Given::Ended) => Ok(Tried::Idle),
-        Ok(Given::AtLimit) => Err(too_long(head.number)),
-        Err(unread) => Err(TaskFault::unread(head.number, unread)),
+        Ok(Given::AtLimit) => Err(Failure::too_long(head.number)),
+        Err(unread) => Err(Failure::unread(head.number, unread)),
     }
 }
 
 /// The element that a head feeds takes the next item that it wants, if there is one now. `Tried::Idle`: it wants no more.
+#[inline(always)]
 pub fn take<E: TaskElement, I: Inlet<Out = O>, O: Outlet<Lanes = I::Lanes>>(
     alloc: Global,
     head: &mut InletHead<I>,
     parts: &mut Vec<Part<E, O>>,
     lanes: &mut I::Lanes,
     from: &mut usize,
-) -> Result<Tried, TaskFault>
+) -> Result<Tried, Failure>
     requires named { has_number head.old.number (map part_shape parts.old.items) ≡ true }
     requires ready { InletsReady I.Inlet (O.tells lanes.old) head.old }
     ensures takes { TakesNext I.Inlet head.old head.new parts.old.items parts.new.items (O.tells lanes.old) (O.tells lanes.new) result }
@@ -197,13 +186,14 @@ pub fn take<E: TaskElement, I: Inlet<Out = O>, O: Outlet<Lanes = I::Lanes>>(
 }
 
 /// The element at a place takes an item that came from the row of a sink pad. A FLUSH_STOP is given up.
+#[inline(always)]
 fn feed_row<E: TaskElement, O: Outlet>(
     alloc: Global,
     parts: &mut Vec<Part<E, O>>,
     to: usize,
     port: u32,
     item: Item,
-) -> Result<Tried, TaskFault>
+) -> Result<Tried, Failure>
     requires to { to < vec_len parts.old }
     ensures feeds { RowFed parts.old.items parts.new.items to port item result }
     ensures shape { map part_shape parts.new.items ≡ map part_shape parts.old.items }
@@ -214,11 +204,12 @@ fn feed_row<E: TaskElement, O: Outlet>(
     let number = parts[to].number();
     match parts[to].feed(alloc, port, item) {
         Ok(()) => Ok(Tried::Moved),
-        Err(refusal) => Err(TaskFault::refused(number, refusal)),
+        Err(refusal) => Err(Failure::refused(number, refusal)),
     }
 }
 
 /// The next item of the row of a sink pad, if there is one now.
+#[inline(always)]
 fn take_row<I: Inlet>(head: &mut InletHead<I>, lanes: &mut I::Lanes, port: u32) -> Taken
     requires ready { InletsReady I.Inlet (I.Out.tells lanes.old) head.old }
     ensures { RowAsked I.Inlet head.old head.new port (I.Out.tells lanes.old) (I.Out.tells lanes.new) result }

@@ -75,7 +75,8 @@ fn body_at(left: &[u8]) -> &[u8]
 // What is wrong with the body of the chunk, if it is `fmt `.
 fn format_fault(left: &[u8]) -> Option<WavKind>
     requires { 8 ≤ length left.now }
-    ensures { MatchOption result (begins (codes "fmt ") left.now ≡ true → MayBeFormat (body_at left.now) (body_size left.now)) (λ kind. (begins (codes "fmt ") left.now ≡ true) × BodyFault (body_at left.now) (body_size left.now) kind) }
+    ensures { MatchOption result (begins (codes "fmt ") left.now ≡ true → MayBeFormat (body_at left.now) (body_size left.now))
+        (λ kind. (begins (codes "fmt ") left.now ≡ true) × BodyFault (body_at left.now) (body_size left.now) kind) }
 {
     if !begins(left, b"fmt ") {
         return None;
@@ -172,7 +173,8 @@ fn chunk_fault(left: &[u8], at: u64) -> Option<HeadAnswer>
     requires spot { at + 8 ≤ 16777216 }
     requires headed { 8 ≤ length left.now }
     requires other { begins (codes "data") left.now ≡ false }
-    ensures fault { MatchOption result (HasRoom (record { at = at; known = None; left = left.now })) (λ answer. (known : Option SampleFormat) → AnswerAt (record { at = at; known = known; left = left.now }) answer) }
+    ensures fault { MatchOption result (HasRoom (record { at = at; known = None; left = left.now }))
+        (λ answer. (known : Option SampleFormat) → AnswerAt (record { at = at; known = known; left = left.now }) answer) }
     ensures bad { (n : ℕ) → result ≢ Some (NeedMore n) }
 {
     let end = at + length_at(left);

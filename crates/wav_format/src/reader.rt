@@ -77,8 +77,10 @@ impl HeadReader {
 
     // Reads on in the bytes from the place on where it stands. With them it was given so many bytes in all.
     fn read_left(&mut self, left: &[u8], count: u64) -> Result<HeadAnswer, AllocError>
-        ensures answer { IfOk result (λ answer. (given : List ℕ) → StandsIn self.old.standing given → left.now ≡ drop self.old.standing.place given → AnswerIn given answer) }
-        ensures given { OnOk result ((given : List ℕ) → AreBytes given → count ≡ length given → StandsIn self.old.standing given → left.now ≡ drop self.old.standing.place given → WasGiven self.new given) }
+        ensures answer { IfOk result
+            (λ answer. (given : List ℕ) → StandsIn self.old.standing given → left.now ≡ drop self.old.standing.place given → AnswerIn given answer) }
+        ensures given { OnOk result ((given : List ℕ) → AreBytes given → count ≡ length given → StandsIn self.old.standing given
+            → left.now ≡ drop self.old.standing.place given → WasGiven self.new given) }
         ensures stays { OnErr result (self.new ≡ self.old) }
         ensures few { IfOk result (λ answer. (n : ℕ) → answer ≡ NeedMore n → kept self.new ≤ 33) }
     {

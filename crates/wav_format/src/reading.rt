@@ -150,7 +150,8 @@ pub fn read_head(bytes: &[u8]) -> HeadAnswer
     ensures front { (more : List ℕ) (head : Head) → 0 < length more → HeadWith longest_head bytes.now more head → (n : ℕ) × (result ≡ HeadAnswer.NeedMore n) }
 
     // No further bytes make a head of bytes at fault.
-    ensures never { (place : ℕ) (kind : WavKind) → result ≡ HeadAnswer.Bad place kind → (more : List ℕ) (head : Head) (rest : List ℕ) → AreBytes more → ¬ HeadThen longest_head (bytes.now ++ more) head rest }
+    ensures never { (place : ℕ) (kind : WavKind) → result ≡ HeadAnswer.Bad place kind → (more : List ℕ) (head : Head) (rest : List ℕ) → AreBytes more
+        → ¬ HeadThen longest_head (bytes.now ++ more) head rest }
 {
     read_on(bytes, START).0
 }

@@ -6,8 +6,8 @@ use Rattle.std.proofs.lemmas.Option.{none-some, same_Some}
 use Rattle.el_set.specs.Gives.{source_items}
 use Rattle.el_set.specs.Made.{IsEmpty, file_for}
 use Rattle.el_set.specs.Asked.{source_pads}
-use Rattle.element_traits.specs.declared.element.TaskElement as elements
-use Rattle.element_traits.specs.declared.source.TaskSource as givers
+use Rattle.net_model.specs.declared.element.TaskElement as elements
+use Rattle.net_model.specs.declared.source.TaskSource as givers
 use Rattle.flow_model.specs.Call.{Call}
 use Rattle.flow_model.specs.Item.{Item}
 use Rattle.graph_bags.specs.Links.{is_source}
@@ -19,12 +19,12 @@ use Rattle.graph_tasks.specs.Plan.{AreAtHand}
 use Rattle.graph_tasks.specs.Tasks.{IsOf}
 use Rattle.graph_tasks.proofs.Lists.{get_map}
 use Rattle.graph_tasks.proofs.Takes.{some_there, there_some}
+use Rattle.gst_outside.specs.Seen.{Seen}
 use Rattle.gst_outside.specs.declared.sink.Sink as sinks
 use Rattle.gst_outside.specs.declared.source.Source as sources
 use Rattle.net_model.specs.Moment.{Behavior}
 use Rattle.run_files.specs.Ends.{Known}
 use Rattle.run_files.specs.Opening.{fresh_end}
-use Rattle.run_files.specs.Seen.{Seen}
 use Rattle.run_files.specs.declared.end.End.{End}
 use Rattle.run_files.specs.declared.end.End.TheVariants.{Src, Snk}
 use Rattle.run_files.specs.declared.end.Opening.{Opening}
@@ -35,7 +35,7 @@ use Rattle.task_elements.specs.Stands.{StreamStands, pads_of}
 use Rattle.task_elements.specs.declared.element.StreamElement.{StreamElement}
 use Rattle.task_elements.specs.declared.source.StreamSource.{StreamSource}
 use Rattle.world_core.proofs.Opened.{element_made, known, sink_at, source_at}
-use Rattle.world_core.proofs.SourceKinds.{IsTold, gives, told_of, written_empty}
+use Rattle.world_core.proofs.Openers.{IsTold, gives, told_of, written_empty}
 
 -- the elements and the sources of tasks are those of streams
 pub record MakesStreams {S K : Type 0} (s : sources.Ghosts S) (k : sinks.Ghosts K) (giver : givers.Ghosts (StreamSource S))
@@ -110,7 +110,7 @@ module _ {S K : Type 0} (s : sources.Ghosts S) (k : sinks.Ghosts K) (made : List
     pub told_at : (contents : ℕ → List ℕ) → WereTold made before contents → (e : ℕ) (m : Made) (x : StreamSource S) → slice_get made e ≡ Some m
         → is_source m.settings ≡ true → IsOf sources_in e x → IsTold s.content m.settings e x.source (contents e)
     told_at contents told e m x here pads is =
-        told_of s.content m.settings e (source_end (at ends e)) x.source (contents e) pads (given_at e m x here is).made.3 file
+        told_of s.content m.settings e (source_end (at ends e)) x.source (contents e) (given_at e m x here is).made.3 file
       where
         file : (location : List ℕ) → opening_of m.settings ≡ Some (Read location)
             → (one : S) × (source_end (at ends e) ≡ Some one) × (s.content one ≡ Some (contents e))

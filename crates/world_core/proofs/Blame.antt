@@ -3,19 +3,20 @@ use Rattle.std.proofs.Common.{◌≡◌, ◌≢◌, ◌⊎◌, ℕ, List, Some, 
 use Rattle.std.specs.Prelude.{slice_get}
 use Rattle.gst_item.specs.declared.fault.ElementFault.{ElementFault}
 use Rattle.gst_item.specs.declared.fault.ElementFault.TheVariants as own_faults
-use Rattle.element_traits.specs.declared.refusal.Refusal.TheVariants.{Fault}
-use Rattle.element_traits.specs.declared.refusal.Unread.{Unread}
-use Rattle.element_traits.specs.declared.refusal.Unread.TheVariants as reads
+use Rattle.net_model.specs.declared.refusal.Refusal.TheVariants.{Fault}
+use Rattle.net_model.specs.declared.refusal.Unread.{Unread}
+use Rattle.net_model.specs.declared.refusal.Unread.TheVariants as reads
 use Rattle.flow_model.specs.Item.{Item}
 use Rattle.graph_core.specs.Elements.{Made}
 use Rattle.graph_core.specs.Graph.{made as made_in, links as links_in}
 use Rattle.graph_core.specs.declared.graph.Graph.{Graph}
 use Rattle.graph_ends.specs.Blamed.{IsBlamed}
-use Rattle.graph_ends.specs.Owed.{IsAwaited, Refuses, WantsLink, went_from}
+use Rattle.graph_ends.specs.Owed.{IsAwaited, IsOwedMore, Refuses, WantsLink, went_from}
 use Rattle.graph_ends.specs.Runs.{crossed_in}
-use Rattle.graph_model.specs.Asked.{first_pad}
-use Rattle.graph_model.proofs.Links.{owner_at}
-use Rattle.graph_model.specs.GraphPlan.{owner_of, pad_id}
+use Rattle.graph_ends.specs.Short.{IsCutShort}
+use Rattle.graph_core.specs.Allowed.{first_pad}
+use Rattle.graph_core.proofs.NumberedPads.{owner_at}
+use Rattle.graph_core.specs.GraphPlan.{owner_of, pad_id}
 use Rattle.net_model.specs.Moment.{Moment}
 use Rattle.task_parts.specs.Fault.{refusal_fault, unread_fault}
 use Rattle.task_parts.specs.declared.fault.TaskFault.{TaskFault}
@@ -27,10 +28,11 @@ pub record RefusedAt (contents : ℕ → List ℕ) (graph : Graph) (m : Moment) 
   pub at : slice_get (made_in graph) n ≡ Some element
   pub refuses : Refuses contents (made_in graph) (links_in graph) (crossed_in graph m) n element.settings own
 
--- 2^40 items crossed its pad
-pub record IsFull (graph : Graph) (m : Moment) (n : ℕ) (own : ElementFault) : Type 0 where
+-- 2^40 items crossed its pad, and another one is owed to it
+pub record IsFull (contents : ℕ → List ℕ) (graph : Graph) (m : Moment) (n : ℕ) (own : ElementFault) : Type 0 where
   pub own_is : own ≡ own_faults.TooLong 1099511627776 1
   pub full : length (went_from (crossed_in graph m) n) ≡ 1099511627776
+  pub more : IsOwedMore contents (made_in graph) (links_in graph) (crossed_in graph m) n
 
 -- a fault of an element, by its number and its own fault
 same_own : (d n : ℕ) (one other : ElementFault) → refusal_fault d (Fault one) ≡ refusal_fault n (Fault other) → other ≢ own_faults.OutOfMemory → (d ≡ n) × (one ≡ other)
@@ -54,6 +56,12 @@ no_write d a b n (own_faults.NotNegotiated p q) same = cc
 no_write d a b n (own_faults.BadStream p q) same = cc
 no_write d a b n (own_faults.TooLong p q) same = cc
 no_write d a b n own_faults.OutOfMemory same = cc
+
+no_source : (d a b n : ℕ) (own : ElementFault) → faults.ReadFault d a b ≡ refusal_fault n (Fault own) → ⊥
+no_source d a b n (own_faults.NotNegotiated p q) same = cc
+no_source d a b n (own_faults.BadStream p q) same = cc
+no_source d a b n (own_faults.TooLong p q) same = cc
+no_source d a b n own_faults.OutOfMemory same = cc
 
 no_link : (p place n : ℕ) (own : ElementFault) → faults.NotLinked p place ≡ refusal_fault n (Fault own) → ⊥
 no_link p place n (own_faults.NotNegotiated a b) same = cc
@@ -83,18 +91,37 @@ full_own d n own_faults.OutOfMemory same = absurd (cc)
 module _ (contents : ℕ → List ℕ) (graph : Graph) (m : Moment) where
   -- the fault of an element's rule was met at its next item, or its pad is full
   pub own_blamed : (fault : TaskFault) → IsBlamed contents graph m fault → (n : ℕ) (own : ElementFault) → fault ≡ refusal_fault n (Fault own) → own ≢ own_faults.OutOfMemory
-      → RefusedAt contents graph m n own ⊎ IsFull graph m n own
+      → RefusedAt contents graph m n own ⊎ IsFull contents graph m n own
   own_blamed fault (IsBlamed.refused d element one at refuses) n own same memory =
       let both = same_own d n one own same memory in
       inl (subst (λ (x : ℕ). RefusedAt contents graph m x own) both.0
       (subst (λ (f : ElementFault). RefusedAt contents graph m d f) both.1 (record { element = element; at = at; refuses = refuses })))
   own_blamed fault (IsBlamed.unwritten d a b x awaited) n own same memory = absurd (no_write d a b n own same)
-  own_blamed fault (IsBlamed.unread d why) n own same memory = absurd (memory (no_read d why n own same))
+  own_blamed fault (IsBlamed.unread d why short) n own same memory = absurd (memory (no_read d why n own same))
   own_blamed fault (IsBlamed.not_linked e place size wants) n own same memory = absurd (no_link (pad_id (first_pad e)) place n own same)
-  own_blamed fault (IsBlamed.full e size) n own same memory =
+  own_blamed fault (IsBlamed.full e size more) n own same memory =
       let both = full_own e n own same in
-      inr (record { own_is = both.1; full = subst (λ (x : ℕ). length (went_from (crossed_in graph m) x) ≡ 1099511627776) both.0 size })
+      inr (record {
+        own_is = both.1;
+        full = subst (λ (x : ℕ). length (went_from (crossed_in graph m) x) ≡ 1099511627776) both.0 size;
+        more = subst (λ (x : ℕ). IsOwedMore contents (made_in graph) (links_in graph) (crossed_in graph m) x) both.0 more;
+      })
   own_blamed fault IsBlamed.no_memory n own same memory = absurd (memory (no_memory_own n own same))
+
+  -- a source could not be read, and what crossed its pad ends short
+  pub read_blamed : (fault : TaskFault) → IsBlamed contents graph m fault → (n a b : ℕ) → fault ≡ faults.ReadFault n a b → (one : Made)
+      → slice_get (made_in graph) n ≡ Some one → IsCutShort contents (crossed_in graph m) n one.settings
+  read_blamed fault (IsBlamed.refused d element own at refuses) n a b same one here = absurd (no_source n a b d own (sym same))
+  read_blamed fault (IsBlamed.unwritten d p q x awaited) n a b same one here = absurd (cc)
+  read_blamed fault (IsBlamed.unread d (reads.Failed p q) short) n a b same one here =
+      subst (λ (e : ℕ). IsCutShort contents (crossed_in graph m) e one.settings) number (short one (ap (slice_get (made_in graph)) number ∙ here))
+    where
+      number : d ≡ n
+      number = cc
+  read_blamed fault (IsBlamed.unread d reads.OutOfMemory short) n a b same one here = absurd (cc)
+  read_blamed fault (IsBlamed.not_linked e place size wants) n a b same one here = absurd (cc)
+  read_blamed fault (IsBlamed.full e size more) n a b same one here = absurd (cc)
+  read_blamed fault IsBlamed.no_memory n a b same one here = absurd (cc)
 
   -- a write failed at the next item that came to its element
   pub write_blamed : (fault : TaskFault) → IsBlamed contents graph m fault → (n a b : ℕ) → fault ≡ faults.WriteFault n a b
@@ -104,10 +131,10 @@ module _ (contents : ℕ → List ℕ) (graph : Graph) (m : Moment) where
     where
       number : d ≡ n
       number = cc
-  write_blamed fault (IsBlamed.unread d (reads.Failed p q)) n a b same = absurd (cc)
-  write_blamed fault (IsBlamed.unread d reads.OutOfMemory) n a b same = absurd (cc)
+  write_blamed fault (IsBlamed.unread d (reads.Failed p q) short) n a b same = absurd (cc)
+  write_blamed fault (IsBlamed.unread d reads.OutOfMemory short) n a b same = absurd (cc)
   write_blamed fault (IsBlamed.not_linked e place size wants) n a b same = absurd (cc)
-  write_blamed fault (IsBlamed.full e size) n a b same = absurd (cc)
+  write_blamed fault (IsBlamed.full e size more) n a b same = absurd (cc)
   write_blamed fault IsBlamed.no_memory n a b same = absurd (cc)
 
   -- a buffer is owed to the pad that is not linked
@@ -115,8 +142,8 @@ module _ (contents : ℕ → List ℕ) (graph : Graph) (m : Moment) where
       → (length (went_from (crossed_in graph m) n) ≡ place) × WantsLink contents (made_in graph) (links_in graph) (crossed_in graph m) n
   link_blamed fault (IsBlamed.refused d element own at refuses) n place same = absurd (no_link (pad_id (first_pad n)) place d own (sym same))
   link_blamed fault (IsBlamed.unwritten d p q x awaited) n place same = absurd (cc)
-  link_blamed fault (IsBlamed.unread d (reads.Failed p q)) n place same = absurd (cc)
-  link_blamed fault (IsBlamed.unread d reads.OutOfMemory) n place same = absurd (cc)
+  link_blamed fault (IsBlamed.unread d (reads.Failed p q) short) n place same = absurd (cc)
+  link_blamed fault (IsBlamed.unread d reads.OutOfMemory short) n place same = absurd (cc)
   link_blamed fault (IsBlamed.not_linked e here size wants) n place same =
       let one : e ≡ n = sym (owner_at (first_pad e) (omega arith)) ∙ ap owner_of pads ∙ owner_at (first_pad n) (omega arith) in (
         subst (λ (x : ℕ). length (went_from (crossed_in graph m) x) ≡ place) one (size ∙ places),
@@ -128,5 +155,5 @@ module _ (contents : ℕ → List ℕ) (graph : Graph) (m : Moment) where
 
       places : here ≡ place
       places = cc
-  link_blamed fault (IsBlamed.full e size) n place same = absurd (cc)
+  link_blamed fault (IsBlamed.full e size more) n place same = absurd (cc)
   link_blamed fault IsBlamed.no_memory n place same = absurd (cc)

@@ -16,6 +16,7 @@ use Rattle.graph_core.specs.Elements.{ElementsCome, Made}
 use Rattle.graph_core.specs.Graph.{IsGraph, made as made_in}
 use Rattle.graph_core.specs.declared.fault.BuildFault.{BuildFault}
 use Rattle.graph_core.specs.declared.graph.Graph.{Graph}
+use Rattle.gst_outside.specs.Seen.{Seen, ToldRose}
 use Rattle.launch_text.specs.declared.tree.Tree.{Tree}
 use Rattle.graph_files.specs.Files.{AreLocated, made_opening, opening_of}
 use Rattle.graph_files.proofs.Locating.{is_present, no_sink, one_sink, same_count}
@@ -23,7 +24,6 @@ use Rattle.run_files.proofs.Lists.{sum_above, sum_above_of}
 use Rattle.run_files.specs.Closing.{Closes, faults_at}
 use Rattle.run_files.specs.Ends.{Known, is_sink_at, present}
 use Rattle.run_files.specs.Opening.{Opens, location_of}
-use Rattle.run_files.specs.Seen.{Seen, ToldRose}
 use Rattle.run_files.specs.declared.end.Opening.{Opening}
 use Rattle.run_files.specs.declared.end.Opening.TheVariants.{Read, Write}
 use Rattle.run_report.specs.declared.report.Report.{Report}

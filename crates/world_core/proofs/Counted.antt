@@ -4,11 +4,10 @@ use Rattle.std.specs.Prelude.{filter_map, slice_get}
 use Rattle.std.specs.List.{cons_option, range_with_len}
 use Rattle.std.specs.Option.{option_map, option_map_or}
 use Rattle.std.proofs.lemmas.Option.{none-some, same_Some, slice_get_within}
-use Rattle.el_set.specs.Asked.{source_pads}
+use Rattle.el_set.specs.Asked.{source_pads, writes}
 use Rattle.el_set.specs.declared.settings.Settings.{Settings}
-use Rattle.el_set.specs.declared.settings.Settings.TheVariants.{FileSrc, RampTestSrc, Identity, CapsFilter, Queue, AudioConvert, Law, RawAudioParse, AudioBufferSplit, WavParse, WavEnc, FileSink, FakeSink}
-use Rattle.element_traits.specs.declared.element.TaskElement as elements
-use Rattle.element_traits.specs.declared.source.TaskSource as sources
+use Rattle.net_model.specs.declared.element.TaskElement as elements
+use Rattle.net_model.specs.declared.source.TaskSource as sources
 use Rattle.flow_model.specs.Item.{Item, buffers}
 use Rattle.graph_bags.specs.Laws.{StandsIn}
 use Rattle.graph_bags.specs.Links.{source_count}
@@ -23,16 +22,17 @@ use Rattle.graph_ends.specs.Owed.{gives}
 use Rattle.graph_ends.specs.Runs.{crossed_in}
 use Rattle.graph_ends.specs.Written.{TaskCrossed}
 use Rattle.graph_files.specs.Counts.{TasksCounted}
-use Rattle.graph_files.specs.Ends.{has, writes}
-use Rattle.graph_files.specs.Files.{OpensAt, opening_of}
+use Rattle.graph_files.specs.Ends.{has}
+use Rattle.graph_files.specs.Files.{OpensAt}
 use Rattle.graph_files.specs.Put.{IsPutAt, PutBack, was_kept, was_put}
+use Rattle.graph_files.proofs.OwnFiles.{writing_opens}
 use Rattle.graph_files.specs.declared.counts.Count.{Count}
 use Rattle.graph_moment.proofs.Sources.{place_is_pad}
 use Rattle.graph_moment.specs.Pads.{at_pads, is_pad}
-use Rattle.graph_model.specs.Asked.{first_pad}
+use Rattle.graph_core.specs.Allowed.{first_pad}
 use Rattle.lane_core.specs.declared.ends.Inlet as inlets
 use Rattle.lane_core.specs.declared.ends.Outlet as outlets
-use Rattle.graph_model.specs.GraphPlan.{pad_id}
+use Rattle.graph_core.specs.GraphPlan.{pad_id}
 use Rattle.net_model.specs.Moment.{Moment}
 use Rattle.net_task.specs.declared.task.Task.{Task}
 use Rattle.run_files.specs.declared.end.Opening.TheVariants.{Write}
@@ -172,28 +172,13 @@ lengths_are made lengths bytes are =
     choose d false writing = refl
 
 -- what writes a file opens it
-writer_opens : (settings : Settings) → writes settings ≡ true → (location : List ℕ) × (opening_of settings ≡ Some (Write location))
-writer_opens (FileSrc s) h = absurd (cc)
-writer_opens (RampTestSrc s) h = absurd (cc)
-writer_opens Identity h = absurd (cc)
-writer_opens (CapsFilter s) h = absurd (cc)
-writer_opens (Queue s) h = absurd (cc)
-writer_opens (AudioConvert s) h = absurd (cc)
-writer_opens (Law kind) h = absurd (cc)
-writer_opens (RawAudioParse info) h = absurd (cc)
-writer_opens (AudioBufferSplit s) h = absurd (cc)
-writer_opens WavParse h = absurd (cc)
-writer_opens WavEnc h = absurd (cc)
-writer_opens (FileSink s) h = (s.location, refl)
-writer_opens FakeSink h = absurd (cc)
-
 pub writes_at : (made : List Made) (d : ℕ) → has writes made d ≡ true → (location : List ℕ) × OpensAt made d (Write location)
 writes_at made d h = by (slice_get made d) refl h
   where
     by : (found : Option Made) → slice_get made d ≡ found → option_map_or (λ (m : Made). writes m.settings) found false ≡ true
         → (location : List ℕ) × OpensAt made d (Write location)
     by None at holds = absurd (cc)
-    by (Some m) at holds = let own = writer_opens m.settings holds in (own.0, record { element = m; at = at; opens = own.1 })
+    by (Some m) at holds = let own = writing_opens m.settings holds in (own.0, record { element = m; at = at; opens = own.1 })
 
 -- so they are where it is known of each element that opens a file to write it
 pub lengths_by : (made : List Made) (lengths : List ℕ) (bytes : ℕ → List ℕ)

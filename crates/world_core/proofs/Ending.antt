@@ -2,14 +2,15 @@
 use Rattle.std.proofs.Common.{◌≡◌, ◌≢◌, ℕ, List, Option, Some, Result, Ok, Err, IfOk, IfErr, refl, inl}
 use Rattle.std.specs.Option.{option_map}
 use Rattle.el_set.specs.Gives.{source_file}
-use Rattle.element_traits.specs.declared.element.TaskElement as elements
-use Rattle.element_traits.specs.declared.source.TaskSource as givers
+use Rattle.net_model.specs.declared.element.TaskElement as elements
+use Rattle.net_model.specs.declared.source.TaskSource as givers
 use Rattle.graph_core.specs.Graph.{made as made_in, links as links_in}
 use Rattle.graph_core.specs.declared.graph.Graph.{Graph}
 use Rattle.graph_ends.specs.Runs.{RunsAt}
-use Rattle.graph_files.specs.Files.{WereTold, known_of}
+use Rattle.graph_files.specs.Files.{WereTold}
 use Rattle.graph_moment.specs.Plans.{moment_answers, moment_plan}
-use Rattle.graph_model.specs.Once.{AreOnce}
+use Rattle.graph_core.specs.LinkedOnce.{AreOnce}
+use Rattle.gst_outside.specs.Seen.{Seen}
 use Rattle.gst_outside.specs.declared.sink.Sink as sinks
 use Rattle.gst_outside.specs.declared.source.Source as sources
 use Rattle.lane_core.specs.Lane.{Lane}
@@ -22,7 +23,7 @@ use Rattle.net_turns.specs.Net.{NetStands}
 use Rattle.net_turns.specs.Rests.{NetEnded, NetFaulted}
 use Rattle.net_turns.specs.Turns.{RunBy, stop_of}
 use Rattle.net_turns.specs.declared.net.Stopped.{Stopped}
-use Rattle.run_files.specs.Seen.{Seen}
+use Rattle.run_files.specs.Ends.{known_ends}
 use Rattle.run_files.specs.declared.end.End.{End}
 use Rattle.task_elements.specs.Stands.{file_in}
 use Rattle.task_elements.specs.declared.element.StreamElement.{StreamElement}
@@ -54,7 +55,7 @@ module _ {S K I O L : Type 0} {giver : givers.Ghosts (StreamSource S)} {taker : 
     (read_fails : (x : StreamSource S) → giver.failures x ≡ option_map s.faults (source_file x.source))
     (ends : List (Option (End S K))) (end : WorldEnd) where
   abbrev Ended : Type 0
-  Ended = HasEnded graph before (KnownHold graph (known_of s k ends)) (KnownFailed (known_of s k ends)) end
+  Ended = HasEnded graph before (KnownHold graph (known_ends s k ends)) (KnownFailed (known_ends s k ends)) end
 
   -- at a fault
   fault_ended : (order : Order) (turns : Turns) (stop : Stopped) → RunBy order 0 first tells turns (Some stop.fault) last

@@ -4,26 +4,26 @@ use Rattle.std.specs.Prelude.{slice_get}
 use Rattle.std.specs.Option.{option_map}
 use Rattle.std.proofs.lemmas.Bool.Decides.{eqb_tells}
 use Rattle.el_set.specs.Gives.{source_file}
-use Rattle.element_traits.specs.declared.element.TaskElement as elements
-use Rattle.element_traits.specs.declared.refusal.Refusal.TheVariants.{Fault, Unwritten}
-use Rattle.element_traits.specs.declared.refusal.Unread.TheVariants as reads
-use Rattle.element_traits.specs.declared.source.TaskSource as givers
+use Rattle.net_model.specs.declared.element.TaskElement as elements
+use Rattle.net_model.specs.declared.refusal.Refusal.TheVariants.{Fault, Unwritten}
+use Rattle.net_model.specs.declared.refusal.Unread.TheVariants as reads
+use Rattle.net_model.specs.declared.source.TaskSource as givers
 use Rattle.graph_core.specs.Elements.{Made}
 use Rattle.graph_core.specs.Graph.{made as made_in, links as links_in}
 use Rattle.graph_core.specs.declared.graph.Graph.{Graph}
 use Rattle.graph_ends.specs.Owed.{went_from}
 use Rattle.graph_ends.specs.Runs.{crossed_in}
-use Rattle.graph_files.specs.Files.{WereTold, known_of}
+use Rattle.graph_files.specs.Files.{WereTold}
 use Rattle.gst_item.specs.declared.fault.ElementFault.{ElementFault}
 use Rattle.gst_item.specs.declared.fault.ElementFault.TheVariants as own_faults
+use Rattle.gst_outside.specs.Seen.{Seen}
 use Rattle.gst_outside.specs.declared.sink.Sink as sinks
 use Rattle.gst_outside.specs.declared.source.Source as sources
 use Rattle.lane_core.specs.Lane.{Lane}
 use Rattle.lane_core.specs.declared.ends.Inlet as inlets
 use Rattle.lane_core.specs.declared.ends.Outlet as outlets
 use Rattle.net_task.specs.declared.task.Task.{Task}
-use Rattle.run_files.specs.Ends.{Known}
-use Rattle.run_files.specs.Seen.{Seen}
+use Rattle.run_files.specs.Ends.{Known, known_ends}
 use Rattle.run_files.specs.declared.end.End.{End}
 use Rattle.task_elements.specs.Stands.{faults_in, file_in}
 use Rattle.task_elements.specs.declared.element.StreamElement.{StreamElement}
@@ -63,7 +63,7 @@ module _ {S K I O L : Type 0} {giver : givers.Ghosts (StreamSource S)} {taker : 
     (counted : (contents : ℕ → List ℕ) → (f : IsFaulted k contents graph run.started.bags last rest fault) → (n : ℕ) (one : Made) → slice_get (made_in graph) n ≡ Some one
     → length (went_from (crossed_in graph f.m) n) ≡ number n) where
   abbrev known : List (Option Known)
-  known = known_of s k ends
+  known = known_ends s k ends
 
   abbrev Ended : Type 0
   Ended = HasEnded graph before (KnownHold graph known) (KnownFailed known) end
@@ -82,7 +82,7 @@ module _ {S K I O L : Type 0} {giver : givers.Ghosts (StreamSource S)} {taker : 
       ones e = cc
 
       by : ((a ≡ 1099511627776) × (b ≡ 1) × (number n ≡ 1099511627776)) ⊎ ((a ≡ 1099511627776) × (b ≡ 1) × (number n ≡ 1099511627776) → ⊥)
-          → HasEnded graph before (KnownHold graph (known_of s k ends)) (KnownFailed (known_of s k ends)) end
+          → HasEnded graph before (KnownHold graph (known_ends s k ends)) (KnownFailed (known_ends s k ends)) end
       by (inl (x, y, z)) = inr (inr (inr (inr (inr
           (full_ends s k graph first last rest left tells before run taken given write_fails read_fails ends fault end told faulted n one
           (is ∙ ap (λ p. faults.TooLong n p b) x ∙ ap (λ q. faults.TooLong n 1099511627776 q) y) at (λ contents f. counted contents f n one at ∙ z))))))

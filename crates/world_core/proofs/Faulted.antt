@@ -6,11 +6,11 @@ use Rattle.std.proofs.lemmas.Option.{none-some, same_Some}
 use Rattle.el_set.specs.Asked.{location_of}
 use Rattle.el_set.specs.Gives.{source_file}
 use Rattle.el_set.specs.Made.{file_for, read_for}
-use Rattle.element_traits.specs.Failures.{IsReadCause, IsWriteCause}
-use Rattle.element_traits.specs.declared.element.TaskElement as elements
-use Rattle.element_traits.specs.declared.refusal.Refusal.TheVariants.{Fault, Unwritten}
-use Rattle.element_traits.specs.declared.refusal.Unread.TheVariants as reads
-use Rattle.element_traits.specs.declared.source.TaskSource as givers
+use Rattle.net_model.specs.Failures.{IsReadCause, IsWriteCause}
+use Rattle.net_model.specs.declared.element.TaskElement as elements
+use Rattle.net_model.specs.declared.refusal.Refusal.TheVariants.{Fault, Unwritten}
+use Rattle.net_model.specs.declared.refusal.Unread.TheVariants as reads
+use Rattle.net_model.specs.declared.source.TaskSource as givers
 use Rattle.flow_model.specs.Item.{Item}
 use Rattle.graph_bags.specs.declared.bag.Bag.{Bag}
 use Rattle.graph_core.specs.Elements.{Made}
@@ -23,22 +23,22 @@ use Rattle.graph_ends.specs.Owed.{AreWritten, Refuses, went_from}
 use Rattle.graph_ends.specs.Runs.{crossed_in}
 use Rattle.graph_files.specs.Back.{HasElement, HasSource}
 use Rattle.graph_files.specs.Ends.{at as end_at, sink_end, source_end}
-use Rattle.graph_files.specs.Files.{OpensAt, WereTold, known_of}
-use Rattle.graph_model.specs.Asked.{first_pad}
+use Rattle.graph_files.specs.Files.{OpensAt, WereTold}
+use Rattle.graph_core.specs.Allowed.{first_pad}
 use Rattle.gst_item.specs.declared.fault.ElementFault.{ElementFault}
 use Rattle.gst_item.specs.declared.fault.ElementFault.TheVariants as own_faults
 use Rattle.gst_outside.specs.Causes.{Rose}
+use Rattle.gst_outside.specs.Seen.{Seen}
 use Rattle.gst_outside.specs.declared.sink.Sink as sinks
 use Rattle.gst_outside.specs.declared.source.Source as sources
 use Rattle.lane_core.specs.Lane.{Lane}
 use Rattle.lane_core.specs.declared.ends.Inlet as inlets
 use Rattle.lane_core.specs.declared.ends.Outlet as outlets
-use Rattle.graph_model.proofs.Links.{owner_at}
-use Rattle.graph_model.specs.GraphPlan.{pad_id}
+use Rattle.graph_core.proofs.NumberedPads.{owner_at}
+use Rattle.graph_core.specs.GraphPlan.{pad_id}
 use Rattle.net_model.specs.Moment.{Moment}
 use Rattle.net_task.specs.declared.task.Task.{Task}
-use Rattle.run_files.specs.Ends.{Known, known_end}
-use Rattle.run_files.specs.Seen.{Seen}
+use Rattle.run_files.specs.Ends.{Known, known_end, known_ends}
 use Rattle.run_files.specs.declared.end.End.{End}
 use Rattle.run_files.specs.declared.end.End.TheVariants.{Src, Snk}
 use Rattle.run_files.specs.declared.end.Opening.TheVariants.{Write}
@@ -51,12 +51,14 @@ use Rattle.task_elements.specs.declared.source.StreamSource.{StreamSource}
 use Rattle.task_parts.specs.Fault.{refusal_fault}
 use Rattle.task_parts.specs.declared.fault.TaskFault.{TaskFault}
 use Rattle.task_parts.specs.declared.fault.TaskFault.TheVariants as faults
-use Rattle.world_core.specs.Ended.{EndsRefused, EndsTooLong, EndsUnlinked, EndsUnread, EndsUnwritten, TellsRun}
+use Rattle.world_core.specs.Cut.{IsCutBefore}
+use Rattle.world_core.specs.Ended.{EndsRefused, EndsTooLong, EndsUnlinked, EndsUnread, EndsUnwritten, PassesLimit, TellsRun}
 use Rattle.world_core.specs.Ran.{KnownFailed, KnownHold}
 use Rattle.world_core.specs.Stopped.{HasRun}
 use Rattle.world_core.specs.Told.{element_fault, element_status, location_named, source_pad, task_fault, task_status}
 use Rattle.world_core.specs.declared.ended.WorldEnd.{WorldEnd}
-use Rattle.world_core.proofs.Blame.{IsFull, RefusedAt, link_blamed, own_blamed, write_blamed}
+use Rattle.world_core.proofs.Blame.{IsFull, RefusedAt, link_blamed, own_blamed, read_blamed, write_blamed}
+use Rattle.world_core.proofs.CutBefore.{cut_before}
 use Rattle.world_core.proofs.Files.{element_file, head_file, known_sink, known_source, one_element}
 use Rattle.world_core.proofs.Held.{AllBehind, RestHasCame, behind_held}
 use Rattle.world_core.proofs.Openers.{reader_opens, writer_opens}
@@ -96,7 +98,7 @@ module _ {S K I O L : Type 0} {giver : givers.Ghosts (StreamSource S)} {taker : 
     (ends : List (Option (End S K))) (fault : TaskFault) (end : WorldEnd) (told : IsTold graph last rest left ends (Some fault) end)
     (faulted : (contents : ℕ → List ℕ) → WereTold (made_in graph) before contents → IsFaulted k contents graph run.started.bags last rest fault) where
   abbrev known : List (Option Known)
-  known = known_of s k ends
+  known = known_ends s k ends
 
   abbrev made : List Made
   made = made_in graph
@@ -138,12 +140,13 @@ module _ {S K I O L : Type 0} {giver : givers.Ghosts (StreamSource S)} {taker : 
         fault = told.tells.fault ∙ ap (λ f. task_fault made f) is ∙ ap (λ l. told_faults.ReadFault l a b) (location_is n one opens.0 at opens.2);
         rose = cause.2;
         failed = (
-          known_end s.location s.content s.faults k.location k.bytes k.faults (Src file.0),
+          known_end s k (Src file.0),
           known_source s k graph first last rest left tells before run taken given ends told.back n opens.0 x file.0 (record { element = one; at = at; opens = opens.1 }) has file.1,
           subst (λ (c : ℕ). Rose 0 c) (sym file.2) (rose_zero a b cause.2),
           file.2,
         );
-        tells = all_told not_memory not_write (λ contents h bytes. AreWritten made (links_in graph) h bytes) (λ contents f. all_written graph f.m);
+        tells = all_told not_memory not_write (λ contents h bytes. AreWritten made (links_in graph) h bytes × IsCutBefore contents h n one.settings)
+            (λ contents f. (all_written graph f.m, cut_before contents (crossed_in graph f.m) n one.settings opens.0 opens.1 (read_blamed contents graph f.m fault f.blamed n a b is one at)));
       }
     where
       not_memory : fault ≢ faults.OutOfMemory
@@ -173,7 +176,7 @@ module _ {S K I O L : Type 0} {giver : givers.Ghosts (StreamSource S)} {taker : 
         fault = told.tells.fault ∙ ap (λ f. task_fault made f) is ∙ ap (λ l. told_faults.WriteFault l a b) (location_is n one opens.0 at opens.2);
         rose = cause.2;
         failed = (
-          known_end s.location s.content s.faults k.location k.bytes k.faults (Snk file.0),
+          known_end s k (Snk file.0),
           known_sink s k graph first last rest left tells before run taken given ends told.back n opens.0 x file.0 place has file.1,
           subst (λ (c : ℕ). Rose 0 c) (sym file.2) (rose_zero a b cause.2),
           file.2,
@@ -190,7 +193,7 @@ module _ {S K I O L : Type 0} {giver : givers.Ghosts (StreamSource S)} {taker : 
 
   -- the rule of an element has a fault, of which its pad's limit is none
   pub refused_ends : (n : ℕ) (one : Made) (own : ElementFault) → fault ≡ refusal_fault n (Fault own) → own ≢ own_faults.OutOfMemory → slice_get made n ≡ Some one
-      → ((contents : ℕ → List ℕ) → (f : IsFaulted k contents graph run.started.bags last rest fault) → IsFull graph f.m n own → ⊥)
+      → ((contents : ℕ → List ℕ) → (f : IsFaulted k contents graph run.started.bags last rest fault) → IsFull contents graph f.m n own → ⊥)
       → EndsRefused graph before (KnownHold graph known) end
   refused_ends n one own is memory at not_full = record {
     d = n;
@@ -229,7 +232,7 @@ module _ {S K I O L : Type 0} {giver : givers.Ghosts (StreamSource S)} {taker : 
       refuses : (contents : ℕ → List ℕ) → (f : IsFaulted k contents graph run.started.bags last rest fault) → Refuses contents made (links_in graph) (crossed_in graph f.m) n one.settings own
       refuses contents f = by (own_blamed contents graph f.m fault f.blamed n own is memory)
         where
-          by : RefusedAt contents graph f.m n own ⊎ IsFull graph f.m n own → Refuses contents made (links_in graph) (crossed_in graph f.m) n one.settings own
+          by : RefusedAt contents graph f.m n own ⊎ IsFull contents graph f.m n own → Refuses contents made (links_in graph) (crossed_in graph f.m) n one.settings own
           by (inl r) = subst (λ (x : Made). Refuses contents made (links_in graph) (crossed_in graph f.m) n x.settings own) (same_Some r.element one (sym r.at ∙ at)) r.refuses
           by (inr full) = absurd (not_full contents f full)
 
@@ -243,9 +246,21 @@ module _ {S K I O L : Type 0} {giver : givers.Ghosts (StreamSource S)} {taker : 
     element = one;
     at = at;
     fault = told.tells.fault ∙ ap (λ f. task_fault made f) is ∙ ap (λ name. told_faults.TooLong name 1099511627776 1) (name_is n one at);
-    tells = all_told not_memory not_write _ (λ contents f. (all_written graph f.m, full contents f));
+    tells = all_told not_memory not_write _ (λ contents f. (all_written graph f.m, full contents f, passed contents f));
   }
     where
+      passed : (contents : ℕ → List ℕ) → (f : IsFaulted k contents graph run.started.bags last rest fault)
+          → PassesLimit contents made (links_in graph) (crossed_in graph f.m) n one.settings
+      passed contents f = by (own_blamed contents graph f.m fault f.blamed n (own_faults.TooLong 1099511627776 1) is no_want)
+        where
+          no_want : own_faults.TooLong 1099511627776 1 ≢ own_faults.OutOfMemory
+          no_want e = cc
+
+          by : RefusedAt contents graph f.m n (own_faults.TooLong 1099511627776 1) ⊎ IsFull contents graph f.m n (own_faults.TooLong 1099511627776 1)
+              → PassesLimit contents made (links_in graph) (crossed_in graph f.m) n one.settings
+          by (inl r) = inr (subst (λ (x : Made). Refuses contents made (links_in graph) (crossed_in graph f.m) n x.settings (own_faults.TooLong 1099511627776 1)) (same_Some r.element one (sym r.at ∙ at)) r.refuses)
+          by (inr at_limit) = inl at_limit.more
+
       not_memory : fault ≢ faults.OutOfMemory
       not_memory e = cc
 

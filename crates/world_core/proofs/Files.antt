@@ -6,9 +6,8 @@ use Rattle.std.proofs.lemmas.List.{length-map}
 use Rattle.std.proofs.lemmas.Option.{slice_get_within}
 use Rattle.el_set.specs.Gives.{source_file}
 use Rattle.el_set.specs.Made.{file_for, read_for}
-use Rattle.el_set.specs.declared.settings.Settings.{Settings}
-use Rattle.element_traits.specs.declared.element.TaskElement as elements
-use Rattle.element_traits.specs.declared.source.TaskSource as givers
+use Rattle.net_model.specs.declared.element.TaskElement as elements
+use Rattle.net_model.specs.declared.source.TaskSource as givers
 use Rattle.flow_model.specs.Account.{IsMember}
 use Rattle.graph_bags.specs.Links.{is_source}
 use Rattle.graph_core.specs.Elements.{Made}
@@ -17,7 +16,7 @@ use Rattle.graph_core.specs.declared.graph.Graph.{Graph}
 use Rattle.graph_ends.specs.Frames.{HaveBags}
 use Rattle.graph_files.specs.Back.{GivesBack, HasElement, HasHead, HasPart, HasSource, IsHead, Wrote}
 use Rattle.graph_files.specs.Ends.{at, left_by, sink_end, source_end}
-use Rattle.graph_files.specs.Files.{AreLocated, OpensAt, known_of}
+use Rattle.graph_files.specs.Files.{AreLocated, OpensAt}
 use Rattle.graph_files.specs.Put.{Among, IsPutAt, PutBack}
 use Rattle.graph_files.specs.declared.counts.Count.{Count}
 use Rattle.graph_tasks.specs.Tasks.{IsOf}
@@ -25,14 +24,14 @@ use Rattle.graph_tasks.specs.Wired.{number_in, part_numbers}
 use Rattle.graph_tasks.specs.declared.wired_task.WiredTask.{WiredTask}
 use Rattle.graph_tasks.proofs.Lists.{get_map, get_member, got_within}
 use Rattle.graph_tasks.proofs.Takes.{one_of, without_stays, without_stood}
+use Rattle.gst_outside.specs.Seen.{Seen}
 use Rattle.gst_outside.specs.declared.sink.Sink as sinks
 use Rattle.gst_outside.specs.declared.source.Source as sources
 use Rattle.lane_core.specs.Lane.{Lane}
 use Rattle.lane_core.specs.declared.ends.Inlet as inlets
 use Rattle.lane_core.specs.declared.ends.Outlet as outlets
 use Rattle.net_task.specs.declared.task.Task.{Task}
-use Rattle.run_files.specs.Ends.{known_end}
-use Rattle.run_files.specs.Seen.{Seen}
+use Rattle.run_files.specs.Ends.{known_end, known_ends}
 use Rattle.run_files.specs.declared.end.End.{End}
 use Rattle.run_files.specs.declared.end.End.TheVariants.{Src, Snk}
 use Rattle.run_files.specs.declared.end.Opening.TheVariants.{Read, Write}
@@ -46,12 +45,13 @@ use Rattle.task_parts.specs.declared.part.Part.{Part}
 use Rattle.world_core.specs.Prepared.{HasRoom}
 use Rattle.world_core.specs.Stopped.{HasRun}
 use Rattle.world_core.proofs.Bagged.{tasks_have, tasks_keep}
-use Rattle.world_core.proofs.ByKind.{opens_nothing, reader, writer}
+use Rattle.graph_files.proofs.OwnFiles.{reader, writer}
 use Rattle.world_core.proofs.Headed.{GivenFrom, HeadAt, given_from, head_there, one_head}
 use Rattle.world_core.proofs.Members.{flat_member, mapped, member_or, without_gone}
 use Rattle.world_core.proofs.Opened.{element_made, element_writes, end_count, got_end, known, none_at, sink_at, source_at, source_reads}
 use Rattle.world_core.proofs.Returned.{has_length, put_length, put_none, put_sink, put_source}
 use Rattle.world_core.proofs.Traced.{PartAt, TakenFrom, one_part, part_there, taken_from}
+use Rattle.el_set.proofs.Openings.{read_own, written_own}
 
 module _ {S K I O L : Type 0} {giver : givers.Ghosts (StreamSource S)} {taker : elements.Ghosts (StreamElement K)}
     {i : inlets.Ghosts I L O} {o : outlets.Ghosts O L}
@@ -192,7 +192,7 @@ module _ {S K I O L : Type 0} {giver : givers.Ghosts (StreamSource S)} {taker : 
         let own = writer opens.element.settings location opens.opens in
         let is : option_map k.location (file_in x) ≡ Some (Some location) =
         element_file d opens.element x opens.at has
-        ∙ ap (λ (settings : Settings). option_map k.location (file_for settings (sink_end (at run.started.ends d)))) own.is
+        ∙ ap (option_map k.location) (written_own opens.element.settings (sink_end (at run.started.ends d)) own.writing)
         ∙ ap (λ (end : Option (End S K)). option_map k.location (sink_end end)) file.1
         ∙ ap (λ (place : Option (List ℕ)). Some place) file.2 in
         mapped k.location (file_in x) (Some location) is
@@ -225,7 +225,7 @@ module _ {S K I O L : Type 0} {giver : givers.Ghosts (StreamSource S)} {taker : 
         let own = reader opens.element.settings location opens.opens in
         let is : option_map s.location (source_file x.source) ≡ Some (Some location) =
         head_file e opens.element x opens.at has
-        ∙ ap (λ (settings : Settings). option_map s.location (read_for settings (source_end (at run.started.ends e)))) own.is
+        ∙ ap (option_map s.location) (read_own opens.element.settings (source_end (at run.started.ends e)) own.reading)
         ∙ ap (λ (end : Option (End S K)). option_map s.location (source_end end)) file.1
         ∙ ap (λ (place : Option (List ℕ)). Some place) file.2 in
         mapped s.location (source_file x.source) (Some location) is
@@ -242,7 +242,7 @@ module _ {S K I O L : Type 0} {giver : givers.Ghosts (StreamSource S)} {taker : 
     -- the end that is given back of a sink is its file, and so is that of a source
     pub known_sink : (d : ℕ) (location : List ℕ) (x : StreamElement K) (file : K) → OpensAt (made_in graph) d (Write location) → HasElement last rest d x
         → file_in x ≡ Some file
-        → slice_get (known_of s k ends) d ≡ Some (Some (known_end s.location s.content s.faults k.location k.bytes k.faults (Snk file)))
+        → slice_get (known_ends s k ends) d ≡ Some (Some (known_end s k (Snk file)))
     known_sink d location x file opens has is =
         get_map (option_map (known s k)) ends d (Some (Snk file))
         (put_sink (made_in graph) (HasSource last) (HasElement last rest) left ends one_element one_source d opens.element location x file opens.at
@@ -250,27 +250,27 @@ module _ {S K I O L : Type 0} {giver : givers.Ghosts (StreamSource S)} {taker : 
 
     pub known_source : (e : ℕ) (location : List ℕ) (x : StreamSource S) (file : S) → OpensAt (made_in graph) e (Read location) → HasSource last e x
         → source_file x.source ≡ Some file
-        → slice_get (known_of s k ends) e ≡ Some (Some (known_end s.location s.content s.faults k.location k.bytes k.faults (Src file)))
+        → slice_get (known_ends s k ends) e ≡ Some (Some (known_end s k (Src file)))
     known_source e location x file opens has is =
         get_map (option_map (known s k)) ends e (Some (Src file))
         (put_source (made_in graph) (HasSource last) (HasElement last rest) left ends one_element one_source e opens.element location x file opens.at
         (reader opens.element.settings location opens.opens) has is (put_at e opens.element opens.at))
 
     -- the ends that are given back are where they were opened
-    pub run_located : AreLocated (made_in graph) (known_of s k ends)
+    pub run_located : AreLocated (made_in graph) (known_ends s k ends)
     run_located = record {
       size =
           length-map ends (option_map (known s k)) ∙ back.count ∙ run.started.filled.end_count
           ∙ end_count s k (made_in graph) run.started.ends before run.started.opened run.started.opens;
       written = λ d m location here opens.
           let own = writer m.settings location opens in
-          let x = element_there d m here (ap is_source own.is) in
+          let x = element_there d m here own.no_source in
           let at : OpensAt (made_in graph) d (Write location) = record { element = m; at = here; opens = opens } in
           let file = written_file taken d location x.0 at x.1 in
           record { end = known s k (Snk file.0); at = known_sink d location x.0 file.0 at x.1 file.1; kind = refl; place = file.2 };
       read = λ e m location here opens.
           let own = reader m.settings location opens in
-          let x = source_there e m here (ap is_source own.is) in
+          let x = source_there e m here own.source in
           let at : OpensAt (made_in graph) e (Read location) = record { element = m; at = here; opens = opens } in
           let file = read_file given e location x.0 at x.1 in
           record { end = known s k (Src file.0); at = known_source e location x.0 file.0 at x.1 file.1; kind = refl; place = file.2 };
@@ -280,8 +280,7 @@ module _ {S K I O L : Type 0} {giver : givers.Ghosts (StreamSource S)} {taker : 
           let was = got_within left d (omega (arith, w, count, run.started.filled.end_count)) in
           let none =
           sym (got_end left d was.0 was.1) ∙ (run.started.filled.each d m here).left_is
-          ∙ ap (left_by m.settings) (none_at s k (made_in graph) run.started.ends before run.started.opened run.started.opens d m here opens)
-          ∙ (opens_nothing S K m.settings opens).none_left in
+          ∙ ap (left_by m.settings) (none_at s k (made_in graph) run.started.ends before run.started.opened run.started.opens d m here opens) in
           get_map (option_map (known s k)) ends d None
           (put_none (made_in graph) (HasSource last) (HasElement last rest) left ends one_element one_source d m here opens (put_at d m here)
           ∙ was.1 ∙ ap (λ (end : Option (End S K)). Some end) none);

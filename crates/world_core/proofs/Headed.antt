@@ -3,8 +3,8 @@ use Rattle.std.proofs.Common.{◌≡◌, ◌||◌, ℕ, Bool, true, false, List,
 use Rattle.std.specs.Prelude.{slice_get}
 use Rattle.std.specs.Option.{option_map_or}
 use Rattle.std.proofs.lemmas.Option.{same_Some, slice_get_within}
-use Rattle.element_traits.specs.declared.element.TaskElement as elements
-use Rattle.element_traits.specs.declared.source.TaskSource as givers
+use Rattle.net_model.specs.declared.element.TaskElement as elements
+use Rattle.net_model.specs.declared.source.TaskSource as givers
 use Rattle.flow_model.specs.Account.{IsMember}
 use Rattle.graph_bags.specs.Bags.{AreBags, IsBag, IsHead, Once, head_number}
 use Rattle.graph_bags.specs.Links.{has, has_inlets, is_head, is_source}
@@ -30,8 +30,8 @@ use Rattle.net_turns.specs.Rests.{AllFramed}
 use Rattle.task_parts.specs.declared.head.Head.{Head}
 use Rattle.task_parts.specs.declared.head.Head.TheVariants.{Source, Inlets}
 use Rattle.task_parts.specs.declared.head.SourceHead.{SourceHead}
-use Rattle.world_core.proofs.ByKind.{queue_pads}
 use Rattle.world_core.proofs.Members.{flat_place}
+use Rattle.el_set.proofs.Roles.{queue_no_source}
 
 -- The source of a head was taken from under its number, and reads its file where it did.
 pub record GivenFrom {S I O : Type 0} (s : givers.Ghosts S) (files : List (Option S)) (plans : List (WiredTask I O)) (k e : ℕ) (x : S) : Type 0 where
@@ -114,7 +114,7 @@ source_bag : (made : List Made) (e : ℕ) (m : Made) (head : BagHead) → slice_
     → head_number head ≡ e
     → (cell : BagElement) × (head ≡ bags_of.Source cell) × (cell.element ≡ e)
 source_bag made e m (bags_of.Source cell) here pads is same = (cell, refl, same)
-source_bag made e m (bags_of.Inlets n) here pads is same = absurd (no (queue_pads m.settings queue))
+source_bag made e m (bags_of.Inlets n) here pads is same = absurd (no (queue_no_source m.settings queue))
   where
     queue : has_inlets m.settings ≡ true
     queue =

@@ -1,16 +1,16 @@
 mod Blame
 mod Choosing
+mod CutBefore
 mod Closing
 mod Counted
 mod FaultEnds
 mod Faulted
-mod ByKind
 mod Bagged
 mod Members
 mod Traced
 mod Headed
+mod Openers
 mod Opened
-mod SourceKinds
 mod AtHand
 mod Standing
 mod Started
@@ -20,7 +20,6 @@ mod Whole
 mod Returned
 mod Files
 mod Held
-mod Openers
 mod Meeting
 mod Parts
 mod Rooms

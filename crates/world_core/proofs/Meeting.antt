@@ -2,22 +2,22 @@
 use Rattle.std.proofs.Common.{◌≡◌, ◌<◌, ℕ, List, Option, None, Some, length, refl, sym, ap, ◌∙◌, subst, inl}
 use Rattle.std.specs.Prelude.{slice_get}
 use Rattle.std.proofs.lemmas.Option.{none-some, same_Some}
-use Rattle.element_traits.specs.declared.element.TaskElement as elements
-use Rattle.element_traits.specs.declared.source.TaskSource as givers
-use Rattle.element_traits.specs.declared.refusal.Refusal.{Refusal}
-use Rattle.element_traits.specs.declared.refusal.Unread.{Unread}
-use Rattle.element_traits.specs.Failures.{IsReadCause, IsWriteCause}
+use Rattle.net_model.specs.declared.element.TaskElement as elements
+use Rattle.net_model.specs.declared.source.TaskSource as givers
+use Rattle.net_model.specs.declared.refusal.Refusal.{Refusal}
+use Rattle.net_model.specs.declared.refusal.Unread.{Unread}
+use Rattle.net_model.specs.Failures.{IsReadCause, IsWriteCause}
 use Rattle.graph_core.specs.Elements.{Made}
 use Rattle.graph_core.specs.Links.{sink_behind}
 use Rattle.graph_core.specs.declared.pad.PadLink.{PadLink}
 use Rattle.graph_ends.specs.Blamed.{IsTold}
 use Rattle.graph_files.specs.Back.{HasElement, HasSource, IsHead}
 use Rattle.graph_tasks.proofs.Lists.{got_within}
-use Rattle.graph_model.specs.Asked.{first_pad}
+use Rattle.graph_core.specs.Allowed.{first_pad}
 use Rattle.lane_core.specs.Lane.{Lane}
 use Rattle.lane_core.specs.declared.ends.Inlet as inlets
 use Rattle.lane_core.specs.declared.ends.Outlet as outlets
-use Rattle.graph_model.specs.GraphPlan.{pad_id}
+use Rattle.graph_core.specs.GraphPlan.{pad_id}
 use Rattle.net_task.specs.Failed.{IsUnread}
 use Rattle.net_task.specs.Frame.{TaskFrame, frame_of, head_frame}
 use Rattle.net_task.specs.declared.task.Task.{Task}

@@ -14,18 +14,18 @@ use Rattle.graph_files.specs.Filled.{AreFilled, IsGiverFor, IsMadeFor}
 use Rattle.graph_tasks.specs.Tasks.{IsOf}
 use Rattle.graph_tasks.proofs.Lists.{get_map, map_got}
 use Rattle.graph_tasks.proofs.Takes.{some_there, there_some}
+use Rattle.gst_outside.specs.Seen.{Seen}
 use Rattle.gst_outside.specs.declared.sink.Sink as sinks
 use Rattle.gst_outside.specs.declared.source.Source as sources
 use Rattle.run_files.specs.Ends.{Known, known_end}
 use Rattle.run_files.specs.Opening.{fresh_end}
-use Rattle.run_files.specs.Seen.{Seen}
 use Rattle.run_files.specs.declared.end.End.{End}
 use Rattle.run_files.specs.declared.end.End.TheVariants.{Src, Snk}
 use Rattle.run_files.specs.declared.end.Opening.TheVariants.{Read, Write}
 use Rattle.task_elements.specs.Stands.{file_in}
 use Rattle.task_elements.specs.declared.element.StreamElement.{StreamElement}
 use Rattle.task_elements.specs.declared.source.StreamSource.{StreamSource}
-use Rattle.world_core.proofs.ByKind.{makes}
+use Rattle.world_core.proofs.Openers.{makes}
 
 -- an end under a number
 pub got_end : {A : Type 0} (xs : List (Option A)) (n : ℕ) (x : Option A) → slice_get xs n ≡ Some x → get_or xs n None ≡ x
@@ -35,7 +35,7 @@ got_end (y ∷ ys) (suc n) x here = got_end ys n x here
 
 module _ {S K : Type 0} (s : sources.Ghosts S) (k : sinks.Ghosts K) where
   abbrev pub known : End S K → Known
-  known = known_end s.location s.content s.faults k.location k.bytes k.faults
+  known = known_end s k
 
   -- an end that was opened to be written is a file there, and one that was opened to be read too
   sink_opened : (before : Seen) (location : List ℕ) (end : Option (End S K)) → Some (fresh_end before (Write location)) ≡ option_map known end

@@ -1,64 +1,106 @@
--- What an element opens tells of its pads.
-use Rattle.std.proofs.Common.{◌≡◌, ℕ, true, false, List, Option, Some, refl}
+-- What is made of an element, what it reads and what it writes, by what it opens.
+use Rattle.std.proofs.Common.{◌≡◌, ◌||◌, not, ℕ, Bool, true, false, eqb, if◌then◌else◌, List, [], Option, Some, None, is_some, refl, sym, ap, ◌∙◌, subst}
 use Rattle.std.proofs.lemmas.Option.{none-some, same_Some}
-use Rattle.el_set.specs.Asked.{location_of}
-use Rattle.el_set.specs.Made.{file_for, read_for}
+use Rattle.el_set.specs.Asked.{is_filter, is_queue, location_of, reads, source_pads, writes}
+use Rattle.el_set.specs.Gives.{source_content, source_file}
+use Rattle.el_set.specs.Made.{IsEmpty, file_for, list_of, makes_sink, makes_source, read_for}
 use Rattle.el_set.specs.declared.settings.Settings.{Settings}
-use Rattle.el_set.specs.declared.settings.Settings.TheVariants.{FileSrc, RampTestSrc, Identity, AudioConvert, Law, RawAudioParse, AudioBufferSplit, WavParse, WavEnc, CapsFilter, Queue, FileSink, FakeSink}
+use Rattle.el_set.specs.declared.source.SourceElement.{SourceElement}
+use Rattle.el_set.specs.declared.source.SourceElement.TheVariants.{File, Ramp}
+use Rattle.el_set.proofs.Lists.{list_read}
+use Rattle.el_set.proofs.Openings.{content_is, read_is, sink_with, source_with, written_is}
+use Rattle.el_set.proofs.Roles.{between_pads}
 use Rattle.graph_bags.specs.Links.{is_source}
-use Rattle.graph_files.specs.Ends.{writes}
 use Rattle.graph_files.specs.Files.{opening_of}
+use Rattle.graph_files.proofs.OwnFiles.{reading_opens, writing_opens}
 use Rattle.run_files.specs.declared.end.Opening.TheVariants.{Read, Write}
+use Rattle.task_elements.specs.Made.{makes_element}
 
--- one that writes a location has no source pad, and a sink pad
-pub record IsWriter (settings : Settings) : Type 0 where
-  pub no_source : is_source settings ≡ false
-  pub written : writes settings ≡ true
+-- an element with a sink pad is made, one that writes a file where that is there
+pub makes : {K : Type 0} (settings : Settings) (file : Option K) → is_source settings ≡ false
+    → ((location : List ℕ) → opening_of settings ≡ Some (Write location) → is_some file ≡ true) → makes_element settings file ≡ true
+makes settings file pads there = by (eqb (source_pads settings) 0) refl
+  where
+    first : (filter queue sink : Bool) → (filter || queue) ≡ true → (filter || (queue || sink)) ≡ true
+    first true queue sink is = refl
+    first false true sink is = refl
+    first false false sink is = absurd (cc)
 
-pub writer_is : (settings : Settings) (location : List ℕ) → opening_of settings ≡ Some (Write location) → IsWriter settings
-writer_is (FileSrc s) location opens = let no = same_Some (Read s.location) (Write location) opens in absurd (cc)
-writer_is (RampTestSrc s) location opens = absurd (none-some (Write location) opens)
-writer_is Identity location opens = absurd (none-some (Write location) opens)
-writer_is (CapsFilter s) location opens = absurd (none-some (Write location) opens)
-writer_is (Queue s) location opens = absurd (none-some (Write location) opens)
-writer_is (AudioConvert s) location opens = absurd (none-some (Write location) opens)
-writer_is (Law kind) location opens = absurd (none-some (Write location) opens)
-writer_is (RawAudioParse info) location opens = absurd (none-some (Write location) opens)
-writer_is (AudioBufferSplit s) location opens = absurd (none-some (Write location) opens)
-writer_is WavParse location opens = absurd (none-some (Write location) opens)
-writer_is WavEnc location opens = absurd (none-some (Write location) opens)
-writer_is (FileSink s) location opens = record { no_source = refl; written = refl }
-writer_is FakeSink location opens = absurd (none-some (Write location) opens)
+    last : (filter queue sink : Bool) → sink ≡ true → (filter || (queue || sink)) ≡ true
+    last true queue sink is = refl
+    last false true sink is = refl
+    last false false sink is = is
+
+    own : writes settings ≡ true → is_some file ≡ true
+    own writing = let opens = writing_opens settings writing in there opens.0 opens.1
+
+    by : (none : Bool) → eqb (source_pads settings) 0 ≡ none → makes_element settings file ≡ true
+    by true none = last (is_filter settings) (is_queue settings) (makes_sink settings file) (sink_with settings file none own)
+    by false some = first (is_filter settings) (is_queue settings) (makes_sink settings file) (between_pads settings pads ∙ ap not some)
+
+-- a source is made, one that reads a file where that is there
+pub gives : {S : Type 0} (settings : Settings) (file : Option S) → is_source settings ≡ true
+    → ((location : List ℕ) → opening_of settings ≡ Some (Read location) → is_some file ≡ true) → makes_source settings file ≡ true
+gives settings file pads there = source_with settings file pads (λ reading. let opens = reading_opens settings reading in there opens.0 opens.1)
+
+-- what an element writes is empty, where the file is that was opened for it
+pub written_empty : {K : Type 0} (bytes : K → Option (List ℕ)) (settings : Settings) (file : Option K)
+    → ((location : List ℕ) → opening_of settings ≡ Some (Write location) → IsEmpty bytes file) → IsEmpty bytes (file_for settings file)
+written_empty {K} bytes settings file empty = subst (λ (own : Option K). IsEmpty bytes own) (sym (written_is settings file)) (by (writes settings) refl)
+  where
+    by : (b : Bool) → writes settings ≡ b → IsEmpty bytes (if b then file else None)
+    by true writing = let opens = writing_opens settings writing in empty opens.0 opens.1
+    by false none = tt
+
+-- The content of what a source reads is told, and by that it owes the list of its settings.
+pub record IsTold {S : Type 0} (content : S → Option (List ℕ)) (settings : Settings) (n : ℕ) (source : SourceElement S) (told : List ℕ) : Type 0 where
+  pub is : List ℕ
+  pub told_is : source_content content source ≡ Some is
+  pub same : list_of settings n is ≡ list_of settings n told
+
+module _ {S : Type 0} (content : S → Option (List ℕ)) where
+  of_file : (source : SourceElement S) (file : S) (told : List ℕ) → source_file source ≡ Some file → content file ≡ Some told
+      → source_content content source ≡ Some told
+  of_file (File own) file told is told_is = ap content (same_Some _ file is) ∙ told_is
+  of_file (Ramp ramp) file told is told_is = absurd (cc)
+
+  of_none : (source : SourceElement S) → source_file source ≡ None → source_content content source ≡ Some []
+  of_none (File own) is = absurd (cc)
+  of_none (Ramp ramp) is = refl
+
+  pub told_of : (settings : Settings) (n : ℕ) (file : Option S) (source : SourceElement S) (told : List ℕ) → source_file source ≡ read_for settings file
+      → ((location : List ℕ) → opening_of settings ≡ Some (Read location) → (one : S) × (file ≡ Some one) × (content one ≡ Some told))
+      → IsTold content settings n source told
+  told_of settings n file source told is opens = by (reads settings) refl
+    where
+      own_file : (b : Bool) → reads settings ≡ b → source_file source ≡ (if b then file else None)
+      own_file b reading = is ∙ read_is settings file ∙ ap (λ (so : Bool). if so then file else None) reading
+
+      by : (b : Bool) → reads settings ≡ b → IsTold content settings n source told
+      by true reading =
+          let opening = reading_opens settings reading in
+          let own = opens opening.0 opening.1 in
+          record { is = told; told_is = of_file source own.0 told (own_file true reading ∙ own.1) own.2; same = refl }
+      by false none =
+          record {
+            is = [];
+            told_is = of_none source (own_file false none);
+            same = ap (list_of settings n) (sym (content_is settings told ∙ ap (λ (so : Bool). if so then told else []) none)) ∙ list_read settings n told;
+          }
 
 -- an element whose settings have it write a file opens that, and so does one that reads
 pub writer_opens : {K : Type 0} (settings : Settings) (file : Option K) (one : K) → file_for settings file ≡ Some one
     → (location : List ℕ) × (opening_of settings ≡ Some (Write location)) × (location_of settings ≡ Some location)
-writer_opens (FileSrc s) file one is = absurd (none-some one is)
-writer_opens (RampTestSrc s) file one is = absurd (none-some one is)
-writer_opens Identity file one is = absurd (none-some one is)
-writer_opens (CapsFilter s) file one is = absurd (none-some one is)
-writer_opens (Queue s) file one is = absurd (none-some one is)
-writer_opens (AudioConvert s) file one is = absurd (none-some one is)
-writer_opens (Law kind) file one is = absurd (none-some one is)
-writer_opens (RawAudioParse info) file one is = absurd (none-some one is)
-writer_opens (AudioBufferSplit s) file one is = absurd (none-some one is)
-writer_opens WavParse file one is = absurd (none-some one is)
-writer_opens WavEnc file one is = absurd (none-some one is)
-writer_opens (FileSink s) file one is = (s.location, refl, refl)
-writer_opens FakeSink file one is = absurd (none-some one is)
+writer_opens {K} settings file one is = by (writes settings) refl
+  where
+    by : (b : Bool) → writes settings ≡ b → (location : List ℕ) × (opening_of settings ≡ Some (Write location)) × (location_of settings ≡ Some location)
+    by true writing = writing_opens settings writing
+    by false none = absurd (none-some one (sym (written_is settings file ∙ ap (λ (so : Bool). if so then file else None) none) ∙ is))
 
 pub reader_opens : {S : Type 0} (settings : Settings) (file : Option S) (one : S) → read_for settings file ≡ Some one
     → (location : List ℕ) × (opening_of settings ≡ Some (Read location)) × (location_of settings ≡ Some location)
-reader_opens (FileSrc s) file one is = (s.location, refl, refl)
-reader_opens (RampTestSrc s) file one is = absurd (none-some one is)
-reader_opens Identity file one is = absurd (none-some one is)
-reader_opens (CapsFilter s) file one is = absurd (none-some one is)
-reader_opens (Queue s) file one is = absurd (none-some one is)
-reader_opens (AudioConvert s) file one is = absurd (none-some one is)
-reader_opens (Law kind) file one is = absurd (none-some one is)
-reader_opens (RawAudioParse info) file one is = absurd (none-some one is)
-reader_opens (AudioBufferSplit s) file one is = absurd (none-some one is)
-reader_opens WavParse file one is = absurd (none-some one is)
-reader_opens WavEnc file one is = absurd (none-some one is)
-reader_opens (FileSink s) file one is = absurd (none-some one is)
-reader_opens FakeSink file one is = absurd (none-some one is)
+reader_opens {S} settings file one is = by (reads settings) refl
+  where
+    by : (b : Bool) → reads settings ≡ b → (location : List ℕ) × (opening_of settings ≡ Some (Read location)) × (location_of settings ≡ Some location)
+    by true reading = reading_opens settings reading
+    by false none = absurd (none-some one (sym (read_is settings file ∙ ap (λ (so : Bool). if so then file else None) none) ∙ is))

@@ -4,8 +4,8 @@ use Rattle.std.specs.Prelude.{nat_lt, slice_get}
 use Rattle.std.specs.Option.{option_map_or}
 use Rattle.std.proofs.lemmas.Bool.{le-ltb}
 use Rattle.std.proofs.lemmas.Bool.Decides.{eqb_tells}
-use Rattle.element_traits.specs.declared.element.TaskElement as elements
-use Rattle.element_traits.specs.declared.source.TaskSource as sources
+use Rattle.net_model.specs.declared.element.TaskElement as elements
+use Rattle.net_model.specs.declared.source.TaskSource as sources
 use Rattle.el_set.specs.Asked.{source_pads}
 use Rattle.graph_bags.specs.Laws.{StandsIn}
 use Rattle.graph_bags.specs.declared.bag.Bag.{Bag}
@@ -22,11 +22,11 @@ use Rattle.graph_files.specs.Ends.{has}
 use Rattle.graph_files.specs.Put.{PutBack}
 use Rattle.graph_files.specs.declared.counts.Count.{Count}
 use Rattle.graph_moment.specs.Pads.{is_pad, source_count}
-use Rattle.graph_model.specs.Asked.{first_pad}
+use Rattle.graph_core.specs.Allowed.{first_pad}
 use Rattle.lane_core.specs.declared.ends.Inlet as inlets
 use Rattle.lane_core.specs.declared.ends.Outlet as outlets
-use Rattle.graph_model.proofs.Links.{owner_at}
-use Rattle.graph_model.specs.GraphPlan.{most_pads, pad_id}
+use Rattle.graph_core.proofs.NumberedPads.{owner_at}
+use Rattle.graph_core.specs.GraphPlan.{most_pads, pad_id}
 use Rattle.net_model.specs.Moment.{Moment}
 use Rattle.net_task.specs.declared.task.Task.{Task}
 use Rattle.world_core.specs.Prepared.{HasRoom}

@@ -3,8 +3,8 @@ use Rattle.std.proofs.Common.{◌≡◌, ◌⊎◌, ◌++◌, ℕ, true, false, 
 use Rattle.std.specs.Prelude.{slice_get}
 use Rattle.std.specs.Option.{option_map_or}
 use Rattle.std.proofs.lemmas.Option.{slice_get_within}
-use Rattle.element_traits.specs.declared.element.TaskElement as elements
-use Rattle.element_traits.specs.declared.source.TaskSource as givers
+use Rattle.net_model.specs.declared.element.TaskElement as elements
+use Rattle.net_model.specs.declared.source.TaskSource as givers
 use Rattle.flow_model.specs.Account.{IsMember}
 use Rattle.flow_model.specs.Item.{Item}
 use Rattle.graph_bags.specs.Bags.{IsBag, IsHead, head_cells, number_of}
@@ -24,6 +24,7 @@ use Rattle.graph_tasks.specs.Wired.{number_in, part_numbers}
 use Rattle.graph_tasks.specs.declared.wired_task.WiredTask.{WiredTask}
 use Rattle.graph_tasks.proofs.Lists.{all_at, get_map, get_member, got_within, map_got}
 use Rattle.graph_tasks.proofs.Takes.{without_stood}
+use Rattle.gst_outside.specs.Seen.{Seen}
 use Rattle.gst_outside.specs.declared.sink.Sink as sinks
 use Rattle.gst_outside.specs.declared.source.Source as sources
 use Rattle.lane_core.specs.Lane.{Lane}
@@ -31,7 +32,6 @@ use Rattle.lane_core.specs.declared.ends.Inlet as inlets
 use Rattle.lane_core.specs.declared.ends.Outlet as outlets
 use Rattle.net_model.specs.Moment.{Moment}
 use Rattle.net_task.specs.declared.task.Task.{Task}
-use Rattle.run_files.specs.Seen.{Seen}
 use Rattle.run_files.specs.declared.end.End.{End}
 use Rattle.run_files.specs.declared.end.Opening.TheVariants.{Write}
 use Rattle.task_elements.specs.Made.{behavior_of}
@@ -39,7 +39,7 @@ use Rattle.task_elements.specs.declared.element.StreamElement.{StreamElement}
 use Rattle.task_elements.specs.declared.source.StreamSource.{StreamSource}
 use Rattle.world_core.specs.Start.{IsStarted}
 use Rattle.world_core.proofs.AtHand.{made_at}
-use Rattle.world_core.proofs.ByKind.{writer}
+use Rattle.graph_files.proofs.OwnFiles.{writer}
 use Rattle.world_core.proofs.Held.{RestHasCame, fresh_all}
 use Rattle.world_core.proofs.Members.{flat_member, member_got, without_gone}
 use Rattle.world_core.proofs.Settled.{IsSettled}
@@ -109,7 +109,7 @@ module _ {S K I O L : Type 0} {giver : givers.Ghosts (StreamSource S)} {taker : 
       none : has is_source (made_in graph) d ≡ false
       none =
           ap (λ (found : Option Made). option_map_or (λ (m : Made). is_source m.settings) found false) opens.at
-          ∙ ap is_source (writer opens.element.settings location opens.opens).is
+          ∙ (writer opens.element.settings location opens.opens).no_source
 
       by : IsMember d (map number_of in_bag.bag.elements.items) ⊎ IsMember d (map number_of (head_cells in_bag.bag.head)) → ⊥
       by (inl m) = rest_untaken d x is (bag_taken j d in_bag.bag in_bag.is m)

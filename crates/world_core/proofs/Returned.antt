@@ -5,19 +5,21 @@ use Rattle.std.specs.Option.{option_map, option_map_or}
 use Rattle.el_set.specs.Gives.{source_file}
 use Rattle.el_set.specs.declared.settings.Settings.{Settings}
 use Rattle.el_set.specs.declared.sink.SinkElement.TheVariants as sink_elements
+use Rattle.el_set.proofs.Openings.{opens_none}
 use Rattle.el_sink.specs.Held.{length_of}
 use Rattle.graph_core.specs.Elements.{Made}
 use Rattle.graph_files.specs.Back.{Gives, HasLength, read_end, written_end}
-use Rattle.graph_files.specs.Ends.{has, reads, writes}
+use Rattle.el_set.specs.Asked.{reads, writes}
+use Rattle.graph_files.specs.Ends.{has}
 use Rattle.graph_files.specs.Files.{opening_of}
 use Rattle.graph_files.specs.Put.{IsPutAt}
+use Rattle.graph_files.proofs.OwnFiles.{IsReader, IsWriter, no_place}
 use Rattle.run_files.specs.declared.end.End.{End}
 use Rattle.run_files.specs.declared.end.End.TheVariants.{Src, Snk}
 use Rattle.task_elements.specs.Stands.{file_in, len_in}
 use Rattle.task_elements.specs.declared.element.StreamElement.{StreamElement}
 use Rattle.task_elements.specs.declared.element.StreamElement.TheVariants.{Filter, Queue, Sink}
 use Rattle.task_elements.specs.declared.source.StreamSource.{StreamSource}
-use Rattle.world_core.proofs.ByKind.{IsReader, IsWriter, opens_nothing}
 
 -- an element that has a file has its length
 pub has_length : {K : Type 0} (x : StreamElement K) (file : K) → file_in x ≡ Some file → (n : ℕ) × (len_in x ≡ Some n)
@@ -61,12 +63,12 @@ module _ {S K : Type 0} (made : List Made) where
     pub put_sink : (d : ℕ) (m : Made) (location : List ℕ) (x : StreamElement K) (file : K) → slice_get made d ≡ Some m → IsWriter m.settings location → Has d x
         → file_in x ≡ Some file → IsPutAt (Gives made Reads Has) old new d → slice_get new d ≡ Some (Some (Snk file))
     put_sink d m location x file here own inside is (IsPutAt.was_put end (Gives.by_source source of gives) at) =
-        absurd (no_read d source end (asked_at reads made d m here ∙ ap reads own.is) gives)
+        absurd (no_read d source end (asked_at reads made d m here ∙ own.no_reading) gives)
     put_sink d m location x file here own inside is (IsPutAt.was_put end (Gives.by_element element of gives) at) =
         at ∙ sym gives
-        ∙ written_here d element file (asked_at writes made d m here ∙ ap writes own.is) (ap file_in (one d element x of inside) ∙ is)
+        ∙ written_here d element file (asked_at writes made d m here ∙ own.writing) (ap file_in (one d element x of inside) ∙ is)
     put_sink d m location x file here own inside is (IsPutAt.was_kept none at) =
-        absurd (none (Some (Snk file)) (Gives.by_element x inside (written_here d x file (asked_at writes made d m here ∙ ap writes own.is) is)))
+        absurd (none (Some (Snk file)) (Gives.by_element x inside (written_here d x file (asked_at writes made d m here ∙ own.writing) is)))
 
     -- that of a filesrc
     pub put_source : (e : ℕ) (m : Made) (location : List ℕ) (x : StreamSource S) (file : S) → slice_get made e ≡ Some m → IsReader m.settings location
@@ -74,20 +76,20 @@ module _ {S K : Type 0} (made : List Made) where
         → source_file x.source ≡ Some file → IsPutAt (Gives made Reads Has) old new e → slice_get new e ≡ Some (Some (Src file))
     put_source e m location x file here own inside is (IsPutAt.was_put end (Gives.by_source source of gives) at) =
         at ∙ sym gives
-        ∙ read_here e source file (asked_at reads made e m here ∙ ap reads own.is)
+        ∙ read_here e source file (asked_at reads made e m here ∙ own.reading)
         (ap (λ (s : StreamSource S). source_file s.source) (one_source e source x of inside) ∙ is)
     put_source e m location x file here own inside is (IsPutAt.was_put end (Gives.by_element element of gives) at) =
-        absurd (no_written e element end (asked_at writes made e m here ∙ ap writes own.is) gives)
+        absurd (no_written e element end (asked_at writes made e m here ∙ own.no_writing) gives)
     put_source e m location x file here own inside is (IsPutAt.was_kept none at) =
-        absurd (none (Some (Src file)) (Gives.by_source x inside (read_here e x file (asked_at reads made e m here ∙ ap reads own.is) is)))
+        absurd (none (Some (Src file)) (Gives.by_source x inside (read_here e x file (asked_at reads made e m here ∙ own.reading) is)))
 
     -- and nothing at another element
     pub put_none : (d : ℕ) (m : Made) → slice_get made d ≡ Some m → opening_of m.settings ≡ None → IsPutAt (Gives made Reads Has) old new d
         → slice_get new d ≡ slice_get old d
     put_none d m here opens (IsPutAt.was_put end (Gives.by_source source of gives) at) =
-        absurd (no_read d source end (asked_at reads made d m here ∙ (opens_nothing S K m.settings opens).no_read) gives)
+        absurd (no_read d source end (asked_at reads made d m here ∙ (opens_none m.settings (no_place m.settings opens)).0) gives)
     put_none d m here opens (IsPutAt.was_put end (Gives.by_element element of gives) at) =
-        absurd (no_written d element end (asked_at writes made d m here ∙ (opens_nothing S K m.settings opens).no_write) gives)
+        absurd (no_written d element end (asked_at writes made d m here ∙ (opens_none m.settings (no_place m.settings opens)).1) gives)
     put_none d m here opens (IsPutAt.was_kept none at) = at
 
 -- the length of the file of an element

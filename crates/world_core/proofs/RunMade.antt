@@ -4,15 +4,16 @@ use Rattle.std.specs.Option.{option_map}
 use Rattle.el_set.specs.Gives.{source_faults, source_file}
 use Rattle.el_set.specs.declared.source.SourceElement.{SourceElement}
 use Rattle.el_set.specs.declared.source.SourceElement.TheVariants.{File, Ramp}
-use Rattle.element_traits.specs.declared.element.TaskElement as elements
-use Rattle.element_traits.specs.declared.source.TaskSource as givers
+use Rattle.net_model.specs.declared.element.TaskElement as elements
+use Rattle.net_model.specs.declared.source.TaskSource as givers
 use Rattle.graph_core.specs.Elements.{Made}
 use Rattle.graph_core.specs.Graph.{made as made_in}
 use Rattle.graph_core.specs.declared.graph.Graph.{Graph}
 use Rattle.graph_files.specs.Back.{GivesBack}
-use Rattle.graph_files.specs.Files.{AreLocated, known_of}
+use Rattle.graph_files.specs.Files.{AreLocated}
 use Rattle.graph_files.specs.Put.{PutBack}
 use Rattle.graph_files.specs.declared.counts.Count.{Count}
+use Rattle.gst_outside.specs.Seen.{Seen}
 use Rattle.gst_outside.specs.declared.sink.Sink as sinks
 use Rattle.gst_outside.specs.declared.source.Source as sources
 use Rattle.lane_core.specs.Lane.{Lane}
@@ -24,7 +25,7 @@ use Rattle.net_turns.specs.Net.{NetStands}
 use Rattle.net_turns.specs.Rests.{AllFramed, NetEnded, NetFaulted}
 use Rattle.net_turns.specs.Turns.{RunBy, stop_of}
 use Rattle.net_turns.specs.declared.net.Stopped.{Stopped}
-use Rattle.run_files.specs.Seen.{Seen}
+use Rattle.run_files.specs.Ends.{known_ends}
 use Rattle.run_files.specs.declared.end.End.{End}
 use Rattle.task_elements.specs.Stands.{file_in}
 use Rattle.task_elements.specs.declared.element.StreamElement.{StreamElement}
@@ -72,7 +73,7 @@ module _ {S K I O L : Type 0} {giver : givers.Ghosts (StreamSource S)} {taker : 
   run = record { started = started; framed = framed; count = count }
 
   -- where its files are
-  pub made_located : (ends : List (Option (End S K))) → PutBack (GivesBack (made_in graph) last rest) left ends → AreLocated (made_in graph) (known_of s k ends)
+  pub made_located : (ends : List (Option (End S K))) → PutBack (GivesBack (made_in graph) last rest) left ends → AreLocated (made_in graph) (known_ends s k ends)
   made_located ends back = run_located s k graph first last rest left tells before run taken given ends back
 
   -- how it has ended
@@ -81,7 +82,7 @@ module _ {S K I O L : Type 0} {giver : givers.Ghosts (StreamSource S)} {taker : 
       → IfOk ran (λ done. (m : Moment) → NetStands m first tells → NetEnded m last over)
       → IfErr ran (λ stop. (m : Moment) → NetStands m first tells → NetFaulted m last stop.task stop.fault)
       → RunBy order 0 first tells turns (stop_of ran) last → IsTold graph last rest left ends (stop_of ran) end → end.status ≢ 13
-      → HasEnded graph before (KnownHold graph (known_of s k ends)) (KnownFailed (known_of s k ends)) end
+      → HasEnded graph before (KnownHold graph (known_ends s k ends)) (KnownFailed (known_ends s k ends)) end
   made_ended laws read_fails ends end order turns over ran ended faulted by told some =
       run_ended s k laws graph first last rest left tells before run (started_once s k graph first rest left tells before started)
       (λ contents m settled. rested s k graph first rest left tells before started last contents m settled)

@@ -4,8 +4,8 @@ use Rattle.std.specs.Prelude.{slice_get}
 use Rattle.std.specs.Option.{option_map, option_map_or}
 use Rattle.el_set.specs.Gives.{source_file}
 use Rattle.el_set.specs.Made.{keeps_flushed}
-use Rattle.element_traits.specs.declared.element.TaskElement as elements
-use Rattle.element_traits.specs.declared.source.TaskSource as givers
+use Rattle.net_model.specs.declared.element.TaskElement as elements
+use Rattle.net_model.specs.declared.source.TaskSource as givers
 use Rattle.flow_model.specs.Eval.{eval}
 use Rattle.flow_model.specs.Item.{Item}
 use Rattle.flow_model.specs.SinkBytes.{sink_bytes}
@@ -20,20 +20,20 @@ use Rattle.graph_ends.specs.Runs.{crossed_in}
 use Rattle.graph_ends.specs.Written.{HoldsBytes, TaskCrossed}
 use Rattle.graph_files.specs.Back.{GivesBack, HasElement, Wrote}
 use Rattle.graph_files.specs.Counts.{TasksCounted}
-use Rattle.graph_files.specs.Files.{OpensAt, known_of}
+use Rattle.graph_files.specs.Files.{OpensAt}
 use Rattle.graph_files.specs.Put.{PutBack}
 use Rattle.graph_files.specs.declared.counts.Count.{Count}
 use Rattle.graph_moment.specs.Pads.{is_pad}
+use Rattle.gst_outside.specs.Seen.{Seen}
 use Rattle.gst_outside.specs.declared.sink.Sink as sinks
 use Rattle.gst_outside.specs.declared.source.Source as sources
 use Rattle.lane_core.specs.Lane.{Lane}
 use Rattle.lane_core.specs.declared.ends.Inlet as inlets
 use Rattle.lane_core.specs.declared.ends.Outlet as outlets
-use Rattle.graph_model.specs.GraphPlan.{graph_plan}
+use Rattle.graph_core.specs.GraphPlan.{graph_plan}
 use Rattle.net_model.specs.Moment.{Moment}
 use Rattle.net_task.specs.declared.task.Task.{Task}
-use Rattle.run_files.specs.Ends.{known_end}
-use Rattle.run_files.specs.Seen.{Seen}
+use Rattle.run_files.specs.Ends.{known_end, known_ends}
 use Rattle.run_files.specs.declared.end.End.{End}
 use Rattle.run_files.specs.declared.end.End.TheVariants.{Snk}
 use Rattle.run_files.specs.declared.end.Opening.TheVariants.{Write}
@@ -49,7 +49,7 @@ use Rattle.world_core.specs.Stopped.{HasRun}
 use Rattle.world_core.specs.declared.ended.WorldEnd.{WorldEnd}
 use Rattle.world_core.proofs.Counted.{counts_are, lengths_by, limits_are}
 use Rattle.world_core.proofs.Files.{element_there, have_bags, known_sink, length_there, written_file}
-use Rattle.world_core.proofs.Openers.{writer_is}
+use Rattle.graph_files.proofs.OwnFiles.{writer}
 
 module _ {S K I O L : Type 0} {giver : givers.Ghosts (StreamSource S)} {taker : elements.Ghosts (StreamElement K)} {i : inlets.Ghosts I L O} {o : outlets.Ghosts O L} where
   -- what crossed the pads is what the evaluation gives, and what the pads counted; and nothing crossed those of other elements
@@ -96,12 +96,12 @@ module _ {S K I O L : Type 0} {giver : givers.Ghosts (StreamSource S)} {taker : 
     (taken : (x : StreamElement K) → taker.file x ≡ option_map k.location (file_in x)) (given : (x : StreamSource S) → giver.file x ≡ option_map s.location (source_file x.source))
     (ends : List (Option (End S K))) (stop : Option TaskFault) (end : WorldEnd) (told : IsTold graph last rest left ends stop end) where
   -- the ends hold the bytes
-  ends_hold : (bytes : ℕ → List ℕ) → AreHeld k graph last rest bytes → KnownHold graph (known_of s k ends) bytes
+  ends_hold : (bytes : ℕ → List ℕ) → AreHeld k graph last rest bytes → KnownHold graph (known_ends s k ends) bytes
   ends_hold bytes held d one location at writes =
       let opens : OpensAt (made_in graph) d (Write location) = record { element = one; at = at; opens = writes } in
-      let x = element_there s k graph first last rest left tells before run d one at (writer_is one.settings location writes).no_source in
+      let x = element_there s k graph first last rest left tells before run d one at (writer one.settings location writes).no_source in
       let file = written_file s k graph first last rest left tells before run taken d location x.0 opens x.1 in (
-        known_end s.location s.content s.faults k.location k.bytes k.faults (Snk file.0),
+        known_end s k (Snk file.0),
         known_sink s k graph first last rest left tells before run taken given ends told.back d location x.0 file.0 opens x.1 file.1,
         (held d location x.0 file.0 opens x.1 file.1).told,
       )
@@ -110,7 +110,7 @@ module _ {S K I O L : Type 0} {giver : givers.Ghosts (StreamSource S)} {taker : 
   lengths_hold : (bytes : ℕ → List ℕ) → AreHeld k graph last rest bytes → (d : ℕ) (location : List ℕ) → OpensAt (made_in graph) d (Write location)
       → slice_get told.lengths d ≡ Some (length (bytes d))
   lengths_hold bytes held d location opens =
-      let x = element_there s k graph first last rest left tells before run d opens.element opens.at (writer_is opens.element.settings location opens.opens).no_source in
+      let x = element_there s k graph first last rest left tells before run d opens.element opens.at (writer opens.element.settings location opens.opens).no_source in
       let file = written_file s k graph first last rest left tells before run taken d location x.0 opens x.1 in
       length_there s k graph first last rest left tells before run taken told.none told.zeros told.lengths told.room told.wrote d location x.0 opens x.1
       ∙ (held d location x.0 file.0 opens x.1 file.1).size
@@ -118,7 +118,7 @@ module _ {S K I O L : Type 0} {giver : givers.Ghosts (StreamSource S)} {taker : 
   -- what is told is the evaluation
   pub rendered : (contents : ℕ → List ℕ) (m : Moment) → IsSettled contents graph run.started.bags m last → (bytes : ℕ → List ℕ) → AreHeld k graph last rest bytes
       → (Cause : (ℕ → List Item) → (ℕ → List ℕ) → Type 0) → Cause (crossed_in graph m) bytes
-      → IsRendered contents graph (KnownHold graph (known_of s k ends)) end.report Cause
+      → IsRendered contents graph (KnownHold graph (known_ends s k ends)) end.report Cause
   rendered contents m settled bytes held Cause cause =
       let pads = told.tells.pads_are
       ∙ counts_are graph run.started.bags m last told.none told.counts told.zeros told.room told.counted

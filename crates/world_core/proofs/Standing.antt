@@ -5,8 +5,8 @@ use Rattle.std.specs.Option.{option_map_or}
 use Rattle.std.proofs.lemmas.Option.{slice_get_within}
 use Rattle.el_set.specs.Asked.{sink_pads}
 use Rattle.el_set.specs.Made.{list_of}
-use Rattle.element_traits.specs.declared.element.TaskElement as elements
-use Rattle.element_traits.specs.declared.source.TaskSource as givers
+use Rattle.net_model.specs.declared.element.TaskElement as elements
+use Rattle.net_model.specs.declared.source.TaskSource as givers
 use Rattle.flow_model.specs.Call.{Call}
 use Rattle.flow_model.specs.Item.{Item}
 use Rattle.flow_model.specs.Link.{Span}
@@ -22,17 +22,17 @@ use Rattle.graph_moment.proofs.Behaviors.{behaviors_are_told}
 use Rattle.graph_tasks.specs.Start.{ElementsStand, SourcesStand}
 use Rattle.graph_tasks.proofs.Lists.{got_within}
 use Rattle.graph_tasks.proofs.Tied.{sinks_count}
+use Rattle.gst_outside.specs.Seen.{Seen}
 use Rattle.gst_outside.specs.declared.sink.Sink as sinks
 use Rattle.gst_outside.specs.declared.source.Source as sources
 use Rattle.net_model.specs.Moment.{Behavior, behavior_at}
 use Rattle.net_model.specs.Opening.{opening}
-use Rattle.run_files.specs.Seen.{Seen}
 use Rattle.run_files.specs.declared.end.End.{End}
 use Rattle.task_elements.specs.Owes.{Owes}
 use Rattle.task_elements.specs.declared.element.StreamElement.{StreamElement}
 use Rattle.task_elements.specs.declared.source.StreamSource.{StreamSource}
 use Rattle.world_core.proofs.AtHand.{MakesStreams, given_at, made_at, told_at}
-use Rattle.world_core.proofs.SourceKinds.{one_sink_pad}
+use Rattle.el_set.proofs.Roles.{other_sinks}
 
 -- what is asked of an element that is there
 asked_of : (made : List Made) (n : ℕ) (m : Made) → slice_get made n ≡ Some m → has is_source made n ≡ is_source m.settings
@@ -50,7 +50,7 @@ took_none contents graph n m here pads =
     one_none ((moment_plan contents graph).sinks n)
     (sinks_count contents graph n
     ∙ ap (λ (found : Option Made). option_map_or (λ (m : Made). sink_pads m.settings) found 0) here
-    ∙ one_sink_pad m.settings pads)
+    ∙ other_sinks m.settings pads)
 
 -- what a source gives by itself is the list of its settings
 given_here : (made : List Made) (n : ℕ) (m : Made) (content : List ℕ) → slice_get made n ≡ Some m → is_source m.settings ≡ true

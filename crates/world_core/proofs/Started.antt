@@ -1,7 +1,7 @@
 -- The tasks of a run that begins are ready, and where the contents of files were told they stand where it begins.
 use Rattle.std.proofs.Common.{ℕ, List, Option, Some, refl, sym, subst}
-use Rattle.element_traits.specs.declared.element.TaskElement as elements
-use Rattle.element_traits.specs.declared.source.TaskSource as givers
+use Rattle.net_model.specs.declared.element.TaskElement as elements
+use Rattle.net_model.specs.declared.source.TaskSource as givers
 use Rattle.graph_core.specs.Graph.{made as made_in, links as links_in}
 use Rattle.graph_core.specs.declared.graph.Graph.{Graph}
 use Rattle.graph_ends.specs.Frames.{HaveBags}
@@ -10,8 +10,9 @@ use Rattle.graph_files.specs.Files.{WereTold}
 use Rattle.graph_moment.specs.Plans.{moment_answers, moment_plan}
 use Rattle.graph_tasks.proofs.Readied.{tasks_are_ready}
 use Rattle.graph_tasks.proofs.Starts.{tasks_start}
-use Rattle.graph_model.specs.Once.{AreOnce}
-use Rattle.graph_model.proofs.Once.{linked_once}
+use Rattle.graph_core.specs.LinkedOnce.{AreOnce}
+use Rattle.graph_core.proofs.LinkedOnce.{linked_once}
+use Rattle.gst_outside.specs.Seen.{Seen}
 use Rattle.gst_outside.specs.declared.sink.Sink as sinks
 use Rattle.gst_outside.specs.declared.source.Source as sources
 use Rattle.lane_core.specs.Lane.{Lane}
@@ -20,7 +21,6 @@ use Rattle.lane_core.specs.declared.ends.Outlet as outlets
 use Rattle.net_model.specs.Opening.{opening}
 use Rattle.net_task.specs.declared.task.Task.{Task}
 use Rattle.net_turns.specs.Net.{NetReady, NetStands}
-use Rattle.run_files.specs.Seen.{Seen}
 use Rattle.run_files.specs.declared.end.End.{End}
 use Rattle.task_elements.specs.declared.element.StreamElement.{StreamElement}
 use Rattle.task_elements.specs.declared.source.StreamSource.{StreamSource}

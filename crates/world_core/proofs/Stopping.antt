@@ -5,17 +5,18 @@ use Rattle.std.specs.Option.{option_map}
 use Rattle.std.proofs.lemmas.Bool.Decides.{eqb_tells}
 use Rattle.std.proofs.lemmas.Option.{none-some, same_Some}
 use Rattle.el_set.specs.Gives.{source_file}
-use Rattle.element_traits.specs.declared.element.TaskElement as elements
-use Rattle.element_traits.specs.declared.source.TaskSource as givers
+use Rattle.net_model.specs.declared.element.TaskElement as elements
+use Rattle.net_model.specs.declared.source.TaskSource as givers
 use Rattle.graph_bags.specs.declared.bag.Bag.{Bag}
 use Rattle.graph_core.specs.Graph.{made as made_in, links as links_in}
 use Rattle.graph_core.specs.declared.graph.Graph.{Graph}
 use Rattle.graph_ends.specs.Frames.{HaveBags, IsFrameOf}
 use Rattle.graph_ends.specs.Runs.{RunStands, RunsAt}
 use Rattle.graph_ends.specs.Written.{IsBehind, StandsBehind, StandsWhole, TaskCrossed}
-use Rattle.graph_files.specs.Files.{WereTold, known_of}
+use Rattle.graph_files.specs.Files.{WereTold}
 use Rattle.graph_moment.specs.Plans.{moment_answers, moment_plan}
-use Rattle.graph_model.specs.Once.{AreOnce}
+use Rattle.graph_core.specs.LinkedOnce.{AreOnce}
+use Rattle.gst_outside.specs.Seen.{Seen}
 use Rattle.gst_outside.specs.declared.sink.Sink as sinks
 use Rattle.gst_outside.specs.declared.source.Source as sources
 use Rattle.lane_core.specs.Lane.{Lane}
@@ -26,7 +27,7 @@ use Rattle.net_model.specs.Opening.{opening}
 use Rattle.net_task.specs.Frame.{TaskFrame, frame_of}
 use Rattle.net_task.specs.declared.task.Task.{Task}
 use Rattle.net_turns.specs.Rests.{NetEnded, NetFaulted}
-use Rattle.run_files.specs.Seen.{Seen}
+use Rattle.run_files.specs.Ends.{known_ends}
 use Rattle.run_files.specs.declared.end.End.{End}
 use Rattle.task_elements.specs.Stands.{file_in}
 use Rattle.task_elements.specs.declared.element.StreamElement.{StreamElement}
@@ -168,7 +169,7 @@ module _ {S K I O L : Type 0} {giver : givers.Ghosts (StreamSource S)} {taker : 
   pub is_over : (taken : (x : StreamElement K) → taker.file x ≡ option_map k.location (file_in x)) (given : (x : StreamSource S) → giver.file x ≡ option_map s.location (source_file x.source))
       (ends : List (Option (End S K))) (end : WorldEnd) → IsTold graph last rest left ends None end → (over : Option (List Lane))
       → ((contents : ℕ → List ℕ) → WereTold (made_in graph) before contents → NetEnded (opening (moment_plan contents graph) (moment_answers graph)) last over)
-      → EndsEos graph before (KnownHold graph (known_of s k ends)) end
+      → EndsEos graph before (KnownHold graph (known_ends s k ends)) end
   is_over taken given ends end told over ended = record {
     status = told.tells.status;
     fault = told.tells.fault;

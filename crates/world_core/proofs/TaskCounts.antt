@@ -4,8 +4,8 @@ use Rattle.std.specs.Prelude.{slice_get}
 use Rattle.std.specs.Option.{option_map}
 use Rattle.std.proofs.lemmas.List.{length-map}
 use Rattle.std.proofs.lemmas.Option.{slice_get-map, slice_get_within}
-use Rattle.element_traits.specs.declared.element.TaskElement as elements
-use Rattle.element_traits.specs.declared.source.TaskSource as sources
+use Rattle.net_model.specs.declared.element.TaskElement as elements
+use Rattle.net_model.specs.declared.source.TaskSource as sources
 use Rattle.flow_model.specs.Account.{IsMember}
 use Rattle.flow_model.specs.Item.{Item, buffers}
 use Rattle.graph_bags.specs.Bags.{cells, head_cells, number_of as number_in}
@@ -20,10 +20,10 @@ use Rattle.graph_ends.specs.Frames.{HaveBags, IsFrameOf, IsHeadFrame, IsPartFram
 use Rattle.graph_ends.specs.Written.{HeadCrossed, PadsCrossed, TaskCrossed}
 use Rattle.graph_files.specs.Counts.{HeadCounted, IsCountOf, PartCounted, TaskCounted, TasksCounted}
 use Rattle.graph_files.specs.declared.counts.Count.{Count}
-use Rattle.graph_model.specs.Asked.{first_pad}
+use Rattle.graph_core.specs.Allowed.{first_pad}
 use Rattle.lane_core.specs.declared.ends.Inlet as inlets
 use Rattle.lane_core.specs.declared.ends.Outlet as outlets
-use Rattle.graph_model.specs.GraphPlan.{pad_id}
+use Rattle.graph_core.specs.GraphPlan.{pad_id}
 use Rattle.net_model.specs.Moment.{Moment}
 use Rattle.net_task.specs.Frame.{frame_of, head_frame, part_frame, wire_of}
 use Rattle.net_task.specs.declared.task.Task.{Task}

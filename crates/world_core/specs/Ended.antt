@@ -3,6 +3,7 @@
 -- the file of an element failed, and how many.
 use Rattle.std.specs.Prelude.{◌≡◌, ◌≢◌, ◌≤◌, ◌<◌, ◌⊎◌, ℕ, All, List, length, None, Some, slice_get}
 use Rattle.gst_item.specs.declared.fault.ElementFault.{ElementFault}
+use Rattle.gst_item.specs.declared.fault.ElementFault.TheVariants.{TooLong}
 use Rattle.gst_outside.specs.Causes.{Rose}
 use Rattle.flow_model.specs.Eval.{eval}
 use Rattle.flow_model.specs.Item.{Item}
@@ -10,14 +11,17 @@ use Rattle.graph_core.specs.Elements.{Made}
 use Rattle.graph_core.specs.Graph.{made as made_in, links as links_in}
 use Rattle.graph_core.specs.Links.{sink_behind}
 use Rattle.graph_core.specs.declared.graph.Graph.{Graph}
-use Rattle.graph_model.specs.Asked.{first_pad}
+use Rattle.graph_core.specs.declared.pad.PadLink.{PadLink}
+use Rattle.el_set.specs.declared.settings.Settings.{Settings}
+use Rattle.graph_core.specs.Allowed.{first_pad}
 use Rattle.graph_files.specs.Files.{WereTold, opening_of}
-use Rattle.graph_model.specs.GraphPlan.{graph_plan, owner_of}
-use Rattle.run_files.specs.Seen.{Seen}
+use Rattle.graph_core.specs.GraphPlan.{graph_plan, owner_of}
+use Rattle.gst_outside.specs.Seen.{Seen}
 use Rattle.run_files.specs.declared.end.Opening.TheVariants.{Read, Write}
 use Rattle.run_report.specs.declared.report.Fault.TheVariants as faults
 use Rattle.run_report.specs.declared.report.Report.{Report}
-use Rattle.graph_ends.specs.Owed.{AreOver, AreWhole, AreWritten, IsPartWritten, IsWritten, Refuses, WantsLink, went_from}
+use Rattle.graph_ends.specs.Owed.{AreOver, AreWhole, AreWritten, IsOwedMore, IsPartWritten, IsWritten, Refuses, WantsLink, went_from}
+use Rattle.world_core.specs.Cut.{IsCutBefore}
 use Rattle.world_core.specs.Told.{element_fault, element_status, pad_entries, sink_entries, source_pad}
 use Rattle.world_core.specs.declared.ended.WorldEnd.{WorldEnd}
 
@@ -47,7 +51,7 @@ pub record EndsEos (graph : Graph) (before : Seen) (Holds : (ℕ → List ℕ) �
   pub fault : end.report.fault ≡ faults.Nothing
   pub tells : TellsRun graph before Holds end.report (λ contents h bytes. AreWritten (made_in graph) (links_in graph) h bytes × AreWhole contents graph h × AreOver graph h)
 
--- A source could not be read.
+-- A source could not be read: what crossed its pad is cut before what could not be read, and has no EOS.
 pub record EndsUnread (graph : Graph) (before : Seen) (Holds : (ℕ → List ℕ) → Type 0) (Failed : ℕ → ℕ → Type 0) (end : WorldEnd) : Type 0 where
   pub status : end.status ≡ 7
   pub e : ℕ
@@ -60,7 +64,8 @@ pub record EndsUnread (graph : Graph) (before : Seen) (Holds : (ℕ → List ℕ
   pub fault : end.report.fault ≡ faults.ReadFault location first second
   pub rose : Rose first second
   pub failed : Failed e second
-  pub tells : TellsRun graph before Holds end.report (λ contents h bytes. AreWritten (made_in graph) (links_in graph) h bytes)
+  pub tells : TellsRun graph before Holds end.report
+      (λ contents h bytes. AreWritten (made_in graph) (links_in graph) h bytes × IsCutBefore contents h e element.settings)
 
 -- A filesink could not be written: of the next item that was owed to it a part stands in its file.
 pub record EndsUnwritten (graph : Graph) (before : Seen) (Holds : (ℕ → List ℕ) → Type 0) (Failed : ℕ → ℕ → Type 0) (end : WorldEnd) : Type 0 where
@@ -101,6 +106,10 @@ pub record EndsUnlinked (graph : Graph) (before : Seen) (Holds : (ℕ → List �
   pub tells : TellsRun graph before Holds end.report
       (λ contents h bytes. AreWritten (made_in graph) (links_in graph) h bytes × (length (went_from h e) ≡ place) × WantsLink contents (made_in graph) (links_in graph) h e)
 
+-- another item is owed to the pad of an element, or its rule has at its next item the fault that looks alike
+abbrev pub PassesLimit : (ℕ → List ℕ) → List Made → List PadLink → (ℕ → List Item) → ℕ → Settings → Type 0
+PassesLimit contents made links h e settings = IsOwedMore contents made links h e ⊎ Refuses contents made links h e settings (TooLong most_items 1)
+
 -- More items than the limit were to cross the pad of an element.
 pub record EndsTooLong (graph : Graph) (before : Seen) (Holds : (ℕ → List ℕ) → Type 0) (end : WorldEnd) : Type 0 where
   pub status : end.status ≡ 15
@@ -108,7 +117,9 @@ pub record EndsTooLong (graph : Graph) (before : Seen) (Holds : (ℕ → List �
   pub element : Made
   pub at : slice_get (made_in graph) e ≡ Some element
   pub fault : end.report.fault ≡ faults.TooLong element.name most_items 1
-  pub tells : TellsRun graph before Holds end.report (λ contents h bytes. AreWritten (made_in graph) (links_in graph) h bytes × (length (went_from h e) ≡ most_items))
+  pub tells : TellsRun graph before Holds end.report
+      (λ contents h bytes. AreWritten (made_in graph) (links_in graph) h bytes × (length (went_from h e) ≡ most_items)
+      × PassesLimit contents (made_in graph) (links_in graph) h e element.settings)
 
 abbrev pub HasEnded : Graph → Seen → ((ℕ → List ℕ) → Type 0) → (ℕ → ℕ → Type 0) → WorldEnd → Type 0
 HasEnded graph before Holds Failed end =

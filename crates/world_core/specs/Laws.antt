@@ -1,7 +1,7 @@
 -- What is known of the run of a graph by its laws.
 use Rattle.std.specs.Prelude.{◌≡◌, Some}
-use Rattle.element_traits.specs.declared.element.TaskElement as elements
-use Rattle.element_traits.specs.declared.source.TaskSource as givers
+use Rattle.net_model.specs.declared.element.TaskElement as elements
+use Rattle.net_model.specs.declared.source.TaskSource as givers
 use Rattle.graph_ends.specs.Blamed.{CausesAreTold, FaultsAreBlamed}
 use Rattle.graph_ends.specs.Ended.{EndsAreOver, EndsAreWhole, HistoriesAreEvaluated, LooseAreQuiet, PadsAreLimited, RunsEndEmpty}
 use Rattle.graph_ends.specs.Written.{AreStreams, TasksStandBehind, TasksStandWhole}

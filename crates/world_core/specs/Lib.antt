@@ -1,4 +1,5 @@
 pub mod Told
+pub mod Cut
 pub mod Ended
 pub mod World
 pub mod Ran

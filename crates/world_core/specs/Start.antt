@@ -1,7 +1,7 @@
 -- How the run of a graph starts.
 use Rattle.std.specs.Prelude.{◌≡◌, List, Option, Some}
-use Rattle.element_traits.specs.declared.element.TaskElement as elements
-use Rattle.element_traits.specs.declared.source.TaskSource as givers
+use Rattle.net_model.specs.declared.element.TaskElement as elements
+use Rattle.net_model.specs.declared.source.TaskSource as givers
 use Rattle.graph_bags.specs.Bags.{AreBags}
 use Rattle.graph_bags.specs.declared.bag.Bag.{Bag}
 use Rattle.graph_core.specs.Graph.{IsGraph, IsSound, made as made_in, links as links_in}
@@ -12,6 +12,7 @@ use Rattle.graph_tasks.specs.Plan.{without}
 use Rattle.graph_tasks.specs.Tasks.{AreTasks}
 use Rattle.graph_tasks.specs.Wired.{AreWired, part_numbers}
 use Rattle.graph_tasks.specs.declared.wired_task.WiredTask.{WiredTask}
+use Rattle.gst_outside.specs.Seen.{Seen}
 use Rattle.gst_outside.specs.declared.sink.Sink as sinks
 use Rattle.gst_outside.specs.declared.source.Source as sources
 use Rattle.lane_core.specs.Lane.{Lane}
@@ -19,7 +20,6 @@ use Rattle.lane_core.specs.declared.ends.Inlet as inlets
 use Rattle.lane_core.specs.declared.ends.Outlet as outlets
 use Rattle.launch_text.specs.declared.tree.Tree.{Tree}
 use Rattle.net_task.specs.declared.task.Task.{Task}
-use Rattle.run_files.specs.Seen.{Seen}
 use Rattle.run_files.specs.declared.end.End.{End}
 use Rattle.task_elements.specs.declared.element.StreamElement.{StreamElement}
 use Rattle.task_elements.specs.declared.source.StreamSource.{StreamSource}

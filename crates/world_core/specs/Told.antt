@@ -9,9 +9,10 @@ use Rattle.el_set.specs.Asked.{location_of}
 use Rattle.graph_core.specs.Elements.{Made}
 use Rattle.graph_core.specs.Ends.{name_at}
 use Rattle.gst_caps.specs.declared.name.PadName.{PadName}
-use Rattle.graph_model.specs.Asked.{first_pad}
-use Rattle.graph_model.specs.GraphPlan.{owner_of, pad_id}
-use Rattle.graph_files.specs.Ends.{has, writes}
+use Rattle.el_set.specs.Asked.{writes}
+use Rattle.graph_core.specs.Allowed.{first_pad}
+use Rattle.graph_core.specs.GraphPlan.{owner_of, pad_id}
+use Rattle.graph_files.specs.Ends.{has}
 use Rattle.graph_files.specs.declared.counts.Count.{Count}
 use Rattle.graph_ends.specs.Owed.{gives}
 use Rattle.run_report.specs.declared.report.Fault.{Fault}

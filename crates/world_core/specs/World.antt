@@ -2,23 +2,18 @@
 use Rattle.std.specs.Prelude.{◌≡◌, ◌≤◌, ◌⊎◌, ℕ, List, [], Option, Some, map, slice_get, take}
 use Rattle.std.specs.Option.{ForSome}
 use Rattle.gst_outside.specs.Causes.{Rose, plus}
-use Rattle.gst_outside.specs.declared.files.Files as files
 use Rattle.graph_core.specs.Elements.{Made}
 use Rattle.graph_core.specs.Graph.{IsGraph, IsSound, made as made_in}
 use Rattle.graph_core.specs.declared.graph.Graph.{Graph}
+use Rattle.gst_outside.specs.Seen.{Seen, ToldRose}
 use Rattle.launch_text.specs.declared.tree.Tree.{Tree}
 use Rattle.graph_files.specs.Files.{made_opening, opening_of}
 use Rattle.run_files.specs.Opening.{GivesBack, Refuses, location_of}
-use Rattle.run_files.specs.Seen.{Seen, ToldRose, seen}
 use Rattle.run_files.specs.declared.end.Opening.{Opening}
 use Rattle.run_files.specs.declared.end.Opening.TheVariants.{Write}
 use Rattle.run_report.specs.declared.report.Fault.TheVariants.{OpenFault}
 use Rattle.world_core.specs.Ended.{HasEnded}
 use Rattle.world_core.specs.declared.ended.WorldEnd.{WorldEnd}
-
--- what is known of files, by what they tell
-abbrev pub seen_by : {F Src Snk : Type 0} → files.Ghosts F Src Snk → F → Seen
-seen_by f x = seen (f.input x) (f.output x) (f.faults_of x) (f.refused_of x) (f.faults x) (f.ends x)
 
 -- some line has this graph: it is what `build` gives for its tree
 pub record IsBuilt (graph : Graph) : Type 0 where

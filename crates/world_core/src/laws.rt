@@ -1,7 +1,6 @@
 //! What is known of the runs of graphs, for the proofs of runs.
 ghost use Rattle.world_core.specs.Laws.{Laws};
 
-use element_traits::{TaskElement, TaskSource};
 use graph_ends::blamed::{causes_are_told, elements_are_streams, faults_are_blamed};
 use graph_ends::ended::{
     ends_are_over, ends_are_whole, histories_are_evaluated, loose_are_quiet, pads_are_limited,
@@ -10,6 +9,7 @@ use graph_ends::ended::{
 use graph_ends::written::{tasks_stand_behind, tasks_stand_whole};
 use gst_outside::{Sink, Source};
 use lane_core::{Inlet, Outlet};
+use net_model::{TaskElement, TaskSource};
 use task_elements::{StreamElement, StreamSource};
 
 /// The laws of a graph's run, its end and its faults, together. It does nothing.

@@ -3,7 +3,7 @@ ghost use Rattle.std.specs.Prelude.{◌≡◌, ◌<◌, ◌++◌, [], IfOk, OnOk
 ghost use Rattle.std.specs.List.{cons_option};
 ghost use Rattle.graph_core.specs.Ends.{name_at};
 ghost use Rattle.graph_core.specs.Graph.{made as made_in};
-ghost use Rattle.graph_files.specs.Ends.{writes};
+ghost use Rattle.el_set.specs.Asked.{writes};
 ghost use Rattle.world_core.specs.Ran.{TellsEnd, stop_fault, stop_status};
 ghost use Rattle.world_core.specs.Told.{location_named, pad_told, pads_told, sink_told, sinks_told, source_pad, task_fault, task_status};
 

@@ -2,14 +2,15 @@
 ghost use Rattle.std.specs.Prelude.{◌≡◌, ◌≢◌, ◌<◌, ◌^◌, ℕ, List, [], Option, Some, IfOk, IfErr, length, slice_get};
 ghost use Rattle.graph_core.specs.Graph.{made as made_in};
 ghost use Rattle.graph_files.specs.Blanks.{blanks_in};
-ghost use Rattle.graph_files.specs.Files.{AreLocated, GraphOpens, known_of};
+ghost use Rattle.graph_files.specs.Files.{AreLocated, GraphOpens};
 ghost use Rattle.graph_tasks.specs.Planned.{planned};
+ghost use Rattle.gst_outside.specs.Seen.{Seen};
 ghost use Rattle.net_model.specs.Moment.{Moment};
 ghost use Rattle.net_turns.specs.Net.{NetReady, NetStands};
 ghost use Rattle.net_turns.specs.Rests.{AllFramed, NetEnded, NetFaulted};
 ghost use Rattle.net_turns.specs.Turns.{RunBy, stop_of};
+ghost use Rattle.run_files.specs.Ends.{known_ends};
 ghost use Rattle.run_files.specs.Opening.{IsUnopened, location_of as location_in};
-ghost use Rattle.run_files.specs.Seen.{Seen};
 ghost use Rattle.run_files.specs.declared.end.Opening.{Opening as Openings};
 ghost use Rattle.turn_order.specs.declared.turns.Turns.{Turns as TurnsOf};
 ghost use Rattle.world_core.specs.Ended.{HasEnded};
@@ -17,18 +18,18 @@ ghost use Rattle.world_core.specs.Prepared.{ArePlanned, HasRoom, IsReserved};
 ghost use Rattle.world_core.specs.Ran.{KnownFailed, KnownHold};
 ghost use Rattle.world_core.specs.Start.{IsStarted};
 ghost use Rattle.world_core.specs.Turned.{RanByTurns};
-ghost use Rattle.world_core.specs.World.{IsBuilt, IsRunStatus, IsUnwritten, IsWorldEnd, NotBegun, seen_by};
+ghost use Rattle.world_core.specs.World.{IsBuilt, IsRunStatus, IsUnwritten, IsWorldEnd, NotBegun};
 
 use crate::ended::WorldEnd;
 use crate::laws::runs_are_known;
 use crate::report::{end_of, without_counts};
-use element_traits::{TaskElement, TaskSource};
 use graph_core::Graph;
 use graph_files::{Blanks, Count, Filled, count_pads, openings_of, take_back};
 use graph_tasks::{Plan, WiredTasks, wire};
 use gst_caps::{OutOfMemory, Text};
 use gst_outside::{Files, Sink, Source};
 use lane_core::{Inlet, MemInlet, MemLanes, MemOutlet, Outlet};
+use net_model::{TaskElement, TaskSource};
 use net_task::Task;
 use net_turns::{Stopped, run_tasks};
 use run_files::{End, Opening, Unopened, close_all, open_all};
@@ -120,7 +121,7 @@ fn stop_in(ran: Result<(), Stopped>) -> Option<TaskFault>
 {
     match ran {
         Ok(()) => None,
-        Err(stopped) => Some(stopped.fault),
+        Err(stopped) => Some(stopped.fault.into_fault()),
     }
 }
 
@@ -133,7 +134,8 @@ fn run_all<S: TaskSource, E: TaskElement, I: Inlet<Out = O>, O: Outlet<Lanes = I
 ) -> Result<(), Stopped>
     requires ready { NetReady tasks.old.items (O.tells lanes.old) }
     ensures ended { IfOk result (λ done. (m : Moment) → NetStands m tasks.old.items (O.tells lanes.old) → NetEnded m tasks.new.items (O.tells lanes.new)) }
-    ensures faulted { IfErr result (λ stop. (m : Moment) → NetStands m tasks.old.items (O.tells lanes.old) → NetFaulted m tasks.new.items stop.task stop.fault) }
+    ensures faulted { IfErr result (λ stop. (m : Moment) → NetStands m tasks.old.items (O.tells lanes.old)
+        → NetFaulted m tasks.new.items stop.task stop.fault) }
     ensures turned { (next : TurnsOf) × RunBy turns 0 tasks.old.items (O.tells lanes.old) next (stop_of result) tasks.new.items }
     ensures frames { AllFramed tasks.old.items tasks.new.items }
     ensures count { length tasks.new.items ≡ length tasks.old.items }
@@ -155,9 +157,9 @@ fn run_made<S: Source, K: Sink, I: Inlet<Out = O>, O: Outlet<Lanes = I::Lanes>>(
     requires room { HasRoom (length (made_in graph.now)) counts.pads.items counts.lengths.items }
     ensures ended { (before : Seen) → IsStarted S.Source K.Sink graph.now begun.tasks.items begun.rest.items begun.left.items (O.tells lanes.old) before
         → result.end.status ≢ 13
-        → let known = known_of S.Source K.Sink result.ends.items in HasEnded graph.now before (KnownHold graph.now known) (KnownFailed known) result.end }
+        → let known = known_ends S.Source K.Sink result.ends.items in HasEnded graph.now before (KnownHold graph.now known) (KnownFailed known) result.end }
     ensures located { (before : Seen) → IsStarted S.Source K.Sink graph.now begun.tasks.items begun.rest.items begun.left.items (O.tells lanes.old) before
-        → AreLocated (made_in graph.now) (known_of S.Source K.Sink result.ends.items) }
+        → AreLocated (made_in graph.now) (known_ends S.Source K.Sink result.ends.items) }
     ensures turned { (before : Seen) → IsStarted S.Source K.Sink graph.now begun.tasks.items begun.rest.items begun.left.items (O.tells lanes.old) before
         → result.end.status ≢ 13
         → RanByTurns ⟦<StreamSource<S> as TaskSource>⟧ ⟦<StreamElement<K> as TaskElement>⟧ I.Inlet O.Outlet S.Source K.Sink graph.now turns before result.end }
@@ -206,9 +208,9 @@ fn run_opened<S: Source, K: Sink>(
     requires reserved { IsReserved graph.now prepared.counts.pads.items prepared.counts.lengths.items (blanks_in prepared.blanks) prepared.openings.items }
     requires opened { (before after : Seen) × GraphOpens S.Source K.Sink (made_in graph.now) ends.items before after }
     ensures ended { (before after : Seen) → GraphOpens S.Source K.Sink (made_in graph.now) ends.items before after → result.end.status ≢ 13
-        → let known = known_of S.Source K.Sink result.ends.items in HasEnded graph.now before (KnownHold graph.now known) (KnownFailed known) result.end }
+        → let known = known_ends S.Source K.Sink result.ends.items in HasEnded graph.now before (KnownHold graph.now known) (KnownFailed known) result.end }
     ensures located { (before after : Seen) → GraphOpens S.Source K.Sink (made_in graph.now) ends.items before after
-        → AreLocated (made_in graph.now) (known_of S.Source K.Sink result.ends.items) }
+        → AreLocated (made_in graph.now) (known_ends S.Source K.Sink result.ends.items) }
     ensures turned { (before after : Seen) → GraphOpens S.Source K.Sink (made_in graph.now) ends.items before after → result.end.status ≢ 13
         → RanByTurns ⟦<StreamSource<S> as TaskSource>⟧ ⟦<StreamElement<K> as TaskElement>⟧ ⟦<MemInlet as Inlet>⟧ ⟦<MemOutlet as Outlet>⟧
         S.Source K.Sink graph.now turns before result.end }
@@ -278,14 +280,14 @@ fn not_begun(alloc: Global, openings: &[Option<Opening>], unopened: Unopened) ->
 /// a pad.
 pub fn run_turns<F: Files>(alloc: Global, graph: Graph, files: &mut F, turns: Order) -> WorldEnd
     requires built { IsBuilt graph }
-    ensures ended { result.status ≢ 13 → IsWorldEnd graph (seen_by F.Files files.old) (seen_by F.Files files.new) result }
+    ensures ended { result.status ≢ 13 → IsWorldEnd graph (F.seen files.old) (F.seen files.new) result }
     ensures turned { result.status ≢ 13 → result.status ≢ 6
         → RanByTurns ⟦<StreamSource<F::Src> as TaskSource>⟧ ⟦<StreamElement<F::Snk> as TaskElement>⟧ ⟦<MemInlet as Inlet>⟧ ⟦<MemOutlet as Outlet>⟧
-        F.Src.Source F.Snk.Sink graph turns (seen_by F.Files files.old) result }
+        F.Src.Source F.Snk.Sink graph turns (F.seen files.old) result }
     ensures statuses { IsRunStatus result.status }
-    ensures given_back { F.ends files.old < 2 ^ 63 → F.ends files.new ≡ F.ends files.old }
-    ensures inputs { (l : List ℕ) → F.input files.new l ≡ F.input files.old l }
-    ensures others { (l : List ℕ) → IsUnwritten graph l → F.output files.new l ≡ F.output files.old l }
+    ensures given_back { (F.seen files.old).ends < 2 ^ 63 → (F.seen files.new).ends ≡ (F.seen files.old).ends }
+    ensures inputs { (l : List ℕ) → (F.seen files.new).input l ≡ (F.seen files.old).input l }
+    ensures others { (l : List ℕ) → IsUnwritten graph l → (F.seen files.new).output l ≡ (F.seen files.old).output l }
 {
     let prepared = match prepare(alloc, &graph) {
         Ok(prepared) => prepared,

@@ -22,6 +22,7 @@ const ROWS: &str = "\
 -: filesrc location=a ! capsfilter caps=audio/x-raw ! fakesink => status 10 NotNegotiated / fault caps capsfilter0 offered none wanted audio/x-raw / pad filesrc0.src items 2 buffers 0 / pad capsfilter0.src items 2 buffers 0 / b= d=
 -: filesrc location=e ! capsfilter caps=audio/x-raw ! filesink location=b => status 0 Eos / pad filesrc0.src items 3 buffers 0 / pad capsfilter0.src items 3 buffers 0 / sink filesink0 bytes 0 / b= d=
 -: filesrc location=a ! queue ! capsfilter name=c0 caps=audio/x-raw ! filesink location=b => status 10 NotNegotiated / fault caps c0 offered none wanted audio/x-raw / pad filesrc0.src items 4 buffers 1 / pad queue0.src items 2 buffers 0 / pad c0.src items 2 buffers 0 / sink filesink0 bytes 0 / b= d=
+-: filesrc location=e ! identity ! filesink location=b => status 0 Eos / pad filesrc0.src items 3 buffers 0 / pad identity0.src items 3 buffers 0 / sink filesink0 bytes 0 / b= d=
 -: filesrc location=a => status 11 NotLinked / fault unlinked filesrc0.src place 2 / pad filesrc0.src items 2 buffers 0 / b= d=
 -: filesrc location=e => status 0 Eos / pad filesrc0.src items 3 buffers 0 / b= d=
 -: filesink location=b filesrc location=a blocksize=3 ! identity => status 11 NotLinked / fault unlinked identity0.src place 2 / pad filesrc0.src items 3 buffers 1 / pad identity0.src items 2 buffers 0 / sink filesink0 bytes 0 / b= d=
@@ -257,6 +258,26 @@ fn the_order_changes_nothing(rt: HostRuntime) -> Result<(), Fail> {
     }
     for seed in 0..10 {
         check_order(&rt, alloc, Order::Drawn(seed))?;
+    }
+    Ok(())
+}
+
+/// A line of three blocks whose lane has room for one.
+const SHORT: &str =
+    "filesrc location=a blocksize=1 ! queue max-size-buffers=1 ! filesink location=b";
+
+const SHORT_END: &str =
+    "status 0 Eos / pad filesrc0.src items 6 buffers 3 / pad queue0.src items 6 buffers 3 / sink filesink0 bytes 3 / b=abc d=";
+
+#[test]
+fn three_blocks_through_a_full_lane(rt: HostRuntime) -> Result<(), Fail> {
+    let alloc = rt.alloc();
+    for digits in ["", "0000", "110"] {
+        let mut files = MemFiles::new(alloc);
+        files.add_input(alloc, "a", b"abc", &[], &[])?;
+        files.add_output(alloc, "b", 4096, &[], &[])?;
+        let row = told(alloc, SHORT, &mut files, listed(alloc, digits)?)?;
+        assert!(rt; row.as_str() == SHORT_END, "{digits}: {row}");
     }
     Ok(())
 }

@@ -15,6 +15,6 @@ loop-got-preserved g c =
       omega (arith, length-put_mid xs ys got fits size),
       stays ∙ c.loop-got.invariant.1,
       c.read_at.ensures.location_stays ∙ c.loop-got.invariant.2,
-      omega (arith, c.read_at.ensures.never_falls, c.loop-got.invariant.3),
+      c.in_ok-more.ensures.faults_stay ∙ c.loop-got.invariant.3,
       filled_more _ _ c.args.place got more xs ys c.loop-got.invariant.1 c.loop-got.invariant.4 fits room c.in_ok-more.ensures.inside c.in_ok-more.ensures.bytes,
     )

@@ -1,7 +1,7 @@
 use Rattle.std.proofs.Common.{◌≡◌, All, filter, map}
 use Rattle.std.specs.List.{range_with_len}
 use Rattle.graph_core.specs.Graph.{IsSound, made, links}
-use Rattle.graph_model.specs.Once.{AreOnce}
+use Rattle.graph_core.specs.LinkedOnce.{AreOnce}
 use Rattle.graph_bags.specs.Links.{has, is_head}
 use Rattle.graph_bags.specs.Bags.{IsBag, head_of}
 use Rattle.graph_bags.proofs.bags.bags_of.Given as goal

@@ -2,48 +2,51 @@ use Rattle.std.proofs.Common.{◌<◌, List, [], All, Ok, map, length, subst, sy
 use Rattle.launch_text.specs.declared.tree.Chain.{Chain}
 use Rattle.graph_core.specs.Asked.{elements_in, links_in}
 use Rattle.graph_core.specs.Elements.{ElementsCome, all_made}
+use Rattle.graph_core.specs.Graph.{IsFaultOrMemory}
 use Rattle.graph_core.specs.Links.{LinksCome, all_links}
 use Rattle.graph_core.specs.Live.{AreLive}
 use Rattle.graph_core.specs.declared.graph.Graph.{Graph}
 use Rattle.graph_core.specs.declared.pad.PadLink.{PadLink}
 use Rattle.graph_core.proofs.Answering.{are_ordered}
 use Rattle.graph_core.proofs.Built.{is_graph, is_sound, is_wide}
+use Rattle.graph_core.proofs.HandedOn.{handed_on}
 use Rattle.graph_core.proofs.Joining.{linked_pads}
 use Rattle.graph_core.proofs.Whole.{each_made, from_elements, to_elements}
 use Rattle.graph_core.proofs.building.build.Goals as goal
 
 pub links_of-requires : goal.links_of-requires
 links_of-requires c =
-    ap (λ cs. length (elements_in (map (λ r. r.now) cs))) (c.as_slice-2.ensures.value ∙ sym c.as_slice.ensures.value) ∙ each_made (elements_in (map (λ r. r.now) c.as_slice.result.now)) (all_made c.in-Ok.elements) c.in-Ok.ensures.made
+    ap (λ cs. length (elements_in (map (λ r. r.now) cs))) (c.as_slice-2.ensures.value ∙ sym c.as_slice.ensures.value) ∙ each_made (elements_in (map (λ r. r.now) c.as_slice.result.now)) (all_made c.in_ok-elements.elements) c.in_ok-elements.ensures.made
 
 pub allow-requires-clause-pads : goal.allow-requires-clause-pads
-allow-requires-clause-pads c = linked_pads (all_made c.in-Ok.elements) (links_in 0 (map (λ r. r.now) c.as_slice-2.result.now)) (all_links c.in-Ok-links_of.links) c.in-Ok-links_of.ensures.made
+allow-requires-clause-pads c = linked_pads (all_made c.in_ok-elements.elements) (links_in 0 (map (λ r. r.now) c.as_slice-2.result.now)) (all_links c.in_ok-links.links) c.in_ok-links.ensures.made
 
 pub live_elements-requires-clause-from : goal.live_elements-requires-clause-from
 live_elements-requires-clause-from c =
-    let ordered = are_ordered (all_made c.in-Ok.elements) (all_made c.allow.new.elements) (sym c.in-Ok-allow.ensures.stay) c.in-Ok-links_of.links c.in-Ok-links_of.ensures.ordered in
-    subst (λ (ls : List PadLink). All (λ (link : PadLink). link.source.element < length (all_made c.allow.new.elements)) ls) (sym c.as_slice-3.ensures.value) (from_elements (all_made c.allow.new.elements) c.in-Ok-links_of.links ordered)
+    let ordered = are_ordered (all_made c.in_ok-elements.elements) (all_made c.allow.new.elements) (sym c.in_ok-allow.ensures.stay) c.in_ok-links.links c.in_ok-links.ensures.ordered in
+    subst (λ (ls : List PadLink). All (λ (link : PadLink). link.source.element < length (all_made c.allow.new.elements)) ls) (sym c.as_slice-3.ensures.value) (from_elements (all_made c.allow.new.elements) c.in_ok-links.links ordered)
 
 pub live_elements-requires-clause-to : goal.live_elements-requires-clause-to
 live_elements-requires-clause-to c =
-    let ordered = are_ordered (all_made c.in-Ok.elements) (all_made c.allow.new.elements) (sym c.in-Ok-allow.ensures.stay) c.in-Ok-links_of.links c.in-Ok-links_of.ensures.ordered in
-    subst (λ (ls : List PadLink). All (λ (link : PadLink). link.sink.element < length (all_made c.allow.new.elements)) ls) (sym c.as_slice-3.ensures.value) (to_elements (all_made c.allow.new.elements) c.in-Ok-links_of.links ordered)
+    let ordered = are_ordered (all_made c.in_ok-elements.elements) (all_made c.allow.new.elements) (sym c.in_ok-allow.ensures.stay) c.in_ok-links.links c.in_ok-links.ensures.ordered in
+    subst (λ (ls : List PadLink). All (λ (link : PadLink). link.sink.element < length (all_made c.allow.new.elements)) ls) (sym c.as_slice-3.ensures.value) (to_elements (all_made c.allow.new.elements) c.in_ok-links.links ordered)
 
-pub returns-in-Err-allow-clause-fault : goal.returns-in-Err-allow-clause-fault
-returns-in-Err-allow-clause-fault c =
-    let elements = subst (λ (cs : List Chain). ElementsCome [] (elements_in cs) (Ok (all_made c.in-Ok.elements))) (ap (map (λ r. r.now)) c.as_slice.ensures.value ∙ c.in_ok-chains.ensures) c.in-Ok.ensures.made in
-    let linked = subst (λ (cs : List Chain). LinksCome (all_made c.in-Ok.elements) [] (links_in 0 cs) (Ok (all_links c.in-Ok-links_of.links))) (ap (map (λ r. r.now)) c.as_slice-2.ensures.value ∙ c.in_ok-chains.ensures) c.in-Ok-links_of.ensures.made in
-    is_wide c.args.tree.now (all_made c.in-Ok.elements) elements (all_links c.in-Ok-links_of.links) c.in-Err-allow.fault linked c.in-Err-allow.ensures.fault
+pub returns-in_err-allow-clause-fault : goal.returns-in_err-allow-clause-fault
+returns-in_err-allow-clause-fault c =
+    let elements = subst (λ (cs : List Chain). ElementsCome [] (elements_in cs) (Ok (all_made c.in_ok-elements.elements))) (ap (map (λ r. r.now)) c.as_slice.ensures.value ∙ c.in_ok-chains.ensures) c.in_ok-elements.ensures.made in
+    let linked = subst (λ (cs : List Chain). LinksCome (all_made c.in_ok-elements.elements) [] (links_in 0 cs) (Ok (all_links c.in_ok-links.links))) (ap (map (λ r. r.now)) c.as_slice-2.ensures.value ∙ c.in_ok-chains.ensures) c.in_ok-links.ensures.made in
+    handed_on c.from_residual-in_err-allow.result c.in_err-allow.field-0.0 (IsFaultOrMemory c.args.tree.now) c.from_residual-in_err-allow.ensures.1
+    (is_wide c.args.tree.now (all_made c.in_ok-elements.elements) elements (all_links c.in_ok-links.links) c.in_err-allow.field-0.0 linked c.in_err-allow.ensures.fault)
 
 pub returns-clause-graph : goal.returns-clause-graph
 returns-clause-graph c =
-    let graph : Graph = record { elements = c.allow.new.elements; links = c.in-Ok-links_of.links; live = c.in_ok-live.live } in
-    let elements = subst (λ (cs : List Chain). ElementsCome [] (elements_in cs) (Ok (all_made c.in-Ok.elements))) (ap (map (λ r. r.now)) c.as_slice.ensures.value ∙ c.in_ok-chains.ensures) c.in-Ok.ensures.made in
-    let linked = subst (λ (cs : List Chain). LinksCome (all_made c.in-Ok.elements) [] (links_in 0 cs) (Ok (all_links c.in-Ok-links_of.links))) (ap (map (λ r. r.now)) c.as_slice-2.ensures.value ∙ c.in_ok-chains.ensures) c.in-Ok-links_of.ensures.made in
-    is_graph c.args.tree.now (all_made c.in-Ok.elements) elements graph c.in-Ok-allow.ensures.stay linked c.in-Ok-allow.ensures.allowed
+    let graph : Graph = record { elements = c.allow.new.elements; links = c.in_ok-links.links; live = c.in_ok-live.live } in
+    let elements = subst (λ (cs : List Chain). ElementsCome [] (elements_in cs) (Ok (all_made c.in_ok-elements.elements))) (ap (map (λ r. r.now)) c.as_slice.ensures.value ∙ c.in_ok-chains.ensures) c.in_ok-elements.ensures.made in
+    let linked = subst (λ (cs : List Chain). LinksCome (all_made c.in_ok-elements.elements) [] (links_in 0 cs) (Ok (all_links c.in_ok-links.links))) (ap (map (λ r. r.now)) c.as_slice-2.ensures.value ∙ c.in_ok-chains.ensures) c.in_ok-links.ensures.made in
+    is_graph c.args.tree.now (all_made c.in_ok-elements.elements) elements graph c.in_ok-allow.ensures.stay linked c.in_ok-allow.ensures.allowed
 
 pub returns-clause-sound : goal.returns-clause-sound
 returns-clause-sound c =
-    let graph : Graph = record { elements = c.allow.new.elements; links = c.in-Ok-links_of.links; live = c.in_ok-live.live } in
-    is_sound graph (all_made c.in-Ok.elements) c.in-Ok-allow.ensures.stay (linked_pads (all_made c.in-Ok.elements) (links_in 0 (map (λ r. r.now) c.as_slice-2.result.now)) (all_links c.in-Ok-links_of.links) c.in-Ok-links_of.ensures.made)
-    c.in-Ok-links_of.ensures.ordered (subst (λ (ls : List PadLink). AreLive (all_made c.allow.new.elements) ls c.in_ok-live.live.items) c.as_slice-3.ensures.value c.in_ok-live.ensures)
+    let graph : Graph = record { elements = c.allow.new.elements; links = c.in_ok-links.links; live = c.in_ok-live.live } in
+    is_sound graph (all_made c.in_ok-elements.elements) c.in_ok-allow.ensures.stay (linked_pads (all_made c.in_ok-elements.elements) (links_in 0 (map (λ r. r.now) c.as_slice-2.result.now)) (all_links c.in_ok-links.links) c.in_ok-links.ensures.made)
+    c.in_ok-links.ensures.ordered (subst (λ (ls : List PadLink). AreLive (all_made c.allow.new.elements) ls c.in_ok-live.live.items) c.as_slice-3.ensures.value c.in_ok-live.ensures)

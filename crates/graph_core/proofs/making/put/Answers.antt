@@ -1,21 +1,28 @@
-use Rattle.std.proofs.Common.{◌∙◌, string_bytes, Err}
+use Rattle.std.proofs.Common.{◌≡◌, ◌∙◌, string_bytes, Err, is_some, not, refl, rules}
 use Rattle.graph_core.specs.Asked.{Declared}
-use Rattle.graph_core.specs.Elements.{all_made, IsUnmade}
+use Rattle.graph_core.specs.Elements.{all_made, given_name, IsUnmade}
+use Rattle.graph_core.specs.declared.fault.BuildFault.TheVariants.{OutOfMemory}
+use Rattle.graph_core.proofs.HandedOn.{handed_on}
 use Rattle.graph_core.proofs.Steps.{stops_one, unplaced, placed_named, made_behind}
 use Rattle.graph_core.proofs.making.put.Goals as goal
 
-pub returns-in-Err-clause-fault : goal.returns-in-Err-clause-fault
-returns-in-Err-clause-fault c =
+pub returns-in_err-judge-clause-fault : goal.returns-in_err-judge-clause-fault
+returns-in_err-judge-clause-fault c =
     let d : Declared = record { kind = c.args.kind.now; props = c.args.props.now } in
-    stops_one (all_made c.args.elements.now) d c.in-Err.fault (unplaced (all_made c.args.elements.now) d c.args.settings c.in-Err.fault c.requires.set (placed_named (all_made c.args.elements.now) c.as_str.result.now _ c.args.settings (Err c.in-Err.fault) (c.as_str.ensures.value ∙ c.requires.name) c.in-Err.ensures))
+    let fault = c.in_err-judge.field-0.0 in
+    let why = unplaced (all_made c.args.elements.now) d c.args.settings fault c.requires.set (placed_named (all_made c.args.elements.now) c.as_str.result.now _ c.args.settings (Err fault) (c.as_str.ensures.value ∙ c.requires.name) c.in_err-judge.ensures) in
+    handed_on c.from_residual.result fault _ c.from_residual.ensures.1 (stops_one (all_made c.args.elements.now) d fault why)
 
-pub returns-in-Err-named_element-clause-fault : goal.returns-in-Err-named_element-clause-fault
-returns-in-Err-named_element-clause-fault c = stops_one (all_made c.args.elements.now) (record { kind = c.args.kind.now; props = c.args.props.now }) _ IsUnmade.memory
+pub returns-in_err-from_str-clause-fault : goal.returns-in_err-from_str-clause-fault
+returns-in_err-from_str-clause-fault c =
+    handed_on c.from_residual-in_err-from_str.result OutOfMemory _ c.from_residual-in_err-from_str.ensures.1 (stops_one (all_made c.args.elements.now) (record { kind = c.args.kind.now; props = c.args.props.now }) OutOfMemory IsUnmade.memory)
 
-pub returns-in-Ok-push-clause-made : goal.returns-in-Ok-push-clause-made
-returns-in-Ok-push-clause-made c =
-    made_behind (all_made c.args.elements.now) (all_made c.push.new.self) (record { kind = c.args.kind.now; props = c.args.props.now }) c.as_str.result.now (string_bytes c.args.name) c.as_slice.result.now c.in-Ok-named_element.element c.args.settings
-    c.as_str.ensures.value c.requires.name c.requires.set c.in-Ok.ensures c.as_slice.ensures c.in-Ok-named_element.ensures c.in-Ok-push.ensures.made
+pub returns-in_err-push-clause-fault : goal.returns-in_err-push-clause-fault
+returns-in_err-push-clause-fault c =
+    handed_on c.from_residual-in_err-push.result OutOfMemory _ c.from_residual-in_err-push.ensures.1 (stops_one (all_made c.args.elements.now) (record { kind = c.args.kind.now; props = c.args.props.now }) OutOfMemory IsUnmade.memory)
 
-pub returns-in-Err-push-clause-fault : goal.returns-in-Err-push-clause-fault
-returns-in-Err-push-clause-fault c = stops_one (all_made c.args.elements.now) (record { kind = c.args.kind.now; props = c.args.props.now }) _ IsUnmade.memory
+pub returns-clause-made : goal.returns-clause-made
+returns-clause-made c =
+    let numbered : c.is_none.result ≡ not (is_some (given_name c.as_slice.result.now)) = search rules in
+    made_behind (all_made c.args.elements.now) (all_made c.push.new.self) (record { kind = c.args.kind.now; props = c.args.props.now }) c.as_str.result.now (string_bytes c.args.name) c.as_slice.result.now _ c.args.settings
+    c.as_str.ensures.value c.requires.name c.requires.set c.in_ok-judge.ensures c.as_slice.ensures (c.in_ok-from_str.ensures, numbered, refl) c.in_ok-push.ensures.made

@@ -1,7 +1,7 @@
 use Rattle.std.proofs.Common.{Option, subst}
 use Rattle.graph_files.specs.Ends.{sink_end, source_end}
 use Rattle.graph_files.specs.Filled.{IsGiverFor, IsMadeFor}
-use Rattle.graph_files.proofs.ByKind.{given_with, made_with}
+use Rattle.graph_files.proofs.OwnFiles.{given_with, made_with}
 use Rattle.graph_files.proofs.parting.slot_of.Goals as goal
 
 pub returns : goal.returns

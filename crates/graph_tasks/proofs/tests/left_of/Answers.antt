@@ -1,5 +1,5 @@
 use Rattle.std.proofs.Common.{List, sym, subst}
-use Rattle.graph_model.proofs.Once.{linked_once}
+use Rattle.graph_core.proofs.LinkedOnce.{linked_once}
 use Rattle.lane_core.specs.contracts.memory.MemInletInlet.TheImpl as inlets
 use Rattle.lane_core.specs.contracts.memory.MemOutletOutlet.TheImpl as outlets
 use Rattle.graph_tasks.specs.contracts.plain.PlainTaskElement.TheImpl as elements

@@ -15,14 +15,12 @@ returns-in-Some-clause-there c =
     (same_found c.as_slice.result.now c.args.files.now.items c.args.location.now c.in-Some.index (sym c.in-Some.ensures) c.as_slice.ensures.value)
 
 pub returns-clause-stays : goal.returns-clause-stays
-returns-clause-stays c = λ l.
+returns-clause-stays c =
     let new : c.push.new.self.items ≡ c.args.files.now.items ++ new_file c.args.location.now ∷ [] = c.in_ok-push.ensures.items ∙ ap (λ x. c.args.files.now.items ++ x ∷ []) c.in_ok-new.ensures in
-    ap (λ fs. file_at fs l) new ∙ pushed_file c.args.files.now.items c.args.location.now l
-
-pub returns-clause-kept : goal.returns-clause-kept
-returns-clause-kept c = λ l h.
-    let new : c.push.new.self.items ≡ c.args.files.now.items ++ new_file c.args.location.now ∷ [] = c.in_ok-push.ensures.items ∙ ap (λ x. c.args.files.now.items ++ x ∷ []) c.in_ok-new.ensures in
-    ap (λ fs. has_file fs l) new ∙ pushed_there c.args.files.now.items (new_file c.args.location.now) l h
+    record {
+      file = λ l. ap (λ fs. file_at fs l) new ∙ pushed_file c.args.files.now.items c.args.location.now l;
+      kept = λ l h. ap (λ fs. has_file fs l) new ∙ pushed_there c.args.files.now.items (new_file c.args.location.now) l h;
+    }
 
 pub returns-clause-there : goal.returns-clause-there
 returns-clause-there c =

@@ -1,6 +1,5 @@
 use Rattle.std.proofs.Common.{[], ◌∷◌, arith}
 use Rattle.run_files.specs.Ends.{known_end, known_ends}
-use Rattle.run_files.specs.Seen.{seen}
 use Rattle.run_files.proofs.GivenBack.{closing_none, closing_more, closing_all}
 use Rattle.run_files.proofs.Lists.{none_left}
 use Rattle.run_files.proofs.Ends.{opened_front, opened_back, opened_later}
@@ -9,37 +8,37 @@ use Rattle.run_files.proofs.closing.close_each.Goals as goal
 pub loop-end-init : goal.loop-end-init
 loop-end-init g c =
     record {
-      closing = closing_none (known_end g.F.Src.Source.location g.F.Src.Source.content g.F.Src.Source.faults g.F.Snk.Sink.location g.F.Snk.Sink.bytes g.F.Snk.Sink.faults) c.args.ends.items
-          (seen (g.F.Files.input c.args.files.now) (g.F.Files.output c.args.files.now) (g.F.Files.faults_of c.args.files.now) (g.F.Files.refused_of c.args.files.now) (g.F.Files.faults c.args.files.now) (g.F.Files.ends c.args.files.now));
+      closing = closing_none (known_end g.F.Src.Source g.F.Snk.Sink) c.args.ends.items
+          (g.F.Files.seen c.args.files.now);
       here = c.requires.opened_here;
       opened_stays = λ k h. h;
     }
 
 pub close-requires-clause-opened_here : goal.close-requires-clause-opened_here
 close-requires-clause-opened_here g c κs within =
-    opened_back (known_end g.F.Src.Source.location g.F.Src.Source.content g.F.Src.Source.faults g.F.Snk.Sink.location g.F.Snk.Sink.bytes g.F.Snk.Sink.faults) (g.F.Files.opened c.loop-end.files) c.loop-end.ends.items c.pop.new.self.items (c.in-Some.end ∷ [])
+    opened_back (known_end g.F.Src.Source g.F.Snk.Sink) (g.F.Files.opened c.loop-end.files) c.loop-end.ends.items c.pop.new.self.items (c.in-Some.end ∷ [])
     c.in-Some.ensures.items c.loop-end.invariant.here
 
 pub loop-end-preserved : goal.loop-end-preserved
 loop-end-preserved g c =
     record {
-      closing = closing_more (known_end g.F.Src.Source.location g.F.Src.Source.content g.F.Src.Source.faults g.F.Snk.Sink.location g.F.Snk.Sink.bytes g.F.Snk.Sink.faults) c.args.ends.items
-          (seen (g.F.Files.input c.args.files.now) (g.F.Files.output c.args.files.now) (g.F.Files.faults_of c.args.files.now) (g.F.Files.refused_of c.args.files.now) (g.F.Files.faults c.args.files.now) (g.F.Files.ends c.args.files.now))
+      closing = closing_more (known_end g.F.Src.Source g.F.Snk.Sink) c.args.ends.items
+          (g.F.Files.seen c.args.files.now)
           c.loop-end.ends.items c.pop.new.self.items c.in-Some.end
-          (seen (g.F.Files.input c.loop-end.files) (g.F.Files.output c.loop-end.files) (g.F.Files.faults_of c.loop-end.files) (g.F.Files.refused_of c.loop-end.files) (g.F.Files.faults c.loop-end.files) (g.F.Files.ends c.loop-end.files))
-          (seen (g.F.Files.input c.close.new.files) (g.F.Files.output c.close.new.files) (g.F.Files.faults_of c.close.new.files) (g.F.Files.refused_of c.close.new.files) (g.F.Files.faults c.close.new.files) (g.F.Files.ends c.close.new.files))
+          (g.F.Files.seen c.loop-end.files)
+          (g.F.Files.seen c.close.new.files)
           c.loop-end.invariant.closing c.in-Some.ensures.items c.close.ensures.closes;
       here = opened_later (g.F.Files.opened c.loop-end.files) (g.F.Files.opened c.close.new.files) c.close.ensures.opened_stays
-          (known_ends g.F.Src.Source.location g.F.Src.Source.content g.F.Src.Source.faults g.F.Snk.Sink.location g.F.Snk.Sink.bytes g.F.Snk.Sink.faults c.pop.new.self.items)
-          (opened_front (known_end g.F.Src.Source.location g.F.Src.Source.content g.F.Src.Source.faults g.F.Snk.Sink.location g.F.Snk.Sink.bytes g.F.Snk.Sink.faults) (g.F.Files.opened c.loop-end.files) c.loop-end.ends.items c.pop.new.self.items (c.in-Some.end ∷ [])
+          (known_ends g.F.Src.Source g.F.Snk.Sink c.pop.new.self.items)
+          (opened_front (known_end g.F.Src.Source g.F.Snk.Sink) (g.F.Files.opened c.loop-end.files) c.loop-end.ends.items c.pop.new.self.items (c.in-Some.end ∷ [])
           c.in-Some.ensures.items c.loop-end.invariant.here);
       opened_stays = λ k h. c.close.ensures.opened_stays k (c.loop-end.invariant.opened_stays k h);
     }
 
 pub returns-clause-closes : goal.returns-clause-closes
 returns-clause-closes g c =
-    closing_all (known_end g.F.Src.Source.location g.F.Src.Source.content g.F.Src.Source.faults g.F.Snk.Sink.location g.F.Snk.Sink.bytes g.F.Snk.Sink.faults) c.args.ends.items
-    (seen (g.F.Files.input c.args.files.now) (g.F.Files.output c.args.files.now) (g.F.Files.faults_of c.args.files.now) (g.F.Files.refused_of c.args.files.now) (g.F.Files.faults c.args.files.now) (g.F.Files.ends c.args.files.now))
+    closing_all (known_end g.F.Src.Source g.F.Snk.Sink) c.args.ends.items
+    (g.F.Files.seen c.args.files.now)
     c.loop-end.ends.items
-    (seen (g.F.Files.input c.loop-end.files) (g.F.Files.output c.loop-end.files) (g.F.Files.faults_of c.loop-end.files) (g.F.Files.refused_of c.loop-end.files) (g.F.Files.faults c.loop-end.files) (g.F.Files.ends c.loop-end.files))
+    (g.F.Files.seen c.loop-end.files)
     (none_left c.loop-end.ends.items (omega (arith, c.in_default.ensures.cases.0, c.loop-end.ends.ok.0))) c.loop-end.invariant.closing

@@ -6,8 +6,8 @@ use Rattle.run_files.proofs.tests.work.Given as goal
 abbrev pub invariant-loop-end : goal.invariant-loop-end
 invariant-loop-end g l =
     record {
-      left : AllOpened (g.F.Files.opened l.files) (known_ends g.F.Src.Source.location g.F.Src.Source.content g.F.Src.Source.faults g.F.Snk.Sink.location g.F.Snk.Sink.bytes g.F.Snk.Sink.faults l.ends.items);
-      done : AllOpened (g.F.Files.opened l.files) (known_ends g.F.Src.Source.location g.F.Src.Source.content g.F.Src.Source.faults g.F.Snk.Sink.location g.F.Snk.Sink.bytes g.F.Snk.Sink.faults l.back.items);
+      left : AllOpened (g.F.Files.opened l.files) (known_ends g.F.Src.Source g.F.Snk.Sink l.ends.items);
+      done : AllOpened (g.F.Files.opened l.files) (known_ends g.F.Src.Source g.F.Snk.Sink l.back.items);
       room : length l.ends.items + length l.back.items ≤ vec_capacity l.back;
     }
 

@@ -98,7 +98,7 @@ returns-in-OutOfMemory-clause-crosses g c = record {
   set = record { at = some_at c.args.parts.now.items c.args.place c.index_mut.result.now (place_within c.args.parts.now.items c.args.place c.args.port c.requires.at) c.index_mut.ensures.value; set = refl };
   crossing = crossings.OutOfMemory;
   crossed = c.in-OutOfMemory.ensures;
-  after = (refl, refl);
+  after = (refl, err_same _ _ c.out_of_memory.ensures);
 }
 
 pub returns-in-OutOfMemory-clause-shape : goal.returns-in-OutOfMemory-clause-shape

@@ -34,7 +34,7 @@ pub returns-in-BehindEos-clause-crosses : goal.returns-in-BehindEos-clause-cross
 returns-in-BehindEos-clause-crosses g c = source_same g.O.Outlet c.args.head.now _ c.args.parts.now.items (g.O.Outlet.tells c.args.lanes.now) (g.O.Outlet.tells c.cross.new.lanes) crossings.BehindEos _ refl refl refl c.in-BehindEos.ensures.shape c.in-BehindEos.ensures.crossing c.in-BehindEos.ensures.probe c.in-BehindEos.ensures.table c.in-BehindEos.ensures.ready (refl, refl, refl)
 
 pub returns-in-OutOfMemory-clause-crosses : goal.returns-in-OutOfMemory-clause-crosses
-returns-in-OutOfMemory-clause-crosses g c = source_same g.O.Outlet c.args.head.now _ c.args.parts.now.items (g.O.Outlet.tells c.args.lanes.now) (g.O.Outlet.tells c.cross.new.lanes) crossings.OutOfMemory _ refl refl refl c.in-OutOfMemory.ensures.shape c.in-OutOfMemory.ensures.crossing c.in-OutOfMemory.ensures.probe c.in-OutOfMemory.ensures.table c.in-OutOfMemory.ensures.ready (refl, refl, refl)
+returns-in-OutOfMemory-clause-crosses g c = source_same g.O.Outlet c.args.head.now _ c.args.parts.now.items (g.O.Outlet.tells c.args.lanes.now) (g.O.Outlet.tells c.cross.new.lanes) crossings.OutOfMemory _ refl refl refl c.in-OutOfMemory.ensures.shape c.in-OutOfMemory.ensures.crossing c.in-OutOfMemory.ensures.probe c.in-OutOfMemory.ensures.table c.in-OutOfMemory.ensures.ready (refl, refl, err_same _ _ c.out_of_memory.ensures)
 
 pub returns-in-Full-clause-crosses : goal.returns-in-Full-clause-crosses
 returns-in-Full-clause-crosses g c = source_same g.O.Outlet c.args.head.now _ c.args.parts.now.items (g.O.Outlet.tells c.args.lanes.now) (g.O.Outlet.tells c.cross.new.lanes) (crossings.Full c.in-Full.lane) _ refl refl refl c.in-Full.ensures.shape c.in-Full.ensures.crossing c.in-Full.ensures.probe c.in-Full.ensures.table c.in-Full.ensures.ready (refl, refl, refl)
@@ -43,7 +43,7 @@ pub returns-in-AtProbe-clause-crosses : goal.returns-in-AtProbe-clause-crosses
 returns-in-AtProbe-clause-crosses g c = source_same g.O.Outlet c.args.head.now _ c.args.parts.now.items (g.O.Outlet.tells c.args.lanes.now) (g.O.Outlet.tells c.cross.new.lanes) (crossings.AtProbe c.in-AtProbe.command) _ refl refl refl c.in-AtProbe.ensures.shape c.in-AtProbe.ensures.crossing c.in-AtProbe.ensures.probe c.in-AtProbe.ensures.table c.in-AtProbe.ensures.ready (refl, refl, refl)
 
 pub returns-in-NotLinked-clause-crosses : goal.returns-in-NotLinked-clause-crosses
-returns-in-NotLinked-clause-crosses g c = source_same g.O.Outlet c.args.head.now _ c.args.parts.now.items (g.O.Outlet.tells c.args.lanes.now) (g.O.Outlet.tells c.cross.new.lanes) crossings.NotLinked _ refl refl refl c.in-NotLinked.ensures.shape c.in-NotLinked.ensures.crossing c.in-NotLinked.ensures.probe c.in-NotLinked.ensures.table c.in-NotLinked.ensures.ready (refl, refl, err_same _ _ (fault_at _ _ _ _ c.number.ensures c.crossed.ensures.number))
+returns-in-NotLinked-clause-crosses g c = source_same g.O.Outlet c.args.head.now _ c.args.parts.now.items (g.O.Outlet.tells c.args.lanes.now) (g.O.Outlet.tells c.cross.new.lanes) crossings.NotLinked _ refl refl refl c.in-NotLinked.ensures.shape c.in-NotLinked.ensures.crossing c.in-NotLinked.ensures.probe c.in-NotLinked.ensures.table c.in-NotLinked.ensures.ready (refl, refl, err_same _ _ (c.not_linked.ensures ∙ fault_at _ _ _ _ c.number.ensures c.crossed.ensures.number))
 
 pub returns-in-AtLimit-clause-crosses : goal.returns-in-AtLimit-clause-crosses
 returns-in-AtLimit-clause-crosses g c = source_same g.O.Outlet c.args.head.now _ c.args.parts.now.items (g.O.Outlet.tells c.args.lanes.now) (g.O.Outlet.tells c.cross.new.lanes) crossings.AtLimit _ refl refl refl c.in-AtLimit.ensures.shape c.in-AtLimit.ensures.crossing c.in-AtLimit.ensures.probe c.in-AtLimit.ensures.table c.in-AtLimit.ensures.ready (refl, refl, err_same _ _ c.too_long.ensures)

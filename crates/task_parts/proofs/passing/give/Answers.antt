@@ -17,4 +17,4 @@ pub returns-in-Ok-AtLimit-clause-gives : goal.returns-in-Ok-AtLimit-clause-gives
 returns-in-Ok-AtLimit-clause-gives g c = inl ((gives_as c.args.head.now c.give.new.self c.in-Ok-AtLimit.field-0 _ c.in-Ok-AtLimit.field-0-is c.in-Ok-AtLimit.ensures.gives), c.too_long.ensures ∙ ap (λ n. TooLong n 1099511627776 1) c.give.ensures.number)
 
 pub returns-in-Err-clause-gives : goal.returns-in-Err-clause-gives
-returns-in-Err-clause-gives g c = inr (c.in-Err.unread, c.unread.ensures ∙ ap (λ n. unread_fault n c.in-Err.unread) c.give.ensures.number, c.in-Err.ensures.kept, c.in-Err.ensures.cause)
+returns-in-Err-clause-gives g c = inr (c.in-Err.unread, c.unread.ensures ∙ ap (λ n. unread_fault n c.in-Err.unread) c.give.ensures.number, c.in-Err.ensures.kept, c.in-Err.ensures.cause, c.in-Err.ensures.short)

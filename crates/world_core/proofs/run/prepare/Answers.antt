@@ -1,4 +1,4 @@
-use Rattle.graph_model.proofs.Once.{linked_once}
+use Rattle.graph_core.proofs.LinkedOnce.{linked_once}
 use Rattle.world_core.proofs.run.prepare.Goals as goal
 
 pub returns-clause-planned : goal.returns-clause-planned

@@ -1,9 +1,9 @@
 use Rattle.std.proofs.Common.{◌∙◌, inl, inr}
 use Rattle.graph_core.specs.Graph.{made}
 use Rattle.graph_files.proofs.Locating.{all_opened}
-use Rattle.graph_files.specs.Files.{known_of}
+use Rattle.run_files.specs.Ends.{known_ends}
 use Rattle.world_core.specs.Ran.{KnownFailed, KnownHold}
-use Rattle.world_core.specs.World.{FileFailed, FilesHold, seen_by}
+use Rattle.world_core.specs.World.{FileFailed, FilesHold}
 use Rattle.world_core.proofs.Closing.{ended_with, ends_same, file_failed, files_hold, inputs_stay, others_stay}
 use Rattle.world_core.proofs.Unopened.{opens_line, unopened_ends, unopened_inputs, unopened_others, unopened_run}
 use Rattle.world_core.proofs.run.run_turns.Goals as goal
@@ -13,8 +13,8 @@ use Rattle.world_core.proofs.run.run_turns.Goals as goal
 pub returns-in-Err-open_all-clause-ended : goal.returns-in-Err-open_all-clause-ended
 returns-in-Err-open_all-clause-ended g c =
     λ found.
-    let before = seen_by g.F.Files c.args.files.now in
-    let after = seen_by g.F.Files c.open_all.new.files in
+    let before = g.F.Files.seen c.args.files.now in
+    let after = g.F.Files.seen c.open_all.new.files in
     let same = c.as_slice-in-Err-open_all.ensures.value ∙ c.in-Ok.ensures.reserved.openings_are in
     inl (unopened_run c.args.graph c.as_slice-in-Err-open_all.result.now before after c.not_begun.result same
     (c.not_begun.ensures.ended found before after
@@ -23,47 +23,47 @@ returns-in-Err-open_all-clause-ended g c =
 pub returns-in-Err-open_all-clause-turned : goal.returns-in-Err-open_all-clause-turned
 returns-in-Err-open_all-clause-turned g c =
     λ found other.
-    absurd (other (c.not_begun.ensures.ended found (seen_by g.F.Files c.args.files.now) (seen_by g.F.Files c.open_all.new.files)
+    absurd (other (c.not_begun.ensures.ended found (g.F.Files.seen c.args.files.now) (g.F.Files.seen c.open_all.new.files)
     (rw (c.as_slice-in-Err-open_all.ensures.value, ← c.as_slice.ensures.value) c.in-Err-open_all.ensures.unopened)).status)
 
 pub returns-in-Err-open_all-clause-given_back : goal.returns-in-Err-open_all-clause-given_back
 returns-in-Err-open_all-clause-given_back g c =
     λ small.
     let same = c.as_slice.ensures.value ∙ c.in-Ok.ensures.reserved.openings_are in
-    unopened_ends c.args.graph c.as_slice.result.now (seen_by g.F.Files c.args.files.now) (seen_by g.F.Files c.open_all.new.files) same
+    unopened_ends c.args.graph c.as_slice.result.now (g.F.Files.seen c.args.files.now) (g.F.Files.seen c.open_all.new.files) same
     c.requires.built.tree c.requires.built.line c.in-Err-open_all.unopened c.in-Err-open_all.ensures.unopened small
 
 pub returns-in-Err-open_all-clause-inputs : goal.returns-in-Err-open_all-clause-inputs
 returns-in-Err-open_all-clause-inputs g c =
     λ l.
     let same = c.as_slice.ensures.value ∙ c.in-Ok.ensures.reserved.openings_are in
-    unopened_inputs c.args.graph c.as_slice.result.now (seen_by g.F.Files c.args.files.now) (seen_by g.F.Files c.open_all.new.files) same
+    unopened_inputs c.args.graph c.as_slice.result.now (g.F.Files.seen c.args.files.now) (g.F.Files.seen c.open_all.new.files) same
     c.in-Err-open_all.unopened c.in-Err-open_all.ensures.unopened l
 
 pub returns-in-Err-open_all-clause-others : goal.returns-in-Err-open_all-clause-others
 returns-in-Err-open_all-clause-others g c =
     λ l away.
     let same = c.as_slice.ensures.value ∙ c.in-Ok.ensures.reserved.openings_are in
-    unopened_others c.args.graph c.as_slice.result.now (seen_by g.F.Files c.args.files.now) (seen_by g.F.Files c.open_all.new.files) same
+    unopened_others c.args.graph c.as_slice.result.now (g.F.Files.seen c.args.files.now) (g.F.Files.seen c.open_all.new.files) same
     c.in-Err-open_all.unopened c.in-Err-open_all.ensures.unopened l away
 
 -- all were opened
 
 pub run_opened-end-requires-clause-opened : goal.run_opened-end-requires-clause-opened
 run_opened-end-requires-clause-opened g c κs within =
-    let before = seen_by g.F.Files c.args.files.now in
-    let mid = seen_by g.F.Files c.open_all.new.files in
+    let before = g.F.Files.seen c.args.files.now in
+    let mid = g.F.Files.seen c.open_all.new.files in
     let same = c.as_slice.ensures.value ∙ c.in-Ok.ensures.reserved.openings_are in
-    let ends = known_of g.F.Src.Source g.F.Snk.Sink c.in-Ok-open_all.ends.items in
+    let ends = known_ends g.F.Src.Source g.F.Snk.Sink c.in-Ok-open_all.ends.items in
     (before, mid, opens_line c.args.graph c.as_slice.result.now before mid same ends c.in-Ok-open_all.ensures.opened)
 
 pub close_all-requires-clause-opened_here : goal.close_all-requires-clause-opened_here
 close_all-requires-clause-opened_here g c κs within =
-    let before = seen_by g.F.Files c.args.files.now in
-    let mid = seen_by g.F.Files c.open_all.new.files in
+    let before = g.F.Files.seen c.args.files.now in
+    let mid = g.F.Files.seen c.open_all.new.files in
     let same = c.as_slice.ensures.value ∙ c.in-Ok.ensures.reserved.openings_are in
-    let ends = known_of g.F.Src.Source g.F.Snk.Sink c.in-Ok-open_all.ends.items in
-    let known = known_of g.F.Src.Source g.F.Snk.Sink c.run_opened-end.result.ends.items in
+    let ends = known_ends g.F.Src.Source g.F.Snk.Sink c.in-Ok-open_all.ends.items in
+    let known = known_ends g.F.Src.Source g.F.Snk.Sink c.run_opened-end.result.ends.items in
     let opens = opens_line c.args.graph c.as_slice.result.now before mid same ends c.in-Ok-open_all.ensures.opened in
     let located = c.run_opened-end.ensures.located before mid opens in
     all_opened (g.F.Files.opened c.open_all.new.files) before (made c.args.graph) known located (rw (← opens.made) c.in-Ok-open_all.ensures.here)
@@ -71,12 +71,12 @@ close_all-requires-clause-opened_here g c κs within =
 pub returns-clause-ended : goal.returns-clause-ended
 returns-clause-ended g c =
     λ found.
-    let before = seen_by g.F.Files c.args.files.now in
-    let mid = seen_by g.F.Files c.open_all.new.files in
-    let after = seen_by g.F.Files c.close_all.new.files in
+    let before = g.F.Files.seen c.args.files.now in
+    let mid = g.F.Files.seen c.open_all.new.files in
+    let after = g.F.Files.seen c.close_all.new.files in
     let same = c.as_slice.ensures.value ∙ c.in-Ok.ensures.reserved.openings_are in
-    let ends = known_of g.F.Src.Source g.F.Snk.Sink c.in-Ok-open_all.ends.items in
-    let known = known_of g.F.Src.Source g.F.Snk.Sink c.run_opened-end.result.ends.items in
+    let ends = known_ends g.F.Src.Source g.F.Snk.Sink c.in-Ok-open_all.ends.items in
+    let known = known_ends g.F.Src.Source g.F.Snk.Sink c.run_opened-end.result.ends.items in
     let opens = opens_line c.args.graph c.as_slice.result.now before mid same ends c.in-Ok-open_all.ensures.opened in
     let located = c.run_opened-end.ensures.located before mid opens in
     let hold = files_hold c.requires.built.tree c.args.graph c.requires.built.line known located before mid after ends opens c.close_all.ensures.alone in
@@ -94,45 +94,45 @@ returns-clause-ended g c =
 pub returns-clause-turned : goal.returns-clause-turned
 returns-clause-turned g c =
     λ found other.
-    let before = seen_by g.F.Files c.args.files.now in
-    let mid = seen_by g.F.Files c.open_all.new.files in
+    let before = g.F.Files.seen c.args.files.now in
+    let mid = g.F.Files.seen c.open_all.new.files in
     let same = c.as_slice.ensures.value ∙ c.in-Ok.ensures.reserved.openings_are in
-    let ends = known_of g.F.Src.Source g.F.Snk.Sink c.in-Ok-open_all.ends.items in
+    let ends = known_ends g.F.Src.Source g.F.Snk.Sink c.in-Ok-open_all.ends.items in
     c.run_opened-end.ensures.turned before mid (opens_line c.args.graph c.as_slice.result.now before mid same ends c.in-Ok-open_all.ensures.opened) found
 
 pub returns-clause-given_back : goal.returns-clause-given_back
 returns-clause-given_back g c =
     λ small.
-    let before = seen_by g.F.Files c.args.files.now in
-    let mid = seen_by g.F.Files c.open_all.new.files in
-    let after = seen_by g.F.Files c.close_all.new.files in
+    let before = g.F.Files.seen c.args.files.now in
+    let mid = g.F.Files.seen c.open_all.new.files in
+    let after = g.F.Files.seen c.close_all.new.files in
     let same = c.as_slice.ensures.value ∙ c.in-Ok.ensures.reserved.openings_are in
-    let ends = known_of g.F.Src.Source g.F.Snk.Sink c.in-Ok-open_all.ends.items in
-    let known = known_of g.F.Src.Source g.F.Snk.Sink c.run_opened-end.result.ends.items in
+    let ends = known_ends g.F.Src.Source g.F.Snk.Sink c.in-Ok-open_all.ends.items in
+    let known = known_ends g.F.Src.Source g.F.Snk.Sink c.run_opened-end.result.ends.items in
     let opens = opens_line c.args.graph c.as_slice.result.now before mid same ends c.in-Ok-open_all.ensures.opened in
     let located = c.run_opened-end.ensures.located before mid opens in
     ends_same c.requires.built.tree c.args.graph c.requires.built.line known located before mid after ends opens c.close_all.ensures.closes small
 
 pub returns-clause-inputs : goal.returns-clause-inputs
 returns-clause-inputs g c =
-    let before = seen_by g.F.Files c.args.files.now in
-    let mid = seen_by g.F.Files c.open_all.new.files in
-    let after = seen_by g.F.Files c.close_all.new.files in
+    let before = g.F.Files.seen c.args.files.now in
+    let mid = g.F.Files.seen c.open_all.new.files in
+    let after = g.F.Files.seen c.close_all.new.files in
     let same = c.as_slice.ensures.value ∙ c.in-Ok.ensures.reserved.openings_are in
-    let ends = known_of g.F.Src.Source g.F.Snk.Sink c.in-Ok-open_all.ends.items in
-    let known = known_of g.F.Src.Source g.F.Snk.Sink c.run_opened-end.result.ends.items in
+    let ends = known_ends g.F.Src.Source g.F.Snk.Sink c.in-Ok-open_all.ends.items in
+    let known = known_ends g.F.Src.Source g.F.Snk.Sink c.run_opened-end.result.ends.items in
     let opens = opens_line c.args.graph c.as_slice.result.now before mid same ends c.in-Ok-open_all.ensures.opened in
     let located = c.run_opened-end.ensures.located before mid opens in
     inputs_stay c.requires.built.tree c.args.graph c.requires.built.line known located before mid after ends opens c.close_all.ensures.closes
 
 pub returns-clause-others : goal.returns-clause-others
 returns-clause-others g c =
-    let before = seen_by g.F.Files c.args.files.now in
-    let mid = seen_by g.F.Files c.open_all.new.files in
-    let after = seen_by g.F.Files c.close_all.new.files in
+    let before = g.F.Files.seen c.args.files.now in
+    let mid = g.F.Files.seen c.open_all.new.files in
+    let after = g.F.Files.seen c.close_all.new.files in
     let same = c.as_slice.ensures.value ∙ c.in-Ok.ensures.reserved.openings_are in
-    let ends = known_of g.F.Src.Source g.F.Snk.Sink c.in-Ok-open_all.ends.items in
-    let known = known_of g.F.Src.Source g.F.Snk.Sink c.run_opened-end.result.ends.items in
+    let ends = known_ends g.F.Src.Source g.F.Snk.Sink c.in-Ok-open_all.ends.items in
+    let known = known_ends g.F.Src.Source g.F.Snk.Sink c.run_opened-end.result.ends.items in
     let opens = opens_line c.args.graph c.as_slice.result.now before mid same ends c.in-Ok-open_all.ensures.opened in
     let located = c.run_opened-end.ensures.located before mid opens in
     others_stay c.requires.built.tree c.args.graph c.requires.built.line known located before mid after ends opens c.close_all.ensures.others

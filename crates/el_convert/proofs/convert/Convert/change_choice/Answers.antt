@@ -1,7 +1,8 @@
 use Rattle.std.proofs.Common.{◌++◌, ◌∷◌, [], length, sym, ap, ◌∙◌, arith}
 use Rattle.flow_model.specs.Item.{Buf, Ev, NewCaps}
 use Rattle.flow_model.specs.Feeding.{on_pad}
-use Rattle.el_convert.specs.Converts.{frame_width, answered}
+use Rattle.el_convert.specs.Converts.{frame_width}
+use Rattle.flow_model.specs.Owed.{answered}
 use Rattle.el_convert.proofs.Buffers.{owed_changing, fault_changing, knows_changing, if_err, if_no_value, on_no_value, ok_of, takes_whole, takes_fits}
 use Rattle.el_convert.proofs.convert.Convert.change_choice.Goals as goal
 

@@ -1,5 +1,6 @@
 use Rattle.std.proofs.Common.{[], sym, append-nil}
-use Rattle.el_parse.specs.Parses.{parse_answer, answered}
+use Rattle.el_parse.specs.Parses.{parse_answer}
+use Rattle.flow_model.specs.Owed.{answered}
 use Rattle.el_parse.specs.Parsed.{come}
 use Rattle.el_parse.proofs.Parsing.{parsed_item, parsed_behind}
 use Rattle.el_parse.proofs.Putting.{parser_puts, parser_puts_behind}

@@ -1,6 +1,6 @@
 use Rattle.std.proofs.Common.{[], ◌++◌, ◌∙◌, ap, sym, append-nil}
 use Rattle.flow_model.specs.Feeding.{on_pad}
-use Rattle.el_parse.specs.Parses.{answered}
+use Rattle.flow_model.specs.Owed.{answered}
 use Rattle.el_parse.specs.Splits.{rest}
 use Rattle.el_parse.specs.Regrouped.{come}
 use Rattle.el_parse.proofs.Grouping.{split_drained, split_drained_behind, on_three}

@@ -1,5 +1,5 @@
 use Rattle.std.proofs.Common.{[], sym, append-nil}
-use Rattle.el_parse.specs.Parses.{answered}
+use Rattle.flow_model.specs.Owed.{answered}
 use Rattle.el_parse.specs.Splits.{split_answer}
 use Rattle.el_parse.specs.Regrouped.{come}
 use Rattle.el_parse.proofs.Grouping.{split_item, split_behind}

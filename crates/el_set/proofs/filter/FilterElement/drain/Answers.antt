@@ -5,7 +5,7 @@ use Rattle.el_wav.specs.WavParse.{parses as parses_wav, Parsed as WavParsed}
 use Rattle.el_wavenc.specs.Encodes.{encodes}
 use Rattle.el_wavenc.specs.Encoded.{Encoded}
 use Rattle.el_set.proofs.Elements.{identity_drains, filter_drains}
-use Rattle.el_set.proofs.Following.{convert_put, law_put, raw_put, split_put, wav_put, wavenc_put, by_wav, told_wav, by_enc, told_enc, on_taken, fault_by, fault_alone, drain_by, drain_alone, drain_of_eos}
+use Rattle.el_set.proofs.Following.{convert_put, law_put, raw_put, split_put, wav_put, wavenc_put, by_wav, told_wav, by_enc, told_enc, on_taken, fault_by, fault_alone, drain_of_eos}
 use Rattle.el_set.proofs.filter.FilterElement.drain.Goals as goal
 
 pub returns-in-Identity-clause-drained : goal.returns-in-Identity-clause-drained
@@ -49,7 +49,7 @@ returns-in-WavEnc-clause-drained c =
 pub returns-in-Split-clause-fault : goal.returns-in-Split-clause-fault
 returns-in-Split-clause-fault c =
     let did = c.drain-in-Split in
-    rw c.in-Split.is (fault_by splits Regrouped did.result c.in-Split.split (Act Drain) (drain_by splits Regrouped did.result c.in-Split.split did.ensures.fault))
+    rw c.in-Split.is (fault_by splits Regrouped did.result c.in-Split.split (Act Drain) did.ensures.fault)
 
 pub returns-in-WavParse-clause-fault : goal.returns-in-WavParse-clause-fault
 returns-in-WavParse-clause-fault c =
@@ -64,5 +64,4 @@ returns-in-WavEnc-clause-fault c =
     let did = c.drain-in-WavEnc in let encoder = c.in-WavEnc.encoder in
     rw c.in-WavEnc.is
     (fault_by by_enc told_enc did.result encoder (Act Drain)
-    (fault_alone encodes (λ e calls put. Encoded e calls put) did.result encoder (Act Drain)
-    (drain_alone encodes (λ e calls put. Encoded e calls put) did.result encoder did.ensures.fault)))
+    (fault_alone encodes (λ e calls put. Encoded e calls put) did.result encoder (Act Drain) did.ensures.fault))

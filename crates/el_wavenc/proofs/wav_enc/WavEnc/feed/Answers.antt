@@ -1,5 +1,5 @@
 use Rattle.std.proofs.Common.{[], sym, append-nil}
-use Rattle.el_parse.specs.Parses.{answered}
+use Rattle.flow_model.specs.Owed.{answered}
 use Rattle.el_wavenc.specs.Encodes.{encode_answer}
 use Rattle.el_wavenc.specs.Encoded.{come}
 use Rattle.el_wavenc.proofs.Encoding.{encoded_item, encoded_behind}

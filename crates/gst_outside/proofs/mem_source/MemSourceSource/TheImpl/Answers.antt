@@ -9,6 +9,7 @@ read_at-tells x c = record {
   location_stays = search rules;
   never_falls = search rules;
   failed = search rules;
+  faults_stay = search rules;
   room = search rules;
   inside = search rules;
   bytes = search rules;

@@ -9,14 +9,14 @@ use Rattle.net_task.proofs.SoFar.{PadsAre, WasBelow, below_all, done_so, fails_s
 use Rattle.net_task.proofs.task.Task.try_part.Goals as goal
 
 pub returns-then-is_err-clause-faults : goal.returns-then-is_err-clause-faults
-returns-then-is_err-clause-faults g c = record {
+returns-then-is_err-clause-faults g c = rw c.out_of_memory.ensures (record {
   cause = memory;
   fails = λ m a. record {
     origin = at_head;
     fails = no_memory at_head (settled g.I.Inlet g.O.Outlet c.args.self.now.head c.args.self.now.parts.items c.settle.new.parts.items c.args.place c.settle.ensures.settled c.settle.ensures.shape m a);
     first = inl refl;
   };
-}
+})
 
 pub returns-then-is_err-clause-frame : goal.returns-then-is_err-clause-frame
 returns-then-is_err-clause-frame g c = settled_frame g.O.Outlet c.args.self.now.head c.args.self.now.parts.items c.settle.new.parts.items c.args.place c.settle.ensures.settled c.settle.ensures.shape

@@ -1,4 +1,0 @@
-pub mod Failures
-pub mod Gives
-pub mod Refuses
-pub mod Takes
