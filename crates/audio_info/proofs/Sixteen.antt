@@ -61,15 +61,6 @@ min_of_maps {V} w g h vs {xs} {ys} a b =
     go [] = refl
     go (v ∷ ws) = ap (λ (x : ℕ). x ∷ map (λ v. cond (ltb (g v) (h v)) (g v) (h v)) ws) (less (g v) (h v)) ∙ ap (λ (t : List ℕ). min (g v) (h v) ∷ t) (go ws)
 
--- lanes divided by a power of two, and lanes added to
-pub shifted8 : {V : Type 0} (k : ℕ) (g : V → ℕ) (vs : List V) {xs ks : List ℕ} → xs ≡ map g vs → ks ≡ map (λ v. k) vs
-    → zip2 (act2 (shr unsigned) (s_int w8) (s_int w8) (s_int w8)) xs ks ≡ map (λ v. g v / 2 ^ k) vs
-shifted8 k g vs a b = zip2_of_maps (λ x y. x / 2 ^ y) g (λ v. k) vs a b
-
-pub added8 : {V : Type 0} (k : ℕ) (g : V → ℕ) (vs : List V) {xs ks : List ℕ} → xs ≡ map g vs → ks ≡ map (λ v. k) vs
-    → zip2 (act2 wrap_add (s_int w8) (s_int w8) (s_int w8)) xs ks ≡ map (λ v. (g v + k) % 2 ^ 8) vs
-added8 k g vs a b = zip2_of_maps (λ x y. (x + y) % 2 ^ 8) g (λ v. k) vs a b
-
 pub shifted16 : {V : Type 0} (k : ℕ) (g : V → ℕ) (vs : List V) {xs ks : List ℕ} → xs ≡ map g vs → ks ≡ map (λ v. k) vs
     → zip2 (act2 (shr unsigned) (s_int w16) (s_int w16) (s_int w16)) xs ks ≡ map (λ v. g v / 2 ^ k) vs
 shifted16 k g vs a b = zip2_of_maps (λ x y. x / 2 ^ y) g (λ v. k) vs a b

@@ -1,12 +1,12 @@
 //! The fields of fixed caps, by their names.
 ghost use Rattle.std.specs.Prelude.{◌≡◌, ◌≤◌, length, OnOk, codes, option_and_then};
 ghost use Rattle.std.specs.Option.{option_copied};
-ghost use Rattle.gst_caps.specs.Names.{put};
-ghost use Rattle.gst_caps.specs.Values.{IsSingle};
+ghost use Rattle.gst_value.specs.Names.{put};
+ghost use Rattle.gst_value.specs.Values.{IsSingle};
 ghost use Rattle.audio_info.specs.Media.{field_of, number_up_to, raw_sample, sample_of};
 
 use crate::sample::Sample;
-use gst_caps::{CapsFault, Fixed, One, OutOfMemory};
+use gst_value::{CapsFault, Fixed, One, OutOfMemory};
 use std::alloc::Global;
 
 /// The value of the field of this name.

@@ -3,7 +3,7 @@ ghost use Rattle.std.specs.Prelude.{◌≤◌};
 
 use crate::field::{number_in, sample_in, set};
 use crate::sample::Sample;
-use gst_caps::{Fixed, One, OutOfMemory, Text};
+use gst_value::{Fixed, One, OutOfMemory, Text};
 use std::alloc::Global;
 use thiserror::Error;
 

@@ -20,8 +20,8 @@ pub enum Sample {
     ALaw,
 }
 
-// The formats of raw audio, which are not those of a law.
-const RAW: [Sample; 6] = [
+/// The formats of raw audio, which are not those of a law.
+pub(crate) const RAW: [Sample; 6] = [
     Sample::S8,
     Sample::U8,
     Sample::S16LE,

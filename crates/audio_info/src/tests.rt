@@ -4,7 +4,7 @@ ghost use Rattle.audio_info.specs.Packing.{FitsBytes, IsRaw, sample_width};
 use crate::{
     Info, NotAudio, Sample, alaw_dec, alaw_enc, get, mulaw_dec, mulaw_enc, mulaw_enc_sixteen, put,
 };
-use gst_caps::{Fixed, One, Text};
+use gst_value::{Fixed, One, Text};
 use std::process::Abort;
 use std::test::Fail;
 

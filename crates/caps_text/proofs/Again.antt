@@ -12,10 +12,10 @@ use Rattle.std.proofs.lemmas.Bool.Decides.{eqb_tells}
 use Rattle.std.proofs.lemmas.Fmt.{decimal_nonempty, digits_decimal, digits_value-decimal}
 use Rattle.std.proofs.lemmas.Int.{ints}
 use Rattle.std.proofs.lemmas.Str.Parse.{IsDigitsTest, FoldsDigits, IsNumeralModel, numerals_by_fold}
-use Rattle.gst_caps.specs.Fractions.{IsReduced, signed}
-use Rattle.gst_caps.specs.Values.{IsLowest}
-use Rattle.gst_caps.specs.declared.value.One.{One}
-use Rattle.gst_caps.specs.declared.value.One.TheVariants.{Int, Bool as Truth, Text, Fraction, IntRange}
+use Rattle.gst_value.specs.Fractions.{IsReduced, signed}
+use Rattle.gst_value.specs.Values.{IsLowest}
+use Rattle.gst_value.specs.declared.one.One.{One}
+use Rattle.gst_value.specs.declared.one.One.TheVariants.{Int, Bool as Truth, Text, Fraction, IntRange}
 use Rattle.caps_text.specs.Bytes.{in_class, is_digit, is_word}
 use Rattle.caps_text.specs.Grammar.{Digits, Number, Quotient, Quoted, Some_string, Truth_value, Single_value, Range, Member, size_after}
 use Rattle.caps_text.specs.Kinds.{kind_of}
@@ -27,6 +27,7 @@ use Rattle.caps_text.specs.declared.kind.Kind.{Kind}
 use Rattle.caps_text.specs.declared.kind.Kind.TheVariants.{Int as Whole, Bool as Either, Text as Words, Fraction as Quotients}
 use Rattle.caps_text.proofs.Ratios.{fits_from, fits_to, ratio_found}
 use Rattle.caps_text.proofs.Valid.{parts_when, ratio_kind_is, ratio_single}
+use Rattle.gst_value.proofs.Basics.{and_left, and_right}
 
 -- decimal digits
 digit_range : (b : ℕ) → is_digit b ≡ true → IsInRange 48 57 b
@@ -35,14 +36,6 @@ digit_range b h = grind arith
 range_digit : (b : ℕ) → IsInRange 48 57 b → is_digit b ≡ true
 range_digit b h = grind arith
 
-and-left : (a b : Bool) → (a && b) ≡ true → a ≡ true
-and-left true b h = refl
-and-left false b h = h
-
-and-right : (a b : Bool) → (a && b) ≡ true → b ≡ true
-and-right true b h = h
-and-right false b h = absurd (cc)
-
 and-both : (a b : Bool) → a ≡ true → b ≡ true → (a && b) ≡ true
 and-both true b p q = q
 and-both false b p q = p
@@ -50,7 +43,7 @@ and-both false b p q = p
 digits_test : IsDigitsTest (λ ds. list_all is_digit ds ≡ true)
 digits_test = record {
   empty = refl;
-  parts = λ c cs h. (digit_range c (and-left (is_digit c) (list_all is_digit cs) h), and-right (is_digit c) (list_all is_digit cs) h);
+  parts = λ c cs h. (digit_range c (and_left (is_digit c) (list_all is_digit cs) h), and_right (is_digit c) (list_all is_digit cs) h);
   more = λ c cs r h. and-both (is_digit c) (list_all is_digit cs) (range_digit c r) h;
 }
 
@@ -100,7 +93,7 @@ pub string_again : (t : List ℕ) → Some_string (string_text t) t
 string_again t = step (is_word t) refl
   where
     step : (s : Bool) → is_word t ≡ s → Some_string (cond s t (34 ∷ (escaped t ++ 34 ∷ []))) t
-    step true e = inl (refl, not_zero (length t) (and-left (not (eqb (length t) 0)) (list_all (in_class Word) t) e), and-right (not (eqb (length t) 0)) (list_all (in_class Word) t) e)
+    step true e = inl (refl, not_zero (length t) (and_left (not (eqb (length t) 0)) (list_all (in_class Word) t) e), and_right (not (eqb (length t) 0)) (list_all (in_class Word) t) e)
     step false e = inr (escaped t, refl, quoted_text t)
 
 truth_again : (b : Bool) → Truth_value (truth_text b) b

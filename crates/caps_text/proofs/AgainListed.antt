@@ -1,8 +1,9 @@
 -- What is printed stands for what was printed: values.
 use Rattle.std.proofs.Common.{◌≡◌, ℕ, ◌≤◌, Bool, true, false, cond, List, [], ◌∷◌, ◌++◌, length, Option, Some, None, inl, inr, refl, sym, ap, ◌∙◌, subst, append_assoc, append-nil, codes}
 use Rattle.std.specs.List.{list_any}
-use Rattle.gst_caps.specs.Common.{as_value, same}
-use Rattle.gst_caps.specs.declared.value.One.{One}
+use Rattle.gst_caps.specs.Common.{as_value}
+use Rattle.gst_value.specs.Common.{same}
+use Rattle.gst_value.specs.declared.one.One.{One}
 use Rattle.gst_caps.specs.declared.value.Value.{Value}
 use Rattle.gst_caps.specs.declared.value.Value.TheVariants.{One as Single, Many}
 use Rattle.caps_text.specs.Grammar.{Mark, Member, List_step, List_of, Plain_value, Field_value, Repeated, last, more}

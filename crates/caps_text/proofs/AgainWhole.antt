@@ -6,14 +6,14 @@ use Rattle.std.specs.Ordering.{is_lt, nat_cmp}
 use Rattle.std.specs.Str.{bytes_eq}
 use Rattle.std.specs.declared.cmp.Ordering.TheVariants.{Less}
 use Rattle.std.proofs.lemmas.Slice.Eq.{bytes_eq-Decides}
-use Rattle.gst_caps.proofs.Lists.{Each-append, Each-filter}
-use Rattle.gst_caps.proofs.Put.{Rises-put, put_step, same_not_before}
+use Rattle.gst_value.proofs.Lists.{Each-append, Each-filter}
+use Rattle.gst_value.proofs.Put.{Rises-put, put_step, same_not_before}
 use Rattle.gst_caps.specs.Accepts.{value_at}
-use Rattle.gst_caps.specs.Description.{Description}
-use Rattle.gst_caps.specs.Names.{Each, Rises, is_before, put}
+use Rattle.gst_value.specs.Description.{Description}
+use Rattle.gst_value.specs.Names.{Each, Rises, is_before, put}
 use Rattle.gst_caps.specs.declared.caps.Caps.{Caps}
 use Rattle.gst_caps.specs.declared.caps.Caps.TheVariants.{Any, Of}
-use Rattle.gst_caps.specs.declared.value.One.{One}
+use Rattle.gst_value.specs.declared.one.One.{One}
 use Rattle.gst_caps.specs.declared.value.Value.{Value}
 use Rattle.caps_text.specs.Grammar.{Then, Mark, Media_type, Field_name, Field, Head, Caps_step, IsCapsText, Repeated, last, more}
 use Rattle.caps_text.specs.Printed.{caps_text, field_text, joined_behind, structure_text, typed_text, value_text}

@@ -1,11 +1,9 @@
 -- Characters of a text, in quotes and out of them.
-use Rattle.std.proofs.Common.{◌≡◌, ◌≢◌, ℕ, suc, ◌<◌, ◌≤◌, true, false, eqb, List, [], ◌∷◌, ◌++◌, length, get_or, Ok, Err, inl, inr, refl, sym, ap, ◌∙◌, subst, arith, append_assoc, append-nil, length-append}
+use Rattle.std.proofs.Common.{◌≡◌, ◌≢◌, ℕ, suc, ◌<◌, ◌≤◌, true, false, eqb, List, [], ◌∷◌, ◌++◌, length, get_or, inl, inr, refl, sym, ap, ◌∙◌, subst, arith, append_assoc, append-nil, length-append}
 use Rattle.std.specs.Char.{encode_utf8}
 use Rattle.std.proofs.lemmas.Bool.{cases_lt}
 use Rattle.std.proofs.lemmas.Bool.Decides.{eqb_tells}
-use Rattle.std.proofs.lemmas.List.Concat.{flat_map-append}
 use Rattle.std.proofs.lemmas.Str.{encode_ascii, inside_one, length-encode, len_utf8_bounds}
-use Rattle.caps_text.specs.Answers.{misspelt}
 use Rattle.caps_text.specs.Printed.{escaped, escaped_byte}
 use Rattle.caps_text.specs.Reading.{read_quoted}
 
@@ -40,9 +38,6 @@ escaped_plain c p q = elim (cases_lt c 128) [
   | inl small ↦ rw (encode_ascii c small) (rw (plain_escaped c p q) refl)
   | inr big ↦ escaped_high (encode_utf8 c) (encode_high c big)
 ]
-
-pub escaped-append : (xs ys : List ℕ) → escaped (xs ++ ys) ≡ escaped xs ++ escaped ys
-escaped-append xs ys = flat_map-append escaped_byte xs ys
 
 -- the bytes of a part that is not ASCII are read as they are
 quoted_high : (xs so_far y : List ℕ) → AllHigh xs → read_quoted false so_far (xs ++ y) ≡ read_quoted false (so_far ++ xs) y
@@ -80,16 +75,6 @@ pub quoted_taken : (c d : ℕ) (so_far w x y : List ℕ) → w ≡ encode_utf8 c
 quoted_taken c d so_far w x y e is f =
     let one : encode_utf8 c ≡ 92 ∷ [] = ap encode_utf8 is ∙ encode_ascii 92 (omega arith) in
     rw (e, one, f) (taken_first (encode_utf8 d) so_far y (some_bytes d) (λ z rest g. high_from_second d z rest g))
-
-pub quoted_end : (c : ℕ) (so_far x y : List ℕ) → x ≡ encode_utf8 c ++ y → c ≡ 34 → read_quoted false so_far x ≡ Ok (so_far, y)
-quoted_end c so_far x y e is =
-    let one : encode_utf8 c ≡ 34 ∷ [] = ap encode_utf8 is ∙ encode_ascii 34 (omega arith) in
-    rw (e, one) refl
-
-pub quoted_cut : (c : ℕ) (so_far x y : List ℕ) → x ≡ encode_utf8 c ++ y → c ≡ 92 → y ≡ [] → read_quoted false so_far x ≡ Err (misspelt [])
-quoted_cut c so_far x y e is nil =
-    let one : encode_utf8 c ≡ 92 ∷ [] = ap encode_utf8 is ∙ encode_ascii 92 (omega arith) in
-    rw (e, one, nil) refl
 
 pub shorter_by : (c : ℕ) (x y : List ℕ) → x ≡ encode_utf8 c ++ y → length y < length x
 shorter_by c x y e = let some = some_bytes c in let n = length-append (encode_utf8 c) y in subst (λ l. length y < length l) (sym e) (omega (arith, some, n))

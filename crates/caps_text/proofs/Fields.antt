@@ -4,18 +4,16 @@ use Rattle.std.specs.Prelude.{slice_get, is_some}
 use Rattle.std.specs.List.{flat_map}
 use Rattle.std.specs.Str.{bytes_eq}
 use Rattle.std.proofs.Math.Seq.{drop-nil}
+use Rattle.std.proofs.lemmas.Option.{same_Some}
 use Rattle.caps_text.specs.Printed.{field_text, text_at}
 use Rattle.gst_caps.specs.Accepts.{value_at}
 use Rattle.gst_caps.specs.declared.value.Value.{Value}
 use Rattle.caps_text.specs.Reading.{names}
 
-some_is : {A : Type 0} (x y : A) → Some x ≡ Some y → x ≡ y
-some_is x y h = cc
-
 -- the field at a place
 splits : {X : Type 0} (xs : List X) (i : ℕ) (x : X) → slice_get xs i ≡ Some x → drop i xs ≡ x ∷ drop (suc i) xs
 splits [] i x h = absurd (cc)
-splits (y ∷ ys) zero x h = ap (λ z. z ∷ ys) (some_is y x h)
+splits (y ∷ ys) zero x h = ap (λ z. z ∷ ys) (same_Some y x h)
 splits (y ∷ ys) (suc i) x h = splits ys i x h
 
 pub place_splits : {X : Type 0} (xs : List X) (i : ℕ) (x : X) → slice_get xs i ≡ Some x → drop i xs ≡ x ∷ drop (i + 1) xs
@@ -24,7 +22,7 @@ place_splits xs i x h = let e : suc i ≡ i + 1 = omega arith in splits xs i x h
 -- a field of this name is found
 pub field_found : {V : Type 0} (name : List ℕ) (fs : List (List ℕ × V)) (i : ℕ) (f : List ℕ × V) → slice_get fs i ≡ Some f → bytes_eq f.0 name ≡ true → is_some (value_at name fs) ≡ true
 field_found name [] i f h e = absurd (cc)
-field_found name (g ∷ gs) zero f h e = let same = some_is g f h in let is : bytes_eq g.0 name ≡ true = ap (λ x. bytes_eq x.0 name) same ∙ e in rw is refl
+field_found name (g ∷ gs) zero f h e = let same = same_Some g f h in let is : bytes_eq g.0 name ≡ true = ap (λ x. bytes_eq x.0 name) same ∙ e in rw is refl
 field_found name (g ∷ gs) (suc i) f h e = step (bytes_eq g.0 name) (field_found name gs i f h e)
   where
     step : (t : Bool) → is_some (value_at name gs) ≡ true → is_some (cond t (Some g.1) (value_at name gs)) ≡ true
@@ -34,7 +32,7 @@ field_found name (g ∷ gs) (suc i) f h e = step (bytes_eq g.0 name) (field_foun
 -- one more field of another name
 passed : {V : Type 0} (name : List ℕ) (fs : List (List ℕ × V)) (i : ℕ) (f : List ℕ × V) → slice_get fs i ≡ Some f → bytes_eq f.0 name ≡ false → value_at name (take i fs) ≡ None → value_at name (take (suc i) fs) ≡ None
 passed name [] i f h e n = absurd (cc)
-passed name (g ∷ gs) zero f h e n = let same = some_is g f h in let is : bytes_eq g.0 name ≡ false = ap (λ x. bytes_eq x.0 name) same ∙ e in rw is refl
+passed name (g ∷ gs) zero f h e n = let same = same_Some g f h in let is : bytes_eq g.0 name ≡ false = ap (λ x. bytes_eq x.0 name) same ∙ e in rw is refl
 passed name (g ∷ gs) (suc i) f h e n = step (bytes_eq g.0 name) refl (passed name gs i f h e)
   where
     step : (t : Bool) → bytes_eq g.0 name ≡ t → (value_at name (take i gs) ≡ None → value_at name (take (suc i) gs) ≡ None) → cond (bytes_eq g.0 name) (Some g.1) (value_at name (take (suc i) gs)) ≡ None

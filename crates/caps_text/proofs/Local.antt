@@ -26,10 +26,6 @@ Kept r x rest o = (front : List ℕ) × (x ≡ front ++ rest) × ((y : List ℕ)
 abbrev pub IsLocal : {V : Type 0} → (List ℕ → Answer V) → Type 0
 IsLocal {V} r = (x rest : List ℕ) (o : Option V) → r x ≡ found o rest → Kept r x rest o
 
-pub same_self : (x : List ℕ) → Same_start x x
-same_self [] = tt
-same_self (b ∷ bs) = refl
-
 pub same_behind : (front rest y : List ℕ) → Same_start rest y → Same_start (front ++ rest) (front ++ y)
 same_behind [] rest y h = h
 same_behind (b ∷ bs) rest y h = refl

@@ -1,7 +1,7 @@
 -- The two loops: a step of each passes a byte or is the last.
 use Rattle.std.proofs.Common.{◌≡◌, ℕ, ◌<◌, ◌≤◌, ◌+◌, cond, List, [], ◌∷◌, length, zero, suc, Result, Ok, Err, inl, inr, sym, ap, ◌∙◌, subst, arith, length-append}
-use Rattle.gst_caps.specs.Description.{Description}
-use Rattle.gst_caps.specs.declared.value.One.{One}
+use Rattle.gst_value.specs.Description.{Description}
+use Rattle.gst_value.specs.declared.one.One.{One}
 use Rattle.gst_caps.specs.declared.value.Value.{Value}
 use Rattle.caps_text.specs.Answers.{Answer, Gives, Refuses, Stop, many, misspelt, ◌>>=◌}
 use Rattle.caps_text.specs.declared.fault.Refusal.{Refusal}

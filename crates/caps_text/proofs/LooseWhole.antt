@@ -3,7 +3,7 @@ use Rattle.std.proofs.Common.{◌≡◌, ℕ, Bool, true, false, cond, eqb, List
 use Rattle.std.specs.Prelude.{is_some, nat_lt}
 use Rattle.std.proofs.lemmas.Bool.{ne_eqb}
 use Rattle.gst_caps.specs.Accepts.{value_at}
-use Rattle.gst_caps.specs.Description.{Description}
+use Rattle.gst_value.specs.Description.{Description}
 use Rattle.gst_caps.specs.declared.value.Value.{Value}
 use Rattle.caps_text.specs.Answers.{Answer, misspelt, many, ◌>>=◌}
 use Rattle.caps_text.specs.Bytes.{in_class}

@@ -1,7 +1,7 @@
 -- Parts that have no limit are not refused for one.
 use Rattle.std.proofs.Common.{◌≡◌, ℕ, ◌+◌, ◌-◌, ◌*◌, ℤ, Bool, true, false, cond, eqb, List, [], ◌∷◌, ◌++◌, length, Option, Some, None, Ok, Err, refl, sym, ap, ◌∙◌, codes}
 use Rattle.std.specs.Prelude.{is_some}
-use Rattle.gst_caps.specs.declared.value.One.TheVariants.{Int, Bool as Truth, Text}
+use Rattle.gst_value.specs.declared.one.One.TheVariants.{Int, Bool as Truth, Text}
 use Rattle.caps_text.specs.Answers.{Answer, Stop, misspelt, many, ◌>>=◌, found}
 use Rattle.caps_text.specs.Bytes.{is_digit}
 use Rattle.caps_text.specs.Ratio.{ratio}

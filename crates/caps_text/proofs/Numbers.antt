@@ -6,7 +6,8 @@ use Rattle.std.proofs.Math.Nat.{mul-le-mul_right, le-div_iff_mul-le}
 use Rattle.std.proofs.lemmas.Bool.{cases_lt}
 use Rattle.std.proofs.lemmas.Bool.Decides.{eqb_tells}
 use Rattle.std.proofs.lemmas.Int.{ints}
-use Rattle.gst_caps.specs.Fractions.{signed}
+use Rattle.std.proofs.lemmas.Option.{same_Some}
+use Rattle.gst_value.specs.Fractions.{signed}
 use Rattle.caps_text.specs.Answers.{Answer, misspelt, ◌>>=◌, found}
 use Rattle.caps_text.specs.Bytes.{is_digit}
 use Rattle.caps_text.specs.Grammar.{Digits, Number, Wanted_number, size_after}
@@ -15,9 +16,10 @@ use Rattle.caps_text.specs.Reading.{after_byte, behind_minus, can_begin, digit_a
 use Rattle.caps_text.specs.declared.number.Wanted.{Wanted}
 use Rattle.caps_text.specs.declared.number.Wanted.TheVariants.{AtLeast, Denominator}
 use Rattle.caps_text.proofs.Choices.{reads_iff}
-use Rattle.caps_text.proofs.Readers.{IsReader, Reads_front, Stops, Starts, ok_is, some_is, bind_ok, found_ok}
+use Rattle.caps_text.proofs.Readers.{IsReader, Reads_front, Stops, Starts, ok_is, bind_ok, found_ok}
 use Rattle.caps_text.proofs.Tokens.{after_byte_is}
 use Rattle.caps_text.proofs.Words.{passes}
+use Rattle.gst_value.proofs.Basics.{and_left, and_right}
 
 -- digits at the front, which write the size
 abbrev pub Digits_read : ℕ → List ℕ → List ℕ → ℕ → Type 0
@@ -58,14 +60,6 @@ some_tens (suc k) = let h = some_tens k in omega (arith, h)
 digit_small : (b : ℕ) → is_digit b ≡ true → b - 48 ≤ 9
 digit_small b h = grind arith
 
-pub and-left : (a b : Bool) → (a && b) ≡ true → a ≡ true
-and-left true b h = refl
-and-left false b h = h
-
-pub and-right : (a b : Bool) → (a && b) ≡ true → b ≡ true
-and-right true b h = h
-and-right false b h = absurd (cc)
-
 pub and-both : (a b : Bool) → a ≡ true → b ≡ true → (a && b) ≡ true
 and-both true b p q = q
 and-both false b p q = p
@@ -80,8 +74,8 @@ size_least size (b ∷ bs) =
 size_most : (size : ℕ) (ds : List ℕ) → list_all is_digit ds ≡ true → size_after size ds + 1 ≤ (size + 1) * tens (length ds)
 size_most size [] h = omega arith
 size_most size (b ∷ bs) h =
-    let small = digit_small b (and-left (is_digit b) (list_all is_digit bs) h) in
-    let later = size_most (size * 10 + (b - 48)) bs (and-right (is_digit b) (list_all is_digit bs) h) in
+    let small = digit_small b (and_left (is_digit b) (list_all is_digit bs) h) in
+    let later = size_most (size * 10 + (b - 48)) bs (and_right (is_digit b) (list_all is_digit bs) h) in
     let more : (size * 10 + (b - 48) + 1) * tens (length bs) ≤ (size * 10 + 10) * tens (length bs) = mul-le-mul_right (tens (length bs)) (omega (arith, small)) in
     omega (arith, later, more)
 
@@ -159,7 +153,7 @@ unfolding wanted_number
 wanted_parts w negative size n h = step (fits negative size) (is_wanted w (signed negative size)) h
   where
     step : (a b : Bool) → cond {A = Option ℤ} (a && b) (Some (signed negative size)) None ≡ Some n → (a ≡ true) × (b ≡ true) × (n ≡ signed negative size)
-    step true true k = (refl, refl, sym (some_is (signed negative size) n k))
+    step true true k = (refl, refl, sym (same_Some (signed negative size) n k))
     step true false k = absurd (cc)
     step false b k = absurd (cc)
 
@@ -189,8 +183,8 @@ pub digits_complete : (w : Wanted) (negative : Bool) (size : ℕ) (used rest : L
 digits_complete w negative size [] [] h stop f g = refl
 digits_complete w negative size [] (b ∷ bs) h stop f g = ap (λ t. cond {A = Answer ℕ} t (cond {A = Answer ℕ} (can_begin w negative (size * 10 + (b - 48))) (read_digits w negative (size * 10 + (b - 48)) bs) (Err (misspelt (b ∷ bs)))) (Ok (size, b ∷ bs))) stop
 digits_complete w negative size (b ∷ bs) rest h stop f g =
-    let one = and-left (is_digit b) (list_all is_digit bs) h in
-    let others = and-right (is_digit b) (list_all is_digit bs) h in
+    let one = and_left (is_digit b) (list_all is_digit bs) h in
+    let others = and_right (is_digit b) (list_all is_digit bs) h in
     ap (λ t. cond {A = Answer ℕ} t (cond {A = Answer ℕ} (can_begin w negative (size * 10 + (b - 48))) (read_digits w negative (size * 10 + (b - 48)) (bs ++ rest)) (Err (misspelt (b ∷ (bs ++ rest))))) (Ok (size, b ∷ (bs ++ rest)))) one
     ∙ ap (λ t. cond {A = Answer ℕ} t (read_digits w negative (size * 10 + (b - 48)) (bs ++ rest)) (Err (misspelt (b ∷ (bs ++ rest))))) (viable w negative (size * 10 + (b - 48)) bs others f g)
     ∙ digits_complete w negative (size * 10 + (b - 48)) bs rest others stop f g
@@ -215,7 +209,7 @@ size_sound w negative y rest n h = step (is_some (digit_at y)) refl h
 -- what stands first in digits
 digits_begin : (digits rest : List ℕ) (size : ℕ) → Digits digits size → is_some (digit_at (digits ++ rest)) ≡ true
 digits_begin [] rest size h = absurd (let some = h.1 in omega (arith, some))
-digits_begin (b ∷ bs) rest size h = ap (λ t. is_some (cond {A = Option (ℕ × List ℕ)} t (Some (b - 48, bs ++ rest)) None)) (and-left (is_digit b) (list_all is_digit bs) h.2)
+digits_begin (b ∷ bs) rest size h = ap (λ t. is_some (cond {A = Option (ℕ × List ℕ)} t (Some (b - 48, bs ++ rest)) None)) (and_left (is_digit b) (list_all is_digit bs) h.2)
 
 size_complete : (w : Wanted) (negative : Bool) (digits rest : List ℕ) (size : ℕ) → Digits digits size → fits negative size ≡ true → is_wanted w (signed negative size) ≡ true → Stops is_digit rest → read_size w (negative, digits ++ rest) ≡ Ok (signed negative size, rest)
 unfolding read_size
@@ -243,7 +237,7 @@ digit_no_minus b h = elim (eqb_tells b 45) [ inl t ↦ absurd (let bad : is_digi
 
 no_minus : (digits rest : List ℕ) (size : ℕ) → Digits digits size → after_byte 45 (digits ++ rest) ≡ None
 no_minus [] rest size h = absurd (let some = h.1 in omega (arith, some))
-no_minus (b ∷ bs) rest size h = ap (λ t. cond {A = Option (List ℕ)} t (Some (bs ++ rest)) None) (digit_no_minus b (and-left (is_digit b) (list_all is_digit bs) h.2))
+no_minus (b ∷ bs) rest size h = ap (λ t. cond {A = Option (List ℕ)} t (Some (bs ++ rest)) None) (digit_no_minus b (and_left (is_digit b) (list_all is_digit bs) h.2))
 
 number_complete : (w : Wanted) (used rest : List ℕ) (n : ℤ) → Wanted_number w used n → Stops is_digit rest → read_number w (used ++ rest) ≡ Ok (n, rest)
 unfolding read_number minus
@@ -283,5 +277,5 @@ reads_any_number = reads_iff (Wanted_number (AtLeast least_number)) Number is_di
 -- a number begins with a digit or a minus
 pub number_starts : (test : ℕ → Bool) (text : List ℕ) (n : ℤ) → ((b : ℕ) → is_digit b ≡ true → test b ≡ false) → test 45 ≡ false → Number text n → Starts test text
 number_starts test [] n f e (inl h) = absurd (let some = h.1.1 in omega (arith, some))
-number_starts test (b ∷ bs) n f e (inl h) = f b (and-left (is_digit b) (list_all is_digit bs) h.1.2)
+number_starts test (b ∷ bs) n f e (inl h) = f b (and_left (is_digit b) (list_all is_digit bs) h.1.2)
 number_starts test text n f e (inr h) = subst (Starts test) (sym h.2) e

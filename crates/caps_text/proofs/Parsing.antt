@@ -1,13 +1,12 @@
 -- Whole texts: what is answered is what the grammar says.
-use Rattle.std.proofs.Common.{◌≡◌, ◌≢◌, ℕ, ◌≤◌, ◌-◌, List, [], ◌++◌, length, Result, Ok, Err, IfOk, IfErr, inl, inr, refl, sym, ap, ◌∙◌, subst, arith, append-nil, codes}
-use Rattle.std.proofs.Math.Nat.{le-min, min-le_left, min-le_right}
-use Rattle.gst_caps.specs.Description.{Description}
+use Rattle.std.proofs.Common.{◌≡◌, ◌≢◌, ℕ, ◌-◌, List, [], ◌++◌, length, Result, Ok, Err, IfOk, inl, inr, refl, sym, ap, ◌∙◌, subst, arith, append-nil, codes}
+use Rattle.gst_value.specs.Description.{Description}
 use Rattle.gst_caps.specs.declared.caps.Caps.{Caps}
 use Rattle.gst_caps.specs.declared.caps.Caps.TheVariants.{Any, Of}
 use Rattle.gst_caps.specs.declared.value.Value.{Value}
 use Rattle.caps_text.specs.Answers.{Answer, Stop, misspelt, many}
 use Rattle.caps_text.specs.Grammar.{IsCapsText, Structures}
-use Rattle.caps_text.specs.Parsed.{AnswersCaps, IsFaultOf, Told, as_place}
+use Rattle.caps_text.specs.Parsed.{AnswersCaps, Told}
 use Rattle.caps_text.specs.Reading.{expect, read_head, read_media, read_structures, some_run}
 use Rattle.caps_text.specs.declared.fault.CapsTextFault.{CapsTextFault}
 use Rattle.caps_text.specs.declared.fault.CapsTextFault.TheVariants.{BadCaps, TooMany, OutOfMemory}
@@ -66,15 +65,6 @@ pub told_only : (text : List ℕ) (r : Result Caps CapsTextFault) (caps : Caps) 
 told_only text r caps a e h (inl k) = absurd (a k.0)
 told_only text r caps a e h (inr (inl k)) = absurd (e k.0)
 told_only text r caps a e h (inr (inr k)) = subst (AnswersCaps r) (sym k.2) (told_structures text r k.0 h (structures_read text k.0 k.1))
-
-pub told_fault : (text : List ℕ) (r : Result Caps CapsTextFault) → Told text r (read_structures text) → IfErr r (IsFaultOf text)
-told_fault text (Ok caps) h = tt
-told_fault text (Err (BadCaps place)) h = rw h.2 (as_place_le (length text) (length h.0))
-  where
-    as_place_le : (m n : ℕ) → as_place (m - n) ≤ as_place m
-    as_place_le m n = let a = min-le_left (m - n) 4294967295 in let b = min-le_right (m - n) 4294967295 in le-min {k = as_place (m - n)} {a = m} {b = 4294967295} (omega (arith, a)) b
-told_fault text (Err (TooMany count)) h = h.1
-told_fault text (Err OutOfMemory) h = tt
 
 -- a text stands for one caps
 pub caps_one : (text : List ℕ) (a b : Caps) → IsCapsText text a → IsCapsText text b → a ≡ b

@@ -6,11 +6,11 @@ use Rattle.std.proofs.Math.Nat.{mod-lt, zero-div}
 use Rattle.std.proofs.lemmas.Bool.Decides.{eqb_tells}
 use Rattle.std.proofs.lemmas.Int.{ints}
 use Rattle.std.proofs.lemmas.Nat.Gcd.{IsGcd-from_zero, IsGcd-from_mod, same_from_IsGcd}
-use Rattle.gst_caps.specs.Fractions.{IsReduced, IsTooWide, signed}
-use Rattle.gst_caps.specs.Parts.{HasParts}
-use Rattle.gst_caps.specs.Values.{IsSingle}
-use Rattle.gst_caps.specs.declared.value.One.{One}
-use Rattle.gst_caps.specs.declared.value.One.TheVariants.{Fraction}
+use Rattle.gst_value.specs.Fractions.{IsReduced, IsTooWide, signed}
+use Rattle.gst_value.specs.Parts.{HasParts}
+use Rattle.gst_value.specs.Values.{IsSingle}
+use Rattle.gst_value.specs.declared.one.One.{One}
+use Rattle.gst_value.specs.declared.one.One.TheVariants.{Fraction}
 use Rattle.caps_text.specs.Ratio.{divisor_in, divisor, fits, ratio}
 
 IsGcd-divisor_in : (n a b : ℕ) → b < n → IsGcd a b (divisor_in n a b)

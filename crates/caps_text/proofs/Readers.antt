@@ -6,9 +6,6 @@ use Rattle.caps_text.specs.Grammar.{Then, As, Sure}
 pub ok_is : {A B : Type 0} (x y : A) → ◌≡◌ {A = Result A B} (Ok x) (Ok y) → x ≡ y
 ok_is x y h = cc
 
-pub some_is : {A : Type 0} (x y : A) → Some x ≡ Some y → x ≡ y
-some_is x y h = cc
-
 pub bind_ok : {V W : Type 0} (a : Answer V) (f : V × List ℕ → Answer W) (y : W × List ℕ) → (a >>= f) ≡ Ok y → (p : V × List ℕ) × (a ≡ Ok p) × (f p ≡ Ok y)
 bind_ok (Ok p) f y h = (p, refl, h)
 bind_ok (Err e) f y h = absurd (cc)

@@ -1,5 +1,5 @@
 -- Readers of strings, truth values and the words of types.
-use Rattle.std.proofs.Common.{◌≡◌, ◌≢◌, ℕ, Bool, true, false, cond, eqb, ◌&&◌, List, [], ◌∷◌, ◌++◌, Ok, inl, inr, ◌⊎◌, refl, sym, ap, ◌∙◌, subst, arith, append_assoc, append-nil, codes}
+use Rattle.std.proofs.Common.{◌≡◌, ◌≢◌, ℕ, Bool, true, false, cond, eqb, List, [], ◌∷◌, ◌++◌, Ok, inl, inr, ◌⊎◌, refl, sym, ap, ◌∙◌, subst, arith, append_assoc, append-nil, codes}
 use Rattle.std.specs.List.{list_all}
 use Rattle.std.proofs.lemmas.Bool.{ne_eqb, eqb-true, eqb-false}
 use Rattle.std.proofs.lemmas.Bool.Decides.{eqb_tells}
@@ -14,6 +14,7 @@ use Rattle.caps_text.specs.declared.kind.Kind.TheVariants.{Int as Whole, Bool as
 use Rattle.caps_text.proofs.Choices.{Behind, is_byte, reads_choice, reads_begun, reads_iff}
 use Rattle.caps_text.proofs.Readers.{IsReader, Starts, nothing, ok_is, reads_then, reads_as, reads_any, stops_nothing}
 use Rattle.caps_text.proofs.Words.{reads_byte, reads_literal, reads_run}
+use Rattle.gst_value.proofs.Basics.{and_left}
 
 -- what was read up to the closing quote
 abbrev Closed : Bool → List ℕ → List ℕ → List ℕ → List ℕ → Type 0
@@ -71,13 +72,9 @@ reads_to_quote = record {
 word_first : (b : ℕ) → in_class Word b ≡ true → eqb b 34 ≡ false
 word_first b h = elim (eqb_tells b 34) [ inl t ↦ absurd (let bad : in_class Word 34 ≡ true = subst (λ n. in_class Word n ≡ true) t.1 h in cc) | inr t ↦ t.0 ]
 
-and-left : (a b : Bool) → (a && b) ≡ true → a ≡ true
-and-left true b h = refl
-and-left false b h = h
-
 pub word_apart : (used v : List ℕ) → Run Word used v → Starts (is_byte 34) used
 word_apart [] v h = absurd (let some = h.1 in omega (arith, some))
-word_apart (b ∷ bs) v h = word_first b (and-left (in_class Word b) (list_all (in_class Word) bs) h.2)
+word_apart (b ∷ bs) v h = word_first b (and_left (in_class Word b) (list_all (in_class Word) bs) h.2)
 
 -- a string
 pub reads_string : IsReader Some_string (in_class Word) read_string

@@ -1,30 +1,22 @@
 -- Bytes, spaces and runs at the front of a text.
-use Rattle.std.proofs.Common.{◌≡◌, ◌≢◌, ℕ, ◌<◌, ◌≤◌, ◌+◌, Bool, true, false, cond, List, [], ◌∷◌, length, drop, take, get_or, Option, Some, None, MatchOption, refl, ap, arith, Bor, suc, zero, subst, inl, inr, Ok, Err, ◌&&◌, ◌*◌, ◌-◌, ◌/◌, ℤ, leb-true, nat_le, is_some, ◌||◌}
-use Rattle.std.specs.List.{take_while, list_all, list_any}
+use Rattle.std.proofs.Common.{◌≡◌, ◌≢◌, ℕ, ◌<◌, ◌≤◌, ◌+◌, Bool, true, false, cond, List, [], ◌∷◌, length, drop, take, get_or, Option, Some, None, MatchOption, refl, ap, arith, Bor, suc, zero, subst, inl, inr, ◌&&◌, ◌*◌, ◌-◌, ◌/◌, ℤ, leb-true, nat_le, is_some, ◌||◌}
+use Rattle.std.specs.List.{take_while, list_any}
 use Rattle.std.proofs.Math.Nat.{div-le_self}
-use Rattle.std.proofs.Math.Seq.{drop-cons}
 use Rattle.std.specs.Option.{option_map}
 use Rattle.std.specs.Str.{IsUtf8, IsCharBoundary}
 use Rattle.std.proofs.lemmas.Bool.Decides.{eqb_tells}
 use Rattle.std.proofs.lemmas.List.Sums.{take_while-cons}
 use Rattle.std.proofs.lemmas.Str.{IsCharBoundary-start, IsCharBoundary-after_ascii}
-use Rattle.caps_text.specs.Answers.{Stop}
-use Rattle.caps_text.specs.Bytes.{in_class, is_digit, is_ascii}
-use Rattle.caps_text.specs.Reading.{after_byte, behind_run, behind_spaces, run_of, expect, read_literal, digit_at, read_digits, can_begin, reaches, reaches_by, wanted_number, powers, is_wanted}
+use Rattle.std.proofs.lemmas.Option.{same_Some}
+use Rattle.caps_text.specs.Bytes.{in_class, is_digit}
+use Rattle.caps_text.specs.Reading.{after_byte, behind_run, run_of, digit_at, read_digits, can_begin, reaches, reaches_by, wanted_number, powers, is_wanted}
 use Rattle.caps_text.specs.Ratio.{fits}
-use Rattle.gst_caps.specs.Fractions.{signed}
+use Rattle.gst_value.specs.Fractions.{signed}
 use Rattle.caps_text.specs.declared.number.Wanted.{Wanted}
 use Rattle.caps_text.specs.declared.number.Wanted.TheVariants.{AtLeast, Denominator}
 use Rattle.caps_text.specs.declared.class.Class.{Class}
 use Rattle.caps_text.specs.declared.class.Class.TheVariants.{Media, Name, Word}
-
-and-left : (a b : Bool) → (a && b) ≡ true → a ≡ true
-and-left true b h = refl
-and-left false b h = h
-
-and-right : (a b : Bool) → (a && b) ≡ true → b ≡ true
-and-right true b h = h
-and-right false b h = absurd (cc)
+use Rattle.gst_value.proofs.Basics.{and_left}
 
 -- what `strip_prefix` gives at a character
 pub after_of : (c : ℕ) (bs : List ℕ) (r : Option (Bor (List ℕ))) → MatchOption r ((rest : List ℕ) → bs ≢ c ∷ rest) (λ x. bs ≡ c ∷ x.now) → option_map (λ x. x.now) r ≡ after_byte c bs
@@ -40,19 +32,6 @@ after_byte_is mark (b ∷ bs) rest h = elim (eqb_tells b mark) [
   | inl t ↦ let e : Some bs ≡ Some rest = rw (t.0) at h in let same : bs ≡ rest = cc in λ i. t.1 i ∷ same i
   | inr t ↦ absurd (let e : None ≡ Some rest = rw (t.0) at h in cc)
 ]
-
-pub spaces_pass : (x rest : List ℕ) → after_byte 32 x ≡ Some rest → behind_spaces x ≡ behind_spaces rest
-spaces_pass x rest h = rw (after_byte_is 32 x rest h) refl
-
-pub spaces_end : (x : List ℕ) → after_byte 32 x ≡ None → behind_spaces x ≡ x
-spaces_end [] h = refl
-spaces_end (b ∷ bs) h = elim (eqb_tells b 32) [
-  | inl t ↦ absurd (let e : Some bs ≡ None = rw (t.0) at h in cc)
-  | inr t ↦ rw (t.0) refl
-]
-
-pub shorter_after : (mark : ℕ) (x rest : List ℕ) → after_byte mark x ≡ Some rest → length rest + 1 ≡ length x
-shorter_after mark x rest h = rw (after_byte_is mark x rest h) (omega arith)
 
 -- the bytes of a class are ASCII
 class_ascii : (class : Class) (b : ℕ) → in_class class b ≡ true → b < 128
@@ -93,21 +72,6 @@ digit_ascii b h = grind arith
 pub digit_boundary : (x : List ℕ) (b : ℕ) → IsUtf8 x → 0 < length x → get_or x 0 0 ≡ b → is_digit b ≡ true → IsCharBoundary x 1
 digit_boundary x b u some e h = IsCharBoundary-after_ascii x 0 u some (let small = digit_ascii b h in omega (arith, small, e))
 
--- a word goes on byte by byte
-pub literal_step : (ws x y : List ℕ) (i : ℕ) → i < length ws → expect (get_or ws i 0) x ≡ Ok (tt, y) → read_literal (drop i ws) x ≡ read_literal (drop (i + 1) ws) y
-literal_step ws x y i less h = let e : suc i ≡ i + 1 = omega arith in rw (drop-cons ws i 0 less) (rw h (ap (λ n. read_literal (drop n ws) y) e))
-
-pub literal_refused : (ws x : List ℕ) (e : Stop) (i : ℕ) → i < length ws → expect (get_or ws i 0) x ≡ Err e → read_literal (drop i ws) x ≡ Err e
-literal_refused ws x e i less h = rw (drop-cons ws i 0 less) (rw h refl)
-
-pub ascii_at : (ws : List ℕ) (i : ℕ) → list_all is_ascii ws ≡ true → i < length ws → get_or ws i 0 < 128
-ascii_at [] i h less = absurd (omega (arith, less))
-ascii_at (w ∷ ws) zero h less = let e = and-left (is_ascii w) (list_all is_ascii ws) h in grind arith
-ascii_at (w ∷ ws) (suc i) h less = ascii_at ws i (and-right (is_ascii w) (list_all is_ascii ws) h) (omega (arith, less))
-
-some_is : {A : Type 0} (x y : A) → Some x ≡ Some y → x ≡ y
-some_is x y h = cc
-
 -- one digit more
 pub digits_step : (w : Wanted) (negative : Bool) (size : ℕ) (x : List ℕ) (d : ℕ) (y : List ℕ) → digit_at x ≡ Some (d, y) → can_begin w negative (size * 10 + d) ≡ true → read_digits w negative size x ≡ read_digits w negative (size * 10 + d) y
 digits_step w negative size [] d y h can = absurd (cc)
@@ -116,7 +80,7 @@ digits_step w negative size (b ∷ bs) d y h can = step (is_digit b) refl
     step : (t : Bool) → is_digit b ≡ t → read_digits w negative size (b ∷ bs) ≡ read_digits w negative (size * 10 + d) y
     step true e =
         let is : Some (b - 48, bs) ≡ Some (d, y) = rw e at h in
-        let both = some_is {A = ℕ × List ℕ} (b - 48, bs) (d, y) is in
+        let both = same_Some {A = ℕ × List ℕ} (b - 48, bs) (d, y) is in
         let first : b - 48 ≡ d = ap (λ p. p.0) both in
         let second : bs ≡ y = ap (λ p. p.1) both in
         rw (e, first, can, second) refl
@@ -145,7 +109,7 @@ some_cond false b x h = h
 
 pub small_begin : (w : Wanted) (negative : Bool) (size : ℕ) → can_begin w negative size ≡ true → size ≤ 2147483648
 unfolding can_begin reaches wanted_number
-small_begin (AtLeast least) true size h = leb-true size 2147483648 (and-left _ _ h)
+small_begin (AtLeast least) true size h = leb-true size 2147483648 (and_left _ _ h)
 small_begin (AtLeast least) false size h = let a = small_reach powers size least h in omega (arith, a)
 small_begin (Denominator num) negative size h = or_cases (nat_le size 214748364) (is_some (wanted_number (Denominator num) negative size)) (size ≤ 2147483648) (λ e. let a = leb-true size 214748364 e in omega (arith, a)) (λ e. fits_small negative size (some_cond (fits negative size) (is_wanted (Denominator num) (signed negative size)) (signed negative size) e)) h
 

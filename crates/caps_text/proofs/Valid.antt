@@ -7,14 +7,16 @@ use Rattle.std.specs.Bool.{beq}
 use Rattle.std.specs.List.{list_any}
 use Rattle.std.proofs.lemmas.Bool.Decides.{eqb_tells}
 use Rattle.std.proofs.lemmas.Int.{ints}
-use Rattle.gst_caps.proofs.Fractions.{when_lowest}
-use Rattle.gst_caps.proofs.Lists.{Each-append}
-use Rattle.gst_caps.specs.Common.{as_value, same}
-use Rattle.gst_caps.specs.Fractions.{signed}
-use Rattle.gst_caps.specs.Names.{Each}
-use Rattle.gst_caps.specs.Values.{IsOne, IsSingle, IsValue, kind_of as gst_kind_of, Kind as GstKind, whole, truth, words, ratio as ratio_kind}
-use Rattle.gst_caps.specs.declared.value.One.{One}
-use Rattle.gst_caps.specs.declared.value.One.TheVariants.{Int, Bool as Truth, Text, Fraction, IntRange}
+use Rattle.gst_value.proofs.Fractions.{when_lowest}
+use Rattle.gst_value.proofs.Lists.{Each-append}
+use Rattle.gst_caps.specs.Common.{as_value}
+use Rattle.gst_value.specs.Common.{same}
+use Rattle.gst_value.specs.Fractions.{signed}
+use Rattle.gst_value.specs.Names.{Each}
+use Rattle.gst_value.specs.Values.{IsOne, IsSingle, kind_of as gst_kind_of, Kind as GstKind, whole, truth, words, ratio as ratio_kind}
+use Rattle.gst_caps.specs.Values.{IsValue}
+use Rattle.gst_value.specs.declared.one.One.{One}
+use Rattle.gst_value.specs.declared.one.One.TheVariants.{Int, Bool as Truth, Text, Fraction, IntRange}
 use Rattle.gst_caps.specs.declared.value.Value.{Value}
 use Rattle.caps_text.specs.Grammar.{Member, Single_value, Bare_word, Quotient, Range, List_step, List_of, Plain_value, Field_value, Repeated, last, more}
 use Rattle.caps_text.specs.Kinds.{kind_of}

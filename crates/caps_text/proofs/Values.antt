@@ -1,11 +1,12 @@
 -- Readers of fractions, single values and ranges.
-use Rattle.std.proofs.Common.{◌≡◌, ℕ, suc, ℤ, Bool, true, false, cond, eqb, ◌&&◌, ◌||◌, List, [], ◌∷◌, ◌++◌, length, Option, Some, None, Ok, Err, inl, inr, ◌⊎◌, refl, sym, ap, ◌∙◌, subst, arith, append-nil, codes}
+use Rattle.std.proofs.Common.{◌≡◌, ℕ, suc, ℤ, Bool, true, false, cond, eqb, ◌||◌, List, [], ◌∷◌, ◌++◌, length, Option, Some, None, Ok, Err, inl, inr, ◌⊎◌, refl, sym, ap, ◌∙◌, subst, arith, append-nil, codes}
 use Rattle.std.specs.Prelude.{is_some}
 use Rattle.std.specs.List.{list_all}
 use Rattle.std.proofs.lemmas.Bool.{eqb-true}
 use Rattle.std.proofs.lemmas.Bool.Decides.{eqb_tells}
-use Rattle.gst_caps.specs.declared.value.One.{One}
-use Rattle.gst_caps.specs.declared.value.One.TheVariants.{Int, Bool as Truth, Text}
+use Rattle.std.proofs.lemmas.Option.{same_Some}
+use Rattle.gst_value.specs.declared.one.One.{One}
+use Rattle.gst_value.specs.declared.one.One.TheVariants.{Int, Bool as Truth, Text}
 use Rattle.caps_text.specs.Answers.{Answer, ◌>>=◌, found}
 use Rattle.caps_text.specs.Bytes.{in_class, is_digit, is_letter, is_sign}
 use Rattle.caps_text.specs.Grammar.{Then, As, Sure, Is, Spaces, Mark, Run, Number, Wanted_number, Pair, Quotient, Bare_word, Untyped, In_quotes, Some_string, Truth_value, Single_value, Range, Member, is_space}
@@ -17,9 +18,10 @@ use Rattle.caps_text.specs.declared.kind.Kind.TheVariants.{Int as Whole, Bool as
 use Rattle.caps_text.specs.declared.number.Wanted.TheVariants.{AtLeast, Denominator}
 use Rattle.caps_text.proofs.Choices.{Behind, is_byte, reads_choice, reads_iff}
 use Rattle.caps_text.proofs.Numbers.{reads_number, reads_any_number, number_starts}
-use Rattle.caps_text.proofs.Readers.{IsReader, Stops, Starts, nothing, ok_is, some_is, reads_then, reads_as, reads_sure, reads_weaker, reads_any, stops_nothing, starts_stop, starts_more}
+use Rattle.caps_text.proofs.Readers.{IsReader, Stops, Starts, nothing, ok_is, reads_then, reads_as, reads_sure, reads_weaker, reads_any, stops_nothing, starts_stop, starts_more}
 use Rattle.caps_text.proofs.Strings.{To_quote, reads_to_quote, reads_string, reads_truth, word_apart}
 use Rattle.caps_text.proofs.Words.{reads_byte, reads_mark, reads_run, reads_spaces, skipping, starts_is, starts_mark, starts_spaces}
+use Rattle.gst_value.proofs.Basics.{and_left}
 
 abbrev pub any_read : List ℕ → Answer ℤ
 any_read = read_number (AtLeast least_number)
@@ -65,7 +67,7 @@ module _ {V : Type 0} (P : List ℕ → V → Type 0) (test : ℕ → Bool) (r :
           let nil = no_length p.1 e in
           let s = first.sound x p.1 p.0 k in
           let is : x ≡ s.0 = s.1 ∙ ap (λ l. s.0 ++ l) nil ∙ append-nil s.0 in
-          subst (P x) (some_is p.0 v h) (subst (λ l. P l p.0) (sym is) s.2)
+          subst (P x) (same_Some p.0 v h) (subst (λ l. P l p.0) (sym is) s.2)
       go false e h = absurd (cc)
 
   pub whole_to : (x : List ℕ) (v : V) → whole (r x) ≡ Some v → P x v
@@ -107,12 +109,12 @@ unfolding judge whole_number whole_pair
 judge_to text one h = step (whole (any_read text)) (whole (read_pair text)) refl refl h
   where
     step : (o : Option ℤ) (q : Option (ℤ × ℤ)) → whole (any_read text) ≡ o → whole (read_pair text) ≡ q → judge_number text o ≡ Some one → Bare_word text one
-    step (Some n) q e f k = inl (n, whole_to Number is_digit any_read reads_any_number text n e, sym (some_is (Int n) one k))
+    step (Some n) q e f k = inl (n, whole_to Number is_digit any_read reads_any_number text n e, sym (same_Some (Int n) one k))
     step None q e f k = inr (pair q f k)
       where
         pair : (q : Option (ℤ × ℤ)) → whole (read_pair text) ≡ q → judge_number text None ≡ Some one → Quotient text one ⊎ (((n : ℤ) → ¬ Number text n) × ((p : ℤ × ℤ) → ¬ Pair text p) × (one ≡ judge_words text))
         pair (Some p) f k = inl (pair_quotient text p one (whole_to Pair is_digit read_pair reads_pair text p f) (sym (ap (judge_pair text) f) ∙ k))
-        pair None f k = inr (whole_none Number is_digit any_read reads_any_number text e, whole_none Pair is_digit read_pair reads_pair text f, sym (some_is (judge_words text) one (sym (ap (judge_pair text) f) ∙ k)))
+        pair None f k = inr (whole_none Number is_digit any_read reads_any_number text e, whole_none Pair is_digit read_pair reads_pair text f, sym (same_Some (judge_words text) one (sym (ap (judge_pair text) f) ∙ k)))
 
 none_of : {V : Type 0} (o : Option V) → ((v : V) → o ≡ Some v → ⊥) → o ≡ None
 none_of None h = refl
@@ -176,10 +178,6 @@ reads_single (Some Quotients) = reads_weaker Quotient is_digit (in_class Word) r
 abbrev pub Opens_none : (ℕ → Bool) → Type 0
 Opens_none test = ((b : ℕ) → in_class Word b ≡ true → test b ≡ false) × (test 34 ≡ false)
 
-and-left : (a b : Bool) → (a && b) ≡ true → a ≡ true
-and-left true b h = refl
-and-left false b h = h
-
 or-second : (a b c : Bool) → b ≡ true → ((a || b) || c) ≡ true
 or-second true b c h = refl
 or-second false b c h = ap (λ t. t || c) h
@@ -189,7 +187,7 @@ digit_word b h = or-second (is_letter b) (is_digit b) (is_sign Word b) h
 
 word_opens : (test : ℕ → Bool) (text run : List ℕ) → Opens_none test → Run Word text run → Starts test text
 word_opens test [] run o h = absurd (let some = h.1 in omega (arith, some))
-word_opens test (b ∷ bs) run o h = o.0 b (and-left (in_class Word b) (list_all (in_class Word) bs) h.2)
+word_opens test (b ∷ bs) run o h = o.0 b (and_left (in_class Word b) (list_all (in_class Word) bs) h.2)
 
 number_opens : (test : ℕ → Bool) (text : List ℕ) (n : ℤ) → Opens_none test → Number text n → Starts test text
 number_opens test text n o h = number_starts test text n (λ b d. o.0 b (digit_word b d)) (o.0 45 refl) h

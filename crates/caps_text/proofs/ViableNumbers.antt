@@ -10,9 +10,9 @@ use Rattle.std.proofs.lemmas.Int.{ints}
 use Rattle.std.proofs.lemmas.List.Folds.{list_all-append}
 use Rattle.std.proofs.lemmas.Nat.{div-add-mod'}
 use Rattle.std.proofs.lemmas.Nat.Gcd.{dvd_of_mod-eq-zero, le_of_dvd}
-use Rattle.gst_caps.specs.Fractions.{signed}
-use Rattle.gst_caps.specs.declared.value.One.{One}
-use Rattle.gst_caps.specs.declared.value.One.TheVariants.{Fraction}
+use Rattle.gst_value.specs.Fractions.{signed}
+use Rattle.gst_value.specs.declared.one.One.{One}
+use Rattle.gst_value.specs.declared.one.One.TheVariants.{Fraction}
 use Rattle.caps_text.specs.Answers.{Answer, Stop, misspelt, ◌>>=◌, found}
 use Rattle.caps_text.specs.Bytes.{is_digit}
 use Rattle.caps_text.specs.Grammar.{Wanted_number, size_after}
@@ -21,9 +21,10 @@ use Rattle.caps_text.specs.Reading.{after_byte, behind_minus, can_begin, is_want
 use Rattle.caps_text.specs.declared.number.Wanted.{Wanted}
 use Rattle.caps_text.specs.declared.number.Wanted.TheVariants.{AtLeast, Denominator}
 use Rattle.caps_text.proofs.Local.{read_is, refused_is, rest_is}
-use Rattle.caps_text.proofs.Numbers.{and-both, and-left, and-right, some_tens, tens, tens_at, wanted_parts}
+use Rattle.caps_text.proofs.Numbers.{and-both, some_tens, tens, tens_at, wanted_parts}
 use Rattle.caps_text.proofs.Ratios.{IsGcd-divisor}
 use Rattle.caps_text.proofs.Tokens.{after_byte_is}
+use Rattle.gst_value.proofs.Basics.{and_left, and_right}
 
 -- some numbers are wanted
 abbrev pub Possible : Wanted → Type 0
@@ -83,8 +84,8 @@ any_found p (x ∷ xs) h = step (p x) refl (any_found p xs)
 reached : (size k : ℕ) (least : ℤ) → int_le least (pos 2147483647) ≡ true → reaches_by size least (tens k) ≡ true → (ds : List ℕ) × Completes (AtLeast least) false size ds
 reached size k least top h =
     let some = some_tens k in
-    let low : size * tens k ≤ 2147483647 = (le-div_iff_mul-le {k = tens k} {x = size} {y = 2147483647} some).0 (leb-true size (2147483647 / tens k) (and-left (nat_le size (2147483647 / tens k)) (int_le least (pos (size * tens k + (tens k - 1)))) h)) in
-    let enough = and-right (nat_le size (2147483647 / tens k)) (int_le least (pos (size * tens k + (tens k - 1)))) h in
+    let low : size * tens k ≤ 2147483647 = (le-div_iff_mul-le {k = tens k} {x = size} {y = 2147483647} some).0 (leb-true size (2147483647 / tens k) (and_left (nat_le size (2147483647 / tens k)) (int_le least (pos (size * tens k + (tens k - 1)))) h)) in
+    let enough = and_right (nat_le size (2147483647 / tens k)) (int_le least (pos (size * tens k + (tens k - 1)))) h in
     elim (cases_lt (size * tens k + (tens k - 1)) 2147483647) [
       | inl less ↦ made (tens k - 1) (omega (arith, some)) (omega (arith, less)) enough
       | inr over ↦ made (2147483647 - size * tens k) (omega (arith, over, low, some)) (omega (arith, low)) (ap (λ n. int_le least (pos n)) (omega (arith, low)) ∙ top)
@@ -151,7 +152,7 @@ even_ten size = omega arith
 -- what can begin a number that is wanted does
 completed : (w : Wanted) (negative : Bool) (size : ℕ) → Possible w → can_begin w negative size ≡ true → (ds : List ℕ) × Completes w negative size ds
 unfolding can_begin reaches
-completed (AtLeast least) true size p h = ([], (refl, and-left (nat_le size 2147483648) (int_le least (signed true size)) h, and-right (nat_le size 2147483648) (int_le least (signed true size)) h))
+completed (AtLeast least) true size p h = ([], (refl, and_left (nat_le size 2147483648) (int_le least (signed true size)) h, and_right (nat_le size 2147483648) (int_le least (signed true size)) h))
 completed (AtLeast least) false size p h =
     let f = any_found (reaches_by size least) powers h in
     reached size f.0 least p (sym (ap (reaches_by size least) (tens_at f.0 f.1)) ∙ f.2)
@@ -226,7 +227,7 @@ size_on w negative (b ∷ bs) rest ds p some c h = step (is_digit b) refl h
 -- digits that make a number that is wanted, where none were read
 first_digits : (w : Wanted) (negative : Bool) → Possible w → (negative ≡ true → can_begin w true 0 ≡ true) → (ds : List ℕ) × (0 < length ds) × Completes w negative 0 ds
 unfolding can_begin
-first_digits (AtLeast least) true p can = let h = can refl in (codes "0", omega arith, (refl, refl, and-right (nat_le 0 2147483648) (int_le least (signed true 0)) h))
+first_digits (AtLeast least) true p can = let h = can refl in (codes "0", omega arith, (refl, refl, and_right (nat_le 0 2147483648) (int_le least (signed true 0)) h))
 first_digits (AtLeast least) false p can = (codes "2147483647", omega arith, (refl, refl, p))
 first_digits (Denominator num) true p can = (codes "2", omega arith, (refl, refl, even_ratio num true 2 p refl (omega arith) (omega arith)))
 first_digits (Denominator num) false p can = (codes "2", omega arith, (refl, refl, even_ratio num false 2 p refl (omega arith) (omega arith)))

@@ -1,13 +1,13 @@
 -- What was read of a value that is refused begins some value.
-use Rattle.std.proofs.Common.{◌≡◌, ℕ, ◌<◌, ℤ, pos, Bool, true, false, cond, ◌&&◌, List, [], ◌∷◌, ◌++◌, length, Option, Some, None, Ok, Err, inl, inr, refl, sym, ap, ◌∙◌, subst, arith, append_assoc, append-nil, length-append, codes, leb-true}
+use Rattle.std.proofs.Common.{◌≡◌, ℕ, ◌<◌, ℤ, pos, Bool, true, false, cond, List, [], ◌∷◌, ◌++◌, length, Option, Some, None, Ok, Err, inl, inr, refl, sym, ap, ◌∙◌, subst, arith, append_assoc, append-nil, length-append, codes, leb-true}
 use Rattle.std.specs.Prelude.{is_some, int_le}
 use Rattle.std.specs.List.{list_all}
 use Rattle.std.proofs.lemmas.Int.{ints}
 use Rattle.std.proofs.lemmas.List.Folds.{list_all-append}
 use Rattle.gst_caps.specs.Common.{as_value}
-use Rattle.gst_caps.specs.Fractions.{signed}
-use Rattle.gst_caps.specs.declared.value.One.{One}
-use Rattle.gst_caps.specs.declared.value.One.TheVariants.{Int, Bool as Truth, Text}
+use Rattle.gst_value.specs.Fractions.{signed}
+use Rattle.gst_value.specs.declared.one.One.{One}
+use Rattle.gst_value.specs.declared.one.One.TheVariants.{Int, Bool as Truth, Text}
 use Rattle.gst_caps.specs.declared.value.Value.TheVariants.{One as Single}
 use Rattle.caps_text.specs.Answers.{Answer, misspelt, ◌>>=◌, found}
 use Rattle.caps_text.specs.Bytes.{in_class, is_digit}
@@ -30,6 +30,7 @@ use Rattle.caps_text.proofs.Values.{Range_end, Range_high, Range_tail, any_read,
 use Rattle.caps_text.proofs.Viable.{Begins, Filled, IsSound, IsViable, fill_mark, stopped, viable_as, viable_behind, viable_byte, viable_choice, viable_cond, viable_if, viable_literal, viable_mark, viable_never, viable_quoted, viable_repeat, viable_run, viable_same, viable_then, viable_within}
 use Rattle.caps_text.proofs.ViableNumbers.{Possible, even_ratio, number_on}
 use Rattle.caps_text.proofs.Words.{reads_byte, reads_mark, reads_run}
+use Rattle.gst_value.proofs.Basics.{and_left, and_right}
 
 pub fill_then : {V W : Type 0} (P : List ℕ → V → Type 0) (Q : V → List ℕ → W → Type 0) → Filled P → ((used : List ℕ) (v : V) → P used v → Filled (Q v)) → Filled (Then P Q)
 fill_then P Q one two = let t = two one.0 one.1 one.2 in (one.0 ++ t.0, t.1, (one.0, t.0, one.1, refl, one.2, t.2))
@@ -103,21 +104,13 @@ ends_behind [] b bs = refl
 ends_behind (c ∷ []) b bs = refl
 ends_behind (c ∷ d ∷ ds) b bs = ends_behind (d ∷ ds) b bs
 
-and-left : (a b : Bool) → (a && b) ≡ true → a ≡ true
-and-left true b h = refl
-and-left false b h = h
-
-and-right : (a b : Bool) → (a && b) ≡ true → b ≡ true
-and-right true b h = h
-and-right false b h = absurd (cc)
-
 digits_end : (text : List ℕ) (size : ℕ) → Digits text size → ends_digit text ≡ true
 digits_end text size h = go text h.1 h.2
   where
     go : (l : List ℕ) → 0 < length l → list_all is_digit l ≡ true → ends_digit l ≡ true
     go [] some e = absurd (omega (arith, some))
-    go (b ∷ []) some e = and-left (is_digit b) true e
-    go (b ∷ c ∷ cs) some e = go (c ∷ cs) (omega arith) (and-right (is_digit b) (list_all is_digit (c ∷ cs)) e)
+    go (b ∷ []) some e = and_left (is_digit b) true e
+    go (b ∷ c ∷ cs) some e = go (c ∷ cs) (omega arith) (and_right (is_digit b) (list_all is_digit (c ∷ cs)) e)
 
 tail_ends : (front back : List ℕ) → ends_digit back ≡ true → ends_digit (front ++ back) ≡ true
 tail_ends front [] h = absurd (cc)

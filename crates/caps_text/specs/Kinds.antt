@@ -1,7 +1,7 @@
 -- The types of values.
 use Rattle.std.specs.Prelude.{ℕ, List, codes}
-use Rattle.gst_caps.specs.declared.value.One.{One}
-use Rattle.gst_caps.specs.declared.value.One.TheVariants.{Int, Bool as Truth, Text, Fraction, IntRange}
+use Rattle.gst_value.specs.declared.one.One.{One}
+use Rattle.gst_value.specs.declared.one.One.TheVariants.{Int, Bool as Truth, Text, Fraction, IntRange}
 use Rattle.caps_text.specs.declared.kind.Kind.{Kind}
 use Rattle.caps_text.specs.declared.kind.Kind.TheVariants.{Int as Whole, Bool as Either, Text as Words, Fraction as Ratio}
 

@@ -1,9 +1,9 @@
 -- Where a text has too many of a kind: 64 members of a list, fields of a structure and structures are the most.
 use Rattle.std.specs.Prelude.{◌≡◌, ℕ, ◌<◌, ◌≤◌, ◌++◌, ◌⊎◌, false, List, [], ◌∷◌, Option, Some, None, Result, Ok, Err, length, codes}
 use Rattle.gst_caps.specs.Accepts.{value_at}
-use Rattle.gst_caps.specs.Description.{Description}
+use Rattle.gst_value.specs.Description.{Description}
 use Rattle.gst_caps.specs.declared.caps.Caps.{Caps}
-use Rattle.gst_caps.specs.declared.value.One.{One}
+use Rattle.gst_value.specs.declared.one.One.{One}
 use Rattle.gst_caps.specs.declared.value.Value.{Value}
 use Rattle.caps_text.specs.Bytes.{in_class}
 use Rattle.caps_text.specs.Grammar.{Then, Is, Spaces, Mark, Member, Type_word, Field_name, List_step_to, Field_to, Head, Caps_step_to}

@@ -2,9 +2,9 @@
 use Rattle.std.specs.Prelude.{ℕ, ◌+◌, ◌==◌, ◌%◌, ◌/◌, ℤ, pos, Bool, false, cond, not, ◌&&◌, Option, Some, None, unsigned_abs, nat_le, suc, zero}
 use Rattle.std.specs.Bool.{beq}
 use Rattle.std.specs.Int.{is_negative}
-use Rattle.gst_caps.specs.Fractions.{signed}
-use Rattle.gst_caps.specs.declared.value.One.{One}
-use Rattle.gst_caps.specs.declared.value.One.TheVariants.{Fraction}
+use Rattle.gst_value.specs.Fractions.{signed}
+use Rattle.gst_value.specs.declared.one.One.{One}
+use Rattle.gst_value.specs.declared.one.One.TheVariants.{Fraction}
 
 -- Euclid's algorithm, in at most so many steps
 abbrev pub divisor_in : ℕ → ℕ → ℕ → ℕ

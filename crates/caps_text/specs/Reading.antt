@@ -4,12 +4,13 @@ use Rattle.std.specs.List.{list_any}
 use Rattle.std.specs.Ordering.{int_eq}
 use Rattle.std.specs.Str.{bytes_eq}
 use Rattle.gst_caps.specs.Accepts.{value_at}
-use Rattle.gst_caps.specs.Common.{as_value, same}
-use Rattle.gst_caps.specs.Description.{Description}
-use Rattle.gst_caps.specs.Fractions.{signed}
-use Rattle.gst_caps.specs.Names.{put}
-use Rattle.gst_caps.specs.declared.value.One.{One}
-use Rattle.gst_caps.specs.declared.value.One.TheVariants.{Int, Bool as Truth, Text, IntRange}
+use Rattle.gst_caps.specs.Common.{as_value}
+use Rattle.gst_value.specs.Common.{same}
+use Rattle.gst_value.specs.Description.{Description}
+use Rattle.gst_value.specs.Fractions.{signed}
+use Rattle.gst_value.specs.Names.{put}
+use Rattle.gst_value.specs.declared.one.One.{One}
+use Rattle.gst_value.specs.declared.one.One.TheVariants.{Int, Bool as Truth, Text, IntRange}
 use Rattle.gst_caps.specs.declared.value.Value.{Value}
 use Rattle.gst_caps.specs.declared.value.Value.TheVariants.{One as Single}
 use Rattle.caps_text.specs.Answers.{Answer, misspelt, many, ◌>>=◌, found}

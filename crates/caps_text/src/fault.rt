@@ -1,5 +1,5 @@
 //! Why a text is not read.
-use gst_caps::{CapsFault, OutOfMemory};
+use gst_value::{CapsFault, OutOfMemory};
 use std::alloc::{AllocError, AllocFailed};
 use thiserror::Error;
 

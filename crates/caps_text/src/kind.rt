@@ -6,7 +6,7 @@ ghost use Rattle.caps_text.specs.Reading.{read_kind, read_kind_word};
 
 use crate::fault::Misspelt;
 use crate::scanner::Scanner;
-use gst_caps::One;
+use gst_value::One;
 
 /// The type of a value. A range is of the type of its numbers.
 #[derive(Clone, Copy)]

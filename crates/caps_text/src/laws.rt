@@ -1,9 +1,9 @@
 //! What is printed is read again.
 ghost use Rattle.std.specs.Prelude.{◌≡◌, ℕ, List, ◌∷◌, []};
-ghost use Rattle.gst_caps.specs.Description.{Description};
+ghost use Rattle.gst_value.specs.Description.{Description};
 ghost use Rattle.gst_caps.specs.declared.caps.Caps.{Caps};
 ghost use Rattle.gst_caps.specs.declared.caps.Caps.TheVariants.{Of};
-ghost use Rattle.gst_caps.specs.declared.value.One.{One};
+ghost use Rattle.gst_value.specs.declared.one.One.{One};
 ghost use Rattle.caps_text.specs.Grammar.{IsCapsText};
 ghost use Rattle.caps_text.specs.Printed.{caps_text, structure_text, typed_text};
 ghost use Rattle.caps_text.specs.Singles.{of_singles};

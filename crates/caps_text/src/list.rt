@@ -1,7 +1,8 @@
 //! Values: single ones, ranges and lists.
 ghost use Rattle.std.specs.Prelude.{◌≡◌, ◌≤◌, ℕ, List, length};
 ghost use Rattle.std.specs.List.{list_any};
-ghost use Rattle.gst_caps.specs.Common.{as_value, same};
+ghost use Rattle.gst_caps.specs.Common.{as_value};
+ghost use Rattle.gst_value.specs.Common.{same};
 ghost use Rattle.caps_text.specs.Answers.{Gives, Reads};
 ghost use Rattle.caps_text.specs.Reading.{again, kept_member, list_step, next, read_list, read_members, read_type, read_value, read_whole_member, read_whole_value, within_limit};
 
@@ -9,7 +10,8 @@ use crate::fault::{Misspelt, Refusal};
 use crate::kind::{Kind, kind_of, read_kind};
 use crate::scanner::Scanner;
 use crate::single::read_member;
-use gst_caps::{List, One, Value};
+use gst_caps::Value;
+use gst_value::{List, One};
 use std::alloc::Global;
 
 /// The most members of a list.

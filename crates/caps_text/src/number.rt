@@ -1,14 +1,14 @@
 //! Whole numbers and fractions.
 ghost use Rattle.std.specs.Prelude.{◌≡◌, ◌<◌, ◌≤◌, ◌^◌, All};
 ghost use Rattle.std.specs.List.{list_any};
-ghost use Rattle.gst_caps.specs.Fractions.{signed};
+ghost use Rattle.gst_value.specs.Fractions.{signed};
 ghost use Rattle.caps_text.specs.Answers.{Reads};
 ghost use Rattle.caps_text.specs.Ratio.{fits, ratio};
 ghost use Rattle.caps_text.specs.Reading.{can_begin, is_wanted, least_number, minus, reaches, reaches_by, read_digits, read_fraction, read_number, read_pair, read_size, wanted_number, whole_number, whole_pair};
 
 use crate::fault::Misspelt;
 use crate::scanner::{Scanner, digit_at};
-use gst_caps::{One, fraction};
+use gst_value::{One, fraction};
 
 /// The most that a positive number is.
 const MOST: u64 = 2_147_483_647;

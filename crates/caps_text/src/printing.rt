@@ -9,7 +9,8 @@ ghost use Rattle.caps_text.specs.Printed.{caps_text, escaped, joined, one_text, 
 use crate::class::Class;
 use crate::kind::{kind_of, word_of};
 use crate::scanner::Scanner;
-use gst_caps::{Caps, Fixed, One, OutOfMemory, Structure, Text, Value};
+use gst_caps::{Caps, Structure, Value};
+use gst_value::{Fixed, One, OutOfMemory, Text};
 use std::alloc::Global;
 use std::fmt::Write;
 

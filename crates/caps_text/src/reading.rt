@@ -10,7 +10,8 @@ ghost use Rattle.caps_text.specs.Reading.{read_structures};
 use crate::fault::{CapsTextFault, Refusal};
 use crate::scanner::Scanner;
 use crate::structures::read_structures;
-use gst_caps::{Caps, List};
+use gst_caps::Caps;
+use gst_value::List;
 use std::alloc::Global;
 
 /// A place in a text, or the largest number of 32 bits where it is more.

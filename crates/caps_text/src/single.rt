@@ -10,7 +10,7 @@ use crate::number::{
     Wanted, ratio, read_any, read_fraction, read_number, whole_number, whole_pair,
 };
 use crate::scanner::Scanner;
-use gst_caps::{One, Text};
+use gst_value::{One, Text};
 use std::alloc::Global;
 
 /// Reads `true` or `false`.

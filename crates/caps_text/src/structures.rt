@@ -8,7 +8,8 @@ use crate::class::{Class, is_letter};
 use crate::fault::{Misspelt, Refusal};
 use crate::list::read_whole_value;
 use crate::scanner::Scanner;
-use gst_caps::{List, Structure, Text};
+use gst_caps::Structure;
+use gst_value::{List, Text};
 use std::alloc::Global;
 
 /// The most structures of caps.

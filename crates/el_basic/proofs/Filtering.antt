@@ -1,17 +1,15 @@
 -- A filter of caps with one more call.
-use Rattle.std.proofs.Common.{◌≡◌, ℕ, Bool, true, false, if◌then◌else◌, List, [], ◌∷◌, ◌++◌, refl, sym, ap, ◌∙◌, append-nil, Result, Ok}
+use Rattle.std.proofs.Common.{◌≡◌, ℕ, Bool, true, false, List, [], ◌∷◌, ◌++◌, refl, sym, ap, ◌∙◌, append-nil, Result, Ok}
 use Rattle.gst_caps.specs.declared.caps.Caps.{Caps}
-use Rattle.gst_item.proofs.Kept.{latest_push}
-use Rattle.flow_model.specs.Item.{Item, Buf, Ev, StreamStart, NewCaps, NewSegment, Tag, Gap, FlushStop, Eos, is_caps, is_flush_stop, is_eos}
-use Rattle.flow_model.specs.Sticky.{latest}
+use Rattle.flow_model.specs.Item.{Item, Ev, FlushStop, Eos, is_flush_stop, is_eos}
 use Rattle.flow_model.specs.Call.{Call, Feed, Act, Drain, Set, Filter, Allowed, items}
 use Rattle.flow_model.specs.Rule.{Fed}
 use Rattle.el_basic.specs.declared.caps_filter.CapsFilter.{CapsFilter}
 use Rattle.el_basic.specs.Filters.{filter_in, filter_answer, filters}
-use Rattle.flow_model.specs.CapsInForce.{caps_of, caps_in_force, caps_behind}
+use Rattle.flow_model.specs.CapsInForce.{caps_in_force, caps_behind}
 use Rattle.el_basic.specs.Filtered.{filtered, IsFilteredBy}
 use Rattle.flow_model.proofs.Counted.{counted_taken, counted_behind, counted_flush, counted_act}
-use Rattle.flow_model.proofs.Calls.{items_push, items_act, fed_taken, fed_behind, fed_flush, drained_begun, drained_behind, set_push, eos_taken, eos_stays, eos_flushed, eos_act}
+use Rattle.flow_model.proofs.Calls.{items_act, fed_taken, fed_behind, fed_flush, drained_begun, drained_behind, set_push, eos_taken, eos_stays, eos_flushed, eos_act}
 use Rattle.flow_model.proofs.CapsFed.{caps_fed}
 
 pub filter_fed : (first : Caps) (calls : List Call) (x : Item) → filter_in first (calls ++ Feed x ∷ []) ≡ filter_in first calls

@@ -1,12 +1,11 @@
 -- The rule of a filter of caps.
 use Rattle.std.specs.Prelude.{Bool, true, false, List, [], ◌∷◌, Option, None, Some, Result, Ok, Err, if◌then◌else◌}
 use Rattle.gst_caps.specs.Accepts.{accepts}
-use Rattle.gst_caps.specs.Description.{Description}
+use Rattle.gst_value.specs.Description.{Description}
 use Rattle.gst_caps.specs.declared.caps.Caps.{Caps}
 use Rattle.gst_caps.specs.declared.caps.Caps.TheVariants.{Any, Of}
-use Rattle.gst_caps.specs.declared.value.One.{One}
-use Rattle.flow_model.specs.Item.{Item, Buf, Ev, NewCaps, is_caps}
-use Rattle.flow_model.specs.Sticky.{latest}
+use Rattle.gst_value.specs.declared.one.One.{One}
+use Rattle.flow_model.specs.Item.{Item, Buf, Ev, NewCaps}
 use Rattle.flow_model.specs.Call.{Call, Feed, Act, Drain, Set, Filter, Allowed, items}
 use Rattle.flow_model.specs.Rule.{Fault, NotNegotiated, Response}
 use Rattle.flow_model.specs.CapsInForce.{caps_in_force}

@@ -1,3 +1,4 @@
 pub mod Filtered
 pub mod Filters
 pub mod Passed
+pub mod Spread

@@ -5,12 +5,14 @@ ghost use Rattle.flow_model.specs.Call.{Call, Feed, Act, Drain, Set, Filter};
 ghost use Rattle.flow_model.specs.Feeding.{flow_behind, passed, on_pad, next_owed, IsFaultOf};
 ghost use Rattle.el_basic.specs.Filters.{filters, filter_answer, takes_buffer};
 ghost use Rattle.flow_model.specs.CapsInForce.{caps_behind};
-ghost use Rattle.gst_item.specs.declared.fault.ElementFault.TheVariants.{OutOfMemory as Wanting};
+ghost use Rattle.flow_model.specs.declared.fault.ElementFault.TheVariants.{OutOfMemory as Wanting};
 ghost use Rattle.el_basic.specs.Filtered.{IsFilteredBy};
 
 use crate::put_out::put_out;
-use gst_caps::{Caps, Fixed, OutOfMemory};
-use gst_item::{Buffer, ElementFault, Event, Flow, Item, Outs};
+use flow_model::ElementFault;
+use gst_caps::Caps;
+use gst_item::{Buffer, Event, Flow, Item, Outs};
+use gst_value::{Fixed, OutOfMemory};
 use std::alloc::Global;
 
 /// Puts each item out as it is, where the caps of the stream are among those of the filter. It has one sink pad

@@ -7,8 +7,9 @@ ghost use Rattle.flow_model.specs.Feeding.{flow_behind, passed, on_pad, next_owe
 ghost use Rattle.el_basic.specs.Passed.{Passed, has_ended};
 
 use crate::put_out::{is_end, put_out};
-use gst_caps::OutOfMemory;
-use gst_item::{ElementFault, Flow, Item, Outs};
+use flow_model::ElementFault;
+use gst_item::{Flow, Item, Outs};
+use gst_value::OutOfMemory;
 use std::alloc::Global;
 
 /// Puts each item out as it is. It has one sink pad and one source pad, both of number 0.

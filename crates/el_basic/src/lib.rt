@@ -4,9 +4,13 @@
 pub mod caps_filter;
 pub mod identity;
 mod put_out;
+pub mod tee;
 
 pub use caps_filter::CapsFilter;
 pub use identity::Identity;
+pub use tee::Tee;
 
+#[cfg(test)]
+mod tee_tests;
 #[cfg(test)]
 mod tests;

@@ -3,8 +3,8 @@ ghost use Rattle.std.specs.Prelude.{◌≡◌, ◌++◌, ◌∷◌, [], OnOk, On
 ghost use Rattle.flow_model.specs.Item.{is_eos};
 ghost use Rattle.flow_model.specs.Feeding.{on_pad};
 
-use gst_caps::OutOfMemory;
 use gst_item::{Event, Item, Out, Outs};
+use gst_value::OutOfMemory;
 use std::alloc::Global;
 
 /// Puts an item out on the only source pad. Where there is no memory nothing is put out, and the item is given

@@ -3,21 +3,21 @@ use Rattle.std.proofs.Common.{◌≡◌, ◌<◌, ◌+◌, ◌%◌, ◌^◌, ◌
 use Rattle.std.specs.Prelude.{IsOk, IfOk, OnOk, IfErr, MatchOption}
 use Rattle.std.proofs.lemmas.Bool.{eqb-true, ltb-true}
 use Rattle.std.specs.Result.{IsErrAnd}
-use Rattle.gst_caps.proofs.FieldLaws.{and_left, and_right}
-use Rattle.gst_caps.specs.Description.{Description}
-use Rattle.gst_caps.specs.declared.value.One.{One}
-use Rattle.gst_item.specs.declared.fault.ElementFault.{ElementFault}
+use Rattle.gst_value.specs.Description.{Description}
+use Rattle.gst_value.specs.declared.one.One.{One}
+use Rattle.flow_model.specs.declared.fault.ElementFault.{ElementFault}
 use Rattle.flow_model.specs.Item.{Item, Buffer, Buf, Ev, NewCaps}
 use Rattle.flow_model.specs.Rule.{Fault}
 use Rattle.flow_model.specs.Feeding.{IsFaultOf}
 use Rattle.el_convert.specs.declared.convert.Convert.{Convert}
 use Rattle.el_convert.specs.declared.stream.Stream.{Stream}
 use Rattle.el_convert.specs.Choice.{choice}
-use Rattle.el_convert.specs.Converts.{Known, convert_answer, whole_frames, frame_width, caps_before, converted_buffer, caps_after, behind}
+use Rattle.el_convert.specs.Converts.{Known, convert_answer, whole_frames, frame_width, caps_before, converted_buffer, caps_after, known_behind}
 use Rattle.flow_model.specs.Owed.{answered}
 use Rattle.el_convert.specs.Converted.{knows, Stays, Changes}
 use Rattle.el_convert.proofs.Converting.{knowing, same_known}
-use Rattle.el_convert.proofs.Same.{caps_decide}
+use Rattle.audio_info.proofs.Same.{caps_decide}
+use Rattle.gst_value.proofs.Basics.{and_left, and_right}
 
 -- the answer, by the stream and the choice
 answer_is : (element : Convert) (stream : Stream) (to : Description One) (b : Buffer) → element.stream ≡ Some stream → choice stream.offered element.allowed ≡ Some to
@@ -34,7 +34,7 @@ pub ok_of : (r : Result (List Item) Fault) (ys : List Item) → r ≡ Ok ys → 
 ok_of r ys is = rw is refl
 
 pub behind_is : (k : Known) (b : Buffer) (ys : List Item) (n : ℕ) → convert_answer k (Buf b) ≡ Ok ys → n ≡ length b.body
-    → knowing k.allowed k.offered (caps_after k.chosen ys) (k.got + n) ≡ behind k (Buf b)
+    → knowing k.allowed k.offered (caps_after k.chosen ys) (k.got + n) ≡ known_behind k (Buf b)
 behind_is k b ys n owed len =
     same_known _ _ _ _ _ _ _ _ refl refl (sym (ap (λ (r : Result (List Item) Fault). caps_after k.chosen (answered r)) owed)) (ap (λ m. k.got + m) len)
 
@@ -69,7 +69,7 @@ none_offered element is = rw is refl
 
 pub knows_staying : (element : Convert) (stream : Stream) (b : Buffer) (n : ℕ) → choice stream.offered element.allowed ≡ Some stream.chosen → element.stream ≡ Some stream
     → Takes (frame_width stream.offered) element.got b → n ≡ length b.body
-    → knowing element.allowed (knows element).offered (knows element).chosen (element.got + n) ≡ behind (knows element) (Buf b)
+    → knowing element.allowed (knows element).offered (knows element).chosen (element.got + n) ≡ known_behind (knows element) (Buf b)
 knows_staying element stream b n kept is takes len = behind_is (knows element) b _ n (owed_staying element stream b kept is takes) len
 
 -- where it is another one, CAPS and the buffer
@@ -79,7 +79,7 @@ owed_changing element other b p takes =
     answer_is element p.stream other.chosen b p.is p.chosen ∙ rw (← p.same_stream, p.differs) (takes_owed _ _ b _ takes)
 
 pub knows_changing : (element : Convert) (other : Stream) (b : Buffer) (n : ℕ) → Changes element other → Takes (frame_width other.offered) element.got b → n ≡ length b.body
-    → knowing element.allowed (Some other.offered) (Some other.chosen) (element.got + n) ≡ behind (knows element) (Buf b)
+    → knowing element.allowed (Some other.offered) (Some other.chosen) (element.got + n) ≡ known_behind (knows element) (Buf b)
 knows_changing element other b n p takes len =
     same_known _ _ _ _ _ _ _ _ refl (rw (p.is, p.same_stream) refl) refl refl ∙ behind_is (knows element) b _ n (owed_changing element other b p takes) len
 

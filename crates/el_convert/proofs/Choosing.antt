@@ -1,6 +1,6 @@
 -- A choice is raw audio.
-use Rattle.std.proofs.Common.{◌≡◌, ◌≤◌, ℕ, ℤ, pos, ◌≤ℤ◌, Bool, true, false, cond, if◌then◌else◌, ◌&&◌, ◌||◌, ◌==◌, nat_le, ◌⊎◌, inl, inr, List, [], ◌∷◌, ◌++◌, map, Option, Some, None, is_some, codes, refl, sym, ap, ◌∙◌, subst, arith}
-use Rattle.std.specs.List.{cons_option, filter, filter_map, find, list_any}
+use Rattle.std.proofs.Common.{◌≡◌, ◌≤◌, ℕ, ℤ, pos, ◌≤ℤ◌, Bool, true, false, cond, if◌then◌else◌, ◌&&◌, ◌||◌, ◌==◌, nat_le, ◌⊎◌, List, [], ◌∷◌, ◌++◌, map, Option, Some, None, is_some, codes, refl, sym, ap, ◌∙◌, subst, arith}
+use Rattle.std.specs.List.{cons_option, filter, filter_map, list_any}
 use Rattle.std.specs.Option.{option_map, option_and_then, unwrap_or}
 use Rattle.std.specs.Prelude.{int_lt}
 use Rattle.std.specs.Int.{int_max, int_min}
@@ -8,24 +8,27 @@ use Rattle.std.specs.Str.{bytes_eq}
 use Rattle.std.proofs.lemmas.Bool.{le-leb}
 use Rattle.std.proofs.lemmas.Int.{ints, clamps}
 use Rattle.std.proofs.lemmas.Slice.Eq.{bytes_eq-Decides}
-use Rattle.gst_caps.proofs.FieldLaws.{and_left, and_right}
 use Rattle.gst_caps.proofs.Fixing.{least_common_is}
-use Rattle.gst_caps.specs.Accepts.{value_at, agrees, structures_meet, narrowed, merged, met, meet, intersection, fixed, first_structure, fixation}
-use Rattle.gst_caps.specs.Common.{members, same, ends, span, common_of, common_one, commons, least_of, first_least, least}
-use Rattle.gst_caps.specs.Description.{Description}
-use Rattle.gst_caps.specs.Names.{Each, is_before}
+use Rattle.gst_caps.specs.Accepts.{value_at, accepts, agrees, structures_meet, narrowed, merged, met, meet, intersection, fixed, first_structure, fixation}
+use Rattle.gst_caps.specs.Common.{members, least}
+use Rattle.gst_value.specs.Common.{same, ends, span, common_of, common_one, commons, least_of, first_least}
+use Rattle.gst_value.specs.Description.{Description}
+use Rattle.gst_value.specs.Names.{Each, is_before}
 use Rattle.gst_caps.specs.declared.caps.Caps.{Caps}
 use Rattle.gst_caps.specs.declared.caps.Caps.TheVariants.{Any, Of}
-use Rattle.gst_caps.specs.declared.value.One.{One}
-use Rattle.gst_caps.specs.declared.value.One.TheVariants.{Int, Bool as Truth, Text as Words, Fraction, IntRange}
+use Rattle.gst_value.specs.declared.one.One.{One}
+use Rattle.gst_value.specs.declared.one.One.TheVariants.{Int, Bool as Truth, Text as Words, Fraction, IntRange}
 use Rattle.gst_caps.specs.declared.value.Value.{Value}
 use Rattle.gst_caps.specs.declared.value.Value.TheVariants.{One as Single, Many}
 use Rattle.audio_info.specs.Media.{field_of, number_up_to, raw_sample, raw_samples, sample_of, rate_of, channels_of}
 use Rattle.audio_info.specs.Packing.{IsRaw}
 use Rattle.audio_info.specs.declared.sample.Sample.{Sample}
 use Rattle.audio_info.specs.declared.sample.Sample.TheVariants.{S8, U8, S16LE, S16BE, S24LE, S32LE, MuLaw, ALaw}
-use Rattle.el_convert.specs.Raw.{raw, format_name, channels_from, options_from}
+use Rattle.audio_info.specs.Templates.{raw, format_name, raw_formats, raw_structure, raw_template}
+use Rattle.audio_info.proofs.Accepted.{IsAudio, IsKnown, found_same, lacks_nothing, media_is, only_takes, raw_accepted, raw_format_of}
+use Rattle.el_convert.specs.Raw.{channels_from, options_from}
 use Rattle.el_convert.specs.Choice.{choice}
+use Rattle.gst_value.proofs.Basics.{and_left, and_right}
 
 abbrev Fields : Type 0
 Fields = List (List ℕ × Value)
@@ -256,15 +259,6 @@ value_fixed n (f ∷ fs) = go (bytes_eq f.0 n) (value_fixed n fs)
     go true e = refl
     go false e = e
 
-pub found_same : (name : List ℕ) (fields : List (List ℕ × One)) → field_of name fields ≡ value_at name fields
-found_same name [] = refl
-found_same name (f ∷ fs) = go (bytes_eq f.0 name) (found_same name fs)
-  where
-    go : (b : Bool) → field_of name fs ≡ value_at name fs
-        → option_map (λ g. g.1) (cond b (Some f) (find (λ g. bytes_eq g.0 name) fs)) ≡ cond b (Some f.1) (value_at name fs)
-    go true e = refl
-    go false e = e
-
 -- what is known of a choice: its media type, and in three fields the least of what an option and another value have in
 -- common
 pub record IsChosen (channels formats rate : Value) (x : Description One) : Type 0 where
@@ -280,7 +274,7 @@ pub record IsChosen (channels formats rate : Value) (x : Description One) : Type
   pub rate_is : field_of (codes "rate") x.fields ≡ Some (least (narrowed rate other_rate))
 
 fixed_field_of : (n : List ℕ) (fs : Fields) (v : Value) → value_at n fs ≡ Some v → field_of n (map (λ f. (f.0, least f.1)) fs) ≡ Some (least v)
-fixed_field_of n fs v e = found_same n (map (λ f. (f.0, least f.1)) fs) ∙ value_fixed n fs ∙ ap (option_map least) e
+fixed_field_of n fs v e = sym (found_same n (map (λ f. (f.0, least f.1)) fs)) ∙ value_fixed n fs ∙ ap (option_map least) e
 
 chosen_alone : (channels formats rate : Value) → IsChosen channels formats rate (fixed (raw channels formats rate))
 chosen_alone channels formats rate = record {
@@ -340,9 +334,7 @@ chosen_from channels formats rate (Of ts) x e = first_met channels formats rate 
 -- what caps of raw audio say
 pub record IsRawAudio (x : Description One) : Type 0 where
   pub media : x.media ≡ codes "audio/x-raw"
-  pub some_format : is_some (option_and_then raw_sample (field_of (codes "format") x.fields)) ≡ true
-  pub some_rate : is_some (rate_of x) ≡ true
-  pub some_channels : is_some (channels_of x) ≡ true
+  pub audio : IsAudio IsKnown x
 
 of_option : (Q : One → Type 0) (v : Value) (other : Option Value) → AreOptions Q (members v) → agrees v other ≡ true → Q (least (narrowed v other))
 of_option Q v other p e = least_met Q v other p.plain p.each p.first e
@@ -355,22 +347,22 @@ chosen_raw format rate channels allowed x is_raw some_rate few_rate some_channel
     let p = chosen_from cs fs (Single (Int (pos rate))) allowed x (sym e) in
     record {
       media = p.media;
-      some_format = rw p.format_is (of_option IsFormat fs p.other_formats (formats_are format is_raw) p.formats_agree);
-      some_rate = rw p.rate_is (of_option (IsNumber 768000) (Single (Int (pos rate))) p.other_rate (rate_is rate some_rate few_rate) p.rate_agrees);
-      some_channels = rw p.channels_is (of_option (IsNumber 64) cs p.other_channels (channels_are channels some_channels few_channels) p.channels_agree);
+      audio = record {
+        format = raw_format_of IsKnown x p.media (rw p.format_is (of_option IsFormat fs p.other_formats (formats_are format is_raw) p.formats_agree));
+        some_rate = rw p.rate_is (of_option (IsNumber 768000) (Single (Int (pos rate))) p.other_rate (rate_is rate some_rate few_rate) p.rate_agrees);
+        some_channels = rw p.channels_is (of_option (IsNumber 64) cs p.other_channels (channels_are channels some_channels few_channels) p.channels_agree);
+      };
     }
+
+-- caps that the template accepts are raw audio
+pub accepted : (wanted : Caps) (caps : Description One) → wanted ≡ raw_template → true ≡ accepts wanted caps → IsRawAudio caps
+accepted wanted caps is h =
+    let whole : accepts raw_template caps ≡ true = sym (ap (λ w. accepts w caps) is) ∙ sym h in
+    record { media = media_is (raw_structure raw_formats) caps (only_takes (raw_structure raw_formats) caps whole); audio = raw_accepted caps whole }
 
 -- caps of raw audio are audio, and their format is no law
 pub never_other : (x : Description One) → IsRawAudio x → (sample_of x ≡ None) ⊎ (rate_of x ≡ None) ⊎ (channels_of x ≡ None) → ⊥
-never_other x p (inl e) =
-    let f : false ≡ true = ap is_some (sym e) ∙ rw p.media p.some_format in
-    absurd (cc)
-never_other x p (inr (inl e)) =
-    let f : false ≡ true = ap is_some (sym e) ∙ p.some_rate in
-    absurd (cc)
-never_other x p (inr (inr e)) =
-    let f : false ≡ true = ap is_some (sym e) ∙ p.some_channels in
-    absurd (cc)
+never_other x p = lacks_nothing IsKnown x (λ e. absurd (cc)) p.audio
 
 pub raw_format : (x : Description One) (f : Sample) → x.media ≡ codes "audio/x-raw" → sample_of x ≡ Some f → IsRaw f
 raw_format x f media e = go (field_of (codes "format") x.fields) (rw media at e)

@@ -2,9 +2,9 @@
 use Rattle.std.proofs.Common.{◌≡◌, ◌+◌, ℕ, Bool, true, false, if◌then◌else◌, List, [], ◌∷◌, ◌++◌, length, Option, refl, sym, ap, ◌∙◌, append-nil, append_assoc, Result, Ok, Err}
 use Rattle.std.specs.Prelude.{IsOk}
 use Rattle.std.proofs.lemmas.List.Sums.{sum_by_push}
-use Rattle.gst_caps.specs.Description.{Description}
+use Rattle.gst_value.specs.Description.{Description}
 use Rattle.gst_caps.specs.declared.caps.Caps.{Caps}
-use Rattle.gst_caps.specs.declared.value.One.{One}
+use Rattle.gst_value.specs.declared.one.One.{One}
 use Rattle.gst_item.proofs.Kept.{latest_push, since_push}
 use Rattle.gst_item.specs.Sticky.{since_flush_stop}
 use Rattle.flow_model.specs.Item.{Item, Buf, Ev, StreamStart, NewCaps, NewSegment, Tag, Gap, FlushStop, Eos, is_caps, is_flush_stop, is_eos, body_of}
@@ -12,11 +12,11 @@ use Rattle.flow_model.specs.Sticky.{latest}
 use Rattle.flow_model.specs.Call.{Call, Feed, Act, Drain, Set, Filter, Allowed, items}
 use Rattle.flow_model.specs.Rule.{Fed, Fault}
 use Rattle.flow_model.specs.Feeding.{next_owed, IsFaultOf}
-use Rattle.gst_item.specs.declared.fault.ElementFault.{ElementFault}
+use Rattle.flow_model.specs.declared.fault.ElementFault.{ElementFault}
 use Rattle.flow_model.specs.CapsInForce.{caps_of, caps_in_force, caps_behind}
 use Rattle.flow_model.proofs.Calls.{items_push, items_act, fed_taken, fed_behind, fed_flush, drained_begun, drained_behind, set_push, eos_taken, eos_stays, eos_flushed, eos_act}
 use Rattle.el_convert.specs.declared.convert.Convert.{Convert}
-use Rattle.el_convert.specs.Converts.{Known, known, allowed_in, bytes_got, convert_answer, converts, caps_after, behind}
+use Rattle.el_convert.specs.Converts.{Known, known, allowed_in, bytes_got, convert_answer, converts, caps_after, known_behind}
 use Rattle.flow_model.specs.Owed.{answered}
 use Rattle.el_convert.specs.Converted.{converted, knows, IsConverted}
 
@@ -85,7 +85,7 @@ fault_known element x fault begun h first calls put p =
     rw (begins, p.as_far) h
 
 pub converted_item : (old new : Convert) (x : Item) → is_flush_stop x ≡ false → old.ended ≡ false
-    → IsOk (convert_answer (knows old) x) → knows new ≡ behind (knows old) x → new.ended ≡ is_eos x
+    → IsOk (convert_answer (knows old) x) → knows new ≡ known_behind (knows old) x → new.ended ≡ is_eos x
     → (first : Caps) (calls : List Call) (put : List Item) → IsConverted first old calls put
     → (next_owed (converts first) calls x ≡ Ok (answered (convert_answer (knows old) x))) × IsConverted first new (calls ++ Feed x ∷ []) (put ++ answered (convert_answer (knows old) x))
 converted_item old new x plain begun ok moved ends first calls put p =

@@ -2,9 +2,9 @@
 use Rattle.std.proofs.Common.{◌≡◌, ◌<◌, ◌^◌, ℕ, Bool, false, Option, Some, refl, sym, subst}
 use Rattle.std.proofs.Props.{props}
 use Rattle.std.specs.Option.{ForSome}
-use Rattle.gst_caps.specs.Description.{Description}
+use Rattle.gst_value.specs.Description.{Description}
 use Rattle.gst_caps.specs.declared.caps.Caps.{Caps}
-use Rattle.gst_caps.specs.declared.value.One.{One}
+use Rattle.gst_value.specs.declared.one.One.{One}
 use Rattle.audio_info.specs.Media.{sample_of, rate_of, channels_of}
 use Rattle.audio_info.specs.Packing.{IsRaw}
 use Rattle.audio_info.specs.declared.sample.Sample.{Sample}

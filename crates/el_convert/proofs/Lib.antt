@@ -1,4 +1,3 @@
-pub mod Accepted
 pub mod Buffers
 pub mod Choosing
 pub mod Conversion
@@ -6,6 +5,5 @@ pub mod Converting
 pub mod Copies
 pub mod Placing
 pub mod Putting
-pub mod Same
 pub mod Scaling
 pub mod Unchanged

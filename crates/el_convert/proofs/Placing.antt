@@ -3,10 +3,10 @@ use Rattle.std.proofs.Common.{◌≡◌, ◌≤◌, ◌<◌, ℕ, ◌+◌, Bool,
 use Rattle.std.specs.Prelude.{IsOk, nat_lt, ◌==◌, ◌%◌, ◌^◌}
 use Rattle.std.proofs.lemmas.Bool.{le-leb, lt-leb}
 use Rattle.gst_caps.specs.Accepts.{accepts}
-use Rattle.gst_caps.specs.Description.{Description}
+use Rattle.gst_value.specs.Description.{Description}
 use Rattle.gst_caps.specs.declared.caps.Caps.{Caps}
-use Rattle.gst_caps.specs.declared.value.One.{One}
-use Rattle.gst_item.specs.declared.fault.StreamKind.TheVariants.{SplitFrame}
+use Rattle.gst_value.specs.declared.one.One.{One}
+use Rattle.flow_model.specs.declared.fault.StreamKind.TheVariants.{SplitFrame}
 use Rattle.flow_model.specs.Item.{Item, Buf, Buffer, Ev, StreamStart, NewCaps, NewSegment, Tag, Gap, FlushStop, Eos, is_flush_stop}
 use Rattle.flow_model.specs.Call.{Call, Feed, Act, Drain, Set, Filter, Allowed, items}
 use Rattle.flow_model.specs.Rule.{Response, Fault, NotNegotiated, BadStream, TooLong, Fed, unfed, responded, flushed, fed_item, drained, called, all_called, owed_for}
@@ -14,7 +14,7 @@ use Rattle.flow_model.specs.Feeding.{next_owed}
 use Rattle.flow_model.specs.CapsInForce.{caps_in_force}
 use Rattle.flow_model.proofs.Calls.{items_push, items_act}
 use Rattle.el_convert.specs.Choice.{choice}
-use Rattle.el_convert.specs.Raw.{raw_template}
+use Rattle.audio_info.specs.Templates.{raw_template}
 use Rattle.el_convert.specs.Converts.{Known, known, allowed_in, bytes_got, frame_width, caps_before, whole_frames, buffer_answer, fed_buffer, caps_answer, converted_buffer, convert_answer, converts}
 use Rattle.flow_model.specs.Owed.{answered}
 use Rattle.el_convert.specs.Placed.{allowed_at, converts_placed, setting_at, settings_in, unset, IsTaken, TakesAll}

@@ -2,7 +2,7 @@
 use Rattle.std.proofs.Common.{◌≡◌, Bool, true, false, if◌then◌else◌, List, [], ◌∷◌, ◌++◌, Result, Ok, Err, refl, sym, append-nil}
 use Rattle.std.specs.Prelude.{IsOk, IfOk, OnOk}
 use Rattle.gst_caps.specs.declared.caps.Caps.{Caps}
-use Rattle.gst_item.specs.declared.fault.ElementFault.{ElementFault}
+use Rattle.flow_model.specs.declared.fault.ElementFault.{ElementFault}
 use Rattle.gst_item.specs.declared.flow.Flow.{Flow}
 use Rattle.gst_item.specs.declared.flow.Flow.TheVariants.{Ok as Taken}
 use Rattle.gst_item.specs.declared.out.Out.{Out}
@@ -10,7 +10,7 @@ use Rattle.flow_model.specs.Item.{Item, Ev, Eos, is_flush_stop, is_eos}
 use Rattle.flow_model.specs.Call.{Call, Feed, Act, Drain}
 use Rattle.flow_model.specs.Feeding.{on_pad, flow_behind}
 use Rattle.el_convert.specs.declared.convert.Convert.{Convert}
-use Rattle.el_convert.specs.Converts.{convert_answer, behind}
+use Rattle.el_convert.specs.Converts.{convert_answer, known_behind}
 use Rattle.flow_model.specs.Owed.{answered, without_eos}
 use Rattle.el_convert.specs.Converted.{converted, knows, IsConverted}
 use Rattle.el_convert.specs.Puts.{Puts}
@@ -18,7 +18,7 @@ use Rattle.el_convert.proofs.Converting.{converted_item, converted_behind, conve
 
 -- for an item in a section that is not over
 pub puts_taken : (old new : Convert) (x : Item) (out out' : List Out) → is_flush_stop x ≡ false → old.ended ≡ false
-    → IsOk (convert_answer (knows old) x) → knows new ≡ behind (knows old) x → new.ended ≡ is_eos x
+    → IsOk (convert_answer (knows old) x) → knows new ≡ known_behind (knows old) x → new.ended ≡ is_eos x
     → out' ≡ out ++ on_pad 0 (answered (convert_answer (knows old) x)) → Puts old new (Feed x) out out'
 puts_taken old new x out out' plain begun ok moved ends outs =
     record {
@@ -30,7 +30,7 @@ puts_taken old new x out out' plain begun ok moved ends outs =
 
 -- for an item that is taken, if it is
 pub puts_if_taken : (r : Result Flow ElementFault) (old new : Convert) (x : Item) (out out' : List Out) → is_flush_stop x ≡ false → old.ended ≡ false
-    → OnOk r (IsOk (convert_answer (knows old) x)) → OnOk r (knows new ≡ behind (knows old) x) → OnOk r (old.ended ≡ false → new.ended ≡ is_eos x)
+    → OnOk r (IsOk (convert_answer (knows old) x)) → OnOk r (knows new ≡ known_behind (knows old) x) → OnOk r (old.ended ≡ false → new.ended ≡ is_eos x)
     → OnOk r (out' ≡ out ++ on_pad 0 (answered (convert_answer (knows old) x))) → IfOk r (λ flow. Puts old new (Feed x) out out')
 puts_if_taken (Ok flow) old new x out out' plain begun ok moved ends outs = puts_taken old new x out out' plain begun ok moved (ends begun) outs
 puts_if_taken (Err fault) old new x out out' plain begun ok moved ends outs = tt

@@ -13,8 +13,8 @@ use Rattle.audio_info.specs.Packing.{IsRaw, complement, sample_width, sample_val
 use Rattle.audio_info.specs.declared.sample.Sample.{Sample}
 use Rattle.audio_info.specs.declared.sample.Sample.TheVariants.{S8, U8, S16LE, S16BE, S24LE, S32LE, MuLaw, ALaw}
 use Rattle.audio_info.specs.Media.{sample_of, channels_of}
-use Rattle.gst_caps.specs.Description.{Description}
-use Rattle.gst_caps.specs.declared.value.One.{One}
+use Rattle.gst_value.specs.Description.{Description}
+use Rattle.gst_value.specs.declared.one.One.{One}
 use Rattle.el_convert.specs.Bodies.{repacked, converted_bytes}
 use Rattle.el_convert.specs.Converts.{frame_width}
 

@@ -2,19 +2,21 @@
 use Rattle.std.specs.Prelude.{ℕ, ◌+◌, ◌*◌, ◌%◌, ◌^◌, ◌==◌, false, nat_lt, List, [], ◌∷◌, ◌++◌, length, Option, None, Some, Result, Ok, Err, if◌then◌else◌}
 use Rattle.std.specs.List.{sum_by}
 use Rattle.gst_caps.specs.Accepts.{accepts}
-use Rattle.gst_caps.specs.Description.{Description}
+use Rattle.gst_value.specs.Description.{Description}
 use Rattle.gst_caps.specs.declared.caps.Caps.{Caps}
-use Rattle.gst_caps.specs.declared.value.One.{One}
+use Rattle.gst_value.specs.declared.one.One.{One}
 use Rattle.gst_item.specs.Sticky.{since_flush_stop}
-use Rattle.gst_item.specs.declared.fault.StreamKind.TheVariants.{SplitFrame}
+use Rattle.flow_model.specs.declared.fault.StreamKind.TheVariants.{SplitFrame}
 use Rattle.audio_info.specs.Packing.{sample_width}
 use Rattle.flow_model.specs.Item.{Item, Buffer, Buf, Ev, NewCaps, body_of}
 use Rattle.flow_model.specs.Call.{Call, Feed, Act, Drain, Set, Filter, Allowed, items}
 use Rattle.flow_model.specs.Rule.{Fed, Fault, NotNegotiated, BadStream, TooLong, Response}
 use Rattle.flow_model.specs.CapsInForce.{caps_in_force, caps_behind}
 use Rattle.flow_model.specs.Owed.{answered}
-use Rattle.el_convert.specs.Raw.{raw_template, format_in, channels_in}
-use Rattle.el_convert.specs.Choice.{choice, same_caps}
+use Rattle.audio_info.specs.Templates.{raw_template}
+use Rattle.el_convert.specs.Raw.{format_in, channels_in}
+use Rattle.audio_info.specs.Same.{same_caps}
+use Rattle.el_convert.specs.Choice.{choice}
 use Rattle.el_convert.specs.Bodies.{converted_bytes}
 
 -- the allowed caps: those that were set last, and the first ones where none were set
@@ -100,8 +102,8 @@ caps_after caps [] = caps
 caps_after caps (x ∷ xs) = caps_after (caps_behind caps x) xs
 
 -- what is known behind an item that was taken
-abbrev pub behind : Known → Item → Known
-behind k x =
+abbrev pub known_behind : Known → Item → Known
+known_behind k x =
     record {
       allowed = k.allowed;
       offered = caps_behind k.offered x;

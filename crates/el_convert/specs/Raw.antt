@@ -1,39 +1,17 @@
--- Raw audio, as in GStreamer's documents on it: its template, and what a converter can make of it.
-use Rattle.std.specs.Prelude.{ℕ, pos, ◌==◌, List, [], ◌∷◌, codes, map, if◌then◌else◌}
+-- What a converter can make of raw audio, as in GStreamer's documents on it.
+use Rattle.std.specs.Prelude.{ℕ, pos, ◌==◌, List, [], ◌∷◌, map, if◌then◌else◌}
 use Rattle.std.specs.Option.{unwrap_or}
-use Rattle.gst_caps.specs.Description.{Description}
+use Rattle.gst_value.specs.Description.{Description}
 use Rattle.gst_caps.specs.declared.caps.Caps.{Caps}
 use Rattle.gst_caps.specs.declared.caps.Caps.TheVariants.{Of}
-use Rattle.gst_caps.specs.declared.value.One.{One}
-use Rattle.gst_caps.specs.declared.value.One.TheVariants.{Int, Text as Words, IntRange}
+use Rattle.gst_value.specs.declared.one.One.{One}
+use Rattle.gst_value.specs.declared.one.One.TheVariants.{Int}
 use Rattle.gst_caps.specs.declared.value.Value.{Value}
 use Rattle.gst_caps.specs.declared.value.Value.TheVariants.{One as Single, Many}
-use Rattle.audio_info.specs.Media.{sample_name, raw_samples, sample_of, rate_of, channels_of}
+use Rattle.audio_info.specs.Media.{raw_samples, sample_of, rate_of, channels_of}
+use Rattle.audio_info.specs.Templates.{raw, format_name}
 use Rattle.audio_info.specs.declared.sample.Sample.{Sample}
 use Rattle.audio_info.specs.declared.sample.Sample.TheVariants.{S8}
-
--- raw audio with these channels, formats and rates, interleaved
-abbrev pub raw : Value → Value → Value → Description Value
-raw channels formats rate = record {
-  media = codes "audio/x-raw";
-  fields = (codes "channels", channels) ∷ (codes "format", formats)
-      ∷ (codes "layout", Single (Words (codes "interleaved"))) ∷ (codes "rate", rate) ∷ [];
-}
-
--- the name of a format, as a value
-abbrev pub format_name : Sample → One
-format_name format = Words (sample_name format)
-
--- the whole numbers from 1 to the most
-abbrev pub up_to_most : ℕ → Value
-up_to_most most = Single (IntRange (pos 1) (pos most))
-
--- all formats, 1 to 64 channels and a rate of 1 to 768000
-abbrev pub raw_structure : Description Value
-raw_structure = raw (up_to_most 64) (Many (map format_name raw_samples)) (up_to_most 768000)
-
-abbrev pub raw_template : Caps
-raw_template = Of (raw_structure ∷ [])
 
 -- the numbers of channels that a number of them can become: one can become two, and two can become one
 abbrev pub channels_from : ℕ → List One

@@ -1,10 +1,10 @@
 -- That there is no choice for the caps of a stream.
 use Rattle.std.specs.Prelude.{◌≡◌, ⊤, None, Some}
-use Rattle.gst_caps.specs.Description.{Description}
+use Rattle.gst_value.specs.Description.{Description}
 use Rattle.gst_caps.specs.declared.caps.Caps.{Caps}
-use Rattle.gst_caps.specs.declared.value.One.{One}
-use Rattle.gst_item.specs.declared.fault.ElementFault.{ElementFault}
-use Rattle.gst_item.specs.declared.fault.ElementFault.TheVariants.{NotNegotiated, BadStream, TooLong, OutOfMemory}
+use Rattle.gst_value.specs.declared.one.One.{One}
+use Rattle.flow_model.specs.declared.fault.ElementFault.{ElementFault}
+use Rattle.flow_model.specs.declared.fault.ElementFault.TheVariants.{NotNegotiated, BadStream, TooLong, OutOfMemory}
 use Rattle.el_convert.specs.Choice.{choice}
 
 -- nothing of what these caps can become is allowed, unless memory is wanting

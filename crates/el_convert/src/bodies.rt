@@ -7,8 +7,8 @@ ghost use Rattle.gst_item.specs.declared.body.TheConstants.{LARGEST_BODY};
 ghost use Rattle.el_convert.specs.Bodies.{converted_bytes, half_sum as half_sum_of, rescaled as rescaled_value, repacked};
 
 use audio_info::{Info, Sample, get};
-use gst_caps::OutOfMemory;
 use gst_item::Body;
+use gst_value::OutOfMemory;
 use std::alloc::Global;
 
 /// Puts the samples and channels of `output` in place of those of `input` in a body of whole samples. Where these are

@@ -7,13 +7,13 @@ ghost use Rattle.flow_model.specs.Feeding.{IsFaultOf};
 ghost use Rattle.el_convert.specs.Choice.{choice};
 ghost use Rattle.el_convert.specs.Converts.{Known, convert_answer};
 
-use crate::choice::same_caps;
 use crate::put_out::{put_out, put_with_caps};
-use crate::raw::template;
 use crate::stream::{Stream, stream_of};
-use audio_info::Info;
-use gst_caps::{Caps, Fixed, OutOfMemory};
-use gst_item::{Buffer, ElementFault, Event, Flow, Item, Outs};
+use audio_info::{Info, raw_template, same_caps};
+use flow_model::ElementFault;
+use gst_caps::Caps;
+use gst_item::{Buffer, Event, Flow, Item, Outs};
+use gst_value::{Fixed, OutOfMemory};
 use std::alloc::Global;
 
 /// Converts raw audio to a format and a number of channels that are allowed behind it. It has one sink pad and one
@@ -32,14 +32,14 @@ pub struct Convert {
 }
 
 impl Convert {
-    ghost use Rattle.gst_item.specs.declared.fault.ElementFault.TheVariants.{OutOfMemory as Wanting};
+    ghost use Rattle.flow_model.specs.declared.fault.ElementFault.TheVariants.{OutOfMemory as Wanting};
     ghost use Rattle.gst_item.specs.declared.flow.Flow.TheVariants.{Ok as Taken};
     ghost use Rattle.gst_caps.specs.Accepts.{accepts};
     ghost use Rattle.flow_model.specs.Item.{Item, Buf, Ev, NewCaps, FlushStop, is_caps, is_eos, is_flush_stop};
     ghost use Rattle.flow_model.specs.Call.{Call, Feed, Act, Drain, Set, Allowed};
     ghost use Rattle.flow_model.specs.Feeding.{flow_behind, on_pad, next_owed, IsFaultOf};
-    ghost use Rattle.el_convert.specs.Raw.{raw_template};
-    ghost use Rattle.el_convert.specs.Converts.{converts, convert_answer, behind};
+    ghost use Rattle.audio_info.specs.Templates.{raw_template};
+    ghost use Rattle.el_convert.specs.Converts.{converts, convert_answer, known_behind};
     ghost use Rattle.flow_model.specs.Owed.{answered};
     ghost use Rattle.el_convert.specs.Converted.{IsConverted, knows, Stays, Changes};
     ghost use Rattle.el_convert.specs.Puts.{Puts};
@@ -139,7 +139,7 @@ impl Convert {
         ensures flow { IfOk result (λ flow. flow ≡ Taken) }
         ensures answer { OnOk result (IsOk (convert_answer (knows self.old) item)) }
         ensures out { OnOk result (out.new ≡ out.old ++ on_pad 0 (answered (convert_answer (knows self.old) item))) }
-        ensures knows { OnOk result (knows self.new ≡ behind (knows self.old) item) }
+        ensures knows { OnOk result (knows self.new ≡ known_behind (knows self.old) item) }
         ensures eos { OnOk result (self.old.ended ≡ false → self.new.ended ≡ is_eos item) }
         ensures stays { OnErr result ((self.new ≡ self.old) × (out.new ≡ out.old)) }
         ensures fault { IfErr result (λ fault. IsFaultOf (convert_answer (knows self.old) item) fault) }
@@ -161,7 +161,7 @@ impl Convert {
         ensures flow { IfOk result (λ flow. flow ≡ Taken) }
         ensures answer { OnOk result (IsOk (convert_answer (knows self.old) (Buf buffer))) }
         ensures out { OnOk result (out.new ≡ out.old ++ on_pad 0 (answered (convert_answer (knows self.old) (Buf buffer)))) }
-        ensures knows { OnOk result (knows self.new ≡ behind (knows self.old) (Buf buffer)) }
+        ensures knows { OnOk result (knows self.new ≡ known_behind (knows self.old) (Buf buffer)) }
         ensures eos { OnOk result (self.new.ended ≡ self.old.ended) }
         ensures stays { OnErr result ((self.new ≡ self.old) × (out.new ≡ out.old)) }
         ensures fault { IfErr result (λ fault. IsFaultOf (convert_answer (knows self.old) (Buf buffer)) fault) }
@@ -182,7 +182,7 @@ impl Convert {
         ensures flow { IfOk result (λ flow. flow ≡ Taken) }
         ensures answer { OnOk result (IsOk (convert_answer (knows self.old) (Buf buffer))) }
         ensures out { OnOk result (out.new ≡ out.old ++ on_pad 0 (answered (convert_answer (knows self.old) (Buf buffer)))) }
-        ensures knows { OnOk result (knows self.new ≡ behind (knows self.old) (Buf buffer)) }
+        ensures knows { OnOk result (knows self.new ≡ known_behind (knows self.old) (Buf buffer)) }
         ensures eos { OnOk result (self.new.ended ≡ self.old.ended) }
         ensures stays { OnErr result ((self.new ≡ self.old) × (out.new ≡ out.old)) }
         ensures fault { IfErr result (λ fault. IsFaultOf (convert_answer (knows self.old) (Buf buffer)) fault) }
@@ -224,7 +224,7 @@ impl Convert {
         ensures flow { IfOk result (λ flow. flow ≡ Taken) }
         ensures answer { OnOk result (IsOk (convert_answer (knows self.old) (Buf buffer))) }
         ensures out { OnOk result (out.new ≡ out.old ++ on_pad 0 (answered (convert_answer (knows self.old) (Buf buffer)))) }
-        ensures knows { OnOk result (knows self.new ≡ behind (knows self.old) (Buf buffer)) }
+        ensures knows { OnOk result (knows self.new ≡ known_behind (knows self.old) (Buf buffer)) }
         ensures eos { OnOk result (self.new.ended ≡ self.old.ended) }
         ensures stays { OnErr result ((self.new ≡ self.old) × (out.new ≡ out.old)) }
         ensures fault { IfErr result (λ fault. IsFaultOf (convert_answer (knows self.old) (Buf buffer)) fault) }
@@ -259,7 +259,7 @@ impl Convert {
         ensures flow { IfOk result (λ flow. flow ≡ Taken) }
         ensures answer { OnOk result (IsOk (convert_answer (knows self.old) (Buf buffer))) }
         ensures out { OnOk result (out.new ≡ out.old ++ on_pad 0 (answered (convert_answer (knows self.old) (Buf buffer)))) }
-        ensures knows { OnOk result (knows self.new ≡ behind (knows self.old) (Buf buffer)) }
+        ensures knows { OnOk result (knows self.new ≡ known_behind (knows self.old) (Buf buffer)) }
         ensures eos { OnOk result (self.new.ended ≡ self.old.ended) }
         ensures stays { OnErr result ((self.new ≡ self.old) × (out.new ≡ out.old)) }
         ensures fault { IfErr result (λ fault. IsFaultOf (convert_answer (knows self.old) (Buf buffer)) fault) }
@@ -286,12 +286,12 @@ impl Convert {
         ensures flow { IfOk result (λ flow. flow ≡ Taken) }
         ensures answer { OnOk result (IsOk (convert_answer (knows self.old) (Ev (NewCaps caps)))) }
         ensures out { OnOk result (out.new ≡ out.old ++ on_pad 0 (answered (convert_answer (knows self.old) (Ev (NewCaps caps))))) }
-        ensures knows { OnOk result (knows self.new ≡ behind (knows self.old) (Ev (NewCaps caps))) }
+        ensures knows { OnOk result (knows self.new ≡ known_behind (knows self.old) (Ev (NewCaps caps))) }
         ensures eos { OnOk result (self.new.ended ≡ self.old.ended) }
         ensures stays { OnErr result ((self.new ≡ self.old) × (out.new ≡ out.old)) }
         ensures fault { IfErr result (λ fault. IsFaultOf (convert_answer (knows self.old) (Ev (NewCaps caps))) fault) }
     {
-        let wanted = template(alloc)?;
+        let wanted = raw_template(alloc)?;
         if !wanted.accepts(&caps) {
             return Err(ElementFault::NotNegotiated {
                 offered: Some(caps),
@@ -335,7 +335,7 @@ impl Convert {
 fn before_caps<T>(alloc: Global) -> Result<T, ElementFault>
     ensures { IsErrAnd result (λ fault. (k : Known) (b : Buffer) → k.offered ≡ None → IsFaultOf (convert_answer k (Buf b)) fault) }
 {
-    match template(alloc) {
+    match raw_template(alloc) {
         Ok(wanted) => Err(ElementFault::NotNegotiated {
             offered: None,
             wanted,

@@ -2,7 +2,6 @@
 #![tactic(auto)]
 
 mod bodies;
-mod choice;
 pub mod convert;
 pub mod laws;
 mod put_out;

@@ -3,8 +3,8 @@ ghost use Rattle.std.specs.Prelude.{◌≡◌, ◌++◌, ◌∷◌, [], OnOk, On
 ghost use Rattle.flow_model.specs.Item.{Buf, Ev, NewCaps};
 ghost use Rattle.flow_model.specs.Feeding.{on_pad};
 
-use gst_caps::{Fixed, OutOfMemory};
 use gst_item::{Buffer, Event, Item, Out, Outs};
+use gst_value::{Fixed, OutOfMemory};
 use std::alloc::Global;
 use std::collections::VecDeque;
 

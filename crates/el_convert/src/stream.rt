@@ -12,9 +12,11 @@ ghost use Rattle.el_convert.specs.Refused.{IsRefusal};
 use crate::bodies::convert;
 use crate::raw::options;
 use audio_info::Info;
-use gst_caps::{Caps, Fixed, OutOfMemory, choose};
-use gst_item::{Buffer, ElementFault, Flow, StreamKind};
+use flow_model::{ElementFault, StreamKind};
+use gst_caps::{Caps, choose};
+use gst_item::{Buffer, Flow};
 use gst_time::LIMIT;
+use gst_value::{Fixed, OutOfMemory};
 use std::alloc::Global;
 
 /// The caps of the stream that comes in, and the choice for it that was put out last.

@@ -1,15 +1,41 @@
 //! Rows of bodies and of calls. A letter stands for a call, and for what it answers and puts out.
-ghost use Rattle.std.specs.Prelude.{◌≡◌, ◌≤◌, false, IfOk};
-ghost use Rattle.flow_model.specs.Item.{is_flush_stop};
+ghost use Rattle.std.specs.Prelude.{◌≤◌};
 
 use super::*;
 use audio_info::{Info, Sample};
-use gst_caps::{Caps, Fixed, List, One, Structure, Text, Value};
-use gst_item::{Body, Buffer, ElementFault, Event, Flow, Item, Outs, StreamKind};
-use gst_time::{Format, Segment};
+use flow_model::{ElementFault, StreamKind};
+use gst_caps::{Caps, Structure, Value};
+use gst_item::{Event, Flow, Item, Outs};
+use gst_value::{Fixed, List, One, Text};
+use item_letters::{
+    buffer_of, bytes_by, is_flush, item_of, letter_of, letter_of_caps, letter_of_flow,
+    letter_of_place,
+};
 use std::alloc::Global;
 use std::process::Abort;
 use std::test::Fail;
+
+/// The letter of an answer, and for caps that are not wanted that of those that were offered, or `0` for none. A split
+/// frame is its place.
+fn letter_of_answer(answer: &Result<Flow, ElementFault>) -> u8 {
+    match answer {
+        Ok(flow) => letter_of_flow(*flow),
+        Err(ElementFault::NotNegotiated { offered: None, .. }) => b'0',
+        Err(
+            ElementFault::NotNegotiated {
+                offered: Some(caps),
+                ..
+            },
+        ) => letter_of_caps(caps),
+        Err(
+            ElementFault::BadStream {
+                place,
+                kind: StreamKind::SplitFrame,
+            },
+        ) => letter_of_place(*place),
+        Err(_) => b'!',
+    }
+}
 
 /// Caps at 8000 frames a second: `l` S16LE, `b` S16BE, `3` S24LE, `4` S32LE, `8` S8, `m` mu-law, and others U8.
 fn info_by(letter: u8, channels: u32) -> Info
@@ -55,65 +81,27 @@ fn set_format(alloc: Global, structure: &mut Structure, name: &str) -> Result<()
     Ok(structure.set(alloc, "format", Value::One(One::Text(name)))?)
 }
 
-/// `2` are CAPS of two channels in S16LE, and other small letters those of one.
-fn event_by(alloc: Global, letter: u8) -> Result<Event, Fail> {
-    match letter {
-        b's' => Ok(Event::StreamStart { id: 1 }),
-        b'l' | b'u' | b'm' => Ok(Event::Caps(info_by(letter, 1).to_fixed(alloc)?)),
-        b'2' => Ok(Event::Caps(info_by(b'l', 2).to_fixed(alloc)?)),
-        b'g' => Ok(Event::Segment(Segment::new(Format::Time))),
-        b't' => Ok(Event::Tag {
-            title: Text::from_str(alloc, "title")?,
-        }),
-        b'p' => Ok(Event::Gap {
-            pts: 0,
-            duration: 1,
-        }),
-        _ => Ok(Event::Eos),
-    }
-}
-
-/// `N` is a buffer of no bytes, and `B`, `C` and `D` are those of two to four.
+/// `l`, `u` and `m` are CAPS of one channel, and `2` those of two in S16LE; others are as `item_of` takes them.
 fn item_by(alloc: Global, letter: u8) -> Result<Item, Fail> {
-    match letter {
-        b'N' => buffer_of(alloc, &[]),
-        b'B' => buffer_of(alloc, &[1, 2]),
-        b'C' => buffer_of(alloc, &[1, 2, 3]),
-        b'D' => buffer_of(alloc, &[1, 2, 3, 4]),
-        _ => Ok(Item::Event(event_by(alloc, letter)?)),
-    }
+    let info = match letter {
+        b'l' | b'u' | b'm' => info_by(letter, 1),
+        b'2' => info_by(b'l', 2),
+        _ => return Ok(item_of(alloc, letter)?),
+    };
+    Ok(Item::Event(Event::Caps(info.to_fixed(alloc)?)))
 }
 
-fn buffer_of(alloc: Global, bytes: &[u8]) -> Result<Item, Fail>
-    ensures { IfOk result (λ item. is_flush_stop item ≡ false) }
-{
-    Ok(Item::Buffer(Buffer {
-        body: Body::from_vec(alloc, Vec::from_slice(alloc, bytes)?)?,
-        pts: Some(1),
-        duration: Some(2),
-        offset: Some(3),
-        discont: true,
-    }))
-}
-
-fn letter_of(item: &Item) -> u8 {
+/// The letter of an item, where CAPS have that of their format.
+fn letter_by_format(item: &Item) -> u8 {
     match item {
-        Item::Buffer(buffer) => *b"NABCDEFGH"
-            .get(buffer.body.as_slice().len())
-            .unwrap_or(&b'Z'),
-        Item::Event(Event::StreamStart { .. }) => b's',
-        Item::Event(Event::Caps(caps)) => letter_of_caps(caps),
-        Item::Event(Event::Segment(_)) => b'g',
-        Item::Event(Event::Tag { .. }) => b't',
-        Item::Event(Event::Gap { .. }) => b'p',
-        Item::Event(Event::FlushStop { .. }) => b'f',
-        Item::Event(Event::Eos) => b'e',
+        Item::Event(Event::Caps(caps)) => format_letter(caps),
+        _ => letter_of(item),
     }
 }
 
 /// `w` for S24LE in two channels, and `v` for U8 in two; `?` where they are not caps that an element makes at 8000
 /// frames a second.
-fn letter_of_caps(caps: &Fixed) -> u8 {
+fn format_letter(caps: &Fixed) -> u8 {
     let Ok(info) = Info::from_fixed(caps) else {
         return b'?';
     };
@@ -130,13 +118,10 @@ fn letter_of_caps(caps: &Fixed) -> u8 {
     }
 }
 
-/// `+` for Ok, `.` for Eos, `0` for no caps that are offered, `x` for some with a wanted set that holds S16LE of one
-/// channel at 8000, `y` for some with another one, and for a split frame its place.
-fn letter_of_answer(alloc: Global, answer: Result<Flow, ElementFault>) -> Result<u8, Fail> {
-    Ok(match answer {
-        Ok(Flow::Ok) => b'+',
-        Ok(Flow::Eos) => b'.',
-        Err(ElementFault::NotNegotiated { offered: None, .. }) => b'0',
+/// `x` for caps that are not wanted, with a wanted set that holds S16LE of one channel at 8000, and `y` for such with
+/// another one; others are as `letter_of_answer` tells them.
+fn letter_by_wanted(alloc: Global, answer: Result<Flow, ElementFault>) -> Result<u8, Fail> {
+    match answer {
         Err(
             ElementFault::NotNegotiated {
                 offered: Some(_),
@@ -144,22 +129,10 @@ fn letter_of_answer(alloc: Global, answer: Result<Flow, ElementFault>) -> Result
             },
         ) => {
             let common = info_by(b'l', 1).to_fixed(alloc)?;
-            if wanted.accepts(&common) { b'x' } else { b'y' }
+            Ok(if wanted.accepts(&common) { b'x' } else { b'y' })
         }
-        Err(
-            ElementFault::BadStream {
-                place,
-                kind: StreamKind::SplitFrame,
-            },
-        ) => *b"-123456789".get(place as usize).unwrap_or(&b'Z'),
-        _ => b'!',
-    })
-}
-
-fn is_flush(item: &Item) -> bool
-    ensures { result ≡ is_flush_stop item.now }
-{
-    matches!(item, Item::Event(Event::FlushStop { .. }))
+        other => Ok(letter_of_answer(&other)),
+    }
 }
 
 /// Makes one call: `f` is a flush, `d` a drain, `A`, `O`, `R`, `U` and `W` set the allowed caps, and all others
@@ -177,7 +150,7 @@ fn call(alloc: Global, convert: &mut Convert, letter: u8, out: &mut Outs) -> Res
             let item = item_by(alloc, letter)?;
             if !is_flush(&item) {
                 let answer = convert.feed(alloc, 0, item, out);
-                return letter_of_answer(alloc, answer);
+                return letter_by_wanted(alloc, answer);
             }
         }
     }
@@ -194,7 +167,7 @@ fn trace_of(alloc: Global, calls: &[u8]) -> Result<Vec<u8>, Fail> {
     }
     trace.push(b':')?;
     for one in out.as_slice() {
-        trace.push(letter_of(&one.item))?;
+        trace.push(letter_by_format(&one.item))?;
     }
     Ok(trace)
 }
@@ -227,24 +200,6 @@ fn calls(rt: HostRuntime) -> Result<(), Fail> {
         assert_eq!(rt; trace.as_slice(), wanted);
     }
     Ok(())
-}
-
-fn digit_of(letter: u8) -> u8 {
-    match letter {
-        b'0'..=b'9' => letter - b'0',
-        b'A'..=b'F' => letter - b'A' + 10,
-        _ => 0,
-    }
-}
-
-/// The bytes of hexadecimal digits.
-fn bytes_of(alloc: Global, digits: &str) -> Result<Vec<u8>, Fail> {
-    let mut made = Vec::new(alloc);
-    let (pairs, _) = digits.as_bytes().as_chunks::<2>();
-    for [high, low] in pairs {
-        made.push(digit_of(*high) % 16 * 16 + digit_of(*low) % 16)?;
-    }
-    Ok(made)
 }
 
 /// The body that is put out for a body in one format and number of channels, in others.
@@ -299,9 +254,9 @@ fn bodies(rt: HostRuntime) -> Result<(), Fail> {
     for line in BODIES.lines() {
         let mut words = line.split(' ');
         let from = caps_of(words.next().unwrap_or(""));
-        let bytes = bytes_of(alloc, words.next().unwrap_or(""))?;
+        let bytes = bytes_by(alloc, words.next().unwrap_or(""))?;
         let to = caps_of(words.next().unwrap_or(""));
-        let wanted = bytes_of(alloc, words.next().unwrap_or(""))?;
+        let wanted = bytes_by(alloc, words.next().unwrap_or(""))?;
         match body_for(alloc, from, to, bytes)? {
             Item::Buffer(buffer) => {
                 assert_eq!(rt; buffer.body.as_slice(), wanted.as_slice(), "{line}");

@@ -1,8 +1,7 @@
 -- Codes of one byte each, decoded.
-use Rattle.std.proofs.Common.{◌≡◌, ◌<◌, ◌≤◌, ◌+◌, ◌/◌, ℕ, ℤ, pos, negsuc, List, [], ◌∷◌, ◌++◌, length, take, get_or, refl, sym, ◌∙◌, ap, append-nil, append_assoc, arith}
+use Rattle.std.proofs.Common.{◌≡◌, ◌<◌, ◌≤◌, ◌+◌, ◌/◌, ℕ, List, [], ◌∷◌, ◌++◌, length, take, get_or, refl, sym, ◌∙◌, ap, append-nil, append_assoc, arith}
 use Rattle.std.proofs.lemmas.List.{take_all, take_more}
 use Rattle.std.proofs.lemmas.List.Concat.{flat_map-append}
-use Rattle.std.specs.Int.{w16, to_le_bytes, cast_unsigned}
 use Rattle.std.specs.List.{flat_map}
 use Rattle.audio_info.specs.Packing.{sample_bytes, sample_value}
 use Rattle.audio_info.specs.declared.sample.Sample.TheVariants.{S16LE as Linear, MuLaw as MuLawCodes, ALaw as ALawCodes}
@@ -11,11 +10,6 @@ use Rattle.el_law.specs.declared.recode.Companding.TheVariants.{MuLaw, ALaw}
 use Rattle.el_law.specs.Companding.{format_of}
 use Rattle.el_law.specs.Laws.{recoded_bytes}
 use Rattle.el_law.proofs.Pieces.{single_pieces}
-
--- the bytes of a sample of 16 bits
-pub linear_is : (v : ℤ) → to_le_bytes w16 (cast_unsigned w16 v) ≡ sample_bytes Linear v
-linear_is (pos a) = refl
-linear_is (negsuc a) = refl
 
 two_are : (bytes : List ℕ) → length bytes ≡ 2 → get_or bytes 0 0 ∷ get_or bytes 1 0 ∷ [] ≡ bytes
 two_are (a ∷ b ∷ []) two = refl

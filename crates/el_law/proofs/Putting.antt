@@ -1,6 +1,6 @@
 -- What an element of a law puts out for a call.
 use Rattle.std.proofs.Common.{◌≡◌, Bool, true, false, if◌then◌else◌, ℕ, Option, None, List, [], ◌∷◌, ◌++◌, Result, Ok, Err, IfOk, IfErr, OnOk, refl, sym, ◌∙◌, append-nil}
-use Rattle.gst_item.specs.declared.fault.ElementFault.{ElementFault}
+use Rattle.flow_model.specs.declared.fault.ElementFault.{ElementFault}
 use Rattle.gst_item.specs.declared.flow.Flow.{Flow}
 use Rattle.gst_item.specs.declared.flow.Flow.TheVariants.{Ok as Taken}
 use Rattle.gst_item.specs.declared.out.Out.{Out}
@@ -11,7 +11,7 @@ use Rattle.flow_model.specs.Feeding.{on_pad, passed, flow_behind, next_owed, IsF
 use Rattle.el_law.specs.declared.kind.LawKind.{LawKind}
 use Rattle.el_law.specs.declared.law.Law.{Law}
 use Rattle.el_law.specs.Laws.{format_in, law_answer, recodes, recoded, frame_behind, got_behind}
-use Rattle.el_law.specs.Templates.{template}
+use Rattle.audio_info.specs.Templates.{sample_template}
 use Rattle.el_law.specs.Recoded.{Recoded, recoding}
 use Rattle.el_law.specs.Puts.{Puts}
 use Rattle.flow_model.specs.Owed.{without_eos}
@@ -65,7 +65,7 @@ handed_fault law x (Err fault) begun h = fault_known law x fault begun h
 
 -- a buffer before any CAPS
 pub before_caps : (kind : LawKind) (frame : Option ℕ) (got : ℕ) (b : Buffer) (answer : Result Flow ElementFault) → frame ≡ None
-    → IfErr answer (λ fault. IsFaultOf (Err (NotNegotiated None (template (format_in kind)))) fault) → IfErr answer (λ fault. IsFaultOf (law_answer kind frame got (Buf b)) fault)
+    → IfErr answer (λ fault. IsFaultOf (Err (NotNegotiated None (sample_template (format_in kind)))) fault) → IfErr answer (λ fault. IsFaultOf (law_answer kind frame got (Buf b)) fault)
 before_caps kind frame got b answer is h = rw is h
 
 -- an item behind EOS

@@ -5,10 +5,10 @@ use Rattle.std.specs.List.{flat_map, sum_by}
 use Rattle.std.specs.Option.{option_map, unwrap_or}
 use Rattle.std.specs.Simd.{first_chunks}
 use Rattle.gst_caps.specs.Accepts.{accepts}
-use Rattle.gst_caps.specs.Description.{Description}
-use Rattle.gst_caps.specs.declared.value.One.{One}
+use Rattle.gst_value.specs.Description.{Description}
+use Rattle.gst_value.specs.declared.one.One.{One}
 use Rattle.gst_item.specs.Sticky.{since_flush_stop}
-use Rattle.gst_item.specs.declared.fault.StreamKind.TheVariants.{SplitFrame}
+use Rattle.flow_model.specs.declared.fault.StreamKind.TheVariants.{SplitFrame}
 use Rattle.audio_info.specs.Media.{caps_of, rate_of, channels_of}
 use Rattle.audio_info.specs.Packing.{sample_width, sample_value, sample_bytes}
 use Rattle.audio_info.specs.declared.sample.Sample.{Sample}
@@ -17,7 +17,7 @@ use Rattle.flow_model.specs.Item.{Item, Buffer, Buf, Ev, NewCaps, body_of}
 use Rattle.flow_model.specs.Call.{items}
 use Rattle.flow_model.specs.Rule.{Fault, NotNegotiated, BadStream, TooLong, Response}
 use Rattle.flow_model.specs.CapsInForce.{caps_in_force}
-use Rattle.el_law.specs.Templates.{template}
+use Rattle.audio_info.specs.Templates.{sample_template}
 use Rattle.el_law.specs.declared.kind.LawKind.{LawKind}
 use Rattle.el_law.specs.declared.kind.LawKind.TheVariants.{MulawEnc, AlawEnc, MulawDec, AlawDec}
 
@@ -81,9 +81,9 @@ buffer_answer kind frame got b =
 -- FLUSH_STOP. CAPS outside of the template and a buffer before any CAPS are faults.
 abbrev pub law_answer : LawKind → Option ℕ → ℕ → Item → Result (List Item) Fault
 law_answer kind frame got (Ev (NewCaps new)) =
-    if accepts (template (format_in kind)) new then Ok (Ev (NewCaps (recoded_caps kind new)) ∷ [])
-    else Err (NotNegotiated (Some new) (template (format_in kind)))
-law_answer kind None got (Buf b) = Err (NotNegotiated None (template (format_in kind)))
+    if accepts (sample_template (format_in kind)) new then Ok (Ev (NewCaps (recoded_caps kind new)) ∷ [])
+    else Err (NotNegotiated (Some new) (sample_template (format_in kind)))
+law_answer kind None got (Buf b) = Err (NotNegotiated None (sample_template (format_in kind)))
 law_answer kind (Some frame) got (Buf b) = buffer_answer kind frame got b
 law_answer kind frame got x = Ok (x ∷ [])
 

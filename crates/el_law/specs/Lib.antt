@@ -2,4 +2,3 @@ pub mod Companding
 pub mod Laws
 pub mod Puts
 pub mod Recoded
-pub mod Templates

@@ -1,10 +1,9 @@
 -- What an element of a law puts out for a call, whatever lists it stands for.
-use Rattle.std.specs.Prelude.{◌≡◌, List, [], ◌∷◌, ◌++◌, Result, Ok, Err, filter}
+use Rattle.std.specs.Prelude.{◌≡◌, List, [], ◌∷◌, ◌++◌, Ok}
 use Rattle.gst_item.specs.declared.out.Out.{Out}
-use Rattle.flow_model.specs.Item.{Item, Ev, Eos}
-use Rattle.flow_model.specs.Call.{Call, Feed, Act, Drain, Set}
-use Rattle.flow_model.specs.Rule.{Response, Fault, not_eos}
-use Rattle.flow_model.specs.Feeding.{on_pad, next_owed}
+use Rattle.flow_model.specs.Item.{Item}
+use Rattle.flow_model.specs.Call.{Call}
+use Rattle.flow_model.specs.Feeding.{on_pad}
 use Rattle.flow_model.specs.Owed.{owed_at}
 use Rattle.el_law.specs.declared.kind.LawKind.{LawKind}
 use Rattle.el_law.specs.declared.law.Law.{Law}

@@ -8,11 +8,11 @@ ghost use Rattle.flow_model.specs.Item.{Buf};
 use crate::kind::LawKind;
 use crate::put_out::put_out;
 use crate::recode::recoded;
-use crate::template::template;
-use audio_info::Info;
-use gst_caps::{Fixed, OutOfMemory};
-use gst_item::{Body, Buffer, ElementFault, Event, Flow, Item, Outs, StreamKind};
+use audio_info::{Info, sample_template};
+use flow_model::{ElementFault, StreamKind};
+use gst_item::{Body, Buffer, Event, Flow, Item, Outs};
 use gst_time::LIMIT;
+use gst_value::{Fixed, OutOfMemory};
 use std::alloc::Global;
 
 /// Codes or decodes audio by a law, sample by sample. It has one sink pad and one source pad, both of number 0.
@@ -29,7 +29,7 @@ pub struct Law {
 }
 
 impl Law {
-    ghost use Rattle.gst_item.specs.declared.fault.ElementFault.TheVariants.{OutOfMemory as Wanting};
+    ghost use Rattle.flow_model.specs.declared.fault.ElementFault.TheVariants.{OutOfMemory as Wanting};
     ghost use Rattle.gst_item.specs.declared.flow.Flow.TheVariants.{Ok as Taken};
     ghost use Rattle.flow_model.specs.Item.{Item, Ev, NewCaps, FlushStop, is_caps, is_buffer, is_eos, is_flush_stop, body_of};
     ghost use Rattle.flow_model.specs.Call.{Call, Feed, Act, Drain};
@@ -37,7 +37,7 @@ impl Law {
     ghost use Rattle.flow_model.specs.Feeding.{flow_behind, passed, next_owed, IsFaultOf};
     ghost use Rattle.el_law.specs.Laws.{format_in as format_in_of, recodes, recoded as recoded_item, recoded_caps, frame_width, law_answer, frame_behind, got_behind};
     ghost use Rattle.el_law.specs.Recoded.{Recoded};
-    ghost use Rattle.el_law.specs.Templates.{template as template_of};
+    ghost use Rattle.audio_info.specs.Templates.{sample_template as template_of};
     ghost use Rattle.el_law.specs.Puts.{Puts};
 
     /// An element that was fed nothing yet.
@@ -180,7 +180,7 @@ impl Law {
     {
         Err(ElementFault::NotNegotiated {
             offered: None,
-            wanted: template(alloc, self.kind.format_in())?,
+            wanted: sample_template(alloc, self.kind.format_in())?,
         })
     }
 
@@ -200,7 +200,7 @@ impl Law {
         ensures stays { OnErr result ((self.new ≡ self.old) × (out.new ≡ out.old)) }
         ensures fault { IfErr result (λ fault. IsFaultOf (law_answer self.old.kind self.old.frame self.old.got (Ev (NewCaps caps))) fault) }
     {
-        let wanted = template(alloc, self.kind.format_in())?;
+        let wanted = sample_template(alloc, self.kind.format_in())?;
         if !wanted.accepts(&caps) {
             return Err(ElementFault::NotNegotiated {
                 offered: Some(caps),

@@ -5,7 +5,6 @@ pub mod kind;
 pub mod law;
 mod put_out;
 mod recode;
-mod template;
 
 pub use kind::LawKind;
 pub use law::Law;

@@ -2,8 +2,8 @@
 ghost use Rattle.std.specs.Prelude.{◌≡◌, ◌++◌, ◌∷◌, [], OnOk, OnErr};
 ghost use Rattle.flow_model.specs.Feeding.{on_pad};
 
-use gst_caps::OutOfMemory;
 use gst_item::{Item, Out, Outs};
+use gst_value::OutOfMemory;
 use std::alloc::Global;
 
 /// Puts an item out on the only source pad. Where there is no memory nothing is put out, and the item is given

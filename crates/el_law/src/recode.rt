@@ -9,7 +9,7 @@ ghost use Rattle.el_law.specs.Laws.{format_in, format_out, recoded_bytes};
 
 use crate::kind::LawKind;
 use audio_info::{Sample, alaw_dec, alaw_enc, get, mulaw_dec, mulaw_enc, mulaw_enc_sixteen};
-use gst_caps::OutOfMemory;
+use gst_value::OutOfMemory;
 use std::alloc::Global;
 
 /// A law of G.711.

@@ -1,14 +1,38 @@
 //! Rows of calls. A letter stands for a call, and for what it answers and puts out.
-ghost use Rattle.std.specs.Prelude.{◌≡◌, ◌≤◌, false, IfOk};
-ghost use Rattle.flow_model.specs.Item.{is_flush_stop};
+ghost use Rattle.std.specs.Prelude.{◌≤◌};
 
 use super::*;
 use audio_info::{Info, Sample};
-use gst_caps::{Fixed, List, One, Text};
-use gst_item::{Body, Buffer, ElementFault, Event, Flow, Item, Outs, StreamKind};
-use gst_time::{Format, Segment};
+use flow_model::{ElementFault, StreamKind};
+use gst_item::{Event, Flow, Item, Outs};
+use gst_value::{Fixed, List, One};
+use item_letters::{
+    buffer_of, is_flush, item_of, letter_of, letter_of_caps, letter_of_flow, letter_of_place,
+};
 use std::alloc::Global;
 use std::test::Fail;
+
+/// The letter of an answer, and for caps that are not wanted that of those that were offered, or `0` for none. A split
+/// frame is its place.
+fn letter_of_answer(answer: &Result<Flow, ElementFault>) -> u8 {
+    match answer {
+        Ok(flow) => letter_of_flow(*flow),
+        Err(ElementFault::NotNegotiated { offered: None, .. }) => b'0',
+        Err(
+            ElementFault::NotNegotiated {
+                offered: Some(caps),
+                ..
+            },
+        ) => letter_of_caps(caps),
+        Err(
+            ElementFault::BadStream {
+                place,
+                kind: StreamKind::SplitFrame,
+            },
+        ) => letter_of_place(*place),
+        Err(_) => b'!',
+    }
+}
 
 /// A format by a letter: `l` is S16LE, `m` mu-law, `a` A-law, and others are U8.
 fn format_by(letter: u8) -> Sample {
@@ -40,71 +64,29 @@ fn bare_caps(alloc: Global, media: &str) -> Result<Fixed, Fail> {
 }
 
 /// `l`, `m`, `a` and `u` are CAPS of one channel, `2` those of two in S16LE and `3` those of two in mu-law; `r` has
-/// raw audio without a format, and `k` mu-law without channels.
-fn event_by(alloc: Global, letter: u8) -> Result<Event, Fail> {
-    match letter {
-        b's' => Ok(Event::StreamStart { id: 1 }),
-        b'l' | b'm' | b'a' | b'u' => Ok(Event::Caps(caps_by(alloc, letter, 1)?)),
-        b'2' => Ok(Event::Caps(caps_by(alloc, b'l', 2)?)),
-        b'3' => Ok(Event::Caps(caps_by(alloc, b'm', 2)?)),
-        b'r' => Ok(Event::Caps(bare_caps(alloc, "audio/x-raw")?)),
-        b'k' => Ok(Event::Caps(bare_caps(alloc, "audio/x-mulaw")?)),
-        b'g' => Ok(Event::Segment(Segment::new(Format::Time))),
-        b't' => Ok(Event::Tag {
-            title: Text::from_str(alloc, "title")?,
-        }),
-        b'p' => Ok(Event::Gap {
-            pts: 0,
-            duration: 1,
-        }),
-        _ => Ok(Event::Eos),
-    }
-}
-
-/// `N` is a buffer of no bytes, and `A`, `B`, `C` and `D` are those of one to four.
+/// raw audio without a format, and `k` mu-law without channels. Others are as `item_of` takes them.
 fn item_by(alloc: Global, letter: u8) -> Result<Item, Fail> {
-    match letter {
-        b'N' => buffer_of(alloc, &[]),
-        b'A' => buffer_of(alloc, &[1]),
-        b'B' => buffer_of(alloc, &[1, 2]),
-        b'C' => buffer_of(alloc, &[1, 2, 3]),
-        b'D' => buffer_of(alloc, &[1, 2, 3, 4]),
-        _ => Ok(Item::Event(event_by(alloc, letter)?)),
-    }
+    let caps = match letter {
+        b'l' | b'm' | b'a' | b'u' => caps_by(alloc, letter, 1)?,
+        b'2' => caps_by(alloc, b'l', 2)?,
+        b'3' => caps_by(alloc, b'm', 2)?,
+        b'r' => bare_caps(alloc, "audio/x-raw")?,
+        b'k' => bare_caps(alloc, "audio/x-mulaw")?,
+        _ => return Ok(item_of(alloc, letter)?),
+    };
+    Ok(Item::Event(Event::Caps(caps)))
 }
 
-fn buffer_of(alloc: Global, bytes: &[u8]) -> Result<Item, Fail>
-    ensures { IfOk result (λ item. is_flush_stop item ≡ false) }
-{
-    Ok(Item::Buffer(Buffer {
-        body: Body::from_vec(alloc, Vec::from_slice(alloc, bytes)?)?,
-        pts: Some(1),
-        duration: Some(2),
-        offset: Some(3),
-        discont: true,
-    }))
-}
-
-fn letter_of(item: &Item) -> u8 {
+/// The letter of an item, where CAPS have that of their format.
+fn letter_by_format(item: &Item) -> u8 {
     match item {
-        Item::Buffer(buffer) => letter_of_length(buffer.body.as_slice().len()),
-        Item::Event(Event::StreamStart { .. }) => b's',
-        Item::Event(Event::Caps(caps)) => letter_of_caps(caps),
-        Item::Event(Event::Segment(_)) => b'g',
-        Item::Event(Event::Tag { .. }) => b't',
-        Item::Event(Event::Gap { .. }) => b'p',
-        Item::Event(Event::FlushStop { .. }) => b'f',
-        Item::Event(Event::Eos) => b'e',
+        Item::Event(Event::Caps(caps)) => format_letter(caps),
+        _ => letter_of(item),
     }
-}
-
-/// `Z` where there are more than eight bytes.
-fn letter_of_length(bytes: usize) -> u8 {
-    *b"NABCDEFGH".get(bytes).unwrap_or(&b'Z')
 }
 
 /// `?` where they are not those that an element makes at 8000 frames a second.
-fn letter_of_caps(caps: &Fixed) -> u8 {
+fn format_letter(caps: &Fixed) -> u8 {
     match Info::from_fixed(caps) {
         Ok(
             Info {
@@ -129,34 +111,6 @@ fn letter_of_caps(caps: &Fixed) -> u8 {
         ) if caps.fields() == 2 => b'a',
         _ => b'?',
     }
-}
-
-/// `+` for Ok, `.` for Eos, `0` for no caps that are offered and `x` for some, and for a split frame its place.
-fn letter_of_answer(answer: &Result<Flow, ElementFault>) -> u8 {
-    match answer {
-        Ok(Flow::Ok) => b'+',
-        Ok(Flow::Eos) => b'.',
-        Err(ElementFault::NotNegotiated { offered: None, .. }) => b'0',
-        Err(
-            ElementFault::NotNegotiated {
-                offered: Some(_),
-                ..
-            },
-        ) => b'x',
-        Err(
-            ElementFault::BadStream {
-                place,
-                kind: StreamKind::SplitFrame,
-            },
-        ) => *b"-123456789".get(*place as usize).unwrap_or(&b'Z'),
-        _ => b'!',
-    }
-}
-
-fn is_flush(item: &Item) -> bool
-    ensures { result ≡ is_flush_stop item.now }
-{
-    matches!(item, Item::Event(Event::FlushStop { .. }))
 }
 
 /// Makes one call: `f` is a flush, `d` a drain, and all others feed.
@@ -189,7 +143,7 @@ fn trace_of(alloc: Global, kind: LawKind, calls: &[u8]) -> Result<Vec<u8>, Fail>
     }
     trace.push(b':')?;
     for one in out.as_slice() {
-        trace.push(letter_of(&one.item))?;
+        trace.push(letter_by_format(&one.item))?;
     }
     Ok(trace)
 }
@@ -203,10 +157,10 @@ fn calls(rt: HostRuntime) -> Result<(), Fail> {
         (LawKind::MulawDec, b"smgADNe", b"+++++++:slgBHNe"),
         (LawKind::AlawDec, b"sagADe", b"++++++:slgBHe"),
         (LawKind::MulawEnc, b"Bs", b"0+:s"),
-        (LawKind::MulawEnc, b"maurk", b"xxxxx:"),
-        (LawKind::AlawEnc, b"ma", b"xx:"),
-        (LawKind::MulawDec, b"laukm", b"xxxx+:l"),
-        (LawKind::AlawDec, b"lmrka", b"xxxx+:l"),
+        (LawKind::MulawEnc, b"maurk", b"marrm:"),
+        (LawKind::AlawEnc, b"ma", b"ma:"),
+        (LawKind::MulawDec, b"laukm", b"rarm+:l"),
+        (LawKind::AlawDec, b"lmrka", b"rmrm+:l"),
         (LawKind::MulawEnc, b"lBAB", b"++3+:mAA"),
         (LawKind::MulawEnc, b"2BD", b"+2+:3B"),
         (LawKind::MulawDec, b"3DAB", b"++5+:2HD"),

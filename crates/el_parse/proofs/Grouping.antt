@@ -5,9 +5,9 @@ use Rattle.std.specs.Option.{option_map}
 use Rattle.std.proofs.Math.Nat.{div-eq_of_lt}
 use Rattle.audio_info.specs.declared.info.Info.{Info}
 use Rattle.gst_caps.specs.Accepts.{accepts}
-use Rattle.gst_caps.specs.Description.{Description}
+use Rattle.gst_value.specs.Description.{Description}
 use Rattle.gst_caps.specs.declared.caps.Caps.{Caps}
-use Rattle.gst_caps.specs.declared.value.One.{One}
+use Rattle.gst_value.specs.declared.one.One.{One}
 use Rattle.flow_model.specs.Item.{Item, Ev, NewCaps, FlushStop, Eos, is_flush_stop, is_eos}
 use Rattle.flow_model.specs.Call.{Call, Feed, Act, Drain, items}
 use Rattle.flow_model.specs.Rule.{Fed, Fault, not_eos}
@@ -15,8 +15,9 @@ use Rattle.flow_model.specs.Feeding.{next_owed}
 use Rattle.flow_model.proofs.Calls.{items_push, items_act, fed_taken, fed_behind, fed_flush, drained_begun, drained_behind, eos_taken, eos_stays, eos_flushed, eos_act}
 use Rattle.el_parse.specs.declared.split.Split.{Split}
 use Rattle.flow_model.specs.Owed.{answered, drain_owed, without_eos}
-use Rattle.el_parse.specs.Streams.{Stream, raw_template, stream_by}
-use Rattle.el_parse.specs.Splits.{Cutting, cutting, ahead, rest, rested, split_answer, splits, behind}
+use Rattle.audio_info.specs.Templates.{raw_template}
+use Rattle.el_parse.specs.Streams.{Stream, stream_by}
+use Rattle.el_parse.specs.Splits.{Cutting, cutting, ahead, rest, rested, split_answer, splits, cutting_behind}
 use Rattle.el_parse.specs.Regrouped.{splitting, come, KeepsBytes, Regrouped}
 use Rattle.el_parse.proofs.Steps.{some_width}
 use Rattle.el_parse.proofs.Views.{View, view, view_push, view_append}
@@ -86,7 +87,7 @@ Took frames old new x ys calls put =
     Regrouped frames old calls put → (next_owed (splits frames) calls x ≡ Ok ys) × Regrouped frames new (calls ++ Feed x ∷ []) (put ++ ys)
 
 took : (old new : Split) (x : Item) → is_flush_stop x ≡ false → old.ended ≡ false
-    → IsOk (split_answer old.frames (come old) x) → come new ≡ behind old.frames (come old) x → new.frames ≡ old.frames → new.ended ≡ is_eos x
+    → IsOk (split_answer old.frames (come old) x) → come new ≡ cutting_behind old.frames (come old) x → new.frames ≡ old.frames → new.ended ≡ is_eos x
     → (calls : List Call) (put : List Item) → Took old.frames old new x (answered (split_answer old.frames (come old) x)) calls put
 took old new x plain begun ok moved still ends calls put p =
     let frames = old.frames in
@@ -97,7 +98,7 @@ took old new x plain begun ok moved still ends calls put p =
     let same = fed_taken (splits frames) calls x ys (p.over ∙ begun) plain answer in
     let after : Fed = record { given = fed.given ++ Feed x ∷ []; out = fed.out ++ ys; over = is_eos x } in
     let step = went frames (come old) (view (items fed.given)) (view fed.out) x plain (known_width old.info) (moved_of frames old calls put p) ys owes in
-    let keeps = keeps_by after (behind frames (come old) x) _ _ (ap view (items_push fed.given x) ∙ view_push (items fed.given) x) (view_append fed.out ys) step in (
+    let keeps = keeps_by after (cutting_behind frames (come old) x) _ _ (ap view (items_push fed.given x) ∙ view_push (items fed.given) x) (view_append fed.out ys) step in (
       rw (p.over, begun) answer,
       record {
         owed = ap (λ zs. zs ++ ys) p.owed ∙ sym (ap (λ (s : Fed). s.out) same);
@@ -110,7 +111,7 @@ took old new x plain begun ok moved still ends calls put p =
     )
 
 pub split_item : (old new : Split) (x : Item) → is_flush_stop x ≡ false → old.ended ≡ false
-    → IsOk (split_answer old.frames (come old) x) → come new ≡ behind old.frames (come old) x → new.frames ≡ old.frames → new.ended ≡ is_eos x
+    → IsOk (split_answer old.frames (come old) x) → come new ≡ cutting_behind old.frames (come old) x → new.frames ≡ old.frames → new.ended ≡ is_eos x
     → (frames : ℕ) (calls : List Call) (put : List Item) → Took frames old new x (answered (split_answer old.frames (come old) x)) calls put
 split_item old new x plain begun ok moved still ends frames calls put p =
     subst (λ n. Took n old new x (answered (split_answer old.frames (come old) x)) calls put) p.same (took old new x plain begun ok moved still ends calls put) p

@@ -9,7 +9,7 @@ use Rattle.flow_model.specs.Feeding.{next_owed}
 use Rattle.flow_model.proofs.Calls.{items_push, items_act, fed_taken, fed_behind, fed_flush, drained_begun, drained_behind, eos_taken, eos_stays, eos_flushed, eos_act}
 use Rattle.el_parse.specs.declared.raw_parse.RawParse.{RawParse}
 use Rattle.el_parse.specs.Frames.{frame_width, bytes_in}
-use Rattle.el_parse.specs.Parses.{Progress, progress, parse_answer, parses, behind}
+use Rattle.el_parse.specs.Parses.{Progress, progress, parse_answer, parses, progress_behind}
 use Rattle.flow_model.specs.Owed.{answered}
 use Rattle.el_parse.specs.Parsed.{parsed, come, PutFrames, Parsed}
 use Rattle.el_parse.proofs.Seen.{Seen, seen, seen_one, seen_all, seen_push, seen_append}
@@ -36,7 +36,7 @@ abbrev Took : Info → RawParse → RawParse → Item → List Item → List Cal
 Took info old new x ys calls put = Parsed info old calls put → (next_owed (parses info) calls x ≡ Ok ys) × Parsed info new (calls ++ Feed x ∷ []) (put ++ ys)
 
 took : (old new : RawParse) (x : Item) → is_flush_stop x ≡ false → old.ended ≡ false
-    → IsOk (parse_answer old.info (come old) x) → come new ≡ behind old.info (come old) x → new.info ≡ old.info → new.ended ≡ is_eos x
+    → IsOk (parse_answer old.info (come old) x) → come new ≡ progress_behind old.info (come old) x → new.info ≡ old.info → new.ended ≡ is_eos x
     → (calls : List Call) (put : List Item) → Took old.info old new x (answered (parse_answer old.info (come old) x)) calls put
 took old new x plain begun ok moved still ends calls put p =
     let info = old.info in
@@ -62,7 +62,7 @@ took old new x plain begun ok moved still ends calls put p =
     )
 
 pub parsed_item : (old new : RawParse) (x : Item) → is_flush_stop x ≡ false → old.ended ≡ false
-    → IsOk (parse_answer old.info (come old) x) → come new ≡ behind old.info (come old) x → new.info ≡ old.info → new.ended ≡ is_eos x
+    → IsOk (parse_answer old.info (come old) x) → come new ≡ progress_behind old.info (come old) x → new.info ≡ old.info → new.ended ≡ is_eos x
     → (info : Info) (calls : List Call) (put : List Item) → Took info old new x (answered (parse_answer old.info (come old) x)) calls put
 parsed_item old new x plain begun ok moved still ends info calls put p =
     subst (λ i. Took i old new x (answered (parse_answer old.info (come old) x)) calls put) p.same (took old new x plain begun ok moved still ends calls put) p

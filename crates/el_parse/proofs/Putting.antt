@@ -7,12 +7,12 @@ use Rattle.flow_model.specs.Call.{Feed, Act, Drain}
 use Rattle.flow_model.specs.Feeding.{on_pad}
 use Rattle.el_parse.specs.declared.raw_parse.RawParse.{RawParse}
 use Rattle.el_parse.specs.declared.split.Split.{Split}
-use Rattle.el_parse.specs.Parses.{parse_answer, behind}
+use Rattle.el_parse.specs.Parses.{parse_answer, progress_behind}
 use Rattle.flow_model.specs.Owed.{answered, without_eos}
 use Rattle.el_parse.specs.Parsed.{parsed, come}
 use Rattle.el_parse.specs.RawParsePuts.{RawParsePuts}
 use Rattle.el_parse.specs.Splits.{split_answer, rest, rested}
-use Rattle.el_parse.specs.Splits.{behind as split_behind_of}
+use Rattle.el_parse.specs.Splits.{cutting_behind as split_behind_of}
 use Rattle.el_parse.specs.Regrouped.{come as split_come}
 use Rattle.el_parse.specs.SplitPuts.{SplitPuts}
 use Rattle.el_parse.proofs.Parsing.{parsed_item, parsed_behind, parsed_drain}
@@ -20,7 +20,7 @@ use Rattle.el_parse.proofs.Grouping.{split_item, split_behind, split_drained, sp
 
 -- a parser, for an item in a section that is not over
 pub parser_puts : (old new : RawParse) (x : Item) (out out' : List Out) → is_flush_stop x ≡ false → old.ended ≡ false
-    → IsOk (parse_answer old.info (come old) x) → come new ≡ behind old.info (come old) x → new.info ≡ old.info → new.ended ≡ is_eos x
+    → IsOk (parse_answer old.info (come old) x) → come new ≡ progress_behind old.info (come old) x → new.info ≡ old.info → new.ended ≡ is_eos x
     → out' ≡ out ++ on_pad 0 (answered (parse_answer old.info (come old) x)) → RawParsePuts old new (Feed x) out out'
 parser_puts old new x out out' plain begun ok moved still ends outs =
     record {

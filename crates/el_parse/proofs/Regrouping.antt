@@ -6,13 +6,14 @@ use Rattle.std.proofs.lemmas.Bool.{eqb-true}
 use Rattle.std.proofs.Math.Nat.{div-mul-le_self, zero-div, add-mul-div_right}
 use Rattle.gst_time.specs.declared.time.TheConstants.{LIMIT}
 use Rattle.gst_caps.specs.Accepts.{accepts}
-use Rattle.gst_item.specs.declared.fault.StreamKind.TheVariants.{SplitFrame}
+use Rattle.flow_model.specs.declared.fault.StreamKind.TheVariants.{SplitFrame}
 use Rattle.flow_model.specs.Item.{Item, Buf, Ev, Buffer, StreamStart, NewCaps, NewSegment, Tag, Gap, FlushStop, Eos, Segment, is_flush_stop, is_buffer}
 use Rattle.flow_model.specs.Rule.{Fault, NotNegotiated, BadStream, TooLong, not_eos}
 use Rattle.el_parse.specs.Part.{end_of}
 use Rattle.flow_model.specs.Owed.{answered}
-use Rattle.el_parse.specs.Streams.{Stream, raw_template, stream_of, frames_in}
-use Rattle.el_parse.specs.Splits.{Cutting, timed, ahead, pieces, pts_with, buffer_answer, rest_by, rest, split_answer, reached_by, rested, size_of, cut_behind, behind}
+use Rattle.audio_info.specs.Templates.{raw_template}
+use Rattle.el_parse.specs.Streams.{Stream, stream_of, frames_in}
+use Rattle.el_parse.specs.Splits.{Cutting, timed, ahead, pieces, pts_with, buffer_answer, rest_by, rest, split_answer, reached_by, rested, size_of, cut_behind, cutting_behind}
 use Rattle.el_parse.proofs.Cutting.{timed_ok, both_ok}
 use Rattle.el_parse.proofs.Views.{View, view_one, view_all, view_more}
 
@@ -292,10 +293,10 @@ cut_moved frames p given out b s known some moved ys answer e =
     unlike e = absurd (cc)
 
 buffer_moved : (frames : ℕ) (p : Cutting) (given out : View) (b : Buffer) → ((s : Stream) → p.stream ≡ Some s → 0 < s.width) → Moved p given out
-    → (ys : List Item) → split_answer frames p (Buf b) ≡ Ok ys → Moved (behind frames p (Buf b)) (view_one given (Buf b)) (view_all out ys)
+    → (ys : List Item) → split_answer frames p (Buf b) ≡ Ok ys → Moved (cutting_behind frames p (Buf b)) (view_one given (Buf b)) (view_all out ys)
 buffer_moved frames p given out b some moved ys answer = go p.stream refl answer
   where
-    go : (t : Option Stream) → p.stream ≡ t → buffer_answer frames p b t ≡ Ok ys → Moved (behind frames p (Buf b)) (view_one given (Buf b)) (view_all out ys)
+    go : (t : Option Stream) → p.stream ≡ t → buffer_answer frames p b t ≡ Ok ys → Moved (cutting_behind frames p (Buf b)) (view_one given (Buf b)) (view_all out ys)
     go None is e = absurd (cc)
     go (Some s) is e =
         let inner = chosen (length b.body % s.width == 0) (if nat_lt (p.got + length b.body) LIMIT then pieces s (pts_with p b) p.reached frames p.next (length (p.held ++ b.body) / (frames * s.width)) (p.held ++ b.body) else Err (TooLong p.got (length b.body))) (BadStream (p.got + length b.body) SplitFrame) ys e in
@@ -316,7 +317,7 @@ behind_rest p q given given' out x ys moved e step =
 
 -- an item that is taken
 pub went : (frames : ℕ) (p : Cutting) (given out : View) (x : Item) → is_flush_stop x ≡ false → ((s : Stream) → p.stream ≡ Some s → 0 < s.width) → Moved p given out
-    → (ys : List Item) → split_answer frames p x ≡ Ok ys → Moved (behind frames p x) (view_one given x) (view_all out ys)
+    → (ys : List Item) → split_answer frames p x ≡ Ok ys → Moved (cutting_behind frames p x) (view_one given x) (view_all out ys)
 went frames p given out (Buf b) plain some moved ys e = buffer_moved frames p given out b some moved ys e
 went frames p given out (Ev (NewCaps caps)) plain some moved ys e =
     behind_rest p (record (rested p) { stream = Some (stream_of caps) }) given (view_one given (Ev (NewCaps caps))) out (Ev (NewCaps caps)) ys moved

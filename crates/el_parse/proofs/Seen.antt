@@ -2,7 +2,6 @@
 -- last behind the last FLUSH_STOP.
 use Rattle.std.proofs.Common.{◌≡◌, ℕ, Bool, true, false, if◌then◌else◌, List, [], ◌∷◌, ◌++◌, refl, sym, ap, ◌∙◌, append_assoc, append-nil}
 use Rattle.std.specs.Prelude.{◌||◌}
-use Rattle.gst_item.proofs.Kept.{since_push, latest_push}
 use Rattle.flow_model.specs.Item.{Item, is_segment, is_flush_stop, is_buffer, body_of}
 use Rattle.flow_model.specs.Sticky.{latest, since_flush_stop, in_force}
 use Rattle.el_parse.specs.Part.{begins_part, has_beginning, last_part, part_bytes}

@@ -15,7 +15,7 @@ use Rattle.flow_model.specs.Feeding.{has_item}
 use Rattle.flow_model.specs.Rule.{Fault, TooLong}
 use Rattle.el_parse.specs.Part.{end_of}
 use Rattle.el_parse.specs.Frames.{frame_width, frame_time, opening, frames_buffer, frame_at, first_frame}
-use Rattle.el_parse.specs.Parses.{Progress, in_time, beginning, parse_answer, behind}
+use Rattle.el_parse.specs.Parses.{Progress, in_time, beginning, parse_answer, progress_behind}
 use Rattle.flow_model.specs.Owed.{answered}
 use Rattle.el_parse.proofs.Seen.{Seen, seen_one, seen_all}
 
@@ -36,12 +36,8 @@ pub record Split (width : ℕ) (given out : Seen) (held : List ℕ) (opened : Bo
 
 -- as far as it is to be behind an item
 pub record Went (info : Info) (p : Progress) (x : Item) (given out : Seen) : Type 0 where
-  pub as_far : progress_by info given out ≡ behind info p x
-  pub bytes : Split (frame_width info) given out (behind info p x).held (behind info p x).opened
-
--- what is held, and that nothing was put out before a SEGMENT was
-pub held_is : {width : ℕ} {given out : Seen} {held : List ℕ} {opened : Bool} → Split width given out held opened → drop (length out.bytes) given.bytes ≡ held
-held_is {given = given} {out = out} {held = held} s = ap (λ bytes. drop (length out.bytes) bytes) (sym s.whole) ∙ drop_at out.bytes held (length out.bytes) refl
+  pub as_far : progress_by info given out ≡ progress_behind info p x
+  pub bytes : Split (frame_width info) given out (progress_behind info p x).held (progress_behind info p x).opened
 
 left_nil : (xs ys : List ℕ) → xs ++ ys ≡ [] → xs ≡ []
 left_nil [] ys e = refl
@@ -230,7 +226,7 @@ went_segment info p given out s at = record {
     plus_none n = omega arith
 
 went_by : (info : Info) (p : Progress) (x : Item) (given out : Seen)
-    → (progress_by info given out ≡ behind info p x) × Split (frame_width info) given out (behind info p x).held (behind info p x).opened → Went info p x given out
+    → (progress_by info given out ≡ progress_behind info p x) × Split (frame_width info) given out (progress_behind info p x).held (progress_behind info p x).opened → Went info p x given out
 went_by info p x given out w = record { as_far = w.0; bytes = w.1 }
 
 -- an item that is taken

@@ -1,7 +1,7 @@
 -- Buffers whose times fit, and the first one whose times do not.
 use Rattle.std.proofs.Common.{◌≡◌, ◌<◌, ◌^◌, ℕ, ◌+◌, ◌-◌, false, List, [], ◌∷◌, Option, Some, None, refl, sym, subst, IsErrAnd, IfErr, ◌∙◌, arith, Result, Ok, Err}
 use Rattle.std.specs.Option.{ForSome, unwrap_or}
-use Rattle.gst_item.specs.declared.fault.ElementFault.{ElementFault}
+use Rattle.flow_model.specs.declared.fault.ElementFault.{ElementFault}
 use Rattle.gst_time.specs.declared.time.TheConstants.{LIMIT}
 use Rattle.flow_model.specs.Item.{Item, Buf}
 use Rattle.flow_model.specs.Feeding.{IsFaultOf}

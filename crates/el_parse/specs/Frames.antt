@@ -4,7 +4,7 @@ use Rattle.audio_info.specs.declared.info.Info.{Info}
 use Rattle.audio_info.specs.Packing.{sample_width}
 use Rattle.audio_info.specs.Media.{caps_of}
 use Rattle.flow_model.specs.Source.{ordered_without_stop}
-use Rattle.flow_model.specs.Item.{Item, Buf, Ev, Event, NewCaps, NewSegment, Buffer, Segment, Format, Bytes, Time}
+use Rattle.flow_model.specs.Item.{Item, Buf, Ev, NewCaps, NewSegment, Buffer, Segment, Format, Bytes, Time}
 
 -- the bytes of a frame
 abbrev pub frame_width : Info → ℕ

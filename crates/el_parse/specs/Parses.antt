@@ -1,8 +1,8 @@
 -- The rule of a parser of raw audio, after GStreamer's rawaudioparse.
 use Rattle.std.specs.Prelude.{◌≡◌, ◌≤◌, ℕ, ◌==◌, ◌+◌, ◌-◌, ◌*◌, ◌/◌, Bool, true, if◌then◌else◌, List, [], ◌∷◌, ◌++◌, length, take, drop, Result, Ok, Err, nat_lt}
 use Rattle.gst_time.specs.declared.time.TheConstants.{LIMIT}
-use Rattle.gst_item.specs.declared.fault.ElementFault.{ElementFault}
-use Rattle.gst_item.specs.declared.fault.ElementFault.TheVariants.{TooLong as Passing, OutOfMemory as Wanting}
+use Rattle.flow_model.specs.declared.fault.ElementFault.{ElementFault}
+use Rattle.flow_model.specs.declared.fault.ElementFault.TheVariants.{TooLong as Passing, OutOfMemory as Wanting}
 use Rattle.audio_info.specs.declared.info.Info.{Info}
 use Rattle.flow_model.specs.Item.{Item, Buf, Ev, NewCaps, NewSegment}
 use Rattle.flow_model.specs.Sticky.{in_force}
@@ -65,10 +65,10 @@ put_frames info p bytes count = record {
 }
 
 -- how far a parser is behind an item that it took
-abbrev pub behind : Info → Progress → Item → Progress
-behind info p (Buf b) = put_frames info p (p.held ++ b.body) (length (p.held ++ b.body) / frame_width info)
-behind info p (Ev (NewSegment s)) = record { opened = true; next = frame_at (frame_width info) s.start s.format; held = []; reached = p.reached }
-behind info p x = p
+abbrev pub progress_behind : Info → Progress → Item → Progress
+progress_behind info p (Buf b) = put_frames info p (p.held ++ b.body) (length (p.held ++ b.body) / frame_width info)
+progress_behind info p (Ev (NewSegment s)) = record { opened = true; next = frame_at (frame_width info) s.start s.format; held = []; reached = p.reached }
+progress_behind info p x = p
 
 -- a fault at a frame whose time does not fit; memory may be wanting at any item
 abbrev pub IsLate : Info → Progress → ℕ → ElementFault → Type 0

@@ -1,10 +1,9 @@
 -- What stands behind the last SEGMENT or FLUSH_STOP of a list, and its bytes.
-use Rattle.std.specs.Prelude.{ℕ, ◌+◌, Bool, false, ◌||◌, if◌then◌else◌, List, [], ◌∷◌, ◌++◌, length, drop, unwrap_or}
-use Rattle.flow_model.specs.Item.{Item, Buf, is_segment, is_flush_stop, is_buffer, body_of}
-use Rattle.flow_model.specs.Sticky.{latest, since_flush_stop, in_force}
+use Rattle.std.specs.Prelude.{ℕ, ◌+◌, Bool, false, ◌||◌, if◌then◌else◌, List, [], ◌∷◌, length, drop, unwrap_or}
+use Rattle.flow_model.specs.Item.{Item, Buf, is_segment, is_flush_stop, is_buffer}
+use Rattle.flow_model.specs.Sticky.{latest, since_flush_stop}
 use Rattle.flow_model.specs.Call.{items}
 use Rattle.flow_model.specs.Rule.{Fed}
-use Rattle.flow_model.specs.Feeding.{has_item}
 use Rattle.flow_model.specs.Looking.{bytes_of}
 
 -- a SEGMENT and a FLUSH_STOP begin a part

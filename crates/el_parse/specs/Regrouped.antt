@@ -1,9 +1,9 @@
 -- For which fed and put-out lists an element stands that cuts raw audio into buffers of as many frames.
-use Rattle.std.specs.Prelude.{◌≡◌, ℕ, List, [], ◌++◌, None, Result, Ok, Err, filter}
+use Rattle.std.specs.Prelude.{◌≡◌, ℕ, List, [], ◌++◌, None}
 use Rattle.std.specs.Option.{option_map}
-use Rattle.flow_model.specs.Item.{Item, Ev, Eos}
+use Rattle.flow_model.specs.Item.{Item}
 use Rattle.flow_model.specs.Call.{Call, items}
-use Rattle.flow_model.specs.Rule.{Fed, Fault, Response, unfed, all_called, owed_for}
+use Rattle.flow_model.specs.Rule.{Fed, unfed, all_called, owed_for}
 use Rattle.flow_model.specs.Feeding.{has_eos}
 use Rattle.el_parse.specs.declared.split.Split.{Split}
 use Rattle.el_parse.specs.Part.{part_bytes}

@@ -2,13 +2,14 @@
 use Rattle.std.specs.Prelude.{ℕ, suc, zero, ◌==◌, ◌+◌, ◌-◌, ◌*◌, ◌/◌, ◌%◌, Bool, true, false, if◌then◌else◌, List, [], ◌∷◌, ◌++◌, length, take, drop, Option, Some, None, Result, Ok, Err, nat_lt}
 use Rattle.gst_time.specs.declared.time.TheConstants.{LIMIT}
 use Rattle.gst_caps.specs.Accepts.{accepts}
-use Rattle.gst_item.specs.declared.fault.StreamKind.TheVariants.{SplitFrame}
+use Rattle.flow_model.specs.declared.fault.StreamKind.TheVariants.{SplitFrame}
 use Rattle.flow_model.specs.Item.{Item, Buf, Ev, Buffer, NewCaps, NewSegment, Eos, is_buffer}
 use Rattle.flow_model.specs.Call.{items}
 use Rattle.flow_model.specs.Rule.{Fed, Fault, NotNegotiated, BadStream, TooLong, Response}
 use Rattle.el_parse.specs.Part.{last_part, held_bytes, end_of, end_put_out}
 use Rattle.flow_model.specs.Owed.{answered}
-use Rattle.el_parse.specs.Streams.{Stream, raw_template, stream_of, stream_after, frames_in, part_frames, has_buffer, first_pts}
+use Rattle.audio_info.specs.Templates.{raw_template}
+use Rattle.el_parse.specs.Streams.{Stream, stream_of, stream_after, frames_in, part_frames, has_buffer, first_pts}
 use Rattle.flow_model.specs.Looking.{bytes_got}
 
 -- How far an element has come: the stream by the CAPS in force; whether a buffer was given since the SEGMENT, and
@@ -154,9 +155,9 @@ cut_behind frames p b size count = record {
 }
 
 -- how far an element is behind an item that it took
-abbrev pub behind : ℕ → Cutting → Item → Cutting
-behind frames p (Buf b) = cut_behind frames p b (size_of frames p.stream) (length (p.held ++ b.body) / size_of frames p.stream)
-behind frames p (Ev (NewCaps caps)) = record (rested p) { stream = Some (stream_of caps) }
-behind frames p (Ev (NewSegment segment)) = record (rested p) { begun = false; pts = None; next = 0 }
-behind frames p (Ev Eos) = rested p
-behind frames p x = p
+abbrev pub cutting_behind : ℕ → Cutting → Item → Cutting
+cutting_behind frames p (Buf b) = cut_behind frames p b (size_of frames p.stream) (length (p.held ++ b.body) / size_of frames p.stream)
+cutting_behind frames p (Ev (NewCaps caps)) = record (rested p) { stream = Some (stream_of caps) }
+cutting_behind frames p (Ev (NewSegment segment)) = record (rested p) { begun = false; pts = None; next = 0 }
+cutting_behind frames p (Ev Eos) = rested p
+cutting_behind frames p x = p

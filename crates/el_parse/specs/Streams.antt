@@ -1,42 +1,13 @@
 -- Raw audio by the CAPS before it: what its frames are, and how many of them items have.
-use Rattle.std.specs.Prelude.{ℕ, ◌+◌, ◌*◌, ◌/◌, pos, Bool, false, ◌||◌, if◌then◌else◌, List, [], ◌∷◌, length, Option, Some, None, codes, unwrap_or}
+use Rattle.std.specs.Prelude.{ℕ, ◌+◌, ◌*◌, ◌/◌, Bool, false, ◌||◌, if◌then◌else◌, List, [], ◌∷◌, length, Option, Some, None, unwrap_or}
 use Rattle.std.specs.Option.{option_map}
-use Rattle.gst_caps.specs.Description.{Description}
-use Rattle.gst_caps.specs.declared.caps.Caps.{Caps}
-use Rattle.gst_caps.specs.declared.caps.Caps.TheVariants.{Of}
-use Rattle.gst_caps.specs.declared.value.One.{One}
-use Rattle.gst_caps.specs.declared.value.One.TheVariants.{Text as Words, IntRange}
-use Rattle.gst_caps.specs.declared.value.Value.{Value}
-use Rattle.gst_caps.specs.declared.value.Value.TheVariants.{One as Single, Many}
+use Rattle.gst_value.specs.Description.{Description}
+use Rattle.gst_value.specs.declared.one.One.{One}
 use Rattle.audio_info.specs.Media.{sample_of, rate_of, channels_of}
 use Rattle.audio_info.specs.Packing.{sample_width}
 use Rattle.audio_info.specs.declared.info.Info.{Info}
 use Rattle.flow_model.specs.Item.{Item, Buf, Ev, NewCaps, is_buffer, body_of}
-use Rattle.flow_model.specs.Sticky.{since_flush_stop}
 use Rattle.el_parse.specs.Part.{has_beginning}
-use Rattle.flow_model.specs.Looking.{bytes_of}
-
--- the whole numbers from 1 to the most
-abbrev pub up_to_most : ℕ → Value
-up_to_most most = Single (IntRange (pos 1) (pos most))
-
--- the formats of raw audio
-abbrev pub raw_formats : Value
-raw_formats =
-    Many (Words (codes "S8") ∷ Words (codes "U8") ∷ Words (codes "S16LE") ∷ Words (codes "S16BE")
-    ∷ Words (codes "S24LE") ∷ Words (codes "S32LE") ∷ [])
-
--- raw audio of any format, interleaved, of 1 to 64 channels and a rate of 1 to 768000
-abbrev pub raw_structure : Description Value
-raw_structure = record {
-  media = codes "audio/x-raw";
-  fields = (codes "channels", up_to_most 64) ∷ (codes "format", raw_formats)
-      ∷ (codes "layout", Single (Words (codes "interleaved"))) ∷ (codes "rate", up_to_most 768000) ∷ [];
-}
-
--- the template of raw audio
-abbrev pub raw_template : Caps
-raw_template = Of (raw_structure ∷ [])
 
 -- what the frames of a stream are: the bytes of each, and how many play in a second
 pub record Stream : Type 0 where

@@ -5,7 +5,6 @@ mod pieces;
 mod put_out;
 pub mod raw_parse;
 pub mod split;
-mod template;
 mod timing;
 mod waiting;
 

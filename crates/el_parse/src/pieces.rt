@@ -8,8 +8,9 @@ ghost use Rattle.el_parse.specs.Splits.{timed, whole_count, whole_pieces, left_b
 
 use crate::timing::{Timing, end_of_buffer};
 use crate::waiting::Waiting;
-use gst_caps::OutOfMemory;
-use gst_item::{Body, Buffer, ElementFault, Item, Out};
+use flow_model::ElementFault;
+use gst_item::{Body, Buffer, Item, Out};
+use gst_value::OutOfMemory;
 use std::alloc::Global;
 use std::collections::VecDeque;
 

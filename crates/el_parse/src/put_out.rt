@@ -7,9 +7,9 @@ ghost use Rattle.el_parse.specs.Frames.{time_segment, buffers_of};
 ghost use Rattle.flow_model.specs.Owed.{events_of};
 
 use audio_info::Info;
-use gst_caps::OutOfMemory;
 use gst_item::{Buffer, Event, Item, Out, Outs};
 use gst_time::{Format, Segment};
+use gst_value::OutOfMemory;
 use std::alloc::Global;
 use std::collections::VecDeque;
 

@@ -6,14 +6,15 @@ ghost use Rattle.flow_model.specs.Feeding.{flow_behind, on_pad, next_owed, IsFau
 ghost use Rattle.audio_info.specs.declared.info.Info.{Info};
 ghost use Rattle.gst_time.specs.declared.time.TheConstants.{LIMIT};
 ghost use Rattle.el_parse.specs.Frames.{frame_width, frame_time, frame_at, frames_buffer, bytes_in};
-ghost use Rattle.el_parse.specs.Parses.{parses, parse_answer, beginning, whole_frames, put_frames as behind_frames, behind, IsLate};
+ghost use Rattle.el_parse.specs.Parses.{parses, parse_answer, beginning, whole_frames, put_frames as behind_frames, progress_behind, IsLate};
 ghost use Rattle.flow_model.specs.Owed.{answered};
 
 use crate::put_out::{put_opening, put_out};
 use audio_info::Info;
-use gst_caps::OutOfMemory;
-use gst_item::{Body, Buffer, ElementFault, Event, Flow, Item, Outs};
+use flow_model::ElementFault;
+use gst_item::{Body, Buffer, Event, Flow, Item, Outs};
 use gst_time::{Format, LIMIT, Segment, scale};
+use gst_value::OutOfMemory;
 use std::alloc::Global;
 
 /// The nanoseconds of a second.
@@ -165,7 +166,7 @@ impl RawParse {
         requires { is_flush_stop item ≡ false }
         ensures answer { OnOk result (IsOk (parse_answer self.old.info (come self.old) item)) }
         ensures out { OnOk result (out.new ≡ out.old ++ on_pad 0 (answered (parse_answer self.old.info (come self.old) item))) }
-        ensures come { OnOk result (come self.new ≡ behind self.old.info (come self.old) item) }
+        ensures come { OnOk result (come self.new ≡ progress_behind self.old.info (come self.old) item) }
         ensures info { self.new.info ≡ self.old.info }
         ensures eos { OnOk result (self.old.ended ≡ false → self.new.ended ≡ is_eos item) }
         ensures stays { OnErr result ((self.new ≡ self.old) × (out.new ≡ out.old)) }
@@ -183,7 +184,7 @@ impl RawParse {
     fn parse_buffer(&mut self, alloc: Global, buffer: Buffer, out: &mut Outs) -> Result<(), Refusal>
         ensures answer { OnOk result (IsOk (parse_answer self.old.info (come self.old) (Buf buffer))) }
         ensures out { OnOk result (out.new ≡ out.old ++ on_pad 0 (answered (parse_answer self.old.info (come self.old) (Buf buffer)))) }
-        ensures come { OnOk result (come self.new ≡ behind self.old.info (come self.old) (Buf buffer)) }
+        ensures come { OnOk result (come self.new ≡ progress_behind self.old.info (come self.old) (Buf buffer)) }
         ensures info { self.new.info ≡ self.old.info }
         ensures ended { self.new.ended ≡ self.old.ended }
         ensures stays { OnErr result ((self.new ≡ self.old) × (out.new ≡ out.old)) }
@@ -334,7 +335,7 @@ impl RawParse {
     ) -> Result<(), Refusal>
         ensures answer { OnOk result (IsOk (parse_answer self.old.info (come self.old) (Ev (NewSegment segment)))) }
         ensures out { OnOk result (out.new ≡ out.old ++ on_pad 0 (answered (parse_answer self.old.info (come self.old) (Ev (NewSegment segment))))) }
-        ensures come { OnOk result (come self.new ≡ behind self.old.info (come self.old) (Ev (NewSegment segment))) }
+        ensures come { OnOk result (come self.new ≡ progress_behind self.old.info (come self.old) (Ev (NewSegment segment))) }
         ensures info { self.new.info ≡ self.old.info }
         ensures ended { self.new.ended ≡ self.old.ended }
         ensures stays { OnErr result ((self.new ≡ self.old) × (out.new ≡ out.old)) }

@@ -1,22 +1,12 @@
 //! Words for what elements are fed, and for what they answer and put out.
-ghost use Rattle.std.specs.Prelude.{◌≡◌, false};
-ghost use Rattle.flow_model.specs.Item.{is_flush_stop};
-
 use audio_info::{Info, LARGEST_RATE, Sample};
-use gst_caps::Text;
-use gst_item::{Body, Buffer, ElementFault, Event, Flow, Item, Outs};
-use gst_time::{Format, Segment};
+use flow_model::ElementFault;
+use gst_item::{Body, Buffer, Event, Flow, Item, Outs};
+use gst_time::Format;
+use item_letters::{event_by, segment_by, word_of};
 use std::alloc::Global;
 use std::fmt::Write;
 use std::test::Fail;
-
-/// The segment from a start on, whose text stands in the word.
-fn segment_by(format: Format, start: &str) -> Result<Event, Fail> {
-    let start = start.parse().unwrap_or(0);
-    let mut segment = Segment::new(format);
-    segment.start = start;
-    Ok(Event::Segment(segment))
-}
 
 /// `+` and letters are a buffer of these bytes, with `@N` behind them one of this time; `bytes=N` and `time=N` are
 /// segments, and `rate=N` are CAPS of this rate.
@@ -36,10 +26,10 @@ pub(crate) fn item_by(alloc: Global, caps: &Info, word: &str) -> Result<Item, Fa
         }));
     }
     if let Some(start) = word.strip_prefix("bytes=") {
-        return Ok(Item::Event(segment_by(Format::Bytes, start)?));
+        return Ok(Item::Event(segment_by(Format::Bytes, start)));
     }
     if let Some(start) = word.strip_prefix("time=") {
-        return Ok(Item::Event(segment_by(Format::Time, start)?));
+        return Ok(Item::Event(segment_by(Format::Time, start)));
     }
     if let Some(rate) = word.strip_prefix("rate=") {
         let rate = rate.parse().unwrap_or(1).clamp(1, LARGEST_RATE);
@@ -50,37 +40,19 @@ pub(crate) fn item_by(alloc: Global, caps: &Info, word: &str) -> Result<Item, Fa
         };
         return Ok(Item::Event(Event::Caps(other.to_fixed(alloc)?)));
     }
-    Ok(Item::Event(event_by(alloc, caps, word)?))
-}
-
-fn event_by(alloc: Global, caps: &Info, word: &str) -> Result<Event, Fail> {
-    match word {
-        "start" => Ok(Event::StreamStart { id: 1 }),
-        "caps" => Ok(Event::Caps(caps.to_fixed(alloc)?)),
+    let event = match word {
+        "caps" => Event::Caps(caps.to_fixed(alloc)?),
         "mulaw" => {
             let law = Info {
                 format: Sample::MuLaw,
                 rate: caps.rate,
                 channels: caps.channels,
             };
-            Ok(Event::Caps(law.to_fixed(alloc)?))
+            Event::Caps(law.to_fixed(alloc)?)
         }
-        "tag" => Ok(Event::Tag {
-            title: Text::from_str(alloc, "title")?,
-        }),
-        "gap" => Ok(Event::Gap {
-            pts: 0,
-            duration: 1,
-        }),
-        _ => Ok(Event::Eos),
-    }
-}
-
-/// Whether an item is a FLUSH_STOP, which is not fed.
-pub(crate) fn is_flush(item: &Item) -> bool
-    ensures { result ≡ is_flush_stop item.now }
-{
-    matches!(item, Item::Event(Event::FlushStop { .. }))
+        _ => event_by(alloc, word)?,
+    };
+    Ok(Item::Event(event))
 }
 
 /// `+` for Ok, `.` for Eos, and the numbers of a fault.
@@ -124,15 +96,10 @@ fn tell_buffer(text: &mut String, buffer: &Buffer) -> Result<(), Fail> {
 fn tell_item(text: &mut String, item: &Item) -> Result<(), Fail> {
     match item {
         Item::Buffer(buffer) => tell_buffer(text, buffer)?,
-        Item::Event(Event::StreamStart { .. }) => text.push_str("start")?,
-        Item::Event(Event::Caps(_)) => text.push_str("caps")?,
         Item::Event(Event::Segment(segment)) => {
             write!(text, "{}={}", name_of(segment.format), segment.start)?;
         }
-        Item::Event(Event::Tag { .. }) => text.push_str("tag")?,
-        Item::Event(Event::Gap { .. }) => text.push_str("gap")?,
-        Item::Event(Event::FlushStop { .. }) => text.push_str("flush")?,
-        Item::Event(Event::Eos) => text.push_str("eos")?,
+        Item::Event(event) => text.push_str(word_of(event))?,
     }
     Ok(())
 }

@@ -7,17 +7,17 @@ ghost use Rattle.gst_time.specs.declared.time.TheConstants.{LIMIT};
 ghost use Rattle.el_parse.specs.Frames.{buffers_of};
 ghost use Rattle.flow_model.specs.Owed.{events_of, answered};
 ghost use Rattle.el_parse.specs.Streams.{frames_in, stream_by};
-ghost use Rattle.el_parse.specs.Splits.{splits, split_answer, whole_count, whole_pieces, left_behind, rest as rest_answer, rested, behind, reached_by};
+ghost use Rattle.el_parse.specs.Splits.{splits, split_answer, whole_count, whole_pieces, left_behind, rest as rest_answer, rested, cutting_behind, reached_by};
 
 use crate::pieces::cut_pieces;
 use crate::put_out::{put_both, put_out};
-use crate::template::raw_template;
 use crate::timing::{Timing, end_of_buffer};
 use crate::waiting::Waiting;
-use audio_info::Info;
-use gst_caps::{Fixed, OutOfMemory};
-use gst_item::{Body, Buffer, ElementFault, Event, Flow, Item, Outs, StreamKind};
+use audio_info::{Info, raw_template};
+use flow_model::{ElementFault, StreamKind};
+use gst_item::{Body, Buffer, Event, Flow, Item, Outs};
 use gst_time::{LIMIT, Segment};
+use gst_value::{Fixed, OutOfMemory};
 use std::alloc::Global;
 
 /// Puts raw audio out in buffers of a number of frames, whatever buffers it comes in. It has one sink pad and one
@@ -154,7 +154,7 @@ impl Split {
         requires { is_flush_stop item ≡ false }
         ensures answer { OnOk result (IsOk (split_answer self.old.frames (come self.old) item)) }
         ensures out { OnOk result (out.new ≡ out.old ++ on_pad 0 (answered (split_answer self.old.frames (come self.old) item))) }
-        ensures come { OnOk result (come self.new ≡ behind self.old.frames (come self.old) item) }
+        ensures come { OnOk result (come self.new ≡ cutting_behind self.old.frames (come self.old) item) }
         ensures frames { self.new.frames ≡ self.old.frames }
         ensures eos { OnOk result (self.old.ended ≡ false → self.new.ended ≡ is_eos item) }
         ensures stays { OnErr result ((self.new ≡ self.old) × (out.new ≡ out.old)) }
@@ -178,7 +178,7 @@ impl Split {
     ) -> Result<(), ElementFault>
         ensures answer { OnOk result (IsOk (split_answer self.old.frames (come self.old) (Buf buffer))) }
         ensures out { OnOk result (out.new ≡ out.old ++ on_pad 0 (answered (split_answer self.old.frames (come self.old) (Buf buffer)))) }
-        ensures come { OnOk result (come self.new ≡ behind self.old.frames (come self.old) (Buf buffer)) }
+        ensures come { OnOk result (come self.new ≡ cutting_behind self.old.frames (come self.old) (Buf buffer)) }
         ensures frames { self.new.frames ≡ self.old.frames }
         ensures ended { self.new.ended ≡ self.old.ended }
         ensures stays { OnErr result ((self.new ≡ self.old) × (out.new ≡ out.old)) }
@@ -262,7 +262,7 @@ impl Split {
     fn take_caps(&mut self, alloc: Global, caps: Fixed, out: &mut Outs) -> Result<(), ElementFault>
         ensures answer { OnOk result (IsOk (split_answer self.old.frames (come self.old) (Ev (NewCaps caps)))) }
         ensures out { OnOk result (out.new ≡ out.old ++ on_pad 0 (answered (split_answer self.old.frames (come self.old) (Ev (NewCaps caps))))) }
-        ensures come { OnOk result (come self.new ≡ behind self.old.frames (come self.old) (Ev (NewCaps caps))) }
+        ensures come { OnOk result (come self.new ≡ cutting_behind self.old.frames (come self.old) (Ev (NewCaps caps))) }
         ensures frames { self.new.frames ≡ self.old.frames }
         ensures ended { self.new.ended ≡ self.old.ended }
         ensures stays { OnErr result ((self.new ≡ self.old) × (out.new ≡ out.old)) }
@@ -292,7 +292,7 @@ impl Split {
     ) -> Result<(), ElementFault>
         ensures answer { OnOk result (IsOk (split_answer self.old.frames (come self.old) (Ev (NewSegment segment)))) }
         ensures out { OnOk result (out.new ≡ out.old ++ on_pad 0 (answered (split_answer self.old.frames (come self.old) (Ev (NewSegment segment))))) }
-        ensures come { OnOk result (come self.new ≡ behind self.old.frames (come self.old) (Ev (NewSegment segment))) }
+        ensures come { OnOk result (come self.new ≡ cutting_behind self.old.frames (come self.old) (Ev (NewSegment segment))) }
         ensures frames { self.new.frames ≡ self.old.frames }
         ensures ended { self.new.ended ≡ self.old.ended }
         ensures stays { OnErr result ((self.new ≡ self.old) × (out.new ≡ out.old)) }
@@ -318,7 +318,7 @@ impl Split {
     fn take_eos(&mut self, alloc: Global, out: &mut Outs) -> Result<(), ElementFault>
         ensures answer { OnOk result (IsOk (split_answer self.old.frames (come self.old) (Ev Eos))) }
         ensures out { OnOk result (out.new ≡ out.old ++ on_pad 0 (answered (split_answer self.old.frames (come self.old) (Ev Eos)))) }
-        ensures come { OnOk result (come self.new ≡ behind self.old.frames (come self.old) (Ev Eos)) }
+        ensures come { OnOk result (come self.new ≡ cutting_behind self.old.frames (come self.old) (Ev Eos)) }
         ensures frames { self.new.frames ≡ self.old.frames }
         ensures ended { OnOk result (self.new.ended ≡ true) }
         ensures stays { OnErr result ((self.new ≡ self.old) × (out.new ≡ out.old)) }

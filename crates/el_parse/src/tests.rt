@@ -1,9 +1,14 @@
 //! Rows of calls, with what they answer and put out.
-use crate::rows::{is_flush, item_by, tell_answer, tell_out};
+ghost use Rattle.std.specs.Prelude.{◌≡◌, false};
+ghost use Rattle.flow_model.specs.Item.{is_flush_stop};
+
+use crate::rows::{item_by, tell_answer, tell_out};
 use crate::{RawParse, Split};
 use audio_info::{Info, Sample};
-use gst_caps::List;
-use gst_item::{Body, Buffer, Event, Item, Outs};
+use flow_model::ElementFault;
+use gst_item::{Event, Flow, Item, Outs};
+use gst_value::List;
+use item_letters::{buffer_of, is_flush};
 use std::alloc::Global;
 use std::process::Abort;
 use std::test::Fail;
@@ -27,62 +32,6 @@ bytes=0 +ab bytes=18446744073709551615 +cd -> + + long:125000,922337203685465080
 bytes=147573952589674 +ab +cd -> + + long:9223372036854750000,25808 : caps time=9223372036854625000 +ab,73786976294837,9223372036854625000,125000
 ";
 
-fn call_parser(
-    alloc: Global,
-    parser: &mut RawParse,
-    info: &Info,
-    word: &str,
-    text: &mut String,
-    out: &mut Outs,
-) -> Result<(), Fail> {
-    match word {
-        "flush" => {
-            parser.flush();
-            text.push_str("- ")?;
-        }
-        "drain" => {
-            let drained = parser.drain(alloc, out).is_ok();
-            text.push_str(if drained { "- " } else { "! " })?;
-        }
-        _ => {
-            let item = item_by(alloc, info, word)?;
-            if !is_flush(&item) {
-                let answer = parser.feed(alloc, 0, item, out);
-                tell_answer(text, &answer)?;
-            }
-        }
-    }
-    Ok(())
-}
-
-fn check_parser(rt: &impl Abort, alloc: Global, info: Info, line: &str) -> Result<(), Fail> {
-    let (calls, wanted) = line.split_once(" -> ").ok_or("two sides")?;
-    let mut parser = RawParse::new(info).copy(alloc)?;
-    let mut text = String::new(alloc);
-    let mut out = List::new(alloc);
-    for word in calls.split(' ') {
-        call_parser(alloc, &mut parser, &info, word, &mut text, &mut out)?;
-        parser = parser.copy(alloc)?;
-    }
-    tell_out(&mut text, &out)?;
-    assert_eq!(rt; text.as_str(), wanted);
-    Ok(())
-}
-
-#[test]
-fn parses(rt: HostRuntime) -> Result<(), Fail> {
-    let alloc = rt.alloc();
-    let info = Info {
-        format: Sample::S16LE,
-        rate: 8000,
-        channels: 1,
-    };
-    for line in PARSED.lines() {
-        check_parser(&rt, alloc, info, line)?;
-    }
-    Ok(())
-}
-
 /// Frames of two bytes, 8000 in a second, in buffers of four frames.
 const SPLIT: &str =
     "start caps time=0 +aa@0 +bb +cc +dd +ee eos -> + + + + + + + + + : start caps time=0 +aabbccdd,0,0,500000 +ee,4,500000,125000 eos
@@ -103,9 +52,51 @@ caps +aabbccddee@9223372036854775807 eos time=0 -> + + long:9223372036854775807,
 caps +aabbccddeeffgghh@9223372036854775807 +aa@3 drain -> + long:9223372036854775807,500000 + - : caps +aa,0,3,125000
 ";
 
-fn call_split(
+/// The element of a row.
+#[derive(Drop)]
+enum Tested {
+    Parse(RawParse),
+    Split(Split),
+}
+
+fn copied(alloc: Global, tested: &Tested) -> Result<Tested, Fail> {
+    Ok(match tested {
+        Tested::Parse(parser) => Tested::Parse(parser.copy(alloc)?),
+        Tested::Split(split) => Tested::Split(split.copy(alloc)?),
+    })
+}
+
+fn feed(
     alloc: Global,
-    split: &mut Split,
+    tested: &mut Tested,
+    item: Item,
+    out: &mut Outs,
+) -> Result<Flow, ElementFault>
+    requires { is_flush_stop item ≡ false }
+{
+    match tested {
+        Tested::Parse(parser) => parser.feed(alloc, 0, item, out),
+        Tested::Split(split) => split.feed(alloc, 0, item, out),
+    }
+}
+
+fn drain(alloc: Global, tested: &mut Tested, out: &mut Outs) -> Result<(), ElementFault> {
+    match tested {
+        Tested::Parse(parser) => parser.drain(alloc, out),
+        Tested::Split(split) => split.drain(alloc, out),
+    }
+}
+
+fn flush(tested: &mut Tested) {
+    match tested {
+        Tested::Parse(parser) => parser.flush(),
+        Tested::Split(split) => split.flush(),
+    }
+}
+
+fn call(
+    alloc: Global,
+    tested: &mut Tested,
     info: &Info,
     word: &str,
     text: &mut String,
@@ -113,17 +104,17 @@ fn call_split(
 ) -> Result<(), Fail> {
     match word {
         "flush" => {
-            split.flush();
+            flush(tested);
             text.push_str("- ")?;
         }
         "drain" => {
-            let drained = split.drain(alloc, out).is_ok();
+            let drained = drain(alloc, tested, out).is_ok();
             text.push_str(if drained { "- " } else { "! " })?;
         }
         _ => {
             let item = item_by(alloc, info, word)?;
             if !is_flush(&item) {
-                let answer = split.feed(alloc, 0, item, out);
+                let answer = feed(alloc, tested, item, out);
                 tell_answer(text, &answer)?;
             }
         }
@@ -131,14 +122,21 @@ fn call_split(
     Ok(())
 }
 
-fn check_split(rt: &impl Abort, alloc: Global, info: &Info, line: &str) -> Result<(), Fail> {
+/// Makes the calls, of a copy each time.
+fn check_row(
+    rt: &impl Abort,
+    alloc: Global,
+    first: Tested,
+    info: &Info,
+    line: &str,
+) -> Result<(), Fail> {
     let (calls, wanted) = line.split_once(" -> ").ok_or("two sides")?;
-    let mut split = Split::new(4).copy(alloc)?;
+    let mut tested = copied(alloc, &first)?;
     let mut text = String::new(alloc);
     let mut out = List::new(alloc);
     for word in calls.split(' ') {
-        call_split(alloc, &mut split, info, word, &mut text, &mut out)?;
-        split = split.copy(alloc)?;
+        call(alloc, &mut tested, info, word, &mut text, &mut out)?;
+        tested = copied(alloc, &tested)?;
     }
     tell_out(&mut text, &out)?;
     assert_eq!(rt; text.as_str(), wanted);
@@ -146,15 +144,20 @@ fn check_split(rt: &impl Abort, alloc: Global, info: &Info, line: &str) -> Resul
 }
 
 #[test]
-fn splits(rt: HostRuntime) -> Result<(), Fail> {
+fn rows_of_calls(rt: HostRuntime) -> Result<(), Fail> {
     let alloc = rt.alloc();
     let info = Info {
         format: Sample::S16LE,
         rate: 8000,
         channels: 1,
     };
+    for line in PARSED.lines() {
+        let parser = RawParse::new(info);
+        check_row(&rt, alloc, Tested::Parse(parser), &info, line)?;
+    }
     for line in SPLIT.lines() {
-        check_split(&rt, alloc, &info, line)?;
+        let split = Split::new(4);
+        check_row(&rt, alloc, Tested::Split(split), &info, line)?;
     }
     Ok(())
 }
@@ -172,13 +175,7 @@ fn splits_a_long_buffer(rt: HostRuntime) -> Result<(), Fail> {
     let mut out = List::new(alloc);
     let caps = Item::Event(Event::Caps(info.to_fixed(alloc)?));
     assert!(rt; split.feed(alloc, 0, caps, &mut out).is_ok());
-    let buffer = Item::Buffer(Buffer {
-        body: Body::from_vec(alloc, vec![in alloc; 0u8; 200]?)?,
-        pts: None,
-        duration: None,
-        offset: None,
-        discont: true,
-    });
+    let buffer = buffer_of(alloc, &[0; 200])?;
     assert!(rt; split.feed(alloc, 0, buffer, &mut out).is_ok());
     assert_eq!(rt; out.as_slice().len(), 1 + 33);
     assert!(rt; split.drain(alloc, &mut out).is_ok());

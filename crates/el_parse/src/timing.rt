@@ -10,7 +10,8 @@ ghost use Rattle.el_parse.specs.Streams.{stream_by};
 ghost use Rattle.el_parse.specs.Splits.{time_at, later_by, in_time, in_sum, timed};
 
 use audio_info::Info;
-use gst_item::{Body, Buffer, ElementFault};
+use flow_model::ElementFault;
+use gst_item::{Body, Buffer};
 use gst_time::{LIMIT, scale};
 
 /// The nanoseconds of a second.

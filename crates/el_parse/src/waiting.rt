@@ -1,8 +1,8 @@
 //! Bytes that wait for more.
 ghost use Rattle.std.specs.Prelude.{◌≡◌, [], ◌++◌, IfOk, OnOk, OnErr};
 
-use gst_caps::OutOfMemory;
 use gst_item::Body;
+use gst_value::OutOfMemory;
 use std::alloc::Global;
 use std::marker::Model;
 

@@ -9,8 +9,8 @@ use Rattle.el_set.specs.Denoted.{response_of}
 use Rattle.el_set.specs.Stands.{MeetsNone, Stands}
 use Rattle.el_set.specs.declared.filter.FilterElement.{FilterElement}
 use Rattle.el_set.specs.declared.filter.FilterElement.TheVariants as elements
-use Rattle.el_set.specs.declared.settings.Settings.{Settings}
-use Rattle.el_set.specs.declared.settings.Settings.TheVariants as settings
+use Rattle.el_settings.specs.declared.settings.Settings.{Settings}
+use Rattle.el_settings.specs.declared.settings.Settings.TheVariants as settings
 use Rattle.el_set.proofs.Ends.{IsPassing, passes_is_passing, filters_is_passing}
 use Rattle.el_set.proofs.Ending.{EndsAs, OwesEos, IsEnding}
 use Rattle.el_set.proofs.Rules.{converts_ending, recodes_ending, raw_ending, splits_ending, wav_ending, encodes_ending}

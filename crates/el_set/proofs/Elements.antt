@@ -5,11 +5,10 @@ use Rattle.gst_caps.specs.declared.caps.Caps.{Caps}
 use Rattle.gst_item.specs.declared.flow.Flow.{Flow}
 use Rattle.gst_item.specs.declared.flow.Flow.TheVariants.{Ok as Taken, Eos as BehindEos}
 use Rattle.gst_item.specs.declared.out.Out.{Out}
-use Rattle.gst_item.specs.declared.fault.ElementFault.{ElementFault}
-use Rattle.flow_model.specs.Item.{Item, Ev, Eos, is_flush_stop}
+use Rattle.flow_model.specs.declared.fault.ElementFault.{ElementFault}
+use Rattle.flow_model.specs.Item.{Item, Ev, Eos, is_flush_stop, eos_among}
 use Rattle.flow_model.specs.Sticky.{has_flush_stop, in_force}
-use Rattle.flow_model.specs.Section.{section, counted}
-use Rattle.flow_model.specs.Chain.{IsPlain}
+use Rattle.flow_model.specs.Section.{section, counted, IsPlain}
 use Rattle.flow_model.specs.Call.{Call, Feed, Act, Drain, items, feeds}
 use Rattle.flow_model.specs.Rule.{Response, Fault, Fed, unfed, all_called, owed_for, passes}
 use Rattle.flow_model.specs.Feeding.{has_item, has_eos, flow_behind, passed, on_pad, next_owed, IsFaultOf}
@@ -19,7 +18,6 @@ use Rattle.el_basic.specs.Filters.{filters}
 use Rattle.el_basic.specs.Filtered.{IsFilteredBy}
 use Rattle.el_basic.specs.declared.identity.Identity.{Identity}
 use Rattle.el_basic.specs.declared.caps_filter.CapsFilter.{CapsFilter}
-use Rattle.el_src.specs.Gave.{has_eos as eos_among}
 use Rattle.el_set.specs.declared.filter.FilterElement.{FilterElement}
 use Rattle.el_set.specs.declared.filter.FilterElement.TheVariants as elements
 use Rattle.el_set.specs.Stands.{Stands, PutsOut, MeetsNone}

@@ -1,22 +1,21 @@
 -- EOS through an element whose rule owes for EOS something and EOS behind it, and neither EOS nor FLUSH_STOP for another item.
 use Rattle.std.proofs.Common.{◌≡◌, ◌≢◌, ℕ, zero, suc, Bool, true, false, ◌||◌, if◌then◌else◌, List, [], ◌∷◌, ◌++◌, filter, refl, sym, ap, ◌∙◌, subst, append_assoc, append-nil, Result, Ok, Err}
 use Rattle.gst_item.proofs.Kept.{in_force_push}
-use Rattle.flow_model.specs.Item.{Item, Ev, Eos, is_flush_stop, is_eos}
+use Rattle.flow_model.specs.Item.{Item, Ev, Eos, is_flush_stop, is_eos, eos_among}
 use Rattle.flow_model.specs.Sticky.{has_flush_stop, InForce, in_force}
 use Rattle.flow_model.specs.Prefix.{IsPrefix, nothing, next}
-use Rattle.flow_model.specs.Section.{section}
+use Rattle.flow_model.specs.Section.{section, IsPlain}
 use Rattle.flow_model.specs.Call.{Call, Feed, Act, Drain, Set, items, feeds}
 use Rattle.flow_model.specs.Rule.{Response, Fault, Fed, unfed, responded, flushed, drained, fed_item, all_called, owed_for, not_eos}
 use Rattle.flow_model.specs.Feeding.{has_item}
-use Rattle.flow_model.specs.Chain.{IsPlain}
 use Rattle.flow_model.proofs.Prefixes.{append_prefix}
 use Rattle.flow_model.proofs.Sections.{called_push}
-use Rattle.flow_model.proofs.Calls.{items_push, items_act}
-use Rattle.el_src.specs.Gave.{has_eos as eos_among}
+use Rattle.flow_model.proofs.Calls.{items_push, items_act, feeds_push}
 use Rattle.el_set.specs.Stands.{MeetsNone}
 use Rattle.flow_model.specs.Owed.{owed_at, without_eos}
 use Rattle.el_set.specs.Ends.{MeetsNoFault, EndsWithEos}
 use Rattle.el_set.proofs.Ends.{eos_first, none_first, items_feeds}
+use Rattle.gst_value.proofs.Basics.{or_false}
 
 -- EOS as a list, and none of another item
 abbrev pub eos_of : Item → List Item
@@ -231,10 +230,6 @@ pub record Sane (s : Fed) (given : List Item) : Type 0 where
   pub over : ended false s.out ≡ s.over
   pub among : eos_among s.out ≡ eos_among given
 
-or_false : (b : Bool) → (b || false) ≡ b
-or_false true = refl
-or_false false = refl
-
 or_true : (a b : Bool) → a ≡ true → a ≡ (a || b)
 or_true true b e = refl
 or_true false b e = absurd (cc)
@@ -382,11 +377,6 @@ ending_plain : (respond : Response) → IsEnding respond → (list : List Item) 
 ending_plain respond ending list h =
     let q = quiet_all respond ending unfed list h (record { sound = tt; begun = λ e. refl; plain = refl }) in
     subst IsPlain (section_whole (owed_for respond (feeds list)) q.plain) (sound_plain 0 false (owed_for respond (feeds list)) q.sound)
-
--- a list of items as calls
-feeds_push : (front : List Item) (x : Item) → feeds (front ++ x ∷ []) ≡ feeds front ++ Feed x ∷ []
-feeds_push [] x = refl
-feeds_push (y ∷ ys) x = ap (λ cs. Feed y ∷ cs) (feeds_push ys x)
 
 first_of : {A : Type 0} {x y : A} {xs ys : List A} → IsPrefix (y ∷ ys) (x ∷ xs) → (y ≡ x) × IsPrefix ys xs
 first_of (next p) = (refl, p)

@@ -2,35 +2,33 @@
 use Rattle.std.proofs.Common.{◌≡◌, ◌≢◌, ◌⊎◌, ℕ, zero, suc, Bool, true, false, ◌||◌, if◌then◌else◌, List, [], ◌∷◌, ◌++◌, length, refl, sym, ap, ◌∙◌, inl, inr, append_assoc, append-nil, length-append, arith, All, Result, Ok, Err}
 use Rattle.std.specs.List.{fold}
 use Rattle.gst_caps.specs.declared.caps.Caps.{Caps}
-use Rattle.gst_caps.specs.Description.{Description}
-use Rattle.gst_caps.specs.declared.value.One.{One}
+use Rattle.gst_value.specs.Description.{Description}
+use Rattle.gst_value.specs.declared.one.One.{One}
 use Rattle.gst_caps.specs.Accepts.{accepts}
 use Rattle.std.specs.Prelude.{Option}
-use Rattle.flow_model.specs.Item.{Item, Buf, Ev, StreamStart, NewCaps, NewSegment, Tag, Gap, FlushStop, Eos, is_flush_stop, is_eos}
+use Rattle.flow_model.specs.Item.{Item, Buf, Ev, StreamStart, NewCaps, NewSegment, Tag, Gap, FlushStop, Eos, is_flush_stop, is_eos, eos_among}
 use Rattle.flow_model.specs.Sticky.{first_found, latest, has_flush_stop, since_flush_stop, in_force}
 use Rattle.flow_model.specs.Prefix.{IsPrefix, nothing, next}
-use Rattle.flow_model.specs.Section.{section, counted_after, counted}
+use Rattle.flow_model.specs.Section.{section, counted_after, counted, IsPlain}
 use Rattle.flow_model.specs.Call.{items, feeds}
 use Rattle.flow_model.specs.Rule.{Response, Fault, Fed, unfed, responded, flushed, fed_item, all_called, owed_for, passes}
 use Rattle.flow_model.specs.Feeding.{has_item}
-use Rattle.flow_model.specs.Chain.{IsPlain}
 use Rattle.el_basic.specs.Filters.{takes_buffer, filter_in, filter_answer, filters}
 use Rattle.flow_model.specs.CapsInForce.{caps_in_force}
-use Rattle.el_src.specs.Gave.{has_eos}
 use Rattle.el_set.specs.Ends.{MeetsNoFault, EndsWithEos, owed_along, MeetNoFaults, RowEndsWithEos}
 
 -- whether a list has EOS, item by item
-eos_from : (b : Bool) (xs : List Item) → fold (λ eos x. eos || is_eos x) b xs ≡ (b || has_eos xs)
+eos_from : (b : Bool) (xs : List Item) → fold (λ eos x. eos || is_eos x) b xs ≡ (b || eos_among xs)
 eos_from true [] = refl
 eos_from false xs = refl
 eos_from true (x ∷ xs) = eos_from true xs
 
-pub eos_first : (x : Item) (xs : List Item) → has_eos (x ∷ xs) ≡ (is_eos x || has_eos xs)
+pub eos_first : (x : Item) (xs : List Item) → eos_among (x ∷ xs) ≡ (is_eos x || eos_among xs)
 eos_first x xs = eos_from (is_eos x) xs
 
-pub eos_latest : (xs : List Item) → has_item (latest is_eos xs) ≡ has_eos xs
+pub eos_latest : (xs : List Item) → has_item (latest is_eos xs) ≡ eos_among xs
 eos_latest [] = refl
-eos_latest (x ∷ xs) = go (is_eos x) (latest is_eos xs) (has_eos xs) (eos_latest xs) ∙ sym (eos_first x xs)
+eos_latest (x ∷ xs) = go (is_eos x) (latest is_eos xs) (eos_among xs) (eos_latest xs) ∙ sym (eos_first x xs)
   where
     go : (e : Bool) (found : List Item) (h : Bool) → has_item found ≡ h → has_item (first_found found (if e then x ∷ [] else [])) ≡ (e || h)
     go true [] h is = refl
@@ -51,11 +49,11 @@ plain_no_flush [] h = refl
 plain_no_flush (x ∷ xs) h = rw h.0 (plain_no_flush xs h.2)
 
 -- what counts of a list has EOS where the list has it
-pub counted_eos : (xs : List Item) → has_eos (counted xs) ≡ has_eos xs
+pub counted_eos : (xs : List Item) → eos_among (counted xs) ≡ eos_among xs
 counted_eos [] = refl
 counted_eos (x ∷ xs) = eos_first x (counted_after (is_eos x) xs) ∙ go (is_eos x) (counted_eos xs) ∙ sym (eos_first x xs)
   where
-    go : (e : Bool) → has_eos (counted xs) ≡ has_eos xs → (e || has_eos (counted_after e xs)) ≡ (e || has_eos xs)
+    go : (e : Bool) → eos_among (counted xs) ≡ eos_among xs → (e || eos_among (counted_after e xs)) ≡ (e || eos_among xs)
     go true same = refl
     go false same = same
 
@@ -99,19 +97,6 @@ section_plain (suc j) true (x ∷ xs) = go (is_flush_stop x) refl (section_plain
 
 pub sections_plain : (j : ℕ) (xs : List Item) → IsPlain (section j (counted xs))
 sections_plain j xs = section_plain j false xs
-
--- of a list without FLUSH_STOP what counts is plain
-counted_from : (b : Bool) (xs : List Item) → has_flush_stop xs ≡ false → IsPlain (counted_after b xs)
-counted_from b [] h = tt
-counted_from true (x ∷ xs) h = rw (none_counts (x ∷ xs) h) tt
-counted_from false (x ∷ xs) h = ((none_first x xs h).0, (λ e. behind (is_eos x) e), counted_from (is_eos x) xs (none_first x xs h).1)
-  where
-    behind : (e : Bool) → e ≡ true → counted_after e xs ≡ []
-    behind true is = none_counts xs (none_first x xs h).1
-    behind false is = absurd (cc)
-
-pub counted_plain : (xs : List Item) → has_flush_stop xs ≡ false → IsPlain (counted xs)
-counted_plain xs h = counted_from false xs h
 
 -- EOS since the last FLUSH_STOP
 keeps_flush : (b : Bool) (xs : List Item) → has_flush_stop (counted_after b xs) ≡ has_flush_stop xs
@@ -332,7 +317,7 @@ pub passing_ends : (respond : Response) → IsPassing respond → EndsWithEos re
 passing_ends respond passing =
     record {
       plain = owed_plain respond passing;
-      eos = λ list h no_fault. ap has_eos (all_from respond passing unfed list h refl no_fault) ∙ counted_eos list;
+      eos = λ list h no_fault. ap eos_among (all_from respond passing unfed list h refl no_fault) ∙ counted_eos list;
     }
 
 -- along a row of rules
@@ -347,7 +332,7 @@ row_plain [] list each h = h
 row_plain (respond ∷ more) list each h =
     row_plain more (owed_for respond (feeds list)) (all_behind respond more each) ((all_first respond more each).plain list (plain_no_flush list h))
 
-row_eos : (rules : List Response) (list : List Item) → All EndsWithEos rules → IsPlain list → MeetNoFaults rules list → has_eos (owed_along rules list) ≡ has_eos list
+row_eos : (rules : List Response) (list : List Item) → All EndsWithEos rules → IsPlain list → MeetNoFaults rules list → eos_among (owed_along rules list) ≡ eos_among list
 row_eos [] list each h met = refl
 row_eos (respond ∷ more) list each h met =
     let none = plain_no_flush list h in

@@ -3,8 +3,8 @@ use Rattle.std.proofs.Common.{◌≡◌, ◌≢◌, ℕ, Bool, true, false, if�
 use Rattle.gst_caps.specs.declared.caps.Caps.{Caps}
 use Rattle.gst_item.specs.declared.flow.Flow.{Flow}
 use Rattle.gst_item.specs.declared.out.Out.{Out}
-use Rattle.gst_item.specs.declared.fault.ElementFault.{ElementFault}
-use Rattle.gst_item.specs.declared.fault.ElementFault.TheVariants.{NotNegotiated as Refused, BadStream as Broken, TooLong as Passing, OutOfMemory as Wanting}
+use Rattle.flow_model.specs.declared.fault.ElementFault.{ElementFault}
+use Rattle.flow_model.specs.declared.fault.ElementFault.TheVariants.{NotNegotiated as Refused, BadStream as Broken, TooLong as Passing, OutOfMemory as Wanting}
 use Rattle.audio_info.specs.declared.info.Info.{Info}
 use Rattle.flow_model.specs.Item.{Item, Ev, FlushStop, Eos}
 use Rattle.flow_model.specs.Call.{Call, Feed, Act, Drain}
@@ -162,10 +162,6 @@ on_taken (Err fault) f p = tt
 pub if_taken : {R F : Type 0} (r : Result R F) {P Q : Type 0} → (P → Q) → IfOk r (λ x. P) → IfOk r (λ x. Q)
 if_taken (Ok x) f p = f p
 if_taken (Err fault) f p = tt
-
-pub on_fault : {R F : Type 0} (r : Result R F) {P Q : Type 0} → (P → Q) → OnErr r P → OnErr r Q
-on_fault (Ok x) f p = tt
-on_fault (Err fault) f p = f p
 
 -- the answer to an item, and a fault, by each rule that it may have
 pub flow_by : {X E : Type 0} (rule : X → Response) (Told : X → E → List Call → List Item → Type 0) (r : Result Flow ElementFault) (old : E)

@@ -1,9 +1,5 @@
-pub mod Numbers
 pub mod Roles
 pub mod Openings
-pub mod Allowing
-pub mod Given
-pub mod Faults
 pub mod WholeLists
 pub mod Ends
 pub mod Ending
@@ -13,8 +9,5 @@ pub mod Following
 pub mod SettingRules
 pub mod Elements
 pub mod Sources
-pub mod Ramps
-pub mod Copied
-pub mod OneSet
 pub mod Lists
 pub mod ToldTemplates

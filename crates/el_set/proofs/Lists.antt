@@ -3,15 +3,14 @@ use Rattle.std.proofs.Common.{◌≡◌, ◌≤◌, ◌++◌, ◌*◌, ◌-◌, 
 use Rattle.std.specs.Prelude.{if◌then◌else◌}
 use Rattle.std.specs.List.{range_with_len}
 use Rattle.std.proofs.lemmas.Bool.{true≢false}
-use Rattle.flow_model.specs.Item.{Item, Ev, StreamStart, NewSegment, Eos, is_eos, is_flush_stop}
+use Rattle.flow_model.specs.Item.{Item, Ev, StreamStart, NewSegment, Eos, is_eos, is_flush_stop, eos_among}
 use Rattle.flow_model.specs.Source.{block_at, block_count, blocks_from, bytes_segment, file_list}
-use Rattle.flow_model.specs.Chain.{IsPlain}
-use Rattle.el_src.specs.Gave.{has_eos}
+use Rattle.flow_model.specs.Section.{IsPlain}
 use Rattle.el_src.specs.declared.ramp_src.Ramp.{Ramp}
 use Rattle.el_src.specs.Ramp.{frames_buffer, frames_gap, is_gap, piece, ramp_list, title_tag}
-use Rattle.el_set.specs.declared.settings.Settings.{Settings}
-use Rattle.el_set.specs.declared.settings.Settings.TheVariants.{FileSrc, RampTestSrc}
-use Rattle.el_set.specs.Asked.{reads, sink_pads}
+use Rattle.el_settings.specs.declared.settings.Settings.{Settings}
+use Rattle.el_settings.specs.declared.settings.Settings.TheVariants.{FileSrc, RampTestSrc}
+use Rattle.el_settings.specs.Asked.{reads, sink_pads}
 use Rattle.el_set.specs.Made.{list_of, read_content}
 use Rattle.el_set.proofs.Ends.{eos_first}
 
@@ -67,19 +66,19 @@ plain_list (RampTestSrc s) id content = plain_ramp s.ramp id
 plain_list _ id content = tt
 
 -- EOS in a longer list
-pub eos_later : (x : Item) (xs : List Item) → has_eos xs ≡ true → has_eos (x ∷ xs) ≡ true
-eos_later x xs h = eos_first x xs ∙ or_true (is_eos x) (has_eos xs) h
+pub eos_later : (x : Item) (xs : List Item) → eos_among xs ≡ true → eos_among (x ∷ xs) ≡ true
+eos_later x xs h = eos_first x xs ∙ or_true (is_eos x) (eos_among xs) h
   where
     or_true : (b d : Bool) → d ≡ true → (b || d) ≡ true
     or_true true d is = refl
     or_true false d is = is
 
-eos_behind : (xs ys : List Item) → has_eos ys ≡ true → has_eos (xs ++ ys) ≡ true
+eos_behind : (xs ys : List Item) → eos_among ys ≡ true → eos_among (xs ++ ys) ≡ true
 eos_behind [] ys h = h
 eos_behind (x ∷ xs) ys h = eos_later x (xs ++ ys) (eos_behind xs ys h)
 
 -- and it has EOS
-pub source_eos : (s : Settings) (id : ℕ) (content : List ℕ) → eqb (sink_pads s) 0 ≡ true → has_eos (list_of s id content) ≡ true
+pub source_eos : (s : Settings) (id : ℕ) (content : List ℕ) → eqb (sink_pads s) 0 ≡ true → eos_among (list_of s id content) ≡ true
 source_eos (FileSrc s) id content none =
     eos_behind (Ev (StreamStart id) ∷ Ev (NewSegment (bytes_segment 0)) ∷ blocks_from s.blocksize 0 content 0) (Ev Eos ∷ []) refl
 source_eos (RampTestSrc s) id content none =

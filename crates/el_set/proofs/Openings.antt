@@ -1,9 +1,9 @@
 -- What is made of settings with a file, and which file that is, by their pads and their location.
 use Rattle.std.proofs.Common.{◌≡◌, ◌&&◌, ◌||◌, not, ℕ, Bool, true, false, eqb, if◌then◌else◌, List, [], Option, None, is_some, refl, sym, ap, ◌∙◌}
-use Rattle.el_set.specs.Asked.{location_of, reads, sink_pads, source_pads, writes}
+use Rattle.el_settings.specs.Asked.{location_of, reads, sink_pads, source_pads, writes}
 use Rattle.el_set.specs.Made.{file_for, makes_sink, makes_source, read_content, read_for}
-use Rattle.el_set.specs.declared.settings.Settings.{Settings}
-use Rattle.el_set.specs.declared.settings.Settings.TheVariants.{FileSrc, RampTestSrc, FileSink, FakeSink}
+use Rattle.el_settings.specs.declared.settings.Settings.{Settings}
+use Rattle.el_settings.specs.declared.settings.Settings.TheVariants.{FileSrc, RampTestSrc, FileSink, FakeSink}
 
 -- what is read, and what is written
 pub read_is : {S : Type 0} (s : Settings) (file : Option S) → read_for s file ≡ (if reads s then file else None)
@@ -24,15 +24,6 @@ read_own s file reading = read_is s file ∙ ap (λ (b : Bool). if b then file e
 
 pub written_own : {K : Type 0} (s : Settings) (file : Option K) → writes s ≡ true → file_for s file ≡ file
 written_own s file writing = written_is s file ∙ ap (λ (b : Bool). if b then file else None) writing
-
--- without a file nothing is
-pub read_none : {S : Type 0} (s : Settings) → read_for {S = S} s None ≡ None
-read_none (FileSrc s) = refl
-read_none _ = refl
-
-pub written_none : {K : Type 0} (s : Settings) → file_for {K = K} s None ≡ None
-written_none (FileSink s) = refl
-written_none _ = refl
 
 -- there is a source, and a sink, where a file that the settings name is there
 pub source_made : {S : Type 0} (s : Settings) (file : Option S) → makes_source s file ≡ (eqb (sink_pads s) 0 && (not (is_some (location_of s)) || is_some file))
@@ -55,12 +46,6 @@ source_with s file own there = source_made s file ∙ with_file file (eqb (sink_
 
 pub sink_with : {K : Type 0} (s : Settings) (file : Option K) → eqb (source_pads s) 0 ≡ true → (writes s ≡ true → is_some file ≡ true) → makes_sink s file ≡ true
 sink_with s file own there = sink_made s file ∙ with_file file (eqb (source_pads s) 0) (is_some (location_of s)) own there
-
--- a sink has no source pad
-pub made_ends : {K : Type 0} (s : Settings) (file : Option K) → makes_sink s file ≡ true → source_pads s ≡ 0
-made_ends (FileSink s) file is = refl
-made_ends FakeSink file is = refl
-made_ends _ file is = absurd (cc)
 
 -- the file that is read of a file is that, and what is made with it is the same
 twice : {A : Type 0} (b : Bool) (file : Option A) → (if b then (if b then file else None) else None) ≡ (if b then file else None)

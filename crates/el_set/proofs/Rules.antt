@@ -1,14 +1,15 @@
 -- Each rule owes for EOS something and EOS behind it, and neither EOS nor FLUSH_STOP for another item.
 use Rattle.std.proofs.Common.{◌≡◌, ℕ, zero, suc, ◌+◌, ◌*◌, ◌==◌, Bool, true, false, if◌then◌else◌, List, [], ◌∷◌, ◌++◌, take, drop, refl, sym, ap, ◌∙◌, subst, append_assoc, append-nil, Option, Some, None, Result, Ok, Err}
-use Rattle.gst_caps.specs.Description.{Description}
+use Rattle.gst_value.specs.Description.{Description}
 use Rattle.gst_caps.specs.declared.caps.Caps.{Caps}
-use Rattle.gst_caps.specs.declared.value.One.{One}
+use Rattle.gst_value.specs.declared.one.One.{One}
 use Rattle.audio_info.specs.declared.info.Info.{Info}
 use Rattle.flow_model.specs.Item.{Item, Buffer, Buf, Ev, StreamStart, NewCaps, NewSegment, Tag, Gap, FlushStop, Eos, is_flush_stop, is_eos}
 use Rattle.flow_model.specs.Call.{Call, items}
 use Rattle.flow_model.specs.Rule.{Fault, Fed, unfed, all_called}
 use Rattle.flow_model.specs.Feeding.{next_owed}
-use Rattle.el_convert.specs.Choice.{choice, same_caps}
+use Rattle.audio_info.specs.Same.{same_caps}
+use Rattle.el_convert.specs.Choice.{choice}
 use Rattle.el_convert.specs.Converts as conv
 use Rattle.el_law.specs.Laws as laws
 use Rattle.el_law.specs.declared.kind.LawKind.{LawKind}

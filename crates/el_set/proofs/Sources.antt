@@ -1,13 +1,13 @@
 -- The sources, kind by kind.
 use Rattle.std.proofs.Common.{◌≡◌, ℕ, List, [], Option, Some, Result, Ok, Err, IfOk, IfErr, OnOk, OnErr, ap}
-use Rattle.flow_model.specs.Item.{Item}
+use Rattle.flow_model.specs.Item.{Item, eos_among}
 use Rattle.el_src.specs.declared.answer.Next.{Next}
 use Rattle.el_src.specs.declared.answer.Next.TheVariants.{Item as Given, Ended}
 use Rattle.el_src.specs.declared.fault.SrcFault.{SrcFault}
 use Rattle.el_src.specs.declared.fault.SrcFault.TheVariants.{OutOfMemory as Wanting}
 use Rattle.el_src.specs.declared.file_src.FileSrc.{FileSrc}
 use Rattle.el_src.specs.declared.ramp_src.RampSrc.{RampSrc}
-use Rattle.el_src.specs.Gave.{Gave, AfterNext, is_ended, has_eos, ended_at, source_of}
+use Rattle.el_src.specs.Gave.{Gave, AfterNext, is_ended, ended_at, source_of}
 use Rattle.el_src.specs.RampGave.{RampGave, AfterRampNext, ramp_ended_at}
 use Rattle.el_src.specs.Short.{StopsShort}
 use Rattle.el_set.specs.declared.source.SourceElement.{SourceElement}
@@ -23,8 +23,8 @@ file_gives content_of (Ok Ended) element old new is gives = rw is gives
 file_gives content_of (Err fault) element old new is gives = tt
 
 pub file_ends : {S : Type 0} (content_of : S → Option (List ℕ)) (r : Result Next SrcFault) (element : SourceElement S) (old : FileSrc S) → element ≡ File old
-    → IfOk r (λ n. (owed : List ℕ → List Item) (given : List Item) → Gave content_of old owed given → is_ended n ≡ has_eos given)
-    → IfOk r (λ n. (owed : List ℕ → List Item) (given : List Item) → SourceGave content_of element owed given → is_ended n ≡ has_eos given)
+    → IfOk r (λ n. (owed : List ℕ → List Item) (given : List Item) → Gave content_of old owed given → is_ended n ≡ eos_among given)
+    → IfOk r (λ n. (owed : List ℕ → List Item) (given : List Item) → SourceGave content_of element owed given → is_ended n ≡ eos_among given)
 file_ends content_of (Ok n) element old is ends = rw is ends
 file_ends content_of (Err fault) element old is ends = tt
 
@@ -43,8 +43,8 @@ ramp_gives content_of (Ok Ended) element old new is gives = rw is (λ owed given
 ramp_gives content_of (Err fault) element old new is gives = tt
 
 pub ramp_ends : {S : Type 0} (content_of : S → Option (List ℕ)) (r : Result Next SrcFault) (element : SourceElement S) (old : RampSrc) → element ≡ Ramp old
-    → IfOk r (λ n. (owed given : List Item) → RampGave old owed given → is_ended n ≡ has_eos given)
-    → IfOk r (λ n. (owed : List ℕ → List Item) (given : List Item) → SourceGave content_of element owed given → is_ended n ≡ has_eos given)
+    → IfOk r (λ n. (owed given : List Item) → RampGave old owed given → is_ended n ≡ eos_among given)
+    → IfOk r (λ n. (owed : List ℕ → List Item) (given : List Item) → SourceGave content_of element owed given → is_ended n ≡ eos_among given)
 ramp_ends content_of (Ok n) element old is ends = rw is (λ owed given s. ends (owed []) given (s []))
 ramp_ends content_of (Err fault) element old is ends = tt
 

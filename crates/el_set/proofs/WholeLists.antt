@@ -3,31 +3,24 @@ use Rattle.std.proofs.Common.{◌≡◌, ℕ, ◌+◌, ◌<◌, ◌≤◌, Bool,
 use Rattle.std.proofs.lemmas.List.{take_more, take_all, take-append-drop}
 use Rattle.gst_caps.specs.declared.caps.Caps.{Caps}
 use Rattle.gst_item.specs.declared.out.Out.{Out}
-use Rattle.gst_item.specs.declared.fault.ElementFault.{ElementFault}
-use Rattle.gst_item.specs.declared.fault.ElementFault.TheVariants.{NotNegotiated as Refused, BadStream as Broken, TooLong as Passing, OutOfMemory as Wanting}
+use Rattle.flow_model.specs.declared.fault.ElementFault.{ElementFault}
+use Rattle.flow_model.specs.declared.fault.ElementFault.TheVariants.{NotNegotiated as Refused, BadStream as Broken, TooLong as Passing, OutOfMemory as Wanting}
 use Rattle.flow_model.specs.Item.{Item, Ev, FlushStop, is_flush_stop}
 use Rattle.flow_model.specs.Call.{Call, Feed, feeds}
 use Rattle.flow_model.specs.Rule.{Response, Fault, Fed, unfed, fed_item, all_called}
 use Rattle.flow_model.specs.Feeding.{on_pad, next_owed, IsFaultOf}
-use Rattle.el_basic.specs.Passed.{Passed}
-use Rattle.el_basic.specs.declared.identity.Identity.{Identity as PassingAll}
 use Rattle.el_set.specs.declared.filter.FilterElement.{FilterElement}
 use Rattle.el_set.specs.declared.filter.FilterElement.TheVariants as elements
-use Rattle.el_set.specs.declared.settings.Settings.{Settings}
-use Rattle.el_set.specs.Values.{or_else}
-use Rattle.el_set.specs.Asked.{source_pads, with_allowed}
+use Rattle.el_settings.specs.declared.settings.Settings.{Settings}
+use Rattle.el_settings.specs.Values.{or_else}
+use Rattle.el_settings.specs.Asked.{source_pads, with_allowed}
 use Rattle.el_set.specs.Denoted.{response_of, fault_at, first_fault_from, first_fault, next_fault, answered, only_input, on_pads, IsOwed, IsDenoted}
-use Rattle.el_set.specs.Made.{IsFilterFor}
 use Rattle.el_set.specs.Stands.{Stands, PutsOut}
 use Rattle.el_set.specs.Stepping.{TookAll}
-use Rattle.el_set.proofs.Allowing.{sources_set}
+use Rattle.el_settings.proofs.Allowing.{sources_set}
 use Rattle.el_set.proofs.Elements.{elements_owe}
-use Rattle.el_set.proofs.Given.{or_else-or_else}
-use Rattle.el_set.proofs.Roles.{others_pass}
-
-feeds_push : (items : List Item) (x : Item) → feeds (items ++ x ∷ []) ≡ feeds items ++ Feed x ∷ []
-feeds_push [] x = refl
-feeds_push (y ∷ ys) x = ap (λ cs. Feed y ∷ cs) (feeds_push ys x)
+use Rattle.el_settings.proofs.Given.{or_else-or_else}
+use Rattle.flow_model.proofs.Calls.{feeds_push}
 
 on_pad_append : (pad : ℕ) (xs ys : List Item) → on_pad pad (xs ++ ys) ≡ on_pad pad xs ++ on_pad pad ys
 on_pad_append pad [] ys = refl
@@ -147,15 +140,6 @@ pub owed_all : (respond : Response) (element : FilterElement) (items : List Item
     → made ≡ map (λ (o : Out). o.item) out → IsOwed respond items (Ok made)
 owed_all respond element items out made p e =
     (p.whole, e ∙ ap (λ (os : List Out). map (λ (o : Out). o.item) os) p.outs ∙ items_on_pad 0 p.put ∙ elements_owe respond element (feeds items) p.put p.stands)
-
--- by what is made of the settings
-pub made_some : (settings own : Settings) (caps : Caps) (o : Option FilterElement) (element : FilterElement) → own ≡ with_allowed caps settings → o ≡ Some element → IsFilterFor own o
-    → Stands (response_of (with_allowed caps settings)) element [] []
-made_some settings own caps o element is found made = let m : IsFilterFor (with_allowed caps settings) (Some element) = rw (is, found) at made in m.1
-
-pub made_none : (settings own : Settings) (caps : Caps) (o : Option FilterElement) (identity : PassingAll) → own ≡ with_allowed caps settings → o ≡ None → IsFilterFor own o
-    → Passed identity [] [] → Stands (response_of (with_allowed caps settings)) (elements.Identity identity) [] []
-made_none settings own caps o identity is found made passed = let m : IsFilterFor (with_allowed caps settings) None = rw (is, found) at made in (others_pass (with_allowed caps settings) m, passed)
 
 pub denoted_ok : (settings : Settings) (caps : Caps) (inputs : List (List Item)) (items : List Item) (r : Result (List Item) ElementFault) (owed : List Item) (outputs : List (List Item)) → r ≡ Ok owed
     → only_input inputs ≡ items → IsOwed (response_of (with_allowed caps settings)) items r → outputs ≡ on_pads (source_pads settings) owed

@@ -1,6 +1,6 @@
 -- What an element owes for whole lists, and the first fault of its rule.
 use Rattle.std.specs.Prelude.{◌≡◌, ◌==◌, ℕ, List, [], ◌∷◌, Option, None, Some, Result, Ok, Err, if◌then◌else◌}
-use Rattle.gst_item.specs.declared.fault.ElementFault.{ElementFault}
+use Rattle.flow_model.specs.declared.fault.ElementFault.{ElementFault}
 use Rattle.flow_model.specs.Item.{Item, is_flush_stop}
 use Rattle.flow_model.specs.Call.{feeds}
 use Rattle.flow_model.specs.Rule.{Response, Fault, Fed, unfed, fed_item, all_called, owed_for, passes}
@@ -12,10 +12,10 @@ use Rattle.el_parse.specs.Parses.{parses as parses_raw}
 use Rattle.el_parse.specs.Splits.{splits}
 use Rattle.el_wav.specs.WavParse.{parses as parses_wav}
 use Rattle.el_wavenc.specs.Encodes.{encodes}
-use Rattle.el_set.specs.declared.settings.Settings.{Settings}
-use Rattle.el_set.specs.declared.settings.Settings.TheVariants.{FileSrc, RampTestSrc, Identity, CapsFilter, Queue, AudioConvert, Law, RawAudioParse, AudioBufferSplit, WavParse, WavEnc, FileSink, FakeSink}
-use Rattle.el_set.specs.Values.{or_else}
-use Rattle.el_set.specs.Asked.{source_pads}
+use Rattle.el_settings.specs.declared.settings.Settings.{Settings}
+use Rattle.el_settings.specs.declared.settings.Settings.TheVariants.{FileSrc, RampTestSrc, Identity, CapsFilter, Queue, AudioConvert, Law, RawAudioParse, AudioBufferSplit, WavParse, WavEnc, FileSink, FakeSink}
+use Rattle.el_settings.specs.Values.{or_else}
+use Rattle.el_settings.specs.Asked.{source_pads}
 
 -- the rule of an element with one sink pad
 abbrev pub response_of : Settings → Response

@@ -1,13 +1,12 @@
 -- Elements put out EOS where they were fed it, and nothing behind it.
 use Rattle.std.specs.Prelude.{◌≡◌, ◌≢◌, false, List, [], ◌∷◌, ◌++◌, Err}
-use Rattle.flow_model.specs.Item.{Item}
+use Rattle.flow_model.specs.Item.{Item, eos_among}
 use Rattle.flow_model.specs.Sticky.{has_flush_stop}
 use Rattle.flow_model.specs.Prefix.{IsPrefix}
 use Rattle.flow_model.specs.Call.{feeds}
 use Rattle.flow_model.specs.Rule.{Response, Fault, owed_for}
 use Rattle.flow_model.specs.Feeding.{next_owed}
-use Rattle.flow_model.specs.Chain.{IsPlain}
-use Rattle.el_src.specs.Gave.{has_eos}
+use Rattle.flow_model.specs.Section.{IsPlain}
 
 -- At no item of a list a rule meets a fault.
 abbrev pub MeetsNoFault : Response → List Item → Type 0
@@ -17,7 +16,7 @@ MeetsNoFault respond list = (front : List Item) (x : Item) (fault : Fault) → I
 -- is owed exactly where there is one in the list.
 pub record EndsWithEos (respond : Response) : Type 0 where
   pub plain : (list : List Item) → has_flush_stop list ≡ false → IsPlain (owed_for respond (feeds list))
-  pub eos : (list : List Item) → has_flush_stop list ≡ false → MeetsNoFault respond list → has_eos (owed_for respond (feeds list)) ≡ has_eos list
+  pub eos : (list : List Item) → has_flush_stop list ≡ false → MeetsNoFault respond list → eos_among (owed_for respond (feeds list)) ≡ eos_among list
 
 -- what is owed for a list at the end of a row of rules, each of which is fed all that the one before it owes
 abbrev pub owed_along : List Response → List Item → List Item
@@ -33,4 +32,4 @@ MeetNoFaults (respond ∷ more) list = MeetsNoFault respond list × MeetNoFaults
 -- met an EOS is owed exactly where there is one in the list.
 pub record RowEndsWithEos (rules : List Response) : Type 0 where
   pub plain : (list : List Item) → IsPlain list → IsPlain (owed_along rules list)
-  pub eos : (list : List Item) → IsPlain list → MeetNoFaults rules list → has_eos (owed_along rules list) ≡ has_eos list
+  pub eos : (list : List Item) → IsPlain list → MeetNoFaults rules list → eos_among (owed_along rules list) ≡ eos_among list

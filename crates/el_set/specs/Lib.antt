@@ -1,10 +1,3 @@
-pub mod Kinds
-pub mod Rows
-pub mod Numbers
-pub mod Values
-pub mod Checked
-pub mod Templates
-pub mod Asked
 pub mod Denoted
 pub mod Stepping
 pub mod Stands
@@ -14,4 +7,3 @@ pub mod Gives
 pub mod Holds
 pub mod Roles
 pub mod Made
-pub mod Alike

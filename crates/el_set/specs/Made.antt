@@ -4,12 +4,12 @@ use Rattle.std.specs.Option.{ForSome, option_map}
 use Rattle.flow_model.specs.Item.{Item}
 use Rattle.flow_model.specs.Source.{file_list}
 use Rattle.el_src.specs.Ramp.{ramp_list}
-use Rattle.el_set.specs.declared.settings.Settings.{Settings}
-use Rattle.el_set.specs.declared.settings.Settings.TheVariants.{FileSrc, RampTestSrc, FileSink, FakeSink}
+use Rattle.el_settings.specs.declared.settings.Settings.{Settings}
+use Rattle.el_settings.specs.declared.settings.Settings.TheVariants.{FileSrc, RampTestSrc, FileSink, FakeSink}
 use Rattle.el_set.specs.declared.filter.FilterElement.{FilterElement}
 use Rattle.el_set.specs.declared.source.SourceElement.{SourceElement}
 use Rattle.el_set.specs.declared.sink.SinkElement.{SinkElement}
-use Rattle.el_set.specs.Asked.{is_filter}
+use Rattle.el_settings.specs.Asked.{is_filter}
 use Rattle.el_set.specs.Denoted.{response_of}
 use Rattle.el_set.specs.Stands.{Stands}
 use Rattle.el_set.specs.Gives.{SourceGave, source_items, source_file}

@@ -1,9 +1,7 @@
--- The role of an element.
-use Rattle.std.specs.Prelude.{◌≡◌, ℕ, Bool, true, false, List, Option, None, Some}
+-- Elements by their role.
+use Rattle.std.specs.Prelude.{Bool, true, false}
 use Rattle.el_set.specs.declared.element.Element.{Element}
 use Rattle.el_set.specs.declared.element.Element.TheVariants.{Source, Filter, Queue, Sink}
-use Rattle.el_set.specs.declared.settings.Settings.{Settings}
-use Rattle.el_set.specs.Asked.{is_filter, is_queue, location_of, sink_pads, source_pads}
 
 -- whether a link to the element is a lane
 abbrev pub is_lane : {S K : Type 0} → Element S K → Bool
@@ -11,21 +9,3 @@ is_lane (Source source) = false
 is_lane (Filter element) = false
 is_lane (Queue limits) = true
 is_lane (Sink sink) = false
-
--- these are the answers to what is asked of the settings
-pub record Tells (settings : Settings) (sinks sources : ℕ) (filter queue : Bool) (location : Option (List ℕ)) : Type 0 where
-  pub sinks_are : sink_pads settings ≡ sinks
-  pub sources_are : source_pads settings ≡ sources
-  pub filter_is : is_filter settings ≡ filter
-  pub queue_is : is_queue settings ≡ queue
-  pub location_is : location_of settings ≡ location
-
--- An element is a source, which reads a file or makes what it gives; or it stands between two pads, as a filter or as a
--- queue; or it is a sink, which writes a file or drops what it takes.
-pub data Role (settings : Settings) : Type 0 where
-  file_source : (location : List ℕ) → Tells settings 0 1 false false (Some location) → Role settings
-  made_source : Tells settings 0 1 false false None → Role settings
-  any_filter : Tells settings 1 1 true false None → Role settings
-  any_queue : Tells settings 1 1 false true None → Role settings
-  file_sink : (location : List ℕ) → Tells settings 1 0 false false (Some location) → Role settings
-  drop_sink : Tells settings 1 0 false false None → Role settings

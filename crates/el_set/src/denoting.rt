@@ -3,17 +3,19 @@ ghost use Rattle.std.specs.Prelude.{◌≡◌, ◌≢◌, true, false, ◌++◌,
 ghost use Rattle.flow_model.specs.Item.{Item as PadItem, is_flush_stop};
 ghost use Rattle.flow_model.specs.Feeding.{IsFaultOf};
 ghost use Rattle.flow_model.specs.Rule.{Response};
-ghost use Rattle.el_set.specs.Asked.{sink_pads, source_pads, with_allowed};
+ghost use Rattle.el_settings.specs.Asked.{sink_pads, source_pads, with_allowed};
 ghost use Rattle.el_set.specs.Denoted.{IsDenoted, IsOwed, on_pads, answered, next_fault, response_of};
 ghost use Rattle.el_set.specs.Stands.{Stands};
 ghost use Rattle.el_set.specs.Stepping.{TookAll};
 
 use crate::filter::FilterElement;
 use crate::making::filter_of;
-use crate::settings::Settings;
 use el_basic::Identity;
-use gst_caps::{Caps, List, OutOfMemory};
-use gst_item::{ElementFault, Event, Item, Out, Outs};
+use el_settings::Settings;
+use flow_model::ElementFault;
+use gst_caps::Caps;
+use gst_item::{Event, Item, Out, Outs};
+use gst_value::{List, OutOfMemory};
 use std::alloc::Global;
 use std::collections::VecDeque;
 

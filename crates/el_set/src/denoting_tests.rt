@@ -1,58 +1,47 @@
 //! Rows of whole lists, a kind each.
 use super::*;
 use audio_info::{Info, Sample};
-use gst_caps::{Fixed, List, Prop, Text};
-use gst_item::{Body, Buffer, ElementFault, Event, Item};
+use el_settings::{Settings, check};
+use flow_model::ElementFault;
+use gst_item::{Event, Item};
 use gst_time::{Format, Segment};
+use gst_value::{Fixed, List, Prop, Text};
+use item_letters::{buffer_of, bytes_by, item_of, letter_of};
 use std::alloc::Global;
 use std::fmt::Write;
 use std::process::Abort;
 use std::test::Fail;
 
 /// Each row: the words of an element; the caps that a converter may put out; what is given; and what is owed, or the
-/// fault. `s` is a STREAM_START, `b` a SEGMENT in bytes from 0 and `t` one in time, `f` a FLUSH_STOP and `e` EOS;
+/// fault. `b` is a SEGMENT in bytes from 0, and other single letters are items as `item_of` takes them;
 /// `wav` and the name of a format are CAPS, of one channel with 8000 frames a second, and `+` and hexadecimal digits
 /// are a buffer of these bytes.
 const ROWS: &str = "\
-identity | ANY | s S16LE t +0100 e +02 => s S16LE t +0100 e
+identity | ANY | s S16LE g +0100 e +02 => s S16LE g +0100 e
 queue max-size-buffers=1 | ANY | s b +01 +02 f +03 e => s b +01 +02 f +03 e
-capsfilter caps=audio/x-mulaw | ANY | s MULAW t +01 e => s MULAW t +01 e
-capsfilter caps=audio/x-mulaw | ANY | s S16LE t +0100 e => other
-audioconvert | ANY | s S16LE t +0100 e => s S16LE t +0100 e
-audioconvert | audio/x-raw,format=U8 | s S16LE t +00010080 e => s U8 t +8100 e
-audioconvert | audio/x-raw,rate=44100 | s S16LE t +0100 e => other
+capsfilter caps=audio/x-mulaw | ANY | s MULAW g +01 e => s MULAW g +01 e
+capsfilter caps=audio/x-mulaw | ANY | s S16LE g +0100 e => other
+audioconvert | ANY | s S16LE g +0100 e => s S16LE g +0100 e
+audioconvert | audio/x-raw,format=U8 | s S16LE g +00010080 e => s U8 g +8100 e
+audioconvert | audio/x-raw,rate=44100 | s S16LE g +0100 e => other
 audioconvert | ANY | s +0100 e => none
-mulawenc | ANY | s S16LE t +0000FF7F0080FFFF0100 e => s MULAW t +FF80007FFF e
-alawenc | ANY | s S16LE t +0000FFFFFF7F0080 e => s ALAW t +D555AA2A e
-mulawdec | ANY | s MULAW t +00FF e => s S16LE t +84820000 e
-alawdec | ANY | s ALAW t +D555 e => s S16LE t +0800F8FF e
-alawdec | ANY | s MULAW t +D5 e => other
-mulawenc | ANY | s S16LE t +0000 +00 e => bad 3
-rawaudioparse num-channels=1 sample-rate=8000 | ANY | s b +010002 +0003 e => s S16LE t +0100 +0200 e
-rawaudioparse num-channels=1 sample-rate=8000 pcm-format=u8 | ANY | s b +01 f b +02 e => s U8 t +01 f U8 t +02 e
-audiobuffersplit frames=2 | ANY | s S16LE t +0100 +02000300 e => s S16LE t +01000200 +0300 e
-audiobuffersplit frames=2 | ANY | s S16LE t +010002 e => bad 3
-wavparse | ANY | s b +524946462800000057415645666D7420100000000100 +0100401F0000803E000002001000646174610300000001000200 e => s S16LE t +0100 e
+mulawenc | ANY | s S16LE g +0000FF7F0080FFFF0100 e => s MULAW g +FF80007FFF e
+alawenc | ANY | s S16LE g +0000FFFFFF7F0080 e => s ALAW g +D555AA2A e
+mulawdec | ANY | s MULAW g +00FF e => s S16LE g +84820000 e
+alawdec | ANY | s ALAW g +D555 e => s S16LE g +0800F8FF e
+alawdec | ANY | s MULAW g +D5 e => other
+mulawenc | ANY | s S16LE g +0000 +00 e => bad 3
+rawaudioparse num-channels=1 sample-rate=8000 | ANY | s b +010002 +0003 e => s S16LE g +0100 +0200 e
+rawaudioparse num-channels=1 sample-rate=8000 pcm-format=u8 | ANY | s b +01 f b +02 e => s U8 g +01 f U8 g +02 e
+audiobuffersplit frames=2 | ANY | s S16LE g +0100 +02000300 e => s S16LE g +01000200 +0300 e
+audiobuffersplit frames=2 | ANY | s S16LE g +010002 e => bad 3
+wavparse | ANY | s b +524946462800000057415645666D7420100000000100 +0100401F0000803E000002001000646174610300000001000200 e => s S16LE g +0100 e
 wavparse | ANY | s b +52494646 e => bad 4
 wavparse | ANY | s b +52494658 e => bad 3
-wavenc | ANY | s S16LE t +01000200 e => s wav b +524946462400000057415645666D74201000000001000100401F0000803E0000020010006461746100000000 +01000200 b +524946462800000057415645666D74201000000001000100401F0000803E0000020010006461746104000000 e
-wavenc | ANY | s S16LE t MULAW => other
+wavenc | ANY | s S16LE g +01000200 e => s wav b +524946462400000057415645666D74201000000001000100401F0000803E0000020010006461746100000000 +01000200 b +524946462800000057415645666D74201000000001000100401F0000803E0000020010006461746104000000 e
+wavenc | ANY | s S16LE g MULAW => other
 filesink location=a | ANY | s b +01 e => nothing
 fakesink | ANY | s b +01 e => nothing";
-
-/// The bytes whose hexadecimal digits stand in a text.
-fn bytes_by(alloc: Global, digits: &str) -> Result<Vec<u8>, Fail> {
-    let mut bytes = Vec::new(alloc);
-    let mut rest = digits;
-    for _ in 0..digits.len() {
-        let Some((pair, more)) = rest.split_at_checked(2) else {
-            return Ok(bytes);
-        };
-        bytes.push(u8::from_str_radix(pair, 16).unwrap_or(0))?;
-        rest = more;
-    }
-    Ok(bytes)
-}
 
 /// CAPS of the format of this name.
 fn caps_by(alloc: Global, name: &str) -> Result<Fixed, Fail> {
@@ -70,27 +59,14 @@ fn caps_by(alloc: Global, name: &str) -> Result<Fixed, Fail> {
     Ok(info.to_fixed(alloc)?)
 }
 
-fn event_by(alloc: Global, word: &str) -> Result<Event, Fail> {
-    match word {
-        "s" => Ok(Event::StreamStart { id: 1 }),
-        "b" => Ok(Event::Segment(Segment::new(Format::Bytes))),
-        "t" => Ok(Event::Segment(Segment::new(Format::Time))),
-        "f" => Ok(Event::FlushStop { number: 1 }),
-        "e" => Ok(Event::Eos),
-        name => Ok(Event::Caps(caps_by(alloc, name)?)),
-    }
-}
-
 fn item_by(alloc: Global, word: &str) -> Result<Item, Fail> {
-    match word.strip_prefix('+') {
-        Some(digits) => Ok(Item::Buffer(Buffer {
-            body: Body::from_vec(alloc, bytes_by(alloc, digits)?)?,
-            pts: None,
-            duration: None,
-            offset: None,
-            discont: false,
-        })),
-        None => Ok(Item::Event(event_by(alloc, word)?)),
+    if let Some(digits) = word.strip_prefix('+') {
+        return Ok(buffer_of(alloc, bytes_by(alloc, digits)?.as_slice())?);
+    }
+    match word.as_bytes() {
+        [b'b'] => Ok(Item::Event(Event::Segment(Segment::new(Format::Bytes)))),
+        [letter] => Ok(item_of(alloc, *letter)?),
+        _ => Ok(Item::Event(Event::Caps(caps_by(alloc, word)?))),
     }
 }
 
@@ -118,15 +94,11 @@ fn tell_item(text: &mut String, item: &Item) -> Result<(), Fail> {
                 write!(text, "{byte:02X}")?;
             }
         }
-        Item::Event(Event::StreamStart { .. }) => text.push_str(" s")?,
         Item::Event(Event::Caps(caps)) => tell_caps(text, caps)?,
-        Item::Event(Event::Segment(segment)) => text.push_str(match segment.format {
-            Format::Bytes => " b",
-            Format::Time => " t",
-        })?,
-        Item::Event(Event::FlushStop { .. }) => text.push_str(" f")?,
-        Item::Event(Event::Eos) => text.push_str(" e")?,
-        Item::Event(_) => text.push_str(" ?")?,
+        Item::Event(Event::Segment(segment)) if segment.format == Format::Bytes => {
+            text.push_str(" b")?;
+        }
+        _ => write!(text, " {}", char::from(letter_of(item)))?,
     }
     Ok(())
 }

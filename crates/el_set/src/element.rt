@@ -2,9 +2,9 @@
 ghost use Rattle.std.specs.Prelude.{◌≡◌};
 
 use crate::filter::FilterElement;
-use crate::settings::QueueSettings;
 use crate::sink::SinkElement;
 use crate::source::SourceElement;
+use el_settings::QueueSettings;
 
 /// An element, by its role in a stream.
 #[derive(Drop)]

@@ -11,8 +11,9 @@ use el_law::Law;
 use el_parse::{RawParse, Split};
 use el_wav::WavParse;
 use el_wavenc::WavEnc;
-use gst_caps::OutOfMemory;
-use gst_item::{ElementFault, Flow, Item, Outs};
+use flow_model::ElementFault;
+use gst_item::{Flow, Item, Outs};
+use gst_value::OutOfMemory;
 use std::alloc::Global;
 
 /// An element with one sink pad and one source pad, both of number 0.

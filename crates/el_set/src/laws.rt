@@ -1,26 +1,20 @@
 //! Laws of elements. Each function does nothing: its contract is the law.
-ghost use Rattle.std.specs.Prelude.{◌≡◌, ℕ, List, [], Result, Ok, true, false, All};
+ghost use Rattle.std.specs.Prelude.{◌≡◌, ℕ, List, [], Ok, true, false, All};
 ghost use Rattle.gst_caps.specs.declared.caps.Caps.{Caps};
-ghost use Rattle.gst_caps.specs.declared.name.Prop.{Prop};
 ghost use Rattle.el_basic.specs.Filters.{filters};
-ghost use Rattle.el_parse.specs.Streams.{raw_template as split_template};
-ghost use Rattle.el_set.specs.Alike.{AreAlike};
-ghost use Rattle.el_set.specs.Asked.{template_of};
-ghost use Rattle.el_set.specs.Checked.{IsAnswer};
+ghost use Rattle.audio_info.specs.Templates.{raw_template as split_template};
+ghost use Rattle.el_settings.specs.Asked.{template_of};
 ghost use Rattle.el_set.specs.Denoted.{response_of};
-ghost use Rattle.el_set.specs.declared.fault.PropFault.{PropFault};
-ghost use Rattle.el_set.specs.declared.settings.AudioBufferSplitSettings.{AudioBufferSplitSettings};
-ghost use Rattle.el_set.specs.declared.settings.Settings.{Settings};
-ghost use Rattle.el_set.specs.declared.settings.Settings.TheVariants.{AudioBufferSplit as Splitting, WavEnc as WritingWav};
+ghost use Rattle.el_settings.specs.declared.settings.AudioBufferSplitSettings.{AudioBufferSplitSettings};
+ghost use Rattle.el_settings.specs.declared.settings.Settings.{Settings};
+ghost use Rattle.el_settings.specs.declared.settings.Settings.TheVariants.{AudioBufferSplit as Splitting, WavEnc as WritingWav};
 ghost use Rattle.el_wavenc.specs.Templates.{sink_template as wavenc_template};
-ghost use Rattle.flow_model.specs.Item.{Item};
+ghost use Rattle.flow_model.specs.Item.{Item, eos_among};
 ghost use Rattle.flow_model.specs.Call.{Call, feeds};
 ghost use Rattle.flow_model.specs.Sticky.{has_flush_stop, in_force};
-ghost use Rattle.flow_model.specs.Section.{section};
-ghost use Rattle.flow_model.specs.Chain.{IsPlain};
+ghost use Rattle.flow_model.specs.Section.{section, IsPlain};
 ghost use Rattle.flow_model.specs.Rule.{Response, unfed, all_called, owed_for, passes};
 ghost use Rattle.flow_model.specs.Feeding.{has_item, has_eos, next_owed};
-ghost use Rattle.el_src.specs.Gave.{has_eos as eos_among};
 ghost use Rattle.el_set.specs.declared.filter.FilterElement.{FilterElement};
 ghost use Rattle.el_set.specs.Stands.{Stands};
 ghost use Rattle.el_set.specs.Ends.{MeetsNoFault, EndsWithEos, RowEndsWithEos};
@@ -108,10 +102,3 @@ pub fn templates_are_told()
     ensures wavenc { template_of WritingWav true ≡ wavenc_template }
     ensures split { (settings : AudioBufferSplitSettings) → template_of (Splitting settings) true ≡ split_template }
 {}
-
-/// Properties have one answer, but for want of memory.
-pub fn one_answer()
-    ensures { (kind : List ℕ) (props : List Prop) (a b : Result Settings PropFault) → IsAnswer kind props a → IsAnswer kind props b → AreAlike a b }
-{
-    caps_text::one_reading();
-}

@@ -1,22 +1,22 @@
 //! Elements, made by what they are set to.
 ghost use Rattle.std.specs.Prelude.{◌≡◌, IfOk};
-ghost use Rattle.el_set.specs.Asked.{title_of};
+ghost use Rattle.el_settings.specs.Asked.{title_of};
 ghost use Rattle.el_set.specs.Made.{IsFilterFor, IsSourceFor, IsSinkFor};
 
 use crate::filter::FilterElement;
-use crate::settings::Settings;
 use crate::sink::SinkElement;
 use crate::source::SourceElement;
 use el_basic::{CapsFilter, Identity};
 use el_convert::Convert;
 use el_law::Law;
 use el_parse::{RawParse, Split};
+use el_settings::Settings;
 use el_sink::{FakeSink, FileSink};
 use el_src::{FileSrc, Ramp, RampSrc};
 use el_wav::WavParse;
 use el_wavenc::WavEnc;
-use gst_caps::{OutOfMemory, Text};
 use gst_outside::{Sink, Source};
+use gst_value::{OutOfMemory, Text};
 use std::alloc::Global;
 
 /// The element of these settings between one sink pad and one source pad, which was fed nothing yet. None where they

@@ -1,6 +1,6 @@
 //! The elements that make a stream.
 ghost use Rattle.std.specs.Prelude.{◌≡◌, ◌<◌, ◌^◌, ℕ, List, IfOk, OnOk, OnErr, IfErr, is_some};
-ghost use Rattle.flow_model.specs.Item.{Item as PadItem};
+ghost use Rattle.flow_model.specs.Item.{Item as PadItem, eos_among};
 
 use el_src::{FileSrc, Next, RampSrc, SrcFault};
 use gst_outside::Source;
@@ -16,7 +16,7 @@ pub enum SourceElement<S> {
 }
 
 impl<S: Source> SourceElement<S> {
-    ghost use Rattle.el_src.specs.Gave.{items_after, is_ended, has_eos, ended_at};
+    ghost use Rattle.el_src.specs.Gave.{items_after, is_ended, ended_at};
     ghost use Rattle.el_src.specs.Short.{StopsShort};
     ghost use Rattle.el_set.specs.Failures.{NeverFalls};
     ghost use Rattle.el_set.specs.Gives.{SourceGave, SourceAfter, SourceCause, source_items, source_file, source_faults, source_location, source_content};
@@ -28,7 +28,7 @@ impl<S: Source> SourceElement<S> {
         ensures gave { IfOk result (λ n. (owed : List ℕ → List PadItem) (given : List PadItem) → SourceGave S.content self.old owed given
             → SourceAfter S.content self.new owed given n) }
         ensures ended { IfOk result (λ n. (owed : List ℕ → List PadItem) (given : List PadItem) → SourceGave S.content self.old owed given
-            → is_ended n ≡ has_eos given) }
+            → is_ended n ≡ eos_among given) }
         ensures kept { OnErr result ((owed : List ℕ → List PadItem) (given : List PadItem) → SourceGave S.content self.old owed given
             → SourceGave S.content self.new owed given) }
         ensures counted { source_items self.new ≡ items_after result (source_items self.old) }

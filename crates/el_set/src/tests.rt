@@ -1,15 +1,42 @@
-//! Rows of properties and of whole lists.
+//! Rows of whole lists.
 ghost use Rattle.std.specs.Prelude.{◌≡◌, IfOk};
-ghost use Rattle.el_set.specs.Asked.{title_of};
+ghost use Rattle.el_settings.specs.Asked.{title_of};
 
 use super::*;
-use el_law::LawKind;
-use el_src::{Next, Ramp};
-use gst_caps::{Caps, Fixed, List, Prop, Text};
-use gst_item::{Body, Buffer, ElementFault, Event, Flow, Item, Outs};
+use el_settings::{CapsFilterSettings, PropFault, Settings, check};
+use el_src::Next;
+use flow_model::{ElementFault, StreamKind};
+use gst_caps::Caps;
+use gst_item::{Flow, Item, Outs};
 use gst_outside::{MemSink, MemSource, Sink, Source};
+use gst_value::{List, Prop, Text};
+use item_letters::{
+    is_flush, item_of, letter_of, letter_of_caps, letter_of_flow, letter_of_place, letters_of,
+};
 use std::alloc::Global;
 use std::test::Fail;
+
+/// The letter of an answer, and for caps that are not wanted that of those that were offered, or `0` for none. A split
+/// frame is its place.
+fn letter_of_answer(answer: &Result<Flow, ElementFault>) -> u8 {
+    match answer {
+        Ok(flow) => letter_of_flow(*flow),
+        Err(ElementFault::NotNegotiated { offered: None, .. }) => b'0',
+        Err(
+            ElementFault::NotNegotiated {
+                offered: Some(caps),
+                ..
+            },
+        ) => letter_of_caps(caps),
+        Err(
+            ElementFault::BadStream {
+                place,
+                kind: StreamKind::SplitFrame,
+            },
+        ) => letter_of_place(*place),
+        Err(_) => b'!',
+    }
+}
 
 /// A property from a word such as `blocksize=16`.
 fn prop_of(alloc: Global, word: &str) -> Result<Prop, Fail> {
@@ -32,332 +59,11 @@ fn checked(alloc: Global, words: &str) -> Result<Result<Settings, PropFault>, Fa
     Ok(check(alloc, kind, &props))
 }
 
-fn shown(alloc: Global, settings: &Settings) -> Result<String, Fail> {
-    match settings {
-        Settings::FileSrc(s) => {
-            Ok(format!(in alloc; "filesrc {} {}", s.location.as_str(), s.blocksize)?)
-        }
-        Settings::RampTestSrc(s) => shown_ramp(alloc, &s.ramp),
-        Settings::Identity => Ok(String::from_str(alloc, "identity")?),
-        Settings::CapsFilter(s) => {
-            let caps = caps_text::print(alloc, &s.caps)?;
-            Ok(format!(in alloc; "capsfilter {}", caps.as_str())?)
-        }
-        Settings::Queue(s) => Ok(format!(in alloc; "queue {} {} {}", s.buffers, s.bytes, s.time)?),
-        Settings::AudioConvert(s) => {
-            let caps = caps_text::print(alloc, &s.allowed)?;
-            Ok(format!(in alloc; "audioconvert {}", caps.as_str())?)
-        }
-        Settings::Law(kind) => Ok(String::from_str(alloc, law_of(*kind))?),
-        Settings::RawAudioParse(info) => {
-            Ok(format!(in alloc; "{} {} {}", info.format.name(), info.rate, info.channels)?)
-        }
-        Settings::AudioBufferSplit(s) => Ok(format!(in alloc; "audiobuffersplit {}", s.frames)?),
-        Settings::WavParse => Ok(String::from_str(alloc, "wavparse")?),
-        Settings::WavEnc => Ok(String::from_str(alloc, "wavenc")?),
-        Settings::FileSink(s) => {
-            Ok(format!(in alloc; "filesink {} {}", s.location.as_str(), s.keep_flushed)?)
-        }
-        Settings::FakeSink => Ok(String::from_str(alloc, "fakesink")?),
-    }
-}
-
-fn shown_ramp(alloc: Global, ramp: &Ramp) -> Result<String, Fail> {
-    let title = match &ramp.title {
-        Some(title) => title.as_str(),
-        None => "none",
-    };
-    let size = format!(in alloc; "{} {} {}", ramp.buffers, ramp.samples, ramp.rate)?;
-    Ok(format!(in alloc;
-        "ramp {} {} {} {}",
-        size.as_str(),
-        ramp.channels,
-        ramp.gap_every,
-        title
-    )?)
-}
-
-fn law_of(kind: LawKind) -> &'static str {
-    match kind {
-        LawKind::MulawEnc => "mulawenc",
-        LawKind::AlawEnc => "alawenc",
-        LawKind::MulawDec => "mulawdec",
-        LawKind::AlawDec => "alawdec",
-    }
-}
-
-fn answer_of(alloc: Global, words: &str) -> Result<String, Fail> {
-    match checked(alloc, words)? {
-        Ok(settings) => shown(alloc, &settings.copy(alloc)?),
-        Err(PropFault::NoSuchKind) => Ok(String::from_str(alloc, "NoSuchKind")?),
-        Err(PropFault::NoSuchProperty { name }) => {
-            Ok(format!(in alloc; "NoSuchProperty {}", name.as_str())?)
-        }
-        Err(PropFault::BadValue { name }) => Ok(format!(in alloc; "BadValue {}", name.as_str())?),
-        Err(PropFault::OutOfMemory) => Ok(String::from_str(alloc, "OutOfMemory")?),
-    }
-}
-
-#[test]
-fn rows_of_properties(rt: HostRuntime) -> Result<(), Fail> {
-    let alloc = rt.alloc();
-    let rows = "filesrc location=a: filesrc a 4096
-filesrc location=a blocksize=16 name=f: filesrc a 16
-filesrc location=a blocksize=0: BadValue blocksize
-filesrc blocksize=1048576 location=a: filesrc a 1048576
-filesrc blocksize=1048577 location=a: BadValue blocksize
-filesrc blocksize=00000000000000000016 location=a: filesrc a 16
-filesrc blocksize=000000000000000000016 location=a: BadValue blocksize
-filesrc blocksize=+5 location=a: BadValue blocksize
-filesrc blocksize= location=a: BadValue blocksize
-filesrc: BadValue location
-filesrc blocksize=x: BadValue blocksize
-filesrc size=1 blocksize=x: NoSuchProperty size
-filesrc location=a location=b: filesrc b 4096
-filesrc blocksize=x blocksize=5 location=a: BadValue blocksize
-filesrc location=: filesrc  4096
-identity name=i-1_B: identity
-identity name=a.b: BadValue name
-identity name=: BadValue name
-identity silent=true: NoSuchProperty silent
-capsfilter: capsfilter ANY
-capsfilter caps=EMPTY caps=audio/x-raw,rate=8000: capsfilter audio/x-raw, rate=(int)8000
-capsfilter caps=audio: BadValue caps
-queue: queue 200 10485760 1000000000
-queue max-size-buffers=4294967295 max-size-bytes=0 max-size-time=9223372036854775807 leaky=no: queue 4294967295 0 9223372036854775807
-queue max-size-buffers=4294967296: BadValue max-size-buffers
-queue max-size-bytes=4294967296: BadValue max-size-bytes
-queue max-size-time=9223372036854775808: BadValue max-size-time
-queue leaky=0: queue 200 10485760 1000000000
-queue leaky=upstream: BadValue leaky
-queue leaky=false: BadValue leaky
-filesink location=a: filesink a false
-filesink location=a keep-flushed=yes sync=0: filesink a true
-filesink location=a keep-flushed=true keep-flushed=no: filesink a false
-filesink location=a keep-flushed=2: BadValue keep-flushed
-filesink sync=true location=a: BadValue sync
-filesink keep-flushed=1: BadValue location
-fakesink sync=no: fakesink
-fakesink location=a: NoSuchProperty location
-ramptestsrc: ramp 16 1024 44100 1 0 none
-ramptestsrc num-buffers=1000000 samplesperbuffer=65536 rate=768000 channels=64 gap-every=1000000 title=t: ramp 1000000 65536 768000 64 1000000 t
-ramptestsrc num-buffers=0 samplesperbuffer=1 rate=1 title= name=r: ramp 0 1 1 1 0 
-ramptestsrc num-buffers=1000001: BadValue num-buffers
-ramptestsrc samplesperbuffer=0: BadValue samplesperbuffer
-ramptestsrc samplesperbuffer=65537: BadValue samplesperbuffer
-ramptestsrc rate=768001: BadValue rate
-ramptestsrc rate=0: BadValue rate
-ramptestsrc channels=65: BadValue channels
-ramptestsrc gap-every=1000001: BadValue gap-every
-ramptestsrc num-buffers=140738 samplesperbuffer=65536 rate=1: BadValue num-buffers
-ramptestsrc num-buffers=140737 samplesperbuffer=65536 rate=1: ramp 140737 65536 1 1 0 none
-ramptestsrc num-buffers=140738 samplesperbuffer=65536 rate=1 channels=0: BadValue channels
-ramptestsrc location=a: NoSuchProperty location
-audioconvert: audioconvert ANY
-audioconvert channels=1: NoSuchProperty channels
-mulawenc: mulawenc
-alawenc name=a: alawenc
-mulawdec: mulawdec
-alawdec: alawdec
-alawdec rate=8000: NoSuchProperty rate
-rawaudioparse: S16LE 44100 2
-rawaudioparse pcm-format=s8 sample-rate=768000 num-channels=64: S8 768000 64
-rawaudioparse pcm-format=s24le pcm-format=s32le: S32LE 44100 2
-rawaudioparse pcm-format=S16LE: BadValue pcm-format
-rawaudioparse pcm-format=f32le: BadValue pcm-format
-rawaudioparse sample-rate=0: BadValue sample-rate
-rawaudioparse num-channels=65: BadValue num-channels
-audiobuffersplit: audiobuffersplit 1024
-audiobuffersplit frames=1000000: audiobuffersplit 1000000
-audiobuffersplit frames=0: BadValue frames
-audiobuffersplit frames=1000001: BadValue frames
-wavparse: wavparse
-wavparse location=a: NoSuchProperty location
-wavenc: wavenc
-nosuch location=a: NoSuchKind";
-    for row in rows.lines() {
-        let (words, wanted) = row.split_once(": ").unwrap_or((row, ""));
-        assert_eq!(rt; answer_of(alloc, words)?.as_str(), wanted);
-    }
-    Ok(())
-}
-
-/// The pads of an element, and what may be done to it: the numbers of its pads, and letters for source, sink, queue,
-/// replaced, settable caps, location, title and allowed caps.
-fn asked(alloc: Global, settings: &Settings) -> Result<String, Fail> {
-    let mut text = format!(in alloc; "{}{}", settings.sink_pads(), settings.source_pads())?;
-    let answers = [
-        (settings.is_source(), 's'),
-        (settings.is_sink(), 'k'),
-        (settings.is_queue(), 'q'),
-        (settings.may_be_replaced(), 'r'),
-        (settings.is_settable("caps"), 'c'),
-        (settings.location().is_some(), 'l'),
-        (settings.title().is_some(), 't'),
-        (settings.is_converter(), 'a'),
-    ];
-    for (answer, letter) in answers {
-        if answer {
-            text.push(letter)?;
-        }
-    }
-    Ok(text)
-}
-
-#[test]
-fn rows_of_questions(rt: HostRuntime) -> Result<(), Fail> {
-    let alloc = rt.alloc();
-    let rows = "filesrc location=a: 01sl
-ramptestsrc title=t: 01st
-identity: 11r
-audioconvert: 11ra
-mulawenc: 11r
-rawaudioparse: 11r
-audiobuffersplit: 11r
-wavparse: 11r
-wavenc: 11r
-capsfilter: 11rc
-queue: 11q
-filesink location=a: 10kl
-fakesink: 10k";
-    for row in rows.lines() {
-        let (words, wanted) = row.split_once(": ").unwrap_or((row, ""));
-        if let Ok(settings) = checked(alloc, words)? {
-            assert_eq!(rt; asked(alloc, &settings)?.as_str(), wanted);
-        }
-    }
-    Ok(())
-}
-
-#[test]
-fn a_template_is_the_filter(rt: HostRuntime) -> Result<(), Fail> {
-    let alloc = rt.alloc();
-    let settings = Settings::CapsFilter(CapsFilterSettings {
-        caps: caps_text::parse(alloc, "audio/x-raw")?,
-    });
-    let filter = template(alloc, &settings, true, 0)?;
-    assert_eq!(rt; caps_text::print(alloc, &filter)?.as_str(), "audio/x-raw");
-    assert!(rt; matches!(template(alloc, &Settings::Identity, false, 0)?, Caps::Any));
-    Ok(())
-}
-
-/// The text of a template.
-fn template_text(alloc: Global, words: &str, sink: bool) -> Result<String, Fail> {
-    let Ok(settings) = checked(alloc, words)? else {
-        return Ok(String::new(alloc));
-    };
-    let pads = if sink {
-        settings.sink_pads()
-    } else {
-        settings.source_pads()
-    };
-    if pads == 0 {
-        return Ok(String::new(alloc));
-    }
-    let caps = template(alloc, &settings, sink, 0)?;
-    let text = caps_text::print(alloc, &caps)?;
-    Ok(String::from_str(alloc, text.as_str())?)
-}
-
-/// Raw audio of a format, or of a list of them.
-fn raw_text(alloc: Global, formats: &str) -> Result<String, Fail> {
-    Ok(format!(in alloc;
-        "audio/x-raw, channels=(int)[ 1, 64 ], format=(string){}, layout=(string)interleaved, rate=(int)[ 1, 768000 ]",
-        formats
-    )?)
-}
-
-/// The templates that a row names: `r` raw audio, `s` samples of 16 bits, `m` and `a` the laws, `w` a WAV file, `i`
-/// what one is read as, `o` what one is written of, and `*` all caps.
-fn named(alloc: Global, letter: &str) -> Result<String, Fail> {
-    let laws =
-        "audio/x-mulaw, channels=(int)[ 1, 64 ], rate=(int)[ 1, 768000 ]; audio/x-alaw, channels=(int)[ 1, 64 ], rate=(int)[ 1, 768000 ]";
-    let (mulaw, alaw) = laws.split_once("; ").unwrap_or(("", ""));
-    match letter {
-        "r" => raw_text(alloc, "{ S8, U8, S16LE, S16BE, S24LE, S32LE }"),
-        "s" => raw_text(alloc, "S16LE"),
-        "m" => Ok(String::from_str(alloc, mulaw)?),
-        "a" => Ok(String::from_str(alloc, alaw)?),
-        "w" => Ok(String::from_str(alloc, "audio/x-wav")?),
-        "i" => {
-            let raw = raw_text(alloc, "{ S8, U8, S16LE, S16BE, S24LE, S32LE }")?;
-            Ok(format!(in alloc; "{}; {}", raw.as_str(), laws)?)
-        }
-        "o" => {
-            let raw = raw_text(alloc, "{ U8, S16LE, S24LE, S32LE }")?;
-            Ok(format!(in alloc; "{}; {}", raw.as_str(), laws)?)
-        }
-        "*" => Ok(String::from_str(alloc, "ANY")?),
-        _ => Ok(String::new(alloc)),
-    }
-}
-
-#[test]
-fn rows_of_templates(rt: HostRuntime) -> Result<(), Fail> {
-    let alloc = rt.alloc();
-    let rows = "filesrc location=a:-:*
-ramptestsrc:-:s
-identity:*:*
-queue:*:*
-audioconvert:r:r
-mulawenc:s:m
-alawenc:s:a
-mulawdec:m:s
-alawdec:a:s
-rawaudioparse:*:r
-audiobuffersplit:r:r
-wavparse:*:i
-wavenc:o:w
-fakesink:*:-";
-    for row in rows.lines() {
-        let (words, pads) = row.split_once(":").unwrap_or((row, ""));
-        let (sink, source) = pads.split_once(":").unwrap_or((pads, ""));
-        assert_eq!(rt;
-            template_text(alloc, words, true)?.as_str(),
-            named(alloc, sink)?.as_str()
-        );
-        assert_eq!(rt;
-            template_text(alloc, words, false)?.as_str(),
-            named(alloc, source)?.as_str()
-        );
-    }
-    Ok(())
-}
-
-/// The item of a letter: STREAM_START, CAPS, a buffer, FLUSH_STOP or EOS.
-fn item_of(alloc: Global, letter: char) -> Result<Item, Fail> {
-    match letter {
-        'S' => Ok(Item::Event(Event::StreamStart { id: 1 })),
-        'C' => Ok(Item::Event(Event::Caps(Fixed::new(alloc, "audio/x-raw")?))),
-        'M' => Ok(Item::Event(Event::Caps(Fixed::new(alloc, "audio/x-mulaw")?))),
-        'F' => Ok(Item::Event(Event::FlushStop { number: 1 })),
-        'E' => Ok(Item::Event(Event::Eos)),
-        _ => Ok(Item::Buffer(Buffer {
-            body: Body::from_vec(alloc, Vec::new(alloc))?,
-            pts: None,
-            duration: None,
-            offset: None,
-            discont: false,
-        })),
-    }
-}
-
-fn letter_of(item: &Item) -> char {
-    match item {
-        Item::Event(Event::StreamStart { .. }) => 'S',
-        Item::Event(Event::Caps(_)) => 'C',
-        Item::Event(Event::FlushStop { .. }) => 'F',
-        Item::Event(Event::Eos) => 'E',
-        Item::Event(_) => '?',
-        Item::Buffer(_) => 'B',
-    }
-}
-
 /// The letters of items.
-fn letters_of(alloc: Global, items: &[Item]) -> Result<String, Fail> {
+fn text_of(alloc: Global, items: &[Item]) -> Result<String, Fail> {
     let mut text = String::new(alloc);
     for item in items {
-        text.push(letter_of(item))?;
+        text.push(char::from(letter_of(item)))?;
     }
     Ok(text)
 }
@@ -365,7 +71,7 @@ fn letters_of(alloc: Global, items: &[Item]) -> Result<String, Fail> {
 /// The letters of the first list.
 fn first_letters(alloc: Global, lists: &List<List<Item>>) -> Result<String, Fail> {
     match lists.as_slice().first() {
-        Some(items) => letters_of(alloc, items.as_slice()),
+        Some(items) => text_of(alloc, items.as_slice()),
         None => Ok(String::from_str(alloc, "none")?),
     }
 }
@@ -373,7 +79,7 @@ fn first_letters(alloc: Global, lists: &List<List<Item>>) -> Result<String, Fail
 /// The items of letters.
 fn items_of(alloc: Global, letters: &str) -> Result<List<Item>, Fail> {
     let mut items = List::new(alloc);
-    for letter in letters.chars() {
+    for letter in letters.bytes() {
         items.push(alloc, item_of(alloc, letter)?)?;
     }
     Ok(items)
@@ -388,50 +94,15 @@ fn owed(alloc: Global, settings: &Settings, letters: &str) -> Result<String, Fai
     inputs.push(alloc, items_of(alloc, letters)?)?;
     match denote(alloc, settings, 1, &Caps::Any, &inputs) {
         Ok(outputs) => first_letters(alloc, &outputs),
-        Err(
-            ElementFault::NotNegotiated {
-                offered: Some(_),
-                ..
-            },
-        ) => Ok(String::from_str(alloc, "x")?),
-        Err(ElementFault::NotNegotiated { offered: None, .. }) => {
-            Ok(String::from_str(alloc, "n")?)
+        Err(fault) => {
+            let mut text = String::new(alloc);
+            text.push(char::from(letter_of_answer(&Err(fault))))?;
+            Ok(text)
         }
-        Err(_) => Ok(String::from_str(alloc, "?")?),
     }
 }
 
-/// What is given, and what is owed: for a filter of audio/x-raw, and for an identity. A fault is `x` where caps were
-/// offered, and `n` where none were.
-#[test]
-fn rows_of_whole_lists(rt: HostRuntime) -> Result<(), Fail> {
-    let alloc = rt.alloc();
-    let filter = Settings::CapsFilter(CapsFilterSettings {
-        caps: caps_text::parse(alloc, "audio/x-raw")?,
-    });
-    let rows = "SCBE SCBE SCBE
-SCBEBSFB SCBEFB SCBEFB
-SB n SB
-SCBM x SCBC
-SEB SE SE
-SFCB SFCB SFCB";
-    for row in rows.lines() {
-        let mut parts = row.split(' ');
-        let given = parts.next().unwrap_or("");
-        assert_eq!(rt;
-            owed(alloc, &filter, given)?.as_str(),
-            parts.next().unwrap_or("")
-        );
-        assert_eq!(rt;
-            owed(alloc, &Settings::Identity, given)?.as_str(),
-            parts.next().unwrap_or("")
-        );
-    }
-    Ok(())
-}
-
-/// What an element puts out for letters. A FLUSH_STOP flushes it, `D` drains it, `.` is an item that it answers with
-/// EOS, and `x` a fault.
+/// What an element puts out for letters, each behind its answer. A FLUSH_STOP flushes it, and `d` drains it.
 fn fed(alloc: Global, settings: &Settings, letters: &str) -> Result<String, Fail> {
     match filter_of(alloc, settings)? {
         Some(element) => {
@@ -444,18 +115,18 @@ fn fed(alloc: Global, settings: &Settings, letters: &str) -> Result<String, Fail
 
 fn fed_to(alloc: Global, element: &mut FilterElement, letters: &str) -> Result<String, Fail> {
     let mut text = String::new(alloc);
-    for letter in letters.chars() {
+    for letter in letters.bytes() {
         text.push_str(fed_one(alloc, element, letter)?.as_str())?;
     }
     Ok(text)
 }
 
-fn fed_one(alloc: Global, element: &mut FilterElement, letter: char) -> Result<String, Fail> {
+fn fed_one(alloc: Global, element: &mut FilterElement, letter: u8) -> Result<String, Fail> {
     let mut text = String::new(alloc);
     let mut out = List::new(alloc);
-    text.push(answer_to(alloc, element, letter, &mut out)?)?;
-    for one in out.as_slice() {
-        text.push(letter_of(&one.item))?;
+    text.push(char::from(answer_to(alloc, element, letter, &mut out)?))?;
+    for letter in letters_of(alloc, &out)?.as_slice() {
+        text.push(char::from(*letter))?;
     }
     Ok(text)
 }
@@ -463,49 +134,61 @@ fn fed_one(alloc: Global, element: &mut FilterElement, letter: char) -> Result<S
 fn answer_to(
     alloc: Global,
     element: &mut FilterElement,
-    letter: char,
+    letter: u8,
     out: &mut Outs,
-) -> Result<char, Fail> {
-    if letter == 'D' {
+) -> Result<u8, Fail> {
+    if letter == b'd' {
         return Ok(if element.drain(alloc, out).is_err() {
-            'x'
+            b'!'
         } else {
-            '-'
+            b'-'
         });
     }
     let item = item_of(alloc, letter)?;
-    if matches!(item, Item::Event(Event::FlushStop { .. })) {
+    if is_flush(&item) {
         element.flush();
-        return Ok('f');
+        return Ok(b'f');
     }
-    match element.feed(alloc, 0, item, out) {
-        Ok(Flow::Ok) => Ok('-'),
-        Ok(_) => Ok('.'),
-        Err(_) => Ok('x'),
+    let answer = element.feed(alloc, 0, item, out);
+    Ok(letter_of_answer(&answer))
+}
+
+/// What is owed for letters as a whole, or what an element answers and puts out for them one by one.
+fn told(alloc: Global, way: &str, settings: &Settings, letters: &str) -> Result<String, Fail> {
+    if way == "owed" {
+        owed(alloc, settings, letters)
+    } else {
+        fed(alloc, settings, letters)
     }
 }
 
-/// What is given, and the answers with what is put out: for a filter of audio/x-raw, and for an identity.
+/// The way in which it is told, what is given, and what is told: for a filter of audio/x-raw, and for an identity. A
+/// fault is the letter of the caps that were offered, or `0` where none were.
 #[test]
-fn rows_of_elements(rt: HostRuntime) -> Result<(), Fail> {
+fn rows_of_lists(rt: HostRuntime) -> Result<(), Fail> {
     let alloc = rt.alloc();
     let filter = Settings::CapsFilter(CapsFilterSettings {
         caps: caps_text::parse(alloc, "audio/x-raw")?,
     });
-    let rows = "SCBE -S-C-B-E -S-C-B-E
-EBDFB -E.-fx -E.-f-B
-SBCBM -Sx-C-Bx -S-B-C-B-C";
+    let rows = "owed srBe srBe srBe
+owed srBeBsfB srBefB srBefB
+owed sB 0 sB
+owed srBm m srBm
+owed seB se se
+owed sfrB sfrB sfrB
+fed srBe +s+r+B+e +s+r+B+e
+fed eBdfB +e.-f0 +e.-f+B
+fed sBrBm +s0+r+Bm +s+B+r+B+m";
     for row in rows.lines() {
         let mut parts = row.split(' ');
+        let way = parts.next().unwrap_or("");
         let given = parts.next().unwrap_or("");
-        assert_eq!(rt;
-            fed(alloc, &filter, given)?.as_str(),
-            parts.next().unwrap_or("")
-        );
-        assert_eq!(rt;
-            fed(alloc, &Settings::Identity, given)?.as_str(),
-            parts.next().unwrap_or("")
-        );
+        for settings in [&filter, &Settings::Identity] {
+            assert_eq!(rt;
+                told(alloc, way, settings, given)?.as_str(),
+                parts.next().unwrap_or("")
+            );
+        }
     }
     Ok(())
 }

@@ -1,7 +1,5 @@
 -- A file behind a body, behind an item, and behind a list.
-use Rattle.std.proofs.Common.{◌≡◌, ℕ, Bool, true, false, if◌then◌else◌, List, [], ◌∷◌, ◌++◌, fold, refl, ap, sym, ◌∙◌, Option, None, Some, option_map, Result, Ok, Err, IfOk}
-use Rattle.std.specs.Option.{ForSome}
-use Rattle.std.proofs.lemmas.List.Sums.{fold_push}
+use Rattle.std.proofs.Common.{◌≡◌, ℕ, Bool, true, false, if◌then◌else◌, List, [], ◌∷◌, fold, refl, ap, ◌∙◌, Option, Result, Ok, Err, IfOk}
 use Rattle.gst_time.specs.declared.segment.Segment.{Segment}
 use Rattle.flow_model.specs.Item.{Item, Buf, Ev, StreamStart, NewCaps, NewSegment, Tag, Gap, FlushStop, Eos, Format, Bytes, Time}
 use Rattle.flow_model.specs.SinkBytes.{Disk, empty_disk, at_segment, rendered, reopened, next_disk, disk_after}
@@ -9,26 +7,6 @@ use Rattle.gst_item.specs.declared.flow.Flow.{Flow}
 use Rattle.el_sink.specs.declared.file_sink.FileSink.{FileSink}
 use Rattle.el_sink.specs.Ended.{next_ended, has_ended, flow_for, flow_behind}
 use Rattle.el_sink.specs.Held.{Held}
-
--- told bytes behind a change of them
-pub told_map : (was is : Option (List ℕ)) (change : List ℕ → List ℕ) (bytes : List ℕ) → is ≡ option_map change was → ForSome was (λ b. b ≡ bytes) → ForSome is (λ b. b ≡ change bytes)
-told_map None is change bytes e told = λ b told_now. absurd (cc)
-told_map (Some b) is change bytes e told = λ now told_now.
-    let same : Some now ≡ Some (change b) = sym told_now ∙ e in
-    let value : now ≡ change b = cc in
-    value ∙ ap change (told b refl)
-
--- an open of a location for writing gives an empty file
-pub fresh_empty : (was is : Option (List ℕ)) → is ≡ option_map (λ _. []) was → ForSome is (λ b. b ≡ [])
-fresh_empty None is e = λ b told. absurd (cc)
-fresh_empty (Some old) is e = λ b told.
-    let same : Some b ≡ Some [] = sym told ∙ e in
-    let value : b ≡ [] = cc in
-    value
-
--- one more item
-pub disk_push : (keep : Bool) (list : List Item) (x : Item) → disk_after keep (list ++ x ∷ []) ≡ next_disk keep (disk_after keep list) x
-disk_push keep list x = fold_push (next_disk keep) empty_disk list x
 
 -- the sink knows whether its stream has ended as the list does
 chosen : (b : Bool) (d r : Disk) (v : Bool) → d.ended ≡ b → (b ≡ false → r.ended ≡ v) → (if b then d else r).ended ≡ (if b then true else v)

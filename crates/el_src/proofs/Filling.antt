@@ -1,7 +1,7 @@
 -- What the loop that fills a slice from a source keeps.
 use Rattle.std.proofs.Common.{◌≡◌, ℕ, ◌+◌, ◌-◌, ◌≤◌, List, ◌++◌, length, take, drop, ap, sym, ◌∙◌, arith, Option, Some, length-append, length-take, length-drop}
 use Rattle.std.specs.Option.{ForSome}
-use Rattle.std.proofs.lemmas.List.{take_all, drop-drop, take-take, drop-take, take-append-drop, take-append-le, take_at, drop_at}
+use Rattle.std.proofs.lemmas.List.{drop-drop, take-take, drop-take, take-append-drop, take-append-le, take_at, drop_at}
 use borrow.Rule.Slice.PartMut.{put_mid, post_of}
 
 -- what stands in front of a slice, once a number of bytes were read from a place of a told content on
@@ -30,12 +30,6 @@ front_more c xs ys place got more fits room front back =
     ∙ ap (λ part. take got xs ++ part) (take-append-le more ys (post_of got (length xs - got) xs) room ∙ back ∙ ap (take more) (sym (drop-drop got place c)))
     ∙ ap (λ part. part ++ take more (drop got (drop place c))) front
     ∙ sym (take_apart got more (drop place c))
-
--- once the content ends, all of it was read
-pub front_whole : (c xs : List ℕ) (place got size : ℕ) → got ≤ size → length c ≤ place + got → take got xs ≡ take got (drop place c) → take got xs ≡ take size (drop place c)
-front_whole c xs place got size fits ends front =
-    let short : length (drop place c) ≤ got = omega (arith, length-drop place c) in
-    front ∙ take_all got (drop place c) short ∙ sym (take_all size (drop place c) (omega arith))
 
 -- a further read behind what was read
 pub filled_more : (content now : Option (List ℕ)) (place got more : ℕ) (xs ys : List ℕ) → now ≡ content → Filled content place got xs → got ≤ length xs → more ≤ length ys

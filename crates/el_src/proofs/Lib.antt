@@ -2,7 +2,6 @@ mod Answering
 pub mod Blocks
 mod Counting
 pub mod Filling
-pub mod Giving
 pub mod Ramping
 mod Samples
 mod Shortening

@@ -1,7 +1,7 @@
 -- For which lists a file source stands: what is owed, as it goes by the content of the file, and what was given
 -- of it since the start or the last seek.
-use Rattle.std.specs.Prelude.{◌≡◌, ℕ, ◌+◌, Bool, true, false, ◌||◌, if◌then◌else◌, Option, Some, Result, Ok, Err, List, [], ◌∷◌, ◌++◌, length, take, fold}
-use Rattle.flow_model.specs.Item.{Item, Ev, StreamStart, Eos, is_eos}
+use Rattle.std.specs.Prelude.{◌≡◌, ℕ, ◌+◌, Bool, true, false, if◌then◌else◌, Option, Some, Result, Ok, Err, List, [], ◌∷◌, ◌++◌, length, take}
+use Rattle.flow_model.specs.Item.{Item, Ev, StreamStart, Eos, eos_among}
 use Rattle.flow_model.specs.Source.{file_section, blocks_from}
 use Rattle.el_src.specs.declared.answer.Next.{Next}
 use Rattle.el_src.specs.declared.answer.Next.TheVariants.{Item as Given, Ended}
@@ -30,14 +30,10 @@ abbrev pub is_over : Phase → Bool
 is_over Over = true
 is_over _ = false
 
--- whether EOS was given
-abbrev pub has_eos : List Item → Bool
-has_eos given = fold (λ eos x. eos || is_eos x) false given
-
 -- what was given and what is still to come are what is owed
 pub record Gave {S : Type 0} (content_of : S → Option (List ℕ)) (file : FileSrc S) (owed : List ℕ → List Item) (given : List Item) : Type 0 where
   pub count : file.items ≡ length given
-  pub eos : is_over file.phase ≡ has_eos given
+  pub eos : is_over file.phase ≡ eos_among given
   pub told : (content : List ℕ) → content_of file.source ≡ Some content
       → given ++ still_to_come file.phase file.id file.blocksize file.place content ≡ owed content
 
@@ -62,4 +58,4 @@ items_after (Err fault) n = n
 
 -- what is owed where the source is asked to end: the items that were given, and EOS; nothing changes behind EOS
 abbrev pub ended_at : List Item → (List ℕ → List Item) → List ℕ → List Item
-ended_at given owed content = if has_eos given then owed content else (take (length given) (owed content) ++ Ev Eos ∷ [])
+ended_at given owed content = if eos_among given then owed content else (take (length given) (owed content) ++ Ev Eos ∷ [])

@@ -2,14 +2,13 @@
 use Rattle.std.specs.Prelude.{◌≡◌, ℕ, Bool, true, false, if◌then◌else◌, List, [], ◌∷◌, ◌++◌, length, take}
 use Rattle.audio_info.specs.Media.{caps_of}
 use Rattle.audio_info.specs.declared.sample.Sample.TheVariants.{S16LE}
-use Rattle.flow_model.specs.Item.{Item, Ev, StreamStart, NewCaps, NewSegment, Eos}
+use Rattle.flow_model.specs.Item.{Item, Ev, StreamStart, NewCaps, NewSegment, Eos, eos_among}
 use Rattle.el_src.specs.declared.answer.Next.{Next}
 use Rattle.el_src.specs.declared.answer.Next.TheVariants.{Item as Given, Ended}
 use Rattle.el_src.specs.declared.ramp_src.Ramp.{Ramp}
 use Rattle.el_src.specs.declared.ramp_src.RampSrc.{RampSrc}
 use Rattle.el_src.specs.declared.ramp_src.Phase.{Phase}
 use Rattle.el_src.specs.declared.ramp_src.Phase.TheVariants.{Start as AtStart, Caps as AtCaps, Segment as AtSegment, Tag as AtTag, Pieces as InPieces, Eos as AtEos, Ended as Over}
-use Rattle.el_src.specs.Gave.{has_eos}
 use Rattle.el_src.specs.Ramp.{frame_time, time_segment, title_tag, pieces_from}
 
 -- how many items were given since the start or the last seek
@@ -38,7 +37,7 @@ ramp_is_over _ = false
 -- what was given and what is still to come are what is owed
 pub record RampGave (ramp : RampSrc) (owed given : List Item) : Type 0 where
   pub count : ramp.items ≡ length given
-  pub eos : ramp_is_over ramp.phase ≡ has_eos given
+  pub eos : ramp_is_over ramp.phase ≡ eos_among given
   pub whole : given ++ ramp_to_come ramp.phase ramp.settings ramp.id ramp.start ramp.given ≡ owed
 
 -- all that is owed was given, EOS last
@@ -53,4 +52,4 @@ AfterRampNext ramp owed given Ended = RampGaveAll ramp owed given
 
 -- what is owed where the source is asked to end: the items that were given, and EOS; nothing changes behind EOS
 abbrev pub ramp_ended_at : List Item → List Item → List Item
-ramp_ended_at given owed = if has_eos given then owed else (take (length given) owed ++ Ev Eos ∷ [])
+ramp_ended_at given owed = if eos_among given then owed else (take (length given) owed ++ Ev Eos ∷ [])

@@ -2,7 +2,7 @@
 ghost use Rattle.std.specs.Prelude.{◌≡◌};
 ghost use Rattle.el_src.specs.declared.fault.SrcFault.TheVariants.{OutOfMemory as WantingFault};
 
-use gst_caps::OutOfMemory;
+use gst_value::OutOfMemory;
 use std::alloc::AllocError;
 use thiserror::Error;
 

@@ -39,10 +39,10 @@ pub struct FileSrc<S> {
 }
 
 impl<S: Source> FileSrc<S> {
-    ghost use Rattle.flow_model.specs.Item.{Item, is_eos};
+    ghost use Rattle.flow_model.specs.Item.{Item, is_eos, eos_among};
     ghost use Rattle.flow_model.specs.Source.{file_list};
     ghost use Rattle.el_src.specs.Cause.{IsSrcCause, IsSizeCause};
-    ghost use Rattle.el_src.specs.Gave.{Gave, AfterNext, source_of, items_given, items_after, is_ended, is_over, has_eos, still_to_come, ended_at};
+    ghost use Rattle.el_src.specs.Gave.{Gave, AfterNext, source_of, items_given, items_after, is_ended, is_over, still_to_come, ended_at};
     ghost use Rattle.el_src.specs.Short.{StopsShort};
     ghost use Rattle.el_src.specs.declared.fault.SrcFault.TheVariants.{OutOfMemory as Wanting};
     ghost use Rattle.el_src.specs.declared.file_src.Phase.TheVariants.{Blocks as InBlocks};
@@ -72,7 +72,7 @@ impl<S: Source> FileSrc<S> {
     pub fn next(&mut self, alloc: Global) -> Result<Next, SrcFault>
         requires few { items_given self.old < 2 ^ 41 }
         ensures gave { IfOk result (λ n. (owed : List ℕ → List Item) (h : List Item) → Gave S.content self.old owed h → AfterNext S.content self.new owed h n) }
-        ensures ended { IfOk result (λ n. (owed : List ℕ → List Item) (h : List Item) → Gave S.content self.old owed h → is_ended n ≡ has_eos h) }
+        ensures ended { IfOk result (λ n. (owed : List ℕ → List Item) (h : List Item) → Gave S.content self.old owed h → is_ended n ≡ eos_among h) }
         ensures kept { OnErr result ((owed : List ℕ → List Item) (h : List Item) → Gave S.content self.old owed h → Gave S.content self.new owed h) }
         ensures counted { items_given self.new ≡ items_after result (items_given self.old) }
         ensures cause { IfErr result (λ fault. IsSrcCause fault (S.faults (source_of self.old)) (S.faults (source_of self.new))) }
@@ -157,7 +157,7 @@ impl<S: Source> FileSrc<S> {
         requires few { self.old.items < 2 ^ 41 }
         requires blocks { self.old.phase ≡ InBlocks }
         ensures gave { IfOk result (λ n. (owed : List ℕ → List Item) (h : List Item) → Gave S.content self.old owed h → AfterNext S.content self.new owed h n) }
-        ensures ended { IfOk result (λ n. (owed : List ℕ → List Item) (h : List Item) → Gave S.content self.old owed h → is_ended n ≡ has_eos h) }
+        ensures ended { IfOk result (λ n. (owed : List ℕ → List Item) (h : List Item) → Gave S.content self.old owed h → is_ended n ≡ eos_among h) }
         ensures kept { OnErr result ((owed : List ℕ → List Item) (h : List Item) → Gave S.content self.old owed h → Gave S.content self.new owed h) }
         ensures counted { items_given self.new ≡ items_after result (items_given self.old) }
         ensures cause { IfErr result (λ fault. IsSrcCause fault (S.faults (source_of self.old)) (S.faults (source_of self.new))) }
@@ -180,7 +180,7 @@ impl<S: Source> FileSrc<S> {
         requires blocks { self.old.phase ≡ InBlocks }
         requires read { ForSome (S.content self.old.source) (λ c. bytes.items ≡ take self.old.blocksize (drop self.old.place c)) }
         ensures gave { IfOk result (λ n. (owed : List ℕ → List Item) (h : List Item) → Gave S.content self.old owed h → AfterNext S.content self.new owed h n) }
-        ensures ended { IfOk result (λ n. (owed : List ℕ → List Item) (h : List Item) → Gave S.content self.old owed h → is_ended n ≡ has_eos h) }
+        ensures ended { IfOk result (λ n. (owed : List ℕ → List Item) (h : List Item) → Gave S.content self.old owed h → is_ended n ≡ eos_among h) }
         ensures stays { OnErr result (self.new ≡ self.old) }
         ensures fault { IfErr result (λ fault. fault ≡ Wanting) }
         ensures counted { items_given self.new ≡ items_after result (items_given self.old) }
@@ -210,7 +210,7 @@ impl<S: Source> FileSrc<S> {
             → still_to_come self.old.phase self.old.id self.old.blocksize self.old.place c ≡ item ∷ still_to_come phase self.old.id self.old.blocksize place c }
         ensures ok { IsOk result }
         ensures gave { IfOk result (λ n. (owed : List ℕ → List Item) (h : List Item) → Gave S.content self.old owed h → AfterNext S.content self.new owed h n) }
-        ensures ended { IfOk result (λ n. (owed : List ℕ → List Item) (h : List Item) → Gave S.content self.old owed h → is_ended n ≡ has_eos h) }
+        ensures ended { IfOk result (λ n. (owed : List ℕ → List Item) (h : List Item) → Gave S.content self.old owed h → is_ended n ≡ eos_among h) }
         ensures counted { items_given self.new ≡ items_after result (items_given self.old) }
         ensures source_stays { source_of self.new ≡ source_of self.old }
     {

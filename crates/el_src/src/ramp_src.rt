@@ -6,9 +6,9 @@ use crate::answer::Next;
 use crate::fault::SrcFault;
 use crate::frames::frames_bytes;
 use audio_info::{Info, Sample};
-use gst_caps::{OutOfMemory, Text};
 use gst_item::{Body, Buffer, Event, Item};
 use gst_time::{Format, Segment, scale};
+use gst_value::{OutOfMemory, Text};
 use std::alloc::Global;
 
 /// Nanoseconds in a second.
@@ -69,9 +69,9 @@ pub struct RampSrc {
 }
 
 impl RampSrc {
-    ghost use Rattle.flow_model.specs.Item.{Item, Ev, Eos, is_eos};
+    ghost use Rattle.flow_model.specs.Item.{Item, Ev, Eos, is_eos, eos_among};
     ghost use Rattle.el_src.specs.declared.fault.SrcFault.TheVariants.{OutOfMemory as Wanting};
-    ghost use Rattle.el_src.specs.Gave.{items_after, is_ended, has_eos};
+    ghost use Rattle.el_src.specs.Gave.{items_after, is_ended};
     ghost use Rattle.el_src.specs.Ramp.{ramp_list, frame_count, frame_time, is_gap, piece, pieces_from};
     ghost use Rattle.el_src.specs.declared.ramp_src.Phase.TheVariants.{Tag as AtTag};
     ghost use Rattle.el_src.specs.RampGave.{RampGave, AfterRampNext, ramp_items, ramp_is_over, ramp_to_come, ramp_ended_at};
@@ -107,7 +107,7 @@ impl RampSrc {
     pub fn next(&mut self, alloc: Global) -> Result<Next, SrcFault>
         requires few { ramp_items self.old < 2 ^ 41 }
         ensures gave { IfOk result (λ n. (owed h : List Item) → RampGave self.old owed h → AfterRampNext self.new owed h n) }
-        ensures ended { IfOk result (λ n. (owed h : List Item) → RampGave self.old owed h → is_ended n ≡ has_eos h) }
+        ensures ended { IfOk result (λ n. (owed h : List Item) → RampGave self.old owed h → is_ended n ≡ eos_among h) }
         ensures kept { OnErr result ((owed h : List Item) → RampGave self.old owed h → RampGave self.new owed h) }
         ensures counted { ramp_items self.new ≡ items_after result (ramp_items self.old) }
         ensures cause { IfErr result (λ fault. fault ≡ Wanting) }
@@ -199,7 +199,7 @@ impl RampSrc {
         requires running { ramp_is_over self.old.phase ≡ false }
         requires tag { self.old.phase ≡ AtTag }
         ensures gave { IfOk result (λ n. (owed h : List Item) → RampGave self.old owed h → AfterRampNext self.new owed h n) }
-        ensures ended { IfOk result (λ n. (owed h : List Item) → RampGave self.old owed h → is_ended n ≡ has_eos h) }
+        ensures ended { IfOk result (λ n. (owed h : List Item) → RampGave self.old owed h → is_ended n ≡ eos_among h) }
         ensures kept { OnErr result ((owed h : List Item) → RampGave self.old owed h → RampGave self.new owed h) }
         ensures counted { ramp_items self.new ≡ items_after result (ramp_items self.old) }
         ensures cause { IfErr result (λ fault. fault ≡ Wanting) }
@@ -218,7 +218,7 @@ impl RampSrc {
         requires pieces { ramp_to_come self.old.phase self.old.settings self.old.id self.old.start self.old.given
             ≡ pieces_from self.old.settings self.old.start self.old.given ++ Ev Eos ∷ [] }
         ensures gave { IfOk result (λ n. (owed h : List Item) → RampGave self.old owed h → AfterRampNext self.new owed h n) }
-        ensures ended { IfOk result (λ n. (owed h : List Item) → RampGave self.old owed h → is_ended n ≡ has_eos h) }
+        ensures ended { IfOk result (λ n. (owed h : List Item) → RampGave self.old owed h → is_ended n ≡ eos_among h) }
         ensures kept { OnErr result ((owed h : List Item) → RampGave self.old owed h → RampGave self.new owed h) }
         ensures counted { ramp_items self.new ≡ items_after result (ramp_items self.old) }
         ensures cause { IfErr result (λ fault. fault ≡ Wanting) }
@@ -263,7 +263,7 @@ impl RampSrc {
         requires due { ramp_to_come self.old.phase self.old.settings self.old.id self.old.start self.old.given
             ≡ Ev event ∷ ramp_to_come phase self.old.settings self.old.id self.old.start self.old.given }
         ensures gave { (owed h : List Item) → RampGave self.old owed h → AfterRampNext self.new owed h result }
-        ensures ended { (owed h : List Item) → RampGave self.old owed h → is_ended result ≡ has_eos h }
+        ensures ended { (owed h : List Item) → RampGave self.old owed h → is_ended result ≡ eos_among h }
         ensures counted { ramp_items self.new ≡ items_after (Ok result) (ramp_items self.old) }
     {
         self.give(Item::Event(event), self.given, phase)
@@ -278,7 +278,7 @@ impl RampSrc {
         requires due { ramp_to_come self.old.phase self.old.settings self.old.id self.old.start self.old.given
             ≡ item ∷ ramp_to_come phase self.old.settings self.old.id self.old.start given }
         ensures gave { (owed h : List Item) → RampGave self.old owed h → AfterRampNext self.new owed h result }
-        ensures ended { (owed h : List Item) → RampGave self.old owed h → is_ended result ≡ has_eos h }
+        ensures ended { (owed h : List Item) → RampGave self.old owed h → is_ended result ≡ eos_among h }
         ensures counted { ramp_items self.new ≡ items_after (Ok result) (ramp_items self.old) }
     {
         self.items += 1;

@@ -3,7 +3,7 @@ use Rattle.std.proofs.Common.{◌≡◌, ◌≤◌, ◌<◌, ◌+◌, ◌-◌, �
 use Rattle.std.proofs.lemmas.List.{get_or_append_left, take-append-le, drop-append-le, drop-drop, drop_at, length-drop}
 use Rattle.wav_format.specs.declared.format.SampleFormat.{SampleFormat}
 use Rattle.wav_format.specs.declared.head.Head.{Head}
-use Rattle.wav_format.specs.Chunks.{BeginsWithHead, EndsHead, IsPassed, Leads, Spot, begins, behind, body_at, body_size, chunk_length, first_chunk, longest_head}
+use Rattle.wav_format.specs.Chunks.{BeginsWithHead, EndsHead, IsPassed, Leads, Spot, begins, spot_behind, body_at, body_size, chunk_length, first_chunk, longest_head}
 use Rattle.wav_format.specs.Cuts.{ChunkCut, CutIn}
 use Rattle.wav_format.specs.Format.{format_of}
 
@@ -51,7 +51,7 @@ body_more left more long whole =
 same_format : (b b' : Bool) (body body' : List ℕ) (known known' : Option SampleFormat) → b ≡ b' → body ≡ body' → known ≡ known' → cond b (Some (format_of body)) known ≡ cond b' (Some (format_of body')) known'
 same_format b b' body body' known known' e f g = cc
 
-pub behind_goes_on : (limit : ℕ) (s t : Spot) (more : List ℕ) → IsPassed limit s → GoesOn s t more → GoesOn (behind s) (behind t) more
+pub behind_goes_on : (limit : ℕ) (s t : Spot) (more : List ℕ) → IsPassed limit s → GoesOn s t more → GoesOn (spot_behind s) (spot_behind t) more
 behind_goes_on limit s t more p g =
     let same = length_goes_on s t more g p.headed in
     record {
@@ -65,7 +65,7 @@ behind_goes_on limit s t more p g =
 
 pub no_earlier : (limit n : ℕ) (s t : Spot) → Leads limit n s t → s.at ≤ t.at
 no_earlier limit zero s t e = let same = ap (λ (x : Spot). x.at) e in omega (arith, same)
-no_earlier limit (suc n) s t (p, leads) = let on = no_earlier limit n (behind s) t leads in omega (arith, on)
+no_earlier limit (suc n) s t (p, leads) = let on = no_earlier limit n (spot_behind s) t leads in omega (arith, on)
 
 -- from a chunk in which the bytes end
 ends_behind_cut : (n : ℕ) (s t u : Spot) (more : List ℕ) (h : Head) (rest : List ℕ) → ChunkCut s → GoesOn s t more → Leads longest_head n t u → EndsHead h rest u → s.at + length s.left < h.start
@@ -76,13 +76,13 @@ ends_behind_cut zero s t u more h rest (inl cut) g e ends =
     omega (arith, start, at, short)
 ends_behind_cut zero s t u more h rest (inr cut) g e ends = absurd (other_goes_on s t more h rest g cut.headed.headed cut.headed.other (subst (EndsHead h rest) (sym e) ends))
 ends_behind_cut (suc n) s t u more h rest (inl cut) g (p, leads) ends =
-    let on = no_earlier longest_head n (behind t) u leads in
+    let on = no_earlier longest_head n (spot_behind t) u leads in
     let start = ends.start in
     let at = g.at in
     let short = cut.short in
     omega (arith, on, start, at, short)
 ends_behind_cut (suc n) s t u more h rest (inr cut) g (p, leads) ends =
-    let on = no_earlier longest_head n (behind t) u leads in
+    let on = no_earlier longest_head n (spot_behind t) u leads in
     let same = length_goes_on s t more g cut.headed.headed in
     let start = ends.start in
     let at = g.at in
@@ -94,7 +94,7 @@ ends_behind : (n m : ℕ) (s v t u : Spot) (more : List ℕ) (h : Head) (rest : 
 ends_behind zero m s v t u more h rest e cut g leads ends = ends_behind_cut m s t u more h rest (subst ChunkCut (sym e) cut) g leads ends
 ends_behind (suc n) zero s v t u more h rest (p, _) cut g e ends = absurd (other_goes_on s t more h rest g p.headed p.other (subst (EndsHead h rest) (sym e) ends))
 ends_behind (suc n) (suc m) s v t u more h rest (p, to_cut) cut g (_, leads) ends =
-    let on = ends_behind n m (behind s) v (behind t) u more h rest to_cut cut (behind_goes_on longest_head s t more p g) leads ends in
+    let on = ends_behind n m (spot_behind s) v (spot_behind t) u more h rest to_cut cut (behind_goes_on longest_head s t more p g) leads ends in
     let whole = p.whole in
     omega (arith, on, whole, length-drop (chunk_length s.left) s.left)
 

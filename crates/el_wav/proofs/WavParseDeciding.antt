@@ -6,7 +6,7 @@ use Rattle.std.proofs.lemmas.List.{get_or-take, drop-append-le}
 use Rattle.byteorder.specs.Endian.{little_from}
 use Rattle.wav_format.specs.declared.head.Head.{Head}
 use Rattle.wav_format.specs.Answers.{CutsAt}
-use Rattle.wav_format.specs.Chunks.{BeginsWithHead, EndsHead, Leads, Spot, begins, behind, body_at, body_size, chunk_length, first_chunk, longest_head}
+use Rattle.wav_format.specs.Chunks.{BeginsWithHead, EndsHead, Leads, Spot, begins, spot_behind, body_at, body_size, chunk_length, first_chunk, longest_head}
 use Rattle.wav_format.specs.Cuts.{BodyCut, ChunkCut, body_length, deciding}
 use Rattle.wav_format.specs.Faults.{MayBeFormat}
 use Rattle.wav_format.specs.Format.{extensible}
@@ -95,7 +95,7 @@ decides_before_cut n s t u more h rest (inl cut) g leads ends =
     omega (arith, on, start, at, near)
 decides_before_cut zero s t u more h rest (inr cut) g e ends = absurd (other_goes_on s t more h rest g cut.headed.headed cut.headed.other (subst (EndsHead h rest) (sym e) ends))
 decides_before_cut (suc n) s t u more h rest (inr cut) g (p, leads) ends =
-    let on = no_earlier longest_head n (behind t) u leads in
+    let on = no_earlier longest_head n (spot_behind t) u leads in
     let same = length_goes_on s t more g cut.headed.headed in
     let start = ends.start in
     let at = g.at in
@@ -105,7 +105,7 @@ decides_before_cut (suc n) s t u more h rest (inr cut) g (p, leads) ends =
 decides_before : (n m : ℕ) (s v t u : Spot) (more : List ℕ) (h : Head) (rest : List ℕ) → Leads longest_head n s v → ChunkCut v → GoesOn s t more → Leads longest_head m t u → EndsHead h rest u → deciding v ≤ h.start
 decides_before zero m s v t u more h rest e cut g leads ends = subst (λ (x : Spot). deciding x ≤ h.start) e (decides_before_cut m s t u more h rest (subst ChunkCut (sym e) cut) g leads ends)
 decides_before (suc n) zero s v t u more h rest (p, _) cut g e ends = absurd (other_goes_on s t more h rest g p.headed p.other (subst (EndsHead h rest) (sym e) ends))
-decides_before (suc n) (suc m) s v t u more h rest (p, to_cut) cut g (_, leads) ends = decides_before n m (behind s) v (behind t) u more h rest to_cut cut (behind_goes_on longest_head s t more p g) leads ends
+decides_before (suc n) (suc m) s v t u more h rest (p, to_cut) cut g (_, leads) ends = decides_before n m (spot_behind s) v (spot_behind t) u more h rest to_cut cut (behind_goes_on longest_head s t more p g) leads ends
 
 before_chunks : (b : Bool) (len : ℕ) → len < 12 → cond b 9 (len + 1) ≤ 12
 before_chunks true len short = omega arith

@@ -5,7 +5,7 @@ use Rattle.std.proofs.lemmas.Slice.Eq.{bytes_eq-Decides}
 use Rattle.wav_format.specs.declared.head.Head.{Head}
 use Rattle.wav_format.specs.declared.head.WavKind.{WavKind}
 use Rattle.wav_format.specs.declared.head.WavKind.TheVariants.{NotRiff, NotWave, NoFmt, BadFmt, TagUnknown, HeadTooLong}
-use Rattle.wav_format.specs.Chunks.{BeginsWithHead, EndsHead, IsPassed, Leads, Reaches, Spot, begins, behind, body_at, body_size, chunk_length, first_chunk, longest_head}
+use Rattle.wav_format.specs.Chunks.{BeginsWithHead, EndsHead, IsPassed, Leads, Reaches, Spot, begins, spot_behind, body_at, body_size, chunk_length, first_chunk, longest_head}
 use Rattle.wav_format.specs.Faults.{ChunkFault, Differs, FaultIn}
 use Rattle.wav_format.specs.Format.{AreBytes, Completes}
 use Rattle.el_wav.proofs.WavParseAhead.{GoesOn, behind_goes_on, begins_more, length_goes_on, other_goes_on, size_more}
@@ -94,7 +94,7 @@ fault_behind : (n m : ℕ) (s v t u : Spot) (more : List ℕ) (h : Head) (rest :
 fault_behind zero m s v t u more h rest place kind fine e fault g leads ends = fault_leads m s t u more h rest place kind fine g (subst (λ (x : Spot). ChunkFault x place kind) (sym e) fault) leads ends
 fault_behind (suc n) zero s v t u more h rest place kind fine (p, _) fault g e ends = other_goes_on s t more h rest g p.headed p.other (subst (EndsHead h rest) (sym e) ends)
 fault_behind (suc n) (suc m) s v t u more h rest place kind fine (p, to_fault) fault g (_, leads) ends =
-    fault_behind n m (behind s) v (behind t) u more h rest place kind (bytes_dropped (chunk_length t.left) t.left fine) to_fault fault (behind_goes_on longest_head s t more p g) leads ends
+    fault_behind n m (spot_behind s) v (spot_behind t) u more h rest place kind (bytes_dropped (chunk_length t.left) t.left fine) to_fault fault (behind_goes_on longest_head s t more p g) leads ends
 
 chunk_fault : (bytes more : List ℕ) (s : Spot) (place : ℕ) (kind : WavKind) (h : Head) → AreBytes (bytes ++ more) → Reaches longest_head bytes s → ChunkFault s place kind → BeginsWithHead (bytes ++ more) h → ⊥
 chunk_fault bytes more s place kind h fine (opened, (n, to_fault)) fault (rest, (u, (opened', (m, leads)), ends)) =

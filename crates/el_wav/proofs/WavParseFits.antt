@@ -6,7 +6,7 @@ use Rattle.audio_info.specs.declared.sample.Sample.TheVariants.{U8, S16LE, S24LE
 use Rattle.wav_format.specs.declared.format.SampleFormat.{SampleFormat}
 use Rattle.wav_format.specs.declared.head.Head.{Head}
 use Rattle.wav_format.specs.Format.{IsFormat, IsKnown, format_of}
-use Rattle.wav_format.specs.Chunks.{BeginsWithHead, IsOpened, IsPassed, Leads, Spot, behind, begins, body_at, chunk_length, first_chunk, longest_head}
+use Rattle.wav_format.specs.Chunks.{BeginsWithHead, IsOpened, IsPassed, Leads, Spot, spot_behind, begins, body_at, chunk_length, first_chunk, longest_head}
 use Rattle.el_wav.specs.WavParseHeads.{coding, HeadFits}
 
 some_coding : (o : Option Sample) (s : Sample) → o ≡ Some s → o ≢ None
@@ -50,7 +50,7 @@ body_fits body f = record {
 split : (at size total len : ℕ) → at + size ≡ total → len ≤ size → (at + len) + (size - len) ≡ total
 split at size total len e le = omega arith
 
-good_behind : (total : ℕ) (s : Spot) → IsPassed longest_head s → Good total s → Good total (behind s)
+good_behind : (total : ℕ) (s : Spot) → IsPassed longest_head s → Good total s → Good total (spot_behind s)
 good_behind total s p g = record {
   format = go (begins (codes "fmt ") s.left) refl;
   all = ap (λ n. s.at + chunk_length s.left + n) (length-drop (chunk_length s.left) s.left) ∙ split s.at (length s.left) total (chunk_length s.left) g.all p.whole;
@@ -63,7 +63,7 @@ good_behind total s p g = record {
 
 good_led : (total chunks : ℕ) (s t : Spot) → Leads longest_head chunks s t → Good total s → Good total t
 good_led total zero s t e g = subst (Good total) e g
-good_led total (suc chunks) s t (p, leads) g = good_led total chunks (behind s) t leads (good_behind total s p g)
+good_led total (suc chunks) s t (p, leads) g = good_led total chunks (spot_behind s) t leads (good_behind total s p g)
 
 past : (n : ℕ) → 12 ≤ n → 12 + (n - 12) ≡ n
 past n le = omega arith

@@ -7,8 +7,8 @@ use Rattle.gst_item.specs.declared.out.Out.{Out}
 use Rattle.wav_format.specs.declared.head.Head.{Head}
 use Rattle.wav_format.specs.Chunks.{BeginsWithHead}
 use Rattle.wav_format.specs.Format.{AreBytes}
-use Rattle.gst_item.specs.declared.fault.ElementFault.{ElementFault}
-use Rattle.gst_item.specs.declared.fault.ElementFault.TheVariants.{NotNegotiated as Refused, BadStream as Broken, TooLong as TooFar, OutOfMemory as Wanting}
+use Rattle.flow_model.specs.declared.fault.ElementFault.{ElementFault}
+use Rattle.flow_model.specs.declared.fault.ElementFault.TheVariants.{NotNegotiated as Refused, BadStream as Broken, TooLong as TooFar, OutOfMemory as Wanting}
 use Rattle.flow_model.specs.Rule.{Fault}
 use Rattle.flow_model.specs.Item.{Item, Buf, Ev, Event, Buffer, Segment, StreamStart, NewCaps, NewSegment, Tag, Gap, FlushStop, Eos, is_caps, is_segment, is_eos, is_flush_stop}
 use Rattle.flow_model.specs.Source.{bytes_segment}
@@ -75,10 +75,6 @@ pub record KnownBy (known : Option Known) (calls : List Call) (has : KnownHead) 
 pub knows_some : (known : Option Known) (calls : List Call) (slot : Option KnownHead) (has : KnownHead) → slot ≡ Some has → KnowsHead known calls slot → KnownBy known calls has
 knows_some None calls slot has e knows = absurd (subst (KnowsHead None calls) e knows)
 knows_some (Some k) calls slot has e knows = record { k = k; known_is = refl; is = subst (KnowsHead (Some k) calls) e knows }
-
-pub knows_none : (known : Option Known) (calls : List Call) (slot : Option KnownHead) → slot ≡ None → KnowsHead known calls slot → known ≡ None
-knows_none None calls slot e knows = refl
-knows_none (Some k) calls slot e knows = absurd (subst (KnowsHead (Some k) calls) e knows)
 
 -- a head whose data begins behind a place does not go on there
 chosen_none : (b : Bool) (k : Known) → b ≡ false → (if b then Some k else None) ≡ None

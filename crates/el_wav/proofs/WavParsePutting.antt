@@ -22,9 +22,6 @@ use Rattle.el_wav.proofs.WavParsing.{parsed_over, parsed_drain}
 pub appends_none : (out : List Out) → Appends out out
 appends_none out = ([], sym (append-nil out))
 
-pub appends_same : (out out' : List Out) → out' ≡ out → Appends out out'
-appends_same out out' same = ([], same ∙ sym (append-nil out))
-
 pub appends_one : (out out' : List Out) (x : Item) → out' ≡ out ++ on_pad 0 (x ∷ []) → Appends out out'
 appends_one out out' x e = (x ∷ [], e)
 

@@ -11,7 +11,7 @@ use Rattle.wav_format.specs.Answers.{AnswerIn}
 use Rattle.wav_format.specs.Chunks.{BeginsWithHead}
 use Rattle.wav_format.specs.Cuts.{CutIn, deciding, opening_length}
 use Rattle.wav_format.specs.Format.{AreBytes}
-use Rattle.wav_format.specs.Told.{told}
+use Rattle.wav_format.specs.Told.{answer_told}
 use Rattle.el_wav.specs.WavParseHeads.{Whole, More, IsFormatOf, ReadsHeads, coding}
 use Rattle.el_wav.specs.WavParseTold.{are_bytes, as_told, head_told, info_of, info_with, is_in_limits, wav_told}
 
@@ -82,10 +82,10 @@ info_fits head info (Some format) is =
 -- ---- what is told
 
 abbrev OnceTold : Type 0
-OnceTold = (bytes : List ℕ) (answer : HeadAnswer) → AreBytes bytes → AnswerIn bytes answer → told bytes ≡ answer
+OnceTold = (bytes : List ℕ) (answer : HeadAnswer) → AreBytes bytes → AnswerIn bytes answer → answer_told bytes ≡ answer
 
 abbrev IsTold : Type 0
-IsTold = (bytes : List ℕ) → AreBytes bytes → AnswerIn bytes (told bytes)
+IsTold = (bytes : List ℕ) → AreBytes bytes → AnswerIn bytes (answer_told bytes)
 
 tells : OnceTold → (bytes : List ℕ) (answer : HeadAnswer) → AreBytes bytes → AnswerIn bytes answer → wav_told bytes ≡ as_told answer
 unfolding wav_told
@@ -111,10 +111,10 @@ from_answer bytes (WholeHead head') head info begins is =
 from_answer bytes (NeedMore n) head info cut is = absurd cc
 from_answer bytes (Bad place kind) head info fault is = absurd cc
 
-tells_only : IsTold → (bytes : List ℕ) (head : Head) (info : Info) (fine : Bool) → are_bytes bytes ≡ fine → cond fine (as_told (told bytes)) More ≡ Whole head info → AreBytes bytes × BeginsWithHead bytes head × IsFormatOf head info
+tells_only : IsTold → (bytes : List ℕ) (head : Head) (info : Info) (fine : Bool) → are_bytes bytes ≡ fine → cond fine (as_told (answer_told bytes)) More ≡ Whole head info → AreBytes bytes × BeginsWithHead bytes head × IsFormatOf head info
 tells_only told_so bytes head info true e is =
     let fine = tested_bytes bytes e in
-    let from = from_answer bytes (told bytes) head info (told_so bytes fine) is in
+    let from = from_answer bytes (answer_told bytes) head info (told_so bytes fine) is in
     (fine, from.0, from.1)
 tells_only told_so bytes head info false e is = absurd cc
 

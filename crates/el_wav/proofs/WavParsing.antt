@@ -87,16 +87,6 @@ parsed_behind parser x plain ended read calls put p =
       },
     )
 
--- after a fault it stands as before
-pub parsed_still : (old new : WavParse) → new.ended ≡ old.ended → ((read : List ℕ → Told) (part : Part) (calls : List Call) → IsIn read part calls old → IsIn read part calls new)
-    → (read : List ℕ → Told) (calls : List Call) (put : List Item) → ParsedBy read old calls put → ParsedBy read new calls put
-parsed_still old new ended still read calls put p = record {
-  owed = p.owed;
-  over = p.over ∙ sym ended;
-  eos = p.eos ∙ sym ended;
-  is_in = still read (last_part read (items (parsed_by read calls).given)) (data_calls read (items (parsed_by read calls).given)) p.is_in;
-}
-
 pub parsed_flush : (old new : WavParse) → new.ended ≡ false → new.phase ≡ Fresh
     → (read : List ℕ → Told) (calls : List Call) (put : List Item) (number : ℕ)
     → (KnowsHead (known_in read (last_part read (items (parsed_by read calls).given))) (data_calls read (items (parsed_by read calls).given)) old.known

@@ -10,7 +10,7 @@ use Rattle.flow_model.specs.Item.{Item, Buf, Ev, Buffer, Eos}
 use Rattle.flow_model.specs.Call.{Call, Feed, feeds, items}
 use Rattle.flow_model.specs.Rule.{Fed, Fault, unfed, responded, called, all_called, owed_for}
 use Rattle.flow_model.specs.Looking.{bytes_of}
-use Rattle.flow_model.proofs.Calls.{items_push, fed_taken}
+use Rattle.flow_model.proofs.Calls.{items_push, fed_taken, feeds_push}
 use Rattle.el_parse.specs.Parses.{parses as parses_raw}
 use Rattle.el_wav.specs.WavParse.{parses}
 use Rattle.el_wav.specs.WavParseHeads.{Told, Whole, More, Wrong, IsFormatOf, ReadsHeads}
@@ -161,10 +161,6 @@ all_fed reads stays (b ∷ bs) fed bytes fine stands goes =
     let fine_all : AreBytes ((bytes ++ b.body) ++ file_bytes bs) = subst AreBytes (sym all) fine in
     subst (λ cs. StandsBehind (all_called parses (called parses fed (Feed (Buf b))) (feeds (map Buf bs))) cs) all
     (all_fed reads stays bs (called parses fed (Feed (Buf b))) (bytes ++ b.body) fine_all (step reads stays fed bytes b (front_fine (bytes ++ b.body) (file_bytes bs) fine_all) stands) goes)
-
-feeds_push : (h : List Item) (x : Item) → feeds (h ++ x ∷ []) ≡ feeds h ++ Feed x ∷ []
-feeds_push [] x = refl
-feeds_push (y ∷ ys) x = ap (λ cs. Feed y ∷ cs) (feeds_push ys x)
 
 -- behind STREAM_START and SEGMENT
 pub begins_reading : ReadsHeads wav_told → (id : ℕ) → StandsBehind (all_called parses unfed (feeds (opened_file id []))) []

@@ -7,14 +7,14 @@ use Rattle.std.proofs.lemmas.List.{length-drop, length-take}
 use Rattle.std.proofs.Math.Nat.{add-mul-div_right, div-mul-le_self}
 use Rattle.gst_time.specs.declared.time.TheConstants.{LIMIT}
 use Rattle.audio_info.specs.declared.info.Info.{Info}
-use Rattle.gst_item.specs.declared.fault.StreamKind.{StreamKind}
+use Rattle.flow_model.specs.declared.fault.StreamKind.{StreamKind}
 use Rattle.wav_format.specs.declared.head.Head.{Head}
 use Rattle.wav_format.specs.declared.head.HeadAnswer.{HeadAnswer}
 use Rattle.wav_format.specs.declared.head.HeadAnswer.TheVariants.{Whole as WholeHead, NeedMore, Bad}
 use Rattle.wav_format.specs.Answers.{AnswerIn}
 use Rattle.wav_format.specs.Chunks.{BeginsWithHead}
 use Rattle.wav_format.specs.Format.{AreBytes}
-use Rattle.wav_format.specs.Told.{told}
+use Rattle.wav_format.specs.Told.{answer_told}
 use Rattle.flow_model.specs.Item.{Item, Buf, Buffer}
 use Rattle.flow_model.specs.Call.{Call, Feed, feeds, items}
 use Rattle.flow_model.specs.Rule.{Fed, Fault, TooLong, unfed, responded, called, all_called}
@@ -86,7 +86,7 @@ raw_taken info fed data_bytes b f fits = go (length ((progress info fed).held ++
 -- ---- the front of a file is not at fault
 
 abbrev pub IsTold : Type 0
-IsTold = (bytes : List ℕ) → AreBytes bytes → AnswerIn bytes (told bytes)
+IsTold = (bytes : List ℕ) → AreBytes bytes → AnswerIn bytes (answer_told bytes)
 
 not_wrong : IsTold → (bytes more : List ℕ) (head : Head) → AreBytes (bytes ++ more) → BeginsWithHead (bytes ++ more) head → (place : ℕ) (kind : StreamKind) → wav_told bytes ≡ Wrong place kind → ⊥
 unfolding wav_told
@@ -101,8 +101,8 @@ not_wrong told_so bytes more head fine begins place kind is = go (are_bytes byte
     by (NeedMore n) answer e = absurd (cc)
     by (Bad at wrong) answer e = fault_begins_none bytes more at wrong head fine answer begins
 
-    go : (b : Bool) → (if b then as_told (told bytes) else More) ≡ Wrong place kind → ⊥
-    go true e = by (told bytes) (told_so bytes (front_fine bytes more fine)) e
+    go : (b : Bool) → (if b then as_told (answer_told bytes) else More) ≡ Wrong place kind → ⊥
+    go true e = by (answer_told bytes) (told_so bytes (front_fine bytes more fine)) e
     go false e = absurd (cc)
 
 -- the file, with the head that its bytes begin with, and the times of its frames

@@ -3,8 +3,8 @@ use Rattle.std.specs.Prelude.{◌≡◌, ◌≢◌, ◌≤◌, ℕ, ◌==◌, if
 use Rattle.audio_info.specs.declared.info.Info.{Info}
 use Rattle.audio_info.specs.declared.sample.Sample.{Sample}
 use Rattle.audio_info.specs.declared.sample.Sample.TheVariants.{U8, S16LE, S24LE, S32LE, MuLaw, ALaw}
-use Rattle.gst_item.specs.declared.fault.StreamKind.{StreamKind}
-use Rattle.gst_item.specs.declared.fault.StreamKind.TheVariants.{NotRiff as NoRiff, NotWave as NoWave, NoFmt as NoFormat, BadFmt as BadFormat, TagUnknown as UnknownTag, HeadTooLong as TooLongHead}
+use Rattle.flow_model.specs.declared.fault.StreamKind.{StreamKind}
+use Rattle.flow_model.specs.declared.fault.StreamKind.TheVariants.{NotRiff as NoRiff, NotWave as NoWave, NoFmt as NoFormat, BadFmt as BadFormat, TagUnknown as UnknownTag, HeadTooLong as TooLongHead}
 use Rattle.wav_format.specs.declared.head.Head.{Head}
 use Rattle.wav_format.specs.declared.head.WavKind.{WavKind}
 use Rattle.wav_format.specs.declared.head.WavKind.TheVariants.{NotRiff, NotWave, NoFmt, BadFmt, TagUnknown, HeadTooLong}

@@ -1,7 +1,7 @@
 -- Parts of what a reader of WAV files is given: a SEGMENT and the bytes behind it.
 use Rattle.std.specs.Prelude.{ℕ, ◌+◌, ◌-◌, List, [], ◌++◌, length, Option, Some, None, if◌then◌else◌, nat_le, unwrap_or, fold}
 use Rattle.audio_info.specs.declared.info.Info.{Info}
-use Rattle.gst_item.specs.declared.fault.StreamKind.{StreamKind}
+use Rattle.flow_model.specs.declared.fault.StreamKind.{StreamKind}
 use Rattle.wav_format.specs.declared.head.Head.{Head}
 use Rattle.flow_model.specs.Item.{Item, Buf, Ev, NewSegment, FlushStop, Format, Bytes, Time}
 use Rattle.el_wav.specs.WavParseHeads.{Told, Whole, More, Wrong}

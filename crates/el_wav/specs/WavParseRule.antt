@@ -3,7 +3,7 @@
 use Rattle.std.specs.Prelude.{ℕ, ◌-◌, false, List, [], ◌∷◌, ◌++◌, length, take, drop, Option, Some, None, Result, Ok, Err}
 use Rattle.std.specs.Option.{option_map}
 use Rattle.audio_info.specs.declared.info.Info.{Info}
-use Rattle.gst_item.specs.declared.fault.StreamKind.TheVariants.{Short}
+use Rattle.flow_model.specs.declared.fault.StreamKind.TheVariants.{Short}
 use Rattle.flow_model.specs.Item.{Item, Buf, Ev, NewCaps, NewSegment, FlushStop, Eos}
 use Rattle.flow_model.specs.Source.{bytes_segment}
 use Rattle.flow_model.specs.Call.{Call, Feed, items}

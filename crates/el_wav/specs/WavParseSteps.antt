@@ -2,7 +2,7 @@
 use Rattle.std.specs.Prelude.{◌≡◌, ℕ, ◌-◌, List, [], ◌∷◌, ◌++◌, length, drop, Option, Some, None, Result, Ok}
 use Rattle.audio_info.specs.declared.info.Info.{Info}
 use Rattle.gst_item.specs.declared.out.Out.{Out}
-use Rattle.gst_item.specs.declared.fault.ElementFault.{ElementFault}
+use Rattle.flow_model.specs.declared.fault.ElementFault.{ElementFault}
 use Rattle.wav_format.specs.declared.head.Head.{Head}
 use Rattle.flow_model.specs.Item.{Item}
 use Rattle.flow_model.specs.Call.{Call, Feed}

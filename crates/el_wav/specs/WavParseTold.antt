@@ -6,7 +6,7 @@ use Rattle.audio_info.specs.declared.sample.Sample.{Sample}
 use Rattle.wav_format.specs.declared.head.Head.{Head}
 use Rattle.wav_format.specs.declared.head.HeadAnswer.{HeadAnswer}
 use Rattle.wav_format.specs.declared.head.HeadAnswer.TheVariants.{Whole as WholeHead, NeedMore, Bad}
-use Rattle.wav_format.specs.Told.{told}
+use Rattle.wav_format.specs.Told.{answer_told}
 use Rattle.el_wav.specs.WavParseHeads.{Told, Whole, More, Wrong, coding, stream_kind}
 
 -- whether so many frames a second and so many channels are within the limits of audio
@@ -57,4 +57,4 @@ are_bytes (byte ∷ bytes) = nat_lt byte 256 && are_bytes bytes
 
 -- What bytes say, by the answer that they have in the RIFF WAVE format. Numbers that are no bytes say nothing.
 unfoldable pub wav_told : List ℕ → Told
-wav_told bytes = if are_bytes bytes then as_told (told bytes) else More
+wav_told bytes = if are_bytes bytes then as_told (answer_told bytes) else More

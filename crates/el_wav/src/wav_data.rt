@@ -14,9 +14,10 @@ ghost use Rattle.el_wav.specs.WavParseAppends.{Appends};
 
 use audio_info::{Info, LARGEST_RATE, MOST_CHANNELS, Sample};
 use el_parse::RawParse;
-use gst_caps::OutOfMemory;
-use gst_item::{Body, Buffer, ElementFault, Event, Item, Outs};
+use flow_model::ElementFault;
+use gst_item::{Body, Buffer, Event, Item, Outs};
 use gst_time::{Format, Segment};
+use gst_value::OutOfMemory;
 use std::alloc::Global;
 use wav_format::Head;
 

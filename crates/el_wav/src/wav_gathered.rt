@@ -8,7 +8,7 @@ ghost use Rattle.wav_format.specs.declared.head.HeadAnswer.TheVariants.{Whole, N
 ghost use Rattle.wav_format.specs.declared.head.Head.{Head};
 ghost use Rattle.el_wav.specs.WavParseGiven.{GivenInHead, IsDone, IsNext};
 
-use gst_caps::OutOfMemory;
+use gst_value::OutOfMemory;
 use std::alloc::{AllocError, Global};
 use wav_format::{HeadAnswer, HeadReader, head_stays};
 

@@ -12,7 +12,7 @@ ghost use Rattle.el_wav.specs.WavParseAppends.{Appends};
 ghost use Rattle.el_wav.specs.WavParsed.{KnowsHead};
 ghost use Rattle.wav_format.specs.Chunks.{BeginsWithHead};
 ghost use Rattle.wav_format.specs.Format.{AreBytes};
-ghost use Rattle.gst_item.specs.declared.fault.ElementFault.TheVariants.{OutOfMemory as Wanting};
+ghost use Rattle.flow_model.specs.declared.fault.ElementFault.TheVariants.{OutOfMemory as Wanting};
 ghost use Rattle.el_wav.specs.declared.wav_parse.Phase.TheVariants.{InData as Passing};
 
 use crate::wav_begun::{Begun, read_on};
@@ -20,9 +20,10 @@ use crate::wav_data::{KnownHead, body_item, cut_data, left_of, segment_item};
 use crate::wav_gathered::Gathered;
 use crate::wav_put_out::{put_last, put_out};
 use crate::wav_told::heads_are_told;
-use gst_caps::{List as Items, OutOfMemory};
-use gst_item::{Body, Buffer, ElementFault, Event, Flow, Item, Outs, StreamKind};
+use flow_model::{ElementFault, StreamKind};
+use gst_item::{Body, Buffer, Event, Flow, Item, Outs};
 use gst_time::{Format, Segment};
+use gst_value::{List as Items, OutOfMemory};
 use std::alloc::Global;
 use wav_format::{Head, head_stays};
 

@@ -1,12 +1,14 @@
 //! Rows of calls, with what they answer and put out.
 ghost use Rattle.std.specs.Prelude.{◌≡◌, ◌≢◌, false, IfOk};
-ghost use Rattle.flow_model.specs.Item.{Ev, is_flush_stop};
+ghost use Rattle.flow_model.specs.Item.{is_flush_stop};
 
 use crate::WavParse;
 use audio_info::Info;
-use gst_caps::{Fixed, List, Text};
-use gst_item::{Body, Buffer, ElementFault, Event, Flow, Item, Outs, StreamKind};
-use gst_time::{Format, Segment};
+use flow_model::{ElementFault, StreamKind};
+use gst_item::{Buffer, Event, Flow, Item, Outs};
+use gst_time::Format;
+use gst_value::{Fixed, List};
+use item_letters::{buffer_of, bytes_by, event_by, segment_by, word_of};
 use std::alloc::Global;
 use std::fmt::Write;
 use std::process::Abort;
@@ -43,16 +45,9 @@ eos caps tag gap -> short:0 + + + : tag gap
 +52494646280000005741564566 +6d74201000000007000200401f0000803e0000020008006461746100000000d5d5d5 drain -> + + - : caps=MULAW,8000,2 time=0 +d5d5,0,0,125000
 ";
 
-/// The bytes whose hexadecimal digits stand in a text.
-fn bytes_by(alloc: Global, digits: &str, bytes: &mut Vec<u8>) -> Result<(), Fail> {
-    let mut rest = digits;
-    for _ in 0..digits.len() {
-        let Some((pair, more)) = rest.split_at_checked(2) else {
-            return Ok(());
-        };
-        bytes.push(u8::from_str_radix(pair, 16).unwrap_or(0))?;
-        rest = more;
-    }
+/// Adds the bytes whose hexadecimal digits stand in a text.
+fn push_bytes(alloc: Global, digits: &str, bytes: &mut Vec<u8>) -> Result<(), Fail> {
+    bytes.extend_from_slice(bytes_by(alloc, digits)?.as_slice())?;
     Ok(())
 }
 
@@ -65,57 +60,31 @@ fn file_by(alloc: Global, word: &str) -> Result<Vec<u8>, Fail> {
     };
     match digits.strip_prefix('/') {
         Some(digits) => {
-            bytes_by(alloc, FRONT, &mut bytes)?;
-            bytes_by(alloc, digits, &mut bytes)?;
+            push_bytes(alloc, FRONT, &mut bytes)?;
+            push_bytes(alloc, digits, &mut bytes)?;
         }
-        None => bytes_by(alloc, digits, &mut bytes)?,
+        None => push_bytes(alloc, digits, &mut bytes)?,
     }
     bytes.truncate(most);
     Ok(bytes)
 }
 
-fn buffer_of(alloc: Global, bytes: Vec<u8>) -> Result<Item, Fail>
+fn item_by(alloc: Global, word: &str) -> Result<Item, Fail>
     ensures { IfOk result (λ item. is_flush_stop item ≡ false) }
 {
-    Ok(Item::Buffer(Buffer {
-        body: Body::from_vec(alloc, bytes)?,
-        pts: None,
-        duration: None,
-        offset: Some(7),
-        discont: true,
-    }))
-}
-
-fn segment_by(format: Format, start: &str) -> Event
-    ensures { is_flush_stop (Ev result) ≡ false }
-{
-    let start = start.parse().unwrap_or(0);
-    let mut segment = Segment::new(format);
-    segment.start = start;
-    Event::Segment(segment)
-}
-
-fn event_by(alloc: Global, word: &str) -> Result<Event, Fail>
-    ensures { IfOk result (λ event. is_flush_stop (Ev event) ≡ false) }
-{
+    if let Some(bytes) = word.strip_prefix('+') {
+        return Ok(buffer_of(alloc, file_by(alloc, bytes)?.as_slice())?);
+    }
     if let Some(start) = word.strip_prefix("bytes=") {
-        return Ok(segment_by(Format::Bytes, start));
+        return Ok(Item::Event(segment_by(Format::Bytes, start)));
     }
     if let Some(start) = word.strip_prefix("time=") {
-        return Ok(segment_by(Format::Time, start));
+        return Ok(Item::Event(segment_by(Format::Time, start)));
     }
-    match word {
-        "start" => Ok(Event::StreamStart { id: 1 }),
-        "caps" => Ok(Event::Caps(Fixed::new(alloc, "audio/x-wav")?)),
-        "tag" => Ok(Event::Tag {
-            title: Text::from_str(alloc, "title")?,
-        }),
-        "gap" => Ok(Event::Gap {
-            pts: 0,
-            duration: 1,
-        }),
-        _ => Ok(Event::Eos),
+    if word == "caps" {
+        return Ok(Item::Event(Event::Caps(Fixed::new(alloc, "audio/x-wav")?)));
     }
+    Ok(Item::Event(event_by(alloc, word)?))
 }
 
 fn tell_kind(kind: StreamKind) -> &'static str {
@@ -169,7 +138,6 @@ fn tell_buffer(text: &mut String, buffer: &Buffer) -> Result<(), Fail> {
 
 fn tell_event(text: &mut String, event: &Event) -> Result<(), Fail> {
     match event {
-        Event::StreamStart { .. } => text.push_str("start")?,
         Event::Caps(caps) => match Info::from_fixed(caps) {
             Ok(info) => write!(
                 text,
@@ -181,10 +149,7 @@ fn tell_event(text: &mut String, event: &Event) -> Result<(), Fail> {
             Err(_) => text.push_str("caps")?,
         },
         Event::Segment(segment) => write!(text, "time={}", segment.start)?,
-        Event::Tag { .. } => text.push_str("tag")?,
-        Event::Gap { .. } => text.push_str("gap")?,
-        Event::FlushStop { .. } => text.push_str("flush")?,
-        Event::Eos => text.push_str("eos")?,
+        _ => text.push_str(word_of(event))?,
     }
     Ok(())
 }
@@ -216,7 +181,7 @@ fn feed_each(
     out: &mut Outs,
 ) -> Result<(), Fail> {
     for byte in bytes {
-        let one = buffer_of(alloc, Vec::from_slice(alloc, &[*byte])?)?;
+        let one = buffer_of(alloc, &[*byte])?;
         if parser.feed(alloc, 0, one, out).is_err() {
             return Ok(());
         }
@@ -258,10 +223,7 @@ fn feed_word(
         text.push_str("+ ")?;
         return Ok(());
     }
-    let item = match word.strip_prefix('+') {
-        Some(bytes) => buffer_of(alloc, file_by(alloc, bytes)?)?,
-        None => Item::Event(event_by(alloc, word)?),
-    };
+    let item = item_by(alloc, word)?;
     let answer = parser.feed(alloc, 0, item, out);
     tell_answer(text, &answer)
 }
@@ -300,7 +262,7 @@ fn add_bytes(bytes: &mut Vec<u8>, count: u32) -> Result<(), Fail> {
 /// A file of the front, a size of its data and so many bytes of data.
 fn file_of(alloc: Global, size: u32, count: u32) -> Result<Vec<u8>, Fail> {
     let mut bytes = Vec::new(alloc);
-    bytes_by(alloc, FRONT, &mut bytes)?;
+    push_bytes(alloc, FRONT, &mut bytes)?;
     bytes.extend_from_slice(&size.to_le_bytes())?;
     add_bytes(&mut bytes, count)?;
     Ok(bytes)
@@ -309,7 +271,7 @@ fn file_of(alloc: Global, size: u32, count: u32) -> Result<Vec<u8>, Fail> {
 /// A file of 8000 frames with a `LIST` chunk of 70,001 bytes before its data, which begins at 70,054.
 fn file_with_list(alloc: Global) -> Result<Vec<u8>, Fail> {
     let mut bytes = Vec::new(alloc);
-    bytes_by(alloc, FRONT, &mut bytes)?;
+    push_bytes(alloc, FRONT, &mut bytes)?;
     bytes.truncate(36);
     bytes.extend_from_slice(b"LIST")?;
     bytes.extend_from_slice(&70_001u32.to_le_bytes())?;
@@ -327,7 +289,7 @@ fn data_of(rt: &impl Abort, alloc: Global, file: &[u8], block: usize) -> Result<
     let mut parser = WavParse::new();
     let mut out = List::new(alloc);
     for bytes in file.chunks(block) {
-        let item = buffer_of(alloc, Vec::from_slice(alloc, bytes)?)?;
+        let item = buffer_of(alloc, bytes)?;
         assert!(rt; parser.feed(alloc, 0, item, &mut out).is_ok());
     }
     let end = Item::Event(Event::Eos);
@@ -341,8 +303,27 @@ fn data_of(rt: &impl Abort, alloc: Global, file: &[u8], block: usize) -> Result<
     Ok(data)
 }
 
+/// A file in blocks of several sizes gives this data.
+fn check_blocks(
+    rt: &impl Abort,
+    alloc: Global,
+    file: &[u8],
+    wanted: Option<&[u8]>,
+) -> Result<(), Fail> {
+    for block in [1, 7, 4096, 1_048_576] {
+        assert!(rt; block != 0);
+        let data = data_of(rt, alloc, file, block)?;
+        assert!(rt;
+            wanted == Some(data.as_slice()),
+            "{} bytes in blocks of {block}",
+            file.len()
+        );
+    }
+    Ok(())
+}
+
 /// A file of 8000 frames gives the same bytes in blocks of any size, whatever its head says of the size of its data,
-/// and where it is cut or goes on behind the data.
+/// where it is cut or goes on behind the data, and where a long chunk comes before the data.
 #[test]
 fn blocks(rt: HostRuntime) -> Result<(), Fail> {
     let alloc = rt.alloc();
@@ -357,30 +338,8 @@ fn blocks(rt: HostRuntime) -> Result<(), Fail> {
     ];
     for (size, count, end) in rows {
         let file = file_of(alloc, size, count)?;
-        for block in [1, 7, 4096, 1_048_576] {
-            assert!(rt; block != 0);
-            let data = data_of(&rt, alloc, &file, block)?;
-            assert!(rt;
-                file.get(44..end) == Some(data.as_slice()),
-                "{count} bytes of {size} in blocks of {block}"
-            );
-        }
+        check_blocks(&rt, alloc, &file, file.get(44..end))?;
     }
-    Ok(())
-}
-
-/// A file with a long chunk before its data gives its data.
-#[test]
-fn long_chunk(rt: HostRuntime) -> Result<(), Fail> {
-    let alloc = rt.alloc();
     let file = file_with_list(alloc)?;
-    for block in [1, 4096] {
-        assert!(rt; block != 0);
-        let data = data_of(&rt, alloc, &file, block)?;
-        assert!(rt;
-            file.get(70_054..) == Some(data.as_slice()),
-            "in blocks of {block}"
-        );
-    }
-    Ok(())
+    check_blocks(&rt, alloc, &file, file.get(70_054..))
 }

@@ -3,8 +3,8 @@ ghost use Rattle.std.specs.Prelude.{◌≡◌, ◌++◌, ◌∷◌, [], OnOk, On
 ghost use Rattle.flow_model.specs.Feeding.{on_pad};
 ghost use Rattle.el_wav.specs.WavParseRule.{last_of};
 
-use gst_caps::OutOfMemory;
 use gst_item::{Item, Out, Outs};
+use gst_value::OutOfMemory;
 use std::alloc::Global;
 
 /// Puts an item out on the only source pad. Where there is no memory nothing is put out, and the item is given up.

@@ -1,6 +1,6 @@
 -- An element that writes WAV files with one more call.
 use Rattle.std.proofs.Common.{◌≡◌, ℕ, true, false, List, [], ◌∷◌, ◌++◌, refl, sym, ap, ◌∙◌, append-nil, Result, Ok, Err}
-use Rattle.std.specs.Prelude.{IsOk, OnOk, filter}
+use Rattle.std.specs.Prelude.{IsOk, filter}
 use Rattle.flow_model.specs.Item.{Item, Ev, FlushStop, Eos, is_flush_stop, is_eos}
 use Rattle.flow_model.specs.Call.{Call, Feed, Act, Drain, items}
 use Rattle.flow_model.specs.Rule.{Fed, Fault, not_eos}
@@ -9,7 +9,7 @@ use Rattle.flow_model.specs.CapsInForce.{caps_in_force}
 use Rattle.flow_model.proofs.Calls.{fed_taken, fed_behind, fed_flush, drained_begun, drained_behind, eos_taken, eos_stays, eos_flushed, eos_act}
 use Rattle.flow_model.specs.Owed.{answered, drain_owed, without_eos}
 use Rattle.el_wavenc.specs.declared.wav_enc.WavEnc.{WavEnc}
-use Rattle.el_wavenc.specs.Encodes.{Progress, progress, ending, encode_answer, encodes, finished, behind}
+use Rattle.el_wavenc.specs.Encodes.{Progress, progress, ending, encode_answer, encodes, finished, progress_behind}
 use Rattle.el_wavenc.specs.Encoded.{encoding, come, Encoded}
 use Rattle.el_wavenc.proofs.Steps.{with_one, opened_all, opened_end, progress_fed, progress_drained, went, ending_alone}
 
@@ -19,7 +19,7 @@ ok_answered (Err fault) ok = absurd (cc)
 
 -- an item that is taken
 pub encoded_item : (old new : WavEnc) (x : Item) → is_flush_stop x ≡ false → old.ended ≡ false
-    → IsOk (encode_answer (come old) x) → come new ≡ behind (come old) x → new.ended ≡ is_eos x
+    → IsOk (encode_answer (come old) x) → come new ≡ progress_behind (come old) x → new.ended ≡ is_eos x
     → (calls : List Call) (put : List Item) → Encoded old calls put
     → (next_owed encodes calls x ≡ Ok (answered (encode_answer (come old) x))) × Encoded new (calls ++ Feed x ∷ []) (put ++ answered (encode_answer (come old) x))
 encoded_item old new x plain begun ok moved ends calls put p =
@@ -28,13 +28,13 @@ encoded_item old new x plain begun ok moved ends calls put p =
     let owes : encode_answer (come old) x ≡ Ok ys = ok_answered (encode_answer (come old) x) ok in
     let answer : encodes fed x ≡ Ok ys = ap (λ q. encode_answer q x) p.as_far ∙ owes in
     let same = fed_taken encodes calls x ys (p.over ∙ begun) plain answer in
-    let step : with_one (progress fed) x ys ≡ behind (progress fed) x = went (progress fed) (caps_in_force (items fed.given)) refl x plain ys answer in (
+    let step : with_one (progress fed) x ys ≡ progress_behind (progress fed) x = went (progress fed) (caps_in_force (items fed.given)) refl x plain ys answer in (
       rw (p.over, begun) answer,
       record {
         owed = ap (λ zs. zs ++ ys) p.owed ∙ sym (ap (λ (s : Fed). s.out) same);
         over = ap (λ (s : Fed). s.over) same ∙ sym ends;
         eos = eos_taken calls x plain (p.eos ∙ begun) ∙ sym ends;
-        as_far = ap progress same ∙ progress_fed fed x ys (is_eos x) ∙ step ∙ ap (λ q. behind q x) p.as_far ∙ sym moved;
+        as_far = ap progress same ∙ progress_fed fed x ys (is_eos x) ∙ step ∙ ap (λ q. progress_behind q x) p.as_far ∙ sym moved;
       },
     )
 
@@ -108,8 +108,3 @@ encoded_drained_behind encoder ended calls put p =
         as_far = ap progress same ∙ p.as_far;
       },
     )
-
--- two facts of a result that is handed on
-pub on_two : {T E : Type 0} (r : Result T E) {A B C : Type 0} → OnOk r A → OnOk r B → (A → B → C) → OnOk r C
-on_two (Ok x) a b f = f a b
-on_two (Err e) a b f = tt

@@ -6,15 +6,13 @@ use Rattle.std.specs.Cmp.Lexicographic.{slice_cmp}
 use Rattle.std.specs.Ordering.{nat_cmp}
 use Rattle.std.specs.declared.cmp.Ordering.TheVariants.{Less}
 use Rattle.std.proofs.lemmas.List.{take_all}
-use Rattle.gst_caps.proofs.Put.{put_step}
-use Rattle.gst_caps.specs.Description.{Description}
-use Rattle.gst_caps.specs.Names.{Each, Rises, put}
-use Rattle.gst_caps.specs.Values.{IsSingle, IsOne}
-use Rattle.gst_caps.specs.declared.value.One.{One}
-use Rattle.gst_caps.specs.declared.value.One.TheVariants.{Int, Bool as Truth, Text as Words, Fraction, IntRange}
+use Rattle.gst_value.proofs.Put.{put_step}
+use Rattle.gst_value.specs.Description.{Description}
+use Rattle.gst_value.specs.Names.{Each, Rises, put}
+use Rattle.gst_value.specs.declared.one.One.{One}
 use Rattle.gst_caps.specs.declared.value.Value.{Value}
 use Rattle.gst_caps.specs.declared.value.Value.TheVariants.{One as Single}
-use Rattle.el_wavenc.specs.Same.{as_field}
+use Rattle.el_wavenc.specs.Alone.{as_field}
 
 abbrev Field : Type 0
 Field = List ℕ × One
@@ -43,20 +41,10 @@ pub one_more : (fs : List Field) (i : ℕ) (name : List ℕ) (value : One) → R
     → put name (Single value) (map as_field (take i fs)) ≡ map as_field (take (i + 1) fs)
 one_more fs i name value r e = set_next fs i (name, value) r e ∙ ap (λ k. map as_field (take k fs)) (sym (add-one i))
 
-pub single_at : (fs : List Field) (i : ℕ) (name : List ℕ) (value : One) → Each (λ f. IsSingle f.1) fs → slice_get fs i ≡ Some (name, value) → IsSingle value
-single_at fs i name value all e = each_at (λ f. IsSingle f.1) fs i (name, value) all e
-
 pub none_at : (fs : List Field) (i : ℕ) → i < length fs → slice_get fs i ≡ None → ⊥
 none_at [] i lt e = absurd (omega arith)
 none_at (f ∷ fs) zero lt e = absurd (cc)
 none_at (f ∷ fs) (suc i) lt e = none_at fs i (omega arith) e
-
-pub single_is_value : (value : One) → IsSingle value → IsOne value
-single_is_value (Int n) h = h
-single_is_value (Truth b) h = h
-single_is_value (Words t) h = h
-single_is_value (Fraction num den) h = h
-single_is_value (IntRange low high) h = absurd h
 
 pub all_set : (fs : List Field) (i : ℕ) → length fs ≤ i → map as_field (take i fs) ≡ map as_field fs
 all_set fs i le = ap (map as_field) (take_all i fs le)

@@ -7,14 +7,14 @@ use Rattle.flow_model.specs.Call.{Feed, Act, Drain}
 use Rattle.flow_model.specs.Feeding.{on_pad}
 use Rattle.flow_model.specs.Owed.{answered}
 use Rattle.el_wavenc.specs.declared.wav_enc.WavEnc.{WavEnc}
-use Rattle.el_wavenc.specs.Encodes.{ending, encode_answer, finished, behind}
+use Rattle.el_wavenc.specs.Encodes.{ending, encode_answer, finished, progress_behind}
 use Rattle.el_wavenc.specs.Encoded.{come}
 use Rattle.el_wavenc.specs.Puts.{Puts}
 use Rattle.el_wavenc.proofs.Encoding.{encoded_item, encoded_behind, encoded_drained, encoded_drained_behind}
 
 -- for an item in a section that is not over
 pub puts_taken : (old new : WavEnc) (x : Item) (out out' : List Out) → is_flush_stop x ≡ false → old.ended ≡ false
-    → IsOk (encode_answer (come old) x) → come new ≡ behind (come old) x → new.ended ≡ is_eos x
+    → IsOk (encode_answer (come old) x) → come new ≡ progress_behind (come old) x → new.ended ≡ is_eos x
     → out' ≡ out ++ on_pad 0 (answered (encode_answer (come old) x)) → Puts old new (Feed x) out out'
 puts_taken old new x out out' plain begun ok moved ends outs =
     record {

@@ -3,8 +3,8 @@ use Rattle.std.proofs.Common.{◌≡◌, ℕ, ◌+◌, Bool, true, false, if◌t
 use Rattle.std.specs.Prelude.{◌==◌, ◌%◌, ◌||◌, filter}
 use Rattle.std.specs.Option.{option_map}
 use Rattle.gst_caps.specs.Accepts.{accepts}
-use Rattle.gst_caps.specs.Description.{Description}
-use Rattle.gst_caps.specs.declared.value.One.{One}
+use Rattle.gst_value.specs.Description.{Description}
+use Rattle.gst_value.specs.declared.one.One.{One}
 use Rattle.gst_item.proofs.Kept.{since_push}
 use Rattle.flow_model.specs.Item.{Item, Buf, Ev, Buffer, StreamStart, NewCaps, NewSegment, Tag, Gap, FlushStop, Eos, is_flush_stop, is_caps, is_segment, body_of}
 use Rattle.flow_model.specs.Sticky.{latest, since_flush_stop}
@@ -16,11 +16,11 @@ use Rattle.flow_model.proofs.Calls.{items_push, items_act}
 use Rattle.flow_model.proofs.CapsFed.{caps_fed}
 use Rattle.flow_model.specs.Looking.{bytes_got, bytes_of}
 use Rattle.flow_model.proofs.Looking.{bytes_push, latest_since}
-use Rattle.el_wavenc.specs.Same.{same_caps}
+use Rattle.audio_info.specs.Same.{same_caps}
 use Rattle.el_wavenc.specs.Templates.{sink_template, wav_caps}
 use Rattle.el_wavenc.specs.WavFile.{Stream, stream_of, frame_width, head_length, most_data, bytes_at, head_items}
-use Rattle.el_wavenc.specs.Encodes.{Progress, progress, opening, ending, file_end, buffer_answer, announcement, settled, caps_answer, encode_answer, stream_behind, behind}
-use Rattle.el_wavenc.proofs.Same.{caps_decide}
+use Rattle.el_wavenc.specs.Encodes.{Progress, progress, opening, ending, file_end, buffer_answer, announcement, settled, caps_answer, encode_answer, stream_behind, progress_behind}
+use Rattle.audio_info.proofs.Same.{caps_decide}
 
 -- ---- what one more item changes
 
@@ -189,7 +189,7 @@ stream_stays p known is caps first e same = go (p.announced || p.opened) e
     go false f = absurd (cc)
 
 caps_took : (p : Progress) (known : Option (Description One)) → p.stream ≡ option_map stream_of known → (caps : Description One) (ys : List Item) → encode_answer p (Ev (NewCaps caps)) ≡ Ok ys
-    → with_one p (Ev (NewCaps caps)) ys ≡ behind p (Ev (NewCaps caps))
+    → with_one p (Ev (NewCaps caps)) ys ≡ progress_behind p (Ev (NewCaps caps))
 caps_took p known is caps ys e = go (settled p) refl e
   where
     all : (ys : List Item) (stream : Option Stream) → no_fault (announcement p) ≡ Ok ys → Some (stream_of caps) ≡ stream
@@ -208,7 +208,7 @@ passed p x ys zs put same one =
     subst (λ us. with_one p x us ≡ p) (ok_same zs ys put) (one ∙ ap (λ n. record p { size = n }) (plus_none p.size))
 
 pub went : (p : Progress) (known : Option (Description One)) → p.stream ≡ option_map stream_of known → (x : Item) → is_flush_stop x ≡ false → (ys : List Item) → encode_answer p x ≡ Ok ys
-    → with_one p x ys ≡ behind p x
+    → with_one p x ys ≡ progress_behind p x
 went p known is (Buf b) plain ys e = same_progress refl refl (buffer_took p b p.stream ys e) refl
 went p known is (Ev (NewCaps caps)) plain ys e = caps_took p known is caps ys e
 went p known is (Ev (NewSegment segment)) plain ys e = passed p (Ev (NewSegment segment)) ys [] e refl refl

@@ -6,8 +6,8 @@ use Rattle.std.specs.Option.{option_map}
 use Rattle.std.proofs.lemmas.List.{drop_at}
 use Rattle.std.proofs.lemmas.List.Sums.{fold-append}
 use Rattle.gst_caps.specs.Accepts.{accepts}
-use Rattle.gst_caps.specs.Description.{Description}
-use Rattle.gst_caps.specs.declared.value.One.{One}
+use Rattle.gst_value.specs.Description.{Description}
+use Rattle.gst_value.specs.declared.one.One.{One}
 use Rattle.gst_item.proofs.Kept.{since_push}
 use Rattle.gst_outside.specs.Bytes.{up_to, written}
 use Rattle.gst_outside.proofs.Writing.{written_at_end, up_to_short}
@@ -17,10 +17,10 @@ use Rattle.flow_model.specs.Call.{Feed, feeds, items}
 use Rattle.flow_model.specs.Rule.{Fed, Fault, unfed, responded, called, all_called, owed_for}
 use Rattle.flow_model.specs.SinkBytes.{Disk, empty_disk, next_disk, disk_after, sink_bytes}
 use Rattle.flow_model.specs.CapsInForce.{caps_in_force}
-use Rattle.flow_model.proofs.Calls.{items_push, fed_taken}
+use Rattle.flow_model.proofs.Calls.{items_push, fed_taken, feeds_push}
 use Rattle.flow_model.specs.Looking.{bytes_of}
 use Rattle.flow_model.proofs.Looking.{bytes_push}
-use Rattle.el_wavenc.specs.Same.{same_caps}
+use Rattle.audio_info.specs.Same.{same_caps}
 use Rattle.el_wavenc.specs.Templates.{sink_template, wav_caps}
 use Rattle.el_wavenc.specs.WavFile.{Stream, stream_of, frame_width, head_length, most_data, bytes_at, head_bytes, head_items, padding}
 use Rattle.el_wavenc.specs.Encodes.{Progress, progress, opening, file_end, buffer_answer, announcement, settled, caps_answer, encode_answer, encodes}
@@ -246,10 +246,6 @@ ended_file p s bytes d file same =
     ∙ headed s p.size (bytes ++ pad_bytes p.size) (disk_from (disk_from d (opening p s)) (padding p.size)) more
     ∙ ap (λ n. head_bytes s n ++ (bytes ++ pad_bytes n)) same
     ∙ sym (append_assoc (head_bytes s (length bytes)) bytes (pad_bytes (length bytes)))
-
-feeds_push : (h : List Item) (x : Item) → feeds (h ++ x ∷ []) ≡ feeds h ++ Feed x ∷ []
-feeds_push [] x = refl
-feeds_push (y ∷ ys) x = ap (λ cs. Feed y ∷ cs) (feeds_push ys x)
 
 pub file_made : (h : List Item) (caps : Description One) → (all_called encodes unfed (feeds h)).over ≡ false → caps_in_force (taken h) ≡ Some caps
     → sink_bytes false (owed_for encodes (feeds (h ++ Ev Eos ∷ []))) ≡ wav_file (stream_of caps) (data_taken h)

@@ -2,9 +2,9 @@
 use Rattle.std.specs.Prelude.{ℕ, ◌+◌, ◌%◌, ◌==◌, Bool, true, ◌||◌, if◌then◌else◌, nat_le, List, [], ◌∷◌, ◌++◌, length, Option, Some, None, is_some, Result, Ok, Err}
 use Rattle.std.specs.Option.{option_map}
 use Rattle.gst_caps.specs.Accepts.{accepts}
-use Rattle.gst_caps.specs.Description.{Description}
-use Rattle.gst_caps.specs.declared.value.One.{One}
-use Rattle.gst_item.specs.declared.fault.StreamKind.TheVariants.{SplitFrame, TooLarge}
+use Rattle.gst_value.specs.Description.{Description}
+use Rattle.gst_value.specs.declared.one.One.{One}
+use Rattle.flow_model.specs.declared.fault.StreamKind.TheVariants.{SplitFrame, TooLarge}
 use Rattle.flow_model.specs.Item.{Item, Buf, Ev, Buffer, NewCaps, NewSegment, Gap, Eos, is_caps}
 use Rattle.flow_model.specs.Sticky.{latest, since_flush_stop}
 use Rattle.flow_model.specs.Call.{items}
@@ -12,7 +12,8 @@ use Rattle.flow_model.specs.Rule.{Fed, Fault, NotNegotiated, BadStream, Response
 use Rattle.flow_model.specs.Feeding.{has_item}
 use Rattle.flow_model.specs.CapsInForce.{caps_in_force}
 use Rattle.flow_model.specs.Looking.{has_opened, bytes_got}
-use Rattle.el_wavenc.specs.Same.{same_caps, exactly}
+use Rattle.audio_info.specs.Same.{same_caps}
+use Rattle.el_wavenc.specs.Alone.{exactly}
 use Rattle.el_wavenc.specs.Templates.{sink_template, wav_caps}
 use Rattle.el_wavenc.specs.WavFile.{Stream, stream_of, frame_width, head_length, most_data, bytes_at, head_items, padding}
 
@@ -91,8 +92,8 @@ stream_behind p caps None = Some (stream_of caps)
 stream_behind p caps (Some first) = p.stream
 
 -- how far an element is behind an item that it took
-abbrev pub behind : Progress → Item → Progress
-behind p (Buf b) = record p { opened = true; size = p.size + length b.body }
-behind p (Ev (NewCaps caps)) = record p { stream = stream_behind p caps (settled p); announced = true }
-behind p (Ev Eos) = finished p
-behind p x = p
+abbrev pub progress_behind : Progress → Item → Progress
+progress_behind p (Buf b) = record p { opened = true; size = p.size + length b.body }
+progress_behind p (Ev (NewCaps caps)) = record p { stream = stream_behind p caps (settled p); announced = true }
+progress_behind p (Ev Eos) = finished p
+progress_behind p x = p

@@ -1,8 +1,8 @@
+pub mod Alone
 pub mod Encoded
 pub mod Encodes
 pub mod Known
 pub mod Puts
-pub mod Same
 pub mod Templates
 pub mod WavFile
 pub mod WholeFile

@@ -1,8 +1,8 @@
 -- A WAV file of the RIFF WAVE format, as what is put out for it: a head of 44 bytes, the data, and one zero byte
 -- behind data of an odd size.
 use Rattle.std.specs.Prelude.{ℕ, ◌+◌, ◌*◌, ◌%◌, ◌==◌, if◌then◌else◌, List, [], ◌∷◌, None, Some, false, unwrap_or}
-use Rattle.gst_caps.specs.Description.{Description}
-use Rattle.gst_caps.specs.declared.value.One.{One}
+use Rattle.gst_value.specs.Description.{Description}
+use Rattle.gst_value.specs.declared.one.One.{One}
 use Rattle.audio_info.specs.Media.{sample_of, rate_of, channels_of}
 use Rattle.audio_info.specs.Packing.{sample_width}
 use Rattle.audio_info.specs.declared.sample.Sample.{Sample}

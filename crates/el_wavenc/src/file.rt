@@ -11,9 +11,9 @@ ghost use Rattle.el_wavenc.specs.WavFile.{bytes_at as bytes_at_of, head_bytes, h
 use crate::put_out::{on_pad, put_out};
 use crate::stream::Stream;
 use audio_info::Sample;
-use gst_caps::OutOfMemory;
 use gst_item::{Body, Buffer, Event, Item, Out, Outs};
 use gst_time::{Format, Segment};
+use gst_value::OutOfMemory;
 use std::alloc::Global;
 use std::collections::VecDeque;
 use wav_format::{Head, write_head};

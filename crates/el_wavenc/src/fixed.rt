@@ -1,65 +1,21 @@
-//! Fixed caps that are equal, and the caps of one fixed caps alone.
-ghost use Rattle.std.specs.Prelude.{◌≡◌, ◌++◌, ◌∷◌, [], IfOk, OnOk};
-ghost use Rattle.std.specs.Option.{option_map};
-ghost use Rattle.gst_caps.specs.Common.{same};
-ghost use Rattle.gst_caps.specs.Names.{put};
-ghost use Rattle.gst_caps.specs.Values.{IsSingle};
+//! The caps of one fixed caps alone.
+ghost use Rattle.std.specs.Prelude.{◌≡◌, IfOk, OnOk};
+ghost use Rattle.gst_value.specs.Names.{put};
+ghost use Rattle.gst_value.specs.Values.{IsSingle};
 ghost use Rattle.gst_caps.specs.declared.value.Value.TheVariants.{One as Single};
-ghost use Rattle.el_wavenc.specs.Same.{as_structure as as_structure_of, exactly as exactly_of, same_caps as same_caps_of, same_given};
+ghost use Rattle.el_wavenc.specs.Alone.{as_structure as as_structure_of, exactly as exactly_of};
 
-use gst_caps::{Caps, Fixed, List, One, OutOfMemory, Structure, Value};
+use audio_info::only_structure;
+use gst_caps::{Caps, Structure, Value};
+use gst_value::{Fixed, One, OutOfMemory};
 use std::alloc::Global;
-
-/// Whether two fixed caps are equal.
-pub(crate) fn same_caps(one: &Fixed, other: &Fixed) -> bool
-    ensures { result ≡ same_caps_of one.now other.now }
-{
-    if one.media() != other.media() {
-        return false;
-    }
-    if one.fields() != other.fields() {
-        return false;
-    }
-    for place in 0..one.fields() {
-        if !same_at(one.field(place), other.field(place)) {
-            return false;
-        }
-    }
-    true
-}
-
-/// Whether two fields are there and have the same name and the same value.
-fn same_at(one: Option<(&str, &One)>, other: Option<(&str, &One)>) -> bool
-    ensures { result ≡ same_given (option_map (λ f. (f.0.now, f.1.now)) one.entry) (option_map (λ f. (f.0.now, f.1.now)) other.entry) }
-{
-    match (one, other) {
-        (Some((name, value)), Some((wanted, other))) => name == wanted && same_value(value, other),
-        _ => false,
-    }
-}
-
-/// Whether two values are equal.
-fn same_value(one: &One, other: &One) -> bool
-    ensures { result ≡ same one.now other.now }
-{
-    match (one, other) {
-        (One::Int(number), One::Int(wanted)) => number == wanted,
-        (One::Bool(truth), One::Bool(wanted)) => truth == wanted,
-        (One::Text(text), One::Text(wanted)) => text.as_str() == wanted.as_str(),
-        (One::Fraction(num, den), One::Fraction(above, below)) => num == above && den == below,
-        (One::IntRange(low, high), One::IntRange(least, most)) => low == least && high == most,
-        _ => false,
-    }
-}
 
 /// The caps that have these fixed caps as their only structure. There is no room for more than 64 fields.
 pub(crate) fn exactly(alloc: Global, caps: &Fixed) -> Result<Caps, OutOfMemory>
     ensures { IfOk result (λ made. made ≡ exactly_of caps.now) }
 {
     let structure = as_structure(alloc, caps)?;
-    let mut structures = List::new(alloc);
-    structures.push(alloc, structure)?;
-    Ok(Caps::Of(structures))
+    only_structure(alloc, structure)
 }
 
 /// The structure of fixed caps.

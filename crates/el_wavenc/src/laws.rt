@@ -1,7 +1,7 @@
 //! What a sink makes of what is put out.
 ghost use Rattle.std.specs.Prelude.{◌≡◌, ◌++◌, ◌∷◌, [], List, Some, false};
-ghost use Rattle.gst_caps.specs.Description.{Description};
-ghost use Rattle.gst_caps.specs.declared.value.One.{One};
+ghost use Rattle.gst_value.specs.Description.{Description};
+ghost use Rattle.gst_value.specs.declared.one.One.{One};
 ghost use Rattle.flow_model.specs.Item.{Item, Ev, Eos};
 ghost use Rattle.flow_model.specs.Call.{feeds};
 ghost use Rattle.flow_model.specs.Rule.{unfed, all_called, owed_for};

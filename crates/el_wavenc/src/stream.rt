@@ -2,7 +2,7 @@
 ghost use Rattle.std.specs.Prelude.{◌≡◌, IfOk};
 
 use audio_info::Info;
-use gst_caps::{Fixed, OutOfMemory};
+use gst_value::{Fixed, OutOfMemory};
 use std::alloc::Global;
 
 /// A stream by its caps, and what they say of its frames.

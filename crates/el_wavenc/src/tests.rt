@@ -1,12 +1,13 @@
 //! Rows of calls, with what they answer and put out, and the files that this makes.
-ghost use Rattle.std.specs.Prelude.{◌≡◌, ◌≤◌, false};
-ghost use Rattle.flow_model.specs.Item.{is_flush_stop};
+ghost use Rattle.std.specs.Prelude.{◌≤◌};
 
 use crate::{WavEnc, file_is_whole};
 use audio_info::{Info, Sample};
-use gst_caps::{Fixed, List, Text};
-use gst_item::{Body, Buffer, ElementFault, Event, Flow, Item, Outs, StreamKind};
+use flow_model::{ElementFault, StreamKind};
+use gst_item::{Buffer, Event, Flow, Item, Outs};
 use gst_time::{Format, Segment};
+use gst_value::{Fixed, List};
+use item_letters::{buffer_of, bytes_by, event_by, is_flush, word_of};
 use std::alloc::Global;
 use std::fmt::Write;
 use std::process::Abort;
@@ -42,30 +43,6 @@ MULAW eos -> 524946462400000057415645666d74201000000007000100401f0000401f0000010
 ALAW +d5d5 eos -> 524946462600000057415645666d74201000000006000100401f0000401f0000010008006461746102000000d5d5
 ";
 
-/// The bytes whose hexadecimal digits stand in a text.
-fn bytes_by(alloc: Global, digits: &str) -> Result<Vec<u8>, Fail> {
-    let mut bytes = Vec::new(alloc);
-    let mut rest = digits;
-    for _ in 0..digits.len() {
-        let Some((pair, more)) = rest.split_at_checked(2) else {
-            return Ok(bytes);
-        };
-        bytes.push(u8::from_str_radix(pair, 16).unwrap_or(0))?;
-        rest = more;
-    }
-    Ok(bytes)
-}
-
-fn buffer_by(alloc: Global, digits: &str) -> Result<Item, Fail> {
-    Ok(Item::Buffer(Buffer {
-        body: Body::from_vec(alloc, bytes_by(alloc, digits)?)?,
-        pts: Some(1),
-        duration: Some(2),
-        offset: Some(3),
-        discont: true,
-    }))
-}
-
 /// CAPS of the format of this name.
 fn caps_by(alloc: Global, name: &str) -> Result<Fixed, Fail> {
     let (name, channels) = match name.strip_suffix('2') {
@@ -85,42 +62,23 @@ fn caps_by(alloc: Global, name: &str) -> Result<Fixed, Fail> {
     Ok(info.to_fixed(alloc)?)
 }
 
-fn event_by(alloc: Global, word: &str) -> Result<Event, Fail> {
-    match word {
-        "start" => Ok(Event::StreamStart { id: 1 }),
-        "tag" => Ok(Event::Tag {
-            title: Text::from_str(alloc, "title")?,
-        }),
-        "gap" => Ok(Event::Gap {
-            pts: 0,
-            duration: 1,
-        }),
-        "time=0" => Ok(Event::Segment(Segment::new(Format::Time))),
-        "bytes=7" => Ok(Event::Segment(Segment {
+fn item_by(alloc: Global, word: &str) -> Result<Item, Fail> {
+    if let Some(digits) = word.strip_prefix('+') {
+        return Ok(buffer_of(alloc, bytes_by(alloc, digits)?.as_slice())?);
+    }
+    Ok(Item::Event(match word {
+        "start" | "tag" | "gap" | "eos" => event_by(alloc, word)?,
+        "time=0" => Event::Segment(Segment::new(Format::Time)),
+        "bytes=7" => Event::Segment(Segment {
             format: Format::Bytes,
             start: 7,
             stop: None,
             time: 7,
             base: 0,
             position: 7,
-        })),
-        "eos" => Ok(Event::Eos),
-        name => Ok(Event::Caps(caps_by(alloc, name)?)),
-    }
-}
-
-fn item_by(alloc: Global, word: &str) -> Result<Item, Fail> {
-    match word.strip_prefix('+') {
-        Some(digits) => buffer_by(alloc, digits),
-        None => Ok(Item::Event(event_by(alloc, word)?)),
-    }
-}
-
-/// Whether an item is a FLUSH_STOP, which is not fed.
-fn is_flush(item: &Item) -> bool
-    ensures { result ≡ is_flush_stop item.now }
-{
-    matches!(item, Item::Event(Event::FlushStop { .. }))
+        }),
+        name => Event::Caps(caps_by(alloc, name)?),
+    }))
 }
 
 /// `+` for Ok, `.` for Eos, and what a fault says. Of wanted caps the number of structures is told.
@@ -187,7 +145,6 @@ fn tell_buffer(text: &mut String, buffer: &Buffer) -> Result<(), Fail> {
 fn tell_item(text: &mut String, item: &Item) -> Result<(), Fail> {
     match item {
         Item::Buffer(buffer) => tell_buffer(text, buffer)?,
-        Item::Event(Event::StreamStart { .. }) => text.push_str("start")?,
         Item::Event(Event::Caps(caps)) => {
             let is_wav = caps.media() == "audio/x-wav" && caps.fields() == 0;
             text.push_str(if is_wav { "wav" } else { "caps" })?;
@@ -202,10 +159,7 @@ fn tell_item(text: &mut String, item: &Item) -> Result<(), Fail> {
                 segment.start
             )?;
         }
-        Item::Event(Event::Tag { .. }) => text.push_str("tag")?,
-        Item::Event(Event::Gap { .. }) => text.push_str("gap")?,
-        Item::Event(Event::FlushStop { .. }) => text.push_str("flush")?,
-        Item::Event(Event::Eos) => text.push_str("eos")?,
+        Item::Event(event) => text.push_str(word_of(event))?,
     }
     Ok(())
 }
@@ -261,15 +215,6 @@ fn check_calls(rt: &impl Abort, alloc: Global, line: &str) -> Result<(), Fail> {
     Ok(())
 }
 
-#[test]
-fn encodes(rt: HostRuntime) -> Result<(), Fail> {
-    let alloc = rt.alloc();
-    for line in ENCODED.lines() {
-        check_calls(&rt, alloc, line)?;
-    }
-    Ok(())
-}
-
 /// Writes bytes at a place of a file.
 fn write_at(file: &mut Vec<u8>, place: usize, bytes: &[u8]) -> Result<(), Fail> {
     let mut place = place;
@@ -314,8 +259,11 @@ fn check_file(rt: &impl Abort, alloc: Global, line: &str) -> Result<(), Fail> {
 }
 
 #[test]
-fn files(rt: HostRuntime) -> Result<(), Fail> {
+fn rows_of_calls(rt: HostRuntime) -> Result<(), Fail> {
     let alloc = rt.alloc();
+    for line in ENCODED.lines() {
+        check_calls(&rt, alloc, line)?;
+    }
     file_is_whole();
     for line in FILES.lines() {
         check_file(&rt, alloc, line)?;

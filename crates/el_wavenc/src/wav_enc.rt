@@ -5,18 +5,19 @@ ghost use Rattle.flow_model.specs.Item.{Item, Buf, Ev, NewCaps, FlushStop, Eos, 
 ghost use Rattle.flow_model.specs.Call.{Call, Feed, Act, Drain};
 ghost use Rattle.flow_model.specs.Feeding.{flow_behind, on_pad, next_owed, IsFaultOf};
 ghost use Rattle.flow_model.specs.Owed.{events_of, answered, drain_owed};
-ghost use Rattle.el_wavenc.specs.Encodes.{encodes, encode_answer, announcement, ending, finished, settled, behind};
+ghost use Rattle.el_wavenc.specs.Encodes.{encodes, encode_answer, announcement, ending, finished, settled, progress_behind};
 
 use crate::file::{
     HEAD_LENGTH, MOST_DATA, bytes_at, push_event, push_head, push_opening, push_padding, put_data,
 };
-use crate::fixed::{exactly, same_caps};
+use crate::fixed::exactly;
 use crate::put_out::put_out;
 use crate::stream::Stream;
 use crate::template::sink_template;
-use audio_info::Info;
-use gst_caps::{Fixed, OutOfMemory};
-use gst_item::{Buffer, ElementFault, Event, Flow, Item, Out, Outs, StreamKind};
+use audio_info::{Info, same_caps};
+use flow_model::{ElementFault, StreamKind};
+use gst_item::{Buffer, Event, Flow, Item, Out, Outs};
+use gst_value::{Fixed, OutOfMemory};
 use std::alloc::Global;
 use std::collections::VecDeque;
 
@@ -134,7 +135,7 @@ impl WavEnc {
         requires { is_flush_stop item ≡ false }
         ensures answer { OnOk result (IsOk (encode_answer (come self.old) item)) }
         ensures out { OnOk result (out.new ≡ out.old ++ on_pad 0 (answered (encode_answer (come self.old) item))) }
-        ensures come { OnOk result (come self.new ≡ behind (come self.old) item) }
+        ensures come { OnOk result (come self.new ≡ progress_behind (come self.old) item) }
         ensures eos { OnOk result (self.old.ended ≡ false → self.new.ended ≡ is_eos item) }
         ensures stays { OnErr result ((self.new ≡ self.old) × (out.new ≡ out.old)) }
         ensures fault { IfErr result (λ fault. IsFaultOf (encode_answer (come self.old) item) fault) }
@@ -158,7 +159,7 @@ impl WavEnc {
     ) -> Result<(), ElementFault>
         ensures answer { OnOk result (IsOk (encode_answer (come self.old) (Buf buffer))) }
         ensures out { OnOk result (out.new ≡ out.old ++ on_pad 0 (answered (encode_answer (come self.old) (Buf buffer)))) }
-        ensures come { OnOk result (come self.new ≡ behind (come self.old) (Buf buffer)) }
+        ensures come { OnOk result (come self.new ≡ progress_behind (come self.old) (Buf buffer)) }
         ensures ended { self.new.ended ≡ self.old.ended }
         ensures stays { OnErr result ((self.new ≡ self.old) × (out.new ≡ out.old)) }
         ensures fault { IfErr result (λ fault. IsFaultOf (encode_answer (come self.old) (Buf buffer)) fault) }
@@ -193,7 +194,7 @@ impl WavEnc {
     fn take_caps(&mut self, alloc: Global, caps: Fixed, out: &mut Outs) -> Result<(), ElementFault>
         ensures answer { OnOk result (IsOk (encode_answer (come self.old) (Ev (NewCaps caps)))) }
         ensures out { OnOk result (out.new ≡ out.old ++ on_pad 0 (answered (encode_answer (come self.old) (Ev (NewCaps caps))))) }
-        ensures come { OnOk result (come self.new ≡ behind (come self.old) (Ev (NewCaps caps))) }
+        ensures come { OnOk result (come self.new ≡ progress_behind (come self.old) (Ev (NewCaps caps))) }
         ensures ended { self.new.ended ≡ self.old.ended }
         ensures stays { OnErr result ((self.new ≡ self.old) × (out.new ≡ out.old)) }
         ensures fault { IfErr result (λ fault. IsFaultOf (encode_answer (come self.old) (Ev (NewCaps caps))) fault) }
@@ -229,7 +230,7 @@ impl WavEnc {
         requires { settled (come self.old) ≡ None }
         ensures answer { OnOk result (IsOk (encode_answer (come self.old) (Ev (NewCaps caps)))) }
         ensures out { OnOk result (out.new ≡ out.old ++ on_pad 0 (answered (encode_answer (come self.old) (Ev (NewCaps caps))))) }
-        ensures come { OnOk result (come self.new ≡ behind (come self.old) (Ev (NewCaps caps))) }
+        ensures come { OnOk result (come self.new ≡ progress_behind (come self.old) (Ev (NewCaps caps))) }
         ensures ended { self.new.ended ≡ self.old.ended }
         ensures stays { OnErr result ((self.new ≡ self.old) × (out.new ≡ out.old)) }
         ensures fault { IfErr result (λ fault. IsFaultOf (encode_answer (come self.old) (Ev (NewCaps caps))) fault) }
@@ -267,7 +268,7 @@ impl WavEnc {
     /// Ends the file, and then the stream.
     fn take_eos(&mut self, alloc: Global, out: &mut Outs) -> Result<(), ElementFault>
         ensures out { OnOk result (out.new ≡ out.old ++ on_pad 0 (answered (encode_answer (come self.old) (Ev Eos)))) }
-        ensures come { OnOk result (come self.new ≡ behind (come self.old) (Ev Eos)) }
+        ensures come { OnOk result (come self.new ≡ progress_behind (come self.old) (Ev Eos)) }
         ensures ended { OnOk result (self.new.ended ≡ true) }
         ensures stays { OnErr result ((self.new ≡ self.old) × (out.new ≡ out.old)) }
         ensures fault { IfErr result (λ fault. IsFaultOf (encode_answer (come self.old) (Ev Eos)) fault) }

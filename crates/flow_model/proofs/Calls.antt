@@ -3,7 +3,7 @@ use Rattle.std.proofs.Common.{◌≡◌, ℕ, Bool, true, false, if◌then◌els
 use Rattle.gst_item.proofs.Kept.{in_force_push}
 use Rattle.flow_model.specs.Item.{Item, Ev, Eos, FlushStop, is_flush_stop, is_eos}
 use Rattle.flow_model.specs.Sticky.{InForce, in_force}
-use Rattle.flow_model.specs.Call.{Call, Feed, Act, Drain, Set, Mark, Setting, items}
+use Rattle.flow_model.specs.Call.{Call, Feed, Act, Drain, Set, Mark, Setting, feeds, items}
 use Rattle.flow_model.specs.Rule.{Response, Fed, unfed, responded, flushed, drained, called, all_called}
 use Rattle.flow_model.specs.Feeding.{has_item, has_eos}
 use Rattle.flow_model.proofs.Sections.{called_push}
@@ -87,3 +87,7 @@ eos_flushed calls number = eos_push calls (Ev (FlushStop number))
 
 pub eos_act : (calls : List Call) (mark : Mark) → has_eos (calls ++ Act mark ∷ []) ≡ has_eos calls
 eos_act calls mark = rw (items_act calls mark) refl
+
+pub feeds_push : (items : List Item) (x : Item) → feeds (items ++ x ∷ []) ≡ feeds items ++ Feed x ∷ []
+feeds_push [] x = refl
+feeds_push (y ∷ ys) x = ap (λ cs. Feed y ∷ cs) (feeds_push ys x)

@@ -1,5 +1,5 @@
 -- The caps in force behind one more item.
-use Rattle.std.proofs.Common.{◌≡◌, ℕ, if◌then◌else◌, List, [], ◌∷◌, ◌++◌, refl}
+use Rattle.std.proofs.Common.{◌≡◌, if◌then◌else◌, List, [], ◌∷◌, ◌++◌, refl}
 use Rattle.gst_item.proofs.Kept.{latest_push}
 use Rattle.flow_model.specs.Item.{Item, Buf, Ev, StreamStart, NewCaps, NewSegment, Tag, Gap, FlushStop, Eos, is_caps}
 use Rattle.flow_model.specs.Sticky.{latest}

@@ -1,7 +1,7 @@
 pub mod Calls
 pub mod CapsFed
-pub mod Chains
 pub mod Counted
+pub mod Links
 pub mod Looking
 pub mod Prefixes
 pub mod Sections

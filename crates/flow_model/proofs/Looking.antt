@@ -1,5 +1,5 @@
 -- What looking back over a list sees behind one more item.
-use Rattle.std.proofs.Common.{◌≡◌, ℕ, Bool, true, false, if◌then◌else◌, List, [], ◌∷◌, ◌++◌, refl, sym, ap, ◌∙◌, append_assoc, append-nil}
+use Rattle.std.proofs.Common.{◌≡◌, Bool, true, false, if◌then◌else◌, List, [], ◌∷◌, ◌++◌, refl, sym, ap, ◌∙◌, append_assoc, append-nil}
 use Rattle.gst_item.proofs.Kept.{since_push, latest_push}
 use Rattle.flow_model.specs.Item.{Item, is_flush_stop, body_of}
 use Rattle.flow_model.specs.Sticky.{latest, since_flush_stop}

@@ -1,7 +1,7 @@
 -- The caps in force: those of the last CAPS of a list.
-use Rattle.std.specs.Prelude.{List, [], ◌∷◌, Option, None, Some}
-use Rattle.gst_caps.specs.Description.{Description}
-use Rattle.gst_caps.specs.declared.value.One.{One}
+use Rattle.std.specs.Prelude.{List, ◌∷◌, Option, None, Some}
+use Rattle.gst_value.specs.Description.{Description}
+use Rattle.gst_value.specs.declared.one.One.{One}
 use Rattle.flow_model.specs.Item.{Item, Ev, NewCaps, is_caps}
 use Rattle.flow_model.specs.Sticky.{latest}
 

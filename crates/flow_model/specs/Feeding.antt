@@ -3,8 +3,8 @@ use Rattle.std.specs.Prelude.{◌≡◌, ℕ, Bool, true, false, List, [], ◌�
 use Rattle.gst_item.specs.declared.flow.Flow.{Flow}
 use Rattle.gst_item.specs.declared.flow.Flow.TheVariants.{Ok as Taken, Eos as BehindEos}
 use Rattle.gst_item.specs.declared.out.Out.{Out}
-use Rattle.gst_item.specs.declared.fault.ElementFault.{ElementFault}
-use Rattle.gst_item.specs.declared.fault.ElementFault.TheVariants.{NotNegotiated as Refused, BadStream as Broken, TooLong as Passing, OutOfMemory as Wanting}
+use Rattle.flow_model.specs.declared.fault.ElementFault.{ElementFault}
+use Rattle.flow_model.specs.declared.fault.ElementFault.TheVariants.{NotNegotiated as Refused, BadStream as Broken, TooLong as Passing, OutOfMemory as Wanting}
 use Rattle.flow_model.specs.Item.{Item}
 use Rattle.flow_model.specs.Sticky.{in_force}
 use Rattle.flow_model.specs.Call.{Call, items}

@@ -8,4 +8,4 @@ pub use Rattle.gst_item.specs.declared.item.Buffer.{Buffer}
 pub use Rattle.gst_time.specs.declared.segment.Segment.{Segment}
 pub use Rattle.gst_time.specs.declared.segment.Format.{Format}
 pub use Rattle.gst_time.specs.declared.segment.Format.TheVariants.{Bytes, Time}
-pub use Rattle.gst_item.specs.Item.{is_stream_start, is_caps, is_segment, is_tag, is_flush_stop, is_eos, is_buffer, is_sticky, buffers, body_of}
+pub use Rattle.gst_item.specs.Item.{is_stream_start, is_caps, is_segment, is_tag, is_flush_stop, is_eos, eos_among, is_buffer, is_sticky, buffers, body_of}

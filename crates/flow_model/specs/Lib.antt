@@ -1,7 +1,6 @@
 pub mod Account
 pub mod Call
 pub mod CapsInForce
-pub mod Chain
 pub mod Eval
 pub mod Feeding
 pub mod Item
@@ -9,7 +8,6 @@ pub mod Link
 pub mod Looking
 pub mod Owed
 pub mod Prefix
-pub mod ReportText
 pub mod Rule
 pub mod Section
 pub mod SinkBytes

@@ -1,10 +1,10 @@
 -- Rules of elements. A rule says what an element owes: from what its sink pads were given, for each source
 -- pad and each section, the items that are to cross that pad in that section.
 use Rattle.std.specs.Prelude.{ℕ, Bool, true, false, List, [], ◌∷◌, ◌++◌, Option, Result, Ok, Err, filter, if◌then◌else◌}
-use Rattle.gst_caps.specs.Description.{Description}
-use Rattle.gst_caps.specs.declared.value.One.{One}
+use Rattle.gst_value.specs.Description.{Description}
+use Rattle.gst_value.specs.declared.one.One.{One}
 use Rattle.gst_caps.specs.declared.caps.Caps.{Caps}
-use Rattle.gst_item.specs.declared.fault.StreamKind.{StreamKind}
+use Rattle.flow_model.specs.declared.fault.StreamKind.{StreamKind}
 use Rattle.flow_model.specs.Item.{Item, Ev, Eos, is_flush_stop, is_eos}
 use Rattle.flow_model.specs.Call.{Call, Feed, Act, Drain, Set}
 use Rattle.flow_model.specs.Section.{section}

@@ -1,6 +1,6 @@
 -- Sections: what a list holds between two flushes. Section 0 stands before the first FLUSH_STOP, section j
 -- behind the j-th.
-use Rattle.std.specs.Prelude.{ℕ, zero, suc, Bool, true, false, List, [], ◌∷◌, if◌then◌else◌}
+use Rattle.std.specs.Prelude.{◌≡◌, ℕ, zero, suc, Bool, true, false, List, [], ◌∷◌, if◌then◌else◌}
 use Rattle.flow_model.specs.Item.{Item, is_flush_stop, is_eos}
 
 -- the items of section j, without the FLUSH_STOP that ends it
@@ -17,3 +17,13 @@ counted_after true (x ∷ xs) = if is_flush_stop x then x ∷ counted_after fals
 
 abbrev pub counted : List Item → List Item
 counted xs = counted_after false xs
+
+-- no FLUSH_STOP, and nothing behind an EOS
+abbrev pub IsPlain : List Item → Type 0
+IsPlain [] = Unit {0}
+IsPlain (x ∷ xs) = (is_flush_stop x ≡ false) × (is_eos x ≡ true → xs ≡ []) × IsPlain xs
+
+-- what a source owes before any seek
+abbrev pub first_section : List Item → ℕ → List Item
+first_section list zero = list
+first_section list (suc j) = []

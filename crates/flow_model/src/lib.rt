@@ -8,11 +8,10 @@ ghost use Rattle.flow_model.specs.Call.{Call};
 ghost use Rattle.flow_model.specs.Rule.{Response, owed_for};
 ghost use Rattle.flow_model.specs.Eval.{Plan, eval};
 ghost use Rattle.flow_model.specs.Account.{GoesForward, Each, Agrees, IsMember};
-ghost use Rattle.flow_model.specs.Chain.{ChainToWhole, ChainWhole};
 
-pub mod report;
+pub mod fault;
 
-pub use report::{Answer, Entry, Fault, PadCount, Place, Report, SinkCount};
+pub use fault::{ElementFault, StreamKind};
 
 /// What an element with one sink pad owes for a beginning of what it is given begins what it owes for the whole.
 #[tactic(auto, using(crate::proofs::Sections::owed_for_prefix))]
@@ -27,16 +26,5 @@ pub fn parts_to_whole()
         → (p : ℕ) → IsMember (plan.owner p) plan.forward → eval plan p ≡ h p }
 {}
 
-/// Along a chain of elements that pass all, lists that each begin the list before are the histories of the
-/// evaluation.
-#[tactic(auto, using(crate::proofs::Chains::chain_to_whole))]
-pub fn chain_to_whole()
-    ensures { ChainToWhole }
-{}
-
-/// Along a chain of elements that pass all, the whole list of the source crosses each pad where nothing is left
-/// waiting.
-#[tactic(auto, using(crate::proofs::Chains::chain_whole))]
-pub fn chain_whole()
-    ensures { ChainWhole }
-{}
+#[cfg(test)]
+mod tests;

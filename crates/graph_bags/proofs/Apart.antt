@@ -19,9 +19,7 @@ use Rattle.graph_bags.specs.declared.bag.BagElement.{BagElement}
 use Rattle.graph_bags.specs.declared.bag.BagLink.TheVariants.{Element, Lane}
 use Rattle.graph_bags.specs.declared.bag.BagPad.{BagPad}
 use Rattle.graph_bags.proofs.Trees.{range_holds, range_has, range_once, is_tree, leads_inside, reached_there}
-
-some_same : {A : Type 0} {a b : A} → Some a ≡ Some b → a ≡ b
-some_same e = cc
+use Rattle.gst_value.proofs.Basics.{some_same}
 
 -- what stands at a place
 get_map : (f : Bag → ℕ) (bags : List Bag) (k : ℕ) (bag : Bag) → slice_get bags k ≡ Some bag → slice_get (map f bags) k ≡ Some (f bag)

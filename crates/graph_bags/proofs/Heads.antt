@@ -7,7 +7,7 @@ use Rattle.std.proofs.lemmas.List.FromFn.{filter_of_map_range_with_len_more}
 use Rattle.std.proofs.lemmas.List.{append-nil, map-append, map-id}
 use Rattle.std.proofs.lemmas.List.Elements.{All-push}
 use Rattle.flow_model.specs.Account.{IsMember}
-use Rattle.el_set.specs.declared.settings.Settings.{Settings}
+use Rattle.el_settings.specs.declared.settings.Settings.{Settings}
 use Rattle.graph_core.specs.Elements.{Made}
 use Rattle.graph_core.specs.declared.pad.PadLink.{PadLink}
 use Rattle.graph_bags.specs.Links.{has, has_inlets, is_head, is_source, Reaches}

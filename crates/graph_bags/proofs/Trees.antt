@@ -6,8 +6,8 @@ use Rattle.std.specs.Option.{option_map_or}
 use Rattle.std.proofs.lemmas.Bool.Decides.{eqb_tells}
 use Rattle.std.proofs.lemmas.Option.{slice_get_within}
 use Rattle.flow_model.specs.Account.{IsMember}
-use Rattle.el_set.specs.Asked.{sink_pads}
-use Rattle.el_set.proofs.Roles.{one_sink}
+use Rattle.el_settings.specs.Asked.{sink_pads}
+use Rattle.el_settings.proofs.Roles.{one_sink}
 use Rattle.graph_core.specs.Elements.{Made}
 use Rattle.graph_core.specs.Links.{HasPads, is_same, sink_behind, source_before}
 use Rattle.graph_core.specs.declared.pad.PadLink.{PadLink}
@@ -18,6 +18,7 @@ use Rattle.graph_bags.specs.declared.bag.BagLink.TheVariants.{Nothing, Element, 
 use Rattle.graph_bags.specs.Links.{has, has_inlets, is_head, source_count, place_at, link_to, pad_at, pads_of, led_to, inside, LeadsInside, Reaches}
 use Rattle.graph_bags.specs.Bags.{Once}
 use Rattle.graph_bags.proofs.Walks.{IsTree}
+use Rattle.gst_value.proofs.Basics.{some_same, none_some, no_true}
 
 -- the numbers of a range
 pub range_holds : (start n k : ℕ) → IsMember k (range_with_len start n) → (start ≤ k) × (k < start + n)
@@ -97,15 +98,6 @@ leads_inside made links a d l =
 abbrev pub sinks_at : List Made → ℕ → ℕ
 sinks_at made e = option_map_or (λ (m : Made). sink_pads m.settings) (slice_get made e) 0
 
-some_same : {A : Type 0} {a b : A} → Some a ≡ Some b → a ≡ b
-some_same e = cc
-
-none_some : {A : Type 0} {a : A} → None ≡ Some a → ⊥
-none_some e = cc
-
-not_true : false ≡ true → ⊥
-not_true e = cc
-
 -- the sink pad that a source pad is linked to is there
 pub sink_there : (made : List Made) (links : List PadLink) → All (HasPads made) links → (source sink : PadPlace) → sink_behind links source ≡ Some sink → sink.pad < sinks_at made sink.element
 sink_there made [] all source sink at = absurd (none_some at)
@@ -135,7 +127,7 @@ no_head_there (Some m) pad head none w = go (eqb_tells (sink_pads m.settings) 0)
     go : ((eqb (sink_pads m.settings) 0 ≡ true) × (sink_pads m.settings ≡ 0)) ⊎ ((eqb (sink_pads m.settings) 0 ≡ false) × (sink_pads m.settings ≡ 0 → ⊥))
         → (eqb (sink_pads m.settings) 0 || has_inlets m.settings) ≡ true → ⊥
     go (inl t) head = omega (arith, t.1, w)
-    go (inr f) head = not_true (rw (f.0, none) at head)
+    go (inr f) head = no_true (rw (f.0, none) at head)
 
 module _ (made : List Made) (links : List PadLink) (all : All (HasPads made) links) (once : AreOnce links) where
   -- one source pad at the most leads to an element that is not fed from inlets

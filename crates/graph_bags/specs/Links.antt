@@ -2,8 +2,8 @@
 use Rattle.std.specs.Prelude.{◌≡◌, ◌<◌, ◌==◌, ◌||◌, ℕ, Bool, false, List, [], ◌∷◌, Option, None, Some, if◌then◌else◌, map, slice_get}
 use Rattle.std.specs.List.{flat_map, range_with_len}
 use Rattle.std.specs.Option.{option_map_or}
-use Rattle.el_set.specs.Asked.{sink_pads, source_pads, is_queue}
-use Rattle.el_set.specs.declared.settings.Settings.{Settings}
+use Rattle.el_settings.specs.Asked.{sink_pads, source_pads, is_queue}
+use Rattle.el_settings.specs.declared.settings.Settings.{Settings}
 use Rattle.graph_core.specs.Elements.{Made}
 use Rattle.graph_core.specs.Links.{sink_behind}
 use Rattle.graph_core.specs.declared.pad.PadLink.{PadLink}

@@ -10,9 +10,9 @@ ghost use Rattle.graph_bags.specs.declared.bag.BagHead.TheVariants.{Source, Inle
 
 use crate::bag::{Bag, BagElement, BagHead};
 use crate::walk::{has_inlets, reached};
-use el_set::Settings;
+use el_settings::Settings;
 use graph_core::Graph;
-use gst_caps::OutOfMemory;
+use gst_value::OutOfMemory;
 use std::alloc::Global;
 
 /// The bags of a graph: one for each source and for each element that is fed from inlets, in the order of the graph's

@@ -1,7 +1,7 @@
 //! Rows of lines and the bags of their graphs.
 use super::*;
 use graph_core::{Graph, build};
-use gst_caps::Text;
+use gst_value::Text;
 use launch_text::parse;
 use std::alloc::Global;
 use std::process::Abort;

@@ -6,9 +6,9 @@ ghost use Rattle.graph_bags.specs.Links.{has, has_inlets, is_head, link_to, led_
 ghost use Rattle.graph_bags.specs.Walk.{Goes, AreReached};
 
 use crate::bag::{BagElement, BagLink, BagPad};
-use el_set::Settings;
+use el_settings::Settings;
 use graph_core::{Graph, PadPlace};
-use gst_caps::OutOfMemory;
+use gst_value::OutOfMemory;
 use std::alloc::Global;
 
 /// Whether an element that is set to this is fed from inlets, so that a link to it is a lane.

@@ -3,9 +3,9 @@ use Rattle.std.proofs.Common.{◌≡◌, ◌⊎◌, ℕ, zero, suc, Bool, true, 
 use Rattle.std.specs.Option.{option_map_or}
 use Rattle.gst_caps.specs.declared.caps.Caps.{Caps}
 use Rattle.gst_caps.specs.declared.caps.Caps.TheVariants.{Any}
-use Rattle.el_set.specs.Asked.{allowed_of, hands_on, is_converter, template_of, with_allowed}
-use Rattle.el_set.specs.declared.settings.Settings.{Settings}
-use Rattle.el_set.proofs.Allowing.{allowed_other, allowed_set, converter_set, filter_set, hands_set, location_set, set_own, set_twice, sources_set, template_set}
+use Rattle.el_settings.specs.Asked.{allowed_of, hands_on, is_converter, template_of, with_allowed}
+use Rattle.el_settings.specs.declared.settings.Settings.{Settings}
+use Rattle.el_settings.proofs.Allowing.{allowed_other, allowed_set, converter_set, filter_set, hands_set, location_set, set_own, set_twice, sources_set, template_set}
 use Rattle.graph_core.specs.Allowed.{Allows, AreAllowed, IsTooWide, allowed_before, checked, filtered, first_pad, with_caps}
 use Rattle.graph_core.specs.Elements.{Made, clash}
 use Rattle.graph_core.specs.Links.{sink_behind}

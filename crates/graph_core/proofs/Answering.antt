@@ -4,13 +4,13 @@ use Rattle.std.specs.Prelude.{IsErrAnd}
 use Rattle.std.specs.Option.{option_map, option_map_or}
 use Rattle.std.proofs.lemmas.List.{map-append}
 use Rattle.std.proofs.lemmas.Option.{slice_get_within}
-use Rattle.gst_caps.specs.Limit.{TooManyWhere}
+use Rattle.gst_value.specs.Limit.{TooManyWhere}
 use Rattle.gst_caps.specs.declared.caps.Caps.{Caps}
 use Rattle.gst_caps.specs.declared.caps.Caps.TheVariants.{Any}
-use Rattle.gst_caps.specs.declared.fault.CapsFault.{CapsFault}
-use Rattle.gst_caps.specs.declared.fault.CapsFault.TheVariants.{TooMany, OutOfMemory}
-use Rattle.el_set.specs.Asked.{allowed_of, filter_caps, hands_on, is_converter, template_of, with_allowed}
-use Rattle.el_set.specs.declared.settings.Settings.{Settings}
+use Rattle.gst_value.specs.declared.fault.CapsFault.{CapsFault}
+use Rattle.gst_value.specs.declared.fault.CapsFault.TheVariants.{TooMany, OutOfMemory}
+use Rattle.el_settings.specs.Asked.{allowed_of, filter_caps, hands_on, is_converter, template_of, with_allowed}
+use Rattle.el_settings.specs.declared.settings.Settings.{Settings}
 use Rattle.graph_core.specs.Allowed.{Allows, Answers, AreAllowed, AreAllowedBelow, IsWideFault, allowed_before, build_fault, checked, filtered, first_pad, with_caps}
 use Rattle.graph_core.specs.Asked.{Declared}
 use Rattle.graph_core.specs.Comes.{Comes}
@@ -25,7 +25,7 @@ use Rattle.graph_core.specs.declared.pad.Direction.TheVariants.{Source, Sink}
 use Rattle.graph_core.specs.declared.pad.PadLink.{PadLink}
 use Rattle.graph_core.specs.declared.pad.PadPlace.{PadPlace}
 use Rattle.graph_core.proofs.Joining.{sink_found}
-use Rattle.el_set.proofs.Allowing.{set_any, sinks_set, sources_set}
+use Rattle.el_settings.proofs.Allowing.{set_any, sinks_set, sources_set}
 use Rattle.graph_core.proofs.Allowing.{allowed_given, allows_alike, like_given, one_allowed, wide_alike}
 
 -- too many caps behind an element are too many before it
@@ -83,9 +83,6 @@ pub answers_where : (made : List Made) (links : List PadLink) (source : PadPlace
 answers_where made links source (Ok caps) h = λ none. let e = one_allowed made links source (Some caps) None h none in cc
 answers_where made links source (Err (TooMany count)) h = h
 answers_where made links source (Err OutOfMemory) h = tt
-
-pub answers_ok : (made : List Made) (links : List PadLink) (source : PadPlace) (caps : Caps) → Answers (Allows made links source) (Ok caps) → Allows made links source (Some caps)
-answers_ok made links source caps h = h
 
 made_any : (before : List Made) (d : Declared) (m : Made) → IsMade before d m → with_caps Any m ≡ m
 made_any before d m is = ap (λ (s : Settings). let r : Made = record { name = m.name; kind = m.kind; is_numbered = m.is_numbered; settings = s } in r) (set_any d.kind d.props m.settings is.set)

@@ -3,10 +3,10 @@ use Rattle.std.proofs.Common.{◌≡◌, ◌+◌, ◌&&◌, ◌||◌, ℕ, zero,
 use Rattle.std.proofs.lemmas.List.{length-map}
 use Rattle.indexmap.specs.IndexMap.{insert_entry, set_value_at}
 use Rattle.gst_caps.specs.declared.caps.Caps.{Caps}
-use Rattle.el_set.specs.Asked.{with_allowed}
+use Rattle.el_settings.specs.Asked.{with_allowed}
 use Rattle.graph_core.specs.Allowed.{with_caps}
 use Rattle.std.specs.List.{list_any, position_or_len}
-use Rattle.el_set.specs.declared.settings.Settings.{Settings}
+use Rattle.el_settings.specs.declared.settings.Settings.{Settings}
 use Rattle.graph_core.specs.Elements.{Made, made_of, has_number_of, numbered, is_named, is_name_taken, clash, is_location_taken}
 use Rattle.graph_core.specs.declared.element.Element.{Element}
 

@@ -1,18 +1,18 @@
 -- A line has one list of elements, or one fault of them.
 use Rattle.std.proofs.Common.{◌≡◌, ◌⊎◌, ℕ, Bool, true, false, List, [], ◌∷◌, ◌++◌, Option, Some, Result, Ok, Err, refl, sym, ap, ◌∙◌, subst, inl, inr, arith}
-use Rattle.el_set.specs.Asked.{location_of}
-use Rattle.el_set.specs.Checked.{IsAnswer}
-use Rattle.el_set.specs.declared.fault.PropFault.{PropFault}
-use Rattle.el_set.specs.declared.fault.PropFault.TheVariants.{NoSuchKind, NoSuchProperty, BadValue as BadPropValue}
-use Rattle.el_set.specs.declared.settings.Settings.{Settings}
+use Rattle.el_settings.specs.Asked.{location_of}
+use Rattle.el_settings.specs.Checked.{IsAnswer}
+use Rattle.el_settings.specs.declared.fault.PropFault.{PropFault}
+use Rattle.el_settings.specs.declared.fault.PropFault.TheVariants.{NoSuchKind, NoSuchProperty, BadValue as BadPropValue}
+use Rattle.el_settings.specs.declared.settings.Settings.{Settings}
 use Rattle.graph_core.specs.Asked.{Declared}
 use Rattle.graph_core.specs.Comes.{Comes}
 use Rattle.graph_core.specs.Elements.{Made, ElementsCome, IsMade, IsUnmade, IsPlaced, is_name_taken, is_location_taken, name_of, settings_fault}
 use Rattle.graph_core.specs.Laws.{AreSame, IsFree}
 use Rattle.graph_core.specs.declared.fault.BuildFault.{BuildFault}
 use Rattle.graph_core.specs.declared.fault.BuildFault.TheVariants.{NoSuch, BadValue, NameTaken, LocationTaken, TooMany, LinkRefused, OutOfMemory}
-use Rattle.el_set.specs.Alike.{AreAlike, IsUnjudged}
-use Rattle.gst_caps.specs.declared.name.Prop.{Prop}
+use Rattle.el_settings.specs.Alike.{AreAlike, IsUnjudged}
+use Rattle.gst_value.specs.declared.name.Prop.{Prop}
 
 -- properties have one answer
 abbrev pub OneSetting : Type 0

@@ -3,18 +3,16 @@ use Rattle.std.proofs.Common.{◌≡◌, ◌<◌, ◌≤◌, ◌&&◌, ◌==◌,
 use Rattle.std.specs.Option.{option_map, option_map_or}
 use Rattle.std.proofs.lemmas.Bool.{ltb-true}
 use Rattle.std.proofs.lemmas.Bool.Decides.{nat_tests}
-use Rattle.std.proofs.lemmas.List.{drop_all, map-append}
+use Rattle.std.proofs.lemmas.List.{drop_all}
 use Rattle.std.proofs.lemmas.Option.{slice_get_within}
-use Rattle.graph_order.specs.Forward.{link_of, links_of}
-use Rattle.graph_order.specs.declared.order.Order.{Order}
-use Rattle.el_set.specs.declared.settings.Settings.{Settings}
+use Rattle.el_settings.specs.declared.settings.Settings.{Settings}
 use Rattle.pad_core.specs.declared.linking.LinkReturn.{LinkReturn}
 use Rattle.graph_core.specs.Asked.{End, own, named, links_in}
 use Rattle.launch_text.specs.declared.tree.Chain.{Chain}
 use Rattle.graph_core.specs.Comes.{Comes}
 use Rattle.graph_core.specs.Elements.{Made, is_named}
 use Rattle.graph_core.specs.Ends.{IsEndPad, IsPadOf, IsThere, PadOrMemory, dotted, missing, name_at, named_pad, pad_at, pad_count, pad_name, pad_named, pad_number, pad_text, pads_at, taken_pad}
-use Rattle.graph_core.specs.Links.{HasPads, IsJudged, IsLinked, IsUnjoined, IsUnlinked, Joins, Leads, LinksCome, LinksFollow, LinksStop, is_same, leaves, sink_behind, source_before, way_of, ways}
+use Rattle.graph_core.specs.Links.{HasPads, IsJudged, IsLinked, IsUnjoined, IsUnlinked, Joins, Leads, LinksCome, LinksFollow, LinksStop, is_same, leaves, sink_behind, source_before}
 use Rattle.graph_core.specs.declared.fault.BuildFault.{BuildFault}
 use Rattle.graph_core.specs.declared.fault.BuildFault.TheVariants.{NoSuch, LinkRefused, OutOfMemory}
 use Rattle.graph_core.specs.declared.fault.What.TheVariants.{Order as NoOrder, Pad as NoPad, Element as NoElement}
@@ -150,10 +148,6 @@ where_ok (Err fault) f h = tt
 pub where_fault : (P Q : BuildFault → Type 0) (r : Result (Unit {0}) BuildFault) → ((fault : BuildFault) → P fault → Q fault) → IfErr r P → IfErr r Q
 where_fault P Q (Ok done) f h = tt
 where_fault P Q (Err fault) f h = f fault h
-
--- the order behind one link more
-pub ways_grown : (links after : List PadLink) (order grown : Order) (link : PadLink) → links_of order ≡ ways links → links_of grown ≡ links_of order ++ link_of link.source.element link.sink.element ∷ [] → after ≡ links ++ link ∷ [] → links_of grown ≡ ways after
-ways_grown links after order grown link same more put = more ∙ ap (λ ls. ls ++ way_of link ∷ []) same ∙ sym (ap ways put ∙ map-append way_of links (link ∷ []))
 
 -- when no chain is left, the links are made
 pub all_linked : {R : Type 0} (chain_of : R → Chain) (made : List Made) (links : List PadLink) (n : ℕ) (chains : List R) (i : ℕ) → length chains ≤ i

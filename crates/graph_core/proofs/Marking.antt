@@ -7,8 +7,8 @@ use Rattle.graph_order.specs.Links.{IsLink, Way}
 use Rattle.graph_order.specs.Marks.{is_marked, IsClosed}
 use Rattle.graph_order.specs.declared.link.Link.{Link}
 use Rattle.graph_order.proofs.Reached.{set_only, ways_marked, link_at, closed_with}
-use Rattle.el_set.specs.Asked.{sink_pads}
-use Rattle.el_set.specs.declared.settings.Settings.{Settings}
+use Rattle.el_settings.specs.Asked.{sink_pads}
+use Rattle.el_settings.specs.declared.settings.Settings.{Settings}
 use Rattle.graph_core.specs.Elements.{Made}
 use Rattle.graph_core.specs.Links.{way_of, ways}
 use Rattle.graph_core.specs.Live.{Live, AllLive, is_source}

@@ -9,12 +9,13 @@ use Rattle.flow_model.specs.Call.{feeds}
 use Rattle.flow_model.specs.Link.{input_of}
 use Rattle.flow_model.specs.Eval.{Plan}
 use Rattle.flow_model.specs.Account.{EachSource, EachSourceOf, GoesForward, IsMember}
-use Rattle.flow_model.proofs.Chains.{chain_input}
+use Rattle.flow_model.proofs.Links.{link_input}
 use Rattle.graph_core.specs.Elements.{Made}
 use Rattle.graph_core.specs.Links.{source_before, is_same}
 use Rattle.graph_core.specs.declared.pad.PadLink.{PadLink}
 use Rattle.graph_core.specs.declared.pad.PadPlace.{PadPlace}
 use Rattle.graph_core.specs.GraphPlan.{pad_id, owner_of, spans_from, sink_at, sink_count, line_plan, IsIn, GoesAlong, before_it}
+use Rattle.gst_value.proofs.Basics.{no_true}
 
 -- the pad of a number belongs to its element
 pub owner_at : (place : PadPlace) → place.pad < 64 → owner_of (pad_id place) ≡ place.element
@@ -37,21 +38,18 @@ found_in (l ∷ links) sink source e = go (is_same l.sink sink) refl e (found_in
     go true same e later = (l, inl refl, some_same e, same)
     go false same e later = let r = later e in (r.0, inr r.1, r.2, r.3)
 
-not_true : false ≡ true → ⊥
-not_true e = cc
-
 pub same_element : (one other : PadPlace) → is_same one other ≡ true → one.element ≡ other.element
 same_element one other e = go (eqb_tells one.element other.element) e
   where
     go : ((eqb one.element other.element ≡ true) × (one.element ≡ other.element)) ⊎ ((eqb one.element other.element ≡ false) × (one.element ≡ other.element → ⊥))
         → (eqb one.element other.element && eqb one.pad other.pad) ≡ true → one.element ≡ other.element
     go (inl t) e = t.1
-    go (inr t) e = absurd (not_true (rw t.0 at e))
+    go (inr t) e = absurd (no_true (rw t.0 at e))
 
 -- what an element's first sink pad is given
 pub given_calls : (h : ℕ → List Item) (source : Option PadPlace) → input_of h (spans_from source) ≡ feeds (before_it h source)
 given_calls h None = refl
-given_calls h (Some source) = chain_input h (pad_id source)
+given_calls h (Some source) = link_input h (pad_id source)
 
 -- the sources of an element's sink pads stand earlier
 sources_at : (links : List PadLink) (seen : List ℕ) (e k : ℕ) → ((link : PadLink) → IsIn link links → link.sink.element ≡ e → (link.source.pad < 64) × IsMember link.source.element seen)

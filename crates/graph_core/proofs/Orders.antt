@@ -6,8 +6,8 @@ use Rattle.flow_model.specs.Account.{IsMember as IsListed}
 use Rattle.graph_order.specs.Forward.{IsMember, StandsBefore, GoForward}
 use Rattle.graph_order.specs.declared.link.Link.{Link}
 use Rattle.graph_order.proofs.Once.{Covers, Once, once_by, behind_member}
-use Rattle.el_set.specs.Asked.{source_pads}
-use Rattle.el_set.proofs.Roles.{one_source}
+use Rattle.el_settings.specs.Asked.{source_pads}
+use Rattle.el_settings.proofs.Roles.{one_source}
 use Rattle.graph_core.specs.Elements.{Made}
 use Rattle.graph_core.specs.Graph.{IsSound, made as made_in, links as links_in, forward as forward_in}
 use Rattle.graph_core.specs.Links.{HasPads, ways}

@@ -4,21 +4,18 @@ use Rattle.std.specs.Prelude.{IsErrAnd}
 use Rattle.std.specs.List.{list_any, position_or_len}
 use Rattle.std.proofs.lemmas.Bool.{lt-ltb}
 use Rattle.std.proofs.lemmas.Bool.Decides.{nat_tests}
-use Rattle.el_set.specs.Asked.{location_of}
-use Rattle.el_set.specs.Checked.{IsAnswer}
-use Rattle.el_set.specs.declared.settings.Settings.{Settings}
-use Rattle.el_set.specs.declared.fault.PropFault.{PropFault}
-use Rattle.el_set.specs.declared.fault.PropFault.TheVariants.{NoSuchKind, NoSuchProperty, BadValue as BadPropValue, OutOfMemory as NoPropMemory}
+use Rattle.el_settings.specs.Asked.{location_of}
+use Rattle.el_settings.specs.Checked.{IsAnswer}
+use Rattle.el_settings.specs.declared.settings.Settings.{Settings}
+use Rattle.el_settings.specs.declared.fault.PropFault.{PropFault}
+use Rattle.el_settings.specs.declared.fault.PropFault.TheVariants.{NoSuchKind, NoSuchProperty, BadValue as BadPropValue, OutOfMemory as NoPropMemory}
 use Rattle.graph_core.specs.Asked.{Declared}
 use Rattle.graph_core.specs.Comes.{Comes}
-use Rattle.gst_caps.specs.declared.name.Prop.{Prop}
+use Rattle.gst_value.specs.declared.name.Prop.{Prop}
 use Rattle.graph_core.specs.declared.element.Element.{Element}
 use Rattle.graph_core.specs.Elements.{Made, made_of, given_name, name_of, is_name_taken, is_location_taken, same_location, clash, IsMade, IsUnmade, ElementsCome, Follows, Stops, IsPlaced, settings_fault}
 use Rattle.graph_core.specs.declared.fault.BuildFault.{BuildFault}
 use Rattle.graph_core.specs.declared.fault.BuildFault.TheVariants.{NoSuch, BadValue, NameTaken, LocationTaken, TooMany, LinkRefused, OutOfMemory}
-
-pub follows_none : (before : List Made) → Follows before [] before
-follows_none before = λ rest answer comes. comes
 
 pub follows_one : (before after : List Made) (d : Declared) (m : Made) → IsMade before d m → after ≡ before ++ m ∷ [] → Follows before (d ∷ []) after
 follows_one before after d m made grown = λ rest answer comes. Comes.more before d m rest answer made (subst (λ (ms : List Made). ElementsCome ms rest answer) grown comes)

@@ -23,10 +23,6 @@ module _ (first now new : List Made) (nodes : List Node) (i : ℕ) (node : Node)
   pub node_stops : (fault : BuildFault) → Stops now (declared_by node) fault → Stops first (chain_elements nodes) fault
   node_stops fault stops = λ rest. so_far rest (Err fault) (subst (λ (ds : List Declared). ElementsCome now ds (Err fault)) (sym (parted rest)) (stops (chain_elements (drop (i + 1) nodes) ++ rest)))
 
-pub nodes_done : (first now : List Made) (nodes : List Node) (i : ℕ) → length nodes ≤ i
-    → ((rest : List Declared) (answer : Result (List Made) BuildFault) → ElementsCome now (chain_elements (drop i nodes) ++ rest) answer → ElementsCome first (chain_elements nodes ++ rest) answer) → Follows first (chain_elements nodes) now
-nodes_done first now nodes i past so_far = λ rest answer comes. so_far rest answer (subst (λ (ns : List Node). ElementsCome now (chain_elements ns ++ rest) answer) (sym (drop_all i nodes past)) comes)
-
 module _ {R : Type 0} (chain_of : R → Chain) (now new : List Made) (chains : List R) (i : ℕ) (chain : R) (within : i < length chains) (is : chain ≡ get_or chains i chain)
     (so_far : (answer : Result (List Made) BuildFault) → ElementsCome now (elements_in (map chain_of (drop i chains))) answer → ElementsCome [] (elements_in (map chain_of chains)) answer) where
   chain_parted : elements_in (map chain_of (drop i chains)) ≡ chain_elements (chain_of chain).nodes ++ elements_in (map chain_of (drop (i + 1) chains))

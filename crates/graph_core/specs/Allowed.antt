@@ -4,10 +4,10 @@ use Rattle.std.specs.Option.{option_map_or}
 use Rattle.gst_caps.specs.Accepts.{intersection, passes}
 use Rattle.gst_caps.specs.declared.caps.Caps.{Caps}
 use Rattle.gst_caps.specs.declared.caps.Caps.TheVariants.{Any}
-use Rattle.gst_caps.specs.declared.fault.CapsFault.{CapsFault}
-use Rattle.gst_caps.specs.declared.fault.CapsFault.TheVariants.{TooMany, OutOfMemory}
-use Rattle.el_set.specs.Asked.{allowed_of, filter_caps, hands_on, is_converter, template_of, with_allowed}
-use Rattle.el_set.specs.declared.settings.Settings.{Settings}
+use Rattle.gst_value.specs.declared.fault.CapsFault.{CapsFault}
+use Rattle.gst_value.specs.declared.fault.CapsFault.TheVariants.{TooMany, OutOfMemory}
+use Rattle.el_settings.specs.Asked.{allowed_of, filter_caps, hands_on, is_converter, template_of, with_allowed}
+use Rattle.el_settings.specs.declared.settings.Settings.{Settings}
 use Rattle.graph_core.specs.Elements.{Made}
 use Rattle.graph_core.specs.Links.{sink_behind}
 use Rattle.graph_core.specs.declared.fault.BuildFault.{BuildFault}

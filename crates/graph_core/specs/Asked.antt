@@ -1,7 +1,7 @@
 -- What a launch line says of elements and of links, in its order.
 use Rattle.std.specs.Prelude.{ℕ, ◌+◌, List, [], ◌∷◌, ◌++◌, Option, codes, length}
 use Rattle.std.specs.List.{flat_map}
-use Rattle.gst_caps.specs.declared.name.Prop.{Prop}
+use Rattle.gst_value.specs.declared.name.Prop.{Prop}
 use Rattle.launch_text.specs.declared.tree.Chain.{Chain}
 use Rattle.launch_text.specs.declared.tree.Node.{Node}
 use Rattle.launch_text.specs.declared.tree.Node.TheVariants.{Element, Caps, Reference}
@@ -55,13 +55,13 @@ end_of n (Caps text) = own n
 end_of n (Reference name pad) = named name pad
 
 -- how many elements stand behind a node
-abbrev pub behind : ℕ → Node → ℕ
-behind n node = n + length (declared_by node)
+abbrev pub number_behind : ℕ → Node → ℕ
+number_behind n node = n + length (declared_by node)
 
 -- the links of a chain: from each node to the next one
 abbrev pub links_behind : ℕ → Node → List Node → List (End × End)
 links_behind n left [] = []
-links_behind n left (right ∷ nodes) = (end_of n left, end_of (behind n left) right) ∷ links_behind (behind n left) right nodes
+links_behind n left (right ∷ nodes) = (end_of n left, end_of (number_behind n left) right) ∷ links_behind (number_behind n left) right nodes
 
 abbrev pub chain_links : ℕ → List Node → List (End × End)
 chain_links n [] = []

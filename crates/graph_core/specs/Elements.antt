@@ -4,13 +4,13 @@ use Rattle.std.specs.Fmt.{decimal}
 use Rattle.std.specs.List.{list_any}
 use Rattle.std.specs.Option.{option_map_or}
 use Rattle.std.specs.String.{string_bytes}
-use Rattle.gst_caps.specs.declared.name.Prop.{Prop}
-use Rattle.el_set.specs.Asked.{location_of, source_pads}
-use Rattle.el_set.specs.Checked.{IsAnswer}
-use Rattle.el_set.specs.Values.{last_value}
-use Rattle.el_set.specs.declared.settings.Settings.{Settings}
-use Rattle.el_set.specs.declared.fault.PropFault.{PropFault}
-use Rattle.el_set.specs.declared.fault.PropFault.TheVariants.{NoSuchKind, NoSuchProperty, BadValue as BadPropValue, OutOfMemory as NoPropMemory}
+use Rattle.gst_value.specs.declared.name.Prop.{Prop}
+use Rattle.el_settings.specs.Asked.{location_of, source_pads}
+use Rattle.el_settings.specs.Checked.{IsAnswer}
+use Rattle.el_settings.specs.Values.{last_value}
+use Rattle.el_settings.specs.declared.settings.Settings.{Settings}
+use Rattle.el_settings.specs.declared.fault.PropFault.{PropFault}
+use Rattle.el_settings.specs.declared.fault.PropFault.TheVariants.{NoSuchKind, NoSuchProperty, BadValue as BadPropValue, OutOfMemory as NoPropMemory}
 use Rattle.graph_core.specs.Comes.{Comes}
 use Rattle.graph_core.specs.Asked.{Declared}
 use Rattle.graph_core.specs.declared.element.Element.{Element}

@@ -2,9 +2,9 @@
 use Rattle.std.specs.Prelude.{◌≡◌, ◌⊎◌, ◌<◌, ◌==◌, ◌&&◌, ℕ, List, [], ◌++◌, Option, None, Some, Result, Ok, Err, MatchOption, if◌then◌else◌, codes, bytes_eq, nat_lt, slice_get, position}
 use Rattle.std.specs.Option.{option_map, option_map_or}
 use denote.Bor.{Bor}
-use Rattle.gst_caps.specs.declared.name.PadName.{PadName}
-use Rattle.el_set.specs.Asked.{sink_pads, source_pads}
-use Rattle.el_set.specs.declared.settings.Settings.{Settings}
+use Rattle.gst_value.specs.declared.name.PadName.{PadName}
+use Rattle.el_settings.specs.Asked.{sink_pads, source_pads}
+use Rattle.el_settings.specs.declared.settings.Settings.{Settings}
 use Rattle.graph_core.specs.Asked.{End, own, named}
 use Rattle.graph_core.specs.Elements.{Made, is_named}
 use Rattle.graph_core.specs.declared.fault.BuildFault.{BuildFault}

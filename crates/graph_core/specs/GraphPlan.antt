@@ -2,12 +2,12 @@
 use Rattle.std.specs.Prelude.{◌≡◌, ◌<◌, ◌+◌, ◌*◌, ◌/◌, ◌%◌, ◌==◌, ◌⊎◌, ℕ, List, [], ◌∷◌, Option, None, Some, if◌then◌else◌, map, slice_get}
 use Rattle.std.specs.List.{range_with_len}
 use Rattle.flow_model.specs.Item.{Item}
-use Rattle.flow_model.specs.Chain.{first_section}
+use Rattle.flow_model.specs.Section.{first_section}
 use Rattle.flow_model.specs.Rule.{Rule, single}
 use Rattle.flow_model.specs.Link.{Span, Linked}
 use Rattle.flow_model.specs.Eval.{Plan}
 use Rattle.flow_model.specs.Account.{IsMember}
-use Rattle.el_set.specs.Asked.{sink_pads}
+use Rattle.el_settings.specs.Asked.{sink_pads}
 use Rattle.el_set.specs.Denoted.{response_of}
 use Rattle.el_set.specs.Made.{list_of}
 use Rattle.graph_core.specs.Elements.{Made}

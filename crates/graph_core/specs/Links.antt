@@ -2,16 +2,16 @@
 use Rattle.std.specs.Prelude.{◌≡◌, ◌<◌, ◌==◌, ◌&&◌, ◌||◌, ℕ, Bool, true, false, not, List, [], ◌∷◌, ◌++◌, Option, None, Some, Result, Ok, Err, if◌then◌else◌, IsTrue, is_some, map, length, slice_get}
 use Rattle.std.specs.Option.{option_map_or}
 use Rattle.gst_caps.specs.Accepts.{accepts}
-use Rattle.gst_caps.specs.Description.{Description, IsFixed}
+use Rattle.gst_value.specs.Description.{Description, IsFixed}
 use Rattle.gst_caps.specs.declared.caps.Caps.{Caps}
 use Rattle.gst_caps.specs.declared.caps.Caps.TheVariants.{Any}
-use Rattle.gst_caps.specs.declared.value.One.{One}
+use Rattle.gst_value.specs.declared.one.One.{One}
 use Rattle.graph_order.specs.Links.{Way}
 use Rattle.graph_order.specs.Forward.{IsForward, count_of, link_of, links_of}
 use Rattle.graph_order.specs.declared.link.Link.{Link}
 use Rattle.pad_core.specs.declared.linking.LinkReturn.{LinkReturn}
 use Rattle.pad_core.specs.declared.linking.LinkReturn.TheVariants.{WasLinked, WrongDirection, NoFormat}
-use Rattle.el_set.specs.Asked.{template_of}
+use Rattle.el_settings.specs.Asked.{template_of}
 use Rattle.graph_core.specs.Comes.{Comes}
 use Rattle.graph_core.specs.Asked.{End}
 use Rattle.graph_core.specs.Elements.{Made}

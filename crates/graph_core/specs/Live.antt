@@ -2,7 +2,7 @@
 use Rattle.std.specs.Prelude.{◌≡◌, ◌==◌, ℕ, Bool, true, List, Some, slice_get}
 use Rattle.graph_order.specs.Links.{IsLink}
 use Rattle.graph_order.specs.Marks.{is_marked}
-use Rattle.el_set.specs.Asked.{sink_pads}
+use Rattle.el_settings.specs.Asked.{sink_pads}
 use Rattle.graph_core.specs.Elements.{Made}
 use Rattle.graph_core.specs.Links.{ways}
 use Rattle.graph_core.specs.declared.pad.PadLink.{PadLink}

@@ -1,7 +1,7 @@
 //! The caps that converters are allowed to put out: those that are taken behind them.
 ghost use Rattle.std.specs.Prelude.{◌≡◌, ◌<◌, ◌≤◌, ◌+◌, ℕ, All, None, Some, IfErr, IfSome, OnOk, length, slice_get};
 ghost use Rattle.std.specs.Option.{option_map};
-ghost use Rattle.el_set.specs.Asked.{sink_pads};
+ghost use Rattle.el_settings.specs.Asked.{sink_pads};
 ghost use Rattle.graph_core.specs.Allowed.{Allows, Answers, AreAllowed, AreAllowedBelow, Falls, IsWideFault, allowed_before, checked};
 ghost use Rattle.graph_core.specs.Elements.{Made, all_made};
 ghost use Rattle.graph_core.specs.Ends.{pads_at};
@@ -13,8 +13,9 @@ use crate::fault::BuildFault;
 use crate::judging::sink_behind;
 use crate::links::Links;
 use crate::pad::{PadLink, PadPlace};
-use el_set::{Settings, template};
-use gst_caps::{Caps, CapsFault};
+use el_settings::{Settings, template};
+use gst_caps::Caps;
+use gst_value::CapsFault;
 use std::alloc::Global;
 
 /// Sets each converter to what its source pad is allowed, in the order of the line.

@@ -2,7 +2,7 @@
 ghost use Rattle.std.specs.Prelude.{◌≡◌, ◌++◌, map, IfOk, OnOk};
 ghost use Rattle.graph_core.specs.Asked.{part_chains, tree_chains};
 
-use gst_caps::OutOfMemory;
+use gst_value::OutOfMemory;
 use launch_text::{Chain, Part, Tree};
 use std::alloc::Global;
 

@@ -4,8 +4,8 @@ ghost use Rattle.std.specs.List.{list_any};
 ghost use Rattle.graph_core.specs.Elements.{clash};
 ghost use Rattle.graph_core.specs.declared.element.Element.{Element as AnElement};
 
-use el_set::Settings;
-use gst_caps::Text;
+use el_settings::Settings;
+use gst_value::Text;
 
 /// An element of a line.
 #[derive(Drop)]

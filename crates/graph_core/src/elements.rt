@@ -3,8 +3,9 @@ ghost use Rattle.std.specs.Prelude.{◌≡◌, ◌≤◌};
 ghost use Rattle.indexmap.specs.IndexMap.{index_map_len};
 
 use crate::element::{Element, is_numbered, some_clash};
-use el_set::Settings;
-use gst_caps::{Caps, OutOfMemory};
+use el_settings::Settings;
+use gst_caps::Caps;
+use gst_value::OutOfMemory;
 use indexmap::IndexMap;
 use std::alloc::Global;
 

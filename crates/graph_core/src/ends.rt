@@ -8,8 +8,8 @@ ghost use Rattle.graph_core.specs.Ends.{pad_count, pad_text, missing, pad_number
 use crate::elements::Elements;
 use crate::fault::{BuildFault, What};
 use crate::pad::{Direction, Pad, PadPlace};
-use el_set::Settings;
-use gst_caps::{OutOfMemory, PadName, Text};
+use el_settings::Settings;
+use gst_value::{OutOfMemory, PadName, Text};
 use launch_text::Node;
 use std::alloc::Global;
 

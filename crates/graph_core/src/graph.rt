@@ -5,8 +5,9 @@ use crate::ends::pad_name;
 use crate::judging::{sink_behind, source_before};
 use crate::links::Links;
 use crate::pad::{Direction, Pad, PadLink, PadPlace};
-use el_set::Settings;
-use gst_caps::{Caps, CapsFault, OutOfMemory, PadName};
+use el_settings::Settings;
+use gst_caps::Caps;
+use gst_value::{CapsFault, OutOfMemory, PadName};
 use std::alloc::Global;
 
 /// The elements of a launch line, numbered from 0 on in its order, and the links between their pads. The source pads of
@@ -22,7 +23,7 @@ impl Graph {
     ghost use Rattle.std.specs.Prelude.{◌≡◌, ◌<◌, ◌≤◌, ◌↔◌, ℕ, None, Some, length, slice_get, position, IfOk, IfSome, IsTrue};
     ghost use Rattle.std.specs.Option.{option_map};
     ghost use Rattle.graph_order.specs.Forward.{IsMember, GoForward};
-    ghost use Rattle.gst_caps.specs.Limit.{TooManyWhere};
+    ghost use Rattle.gst_value.specs.Limit.{TooManyWhere};
     ghost use Rattle.graph_core.specs.Allowed.{Allows};
     ghost use Rattle.graph_core.specs.Elements.{Made, is_named, limit};
     ghost use Rattle.graph_core.specs.Ends.{pad_at, pad_name, pads_at};

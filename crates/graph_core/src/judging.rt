@@ -8,8 +8,8 @@ use crate::elements::Elements;
 use crate::ends::pad_name;
 use crate::fault::BuildFault;
 use crate::pad::{Direction, Pad, PadLink, PadPlace};
-use el_set::template;
-use gst_caps::OutOfMemory;
+use el_settings::template;
+use gst_value::OutOfMemory;
 use pad_core::LinkReturn;
 use std::alloc::Global;
 

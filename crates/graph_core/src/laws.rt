@@ -9,7 +9,7 @@ pub fn one_answer()
     ensures fault { OneFault }
     ensures graph { OneGraph }
 {
-    el_set::laws::one_answer();
+    el_settings::laws::one_answer();
 }
 
 /// Each pad of a launch line's graph is linked once at the most.

@@ -1,6 +1,6 @@
 //! The links of a line.
 ghost use Rattle.std.specs.Prelude.{◌≡◌, ◌⊎◌, ◌≤◌, ◌+◌, ◌∷◌, [], length, map, IfOk, IfErr, OnOk, Ok, Err, None};
-ghost use Rattle.graph_core.specs.Asked.{declared_by, chain_elements, chain_links, links_behind, elements_in, links_in, end_of, behind};
+ghost use Rattle.graph_core.specs.Asked.{declared_by, chain_elements, chain_links, links_behind, elements_in, links_in, end_of, number_behind};
 ghost use Rattle.graph_core.specs.Elements.{all_made};
 ghost use Rattle.graph_core.specs.Ends.{IsThere};
 ghost use Rattle.graph_core.specs.Links.{all_links, AreOrdered, LinksCome, LinksFollow, LinksStop, IsJudged, IsUnjoined, Joins, one_link};
@@ -11,7 +11,7 @@ use crate::fault::{BuildFault, What};
 use crate::judging::{refusal, refused};
 use crate::pad::{Direction, Pad, PadLink};
 use graph_order::{Linking, Order};
-use gst_caps::OutOfMemory;
+use gst_value::OutOfMemory;
 use launch_text::{Chain, Node};
 use std::alloc::Global;
 
@@ -126,17 +126,17 @@ fn add(
     number: u32,
 ) -> Result<(), BuildFault>
     requires left { number + length (declared_by left.now) ≤ length (all_made elements.now) }
-    requires right { behind number left.now + length (declared_by right.now) ≤ length (all_made elements.now) }
+    requires right { number_behind number left.now + length (declared_by right.now) ≤ length (all_made elements.now) }
     requires ordered { AreOrdered (all_made elements.now) links.old }
     ensures ordered { OnOk result (AreOrdered (all_made elements.now) links.new) }
     ensures made { OnOk result (LinksFollow (all_made elements.now) (all_links links.old)
-        (one_link (end_of number left.now) (end_of (behind number left.now) right.now)) (all_links links.new)) }
+        (one_link (end_of number left.now) (end_of (number_behind number left.now) right.now)) (all_links links.new)) }
     ensures fault { IfErr result (λ fault. LinksStop (all_made elements.now) (all_links links.old)
-        (one_link (end_of number left.now) (end_of (behind number left.now) right.now)) fault) }
+        (one_link (end_of number left.now) (end_of (number_behind number left.now) right.now)) fault) }
 {
     let source = end_pad(alloc, elements, Direction::Source, left, number)?;
-    let behind = number + made_by(left);
-    let sink = end_pad(alloc, elements, Direction::Sink, right, behind)?;
+    let number_behind = number + made_by(left);
+    let sink = end_pad(alloc, elements, Direction::Sink, right, number_behind)?;
     join(alloc, elements, links, source, sink)
 }
 

@@ -9,7 +9,7 @@ ghost use Rattle.graph_core.specs.declared.pad.PadLink.{PadLink as LinkOf};
 
 use crate::elements::Elements;
 use crate::pad::PadLink;
-use gst_caps::OutOfMemory;
+use gst_value::OutOfMemory;
 use std::alloc::Global;
 
 /// Marks each source, and what links lead to from these.

@@ -1,8 +1,8 @@
 //! Makes the elements of a line.
 ghost use Rattle.std.specs.Prelude.{◌≡◌, ◌∷◌, [], is_some, map, IfOk, IfErr, OnOk, Ok, Err, true, codes, string_bytes, MatchOption};
-ghost use Rattle.gst_caps.specs.declared.name.Prop.{Prop as Property};
-ghost use Rattle.el_set.specs.Asked.{location_of};
-ghost use Rattle.el_set.specs.Checked.{IsAnswer};
+ghost use Rattle.gst_value.specs.declared.name.Prop.{Prop as Property};
+ghost use Rattle.el_settings.specs.Asked.{location_of};
+ghost use Rattle.el_settings.specs.Checked.{IsAnswer};
 ghost use Rattle.graph_core.specs.Asked.{Declared, declared_by, chain_elements, elements_in};
 ghost use Rattle.graph_core.specs.Elements.{all_made, name_of, ElementsCome, IsPlaced, settings_fault, Follows, Stops};
 
@@ -10,8 +10,8 @@ use crate::element::Element;
 use crate::elements::{Elements, LIMIT};
 use crate::fault::{BuildFault, What};
 use crate::naming::{given_name, name_for};
-use el_set::{PropFault, Settings, check};
-use gst_caps::{List, OutOfMemory, Prop, Text};
+use el_settings::{PropFault, Settings, check};
+use gst_value::{List, OutOfMemory, Prop, Text};
 use launch_text::{Chain, Node};
 use std::alloc::Global;
 

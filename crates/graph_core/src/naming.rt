@@ -4,7 +4,7 @@ ghost use Rattle.std.specs.Option.{option_map};
 ghost use Rattle.graph_core.specs.Elements.{all_made, given_name, made_name, name_of, without_dashes};
 
 use crate::elements::Elements;
-use gst_caps::{OutOfMemory, Prop};
+use gst_value::{OutOfMemory, Prop};
 use std::alloc::Global;
 use std::fmt::Write;
 

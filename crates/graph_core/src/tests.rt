@@ -1,7 +1,7 @@
 //! Rows of lines and their graphs.
 use super::*;
 use caps_text::print;
-use gst_caps::{PadName, Text};
+use gst_value::{PadName, Text};
 use launch_text::parse;
 use std::alloc::Global;
 use std::fmt::Write;

@@ -7,9 +7,8 @@ use Rattle.std.specs.Option.{option_map_or}
 use Rattle.std.proofs.lemmas.Bool.Decides.{eqb_tells}
 use Rattle.flow_model.specs.Item.{Item, is_flush_stop}
 use Rattle.flow_model.specs.Prefix.{IsPrefix, ArePrefixes, nothing, next, none, pad}
-use Rattle.flow_model.specs.Section.{section}
+use Rattle.flow_model.specs.Section.{section, first_section}
 use Rattle.flow_model.specs.Call.{Call, feeds}
-use Rattle.flow_model.specs.Chain.{first_section}
 use Rattle.flow_model.specs.Rule.{Response, owed_for, only, single}
 use Rattle.flow_model.specs.Link.{Span, input_of}
 use Rattle.flow_model.specs.Eval.{Plan}
@@ -18,7 +17,7 @@ use Rattle.flow_model.proofs.Sections.{owed_for_prefix}
 use Rattle.net_model.specs.Moment.{Moment, CellStands}
 use Rattle.net_model.specs.Step.{Leads}
 use Rattle.net_model.proofs.Splits.{split_begins}
-use Rattle.el_set.specs.Asked.{sink_pads, source_pads}
+use Rattle.el_settings.specs.Asked.{sink_pads, source_pads}
 use Rattle.el_set.specs.Denoted.{response_of}
 use Rattle.el_set.specs.Made.{list_of}
 use Rattle.task_elements.specs.Stands.{owes_nothing}

@@ -8,8 +8,8 @@ use Rattle.lane_core.specs.declared.ends.Inlet as inlets
 use Rattle.lane_core.specs.declared.ends.Outlet as outlets
 use Rattle.net_model.specs.declared.element.TaskElement as elements
 use Rattle.net_model.specs.declared.source.TaskSource as sources
-use Rattle.el_set.specs.Asked.{source_pads}
-use Rattle.el_set.proofs.Roles.{one_source}
+use Rattle.el_settings.specs.Asked.{source_pads}
+use Rattle.el_settings.proofs.Roles.{one_source}
 use Rattle.graph_core.specs.Elements.{Made}
 use Rattle.graph_core.specs.Links.{HasPads, sink_behind}
 use Rattle.graph_core.specs.declared.pad.PadLink.{PadLink}
@@ -28,12 +28,7 @@ use Rattle.task_pads.specs.Behind.{nowhere}
 use Rattle.net_task.specs.declared.task.Task.{Task}
 use Rattle.net_task.specs.Frame.{HeadFrame, IsWire, PartFrame, TaskFrame, Wire, by_inlets, by_source, frame_of, head_wire, of_head, of_part}
 use Rattle.graph_ends.specs.Frames.{HaveBags, IsFrameOf, IsHeadFrame, IsPartFrame, IsWireOf, goes_by}
-
-some_same : {A : Type 0} {a b : A} → Some a ≡ Some b → a ≡ b
-some_same e = cc
-
-none_some : {A : Type 0} {a : A} → None ≡ Some a → ⊥
-none_some e = cc
+use Rattle.gst_value.proofs.Basics.{some_same, none_some}
 
 got_within : {A : Type 0} (xs : List A) (k : ℕ) → k < length xs → (x : A) × (slice_get xs k ≡ Some x)
 got_within [] k few = absurd (omega (arith, few))

@@ -12,8 +12,8 @@ use Rattle.net_model.specs.Split.{AreEmpty, AreSplit}
 use Rattle.net_model.specs.Standing.{LinksAt, LinksNowhere}
 use Rattle.net_model.specs.Step.{Leads, LeadsNowhere}
 use Rattle.net_model.proofs.Splits.{split_all}
-use Rattle.el_set.specs.Asked.{sink_pads, source_pads}
-use Rattle.el_set.proofs.Roles.{one_sink}
+use Rattle.el_settings.specs.Asked.{sink_pads, source_pads}
+use Rattle.el_settings.proofs.Roles.{one_sink}
 use Rattle.graph_core.specs.Elements.{Made}
 use Rattle.graph_core.specs.Graph.{IsSound, made as made_in, links as links_in}
 use Rattle.graph_core.specs.Links.{sink_behind, source_before}

@@ -6,22 +6,21 @@ use Rattle.std.specs.Option.{option_map_or}
 use Rattle.std.proofs.lemmas.Bool.{ltb-true}
 use Rattle.std.proofs.lemmas.Option.{slice_get_past}
 use Rattle.flow_model.specs.Call.{Call, feeds}
-use Rattle.flow_model.specs.Chain.{first_section}
+use Rattle.flow_model.specs.Section.{first_section, section}
 use Rattle.flow_model.specs.Eval.{Plan, inputs}
 use Rattle.flow_model.specs.Item.{Item, is_flush_stop}
 use Rattle.flow_model.specs.Link.{input_of}
 use Rattle.flow_model.specs.Prefix.{IsPrefix, nothing, next}
 use Rattle.flow_model.specs.Rule.{Response, only, owed_for, single}
-use Rattle.flow_model.specs.Section.{section}
 use Rattle.flow_model.proofs.Prefixes.{append_prefix, prefix_refl, prefix_trans}
 use Rattle.net_model.specs.Moment.{CellStands, Moment}
 use Rattle.net_model.specs.Pad.{Holds}
 use Rattle.net_model.specs.Split.{AreSplit}
 use Rattle.net_model.proofs.Splits.{split_begins}
-use Rattle.el_set.specs.Asked.{sink_pads, source_pads}
+use Rattle.el_settings.specs.Asked.{sink_pads, source_pads}
 use Rattle.el_set.specs.Denoted.{response_of}
 use Rattle.el_set.specs.Made.{list_of}
-use Rattle.el_set.proofs.Roles.{one_sink, one_source}
+use Rattle.el_settings.proofs.Roles.{one_sink, one_source}
 use Rattle.task_elements.specs.Stands.{owes_nothing}
 use Rattle.graph_core.specs.Elements.{Made}
 use Rattle.graph_core.specs.Graph.{IsSound, made as made_in, links as links_in}

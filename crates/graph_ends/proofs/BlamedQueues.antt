@@ -2,8 +2,8 @@
 use Rattle.std.proofs.Common.{◌≡◌, ℕ, Bool, true, false, eqb, if◌then◌else◌, List, [], ◌∷◌, Option, None, Some, Ok, Err, Result, refl, sym, ap, ◌∙◌, subst}
 use Rattle.std.specs.Prelude.{slice_get}
 use Rattle.std.specs.Option.{option_map_or}
-use Rattle.gst_item.specs.declared.fault.ElementFault.{ElementFault}
-use Rattle.gst_item.specs.declared.fault.ElementFault.TheVariants as faults
+use Rattle.flow_model.specs.declared.fault.ElementFault.{ElementFault}
+use Rattle.flow_model.specs.declared.fault.ElementFault.TheVariants as faults
 use Rattle.gst_outside.specs.declared.sink.Sink as sinks
 use Rattle.flow_model.specs.Call.{Call, Feed}
 use Rattle.flow_model.specs.Eval.{Plan}
@@ -16,9 +16,10 @@ use Rattle.net_model.specs.declared.refusal.Refusal.{Refusal}
 use Rattle.net_model.specs.declared.refusal.Refusal.TheVariants as refusals
 use Rattle.net_model.specs.Failures.{IsWriteCause}
 use Rattle.net_model.specs.Refuses.{RefusesBy}
-use Rattle.el_set.specs.Asked.{is_queue, sink_pads}
-use Rattle.el_set.specs.declared.settings.Settings.{Settings}
-use Rattle.el_set.proofs.Roles.{queue_no_filter, queue_passes as answers_passing, queue_sinks}
+use Rattle.el_settings.specs.Asked.{is_queue, sink_pads}
+use Rattle.el_settings.specs.declared.settings.Settings.{Settings}
+use Rattle.el_settings.proofs.Roles.{queue_no_filter, queue_sinks}
+use Rattle.el_set.proofs.Roles.{queue_passes as answers_passing}
 use Rattle.task_elements.specs.Made.{behavior_of}
 use Rattle.task_elements.specs.Stands.{StreamStands, behaves, faults_in, takes_all}
 use Rattle.task_elements.specs.declared.element.StreamElement.{StreamElement}

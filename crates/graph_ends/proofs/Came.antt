@@ -9,8 +9,8 @@ use Rattle.flow_model.specs.Item.{Item}
 use Rattle.flow_model.specs.Link.{Span}
 use Rattle.net_model.specs.Standing.{links_from, LinksAt}
 use Rattle.net_model.specs.Step.{Leads}
-use Rattle.el_set.specs.Asked.{source_pads}
-use Rattle.el_set.proofs.Roles.{one_sink, one_source}
+use Rattle.el_settings.specs.Asked.{source_pads}
+use Rattle.el_settings.proofs.Roles.{one_sink, one_source}
 use Rattle.graph_core.specs.Elements.{Made}
 use Rattle.graph_core.specs.Graph.{IsSound, made as made_in, links as links_in}
 use Rattle.graph_core.specs.Links.{source_before}
@@ -22,12 +22,7 @@ use Rattle.graph_moment.specs.Pads.{IsThere, at_pads}
 use Rattle.graph_moment.specs.Plans.{moment_plan}
 use Rattle.graph_moment.proofs.Sources.{linked_there, place_is_pad}
 use Rattle.graph_ends.specs.Owed.{came_to}
-
-pub none_some : {A : Type 0} {a : A} → None ≡ Some a → ⊥
-none_some e = cc
-
-not_true : false ≡ true → ⊥
-not_true e = cc
+use Rattle.gst_value.proofs.Basics.{no_true}
 
 few_sinks : (found : Option Made) → sink_count found ≤ 1
 few_sinks None = omega arith
@@ -57,13 +52,13 @@ linked_at p f start (suc n) (suc i) at =
     (omega (arith, later.0), subst (λ (k : ℕ). links_from p (f k) ≡ true) same later.1)
 
 source_of : (p : ℕ) (found : Option PadPlace) → links_from p (spans_from found) ≡ true → (source : PadPlace) × (found ≡ Some source) × (pad_id source ≡ p)
-source_of p None is = absurd (not_true is)
+source_of p None is = absurd (no_true is)
 source_of p (Some s) is = go (eqb_tells (pad_id s) p) is
   where
     go : ((eqb (pad_id s) p ≡ true) × (pad_id s ≡ p)) ⊎ ((eqb (pad_id s) p ≡ false) × (pad_id s ≡ p → ⊥)) → (if eqb (pad_id s) p then true else false) ≡ true
         → (source : PadPlace) × (Some s ≡ Some source) × (pad_id source ≡ p)
     go (inl t) is = (s, refl, t.1)
-    go (inr f) is = absurd (not_true (rw f.0 at is))
+    go (inr f) is = absurd (no_true (rw f.0 at is))
 
 -- an element's first source pad, by its number, and the first sink pad that it is linked to
 pub record IsBefore (graph : Graph) (p n : ℕ) : Type 0 where

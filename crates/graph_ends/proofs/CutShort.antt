@@ -4,14 +4,13 @@ use Rattle.std.specs.Prelude.{slice_get}
 use Rattle.std.specs.Option.{option_map_or}
 use Rattle.std.proofs.lemmas.Bool.Decides.{eqb_tells}
 use Rattle.flow_model.specs.Eval.{Plan}
-use Rattle.flow_model.specs.Item.{Item, Ev, Eos}
+use Rattle.flow_model.specs.Item.{Item, Ev, Eos, eos_among}
 use Rattle.flow_model.specs.Rule.{Rule}
 use Rattle.net_model.specs.Moment.{CellStands, Moment}
 use Rattle.net_model.specs.declared.refusal.Unread.{Unread}
 use Rattle.net_model.specs.declared.refusal.Unread.TheVariants.{Failed, OutOfMemory}
-use Rattle.el_set.specs.Asked.{sink_pads, source_pads}
+use Rattle.el_settings.specs.Asked.{sink_pads, source_pads}
 use Rattle.el_set.specs.Made.{list_of}
-use Rattle.el_src.specs.Gave.{has_eos}
 use Rattle.graph_bags.specs.Links.{has, is_source, source_count}
 use Rattle.graph_core.specs.Elements.{Made}
 use Rattle.graph_core.specs.Graph.{made as made_in}
@@ -70,7 +69,7 @@ module _ (contents : ℕ → List ℕ) (graph : Graph) (m : Moment) (plan : m.pl
       let e = short p (subst (λ (pl : Plan). pl.owner p ≡ n) (sym plan) number.owner) in
       let went : went_from (crossed_in graph m) n ≡ m.history p = rw number.pad refl in
       record {
-        eos = subst (λ (xs : List Item). has_eos xs ≡ false) (sym went) e.eos;
+        eos = subst (λ (xs : List Item). eos_among xs ≡ false) (sym went) e.eos;
         left = e.left;
         buffers = e.buffers;
         owed = source_owes one at ∙ e.owes ∙ ap (λ (xs : List Item). xs ++ (e.left ++ Ev Eos ∷ [])) (sym went);

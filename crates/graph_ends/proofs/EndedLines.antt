@@ -12,10 +12,10 @@ use Rattle.lane_core.specs.declared.ends.Outlet as outlets
 use Rattle.net_model.specs.Moment.{Moment}
 use Rattle.net_model.specs.declared.element.TaskElement as elements
 use Rattle.net_model.specs.declared.source.TaskSource as sources
-use Rattle.el_set.specs.Asked.{limits_of}
-use Rattle.el_set.specs.declared.settings.QueueSettings.{QueueSettings}
-use Rattle.el_set.specs.declared.settings.Settings.{Settings}
-use Rattle.el_set.proofs.Roles.{queue_sinks}
+use Rattle.el_settings.specs.Asked.{limits_of}
+use Rattle.el_settings.specs.declared.settings.QueueSettings.{QueueSettings}
+use Rattle.el_settings.specs.declared.settings.Settings.{Settings}
+use Rattle.el_settings.proofs.Roles.{queue_sinks}
 use Rattle.graph_core.specs.Elements.{Made}
 use Rattle.graph_core.specs.Graph.{made as made_in, links as links_in}
 use Rattle.graph_core.specs.Links.{sink_behind}

@@ -4,7 +4,7 @@ use Rattle.std.proofs.Common.{subst, inl, inr, arith, if◌then◌else◌}
 use Rattle.std.specs.Prelude.{is_some, slice_get}
 use Rattle.std.specs.Option.{option_map_or}
 use Rattle.std.proofs.lemmas.Bool.{eq-eqb}
-use Rattle.el_set.specs.Asked.{sink_pads}
+use Rattle.el_settings.specs.Asked.{sink_pads}
 use Rattle.flow_model.specs.Account.{IsMember}
 use Rattle.graph_order.specs.Links.{IsLink}
 use Rattle.graph_core.specs.Allowed.{checked}

@@ -7,7 +7,7 @@ use Rattle.flow_model.specs.Call.{feeds}
 use Rattle.flow_model.specs.Eval.{Plan}
 use Rattle.flow_model.specs.Item.{Item}
 use Rattle.flow_model.specs.Link.{input_of}
-use Rattle.flow_model.proofs.Chains.{chain_input}
+use Rattle.flow_model.proofs.Links.{link_input}
 use Rattle.lane_core.specs.Lane.{Lane}
 use Rattle.lane_core.specs.declared.ends.Inlet as inlets
 use Rattle.lane_core.specs.declared.ends.Outlet as outlets
@@ -57,7 +57,7 @@ none_front (x ∷ xs) ys e = absurd (cc)
 input_none : (h : ℕ → List Item) (found : Option PadPlace) → ((source : PadPlace) → found ≡ Some source → h (pad_id source) ≡ [])
     → input_of h (spans_from found) ≡ []
 input_none h None none = refl
-input_none h (Some source) none = chain_input h (pad_id source) ∙ ap feeds (none source refl)
+input_none h (Some source) none = link_input h (pad_id source) ∙ ap feeds (none source refl)
 
 inputs_none : (h : ℕ → List Item) (links : List PadLink) (e : ℕ) (ks : List ℕ)
     → ((k : ℕ) (source : PadPlace) → source_before links (sink_at e k) ≡ Some source → h (pad_id source) ≡ [])

@@ -11,10 +11,10 @@ use Rattle.flow_model.specs.Account.{GoesForward, IsMember}
 use Rattle.flow_model.specs.Call.{feeds, items}
 use Rattle.flow_model.specs.Eval.{Plan}
 use Rattle.flow_model.specs.Feeding.{has_eos as calls_ended}
-use Rattle.flow_model.specs.Item.{Item}
+use Rattle.flow_model.specs.Item.{Item, eos_among}
 use Rattle.flow_model.specs.Link.{Span, Linked, input_of}
 use Rattle.flow_model.specs.Rule.{Rule}
-use Rattle.flow_model.proofs.Chains.{chain_input}
+use Rattle.flow_model.proofs.Links.{link_input}
 use Rattle.lane_core.specs.Lane.{Lane}
 use Rattle.lane_core.specs.declared.ends.Inlet as inlets
 use Rattle.lane_core.specs.declared.ends.Outlet as outlets
@@ -24,9 +24,8 @@ use Rattle.net_model.proofs.Overs.{eos_comes}
 use Rattle.net_model.proofs.Splits.{split_all}
 use Rattle.net_model.specs.declared.element.TaskElement as elements
 use Rattle.net_model.specs.declared.source.TaskSource as sources
-use Rattle.el_set.specs.Asked.{sink_pads, source_pads}
+use Rattle.el_settings.specs.Asked.{sink_pads, source_pads}
 use Rattle.el_set.specs.Denoted.{response_of}
-use Rattle.el_src.specs.Gave.{has_eos}
 use Rattle.graph_core.specs.Elements.{Made, is_sink}
 use Rattle.graph_core.specs.Graph.{IsGraph, is_live, made as made_in, links as links_in, forward as forward_in}
 use Rattle.graph_core.specs.Links.{source_before}
@@ -71,11 +70,11 @@ from_start live plan f start (suc n) each = (each start (omega arith), from_star
 
 -- EOS came through a sink pad where it crossed the pad before it
 came_ended : (made : List Made) (h : ℕ → List Item) (found : Option PadPlace) → ((source : PadPlace) → found ≡ Some source → is_pad made (pad_id source) ≡ true)
-    → calls_ended (input_of h (spans_from found)) ≡ true → has_eos (before_it (at_pads made h) found) ≡ true
+    → calls_ended (input_of h (spans_from found)) ≡ true → eos_among (before_it (at_pads made h) found) ≡ true
 came_ended made h None pads ended = absurd (cc)
 came_ended made h (Some source) pads ended =
     let crossed : list_ended (h (pad_id source)) ≡ true
-    = sym (ap list_ended (items_of (h (pad_id source)))) ∙ sym (ap calls_ended (chain_input h (pad_id source))) ∙ ended
+    = sym (ap list_ended (items_of (h (pad_id source)))) ∙ sym (ap calls_ended (link_input h (pad_id source))) ∙ ended
     in rw (pads source refl) (ended_has (h (pad_id source)) crossed)
 
 same_some : {A : Type 0} {a b : A} → Some a ≡ Some b → a ≡ b

@@ -2,15 +2,14 @@
 use Rattle.std.proofs.Common.{◌≡◌, ◌<◌, ◌⊎◌, ℕ, true, false, eqb, List, [], ◌∷◌, Option, Some, Result, Ok, refl, sym, ap, ◌∙◌, subst, inl, inr, arith}
 use Rattle.std.proofs.lemmas.Bool.{eq-eqb}
 use Rattle.std.proofs.lemmas.Bool.Decides.{eqb_tells}
-use Rattle.flow_model.specs.Chain.{first_section}
+use Rattle.flow_model.specs.Section.{first_section, section}
 use Rattle.flow_model.specs.Item.{Item, Ev, Eos}
 use Rattle.flow_model.specs.Call.{Call, Feed}
 use Rattle.flow_model.specs.Rule.{Rule, Response, Fault, unfed, responded, single, passes}
-use Rattle.flow_model.specs.Section.{section}
 use Rattle.net_model.specs.Moment.{Answers, Behavior}
 use Rattle.net_model.specs.Over.{list_ended, AllEnded}
 use Rattle.net_model.specs.Takes.{InSection}
-use Rattle.el_set.specs.Asked.{sink_pads, source_pads}
+use Rattle.el_settings.specs.Asked.{sink_pads, source_pads}
 use Rattle.el_set.specs.Denoted.{response_of}
 use Rattle.el_set.specs.Made.{list_of}
 use Rattle.graph_core.specs.Elements.{Made}

@@ -6,7 +6,7 @@ use Rattle.std.proofs.lemmas.Bool.Decides.{eqb_tells}
 use Rattle.flow_model.specs.Eval.{Plan}
 use Rattle.net_model.specs.Whole.{OwesInOrder}
 use Rattle.net_model.proofs.Wholes.{begins_of}
-use Rattle.el_set.specs.Asked.{source_pads}
+use Rattle.el_settings.specs.Asked.{source_pads}
 use Rattle.graph_core.specs.Elements.{Made, has}
 use Rattle.graph_core.specs.Graph.{made as made_in}
 use Rattle.graph_core.specs.Allowed.{first_pad}

@@ -11,7 +11,8 @@ use Rattle.flow_model.specs.Eval.{Plan}
 use Rattle.net_model.specs.Moment.{Moment, CellStands}
 use Rattle.net_model.specs.Split.{AreEmpty}
 use Rattle.net_model.proofs.Splits.{split_all}
-use Rattle.el_set.proofs.Roles.{queue_passes, queue_sinks, queue_sources}
+use Rattle.el_settings.proofs.Roles.{queue_sinks, queue_sources}
+use Rattle.el_set.proofs.Roles.{queue_passes}
 use Rattle.task_elements.specs.Stands.{owes_nothing}
 use Rattle.graph_core.specs.Elements.{Made}
 use Rattle.graph_core.specs.Graph.{IsSound, made as made_in, links as links_in}

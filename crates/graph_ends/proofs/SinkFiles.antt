@@ -17,7 +17,7 @@ use Rattle.task_elements.specs.Stands.{SinkFell, SinkStands, StreamStands, takes
 use Rattle.task_elements.specs.declared.element.StreamElement.{StreamElement}
 use Rattle.task_elements.specs.declared.element.StreamElement.TheVariants as kinds
 use Rattle.graph_ends.specs.Written.{HasAll, HasPart, HoldsBytes}
-use Rattle.graph_ends.proofs.Came.{none_some}
+use Rattle.gst_value.proofs.Basics.{some_same, none_some}
 
 items_fed : (list : List Item) → items (feeds list) ≡ list
 items_fed [] = refl
@@ -43,9 +43,6 @@ disk_same keep other (x ∷ list) disk none = go (is_flush_stop x) refl none (di
 
 same_disk : (keep other : Bool) (list : List Item) → flush_stops (feeds list) ≡ 0 → disk_after keep list ≡ disk_after other list
 same_disk keep other list none = disk_same keep other list empty_disk none
-
-some_same : {A : Type 0} {a b : A} → Some a ≡ Some b → a ≡ b
-some_same e = cc
 
 quiet_of : (took : List (List Call)) (list : List Item) → took ≡ feeds list ∷ [] → InSection 0 took → flush_stops (feeds list) ≡ 0
 quiet_of took list is first = (subst (λ (css : List (List Call)). InSection 0 css) is first).0

@@ -1,8 +1,8 @@
 -- The tasks of a graph at a moment of its run, and behind a fault: their counts, and what the files of their sinks hold.
 use Rattle.std.proofs.Common.{◌≡◌, ℕ, Bool, true, false, if◌then◌else◌, List, [], ◌∷◌, Option, Some, Ok, refl, sym, ap, ◌∙◌, subst, inl, inr}
 use Rattle.std.specs.Prelude.{slice_get}
-use Rattle.gst_item.specs.declared.fault.ElementFault.{ElementFault}
-use Rattle.gst_item.specs.declared.fault.ElementFault.TheVariants.{NotNegotiated, BadStream, TooLong, OutOfMemory}
+use Rattle.flow_model.specs.declared.fault.ElementFault.{ElementFault}
+use Rattle.flow_model.specs.declared.fault.ElementFault.TheVariants.{NotNegotiated, BadStream, TooLong, OutOfMemory}
 use Rattle.gst_outside.specs.declared.sink.Sink as sinks
 use Rattle.flow_model.specs.Item.{Item}
 use Rattle.flow_model.specs.Call.{Call, feeds}
@@ -40,10 +40,10 @@ use Rattle.graph_ends.specs.Runs.{RunsAt, crossed_in}
 use Rattle.graph_ends.specs.Written.{AreStreams, HasAll, HasPart, HeadCrossed, IsBehind, PadsCrossed, StandsBehind, StandsWhole, TaskCrossed, TasksStandBehind}
 use Rattle.graph_ends.specs.Written.{TasksStandWhole}
 use Rattle.graph_ends.proofs.Awaited.{awaited_by}
-use Rattle.graph_ends.proofs.Came.{none_some}
 use Rattle.graph_ends.proofs.FedHeads.{frame_fed, head_fed}
 use Rattle.graph_ends.proofs.SinkCame.{came_whole, no_sink}
 use Rattle.graph_ends.proofs.SinkFiles.{has_all, has_part}
+use Rattle.gst_value.proofs.Basics.{none_some}
 
 -- one that passes all has no fault but want of memory
 passes_none : (calls : List Call) (x : Item) (fault : ElementFault) → IsFaultOf (next_owed passes calls x) fault → fault ≡ OutOfMemory

@@ -1,6 +1,6 @@
 -- Why the run of a graph met a fault.
 use Rattle.std.specs.Prelude.{◌≡◌, ◌<◌, ℕ, List, Option, None, Some, length, slice_get}
-use Rattle.gst_item.specs.declared.fault.ElementFault.{ElementFault}
+use Rattle.flow_model.specs.declared.fault.ElementFault.{ElementFault}
 use Rattle.flow_model.specs.Item.{Item}
 use Rattle.lane_core.specs.Lane.{Lane}
 use Rattle.lane_core.specs.declared.ends.Inlet as inlets

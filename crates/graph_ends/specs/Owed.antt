@@ -1,19 +1,18 @@
 -- What the elements of a graph owe, and what came to its sinks, by what crossed its pads.
 use Rattle.std.specs.Prelude.{◌≡◌, ◌<◌, ◌==◌, ◌&&◌, not, ℕ, zero, suc, Bool, true, List, [], ◌∷◌, ◌++◌, None, Some, length, slice_get, take}
-use Rattle.gst_item.specs.declared.fault.ElementFault.{ElementFault}
+use Rattle.flow_model.specs.declared.fault.ElementFault.{ElementFault}
 use Rattle.gst_outside.specs.Bytes.{written}
 use Rattle.flow_model.specs.Call.{feeds}
 use Rattle.flow_model.specs.Eval.{eval_whole}
 use Rattle.flow_model.specs.Feeding.{IsFaultOf, next_owed}
-use Rattle.flow_model.specs.Item.{Item, body_of, is_buffer}
+use Rattle.flow_model.specs.Item.{Item, body_of, is_buffer, eos_among}
 use Rattle.flow_model.specs.Prefix.{IsPrefix}
 use Rattle.flow_model.specs.Rule.{owed_for}
 use Rattle.flow_model.specs.SinkBytes.{disk_after, sink_bytes}
-use Rattle.el_set.specs.Asked.{sink_pads, writes}
+use Rattle.el_settings.specs.Asked.{sink_pads, writes}
 use Rattle.el_set.specs.Denoted.{response_of}
 use Rattle.el_set.specs.Made.{keeps_flushed, list_of}
-use Rattle.el_set.specs.declared.settings.Settings.{Settings}
-use Rattle.el_src.specs.Gave.{has_eos}
+use Rattle.el_settings.specs.declared.settings.Settings.{Settings}
 use Rattle.graph_core.specs.Elements.{Made, is_sink}
 use Rattle.graph_core.specs.Graph.{is_live, made as made_in, links as links_in}
 use Rattle.graph_core.specs.Links.{sink_behind, source_before}
@@ -111,4 +110,4 @@ AreWhole contents graph h =
 abbrev pub AreOver : Graph → (ℕ → List Item) → Type 0
 AreOver graph h =
     (d : ℕ) (m : Made) → slice_get (made_in graph) d ≡ Some m → is_sink m.settings ≡ true → is_live graph d ≡ true
-    → has_eos (came_to (links_in graph) h d) ≡ true
+    → eos_among (came_to (links_in graph) h d) ≡ true

@@ -1,19 +1,18 @@
 -- How what crossed the pad of a source ends where what it reads can't be read.
 use Rattle.std.specs.Prelude.{◌≡◌, ℕ, true, false, List, [], ◌∷◌, ◌++◌, Some, slice_get}
 use Rattle.std.specs.List.{list_all}
-use Rattle.flow_model.specs.Item.{Item, Ev, Eos, is_buffer}
+use Rattle.flow_model.specs.Item.{Item, Ev, Eos, is_buffer, eos_among}
 use Rattle.net_model.specs.declared.refusal.Unread.{Unread}
 use Rattle.net_model.specs.declared.refusal.Unread.TheVariants.{Failed, OutOfMemory}
 use Rattle.el_set.specs.Made.{list_of}
-use Rattle.el_set.specs.declared.settings.Settings.{Settings}
-use Rattle.el_src.specs.Gave.{has_eos}
+use Rattle.el_settings.specs.declared.settings.Settings.{Settings}
 use Rattle.graph_core.specs.Elements.{Made}
 use Rattle.graph_ends.specs.Owed.{went_from}
 
 -- EOS did not cross it, and buffers alone are still owed there, and EOS behind them: what crossed it ends before a buffer,
 -- or before the EOS.
 pub record IsCutShort (contents : ℕ → List ℕ) (h : ℕ → List Item) (e : ℕ) (settings : Settings) : Type 0 where
-  pub eos : has_eos (went_from h e) ≡ false
+  pub eos : eos_among (went_from h e) ≡ false
   pub left : List Item
   pub buffers : list_all is_buffer left ≡ true
   pub owed : list_of settings e (contents e) ≡ went_from h e ++ (left ++ Ev Eos ∷ [])

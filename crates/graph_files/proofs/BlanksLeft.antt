@@ -1,7 +1,7 @@
 -- Blanks that are left, from a number on.
 use Rattle.std.proofs.Common.{◌≡◌, ◌+◌, ℕ, suc, List, ◌∷◌, Option, None, Some, length, refl, sym, ap, ◌∙◌, subst, arith}
 use Rattle.std.specs.Prelude.{option_map, slice_get}
-use Rattle.el_set.specs.declared.settings.Settings.{Settings}
+use Rattle.el_settings.specs.declared.settings.Settings.{Settings}
 use Rattle.graph_core.specs.Elements.{Made}
 use Rattle.graph_files.specs.declared.blank.Blank.{Blank}
 use Rattle.graph_files.specs.Blanks.{AreBlanks, BlankAt}

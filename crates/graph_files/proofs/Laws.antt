@@ -19,7 +19,7 @@ use Rattle.task_pads.specs.declared.pad.Pad.{Pad}
 use Rattle.task_parts.specs.declared.part.Part.{Part}
 use Rattle.graph_files.specs.Back.{GivesBack, HasElement, HasSource, Wrote, by_element, by_source, read_end, written_end}
 use Rattle.graph_files.specs.Counts.{HeadCounted, IsCountOf, PartCounted, TaskCounted, TasksCounted}
-use Rattle.el_set.specs.Asked.{reads, writes}
+use Rattle.el_settings.specs.Asked.{reads, writes}
 use Rattle.graph_files.specs.Ends.{has}
 use Rattle.graph_files.specs.Put.{Among, PutBack}
 use Rattle.graph_files.specs.declared.counts.Count.{Count}

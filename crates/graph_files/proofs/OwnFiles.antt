@@ -2,12 +2,12 @@
 use Rattle.std.proofs.Common.{◌≡◌, ◌||◌, ℕ, Bool, true, false, eqb, List, [], ◌∷◌, Option, Some, None, refl, sym, ap, ◌∙◌, subst}
 use Rattle.std.specs.Option.{option_map}
 use Rattle.std.proofs.lemmas.Option.{none-some, same_Some}
-use Rattle.el_set.specs.Asked.{is_filter, is_queue, location_of, reads, sink_pads, source_pads, writes}
+use Rattle.el_settings.specs.Asked.{is_filter, is_queue, location_of, reads, sink_pads, source_pads, writes}
 use Rattle.el_set.specs.Made.{IsEmpty, file_for, read_for}
-use Rattle.el_set.specs.Roles.{Role, any_filter, any_queue, drop_sink, file_sink, file_source, made_source}
-use Rattle.el_set.specs.declared.settings.Settings.{Settings}
+use Rattle.el_settings.specs.Roles.{Role, any_filter, any_queue, drop_sink, file_sink, file_source, made_source}
+use Rattle.el_settings.specs.declared.settings.Settings.{Settings}
 use Rattle.el_set.proofs.Openings.{read_again, sink_again, source_again, written_again}
-use Rattle.el_set.proofs.Roles.{role_of}
+use Rattle.el_settings.proofs.Roles.{role_of}
 use Rattle.gst_outside.specs.declared.sink.Sink as sinks
 use Rattle.gst_outside.specs.declared.source.Source as sources
 use Rattle.run_files.specs.declared.end.Opening.{Opening}

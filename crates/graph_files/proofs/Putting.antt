@@ -102,16 +102,6 @@ put_value {A} list n x = record { count = length-set list n x; each = λ k withi
     by k within (inl same) = was_put x (same, refl) (subst (λ (i : ℕ). slice_get (set list n x) i ≡ Some x) same (set_here list n x (omega (arith, within, same))))
     by k within (inr other) = was_kept (λ y here. other here.0) (set_there list n x k other)
 
--- a value beyond the list is put nowhere
-pub put_beyond : {A : Type 0} (list : List A) (n : ℕ) (value : Option A) → length list ≤ n → PutBack (IsValue n value) list list
-put_beyond list n value beyond = record { count = refl; each = λ k within. was_kept (λ x here. let same = here.0 in omega (arith, within, beyond, same)) refl }
-
-pub put_nothing : {A : Type 0} (list : List A) (n : ℕ) → PutBack (IsValue n None) list list
-put_nothing {A} list n = put_none (IsValue n None) list (λ k x here. no x here.1)
-  where
-    no : (x : A) → None ≡ Some x → ⊥
-    no x same = cc
-
 -- one value was put at the one number at which something belongs
 pub put_there : {A : Type 0} (There : ℕ → A → Type 0) (n : ℕ) (x : A) (old new : List A) → There n x → ((k : ℕ) (y : A) → There k y → n ≡ k) → PutBack (IsValue n (Some x)) old new → PutBack There old new
 put_there {A} There n x old new there number put = record { count = put.count; each = λ k within. by k (put.each k within) }

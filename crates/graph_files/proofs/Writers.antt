@@ -5,8 +5,8 @@ use Rattle.std.specs.List.{list_any}
 use Rattle.std.proofs.lemmas.Option.{none-some, same_Some, slice_get_within}
 use Rattle.std.proofs.lemmas.Slice.Eq.{bytes_eq-Decides}
 use Rattle.launch_text.specs.declared.tree.Tree.{Tree}
-use Rattle.el_set.specs.Asked.{location_of, source_pads}
-use Rattle.el_set.specs.declared.settings.Settings.{Settings}
+use Rattle.el_settings.specs.Asked.{location_of, source_pads}
+use Rattle.el_settings.specs.declared.settings.Settings.{Settings}
 use Rattle.gst_caps.specs.declared.caps.Caps.TheVariants.{Any}
 use Rattle.graph_core.proofs.Allowing.{checked_at, clash_checked}
 use Rattle.graph_core.specs.Allowed.{checked, with_caps}

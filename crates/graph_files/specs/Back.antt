@@ -15,7 +15,7 @@ use Rattle.task_elements.specs.declared.source.StreamSource.{StreamSource}
 use Rattle.task_parts.specs.declared.head.Head.{Head}
 use Rattle.task_parts.specs.declared.head.Head.TheVariants.{Source, Inlets}
 use Rattle.task_parts.specs.declared.part.Part.{Part}
-use Rattle.el_set.specs.Asked.{reads, writes}
+use Rattle.el_settings.specs.Asked.{reads, writes}
 use Rattle.graph_files.specs.Ends.{has}
 use Rattle.graph_files.specs.Put.{Among}
 

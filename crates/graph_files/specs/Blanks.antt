@@ -1,8 +1,8 @@
 -- What is made of elements before a file is open.
 use Rattle.std.specs.Prelude.{◌≡◌, ℕ, List, Some, length, slice_get}
-use Rattle.el_set.specs.Asked.{title_of}
+use Rattle.el_settings.specs.Asked.{title_of}
 use Rattle.el_set.specs.Made.{IsFilterFor}
-use Rattle.el_set.specs.declared.settings.Settings.{Settings}
+use Rattle.el_settings.specs.declared.settings.Settings.{Settings}
 use Rattle.graph_core.specs.Elements.{Made}
 use Rattle.graph_files.specs.declared.blank.Blank.{Blank}
 use Rattle.graph_files.specs.declared.blanks.Blanks.{Blanks}

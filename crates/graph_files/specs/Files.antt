@@ -1,8 +1,8 @@
 -- What the elements of a graph open, and where their ends are.
 use Rattle.std.specs.Prelude.{◌≡◌, ◌==◌, ℕ, Bool, true, false, Contains, List, Option, None, Some, count_by, if◌then◌else◌, length, map, slice_get}
 use Rattle.std.specs.Option.{option_map}
-use Rattle.el_set.specs.Asked.{location_of, sink_pads}
-use Rattle.el_set.specs.declared.settings.Settings.{Settings}
+use Rattle.el_settings.specs.Asked.{location_of, sink_pads}
+use Rattle.el_settings.specs.declared.settings.Settings.{Settings}
 use Rattle.graph_core.specs.Elements.{Made}
 use Rattle.graph_core.specs.Graph.{IsGraph, made as made_in}
 use Rattle.graph_core.specs.declared.graph.Graph.{Graph}

@@ -1,9 +1,9 @@
 -- The elements of a graph, made with the ends of their files.
 use Rattle.std.specs.Prelude.{◌≡◌, ℕ, false, List, [], Option, None, Some, length, slice_get, slice_set}
-use Rattle.el_set.specs.Asked.{source_pads}
+use Rattle.el_settings.specs.Asked.{source_pads}
 use Rattle.el_set.specs.Gives.{source_content}
 use Rattle.el_set.specs.Made.{IsSourceFor, list_of, makes_source}
-use Rattle.el_set.specs.declared.settings.Settings.{Settings}
+use Rattle.el_settings.specs.declared.settings.Settings.{Settings}
 use Rattle.graph_core.specs.Elements.{Made}
 use Rattle.gst_outside.specs.declared.sink.Sink as sinks
 use Rattle.gst_outside.specs.declared.source.Source as sources

@@ -2,7 +2,7 @@
 ghost use Rattle.std.specs.Prelude.{◌≡◌};
 ghost use Rattle.graph_core.specs.Graph.{made as made_in};
 ghost use Rattle.graph_files.specs.Back.{Gives, GivesBack, HasElement, HasHead, HasLength, HasPart, HasSource, IsHead, IsPart, Wrote, read_end, written_end};
-ghost use Rattle.el_set.specs.Asked.{reads, writes};
+ghost use Rattle.el_settings.specs.Asked.{reads, writes};
 ghost use Rattle.graph_files.specs.Ends.{has};
 ghost use Rattle.graph_files.specs.Put.{Among, PutBack};
 ghost use Rattle.graph_files.specs.Single.{IsAt, IsNone, IsSingle};

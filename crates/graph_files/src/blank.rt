@@ -1,12 +1,13 @@
 //! What is made of elements before a file is open.
 ghost use Rattle.std.specs.Prelude.{◌≡◌, IfOk};
-ghost use Rattle.el_set.specs.Asked.{title_of};
+ghost use Rattle.el_settings.specs.Asked.{title_of};
 ghost use Rattle.graph_core.specs.Graph.{made as made_in};
 ghost use Rattle.graph_files.specs.Blanks.{AreBlanks, IsBlankFor};
 
-use el_set::{FilterElement, Settings, filter_of};
+use el_set::{FilterElement, filter_of};
+use el_settings::Settings;
 use graph_core::Graph;
-use gst_caps::{OutOfMemory, Text};
+use gst_value::{OutOfMemory, Text};
 use std::alloc::Global;
 use std::collections::VecDeque;
 

@@ -3,9 +3,9 @@ ghost use Rattle.std.specs.Prelude.{◌≡◌, IfOk, map};
 ghost use Rattle.graph_core.specs.Graph.{made as made_in};
 ghost use Rattle.graph_files.specs.Files.{made_opening, opening_of};
 
-use el_set::Settings;
+use el_settings::Settings;
 use graph_core::Graph;
-use gst_caps::{OutOfMemory, Text};
+use gst_value::{OutOfMemory, Text};
 use run_files::Opening;
 use std::alloc::Global;
 

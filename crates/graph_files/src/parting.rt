@@ -1,6 +1,6 @@
 //! What is made of one element with the end of its file.
 ghost use Rattle.std.specs.Prelude.{◌≡◌, ◌<◌, None, Some, false, length};
-ghost use Rattle.el_set.specs.Asked.{is_filter as filter_test, is_queue as queue_test, title_of};
+ghost use Rattle.el_settings.specs.Asked.{is_filter as filter_test, is_queue as queue_test, title_of};
 ghost use Rattle.el_set.specs.Made.{IsFilterFor, file_for, read_for};
 ghost use Rattle.graph_core.specs.Graph.{made as made_in};
 ghost use Rattle.graph_files.specs.Blanks.{BlankAt, IsBlankFor};
@@ -10,10 +10,11 @@ ghost use Rattle.graph_files.specs.Filled.{IsFilled, IsGiverFor, IsMadeFor, Pair
 use crate::blank::Blank;
 use crate::taking::{put, taken};
 use el_basic::Identity;
-use el_set::{FilterElement, Settings, sink_of, source_of};
+use el_set::{FilterElement, sink_of, source_of};
+use el_settings::Settings;
 use graph_core::Graph;
-use gst_caps::Text;
 use gst_outside::{Sink, Source};
+use gst_value::Text;
 use run_files::End;
 use task_elements::{StreamElement, StreamFilter, StreamSource};
 

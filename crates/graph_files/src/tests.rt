@@ -3,12 +3,11 @@ ghost use Rattle.std.specs.Prelude.{◌≡◌};
 ghost use Rattle.el_set.specs.Gives.{source_items};
 
 use super::*;
-use el_set::{
-    FileSinkSettings, FileSrcSettings, Settings, SinkElement, SourceElement, sink_of, source_of,
-};
+use el_set::{SinkElement, SourceElement, sink_of, source_of};
+use el_settings::{FileSinkSettings, FileSrcSettings, Settings};
 use graph_core::{Graph, build};
-use gst_caps::{List, Text};
 use gst_outside::{MemSink, MemSource, Sink, Source};
+use gst_value::{List, Text};
 use lane_core::{Inlet, MemInlet, MemOutlet, Outlet};
 use launch_text::parse;
 use net_task::Task;

@@ -3,9 +3,9 @@ use Rattle.std.specs.Prelude.{◌≡◌, ◌==◌, ◌||◌, ℕ, Bool, true, Li
 use Rattle.std.specs.List.{range_with_len}
 use Rattle.std.specs.Option.{option_map, option_map_or}
 use Rattle.flow_model.specs.Item.{Item}
-use Rattle.el_set.specs.Asked.{limits_of}
-use Rattle.el_set.specs.declared.settings.QueueSettings.{QueueSettings}
-use Rattle.el_set.specs.declared.settings.Settings.{Settings}
+use Rattle.el_settings.specs.Asked.{limits_of}
+use Rattle.el_settings.specs.declared.settings.QueueSettings.{QueueSettings}
+use Rattle.el_settings.specs.declared.settings.Settings.{Settings}
 use Rattle.graph_core.specs.Elements.{Made}
 use Rattle.graph_core.specs.Links.{source_before}
 use Rattle.graph_core.specs.declared.pad.PadLink.{PadLink}

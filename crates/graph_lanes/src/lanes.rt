@@ -4,9 +4,9 @@ ghost use Rattle.graph_core.specs.Graph.{made as made_in, links as links_in};
 ghost use Rattle.lane_core.specs.Lane.{lane_of};
 ghost use Rattle.graph_lanes.specs.Lanes.{AreLanes, InletAt, OutletAt, lane_place, lane_room, room_of};
 
-use el_set::QueueSettings;
+use el_settings::QueueSettings;
 use graph_core::{Graph, PadPlace};
-use gst_caps::OutOfMemory;
+use gst_value::OutOfMemory;
 use lane_core::{Inlet, MemInlet, MemLanes, MemOutlet, Outlet, memory_lane};
 use std::alloc::Global;
 

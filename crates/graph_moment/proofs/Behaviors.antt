@@ -1,12 +1,12 @@
 -- What an element of a graph does is told by its settings.
 use Rattle.std.proofs.Common.{◌≡◌, not, ℕ, Bool, true, false, eqb, if◌then◌else◌, List, Option, Some, refl, sym, ap, ◌∙◌}
-use Rattle.flow_model.specs.Chain.{first_section}
+use Rattle.flow_model.specs.Section.{first_section}
 use Rattle.flow_model.specs.Rule.{Rule, single}
 use Rattle.net_model.specs.Moment.{Behavior}
-use Rattle.el_set.specs.Asked.{sink_pads, source_pads}
+use Rattle.el_settings.specs.Asked.{sink_pads, source_pads}
 use Rattle.el_set.specs.Denoted.{response_of}
 use Rattle.el_set.specs.Made.{list_of}
-use Rattle.el_set.proofs.Roles.{between_pads}
+use Rattle.el_settings.proofs.Roles.{between_pads}
 use Rattle.task_elements.specs.Made.{behavior_of, rule_of}
 use Rattle.task_elements.specs.Stands.{answers_by, owes_nothing}
 use Rattle.graph_core.specs.Elements.{Made}

@@ -6,7 +6,7 @@ use Rattle.flow_model.specs.Item.{Item, is_flush_stop, is_eos}
 use Rattle.flow_model.specs.Sticky.{has_flush_stop, latest, since_flush_stop}
 use Rattle.flow_model.specs.Prefix.{nothing}
 use Rattle.flow_model.specs.Call.{Call, feeds}
-use Rattle.flow_model.specs.Chain.{first_section, IsPlain}
+use Rattle.flow_model.specs.Section.{first_section, IsPlain}
 use Rattle.flow_model.specs.Rule.{Rule, Response, only, single}
 use Rattle.flow_model.specs.Link.{Span}
 use Rattle.flow_model.proofs.Prefixes.{prefix_refl}
@@ -14,14 +14,14 @@ use Rattle.net_model.specs.Opening.{IsUntouched, free, from_start, AllUntouched}
 use Rattle.net_model.specs.Whole.{OwesInOrder}
 use Rattle.net_model.proofs.Singles.{single_in_order}
 use Rattle.net_model.proofs.Openings.{opening_stands}
-use Rattle.el_set.specs.Asked.{sink_pads, source_pads}
+use Rattle.el_settings.specs.Asked.{sink_pads, source_pads}
 use Rattle.el_set.specs.Denoted.{response_of}
 use Rattle.el_set.specs.Made.{list_of}
 use Rattle.el_set.proofs.EachEnding.{response_ending}
 use Rattle.el_set.proofs.Ends.{plain_no_flush}
 use Rattle.el_set.proofs.Ending.{AreInner, IsEnding}
 use Rattle.el_set.proofs.Lists.{plain_list}
-use Rattle.el_set.proofs.Roles.{end_no_source}
+use Rattle.el_settings.proofs.Roles.{end_no_source}
 use Rattle.task_elements.specs.Stands.{owes_nothing}
 use Rattle.task_elements.proofs.Plain.{ending_plain}
 use Rattle.graph_core.specs.Elements.{Made}

@@ -7,8 +7,8 @@ use Rattle.std.proofs.lemmas.Bool.Decides.{eqb_tells}
 use Rattle.std.proofs.lemmas.Bool.{lt-ltb, ltb-true}
 use Rattle.std.proofs.lemmas.Nat.{mod-mul-add}
 use Rattle.flow_model.specs.Account.{EachSource, EachSourceOf, GoesForward, IsMember}
-use Rattle.el_set.specs.Asked.{source_pads, sink_pads}
-use Rattle.el_set.proofs.Roles.{one_source}
+use Rattle.el_settings.specs.Asked.{source_pads, sink_pads}
+use Rattle.el_settings.proofs.Roles.{one_source}
 use Rattle.task_elements.specs.Stands.{owes_nothing}
 use Rattle.graph_core.specs.Elements.{Made}
 use Rattle.graph_core.specs.Graph.{IsSound, made as made_in, links as links_in, forward as forward_in}

@@ -10,7 +10,7 @@ use Rattle.flow_model.proofs.Whole.{inputs_same, all_sources_weaker}
 use Rattle.net_model.specs.Moment.{Moment, CellStands}
 use Rattle.net_model.specs.Whole.{counted, CellBegins, IsOver, OverIsWhole}
 use Rattle.net_model.proofs.Wholes.{moment_is_eval, end_is_whole}
-use Rattle.el_set.specs.Asked.{source_pads}
+use Rattle.el_settings.specs.Asked.{source_pads}
 use Rattle.graph_core.specs.Elements.{Made}
 use Rattle.graph_core.specs.Graph.{IsSound, made as made_in, forward as forward_in}
 use Rattle.graph_core.specs.declared.graph.Graph.{Graph}

@@ -3,7 +3,7 @@ use Rattle.std.specs.Prelude.{◌≡◌, ◌<◌, ◌%◌, ◌==◌, ◌++◌, �
 use Rattle.flow_model.specs.Item.{Item}
 use Rattle.flow_model.specs.Sticky.{has_flush_stop}
 use Rattle.flow_model.specs.Call.{Call, feeds}
-use Rattle.flow_model.specs.Chain.{IsPlain}
+use Rattle.flow_model.specs.Section.{IsPlain}
 use Rattle.flow_model.specs.Eval.{Plan, inputs, eval, eval_whole}
 use Rattle.flow_model.specs.Account.{GoesForward, IsMember}
 use Rattle.pad_core.specs.Crossing.{has_ended}
@@ -12,7 +12,7 @@ use Rattle.net_model.specs.Split.{AreEmpty}
 use Rattle.net_model.specs.Step.{Leads, LeadsNowhere}
 use Rattle.net_model.specs.Opening.{AtStart, opening}
 use Rattle.net_model.specs.Whole.{OwesInOrder, CellBegins}
-use Rattle.el_set.specs.Asked.{sink_pads}
+use Rattle.el_settings.specs.Asked.{sink_pads}
 use Rattle.el_set.specs.Made.{list_of}
 use Rattle.task_elements.specs.Made.{behavior_of}
 use Rattle.graph_core.specs.Elements.{Made}

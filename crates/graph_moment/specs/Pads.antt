@@ -2,7 +2,7 @@
 use Rattle.std.specs.Prelude.{◌<◌, ◌%◌, ℕ, Bool, List, [], if◌then◌else◌, length, nat_lt, slice_get}
 use Rattle.std.specs.Option.{option_map_or}
 use Rattle.flow_model.specs.Item.{Item}
-use Rattle.el_set.specs.Asked.{source_pads}
+use Rattle.el_settings.specs.Asked.{source_pads}
 use Rattle.graph_core.specs.Elements.{Made}
 use Rattle.graph_core.specs.declared.pad.PadPlace.{PadPlace}
 use Rattle.graph_core.specs.GraphPlan.{most_pads, owner_of}

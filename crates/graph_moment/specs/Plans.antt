@@ -3,7 +3,7 @@ use Rattle.std.specs.Prelude.{◌==◌, ℕ, List, Option, None, Some, if◌then
 use Rattle.flow_model.specs.Rule.{Rule, passes}
 use Rattle.flow_model.specs.Eval.{Plan}
 use Rattle.net_model.specs.Moment.{Answers}
-use Rattle.el_set.specs.Asked.{source_pads}
+use Rattle.el_settings.specs.Asked.{source_pads}
 use Rattle.el_set.specs.Denoted.{response_of}
 use Rattle.task_elements.specs.Stands.{owes_nothing, answers_by}
 use Rattle.graph_core.specs.Elements.{Made}

@@ -6,7 +6,7 @@ ghost use Rattle.graph_order.specs.declared.link.Link.{Link as LinkOf};
 ghost use Rattle.std.specs.Prelude.{List as Items};
 
 use crate::link::Link;
-use gst_caps::OutOfMemory;
+use gst_value::OutOfMemory;
 use std::alloc::Global;
 
 /// Marks, of so many elements, those to which a way leads from one of them.

@@ -4,7 +4,7 @@ ghost use Rattle.graph_order.specs.Marks.{is_chosen};
 
 use crate::link::Link;
 use crate::marks::reached;
-use gst_caps::OutOfMemory;
+use gst_value::OutOfMemory;
 use std::alloc::Global;
 
 /// What comes of a link.

@@ -10,9 +10,7 @@ use Rattle.graph_bags.specs.Bags.{Once, number_of}
 use Rattle.graph_bags.specs.declared.bag.BagElement.{BagElement}
 use Rattle.graph_bags.proofs.Onces.{in_front, in_back, in_either, once_append, once_apart, once_back, once_front}
 use Rattle.graph_tasks.specs.Wiring.{AreApart}
-
-pub some_same : {A : Type 0} {a b : A} → Some a ≡ Some b → a ≡ b
-some_same e = cc
+use Rattle.gst_value.proofs.Basics.{some_same}
 
 -- what stands before a place, at it, and behind it
 pub split_at : {A : Type 0} (xs : List A) (k : ℕ) (x : A) → slice_get xs k ≡ Some x → (rest : List A) × (xs ≡ take k xs ++ x ∷ rest)
@@ -38,10 +36,6 @@ suc_less n k = omega arith
 pub at_back : {A : Type 0} (xs ys : List A) (k : ℕ) (x : A) → slice_get ys k ≡ Some x → slice_get (xs ++ ys) (length xs + k) ≡ Some x
 at_back [] ys k x is = subst (λ (j : ℕ). slice_get ys j ≡ Some x) (sym (zero_less k)) is
 at_back (z ∷ xs) ys k x is = subst (λ (j : ℕ). slice_get ((z ∷ xs) ++ ys) j ≡ Some x) (suc_less (length xs) k) (at_back xs ys k x is)
-
-pub at_seam : {A : Type 0} (xs ys : List A) (x : A) → slice_get (xs ++ x ∷ ys) (length xs) ≡ Some x
-at_seam [] ys x = refl
-at_seam (z ∷ xs) ys x = at_seam xs ys x
 
 module _ {A : Type 0} (f : A → List ℕ) where
   pub flat_step : (xs : List A) (k : ℕ) (x : A) → slice_get xs k ≡ Some x → flat_map f (take (k + 1) xs) ≡ flat_map f (take k xs) ++ f x

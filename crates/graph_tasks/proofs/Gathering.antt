@@ -7,8 +7,8 @@ use Rattle.std.proofs.lemmas.Grind.{flat_map-append}
 use Rattle.std.proofs.lemmas.List.{append-nil, map-append, take_all}
 use Rattle.std.proofs.lemmas.Option.{slice_get-get_or, slice_get_within}
 use Rattle.flow_model.specs.Account.{IsMember}
-use Rattle.el_set.specs.Asked.{source_pads}
-use Rattle.el_set.proofs.Roles.{source_sources}
+use Rattle.el_settings.specs.Asked.{source_pads}
+use Rattle.el_settings.proofs.Roles.{source_sources}
 use Rattle.graph_core.specs.Elements.{Made}
 use Rattle.graph_core.specs.declared.pad.PadLink.{PadLink}
 use Rattle.graph_bags.specs.Bags.{IsBag, Once, cells, head_cells, head_of, number_of, numbers}
@@ -33,9 +33,10 @@ use Rattle.graph_tasks.specs.declared.wired_task.WiredHead.TheVariants.{Source, 
 use Rattle.graph_tasks.specs.declared.wired_task.WiredPart.{WiredPart}
 use Rattle.graph_tasks.specs.declared.wired_task.WiredTask.{WiredTask}
 use Rattle.graph_tasks.proofs.Closed.{is_shape_closed}
-use Rattle.graph_tasks.proofs.Flats.{apart_back, at_back, at_front, flat_more, next_once, some_same, split_at, take_step}
+use Rattle.graph_tasks.proofs.Flats.{apart_back, at_back, at_front, flat_more, next_once, split_at, take_step}
 use Rattle.graph_tasks.proofs.Leading.{few_inlets}
 use Rattle.graph_tasks.proofs.Targets.{all_lanes, heads_once}
+use Rattle.gst_value.proofs.Basics.{some_same}
 
 module _ (made : List Made) (links : List PadLink) where
   -- the pad of a port of an element whose pads are given

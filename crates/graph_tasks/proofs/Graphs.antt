@@ -4,9 +4,9 @@ use Rattle.std.specs.Prelude.{slice_get}
 use Rattle.std.specs.Option.{option_map_or}
 use Rattle.std.proofs.lemmas.Bool.Decides.{eqb_tells}
 use Rattle.std.proofs.lemmas.Option.{slice_get_within}
-use Rattle.el_set.specs.Asked.{sink_pads}
+use Rattle.el_settings.specs.Asked.{sink_pads}
 use Rattle.el_set.specs.Made.{list_of}
-use Rattle.el_set.proofs.Roles.{queue_sinks}
+use Rattle.el_settings.proofs.Roles.{queue_sinks}
 use Rattle.graph_core.specs.Elements.{Made}
 use Rattle.graph_core.specs.Graph.{IsSound, made as made_in, links as links_in, forward as forward_in}
 use Rattle.graph_core.specs.Links.{HasPads, sink_behind, source_before}

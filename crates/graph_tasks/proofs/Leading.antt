@@ -5,10 +5,10 @@ use Rattle.std.specs.Option.{option_map, option_map_or}
 use Rattle.std.proofs.lemmas.List.{append-nil}
 use Rattle.std.proofs.lemmas.Option.{slice_get-get_or, slice_get_within}
 use Rattle.flow_model.specs.Account.{IsMember}
-use Rattle.el_set.specs.Asked.{limits_of, sink_pads, source_pads}
-use Rattle.el_set.specs.declared.settings.QueueSettings.{QueueSettings}
-use Rattle.el_set.specs.declared.settings.Settings.{Settings}
-use Rattle.el_set.proofs.Roles.{one_sink, one_source, queue_limits}
+use Rattle.el_settings.specs.Asked.{limits_of, sink_pads, source_pads}
+use Rattle.el_settings.specs.declared.settings.QueueSettings.{QueueSettings}
+use Rattle.el_settings.specs.declared.settings.Settings.{Settings}
+use Rattle.el_settings.proofs.Roles.{one_sink, one_source, queue_limits}
 use Rattle.graph_core.specs.Elements.{Made}
 use Rattle.graph_core.specs.Links.{sink_behind, source_before}
 use Rattle.graph_core.specs.declared.pad.PadLink.{PadLink}
@@ -29,9 +29,6 @@ use Rattle.task_pads.specs.declared.pad.Behind.{Behind}
 use Rattle.task_pads.specs.declared.pad.Pad.{Pad}
 use Rattle.graph_tasks.specs.Tasks.{IsLaneTo, LeadsTo}
 use Rattle.graph_tasks.specs.Wiring.{AreLinks, IsBehind, OutletsLeft, PadGiven, PadMade, lane_to, over_lane, without_lane}
-
-some_same : {A : Type 0} {a b : A} → Some a ≡ Some b → a ≡ b
-some_same e = cc
 
 -- an element that is fed from inlets has a lane, where something is linked to it
 has_room : (s : Settings) → has_inlets s ≡ true → room_by s ≡ None → ⊥

@@ -4,7 +4,8 @@ use Rattle.std.specs.Prelude.{slice_get}
 use Rattle.inlet_row.specs.Row.{feeds_of}
 use Rattle.inlet_row.specs.declared.row.InletRow.{InletRow}
 use Rattle.graph_tasks.specs.Wiring.{feeds_with}
-use Rattle.graph_tasks.proofs.Flats.{at_front, some_same}
+use Rattle.graph_tasks.proofs.Flats.{at_front}
+use Rattle.gst_value.proofs.Basics.{some_same}
 
 module _ {I : Type 0} (n : ℕ) (inlet : Option I) where
   -- no row was made and the lane is there, or the first row has it

@@ -21,8 +21,9 @@ use Rattle.graph_bags.proofs.Apart.{same_head}
 use Rattle.graph_bags.proofs.Onces.{in_either, once_append}
 use Rattle.graph_bags.proofs.Trees.{range_once}
 use Rattle.graph_tasks.specs.Wiring.{AreLinks, BagsGiven, all_cells, cell_lanes, lane_to, pad_lanes}
-use Rattle.graph_tasks.proofs.Flats.{flat_flat, some_same}
+use Rattle.graph_tasks.proofs.Flats.{flat_flat}
 use Rattle.graph_tasks.proofs.Leading.{first_sink}
+use Rattle.gst_value.proofs.Basics.{some_same}
 
 -- a pad of these leads over the lane into an element
 record LaneBy (made : List Made) (links : List PadLink) (a d : ℕ) (ks : List ℕ) : Type 0 where

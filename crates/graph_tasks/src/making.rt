@@ -9,7 +9,7 @@ ghost use Rattle.graph_tasks.specs.Wired.{number_in, source_in};
 
 use crate::taking::take_there;
 use crate::wired_task::{WiredHead, WiredPart, WiredTask};
-use gst_caps::OutOfMemory;
+use gst_value::OutOfMemory;
 use lane_core::{Inlet, Outlet};
 use net_model::{TaskElement, TaskSource};
 use net_task::Task;

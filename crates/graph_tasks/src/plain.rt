@@ -1,13 +1,13 @@
 //! Elements and sources that do nothing, for tests.
 ghost use Rattle.std.specs.Prelude.{◌≡◌, ℕ, None, Some, IfOk, slice_get};
-ghost use Rattle.el_set.specs.Asked.{source_pads};
+ghost use Rattle.el_settings.specs.Asked.{source_pads};
 ghost use Rattle.graph_core.specs.Elements.{Made};
 ghost use Rattle.graph_core.specs.Graph.{made as made_in};
 ghost use Rattle.graph_tasks.specs.Plan.{ElementAt, SourceAt};
 
 use graph_core::Graph;
-use gst_caps::OutOfMemory;
 use gst_item::{Item, Outs};
+use gst_value::OutOfMemory;
 use net_model::{Refused, TaskElement, TaskSource, Unread};
 use std::alloc::Global;
 

@@ -4,7 +4,7 @@ ghost use Rattle.inlet_row.specs.Row.{feeds_of};
 ghost use Rattle.inlet_row.specs.declared.row.InletRow.{InletRow as RowOf};
 ghost use Rattle.graph_tasks.specs.Wiring.{feeds_with};
 
-use gst_caps::OutOfMemory;
+use gst_value::OutOfMemory;
 use inlet_row::InletRow;
 use lane_core::Inlet;
 use std::alloc::Global;

@@ -8,7 +8,7 @@ ghost use Rattle.graph_tasks.specs.Wiring.{CellGiven, IsBehind, LooksAt, Outlets
 use crate::taking::taken;
 use graph_bags::{BagElement, BagLink};
 use graph_core::Graph;
-use gst_caps::OutOfMemory;
+use gst_value::OutOfMemory;
 use lane_core::Outlet;
 use std::alloc::Global;
 use task_pads::{Behind, Pad};

@@ -12,7 +12,7 @@ use crate::wired_task::{WiredHead, WiredPart, WiredTask, WiredTasks};
 use graph_bags::{Bag, BagElement, BagHead, BagLink, bags_of};
 use graph_core::Graph;
 use graph_lanes::{Lanes, lanes_of};
-use gst_caps::OutOfMemory;
+use gst_value::OutOfMemory;
 use lane_core::{Inlet, MemInlet, MemOutlet, Outlet};
 use std::alloc::Global;
 use std::collections::VecDeque;

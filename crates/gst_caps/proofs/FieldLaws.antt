@@ -9,17 +9,18 @@ use Rattle.std.specs.declared.cmp.Ordering.TheVariants.{Less, Equal, Greater}
 use Rattle.std.proofs.lemmas.Map.Lookups.{exact_bytes}
 use Rattle.std.proofs.lemmas.Slice.Eq.{bytes_eq-Decides}
 use mathlib.Core.Bool.{true≢false}
-use Rattle.gst_caps.proofs.Put.{cmp, less_trans_each, not_before, same_not_before, filter-all_behind, filter-none_before, Rises-filter}
+use Rattle.gst_value.proofs.Put.{cmp, less_trans_each, not_before, same_not_before, filter-all_behind, filter-none_before, Rises-filter}
 use Rattle.gst_caps.proofs.Steps.{greater_less, value_at_behind, value_at_same, value_at_skip}
-use Rattle.gst_caps.proofs.Laws.{and_false, any_pairs, value_law, meet_at}
-use Rattle.gst_caps.specs.Accepts.{value_at, each_at, contains_given, takes, accepts, agrees, structures_meet, narrowed, merged, meet, all_meets, intersection}
+use Rattle.gst_value.proofs.Laws.{and_false, any_pairs}
+use Rattle.gst_caps.proofs.Laws.{value_law, meet_at}
+use Rattle.gst_caps.specs.Accepts.{value_at, each_at, contains_given, takes, agrees, structures_meet, narrowed, merged, meet, all_meets}
 use Rattle.gst_caps.specs.Common.{common, as_value}
-use Rattle.gst_caps.specs.Description.{Description, IsStructure}
-use Rattle.gst_caps.specs.Names.{Each, Rises, is_before}
-use Rattle.gst_caps.specs.declared.caps.Caps.{Caps}
-use Rattle.gst_caps.specs.declared.caps.Caps.TheVariants.{Any, Of}
-use Rattle.gst_caps.specs.declared.value.One.{One}
+use Rattle.gst_value.specs.Description.{Description}
+use Rattle.gst_caps.specs.Description.{IsStructure}
+use Rattle.gst_value.specs.Names.{Each, Rises, is_before}
+use Rattle.gst_value.specs.declared.one.One.{One}
 use Rattle.gst_caps.specs.declared.value.Value.{Value}
+use Rattle.gst_value.proofs.Basics.{and_left, and_right}
 
 all-append : (t : List ℕ × Value → Bool) (xs ys : List (List ℕ × Value)) → list_all t (xs ++ ys) ≡ (list_all t xs && list_all t ys)
 all-append t [] ys = refl
@@ -28,14 +29,6 @@ all-append t (x ∷ xs) ys = ap (λ b. t x && b) (all-append t xs ys) ∙ join (
     join : (a b c : Bool) → (a && (b && c)) ≡ ((a && b) && c)
     join true b c = refl
     join false b c = refl
-
-pub and_left : (a b : Bool) → (a && b) ≡ true → a ≡ true
-and_left true b h = refl
-and_left false b h = h
-
-pub and_right : (a b : Bool) → (a && b) ≡ true → b ≡ true
-and_right true b h = h
-and_right false b h = absurd (true≢false (sym h))
 
 pub and_true : (a b : Bool) → a ≡ true → b ≡ true → (a && b) ≡ true
 and_true a b h k = ap (λ c. c && b) h ∙ k
@@ -155,14 +148,3 @@ module _ (x : Description One) where
 
   pub meets_law : (ss ts : List (Description Value)) → Each IsStructure ss → Each IsStructure ts → list_any (λ u. takes u x) (all_meets ss ts) ≡ (list_any (λ u. takes u x) ss && list_any (λ u. takes u x) ts)
   meets_law ss ts p q = any_pairs (λ u. takes u x) meet IsStructure (λ s t. pair_law s t) ss ts p q
-
--- the structures of caps are structures
-abbrev pub AreStructures : Caps → Type 0
-AreStructures Any = Unit {0}
-AreStructures (Of ss) = Each IsStructure ss
-
--- an intersection accepts what both accept
-pub intersection_law : (a b : Caps) → AreStructures a → AreStructures b → (x : Description One) → accepts (intersection a b) x ≡ (accepts a x && accepts b x)
-intersection_law Any b p q x = refl
-intersection_law (Of ss) Any p q x = and_always x (accepts (Of ss) x)
-intersection_law (Of ss) (Of ts) p q x = meets_law x ss ts p q

@@ -7,18 +7,19 @@ use Rattle.std.proofs.lemmas.List.{take_all, take-append-drop, drop_more}
 use Rattle.std.proofs.lemmas.List.Concat.{flat_map-append}
 use borrow.Author.Tests.{ltb-true}
 use mathlib.Core.Bool.{true≢false}
-use Rattle.gst_caps.proofs.Kept.{filter_map_more, filter_map_split}
-use Rattle.gst_caps.proofs.Laws.{any-append}
+use Rattle.gst_value.proofs.Kept.{filter_map_more, filter_map_split}
+use Rattle.gst_value.proofs.Laws.{any-append}
 use Rattle.gst_caps.proofs.Sound.{each_right, each_short_value}
 use Rattle.gst_caps.proofs.FieldLaws.{meets_law}
 use Rattle.gst_caps.proofs.Overlap.{takes_fixed, fixed_right, met_fixed}
 use Rattle.gst_caps.specs.Accepts.{takes, structures_meet, merged, met, meet, all_meets, fixed, first_structure}
 use Rattle.gst_caps.specs.Common.{members}
-use Rattle.gst_caps.specs.Description.{Description, IsStructure, IsFixed}
+use Rattle.gst_value.specs.Description.{Description, IsFixed}
+use Rattle.gst_caps.specs.Description.{IsStructure}
 use Rattle.gst_caps.specs.Merge.{IsShort, fixed_field}
-use Rattle.gst_caps.specs.Names.{Each}
+use Rattle.gst_value.specs.Names.{Each}
 use Rattle.gst_caps.specs.Passes.{fields_pass, structures_pass}
-use Rattle.gst_caps.specs.declared.value.One.{One}
+use Rattle.gst_value.specs.declared.one.One.{One}
 use Rattle.gst_caps.specs.declared.value.Value.{Value}
 
 or_right : (a b : Bool) → b ≡ true → (a || b) ≡ true

@@ -7,14 +7,14 @@ use Rattle.std.proofs.lemmas.Bool.Decides.{nat_tests}
 use Rattle.std.proofs.lemmas.List.{append-nil, drop_all, take_rest}
 use borrow.Author.Tests.{ltb-true}
 use Rattle.std.proofs.lemmas.Map.Lookups.{exact_bytes}
-use Rattle.gst_caps.proofs.Put.{cmp, less_trans_each, not_before, filter-all_behind, filter-none_before}
+use Rattle.gst_value.proofs.Put.{cmp, less_trans_each, not_before, filter-all_behind, filter-none_before}
 use Rattle.gst_caps.proofs.Steps.{front, rises_front, greater_less, value_at_behind, value_at_same, value_at_skip}
 use Rattle.gst_caps.specs.Accepts.{merged}
 use Rattle.gst_caps.specs.Passes.{fields_pass}
 use Rattle.gst_caps.specs.Common.{as_value, common, members}
 use Rattle.gst_caps.specs.Merge.{merged_from}
-use Rattle.gst_caps.specs.Names.{Each, Rises}
-use Rattle.gst_caps.specs.declared.value.One.{One}
+use Rattle.gst_value.specs.Names.{Each, Rises}
+use Rattle.gst_value.specs.declared.one.One.{One}
 use Rattle.gst_caps.specs.declared.value.Value.{Value}
 
 -- ---- one step
@@ -91,13 +91,6 @@ or_right a b h = ap (λ c. a || c) h ∙ or_true a
 
 or_left : (a b : Bool) → a ≡ true → (a || b) ≡ true
 or_left a b h = ap (λ c. c || b) h
-
--- one more than 64 fields
-pub over_fields : (old rest whole : List (List ℕ × Value)) (x : List ℕ × Value) → whole ≡ x ∷ rest → 64 ≤ length old → fields_pass (old ++ whole) ≡ true
-over_fields old rest whole x e h =
-    let n : 64 < length (old ++ whole) = omega (arith, length-append old whole, ap length e) in
-    let t : ltb 64 (length (old ++ whole)) ≡ true = grind (arith, nat_tests) in
-    or_left (ltb 64 (length (old ++ whole))) _ t
 
 -- a field with more than 64 members
 pub over_members : (old rest whole : List (List ℕ × Value)) (x : List ℕ × Value) → whole ≡ x ∷ rest → 64 < length (members x.1) → fields_pass (old ++ whole) ≡ true

@@ -9,19 +9,23 @@ use Rattle.std.proofs.lemmas.Int.{ints}
 use Rattle.std.proofs.lemmas.List.{length-map, take_more}
 use Rattle.std.proofs.lemmas.Slice.Eq.{bytes_eq-Decides}
 use mathlib.Core.Bool.{true≢false}
-use Rattle.gst_caps.proofs.Put.{cmp, less_from_is_lt, not_before}
+use Rattle.gst_value.proofs.Put.{cmp, less_from_is_lt, not_before}
 use Rattle.gst_caps.proofs.Steps.{each_at_both}
-use Rattle.gst_caps.proofs.Laws.{any-append, same_itself}
-use Rattle.gst_caps.proofs.Sound.{IsRight, AreRight, each_right, merged_right, Rises-merged}
-use Rattle.gst_caps.proofs.FieldLaws.{pair_law, and_right, and_true}
+use Rattle.gst_value.proofs.Laws.{any-append, same_itself}
+use Rattle.gst_caps.proofs.Sound.{IsRight, each_right, merged_right, Rises-merged}
+use Rattle.gst_value.proofs.Sound.{AreRight}
+use Rattle.gst_caps.proofs.FieldLaws.{pair_law, and_true}
 use Rattle.gst_caps.specs.Accepts.{value_at, each_at, contains_given, takes, structures_meet, narrowed, merged, met, fixed}
-use Rattle.gst_caps.specs.Common.{members, holds, contains, least_of, first_least, least}
-use Rattle.gst_caps.specs.Description.{Description, IsStructure, IsFixed}
-use Rattle.gst_caps.specs.Names.{Each, Rises, is_before}
-use Rattle.gst_caps.specs.Values.{IsOne, IsSingle}
-use Rattle.gst_caps.specs.declared.value.One.{One}
-use Rattle.gst_caps.specs.declared.value.One.TheVariants.{Int, Bool as Truth, Text as Words, Fraction, IntRange}
+use Rattle.gst_caps.specs.Common.{members, contains, least}
+use Rattle.gst_value.specs.Common.{holds, least_of, first_least}
+use Rattle.gst_value.specs.Description.{Description, IsFixed}
+use Rattle.gst_caps.specs.Description.{IsStructure}
+use Rattle.gst_value.specs.Names.{Each, Rises, is_before}
+use Rattle.gst_value.specs.Values.{IsOne, IsSingle}
+use Rattle.gst_value.specs.declared.one.One.{One}
+use Rattle.gst_value.specs.declared.one.One.TheVariants.{Int, Bool as Truth, Text as Words, Fraction, IntRange}
 use Rattle.gst_caps.specs.declared.value.Value.{Value}
+use Rattle.gst_value.proofs.Basics.{and_right}
 
 -- ---- what is fixed
 

@@ -7,9 +7,9 @@ use Rattle.std.proofs.lemmas.Cmp.{nat_list_cmp_total}
 use Rattle.std.proofs.lemmas.List.{drop_more, drop_all}
 use Rattle.std.proofs.lemmas.Map.Lookups.{exact_bytes}
 use Rattle.std.proofs.lemmas.Map.Text.{is_eq-slice_cmp}
-use Rattle.gst_caps.proofs.Put.{cmp, less_trans_each}
+use Rattle.gst_value.proofs.Put.{cmp, less_trans_each}
 use Rattle.gst_caps.specs.Accepts.{value_at, each_at}
-use Rattle.gst_caps.specs.Names.{Each, Rises}
+use Rattle.gst_value.specs.Names.{Each, Rises}
 
 -- ---- names
 
@@ -92,16 +92,6 @@ module _ {V W : Type 0} (t : V → Option W → Bool) (fs : List (List ℕ × V)
       let Q : List (List ℕ × W) → Type 0 = λ xs. Each (λ x. cmp f.0 x.0 ≡ Less) xs in
       let later : Each (λ x. cmp f.0 x.0 ≡ Less) (drop j gs) = subst Q (sym second) (less, less_trans_each f.0 g.0 (drop (j + 1) gs) less (rises_front gs j g s q k).0) in
       ap (λ xs. each_at t xs (drop j gs)) first ∙ each_at_absent t (drop j gs) f (drop (i + 1) fs) later
-
--- at the end of the second
-pub walk_end : {V W : Type 0} (t : V → Option W → Bool) (fs : List (List ℕ × V)) (gs : List (List ℕ × W)) (i j : ℕ) (f : List ℕ × V) → i < length fs → f ≡ get_or fs i f → length gs ≤ j → each_at t (drop i fs) (drop j gs) ≡ (t f.1 None && each_at t (drop (i + 1) fs) (drop j gs))
-walk_end {V} {W} t fs gs i j f p e q =
-    let P : List (List ℕ × W) → Type 0 = λ xs. each_at t (drop i fs) xs ≡ (t f.1 None && each_at t (drop (i + 1) fs) xs) in
-    subst P (sym (drop_all j gs q)) (ap (λ xs. each_at t xs []) (front fs i f p e))
-
--- at the end of the first
-pub walk_over : {V W : Type 0} (t : V → Option W → Bool) (fs : List (List ℕ × V)) (gs : List (List ℕ × W)) (i : ℕ) → length fs ≤ i → each_at t (drop i fs) gs ≡ true
-walk_over t fs gs i h = ap (λ xs. each_at t xs gs) (drop_all i fs h)
 
 -- where nothing is asked of what is absent
 pub walk_free : {V W : Type 0} (t : V → Option W → Bool) → ((v : V) → t v None ≡ true) → (fs : List (List ℕ × V)) → each_at t fs [] ≡ true

@@ -1,15 +1,15 @@
 -- Which fixed caps caps stand for, and the intersection of caps.
-use Rattle.std.specs.Prelude.{ℕ, Bool, true, false, cond, ◌&&◌, List, [], ◌∷◌, ◌++◌, Option, Some, None, length, map, nat_lt}
+use Rattle.std.specs.Prelude.{ℕ, Bool, true, false, cond, ◌&&◌, List, [], ◌∷◌, ◌++◌, Option, Some, None, map}
 use Rattle.std.specs.List.{filter, filter_map, flat_map, list_all, list_any}
 use Rattle.std.specs.Option.{option_map, option_map_or}
 use Rattle.std.specs.Str.{bytes_eq}
 use Rattle.gst_caps.specs.Common.{as_value, common, contains, have_common, least}
-use Rattle.gst_caps.specs.Description.{Description}
-use Rattle.gst_caps.specs.Names.{is_before}
+use Rattle.gst_value.specs.Description.{Description}
+use Rattle.gst_value.specs.Names.{is_before}
 use Rattle.gst_caps.specs.Passes.{structures_pass}
 use Rattle.gst_caps.specs.declared.caps.Caps.{Caps}
 use Rattle.gst_caps.specs.declared.caps.Caps.TheVariants.{Any, Of}
-use Rattle.gst_caps.specs.declared.value.One.{One}
+use Rattle.gst_value.specs.declared.one.One.{One}
 use Rattle.gst_caps.specs.declared.value.Value.{Value}
 
 -- the value of the field of this name
@@ -68,13 +68,6 @@ abbrev pub intersection : Caps → Caps → Caps
 intersection Any b = b
 intersection (Of ss) Any = Of ss
 intersection (Of ss) (Of ts) = Of (all_meets ss ts)
-
--- whether some fixed caps are in both
-abbrev pub overlap : Caps → Caps → Bool
-overlap Any Any = true
-overlap Any (Of ts) = nat_lt 0 (length ts)
-overlap (Of ss) Any = nat_lt 0 (length ss)
-overlap (Of ss) (Of ts) = list_any (λ s. list_any (structures_meet s) ts) ss
 
 -- a structure with the first of each list and the least of each range
 abbrev pub fixed : Description Value → Description One

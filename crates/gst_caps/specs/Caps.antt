@@ -1,6 +1,6 @@
 -- What caps stand for.
 use Rattle.std.specs.Prelude.{List, []}
-use Rattle.gst_caps.specs.Description.{Description}
+use Rattle.gst_value.specs.Description.{Description}
 use Rattle.gst_caps.specs.declared.value.Value.{Value}
 use Rattle.gst_caps.specs.declared.caps.Caps.{Caps}
 use Rattle.gst_caps.specs.declared.caps.Caps.TheVariants.{Any, Of}

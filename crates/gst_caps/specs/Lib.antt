@@ -1,13 +1,7 @@
-pub mod Names
-pub mod Limit
 pub mod Merge
 pub mod Passes
 pub mod Values
 pub mod Description
 pub mod Accepts
 pub mod Common
-pub mod Kept
 pub mod Caps
-pub mod Fractions
-pub mod Parts
-pub mod formers

@@ -2,7 +2,7 @@
 use Rattle.std.specs.Prelude.{ℕ, ◌≤◌, List, drop, length}
 use Rattle.gst_caps.specs.Accepts.{merged}
 use Rattle.gst_caps.specs.Common.{least, members}
-use Rattle.gst_caps.specs.declared.value.One.{One}
+use Rattle.gst_value.specs.declared.one.One.{One}
 use Rattle.gst_caps.specs.declared.value.Value.{Value}
 
 -- a value with at most 64 members

@@ -2,7 +2,7 @@
 use Rattle.std.specs.Prelude.{ℕ, Bool, ◌||◌, List, length, nat_lt}
 use Rattle.std.specs.List.{list_any}
 use Rattle.gst_caps.specs.Common.{members}
-use Rattle.gst_caps.specs.Description.{Description}
+use Rattle.gst_value.specs.Description.{Description}
 use Rattle.gst_caps.specs.declared.value.Value.{Value}
 
 -- whether fields, members of one or structures are more than 64

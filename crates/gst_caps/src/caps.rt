@@ -4,18 +4,16 @@ ghost use Rattle.std.specs.List.{list_any};
 ghost use Rattle.std.specs.Option.{option_map};
 ghost use Rattle.gst_caps.specs.Accepts.{accepts, all_meets, first_structure, fixation, fixed, intersection, passes, takes};
 ghost use Rattle.gst_caps.specs.Caps.{structures};
-ghost use Rattle.gst_caps.specs.Description.{Description, IsFixed, IsStructure};
-ghost use Rattle.gst_caps.specs.Limit.{TooManyWhere};
-ghost use Rattle.gst_caps.specs.Names.{Each};
+ghost use Rattle.gst_value.specs.Description.{Description, IsFixed};
+ghost use Rattle.gst_caps.specs.Description.{IsStructure};
+ghost use Rattle.gst_value.specs.Limit.{TooManyWhere};
+ghost use Rattle.gst_value.specs.Names.{Each};
 ghost use Rattle.gst_caps.specs.Passes.{structures_pass};
-ghost use Rattle.gst_caps.specs.declared.value.One.{One as FieldOne};
+ghost use Rattle.gst_value.specs.declared.one.One.{One as FieldOne};
 
-use crate::fault::CapsFault;
-use crate::field::LIMIT;
-use crate::fixed::Fixed;
-use crate::list::List;
-use crate::memory::OutOfMemory;
 use crate::structure::Structure;
+use gst_value::field::LIMIT;
+use gst_value::{CapsFault, Fixed, List, OutOfMemory};
 use std::alloc::Global;
 
 /// A set of fixed caps, as in GStreamer's design document on caps.

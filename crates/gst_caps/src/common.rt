@@ -2,14 +2,14 @@
 ghost use Rattle.std.specs.Prelude.{◌≡◌, ◌<◌, ◌≤◌, ◌∷◌, [], length, IfOk, OnOk};
 ghost use Rattle.std.specs.List.{filter_map, list_any};
 ghost use Rattle.std.specs.Option.{option_to_list};
-ghost use Rattle.gst_caps.specs.Common.{as_value, common, common_one, members, same};
-ghost use Rattle.gst_caps.specs.Limit.{TooManyWhere};
-ghost use Rattle.gst_caps.specs.Kept.{kept};
+ghost use Rattle.gst_caps.specs.Common.{as_value, common, members};
+ghost use Rattle.gst_value.specs.Common.{common_one, same};
+ghost use Rattle.gst_value.specs.Limit.{TooManyWhere};
+ghost use Rattle.gst_value.specs.Kept.{kept};
 
-use crate::fault::CapsFault;
-use crate::field::LIMIT;
-use crate::list::List;
-use crate::value::{One, Value};
+use crate::value::Value;
+use gst_value::field::LIMIT;
+use gst_value::{CapsFault, List, One};
 use std::alloc::Global;
 
 /// Whether one of the members is equal.

@@ -2,14 +2,14 @@
 ghost use Rattle.std.specs.Prelude.{◌≡◌, ◌+◌, ◌<◌, ◌≤◌, ◌++◌, ◌∷◌, [], Option, drop, length, map, IfOk, OnOk};
 ghost use Rattle.std.specs.List.{filter_map};
 ghost use Rattle.gst_caps.specs.Accepts.{merged};
-ghost use Rattle.gst_caps.specs.Common.{common_one, commons, first_least, first_of, least, members};
+ghost use Rattle.gst_value.specs.Common.{common_one, commons, first_least, first_of};
+ghost use Rattle.gst_caps.specs.Common.{least, members};
 ghost use Rattle.gst_caps.specs.Merge.{fixed_field, merged_from};
-ghost use Rattle.gst_caps.specs.Names.{Rises};
+ghost use Rattle.gst_value.specs.Names.{Rises};
 
-use crate::memory::OutOfMemory;
-use crate::text::Text;
-use crate::value::{One, Value};
+use crate::value::Value;
 use crate::walk::compare;
+use gst_value::{One, OutOfMemory, Text};
 use std::alloc::Global;
 use std::cmp::Ordering;
 

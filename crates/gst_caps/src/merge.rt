@@ -3,16 +3,15 @@ ghost use Rattle.std.specs.Prelude.{◌≡◌, ◌+◌, ◌<◌, ◌≤◌, ◌+
 ghost use Rattle.gst_caps.specs.Accepts.{merged};
 ghost use Rattle.gst_caps.specs.Passes.{fields_pass};
 ghost use Rattle.gst_caps.specs.Common.{least, members};
-ghost use Rattle.gst_caps.specs.Limit.{IsFaultWhere, TooManyWhere};
+ghost use Rattle.gst_value.specs.Limit.{IsFaultWhere, TooManyWhere};
 ghost use Rattle.gst_caps.specs.Merge.{IsShort, merged_from};
-ghost use Rattle.gst_caps.specs.Names.{Each, Rises};
+ghost use Rattle.gst_value.specs.Names.{Each, Rises};
 
 use crate::common::common_value;
-use crate::fault::CapsFault;
-use crate::field::LIMIT;
-use crate::text::Text;
 use crate::value::Value;
 use crate::walk::compare;
+use gst_value::field::LIMIT;
+use gst_value::{CapsFault, Text};
 use std::alloc::Global;
 use std::cmp::Ordering;
 

@@ -2,17 +2,13 @@
 ghost use Rattle.std.specs.Prelude.{◌≡◌, ◌<◌, ◌&&◌, ◌++◌, true, false, [], length, IfOk, IfErr, OnOk, OnErr, IsTrue, IsFalse, slice_get};
 ghost use Rattle.std.specs.List.{filter_map, list_any};
 ghost use Rattle.std.specs.Option.{option_map, option_map_or, option_to_list};
-ghost use Rattle.gst_caps.specs.Limit.{TooManyWhere};
+ghost use Rattle.gst_value.specs.Limit.{TooManyWhere};
 ghost use Rattle.gst_caps.specs.Passes.{fields_pass, structures_pass};
 
-use crate::fault::CapsFault;
-use crate::field::{self, LIMIT};
-use crate::fixed::Fixed;
-use crate::list::List;
-use crate::memory::OutOfMemory;
-use crate::text::Text;
 use crate::value::Value;
 use crate::{fixate, merge, walk};
+use gst_value::field::{self, LIMIT};
+use gst_value::{CapsFault, Fixed, List, OutOfMemory, Text};
 use std::alloc::Global;
 use std::marker::Model;
 
@@ -24,7 +20,8 @@ pub struct Structure {
 }
 
 impl Model for Structure {
-    ghost use Rattle.gst_caps.specs.Description.{Description, IsStructure};
+    ghost use Rattle.gst_value.specs.Description.{Description};
+    ghost use Rattle.gst_caps.specs.Description.{IsStructure};
     ghost use Rattle.gst_caps.specs.declared.value.Value.{Value as FieldValue};
 
     ghost Value = { Description FieldValue };
@@ -36,10 +33,11 @@ impl Model for Structure {
 
 impl Structure {
     ghost use Rattle.gst_caps.specs.Accepts.{first_structure, fixed, meet, met, structures_meet, takes};
-    ghost use Rattle.gst_caps.specs.Description.{Description, IsFixed, IsStructure};
-    ghost use Rattle.gst_caps.specs.Limit.{IsFaultWhere, TooManyWhere};
-    ghost use Rattle.gst_caps.specs.Names.{Each, put};
-    ghost use Rattle.gst_caps.specs.declared.value.One.{One as FieldOne};
+    ghost use Rattle.gst_value.specs.Description.{Description, IsFixed};
+    ghost use Rattle.gst_caps.specs.Description.{IsStructure};
+    ghost use Rattle.gst_value.specs.Limit.{IsFaultWhere, TooManyWhere};
+    ghost use Rattle.gst_value.specs.Names.{Each, put};
+    ghost use Rattle.gst_value.specs.declared.one.One.{One as FieldOne};
     ghost use Rattle.gst_caps.specs.Values.{IsValue};
 
     /// A structure of this media type without fields.

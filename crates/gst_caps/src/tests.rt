@@ -1,16 +1,12 @@
-//! A table of intersections, and the edges of fractions and of the limit.
+//! A table of intersections, and the edges of the limit.
 ghost use Rattle.std.specs.Prelude.{◌≡◌, IfOk, IsTrue};
-ghost use Rattle.gst_caps.specs.Values.{IsOne, IsValue, kind_of};
+ghost use Rattle.gst_value.specs.Values.{IsOne, kind_of};
+ghost use Rattle.gst_caps.specs.Values.{IsValue};
 
 use crate::caps::{Caps, choose};
-use crate::fault::CapsFault;
-use crate::fixed::Fixed;
-use crate::list::List;
-use crate::name::{PadName, Prop};
-use crate::ratio::fraction;
 use crate::structure::Structure;
-use crate::text::Text;
-use crate::value::{One, Value};
+use crate::value::Value;
+use gst_value::{CapsFault, Fixed, List, One, Text, fraction};
 use std::alloc::Global;
 use std::fmt::Write;
 use std::process::Abort;
@@ -311,35 +307,4 @@ fn pushes(rt: HostRuntime) -> Result<(), Fail> {
         assert!(rt; matches!(&more, Err(CapsFault::TooMany { count: 65 })));
     }
     Ok(())
-}
-
-#[test]
-fn copies(rt: HostRuntime) -> Result<(), Fail> {
-    let alloc = rt.alloc();
-    let prop = Prop {
-        name: Text::from_str(alloc, "blocksize")?,
-        value: Text::from_str(alloc, "16")?,
-    };
-    let prop = prop.copy(alloc)?;
-    assert_eq!(rt; prop.name.as_str(), "blocksize");
-    assert_eq!(rt; prop.value.as_str(), "16");
-    let name = PadName {
-        element: Text::from_str(alloc, "identity0")?,
-        pad: Text::from_str(alloc, "src")?,
-    };
-    let name = name.copy(alloc)?;
-    assert_eq!(rt; name.element.as_str(), "identity0");
-    assert_eq!(rt; name.pad.as_str(), "src");
-    Ok(())
-}
-
-#[test]
-fn fractions(rt: HostRuntime) {
-    assert!(rt; matches!(&fraction(6, -4), Some(One::Fraction(-3, 2))));
-    assert!(rt; matches!(&fraction(0, -5), Some(One::Fraction(0, 1))));
-    assert!(rt; matches!(&fraction(i32::MIN, i32::MIN), Some(One::Fraction(1, 1))));
-    assert!(rt; matches!(&fraction(i32::MIN, 1), Some(One::Fraction(-2147483648, 1))));
-    assert!(rt; matches!(&fraction(i32::MIN, -1), None));
-    assert!(rt; matches!(&fraction(1, i32::MIN), None));
-    assert!(rt; matches!(&fraction(1, 0), None));
 }

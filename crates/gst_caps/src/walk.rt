@@ -3,10 +3,10 @@ ghost use Rattle.std.specs.Prelude.{◌≡◌};
 ghost use Rattle.std.specs.Cmp.Lexicographic.{slice_cmp};
 ghost use Rattle.std.specs.Ordering.{nat_cmp};
 ghost use Rattle.gst_caps.specs.Accepts.{agrees, contains_given, each_at};
-ghost use Rattle.gst_caps.specs.Names.{Rises};
+ghost use Rattle.gst_value.specs.Names.{Rises};
 
-use crate::text::Text;
-use crate::value::{One, Value};
+use crate::value::Value;
+use gst_value::{One, Text};
 use std::cmp::Ordering;
 
 /// How the names of two fields stand.

@@ -1,6 +1,6 @@
 -- Items: what crosses a source pad. The history of a pad is the list of the items that crossed it, and a place
 -- on the pad is a number of them.
-use Rattle.std.specs.Prelude.{Bool, true, false, ℕ, List, count_by, []}
+use Rattle.std.specs.Prelude.{Bool, true, false, ◌||◌, ℕ, List, count_by, fold, []}
 pub use Rattle.gst_item.specs.declared.item.Item.{Item}
 pub use Rattle.gst_item.specs.declared.item.Item.TheVariants.{Buffer as Buf, Event as Ev}
 pub use Rattle.gst_item.specs.declared.item.Event.{Event}
@@ -33,6 +33,10 @@ is_flush_stop _ = false
 abbrev pub is_eos : Item → Bool
 is_eos (Ev Eos) = true
 is_eos _ = false
+
+-- whether EOS is among items
+abbrev pub eos_among : List Item → Bool
+eos_among items = fold (λ eos x. eos || is_eos x) false items
 
 abbrev pub is_buffer : Item → Bool
 is_buffer (Buf b) = true

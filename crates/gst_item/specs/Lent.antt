@@ -1,7 +1,7 @@
 -- Bodies whose bytes are lent to be changed.
 use Rattle.std.specs.Prelude.{ℕ, List, ◌++◌, length, take, drop, Result}
 use Rattle.std.specs.Borrow.{Lends, LendsIfOk, MutBor, Fml, Array, u8}
-use Rattle.gst_caps.specs.declared.memory.OutOfMemory.{OutOfMemory}
+use Rattle.gst_value.specs.declared.memory.OutOfMemory.{OutOfMemory}
 use Rattle.gst_item.specs.declared.body.Held.{Held}
 use Rattle.gst_item.specs.declared.body.Held.TheVariants.{Owned}
 use Rattle.gst_item.specs.contracts.body.Body.{the_row}

@@ -6,7 +6,7 @@ ghost use Rattle.gst_item.specs.Lent.{LendsBlockIfOk, LendsBytes, LendsBytesIfOk
 ghost use Rattle.gst_item.specs.declared.body.Held.TheVariants.{Owned};
 
 use bytes::Bytes;
-use gst_caps::OutOfMemory;
+use gst_value::OutOfMemory;
 use std::alloc::Global;
 use std::marker::Model;
 

@@ -2,8 +2,8 @@
 ghost use Rattle.std.specs.Prelude.{◌≡◌, IfOk};
 
 use crate::body::Body;
-use gst_caps::{Fixed, OutOfMemory, Text};
 use gst_time::Segment;
+use gst_value::{Fixed, OutOfMemory, Text};
 use std::alloc::Global;
 
 /// A piece of a stream.

@@ -2,14 +2,12 @@
 #![tactic(auto)]
 
 pub mod body;
-pub mod fault;
 pub mod flow;
 pub mod item;
 pub mod out;
 pub mod sticky;
 
 pub use body::Body;
-pub use fault::{ElementFault, StreamKind};
 pub use flow::Flow;
 pub use item::{Buffer, Event, Item};
 pub use out::{Out, Outs};

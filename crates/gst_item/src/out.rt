@@ -1,6 +1,6 @@
 //! What elements put out.
 use crate::item::Item;
-use gst_caps::List;
+use gst_value::List;
 
 /// An item that is to cross the source pad of this number.
 #[derive(Drop)]

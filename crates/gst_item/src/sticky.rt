@@ -4,7 +4,7 @@ ghost use Rattle.gst_item.specs.Item.{Item, Buf, Ev, Buffer, Gap, FlushStop, is_
 ghost use Rattle.gst_item.specs.Sticky.{held, in_force, stickies};
 
 use crate::item::Event;
-use gst_caps::{List, OutOfMemory};
+use gst_value::{List, OutOfMemory};
 use std::alloc::Global;
 use std::marker::Model;
 
@@ -78,6 +78,19 @@ impl Sticky {
         add_copy(alloc, &mut events, &self.eos)?;
         Ok(events)
     }
+
+    /// The same events once more.
+    pub fn copy(&self, alloc: Global) -> Result<Sticky, OutOfMemory>
+        ensures { IfOk result (λ made. made ≡ self.now) }
+    {
+        Ok(Sticky {
+            stream_start: copy_slot(alloc, &self.stream_start)?,
+            caps: copy_slot(alloc, &self.caps)?,
+            segment: copy_slot(alloc, &self.segment)?,
+            tag: copy_slot(alloc, &self.tag)?,
+            eos: copy_slot(alloc, &self.eos)?,
+        })
+    }
 }
 
 /// Buffers and GAPs leave what is in force as it is.
@@ -105,5 +118,15 @@ fn add_copy(
     match slot {
         None => Ok(()),
         Some(event) => events.push(alloc, event.copy(alloc)?),
+    }
+}
+
+/// What a slot holds, once more.
+fn copy_slot(alloc: Global, slot: &Option<Event>) -> Result<Option<Event>, OutOfMemory>
+    ensures { IfOk result (λ made. made ≡ slot.now) }
+{
+    match slot {
+        None => Ok(None),
+        Some(event) => Ok(Some(event.copy(alloc)?)),
     }
 }

@@ -3,8 +3,8 @@ ghost use Rattle.std.specs.Prelude.{◌≡◌};
 ghost use Rattle.gst_item.specs.Item.{is_sticky};
 
 use super::*;
-use gst_caps::{Caps, Fixed, Text};
 use gst_time::{Format, Segment};
+use gst_value::{Fixed, Text};
 use std::alloc::Global;
 use std::test::Fail;
 
@@ -209,37 +209,6 @@ fn sticky_events_in_their_order(rt: HostRuntime) -> Result<(), Fail> {
     for (letters, wanted) in rows {
         let found = letters_in_force(alloc, letters)?;
         assert_eq!(rt; found.as_slice(), wanted);
-    }
-    Ok(())
-}
-
-#[test]
-fn texts_of_faults(rt: HostRuntime) -> Result<(), Fail> {
-    let alloc = rt.alloc();
-    let rows = [
-        (
-            ElementFault::NotNegotiated {
-                offered: None,
-                wanted: Caps::Any,
-            },
-            "the caps are not those that are wanted",
-        ),
-        (
-            ElementFault::BadStream {
-                place: 3,
-                kind: StreamKind::NotRiff,
-            },
-            "a wrong stream at byte 3: NotRiff",
-        ),
-        (
-            ElementFault::TooLong { a: 5, b: 7 },
-            "5 and 7 more pass the limit",
-        ),
-        (ElementFault::OutOfMemory, "out of memory"),
-    ];
-    for (fault, wanted) in &rows {
-        let text = format!(in alloc; "{fault}")?;
-        assert_eq!(rt; text.as_str(), *wanted);
     }
     Ok(())
 }

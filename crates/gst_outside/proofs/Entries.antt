@@ -50,9 +50,6 @@ found_location files location i d e =
     let passes : is_of location (get_or files i d) ≡ true = ap (λ k. is_of location (get_or files k d)) f.0 ∙ passes_at_first (is_of location) files d below in
     (bytes_eq-Decides (get_or files i d).location location).0 passes
 
-pub found_index : (files : List MemFile) (location : List ℕ) (i : ℕ) → position (is_of location) files ≡ Some i → i < length files
-found_index files location i e = (first_index (is_of location) files i e).1
-
 -- the entry that is found is the file
 pub found_file : (files : List MemFile) (location : List ℕ) (i : ℕ) (d : MemFile) → position (is_of location) files ≡ Some i → get_or files i d ≡ file_at files location
 found_file files location i d e = sym (ap (λ o. unwrap_or o (new_file location)) (found_first files location i d e))

@@ -61,10 +61,6 @@ pub told_written-written : (bytes : Option (List ℕ)) (place : ℕ) (first seco
 told_written-written None place first second = refl
 told_written-written (Some b) place first second = ap Some (written-written b place first second)
 
--- the length after a write
-pub length-written : (bytes : List ℕ) (place : ℕ) (piece : List ℕ) → 0 < length piece → length (written bytes place piece) ≡ max (length bytes) (place + length piece)
-length-written bytes place piece h = ap length (written_put bytes place piece h) ∙ length-put bytes place piece
-
 -- a write at the end is a concatenation
 pub written_at_end : (bytes piece : List ℕ) → written bytes (length bytes) piece ≡ bytes ++ piece
 written_at_end bytes [] = sym (append-nil bytes)

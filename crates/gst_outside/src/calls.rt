@@ -2,7 +2,7 @@
 ghost use Rattle.std.specs.Prelude.{◌≡◌, IfOk};
 ghost use Rattle.gst_outside.specs.Calls.{counted, new_calls, next_fails};
 
-use gst_caps::{List, OutOfMemory};
+use gst_value::{List, OutOfMemory};
 use std::alloc::Global;
 
 /// The calls of one kind on one object in memory: how many were made, and the numbers, counted from 1, of

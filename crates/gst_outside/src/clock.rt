@@ -3,7 +3,7 @@ ghost use Rattle.std.specs.Prelude.{◌≡◌, ℕ, List, Option, Contains, IfOk
 ghost use Rattle.std.specs.Option.{ForSome};
 ghost use Rattle.gst_outside.specs.Causes.{raised};
 
-use gst_caps::OutOfMemory;
+use gst_value::OutOfMemory;
 use std::alloc::Global;
 
 /// A clock in nanoseconds.

@@ -4,7 +4,7 @@ ghost use Rattle.gst_outside.specs.Causes.{WritesSome, raised};
 
 use crate::failed::Failed;
 use crate::sink::{LARGEST_END, Sink};
-use gst_caps::Text;
+use gst_value::Text;
 use std::fs::{File, OpenFile};
 use std::io::ErrorKind;
 use std::os::unix::fs::FileExt;

@@ -4,7 +4,7 @@ ghost use Rattle.gst_outside.specs.Causes.{raised};
 
 use crate::failed::Failed;
 use crate::source::Source;
-use gst_caps::Text;
+use gst_value::Text;
 use std::fs::{File, OpenFile};
 use std::io::ErrorKind;
 use std::os::unix::fs::FileExt;

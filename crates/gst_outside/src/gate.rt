@@ -1,5 +1,5 @@
 //! Gates of tasks.
-use gst_caps::OutOfMemory;
+use gst_value::OutOfMemory;
 use std::alloc::Global;
 
 /// What a task and a run pass through at each step, where a test or a host may look on or hold them.

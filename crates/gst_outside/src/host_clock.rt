@@ -2,7 +2,7 @@
 ghost use Rattle.std.specs.Prelude.{◌≡◌, None};
 
 use crate::clock::Clock;
-use gst_caps::OutOfMemory;
+use gst_value::OutOfMemory;
 use std::alloc::Global;
 use std::time;
 

@@ -7,7 +7,7 @@ use crate::file_sink::FileSink;
 use crate::file_source::FileSource;
 use crate::files::Files;
 use crate::opening::OpenEnd;
-use gst_caps::Text;
+use gst_value::Text;
 use std::alloc::Global;
 use std::fs::{self, File};
 

@@ -6,7 +6,7 @@ ghost use Rattle.gst_outside.specs.Table.{new_file};
 use crate::calls::copy_list;
 use crate::mem_sink::MemSink;
 use crate::mem_source::MemSource;
-use gst_caps::{List as Members, OutOfMemory, Text};
+use gst_value::{List as Members, OutOfMemory, Text};
 use std::alloc::Global;
 
 /// The room, in bytes, of an output of which nothing else is said.

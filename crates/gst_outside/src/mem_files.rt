@@ -15,7 +15,7 @@ use crate::mem_sink::MemSink;
 use crate::mem_source::MemSource;
 use crate::opening::OpenEnd;
 use crate::table::{add_faults, add_refusal, entry, file_of, set_input, set_output, set_sinks};
-use gst_caps::{List as Members, OutOfMemory};
+use gst_value::{List as Members, OutOfMemory};
 use std::alloc::Global;
 
 /// Files in memory. A location of which nothing is said has an empty input and ample room. The openings

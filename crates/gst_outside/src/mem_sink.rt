@@ -8,7 +8,7 @@ ghost use Rattle.gst_outside.specs.Room.{has_room};
 use crate::calls::Calls;
 use crate::failed::Failed;
 use crate::sink::{LARGEST_END, Sink};
-use gst_caps::{List as Members, OutOfMemory, Text};
+use gst_value::{List as Members, OutOfMemory, Text};
 use std::alloc::Global;
 
 /// A sink in memory with room for so many bytes. The calls whose numbers are listed fail, and the writes

@@ -1,6 +1,6 @@
 //! The gate that does nothing.
 use crate::gate::TaskGate;
-use gst_caps::OutOfMemory;
+use gst_value::OutOfMemory;
 use std::alloc::Global;
 
 /// A gate that holds nothing up.

@@ -3,7 +3,7 @@ ghost use Rattle.std.specs.Prelude.{◌≡◌};
 ghost use Rattle.gst_outside.specs.declared.opening.OpenEnd.TheVariants.{Failed as FailedEnd, OutOfMemory as WantingEnd};
 
 use crate::failed::Failed;
-use gst_caps::OutOfMemory;
+use gst_value::OutOfMemory;
 use thiserror::Error;
 
 /// Why an opening gave no end.

@@ -3,7 +3,7 @@ ghost use Rattle.std.specs.Prelude.{◌≡◌, ◌<◌, ◌+◌, ◌-◌, ◌∷
 ghost use Rattle.gst_outside.specs.Causes.{raised};
 
 use crate::clock::Clock;
-use gst_caps::OutOfMemory;
+use gst_value::OutOfMemory;
 use std::alloc::Global;
 
 /// A clock with a list of readings, in nanoseconds. It gives them in their order, and the last one again

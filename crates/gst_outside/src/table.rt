@@ -4,7 +4,7 @@ ghost use Rattle.std.specs.List.{find, position};
 ghost use Rattle.gst_outside.specs.Table.{Changes, SameFiles, file_at, has_file, is_of, new_file, with_faults, with_input, with_output, with_refusal, with_sinks};
 
 use crate::mem_file::MemFile;
-use gst_caps::{List as Members, OutOfMemory};
+use gst_value::{List as Members, OutOfMemory};
 use std::alloc::Global;
 
 /// The index of the entry for a location.

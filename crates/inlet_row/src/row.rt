@@ -3,8 +3,8 @@ ghost use Rattle.std.specs.Prelude.{◌≡◌, ◌≤◌, ◌<◌, ◌+◌, ◌+
 ghost use Rattle.gst_item.specs.declared.item.Item.{Item};
 
 use crate::feeding::{Feeding, Taken, UNLINKED};
-use gst_caps::OutOfMemory;
 use gst_item::Item;
+use gst_value::OutOfMemory;
 use lane_core::Inlet;
 use std::alloc::Global;
 use std::collections::VecDeque;

@@ -4,8 +4,8 @@ ghost use Rattle.lane_core.specs.Lane.{IsIn, IsOf};
 ghost use Rattle.inlet_row.specs.Row.{RowIn};
 
 use super::*;
-use gst_caps::OutOfMemory;
-use gst_item::{Event, Item};
+use gst_value::OutOfMemory;
+use item_letters::{item_numbered, number_of};
 use lane_core::{Inlet, MemInlet, MemLanes, MemOutlet, Outlet, memory_lane};
 use std::alloc::{AllocError, Global};
 use std::test::Fail;
@@ -15,20 +15,6 @@ use std::test::Fail;
 enum Done {
     Item(u64),
     Empty(u32),
-}
-
-fn item_of(number: u64) -> Item {
-    Item::Event(Event::Gap {
-        pts: number,
-        duration: 1,
-    })
-}
-
-fn number_of(item: &Item) -> u64 {
-    match item {
-        Item::Event(Event::Gap { pts, .. }) => *pts,
-        _ => 0,
-    }
 }
 
 fn done_of(taken: Taken) -> Done {
@@ -44,7 +30,7 @@ fn put_one<O: Outlet>(outlet: &mut O, lanes: &mut O::Lanes, number: u64)
     ensures lanes { (n : ℕ) → IsIn (O.tells lanes.old) n → IsIn (O.tells lanes.new) n }
 {
     if outlet.count() < 1 << 40 {
-        outlet.put(lanes, item_of(number));
+        outlet.put(lanes, item_numbered(number));
     }
 }
 
@@ -106,9 +92,9 @@ fn answers<I: Inlet>(
     let mut done = Vec::new(alloc);
     take_some(&mut row, lanes, &mut done, 1)?;
     row.make_room(3)?;
-    row.give(item_of(1));
+    row.give(item_numbered(1));
     row.link(7, old);
-    row.give(item_of(2));
+    row.give(item_numbered(2));
     take_some(&mut row, lanes, &mut done, 2)?;
     if let Some(count) = row.received(7) {
         done.push(Done::Item(count))?;
@@ -121,10 +107,10 @@ fn answers<I: Inlet>(
         done.push(Done::Item(count))?;
     }
     row.make_room(1)?;
-    row.give(item_of(3));
+    row.give(item_numbered(3));
     take_some(&mut row, lanes, &mut done, 2)?;
     row.make_room(1)?;
-    row.give(item_of(4));
+    row.give(item_numbered(4));
     done.push(Done::Item(row.into_feeds().len() as u64))?;
     Ok(done)
 }

@@ -178,13 +178,6 @@ in_same tells place place' p b = subst (λ (q : ℕ). IsIn tells q) (sym p) b
 pub in_of : (tells : Option (List Lane)) (place : ℕ) (limits : Limits) (count : ℕ) → IsOf tells place limits count → IsIn tells place
 in_of tells place limits count b t told = let at = b t told in (at.0, at.1)
 
--- a lane between two lists holds no more than were sent
-pub of_between : (tells : Option (List Lane)) (place : ℕ) (limits : Limits) (sent got : List Item) (count : ℕ) → ForSome tells (λ t. (s : Lane) → slice_get t place ≡ Some s → s.room ≡ limits.items) → length sent ≡ count → IsBetween tells place sent got → IsOf tells place limits count
-of_between tells place limits sent got count room counted b t told =
-    let at = b t told in
-    let all = ap length at.2 ∙ length-append got at.0.items in
-    (at.0, at.1, room t told at.0 at.1, omega (arith, all, counted))
-
 pub put_keeps_room : (place : ℕ) (item : Item) (answer : Put) (limits : Limits) (count count' refusals refusals' : ℕ) (tells tells' : Option (List Lane)) → IsPut item answer count count' refusals refusals'
     → tells' ≡ table_after_put place item answer tells → IsOf tells place limits count → IsOf tells' place limits count'
 put_keeps_room place item Stored limits count count' refusals refusals' tells tells' p e b =

@@ -6,8 +6,8 @@ ghost use Rattle.lane_core.specs.Lane.{Lane, IsIn, IsOf, IsBetween, table_withou
 ghost use Rattle.lane_core.specs.Room.{Limits, number_of, told_of};
 ghost use Rattle.lane_core.specs.Moves.{AnswersRoom, IsPut, IsTake, TakesFirst, Meets, list_after_put, list_after_take, table_after_put, table_after_take, raised};
 
-use gst_caps::{List, OutOfMemory};
 use gst_item::Item;
+use gst_value::{List, OutOfMemory};
 use std::alloc::Global;
 
 /// What a put answers.

@@ -4,8 +4,8 @@ ghost use Rattle.lane_core.specs.Lane.{lane_of};
 
 use crate::ends::{Inlet, Outlet, Put, Take};
 use crate::table::MemLanes;
-use gst_caps::{List, OutOfMemory};
 use gst_item::Item;
+use gst_value::{List, OutOfMemory};
 use std::alloc::Global;
 
 /// The most items that are sent through one lane.

@@ -2,8 +2,8 @@
 ghost use Rattle.std.specs.Prelude.{◌≡◌, ◌<◌, ◌++◌, [], ◌∷◌, length, Some, IfOk, OnErr, OnOk, MatchOption, slice_get};
 ghost use Rattle.lane_core.specs.Lane.{Lane, lane_of, table_with_item, table_without_first, table_without_items};
 
-use gst_caps::{List, OutOfMemory};
 use gst_item::Item;
+use gst_value::{List, OutOfMemory};
 use std::alloc::Global;
 use std::collections::VecDeque;
 use std::marker::Model;

@@ -4,8 +4,8 @@ ghost use Rattle.lane_core.specs.Lane.{IsOf};
 ghost use Rattle.lane_core.specs.Room.{Limits};
 
 use super::*;
-use gst_caps::List;
-use gst_item::{Event, Item};
+use gst_value::List;
+use item_letters::{item_numbered, number_of};
 use std::alloc::{AllocError, Global};
 use std::test::Fail;
 
@@ -25,20 +25,6 @@ enum Done {
     Empty,
 }
 
-fn item_of(number: u64) -> Item {
-    Item::Event(Event::Gap {
-        pts: number,
-        duration: 1,
-    })
-}
-
-fn number_of(item: &Item) -> u64 {
-    match item {
-        Item::Event(Event::Gap { pts, .. }) => *pts,
-        _ => 0,
-    }
-}
-
 fn do_move<O: Outlet<Lanes = I::Lanes>, I: Inlet<Out = O>>(
     outlet: &mut O,
     inlet: &mut I,
@@ -55,7 +41,7 @@ fn do_move<O: Outlet<Lanes = I::Lanes>, I: Inlet<Out = O>>(
         → IsOf (O.tells lanes.old) other limits count → IsOf (O.tells lanes.new) other limits count }
 {
     match step {
-        Move::Put(number) => match outlet.put(lanes, item_of(number)) {
+        Move::Put(number) => match outlet.put(lanes, item_numbered(number)) {
             Put::Stored => Done::Stored,
             Put::Full(back) => Done::Full(number_of(&back)),
         },
@@ -132,7 +118,7 @@ fn a_lane_answers_by_its_room_and_in_order(rt: HostRuntime) -> Result<(), Fail> 
     let done = answers(alloc, &mut outlet, &mut inlet, &mut lanes, &moves)?;
     assert_eq!(rt; done.as_slice(), wanted.as_slice());
     let mut into = List::new(alloc);
-    into.push(alloc, item_of(0))?;
+    into.push(alloc, item_numbered(0))?;
     inlet.meet(alloc, &mut lanes, &mut outlet, &mut into)?;
     let mut left = Vec::new(alloc);
     for item in into.as_slice() {

@@ -1,5 +1,5 @@
 -- Writing a text piece by piece.
-use Rattle.std.proofs.Common.{◌≡◌, ◌≤◌, ℕ, ◌+◌, ◌-◌, List, [], length, take, drop, refl, ap, sym, ◌∙◌, arith, length-take, length-drop, Option, None, Some, option_map}
+use Rattle.std.proofs.Common.{◌≡◌, ◌≤◌, ℕ, ◌+◌, ◌-◌, List, length, take, drop, ap, sym, ◌∙◌, arith, length-take, length-drop, Option, option_map}
 use Rattle.std.proofs.Math.Seq.{take-add}
 use Rattle.std.proofs.lemmas.List.{take_all}
 use Rattle.gst_outside.specs.Bytes.{written}
@@ -17,15 +17,3 @@ write_more before now next text done n h was e =
     ∙ ap (λ k. option_map (λ b. written b k (take n (drop done text))) (option_map (λ b. written b 0 (take done text)) before)) (sym size)
     ∙ told_written-written before 0 (take done text) (take n (drop done text))
     ∙ ap (λ r. option_map (λ b. written b 0 r) before) (sym (take-add done n text))
-
--- the whole text
-pub wrote_whole : (before now : Option (List ℕ)) (text : List ℕ) (done : ℕ) → length text ≤ done → Wrote (take done text) before now → Wrote text before now
-wrote_whole before now text done h was = was ∙ ap (λ r. option_map (λ b. written b 0 r) before) (take_all done text h)
-
--- nothing of a text
-pub wrote_nothing : (before : Option (List ℕ)) (text : List ℕ) → Wrote (take 0 text) before before
-wrote_nothing before text = sym (same before)
-  where
-    same : (o : Option (List ℕ)) → option_map (λ b. written b 0 []) o ≡ o
-    same None = refl
-    same (Some b) = refl

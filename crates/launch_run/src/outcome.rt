@@ -2,7 +2,7 @@
 ghost use Rattle.std.specs.Prelude.{◌≡◌, IfOk};
 ghost use Rattle.run_report.specs.ReportText.{report_lines};
 
-use gst_caps::{OutOfMemory, Text};
+use gst_value::{OutOfMemory, Text};
 use run_report::Report;
 use std::alloc::Global;
 

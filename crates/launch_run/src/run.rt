@@ -9,8 +9,8 @@ ghost use Rattle.launch_run.specs.declared.run.Untaken.TheVariants.{NotText};
 ghost use Rattle.launch_run.specs.Headline.{HasGone, IsReported, IsUntouched, Wrote, WrotePart, is_quiet, world_end};
 
 use crate::outcome::{Outcome, report_text};
-use gst_caps::{List, OutOfMemory};
 use gst_outside::{Clock, Failed, Files, Sink, TaskGate};
+use gst_value::{List, OutOfMemory};
 use lane_core::{Inlet, MemInlet, MemOutlet, Outlet};
 use line_read::{Refusal, read_request};
 use net_model::{TaskElement, TaskSource};

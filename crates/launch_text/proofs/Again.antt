@@ -7,7 +7,7 @@ use Rattle.launch_text.specs.Grammar.{IsLine}
 use Rattle.launch_text.specs.Printed.{caps_text, is_marked, line_text, reference_text, token_text, value_text, with_marks, with_word}
 use Rattle.launch_text.specs.Reading.{Splits}
 use Rattle.launch_text.specs.Tokens.{Token, opens, closes, link, kind, property, caps, reference, tree_tokens}
-use Rattle.launch_text.specs.Words.{AreCaps, Reads, Stands, after, begins_caps, behind, ends, is_closed, is_more, is_plain, kept, plain, taken, word_length}
+use Rattle.launch_text.specs.Words.{AreCaps, Reads, Stands, after, begins_caps, mode_behind, ends, is_closed, is_more, is_plain, kept, plain, taken, word_length}
 use Rattle.launch_text.specs.declared.class.Class.TheVariants.{Kind, Property}
 use Rattle.launch_text.specs.declared.printing.Marked.TheVariants.{Value, Caps}
 use Rattle.launch_text.specs.declared.tree.Tree.{Tree}
@@ -15,7 +15,7 @@ use Rattle.launch_text.specs.declared.word.Mode.{Mode}
 use Rattle.launch_text.proofs.Calm.{calm_behind, calm_closed, calm_length, property_closed, reference_calm, reference_some, run_calm, run_some, some_more, stops_more, word_all}
 use Rattle.launch_text.proofs.Kept.{behind_append, taken_append}
 use Rattle.launch_text.proofs.Spelling.{IsWhole, Says, Spells, more_facts, spelt_line}
-use Rattle.launch_text.proofs.Splitting.{and_left, and_right}
+use Rattle.gst_value.proofs.Basics.{and_left, and_right}
 
 abbrev at : Bool → Bool → Mode
 at q e = record { quoted = q; escaped = e }
@@ -28,11 +28,11 @@ plain_at false true h = absurd (cc)
 plain_is : (m : Mode) → is_plain m ≡ true → m ≡ plain
 plain_is m h = plain_at m.quoted m.escaped h
 
-pub closed_behind : (w : List ℕ) → is_closed w ≡ true → behind plain w ≡ plain
-closed_behind w h = plain_is (behind plain w) h
+pub closed_behind : (w : List ℕ) → is_closed w ≡ true → mode_behind plain w ≡ plain
+closed_behind w h = plain_is (mode_behind plain w) h
 
 -- a word behind another
-pub wide : (m : Mode) (x y : List ℕ) → word_length m x ≡ length x → word_length (behind m x) y ≡ length y → word_length m (x ++ y) ≡ length (x ++ y)
+pub wide : (m : Mode) (x y : List ℕ) → word_length m x ≡ length x → word_length (mode_behind m x) y ≡ length y → word_length m (x ++ y) ≡ length (x ++ y)
 wide m [] y h k = k
 wide m (b ∷ bs) y h k = step (is_plain m && is_white b) h (λ g. wide (after m b) bs y g k)
   where
@@ -46,7 +46,7 @@ press q e w = with_marks Caps (taken Caps (at q e) w)
 
 record Pressed (q e : Bool) (w p : List ℕ) : Type 0 where
   same : taken Caps (at q false) p ≡ taken Caps (at q e) w
-  mode : behind (at q false) p ≡ behind (at q e) w
+  mode : mode_behind (at q false) p ≡ mode_behind (at q e) w
   all : word_length (at q e) w ≡ length w → word_length (at q false) p ≡ length p
   begins : begins_caps p ≡ begins_caps w
 
@@ -104,7 +104,7 @@ other_all q b bs p e ih h = step (is_plain (at q false) && is_white b) (ap (λ m
 pressed_other : (q : Bool) (b : ℕ) (bs : List ℕ) → eqb b 92 ≡ false → eqb b 32 ≡ false → Pressed (turned q b) false bs (press (turned q b) false bs) → Pressed q false (b ∷ bs) (press q false (b ∷ bs))
 pressed_other q b bs e f i = subst (Pressed q false (b ∷ bs)) (sym (press_other q b bs e f)) (record {
   same = ap (λ m. kept Caps false b (b ∷ []) ++ taken Caps m (press (turned q b) false bs)) (after_other q b e) ∙ ap (λ l. kept Caps false b (b ∷ []) ++ l) i.same ∙ ap (λ m. kept Caps false b (b ∷ []) ++ taken Caps m bs) (sym (after_other q b e));
-  mode = ap (λ m. behind m (press (turned q b) false bs)) (after_other q b e) ∙ i.mode ∙ ap (λ m. behind m bs) (sym (after_other q b e));
+  mode = ap (λ m. mode_behind m (press (turned q b) false bs)) (after_other q b e) ∙ i.mode ∙ ap (λ m. mode_behind m bs) (sym (after_other q b e));
   all = other_all q b bs (press (turned q b) false bs) e i.all;
   begins = ap (λ t. cond (eqb b 47) true (cond (eqb b 61) false t)) i.begins;
 })
@@ -113,15 +113,15 @@ not_escaped : (q : Bool) → is_plain (at q true) ≡ true → ⊥
 not_escaped true h = cc
 not_escaped false h = cc
 
-pressed : (q e : Bool) (w : List ℕ) → is_plain (behind (at q e) w) ≡ true → Pressed q e w (press q e w)
+pressed : (q e : Bool) (w : List ℕ) → is_plain (mode_behind (at q e) w) ≡ true → Pressed q e w (press q e w)
 pressed q true [] h = absurd (not_escaped q h)
 pressed q false [] h = record { same = refl; mode = refl; all = λ k. refl; begins = refl }
 pressed q true (b ∷ bs) h = pressed_escaped q b bs (pressed q false bs h)
 pressed q false (b ∷ bs) h = elim (eqb_tells b 92) [
-  | inl t ↦ subst (λ x. Pressed q false (x ∷ bs) (press q false (x ∷ bs))) (sym t.1) (pressed_slash q bs (pressed q true bs (subst (λ x. is_plain (behind (after (at q false) x) bs) ≡ true) t.1 h)))
+  | inl t ↦ subst (λ x. Pressed q false (x ∷ bs) (press q false (x ∷ bs))) (sym t.1) (pressed_slash q bs (pressed q true bs (subst (λ x. is_plain (mode_behind (after (at q false) x) bs) ≡ true) t.1 h)))
   | inr t ↦ elim (eqb_tells b 32) [
-    | inl u ↦ subst (λ x. Pressed q false (x ∷ bs) (press q false (x ∷ bs))) (sym u.1) (pressed_space q bs (pressed q false bs (subst (λ x. is_plain (behind (after (at q false) x) bs) ≡ true) u.1 h)))
-    | inr u ↦ pressed_other q b bs t.0 u.0 (pressed (turned q b) false bs (ap (λ m. is_plain (behind m bs)) (sym (after_other q b t.0)) ∙ h))
+    | inl u ↦ subst (λ x. Pressed q false (x ∷ bs) (press q false (x ∷ bs))) (sym u.1) (pressed_space q bs (pressed q false bs (subst (λ x. is_plain (mode_behind (after (at q false) x) bs) ≡ true) u.1 h)))
+    | inr u ↦ pressed_other q b bs t.0 u.0 (pressed (turned q b) false bs (ap (λ m. is_plain (mode_behind m bs)) (sym (after_other q b t.0)) ∙ h))
   ]
 ]
 
@@ -133,17 +133,17 @@ abbrev joint : Spaced → List ℕ
 joint w = 92 ∷ 32 ∷ w.1
 
 record OneWord (w text : List ℕ) : Type 0 where
-  mode : behind plain w ≡ plain
+  mode : mode_behind plain w ≡ plain
   all : word_length plain w ≡ length w
   says : taken Caps plain w ≡ text
 
 joined : (first text : List ℕ) (more : List Spaced) → OneWord first text → list_all is_more more ≡ true → OneWord (first ++ flat_map joint more) (text ++ flat_map (λ w. 32 ∷ taken Caps plain w.1) more)
-joined first text [] o h = record { mode = ap (behind plain) (append-nil first) ∙ o.mode; all = ap (word_length plain) (append-nil first) ∙ o.all ∙ sym (ap length (append-nil first)); says = ap (taken Caps plain) (append-nil first) ∙ o.says ∙ sym (append-nil text) }
+joined first text [] o h = record { mode = ap (mode_behind plain) (append-nil first) ∙ o.mode; all = ap (word_length plain) (append-nil first) ∙ o.all ∙ sym (ap length (append-nil first)); says = ap (taken Caps plain) (append-nil first) ∙ o.says ∙ sym (append-nil text) }
 joined first text (m ∷ ms) o h =
     let f = more_facts m (and_left (is_more m) (list_all is_more ms) h) in
-    let closed : behind plain m.1 ≡ plain = closed_behind m.1 f.3 in
+    let closed : mode_behind plain m.1 ≡ plain = closed_behind m.1 f.3 in
     let next : OneWord (first ++ joint m) (text ++ 32 ∷ taken Caps plain m.1) = record {
-      mode = behind_append plain first (joint m) ∙ ap (λ x. behind x (joint m)) o.mode ∙ closed;
+      mode = behind_append plain first (joint m) ∙ ap (λ x. mode_behind x (joint m)) o.mode ∙ closed;
       all = wide plain first (joint m) o.all (ap (λ x. word_length x (joint m)) o.mode ∙ ap (λ n. suc (suc n)) (word_all m.1 f.2));
       says = taken_append Caps plain first (joint m) ∙ ap (λ x. taken Caps plain first ++ taken Caps x (joint m)) o.mode ∙ ap (λ l. l ++ 32 ∷ taken Caps plain m.1) o.says;
     } in
@@ -184,7 +184,7 @@ caps_printed word text a =
 
 -- a value
 record IsSpelt (value text : List ℕ) : Type 0 where
-  mode : behind plain text ≡ plain
+  mode : mode_behind plain text ≡ plain
   all : word_length plain text ≡ length text
   says : taken Value plain text ≡ value
 
@@ -194,7 +194,7 @@ or_false false b h = (refl, h)
 
 unmarked : (b : ℕ) (bs x : List ℕ) → eqb b 34 ≡ false → eqb b 92 ≡ false → is_white b ≡ false → IsSpelt bs x → IsSpelt (b ∷ bs) (b ∷ x)
 unmarked b bs x q s v i = record {
-  mode = ap (λ m. behind m x) same ∙ i.mode;
+  mode = ap (λ m. mode_behind m x) same ∙ i.mode;
   all = ap (λ t. cond t 0 (suc (word_length (after plain b) x))) v ∙ ap (λ m. suc (word_length m x)) same ∙ ap suc i.all;
   says = ap (λ t. cond (t || eqb b 92) [] (b ∷ []) ++ taken Value (after plain b) x) q ∙ ap (λ t. cond t [] (b ∷ []) ++ taken Value (after plain b) x) s ∙ ap (λ m. b ∷ taken Value m x) same ∙ ap (λ l. b ∷ l) i.says;
 }

@@ -1,5 +1,6 @@
 -- What is told of a text is what its words give.
 use Rattle.std.proofs.Common.{◌≡◌, ℕ, List, [], ◌∷◌, ◌++◌, true, Some, None, Result, Ok, Err, refl, sym, ap, ◌∙◌, append-nil}
+use Rattle.std.proofs.lemmas.Option.{same_Some}
 use Rattle.launch_text.specs.Parsed.{Answers, Told}
 use Rattle.launch_text.specs.Reading.{IsStuck, Splits, State, finish, none, run, step, tree_of, ◌>>=◌}
 use Rattle.launch_text.specs.Words.{is_start}
@@ -7,9 +8,6 @@ use Rattle.launch_text.specs.declared.fault.LineFault.{LineFault}
 use Rattle.launch_text.specs.declared.fault.LineFault.TheVariants.{BadLine, OutOfMemory}
 use Rattle.launch_text.specs.declared.tree.Tree.{Tree}
 use Rattle.launch_text.proofs.Splitting.{first_is, no_words, run_append, run_none, some_words, unique}
-
-some_is : {A : Type 0} (x y : A) → Some x ≡ Some y → x ≡ y
-some_is x y e = cc
 
 none_not : {A : Type 0} (x : A) → None ≡ Some x → ⊥
 none_not x e = cc
@@ -23,7 +21,7 @@ pub told_answers : (text : List ℕ) (r : Result Tree LineFault) (vs : List (Lis
 told_answers text (Ok t) vs tree h k e =
     let u = unique h.0 vs text [] h.1 refl k in
     let same : vs ≡ h.0 = u.1 ∙ ap (λ l. h.0 ++ l) (no_words u.0 u.2) ∙ append-nil h.0 in
-    some_is t tree (sym h.2 ∙ ap tree_of (sym same) ∙ e)
+    same_Some t tree (sym h.2 ∙ ap tree_of (sym same) ∙ e)
 told_answers text (Err (BadLine place kind)) vs tree h k e =
     let p = h.passed in
     let u = unique p.words vs text h.rest p.splits h.start k in

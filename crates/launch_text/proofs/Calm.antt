@@ -6,16 +6,14 @@ use Rattle.std.proofs.lemmas.Bool.Decides.{eqb_tells}
 use Rattle.std.proofs.lemmas.List.Folds.{list_all-append}
 use Rattle.launch_text.specs.Bytes.{in_class, is_run, is_white}
 use Rattle.launch_text.specs.Printed.{reference_text}
-use Rattle.launch_text.specs.Words.{after, behind, ends, is_closed, is_pad, is_plain, is_word, plain, word_length}
+use Rattle.launch_text.specs.Words.{after, mode_behind, ends, is_closed, is_pad, is_plain, is_word, plain, word_length}
 use Rattle.launch_text.specs.declared.class.Class.{Class}
 use Rattle.launch_text.specs.declared.class.Class.TheVariants.{Kind, Name, Property}
 use Rattle.launch_text.specs.declared.word.Mode.{Mode}
 use Rattle.launch_text.proofs.Cutting.{ends_behind}
 use Rattle.launch_text.proofs.Kept.{behind_append}
-use Rattle.launch_text.proofs.Splitting.{and_left, and_right, both_true, drop_front}
-
-no_true : false ≡ true → ⊥
-no_true e = cc
+use Rattle.launch_text.proofs.Splitting.{both_true, drop_front}
+use Rattle.gst_value.proofs.Basics.{no_true, and_left, and_right}
 
 pub not_false : (b : Bool) → not b ≡ true → b ≡ false
 not_false true h = absurd (no_true h)
@@ -52,9 +50,9 @@ calm_after b h =
 calm_white : (b : ℕ) → calm b ≡ true → is_white b ≡ false
 calm_white b h = not_false (is_white b) (and_right (not (eqb b 92)) _ (and_right (not (eqb b 34)) _ h))
 
-pub calm_behind : (x : List ℕ) → list_all calm x ≡ true → behind plain x ≡ plain
+pub calm_behind : (x : List ℕ) → list_all calm x ≡ true → mode_behind plain x ≡ plain
 calm_behind [] h = refl
-calm_behind (b ∷ bs) h = ap (λ m. behind m bs) (calm_after b (and_left (calm b) _ h)) ∙ calm_behind bs (and_right (calm b) _ h)
+calm_behind (b ∷ bs) h = ap (λ m. mode_behind m bs) (calm_after b (and_left (calm b) _ h)) ∙ calm_behind bs (and_right (calm b) _ h)
 
 pub calm_closed : (x : List ℕ) → list_all calm x ≡ true → is_closed x ≡ true
 calm_closed x h = ap is_plain (calm_behind x h)
@@ -64,7 +62,7 @@ calm_length [] h = refl
 calm_length (b ∷ bs) h = ap (λ t. cond t 0 (suc (word_length (after plain b) bs))) (calm_white b (and_left (calm b) _ h)) ∙ ap (λ m. suc (word_length m bs)) (calm_after b (and_left (calm b) _ h)) ∙ ap suc (calm_length bs (and_right (calm b) _ h))
 
 -- a closed word stops where white space or the end stands
-pub stops_more : (m : Mode) (w x : List ℕ) → word_length m w ≡ length w → is_plain (behind m w) ≡ true → ends x ≡ true → word_length m (w ++ x) ≡ length w
+pub stops_more : (m : Mode) (w x : List ℕ) → word_length m w ≡ length w → is_plain (mode_behind m w) ≡ true → ends x ≡ true → word_length m (w ++ x) ≡ length w
 stops_more m [] [] h c e = refl
 stops_more m [] (b ∷ bs) h c e = rw (c, e) refl
 stops_more m (b ∷ bs) x h c e = step (is_plain m && is_white b) h (λ k. stops_more (after m b) bs x k c e)
@@ -118,4 +116,4 @@ reference_some name (Some pad) = some_more name 46 pad
 
 -- a word with `=` behind the name of a property is closed where its value is
 pub property_closed : (name spelling : List ℕ) → is_run Property name ≡ true → is_closed (name ++ 61 ∷ spelling) ≡ is_closed spelling
-property_closed name spelling h = ap is_plain (behind_append plain name (61 ∷ spelling) ∙ ap (λ m. behind m (61 ∷ spelling)) (calm_behind name (run_calm Property name h)))
+property_closed name spelling h = ap is_plain (behind_append plain name (61 ∷ spelling) ∙ ap (λ m. mode_behind m (61 ∷ spelling)) (calm_behind name (run_calm Property name h)))

@@ -2,7 +2,7 @@
 use Rattle.std.proofs.Common.{◌≡◌, ℕ, zero, suc, ◌+◌, ◌<◌, ◌≤◌, Bool, true, false, cond, eqb, ◌&&◌, not, List, [], ◌∷◌, ◌++◌, map, length, Option, Some, None, refl, sym, ap, ◌∙◌, subst, arith, append_assoc, append-nil, length-append, codes, lt-ltb}
 use Rattle.std.specs.List.{flat_map, list_all}
 use Rattle.std.specs.Str.{bytes_eq}
-use Rattle.gst_caps.specs.declared.name.Prop.{Prop}
+use Rattle.gst_value.specs.declared.name.Prop.{Prop}
 use Rattle.launch_text.specs.Bytes.{is_run}
 use Rattle.launch_text.specs.Grammar.{are_others, fits_part, fits_tree, is_alone, is_chain, is_end, is_middle, part_fits, tree_fits}
 use Rattle.launch_text.specs.Printed.{reference_text}
@@ -24,11 +24,12 @@ use Rattle.launch_text.specs.declared.tree.Chain.{Chain as Links}
 use denote.Hole.Carrier.{roll}
 use Rattle.launch_text.specs.declared.tree.Tree.{Tree}
 use Rattle.launch_text.proofs.Calm.{not_zero}
-use Rattle.launch_text.proofs.Facts.{kind_differs, kind_no_caps, kind_no_property, link_differs, no_true, property_found, reference_differs, reference_found, reference_no_caps, reference_no_kind, reference_no_property}
+use Rattle.launch_text.proofs.Facts.{kind_differs, kind_no_caps, kind_no_property, link_differs, property_found, reference_differs, reference_found, reference_no_caps, reference_no_kind, reference_no_property}
 use Rattle.launch_text.proofs.Lines.{bin_part, chain_part, tree_parts}
 use Rattle.launch_text.proofs.Spelling.{AreCapsWords, One, Says, Spells, caps_word, no_link, spells_parts}
-use Rattle.launch_text.proofs.Splitting.{and_left, and_right, run_append}
+use Rattle.launch_text.proofs.Splitting.{run_append}
 use Rattle.launch_text.proofs.Steps.{closed_last}
+use Rattle.gst_value.proofs.Basics.{no_true, and_left, and_right}
 
 -- what is whole where a part may begin
 abbrev pub base : List (List Part) → List Part → Held
@@ -80,10 +81,6 @@ begin_at g h (Element name props) w r e f k = behind_is h name props w e f ∙ a
 begin_at g h Link w r e f k = absurd r
 begin_at g h (Caps text) w r e f k = absurd r
 begin_at g h (Reference n) w r e f k = absurd r
-
-plain_word : (w : List ℕ) → w ≡ codes "(" → property_of w ≡ None
-unfolding property_of
-plain_word w e = ap (λ v. property_of v) e
 
 close_word : property_of (codes ")") ≡ None
 unfolding property_of
@@ -206,9 +203,6 @@ pub record Leads (s : State) (ws : List (List ℕ)) (g : Held) : Type 0 where
   pub state : State
   pub reads : run (Some s) ws ≡ Some state
   pub ended : Ended g state.0 state.1
-
-with_nodes : Held → List Node → Held
-with_nodes h ns = base h.outer (h.parts ++ ChainPart (record { nodes = ns }) ∷ [])
 
 end_run : (h : Held) (n : Node) (ws : List (List ℕ)) → is_end n ≡ true → Spells (node_tokens n) ws → Leads (h, Link) ws (base h.outer (h.parts ++ ChainPart (record { nodes = h.nodes ++ n ∷ [] }) ∷ []))
 end_run h (ElementNode k props) ws m s = record { state = (h, Element k props); reads = middle_run h (ElementNode k props) ws refl s; ended = refl }

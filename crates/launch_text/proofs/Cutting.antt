@@ -7,7 +7,7 @@ use Rattle.std.proofs.lemmas.Bool.Decides.{eqb_tells}
 use Rattle.std.proofs.lemmas.List.Sums.{take_while-cons}
 use Rattle.std.proofs.lemmas.Str.{IsCharBoundary-start, IsCharBoundary-end, IsCharBoundary-after_ascii, IsCharBoundary-before_ascii}
 use Rattle.launch_text.specs.Bytes.{is_white}
-use Rattle.launch_text.specs.Words.{after, ends, is_plain, is_start, is_word, plain, word_length}
+use Rattle.launch_text.specs.Words.{after, ends, is_plain, is_start, plain, word_length}
 use Rattle.launch_text.specs.declared.word.Mode.{Mode}
 
 white_ascii : (b : ℕ) → is_white b ≡ true → b < 128
@@ -119,18 +119,6 @@ length_back (b ∷ bs) (suc n) h = omega (arith, length_back bs n (omega (arith,
 
 pub shorter : (x : List ℕ) → is_start x ≡ true → 0 < length x → length (drop (word_length plain x) x) < length x
 shorter x s h = omega (arith, some_word x s h, length_back x (word_length plain x) (within plain x))
-
-pub one_word : (x : List ℕ) → is_start x ≡ true → 0 < length x → is_word (take (word_length plain x) x) ≡ true
-one_word x s h =
-    let n : length (take (word_length plain x) x) ≡ word_length plain x = length_front x _ (within plain x) in
-    let some : 0 < word_length plain x = some_word x s h in
-    rw (whole plain x, n) (both (word_length plain x) some)
-  where
-    same : (n : ℕ) → eqb n n ≡ true
-    same n = elim (eqb_tells n n) [ inl t ↦ t.0 | inr t ↦ absurd (t.1 refl) ]
-
-    both : (n : ℕ) → 0 < n → (not (eqb n 0) && eqb n n) ≡ true
-    both n h = elim (eqb_tells n 0) [ inl t ↦ absurd (omega (arith, h, t.1)) | inr t ↦ rw (t.0, same n) refl ]
 
 pub two_parts : (x : List ℕ) (n : ℕ) → x ≡ take n x ++ drop n x
 two_parts x zero = refl

@@ -5,12 +5,13 @@ use Rattle.std.specs.List.{list_all}
 use Rattle.std.specs.Str.{bytes_eq}
 use Rattle.std.proofs.lemmas.Bool.{ltb-true}
 use Rattle.std.proofs.lemmas.Bool.Decides.{eqb_tells}
-use Rattle.gst_caps.specs.declared.name.Prop.{Prop}
+use Rattle.std.proofs.lemmas.Option.{none-some, same_Some}
+use Rattle.gst_value.specs.declared.name.Prop.{Prop}
 use Rattle.launch_text.specs.Bytes.{in_class, is_run, is_white}
 use Rattle.launch_text.specs.Places.{after_point, begins, behind_run, caps_before, caps_front, element_front, front_of, name_front, next_front, pad_front, part_front, point_front, run_of, spot_of}
 use Rattle.launch_text.specs.Printed.{reference_text}
 use Rattle.launch_text.specs.Reading.{Held, State, begin_part, behind_reference, closed, closed_in, cut, ended, finish, innermost, linked_to, longer, more_outer, opened, property_of, run, step, ◌>>=◌}
-use Rattle.launch_text.specs.Words.{after, begins_caps, behind, is_closed, is_pad, is_plain, plain, taken, word_length}
+use Rattle.launch_text.specs.Words.{after, begins_caps, mode_behind, is_closed, is_pad, is_plain, plain, taken, word_length}
 use Rattle.launch_text.specs.declared.class.Class.{Class}
 use Rattle.launch_text.specs.declared.class.Class.TheVariants.{Name}
 use Rattle.launch_text.specs.declared.line.Last.{Last}
@@ -24,7 +25,7 @@ use Rattle.launch_text.specs.declared.word.Mode.{Mode}
 use Rattle.launch_text.proofs.Again.{AllWhole, begins_more, wide}
 use Rattle.launch_text.proofs.Calm.{calm_closed, calm_length, not_false, not_zero, property_closed, reference_calm, reference_some}
 use Rattle.launch_text.proofs.Complete.{Ended, Ready, begin_at, caps_at, caps_linked, close_at, ended_ready, finish_ended, kind_begins, kind_linked, link_at, open_word, property_at, reference_begins}
-use Rattle.launch_text.proofs.Facts.{cut_sound, none_some, property_sound, reference_differs, reference_no_property, same_text, some_is}
+use Rattle.launch_text.proofs.Facts.{cut_sound, property_sound, reference_differs, reference_no_property, same_text}
 use Rattle.launch_text.proofs.Kept.{behind_append}
 use Rattle.launch_text.proofs.Sound.{innermost_sound}
 use Rattle.launch_text.proofs.Spelling.{IsWhole}
@@ -118,7 +119,7 @@ alone s t u e i = record { suffix = []; next = t; reads = ap (step s) (append-ni
 abbrev closer : Mode → List ℕ
 closer m = 47 ∷ cond m.quoted (34 ∷ []) []
 
-closer_behind : (q e : Bool) → behind (record { quoted = q; escaped = e }) (47 ∷ cond q (34 ∷ []) []) ≡ plain
+closer_behind : (q e : Bool) → mode_behind (record { quoted = q; escaped = e }) (47 ∷ cond q (34 ∷ []) []) ≡ plain
 closer_behind true true = refl
 closer_behind true false = refl
 closer_behind false true = refl
@@ -130,11 +131,11 @@ closer_all true false = refl
 closer_all false true = refl
 closer_all false false = refl
 
-closer_whole : (u : List ℕ) → word_length plain u ≡ length u → IsWhole (u ++ closer (behind plain u))
+closer_whole : (u : List ℕ) → word_length plain u ≡ length u → IsWhole (u ++ closer (mode_behind plain u))
 closer_whole u h = record {
-  some = omega (arith, length-append u (closer (behind plain u)));
-  all = wide plain u (closer (behind plain u)) h (closer_all (behind plain u).quoted (behind plain u).escaped);
-  closed = ap is_plain (behind_append plain u (closer (behind plain u)) ∙ closer_behind (behind plain u).quoted (behind plain u).escaped);
+  some = omega (arith, length-append u (closer (mode_behind plain u)));
+  all = wide plain u (closer (mode_behind plain u)) h (closer_all (mode_behind plain u).quoted (mode_behind plain u).escaped);
+  closed = ap is_plain (behind_append plain u (closer (mode_behind plain u)) ∙ closer_behind (mode_behind plain u).quoted (mode_behind plain u).escaped);
 }
 
 prefix_all : (m : Mode) (u x : List ℕ) → word_length m (u ++ x) ≡ length (u ++ x) → word_length m u ≡ length u
@@ -243,13 +244,13 @@ element_extends h k props w all some = go (property_of w) refl some
     go (Some p) e m =
         let t : is_some (property_of w) ≡ true = ap is_some e in
         let s = property_sound w p e in
-        let c : List ℕ = closer (behind plain w) in
+        let c : List ℕ = closer (mode_behind plain w) in
         let i = closer_whole w all in
-        let is : w ++ closer (behind plain w) ≡ p.0 ++ 61 ∷ (p.1 ++ closer (behind plain w)) = ap (λ l. l ++ closer (behind plain w)) s.0 ∙ append_assoc p.0 (61 ∷ p.1) (closer (behind plain w)) in
+        let is : w ++ closer (mode_behind plain w) ≡ p.0 ++ 61 ∷ (p.1 ++ closer (mode_behind plain w)) = ap (λ l. l ++ closer (mode_behind plain w)) s.0 ∙ append_assoc p.0 (61 ∷ p.1) (closer (mode_behind plain w)) in
         subst (Extends (h, Element k props)) (sym (ap (λ z. cond z w (cond (begins 33 w) (33 ∷ []) (next_front (length h.outer) w))) t)) (record {
-          suffix = closer (behind plain w);
-          next = (h, Element k (props ++ record { name = p.0; value = taken InValue plain (p.1 ++ closer (behind plain w)) } ∷ []));
-          reads = property_at h k props p.0 (p.1 ++ closer (behind plain w)) (taken InValue plain (p.1 ++ closer (behind plain w))) (w ++ closer (behind plain w)) is s.1 (sym (property_closed p.0 (p.1 ++ closer (behind plain w)) s.1) ∙ ap is_closed (sym is) ∙ i.closed) refl;
+          suffix = closer (mode_behind plain w);
+          next = (h, Element k (props ++ record { name = p.0; value = taken InValue plain (p.1 ++ closer (mode_behind plain w)) } ∷ []));
+          reads = property_at h k props p.0 (p.1 ++ closer (mode_behind plain w)) (taken InValue plain (p.1 ++ closer (mode_behind plain w))) (w ++ closer (mode_behind plain w)) is s.1 (sym (property_closed p.0 (p.1 ++ closer (mode_behind plain w)) s.1) ∙ ap is_closed (sym is) ∙ i.closed) refl;
           whole = i;
         })
 
@@ -259,30 +260,30 @@ no_equals [] c h = refl
 no_equals (b ∷ bs) c h = elim (eqb_tells b 47) [
   | inl t ↦ ap (λ z. cond z true (cond (eqb b 61) false (begins_caps (bs ++ 47 ∷ c)))) t.0
   | inr t ↦ ap (λ z. cond z true (cond (eqb b 61) false (begins_caps (bs ++ 47 ∷ c)))) t.0 ∙ elim (eqb_tells b 61) [
-    | inl u ↦ absurd (none_some ([], bs) (sym (sym (ap (λ z. cond z (Some ([], bs)) (longer b (cut 61 bs))) u.0) ∙ h)))
+    | inl u ↦ absurd (none-some ([], bs) (sym (sym (ap (λ z. cond z (Some ([], bs)) (longer b (cut 61 bs))) u.0) ∙ h)))
     | inr u ↦ ap (λ z. cond z false (begins_caps (bs ++ 47 ∷ c))) u.0 ∙ no_equals bs c (shorter (cut 61 bs) (sym (ap (λ z. cond z (Some ([], bs)) (longer b (cut 61 bs))) u.0) ∙ h))
   ]
 ]
   where
     shorter : (o : Option (List ℕ × List ℕ)) → longer b o ≡ None → o ≡ None
     shorter None k = refl
-    shorter (Some p) k = absurd (none_some (b ∷ p.0, p.1) (sym k))
+    shorter (Some p) k = absurd (none-some (b ∷ p.0, p.1) (sym k))
 
 cut_first : (w : List ℕ) (p : List ℕ × List ℕ) → cut 61 w ≡ Some p → cut 61 p.0 ≡ None
-cut_first [] p h = absurd (none_some p h)
+cut_first [] p h = absurd (none-some p h)
 cut_first (b ∷ bs) p h = elim (eqb_tells b 61) [
-  | inl t ↦ ap (λ q. cut 61 q.0) (sym (some_is ([], bs) p (sym (ap (λ z. cond z (Some ([], bs)) (longer b (cut 61 bs))) t.0) ∙ h)))
+  | inl t ↦ ap (λ q. cut 61 q.0) (sym (same_Some ([], bs) p (sym (ap (λ z. cond z (Some ([], bs)) (longer b (cut 61 bs))) t.0) ∙ h)))
   | inr t ↦ go t.0 (cut 61 bs) refl (λ q e. cut_first bs q e) (sym (ap (λ z. cond z (Some ([], bs)) (longer b (cut 61 bs))) t.0) ∙ h)
 ]
   where
     go : eqb b 61 ≡ false → (o : Option (List ℕ × List ℕ)) → cut 61 bs ≡ o → ((q : List ℕ × List ℕ) → cut 61 bs ≡ Some q → cut 61 q.0 ≡ None) → longer b o ≡ Some p → cut 61 p.0 ≡ None
-    go f None e ih k = absurd (none_some p k)
-    go f (Some q) e ih k = ap (λ r. cut 61 r.0) (sym (some_is (b ∷ q.0, q.1) p k)) ∙ ap (λ z. cond z (Some ([], q.0)) (longer b (cut 61 q.0))) f ∙ ap (longer b) (ih q e)
+    go f None e ih k = absurd (none-some p k)
+    go f (Some q) e ih k = ap (λ r. cut 61 r.0) (sym (same_Some (b ∷ q.0, q.1) p k)) ∙ ap (λ z. cond z (Some ([], q.0)) (longer b (cut 61 q.0))) f ∙ ap (longer b) (ih q e)
 
-caps_extends : (h : Held) (u x : List ℕ) → word_length plain (u ++ x) ≡ length (u ++ x) → begins_caps (u ++ closer (behind plain u)) ≡ true → Extends (h, Link) u
+caps_extends : (h : Held) (u x : List ℕ) → word_length plain (u ++ x) ≡ length (u ++ x) → begins_caps (u ++ closer (mode_behind plain u)) ≡ true → Extends (h, Link) u
 caps_extends h u x all begun =
     let i = closer_whole u (prefix_all plain u x all) in
-    record { suffix = closer (behind plain u); next = (h, Caps (taken InCaps plain (u ++ closer (behind plain u)))); reads = caps_linked h (u ++ closer (behind plain u)) begun i.closed; whole = i }
+    record { suffix = closer (mode_behind plain u); next = (h, Caps (taken InCaps plain (u ++ closer (mode_behind plain u)))); reads = caps_linked h (u ++ closer (mode_behind plain u)) begun i.closed; whole = i }
 
 node_extends : (h : Held) (w : List ℕ) → word_length plain w ≡ length w → Extends (h, Link) (caps_front w)
 unfolding caps_front
@@ -302,10 +303,10 @@ node_extends h w all = go (begins_caps w) refl
 more_extends : (h : Held) (text w : List ℕ) → word_length plain w ≡ length w → 0 < length w → Extends (h, Caps text) w
 more_extends h text w all some =
     let i = closer_whole w all in
-    record { suffix = closer (behind plain w); next = (h, Caps (text ++ 32 ∷ taken InCaps plain (w ++ closer (behind plain w)))); reads = caps_at h text (w ++ closer (behind plain w)) i.closed (no_link (bytes_eq (w ++ closer (behind plain w)) (codes "!")) refl); whole = i }
+    record { suffix = closer (mode_behind plain w); next = (h, Caps (text ++ 32 ∷ taken InCaps plain (w ++ closer (mode_behind plain w)))); reads = caps_at h text (w ++ closer (mode_behind plain w)) i.closed (no_link (bytes_eq (w ++ closer (mode_behind plain w)) (codes "!")) refl); whole = i }
   where
-    no_link : (t : Bool) → bytes_eq (w ++ closer (behind plain w)) (codes "!") ≡ t → t ≡ false
-    no_link true e = absurd (let n = ap length (same_text (w ++ closer (behind plain w)) (codes "!") e) in let one : length (w ++ closer (behind plain w)) ≡ 1 = n in omega (arith, one, length-append w (closer (behind plain w)), some))
+    no_link : (t : Bool) → bytes_eq (w ++ closer (mode_behind plain w)) (codes "!") ≡ t → t ≡ false
+    no_link true e = absurd (let n = ap length (same_text (w ++ closer (mode_behind plain w)) (codes "!") e) in let one : length (w ++ closer (mode_behind plain w)) ≡ 1 = n in omega (arith, one, length-append w (closer (mode_behind plain w)), some))
     no_link false e = refl
 
 -- the front of a word goes on to one that can stand there

@@ -5,6 +5,7 @@ use Rattle.std.specs.Str.{bytes_eq}
 use Rattle.std.proofs.lemmas.Bool.Decides.{eqb_tells}
 use Rattle.std.proofs.lemmas.List.Folds.{list_all-append}
 use Rattle.std.proofs.lemmas.Slice.Eq.{bytes_eq-Decides}
+use Rattle.std.proofs.lemmas.Option.{none-some, same_Some}
 use Rattle.launch_text.specs.Bytes.{in_class, is_run}
 use Rattle.launch_text.specs.Printed.{reference_text}
 use Rattle.launch_text.specs.Reading.{cut, longer, named, pad_of, property_of, reference_from, reference_of, ◌>>=◌}
@@ -14,16 +15,8 @@ use Rattle.launch_text.specs.declared.class.Class.TheVariants.{Kind, Name, Prope
 use Rattle.launch_text.specs.declared.tree.Node.{Node}
 use Rattle.launch_text.specs.declared.tree.Node.TheVariants.{Reference}
 use Rattle.launch_text.proofs.Calm.{not_false, not_zero, run_all, run_some}
-use Rattle.launch_text.proofs.Splitting.{and_left, and_right, both_true}
-
-pub no_true : false ≡ true → ⊥
-no_true e = cc
-
-pub none_some : {A : Type 0} (x : A) → None ≡ Some x → ⊥
-none_some x e = cc
-
-pub some_is : {A : Type 0} (x y : A) → Some x ≡ Some y → x ≡ y
-some_is x y e = cc
+use Rattle.launch_text.proofs.Splitting.{both_true}
+use Rattle.gst_value.proofs.Basics.{no_true, and_left, and_right}
 
 -- two texts that a test tells apart
 pub differs : (test : List ℕ → Bool) (w x : List ℕ) → test w ≡ true → test x ≡ false → bytes_eq w x ≡ false
@@ -50,15 +43,15 @@ cut_finds mark (b ∷ bs) y h = ap (λ t. cond t (Some ([], bs ++ mark ∷ y)) (
 
 -- a cut text is its parts round the byte
 pub cut_sound : (mark : ℕ) (x : List ℕ) (p : List ℕ × List ℕ) → cut mark x ≡ Some p → x ≡ p.0 ++ mark ∷ p.1
-cut_sound mark [] p h = absurd (none_some p h)
+cut_sound mark [] p h = absurd (none-some p h)
 cut_sound mark (b ∷ bs) p h = elim (eqb_tells b mark) [
-  | inl t ↦ let e = some_is ([], bs) p (sym (ap (λ u. cond u (Some ([], bs)) (longer b (cut mark bs))) t.0) ∙ h) in (λ i. t.1 i ∷ (e i).1) ∙ ap (λ l. l ++ mark ∷ p.1) (ap (λ q. q.0) e)
+  | inl t ↦ let e = same_Some ([], bs) p (sym (ap (λ u. cond u (Some ([], bs)) (longer b (cut mark bs))) t.0) ∙ h) in (λ i. t.1 i ∷ (e i).1) ∙ ap (λ l. l ++ mark ∷ p.1) (ap (λ q. q.0) e)
   | inr t ↦ step (cut mark bs) refl (cut_sound mark bs) (sym (ap (λ u. cond u (Some ([], bs)) (longer b (cut mark bs))) t.0) ∙ h)
 ]
   where
     step : (o : Option (List ℕ × List ℕ)) → cut mark bs ≡ o → ((q : List ℕ × List ℕ) → cut mark bs ≡ Some q → bs ≡ q.0 ++ mark ∷ q.1) → longer b o ≡ Some p → b ∷ bs ≡ p.0 ++ mark ∷ p.1
-    step None e ih k = absurd (none_some p k)
-    step (Some q) e ih k = ap (λ l. b ∷ l) (ih q e) ∙ ap (λ r. r.0 ++ mark ∷ r.1) (some_is (b ∷ q.0, q.1) p k)
+    step None e ih k = absurd (none-some p k)
+    step (Some q) e ih k = ap (λ l. b ∷ l) (ih q e) ∙ ap (λ r. r.0 ++ mark ∷ r.1) (same_Some (b ∷ q.0, q.1) p k)
 
 class_lacks : (class : Class) (mark : ℕ) (x : List ℕ) → in_class class mark ≡ false → list_all (in_class class) x ≡ true → lacks mark x ≡ true
 class_lacks class mark [] e h = refl
@@ -99,11 +92,11 @@ unfolding property_of
 property_sound w p h = step (cut 61 w) refl h
   where
     inner : (q : List ℕ × List ℕ) (t : Bool) → is_run Property q.0 ≡ t → cut 61 w ≡ Some q → cond t (Some q) None ≡ Some p → (w ≡ p.0 ++ 61 ∷ p.1) × (is_run Property p.0 ≡ true)
-    inner q true e f k = let is = some_is q p k in (cut_sound 61 w q f ∙ ap (λ r. r.0 ++ 61 ∷ r.1) is, ap (λ r. is_run Property r.0) (sym is) ∙ e)
-    inner q false e f k = absurd (none_some p k)
+    inner q true e f k = let is = same_Some q p k in (cut_sound 61 w q f ∙ ap (λ r. r.0 ++ 61 ∷ r.1) is, ap (λ r. is_run Property r.0) (sym is) ∙ e)
+    inner q false e f k = absurd (none-some p k)
 
     step : (o : Option (List ℕ × List ℕ)) → cut 61 w ≡ o → (o >>= named) ≡ Some p → (w ≡ p.0 ++ 61 ∷ p.1) × (is_run Property p.0 ≡ true)
-    step None e k = absurd (none_some p k)
+    step None e k = absurd (none-some p k)
     step (Some q) e k = inner q (is_run Property q.0) refl e k
 
 -- a reference
@@ -174,27 +167,27 @@ pub record IsReference (w : List ℕ) (n : Node) : Type 0 where
 
 pad_sound : (text : List ℕ) (pad : Option (List ℕ)) → pad_of text ≡ Some pad → ((name : List ℕ) → name ++ 46 ∷ text ≡ reference_text name pad) × (is_pad pad ≡ true)
 unfolding pad_of
-pad_sound [] pad h = let e = some_is None pad h in ((λ name. ap (reference_text name) e), ap is_pad (sym e))
+pad_sound [] pad h = let e = same_Some None pad h in ((λ name. ap (reference_text name) e), ap is_pad (sym e))
 pad_sound (b ∷ bs) pad h = step (is_run Name (b ∷ bs)) refl (sym (ap (λ t. cond t (Some None) (cond (is_run Name (b ∷ bs)) (Some (Some (b ∷ bs))) None)) (not_false (eqb (length (b ∷ bs)) 0) (not_zero (length (b ∷ bs)) (omega arith)))) ∙ h)
   where
     step : (t : Bool) → is_run Name (b ∷ bs) ≡ t → cond t (Some (Some (b ∷ bs))) None ≡ Some pad → ((name : List ℕ) → name ++ 46 ∷ b ∷ bs ≡ reference_text name pad) × (is_pad pad ≡ true)
-    step true e k = let is = some_is (Some (b ∷ bs)) pad k in ((λ name. ap (reference_text name) is), ap is_pad (sym is) ∙ e)
-    step false e k = absurd (none_some pad k)
+    step true e k = let is = same_Some (Some (b ∷ bs)) pad k in ((λ name. ap (reference_text name) is), ap is_pad (sym is) ∙ e)
+    step false e k = absurd (none-some pad k)
 
 pub reference_sound : (w : List ℕ) (n : Node) → reference_of w ≡ Some n → IsReference w n
 unfolding reference_of
 reference_sound w n h = step (cut 46 w) refl h
   where
     last : (p : List ℕ × List ℕ) (o : Option (Option (List ℕ))) → pad_of p.1 ≡ o → is_run Name p.0 ≡ true → cut 46 w ≡ Some p → (o >>= λ pad. Some (Reference p.0 pad)) ≡ Some n → IsReference w n
-    last p None e f g k = absurd (none_some n k)
-    last p (Some pad) e f g k = let s = pad_sound p.1 pad e in record { name = p.0; pad = pad; node = sym (some_is (Reference p.0 pad) n k); word = cut_sound 46 w p g ∙ s.0 p.0; name_is = f; pad_is = s.1 }
+    last p None e f g k = absurd (none-some n k)
+    last p (Some pad) e f g k = let s = pad_sound p.1 pad e in record { name = p.0; pad = pad; node = sym (same_Some (Reference p.0 pad) n k); word = cut_sound 46 w p g ∙ s.0 p.0; name_is = f; pad_is = s.1 }
 
     inner : (p : List ℕ × List ℕ) (t : Bool) → is_run Name p.0 ≡ t → cut 46 w ≡ Some p → cond t (pad_of p.1 >>= λ pad. Some (Reference p.0 pad)) None ≡ Some n → IsReference w n
     inner p true e f k = last p (pad_of p.1) refl e f k
-    inner p false e f k = absurd (none_some n k)
+    inner p false e f k = absurd (none-some n k)
 
     step : (o : Option (List ℕ × List ℕ)) → cut 46 w ≡ o → (o >>= reference_from) ≡ Some n → IsReference w n
-    step None e k = absurd (none_some n k)
+    step None e k = absurd (none-some n k)
     step (Some p) e k = inner p (is_run Name p.0) refl e k
 
 -- a word that is no link

@@ -6,7 +6,8 @@ use Rattle.std.specs.Str.{bytes_eq}
 use Rattle.std.proofs.lemmas.Bool.{cases_lt, lt-ltb, ltb-true}
 use Rattle.std.proofs.lemmas.Bool.Decides.{eqb_tells}
 use Rattle.std.proofs.lemmas.List.Folds.{list_all-append}
-use Rattle.gst_caps.specs.declared.name.Prop.{Prop}
+use Rattle.std.proofs.lemmas.Option.{none-some}
+use Rattle.gst_value.specs.declared.name.Prop.{Prop}
 use Rattle.launch_text.specs.Bytes.{in_class, is_run}
 use Rattle.launch_text.specs.Places.{begins, behind_run, caps_before, caps_front, element_front, front_of, link_front, name_front, next_front, part_front, point_front, run_of, spot_of}
 use Rattle.launch_text.specs.Printed.{reference_text}
@@ -20,8 +21,9 @@ use Rattle.launch_text.specs.declared.printing.Marked.TheVariants.{Caps as InCap
 use Rattle.launch_text.specs.declared.tree.Node.{Node}
 use Rattle.launch_text.specs.declared.tree.Node.TheVariants.{Element as ElementNode}
 use Rattle.launch_text.proofs.Calm.{not_false, not_zero, run_all, run_some}
-use Rattle.launch_text.proofs.Facts.{cut_sound, no_true, none_some, not_all, not_run, is_point, property_found, property_sound, reference_points, reference_sound, same_text}
-use Rattle.launch_text.proofs.Splitting.{and_left, and_right, both_true}
+use Rattle.launch_text.proofs.Facts.{cut_sound, not_all, not_run, is_point, property_found, property_sound, reference_points, reference_sound, same_text}
+use Rattle.launch_text.proofs.Splitting.{both_true}
+use Rattle.gst_value.proofs.Basics.{no_true, and_left, and_right}
 
 -- bytes of names
 name_byte : (class : Class) (b : ℕ) → in_class class b ≡ true → in_class Name b ≡ true
@@ -113,7 +115,7 @@ unfolding begin_part opened
 begun h x s e = first (bytes_eq x (codes "(")) refl e
   where
     third : (o : Option Node) → reference_of x ≡ o → (o >>= λ n. Some (h, Reference n)) ≡ Some s → Begun h x
-    third None f k = absurd (none_some s k)
+    third None f k = absurd (none-some s k)
     third (Some n) f k = let r = reference_sound x n f in one_reference r.name r.pad r.word r.name_is r.pad_is
 
     second : (t : Bool) → is_run Kind x ≡ t → cond t (Some (h, Element x [])) (reference_of x >>= λ n. Some (h, Reference n)) ≡ Some s → Begun h x
@@ -122,7 +124,7 @@ begun h x s e = first (bytes_eq x (codes "(")) refl e
 
     inner : (t : Bool) → nat_lt (length h.outer) 16 ≡ t → bytes_eq x (codes "(") ≡ true → (cond t (Some (record { outer = h.outer ++ h.parts ∷ []; parts = []; nodes = h.nodes })) None >>= λ g. Some (g, Start)) ≡ Some s → Begun h x
     inner true f g k = bracket (same_text x (codes "(") g) (ltb-true (length h.outer) 16 f)
-    inner false f g k = absurd (none_some s k)
+    inner false f g k = absurd (none-some s k)
 
     first : (t : Bool) → bytes_eq x (codes "(") ≡ t → cond t (opened h >>= λ g. Some (g, Start)) (cond (is_run Kind x) (Some (h, Element x [])) (reference_of x >>= λ n. Some (h, Reference n))) ≡ Some s → Begun h x
     first true f k = inner (nat_lt (length h.outer) 16) refl f k
@@ -185,11 +187,11 @@ unfolding go_on closed
 gone_on h x s e = first (bytes_eq x (codes ")")) refl e
   where
     some_outer : (xs : _) (p : _) → innermost xs ≡ Some p → 0 < length xs
-    some_outer [] p k = absurd (none_some p k)
+    some_outer [] p k = absurd (none-some p k)
     some_outer (y ∷ ys) p k = omega arith
 
     inner : (o : _) → innermost h.outer ≡ o → bytes_eq x (codes ")") ≡ true → ((o >>= closed_in h) >>= λ g. Some (g, Bin)) ≡ Some s → Gone_on h x
-    inner None f g k = absurd (none_some s k)
+    inner None f g k = absurd (none-some s k)
     inner (Some p) f g k = closing (same_text x (codes ")") g) (some_outer h.outer p f)
 
     first : (t : Bool) → bytes_eq x (codes ")") ≡ t → cond t (closed h >>= λ g. Some (g, Bin)) (begin_part h x) ≡ Some s → Gone_on h x
@@ -248,7 +250,7 @@ followed_long h b bs v w f = go (property_of ((b ∷ bs) ++ w)) refl
     rest : property_of ((b ∷ bs) ++ w) ≡ None → Followed h ((b ∷ bs) ++ v) → Rest (length h.outer) b bs w (eqb b 33)
     rest none (property name spelling e r) = elim (splits_at 61 Property (b ∷ bs) v name spelling (run_all Property name r) e) [
       | inl a ↦ let all : names (b ∷ bs) ≡ true = all_names Property (b ∷ bs) a in subst (Rest (length h.outer) b bs w) (sym (not_first 33 b refl (λ q. omega (arith, q)) (inr (and_left (in_class Name b) (names bs) all)))) (plain_name (length h.outer) b bs w all)
-      | inr a ↦ absurd (none_some (name, a.0 ++ w) (sym none ∙ ap property_of (ap (λ l. l ++ w) a.1 ∙ append_assoc name (61 ∷ a.0) w) ∙ property_found name (a.0 ++ w) r))
+      | inr a ↦ absurd (none-some (name, a.0 ++ w) (sym none ∙ ap property_of (ap (λ l. l ++ w) a.1 ∙ append_assoc name (61 ∷ a.0) w) ∙ property_found name (a.0 ++ w) r))
     ]
     rest none (link e) =
         let o = one_byte 33 b bs v e in
@@ -280,7 +282,7 @@ unfolding behind_link
 linked_equals h a y s e k = go (reference_of (a ++ 61 ∷ y)) refl (sym (ap (λ t. cond t (Some (h, Element (a ++ 61 ∷ y) [])) (reference_of (a ++ 61 ∷ y) >>= λ n. Some (ended h n, Chain))) (not_run Kind a 61 y refl)) ∙ sym (ap (λ t. cond t (said InCaps (a ++ 61 ∷ y) >>= λ text. Some (h, Caps text)) (cond (is_run Kind (a ++ 61 ∷ y)) (Some (h, Element (a ++ 61 ∷ y) [])) (reference_of (a ++ 61 ∷ y) >>= λ n. Some (ended h n, Chain)))) e) ∙ k)
   where
     go : (o : Option Node) → reference_of (a ++ 61 ∷ y) ≡ o → (o >>= λ n. Some (ended h n, Chain)) ≡ Some s → ⊥
-    go None f r = none_some s r
+    go None f r = none-some s r
     go (Some n) f r = let q = reference_sound (a ++ 61 ∷ y) n f in no_true (sym (not_all is_point a 61 y refl) ∙ ap (list_all is_point) q.word ∙ reference_points q.name q.pad q.name_is q.pad_is)
 
 linked_long : (h : Held) (t v w : List ℕ) (s : State) → behind_link h (t ++ v) ≡ Some s → length t ≤ length (caps_front (t ++ w))
@@ -310,7 +312,7 @@ only_link h n x s e = go (bytes_eq x (codes "!")) refl e
   where
     go : (t : Bool) → bytes_eq x (codes "!") ≡ t → cond t (Some (linked_to h n)) None ≡ Some s → x ≡ codes "!"
     go true f k = same_text x (codes "!") f
-    go false f k = absurd (none_some s k)
+    go false f k = absurd (none-some s k)
 
 link_long : (b : ℕ) (bs v w : List ℕ) → (b ∷ bs) ++ v ≡ codes "!" → suc (length bs) ≤ length (link_front ((b ∷ bs) ++ w))
 link_long b bs v w e =

@@ -3,9 +3,8 @@ use Rattle.std.proofs.Common.{◌≡◌, ◌≢◌, ℕ, suc, ◌<◌, ◌≤◌
 use Rattle.std.specs.Char.{encode_utf8}
 use Rattle.std.proofs.lemmas.Bool.{cases_lt}
 use Rattle.std.proofs.lemmas.Bool.Decides.{eqb_tells}
-use Rattle.std.proofs.lemmas.List.Concat.{flat_map-append}
 use Rattle.std.proofs.lemmas.Str.{encode_ascii, inside_one, length-encode, len_utf8_bounds}
-use Rattle.launch_text.specs.Printed.{is_marked, mark, with_marks}
+use Rattle.launch_text.specs.Printed.{is_marked, with_marks}
 use Rattle.launch_text.specs.declared.printing.Marked.{Marked}
 use Rattle.launch_text.specs.declared.printing.Marked.TheVariants.{Value, Caps}
 
@@ -52,18 +51,11 @@ unmarked_one m c h = elim (cases_lt c 128) [
   | inr big ↦ marks_high m (encode_utf8 c) (encode_high c big)
 ]
 
-pub marks-append : (m : Marked) (xs ys : List ℕ) → with_marks m (xs ++ ys) ≡ with_marks m xs ++ with_marks m ys
-marks-append m xs ys = flat_map-append (mark m) xs ys
-
 pub some_bytes : (c : ℕ) → 0 < length (encode_utf8 c)
 some_bytes c = let n = length-encode c in let b = len_utf8_bounds c in omega (arith, n, b.0)
 
 pub shorter_by : (c : ℕ) (x y : List ℕ) → x ≡ encode_utf8 c ++ y → length y < length x
 shorter_by c x y e = let some = some_bytes c in let n = length-append (encode_utf8 c) y in subst (λ l. length y < length l) (sym e) (omega (arith, some, n))
-
--- one character more
-pub marks_step : (m : Marked) (c : ℕ) (into made x y : List ℕ) → x ≡ encode_utf8 c ++ y → made ≡ into ++ with_marks m (encode_utf8 c) → made ++ with_marks m y ≡ into ++ with_marks m x
-marks_step m c into made x y e f = rw (e, f) (append_assoc into (with_marks m (encode_utf8 c)) (with_marks m y) ∙ ap (λ l. into ++ l) (sym (marks-append m (encode_utf8 c) y)))
 
 -- a character is put, with a backslash before it or without
 pub marked_put : (m : Marked) (c : ℕ) (into mid made : List ℕ) → is_marked m c ≡ true → mid ≡ into ++ encode_utf8 92 → made ≡ mid ++ encode_utf8 c → made ≡ into ++ with_marks m (encode_utf8 c)

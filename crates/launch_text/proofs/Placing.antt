@@ -3,6 +3,7 @@ use Rattle.std.proofs.Common.{◌≡◌, ℕ, zero, suc, ◌+◌, ◌-◌, ◌<�
 use Rattle.std.specs.List.{list_all}
 use Rattle.std.proofs.lemmas.Bool.{cases_lt}
 use Rattle.std.proofs.lemmas.List.Folds.{list_all-append}
+use Rattle.std.proofs.lemmas.Option.{none-some}
 use Rattle.launch_text.specs.Bytes.{is_white}
 use Rattle.launch_text.specs.Grammar.{IsLine}
 use Rattle.launch_text.specs.Parsed.{Stopped, Told}
@@ -22,14 +23,14 @@ use Rattle.launch_text.proofs.Calm.{calm_closed, property_closed, reference_calm
 use Rattle.launch_text.proofs.Complete.{tree_read}
 use Rattle.launch_text.proofs.Cutting.{length_front, two_parts, within}
 use Rattle.launch_text.proofs.Extending.{completes, extends}
-use Rattle.launch_text.proofs.Facts.{none_some}
 use Rattle.launch_text.proofs.Fronts.{front_cut}
 use Rattle.launch_text.proofs.Longest.{front_long}
 use Rattle.launch_text.proofs.Parsing.{told_sound}
 use Rattle.launch_text.proofs.Runs.{front_within}
 use Rattle.launch_text.proofs.Sound.{words_fine}
 use Rattle.launch_text.proofs.Spelling.{Means, One, Says, Spells, line_spelt}
-use Rattle.launch_text.proofs.Splitting.{and_left, and_right, both_true, first_is, more_words, run_append, run_none, some_words, take_front, unique}
+use Rattle.launch_text.proofs.Splitting.{both_true, first_is, more_words, run_append, run_none, some_words, take_front, unique}
+use Rattle.gst_value.proofs.Basics.{and_left, and_right}
 
 -- words that were read are closed
 means_closed : (w : List ℕ) (t : Token) → Means w t → is_closed w ≡ true
@@ -146,7 +147,7 @@ takes_first : (s : State) (v : List ℕ) (ws : List (List ℕ)) (tree : Tree) �
 takes_first s v ws tree e = go (step s v) refl e
   where
     go : (o : Option State) → step s v ≡ o → (run o ws >>= finish) ≡ Some tree → (t : State) × (step s v ≡ Some t)
-    go None f k = absurd (none_some tree (sym (ap (λ o. o >>= finish) (run_none ws)) ∙ k))
+    go None f k = absurd (none-some tree (sym (ap (λ o. o >>= finish) (run_none ws)) ∙ k))
     go (Some t) f k = (t, f)
 
 module _ (text : List ℕ) (place : ℕ) (kind_is : LineKind) (st : Stopped text place kind_is) where
@@ -222,7 +223,7 @@ module _ (text : List ℕ) (place : ℕ) (kind_is : LineKind) (st : Stopped text
       refused v t h g stuck = elim (cases_lt (word_length plain st.rest) k) [
         | inl less ↦
             let same : first_word (take k st.rest ++ f.0) ≡ word = ap (λ m. take m (take k st.rest ++ f.0)) (shorter_same plain st.rest f.0 k less few) ∙ take_less st.rest f.0 (word_length plain st.rest) k (omega (arith, less)) few in
-            none_some t (sym stuck ∙ ap (step st.state) (sym (g ∙ same)) ∙ h)
+            none-some t (sym stuck ∙ ap (step st.state) (sym (g ∙ same)) ∙ h)
         | inr le ↦
             let b = word_begins plain st.rest f.0 k le in
             let q = take_more st.rest (word_length plain st.rest) k le in

@@ -7,7 +7,8 @@ use Rattle.std.proofs.lemmas.Grind.{flat_map-append}
 use Rattle.std.proofs.lemmas.List.Folds.{list_all-append}
 use Rattle.std.proofs.lemmas.Bool.{ltb-true}
 use Rattle.std.proofs.lemmas.List.{map-append}
-use Rattle.gst_caps.specs.declared.name.Prop.{Prop}
+use Rattle.std.proofs.lemmas.Option.{none-some, same_Some}
+use Rattle.gst_value.specs.declared.name.Prop.{Prop}
 use Rattle.launch_text.specs.Bytes.{is_run}
 use Rattle.launch_text.specs.Grammar.{are_others, is_alone, is_chain, is_end, is_middle, part_fits, tree_fits}
 use Rattle.launch_text.specs.Reading.{Held, State, begin_part, behind_caps, behind_element, behind_link, behind_reference, closed, closed_in, element_from, ended, finish, finish_from, go_on, innermost, linked_to, more_outer, none, opened, property_of, reference_of, run, said, step, step_from, tree_of, whole, ◌>>=◌}
@@ -25,10 +26,11 @@ use Rattle.launch_text.specs.declared.tree.Part.TheVariants.{Chain as ChainPart,
 use Rattle.launch_text.specs.declared.tree.Tree.{Tree}
 use Rattle.launch_text.proofs.Calm.{not_false, not_zero}
 use Rattle.launch_text.proofs.Complete.{fits_bin, fits_chain, fits_parts}
-use Rattle.launch_text.proofs.Facts.{link_differs_back, none_some, property_sound, reference_sound, same_text, some_is}
+use Rattle.launch_text.proofs.Facts.{link_differs_back, property_sound, reference_sound, same_text}
 use Rattle.launch_text.proofs.Lines.{bin_part, chain_part, tree_parts}
 use Rattle.launch_text.proofs.Spelling.{AreCapsWords, Says, Spells, caps_word, no_link, spells_append, spells_parts}
-use Rattle.launch_text.proofs.Splitting.{and_left, and_right, both_true, run_none}
+use Rattle.launch_text.proofs.Splitting.{both_true, run_none}
+use Rattle.gst_value.proofs.Basics.{and_left, and_right}
 
 -- the tokens of what was read
 abbrev pub outer_tokens : List Part → List Token
@@ -132,7 +134,7 @@ open_fine h w ws b less e = step b.fits.room b.fits.size b.fits.parts_fit
     }
 
 pub innermost_sound : (xs : List (List Part)) (p : List (List Part) × List Part) → innermost xs ≡ Some p → xs ≡ p.0 ++ p.1 ∷ []
-innermost_sound [] p h = absurd (none_some p h)
+innermost_sound [] p h = absurd (none-some p h)
 innermost_sound (x ∷ xs) p h = step (innermost xs) refl h (innermost_sound xs)
   where
     no_more : (ys : List (List Part)) → innermost ys ≡ None → ys ≡ []
@@ -144,8 +146,8 @@ innermost_sound (x ∷ xs) p h = step (innermost xs) refl h (innermost_sound xs)
         other (Some q) k = cc
 
     step : (o : Option (List (List Part) × List Part)) → innermost xs ≡ o → more_outer x o ≡ Some p → ((q : List (List Part) × List Part) → innermost xs ≡ Some q → xs ≡ q.0 ++ q.1 ∷ []) → x ∷ xs ≡ p.0 ++ p.1 ∷ []
-    step None e k ih = ap (λ l. x ∷ l) (no_more xs e) ∙ ap (λ q. q.0 ++ q.1 ∷ []) (some_is ([], x) p k)
-    step (Some q) e k ih = ap (λ l. x ∷ l) (ih q e) ∙ ap (λ r. r.0 ++ r.1 ∷ []) (some_is (x ∷ q.0, q.1) p k)
+    step None e k ih = ap (λ l. x ∷ l) (no_more xs e) ∙ ap (λ q. q.0 ++ q.1 ∷ []) (same_Some ([], x) p k)
+    step (Some q) e k ih = ap (λ l. x ∷ l) (ih q e) ∙ ap (λ r. r.0 ++ r.1 ∷ []) (same_Some (x ∷ q.0, q.1) p k)
 
 regroup_close : (X A P : List Token) → X ++ ((A ++ ((opens ∷ (P ++ closes ∷ [])) ++ [])) ++ []) ≡ ((X ++ ((A ++ opens ∷ []) ++ [])) ++ (P ++ [])) ++ closes ∷ []
 regroup_close X A P = simp (append_assoc, append-nil)
@@ -184,19 +186,19 @@ unfolding begin_part opened
 begin_fine h w ws s b e = first (bytes_eq w (codes "(")) refl e
   where
     third : (o : Option Node) → reference_of w ≡ o → (o >>= λ n. Some (h, Reference n)) ≡ Some s → Fine s (ws ++ w ∷ [])
-    third None f k = absurd (none_some s k)
+    third None f k = absurd (none-some s k)
     third (Some n) f k =
         let r = reference_sound w n f in
         let good : Fine (h, Reference (ReferenceNode r.name r.pad)) (ws ++ w ∷ []) = record { fits = b.fits; shape = (b.nodes, refl); spells = more_spelt (held_tokens h) (reference r.name r.pad) ws w b.spells (w, refl, (r.word, r.name_is, r.pad_is)) } in
-        subst (λ x. Fine x (ws ++ w ∷ [])) (ap (λ n. (h, Reference n)) (sym r.node) ∙ some_is (h, Reference n) s k) good
+        subst (λ x. Fine x (ws ++ w ∷ [])) (ap (λ n. (h, Reference n)) (sym r.node) ∙ same_Some (h, Reference n) s k) good
 
     second : (t : Bool) → is_run Kind w ≡ t → cond t (Some (h, Element w [])) (reference_of w >>= λ n. Some (h, Reference n)) ≡ Some s → Fine s (ws ++ w ∷ [])
-    second true f k = subst (λ x. Fine x (ws ++ w ∷ [])) (some_is (h, Element w []) s k) (record { fits = b.fits; shape = ap front_ok b.nodes; spells = more_spelt (held_tokens h) (kind w) ws w b.spells (w, refl, (refl, f)) })
+    second true f k = subst (λ x. Fine x (ws ++ w ∷ [])) (same_Some (h, Element w []) s k) (record { fits = b.fits; shape = ap front_ok b.nodes; spells = more_spelt (held_tokens h) (kind w) ws w b.spells (w, refl, (refl, f)) })
     second false f k = third (reference_of w) refl k
 
     inner : (t : Bool) → nat_lt (length h.outer) 16 ≡ t → bytes_eq w (codes "(") ≡ true → (cond t (Some (record { outer = h.outer ++ h.parts ∷ []; parts = []; nodes = h.nodes })) None >>= λ g. Some (g, Start)) ≡ Some s → Fine s (ws ++ w ∷ [])
-    inner true f g k = subst (λ x. Fine x (ws ++ w ∷ [])) (some_is (record { outer = h.outer ++ h.parts ∷ []; parts = []; nodes = h.nodes }, Start) s k) (open_fine h w ws b (ltb-true (length h.outer) 16 f) (same_text w (codes "(") g))
-    inner false f g k = absurd (none_some s k)
+    inner true f g k = subst (λ x. Fine x (ws ++ w ∷ [])) (same_Some (record { outer = h.outer ++ h.parts ∷ []; parts = []; nodes = h.nodes }, Start) s k) (open_fine h w ws b (ltb-true (length h.outer) 16 f) (same_text w (codes "(") g))
+    inner false f g k = absurd (none-some s k)
 
     first : (t : Bool) → bytes_eq w (codes "(") ≡ t → cond t (opened h >>= λ g. Some (g, Start)) (cond (is_run Kind w) (Some (h, Element w [])) (reference_of w >>= λ n. Some (h, Reference n))) ≡ Some s → Fine s (ws ++ w ∷ [])
     first true f k = inner (nat_lt (length h.outer) 16) refl f k
@@ -208,8 +210,8 @@ unfolding go_on closed
 on_fine h w ws s b some e = first (bytes_eq w (codes ")")) refl e
   where
     inner : (o : Option (List (List Part) × List Part)) → innermost h.outer ≡ o → bytes_eq w (codes ")") ≡ true → ((o >>= closed_in h) >>= λ g. Some (g, Bin)) ≡ Some s → Fine s (ws ++ w ∷ [])
-    inner None f g k = absurd (none_some s k)
-    inner (Some p) f g k = subst (λ x. Fine x (ws ++ w ∷ [])) (some_is (record { outer = p.0; parts = p.1 ++ BinPart (record { parts = h.parts }) ∷ []; nodes = h.nodes }, Bin) s k) (close_fine h w ws p b some (innermost_sound h.outer p f) (same_text w (codes ")") g))
+    inner None f g k = absurd (none-some s k)
+    inner (Some p) f g k = subst (λ x. Fine x (ws ++ w ∷ [])) (same_Some (record { outer = p.0; parts = p.1 ++ BinPart (record { parts = h.parts }) ∷ []; nodes = h.nodes }, Bin) s k) (close_fine h w ws p b some (innermost_sound h.outer p f) (same_text w (codes ")") g))
 
     first : (t : Bool) → bytes_eq w (codes ")") ≡ t → cond t (closed h >>= λ g. Some (g, Bin)) (begin_part h w) ≡ Some s → Fine s (ws ++ w ∷ [])
     first true f k = inner (innermost h.outer) refl f k
@@ -280,8 +282,8 @@ unfolding said
 said_sound marked w text h = step (is_closed w) refl h
   where
     step : (t : Bool) → is_closed w ≡ t → cond t (Some (taken marked plain w)) None ≡ Some text → (is_closed w ≡ true) × (text ≡ taken marked plain w)
-    step true e k = (e, sym (some_is (taken marked plain w) text k))
-    step false e k = absurd (none_some text k)
+    step true e k = (e, sym (same_Some (taken marked plain w) text k))
+    step false e k = absurd (none-some text k)
 
 -- a word behind an element
 element_fine : (h : Held) (k : List ℕ) (props : List Prop) (w : List ℕ) (ws : List (List ℕ)) (s : State) → Fine (h, Element k props) ws → behind_element h k props w ≡ Some s → Fine s (ws ++ w ∷ [])
@@ -289,17 +291,17 @@ unfolding behind_element
 element_fine h k props w ws s f e = first (property_of w) refl e
   where
     added : (p : List ℕ × List ℕ) (o : Option (List ℕ)) → said InValue p.1 ≡ o → property_of w ≡ Some p → (o >>= λ value. Some (h, Element k (props ++ record { name = p.0; value = value } ∷ []))) ≡ Some s → Fine s (ws ++ w ∷ [])
-    added p None g q r = absurd (none_some s r)
+    added p None g q r = absurd (none-some s r)
     added p (Some value) g q r =
         let sound = said_sound InValue p.1 value g in
         let is = property_sound w p q in
         let one : Spells ((held_tokens h ++ node_tokens (ElementNode k props)) ++ property p.0 value ∷ []) (ws ++ w ∷ []) = more_spelt (held_tokens h ++ node_tokens (ElementNode k props)) (property p.0 value) ws w f.spells (w, refl, (p.1, is.0, is.1, sound.0, sound.1)) in
         let same : (held_tokens h ++ node_tokens (ElementNode k props)) ++ property p.0 value ∷ [] ≡ held_tokens h ++ node_tokens (ElementNode k (props ++ record { name = p.0; value = value } ∷ [])) = append_assoc (held_tokens h) (node_tokens (ElementNode k props)) (property p.0 value ∷ []) ∙ ap (λ l. held_tokens h ++ kind k ∷ l) (sym (map-append prop_token props (record { name = p.0; value = value } ∷ []))) in
         let good : Fine (h, Element k (props ++ record { name = p.0; value = value } ∷ [])) (ws ++ w ∷ []) = record { fits = f.fits; shape = f.shape; spells = respelt _ _ (ws ++ w ∷ []) same one } in
-        subst (λ x. Fine x (ws ++ w ∷ [])) (some_is (h, Element k (props ++ record { name = p.0; value = value } ∷ [])) s r) good
+        subst (λ x. Fine x (ws ++ w ∷ [])) (same_Some (h, Element k (props ++ record { name = p.0; value = value } ∷ [])) s r) good
 
     second : (t : Bool) → bytes_eq w (codes "!") ≡ t → cond t (Some (linked_to h (ElementNode k props))) (go_on (ended h (ElementNode k props)) w) ≡ Some s → Fine s (ws ++ w ∷ [])
-    second true g r = subst (λ x. Fine x (ws ++ w ∷ [])) (some_is (linked_to h (ElementNode k props)) s r) (link_fine h (Element k props) (ElementNode k props) w ws f refl (front_more h.nodes (ElementNode k props) f.shape (λ z. refl) (λ z. refl)) (same_text w (codes "!") g))
+    second true g r = subst (λ x. Fine x (ws ++ w ∷ [])) (same_Some (linked_to h (ElementNode k props)) s r) (link_fine h (Element k props) (ElementNode k props) w ws f refl (front_more h.nodes (ElementNode k props) f.shape (λ z. refl) (λ z. refl)) (same_text w (codes "!") g))
     second false g r = on_fine (ended h (ElementNode k props)) w ws s (settle h k props ws f) (ended_some h (ElementNode k props)) r
 
     first : (o : Option (List ℕ × List ℕ)) → property_of w ≡ o → element_from h k props w o ≡ Some s → Fine s (ws ++ w ∷ [])
@@ -315,23 +317,23 @@ linked_fine h w ws s f e = first (begins_caps w) refl e
     before = respelt _ _ ws (append-nil (held_tokens h)) f.spells
 
     caps_new : (o : Option (List ℕ)) → said InCaps w ≡ o → begins_caps w ≡ true → (o >>= λ text. Some (h, Caps text)) ≡ Some s → Fine s (ws ++ w ∷ [])
-    caps_new None g b r = absurd (none_some s r)
+    caps_new None g b r = absurd (none-some s r)
     caps_new (Some text) g b r =
         let sound = said_sound InCaps w text g in
         let words : AreCapsWords (w ∷ []) text = record { first = w; more = []; begun = b; closed = sound.0; all_closed = refl; all_plain = refl; is = refl; says = sound.1 ∙ sym (append-nil (taken InCaps plain w)) } in
-        subst (λ x. Fine x (ws ++ w ∷ [])) (some_is (h, Caps text) s r) (record { fits = f.fits; shape = f.shape; spells = more_spelt (held_tokens h) (caps text) ws w before words })
+        subst (λ x. Fine x (ws ++ w ∷ [])) (same_Some (h, Caps text) s r) (record { fits = f.fits; shape = f.shape; spells = more_spelt (held_tokens h) (caps text) ws w before words })
 
     third : (o : Option Node) → reference_of w ≡ o → (o >>= λ n. Some (ended h n, Chain)) ≡ Some s → Fine s (ws ++ w ∷ [])
-    third None g r = absurd (none_some s r)
+    third None g r = absurd (none-some s r)
     third (Some n) g r =
         let q = reference_sound w n g in
         let m : Node = ReferenceNode q.name q.pad in
         let one : Spells (held_tokens h ++ reference q.name q.pad ∷ []) (ws ++ w ∷ []) = more_spelt (held_tokens h) (reference q.name q.pad) ws w before (w, refl, (q.word, q.name_is, q.pad_is)) in
         let good : Fine (ended h (ReferenceNode q.name q.pad), Chain) (ws ++ w ∷ []) = record { fits = ended_fits h (ReferenceNode q.name q.pad) f.fits (chain_ok h.nodes (ReferenceNode q.name q.pad) f.shape.1 refl (λ z. absurd (let some = f.shape.0 in omega (arith, some, z)))); shape = (ended_some h (ReferenceNode q.name q.pad), refl); spells = respelt _ _ (ws ++ w ∷ []) (sym (ended_tokens h (ReferenceNode q.name q.pad)) ∙ sym (append-nil (held_tokens (ended h (ReferenceNode q.name q.pad))))) one } in
-        subst (λ x. Fine x (ws ++ w ∷ [])) (ap (λ v. (ended h v, Chain)) (sym q.node) ∙ some_is (ended h n, Chain) s r) good
+        subst (λ x. Fine x (ws ++ w ∷ [])) (ap (λ v. (ended h v, Chain)) (sym q.node) ∙ same_Some (ended h n, Chain) s r) good
 
     second : (t : Bool) → is_run Kind w ≡ t → cond t (Some (h, Element w [])) (reference_of w >>= λ n. Some (ended h n, Chain)) ≡ Some s → Fine s (ws ++ w ∷ [])
-    second true g r = subst (λ x. Fine x (ws ++ w ∷ [])) (some_is (h, Element w []) s r) (record { fits = f.fits; shape = f.shape.1; spells = more_spelt (held_tokens h) (kind w) ws w before (w, refl, (refl, g)) })
+    second true g r = subst (λ x. Fine x (ws ++ w ∷ [])) (same_Some (h, Element w []) s r) (record { fits = f.fits; shape = f.shape.1; spells = more_spelt (held_tokens h) (kind w) ws w before (w, refl, (refl, g)) })
     second false g r = third (reference_of w) refl r
 
     first : (t : Bool) → begins_caps w ≡ t → cond t (said InCaps w >>= λ text. Some (h, Caps text)) (cond (is_run Kind w) (Some (h, Element w [])) (reference_of w >>= λ n. Some (ended h n, Chain))) ≡ Some s → Fine s (ws ++ w ∷ [])
@@ -362,7 +364,7 @@ unfolding behind_caps
 caps_fine h text w ws s f e = first (bytes_eq w (codes "!")) refl e
   where
     more : (o : Option (List ℕ)) → said InCaps w ≡ o → bytes_eq w (codes "!") ≡ false → (o >>= λ l. Some (h, Caps (text ++ 32 ∷ l))) ≡ Some s → Fine s (ws ++ w ∷ [])
-    more None g b r = absurd (none_some s r)
+    more None g b r = absurd (none-some s r)
     more (Some l) g b r =
         let sound = said_sound InCaps w l g in
         let p = spells_parts (held_tokens h) (caps text ∷ []) ws f.spells in
@@ -370,10 +372,10 @@ caps_fine h text w ws s f e = first (bytes_eq w (codes "!")) refl e
         let one : Spells (held_tokens h ++ caps (text ++ caps_word w) ∷ []) (p.0 ++ (p.1 ++ w ∷ [])) = spells_append (held_tokens h) (caps (text ++ caps_word w) ∷ []) p.0 (p.1 ++ w ∷ []) p.3 (p.1 ++ w ∷ [], [], sym (append-nil (p.1 ++ w ∷ [])), words, refl) in
         let same : p.0 ++ (p.1 ++ w ∷ []) ≡ ws ++ w ∷ [] = sym (append_assoc p.0 p.1 (w ∷ [])) ∙ ap (λ z. z ++ w ∷ []) (sym p.2) in
         let good : Fine (h, Caps (text ++ caps_word w)) (ws ++ w ∷ []) = record { fits = f.fits; shape = f.shape; spells = subst (λ z. Spells (held_tokens h ++ caps (text ++ caps_word w) ∷ []) z) same one } in
-        subst (λ x. Fine x (ws ++ w ∷ [])) (ap (λ z. (h, Caps (text ++ 32 ∷ z))) (sym sound.1) ∙ some_is (h, Caps (text ++ 32 ∷ l)) s r) good
+        subst (λ x. Fine x (ws ++ w ∷ [])) (ap (λ z. (h, Caps (text ++ 32 ∷ z))) (sym sound.1) ∙ same_Some (h, Caps (text ++ 32 ∷ l)) s r) good
 
     first : (t : Bool) → bytes_eq w (codes "!") ≡ t → cond t (Some (linked_to h (CapsNode text))) (said InCaps w >>= λ l. Some (h, Caps (text ++ 32 ∷ l))) ≡ Some s → Fine s (ws ++ w ∷ [])
-    first true g r = subst (λ x. Fine x (ws ++ w ∷ [])) (some_is (linked_to h (CapsNode text)) s r) (link_fine h (Caps text) (CapsNode text) w ws f refl (front_more h.nodes (CapsNode text) f.shape.1 (λ z. absurd (let some = f.shape.0 in omega (arith, some, z))) (λ z. refl)) (same_text w (codes "!") g))
+    first true g r = subst (λ x. Fine x (ws ++ w ∷ [])) (same_Some (linked_to h (CapsNode text)) s r) (link_fine h (Caps text) (CapsNode text) w ws f refl (front_more h.nodes (CapsNode text) f.shape.1 (λ z. absurd (let some = f.shape.0 in omega (arith, some, z))) (λ z. refl)) (same_text w (codes "!") g))
     first false g r = more (said InCaps w) refl g r
 
 -- a word behind the reference that begins a chain
@@ -382,8 +384,8 @@ unfolding behind_reference
 reference_fine h n w ws s f e = first (bytes_eq w (codes "!")) refl e
   where
     first : (t : Bool) → bytes_eq w (codes "!") ≡ t → cond t (Some (linked_to h n)) None ≡ Some s → Fine s (ws ++ w ∷ [])
-    first true g r = subst (λ x. Fine x (ws ++ w ∷ [])) (some_is (linked_to h n) s r) (link_fine h (Reference n) n w ws f refl (ap (λ l. front_ok (l ++ n ∷ [])) f.shape.0 ∙ both_true (is_end n) true f.shape.1 refl) (same_text w (codes "!") g))
-    first false g r = absurd (none_some s r)
+    first true g r = subst (λ x. Fine x (ws ++ w ∷ [])) (same_Some (linked_to h n) s r) (link_fine h (Reference n) n w ws f refl (ap (λ l. front_ok (l ++ n ∷ [])) f.shape.0 ∙ both_true (is_end n) true f.shape.1 refl) (same_text w (codes "!") g))
+    first false g r = absurd (none-some s r)
 
 settled : (h : Held) (last : Last) (ws : List (List ℕ)) → Fits h → h.nodes ≡ [] → Spells (held_tokens h ++ []) ws → Settled h ws
 settled h last ws f n s = record { fits = f; nodes = n; spells = respelt _ _ ws (append-nil (held_tokens h)) s }
@@ -399,11 +401,11 @@ step_fine h (Caps text) w ws s f e = caps_fine h text w ws s f e
 step_fine h (Reference n) w ws s f e = reference_fine h n w ws s f e
 
 run_fine : (ws done : List (List ℕ)) (s t : State) → Fine s done → run (Some s) ws ≡ Some t → Fine t (done ++ ws)
-run_fine [] done s t f e = subst (λ l. Fine t l) (sym (append-nil done)) (subst (λ x. Fine x done) (some_is s t e) f)
+run_fine [] done s t f e = subst (λ l. Fine t l) (sym (append-nil done)) (subst (λ x. Fine x done) (same_Some s t e) f)
 run_fine (w ∷ ws) done s t f e = go (step s w) refl e (λ u k r. run_fine ws (done ++ w ∷ []) u t (step_fine s.0 s.1 w done u f k) r)
   where
     go : (o : Option State) → step s w ≡ o → run o ws ≡ Some t → ((u : State) → step s w ≡ Some u → run (Some u) ws ≡ Some t → Fine t ((done ++ w ∷ []) ++ ws)) → Fine t (done ++ w ∷ ws)
-    go None k r ih = absurd (none_some t (sym (run_none ws) ∙ r))
+    go None k r ih = absurd (none-some t (sym (run_none ws) ∙ r))
     go (Some u) k r ih = subst (λ l. Fine t l) (append_assoc done (w ∷ []) ws) (ih u k r)
 
 pub none_fine : Fine none []
@@ -426,22 +428,22 @@ whole_spelt h ws t b some e = go h.outer refl e
     )
 
     go : (xs : List (List Part)) → h.outer ≡ xs → cond (eqb (length h.outer) 0) (Some (record { parts = h.parts })) None ≡ Some t → Spelt t ws
-    go [] k r = subst (λ x. Spelt x ws) (some_is (record { parts = h.parts }) t (sym (ap (λ l. cond (eqb (length l) 0) (Some (record { parts = h.parts })) None) k) ∙ r)) (good (ap length k) (ap (flat_map outer_tokens) k))
-    go (x ∷ xs) k r = absurd (none_some t (sym (ap (λ l. cond (eqb (length l) 0) (Some (record { parts = h.parts })) None) k ∙ ap (λ z. cond z (Some (record { parts = h.parts })) None) (not_false (eqb (suc (length xs)) 0) (not_zero (suc (length xs)) (omega arith)))) ∙ r))
+    go [] k r = subst (λ x. Spelt x ws) (same_Some (record { parts = h.parts }) t (sym (ap (λ l. cond (eqb (length l) 0) (Some (record { parts = h.parts })) None) k) ∙ r)) (good (ap length k) (ap (flat_map outer_tokens) k))
+    go (x ∷ xs) k r = absurd (none-some t (sym (ap (λ l. cond (eqb (length l) 0) (Some (record { parts = h.parts })) None) k ∙ ap (λ z. cond z (Some (record { parts = h.parts })) None) (not_false (eqb (suc (length xs)) 0) (not_zero (suc (length xs)) (omega arith)))) ∙ r))
 
 finish_spelt : (h : Held) (last : Last) (ws : List (List ℕ)) (t : Tree) → Fine (h, last) ws → finish_from h last ≡ Some t → Spelt t ws
-finish_spelt h Start ws t f e = absurd (none_some t e)
+finish_spelt h Start ws t f e = absurd (none-some t e)
 finish_spelt h Bin ws t f e = whole_spelt h ws t (settled h Bin ws f.fits f.shape.1 f.spells) f.shape.0 e
 finish_spelt h Chain ws t f e = whole_spelt h ws t (settled h Chain ws f.fits f.shape.1 f.spells) f.shape.0 e
 finish_spelt h (Element k props) ws t f e = whole_spelt (ended h (ElementNode k props)) ws t (settle h k props ws f) (ended_some h (ElementNode k props)) e
-finish_spelt h Link ws t f e = absurd (none_some t e)
-finish_spelt h (Caps text) ws t f e = absurd (none_some t e)
-finish_spelt h (Reference n) ws t f e = absurd (none_some t e)
+finish_spelt h Link ws t f e = absurd (none-some t e)
+finish_spelt h (Caps text) ws t f e = absurd (none-some t e)
+finish_spelt h (Reference n) ws t f e = absurd (none-some t e)
 
 -- words that are read as a tree spell it
 pub read_spelt : (ws : List (List ℕ)) (t : Tree) → tree_of ws ≡ Some t → Spells (tree_tokens t) ws × (tree_fits t 16 ≡ true)
 read_spelt ws t e = go (run (Some none) ws) refl e
   where
     go : (o : Option State) → run (Some none) ws ≡ o → (o >>= finish) ≡ Some t → Spelt t ws
-    go None k r = absurd (none_some t r)
+    go None k r = absurd (none-some t r)
     go (Some s) k r = finish_spelt s.0 s.1 ws t (words_fine ws s k) r

@@ -11,7 +11,8 @@ use Rattle.launch_text.specs.declared.class.Class.TheVariants.{Kind, Name, Prope
 use Rattle.launch_text.specs.declared.printing.Marked.TheVariants.{Value, Caps}
 use Rattle.launch_text.specs.declared.tree.Tree.{Tree}
 use Rattle.launch_text.proofs.Calm.{calm_closed, calm_length, not_zero, property_closed, reference_calm, reference_some, run_calm, run_some, stops_alone, stops_ends, stops_more, word_all, word_is, word_some}
-use Rattle.launch_text.proofs.Splitting.{and_left, and_right, both_true, word_starts}
+use Rattle.launch_text.proofs.Splitting.{both_true, word_starts}
+use Rattle.gst_value.proofs.Basics.{and_left, and_right}
 
 -- one word that stands for a token
 abbrev pub Means : List ℕ → Token → Type 0

@@ -7,17 +7,7 @@ use Rattle.launch_text.specs.Bytes.{is_white}
 use Rattle.launch_text.specs.Reading.{Passed, Splits, State, first_word, behind_word, none, run, step, ◌>>=◌}
 use Rattle.launch_text.specs.Words.{after, is_start, plain, word_length}
 use Rattle.launch_text.proofs.Cutting.{behind_start, front_white, length_front, some_word, two_parts, within}
-
-no_true : false ≡ true → ⊥
-no_true e = cc
-
-pub and_left : (a b : Bool) → (a && b) ≡ true → a ≡ true
-and_left true b h = refl
-and_left false b h = h
-
-pub and_right : (a b : Bool) → (a && b) ≡ true → b ≡ true
-and_right true b h = h
-and_right false b h = absurd (no_true h)
+use Rattle.gst_value.proofs.Basics.{no_true, and_left, and_right}
 
 pub both_true : (a b : Bool) → a ≡ true → b ≡ true → (a && b) ≡ true
 both_true a b h k = rw (h, k) refl

@@ -2,7 +2,7 @@
 use Rattle.std.specs.Prelude.{◌≡◌, ℕ, true, cond, ◌==◌, ◌<◌, List, [], ◌∷◌, ◌++◌, Option, Some, None, Result, Ok, Err, codes, length, nat_lt, take, drop}
 use Rattle.std.specs.List.{list_all}
 use Rattle.std.specs.Str.{bytes_eq}
-use Rattle.gst_caps.specs.declared.name.Prop.{Prop}
+use Rattle.gst_value.specs.declared.name.Prop.{Prop}
 use Rattle.launch_text.specs.Bytes.{is_run, is_white}
 use Rattle.launch_text.specs.Words.{begins_caps, is_closed, plain, taken, word_length}
 use Rattle.launch_text.specs.declared.class.Class.TheVariants.{Kind, Name, Property}

@@ -1,7 +1,7 @@
 -- What stands in a tree, in the order of its line.
 use Rattle.std.specs.Prelude.{ℕ, List, [], ◌∷◌, ◌++◌, map, Option}
 use Rattle.std.specs.List.{flat_map}
-use Rattle.gst_caps.specs.declared.name.Prop.{Prop}
+use Rattle.gst_value.specs.declared.name.Prop.{Prop}
 use Rattle.launch_text.specs.declared.tree.Node.{Node}
 use Rattle.launch_text.specs.declared.tree.Node.TheVariants.{Element, Caps, Reference}
 use Rattle.launch_text.specs.declared.tree.Part.{Part}

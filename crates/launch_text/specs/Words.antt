@@ -20,9 +20,9 @@ is_plain m = not m.quoted && not m.escaped
 abbrev pub after : Mode → ℕ → Mode
 after m b = record { quoted = cond m.escaped m.quoted (cond (b == 34) (not m.quoted) m.quoted); escaped = cond m.escaped false (b == 92) }
 
-abbrev pub behind : Mode → List ℕ → Mode
-behind m [] = m
-behind m (b ∷ bs) = behind (after m b) bs
+abbrev pub mode_behind : Mode → List ℕ → Mode
+mode_behind m [] = m
+mode_behind m (b ∷ bs) = mode_behind (after m b) bs
 
 -- a word goes on up to white space that is neither in quotes nor behind a backslash
 abbrev pub word_length : Mode → List ℕ → ℕ
@@ -35,7 +35,7 @@ is_word text = not (length text == 0) && (word_length plain text == length text)
 
 -- a word that ends out of quotes and not behind a backslash
 abbrev pub is_closed : List ℕ → Bool
-is_closed word = is_plain (behind plain word)
+is_closed word = is_plain (mode_behind plain word)
 
 -- what the bytes of b add: to a value a double quote and a backslash add nothing but behind a backslash, and to caps only a
 -- backslash before a space

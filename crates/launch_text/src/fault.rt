@@ -1,5 +1,5 @@
 //! Why a line is not read.
-use gst_caps::OutOfMemory;
+use gst_value::OutOfMemory;
 use std::alloc::{AllocError, AllocFailed};
 use thiserror::Error;
 

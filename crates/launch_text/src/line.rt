@@ -9,7 +9,7 @@ use crate::parts::Parts;
 use crate::printing::Marked;
 use crate::tree::{Node, Tree};
 use crate::value::{begins_caps, read_reference, read_said, split_property};
-use gst_caps::{List, Prop, Text};
+use gst_value::{List, Prop, Text};
 use std::alloc::Global;
 
 /// What was read last.

@@ -1,7 +1,7 @@
 //! What is whole of a line.
 use crate::fault::Refusal;
 use crate::tree::{Chain, Node, Part, Tree};
-use gst_caps::{List, OutOfMemory};
+use gst_value::{List, OutOfMemory};
 use std::alloc::Global;
 use std::mem;
 

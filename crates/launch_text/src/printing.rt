@@ -8,7 +8,7 @@ ghost use Rattle.launch_text.specs.Tokens.{Token, chain_tokens, kind, linked, no
 
 use crate::characters::Characters;
 use crate::tree::{Chain, Node, Part, Tree};
-use gst_caps::{OutOfMemory, Prop, Text};
+use gst_value::{OutOfMemory, Prop, Text};
 use std::alloc::Global;
 
 /// Puts a space behind the words so far.

@@ -1,5 +1,5 @@
 //! What a launch line says.
-use gst_caps::{List, Prop, Text};
+use gst_value::{List, Prop, Text};
 
 /// The elements and links of a launch line.
 #[cycle(tree)]

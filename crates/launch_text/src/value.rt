@@ -12,7 +12,7 @@ use crate::fault::Refusal;
 use crate::printing::Marked;
 use crate::tree::Node;
 use crate::word::Mode;
-use gst_caps::{OutOfMemory, Text};
+use gst_value::{OutOfMemory, Text};
 use std::alloc::Global;
 
 /// Puts what a character of a word adds to a value or to caps.

@@ -1,6 +1,7 @@
 -- A text stops at one place, for one reason.
 use Rattle.std.proofs.Common.{◌≡◌, ℕ, zero, suc, ◌<◌, ◌≤◌, Bool, true, false, cond, ◌&&◌, not, List, [], ◌∷◌, ◌++◌, length, take, Option, Some, None, refl, sym, ap, ◌∙◌, subst, arith, length-append}
 use Rattle.std.specs.List.{list_all}
+use Rattle.std.proofs.lemmas.Option.{same_Some}
 use Rattle.launch_text.specs.Bytes.{is_white}
 use Rattle.launch_text.specs.Kinds.{is_bracket, kind_of}
 use Rattle.launch_text.specs.Parsed.{Stopped, place_of}
@@ -8,23 +9,10 @@ use Rattle.launch_text.specs.Places.{spot_of}
 use Rattle.launch_text.specs.Reading.{IsStuck, Splits, State, first_word, none, run, step}
 use Rattle.launch_text.specs.Words.{after, is_plain, is_start, plain, word_length}
 use Rattle.launch_text.specs.declared.fault.LineKind.{LineKind}
-
-no_true : false ≡ true → ⊥
-no_true e = cc
-
-some_is : {A : Type 0} (x y : A) → Some x ≡ Some y → x ≡ y
-some_is x y e = cc
+use Rattle.gst_value.proofs.Basics.{no_true, and_left, and_right}
 
 none_not : {A : Type 0} (x : A) → None ≡ Some x → ⊥
 none_not x e = cc
-
-and_left : (a b : Bool) → (a && b) ≡ true → a ≡ true
-and_left true b h = refl
-and_left false b h = h
-
-and_right : (a b : Bool) → (a && b) ≡ true → b ≡ true
-and_right true b h = h
-and_right false b h = absurd (no_true h)
 
 start_white : (b : ℕ) (bs ys : List ℕ) → list_all is_white (b ∷ bs) ≡ true → is_start ((b ∷ bs) ++ ys) ≡ true → ⊥
 start_white b bs ys h k = no_true (rw (and_left (is_white b) (list_all is_white bs) h) at k)
@@ -139,13 +127,13 @@ stops_there words s t w stuck reads = none_not t (sym (ap (λ o. run o words) st
 
 same_stop : (words others : List (List ℕ)) (text rest left : List ℕ) (s t u : State) → Splits words text rest → Splits others text left → is_start rest ≡ true → is_start left ≡ true
     → run (Some s) words ≡ Some t → run (Some s) others ≡ Some u → IsStuck t rest → IsStuck u left → (t ≡ u) × (rest ≡ left)
-same_stop [] [] text rest left s t u h k a b r q f g = (some_is t u (sym r ∙ q), same_white h.0 k.0 rest left h.2 k.2 a b (sym h.1 ∙ k.1))
+same_stop [] [] text rest left s t u h k a b r q f g = (same_Some t u (sym r ∙ q), same_white h.0 k.0 rest left h.2 k.2 a b (sym h.1 ∙ k.1))
 same_stop [] (v ∷ others) text rest left s t u h k a b r q f g =
     let e : rest ≡ v ++ k.1 = same_white h.0 k.0 rest (v ++ k.1) h.2 k.3 a (word_starts v k.1 k.4 k.5) (sym h.1 ∙ k.2) in
-    absurd (stops_there others s u v (ap (λ x. step x v) (some_is s t r) ∙ stuck_word t rest v k.1 f e k.4 k.5) q)
+    absurd (stops_there others s u v (ap (λ x. step x v) (same_Some s t r) ∙ stuck_word t rest v k.1 f e k.4 k.5) q)
 same_stop (w ∷ words) [] text rest left s t u h k a b r q f g =
     let e : left ≡ w ++ h.1 = same_white k.0 h.0 left (w ++ h.1) k.2 h.3 b (word_starts w h.1 h.4 h.5) (sym k.1 ∙ h.2) in
-    absurd (stops_there words s t w (ap (λ x. step x w) (some_is s u q) ∙ stuck_word u left w h.1 g e h.4 h.5) r)
+    absurd (stops_there words s t w (ap (λ x. step x w) (same_Some s u q) ∙ stuck_word u left w h.1 g e h.4 h.5) r)
 same_stop (w ∷ words) (v ∷ others) text rest left s t u h k a b r q f g =
     let e : w ++ h.1 ≡ v ++ k.1 = same_white h.0 k.0 (w ++ h.1) (v ++ k.1) h.3 k.3 (word_starts w h.1 h.4 h.5) (word_starts v k.1 k.4 k.5) (sym h.2 ∙ k.2) in
     let p = same_word w v h.1 k.1 h.5 k.5 e in

@@ -1,17 +1,12 @@
 -- Worked rows of the definitions, each a case and what is to come of it.
-use Rattle.std.specs.Prelude.{◌≡◌, ℕ, true, false, List, [], ◌∷◌, ◌++◌, length, codes, flat_map, None, Some}
-use Rattle.flow_model.specs.declared.report.Fault.{Fault}
-use Rattle.flow_model.specs.declared.report.Fault.TheVariants.{Nothing, Form, OpenFault, ReadFault}
-use Rattle.flow_model.specs.declared.report.PadCount.{PadCount}
-use Rattle.flow_model.specs.declared.report.Report.{Report}
-use Rattle.flow_model.specs.ReportText.{newline, report_lines}
+use Rattle.std.specs.Prelude.{◌≡◌, ℕ, true, false, List, [], ◌∷◌, length, codes, None, Some}
 use Rattle.flow_model.specs.Item.{Item, Buf, Ev, StreamStart, NewCaps, NewSegment, FlushStop, Eos, buffers}
 use Rattle.flow_model.specs.Call.{feeds}
 use Rattle.flow_model.specs.Section.{section, counted}
 use Rattle.flow_model.specs.Sticky.{stickies}
 use Rattle.flow_model.specs.Rule.{owed_for, passes}
 use Rattle.flow_model.specs.Eval.{eval, eval_whole}
-use Rattle.flow_model.specs.Chain.{chain}
+use Rattle.model_rows.specs.Chain.{chain}
 use Rattle.flow_model.specs.Source.{bytes_segment, file_section, file_list}
 use Rattle.flow_model.specs.SinkBytes.{sink_bytes}
 
@@ -91,34 +86,3 @@ pub record ChainRows : Type 0 where
   pub cut_behind : eval (chain 1 abcde (3 ∷ 2 ∷ [])) 1 ≡ start ∷ segment_at 0 ∷ []
   pub unread : sink_bytes false (eval (chain 1 abcdef (4 ∷ 4 ∷ [])) 1) ≡ codes "abcd"
   pub unread_buffers : buffers (eval (chain 1 abcdef (4 ∷ 4 ∷ [])) 0) ≡ 2
-
--- lines of a text, each with a newline at its end
-abbrev pub lines : List (List ℕ) → List ℕ
-lines texts = flat_map (λ text. text ++ newline) texts
-
-abbrev pub pad_count : List ℕ → ℕ → ℕ → PadCount
-pad_count element items buffers = record { pad = record { element = element; pad = codes "src" }; items = items; buffers = buffers }
-
--- the report of a line with one identity whose pads were crossed by so much, and whose sink has so many bytes
-abbrev pub report_of : ℕ → ℕ → ℕ → Fault → Report
-report_of items buffers bytes fault = record {
-  entries = [];
-  pads = pad_count (codes "filesrc0") items buffers ∷ pad_count (codes "identity0") items buffers ∷ [];
-  sinks = record { name = codes "filesink0"; bytes = bytes } ∷ [];
-  fault = fault;
-}
-
--- the report of a run that did not begin
-abbrev pub report_without : Fault → Report
-report_without fault = record { entries = []; pads = []; sinks = []; fault = fault }
-
-pub record TextRows : Type 0 where
-  pub ended : report_lines 0 false (report_of 6 3 5 Nothing)
-      ≡ lines (codes "status 0 Eos" ∷ codes "pad filesrc0.src items 6 buffers 3" ∷ codes "pad identity0.src items 6 buffers 3" ∷ codes "sink filesink0 bytes 5" ∷ [])
-  pub empty : report_lines 0 false (report_of 3 0 0 Nothing)
-      ≡ lines (codes "status 0 Eos" ∷ codes "pad filesrc0.src items 3 buffers 0" ∷ codes "pad identity0.src items 3 buffers 0" ∷ codes "sink filesink0 bytes 0" ∷ [])
-  pub quiet : report_lines 0 true (report_of 6 3 5 Nothing) ≡ lines (codes "status 0 Eos" ∷ [])
-  pub unread : report_lines 7 false (report_of 4 2 4 (ReadFault (codes "a") 0 1))
-      ≡ lines (codes "status 7 ReadFault" ∷ codes "fault read a faults 0 1" ∷ codes "pad filesrc0.src items 4 buffers 2" ∷ codes "pad identity0.src items 4 buffers 2" ∷ codes "sink filesink0 bytes 4" ∷ [])
-  pub unopened : report_lines 6 false (report_without (OpenFault (codes "b"))) ≡ lines (codes "status 6 OpenFault" ∷ codes "fault open b" ∷ [])
-  pub no_line : report_lines 2 false (report_without Form) ≡ lines (codes "status 2 BadLine" ∷ codes "fault form" ∷ [])

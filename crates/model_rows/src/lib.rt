@@ -1,7 +1,7 @@
 //! Worked rows: what the definitions of flow_model give for small cases, computed by the checker.
 #![tactic(auto)]
 
-ghost use Rattle.model_rows.specs.Rows.{SourceRows, SinkRows, SectionRows, StickyRows, RuleRows, ChainRows, TextRows};
+ghost use Rattle.model_rows.specs.Rows.{SourceRows, SinkRows, SectionRows, StickyRows, RuleRows, ChainRows};
 
 /// What a file source owes for small contents and block sizes.
 #[tactic(auto, using(crate::proofs::Rows::source_rows))]
@@ -37,10 +37,4 @@ pub fn rule_rows()
 #[tactic(auto, using(crate::proofs::Rows::chain_rows))]
 pub fn chain_rows()
     ensures { ChainRows }
-{}
-
-/// The texts of reports.
-#[tactic(auto, using(crate::proofs::Rows::text_rows))]
-pub fn text_rows()
-    ensures { TextRows }
 {}

@@ -1,14 +1,14 @@
 -- When a run begins every element stands.
 use Rattle.std.proofs.Common.{◌≡◌, List, [], ◌∷◌, map, refl, arith}
 use Rattle.flow_model.specs.Link.{Span, input_of}
-use Rattle.flow_model.proofs.Chains.{chain_input}
+use Rattle.flow_model.proofs.Links.{link_input}
 use Rattle.net_model.specs.Split.{AreSplit, none, pad}
 use Rattle.net_model.specs.Standing.{Standing, AllStanding}
 use Rattle.net_model.specs.Opening.{IsUntouched, free, from_start, AllUntouched, OpeningStands}
 
 untouched_given : (ss : List Span) → IsUntouched ss → input_of (λ p. []) ss ≡ []
 untouched_given _ free = refl
-untouched_given _ (from_start source) = chain_input (λ p. []) source
+untouched_given _ (from_start source) = link_input (λ p. []) source
 
 untouched_standing : (ss : List Span) → IsUntouched ss → Standing (λ p. []) ss
 untouched_standing _ free = tt

@@ -1,17 +1,13 @@
 -- How what a source gave ends where it can't be read.
-use Rattle.std.specs.Prelude.{◌≡◌, Bool, true, false, ◌||◌, List, [], ◌∷◌, ◌++◌, fold}
+use Rattle.std.specs.Prelude.{◌≡◌, true, false, List, [], ◌∷◌, ◌++◌}
 use Rattle.std.specs.List.{list_all}
-use Rattle.flow_model.specs.Item.{Item, Ev, Eos, is_buffer, is_eos}
+use Rattle.flow_model.specs.Item.{Item, Ev, Eos, is_buffer, eos_among}
 use Rattle.net_model.specs.declared.refusal.Unread.{Unread}
 use Rattle.net_model.specs.declared.refusal.Unread.TheVariants.{Failed, OutOfMemory}
 
--- whether EOS was given
-abbrev pub has_eos : List Item → Bool
-has_eos given = fold (λ eos x. eos || is_eos x) false given
-
 -- EOS was not given; what was given ends before a buffer, or before the EOS behind the last one
 pub record EndsShort (owed given : List Item) : Type 0 where
-  pub eos : has_eos given ≡ false
+  pub eos : eos_among given ≡ false
   pub left : List Item
   pub buffers : list_all is_buffer left ≡ true
   pub owes : owed ≡ given ++ (left ++ Ev Eos ∷ [])

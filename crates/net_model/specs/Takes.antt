@@ -1,5 +1,5 @@
 -- What an element puts out for an item that it took.
-use Rattle.std.specs.Prelude.{◌≡◌, ◌<◌, ◌==◌, ℕ, suc, Bool, true, false, if◌then◌else◌, List, [], ◌∷◌, ◌++◌, length}
+use Rattle.std.specs.Prelude.{◌≡◌, ◌<◌, ◌==◌, ℕ, suc, false, if◌then◌else◌, List, [], ◌∷◌, ◌++◌, length}
 use Rattle.gst_item.specs.declared.out.Out.{Out}
 use Rattle.flow_model.specs.Item.{Item, is_flush_stop}
 use Rattle.flow_model.specs.Call.{Call, Feed, Act}

@@ -1,7 +1,7 @@
 -- What a refusal in three words stands for.
 use Rattle.std.specs.Prelude.{◌≡◌, ◌⊎◌}
-use Rattle.gst_item.specs.declared.fault.ElementFault.{ElementFault}
-use Rattle.gst_item.specs.declared.fault.ElementFault.TheVariants as elements
+use Rattle.flow_model.specs.declared.fault.ElementFault.{ElementFault}
+use Rattle.flow_model.specs.declared.fault.ElementFault.TheVariants as elements
 use Rattle.net_model.specs.declared.refusal.Refusal.{Refusal}
 use Rattle.net_model.specs.declared.refusal.Refusal.TheVariants.{Fault, Unwritten}
 use Rattle.net_model.specs.declared.refusal.Why.{Why}

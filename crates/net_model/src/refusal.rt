@@ -2,8 +2,9 @@
 ghost use Rattle.std.specs.Prelude.{◌≡◌};
 ghost use Rattle.net_model.specs.declared.refusal.Refusal.TheVariants.{Unwritten as UnwrittenBy};
 
-use gst_caps::{Caps, Fixed};
-use gst_item::{ElementFault, StreamKind};
+use flow_model::{ElementFault, StreamKind};
+use gst_caps::Caps;
+use gst_value::Fixed;
 use std::alloc::Global;
 use std::marker::Model;
 

@@ -1,5 +1,5 @@
 -- Each element that a task names is one of it.
-use Rattle.std.proofs.Common.{◌≡◌, ◌&&◌, ℕ, zero, suc, Bool, true, false, List, [], ◌∷◌, map, Some, refl, sym, subst}
+use Rattle.std.proofs.Common.{◌≡◌, ℕ, zero, suc, true, List, [], ◌∷◌, map, Some, refl, sym, subst}
 use Rattle.std.specs.Prelude.{slice_get, Result, Ok, Err, IfOk, IfErr, IsErrAnd, OnOk}
 use Rattle.net_model.specs.declared.element.TaskElement as elements
 use Rattle.net_model.specs.declared.source.TaskSource as sources
@@ -7,15 +7,7 @@ use Rattle.task_pads.specs.Pads.{pad_shape}
 use Rattle.task_parts.specs.declared.part.Part.{Part}
 use Rattle.task_parts.specs.declared.head.Head.{Head}
 use Rattle.task_parts.specs.Shape.{PartShape, part_shape, head_shape, shape_of, pads_within, all_within, head_within, is_closed}
-use Rattle.task_pads.proofs.Lists.{some_same}
-
-and_left : (a b : Bool) → a && b ≡ true → a ≡ true
-and_left true b q = refl
-and_left false b q = absurd cc
-
-and_right : (a b : Bool) → a && b ≡ true → b ≡ true
-and_right true b q = q
-and_right false b q = absurd cc
+use Rattle.gst_value.proofs.Basics.{and_left, and_right, some_same}
 
 within_at : {E O : Type 0} {e : elements.Ghosts E} (all : List PartShape) (parts : List (Part E O e)) (k : ℕ) (part : Part E O e) → all_within all (map part_shape parts) ≡ true → slice_get parts k ≡ Some part → pads_within all (map pad_shape part.pads.items) ≡ true
 within_at all [] k part q at = absurd cc

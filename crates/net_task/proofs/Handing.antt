@@ -22,12 +22,12 @@ use Rattle.task_parts.specs.Part.{PadSet, PartGave, waits_at}
 use Rattle.task_parts.specs.Moved.{PartSet, HandedOn}
 use Rattle.net_task.specs.Ties.{LeadsAs, HeadTied, AreTied, Stands, nothing_lost}
 use Rattle.net_task.specs.Moves.{passes, passing}
-use Rattle.task_pads.proofs.Lists.{some_same}
 use Rattle.task_parts.proofs.Lists.{map_back, set_at}
 use Rattle.net_task.proofs.Linked.{same_goes, crossed_rest}
 use Rattle.net_task.proofs.Tied.{IsNotFed, part_number, set_part_shape, parts_set_shape}
 use Rattle.net_task.proofs.Fed.{now, fed_tied, fed_answers, out_now}
 use Rattle.net_task.proofs.Passing.{MovesOn, sent_inside, pad_twice, part_twice, is_set, is_pad_set, port_here, try_crosses, waited_at}
+use Rattle.gst_value.proofs.Basics.{some_same}
 
 -- values at the same place of lists of the same values
 pub shape_at : {A B : Type 0} (f : A → B) (xs ys : List A) → map f ys ≡ map f xs → (k : ℕ) (x y : A) → slice_get xs k ≡ Some x → slice_get ys k ≡ Some y → f y ≡ f x

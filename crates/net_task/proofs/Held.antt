@@ -25,8 +25,9 @@ use Rattle.net_task.specs.Frame.{PartFrame, Room, Wire, WireAt, frame_in, part_f
 use Rattle.net_task.specs.Ready.{LeadsInto}
 use Rattle.net_task.specs.Ties.{PadLinked}
 use Rattle.net_task.specs.Reasons.{PadHolds}
-use Rattle.task_pads.proofs.Lists.{map_set, some_same}
+use Rattle.task_pads.proofs.Lists.{map_set}
 use Rattle.task_parts.proofs.Lists.{map_get}
+use Rattle.gst_value.proofs.Basics.{some_same}
 
 -- all from the place of its lane on went into a pad's lane
 went : {O L : Type 0} (o : outlets.Ghosts O L) (b : Behind O) (lane element pad from : ℕ) (h : List Item) → goes b ≡ over lane element pad from → SentIn o b h → WentIn o b (drop from h)

@@ -2,7 +2,7 @@
 use Rattle.std.proofs.Common.{◌≡◌, ◌+◌, ℕ, zero, suc, List, [], ◌∷◌, length, map, Some, refl, sym, ap, ◌∙◌, arith}
 use Rattle.std.specs.Prelude.{slice_get, slice_set, sum_by}
 use Rattle.std.proofs.lemmas.List.Sums.{sum_by-cons}
-use Rattle.task_pads.proofs.Lists.{some_same}
+use Rattle.gst_value.proofs.Basics.{some_same}
 
 pub record Was {A B : Type 0} (f : A → B) (xs : List A) (k : ℕ) (z : B) : Type 0 where
   pub item : A

@@ -26,12 +26,13 @@ use Rattle.task_parts.specs.Part.{PadSet, PartGave, PartFell, waits_at}
 use Rattle.task_parts.specs.Moved.{PartSet, HandedBack}
 use Rattle.net_task.specs.Ties.{LeadsAs, PadLinked, PortTied, PartsTied, AreTied, Stands, nothing_lost}
 use Rattle.net_task.specs.Failed.{StandsOrFell, Left, Refuses, at_pad, by_pad, without_first}
-use Rattle.task_pads.proofs.Lists.{some_same, set_there}
+use Rattle.task_pads.proofs.Lists.{set_there}
 use Rattle.task_parts.proofs.Lists.{set_at}
 use Rattle.net_task.proofs.Linked.{same_number, same_goes, crossed_rest}
 use Rattle.net_task.proofs.Tied.{set_part_shape, parts_set_shape, parts_set, part_known, part_pad, part_fell, part_at, head_at}
 use Rattle.net_task.proofs.Passing.{sent_inside, pad_twice, part_twice, is_set, stands_set, try_crosses, waited_at}
 use Rattle.net_task.proofs.Handing.{TakenFrom, first_same, taken_from, found_number, leads_here}
+use Rattle.gst_value.proofs.Basics.{some_same}
 
 -- An element as it is behind a refusal by one of its task: it is as it was, or it is the one that refused, with the same pads.
 pub record SamePads {E O : Type 0} {e : elements.Ghosts E} (part again : Part E O e) : Type 0 where

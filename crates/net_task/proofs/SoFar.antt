@@ -37,11 +37,12 @@ use Rattle.net_task.specs.Ready.{AreReady, IsReady, KeepsLanes}
 use Rattle.net_task.specs.Reasons.{IsBlocked, IsFirst, OneHolds, of_part}
 use Rattle.net_task.specs.Ties.{AreTied, Stands, Ties, nothing_lost}
 use Rattle.net_task.specs.Tries.{IsAtPort, IsFirstOf, IsOfAny, IsOfPart, PadMoves, PadsTell, SettledAt, Spends, StaysSettled, TableStays, TaskFails, TaskTries, TriedAs}
-use Rattle.task_pads.proofs.Lists.{set_there, some_at, some_same}
+use Rattle.task_pads.proofs.Lists.{set_there, some_at}
 use Rattle.task_parts.proofs.Lists.{map_get}
 use Rattle.net_task.proofs.GoingOn.{keeps_same}
 use Rattle.net_task.proofs.Places.{unmapped}
 use Rattle.net_task.proofs.Asking.{settled, settled_frame, settled_left, settled_ready}
+use Rattle.gst_value.proofs.Basics.{some_same}
 
 -- of two reasons the one that is told is one of both
 pub prefers : (P : Step → Type 0) (first second : Step) → P first → P second → P (preferred first second)
@@ -129,11 +130,6 @@ pub spends_less : (before after : ℕ) (answer : Tried) → Spends before after 
 spends_less before after tried.Moved l = omega (arith, l)
 spends_less before after tried.Idle l = l
 spends_less before after (tried.Stuck step) l = l
-
-pub spends_then : (before mid after : ℕ) (answer : Tried) → mid ≤ before → Spends mid after answer → Spends before after answer
-spends_then before mid after tried.Moved l m = omega (arith, l, m)
-spends_then before mid after tried.Idle l m = omega (arith, l, m)
-spends_then before mid after (tried.Stuck step) l m = omega (arith, l, m)
 
 -- the pads of an element below a port, and those of the elements before a place
 abbrev pub WasBelow : TaskFrame → ℕ → ℕ → Wire → Type 0

@@ -199,13 +199,6 @@ module _ {S E I O L : Type 0} {s : sources.Ghosts S} {e : elements.Ghosts E} {i 
   stuck_why tells old new m (steps.AtProbe command) h = h
   stuck_why tells old new m steps.Ended h = inr h
 
-pub stuck_burns : (before after : ℕ) (step : Step) → step ≢ steps.Moved → after ≤ before → Burns before after step
-stuck_burns before after steps.Moved n l = absurd (n refl)
-stuck_burns before after (steps.NeedsItem lane) n l = l
-stuck_burns before after (steps.NeedsRoom lane) n l = l
-stuck_burns before after (steps.AtProbe command) n l = l
-stuck_burns before after steps.Ended n l = l
-
 pub burns_then : (before mid after : ℕ) (step : Step) → mid ≤ before → Burns mid after step → Burns before after step
 burns_then before mid after steps.Moved l k = omega (arith, l, k)
 burns_then before mid after (steps.NeedsItem lane) l k = omega (arith, l, k)

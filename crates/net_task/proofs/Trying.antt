@@ -51,7 +51,7 @@ use Rattle.net_task.specs.Failed.{Causes, FailsAs, at_limit, at_pad, by_element,
 use Rattle.net_model.specs.Failures.{IsWriteCause}
 use Rattle.task_pads.specs.Crossing.{WentAway}
 use Rattle.net_task.specs.Tries.{CrossesAt, IsAtPort, PadFails, SettledAt, Spends, StaysSettled, TableStays, TriedAs}
-use Rattle.task_pads.proofs.Lists.{set_there, some_same}
+use Rattle.task_pads.proofs.Lists.{set_there}
 use Rattle.task_parts.proofs.Lists.{each_set, map_get, set_at}
 use Rattle.net_task.proofs.Places.{sum_set}
 use Rattle.net_task.proofs.Tied.{parts_set_shape, set_part_shape}
@@ -61,6 +61,7 @@ use Rattle.net_task.proofs.Linked.{same_number}
 use Rattle.net_task.proofs.Passing.{MovesOn, gone_act, gone_at, gone_given, gone_move, is_set, port_here, tied_here, try_crosses, try_stays, waited_at}
 use Rattle.net_task.proofs.Handing.{found_number, handed_on}
 use Rattle.net_task.proofs.Refusing.{handed_back}
+use Rattle.gst_value.proofs.Basics.{some_same}
 
 -- what a call of a trait's law gives: the count of an outlet is the length of what was sent
 abbrev pub Counts : {O L : Type 0} → outlets.Ghosts O L → Type 0

@@ -1,7 +1,7 @@
 -- Lists of calls for the sink pads of an element, where one of them is changed.
 use Rattle.std.proofs.Common.{◌≡◌, ℕ, zero, suc, Bool, true, false, if◌then◌else◌, List, [], ◌∷◌, ◌++◌, length, drop, refl, sym, ap, ◌∙◌, arith}
 use Rattle.flow_model.specs.Item.{Item, is_flush_stop}
-use Rattle.flow_model.specs.Call.{Call, Feed, Act, feeds}
+use Rattle.flow_model.specs.Call.{Call, Feed, Act}
 use Rattle.gst_item.specs.Sticky.{has_flush_stop}
 use Rattle.net_model.specs.Split.{NoneAt, push_calls, front_calls}
 use Rattle.net_model.specs.Takes.{InSection, flush_stops}
@@ -107,10 +107,6 @@ first_calm zero (cs ∷ css) x calls s h = go (is_flush_stop x) (sym (ap flush_s
     go true e = absurd (omega arith)
     go false e = refl
 first_calm (suc i) (cs ∷ css) x calls s h = first_calm i css x calls s.1 h
-
-pub feeds_push : (xs : List Item) (x : Item) → feeds (xs ++ x ∷ []) ≡ feeds xs ++ Feed x ∷ []
-feeds_push [] x = refl
-feeds_push (y ∷ xs) x = ap (λ cs. Feed y ∷ cs) (feeds_push xs x)
 
 -- no item of such a list is FLUSH_STOP
 pub calm_item : (front : List Item) (x : Item) (rest xs : List Item) → xs ≡ front ++ x ∷ rest → has_flush_stop xs ≡ false → is_flush_stop x ≡ false

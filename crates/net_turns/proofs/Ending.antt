@@ -24,7 +24,7 @@ use Rattle.net_turns.specs.Ends.{AreLines, NothingLeft}
 use Rattle.net_turns.specs.Net.{HasElement, part, source, IsFed, ListAt, SendsInto}
 use Rattle.net_turns.specs.Rests.{HeadEnded, HeadLacks, IsHeldUp, NetRests, TaskRests, ended, lacking, held_up}
 use Rattle.net_turns.proofs.Behind.{feeds_nil, gave_last, held_last, list_same, none_behind_eos}
-use Rattle.net_turns.proofs.Places.{none_some, some_same}
+use Rattle.gst_value.proofs.Basics.{none_some, some_same}
 
 -- a bound of the ranks of the first tasks
 bound_of : (rank : ℕ → ℕ) (n : ℕ) → (most : ℕ) × ((k : ℕ) → k < n → rank k ≤ most)

@@ -17,7 +17,6 @@ use Rattle.inlet_row.specs.Row.{AreApart, ForLanes, RowIn, feeds_of}
 use Rattle.task_pads.specs.declared.pad.Pad.{Pad}
 use Rattle.task_pads.specs.Behind.{Goes, inside}
 use Rattle.task_pads.specs.Pads.{goes_of, number_of}
-use Rattle.task_pads.proofs.Lists.{some_same}
 use Rattle.task_parts.specs.declared.head.InletHead.{InletHead}
 use Rattle.task_parts.specs.declared.head.Head.{Head}
 use Rattle.task_parts.specs.declared.head.Head.TheVariants.{Source, Inlets}
@@ -30,6 +29,7 @@ use Rattle.net_turns.specs.Net.{AreWired, HasRow, IsFed, NetStands, Owns, SendsI
 use Rattle.net_turns.proofs.Owners.{IsPadOf, closed_head, closed_pad, number_has, of_part, of_source, source_pad, wire_pad}
 use Rattle.net_turns.proofs.Others.{pad_tied}
 use Rattle.net_turns.proofs.Rows.{not_last}
+use Rattle.gst_value.proofs.Basics.{some_same}
 
 -- A pad leads to one sink pad.
 at_nowhere : (p k : ℕ) (sss : List (List Span)) → LinksAt p k sss → LinksNowhere p sss → ⊥

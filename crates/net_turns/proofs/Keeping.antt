@@ -20,7 +20,6 @@ use Rattle.task_pads.specs.declared.pad.Behind.{Behind}
 use Rattle.task_pads.specs.declared.pad.Behind.TheVariants as behinds
 use Rattle.task_pads.specs.Behind.{EndReady, LaneEnd, end_in, goes, inside, over}
 use Rattle.task_pads.specs.Pads.{end_of, goes_of, number_of}
-use Rattle.task_pads.proofs.Lists.{some_same}
 use Rattle.task_parts.specs.declared.head.InletHead.{InletHead}
 use Rattle.task_parts.specs.declared.head.Head.{Head}
 use Rattle.task_parts.specs.declared.head.Head.TheVariants.{Source, Inlets}
@@ -33,6 +32,7 @@ use Rattle.net_turns.proofs.Calls.{calm_item}
 use Rattle.net_turns.proofs.Owners.{IsPadOf, of_part, of_source, pad_wire, source_pad}
 use Rattle.net_turns.proofs.Others.{moved_to, tied_still}
 use Rattle.net_turns.proofs.Wired.{IsOther, fed_back, fed_forth, owns_forth}
+use Rattle.gst_value.proofs.Basics.{some_same}
 
 -- what is so of all values of a function stays so where another such value is put
 pub put_each : {A : Type 0} (P : A → Type 0) (n : ℕ) (now : A) (f : ℕ → A) → P now → (k : ℕ) → P (f k) → P (put_at n now f k)

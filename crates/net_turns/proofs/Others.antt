@@ -13,7 +13,6 @@ use Rattle.inlet_row.specs.declared.row.InletRow.{InletRow}
 use Rattle.task_pads.specs.declared.pad.Pad.{Pad}
 use Rattle.task_pads.specs.Behind.{Goes, nowhere, inside, over}
 use Rattle.task_pads.specs.Pads.{HasCrossed, SentOver, goes_of, number_of, waiting_of}
-use Rattle.task_pads.proofs.Lists.{some_same}
 use Rattle.task_parts.specs.declared.part.Part.{Part}
 use Rattle.task_parts.specs.declared.head.SourceHead.{SourceHead}
 use Rattle.task_parts.specs.declared.head.Head.{Head}
@@ -24,6 +23,7 @@ use Rattle.net_task.specs.Frame.{by_source, frame_in, wire_of}
 use Rattle.net_task.specs.Ties.{AreTied, HeadTied, LeadsAs, PadLinked, PartTied, PortTied, RowTied, SourceTied, Stands, TookAt, nothing_lost}
 use Rattle.net_turns.specs.Net.{HasElement, source as has_source}
 use Rattle.net_turns.proofs.Owners.{IsPadOf, closed_head, number_has, of_part, of_source, part_has, source_pad}
+use Rattle.gst_value.proofs.Basics.{some_same}
 
 -- a moment that is another at its elements and pads, but not in its graph
 abbrev pub moved_to : Moment → (ℕ → List Item) → (ℕ → List (List Call)) → (ℕ → List (List Call)) → (ℕ → List Item) → Moment

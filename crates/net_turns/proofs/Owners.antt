@@ -1,5 +1,5 @@
 -- The pads and the elements of a task, by its frame.
-use Rattle.std.proofs.Common.{◌≡◌, ◌⊎◌, ℕ, zero, suc, Bool, true, false, eqb, ◌||◌, ◌&&◌, List, [], ◌∷◌, map, Option, Some, None, refl, sym, ap, ◌∙◌, subst, inl, inr}
+use Rattle.std.proofs.Common.{◌≡◌, ◌⊎◌, ℕ, zero, suc, Bool, true, false, eqb, ◌||◌, List, [], ◌∷◌, map, Option, Some, None, refl, sym, ap, ◌∙◌, subst, inl, inr}
 use Rattle.std.specs.Prelude.{slice_get}
 use Rattle.std.proofs.lemmas.Bool.Decides.{eqb_tells}
 use Rattle.lane_core.specs.declared.ends.Outlet as outlets
@@ -8,7 +8,6 @@ use Rattle.net_model.specs.declared.source.TaskSource as sources
 use Rattle.task_pads.specs.declared.pad.Pad.{Pad}
 use Rattle.task_pads.specs.Behind.{Goes, inside}
 use Rattle.task_pads.specs.Pads.{PadShape, goes_of, pad_shape}
-use Rattle.task_pads.proofs.Lists.{some_same}
 use Rattle.task_parts.specs.declared.part.Part.{Part}
 use Rattle.task_parts.specs.declared.head.InletHead.{InletHead}
 use Rattle.task_parts.specs.declared.head.Head.{Head}
@@ -17,18 +16,7 @@ use Rattle.task_parts.specs.Shape.{PartShape, all_within, goes_within, has_numbe
 use Rattle.task_parts.proofs.Lists.{get_map, map_get}
 use Rattle.net_task.specs.Frame.{PartFrame, Wire, IsWire, of_part as wire_part, of_head as wire_head, frame_in, part_frame, wire_of}
 use Rattle.net_turns.specs.Net.{HasElement, part as has_part}
-
-and_left : (a b : Bool) → (a && b) ≡ true → a ≡ true
-and_left true b e = refl
-and_left false b e = e
-
-and_right : (a b : Bool) → (a && b) ≡ true → b ≡ true
-and_right true b e = e
-and_right false b e = absurd cc
-
-or_one : (a b : Bool) → (a || b) ≡ true → (a ≡ true) ⊎ (b ≡ true)
-or_one true b e = inl refl
-or_one false b e = inr e
+use Rattle.gst_value.proofs.Basics.{and_left, and_right, some_same}
 
 module _ {E O : Type 0} {e : elements.Ghosts E} where
   -- an element of the number is among these

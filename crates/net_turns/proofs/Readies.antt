@@ -17,10 +17,11 @@ use Rattle.net_task.specs.Frame.{Room, TaskFrame, Wire, by_inlets, frame_of, hea
 use Rattle.net_task.specs.Ready.{IntoLane, IsReady, RowKept, RowsGoOn}
 use Rattle.net_turns.specs.Net.{LaneOut, NetReady, SendsInto}
 use Rattle.net_turns.specs.Turns.{IsStepped}
-use Rattle.net_turns.proofs.Places.{some_before, some_same}
+use Rattle.net_turns.proofs.Places.{some_before}
 use Rattle.net_turns.proofs.Owners.{wire_pad}
 use Rattle.net_turns.proofs.Keeping.{lane_out, ready_still}
 use Rattle.net_turns.proofs.Wired.{BecameRow, HeadsGo, IsOther, kept_row, wired_still}
+use Rattle.gst_value.proofs.Basics.{some_same}
 
 number_same : {n k a b : ℕ} → by_inlets n a ≡ by_inlets k b → n ≡ k
 number_same e = cc

@@ -26,9 +26,10 @@ use Rattle.task_parts.specs.Found.{IsAt}
 use Rattle.net_task.specs.Ties.{PartsTied, Stands}
 use Rattle.net_turns.specs.Net.{ListAt, RowStands}
 use Rattle.net_turns.specs.Rests.{HeadEnded, HeadLacks, Wants}
-use Rattle.net_turns.proofs.Places.{some_same, set_at, set_there}
+use Rattle.net_turns.proofs.Places.{set_at, set_there}
 use Rattle.net_turns.proofs.Refused.{RowKeeps, keeps_same, moves_behind, moves_within}
 use Rattle.net_turns.proofs.Rested.{HeadKeeps}
+use Rattle.gst_value.proofs.Basics.{some_same}
 
 module _ {I L O : Type 0} (i : inlets.Ghosts I L O) (t : List Lane) (tells : Option (List Lane)) (told : tells ≡ Some t) where
   -- a row that was asked for an item stood for what it stands for

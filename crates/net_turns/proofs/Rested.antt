@@ -14,8 +14,9 @@ use Rattle.task_parts.specs.declared.head.InletHead.{InletHead}
 use Rattle.net_task.specs.declared.task.Task.{Task}
 use Rattle.net_task.specs.Frame.{by_source, by_inlets, TaskFrame, Wire, frame_of, head_frame}
 use Rattle.net_turns.specs.Net.{AreWired, HasElement, HasRow, IsFed, LaneOut, Owns, SendsInto}
-use Rattle.net_turns.proofs.Places.{some_before, some_same}
+use Rattle.net_turns.proofs.Places.{some_before}
 use Rattle.net_turns.proofs.Refused.{RowKeeps, keeps_same, kept_apart}
+use Rattle.gst_value.proofs.Basics.{some_same}
 
 source_not : {n k rows : ℕ} {file : Option (Option (List ℕ))} {wire : Wire} → by_source n file wire ≡ by_inlets k rows → ⊥
 source_not e = cc

@@ -21,10 +21,10 @@ use Rattle.net_task.specs.Ties.{Ties}
 use Rattle.net_turns.specs.Net.{NetStands}
 use Rattle.net_turns.specs.Rests.{NetRests, TaskRests, ended, lacking, held_up, has_moved}
 use Rattle.net_turns.specs.Turns.{TaskStepped}
-use Rattle.net_turns.proofs.Places.{some_same}
 use Rattle.net_turns.proofs.Rested.{HeadKeeps, fed_back, fed_on, owns_on, row_back, sends_back, wired_kept}
 use Rattle.net_turns.proofs.Reasoned.{HeadStands, gave_all, heads_kept, heads_lacking, lacks}
 use Rattle.net_turns.proofs.Reasoned as reasoned
+use Rattle.gst_value.proofs.Basics.{some_same}
 
 module _ {S I O L : Type 0} {s : sources.Ghosts S} (i : inlets.Ghosts I L O) where
   apart_of : (t : List Lane) (tells : Option (List Lane)) (told : tells ≡ Some t) (frame : TaskFrame) (head : Head S I O s) → HeadApart i frame head → reasoned.HeadApart s i t tells told head

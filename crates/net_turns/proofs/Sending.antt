@@ -17,7 +17,6 @@ use Rattle.task_pads.specs.declared.pad.Behind.{Behind}
 use Rattle.task_pads.specs.declared.pad.Behind.TheVariants as behinds
 use Rattle.task_pads.specs.Behind.{Goes, SentIn, goes, inside, nowhere, over}
 use Rattle.task_pads.specs.Pads.{end_of, goes_of, number_of}
-use Rattle.task_pads.proofs.Lists.{some_same}
 use Rattle.net_task.specs.declared.task.Task.{Task}
 use Rattle.net_task.specs.Frame.{TaskFrame, Wire, IsWire, frame_of, wire_of}
 use Rattle.net_task.specs.Moves.{PutInto}
@@ -30,6 +29,7 @@ use Rattle.net_turns.proofs.Facts.{leads_once, row_once, sends_leads, wire_owned
 use Rattle.net_turns.proofs.Keeping.{lane_out, room_end}
 use Rattle.net_turns.proofs.Lanes.{ends_once}
 use Rattle.net_turns.proofs.Wired.{IsOther}
+use Rattle.gst_value.proofs.Basics.{some_same}
 
 -- the place of the pad at which a lane was made
 abbrev from_of : Goes → ℕ

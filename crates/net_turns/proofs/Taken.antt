@@ -21,7 +21,7 @@ use Rattle.inlet_row.specs.declared.row.InletRow.{InletRow}
 use Rattle.inlet_row.specs.Row.{ForLanes, RowBetween, feeds_of, row_holds}
 use Rattle.inlet_row.specs.Take.{HoldsAfter, KeepsLanes}
 use Rattle.inlet_row.proofs.Losing.{for_map}
-use Rattle.task_pads.proofs.Lists.{set_there, some_same}
+use Rattle.task_pads.proofs.Lists.{set_there}
 use Rattle.task_parts.specs.declared.head.InletHead.{InletHead}
 use Rattle.task_parts.specs.declared.head.Head.{Head}
 use Rattle.task_parts.specs.declared.head.Head.TheVariants.{Source, Inlets}
@@ -32,12 +32,14 @@ use Rattle.net_task.specs.Moves.{Answers, TookFrom}
 use Rattle.net_task.specs.Ready.{IsReady}
 use Rattle.net_task.specs.Ties.{Ties}
 use Rattle.net_turns.specs.Net.{HasRow, IsFed, ListAt, NetGoes, NetStands, Owns, RowStands}
-use Rattle.net_turns.proofs.Calls.{feeds_push, first_calm, gone_else, gone_front, gone_here, gone_length, gone_none, gone_section, push_else, push_here, push_section, without_first}
+use Rattle.net_turns.proofs.Calls.{first_calm, gone_else, gone_front, gone_here, gone_length, gone_none, gone_section, push_else, push_here, push_section, without_first}
 use Rattle.net_turns.proofs.Others.{tied_still}
 use Rattle.net_turns.proofs.Lanes.{other_between, other_holds}
 use Rattle.net_turns.proofs.Facts.{row_apart, row_once, row_owned, rows_apart}
 use Rattle.net_turns.proofs.Keeping.{each_now, each_task, loose_now, others_tied, put_each, put_or, ready_still, unfed_now}
 use Rattle.net_turns.proofs.Wired.{HeadsGo, IsOther, asked_goes, sends_back, wired_still}
+use Rattle.gst_value.proofs.Basics.{some_same}
+use Rattle.flow_model.proofs.Calls.{feeds_push}
 
 -- An item was the next of a row of a head that is fed from inlets.
 pub record TookRow {S I O L : Type 0} {s : sources.Ghosts S} (i : inlets.Ghosts I L O) (old new : Head S I O s) (n port : ℕ) (x : model.Item) (tells tells' : Option (List Lane)) : Type 0 where

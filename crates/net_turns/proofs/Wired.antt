@@ -13,7 +13,7 @@ use Rattle.inlet_row.specs.declared.row.InletRow.{InletRow}
 use Rattle.inlet_row.specs.Row.{ForLanes, feeds_of}
 use Rattle.inlet_row.specs.Take.{HasPlace, Moves}
 use Rattle.inlet_row.proofs.Losing.{for_map}
-use Rattle.task_pads.proofs.Lists.{set_length, set_there, some_same}
+use Rattle.task_pads.proofs.Lists.{set_length, set_there}
 use Rattle.task_parts.specs.declared.head.InletHead.{InletHead}
 use Rattle.task_parts.specs.declared.head.Head.{Head}
 use Rattle.task_parts.specs.declared.head.Head.TheVariants.{Source, Inlets}
@@ -26,6 +26,7 @@ use Rattle.net_task.specs.Ready.{EndsWith, RowKept}
 use Rattle.net_turns.specs.Net.{AreWired, HasElement, HasRow, IsFed, LaneOut, Owns, SendsInto}
 use Rattle.net_turns.proofs.Lanes.{ends_still, places_still}
 use Rattle.net_turns.proofs.Refused.{at_place, map_lanes, within_more}
+use Rattle.gst_value.proofs.Basics.{some_same}
 
 module _ {I L O : Type 0} (i : inlets.Ghosts I L O) where
   -- a row is as it was, or gave an item, or has no lane that it had not and the last that it had

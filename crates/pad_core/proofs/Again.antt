@@ -1,8 +1,8 @@
 -- What sticky events leave in force: themselves.
 use Rattle.std.proofs.Common.{◌≡◌, ℕ, Bool, true, false, if◌then◌else◌, List, [], ◌∷◌, ◌++◌, map, refl, sym, ap, ◌∙◌, Option, None, Some, ◌⊎◌, inl, inr, IsTrue, Result, Ok, Err, IfOk}
-use Rattle.gst_caps.specs.Description.{Description}
-use Rattle.gst_caps.specs.declared.value.One.{One}
-use Rattle.gst_caps.specs.declared.memory.OutOfMemory.{OutOfMemory}
+use Rattle.gst_value.specs.Description.{Description}
+use Rattle.gst_value.specs.declared.one.One.{One}
+use Rattle.gst_value.specs.declared.memory.OutOfMemory.{OutOfMemory}
 use Rattle.gst_time.specs.declared.segment.Segment.{Segment}
 use Rattle.gst_item.proofs.Kept.{in_force_push, next_in_force}
 use Rattle.gst_item.specs.Item.{is_stream_start, is_caps, is_segment, is_tag}

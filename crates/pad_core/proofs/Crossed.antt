@@ -3,7 +3,7 @@ use Rattle.std.proofs.Common.{◌≡◌, ℕ, ◌+◌, Bool, true, false, if◌t
 use Rattle.std.proofs.lemmas.List.{length_push}
 use Rattle.std.proofs.lemmas.List.Sums.{sum_by_push}
 use Rattle.gst_item.proofs.Kept.{in_force_push, buffer_passes, gap_passes}
-use Rattle.gst_caps.specs.declared.memory.OutOfMemory.{OutOfMemory}
+use Rattle.gst_value.specs.declared.memory.OutOfMemory.{OutOfMemory}
 use Rattle.gst_item.specs.Sticky.{InForce, in_force, stickies}
 use Rattle.pad_core.specs.Item.{Item, Buf, Ev, Buffer, Event, StreamStart, NewCaps, NewSegment, Tag, Gap, FlushStop, Eos, is_eos, is_flush_stop, is_buffer, is_sticky, buffers}
 use Rattle.pad_core.specs.Counts.{IsStickyKept, AreSticky}

@@ -9,8 +9,8 @@ use crate::crossing::Crossing;
 use crate::kind::{is_flush_stop, is_sticky};
 use crate::last::{Last, put, take};
 use crate::probe::Probe;
-use gst_caps::{List, OutOfMemory};
 use gst_item::{Event, Item, Sticky};
+use gst_value::{List, OutOfMemory};
 use std::alloc::Global;
 use std::collections::VecDeque;
 

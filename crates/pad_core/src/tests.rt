@@ -3,54 +3,10 @@ ghost use Rattle.std.specs.Prelude.{◌≡◌, ◌<◌, ◌^◌, List};
 ghost use Rattle.pad_core.specs.SrcPad.{crossed_of};
 
 use super::*;
-use gst_caps::{Fixed, Text};
-use gst_item::{Body, Buffer, Event, Flow, Item};
-use gst_time::{Format, Segment};
+use gst_item::{Event, Flow, Item};
+use item_letters::{is_flush, item_of, letter_of_event};
 use std::alloc::Global;
 use std::test::Fail;
-
-/// The item of a letter, and none where the letter stands for no item.
-fn item_of(alloc: Global, letter: char) -> Result<Option<Item>, Fail> {
-    let event = match letter {
-        'S' => Event::StreamStart { id: 1 },
-        'C' => Event::Caps(Fixed::new(alloc, "audio/x-raw")?),
-        'G' => Event::Segment(Segment::new(Format::Bytes)),
-        'T' => Event::Tag {
-            title: Text::from_str(alloc, "a title")?,
-        },
-        'P' => Event::Gap {
-            pts: 0,
-            duration: 5,
-        },
-        'F' => Event::FlushStop { number: 1 },
-        'E' => Event::Eos,
-        'B' | 'b' => return Ok(Some(Item::Buffer(buffer(alloc)?))),
-        _ => return Ok(None),
-    };
-    Ok(Some(Item::Event(event)))
-}
-
-fn buffer(alloc: Global) -> Result<Buffer, Fail> {
-    Ok(Buffer {
-        body: Body::from_vec(alloc, Vec::from_slice(alloc, b"abc")?)?,
-        pts: None,
-        duration: None,
-        offset: None,
-        discont: false,
-    })
-}
-
-/// The letter of a sticky event.
-fn letter_of(event: &Event) -> char {
-    match event {
-        Event::StreamStart { .. } => 'S',
-        Event::Caps(_) => 'C',
-        Event::Segment(_) => 'G',
-        Event::Tag { .. } => 'T',
-        Event::Eos => 'E',
-        Event::Gap { .. } | Event::FlushStop { .. } => '?',
-    }
-}
 
 /// The letter of an answer.
 fn answer_letter(answer: Crossing) -> char {
@@ -79,7 +35,7 @@ fn offer(
         pad.keep(alloc, event)?;
     }
     let answer = pad.cross(item, sibling);
-    if back && !matches!(item, Item::Event(Event::FlushStop { .. })) {
+    if back && !is_flush(item) {
         match answer {
             Crossing::Alone => pad.take_back(),
             Crossing::Go(_) => pad.take_back(),
@@ -90,41 +46,43 @@ fn offer(
 }
 
 /// Does to a pad what a letter stands for that is no item.
-fn control(pad: &mut SrcPad, sink: &mut SinkPad, letter: char) {
+fn control(pad: &mut SrcPad, sink: &mut SinkPad, letter: u8) {
     match letter {
-        'a' => pad.set_active(true),
-        'd' => pad.set_active(false),
-        'f' => pad.set_flushing(true),
-        'k' => pad.block(5, 1),
-        'n' => pad.unblock(),
-        'u' => {
+        b'A' => pad.set_active(true),
+        b'D' => pad.set_active(false),
+        b'F' => pad.set_flushing(true),
+        b'K' => pad.block(5, 1),
+        b'N' => pad.unblock(),
+        b'U' => {
             pad.unlink();
             sink.unlink();
         }
-        'l' => {
+        b'L' => {
             let _ = link(pad, sink, true);
         }
         _ => {}
     }
 }
 
+/// Whether a letter of a row stands for an item.
+fn is_item(letter: u8) -> bool {
+    matches!(letter, b'B' | b'a'..=b'z')
+}
+
 /// What a pad answers to the letters of a row.
 fn answers_of(alloc: Global, pad: &mut SrcPad, letters: &str) -> Result<String, Fail> {
     let mut sink = SinkPad::new(7, true);
     let mut answers = String::new(alloc);
-    let mut back = false;
-    for letter in letters.chars() {
-        match item_of(alloc, letter)? {
-            Some(item) if pad.crossed() < 1 << 41 => {
-                let answer = offer(alloc, pad, &item, letter == 'b', back)?;
-                answers.push(answer_letter(answer))?;
-                back = false;
-            }
-            _ => {
-                control(pad, &mut sink, letter);
-                back = letter == 't';
-            }
+    let mut before = b' ';
+    for letter in letters.bytes() {
+        if is_item(letter) && pad.crossed() < 1 << 41 {
+            let item = item_of(alloc, letter)?;
+            let answer = offer(alloc, pad, &item, before == b'S', before == b'T')?;
+            answers.push(answer_letter(answer))?;
+        } else {
+            control(pad, &mut sink, letter);
         }
+        before = letter;
     }
     Ok(answers)
 }
@@ -132,26 +90,26 @@ fn answers_of(alloc: Global, pad: &mut SrcPad, letters: &str) -> Result<String, 
 fn stickies_of(alloc: Global, pad: &SrcPad) -> Result<String, Fail> {
     let mut letters = String::from_str(alloc, "-")?;
     for event in pad.stickies(alloc)?.as_slice() {
-        letters.push(letter_of(event))?;
+        letters.push(char::from(letter_of_event(event)))?;
     }
     Ok(letters)
 }
 
-/// Upper letters (and `b`, where a sibling is linked) are items, `t` takes the next one back, the others are
+/// Small letters and `B` are items, `T` takes the next one back, `S` has a sibling linked at it, and the others are
 /// `control`. Then the answers, the numbers of items and of buffers, and the sticky events.
 #[test]
 fn rows_of_crossings(rt: HostRuntime) -> Result<(), Fail> {
     let alloc = rt.alloc();
     let rows = "B f 0 0 -
-aSGB aan 2 0 -SG
-aSb aa 2 1 -S
-alSGBEBFB ggggegg 6 2 -S
-alkBSBnB ggpg 3 2 -S
-alfBFB fgg 2 1 -
-alStBtEB gggg 2 1 -S
-alCGTStCE gggggg 5 0 -SCGTE
-alPdPaP gfg 2 0 -
-alSuSB gan 2 0 -S";
+AsgB aan 2 0 -sg
+AsSB aa 2 1 -s
+ALsgBeBfB ggggegg 6 2 -s
+ALKBsBNB ggpg 3 2 -s
+ALFBfB fgg 2 1 -
+ALsTBTeB gggg 2 1 -s
+ALrgtsTre gggggg 5 0 -srgte
+ALpDpAp gfg 2 0 -
+ALsUsB gan 2 0 -s";
     for row in rows.lines() {
         let mut parts = row.split(' ');
         let mut pad = SrcPad::new(3, false);

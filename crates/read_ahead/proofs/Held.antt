@@ -1,5 +1,5 @@
 -- What is given out of what is held.
-use Rattle.std.proofs.Common.{◌≡◌, ℕ, zero, suc, ◌+◌, ◌-◌, ◌≤◌, min, Bool, true, false, leb, leb-true, if◌then◌else◌, List, length, take, drop, refl, sym, ap, ◌∙◌, arith, length-take}
+use Rattle.std.proofs.Common.{◌≡◌, ℕ, zero, suc, ◌+◌, ◌-◌, ◌≤◌, min, Bool, true, false, leb, leb-true, if◌then◌else◌, List, length, take, drop, refl, sym, ap, ◌∙◌, arith}
 use Rattle.std.proofs.lemmas.List.{drop-drop, take-take, drop-take}
 
 -- where the bytes of a content from a start on are held, a part of them from a place on is a part of the content

@@ -2,8 +2,8 @@
 ghost use Rattle.std.specs.Prelude.{◌≡◌, ◌≤◌, ◌<◌, ◌-◌, if◌then◌else◌, leb, length, take, drop, min, IfOk, vec_len};
 ghost use Rattle.std.specs.Option.{ForSome};
 
-use gst_caps::OutOfMemory;
 use gst_outside::{Failed, Source};
+use gst_value::OutOfMemory;
 use std::alloc::Global;
 
 /// How many bytes are asked for at once, where a read has room for fewer.

@@ -1,5 +1,5 @@
 //! What is opened, and the ends that openings give.
-use gst_caps::Text;
+use gst_value::Text;
 use thiserror::Error;
 
 /// What an element asks for: a location that it reads, or one that it writes.

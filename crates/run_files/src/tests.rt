@@ -4,8 +4,8 @@ ghost use Rattle.run_files.specs.Ends.{AllOpened, known_end, known_ends};
 
 use super::*;
 use crate::closing::close_all;
-use gst_caps::Text;
 use gst_outside::{Files, MemFiles, Sink, Source};
+use gst_value::Text;
 use std::alloc::Global;
 use std::process::Abort;
 use std::test::Fail;

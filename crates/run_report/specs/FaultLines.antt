@@ -1,11 +1,11 @@
 -- The lines that tell which fault ended a run.
 use Rattle.std.specs.Prelude.{ℕ, ◌==◌, List, [], ◌++◌, Option, None, Some, codes, flat_map, if◌then◌else◌}
 use Rattle.std.specs.Fmt.{decimal, signed_decimal}
-use Rattle.gst_caps.specs.Description.{Description}
+use Rattle.gst_value.specs.Description.{Description}
 use Rattle.gst_caps.specs.declared.caps.Caps.{Caps}
-use Rattle.gst_caps.specs.declared.name.PadName.{PadName}
-use Rattle.gst_caps.specs.declared.value.One.{One}
-use Rattle.gst_item.specs.declared.fault.StreamKind.{StreamKind}
+use Rattle.gst_value.specs.declared.name.PadName.{PadName}
+use Rattle.gst_value.specs.declared.one.One.{One}
+use Rattle.flow_model.specs.declared.fault.StreamKind.{StreamKind}
 use Rattle.caps_text.specs.Printed.{caps_text, structure_text, typed_text}
 use Rattle.launch_text.specs.declared.fault.LineKind.{LineKind}
 use Rattle.pad_core.specs.Linking.{code_of}

@@ -1,7 +1,7 @@
 -- The words that stand for statuses, kinds of faults and reasons in a text.
 use Rattle.std.specs.Prelude.{ℕ, ◌==◌, List, if◌then◌else◌, codes}
-use Rattle.gst_item.specs.declared.fault.StreamKind.{StreamKind}
-use Rattle.gst_item.specs.declared.fault.StreamKind.TheVariants.{NotRiff, NotWave, NoFmt, BadFmt, TagUnknown, HeadTooLong, Short, SplitFrame, TooLarge}
+use Rattle.flow_model.specs.declared.fault.StreamKind.{StreamKind}
+use Rattle.flow_model.specs.declared.fault.StreamKind.TheVariants.{NotRiff, NotWave, NoFmt, BadFmt, TagUnknown, HeadTooLong, Short, SplitFrame, TooLarge}
 use Rattle.launch_text.specs.declared.fault.LineKind.{LineKind}
 use Rattle.launch_text.specs.declared.fault.LineKind.TheVariants.{EmptyLink, TrailingLink, Unclosed, BadRef, CapsEnd, Deep, Empty, BadName, TooLong}
 use Rattle.run_report.specs.declared.report.Fault.{Fault}

@@ -1,7 +1,7 @@
 -- Pads and places in a text.
 use Rattle.std.specs.Prelude.{ℕ, List, [], ◌∷◌, ◌++◌, codes}
 use Rattle.std.specs.Fmt.{decimal}
-use Rattle.gst_caps.specs.declared.name.PadName.{PadName}
+use Rattle.gst_value.specs.declared.name.PadName.{PadName}
 use Rattle.run_report.specs.declared.report.Place.{Place}
 
 abbrev pub newline : List ℕ

@@ -1,13 +1,13 @@
 -- Worked rows of the text of a report, each a case and its lines.
 use Rattle.std.specs.Prelude.{◌≡◌, ℕ, pos, true, false, List, [], ◌∷◌, ◌++◌, None, Some, codes, flat_map}
-use Rattle.gst_caps.specs.Description.{Description}
+use Rattle.gst_value.specs.Description.{Description}
 use Rattle.gst_caps.specs.declared.caps.Caps.{Caps}
 use Rattle.gst_caps.specs.declared.caps.Caps.TheVariants.{Of}
-use Rattle.gst_caps.specs.declared.name.PadName.{PadName}
-use Rattle.gst_caps.specs.declared.value.One.{One}
-use Rattle.gst_caps.specs.declared.value.One.TheVariants.{Int, Text as Word}
+use Rattle.gst_value.specs.declared.name.PadName.{PadName}
+use Rattle.gst_value.specs.declared.one.One.{One}
+use Rattle.gst_value.specs.declared.one.One.TheVariants.{Int, Text as Word}
 use Rattle.gst_caps.specs.declared.value.Value.TheVariants.{One as Single}
-use Rattle.gst_item.specs.declared.fault.StreamKind.TheVariants.{Short}
+use Rattle.flow_model.specs.declared.fault.StreamKind.TheVariants.{Short}
 use Rattle.launch_text.specs.declared.fault.LineKind.TheVariants.{TrailingLink}
 use Rattle.pad_core.specs.declared.linking.LinkReturn.TheVariants.{WasLinked}
 use Rattle.run_report.specs.Pads.{newline}

@@ -7,7 +7,7 @@ ghost use Rattle.run_report.specs.Pads.{place_text};
 
 use crate::names::reason_name;
 use crate::report::{Answer, Entry, PadCount, Place, Reason, Report, SinkCount};
-use gst_caps::{List, OutOfMemory};
+use gst_value::{List, OutOfMemory};
 use std::fmt::Write;
 
 /// Writes the lines of the commands, then those of the pads, then those of the sinks.

@@ -3,8 +3,8 @@ ghost use Rattle.std.specs.Prelude.{◌≡◌};
 ghost use Rattle.run_report.specs.Names.{line_kind_name, reason_name, refused_name, status_name, stream_kind_name, what_name};
 
 use crate::report::{Fault, Reason};
+use flow_model::StreamKind;
 use graph_core::What;
-use gst_item::StreamKind;
 use launch_text::LineKind;
 
 /// The name of a status. That of status 3 is told by the fault.

@@ -1,7 +1,8 @@
 //! The report of a run.
+use flow_model::StreamKind;
 use graph_core::What;
-use gst_caps::{Caps, Fixed, List, PadName, Text};
-use gst_item::StreamKind;
+use gst_caps::Caps;
+use gst_value::{Fixed, List, PadName, Text};
 use launch_text::LineKind;
 use pad_core::LinkReturn;
 

@@ -1,8 +1,8 @@
 //! Rows of reports' texts.
 use super::*;
 use caps_text::parse;
-use gst_caps::{Fixed, List, OutOfMemory, PadName, Text};
-use gst_item::StreamKind;
+use flow_model::StreamKind;
+use gst_value::{Fixed, List, OutOfMemory, PadName, Text};
 use launch_text::LineKind;
 use pad_core::LinkReturn;
 use std::alloc::Global;

@@ -8,7 +8,7 @@ use crate::counts::write_counts;
 use crate::faults::write_cause;
 use crate::names::status_name;
 use crate::report::{Fault, Report};
-use gst_caps::{OutOfMemory, Text};
+use gst_value::{OutOfMemory, Text};
 use std::alloc::Global;
 use std::fmt::Write;
 

@@ -1,11 +1,10 @@
 -- Characters of a word, with and without a backslash before them.
-use Rattle.std.proofs.Common.{◌≡◌, ◌≢◌, ◌==◌, ℕ, suc, ◌<◌, ◌≤◌, false, eqb, List, [], ◌∷◌, ◌++◌, length, get_or, inl, inr, refl, sym, ap, ◌∙◌, arith, append_assoc, append-nil}
+use Rattle.std.proofs.Common.{◌≡◌, ◌≢◌, ◌==◌, ℕ, suc, ◌<◌, ◌≤◌, false, eqb, List, [], ◌∷◌, ◌++◌, length, get_or, inl, inr, refl, sym, ap, arith, append_assoc, append-nil}
 use Rattle.std.specs.Char.{encode_utf8}
 use Rattle.std.proofs.lemmas.Bool.{cases_lt}
 use Rattle.std.proofs.lemmas.Bool.Decides.{eqb_tells}
-use Rattle.std.proofs.lemmas.List.Concat.{flat_map-append}
 use Rattle.std.proofs.lemmas.Str.{encode_ascii, inside_one}
-use Rattle.run_words.specs.Line.{joined, marked, with_backslashes, with_more}
+use Rattle.run_words.specs.Line.{joined, with_backslashes, with_more}
 
 -- a byte from 128 on
 abbrev AllHigh : List ℕ → Type 0
@@ -44,10 +43,6 @@ space_put c into mid made h e f =
 -- and another character as it is
 pub plain_put : (c : ℕ) (into mid made : List ℕ) → c ≢ 32 → mid ≡ into → made ≡ mid ++ encode_utf8 c → made ≡ into ++ with_backslashes (encode_utf8 c)
 plain_put c into mid made h e f = rw (f, e) (ap (λ l. into ++ l) (sym (plain_one c (apart c 32 h))))
-
--- one character more
-pub marks_step : (c : ℕ) (into made x y : List ℕ) → x ≡ encode_utf8 c ++ y → made ≡ into ++ with_backslashes (encode_utf8 c) → made ++ with_backslashes y ≡ into ++ with_backslashes x
-marks_step c into made x y e f = rw (e, f) (append_assoc into (with_backslashes (encode_utf8 c)) (with_backslashes y) ∙ ap (λ l. into ++ l) (sym (flat_map-append marked (encode_utf8 c) y)))
 
 -- the first word, and each further one behind a space
 pub joined_more : (word : List ℕ) (others : List (List ℕ)) → with_backslashes word ++ with_more others ≡ joined (word ∷ others)

@@ -3,9 +3,7 @@ use Rattle.std.proofs.Common.{◌≡◌, ◌∙◌, ◌&&◌, ◌==◌, ℕ, Boo
 use Rattle.std.specs.Prelude.{unwrap_or}
 use Rattle.std.specs.Option.{option_map_or}
 use Rattle.std.specs.Result.{result_ok}
-use Rattle.std.specs.Str.{bytes_eq}
 use Rattle.std.specs.Str.Parse.{ParsesUnsigned, digits_value, without_leading_plus}
-use Rattle.std.proofs.lemmas.Slice.Eq.{bytes_eq-Decides}
 use Rattle.std.specs.Borrow.{Bor}
 use Rattle.clap.specs.Words.{first_of, first_value, matched_of, raw_values, rows_of}
 use Rattle.clap.specs.declared.parser.matches.Found.{Found}
@@ -13,7 +11,7 @@ use Rattle.clap.proofs.WalkLemmas.{first_value-rows, raw_values-rows}
 use Rattle.clap.specs.ValueTests.{is_unsigned_in}
 use Rattle.clap.specs.declared.builder.value_parser.ValueParser.TheVariants.{Unsigned}
 use Rattle.clap.proofs.ValueTestLemmas.{Accepts-accepts, accepts-Accepts}
-use Rattle.run_words.specs.Said.{is_bare, is_number, is_on, is_switch, line_words_in}
+use Rattle.run_words.specs.Said.{is_bare, is_number, line_words_in}
 
 -- what `get_str` shows is the first value of the rows
 pub none_shown : (f : Found) (id : List ℕ) (shown : Option (Bor (List ℕ))) → option_map (λ s. s.now) shown ≡ first_value f id → shown ≡ None → None ≡ first_of id (rows_of f)
@@ -34,12 +32,6 @@ pub value_some : {X : Type 0} (holds : List ℕ → Bool) (read : List ℕ → X
     → MatchOption r (option_map_or holds o true ≡ false) (λ x. (option_map_or holds o true ≡ true) × (x ≡ option_map_or read o plain))
 value_some holds read plain o text r e h =
     subst (λ v. MatchOption r (option_map_or holds v true ≡ false) (λ x. (option_map_or holds v true ≡ true) × (x ≡ option_map_or read v plain))) e h
-
-pub on_read : (text : List ℕ) → bytes_eq text (codes "on") ≡ true → (is_switch text ≡ true) × (true ≡ is_on text)
-on_read text h = let e = (bytes_eq-Decides text (codes "on")).0 h in rw e (refl, refl)
-
-pub off_read : (text : List ℕ) → bytes_eq text (codes "off") ≡ true → (is_switch text ≡ true) × (false ≡ is_on text)
-off_read text h = let e = (bytes_eq-Decides text (codes "off")).0 h in rw e (refl, refl)
 
 no_plus : (text : List ℕ) → is_bare text ≡ true → without_leading_plus text ≡ text
 no_plus [] h = refl

@@ -11,7 +11,7 @@ ghost use Rattle.run_words.specs.Said.{is_bare, is_number, is_on, is_switch, lin
 use crate::fault::WordsFault;
 use crate::line::join_words;
 use clap::{Arg, ArgAction, ArgMatches, Command, value_parser};
-use gst_caps::Text;
+use gst_value::Text;
 use std::alloc::{AllocError, Global};
 
 /// The program's command: `[--threads on|off] [--order N] [--quiet] WORD...`.

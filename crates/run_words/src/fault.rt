@@ -1,7 +1,7 @@
 //! What can go wrong with the program's words.
 use clap::Error as Refusal;
 use clap::error::ErrorKind;
-use gst_caps::OutOfMemory;
+use gst_value::OutOfMemory;
 use std::alloc::AllocError;
 use thiserror::Error;
 

@@ -4,7 +4,7 @@ ghost use Rattle.std.specs.String.{string_bytes};
 ghost use Rattle.std.specs.Char.{encode_utf8};
 ghost use Rattle.run_words.specs.Line.{joined, with_backslashes, with_more};
 
-use gst_caps::{OutOfMemory, Text};
+use gst_value::{OutOfMemory, Text};
 use std::alloc::Global;
 
 /// What stands between two words, and behind a backslash inside of a word.

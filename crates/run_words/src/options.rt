@@ -5,7 +5,7 @@ ghost use Rattle.run_words.specs.Said.{line_words, options_of, takes_words};
 
 use crate::command::{line_of, match_words, order_of, quiet_of, threads_of};
 use crate::fault::WordsFault;
-use gst_caps::Text;
+use gst_value::Text;
 use std::alloc::Global;
 
 /// What the program's words say.

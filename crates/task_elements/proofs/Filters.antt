@@ -6,7 +6,7 @@ use Rattle.std.proofs.Props.{props}
 use Rattle.gst_item.specs.declared.out.Out.{Out}
 use Rattle.gst_item.specs.declared.flow.Flow.{Flow}
 use Rattle.gst_item.specs.declared.flow.Flow.TheVariants.{Ok as Taken, NotLinked, Flushing, Eos as BehindEos, NotNegotiated, Error, NotSupported}
-use Rattle.gst_item.specs.declared.fault.ElementFault.{ElementFault}
+use Rattle.flow_model.specs.declared.fault.ElementFault.{ElementFault}
 use Rattle.flow_model.specs.Item.{Item, is_flush_stop}
 use Rattle.flow_model.specs.Sticky.{has_flush_stop}
 use Rattle.flow_model.specs.Call.{Call, Feed}
@@ -117,18 +117,6 @@ queue_takes old new x flow out out' h outs fed answer =
     let put : PutsOut (passing old) (passing new) (Feed x) out out' = identity_feeds (Ok flow) (passing old) old new x out out' refl h outs fed answer in
     filter_takes (passing old) (passing new) x out out' put
     (ap has_flush_stop (more_is (passing old) (passing new) x out out' (passed flow x) put outs) ∙ passed_none flow x h)
-
--- it stands as before
-pub took_as : (old new : FilterElement) → StandsAs old new → (behavior : Behavior) (took : List (List Call)) → FilterTook old behavior took → FilterTook new behavior took
-took_as old new as_before behavior took t =
-    record {
-      respond = t.respond;
-      calls = t.calls;
-      put = t.put;
-      behavior_is = t.behavior_is;
-      took_is = t.took_is;
-      stands = as_before t.respond t.calls t.put t.stands;
-    }
 
 -- it refuses an item for its fault
 pub refuses_by : (old : FilterElement) (x : Item) (fault : ElementFault)

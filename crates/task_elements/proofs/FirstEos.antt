@@ -1,6 +1,6 @@
 -- Where EOS stands in the first section of what an element took, what it owes there has EOS.
 use Rattle.std.proofs.Common.{◌≡◌, ◌<◌, ◌⊎◌, ℕ, suc, Bool, true, false, ◌||◌, if◌then◌else◌, List, [], ◌∷◌, ◌++◌, Option, refl, sym, ap, ◌∙◌, subst, inl, inr, arith}
-use Rattle.flow_model.specs.Item.{Item, is_flush_stop, is_eos}
+use Rattle.flow_model.specs.Item.{Item, is_flush_stop, is_eos, eos_among}
 use Rattle.flow_model.specs.Sticky.{has_flush_stop, latest, since_flush_stop}
 use Rattle.flow_model.specs.Section.{section, counted, counted_after}
 use Rattle.flow_model.specs.Prefix.{IsPrefix, nothing, next}
@@ -12,7 +12,6 @@ use Rattle.flow_model.proofs.Sections.{section_prefix, owed_for_prefix}
 use Rattle.net_model.specs.Moment.{Behavior}
 use Rattle.net_model.specs.Over.{list_ended, AllEnded}
 use Rattle.net_model.specs.Takes.{flush_stops, InSection}
-use Rattle.el_src.specs.Gave.{has_eos as eos_among}
 use Rattle.el_set.specs.declared.filter.FilterElement.{FilterElement}
 use Rattle.el_set.specs.Stands.{Stands, MeetsNone}
 use Rattle.el_set.proofs.Ends.{eos_first, eos_latest, none_first}

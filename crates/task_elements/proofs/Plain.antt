@@ -2,8 +2,7 @@
 use Rattle.std.proofs.Common.{◌≡◌, ℕ, zero, suc, Bool, true, false, ◌||◌, if◌then◌else◌, List, [], ◌∷◌, ◌++◌, filter, refl, sym, ap, ◌∙◌, subst, Result, Ok, Err}
 use Rattle.flow_model.specs.Item.{Item, Ev, Eos, is_flush_stop, is_eos}
 use Rattle.flow_model.specs.Sticky.{has_flush_stop}
-use Rattle.flow_model.specs.Section.{section}
-use Rattle.flow_model.specs.Chain.{IsPlain}
+use Rattle.flow_model.specs.Section.{section, IsPlain}
 use Rattle.flow_model.specs.Call.{Call, Feed, Act, Drain, Set}
 use Rattle.flow_model.specs.Rule.{Response, Fault, Fed, unfed, responded, flushed, not_eos, drained, called, all_called, owed_for}
 use Rattle.el_set.proofs.Ending.{AreInner, EndsAs, OwesEos, IsEnding, eos_of}

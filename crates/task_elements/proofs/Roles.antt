@@ -12,6 +12,7 @@ use Rattle.task_elements.specs.declared.element.StreamElement.{StreamElement}
 use Rattle.task_elements.specs.declared.element.StreamElement.TheVariants.{Filter, Queue, Sink}
 use Rattle.task_elements.specs.Stands.{SinkStands, StreamStands}
 use Rattle.task_elements.proofs.Growing.{none_grows}
+use Rattle.flow_model.proofs.Calls.{feeds_push}
 
 -- each took one list
 record IsOne (took : List (List Call)) : Type 0 where
@@ -44,11 +45,6 @@ takes_none bytes element ports pad x out h =
   where
     same : (behavior : Behavior) (took : List (List Call)) → StreamStands bytes element behavior took → push_calls pad (Feed x ∷ []) took ≡ took
     same behavior took t = pushed_none pad took (Feed x ∷ []) (one_list bytes element behavior took t) h
-
--- what a sink was given
-feeds_push : (list : List Item) (x : Item) → feeds (list ++ x ∷ []) ≡ feeds list ++ Feed x ∷ []
-feeds_push [] x = refl
-feeds_push (y ∷ list) x = ap (λ cs. Feed y ∷ cs) (feeds_push list x)
 
 pub sink_takes : {K : Type 0} (bytes : K → Option (List ℕ)) (old new : SinkElement K) (x : Item)
     → ((keep : Bool) (list : List Item) → SinkHeld bytes keep old list → SinkHeld bytes keep new (list ++ x ∷ []))

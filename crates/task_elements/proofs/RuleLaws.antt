@@ -1,8 +1,7 @@
 -- What is known of each rule for which an element of a stream stands.
 use Rattle.std.proofs.Common.{◌≡◌, ℕ, zero, suc, List, [], ◌∷◌, Option, refl, ap}
-use Rattle.flow_model.specs.Section.{section}
+use Rattle.flow_model.specs.Section.{section, IsPlain}
 use Rattle.flow_model.specs.Prefix.{nothing}
-use Rattle.flow_model.specs.Chain.{IsPlain}
 use Rattle.flow_model.specs.Call.{Call}
 use Rattle.flow_model.specs.Rule.{Rule, Response, only, single}
 use Rattle.flow_model.proofs.Sections.{single_prefix}

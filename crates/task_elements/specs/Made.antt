@@ -2,8 +2,8 @@
 use Rattle.std.specs.Prelude.{◌≡◌, ◌||◌, ℕ, Bool, false, if◌then◌else◌, List, [], ◌∷◌, Option, Some, None}
 use Rattle.flow_model.specs.Rule.{Rule, single}
 use Rattle.net_model.specs.Moment.{Behavior}
-use Rattle.el_set.specs.declared.settings.Settings.{Settings}
-use Rattle.el_set.specs.Asked.{is_filter, is_queue}
+use Rattle.el_settings.specs.declared.settings.Settings.{Settings}
+use Rattle.el_settings.specs.Asked.{is_filter, is_queue}
 use Rattle.el_set.specs.Denoted.{response_of}
 use Rattle.el_set.specs.Made.{makes_sink, file_for, IsEmpty}
 use Rattle.task_elements.specs.declared.element.StreamElement.{StreamElement}

@@ -1,7 +1,7 @@
 //! Laws of the elements of a stream. Each function does nothing: its contract is the law.
 ghost use Rattle.std.specs.Prelude.{◌≡◌, ◌<◌, ℕ, true, List, [], ◌∷◌};
 ghost use Rattle.flow_model.specs.Call.{Call};
-ghost use Rattle.flow_model.specs.Chain.{IsPlain};
+ghost use Rattle.flow_model.specs.Section.{IsPlain};
 ghost use Rattle.net_model.specs.Moment.{Behavior};
 ghost use Rattle.net_model.specs.Whole.{OwesInOrder};
 ghost use Rattle.net_model.specs.Over.{list_ended, AllEnded};

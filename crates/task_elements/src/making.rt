@@ -1,14 +1,15 @@
 //! Elements of a stream, made by what they are set to.
 ghost use Rattle.std.specs.Prelude.{◌≡◌, false, IfOk};
-ghost use Rattle.el_set.specs.Asked.{is_filter as filter_test, is_queue as queue_test};
+ghost use Rattle.el_settings.specs.Asked.{is_filter as filter_test, is_queue as queue_test};
 ghost use Rattle.task_elements.specs.Made.{IsElementFor};
 
 use crate::element::StreamElement;
 use crate::filter::StreamFilter;
 use el_basic::Identity;
-use el_set::{Settings, filter_of, sink_of};
-use gst_caps::OutOfMemory;
+use el_set::{filter_of, sink_of};
+use el_settings::Settings;
 use gst_outside::Sink;
+use gst_value::OutOfMemory;
 use std::alloc::Global;
 
 /// The element of these settings, which was fed nothing yet; `file` is what it writes, empty at first. None where they are

@@ -1,62 +1,35 @@
 //! Elements that are fed through the traits of a task.
 ghost use Rattle.std.specs.Prelude.{◌≡◌, ◌<◌, ◌^◌, None, IfSome};
-ghost use Rattle.el_set.specs.Asked.{title_of};
+ghost use Rattle.el_settings.specs.Asked.{title_of};
 ghost use Rattle.el_set.specs.Gives.{source_items};
 
 use super::*;
-use el_set::{
-    CapsFilterSettings, FileSinkSettings, FileSrcSettings, QueueSettings, Settings, source_of,
-};
-use gst_caps::{Fixed, List, Text};
-use gst_item::{Body, Buffer, Event, Item, Outs};
+use el_set::source_of;
+use el_settings::{CapsFilterSettings, FileSinkSettings, FileSrcSettings, QueueSettings, Settings};
+use gst_item::Outs;
 use gst_outside::{MemSink, MemSource, Sink, Source};
+use gst_value::{List, Text};
+use item_letters::{is_flush, item_of, letter_of, letters_of};
 use net_model::{TaskElement, TaskSource, Unread, Why};
 use std::alloc::Global;
 use std::test::Fail;
-
-/// The item of a letter: STREAM_START, CAPS, EOS, or a buffer of two bytes.
-fn item_of(alloc: Global, letter: char) -> Result<Item, Fail> {
-    match letter {
-        'S' => Ok(Item::Event(Event::StreamStart { id: 1 })),
-        'C' => Ok(Item::Event(Event::Caps(Fixed::new(alloc, "audio/x-raw")?))),
-        'M' => Ok(Item::Event(Event::Caps(Fixed::new(alloc, "audio/x-mulaw")?))),
-        'E' => Ok(Item::Event(Event::Eos)),
-        _ => Ok(Item::Buffer(Buffer {
-            body: Body::from_vec(alloc, b"ab".to_vec(alloc)?)?,
-            pts: None,
-            duration: None,
-            offset: None,
-            discont: false,
-        })),
-    }
-}
-
-fn letter_of(item: &Item) -> char {
-    match item {
-        Item::Event(Event::StreamStart { .. }) => 'S',
-        Item::Event(Event::Caps(_)) => 'C',
-        Item::Event(Event::Eos) => 'E',
-        Item::Event(_) => '?',
-        Item::Buffer(_) => 'B',
-    }
-}
 
 /// What an element puts out for letters on the sink pad that it wants, each behind a `-`; `x` is a fault of its rule, and `w` a
 /// failed write. A `+` stands for EOS on a sink pad that it has not.
 fn fed<E: TaskElement>(alloc: Global, element: &mut E, letters: &str) -> Result<String, Fail> {
     let mut text = String::new(alloc);
-    for letter in letters.chars() {
+    for letter in letters.bytes() {
         text.push_str(fed_one(alloc, element, letter)?.as_str())?;
     }
     Ok(text)
 }
 
-fn fed_one<E: TaskElement>(alloc: Global, element: &mut E, letter: char) -> Result<String, Fail> {
+fn fed_one<E: TaskElement>(alloc: Global, element: &mut E, letter: u8) -> Result<String, Fail> {
     let mut text = String::new(alloc);
     let mut out = List::new(alloc);
     text.push(answer_to(alloc, element, letter, &mut out)?)?;
-    for one in out.as_slice() {
-        text.push(letter_of(&one.item))?;
+    for letter in letters_of(alloc, &out)?.as_slice() {
+        text.push(char::from(*letter))?;
     }
     Ok(text)
 }
@@ -64,20 +37,16 @@ fn fed_one<E: TaskElement>(alloc: Global, element: &mut E, letter: char) -> Resu
 fn answer_to<E: TaskElement>(
     alloc: Global,
     element: &mut E,
-    letter: char,
+    letter: u8,
     out: &mut Outs,
 ) -> Result<char, Fail> {
-    let pad = if letter == '+' {
-        7
+    let (pad, letter) = if letter == b'+' {
+        (7, b'e')
     } else {
-        element.wants().unwrap_or(7)
+        (element.wants().unwrap_or(7), letter)
     };
-    let item = if letter == '+' {
-        item_of(alloc, 'E')?
-    } else {
-        item_of(alloc, letter)?
-    };
-    if matches!(item, Item::Event(Event::FlushStop { .. })) {
+    let item = item_of(alloc, letter)?;
+    if is_flush(&item) {
         return Ok('f');
     }
     match element.feed(alloc, pad, item, out) {
@@ -126,11 +95,11 @@ fn row(alloc: Global, word: &str, letters: &str) -> Result<(String, Option<u64>)
 #[test]
 fn rows_of_elements(rt: HostRuntime) -> Result<(), Fail> {
     let alloc = rt.alloc();
-    let rows = "identity SCB+BEB -S-C-B--B-E-
-queue SCMEB -S-C-C-E-
-capsfilter SBCBMB -Sx-C-Bx-B
-fakesink SCBEB -----
-filesink SCBB ---w";
+    let rows = "identity srB+BeB -s-r-B--B-e-
+queue srmeB -s-r-m-e-
+capsfilter sBrBmB -sx-r-Bx-B
+fakesink srBeB -----
+filesink srBB ---w";
     for line in rows.lines() {
         let mut parts = line.split(' ');
         let word = parts.next().unwrap_or("");
@@ -143,13 +112,13 @@ filesink SCBB ---w";
 }
 
 /// The letter of the next item of a source.
-fn next_letter<S: TaskSource>(alloc: Global, source: &mut S) -> char
+fn next_letter<S: TaskSource>(alloc: Global, source: &mut S) -> u8
     requires { S.count source.old < 2 ^ 41 }
 {
     match source.next(alloc) {
         Ok(Some(item)) => letter_of(&item),
-        Ok(None) => '.',
-        Err(_) => 'x',
+        Ok(None) => b'.',
+        Err(_) => b'x',
     }
 }
 
@@ -167,7 +136,7 @@ fn a_source_gives(rt: HostRuntime) -> Result<(), Fail> {
     assert!(rt; made.is_some());
     if let Some(element) = made {
         let mut source = StreamSource::new(element);
-        assert_eq!(rt; next_letter(alloc, &mut source), 'S');
+        assert_eq!(rt; next_letter(alloc, &mut source), b's');
         assert!(rt; source.into_source().into_source().is_some());
     }
     Ok(())

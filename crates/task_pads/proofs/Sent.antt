@@ -21,9 +21,7 @@ use Rattle.task_pads.specs.Behind.{goes, over, leads_on, LaneEnd, lane_end, end_
 use Rattle.task_pads.specs.Pads.{Seen, setting_of, IsLoose, KeepsTable}
 use Rattle.task_pads.specs.Passing.{Counted, IsStored, IsRefused, IsTakenBack, WentBy, RefusedBy, HasPassed}
 use Rattle.task_pads.specs.Crossing.{Came, WentAway, IsFull}
-
-some_same : {A : Type 0} {a b : A} → Some a ≡ Some b → a ≡ b
-some_same e = cc
+use Rattle.gst_value.proofs.Basics.{some_same}
 
 -- a crossing was taken back
 pub taken_back : (src src' : SrcPad) → IsLoose src → before src ≡ Some (state_of src') → ((h : List Item) (x : Item) → CrossedBy src (h ++ x ∷ []) → CrossedBy src' h)

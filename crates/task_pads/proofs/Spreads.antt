@@ -18,9 +18,6 @@ pub record SoFar {O : Type 0} (outs rest : List Out) (pads pads' : List (Pad O))
   pub each : Spread outs rest pads pads'
   pub within : AreWithin (length pads') rest
 
-pub so_far_none : {O : Type 0} (outs : List Out) (pads : List (Pad O)) → AreWithin (length pads) outs → SoFar outs outs pads pads
-so_far_none outs pads w = record { rests = refl; each = λ place pad at. record { was = pad; at = at; rest = refl; waiting = refl }; within = w }
-
 module _ {O : Type 0} (outs rest rest' : List Out) (pads now : List (Pad O)) (k : ℕ) (was is : Pad O) where
   -- what waits at one pad and what is still to go there are together what they were
   set_one : slice_get now k ≡ Some was → rest_of is ≡ rest_of was → waiting_of is ++ on_port k rest' ≡ waiting_of was ++ on_port k rest

@@ -12,7 +12,7 @@ use Rattle.task_pads.specs.Behind.{item_of, items_of}
 use Rattle.task_pads.specs.declared.pad.Pad.{Pad}
 use Rattle.task_pads.specs.Pads.{waiting_of}
 use Rattle.task_pads.specs.Put.{FirstNoFlush}
-use Rattle.task_pads.proofs.Lists.{some_same}
+use Rattle.gst_value.proofs.Basics.{some_same}
 
 pub items_push : (outs : List Out) (out : Out) → items_of (outs ++ out ∷ []) ≡ items_of outs ++ out.item ∷ []
 items_push outs out = map-append item_of outs (out ∷ [])

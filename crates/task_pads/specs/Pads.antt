@@ -12,7 +12,7 @@ use Rattle.pad_core.specs.Crossing.{PadState, has_ended, stopped_by}
 use Rattle.pad_core.specs.SrcPad.{CrossedBy, state_of, crossed_of, before}
 use Rattle.task_pads.specs.declared.pad.Pad.{Pad}
 use Rattle.task_pads.specs.declared.pad.Behind.{Behind}
-use Rattle.task_pads.specs.Behind.{Goes, LaneEnd, EndReady, end_in, WentIn, SentIn, goes, hint_in, items_of}
+use Rattle.task_pads.specs.Behind.{Goes, LaneEnd, EndReady, end_in, WentIn, SentIn, goes, items_of}
 
 -- A pad: what counts at it, what waits there, oldest first, and what is behind it.
 pub record Seen (O : Type 0) : Type 0 where
@@ -32,9 +32,6 @@ number_of pad = (state_of pad.src).number
 
 abbrev pub goes_of : {O : Type 0} → Pad O → Goes
 goes_of pad = goes pad.behind
-
-abbrev pub hint_of : {O : Type 0} → Pad O → Option ℕ
-hint_of pad = hint_in pad.behind
 
 abbrev pub waiting_of : {O : Type 0} → Pad O → List Item
 waiting_of pad = items_of pad.waiting.items

@@ -8,8 +8,8 @@ ghost use Rattle.flow_model.specs.Item.{Item as Piece};
 ghost use Rattle.task_pads.specs.Pads.{is_kept, setting_of};
 ghost use Rattle.task_pads.specs.Passing.{IsOffered, unlinked_answer};
 
-use gst_caps::OutOfMemory;
 use gst_item::{Event, Item};
+use gst_value::OutOfMemory;
 use pad_core::{Crossing, SinkPad, SrcPad, link};
 use std::alloc::Global;
 

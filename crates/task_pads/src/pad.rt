@@ -7,8 +7,8 @@ ghost use Rattle.task_pads.specs.Behind.{leads_on, items_of};
 
 use crate::crossing::{Crossing, cross};
 use crate::offer::linked_pad;
-use gst_caps::OutOfMemory;
 use gst_item::{Item, Out};
+use gst_value::OutOfMemory;
 use lane_core::Outlet;
 use pad_core::SrcPad;
 use std::alloc::Global;

@@ -5,8 +5,8 @@ ghost use Rattle.task_pads.specs.Pads.{rest_of, waiting_of, HasRoom};
 ghost use Rattle.task_pads.specs.Put.{AreIdle, FirstNoFlush, MovesFirst, Spread, WaitsFirst};
 
 use crate::pad::Pad;
-use gst_caps::{List, OutOfMemory};
 use gst_item::{Out, Outs};
+use gst_value::{List, OutOfMemory};
 use std::alloc::Global;
 use std::collections::VecDeque;
 use std::mem;

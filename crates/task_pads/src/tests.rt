@@ -1,38 +1,24 @@
 //! Rows of crossings, over lanes in memory.
-ghost use Rattle.std.specs.Prelude.{◌≡◌, ◌<◌, false, ℕ, IfOk};
-ghost use Rattle.flow_model.specs.Item.{is_flush_stop};
+ghost use Rattle.std.specs.Prelude.{◌≡◌, ◌<◌, ℕ, IfOk};
 ghost use Rattle.net_model.specs.Takes.{AreWithin};
 ghost use Rattle.task_pads.specs.Pads.{PadReady, rest_of};
 
 use super::*;
-use gst_caps::List;
-use gst_item::{Body, Buffer, Event, Item, Out, Outs};
+use gst_item::{Out, Outs};
+use gst_value::List;
+use item_letters::{is_flush, item_of};
 use lane_core::{MemLanes, MemOutlet, Outlet, memory_lane};
 use std::alloc::Global;
 use std::test::Fail;
 
-/// A buffer for `B`, STREAM_START for `S`, and else EOS.
-fn item_of(alloc: Global, letter: char) -> Result<Item, Fail>
-    ensures { IfOk result (λ item. is_flush_stop item ≡ false) }
-{
-    match letter {
-        'B' => Ok(Item::Buffer(Buffer {
-            body: Body::from_vec(alloc, Vec::from_slice(alloc, b"abc")?)?,
-            pts: None,
-            duration: None,
-            offset: None,
-            discont: false,
-        })),
-        'S' => Ok(Item::Event(Event::StreamStart { id: 1 })),
-        _ => Ok(Item::Event(Event::Eos)),
-    }
-}
-
-/// An item comes to wait.
-fn wait<O: Outlet>(alloc: Global, pad: &mut Pad<O>, letter: char) -> Result<(), Fail>
+/// An item comes to wait. A FLUSH_STOP does not.
+fn wait<O: Outlet>(alloc: Global, pad: &mut Pad<O>, letter: u8) -> Result<(), Fail>
     ensures { rest_of pad.new ≡ rest_of pad.old }
 {
     let item = item_of(alloc, letter)?;
+    if is_flush(&item) {
+        return Ok(());
+    }
     pad.make_room()?;
     pad.push_reserved(item);
     Ok(())
@@ -71,8 +57,8 @@ fn cross_once<O: Outlet>(
     }
 }
 
-/// What the letters answer: `c` and `s` let the oldest item cross, without and with a sibling that is linked, and `b`
-/// has it refused; `p` stops the second buffer, and `q` does not any more; the others are items that come to wait.
+/// What the letters answer: `C` and `S` let the oldest item cross, without and with a sibling that is linked, and `R`
+/// has it refused; `P` stops the second buffer, and `Q` does not any more; the others are items that come to wait.
 fn answers_of<O: Outlet>(
     alloc: Global,
     pad: &mut Pad<O>,
@@ -82,13 +68,13 @@ fn answers_of<O: Outlet>(
     requires { PadReady O.Outlet (O.tells lanes.old) pad.old }
 {
     let mut answers = String::new(alloc);
-    for letter in letters.chars() {
+    for letter in letters.bytes() {
         match letter {
-            'c' | 's' | 'b' => {
-                answers.push(cross_once(alloc, pad, lanes, letter == 's', letter == 'b'))?;
+            b'C' | b'S' | b'R' => {
+                answers.push(cross_once(alloc, pad, lanes, letter == b'S', letter == b'R'))?;
             }
-            'p' => pad.block(5, 1),
-            'q' => pad.unblock(),
+            b'P' => pad.block(5, 1),
+            b'Q' => pad.unblock(),
             _ => wait(alloc, pad, letter)?,
         }
     }
@@ -122,13 +108,13 @@ fn row_of(alloc: Global, way: &str, letters: &str) -> Result<String, Fail> {
 #[test]
 fn rows_of_crossings(rt: HostRuntime) -> Result<(), Fail> {
     let alloc = rt.alloc();
-    let rows = "nothing cBcs ing 1 1
-nothing ScEcBcc ggee 2 0
-element SBEcccc ttti 3 1
-element BbBc bt 1 1
-element pBcBcqc tpt 2 2
-lane SBBcccc ggff 2 1
-lane EcBcc gee 1 0";
+    let rows = "nothing CBCS ing 1 1
+nothing sCeCBCC ggee 2 0
+element sBeCCCC ttti 3 1
+element BRBC bt 1 1
+element PBCBCQC tpt 2 2
+lane sBBCCCC ggff 2 1
+lane eCBCC gee 1 0";
     for row in rows.lines() {
         let mut parts = row.split(' ');
         let way = parts.next().unwrap_or("");
@@ -138,12 +124,15 @@ lane EcBcc gee 1 0";
     Ok(())
 }
 
-/// One item for the pad of a place.
-fn one_out(alloc: Global, pad: u32, letter: char) -> Result<Outs, Fail>
+/// One item for the pad of a place, but no FLUSH_STOP.
+fn one_out(alloc: Global, pad: u32, letter: u8) -> Result<Outs, Fail>
     ensures { IfOk result (λ outs. (ports : ℕ) → pad < ports → AreWithin ports outs) }
 {
     let item = item_of(alloc, letter)?;
     let mut outs = List::new(alloc);
+    if is_flush(&item) {
+        return Ok(outs);
+    }
     outs.push(alloc, Out { pad, item })?;
     Ok(outs)
 }
@@ -158,10 +147,10 @@ fn what_is_put_out_waits_at_its_pad(rt: HostRuntime) -> Result<(), Fail> {
     }
     assert_eq!(rt; first_waiting(&pads, 0), None);
     assert!(rt; pads.len() == 2);
-    let mut outs = one_out(alloc, 1, 'S')?;
+    let mut outs = one_out(alloc, 1, b's')?;
     spread(alloc, &mut pads, &mut outs)?;
     assert_eq!(rt; first_waiting(&pads, 0), Some(1));
-    let mut outs = one_out(alloc, 0, 'E')?;
+    let mut outs = one_out(alloc, 0, b'e')?;
     fill(alloc, &mut pads[0], &mut outs);
     assert!(rt; outs.as_slice().is_empty());
     assert_eq!(rt; first_waiting(&pads, 0), Some(0));

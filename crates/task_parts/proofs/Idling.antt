@@ -8,8 +8,8 @@ use Rattle.task_pads.specs.Pads.{waiting_of}
 use Rattle.task_parts.specs.declared.part.Part.{Part}
 use Rattle.task_parts.specs.Gathered.{is_nothing, pads_idle}
 use Rattle.task_parts.specs.Idle.{idle_before, part_idle}
-use Rattle.task_pads.proofs.Lists.{some_same}
-use Rattle.task_parts.proofs.Outs.{and_left, and_right, both}
+use Rattle.task_parts.proofs.Outs.{both}
+use Rattle.gst_value.proofs.Basics.{some_same, and_left, and_right}
 
 pub nothing_is : {A : Type 0} (xs : List A) → is_nothing xs ≡ true → xs ≡ []
 nothing_is [] e = refl

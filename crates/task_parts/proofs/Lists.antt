@@ -1,9 +1,10 @@
 -- Places of lists.
-use Rattle.std.proofs.Common.{◌≡◌, ◌⊎◌, ℕ, zero, suc, List, [], ◌∷◌, ◌++◌, length, map, get_or, Some, refl, sym, ap, ◌∙◌, subst, inl, inr, arith}
+use Rattle.std.proofs.Common.{◌≡◌, ◌⊎◌, ℕ, zero, suc, List, [], ◌∷◌, ◌++◌, map, get_or, Some, refl, sym, ap, ◌∙◌, subst, inl, inr}
 use Rattle.std.specs.Prelude.{slice_get, slice_set}
-use Rattle.task_pads.proofs.Lists.{some_same, some_at, set_here, set_there}
+use Rattle.task_pads.proofs.Lists.{some_at, set_here, set_there}
 use Rattle.std.proofs.lemmas.Bool.{cases_eq}
 use Rattle.std.proofs.lemmas.Option.{slice_get_within}
+use Rattle.gst_value.proofs.Basics.{some_same}
 
 pub set_at : {A : Type 0} (xs : List A) (k : ℕ) (x y : A) → slice_get xs k ≡ Some x → slice_get (slice_set xs k y) k ≡ Some y
 set_at [] k x y e = absurd cc
@@ -38,10 +39,6 @@ get_map f (x ∷ xs) (suc k) z e = get_map f xs k z e
 pub map_back : {A B : Type 0} (f : A → B) (xs ys : List A) → map f ys ≡ map f xs → (k : ℕ) (y : A) → slice_get ys k ≡ Some y → (x : A) × (slice_get xs k ≡ Some x) × (f y ≡ f x)
 map_back {B = B} f xs ys s k y e = get_map f xs k (f y) (ap (λ (zs : List B). slice_get zs k) (sym s) ∙ map_get f ys k y e)
 
-pub nil_of : {A : Type 0} (xs : List A) → length xs ≡ 0 → xs ≡ []
-nil_of [] e = refl
-nil_of (x ∷ xs) e = absurd (omega arith)
-
 pub at_get : {A : Type 0} (xs : List A) (k : ℕ) (x y : A) → slice_get xs k ≡ Some x → y ≡ get_or xs k y → y ≡ x
 at_get xs k x y e s = some_same (sym (some_at xs k y (slice_get_within xs k x e) s) ∙ e)
 
@@ -56,7 +53,3 @@ append_more {A = A} (x ∷ xs) ys zs = ap (λ (ws : List A). x ∷ ws) (append_m
 pub map_over : {A B C : Type 0} (f : B → C) (g : A → B) (h : A → C) → ((x : A) → h x ≡ f (g x)) → (xs : List A) → map h xs ≡ map f (map g xs)
 map_over f g h same [] = refl
 map_over {C = C} f g h same (x ∷ xs) = ap (λ (c : C). c ∷ map h xs) (same x) ∙ ap (λ (cs : List C). f (g x) ∷ cs) (map_over f g h same xs)
-
-pub map_size : {A B : Type 0} (f : A → B) (xs : List A) → length (map f xs) ≡ length xs
-map_size f [] = refl
-map_size f (x ∷ xs) = ap suc (map_size f xs)

@@ -15,16 +15,8 @@ use Rattle.task_pads.specs.Pads.{PadShape, Rest, pad_shape, rest_of, waiting_of}
 use Rattle.task_pads.specs.Put.{Spread, SpreadAt}
 use Rattle.pad_core.specs.SrcPad.{state_of}
 use Rattle.task_parts.specs.Gathered.{AreFilled, are_linked, are_within, linked_else}
-use Rattle.task_pads.proofs.Lists.{some_same}
-use Rattle.task_parts.proofs.Lists.{map_over, map_size}
-
-pub and_left : (a b : Bool) → (a && b) ≡ true → a ≡ true
-and_left true b e = refl
-and_left false b e = absurd cc
-
-pub and_right : (a b : Bool) → (a && b) ≡ true → b ≡ true
-and_right true b e = e
-and_right false b e = absurd cc
+use Rattle.task_parts.proofs.Lists.{map_over}
+use Rattle.gst_value.proofs.Basics.{and_left, and_right, some_same}
 
 pub both : (a b : Bool) → a ≡ true → b ≡ true → (a && b) ≡ true
 both true b e f = f
@@ -72,12 +64,6 @@ shape_of_rest p q e = ap rest_shape e
 
 pub shapes_of_rests : {O : Type 0} (ps qs : List (Pad O)) → map rest_of ps ≡ map rest_of qs → map pad_shape ps ≡ map pad_shape qs
 shapes_of_rests {O = O} ps qs e = map_over (rest_shape {O = O}) rest_of pad_shape (λ x. refl) ps ∙ ap (map rest_shape) e ∙ sym (map_over (rest_shape {O = O}) rest_of pad_shape (λ x. refl) qs)
-
-pub size_of_rests : {O : Type 0} (ps qs : List (Pad O)) → map rest_of ps ≡ map rest_of qs → length ps ≡ length qs
-size_of_rests {O = O} ps qs e = sym (map_size (rest_of {O = O}) ps) ∙ ap length e ∙ map_size (rest_of {O = O}) qs
-
-pub same_spread : {O : Type 0} (pads : List (Pad O)) (out : List Out) → Spread out out pads pads
-same_spread pads out = λ place pad at. record { was = pad; at = at; rest = refl; waiting = refl }
 
 pub fill_spread : {O : Type 0} (pads : List (Pad O)) (p p' : Pad O) (out out' : List Out) → length pads ≡ 1 → slice_get pads 0 ≡ Some p → rest_of p' ≡ rest_of p → waiting_of p' ++ on_port 0 out' ≡ waiting_of p ++ on_port 0 out
     → Spread out out' pads (slice_set pads 0 p')

@@ -2,7 +2,7 @@
 use Rattle.std.proofs.Common.{◌≡◌, ◌<◌, ◌≤◌, ℕ, zero, suc, true, false, List, [], ◌∷◌, length, map, get_or, Some, None, Option, refl, sym, ap, ◌∙◌, subst, inl, inr}
 use Rattle.std.specs.Prelude.{slice_get, slice_set, ◌+◌, ◌++◌, Result, Ok, Err, OnOk}
 use Rattle.std.proofs.lemmas.Option.{slice_get_within}
-use Rattle.gst_caps.specs.declared.memory.OutOfMemory.{OutOfMemory}
+use Rattle.gst_value.specs.declared.memory.OutOfMemory.{OutOfMemory}
 use Rattle.flow_model.specs.Item.{Item}
 use Rattle.lane_core.specs.Lane.{Lane}
 use Rattle.lane_core.specs.declared.ends.Inlet as inlets
@@ -33,10 +33,10 @@ use Rattle.task_parts.specs.Moved.{CanGive, HandedIn, HandedOut}
 use Rattle.task_parts.specs.Part.{PadSet, PartCrossed}
 use Rattle.task_parts.specs.Passing.{AfterSource, CrossesSource, HasPort, RowAsked}
 use Rattle.task_parts.specs.Shape.{PartShape, goes_within, has_number, pads_within, part_shape}
-use Rattle.task_pads.proofs.Lists.{map_set, some_same}
+use Rattle.task_pads.proofs.Lists.{map_set}
 use Rattle.task_parts.proofs.Lists.{at_get, map_get, set_at}
-use Rattle.task_parts.proofs.Outs.{and_left, and_right}
 use Rattle.task_parts.proofs.Turns.{set_shape}
+use Rattle.gst_value.proofs.Basics.{some_same, and_left, and_right}
 
 abbrev pub ok_of : Tried → Result Tried TaskFault
 ok_of answer = Ok answer

@@ -16,9 +16,10 @@ use Rattle.task_pads.specs.Put.{Spread}
 use Rattle.task_parts.specs.declared.part.Part.{Part}
 use Rattle.task_parts.specs.Part.{PadSet, PartFed, PartSettled}
 use Rattle.task_parts.specs.Shape.{PartShape, has_number, part_shape}
-use Rattle.task_pads.proofs.Lists.{map_set, some_same}
+use Rattle.task_pads.proofs.Lists.{map_set}
 use Rattle.task_parts.proofs.Lists.{append_more, nil_append}
 use Rattle.task_parts.proofs.Outs.{on_port_append}
+use Rattle.gst_value.proofs.Basics.{some_same}
 
 abbrev pub shape_with : ℕ → List PadShape → PartShape
 shape_with number pads = record { number = number; pads = pads }

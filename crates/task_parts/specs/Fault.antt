@@ -1,6 +1,6 @@
 -- Faults of elements and of sources as faults of a task.
 use Rattle.std.specs.Prelude.{ℕ}
-use Rattle.gst_item.specs.declared.fault.ElementFault.TheVariants as elements
+use Rattle.flow_model.specs.declared.fault.ElementFault.TheVariants as elements
 use Rattle.net_model.specs.declared.refusal.Refusal.{Refusal}
 use Rattle.net_model.specs.declared.refusal.Refusal.TheVariants.{Fault, Unwritten}
 use Rattle.net_model.specs.declared.refusal.Unread.{Unread}

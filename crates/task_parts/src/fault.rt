@@ -2,51 +2,69 @@
 ghost use Rattle.std.specs.Prelude.{◌≡◌};
 
 use crate::find::MOST_ITEMS;
-use gst_caps::{Caps, Fixed};
-use gst_item::StreamKind;
+use flow_model::StreamKind;
+use gst_caps::Caps;
+use gst_value::Fixed;
 use net_model::{Mismatch, Refused, Unread, Why};
+use std::fmt;
+use std::fmt::{Debug, Display, Formatter, Write};
 use std::marker::Model;
+use thiserror::Error;
 
 /// Why a task went no further. Elements and source pads are named by their numbers.
-#[derive(Drop)]
+#[derive(Drop, Error)]
 pub enum TaskFault {
     /// A source could not be read: its count of failed calls was `before`, and then `after`.
+    #[error("element {element} could not be read: {after} failed calls, {before} of them before")]
     ReadFault {
         element: u32,
         before: u64,
         after: u64,
     },
     /// A sink could not be written: its count of failed calls was `before`, and then `after`.
+    #[error("element {element} could not be written: {after} failed calls, {before} of them before")]
     WriteFault {
         element: u32,
         before: u64,
         after: u64,
     },
     /// The bytes that reached an element have this fault at this place.
+    #[error("a wrong stream at byte {place} of what reached element {element}: {kind:?}")]
     Stream {
         element: u32,
         place: u64,
         kind: StreamKind,
     },
     /// An element was offered caps that are not among those that it takes, or none.
+    #[error("the caps of what reached element {element} are not those that are wanted")]
     Caps {
         element: u32,
         offered: Option<Fixed>,
         wanted: Caps,
     },
     /// A number of an element would pass its limit: `a` stood, and `b` more was to come.
+    #[error("{a} and {b} more pass the limit of element {element}")]
     TooLong {
         element: u32,
         a: u64,
         b: u64,
     },
     /// A buffer was to cross this source pad, which is not linked; so many items had crossed it.
+    #[error("a buffer behind {place} items reached source pad {pad}, which is not linked")]
     NotLinked {
         pad: u32,
         place: u64,
     },
     /// No memory was left for an item.
+    #[error("out of memory")]
     OutOfMemory,
+}
+
+/// Written as its message, since caps have no `Debug`.
+impl Debug for TaskFault {
+    fn fmt<W: Write>(&self, formatter: &mut Formatter<W>) -> fmt::Result {
+        Display::fmt(self, formatter)
+    }
 }
 
 /// What a `Failure` holds.

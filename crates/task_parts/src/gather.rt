@@ -5,8 +5,8 @@ ghost use Rattle.task_pads.specs.Pads.{rest_of};
 ghost use Rattle.task_pads.specs.Put.{Spread};
 ghost use Rattle.task_parts.specs.Gathered.{AreFilled, are_within, linked_else};
 
-use gst_caps::OutOfMemory;
 use gst_item::Outs;
+use gst_value::OutOfMemory;
 use lane_core::Outlet;
 use std::alloc::Global;
 use task_pads::{Behind, Pad, fill, spread};

@@ -9,8 +9,8 @@ ghost use Rattle.net_model.specs.Takes.{Takes};
 ghost use Rattle.task_parts.specs.Gathered.{are_within};
 
 use crate::gather::{gather, is_linked_else};
-use gst_caps::{List, OutOfMemory};
 use gst_item::{Item, Outs};
+use gst_value::{List, OutOfMemory};
 use lane_core::Outlet;
 use net_model::{Refused, TaskElement};
 use std::alloc::Global;

@@ -1,7 +1,7 @@
 //! Orders.
 ghost use Rattle.std.specs.Prelude.{◌≡◌, ◌<◌, ◌%◌};
 
-use gst_caps::List;
+use gst_value::List;
 
 /// Numbers without end that tell whose turn is next.
 #[derive(Drop)]

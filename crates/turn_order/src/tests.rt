@@ -1,7 +1,7 @@
 //! Orders against numbers from outside.
 use super::*;
 use crate::order::place;
-use gst_caps::List;
+use gst_value::List;
 use std::alloc::Global;
 use std::fmt::Write;
 use std::process::Abort;

@@ -6,7 +6,7 @@ use Rattle.byteorder.specs.Endian.{little_from}
 use Rattle.byteorder.specs.Numbers.{little_number-reads_back}
 use Rattle.wav_format.specs.declared.format.SampleFormat.{SampleFormat}
 use Rattle.wav_format.specs.declared.head.Head.{Head}
-use Rattle.wav_format.specs.Chunks.{HeadThen, behind, body_at, body_size, data_size, first_chunk, longest_head}
+use Rattle.wav_format.specs.Chunks.{HeadThen, spot_behind, body_at, body_size, data_size, first_chunk, longest_head}
 use Rattle.wav_format.specs.Format.{IsFormat, IsKnown, extensible, true_tag}
 use Rattle.wav_format.specs.Written.{block_align, written}
 
@@ -106,7 +106,7 @@ module _ (h : Head) (bytes : ℕ) (w : Writable h bytes) where
 
   pub written_again : h.start ≡ 44 → bytes ≢ 0 → HeadThen longest_head (written h bytes) h []
   written_again start some = (
-    behind (first_chunk (written h bytes)),
+    spot_behind (first_chunk (written h bytes)),
     (
       record { long = omega arith; riff = refl; wave = refl },
       (

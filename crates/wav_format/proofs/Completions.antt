@@ -5,7 +5,7 @@ use Rattle.std.proofs.lemmas.List.{get_or-append_right, get_or-drop, get_or-take
 use Rattle.std.proofs.lemmas.Slice.Eq.{bytes_eq-Decides}
 use Rattle.wav_format.specs.declared.format.SampleFormat.{SampleFormat}
 use Rattle.wav_format.specs.declared.head.Head.{Head}
-use Rattle.wav_format.specs.Chunks.{EndsHead, IsPassed, Leads, Spot, begins, behind, body_at, body_size, chunk_length, data_size, format_after}
+use Rattle.wav_format.specs.Chunks.{EndsHead, IsPassed, Leads, Spot, begins, spot_behind, body_at, body_size, chunk_length, data_size, format_after}
 use Rattle.wav_format.specs.Format.{AreBytes, IsFormat}
 use Rattle.wav_format.proofs.Bodies.{AllBelow, bytes-append, bytes_from, bytes-drop, bytes-zeros}
 use Rattle.wav_format.proofs.Longer.{begins_long, begins_more, length_more, size_more}
@@ -40,13 +40,13 @@ pub record Closes (limit : ℕ) (s : Spot) : Type 0 where
   pub leads : Leads limit chunks s end
   pub ends : EndsHead head [] end
 
-pub closes_over : (limit : ℕ) (s : Spot) → IsPassed limit s → Closes limit (behind s) → Closes limit s
+pub closes_over : (limit : ℕ) (s : Spot) → IsPassed limit s → Closes limit (spot_behind s) → Closes limit s
 closes_over limit s p c = record { chunks = suc c.chunks; end = c.end; head = c.head; leads = (p, c.leads); ends = c.ends }
 
 pub closes_last : (limit at : ℕ) (known : Option SampleFormat) → at + 32 ≤ limit → Closes limit (record { at = at; known = known; left = last_chunks })
 closes_last limit at known room = record {
   chunks = 1;
-  end = behind (record { at = at; known = known; left = last_chunks });
+  end = spot_behind (record { at = at; known = known; left = last_chunks });
   head = record { tag = 1; channels = 1; rate = 8000; bits = 16; start = at + 24 + 8; size = None };
   leads = (
     record {

@@ -6,7 +6,7 @@ use Rattle.std.proofs.lemmas.List.{append-nil, drop_at, get_or-append_right, get
 use Rattle.byteorder.specs.Endian.{little_from}
 use Rattle.wav_format.specs.declared.format.SampleFormat.{SampleFormat}
 use Rattle.wav_format.specs.Answers.{CutsAt}
-use Rattle.wav_format.specs.Chunks.{IsPassed, Reaches, Spot, begins, behind, body_at, body_size, chunk_length, longest_head}
+use Rattle.wav_format.specs.Chunks.{IsPassed, Reaches, Spot, begins, spot_behind, body_at, body_size, chunk_length, longest_head}
 use Rattle.wav_format.specs.Cuts.{BodyCut, ChunkCut, CutIn, HasRoom, HeadCut, IsLeast, OpeningCut, body_length, deciding, fronts, opening_length}
 use Rattle.wav_format.specs.Faults.{MayBeFormat}
 use Rattle.wav_format.specs.Format.{AreBytes, extensible, format_of}
@@ -108,7 +108,7 @@ module _ (s : Spot) (cut : BodyCut s) (tail : List ℕ) where
 
 fill_decides : (s : Spot) → (cut : BodyCut s) → HasRoom (ext s (filling s cut huge)) → Decided s (s.at + chunk_length s.left + 8)
 fill_decides s cut has =
-    let next = behind (ext s (filling s cut huge)) in
+    let next = spot_behind (ext s (filling s cut huge)) in
     let left_is = tail_left s cut huge in
     record {
       more = filling s cut huge;
@@ -120,7 +120,7 @@ fill_decides s cut has =
 data_decides : (s : Spot) → (cut : BodyCut s) → s.known ≡ None → begins (codes "fmt ") s.left ≡ false → HasRoom (ext s (filling s cut (codes "data"))) → Decided s (s.at + chunk_length s.left + 4)
 data_decides s cut none e has =
     let more = filling s cut (codes "data") in
-    let next = behind (ext s more) in
+    let next = spot_behind (ext s more) in
     let left_is = tail_left s cut (codes "data") in
     let long : length next.left ≡ 4 = ap length left_is in
     let named : begins (codes "data") next.left ≡ true = ap (begins (codes "data")) left_is in

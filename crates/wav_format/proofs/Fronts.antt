@@ -5,7 +5,7 @@ use Rattle.std.proofs.lemmas.List.{get_or_append_left, get_or-append_right, get_
 use Rattle.std.proofs.lemmas.Slice.Eq.{bytes_eq-Decides}
 use Rattle.wav_format.specs.declared.format.SampleFormat.{SampleFormat}
 use Rattle.wav_format.specs.Answers.{CutsAt}
-use Rattle.wav_format.specs.Chunks.{FrontsSomeHead, HeadThen, IsOpened, Leads, Reaches, Spot, begins, behind, body_at, body_size, chunk_length, first_chunk, longest_head}
+use Rattle.wav_format.specs.Chunks.{FrontsSomeHead, HeadThen, IsOpened, Leads, Reaches, Spot, begins, spot_behind, body_at, body_size, chunk_length, first_chunk, longest_head}
 use Rattle.wav_format.specs.Cuts.{BodyCut, ChunkCut, OpeningCut}
 use Rattle.wav_format.specs.Format.{AreBytes, Completes, IsFormat}
 use Rattle.wav_format.proofs.Bodies.{AllBelow, bytes-append, bytes-drop, bytes-nil, bytes-take, bytes-zeros, bytes_from, filled, filled_completes}
@@ -93,11 +93,11 @@ cut_goes s bytes (inr cut) = body_goes s bytes cut
 leads_wider : (limit wide n : ℕ) (s t : Spot) → limit ≤ wide → Leads limit n s t → Leads wide n s t
 leads_wider limit wide zero s t le e = e
 leads_wider limit wide (suc n) s t le (p, rest) =
-    (record { headed = p.headed; other = p.other; room = (let room = p.room in omega (arith, room)); format = p.format; whole = p.whole }, leads_wider limit wide n (behind s) t le rest)
+    (record { headed = p.headed; other = p.other; room = (let room = p.room in omega (arith, room)); format = p.format; whole = p.whole }, leads_wider limit wide n (spot_behind s) t le rest)
 
 leads_join : (limit n m : ℕ) (s t u : Spot) → Leads limit n s t → Leads limit m t u → (k : ℕ) × Leads limit k s u
 leads_join limit zero m s t u e q = (m, subst (λ (x : Spot). Leads limit m x u) (sym e) q)
-leads_join limit (suc n) m s t u (p, rest) q = let on = leads_join limit n m (behind s) t u rest q in (suc on.0, (p, on.1))
+leads_join limit (suc n) m s t u (p, rest) q = let on = leads_join limit n m (spot_behind s) t u rest q in (suc on.0, (p, on.1))
 
 pub opened_more : (bytes more : List ℕ) → IsOpened bytes → IsOpened (bytes ++ more)
 opened_more bytes more o =

@@ -6,7 +6,7 @@ use Rattle.std.proofs.lemmas.List.{get_or_append_left, get_or-take, get_or_past,
 use Rattle.byteorder.specs.Endian.{little_from}
 use Rattle.wav_format.specs.declared.format.SampleFormat.{SampleFormat}
 use Rattle.wav_format.specs.declared.head.HeadAnswer.TheVariants.{NeedMore}
-use Rattle.wav_format.specs.Chunks.{IsPassed, Leads, Reaches, Spot, begins, behind, body_at, body_size, chunk_length, first_chunk, format_after, longest_head}
+use Rattle.wav_format.specs.Chunks.{IsPassed, Leads, Reaches, Spot, begins, spot_behind, body_at, body_size, chunk_length, first_chunk, format_after, longest_head}
 use Rattle.wav_format.specs.Cuts.{BodyCut, ChunkCut, CutIn, HasRoom, HeadCut, body_length, deciding, deciding_head, fronts}
 use Rattle.wav_format.specs.Faults.{MayBeFormat}
 use Rattle.wav_format.specs.Format.{AreBytes, extensible, format_of}
@@ -27,7 +27,7 @@ use Rattle.wav_format.proofs.Words.{fronts_from}
 place_led : (limit n : ℕ) (s t : Spot) → Leads limit n s t → t.at + length t.left ≡ s.at + length s.left
 place_led limit zero s t e = ap (λ (x : Spot). x.at + length x.left) (sym e)
 place_led limit (suc n) s t (p, rest) =
-    let on = place_led limit n (behind s) t rest in
+    let on = place_led limit n (spot_behind s) t rest in
     let whole = p.whole in
     omega (arith, on, whole, length-drop (chunk_length s.left) s.left)
 
@@ -41,7 +41,7 @@ pub reached_more : (bytes more : List ℕ) (s : Spot) → Reaches longest_head b
 reached_more bytes more s (opened, (n, leads)) =
     (opened_more bytes more opened, (n, subst (λ (x : Spot). Leads longest_head n x (ext s more)) (sym (first_more bytes more opened.long)) (leads_more longest_head n (first_chunk bytes) s more leads)))
 
-reached_behind : (bytes : List ℕ) (s : Spot) → Reaches longest_head bytes s → IsPassed longest_head s → Reaches longest_head bytes (behind s)
+reached_behind : (bytes : List ℕ) (s : Spot) → Reaches longest_head bytes s → IsPassed longest_head s → Reaches longest_head bytes (spot_behind s)
 reached_behind bytes s (opened, (n, leads)) p = (opened, (suc n, leads_next longest_head n (first_chunk bytes) s leads p))
 
 none_on : (k : ℕ) (t u : Spot) → Leads longest_head k t u → (ChunkCut t → ⊥) → (IsPassed longest_head t → ⊥) → ChunkCut u → ⊥
@@ -138,7 +138,7 @@ body_passed s more cut has whole =
 
 -- further bytes end in the chunk, or in the head of the next one
 abbrev Goes : Spot → List ℕ → Type 0
-Goes s more = ChunkCut (ext s more) ⊎ (IsPassed longest_head (ext s more) × HeadCut (behind (ext s more)))
+Goes s more = ChunkCut (ext s more) ⊎ (IsPassed longest_head (ext s more) × HeadCut (spot_behind (ext s more)))
 
 body_goes : (s : Spot) (more : List ℕ) → BodyCut s → HasRoom (ext s more) → length (s.left ++ more) < chunk_length s.left + 8 → (begins (codes "data") (drop (chunk_length (s.left ++ more)) (s.left ++ more)) ≡ true → format_after (ext s more) ≢ None) → Goes s more
 body_goes s more cut has short named =
@@ -253,7 +253,7 @@ spot_below s more fine (inr cut) below = body_below s more fine cut below
 
 goes_cut : (bytes more : List ℕ) (s : Spot) → Reaches longest_head bytes s → Goes s more → CutIn (bytes ++ more)
 goes_cut bytes more s reached (inl cut) = inr (ext s more, reached_more bytes more s reached, cut)
-goes_cut bytes more s reached (inr (p, cut)) = inr (behind (ext s more), reached_behind (bytes ++ more) (ext s more) (reached_more bytes more s reached) p, inl cut)
+goes_cut bytes more s reached (inr (p, cut)) = inr (spot_behind (ext s more), reached_behind (bytes ++ more) (ext s more) (reached_more bytes more s reached) p, inl cut)
 
 pub reached_below : (bytes more : List ℕ) (s : Spot) → AreBytes bytes → AreBytes more → Reaches longest_head bytes s → ChunkCut s → length (bytes ++ more) < deciding s → CutIn (bytes ++ more)
 reached_below bytes more s fine fresh reached cut below =
@@ -286,7 +286,7 @@ pub record Decided (s : Spot) (n : ℕ) : Type 0 where
   pub more : List ℕ
   pub fresh : AreBytes more
   pub long : s.at + length (s.left ++ more) ≡ n
-  pub at_spot : ((ChunkCut (ext s more) → ⊥) × (IsPassed longest_head (ext s more) → ⊥)) ⊎ (IsPassed longest_head (ext s more) × ((ChunkCut (behind (ext s more)) → ⊥) × (IsPassed longest_head (behind (ext s more)) → ⊥)))
+  pub at_spot : ((ChunkCut (ext s more) → ⊥) × (IsPassed longest_head (ext s more) → ⊥)) ⊎ (IsPassed longest_head (ext s more) × ((ChunkCut (spot_behind (ext s more)) → ⊥) × (IsPassed longest_head (spot_behind (ext s more)) → ⊥)))
 
 pub decided_cut : (bytes : List ℕ) (s : Spot) (n : ℕ) → AreBytes bytes → Reaches longest_head bytes s → Decided s n → (more : List ℕ) × AreBytes more × (length (bytes ++ more) ≡ n) × (CutIn (bytes ++ more) → ⊥)
 decided_cut bytes s n fine reached d =
@@ -300,6 +300,6 @@ decided_cut bytes s n fine reached d =
       omega (arith, long, place, length-append bytes more, length-append s.left more),
       elim d.at_spot [
         | inl stop ↦ not_cut (bytes ++ more) (ext s more) all here stop.0 stop.1
-        | inr (p, stop) ↦ not_cut (bytes ++ more) (behind (ext s more)) all (reached_behind (bytes ++ more) (ext s more) here p) stop.0 stop.1
+        | inr (p, stop) ↦ not_cut (bytes ++ more) (spot_behind (ext s more)) all (reached_behind (bytes ++ more) (ext s more) here p) stop.0 stop.1
       ],
     )

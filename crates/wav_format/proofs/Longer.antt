@@ -6,7 +6,7 @@ use Rattle.wav_format.specs.declared.format.SampleFormat.{SampleFormat}
 use Rattle.wav_format.specs.declared.head.Head.{Head}
 use Rattle.wav_format.specs.declared.head.WavKind.{WavKind}
 use Rattle.wav_format.specs.declared.head.WavKind.TheVariants.{NotRiff, NotWave, NoFmt, BadFmt, TagUnknown, HeadTooLong}
-use Rattle.wav_format.specs.Chunks.{EndsHead, HeadThen, IsPassed, Leads, Reaches, Spot, begins, behind, body_at, body_size, chunk_length, first_chunk, format_after, longest_head}
+use Rattle.wav_format.specs.Chunks.{EndsHead, HeadThen, IsPassed, Leads, Reaches, Spot, begins, spot_behind, body_at, body_size, chunk_length, first_chunk, format_after, longest_head}
 use Rattle.wav_format.specs.Faults.{ChunkFault, Differs}
 use Rattle.wav_format.specs.Format.{AreBytes, Completes, IsFormat, format_of}
 use Rattle.wav_format.proofs.Bodies.{bytes-drop, bytes-take}
@@ -74,7 +74,7 @@ passed_more limit s more p =
       whole = omega (arith, whole, length_more s.left more p.headed, length-append s.left more);
     }
 
-pub behind_more : (limit : ℕ) (s : Spot) (more : List ℕ) → IsPassed limit s → behind (ext s more) ≡ ext (behind s) more
+pub behind_more : (limit : ℕ) (s : Spot) (more : List ℕ) → IsPassed limit s → spot_behind (ext s more) ≡ ext (spot_behind s) more
 behind_more limit s more p =
     same_spot (s.at + chunk_length (s.left ++ more)) (s.at + chunk_length s.left) (format_after (ext s more)) (format_after s)
     (drop (chunk_length (s.left ++ more)) (s.left ++ more)) (drop (chunk_length s.left) s.left ++ more)
@@ -84,7 +84,7 @@ behind_more limit s more p =
 pub leads_more : (limit n : ℕ) (s t : Spot) (more : List ℕ) → Leads limit n s t → Leads limit n (ext s more) (ext t more)
 leads_more limit zero s t more e = ap (λ x. ext x more) e
 leads_more limit (suc n) s t more (p, rest) =
-    (passed_more limit s more p, subst (λ (x : Spot). Leads limit n x (ext t more)) (sym (behind_more limit s more p)) (leads_more limit n (behind s) t more rest))
+    (passed_more limit s more p, subst (λ (x : Spot). Leads limit n x (ext t more)) (sym (behind_more limit s more p)) (leads_more limit n (spot_behind s) t more rest))
 
 pub first_more : (bytes more : List ℕ) → 12 ≤ length bytes → first_chunk (bytes ++ more) ≡ ext (first_chunk bytes) more
 first_more bytes more long = same_spot 12 12 None None (drop 12 (bytes ++ more)) (drop 12 bytes ++ more) refl refl (drop-append-le 12 bytes more long)
@@ -93,7 +93,7 @@ first_more bytes more long = same_spot 12 12 None None (drop 12 (bytes ++ more))
 pub follows : (limit n m : ℕ) (s t u : Spot) → Leads limit n s t → Leads limit m s u → (IsPassed limit u → ⊥) → (k : ℕ) × Leads limit k t u
 follows limit zero m s t u e q stop = (m, subst (λ (x : Spot). Leads limit m x u) e q)
 follows limit (suc n) zero s t u (passed, p) e stop = absurd (stop (subst (IsPassed limit) e passed))
-follows limit (suc n) (suc m) s t u (passed, p) (passed', q) stop = follows limit n m (behind s) t u p q stop
+follows limit (suc n) (suc m) s t u (passed, p) (passed', q) stop = follows limit n m (spot_behind s) t u p q stop
 
 pub ends_stops : (limit : ℕ) (h : Head) (rest : List ℕ) (s : Spot) → EndsHead h rest s → IsPassed limit s → ⊥
 ends_stops limit h rest s ends p = let named = ends.named in let other = p.other in cc

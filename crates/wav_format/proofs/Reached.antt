@@ -6,11 +6,11 @@ use Rattle.wav_format.specs.declared.head.HeadAnswer.{HeadAnswer}
 use Rattle.wav_format.specs.declared.head.HeadAnswer.TheVariants.{Whole, NeedMore, Bad}
 use Rattle.wav_format.specs.declared.head.WavKind.TheVariants.{NotRiff, NotWave, NoFmt, BadFmt, TagUnknown, HeadTooLong}
 use Rattle.wav_format.specs.Answers.{AnswerAt, AnswerIn}
-use Rattle.wav_format.specs.Chunks.{IsPassed, Leads, Reaches, Spot, behind, chunk_length, first_chunk, format_after, longest_head}
+use Rattle.wav_format.specs.Chunks.{IsPassed, Leads, Reaches, Spot, spot_behind, chunk_length, first_chunk, format_after, longest_head}
 
-pub leads_next : (limit chunks : ℕ) (s t : Spot) → Leads limit chunks s t → IsPassed limit t → Leads limit (suc chunks) s (behind t)
-leads_next limit zero s t e p = (subst (IsPassed limit) (sym e) p, ap behind e)
-leads_next limit (suc chunks) s t (first, rest) p = (first, leads_next limit chunks (behind s) t rest p)
+pub leads_next : (limit chunks : ℕ) (s t : Spot) → Leads limit chunks s t → IsPassed limit t → Leads limit (suc chunks) s (spot_behind t)
+leads_next limit zero s t e p = (subst (IsPassed limit) (sym e) p, ap spot_behind e)
+leads_next limit (suc chunks) s t (first, rest) p = (first, leads_next limit chunks (spot_behind s) t rest p)
 
 same_spot : (at at' : ℕ) (known known' : Option SampleFormat) (left left' : List ℕ) → at ≡ at' → known ≡ known' → left ≡ left' → ◌≡◌ {A = Spot} (record { at = at; known = known; left = left }) (record { at = at'; known = known'; left = left' })
 same_spot at at' known known' left left' p q r = cc
@@ -22,7 +22,7 @@ pub reaches_next : (limit : ℕ) (bytes : List ℕ) (place : ℕ) (known : Optio
     → Reaches limit bytes (record { at = place + len; known = format; left = drop (place + len) bytes })
 reaches_next limit bytes place known len format (opened, (chunks, leads)) passed is known_is =
     let s : Spot = record { at = place; known = known; left = drop place bytes } in
-    let next : behind s ≡ record { at = place + len; known = format; left = drop (place + len) bytes } =
+    let next : spot_behind s ≡ record { at = place + len; known = format; left = drop (place + len) bytes } =
     same_spot (place + chunk_length s.left) (place + len) (format_after s) format (drop (chunk_length s.left) s.left) (drop (place + len) bytes) (ap (λ n. place + n) (sym is)) (sym known_is) (ap (λ n. drop n s.left) (sym is) ∙ drop-drop len place bytes) in
     (opened, (suc chunks, subst (λ t. Leads limit (suc chunks) (first_chunk bytes) t) next (leads_next limit chunks (first_chunk bytes) s leads passed)))
 

@@ -9,10 +9,10 @@ use Rattle.wav_format.specs.declared.head.HeadAnswer.{HeadAnswer}
 use Rattle.wav_format.specs.declared.head.HeadAnswer.TheVariants.{Bad}
 use Rattle.wav_format.specs.declared.head.WavKind.TheVariants.{BadFmt, TagUnknown}
 use Rattle.wav_format.specs.Answers.{AnswerAt, AnswerIn}
-use Rattle.wav_format.specs.Chunks.{IsOpened, IsPassed, Leads, Spot, begins, behind, body_at, body_size, chunk_length, first_chunk, longest_head}
+use Rattle.wav_format.specs.Chunks.{IsOpened, IsPassed, Leads, Spot, begins, spot_behind, body_at, body_size, chunk_length, first_chunk, longest_head}
 use Rattle.wav_format.specs.Faults.{Differs, MayBeFormat, MayFit}
 use Rattle.wav_format.specs.Format.{AreBytes}
-use Rattle.wav_format.specs.Told.{chunk_told, chunks_told, data_told, difference, format_agrees, headed_told, numbers_agree, opened_told, told}
+use Rattle.wav_format.specs.Told.{chunk_told, chunks_told, data_told, difference, format_agrees, headed_told, numbers_agree, opened_told, answer_told}
 use Rattle.wav_format.proofs.Bodies.{bytes-drop, bytes-take}
 use Rattle.wav_format.proofs.Formats.{fit_to_numbers, format_to_given, given_to_format, numbers_to_fit}
 use Rattle.wav_format.proofs.Fronts.{begins_from}
@@ -52,7 +52,7 @@ format_says s fine headed named ends none false e = (record { headed = headed; n
 -- ---- one chunk
 
 abbrev Says : Spot → Option HeadAnswer → Type 0
-Says s told = MatchOption told (IsPassed longest_head s) (AnswerAt s)
+Says s answer_told = MatchOption answer_told (IsPassed longest_head s) (AnswerAt s)
 
 data_says : (s : Spot) (known : Option SampleFormat) → s.known ≡ known → begins (codes "data") s.left ≡ true → AnswerAt s (data_told known s)
 data_says s None is named = (named, is, refl)
@@ -98,7 +98,7 @@ chunk_says s fine =
 abbrev IsAhead : Spot → HeadAnswer → Type 0
 IsAhead s a = (n : ℕ) × (t : Spot) × Leads longest_head n s t × AnswerAt t a
 
-ahead : (s : Spot) (told : Option HeadAnswer) (next : HeadAnswer) → Says s told → (IsPassed longest_head s → IsAhead (behind s) next) → IsAhead s (unwrap_or told next)
+ahead : (s : Spot) (answer_told : Option HeadAnswer) (next : HeadAnswer) → Says s answer_told → (IsPassed longest_head s → IsAhead (spot_behind s) next) → IsAhead s (unwrap_or answer_told next)
 ahead s (Some a) next is on = (0, s, refl, is)
 ahead s None next is on = let there = on is in (suc there.0, there.1, (is, there.2), there.3)
 
@@ -108,9 +108,9 @@ no_word s none named = let long = begins_long (codes "data") s.left named in ome
 chunks_say : (most : ℕ) (s : Spot) → AreBytes s.left → length s.left ≤ most → IsAhead s (chunks_told most s)
 chunks_say zero s fine none = (0, s, refl, (inl (record { short = omega (arith, none); format = λ named. absurd (no_word s none named) }), refl))
 chunks_say (suc most) s fine within =
-    ahead s (chunk_told s) (chunks_told most (behind s)) (chunk_says s fine) (λ p.
+    ahead s (chunk_told s) (chunks_told most (spot_behind s)) (chunk_says s fine) (λ p.
     let whole = p.whole in
-    chunks_say most (behind s) (bytes-drop (chunk_length s.left) s.left fine) (omega (arith, whole, within, length-drop (chunk_length s.left) s.left)))
+    chunks_say most (spot_behind s) (bytes-drop (chunk_length s.left) s.left fine) (omega (arith, whole, within, length-drop (chunk_length s.left) s.left)))
 
 -- ---- the opening
 
@@ -157,6 +157,6 @@ opened_says None None bytes fine riff wave =
     let there = chunks_say (length bytes) (first_chunk bytes) (bytes-drop 12 bytes fine) (omega (arith, length-drop 12 bytes)) in
     answered bytes there.1 (chunks_told (length bytes) (first_chunk bytes)) (opened, (there.0, there.2)) there.3)
 
-pub told_says : (bytes : List ℕ) → AreBytes bytes → AnswerIn bytes (told bytes)
-unfolding told
+pub told_says : (bytes : List ℕ) → AreBytes bytes → AnswerIn bytes (answer_told bytes)
+unfolding answer_told
 told_says bytes fine = opened_says (difference (codes "RIFF") bytes) (difference (codes "WAVE") (drop 8 bytes)) bytes fine (difference_says (codes "RIFF") bytes) (difference_says (codes "WAVE") (drop 8 bytes))

@@ -9,7 +9,7 @@ use Rattle.wav_format.specs.declared.head.HeadAnswer.TheVariants.{Whole, NeedMor
 use Rattle.wav_format.specs.declared.head.WavKind.{WavKind}
 use Rattle.wav_format.specs.declared.head.WavKind.TheVariants.{NotRiff, NotWave, NoFmt, BadFmt, TagUnknown, HeadTooLong}
 use Rattle.wav_format.specs.Answers.{AnswerAt}
-use Rattle.wav_format.specs.Chunks.{EndsHead, IsPassed, Leads, Reaches, Spot, begins, behind, body_at, body_size, chunk_length, first_chunk, longest_head}
+use Rattle.wav_format.specs.Chunks.{EndsHead, IsPassed, Leads, Reaches, Spot, begins, spot_behind, body_at, body_size, chunk_length, first_chunk, longest_head}
 use Rattle.wav_format.specs.Cuts.{ChunkCut}
 use Rattle.wav_format.specs.Faults.{ChunkFault, MayBeFormat, MayFit}
 use Rattle.wav_format.specs.Format.{AreBytes, Completes}
@@ -157,11 +157,11 @@ pub one_spot : (n m : ℕ) (s t u : Spot) → Leads longest_head n s t → Leads
 one_spot zero zero s t u p q stop stop' = sym p ∙ q
 one_spot zero (suc m) s t u p (passed, q) stop stop' = absurd (stop (subst (IsPassed longest_head) p passed))
 one_spot (suc n) zero s t u (passed, p) q stop stop' = absurd (stop' (subst (IsPassed longest_head) q passed))
-one_spot (suc n) (suc m) s t u (passed, p) (passed', q) stop stop' = one_spot n m (behind s) t u p q stop stop'
+one_spot (suc n) (suc m) s t u (passed, p) (passed', q) stop stop' = one_spot n m (spot_behind s) t u p q stop stop'
 
 pub bytes_led : (limit n : ℕ) (s t : Spot) → AreBytes s.left → Leads limit n s t → AreBytes t.left
 bytes_led limit zero s t bytes e = subst (λ (x : Spot). AreBytes x.left) e bytes
-bytes_led limit (suc n) s t bytes (passed, rest) = bytes_led limit n (behind s) t (bytes-drop (chunk_length s.left) s.left bytes) rest
+bytes_led limit (suc n) s t bytes (passed, rest) = bytes_led limit n (spot_behind s) t (bytes-drop (chunk_length s.left) s.left bytes) rest
 
 pub bytes_reached : (limit : ℕ) (bytes : List ℕ) (s : Spot) → AreBytes bytes → Reaches limit bytes s → AreBytes s.left
 bytes_reached limit bytes s fine (opened, (n, leads)) = bytes_led limit n (first_chunk bytes) s (bytes-drop 12 bytes fine) leads

@@ -36,8 +36,8 @@ abbrev pub format_after : Spot → Option SampleFormat
 format_after s = if begins (codes "fmt ") s.left then Some (format_of (body_at s.left)) else s.known
 
 -- behind the chunk
-abbrev pub behind : Spot → Spot
-behind s = record { at = s.at + chunk_length s.left; known = format_after s; left = drop (chunk_length s.left) s.left }
+abbrev pub spot_behind : Spot → Spot
+spot_behind s = record { at = s.at + chunk_length s.left; known = format_after s; left = drop (chunk_length s.left) s.left }
 
 -- A whole chunk stands there that is not `data`, behind which the head of a chunk has room. If it is `fmt `,
 -- its body says a format.
@@ -51,7 +51,7 @@ pub record IsPassed (limit : ℕ) (s : Spot) : Type 0 where
 -- t is where s leads over so many chunks
 abbrev pub Leads : ℕ → ℕ → Spot → Spot → Type 0
 Leads limit zero s t = s ≡ t
-Leads limit (suc chunks) s t = IsPassed limit s × Leads limit chunks (behind s) t
+Leads limit (suc chunks) s t = IsPassed limit s × Leads limit chunks (spot_behind s) t
 
 -- The size of the data is not known where it is written as 0 or as FFFFFFFF.
 abbrev pub data_size : ℕ → Option ℕ

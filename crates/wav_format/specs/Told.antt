@@ -5,7 +5,7 @@ use Rattle.wav_format.specs.declared.format.SampleFormat.{SampleFormat}
 use Rattle.wav_format.specs.declared.head.HeadAnswer.{HeadAnswer}
 use Rattle.wav_format.specs.declared.head.HeadAnswer.TheVariants.{Whole, NeedMore, Bad}
 use Rattle.wav_format.specs.declared.head.WavKind.TheVariants.{NotRiff, NotWave, NoFmt, BadFmt, TagUnknown, HeadTooLong}
-use Rattle.wav_format.specs.Chunks.{Spot, begins, behind, body_at, body_size, chunk_length, data_size, first_chunk, longest_head}
+use Rattle.wav_format.specs.Chunks.{Spot, begins, spot_behind, body_at, body_size, chunk_length, data_size, first_chunk, longest_head}
 use Rattle.wav_format.specs.Cuts.{deciding, opening_length}
 use Rattle.wav_format.specs.Format.{extensible}
 use Rattle.wav_format.specs.Given.{channels_in}
@@ -85,7 +85,7 @@ chunk_told s =
 -- of the chunks from a spot on, of which there are no more than the number
 abbrev pub chunks_told : ℕ → Spot → HeadAnswer
 chunks_told zero s = NeedMore (deciding s)
-chunks_told (suc most) s = unwrap_or (chunk_told s) (chunks_told most (behind s))
+chunks_told (suc most) s = unwrap_or (chunk_told s) (chunks_told most (spot_behind s))
 
 -- the first place at which the bytes differ from a word
 abbrev pub difference : List ℕ → List ℕ → Option ℕ
@@ -98,5 +98,5 @@ opened_told (Some place) wave bytes = Bad place NotRiff
 opened_told None (Some place) bytes = Bad (8 + place) NotWave
 opened_told None None bytes = if nat_lt (length bytes) 12 then NeedMore (opening_length (length bytes)) else chunks_told (length bytes) (first_chunk bytes)
 
-unfoldable pub told : List ℕ → HeadAnswer
-told bytes = opened_told (difference (codes "RIFF") bytes) (difference (codes "WAVE") (drop 8 bytes)) bytes
+unfoldable pub answer_told : List ℕ → HeadAnswer
+answer_told bytes = opened_told (difference (codes "RIFF") bytes) (difference (codes "WAVE") (drop 8 bytes)) bytes

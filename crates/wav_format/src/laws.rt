@@ -3,7 +3,7 @@ ghost use Rattle.std.specs.Prelude.{◌≡◌, ◌++◌, ℕ, List};
 ghost use Rattle.wav_format.specs.Answers.{AnswerIn};
 ghost use Rattle.wav_format.specs.Chunks.{BeginsWithHead};
 ghost use Rattle.wav_format.specs.Format.{AreBytes};
-ghost use Rattle.wav_format.specs.Told.{told};
+ghost use Rattle.wav_format.specs.Told.{answer_told};
 ghost use Rattle.wav_format.specs.declared.head.Head.{Head};
 ghost use Rattle.wav_format.specs.declared.head.HeadAnswer.{HeadAnswer};
 
@@ -14,6 +14,6 @@ pub fn head_stays()
 
 /// All bytes have the answer that `told` gives, and no other one.
 pub fn one_is_told()
-    ensures told { (bytes : List ℕ) → AreBytes bytes → AnswerIn bytes (told bytes) }
-    ensures once { (bytes : List ℕ) (answer : HeadAnswer) → AreBytes bytes → AnswerIn bytes answer → told bytes ≡ answer }
+    ensures answer_told { (bytes : List ℕ) → AreBytes bytes → AnswerIn bytes (answer_told bytes) }
+    ensures once { (bytes : List ℕ) (answer : HeadAnswer) → AreBytes bytes → AnswerIn bytes answer → answer_told bytes ≡ answer }
 {}

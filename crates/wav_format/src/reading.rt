@@ -6,7 +6,7 @@ ghost use Rattle.wav_format.specs.Cuts.{IsLeast, fronts, opening_length};
 ghost use Rattle.wav_format.specs.Faults.{Differs, FaultIn};
 ghost use Rattle.wav_format.specs.Format.{AreBytes};
 ghost use Rattle.wav_format.specs.Reader.{StandsBehind, StandsIn};
-ghost use Rattle.wav_format.specs.Told.{told};
+ghost use Rattle.wav_format.specs.Told.{answer_told};
 ghost use Rattle.wav_format.specs.declared.head.Head.{Head};
 ghost use Rattle.wav_format.specs.declared.head.HeadAnswer;
 ghost use Rattle.wav_format.specs.declared.head.WavKind.{WavKind};
@@ -138,7 +138,7 @@ pub fn read_head(bytes: &[u8]) -> HeadAnswer
     ensures need_more { (n : ℕ) → result ≡ HeadAnswer.NeedMore n ↔ CutsAt bytes.now n }
 
     // It is a function of the bytes.
-    ensures told { result ≡ told bytes.now }
+    ensures answer_told { result ≡ answer_told bytes.now }
 
     // That length is the least that decides more.
     ensures least { (n : ℕ) → result ≡ HeadAnswer.NeedMore n → IsLeast bytes.now n }

@@ -5,7 +5,7 @@ use Rattle.std.specs.Option.{ForSome, option_map}
 use Rattle.std.proofs.lemmas.Option.{none-some, same_Some}
 use Rattle.el_set.specs.Gives.{source_items}
 use Rattle.el_set.specs.Made.{IsEmpty, file_for}
-use Rattle.el_set.specs.Asked.{source_pads}
+use Rattle.el_settings.specs.Asked.{source_pads}
 use Rattle.net_model.specs.declared.element.TaskElement as elements
 use Rattle.net_model.specs.declared.source.TaskSource as givers
 use Rattle.flow_model.specs.Call.{Call}

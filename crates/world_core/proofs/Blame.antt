@@ -1,8 +1,8 @@
 -- Whom a fault of a run names.
 use Rattle.std.proofs.Common.{◌≡◌, ◌≢◌, ◌⊎◌, ℕ, List, Some, length, refl, sym, ap, ◌∙◌, subst, inl, inr, arith}
 use Rattle.std.specs.Prelude.{slice_get}
-use Rattle.gst_item.specs.declared.fault.ElementFault.{ElementFault}
-use Rattle.gst_item.specs.declared.fault.ElementFault.TheVariants as own_faults
+use Rattle.flow_model.specs.declared.fault.ElementFault.{ElementFault}
+use Rattle.flow_model.specs.declared.fault.ElementFault.TheVariants as own_faults
 use Rattle.net_model.specs.declared.refusal.Refusal.TheVariants.{Fault}
 use Rattle.net_model.specs.declared.refusal.Unread.{Unread}
 use Rattle.net_model.specs.declared.refusal.Unread.TheVariants as reads

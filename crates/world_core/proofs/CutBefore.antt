@@ -5,7 +5,7 @@ use Rattle.std.proofs.lemmas.Bool.{cases_lt}
 use Rattle.std.proofs.lemmas.List.{take-take, drop-take}
 use Rattle.flow_model.specs.Item.{Item, Ev, StreamStart, NewSegment, Eos, is_buffer}
 use Rattle.flow_model.specs.Source.{blocks_from, bytes_segment, file_list}
-use Rattle.el_set.specs.declared.settings.Settings.{Settings}
+use Rattle.el_settings.specs.declared.settings.Settings.{Settings}
 use Rattle.el_set.proofs.Lists.{read_list}
 use Rattle.graph_ends.specs.Owed.{went_from}
 use Rattle.graph_ends.specs.Short.{IsCutShort}

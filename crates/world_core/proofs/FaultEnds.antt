@@ -14,8 +14,8 @@ use Rattle.graph_core.specs.declared.graph.Graph.{Graph}
 use Rattle.graph_ends.specs.Owed.{went_from}
 use Rattle.graph_ends.specs.Runs.{crossed_in}
 use Rattle.graph_files.specs.Files.{WereTold}
-use Rattle.gst_item.specs.declared.fault.ElementFault.{ElementFault}
-use Rattle.gst_item.specs.declared.fault.ElementFault.TheVariants as own_faults
+use Rattle.flow_model.specs.declared.fault.ElementFault.{ElementFault}
+use Rattle.flow_model.specs.declared.fault.ElementFault.TheVariants as own_faults
 use Rattle.gst_outside.specs.Seen.{Seen}
 use Rattle.gst_outside.specs.declared.sink.Sink as sinks
 use Rattle.gst_outside.specs.declared.source.Source as sources

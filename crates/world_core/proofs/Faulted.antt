@@ -3,7 +3,7 @@ use Rattle.std.proofs.Common.{◌≡◌, ◌≢◌, ◌⊎◌, ℕ, List, [], Op
 use Rattle.std.specs.Prelude.{slice_get, unwrap_or}
 use Rattle.std.specs.Option.{option_map, option_map_or}
 use Rattle.std.proofs.lemmas.Option.{none-some, same_Some}
-use Rattle.el_set.specs.Asked.{location_of}
+use Rattle.el_settings.specs.Asked.{location_of}
 use Rattle.el_set.specs.Gives.{source_file}
 use Rattle.el_set.specs.Made.{file_for, read_for}
 use Rattle.net_model.specs.Failures.{IsReadCause, IsWriteCause}
@@ -25,8 +25,8 @@ use Rattle.graph_files.specs.Back.{HasElement, HasSource}
 use Rattle.graph_files.specs.Ends.{at as end_at, sink_end, source_end}
 use Rattle.graph_files.specs.Files.{OpensAt, WereTold}
 use Rattle.graph_core.specs.Allowed.{first_pad}
-use Rattle.gst_item.specs.declared.fault.ElementFault.{ElementFault}
-use Rattle.gst_item.specs.declared.fault.ElementFault.TheVariants as own_faults
+use Rattle.flow_model.specs.declared.fault.ElementFault.{ElementFault}
+use Rattle.flow_model.specs.declared.fault.ElementFault.TheVariants as own_faults
 use Rattle.gst_outside.specs.Causes.{Rose}
 use Rattle.gst_outside.specs.Seen.{Seen}
 use Rattle.gst_outside.specs.declared.sink.Sink as sinks

@@ -31,7 +31,7 @@ use Rattle.task_parts.specs.declared.head.Head.{Head}
 use Rattle.task_parts.specs.declared.head.Head.TheVariants.{Source, Inlets}
 use Rattle.task_parts.specs.declared.head.SourceHead.{SourceHead}
 use Rattle.world_core.proofs.Members.{flat_place}
-use Rattle.el_set.proofs.Roles.{queue_no_source}
+use Rattle.el_settings.proofs.Roles.{queue_no_source}
 
 -- The source of a head was taken from under its number, and reads its file where it did.
 pub record GivenFrom {S I O : Type 0} (s : givers.Ghosts S) (files : List (Option S)) (plans : List (WiredTask I O)) (k e : ℕ) (x : S) : Type 0 where

@@ -1,7 +1,7 @@
 -- What the files of a run hold that stopped.
 use Rattle.std.proofs.Common.{◌≡◌, ◌≢◌, ℕ, List, [], ◌∷◌, Option, Some, refl, subst, inl, inr}
 use Rattle.std.specs.Prelude.{slice_get}
-use Rattle.el_set.specs.declared.settings.Settings.{Settings}
+use Rattle.el_settings.specs.declared.settings.Settings.{Settings}
 use Rattle.net_model.specs.declared.element.TaskElement as elements
 use Rattle.net_model.specs.declared.source.TaskSource as givers
 use Rattle.flow_model.specs.Call.{feeds}

@@ -1,15 +1,15 @@
 -- What is made of an element, what it reads and what it writes, by what it opens.
 use Rattle.std.proofs.Common.{◌≡◌, ◌||◌, not, ℕ, Bool, true, false, eqb, if◌then◌else◌, List, [], Option, Some, None, is_some, refl, sym, ap, ◌∙◌, subst}
 use Rattle.std.proofs.lemmas.Option.{none-some, same_Some}
-use Rattle.el_set.specs.Asked.{is_filter, is_queue, location_of, reads, source_pads, writes}
+use Rattle.el_settings.specs.Asked.{is_filter, is_queue, location_of, reads, source_pads, writes}
 use Rattle.el_set.specs.Gives.{source_content, source_file}
 use Rattle.el_set.specs.Made.{IsEmpty, file_for, list_of, makes_sink, makes_source, read_for}
-use Rattle.el_set.specs.declared.settings.Settings.{Settings}
+use Rattle.el_settings.specs.declared.settings.Settings.{Settings}
 use Rattle.el_set.specs.declared.source.SourceElement.{SourceElement}
 use Rattle.el_set.specs.declared.source.SourceElement.TheVariants.{File, Ramp}
 use Rattle.el_set.proofs.Lists.{list_read}
 use Rattle.el_set.proofs.Openings.{content_is, read_is, sink_with, source_with, written_is}
-use Rattle.el_set.proofs.Roles.{between_pads}
+use Rattle.el_settings.proofs.Roles.{between_pads}
 use Rattle.graph_bags.specs.Links.{is_source}
 use Rattle.graph_files.specs.Files.{opening_of}
 use Rattle.graph_files.proofs.OwnFiles.{reading_opens, writing_opens}

@@ -3,13 +3,13 @@ use Rattle.std.proofs.Common.{◌≡◌, ℕ, Bool, true, false, List, Option, N
 use Rattle.std.specs.Prelude.{slice_get}
 use Rattle.std.specs.Option.{option_map, option_map_or}
 use Rattle.el_set.specs.Gives.{source_file}
-use Rattle.el_set.specs.declared.settings.Settings.{Settings}
+use Rattle.el_settings.specs.declared.settings.Settings.{Settings}
 use Rattle.el_set.specs.declared.sink.SinkElement.TheVariants as sink_elements
 use Rattle.el_set.proofs.Openings.{opens_none}
 use Rattle.el_sink.specs.Held.{length_of}
 use Rattle.graph_core.specs.Elements.{Made}
 use Rattle.graph_files.specs.Back.{Gives, HasLength, read_end, written_end}
-use Rattle.el_set.specs.Asked.{reads, writes}
+use Rattle.el_settings.specs.Asked.{reads, writes}
 use Rattle.graph_files.specs.Ends.{has}
 use Rattle.graph_files.specs.Files.{opening_of}
 use Rattle.graph_files.specs.Put.{IsPutAt}

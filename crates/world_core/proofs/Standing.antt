@@ -3,7 +3,7 @@ use Rattle.std.proofs.Common.{◌≡◌, ℕ, Bool, true, false, List, [], ◌�
 use Rattle.std.specs.Prelude.{slice_get}
 use Rattle.std.specs.Option.{option_map_or}
 use Rattle.std.proofs.lemmas.Option.{slice_get_within}
-use Rattle.el_set.specs.Asked.{sink_pads}
+use Rattle.el_settings.specs.Asked.{sink_pads}
 use Rattle.el_set.specs.Made.{list_of}
 use Rattle.net_model.specs.declared.element.TaskElement as elements
 use Rattle.net_model.specs.declared.source.TaskSource as givers
@@ -32,7 +32,7 @@ use Rattle.task_elements.specs.Owes.{Owes}
 use Rattle.task_elements.specs.declared.element.StreamElement.{StreamElement}
 use Rattle.task_elements.specs.declared.source.StreamSource.{StreamSource}
 use Rattle.world_core.proofs.AtHand.{MakesStreams, given_at, made_at, told_at}
-use Rattle.el_set.proofs.Roles.{other_sinks}
+use Rattle.el_settings.proofs.Roles.{other_sinks}
 
 -- what is asked of an element that is there
 asked_of : (made : List Made) (n : ℕ) (m : Made) → slice_get made n ≡ Some m → has is_source made n ≡ is_source m.settings

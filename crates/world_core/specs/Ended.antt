@@ -2,8 +2,8 @@
 -- `Holds` says that the files of the filesinks hold these bytes, by the numbers of the elements, and `Failed` that calls of
 -- the file of an element failed, and how many.
 use Rattle.std.specs.Prelude.{◌≡◌, ◌≢◌, ◌≤◌, ◌<◌, ◌⊎◌, ℕ, All, List, length, None, Some, slice_get}
-use Rattle.gst_item.specs.declared.fault.ElementFault.{ElementFault}
-use Rattle.gst_item.specs.declared.fault.ElementFault.TheVariants.{TooLong}
+use Rattle.flow_model.specs.declared.fault.ElementFault.{ElementFault}
+use Rattle.flow_model.specs.declared.fault.ElementFault.TheVariants.{TooLong}
 use Rattle.gst_outside.specs.Causes.{Rose}
 use Rattle.flow_model.specs.Eval.{eval}
 use Rattle.flow_model.specs.Item.{Item}
@@ -12,7 +12,7 @@ use Rattle.graph_core.specs.Graph.{made as made_in, links as links_in}
 use Rattle.graph_core.specs.Links.{sink_behind}
 use Rattle.graph_core.specs.declared.graph.Graph.{Graph}
 use Rattle.graph_core.specs.declared.pad.PadLink.{PadLink}
-use Rattle.el_set.specs.declared.settings.Settings.{Settings}
+use Rattle.el_settings.specs.declared.settings.Settings.{Settings}
 use Rattle.graph_core.specs.Allowed.{first_pad}
 use Rattle.graph_files.specs.Files.{WereTold, opening_of}
 use Rattle.graph_core.specs.GraphPlan.{graph_plan, owner_of}

@@ -2,14 +2,14 @@
 use Rattle.std.specs.Prelude.{ℕ, List, [], Option, None, Some, if◌then◌else◌, codes, filter_map, length, option_map, slice_get, unwrap_or}
 use Rattle.std.specs.List.{range_with_len}
 use Rattle.std.specs.Option.{option_map_or}
-use Rattle.gst_item.specs.declared.fault.ElementFault.{ElementFault}
-use Rattle.gst_item.specs.declared.fault.ElementFault.TheVariants.{NotNegotiated, BadStream, TooLong, OutOfMemory}
+use Rattle.flow_model.specs.declared.fault.ElementFault.{ElementFault}
+use Rattle.flow_model.specs.declared.fault.ElementFault.TheVariants.{NotNegotiated, BadStream, TooLong, OutOfMemory}
 use Rattle.flow_model.specs.Item.{Item, buffers}
-use Rattle.el_set.specs.Asked.{location_of}
+use Rattle.el_settings.specs.Asked.{location_of}
 use Rattle.graph_core.specs.Elements.{Made}
 use Rattle.graph_core.specs.Ends.{name_at}
-use Rattle.gst_caps.specs.declared.name.PadName.{PadName}
-use Rattle.el_set.specs.Asked.{writes}
+use Rattle.gst_value.specs.declared.name.PadName.{PadName}
+use Rattle.el_settings.specs.Asked.{writes}
 use Rattle.graph_core.specs.Allowed.{first_pad}
 use Rattle.graph_core.specs.GraphPlan.{owner_of, pad_id}
 use Rattle.graph_files.specs.Ends.{has}

@@ -3,15 +3,15 @@ ghost use Rattle.std.specs.Prelude.{◌≡◌, ◌<◌, ◌++◌, [], IfOk, OnOk
 ghost use Rattle.std.specs.List.{cons_option};
 ghost use Rattle.graph_core.specs.Ends.{name_at};
 ghost use Rattle.graph_core.specs.Graph.{made as made_in};
-ghost use Rattle.el_set.specs.Asked.{writes};
+ghost use Rattle.el_settings.specs.Asked.{writes};
 ghost use Rattle.world_core.specs.Ran.{TellsEnd, stop_fault, stop_status};
 ghost use Rattle.world_core.specs.Told.{location_named, pad_told, pads_told, sink_told, sinks_told, source_pad, task_fault, task_status};
 
 use crate::ended::WorldEnd;
-use el_set::Settings;
+use el_settings::Settings;
 use graph_core::Graph;
 use graph_files::Count;
-use gst_caps::{List, OutOfMemory, PadName, Text};
+use gst_value::{List, OutOfMemory, PadName, Text};
 use run_report::{Fault, PadCount, Report, SinkCount};
 use std::alloc::Global;
 use task_parts::TaskFault;

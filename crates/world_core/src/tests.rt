@@ -1,8 +1,8 @@
 //! Lines over files in memory, by turns.
 use super::*;
 use graph_core::build;
-use gst_caps::List;
 use gst_outside::{Files, MemFiles};
+use gst_value::List;
 use launch_text::parse;
 use run_report::report_text;
 use std::alloc::Global;

@@ -1,6 +1,6 @@
 use super::*;
-use gst_caps::Text;
 use gst_outside::{MemFiles, MemSink, OpenGate, StepClock};
+use gst_value::Text;
 use std::process::Abort;
 use std::test::Fail;
 

@@ -1,5 +1,5 @@
 use Rattle.std.proofs.Common.{◌≡◌, take, map}
-use Rattle.el_wavenc.specs.Same.{as_field}
+use Rattle.el_wavenc.specs.Alone.{as_field}
 use Rattle.el_wavenc.proofs.fixed.as_structure.Given as goal
 
 abbrev pub invariant-loop-place : goal.invariant-loop-place

@@ -1,5 +1,5 @@
 use Rattle.std.proofs.Common.{sym, ap, ◌∙◌}
-use Rattle.el_set.specs.Asked.{is_converter}
+use Rattle.el_settings.specs.Asked.{is_converter}
 use Rattle.graph_core.specs.Allowed.{checked}
 use Rattle.graph_core.specs.Elements.{all_made}
 use Rattle.graph_core.specs.Links.{all_links}

@@ -1,5 +1,5 @@
 use Rattle.std.proofs.Common.{◌+◌, ℕ, Ok, Err, ap, subst}
-use Rattle.graph_core.specs.Asked.{end_of, behind}
+use Rattle.graph_core.specs.Asked.{end_of, number_behind}
 use Rattle.graph_core.specs.Elements.{all_made}
 use Rattle.graph_core.specs.Ends.{IsEndPad, PadOrMemory}
 use Rattle.graph_core.specs.Links.{all_links, IsUnjoined, LinksStop, one_link}
@@ -12,14 +12,14 @@ pub returns-in_err-source-clause-fault : goal.returns-in_err-source-clause-fault
 returns-in_err-source-clause-fault c =
     let fault = c.in_err-source.field-0.0 in
     handed_on c.from_residual.result fault _ c.from_residual.ensures.1
-    (left_stops (all_made c.args.elements.now) (all_links c.args.links.now) (end_of c.args.number c.args.left.now, end_of (behind c.args.number c.args.left.now) c.args.right.now) fault c.in_err-source.ensures)
+    (left_stops (all_made c.args.elements.now) (all_links c.args.links.now) (end_of c.args.number c.args.left.now, end_of (number_behind c.args.number c.args.left.now) c.args.right.now) fault c.in_err-source.ensures)
 
 pub returns-in_err-sink-clause-fault : goal.returns-in_err-sink-clause-fault
 returns-in_err-sink-clause-fault c =
     let fault = c.in_err-sink.field-0.0 in
     let enters = subst (λ (n : ℕ). PadOrMemory (IsEndPad (all_made c.args.elements.now) Sink (end_of n c.args.right.now)) (Err fault)) (ap (λ n. c.args.number + n) c.made_by.ensures) c.in_err-sink.ensures in
     handed_on c.from_residual-in_err-sink.result fault _ c.from_residual-in_err-sink.ensures.1
-    (right_stops (all_made c.args.elements.now) (all_links c.args.links.now) (end_of c.args.number c.args.left.now, end_of (behind c.args.number c.args.left.now) c.args.right.now) c.in_ok-source.source fault c.in_ok-source.ensures enters)
+    (right_stops (all_made c.args.elements.now) (all_links c.args.links.now) (end_of c.args.number c.args.left.now, end_of (number_behind c.args.number c.args.left.now) c.args.right.now) c.in_ok-source.source fault c.in_ok-source.ensures enters)
 
 pub join-requires-clause-left : goal.join-requires-clause-left
 join-requires-clause-left c = end_there (all_made c.args.elements.now) Source (end_of c.args.number c.args.left.now) c.in_ok-source.source c.in_ok-source.ensures
@@ -31,13 +31,13 @@ pub returns-clause-made : goal.returns-clause-made
 returns-clause-made c =
     let enters = subst (λ (n : ℕ). PadOrMemory (IsEndPad (all_made c.args.elements.now) Sink (end_of n c.args.right.now)) (Ok c.in_ok-sink.sink)) (ap (λ n. c.args.number + n) c.made_by.ensures) c.in_ok-sink.ensures in
     where_ok c.join.result
-    (joint_follows (all_made c.args.elements.now) (all_links c.args.links.now) (end_of c.args.number c.args.left.now, end_of (behind c.args.number c.args.left.now) c.args.right.now) c.in_ok-source.source c.in_ok-sink.sink c.in_ok-source.ensures enters (all_links c.join.new.links))
+    (joint_follows (all_made c.args.elements.now) (all_links c.args.links.now) (end_of c.args.number c.args.left.now, end_of (number_behind c.args.number c.args.left.now) c.args.right.now) c.in_ok-source.source c.in_ok-sink.sink c.in_ok-source.ensures enters (all_links c.join.new.links))
     c.join.ensures.made
 
 pub returns-clause-fault : goal.returns-clause-fault
 returns-clause-fault c =
     let enters = subst (λ (n : ℕ). PadOrMemory (IsEndPad (all_made c.args.elements.now) Sink (end_of n c.args.right.now)) (Ok c.in_ok-sink.sink)) (ap (λ n. c.args.number + n) c.made_by.ensures) c.in_ok-sink.ensures in
     where_fault (IsUnjoined (all_made c.args.elements.now) (all_links c.args.links.now) c.in_ok-source.source c.in_ok-sink.sink)
-    (λ fault. LinksStop (all_made c.args.elements.now) (all_links c.args.links.now) (one_link (end_of c.args.number c.args.left.now) (end_of (behind c.args.number c.args.left.now) c.args.right.now)) fault) c.join.result
-    (joint_stops (all_made c.args.elements.now) (all_links c.args.links.now) (end_of c.args.number c.args.left.now, end_of (behind c.args.number c.args.left.now) c.args.right.now) c.in_ok-source.source c.in_ok-sink.sink c.in_ok-source.ensures enters)
+    (λ fault. LinksStop (all_made c.args.elements.now) (all_links c.args.links.now) (one_link (end_of c.args.number c.args.left.now) (end_of (number_behind c.args.number c.args.left.now) c.args.right.now)) fault) c.join.result
+    (joint_stops (all_made c.args.elements.now) (all_links c.args.links.now) (end_of c.args.number c.args.left.now, end_of (number_behind c.args.number c.args.left.now) c.args.right.now) c.in_ok-source.source c.in_ok-sink.sink c.in_ok-source.ensures enters)
     c.join.ensures.fault

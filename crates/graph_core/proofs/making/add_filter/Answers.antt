@@ -1,5 +1,5 @@
 use Rattle.std.proofs.Common.{List, [], ◌∷◌, codes, subst, OnOk, IfErr}
-use Rattle.gst_caps.specs.declared.name.Prop.{Prop}
+use Rattle.gst_value.specs.declared.name.Prop.{Prop}
 use Rattle.graph_core.specs.Asked.{Declared}
 use Rattle.graph_core.specs.Elements.{all_made, IsUnmade, Follows, Stops}
 use Rattle.graph_core.specs.declared.fault.BuildFault.{BuildFault}

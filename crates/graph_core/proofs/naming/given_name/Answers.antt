@@ -1,5 +1,5 @@
 use Rattle.std.proofs.Common.{sym, ap, ◌∙◌, bytes_eq, codes, Some}
-use Rattle.el_set.proofs.Given.{value_then, value_else}
+use Rattle.el_settings.proofs.Given.{value_then, value_else}
 use Rattle.graph_core.proofs.naming.given_name.Goals as goal
 use Rattle.graph_core.proofs.naming.given_name.Goals.{then-eq, else-eq}
 

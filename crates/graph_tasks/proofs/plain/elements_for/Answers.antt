@@ -1,7 +1,7 @@
 use Rattle.std.proofs.Common.{◌≡◌, Option, ap, ◌∙◌, length, arith}
 use Rattle.std.specs.Option.{option_map_or}
 use Rattle.std.proofs.lemmas.Option.{slice_get_within}
-use Rattle.el_set.specs.Asked.{source_pads}
+use Rattle.el_settings.specs.Asked.{source_pads}
 use Rattle.graph_core.specs.Elements.{Made}
 use Rattle.graph_core.specs.Graph.{made as made_in}
 use Rattle.graph_bags.specs.Links.{source_count}

@@ -1,4 +1,4 @@
-use Rattle.std.proofs.Common.{ap, length, refl, arith, ◌∙◌}
+use Rattle.std.proofs.Common.{ap, length, refl, arith}
 use Rattle.std.proofs.lemmas.Option.{slice_get_within}
 use Rattle.graph_core.specs.Graph.{made as made_in}
 use Rattle.graph_lanes.proofs.Slots.{size_more}

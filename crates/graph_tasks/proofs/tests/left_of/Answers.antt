@@ -1,4 +1,4 @@
-use Rattle.std.proofs.Common.{List, sym, subst}
+use Rattle.std.proofs.Common.{sym, subst}
 use Rattle.graph_core.proofs.LinkedOnce.{linked_once}
 use Rattle.lane_core.specs.contracts.memory.MemInletInlet.TheImpl as inlets
 use Rattle.lane_core.specs.contracts.memory.MemOutletOutlet.TheImpl as outlets

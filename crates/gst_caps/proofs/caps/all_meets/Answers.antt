@@ -1,4 +1,4 @@
-use Rattle.gst_caps.proofs.Limit.{over_from}
+use Rattle.gst_value.proofs.Limit.{over_from}
 use Rattle.gst_caps.proofs.Meeting.{members_law, rows_over}
 use Rattle.gst_caps.proofs.caps.all_meets.Goals as goal
 

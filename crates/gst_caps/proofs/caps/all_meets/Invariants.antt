@@ -1,7 +1,7 @@
 use Rattle.std.proofs.Common.{◌≡◌, ◌<◌, false, take}
 use Rattle.gst_caps.specs.Accepts.{all_meets}
 use Rattle.gst_caps.specs.Description.{IsStructure}
-use Rattle.gst_caps.specs.Names.{Each}
+use Rattle.gst_value.specs.Names.{Each}
 use Rattle.gst_caps.specs.Passes.{structures_pass}
 use Rattle.gst_caps.proofs.caps.all_meets.Given as goal
 

@@ -1,7 +1,7 @@
 use Rattle.std.proofs.Common.{ap, ◌∙◌}
-use Rattle.gst_caps.specs.Common.{common_one}
-use Rattle.gst_caps.proofs.Kept.{kept_step, kept_over}
-use Rattle.gst_caps.proofs.Limit.{over_from}
+use Rattle.gst_value.specs.Common.{common_one}
+use Rattle.gst_value.proofs.Kept.{kept_step, kept_over}
+use Rattle.gst_value.proofs.Limit.{over_from}
 use Rattle.gst_caps.proofs.common.add_commons.Goals as goal
 
 pub returns-in_err-add_found-clause-too_many : goal.returns-in_err-add_found-clause-too_many

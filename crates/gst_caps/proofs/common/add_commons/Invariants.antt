@@ -1,7 +1,7 @@
 use Rattle.std.proofs.Common.{◌≡◌, ◌≤◌, length, take}
 use Rattle.std.specs.List.{filter_map}
-use Rattle.gst_caps.specs.Common.{common_one}
-use Rattle.gst_caps.specs.Kept.{kept}
+use Rattle.gst_value.specs.Common.{common_one}
+use Rattle.gst_value.specs.Kept.{kept}
 use Rattle.gst_caps.proofs.common.add_commons.Given as goal
 
 abbrev pub invariant-loop-other : goal.invariant-loop-other

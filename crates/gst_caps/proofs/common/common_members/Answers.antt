@@ -1,6 +1,6 @@
 use Rattle.std.proofs.Common.{length, arith, ap}
-use Rattle.gst_caps.proofs.Kept.{commons_step, commons_over, commons_all}
-use Rattle.gst_caps.proofs.Limit.{over_from}
+use Rattle.gst_value.proofs.Kept.{commons_step, commons_over, commons_all}
+use Rattle.gst_value.proofs.Limit.{over_from}
 use Rattle.gst_caps.proofs.common.common_members.Goals as goal
 
 pub returns-in_err-add_commons-clause-too_many : goal.returns-in_err-add_commons-clause-too_many

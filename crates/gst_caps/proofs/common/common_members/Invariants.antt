@@ -1,6 +1,6 @@
 use Rattle.std.proofs.Common.{◌≡◌, ◌≤◌, [], length, take}
-use Rattle.gst_caps.specs.Common.{commons}
-use Rattle.gst_caps.specs.Kept.{kept}
+use Rattle.gst_value.specs.Common.{commons}
+use Rattle.gst_value.specs.Kept.{kept}
 use Rattle.gst_caps.proofs.common.common_members.Given as goal
 
 abbrev pub invariant-loop-member : goal.invariant-loop-member

@@ -1,8 +1,8 @@
 use Rattle.std.proofs.Common.{◌≡◌, sym, ◌∙◌}
 use Rattle.std.specs.List.{filter_map}
 use Rattle.std.proofs.lemmas.Result.{IfOk-weaker}
-use Rattle.gst_caps.specs.Common.{common_one, first_of}
-use Rattle.gst_caps.proofs.Fixing.{found_first, none_given}
+use Rattle.gst_value.specs.Common.{common_one, first_of}
+use Rattle.gst_value.proofs.Fixing.{found_first, none_given}
 use Rattle.gst_caps.proofs.fixate.find_common.Goals as goal
 
 pub returns-then-meets : goal.returns-then-meets

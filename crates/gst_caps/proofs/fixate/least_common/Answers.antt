@@ -1,7 +1,7 @@
 use Rattle.std.proofs.Common.{◌≡◌, sym, ◌∙◌}
 use Rattle.std.proofs.lemmas.Result.{IfOk-weaker}
-use Rattle.gst_caps.specs.Common.{commons, first_least, least_of}
-use Rattle.gst_caps.proofs.Fixing.{commons_found}
+use Rattle.gst_value.specs.Common.{commons, first_least, least_of}
+use Rattle.gst_value.proofs.Fixing.{commons_found}
 use Rattle.gst_caps.proofs.fixate.least_common.Goals as goal
 
 pub returns-in-Some : goal.returns-in-Some

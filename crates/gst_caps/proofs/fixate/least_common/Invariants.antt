@@ -1,5 +1,5 @@
 use Rattle.std.proofs.Common.{◌≡◌, [], take}
-use Rattle.gst_caps.specs.Common.{commons}
+use Rattle.gst_value.specs.Common.{commons}
 use Rattle.gst_caps.proofs.fixate.least_common.Given as goal
 
 abbrev pub invariant-loop-member : goal.invariant-loop-member

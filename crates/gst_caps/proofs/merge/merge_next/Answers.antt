@@ -1,6 +1,6 @@
 use Rattle.std.proofs.Common.{◌∷◌, ◌+◌, sym, ap, ◌∙◌}
 use Rattle.gst_caps.specs.Merge.{merged_from}
-use Rattle.gst_caps.proofs.Limit.{err_from}
+use Rattle.gst_value.proofs.Limit.{err_from}
 use Rattle.gst_caps.proofs.Merging.{add_step, over_members_of, from_first, from_second, from_both}
 use Rattle.gst_caps.proofs.merge.merge_next.Goals as goal
 

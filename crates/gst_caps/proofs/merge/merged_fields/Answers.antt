@@ -1,6 +1,6 @@
 use Rattle.std.proofs.Common.{◌++◌, ◌≤◌, ◌-◌, ◌⊎◌, inl, inr, take, drop, length, sym, ap, ◌∙◌, refl}
 use Rattle.gst_caps.specs.Passes.{fields_pass}
-use Rattle.gst_caps.proofs.Limit.{over_from}
+use Rattle.gst_value.proofs.Limit.{over_from}
 use Rattle.gst_caps.proofs.Merging.{merged_end, pass-append}
 use Rattle.gst_caps.proofs.merge.merged_fields.Goals as goal
 use Rattle.gst_caps.proofs.merge.merged_fields.Goals.{then-loop-field-test+else-place-others, else-loop-field-test}

@@ -1,8 +1,9 @@
 use Rattle.std.proofs.Common.{List, sym, subst}
-use Rattle.gst_caps.specs.Values.{AreMembers, kind_of}
-use Rattle.gst_caps.specs.declared.value.One.{One}
+use Rattle.gst_value.specs.Values.{AreMembers, kind_of}
+use Rattle.gst_value.specs.declared.one.One.{One}
 use Rattle.gst_caps.specs.declared.value.Value.TheVariants.{Many}
-use Rattle.gst_caps.proofs.Sound.{kinds_right, value_from_right}
+use Rattle.gst_value.proofs.Sound.{kinds_right}
+use Rattle.gst_caps.proofs.Sound.{value_from_right}
 use Rattle.gst_caps.proofs.tests.value_of.Goals as goal
 
 pub returns : goal.returns

@@ -1,7 +1,7 @@
 use Rattle.std.proofs.Common.{◌<◌, ◌≤◌, length}
-use Rattle.gst_caps.specs.Names.{Each}
-use Rattle.gst_caps.specs.Values.{kind_of}
-use Rattle.gst_caps.proofs.Sound.{IsOf}
+use Rattle.gst_value.specs.Names.{Each}
+use Rattle.gst_value.specs.Values.{kind_of}
+use Rattle.gst_value.proofs.Sound.{IsOf}
 use Rattle.gst_caps.proofs.tests.value_of.Given as goal
 
 abbrev pub invariant-loop-sample : goal.invariant-loop-sample

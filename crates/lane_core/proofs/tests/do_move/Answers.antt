@@ -7,7 +7,7 @@ pub returns-in-Stored-clause-table : goal.returns-in-Stored-clause-table
 returns-in-Stored-clause-table g c =
     let same = c.in-Stored.ensures.same in
     of_same _ _ _ _ _ _ same.1 same.2
-    (put_keeps_room _ c.item_of.result Stored _ _ _ _ _ _ _ c.in-Stored.ensures.answer c.in-Stored.ensures.table c.requires.table)
+    (put_keeps_room _ c.item_numbered.result Stored _ _ _ _ _ _ _ c.in-Stored.ensures.answer c.in-Stored.ensures.table c.requires.table)
 
 pub returns-in-Item-clause-table : goal.returns-in-Item-clause-table
 returns-in-Item-clause-table g c =
@@ -15,7 +15,7 @@ returns-in-Item-clause-table g c =
 
 pub returns-in-Stored-clause-others : goal.returns-in-Stored-clause-others
 returns-in-Stored-clause-others g c other limits count else of =
-    put_keeps_other_room _ other c.item_of.result Stored limits count _ _ else c.in-Stored.ensures.table of
+    put_keeps_other_room _ other c.item_numbered.result Stored limits count _ _ else c.in-Stored.ensures.table of
 
 pub returns-in-Item-clause-others : goal.returns-in-Item-clause-others
 returns-in-Item-clause-others g c other limits count else of =

@@ -1,7 +1,7 @@
 -- One character more.
 use Rattle.std.proofs.Common.{◌∙◌, ◌++◌, ap}
 use Rattle.std.specs.String.{string_bytes}
-use Rattle.launch_text.specs.Words.{behind, taken}
+use Rattle.launch_text.specs.Words.{mode_behind, taken}
 use Rattle.launch_text.proofs.Marks.{shorter_by}
 use Rattle.launch_text.proofs.Kept.{behind_step, taken_step}
 use Rattle.launch_text.proofs.value.put_said.Goals as goal
@@ -14,7 +14,7 @@ loop-character-preserved c = (
   ap (λ n. string_bytes c.put_kept.new.into ++ taken c.args.marked n c.take.new.self.rest.now) c.after_character-mode.ensures
       ∙ taken_step c.args.marked c.loop-character.mode c.in-Some.character (string_bytes c.loop-character.into) (string_bytes c.put_kept.new.into) c.loop-character.characters.rest.now c.take.new.self.rest.now c.in-Some.ensures c.in_ok-put_kept.ensures
       ∙ c.loop-character.invariant.0,
-  ap (λ n. behind n c.take.new.self.rest.now) c.after_character-mode.ensures
+  ap (λ n. mode_behind n c.take.new.self.rest.now) c.after_character-mode.ensures
       ∙ behind_step c.loop-character.mode c.in-Some.character c.loop-character.characters.rest.now c.take.new.self.rest.now c.in-Some.ensures
       ∙ c.loop-character.invariant.1,
 )

@@ -2,7 +2,7 @@ use Rattle.std.proofs.Common.{refl, inl, subst, arith}
 use Rattle.wav_format.specs.declared.head.HeadAnswer.TheVariants.{Whole, NeedMore, Bad}
 use Rattle.wav_format.specs.Answers.{AnswerIn}
 use Rattle.wav_format.specs.Format.{AreBytes}
-use Rattle.wav_format.specs.Told.{told}
+use Rattle.wav_format.specs.Told.{answer_told}
 use Rattle.wav_format.proofs.Decides.{cut_least}
 use Rattle.wav_format.proofs.Fronts.{cut_fronts}
 use Rattle.wav_format.proofs.Openings.{one_answer}
@@ -20,7 +20,7 @@ returns c =
       whole = λ h. (λ e. subst (AnswerIn bytes) e answered, λ begins. one (Whole h) answered begins);
       bad = λ place kind. (λ e. subst (AnswerIn bytes) e answered, λ fault. one (Bad place kind) answered fault);
       need_more = λ n. (λ e. subst (AnswerIn bytes) e answered, λ cut. one (NeedMore n) answered cut);
-      told = one (told bytes) answered (told_says bytes fine);
+      answer_told = one (answer_told bytes) answered (told_says bytes fine);
       least = λ n e. cut_least bytes n fine (subst (AnswerIn bytes) e answered);
       goes_on = λ n e. cut_fronts bytes n fine (subst (AnswerIn bytes) e answered);
       front = λ more head some all. front_goes bytes more c.read_on.result.0 head fine answered some all;

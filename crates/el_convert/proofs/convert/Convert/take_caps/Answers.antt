@@ -1,5 +1,4 @@
-use Rattle.el_convert.proofs.Accepted.{accepted}
-use Rattle.el_convert.proofs.Choosing.{never_other, raw_format}
+use Rattle.el_convert.proofs.Choosing.{accepted, never_other, raw_format}
 use Rattle.el_convert.proofs.convert.Convert.take_caps.Goals as goal
 
 pub unreachable-requires : goal.unreachable-requires

@@ -1,9 +1,10 @@
 use Rattle.std.proofs.Common.{subst}
-use Rattle.gst_caps.specs.Description.{Description, IsStructure}
+use Rattle.gst_value.specs.Description.{Description}
+use Rattle.gst_caps.specs.Description.{IsStructure}
 use Rattle.gst_caps.specs.declared.value.Value.{Value}
-use Rattle.gst_caps.proofs.Lists.{Each-take_more}
+use Rattle.gst_value.proofs.Lists.{Each-take_more}
 use Rattle.gst_caps.proofs.Meeting.{row_step, row_over, found_over}
-use Rattle.gst_caps.proofs.Limit.{err_from}
+use Rattle.gst_value.proofs.Limit.{err_from}
 use Rattle.gst_caps.proofs.structure.Structure.add_meets.Goals as goal
 
 pub returns-in_err-found-clause-too_many : goal.returns-in_err-found-clause-too_many

@@ -2,7 +2,7 @@ use Rattle.std.proofs.Common.{◌≡◌, ◌++◌, false, take}
 use Rattle.std.specs.List.{filter_map}
 use Rattle.gst_caps.specs.Accepts.{meet}
 use Rattle.gst_caps.specs.Description.{IsStructure}
-use Rattle.gst_caps.specs.Names.{Each}
+use Rattle.gst_value.specs.Names.{Each}
 use Rattle.gst_caps.specs.Passes.{structures_pass}
 use Rattle.gst_caps.proofs.structure.Structure.add_meets.Given as goal
 

@@ -1,6 +1,6 @@
 use Rattle.std.proofs.Common.{sym, ap, ◌∙◌, Some}
 use Rattle.gst_caps.specs.Accepts.{meet}
-use Rattle.gst_caps.proofs.Fixing.{none_given}
+use Rattle.gst_value.proofs.Fixing.{none_given}
 use Rattle.gst_caps.proofs.Meeting.{first_found, some_meet}
 use Rattle.gst_caps.proofs.structure.Structure.first_meet.Goals as goal
 

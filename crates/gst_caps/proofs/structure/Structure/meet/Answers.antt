@@ -1,6 +1,6 @@
 use Rattle.std.proofs.Common.{List, ℕ, subst, sym, ◌∙◌}
 use Rattle.gst_caps.specs.Merge.{IsShort}
-use Rattle.gst_caps.specs.Names.{Each}
+use Rattle.gst_value.specs.Names.{Each}
 use Rattle.gst_caps.specs.declared.value.Value.{Value}
 use Rattle.gst_caps.proofs.Sound.{each_short_value, merged_whole}
 use Rattle.gst_caps.proofs.structure.Structure.meet.Goals as goal

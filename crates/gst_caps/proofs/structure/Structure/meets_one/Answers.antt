@@ -2,10 +2,10 @@ use Rattle.std.proofs.Common.{◌&&◌, sym, ap, ◌∙◌}
 use Rattle.std.specs.List.{list_any}
 use Rattle.std.proofs.lemmas.List.{take_all}
 use Rattle.gst_caps.specs.Accepts.{takes, fixed, met}
-use Rattle.gst_caps.proofs.Laws.{and_false}
-use Rattle.gst_caps.proofs.FieldLaws.{and_left, and_right}
+use Rattle.gst_value.proofs.Laws.{and_false}
 use Rattle.gst_caps.proofs.Overlap.{met_fixed, met_taken, apart_taken, none_more, any_at}
 use Rattle.gst_caps.proofs.structure.Structure.meets_one.Goals as goal
+use Rattle.gst_value.proofs.Basics.{and_left, and_right}
 
 pub loop-other-init : goal.loop-other-init
 loop-other-init c = λ x. and_false (takes c.args.self.now x)

@@ -1,9 +1,9 @@
 use Rattle.std.proofs.Common.{ℕ, List}
 use Rattle.gst_caps.specs.Description.{IsStructure}
-use Rattle.gst_caps.specs.Names.{put}
+use Rattle.gst_value.specs.Names.{put}
 use Rattle.gst_caps.specs.Values.{IsValue}
 use Rattle.gst_caps.specs.declared.value.Value.{Value}
-use Rattle.gst_caps.proofs.Put.{Rises-put, Each-put, after_set}
+use Rattle.gst_value.proofs.Put.{Rises-put, Each-put, after_set}
 use Rattle.gst_caps.proofs.structure.Structure.set.Goals as goal
 
 pub invariant_of-self : goal.invariant_of-self

@@ -39,9 +39,9 @@ use denote.Triple.Walked.{Stays, walk_of, says, stay_dropped, Goes-dropped, Goes
 use Rattle.std.specs.contracts.alloc.Global as Al
 use Rattle.std.proofs.alloc.Global.TheLaws as Al'
 use Rattle.std.specs.contracts.result.Result as RS
-use Rattle.gst_caps.specs.declared.memory.OutOfMemory.{OutOfMemory}
-use Rattle.gst_caps.specs.contracts.memory.OutOfMemory as Want
-use Rattle.gst_caps.proofs.memory.OutOfMemory.TheLaws as Want'
+use Rattle.gst_value.specs.declared.memory.OutOfMemory.{OutOfMemory}
+use Rattle.gst_value.specs.contracts.memory.OutOfMemory as Want
+use Rattle.gst_value.proofs.memory.OutOfMemory.TheLaws as Want'
 use Rattle.gst_item.specs.Lent.{LendsBytes, LendsBlockIfOk, changed}
 use Rattle.gst_item.specs.contracts.body.Body.{the_row as R}
 use Rattle.gst_item.specs.contracts.body.OwnedBytes.{the_row as B}

@@ -1,4 +1,4 @@
-use Rattle.std.proofs.Common.{◌≡◌, ◌≤◌, ◌∙◌, ap, arith, List, take, drop, length, length-take, vec_len}
+use Rattle.std.proofs.Common.{◌≡◌, ◌≤◌, ◌∙◌, ap, arith, take, drop, length, length-take, vec_len}
 use Rattle.std.proofs.lemmas.List.{take_at}
 use Rattle.read_ahead.proofs.Held.{given_bytes}
 use Rattle.read_ahead.proofs.ahead_source.AheadSourceSource.read_at.Goals as goal

@@ -1,0 +1,19 @@
+//! What an element owes that puts streams one behind the other, and how it counts.
+#![tactic(auto)]
+
+ghost use Rattle.std.specs.Prelude.{ℕ, List};
+ghost use Rattle.flow_model.specs.Call.{Call};
+ghost use Rattle.flow_model.specs.Prefix.{IsPrefix, ArePrefixes};
+ghost use Rattle.el_join.specs.Concats.{concat_rule};
+
+pub mod sums;
+pub mod tally;
+
+pub use sums::{Excess, Sum, Sums};
+pub use tally::Tally;
+
+/// What streams one behind the other come to for beginnings of what the sink pads are given begins, in each section,
+/// what they come to for the whole.
+pub fn concat_in_order()
+    ensures { (took more : List (List Call)) → ArePrefixes took more → (port j : ℕ) → IsPrefix (concat_rule took port j) (concat_rule more port j) }
+{}

@@ -1,0 +1,53 @@
+-- What the rule answers to one item more on a pad, by what was given: what is owed for it, or why it is refused.
+use Rattle.std.specs.Prelude.{ℕ, zero, suc, ◌+◌, List, [], ◌∷◌, ◌++◌, Option, Some, None, Result, Ok, Err, if◌then◌else◌, length, drop, unwrap_or}
+use Rattle.flow_model.specs.Item.{Item, Buf, is_flush_stop, is_buffer}
+use Rattle.flow_model.specs.Sticky.{latest}
+use Rattle.flow_model.specs.Call.{Call, Feed, items}
+use Rattle.flow_model.specs.Rule.{Fault}
+use Rattle.flow_model.specs.Feeding.{has_eos}
+use Rattle.el_mix.specs.Reopened.{reopened, reopenings}
+use Rattle.el_mix.specs.Agreed.{lowest_caps, first_refusal}
+use Rattle.el_mix.specs.Mixes.{mixes}
+
+-- sink pad i has more
+abbrev pub push_calls : ℕ → List Call → List (List Call) → List (List Call)
+push_calls i cs [] = []
+push_calls zero cs (ds ∷ dss) = (ds ++ cs) ∷ dss
+push_calls (suc i) cs (ds ∷ dss) = ds ∷ push_calls i cs dss
+
+-- what sink pad i was given
+abbrev pub calls_at : ℕ → List (List Call) → List Call
+calls_at i [] = []
+calls_at zero (ds ∷ dss) = ds
+calls_at (suc i) (ds ∷ dss) = calls_at i dss
+
+-- how many FLUSH_STOPs were given, which is the number of the section that is open
+abbrev pub flush_stops : List Item → ℕ
+flush_stops [] = 0
+flush_stops (x ∷ xs) = if is_flush_stop x then suc (flush_stops xs) else flush_stops xs
+
+abbrev pub open_section : List Call → ℕ
+open_section calls = flush_stops (items calls)
+
+-- the time of the end of the last buffer that is owed, and 0 without one
+abbrev pub end_of : List Item → ℕ
+end_of (Buf b ∷ xs) = unwrap_or b.pts 0 + unwrap_or b.duration 0
+end_of _ = 0
+
+abbrev pub reached : List Item → ℕ
+reached owed = end_of (latest is_buffer owed)
+
+-- what is owed more, where nothing is refused
+abbrev pub more_or : Option Fault → List Item → List Item → Result (List Item) Fault
+more_or None owed owed' = Ok (drop (length owed) owed')
+more_or (Some fault) owed owed' = Err fault
+
+-- The answer in section j: the inherited CAPS of the pad are judged with its first item. Behind EOS nothing is owed.
+abbrev pub answer_in : ℕ → List (List Call) → List (List Call) → ℕ → Result (List Item) Fault
+answer_in j inputs inputs' i =
+    more_or (first_refusal (reached (mixes inputs 0 j)) (lowest_caps (reopenings j inputs')) [] (reopened j (items (calls_at i inputs'))))
+    (mixes inputs 0 j) (mixes inputs' 0 j)
+
+abbrev pub mix_answer : List (List Call) → ℕ → Item → Result (List Item) Fault
+mix_answer inputs i x =
+    if has_eos (calls_at i inputs) then Ok [] else answer_in (open_section (calls_at i inputs)) inputs (push_calls i (Feed x ∷ []) inputs) i

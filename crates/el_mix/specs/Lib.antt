@@ -1,0 +1,11 @@
+pub mod Agreed
+pub mod Answer
+pub mod Law
+pub mod Mixed
+pub mod Mixes
+pub mod Mono
+pub mod Order
+pub mod Pieces
+pub mod Reopened
+pub mod Rows
+pub mod Sections

@@ -1,5 +1,0 @@
-use Rattle.el_set.proofs.Given.{format_is}
-use Rattle.el_set.proofs.checking.format_in.Goals as goal
-
-pub returns : goal.returns
-returns c = format_is c.args.kind c.args.name.now c.args.plain c.args.props.now c.format_or.result c.requires.row c.requires.taken c.format_or.ensures

@@ -1,0 +1,9 @@
+pub mod Kinds
+pub mod Rows
+pub mod Numbers
+pub mod Values
+pub mod Checked
+pub mod Templates
+pub mod Asked
+pub mod Roles
+pub mod Alike

@@ -1,6 +1,0 @@
-use Rattle.std.proofs.Common.{arith}
-use Rattle.std.proofs.lemmas.Int.{ints}
-use Rattle.gst_caps.proofs.value.spans.Goals as goal
-
-pub returns : goal.returns
-returns c = grind (arith, ints)

@@ -1,0 +1,9 @@
+pub mod Basics
+pub mod Lists
+pub mod Put
+pub mod Fractions
+pub mod Kept
+pub mod Limit
+pub mod Laws
+pub mod Sound
+pub mod Fixing

@@ -1,0 +1,9 @@
+pub mod Names
+pub mod Limit
+pub mod Values
+pub mod Description
+pub mod Common
+pub mod Kept
+pub mod Fractions
+pub mod Parts
+pub mod formers
