@@ -1,21 +1,17 @@
 -- What is owed for a beginning begins what is owed for the whole.
-use Rattle.std.proofs.Common.{◌≡◌, ℕ, zero, suc, Bool, true, false, List, [], ◌∷◌, ◌++◌, map, refl, sym, ap, subst, append-nil, Result, Ok, Err, if◌then◌else◌}
+use Rattle.std.proofs.Common.{◌≡◌, ◌<◌, ℕ, zero, suc, Bool, true, false, if◌then◌else◌, List, [], ◌∷◌, ◌++◌, map, refl, sym, ap, ◌∙◌, subst, append-nil, Result, Ok, Err}
 use Rattle.flow_model.specs.Item.{Item, is_flush_stop, is_eos}
 use Rattle.flow_model.specs.Section.{section, counted}
 use Rattle.flow_model.specs.Call.{Call, Feed, Act, items}
 use Rattle.flow_model.specs.Feeding.{has_item}
 use Rattle.flow_model.specs.Prefix.{IsPrefix, nothing, next, ArePrefixes, none, pad}
 use Rattle.flow_model.specs.Rule.{Fault}
-use Rattle.flow_model.proofs.Prefixes.{prefix_refl, prefix_trans, prefix_append, append_prefix}
+use Rattle.flow_model.proofs.Prefixes.{prefix_refl, prefix_trans, prefix_append, append_prefix, prefix_map}
 use Rattle.flow_model.proofs.Sections.{section_prefix}
 use Rattle.el_join.specs.declared.sums.Sums.{Sums}
 use Rattle.el_join.specs.Totals.{no_sums, with_tally, tally_of, raised}
-use Rattle.el_join.specs.Sections.{before, to_eos, inherited, with_inherited, reopened, all_reopened}
+use Rattle.el_join.specs.Sections.{before, to_eos, inherited, with_inherited, reopened, reopened_of, all_reopened}
 use Rattle.el_join.specs.Concats.{before_eos, has_end, behind, joined_from, joined, up_to_fault, concat_rule}
-
-prefix_map : {A B : Type 0} (f : A → B) {xs ys : List A} → IsPrefix xs ys → IsPrefix (map f xs) (map f ys)
-prefix_map f nothing = nothing
-prefix_map f (next p) = next (prefix_map f p)
 
 pub items_prefix : {cs ds : List Call} → IsPrefix cs ds → IsPrefix (items cs) (items ds)
 items_prefix nothing = nothing

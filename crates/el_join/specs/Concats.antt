@@ -1,5 +1,5 @@
 -- The rule of an element that puts streams one behind the other, after GStreamer's concat.
-use Rattle.std.specs.Prelude.{ℕ, Bool, true, false, List, [], ◌∷◌, ◌++◌, map, length, drop, Result, Ok, Err, if◌then◌else◌}
+use Rattle.std.specs.Prelude.{ℕ, Bool, true, false, List, [], ◌∷◌, ◌++◌, map, length, drop, if◌then◌else◌, Result, Ok, Err}
 use Rattle.flow_model.specs.Item.{Item, Ev, Eos, is_eos}
 use Rattle.flow_model.specs.Call.{Call, Feed}
 use Rattle.flow_model.specs.Rule.{Rule, Fault}

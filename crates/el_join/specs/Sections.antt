@@ -1,5 +1,5 @@
 -- Rules of elements with several sink pads: from the pads' lists of one section, section by section.
-use Rattle.std.specs.Prelude.{ℕ, zero, suc, List, [], ◌∷◌, ◌++◌, map, if◌then◌else◌}
+use Rattle.std.specs.Prelude.{ℕ, zero, suc, Bool, true, false, List, [], ◌∷◌, ◌++◌, map, if◌then◌else◌}
 use Rattle.flow_model.specs.Item.{Item, is_flush_stop, is_eos, is_stream_start, is_caps, is_tag}
 use Rattle.flow_model.specs.Sticky.{latest}
 use Rattle.flow_model.specs.Section.{section, counted}

@@ -1,9 +1,9 @@
 -- What a pad's items come to, and what that adds to the SEGMENTs of later pads.
-use Rattle.std.specs.Prelude.{◌≡◌, ℕ, ◌+◌, ◌-◌, ◌≤◌, max, ◌&&◌, nat_lt, nat_le, List, length, fold, Option, None, Some, unwrap_or, Result, Ok, Err, if◌then◌else◌}
+use Rattle.std.specs.Prelude.{◌≡◌, ℕ, ◌+◌, ◌-◌, ◌≤◌, max, Bool, ◌&&◌, if◌then◌else◌, nat_lt, nat_le, List, [], ◌∷◌, length, fold, Option, None, Some, unwrap_or, Result, Ok, Err}
 use native.Mathlib.Omega.{arith}
 use Rattle.std.specs.Option.{option_map, ForSome}
 use Rattle.gst_time.specs.declared.time.TheConstants.{LIMIT}
-use Rattle.flow_model.specs.Item.{Item, Buf, Ev, NewSegment, Segment, Format, Bytes, Time}
+use Rattle.flow_model.specs.Item.{Item, Event, Buf, Ev, NewSegment, Segment, Format, Bytes, Time, Buffer}
 use Rattle.flow_model.specs.Rule.{Fault, TooLong}
 use Rattle.el_join.specs.declared.sums.Sum.{Sum}
 use Rattle.el_join.specs.declared.sums.Sum.TheVariants.{Within, Past}

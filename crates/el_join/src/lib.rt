@@ -1,4 +1,4 @@
-//! What an element owes that puts streams one behind the other, and how it counts.
+//! Elements that join streams.
 #![tactic(auto)]
 
 ghost use Rattle.std.specs.Prelude.{ℕ, List};
@@ -6,11 +6,18 @@ ghost use Rattle.flow_model.specs.Call.{Call};
 ghost use Rattle.flow_model.specs.Prefix.{IsPrefix, ArePrefixes};
 ghost use Rattle.el_join.specs.Concats.{concat_rule};
 
-pub mod sums;
-pub mod tally;
+pub mod concat;
+mod inherited;
+mod note;
+mod pad;
+mod sums;
+mod tally;
+mod waiting;
 
-pub use sums::{Excess, Sum, Sums};
-pub use tally::Tally;
+pub use concat::Concat;
+
+#[cfg(test)]
+mod tests;
 
 /// What streams one behind the other come to for beginnings of what the sink pads are given begins, in each section,
 /// what they come to for the whole.
