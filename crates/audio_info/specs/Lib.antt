@@ -1,3 +1,4 @@
+pub mod Alone
 pub mod Media
 pub mod Packing
 pub mod Same

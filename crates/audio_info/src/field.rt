@@ -1,7 +1,7 @@
 //! The fields of fixed caps, by their names.
 ghost use Rattle.std.specs.Prelude.{◌≡◌, ◌≤◌, length, OnOk, codes, option_and_then};
 ghost use Rattle.std.specs.Option.{option_copied};
-ghost use Rattle.gst_value.specs.Names.{put};
+ghost use Rattle.gst_value.specs.Names.{fields_with};
 ghost use Rattle.gst_value.specs.Values.{IsSingle};
 ghost use Rattle.audio_info.specs.Media.{field_of, number_up_to, raw_sample, sample_of};
 
@@ -68,8 +68,8 @@ pub(crate) fn set(
     value: One,
 ) -> Result<(), OutOfMemory>
     requires single { IsSingle value }
-    requires few { length (put name.now value caps.old.fields) ≤ 64 }
-    ensures { OnOk result (caps.new ≡ record caps.old { fields = put name.now value caps.old.fields }) }
+    requires few { length (fields_with name.now value caps.old.fields) ≤ 64 }
+    ensures { OnOk result (caps.new ≡ record caps.old { fields = fields_with name.now value caps.old.fields }) }
 {
     match caps.set(alloc, name, value) {
         Ok(()) => Ok(()),

@@ -1,6 +1,7 @@
 //! Samples of audio: their formats, how they lie in bytes, and the two laws of G.711; and the caps of audio.
 #![tactic(auto)]
 
+pub mod alone;
 pub mod equal;
 mod field;
 pub mod g711;
@@ -11,6 +12,7 @@ pub mod templates;
 #[cfg(test)]
 mod tests;
 
+pub use alone::exactly;
 pub use equal::same_caps;
 pub use g711::{alaw_dec, alaw_enc, mulaw_dec, mulaw_enc};
 pub use info::{Info, LARGEST_RATE, MOST_CHANNELS, NotAudio};

@@ -1,7 +1,7 @@
 //! The caps of templates of audio.
 ghost use Rattle.std.specs.Prelude.{◌≡◌, ◌<◌, ◌≤◌, ◌^◌, ◌∷◌, [], length, map, OnOk, IfOk};
 ghost use Rattle.gst_caps.specs.declared.value.Value.TheVariants.{One as Single};
-ghost use Rattle.gst_value.specs.Names.{put};
+ghost use Rattle.gst_value.specs.Names.{fields_with};
 ghost use Rattle.gst_caps.specs.Values.{IsValue};
 ghost use Rattle.audio_info.specs.Templates.{audio_template as audio_template_of, format_name, law_structure as law_structure_of, raw as raw_of, raw_formats as raw_formats_of, raw_structure as raw_structure_of, raw_template as raw_template_of, sample_template as sample_template_of, structure_of, up_to_most};
 
@@ -146,8 +146,8 @@ fn set(
     value: Value,
 ) -> Result<(), OutOfMemory>
     requires value { IsValue value }
-    requires few { length (put name.now value structure.old.fields) ≤ 64 }
-    ensures { OnOk result (structure.new ≡ record structure.old { fields = put name.now value structure.old.fields }) }
+    requires few { length (fields_with name.now value structure.old.fields) ≤ 64 }
+    ensures { OnOk result (structure.new ≡ record structure.old { fields = fields_with name.now value structure.old.fields }) }
 {
     match structure.set(alloc, name, value) {
         Ok(()) => Ok(()),

@@ -7,10 +7,10 @@ use Rattle.std.specs.Str.{bytes_eq}
 use Rattle.std.specs.declared.cmp.Ordering.TheVariants.{Less}
 use Rattle.std.proofs.lemmas.Slice.Eq.{bytes_eq-Decides}
 use Rattle.gst_value.proofs.Lists.{Each-append, Each-filter}
-use Rattle.gst_value.proofs.Put.{Rises-put, put_step, same_not_before}
+use Rattle.gst_value.proofs.NamesInOrder.{Rises-fields_with, fields_with_step, same_not_before}
 use Rattle.gst_caps.specs.Accepts.{value_at}
 use Rattle.gst_value.specs.Description.{Description}
-use Rattle.gst_value.specs.Names.{Each, Rises, is_before, put}
+use Rattle.gst_value.specs.Names.{Each, Rises, is_before, fields_with}
 use Rattle.gst_caps.specs.declared.caps.Caps.{Caps}
 use Rattle.gst_caps.specs.declared.caps.Caps.TheVariants.{Any, Of}
 use Rattle.gst_value.specs.declared.one.One.{One}
@@ -40,9 +40,9 @@ rises_before : {X : Type 0} (before after : List (List ℕ × X)) (f : List ℕ 
 rises_before [] after f h = tt
 rises_before (g ∷ gs) after f h = (each_at (λ k. slice_cmp nat_cmp g.0 k.0 ≡ Less) gs after f h.0, rises_before gs after f h.1)
 
-put_last : {X : Type 0} (n : List ℕ) (v : X) (before : List (List ℕ × X)) → Each (λ g. slice_cmp nat_cmp g.0 n ≡ Less) before → put n v before ≡ before ++ (n, v) ∷ []
-put_last n v [] h = refl
-put_last n v (g ∷ gs) h = put_step n v g gs (ap is_lt h.0) ∙ ap (λ l. g ∷ l) (put_last n v gs h.1)
+fields_with_last : {X : Type 0} (n : List ℕ) (v : X) (before : List (List ℕ × X)) → Each (λ g. slice_cmp nat_cmp g.0 n ≡ Less) before → fields_with n v before ≡ before ++ (n, v) ∷ []
+fields_with_last n v [] h = refl
+fields_with_last n v (g ∷ gs) h = fields_with_step n v g gs (ap is_lt h.0) ∙ ap (λ l. g ∷ l) (fields_with_last n v gs h.1)
 
 value_none : {X : Type 0} (n : List ℕ) (before : List (List ℕ × X)) → Each (λ g. slice_cmp nat_cmp g.0 n ≡ Less) before → value_at n before ≡ None
 value_none n [] h = refl
@@ -69,7 +69,7 @@ field_again : (media : List ℕ) (before after : List (List ℕ × Value)) (f : 
 unfolding of_parts
 field_again media before after f fine rises few =
     let less = rises_before before after f rises in
-    let is : of_parts media (before ++ f ∷ []) ≡ with_field (of_parts media before) f.0 f.1 = ap (of_parts media) (sym (put_last f.0 f.1 before less)) in
+    let is : of_parts media (before ++ f ∷ []) ≡ with_field (of_parts media before) f.0 f.1 = ap (of_parts media) (sym (fields_with_last f.0 f.1 before less)) in
     let n = length-append before (f ∷ after) in
     let m = length-append before (f ∷ []) in
     let fit : length (before ++ f ∷ []) ≤ 64 = omega (arith, few, n, m) in
@@ -137,7 +137,7 @@ field_fine s t text f h =
     subst Fine_structure (sym v.2) (record {
       media = f.media;
       fields = Each-append Fine_field (filter (λ g. is_before g.0 h.2) s.fields) _ (Each-filter Fine_field (λ g. is_before g.0 h.2) s.fields f.fields) (fine, Each-filter Fine_field (λ g. is_before h.2 g.0) s.fields f.fields);
-      rises = Rises-put h.2 v.0 s.fields f.rises;
+      rises = Rises-fields_with h.2 v.0 s.fields f.rises;
       few = fit;
     })
 

@@ -8,7 +8,7 @@ use Rattle.gst_caps.specs.Common.{as_value}
 use Rattle.gst_value.specs.Common.{same}
 use Rattle.gst_value.specs.Description.{Description}
 use Rattle.gst_value.specs.Fractions.{signed}
-use Rattle.gst_value.specs.Names.{put}
+use Rattle.gst_value.specs.Names.{fields_with}
 use Rattle.gst_value.specs.declared.one.One.{One}
 use Rattle.gst_value.specs.declared.one.One.TheVariants.{Int, Bool as Truth, Text, IntRange}
 use Rattle.gst_caps.specs.declared.value.Value.{Value}
@@ -303,7 +303,7 @@ names name None = false
 names name (Some f) = bytes_eq f.0 name
 
 abbrev pub with_field : Description Value → List ℕ → Value → Description Value
-with_field s name v = record { media = s.media; fields = put name v s.fields }
+with_field s name v = record { media = s.media; fields = fields_with name v s.fields }
 
 abbrev pub few_fields : Description Value → List ℕ → Answer (Description Value)
 few_fields s rest = cond (nat_lt 64 (length s.fields)) (Err many) (Ok (s, rest))

@@ -307,7 +307,7 @@ impl RawParse {
             offset: Some(self.next),
             discont: false,
         };
-        self.put(alloc, made, out)?;
+        self.put_buffer(alloc, made, out)?;
         self.next = next;
         self.next_time = reached;
         self.reached = reached;
@@ -316,7 +316,7 @@ impl RawParse {
     }
 
     /// Puts a buffer out, and before it what begins a section without a SEGMENT.
-    fn put(&self, alloc: Global, buffer: Buffer, out: &mut Outs) -> Result<(), OutOfMemory>
+    fn put_buffer(&self, alloc: Global, buffer: Buffer, out: &mut Outs) -> Result<(), OutOfMemory>
         ensures out { OnOk result (out.new ≡ out.old ++ on_pad 0 (beginning self.now.info (come self.now) ++ Buf buffer ∷ [])) }
         ensures stays { OnErr result (out.new ≡ out.old) }
     {

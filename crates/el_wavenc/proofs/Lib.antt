@@ -1,6 +1,5 @@
 pub mod Accepted
 pub mod Encoding
-pub mod Fields
 pub mod Putting
 pub mod Steps
 pub mod WholeFile

@@ -13,7 +13,7 @@ use Rattle.flow_model.specs.Feeding.{has_item}
 use Rattle.flow_model.specs.CapsInForce.{caps_in_force}
 use Rattle.flow_model.specs.Looking.{has_opened, bytes_got}
 use Rattle.audio_info.specs.Same.{same_caps}
-use Rattle.el_wavenc.specs.Alone.{exactly}
+use Rattle.audio_info.specs.Alone.{exactly}
 use Rattle.el_wavenc.specs.Templates.{sink_template, wav_caps}
 use Rattle.el_wavenc.specs.WavFile.{Stream, stream_of, frame_width, head_length, most_data, bytes_at, head_items, padding}
 

@@ -1,4 +1,3 @@
-pub mod Alone
 pub mod Encoded
 pub mod Encodes
 pub mod Known

@@ -2,7 +2,6 @@
 #![tactic(auto)]
 
 mod file;
-mod fixed;
 mod laws;
 mod put_out;
 mod stream;

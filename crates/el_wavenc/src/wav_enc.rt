@@ -10,11 +10,10 @@ ghost use Rattle.el_wavenc.specs.Encodes.{encodes, encode_answer, announcement, 
 use crate::file::{
     HEAD_LENGTH, MOST_DATA, bytes_at, push_event, push_head, push_opening, push_padding, put_data,
 };
-use crate::fixed::exactly;
 use crate::put_out::put_out;
 use crate::stream::Stream;
 use crate::template::sink_template;
-use audio_info::{Info, same_caps};
+use audio_info::{Info, exactly, same_caps};
 use flow_model::{ElementFault, StreamKind};
 use gst_item::{Buffer, Event, Flow, Item, Out, Outs};
 use gst_value::{Fixed, OutOfMemory};

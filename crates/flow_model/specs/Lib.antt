@@ -11,5 +11,6 @@ pub mod Prefix
 pub mod Rule
 pub mod Section
 pub mod SinkBytes
+pub mod SinkPads
 pub mod Source
 pub mod Sticky

@@ -9,6 +9,22 @@ section j [] = []
 section zero (x ∷ xs) = if is_flush_stop x then [] else x ∷ section zero xs
 section (suc j) (x ∷ xs) = if is_flush_stop x then section j xs else section (suc j) xs
 
+-- what stands before section j, with the FLUSH_STOP that opens it
+abbrev pub before_section : ℕ → List Item → List Item
+before_section zero xs = []
+before_section (suc j) [] = []
+before_section (suc j) (x ∷ xs) = x ∷ (if is_flush_stop x then before_section j xs else before_section (suc j) xs)
+
+-- how many FLUSH_STOPs a list has
+abbrev pub flush_stops : List Item → ℕ
+flush_stops [] = 0
+flush_stops (x ∷ xs) = if is_flush_stop x then suc (flush_stops xs) else flush_stops xs
+
+-- the items up to the first EOS, with it
+abbrev pub to_eos : List Item → List Item
+to_eos [] = []
+to_eos (x ∷ xs) = x ∷ (if is_eos x then [] else to_eos xs)
+
 -- what counts of a list: in each section what stands behind its first EOS is passed over
 abbrev pub counted_after : Bool → List Item → List Item
 counted_after ended [] = []

@@ -156,13 +156,13 @@ fn join(
     ensures fault { IfErr result (IsUnjoined (all_made elements.now) (all_links links.old) left right) }
 {
     match refusal(alloc, elements, links.made.as_slice(), left, right)? {
-        None => put(alloc, elements, links, left, right),
+        None => push_link(alloc, elements, links, left, right),
         Some(ret) => Err(refused(alloc, elements, left, right, ret)?),
     }
 }
 
 /// Puts the link between two pads that are not refused behind the others, unless it would close a loop.
-fn put(
+fn push_link(
     alloc: Global,
     elements: &Elements,
     links: &mut Links,

@@ -83,13 +83,13 @@ fn add(
 {
     let name = name_for(alloc, elements, kind, props.as_slice())?;
     match check(alloc, kind, props) {
-        Ok(settings) => put(alloc, elements, name, kind, props, settings),
+        Ok(settings) => push_element(alloc, elements, name, kind, props, settings),
         Err(fault) => Err(named_fault(alloc, name.as_str(), kind, fault)?),
     }
 }
 
 /// Puts an element of these settings behind those before it, if its name, its location and its number may be.
-fn put(
+fn push_element(
     alloc: Global,
     elements: &mut Elements,
     name: String,

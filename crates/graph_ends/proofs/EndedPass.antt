@@ -8,7 +8,7 @@ use Rattle.flow_model.specs.Call.{Call, Feed}
 use Rattle.flow_model.specs.Rule.{Rule, Response, Fault, unfed, responded, single, passes}
 use Rattle.net_model.specs.Moment.{Answers, Behavior}
 use Rattle.net_model.specs.Over.{list_ended, AllEnded}
-use Rattle.net_model.specs.Takes.{InSection}
+use Rattle.flow_model.specs.SinkPads.{InSection}
 use Rattle.el_settings.specs.Asked.{sink_pads, source_pads}
 use Rattle.el_set.specs.Denoted.{response_of}
 use Rattle.el_set.specs.Made.{list_of}

@@ -8,7 +8,7 @@ use Rattle.flow_model.specs.Item.{Item, body_of, is_flush_stop}
 use Rattle.flow_model.specs.Call.{Call, feeds, items}
 use Rattle.flow_model.specs.SinkBytes.{Disk, disk_after, empty_disk, next_disk, rendered, sink_bytes}
 use Rattle.net_model.specs.Moment.{Behavior}
-use Rattle.net_model.specs.Takes.{InSection, flush_stops}
+use Rattle.flow_model.specs.SinkPads.{InSection, flush_stops_given}
 use Rattle.el_set.specs.declared.sink.SinkElement.{SinkElement}
 use Rattle.el_set.specs.declared.sink.SinkElement.TheVariants as sink_kinds
 use Rattle.el_sink.specs.declared.file_sink.FileSink.{FileSink}
@@ -30,21 +30,21 @@ some_zero : {n : ℕ} → suc n ≡ 0 → ⊥
 some_zero e = cc
 
 -- without a flush it is one whether that keeps bytes
-disk_same : (keep other : Bool) (list : List Item) (disk : Disk) → flush_stops (feeds list) ≡ 0
+disk_same : (keep other : Bool) (list : List Item) (disk : Disk) → flush_stops_given (feeds list) ≡ 0
     → fold (next_disk keep) disk list ≡ fold (next_disk other) disk list
 disk_same keep other [] disk none = refl
 disk_same keep other (x ∷ list) disk none = go (is_flush_stop x) refl none (disk_same keep other list)
   where
-    go : (b : Bool) → is_flush_stop x ≡ b → (if b then suc (flush_stops (feeds list)) else flush_stops (feeds list)) ≡ 0
-        → ((d : Disk) → flush_stops (feeds list) ≡ 0 → fold (next_disk keep) d list ≡ fold (next_disk other) d list)
+    go : (b : Bool) → is_flush_stop x ≡ b → (if b then suc (flush_stops_given (feeds list)) else flush_stops_given (feeds list)) ≡ 0
+        → ((d : Disk) → flush_stops_given (feeds list) ≡ 0 → fold (next_disk keep) d list ≡ fold (next_disk other) d list)
         → fold (next_disk keep) disk (x ∷ list) ≡ fold (next_disk other) disk (x ∷ list)
     go true is none later = absurd (some_zero none)
     go false is none later = rw is (later (if disk.ended then disk else rendered disk x) none)
 
-same_disk : (keep other : Bool) (list : List Item) → flush_stops (feeds list) ≡ 0 → disk_after keep list ≡ disk_after other list
+same_disk : (keep other : Bool) (list : List Item) → flush_stops_given (feeds list) ≡ 0 → disk_after keep list ≡ disk_after other list
 same_disk keep other list none = disk_same keep other list empty_disk none
 
-quiet_of : (took : List (List Call)) (list : List Item) → took ≡ feeds list ∷ [] → InSection 0 took → flush_stops (feeds list) ≡ 0
+quiet_of : (took : List (List Call)) (list : List Item) → took ≡ feeds list ∷ [] → InSection 0 took → flush_stops_given (feeds list) ≡ 0
 quiet_of took list is first = (subst (λ (css : List (List Call)). InSection 0 css) is first).0
 
 module _ {K : Type 0} (k : sinks.Ghosts K) where

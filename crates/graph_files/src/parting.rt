@@ -8,7 +8,7 @@ ghost use Rattle.graph_files.specs.Ends.{left_by, sink_end, source_end};
 ghost use Rattle.graph_files.specs.Filled.{IsFilled, IsGiverFor, IsMadeFor, PairAt};
 
 use crate::blank::Blank;
-use crate::taking::{put, taken};
+use crate::taking::{place_at, taken};
 use el_basic::Identity;
 use el_set::{FilterElement, sink_of, source_of};
 use el_settings::Settings;
@@ -58,7 +58,7 @@ pub(crate) fn pair_at<S: Source, K: Sink>(
         source,
         left,
     } = slot_of(graph.settings(number), number, blank, end);
-    put(ends, number, left);
+    place_at(ends, number, left);
     Pair { element, source }
 }
 

@@ -15,7 +15,7 @@ pub(crate) fn taken<T>(slots: &mut Vec<Option<T>>, number: u32) -> Option<T>
 }
 
 /// Puts a value at a place, where the list has that.
-pub(crate) fn put<T: Drop>(list: &mut Vec<T>, place: u32, value: T)
+pub(crate) fn place_at<T: Drop>(list: &mut Vec<T>, place: u32, value: T)
     ensures { list.new.items ≡ slice_set list.old.items place value }
 {
     let place = place as usize;

@@ -6,7 +6,7 @@ use Rattle.flow_model.specs.Account.{IsMember}
 use Rattle.flow_model.specs.Item.{Item}
 use Rattle.flow_model.specs.Link.{Span}
 use Rattle.net_model.specs.Split.{AreEmpty, NoneAt}
-use Rattle.net_model.specs.Takes.{InSection}
+use Rattle.flow_model.specs.SinkPads.{InSection}
 use Rattle.net_task.specs.Ties.{TookAt}
 use Rattle.net_turns.specs.Net.{ListAt}
 use Rattle.graph_bags.specs.Bags.{Once}

@@ -9,7 +9,7 @@ use Rattle.std.specs.declared.cmp.Ordering.TheVariants.{Less, Equal, Greater}
 use Rattle.std.proofs.lemmas.Map.Lookups.{exact_bytes}
 use Rattle.std.proofs.lemmas.Slice.Eq.{bytes_eq-Decides}
 use mathlib.Core.Bool.{true≢false}
-use Rattle.gst_value.proofs.Put.{cmp, less_trans_each, not_before, same_not_before, filter-all_behind, filter-none_before, Rises-filter}
+use Rattle.gst_value.proofs.NamesInOrder.{cmp, less_trans_each, not_before, same_not_before, filter-all_behind, filter-none_before, Rises-filter}
 use Rattle.gst_caps.proofs.Steps.{greater_less, value_at_behind, value_at_same, value_at_skip}
 use Rattle.gst_value.proofs.Laws.{and_false, any_pairs}
 use Rattle.gst_caps.proofs.Laws.{value_law, meet_at}

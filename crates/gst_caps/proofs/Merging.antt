@@ -7,7 +7,7 @@ use Rattle.std.proofs.lemmas.Bool.Decides.{nat_tests}
 use Rattle.std.proofs.lemmas.List.{append-nil, drop_all, take_rest}
 use borrow.Author.Tests.{ltb-true}
 use Rattle.std.proofs.lemmas.Map.Lookups.{exact_bytes}
-use Rattle.gst_value.proofs.Put.{cmp, less_trans_each, not_before, filter-all_behind, filter-none_before}
+use Rattle.gst_value.proofs.NamesInOrder.{cmp, less_trans_each, not_before, filter-all_behind, filter-none_before}
 use Rattle.gst_caps.proofs.Steps.{front, rises_front, greater_less, value_at_behind, value_at_same, value_at_skip}
 use Rattle.gst_caps.specs.Accepts.{merged}
 use Rattle.gst_caps.specs.Passes.{fields_pass}

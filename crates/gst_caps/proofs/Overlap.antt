@@ -9,7 +9,7 @@ use Rattle.std.proofs.lemmas.Int.{ints}
 use Rattle.std.proofs.lemmas.List.{length-map, take_more}
 use Rattle.std.proofs.lemmas.Slice.Eq.{bytes_eq-Decides}
 use mathlib.Core.Bool.{true≢false}
-use Rattle.gst_value.proofs.Put.{cmp, less_from_is_lt, not_before}
+use Rattle.gst_value.proofs.NamesInOrder.{cmp, less_from_is_lt, not_before}
 use Rattle.gst_caps.proofs.Steps.{each_at_both}
 use Rattle.gst_value.proofs.Laws.{any-append, same_itself}
 use Rattle.gst_caps.proofs.Sound.{IsRight, each_right, merged_right, Rises-merged}

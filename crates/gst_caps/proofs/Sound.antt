@@ -8,7 +8,7 @@ use Rattle.std.proofs.lemmas.Slice.Eq.{bytes_eq-Decides}
 use borrow.Author.Tests.{ltb-false}
 use mathlib.Core.Bool.{true≢false}
 use Rattle.gst_value.proofs.Lists.{Each-append, Each-filter, Each-filtered, Each-map}
-use Rattle.gst_value.proofs.Put.{cmp, less_from_is_lt, Rises-join, Rises-filter}
+use Rattle.gst_value.proofs.NamesInOrder.{cmp, less_from_is_lt, Rises-join, Rises-filter}
 use Rattle.gst_caps.proofs.Merging.{members-as_value}
 use Rattle.gst_caps.specs.Accepts.{value_at, each_at, agrees, narrowed, merged, structures_meet}
 use Rattle.gst_caps.specs.Passes.{fields_pass}

@@ -7,7 +7,7 @@ use Rattle.std.proofs.lemmas.Cmp.{nat_list_cmp_total}
 use Rattle.std.proofs.lemmas.List.{drop_more, drop_all}
 use Rattle.std.proofs.lemmas.Map.Lookups.{exact_bytes}
 use Rattle.std.proofs.lemmas.Map.Text.{is_eq-slice_cmp}
-use Rattle.gst_value.proofs.Put.{cmp, less_trans_each}
+use Rattle.gst_value.proofs.NamesInOrder.{cmp, less_trans_each}
 use Rattle.gst_caps.specs.Accepts.{value_at, each_at}
 use Rattle.gst_value.specs.Names.{Each, Rises}
 

@@ -36,7 +36,7 @@ impl Structure {
     ghost use Rattle.gst_value.specs.Description.{Description, IsFixed};
     ghost use Rattle.gst_caps.specs.Description.{IsStructure};
     ghost use Rattle.gst_value.specs.Limit.{IsFaultWhere, TooManyWhere};
-    ghost use Rattle.gst_value.specs.Names.{Each, put};
+    ghost use Rattle.gst_value.specs.Names.{Each, fields_with};
     ghost use Rattle.gst_value.specs.declared.one.One.{One as FieldOne};
     ghost use Rattle.gst_caps.specs.Values.{IsValue};
 
@@ -53,9 +53,9 @@ impl Structure {
     /// Sets the field of this name, or replaces its value.
     pub fn set(&mut self, alloc: Global, name: &str, value: Value) -> Result<(), CapsFault>
         requires { IsValue value }
-        ensures ok { OnOk result (self.new ≡ record self.old { fields = put name.now value self.old.fields }) }
+        ensures ok { OnOk result (self.new ≡ record self.old { fields = fields_with name.now value self.old.fields }) }
         ensures err { OnErr result (self.new ≡ self.old) }
-        ensures too_many { TooManyWhere result (64 < length (put name.now value self.old.fields)) }
+        ensures too_many { TooManyWhere result (64 < length (fields_with name.now value self.old.fields)) }
     {
         field::set_field(alloc, &mut self.fields, name, value)
     }

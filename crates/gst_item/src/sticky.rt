@@ -48,11 +48,11 @@ impl Sticky {
         ensures { (h : List Item) → self.old ≡ in_force h → self.new ≡ in_force (h ++ Ev event ∷ []) }
     {
         match event {
-            Event::StreamStart { .. } => put(&mut self.stream_start, Some(event)),
-            Event::Caps(_) => put(&mut self.caps, Some(event)),
-            Event::Segment(_) => put(&mut self.segment, Some(event)),
-            Event::Tag { .. } => put(&mut self.tag, Some(event)),
-            Event::Eos => put(&mut self.eos, Some(event)),
+            Event::StreamStart { .. } => fill(&mut self.stream_start, Some(event)),
+            Event::Caps(_) => fill(&mut self.caps, Some(event)),
+            Event::Segment(_) => fill(&mut self.segment, Some(event)),
+            Event::Tag { .. } => fill(&mut self.tag, Some(event)),
+            Event::Eos => fill(&mut self.eos, Some(event)),
             Event::Gap { .. } | Event::FlushStop { .. } => unreachable!(),
         }
     }
@@ -62,8 +62,8 @@ impl Sticky {
     pub fn clear_flush(&mut self)
         ensures { (h : List Item) (number : ℕ) → self.old ≡ in_force h → self.new ≡ in_force (h ++ Ev (FlushStop number) ∷ []) }
     {
-        put(&mut self.segment, None);
-        put(&mut self.eos, None);
+        fill(&mut self.segment, None);
+        fill(&mut self.eos, None);
     }
 
     /// Copies of the events in force, in the order STREAM_START, CAPS, SEGMENT, TAG, EOS.
@@ -101,7 +101,7 @@ pub fn in_force_stays()
 {}
 
 /// Gives up what a slot holds for something else.
-fn put(slot: &mut Option<Event>, event: Option<Event>)
+fn fill(slot: &mut Option<Event>, event: Option<Event>)
     ensures { slot.new ≡ event }
 {
     *slot = event;

@@ -1,6 +1,6 @@
 //! Sinks in memory.
 ghost use Rattle.std.specs.Prelude.{◌≡◌, ◌≤◌, ◌<◌, ◌+◌, ◌-◌, ◌^◌, ◌++◌, ◌||◌, not, Some, length, take, replicate, is_err, IfOk, vec_capacity};
-ghost use Rattle.gst_outside.specs.Bytes.{put, written};
+ghost use Rattle.gst_outside.specs.Bytes.{overwritten, written};
 ghost use Rattle.gst_outside.specs.Calls.{counted, next_fails};
 ghost use Rattle.gst_outside.specs.Causes.{raised};
 ghost use Rattle.gst_outside.specs.Room.{has_room};
@@ -96,7 +96,7 @@ fn stretch(bytes: &mut Vec<u8>, end: usize)
 /// Puts a piece over the bytes at a place.
 fn overwrite(bytes: &mut [u8], place: usize, piece: &[u8])
     requires { place + length piece.now ≤ length bytes.old }
-    ensures { bytes.new ≡ put bytes.old place piece.now }
+    ensures { bytes.new ≡ overwritten bytes.old place piece.now }
 {
     bytes[place..place + piece.len()].copy_from_slice(piece);
 }

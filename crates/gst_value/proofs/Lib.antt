@@ -1,6 +1,6 @@
 pub mod Basics
 pub mod Lists
-pub mod Put
+pub mod NamesInOrder
 pub mod Fractions
 pub mod Kept
 pub mod Limit

@@ -20,5 +20,5 @@ Rises [] = ⊤
 Rises (f ∷ fs) = Each (λ g. slice_cmp nat_cmp f.0 g.0 ≡ Less) fs × Rises fs
 
 -- the fields once this one is set: those with names before it, it, and those with names behind it
-abbrev pub put : {V : Type 0} → List ℕ → V → List (List ℕ × V) → List (List ℕ × V)
-put name value fields = filter (λ f. is_before f.0 name) fields ++ (name, value) ∷ filter (λ f. is_before name f.0) fields
+abbrev pub fields_with : {V : Type 0} → List ℕ → V → List (List ℕ × V) → List (List ℕ × V)
+fields_with name value fields = filter (λ f. is_before f.0 name) fields ++ (name, value) ∷ filter (λ f. is_before name f.0) fields

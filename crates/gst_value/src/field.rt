@@ -1,7 +1,7 @@
 //! Fields in the order of their names.
 ghost use Rattle.std.specs.Prelude.{◌≡◌, ◌+◌, ◌<◌, ◌≤◌, ◌^◌, ℕ, List, true, false, length, slice_index_or, slice_set, OnOk, OnErr, IfOk, IfErr, MatchResult, take};
 ghost use Rattle.std.specs.List.{insert};
-ghost use Rattle.gst_value.specs.Names.{Each, Rises, is_before, put};
+ghost use Rattle.gst_value.specs.Names.{Each, Rises, is_before, fields_with};
 ghost use Rattle.gst_value.specs.Limit.{TooManyWhere};
 
 use crate::fault::CapsFault;
@@ -28,11 +28,11 @@ fn count_before<V>(fields: &[(Text, V)], name: &str) -> usize
 fn place_of<V>(fields: &[(Text, V)], name: &str) -> Result<usize, usize>
     requires { Rises fields.now }
     ensures within { MatchResult result (λ place. place < length fields.now) (λ place. place ≤ length fields.now) }
-    ensures count { MatchResult result (λ _. (v : V) → length (put name.now v fields.now) ≡ length fields.now)
-        (λ _. (v : V) → length (put name.now v fields.now) ≡ length fields.now + 1) }
+    ensures count { MatchResult result (λ _. (v : V) → length (fields_with name.now v fields.now) ≡ length fields.now)
+        (λ _. (v : V) → length (fields_with name.now v fields.now) ≡ length fields.now + 1) }
     ensures found { IfOk result (λ place. (v : V) (d : List ℕ × V)
-        → slice_set fields.now place ((slice_index_or fields.now place d).0, v) ≡ put name.now v fields.now) }
-    ensures absent { IfErr result (λ place. (v : V) → insert fields.now place (name.now, v) ≡ put name.now v fields.now) }
+        → slice_set fields.now place ((slice_index_or fields.now place d).0, v) ≡ fields_with name.now v fields.now) }
+    ensures absent { IfErr result (λ place. (v : V) → insert fields.now place (name.now, v) ≡ fields_with name.now v fields.now) }
 {
     let place = count_before(fields, name);
     if place < fields.len() && fields[place].0.as_str() == name {
@@ -50,9 +50,9 @@ pub fn set_field<V: Drop>(
     value: V,
 ) -> Result<(), CapsFault>
     requires { Rises fields.old.items }
-    ensures ok { OnOk result (fields.new.items ≡ put name.now value fields.old.items) }
+    ensures ok { OnOk result (fields.new.items ≡ fields_with name.now value fields.old.items) }
     ensures err { OnErr result (fields.new.items ≡ fields.old.items) }
-    ensures too_many { TooManyWhere result (64 < length (put name.now value fields.old.items)) }
+    ensures too_many { TooManyWhere result (64 < length (fields_with name.now value fields.old.items)) }
 {
     match place_of(fields.as_slice(), name) {
         Ok(place) => {

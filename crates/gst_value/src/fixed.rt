@@ -32,7 +32,7 @@ impl Model for Fixed {
 impl Fixed {
     ghost use Rattle.gst_value.specs.Description.{IsFixed};
     ghost use Rattle.gst_value.specs.Limit.{TooManyWhere};
-    ghost use Rattle.gst_value.specs.Names.{put};
+    ghost use Rattle.gst_value.specs.Names.{fields_with};
     ghost use Rattle.gst_value.specs.Values.{IsSingle};
 
     /// Fixed caps of this media type without fields.
@@ -48,9 +48,9 @@ impl Fixed {
     /// Sets the field of this name, or replaces its value.
     pub fn set(&mut self, alloc: Global, name: &str, value: One) -> Result<(), CapsFault>
         requires { IsSingle value }
-        ensures ok { OnOk result (self.new ≡ record self.old { fields = put name.now value self.old.fields }) }
+        ensures ok { OnOk result (self.new ≡ record self.old { fields = fields_with name.now value self.old.fields }) }
         ensures err { OnErr result (self.new ≡ self.old) }
-        ensures too_many { TooManyWhere result (64 < length (put name.now value self.old.fields)) }
+        ensures too_many { TooManyWhere result (64 < length (fields_with name.now value self.old.fields)) }
     {
         field::set_field(alloc, &mut self.fields, name, value)
     }

@@ -1,7 +1,8 @@
--- Worked rows of the grammar.
+-- Worked rows of the words of a launch line.
 use Rattle.std.proofs.Common.{[], ◌∷◌, ◌++◌, refl, codes, Some}
 use Rattle.launch_text.specs.Tokens.{link, kind, property, caps, reference, opens}
 use Rattle.launch_text.specs.Words.{Reads}
+use Rattle.launch_text.specs.Rows.{WordRows}
 
 -- two elements and a link
 linked_row : Reads (kind (codes "a") ∷ link ∷ kind (codes "b") ∷ []) (codes "a !  b") []
@@ -36,3 +37,6 @@ reference_row = (
   record { white = []; word = codes "("; are_white = refl; parts = refl; stands = refl; ended = refl },
   ([], record { white = codes " "; word = codes "x.src"; are_white = refl; parts = refl; stands = (refl, refl, refl); ended = refl }, refl),
 )
+
+pub word_rows : WordRows
+word_rows = record { link_row = linked_row; quoted_row = quoted_row; taken_row = taken_row; caps_row = caps_row; reference_row = reference_row }

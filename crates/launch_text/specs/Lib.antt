@@ -7,3 +7,4 @@ pub mod Reading
 pub mod Places
 pub mod Kinds
 pub mod Parsed
+pub mod Rows

@@ -16,7 +16,7 @@ mod value;
 mod word;
 
 pub use fault::{LineFault, LineKind};
-pub use laws::printed_again;
+pub use laws::{printed_again, word_rows};
 pub use printing::print;
 pub use reading::parse;
 pub use tree::{Chain, Node, Part, Tree};

@@ -1,15 +1,11 @@
 -- Elements with one sink pad: they meet what moves and a seek ask of a rule.
-use Rattle.std.specs.Prelude.{◌≡◌, ℕ, suc, List, [], ◌∷◌, ◌++◌, if◌then◌else◌, length}
-use Rattle.flow_model.specs.Item.{Item, Ev, FlushStop, is_flush_stop}
+use Rattle.std.specs.Prelude.{◌≡◌, ℕ, List, [], ◌∷◌, ◌++◌, length}
+use Rattle.flow_model.specs.Item.{Item, Ev, FlushStop}
+use Rattle.flow_model.specs.Section.{flush_stops}
 use Rattle.flow_model.specs.Call.{Call, Feed}
 use Rattle.flow_model.specs.Rule.{Response, owed_for, single}
 use Rattle.net_model.specs.Pad.{Grows, Ends}
 use Rattle.net_model.specs.Whole.{OwesInOrder}
-
--- how many FLUSH_STOPs a list has
-abbrev pub flush_stops : List Item → ℕ
-flush_stops [] = 0
-flush_stops (x ∷ xs) = if is_flush_stop x then suc (flush_stops xs) else flush_stops xs
 
 -- For what such an element took it owes a beginning of what it owes for more.
 abbrev pub SingleInOrder : Type 0

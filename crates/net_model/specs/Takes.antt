@@ -1,12 +1,12 @@
 -- What an element puts out for an item that it took.
-use Rattle.std.specs.Prelude.{◌≡◌, ◌<◌, ◌==◌, ℕ, suc, false, if◌then◌else◌, List, [], ◌∷◌, ◌++◌, length}
+use Rattle.std.specs.Prelude.{◌≡◌, ◌<◌, ◌==◌, ℕ, false, if◌then◌else◌, List, [], ◌∷◌, ◌++◌, length}
 use Rattle.gst_item.specs.declared.out.Out.{Out}
 use Rattle.flow_model.specs.Item.{Item, is_flush_stop}
-use Rattle.flow_model.specs.Call.{Call, Feed, Act}
+use Rattle.flow_model.specs.Call.{Call, Feed}
 use Rattle.flow_model.specs.Rule.{Rule}
 use Rattle.net_model.specs.Moment.{Behavior}
 use Rattle.net_model.specs.Pad.{Grows}
-use Rattle.net_model.specs.Split.{push_calls}
+use Rattle.flow_model.specs.SinkPads.{push_calls, InSection}
 
 -- what is to cross the source pad of a number
 abbrev pub on_port : ℕ → List Out → List Item
@@ -17,16 +17,6 @@ on_port port (o ∷ os) = if o.pad == port then o.item ∷ on_port port os else 
 abbrev pub AreWithin : ℕ → List Out → Type 0
 AreWithin ports [] = Unit {0}
 AreWithin ports (o ∷ os) = (o.pad < ports) × (is_flush_stop o.item ≡ false) × AreWithin ports os
-
-abbrev pub flush_stops : List Call → ℕ
-flush_stops [] = 0
-flush_stops (Feed x ∷ cs) = if is_flush_stop x then suc (flush_stops cs) else flush_stops cs
-flush_stops (Act mark ∷ cs) = flush_stops cs
-
--- each sink pad was given so many FLUSH_STOPs
-abbrev pub InSection : ℕ → List (List Call) → Type 0
-InSection n [] = Unit {0}
-InSection n (cs ∷ css) = (flush_stops cs ≡ n) × InSection n css
 
 -- what is put out on each source pad is what is owed more, in the section that is open
 abbrev pub OwesMore : ℕ → Rule → List (List Call) → List (List Call) → List Out → Type 0

@@ -7,7 +7,7 @@ use Rattle.lane_core.specs.declared.ends.Inlet as inlets
 use Rattle.lane_core.specs.declared.ends.Outlet as outlets
 use Rattle.net_model.specs.Moment.{Moment, behavior_at}
 use Rattle.net_model.specs.Pad.{Grows}
-use Rattle.net_model.specs.Split.{push_calls}
+use Rattle.flow_model.specs.SinkPads.{push_calls}
 use Rattle.net_model.specs.Step.{fed}
 use Rattle.net_model.proofs.Inputs.{at_here, at_other}
 use Rattle.net_model.specs.declared.element.TaskElement as elements

@@ -9,7 +9,7 @@ use Rattle.flow_model.specs.Call.{Call, Feed, feeds}
 use Rattle.lane_core.specs.declared.ends.Inlet as inlets
 use Rattle.lane_core.specs.declared.ends.Outlet as outlets
 use Rattle.net_model.specs.Moment.{Moment}
-use Rattle.net_model.specs.Split.{push_calls}
+use Rattle.flow_model.specs.SinkPads.{push_calls}
 use Rattle.net_model.specs.Step.{crossed, fed}
 use Rattle.net_model.proofs.Inputs.{at_here, at_other}
 use Rattle.net_model.specs.declared.element.TaskElement as elements

@@ -9,11 +9,11 @@ use Rattle.lane_core.specs.declared.ends.Outlet as outlets
 use Rattle.lane_core.specs.declared.ends.Put.TheVariants.{Stored}
 use Rattle.inlet_row.specs.declared.feeding.Taken.TheVariants.{Item}
 use Rattle.net_model.specs.Moment.{Moment}
-use Rattle.net_model.specs.Split.{NoneAt, push_calls}
+use Rattle.net_model.specs.Split.{NoneAt}
+use Rattle.flow_model.specs.SinkPads.{push_calls, InSection}
 use Rattle.net_model.specs.Step.{Leads, Sends, Leaves, PutsOut, crossed, passed, fed}
 use Rattle.net_model.specs.declared.element.TaskElement as elements
 use Rattle.net_model.specs.declared.source.TaskSource as sources
-use Rattle.net_model.specs.Takes.{InSection}
 use Rattle.task_parts.specs.declared.part.Part.{Part}
 use Rattle.task_parts.specs.declared.head.Head.{Head}
 use Rattle.task_parts.specs.declared.head.Head.TheVariants.{Source, Inlets}

@@ -3,8 +3,8 @@ use Rattle.std.proofs.Common.{◌≡◌, ℕ, zero, suc, Bool, true, false, if�
 use Rattle.flow_model.specs.Item.{Item, is_flush_stop}
 use Rattle.flow_model.specs.Call.{Call, Feed, Act}
 use Rattle.gst_item.specs.Sticky.{has_flush_stop}
-use Rattle.net_model.specs.Split.{NoneAt, push_calls, front_calls}
-use Rattle.net_model.specs.Takes.{InSection, flush_stops}
+use Rattle.net_model.specs.Split.{NoneAt, front_calls}
+use Rattle.flow_model.specs.SinkPads.{push_calls, InSection, flush_stops_given}
 use Rattle.net_turns.specs.Net.{ListAt}
 
 -- sink pad i has its first call no more
@@ -38,7 +38,7 @@ push_length zero more (cs ∷ css) = refl
 push_length (suc i) more (cs ∷ css) = ap suc (push_length i more css)
 
 -- an item more is no FLUSH_STOP more
-stops_push : (cs : List Call) (x : Item) → is_flush_stop x ≡ false → flush_stops (cs ++ Feed x ∷ []) ≡ flush_stops cs
+stops_push : (cs : List Call) (x : Item) → is_flush_stop x ≡ false → flush_stops_given (cs ++ Feed x ∷ []) ≡ flush_stops_given cs
 stops_push [] x f = rw f refl
 stops_push (Feed y ∷ cs) x f = ap (λ n. if is_flush_stop y then suc n else n) (stops_push cs x f)
 stops_push (Act mark ∷ cs) x f = stops_push cs x f
@@ -83,11 +83,11 @@ gone_length i [] = refl
 gone_length zero (cs ∷ css) = refl
 gone_length (suc i) (cs ∷ css) = ap suc (gone_length i css)
 
-stops_gone : (cs : List Call) → flush_stops cs ≡ 0 → flush_stops (drop 1 cs) ≡ 0
+stops_gone : (cs : List Call) → flush_stops_given cs ≡ 0 → flush_stops_given (drop 1 cs) ≡ 0
 stops_gone [] h = h
 stops_gone (Feed x ∷ cs) h = go (is_flush_stop x) h
   where
-    go : (b : Bool) → (if b then suc (flush_stops cs) else flush_stops cs) ≡ 0 → flush_stops cs ≡ 0
+    go : (b : Bool) → (if b then suc (flush_stops_given cs) else flush_stops_given cs) ≡ 0 → flush_stops_given cs ≡ 0
     go true e = absurd (omega arith)
     go false e = e
 stops_gone (Act mark ∷ cs) h = h
@@ -101,9 +101,9 @@ gone_section (suc i) (cs ∷ css) h = (h.0, gone_section i css h.1)
 -- what stands first in the first section is no FLUSH_STOP
 pub first_calm : (i : ℕ) (css : List (List Call)) (x : Item) (calls : List Call) → InSection 0 css → ListAt i css (Feed x ∷ calls) → is_flush_stop x ≡ false
 first_calm i [] x calls s h = absurd h
-first_calm zero (cs ∷ css) x calls s h = go (is_flush_stop x) (sym (ap flush_stops h) ∙ s.0)
+first_calm zero (cs ∷ css) x calls s h = go (is_flush_stop x) (sym (ap flush_stops_given h) ∙ s.0)
   where
-    go : (b : Bool) → (if b then suc (flush_stops calls) else flush_stops calls) ≡ 0 → b ≡ false
+    go : (b : Bool) → (if b then suc (flush_stops_given calls) else flush_stops_given calls) ≡ 0 → b ≡ false
     go true e = absurd (omega arith)
     go false e = refl
 first_calm (suc i) (cs ∷ css) x calls s h = first_calm i css x calls s.1 h

@@ -11,7 +11,7 @@ use Rattle.lane_core.specs.declared.ends.Outlet as outlets
 use Rattle.pad_core.specs.Crossing.{has_ended}
 use Rattle.net_model.specs.Moment.{Moment, CellStands}
 use Rattle.net_model.specs.Split.{AreEmpty}
-use Rattle.net_model.specs.Takes.{InSection}
+use Rattle.flow_model.specs.SinkPads.{InSection}
 use Rattle.net_model.specs.declared.element.TaskElement as elements
 use Rattle.net_model.specs.declared.source.TaskSource as sources
 use Rattle.inlet_row.specs.declared.row.InletRow.{InletRow}

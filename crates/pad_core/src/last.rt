@@ -17,7 +17,7 @@ pub(crate) enum Last {
 }
 
 /// Gives up what a slot holds for something else.
-pub(crate) fn put(slot: &mut Last, last: Last)
+pub(crate) fn replace_last(slot: &mut Last, last: Last)
     ensures { slot.new ≡ last }
 {
     *slot = last;

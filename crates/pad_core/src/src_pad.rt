@@ -7,7 +7,7 @@ ghost use Rattle.pad_core.specs.Counts.{last_buffers, last_events, is_apart, IsS
 
 use crate::crossing::Crossing;
 use crate::kind::{is_flush_stop, is_sticky};
-use crate::last::{Last, put, take};
+use crate::last::{Last, replace_last, take};
 use crate::probe::Probe;
 use gst_item::{Event, Item, Sticky};
 use gst_value::{List, OutOfMemory};
@@ -339,7 +339,7 @@ impl SrcPad {
     {
         self.crossed += 1;
         self.buffers += 1;
-        put(&mut self.last, Last::Buffer);
+        replace_last(&mut self.last, Last::Buffer);
     }
 
     /// Counts an event.
@@ -385,7 +385,7 @@ impl SrcPad {
         ensures crossed { self.new.crossed ≡ self.old.crossed + 1 }
     {
         self.crossed += 1;
-        put(&mut self.last, Last::Gap);
+        replace_last(&mut self.last, Last::Gap);
     }
 
     /// Counts the sticky event of which a copy was laid by; `ends` says whether it is EOS.
@@ -404,7 +404,7 @@ impl SrcPad {
         };
         self.crossed += 1;
         self.ended = ends;
-        put(&mut self.last, Last::Sticky(event));
+        replace_last(&mut self.last, Last::Sticky(event));
     }
 
     /// Puts the sticky event that crossed last among the settled ones.

@@ -14,7 +14,7 @@ use Rattle.flow_model.specs.Rule.{Rule, Response, owed_for, single, passes}
 use Rattle.flow_model.specs.Feeding.{on_pad, next_owed, passed, flow_behind, IsFaultOf}
 use Rattle.net_model.specs.Moment.{Behavior}
 use Rattle.net_model.specs.Pad.{Grows}
-use Rattle.net_model.specs.Split.{push_calls}
+use Rattle.flow_model.specs.SinkPads.{push_calls}
 use Rattle.net_model.specs.Takes.{on_port, OwesMore, Takes}
 use Rattle.net_model.specs.Refuses.{RefusesBy}
 use Rattle.net_model.specs.declared.refusal.Refusal.TheVariants.{Fault}

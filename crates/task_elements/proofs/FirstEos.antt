@@ -11,7 +11,7 @@ use Rattle.flow_model.proofs.Prefixes.{prefix_trans, rest_of}
 use Rattle.flow_model.proofs.Sections.{section_prefix, owed_for_prefix}
 use Rattle.net_model.specs.Moment.{Behavior}
 use Rattle.net_model.specs.Over.{list_ended, AllEnded}
-use Rattle.net_model.specs.Takes.{flush_stops, InSection}
+use Rattle.flow_model.specs.SinkPads.{flush_stops_given, InSection}
 use Rattle.el_set.specs.declared.filter.FilterElement.{FilterElement}
 use Rattle.el_set.specs.Stands.{Stands, MeetsNone}
 use Rattle.el_set.proofs.Ends.{eos_first, eos_latest, none_first}
@@ -73,11 +73,11 @@ first_items (Feed x ∷ cs) = go (is_flush_stop x) (first_items cs)
     go false same = ap (λ ys. x ∷ ys) same
 first_items (Act mark ∷ cs) = first_items cs
 
-first_none : (calls : List Call) → flush_stops (first_calls calls) ≡ 0
+first_none : (calls : List Call) → flush_stops_given (first_calls calls) ≡ 0
 first_none [] = refl
 first_none (Feed x ∷ cs) = go (is_flush_stop x) refl (first_none cs)
   where
-    go : (f : Bool) → is_flush_stop x ≡ f → flush_stops (first_calls cs) ≡ 0 → flush_stops (if f then [] else Feed x ∷ first_calls cs) ≡ 0
+    go : (f : Bool) → is_flush_stop x ≡ f → flush_stops_given (first_calls cs) ≡ 0 → flush_stops_given (if f then [] else Feed x ∷ first_calls cs) ≡ 0
     go true e none = refl
     go false e none = rw e none
 first_none (Act mark ∷ cs) = first_none cs
@@ -135,11 +135,11 @@ first_goes_on bytes (Queue queue) behavior took t h port within = filter_first (
 first_goes_on bytes (Sink sink) behavior took t h port within = absurd (omega (arith, within))
 
 -- without FLUSH_STOP all is the first section
-whole_first : (cs : List Call) → flush_stops cs ≡ 0 → section 0 (items cs) ≡ items cs
+whole_first : (cs : List Call) → flush_stops_given cs ≡ 0 → section 0 (items cs) ≡ items cs
 whole_first [] none = refl
 whole_first (Feed x ∷ cs) none = go (is_flush_stop x) (whole_first cs) none
   where
-    go : (f : Bool) → (flush_stops cs ≡ 0 → section 0 (items cs) ≡ items cs) → (if f then suc (flush_stops cs) else flush_stops cs) ≡ 0
+    go : (f : Bool) → (flush_stops_given cs ≡ 0 → section 0 (items cs) ≡ items cs) → (if f then suc (flush_stops_given cs) else flush_stops_given cs) ≡ 0
         → (if f then [] else x ∷ section 0 (items cs)) ≡ x ∷ items cs
     go true rest none = absurd (omega (arith, none))
     go false rest none = ap (λ ys. x ∷ ys) (rest none)

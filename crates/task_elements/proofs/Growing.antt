@@ -2,12 +2,13 @@
 use Rattle.std.proofs.Common.{◌≡◌, ◌<◌, ◌+◌, ℕ, zero, suc, Bool, true, false, if◌then◌else◌, List, [], ◌∷◌, ◌++◌, length, filter, refl, sym, ap, ◌∙◌, subst, append-nil, arith, Result, Ok, Err}
 use Rattle.flow_model.specs.Item.{Item, Ev, Eos, is_flush_stop}
 use Rattle.flow_model.specs.Sticky.{has_flush_stop}
-use Rattle.flow_model.specs.Section.{section}
+use Rattle.flow_model.specs.Section.{section, flush_stops}
 use Rattle.flow_model.specs.Call.{Call, Feed, Act, Drain, Set}
 use Rattle.flow_model.specs.Rule.{Owed, Response, Fault, Fed, unfed, responded, flushed, not_eos, drained, called, all_called, owed_for, single}
 use Rattle.flow_model.specs.Feeding.{on_pad, next_owed}
 use Rattle.net_model.specs.Pad.{Grows}
-use Rattle.net_model.specs.Takes.{on_port, AreWithin, flush_stops}
+use Rattle.net_model.specs.Takes.{on_port, AreWithin}
+use Rattle.flow_model.specs.SinkPads.{flush_stops_given}
 
 -- a rule owes no FLUSH_STOP of its own: for no item but FLUSH_STOP, which crosses the element
 abbrev pub HasNoStop : Result (List Item) Fault → Type 0
@@ -17,25 +18,20 @@ HasNoStop (Err fault) = Unit {0}
 abbrev pub OwesNoStop : Response → Type 0
 OwesNoStop respond = (fed : Fed) (x : Item) → is_flush_stop x ≡ false → HasNoStop (respond fed x)
 
--- how many FLUSH_STOPs a list has
-abbrev pub stops : List Item → ℕ
-stops [] = 0
-stops (x ∷ xs) = if is_flush_stop x then suc (stops xs) else stops xs
-
-stops_append : (xs ys : List Item) → stops (xs ++ ys) ≡ stops xs + stops ys
+stops_append : (xs ys : List Item) → flush_stops (xs ++ ys) ≡ flush_stops xs + flush_stops ys
 stops_append [] ys = omega arith
 stops_append (x ∷ xs) ys = go (is_flush_stop x) (stops_append xs ys)
   where
-    go : (b : Bool) → stops (xs ++ ys) ≡ stops xs + stops ys
-        → (if b then suc (stops (xs ++ ys)) else stops (xs ++ ys)) ≡ (if b then suc (stops xs) else stops xs) + stops ys
+    go : (b : Bool) → flush_stops (xs ++ ys) ≡ flush_stops xs + flush_stops ys
+        → (if b then suc (flush_stops (xs ++ ys)) else flush_stops (xs ++ ys)) ≡ (if b then suc (flush_stops xs) else flush_stops xs) + flush_stops ys
     go true e = omega (arith, e)
     go false e = e
 
-no_stops : (xs : List Item) → has_flush_stop xs ≡ false → stops xs ≡ 0
+no_stops : (xs : List Item) → has_flush_stop xs ≡ false → flush_stops xs ≡ 0
 no_stops [] h = refl
 no_stops (x ∷ xs) h = go (is_flush_stop x) h (no_stops xs)
   where
-    go : (b : Bool) → (if b then true else has_flush_stop xs) ≡ false → (has_flush_stop xs ≡ false → stops xs ≡ 0) → (if b then suc (stops xs) else stops xs) ≡ 0
+    go : (b : Bool) → (if b then true else has_flush_stop xs) ≡ false → (has_flush_stop xs ≡ false → flush_stops xs ≡ 0) → (if b then suc (flush_stops xs) else flush_stops xs) ≡ 0
     go true h rest = absurd (cc)
     go false h rest = rest h
 
@@ -51,52 +47,52 @@ none_filtered (x ∷ xs) h = go (is_flush_stop x) (not_eos x) refl h (none_filte
     go false false e h rest = rest h
 
 -- a call adds a FLUSH_STOP to what is owed where it is one
-more_stops : (s : Fed) (ys : List Item) → has_flush_stop ys ≡ false → stops (s.out ++ ys) ≡ stops s.out
+more_stops : (s : Fed) (ys : List Item) → has_flush_stop ys ≡ false → flush_stops (s.out ++ ys) ≡ flush_stops s.out
 more_stops s ys h = stops_append s.out ys ∙ omega (arith, no_stops ys h)
 
-answered_stops : (s : Fed) (x : Item) (r : Result (List Item) Fault) → HasNoStop r → stops (responded s x r).out ≡ stops s.out
+answered_stops : (s : Fed) (x : Item) (r : Result (List Item) Fault) → HasNoStop r → flush_stops (responded s x r).out ≡ flush_stops s.out
 answered_stops s x (Ok ys) h = more_stops s ys h
 answered_stops s x (Err fault) h = refl
 
-drained_stops : (s : Fed) (over : Bool) (r : Result (List Item) Fault) → HasNoStop r → stops (if over then s else drained s r).out ≡ stops s.out
+drained_stops : (s : Fed) (over : Bool) (r : Result (List Item) Fault) → HasNoStop r → flush_stops (if over then s else drained s r).out ≡ flush_stops s.out
 drained_stops s true r h = refl
 drained_stops s false (Ok ys) h = more_stops s (filter not_eos ys) (none_filtered ys h)
 drained_stops s false (Err fault) h = refl
 
-called_stops : (respond : Response) → OwesNoStop respond → (s : Fed) (c : Call) → stops (called respond s c).out ≡ stops s.out + flush_stops (c ∷ [])
+called_stops : (respond : Response) → OwesNoStop respond → (s : Fed) (c : Call) → flush_stops (called respond s c).out ≡ flush_stops s.out + flush_stops_given (c ∷ [])
 called_stops respond none s (Feed x) = go (is_flush_stop x) s.over refl
   where
     go : (f over : Bool) → is_flush_stop x ≡ f
-        → stops (if f then flushed s x else (if over then s else responded s x (respond s x))).out ≡ stops s.out + (if f then 1 else 0)
-    go true over e = stops_append s.out (x ∷ []) ∙ ap (λ (b : Bool). stops s.out + (if b then 1 else 0)) e
+        → flush_stops (if f then flushed s x else (if over then s else responded s x (respond s x))).out ≡ flush_stops s.out + (if f then 1 else 0)
+    go true over e = stops_append s.out (x ∷ []) ∙ ap (λ (b : Bool). flush_stops s.out + (if b then 1 else 0)) e
     go false true e = omega arith
     go false false e = answered_stops s x (respond s x) (none s x e) ∙ omega arith
 called_stops respond none s (Act Drain) = drained_stops s s.over (respond s (Ev Eos)) (none s (Ev Eos) refl) ∙ omega arith
 called_stops respond none s (Act (Set setting)) = omega arith
 
-first_stops : (c : Call) (cs : List Call) → flush_stops (c ∷ cs) ≡ flush_stops (c ∷ []) + flush_stops cs
+first_stops : (c : Call) (cs : List Call) → flush_stops_given (c ∷ cs) ≡ flush_stops_given (c ∷ []) + flush_stops_given cs
 first_stops (Feed x) cs = go (is_flush_stop x)
   where
-    go : (f : Bool) → (if f then suc (flush_stops cs) else flush_stops cs) ≡ (if f then 1 else 0) + flush_stops cs
+    go : (f : Bool) → (if f then suc (flush_stops_given cs) else flush_stops_given cs) ≡ (if f then 1 else 0) + flush_stops_given cs
     go true = omega arith
     go false = omega arith
 first_stops (Act mark) cs = omega arith
 
-all_stops : (respond : Response) → OwesNoStop respond → (s : Fed) (calls : List Call) → stops (all_called respond s calls).out ≡ stops s.out + flush_stops calls
+all_stops : (respond : Response) → OwesNoStop respond → (s : Fed) (calls : List Call) → flush_stops (all_called respond s calls).out ≡ flush_stops s.out + flush_stops_given calls
 all_stops respond none s [] = omega arith
 all_stops respond none s (c ∷ cs) =
     all_stops respond none (called respond s c) cs ∙ omega (arith, called_stops respond none s c, first_stops c cs)
 
 -- as many FLUSH_STOPs are owed as were given
-pub owed_stops : (respond : Response) → OwesNoStop respond → (calls : List Call) → stops (owed_for respond calls) ≡ flush_stops calls
+pub owed_stops : (respond : Response) → OwesNoStop respond → (calls : List Call) → flush_stops (owed_for respond calls) ≡ flush_stops_given calls
 owed_stops respond none calls = all_stops respond none unfed calls ∙ omega arith
 
 -- a list without FLUSH_STOP is one section
-pub one_section : (more : List Item) → stops more ≡ 0 → section 0 more ≡ more
+pub one_section : (more : List Item) → flush_stops more ≡ 0 → section 0 more ≡ more
 one_section [] n = refl
 one_section (x ∷ xs) n = go (is_flush_stop x) (one_section xs) n
   where
-    go : (b : Bool) → (stops xs ≡ 0 → section 0 xs ≡ xs) → (if b then suc (stops xs) else stops xs) ≡ 0 → (if b then [] else x ∷ section 0 xs) ≡ x ∷ xs
+    go : (b : Bool) → (flush_stops xs ≡ 0 → section 0 xs ≡ xs) → (if b then suc (flush_stops xs) else flush_stops xs) ≡ 0 → (if b then [] else x ∷ section 0 xs) ≡ x ∷ xs
     go true rest n = absurd (omega (arith, n))
     go false rest n = ap (λ zs. x ∷ zs) (rest n)
 
@@ -104,47 +100,47 @@ suc_same : (a b : ℕ) → suc a ≡ suc b → a ≡ b
 suc_same a b e = omega (arith, e)
 
 -- what comes behind the last FLUSH_STOP is in the last section
-last_section : (j : ℕ) (xs more : List Item) → stops xs ≡ j → stops more ≡ 0 → section j (xs ++ more) ≡ section j xs ++ more
+last_section : (j : ℕ) (xs more : List Item) → flush_stops xs ≡ j → flush_stops more ≡ 0 → section j (xs ++ more) ≡ section j xs ++ more
 last_section zero [] more e n = one_section more n
 last_section (suc j) [] more e n = absurd (omega (arith, e))
 last_section zero (x ∷ xs) more e n = go (is_flush_stop x) (last_section zero xs more) e
   where
-    go : (b : Bool) → (stops xs ≡ 0 → stops more ≡ 0 → section 0 (xs ++ more) ≡ section 0 xs ++ more) → (if b then suc (stops xs) else stops xs) ≡ 0
+    go : (b : Bool) → (flush_stops xs ≡ 0 → flush_stops more ≡ 0 → section 0 (xs ++ more) ≡ section 0 xs ++ more) → (if b then suc (flush_stops xs) else flush_stops xs) ≡ 0
         → (if b then [] else x ∷ section 0 (xs ++ more)) ≡ (if b then [] else x ∷ section 0 xs) ++ more
     go true rest e = absurd (omega (arith, e))
     go false rest e = ap (λ zs. x ∷ zs) (rest e n)
 last_section (suc j) (x ∷ xs) more e n = go (is_flush_stop x) (last_section j xs more) (last_section (suc j) xs more) e
   where
-    go : (b : Bool) → (stops xs ≡ j → stops more ≡ 0 → section j (xs ++ more) ≡ section j xs ++ more)
-        → (stops xs ≡ suc j → stops more ≡ 0 → section (suc j) (xs ++ more) ≡ section (suc j) xs ++ more) → (if b then suc (stops xs) else stops xs) ≡ suc j
+    go : (b : Bool) → (flush_stops xs ≡ j → flush_stops more ≡ 0 → section j (xs ++ more) ≡ section j xs ++ more)
+        → (flush_stops xs ≡ suc j → flush_stops more ≡ 0 → section (suc j) (xs ++ more) ≡ section (suc j) xs ++ more) → (if b then suc (flush_stops xs) else flush_stops xs) ≡ suc j
         → (if b then section j (xs ++ more) else section (suc j) (xs ++ more)) ≡ (if b then section j xs else section (suc j) xs) ++ more
     go true rest here e = rest (suc_same _ _ e) n
     go false rest here e = here e n
 
 -- the sections before it stay
-earlier_section : (j : ℕ) (xs more : List Item) → j < stops xs → section j (xs ++ more) ≡ section j xs
+earlier_section : (j : ℕ) (xs more : List Item) → j < flush_stops xs → section j (xs ++ more) ≡ section j xs
 earlier_section j [] more l = absurd (omega (arith, l))
 earlier_section zero (x ∷ xs) more l = go (is_flush_stop x) (earlier_section zero xs more) l
   where
-    go : (b : Bool) → (0 < stops xs → section 0 (xs ++ more) ≡ section 0 xs) → 0 < (if b then suc (stops xs) else stops xs)
+    go : (b : Bool) → (0 < flush_stops xs → section 0 (xs ++ more) ≡ section 0 xs) → 0 < (if b then suc (flush_stops xs) else flush_stops xs)
         → (if b then [] else x ∷ section 0 (xs ++ more)) ≡ (if b then [] else x ∷ section 0 xs)
     go true rest l = refl
     go false rest l = ap (λ zs. x ∷ zs) (rest l)
 earlier_section (suc j) (x ∷ xs) more l = go (is_flush_stop x) (earlier_section j xs more) (earlier_section (suc j) xs more) l
   where
-    go : (b : Bool) → (j < stops xs → section j (xs ++ more) ≡ section j xs) → (suc j < stops xs → section (suc j) (xs ++ more) ≡ section (suc j) xs)
-        → suc j < (if b then suc (stops xs) else stops xs)
+    go : (b : Bool) → (j < flush_stops xs → section j (xs ++ more) ≡ section j xs) → (suc j < flush_stops xs → section (suc j) (xs ++ more) ≡ section (suc j) xs)
+        → suc j < (if b then suc (flush_stops xs) else flush_stops xs)
         → (if b then section j (xs ++ more) else section (suc j) (xs ++ more)) ≡ (if b then section j xs else section (suc j) xs)
     go true rest here l = rest (omega (arith, l))
     go false rest here l = here l
 
-list_grows : (j : ℕ) (cuts : List (ℕ × ℕ)) (xs more : List Item) → stops xs ≡ j + length cuts → stops more ≡ 0 → Grows j cuts (λ i. section i xs) (λ i. section i (xs ++ more)) more
+list_grows : (j : ℕ) (cuts : List (ℕ × ℕ)) (xs more : List Item) → flush_stops xs ≡ j + length cuts → flush_stops more ≡ 0 → Grows j cuts (λ i. section i xs) (λ i. section i (xs ++ more)) more
 list_grows j [] xs more e n = last_section j xs more (e ∙ omega arith) n
 list_grows j (c ∷ cuts) xs more e n = (earlier_section j xs more (omega (arith, e)), list_grows (suc j) cuts xs more (e ∙ omega arith) n)
 
 -- An item of a rule that owes no FLUSH_STOP of its own: with a cut for each FLUSH_STOP that was taken, the earlier sections
 -- stay, and what is put out is owed more in the last.
-pub single_grows : (respond : Response) → OwesNoStop respond → (cuts : List (ℕ × ℕ)) (calls : List Call) (x : Item) (more : List Item) → flush_stops calls ≡ length cuts
+pub single_grows : (respond : Response) → OwesNoStop respond → (cuts : List (ℕ × ℕ)) (calls : List Call) (x : Item) (more : List Item) → flush_stops_given calls ≡ length cuts
     → has_flush_stop more ≡ false → owed_for respond (calls ++ Feed x ∷ []) ≡ owed_for respond calls ++ more → (port : ℕ)
     → Grows 0 cuts (single respond (calls ∷ []) port) (single respond ((calls ++ Feed x ∷ []) ∷ []) port) more
 single_grows respond none cuts calls x more e h grown port =

@@ -3,7 +3,7 @@ ghost use Rattle.std.specs.Prelude.{◌≡◌, ◌∷◌, [], ℕ, false, List, 
 ghost use Rattle.flow_model.specs.Item.{is_flush_stop};
 ghost use Rattle.flow_model.specs.Call.{Call, Feed};
 ghost use Rattle.net_model.specs.Moment.{Behavior};
-ghost use Rattle.net_model.specs.Split.{push_calls};
+ghost use Rattle.flow_model.specs.SinkPads.{push_calls};
 ghost use Rattle.net_model.specs.Takes.{Takes};
 ghost use Rattle.net_model.specs.Refuses.{RefusesBy};
 ghost use Rattle.net_model.specs.Failures.{NeverFalls, IsWriteCause};

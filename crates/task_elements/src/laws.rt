@@ -5,7 +5,7 @@ ghost use Rattle.flow_model.specs.Section.{IsPlain};
 ghost use Rattle.net_model.specs.Moment.{Behavior};
 ghost use Rattle.net_model.specs.Whole.{OwesInOrder};
 ghost use Rattle.net_model.specs.Over.{list_ended, AllEnded};
-ghost use Rattle.net_model.specs.Takes.{InSection};
+ghost use Rattle.flow_model.specs.SinkPads.{InSection};
 ghost use Rattle.task_elements.specs.Ended.{FirstEnded};
 ghost use Rattle.task_elements.specs.Stands.{StreamStands, pads_of};
 ghost use Rattle.task_elements.specs.declared.element.StreamElement.{StreamElement};

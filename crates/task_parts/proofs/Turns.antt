@@ -6,7 +6,7 @@ use Rattle.std.proofs.lemmas.Bool.Decides.{eqb_tells}
 use Rattle.gst_item.specs.declared.out.Out.{Out}
 use Rattle.flow_model.specs.Call.{Feed}
 use Rattle.flow_model.specs.Item.{Item}
-use Rattle.net_model.specs.Split.{push_calls}
+use Rattle.flow_model.specs.SinkPads.{push_calls}
 use Rattle.net_model.specs.declared.element.TaskElement as elements
 use Rattle.net_model.specs.Failures.{NeverFalls}
 use Rattle.net_model.specs.Takes.{Takes, on_port}

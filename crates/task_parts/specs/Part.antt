@@ -6,7 +6,7 @@ use Rattle.flow_model.specs.Call.{Call, Feed}
 use Rattle.lane_core.specs.Lane.{Lane}
 use Rattle.lane_core.specs.declared.ends.Outlet as outlets
 use Rattle.net_model.specs.Moment.{Behavior}
-use Rattle.net_model.specs.Split.{push_calls}
+use Rattle.flow_model.specs.SinkPads.{push_calls}
 use Rattle.net_model.specs.declared.element.TaskElement as elements
 use Rattle.net_model.specs.declared.refusal.Refusal.{Refusal}
 use Rattle.net_model.specs.Failures.{IsWriteCause, NeverFalls}

@@ -20,6 +20,6 @@ returns g c = record {
       (subst (λ (end : Option (End g.row.S.Denot g.row.K.Denot)). IsFilled g.S.Source g.K.Sink c.settings.result.now c.args.number end c.slot_of-element.result.element c.slot_of-element.result.source c.slot_of-element.result.left)
       c.taken-end.ensures.taken c.slot_of-element.ensures);
   ends =
-      c.put.ensures ∙ ap (λ (ends : List (Option (End g.row.S.Denot g.row.K.Denot))). set ends c.args.number c.slot_of-element.result.left) c.taken-end.ensures.left
+      c.place_at.ensures ∙ ap (λ (ends : List (Option (End g.row.S.Denot g.row.K.Denot))). set ends c.args.number c.slot_of-element.result.left) c.taken-end.ensures.left
       ∙ set_again c.args.ends.now.items c.args.number None c.slot_of-element.result.left;
 }

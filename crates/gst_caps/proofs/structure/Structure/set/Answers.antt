@@ -1,13 +1,13 @@
 use Rattle.std.proofs.Common.{ℕ, List}
 use Rattle.gst_caps.specs.Description.{IsStructure}
-use Rattle.gst_value.specs.Names.{put}
+use Rattle.gst_value.specs.Names.{fields_with}
 use Rattle.gst_caps.specs.Values.{IsValue}
 use Rattle.gst_caps.specs.declared.value.Value.{Value}
-use Rattle.gst_value.proofs.Put.{Rises-put, Each-put, after_set}
+use Rattle.gst_value.proofs.NamesInOrder.{Rises-fields_with, Each-fields_with, after_set}
 use Rattle.gst_caps.proofs.structure.Structure.set.Goals as goal
 
 pub invariant_of-self : goal.invariant_of-self
 invariant_of-self c =
     let Q : List (List ℕ × Value) → Type 0 = λ fs. IsStructure (record { media = c.self.inside.media; fields = fs }) in
-    after_set c.set_field.result c.self.inside.fields.items c.set_field.new.fields.items (put c.args.name.now c.args.value c.self.inside.fields.items) Q c.set_field.ensures.ok c.set_field.ensures.err c.set_field.ensures.too_many c.self.invariant
-    (λ few. record { ordered = Rises-put _ _ _ c.self.invariant.ordered; values = Each-put IsValue _ _ _ c.requires c.self.invariant.values; few = few })
+    after_set c.set_field.result c.self.inside.fields.items c.set_field.new.fields.items (fields_with c.args.name.now c.args.value c.self.inside.fields.items) Q c.set_field.ensures.ok c.set_field.ensures.err c.set_field.ensures.too_many c.self.invariant
+    (λ few. record { ordered = Rises-fields_with _ _ _ c.self.invariant.ordered; values = Each-fields_with IsValue _ _ _ c.requires c.self.invariant.values; few = few })

@@ -3,4 +3,4 @@ use Rattle.pad_core.proofs.Crossed.{counted}
 use Rattle.pad_core.proofs.src_pad.SrcPad.count_buffer.Goals as goal
 
 pub returns-clause-history : goal.returns-clause-history
-returns-clause-history c = λ h b. counted c.args.self.now _ _ refl c.requires.not_ended c.requires.settled refl refl c.requires.not_ended refl (rw c.put.ensures tt) h
+returns-clause-history c = λ h b. counted c.args.self.now _ _ refl c.requires.not_ended c.requires.settled refl refl c.requires.not_ended refl (rw c.replace_last.ensures tt) h

@@ -1,6 +1,6 @@
 use Rattle.std.proofs.Common.{sym}
-use Rattle.el_wavenc.proofs.Fields.{more_structure}
-use Rattle.el_wavenc.proofs.fixed.as_structure.Goals as goal
+use Rattle.audio_info.proofs.FieldsAlone.{more_structure}
+use Rattle.audio_info.proofs.alone.as_structure.Goals as goal
 
 pub loop-place-preserved : goal.loop-place-preserved
 loop-place-preserved c =

@@ -14,7 +14,7 @@ use mathlib.Core.Bool.{true≢false}
 use Rattle.gst_value.proofs.Lists.{Each-append, Each-filter, Each-filtered, Each-map}
 use Rattle.gst_value.specs.Limit.{TooManyWhere}
 use Rattle.gst_value.specs.declared.fault.CapsFault.{CapsFault}
-use Rattle.gst_value.specs.Names.{Each, Rises, is_before, put}
+use Rattle.gst_value.specs.Names.{Each, Rises, is_before, fields_with}
 
 abbrev pub cmp : List ℕ → List ℕ → Ordering
 cmp = slice_cmp nat_cmp
@@ -41,14 +41,14 @@ filter-none_before n [] p = refl
 filter-none_before n (f ∷ fs) p = rw (not_before n f.0 p.0) (filter-none_before n fs p.1)
 
 -- a field before the name stays in front
-pub put_step : {X : Type 0} (n : List ℕ) (v : X) (f : List ℕ × X) (fs : List (List ℕ × X)) → is_before f.0 n ≡ true → put n v (f ∷ fs) ≡ f ∷ put n v fs
-put_step n v f fs h =
+pub fields_with_step : {X : Type 0} (n : List ℕ) (v : X) (f : List ℕ × X) (fs : List (List ℕ × X)) → is_before f.0 n ≡ true → fields_with n v (f ∷ fs) ≡ f ∷ fields_with n v fs
+fields_with_step n v f fs h =
     let later : is_before n f.0 ≡ false = not_before f.0 n (less_from_is_lt _ h) in
     rw (h, later) refl
 
 -- all fields are behind the name
-pub put_front : {X : Type 0} (n : List ℕ) (v : X) (fs : List (List ℕ × X)) → Each (λ f. cmp n f.0 ≡ Less) fs → put n v fs ≡ (n, v) ∷ fs
-put_front n v fs p = rw (filter-none_before n fs p, filter-all_behind n fs p) refl
+pub fields_with_front : {X : Type 0} (n : List ℕ) (v : X) (fs : List (List ℕ × X)) → Each (λ f. cmp n f.0 ≡ Less) fs → fields_with n v fs ≡ (n, v) ∷ fs
+fields_with_front n v fs p = rw (filter-none_before n fs p, filter-all_behind n fs p) refl
 
 pub same_not_before : (a : List ℕ) → is_before a a ≡ false
 same_not_before a = by (cmp a a) (nat_list_cmp_total.antisymm a a)
@@ -59,19 +59,19 @@ same_not_before a = by (cmp a a) (nat_list_cmp_total.antisymm a a)
     by Greater h = refl
 
 -- the first field has the name
-pub put_same : {X : Type 0} (n : List ℕ) (v w : X) (fs : List (List ℕ × X)) → Each (λ f. cmp n f.0 ≡ Less) fs → put n v ((n, w) ∷ fs) ≡ (n, v) ∷ fs
-put_same n v w fs p = rw (same_not_before n, filter-none_before n fs p, filter-all_behind n fs p) refl
+pub fields_with_same : {X : Type 0} (n : List ℕ) (v w : X) (fs : List (List ℕ × X)) → Each (λ f. cmp n f.0 ≡ Less) fs → fields_with n v ((n, w) ∷ fs) ≡ (n, v) ∷ fs
+fields_with_same n v w fs p = rw (same_not_before n, filter-none_before n fs p, filter-all_behind n fs p) refl
 
-put_first : {X : Type 0} (n : List ℕ) (v : X) (f : List ℕ × X) (fs : List (List ℕ × X)) → Each (λ g. cmp f.0 g.0 ≡ Less) fs → f.0 ≡ n → put n v (f ∷ fs) ≡ (n, v) ∷ fs
-put_first n v f fs q e =
-    let P : List ℕ → Type 0 = λ m. put n v ((m, f.1) ∷ fs) ≡ (n, v) ∷ fs in
+fields_with_first : {X : Type 0} (n : List ℕ) (v : X) (f : List ℕ × X) (fs : List (List ℕ × X)) → Each (λ g. cmp f.0 g.0 ≡ Less) fs → f.0 ≡ n → fields_with n v (f ∷ fs) ≡ (n, v) ∷ fs
+fields_with_first n v f fs q e =
+    let P : List ℕ → Type 0 = λ m. fields_with n v ((m, f.1) ∷ fs) ≡ (n, v) ∷ fs in
     let Q : List ℕ → Type 0 = λ m. Each (λ g. cmp m g.0 ≡ Less) fs in
-    subst P (sym e) (put_same n v f.1 fs (subst Q e q))
+    subst P (sym e) (fields_with_same n v f.1 fs (subst Q e q))
 
-set-put_at : {X : Type 0} (n : List ℕ) (v : X) (fs : List (List ℕ × X)) (k : ℕ) (d : List ℕ × X) → Rises fs → Each (λ f. is_before f.0 n ≡ true) (take k fs) → k < length fs → (get_or fs k d).0 ≡ n → set fs k (n, v) ≡ put n v fs
-set-put_at n v [] k d r p h e = absurd (omega arith)
-set-put_at n v (f ∷ fs) zero d r p h e = sym (put_first n v f fs r.0 e)
-set-put_at n v (f ∷ fs) (suc k) d r p h e = ap (λ gs. f ∷ gs) (set-put_at n v fs k d r.1 p.1 (omega arith) e) ∙ sym (put_step n v f fs p.0)
+set-fields_with_at : {X : Type 0} (n : List ℕ) (v : X) (fs : List (List ℕ × X)) (k : ℕ) (d : List ℕ × X) → Rises fs → Each (λ f. is_before f.0 n ≡ true) (take k fs) → k < length fs → (get_or fs k d).0 ≡ n → set fs k (n, v) ≡ fields_with n v fs
+set-fields_with_at n v [] k d r p h e = absurd (omega arith)
+set-fields_with_at n v (f ∷ fs) zero d r p h e = sym (fields_with_first n v f fs r.0 e)
+set-fields_with_at n v (f ∷ fs) (suc k) d r p h e = ap (λ gs. f ∷ gs) (set-fields_with_at n v fs k d r.1 p.1 (omega arith) e) ∙ sym (fields_with_step n v f fs p.0)
 
 -- a name that is neither before another nor equal to it is behind it
 behind : (a b : List ℕ) → is_before a b ≡ false → a ≢ b → cmp b a ≡ Less
@@ -82,34 +82,34 @@ behind a b h ne = by a b ne (cmp a b) refl h
     by a b ne Equal e h = absurd (ne (exact_bytes a b (sym e)))
     by a b ne Greater e h = nat_list_cmp_total.antisymm b a ∙ ap ordering_reverse (sym e)
 
-pub insert-put : {X : Type 0} (n : List ℕ) (v : X) (fs : List (List ℕ × X)) (k : ℕ) → Rises fs → Each (λ f. is_before f.0 n ≡ true) (take k fs) → k ≤ length fs → ((d : List ℕ × X) → k < length fs → (is_before (get_or fs k d).0 n ≡ false) × ((get_or fs k d).0 ≢ n)) → insert fs k (n, v) ≡ put n v fs
-insert-put n v [] zero r p h e = refl
-insert-put n v [] (suc k) r p h e = absurd (omega arith)
-insert-put n v (f ∷ fs) zero r p h e =
+pub insert-fields_with : {X : Type 0} (n : List ℕ) (v : X) (fs : List (List ℕ × X)) (k : ℕ) → Rises fs → Each (λ f. is_before f.0 n ≡ true) (take k fs) → k ≤ length fs → ((d : List ℕ × X) → k < length fs → (is_before (get_or fs k d).0 n ≡ false) × ((get_or fs k d).0 ≢ n)) → insert fs k (n, v) ≡ fields_with n v fs
+insert-fields_with n v [] zero r p h e = refl
+insert-fields_with n v [] (suc k) r p h e = absurd (omega arith)
+insert-fields_with n v (f ∷ fs) zero r p h e =
     let now = e f (omega arith) in
     let less : cmp n f.0 ≡ Less = behind f.0 n now.0 now.1 in
-    sym (put_front n v (f ∷ fs) (less, less_trans_each n f.0 fs less r.0))
-insert-put n v (f ∷ fs) (suc k) r p h e = ap (λ gs. f ∷ gs) (insert-put n v fs k r.1 p.1 (omega arith) (λ d l. e d (omega arith))) ∙ sym (put_step n v f fs p.0)
+    sym (fields_with_front n v (f ∷ fs) (less, less_trans_each n f.0 fs less r.0))
+insert-fields_with n v (f ∷ fs) (suc k) r p h e = ap (λ gs. f ∷ gs) (insert-fields_with n v fs k r.1 p.1 (omega arith) (λ d l. e d (omega arith))) ∙ sym (fields_with_step n v f fs p.0)
 
 -- the field at k has the name, and its value is written
-pub set-put : {X : Type 0} (n : List ℕ) (v : X) (fs : List (List ℕ × X)) (k : ℕ) (d e : List ℕ × X) → Rises fs → Each (λ f. is_before f.0 n ≡ true) (take k fs) → k < length fs → pointwise eqb (get_or fs k e).0 n ≡ true → set fs k ((get_or fs k d).0, v) ≡ put n v fs
-set-put n v fs k d e r p h t =
+pub set-fields_with : {X : Type 0} (n : List ℕ) (v : X) (fs : List (List ℕ × X)) (k : ℕ) (d e : List ℕ × X) → Rises fs → Each (λ f. is_before f.0 n ≡ true) (take k fs) → k < length fs → pointwise eqb (get_or fs k e).0 n ≡ true → set fs k ((get_or fs k d).0, v) ≡ fields_with n v fs
+set-fields_with n v fs k d e r p h t =
     let same : (get_or fs k d).0 ≡ n = ap (λ f. f.0) (get_or_default fs k d e h) ∙ (bytes_eq-Decides _ _).0 t in
-    rw same (set-put_at n v fs k d r p h same)
+    rw same (set-fields_with_at n v fs k d r p h same)
 
 -- the field at k, if there is one, has another name
-pub insert-put_other : {X : Type 0} (n : List ℕ) (v : X) (fs : List (List ℕ × X)) (k : ℕ) (e : List ℕ × X) → Rises fs → Each (λ f. is_before f.0 n ≡ true) (take k fs) → k < length fs → is_before (get_or fs k e).0 n ≡ false → pointwise eqb (get_or fs k e).0 n ≡ false → insert fs k (n, v) ≡ put n v fs
-insert-put_other n v fs k e r p h b t =
-    insert-put n v fs k r p (omega arith) (λ d l. let same = get_or_default fs k d e h in rw same (b, λ q. absurd (true≢false (sym ((bytes_eq-Decides _ _).1 q) ∙ t))))
+pub insert-fields_with_other : {X : Type 0} (n : List ℕ) (v : X) (fs : List (List ℕ × X)) (k : ℕ) (e : List ℕ × X) → Rises fs → Each (λ f. is_before f.0 n ≡ true) (take k fs) → k < length fs → is_before (get_or fs k e).0 n ≡ false → pointwise eqb (get_or fs k e).0 n ≡ false → insert fs k (n, v) ≡ fields_with n v fs
+insert-fields_with_other n v fs k e r p h b t =
+    insert-fields_with n v fs k r p (omega arith) (λ d l. let same = get_or_default fs k d e h in rw same (b, λ q. absurd (true≢false (sym ((bytes_eq-Decides _ _).1 q) ∙ t))))
 
-pub insert-put_end : {X : Type 0} (n : List ℕ) (v : X) (fs : List (List ℕ × X)) (k : ℕ) → Rises fs → Each (λ f. is_before f.0 n ≡ true) (take k fs) → k ≡ length fs → insert fs k (n, v) ≡ put n v fs
-insert-put_end n v fs k r p h = insert-put n v fs k r p (omega arith) (λ d l. absurd (omega arith))
+pub insert-fields_with_end : {X : Type 0} (n : List ℕ) (v : X) (fs : List (List ℕ × X)) (k : ℕ) → Rises fs → Each (λ f. is_before f.0 n ≡ true) (take k fs) → k ≡ length fs → insert fs k (n, v) ≡ fields_with n v fs
+insert-fields_with_end n v fs k r p h = insert-fields_with n v fs k r p (omega arith) (λ d l. absurd (omega arith))
 
-pub length-put_set : {X : Type 0} (n : List ℕ) (v : X) (fs : List (List ℕ × X)) (k : ℕ) (d : List ℕ × X) → set fs k ((get_or fs k d).0, v) ≡ put n v fs → length (put n v fs) ≡ length fs
-length-put_set n v fs k d e = ap length (sym e) ∙ length-set fs k _
+pub length-fields_with_set : {X : Type 0} (n : List ℕ) (v : X) (fs : List (List ℕ × X)) (k : ℕ) (d : List ℕ × X) → set fs k ((get_or fs k d).0, v) ≡ fields_with n v fs → length (fields_with n v fs) ≡ length fs
+length-fields_with_set n v fs k d e = ap length (sym e) ∙ length-set fs k _
 
-pub length-put_insert : {X : Type 0} (n : List ℕ) (v : X) (fs : List (List ℕ × X)) (k : ℕ) → k ≤ length fs → insert fs k (n, v) ≡ put n v fs → length (put n v fs) ≡ length fs + 1
-length-put_insert n v fs k h e = ap length (sym e) ∙ grind (arith, places)
+pub length-fields_with_insert : {X : Type 0} (n : List ℕ) (v : X) (fs : List (List ℕ × X)) (k : ℕ) → k ≤ length fs → insert fs k (n, v) ≡ fields_with n v fs → length (fields_with n v fs) ≡ length fs + 1
+length-fields_with_insert n v fs k h e = ap length (sym e) ∙ grind (arith, places)
 
 -- a field between fields before it and fields behind it
 pub Rises-join : {X : Type 0} (n : List ℕ) (v : X) (xs ys : List (List ℕ × X)) → Rises xs → Each (λ f. cmp f.0 n ≡ Less) xs → Each (λ f. cmp n f.0 ≡ Less) ys → Rises ys → Rises (xs ++ (n, v) ∷ ys)
@@ -125,18 +125,18 @@ pub Rises-filter : {X : Type 0} (t : List ℕ × X → Bool) (fs : List (List �
 Rises-filter t [] r = tt
 Rises-filter t (f ∷ fs) r = Rises-kept f (filter t fs) (t f) (Each-filter (λ g. cmp f.0 g.0 ≡ Less) t fs r.0) (Rises-filter t fs r.1)
 
-pub Rises-put : {X : Type 0} (n : List ℕ) (v : X) (fs : List (List ℕ × X)) → Rises fs → Rises (put n v fs)
-Rises-put n v fs r =
+pub Rises-fields_with : {X : Type 0} (n : List ℕ) (v : X) (fs : List (List ℕ × X)) → Rises fs → Rises (fields_with n v fs)
+Rises-fields_with n v fs r =
     Rises-join n v (filter (λ f. is_before f.0 n) fs) (filter (λ f. is_before n f.0) fs) (Rises-filter (λ f. is_before f.0 n) fs r)
     (Each-map (λ f. is_before f.0 n ≡ true) (λ f. cmp f.0 n ≡ Less) (λ f h. less_from_is_lt _ h) _ (Each-filtered (λ f. is_before f.0 n) fs))
     (Each-map (λ f. is_before n f.0 ≡ true) (λ f. cmp n f.0 ≡ Less) (λ f h. less_from_is_lt _ h) _ (Each-filtered (λ f. is_before n f.0) fs))
     (Rises-filter (λ f. is_before n f.0) fs r)
 
-pub Each-put : {X : Type 0} (P : X → Type 0) (n : List ℕ) (v : X) (fs : List (List ℕ × X)) → P v → Each (λ f. P f.1) fs → Each (λ f. P f.1) (put n v fs)
-Each-put P n v fs h p =
+pub Each-fields_with : {X : Type 0} (P : X → Type 0) (n : List ℕ) (v : X) (fs : List (List ℕ × X)) → P v → Each (λ f. P f.1) fs → Each (λ f. P f.1) (fields_with n v fs)
+Each-fields_with P n v fs h p =
     Each-append (λ f. P f.1) (filter (λ f. is_before f.0 n) fs) _ (Each-filter (λ f. P f.1) (λ f. is_before f.0 n) fs p) (h, Each-filter (λ f. P f.1) (λ f. is_before n f.0) fs p)
 
 -- what holds of the old fields and of the new ones holds after the setting, whatever it answered
-pub after_set : {T X : Type 0} (r : Result T CapsFault) (old new put : List (List ℕ × X)) (Q : List (List ℕ × X) → Type 0) → OnOk r (new ≡ put) → OnErr r (new ≡ old) → TooManyWhere r (64 < length put) → Q old → (length put ≤ 64 → Q put) → Q new
-after_set (Ok u) old new put Q ok err many q p = subst Q (sym ok) (p (let few : (64 < length put) → ⊥ = many in omega arith))
-after_set (Err e) old new put Q ok err many q p = subst Q (sym err) q
+pub after_set : {T X : Type 0} (r : Result T CapsFault) (old new after : List (List ℕ × X)) (Q : List (List ℕ × X) → Type 0) → OnOk r (new ≡ after) → OnErr r (new ≡ old) → TooManyWhere r (64 < length after) → Q old → (length after ≤ 64 → Q after) → Q new
+after_set (Ok u) old new after Q ok err many q p = subst Q (sym ok) (p (let few : (64 < length after) → ⊥ = many in omega arith))
+after_set (Err e) old new after Q ok err many q p = subst Q (sym err) q

@@ -1,17 +1,17 @@
 //! The caps of one fixed caps alone.
 ghost use Rattle.std.specs.Prelude.{◌≡◌, IfOk, OnOk};
-ghost use Rattle.gst_value.specs.Names.{put};
+ghost use Rattle.gst_value.specs.Names.{fields_with};
 ghost use Rattle.gst_value.specs.Values.{IsSingle};
 ghost use Rattle.gst_caps.specs.declared.value.Value.TheVariants.{One as Single};
-ghost use Rattle.el_wavenc.specs.Alone.{as_structure as as_structure_of, exactly as exactly_of};
+ghost use Rattle.audio_info.specs.Alone.{as_structure as as_structure_of, exactly as exactly_of};
 
-use audio_info::only_structure;
+use crate::templates::only_structure;
 use gst_caps::{Caps, Structure, Value};
 use gst_value::{Fixed, One, OutOfMemory};
 use std::alloc::Global;
 
 /// The caps that have these fixed caps as their only structure. There is no room for more than 64 fields.
-pub(crate) fn exactly(alloc: Global, caps: &Fixed) -> Result<Caps, OutOfMemory>
+pub fn exactly(alloc: Global, caps: &Fixed) -> Result<Caps, OutOfMemory>
     ensures { IfOk result (λ made. made ≡ exactly_of caps.now) }
 {
     let structure = as_structure(alloc, caps)?;
@@ -35,7 +35,7 @@ fn as_structure(alloc: Global, caps: &Fixed) -> Result<Structure, OutOfMemory>
 /// Sets a field to one value.
 fn add(alloc: Global, structure: &mut Structure, name: &str, value: &One) -> Result<(), OutOfMemory>
     requires { IsSingle value.now }
-    ensures { OnOk result (structure.new ≡ record structure.old { fields = put name.now (Single value.now) structure.old.fields }) }
+    ensures { OnOk result (structure.new ≡ record structure.old { fields = fields_with name.now (Single value.now) structure.old.fields }) }
 {
     let value = Value::One(value.copy(alloc)?);
     match structure.set(alloc, name, value) {

@@ -8,7 +8,7 @@ use Rattle.graph_core.specs.Links.{all_links, IsUnjoined}
 use Rattle.graph_core.specs.declared.fault.BuildFault.TheVariants.{OutOfMemory}
 use Rattle.graph_core.proofs.HandedOn.{handed_on}
 use Rattle.graph_core.proofs.Joining.{within_there, loop_unjoined, name_told}
-use Rattle.graph_core.proofs.links.put.Goals as goal
+use Rattle.graph_core.proofs.links.push_link.Goals as goal
 
 pub name-name-requires : goal.name-name-requires
 name-name-requires c = within_there (all_made c.args.elements.now) c.args.left c.requires.left
