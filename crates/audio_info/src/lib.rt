@@ -9,8 +9,6 @@ pub mod info;
 pub mod lanes;
 pub mod sample;
 pub mod templates;
-#[cfg(test)]
-mod tests;
 
 pub use alone::exactly;
 pub use equal::same_caps;

@@ -17,6 +17,3 @@ pub use fault::CapsTextFault;
 pub use laws::{one_reading, printed_again};
 pub use printing::{print, print_fixed};
 pub use reading::parse;
-
-#[cfg(test)]
-mod tests;

@@ -9,8 +9,3 @@ pub mod tee;
 pub use caps_filter::CapsFilter;
 pub use identity::Identity;
 pub use tee::Tee;
-
-#[cfg(test)]
-mod tee_tests;
-#[cfg(test)]
-mod tests;

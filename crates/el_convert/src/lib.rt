@@ -9,6 +9,3 @@ mod raw;
 pub(crate) mod stream;
 
 pub use convert::Convert;
-
-#[cfg(test)]
-mod tests;

@@ -8,6 +8,3 @@ mod recode;
 
 pub use kind::LawKind;
 pub use law::Law;
-
-#[cfg(test)]
-mod tests;

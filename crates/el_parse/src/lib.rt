@@ -10,8 +10,3 @@ mod waiting;
 
 pub use raw_parse::RawParse;
 pub use split::Split;
-
-#[cfg(test)]
-mod rows;
-#[cfg(test)]
-mod tests;

@@ -15,8 +15,3 @@ pub use filter::FilterElement;
 pub use making::{filter_of, sink_of, source_of};
 pub use sink::SinkElement;
 pub use source::SourceElement;
-
-#[cfg(test)]
-mod denoting_tests;
-#[cfg(test)]
-mod tests;

@@ -20,6 +20,3 @@ pub use settings::{
     FileSrcSettings, QueueSettings, RampTestSrcSettings, Settings,
 };
 pub use templates::template;
-
-#[cfg(test)]
-mod tests;

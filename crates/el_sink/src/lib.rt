@@ -4,8 +4,6 @@
 pub mod fake_sink;
 pub mod fault;
 pub mod file_sink;
-#[cfg(test)]
-mod tests;
 mod writing;
 
 pub use fake_sink::FakeSink;

@@ -7,10 +7,6 @@ pub mod fault;
 pub mod file_src;
 mod frames;
 pub mod ramp_src;
-#[cfg(test)]
-mod ramp_tests;
-#[cfg(test)]
-mod tests;
 
 pub use answer::Next;
 pub use fault::{SizeFault, SrcFault};

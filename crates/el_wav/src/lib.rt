@@ -12,6 +12,3 @@ mod wav_told;
 pub use laws::frames_are_the_data;
 pub use wav_parse::WavParse;
 pub use wav_told::heads_are_told;
-
-#[cfg(test)]
-mod wav_parse_tests;

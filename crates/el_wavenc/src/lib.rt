@@ -10,6 +10,3 @@ pub mod wav_enc;
 
 pub use laws::file_is_whole;
 pub use wav_enc::WavEnc;
-
-#[cfg(test)]
-mod tests;

@@ -25,6 +25,3 @@ pub fn parts_to_whole()
     ensures { (plan : Plan) (h : ℕ → List Item) → GoesForward plan [] plan.forward → Each (Agrees plan h) plan.forward
         → (p : ℕ) → IsMember (plan.owner p) plan.forward → eval plan p ≡ h p }
 {}
-
-#[cfg(test)]
-mod tests;

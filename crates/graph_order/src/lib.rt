@@ -7,6 +7,3 @@ pub mod order;
 
 pub use link::Link;
 pub use order::{Linking, Order};
-
-#[cfg(test)]
-mod tests;

@@ -13,6 +13,3 @@ pub use caps::{Caps, choose};
 pub use gst_value::{CapsFault, Fixed, List, One, OutOfMemory, PadName, Prop, Text, fraction};
 pub use structure::Structure;
 pub use value::Value;
-
-#[cfg(test)]
-mod tests;

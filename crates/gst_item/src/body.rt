@@ -153,15 +153,6 @@ impl Body {
         }
         Ok(())
     }
-
-    /// Whether no other body holds these bytes.
-    #[cfg(test)]
-    pub(crate) fn holds_alone(&self) -> bool {
-        match &self.held {
-            Held::Owned(_) => true,
-            Held::Shared(shared) => shared.bytes.is_unique(),
-        }
-    }
 }
 
 impl Held {

@@ -37,24 +37,3 @@ impl Flow {
         }
     }
 }
-
-#[cfg(test)]
-mod tests {
-    use super::*;
-
-    #[test]
-    fn codes_are_those_of_gstreamer(rt: HostRuntime) {
-        let rows = [
-            (Flow::Ok, 0),
-            (Flow::NotLinked, -1),
-            (Flow::Flushing, -2),
-            (Flow::Eos, -3),
-            (Flow::NotNegotiated, -4),
-            (Flow::Error, -5),
-            (Flow::NotSupported, -6),
-        ];
-        for (flow, code) in rows {
-            assert_eq!(rt; flow.code(), code);
-        }
-    }
-}

@@ -21,8 +21,6 @@ pub mod sink;
 pub mod source;
 pub mod step_clock;
 mod table;
-#[cfg(test)]
-mod tests;
 
 pub use calls::Calls;
 pub use clock::Clock;

@@ -2,8 +2,6 @@
 #![tactic(auto)]
 
 pub mod segment;
-#[cfg(test)]
-mod tests;
 pub mod time;
 
 pub use segment::{Format, Segment};

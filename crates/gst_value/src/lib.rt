@@ -19,6 +19,3 @@ pub use name::{PadName, Prop};
 pub use one::One;
 pub use ratio::fraction;
 pub use text::Text;
-
-#[cfg(test)]
-mod tests;

@@ -6,6 +6,3 @@ pub mod row;
 
 pub use feeding::{Feeding, Taken, UNLINKED};
 pub use row::InletRow;
-
-#[cfg(test)]
-mod tests;

@@ -1,5 +1,5 @@
 -- The letters of items and answers, and the bytes of hexadecimal digits.
-use Rattle.std.specs.Prelude.{ℕ, List, [], ◌∷◌, ◌+◌, ◌*◌, ◌-◌, ◌&&◌, Option, Some, None, nat_le, eqb, if◌then◌else◌, codes, length}
+use Rattle.std.specs.Prelude.{ℕ, List, [], ◌∷◌, ◌+◌, ◌*◌, ◌-◌, ◌&&◌, Option, Some, None, Result, Ok, Err, nat_le, eqb, if◌then◌else◌, codes, length}
 use Rattle.std.specs.Str.{bytes_eq}
 use Rattle.gst_item.specs.declared.item.Item.{Item}
 use Rattle.gst_item.specs.declared.item.Item.TheVariants.{Buffer as Buf, Event as Ev}
@@ -7,6 +7,9 @@ use Rattle.gst_item.specs.declared.item.Event.{Event}
 use Rattle.gst_item.specs.declared.item.Event.TheVariants.{StreamStart, Caps as NewCaps, Segment as NewSegment, Tag, Gap, FlushStop, Eos}
 use Rattle.gst_time.specs.declared.segment.Format.{Format}
 use Rattle.gst_item.specs.declared.out.Out.{Out}
+use Rattle.flow_model.specs.declared.fault.ElementFault.{ElementFault}
+use Rattle.flow_model.specs.declared.fault.ElementFault.TheVariants.{NotNegotiated as Refused, BadStream as Broken}
+use Rattle.flow_model.specs.declared.fault.StreamKind.TheVariants.{SplitFrame}
 use Rattle.gst_item.specs.declared.flow.Flow.{Flow}
 use Rattle.gst_item.specs.declared.flow.Flow.TheVariants.{Ok as Taken, Eos as Ended}
 
@@ -60,6 +63,18 @@ abbrev pub letter_of_flow : Flow → ℕ
 letter_of_flow Taken = 43
 letter_of_flow Ended = 46
 letter_of_flow _ = 63
+
+-- and for caps that are not wanted the letter of those that were offered, or `0` for none; a split frame is its place, and `!`
+-- another fault
+abbrev pub letter_of_fault : ElementFault → ℕ
+letter_of_fault (Refused None wanted) = 48
+letter_of_fault (Refused (Some offered) wanted) = letter_of_media offered.media
+letter_of_fault (Broken place SplitFrame) = letter_of_place place
+letter_of_fault _ = 33
+
+abbrev pub letter_of_answer : Result Flow ElementFault → ℕ
+letter_of_answer (Ok flow) = letter_of_flow flow
+letter_of_answer (Err fault) = letter_of_fault fault
 
 -- the number that an item stands for
 abbrev pub number_of_item : Item → ℕ

@@ -9,6 +9,3 @@ pub mod table;
 pub use ends::{Inlet, Outlet, Put, Take};
 pub use memory::{MemInlet, MemOutlet, memory_lane};
 pub use table::MemLanes;
-
-#[cfg(test)]
-mod tests;

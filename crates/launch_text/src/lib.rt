@@ -20,6 +20,3 @@ pub use laws::{printed_again, word_rows};
 pub use printing::print;
 pub use reading::parse;
 pub use tree::{Chain, Node, Part, Tree};
-
-#[cfg(test)]
-mod tests;

@@ -14,6 +14,3 @@ pub use linking::{LinkReturn, link};
 pub use probe::Probe;
 pub use sink_pad::SinkPad;
 pub use src_pad::SrcPad;
-
-#[cfg(test)]
-mod tests;

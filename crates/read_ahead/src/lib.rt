@@ -6,6 +6,3 @@ pub mod ahead_source;
 
 pub use ahead_files::AheadFiles;
 pub use ahead_source::{AheadSource, WINDOW};
-
-#[cfg(test)]
-mod tests;

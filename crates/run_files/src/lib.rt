@@ -8,6 +8,3 @@ pub mod opening;
 pub use closing::close_all;
 pub use end::{End, Opening, Unopened};
 pub use opening::open_all;
-
-#[cfg(test)]
-mod tests;

@@ -11,6 +11,3 @@ pub use fault::WordsFault;
 pub use law::{plain_words_are_the_line, written_words_are_read};
 pub use line::join_words;
 pub use options::{Options, read_words};
-
-#[cfg(test)]
-mod tests;

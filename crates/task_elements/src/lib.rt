@@ -11,6 +11,3 @@ pub use element::StreamElement;
 pub use filter::StreamFilter;
 pub use making::element_of;
 pub use source::StreamSource;
-
-#[cfg(test)]
-mod tests;

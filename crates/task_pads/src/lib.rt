@@ -9,6 +9,3 @@ pub mod put;
 pub use crossing::Crossing;
 pub use pad::{Behind, Pad};
 pub use put::{fill, first_waiting, spread};
-
-#[cfg(test)]
-mod tests;

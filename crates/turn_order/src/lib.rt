@@ -7,6 +7,3 @@ pub mod turns;
 
 pub use order::Order;
 pub use turns::Turns;
-
-#[cfg(test)]
-mod tests;

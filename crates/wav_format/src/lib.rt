@@ -8,8 +8,6 @@ pub mod head;
 mod laws;
 mod reader;
 mod reading;
-#[cfg(test)]
-mod tests;
 mod writing;
 
 pub use head::{Head, HeadAnswer, WavKind};

@@ -8,6 +8,3 @@ mod run;
 
 pub use ended::WorldEnd;
 pub use run::run_turns;
-
-#[cfg(test)]
-mod tests;

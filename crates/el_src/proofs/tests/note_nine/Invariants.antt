@@ -1,6 +1,0 @@
-use Rattle.std.proofs.Common.{◌≤◌}
-use Rattle.el_src.specs.Gave.{items_given}
-use Rattle.el_src.proofs.tests.note_nine.Given as goal
-
-abbrev pub invariant-loop-call : goal.invariant-loop-call
-invariant-loop-call l = items_given l.file ≤ l.call

@@ -1,7 +1,0 @@
-use Rattle.inlet_row.proofs.tests.take_some.Goals as goal
-
-pub returns-in_err-push-clause-lanes : goal.returns-in_err-push-clause-lanes
-returns-in_err-push-clause-lanes g c n h = c.take.ensures.table.lanes n (c.loop.invariant.lanes n h)
-
-pub loop-preserved : goal.loop-preserved
-loop-preserved g c = record { row = c.take.ensures.table.within; lanes = λ n h. c.take.ensures.table.lanes n (c.loop.invariant.lanes n h) }

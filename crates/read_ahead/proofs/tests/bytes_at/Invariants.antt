@@ -1,6 +1,0 @@
--- The reads before this one left the location.
-use Rattle.std.proofs.Common.{◌≡◌}
-use Rattle.read_ahead.proofs.tests.bytes_at.Given as goal
-
-abbrev pub invariant-loop-place : goal.invariant-loop-place
-invariant-loop-place g l = g.S.Source.location l.source ≡ g.S.Source.location l.initial.source

@@ -1,0 +1,10 @@
+use Rattle.std.proofs.Common.{◌≡◌, length}
+use Rattle.graph_tasks.specs.declared.plain.PlainSource.{PlainSource}
+use Rattle.graph_tasks.proofs.Under.{StandBelow}
+use Rattle.run_tests.proofs.plain_tests.sources_for.Given as goal
+
+abbrev pub invariant-loop : goal.invariant-loop
+invariant-loop l = record {
+  size : length l.all.items ≡ l.counter;
+  each : StandBelow (λ n (x : PlainSource). Unit {0}) l.counter l.all.items;
+}

@@ -1,0 +1,151 @@
+//! Rows of lines and the tasks of their graphs, without their elements.
+use crate::plain_tests::{Plain, PlainSource, elements_for, sources_for};
+use graph_core::build;
+use graph_tasks::*;
+use lane_core::{Inlet, MemInlet, MemOutlet, Outlet};
+use launch_text::parse;
+use std::alloc::Global;
+use std::fmt::Write;
+use std::test::Fail;
+use task_pads::{Behind, Pad};
+
+/// Each row: a line, and then its tasks. A source stands before a colon with its pad; an element that is fed from inlets
+/// stands before a bar, with its hint and the number of its rows; then the elements with their pads. A pad has its
+/// number, and where it leads: `>` to an element, its hint and its pad, `|` over a lane to an element and its pad.
+const ROWS: &str = "\
+fakesink ->
+filesrc location=a -> [0 0.:]
+filesrc location=a ! filesink location=b -> [0 0>1,0,0: 1]
+filesrc location=a ! identity ! capsfilter caps=a/b ! identity -> [0 0>1,2,0: 3 192. 2 128>3,0,0 1 64>2,1,0]
+filesrc location=a ! queue ! identity ! queue ! queue ! fakesink -> [0 0|1,1,0,0:] [1,1,1| 2 128|3,3,0,0 1 64>2,0,0] [3,0,1| 3 192|4,4,0,0] [4,1,1| 5 4 256>5,0,0]
+identity ! queue ! identity -> [1,1,1| 2 128. 1 64>2,0,0]
+queue name=b ! fakesink filesrc location=a ! queue name=a ! b. -> [0,1,1| 1 0 0>1,0,0] [2 128|3,3,0,0:] [3,0,1| 3 192|0,0,0,0]";
+
+fn put_behind<O: Outlet>(into: &mut String, behind: &Behind<O>) -> Result<(), Fail> {
+    match behind {
+        Behind::Nothing => into.push('.')?,
+        Behind::Element { number, hint, pad } => write!(into, ">{number},{hint},{pad}")?,
+        Behind::Lane {
+            lane,
+            element,
+            pad,
+            from,
+            ..
+        } => write!(into, "|{lane},{element},{pad},{from}")?,
+    }
+    Ok(())
+}
+
+fn put_pad<O: Outlet>(into: &mut String, pad: &Pad<O>) -> Result<(), Fail> {
+    write!(into, " {}", pad.number())?;
+    put_behind(into, pad.behind())
+}
+
+fn put_head<I: Inlet<Out = O>, O: Outlet<Lanes = I::Lanes>>(
+    into: &mut String,
+    head: &WiredHead<I, O>,
+) -> Result<(), Fail> {
+    match head {
+        WiredHead::Source { number, pad } => {
+            write!(into, "{number}")?;
+            put_pad(into, pad)?;
+            into.push(':')?;
+        }
+        WiredHead::Inlets { number, hint, rows } => {
+            write!(into, "{number},{hint},{}|", rows.len())?;
+        }
+    }
+    Ok(())
+}
+
+fn put_task<I: Inlet<Out = O>, O: Outlet<Lanes = I::Lanes>>(
+    into: &mut String,
+    task: &WiredTask<I, O>,
+) -> Result<(), Fail> {
+    into.push_str(" [")?;
+    put_head(into, &task.head)?;
+    for part in task.parts.iter() {
+        write!(into, " {}", part.number)?;
+        for pad in part.pads.as_slice() {
+            put_pad(into, pad)?;
+        }
+    }
+    into.push(']')?;
+    Ok(())
+}
+
+/// A line with its tasks.
+fn row_of(alloc: Global, line: &str) -> Result<String, Fail> {
+    let tree = parse(alloc, line)?;
+    let Ok(graph) = build(alloc, &tree) else {
+        return Err("a line without a graph")?;
+    };
+    let mut row = String::new(alloc);
+    row.push_str(line)?;
+    row.push_str(" ->")?;
+    let wired = wire(alloc, &graph)?;
+    for task in wired.tasks.iter() {
+        put_task(&mut row, task)?;
+    }
+    Ok(row)
+}
+
+fn line_of(row: &str) -> &str {
+    match row.split_once(" ->") {
+        Some((line, _)) => line,
+        None => row,
+    }
+}
+
+#[test]
+fn tasks_of_lines(rt: HostRuntime) -> Result<(), Fail> {
+    let alloc = rt.alloc();
+    for row in ROWS.lines() {
+        assert_eq!(rt; row_of(alloc, line_of(row))?.as_str(), row);
+    }
+    Ok(())
+}
+
+/// A line, how many tasks are made of it, and under which numbers elements and sources are left. There was one of each
+/// under each number.
+const LEFT: &str = "\
+filesrc location=a ! filesink location=b -> 1: 0 / 1
+filesrc location=a ! queue ! identity ! fakesink -> 2: 0 / 1 2 3
+identity ! queue ! identity -> 1: 0 / 0 1 2";
+
+fn put_left<T>(into: &mut String, slots: &[Option<T>]) -> Result<(), Fail> {
+    for number in 0..slots.len() {
+        if slots[number].is_some() {
+            write!(into, " {number}")?;
+        }
+    }
+    Ok(())
+}
+
+/// A line with what is left of its elements.
+fn left_of(alloc: Global, line: &str) -> Result<String, Fail> {
+    let tree = parse(alloc, line)?;
+    let Ok(graph) = build(alloc, &tree) else {
+        return Err("a line without a graph")?;
+    };
+    let mut elements = elements_for(alloc, &graph)?;
+    let mut sources = sources_for(alloc, &graph)?;
+    let wired = wire(alloc, &graph)?;
+    let plan: Plan<PlainSource, Plain, MemInlet, MemOutlet> = Plan::new(alloc, wired.tasks)?;
+    let tasks = plan.into_tasks(&mut elements, &mut sources);
+    let mut row = String::new(alloc);
+    write!(&mut row, "{line} -> {}:", tasks.len())?;
+    put_left(&mut row, elements.as_slice())?;
+    row.push_str(" /")?;
+    put_left(&mut row, sources.as_slice())?;
+    Ok(row)
+}
+
+#[test]
+fn tasks_take_their_elements(rt: HostRuntime) -> Result<(), Fail> {
+    let alloc = rt.alloc();
+    for row in LEFT.lines() {
+        assert_eq!(rt; left_of(alloc, line_of(row))?.as_str(), row);
+    }
+    Ok(())
+}

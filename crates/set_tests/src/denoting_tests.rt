@@ -1,0 +1,179 @@
+//! Rows of whole lists, a kind each.
+use audio_info::{Info, Sample};
+use el_set::*;
+use el_settings::{Settings, check};
+use flow_model::ElementFault;
+use gst_item::{Event, Item};
+use gst_time::{Format, Segment};
+use gst_value::{Fixed, List, Prop, Text};
+use item_letters::{buffer_of, bytes_by, item_of, letter_of};
+use std::alloc::Global;
+use std::fmt::Write;
+use std::process::Abort;
+use std::test::Fail;
+
+/// Each row: the words of an element; the caps that a converter may put out; what is given; and what is owed, or the
+/// fault. `b` is a SEGMENT in bytes from 0, and other single letters are items as `item_of` takes them;
+/// `wav` and the name of a format are CAPS, of one channel with 8000 frames a second, and `+` and hexadecimal digits
+/// are a buffer of these bytes.
+const ROWS: &str = "\
+identity | ANY | s S16LE g +0100 e +02 => s S16LE g +0100 e
+queue max-size-buffers=1 | ANY | s b +01 +02 f +03 e => s b +01 +02 f +03 e
+capsfilter caps=audio/x-mulaw | ANY | s MULAW g +01 e => s MULAW g +01 e
+capsfilter caps=audio/x-mulaw | ANY | s S16LE g +0100 e => other
+audioconvert | ANY | s S16LE g +0100 e => s S16LE g +0100 e
+audioconvert | audio/x-raw,format=U8 | s S16LE g +00010080 e => s U8 g +8100 e
+audioconvert | audio/x-raw,rate=44100 | s S16LE g +0100 e => other
+audioconvert | ANY | s +0100 e => none
+mulawenc | ANY | s S16LE g +0000FF7F0080FFFF0100 e => s MULAW g +FF80007FFF e
+alawenc | ANY | s S16LE g +0000FFFFFF7F0080 e => s ALAW g +D555AA2A e
+mulawdec | ANY | s MULAW g +00FF e => s S16LE g +84820000 e
+alawdec | ANY | s ALAW g +D555 e => s S16LE g +0800F8FF e
+alawdec | ANY | s MULAW g +D5 e => other
+mulawenc | ANY | s S16LE g +0000 +00 e => bad 3
+rawaudioparse num-channels=1 sample-rate=8000 | ANY | s b +010002 +0003 e => s S16LE g +0100 +0200 e
+rawaudioparse num-channels=1 sample-rate=8000 pcm-format=u8 | ANY | s b +01 f b +02 e => s U8 g +01 f U8 g +02 e
+audiobuffersplit frames=2 | ANY | s S16LE g +0100 +02000300 e => s S16LE g +01000200 +0300 e
+audiobuffersplit frames=2 | ANY | s S16LE g +010002 e => bad 3
+wavparse | ANY | s b +524946462800000057415645666D7420100000000100 +0100401F0000803E000002001000646174610300000001000200 e => s S16LE g +0100 e
+wavparse | ANY | s b +52494646 e => bad 4
+wavparse | ANY | s b +52494658 e => bad 3
+wavenc | ANY | s S16LE g +01000200 e => s wav b +524946462400000057415645666D74201000000001000100401F0000803E0000020010006461746100000000 +01000200 b +524946462800000057415645666D74201000000001000100401F0000803E0000020010006461746104000000 e
+wavenc | ANY | s S16LE g MULAW => other
+filesink location=a | ANY | s b +01 e => nothing
+fakesink | ANY | s b +01 e => nothing";
+
+/// CAPS of the format of this name.
+fn caps_by(alloc: Global, name: &str) -> Result<Fixed, Fail> {
+    let format = match name {
+        "wav" => return Ok(Fixed::new(alloc, "audio/x-wav")?),
+        "MULAW" => Sample::MuLaw,
+        "ALAW" => Sample::ALaw,
+        _ => Sample::raw_named(name).unwrap_or(Sample::S16BE),
+    };
+    let info = Info {
+        format,
+        rate: 8000,
+        channels: 1,
+    };
+    Ok(info.to_fixed(alloc)?)
+}
+
+fn item_by(alloc: Global, word: &str) -> Result<Item, Fail> {
+    if let Some(digits) = word.strip_prefix('+') {
+        return Ok(buffer_of(alloc, bytes_by(alloc, digits)?.as_slice())?);
+    }
+    match word.as_bytes() {
+        [b'b'] => Ok(Item::Event(Event::Segment(Segment::new(Format::Bytes)))),
+        [letter] => Ok(item_of(alloc, *letter)?),
+        _ => Ok(Item::Event(Event::Caps(caps_by(alloc, word)?))),
+    }
+}
+
+fn items_by(alloc: Global, words: &str) -> Result<List<Item>, Fail> {
+    let mut items = List::new(alloc);
+    for word in words.split(' ') {
+        items.push(alloc, item_by(alloc, word)?)?;
+    }
+    Ok(items)
+}
+
+fn tell_caps(text: &mut String, caps: &Fixed) -> Result<(), Fail> {
+    match Info::from_fixed(caps) {
+        Ok(info) => write!(text, " {}", info.format.name())?,
+        Err(_) => text.push_str(" wav")?,
+    }
+    Ok(())
+}
+
+fn tell_item(text: &mut String, item: &Item) -> Result<(), Fail> {
+    match item {
+        Item::Buffer(buffer) => {
+            text.push_str(" +")?;
+            for byte in buffer.body.as_slice() {
+                write!(text, "{byte:02X}")?;
+            }
+        }
+        Item::Event(Event::Caps(caps)) => tell_caps(text, caps)?,
+        Item::Event(Event::Segment(segment)) if segment.format == Format::Bytes => {
+            text.push_str(" b")?;
+        }
+        _ => write!(text, " {}", char::from(letter_of(item)))?,
+    }
+    Ok(())
+}
+
+/// What is owed on the only source pad.
+fn tell_lists(text: &mut String, lists: &List<List<Item>>) -> Result<(), Fail> {
+    match lists.as_slice().first() {
+        Some(items) => {
+            for item in items.as_slice() {
+                tell_item(text, item)?;
+            }
+        }
+        None => text.push_str(" nothing")?,
+    }
+    Ok(())
+}
+
+fn tell_fault(text: &mut String, fault: &ElementFault) -> Result<(), Fail> {
+    match fault {
+        ElementFault::NotNegotiated { offered: None, .. } => text.push_str(" none")?,
+        ElementFault::NotNegotiated { .. } => text.push_str(" other")?,
+        ElementFault::BadStream { place, .. } => write!(text, " bad {place}")?,
+        _ => text.push_str(" ?")?,
+    }
+    Ok(())
+}
+
+/// What the words set an element to.
+fn settings_by(alloc: Global, words: &str) -> Result<Settings, Fail> {
+    let (kind, rest) = words.split_once(' ').unwrap_or((words, ""));
+    let mut props = List::new(alloc);
+    for word in rest.split(' ') {
+        if let Some((name, value)) = word.split_once('=') {
+            let name = Text::from_str(alloc, name)?;
+            let value = Text::from_str(alloc, value)?;
+            props.push(alloc, Prop { name, value })?;
+        }
+    }
+    let Ok(settings) = check(alloc, kind, &props) else {
+        return Err("words of an element")?;
+    };
+    Ok(settings)
+}
+
+/// What an element with one sink pad owes for a list of items.
+fn owed(alloc: Global, words: &str, allowed: &str, given: &str) -> Result<String, Fail> {
+    let settings = settings_by(alloc, words)?;
+    let mut text = String::new(alloc);
+    if settings.sink_pads() != 1 {
+        return Ok(text);
+    }
+    let allowed = caps_text::parse(alloc, allowed)?;
+    let mut inputs = List::new(alloc);
+    inputs.push(alloc, items_by(alloc, given)?)?;
+    match denote(alloc, &settings, settings.source_pads(), &allowed, &inputs) {
+        Ok(outputs) => tell_lists(&mut text, &outputs)?,
+        Err(fault) => tell_fault(&mut text, &fault)?,
+    }
+    Ok(text)
+}
+
+fn check_row(rt: &impl Abort, alloc: Global, row: &str) -> Result<(), Fail> {
+    let (left, wanted) = row.split_once(" =>").ok_or("a row")?;
+    let (words, rest) = left.split_once(" | ").ok_or("an element")?;
+    let (allowed, given) = rest.split_once(" | ").ok_or("caps")?;
+    let text = owed(alloc, words, allowed, given)?;
+    assert!(rt; text.as_str() == wanted, "{left}: {text}");
+    Ok(())
+}
+
+#[test]
+fn rows_of_kinds(rt: HostRuntime) -> Result<(), Fail> {
+    let alloc = rt.alloc();
+    for row in ROWS.lines() {
+        check_row(&rt, alloc, row)?;
+    }
+    Ok(())
+}

@@ -1,0 +1,143 @@
+//! Elements that are fed through the traits of a task.
+ghost use Rattle.std.specs.Prelude.{◌≡◌, ◌<◌, ◌^◌, None, IfSome};
+ghost use Rattle.el_settings.specs.Asked.{title_of};
+ghost use Rattle.el_set.specs.Gives.{source_items};
+
+use el_set::source_of;
+use el_settings::{CapsFilterSettings, FileSinkSettings, FileSrcSettings, QueueSettings, Settings};
+use gst_item::Outs;
+use gst_outside::{MemSink, MemSource, Sink, Source};
+use gst_value::{List, Text};
+use item_letters::{is_flush, item_of, letter_of, letters_of};
+use net_model::{TaskElement, TaskSource, Unread, Why};
+use std::alloc::Global;
+use std::test::Fail;
+use task_elements::*;
+
+/// What an element puts out for letters on the sink pad that it wants, each behind a `-`; `x` is a fault of its rule, and `w` a
+/// failed write. A `+` stands for EOS on a sink pad that it has not.
+fn fed<E: TaskElement>(alloc: Global, element: &mut E, letters: &str) -> Result<String, Fail> {
+    let mut text = String::new(alloc);
+    for letter in letters.bytes() {
+        text.push_str(fed_one(alloc, element, letter)?.as_str())?;
+    }
+    Ok(text)
+}
+
+fn fed_one<E: TaskElement>(alloc: Global, element: &mut E, letter: u8) -> Result<String, Fail> {
+    let mut text = String::new(alloc);
+    let mut out = List::new(alloc);
+    text.push(answer_to(alloc, element, letter, &mut out)?)?;
+    for letter in letters_of(alloc, &out)?.as_slice() {
+        text.push(char::from(*letter))?;
+    }
+    Ok(text)
+}
+
+fn answer_to<E: TaskElement>(
+    alloc: Global,
+    element: &mut E,
+    letter: u8,
+    out: &mut Outs,
+) -> Result<char, Fail> {
+    let (pad, letter) = if letter == b'+' {
+        (7, b'e')
+    } else {
+        (element.wants().unwrap_or(7), letter)
+    };
+    let item = item_of(alloc, letter)?;
+    if is_flush(&item) {
+        return Ok('f');
+    }
+    match element.feed(alloc, pad, item, out) {
+        Ok(()) => Ok('-'),
+        Err(refused) => match refused.into_why() {
+            Why::Unwritten { .. } => Ok('w'),
+            _ => Ok('x'),
+        },
+    }
+}
+
+/// The settings of an element.
+fn settings_of(alloc: Global, word: &str) -> Result<Settings, Fail> {
+    match word {
+        "capsfilter" => Ok(Settings::CapsFilter(CapsFilterSettings {
+            caps: caps_text::parse(alloc, "audio/x-raw")?,
+        })),
+        "queue" => Ok(Settings::Queue(QueueSettings {
+            buffers: 1,
+            bytes: 0,
+            time: 0,
+        })),
+        "filesink" => Ok(Settings::FileSink(FileSinkSettings {
+            location: Text::from_str(alloc, "out")?,
+            keep_flushed: false,
+        })),
+        "fakesink" => Ok(Settings::FakeSink),
+        _ => Ok(Settings::Identity),
+    }
+}
+
+/// What the element of a word puts out for letters, and the length of its file.
+fn row(alloc: Global, word: &str, letters: &str) -> Result<(String, Option<u64>), Fail> {
+    let output = Text::from_str(alloc, "out")?;
+    let written = MemSink::new(alloc, output, 3, List::new(alloc), List::new(alloc))?;
+    let settings = settings_of(alloc, word)?;
+    match element_of(alloc, &settings, Some(written))? {
+        Some(mut element) => {
+            let text = fed(alloc, &mut element, letters)?;
+            Ok((text, element.len()))
+        }
+        None => Ok((String::new(alloc), None)),
+    }
+}
+
+#[test]
+fn rows_of_elements(rt: HostRuntime) -> Result<(), Fail> {
+    let alloc = rt.alloc();
+    let rows = "identity srB+BeB -s-r-B--B-e-
+queue srmeB -s-r-m-e-
+capsfilter sBrBmB -sx-r-Bx-B
+fakesink srBeB -----
+filesink srBB ---w";
+    for line in rows.lines() {
+        let mut parts = line.split(' ');
+        let word = parts.next().unwrap_or("");
+        let given = parts.next().unwrap_or("");
+        let (text, length) = row(alloc, word, given)?;
+        assert_eq!(rt; text.as_str(), parts.next().unwrap_or(""));
+        assert_eq!(rt; length, if word == "filesink" { Some(2) } else { None });
+    }
+    Ok(())
+}
+
+/// The letter of the next item of a source.
+fn next_letter<S: TaskSource>(alloc: Global, source: &mut S) -> u8
+    requires { S.count source.old < 2 ^ 41 }
+{
+    match source.next(alloc) {
+        Ok(Some(item)) => letter_of(&item),
+        Ok(None) => b'.',
+        Err(_) => b'x',
+    }
+}
+
+#[test]
+fn a_source_gives(rt: HostRuntime) -> Result<(), Fail> {
+    let alloc = rt.alloc();
+    let content = List::from_vec(b"abcde".to_vec(alloc)?);
+    let input = Text::from_str(alloc, "in")?;
+    let file = MemSource::new(input, content, List::new(alloc), List::new(alloc));
+    let settings = Settings::FileSrc(FileSrcSettings {
+        location: Text::from_str(alloc, "in")?,
+        blocksize: 2,
+    });
+    let made = source_of(&settings, None, Some(file), 0);
+    assert!(rt; made.is_some());
+    if let Some(element) = made {
+        let mut source = StreamSource::new(element);
+        assert_eq!(rt; next_letter(alloc, &mut source), b's');
+        assert!(rt; source.into_source().into_source().is_some());
+    }
+    Ok(())
+}
