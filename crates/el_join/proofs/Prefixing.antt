@@ -1,7 +1,7 @@
 -- What is owed for a beginning begins what is owed for the whole.
 use Rattle.std.proofs.Common.{◌≡◌, ℕ, zero, suc, Bool, true, false, List, [], ◌∷◌, ◌++◌, map, refl, sym, ap, subst, append-nil, Result, Ok, Err, if◌then◌else◌}
 use Rattle.flow_model.specs.Item.{Item, is_flush_stop, is_eos}
-use Rattle.flow_model.specs.Section.{section, counted}
+use Rattle.flow_model.specs.Section.{section, counted, before_section, to_eos}
 use Rattle.flow_model.specs.Call.{Call, Feed, Act, items}
 use Rattle.flow_model.specs.Feeding.{has_item}
 use Rattle.flow_model.specs.Prefix.{IsPrefix, nothing, next, ArePrefixes, none, pad}
@@ -10,7 +10,7 @@ use Rattle.flow_model.proofs.Prefixes.{prefix_refl, prefix_trans, prefix_append,
 use Rattle.flow_model.proofs.Sections.{section_prefix}
 use Rattle.el_join.specs.declared.sums.Sums.{Sums}
 use Rattle.el_join.specs.Totals.{no_sums, with_tally, tally_of, raised}
-use Rattle.el_join.specs.Sections.{before, to_eos, inherited, with_inherited, reopened, all_reopened}
+use Rattle.el_join.specs.Sections.{inherited, with_inherited, reopened, all_reopened}
 use Rattle.el_join.specs.Concats.{before_eos, has_end, behind, joined_from, joined, up_to_fault, concat_rule}
 
 prefix_map : {A B : Type 0} (f : A → B) {xs ys : List A} → IsPrefix xs ys → IsPrefix (map f xs) (map f ys)
@@ -31,13 +31,13 @@ to_eos_prefix (next {x = x} {xs = xs} {ys = ys} p) = next (go (is_eos x) (to_eos
     go false q = q
 
 -- where a section has an item, what stands before it is settled
-before_settled : (j : ℕ) {xs ys : List Item} → IsPrefix xs ys → has_item (section j xs) ≡ true → before j xs ≡ before j ys
+before_settled : (j : ℕ) {xs ys : List Item} → IsPrefix xs ys → has_item (section j xs) ≡ true → before_section j xs ≡ before_section j ys
 before_settled zero p h = refl
 before_settled (suc j) nothing h = absurd (cc)
 before_settled (suc j) (next {x = x} {xs = xs} {ys = ys} p) h = go (is_flush_stop x) h (before_settled j p) (before_settled (suc j) p)
   where
-    go : (b : Bool) → has_item (if b then section j xs else section (suc j) xs) ≡ true → (has_item (section j xs) ≡ true → before j xs ≡ before j ys)
-        → (has_item (section (suc j) xs) ≡ true → before (suc j) xs ≡ before (suc j) ys) → x ∷ (if b then before j xs else before (suc j) xs) ≡ x ∷ (if b then before j ys else before (suc j) ys)
+    go : (b : Bool) → has_item (if b then section j xs else section (suc j) xs) ≡ true → (has_item (section j xs) ≡ true → before_section j xs ≡ before_section j ys)
+        → (has_item (section (suc j) xs) ≡ true → before_section (suc j) xs ≡ before_section (suc j) ys) → x ∷ (if b then before_section j xs else before_section (suc j) xs) ≡ x ∷ (if b then before_section j ys else before_section (suc j) ys)
     go true h past same = ap (λ zs. x ∷ zs) (past h)
     go false h past same = ap (λ zs. x ∷ zs) (same h)
 
@@ -49,9 +49,9 @@ pub reopened_prefix : (j : ℕ) {xs ys : List Item} → IsPrefix xs ys → IsPre
 reopened_prefix j {xs = xs} {ys = ys} p = go (section j xs) refl
   where
     go : (zs : List Item) → section j xs ≡ zs → IsPrefix (reopened j xs) (reopened j ys)
-    go [] is = subst (λ (zs : List Item). IsPrefix (with_inherited (inherited (counted (before j xs))) (to_eos zs)) (reopened j ys)) (sym is) nothing
+    go [] is = subst (λ (zs : List Item). IsPrefix (with_inherited (inherited (counted (before_section j xs))) (to_eos zs)) (reopened j ys)) (sym is) nothing
     go (z ∷ zs) is =
-        subst (λ (zs : List Item). IsPrefix (with_inherited (inherited (counted zs)) (to_eos (section j xs))) (reopened j ys)) (sym (before_settled j p (ap has_item is))) (with_prefix (inherited (counted (before j ys))) (to_eos_prefix (section_prefix j p)))
+        subst (λ (zs : List Item). IsPrefix (with_inherited (inherited (counted zs)) (to_eos (section j xs))) (reopened j ys)) (sym (before_settled j p (ap has_item is))) (with_prefix (inherited (counted (before_section j ys))) (to_eos_prefix (section_prefix j p)))
 
 pub all_reopened_prefix : (j : ℕ) {css dss : List (List Call)} → ArePrefixes css dss → ArePrefixes (all_reopened j css) (all_reopened j dss)
 all_reopened_prefix j none = none

@@ -3,9 +3,10 @@ use Rattle.std.specs.Prelude.{ℕ, Bool, true, false, List, [], ◌∷◌, ◌++
 use Rattle.flow_model.specs.Item.{Item, Ev, Eos, is_eos}
 use Rattle.flow_model.specs.Call.{Call, Feed}
 use Rattle.flow_model.specs.Rule.{Rule, Fault}
+use Rattle.flow_model.specs.SinkPads.{push_calls}
 use Rattle.el_join.specs.declared.sums.Sums.{Sums}
 use Rattle.el_join.specs.Totals.{no_sums, with_tally, tally_of, raised}
-use Rattle.el_join.specs.Sections.{Join, by_sections, all_reopened, open_section, push_calls}
+use Rattle.el_join.specs.Sections.{Join, by_sections, all_reopened, open_section}
 
 -- a pad's items before its EOS, and whether it had one
 abbrev pub before_eos : List Item → List Item

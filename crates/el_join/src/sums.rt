@@ -1,4 +1,4 @@
-//! What the earlier pads add to the numbers of a SEGMENT.
+//! What earlier pads add to the numbers of a SEGMENT.
 ghost use Rattle.std.specs.Prelude.{◌≡◌, ◌+◌, if◌then◌else◌, nat_lt, None, Some, Ok, Err, IfOk, OnOk, IfErr};
 ghost use Rattle.gst_time.specs.declared.time.TheConstants.{LIMIT};
 ghost use Rattle.flow_model.specs.Rule.{TooLong};
@@ -13,9 +13,9 @@ use gst_time::{Format, LIMIT, Segment};
 
 /// Two numbers whose sum is not below `LIMIT`.
 #[derive(Clone, Copy)]
-pub struct Excess {
-    pub a: u64,
-    pub b: u64,
+pub(crate) struct Excess {
+    pub(crate) a: u64,
+    pub(crate) b: u64,
 }
 
 impl From<Excess> for ElementFault {
@@ -33,14 +33,14 @@ impl From<Excess> for ElementFault {
 
 /// A sum of numbers. From where it reached `LIMIT` on it is the two numbers of which it did not fit.
 #[derive(Clone, Copy)]
-pub enum Sum {
+pub(crate) enum Sum {
     Within(u64),
     Past { a: u64, b: u64 },
 }
 
 impl Sum {
     /// With a number more.
-    pub fn with(self, more: u64) -> Sum
+    pub(crate) fn with(self, more: u64) -> Sum
         ensures { result ≡ added self more }
     {
         match self {
@@ -50,7 +50,7 @@ impl Sum {
     }
 
     /// With another sum behind it.
-    pub fn with_sum(self, more: Sum) -> Sum
+    pub(crate) fn with_sum(self, more: Sum) -> Sum
         ensures { result ≡ added_sum self more }
     {
         match more {
@@ -89,14 +89,14 @@ pub(crate) fn sum_below(a: u64, b: u64) -> Option<u64>
 /// What the earlier pads came to: the sum of the greatest running times at which their buffers end, in
 /// nanoseconds, and that of the bytes in their buffers.
 #[derive(Clone, Copy)]
-pub struct Sums {
-    pub time: Sum,
-    pub bytes: Sum,
+pub(crate) struct Sums {
+    pub(crate) time: Sum,
+    pub(crate) bytes: Sum,
 }
 
 impl Sums {
     /// Those of no pads.
-    pub fn new() -> Sums
+    pub(crate) fn new() -> Sums
         ensures { result ≡ no_sums }
     {
         Sums {
@@ -106,7 +106,7 @@ impl Sums {
     }
 
     /// With what one pad more came to.
-    pub fn with(self, tally: &Tally) -> Sums
+    pub(crate) fn with(self, tally: &Tally) -> Sums
         ensures { result ≡ with_tally self tally.now }
     {
         Sums {
@@ -127,7 +127,7 @@ impl Sums {
     }
 
     /// Whether an item fits behind the earlier pads.
-    pub fn check(self, item: &Item) -> Result<(), Excess>
+    pub(crate) fn check(self, item: &Item) -> Result<(), Excess>
         ensures ok { OnOk result (raised self item.now ≡ Ok (lifted self item.now)) }
         ensures err { IfErr result (λ excess. raised self item.now ≡ Err (TooLong excess.a excess.b)) }
     {
@@ -141,7 +141,7 @@ impl Sums {
     }
 
     /// The item as it goes out behind the earlier pads, and as it is where it does not fit.
-    pub fn lift(self, item: Item) -> Item
+    pub(crate) fn lift(self, item: Item) -> Item
         ensures { result ≡ lifted self item }
     {
         match item {

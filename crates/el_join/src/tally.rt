@@ -8,15 +8,15 @@ use gst_time::{Format, Segment};
 /// What a pad's items come to: the SEGMENT in force, the greatest running time at which a buffer ends, in
 /// nanoseconds, and how many bytes the buffers have.
 #[derive(Clone, Copy)]
-pub struct Tally {
-    pub segment: Option<Segment>,
-    pub greatest: u64,
-    pub bytes: Sum,
+pub(crate) struct Tally {
+    pub(crate) segment: Option<Segment>,
+    pub(crate) greatest: u64,
+    pub(crate) bytes: Sum,
 }
 
 impl Tally {
     /// That of no items.
-    pub fn new() -> Tally
+    pub(crate) fn new() -> Tally
         ensures { result ≡ no_tally }
     {
         Tally {
@@ -28,7 +28,7 @@ impl Tally {
 
     /// Counts a buffer that ends at this time, where it has one, and has so many bytes.
     #[inline]
-    pub fn count(&mut self, end: Option<u64>, bytes: u64)
+    pub(crate) fn count(&mut self, end: Option<u64>, bytes: u64)
         ensures segment { self.new.segment ≡ self.old.segment }
         ensures greatest { self.new.greatest ≡ max self.old.greatest (running_in self.old.segment end) }
         ensures bytes { self.new.bytes ≡ added self.old.bytes bytes }

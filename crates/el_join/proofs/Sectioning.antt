@@ -1,0 +1,132 @@
+-- The sections that are over, with one more item and with a flush.
+use Rattle.std.proofs.Common.{◌≡◌, ◌≤◌, ◌<◌, ℕ, zero, suc, Bool, true, false, if◌then◌else◌, List, [], ◌∷◌, ◌++◌, refl, sym, ap, ◌∙◌, subst, Result, Ok, Err, arith}
+use Rattle.flow_model.specs.Item.{Item, Ev, FlushStop, is_flush_stop}
+use Rattle.flow_model.specs.Section.{section, counted, before_section, to_eos, flush_stops}
+use Rattle.flow_model.specs.Call.{Call, Feed, items}
+use Rattle.flow_model.specs.Prefix.{IsPrefix}
+use Rattle.flow_model.specs.Rule.{Fault}
+use Rattle.flow_model.proofs.Calls.{items_push}
+use Rattle.flow_model.specs.SinkPads.{flush_stops_given, push_calls, push_each, InSection}
+use Rattle.el_join.specs.declared.concat.Concat.{Concat}
+use Rattle.el_join.specs.Sections.{inherited, with_inherited, reopened, reopened_of, all_reopened, open_section}
+use Rattle.el_join.specs.Concats.{joined_from, joined_now, up_to_fault, in_front, all_or_fault, concat, concat_rule}
+use Rattle.el_join.specs.Joins.{Joins}
+use Rattle.el_join.specs.Totals.{no_sums}
+use Rattle.el_join.specs.Laws.{PutsInOrder, OnlyOpenGrows, FlushEnds}
+use Rattle.el_join.proofs.Opened.{stops_of, reopened_flushed}
+use Rattle.el_join.proofs.Joining.{open_push}
+use Rattle.el_join.proofs.Prefixing.{concat_prefix}
+
+-- what stands before the end of a section stays
+section_over : (j : ℕ) (xs ys : List Item) → j < flush_stops xs → section j (xs ++ ys) ≡ section j xs
+section_over j [] ys h = absurd (omega (arith, h))
+section_over zero (x ∷ xs) ys h = go (is_flush_stop x) h (section_over zero xs ys)
+  where
+    go : (b : Bool) → 0 < (if b then suc (flush_stops xs) else flush_stops xs) → (0 < flush_stops xs → section 0 (xs ++ ys) ≡ section 0 xs)
+        → (if b then [] else x ∷ section 0 (xs ++ ys)) ≡ (if b then [] else x ∷ section 0 xs)
+    go true h rest = refl
+    go false h rest = ap (λ zs. x ∷ zs) (rest h)
+section_over (suc j) (x ∷ xs) ys h = go (is_flush_stop x) h (section_over j xs ys) (section_over (suc j) xs ys)
+  where
+    go : (b : Bool) → suc j < (if b then suc (flush_stops xs) else flush_stops xs) → (j < flush_stops xs → section j (xs ++ ys) ≡ section j xs)
+        → (suc j < flush_stops xs → section (suc j) (xs ++ ys) ≡ section (suc j) xs)
+        → (if b then section j (xs ++ ys) else section (suc j) (xs ++ ys)) ≡ (if b then section j xs else section (suc j) xs)
+    go true h past same = past (omega (arith, h))
+    go false h past same = same h
+
+section_closed : (j : ℕ) (xs : List Item) (number : ℕ) → j ≤ flush_stops xs → section j (xs ++ Ev (FlushStop number) ∷ []) ≡ section j xs
+section_closed zero [] number h = refl
+section_closed (suc j) [] number h = absurd (omega (arith, h))
+section_closed zero (x ∷ xs) number h = ap (λ zs. if is_flush_stop x then [] else x ∷ zs) (section_closed zero xs number (omega arith))
+section_closed (suc j) (x ∷ xs) number h = go (is_flush_stop x) h (section_closed j xs number) (section_closed (suc j) xs number)
+  where
+    go : (b : Bool) → suc j ≤ (if b then suc (flush_stops xs) else flush_stops xs) → (j ≤ flush_stops xs → section j (xs ++ Ev (FlushStop number) ∷ []) ≡ section j xs)
+        → (suc j ≤ flush_stops xs → section (suc j) (xs ++ Ev (FlushStop number) ∷ []) ≡ section (suc j) xs)
+        → (if b then section j (xs ++ Ev (FlushStop number) ∷ []) else section (suc j) (xs ++ Ev (FlushStop number) ∷ [])) ≡ (if b then section j xs else section (suc j) xs)
+    go true h past same = past (omega (arith, h))
+    go false h past same = same h
+
+before_over : (j : ℕ) (xs ys : List Item) → j ≤ flush_stops xs → before_section j (xs ++ ys) ≡ before_section j xs
+before_over zero xs ys h = refl
+before_over (suc j) [] ys h = absurd (omega (arith, h))
+before_over (suc j) (x ∷ xs) ys h = go (is_flush_stop x) h (before_over j xs ys) (before_over (suc j) xs ys)
+  where
+    go : (b : Bool) → suc j ≤ (if b then suc (flush_stops xs) else flush_stops xs) → (j ≤ flush_stops xs → before_section j (xs ++ ys) ≡ before_section j xs)
+        → (suc j ≤ flush_stops xs → before_section (suc j) (xs ++ ys) ≡ before_section (suc j) xs)
+        → x ∷ (if b then before_section j (xs ++ ys) else before_section (suc j) (xs ++ ys)) ≡ x ∷ (if b then before_section j xs else before_section (suc j) xs)
+    go true h past same = ap (λ zs. x ∷ zs) (past (omega (arith, h)))
+    go false h past same = ap (λ zs. x ∷ zs) (same h)
+
+reopened_over : (j : ℕ) (xs ys : List Item) → j ≤ flush_stops xs → section j (xs ++ ys) ≡ section j xs → reopened j (xs ++ ys) ≡ reopened j xs
+reopened_over j xs ys h e =
+    ap (λ zs. with_inherited (inherited (counted zs)) (to_eos (section j (xs ++ ys)))) (before_over j xs ys h)
+    ∙ ap (λ zs. with_inherited (inherited (counted (before_section j xs))) (to_eos zs)) e
+
+-- of each sink pad
+pad_over : (j : ℕ) (cs : List Call) (x : Item) → j < flush_stops_given cs → reopened_of j (cs ++ Feed x ∷ []) ≡ reopened_of j cs
+pad_over j cs x h =
+    let s = stops_of cs in
+    let least : j < flush_stops (items cs) = omega (arith, h, s) in
+    ap (reopened j) (items_push cs x) ∙ reopened_over j (items cs) (x ∷ []) (omega (arith, least)) (section_over j (items cs) (x ∷ []) least)
+
+pads_over : (j n pad : ℕ) (took : List (List Call)) (x : Item) → InSection n took → j < n → all_reopened j (push_calls pad (Feed x ∷ []) took) ≡ all_reopened j took
+pads_over j n zero [] x ls h = refl
+pads_over j n (suc pad) [] x ls h = refl
+pads_over j n zero (cs ∷ took) x ls h = let l : flush_stops_given cs ≡ n = ls.0 in ap (λ xs. xs ∷ all_reopened j took) (pad_over j cs x (omega (arith, l, h)))
+pads_over j n (suc pad) (cs ∷ took) x ls h = ap (λ xss. reopened_of j cs ∷ xss) (pads_over j n pad took x ls.1 h)
+
+pad_closed : (j : ℕ) (cs : List Call) (number : ℕ) → j ≤ flush_stops_given cs → reopened_of j (cs ++ Feed (Ev (FlushStop number)) ∷ []) ≡ reopened_of j cs
+pad_closed j cs number h =
+    let s = stops_of cs in
+    let least : j ≤ flush_stops (items cs) = omega (arith, h, s) in
+    ap (reopened j) (items_push cs (Ev (FlushStop number))) ∙ reopened_over j (items cs) (Ev (FlushStop number) ∷ []) least (section_closed j (items cs) number least)
+
+pads_closed : (j n number : ℕ) (took : List (List Call)) → InSection n took → j ≤ n → all_reopened j (push_each (Feed (Ev (FlushStop number)) ∷ []) took) ≡ all_reopened j took
+pads_closed j n number [] ls h = refl
+pads_closed j n number (cs ∷ took) ls h =
+    let l : flush_stops_given cs ≡ n = ls.0 in
+    ap (λ xs. xs ∷ all_reopened j (push_each (Feed (Ev (FlushStop number)) ∷ []) took)) (pad_closed j cs number (omega (arith, l, h)))
+    ∙ ap (λ xss. reopened_of j cs ∷ xss) (pads_closed j n number took ls.1 h)
+
+pad_begins : (n : ℕ) (cs : List Call) (number : ℕ) → flush_stops_given cs ≡ n → reopened_of (suc n) (cs ++ Feed (Ev (FlushStop number)) ∷ []) ≡ []
+pad_begins n cs number e = ap (reopened (suc n)) (items_push cs (Ev (FlushStop number))) ∙ reopened_flushed n (items cs) number (sym (stops_of cs) ∙ e)
+
+nothing_owed : (n number : ℕ) (took : List (List Call)) → InSection n took → concat (all_reopened (suc n) (push_each (Feed (Ev (FlushStop number)) ∷ []) took)) ≡ []
+nothing_owed n number [] ls = refl
+nothing_owed n number (cs ∷ took) ls =
+    ap (λ (xs : List Item). up_to_fault (joined_from no_sums (xs ∷ all_reopened (suc n) (push_each (Feed (Ev (FlushStop number)) ∷ []) took)))) (pad_begins n cs number ls.0)
+
+-- where there is no fault all of it is owed
+abbrev done : List Item → Result (List Item) Fault
+done ys = Ok ys
+
+all_owed : (rs : List (Result Item Fault)) (xs : List Item) → all_or_fault rs ≡ done xs → up_to_fault rs ≡ xs
+all_owed [] xs e = cc
+all_owed (Err fault ∷ rs) xs e = absurd (cc)
+all_owed (Ok x ∷ rs) xs e = go (all_or_fault rs) refl e (all_owed rs)
+  where
+    go : (r : Result (List Item) Fault) → all_or_fault rs ≡ r → in_front x r ≡ done xs → ((ys : List Item) → all_or_fault rs ≡ done ys → up_to_fault rs ≡ ys) → x ∷ up_to_fault rs ≡ xs
+    go (Err fault) is e rest = absurd (cc)
+    go (Ok ys) is e rest = ap (λ zs. x ∷ zs) (rest ys is) ∙ cc
+
+put_is_owed : (element : Concat) (took : List (List Call)) (put : List Item) → Joins element took put → (port : ℕ) → concat_rule took port (open_section took) ≡ put
+put_is_owed element took put j port = all_owed (joined_now (open_section took) took) put j.owed
+
+pub puts_in_order : PutsInOrder
+puts_in_order = record {
+  all = put_is_owed;
+  begins = λ element took more put j p port.
+      subst (λ (xs : List Item). IsPrefix xs (concat_rule more port (open_section took))) (put_is_owed element took put j port) (concat_prefix took more p port (open_section took));
+}
+
+pub only_open_grows : OnlyOpenGrows
+only_open_grows = record {
+  same = λ pad x took plain. open_push pad took x plain;
+  over = λ element took r pad x port j h. ap concat (pads_over j (open_section took) pad took x r.level h);
+}
+
+pub flush_ends : FlushEnds
+flush_ends = record {
+  over = λ element took r number port j h. ap concat (pads_closed j (open_section took) number took r.level (omega (arith, h)));
+  nothing = λ element took r number port. nothing_owed (open_section took) number took r.level;
+}

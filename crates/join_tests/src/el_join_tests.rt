@@ -1,0 +1,162 @@
+//! Rows of calls. Two letters stand for a call: the number of a pad, and what it is given.
+ghost use Rattle.std.specs.Prelude.{◌≡◌};
+ghost use Rattle.el_join.specs.Joins.{is_inherited};
+
+use el_join::Concat;
+use flow_model::ElementFault;
+use gst_item::{Event, Flow, Item, Outs};
+use gst_time::{Format, LIMIT, Segment};
+use gst_value::List;
+use item_letters::{is_flush, item_of, letter_of, letter_of_flow};
+use std::alloc::Global;
+use std::test::Fail;
+
+/// A segment from 0 on, with a base.
+fn segment(format: Format, base: u64) -> Item {
+    let mut segment = Segment::new(format);
+    segment.base = base;
+    Item::Event(Event::Segment(segment))
+}
+
+/// A buffer without bytes that ends right before `LIMIT`.
+fn late(alloc: Global) -> Result<Item, Fail> {
+    match item_of(alloc, b'N')? {
+        Item::Buffer(mut buffer) => {
+            buffer.pts = Some(LIMIT - 1);
+            buffer.duration = None;
+            Ok(Item::Buffer(buffer))
+        }
+        other => Ok(other),
+    }
+}
+
+/// `T` and `U` are SEGMENTs in time, of base 0 and 2, and `O` is one in bytes; `L` ends so late that nothing fits behind it.
+fn item_by(alloc: Global, letter: u8) -> Result<Item, Fail> {
+    match letter {
+        b'T' => Ok(segment(Format::Time, 0)),
+        b'U' => Ok(segment(Format::Time, 2)),
+        b'O' => Ok(segment(Format::Bytes, 0)),
+        b'L' => late(alloc),
+        _ => Ok(item_of(alloc, letter)?),
+    }
+}
+
+/// The base of a segment in time, and the start of one in bytes, as a digit.
+fn digit(segment: &Segment) -> u8 {
+    let number = match segment.format {
+        Format::Time => segment.base,
+        Format::Bytes => segment.start,
+    };
+    if number < 10 {
+        b'0' + number as u8
+    } else {
+        b'?'
+    }
+}
+
+fn letter(item: &Item) -> u8 {
+    match item {
+        Item::Event(Event::Segment(segment)) => digit(segment),
+        _ => letter_of(item),
+    }
+}
+
+/// `!` where nothing fits behind what is late.
+fn answer(flow: &Result<Flow, ElementFault>) -> u8 {
+    match flow {
+        Ok(flow) => letter_of_flow(*flow),
+        Err(ElementFault::TooLong { a, b }) => {
+            if *a == 2 && *b == LIMIT - 1 {
+                b'!'
+            } else {
+                b'?'
+            }
+        }
+        Err(_) => b'?',
+    }
+}
+
+fn is_inherited(event: &Event) -> bool
+    ensures { result ≡ is_inherited event.now }
+{
+    matches!(
+        event,
+        Event::StreamStart { .. } | Event::Caps(_) | Event::Tag { .. }
+    )
+}
+
+fn lay(concat: &mut Concat, pad: u32, item: Item) {
+    if let Item::Event(event) = item {
+        if pad < concat.pad_count() && is_inherited(&event) {
+            concat.lay(pad, event);
+        }
+    }
+}
+
+/// Makes a call: `f` is a flush, and where a small letter stands for the pad the event is laid.
+fn call(
+    alloc: Global,
+    concat: &mut Concat,
+    place: u8,
+    what: u8,
+    out: &mut Outs,
+) -> Result<u8, Fail> {
+    let pad = u32::from(place & 1);
+    let item = item_by(alloc, what)?;
+    if is_flush(&item) {
+        concat.flush();
+        return Ok(b'-');
+    }
+    if place >= b'a' {
+        lay(concat, pad, item);
+        return Ok(b'-');
+    }
+    if pad < concat.pad_count() {
+        return Ok(answer(&concat.feed(alloc, pad, item, out)));
+    }
+    Ok(b'?')
+}
+
+fn trace(alloc: Global, calls: &[u8]) -> Result<Vec<u8>, Fail> {
+    let mut concat = Concat::new(alloc, 2)?;
+    let mut out = List::new(alloc);
+    let mut trace = Vec::new(alloc);
+    for pair in calls.chunks_exact(2) {
+        let made = call(alloc, &mut concat, pair[0], pair[1], &mut out)?;
+        trace.push(made)?;
+    }
+    trace.push(b':')?;
+    for one in out.as_slice() {
+        trace.push(letter(&one.item))?;
+    }
+    Ok(trace)
+}
+
+#[test]
+fn joins(rt: HostRuntime) -> Result<(), Fail> {
+    let alloc = rt.alloc();
+    let rows: [(&'static [u8], &'static [u8]); 12] = [
+        // in their order, with times and bytes
+        (b"0s0T0C0e1s1T1C1e", b"++++++++:s0Cs3Ce"),
+        (b"0s0T0e1s1T1e", b"++++++:s0s0e"),
+        (b"0O0C0e1O1C1e", b"++++++:0C3Ce"),
+        (b"0T0C0e1O1C1e", b"++++++:0C3Ce"),
+        (b"0O0C0e1T1C1e", b"++++++:0C0Ce"),
+        // early items
+        (b"1T1C0T0C1e0C0e", b"+++++++:0CC3Ce"),
+        // behind EOS
+        (b"0e0C1e1e1s", b"+.+..:e"),
+        // the sum is too long, at once and for an early item
+        (b"0T0L0e1s1U", b"++++!:0Ns"),
+        (b"0T0L1U1C0e0C", b"++++!+:0NC"),
+        // sections
+        (b"0s0r0t0T0C0f0T0C0e1e", b"+++++-++++:srt0Csrt0Ce"),
+        (b"0s0fas0fbr1f1T0C0e1e", b"+-----++++:ssrCs0e"),
+        (b"", b":"),
+    ];
+    for (calls, wanted) in rows {
+        let trace = trace(alloc, calls)?;
+        assert_eq!(rt; trace.as_slice(), wanted);
+    }
+    Ok(())
+}

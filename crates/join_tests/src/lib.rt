@@ -1,0 +1,5 @@
+//! Tests of the elements with several sink pads.
+#![tactic(auto)]
+
+#[cfg(test)]
+mod el_join_tests;
