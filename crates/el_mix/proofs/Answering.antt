@@ -19,7 +19,7 @@ section_at n zero (calls ∷ inputs) s l = s.0
 section_at n (suc i) (calls ∷ inputs) s l = section_at n i inputs s.1 (omega (arith, l))
 
 -- behind EOS the lists stay
-behind_same : (n i : ℕ) (inputs : List (List Call)) (x : Item) → InSection n inputs → is_flush_stop x ≡ false → has_eos (calls_at i inputs) ≡ true
+pub behind_same : (n i : ℕ) (inputs : List (List Call)) (x : Item) → InSection n inputs → is_flush_stop x ≡ false → has_eos (calls_at i inputs) ≡ true
     → reopenings n (push_calls i (Feed x ∷ []) inputs) ≡ reopenings n inputs
 behind_same n i [] x s plain e = refl
 behind_same n zero (calls ∷ inputs) x s plain e =

@@ -88,7 +88,7 @@ section_flushed (suc j) (y ∷ w) k h = go (is_flush_stop y) (section_flushed j 
     go true r q h = r (omega (arith, h))
     go false r q h = q h
 
-section_next : (j : ℕ) (w : List Item) (k : ℕ) → flush_stops w < j → section j (w ++ Ev (FlushStop k) ∷ []) ≡ []
+pub section_next : (j : ℕ) (w : List Item) (k : ℕ) → flush_stops w < j → section j (w ++ Ev (FlushStop k) ∷ []) ≡ []
 section_next zero w k h = absurd (omega arith)
 section_next (suc zero) [] k h = refl
 section_next (suc (suc j)) [] k h = refl
@@ -200,7 +200,7 @@ pad_goes_on = record {
 }
 
 -- all pads
-push_begins : (i : ℕ) (calls : List Call) (inputs : List (List Call)) → ArePrefixes inputs (push_calls i calls inputs)
+pub push_begins : (i : ℕ) (calls : List Call) (inputs : List (List Call)) → ArePrefixes inputs (push_calls i calls inputs)
 push_begins i calls [] = none
 push_begins zero calls (ds ∷ dss) = pad (prefix_append ds calls) (are_prefixes_refl dss)
 push_begins (suc i) calls (ds ∷ dss) = pad (prefix_refl ds) (push_begins i calls dss)
@@ -209,12 +209,12 @@ past : (n j : ℕ) (inputs : List (List Call)) → InSection n inputs → j < n 
 past n j [] s h = tt
 past n j (calls ∷ inputs) s h = let is : open_section calls ≡ n = s.0 in (has_to (suc j) (items calls) (omega (arith, is, h)), past n j inputs s.1 h)
 
-still_in : (n i : ℕ) (inputs : List (List Call)) (x : Item) → is_flush_stop x ≡ false → InSection n inputs → InSection n (push_calls i (Feed x ∷ []) inputs)
+pub still_in : (n i : ℕ) (inputs : List (List Call)) (x : Item) → is_flush_stop x ≡ false → InSection n inputs → InSection n (push_calls i (Feed x ∷ []) inputs)
 still_in n i [] x plain s = tt
 still_in n zero (calls ∷ inputs) x plain s = (ap flush_stops (items_push calls x) ∙ stops_plain (items calls) x plain ∙ s.0, s.1)
 still_in n (suc i) (calls ∷ inputs) x plain s = (s.0, still_in n i inputs x plain s.1)
 
-next_in : (n k : ℕ) (inputs : List (List Call)) → InSection n inputs → InSection (suc n) (all_flushed k inputs)
+pub next_in : (n k : ℕ) (inputs : List (List Call)) → InSection n inputs → InSection (suc n) (all_flushed k inputs)
 next_in n k [] s = tt
 next_in n k (calls ∷ inputs) s = (ap flush_stops (items_push calls (Ev (FlushStop k))) ∙ stops_flushed (items calls) k ∙ ap suc s.0, next_in n k inputs s.1)
 
@@ -229,10 +229,10 @@ owes_more = record {
 }
 
 -- a section without items has not started
-fresh : (j : ℕ) (xs : List Item) → section j xs ≡ [] → has is_start (reopened j xs) ≡ false
+pub fresh : (j : ℕ) (xs : List Item) → section j xs ≡ [] → has is_start (reopened j xs) ≡ false
 fresh j xs e = starts_behind (counted (before j xs)) (counted_section j xs) ∙ ap (λ zs. has is_start (to_eos zs)) e
 
-abbrev AllFresh : ℕ → List (List Call) → Type 0
+abbrev pub AllFresh : ℕ → List (List Call) → Type 0
 AllFresh j [] = Unit {0}
 AllFresh j (calls ∷ inputs) = (has is_start (reopened j (items calls)) ≡ false) × AllFresh j inputs
 
@@ -241,7 +241,7 @@ none_started j [] f s = s
 none_started j (calls ∷ inputs) f (inl s) = cc (s, f.0)
 none_started j (calls ∷ inputs) f (inr s) = none_started j inputs f.1 s
 
-fresh_in_order : (j : ℕ) (inputs : List (List Call)) → AllFresh j inputs → InOrder (reopenings j inputs)
+pub fresh_in_order : (j : ℕ) (inputs : List (List Call)) → AllFresh j inputs → InOrder (reopenings j inputs)
 fresh_in_order j [] f = tt
 fresh_in_order j (calls ∷ inputs) f = (λ s. absurd (none_started j inputs f.1 s), fresh_in_order j inputs f.1)
 
@@ -264,7 +264,7 @@ nothing_fresh : (j : ℕ) (inputs : List (List Call)) → AllFresh j inputs → 
 nothing_fresh j [] f = refl
 nothing_fresh j (calls ∷ inputs) f = not_started (reopenings j (calls ∷ inputs)) (rw f.0 refl)
 
-flushed_stays : (n j k : ℕ) (inputs : List (List Call)) → InSection n inputs → j ≤ n → reopenings j (all_flushed k inputs) ≡ reopenings j inputs
+pub flushed_stays : (n j k : ℕ) (inputs : List (List Call)) → InSection n inputs → j ≤ n → reopenings j (all_flushed k inputs) ≡ reopenings j inputs
 flushed_stays n j k [] s h = refl
 flushed_stays n j k (calls ∷ inputs) s h =
     let is : open_section calls ≡ n = s.0 in

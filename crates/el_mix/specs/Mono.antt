@@ -1,5 +1,5 @@
 -- Raw audio of one channel: what its caps say, and which caps it has.
-use Rattle.std.specs.Prelude.{ℕ, ◌*◌, ◌/◌, pos, [], ◌∷◌, map, unwrap_or}
+use Rattle.std.specs.Prelude.{ℕ, ◌*◌, ◌/◌, pos, List, [], ◌∷◌, map, unwrap_or}
 use Rattle.gst_value.specs.Description.{Description}
 use Rattle.gst_caps.specs.declared.caps.Caps.{Caps}
 use Rattle.gst_caps.specs.declared.caps.Caps.TheVariants.{Of}
@@ -43,5 +43,11 @@ silence U8 = 128
 silence _ = 0
 
 -- the caps that stand for one fixed caps alone
+abbrev pub as_field : List ℕ × One → List ℕ × Value
+as_field f = (f.0, Single f.1)
+
+abbrev pub as_structure : Description One → Description Value
+as_structure x = record { media = x.media; fields = map as_field x.fields }
+
 abbrev pub exactly : Description One → Caps
-exactly x = Of (record { media = x.media; fields = map (λ f. (f.0, Single f.1)) x.fields } ∷ [])
+exactly x = Of (as_structure x ∷ [])

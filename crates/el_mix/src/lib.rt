@@ -1,5 +1,21 @@
-//! The rule of an element that mixes channels, as GStreamer's interleave: worked rows of it, and laws that the element rests on.
+//! The element that mixes channels, as GStreamer's interleave: worked rows of its rule, laws that it rests on, and its calls.
 #![tactic(auto)]
+
+mod channel;
+mod due;
+mod fixed;
+mod judge;
+pub mod mix;
+mod position;
+mod stream;
+mod template;
+mod turns;
+mod waiting;
+
+pub use mix::Mix;
+
+#[cfg(test)]
+mod tests;
 
 ghost use Rattle.el_mix.specs.Law.{OwesBeginnings, OwesInOrder};
 ghost use Rattle.el_mix.specs.Pieces.{BuffersGoOn, NextBuffer};

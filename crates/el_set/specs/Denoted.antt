@@ -3,17 +3,19 @@ use Rattle.std.specs.Prelude.{◌≡◌, ◌==◌, ℕ, List, [], ◌∷◌, Opt
 use Rattle.flow_model.specs.declared.fault.ElementFault.{ElementFault}
 use Rattle.flow_model.specs.Item.{Item, is_flush_stop}
 use Rattle.flow_model.specs.Call.{feeds}
-use Rattle.flow_model.specs.Rule.{Response, Fault, Fed, unfed, fed_item, all_called, owed_for, passes}
+use Rattle.flow_model.specs.Rule.{Response, Rule, Fault, Fed, unfed, fed_item, all_called, owed_for, passes, single}
 use Rattle.flow_model.specs.Feeding.{IsFaultOf}
 use Rattle.el_basic.specs.Filters.{filters}
 use Rattle.el_convert.specs.Converts.{converts}
+use Rattle.el_join.specs.Concats.{concat_rule}
 use Rattle.el_law.specs.Laws.{recodes}
+use Rattle.el_mix.specs.Mixes.{mixes}
 use Rattle.el_parse.specs.Parses.{parses as parses_raw}
 use Rattle.el_parse.specs.Splits.{splits}
 use Rattle.el_wav.specs.WavParse.{parses as parses_wav}
 use Rattle.el_wavenc.specs.Encodes.{encodes}
 use Rattle.el_settings.specs.declared.settings.Settings.{Settings}
-use Rattle.el_settings.specs.declared.settings.Settings.TheVariants.{FileSrc, RampTestSrc, Identity, CapsFilter, Queue, AudioConvert, Law, RawAudioParse, AudioBufferSplit, WavParse, WavEnc, FileSink, FakeSink}
+use Rattle.el_settings.specs.declared.settings.Settings.TheVariants.{FileSrc, RampTestSrc, Identity, CapsFilter, Queue, Tee, AudioConvert, Law, RawAudioParse, AudioBufferSplit, WavParse, WavEnc, Interleave, Concat, FileSink, FakeSink}
 use Rattle.el_settings.specs.Values.{or_else}
 use Rattle.el_settings.specs.Asked.{source_pads}
 
@@ -24,14 +26,24 @@ response_of (FileSrc s) = passes
 response_of (RampTestSrc s) = passes
 response_of Identity = passes
 response_of (Queue s) = passes
+response_of (Tee pads) = passes
 response_of (AudioConvert s) = converts s.allowed
 response_of (Law kind) = recodes kind
 response_of (RawAudioParse info) = parses_raw info
 response_of (AudioBufferSplit s) = splits s.frames
 response_of WavParse = parses_wav
 response_of WavEnc = encodes
+response_of (Interleave pads) = passes
+response_of (Concat pads) = passes
 response_of (FileSink s) = passes
 response_of FakeSink = passes
+
+-- The rule of an element: of one with several sink pads over the lists of all of them. A tee owes to each of its source pads
+-- what it was fed.
+abbrev pub rule_of : Settings → Rule
+rule_of (Interleave pads) = mixes
+rule_of (Concat pads) = concat_rule
+rule_of settings = single (response_of settings)
 
 abbrev pub fault_of : Result (List Item) Fault → Option Fault
 fault_of (Ok owed) = None

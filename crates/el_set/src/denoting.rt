@@ -68,9 +68,10 @@ fn on_pads(
     ensures { IfOk result (λ made. made ≡ on_pads (source_pads settings.now) output) }
 {
     let mut outputs = List::new(alloc);
-    if !settings.is_sink() {
-        outputs.push(alloc, output)?;
+    if settings.source_pads() == 0 {
+        return Ok(outputs);
     }
+    outputs.push(alloc, output)?;
     Ok(outputs)
 }
 

@@ -44,6 +44,9 @@ pub fn filter_of(alloc: Global, settings: &Settings) -> Result<Option<FilterElem
         Settings::FileSrc(_)
         | Settings::RampTestSrc(_)
         | Settings::Queue(_)
+        | Settings::Tee(_)
+        | Settings::Interleave(_)
+        | Settings::Concat(_)
         | Settings::FileSink(_)
         | Settings::FakeSink => Ok(None),
     }

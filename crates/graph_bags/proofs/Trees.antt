@@ -6,7 +6,7 @@ use Rattle.std.specs.Option.{option_map_or}
 use Rattle.std.proofs.lemmas.Bool.Decides.{eqb_tells}
 use Rattle.std.proofs.lemmas.Option.{slice_get_within}
 use Rattle.flow_model.specs.Account.{IsMember}
-use Rattle.el_settings.specs.Asked.{sink_pads}
+use Rattle.el_settings.specs.Asked.{is_source, sink_pads}
 use Rattle.el_settings.proofs.Roles.{one_sink}
 use Rattle.graph_core.specs.Elements.{Made}
 use Rattle.graph_core.specs.Links.{HasPads, is_same, sink_behind, source_before}
@@ -124,8 +124,8 @@ no_head_there : (found : Option Made) (pad : ℕ) → option_map_or (λ (m : Mad
 no_head_there None pad head none w = omega (arith, w)
 no_head_there (Some m) pad head none w = go (eqb_tells (sink_pads m.settings) 0) head
   where
-    go : ((eqb (sink_pads m.settings) 0 ≡ true) × (sink_pads m.settings ≡ 0)) ⊎ ((eqb (sink_pads m.settings) 0 ≡ false) × (sink_pads m.settings ≡ 0 → ⊥))
-        → (eqb (sink_pads m.settings) 0 || has_inlets m.settings) ≡ true → ⊥
+    go : ((is_source m.settings ≡ true) × (sink_pads m.settings ≡ 0)) ⊎ ((is_source m.settings ≡ false) × (sink_pads m.settings ≡ 0 → ⊥))
+        → (is_source m.settings || has_inlets m.settings) ≡ true → ⊥
     go (inl t) head = omega (arith, t.1, w)
     go (inr f) head = no_true (rw (f.0, none) at head)
 

@@ -20,11 +20,11 @@ use Rattle.net_model.specs.declared.refusal.Refusal.TheVariants.{Fault, Unwritte
 use Rattle.net_model.specs.declared.refusal.Unread.{Unread}
 use Rattle.net_model.specs.declared.source.TaskSource as sources
 use Rattle.net_model.specs.Refuses.{RefusesBy}
-use Rattle.el_settings.specs.Asked.{sink_pads}
+use Rattle.el_settings.specs.Asked.{is_source}
 use Rattle.el_set.specs.Denoted.{response_of}
 use Rattle.graph_core.specs.Graph.{made as made_in, links as links_in}
 use Rattle.graph_core.specs.declared.graph.Graph.{Graph}
-use Rattle.graph_bags.specs.Links.{has, has_inlets, is_source, source_count}
+use Rattle.graph_bags.specs.Links.{has, has_inlets, source_count}
 use Rattle.graph_bags.specs.declared.bag.Bag.{Bag}
 use Rattle.graph_core.specs.GraphPlan.{owner_of}
 use Rattle.graph_moment.proofs.Sources.{owner_is}
@@ -87,7 +87,7 @@ module _ {S K I O L : Type 0} (k : sinks.Ghosts K) {s : sources.Ghosts S} {e : e
         (subst (λ (c : Behavior). IsFaultOf (c.answers (m.took n) pad x) own) (sym (does contents graph m at.plan at.answers n b.element b.at some)) why);
   })
     where
-      some : eqb (sink_pads b.element.settings) 0 ≡ false
+      some : is_source b.element.settings ≡ false
       some = rw b.one refl
 
   at_a_pad : (n pad : ℕ) (x : Item) (refusal : Refusal) (p : ℕ) (rest : List Item) → has has_inlets (made_in graph) n ≡ false → m.waits p ≡ x ∷ rest

@@ -16,7 +16,7 @@ use Rattle.net_model.specs.declared.refusal.Refusal.{Refusal}
 use Rattle.net_model.specs.declared.refusal.Refusal.TheVariants as refusals
 use Rattle.net_model.specs.Failures.{IsWriteCause}
 use Rattle.net_model.specs.Refuses.{RefusesBy}
-use Rattle.el_settings.specs.Asked.{is_queue, sink_pads}
+use Rattle.el_settings.specs.Asked.{is_queue, is_source}
 use Rattle.el_settings.specs.declared.settings.Settings.{Settings}
 use Rattle.el_settings.proofs.Roles.{queue_no_filter, queue_sinks}
 use Rattle.el_set.proofs.Roles.{queue_passes as answers_passing}
@@ -36,13 +36,13 @@ use Rattle.graph_ends.specs.Written.{AreStreams}
 queue_does : (s : Settings) → is_queue s ≡ true → behavior_of s ≡ behaves passes
 queue_does s is = rw (queue_no_filter s is, is, answers_passing s is) refl
 
-queue_takes : (s : Settings) → is_queue s ≡ true → eqb (sink_pads s) 0 ≡ false
+queue_takes : (s : Settings) → is_queue s ≡ true → is_source s ≡ false
 queue_takes s is = ap (λ (n : ℕ). eqb n 0) (queue_sinks s is)
 
 -- what an element with a sink pad does at a moment of the run
 pub does : (contents : ℕ → List ℕ) (graph : Graph) (m : Moment) → m.plan ≡ moment_plan contents graph → m.answers ≡ moment_answers graph
     → (n : ℕ) (element : Made)
-    → slice_get (made_in graph) n ≡ Some element → eqb (sink_pads element.settings) 0 ≡ false → behavior_of element.settings ≡ behavior_at m n
+    → slice_get (made_in graph) n ≡ Some element → is_source element.settings ≡ false → behavior_of element.settings ≡ behavior_at m n
 does contents graph m plan answers n element at some =
     behaviors_are_told contents graph n element at some
     ∙ ap (λ (pl : Plan). with_rule (pl.rule n) (moment_answers graph n)) (sym plan)

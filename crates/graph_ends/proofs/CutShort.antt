@@ -9,9 +9,9 @@ use Rattle.flow_model.specs.Rule.{Rule}
 use Rattle.net_model.specs.Moment.{CellStands, Moment}
 use Rattle.net_model.specs.declared.refusal.Unread.{Unread}
 use Rattle.net_model.specs.declared.refusal.Unread.TheVariants.{Failed, OutOfMemory}
-use Rattle.el_settings.specs.Asked.{sink_pads, source_pads}
+use Rattle.el_settings.specs.Asked.{is_source, sink_pads, source_pads}
 use Rattle.el_set.specs.Made.{list_of}
-use Rattle.graph_bags.specs.Links.{has, is_source, source_count}
+use Rattle.graph_bags.specs.Links.{has, source_count}
 use Rattle.graph_core.specs.Elements.{Made}
 use Rattle.graph_core.specs.Graph.{made as made_in}
 use Rattle.graph_core.specs.declared.graph.Graph.{Graph}
@@ -29,10 +29,10 @@ use Rattle.graph_ends.proofs.EndedPass.{source_rule}
 no_sink_pad : (made : List Made) (n : ℕ) (one : Made) → slice_get made n ≡ Some one → has is_source made n ≡ true → sink_pads one.settings ≡ 0
 no_sink_pad made n one at source = go (eqb_tells (sink_pads one.settings) 0)
   where
-    yes_is : eqb (sink_pads one.settings) 0 ≡ true
+    yes_is : is_source one.settings ≡ true
     yes_is = sym (ap (λ (found : Option Made). option_map_or (λ (m : Made). is_source m.settings) found false) at) ∙ source
 
-    go : ((eqb (sink_pads one.settings) 0 ≡ true) × (sink_pads one.settings ≡ 0)) ⊎ ((eqb (sink_pads one.settings) 0 ≡ false) × (sink_pads one.settings ≡ 0 → ⊥))
+    go : ((is_source one.settings ≡ true) × (sink_pads one.settings ≡ 0)) ⊎ ((is_source one.settings ≡ false) × (sink_pads one.settings ≡ 0 → ⊥))
         → sink_pads one.settings ≡ 0
     go (inl t) = t.1
     go (inr f) = absurd (not_both (sym yes_is ∙ f.0))

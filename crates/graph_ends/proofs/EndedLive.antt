@@ -4,7 +4,7 @@ use Rattle.std.proofs.Common.{subst, inl, inr, arith, if◌then◌else◌}
 use Rattle.std.specs.Prelude.{is_some, slice_get}
 use Rattle.std.specs.Option.{option_map_or}
 use Rattle.std.proofs.lemmas.Bool.{eq-eqb}
-use Rattle.el_settings.specs.Asked.{sink_pads}
+use Rattle.el_settings.specs.Asked.{is_source, sink_pads}
 use Rattle.flow_model.specs.Account.{IsMember}
 use Rattle.graph_order.specs.Links.{IsLink}
 use Rattle.graph_core.specs.Allowed.{checked}
@@ -25,7 +25,7 @@ use Rattle.graph_core.proofs.Orders.{pads_at_link}
 use Rattle.graph_moment.proofs.Sources.{linked_there, sinks_are}
 use Rattle.graph_bags.specs.Bags.{AreBags, numbers}
 use Rattle.graph_bags.specs.Laws.{StandsIn}
-use Rattle.graph_bags.specs.Links.{has, has_inlets, is_head, is_source, LeadsInside}
+use Rattle.graph_bags.specs.Links.{has, has_inlets, is_head, LeadsInside}
 use Rattle.graph_bags.specs.declared.bag.Bag.{Bag}
 use Rattle.graph_bags.proofs.Apart.{bags_are_closed, heads_have_bags}
 use Rattle.graph_ends.proofs.EndedBags.{bag_is, head_among}
@@ -165,7 +165,7 @@ module _ (tree : Tree) (graph : Graph) (is : IsGraph tree graph) (sound : IsSoun
           )
 
       source_is : (e : ℕ) (m : Made) → slice_get (made_in graph) e ≡ Some m → sink_pads m.settings ≡ 0 → has is_source (made_in graph) e ≡ true
-      source_is e m at none = rw at (eq-eqb (sink_pads m.settings) 0 none)
+      source_is e m at none = rw at (eq-is_source m.settings none)
 
       behind : (a b : ℕ) → IsBetween a b → (k : ℕ) × StandsIn bags k a → (d : Bool) → has has_inlets (made_in graph) b ≡ d → (k : ℕ) × StandsIn bags k b
       behind a b l t true queue = by_head b (inlets_head (made_in graph) b queue)

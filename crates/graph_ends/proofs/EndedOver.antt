@@ -24,7 +24,7 @@ use Rattle.net_model.proofs.Overs.{eos_comes}
 use Rattle.net_model.proofs.Splits.{split_all}
 use Rattle.net_model.specs.declared.element.TaskElement as elements
 use Rattle.net_model.specs.declared.source.TaskSource as sources
-use Rattle.el_settings.specs.Asked.{sink_pads, source_pads}
+use Rattle.el_settings.specs.Asked.{is_sink, is_source, sink_pads, source_pads}
 use Rattle.el_set.specs.Denoted.{response_of}
 use Rattle.graph_core.specs.Elements.{Made, is_sink}
 use Rattle.graph_core.specs.Graph.{IsGraph, is_live, made as made_in, links as links_in, forward as forward_in}
@@ -40,7 +40,7 @@ use Rattle.graph_moment.specs.Plans.{answers_for, moment_plan, tight_rule}
 use Rattle.graph_moment.proofs.Sources.{in_order, linked_there, moment_goes, place_is_pad}
 use Rattle.graph_moment.proofs.Wholes.{numbers_have_pads, pads_have_numbers}
 use Rattle.graph_bags.specs.Laws.{StandsIn}
-use Rattle.graph_bags.specs.Links.{has, is_source}
+use Rattle.graph_bags.specs.Links.{has}
 use Rattle.graph_bags.specs.declared.bag.Bag.{Bag}
 use Rattle.graph_bags.proofs.Apart.{bags_are_there}
 use Rattle.task_elements.specs.Stands.{StreamStands, answers_by}
@@ -119,14 +119,14 @@ module _ {S K I O L : Type 0} (k : sinks.Ghosts K) {s : sources.Ghosts S} {e : e
   answers_at : (n : ℕ) (a : Made) → slice_get (made_in graph) n ≡ Some a → m.answers n ≡ answers_by (response_of a.settings)
   answers_at n a there = ap (λ (f : ℕ → Answers). f n) at.answers ∙ ap answers_for there
 
-  no_source : (n : ℕ) (a : Made) → slice_get (made_in graph) n ≡ Some a → eqb (sink_pads a.settings) 0 ≡ false → has is_source (made_in graph) n ≡ true → ⊥
+  no_source : (n : ℕ) (a : Made) → slice_get (made_in graph) n ≡ Some a → is_source a.settings ≡ false → has is_source (made_in graph) n ≡ true → ⊥
   no_source n a there other source = no (sym other ∙ (rw there at source))
     where
       no : false ≡ true → ⊥
       no e = cc
 
   -- an element of a task hands EOS on
-  own_passes : (n : ℕ) (a : Made) → slice_get (made_in graph) n ≡ Some a → 0 < source_pads a.settings → eqb (sink_pads a.settings) 0 ≡ false
+  own_passes : (n : ℕ) (a : Made) → slice_get (made_in graph) n ≡ Some a → 0 < source_pads a.settings → is_source a.settings ≡ false
       → (number : ℕ) (task : Task S (StreamElement K) I O L s e i o) → slice_get tasks number ≡ Some task → HasOwn (made_in graph) task n
       → AllEnded (m.took n) → (port : ℕ) → port < 1
       → list_ended (m.plan.rule n (m.took n) port 0) ≡ true
@@ -147,8 +147,8 @@ module _ {S K I O L : Type 0} (k : sinks.Ghosts K) {s : sources.Ghosts S} {e : e
       pad : IsPadAt n p
       pad = pad_at n (bags_are_there (made_in graph) (links_in graph) bags at.sound.pads at.bags_are bag.0 n bag.1) p own
 
-      go : ((eqb (sink_pads pad.element.settings) 0 ≡ true) × (sink_pads pad.element.settings ≡ 0))
-          ⊎ ((eqb (sink_pads pad.element.settings) 0 ≡ false) × (sink_pads pad.element.settings ≡ 0 → ⊥))
+      go : ((is_source pad.element.settings ≡ true) × (sink_pads pad.element.settings ≡ 0))
+          ⊎ ((is_source pad.element.settings ≡ false) × (sink_pads pad.element.settings ≡ 0 → ⊥))
           → list_ended (m.plan.rule n (m.took n) (m.plan.port p) 0) ≡ true
       go (inl t) =
           ap (λ (r : Rule). list_ended (r (m.took n) (m.plan.port p) 0)) (rule_at n pad.element pad.there)
@@ -199,8 +199,8 @@ module _ {S K I O L : Type 0} (k : sinks.Ghosts K) {s : sources.Ghosts S} {e : e
         came_ended (made_in graph) m.history (source_before (links_in graph) (first_pad d))
         (λ source found. place_is_pad (made_in graph) source (linked_there (made_in graph) (links_in graph) at.sound.pads (first_pad d) source found)) ended.0
       where
-        none : ((eqb (source_pads a.settings) 0 ≡ true) × (source_pads a.settings ≡ 0))
-            ⊎ ((eqb (source_pads a.settings) 0 ≡ false) × (source_pads a.settings ≡ 0 → ⊥))
+        none : ((is_sink a.settings ≡ true) × (source_pads a.settings ≡ 0))
+            ⊎ ((is_sink a.settings ≡ false) × (source_pads a.settings ≡ 0 → ⊥))
             → is_sink a.settings ≡ true → source_pads a.settings ≡ 0
         none (inl t) sink = t.1
         none (inr f) sink = absurd (no (sym f.0 ∙ sink))

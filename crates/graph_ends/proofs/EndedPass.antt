@@ -9,7 +9,7 @@ use Rattle.flow_model.specs.Rule.{Rule, Response, Fault, unfed, responded, singl
 use Rattle.net_model.specs.Moment.{Answers, Behavior}
 use Rattle.net_model.specs.Over.{list_ended, AllEnded}
 use Rattle.flow_model.specs.SinkPads.{InSection}
-use Rattle.el_settings.specs.Asked.{sink_pads, source_pads}
+use Rattle.el_settings.specs.Asked.{is_source, sink_pads, source_pads}
 use Rattle.el_set.specs.Denoted.{response_of}
 use Rattle.el_set.specs.Made.{list_of}
 use Rattle.graph_core.specs.Elements.{Made}
@@ -53,9 +53,9 @@ some_pad n w = go (eqb_tells n 0)
 
 pub source_rule : (m : Made) (n : ℕ) (content : List ℕ) → 0 < source_pads m.settings → sink_pads m.settings ≡ 0
     → tight_rule (Some m) n content ≡ (λ inputs port. first_section (list_of m.settings n content))
-source_rule m n content some none = rw (some_pad (source_pads m.settings) some, eq-eqb (sink_pads m.settings) 0 none) refl
+source_rule m n content some none = rw (some_pad (source_pads m.settings) some, eq-is_source m.settings none) refl
 
-pub other_rule : (m : Made) (n : ℕ) (content : List ℕ) → 0 < source_pads m.settings → eqb (sink_pads m.settings) 0 ≡ false
+pub other_rule : (m : Made) (n : ℕ) (content : List ℕ) → 0 < source_pads m.settings → is_source m.settings ≡ false
     → tight_rule (Some m) n content ≡ single (response_of m.settings)
 other_rule m n content some other = rw (some_pad (source_pads m.settings) some, other) refl
 

@@ -6,7 +6,7 @@ use Rattle.std.proofs.lemmas.Bool.Decides.{eqb_tells}
 use Rattle.flow_model.specs.Eval.{Plan}
 use Rattle.net_model.specs.Whole.{OwesInOrder}
 use Rattle.net_model.proofs.Wholes.{begins_of}
-use Rattle.el_settings.specs.Asked.{source_pads}
+use Rattle.el_settings.specs.Asked.{is_sink, source_pads}
 use Rattle.graph_core.specs.Elements.{Made, has}
 use Rattle.graph_core.specs.Graph.{made as made_in}
 use Rattle.graph_core.specs.Allowed.{first_pad}
@@ -30,9 +30,9 @@ pub has_pads : (found : Option Made) → option_map_or (λ (m : Made). gives m.s
 has_pads None h = absurd (cc)
 has_pads (Some m) h = go (eqb_tells (source_pads m.settings) 0) h
   where
-    go : ((eqb (source_pads m.settings) 0 ≡ true) × (source_pads m.settings ≡ 0))
-        ⊎ ((eqb (source_pads m.settings) 0 ≡ false) × (source_pads m.settings ≡ 0 → ⊥))
-        → not (eqb (source_pads m.settings) 0) ≡ true → 0 < source_pads m.settings
+    go : ((is_sink m.settings ≡ true) × (source_pads m.settings ≡ 0))
+        ⊎ ((is_sink m.settings ≡ false) × (source_pads m.settings ≡ 0 → ⊥))
+        → not (is_sink m.settings) ≡ true → 0 < source_pads m.settings
     go (inl t) h = absurd (no (rw t.0 at h))
       where
         no : false ≡ true → ⊥

@@ -2,7 +2,7 @@
 use Rattle.std.proofs.Common.{◌≡◌, ◌||◌, ℕ, Bool, true, false, eqb, List, [], ◌∷◌, Option, Some, None, refl, sym, ap, ◌∙◌, subst}
 use Rattle.std.specs.Option.{option_map}
 use Rattle.std.proofs.lemmas.Option.{none-some, same_Some}
-use Rattle.el_settings.specs.Asked.{is_filter, is_queue, location_of, reads, sink_pads, source_pads, writes}
+use Rattle.el_settings.specs.Asked.{is_filter, is_queue, is_source, location_of, reads, sink_pads, source_pads, writes}
 use Rattle.el_set.specs.Made.{IsEmpty, file_for, read_for}
 use Rattle.el_settings.specs.Roles.{Role, any_filter, any_queue, drop_sink, file_sink, file_source, made_source}
 use Rattle.el_settings.specs.declared.settings.Settings.{Settings}
@@ -33,7 +33,7 @@ given_with g settings file e (Some source) is =
 -- an element that writes a location has no source pad, and a sink pad
 pub record IsWriter (settings : Settings) (location : List ℕ) : Type 0 where
   pub place : location_of settings ≡ Some location
-  pub no_source : eqb (sink_pads settings) 0 ≡ false
+  pub no_source : is_source settings ≡ false
   pub no_pad : source_pads settings ≡ 0
   pub writing : writes settings ≡ true
   pub no_reading : reads settings ≡ false
@@ -41,7 +41,7 @@ pub record IsWriter (settings : Settings) (location : List ℕ) : Type 0 where
 -- one that reads a location is a source
 pub record IsReader (settings : Settings) (location : List ℕ) : Type 0 where
   pub place : location_of settings ≡ Some location
-  pub source : eqb (sink_pads settings) 0 ≡ true
+  pub source : is_source settings ≡ true
   pub reading : reads settings ≡ true
   pub no_writing : writes settings ≡ false
 
@@ -128,6 +128,6 @@ reading_opens s is = by (role_of s)
 pub no_place : (s : Settings) → opening_of s ≡ None → location_of s ≡ None
 no_place s none = by (location_of s) none
   where
-    by : (o : Option (List ℕ)) → option_map (opened_by (eqb (sink_pads s) 0)) o ≡ None → o ≡ None
+    by : (o : Option (List ℕ)) → option_map (opened_by (is_source s)) o ≡ None → o ≡ None
     by None is = refl
     by (Some location) is = absurd (cc)

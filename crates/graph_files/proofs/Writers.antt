@@ -5,7 +5,7 @@ use Rattle.std.specs.List.{list_any}
 use Rattle.std.proofs.lemmas.Option.{none-some, same_Some, slice_get_within}
 use Rattle.std.proofs.lemmas.Slice.Eq.{bytes_eq-Decides}
 use Rattle.launch_text.specs.declared.tree.Tree.{Tree}
-use Rattle.el_settings.specs.Asked.{location_of, source_pads}
+use Rattle.el_settings.specs.Asked.{is_sink, location_of, source_pads}
 use Rattle.el_settings.specs.declared.settings.Settings.{Settings}
 use Rattle.gst_caps.specs.declared.caps.Caps.TheVariants.{Any}
 use Rattle.graph_core.proofs.Allowing.{checked_at, clash_checked}
@@ -50,9 +50,9 @@ clash_at one other location first second which = rw (first, second, (bytes_eq-De
     or_true true = refl
     or_true false = refl
 
-    by : (source_pads one ≡ 0) ⊎ (source_pads other ≡ 0) → (source_pads one == 0 || source_pads other == 0) ≡ true
+    by : (source_pads one ≡ 0) ⊎ (source_pads other ≡ 0) → (is_sink one || is_sink other) ≡ true
     by (inl none) = rw none refl
-    by (inr none) = rw none (or_true (source_pads one == 0))
+    by (inr none) = rw none (or_true (is_sink one))
 
 -- no element clashes with one that stands behind it
 Apart : List Made → Type 0

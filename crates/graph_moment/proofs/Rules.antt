@@ -14,7 +14,7 @@ use Rattle.net_model.specs.Opening.{IsUntouched, free, from_start, AllUntouched}
 use Rattle.net_model.specs.Whole.{OwesInOrder}
 use Rattle.net_model.proofs.Singles.{single_in_order}
 use Rattle.net_model.proofs.Openings.{opening_stands}
-use Rattle.el_settings.specs.Asked.{sink_pads, source_pads}
+use Rattle.el_settings.specs.Asked.{is_sink, is_source}
 use Rattle.el_set.specs.Denoted.{response_of}
 use Rattle.el_set.specs.Made.{list_of}
 use Rattle.el_set.proofs.EachEnding.{response_ending}
@@ -58,7 +58,7 @@ data IsOneOf (rule : Rule) : Type 0 where
 
 one_of : (found : Option Made) (e : ℕ) (content : List ℕ) → IsOneOf (tight_rule found e content)
 one_of None e content = by_none refl
-one_of (Some m) e content = go (eqb (source_pads m.settings) 0) (eqb (sink_pads m.settings) 0)
+one_of (Some m) e content = go (is_sink m.settings) (is_source m.settings)
   where
     go : (b d : Bool) → IsOneOf (if b then owes_nothing else (if d then (λ inputs port. first_section (list_of m.settings e content)) else single (response_of m.settings)))
     go true d = by_none refl
@@ -80,7 +80,7 @@ rules_go_on contents graph e took = go_on ((moment_plan contents graph).rule e) 
 -- before it took anything an element owes what it gives by itself
 owes_first : (found : Option Made) (e : ℕ) (content : List ℕ) (sss : List (List Span)) (port : ℕ) → tight_rule found e content (map (λ spans. []) sss) port 0 ≡ given_by found e content
 owes_first None e content sss port = refl
-owes_first (Some m) e content sss port = go (eqb (source_pads m.settings) 0) (eqb (sink_pads m.settings) 0) (end_no_source m.settings) sss
+owes_first (Some m) e content sss port = go (is_sink m.settings) (is_source m.settings) (end_no_source m.settings) sss
   where
     go : (b d : Bool) → (b ≡ true → d ≡ false) → (sss : List (List Span))
         → (if b then owes_nothing else (if d then (λ inputs port. first_section (list_of m.settings e content)) else single (response_of m.settings))) (map (λ spans. []) sss) port 0

@@ -7,7 +7,7 @@ use Rattle.std.proofs.lemmas.Bool.Decides.{eqb_tells}
 use Rattle.std.proofs.lemmas.Bool.{lt-ltb, ltb-true}
 use Rattle.std.proofs.lemmas.Nat.{mod-mul-add}
 use Rattle.flow_model.specs.Account.{EachSource, EachSourceOf, GoesForward, IsMember}
-use Rattle.el_settings.specs.Asked.{source_pads, sink_pads}
+use Rattle.el_settings.specs.Asked.{is_sink, sink_pads, source_pads}
 use Rattle.el_settings.proofs.Roles.{one_source}
 use Rattle.task_elements.specs.Stands.{owes_nothing}
 use Rattle.graph_core.specs.Elements.{Made}
@@ -82,8 +82,8 @@ rule_at : (found : Option Made) (e : ℕ) (content : List ℕ) (pad : ℕ) → n
 rule_at None e content pad less = absurd (let none = ltb-true pad 0 less in omega (arith, none))
 rule_at (Some m) e content pad less = go (eqb_tells (source_pads m.settings) 0)
   where
-    go : ((eqb (source_pads m.settings) 0 ≡ true) × (source_pads m.settings ≡ 0)) ⊎ ((eqb (source_pads m.settings) 0 ≡ false) × (source_pads m.settings ≡ 0 → ⊥))
-        → (if eqb (source_pads m.settings) 0 then owes_nothing else rule_for (Some m) e content) ≡ rule_for (Some m) e content
+    go : ((is_sink m.settings ≡ true) × (source_pads m.settings ≡ 0)) ⊎ ((is_sink m.settings ≡ false) × (source_pads m.settings ≡ 0 → ⊥))
+        → (if is_sink m.settings then owes_nothing else rule_for (Some m) e content) ≡ rule_for (Some m) e content
     go (inl t) = absurd (let within = ltb-true pad (source_pads m.settings) less in omega (arith, within, t.1))
     go (inr t) = rw t.0 refl
 

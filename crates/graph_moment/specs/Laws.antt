@@ -12,7 +12,7 @@ use Rattle.net_model.specs.Split.{AreEmpty}
 use Rattle.net_model.specs.Step.{Leads, LeadsNowhere}
 use Rattle.net_model.specs.Opening.{AtStart, opening}
 use Rattle.net_model.specs.Whole.{OwesInOrder, CellBegins}
-use Rattle.el_settings.specs.Asked.{sink_pads}
+use Rattle.el_settings.specs.Asked.{is_source}
 use Rattle.el_set.specs.Made.{list_of}
 use Rattle.task_elements.specs.Made.{behavior_of}
 use Rattle.graph_core.specs.Elements.{Made}
@@ -64,7 +64,7 @@ MomentStands = (contents : ℕ → List ℕ) (graph : Graph) (e : ℕ) → CellS
 
 -- There an element that has sink pads does what its settings say.
 abbrev pub BehaviorsAreTold : Type 0
-BehaviorsAreTold = (contents : ℕ → List ℕ) (graph : Graph) (e : ℕ) (m : Made) → slice_get (made_in graph) e ≡ Some m → (sink_pads m.settings == 0) ≡ false
+BehaviorsAreTold = (contents : ℕ → List ℕ) (graph : Graph) (e : ℕ) (m : Made) → slice_get (made_in graph) e ≡ Some m → (is_source m.settings) ≡ false
     → behavior_of m.settings ≡ behavior_at (opening (moment_plan contents graph) (moment_answers graph)) e
 
 -- each link comes from an element that stands earlier in the order
@@ -97,7 +97,7 @@ RulesGoOn = (contents : ℕ → List ℕ) (graph : Graph) (e : ℕ) (took : List
 -- what an element gives by itself before any seek: a source its list, by the content of its file, and each other nothing
 abbrev pub given_by : Option Made → ℕ → List ℕ → List Item
 given_by None e content = []
-given_by (Some m) e content = if sink_pads m.settings == 0 then list_of m.settings e content else []
+given_by (Some m) e content = if is_source m.settings then list_of m.settings e content else []
 
 -- At the start what a source is to give waits at its pad, and at each other pad nothing.
 abbrev pub SourcesWait : Type 0

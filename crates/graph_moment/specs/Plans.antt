@@ -3,7 +3,7 @@ use Rattle.std.specs.Prelude.{◌==◌, ℕ, List, Option, None, Some, if◌then
 use Rattle.flow_model.specs.Rule.{Rule, passes}
 use Rattle.flow_model.specs.Eval.{Plan}
 use Rattle.net_model.specs.Moment.{Answers}
-use Rattle.el_settings.specs.Asked.{source_pads}
+use Rattle.el_settings.specs.Asked.{is_sink}
 use Rattle.el_set.specs.Denoted.{response_of}
 use Rattle.task_elements.specs.Stands.{owes_nothing, answers_by}
 use Rattle.graph_core.specs.Elements.{Made}
@@ -15,7 +15,7 @@ use Rattle.graph_moment.specs.Pads.{pad_owner}
 -- What an element owes at its source pads, by its settings. One that has none owes nothing.
 abbrev pub tight_rule : Option Made → ℕ → List ℕ → Rule
 tight_rule None e content = owes_nothing
-tight_rule (Some m) e content = if source_pads m.settings == 0 then owes_nothing else rule_for (Some m) e content
+tight_rule (Some m) e content = if is_sink m.settings then owes_nothing else rule_for (Some m) e content
 
 -- The plan of the graph, except that a number without a source pad belongs to no element, and that an element without
 -- source pads owes nothing.

@@ -7,7 +7,8 @@ use Rattle.graph_core.specs.Elements.{Made}
 use Rattle.graph_core.specs.Links.{HasPads}
 use Rattle.graph_core.specs.declared.pad.PadLink.{PadLink}
 use Rattle.graph_core.specs.LinkedOnce.{AreOnce}
-use Rattle.graph_bags.specs.Links.{has, is_source, Reaches}
+use Rattle.graph_bags.specs.Links.{has, Reaches}
+use Rattle.el_settings.specs.Asked.{is_source}
 use Rattle.graph_bags.specs.Bags.{number_of, head_cells, cells, numbers, head_number, head_of, IsHead, IsBag}
 use Rattle.graph_bags.specs.declared.bag.Bag.{Bag}
 use Rattle.graph_bags.specs.declared.bag.BagElement.{BagElement}

@@ -4,7 +4,7 @@ use Rattle.std.specs.Prelude.{slice_get}
 use Rattle.std.specs.Option.{option_map_or}
 use Rattle.std.proofs.lemmas.Bool.Decides.{eqb_tells}
 use Rattle.std.proofs.lemmas.Option.{slice_get_within}
-use Rattle.el_settings.specs.Asked.{sink_pads}
+use Rattle.el_settings.specs.Asked.{is_source, sink_pads}
 use Rattle.el_set.specs.Made.{list_of}
 use Rattle.el_settings.proofs.Roles.{queue_sinks}
 use Rattle.graph_core.specs.Elements.{Made}
@@ -15,7 +15,7 @@ use Rattle.graph_core.specs.declared.pad.PadLink.{PadLink}
 use Rattle.graph_core.specs.declared.pad.PadPlace.{PadPlace}
 use Rattle.graph_core.proofs.Ranks.{after, after_falls}
 use Rattle.graph_core.specs.LinkedOnce.{AreOnce}
-use Rattle.graph_bags.specs.Links.{has, has_inlets, is_source, is_head, place_at, Reaches}
+use Rattle.graph_bags.specs.Links.{has, has_inlets, is_head, place_at, Reaches}
 use Rattle.graph_bags.proofs.Trees.{sink_there}
 use Rattle.graph_moment.specs.Laws.{given_by}
 use Rattle.graph_tasks.specs.Tasks.{sink_count}
@@ -39,7 +39,7 @@ module _ (made : List Made) (e : ℕ) where
       go None w = refl
       go (Some m) w = by (eqb_tells (sink_pads m.settings) 0)
         where
-          by : ((eqb (sink_pads m.settings) 0 ≡ true) × (sink_pads m.settings ≡ 0)) ⊎ ((eqb (sink_pads m.settings) 0 ≡ false) × (sink_pads m.settings ≡ 0 → ⊥)) → eqb (sink_pads m.settings) 0 ≡ false
+          by : ((is_source m.settings ≡ true) × (sink_pads m.settings ≡ 0)) ⊎ ((is_source m.settings ≡ false) × (sink_pads m.settings ≡ 0 → ⊥)) → is_source m.settings ≡ false
           by (inl t) = absurd (omega (arith, w, t.1))
           by (inr f) = f.0
 

@@ -10,7 +10,8 @@ use Rattle.graph_core.specs.Links.{sink_behind, source_before}
 use Rattle.graph_core.specs.declared.pad.PadLink.{PadLink}
 use Rattle.graph_core.specs.declared.pad.PadPlace.{PadPlace}
 use Rattle.graph_bags.specs.Bags.{HavePads, IsBag, IsHead, Once, cells, head_number, head_of, number_of, numbers}
-use Rattle.graph_bags.specs.Links.{has, has_inlets, is_head, is_source, link_to, pad_at, place_at, source_count}
+use Rattle.graph_bags.specs.Links.{has, has_inlets, is_head, link_to, pad_at, place_at, source_count}
+use Rattle.el_settings.specs.Asked.{is_source}
 use Rattle.graph_bags.specs.declared.bag.Bag.{Bag}
 use Rattle.graph_bags.specs.declared.bag.BagElement.{BagElement}
 use Rattle.graph_bags.specs.declared.bag.BagHead.{BagHead}

@@ -5,12 +5,11 @@ use Rattle.std.specs.Option.{ForSome, option_map}
 use Rattle.std.proofs.lemmas.Option.{none-some, same_Some}
 use Rattle.el_set.specs.Gives.{source_items}
 use Rattle.el_set.specs.Made.{IsEmpty, file_for}
-use Rattle.el_settings.specs.Asked.{source_pads}
+use Rattle.el_settings.specs.Asked.{source_pads, is_source}
 use Rattle.net_model.specs.declared.element.TaskElement as elements
 use Rattle.net_model.specs.declared.source.TaskSource as givers
 use Rattle.flow_model.specs.Call.{Call}
 use Rattle.flow_model.specs.Item.{Item}
-use Rattle.graph_bags.specs.Links.{is_source}
 use Rattle.graph_core.specs.Elements.{Made}
 use Rattle.graph_files.specs.Ends.{at, sink_end, source_end}
 use Rattle.graph_files.specs.Files.{GraphOpens, WereTold, made_opening, opening_of}

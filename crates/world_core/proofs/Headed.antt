@@ -7,7 +7,8 @@ use Rattle.net_model.specs.declared.element.TaskElement as elements
 use Rattle.net_model.specs.declared.source.TaskSource as givers
 use Rattle.flow_model.specs.Account.{IsMember}
 use Rattle.graph_bags.specs.Bags.{AreBags, IsBag, IsHead, Once, head_number}
-use Rattle.graph_bags.specs.Links.{has, has_inlets, is_head, is_source}
+use Rattle.graph_bags.specs.Links.{has, has_inlets, is_head}
+use Rattle.el_settings.specs.Asked.{is_source}
 use Rattle.graph_bags.specs.declared.bag.Bag.{Bag}
 use Rattle.graph_bags.specs.declared.bag.BagElement.{BagElement}
 use Rattle.graph_bags.specs.declared.bag.BagHead.{BagHead}

@@ -6,7 +6,7 @@ use Rattle.std.proofs.lemmas.List.{length-map}
 use Rattle.std.proofs.lemmas.Option.{same_Some}
 use Rattle.el_set.specs.Gives.{source_file}
 use Rattle.el_set.specs.Made.{file_for, read_for}
-use Rattle.graph_bags.specs.Links.{is_source}
+use Rattle.el_settings.specs.Asked.{is_source}
 use Rattle.graph_core.specs.Elements.{Made}
 use Rattle.graph_files.specs.Ends.{at, sink_end, source_end}
 use Rattle.graph_files.specs.Files.{GraphOpens, made_opening, opening_of}

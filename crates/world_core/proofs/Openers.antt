@@ -1,7 +1,7 @@
 -- What is made of an element, what it reads and what it writes, by what it opens.
 use Rattle.std.proofs.Common.{◌≡◌, ◌||◌, not, ℕ, Bool, true, false, eqb, if◌then◌else◌, List, [], Option, Some, None, is_some, refl, sym, ap, ◌∙◌, subst}
 use Rattle.std.proofs.lemmas.Option.{none-some, same_Some}
-use Rattle.el_settings.specs.Asked.{is_filter, is_queue, location_of, reads, source_pads, writes}
+use Rattle.el_settings.specs.Asked.{is_filter, is_queue, is_sink, is_source, location_of, reads, writes}
 use Rattle.el_set.specs.Gives.{source_content, source_file}
 use Rattle.el_set.specs.Made.{IsEmpty, file_for, list_of, makes_sink, makes_source, read_for}
 use Rattle.el_settings.specs.declared.settings.Settings.{Settings}
@@ -10,7 +10,6 @@ use Rattle.el_set.specs.declared.source.SourceElement.TheVariants.{File, Ramp}
 use Rattle.el_set.proofs.Lists.{list_read}
 use Rattle.el_set.proofs.Openings.{content_is, read_is, sink_with, source_with, written_is}
 use Rattle.el_settings.proofs.Roles.{between_pads}
-use Rattle.graph_bags.specs.Links.{is_source}
 use Rattle.graph_files.specs.Files.{opening_of}
 use Rattle.graph_files.proofs.OwnFiles.{reading_opens, writing_opens}
 use Rattle.run_files.specs.declared.end.Opening.TheVariants.{Read, Write}
@@ -19,7 +18,7 @@ use Rattle.task_elements.specs.Made.{makes_element}
 -- an element with a sink pad is made, one that writes a file where that is there
 pub makes : {K : Type 0} (settings : Settings) (file : Option K) → is_source settings ≡ false
     → ((location : List ℕ) → opening_of settings ≡ Some (Write location) → is_some file ≡ true) → makes_element settings file ≡ true
-makes settings file pads there = by (eqb (source_pads settings) 0) refl
+makes settings file pads there = by (is_sink settings) refl
   where
     first : (filter queue sink : Bool) → (filter || queue) ≡ true → (filter || (queue || sink)) ≡ true
     first true queue sink is = refl
@@ -34,7 +33,7 @@ makes settings file pads there = by (eqb (source_pads settings) 0) refl
     own : writes settings ≡ true → is_some file ≡ true
     own writing = let opens = writing_opens settings writing in there opens.0 opens.1
 
-    by : (none : Bool) → eqb (source_pads settings) 0 ≡ none → makes_element settings file ≡ true
+    by : (none : Bool) → is_sink settings ≡ none → makes_element settings file ≡ true
     by true none = last (is_filter settings) (is_queue settings) (makes_sink settings file) (sink_with settings file none own)
     by false some = first (is_filter settings) (is_queue settings) (makes_sink settings file) (between_pads settings pads ∙ ap not some)
 

@@ -3,14 +3,14 @@ use Rattle.std.proofs.Common.{◌≡◌, ℕ, Bool, true, false, List, [], ◌�
 use Rattle.std.specs.Prelude.{slice_get}
 use Rattle.std.specs.Option.{option_map_or}
 use Rattle.std.proofs.lemmas.Option.{slice_get_within}
-use Rattle.el_settings.specs.Asked.{sink_pads}
+use Rattle.el_settings.specs.Asked.{sink_pads, is_source}
 use Rattle.el_set.specs.Made.{list_of}
 use Rattle.net_model.specs.declared.element.TaskElement as elements
 use Rattle.net_model.specs.declared.source.TaskSource as givers
 use Rattle.flow_model.specs.Call.{Call}
 use Rattle.flow_model.specs.Item.{Item}
 use Rattle.flow_model.specs.Link.{Span}
-use Rattle.graph_bags.specs.Links.{has, is_source}
+use Rattle.graph_bags.specs.Links.{has}
 use Rattle.graph_core.specs.Elements.{Made}
 use Rattle.graph_core.specs.Graph.{made as made_in}
 use Rattle.graph_core.specs.declared.graph.Graph.{Graph}
