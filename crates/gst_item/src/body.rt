@@ -272,3 +272,14 @@ impl SharedBytes {
         Ok(OwnedBytes { bytes })
     }
 }
+
+#[cfg(test)]
+impl Body {
+    /// Whether no other body holds these bytes.
+    pub(crate) fn holds_alone(&self) -> bool {
+        match &self.held {
+            Held::Owned(_) => true,
+            Held::Shared(shared) => shared.bytes.is_unique(),
+        }
+    }
+}

@@ -12,3 +12,6 @@ pub use flow::Flow;
 pub use item::{Buffer, Event, Item};
 pub use out::{Out, Outs};
 pub use sticky::Sticky;
+
+#[cfg(test)]
+mod tests;

@@ -6,7 +6,6 @@ use gst_item::*;
 use gst_time::{Format, Segment};
 use gst_value::{Fixed, Text};
 use std::alloc::Global;
-use std::ptr;
 use std::test::Fail;
 
 fn body_of(alloc: Global, bytes: &[u8]) -> Result<Body, Fail> {
@@ -85,27 +84,6 @@ fn a_change_reaches_no_other_holder(rt: HostRuntime) -> Result<(), Fail> {
     assert_eq!(rt; first.as_slice(), [1, 8, 3, 4].as_slice());
     assert_eq!(rt; second.as_slice(), [9, 2, 3, 4].as_slice());
     assert_eq!(rt; part.as_slice(), [2, 3].as_slice());
-    Ok(())
-}
-
-/// Whether two slices begin at one place of memory.
-fn is_at(one: &[u8], other: &[u8]) -> bool {
-    ptr::eq(one.as_ptr(), other.as_ptr())
-}
-
-#[test]
-fn holders_share_their_memory(rt: HostRuntime) -> Result<(), Fail> {
-    let alloc = rt.alloc();
-    let first = body_of(alloc, b"abc")?;
-    let second = first.share(alloc)?;
-    assert!(rt; is_at(second.as_slice(), first.as_slice()));
-    let third = body_of(alloc, b"abc")?;
-    assert!(rt; !is_at(third.as_slice(), first.as_slice()));
-    let Some(behind_one) = third.as_slice().get(1..) else {
-        return Err("three bytes")?;
-    };
-    let part = third.slice(alloc, 1, 2)?;
-    assert!(rt; is_at(part.as_slice(), behind_one));
     Ok(())
 }
 
