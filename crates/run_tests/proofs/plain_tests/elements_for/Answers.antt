@@ -6,7 +6,7 @@ use Rattle.graph_core.specs.Elements.{Made}
 use Rattle.graph_core.specs.Graph.{made as made_in}
 use Rattle.graph_bags.specs.Links.{source_count}
 use Rattle.graph_lanes.proofs.Slots.{size_more}
-use Rattle.graph_tasks.specs.declared.plain.Plain.{Plain}
+use Rattle.run_tests.specs.declared.plain_tests.Plain.{Plain}
 use Rattle.graph_tasks.proofs.Under.{one_more}
 use Rattle.run_tests.proofs.plain_tests.elements_for.Goals as goal
 

@@ -2,7 +2,7 @@ use Rattle.std.proofs.Common.{ap, length, refl, arith}
 use Rattle.std.proofs.lemmas.Option.{slice_get_within}
 use Rattle.graph_core.specs.Graph.{made as made_in}
 use Rattle.graph_lanes.proofs.Slots.{size_more}
-use Rattle.graph_tasks.specs.declared.plain.PlainSource.{PlainSource}
+use Rattle.run_tests.specs.declared.plain_tests.PlainSource.{PlainSource}
 use Rattle.graph_tasks.proofs.Under.{one_more}
 use Rattle.run_tests.proofs.plain_tests.sources_for.Goals as goal
 

@@ -1,5 +1,5 @@
 use Rattle.std.proofs.Common.{◌≡◌, length}
-use Rattle.graph_tasks.specs.declared.plain.PlainSource.{PlainSource}
+use Rattle.run_tests.specs.declared.plain_tests.PlainSource.{PlainSource}
 use Rattle.graph_tasks.proofs.Under.{StandBelow}
 use Rattle.run_tests.proofs.plain_tests.sources_for.Given as goal
 
