@@ -22,3 +22,6 @@ pub use fault::{BuildFault, What};
 pub use graph::Graph;
 pub use laws::{one_answer, pads_are_linked_once};
 pub use pad::{PadLink, PadPlace};
+
+#[cfg(test)]
+mod tests;

@@ -15,3 +15,6 @@ pub use back::take_back;
 pub use blanks::{Blanks, Filled};
 pub use counts::{Count, count_pads};
 pub use openings::openings_of;
+
+#[cfg(test)]
+mod tests;

@@ -13,3 +13,8 @@ pub mod wiring;
 pub use making::Plan;
 pub use wired_task::{WiredHead, WiredPart, WiredTask, WiredTasks};
 pub use wiring::wire;
+
+#[cfg(test)]
+mod plain;
+#[cfg(test)]
+mod tests;

@@ -8,3 +8,6 @@ mod run;
 
 pub use ended::WorldEnd;
 pub use run::run_turns;
+
+#[cfg(test)]
+mod tests;

@@ -6,7 +6,7 @@ use Rattle.graph_tasks.specs.contracts.plain.PlainTaskElement.TheImpl as element
 use Rattle.graph_tasks.specs.contracts.plain.PlainSourceTaskSource.TheImpl as sources
 use Rattle.graph_tasks.specs.Plan.{AreThere}
 use Rattle.graph_tasks.proofs.Hands.{elements_are_there}
-use Rattle.run_tests.proofs.graph_tasks_tests.left_of.Goals as goal
+use Rattle.graph_tasks.proofs.tests.left_of.Goals as goal
 
 pub into_tasks-tasks-requires-clause-there : goal.into_tasks-tasks-requires-clause-there
 into_tasks-tasks-requires-clause-there c κs =

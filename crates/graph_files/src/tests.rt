@@ -2,10 +2,10 @@
 ghost use Rattle.std.specs.Prelude.{◌≡◌};
 ghost use Rattle.el_set.specs.Gives.{source_items};
 
+use super::*;
 use el_set::{SinkElement, SourceElement, sink_of, source_of};
 use el_settings::{FileSinkSettings, FileSrcSettings, Settings};
 use graph_core::{Graph, build};
-use graph_files::*;
 use gst_outside::{MemSink, MemSource, Sink, Source};
 use gst_value::{List, Text};
 use lane_core::{Inlet, MemInlet, MemOutlet, Outlet};

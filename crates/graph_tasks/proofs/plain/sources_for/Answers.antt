@@ -2,9 +2,9 @@ use Rattle.std.proofs.Common.{ap, length, refl, arith}
 use Rattle.std.proofs.lemmas.Option.{slice_get_within}
 use Rattle.graph_core.specs.Graph.{made as made_in}
 use Rattle.graph_lanes.proofs.Slots.{size_more}
-use Rattle.run_tests.specs.declared.plain_tests.PlainSource.{PlainSource}
+use Rattle.graph_tasks.specs.declared.plain.PlainSource.{PlainSource}
 use Rattle.graph_tasks.proofs.Under.{one_more}
-use Rattle.run_tests.proofs.plain_tests.sources_for.Goals as goal
+use Rattle.graph_tasks.proofs.plain.sources_for.Goals as goal
 
 pub loop-init : goal.loop-init
 loop-init c = record { size = ap length c.new-all.ensures.items; each = λ n below. absurd (omega (arith, below)) }
