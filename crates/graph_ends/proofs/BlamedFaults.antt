@@ -114,14 +114,14 @@ module _ {S K I O L : Type 0} (k : sinks.Ghosts K) {s : sources.Ghosts S} {e : e
         absurd (not_both (sym (fed_has place before here after.head n (ap (λ (f : TaskFrame). f.head) framed) of) ∙ none))
 
     refused : (n pad : ℕ) (x : Item) (refusal : Refusal) (origin : Origin) → Left i o m origin after.head after.parts.items n pad x
-        → Refuses e m n pad x refusal
+        → Refuses m before.parts.items after.parts.items n pad x refusal
         → IsBlamed contents graph m (refusal_fault n refusal)
     refused n pad x refusal origin left why = go (has has_inlets (made_in graph) n) refl
       where
         go : (b : Bool) → has has_inlets (made_in graph) n ≡ b → IsBlamed contents graph m (refusal_fault n refusal)
         go true inlets_there =
             subst (λ (r : Refusal). IsBlamed contents graph m (refusal_fault n r))
-            (sym (queue_refuses k e streams m n pad x refusal (queue_passes contents graph m at.plan at.answers n inlets_there) why))
+            (sym (queue_refuses k e streams m before.parts.items after.parts.items n pad x refusal (queue_passes contents graph m at.plan at.answers n inlets_there) why))
             IsBlamed.no_memory
         go false none = refused_at n pad x refusal origin left.behind left.lost none left.gave_up left.of_head why.why
 
@@ -136,15 +136,16 @@ module _ {S K I O L : Type 0} (k : sinks.Ghosts K) {s : sources.Ghosts S} {e : e
     unread_short n why (Source old) (Inlets new) is unread_at short = absurd unread_at
     unread_short n why (Inlets old) head' is unread_at short = absurd unread_at
 
-    pub blamed : (origin : Origin) (fault : TaskFault) → FailsAs i o m before.head after.head after.parts.items origin fault → IsBlamed contents graph m fault
-    blamed origin fault (FailsAs.refused own n pad x refusal left why) = refused n pad x refusal origin left why
-    blamed origin fault (FailsAs.unread n why tied is short) = IsBlamed.unread n why (unread_short n why before.head after.head refl is short)
-    blamed origin fault (FailsAs.not_linked p x rest tied waits buffer nowhere) =
+    pub blamed : (over : Option (List Lane)) (origin : Origin) (fault : TaskFault)
+        → FailsAs i o tells over m before.head after.head before.parts.items after.parts.items origin fault → IsBlamed contents graph m fault
+    blamed over origin fault (FailsAs.refused own n pad x refusal left for why) = refused n pad x refusal origin left why
+    blamed over origin fault (FailsAs.unread n why tied is short) = IsBlamed.unread n why (unread_short n why before.head after.head refl is short)
+    blamed over origin fault (FailsAs.not_linked p x rest tied waits buffer nowhere) =
         let pad = waits_at_pad contents graph m at.sound at.plan at.net.cells p x rest waits in
         subst (λ (q : ℕ). IsBlamed contents graph m (NotLinked q (length (m.history p)))) (sym (is_first (made_in graph) p pad).first)
         (IsBlamed.not_linked (owner_of p) (length (m.history p)) (ap length (went_is graph m at.sound p pad))
         (unlinked contents graph m at.sound at.once at.plan at.net.cells p x rest waits buffer (nowhere p refl)))
-    blamed origin fault (FailsAs.at_limit p x rest tied waits limit) =
+    blamed over origin fault (FailsAs.at_limit p x rest tied waits limit) =
         let pad = waits_at_pad contents graph m at.sound at.plan at.net.cells p x rest waits in
         let few = limited m tasks tells at.net p x rest waits in
         let went = went_is graph m at.sound p pad in
@@ -152,9 +153,9 @@ module _ {S K I O L : Type 0} (k : sinks.Ghosts K) {s : sources.Ghosts S} {e : e
         subst (λ (n : ℕ). IsBlamed contents graph m (TooLong n 1099511627776 1)) (sym owner)
         (IsBlamed.full (owner_of p) (let same = ap length went in omega (arith, same, few, limit))
         (x, next_at contents graph m at.sound at.plan at.net.cells p x rest waits))
-    blamed origin fault (FailsAs.no_memory own tied) = IsBlamed.no_memory
+    blamed over origin fault (FailsAs.no_memory own tied) = IsBlamed.no_memory
 
 pub faults_are_blamed : {S K I O L : Type 0} (k : sinks.Ghosts K) (s : sources.Ghosts S) (e : elements.Ghosts (StreamElement K)) (i : inlets.Ghosts I L O)
     (o : outlets.Ghosts O L) → FaultsAreBlamed k s e i o
-faults_are_blamed k s e i o streams contents graph bags m tasks tells at place before after fault here framed failed =
-    blamed k streams contents graph bags m tasks tells at place before after here framed failed.origin fault failed.fails
+faults_are_blamed k s e i o streams contents graph bags m tasks tells over at place before after fault here framed failed =
+    blamed k streams contents graph bags m tasks tells at place before after here framed over failed.origin fault failed.fails

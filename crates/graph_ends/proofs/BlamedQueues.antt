@@ -20,6 +20,7 @@ use Rattle.el_settings.specs.Asked.{is_queue, sink_pads}
 use Rattle.el_settings.specs.declared.settings.Settings.{Settings}
 use Rattle.el_settings.proofs.Roles.{queue_no_filter, queue_sinks}
 use Rattle.el_set.proofs.Roles.{queue_passes as answers_passing}
+use Rattle.task_parts.specs.declared.part.Part.{Part}
 use Rattle.task_elements.specs.Made.{behavior_of}
 use Rattle.task_elements.specs.Stands.{StreamStands, behaves, faults_in, takes_all}
 use Rattle.task_elements.specs.declared.element.StreamElement.{StreamElement}
@@ -94,19 +95,20 @@ module _ {K : Type 0} (k : sinks.Ghosts K) (e : elements.Ghosts (StreamElement K
   writes_none (roles.Queue queue) took stands = refl
   writes_none (roles.Sink sink) took stands = absurd (no_sink (sym stands.behavior_is))
 
-  pub queue_refuses : (m : Moment) (n pad : ℕ) (x : Item) (refusal : Refusal) → behavior_at m n ≡ behaves passes → Refuses e m n pad x refusal
+  pub queue_refuses : {O : Type 0} (m : Moment) (parts parts' : List (Part (StreamElement K) O e)) (n pad : ℕ) (x : Item) (refusal : Refusal) → behavior_at m n ≡ behaves passes
+      → Refuses m parts parts' n pad x refusal
       → refusal ≡ refusals.Fault faults.OutOfMemory
-  queue_refuses m n pad x refusal queue r = go refusal r.why r.cause
+  queue_refuses m parts parts' n pad x refusal queue r = go refusal r.why r.by.cause
     where
-      none : e.failures r.was ≡ None
-      none = streams.failures r.was
-          ∙ writes_none r.was (m.took n) (subst (λ (b : Behavior). StreamStands k.bytes r.was b (m.took n)) queue
-          (streams.stands r.was (behavior_at m n) (m.took n) r.stood))
+      none : e.failures r.by.was.element ≡ None
+      none = streams.failures r.by.was.element
+          ∙ writes_none r.by.was.element (m.took n) (subst (λ (b : Behavior). StreamStands k.bytes r.by.was.element b (m.took n)) queue
+          (streams.stands r.by.was.element (behavior_at m n) (m.took n) r.stood))
 
       none_some : {A : Type 0} {a : A} {o : Option A} → o ≡ None → o ≡ Some a → ⊥
       none_some one other = cc
 
-      go : (why : Refusal) → RefusesBy (behavior_at m n) (m.took n) pad x why → IsWriteCause (e.failures r.was) (e.failures r.is) why
+      go : (why : Refusal) → RefusesBy (behavior_at m n) (m.took n) pad x why → IsWriteCause (e.failures r.by.was.element) (e.failures r.by.is.element) why
           → why ≡ refusals.Fault faults.OutOfMemory
       go (refusals.Fault own) is cause =
           ap refusals.Fault (passes_all (only (m.took n)) x own (subst (λ (b : Behavior). IsFaultOf (b.answers (m.took n) pad x) own) queue is))

@@ -38,9 +38,9 @@ module _ {S E I O L : Type 0} {s : sources.Ghosts S} {e : elements.Ghosts E} {i 
   is_source n why (Source old) (Inlets new) is unread_at = absurd unread_at
   is_source n why (Inlets old) head' is unread_at = absurd unread_at
 
-  pub told : (fault : TaskFault) → Causes o (frame_of before) before.head after.head after.parts.items fault
+  pub told : (fault : TaskFault) → Causes o (frame_of before) before.head after.head before.parts.items after.parts.items fault
       → IsTold (made_in graph) (links_in graph) before after fault
-  told fault (by_element j part was refusal at cause) = refused j part was refusal at (is_part j part at) cause
+  told fault (by_element n refusal r) = refused n refusal (subst (λ (k : ℕ). k < length (made_in graph)) r.number (is_part r.place r.is r.is_at)) r
   told fault (by_source n why unread_at) = unread n why (is_source n why before.head after.head refl unread_at) unread_at
   told fault (unlinked wire counted is leads) =
       let w = wire_there (made_in graph) (links_in graph) bags place (frame_of before) sound.pads are b wire is in

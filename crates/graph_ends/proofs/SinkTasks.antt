@@ -177,14 +177,14 @@ module _ {S K I O L : Type 0} (k : sinks.Ghosts K) (s : sources.Ghosts S) (e : e
               part_behind n pad x refusal why (λ is. absurd (not_fed n is (of_head n after.head refl of))) part (tied.parts_tied.each number part there).stood;
         }
 
-    fails_so : (origin : Origin) (fault : TaskFault) → FailsAs i o m before.head after.head after.parts.items origin fault
+    fails_so : (over : Option (List Lane)) (origin : Origin) (fault : TaskFault) → FailsAs i o tells over m before.head after.head before.parts.items after.parts.items origin fault
         → StandsBehind k contents graph m fault after
-    fails_so origin fault (FailsAs.refused at n pad x refusal left refuses) =
+    fails_so over origin fault (FailsAs.refused at n pad x refusal left for refuses) =
         gave_up n pad x refusal refuses.why at left.behind left.lost left.gave_up left.of_head left.tied
-    fails_so origin fault (FailsAs.unread n why tied is short) = all_stand fault after tied
-    fails_so origin fault (FailsAs.not_linked p x rest tied waits buffer nowhere) = all_stand fault after tied
-    fails_so origin fault (FailsAs.at_limit p x rest tied waits many) = all_stand fault after tied
-    fails_so origin fault (FailsAs.no_memory at tied) = all_stand fault after tied
+    fails_so over origin fault (FailsAs.unread n why tied is short) = all_stand fault after tied.0
+    fails_so over origin fault (FailsAs.not_linked p x rest tied waits buffer nowhere) = all_stand fault after tied.0
+    fails_so over origin fault (FailsAs.at_limit p x rest tied waits many) = all_stand fault after tied.0
+    fails_so over origin fault (FailsAs.no_memory at tied) = all_stand fault after tied.0
 
 module _ {S K I O L : Type 0} (k : sinks.Ghosts K) (s : sources.Ghosts S) (e : elements.Ghosts (StreamElement K))
     (i : inlets.Ghosts I L O) (o : outlets.Ghosts O L) where
@@ -192,5 +192,5 @@ module _ {S K I O L : Type 0} (k : sinks.Ghosts K) (s : sources.Ghosts S) (e : e
   tasks_stand_whole streams contents graph bags m tasks tells runs = stands_whole k s e i o streams contents graph bags m tasks tells runs
 
   pub tasks_stand_behind : TasksStandBehind k s e i o
-  tasks_stand_behind streams contents graph bags m tasks tells runs place before after fault at framed failed =
-      fails_so k s e i o streams contents graph bags m tasks tells runs place before after at framed failed.origin fault failed.fails
+  tasks_stand_behind streams contents graph bags m tasks tells over runs place before after fault at framed failed =
+      fails_so k s e i o streams contents graph bags m tasks tells runs place before after at framed over failed.origin fault failed.fails

@@ -7,7 +7,6 @@ use Rattle.lane_core.specs.declared.ends.Inlet as inlets
 use Rattle.lane_core.specs.declared.ends.Outlet as outlets
 use Rattle.net_model.specs.Moment.{Moment}
 use Rattle.net_model.specs.declared.element.TaskElement as elements
-use Rattle.net_model.specs.Failures.{IsWriteCause}
 use Rattle.net_model.specs.declared.refusal.Refusal.{Refusal}
 use Rattle.net_model.specs.declared.refusal.Refusal.TheVariants.{Fault, Unwritten}
 use Rattle.net_model.specs.declared.refusal.Unread.{Unread}
@@ -26,9 +25,8 @@ use Rattle.task_elements.specs.declared.element.StreamElement.{StreamElement}
 use Rattle.task_parts.specs.Fault.{refusal_fault, unread_fault}
 use Rattle.task_parts.specs.declared.fault.TaskFault.{TaskFault}
 use Rattle.task_parts.specs.declared.fault.TaskFault.TheVariants.{NotLinked, OutOfMemory, TooLong}
-use Rattle.task_parts.specs.declared.part.Part.{Part}
 use Rattle.net_task.specs.declared.task.Task.{Task}
-use Rattle.net_task.specs.Failed.{Failed, IsCause, IsUnread}
+use Rattle.net_task.specs.Failed.{Failed, HasRefused, IsCause, IsUnread}
 use Rattle.net_task.specs.Frame.{frame_of}
 use Rattle.graph_ends.specs.Frames.{HaveBags}
 use Rattle.graph_ends.specs.Owed.{IsAwaited, IsOwedMore, Refuses, WantsLink, went_from}
@@ -58,17 +56,17 @@ module _ {S K I O L : Type 0} (k : sinks.Ghosts K) (s : sources.Ghosts S) (e : e
   -- That is so where a task of a graph met a fault, which left its frame.
   abbrev pub FaultsAreBlamed : Type 0
   FaultsAreBlamed = AreStreams k e → (contents : ℕ → List ℕ) (graph : Graph) (bags : List Bag) (m : Moment)
-      (tasks : List (Task S (StreamElement K) I O L s e i o)) (tells : Option (List Lane)) → RunsAt contents graph bags m tasks tells
+      (tasks : List (Task S (StreamElement K) I O L s e i o)) (tells over : Option (List Lane)) → RunsAt contents graph bags m tasks tells
       → (place : ℕ) (before after : Task S (StreamElement K) I O L s e i o) (fault : TaskFault) → slice_get tasks place ≡ Some before
-      → frame_of after ≡ frame_of before → Failed tells before after m fault → IsBlamed contents graph m fault
+      → frame_of after ≡ frame_of before → Failed tells over before after m fault → IsBlamed contents graph m fault
 
 module _ {S E I O L : Type 0} {s : sources.Ghosts S} {e : elements.Ghosts E} {i : inlets.Ghosts I L O} {o : outlets.Ghosts O L} where
   -- What is known of a fault without the contents of files: an element of the task that is one of the graph refused an item, by its
   -- rule or by a write that failed in this very call; its source, one of the graph, could not be read in this very call; a pad that
   -- is not linked was to be crossed; the pad of an element of the graph was full; or memory was wanting.
   pub data IsTold (made : List Made) (links : List PadLink) (before after : Task S E I O L s e i o) : TaskFault → Type 0 where
-    refused : (place : ℕ) (part : Part E O e) (was : Option ℕ) (refusal : Refusal) → slice_get after.parts.items place ≡ Some part
-        → part.number < length made → IsWriteCause was (e.failures part.element) refusal → IsTold made links before after (refusal_fault part.number refusal)
+    refused : (n : ℕ) (refusal : Refusal) → n < length made → HasRefused before.parts.items after.parts.items n refusal
+        → IsTold made links before after (refusal_fault n refusal)
     unread : (n : ℕ) (why : Unread) → n < length made → IsUnread before.head after.head n why → IsTold made links before after (unread_fault n why)
     not_linked : (n place : ℕ) (element : Made) → slice_get made n ≡ Some element → sink_behind links (first_pad n) ≡ None
         → IsTold made links before after (NotLinked (pad_id (first_pad n)) place)

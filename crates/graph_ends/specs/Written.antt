@@ -101,6 +101,6 @@ module _ {S K I O L : Type 0} (k : sinks.Ghosts K) (s : sources.Ghosts S) (e : e
   -- And so it is behind a fault, which changes no frame, but for the file of which a write failed.
   abbrev pub TasksStandBehind : Type 0
   TasksStandBehind = AreStreams k e → (contents : ℕ → List ℕ) (graph : Graph) (bags : List Bag) (m : Moment)
-      (tasks : List (Task S (StreamElement K) I O L s e i o)) (tells : Option (List Lane)) → RunsAt contents graph bags m tasks tells
+      (tasks : List (Task S (StreamElement K) I O L s e i o)) (tells over : Option (List Lane)) → RunsAt contents graph bags m tasks tells
       → (place : ℕ) (before after : Task S (StreamElement K) I O L s e i o) (fault : TaskFault) → slice_get tasks place ≡ Some before
-      → frame_of after ≡ frame_of before → Failed tells before after m fault → StandsBehind k contents graph m fault after
+      → frame_of after ≡ frame_of before → Failed tells over before after m fault → StandsBehind k contents graph m fault after

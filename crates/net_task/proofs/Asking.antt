@@ -33,7 +33,7 @@ use Rattle.net_task.specs.Reasons.{AllRest, OwnerRests}
 use Rattle.net_task.specs.Moves.{flush_given, giving, gives as gives_one}
 use Rattle.net_task.specs.Failed.{Causes, FailsAs, at_head, by_source as cause_source, full_head, unread}
 use Rattle.net_task.specs.Short.{CrossedShort}
-use Rattle.net_task.specs.Tries.{Asks, StepsAs, left_in}
+use Rattle.net_task.specs.Tries.{Asks, StepsAs, elements_of, left_in}
 use Rattle.net_task.specs.Fuel.{Burns, part_left}
 use Rattle.task_pads.proofs.Few.{few_crossed}
 use Rattle.task_parts.proofs.Lists.{set_at}
@@ -44,6 +44,7 @@ use Rattle.net_task.proofs.Handing.{shape_at}
 use Rattle.net_task.proofs.Sources.{Begins, cancel}
 use Rattle.net_task.proofs.Bare.{bare, bare_frames, bare_lefts, bare_ready, bare_set, bare_settled, shape_set, wire_in}
 use Rattle.net_task.proofs.GoingOn.{keeps_same}
+use Rattle.net_task.proofs.Kept.{kept_set}
 use Rattle.net_task.proofs.Trying.{err_same}
 
 -- what was put out goes to pads
@@ -60,6 +61,9 @@ settled {E = E} {O = O} {e = e} i o head parts parts' place t shapes m a =
 
 settled_bare : {E O : Type 0} {e : elements.Ghosts E} (parts parts' : List (Part E O e)) (place : ℕ) → Settles parts parts' place → map part_shape parts' ≡ map part_shape parts → map bare parts' ≡ map bare parts
 settled_bare parts parts' place t shapes = bare_set parts parts' place t.was t.is t.set (bare_settled t.was t.is t.settled (shape_set parts parts' place t.was t.is t.set shapes))
+
+pub settled_kept : {E O : Type 0} {e : elements.Ghosts E} (parts parts' : List (Part E O e)) (place : ℕ) → Settles parts parts' place → elements_of parts' ≡ elements_of parts
+settled_kept parts parts' place t = kept_set parts parts' place t.was t.is t.set t.settled.element
 
 -- that changes nothing which no step changes, and each lane is of the table as before
 pub settled_frame : {S E I O L : Type 0} {s : sources.Ghosts S} {e : elements.Ghosts E} (o : outlets.Ghosts O L) (head : Head S I O s) (parts parts' : List (Part E O e)) (place : ℕ) → Settles parts parts' place → map part_shape parts' ≡ map part_shape parts
@@ -183,12 +187,13 @@ module _ {S E I O L : Type 0} {s : sources.Ghosts S} {e : elements.Ghosts E} (i 
       (short (m.history p ++ m.waits p) (m.history p ++ waiting_of head.pad) t.gave))
 
   -- no source is asked that has given more than 2^40 items
-  pub gave_failed : waiting_of head.pad ≡ [] → (r : Result Tried TaskFault) → GivesAs head head' r → (fault : TaskFault) → r ≡ Err fault → FailsAs i o m (Source head) (Source head') parts at_head fault
-  gave_failed none (Ok answer) g fault q = absurd cc
-  gave_failed none (Err given) (inl g) fault q =
+  pub gave_failed : (tells : Option (List Lane)) → waiting_of head.pad ≡ [] → (r : Result Tried TaskFault) → GivesAs head head' r → (fault : TaskFault) → r ≡ Err fault
+      → FailsAs i o tells tells m (Source head) (Source head') parts parts at_head fault
+  gave_failed tells none (Ok answer) g fault q = absurd cc
+  gave_failed tells none (Err given) (inl g) fault q =
       absurd (let c = a.head_tied.given in let d = ap length none in let f = g.0.1 in let k = few_crossed head.pad in let h = a.head_tied.linked.crossed.crossed in omega (arith, c, d, f, k, h))
-  gave_failed none (Err given) (inr g) fault q =
-      subst (FailsAs i o m (Source head) (Source head') parts at_head) (sym g.1 ∙ err_same (Err given) given fault refl q) (unread head.number g.0 (kept_tied g.2) (refl, g.3) (crossed_short none g.0 g.4))
+  gave_failed tells none (Err given) (inr g) fault q =
+      subst (FailsAs i o tells tells m (Source head) (Source head') parts parts at_head) (sym g.1 ∙ err_same (Err given) given fault refl q) (unread head.number g.0 (kept_tied g.2, refl) (refl, g.3) (crossed_short none g.0 g.4))
 
 -- what a question to a source leaves to move
 module _ {S E I O L : Type 0} {s : sources.Ghosts S} {e : elements.Ghosts E} (i : inlets.Ghosts I L O) (o : outlets.Ghosts O L) (head head' : SourceHead S O s) (parts : List (Part E O e)) (rest : rest_of head'.pad ≡ rest_of head.pad) where
@@ -236,9 +241,9 @@ source_asks {S = S} {E = E} {I = I} {O = O} {L = L} {s = s} {e = e} i o begins h
 
 -- why a source met a fault
 pub source_cause : {S E O L : Type 0} {s : sources.Ghosts S} {e : elements.Ghosts E} (I : Type 0) (o : outlets.Ghosts O L) (head head' : SourceHead S O s) (parts : List (Part E O e)) (r : Result Tried TaskFault) → GivesAs head head' r → (fault : TaskFault) → r ≡ Err fault
-    → Causes {I = I} o (frame_in {I = I} o (Source head) parts) (Source head) (Source head') parts fault
+    → Causes {I = I} o (frame_in {I = I} o (Source head) parts) (Source head) (Source head') parts parts fault
 source_cause {S = S} {E = E} {O = O} {L = L} {s = s} {e = e} I o head head' parts (Ok answer) g fault q = absurd cc
 source_cause {S = S} {E = E} {O = O} {L = L} {s = s} {e = e} I o head head' parts (Err given) (inl g) fault q =
-    subst (Causes {I = I} o (frame_in {I = I} o (Source head) parts) (Source head) (Source head') parts) (sym g.1 ∙ err_same (Err given) given fault refl q) (full_head head.number (s.file head.source) (wire_of o head.pad) refl)
+    subst (Causes {I = I} o (frame_in {I = I} o (Source head) parts) (Source head) (Source head') parts parts) (sym g.1 ∙ err_same (Err given) given fault refl q) (full_head head.number (s.file head.source) (wire_of o head.pad) refl)
 source_cause {S = S} {E = E} {O = O} {L = L} {s = s} {e = e} I o head head' parts (Err given) (inr g) fault q =
-    subst (Causes {I = I} o (frame_in {I = I} o (Source head) parts) (Source head) (Source head') parts) (sym g.1 ∙ err_same (Err given) given fault refl q) (cause_source head.number g.0 (refl, g.3))
+    subst (Causes {I = I} o (frame_in {I = I} o (Source head) parts) (Source head) (Source head') parts parts) (sym g.1 ∙ err_same (Err given) given fault refl q) (cause_source head.number g.0 (refl, g.3))

@@ -24,11 +24,10 @@ use Rattle.task_parts.specs.declared.fault.TaskFault.{TaskFault}
 use Rattle.task_parts.specs.Shape.{part_shape}
 use Rattle.task_parts.specs.Passing.{RowAsked, TakesNext}
 use Rattle.net_task.specs.Answers.{head_step}
-use Rattle.net_task.specs.Failed.{Causes, FailsAs, at_head, by_element, refused}
-use Rattle.task_parts.specs.Fault.{refusal_fault}
+use Rattle.net_task.specs.Failed.{Causes, FailsAs, LanesLeft, at_head, by_element, refused}
 use Rattle.net_task.specs.Frame.{PartFrame, TaskFrame, by_inlets, frame_in, part_frame}
 use Rattle.net_task.specs.Fuel.{Burns, part_left}
-use Rattle.net_task.specs.Moves.{flush_taken, taking}
+use Rattle.net_task.specs.Moves.{TookFrom, flush_taken, taking}
 use Rattle.net_task.specs.Ready.{AreReady, LanesGoOn, RowsApart, WiresApart}
 use Rattle.net_task.specs.Reasons.{AllRest, HeadGaveAll, HeadLacks}
 use Rattle.net_task.specs.Ties.{AreTied, Stands, nothing_lost}
@@ -37,7 +36,7 @@ use Rattle.task_parts.proofs.Lists.{set_at}
 use Rattle.net_task.proofs.Asking.{head_asks}
 use Rattle.net_task.proofs.Bare.{bare, bare_fed, bare_fell, bare_frames, bare_lefts, bare_ready, bare_set, shape_set}
 use Rattle.net_task.proofs.Rows.{RowsKept, asked_kept, asked_left, rows_kept}
-use Rattle.net_task.proofs.Taking.{TookBy, refused_by, row_back, row_fed, row_stays, rows_same, took_by, took_empty, took_flush, took_item, took_none}
+use Rattle.net_task.proofs.Taking.{Refused, TookBy, refused_by, row_back, row_fed, row_stays, rows_same, took_by, took_empty, took_flush, took_item, took_none}
 use Rattle.gst_value.proofs.Basics.{some_same}
 
 -- where each lane keeps its room, those of pads are of the table as before
@@ -136,6 +135,10 @@ module _ {S E I O L : Type 0} (s : sources.Ghosts S) {e : elements.Ghosts E} (i 
   asked_table port lane (inl k) = k.stays.one
   asked_table port lane (inr k) = k.table
 
+  -- the element that the head feeds refused what was taken for it
+  took : {fault : TaskFault} (w : Refused i head head' parts parts' t.to tells tells' fault) → TookFrom i (Head_of head) (Head_of head') w.was.number w.port w.item tells tells'
+  took w = (sym (ap (λ (p : Part E O e). p.number) (some_same (sym w.set.at ∙ t.fed.at)) ∙ t.fed.number_is), inl w.asks)
+
   -- what it makes of a moment
   module _ (m : Moment) (a : AreTied i o (Stands m) nothing_lost m (Head_of head) parts) where
     abbrev Steps_as : Step → Type 0
@@ -166,17 +169,24 @@ module _ {S E I O L : Type 0} (s : sources.Ghosts S) {e : elements.Ghosts E} (i 
     idle_why (took_flush port x z k flush same) = absurd cc
     idle_why (took_item port x z k was is set fed) = absurd cc
 
-    pub inlet_failed : (fault : TaskFault) → r ≡ Err fault → FailsAs i o m (Head_of head) (Head_of head') parts' at_head fault
+    pub inlet_failed : (fault : TaskFault) → r ≡ Err fault → FailsAs i o tells tells' m (Head_of head) (Head_of head') parts parts' at_head fault
     inlet_failed fault q =
         let w = refused_by i head head' parts parts' tells tells' r t fault q in
         let z = row_back i o head head' parts parts' t.to t.fed shapes m a w.port w.asks.was w.asks.is w.item w.asks.set w.asks.gave w.refusal w.was w.is w.set w.fell in
-        subst (FailsAs i o m (Head_of head) (Head_of head') parts' at_head) (sym w.named) (refused at_head w.was.number w.port w.item w.refusal z.0 z.1)
+        subst (FailsAs i o tells tells' m (Head_of head) (Head_of head') parts parts' at_head) (sym w.named) (refused at_head w.was.number w.port w.item w.refusal z.0 (took w) z.1)
 
-  pub inlet_caused : (fault : TaskFault) → r ≡ Err fault → Causes o (frame_in o (Head_of head) parts) (Head_of head) (Head_of head') parts' fault
+  pub inlet_caused : (fault : TaskFault) → r ≡ Err fault → Causes o (frame_in o (Head_of head) parts) (Head_of head) (Head_of head') parts parts' fault
   inlet_caused fault q =
       let w = refused_by i head head' parts parts' tells tells' r t fault q in
-      subst (Causes o (frame_in o (Head_of head) parts) (Head_of head) (Head_of head') parts') (ap (λ n. refusal_fault n w.refusal) w.fell.number ∙ sym w.named)
-      (by_element t.to w.is (e.failures w.was.element) w.refusal (ap (λ (ps : List (Part E O e)). slice_get ps t.to) w.set.set ∙ set_at parts t.to w.was w.is w.set.at) w.fell.cause)
+      subst (Causes o (frame_in o (Head_of head) parts) (Head_of head) (Head_of head') parts parts') (sym w.named)
+      (by_element w.was.number w.refusal
+      (record { place = t.to; was = w.was; is = w.is; was_at = w.set.at; is_at = ap (λ (ps : List (Part E O e)). slice_get ps t.to) w.set.set ∙ set_at parts t.to w.was w.is w.set.at; number = w.fell.number; cause = w.fell.cause }))
+
+  -- the lanes are as they are behind the item that was taken
+  pub inlet_left : (fault : TaskFault) → r ≡ Err fault → LanesLeft i tells tells' (Head_of head) (Head_of head') fault
+  inlet_left fault q =
+      let w = refused_by i head head' parts parts' tells tells' r t fault q in
+      subst (LanesLeft i tells tells' (Head_of head) (Head_of head')) (sym w.named) (LanesLeft.taken w.was.number w.port w.item w.refusal (took w))
 
   empty_why : (port lane : ℕ) → e.wanted t.fed.part.element ≡ Some port → RowAsked i head head' port tells tells' (takes.Empty lane) → parts' ≡ parts → HeadLacks i tells (Head_of head) (Head_of head') parts' lane
   empty_why port lane w k same = subst (λ (ps : List (Part E O e)). HeadLacks i tells (Head_of head) (Head_of head') ps lane) (sym same)

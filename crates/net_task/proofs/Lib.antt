@@ -4,6 +4,7 @@ pub mod Tied
 pub mod Fed
 pub mod Passing
 pub mod Handing
+pub mod Kept
 pub mod Refusing
 pub mod Bare
 pub mod Held

@@ -12,6 +12,7 @@ use Rattle.net_model.specs.declared.element.TaskElement as elements
 use Rattle.net_model.specs.declared.source.TaskSource as sources
 use Rattle.net_model.specs.declared.refusal.Refusal.{Refusal}
 use Rattle.net_model.specs.Takes.{on_port}
+use Rattle.net_model.specs.Failures.{IsWriteCause}
 use Rattle.net_model.specs.Refuses.{RefusesBy}
 use Rattle.gst_item.specs.declared.out.Out.{Out}
 use Rattle.task_pads.specs.declared.pad.Pad.{Pad}
@@ -25,13 +26,16 @@ use Rattle.task_parts.specs.Found.{IsAt}
 use Rattle.task_parts.specs.Part.{PadSet, PartGave, PartFell, waits_at}
 use Rattle.task_parts.specs.Moved.{PartSet, HandedBack}
 use Rattle.net_task.specs.Ties.{LeadsAs, PadLinked, PortTied, PartsTied, AreTied, Stands, nothing_lost}
-use Rattle.net_task.specs.Failed.{StandsOrFell, Left, Refuses, at_pad, by_pad, without_first}
+use Rattle.net_task.specs.Failed.{HasRefused, StandsOrFell, Left, Refuses, at_pad, by_pad, without_first}
+use Rattle.net_task.specs.Tries.{elements_of}
 use Rattle.task_pads.proofs.Lists.{set_there}
-use Rattle.task_parts.proofs.Lists.{set_at}
+use Rattle.task_parts.proofs.Lists.{map_back, set_at}
 use Rattle.net_task.proofs.Linked.{same_number, same_goes, crossed_rest}
 use Rattle.net_task.proofs.Tied.{set_part_shape, parts_set_shape, parts_set, part_known, part_pad, part_fell, part_at, head_at}
 use Rattle.net_task.proofs.Passing.{sent_inside, pad_twice, part_twice, is_set, stands_set, try_crosses, waited_at}
 use Rattle.net_task.proofs.Handing.{TakenFrom, first_same, taken_from, found_number, leads_here}
+use Rattle.net_task.proofs.Bare.{bare, bare_pad, bare_set, bare_shapes}
+use Rattle.net_task.proofs.Kept.{kept_set, refused_since}
 use Rattle.gst_value.proofs.Basics.{some_same}
 
 -- An element as it is behind a refusal by one of its task: it is as it was, or it is the one that refused, with the same pads.
@@ -63,6 +67,37 @@ module _ {E O : Type 0} {e : elements.Ghosts E} where
   fell_set n sink x m old new number element (inl st) = inl (stands_set m old new number element st)
   fell_set n sink x m old new number element (inr f) =
       inr (number ∙ f.0, subst (λ k. e.fell new.element (behavior_at m k) (m.took k) sink x) (sym number) (subst (λ z. e.fell z (behavior_at m old.number) (m.took old.number) sink x) (sym element) f.1))
+
+  -- the element that refused an item is at the place at which it was
+  pub back_refused : (parts between parts' : List (Part E O e)) (place port to number sink : ℕ) (refusal : Refusal) → elements_of between ≡ elements_of parts → IsAt between number to → (h : HandedBack between parts' place port to sink refusal)
+      → (r : HasRefused parts parts' number refusal) × (h.eater.element ≡ r.was.element)
+  back_refused parts between parts' place port to number sink refusal before at h = go (cases_eq to place)
+    where
+      gave : map bare h.between ≡ map bare between
+      gave = bare_set between h.between place h.giver h.gave h.given (bare_pad h.giver h.gave port h.taken.was h.taken.is h.taken.pad h.taken.rest)
+
+      named : h.ate.number ≡ number
+      named = h.fell.number ∙ found_number between h.between number to h.eater at (bare_shapes between h.between gave) h.fed.at
+
+      there : slice_get h.behind to ≡ Some h.ate
+      there = ap (λ (ps : List (Part E O e)). slice_get ps to) h.fed.set ∙ set_at h.between to h.eater h.ate h.fed.at
+
+      kept : elements_of h.between ≡ elements_of parts
+      kept = kept_set between h.between place h.giver h.gave h.given h.taken.pad.element ∙ before
+
+      made : (part : Part E O e) → slice_get parts' to ≡ Some part → part.number ≡ number → part.element ≡ h.ate.element → (r : HasRefused parts parts' number refusal) × (h.eater.element ≡ r.was.element)
+      made part get same element = (
+        refused_since parts h.between parts' kept number refusal
+            (record { place = to; was = h.eater; is = part; was_at = h.fed.at; is_at = get; number = same; cause = subst (λ (z : E). IsWriteCause (e.failures h.eater.element) (e.failures z) refusal) (sym element) h.fell.cause }),
+        (map_back (λ (p : Part E O e). p.element) parts h.between kept to h.eater h.fed.at).2,
+      )
+
+      go : ((to ≡ place) ⊎ (to ≡ place → ⊥)) → (r : HasRefused parts parts' number refusal) × (h.eater.element ≡ r.was.element)
+      go (inl same) =
+          let one : h.again ≡ h.ate = some_same (sym h.back.at ∙ ap (slice_get h.behind) (sym same) ∙ there) in
+          made h.is (ap (slice_get parts') same ∙ ap (λ (ps : List (Part E O e)). slice_get ps place) h.back.set ∙ set_at h.behind place h.again h.is h.back.at)
+          (h.took_back.pad.number ∙ ap (λ (z : Part E O e). z.number) one ∙ named) (h.took_back.pad.element ∙ ap (λ (z : Part E O e). z.element) one)
+      go (inr n) = made h.ate (ap (λ (ps : List (Part E O e)). slice_get ps to) h.back.set ∙ set_there h.behind place to h.is n ∙ there) named refl
 
 module _ {S E I O L : Type 0} {s : sources.Ghosts S} {e : elements.Ghosts E} (i : inlets.Ghosts I L O) (o : outlets.Ghosts O L)
     (head : Head S I O s) (parts between : List (Part E O e)) (place port : ℕ) (old new : Part E O e) (was is : Pad O)
@@ -178,9 +213,10 @@ module _ {S E I O L : Type 0} {s : sources.Ghosts S} {e : elements.Ghosts E} (i 
       (part_known o (Stood m1 h.again) (Stood mb h.is) m1 h.again (fell_set number sink h.item m h.again h.is back_pad.number back_pad.element) (parts_fell.each place h.again h.back.at)))
       parts_fell
 
-  pub handed_back : Left i o m (at_pad p) head parts' number sink h.item × Refuses e m number sink h.item refusal
+  pub handed_back : Left i o m (at_pad p) head parts' number sink h.item × Refuses m parts parts' number sink h.item refusal
   handed_back =
-      let lead = leads_here i o head parts between place port old new was is set pad m a number hint sink c in (
+      let lead = leads_here i o head parts between place port old new was is set pad m a number hint sink c in
+      let by = back_refused parts between parts' place port to number sink refusal (kept_set parts between place old new set pad.element) at h in (
         record {
           behind = mb;
           lost = nothing_lost;
@@ -195,11 +231,9 @@ module _ {S E I O L : Type 0} {s : sources.Ghosts S} {e : elements.Ghosts E} (i 
           };
         },
         record {
-          was = h.eater.element;
-          is = h.ate.element;
-          stood = subst (λ k. e.stands h.eater.element (behavior_at m k) (m.took k)) eater_number (a1.parts_tied.each to h.eater h.fed.at).stood;
+          by = by.0;
+          stood = subst (λ (z : E). e.stands z (behavior_at m number) (m.took number)) by.1 (subst (λ k. e.stands h.eater.element (behavior_at m k) (m.took k)) eater_number (a1.parts_tied.each to h.eater h.fed.at).stood);
           why = subst (λ k. RefusesBy (behavior_at m k) (m.took k) sink h.item refusal) eater_number (h.fell.refused (behavior_at m h.eater.number) (m.took h.eater.number) (a1.parts_tied.each to h.eater h.fed.at).stood);
-          cause = h.fell.cause;
         },
       )
     where

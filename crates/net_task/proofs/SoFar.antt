@@ -36,12 +36,13 @@ use Rattle.net_task.specs.Fuel.{head_left, moves_left, part_left}
 use Rattle.net_task.specs.Ready.{AreReady, IsReady, KeepsLanes}
 use Rattle.net_task.specs.Reasons.{IsBlocked, IsFirst, OneHolds, of_part}
 use Rattle.net_task.specs.Ties.{AreTied, Stands, Ties, nothing_lost}
-use Rattle.net_task.specs.Tries.{IsAtPort, IsFirstOf, IsOfAny, IsOfPart, PadMoves, PadsTell, SettledAt, Spends, StaysSettled, TableStays, TaskFails, TaskTries, TriedAs}
+use Rattle.net_task.specs.Tries.{IsAtPort, IsFirstOf, IsOfAny, IsOfPart, PadMoves, PadsTell, SettledAt, Spends, StaysSettled, TableStays, TaskFails, TaskTries, TriedAs, elements_of}
 use Rattle.task_pads.proofs.Lists.{set_there, some_at}
 use Rattle.task_parts.proofs.Lists.{map_get}
 use Rattle.net_task.proofs.GoingOn.{keeps_same}
+use Rattle.net_task.proofs.Kept.{caused_since, failed_since, kept_stays, stays_kept}
 use Rattle.net_task.proofs.Places.{unmapped}
-use Rattle.net_task.proofs.Asking.{settled, settled_frame, settled_left, settled_ready}
+use Rattle.net_task.proofs.Asking.{settled, settled_frame, settled_kept, settled_left, settled_ready}
 use Rattle.gst_value.proofs.Basics.{some_same}
 
 -- of two reasons the one that is told is one of both
@@ -154,6 +155,7 @@ module _ {S E I O L : Type 0} {s : sources.Ghosts S} {e : elements.Ghosts E} {i 
     pub ready : IsReady tells now
     pub left : moves_left now ≤ moves_left old
     pub table : tells ≡ start
+    pub kept : elements_of now.parts.items ≡ elements_of old.parts.items
     pub not_moved : NotMoved answer
     pub head : now.head ≡ old.head
     pub frame : frame_of now ≡ frame_of old
@@ -176,6 +178,7 @@ module _ {S E I O L : Type 0} {s : sources.Ghosts S} {e : elements.Ghosts E} {i 
         ready = t.ready;
         left = let a = f.left in let b = spends_less (moves_left now) (moves_left after) next t.spends in omega (arith, a, b);
         table = z.1 ∙ f.table;
+        kept = stays_kept now.parts.items after.parts.items next nn t.kept ∙ f.kept;
         not_moved = subst NotMoved (sym same) (not_both first next f.not_moved z.0);
         head = head ∙ f.head;
         frame = frame ∙ f.frame;
@@ -197,6 +200,7 @@ module _ {S E I O L : Type 0} {s : sources.Ghosts S} {e : elements.Ghosts E} {i 
         ready = t.ready;
         spends = let a = f.left in let b = subst (Spends (moves_left now) (moves_left after)) q t.spends in omega (arith, a, b);
         table = tt;
+        kept = tt;
         lanes = subst (λ k. KeepsLanes (frame_of old) k tells') f.table (subst (λ (fr : TaskFrame). KeepsLanes fr tells tells') f.frame t.lanes);
         tries = λ m a. go m a (subst (TriedAs i o tells tells' (frame_of now) m now.head after.head after.parts.items (Where m) Next) q (t.tries m (f.ties m a)));
       })
@@ -209,13 +213,19 @@ module _ {S E I O L : Type 0} {s : sources.Ghosts S} {e : elements.Ghosts E} {i 
           record { pad = z.pad; act = z.act; next = z.next; move = z.move; at = z.at; given = z.given; lanes = z.lanes; tied = z.tied; first = lift m (f.tell m a) z.pad z.first }
 
   -- one more pad was tried, and met a fault
-  pub fails_so : (start tells : Option (List Lane)) (old now after : Task S E I O L s e i o) (Was : Wire → Type 0) (Where First : Moment → ℕ → Type 0) (answer : Tried) (fault : TaskFault) → SoFar start tells old now Was answer → TaskFails now after Where fault
-      → ((m : Moment) → PadsTell start m (frame_of old) Was answer → (p : ℕ) → Where m p → First m p) → TaskFails old after First fault
-  fails_so start tells old now after Was Where First answer fault f g lift = record {
-    cause = subst (λ (h : Head S I O s). Causes o (frame_of old) h after.head after.parts.items fault) f.head (subst (λ (fr : TaskFrame). Causes o fr now.head after.head after.parts.items fault) f.frame g.cause);
+  pub fails_so : (start tells tells' : Option (List Lane)) (old now after : Task S E I O L s e i o) (Was : Wire → Type 0) (Where First : Moment → ℕ → Type 0) (answer : Tried) (fault : TaskFault) → SoFar start tells old now Was answer → TaskFails tells tells' now after Where fault
+      → ((m : Moment) → PadsTell start m (frame_of old) Was answer → (p : ℕ) → Where m p → First m p) → TaskFails start tells' old after First fault
+  fails_so start tells tells' old now after Was Where First answer fault f g lift = record {
+    cause = caused_since o (frame_of old) old.head after.head old.parts.items now.parts.items after.parts.items fault f.kept
+        (subst (λ (h : Head S I O s). Causes o (frame_of old) h after.head now.parts.items after.parts.items fault) f.head (subst (λ (fr : TaskFrame). Causes o fr now.head after.head now.parts.items after.parts.items fault) f.frame g.cause));
+    table = g.table ∙ f.table;
     fails = λ m a.
         let z = g.fails m (f.ties m a) in
-        record { origin = z.origin; fails = subst (λ (h : Head S I O s). FailsAs i o m h after.head after.parts.items z.origin fault) f.head z.fails; first = go m a z.origin z.first };
+        record {
+          origin = z.origin;
+          fails = λ k. failed_since i o k k m old.head after.head old.parts.items now.parts.items after.parts.items z.origin fault f.kept (subst (λ (h : Head S I O s). FailsAs i o k k m h after.head now.parts.items after.parts.items z.origin fault) f.head (z.fails k));
+          first = go m a z.origin z.first;
+        };
   }
     where
       go : (m : Moment) → Ties old m → (origin : Origin) → ((fault ≡ OutOfMemory) ⊎ ((p : ℕ) × (origin ≡ at_pad p) × Where m p)) → (fault ≡ OutOfMemory) ⊎ ((p : ℕ) × (origin ≡ at_pad p) × First m p)
@@ -228,6 +238,7 @@ module _ {S E I O L : Type 0} {s : sources.Ghosts S} {e : elements.Ghosts E} {i 
     ready = f.ready;
     spends = spent answer f.not_moved f.left;
     table = tabled answer f.not_moved f.table;
+    kept = kept_stays old.parts.items now.parts.items answer f.kept;
     lanes = keeps_same (frame_of old) start tells f.table;
     tries = λ m a. tries m answer f.not_moved (f.ties m a) (told_less start m (frame_of old) Was All answer less (f.tell m a));
   }
@@ -254,6 +265,7 @@ module _ {S E I O L : Type 0} {s : sources.Ghosts S} {e : elements.Ghosts E} {i 
     ready = subst (λ (h : Head S I O s). AreReady i o tells h now.parts.items) (sym head) (settled_ready i o tells old.head old.parts.items now.parts.items place t shapes ready);
     left = let a = settled_left old.parts.items now.parts.items place t shapes in let b = ap (λ (h : Head S I O s). head_left i h) head in omega (arith, a, b);
     table = refl;
+    kept = settled_kept old.parts.items now.parts.items place t;
     not_moved = tt;
     head = head;
     frame = ap (λ (h : Head S I O s). frame_in o h now.parts.items) head ∙ settled_frame o old.head old.parts.items now.parts.items place t shapes;
@@ -271,6 +283,7 @@ module _ {S E I O L : Type 0} {s : sources.Ghosts S} {e : elements.Ghosts E} {i 
     ready = same_so (AreReady i o tells) old now head parts ready;
     left = same_so (λ h ps. head_left i h + sum_by (λ part. part_left part) ps ≤ moves_left old) old now head parts (omega arith);
     table = refl;
+    kept = same_so (λ h ps. elements_of ps ≡ elements_of old.parts.items) old now head parts refl;
     not_moved = tt;
     head = head;
     frame = same_so (λ h ps. frame_in o h ps ≡ frame_of old) old now head parts refl;

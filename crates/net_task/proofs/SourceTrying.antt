@@ -38,12 +38,12 @@ use Rattle.task_parts.specs.Shape.{part_shape}
 use Rattle.task_parts.specs.Passing.{SourceHanded, SourceBack, SourceHandsTo, AfterSource, CrossesSource, SourceSet}
 use Rattle.net_task.specs.Ties.{LeadsAs, PartTied, AreTied, Stands, nothing_lost}
 use Rattle.net_task.specs.Moves.{Act, LanesBy, given_by, passes, passing}
-use Rattle.net_task.specs.Failed.{Causes, FailsAs, Left, Refuses, StandsOrFell, at_limit, at_pad, by_element, by_source, full_head, lost_at, memory, no_memory, not_linked, refused, unlinked, without_first}
-use Rattle.net_task.specs.Frame.{PartFrame, TaskFrame, Wire, by_source as framed_by_source, frame_in, of_head, part_frame, room_in, wire_of}
+use Rattle.net_task.specs.Failed.{Causes, FailsAs, HasRefused, Left, Refuses, StandsOrFell, WasFor, at_limit, at_pad, by_element, by_source, full_head, lost_at, memory, no_memory, not_linked, refused, unlinked, without_first}
+use Rattle.net_task.specs.Frame.{IsWire, PartFrame, TaskFrame, Wire, by_source as framed_by_source, frame_in, of_head, part_frame, room_in, wire_of}
 use Rattle.net_task.specs.Fuel.{head_left, pad_left, part_left}
 use Rattle.net_task.specs.Ready.{AreReady, LanesGoOn, WiresApart}
 use Rattle.net_task.specs.Reasons.{HeadIdle, PadHolds}
-use Rattle.net_task.specs.Tries.{CrossesAt, HeadStays, HeadTriedAs, HeadTries, SourceStays, IsHeadPad, PadFails, Spends, TableStays}
+use Rattle.net_task.specs.Tries.{CrossesAt, ElementsStay, HeadStays, HeadTriedAs, HeadTries, SourceStays, IsHeadPad, PadFails, Spends, TableStays, elements_of}
 use Rattle.task_parts.proofs.Lists.{set_at}
 use Rattle.net_task.proofs.Linked.{same_number, same_goes, crossed_rest}
 use Rattle.net_task.proofs.Tied.{parts_set_at, part_known, part_fell, part_at}
@@ -51,6 +51,7 @@ use Rattle.net_task.proofs.Fed.{now, out_now, fed_tied, fed_answers}
 use Rattle.net_task.proofs.Passing.{MovesOn, gone_act, gone_at, gone_given, gone_move, sent_inside}
 use Rattle.net_task.proofs.Bare.{bare, bare_fed, bare_fell, bare_frames, bare_lefts, bare_ready, bare_set, shape_set, wire_in}
 use Rattle.net_task.proofs.GoingOn.{keeps_same, rows_on}
+use Rattle.net_task.proofs.Kept.{kept_stays}
 use Rattle.net_task.proofs.Held.{came_room, ended_holds, full_holds, leads_into, probe_holds, same_wire, wire_at}
 use Rattle.net_task.proofs.Handing.{shape_at, first_same}
 use Rattle.net_task.proofs.Trying.{Counts, ok_same, err_same, not_both, many_crossed, ready_kept, seen_crossed, seen_sent, seen_waiting, some_first}
@@ -261,21 +262,57 @@ module _ {S E I O L : Type 0} {s : sources.Ghosts S} {e : elements.Ghosts E} (i 
   pub source_stayed : (answer : Tried) → r ≡ Ok answer → Stays_so answer
   source_stayed answer q = stayed t.crossing t.crossed answer q t.after
 
+  -- where nothing moved each element is as it was
+  kept_by : (crossing : Crossing) → (answer : Tried) → r ≡ Ok answer → After_as crossing → ElementsStay parts parts' answer
+  kept_by Idle answer q f = kept_stays parts parts' answer (ap (λ (ps : List (Part E O e)). elements_of ps) f.1)
+  kept_by (To number hint sink) answer q f = subst (ElementsStay parts parts') (source_to t.between head' parts parts' number sink r answer q f) tt
+  kept_by Gone answer q f = kept_stays parts parts' answer (ap (λ (ps : List (Part E O e)). elements_of ps) f.1)
+  kept_by BehindEos answer q f = kept_stays parts parts' answer (ap (λ (ps : List (Part E O e)). elements_of ps) f.1)
+  kept_by (Full lane) answer q f = kept_stays parts parts' answer (ap (λ (ps : List (Part E O e)). elements_of ps) f.1)
+  kept_by (AtProbe command) answer q f = kept_stays parts parts' answer (ap (λ (ps : List (Part E O e)). elements_of ps) f.1)
+  kept_by NotLinked answer q f = kept_stays parts parts' answer (ap (λ (ps : List (Part E O e)). elements_of ps) f.1)
+  kept_by AtLimit answer q f = kept_stays parts parts' answer (ap (λ (ps : List (Part E O e)). elements_of ps) f.1)
+  kept_by OutOfMemory answer q f = kept_stays parts parts' answer (ap (λ (ps : List (Part E O e)). elements_of ps) f.1)
+
+  pub source_kept : (answer : Tried) → r ≡ Ok answer → ElementsStay parts parts' answer
+  source_kept answer q = kept_by t.crossing answer q t.after
+
+  -- at a fault the lanes are as they were
+  lanes_same : (crossing : Crossing) → Comes_as crossing → (fault : TaskFault) → r ≡ Err fault → After_as crossing → tells' ≡ tells
+  lanes_same Idle x fault q f = x.2
+  lanes_same (To number hint sink) x fault q f = x.1
+  lanes_same Gone x fault q f = not_both r tried.Moved fault f.2 q
+  lanes_same BehindEos x fault q f = x.table
+  lanes_same (Full lane) x fault q f = x.table
+  lanes_same (AtProbe command) x fault q f = x.table
+  lanes_same NotLinked x fault q f = x.0.table
+  lanes_same AtLimit x fault q f = x.3
+  lanes_same OutOfMemory x fault q f = x.2
+
+  pub source_lanes_same : (fault : TaskFault) → r ≡ Err fault → tells' ≡ tells
+  source_lanes_same fault q = lanes_same t.crossing t.crossed fault q t.after
+
   -- why it met a fault, whatever the source owes
   abbrev Causes_as : TaskFault → Type 0
-  Causes_as fault = Causes o (frame_in o (Head_of head) parts) (Head_of head) (Head_of head') parts' fault
+  Causes_as fault = Causes o (frame_in o (Head_of head) parts) (Head_of head) (Head_of head') parts parts' fault
 
-  back_cause : (number sink to : ℕ) (refusal : Refusal) → IsAt parts number to → SourceBack t.between head' parts parts' to sink refusal → Causes_as (refusal_fault number refusal)
-  back_cause number sink to refusal at h =
-      let n : h.ate.number ≡ number = h.fell.number ∙ ap (λ (q : Part E O e). q.number) (some_same (sym h.fed.at ∙ at.at)) ∙ at.number_is in
-      subst (λ k. Causes_as (refusal_fault k refusal)) n
-      (by_element to h.ate (e.failures h.eater.element) refusal (ap (λ (ps : List (Part E O e)). slice_get ps to) h.fed.set ∙ set_at parts to h.eater h.ate h.fed.at) h.fell.cause)
+  -- the element that refused an item is at the place at which it was
+  abbrev back_refused : (number sink to : ℕ) (refusal : Refusal) → IsAt parts number to → SourceBack t.between head' parts parts' to sink refusal → HasRefused parts parts' number refusal
+  back_refused number sink to refusal at h = record {
+    place = to;
+    was = h.eater;
+    is = h.ate;
+    was_at = h.fed.at;
+    is_at = ap (λ (ps : List (Part E O e)). slice_get ps to) h.fed.set ∙ set_at parts to h.eater h.ate h.fed.at;
+    number = h.fell.number ∙ ap (λ (q : Part E O e). q.number) (some_same (sym h.fed.at ∙ at.at)) ∙ at.number_is;
+    cause = h.fell.cause;
+  }
 
   caused : (crossing : Crossing) → Comes_as crossing → (fault : TaskFault) → r ≡ Err fault → After_as crossing → Causes_as fault
   caused Idle x fault q f = not_both r tried.Idle fault f.2 q
   caused (To number hint sink) x fault q f =
       let w = back_to_source t.between head' parts parts' number sink r fault q f in
-      subst Causes_as (sym w.named) (back_cause number sink w.to w.refusal w.at w.handed)
+      subst Causes_as (sym w.named) (by_element number w.refusal (back_refused number sink w.to w.refusal w.at w.handed))
   caused Gone x fault q f = not_both r tried.Moved fault f.2 q
   caused BehindEos x fault q f = not_both r (tried.Stuck steps.Ended) fault f.2 q
   caused (Full lane) x fault q f = not_both r (tried.Stuck (steps.NeedsRoom lane)) fault f.2 q
@@ -329,7 +366,7 @@ module _ {S E I O L : Type 0} {s : sources.Ghosts S} {e : elements.Ghosts E} (i 
 
     -- it refused the item
     back : (number hint sink : ℕ) → Crosses o (seen head.pad) (seen t.between.pad) number hint sink → (to : ℕ) → IsAt parts number to → (refusal : Refusal) → (h : SourceBack t.between head' parts parts' to sink refusal)
-        → Left i o m (at_pad p) (Source head') parts' number sink h.item × Refuses e m number sink h.item refusal
+        → Left i o m (at_pad p) (Source head') parts' number sink h.item × Refuses m parts parts' number sink h.item refusal
     back number hint sink c to at refusal h =
         let item : c.item ≡ h.item = first_same c.item h.item c.rest (waiting_of h.between) (sym c.waits ∙ h.taken.0) in
         let set = set_both head t.between head' t.set h.set in
@@ -367,11 +404,9 @@ module _ {S E I O L : Type 0} {s : sources.Ghosts S} {e : elements.Ghosts E} (i 
             };
           },
           record {
-            was = h.eater.element;
-            is = h.ate.element;
+            by = back_refused number sink to refusal at h;
             stood = subst (λ k. e.stands h.eater.element (behavior_at m k) (m.took k)) n stood;
             why = subst (λ k. RefusesBy (behavior_at m k) (m.took k) sink h.item refusal) n (h.fell.refused (behavior_at m h.eater.number) (m.took h.eater.number) stood);
-            cause = h.fell.cause;
           },
         )
       where
@@ -434,17 +469,23 @@ module _ {S E I O L : Type 0} {s : sources.Ghosts S} {e : elements.Ghosts E} (i 
     tried_by OutOfMemory x answer q f = not_both r answer faults.OutOfMemory q f.2
 
     abbrev Failed_here : TaskFault → Type 0
-    Failed_here fault = PadFails i o m (Head_of head) (Head_of head') parts' (IsHeadPad Frame_was) fault
+    Failed_here fault = PadFails i o m (Head_of head) (Head_of head') parts parts' (IsHeadPad Frame_was) fault
 
-    fails_here : (fault : TaskFault) → FailsAs i o m (Head_of head) (Head_of head') parts' (at_pad p) fault → Failed_here fault
+    fails_here : (fault : TaskFault) → ((k : Option (List Lane)) → FailsAs i o k k m (Head_of head) (Head_of head') parts parts' (at_pad p) fault) → Failed_here fault
     fails_here fault f = record { origin = at_pad p; fails = f; first = inr (p, refl, pad_here_is) }
+
+    -- the pad leads to the sink pad of an element of the task
+    inner_wire : (number sink : ℕ) (x : Item) (k : Option (List Lane)) → goes_of was_pad ≡ inside number sink
+        → WasFor i k k (frame_in o (Head_of head') parts') (Head_of head) (Head_of head') (at_pad p) number sink x
+    inner_wire number sink x k goes =
+        (wire_of o was_pad, subst (λ (f : TaskFrame). IsWire f (wire_of o was_pad)) (sym source_framed) (of_head refl), refl, goes, refl)
 
     failed_by : (crossing : Crossing) → Comes_as crossing → (fault : TaskFault) → r ≡ Err fault → After_as crossing → Failed_here fault
     failed_by Idle x fault q f = not_both r tried.Idle fault f.2 q
     failed_by (To number hint sink) x fault q f =
         let w = back_to_source t.between head' parts parts' number sink r fault q f in
         let z = back number hint sink x.0 w.to w.at w.refusal w.handed in
-        subst Failed_here (sym w.named) (fails_here (refusal_fault number w.refusal) (refused (at_pad p) number sink w.handed.item w.refusal z.0 z.1))
+        subst Failed_here (sym w.named) (fails_here (refusal_fault number w.refusal) (λ k. refused (at_pad p) number sink w.handed.item w.refusal z.0 (inner_wire number sink w.handed.item k x.0.to) z.1))
     failed_by Gone x fault q f = not_both r tried.Moved fault f.2 q
     failed_by BehindEos x fault q f = not_both r (tried.Stuck steps.Ended) fault f.2 q
     failed_by (Full lane) x fault q f = not_both r (tried.Stuck (steps.NeedsRoom lane)) fault f.2 q
@@ -455,20 +496,20 @@ module _ {S E I O L : Type 0} {s : sources.Ghosts S} {e : elements.Ghosts E} (i 
         let count : crossed_count is_pad ≡ length (m.history p) = (x.0.stands.history (m.history p) a.head_tied.linked.crossed).crossed in
         let named : faults.NotLinked p (length (m.history p)) ≡ fault = ap (λ k. faults.NotLinked k (length (m.history p))) (sym n) ∙ ap (faults.NotLinked (number_of is_pad)) (sym count) ∙ err_same r (faults.NotLinked (number_of is_pad) (crossed_count is_pad)) fault f.2 q in
         subst Failed_here named (fails_here (faults.NotLinked p (length (m.history p)))
-        (not_linked p x.0.item (x.0.rest ++ behind.rest) (stays x.0.stands.history x.0.stands.sent (x.0.waits ∙ sym x.0.waited) f.0 f.1) (behind.whole ∙ ap (λ ys. ys ++ behind.rest) x.0.waited) why.1
-        (λ k own. subst (LeadsNowhere m.plan) (sym (a.head_tied.mine k (own ∙ a.head_tied.owner))) (subst (LeadsAs m p) why.2 a.head_tied.linked.leads))))
+        (λ k. not_linked p x.0.item (x.0.rest ++ behind.rest) (stays x.0.stands.history x.0.stands.sent (x.0.waits ∙ sym x.0.waited) f.0 f.1, refl) (behind.whole ∙ ap (λ ys. ys ++ behind.rest) x.0.waited) why.1
+        (λ q own. subst (LeadsNowhere m.plan) (sym (a.head_tied.mine q (own ∙ a.head_tied.owner))) (subst (LeadsAs m p) why.2 a.head_tied.linked.leads))))
     failed_by AtLimit x fault q f =
         let named : faults.TooLong (m.plan.owner p) 1099511627776 1 ≡ fault = ap (λ k. faults.TooLong k 1099511627776 1) (a.head_tied.owner ∙ sym t.set.number) ∙ err_same r (faults.TooLong t.between.number 1099511627776 1) fault f.2 q in
         let w = some_first (waiting_of was_pad) x.0 in
         subst Failed_here named (fails_here (faults.TooLong (m.plan.owner p) 1099511627776 1)
-        (at_limit p w.item (w.rest ++ behind.rest) (stays (seen_crossed was_pad is_pad x.2) (seen_sent o was_pad is_pad x.2) (seen_waiting was_pad is_pad x.2) f.0 f.1) (behind.whole ∙ ap (λ ys. ys ++ behind.rest) w.whole) (many x.1)))
+        (λ k. at_limit p w.item (w.rest ++ behind.rest) (stays (seen_crossed was_pad is_pad x.2) (seen_sent o was_pad is_pad x.2) (seen_waiting was_pad is_pad x.2) f.0 f.1, refl) (behind.whole ∙ ap (λ ys. ys ++ behind.rest) w.whole) (many x.1)))
       where
         many : ((1099511627776 ≤ crossed_count was_pad) ⊎ (1099511627776 ≤ count_in (end_in o (rest_of was_pad).behind))) → 1099511627776 ≤ length (m.history p)
         many (inl low) = let c = a.head_tied.linked.crossed.crossed in omega (arith, c, low)
         many (inr low) = many_crossed o counts (rest_of was_pad).behind (m.history p) 1099511627776 a.head_tied.linked.sent (omega arith) low
     failed_by OutOfMemory x fault q f =
         subst Failed_here (err_same r faults.OutOfMemory fault f.2 q)
-        (fails_here faults.OutOfMemory (no_memory (at_pad p) (stays (seen_crossed was_pad is_pad x.1) (seen_sent o was_pad is_pad x.1) (seen_waiting was_pad is_pad x.1) f.0 f.1)))
+        (fails_here faults.OutOfMemory (λ k. no_memory (at_pad p) (stays (seen_crossed was_pad is_pad x.1) (seen_sent o was_pad is_pad x.1) (seen_waiting was_pad is_pad x.1) f.0 f.1, refl)))
 
     pub source_tried : (answer : Tried) → r ≡ Ok answer → Tried_here answer
     source_tried answer q = tried_by t.crossing t.crossed answer q t.after
@@ -487,6 +528,7 @@ inlets_tried i o tells head parts h same ready = record {
   ready = ready;
   spends = omega arith;
   table = refl;
+  kept = refl;
   lanes = record { rows = rows_on i head; table = keeps_same (frame_in o head parts) tells tells refl };
   stays = inlets_idle head h same;
   tries = λ m a. a;

@@ -1,5 +1,6 @@
 -- What a step of a task does: all pads are tried, and where nothing waits the head is asked.
 use Rattle.std.proofs.Common.{◌≡◌, ◌≢◌, ◌≤◌, ◌⊎◌, ◌+◌, ℕ, List, [], Option, refl, sym, ap, ◌∙◌, subst, inl, inr, arith}
+use Rattle.flow_model.specs.Item.{Item}
 use Rattle.lane_core.specs.Lane.{Lane}
 use Rattle.lane_core.specs.declared.ends.Inlet as inlets
 use Rattle.lane_core.specs.declared.ends.Outlet as outlets
@@ -22,15 +23,16 @@ use Rattle.task_parts.specs.declared.fault.TaskFault.TheVariants.{OutOfMemory}
 use Rattle.task_parts.specs.Passing.{RowAsked}
 use Rattle.net_task.specs.declared.task.Task.{Task}
 use Rattle.net_task.specs.Answers.{tried_both}
-use Rattle.net_task.specs.Failed.{Causes, Failed, FailsAs, IsCause, IsUnread, Origin, WasFirst, at_head, at_limit, at_pad, by_element, by_source, full_at, full_head, memory, no_memory, not_linked, refused, unlinked, unread}
+use Rattle.net_task.specs.Failed.{Causes, FailsAs, HasFailed, IsUnread, LanesLeft, Origin, WasFirst, WasFor, at_head, at_limit, at_pad, by_element, by_source, full_at, full_head, memory, no_memory, not_linked, refused, unlinked, unread}
 use Rattle.net_task.specs.Frame.{PartFrame, TaskFrame, Wire, frame_in, frame_of, of_head, part_frame, wire_of}
 use Rattle.net_task.specs.Fuel.{Burns, moves_left}
 use Rattle.net_task.specs.Moves.{Act, Advances, GoesFirst, LanesBy, RowsKept, RowsStay, Steps, TookFrom, Unlawful, flush_given, flush_taken, given_by, given_in, giving, leaving, passing, sending, taking}
 use Rattle.net_task.specs.Reasons.{AllBlocked, AllRest, HeadGaveAll, HeadIdle, HeadLacks, IsFirst, IsStuck, OneHolds, OwnerRests, Why, of_head as first_of_head}
 use Rattle.net_task.specs.Ties.{AreTied, Stands, Ties, nothing_lost}
-use Rattle.net_task.specs.Tries.{AllTriedAs, AskFault, AsksHead, CrossesAt, HeadStays, HeadTriedAs, HeadWhy, IsHeadPad, IsOfAny, PadMoves, PadsFault, PadsTell, PadsTry, PartsFault, PartsTry, SourceFault, SourceStays, SourceTries, Spends, StepsAs, TableStays, TriedAs}
+use Rattle.net_task.specs.Tries.{AllTriedAs, AskFault, AsksHead, CrossesAt, HeadStays, HeadTriedAs, HeadWhy, IsHeadPad, IsOfAny, PadMoves, PadsTell, PadsTry, PartsFault, PartsTry, SourceFault, SourceStays, SourceTries, Spends, StepsAs, TableStays, TriedAs, elements_of}
 use Rattle.net_task.specs.Ready.{LanesGoOn, RowsGoOn}
 use Rattle.net_task.proofs.GoingOn.{goes_both, rows_on}
+use Rattle.net_task.proofs.Kept.{caused_since, failed_since, stays_both, stays_kept}
 use Rattle.net_task.proofs.Held.{wire_at}
 use Rattle.net_task.proofs.Places.{unmapped}
 use Rattle.net_task.proofs.SoFar.{prefers, spends_less, tabled_not, told_blocked}
@@ -70,12 +72,17 @@ all_blocked : (tells : Option (List Lane)) (m : Moment) (frame : TaskFrame) (ans
 all_blocked tells m frame answer t place port wire at = told_blocked tells m frame (IsOfAny frame) answer t wire (place, port, at)
 
 module _ {S E I O L : Type 0} {s : sources.Ghosts S} {e : elements.Ghosts E} {i : inlets.Ghosts I L O} {o : outlets.Ghosts O L} where
+  same_lanes : (tells tells' : Option (List Lane)) (m : Moment) (old new : Task S E I O L s e i o) (origin : Origin) (fault : TaskFault) → tells' ≡ tells → FailsAs i o tells tells m old.head new.head old.parts.items new.parts.items origin fault
+      → FailsAs i o tells tells' m old.head new.head old.parts.items new.parts.items origin fault
+  same_lanes tells tells' m old new origin fault same f = subst (λ k. FailsAs i o tells k m old.head new.head old.parts.items new.parts.items origin fault) (sym same) f
+
   -- an item of an element crossed its pad
   pub parts_moved : (tells tells' : Option (List Lane)) (old new : Task S E I O L s e i o) → new.head ≡ old.head → PartsTry tells tells' old new tried.Moved → PadsTry tells tells' old new tried.Moved
   parts_moved tells tells' old new head t = record {
     ready = t.ready;
     spends = t.spends;
     table = tt;
+    kept = tt;
     lanes = record { rows = subst (RowsGoOn i old.head) (sym head) (rows_on i old.head); table = t.lanes };
     stays = tt;
     tries = λ m a. advance i o tells tells' (frame_of old) m old.head new.head new.parts.items (IsFirst tells m (frame_of old)) (λ p w. w) (t.tries m a);
@@ -85,8 +92,12 @@ module _ {S E I O L : Type 0} {s : sources.Ghosts S} {e : elements.Ghosts E} {i 
   parts_moved_by tells tells' old new answer same head t = subst (PadsTry tells tells' old new) (sym same) (parts_moved tells tells' old new head (subst (PartsTry tells tells' old new) same t))
 
   -- a fault was met at a pad of an element
-  pub parts_failed : (tells : Option (List Lane)) (old new : Task S E I O L s e i o) (fault : TaskFault) → PartsFault tells old new fault → PadsFault tells old new fault
-  parts_failed tells old new fault f = record { cause = f.cause; fails = λ m a. let z = f.fails m a in record { origin = z.origin; fails = z.fails; first = go m z.origin z.first } }
+  pub parts_failed : (tells tells' : Option (List Lane)) (old new : Task S E I O L s e i o) (fault : TaskFault) → PartsFault tells tells' old new fault → HasFailed tells tells' old new fault
+  parts_failed tells tells' old new fault f = record {
+    cause = f.cause;
+    lanes = LanesLeft.kept fault f.table;
+    failed = λ m a. let z = f.fails m a in record { origin = z.origin; fails = same_lanes tells tells' m old new z.origin fault f.table (z.fails tells); first = go m z.origin z.first };
+  }
     where
       go : (m : Moment) (origin : Origin) → ((fault ≡ OutOfMemory) ⊎ ((p : ℕ) × (origin ≡ at_pad p) × IsFirst tells m (frame_of old) p)) → (fault ≡ OutOfMemory) ⊎ WasFirst tells m (frame_of old) old.head origin
       go m origin (inl x) = inl x
@@ -110,12 +121,18 @@ module _ {S E I O L : Type 0} {s : sources.Ghosts S} {e : elements.Ghosts E} {i 
         let z = subst (λ (f : TaskFrame). IsHeadPad f q) frame w in
         first_of_head z.0 z.1 z.2 (all_blocked start m (frame_of old) first (told m a).1)
 
-    pub source_fault : (fault : TaskFault) → SourceFault mid new fault → PadsFault start old new fault
+    kept : elements_of mid.parts.items ≡ elements_of old.parts.items
+    kept = stays_kept old.parts.items mid.parts.items first unmoved p.kept
+
+    pub source_fault : (fault : TaskFault) → SourceFault tells tells' mid new fault → HasFailed start tells' old new fault
     source_fault fault f = record {
-      cause = subst (λ (h : Head S I O s). Causes o (frame_of old) h new.head new.parts.items fault) head (subst (λ (fr : TaskFrame). Causes o fr mid.head new.head new.parts.items fault) frame f.cause);
-      fails = λ m a.
+      cause = caused_since o (frame_of old) old.head new.head old.parts.items mid.parts.items new.parts.items fault kept
+          (subst (λ (h : Head S I O s). Causes o (frame_of old) h new.head mid.parts.items new.parts.items fault) head (subst (λ (fr : TaskFrame). Causes o fr mid.head new.head mid.parts.items new.parts.items fault) frame f.cause));
+      lanes = LanesLeft.kept fault (f.table ∙ table);
+      failed = λ m a.
           let z = f.fails m (told m a).0 in
-          record { origin = z.origin; fails = subst (λ (h : Head S I O s). FailsAs i o m h new.head new.parts.items z.origin fault) head z.fails; first = go m a z.origin z.first };
+          let here = failed_since i o start start m old.head new.head old.parts.items mid.parts.items new.parts.items z.origin fault kept (subst (λ (h : Head S I O s). FailsAs i o start start m h new.head mid.parts.items new.parts.items z.origin fault) head (z.fails start)) in
+          record { origin = z.origin; fails = same_lanes start tells' m old new z.origin fault (f.table ∙ table) here; first = go m a z.origin z.first };
     }
       where
         go : (m : Moment) → Ties old m → (origin : Origin) → ((fault ≡ OutOfMemory) ⊎ ((q : ℕ) × (origin ≡ at_pad q) × IsHeadPad (frame_of mid) q)) → (fault ≡ OutOfMemory) ⊎ WasFirst start m (frame_of old) old.head origin
@@ -128,6 +145,7 @@ module _ {S E I O L : Type 0} {s : sources.Ghosts S} {e : elements.Ghosts E} {i 
       ready = t.ready;
       spends = spent first next unmoved (spends_less (moves_left old) (moves_left mid) first p.spends) t.spends;
       table = tabled first next unmoved p.table t.table;
+      kept = stays_both old.parts.items mid.parts.items new.parts.items first next unmoved p.kept t.kept;
       lanes = subst (λ z. LanesGoOn i (frame_of old) old.head new.head z tells') table (subst (λ (f : TaskFrame). LanesGoOn i f old.head new.head tells tells') frame (subst (λ (h : Head S I O s). LanesGoOn i (frame_of mid) h new.head tells tells') head t.lanes));
       stays = stays first next unmoved (subst (λ (h : Head S I O s). HeadStays h new.head next) head t.stays);
       tries = λ m a. tries m first next (told m a).1 (subst (λ (h : Head S I O s). HeadStays h new.head next) head t.stays)
@@ -237,15 +255,16 @@ module _ {S I O : Type 0} {s : sources.Ghosts S} where
   unread_then (Inlets old) (Source mid) new n why k u = absurd k
   unread_then (Inlets old) (Inlets mid) new n why k u = absurd u
 
-caused_then : {S E I O L : Type 0} {s : sources.Ghosts S} {e : elements.Ghosts E} (o : outlets.Ghosts O L) (frame : TaskFrame) (old mid new : Head S I O s) (parts' : List (Part E O e)) (fault : TaskFault) → SourceStays old mid → Causes o frame mid new parts' fault → Causes o frame old new parts' fault
-caused_then o frame old mid new parts' _ k (by_element place part was refusal at c) = by_element place part was refusal at c
-caused_then o frame old mid new parts' _ k (by_source n why u) = by_source n why (unread_then old mid new n why k u)
-caused_then o frame old mid new parts' _ k (unlinked wire place w l) = unlinked wire place w l
-caused_then o frame old mid new parts' _ k (full_at place part at) = full_at place part at
-caused_then o frame old mid new parts' _ k (full_head n file wire at) = full_head n file wire at
-caused_then o frame old mid new parts' _ k memory = memory
+caused_then : {S E I O L : Type 0} {s : sources.Ghosts S} {e : elements.Ghosts E} (o : outlets.Ghosts O L) (frame : TaskFrame) (old mid new : Head S I O s) (parts parts' : List (Part E O e)) (fault : TaskFault) → SourceStays old mid → Causes o frame mid new parts parts' fault
+    → Causes o frame old new parts parts' fault
+caused_then o frame old mid new parts parts' _ k (by_element n refusal r) = by_element n refusal r
+caused_then o frame old mid new parts parts' _ k (by_source n why u) = by_source n why (unread_then old mid new n why k u)
+caused_then o frame old mid new parts parts' _ k (unlinked wire place w l) = unlinked wire place w l
+caused_then o frame old mid new parts parts' _ k (full_at place part at) = full_at place part at
+caused_then o frame old mid new parts parts' _ k (full_head n file wire at) = full_head n file wire at
+caused_then o frame old mid new parts parts' _ k memory = memory
 
-module _ {S I O L : Type 0} {s : sources.Ghosts S} (i : inlets.Ghosts I L O) (m : Moment) (frame : TaskFrame) (tells tells' : Option (List Lane)) where
+module _ {S I O L : Type 0} {s : sources.Ghosts S} (i : inlets.Ghosts I L O) (tells tells' : Option (List Lane)) where
   took_then : (old mid new : Head S I O s) (n port : ℕ) (x : _) → SourceStays old mid → TookFrom i mid new n port x tells tells' → TookFrom i old new n port x tells tells'
   took_then (Source old) (Source mid) new n port x k r = absurd r
   took_then (Source old) (Inlets mid) new n port x k r = absurd k
@@ -253,11 +272,16 @@ module _ {S I O L : Type 0} {s : sources.Ghosts S} (i : inlets.Ghosts I L O) (m 
   took_then (Inlets old) (Inlets mid) (Source new) n port x k r = absurd r
   took_then (Inlets old) (Inlets mid) (Inlets new) n port x k r = (ap (λ (h : InletHead I). h.number) (sym k) ∙ r.0, subst (λ (h : InletHead I). RowAsked i h new port tells tells' (takes.Item x)) k r.1)
 
+  left_then : (old mid new : Head S I O s) (fault : TaskFault) → SourceStays old mid → LanesLeft i tells tells' mid new fault → LanesLeft i tells tells' old new fault
+  left_then old mid new _ k (LanesLeft.kept fault same) = LanesLeft.kept fault same
+  left_then old mid new _ k (LanesLeft.taken n port x refusal w) = LanesLeft.taken n port x refusal (took_then old mid new n port x k w)
+
+module _ {S I O L : Type 0} {s : sources.Ghosts S} (i : inlets.Ghosts I L O) (m : Moment) (frame : TaskFrame) (tells tells' : Option (List Lane)) where
   lanes_then : (old mid new : Head S I O s) (act : Act) → SourceStays old mid → LanesBy i frame mid new tells tells' act → LanesBy i frame old new tells tells' act
   lanes_then old mid new (passing p) k l = (rows_then old mid new k l.0, l.1)
   lanes_then old mid new (sending p x) k l = (rows_then old mid new k l.0, l.1)
   lanes_then old mid new (leaving p) k l = (rows_then old mid new k l.0, l.1)
-  lanes_then old mid new (taking n port x) k l = took_then old mid new n port x k l
+  lanes_then old mid new (taking n port x) k l = took_then i tells tells' old mid new n port x k l
   lanes_then old mid new giving k l = (rows_then old mid new k l.0, l.1)
 
   first_then : (old mid : Head S I O s) (act : Act) → HeadIdle old → GoesFirst i tells m frame mid act → GoesFirst i tells m frame old act
@@ -269,7 +293,7 @@ module _ {S I O L : Type 0} {s : sources.Ghosts S} (i : inlets.Ghosts I L O) (m 
 
   unlawful_then : (old mid new : Head S I O s) → SourceStays old mid → Unlawful i tells tells' m mid new → Unlawful i tells tells' m old new
   unlawful_then old mid new k (flush_given p front x rest w f) = flush_given p front x rest w f
-  unlawful_then old mid new k (flush_taken n port x w f) = flush_taken n port x (took_then old mid new n port x k w) f
+  unlawful_then old mid new k (flush_taken n port x w f) = flush_taken n port x (took_then i tells tells' old mid new n port x k w) f
 
 module _ {S E I O L : Type 0} {s : sources.Ghosts S} {e : elements.Ghosts E} (i : inlets.Ghosts I L O) (o : outlets.Ghosts O L) (m : Moment) (frame : TaskFrame) (tells tells' : Option (List Lane)) where
   advances_then : (old mid new : Head S I O s) (parts' : List (Part E O e)) → SourceStays old mid → HeadIdle old → Advances i o tells tells' frame m mid new parts' → Advances i o tells tells' frame m old new parts'
@@ -283,12 +307,17 @@ module _ {S E I O L : Type 0} {s : sources.Ghosts S} {e : elements.Ghosts E} (i 
     tied = a.tied;
   }
 
-  failed_then : (old mid new : Head S I O s) (parts' : List (Part E O e)) (origin : Origin) (fault : TaskFault) → SourceStays old mid → FailsAs i o m mid new parts' origin fault → FailsAs i o m old new parts' origin fault
-  failed_then old mid new parts' _ _ k (refused origin n pad x refusal l w) = refused origin n pad x refusal l w
-  failed_then old mid new parts' _ _ k (unread n why a u h) = unread n why a (unread_then old mid new n why k u) h
-  failed_then old mid new parts' _ _ k (not_linked p x rest a w b n) = not_linked p x rest a w b n
-  failed_then old mid new parts' _ _ k (at_limit p x rest a w l) = at_limit p x rest a w l
-  failed_then old mid new parts' _ _ k (no_memory origin a) = no_memory origin a
+  for_then : (old mid new : Head S I O s) (parts' : List (Part E O e)) (origin : Origin) (n pad : ℕ) (x : Item) → SourceStays old mid
+      → WasFor i tells tells' (frame_in o new parts') mid new origin n pad x → WasFor i tells tells' (frame_in o new parts') old new origin n pad x
+  for_then old mid new parts' (at_pad p) n pad x k f = f
+  for_then old mid new parts' at_head n pad x k f = took_then i tells tells' old mid new n pad x k f
+
+  failed_then : (old mid new : Head S I O s) (parts parts' : List (Part E O e)) (origin : Origin) (fault : TaskFault) → SourceStays old mid → FailsAs i o tells tells' m mid new parts parts' origin fault → FailsAs i o tells tells' m old new parts parts' origin fault
+  failed_then old mid new parts parts' _ _ k (refused origin n pad x refusal l f w) = refused origin n pad x refusal l (for_then old mid new parts' origin n pad x k f) w
+  failed_then old mid new parts parts' _ _ k (unread n why a u h) = unread n why a (unread_then old mid new n why k u) h
+  failed_then old mid new parts parts' _ _ k (not_linked p x rest a w b n) = not_linked p x rest a w b n
+  failed_then old mid new parts parts' _ _ k (at_limit p x rest a w l) = at_limit p x rest a w l
+  failed_then old mid new parts parts' _ _ k (no_memory origin a) = no_memory origin a
 
   gave_then : (old mid : Head S I O s) (parts' : List (Part E O e)) → SourceStays old mid → HeadGaveAll m mid parts' → HeadGaveAll m old parts'
   gave_then (Source old) (Source mid) parts' k w = subst (OwnerRests m) k.0 w
@@ -332,13 +361,20 @@ module _ {S E I O L : Type 0} {s : sources.Ghosts S} {e : elements.Ghosts E} {i 
         let w = p.tries m a in
         why_from start m old mid new step p.stays.2 w.1 (subst (λ z. HeadWhy i o z m mid.head new.head new.parts.items step) p.table (t.why m w.0))
 
-    pub asked_failed : (fault : TaskFault) → AskFault mid new fault → (m : Moment) → Ties old m → Failed start old new m fault
-    asked_failed fault t m a =
-        let w = p.tries m a in
-        record { origin = at_head; fails = failed_then i o m (frame_of old) start tells' old.head mid.head new.head new.parts.items at_head fault p.stays.2 (t.fails m w.0); first = inr (w.1, p.stays.0) }
-
-    pub asked_cause : (fault : TaskFault) → AskFault mid new fault → IsCause old new fault
-    asked_cause fault t = caused_then o (frame_of old) old.head mid.head new.head new.parts.items fault p.stays.2 (subst (λ (fr : TaskFrame). Causes o fr mid.head new.head new.parts.items fault) frame t.cause)
+    pub asked_failed : (fault : TaskFault) → AskFault tells tells' mid new fault → HasFailed start tells' old new fault
+    asked_failed fault t = record {
+      cause = caused_since o (frame_of old) old.head new.head old.parts.items mid.parts.items new.parts.items fault p.kept
+          (caused_then o (frame_of old) old.head mid.head new.head mid.parts.items new.parts.items fault p.stays.2 (subst (λ (fr : TaskFrame). Causes o fr mid.head new.head mid.parts.items new.parts.items fault) frame t.cause));
+      lanes = subst (λ k. LanesLeft i k tells' old.head new.head fault) p.table (left_then i tells tells' old.head mid.head new.head fault p.stays.2 t.lanes);
+      failed = λ m a.
+          let w = p.tries m a in
+          let here = failed_then i o m (frame_of old) tells tells' old.head mid.head new.head mid.parts.items new.parts.items at_head fault p.stays.2 (t.fails m w.0) in
+          record {
+            origin = at_head;
+            fails = subst (λ k. FailsAs i o k tells' m old.head new.head old.parts.items new.parts.items at_head fault) p.table (failed_since i o tells tells' m old.head new.head old.parts.items mid.parts.items new.parts.items at_head fault p.kept here);
+            first = inr (w.1, p.stays.0);
+          };
+    }
 
     pub asked_burns : (step : Step) → AsksHead tells tells' mid new step → Burns (moves_left old) (moves_left new) step
     asked_burns step t = burns_then (moves_left old) (moves_left mid) (moves_left new) step p.spends t.burns

@@ -191,7 +191,7 @@ module _ {S E I O L : Type 0} {s : sources.Ghosts S} {e : elements.Ghosts E} (i 
 
   -- it refused it
   pub row_back : (port : ℕ) (was is : InletRow I) (x : Item) → RowSet i head head' port was is → ((got : List Item) → RowGave i was got → RowGave i is (got ++ x ∷ [])) → (refusal : Refusal) (eater ate : Part E O e) → PartSet parts parts' to eater ate → PartFell eater ate port x refusal
-      → Left {S = S} {s = s} i o m at_head (Inlets head') parts' eater.number port x × Refuses e m eater.number port x refusal
+      → Left {S = S} {s = s} i o m at_head (Inlets head') parts' eater.number port x × Refuses m parts parts' eater.number port x refusal
   row_back port was is x set gave refusal eater ate eats fell =
       let z = a.head_tied port was set.at in
       let tied = a.parts_tied.each to eater eats.at in (
@@ -218,10 +218,8 @@ module _ {S E I O L : Type 0} {s : sources.Ghosts S} {e : elements.Ghosts E} (i 
           };
         },
         record {
-          was = eater.element;
-          is = ate.element;
+          by = record { place = to; was = eater; is = ate; was_at = eats.at; is_at = ap (λ (ps : List (Part E O e)). slice_get ps to) eats.set ∙ set_at parts to eater ate eats.at; number = fell.number; cause = fell.cause };
           stood = tied.stood;
           why = fell.refused (behavior_at m eater.number) (m.took eater.number) tied.stood;
-          cause = fell.cause;
         },
       )

@@ -38,7 +38,7 @@ use Rattle.task_parts.specs.Fault.{refusal_fault}
 use Rattle.task_parts.specs.Gathered.{are_linked, linked_else}
 use Rattle.task_parts.specs.Shape.{part_shape}
 use Rattle.task_parts.specs.Part.{IsSettled, PartReady, waits_at}
-use Rattle.net_task.specs.Frame.{PartFrame, TaskFrame, Wire, WireAt, frame_in, head_frame, of_part, part_frame, room_in, wire_of}
+use Rattle.net_task.specs.Frame.{IsWire, PartFrame, TaskFrame, Wire, WireAt, frame_in, head_frame, of_part, part_frame, room_in, wire_of}
 use Rattle.net_task.specs.Fuel.{head_left, pad_left, part_left}
 use Rattle.net_task.specs.Ready.{AreReady, HeadApart, KeepsLanes, HeadReady, PartsReady, WiresApart}
 use Rattle.net_task.specs.Reasons.{IsBlocked, PadHolds}
@@ -47,20 +47,19 @@ use Rattle.task_parts.specs.Moved.{HandedOn, HandedBack}
 use Rattle.task_parts.specs.Passing.{AfterPart, HandsTo, CrossesPart}
 use Rattle.net_task.specs.Ties.{LeadsAs, PortTied, AreTied, Stands, nothing_lost}
 use Rattle.net_task.specs.Moves.{Act, LanesBy, RowsStay, given_by, passing}
-use Rattle.net_task.specs.Failed.{Causes, FailsAs, at_limit, at_pad, by_element, full_at, memory, no_memory, not_linked, refused, unlinked}
-use Rattle.net_model.specs.Failures.{IsWriteCause}
+use Rattle.net_task.specs.Failed.{Causes, FailsAs, WasFor, at_limit, at_pad, by_element, full_at, memory, no_memory, not_linked, refused, unlinked}
 use Rattle.task_pads.specs.Crossing.{WentAway}
-use Rattle.net_task.specs.Tries.{CrossesAt, IsAtPort, PadFails, SettledAt, Spends, StaysSettled, TableStays, TriedAs}
-use Rattle.task_pads.proofs.Lists.{set_there}
-use Rattle.task_parts.proofs.Lists.{each_set, map_get, set_at}
+use Rattle.net_task.specs.Tries.{CrossesAt, ElementsStay, IsAtPort, PadFails, SettledAt, Spends, StaysSettled, TableStays, TriedAs, elements_of}
+use Rattle.task_parts.proofs.Lists.{each_set, map_get}
 use Rattle.net_task.proofs.Places.{sum_set}
 use Rattle.net_task.proofs.Tied.{parts_set_shape, set_part_shape}
-use Rattle.net_task.proofs.Bare.{bare, bare_fell, bare_shapes, bare_frames, bare_handed, bare_lefts, bare_pad, bare_ready, bare_set}
+use Rattle.net_task.proofs.Bare.{bare, bare_fell, bare_frames, bare_handed, bare_lefts, bare_pad, bare_ready, bare_set}
 use Rattle.net_task.proofs.Held.{came_room, ended_holds, frames_set, full_holds, leads_into, probe_holds, same_wire, wire_at, wire_is, wire_set}
 use Rattle.net_task.proofs.Linked.{same_number}
 use Rattle.net_task.proofs.Passing.{MovesOn, gone_act, gone_at, gone_given, gone_move, is_set, port_here, tied_here, try_crosses, try_stays, waited_at}
-use Rattle.net_task.proofs.Handing.{found_number, handed_on}
-use Rattle.net_task.proofs.Refusing.{handed_back}
+use Rattle.net_task.proofs.Handing.{handed_on}
+use Rattle.net_task.proofs.Kept.{kept_set, kept_stays}
+use Rattle.net_task.proofs.Refusing.{back_refused, handed_back}
 use Rattle.gst_value.proofs.Basics.{some_same}
 
 -- what a call of a trait's law gives: the count of an outlet is the length of what was sent
@@ -320,6 +319,42 @@ module _ {S E I O L : Type 0} {s : sources.Ghosts S} {e : elements.Ghosts E} (i 
   pub part_tabled : (answer : Tried) → r ≡ Ok answer → TableStays tells tells' answer
   part_tabled answer q = tabled t.crossing t.crossed.crossed answer q t.after
 
+  -- where nothing moved each element is as it was
+  between_kept : elements_of t.between ≡ elements_of parts
+  between_kept = kept_set parts t.between place t.was t.is t.set t.crossed.pad.element
+
+  same_kept : (answer : Tried) → parts' ≡ t.between → ElementsStay parts parts' answer
+  same_kept answer same = kept_stays parts parts' answer (ap (λ (ps : List (Part E O e)). elements_of ps) same ∙ between_kept)
+
+  kept_by : (crossing : Crossing) → (answer : Tried) → r ≡ Ok answer → After_as crossing → ElementsStay parts parts' answer
+  kept_by Idle answer q f = same_kept answer f.0
+  kept_by (To number hint sink) answer q f = subst (ElementsStay parts parts') (moved_to t.between parts' place port number sink r answer q f) tt
+  kept_by Gone answer q f = same_kept answer f.0
+  kept_by BehindEos answer q f = same_kept answer f.0
+  kept_by (Full lane) answer q f = same_kept answer f.0
+  kept_by (AtProbe command) answer q f = same_kept answer f.0
+  kept_by NotLinked answer q f = same_kept answer f.0
+  kept_by AtLimit answer q f = same_kept answer f.0
+  kept_by OutOfMemory answer q f = same_kept answer f.0
+
+  pub part_kept : (answer : Tried) → r ≡ Ok answer → ElementsStay parts parts' answer
+  part_kept answer q = kept_by t.crossing answer q t.after
+
+  -- at a fault the lanes are as they were
+  lanes_same : (crossing : Crossing) → Comes_as crossing → (fault : TaskFault) → r ≡ Err fault → After_as crossing → tells' ≡ tells
+  lanes_same Idle x fault q f = x.2
+  lanes_same (To number hint sink) x fault q f = x.1
+  lanes_same Gone x fault q f = not_both r tried.Moved fault f.1 q
+  lanes_same BehindEos x fault q f = x.table
+  lanes_same (Full lane) x fault q f = x.table
+  lanes_same (AtProbe command) x fault q f = x.table
+  lanes_same NotLinked x fault q f = x.0.table
+  lanes_same AtLimit x fault q f = x.3
+  lanes_same OutOfMemory x fault q f = x.2
+
+  pub part_lanes_same : (fault : TaskFault) → r ≡ Err fault → tells' ≡ tells
+  part_lanes_same fault q = lanes_same t.crossing t.crossed.crossed fault q t.after
+
   -- where nothing waits at a pad nothing is to go there
   module _ (settled : SettledAt parts place) where
     still_settled : waiting_of is_pad ≡ waiting_of was_pad → parts' ≡ t.between → SettledAt parts' place
@@ -437,17 +472,23 @@ module _ {S E I O L : Type 0} {s : sources.Ghosts S} {e : elements.Ghosts E} (i 
     number_same = same_number is_pad was_pad t.crossed.pad.shape
 
     abbrev Failed_here : TaskFault → Type 0
-    Failed_here fault = PadFails i o m head head parts' (IsAtPort Frame_was place port) fault
+    Failed_here fault = PadFails i o m head head parts parts' (IsAtPort Frame_was place port) fault
 
-    fails_here : (fault : TaskFault) → FailsAs i o m head head parts' (at_pad (number_of was_pad)) fault → Failed_here fault
+    fails_here : (fault : TaskFault) → ((k : Option (List Lane)) → FailsAs i o k k m head head parts parts' (at_pad (number_of was_pad)) fault) → Failed_here fault
     fails_here fault f = record { origin = at_pad (number_of was_pad); fails = f; first = inr (number_of was_pad, refl, at_here) }
+
+    -- the pad leads to the sink pad of an element of the task
+    inner_wire : (number sink : ℕ) (x : Item) (k : Option (List Lane)) → goes_of was_pad ≡ inside number sink
+        → WasFor i k k (frame_in o head parts') head head (at_pad (number_of was_pad)) number sink x
+    inner_wire number sink x k goes =
+        (wire_of o was_pad, subst (λ (f : TaskFrame). IsWire f (wire_of o was_pad)) (sym part_framed) (of_part place port here_at), refl, goes, refl)
 
     failed_by : (crossing : Crossing) → Comes_as crossing → (fault : TaskFault) → r ≡ Err fault → After_as crossing → Failed_here fault
     failed_by Idle x fault q f = not_both r tried.Idle fault f.1 q
     failed_by (To number hint sink) x fault q f =
         let w = refused_of t.between parts' place port number sink r fault q f in
         let z = handed_back i o head parts t.between place port t.was t.is was_pad is_pad t.set t.crossed.pad m a number hint sink x.0 parts' w.to w.at w.refusal w.handed shapes in
-        subst Failed_here (sym w.named) (fails_here (refusal_fault number w.refusal) (refused (at_pad (number_of was_pad)) number sink w.handed.item w.refusal z.0 z.1))
+        subst Failed_here (sym w.named) (fails_here (refusal_fault number w.refusal) (λ k. refused (at_pad (number_of was_pad)) number sink w.handed.item w.refusal z.0 (inner_wire number sink w.handed.item k x.0.to) z.1))
     failed_by Gone x fault q f = not_both r tried.Moved fault f.1 q
     failed_by BehindEos x fault q f = not_both r (tried.Stuck steps.Ended) fault f.1 q
     failed_by (Full lane) x fault q f = not_both r (tried.Stuck (steps.NeedsRoom lane)) fault f.1 q
@@ -458,57 +499,33 @@ module _ {S E I O L : Type 0} {s : sources.Ghosts S} {e : elements.Ghosts E} (i 
         let count : crossed_count is_pad ≡ length (m.history p) = (x.0.stands.history (m.history p) here.linked.crossed).crossed in
         let named : faults.NotLinked p (length (m.history p)) ≡ fault = ap (λ n. faults.NotLinked n (length (m.history p))) (sym number_same) ∙ ap (faults.NotLinked (number_of is_pad)) (sym count) ∙ err_same r (faults.NotLinked (number_of is_pad) (crossed_count is_pad)) fault f.1 q in
         subst Failed_here named (fails_here (faults.NotLinked p (length (m.history p)))
-        (not_linked p x.0.item (x.0.rest ++ on_port port t.was.out) (stays x.0.stands.history x.0.stands.sent (x.0.waits ∙ sym x.0.waited) f.0) (here.waits ∙ ap (λ ys. ys ++ on_port port t.was.out) x.0.waited) why.1 (alone why.2 why.3)))
+        (λ k. not_linked p x.0.item (x.0.rest ++ on_port port t.was.out) (stays x.0.stands.history x.0.stands.sent (x.0.waits ∙ sym x.0.waited) f.0, refl) (here.waits ∙ ap (λ ys. ys ++ on_port port t.was.out) x.0.waited) why.1 (alone why.2 why.3)))
     failed_by AtLimit x fault q f =
         let p : ℕ = number_of was_pad in
         let named : faults.TooLong (m.plan.owner p) 1099511627776 1 ≡ fault = ap (λ n. faults.TooLong n 1099511627776 1) (here.owner ∙ sym t.crossed.pad.number) ∙ err_same r (faults.TooLong t.is.number 1099511627776 1) fault f.1 q in
         let w = some_first (waiting_of was_pad) x.0 in
         subst Failed_here named (fails_here (faults.TooLong (m.plan.owner p) 1099511627776 1)
-        (at_limit p w.item (w.rest ++ on_port port t.was.out) (stays (seen_crossed was_pad is_pad x.2) (seen_sent o was_pad is_pad x.2) (seen_waiting was_pad is_pad x.2) f.0) (here.waits ∙ ap (λ ys. ys ++ on_port port t.was.out) w.whole) (many x.1)))
+        (λ k. at_limit p w.item (w.rest ++ on_port port t.was.out) (stays (seen_crossed was_pad is_pad x.2) (seen_sent o was_pad is_pad x.2) (seen_waiting was_pad is_pad x.2) f.0, refl) (here.waits ∙ ap (λ ys. ys ++ on_port port t.was.out) w.whole) (many x.1)))
       where
         many : ((1099511627776 ≤ crossed_count was_pad) ⊎ (1099511627776 ≤ count_in (end_in o (rest_of was_pad).behind))) → 1099511627776 ≤ length (m.history (number_of was_pad))
         many (inl low) = let c = here.linked.crossed.crossed in omega (arith, c, low)
         many (inr low) = many_crossed o counts (rest_of was_pad).behind (m.history (number_of was_pad)) 1099511627776 here.linked.sent (omega arith) low
     failed_by OutOfMemory x fault q f =
         subst Failed_here (err_same r faults.OutOfMemory fault f.1 q)
-        (fails_here faults.OutOfMemory (no_memory (at_pad (number_of was_pad)) (stays (seen_crossed was_pad is_pad x.1) (seen_sent o was_pad is_pad x.1) (seen_waiting was_pad is_pad x.1) f.0)))
+        (fails_here faults.OutOfMemory (λ k. no_memory (at_pad (number_of was_pad)) (stays (seen_crossed was_pad is_pad x.1) (seen_sent o was_pad is_pad x.1) (seen_waiting was_pad is_pad x.1) f.0, refl)))
 
     pub part_failed : (fault : TaskFault) → r ≡ Err fault → Failed_here fault
     part_failed fault q = failed_by t.crossing t.crossed.crossed fault q t.after
 
   -- why it met a fault, whatever the source owes
   abbrev Causes_as : TaskFault → Type 0
-  Causes_as fault = Causes {S = S} {I = I} {s = s} o (frame_in o head parts) head head parts' fault
-
-  back_cause : (number sink to : ℕ) (refusal : Refusal) → IsAt t.between number to → HandedBack t.between parts' place port to sink refusal → Causes_as (refusal_fault number refusal)
-  back_cause number sink to refusal at h = go (cases_eq to place)
-    where
-      gave : map bare h.between ≡ map bare t.between
-      gave = bare_set t.between h.between place h.giver h.gave h.given (bare_pad h.giver h.gave port h.taken.was h.taken.is h.taken.pad h.taken.rest)
-
-      named : h.ate.number ≡ number
-      named = h.fell.number ∙ found_number t.between h.between number to h.eater at (bare_shapes t.between h.between gave) h.fed.at
-
-      there : slice_get h.behind to ≡ Some h.ate
-      there = ap (λ (ps : List (Part E O e)). slice_get ps to) h.fed.set ∙ set_at h.between to h.eater h.ate h.fed.at
-
-      made : (at : ℕ) (part : Part E O e) → slice_get parts' at ≡ Some part → part.number ≡ number → part.element ≡ h.ate.element → Causes_as (refusal_fault number refusal)
-      made k part get same element =
-          subst (λ n. Causes_as (refusal_fault n refusal)) same
-          (by_element k part (e.failures h.eater.element) refusal get (subst (λ z. IsWriteCause (e.failures h.eater.element) (e.failures z) refusal) (sym element) h.fell.cause))
-
-      go : ((to ≡ place) ⊎ (to ≡ place → ⊥)) → Causes_as (refusal_fault number refusal)
-      go (inl same) =
-          let one : h.again ≡ h.ate = some_same (sym h.back.at ∙ ap (slice_get h.behind) (sym same) ∙ there) in
-          made place h.is (ap (λ (ps : List (Part E O e)). slice_get ps place) h.back.set ∙ set_at h.behind place h.again h.is h.back.at)
-          (h.took_back.pad.number ∙ ap (λ (z : Part E O e). z.number) one ∙ named) (h.took_back.pad.element ∙ ap (λ (z : Part E O e). z.element) one)
-      go (inr n) = made to h.ate (ap (λ (ps : List (Part E O e)). slice_get ps to) h.back.set ∙ set_there h.behind place to h.is n ∙ there) named refl
+  Causes_as fault = Causes {S = S} {I = I} {s = s} o (frame_in o head parts) head head parts parts' fault
 
   caused : (crossing : Crossing) → Comes_as crossing → (fault : TaskFault) → r ≡ Err fault → After_as crossing → Causes_as fault
   caused Idle x fault q f = not_both r tried.Idle fault f.1 q
   caused (To number hint sink) x fault q f =
       let w = refused_of t.between parts' place port number sink r fault q f in
-      subst Causes_as (sym w.named) (back_cause number sink w.to w.refusal w.at w.handed)
+      subst Causes_as (sym w.named) (by_element number w.refusal (back_refused parts t.between parts' place port w.to number sink w.refusal between_kept w.at w.handed).0)
   caused Gone x fault q f = not_both r tried.Moved fault f.1 q
   caused BehindEos x fault q f = not_both r (tried.Stuck steps.Ended) fault f.1 q
   caused (Full lane) x fault q f = not_both r (tried.Stuck (steps.NeedsRoom lane)) fault f.1 q

@@ -15,12 +15,13 @@ use Rattle.net_model.specs.Refuses.{RefusesBy}
 use Rattle.task_parts.specs.declared.part.Part.{Part}
 use Rattle.task_parts.specs.declared.head.Head.{Head}
 use Rattle.task_parts.specs.declared.head.Head.TheVariants.{Source, Inlets}
-use Rattle.task_pads.specs.Behind.{nowhere}
+use Rattle.task_pads.specs.Behind.{inside, nowhere}
 use Rattle.net_task.specs.declared.task.Task.{Task}
 use Rattle.task_parts.specs.declared.fault.TaskFault.{TaskFault}
 use Rattle.task_parts.specs.declared.fault.TaskFault.TheVariants.{TooLong, NotLinked, OutOfMemory}
 use Rattle.task_parts.specs.Fault.{refusal_fault, unread_fault}
-use Rattle.net_task.specs.Frame.{PartFrame, TaskFrame, Wire, IsWire, by_source as of_source, frame_of}
+use Rattle.net_task.specs.Frame.{PartFrame, TaskFrame, Wire, IsWire, by_source as of_source, frame_in, frame_of}
+use Rattle.net_task.specs.Moves.{TookFrom}
 use Rattle.net_task.specs.Short.{CrossedShort}
 use Rattle.net_task.specs.Reasons.{AllRest, HeadIdle, IsFirst}
 use Rattle.net_task.specs.Ties.{AreTied, Stands, Ties, nothing_lost}
@@ -50,10 +51,41 @@ module _ {S I O : Type 0} {s : sources.Ghosts S} where
   IsOfHead at_head n (Inlets head) = head.number ≡ n
   IsOfHead at_head n (Source head) = ⊥
 
+module _ {S I O L : Type 0} {s : sources.Ghosts S} (i : inlets.Ghosts I L O) where
+  -- An item that was met at a pad was to go to that sink pad of an element of the task, and the lanes are as they were. One that was met
+  -- as the head was asked was the next of the row of that sink pad, and the lanes are as they are behind it.
+  abbrev pub WasFor : Option (List Lane) → Option (List Lane) → TaskFrame → Head S I O s → Head S I O s → Origin → ℕ → ℕ → Item → Type 0
+  WasFor tells tells' frame head head' (at_pad p) n pad x =
+      (wire : Wire) × IsWire frame wire × (wire.number ≡ p) × (wire.leads ≡ inside n pad) × (tells' ≡ tells)
+  WasFor tells tells' frame head head' at_head n pad x = TookFrom i head head' n pad x tells tells'
+
+  -- What a fault leaves of the lanes, whatever the source owes: they are as they were; or an element refused the item that the head took
+  -- for it, and they are as they are behind that.
+  pub data LanesLeft (tells tells' : Option (List Lane)) (head head' : Head S I O s) : TaskFault → Type 0 where
+    kept : (fault : TaskFault) → tells' ≡ tells → LanesLeft tells tells' head head' fault
+    taken : (n port : ℕ) (x : Item) (refusal : Refusal) → TookFrom i head head' n port x tells tells' → LanesLeft tells tells' head head' (refusal_fault n refusal)
+
 module _ {E O : Type 0} {e : elements.Ghosts E} where
   -- an element stands, or it is the one that refused an item and stands for that
   abbrev pub StandsOrFell : ℕ → ℕ → Item → Moment → Part E O e → Type 0
   StandsOrFell n i x m part = Stands m part ⊎ ((part.number ≡ n) × e.fell part.element (behavior_at m part.number) (m.took part.number) i x)
+
+  -- The element of a number refused an item. What is told of a failed write are the two counts of failed calls of the element as it was
+  -- and as it is at the same place.
+  pub record HasRefused (parts parts' : List (Part E O e)) (n : ℕ) (refusal : Refusal) : Type 0 where
+    pub place : ℕ
+    pub was : Part E O e
+    pub is : Part E O e
+    pub was_at : slice_get parts place ≡ Some was
+    pub is_at : slice_get parts' place ≡ Some is
+    pub number : is.number ≡ n
+    pub cause : IsWriteCause (e.failures was.element) (e.failures is.element) refusal
+
+  -- What it answers to the item, want of memory, or a failed write of this very call is why it refused it.
+  pub record Refuses (m : Moment) (parts parts' : List (Part E O e)) (n pad : ℕ) (x : Item) (refusal : Refusal) : Type 0 where
+    pub by : HasRefused parts parts' n refusal
+    pub stood : e.stands by.was.element (behavior_at m n) (m.took n)
+    pub why : RefusesBy (behavior_at m n) (m.took n) pad x refusal
 
 -- Where the item was that an element refused: it waited first at a pad of the task, and does no more; or it came from an
 -- inlet of the head, and is lost there. Nothing else is lost.
@@ -61,15 +93,6 @@ pub data GaveUp (m : Moment) (n i : ℕ) (x : Item) : Origin → Moment → (ℕ
   by_pad : (p : ℕ) (rest : List Item) → m.waits p ≡ x ∷ rest → Leads m.plan p n i → GaveUp m n i x (at_pad p) (without_first p rest m) nothing_lost
   by_source : (p : ℕ) (rest : List Item) → m.waits p ≡ x ∷ rest → Leads m.plan p n i → GaveUp m n i x (at_pad p) (without_first p rest m) (lost_at 0 x)
   by_inlet : GaveUp m n i x at_head m (lost_at i x)
-
-module _ {E : Type 0} (e : elements.Ghosts E) where
-  -- What it answers to the item, want of memory, or a failed write of this very call is why an element refused it.
-  pub record Refuses (m : Moment) (n pad : ℕ) (x : Item) (refusal : Refusal) : Type 0 where
-    pub was : E
-    pub is : E
-    pub stood : e.stands was (behavior_at m n) (m.took n)
-    pub why : RefusesBy (behavior_at m n) (m.took n) pad x refusal
-    pub cause : IsWriteCause (e.failures was) (e.failures is) refusal
 
 module _ {S I O : Type 0} {s : sources.Ghosts S} where
   -- the source could not be read in this very call
@@ -87,40 +110,47 @@ module _ {S E I O L : Type 0} {s : sources.Ghosts S} {e : elements.Ghosts E} (i 
     pub of_head : IsOfHead origin n head
     pub tied : AreTied i o (StandsOrFell n pad x behind) lost behind head parts
 
-  -- Why a head and elements met a fault at a moment, where that was, and how they stand behind it.
-  pub data FailsAs (m : Moment) (head head' : Head S I O s) (parts' : List (Part E O e)) : Origin → TaskFault → Type 0 where
-    refused : (origin : Origin) (n pad : ℕ) (x : Item) (refusal : Refusal) → Left m origin head' parts' n pad x → Refuses e m n pad x refusal
-        → FailsAs m head head' parts' origin (refusal_fault n refusal)
-    unread : (n : ℕ) (why : Unread) → AreTied i o (Stands m) nothing_lost m head' parts' → IsUnread head head' n why → CrossedShort m n why
-        → FailsAs m head head' parts' at_head (unread_fault n why)
-    not_linked : (p : ℕ) (x : Item) (rest : List Item) → AreTied i o (Stands m) nothing_lost m head' parts' → m.waits p ≡ x ∷ rest → is_buffer x ≡ true
-        → ((q : ℕ) → m.plan.owner q ≡ m.plan.owner p → LeadsNowhere m.plan q) → FailsAs m head head' parts' (at_pad p) (NotLinked p (length (m.history p)))
+  -- a head and elements are tied to the moment, and the lanes are as they were
+  abbrev pub Stay : Option (List Lane) → Option (List Lane) → Moment → Head S I O s → List (Part E O e) → Type 0
+  Stay tells tells' m head parts = AreTied i o (Stands m) nothing_lost m head parts × (tells' ≡ tells)
+
+  -- Why a head and elements met a fault at a moment, where that was, and how they and the lanes stand behind it.
+  pub data FailsAs (tells tells' : Option (List Lane)) (m : Moment) (head head' : Head S I O s) (parts parts' : List (Part E O e)) : Origin → TaskFault → Type 0 where
+    refused : (origin : Origin) (n pad : ℕ) (x : Item) (refusal : Refusal) → Left m origin head' parts' n pad x
+        → WasFor i tells tells' (frame_in o head' parts') head head' origin n pad x → Refuses m parts parts' n pad x refusal
+        → FailsAs tells tells' m head head' parts parts' origin (refusal_fault n refusal)
+    unread : (n : ℕ) (why : Unread) → Stay tells tells' m head' parts' → IsUnread head head' n why → CrossedShort m n why
+        → FailsAs tells tells' m head head' parts parts' at_head (unread_fault n why)
+    not_linked : (p : ℕ) (x : Item) (rest : List Item) → Stay tells tells' m head' parts' → m.waits p ≡ x ∷ rest → is_buffer x ≡ true
+        → ((q : ℕ) → m.plan.owner q ≡ m.plan.owner p → LeadsNowhere m.plan q)
+        → FailsAs tells tells' m head head' parts parts' (at_pad p) (NotLinked p (length (m.history p)))
     -- more than 2^40 items were to cross a pad
-    at_limit : (p : ℕ) (x : Item) (rest : List Item) → AreTied i o (Stands m) nothing_lost m head' parts' → m.waits p ≡ x ∷ rest → 1099511627776 ≤ length (m.history p)
-        → FailsAs m head head' parts' (at_pad p) (TooLong (m.plan.owner p) 1099511627776 1)
-    no_memory : (origin : Origin) → AreTied i o (Stands m) nothing_lost m head' parts' → FailsAs m head head' parts' origin OutOfMemory
+    at_limit : (p : ℕ) (x : Item) (rest : List Item) → Stay tells tells' m head' parts' → m.waits p ≡ x ∷ rest → 1099511627776 ≤ length (m.history p)
+        → FailsAs tells tells' m head head' parts parts' (at_pad p) (TooLong (m.plan.owner p) 1099511627776 1)
+    no_memory : (origin : Origin) → Stay tells tells' m head' parts' → FailsAs tells tells' m head head' parts parts' origin OutOfMemory
 
 -- Why a task met a fault at a moment to which it was tied. What it met it at was the first that could move, where memory
 -- was not wanting.
-pub record Failed {S E I O L : Type 0} {s : sources.Ghosts S} {e : elements.Ghosts E} {i : inlets.Ghosts I L O} {o : outlets.Ghosts O L} (tells : Option (List Lane)) (old new : Task S E I O L s e i o) (m : Moment) (fault : TaskFault) : Type 0 where
+pub record Failed {S E I O L : Type 0} {s : sources.Ghosts S} {e : elements.Ghosts E} {i : inlets.Ghosts I L O} {o : outlets.Ghosts O L} (tells tells' : Option (List Lane)) (old new : Task S E I O L s e i o) (m : Moment) (fault : TaskFault) : Type 0 where
   pub origin : Origin
-  pub fails : FailsAs i o m old.head new.head new.parts.items origin fault
+  pub fails : FailsAs i o tells tells' m old.head new.head old.parts.items new.parts.items origin fault
   pub first : (fault ≡ OutOfMemory) ⊎ WasFirst tells m (frame_of old) old.head origin
 
 -- Why a task met a fault, whatever its source owes: an element of the task refused an item, by its rule or by a write that
 -- failed in this very call; its source could not be read; a pad of it is not linked; or 2^40 items crossed one.
-pub data Causes {S E I O L : Type 0} {s : sources.Ghosts S} {e : elements.Ghosts E} (o : outlets.Ghosts O L) (frame : TaskFrame) (head head' : Head S I O s) (parts' : List (Part E O e)) : TaskFault → Type 0 where
-  by_element : (place : ℕ) (part : Part E O e) (was : Option ℕ) (refusal : Refusal) → slice_get parts' place ≡ Some part → IsWriteCause was (e.failures part.element) refusal
-      → Causes o frame head head' parts' (refusal_fault part.number refusal)
-  by_source : (n : ℕ) (why : Unread) → IsUnread head head' n why → Causes o frame head head' parts' (unread_fault n why)
-  unlinked : (wire : Wire) (place : ℕ) → IsWire frame wire → wire.leads ≡ nowhere → Causes o frame head head' parts' (NotLinked wire.number place)
-  full_at : (place : ℕ) (part : PartFrame) → slice_get frame.parts place ≡ Some part → Causes o frame head head' parts' (TooLong part.number 1099511627776 1)
-  full_head : (n : ℕ) (file : Option (Option (List ℕ))) (wire : Wire) → frame.head ≡ of_source n file wire → Causes o frame head head' parts' (TooLong n 1099511627776 1)
-  memory : Causes o frame head head' parts' OutOfMemory
+pub data Causes {S E I O L : Type 0} {s : sources.Ghosts S} {e : elements.Ghosts E} (o : outlets.Ghosts O L) (frame : TaskFrame) (head head' : Head S I O s) (parts parts' : List (Part E O e)) : TaskFault → Type 0 where
+  by_element : (n : ℕ) (refusal : Refusal) → HasRefused parts parts' n refusal → Causes o frame head head' parts parts' (refusal_fault n refusal)
+  by_source : (n : ℕ) (why : Unread) → IsUnread head head' n why → Causes o frame head head' parts parts' (unread_fault n why)
+  unlinked : (wire : Wire) (place : ℕ) → IsWire frame wire → wire.leads ≡ nowhere → Causes o frame head head' parts parts' (NotLinked wire.number place)
+  full_at : (place : ℕ) (part : PartFrame) → slice_get frame.parts place ≡ Some part → Causes o frame head head' parts parts' (TooLong part.number 1099511627776 1)
+  full_head : (n : ℕ) (file : Option (Option (List ℕ))) (wire : Wire) → frame.head ≡ of_source n file wire → Causes o frame head head' parts parts' (TooLong n 1099511627776 1)
+  memory : Causes o frame head head' parts parts' OutOfMemory
 
 abbrev pub IsCause : {S E I O L : Type 0} {s : sources.Ghosts S} {e : elements.Ghosts E} {i : inlets.Ghosts I L O} {o : outlets.Ghosts O L} → Task S E I O L s e i o → Task S E I O L s e i o → TaskFault → Type 0
-IsCause {o = o} old new fault = Causes o (frame_of old) old.head new.head new.parts.items fault
+IsCause {o = o} old new fault = Causes o (frame_of old) old.head new.head old.parts.items new.parts.items fault
 
--- the cause of a fault, and how the task stands behind it at each moment to which it was tied
-abbrev pub HasFailed : {S E I O L : Type 0} {s : sources.Ghosts S} {e : elements.Ghosts E} {i : inlets.Ghosts I L O} {o : outlets.Ghosts O L} → Option (List Lane) → Task S E I O L s e i o → Task S E I O L s e i o → TaskFault → Type 0
-HasFailed tells old new fault = IsCause old new fault × ((m : Moment) → Ties old m → Failed tells old new m fault)
+-- The cause of a fault, what it leaves of the lanes, and how the task stands behind it at each moment to which it was tied.
+pub record HasFailed {S E I O L : Type 0} {s : sources.Ghosts S} {e : elements.Ghosts E} {i : inlets.Ghosts I L O} {o : outlets.Ghosts O L} (tells tells' : Option (List Lane)) (old new : Task S E I O L s e i o) (fault : TaskFault) : Type 0 where
+  pub cause : IsCause old new fault
+  pub lanes : LanesLeft i tells tells' old.head new.head fault
+  pub failed : (m : Moment) → Ties old m → Failed tells tells' old new m fault

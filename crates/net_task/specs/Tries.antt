@@ -1,5 +1,5 @@
 -- What the tries of a step tell: pads are tried one behind the other until an item moves.
-use Rattle.std.specs.Prelude.{◌≡◌, ◌≢◌, ◌<◌, ◌≤◌, ◌⊎◌, ◌+◌, ℕ, List, [], Option, Some, slice_get, sum_by}
+use Rattle.std.specs.Prelude.{◌≡◌, ◌≢◌, ◌<◌, ◌≤◌, ◌⊎◌, ◌+◌, ℕ, List, [], Option, Some, map, slice_get, sum_by}
 use Rattle.lane_core.specs.Lane.{Lane}
 use Rattle.lane_core.specs.declared.ends.Inlet as inlets
 use Rattle.lane_core.specs.declared.ends.Outlet as outlets
@@ -17,7 +17,7 @@ use Rattle.task_parts.specs.declared.fault.TaskFault.{TaskFault}
 use Rattle.task_parts.specs.declared.fault.TaskFault.TheVariants.{OutOfMemory}
 use Rattle.task_parts.specs.Part.{IsSettled}
 use Rattle.net_task.specs.declared.task.Task.{Task}
-use Rattle.net_task.specs.Failed.{Failed, FailsAs, IsCause, Origin, at_head, at_pad}
+use Rattle.net_task.specs.Failed.{FailsAs, IsCause, LanesLeft, Origin, at_head, at_pad}
 use Rattle.net_task.specs.Frame.{TaskFrame, Wire, WireAt, frame_in, frame_of, head_wire}
 use Rattle.net_task.specs.Fuel.{Burns, head_left, part_left}
 use Rattle.net_task.specs.Moves.{Act, Advances, LanesBy, Move, RowsKept, Unlawful, giving, given_by, given_in, leaving, passing, sending, taking}
@@ -44,6 +44,15 @@ abbrev pub TableStays : Option (List Lane) → Option (List Lane) → Tried → 
 TableStays tells tells' tried.Moved = Unit {0}
 TableStays tells tells' tried.Idle = tells' ≡ tells
 TableStays tells tells' (tried.Stuck step) = (tells' ≡ tells) × (step ≢ Moved)
+
+-- where nothing moved each element is as it was
+abbrev pub elements_of : {E O : Type 0} {e : elements.Ghosts E} → List (Part E O e) → List E
+elements_of parts = map (λ part. part.element) parts
+
+abbrev pub ElementsStay : {E O : Type 0} {e : elements.Ghosts E} → List (Part E O e) → List (Part E O e) → Tried → Type 0
+ElementsStay parts parts' tried.Moved = Unit {0}
+ElementsStay parts parts' tried.Idle = elements_of parts' ≡ elements_of parts
+ElementsStay parts parts' (tried.Stuck step) = elements_of parts' ≡ elements_of parts
 
 -- no item crossed the pads that were tried
 abbrev pub PadsTell : Option (List Lane) → Moment → TaskFrame → (Wire → Type 0) → Tried → Type 0
@@ -109,10 +118,10 @@ module _ {S E I O L : Type 0} {s : sources.Ghosts S} {e : elements.Ghosts E} (i 
     pub tied : AreTied i o (Stands next) nothing_lost next head' parts'
     pub first : Where pad
 
-  -- A fault at a pad, of which this is so.
-  pub record PadFails (m : Moment) (head head' : Head S I O s) (parts' : List (Part E O e)) (Where : ℕ → Type 0) (fault : TaskFault) : Type 0 where
+  -- A fault at a pad, of which this is so. Whatever the lanes hold, they are as they were.
+  pub record PadFails (m : Moment) (head head' : Head S I O s) (parts parts' : List (Part E O e)) (Where : ℕ → Type 0) (fault : TaskFault) : Type 0 where
     pub origin : Origin
-    pub fails : FailsAs i o m head head' parts' origin fault
+    pub fails : (tells : Option (List Lane)) → FailsAs i o tells tells m head head' parts parts' origin fault
     pub first : (fault ≡ OutOfMemory) ⊎ ((p : ℕ) × (origin ≡ at_pad p) × Where p)
 
   -- what a try of some pads of elements makes of a moment
@@ -160,6 +169,7 @@ module _ {S E I O L : Type 0} {s : sources.Ghosts S} {e : elements.Ghosts E} (i 
     pub ready : AreReady i o tells' head' parts'
     pub spends : Spends (left_in head parts) (left_in head' parts') answer
     pub table : TableStays tells tells' answer
+    pub kept : ElementsStay parts parts' answer
     pub lanes : KeepsLanes (frame_in o head parts) tells tells'
     pub tries : (m : Moment) → AreTied i o (Stands m) nothing_lost m head parts
         → TriedAs tells tells' (frame_in o head parts) m head head' parts' (Where m) Was answer
@@ -169,6 +179,7 @@ module _ {S E I O L : Type 0} {s : sources.Ghosts S} {e : elements.Ghosts E} (i 
     pub ready : AreReady i o tells' head' parts'
     pub spends : Spends (left_in head parts) (left_in head' parts') answer
     pub table : TableStays tells tells' answer
+    pub kept : ElementsStay parts parts' answer
     pub lanes : LanesGoOn i (frame_in o head parts) head head' tells tells'
     pub stays : HeadStays head head' answer
     pub tries : (m : Moment) → AreTied i o (Stands m) nothing_lost m head parts → HeadTriedAs tells tells' (frame_in o head parts) m head head' parts' answer
@@ -178,6 +189,7 @@ module _ {S E I O L : Type 0} {s : sources.Ghosts S} {e : elements.Ghosts E} (i 
     pub ready : AreReady i o tells' head' parts'
     pub spends : Spends (left_in head parts) (left_in head' parts') answer
     pub table : TableStays tells tells' answer
+    pub kept : ElementsStay parts parts' answer
     pub lanes : LanesGoOn i (frame_in o head parts) head head' tells tells'
     pub stays : HeadStays head head' answer
     pub tries : (m : Moment) → AreTied i o (Stands m) nothing_lost m head parts → AllTriedAs tells tells' (frame_in o head parts) m head head' parts' answer
@@ -198,33 +210,34 @@ module _ {S E I O L : Type 0} {s : sources.Ghosts S} {e : elements.Ghosts E} {i 
   TaskTries tells tells' old new Where Was answer = Tries i o tells tells' old.head new.head old.parts.items new.parts.items Where Was answer
 
   -- Why pads that were tried met a fault, and at which of them that was.
-  pub record TaskFails (old new : Task S E I O L s e i o) (Where : Moment → ℕ → Type 0) (fault : TaskFault) : Type 0 where
+  pub record TaskFails (tells tells' : Option (List Lane)) (old new : Task S E I O L s e i o) (Where : Moment → ℕ → Type 0) (fault : TaskFault) : Type 0 where
     pub cause : IsCause old new fault
-    pub fails : (m : Moment) → Ties old m → PadFails i o m old.head new.head new.parts.items (Where m) fault
+    pub table : tells' ≡ tells
+    pub fails : (m : Moment) → Ties old m → PadFails i o m old.head new.head old.parts.items new.parts.items (Where m) fault
 
   abbrev pub PadTries : Option (List Lane) → Option (List Lane) → Task S E I O L s e i o → Task S E I O L s e i o → ℕ → ℕ → Tried → Type 0
   PadTries tells tells' old new place port answer = TaskTries tells tells' old new (λ m. IsAtPort (frame_of old) place port) (WireAt (frame_of old) place port) answer
 
-  abbrev pub PadFault : Task S E I O L s e i o → Task S E I O L s e i o → ℕ → ℕ → TaskFault → Type 0
-  PadFault old new place port fault = TaskFails old new (λ m. IsAtPort (frame_of old) place port) fault
+  abbrev pub PadFault : Option (List Lane) → Option (List Lane) → Task S E I O L s e i o → Task S E I O L s e i o → ℕ → ℕ → TaskFault → Type 0
+  PadFault tells tells' old new place port fault = TaskFails tells tells' old new (λ m. IsAtPort (frame_of old) place port) fault
 
   abbrev pub PartTries : Option (List Lane) → Option (List Lane) → Task S E I O L s e i o → Task S E I O L s e i o → ℕ → Tried → Type 0
   PartTries tells tells' old new place answer = TaskTries tells tells' old new (λ m. IsFirstOf tells m (frame_of old) place) (IsOfPart (frame_of old) place) answer
 
-  abbrev pub PartFault : Option (List Lane) → Task S E I O L s e i o → Task S E I O L s e i o → ℕ → TaskFault → Type 0
-  PartFault tells old new place fault = TaskFails old new (λ m. IsFirstOf tells m (frame_of old) place) fault
+  abbrev pub PartFault : Option (List Lane) → Option (List Lane) → Task S E I O L s e i o → Task S E I O L s e i o → ℕ → TaskFault → Type 0
+  PartFault tells tells' old new place fault = TaskFails tells tells' old new (λ m. IsFirstOf tells m (frame_of old) place) fault
 
   abbrev pub PartsTry : Option (List Lane) → Option (List Lane) → Task S E I O L s e i o → Task S E I O L s e i o → Tried → Type 0
   PartsTry tells tells' old new answer = TaskTries tells tells' old new (λ m. IsFirst tells m (frame_of old)) (IsOfAny (frame_of old)) answer
 
-  abbrev pub PartsFault : Option (List Lane) → Task S E I O L s e i o → Task S E I O L s e i o → TaskFault → Type 0
-  PartsFault tells old new fault = TaskFails old new (λ m. IsFirst tells m (frame_of old)) fault
+  abbrev pub PartsFault : Option (List Lane) → Option (List Lane) → Task S E I O L s e i o → Task S E I O L s e i o → TaskFault → Type 0
+  PartsFault tells tells' old new fault = TaskFails tells tells' old new (λ m. IsFirst tells m (frame_of old)) fault
 
   abbrev pub SourceTries : Option (List Lane) → Option (List Lane) → Task S E I O L s e i o → Task S E I O L s e i o → Tried → Type 0
   SourceTries tells tells' old new answer = HeadTries i o tells tells' old.head new.head old.parts.items new.parts.items answer
 
-  abbrev pub SourceFault : Task S E I O L s e i o → Task S E I O L s e i o → TaskFault → Type 0
-  SourceFault old new fault = TaskFails old new (λ m. IsHeadPad (frame_of old)) fault
+  abbrev pub SourceFault : Option (List Lane) → Option (List Lane) → Task S E I O L s e i o → Task S E I O L s e i o → TaskFault → Type 0
+  SourceFault tells tells' old new fault = TaskFails tells tells' old new (λ m. IsHeadPad (frame_of old)) fault
 
   abbrev pub PadsTry : Option (List Lane) → Option (List Lane) → Task S E I O L s e i o → Task S E I O L s e i o → Tried → Type 0
   PadsTry tells tells' old new answer = AllTry i o tells tells' old.head new.head old.parts.items new.parts.items answer
@@ -232,10 +245,8 @@ module _ {S E I O L : Type 0} {s : sources.Ghosts S} {e : elements.Ghosts E} {i 
   abbrev pub AsksHead : Option (List Lane) → Option (List Lane) → Task S E I O L s e i o → Task S E I O L s e i o → Step → Type 0
   AsksHead tells tells' old new step = Asks i o tells tells' old.head new.head old.parts.items new.parts.items step
 
-  pub record PadsFault (tells : Option (List Lane)) (old new : Task S E I O L s e i o) (fault : TaskFault) : Type 0 where
+  -- the head met a fault as it was asked
+  pub record AskFault (tells tells' : Option (List Lane)) (old new : Task S E I O L s e i o) (fault : TaskFault) : Type 0 where
     pub cause : IsCause old new fault
-    pub fails : (m : Moment) → Ties old m → Failed tells old new m fault
-
-  pub record AskFault (old new : Task S E I O L s e i o) (fault : TaskFault) : Type 0 where
-    pub cause : IsCause old new fault
-    pub fails : (m : Moment) → Ties old m → FailsAs i o m old.head new.head new.parts.items at_head fault
+    pub lanes : LanesLeft i tells tells' old.head new.head fault
+    pub fails : (m : Moment) → Ties old m → FailsAs i o tells tells' m old.head new.head old.parts.items new.parts.items at_head fault

@@ -42,7 +42,7 @@ impl<S: TaskSource, E: TaskElement, I: Inlet<Out = O>, O: Outlet<Lanes = I::Lane
     ghost use Rattle.net_task.specs.Ready.{IsReady, LeavesReady};
     ghost use Rattle.net_task.specs.Reasons.{HeadIdle, Why};
     ghost use Rattle.net_task.specs.Ties.{Ties};
-    ghost use Rattle.net_task.specs.Tries.{AskFault, AsksHead, PadFault, PadTries, PadsFault, PadsTry, SettledAt, StaysSettled};
+    ghost use Rattle.net_task.specs.Tries.{AskFault, AsksHead, PadFault, PadTries, PadsTry, SettledAt, StaysSettled};
     ghost use Rattle.net_task.specs.Tries.{PartFault, PartTries, PartsFault, PartsTry, SourceFault, SourceTries};
 
     /// A task of these parts that moved nothing yet. Each element that a pad or the head names is one of them.
@@ -66,7 +66,7 @@ impl<S: TaskSource, E: TaskElement, I: Inlet<Out = O>, O: Outlet<Lanes = I::Lane
         requires ready { IsReady (O.tells lanes.old) self.old }
         ensures steps { IfOk result (λ step. (m : Moment) → Ties self.old m → Steps (O.tells lanes.old) (O.tells lanes.new) self.old self.new m step) }
         ensures why { IfOk result (λ step. (m : Moment) → Ties self.old m → Why (O.tells lanes.old) self.old self.new m step) }
-        ensures faults { IfErr result (HasFailed (O.tells lanes.old) self.old self.new) }
+        ensures faults { IfErr result (HasFailed (O.tells lanes.old) (O.tells lanes.new) self.old self.new) }
         ensures frame { (frame_of self.new ≡ frame_of self.old) × OnOk result (LeavesReady (O.tells lanes.old) (O.tells lanes.new) self.old self.new) }
         ensures counts { IfOk result (Burns (moves_left self.old) (moves_left self.new)) }
     {
@@ -82,7 +82,7 @@ impl<S: TaskSource, E: TaskElement, I: Inlet<Out = O>, O: Outlet<Lanes = I::Lane
     fn try_pads(&mut self, alloc: Global, lanes: &mut I::Lanes) -> Result<Tried, Failure>
         requires ready { IsReady (O.tells lanes.old) self.old }
         ensures tries { IfOk result (PadsTry (O.tells lanes.old) (O.tells lanes.new) self.old self.new) }
-        ensures faults { IfErr result (PadsFault (O.tells lanes.old) self.old self.new) }
+        ensures faults { IfErr result (HasFailed (O.tells lanes.old) (O.tells lanes.new) self.old self.new) }
         ensures frame { frame_of self.new ≡ frame_of self.old }
     {
         let tried = self.try_parts(alloc, lanes)?;
@@ -97,7 +97,7 @@ impl<S: TaskSource, E: TaskElement, I: Inlet<Out = O>, O: Outlet<Lanes = I::Lane
     fn try_parts(&mut self, alloc: Global, lanes: &mut I::Lanes) -> Result<Tried, Failure>
         requires ready { IsReady (O.tells lanes.old) self.old }
         ensures tries { IfOk result (PartsTry (O.tells lanes.old) (O.tells lanes.new) self.old self.new) }
-        ensures faults { IfErr result (PartsFault (O.tells lanes.old) self.old self.new) }
+        ensures faults { IfErr result (PartsFault (O.tells lanes.old) (O.tells lanes.new) self.old self.new) }
         ensures frame { frame_of self.new ≡ frame_of self.old }
         ensures head { self.new.head ≡ self.old.head }
     {
@@ -124,7 +124,7 @@ impl<S: TaskSource, E: TaskElement, I: Inlet<Out = O>, O: Outlet<Lanes = I::Lane
         requires ready { IsReady (O.tells lanes.old) self.old }
         ensures tries { IfOk result (PartTries (O.tells lanes.old) (O.tells lanes.new) self.old self.new place) }
         ensures from { self.new.from ≤ self.old.from }
-        ensures faults { IfErr result (PartFault (O.tells lanes.old) self.old self.new place) }
+        ensures faults { IfErr result (PartFault (O.tells lanes.old) (O.tells lanes.new) self.old self.new place) }
         ensures frame { frame_of self.new ≡ frame_of self.old }
         ensures head { self.new.head ≡ self.old.head }
     {
@@ -156,7 +156,7 @@ impl<S: TaskSource, E: TaskElement, I: Inlet<Out = O>, O: Outlet<Lanes = I::Lane
         ensures tries { IfOk result (PadTries (O.tells lanes.old) (O.tells lanes.new) self.old self.new place port) }
         ensures settled { IfOk result (StaysSettled self.new.parts.items place) }
         ensures from { self.new.from ≤ self.old.from }
-        ensures faults { IfErr result (PadFault self.old self.new place port) }
+        ensures faults { IfErr result (PadFault (O.tells lanes.old) (O.tells lanes.new) self.old self.new place port) }
         ensures frame { frame_of self.new ≡ frame_of self.old }
         ensures head { self.new.head ≡ self.old.head }
     {
@@ -167,7 +167,7 @@ impl<S: TaskSource, E: TaskElement, I: Inlet<Out = O>, O: Outlet<Lanes = I::Lane
     fn try_head(&mut self, alloc: Global, lanes: &mut I::Lanes) -> Result<Tried, Failure>
         requires ready { IsReady (O.tells lanes.old) self.old }
         ensures tries { IfOk result (SourceTries (O.tells lanes.old) (O.tells lanes.new) self.old self.new) }
-        ensures faults { IfErr result (SourceFault self.old self.new) }
+        ensures faults { IfErr result (SourceFault (O.tells lanes.old) (O.tells lanes.new) self.old self.new) }
         ensures frame { frame_of self.new ≡ frame_of self.old }
     {
         match &mut self.head {
@@ -183,7 +183,7 @@ impl<S: TaskSource, E: TaskElement, I: Inlet<Out = O>, O: Outlet<Lanes = I::Lane
         requires ready { IsReady (O.tells lanes.old) self.old }
         requires idle { HeadIdle self.old.head }
         ensures asks { IfOk result (AsksHead (O.tells lanes.old) (O.tells lanes.new) self.old self.new) }
-        ensures faults { IfErr result (AskFault self.old self.new) }
+        ensures faults { IfErr result (AskFault (O.tells lanes.old) (O.tells lanes.new) self.old self.new) }
         ensures frame { frame_of self.new ≡ frame_of self.old }
     {
         match &mut self.head {

@@ -77,6 +77,7 @@ module _ {S E I O L : Type 0} {s : sources.Ghosts S} {e : elements.Ghosts E} {i 
     after = h.after;
     at_after = h.at_after;
     frame = h.frame;
+    over = h.over;
     failed = h.failed m (net.tied place h.before h.at);
   }
 

@@ -54,6 +54,7 @@ module _ {S E I O L : Type 0} {s : sources.Ghosts S} {e : elements.Ghosts E} {i 
     after = y.after;
     at_after = y.at_after;
     frame = y.frame;
+    over = y.over;
     failed = y.failed;
   }
 

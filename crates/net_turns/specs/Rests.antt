@@ -70,7 +70,7 @@ module _ {S E I O L : Type 0} {s : sources.Ghosts S} {e : elements.Ghosts E} {i 
   NetAdvanced true m tasks tells = NetGoes m tasks tells
   NetAdvanced false m tasks tells = NetEnded m tasks tells
 
-  -- The run of a net met a fault: it came to a moment at which it stood, and there the task at a place met it.
+  -- The run of a net met a fault: it came to a moment at which it stood, and there the task at a place met it, and left the lanes so.
   pub record NetFaulted (m : Moment) (tasks : List (Task S E I O L s e i o)) (place : ℕ) (fault : TaskFault) : Type 0 where
     pub last : Moment
     pub goes_on : GoesOn m last
@@ -83,7 +83,8 @@ module _ {S E I O L : Type 0} {s : sources.Ghosts S} {e : elements.Ghosts E} {i 
     pub after : Task S E I O L s e i o
     pub at_after : slice_get tasks place ≡ Some after
     pub frame : frame_of after ≡ frame_of before
-    pub failed : Failed tells before after last fault
+    pub over : Option (List Lane)
+    pub failed : Failed tells over before after last fault
 
   -- no task's frame is changed
   abbrev pub AllFramed : List (Task S E I O L s e i o) → List (Task S E I O L s e i o) → Type 0

@@ -43,14 +43,15 @@ module _ {S E I O L : Type 0} {s : sources.Ghosts S} {e : elements.Ghosts E} {i 
     pub moved_is : moved ≡ has_moved step
     pub stepped : TaskStepped tells tells' before after step
 
-  -- The task at a place was stepped, and no other one. It met a fault.
+  -- The task at a place was stepped, and no other one. It met a fault, and left the lanes so.
   pub record HasMet (place : ℕ) (fault : TaskFault) (was is : List (Task S E I O L s e i o)) (tells : Option (List Lane)) : Type 0 where
     pub others : (k : ℕ) → k ≢ place → slice_get is k ≡ slice_get was k
     pub before : Task S E I O L s e i o
     pub at : slice_get was place ≡ Some before
     pub after : Task S E I O L s e i o
     pub at_after : slice_get is place ≡ Some after
-    pub failed : (m : Moment) → Ties before m → Failed tells before after m fault
+    pub over : Option (List Lane)
+    pub failed : (m : Moment) → Ties before m → Failed tells over before after m fault
     pub cause : IsCause before after fault
     pub frame : frame_of after ≡ frame_of before
 

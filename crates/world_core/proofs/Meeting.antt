@@ -89,10 +89,10 @@ module _ {S K I O L : Type 0} {giver : givers.Ghosts (StreamSource S)} {taker : 
   -- what is told of the fault of a task is so of the run
   pub is_met : (k : ℕ) (before after : Task (StreamSource S) (StreamElement K) I O L giver taker i o) (fault : TaskFault) → slice_get last k ≡ Some after
       → frame_of after ≡ frame_of before → IsTold made links before after fault → IsMet made links last rest fault
-  is_met k before after fault at same (IsTold.refused place part was refusal here within cause) =
-      let one = made_at made part.number within in
-      IsMet.refused part.number one.0 part.element refusal was one.1
-      (inl (record { place = k; one = after; at = at; inside = record { place = place; one = part; at = here; inside = (refl, refl) } })) cause
+  is_met k before after fault at same (IsTold.refused n refusal within r) =
+      let one = made_at made n within in
+      IsMet.refused n one.0 r.is.element refusal (taker.failures r.was.element) one.1
+      (inl (record { place = k; one = after; at = at; inside = record { place = r.place; one = r.is; at = r.is_at; inside = (r.number, refl) } })) r.cause
   is_met k before after fault at same (IsTold.unread n why within unread_so) =
       let head = unread_is o before.head after.head n why (ap (λ (f : TaskFrame). f.head) same) unread_so in
       let one = made_at made n within in

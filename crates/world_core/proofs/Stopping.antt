@@ -133,7 +133,7 @@ module _ {S K I O L : Type 0} {giver : givers.Ghosts (StreamSource S)} {taker : 
   pub is_faulted : (contents : ℕ → List ℕ) (place : ℕ) (fault : TaskFault) → NetFaulted (opening (moment_plan contents graph) (moment_answers graph)) last place fault
       → IsFaulted k contents graph run.started.bags last rest fault
   is_faulted contents place fault f =
-      record { m = f.last; settled = settled; behind = behind; others = rested contents f.last settled; blamed = laws.blamed laws.streams contents graph run.started.bags f.last f.was f.tells at place f.before f.after fault f.at f.frame f.failed }
+      record { m = f.last; settled = settled; behind = behind; others = rested contents f.last settled; blamed = laws.blamed laws.streams contents graph run.started.bags f.last f.was f.tells f.over at place f.before f.after fault f.at f.frame f.failed }
     where
       have : HaveBags (made_in graph) (links_in graph) run.started.bags f.was
       have = bags_before graph run.started.bags last (record { place = place; was = f.was; before = f.before; after = f.after; others = f.others; at = f.at; at_after = f.at_after; frame = f.frame })
@@ -157,7 +157,7 @@ module _ {S K I O L : Type 0} {giver : givers.Ghosts (StreamSource S)} {taker : 
           by (inl (told_so, same)) =
               subst (λ (t : Task (StreamSource S) (StreamElement K) I O L giver taker i o). StandsBehind k contents graph f.last fault t)
               (same_Some f.after task (sym f.at_after ∙ ap (slice_get last) (sym same) ∙ to))
-              (laws.behind laws.streams contents graph run.started.bags f.last f.was f.tells at place f.before f.after fault f.at f.frame f.failed)
+              (laws.behind laws.streams contents graph run.started.bags f.last f.was f.tells f.over at place f.before f.after fault f.at f.frame f.failed)
           by (inr (told_not, apart)) =
               behind_whole k laws contents graph run.started.bags f.last fault task
               (laws.stand laws.streams contents graph run.started.bags f.last f.was f.tells at n task (sym (f.others n apart) ∙ to))

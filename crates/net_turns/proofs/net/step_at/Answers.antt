@@ -43,8 +43,9 @@ returns-in-Err-clause-met g c =
       at = at;
       after = c.step.new.self;
       at_after = set_at c.args.tasks.now c.args.place _ c.step.new.self at;
-      failed = c.in-Err.ensures.faults.1;
-      cause = c.in-Err.ensures.faults.0;
+      over = _;
+      failed = c.in-Err.ensures.faults.failed;
+      cause = c.in-Err.ensures.faults.cause;
       frame = c.step.ensures.frame.0;
     }
 

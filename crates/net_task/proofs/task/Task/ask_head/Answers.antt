@@ -1,15 +1,15 @@
-use Rattle.std.proofs.Common.{ap, subst, sym, ◌∙◌}
+use Rattle.std.proofs.Common.{ap, refl, subst, sym, ◌∙◌}
 use Rattle.std.specs.Prelude.{IfOk}
 use Rattle.task_parts.specs.declared.head.Head.{Head}
 use Rattle.task_parts.specs.declared.head.Head.TheVariants.{Source, Inlets}
-use Rattle.net_task.specs.Failed.{Causes, FailsAs, at_head}
+use Rattle.net_task.specs.Failed.{Causes, FailsAs, LanesLeft, at_head}
 use Rattle.net_task.specs.Frame.{frame_in}
 use Rattle.net_task.specs.Ready.{AreReady}
 use Rattle.net_task.specs.Reasons.{HeadIdle}
 use Rattle.net_task.specs.Ties.{AreTied, Stands, nothing_lost}
 use Rattle.net_task.specs.Tries.{Asks}
 use Rattle.net_task.proofs.Asking.{gave_failed, given_frame, head_faults, source_asks, source_cause}
-use Rattle.net_task.proofs.Inlets.{inlet_asks, inlet_caused, inlet_failed, inlet_framed}
+use Rattle.net_task.proofs.Inlets.{inlet_asks, inlet_caused, inlet_failed, inlet_framed, inlet_left}
 use Rattle.net_task.proofs.SoFar.{front_idle}
 use Rattle.net_task.proofs.task.Task.ask_head.Goals as goal
 
@@ -23,10 +23,11 @@ pub returns-in-Source-clause-faults : goal.returns-in-Source-clause-faults
 returns-in-Source-clause-faults g c =
     head_faults c.give.result c.step_of.result _ c.step_of.ensures
     (λ fault q. record {
-      cause = subst (λ (h : Head g.row.S.Denot g.row.I.Denot g.row.O.Denot g.S.TaskSource). Causes g.O.Outlet (frame_in g.O.Outlet h c.args.self.now.parts.items) h (Source c.give.new.head) c.args.self.now.parts.items fault) (sym c.in-Source.is) (source_cause g.row.I.Denot g.O.Outlet c.in-Source.head c.give.new.head c.args.self.now.parts.items c.give.result c.give.ensures.gives fault q);
-      fails = λ m a. subst (λ (h : Head g.row.S.Denot g.row.I.Denot g.row.O.Denot g.S.TaskSource). FailsAs g.I.Inlet g.O.Outlet m h (Source c.give.new.head) c.args.self.now.parts.items at_head fault) (sym c.in-Source.is)
+      cause = subst (λ (h : Head g.row.S.Denot g.row.I.Denot g.row.O.Denot g.S.TaskSource). Causes g.O.Outlet (frame_in g.O.Outlet h c.args.self.now.parts.items) h (Source c.give.new.head) c.args.self.now.parts.items c.args.self.now.parts.items fault) (sym c.in-Source.is) (source_cause g.row.I.Denot g.O.Outlet c.in-Source.head c.give.new.head c.args.self.now.parts.items c.give.result c.give.ensures.gives fault q);
+      lanes = LanesLeft.kept fault refl;
+      fails = λ m a. subst (λ (h : Head g.row.S.Denot g.row.I.Denot g.row.O.Denot g.S.TaskSource). FailsAs g.I.Inlet g.O.Outlet (g.O.Outlet.tells c.args.lanes.now) (g.O.Outlet.tells c.args.lanes.now) m h (Source c.give.new.head) c.args.self.now.parts.items c.args.self.now.parts.items at_head fault) (sym c.in-Source.is)
           (gave_failed g.I.Inlet g.O.Outlet (λ source owed given gave. (g.met.S.TaskSource).begins source owed given gave) c.in-Source.head c.give.new.head c.args.self.now.parts.items c.give.ensures.number c.give.ensures.rest m
-          (subst (λ (h : Head g.row.S.Denot g.row.I.Denot g.row.O.Denot g.S.TaskSource). AreTied g.I.Inlet g.O.Outlet (Stands m) nothing_lost m h c.args.self.now.parts.items) c.in-Source.is a) (subst (λ (h : Head g.row.S.Denot g.row.I.Denot g.row.O.Denot g.S.TaskSource). HeadIdle h) c.in-Source.is c.requires.idle) c.give.result c.give.ensures.gives fault q);
+          (subst (λ (h : Head g.row.S.Denot g.row.I.Denot g.row.O.Denot g.S.TaskSource). AreTied g.I.Inlet g.O.Outlet (Stands m) nothing_lost m h c.args.self.now.parts.items) c.in-Source.is a) (g.O.Outlet.tells c.args.lanes.now) (subst (λ (h : Head g.row.S.Denot g.row.I.Denot g.row.O.Denot g.S.TaskSource). HeadIdle h) c.in-Source.is c.requires.idle) c.give.result c.give.ensures.gives fault q);
     })
 
 pub returns-in-Source-clause-frame : goal.returns-in-Source-clause-frame
@@ -43,8 +44,9 @@ pub returns-in-Inlets-clause-faults : goal.returns-in-Inlets-clause-faults
 returns-in-Inlets-clause-faults g c =
     head_faults c.take.result c.step_of-in-Inlets.result _ c.step_of-in-Inlets.ensures
     (λ fault q. record {
-      cause = subst (λ (h : Head g.row.S.Denot g.row.I.Denot g.row.O.Denot g.S.TaskSource). Causes g.O.Outlet (frame_in g.O.Outlet h c.args.self.now.parts.items) h (Inlets c.take.new.head) c.take.new.parts.items fault) (sym c.in-Inlets.is) (inlet_caused g.S.TaskSource g.I.Inlet g.O.Outlet c.in-Inlets.head c.take.new.head c.args.self.now.parts.items c.take.new.parts.items _ _ c.take.result c.take.ensures.takes c.take.ensures.shape fault q);
-      fails = λ m a. subst (λ (h : Head g.row.S.Denot g.row.I.Denot g.row.O.Denot g.S.TaskSource). FailsAs g.I.Inlet g.O.Outlet m h (Inlets c.take.new.head) c.take.new.parts.items at_head fault) (sym c.in-Inlets.is)
+      cause = subst (λ (h : Head g.row.S.Denot g.row.I.Denot g.row.O.Denot g.S.TaskSource). Causes g.O.Outlet (frame_in g.O.Outlet h c.args.self.now.parts.items) h (Inlets c.take.new.head) c.args.self.now.parts.items c.take.new.parts.items fault) (sym c.in-Inlets.is) (inlet_caused g.S.TaskSource g.I.Inlet g.O.Outlet c.in-Inlets.head c.take.new.head c.args.self.now.parts.items c.take.new.parts.items _ _ c.take.result c.take.ensures.takes c.take.ensures.shape fault q);
+      lanes = subst (λ (h : Head g.row.S.Denot g.row.I.Denot g.row.O.Denot g.S.TaskSource). LanesLeft g.I.Inlet (g.O.Outlet.tells c.args.lanes.now) (g.O.Outlet.tells c.take.new.lanes) h (Inlets c.take.new.head) fault) (sym c.in-Inlets.is) (inlet_left g.S.TaskSource g.I.Inlet g.O.Outlet c.in-Inlets.head c.take.new.head c.args.self.now.parts.items c.take.new.parts.items _ _ c.take.result c.take.ensures.takes c.take.ensures.shape fault q);
+      fails = λ m a. subst (λ (h : Head g.row.S.Denot g.row.I.Denot g.row.O.Denot g.S.TaskSource). FailsAs g.I.Inlet g.O.Outlet (g.O.Outlet.tells c.args.lanes.now) (g.O.Outlet.tells c.take.new.lanes) m h (Inlets c.take.new.head) c.args.self.now.parts.items c.take.new.parts.items at_head fault) (sym c.in-Inlets.is)
           (inlet_failed g.S.TaskSource g.I.Inlet g.O.Outlet c.in-Inlets.head c.take.new.head c.args.self.now.parts.items c.take.new.parts.items _ _ c.take.result c.take.ensures.takes c.take.ensures.shape m
           (subst (λ (h : Head g.row.S.Denot g.row.I.Denot g.row.O.Denot g.S.TaskSource). AreTied g.I.Inlet g.O.Outlet (Stands m) nothing_lost m h c.args.self.now.parts.items) c.in-Inlets.is a) fault q);
     })

@@ -7,7 +7,7 @@ use Rattle.net_task.specs.Ready.{AreReady}
 use Rattle.net_task.specs.Ties.{AreTied, Stands, nothing_lost}
 use Rattle.net_task.specs.Tries.{HeadTries, IsHeadPad, PadFails}
 use Rattle.net_task.proofs.Closed.{if_ok, if_err}
-use Rattle.net_task.proofs.SourceTrying.{inlets_tried, source_caused, source_failed, source_framed, source_lanes, source_ready, source_spends, source_stayed, source_tabled, source_tried}
+use Rattle.net_task.proofs.SourceTrying.{inlets_tried, source_caused, source_failed, source_framed, source_kept, source_lanes, source_lanes_same, source_ready, source_spends, source_stayed, source_tabled, source_tried}
 use Rattle.net_task.proofs.SoFar.{front_idle}
 use Rattle.net_task.proofs.task.Task.try_head.Goals as goal
 
@@ -18,6 +18,7 @@ returns-in-Source-clause-tries g c =
       ready = source_ready g.I.Inlet g.O.Outlet c.in-Source.head c.cross_source.new.head c.args.self.now.parts.items c.cross_source.new.parts.items _ _ c.cross_source.result c.cross_source.ensures.crosses c.cross_source.ensures.shape (subst (λ (h : Head g.row.S.Denot g.row.I.Denot g.row.O.Denot g.S.TaskSource). AreReady g.I.Inlet g.O.Outlet (g.O.Outlet.tells c.args.lanes.now) h c.args.self.now.parts.items) c.in-Source.is c.requires.ready) answer q;
       spends = source_spends g.I.Inlet g.O.Outlet c.in-Source.head c.cross_source.new.head c.args.self.now.parts.items c.cross_source.new.parts.items _ _ c.cross_source.result c.cross_source.ensures.crosses c.cross_source.ensures.shape answer q;
       table = source_tabled g.I.Inlet g.O.Outlet c.in-Source.head c.cross_source.new.head c.args.self.now.parts.items c.cross_source.new.parts.items _ _ c.cross_source.result c.cross_source.ensures.crosses c.cross_source.ensures.shape answer q;
+      kept = source_kept g.I.Inlet g.O.Outlet c.in-Source.head c.cross_source.new.head c.args.self.now.parts.items c.cross_source.new.parts.items _ _ c.cross_source.result c.cross_source.ensures.crosses c.cross_source.ensures.shape answer q;
       lanes = source_lanes g.I.Inlet g.O.Outlet c.in-Source.head c.cross_source.new.head c.args.self.now.parts.items c.cross_source.new.parts.items _ _ c.cross_source.result c.cross_source.ensures.crosses c.cross_source.ensures.shape;
       stays = source_stayed g.I.Inlet g.O.Outlet c.in-Source.head c.cross_source.new.head c.args.self.now.parts.items c.cross_source.new.parts.items _ _ c.cross_source.result c.cross_source.ensures.crosses c.cross_source.ensures.shape answer q;
       tries = λ m a. source_tried g.I.Inlet g.O.Outlet c.in-Source.head c.cross_source.new.head c.args.self.now.parts.items c.cross_source.new.parts.items _ _ c.cross_source.result c.cross_source.ensures.crosses c.cross_source.ensures.shape (λ source owed given gave. (g.met.S.TaskSource).begins source owed given gave) (λ outlet was sent. (g.met.O.Outlet g.world.𝓛 g.world.𝓜 g.world.𝓡 ((λ s x. x), (λ x. x), (λ x. x), λ x. x)).counts outlet was sent) m a answer q;
@@ -26,8 +27,9 @@ returns-in-Source-clause-tries g c =
 pub returns-in-Source-clause-faults : goal.returns-in-Source-clause-faults
 returns-in-Source-clause-faults g c =
     if_err c.cross_source.result _ (λ fault q. record {
-      cause = subst (λ (h : Head g.row.S.Denot g.row.I.Denot g.row.O.Denot g.S.TaskSource). Causes g.O.Outlet (frame_in g.O.Outlet h c.args.self.now.parts.items) h (Source c.cross_source.new.head) c.cross_source.new.parts.items fault) (sym c.in-Source.is) (source_caused g.I.Inlet g.O.Outlet c.in-Source.head c.cross_source.new.head c.args.self.now.parts.items c.cross_source.new.parts.items _ _ c.cross_source.result c.cross_source.ensures.crosses c.cross_source.ensures.shape fault q);
-      fails = λ m a. subst (λ (h : Head g.row.S.Denot g.row.I.Denot g.row.O.Denot g.S.TaskSource). PadFails g.I.Inlet g.O.Outlet m h (Source c.cross_source.new.head) c.cross_source.new.parts.items (IsHeadPad (frame_in g.O.Outlet h c.args.self.now.parts.items)) fault) (sym c.in-Source.is)
+      cause = subst (λ (h : Head g.row.S.Denot g.row.I.Denot g.row.O.Denot g.S.TaskSource). Causes g.O.Outlet (frame_in g.O.Outlet h c.args.self.now.parts.items) h (Source c.cross_source.new.head) c.args.self.now.parts.items c.cross_source.new.parts.items fault) (sym c.in-Source.is) (source_caused g.I.Inlet g.O.Outlet c.in-Source.head c.cross_source.new.head c.args.self.now.parts.items c.cross_source.new.parts.items _ _ c.cross_source.result c.cross_source.ensures.crosses c.cross_source.ensures.shape fault q);
+      table = source_lanes_same g.I.Inlet g.O.Outlet c.in-Source.head c.cross_source.new.head c.args.self.now.parts.items c.cross_source.new.parts.items _ _ c.cross_source.result c.cross_source.ensures.crosses c.cross_source.ensures.shape fault q;
+      fails = λ m a. subst (λ (h : Head g.row.S.Denot g.row.I.Denot g.row.O.Denot g.S.TaskSource). PadFails g.I.Inlet g.O.Outlet m h (Source c.cross_source.new.head) c.args.self.now.parts.items c.cross_source.new.parts.items (IsHeadPad (frame_in g.O.Outlet h c.args.self.now.parts.items)) fault) (sym c.in-Source.is)
           (source_failed g.I.Inlet g.O.Outlet c.in-Source.head c.cross_source.new.head c.args.self.now.parts.items c.cross_source.new.parts.items _ _ c.cross_source.result c.cross_source.ensures.crosses c.cross_source.ensures.shape (λ source owed given gave. (g.met.S.TaskSource).begins source owed given gave) (λ outlet was sent. (g.met.O.Outlet g.world.𝓛 g.world.𝓜 g.world.𝓡 ((λ s x. x), (λ x. x), (λ x. x), λ x. x)).counts outlet was sent) m (subst (λ (h : Head g.row.S.Denot g.row.I.Denot g.row.O.Denot g.S.TaskSource). AreTied g.I.Inlet g.O.Outlet (Stands m) nothing_lost m h c.args.self.now.parts.items) c.in-Source.is a) fault q);
     })
 

@@ -3,7 +3,7 @@ use Rattle.net_task.proofs.Stepping.{all_tried, parts_failed, parts_moved_by, so
 use Rattle.net_task.proofs.task.Task.try_pads.Goals as goal
 
 pub returns-in_err-tried-clause-faults : goal.returns-in_err-tried-clause-faults
-returns-in_err-tried-clause-faults g c = handed_on c.from_residual.result c.in_err-tried.field-0.0 _ c.from_residual.ensures.1 (parts_failed _ c.args.self.now c.try_parts.new.self c.in_err-tried.field-0.0 c.in_err-tried.ensures.faults)
+returns-in_err-tried-clause-faults g c = handed_on c.from_residual.result c.in_err-tried.field-0.0 _ c.from_residual.ensures.1 (parts_failed _ _ c.args.self.now c.try_parts.new.self c.in_err-tried.field-0.0 c.in_err-tried.ensures.faults)
 
 pub returns-in-Moved-clause-tries : goal.returns-in-Moved-clause-tries
 returns-in-Moved-clause-tries g c = parts_moved_by _ _ c.args.self.now c.try_parts.new.self c.in_ok-tried.tried c.in-Moved.is c.try_parts.ensures.head c.in_ok-tried.ensures.tries

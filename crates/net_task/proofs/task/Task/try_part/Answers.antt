@@ -11,9 +11,10 @@ use Rattle.net_task.proofs.task.Task.try_part.Goals as goal
 pub returns-then-is_err-clause-faults : goal.returns-then-is_err-clause-faults
 returns-then-is_err-clause-faults g c = rw c.out_of_memory.ensures (record {
   cause = memory;
+  table = refl;
   fails = λ m a. record {
     origin = at_head;
-    fails = no_memory at_head (settled g.I.Inlet g.O.Outlet c.args.self.now.head c.args.self.now.parts.items c.settle.new.parts.items c.args.place c.settle.ensures.settled c.settle.ensures.shape m a);
+    fails = λ k. no_memory at_head (settled g.I.Inlet g.O.Outlet c.args.self.now.head c.args.self.now.parts.items c.settle.new.parts.items c.args.place c.settle.ensures.settled c.settle.ensures.shape m a, refl);
     first = inl refl;
   };
 })
@@ -36,7 +37,7 @@ try_pad-requires-clause-at g c = λ κs w. has_port c.loop-port.self.parts.items
 
 pub returns-in_err-try_pad-clause-faults : goal.returns-in_err-try_pad-clause-faults
 returns-in_err-try_pad-clause-faults g c = handed_on c.from_residual.result c.in_err-try_pad.field-0.0 _ c.from_residual.ensures.1
-    (fails_so _ _ c.args.self.now c.loop-port.self c.try_pad.new.self (WasBelow (frame_of c.args.self.now) c.args.place c.loop-port.port) (λ m. IsAtPort (frame_of c.loop-port.self) c.args.place c.loop-port.port) (λ m. IsFirstOf _ m (frame_of c.args.self.now) c.args.place)
+    (fails_so _ _ _ c.args.self.now c.loop-port.self c.try_pad.new.self (WasBelow (frame_of c.args.self.now) c.args.place c.loop-port.port) (λ m. IsAtPort (frame_of c.loop-port.self) c.args.place c.loop-port.port) (λ m. IsFirstOf _ m (frame_of c.args.self.now) c.args.place)
     c.loop-port.tried c.in_err-try_pad.field-0.0 c.loop-port.invariant.0 c.in_err-try_pad.ensures.faults
     (λ m t p w. first_of _ (frame_of c.args.self.now) (frame_of c.loop-port.self) m c.args.place c.loop-port.port c.loop-port.tried c.loop-port.invariant.0.frame t p w))
 

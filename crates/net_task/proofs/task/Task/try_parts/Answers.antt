@@ -11,7 +11,7 @@ loop-place-init g c = (idle_so _ c.args.self.now _ refl refl c.requires.ready, c
 
 pub returns-in_err-try_part-clause-faults : goal.returns-in_err-try_part-clause-faults
 returns-in_err-try_part-clause-faults g c = handed_on c.from_residual.result c.in_err-try_part.field-0.0 _ c.from_residual.ensures.1
-    (fails_so _ _ c.args.self.now c.loop-place.self c.try_part.new.self (WasBefore (frame_of c.args.self.now) c.loop-place.place) (λ m. IsFirstOf _ m (frame_of c.loop-place.self) c.loop-place.place) (λ m. IsFirst _ m (frame_of c.args.self.now))
+    (fails_so _ _ _ c.args.self.now c.loop-place.self c.try_part.new.self (WasBefore (frame_of c.args.self.now) c.loop-place.place) (λ m. IsFirstOf _ m (frame_of c.loop-place.self) c.loop-place.place) (λ m. IsFirst _ m (frame_of c.args.self.now))
     c.loop-place.tried c.in_err-try_part.field-0.0 c.loop-place.invariant.0 c.in_err-try_part.ensures.faults
     (λ m t p w. first_all _ _ (frame_of c.args.self.now) (frame_of c.loop-place.self) m c.loop-place.place c.loop-place.tried c.loop-place.invariant.0.frame c.loop-place.invariant.0.table t p w))
 
