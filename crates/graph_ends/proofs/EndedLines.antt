@@ -198,5 +198,5 @@ module _ {S E I O L : Type 0} {s : sources.Ghosts S} {e : elements.Ghosts E} {i 
 
 pub runs_end_empty : {S E I O L : Type 0} (s : sources.Ghosts S) (e : elements.Ghosts E) (i : inlets.Ghosts I L O) (o : outlets.Ghosts O L) → LinesEnd s e i o
     → RunsEndEmpty s e i o
-runs_end_empty s e i o lines_end wanted contents graph bags m tasks tells at rests =
-    lines_end m tasks tells rests (are_lines contents graph bags m tasks tells at wanted)
+runs_end_empty s e i o lines_end wanted contents graph bags m tasks steps tells at rests =
+    lines_end m tasks steps tells rests (are_lines contents graph bags m tasks tells at wanted)

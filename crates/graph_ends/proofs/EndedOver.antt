@@ -46,8 +46,9 @@ use Rattle.graph_bags.proofs.Apart.{bags_are_there}
 use Rattle.task_elements.specs.Stands.{StreamStands, answers_by}
 use Rattle.task_elements.specs.declared.element.StreamElement.{StreamElement}
 use Rattle.net_task.specs.declared.task.Task.{Task}
-use Rattle.net_turns.specs.Ends.{NothingLeft}
-use Rattle.graph_ends.specs.Ended.{EndsAreOver}
+use Rattle.net_task.specs.Frame.{HeadFrame, by_inlets, by_source, frame_of}
+use Rattle.net_turns.specs.Ends.{HeadIsOver, NetIsOver, NothingLeft, head_number}
+use Rattle.graph_ends.specs.Ended.{EndsAreOver, RunsAreOver}
 use Rattle.graph_ends.specs.Owed.{AreOver}
 use Rattle.graph_ends.specs.Runs.{RunsAt, crossed_in}
 use Rattle.graph_ends.specs.Written.{AreStreams}
@@ -183,6 +184,19 @@ module _ {S K I O L : Type 0} (k : sinks.Ghosts K) {s : sources.Ghosts S} {e : e
         (subst (λ (plan : Plan). GoesForward plan [] (forward_in graph)) (sym at.plan) (moment_goes contents graph at.sound))
         (λ d j. at.net.cells d) (record { idle = λ p j. left.idle p; empty = λ d j. left.empty d }) at.net.plain.uncut (λ d j l. lives d l) n among live
 
+    -- each task with a live head has ended
+    live_among : (n : ℕ) → is_live graph n ≡ true → IsMember n (forward_in graph)
+    live_among n marked =
+        let bag = in_bag tree graph is at.sound at.once bags at.bags_are n (at.sound.live.0 n marked) in
+        in_order graph at.sound n (bags_are_there (made_in graph) (links_in graph) bags at.sound.pads at.bags_are bag.0 n bag.1)
+
+    head_over : (head : HeadFrame) → is_live graph (head_number head) ≡ true → HeadIsOver m head
+    head_over (by_source n file wire) live = λ p own. left.idle p
+    head_over (by_inlets n rows) live = took_ended n (live_among n live) live
+
+    net_over : NetIsOver (is_live graph) m tasks
+    net_over = record { left = left; ended = λ number task task_at live. head_over (frame_of task).head live }
+
     input_ended : (n : ℕ) → IsMember n (forward_in graph) → is_live graph n ≡ true
         → AllEnded (map (input_of m.history) (sinks_in (made_in graph) (links_in graph) n))
     unfolding line_plan
@@ -207,6 +221,11 @@ module _ {S K I O L : Type 0} (k : sinks.Ghosts K) {s : sources.Ghosts S} {e : e
           where
             no : false ≡ true → ⊥
             no e = cc
+
+pub runs_are_over : {S K I O L : Type 0} (k : sinks.Ghosts K) (s : sources.Ghosts S) (e : elements.Ghosts (StreamElement K)) (i : inlets.Ghosts I L O)
+    (o : outlets.Ghosts O L)
+    → RunsAreOver k s e i o
+runs_are_over k s e i o streams tree contents graph bags m tasks tells is at left = net_over k streams tree contents graph bags m tasks tells is at left
 
 pub ends_are_over : {S K I O L : Type 0} (k : sinks.Ghosts K) (s : sources.Ghosts S) (e : elements.Ghosts (StreamElement K)) (i : inlets.Ghosts I L O)
     (o : outlets.Ghosts O L)

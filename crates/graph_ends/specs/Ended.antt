@@ -8,7 +8,7 @@ use Rattle.lane_core.specs.declared.ends.Outlet as outlets
 use Rattle.net_model.specs.Moment.{Moment}
 use Rattle.net_model.specs.declared.element.TaskElement as elements
 use Rattle.net_model.specs.declared.source.TaskSource as sources
-use Rattle.graph_core.specs.Graph.{IsGraph, IsSound, made as made_in, links as links_in}
+use Rattle.graph_core.specs.Graph.{IsGraph, IsSound, is_live, made as made_in, links as links_in}
 use Rattle.graph_core.specs.declared.graph.Graph.{Graph}
 use Rattle.launch_text.specs.declared.tree.Tree.{Tree}
 use Rattle.graph_core.specs.GraphPlan.{graph_plan}
@@ -16,8 +16,9 @@ use Rattle.graph_moment.specs.Pads.{is_pad}
 use Rattle.graph_bags.specs.Laws.{StandsIn}
 use Rattle.graph_bags.specs.declared.bag.Bag.{Bag}
 use Rattle.task_elements.specs.declared.element.StreamElement.{StreamElement}
+use Rattle.task_parts.specs.declared.step.Step.{Step}
 use Rattle.net_task.specs.declared.task.Task.{Task}
-use Rattle.net_turns.specs.Ends.{NothingLeft}
+use Rattle.net_turns.specs.Ends.{NetIsOver, NothingLeft}
 use Rattle.net_turns.specs.Rests.{NetRests}
 use Rattle.graph_ends.specs.Owed.{AreOver, AreWhole, came_to, went_from}
 use Rattle.graph_ends.specs.Runs.{RunStands, RunsAt, crossed_in}
@@ -52,11 +53,17 @@ module _ {S E I O L : Type 0} (s : sources.Ghosts S) (e : elements.Ghosts E) (i 
   -- Where no task can move nothing is left, if each element always wants an item of its first sink pad.
   abbrev pub RunsEndEmpty : Type 0
   RunsEndEmpty = ((element : E) → e.wanted element ≡ Some 0)
-      → (contents : ℕ → List ℕ) (graph : Graph) (bags : List Bag) (m : Moment) (tasks : List (Task S E I O L s e i o)) (tells : Option (List Lane))
-      → RunsAt contents graph bags m tasks tells → NetRests (λ k. Unit {0}) m tasks tells → NothingLeft m
+      → (contents : ℕ → List ℕ) (graph : Graph) (bags : List Bag) (m : Moment) (tasks : List (Task S E I O L s e i o)) (steps : List Step) (tells : Option (List Lane))
+      → RunsAt contents graph bags m tasks tells → NetRests (λ k. Unit {0}) m tasks steps tells → NothingLeft m
 
 module _ {S K I O L : Type 0}
     (k : sinks.Ghosts K) (s : sources.Ghosts S) (e : elements.Ghosts (StreamElement K)) (i : inlets.Ghosts I L O) (o : outlets.Ghosts O L) where
+  -- Where nothing is left the run of the tasks is over: each task with a live head has ended.
+  abbrev pub RunsAreOver : Type 0
+  RunsAreOver = AreStreams k e → (tree : Tree) (contents : ℕ → List ℕ) (graph : Graph) (bags : List Bag) (m : Moment)
+      (tasks : List (Task S (StreamElement K) I O L s e i o)) (tells : Option (List Lane)) → IsGraph tree graph → RunsAt contents graph bags m tasks tells
+      → NothingLeft m → NetIsOver (is_live graph) m tasks
+
   -- Where nothing is left EOS came to each live sink: no element met a fault at what it took.
   abbrev pub EndsAreOver : Type 0
   EndsAreOver = AreStreams k e → (tree : Tree) (contents : ℕ → List ℕ) (graph : Graph) (bags : List Bag) (m : Moment)

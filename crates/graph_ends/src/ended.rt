@@ -1,5 +1,5 @@
 //! Laws of a graph at a moment of its run, and where the run has ended. Each function does nothing: its contract is the law.
-ghost use Rattle.graph_ends.specs.Ended.{HistoriesAreEvaluated, EndsAreOver, EndsAreWhole, LooseAreQuiet, PadsAreLimited, RunsEndEmpty};
+ghost use Rattle.graph_ends.specs.Ended.{HistoriesAreEvaluated, EndsAreOver, EndsAreWhole, LooseAreQuiet, PadsAreLimited, RunsAreOver, RunsEndEmpty};
 
 use gst_outside::Sink;
 use lane_core::{Inlet, Outlet};
@@ -15,6 +15,11 @@ pub fn histories_are_evaluated()
 /// Where nothing is left, every pad is whole.
 pub fn ends_are_whole()
     ensures { EndsAreWhole }
+{}
+
+/// Where nothing is left the run of the tasks is over: each task with a live head has ended.
+pub fn runs_are_over<S: TaskSource, K: Sink, I: Inlet<Out = O>, O: Outlet<Lanes = I::Lanes>>()
+    ensures { RunsAreOver K.Sink S.TaskSource ⟦<StreamElement<K> as TaskElement>⟧ I.Inlet O.Outlet }
 {}
 
 /// Where nothing is left EOS came to each live sink.

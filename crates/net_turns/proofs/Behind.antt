@@ -53,15 +53,22 @@ split_last : (x : Item) (xs : List Item) → (ys : List Item) × (last : Item) �
 split_last x [] = ([], x, refl)
 split_last x (y ∷ xs) = let r = split_last y xs in (x ∷ r.0, r.1, ap (λ (l : List Item). x ∷ l) r.2)
 
+-- a pad is owed no item behind an EOS
+pub none_behind : (m : Moment) (p : ℕ) (front : List Item) (x : Item) (rest : List Item) → IsPlain m.plan → owed_at m p 0 ≡ front ++ x ∷ rest → has_ended front ≡ true → ⊥
+none_behind m p front x rest plain owed over =
+    let r = split_last x rest in
+    let whole : owed_at m p 0 ≡ (front ++ r.0) ++ r.1 ∷ [] = owed ∙ ap (λ (l : List Item). front ++ l) r.2 ∙ sym (append_assoc front r.0 (r.1 ∷ [])) in
+    let calm : has_flush_stop ((front ++ r.0) ++ r.1 ∷ []) ≡ false = subst (λ (l : List Item). has_flush_stop l ≡ false) whole (plain.calm (m.plan.owner p) (m.plan.port p) (m.took (m.plan.owner p))) in
+    let begun = plain.closed (m.plan.owner p) (m.plan.port p) (m.took (m.plan.owner p)) (front ++ r.0) r.1 whole in
+    true≢false (sym (ended_more front r.0 (calm_front (front ++ r.0) (r.1 ∷ []) calm) over) ∙ begun)
+
+-- what it is owed has crossed it or waits there
+pub owed_all : (m : Moment) (p : ℕ) → IsPlain m.plan → CellStands m (m.plan.owner p) → owed_at m p 0 ≡ m.history p ++ m.waits p
+owed_all m p plain cell = subst (λ (cuts : List (ℕ × ℕ)). Holds 0 0 cuts (owed_at m p) (m.history p) (m.waits p)) (plain.uncut p) (cell.pads p refl)
+
 -- no item waits behind an EOS
 pub none_behind_eos : (m : Moment) (p : ℕ) (x : Item) (rest : List Item) → IsPlain m.plan → CellStands m (m.plan.owner p) → m.waits p ≡ x ∷ rest → has_ended (m.history p) ≡ true → ⊥
-none_behind_eos m p x rest plain cell waits over =
-    let owed : owed_at m p 0 ≡ m.history p ++ m.waits p = subst (λ (cuts : List (ℕ × ℕ)). Holds 0 0 cuts (owed_at m p) (m.history p) (m.waits p)) (plain.uncut p) (cell.pads p refl) in
-    let r = split_last x rest in
-    let whole : owed_at m p 0 ≡ (m.history p ++ r.0) ++ r.1 ∷ [] = owed ∙ ap (λ (l : List Item). m.history p ++ l) (waits ∙ r.2) ∙ sym (append_assoc (m.history p) r.0 (r.1 ∷ [])) in
-    let calm : has_flush_stop ((m.history p ++ r.0) ++ r.1 ∷ []) ≡ false = subst (λ (l : List Item). has_flush_stop l ≡ false) whole (plain.calm (m.plan.owner p) (m.plan.port p) (m.took (m.plan.owner p))) in
-    let begun = plain.closed (m.plan.owner p) (m.plan.port p) (m.took (m.plan.owner p)) (m.history p ++ r.0) r.1 whole in
-    true≢false (sym (ended_more (m.history p) r.0 (calm_front (m.history p ++ r.0) (r.1 ∷ []) calm) over) ∙ begun)
+none_behind_eos m p x rest plain cell waits over = none_behind m p (m.history p) x rest plain (owed_all m p plain cell ∙ ap (λ (l : List Item). m.history p ++ l) waits) over
 
 pub nil_right : {A : Type 0} (xs ys : List A) → xs ++ ys ≡ [] → ys ≡ []
 nil_right [] ys e = e

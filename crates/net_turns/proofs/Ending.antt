@@ -1,10 +1,10 @@
 -- Where a net of lines cannot move, nothing is left in it.
-use Rattle.std.proofs.Common.{◌≡◌, ◌<◌, ◌≤◌, ◌+◌, ℕ, zero, suc, List, [], ◌∷◌, drop, length, Option, Some, None, ◌⊎◌, inl, inr, refl, sym, ap, ◌∙◌, subst, ⊎_elim, arith}
+use Rattle.std.proofs.Common.{◌≡◌, ◌<◌, ◌≤◌, ◌+◌, ℕ, zero, suc, true, List, [], drop, length, Option, Some, None, refl, sym, ap, ◌∙◌, subst, ⊎_elim, arith}
 use Rattle.std.specs.Prelude.{slice_get}
 use Rattle.std.proofs.lemmas.Bool.{cases_eq}
 use Rattle.std.proofs.lemmas.Option.{slice_get_within}
 use Rattle.flow_model.specs.Item.{Item}
-use Rattle.flow_model.specs.Call.{Call, feeds}
+use Rattle.flow_model.specs.Call.{feeds}
 use Rattle.lane_core.specs.Lane.{Lane, IsBetween}
 use Rattle.lane_core.specs.declared.ends.Inlet as inlets
 use Rattle.lane_core.specs.declared.ends.Outlet as outlets
@@ -14,16 +14,18 @@ use Rattle.net_model.specs.declared.element.TaskElement as elements
 use Rattle.net_model.specs.declared.source.TaskSource as sources
 use Rattle.inlet_row.specs.declared.feeding.Feeding.{Feeding}
 use Rattle.inlet_row.specs.Row.{GaveInAll, GaveOf, held, items_of, row_holds}
+use Rattle.task_parts.specs.declared.head.Head.{Head}
 use Rattle.task_parts.specs.declared.head.InletHead.{InletHead}
 use Rattle.task_parts.specs.declared.step.Step.{Step}
 use Rattle.task_parts.specs.declared.step.Step.TheVariants.{Moved, NeedsItem, NeedsRoom, AtProbe, Ended}
 use Rattle.net_task.specs.declared.task.Task.{Task}
-use Rattle.net_task.specs.Frame.{HeadFrame, by_source, by_inlets, IsWire, Wire, frame_of, head_frame}
+use Rattle.net_task.specs.Frame.{HeadFrame, by_inlets, IsWire, Wire, frame_of, head_frame}
 use Rattle.net_task.specs.Reasons.{NoRoom, PadHolds}
-use Rattle.net_turns.specs.Ends.{AreLines, NothingLeft}
-use Rattle.net_turns.specs.Net.{HasElement, part, source, IsFed, ListAt, SendsInto}
-use Rattle.net_turns.specs.Rests.{HeadEnded, HeadLacks, IsHeldUp, NetRests, TaskRests, ended, lacking, held_up}
+use Rattle.net_turns.specs.Ends.{AreLines, NothingLeft, is_idle}
+use Rattle.net_turns.specs.Net.{IsFed, ListAt, SendsInto}
+use Rattle.net_turns.specs.Rests.{HeadEnded, HeadLacks, IsHeldUp, Lacks, NetRests, TaskRests}
 use Rattle.net_turns.proofs.Behind.{feeds_nil, gave_last, held_last, list_same, none_behind_eos}
+use Rattle.net_turns.proofs.Left.{left_by, one_empty, rests_at}
 use Rattle.gst_value.proofs.Basics.{none_some, some_same}
 
 -- a bound of the ranks of the first tasks
@@ -33,47 +35,27 @@ bound_of rank (suc n) =
     let m = bound_of rank n in
     (m.0 + rank n, λ k w. ⊎_elim (λ here. let e = ap rank here in omega (arith, e)) (λ ne. let u = m.1 k (omega (arith, w, ne)) in omega (arith, u)) (cases_eq k n))
 
--- whether nothing stands in the inlets of an element can be told
-empty_or_not : (hs : List (List Call)) → AreEmpty hs ⊎ (AreEmpty hs → ⊥)
-empty_or_not [] = inl tt
-empty_or_not ([] ∷ hs) = ⊎_elim (λ yes'. inl (refl, yes')) (λ not. inr (λ h. not h.1)) (empty_or_not hs)
-empty_or_not ((c ∷ cs) ∷ hs) = inr (λ h. cons_nil h.0)
-  where
-    cons_nil : {c : Call} {cs : List Call} → c ∷ cs ≡ [] → ⊥
-    cons_nil e = cc
-
--- the one inlet is empty
-one_empty : (hs : List (List Call)) → length hs ≡ 1 → ListAt 0 hs [] → AreEmpty hs
-one_empty [] one h = tt
-one_empty (cs ∷ []) one h = (h, tt)
-one_empty (cs ∷ ds ∷ hs) one h = absurd (omega (arith, one))
-
-cons_not : {A : Type 0} {x : A} {xs ys : List A} → ys ≡ x ∷ xs → ys ≡ [] → ⊥
-cons_not e f = cc
-
 none_else : {n : ℕ} → None ≡ Some n → ⊥
 none_else e = cc
 
 module _ {S E I O L : Type 0} {s : sources.Ghosts S} {e : elements.Ghosts E} {i : inlets.Ghosts I L O} {o : outlets.Ghosts O L}
-    (m : Moment) (tasks : List (Task S E I O L s e i o)) (tells : Option (List Lane)) (rests : NetRests (λ k. Unit {0}) m tasks tells) (lines : AreLines m tasks) where
-  rests_at : (k : ℕ) (task : Task S E I O L s e i o) → slice_get tasks k ≡ Some task → TaskRests e tells m (frame_of task)
-  rests_at k task at = rests.rests k task tt at
-
+    (m : Moment) (tasks : List (Task S E I O L s e i o)) (steps : List Step) (tells : Option (List Lane)) (rests : NetRests (λ k. Unit {0}) m tasks steps tells) (lines : AreLines m tasks) where
   -- the head of a task, by its frame
   fed_frame : (k : ℕ) (head : InletHead I) → (fed : IsFed tasks k head) → head_frame o fed.task.head ≡ by_inlets head.number (length head.rows.items)
   fed_frame k head fed = ap (λ h. head_frame o h) fed.head_is
 
   -- a task that is not held up has an empty inlet
   lacks_item : (k : ℕ) (head : InletHead I) (fed : IsFed tasks k head) → ((step : Step) → IsHeldUp tells m (frame_of fed.task) step → ⊥)
-      → TaskRests e tells m (frame_of fed.task) → ListAt 0 (m.held head.number) []
-  lacks_item k head fed free (ended all h) =
-      absurd (none_else (lines.wants k head None fed (subst (λ (f : HeadFrame). HeadEnded e m f) (fed_frame k head fed) h)))
-  lacks_item k head fed free (lacking all h) =
-      let one : HeadLacks e m (by_inlets head.number (length head.rows.items)) = subst (λ (f : HeadFrame). HeadLacks e m f) (fed_frame k head fed) h in
-      let first : one.0 ≡ 0 = some_same (lines.wants k head (Some one.0) fed one.1) in
+      → (step : Step) → TaskRests tells m fed.task step → ListAt 0 (m.held head.number) []
+  lacks_item k head fed free Moved h = absurd h
+  lacks_item k head fed free (NeedsItem lane) h =
+      let one : Lacks e m head fed.task.parts.items lane = subst (λ (own : Head S I O s). HeadLacks e m own fed.task.parts.items lane) fed.head_is h.1 in
+      let first : one.port ≡ 0 = some_same (lines.wants k head (Some one.port) fed one.wants) in
       let single = lines.single k head fed in
-      subst (λ (port : ℕ). ListAt port (m.held head.number) []) first (one.2 (omega (arith, first, single)))
-  lacks_item k head fed free (held_up step h) = absurd (free step h)
+      subst (λ (port : ℕ). ListAt port (m.held head.number) []) first (one.empty (omega (arith, first, single)))
+  lacks_item k head fed free (NeedsRoom lane) h = absurd (free (NeedsRoom lane) h)
+  lacks_item k head fed free (AtProbe command) h = absurd (free (AtProbe command) h)
+  lacks_item k head fed free Ended h = absurd (none_else (lines.wants k head None fed (subst (λ (f : HeadFrame). HeadEnded e m f) (fed_frame k head fed) h.1)))
 
   -- a full lane holds an item
   room_of : (k : ℕ) (task : Task S E I O L s e i o) (wire : Wire) (item : Item) (lane : ℕ) → slice_get tasks k ≡ Some task → IsWire (frame_of task) wire → NoRoom tells m wire item lane
@@ -123,34 +105,21 @@ module _ {S E I O L : Type 0} {s : sources.Ghosts S} {e : elements.Ghosts E} {i 
       (λ r head fed up. let within = slice_get_within tasks r fed.task fed.at in let under = bound.1 r within in absurd (omega (arith, w, up, under)))
   not_held (suc j) k task step w at h =
       holds_not k task h.0.0 step at h.0.1 h.0.2
-      (λ r head fed up. lacks_item r head fed (λ reason held. not_held j r fed.task reason (omega (arith, w, up)) fed.at held) (rests_at r fed.task fed.at))
+      (λ r head fed up. let one = rests_at m tasks steps tells rests r fed.task fed.at in lacks_item r head fed (λ reason held. not_held j r fed.task reason (omega (arith, w, up)) fed.at held) one.0 one.2)
 
   free : (k : ℕ) (task : Task S E I O L s e i o) (step : Step) → slice_get tasks k ≡ Some task → IsHeldUp tells m (frame_of task) step → ⊥
   free k task step at h = not_held bound.0 k task step (omega arith) at h
 
-  -- nothing waits at the pads of an element of a task
-  idle_at : (k p : ℕ) (task : Task S E I O L s e i o) → slice_get tasks k ≡ Some task → HasElement (frame_of task) (m.plan.owner p) → TaskRests e tells m (frame_of task) → m.waits p ≡ []
-  idle_at k p task at (part place one here number) (ended all h) = all place one here p (sym number)
-  idle_at k p task at (part place one here number) (lacking all h) = all place one here p (sym number)
-  idle_at k p task at (source file wire is) (ended all h) =
-      let rest : HeadEnded e m (by_source (m.plan.owner p) file wire) = subst (λ (f : HeadFrame). HeadEnded e m f) is h in
-      rest p refl
-  idle_at k p task at (source file wire is) (lacking all h) = absurd (subst (λ (f : HeadFrame). HeadLacks e m f) is h)
-  idle_at k p task at has (held_up step h) = absurd (free k task step at h)
-
-  waits_not : (p : ℕ) (waits : List Item) → m.waits p ≡ waits → waits ≡ []
-  waits_not p [] is = refl
-  waits_not p (x ∷ xs) is = absurd (cons_not is (rests.net.loose p (λ k own. cons_not is (idle_at k p own.task own.at own.has (rests_at k own.task own.at)))))
+  calm_by : (k : ℕ) (task : Task S E I O L s e i o) → slice_get tasks k ≡ Some task → (step : Step) → TaskRests tells m task step → is_idle step ≡ true
+  calm_by k task at Moved h = absurd h
+  calm_by k task at (NeedsItem lane) h = refl
+  calm_by k task at (NeedsRoom lane) h = absurd (free k task (NeedsRoom lane) at h)
+  calm_by k task at (AtProbe command) h = absurd (free k task (AtProbe command) at h)
+  calm_by k task at Ended h = refl
 
   empty_at : (k : ℕ) (head : InletHead I) → IsFed tasks k head → AreEmpty (m.held head.number)
   empty_at k head fed =
-      one_empty (m.held head.number) (rests.net.each k head fed ∙ lines.single k head fed) (lacks_item k head fed (λ step h. free k fed.task step fed.at h) (rests_at k fed.task fed.at))
-
-  empty_all : (n : ℕ) → AreEmpty (m.held n)
-  empty_all n =
-      ⊎_elim (λ h. h)
-      (λ not. absurd (not (rests.net.others n (λ k head fed same. not (subst (λ (a : ℕ). AreEmpty (m.held a)) same (empty_at k head fed))))))
-      (empty_or_not (m.held n))
+      one_empty (m.held head.number) (rests.net.each k head fed ∙ lines.single k head fed) (let one = rests_at m tasks steps tells rests k fed.task fed.at in lacks_item k head fed (λ step h. free k fed.task step fed.at h) one.0 one.2)
 
   pub nothing_left : NothingLeft m
-  nothing_left = record { idle = λ p. waits_not p (m.waits p) refl; empty = empty_all }
+  nothing_left = left_by m tasks steps tells rests (λ k task at. let one = rests_at m tasks steps tells rests k task at in calm_by k task at one.0 one.2) empty_at

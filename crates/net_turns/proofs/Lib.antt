@@ -20,5 +20,8 @@ mod Stepping
 mod Tries
 mod Turning
 mod Behind
+mod Left
 mod Ending
+mod EosComing
+mod Overs
 mod Readies

@@ -1,5 +1,5 @@
 -- Lists with one element changed.
-use Rattle.std.proofs.Common.{◌≡◌, ◌≢◌, ◌+◌, ℕ, zero, suc, List, [], ◌∷◌, length, Some, refl, ap, sym, ◌∙◌, arith}
+use Rattle.std.proofs.Common.{◌≡◌, ◌≢◌, ◌<◌, ◌+◌, ℕ, zero, suc, List, [], ◌∷◌, length, Some, refl, ap, sym, ◌∙◌, arith}
 use Rattle.std.specs.Prelude.{slice_get, slice_set, sum_by}
 use Rattle.std.proofs.lemmas.List.Sums.{sum_by-set}
 use Rattle.std.proofs.lemmas.Option.{slice_get_within, get_or_from_slice_get}
@@ -34,3 +34,8 @@ pub set_at : {A : Type 0} (xs : List A) (k : ℕ) (x y : A) → slice_get xs k �
 set_at [] k x y e = absurd (none_some e)
 set_at (z ∷ xs) zero x y e = refl
 set_at (z ∷ xs) (suc k) x y e = set_at xs k x y e
+
+pub set_within : {A : Type 0} (xs : List A) (k : ℕ) (y : A) → k < length xs → slice_get (slice_set xs k y) k ≡ Some y
+set_within [] k y w = absurd (omega (arith, w))
+set_within (z ∷ xs) zero y w = refl
+set_within (z ∷ xs) (suc k) y w = set_within xs k y (omega (arith, w))

@@ -1,5 +1,5 @@
 -- Tasks are ready behind a step of one of them.
-use Rattle.std.proofs.Common.{◌≡◌, ◌≢◌, ◌⊎◌, ℕ, Bool, List, Option, None, Some, refl, sym, ap, ◌∙◌, subst, inl, inr}
+use Rattle.std.proofs.Common.{◌≡◌, ◌≢◌, ◌⊎◌, ℕ, List, Option, None, Some, refl, sym, ap, ◌∙◌, subst, inl, inr}
 use Rattle.std.specs.Prelude.{slice_get}
 use Rattle.std.proofs.lemmas.Bool.{cases_eq}
 use Rattle.lane_core.specs.Lane.{Lane}
@@ -12,6 +12,7 @@ use Rattle.task_pads.specs.Behind.{LaneEnd}
 use Rattle.task_pads.specs.Pads.{end_of, number_of}
 use Rattle.task_parts.specs.declared.head.Head.{Head}
 use Rattle.task_parts.specs.declared.head.Head.TheVariants.{Source, Inlets}
+use Rattle.task_parts.specs.declared.step.Step.{Step}
 use Rattle.net_task.specs.declared.task.Task.{Task}
 use Rattle.net_task.specs.Frame.{Room, TaskFrame, Wire, by_inlets, frame_of, head_frame, room_in}
 use Rattle.net_task.specs.Ready.{IntoLane, IsReady, RowKept, RowsGoOn}
@@ -51,8 +52,8 @@ module _ {S I O L : Type 0} {s : sources.Ghosts S} (i : inlets.Ghosts I L O) (o 
   heads_go (Inlets head) (Source head') frame h = absurd h
 
 module _ {S E I O L : Type 0} {s : sources.Ghosts S} {e : elements.Ghosts E} {i : inlets.Ghosts I L O} {o : outlets.Ghosts O L} where
-  pub net_ready : (was is : List (Task S E I O L s e i o)) (tells tells' : Option (List Lane)) (place : ℕ) (moved : Bool) → NetReady was tells → IsStepped place moved was is tells tells' → NetReady is tells'
-  net_ready was is tells tells' place moved net h = record {
+  pub net_ready : (was is : List (Task S E I O L s e i o)) (tells tells' : Option (List Lane)) (place : ℕ) (step : Step) → NetReady was tells → IsStepped place step was is tells tells' → NetReady is tells'
+  net_ready was is tells tells' place step net h = record {
     wired = wired_still was is place h.before h.after other net.wired;
     ready = λ k task at. ready k task at (cases_eq k place);
   }

@@ -16,11 +16,12 @@ use Rattle.net_task.specs.declared.task.Task.{Task}
 use Rattle.net_task.specs.Frame.{TaskFrame, frame_in, frame_of}
 use Rattle.net_task.specs.Moves.{Steps}
 use Rattle.net_task.specs.Ready.{HeadApart, IsReady}
-use Rattle.net_task.specs.Reasons.{Why}
+use Rattle.net_task.specs.Reasons.{AllRest, OneHolds, Why}
 use Rattle.net_task.specs.Ties.{Ties}
 use Rattle.net_turns.specs.Net.{NetStands}
-use Rattle.net_turns.specs.Rests.{NetRests, TaskRests, ended, lacking, held_up, has_moved}
+use Rattle.net_turns.specs.Rests.{HeadEnded, IsHeldUp, TaskRests, has_moved}
 use Rattle.net_turns.specs.Turns.{TaskStepped}
+use Rattle.net_turns.proofs.Behind.{none_behind_eos}
 use Rattle.net_turns.proofs.Rested.{HeadKeeps, fed_back, fed_on, owns_on, row_back, sends_back, wired_kept}
 use Rattle.net_turns.proofs.Reasoned.{HeadStands, gave_all, heads_kept, heads_lacking, lacks}
 use Rattle.net_turns.proofs.Reasoned as reasoned
@@ -87,35 +88,40 @@ module _ {S E I O L : Type 0} {s : sources.Ghosts S} {e : elements.Ghosts E} {i 
   rows_stand (Source head) is = tt
   rows_stand (Inlets head) is = λ port row here. net.rows place head.number port row (record { head = head; fed = record { task = before; at = at; head_is = is }; number = refl; at = here })
 
-  reasons : (step : Step) → has_moved step ≡ false → Ties after m → Why tells before after m step → TaskRests e tells m (frame_of before)
+  -- no item waits behind an EOS
+  not_behind : OneHolds tells m (frame_of before) Ended → ⊥
+  not_behind held = none_behind_eos m held.0.number held.2.item held.2.rest net.plain (net.cells (m.plan.owner held.0.number)) held.2.waits held.2.held
+
+  gave : AllRest m (frame_of before) × HeadEnded e m (frame_of before).head → TaskRests tells m after Ended
+  gave h = subst (λ (f : TaskFrame). AllRest m f × HeadEnded e m f.head) (sym frame) h
+
+  reasons : (step : Step) → has_moved step ≡ false → Ties after m → Why tells before after m step → TaskRests tells m after step
   reasons Moved none tied why = absurd (true≢false none)
   reasons (NeedsItem lane) none tied why =
-      let ready_was = net.ready place before at in
-      lacking why.0
-      (lacks i o net.table tells net.told m net.sents after.parts.items tied.parts_tied before.head after.head lane
-      (apart_of i net.table tells net.told (frame_in o before.head before.parts.items) before.head ready_was.head_apart) (rows_stand before.head refl) why.1)
-  reasons (NeedsRoom lane) none tied why = held_up (NeedsRoom lane) (why.holds, why.parts)
-  reasons (AtProbe command) none tied why = held_up (AtProbe command) (why.holds, why.parts)
+      let ready_was = net.ready place before at in (
+        subst (λ (f : TaskFrame). AllRest m f) (sym frame) why.0,
+        lacks i o net.table tells net.told m net.sents after.parts.items tied.parts_tied before.head after.head lane
+            (apart_of i net.table tells net.told (frame_in o before.head before.parts.items) before.head ready_was.head_apart) (rows_stand before.head refl) why.1,
+      )
+  reasons (NeedsRoom lane) none tied why = subst (λ (f : TaskFrame). IsHeldUp tells m f (NeedsRoom lane)) (sym frame) (why.holds, why.parts)
+  reasons (AtProbe command) none tied why = subst (λ (f : TaskFrame). IsHeldUp tells m f (AtProbe command)) (sym frame) (why.holds, why.parts)
   reasons Ended none tied why =
-      ⊎_elim (λ over. ended over.0 (gave_all i o net.table tells net.told m net.sents after.parts.items tied.parts_tied before.head over.1))
-      (λ stuck. held_up Ended (stuck.holds, stuck.parts)) why
+      ⊎_elim (λ over. gave (over.0, gave_all i o net.table tells net.told m net.sents after.parts.items tied.parts_tied before.head over.1))
+      (λ stuck. absurd (not_behind stuck.holds)) why
 
-  -- the net stands, and the task rests
-  pub rested : (step : Step) → TaskStepped tells tells' before after step → has_moved step ≡ false → NetRests (λ k. k ≡ place) m tasks' tells'
-  rested step stepped none =
-      let tied_was = net.tied place before at in
-      let why = stepped.why m tied_was in
-      let st = still net.table tells tells' before after m step net.told (net.ready place before at) none (stepped.steps m tied_was) why in
-      let rests = reasons step none st.tied why in
-      let now : TaskRests e tells' m (frame_of after) = subst (λ (u : Option (List Lane)). TaskRests e u m (frame_of after)) (sym st.same) (subst (λ (f : TaskFrame). TaskRests e tells m f) (sym frame) rests) in
-      record {
-        net = stands_still st;
-        rests = λ k task same here. subst (λ (u : Task S E I O L s e i o). TaskRests e tells' m (frame_of u)) (some_same (sym at_after ∙ ap (λ j. slice_get tasks' j) (sym same) ∙ here)) now;
-      }
+  module _ (step : Step) (stepped : TaskStepped tells tells' before after step) (none : has_moved step ≡ false) where
+    stays : Still net.table tells tells' before after m
+    stays =
+        still net.table tells tells' before after m step net.told (net.ready place before at) none (stepped.steps m (net.tied place before at)) (stepped.why m (net.tied place before at))
 
-  -- the lanes are as they were
-  pub rested_same : (step : Step) → TaskStepped tells tells' before after step → has_moved step ≡ false → tells' ≡ tells
-  rested_same step stepped none =
-      let tied_was = net.tied place before at in
-      let st = still net.table tells tells' before after m step net.told (net.ready place before at) none (stepped.steps m tied_was) (stepped.why m tied_was) in
-      st.same
+    -- the net stands
+    pub rested_stands : NetStands m tasks' tells'
+    rested_stands = stands_still stays
+
+    -- the lanes are as they were
+    pub rested_same : tells' ≡ tells
+    rested_same = stays.same
+
+    -- and the task rests
+    pub rested_why : TaskRests tells' m after step
+    rested_why = subst (λ (u : Option (List Lane)). TaskRests u m after step) (sym stays.same) (reasons step none stays.tied (stepped.why m (net.tied place before at)))

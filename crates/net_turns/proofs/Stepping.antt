@@ -1,7 +1,7 @@
 -- A net behind a step of one of its tasks.
-use Rattle.std.proofs.Common.{◌≡◌, ◌≢◌, ◌≤◌, ◌+◌, ◌^◌, ℕ, List, length, Option, Some, Bool, false, refl, sym, ap, ◌∙◌, subst, ⊎_elim, arith}
+use Rattle.std.proofs.Common.{◌≡◌, ◌≢◌, ◌≤◌, ◌+◌, ◌^◌, ℕ, List, length, Option, Some, Bool, true, false, refl, sym, ap, ◌∙◌, subst, ⊎_elim, arith}
 use Rattle.std.specs.Prelude.{slice_get, slice_set}
-use Rattle.std.proofs.lemmas.Bool.{cases_eq}
+use Rattle.std.proofs.lemmas.Bool.{cases_eq, false≢true}
 use Rattle.flow_model.specs.Item.{Item}
 use Rattle.lane_core.specs.Lane.{Lane}
 use Rattle.lane_core.specs.declared.ends.Inlet as inlets
@@ -15,11 +15,11 @@ use Rattle.task_parts.specs.declared.step.Step.TheVariants.{Moved, NeedsItem, Ne
 use Rattle.net_task.specs.declared.task.Task.{Task}
 use Rattle.net_task.specs.Frame.{frame_of}
 use Rattle.net_task.specs.Fuel.{Burns, moves_left}
-use Rattle.net_turns.specs.Net.{NetStands}
-use Rattle.net_turns.specs.Rests.{AllFramed, NetFaulted, NetStepped, has_moved}
+use Rattle.net_turns.specs.Net.{NetGoes, NetStands}
+use Rattle.net_turns.specs.Rests.{AllFramed, NetFaulted, TaskRests, has_moved}
 use Rattle.net_turns.specs.Turns.{Burned, HasMet, IsStepped, TaskStepped, net_left}
 use Rattle.net_turns.proofs.Places.{set_here, set_there, some_before, sum_set}
-use Rattle.net_turns.proofs.Resting.{rested, rested_same}
+use Rattle.net_turns.proofs.Resting.{rested_same, rested_stands, rested_why}
 use Rattle.net_turns.proofs.Moved.{net_step}
 use Rattle.gst_value.proofs.Basics.{some_same}
 
@@ -36,32 +36,41 @@ burned_by (AtProbe command) before after was is e b = omega (arith, e, b)
 burned_by Ended before after was is e b = omega (arith, e, b)
 
 module _ {S E I O L : Type 0} {s : sources.Ghosts S} {e : elements.Ghosts E} {i : inlets.Ghosts I L O} {o : outlets.Ghosts O L} where
-  -- the net goes on where the task moved, and else it stands and the task rests
-  stepped_by : OutletLaws o → (m : Moment) (tasks tasks' : List (Task S E I O L s e i o)) (tells tells' : Option (List Lane)) (place : ℕ) (before after : Task S E I O L s e i o) (step : Step) → NetStands m tasks tells
+  -- the net goes on where the task moved
+  went_by : OutletLaws o → (m : Moment) (tasks tasks' : List (Task S E I O L s e i o)) (tells tells' : Option (List Lane)) (place : ℕ) (before after : Task S E I O L s e i o) (step : Step) → NetStands m tasks tells
       → slice_get tasks place ≡ Some before → ((k : ℕ) → k ≢ place → slice_get tasks' k ≡ slice_get tasks k) → slice_get tasks' place ≡ Some after
-      → TaskStepped tells tells' before after step → NetStepped (λ k. k ≡ place) (has_moved step) m tasks' tells'
-  stepped_by laws m tasks tasks' tells tells' place before after Moved net at others at_after h =
+      → has_moved step ≡ true → TaskStepped tells tells' before after step → NetGoes m tasks' tells'
+  went_by laws m tasks tasks' tells tells' place before after Moved net at others at_after did h =
       net_step laws.counts laws.bounded m tasks tasks' tells tells' place before after net at others at_after h.ready h.frame (λ when tied. h.steps when tied)
-  stepped_by laws m tasks tasks' tells tells' place before after (NeedsItem lane) net at others at_after h =
-      rested m tasks tasks' tells tells' place before after net at others at_after h.ready h.frame (NeedsItem lane) h refl
-  stepped_by laws m tasks tasks' tells tells' place before after (NeedsRoom lane) net at others at_after h =
-      rested m tasks tasks' tells tells' place before after net at others at_after h.ready h.frame (NeedsRoom lane) h refl
-  stepped_by laws m tasks tasks' tells tells' place before after (AtProbe command) net at others at_after h =
-      rested m tasks tasks' tells tells' place before after net at others at_after h.ready h.frame (AtProbe command) h refl
-  stepped_by laws m tasks tasks' tells tells' place before after Ended net at others at_after h =
-      rested m tasks tasks' tells tells' place before after net at others at_after h.ready h.frame Ended h refl
+  went_by laws m tasks tasks' tells tells' place before after (NeedsItem lane) net at others at_after did h = absurd (false≢true did)
+  went_by laws m tasks tasks' tells tells' place before after (NeedsRoom lane) net at others at_after did h = absurd (false≢true did)
+  went_by laws m tasks tasks' tells tells' place before after (AtProbe command) net at others at_after did h = absurd (false≢true did)
+  went_by laws m tasks tasks' tells tells' place before after Ended net at others at_after did h = absurd (false≢true did)
 
-  pub net_stepped : OutletLaws o → (m : Moment) (was is : List (Task S E I O L s e i o)) (tells tells' : Option (List Lane)) (place : ℕ) (moved : Bool) → NetStands m was tells
-      → IsStepped place moved was is tells tells'
-      → NetStepped (λ k. k ≡ place) moved m is tells'
-  net_stepped laws m was is tells tells' place moved net h =
-      subst (λ (b : Bool). NetStepped (λ k. k ≡ place) b m is tells') (sym h.moved_is) (stepped_by laws m was is tells tells' place h.before h.after h.step net h.at h.others h.at_after h.stepped)
+  pub net_went : OutletLaws o → (m : Moment) (was is : List (Task S E I O L s e i o)) (tells tells' : Option (List Lane)) (place : ℕ) (step : Step) → NetStands m was tells
+      → IsStepped place step was is tells tells' → has_moved step ≡ true → NetGoes m is tells'
+  net_went laws m was is tells tells' place step net h did = went_by laws m was is tells tells' place h.before h.after step net h.at h.others h.at_after did h.stepped
 
-  -- where it did not move the lanes are as they were
-  pub net_same : (m : Moment) (was is : List (Task S E I O L s e i o)) (tells tells' : Option (List Lane)) (place : ℕ) → NetStands m was tells
-      → IsStepped place false was is tells tells' → tells' ≡ tells
-  net_same m was is tells tells' place net h =
-      rested_same m was is tells tells' place h.before h.after net h.at h.others h.at_after h.stepped.ready h.stepped.frame h.step h.stepped (sym h.moved_is)
+  -- where it did not move the net stands where it stood, the lanes are as they were, and the task cannot move
+  module _ (m : Moment) (was is : List (Task S E I O L s e i o)) (tells tells' : Option (List Lane)) (place : ℕ) (step : Step) (net : NetStands m was tells)
+      (h : IsStepped place step was is tells tells') (none : has_moved step ≡ false) where
+    pub net_stays : NetStands m is tells'
+    net_stays = rested_stands m was is tells tells' place h.before h.after net h.at h.others h.at_after h.stepped.ready h.stepped.frame step h.stepped none
+
+    pub net_same : tells' ≡ tells
+    net_same = rested_same m was is tells tells' place h.before h.after net h.at h.others h.at_after h.stepped.ready h.stepped.frame step h.stepped none
+
+    pub net_why : TaskRests tells' m h.after step
+    net_why = rested_why m was is tells tells' place h.before h.after net h.at h.others h.at_after h.stepped.ready h.stepped.frame step h.stepped none
+
+  -- moved or not, the net goes on
+  pub net_goes : OutletLaws o → (m : Moment) (was is : List (Task S E I O L s e i o)) (tells tells' : Option (List Lane)) (place : ℕ) (step : Step) → NetStands m was tells
+      → IsStepped place step was is tells tells' → NetGoes m is tells'
+  net_goes laws m was is tells tells' place step net h = by (has_moved step) refl
+    where
+      by : (moved : Bool) → has_moved step ≡ moved → NetGoes m is tells'
+      by true did = net_went laws m was is tells tells' place step net h did
+      by false none = record { now = m; goes_on = record { plan = refl; answers = refl }; net = net_stays m was is tells tells' place step net h none }
 
   pub net_faulted : (m : Moment) (was is : List (Task S E I O L s e i o)) (tells : Option (List Lane)) (place : ℕ) (fault : TaskFault) → NetStands m was tells
       → HasMet place fault was is tells → NetFaulted m is place fault

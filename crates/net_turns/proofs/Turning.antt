@@ -11,8 +11,10 @@ use Rattle.turn_order.specs.declared.order.Order.{Order}
 use Rattle.turn_order.specs.declared.turns.Turns.{Turns}
 use Rattle.turn_order.specs.Turns.{number_of, IsAmong}
 use Rattle.task_parts.specs.declared.fault.TaskFault.{TaskFault}
+use Rattle.task_parts.specs.declared.step.Step.{Step}
 use Rattle.net_task.specs.declared.task.Task.{Task}
 use Rattle.net_turns.specs.declared.net.Stopped.{Stopped}
+use Rattle.net_turns.specs.Rests.{has_moved}
 use Rattle.net_turns.specs.Turns.{AreTried, Burned, ByTurns, begun, turn, tries, HasAdvanced, HasCome, HasMet, HasMetTrying, IsStepped, RunBy, without, ended, at_turn, at_try, steps_left}
 
 -- the next turn is the same among as many tasks
@@ -44,16 +46,16 @@ module _ {S E I O L : Type 0} {s : sources.Ghosts S} {e : elements.Ghosts E} {i 
     run_without turns none next = record { number = start; next = next; run = without none }
 
     -- one more was made
-    pub come_turn : (was is : List (Task S E I O L s e i o)) (tells tells' : Option (List Lane)) (old new : Turns) (idle after : ℕ) (moved : Bool) (place : ℕ)
+    pub come_turn : (was is : List (Task S E I O L s e i o)) (tells tells' : Option (List Lane)) (old new : Turns) (idle after : ℕ) (step : Step) (place : ℕ)
         → HasCome order start first told old idle was tells
         → 0 < length was → idle < 4096 → ((order : Order) (n : ℕ) → IsAmong order (length was) n old → place ≡ number_of order n % length was)
-        → ((order : Order) (n : ℕ) → IsAmong order (length was) n old → IsAmong order (length was) (n + 1) new) → after ≡ cond moved 0 (idle + 1) → length is ≡ length was
-        → IsStepped place moved was is tells tells' → HasCome order start first told new after is tells'
-    come_turn was is tells tells' old new idle after moved place h some few here more behind same stepped = record {
+        → ((order : Order) (n : ℕ) → IsAmong order (length was) n old → IsAmong order (length was) (n + 1) new) → after ≡ cond (has_moved step) 0 (idle + 1) → length is ≡ length was
+        → IsStepped place step was is tells tells' → HasCome order start first told new after is tells'
+    come_turn was is tells tells' old new idle after step place h some few here more behind same stepped = record {
       number = h.number + 1;
       next = turn_same order (length was) (length is) (h.number + 1) new same (more order h.number h.next);
       run = subst (λ (j : ℕ). ByTurns order start first told (h.number + 1) j is tells') (sym behind)
-          (turn h.number idle moved was is tells tells' h.run some few (subst (λ (p : ℕ). IsStepped p moved was is tells tells') (here order h.number h.next) stepped));
+          (turn h.number idle step was is tells tells' h.run some few (subst (λ (p : ℕ). IsStepped p step was is tells tells') (here order h.number h.next) stepped));
     }
 
     -- it met a fault

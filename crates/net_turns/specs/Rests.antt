@@ -1,14 +1,24 @@
 -- Tasks that cannot move, why, and where a run of tasks meets a fault.
-use Rattle.std.specs.Prelude.{◌≡◌, ◌≢◌, ◌<◌, ℕ, Bool, true, false, List, [], Option, None, Some, slice_get}
+use Rattle.std.specs.Prelude.{◌≡◌, ◌≢◌, ◌<◌, ◌⊎◌, ℕ, Bool, true, false, List, [], ◌∷◌, Option, None, Some, length, slice_get}
+use Rattle.std.specs.Option.{option_map_or}
 use Rattle.lane_core.specs.Lane.{Lane}
 use Rattle.lane_core.specs.declared.ends.Inlet as inlets
 use Rattle.lane_core.specs.declared.ends.Outlet as outlets
 use Rattle.net_model.specs.Moment.{Moment, behavior_at}
 use Rattle.net_model.specs.declared.element.TaskElement as elements
 use Rattle.net_model.specs.declared.source.TaskSource as sources
+use Rattle.inlet_row.specs.declared.feeding.Feeding.{Feeding}
+use Rattle.inlet_row.specs.declared.feeding.Feeding.TheVariants.{Lane as OfLane}
+use Rattle.inlet_row.specs.declared.row.InletRow.{InletRow}
+use Rattle.inlet_row.specs.Row.{feeds_of}
 use Rattle.task_parts.specs.declared.fault.TaskFault.{TaskFault}
+use Rattle.task_parts.specs.declared.head.Head.{Head}
+use Rattle.task_parts.specs.declared.head.Head.TheVariants.{Source, Inlets}
+use Rattle.task_parts.specs.declared.head.InletHead.{InletHead}
+use Rattle.task_parts.specs.declared.part.Part.{Part}
 use Rattle.task_parts.specs.declared.step.Step.{Step}
 use Rattle.task_parts.specs.declared.step.Step.TheVariants.{Moved, NeedsItem, NeedsRoom, AtProbe, Ended}
+use Rattle.task_parts.specs.Found.{IsAt}
 use Rattle.net_task.specs.declared.task.Task.{Task}
 use Rattle.net_task.specs.Failed.{Failed}
 use Rattle.net_task.specs.Frame.{HeadFrame, by_source, by_inlets, TaskFrame, frame_of}
@@ -26,20 +36,40 @@ abbrev pub HeadEnded : {E : Type 0} → elements.Ghosts E → Moment → HeadFra
 HeadEnded e m (by_source n file wire) = OwnerRests m n
 HeadEnded e m (by_inlets n rows) = Wants e m n None
 
--- the element of a head wants an item of a sink pad where none stands
-abbrev pub HeadLacks : {E : Type 0} → elements.Ghosts E → Moment → HeadFrame → Type 0
-HeadLacks e m (by_source n file wire) = ⊥
-HeadLacks e m (by_inlets n rows) = (port : ℕ) × Wants e m n (Some port) × (port < rows → ListAt port (m.held n) [])
+-- what stands in the row of a sink pad; nothing where it has no row
+abbrev pub feeds_at : {I : Type 0} → List (InletRow I) → ℕ → List (Feeding I)
+feeds_at rows port = option_map_or feeds_of (slice_get rows port) []
+
+-- Nothing is left in a row but the lane of this number. The number 4294967295 stands for none.
+abbrev pub AwaitsLane : {I : Type 0} → List (Feeding I) → ℕ → Type 0
+AwaitsLane {I = I} feeds lane = ((inlet : I) × (feeds ≡ OfLane lane inlet ∷ [])) ⊎ ((feeds ≡ []) × (lane ≡ 4294967295))
+
+-- The element of a head, one of the task's, wants an item of a sink pad where none stands; the row there awaits the lane of this
+-- number.
+pub record Lacks {E I O : Type 0} (e : elements.Ghosts E) (m : Moment) (head : InletHead I) (parts : List (Part E O e)) (lane : ℕ) : Type 0 where
+  pub port : ℕ
+  pub place : ℕ
+  pub own : IsAt parts head.number place
+  pub wanted : e.wanted own.part.element ≡ Some port
+  pub wants : Wants e m head.number (Some port)
+  pub awaits : AwaitsLane (feeds_at head.rows.items port) lane
+  pub empty : port < length head.rows.items → ListAt port (m.held head.number) []
+
+abbrev pub HeadLacks : {S E I O : Type 0} {s : sources.Ghosts S} → (e : elements.Ghosts E) → Moment → Head S I O s → List (Part E O e) → ℕ → Type 0
+HeadLacks e m (Source head) parts lane = ⊥
+HeadLacks e m (Inlets head) parts lane = Lacks e m head parts lane
 
 -- an item waits on for that reason, and at no pad of the elements one can cross
 abbrev pub IsHeldUp : Option (List Lane) → Moment → TaskFrame → Step → Type 0
 IsHeldUp tells m frame step = OneHolds tells m frame step × AllBlocked tells m frame
 
--- why a task cannot move
-pub data TaskRests {E : Type 0} (e : elements.Ghosts E) (tells : Option (List Lane)) (m : Moment) (frame : TaskFrame) : Type 0 where
-  ended : AllRest m frame → HeadEnded e m frame.head → TaskRests e tells m frame
-  lacking : AllRest m frame → HeadLacks e m frame.head → TaskRests e tells m frame
-  held_up : (step : Step) → IsHeldUp tells m frame step → TaskRests e tells m frame
+-- why a task cannot move, by what it answered
+abbrev pub TaskRests : {S E I O L : Type 0} {s : sources.Ghosts S} {e : elements.Ghosts E} {i : inlets.Ghosts I L O} {o : outlets.Ghosts O L} → Option (List Lane) → Moment → Task S E I O L s e i o → Step → Type 0
+TaskRests tells m task Moved = ⊥
+TaskRests {e = e} tells m task (NeedsItem lane) = AllRest m (frame_of task) × HeadLacks e m task.head task.parts.items lane
+TaskRests tells m task (NeedsRoom lane) = IsHeldUp tells m (frame_of task) (NeedsRoom lane)
+TaskRests tells m task (AtProbe command) = IsHeldUp tells m (frame_of task) (AtProbe command)
+TaskRests {e = e} tells m task Ended = AllRest m (frame_of task) × HeadEnded e m (frame_of task).head
 
 abbrev pub has_moved : Step → Bool
 has_moved Moved = true
@@ -49,26 +79,26 @@ has_moved (AtProbe command) = false
 has_moved Ended = false
 
 module _ {S E I O L : Type 0} {s : sources.Ghosts S} {e : elements.Ghosts E} {i : inlets.Ghosts I L O} {o : outlets.Ghosts O L} where
-  -- A net stands at a moment, and each of its tasks that was tried cannot move there.
-  pub record NetRests (IsTried : ℕ → Type 0) (m : Moment) (tasks : List (Task S E I O L s e i o)) (tells : Option (List Lane)) : Type 0 where
+  -- A net stands at a moment, and each of its tasks that was tried cannot move there, for the reason that it answered.
+  pub record NetRests (IsTried : ℕ → Type 0) (m : Moment) (tasks : List (Task S E I O L s e i o)) (steps : List Step) (tells : Option (List Lane)) : Type 0 where
     pub net : NetStands m tasks tells
-    pub rests : (k : ℕ) (task : Task S E I O L s e i o) → IsTried k → slice_get tasks k ≡ Some task → TaskRests e tells m (frame_of task)
+    pub rests : (k : ℕ) (task : Task S E I O L s e i o) → IsTried k → slice_get tasks k ≡ Some task → (step : Step) × (slice_get steps k ≡ Some step) × TaskRests tells m task step
 
   -- behind steps of these tasks: where one moved the net goes on, and else it stands where it stood
-  abbrev pub NetStepped : (ℕ → Type 0) → Bool → Moment → List (Task S E I O L s e i o) → Option (List Lane) → Type 0
-  NetStepped IsTried true m tasks tells = NetGoes m tasks tells
-  NetStepped IsTried false m tasks tells = NetRests IsTried m tasks tells
+  abbrev pub NetStepped : (ℕ → Type 0) → Bool → Moment → List (Task S E I O L s e i o) → List Step → Option (List Lane) → Type 0
+  NetStepped IsTried true m tasks steps tells = NetGoes m tasks tells
+  NetStepped IsTried false m tasks steps tells = NetRests IsTried m tasks steps tells
 
-  -- The run of a net has ended: it came to a moment at which no task can move.
-  pub record NetEnded (m : Moment) (tasks : List (Task S E I O L s e i o)) (tells : Option (List Lane)) : Type 0 where
+  -- The run of a net has ended: it came to a moment at which no task can move, and what each answered is why.
+  pub record NetEnded (m : Moment) (tasks : List (Task S E I O L s e i o)) (steps : List Step) (tells : Option (List Lane)) : Type 0 where
     pub last : Moment
     pub goes_on : GoesOn m last
-    pub rests : NetRests (λ k. Unit {0}) last tasks tells
+    pub rests : NetRests (λ k. Unit {0}) last tasks steps tells
 
   -- while there is more the net goes on, and else it has ended
-  abbrev pub NetAdvanced : Bool → Moment → List (Task S E I O L s e i o) → Option (List Lane) → Type 0
-  NetAdvanced true m tasks tells = NetGoes m tasks tells
-  NetAdvanced false m tasks tells = NetEnded m tasks tells
+  abbrev pub NetAdvanced : Bool → Moment → List (Task S E I O L s e i o) → List Step → Option (List Lane) → Type 0
+  NetAdvanced true m tasks steps tells = NetGoes m tasks tells
+  NetAdvanced false m tasks steps tells = NetEnded m tasks steps tells
 
   -- The run of a net met a fault: it came to a moment at which it stood, and there the task at a place met it, and left the lanes so.
   pub record NetFaulted (m : Moment) (tasks : List (Task S E I O L s e i o)) (place : ℕ) (fault : TaskFault) : Type 0 where

@@ -32,15 +32,13 @@ module _ {S E I O L : Type 0} {s : sources.Ghosts S} {e : elements.Ghosts E} {i 
     pub frame : frame_of after ≡ frame_of before
     pub burns : Burns (moves_left before) (moves_left after) step
 
-  -- The task at a place was stepped, and no other one.
-  pub record IsStepped (place : ℕ) (moved : Bool) (was is : List (Task S E I O L s e i o)) (tells tells' : Option (List Lane)) : Type 0 where
+  -- The task at a place was stepped, and no other one. It answered this step.
+  pub record IsStepped (place : ℕ) (step : Step) (was is : List (Task S E I O L s e i o)) (tells tells' : Option (List Lane)) : Type 0 where
     pub others : (k : ℕ) → k ≢ place → slice_get is k ≡ slice_get was k
     pub before : Task S E I O L s e i o
     pub at : slice_get was place ≡ Some before
     pub after : Task S E I O L s e i o
     pub at_after : slice_get is place ≡ Some after
-    pub step : Step
-    pub moved_is : moved ≡ has_moved step
     pub stepped : TaskStepped tells tells' before after step
 
   -- The task at a place was stepped, and no other one. It met a fault, and left the lanes so.
@@ -62,8 +60,8 @@ module _ {S E I O L : Type 0} {s : sources.Ghosts S} {e : elements.Ghosts E} {i 
   -- The tasks before a place were stepped, one after the other; tells whether one of them moved.
   pub data AreTried (first : List (Task S E I O L s e i o)) (told : Option (List Lane)) : ℕ → Bool → List (Task S E I O L s e i o) → Option (List Lane) → Type 0 where
     none : AreTried first told 0 false first told
-    one : (place : ℕ) (moved stepped : Bool) (was is : List (Task S E I O L s e i o)) (tells tells' : Option (List Lane)) → AreTried first told place moved was tells
-        → IsStepped place stepped was is tells tells' → AreTried first told (place + 1) (moved || stepped) is tells'
+    one : (place : ℕ) (moved : Bool) (step : Step) (was is : List (Task S E I O L s e i o)) (tells tells' : Option (List Lane)) → AreTried first told place moved was tells
+        → IsStepped place step was is tells tells' → AreTried first told (place + 1) (moved || has_moved step) is tells'
 
   -- The tasks were stepped, one after the other, up to one that met a fault.
   pub record HasMetTrying (fault : TaskFault) (first is : List (Task S E I O L s e i o)) (told : Option (List Lane)) : Type 0 where
@@ -80,8 +78,8 @@ module _ {S E I O L : Type 0} {s : sources.Ghosts S} {e : elements.Ghosts E} {i 
   -- before, each task is stepped, which is no turn; the run goes on where one of them moved.
   pub data ByTurns (order : Order) (start : ℕ) (first : List (Task S E I O L s e i o)) (told : Option (List Lane)) : ℕ → ℕ → List (Task S E I O L s e i o) → Option (List Lane) → Type 0 where
     begun : ByTurns order start first told start 0 first told
-    turn : (n idle : ℕ) (moved : Bool) (was is : List (Task S E I O L s e i o)) (tells tells' : Option (List Lane)) → ByTurns order start first told n idle was tells → 0 < length was → idle < 4096
-        → IsStepped (number_of order n % length was) moved was is tells tells' → ByTurns order start first told (n + 1) (if moved then 0 else idle + 1) is tells'
+    turn : (n idle : ℕ) (step : Step) (was is : List (Task S E I O L s e i o)) (tells tells' : Option (List Lane)) → ByTurns order start first told n idle was tells → 0 < length was → idle < 4096
+        → IsStepped (number_of order n % length was) step was is tells tells' → ByTurns order start first told (n + 1) (if has_moved step then 0 else idle + 1) is tells'
     tries : (n : ℕ) (was is : List (Task S E I O L s e i o)) (tells tells' : Option (List Lane)) → ByTurns order start first told n 4096 was tells → AreTried was tells (length was) true is tells'
         → ByTurns order start first told n 0 is tells'
 

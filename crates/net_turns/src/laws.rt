@@ -1,5 +1,5 @@
 //! Laws of nets.
-ghost use Rattle.net_turns.specs.Ends.{LinesEnd};
+ghost use Rattle.net_turns.specs.Ends.{LinesEnd, StepsTellOver};
 
 use lane_core::{Inlet, Outlet};
 use net_model::{TaskElement, TaskSource};
@@ -10,4 +10,15 @@ use net_model::{TaskElement, TaskSource};
 /// turn; ranks that rise along the lanes exclude that all of them wait for room.
 pub fn lines_end<S: TaskSource, E: TaskElement, I: Inlet<Out = O>, O: Outlet<Lanes = I::Lanes>>()
     ensures { LinesEnd S.TaskSource E.TaskElement I.Inlet O.Outlet }
+{}
+
+/// Whether the run of a net that cannot move is over or stalled is told by what its tasks answered, and by which of its
+/// elements are live and join streams.
+pub fn steps_tell_over<
+    S: TaskSource,
+    E: TaskElement,
+    I: Inlet<Out = O>,
+    O: Outlet<Lanes = I::Lanes>,
+>()
+    ensures { StepsTellOver S.TaskSource E.TaskElement I.Inlet O.Outlet }
 {}

@@ -1,5 +1,5 @@
 -- How a run begins: what its tasks are made of is there, and made of that they are the tasks of a run that starts.
-use Rattle.std.proofs.Common.{◌≡◌, List, Option, Some}
+use Rattle.std.proofs.Common.{◌≡◌, ◌∙◌, List, Option, Some, length, sym}
 use Rattle.net_model.specs.declared.element.TaskElement as elements
 use Rattle.net_model.specs.declared.source.TaskSource as givers
 use Rattle.graph_bags.specs.declared.bag.Bag.{Bag}
@@ -68,3 +68,12 @@ module _ {S K I O L : Type 0} (giver : givers.Ghosts (StreamSource S)) (taker : 
     tasks_are = so (made_in graph) (links_in graph) planned.bags table planned.wired;
     rest_is = rest_is;
   }
+
+-- there are as many tasks as were planned
+pub as_many : {S K I O L T : Type 0} {giver : givers.Ghosts (StreamSource S)} {taker : elements.Ghosts (StreamElement K)} (i : inlets.Ghosts I L O) (o : outlets.Ghosts O L) (graph : Graph)
+    (wired : List (WiredTask I O)) (table : List Lane) → ArePlanned i o graph wired table
+    → (elements_in : List (Option (StreamElement K))) (sources_in : List (Option (StreamSource S))) (tasks : List (Task (StreamSource S) (StreamElement K) I O L giver taker i o))
+    → ((made : List Made) (links : List PadLink) (bags : List Bag) (lanes : List Lane) → AreWired i o made links bags wired lanes → AreTasks i o made links elements_in sources_in bags tasks lanes)
+    → (steps : List T) → length steps ≡ length wired → length steps ≡ length tasks
+as_many i o graph wired table planned elements_in sources_in tasks so steps count =
+    count ∙ planned.wired.count ∙ sym (so (made_in graph) (links_in graph) planned.bags table planned.wired).count

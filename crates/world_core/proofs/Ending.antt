@@ -28,6 +28,7 @@ use Rattle.run_files.specs.declared.end.End.{End}
 use Rattle.task_elements.specs.Stands.{file_in}
 use Rattle.task_elements.specs.declared.element.StreamElement.{StreamElement}
 use Rattle.task_elements.specs.declared.source.StreamSource.{StreamSource}
+use Rattle.task_parts.specs.declared.step.Step.{Step}
 use Rattle.turn_order.specs.declared.order.Order.{Order}
 use Rattle.turn_order.specs.declared.turns.Turns.{Turns}
 use Rattle.world_core.specs.Ended.{HasEnded}
@@ -79,11 +80,11 @@ module _ {S K I O L : Type 0} {giver : givers.Ghosts (StreamSource S)} {taker : 
       own : Met stop.fault last
       own = met_by order 0 ran.number first last tells (Some stop.fault) stop.fault ran.run refl
 
-  pub run_ended : {A : Type 0} (order : Order) (turns : Turns) (over : Option (List Lane)) (ran : Result A Stopped)
-      → IfOk ran (λ done. (m : Moment) → NetStands m first tells → NetEnded m last over)
+  pub run_ended : {A : Type 0} (order : Order) (turns : Turns) (steps : List Step) (over : Option (List Lane)) (ran : Result A Stopped)
+      → IfOk ran (λ done. (m : Moment) → NetStands m first tells → NetEnded m last steps over)
       → IfErr ran (λ stop. (m : Moment) → NetStands m first tells → NetFaulted m last stop.task stop.fault)
       → RunBy order 0 first tells turns (stop_of ran) last → IsTold graph last rest left ends (stop_of ran) end → end.status ≢ 13 → Ended
-  run_ended order turns over (Ok done) ended faulted by told some =
-      inl (is_over s k laws graph first last rest left tells before run once rested taken given ends end told over
+  run_ended order turns steps over (Ok done) ended faulted by told some =
+      inl (is_over s k laws graph first last rest left tells before run once rested taken given ends end told steps over
       (λ contents were. ended (opening (moment_plan contents graph) (moment_answers graph)) (started contents were).net))
-  run_ended order turns over (Err stop) ended faulted by told some = fault_ended order turns stop by faulted told some
+  run_ended order turns steps over (Err stop) ended faulted by told some = fault_ended order turns stop by faulted told some

@@ -31,6 +31,7 @@ use Rattle.task_elements.specs.Stands.{file_in}
 use Rattle.task_elements.specs.declared.element.StreamElement.{StreamElement}
 use Rattle.task_elements.specs.declared.source.StreamSource.{StreamSource}
 use Rattle.task_parts.specs.declared.fault.TaskFault.{TaskFault}
+use Rattle.task_parts.specs.declared.step.Step.{Step}
 use Rattle.turn_order.specs.declared.order.Order.{Order}
 use Rattle.turn_order.specs.declared.turns.Turns.{Turns}
 use Rattle.world_core.specs.Ended.{HasEnded}
@@ -78,13 +79,13 @@ module _ {S K I O L : Type 0} {giver : givers.Ghosts (StreamSource S)} {taker : 
 
   -- how it has ended
   pub made_ended : Laws giver taker i o k → ((x : StreamSource S) → giver.failures x ≡ option_map s.faults (source_file x.source)) → (ends : List (Option (End S K))) (end : WorldEnd)
-      → {A : Type 0} (order : Order) (turns : Turns) (over : Option (List Lane)) (ran : Result A Stopped)
-      → IfOk ran (λ done. (m : Moment) → NetStands m first tells → NetEnded m last over)
+      → {A : Type 0} (order : Order) (turns : Turns) (steps : List Step) (over : Option (List Lane)) (ran : Result A Stopped)
+      → IfOk ran (λ done. (m : Moment) → NetStands m first tells → NetEnded m last steps over)
       → IfErr ran (λ stop. (m : Moment) → NetStands m first tells → NetFaulted m last stop.task stop.fault)
       → RunBy order 0 first tells turns (stop_of ran) last → IsTold graph last rest left ends (stop_of ran) end → end.status ≢ 13
       → HasEnded graph before (KnownHold graph (known_ends s k ends)) (KnownFailed (known_ends s k ends)) end
-  made_ended laws read_fails ends end order turns over ran ended faulted by told some =
+  made_ended laws read_fails ends end order turns steps over ran ended faulted by told some =
       run_ended s k laws graph first last rest left tells before run (started_once s k graph first rest left tells before started)
       (λ contents m settled. rested s k graph first rest left tells before started last contents m settled)
       (λ contents were. started_at s k graph first rest left tells before started are contents were)
-      taken given read_fails ends end order turns over ran ended faulted by told some
+      taken given read_fails ends end order turns steps over ran ended faulted by told some

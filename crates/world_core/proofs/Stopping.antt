@@ -33,6 +33,7 @@ use Rattle.task_elements.specs.Stands.{file_in}
 use Rattle.task_elements.specs.declared.element.StreamElement.{StreamElement}
 use Rattle.task_elements.specs.declared.source.StreamSource.{StreamSource}
 use Rattle.task_parts.specs.declared.fault.TaskFault.{TaskFault}
+use Rattle.task_parts.specs.declared.step.Step.{Step}
 use Rattle.world_core.specs.Ended.{EndsEos}
 use Rattle.world_core.specs.Laws.{Laws}
 use Rattle.world_core.specs.Ran.{KnownHold}
@@ -167,10 +168,10 @@ module _ {S K I O L : Type 0} {giver : givers.Ghosts (StreamSource S)} {taker : 
 
   -- a run in which no task can move is whole
   pub is_over : (taken : (x : StreamElement K) → taker.file x ≡ option_map k.location (file_in x)) (given : (x : StreamSource S) → giver.file x ≡ option_map s.location (source_file x.source))
-      (ends : List (Option (End S K))) (end : WorldEnd) → IsTold graph last rest left ends None end → (over : Option (List Lane))
-      → ((contents : ℕ → List ℕ) → WereTold (made_in graph) before contents → NetEnded (opening (moment_plan contents graph) (moment_answers graph)) last over)
+      (ends : List (Option (End S K))) (end : WorldEnd) → IsTold graph last rest left ends None end → (steps : List Step) (over : Option (List Lane))
+      → ((contents : ℕ → List ℕ) → WereTold (made_in graph) before contents → NetEnded (opening (moment_plan contents graph) (moment_answers graph)) last steps over)
       → EndsEos graph before (KnownHold graph (known_ends s k ends)) end
-  is_over taken given ends end told over ended = record {
+  is_over taken given ends end told steps over ended = record {
     status = told.tells.status;
     fault = told.tells.fault;
     tells = λ contents were.
@@ -185,7 +186,7 @@ module _ {S K I O L : Type 0} {giver : givers.Ghosts (StreamSource S)} {taker : 
           net = e.rests.net;
         } in
         let stands = stands_at k laws contents graph run.started.bags e.last last over at in
-        let empty = laws.empty laws.wants contents graph run.started.bags e.last last over at e.rests in
+        let empty = laws.empty laws.wants contents graph run.started.bags e.last last steps over at e.rests in
         let whole : (n : ℕ) (task : Task (StreamSource S) (StreamElement K) I O L giver taker i o) → slice_get last n ≡ Some task → StandsWhole k graph e.last task
         = λ n task to. laws.stand laws.streams contents graph run.started.bags e.last last over at n task to in
         let settled = settled_at k laws contents graph run.started.bags e.last last last over at (λ n task to. (whole n task to).crossed) in

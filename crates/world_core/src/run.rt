@@ -36,7 +36,7 @@ use run_files::{End, Opening, Unopened, close_all, open_all};
 use run_report::Fault;
 use std::alloc::Global;
 use task_elements::{StreamElement, StreamSource};
-use task_parts::TaskFault;
+use task_parts::{Step, TaskFault};
 use turn_order::{Order, Turns};
 
 const OUT_OF_MEMORY: u8 = 13;
@@ -60,19 +60,23 @@ where
     StreamElement<K>: TaskElement,
 {
     plan: Plan<StreamSource<S>, StreamElement<K>, MemInlet, MemOutlet>,
+    /// Room for what each task answers at last.
+    steps: Vec<Step>,
     lanes: MemLanes,
     blanks: Blanks<S, K>,
     counts: Counts,
     openings: Vec<Option<Opening>>,
 }
 
-/// The tasks of a graph, the elements that are of none, by their numbers, and the ends of files that no element has.
+/// The tasks of a graph with room for what each answers at last, the elements that are of none, by their numbers, and the
+/// ends of files that no element has.
 struct Begun<S: Source, K: Sink, I: Inlet<Out = O>, O: Outlet<Lanes = I::Lanes>>
 where
     StreamSource<S>: TaskSource,
     StreamElement<K>: TaskElement,
 {
     tasks: Vec<Task<StreamSource<S>, StreamElement<K>, I, O>>,
+    steps: Vec<Step>,
     rest: Vec<Option<StreamElement<K>>>,
     left: Vec<Option<End<S, K>>>,
 }
@@ -99,15 +103,25 @@ fn counts_for(alloc: Global, graph: &Graph) -> Result<Counts, OutOfMemory>
     Ok(Counts { pads, lengths })
 }
 
+/// Room for what so many tasks answer.
+fn steps_for(alloc: Global, count: usize) -> Result<Vec<Step>, OutOfMemory>
+    ensures { IfOk result (λ steps. length steps.items ≡ count) }
+{
+    Ok(vec![in alloc; Step::Ended; count]?)
+}
+
 /// Takes the memory for a run before a file is open.
 fn prepare<S: Source, K: Sink>(alloc: Global, graph: &Graph) -> Result<Prepared<S, K>, OutOfMemory>
     requires built { IsBuilt graph.now }
     ensures planned { IfOk result (λ p. ArePlanned ⟦<MemInlet as Inlet>⟧ ⟦<MemOutlet as Outlet>⟧ graph.now (planned p.plan) p.lanes) }
     ensures reserved { IfOk result (λ p. IsReserved graph.now p.counts.pads.items p.counts.lengths.items (blanks_in p.blanks) p.openings.items) }
+    ensures steps { IfOk result (λ p. length p.steps.items ≡ length (planned p.plan)) }
 {
     let WiredTasks { tasks, lanes } = wire(alloc, graph)?;
+    let steps = steps_for(alloc, tasks.len())?;
     Ok(Prepared {
         plan: Plan::new(alloc, tasks)?,
+        steps,
         lanes,
         blanks: Blanks::new(alloc, graph)?,
         counts: counts_for(alloc, graph)?,
@@ -125,15 +139,18 @@ fn stop_in(ran: Result<(), Stopped>) -> Option<TaskFault>
     }
 }
 
-/// Runs all tasks by turns.
+/// Runs all tasks by turns. Where they end, `steps` has what each answered at last.
 fn run_all<S: TaskSource, E: TaskElement, I: Inlet<Out = O>, O: Outlet<Lanes = I::Lanes>>(
     alloc: Global,
     tasks: &mut Vec<Task<S, E, I, O>>,
+    steps: &mut Vec<Step>,
     lanes: &mut I::Lanes,
     turns: Order,
 ) -> Result<(), Stopped>
     requires ready { NetReady tasks.old.items (O.tells lanes.old) }
-    ensures ended { IfOk result (λ done. (m : Moment) → NetStands m tasks.old.items (O.tells lanes.old) → NetEnded m tasks.new.items (O.tells lanes.new)) }
+    requires steps { length steps.old.items ≡ length tasks.old.items }
+    ensures ended { IfOk result (λ done. (m : Moment) → NetStands m tasks.old.items (O.tells lanes.old)
+        → NetEnded m tasks.new.items steps.new.items (O.tells lanes.new)) }
     ensures faulted { IfErr result (λ stop. (m : Moment) → NetStands m tasks.old.items (O.tells lanes.old)
         → NetFaulted m tasks.new.items stop.task stop.fault) }
     ensures turned { (next : TurnsOf) × RunBy turns 0 tasks.old.items (O.tells lanes.old) next (stop_of result) tasks.new.items }
@@ -141,7 +158,7 @@ fn run_all<S: TaskSource, E: TaskElement, I: Inlet<Out = O>, O: Outlet<Lanes = I
     ensures count { length tasks.new.items ≡ length tasks.old.items }
 {
     let mut turns = Turns::new(turns);
-    run_tasks(alloc, tasks, lanes, &mut turns)
+    run_tasks(alloc, tasks, steps, lanes, &mut turns)
 }
 
 /// Runs tasks by turns, and takes their files back.
@@ -155,6 +172,7 @@ fn run_made<S: Source, K: Sink, I: Inlet<Out = O>, O: Outlet<Lanes = I::Lanes>>(
 ) -> Ran<S, K>
     requires started { (before : Seen) × IsStarted S.Source K.Sink graph.now begun.tasks.items begun.rest.items begun.left.items (O.tells lanes.old) before }
     requires room { HasRoom (length (made_in graph.now)) counts.pads.items counts.lengths.items }
+    requires steps { length begun.steps.items ≡ length begun.tasks.items }
     ensures ended { (before : Seen) → IsStarted S.Source K.Sink graph.now begun.tasks.items begun.rest.items begun.left.items (O.tells lanes.old) before
         → result.end.status ≢ 13
         → let known = known_ends S.Source K.Sink result.ends.items in HasEnded graph.now before (KnownHold graph.now known) (KnownFailed known) result.end }
@@ -168,6 +186,7 @@ fn run_made<S: Source, K: Sink, I: Inlet<Out = O>, O: Outlet<Lanes = I::Lanes>>(
 {
     let Begun {
         mut tasks,
+        mut steps,
         rest,
         left: mut ends,
     } = begun;
@@ -176,7 +195,7 @@ fn run_made<S: Source, K: Sink, I: Inlet<Out = O>, O: Outlet<Lanes = I::Lanes>>(
         mut lengths,
     } = counts;
     runs_are_known::<S, K, I, O>();
-    let ran = run_all(alloc, &mut tasks, lanes, turns);
+    let ran = run_all(alloc, &mut tasks, &mut steps, lanes, turns);
     count_pads(tasks.as_slice(), &mut pads);
     take_back(graph, tasks, rest, &mut ends, &mut lengths);
     let told = end_of(
@@ -206,6 +225,7 @@ fn run_opened<S: Source, K: Sink>(
     requires built { IsBuilt graph.now }
     requires planned { ArePlanned ⟦<MemInlet as Inlet>⟧ ⟦<MemOutlet as Outlet>⟧ graph.now (planned prepared.plan) prepared.lanes }
     requires reserved { IsReserved graph.now prepared.counts.pads.items prepared.counts.lengths.items (blanks_in prepared.blanks) prepared.openings.items }
+    requires steps { length prepared.steps.items ≡ length (planned prepared.plan) }
     requires opened { (before after : Seen) × GraphOpens S.Source K.Sink (made_in graph.now) ends.items before after }
     ensures ended { (before after : Seen) → GraphOpens S.Source K.Sink (made_in graph.now) ends.items before after → result.end.status ≢ 13
         → let known = known_ends S.Source K.Sink result.ends.items in HasEnded graph.now before (KnownHold graph.now known) (KnownFailed known) result.end }
@@ -219,6 +239,7 @@ fn run_opened<S: Source, K: Sink>(
 {
     let Prepared {
         plan,
+        steps,
         mut lanes,
         blanks,
         counts,
@@ -232,6 +253,7 @@ fn run_opened<S: Source, K: Sink>(
     let tasks = plan.into_tasks(&mut elements, &mut sources);
     let begun = Begun {
         tasks,
+        steps,
         rest: elements,
         left,
     };

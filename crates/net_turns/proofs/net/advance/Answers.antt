@@ -1,5 +1,4 @@
-use Rattle.std.proofs.Common.{refl, arith}
-use Rattle.net_turns.proofs.Tries.{goes_any}
+use Rattle.std.proofs.Common.{◌+◌, ◌∙◌, ap, cond, refl, arith}
 use Rattle.net_turns.proofs.Turning.{idle_within, less_left, come_turn, come_stop, ok_tries, err_tries}
 use Rattle.net_turns.proofs.net.advance.Goals as goal
 
@@ -13,22 +12,22 @@ returns-then-idle-eq-IDLE_TURNS-clause-stopped g c =
     c.try_each.ensures.count c.try_each.result c.try_each.ensures.met
 
 pub returns-in-Ok-clause-goes : goal.returns-in-Ok-clause-goes
-returns-in-Ok-clause-goes g c = λ m net. goes_any _ c.in-Ok.moved m c.step_at.new.tasks _ (c.in-Ok.ensures.goes m net)
+returns-in-Ok-clause-goes g c = c.in-Ok.ensures.goes
 
 pub returns-in-Ok-clause-come : goal.returns-in-Ok-clause-come
 returns-in-Ok-clause-come g c =
     λ order start first told h.
     come_turn order start first told c.args.tasks.now c.step_at.new.tasks _ _ c.args.turns.now c.next_among-place.new.self c.args.idle.now c.idle_turns.result
-    c.in-Ok.moved c.next_among-place.result h c.requires.some
+    c.in-Ok.step c.next_among-place.result h c.requires.some
     (omega (arith, c.requires.idle, c.if-idle-eq-IDLE_TURNS.false)) (c.next_among-place.ensures.place c.requires.some) (c.next_among-place.ensures.among c.requires.some)
-    c.idle_turns.ensures c.step_at.ensures.count c.in-Ok.ensures.stepped
+    (c.idle_turns.ensures ∙ ap (λ b. cond b 0 (c.args.idle.now + 1)) c.has_moved-moved.ensures) c.step_at.ensures.count c.in-Ok.ensures.stepped
 
 pub returns-in-Ok-clause-idle : goal.returns-in-Ok-clause-idle
-returns-in-Ok-clause-idle g c = idle_within c.in-Ok.moved c.idle_turns.result c.args.idle.now c.idle_turns.ensures (omega (arith, c.requires.idle, c.if-idle-eq-IDLE_TURNS.false))
+returns-in-Ok-clause-idle g c = idle_within c.has_moved-moved.result c.idle_turns.result c.args.idle.now c.idle_turns.ensures (omega (arith, c.requires.idle, c.if-idle-eq-IDLE_TURNS.false))
 
 pub returns-in-Ok-clause-less : goal.returns-in-Ok-clause-less
 returns-in-Ok-clause-less g c =
-    λ _. less_left c.in-Ok.moved c.idle_turns.result c.args.idle.now _ _ c.idle_turns.ensures (omega (arith, c.requires.idle, c.if-idle-eq-IDLE_TURNS.false)) c.in-Ok.ensures.burned
+    λ _. less_left c.has_moved-moved.result c.idle_turns.result c.args.idle.now _ _ c.idle_turns.ensures (omega (arith, c.requires.idle, c.if-idle-eq-IDLE_TURNS.false)) (rw c.has_moved-moved.ensures c.in-Ok.ensures.burned)
 
 pub returns-in-Err-clause-stopped : goal.returns-in-Err-clause-stopped
 returns-in-Err-clause-stopped g c =

@@ -13,6 +13,7 @@ turns-init g c = record {
   goes = λ m net. goes_same m c.args.tasks.now _ net;
   come = λ order start next. come_first order start c.args.tasks.now _ c.args.turns.now 0 refl next;
   idle = omega arith;
+  steps = refl;
 }
 
 pub turns-preserved : goal.turns-preserved
@@ -26,13 +27,14 @@ turns-preserved g c = record {
       goes_more m h.now c.advance.new.tasks _ h.goes_on ((rw c.in-Ok-true.field-0-test at c.in-Ok-true.ensures.goes) h.now h.net);
   come = λ order start next. (rw c.in-Ok-true.field-0-test at c.in-Ok-true.ensures.come) order start c.args.tasks.now _ (c.turns.invariant.come order start next);
   idle = c.advance.ensures.idle;
+  steps = c.advance.ensures.steps ∙ c.turns.invariant.steps;
 }
 
 pub turns-smaller : goal.turns-smaller
 turns-smaller g c = c.in-Ok-true.ensures.less (ap Ok c.in-Ok-true.field-0-test)
 
 pub returns-then-is_empty-clause-ended : goal.returns-then-is_empty-clause-ended
-returns-then-is_empty-clause-ended g c = λ m net. none_ended m c.args.tasks.now _ (none_by (length c.args.tasks.now) c.is_empty.result c.is_empty.ensures c.if-is_empty.true) net
+returns-then-is_empty-clause-ended g c = λ m net. none_ended m c.args.tasks.now c.args.steps.now _ (none_by (length c.args.tasks.now) c.is_empty.result c.is_empty.ensures c.if-is_empty.true) net
 
 pub returns-then-is_empty-clause-by_turns : goal.returns-then-is_empty-clause-by_turns
 returns-then-is_empty-clause-by_turns g c =
@@ -45,7 +47,7 @@ pub returns-in-Ok-false-clause-ended : goal.returns-in-Ok-false-clause-ended
 returns-in-Ok-false-clause-ended g c =
     λ m net.
     let h = c.turns.invariant.goes m net in
-    ended_more m h.now c.advance.new.tasks _ h.goes_on ((rw c.in-Ok-false.field-0-test at c.in-Ok-false.ensures.goes) h.now h.net)
+    ended_more m h.now c.advance.new.tasks c.advance.new.steps _ h.goes_on ((rw c.in-Ok-false.field-0-test at c.in-Ok-false.ensures.goes) h.now h.net)
 
 pub returns-in-Ok-false-clause-frames : goal.returns-in-Ok-false-clause-frames
 returns-in-Ok-false-clause-frames g c = framed_trans c.args.tasks.now c.turns.tasks c.advance.new.tasks c.turns.invariant.count c.turns.invariant.frames c.advance.ensures.frames

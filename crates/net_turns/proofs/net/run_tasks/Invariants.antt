@@ -17,6 +17,7 @@ invariant-turns g l = record {
   come : (order : Order) (start : ℕ) → IsAmong order (length l.fn.tasks) start l.fn.turns
       → HasCome order start l.fn.tasks (g.O.Outlet.tells l.fn.lanes) l.turns l.idle l.tasks (g.O.Outlet.tells l.lanes);
   idle : l.idle ≤ 4096;
+  steps : length l.steps ≡ length l.fn.steps;
 }
 
 abbrev pub decreases-turns : goal.decreases-turns

@@ -1,7 +1,7 @@
 use Rattle.std.proofs.lemmas.Option.{slice_get-get_or}
 use Rattle.net_turns.proofs.Places.{set_at, set_there}
 use Rattle.net_turns.proofs.Readies.{net_ready}
-use Rattle.net_turns.proofs.Stepping.{framed_set, net_burned, net_faulted, net_stepped}
+use Rattle.net_turns.proofs.Stepping.{framed_set, net_burned, net_faulted, net_goes}
 use Rattle.net_turns.proofs.net.step_at.Goals as goal
 
 pub step-requires-clause-ready : goal.step-requires-clause-ready
@@ -17,14 +17,12 @@ returns-in-Ok-clause-stepped g c =
       at = at;
       after = c.step.new.self;
       at_after = set_at c.args.tasks.now c.args.place _ c.step.new.self at;
-      step = c.in-Ok.step;
-      moved_is = c.has_moved.ensures;
       stepped = record { ready = c.in-Ok.ensures.frame.1.0; lanes = c.in-Ok.ensures.frame.1.1; steps = c.in-Ok.ensures.steps; why = c.in-Ok.ensures.why; frame = c.step.ensures.frame.0; burns = c.in-Ok.ensures.counts };
     }
 
 pub returns-in-Ok-clause-goes : goal.returns-in-Ok-clause-goes
-returns-in-Ok-clause-goes g c = λ m net. net_stepped (record { counts = λ outlet was sent. (g.met.O.Outlet g.world.𝓛 g.world.𝓜 g.world.𝓡 ((λ s x. x), (λ x. x), (λ x. x), λ x. x)).counts outlet was sent; bounded = λ outlet. (g.met.O.Outlet g.world.𝓛 g.world.𝓜 g.world.𝓡 ((λ s x. x), (λ x. x), (λ x. x), λ x. x)).bounded outlet })
-    m c.args.tasks.now _ _ _ c.args.place _ net (returns-in-Ok-clause-stepped g c)
+returns-in-Ok-clause-goes g c = λ m net. net_goes (record { counts = λ outlet was sent. (g.met.O.Outlet g.world.𝓛 g.world.𝓜 g.world.𝓡 ((λ s x. x), (λ x. x), (λ x. x), λ x. x)).counts outlet was sent; bounded = λ outlet. (g.met.O.Outlet g.world.𝓛 g.world.𝓜 g.world.𝓡 ((λ s x. x), (λ x. x), (λ x. x), λ x. x)).bounded outlet })
+    m c.args.tasks.now _ _ _ c.args.place c.in-Ok.step net (returns-in-Ok-clause-stepped g c)
 
 pub returns-in-Ok-clause-frames : goal.returns-in-Ok-clause-frames
 returns-in-Ok-clause-frames g c =
@@ -32,7 +30,7 @@ returns-in-Ok-clause-frames g c =
 
 pub returns-in-Ok-clause-burned : goal.returns-in-Ok-clause-burned
 returns-in-Ok-clause-burned g c =
-    rw c.has_moved.ensures (net_burned c.args.tasks.now c.args.place _ c.step.new.self c.in-Ok.step (slice_get-get_or c.args.tasks.now c.args.place c.index-tasks-place.result c.requires.place) c.in-Ok.ensures.counts)
+    net_burned c.args.tasks.now c.args.place _ c.step.new.self c.in-Ok.step (slice_get-get_or c.args.tasks.now c.args.place c.index-tasks-place.result c.requires.place) c.in-Ok.ensures.counts
 
 pub returns-in-Err-clause-met : goal.returns-in-Err-clause-met
 returns-in-Err-clause-met g c =

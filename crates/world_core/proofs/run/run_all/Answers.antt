@@ -5,12 +5,17 @@ use Rattle.world_core.proofs.run.run_all.Goals as goal
 pub run_tasks-requires-clause-ready : goal.run_tasks-requires-clause-ready
 run_tasks-requires-clause-ready g c κs within = rw c.deref_mut.ensures.value c.requires.ready
 
+pub run_tasks-requires-clause-steps : goal.run_tasks-requires-clause-steps
+run_tasks-requires-clause-steps g c κs within = rw (c.deref_mut.ensures.value, c.deref_mut-2.ensures.value) c.requires.steps
+
 pub returns-clause-ended : goal.returns-clause-ended
 returns-clause-ended g c =
     rw (
       whole_again c.args.tasks.now.items c.run_tasks.new.tasks c.args.tasks.now.len (omega (arith, c.args.tasks.now.ok.0))
           (c.run_tasks.ensures.count ∙ ap length c.deref_mut.ensures.value),
       ← c.deref_mut.ensures.value,
+      whole_again c.args.steps.now.items c.run_tasks.new.steps c.args.steps.now.len (omega (arith, c.args.steps.now.ok.0))
+          (c.run_tasks.ensures.steps ∙ ap length c.deref_mut-2.ensures.value),
     )
     c.run_tasks.ensures.ended
 

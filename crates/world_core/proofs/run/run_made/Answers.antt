@@ -17,7 +17,8 @@ returns-in-Ok-clause-ended g c = λ before started some.
     made_ended g.S.Source g.K.Sink (record { ports = λ x. refl; stands = λ x behavior took stands. stands; count = λ x. refl; gave = λ x owed given owes. owes })
     (λ x. refl) (λ x. refl) c.args.graph.now c.args.begun.tasks.items c.run_all-ran.new.tasks.items c.args.begun.rest.items c.args.begun.left.items
     (g.O.Outlet.tells c.args.lanes.now) before started c.run_all-ran.ensures.frames c.run_all-ran.ensures.count c.runs_are_known.ensures (λ x. source_fails g.S.Source.faults x.source)
-    c.take_back.new.ends.items c.in-Ok.end c.args.turns c.run_all-ran.ensures.turned.0 (g.O.Outlet.tells c.run_all-ran.new.lanes) c.run_all-ran.result
+    c.take_back.new.ends.items c.in-Ok.end c.args.turns c.run_all-ran.ensures.turned.0 c.run_all-ran.new.steps.items (g.O.Outlet.tells c.run_all-ran.new.lanes)
+    c.run_all-ran.result
     c.run_all-ran.ensures.ended c.run_all-ran.ensures.faulted c.run_all-ran.ensures.turned.1
     (record {
       none = c.args.counts.pads.items;

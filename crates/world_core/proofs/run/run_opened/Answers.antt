@@ -1,6 +1,6 @@
 use Rattle.std.proofs.Common.{refl}
 use Rattle.graph_tasks.specs.Planned.{planned}
-use Rattle.world_core.proofs.Beginning.{all_there, begins}
+use Rattle.world_core.proofs.Beginning.{all_there, as_many, begins}
 use Rattle.world_core.proofs.run.run_opened.Goals as goal
 
 pub into_tasks-tasks-requires-clause-there : goal.into_tasks-tasks-requires-clause-there
@@ -18,6 +18,12 @@ run_made-requires-clause-started g c κs within = (
       c.fill-elements.result.left.items c.fill-elements.ensures c.into_tasks-tasks.result.items c.into_tasks-tasks.new.elements.items _
       c.into_tasks-tasks.ensures.tasks c.into_tasks-tasks.ensures.elements_left refl,
 )
+
+pub run_made-requires-clause-steps : goal.run_made-requires-clause-steps
+run_made-requires-clause-steps g c κs within =
+    as_many _ _ c.args.graph.now (planned c.args.prepared.plan) c.args.prepared.lanes c.requires.planned
+    c.fill-elements.result.elements.items c.fill-elements.result.sources.items c.into_tasks-tasks.result.items c.into_tasks-tasks.ensures.tasks
+    c.args.prepared.steps.items c.requires.steps
 
 pub returns-clause-ended : goal.returns-clause-ended
 returns-clause-ended g c =
