@@ -6,20 +6,21 @@ use Rattle.flow_model.specs.Feeding.{has_eos}
 use Rattle.flow_model.specs.Owed.{answered}
 use Rattle.flow_model.specs.Rule.{Fault}
 use Rattle.flow_model.specs.Call.{items}
+use Rattle.flow_model.specs.SinkPads.{push_calls, calls_at, flush_stops_given, InSection}
 use Rattle.el_mix.specs.Reopened.{reopened, reopenings}
 use Rattle.el_mix.specs.Agreed.{lowest_caps, first_refusal}
 use Rattle.el_mix.specs.Mixes.{interleaved, mixes}
-use Rattle.el_mix.specs.Answer.{push_calls, calls_at, open_section, reached, more_or, answer_in}
-use Rattle.el_mix.specs.Sections.{InSection, AnswersOwe}
+use Rattle.el_mix.specs.Answer.{reached, more_or, answer_in}
+use Rattle.el_mix.specs.Sections.{AnswersOwe}
 use Rattle.el_mix.proofs.Opening.{pad_goes_on, owes_more}
 
-pub section_at : (n i : ℕ) (inputs : List (List Call)) → InSection n inputs → i < length inputs → open_section (calls_at i inputs) ≡ n
+pub section_at : (n i : ℕ) (inputs : List (List Call)) → InSection n inputs → i < length inputs → flush_stops_given (calls_at i inputs) ≡ n
 section_at n i [] s l = absurd (omega arith)
 section_at n zero (calls ∷ inputs) s l = s.0
 section_at n (suc i) (calls ∷ inputs) s l = section_at n i inputs s.1 (omega (arith, l))
 
 -- behind EOS the lists stay
-behind_same : (n i : ℕ) (inputs : List (List Call)) (x : Item) → InSection n inputs → is_flush_stop x ≡ false → has_eos (calls_at i inputs) ≡ true
+pub behind_same : (n i : ℕ) (inputs : List (List Call)) (x : Item) → InSection n inputs → is_flush_stop x ≡ false → has_eos (calls_at i inputs) ≡ true
     → reopenings n (push_calls i (Feed x ∷ []) inputs) ≡ reopenings n inputs
 behind_same n i [] x s plain e = refl
 behind_same n zero (calls ∷ inputs) x s plain e =
@@ -35,13 +36,13 @@ answers_owe inputs i n port x ys s plain l fed answer = go (has_eos (calls_at i 
     more m is (Some fault) e = cc
 
     go : (b : Bool) → has_eos (calls_at i inputs) ≡ b
-        → (if b then Ok [] else answer_in (open_section (calls_at i inputs)) inputs (push_calls i (Feed x ∷ []) inputs) i) ≡ Ok ys
+        → (if b then Ok [] else answer_in (flush_stops_given (calls_at i inputs)) inputs (push_calls i (Feed x ∷ []) inputs) i) ≡ Ok ys
         → mixes (push_calls i (Feed x ∷ []) inputs) port n ≡ mixes inputs port n ++ ys
     go true h e = ap interleaved (behind_same n i inputs x s plain h) ∙ sym (append-nil (mixes inputs port n)) ∙ ap (λ zs. mixes inputs port n ++ zs) (ap answered e)
     go false h e =
         owes_more.more inputs i n port x fed
         ∙ ap (λ zs. mixes inputs port n ++ zs)
-        (more (open_section (calls_at i inputs)) (section_at n i inputs s l)
-        (first_refusal (reached (mixes inputs 0 (open_section (calls_at i inputs))))
-        (lowest_caps (reopenings (open_section (calls_at i inputs)) (push_calls i (Feed x ∷ []) inputs))) []
-        (reopened (open_section (calls_at i inputs)) (items (calls_at i (push_calls i (Feed x ∷ []) inputs))))) e)
+        (more (flush_stops_given (calls_at i inputs)) (section_at n i inputs s l)
+        (first_refusal (reached (mixes inputs 0 (flush_stops_given (calls_at i inputs))))
+        (lowest_caps (reopenings (flush_stops_given (calls_at i inputs)) (push_calls i (Feed x ∷ []) inputs))) []
+        (reopened (flush_stops_given (calls_at i inputs)) (items (calls_at i (push_calls i (Feed x ∷ []) inputs))))) e)

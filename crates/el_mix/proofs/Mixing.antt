@@ -15,7 +15,7 @@ use Rattle.el_mix.specs.Mono.{Mono, width}
 use Rattle.el_mix.specs.Mixed.{has, frames, ends_at, is_cut, frame, rows, mixed, lesser, open_limit, longest, limit_by, limit}
 use Rattle.el_mix.specs.Pieces.{Goes, AllGo, no_pads, one_pad}
 
-sample_some : (format : Sample) → 0 < sample_width format
+pub sample_some : (format : Sample) → 0 < sample_width format
 sample_some S8 = omega arith
 sample_some U8 = omega arith
 sample_some S16LE = omega arith
@@ -86,7 +86,7 @@ has_fewer : (mono : Mono) (n m : ℕ) (xs : List Item) → n ≤ m → HasFrames
 has_fewer mono n m xs h (inl e) = inl e
 has_fewer mono n m xs h (inr e) = inr (omega arith)
 
-all_have_fewer : (mono : Mono) (n m : ℕ) (xss : List (List Item)) → n ≤ m → AllHave mono m xss → AllHave mono n xss
+pub all_have_fewer : (mono : Mono) (n m : ℕ) (xss : List (List Item)) → n ≤ m → AllHave mono m xss → AllHave mono n xss
 all_have_fewer mono n m [] h e = tt
 all_have_fewer mono n m (xs ∷ xss) h e = (has_fewer mono n m xs h e.0, all_have_fewer mono n m xss h e.1)
 
@@ -158,7 +158,7 @@ mixed_grows mono xss last f (suc n) (suc m) h =
     prefix_if (is_cut mono xss (suc f)) (next (mixed_grows mono xss (suc f) (suc f) n m (omega arith))) (mixed_grows mono xss last (suc f) n m (omega arith))
 
 -- what is at most what each open pad has
-abbrev BelowOpen : ℕ → Option ℕ → Type 0
+abbrev pub BelowOpen : ℕ → Option ℕ → Type 0
 BelowOpen n None = Unit {0}
 BelowOpen n (Some m) = n ≤ m
 
@@ -175,7 +175,7 @@ have_of_below mono n (xs ∷ xss) h = go (has is_eos xs) refl (have_of_below mon
     go true e r h = (inl e, r h)
     go false e r h = let both = (below_lesser n (frames mono xs) (open_limit mono xss)).0 h in (inr both.0, r both.1)
 
-below_of_have : (mono : Mono) (n : ℕ) (xss : List (List Item)) → AllHave mono n xss → BelowOpen n (open_limit mono xss)
+pub below_of_have : (mono : Mono) (n : ℕ) (xss : List (List Item)) → AllHave mono n xss → BelowOpen n (open_limit mono xss)
 below_of_have mono n [] h = tt
 below_of_have mono n (xs ∷ xss) h = go (has is_eos xs) refl (below_of_have mono n xss h.1) h.0
   where

@@ -16,7 +16,7 @@ use Rattle.el_mix.specs.Pieces.{Goes, AllGo, no_pads, one_pad}
 use Rattle.el_mix.proofs.Reopening.{has_settled, all_of, reopenings_go, reopenings_settled}
 use Rattle.el_mix.proofs.Mixing.{mixed_prefix}
 
-all_settled : (test : Item → Bool) {xss yss : List (List Item)} → AllGo xss yss → all_have test xss ≡ true → all_have test yss ≡ true
+pub all_settled : (test : Item → Bool) {xss yss : List (List Item)} → AllGo xss yss → all_have test xss ≡ true → all_have test yss ≡ true
 all_settled test no_pads h = refl
 all_settled test (one_pad {xs = xs} {xss = xss} g gs) h =
     let both = all_of test xs xss h in
@@ -32,13 +32,13 @@ id_settled (next {x = x} {xs = xs} {ys = ys} p) h = go (is_start x) (id_settled 
     go true r h = refl
     go false r h = ap (or_else (id_in x)) (r h)
 
-least_id_settled : {xss yss : List (List Item)} → AllGo xss yss → all_have is_start xss ≡ true → least_id xss ≡ least_id yss
+pub least_id_settled : {xss yss : List (List Item)} → AllGo xss yss → all_have is_start xss ≡ true → least_id xss ≡ least_id yss
 least_id_settled no_pads h = refl
 least_id_settled (one_pad {xs = xs} {xss = xss} g gs) h =
     let both = all_of is_start xs xss h in
     rw (id_settled g.begins both.0, least_id_settled gs both.1) refl
 
-length_same : {xss yss : List (List Item)} → AllGo xss yss → length xss ≡ length yss
+pub length_same : {xss yss : List (List Item)} → AllGo xss yss → length xss ≡ length yss
 length_same no_pads = refl
 length_same (one_pad g gs) = ap suc (length_same gs)
 
@@ -63,7 +63,7 @@ started_prefix lowest {xss} {yss} g h = go (all_have is_eos xss) refl
     go false e = open_so lowest e
 
 -- The CAPS of the lowest pad are settled, or no pad has CAPS and one has not ended.
-abbrev Settled : Option (Description One) → Option (Description One) → List (List Item) → Type 0
+abbrev pub Settled : Option (Description One) → Option (Description One) → List (List Item) → Type 0
 Settled o o' xss = (o ≡ o') ⊎ ((o ≡ None) × (all_have is_eos xss ≡ false))
 
 begun_prefix : {xss yss : List (List Item)} → AllGo xss yss → (all_have is_start xss ≡ true → Settled (lowest_caps xss) (lowest_caps yss) xss) → IsPrefix (begun xss) (begun yss)
@@ -125,12 +125,12 @@ not_there None k h = cc
 not_there (Some c) k h = cc
 
 -- Below each pad that has started a pad is known, or it does not go on.
-abbrev Waits : List (List Item) → List (List Item) → Type 0
+abbrev pub Waits : List (List Item) → List (List Item) → Type 0
 Waits [] yss = Unit {0}
 Waits (xs ∷ xss) [] = Unit {0}
 Waits (xs ∷ xss) (ys ∷ yss) = (AnyStarted xss → IsKnown xs ⊎ (xs ≡ ys)) × Waits xss yss
 
-lowest_settled : {xss yss : List (List Item)} → AllGo xss yss → all_have is_start xss ≡ true → Waits xss yss → Settled (lowest_caps xss) (lowest_caps yss) xss
+pub lowest_settled : {xss yss : List (List Item)} → AllGo xss yss → all_have is_start xss ≡ true → Waits xss yss → Settled (lowest_caps xss) (lowest_caps yss) xss
 lowest_settled no_pads h o = inl refl
 lowest_settled (one_pad {xs = xs} {ys = ys} {xss = xss} {yss = yss} g gs) h o =
     go (pad_caps xs) refl (has is_eos xs) refl xss refl (lowest_settled gs (all_of is_start xs xss h).1 o.1)
@@ -177,7 +177,7 @@ agreed_waits lowest (one_pad {xs = xs} {ys = ys} {xss = xss} {yss = yss} g gs) o
     go (inl e) k = inl (subst IsKnown (sym e) k)
     go (inr e) k = inr e
 
-in_order_waits : {xss yss : List (List Item)} → AllGo xss yss → InOrder xss → Waits xss yss
+pub in_order_waits : {xss yss : List (List Item)} → AllGo xss yss → InOrder xss → Waits xss yss
 in_order_waits no_pads o = tt
 in_order_waits (one_pad g gs) o = (λ s. inl (o.0 s), in_order_waits gs o.1)
 

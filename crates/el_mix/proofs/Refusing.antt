@@ -9,27 +9,29 @@ use Rattle.flow_model.specs.Call.{Call, Feed, items}
 use Rattle.flow_model.specs.Feeding.{has_eos}
 use Rattle.flow_model.specs.Looking.{bytes_of}
 use Rattle.flow_model.specs.Rule.{Fault, TooLong, BadStream}
-use Rattle.flow_model.specs.Section.{section, counted}
+use Rattle.flow_model.specs.Section.{section, counted, before_section, to_eos}
 use Rattle.flow_model.proofs.Prefixes.{prefix_append}
-use Rattle.el_mix.specs.Reopened.{before, to_eos, counted_section, reopened, reopenings}
+use Rattle.flow_model.specs.SinkPads.{push_calls, calls_at, flush_stops_given, InSection}
+use Rattle.el_mix.specs.Reopened.{counted_section, reopened, reopenings}
 use Rattle.el_mix.specs.Mixed.{has}
 use Rattle.el_mix.specs.Agreed.{or_else, caps_in, pad_caps, lowest_caps, buffer_refusal, refusal, is_there, agreed, all_agreed, first_refusal}
 use Rattle.el_mix.specs.Mixes.{is_start, all_have, begun, interleaved, mixes}
 use Rattle.el_mix.specs.Order.{IsKnown, InOrder}
-use Rattle.el_mix.specs.Answer.{push_calls, calls_at, open_section, reached, more_or, answer_in}
-use Rattle.el_mix.specs.Sections.{InSection, RefusedOwes}
+use Rattle.el_mix.specs.Answer.{reached, more_or, answer_in}
+use Rattle.el_mix.specs.Sections.{RefusedOwes}
 use Rattle.el_mix.proofs.Reopening.{ends_behind}
 use Rattle.el_mix.proofs.Owing.{not_started, any_started, not_there, caps_known}
-use Rattle.el_mix.proofs.Opening.{pad_goes_on, open_in_order, open_eos}
+use Rattle.el_mix.proofs.Opening.{stops_of, pad_goes_on, open_eos}
+use Rattle.el_mix.proofs.Ordering.{open_in_order}
 use Rattle.el_mix.proofs.Answering.{section_at}
 
 -- one more item on a pad
-abbrev push_item : ℕ → Item → List (List Item) → List (List Item)
+abbrev pub push_item : ℕ → Item → List (List Item) → List (List Item)
 push_item i x [] = []
 push_item zero x (xs ∷ xss) = (xs ++ x ∷ []) ∷ xss
 push_item (suc i) x (xs ∷ xss) = xs ∷ push_item i x xss
 
-abbrev item_at : ℕ → List (List Item) → List Item
+abbrev pub item_at : ℕ → List (List Item) → List Item
 item_at i [] = []
 item_at zero (xs ∷ xss) = xs
 item_at (suc i) (xs ∷ xss) = item_at i xss
@@ -45,7 +47,7 @@ buffer_there r (Some caps) got n = go _ _
     go true false = refl
     go false b = refl
 
-refusal_there : (r : ℕ) (lowest : Option (Description One)) (h : List Item) (x : Item) → is_there (refusal r lowest h x) ≡ is_there (refusal 0 lowest h x)
+pub refusal_there : (r : ℕ) (lowest : Option (Description One)) (h : List Item) (x : Item) → is_there (refusal r lowest h x) ≡ is_there (refusal 0 lowest h x)
 refusal_there r lowest h (Buf b) = buffer_there r (pad_caps h) (length (bytes_of h)) (length b.body)
 refusal_there r lowest h (Ev (StreamStart id)) = refl
 refusal_there r lowest h (Ev (NewCaps caps)) = refl
@@ -94,7 +96,7 @@ neither_caps : (o p : Option (Description One)) → or_else o p ≡ None → (o 
 neither_caps None p e = (refl, e)
 neither_caps (Some c) p e = cc
 
-agreed_plain : (o p : Option (Description One)) (h xs : List Item) → pad_caps xs ≡ None → agreed o h xs ≡ agreed p h xs
+pub agreed_plain : (o p : Option (Description One)) (h xs : List Item) → pad_caps xs ≡ None → agreed o h xs ≡ agreed p h xs
 agreed_plain o p h [] e = refl
 agreed_plain o p h (y ∷ ys) e =
     let both = neither_caps (caps_in y) (pad_caps ys) e in
@@ -168,11 +170,11 @@ last_same zero x (xs ∷ xss) o p l n e = rw l (ap (λ zs. zs ∷ []) (e ∙ agr
 last_same (suc i) x (xs ∷ xss) o p l n e =
     ap (λ zs. zs ∷ all_agreed o (push_item i x xss)) (agreed_plain o p [] xs n.0) ∙ ap (λ zss. agreed p [] xs ∷ zss) (last_same i x xss o p l n.1 e)
 
-some_pads : (xss : List (List Item)) → 0 < length xss → interleaved xss ≡ begun (all_agreed (lowest_caps xss) xss)
+pub some_pads : (xss : List (List Item)) → 0 < length xss → interleaved xss ≡ begun (all_agreed (lowest_caps xss) xss)
 some_pads [] h = absurd (omega arith)
 some_pads (xs ∷ xss) h = refl
 
-push_length : (i : ℕ) (x : Item) (xss : List (List Item)) → length (push_item i x xss) ≡ length xss
+pub push_length : (i : ℕ) (x : Item) (xss : List (List Item)) → length (push_item i x xss) ≡ length xss
 push_length i x [] = refl
 push_length zero x (xs ∷ xss) = refl
 push_length (suc i) x (xs ∷ xss) = ap suc (push_length i x xss)
@@ -197,7 +199,7 @@ refused_same i r x xss some o e there = go (lowest_push i x xss)
     go (inr n) = by (rest_waits i x xss o n e) n
 
 -- the lists of a section
-push_lists : (n i : ℕ) (inputs : List (List Call)) (x : Item) → InSection n inputs → is_flush_stop x ≡ false → has_eos (calls_at i inputs) ≡ false
+pub push_lists : (n i : ℕ) (inputs : List (List Call)) (x : Item) → InSection n inputs → is_flush_stop x ≡ false → has_eos (calls_at i inputs) ≡ false
     → reopenings n (push_calls i (Feed x ∷ []) inputs) ≡ push_item i x (reopenings n inputs)
 push_lists n i [] x s plain e = refl
 push_lists n zero (calls ∷ inputs) x s plain e =
@@ -205,17 +207,17 @@ push_lists n zero (calls ∷ inputs) x s plain e =
     (ap (λ m. reopened m (items (calls ++ Feed x ∷ []))) (sym s.0) ∙ pad_goes_on.taken calls x plain e ∙ ap (λ m. reopened m (items calls) ++ x ∷ []) s.0)
 push_lists n (suc i) (calls ∷ inputs) x s plain e = ap (λ zss. reopened n (items calls) ∷ zss) (push_lists n i inputs x s.1 plain e)
 
-list_at : (n i : ℕ) (inputs : List (List Call)) → i < length inputs → item_at i (reopenings n inputs) ≡ reopened n (items (calls_at i inputs))
+pub list_at : (n i : ℕ) (inputs : List (List Call)) → i < length inputs → item_at i (reopenings n inputs) ≡ reopened n (items (calls_at i inputs))
 list_at n i [] l = absurd (omega arith)
 list_at n zero (calls ∷ inputs) l = refl
 list_at n (suc i) (calls ∷ inputs) l = list_at n i inputs (omega (arith, l))
 
-push_at : (i : ℕ) (inputs : List (List Call)) (more : List Call) → i < length inputs → calls_at i (push_calls i more inputs) ≡ calls_at i inputs ++ more
+pub push_at : (i : ℕ) (inputs : List (List Call)) (more : List Call) → i < length inputs → calls_at i (push_calls i more inputs) ≡ calls_at i inputs ++ more
 push_at i [] more l = absurd (omega arith)
 push_at zero (calls ∷ inputs) more l = refl
 push_at (suc i) (calls ∷ inputs) more l = push_at i inputs more (omega (arith, l))
 
-some_lists : (n : ℕ) (inputs : List (List Call)) → 0 < length inputs → 0 < length (reopenings n inputs)
+pub some_lists : (n : ℕ) (inputs : List (List Call)) → 0 < length inputs → 0 < length (reopenings n inputs)
 some_lists n [] l = l
 some_lists n (calls ∷ inputs) l = omega arith
 
@@ -227,11 +229,11 @@ to_eos_has (y ∷ ys) = go (is_eos y) (to_eos_has ys)
     go true r = refl
     go false r = r
 
-open_list : (n : ℕ) (calls : List Call) → open_section calls ≡ n → has_eos calls ≡ false → has is_eos (reopened n (items calls)) ≡ false
+pub open_list : (n : ℕ) (calls : List Call) → flush_stops_given calls ≡ n → has_eos calls ≡ false → has is_eos (reopened n (items calls)) ≡ false
 open_list n calls is e =
-    ends_behind (counted (before n (items calls))) (counted_section n (items calls))
+    ends_behind (counted (before_section n (items calls))) (counted_section n (items calls))
     ∙ to_eos_has (section n (items calls))
-    ∙ ap (λ m. has is_eos (section m (items calls))) (sym is)
+    ∙ ap (λ m. has is_eos (section m (items calls))) (sym is ∙ stops_of calls)
     ∙ sym (open_eos calls)
     ∙ e
 
@@ -266,12 +268,12 @@ refused_owes inputs i n port x fault s plain l fed answer = go (has_eos (calls_a
         (ap (has is_eos) (list_at n i inputs l) ∙ open_list n (calls_at i inputs) (section_at n i inputs s l) e) in_lists
 
     go : (b : Bool) → has_eos (calls_at i inputs) ≡ b
-        → (if b then Ok [] else answer_in (open_section (calls_at i inputs)) inputs (push_calls i (Feed x ∷ []) inputs) i) ≡ Err fault
+        → (if b then Ok [] else answer_in (flush_stops_given (calls_at i inputs)) inputs (push_calls i (Feed x ∷ []) inputs) i) ≡ Err fault
         → mixes (push_calls i (Feed x ∷ []) inputs) port n ≡ mixes inputs port n
     go true h e = cc
     go false h e =
-        by h (reached (mixes inputs 0 (open_section (calls_at i inputs)))) (open_section (calls_at i inputs)) (section_at n i inputs s l)
-        (found (first_refusal (reached (mixes inputs 0 (open_section (calls_at i inputs))))
-        (lowest_caps (reopenings (open_section (calls_at i inputs)) (push_calls i (Feed x ∷ []) inputs))) []
-        (reopened (open_section (calls_at i inputs)) (items (calls_at i (push_calls i (Feed x ∷ []) inputs)))))
-        (mixes inputs 0 (open_section (calls_at i inputs))) (mixes (push_calls i (Feed x ∷ []) inputs) 0 (open_section (calls_at i inputs))) e)
+        by h (reached (mixes inputs 0 (flush_stops_given (calls_at i inputs)))) (flush_stops_given (calls_at i inputs)) (section_at n i inputs s l)
+        (found (first_refusal (reached (mixes inputs 0 (flush_stops_given (calls_at i inputs))))
+        (lowest_caps (reopenings (flush_stops_given (calls_at i inputs)) (push_calls i (Feed x ∷ []) inputs))) []
+        (reopened (flush_stops_given (calls_at i inputs)) (items (calls_at i (push_calls i (Feed x ∷ []) inputs)))))
+        (mixes inputs 0 (flush_stops_given (calls_at i inputs))) (mixes (push_calls i (Feed x ∷ []) inputs) 0 (flush_stops_given (calls_at i inputs))) e)

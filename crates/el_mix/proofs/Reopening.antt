@@ -3,11 +3,11 @@ use Rattle.std.proofs.Common.{◌≡◌, ℕ, zero, suc, Bool, true, false, if�
 use Rattle.flow_model.specs.Item.{Item, Buf, Ev, StreamStart, NewCaps, NewSegment, Tag, Gap, FlushStop, Eos, is_stream_start, is_caps, is_segment, is_tag, is_flush_stop, is_eos}
 use Rattle.flow_model.specs.Sticky.{first_found, latest}
 use Rattle.flow_model.specs.Prefix.{IsPrefix, nothing, next, ArePrefixes, none, pad}
-use Rattle.flow_model.specs.Section.{section, counted}
+use Rattle.flow_model.specs.Section.{section, counted, before_section, to_eos}
 use Rattle.flow_model.specs.Call.{Call, Feed, Act, items}
 use Rattle.flow_model.proofs.Prefixes.{append_prefix, prefix_if}
 use Rattle.flow_model.proofs.Sections.{section_prefix}
-use Rattle.el_mix.specs.Reopened.{before, has_section, to_eos, counted_section, inherited, reopened, reopenings}
+use Rattle.el_mix.specs.Reopened.{has_section, counted_section, inherited, reopened, reopenings}
 use Rattle.el_mix.specs.Mixed.{has}
 use Rattle.el_mix.specs.Mixes.{is_start, all_have}
 use Rattle.el_mix.specs.Order.{AllPast}
@@ -138,7 +138,7 @@ if_both true f g h = f h
 if_both false f g h = g h
 
 -- once a beginning has come to a section, what stands before it is settled
-pub before_settled : (j : ℕ) {xs ys : List Item} → IsPrefix xs ys → has_section j xs ≡ true → before j xs ≡ before j ys
+pub before_settled : (j : ℕ) {xs ys : List Item} → IsPrefix xs ys → has_section j xs ≡ true → before_section j xs ≡ before_section j ys
 before_settled zero p h = refl
 before_settled (suc j) nothing h = cc
 before_settled (suc j) (next {x = x} p) h = ap (λ zs. x ∷ zs) (if_same (is_flush_stop x) (before_settled j p) (before_settled (suc j) p) h)
@@ -164,17 +164,17 @@ to_eos_settled (next {x = x} {xs = xs} {ys = ys} p) h = ap (λ zs. x ∷ zs) (go
 -- a section that has started goes on
 pub goes_there : (j : ℕ) {xs ys : List Item} → IsPrefix xs ys → has_section j xs ≡ true → Goes (reopened j xs) (reopened j ys)
 goes_there j {xs} {ys} p h =
-    let same : before j xs ≡ before j ys = before_settled j p h in
-    let front : inherited (counted (before j xs)) ≡ inherited (counted (before j ys)) = ap (λ zs. inherited (counted zs)) same in
+    let same : before_section j xs ≡ before_section j ys = before_settled j p h in
+    let front : inherited (counted (before_section j xs)) ≡ inherited (counted (before_section j ys)) = ap (λ zs. inherited (counted zs)) same in
     let longer : IsPrefix (section j xs) (section j ys) = section_prefix j p in
     record {
-      begins = subst (λ zs. IsPrefix (reopened j xs) (zs ++ counted_section j ys)) front (append_prefix (inherited (counted (before j xs))) (to_eos_prefix longer));
-      ends = λ e. ap (λ zs. inherited (counted (before j xs)) ++ zs) (to_eos_settled longer (sym (ends_behind (counted (before j xs)) (counted_section j xs)) ∙ e))
+      begins = subst (λ zs. IsPrefix (reopened j xs) (zs ++ counted_section j ys)) front (append_prefix (inherited (counted (before_section j xs))) (to_eos_prefix longer));
+      ends = λ e. ap (λ zs. inherited (counted (before_section j xs)) ++ zs) (to_eos_settled longer (sym (ends_behind (counted (before_section j xs)) (counted_section j xs)) ∙ e))
           ∙ ap (λ zs. zs ++ counted_section j ys) front;
     }
 
 nothing_starts : (j : ℕ) (xs : List Item) → has_section j xs ≡ false → has is_start (reopened j xs) ≡ false
-nothing_starts j xs h = starts_behind (counted (before j xs)) (counted_section j xs) ∙ ap (λ zs. has is_start (to_eos zs)) (section_none j xs h)
+nothing_starts j xs h = starts_behind (counted (before_section j xs)) (counted_section j xs) ∙ ap (λ zs. has is_start (to_eos zs)) (section_none j xs h)
 
 pub reopened_goes : (j : ℕ) {xs ys : List Item} → IsPrefix xs ys → has is_start (reopened j xs) ≡ true → Goes (reopened j xs) (reopened j ys)
 reopened_goes j {xs} {ys} p s = go (has_section j xs) refl

@@ -9,7 +9,8 @@ use Rattle.flow_model.specs.Item.{Item, Buf, Ev, NewCaps}
 use Rattle.flow_model.specs.Looking.{bytes_of}
 use Rattle.flow_model.specs.Rule.{Fault, NotNegotiated, BadStream, TooLong}
 use Rattle.audio_info.specs.Same.{same_caps}
-use Rattle.el_mix.specs.Mono.{mono_template, mono_of, width, time_of, exactly}
+use Rattle.audio_info.specs.Alone.{exactly}
+use Rattle.el_mix.specs.Mono.{mono_template, mono_of, width, time_of}
 
 -- the first that is there
 abbrev pub or_else : {A : Type 0} → Option A → Option A → Option A

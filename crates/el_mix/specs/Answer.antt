@@ -1,33 +1,14 @@
 -- What the rule answers to one item more on a pad, by what was given: what is owed for it, or why it is refused.
-use Rattle.std.specs.Prelude.{ℕ, zero, suc, ◌+◌, List, [], ◌∷◌, ◌++◌, Option, Some, None, Result, Ok, Err, if◌then◌else◌, length, drop, unwrap_or}
-use Rattle.flow_model.specs.Item.{Item, Buf, is_flush_stop, is_buffer}
+use Rattle.std.specs.Prelude.{ℕ, ◌+◌, List, [], ◌∷◌, Option, Some, None, Result, Ok, Err, if◌then◌else◌, length, drop, unwrap_or}
+use Rattle.flow_model.specs.Item.{Item, Buf, is_buffer}
 use Rattle.flow_model.specs.Sticky.{latest}
 use Rattle.flow_model.specs.Call.{Call, Feed, items}
 use Rattle.flow_model.specs.Rule.{Fault}
 use Rattle.flow_model.specs.Feeding.{has_eos}
+use Rattle.flow_model.specs.SinkPads.{push_calls, calls_at, flush_stops_given}
 use Rattle.el_mix.specs.Reopened.{reopened, reopenings}
 use Rattle.el_mix.specs.Agreed.{lowest_caps, first_refusal}
 use Rattle.el_mix.specs.Mixes.{mixes}
-
--- sink pad i has more
-abbrev pub push_calls : ℕ → List Call → List (List Call) → List (List Call)
-push_calls i cs [] = []
-push_calls zero cs (ds ∷ dss) = (ds ++ cs) ∷ dss
-push_calls (suc i) cs (ds ∷ dss) = ds ∷ push_calls i cs dss
-
--- what sink pad i was given
-abbrev pub calls_at : ℕ → List (List Call) → List Call
-calls_at i [] = []
-calls_at zero (ds ∷ dss) = ds
-calls_at (suc i) (ds ∷ dss) = calls_at i dss
-
--- how many FLUSH_STOPs were given, which is the number of the section that is open
-abbrev pub flush_stops : List Item → ℕ
-flush_stops [] = 0
-flush_stops (x ∷ xs) = if is_flush_stop x then suc (flush_stops xs) else flush_stops xs
-
-abbrev pub open_section : List Call → ℕ
-open_section calls = flush_stops (items calls)
 
 -- the time of the end of the last buffer that is owed, and 0 without one
 abbrev pub end_of : List Item → ℕ
@@ -50,4 +31,4 @@ answer_in j inputs inputs' i =
 
 abbrev pub mix_answer : List (List Call) → ℕ → Item → Result (List Item) Fault
 mix_answer inputs i x =
-    if has_eos (calls_at i inputs) then Ok [] else answer_in (open_section (calls_at i inputs)) inputs (push_calls i (Feed x ∷ []) inputs) i
+    if has_eos (calls_at i inputs) then Ok [] else answer_in (flush_stops_given (calls_at i inputs)) inputs (push_calls i (Feed x ∷ []) inputs) i

@@ -1,5 +1,5 @@
 -- Raw audio of one channel: what its caps say, and which caps it has.
-use Rattle.std.specs.Prelude.{ℕ, ◌*◌, ◌/◌, pos, [], ◌∷◌, map, unwrap_or}
+use Rattle.std.specs.Prelude.{ℕ, ◌*◌, ◌/◌, pos, [], ◌∷◌, unwrap_or}
 use Rattle.gst_value.specs.Description.{Description}
 use Rattle.gst_caps.specs.declared.caps.Caps.{Caps}
 use Rattle.gst_caps.specs.declared.caps.Caps.TheVariants.{Of}
@@ -41,7 +41,3 @@ time_of mono frame = frame * 1000000000 / mono.rate
 abbrev pub silence : Sample → ℕ
 silence U8 = 128
 silence _ = 0
-
--- the caps that stand for one fixed caps alone
-abbrev pub exactly : Description One → Caps
-exactly x = Of (record { media = x.media; fields = map (λ f. (f.0, Single f.1)) x.fields } ∷ [])

@@ -1,26 +1,15 @@
 -- Sections that begin anew: each pad of a fan-in element keeps the STREAM_START, the CAPS and the TAG in force over a flush.
 use Rattle.std.specs.Prelude.{ℕ, zero, suc, Bool, true, false, List, [], ◌∷◌, ◌++◌, if◌then◌else◌, map}
-use Rattle.flow_model.specs.Item.{Item, is_stream_start, is_caps, is_tag, is_flush_stop, is_eos}
+use Rattle.flow_model.specs.Item.{Item, is_stream_start, is_caps, is_tag, is_flush_stop}
 use Rattle.flow_model.specs.Sticky.{latest}
 use Rattle.flow_model.specs.Call.{Call, items}
-use Rattle.flow_model.specs.Section.{section, counted}
-
--- what stands before section j, with the FLUSH_STOP that opens it, and all where the list has not come so far
-abbrev pub before : ℕ → List Item → List Item
-before zero xs = []
-before (suc j) [] = []
-before (suc j) (x ∷ xs) = x ∷ (if is_flush_stop x then before j xs else before (suc j) xs)
+use Rattle.flow_model.specs.Section.{section, counted, before_section, to_eos}
 
 -- whether a list has come to section j
 abbrev pub has_section : ℕ → List Item → Bool
 has_section zero xs = true
 has_section (suc j) [] = false
 has_section (suc j) (x ∷ xs) = if is_flush_stop x then has_section j xs else has_section (suc j) xs
-
--- the items up to the first EOS, with it
-abbrev pub to_eos : List Item → List Item
-to_eos [] = []
-to_eos (x ∷ xs) = x ∷ (if is_eos x then [] else to_eos xs)
 
 -- what counts of section j
 abbrev pub counted_section : ℕ → List Item → List Item
@@ -32,7 +21,7 @@ inherited h = latest is_stream_start h ++ (latest is_caps h ++ latest is_tag h)
 
 -- section j as it begins anew: first what it inherits, and then what counts of it
 abbrev pub reopened : ℕ → List Item → List Item
-reopened j xs = inherited (counted (before j xs)) ++ counted_section j xs
+reopened j xs = inherited (counted (before_section j xs)) ++ counted_section j xs
 
 -- section j of each pad
 abbrev pub reopenings : ℕ → List (List Call) → List (List Item)

@@ -7,7 +7,8 @@ use Rattle.flow_model.specs.Item.{Item, Buf, Ev, StreamStart, NewCaps, NewSegmen
 use Rattle.flow_model.specs.Call.{feeds}
 use Rattle.flow_model.specs.declared.fault.StreamKind.TheVariants.{SplitFrame}
 use Rattle.flow_model.specs.Rule.{Fault, NotNegotiated, BadStream, TooLong}
-use Rattle.el_mix.specs.Mono.{mono_template, exactly}
+use Rattle.audio_info.specs.Alone.{exactly}
+use Rattle.el_mix.specs.Mono.{mono_template}
 use Rattle.el_mix.specs.Agreed.{buffer_refusal}
 use Rattle.el_mix.specs.Answer.{mix_answer}
 use Rattle.el_mix.specs.Mixes.{from_zero, mixes}

@@ -1,10 +1,22 @@
-//! The rule of an element that mixes channels, as GStreamer's interleave: worked rows of it, and laws that the element rests on.
+//! The element that mixes channels, as GStreamer's interleave: worked rows of its rule, laws that it rests on, and its calls.
 #![tactic(auto)]
+
+mod channel;
+mod due;
+mod judge;
+pub mod mix;
+mod position;
+mod stream;
+mod template;
+mod turns;
+mod waiting;
 
 ghost use Rattle.el_mix.specs.Law.{OwesBeginnings, OwesInOrder};
 ghost use Rattle.el_mix.specs.Pieces.{BuffersGoOn, NextBuffer};
 ghost use Rattle.el_mix.specs.Rows.{MixRows, RefusedRows, SectionRows, AnswerRows};
 ghost use Rattle.el_mix.specs.Sections.{PadGoesOn, OwesMore, AnswersOwe, RefusedOwes, FlushEnds, KeepsOrder};
+
+pub use mix::Mix;
 
 /// What the rule owes for two pads: where the output is cut, what is silent, and what waits.
 #[tactic(auto, using(crate::proofs::Rows::mix_rows))]
@@ -68,13 +80,13 @@ pub fn refusals_owe_nothing()
 {}
 
 /// A flush ends the open section, and nothing is owed in the next.
-#[tactic(auto, using(crate::proofs::Opening::flush_ends))]
+#[tactic(auto, using(crate::proofs::Ordering::flush_ends))]
 pub fn flushes_end_sections()
     ensures { FlushEnds }
 {}
 
 /// Pads were fed in order where each item is fed on a pad below which each pad has CAPS, inherited ones counted, or had EOS.
-#[tactic(auto, using(crate::proofs::Opening::keeps_order))]
+#[tactic(auto, using(crate::proofs::Ordering::keeps_order))]
 pub fn feeding_keeps_order()
     ensures { KeepsOrder }
 {}

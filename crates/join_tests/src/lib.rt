@@ -3,3 +3,5 @@
 
 #[cfg(test)]
 mod el_join_tests;
+#[cfg(test)]
+mod el_mix_tests;

@@ -1,0 +1,6 @@
+use Rattle.std.proofs.Common.{◌≡◌, ◌++◌, take, drop, map}
+use Rattle.el_mix.specs.Taking.{settled}
+use Rattle.el_mix.proofs.turns.rewind_all.Given as goal
+
+abbrev pub invariant-loop-channel : goal.invariant-loop-channel
+invariant-loop-channel l = l.channels ≡ map settled (take l.channel-index l.initial.channels) ++ drop l.channel-index l.initial.channels
