@@ -9,5 +9,7 @@ pub mod Following
 pub mod SettingRules
 pub mod Elements
 pub mod Sources
+pub mod JoinRules
+pub mod Joining
 pub mod Lists
 pub mod ToldTemplates

@@ -140,10 +140,12 @@ impl Graph {
     }
 
     /// The caps that a source pad is allowed to have: all where it is not linked, those of the next source pad through
-    /// an identity or a queue, and through a capsfilter those of them that are its own too, in the order of its own.
-    /// Before any other element they are what the sink pad takes.
+    /// an identity or a queue, through a capsfilter those of them that are its own too, in the order of its own, and through
+    /// a tee those that all its pads are allowed, in the order of its first pad. Before any other element they are what
+    /// the sink pad takes.
     ///
-    /// Answers `TooMany` where a capsfilter and what is allowed behind it have too many caps in common.
+    /// Answers `TooMany` where a capsfilter and what is allowed behind it, or the pads of a tee, have too many caps in
+    /// common.
     pub fn allowed(&self, alloc: Global, source: PadPlace) -> Result<Caps, CapsFault>
         requires { source.pad < pads_at (made self.now) Direction.Source source.element }
         ensures caps { IfOk result (λ caps. IsSound self.now → Allows (made self.now) (links self.now) source (Some caps)) }

@@ -4,6 +4,7 @@
 mod allowed;
 mod building;
 mod chains;
+mod counting;
 mod element;
 mod elements;
 mod ends;

@@ -25,3 +25,4 @@ mod Ending
 mod EosComing
 mod Overs
 mod Readies
+mod Alone

@@ -1,4 +1,5 @@
 //! Laws of nets.
+ghost use Rattle.net_turns.specs.Alone.{LanesStay};
 ghost use Rattle.net_turns.specs.Ends.{LinesEnd, StepsTellOver};
 
 use lane_core::{Inlet, Outlet};
@@ -21,4 +22,10 @@ pub fn steps_tell_over<
     O: Outlet<Lanes = I::Lanes>,
 >()
     ensures { StepsTellOver S.TaskSource E.TaskElement I.Inlet O.Outlet }
+{}
+
+/// Where each row of the heads of tasks holds one lane or nothing, it holds that lane, or nothing, behind a run that ends without a
+/// fault.
+pub fn lanes_stay<S: TaskSource, E: TaskElement, I: Inlet<Out = O>, O: Outlet<Lanes = I::Lanes>>()
+    ensures { LanesStay S.TaskSource E.TaskElement I.Inlet O.Outlet }
 {}

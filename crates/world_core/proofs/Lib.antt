@@ -30,3 +30,8 @@ mod Unopened
 mod Ending
 mod PadCounts
 mod RunMade
+mod TaskHeads
+mod StuckRuns
+mod OverRuns
+mod StallTold
+mod FirstRows
