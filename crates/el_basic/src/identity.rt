@@ -73,6 +73,14 @@ impl Identity {
         Ok(())
     }
 
+    /// Whether its section is over: EOS came, and no flush behind it.
+    #[inline(always)]
+    pub fn is_over(&self) -> bool
+        ensures { result ≡ has_ended self.now }
+    {
+        self.ended
+    }
+
     /// The same element once more.
     pub fn copy(&self, _alloc: Global) -> Result<Identity, OutOfMemory>
         ensures { IfOk result (λ made. made ≡ self.now) }

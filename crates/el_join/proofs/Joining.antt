@@ -33,13 +33,13 @@ drop_append : {A : Type 0} (xs ys : List A) → drop (length xs) (xs ++ ys) ≡ 
 drop_append [] ys = refl
 drop_append (x ∷ xs) ys = drop_append xs ys
 
-abbrev done : List Item → Result (List Item) Fault
+abbrev pub done : List Item → Result (List Item) Fault
 done ys = Ok ys
 
 done_is : (xs ys : List Item) → done xs ≡ done ys → xs ≡ ys
 done_is xs ys e = cc
 
-all_append : (rs qs : List (Result Item Fault)) (xs ys : List Item) → all_or_fault rs ≡ done xs → all_or_fault qs ≡ done ys → all_or_fault (rs ++ qs) ≡ done (xs ++ ys)
+pub all_append : (rs qs : List (Result Item Fault)) (xs ys : List Item) → all_or_fault rs ≡ done xs → all_or_fault qs ≡ done ys → all_or_fault (rs ++ qs) ≡ done (xs ++ ys)
 all_append [] qs xs ys e h = h ∙ ap (λ (us : List Item). done (us ++ ys)) (done_is [] xs e)
 all_append (Err fault ∷ rs) qs xs ys e h = absurd (cc)
 all_append (Ok x ∷ rs) qs xs ys e h = go (all_or_fault rs) refl e (λ zs is. all_append rs qs zs ys is h)

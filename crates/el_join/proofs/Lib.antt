@@ -16,3 +16,5 @@ pub mod Answering
 pub mod Taking
 pub mod Prefixing
 pub mod Sectioning
+pub mod Plain
+pub mod Handing

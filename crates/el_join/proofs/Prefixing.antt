@@ -103,7 +103,7 @@ fault_prefix nothing = nothing
 fault_prefix (next {x = Ok x} p) = next (fault_prefix p)
 fault_prefix (next {x = Err fault} p) = nothing
 
-join_prefix : {xss yss : List (List Item)} → ArePrefixes xss yss → IsPrefix (joined xss) (joined yss)
+pub join_prefix : {xss yss : List (List Item)} → ArePrefixes xss yss → IsPrefix (joined xss) (joined yss)
 join_prefix none = nothing
 join_prefix (pad p ps) = joined_prefix no_sums (pad p ps)
 

@@ -1,21 +1,22 @@
 -- The sections that are over, with one more item and with a flush.
-use Rattle.std.proofs.Common.{◌≡◌, ◌≤◌, ◌<◌, ℕ, zero, suc, Bool, true, false, if◌then◌else◌, List, [], ◌∷◌, ◌++◌, refl, sym, ap, ◌∙◌, subst, Result, Ok, Err, arith}
+use Rattle.std.proofs.Common.{◌≡◌, ◌≤◌, ◌<◌, ℕ, zero, suc, Bool, true, false, if◌then◌else◌, List, [], ◌∷◌, ◌++◌, length, drop, refl, sym, ap, ◌∙◌, subst, Result, Ok, Err, arith}
 use Rattle.flow_model.specs.Item.{Item, Ev, FlushStop, is_flush_stop}
 use Rattle.flow_model.specs.Section.{section, counted, before_section, to_eos, flush_stops}
 use Rattle.flow_model.specs.Call.{Call, Feed, items}
-use Rattle.flow_model.specs.Prefix.{IsPrefix}
+use Rattle.flow_model.specs.Prefix.{IsPrefix, nothing, next, ArePrefixes, none as no_pads, pad as one_pad}
 use Rattle.flow_model.specs.Rule.{Fault}
+use Rattle.flow_model.proofs.Prefixes.{prefix_refl, prefix_append, are_prefixes_refl}
 use Rattle.flow_model.proofs.Calls.{items_push}
 use Rattle.flow_model.specs.SinkPads.{flush_stops_given, push_calls, push_each, InSection}
 use Rattle.el_join.specs.declared.concat.Concat.{Concat}
 use Rattle.el_join.specs.Sections.{inherited, with_inherited, reopened, reopened_of, all_reopened, open_section}
-use Rattle.el_join.specs.Concats.{joined_from, joined_now, up_to_fault, in_front, all_or_fault, concat, concat_rule}
+use Rattle.el_join.specs.Concats.{joined_from, joined_now, up_to_fault, in_front, all_or_fault, concat, concat_rule, concat_answers}
 use Rattle.el_join.specs.Joins.{Joins}
 use Rattle.el_join.specs.Totals.{no_sums}
 use Rattle.el_join.specs.Laws.{PutsInOrder, OnlyOpenGrows, FlushEnds}
 use Rattle.el_join.proofs.Opened.{stops_of, reopened_flushed}
-use Rattle.el_join.proofs.Joining.{open_push}
-use Rattle.el_join.proofs.Prefixing.{concat_prefix}
+use Rattle.el_join.proofs.Joining.{all_append, done, open_push}
+use Rattle.el_join.proofs.Prefixing.{all_reopened_prefix, concat_prefix, join_prefix}
 
 -- what stands before the end of a section stays
 section_over : (j : ℕ) (xs ys : List Item) → j < flush_stops xs → section j (xs ++ ys) ≡ section j xs
@@ -97,9 +98,6 @@ nothing_owed n number (cs ∷ took) ls =
     ap (λ (xs : List Item). up_to_fault (joined_from no_sums (xs ∷ all_reopened (suc n) (push_each (Feed (Ev (FlushStop number)) ∷ []) took)))) (pad_begins n cs number ls.0)
 
 -- where there is no fault all of it is owed
-abbrev done : List Item → Result (List Item) Fault
-done ys = Ok ys
-
 all_owed : (rs : List (Result Item Fault)) (xs : List Item) → all_or_fault rs ≡ done xs → up_to_fault rs ≡ xs
 all_owed [] xs e = cc
 all_owed (Err fault ∷ rs) xs e = absurd (cc)
@@ -119,10 +117,33 @@ puts_in_order = record {
       subst (λ (xs : List Item). IsPrefix xs (concat_rule more port (open_section took))) (put_is_owed element took put j port) (concat_prefix took more p port (open_section took));
 }
 
+-- with one item more
+push_begins : (k : ℕ) (calls : List Call) (took : List (List Call)) → ArePrefixes took (push_calls k calls took)
+push_begins zero calls [] = no_pads
+push_begins (suc k) calls [] = no_pads
+push_begins zero calls (cs ∷ took) = one_pad (prefix_append cs calls) (are_prefixes_refl took)
+push_begins (suc k) calls (cs ∷ took) = one_pad (prefix_refl cs) (push_begins k calls took)
+
+split_behind : {A : Type 0} {xs ys : List A} → IsPrefix xs ys → ys ≡ xs ++ drop (length xs) ys
+split_behind nothing = refl
+split_behind (next {x = x} p) = ap (λ zs. x ∷ zs) (split_behind p)
+
+answered_more : (element : Concat) (took : List (List Call)) (put : List Item) → Joins element took put → (k : ℕ) (x : Item) (more : List Item)
+    → concat_answers took k x ≡ Ok more → (port : ℕ)
+    → concat_rule (push_calls k (Feed x ∷ []) took) port (open_section took) ≡ concat_rule took port (open_section took) ++ more
+answered_more element took put j k x more e port =
+    let n = open_section took in
+    let was = joined_now n took in
+    let is = joined_now n (push_calls k (Feed x ∷ []) took) in
+    let split : is ≡ was ++ drop (length was) is = split_behind (join_prefix (all_reopened_prefix n (push_begins k (Feed x ∷ []) took))) in
+    all_owed is (put ++ more) (ap all_or_fault split ∙ all_append was (drop (length was) is) put more j.owed e)
+    ∙ ap (λ xs. xs ++ more) (sym (put_is_owed element took put j port))
+
 pub only_open_grows : OnlyOpenGrows
 only_open_grows = record {
   same = λ pad x took plain. open_push pad took x plain;
   over = λ element took r pad x port j h. ap concat (pads_over j (open_section took) pad took x r.level h);
+  now = λ element took put j pad x more e. answered_more element took put j pad x more e;
 }
 
 pub flush_ends : FlushEnds

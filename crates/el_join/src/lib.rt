@@ -1,11 +1,12 @@
 //! Elements that join streams.
 #![tactic(auto)]
 
-ghost use Rattle.std.specs.Prelude.{ℕ, List};
+ghost use Rattle.std.specs.Prelude.{◌≡◌, ℕ, List, [], replicate};
 ghost use Rattle.flow_model.specs.Call.{Call};
 ghost use Rattle.flow_model.specs.Prefix.{IsPrefix, ArePrefixes};
+ghost use Rattle.flow_model.specs.Section.{IsPlain};
 ghost use Rattle.el_join.specs.Concats.{concat_rule};
-ghost use Rattle.el_join.specs.Laws.{FlushEnds, OnlyOpenGrows, PutsInOrder};
+ghost use Rattle.el_join.specs.Laws.{FlushEnds, HandsEosOn, OnlyOpenGrows, PutsInOrder, WantsOpenPads};
 
 pub mod concat;
 mod inherited;
@@ -32,10 +33,28 @@ pub fn puts_in_order()
     ensures { PutsInOrder }
 {}
 
-/// One more item adds to what is owed in the section that is open alone.
+/// One more item adds to what is owed in the section that is open alone, and what is answered to it is what is owed more.
 #[tactic(auto, using(crate::proofs::Sectioning::only_open_grows))]
 pub fn only_open_grows()
     ensures { OnlyOpenGrows }
+{}
+
+/// Whatever the sink pads are given, no section has a FLUSH_STOP, or anything behind an EOS; and where they are given nothing,
+/// nothing is owed.
+pub fn concat_owes_plain()
+    ensures plain { (took : List (List Call)) (port j : ℕ) → IsPlain (concat_rule took port j) }
+    ensures opens { (pads port j : ℕ) → concat_rule (replicate pads []) port j ≡ [] }
+{}
+
+/// Where EOS came on each sink pad, the section that is open has EOS.
+pub fn concat_hands_eos_on()
+    ensures { HandsEosOn }
+{}
+
+/// The sink pad that is wanted is there; where none is, EOS came on each.
+#[tactic(auto, using(crate::proofs::Handing::wants_open_pads))]
+pub fn concat_wants_open_pads()
+    ensures { WantsOpenPads }
 {}
 
 /// A flush ends the section that is open, and nothing is owed in the next.

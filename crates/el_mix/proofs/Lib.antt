@@ -2,6 +2,7 @@ pub mod Answered
 pub mod Answering
 pub mod Calling
 pub mod Choosing
+pub mod Closing
 pub mod Coming
 pub mod Cutting
 pub mod Deciding
@@ -27,6 +28,7 @@ pub mod Opening
 pub mod Ordering
 pub mod Owed
 pub mod Owing
+pub mod Plain
 pub mod Refusing
 pub mod Reopening
 pub mod Rows
@@ -36,3 +38,4 @@ pub mod Streaming
 pub mod Telling
 pub mod Together
 pub mod Turning
+pub mod Wanting

@@ -2,6 +2,7 @@ pub mod Agreed
 pub mod Answer
 pub mod Calls
 pub mod Due
+pub mod Handing
 pub mod Heard
 pub mod Judging
 pub mod Lacking

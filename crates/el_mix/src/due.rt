@@ -1,6 +1,5 @@
 //! What is owed more, put out.
-ghost use Rattle.std.specs.Prelude.{◌≡◌, ◌<◌, ◌≤◌, ◌+◌, ◌/◌, ◌^◌, ◌++◌, ◌∷◌, [], ℕ, List, true, None, Some, length, take, map, IfOk, OnOk, OnErr};
-ghost use Rattle.std.specs.Option.{option_map};
+ghost use Rattle.std.specs.Prelude.{◌≡◌, ◌<◌, ◌≤◌, ◌+◌, ◌/◌, ◌^◌, ◌++◌, ◌∷◌, [], ℕ, List, true, None, Some, length, take, map, IfOk, OnOk, OnErr, option_map};
 ghost use Rattle.gst_time.specs.declared.time.TheConstants.{LIMIT};
 ghost use Rattle.flow_model.specs.Item.{Item, Ev, Eos};
 ghost use Rattle.flow_model.specs.Feeding.{on_pad};
@@ -12,8 +11,7 @@ ghost use Rattle.el_mix.specs.Heard.{mono_by};
 ghost use Rattle.el_mix.specs.Turns.{next_cut as next_cut_of};
 ghost use Rattle.el_mix.specs.Taking.{settled, passes, lines, bare};
 ghost use Rattle.el_mix.specs.Lined.{Ready};
-ghost use Rattle.el_mix.specs.Putting.{all_started as all_started_of, all_ended as all_ended_of, lowest_heard, start_item};
-ghost use Rattle.el_mix.specs.Putting.{buffer_item, piece_item, GoesOn, Opens, Pieced};
+ghost use Rattle.el_mix.specs.Putting.{all_started as all_started_of, all_ended as all_ended_of, lowest_heard, start_item, buffer_item, piece_item, GoesOn, Opens, Pieced};
 ghost use Rattle.el_mix.specs.Standing.{Moves};
 ghost use Rattle.el_mix.specs.Pushing.{empty_items, Streams, Pushes};
 

@@ -1,6 +1,5 @@
 //! Why items are refused.
-ghost use Rattle.std.specs.Prelude.{◌≡◌, ◌<◌, ◌+◌, ◌^◌, Some, None, length, map, slice_get, OnOk, IfErr};
-ghost use Rattle.std.specs.Option.{option_copied};
+ghost use Rattle.std.specs.Prelude.{◌≡◌, ◌<◌, ◌+◌, ◌^◌, Some, None, length, map, slice_get, OnOk, IfErr, option_copied};
 ghost use Rattle.flow_model.specs.Item.{body_of};
 ghost use Rattle.el_mix.specs.Agreed.{caps_refusal};
 ghost use Rattle.el_mix.specs.Due.{IsDue};

@@ -11,12 +11,18 @@ mod template;
 mod turns;
 mod waiting;
 
+ghost use Rattle.std.specs.Prelude.{◌≡◌, ℕ, List, [], replicate};
+ghost use Rattle.flow_model.specs.Call.{Call};
+ghost use Rattle.flow_model.specs.Section.{IsPlain};
+ghost use Rattle.el_mix.specs.Handing.{HandsEosOn, WantsOpenPads};
 ghost use Rattle.el_mix.specs.Law.{OwesBeginnings, OwesInOrder};
+ghost use Rattle.el_mix.specs.Mixes.{mixes};
 ghost use Rattle.el_mix.specs.Pieces.{BuffersGoOn, NextBuffer};
 ghost use Rattle.el_mix.specs.Rows.{MixRows, RefusedRows, SectionRows, AnswerRows};
 ghost use Rattle.el_mix.specs.Sections.{PadGoesOn, OwesMore, AnswersOwe, RefusedOwes, FlushEnds, KeepsOrder};
 
 pub use mix::Mix;
+pub use template::mono_template;
 
 /// What the rule owes for two pads: where the output is cut, what is silent, and what waits.
 #[tactic(auto, using(crate::proofs::Rows::mix_rows))]
@@ -96,4 +102,22 @@ pub fn feeding_keeps_order()
 pub fn buffers_go_on()
     ensures more { BuffersGoOn }
     ensures next { NextBuffer }
+{}
+
+/// Whatever the pads are given, no section has a FLUSH_STOP, or anything behind an EOS; and where they are given nothing, nothing
+/// is owed.
+pub fn mix_owes_plain()
+    ensures plain { (took : List (List Call)) (port j : ℕ) → IsPlain (mixes took port j) }
+    ensures opens { (pads port j : ℕ) → mixes (replicate pads []) port j ≡ [] }
+{}
+
+/// Where EOS came on each pad, the section that is open has EOS.
+pub fn mix_hands_eos_on()
+    ensures { HandsEosOn }
+{}
+
+/// The pad that is wanted is there, and each lower one has CAPS or had EOS; where none is wanted, EOS came on each.
+#[tactic(auto, using(crate::proofs::Wanting::wants_open_pads))]
+pub fn mix_wants_open_pads()
+    ensures { WantsOpenPads }
 {}

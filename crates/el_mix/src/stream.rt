@@ -1,6 +1,5 @@
 //! A stream of frames by its CAPS.
-ghost use Rattle.std.specs.Prelude.{◌≡◌};
-ghost use Rattle.std.specs.Option.{option_map};
+ghost use Rattle.std.specs.Prelude.{◌≡◌, option_map};
 ghost use Rattle.el_mix.specs.Heard.{mono_by, heard};
 
 use audio_info::Info;

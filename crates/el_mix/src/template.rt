@@ -8,7 +8,7 @@ use gst_value::{One, OutOfMemory};
 use std::alloc::Global;
 
 /// Raw audio of one channel, of all formats and all rates.
-pub(crate) fn mono_template(alloc: Global) -> Result<Caps, OutOfMemory>
+pub fn mono_template(alloc: Global) -> Result<Caps, OutOfMemory>
     ensures { IfOk result (λ made. made ≡ mono_template_of) }
 {
     let formats = raw_formats(alloc)?;

@@ -1,6 +1,5 @@
 //! Frames of all channels in turn.
-ghost use Rattle.std.specs.Prelude.{◌≡◌, ◌<◌, ◌≤◌, ◌+◌, ◌++◌, ◌/◌, ◌^◌, None, map, replicate, IfOk, OnOk, length};
-ghost use Rattle.std.specs.Option.{IfSome};
+ghost use Rattle.std.specs.Prelude.{◌≡◌, ◌<◌, ◌≤◌, ◌+◌, ◌++◌, ◌/◌, ◌^◌, None, map, replicate, IfOk, OnOk, length, IfSome};
 ghost use Rattle.audio_info.specs.Packing.{sample_width};
 ghost use Rattle.el_mix.specs.Mono.{silence};
 ghost use Rattle.el_mix.specs.Taking.{settled, passes, left, lines};

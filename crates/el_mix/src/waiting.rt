@@ -1,7 +1,6 @@
 //! Bodies that wait at a sink pad.
-ghost use Rattle.std.specs.Prelude.{◌≡◌, ◌<◌, ◌^◌, ◌∷◌, [], ◌++◌, List, ℕ, length, drop, OnOk, OnErr};
+ghost use Rattle.std.specs.Prelude.{◌≡◌, ◌<◌, ◌^◌, ◌∷◌, [], ◌++◌, List, ℕ, length, drop, OnOk, OnErr, option_copied, IfSome};
 ghost use Rattle.el_mix.specs.Line.{Line, line_of, nothing, pushed, passed, first_of, is_none, gone_of as gone_of_first};
-ghost use Rattle.std.specs.Option.{option_copied, IfSome};
 
 use gst_item::Body;
 use gst_value::OutOfMemory;

@@ -9,5 +9,11 @@ pub mod Following
 pub mod SettingRules
 pub mod Elements
 pub mod Sources
+pub mod JoinRules
+pub mod Joining
 pub mod Lists
 pub mod ToldTemplates
+pub mod Ruled
+pub mod JoinsApart
+pub mod JoinsOpen
+pub mod Fed

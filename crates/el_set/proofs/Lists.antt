@@ -1,5 +1,5 @@
 -- The lists that sources owe.
-use Rattle.std.proofs.Common.{◌≡◌, ◌≤◌, ◌++◌, ◌*◌, ◌-◌, ◌||◌, eqb, ℕ, Bool, true, false, List, [], ◌∷◌, map, Option, None, Some, refl, sym, ◌∙◌}
+use Rattle.std.proofs.Common.{◌≡◌, ◌≤◌, ◌++◌, ◌*◌, ◌-◌, ◌||◌, ℕ, Bool, true, false, List, [], ◌∷◌, map, Option, None, Some, refl, sym, ◌∙◌}
 use Rattle.std.specs.Prelude.{if◌then◌else◌}
 use Rattle.std.specs.List.{range_with_len}
 use Rattle.std.proofs.lemmas.Bool.{true≢false}
@@ -10,7 +10,7 @@ use Rattle.el_src.specs.declared.ramp_src.Ramp.{Ramp}
 use Rattle.el_src.specs.Ramp.{frames_buffer, frames_gap, is_gap, piece, ramp_list, title_tag}
 use Rattle.el_settings.specs.declared.settings.Settings.{Settings}
 use Rattle.el_settings.specs.declared.settings.Settings.TheVariants.{FileSrc, RampTestSrc}
-use Rattle.el_settings.specs.Asked.{reads, sink_pads}
+use Rattle.el_settings.specs.Asked.{is_source, reads}
 use Rattle.el_set.specs.Made.{list_of, read_content}
 use Rattle.el_set.proofs.Ends.{eos_first}
 
@@ -78,7 +78,7 @@ eos_behind [] ys h = h
 eos_behind (x ∷ xs) ys h = eos_later x (xs ++ ys) (eos_behind xs ys h)
 
 -- and it has EOS
-pub source_eos : (s : Settings) (id : ℕ) (content : List ℕ) → eqb (sink_pads s) 0 ≡ true → eos_among (list_of s id content) ≡ true
+pub source_eos : (s : Settings) (id : ℕ) (content : List ℕ) → is_source s ≡ true → eos_among (list_of s id content) ≡ true
 source_eos (FileSrc s) id content none =
     eos_behind (Ev (StreamStart id) ∷ Ev (NewSegment (bytes_segment 0)) ∷ blocks_from s.blocksize 0 content 0) (Ev Eos ∷ []) refl
 source_eos (RampTestSrc s) id content none =

@@ -1,6 +1,6 @@
 -- What is made of settings with a file, and which file that is, by their pads and their location.
-use Rattle.std.proofs.Common.{◌≡◌, ◌&&◌, ◌||◌, not, ℕ, Bool, true, false, eqb, if◌then◌else◌, List, [], Option, None, is_some, refl, sym, ap, ◌∙◌}
-use Rattle.el_settings.specs.Asked.{location_of, reads, sink_pads, source_pads, writes}
+use Rattle.std.proofs.Common.{◌≡◌, ◌&&◌, ◌||◌, not, ℕ, Bool, true, false, if◌then◌else◌, List, [], Option, None, is_some, refl, sym, ap, ◌∙◌}
+use Rattle.el_settings.specs.Asked.{is_sink, is_source, location_of, reads, writes}
 use Rattle.el_set.specs.Made.{file_for, makes_sink, makes_source, read_content, read_for}
 use Rattle.el_settings.specs.declared.settings.Settings.{Settings}
 use Rattle.el_settings.specs.declared.settings.Settings.TheVariants.{FileSrc, RampTestSrc, FileSink, FakeSink}
@@ -26,12 +26,12 @@ pub written_own : {K : Type 0} (s : Settings) (file : Option K) → writes s ≡
 written_own s file writing = written_is s file ∙ ap (λ (b : Bool). if b then file else None) writing
 
 -- there is a source, and a sink, where a file that the settings name is there
-pub source_made : {S : Type 0} (s : Settings) (file : Option S) → makes_source s file ≡ (eqb (sink_pads s) 0 && (not (is_some (location_of s)) || is_some file))
+pub source_made : {S : Type 0} (s : Settings) (file : Option S) → makes_source s file ≡ (is_source s && (not (is_some (location_of s)) || is_some file))
 source_made (FileSrc s) file = refl
 source_made (RampTestSrc s) file = refl
 source_made _ file = refl
 
-pub sink_made : {K : Type 0} (s : Settings) (file : Option K) → makes_sink s file ≡ (eqb (source_pads s) 0 && (not (is_some (location_of s)) || is_some file))
+pub sink_made : {K : Type 0} (s : Settings) (file : Option K) → makes_sink s file ≡ (is_sink s && (not (is_some (location_of s)) || is_some file))
 sink_made (FileSink s) file = refl
 sink_made FakeSink file = refl
 sink_made _ file = refl
@@ -41,11 +41,11 @@ with_file file true true own there = there refl
 with_file file true false own there = refl
 with_file file false d own there = absurd (cc)
 
-pub source_with : {S : Type 0} (s : Settings) (file : Option S) → eqb (sink_pads s) 0 ≡ true → (reads s ≡ true → is_some file ≡ true) → makes_source s file ≡ true
-source_with s file own there = source_made s file ∙ with_file file (eqb (sink_pads s) 0) (is_some (location_of s)) own there
+pub source_with : {S : Type 0} (s : Settings) (file : Option S) → is_source s ≡ true → (reads s ≡ true → is_some file ≡ true) → makes_source s file ≡ true
+source_with s file own there = source_made s file ∙ with_file file (is_source s) (is_some (location_of s)) own there
 
-pub sink_with : {K : Type 0} (s : Settings) (file : Option K) → eqb (source_pads s) 0 ≡ true → (writes s ≡ true → is_some file ≡ true) → makes_sink s file ≡ true
-sink_with s file own there = sink_made s file ∙ with_file file (eqb (source_pads s) 0) (is_some (location_of s)) own there
+pub sink_with : {K : Type 0} (s : Settings) (file : Option K) → is_sink s ≡ true → (writes s ≡ true → is_some file ≡ true) → makes_sink s file ≡ true
+sink_with s file own there = sink_made s file ∙ with_file file (is_sink s) (is_some (location_of s)) own there
 
 -- the file that is read of a file is that, and what is made with it is the same
 twice : {A : Type 0} (b : Bool) (file : Option A) → (if b then (if b then file else None) else None) ≡ (if b then file else None)
@@ -64,16 +64,16 @@ with_own true false file = refl
 with_own false d file = refl
 
 pub source_again : {S : Type 0} (s : Settings) (file : Option S) → makes_source s (read_for s file) ≡ makes_source s file
-source_again s file = source_made s (read_for s file) ∙ ap (λ (o : _). eqb (sink_pads s) 0 && (not (is_some (location_of s)) || is_some o)) (read_is s file)
-    ∙ with_own (eqb (sink_pads s) 0) (is_some (location_of s)) file ∙ sym (source_made s file)
+source_again s file = source_made s (read_for s file) ∙ ap (λ (o : _). is_source s && (not (is_some (location_of s)) || is_some o)) (read_is s file)
+    ∙ with_own (is_source s) (is_some (location_of s)) file ∙ sym (source_made s file)
 
 pub sink_again : {K : Type 0} (s : Settings) (file : Option K) → makes_sink s (file_for s file) ≡ makes_sink s file
-sink_again s file = sink_made s (file_for s file) ∙ ap (λ (o : _). eqb (source_pads s) 0 && (not (is_some (location_of s)) || is_some o)) (written_is s file)
-    ∙ with_own (eqb (source_pads s) 0) (is_some (location_of s)) file ∙ sym (sink_made s file)
+sink_again s file = sink_made s (file_for s file) ∙ ap (λ (o : _). is_sink s && (not (is_some (location_of s)) || is_some o)) (written_is s file)
+    ∙ with_own (is_sink s) (is_some (location_of s)) file ∙ sym (sink_made s file)
 
 -- where no file is named none is read, and none written
 pub opens_none : (s : Settings) → location_of s ≡ None → (reads s ≡ false) × (writes s ≡ false)
-opens_none s none = (no (eqb (sink_pads s) 0), no (eqb (source_pads s) 0))
+opens_none s none = (no (is_source s), no (is_sink s))
   where
     no : (b : Bool) → (b && is_some (location_of s)) ≡ false
     no true = ap is_some none

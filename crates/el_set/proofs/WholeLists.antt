@@ -1,5 +1,5 @@
 -- The plain evaluation, item by item.
-use Rattle.std.proofs.Common.{◌≡◌, ℕ, ◌+◌, ◌<◌, ◌≤◌, Bool, true, false, List, [], ◌∷◌, ◌++◌, length, map, take, drop, get_or, refl, sym, ap, ◌∙◌, Option, None, Some, Result, Ok, Err, arith, add-one, drop-cons}
+use Rattle.std.proofs.Common.{◌≡◌, ℕ, ◌+◌, ◌<◌, ◌≤◌, Bool, true, false, List, [], ◌∷◌, ◌++◌, length, map, replicate, take, drop, get_or, refl, sym, ap, ◌∙◌, Option, None, Some, Result, Ok, Err, arith, add-one, drop-cons}
 use Rattle.std.proofs.lemmas.List.{take_more, take_all, take-append-drop}
 use Rattle.gst_caps.specs.declared.caps.Caps.{Caps}
 use Rattle.gst_item.specs.declared.out.Out.{Out}
@@ -10,11 +10,10 @@ use Rattle.flow_model.specs.Call.{Call, Feed, feeds}
 use Rattle.flow_model.specs.Rule.{Response, Fault, Fed, unfed, fed_item, all_called}
 use Rattle.flow_model.specs.Feeding.{on_pad, next_owed, IsFaultOf}
 use Rattle.el_set.specs.declared.filter.FilterElement.{FilterElement}
-use Rattle.el_set.specs.declared.filter.FilterElement.TheVariants as elements
 use Rattle.el_settings.specs.declared.settings.Settings.{Settings}
 use Rattle.el_settings.specs.Values.{or_else}
 use Rattle.el_settings.specs.Asked.{source_pads, with_allowed}
-use Rattle.el_set.specs.Denoted.{response_of, fault_at, first_fault_from, first_fault, next_fault, answered, only_input, on_pads, IsOwed, IsDenoted}
+use Rattle.el_set.specs.Denoted.{response_of, fault_at, first_fault_from, first_fault, next_fault, answered, only_input, IsOwed, IsDenoted}
 use Rattle.el_set.specs.Stands.{Stands, PutsOut}
 use Rattle.el_set.specs.Stepping.{TookAll}
 use Rattle.el_settings.proofs.Allowing.{sources_set}
@@ -142,11 +141,11 @@ owed_all respond element items out made p e =
     (p.whole, e ∙ ap (λ (os : List Out). map (λ (o : Out). o.item) os) p.outs ∙ items_on_pad 0 p.put ∙ elements_owe respond element (feeds items) p.put p.stands)
 
 pub denoted_ok : (settings : Settings) (caps : Caps) (inputs : List (List Item)) (items : List Item) (r : Result (List Item) ElementFault) (owed : List Item) (outputs : List (List Item)) → r ≡ Ok owed
-    → only_input inputs ≡ items → IsOwed (response_of (with_allowed caps settings)) items r → outputs ≡ on_pads (source_pads settings) owed
+    → only_input inputs ≡ items → IsOwed (response_of (with_allowed caps settings)) items r → outputs ≡ replicate (source_pads settings) owed
     → IsDenoted (with_allowed caps settings) inputs (Ok outputs)
 denoted_ok settings caps inputs items r owed outputs is only p made =
     let q : IsOwed (response_of (with_allowed caps settings)) items (Ok owed) = rw is at p in
-    rw (only, sources_set caps settings) (q.0, made ∙ ap (on_pads (source_pads settings)) q.1)
+    rw (only, sources_set caps settings) (q.0, made ∙ ap (replicate (source_pads settings)) q.1)
 
 pub denoted_err : (settings : Settings) (caps : Caps) (inputs : List (List Item)) (items : List Item) (r : Result (List Item) ElementFault) (fault : ElementFault) → r ≡ Err fault
     → only_input inputs ≡ items → IsOwed (response_of (with_allowed caps settings)) items r → IsDenoted (with_allowed caps settings) inputs (Err fault)

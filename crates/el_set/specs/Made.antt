@@ -1,16 +1,20 @@
 -- What is made by settings.
-use Rattle.std.specs.Prelude.{◌≡◌, ℕ, Bool, true, false, List, [], Option, None, Some, is_some}
+use Rattle.std.specs.Prelude.{◌≡◌, ℕ, Bool, true, false, List, [], replicate, Option, None, Some, is_some}
 use Rattle.std.specs.Option.{ForSome, option_map}
 use Rattle.flow_model.specs.Item.{Item}
 use Rattle.flow_model.specs.Source.{file_list}
+use Rattle.el_basic.specs.declared.tee.Tee.{Tee}
+use Rattle.el_basic.specs.Spread.{Spread, pad_count}
 use Rattle.el_src.specs.Ramp.{ramp_list}
 use Rattle.el_settings.specs.declared.settings.Settings.{Settings}
 use Rattle.el_settings.specs.declared.settings.Settings.TheVariants.{FileSrc, RampTestSrc, FileSink, FakeSink}
 use Rattle.el_set.specs.declared.filter.FilterElement.{FilterElement}
+use Rattle.el_set.specs.declared.join.JoinElement.{JoinElement}
 use Rattle.el_set.specs.declared.source.SourceElement.{SourceElement}
 use Rattle.el_set.specs.declared.sink.SinkElement.{SinkElement}
-use Rattle.el_settings.specs.Asked.{is_filter}
-use Rattle.el_set.specs.Denoted.{response_of}
+use Rattle.el_settings.specs.Asked.{is_filter, makes_sinks, makes_sources, sink_pads, source_pads}
+use Rattle.el_set.specs.Denoted.{response_of, rule_of, answers_of}
+use Rattle.el_set.specs.Joins.{JoinStands, join_rule, join_answers, join_pads}
 use Rattle.el_set.specs.Stands.{Stands}
 use Rattle.el_set.specs.Gives.{SourceGave, source_items, source_file}
 use Rattle.el_set.specs.Holds.{SinkHeld, sink_file, sink_len}
@@ -19,6 +23,28 @@ use Rattle.el_set.specs.Holds.{SinkHeld, sink_file, sink_len}
 abbrev pub IsFilterFor : Settings → Option FilterElement → Type 0
 IsFilterFor settings None = is_filter settings ≡ false
 IsFilterFor settings (Some element) = (is_filter settings ≡ true) × Stands (response_of settings) element [] []
+
+-- it has the source pads of its settings, all made before anything was given
+pub record MadeTee (settings : Settings) (tee : Tee) : Type 0 where
+  pub kind : makes_sources settings ≡ true
+  pub spread : Spread tee (replicate (source_pads settings) 0) [] (replicate (source_pads settings) [])
+  pub pads : pad_count tee ≡ source_pads settings
+
+abbrev pub IsTeeFor : Settings → Option Tee → Type 0
+IsTeeFor settings None = makes_sources settings ≡ false
+IsTeeFor settings (Some tee) = MadeTee settings tee
+
+-- it has the rule and the sink pads of its settings, and was given nothing yet
+pub record MadeJoin (settings : Settings) (join : JoinElement) : Type 0 where
+  pub kind : makes_sinks settings ≡ true
+  pub rule : join_rule join ≡ rule_of settings
+  pub answers : join_answers join ≡ answers_of settings
+  pub stands : JoinStands join (replicate (sink_pads settings) []) []
+  pub pads : join_pads join ≡ sink_pads settings
+
+abbrev pub IsJoinFor : Settings → Option JoinElement → Type 0
+IsJoinFor settings None = makes_sinks settings ≡ false
+IsJoinFor settings (Some join) = MadeJoin settings join
 
 -- whether there is a source of these settings that reads this
 abbrev pub makes_source : {S : Type 0} → Settings → Option S → Bool

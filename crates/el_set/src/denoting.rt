@@ -1,10 +1,10 @@
 //! The plain evaluation of elements over whole lists.
-ghost use Rattle.std.specs.Prelude.{◌≡◌, ◌≢◌, true, false, ◌++◌, ◌∷◌, [], List, map, length, IfOk, IfErr, OnOk};
+ghost use Rattle.std.specs.Prelude.{◌≡◌, ◌≢◌, true, false, ◌++◌, ◌∷◌, [], List, map, replicate, length, IfOk, IfErr, OnOk};
 ghost use Rattle.flow_model.specs.Item.{Item as PadItem, is_flush_stop};
 ghost use Rattle.flow_model.specs.Feeding.{IsFaultOf};
 ghost use Rattle.flow_model.specs.Rule.{Response};
-ghost use Rattle.el_settings.specs.Asked.{sink_pads, source_pads, with_allowed};
-ghost use Rattle.el_set.specs.Denoted.{IsDenoted, IsOwed, on_pads, answered, next_fault, response_of};
+ghost use Rattle.el_settings.specs.Asked.{makes_sinks, sink_pads, source_pads, with_allowed};
+ghost use Rattle.el_set.specs.Denoted.{IsDenoted, IsOwed, answered, next_fault, response_of};
 ghost use Rattle.el_set.specs.Stands.{Stands};
 ghost use Rattle.el_set.specs.Stepping.{TookAll};
 
@@ -20,7 +20,8 @@ use std::alloc::Global;
 use std::collections::VecDeque;
 
 /// What an element with these settings owes for whole lists, one for each sink pad: a list for each of its source
-/// pads. A converter may put out the allowed caps. The fault is the first of the element's rule.
+/// pads, which a tee owes all the same. A converter may put out the allowed caps. The fault is the first of the element's
+/// rule. An element of which links make the sink pads is not asked here.
 pub fn denote(
     alloc: Global,
     settings: &Settings,
@@ -29,6 +30,7 @@ pub fn denote(
     inputs: &List<List<Item>>,
 ) -> Result<List<List<Item>>, ElementFault>
     requires no_source { sink_pads settings.now ≢ 0 }
+    requires no_join { makes_sinks settings.now ≡ false }
     requires inputs { length inputs.now ≡ sink_pads settings.now }
     requires pads { _pads ≡ source_pads settings.now }
     ensures { IsDenoted (with_allowed allowed.now settings.now) inputs.now result }
@@ -65,13 +67,38 @@ fn on_pads(
     settings: &Settings,
     output: List<Item>,
 ) -> Result<List<List<Item>>, OutOfMemory>
-    ensures { IfOk result (λ made. made ≡ on_pads (source_pads settings.now) output) }
+    ensures { IfOk result (λ made. made ≡ replicate (source_pads settings.now) output) }
 {
-    let mut outputs = List::new(alloc);
-    if !settings.is_sink() {
-        outputs.push(alloc, output)?;
+    let pads = settings.source_pads();
+    if pads == 0 {
+        return Ok(List::new(alloc));
     }
+    let mut outputs = copies(alloc, pads - 1, output.as_slice())?;
+    outputs.push(alloc, output)?;
     Ok(outputs)
+}
+
+/// So many copies of items; the bodies of buffers are shared.
+fn copies(alloc: Global, count: u32, items: &[Item]) -> Result<List<List<Item>>, OutOfMemory>
+    ensures { IfOk result (λ made. made ≡ replicate count items.now) }
+{
+    let mut lists = List::new(alloc);
+    for _pad in 0..count {
+        let copy = items_again(alloc, items)?;
+        lists.push(alloc, copy)?;
+    }
+    Ok(lists)
+}
+
+/// The same items once more.
+fn items_again(alloc: Global, items: &[Item]) -> Result<List<Item>, OutOfMemory>
+    ensures { IfOk result (λ made. made ≡ items.now) }
+{
+    let mut copies = List::new(alloc);
+    for item in items {
+        copies.push(alloc, item.copy(alloc)?)?;
+    }
+    Ok(copies)
 }
 
 /// What an element that was fed nothing owes for a whole list.

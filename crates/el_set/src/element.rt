@@ -2,8 +2,10 @@
 ghost use Rattle.std.specs.Prelude.{◌≡◌};
 
 use crate::filter::FilterElement;
+use crate::join::JoinElement;
 use crate::sink::SinkElement;
 use crate::source::SourceElement;
+use el_basic::Tee;
 use el_settings::QueueSettings;
 
 /// An element, by its role in a stream.
@@ -13,6 +15,8 @@ pub enum Element<S, K> {
     Filter(FilterElement),
     /// A queue of these limits, which passes all. Its items stand in its lane.
     Queue(QueueSettings),
+    Tee(Tee),
+    Join(JoinElement),
     Sink(SinkElement<K>),
 }
 
@@ -20,9 +24,9 @@ impl<S: Drop, K: Drop> Element<S, K> {
     ghost use Rattle.el_set.specs.Roles.{is_lane};
 
     /// Whether a link to the element is a lane.
-    pub fn is_queue(&self) -> bool
+    pub fn is_lane(&self) -> bool
         ensures { result ≡ is_lane self.now }
     {
-        matches!(self, Element::Queue(_))
+        matches!(self, Element::Queue(_) | Element::Join(_))
     }
 }

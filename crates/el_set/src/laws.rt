@@ -1,5 +1,5 @@
 //! Laws of elements. Each function does nothing: its contract is the law.
-ghost use Rattle.std.specs.Prelude.{◌≡◌, ℕ, List, [], Ok, true, false, All};
+ghost use Rattle.std.specs.Prelude.{◌≡◌, ◌<◌, ◌∷◌, ℕ, List, [], Ok, Some, None, true, false, All, length, replicate};
 ghost use Rattle.gst_caps.specs.declared.caps.Caps.{Caps};
 ghost use Rattle.el_basic.specs.Filters.{filters};
 ghost use Rattle.audio_info.specs.Templates.{raw_template as split_template};
@@ -9,13 +9,17 @@ ghost use Rattle.el_settings.specs.declared.settings.AudioBufferSplitSettings.{A
 ghost use Rattle.el_settings.specs.declared.settings.Settings.{Settings};
 ghost use Rattle.el_settings.specs.declared.settings.Settings.TheVariants.{AudioBufferSplit as Splitting, WavEnc as WritingWav};
 ghost use Rattle.el_wavenc.specs.Templates.{sink_template as wavenc_template};
-ghost use Rattle.flow_model.specs.Item.{Item, eos_among};
-ghost use Rattle.flow_model.specs.Call.{Call, feeds};
+ghost use Rattle.flow_model.specs.Item.{Item, eos_among, is_flush_stop};
+ghost use Rattle.flow_model.specs.Call.{Call, Feed, feeds};
+ghost use Rattle.flow_model.specs.Prefix.{IsPrefix, ArePrefixes};
+ghost use Rattle.flow_model.specs.SinkPads.{InSection, push_calls};
 ghost use Rattle.flow_model.specs.Sticky.{has_flush_stop, in_force};
 ghost use Rattle.flow_model.specs.Section.{section, IsPlain};
 ghost use Rattle.flow_model.specs.Rule.{Response, unfed, all_called, owed_for, passes};
 ghost use Rattle.flow_model.specs.Feeding.{has_item, has_eos, next_owed};
 ghost use Rattle.el_set.specs.declared.filter.FilterElement.{FilterElement};
+ghost use Rattle.el_set.specs.declared.join.JoinElement.{JoinElement};
+ghost use Rattle.el_set.specs.Joins.{EachEnded, JoinStands, OpenGrows, join_answers, join_pads, join_rule, join_wanted, may_take};
 ghost use Rattle.el_set.specs.Stands.{Stands};
 ghost use Rattle.el_set.specs.Ends.{MeetsNoFault, EndsWithEos, RowEndsWithEos};
 
@@ -93,6 +97,41 @@ pub fn rows_end_with_eos()
 pub fn no_fault_was_met()
     ensures { (respond : Response) (element : FilterElement) (list put : List Item) → has_flush_stop list ≡ false → Stands respond element (feeds list) put
         → MeetsNoFault respond list }
+{}
+
+/// Whatever the sink pads of an element with several of them are given, in no section it owes a FLUSH_STOP, or anything behind
+/// an EOS; and where they are given nothing, it owes nothing.
+pub fn joins_owe_plain()
+    ensures plain { (join : JoinElement) (given : List (List Call)) (port j : ℕ) → IsPlain (join_rule join given port j) }
+    ensures opens { (join : JoinElement) (pads port j : ℕ) → join_rule join (replicate pads []) port j ≡ [] }
+{}
+
+/// What such an element owes for what it took begins what it owes for whatever its sink pads are given further.
+pub fn joins_owe_in_order()
+    ensures { (join : JoinElement) (took whole : List (List Call)) (put : List Item) → JoinStands join took put → ArePrefixes took whole
+        → (port j : ℕ) → IsPrefix (join_rule join took port j) (join_rule join whole port j) }
+{}
+
+/// What such an element answers to an item is what it owes more, in the section that is open.
+pub fn joins_owe_more()
+    ensures { (join : JoinElement) (pad : ℕ) (item : Item) (more : List Item) (took : List (List Call)) (put : List Item) (n : ℕ) → JoinStands join took put
+        → pad < length took → is_flush_stop item ≡ false → InSection n took → join_answers join took pad item ≡ Ok more
+        → OpenGrows (join_rule join) took (push_calls pad (Feed item ∷ []) took) n more }
+{}
+
+/// Such an element hands EOS on: where EOS came on each of its sink pads, the section that is open has EOS.
+pub fn joins_end_with_eos()
+    ensures { (join : JoinElement) (took : List (List Call)) (put : List Item) (n : ℕ) → JoinStands join took put → 0 < length took → InSection n took
+        → EachEnded took → (port : ℕ) → eos_among (join_rule join took port n) ≡ true }
+{}
+
+/// The sink pad that such an element wants is there, and it may take an item on it; where it wants none, EOS came on each.
+pub fn joins_want_open_pads()
+    ensures pads { (join : JoinElement) (took : List (List Call)) (put : List Item) → JoinStands join took put → length took ≡ join_pads join }
+    ensures within { (join : JoinElement) (pad : ℕ) → join_wanted join ≡ Some pad → pad < join_pads join }
+    ensures order { (join : JoinElement) (took : List (List Call)) (put : List Item) (pad : ℕ) → JoinStands join took put → join_wanted join ≡ Some pad
+        → may_take pad join ≡ true }
+    ensures none { (join : JoinElement) (took : List (List Call)) (put : List Item) → JoinStands join took put → join_wanted join ≡ None → EachEnded took }
 {}
 
 /// The template of a sink pad is the one that its element tells where it refuses caps: wavenc before its CAPS are

@@ -4,6 +4,7 @@
 mod denoting;
 pub mod element;
 pub mod filter;
+pub mod join;
 pub mod laws;
 mod making;
 pub mod sink;
@@ -12,6 +13,7 @@ pub mod source;
 pub use denoting::denote;
 pub use element::Element;
 pub use filter::FilterElement;
-pub use making::{filter_of, sink_of, source_of};
+pub use join::JoinElement;
+pub use making::{filter_of, join_of, sink_of, source_of, tee_of};
 pub use sink::SinkElement;
 pub use source::SourceElement;

@@ -1,14 +1,17 @@
 //! Elements, made by what they are set to.
 ghost use Rattle.std.specs.Prelude.{◌≡◌, IfOk};
 ghost use Rattle.el_settings.specs.Asked.{title_of};
-ghost use Rattle.el_set.specs.Made.{IsFilterFor, IsSourceFor, IsSinkFor};
+ghost use Rattle.el_set.specs.Made.{IsFilterFor, IsTeeFor, IsJoinFor, IsSourceFor, IsSinkFor};
 
 use crate::filter::FilterElement;
+use crate::join::JoinElement;
 use crate::sink::SinkElement;
 use crate::source::SourceElement;
-use el_basic::{CapsFilter, Identity};
+use el_basic::{CapsFilter, Identity, Tee};
 use el_convert::Convert;
+use el_join::Concat;
 use el_law::Law;
+use el_mix::Mix;
 use el_parse::{RawParse, Split};
 use el_settings::Settings;
 use el_sink::{FakeSink, FileSink};
@@ -20,7 +23,7 @@ use gst_value::{OutOfMemory, Text};
 use std::alloc::Global;
 
 /// The element of these settings between one sink pad and one source pad, which was fed nothing yet. None where they
-/// are those of a source, a queue or a sink.
+/// are those of a source, a queue, a tee, an element with several sink pads or a sink.
 pub fn filter_of(alloc: Global, settings: &Settings) -> Result<Option<FilterElement>, OutOfMemory>
     ensures { IfOk result (IsFilterFor settings.now) }
 {
@@ -44,8 +47,40 @@ pub fn filter_of(alloc: Global, settings: &Settings) -> Result<Option<FilterElem
         Settings::FileSrc(_)
         | Settings::RampTestSrc(_)
         | Settings::Queue(_)
+        | Settings::Tee(_)
+        | Settings::Interleave(_)
+        | Settings::Concat(_)
         | Settings::FileSink(_)
         | Settings::FakeSink => Ok(None),
+    }
+}
+
+/// The tee of these settings, with all of its source pads, which was fed nothing yet. None where they are those of another
+/// element. Takes no memory.
+pub fn tee_of(settings: &Settings) -> Option<Tee>
+    ensures { IsTeeFor settings.now result }
+{
+    match settings {
+        Settings::Tee(pads) => Some(Tee::new(pads.count())),
+        _ => None,
+    }
+}
+
+/// The element of these settings with several sink pads, which was fed nothing yet. None where they are those of another
+/// element.
+pub fn join_of(alloc: Global, settings: &Settings) -> Result<Option<JoinElement>, OutOfMemory>
+    ensures { IfOk result (IsJoinFor settings.now) }
+{
+    match settings {
+        Settings::Interleave(pads) => {
+            let mix = Mix::new(alloc, pads.count())?;
+            Ok(Some(JoinElement::Mix(mix)))
+        }
+        Settings::Concat(pads) => {
+            let concat = Concat::new(alloc, pads.count())?;
+            Ok(Some(JoinElement::Concat(concat)))
+        }
+        _ => Ok(None),
     }
 }
 

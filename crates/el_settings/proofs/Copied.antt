@@ -4,6 +4,7 @@ use Rattle.std.proofs.Props.{props}
 use Rattle.audio_info.specs.declared.info.Info.{Info}
 use Rattle.audio_info.specs.declared.sample.Sample.{Sample}
 use Rattle.el_src.specs.declared.ramp_src.Ramp.{Ramp}
+use Rattle.el_settings.specs.declared.pads.MadePads.{MadePads}
 use Rattle.el_settings.specs.declared.settings.FileSrcSettings.{FileSrcSettings}
 use Rattle.el_settings.specs.declared.settings.RampTestSrcSettings.{RampTestSrcSettings}
 use Rattle.el_settings.specs.declared.settings.AudioBufferSplitSettings.{AudioBufferSplitSettings}
@@ -92,3 +93,13 @@ info_same s t f r c =
     (subst (λ (n : ℕ). SameInfo t t.format n s.channels) (sym r)
     (subst (λ (n : ℕ). SameInfo t t.format t.rate n) (sym c) (info_as_it_is t)))
     s.some_rate s.rate_in_range s.some_channels s.channels_in_range
+
+-- so many pads are so many, whatever shows that they are few
+abbrev SamePads : MadePads → ℕ → Type 0
+SamePads s count = (a : count ≤ 64) → record { count = count; few = a } ≡ s
+
+pads_as_they_are : (s : MadePads) → SamePads s s.count
+pads_as_they_are s a = rw (at_least s.count 64 a s.few) refl
+
+pub pads_same : (s t : MadePads) → s.count ≡ t.count → s ≡ t
+pads_same s t p = subst (λ (n : ℕ). SamePads t n) (sym p) (pads_as_they_are t) s.few

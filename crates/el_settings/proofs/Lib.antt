@@ -5,3 +5,4 @@ pub mod Given
 pub mod Faults
 pub mod Copied
 pub mod OneSet
+pub mod Padded

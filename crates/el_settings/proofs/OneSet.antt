@@ -16,16 +16,16 @@ use Rattle.el_settings.specs.declared.domain.Domain.{Domain}
 use Rattle.el_settings.specs.declared.fault.PropFault.{PropFault}
 use Rattle.el_settings.specs.declared.fault.PropFault.TheVariants.{NoSuchKind, NoSuchProperty, BadValue, OutOfMemory}
 use Rattle.el_settings.specs.declared.kind.Kind.{Kind}
-use Rattle.el_settings.specs.declared.kind.Kind.TheVariants.{FileSrc, RampTestSrc, Identity, CapsFilter, Queue, AudioConvert, Law, RawAudioParse, AudioBufferSplit, WavParse, WavEnc, FileSink, FakeSink}
+use Rattle.el_settings.specs.declared.kind.Kind.TheVariants.{FileSrc, RampTestSrc, Identity, CapsFilter, Queue, Tee, AudioConvert, Law, RawAudioParse, AudioBufferSplit, WavParse, WavEnc, Interleave, Concat, FileSink, FakeSink}
 use Rattle.el_settings.specs.declared.settings.FileSrcSettings.{FileSrcSettings}
 use Rattle.el_settings.specs.declared.settings.QueueSettings.{QueueSettings}
 use Rattle.el_settings.specs.declared.settings.RampTestSrcSettings.{RampTestSrcSettings}
 use Rattle.el_settings.specs.declared.settings.FileSinkSettings.{FileSinkSettings}
 use Rattle.el_settings.specs.declared.settings.Settings.{Settings}
-use Rattle.el_settings.specs.declared.settings.Settings.TheVariants.{FileSrc as FileSrcBy, RampTestSrc as RampTestSrcBy, Identity as IdentityBy, CapsFilter as CapsFilterBy, Queue as QueueBy, AudioConvert as AudioConvertBy, Law as LawBy, RawAudioParse as RawAudioParseBy, AudioBufferSplit as AudioBufferSplitBy, WavParse as WavParseBy, WavEnc as WavEncBy, FileSink as FileSinkBy, FakeSink as FakeSinkBy}
+use Rattle.el_settings.specs.declared.settings.Settings.TheVariants.{FileSrc as FileSrcBy, RampTestSrc as RampTestSrcBy, Identity as IdentityBy, CapsFilter as CapsFilterBy, Queue as QueueBy, Tee as TeeBy, AudioConvert as AudioConvertBy, Law as LawBy, RawAudioParse as RawAudioParseBy, AudioBufferSplit as AudioBufferSplitBy, WavParse as WavParseBy, WavEnc as WavEncBy, Interleave as InterleaveBy, Concat as ConcatBy, FileSink as FileSinkBy, FakeSink as FakeSinkBy}
 use Rattle.caps_text.specs.Grammar.{IsCapsText}
 use Rattle.el_settings.specs.Alike.{AreAlike, AreLike, IsUnjudged}
-use Rattle.el_settings.proofs.Copied.{file_same, ramp_same, split_same, info_same}
+use Rattle.el_settings.proofs.Copied.{file_same, ramp_same, split_same, info_same, pads_same}
 
 -- each text stands for one caps
 abbrev pub OneReading : Type 0
@@ -107,6 +107,9 @@ set_one one Queue props (QueueBy s) (QueueBy t) h g =
     ap QueueBy (queue_one s t (number_one (codes "max-size-buffers") 200 props s.buffers t.buffers h.0 g.0) (number_one (codes "max-size-bytes") 10485760 props s.bytes t.bytes h.1 g.1) (number_one (codes "max-size-time") 1000000000 props s.time t.time h.2 g.2))
 set_one one Queue props (QueueBy s) _ h g = absurd g
 set_one one Queue props _ t h g = absurd h
+set_one one Tee props (TeeBy s) (TeeBy t) h g = ap TeeBy (pads_same s t (h ∙ sym g))
+set_one one Tee props (TeeBy s) _ h g = absurd g
+set_one one Tee props _ t h g = absurd h
 set_one one AudioConvert props (AudioConvertBy s) (AudioConvertBy t) h g = ap (λ (c : Caps). AudioConvertBy (record { allowed = c })) (h ∙ sym g)
 set_one one AudioConvert props (AudioConvertBy s) _ h g = absurd g
 set_one one AudioConvert props _ t h g = absurd h
@@ -126,6 +129,12 @@ set_one one WavParse props _ t h g = absurd h
 set_one one WavEnc props WavEncBy WavEncBy h g = refl
 set_one one WavEnc props WavEncBy _ h g = absurd g
 set_one one WavEnc props _ t h g = absurd h
+set_one one Interleave props (InterleaveBy s) (InterleaveBy t) h g = ap InterleaveBy (pads_same s t (h ∙ sym g))
+set_one one Interleave props (InterleaveBy s) _ h g = absurd g
+set_one one Interleave props _ t h g = absurd h
+set_one one Concat props (ConcatBy s) (ConcatBy t) h g = ap ConcatBy (pads_same s t (h ∙ sym g))
+set_one one Concat props (ConcatBy s) _ h g = absurd g
+set_one one Concat props _ t h g = absurd h
 set_one one FileSink props (FileSinkBy s) (FileSinkBy t) h g = ap FileSinkBy (file_sink_one s t (some_one (last_value (codes "location") props) s.location t.location h.0 g.0) (switch_one (codes "keep-flushed") props s.keep_flushed t.keep_flushed h.1 g.1))
 set_one one FileSink props (FileSinkBy s) _ h g = absurd g
 set_one one FileSink props _ t h g = absurd h
@@ -191,6 +200,9 @@ unfit_one RawAudioParse props a b h g = absurd h
 unfit_one AudioBufferSplit props a b h g = absurd h
 unfit_one WavParse props a b h g = absurd h
 unfit_one WavEnc props a b h g = absurd h
+unfit_one Tee props a b h g = absurd h
+unfit_one Interleave props a b h g = absurd h
+unfit_one Concat props a b h g = absurd h
 unfit_one FakeSink props a b h g = absurd h
 
 -- a ramp that is set does not end too late
@@ -223,6 +235,9 @@ set_unfit RawAudioParse props s name h g = absurd g
 set_unfit AudioBufferSplit props s name h g = absurd g
 set_unfit WavParse props s name h g = absurd g
 set_unfit WavEnc props s name h g = absurd g
+set_unfit Tee props s name h g = absurd g
+set_unfit Interleave props s name h g = absurd g
+set_unfit Concat props s name h g = absurd g
 set_unfit FakeSink props s name h g = absurd g
 
 fault_one : (kind : Kind) (props : List Prop) (f g : PropFault) → IsFault kind props f → IsFault kind props g → AreLike f g

@@ -5,17 +5,17 @@ use Rattle.gst_value.specs.declared.name.Prop.{Prop}
 use Rattle.audio_info.specs.declared.sample.Sample.TheVariants.{S16LE}
 use Rattle.el_src.specs.Ramp.{frame_time}
 use Rattle.el_settings.specs.declared.kind.Kind.{Kind}
-use Rattle.el_settings.specs.declared.kind.Kind.TheVariants.{FileSrc, RampTestSrc, Identity, CapsFilter, Queue, AudioConvert, Law, RawAudioParse, AudioBufferSplit, WavParse, WavEnc, FileSink, FakeSink}
+use Rattle.el_settings.specs.declared.kind.Kind.TheVariants.{FileSrc, RampTestSrc, Identity, CapsFilter, Queue, Tee, AudioConvert, Law, RawAudioParse, AudioBufferSplit, WavParse, WavEnc, Interleave, Concat, FileSink, FakeSink}
 use Rattle.el_settings.specs.declared.domain.Domain.{Domain}
 use Rattle.el_settings.specs.declared.settings.Settings.{Settings}
-use Rattle.el_settings.specs.declared.settings.Settings.TheVariants.{FileSrc as FileSrcBy, RampTestSrc as RampTestSrcBy, Identity as IdentityBy, CapsFilter as CapsFilterBy, Queue as QueueBy, AudioConvert as AudioConvertBy, Law as LawBy, RawAudioParse as RawAudioParseBy, AudioBufferSplit as AudioBufferSplitBy, WavParse as WavParseBy, WavEnc as WavEncBy, FileSink as FileSinkBy, FakeSink as FakeSinkBy}
+use Rattle.el_settings.specs.declared.settings.Settings.TheVariants.{FileSrc as FileSrcBy, RampTestSrc as RampTestSrcBy, Identity as IdentityBy, CapsFilter as CapsFilterBy, Queue as QueueBy, Tee as TeeBy, AudioConvert as AudioConvertBy, Law as LawBy, RawAudioParse as RawAudioParseBy, AudioBufferSplit as AudioBufferSplitBy, WavParse as WavParseBy, WavEnc as WavEncBy, Interleave as InterleaveBy, Concat as ConcatBy, FileSink as FileSinkBy, FakeSink as FakeSinkBy}
 use Rattle.el_settings.specs.declared.fault.PropFault.{PropFault}
 use Rattle.el_settings.specs.declared.fault.PropFault.TheVariants.{NoSuchKind, NoSuchProperty, BadValue, OutOfMemory}
 use Rattle.el_settings.specs.Kinds.{kinds}
 use Rattle.el_settings.specs.Rows.{find_row, domain_named, InDomain}
 use Rattle.el_settings.specs.Values.{AllTaken, last_value, NumberOr, SwitchOr, FormatOr, CapsOr}
 
--- What an element of a kind is set to. A converter is allowed to put out all caps.
+-- What an element of a kind is set to. A converter is allowed to put out all caps, and no pad was made yet.
 abbrev pub IsSetTo : Kind → List Prop → Settings → Type 0
 IsSetTo FileSrc props (FileSrcBy s) = (last_value (codes "location") props ≡ Some s.location) × NumberOr (codes "blocksize") 4096 props s.blocksize
 IsSetTo RampTestSrc props (RampTestSrcBy s) =
@@ -31,6 +31,7 @@ IsSetTo Queue props (QueueBy s) =
     NumberOr (codes "max-size-buffers") 200 props s.buffers
     × NumberOr (codes "max-size-bytes") 10485760 props s.bytes
     × NumberOr (codes "max-size-time") 1000000000 props s.time
+IsSetTo Tee props (TeeBy pads) = pads.count ≡ 0
 IsSetTo AudioConvert props (AudioConvertBy s) = s.allowed ≡ Any
 IsSetTo (Law kind) props (LawBy own) = own ≡ kind
 IsSetTo RawAudioParse props (RawAudioParseBy info) =
@@ -40,6 +41,8 @@ IsSetTo RawAudioParse props (RawAudioParseBy info) =
 IsSetTo AudioBufferSplit props (AudioBufferSplitBy s) = NumberOr (codes "frames") 1024 props s.frames
 IsSetTo WavParse props WavParseBy = Unit {0}
 IsSetTo WavEnc props WavEncBy = Unit {0}
+IsSetTo Interleave props (InterleaveBy pads) = pads.count ≡ 0
+IsSetTo Concat props (ConcatBy pads) = pads.count ≡ 0
 IsSetTo FileSink props (FileSinkBy s) = (last_value (codes "location") props ≡ Some s.location) × SwitchOr (codes "keep-flushed") props s.keep_flushed
 IsSetTo FakeSink props FakeSinkBy = Unit {0}
 IsSetTo _ props settings = ⊥

@@ -6,7 +6,7 @@ use Rattle.audio_info.specs.declared.sample.Sample.{Sample}
 use Rattle.audio_info.specs.declared.sample.Sample.TheVariants.{S8, U8, S16LE, S16BE, S24LE, S32LE}
 use Rattle.caps_text.specs.Grammar.{IsCapsText}
 use Rattle.el_settings.specs.declared.kind.Kind.{Kind}
-use Rattle.el_settings.specs.declared.kind.Kind.TheVariants.{FileSrc, RampTestSrc, Identity, CapsFilter, Queue, AudioConvert, Law, RawAudioParse, AudioBufferSplit, WavParse, WavEnc, FileSink, FakeSink}
+use Rattle.el_settings.specs.declared.kind.Kind.TheVariants.{FileSrc, RampTestSrc, Identity, CapsFilter, Queue, Tee, AudioConvert, Law, RawAudioParse, AudioBufferSplit, WavParse, WavEnc, Interleave, Concat, FileSink, FakeSink}
 use Rattle.el_settings.specs.declared.domain.Domain.{Domain}
 use Rattle.el_settings.specs.declared.domain.Domain.TheVariants.{Name, Text, Number, Switch, Off, NotLeaky, Format, Caps as CapsTexts}
 use Rattle.el_settings.specs.Numbers.{IsNumber}
@@ -26,12 +26,15 @@ own_rows CapsFilter = (codes "caps", CapsTexts) ∷ []
 own_rows Queue =
     (codes "max-size-buffers", Number 0 4294967295) ∷ (codes "max-size-bytes", Number 0 4294967295) ∷ (codes "max-size-time", Number 0 9223372036854775807)
     ∷ (codes "leaky", NotLeaky) ∷ []
+own_rows Tee = []
 own_rows AudioConvert = []
 own_rows (Law kind) = []
 own_rows RawAudioParse = (codes "pcm-format", Format) ∷ (codes "sample-rate", Number 1 768000) ∷ (codes "num-channels", Number 1 64) ∷ []
 own_rows AudioBufferSplit = (codes "frames", Number 1 1000000) ∷ []
 own_rows WavParse = []
 own_rows WavEnc = []
+own_rows Interleave = []
+own_rows Concat = []
 own_rows FileSink = (codes "location", Text) ∷ (codes "keep-flushed", Switch) ∷ (codes "sync", Off) ∷ []
 own_rows FakeSink = (codes "sync", Off) ∷ []
 

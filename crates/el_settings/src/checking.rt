@@ -8,6 +8,7 @@ ghost use Rattle.el_settings.specs.Checked.{IsSetTo, IsOwnFault, IsJudged, IsMis
 use crate::domain::domain_named;
 use crate::fault::PropFault;
 use crate::kind::{Kind, kind_named};
+use crate::pads::MadePads;
 use crate::settings::{
     AudioBufferSplitSettings, AudioConvertSettings, CapsFilterSettings, FileSinkSettings,
     FileSrcSettings, QueueSettings, RampTestSrcSettings, Settings,
@@ -91,6 +92,7 @@ fn settings_of(alloc: Global, kind: Kind, props: &[Prop]) -> Result<Settings, Pr
         Kind::Identity => Ok(Settings::Identity),
         Kind::CapsFilter => caps_filter(alloc, props),
         Kind::Queue => Ok(queue(props)),
+        Kind::Tee => Ok(Settings::Tee(MadePads::none())),
         Kind::AudioConvert => Ok(Settings::AudioConvert(AudioConvertSettings {
             allowed: Caps::Any,
         })),
@@ -99,6 +101,8 @@ fn settings_of(alloc: Global, kind: Kind, props: &[Prop]) -> Result<Settings, Pr
         Kind::AudioBufferSplit => Ok(audio_buffer_split(props)),
         Kind::WavParse => Ok(Settings::WavParse),
         Kind::WavEnc => Ok(Settings::WavEnc),
+        Kind::Interleave => Ok(Settings::Interleave(MadePads::none())),
+        Kind::Concat => Ok(Settings::Concat(MadePads::none())),
         Kind::FileSink => file_sink(alloc, props),
         Kind::FakeSink => Ok(Settings::FakeSink),
     }

@@ -9,12 +9,14 @@ mod kind;
 pub mod laws;
 mod number;
 mod pad_caps;
+mod pads;
 mod settings;
 mod templates;
 mod values;
 
 pub use checking::check;
 pub use fault::PropFault;
+pub use pads::MadePads;
 pub use settings::{
     AudioBufferSplitSettings, AudioConvertSettings, CapsFilterSettings, FileSinkSettings,
     FileSrcSettings, QueueSettings, RampTestSrcSettings, Settings,

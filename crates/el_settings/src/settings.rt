@@ -2,6 +2,7 @@
 ghost use Rattle.std.specs.Prelude.{◌≡◌, ◌≤◌, ◌<◌, ◌*◌, ◌/◌, ◌^◌, IfOk};
 ghost use Rattle.std.specs.Option.{option_map};
 
+use crate::pads::MadePads;
 use audio_info::Info;
 use el_law::LawKind;
 use el_src::Ramp;
@@ -83,6 +84,8 @@ pub enum Settings {
     Identity,
     CapsFilter(CapsFilterSettings),
     Queue(QueueSettings),
+    /// A tee, with its source pads.
+    Tee(MadePads),
     AudioConvert(AudioConvertSettings),
     /// A mulawenc, an alawenc, a mulawdec or an alawdec.
     Law(LawKind),
@@ -91,13 +94,18 @@ pub enum Settings {
     AudioBufferSplit(AudioBufferSplitSettings),
     WavParse,
     WavEnc,
+    /// An interleave, with its sink pads.
+    Interleave(MadePads),
+    /// A concat, with its sink pads.
+    Concat(MadePads),
     FileSink(FileSinkSettings),
     FakeSink,
 }
 
 impl Settings {
     ghost use Rattle.std.specs.Prelude.{◌==◌, if◌then◌else◌, Some, None};
-    ghost use Rattle.el_settings.specs.Asked.{sink_pads, source_pads, is_queue, limits_of, is_filter, may_be_replaced, is_settable};
+    ghost use Rattle.el_settings.specs.Asked.{is_sink, is_source, makes_sinks, makes_sources, sink_pads, source_pads, with_pads};
+    ghost use Rattle.el_settings.specs.Asked.{is_queue, limits_of, is_filter, may_be_replaced, is_settable};
     ghost use Rattle.el_settings.specs.Asked.{allowed_of, is_converter, with_allowed, hands_on, filter_caps, location_of, reads, writes, title_of};
 
     /// How many sink pads the element has.
@@ -109,6 +117,7 @@ impl Settings {
             Settings::Identity
             | Settings::CapsFilter(_)
             | Settings::Queue(_)
+            | Settings::Tee(_)
             | Settings::AudioConvert(_)
             | Settings::Law(_)
             | Settings::RawAudioParse(_)
@@ -117,6 +126,7 @@ impl Settings {
             | Settings::WavEnc
             | Settings::FileSink(_)
             | Settings::FakeSink => 1,
+            Settings::Interleave(pads) | Settings::Concat(pads) => pads.count(),
         }
     }
 
@@ -135,23 +145,52 @@ impl Settings {
             | Settings::RawAudioParse(_)
             | Settings::AudioBufferSplit(_)
             | Settings::WavParse
-            | Settings::WavEnc => 1,
+            | Settings::WavEnc
+            | Settings::Interleave(_)
+            | Settings::Concat(_) => 1,
+            Settings::Tee(pads) => pads.count(),
             Settings::FileSink(_) | Settings::FakeSink => 0,
         }
     }
 
     /// Whether the element gives items by itself.
     pub fn is_source(&self) -> bool
-        ensures { result ≡ (sink_pads self.now == 0) }
+        ensures { result ≡ is_source self.now }
     {
-        self.sink_pads() == 0
+        matches!(self, Settings::FileSrc(_) | Settings::RampTestSrc(_))
     }
 
     /// Whether items end at the element.
     pub fn is_sink(&self) -> bool
-        ensures { result ≡ (source_pads self.now == 0) }
+        ensures { result ≡ is_sink self.now }
     {
-        self.source_pads() == 0
+        matches!(self, Settings::FileSink(_) | Settings::FakeSink)
+    }
+
+    /// Whether each link that leaves the element makes a source pad of it.
+    pub fn makes_sources(&self) -> bool
+        ensures { result ≡ makes_sources self.now }
+    {
+        matches!(self, Settings::Tee(_))
+    }
+
+    /// Whether each link to the element makes a sink pad of it. Such a link is a lane, and the element the head of a task.
+    pub fn makes_sinks(&self) -> bool
+        ensures { result ≡ makes_sinks self.now }
+    {
+        matches!(self, Settings::Interleave(_) | Settings::Concat(_))
+    }
+
+    /// From now on an element that makes pads has so many of them. All other settings stay.
+    pub fn set_pads(&mut self, pads: MadePads)
+        ensures { self.new ≡ with_pads pads self.old }
+    {
+        match self {
+            Settings::Tee(own) => *own = pads,
+            Settings::Interleave(own) => *own = pads,
+            Settings::Concat(own) => *own = pads,
+            _ => {}
+        }
     }
 
     /// Whether a link to the element is a lane, and the element the head of a task.
@@ -301,6 +340,7 @@ impl Settings {
                 caps: settings.caps.copy(alloc)?,
             })),
             Settings::Queue(settings) => Ok(Settings::Queue(*settings)),
+            Settings::Tee(pads) => Ok(Settings::Tee(*pads)),
             Settings::AudioConvert(settings) => Ok(Settings::AudioConvert(AudioConvertSettings {
                 allowed: settings.allowed.copy(alloc)?,
             })),
@@ -309,6 +349,8 @@ impl Settings {
             Settings::AudioBufferSplit(settings) => Ok(Settings::AudioBufferSplit(*settings)),
             Settings::WavParse => Ok(Settings::WavParse),
             Settings::WavEnc => Ok(Settings::WavEnc),
+            Settings::Interleave(pads) => Ok(Settings::Interleave(*pads)),
+            Settings::Concat(pads) => Ok(Settings::Concat(*pads)),
             Settings::FileSink(settings) => Ok(Settings::FileSink(FileSinkSettings {
                 location: settings.location.copy(alloc)?,
                 keep_flushed: settings.keep_flushed,

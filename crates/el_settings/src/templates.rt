@@ -2,6 +2,7 @@
 ghost use Rattle.std.specs.Prelude.{◌≡◌, if◌then◌else◌, IfOk};
 ghost use Rattle.audio_info.specs.Templates.{raw_template as raw_template_of, sample_template as caps_of};
 ghost use Rattle.el_law.specs.Laws.{format_in, format_out};
+ghost use Rattle.el_mix.specs.Mono.{mono_template as a_mono_template};
 ghost use Rattle.el_settings.specs.Asked.{HasPad, template_of};
 ghost use Rattle.el_settings.specs.Templates.{read_audio as all_read, written_audio as all_written, wav_file as a_wav_file};
 
@@ -9,6 +10,7 @@ use crate::pad_caps::{read_audio, wav_file, written_audio};
 use crate::settings::Settings;
 use audio_info::{Sample, raw_template, sample_template};
 use el_law::LawKind;
+use el_mix::mono_template;
 use gst_caps::Caps;
 use gst_value::OutOfMemory;
 use std::alloc::Global;
@@ -32,9 +34,12 @@ pub fn template(
         Settings::AudioBufferSplit(_) => raw_template(alloc),
         Settings::WavParse => of_wav_parse(alloc, sink),
         Settings::WavEnc => of_wav_enc(alloc, sink),
+        Settings::Interleave(_) => of_interleave(alloc, sink),
         Settings::FileSrc(_)
         | Settings::Identity
         | Settings::Queue(_)
+        | Settings::Tee(_)
+        | Settings::Concat(_)
         | Settings::FileSink(_)
         | Settings::FakeSink => Ok(Caps::Any),
     }
@@ -79,6 +84,16 @@ fn of_wav_parse(alloc: Global, sink: bool) -> Result<Caps, OutOfMemory>
         Ok(Caps::Any)
     } else {
         read_audio(alloc)
+    }
+}
+
+fn of_interleave(alloc: Global, sink: bool) -> Result<Caps, OutOfMemory>
+    ensures { IfOk result (λ made. made ≡ (if sink then a_mono_template else raw_template_of)) }
+{
+    if sink {
+        mono_template(alloc)
+    } else {
+        raw_template(alloc)
     }
 }
 

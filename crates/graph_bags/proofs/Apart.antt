@@ -7,9 +7,10 @@ use Rattle.std.proofs.lemmas.List.FromFn.{length-map-range_with_len}
 use Rattle.std.proofs.lemmas.Option.{slice_get_within}
 use Rattle.flow_model.specs.Account.{IsMember}
 use Rattle.graph_core.specs.Elements.{Made}
-use Rattle.graph_core.specs.Links.{HasPads, sink_behind}
-use Rattle.graph_core.specs.declared.pad.PadLink.{PadLink}
-use Rattle.graph_core.specs.declared.pad.PadPlace.{PadPlace}
+use Rattle.graph_core.specs.Links.{HasPads}
+use Rattle.graph_pads.specs.Links.{sink_behind}
+use Rattle.graph_pads.specs.declared.pad.PadLink.{PadLink}
+use Rattle.graph_pads.specs.declared.pad.PadPlace.{PadPlace}
 use Rattle.graph_core.specs.LinkedOnce.{AreOnce}
 use Rattle.graph_bags.specs.Links.{has, has_inlets, is_head, source_count, place_at, link_to, pad_at, pads_of, LeadsInside, Reaches}
 use Rattle.graph_bags.specs.Bags.{Once, cells, head_of, HavePads, IsBag, heads_in, AreBags}

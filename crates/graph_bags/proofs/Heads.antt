@@ -9,8 +9,9 @@ use Rattle.std.proofs.lemmas.List.Elements.{All-push}
 use Rattle.flow_model.specs.Account.{IsMember}
 use Rattle.el_settings.specs.declared.settings.Settings.{Settings}
 use Rattle.graph_core.specs.Elements.{Made}
-use Rattle.graph_core.specs.declared.pad.PadLink.{PadLink}
-use Rattle.graph_bags.specs.Links.{has, has_inlets, is_head, is_source, Reaches}
+use Rattle.graph_pads.specs.declared.pad.PadLink.{PadLink}
+use Rattle.graph_bags.specs.Links.{has, has_inlets, is_head, Reaches}
+use Rattle.el_settings.specs.Asked.{is_source}
 use Rattle.graph_bags.specs.Bags.{Once, number_of, cells, head_number, head_of, IsHead, HavePads, GoBack, IsBag}
 use Rattle.graph_bags.specs.Walk.{AreReached, IsBagOf}
 use Rattle.graph_bags.specs.declared.bag.Bag.{Bag}

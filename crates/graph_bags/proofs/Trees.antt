@@ -4,17 +4,21 @@ use Rattle.std.specs.Prelude.{slice_get}
 use Rattle.std.specs.List.{range_with_len}
 use Rattle.std.specs.Option.{option_map_or}
 use Rattle.std.proofs.lemmas.Bool.Decides.{eqb_tells}
+use Rattle.std.proofs.lemmas.List.FromFn.{map-range_with_len_more}
 use Rattle.std.proofs.lemmas.Option.{slice_get_within}
 use Rattle.flow_model.specs.Account.{IsMember}
-use Rattle.el_settings.specs.Asked.{sink_pads}
-use Rattle.el_settings.proofs.Roles.{one_sink}
+use Rattle.el_settings.specs.Asked.{is_queue, is_source, makes_sinks, sink_pads}
+use Rattle.el_settings.proofs.Roles.{source_no_sink}
 use Rattle.graph_core.specs.Elements.{Made}
-use Rattle.graph_core.specs.Links.{HasPads, is_same, sink_behind, source_before}
-use Rattle.graph_core.specs.declared.pad.PadLink.{PadLink}
-use Rattle.graph_core.specs.declared.pad.PadPlace.{PadPlace}
+use Rattle.graph_core.specs.Links.{HasPads}
+use Rattle.graph_pads.specs.Links.{is_same, sink_behind, source_before}
+use Rattle.graph_pads.specs.declared.pad.PadLink.{PadLink}
+use Rattle.graph_pads.specs.declared.pad.PadPlace.{PadPlace}
 use Rattle.graph_core.specs.LinkedOnce.{AreOnce}
+use Rattle.el_settings.proofs.Padded.{one_sink}
 use Rattle.graph_bags.specs.declared.bag.BagLink.{BagLink}
 use Rattle.graph_bags.specs.declared.bag.BagLink.TheVariants.{Nothing, Element, Lane}
+use Rattle.graph_bags.specs.declared.bag.BagPad.{BagPad}
 use Rattle.graph_bags.specs.Links.{has, has_inlets, is_head, source_count, place_at, link_to, pad_at, pads_of, led_to, inside, LeadsInside, Reaches}
 use Rattle.graph_bags.specs.Bags.{Once}
 use Rattle.graph_bags.proofs.Walks.{IsTree}
@@ -107,9 +111,14 @@ sink_there made (l ∷ ls) all source sink at = go (is_same l.source source) at 
     go true at later = subst (λ (place : PadPlace). place.pad < sinks_at made place.element) (some_same at) (all 0 l (omega arith)).1
     go false at later = later at
 
+no_joins : (queue joins : Bool) → (queue || joins) ≡ false → joins ≡ false
+no_joins true joins none = absurd (cc)
+no_joins false joins none = none
+
+-- an element that is not fed from inlets has one sink pad at the most
 only_sink : (found : Option Made) (pad : ℕ) → option_map_or (λ (m : Made). has_inlets m.settings) found false ≡ false → pad < option_map_or (λ (m : Made). sink_pads m.settings) found 0 → pad ≡ 0
 only_sink None pad none w = absurd (omega (arith, w))
-only_sink (Some m) pad none w = let few = one_sink m.settings in omega (arith, few, w)
+only_sink (Some m) pad none w = let few = one_sink m.settings (no_joins (is_queue m.settings) (makes_sinks m.settings) none) in omega (arith, few, w)
 
 place_of : ℕ → ℕ → PadPlace
 place_of element pad = record { element = element; pad = pad }
@@ -122,12 +131,11 @@ alike one other e p = ap (λ (n : ℕ). place_of n one.pad) e ∙ ap (λ (n : �
 no_head_there : (found : Option Made) (pad : ℕ) → option_map_or (λ (m : Made). is_head m.settings) found false ≡ true → option_map_or (λ (m : Made). has_inlets m.settings) found false ≡ false
     → pad < option_map_or (λ (m : Made). sink_pads m.settings) found 0 → ⊥
 no_head_there None pad head none w = omega (arith, w)
-no_head_there (Some m) pad head none w = go (eqb_tells (sink_pads m.settings) 0) head
+no_head_there (Some m) pad head none w = go (is_source m.settings) refl head
   where
-    go : ((eqb (sink_pads m.settings) 0 ≡ true) × (sink_pads m.settings ≡ 0)) ⊎ ((eqb (sink_pads m.settings) 0 ≡ false) × (sink_pads m.settings ≡ 0 → ⊥))
-        → (eqb (sink_pads m.settings) 0 || has_inlets m.settings) ≡ true → ⊥
-    go (inl t) head = omega (arith, t.1, w)
-    go (inr f) head = no_true (rw (f.0, none) at head)
+    go : (b : Bool) → is_source m.settings ≡ b → (b || has_inlets m.settings) ≡ true → ⊥
+    go true is head = let no_sink = source_no_sink m.settings is in omega (arith, no_sink, w)
+    go false is head = no_true (sym none ∙ head)
 
 module _ (made : List Made) (links : List PadLink) (all : All (HasPads made) links) (once : AreOnce links) where
   -- one source pad at the most leads to an element that is not fed from inlets
@@ -183,3 +191,13 @@ reached_there made links all head there e (Reaches.further a d r l) = by (slice_
     by : (found : Option Made) → slice_get made e ≡ found → l.sink.pad < option_map_or (λ (m : Made). sink_pads m.settings) found 0 → e < length made
     by None at w = absurd (omega (arith, w))
     by (Some m) at w = slice_get_within made e m at
+
+-- one more source pad of an element
+abbrev pub leading : BagLink → BagPad
+leading leads = record { leads = leads }
+
+pub pads_more : (made : List Made) (links : List PadLink) (e k : ℕ) (pads pads' : List BagPad) (leads : BagLink) → pads ≡ map (pad_at made links e) (range_with_len 0 k)
+    → leads ≡ link_to made (sink_behind links (place_at e k)) → pads' ≡ pads ++ leading leads ∷ [] → pads' ≡ map (pad_at made links e) (range_with_len 0 (k + 1))
+pads_more made links e k pads pads' leads before is put =
+    put ∙ ap (λ (ps : List BagPad). ps ++ leading leads ∷ []) before ∙ ap (λ (l : BagLink). map (pad_at made links e) (range_with_len 0 k) ++ leading l ∷ []) is
+    ∙ sym (map-range_with_len_more (pad_at made links e) 0 k k (omega arith))

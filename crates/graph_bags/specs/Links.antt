@@ -1,23 +1,20 @@
 -- Where the source pads of a graph's elements lead, over lanes and over no lane.
-use Rattle.std.specs.Prelude.{◌≡◌, ◌<◌, ◌==◌, ◌||◌, ℕ, Bool, false, List, [], ◌∷◌, Option, None, Some, if◌then◌else◌, map, slice_get}
+use Rattle.std.specs.Prelude.{◌≡◌, ◌<◌, ◌||◌, ℕ, Bool, false, List, [], ◌∷◌, Option, None, Some, if◌then◌else◌, map, slice_get}
 use Rattle.std.specs.List.{flat_map, range_with_len}
 use Rattle.std.specs.Option.{option_map_or}
-use Rattle.el_settings.specs.Asked.{sink_pads, source_pads, is_queue}
+use Rattle.el_settings.specs.Asked.{is_queue, is_source, makes_sinks, source_pads}
 use Rattle.el_settings.specs.declared.settings.Settings.{Settings}
 use Rattle.graph_core.specs.Elements.{Made}
-use Rattle.graph_core.specs.Links.{sink_behind}
-use Rattle.graph_core.specs.declared.pad.PadLink.{PadLink}
-use Rattle.graph_core.specs.declared.pad.PadPlace.{PadPlace}
+use Rattle.graph_pads.specs.Links.{sink_behind}
+use Rattle.graph_pads.specs.declared.pad.PadLink.{PadLink}
+use Rattle.graph_pads.specs.declared.pad.PadPlace.{PadPlace}
 use Rattle.graph_bags.specs.declared.bag.BagLink.{BagLink}
 use Rattle.graph_bags.specs.declared.bag.BagLink.TheVariants.{Nothing, Element, Lane}
 use Rattle.graph_bags.specs.declared.bag.BagPad.{BagPad}
 
 -- whether an element that is set to this is fed from inlets, so that a link to it is a lane
 abbrev pub has_inlets : Settings → Bool
-has_inlets settings = is_queue settings
-
-abbrev pub is_source : Settings → Bool
-is_source settings = sink_pads settings == 0
+has_inlets settings = is_queue settings || makes_sinks settings
 
 -- a bag begins with a source, or with an element that is fed from inlets
 abbrev pub is_head : Settings → Bool

@@ -2,7 +2,7 @@
 use Rattle.std.specs.Prelude.{◌≡◌, ◌⊎◌, ℕ, List, [], ◌∷◌, ◌++◌, map}
 use Rattle.flow_model.specs.Account.{IsMember}
 use Rattle.graph_core.specs.Elements.{Made}
-use Rattle.graph_core.specs.declared.pad.PadLink.{PadLink}
+use Rattle.graph_pads.specs.declared.pad.PadLink.{PadLink}
 use Rattle.graph_bags.specs.Links.{inside, pads_of, Reaches}
 use Rattle.graph_bags.specs.Bags.{Once, number_of, head_of, HavePads, GoBack, IsBag}
 use Rattle.graph_bags.specs.declared.bag.Bag.{Bag}

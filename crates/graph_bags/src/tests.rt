@@ -4,11 +4,13 @@ use graph_core::{Graph, build};
 use gst_value::Text;
 use launch_text::parse;
 use std::alloc::Global;
+use std::fmt::Write;
 use std::process::Abort;
 use std::test::Fail;
 
 /// Each row: a line, and then its bags. A source stands before a colon, and an element that is fed from inlets before a
-/// bar; then the elements in the order in which their pads are tried. Behind each is where its pads lead.
+/// bar; then the elements in the order in which their pads are tried. Behind each is where its pads lead; of an element of
+/// several sink pads the number of the pad stands behind a comma.
 const ROWS: &str = "\
 fakesink ->
 filesrc location=a -> [filesrc0.:]
@@ -18,7 +20,15 @@ filesrc location=a ! queue ! identity ! queue ! queue ! fakesink -> [filesrc0|qu
 queue ! fakesink filesrc location=a ! identity -> [queue0| fakesink0 queue0>fakesink0] [filesrc0>identity0: identity0.]
 identity ! fakesink filesrc location=a -> [filesrc0.:]
 identity name=i ! fakesink queue name=q ! i. filesrc location=a ! q. -> [q| fakesink0 i>fakesink0 q>i] [filesrc0|q:]
-identity ! queue ! identity -> [queue0| identity1. queue0>identity1]";
+identity ! queue ! identity -> [queue0| identity1. queue0>identity1]
+tee ->
+filesrc location=a ! tee name=t ! filesink location=b t. ! fakesink -> [filesrc0>t: filesink0 fakesink0 t>filesink0>fakesink0]
+filesrc location=a ! tee name=t ! queue ! fakesink t. ! identity -> [filesrc0>t: identity0. t|queue0>identity0] [queue0| fakesink0 queue0>fakesink0]
+filesrc location=a ! tee name=t ! fakesink t. ! tee name=u ! fakesink u. ! queue -> [filesrc0>t: fakesink0 fakesink1 u>fakesink1|queue0 t>fakesink0>u] [queue0| queue0.]
+filesrc location=a ! tee name=t ! concat name=c ! fakesink t. ! identity ! c. -> [filesrc0>t: identity0|c,1 t|c,0>identity0] [c| fakesink0 c>fakesink0]
+concat name=c ! fakesink filesrc location=a ! c. filesrc location=b ! queue ! c. -> [c| fakesink0 c>fakesink0] [filesrc0|c,0:] [filesrc1|queue0:] [queue0| queue0|c,1]
+concat name=c filesrc location=a ! interleave name=v ! c. ramptestsrc ! v. -> [c| c.] [filesrc0|v,0:] [v| v|c] [ramptestsrc0|v,1:]
+concat name=c identity ! c. -> [c| c.]";
 
 fn put_name(into: &mut String, graph: &Graph, element: u32) -> Result<(), Fail> {
     let Some(name) = graph.name(element) else {
@@ -35,9 +45,12 @@ fn put_pad(into: &mut String, graph: &Graph, pad: BagPad) -> Result<(), Fail> {
             into.push('>')?;
             put_name(into, graph, element)?;
         }
-        BagLink::Lane { element, .. } => {
+        BagLink::Lane { element, pad } => {
             into.push('|')?;
             put_name(into, graph, element)?;
+            if graph.sink_pads(element) > 1 {
+                write!(into, ",{pad}")?;
+            }
         }
     }
     Ok(())

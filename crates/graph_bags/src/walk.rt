@@ -15,7 +15,7 @@ use std::alloc::Global;
 pub(crate) fn has_inlets(settings: &Settings) -> bool
     ensures { result ≡ has_inlets settings.now }
 {
-    settings.is_queue()
+    settings.is_queue() || settings.makes_sinks()
 }
 
 /// Whether an element is there and is fed from inlets.

@@ -2,13 +2,11 @@
 use Rattle.std.proofs.Common.{◌≡◌, ◌+◌, ◌&&◌, ◌||◌, ℕ, zero, suc, Bool, true, false, not, cond, List, [], ◌∷◌, ◌++◌, Some, map, slice_get, slice_set, refl, sym, ap, ◌∙◌, bytes_eq, count_by, fold, position, String, string_bytes, string_eq, if◌then◌else◌}
 use Rattle.std.proofs.lemmas.List.{length-map}
 use Rattle.indexmap.specs.IndexMap.{insert_entry, set_value_at}
-use Rattle.gst_caps.specs.declared.caps.Caps.{Caps}
-use Rattle.el_settings.specs.Asked.{with_allowed}
-use Rattle.graph_core.specs.Allowed.{with_caps}
 use Rattle.std.specs.List.{list_any, position_or_len}
 use Rattle.el_settings.specs.declared.settings.Settings.{Settings}
 use Rattle.graph_core.specs.Elements.{Made, made_of, has_number_of, numbered, is_named, is_name_taken, clash, is_location_taken}
 use Rattle.graph_core.specs.declared.element.Element.{Element}
+use Rattle.graph_core.proofs.Bare.{set_to}
 
 module _ {K : Type 0} (bytes : K → List ℕ) where
   abbrev pub made_by : K × Element → Made
@@ -33,16 +31,17 @@ module _ {K : Type 0} (bytes : K → List ℕ) where
   taken_made settings [] = refl
   taken_made settings (e ∷ es) = ap (λ b. clash e.1.settings settings || b) (taken_made settings es)
 
-  -- an element is set to put out these caps
-  pub set_made : (es : List (K × Element)) (i : ℕ) (x : Element) (caps : Caps) (settings : Settings) (m : Made) → slice_get (map (λ e. e.1) es) i ≡ Some x → slice_get (map made_by es) i ≡ Some m → settings ≡ with_allowed caps x.settings
-      → map made_by (set_value_at es i (record { kind = x.kind; is_numbered = x.is_numbered; settings = settings })) ≡ slice_set (map made_by es) i (with_caps caps m)
-  set_made [] i x caps settings m at made is = absurd (cc)
-  set_made (e ∷ es) zero x caps settings m at made is =
+  -- an element is set otherwise
+  pub set_made : (with : Settings → Settings) (es : List (K × Element)) (i : ℕ) (x : Element) (settings : Settings) (m : Made) → slice_get (map (λ e. e.1) es) i ≡ Some x → slice_get (map made_by es) i ≡ Some m → settings ≡ with x.settings
+      → map made_by (set_value_at es i (record { kind = x.kind; is_numbered = x.is_numbered; settings = settings })) ≡ slice_set (map made_by es) i (set_to m (with m.settings))
+  set_made with [] i x settings m at made is = absurd (cc)
+  set_made with (e ∷ es) zero x settings m at made is =
       let same : e.1 ≡ x = cc in
       let own : made_by e ≡ m = cc in
       ap (λ (y : Made). y ∷ map made_by es)
-      (ap (λ (s : Settings). let r : Made = record { name = bytes e.0; kind = x.kind; is_numbered = x.is_numbered; settings = s } in r) is ∙ ap (λ (z : Element). with_caps caps (made_by (e.0, z))) (sym same) ∙ ap (with_caps caps) own)
-  set_made (e ∷ es) (suc i) x caps settings m at made is = ap (λ (l : List Made). made_by e ∷ l) (set_made es i x caps settings m at made is)
+      (ap (λ (s : Settings). let r : Made = record { name = bytes e.0; kind = x.kind; is_numbered = x.is_numbered; settings = s } in r) is ∙ ap (λ (z : Element). let r : Made = made_by (e.0, z) in set_to r (with r.settings)) (sym same)
+      ∙ ap (λ (y : Made). set_to y (with y.settings)) own)
+  set_made with (e ∷ es) (suc i) x settings m at made is = ap (λ (l : List Made). made_by e ∷ l) (set_made with es i x settings m at made is)
 
 -- an element of a new name stands behind the others
 pub push_made : {Z : Type 0} (name : String Z) (x : Element) (es : List (String Z × Element)) → is_name_taken (string_bytes name) (map (made_by string_bytes) es) ≡ false

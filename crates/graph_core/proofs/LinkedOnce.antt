@@ -7,20 +7,20 @@ use Rattle.graph_core.specs.Asked.{End, asked}
 use Rattle.graph_core.specs.Comes.{Comes}
 use Rattle.graph_core.specs.Elements.{Made}
 use Rattle.graph_core.specs.Graph.{IsGraph, made as made_in, links as links_in}
-use Rattle.graph_core.specs.Links.{IsLinked, LinksCome, is_same, sink_behind, source_before}
+use Rattle.graph_core.specs.Links.{IsLinked, LinksCome}
+use Rattle.graph_pads.specs.Links.{is_same, sink_behind, source_before}
 use Rattle.graph_core.specs.declared.fault.BuildFault.{BuildFault}
 use Rattle.graph_core.specs.declared.graph.Graph.{Graph}
-use Rattle.graph_core.specs.declared.pad.PadLink.{PadLink}
-use Rattle.graph_core.specs.declared.pad.PadPlace.{PadPlace}
+use Rattle.graph_pads.specs.declared.pad.PadLink.{PadLink}
+use Rattle.graph_pads.specs.declared.pad.PadPlace.{PadPlace}
 use Rattle.launch_text.specs.declared.tree.Tree.{Tree}
 use Rattle.graph_core.specs.LinkedOnce.{AreOnce}
 
-place_of : ℕ → ℕ → PadPlace
+abbrev pub place_of : ℕ → ℕ → PadPlace
 place_of element pad = record { element = element; pad = pad }
 
 -- the same pad, or another
-same_or_other : (one other : PadPlace) → ((is_same one other ≡ true) × (one ≡ other)) ⊎ (is_same one other ≡ false)
-unfolding place_of
+pub same_or_other : (one other : PadPlace) → ((is_same one other ≡ true) × (one ≡ other)) ⊎ (is_same one other ≡ false)
 same_or_other one other = go (eqb_tells one.element other.element) (eqb_tells one.pad other.pad)
   where
     go : ((eqb one.element other.element ≡ true) × (one.element ≡ other.element)) ⊎ ((eqb one.element other.element ≡ false) × (one.element ≡ other.element → ⊥))
@@ -29,14 +29,14 @@ same_or_other one other = go (eqb_tells one.element other.element) (eqb_tells on
     go (inl e) (inr p) = inr (rw (e.0, p.0) refl)
     go (inr e) p = inr (rw e.0 refl)
 
-number_itself : (n : ℕ) → eqb n n ≡ true
+pub number_itself : (n : ℕ) → eqb n n ≡ true
 number_itself n = go (eqb_tells n n)
   where
     go : ((eqb n n ≡ true) × (n ≡ n)) ⊎ ((eqb n n ≡ false) × (n ≡ n → ⊥)) → eqb n n ≡ true
     go (inl t) = t.0
     go (inr f) = absurd (f.1 refl)
 
-itself : (one : PadPlace) → is_same one one ≡ true
+pub itself : (one : PadPlace) → is_same one one ≡ true
 itself one = rw (number_itself one.element, number_itself one.pad) refl
 
 -- the first link with a pad at one end tells the pad at the other
@@ -114,7 +114,7 @@ back_more key value links more none back one other h = by (look_back key value l
     by (inr new) = subst (λ (p : PadPlace). look value key (links ++ more ∷ []) p ≡ Some one) new.2 (look_new value key links more none ∙ ap Some new.1)
 
 -- the link at a place of some links and one more is one of them, or is the new one at the end
-at_more : (links : List PadLink) (more : PadLink) (j : ℕ) (link : PadLink) → slice_get (links ++ more ∷ []) j ≡ Some link → (slice_get links j ≡ Some link) ⊎ ((j ≡ length links) × (link ≡ more))
+pub at_more : (links : List PadLink) (more : PadLink) (j : ℕ) (link : PadLink) → slice_get (links ++ more ∷ []) j ≡ Some link → (slice_get links j ≡ Some link) ⊎ ((j ≡ length links) × (link ≡ more))
 at_more [] more zero link at = inr (refl, cc)
 at_more [] more (suc j) link at = absurd (cc)
 at_more (l ∷ links) more zero link at = inl at
@@ -157,7 +157,7 @@ module _ (key value : PadLink → PadPlace) where
 Both : List PadLink → Type 0
 Both links = (LeadBack source_of sink_of links × LeadBack sink_of source_of links) × (OneEach source_of sink_of links × OneEach sink_of source_of links)
 
-neither : (one other : Option PadPlace) → (is_some one || is_some other) ≡ false → (one ≡ None) × (other ≡ None)
+pub neither : (one other : Option PadPlace) → (is_some one || is_some other) ≡ false → (one ≡ None) × (other ≡ None)
 neither None None h = (refl, refl)
 neither None (Some p) h = absurd (cc)
 neither (Some p) other h = absurd (cc)

@@ -10,28 +10,28 @@ use Rattle.graph_core.specs.Links.{IsJoined, IsJudged, IsLinked, IsUnjoined, IsU
 use Rattle.graph_core.specs.declared.fault.BuildFault.{BuildFault}
 use Rattle.graph_core.specs.declared.fault.BuildFault.TheVariants.{NoSuch, LinkRefused}
 use Rattle.graph_core.specs.declared.fault.What.TheVariants.{Element as NoElement, Order as NoOrder}
-use Rattle.graph_core.specs.declared.pad.Direction.{Direction}
-use Rattle.graph_core.specs.declared.pad.Direction.TheVariants.{Source, Sink}
-use Rattle.graph_core.specs.declared.pad.Pad.{Pad}
-use Rattle.graph_core.specs.declared.pad.PadLink.{PadLink}
+use Rattle.graph_pads.specs.declared.pad.Direction.{Direction}
+use Rattle.graph_pads.specs.declared.pad.Direction.TheVariants.{Source, Sink}
+use Rattle.graph_pads.specs.declared.pad.Pad.{Pad}
+use Rattle.graph_pads.specs.declared.pad.PadLink.{PadLink}
 use Rattle.graph_core.proofs.ElementsAgree.{Agree, agree, never_true}
 
-pad_one : (made : List Made) (wanted : Direction) (element : ℕ) (wish : Option (List ℕ)) (a b : Result Pad BuildFault) → IsPadOf made wanted element wish a → IsPadOf made wanted element wish b → a ≡ b
-pad_one made wanted element wish a b (m, at, e) (n, there, f) = e ∙ ap (λ x. taken_pad wanted x element wish) (some_same (slice_get made element) m n at there) ∙ sym f
+pad_one : (made : List Made) (links : List PadLink) (wanted : Direction) (element : ℕ) (wish : Option (List ℕ)) (a b : Result Pad BuildFault) → IsPadOf made links wanted element wish a → IsPadOf made links wanted element wish b → a ≡ b
+pad_one made links wanted element wish a b (m, at, e) (n, there, f) = e ∙ ap (λ x. taken_pad links wanted x element wish) (some_same (slice_get made element) m n at there) ∙ sym f
   where
     some_same : (o : Option Made) (m n : Made) → o ≡ Some m → o ≡ Some n → m ≡ n
     some_same o m n e f = cc
 
-end_one : (made : List Made) (wanted : Direction) (end : End) (a b : Result Pad BuildFault) → IsEndPad made wanted end a → IsEndPad made wanted end b → a ≡ b
-end_one made wanted (own n) a b h g = pad_one made wanted n None a b h g
-end_one made wanted (named name wish) a b h g = by (position (is_named name) made) h g
+end_one : (made : List Made) (links : List PadLink) (wanted : Direction) (end : End) (a b : Result Pad BuildFault) → IsEndPad made links wanted end a → IsEndPad made links wanted end b → a ≡ b
+end_one made links wanted (own n) a b h g = pad_one made links wanted n None a b h g
+end_one made links wanted (named name wish) a b h g = by (position (is_named name) made) h g
   where
     missing_one : Result Pad BuildFault
     missing_one = Err (NoSuch name NoElement)
 
-    by : (o : Option ℕ) → MatchOption o (a ≡ Err (NoSuch name NoElement)) (λ n. IsPadOf made wanted n wish a) → MatchOption o (b ≡ Err (NoSuch name NoElement)) (λ n. IsPadOf made wanted n wish b) → a ≡ b
+    by : (o : Option ℕ) → MatchOption o (a ≡ Err (NoSuch name NoElement)) (λ n. IsPadOf made links wanted n wish a) → MatchOption o (b ≡ Err (NoSuch name NoElement)) (λ n. IsPadOf made links wanted n wish b) → a ≡ b
     by None h g = h ∙ sym g
-    by (Some n) h g = pad_one made wanted n wish a b h g
+    by (Some n) h g = pad_one made links wanted n wish a b h g
 
 abbrev okay : Pad → Result Pad BuildFault
 okay pad = Ok pad
@@ -117,23 +117,23 @@ link_same a b e f = ap (λ x. let r : PadLink = record { source = x; sink = a.si
 module _ (made : List Made) where
   linked_one : (ls : List PadLink) (ends : End × End) (a b : PadLink) → IsLinked made ls ends a → IsLinked made ls ends b → a ≡ b
   linked_one ls ends a b h g =
-      let left = okay_one h.left g.left (end_one made Source ends.0 (okay h.left) (okay g.left) h.leaves g.leaves) in
-      let right = okay_one h.right g.right (end_one made Sink ends.1 (okay h.right) (okay g.right) h.enters g.enters) in
+      let left = okay_one h.left g.left (end_one made ls Source ends.0 (okay h.left) (okay g.left) h.leaves g.leaves) in
+      let right = okay_one h.right g.right (end_one made ls Sink ends.1 (okay h.right) (okay g.right) h.enters g.enters) in
       link_same a b (h.joined.source ∙ ap (λ (p : Pad). p.place) left ∙ sym g.joined.source) (h.joined.sink ∙ ap (λ (p : Pad). p.place) right ∙ sym g.joined.sink)
 
-  both_unjoined : (ls : List PadLink) (ends : End × End) (l r from to : Pad) (fault : BuildFault) → IsEndPad made Source ends.0 (okay l) → IsEndPad made Sink ends.1 (okay r) → IsEndPad made Source ends.0 (okay from) → IsEndPad made Sink ends.1 (okay to)
+  both_unjoined : (ls : List PadLink) (ends : End × End) (l r from to : Pad) (fault : BuildFault) → IsEndPad made ls Source ends.0 (okay l) → IsEndPad made ls Sink ends.1 (okay r) → IsEndPad made ls Source ends.0 (okay from) → IsEndPad made ls Sink ends.1 (okay to)
       → IsUnjoined made ls from to fault → IsUnjoined made ls l r fault
   both_unjoined ls ends l r from to fault a b c d why =
-      subst (λ (p : Pad). IsUnjoined made ls p r fault) (okay_one from l (end_one made Source ends.0 (okay from) (okay l) c a)) (subst (λ (p : Pad). IsUnjoined made ls from p fault) (okay_one to r (end_one made Sink ends.1 (okay to) (okay r) d b)) why)
+      subst (λ (p : Pad). IsUnjoined made ls p r fault) (okay_one from l (end_one made ls Source ends.0 (okay from) (okay l) c a)) (subst (λ (p : Pad). IsUnjoined made ls from p fault) (okay_one to r (end_one made ls Sink ends.1 (okay to) (okay r) d b)) why)
 
   linked_unlinked : (ls : List PadLink) (ends : End × End) (link : PadLink) (fault : BuildFault) → IsLinked made ls ends link → IsUnlinked made ls ends fault → IsFree fault
-  linked_unlinked ls ends link fault h (IsUnlinked.left f e) = okay_failed h.left f (end_one made Source ends.0 (okay h.left) (failed f) h.leaves e)
-  linked_unlinked ls ends link fault h (IsUnlinked.right from f c e) = okay_failed h.right f (end_one made Sink ends.1 (okay h.right) (failed f) h.enters e)
+  linked_unlinked ls ends link fault h (IsUnlinked.left f e) = okay_failed h.left f (end_one made ls Source ends.0 (okay h.left) (failed f) h.leaves e)
+  linked_unlinked ls ends link fault h (IsUnlinked.right from f c e) = okay_failed h.right f (end_one made ls Sink ends.1 (okay h.right) (failed f) h.enters e)
   linked_unlinked ls ends link fault h (IsUnlinked.both from to f c d why) = joined_unjoined made ls h.left h.right link f h.joined (both_unjoined ls ends h.left h.right from to f h.leaves h.enters c d why)
   linked_unlinked ls ends link fault h IsUnlinked.memory = refl
 
   abbrev ToldEnds : List PadLink → End × End → BuildFault → Type 0
-  ToldEnds ls ends fault = IsFree fault ⊎ (IsEndPad made Source ends.0 (failed fault) ⊎ ((from : Pad) × IsEndPad made Source ends.0 (okay from) × (IsEndPad made Sink ends.1 (failed fault) ⊎ ((to : Pad) × IsEndPad made Sink ends.1 (okay to) × IsUnjoined made ls from to fault))))
+  ToldEnds ls ends fault = IsFree fault ⊎ (IsEndPad made ls Source ends.0 (failed fault) ⊎ ((from : Pad) × IsEndPad made ls Source ends.0 (okay from) × (IsEndPad made ls Sink ends.1 (failed fault) ⊎ ((to : Pad) × IsEndPad made ls Sink ends.1 (okay to) × IsUnjoined made ls from to fault))))
 
   told_ends : (ls : List PadLink) (ends : End × End) (fault : BuildFault) → IsUnlinked made ls ends fault → ToldEnds ls ends fault
   told_ends ls ends fault (IsUnlinked.left f e) = inr (inl e)
@@ -144,12 +144,12 @@ module _ (made : List Made) where
   ends_one : (ls : List PadLink) (ends : End × End) (f g : BuildFault) → ToldEnds ls ends f → ToldEnds ls ends g → AreSame f g
   ends_one ls ends f g (inl free) k = inr (inl free)
   ends_one ls ends f g (inr h) (inl free) = inr (inr free)
-  ends_one ls ends f g (inr (inl e)) (inr (inl u)) = inl (failed_one f g (end_one made Source ends.0 (failed f) (failed g) e u))
-  ends_one ls ends f g (inr (inl e)) (inr (inr (from, c, k))) = okay_failed from f (end_one made Source ends.0 (okay from) (failed f) c e)
-  ends_one ls ends f g (inr (inr (from, c, k))) (inr (inl u)) = okay_failed from g (end_one made Source ends.0 (okay from) (failed g) c u)
-  ends_one ls ends f g (inr (inr (from, c, inl e))) (inr (inr (from', c', inl u))) = inl (failed_one f g (end_one made Sink ends.1 (failed f) (failed g) e u))
-  ends_one ls ends f g (inr (inr (from, c, inl e))) (inr (inr (from', c', inr (to, d, why)))) = okay_failed to f (end_one made Sink ends.1 (okay to) (failed f) d e)
-  ends_one ls ends f g (inr (inr (from, c, inr (to, d, why)))) (inr (inr (from', c', inl u))) = okay_failed to g (end_one made Sink ends.1 (okay to) (failed g) d u)
+  ends_one ls ends f g (inr (inl e)) (inr (inl u)) = inl (failed_one f g (end_one made ls Source ends.0 (failed f) (failed g) e u))
+  ends_one ls ends f g (inr (inl e)) (inr (inr (from, c, k))) = okay_failed from f (end_one made ls Source ends.0 (okay from) (failed f) c e)
+  ends_one ls ends f g (inr (inr (from, c, k))) (inr (inl u)) = okay_failed from g (end_one made ls Source ends.0 (okay from) (failed g) c u)
+  ends_one ls ends f g (inr (inr (from, c, inl e))) (inr (inr (from', c', inl u))) = inl (failed_one f g (end_one made ls Sink ends.1 (failed f) (failed g) e u))
+  ends_one ls ends f g (inr (inr (from, c, inl e))) (inr (inr (from', c', inr (to, d, why)))) = okay_failed to f (end_one made ls Sink ends.1 (okay to) (failed f) d e)
+  ends_one ls ends f g (inr (inr (from, c, inr (to, d, why)))) (inr (inr (from', c', inl u))) = okay_failed to g (end_one made ls Sink ends.1 (okay to) (failed g) d u)
   ends_one ls ends f g (inr (inr (from, c, inr (to, d, why)))) (inr (inr (from', c', inr (to', d', how)))) = unjoined_one made ls from to f g why (both_unjoined ls ends from to from' to' g c d c' d' how)
 
   unlinked_one : (ls : List PadLink) (ends : End × End) (f g : BuildFault) → IsUnlinked made ls ends f → IsUnlinked made ls ends g → AreSame f g

@@ -1,8 +1,8 @@
 -- The pads of a graph by number, and its links.
-use Rattle.std.proofs.Common.{◌≡◌, ◌<◌, ◌⊎◌, ℕ, Bool, true, false, eqb, ◌&&◌, if◌then◌else◌, List, [], ◌∷◌, Option, None, Some, map, length, refl, sym, subst, inl, inr}
+use Rattle.std.proofs.Common.{◌≡◌, ◌<◌, ◌⊎◌, ◌%◌, ℕ, Bool, true, false, eqb, ◌&&◌, if◌then◌else◌, List, [], ◌∷◌, Option, None, Some, map, length, refl, sym, ap, ◌∙◌, subst, inl, inr}
 use Rattle.std.specs.Prelude.{slice_get}
 use Rattle.std.specs.List.{range_with_len}
-use Rattle.std.proofs.lemmas.Nat.{div-mul-add}
+use Rattle.std.proofs.lemmas.Nat.{div-mul-add, mod-mul-add}
 use Rattle.std.proofs.lemmas.Bool.Decides.{eqb_tells}
 use Rattle.flow_model.specs.Item.{Item}
 use Rattle.flow_model.specs.Call.{feeds}
@@ -11,15 +11,27 @@ use Rattle.flow_model.specs.Eval.{Plan}
 use Rattle.flow_model.specs.Account.{EachSource, EachSourceOf, GoesForward, IsMember}
 use Rattle.flow_model.proofs.Links.{link_input}
 use Rattle.graph_core.specs.Elements.{Made}
-use Rattle.graph_core.specs.Links.{source_before, is_same}
-use Rattle.graph_core.specs.declared.pad.PadLink.{PadLink}
-use Rattle.graph_core.specs.declared.pad.PadPlace.{PadPlace}
+use Rattle.graph_pads.specs.Links.{source_before, is_same}
+use Rattle.graph_pads.specs.declared.pad.PadLink.{PadLink}
+use Rattle.graph_pads.specs.declared.pad.PadPlace.{PadPlace}
 use Rattle.graph_core.specs.GraphPlan.{pad_id, owner_of, spans_from, sink_at, sink_count, line_plan, IsIn, GoesAlong, before_it}
+use Rattle.graph_core.proofs.LinkedOnce.{place_of}
 use Rattle.gst_value.proofs.Basics.{no_true}
 
 -- the pad of a number belongs to its element
 pub owner_at : (place : PadPlace) → place.pad < 64 → owner_of (pad_id place) ≡ place.element
 owner_at place few = div-mul-add place.element 64 place.pad few
+
+-- and has its place there
+pub port_at : (place : PadPlace) → place.pad < 64 → pad_id place % 64 ≡ place.pad
+port_at place few = mod-mul-add place.element 64 place.pad few
+
+pub pad_at_number : (place : PadPlace) → place.pad < 64 → place_of (owner_of (pad_id place)) (pad_id place % 64) ≡ place
+pad_at_number place few = ap (λ (n : ℕ). place_of n (pad_id place % 64)) (owner_at place few) ∙ ap (λ (n : ℕ). place_of place.element n) (port_at place few)
+
+-- so no two pads have one number
+pub same_pad : (one other : PadPlace) → one.pad < 64 → other.pad < 64 → pad_id one ≡ pad_id other → one ≡ other
+same_pad one other few few' same = sym (pad_at_number one few) ∙ ap (λ (d : ℕ). place_of (owner_of d) (d % 64)) same ∙ pad_at_number other few'
 
 -- what a linked sink pad is linked to is one of the links
 pub found_in : (links : List PadLink) (sink source : PadPlace) → source_before links sink ≡ Some source → (link : PadLink) × IsIn link links × (link.source ≡ source) × (is_same link.sink sink ≡ true)

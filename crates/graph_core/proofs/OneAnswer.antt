@@ -1,7 +1,7 @@
 -- A line has one graph, or one fault.
 use Rattle.std.proofs.Common.{◌≡◌, List, [], Result, Ok, Err, sym, ap, ◌∙◌, subst, inl, inr}
 use Rattle.launch_text.specs.declared.tree.Tree.{Tree}
-use Rattle.graph_core.specs.Allowed.{AreAllowed, IsTooWide, checked}
+use Rattle.graph_core.specs.Allowed.{AreAllowed, AreCounted, IsTooWide, checked}
 use Rattle.graph_core.specs.Asked.{End, asked, declared}
 use Rattle.graph_core.specs.Elements.{Made}
 use Rattle.graph_core.specs.Graph.{HasTooWide, IsFault, IsGraph, links as links_in, made as made_in}
@@ -9,10 +9,12 @@ use Rattle.graph_core.specs.Laws.{AreSame, IsFree, NeverBoth, OneFault, OneGraph
 use Rattle.graph_core.specs.Links.{LinksCome}
 use Rattle.graph_core.specs.declared.fault.BuildFault.{BuildFault}
 use Rattle.graph_core.specs.declared.graph.Graph.{Graph}
-use Rattle.graph_core.specs.declared.pad.PadLink.{PadLink}
-use Rattle.graph_core.proofs.Allowing.{allowed_same, checked_twice, never_too_wide, wide_alike}
+use Rattle.graph_pads.specs.declared.pad.PadLink.{PadLink}
+use Rattle.graph_core.proofs.Allowing.{never_too_wide, wide_alike}
+use Rattle.graph_core.proofs.Bare.{checked_twice}
 use Rattle.graph_core.proofs.ElementsAgree.{OneSetting, elements_agree}
 use Rattle.graph_core.proofs.LinksAgree.{links_agree}
+use Rattle.graph_core.proofs.SetAlike.{set_alike_same}
 
 -- the links of elements are those of the same elements
 links_of_same : (es : List (End × End)) (ms ns : List Made) (a : Result (List PadLink) BuildFault) → ms ≡ ns → LinksCome ms [] es a → LinksCome ns [] es a
@@ -55,4 +57,4 @@ pub one_graph : OneSetting → OneGraph
 one_graph one = λ tree graph other h k.
     let same = elements_agree one (declared tree) (Ok (checked (made_in graph))) (Ok (checked (made_in other))) h.elements k.elements in
     let linked = links_agree (checked (made_in graph)) (asked tree) (Ok (links_in graph)) (Ok (links_in other)) h.links (links_of_same (asked tree) (checked (made_in other)) (checked (made_in graph)) (Ok (links_in other)) (sym same) k.links) in
-    (allowed_same (made_in graph) (made_in other) (links_in graph) same h.allowed (subst (λ (ls : List PadLink). AreAllowed (made_in other) ls) (sym linked) k.allowed), linked)
+    (set_alike_same (made_in graph) (made_in other) (links_in graph) same h.allowed (subst (λ (ls : List PadLink). AreAllowed (made_in other) ls) (sym linked) k.allowed) h.pads (subst (λ (ls : List PadLink). AreCounted (made_in other) ls) (sym linked) k.pads), linked)

@@ -7,13 +7,13 @@ use Rattle.graph_order.specs.Forward.{IsMember, StandsBefore, GoForward}
 use Rattle.graph_order.specs.declared.link.Link.{Link}
 use Rattle.graph_order.proofs.Once.{Covers, Once, once_by, behind_member}
 use Rattle.el_settings.specs.Asked.{source_pads}
-use Rattle.el_settings.proofs.Roles.{one_source}
 use Rattle.graph_core.specs.Elements.{Made}
 use Rattle.graph_core.specs.Graph.{IsSound, made as made_in, links as links_in, forward as forward_in}
 use Rattle.graph_core.specs.Links.{HasPads, ways}
 use Rattle.graph_core.specs.declared.graph.Graph.{Graph}
-use Rattle.graph_core.specs.declared.pad.PadLink.{PadLink}
+use Rattle.graph_pads.specs.declared.pad.PadLink.{PadLink}
 use Rattle.graph_core.specs.GraphPlan.{IsIn, GoesAlong}
+use Rattle.el_settings.proofs.Padded.{few_sources}
 
 -- the sources of links to elements that come were seen, or come before these
 abbrev Comes : List PadLink → List ℕ → List ℕ → Type 0
@@ -47,7 +47,7 @@ pads_at_link made (l ∷ ls) all link (inr is) = pads_at_link made ls (λ k d w.
 
 few_pads : (found : Option Made) (pad : ℕ) → pad < option_map_or (λ (m : Made). source_pads m.settings) found 0 → pad < 64
 few_pads None pad w = absurd (omega (arith, w))
-few_pads (Some m) pad w = let one = one_source m.settings in omega (arith, w, one)
+few_pads (Some m) pad w = let few = few_sources m.settings in omega (arith, w, few)
 
 pub listed : (e : ℕ) (xs : List ℕ) → IsMember e xs → IsListed e xs
 listed e [] m = absurd m

@@ -6,10 +6,11 @@ use Rattle.graph_order.specs.declared.link.Link.{Link}
 use Rattle.graph_order.proofs.Once.{Covers, Once, once_by, behind_member}
 use Rattle.graph_core.specs.Allowed.{Falls}
 use Rattle.graph_core.specs.Elements.{Made}
-use Rattle.graph_core.specs.Links.{AreOrdered, all_links, is_same, sink_behind, ways}
+use Rattle.graph_core.specs.Links.{AreOrdered, all_links, ways}
+use Rattle.graph_pads.specs.Links.{is_same, sink_behind}
 use Rattle.graph_core.specs.declared.links.Links.{Links}
-use Rattle.graph_core.specs.declared.pad.PadLink.{PadLink}
-use Rattle.graph_core.specs.declared.pad.PadPlace.{PadPlace}
+use Rattle.graph_pads.specs.declared.pad.PadLink.{PadLink}
+use Rattle.graph_pads.specs.declared.pad.PadPlace.{PadPlace}
 
 -- how many elements stand behind the first place of one
 pub after : ℕ → List ℕ → ℕ

@@ -10,7 +10,7 @@ use Rattle.graph_core.specs.Elements.{Made, ElementsCome}
 use Rattle.graph_core.specs.Links.{AreOrdered, all_links, way_of}
 use Rattle.graph_core.specs.declared.fault.BuildFault.{BuildFault}
 use Rattle.graph_core.specs.declared.links.Links.{Links}
-use Rattle.graph_core.specs.declared.pad.PadLink.{PadLink}
+use Rattle.graph_pads.specs.declared.pad.PadLink.{PadLink}
 
 counted : (made : List Made) (y : Made) (d : Declared) (ds : List Declared) (answer : Result (List Made) BuildFault) → IfOk answer (λ ms. length ms ≡ length (made ++ y ∷ []) + length ds) → IfOk answer (λ ms. length ms ≡ length made + length (d ∷ ds))
 counted made y d ds (Ok ms) h = omega (arith, h, length-append made (y ∷ []))

@@ -5,7 +5,7 @@ use Rattle.std.specs.List.{list_any}
 use Rattle.std.specs.Option.{option_map_or}
 use Rattle.std.specs.String.{string_bytes}
 use Rattle.gst_value.specs.declared.name.Prop.{Prop}
-use Rattle.el_settings.specs.Asked.{location_of, source_pads}
+use Rattle.el_settings.specs.Asked.{is_sink, location_of}
 use Rattle.el_settings.specs.Checked.{IsAnswer}
 use Rattle.el_settings.specs.Values.{last_value}
 use Rattle.el_settings.specs.declared.settings.Settings.{Settings}
@@ -63,10 +63,6 @@ abbrev pub same_location : Option (List ℕ) → Option (List ℕ) → Bool
 same_location None other = false
 same_location (Some one) None = false
 same_location (Some one) (Some other) = bytes_eq one other
-
--- items end at a sink
-abbrev pub is_sink : Settings → Bool
-is_sink settings = source_pads settings == 0
 
 -- what is asked of the settings of an element, and no where it is not there
 abbrev pub has : (Settings → Bool) → List Made → ℕ → Bool

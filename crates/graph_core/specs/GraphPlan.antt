@@ -1,21 +1,21 @@
 -- The plan by which a launch line's graph is evaluated.
-use Rattle.std.specs.Prelude.{◌≡◌, ◌<◌, ◌+◌, ◌*◌, ◌/◌, ◌%◌, ◌==◌, ◌⊎◌, ℕ, List, [], ◌∷◌, Option, None, Some, if◌then◌else◌, map, slice_get}
+use Rattle.std.specs.Prelude.{◌≡◌, ◌<◌, ◌+◌, ◌*◌, ◌/◌, ◌%◌, ◌⊎◌, ℕ, List, [], ◌∷◌, Option, None, Some, if◌then◌else◌, map, slice_get}
 use Rattle.std.specs.List.{range_with_len}
 use Rattle.flow_model.specs.Item.{Item}
 use Rattle.flow_model.specs.Section.{first_section}
-use Rattle.flow_model.specs.Rule.{Rule, single}
+use Rattle.flow_model.specs.Rule.{Rule}
 use Rattle.flow_model.specs.Link.{Span, Linked}
 use Rattle.flow_model.specs.Eval.{Plan}
 use Rattle.flow_model.specs.Account.{IsMember}
-use Rattle.el_settings.specs.Asked.{sink_pads}
-use Rattle.el_set.specs.Denoted.{response_of}
+use Rattle.el_settings.specs.Asked.{is_source, sink_pads}
+use Rattle.el_set.specs.Denoted.{rule_of}
 use Rattle.el_set.specs.Made.{list_of}
 use Rattle.graph_core.specs.Elements.{Made}
 use Rattle.graph_core.specs.Graph.{made as made_in, links as links_in, forward as forward_in}
-use Rattle.graph_core.specs.Links.{source_before}
+use Rattle.graph_pads.specs.Links.{source_before}
 use Rattle.graph_core.specs.declared.graph.Graph.{Graph}
-use Rattle.graph_core.specs.declared.pad.PadLink.{PadLink}
-use Rattle.graph_core.specs.declared.pad.PadPlace.{PadPlace}
+use Rattle.graph_pads.specs.declared.pad.PadLink.{PadLink}
+use Rattle.graph_pads.specs.declared.pad.PadPlace.{PadPlace}
 
 -- the most source pads of an element
 abbrev pub most_pads : ℕ
@@ -48,7 +48,7 @@ sinks_in made links e = map (λ k. spans_from (source_before links (sink_at e k)
 -- what an element owes: a source its list, by the content of its file, and each other by the rule of its settings
 abbrev pub rule_for : Option Made → ℕ → List ℕ → Rule
 rule_for None e content = λ inputs port j. []
-rule_for (Some m) e content = if sink_pads m.settings == 0 then (λ inputs port. first_section (list_of m.settings e content)) else single (response_of m.settings)
+rule_for (Some m) e content = if is_source m.settings then (λ inputs port. first_section (list_of m.settings e content)) else rule_of m.settings
 
 -- The plan of a line: its elements with their links, what each reads, and how many items crossed each source pad.
 unfoldable pub line_plan : (ℕ → List ℕ) → List Made → List PadLink → List ℕ → (ℕ → ℕ) → Plan

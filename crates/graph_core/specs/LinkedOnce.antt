@@ -2,10 +2,10 @@
 use Rattle.std.specs.Prelude.{◌≡◌, ◌⊎◌, ℕ, List, Some, slice_get}
 use Rattle.launch_text.specs.declared.tree.Tree.{Tree}
 use Rattle.graph_core.specs.Graph.{IsGraph, links as links_in}
-use Rattle.graph_core.specs.Links.{sink_behind, source_before}
+use Rattle.graph_pads.specs.Links.{sink_behind, source_before}
 use Rattle.graph_core.specs.declared.graph.Graph.{Graph}
-use Rattle.graph_core.specs.declared.pad.PadLink.{PadLink}
-use Rattle.graph_core.specs.declared.pad.PadPlace.{PadPlace}
+use Rattle.graph_pads.specs.declared.pad.PadLink.{PadLink}
+use Rattle.graph_pads.specs.declared.pad.PadPlace.{PadPlace}
 
 -- Each pad stands in one link at the most: two links with a pad in common are one. And what is found from a pad leads
 -- back to it.

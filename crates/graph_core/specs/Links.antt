@@ -1,5 +1,5 @@
 -- Which links a line has, and why it has none.
-use Rattle.std.specs.Prelude.{◌≡◌, ◌<◌, ◌==◌, ◌&&◌, ◌||◌, ℕ, Bool, true, false, not, List, [], ◌∷◌, ◌++◌, Option, None, Some, Result, Ok, Err, if◌then◌else◌, IsTrue, is_some, map, length, slice_get}
+use Rattle.std.specs.Prelude.{◌≡◌, ◌<◌, ◌≤◌, ℕ, Bool, true, false, List, [], ◌∷◌, ◌++◌, Option, None, Some, Result, Ok, Err, IsTrue, map, length, slice_get}
 use Rattle.std.specs.Option.{option_map_or}
 use Rattle.gst_caps.specs.Accepts.{accepts}
 use Rattle.gst_value.specs.Description.{Description, IsFixed}
@@ -16,39 +16,16 @@ use Rattle.graph_core.specs.Comes.{Comes}
 use Rattle.graph_core.specs.Asked.{End}
 use Rattle.graph_core.specs.Elements.{Made}
 use Rattle.graph_core.specs.Ends.{IsEndPad, name_at, pad_name, pads_at}
+use Rattle.graph_pads.specs.Pads.{links_at, makes}
+use Rattle.graph_pads.specs.Links.{is_linked, is_wrong}
 use Rattle.graph_core.specs.declared.fault.BuildFault.{BuildFault}
 use Rattle.graph_core.specs.declared.fault.BuildFault.TheVariants.{NoSuch, LinkRefused, OutOfMemory}
 use Rattle.graph_core.specs.declared.fault.What.TheVariants.{Order}
 use Rattle.graph_core.specs.declared.links.Links.{Links}
-use Rattle.graph_core.specs.declared.pad.Direction.{Direction}
-use Rattle.graph_core.specs.declared.pad.Direction.TheVariants.{Source, Sink}
-use Rattle.graph_core.specs.declared.pad.Pad.{Pad}
-use Rattle.graph_core.specs.declared.pad.PadLink.{PadLink}
-use Rattle.graph_core.specs.declared.pad.PadPlace.{PadPlace}
-
-abbrev pub is_same : PadPlace → PadPlace → Bool
-is_same one other = (one.element == other.element) && (one.pad == other.pad)
-
--- the sink pad to which a source pad is linked
-abbrev pub sink_behind : List PadLink → PadPlace → Option PadPlace
-sink_behind [] source = None
-sink_behind (link ∷ links) source = if is_same link.source source then Some link.sink else sink_behind links source
-
--- the source pad that is linked to a sink pad
-abbrev pub source_before : List PadLink → PadPlace → Option PadPlace
-source_before [] sink = None
-source_before (link ∷ links) sink = if is_same link.sink sink then Some link.source else source_before links sink
-
-abbrev pub is_linked : List PadLink → Pad → Pad → Bool
-is_linked links left right = is_some (sink_behind links left.place) || is_some (source_before links right.place)
-
-abbrev pub leaves : Direction → Bool
-leaves Source = true
-leaves Sink = false
-
--- a link goes from a source pad to a sink pad
-abbrev pub is_wrong : Pad → Pad → Bool
-is_wrong left right = not (leaves left.direction) || leaves right.direction
+use Rattle.graph_pads.specs.declared.pad.Direction.{Direction}
+use Rattle.graph_pads.specs.declared.pad.Direction.TheVariants.{Source, Sink}
+use Rattle.graph_pads.specs.declared.pad.Pad.{Pad}
+use Rattle.graph_pads.specs.declared.pad.PadLink.{PadLink}
 
 -- the caps that an element's sink pads take, or else its source pads, where it is there
 abbrev pub caps_at : List Made → Bool → ℕ → Caps
@@ -94,20 +71,24 @@ pub data IsUnjoined (made : List Made) (links : List PadLink) (left right : Pad)
 pub record IsLinked (made : List Made) (links : List PadLink) (ends : End × End) (link : PadLink) : Type 0 where
   pub left : Pad
   pub right : Pad
-  pub leaves : IsEndPad made Source ends.0 (Ok left)
-  pub enters : IsEndPad made Sink ends.1 (Ok right)
+  pub leaves : IsEndPad made links Source ends.0 (Ok left)
+  pub enters : IsEndPad made links Sink ends.1 (Ok right)
   pub joined : IsJoined made links left right link
 
 -- why there is none: the left end, the right end, and the two pads, in this order
 pub data IsUnlinked (made : List Made) (links : List PadLink) (ends : End × End) : BuildFault → Type 0 where
-  left : (fault : BuildFault) → IsEndPad made Source ends.0 (Err fault) → IsUnlinked made links ends fault
-  right : (from : Pad) (fault : BuildFault) → IsEndPad made Source ends.0 (Ok from) → IsEndPad made Sink ends.1 (Err fault) → IsUnlinked made links ends fault
-  both : (from to : Pad) (fault : BuildFault) → IsEndPad made Source ends.0 (Ok from) → IsEndPad made Sink ends.1 (Ok to) → IsUnjoined made links from to fault → IsUnlinked made links ends fault
+  left : (fault : BuildFault) → IsEndPad made links Source ends.0 (Err fault) → IsUnlinked made links ends fault
+  right : (from : Pad) (fault : BuildFault) → IsEndPad made links Source ends.0 (Ok from) → IsEndPad made links Sink ends.1 (Err fault) → IsUnlinked made links ends fault
+  both : (from to : Pad) (fault : BuildFault) → IsEndPad made links Source ends.0 (Ok from) → IsEndPad made links Sink ends.1 (Ok to) → IsUnjoined made links from to fault → IsUnlinked made links ends fault
   memory : IsUnlinked made links ends OutOfMemory
 
 -- the links of a line between its elements, or why it has none
 abbrev pub LinksCome : List Made → List PadLink → List (End × End) → Result (List PadLink) BuildFault → Type 0
 LinksCome made = Comes (IsLinked made) (IsUnlinked made)
+
+-- no more than 64 links make pads of one direction of an element
+abbrev pub AreFew : List Made → List PadLink → Type 0
+AreFew made links = (e : ℕ) (m : Made) (direction : Direction) → slice_get made e ≡ Some m → makes direction m.settings ≡ true → links_at links direction e ≤ 64
 
 -- the link's pads are those of its elements
 abbrev pub HasPads : List Made → PadLink → Type 0

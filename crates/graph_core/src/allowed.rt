@@ -1,19 +1,19 @@
 //! The caps that converters are allowed to put out: those that are taken behind them.
-ghost use Rattle.std.specs.Prelude.{◌≡◌, ◌<◌, ◌≤◌, ◌+◌, ℕ, All, None, Some, IfErr, IfSome, OnOk, length, slice_get};
+ghost use Rattle.std.specs.Prelude.{◌≡◌, ◌<◌, ◌≤◌, ◌+◌, ℕ, All, Option, None, Some, IfErr, IfSome, OnOk, length, slice_get};
 ghost use Rattle.std.specs.Option.{option_map};
 ghost use Rattle.el_settings.specs.Asked.{sink_pads};
-ghost use Rattle.graph_core.specs.Allowed.{Allows, Answers, AreAllowed, AreAllowedBelow, Falls, IsWideFault, allowed_before, checked};
+ghost use Rattle.graph_core.specs.Allowed.{Allows, Answers, AreAllowed, AreAllowedBelow, AreCounted, Falls, IsWideFault, all_allowed, all_common, allowed_before};
 ghost use Rattle.graph_core.specs.Elements.{Made, all_made};
 ghost use Rattle.graph_core.specs.Ends.{pads_at};
 ghost use Rattle.graph_core.specs.Links.{AreOrdered, HasPads, all_links};
-ghost use Rattle.graph_core.specs.declared.pad.Direction.TheVariants.{Sink};
+ghost use Rattle.graph_pads.specs.declared.pad.Direction.TheVariants.{Sink};
+ghost use Rattle.gst_caps.specs.declared.caps.Caps.{Caps as ACaps};
 
 use crate::elements::Elements;
 use crate::fault::BuildFault;
-use crate::judging::sink_behind;
 use crate::links::Links;
-use crate::pad::{PadLink, PadPlace};
 use el_settings::{Settings, template};
+use graph_pads::{PadLink, PadPlace, sink_behind};
 use gst_caps::Caps;
 use gst_value::CapsFault;
 use std::alloc::Global;
@@ -24,7 +24,8 @@ use std::alloc::Global;
 pub(crate) fn allow(alloc: Global, elements: &mut Elements, links: &Links) -> Result<(), BuildFault>
     requires ordered { AreOrdered (all_made elements.old) links.now }
     requires pads { All (HasPads (all_made elements.old)) (all_links links.now) }
-    ensures stay { OnOk result (checked (all_made elements.new) ≡ checked (all_made elements.old)) }
+    requires counted { AreCounted (all_made elements.old) (all_links links.now) }
+    ensures stay { OnOk result (all_allowed (all_made elements.new) ≡ all_allowed (all_made elements.old)) }
     ensures allowed { OnOk result (AreAllowed (all_made elements.new) (all_links links.now)) }
     ensures fault { IfErr result (IsWideFault (all_made elements.old) (all_links links.now)) }
 {
@@ -44,7 +45,8 @@ fn allow_one(
     requires there { element < length (all_made elements.old) }
     requires ordered { AreOrdered (all_made elements.old) links.now }
     requires pads { All (HasPads (all_made elements.old)) (all_links links.now) }
-    ensures stay { OnOk result (checked (all_made elements.new) ≡ checked (all_made elements.old)) }
+    requires counted { AreCounted (all_made elements.old) (all_links links.now) }
+    ensures stay { OnOk result (all_allowed (all_made elements.new) ≡ all_allowed (all_made elements.old)) }
     ensures allowed { OnOk result (AreAllowedBelow element (all_made elements.old) (all_links links.now)
         → AreAllowedBelow (element + 1) (all_made elements.new) (all_links links.now)) }
     ensures fault { IfErr result (IsWideFault (all_made elements.old) (all_links links.now)) }
@@ -58,10 +60,11 @@ fn allow_one(
 }
 
 /// The caps that a source pad is allowed to have: all where it is not linked, those of the next source pad through an
-/// identity or a queue, and through a capsfilter those of them that are its own too, in the order of its own. Before
-/// any other element they are what the sink pad takes.
+/// identity or a queue, through a capsfilter those of them that are its own too, in the order of its own, and through a tee
+/// those that all its pads are allowed, in the order of its first pad. Before any other element they are what the sink pad
+/// takes.
 ///
-/// Answers `TooMany` where a capsfilter and what is allowed behind it have too many caps in common.
+/// Answers `TooMany` where a capsfilter and what is allowed behind it, or the pads of a tee, have too many caps in common.
 pub(crate) fn allowed_caps(
     alloc: Global,
     elements: &Elements,
@@ -70,7 +73,7 @@ pub(crate) fn allowed_caps(
 ) -> Result<Caps, CapsFault>
     requires { source.element < length (all_made elements.now) }
     ensures { AreOrdered (all_made elements.now) links.now → All (HasPads (all_made elements.now)) (all_links links.now)
-        → Answers (Allows (all_made elements.now) (all_links links.now) source) result }
+        → AreCounted (all_made elements.now) (all_links links.now) → Answers (Allows (all_made elements.now) (all_links links.now) source) result }
 {
     let links = links.made.as_slice();
     allowed_within(alloc, elements, links, source, elements.count())
@@ -79,6 +82,7 @@ pub(crate) fn allowed_caps(
 /// The caps that a source pad is allowed to have, where fewer than `limit` elements come one behind the other from it.
 /// In a graph whose links lead from pads that are there to pads that are there, and round in no circle, the limit is
 /// not reached, and each sink pad is that of an element.
+#[cycle(allowed)]
 fn allowed_within(
     alloc: Global,
     elements: &Elements,
@@ -86,8 +90,8 @@ fn allowed_within(
     source: PadPlace,
     limit: u32,
 ) -> Result<Caps, CapsFault>
-    ensures { (rank : ℕ → ℕ) → All (HasPads (all_made elements.now)) links.now → Falls links.now rank → rank source.element < limit
-        → Answers (Allows (all_made elements.now) links.now source) result }
+    ensures { (rank : ℕ → ℕ) → All (HasPads (all_made elements.now)) links.now → AreCounted (all_made elements.now) links.now → Falls links.now rank
+        → rank source.element < limit → Answers (Allows (all_made elements.now) links.now source) result }
 {
     if limit == 0 {
         return Ok(Caps::Any);
@@ -98,6 +102,10 @@ fn allowed_within(
     let Some(settings) = taker(elements, sink) else {
         return Ok(Caps::Any);
     };
+    if settings.makes_sources() {
+        let pads = settings.source_pads();
+        return common_caps(alloc, elements, links, sink.element, pads, limit - 1);
+    }
     if !settings.hands_on() {
         return Ok(template(alloc, settings, true, sink.pad)?);
     }
@@ -107,6 +115,30 @@ fn allowed_within(
     };
     let behind = allowed_within(alloc, elements, links, next, limit - 1)?;
     allowed_before(alloc, settings, behind)
+}
+
+/// The caps that all source pads of an element below a number are allowed to have, in the order of the first, where fewer than
+/// `limit` elements come one behind the other from it.
+#[cycle(allowed)]
+fn common_caps(
+    alloc: Global,
+    elements: &Elements,
+    links: &[PadLink],
+    element: u32,
+    pads: u32,
+    limit: u32,
+) -> Result<Caps, CapsFault>
+    ensures { (rank : ℕ → ℕ) → All (HasPads (all_made elements.now)) links.now → AreCounted (all_made elements.now) links.now → Falls links.now rank
+        → rank element < limit → (each : ℕ → Option ACaps)
+        → ((k : ℕ) → k < pads → Allows (all_made elements.now) links.now (record { element = element; pad = k }) (each k))
+        → Answers (λ answer. answer ≡ all_common each pads) result }
+{
+    let mut common = Caps::Any;
+    for pad in 0..pads {
+        let behind = allowed_within(alloc, elements, links, PadPlace { element, pad }, limit)?;
+        common = common.intersect(alloc, &behind)?;
+    }
+    Ok(common)
 }
 
 /// What the element of a sink pad is set to, where the pad is there.

@@ -4,6 +4,7 @@ ghost use Rattle.graph_core.specs.Graph.{IsGraph, IsFaultOrMemory, IsSound};
 
 use crate::allowed::allow;
 use crate::chains::chains_of;
+use crate::counting::count_pads;
 use crate::fault::BuildFault;
 use crate::graph::Graph;
 use crate::links::links_of;
@@ -12,8 +13,8 @@ use crate::making::elements_of;
 use launch_text::Tree;
 use std::alloc::Global;
 
-/// The graph of a launch line. The elements are checked in the order of the line, then the links, and then what each
-/// converter is allowed to put out; the first fault is answered.
+/// The graph of a launch line. The elements are checked in the order of the line, then the links, each of which may make
+/// pads of its elements, and then what each converter is allowed to put out; the first fault is answered.
 pub fn build(alloc: Global, tree: &Tree) -> Result<Graph, BuildFault>
     ensures graph { IfOk result (IsGraph tree.now) }
     ensures sound { IfOk result IsSound }
@@ -22,6 +23,7 @@ pub fn build(alloc: Global, tree: &Tree) -> Result<Graph, BuildFault>
     let chains = chains_of(alloc, tree)?;
     let mut elements = elements_of(alloc, chains.as_slice())?;
     let links = links_of(alloc, &elements, chains.as_slice())?;
+    count_pads(&mut elements, links.made.as_slice());
     allow(alloc, &mut elements, &links)?;
     let live = live_elements(alloc, &elements, links.made.as_slice())?;
     Ok(Graph {

@@ -3,7 +3,7 @@ ghost use Rattle.std.specs.Prelude.{◌≡◌, ◌≤◌};
 ghost use Rattle.indexmap.specs.IndexMap.{index_map_len};
 
 use crate::element::{Element, is_numbered, some_clash};
-use el_settings::Settings;
+use el_settings::{MadePads, Settings};
 use gst_caps::Caps;
 use gst_value::OutOfMemory;
 use indexmap::IndexMap;
@@ -22,7 +22,7 @@ pub(crate) struct Elements {
 impl Elements {
     ghost use Rattle.std.specs.Prelude.{◌<◌, ◌++◌, ◌∷◌, [], length, OnOk, OnErr, slice_get, slice_set, position, string_bytes, Some, false};
     ghost use Rattle.std.specs.Option.{option_map};
-    ghost use Rattle.graph_core.specs.Allowed.{with_caps};
+    ghost use Rattle.graph_core.specs.Allowed.{with_caps, with_made_pads};
     ghost use Rattle.graph_core.specs.Elements.{Made, made_of, all_made, numbered, is_named, is_name_taken, is_location_taken, limit};
 
     /// No elements.
@@ -81,6 +81,18 @@ impl Elements {
     {
         match self.by_name.get_index_mut(element as usize) {
             Some(element) => element.settings.set_allowed(caps),
+            None => unreachable!(),
+        }
+    }
+
+    /// From now on an element has so many of the pads that links make, if they make some. All other settings stay.
+    pub(crate) fn set_pads(&mut self, element: u32, pads: MadePads)
+        requires { element < length (all_made self.old) }
+        ensures { (m : Made) → slice_get (all_made self.old) element ≡ Some m
+            → all_made self.new ≡ slice_set (all_made self.old) element (with_made_pads pads m) }
+    {
+        match self.by_name.get_index_mut(element as usize) {
+            Some(element) => element.settings.set_pads(pads),
             None => unreachable!(),
         }
     }

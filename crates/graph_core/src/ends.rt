@@ -1,129 +1,110 @@
 //! The pads that the ends of a link take.
-ghost use Rattle.std.specs.Prelude.{◌≡◌, ◌<◌, ◌≤◌, ◌+◌, length, IfOk, Some, slice_get};
-ghost use Rattle.std.specs.Option.{option_map};
+ghost use Rattle.std.specs.Prelude.{◌≡◌, ◌<◌, ◌≤◌, ◌+◌, Ok, Err, length, IfOk, Some, slice_get};
 ghost use Rattle.graph_core.specs.Asked.{declared_by, end_of};
 ghost use Rattle.graph_core.specs.Elements.{Made, all_made};
-ghost use Rattle.graph_core.specs.Ends.{pad_count, pad_text, missing, pad_number, pad_named, dotted, named_pad, IsPadOf, IsEndPad, pad_at, pad_name, wish_of, PadOrMemory};
+ghost use Rattle.graph_core.specs.Ends.{missing, pad_or_many, dotted, named_pad, IsPadOf, IsEndPad, pad_name, wish_of, PadOrMemory};
 
 use crate::elements::Elements;
 use crate::fault::{BuildFault, What};
-use crate::pad::{Direction, Pad, PadPlace};
-use el_settings::Settings;
+use el_settings::MadePads;
+use graph_pads::{Direction, Pad, PadLink, PadPlace};
 use gst_value::{OutOfMemory, PadName, Text};
 use launch_text::Node;
 use std::alloc::Global;
 
-/// The pad that an end of a link takes. A node that makes an element makes the one of this number.
+/// The pad that an end of a link takes, where these links are there already. A node that makes an element makes the one of this
+/// number.
 pub(crate) fn end_pad(
     alloc: Global,
     elements: &Elements,
+    links: &[PadLink],
     wanted: Direction,
     node: &Node,
     number: u32,
 ) -> Result<Pad, BuildFault>
     requires { number + length (declared_by node.now) ≤ length (all_made elements.now) }
-    ensures { PadOrMemory (IsEndPad (all_made elements.now) wanted (end_of number node.now)) result }
+    ensures { PadOrMemory (IsEndPad (all_made elements.now) links.now wanted (end_of number node.now)) result }
 {
     match node {
-        Node::Element { .. } | Node::Caps(_) => pad_of(alloc, elements, wanted, number, None),
+        Node::Element { .. } | Node::Caps(_) => pad_of(
+            alloc, elements, links, wanted, number, None,
+        ),
         Node::Reference { name, pad } => match elements.find(name.as_str()) {
-            Some(element) => pad_of(alloc, elements, wanted, element, pad.as_ref()),
+            Some(element) => pad_of(alloc, elements, links, wanted, element, pad.as_ref()),
             None => Err(no_such(alloc, name.as_str(), What::Element)?),
         },
     }
 }
 
-/// The pad that a link takes of an element: the one of this name, or else the first of the wanted direction.
+/// The pad that a link takes of an element: the one of this name, or else one of the wanted direction.
 fn pad_of(
     alloc: Global,
     elements: &Elements,
+    links: &[PadLink],
     wanted: Direction,
     element: u32,
     pad: Option<&Text>,
 ) -> Result<Pad, BuildFault>
     requires { element < length (all_made elements.now) }
-    ensures { PadOrMemory (IsPadOf (all_made elements.now) wanted element (wish_of pad.entry)) result }
+    ensures { PadOrMemory (IsPadOf (all_made elements.now) links.now wanted element (wish_of pad.entry)) result }
 {
-    if wanted.count(elements.settings(element)) == 0 {
-        return Err(no_such(alloc, elements.name(element), wanted.missing())?);
+    let settings = elements.settings(element);
+    if wanted.takeable(settings, links, element) == 0 {
+        return Err(no_such(alloc, elements.name(element), missing(wanted))?);
     }
     match pad {
-        None => Ok(Pad {
-            direction: wanted,
-            place: PadPlace { element, pad: 0 },
-        }),
-        Some(pad) => named_pad(alloc, elements, element, pad.as_str()),
-    }
-}
-
-/// The pad of this name of an element.
-fn named_pad(
-    alloc: Global,
-    elements: &Elements,
-    element: u32,
-    name: &str,
-) -> Result<Pad, BuildFault>
-    requires { element < length (all_made elements.now) }
-    ensures { PadOrMemory (λ answer. (m : Made) × (slice_get (all_made elements.now) element ≡ Some m) × (answer ≡ named_pad m element name.now)) result }
-{
-    match pad_named(elements.settings(element), element, name) {
-        Some(pad) => Ok(pad),
-        None => Err(no_such_pad(alloc, elements.name(element), name)?),
+        None => pad_or_many(wanted, element, wanted.own_number(settings, links, element)),
+        Some(pad) => named_pad(alloc, elements, links, element, pad.as_str()),
     }
 }
 
 /// The pad of this name of an element, be it a source pad or a sink pad.
-fn pad_named(settings: &Settings, element: u32, name: &str) -> Option<Pad>
-    ensures { result ≡ pad_named settings.now element name.now }
+fn named_pad(
+    alloc: Global,
+    elements: &Elements,
+    links: &[PadLink],
+    element: u32,
+    name: &str,
+) -> Result<Pad, BuildFault>
+    requires { element < length (all_made elements.now) }
+    ensures { PadOrMemory (λ answer. (m : Made) × (slice_get (all_made elements.now) element ≡ Some m)
+        × (answer ≡ named_pad links.now m element name.now)) result }
 {
-    match Direction::Source.pad_named(settings, element, name) {
-        Some(pad) => Some(pad),
-        None => Direction::Sink.pad_named(settings, element, name),
+    let settings = elements.settings(element);
+    if let Some(number) = Direction::Source.pad_number(alloc, settings, links, element, name)? {
+        return pad_or_many(Direction::Source, element, number);
     }
+    if let Some(number) = Direction::Sink.pad_number(alloc, settings, links, element, name)? {
+        return pad_or_many(Direction::Sink, element, number);
+    }
+    Err(no_such_pad(alloc, elements.name(element), name)?)
 }
 
-impl Direction {
-    /// How many pads of this direction an element has.
-    fn count(self, settings: &Settings) -> u32
-        ensures { result ≡ pad_count self settings.now }
-    {
-        match self {
-            Direction::Source => settings.source_pads(),
-            Direction::Sink => settings.sink_pads(),
-        }
+/// The pad of a number, of which an element has 64 at the most.
+fn pad_or_many(direction: Direction, element: u32, number: usize) -> Result<Pad, BuildFault>
+    ensures { result ≡ pad_or_many direction element number }
+{
+    if number >= MadePads::MOST as usize {
+        return Err(BuildFault::TooMany {
+            count: MadePads::MOST + 1,
+        });
     }
+    Ok(Pad {
+        direction,
+        place: PadPlace {
+            element,
+            pad: number as u32,
+        },
+    })
+}
 
-    /// The name of a pad of this direction.
-    fn name(self) -> &'static str
-        ensures { result.now ≡ pad_text self }
-    {
-        match self {
-            Direction::Source => "src",
-            Direction::Sink => "sink",
-        }
-    }
-
-    /// What there is not where an element has no pad of this direction.
-    fn missing(self) -> What
-        ensures { result ≡ missing self }
-    {
-        match self {
-            Direction::Source => What::SrcPad,
-            Direction::Sink => What::SinkPad,
-        }
-    }
-
-    /// The pad of this direction and this name of an element.
-    fn pad_named(self, settings: &Settings, element: u32, name: &str) -> Option<Pad>
-        ensures { result ≡ option_map (pad_at self element) (pad_number self settings.now name.now) }
-    {
-        if self.count(settings) == 0 || name != self.name() {
-            return None;
-        }
-        Some(Pad {
-            direction: self,
-            place: PadPlace { element, pad: 0 },
-        })
+/// What there is not where an element has no pad of this direction.
+pub(crate) fn missing(direction: Direction) -> What
+    ensures { result ≡ missing direction }
+{
+    match direction {
+        Direction::Source => What::SrcPad,
+        Direction::Sink => What::SinkPad,
     }
 }
 
@@ -154,6 +135,8 @@ pub(crate) fn pad_name(alloc: Global, elements: &Elements, pad: Pad) -> Result<P
     ensures { IfOk result (λ name. name ≡ pad_name (all_made elements.now) pad) }
 {
     let element = Text::from_str(alloc, elements.name(pad.place.element))?;
-    let pad = Text::from_str(alloc, pad.direction.name())?;
+    let settings = elements.settings(pad.place.element);
+    let number = pad.place.pad as usize;
+    let pad = pad.direction.pad_text(alloc, settings, number)?;
     Ok(PadName { element, pad })
 }

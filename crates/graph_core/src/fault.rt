@@ -54,8 +54,9 @@ pub enum BuildFault {
     LocationTaken {
         location: Text,
     },
-    /// There are more elements than a graph has, and `count` is 257; or what a converter is allowed to put out has more
-    /// structures, fields of one or members of one list than caps have, and `count` is 65.
+    /// There are more elements than a graph has, and `count` is 257; or more links make pads of one direction of an element
+    /// than it can have, or what a converter is allowed to put out has more structures, fields of one or members of one
+    /// list than caps have, and `count` is 65.
     #[error("{count} are too many")]
     TooMany {
         count: u32,

@@ -2,10 +2,9 @@
 use crate::allowed::allowed_caps;
 use crate::elements::Elements;
 use crate::ends::pad_name;
-use crate::judging::{sink_behind, source_before};
 use crate::links::Links;
-use crate::pad::{Direction, Pad, PadLink, PadPlace};
 use el_settings::Settings;
+use graph_pads::{Direction, Pad, PadLink, PadPlace, sink_behind, source_before};
 use gst_caps::Caps;
 use gst_value::{CapsFault, OutOfMemory, PadName};
 use std::alloc::Global;
@@ -26,8 +25,10 @@ impl Graph {
     ghost use Rattle.gst_value.specs.Limit.{TooManyWhere};
     ghost use Rattle.graph_core.specs.Allowed.{Allows};
     ghost use Rattle.graph_core.specs.Elements.{Made, is_named, limit};
-    ghost use Rattle.graph_core.specs.Ends.{pad_at, pad_name, pads_at};
-    ghost use Rattle.graph_core.specs.Links.{sink_behind, source_before, ways};
+    ghost use Rattle.graph_core.specs.Ends.{pad_name, pads_at};
+    ghost use Rattle.graph_pads.specs.Pads.{pad_at};
+    ghost use Rattle.graph_core.specs.Links.{ways};
+    ghost use Rattle.graph_pads.specs.Links.{sink_behind, source_before};
     ghost use Rattle.graph_core.specs.Live.{Live};
     ghost use Rattle.graph_core.specs.Graph.{made, links, forward, is_live, IsSound};
 
@@ -140,10 +141,12 @@ impl Graph {
     }
 
     /// The caps that a source pad is allowed to have: all where it is not linked, those of the next source pad through
-    /// an identity or a queue, and through a capsfilter those of them that are its own too, in the order of its own.
-    /// Before any other element they are what the sink pad takes.
+    /// an identity or a queue, through a capsfilter those of them that are its own too, in the order of its own, and through
+    /// a tee those that all its pads are allowed, in the order of its first pad. Before any other element they are what
+    /// the sink pad takes.
     ///
-    /// Answers `TooMany` where a capsfilter and what is allowed behind it have too many caps in common.
+    /// Answers `TooMany` where a capsfilter and what is allowed behind it, or the pads of a tee, have too many caps in
+    /// common.
     pub fn allowed(&self, alloc: Global, source: PadPlace) -> Result<Caps, CapsFault>
         requires { source.pad < pads_at (made self.now) Direction.Source source.element }
         ensures caps { IfOk result (λ caps. IsSound self.now → Allows (made self.now) (links self.now) source (Some caps)) }

@@ -2,61 +2,17 @@
 ghost use Rattle.std.specs.Prelude.{◌≡◌, ◌<◌, ◌↔◌, length, IfOk, IsTrue, true, false};
 ghost use Rattle.graph_core.specs.Elements.{all_made};
 ghost use Rattle.graph_core.specs.Ends.{IsThere, pad_name};
-ghost use Rattle.graph_core.specs.Links.{is_same, sink_behind, source_before, is_linked, is_wrong, caps_at, HaveCommon, IsJudged};
+ghost use Rattle.graph_core.specs.Links.{caps_at, HaveCommon, IsJudged};
+ghost use Rattle.graph_pads.specs.Links.{is_wrong};
 
 use crate::elements::Elements;
 use crate::ends::pad_name;
 use crate::fault::BuildFault;
-use crate::pad::{Direction, Pad, PadLink, PadPlace};
 use el_settings::template;
+use graph_pads::{Pad, PadLink, is_linked, is_wrong};
 use gst_value::OutOfMemory;
 use pad_core::LinkReturn;
 use std::alloc::Global;
-
-/// Whether two places are the same.
-fn is_same(one: PadPlace, other: PadPlace) -> bool
-    ensures { result ≡ is_same one other }
-{
-    one.element == other.element && one.pad == other.pad
-}
-
-/// The sink pad to which a source pad is linked.
-pub(crate) fn sink_behind(links: &[PadLink], source: PadPlace) -> Option<PadPlace>
-    ensures { result ≡ sink_behind links.now source }
-{
-    for link in links {
-        if is_same(link.source, source) {
-            return Some(link.sink);
-        }
-    }
-    None
-}
-
-/// The source pad that is linked to a sink pad.
-pub(crate) fn source_before(links: &[PadLink], sink: PadPlace) -> Option<PadPlace>
-    ensures { result ≡ source_before links.now sink }
-{
-    for link in links {
-        if is_same(link.sink, sink) {
-            return Some(link.source);
-        }
-    }
-    None
-}
-
-/// Whether one of the pads is linked.
-fn is_linked(links: &[PadLink], left: Pad, right: Pad) -> bool
-    ensures { result ≡ is_linked links.now left right }
-{
-    sink_behind(links, left.place).is_some() || source_before(links, right.place).is_some()
-}
-
-/// Whether two pads are not a source pad and a sink pad.
-fn is_wrong(left: Pad, right: Pad) -> bool
-    ensures { result ≡ is_wrong left right }
-{
-    !matches!(left.direction, Direction::Source) || matches!(right.direction, Direction::Source)
-}
 
 /// Why two pads cannot be linked, but for a loop.
 pub(crate) fn refusal(

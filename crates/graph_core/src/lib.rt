@@ -4,6 +4,7 @@
 mod allowed;
 mod building;
 mod chains;
+mod counting;
 mod element;
 mod elements;
 mod ends;
@@ -15,13 +16,12 @@ mod links;
 mod live;
 mod making;
 mod naming;
-mod pad;
 
 pub use building::build;
 pub use fault::{BuildFault, What};
 pub use graph::Graph;
+pub use graph_pads::{PadLink, PadPlace};
 pub use laws::{one_answer, pads_are_linked_once};
-pub use pad::{PadLink, PadPlace};
 
 #[cfg(test)]
 mod tests;

@@ -9,8 +9,8 @@ use crate::elements::Elements;
 use crate::ends::{end_pad, no_such};
 use crate::fault::{BuildFault, What};
 use crate::judging::{refusal, refused};
-use crate::pad::{Direction, Pad, PadLink};
 use graph_order::{Linking, Order};
+use graph_pads::{Direction, Pad, PadLink};
 use gst_value::OutOfMemory;
 use launch_text::{Chain, Node};
 use std::alloc::Global;
@@ -134,9 +134,10 @@ fn add(
     ensures fault { IfErr result (λ fault. LinksStop (all_made elements.now) (all_links links.old)
         (one_link (end_of number left.now) (end_of (number_behind number left.now) right.now)) fault) }
 {
-    let source = end_pad(alloc, elements, Direction::Source, left, number)?;
+    let made = links.made.as_slice();
+    let source = end_pad(alloc, elements, made, Direction::Source, left, number)?;
     let number_behind = number + made_by(left);
-    let sink = end_pad(alloc, elements, Direction::Sink, right, number_behind)?;
+    let sink = end_pad(alloc, elements, made, Direction::Sink, right, number_behind)?;
     join(alloc, elements, links, source, sink)
 }
 

@@ -5,10 +5,10 @@ ghost use Rattle.graph_order.specs.Marks.{is_marked, unmarked, IsClosed};
 ghost use Rattle.graph_core.specs.Elements.{Made, all_made};
 ghost use Rattle.graph_core.specs.Links.{ways};
 ghost use Rattle.graph_core.specs.Live.{AllLive, AreLive, is_source};
-ghost use Rattle.graph_core.specs.declared.pad.PadLink.{PadLink as LinkOf};
+ghost use Rattle.graph_pads.specs.declared.pad.PadLink.{PadLink as LinkOf};
 
 use crate::elements::Elements;
-use crate::pad::PadLink;
+use graph_pads::PadLink;
 use gst_value::OutOfMemory;
 use std::alloc::Global;
 

@@ -47,7 +47,37 @@ audioconvert ! audio/x-raw,a={1,2} ! audio/x-raw,a={2,3} ! audio/x-raw,a={1,3} !
 audioconvert ! mulawenc -> audioconvert0[audio/x-raw, channels=(int)[ 1, 64 ], format=(string)S16LE, layout=(string)interleaved, rate=(int)[ 1, 768000 ]]=mulawenc0.sink mulawenc0
 audioconvert ! audio/x-raw,rate=8000 ! audioconvert ! mulawenc ! wavenc -> audioconvert0[audio/x-raw, channels=(int)[ 1, 64 ], format=(string){ S8, U8, S16LE, S16BE, S24LE, S32LE }, layout=(string)interleaved, rate=(int)8000]=capsfilter0.sink capsfilter0=audioconvert1.sink audioconvert1[audio/x-raw, channels=(int)[ 1, 64 ], format=(string)S16LE, layout=(string)interleaved, rate=(int)[ 1, 768000 ]]=mulawenc0.sink mulawenc0=wavenc0.sink wavenc0
 audioconvert ! wavenc -> audioconvert0[audio/x-raw, channels=(int)[ 1, 64 ], format=(string){ U8, S16LE, S24LE, S32LE }, layout=(string)interleaved, rate=(int)[ 1, 768000 ]; audio/x-mulaw, channels=(int)[ 1, 64 ], rate=(int)[ 1, 768000 ]; audio/x-alaw, channels=(int)[ 1, 64 ], rate=(int)[ 1, 768000 ]]=wavenc0.sink wavenc0
-identity name=c queue name=q ! c. filesrc location=a ! q. -> filesrc0*=q.sink q*=c.sink c*";
+identity name=c queue name=q ! c. filesrc location=a ! q. -> filesrc0*=q.sink q*=c.sink c*
+fakesink name=k filesrc location=a ! k. filesrc location=b ! k. -> LinkRefused filesrc1.src k.sink -2
+tee -> tee0
+filesrc location=a ! tee name=t ! fakesink t. ! fakesink -> filesrc0*=t.sink t*=fakesink0.sink=fakesink1.sink fakesink0* fakesink1*
+tee name=t t.src_0 ! fakesink t.src_1 ! fakesink t. ! fakesink -> t=fakesink0.sink=fakesink1.sink=fakesink2.sink fakesink0 fakesink1 fakesink2
+t. ! fakesink t.src_1 ! fakesink filesrc location=a ! tee name=t -> filesrc0*=t.sink t*=fakesink0.sink=fakesink1.sink fakesink0* fakesink1*
+tee name=t t.src_5 ! fakesink -> NoSuch t.src_5 Pad
+tee name=t t.src_1 ! fakesink -> NoSuch t.src_1 Pad
+tee name=t ! fakesink t.src_01 ! fakesink -> NoSuch t.src_01 Pad
+tee name=t t.src ! fakesink -> NoSuch t.src Pad
+tee name=t t.sink ! fakesink -> LinkRefused t.sink fakesink0.sink -3
+tee name=t filesrc location=a ! t.src_0 -> LinkRefused filesrc0.src t.src_0 -3
+tee name=t ! fakesink t.src_0 ! fakesink -> LinkRefused t.src_0 fakesink1.sink -2
+tee name=t filesrc location=a ! t. filesrc location=b ! t. -> LinkRefused filesrc1.src t.sink -2
+filesrc location=a ! c. filesrc location=b ! c. concat name=c ! fakesink -> filesrc0*=c.sink_0 filesrc1*=c.sink_1 c*=fakesink0.sink fakesink0*
+concat name=c queue ! c.sink_0 filesrc location=b ! c.sink_1 -> queue0=c.sink_0 filesrc0*=c.sink_1 c*
+concat name=c ! fakesink c. ! fakesink -> LinkRefused c.src fakesink1.sink -2
+concat name=c filesrc location=a ! c.sink_1 -> NoSuch c.sink_1 Pad
+concat name=c filesrc location=a ! c. filesrc location=b ! c.sink_0 -> LinkRefused filesrc1.src c.sink_0 -2
+concat name=c c.sink_0 ! fakesink -> LinkRefused c.sink_0 fakesink0.sink -3
+interleave name=v ramptestsrc ! v. audioconvert ! v.sink_1 -> ramptestsrc0*=v.sink_0 audioconvert0[audio/x-raw, channels=(int)1, format=(string){ S8, U8, S16LE, S16BE, S24LE, S32LE }, layout=(string)interleaved, rate=(int)[ 1, 768000 ]]=v.sink_1 v*
+interleave name=v wavenc ! v.sink_0 -> LinkRefused wavenc0.src v.sink_0 -4
+interleave name=v ! fakesink v.sink ! fakesink -> NoSuch v.sink Pad
+filesrc location=a ! tee name=t ! c. t. ! concat name=c ! fakesink t. ! c. -> filesrc0*=t.sink t*=c.sink_0=c.sink_1=c.sink_2 c*=fakesink0.sink fakesink0*
+tee name=t ! concat name=c ! t. -> NoSuch c Order
+tee name=t ! concat name=c t. ! queue ! c. c. ! identity ! t. -> NoSuch identity0 Order
+audioconvert ! tee -> audioconvert0[ANY]=tee0.sink tee0
+audioconvert ! concat ! audio/x-raw,rate=8000 ! fakesink -> audioconvert0[ANY]=concat0.sink_0 concat0=capsfilter0.sink capsfilter0=fakesink0.sink fakesink0
+audioconvert ! tee name=t ! audio/x-raw,a={1,2} ! fakesink t. ! audio/x-raw,a={2,3} ! fakesink -> audioconvert0[audio/x-raw, a=(int)2]=t.sink t=capsfilter0.sink=capsfilter1.sink capsfilter0=fakesink0.sink fakesink0 capsfilter1=fakesink1.sink fakesink1
+audioconvert ! tee name=t ! audio/x-raw,a=2;audio/x-raw,a=1 ! queue t. ! identity t. ! queue ! audio/x-raw,a=1;audio/x-raw,a=2 ! queue -> audioconvert0[audio/x-raw, a=(int)2; audio/x-raw, a=(int)1]=t.sink t=capsfilter0.sink=identity0.sink=queue1.sink capsfilter0=queue0.sink queue0 identity0 queue1=capsfilter1.sink capsfilter1=queue2.sink queue2
+audioconvert ! audio/x-raw,b=1 ! tee name=t ! tee name=u ! audio/x-raw,a={1,2} ! queue t. ! mulawenc u. ! audio/x-raw,a={2,3} ! queue -> audioconvert0[audio/x-raw, a=(int)2, b=(int)1, channels=(int)[ 1, 64 ], format=(string)S16LE, layout=(string)interleaved, rate=(int)[ 1, 768000 ]]=capsfilter0.sink capsfilter0=t.sink t=u.sink=mulawenc0.sink u=capsfilter1.sink=capsfilter2.sink capsfilter1=queue0.sink queue0 mulawenc0 capsfilter2=queue1.sink queue1";
 
 fn put_what(into: &mut String, what: &What) -> Result<(), Fail> {
     match what {
@@ -102,14 +132,22 @@ fn put_element(alloc: Global, into: &mut String, graph: &Graph, element: u32) ->
         into.push('*')?;
     }
     put_allowed(alloc, into, graph, element)?;
-    if let Some(sink) = graph.sink_behind(PadPlace { element, pad: 0 }) {
-        let Some(name) = graph.sink_name(alloc, sink)? else {
-            return Err("a sink")?;
-        };
-        into.push('=')?;
-        put_pad(into, &name)?;
+    for pad in 0..graph.source_pads(element) {
+        put_link(alloc, into, graph, PadPlace { element, pad })?;
     }
     Ok(())
+}
+
+/// The pad to which a source pad is linked.
+fn put_link(alloc: Global, into: &mut String, graph: &Graph, source: PadPlace) -> Result<(), Fail> {
+    let Some(sink) = graph.sink_behind(source) else {
+        return Ok(());
+    };
+    let Some(name) = graph.sink_name(alloc, sink)? else {
+        return Err("a sink")?;
+    };
+    into.push('=')?;
+    put_pad(into, &name)
 }
 
 /// What a converter is set to put out, which is what its source pad is allowed.
@@ -175,6 +213,16 @@ fn put_numbered(line: &mut String, field: &str, count: u32) -> Result<(), Fail> 
     Ok(())
 }
 
+/// A line of an element of this name that is linked so many times.
+fn fan(alloc: Global, element: &str, count: u32, link: &str) -> Result<String, Fail> {
+    let mut line = String::new(alloc);
+    line.push_str(element)?;
+    for _ in 0..count {
+        write!(line, " {link}")?;
+    }
+    Ok(line)
+}
+
 /// A line of an element and two filters. So many times eight structures are in both.
 fn filters(alloc: Global, first: &str, count: u32, behind: &str) -> Result<String, Fail> {
     let mut line = String::new(alloc);
@@ -183,6 +231,17 @@ fn filters(alloc: Global, first: &str, count: u32, behind: &str) -> Result<Strin
     line.push_str("audio/x-wav ! ")?;
     put_numbered(&mut line, "b", 8)?;
     write!(line, "audio/x-mulaw ! {behind}")?;
+    Ok(line)
+}
+
+/// A line of a converter and a tee with two filters behind it. So many times eight structures are in both.
+fn branches(alloc: Global, count: u32) -> Result<String, Fail> {
+    let mut line = String::new(alloc);
+    line.push_str("audioconvert ! tee name=t ! ")?;
+    put_numbered(&mut line, "a", count)?;
+    line.push_str("audio/x-wav ! fakesink t. ! ")?;
+    put_numbered(&mut line, "b", 8)?;
+    line.push_str("audio/x-mulaw ! fakesink")?;
     Ok(line)
 }
 
@@ -202,6 +261,34 @@ fn converters_with_too_many_caps(rt: HostRuntime) -> Result<(), Fail> {
         "NoSuch k Element"
     );
     assert!(rt; told(alloc, other.as_str())?.starts_with("identity0=capsfilter0.sink"));
+    assert_eq!(rt;
+        told(alloc, branches(alloc, 9)?.as_str())?.as_str(),
+        "TooMany 65"
+    );
+    assert!(rt;
+        told(alloc, branches(alloc, 8)?.as_str())?.starts_with(
+            "audioconvert0[audio/x-raw, a=(int)0, b=(int)0;"
+        )
+    );
+    Ok(())
+}
+
+#[test]
+fn pads_of_64_links(rt: HostRuntime) -> Result<(), Fail> {
+    let alloc = rt.alloc();
+    let most = fan(alloc, "tee name=t", 64, "t. ! fakesink")?;
+    let more = fan(alloc, "tee name=t", 65, "t. ! fakesink")?;
+    let named = fan(alloc, "t.src_64 ! fakesink", 1, "")?;
+    let joined = fan(alloc, "concat name=c", 64, "queue ! c.")?;
+    let full = fan(alloc, "concat name=c", 65, "queue ! c.")?;
+    assert!(rt; told(alloc, most.as_str())?.starts_with("t=fakesink0.sink=fakesink1.sink="));
+    assert_eq!(rt; told(alloc, more.as_str())?.as_str(), "TooMany 65");
+    assert_eq!(rt;
+        told(alloc, format!(in alloc; "{most} {named}")?.as_str())?.as_str(),
+        "TooMany 65"
+    );
+    assert!(rt; told(alloc, joined.as_str())?.ends_with(" queue63=c.sink_63 c"));
+    assert_eq!(rt; told(alloc, full.as_str())?.as_str(), "TooMany 65");
     Ok(())
 }
 

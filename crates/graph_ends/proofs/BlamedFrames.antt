@@ -1,32 +1,31 @@
 -- The elements and pads of a task of a graph, by its frame.
 use Rattle.std.proofs.Common.{◌≡◌, ◌<◌, ◌++◌, ℕ, zero, suc, Bool, true, false, if◌then◌else◌, List, [], ◌∷◌, All, Option, None, Some, length, map, refl, sym, ap, ◌∙◌, subst, inl, inr, arith}
 use Rattle.std.specs.Prelude.{slice_get}
-use Rattle.std.specs.Option.{option_map_or}
 use Rattle.std.proofs.lemmas.Option.{slice_get_within}
 use Rattle.flow_model.specs.Account.{IsMember}
 use Rattle.lane_core.specs.declared.ends.Inlet as inlets
 use Rattle.lane_core.specs.declared.ends.Outlet as outlets
 use Rattle.net_model.specs.declared.element.TaskElement as elements
 use Rattle.net_model.specs.declared.source.TaskSource as sources
-use Rattle.el_settings.specs.Asked.{source_pads}
-use Rattle.el_settings.proofs.Roles.{one_source}
+use Rattle.el_settings.specs.Asked.{source_pads, is_source}
 use Rattle.graph_core.specs.Elements.{Made}
-use Rattle.graph_core.specs.Links.{HasPads, sink_behind}
-use Rattle.graph_core.specs.declared.pad.PadLink.{PadLink}
-use Rattle.graph_core.specs.declared.pad.PadPlace.{PadPlace}
+use Rattle.graph_core.specs.Links.{HasPads}
+use Rattle.graph_pads.specs.Links.{sink_behind}
+use Rattle.graph_pads.specs.declared.pad.PadLink.{PadLink}
+use Rattle.graph_pads.specs.declared.pad.PadPlace.{PadPlace}
 use Rattle.graph_bags.specs.Bags.{AreBags, IsBag, IsHead, head_cells, number_of, numbers}
-use Rattle.graph_bags.specs.Links.{has, has_inlets, is_source, link_to, source_count}
+use Rattle.graph_bags.specs.Links.{has, has_inlets, link_to, place_at, source_count}
 use Rattle.graph_bags.specs.declared.bag.Bag.{Bag}
 use Rattle.graph_bags.specs.declared.bag.BagElement.{BagElement}
 use Rattle.graph_bags.specs.declared.bag.BagHead.{BagHead}
 use Rattle.graph_bags.specs.declared.bag.BagHead.TheVariants.{Inlets, Source}
 use Rattle.graph_bags.specs.declared.bag.BagLink.TheVariants.{Element, Lane}
 use Rattle.graph_bags.proofs.Apart.{bags_are_there}
-use Rattle.graph_core.specs.Allowed.{first_pad}
 use Rattle.graph_core.specs.GraphPlan.{pad_id}
-use Rattle.task_pads.specs.Behind.{nowhere}
+use Rattle.task_pads.specs.Behind.{inside, nowhere}
 use Rattle.net_task.specs.declared.task.Task.{Task}
 use Rattle.net_task.specs.Frame.{HeadFrame, IsWire, PartFrame, TaskFrame, Wire, by_inlets, by_source, frame_of, head_wire, of_head, of_part}
+use Rattle.graph_ends.proofs.Awaited.{element_at}
 use Rattle.graph_ends.specs.Frames.{HaveBags, IsFrameOf, IsHeadFrame, IsPartFrame, IsWireOf, goes_by}
 use Rattle.gst_value.proofs.Basics.{some_same, none_some}
 
@@ -77,30 +76,40 @@ not_linked made (Some sink) goes = go (has has_inlets made sink.element) goes
     go true is = absurd cc
     go false is = absurd cc
 
-one_pad : (found : Option Made) (port : ℕ) → port < option_map_or (λ (m : Made). source_pads m.settings) found 0 → (element : Made) × (found ≡ Some element)
-    × (port ≡ 0)
-one_pad None port few = absurd (omega (arith, few))
-one_pad (Some m) port few = let one = one_source m.settings in (m, refl, omega (arith, one, few))
+-- one that leads to an element of its own task leads to none that is fed from inlets
+inner_leads : (made : List Made) (found : Option PadPlace) (n pad : ℕ) → goes_by (link_to made found) ≡ inside n pad → has has_inlets made n ≡ false
+inner_leads made None n pad goes = absurd cc
+inner_leads made (Some sink) n pad goes = go (has has_inlets made sink.element) refl goes
+  where
+    go : (b : Bool) → has has_inlets made sink.element ≡ b → goes_by (if b then Lane sink.element sink.pad else Element sink.element sink.pad) ≡ inside n pad
+        → has has_inlets made n ≡ false
+    go true is same = absurd cc
+    go false is same = let one : sink.element ≡ n = cc in subst (λ (e : ℕ). has has_inlets made e ≡ false) one is
 
--- A pad of a task is the only pad of an element of the graph, and leads where its link goes.
+-- A pad of a task is one of an element of the graph, and leads where its link goes.
 pub record HasWire (made : List Made) (links : List PadLink) (wire : Wire) : Type 0 where
-  pub number : ℕ
+  pub source : PadPlace
   pub element : Made
-  pub at : slice_get made number ≡ Some element
-  pub is : wire.number ≡ pad_id (first_pad number)
-  pub leads : wire.leads ≡ goes_by (link_to made (sink_behind links (first_pad number)))
+  pub at : slice_get made source.element ≡ Some element
+  pub few : source.pad < source_pads element.settings
+  pub is : wire.number ≡ pad_id source
+  pub leads : wire.leads ≡ goes_by (link_to made (sink_behind links source))
 
 wire_is : (made : List Made) (links : List PadLink) (n port : ℕ) (wire : Wire) → port < source_count made n → IsWireOf made links n port wire
     → HasWire made links wire
 wire_is made links n port wire few is =
-    let one = one_pad (slice_get made n) port few in
-    let first : IsWireOf made links n 0 wire = subst (λ (k : ℕ). IsWireOf made links n k wire) one.2 is in
-    record { number = n; element = one.0; at = one.1; is = first.number; leads = first.leads }
+    let one = element_at made (place_at n port) few in
+    record { source = place_at n port; element = one.element; at = one.at; few = one.few; is = is.number; leads = is.leads }
 
 -- that pad is not linked where it leads nowhere
 pub wire_alone : (made : List Made) (links : List PadLink) (wire : Wire) (w : HasWire made links wire) → wire.leads ≡ nowhere
-    → sink_behind links (first_pad w.number) ≡ None
-wire_alone made links wire w leads = not_linked made (sink_behind links (first_pad w.number)) (sym w.leads ∙ leads)
+    → sink_behind links w.source ≡ None
+wire_alone made links wire w leads = not_linked made (sink_behind links w.source) (sym w.leads ∙ leads)
+
+-- and where it leads to an element of its task, that is not fed from inlets
+pub wire_inner : (made : List Made) (links : List PadLink) (wire : Wire) (w : HasWire made links wire) (n pad : ℕ) → wire.leads ≡ inside n pad
+    → has has_inlets made n ≡ false
+wire_inner made links wire w n pad leads = inner_leads made (sink_behind links w.source) n pad (sym w.leads ∙ leads)
 
 module _ (made : List Made) (links : List PadLink) (bags : List Bag) (place : ℕ) (frame : TaskFrame) (all : All (HasPads made) links)
     (are : AreBags made links bags) (b : HasBag made links bags place frame) where

@@ -45,7 +45,7 @@ module _ {S E I O L : Type 0} {s : sources.Ghosts S} {e : elements.Ghosts E} {i 
   told fault (unlinked wire counted is leads) =
       let w = wire_there (made_in graph) (links_in graph) bags place (frame_of before) sound.pads are b wire is in
       subst (λ (p : ℕ). IsTold (made_in graph) (links_in graph) before after (NotLinked p counted)) (sym w.is)
-      (not_linked w.number counted w.element w.at (wire_alone (made_in graph) (links_in graph) wire w leads))
+      (not_linked w.source counted w.element w.at w.few (wire_alone (made_in graph) (links_in graph) wire w leads))
   told fault (full_at j part at) = full part.number (part_there (made_in graph) (links_in graph) bags place (frame_of before) sound.pads are b j part at)
   told fault (full_head n file wire is) = full n (source_there (made_in graph) (links_in graph) bags place (frame_of before) sound.pads are b n file wire is)
   told fault memory = no_memory

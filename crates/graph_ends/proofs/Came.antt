@@ -1,44 +1,40 @@
--- What came to an element, and where the link before it comes from.
-use Rattle.std.proofs.Common.{◌≡◌, ◌<◌, ◌≤◌, ◌⊎◌, ◌+◌, ℕ, zero, suc, true, false, eqb, if◌then◌else◌, List, Option, None, Some, map, refl, sym, ap, ◌∙◌, subst}
-use Rattle.std.proofs.Common.{inl, inr, arith}
+-- What came to the sink pads of elements, and which source pads are before them.
+use Rattle.std.proofs.Common.{◌≡◌, ◌<◌, ◌⊎◌, ◌+◌, ◌%◌, ℕ, zero, suc, true, false, eqb, if◌then◌else◌, List, [], ◌∷◌, Option, None, Some, map, refl, sym}
+use Rattle.std.proofs.Common.{ap, ap₂, ◌∙◌, subst, inl, inr, arith}
 use Rattle.std.specs.Prelude.{slice_get}
 use Rattle.std.specs.List.{range_with_len}
-use Rattle.std.specs.Option.{option_map_or}
+use Rattle.std.proofs.lemmas.Bool.{ltb-true}
 use Rattle.std.proofs.lemmas.Bool.Decides.{eqb_tells}
+use Rattle.flow_model.specs.Call.{feeds}
+use Rattle.flow_model.specs.Eval.{inputs}
 use Rattle.flow_model.specs.Item.{Item}
-use Rattle.flow_model.specs.Link.{Span}
+use Rattle.flow_model.specs.Link.{Span, input_of}
 use Rattle.net_model.specs.Standing.{links_from, LinksAt}
 use Rattle.net_model.specs.Step.{Leads}
-use Rattle.el_settings.specs.Asked.{source_pads}
-use Rattle.el_settings.proofs.Roles.{one_sink, one_source}
 use Rattle.graph_core.specs.Elements.{Made}
 use Rattle.graph_core.specs.Graph.{IsSound, made as made_in, links as links_in}
-use Rattle.graph_core.specs.Links.{source_before}
+use Rattle.graph_pads.specs.Links.{source_before}
 use Rattle.graph_core.specs.declared.graph.Graph.{Graph}
-use Rattle.graph_core.specs.declared.pad.PadPlace.{PadPlace}
-use Rattle.graph_core.specs.Allowed.{first_pad}
-use Rattle.graph_core.specs.GraphPlan.{before_it, line_plan, pad_id, sink_at, sink_count, spans_from}
-use Rattle.graph_moment.specs.Pads.{IsThere, at_pads}
+use Rattle.graph_pads.specs.declared.pad.PadPlace.{PadPlace}
+use Rattle.graph_core.specs.GraphPlan.{before_it, line_plan, owner_of, pad_id, sink_at, sink_count, spans_from}
+use Rattle.graph_core.proofs.NumberedPads.{given_calls, owner_at}
+use Rattle.graph_bags.specs.Links.{place_at}
+use Rattle.graph_moment.specs.Laws.{place_of}
+use Rattle.graph_moment.specs.Pads.{IsThere, at_pads, is_pad, source_count}
 use Rattle.graph_moment.specs.Plans.{moment_plan}
-use Rattle.graph_moment.proofs.Sources.{linked_there, place_is_pad}
-use Rattle.graph_ends.specs.Owed.{came_to}
+use Rattle.graph_moment.proofs.Sources.{few_there, linked_there, place_is_pad, port_at}
+use Rattle.graph_ends.specs.Owed.{came_to, inputs_to}
 use Rattle.gst_value.proofs.Basics.{no_true}
 
-few_sinks : (found : Option Made) → sink_count found ≤ 1
-few_sinks None = omega arith
-few_sinks (Some m) = one_sink m.settings
+-- the number of a source pad tells its place
+pub number_at : (p : ℕ) → p ≡ pad_id (place_of p)
+number_at p = omega arith
 
-first_of : (found : Option Made) (pad : ℕ) → pad < option_map_or (λ (m : Made). source_pads m.settings) found 0 → pad ≡ 0
-first_of None pad w = absurd (omega (arith, w))
-first_of (Some m) pad w = let one = one_source m.settings in omega (arith, w, one)
+pub there_at : (made : List Made) (p : ℕ) → is_pad made p ≡ true → IsThere made (place_of p)
+there_at made p pad = ltb-true (p % 64) (source_count made (owner_of p)) pad
 
-place_of : ℕ → ℕ → PadPlace
-place_of element pad = record { element = element; pad = pad }
-
--- a source pad that is there is the first of its element
-pub first_source : (made : List Made) (source : PadPlace) → IsThere made source → source ≡ first_pad source.element
-unfolding place_of
-first_source made source there = ap (λ (n : ℕ). place_of source.element n) (first_of (slice_get made source.element) source.pad there)
+pub place_again : (place : PadPlace) → place.pad < 64 → place_of (pad_id place) ≡ place
+place_again place few = ap₂ place_at (owner_at place few) (port_at place few)
 
 -- a source pad leads to a sink pad that is there, and that is linked to it
 linked_at : (p : ℕ) (f : ℕ → List Span) (start n i : ℕ) → LinksAt p i (map f (range_with_len start n)) → (i < n) × (links_from p (f (start + i)) ≡ true)
@@ -60,37 +56,38 @@ source_of p (Some s) is = go (eqb_tells (pad_id s) p) is
     go (inl t) is = (s, refl, t.1)
     go (inr f) is = absurd (no_true (rw f.0 at is))
 
--- an element's first source pad, by its number, and the first sink pad that it is linked to
-pub record IsBefore (graph : Graph) (p n : ℕ) : Type 0 where
-  pub element : ℕ
-  pub linked : source_before (links_in graph) (first_pad n) ≡ Some (first_pad element)
-  pub number : pad_id (first_pad element) ≡ p
-  pub there : IsThere (made_in graph) (first_pad element)
+-- a pad that leads to a sink pad is linked to it
+pub record IsBefore (graph : Graph) (p n i : ℕ) : Type 0 where
+  pub few : i < sink_count (slice_get (made_in graph) n)
+  pub linked : source_before (links_in graph) (place_at n i) ≡ Some (place_of p)
 
-module _ (contents : ℕ → List ℕ) (graph : Graph) (sound : IsSound graph) where
-  -- a pad that leads to a sink pad of an element is the one before it
-  pub leads_from : (p n i : ℕ) → Leads (moment_plan contents graph) p n i → IsBefore graph p n
+pub leads_from : (contents : ℕ → List ℕ) (graph : Graph) → IsSound graph → (p n i : ℕ) → Leads (moment_plan contents graph) p n i → IsBefore graph p n i
+unfolding line_plan
+leads_from contents graph sound p n i leads =
+    let at = linked_at p (λ k. spans_from (source_before (links_in graph) (sink_at n k))) 0 (sink_count (slice_get (made_in graph) n)) i leads.here in
+    let same : 0 + i ≡ i = omega arith in
+    let from = source_of p (source_before (links_in graph) (place_at n i))
+    (subst (λ (k : ℕ). links_from p (spans_from (source_before (links_in graph) (sink_at n k))) ≡ true) same at.1) in
+    let few = few_there (made_in graph) from.0 (linked_there (made_in graph) (links_in graph) sound.pads (place_at n i) from.0 from.1) in
+    record { few = at.0; linked = from.1 ∙ ap Some (sym (place_again from.0 few) ∙ ap place_of from.2) }
+
+module _ (graph : Graph) (sound : IsSound graph) (h : ℕ → List Item) where
+  -- what came to a sink pad crossed the pad before it
+  pub came_is : (sink : PadPlace) → came_to (links_in graph) (at_pads (made_in graph) h) sink ≡ before_it h (source_before (links_in graph) sink)
+  came_is sink = go (source_before (links_in graph) sink) refl
+    where
+      go : (found : Option PadPlace) → source_before (links_in graph) sink ≡ found → before_it (at_pads (made_in graph) h) found ≡ before_it h found
+      go None at = refl
+      go (Some source) at = rw (place_is_pad (made_in graph) source (linked_there (made_in graph) (links_in graph) sound.pads sink source at)) refl
+
+  given_at : (n : ℕ) (ks : List ℕ) → map (input_of h) (map (λ (k : ℕ). spans_from (source_before (links_in graph) (sink_at n k))) ks)
+      ≡ map feeds (map (λ (k : ℕ). came_to (links_in graph) (at_pads (made_in graph) h) (place_at n k)) ks)
+  given_at n [] = refl
+  given_at n (k ∷ ks) =
+      ap₂ (λ calls rest. calls ∷ rest) (given_calls h (source_before (links_in graph) (place_at n k)) ∙ ap feeds (sym (came_is (place_at n k)))) (given_at n ks)
+
+  -- an element is given what came to its sink pads
+  pub given_is : (contents : ℕ → List ℕ) (n : ℕ)
+      → inputs (moment_plan contents graph) h n ≡ map feeds (inputs_to (made_in graph) (links_in graph) (at_pads (made_in graph) h) n)
   unfolding line_plan
-  leads_from p n i leads =
-      let at = linked_at p (λ k. spans_from (source_before (links_in graph) (sink_at n k))) 0 (sink_count (slice_get (made_in graph) n)) i leads.here in
-      let few = few_sinks (slice_get (made_in graph) n) in
-      let first : 0 + i ≡ 0 = omega (arith, at.0, few) in
-      let linked = subst (λ (k : ℕ). links_from p (spans_from (source_before (links_in graph) (sink_at n k))) ≡ true) first at.1 in
-      let from = source_of p (source_before (links_in graph) (first_pad n)) linked in
-      let there = linked_there (made_in graph) (links_in graph) sound.pads (first_pad n) from.0 from.1 in
-      let is = first_source (made_in graph) from.0 there in
-      record {
-        element = from.0.element;
-        linked = from.1 ∙ ap Some is;
-        number = ap pad_id (sym is) ∙ from.2;
-        there = subst (λ (s : PadPlace). IsThere (made_in graph) s) is there;
-      }
-
--- what came to an element crossed the pad before it
-pub came_is : (graph : Graph) → IsSound graph → (h : ℕ → List Item) (n : ℕ)
-    → came_to (links_in graph) (at_pads (made_in graph) h) n ≡ before_it h (source_before (links_in graph) (first_pad n))
-came_is graph sound h n = go (source_before (links_in graph) (first_pad n)) refl
-  where
-    go : (found : Option PadPlace) → source_before (links_in graph) (first_pad n) ≡ found → before_it (at_pads (made_in graph) h) found ≡ before_it h found
-    go None at = refl
-    go (Some source) at = rw (place_is_pad (made_in graph) source (linked_there (made_in graph) (links_in graph) sound.pads (first_pad n) source at)) refl
+  given_is contents n = given_at n (range_with_len 0 (sink_count (slice_get (made_in graph) n)))

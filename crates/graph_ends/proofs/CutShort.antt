@@ -1,17 +1,16 @@
 -- What crossed the pad of a source that can't be read, by what it owes.
-use Rattle.std.proofs.Common.{◌≡◌, ◌⊎◌, ◌%◌, ℕ, true, false, eqb, List, [], ◌∷◌, ◌++◌, Option, Some, refl, sym, ap, ◌∙◌, subst, inl, inr, arith}
+use Rattle.std.proofs.Common.{◌≡◌, ◌%◌, ℕ, true, false, List, [], ◌∷◌, ◌++◌, Option, Some, refl, sym, ap, ◌∙◌, subst, arith}
 use Rattle.std.specs.Prelude.{slice_get}
 use Rattle.std.specs.Option.{option_map_or}
-use Rattle.std.proofs.lemmas.Bool.Decides.{eqb_tells}
 use Rattle.flow_model.specs.Eval.{Plan}
 use Rattle.flow_model.specs.Item.{Item, Ev, Eos, eos_among}
 use Rattle.flow_model.specs.Rule.{Rule}
 use Rattle.net_model.specs.Moment.{CellStands, Moment}
 use Rattle.net_model.specs.declared.refusal.Unread.{Unread}
 use Rattle.net_model.specs.declared.refusal.Unread.TheVariants.{Failed, OutOfMemory}
-use Rattle.el_settings.specs.Asked.{sink_pads, source_pads}
+use Rattle.el_settings.specs.Asked.{is_source}
 use Rattle.el_set.specs.Made.{list_of}
-use Rattle.graph_bags.specs.Links.{has, is_source, source_count}
+use Rattle.graph_bags.specs.Links.{has, source_count}
 use Rattle.graph_core.specs.Elements.{Made}
 use Rattle.graph_core.specs.Graph.{made as made_in}
 use Rattle.graph_core.specs.declared.graph.Graph.{Graph}
@@ -26,19 +25,8 @@ use Rattle.graph_ends.specs.Runs.{crossed_in}
 use Rattle.graph_ends.specs.Short.{UnreadAt}
 use Rattle.graph_ends.proofs.EndedPass.{source_rule}
 
-no_sink_pad : (made : List Made) (n : ℕ) (one : Made) → slice_get made n ≡ Some one → has is_source made n ≡ true → sink_pads one.settings ≡ 0
-no_sink_pad made n one at source = go (eqb_tells (sink_pads one.settings) 0)
-  where
-    yes_is : eqb (sink_pads one.settings) 0 ≡ true
-    yes_is = sym (ap (λ (found : Option Made). option_map_or (λ (m : Made). is_source m.settings) found false) at) ∙ source
-
-    go : ((eqb (sink_pads one.settings) 0 ≡ true) × (sink_pads one.settings ≡ 0)) ⊎ ((eqb (sink_pads one.settings) 0 ≡ false) × (sink_pads one.settings ≡ 0 → ⊥))
-        → sink_pads one.settings ≡ 0
-    go (inl t) = t.1
-    go (inr f) = absurd (not_both (sym yes_is ∙ f.0))
-      where
-        not_both : true ≡ false → ⊥
-        not_both e = cc
+is_there : (made : List Made) (n : ℕ) (one : Made) → slice_get made n ≡ Some one → has is_source made n ≡ true → is_source one.settings ≡ true
+is_there made n one at source = sym (ap (λ (found : Option Made). option_map_or (λ (m : Made). is_source m.settings) found false) at) ∙ source
 
 module _ (contents : ℕ → List ℕ) (graph : Graph) (m : Moment) (plan : m.plan ≡ moment_plan contents graph) (cells : (n : ℕ) → CellStands m n)
     (n : ℕ) (source : has is_source (made_in graph) n ≡ true) (count : source_count (made_in graph) n ≡ 1) where
@@ -58,8 +46,7 @@ module _ (contents : ℕ → List ℕ) (graph : Graph) (m : Moment) (plan : m.pl
   source_owes one at =
       let number = pads_have_numbers made (first_pad n) there in
       let cell = subst (λ (pl : Plan). CellStands (record m { plan = pl }) n) plan (cells n) in
-      let some : source_pads one.settings ≡ 1 = sym (ap (λ (found : Option Made). option_map_or (λ (x : Made). source_pads x.settings) found 0) at) ∙ count in
-      let rule = source_rule one n (contents n) (omega (arith, some)) (no_sink_pad made n one at source) in
+      let rule = source_rule one n (contents n) (is_there made n one at source) in
       let whole = subst (λ (e : ℕ). tight_rule (slice_get made e) e (contents e) (m.took e) (p % 64) 0 ≡ m.history p ++ m.waits p) number.owner (cell.pads p number.owner) in
       sym (ap (λ (r : Rule). r (m.took n) (p % 64) 0) rule) ∙ ap (λ (found : Option Made). tight_rule found n (contents n) (m.took n) (p % 64) 0) (sym at) ∙ whole
 
@@ -67,7 +54,7 @@ module _ (contents : ℕ → List ℕ) (graph : Graph) (m : Moment) (plan : m.pl
   cut_short (Failed before after) short = λ one at.
       let number = pads_have_numbers made (first_pad n) there in
       let e = short p (subst (λ (pl : Plan). pl.owner p ≡ n) (sym plan) number.owner) in
-      let went : went_from (crossed_in graph m) n ≡ m.history p = rw number.pad refl in
+      let went : went_from (crossed_in graph m) (first_pad n) ≡ m.history p = rw number.pad refl in
       record {
         eos = subst (λ (xs : List Item). eos_among xs ≡ false) (sym went) e.eos;
         left = e.left;

@@ -10,10 +10,11 @@ use Rattle.lane_core.specs.declared.ends.Outlet as outlets
 use Rattle.net_model.specs.declared.element.TaskElement as elements
 use Rattle.net_model.specs.declared.source.TaskSource as sources
 use Rattle.graph_core.specs.Elements.{Made}
-use Rattle.graph_core.specs.declared.pad.PadLink.{PadLink}
+use Rattle.graph_pads.specs.declared.pad.PadLink.{PadLink}
 use Rattle.graph_bags.specs.Bags.{AreBags, IsBag, IsHead, head_cells, head_number, head_of, number_of, numbers}
 use Rattle.graph_bags.specs.Laws.{StandsIn}
-use Rattle.graph_bags.specs.Links.{has, is_source, Reaches}
+use Rattle.graph_bags.specs.Links.{has, source_count, Reaches}
+use Rattle.el_settings.specs.Asked.{is_source}
 use Rattle.graph_bags.specs.declared.bag.Bag.{Bag}
 use Rattle.graph_bags.specs.declared.bag.BagElement.{BagElement}
 use Rattle.graph_bags.specs.declared.bag.BagHead.{BagHead}
@@ -24,7 +25,7 @@ use Rattle.task_parts.specs.declared.head.InletHead.{InletHead}
 use Rattle.task_parts.specs.declared.head.SourceHead.{SourceHead}
 use Rattle.task_parts.specs.declared.part.Part.{Part}
 use Rattle.net_task.specs.declared.task.Task.{Task}
-use Rattle.net_task.specs.Frame.{by_inlets, frame_of, head_frame, part_frame}
+use Rattle.net_task.specs.Frame.{by_inlets, frame_of, head_frame, part_frame, wire_of}
 use Rattle.net_turns.specs.Net.{IsFed}
 use Rattle.graph_ends.specs.Frames.{HaveBags, IsFrameOf, IsHeadFrame}
 
@@ -47,7 +48,7 @@ got_within (x ∷ xs) (suc k) w = got_within xs k (omega (arith, w))
 pub all_at : {A : Type 0} (P : A → Type 0) (xs : List A) → All P xs → (k : ℕ) (x : A) → slice_get xs k ≡ Some x → P x
 all_at P xs all k x is = subst P (get_or_from_slice_get xs k x x is) (all k x (slice_get_within xs k x is))
 
-map_length : {A B : Type 0} (f : A → B) (xs : List A) → length (map f xs) ≡ length xs
+pub map_length : {A B : Type 0} (f : A → B) (xs : List A) → length (map f xs) ≡ length xs
 map_length f [] = refl
 map_length f (x ∷ xs) = ap suc (map_length f xs)
 
@@ -137,6 +138,18 @@ module _ {S E I O L : Type 0} {s : sources.Ghosts S} {e : elements.Ghosts E} {i 
       let count = have.count in
       let b = got_within bags k (omega (arith, w, count)) in
       (b.0, b.1, have.each k b.0 task b.1 at)
+
+  -- an element of a task has as many pads as that of the graph
+  pub part_own : (k : ℕ) (task : Task S E I O L s e i o) → slice_get tasks k ≡ Some task → (place : ℕ) (part : Part E O e) → slice_get task.parts.items place ≡ Some part
+      → length (map (wire_of o) part.pads.items) ≡ source_count made part.number
+  part_own k task task_at place part at =
+      let b = bag_of k task task_at in
+      let count = b.2.count in
+      let size = map_length (part_frame o) task.parts.items in
+      let w = slice_get_within task.parts.items place part at in
+      let c = got_within b.0.elements.items place (omega (arith, w, count, size)) in
+      let is = b.2.parts place c.0 (part_frame o part) c.1 (get_map (part_frame o) task.parts.items place part at) in
+      subst (λ (d : ℕ). length (map (wire_of o) part.pads.items) ≡ source_count made d) (sym is.number) is.all
 
   pub task_of : (k : ℕ) (bag : Bag) → slice_get bags k ≡ Some bag
       → (task : Task S E I O L s e i o) × (slice_get tasks k ≡ Some task) × IsFrameOf made links bag (frame_of task)

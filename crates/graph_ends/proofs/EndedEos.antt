@@ -1,15 +1,14 @@
 -- EOS in lists, and in the list that a source owes.
-use Rattle.std.proofs.Common.{◌≡◌, ◌≤◌, ℕ, Bool, true, false, eqb, if◌then◌else◌, List, [], ◌∷◌, refl, sym, ap, ◌∙◌}
+use Rattle.std.proofs.Common.{◌≡◌, ℕ, Bool, true, false, if◌then◌else◌, List, [], ◌∷◌, refl, sym, ap, ◌∙◌}
 use Rattle.flow_model.specs.Item.{Item, is_eos, is_flush_stop, eos_among}
 use Rattle.flow_model.specs.Sticky.{has_flush_stop, latest, since_flush_stop}
 use Rattle.flow_model.specs.Feeding.{has_item}
 use Rattle.net_model.specs.Over.{list_ended}
-use Rattle.el_settings.specs.Asked.{sink_pads, source_pads}
+use Rattle.el_settings.specs.Asked.{is_source}
 use Rattle.el_set.specs.Made.{list_of}
 use Rattle.el_settings.specs.declared.settings.Settings.{Settings}
 use Rattle.el_set.proofs.Ends.{eos_latest, none_first, plain_no_flush}
 use Rattle.el_set.proofs.Lists.{eos_later, plain_list, source_eos}
-use Rattle.el_settings.proofs.Roles.{end_sinks, one_sink, one_source}
 
 since_all : (xs : List Item) → has_flush_stop xs ≡ false → since_flush_stop xs ≡ xs
 since_all [] h = refl
@@ -37,9 +36,5 @@ ends : (s : Settings) (id : ℕ) (content : List ℕ) → eos_among (list_of s i
 ends s id content h = ended_is (list_of s id content) (plain_no_flush (list_of s id content) (plain_list s id content)) ∙ h
 
 -- the list of a source ends with EOS
-pub source_ends : (s : Settings) (id : ℕ) (content : List ℕ) → sink_pads s ≡ 0 → list_ended (list_of s id content) ≡ true
-source_ends s id content none = ends s id content (source_eos s id content (ap (λ (n : ℕ). eqb n 0) none))
-
--- an element has one pad of each kind at the most, and a sink has one
-pub pads_most : (s : Settings) → (sink_pads s ≤ 1) × (source_pads s ≤ 1) × (source_pads s ≡ 0 → sink_pads s ≡ 1)
-pads_most s = (one_sink s, one_source s, end_sinks s)
+pub source_ends : (s : Settings) (id : ℕ) (content : List ℕ) → is_source s ≡ true → list_ended (list_of s id content) ≡ true
+source_ends s id content is = ends s id content (source_eos s id content is)

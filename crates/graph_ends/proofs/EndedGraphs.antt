@@ -5,11 +5,12 @@ use Rattle.std.specs.Option.{option_map_or}
 use Rattle.el_set.specs.Made.{list_of}
 use Rattle.graph_core.specs.Elements.{Made}
 use Rattle.graph_core.specs.Graph.{IsSound, made as made_in, links as links_in, forward as forward_in}
-use Rattle.graph_core.specs.Links.{sink_behind}
+use Rattle.graph_pads.specs.Links.{sink_behind}
 use Rattle.graph_core.specs.declared.graph.Graph.{Graph}
-use Rattle.graph_core.specs.declared.pad.PadPlace.{PadPlace}
+use Rattle.graph_pads.specs.declared.pad.PadPlace.{PadPlace}
 use Rattle.graph_core.proofs.Ranks.{after, after_falls, after_most}
-use Rattle.graph_bags.specs.Links.{has, has_inlets, is_source, is_head, place_at, Reaches}
+use Rattle.graph_bags.specs.Links.{has, has_inlets, is_head, place_at, Reaches}
+use Rattle.el_settings.specs.Asked.{is_source}
 use Rattle.graph_moment.specs.Laws.{given_by}
 
 pub not_so : (b : Bool) → (b ≡ true → ⊥) → b ≡ false

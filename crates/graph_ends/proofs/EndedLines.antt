@@ -1,4 +1,4 @@
--- The tasks of a graph are lines, so that a run ends where nothing is left.
+-- The tasks of a graph that joins no streams are lines, so that its run ends where nothing waits.
 use Rattle.std.proofs.Common.{◌≡◌, ◌<◌, ◌≤◌, ◌⊎◌, ◌||◌, ℕ, Bool, true, false, eqb, if◌then◌else◌, List, Option, None, Some, length, map, refl, sym, ap}
 use Rattle.std.proofs.Common.{◌∙◌, subst, inl, inr, arith}
 use Rattle.std.specs.Prelude.{nat_lt, slice_get}
@@ -12,17 +12,17 @@ use Rattle.lane_core.specs.declared.ends.Outlet as outlets
 use Rattle.net_model.specs.Moment.{Moment}
 use Rattle.net_model.specs.declared.element.TaskElement as elements
 use Rattle.net_model.specs.declared.source.TaskSource as sources
-use Rattle.el_settings.specs.Asked.{limits_of}
+use Rattle.el_settings.specs.Asked.{is_queue, limits_of, makes_sinks}
 use Rattle.el_settings.specs.declared.settings.QueueSettings.{QueueSettings}
 use Rattle.el_settings.specs.declared.settings.Settings.{Settings}
 use Rattle.el_settings.proofs.Roles.{queue_sinks}
 use Rattle.graph_core.specs.Elements.{Made}
 use Rattle.graph_core.specs.Graph.{made as made_in, links as links_in}
-use Rattle.graph_core.specs.Links.{sink_behind}
+use Rattle.graph_pads.specs.Links.{sink_behind}
 use Rattle.graph_core.specs.declared.graph.Graph.{Graph}
-use Rattle.graph_core.specs.declared.pad.PadLink.{PadLink}
-use Rattle.graph_core.specs.declared.pad.PadPlace.{PadPlace}
-use Rattle.graph_core.specs.GraphPlan.{sink_count}
+use Rattle.graph_pads.specs.declared.pad.PadLink.{PadLink}
+use Rattle.graph_pads.specs.declared.pad.PadPlace.{PadPlace}
+use Rattle.graph_core.specs.GraphPlan.{owner_of, pad_id, sink_count}
 use Rattle.graph_bags.specs.Bags.{IsHead, head_cells, head_of, number_of, numbers}
 use Rattle.graph_bags.specs.Links.{has, has_inlets, link_to, place_at}
 use Rattle.graph_bags.specs.declared.bag.Bag.{Bag}
@@ -30,19 +30,20 @@ use Rattle.graph_bags.specs.declared.bag.BagHead.{BagHead}
 use Rattle.graph_bags.specs.declared.bag.BagHead.TheVariants as starts
 use Rattle.graph_bags.specs.declared.bag.BagLink.{BagLink}
 use Rattle.graph_bags.specs.declared.bag.BagLink.TheVariants.{Nothing, Element, Lane as OverLane}
-use Rattle.graph_lanes.specs.Lanes.{most_held, room_by, room_of}
+use Rattle.graph_lanes.specs.Lanes.{join_room, most_held, room_by, room_of}
 use Rattle.task_pads.specs.Behind.{over}
 use Rattle.task_parts.specs.declared.head.Head.{Head}
 use Rattle.task_parts.specs.declared.head.InletHead.{InletHead}
 use Rattle.net_task.specs.declared.task.Task.{Task}
 use Rattle.net_task.specs.Frame.{HeadFrame, Room, TaskFrame, Wire, IsWire, by_inlets, by_source, frame_of, head_frame, head_wire, of_head, of_part}
-use Rattle.net_turns.specs.Ends.{AreLines, LinesEnd}
+use Rattle.net_turns.specs.Ends.{AreLines, TakesOne}
 use Rattle.net_turns.specs.Net.{IsFed, SendsInto}
-use Rattle.graph_ends.specs.Ended.{RunsEndEmpty}
+use Rattle.net_turns.specs.Rests.{Wants}
 use Rattle.graph_ends.specs.Frames.{IsFrameOf, IsHeadFrame, IsWireOf, RoomBy, goes_by}
 use Rattle.graph_ends.specs.Runs.{RunsAt}
 use Rattle.graph_ends.proofs.EndedBags.{among_back, among_front, bag_is, bag_of, fed_number, got_within}
 use Rattle.graph_ends.proofs.EndedGraphs.{rank, rank_rises, reached_later}
+use Rattle.graph_ends.proofs.FedHeads.{head_fed}
 
 -- a queue holds an item
 room_some : (s : QueueSettings) → 1 ≤ room_of s
@@ -58,21 +59,17 @@ room_some s = go (eqb_tells s.buffers 0) (nat_lt most_held s.buffers)
     go (inr f) b = rw f.0 (by_most b f.1)
 
 room_by_some : (s : Settings) (n : ℕ) → room_by s ≡ Some n → 1 ≤ n
-room_by_some s n is = by (limits_of s) is
+room_by_some s n is = by (makes_sinks s) (limits_of s) is
   where
-    by : (limits : Option QueueSettings) → option_map room_of limits ≡ Some n → 1 ≤ n
-    by None is = absurd (cc)
-    by (Some own) is = subst (λ (k : ℕ). 1 ≤ k) (same_Some _ _ is) (room_some own)
+    by : (b : Bool) (limits : Option QueueSettings) → (if b then Some join_room else option_map room_of limits) ≡ Some n → 1 ≤ n
+    by true limits is = let same = same_Some join_room n is in omega (arith, same)
+    by false None is = absurd (cc)
+    by false (Some own) is = subst (λ (k : ℕ). 1 ≤ k) (same_Some _ _ is) (room_some own)
 
 lane_some : (b : Bool) (found : Option Made) (n : ℕ) → (if b then option_map_or (λ (m : Made). room_by m.settings) found None else None) ≡ Some n → 1 ≤ n
 lane_some true None n is = absurd (cc)
 lane_some true (Some m) n is = room_by_some m.settings n is
 lane_some false found n is = absurd (cc)
-
--- an element that is fed from inlets has one sink pad
-inlets_sinks : (found : Option Made) → option_map_or (λ (m : Made). has_inlets m.settings) found false ≡ true → sink_count found ≡ 1
-inlets_sinks None is = absurd (cc)
-inlets_sinks (Some m) is = queue_sinks m.settings is
 
 -- a lane of a pad has room, and leads to the element that the pad is linked to
 lane_holds : (made : List Made) (links : List PadLink) (link : BagLink) (found : Option Room) (room : Room) → RoomBy made links link found → found ≡ Some room
@@ -86,7 +83,7 @@ lane_holds made links (Element d j) found room none is = absurd (no (sym none �
     no : None ≡ Some room → ⊥
     no e = cc
 lane_holds made links (OverLane d j) found room by is =
-    subst (λ (r : Room). 1 ≤ r.limits.items) (same_Some _ _ (sym by.1 ∙ is)) (lane_some _ (slice_get made d) by.0.limits.items by.3)
+    subst (λ (r : Room). 1 ≤ r.limits.items) (same_Some _ _ (sym by.1 ∙ is)) (lane_some _ (slice_get made (owner_of (pad_id (place_at d j)))) by.0.limits.items by.3)
 
 leads_over : (made : List Made) (found : Option PadPlace) (lane n j from : ℕ) → goes_by (link_to made found) ≡ over lane n j from
     → (sink : PadPlace) × (found ≡ Some sink) × (sink.element ≡ n)
@@ -154,19 +151,6 @@ module _ {S E I O L : Type 0} {s : sources.Ghosts S} {e : elements.Ghosts E} {i 
   unfolding rank_of
   rank_is k bag is = rw is refl
 
-  single_row : (k : ℕ) (head : InletHead I) → IsFed tasks k head → length head.rows.items ≡ 1
-  single_row k head fed = go (bag_at k fed.task fed.at).0.head is_head
-      (subst (λ (h : Head S I O s). IsHeadFrame (made_in graph) (links_in graph) (bag_at k fed.task fed.at).0.head (head_frame o h)) fed.head_is
-      (bag_at k fed.task fed.at).2.head)
-    where
-      is_head : IsHead (made_in graph) (bag_at k fed.task fed.at).0.head
-      is_head = (bag_is (made_in graph) (links_in graph) bags at.bags_are k (bag_at k fed.task fed.at).0 (bag_at k fed.task fed.at).1).head
-
-      go : (own : BagHead) → IsHead (made_in graph) own → IsHeadFrame (made_in graph) (links_in graph) own (by_inlets head.number (length head.rows.items))
-          → length head.rows.items ≡ 1
-      go (starts.Source cell) is none = absurd none
-      go (starts.Inlets n) is frame = frame.1 ∙ inlets_sinks (slice_get (made_in graph) n) is
-
   rises : (k r p place from n port : ℕ) (head : InletHead I) → SendsInto tasks k p place from n port → IsFed tasks r head → head.number ≡ n
       → rank_of k < rank_of r
   rises k r p place from n port head sends fed number =
@@ -184,19 +168,13 @@ module _ {S E I O L : Type 0} {s : sources.Ghosts S} {e : elements.Ghosts E} {i 
       let two = rank_is r c.0 c.1 in
       omega (arith, less, later, first, one, two)
 
-  pub are_lines : ((element : E) → e.wanted element ≡ Some 0) → AreLines m tasks
-  are_lines wanted = record {
+  pub are_lines : ((k : ℕ) (head : InletHead I) → IsFed tasks k head → TakesOne e m head) → AreLines m tasks
+  are_lines takes = record {
     unprobed = λ k task wire task_at is. (wire_at k task task_at wire is).is.unprobed;
     room = λ k task wire room task_at is has_room. let w = wire_at k task task_at wire is in
         lane_holds (made_in graph) (links_in graph)
         (link_to (made_in graph) (sink_behind (links_in graph) (place_at w.number w.port))) wire.room room w.is.room has_room;
-    single = single_row;
-    wants = λ k head port fed wants. sym wants.wants ∙ wanted wants.element;
+    single = takes;
     rank = rank_of;
     rises = rises;
   }
-
-pub runs_end_empty : {S E I O L : Type 0} (s : sources.Ghosts S) (e : elements.Ghosts E) (i : inlets.Ghosts I L O) (o : outlets.Ghosts O L) → LinesEnd s e i o
-    → RunsEndEmpty s e i o
-runs_end_empty s e i o lines_end wanted contents graph bags m tasks steps tells at rests =
-    lines_end m tasks steps tells rests (are_lines contents graph bags m tasks tells at wanted)

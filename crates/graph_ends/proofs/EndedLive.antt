@@ -1,10 +1,11 @@
 -- Each sink pad of a live element is linked to a live element, and a live element stands in a bag.
-use Rattle.std.proofs.Common.{◌≡◌, ◌<◌, ◌⊎◌, ◌||◌, ℕ, Bool, true, false, List, [], ◌∷◌, ◌++◌, Option, None, Some, Result, Ok, IfOk, refl, sym, ap, ◌∙◌}
+use Rattle.std.proofs.Common.{◌≡◌, ◌<◌, ◌⊎◌, ◌||◌, ℕ, Bool, true, false, List, [], ◌∷◌, ◌++◌, Option, None, Some, Result, Ok, IfOk, refl, sym, ap, ap₂, ◌∙◌}
 use Rattle.std.proofs.Common.{subst, inl, inr, arith, if◌then◌else◌}
 use Rattle.std.specs.Prelude.{is_some, slice_get}
 use Rattle.std.specs.Option.{option_map_or}
 use Rattle.std.proofs.lemmas.Bool.{eq-eqb}
-use Rattle.el_settings.specs.Asked.{sink_pads}
+use Rattle.el_settings.specs.Asked.{is_source, makes_sinks, sink_pads}
+use Rattle.el_settings.proofs.Roles.{other_sinks, source_no_sink}
 use Rattle.flow_model.specs.Account.{IsMember}
 use Rattle.graph_order.specs.Links.{IsLink}
 use Rattle.graph_core.specs.Allowed.{checked}
@@ -12,12 +13,13 @@ use Rattle.graph_core.specs.Asked.{End, asked}
 use Rattle.graph_core.specs.Comes.{Comes}
 use Rattle.graph_core.specs.Elements.{Made}
 use Rattle.graph_core.specs.Graph.{IsGraph, IsSound, made as made_in, links as links_in}
-use Rattle.graph_core.specs.Links.{HasPads, IsLinked, LinksCome, is_same, sink_behind, source_before, ways}
+use Rattle.graph_core.specs.Links.{HasPads, IsLinked, LinksCome, ways}
+use Rattle.graph_pads.specs.Links.{is_same, sink_behind, source_before}
 use Rattle.graph_core.specs.Live.{Live}
 use Rattle.graph_core.specs.declared.fault.BuildFault.{BuildFault}
 use Rattle.graph_core.specs.declared.graph.Graph.{Graph}
-use Rattle.graph_core.specs.declared.pad.PadLink.{PadLink}
-use Rattle.graph_core.specs.declared.pad.PadPlace.{PadPlace}
+use Rattle.graph_pads.specs.declared.pad.PadLink.{PadLink}
+use Rattle.graph_pads.specs.declared.pad.PadPlace.{PadPlace}
 use Rattle.graph_core.specs.LinkedOnce.{AreOnce}
 use Rattle.launch_text.specs.declared.tree.Tree.{Tree}
 use Rattle.graph_core.specs.GraphPlan.{IsIn, sink_at, sink_count}
@@ -25,11 +27,10 @@ use Rattle.graph_core.proofs.Orders.{pads_at_link}
 use Rattle.graph_moment.proofs.Sources.{linked_there, sinks_are}
 use Rattle.graph_bags.specs.Bags.{AreBags, numbers}
 use Rattle.graph_bags.specs.Laws.{StandsIn}
-use Rattle.graph_bags.specs.Links.{has, has_inlets, is_head, is_source, LeadsInside}
+use Rattle.graph_bags.specs.Links.{has, has_inlets, is_head, LeadsInside}
 use Rattle.graph_bags.specs.declared.bag.Bag.{Bag}
 use Rattle.graph_bags.proofs.Apart.{bags_are_closed, heads_have_bags}
 use Rattle.graph_ends.proofs.EndedBags.{bag_is, head_among}
-use Rattle.graph_ends.proofs.EndedEos.{pads_most}
 use Rattle.graph_ends.proofs.EndedGraphs.{inlets_head, source_head}
 
 -- what is found among some links is found among one more
@@ -105,30 +106,23 @@ link_between [] a b is = absurd is
 link_between (l ∷ ls) a b (inl here) = (l, inl refl, here.0, here.1)
 link_between (l ∷ ls) a b (inr is) = let found = link_between ls a b is in (found.0, inr found.1, found.2, found.3)
 
--- an element has one sink pad at the most
-first_sink : (found : Option Made) (pad : ℕ) → pad < option_map_or (λ (m : Made). sink_pads m.settings) found 0 → pad ≡ 0
-first_sink None pad w = absurd (omega (arith, w))
-first_sink (Some m) pad w = let most = (pads_most m.settings).0 in omega (arith, w, most)
-
 module _ (tree : Tree) (graph : Graph) (is : IsGraph tree graph) (sound : IsSound graph) (once : AreOnce (links_in graph)) where
   -- the link between two elements
   pub record IsBetween (a b : ℕ) : Type 0 where
     pub source : PadPlace
-    pub linked : sink_behind (links_in graph) source ≡ Some (sink_at b 0)
+    pub sink : PadPlace
+    pub linked : sink_behind (links_in graph) source ≡ Some sink
+    pub there : sink.pad < option_map_or (λ (m : Made). sink_pads m.settings) (slice_get (made_in graph) sink.element) 0
     pub from : source.element ≡ a
-
-  place_of : ℕ → ℕ → PadPlace
-  place_of element pad = record { element = element; pad = pad }
+    pub to : sink.element ≡ b
 
   pub between : (a b : ℕ) → IsLink a b (ways (links_in graph)) → IsBetween a b
-  unfolding AllLead place_of
+  unfolding AllLead
   between a b link =
       let found = link_between (links_in graph) a b link in
       let pads : HasPads (made_in graph) found.0 = pads_at_link (made_in graph) (links_in graph) sound.pads found.0 found.1 in
-      let pad = first_sink (slice_get (made_in graph) found.0.sink.element) found.0.sink.pad pads.1 in
-      let sink : found.0.sink ≡ sink_at b 0 = ap (λ (n : ℕ). place_of found.0.sink.element n) pad ∙ ap (λ (n : ℕ). place_of n 0) found.3 in
       let leads = lead_come (checked (made_in graph)) [] (asked tree) (Ok (links_in graph)) is.links none_lead found.0 found.1 in
-      record { source = found.0.source; linked = leads ∙ ap Some sink; from = found.2 }
+      record { source = found.0.source; sink = found.0.sink; linked = leads; there = pads.1; from = found.2; to = found.3 }
 
   -- what a sink pad of a live element is linked to
   pub record IsLinkedLive (e k : ℕ) : Type 0 where
@@ -136,16 +130,24 @@ module _ (tree : Tree) (graph : Graph) (is : IsGraph tree graph) (sound : IsSoun
     pub at : source_before (links_in graph) (sink_at e k) ≡ Some source
     pub live : Live (made_in graph) (links_in graph) source.element
 
-  pub linked_live : (e : ℕ) → Live (made_in graph) (links_in graph) e → (k : ℕ) → k < sink_count (slice_get (made_in graph) e) → IsLinkedLive e k
-  linked_live e (Live.source x m at none) k w = absurd (let count = ap sink_count at in omega (arith, w, none, count))
-  linked_live e (Live.fed a b live link) k w =
+  -- a live element that is no source has a sink pad
+  pub live_sinks : (n : ℕ) → Live (made_in graph) (links_in graph) n → (m : Made) → slice_get (made_in graph) n ≡ Some m → is_source m.settings ≡ false
+      → 0 < sink_count (slice_get (made_in graph) n)
+  live_sinks n (Live.source x one at source) m here other = absurd (both (sym source ∙ ap (λ (found : Made). is_source found.settings) same ∙ other))
+    where
+      some_same : {a b : Made} → Some a ≡ Some b → a ≡ b
+      some_same e = cc
+
+      same : one ≡ m
+      same = some_same (sym at ∙ here)
+
+      both : true ≡ false → ⊥
+      both e = cc
+  live_sinks n (Live.fed a b live link) m here other =
       let l = between a b link in
-      let first = first_sink (slice_get (made_in graph) b) k (subst (λ (n : ℕ). k < n) (sym (sinks_are (slice_get (made_in graph) b))) w) in
-      record {
-        source = l.source;
-        at = once.there l.source (sink_at b k) (subst (λ (n : ℕ). sink_behind (links_in graph) l.source ≡ Some (sink_at b n)) (sym first) l.linked);
-        live = subst (Live (made_in graph) (links_in graph)) (sym l.from) live;
-      }
+      let there = subst (λ (d : ℕ). l.sink.pad < option_map_or (λ (one : Made). sink_pads one.settings) (slice_get (made_in graph) d) 0) l.to l.there in
+      let same = sinks_are (slice_get (made_in graph) b) in
+      omega (arith, there, same)
 
   -- it stands in a bag
   pub in_bag : (bags : List Bag) → AreBags (made_in graph) (links_in graph) bags → (e : ℕ) → Live (made_in graph) (links_in graph) e
@@ -164,8 +166,8 @@ module _ (tree : Tree) (graph : Graph) (is : IsGraph tree graph) (sound : IsSoun
             },
           )
 
-      source_is : (e : ℕ) (m : Made) → slice_get (made_in graph) e ≡ Some m → sink_pads m.settings ≡ 0 → has is_source (made_in graph) e ≡ true
-      source_is e m at none = rw at (eq-eqb (sink_pads m.settings) 0 none)
+      source_is : (e : ℕ) (m : Made) → slice_get (made_in graph) e ≡ Some m → is_source m.settings ≡ true → has is_source (made_in graph) e ≡ true
+      source_is e m at source = rw at source
 
       behind : (a b : ℕ) → IsBetween a b → (k : ℕ) × StandsIn bags k a → (d : Bool) → has has_inlets (made_in graph) b ≡ d → (k : ℕ) × StandsIn bags k b
       behind a b l t true queue = by_head b (inlets_head (made_in graph) b queue)
@@ -179,15 +181,15 @@ module _ (tree : Tree) (graph : Graph) (is : IsGraph tree graph) (sound : IsSoun
               (subst (λ (n : ℕ). LeadsInside (made_in graph) (links_in graph) n b) l.from
               (record {
                 pad = l.source.pad;
-                there = linked_there (made_in graph) (links_in graph) sound.pads (sink_at b 0) l.source (once.there l.source (sink_at b 0) l.linked);
-                sink = sink_at b 0;
+                there = linked_there (made_in graph) (links_in graph) sound.pads l.sink l.source (once.there l.source l.sink l.linked);
+                sink = l.sink;
                 linked = l.linked;
-                element = refl;
+                element = l.to;
                 inner = inner;
               }));
         },
       )
 
       go : (e : ℕ) → Live (made_in graph) (links_in graph) e → (k : ℕ) × StandsIn bags k e
-      go e (Live.source x m at none) = by_head x (source_head (made_in graph) x (source_is x m at none))
+      go e (Live.source x m at source) = by_head x (source_head (made_in graph) x (source_is x m at source))
       go e (Live.fed a b live link) = behind a b (between a b link) (go a live) (has has_inlets (made_in graph) b) refl

@@ -17,13 +17,13 @@ use Rattle.net_model.specs.Split.{AreEmpty}
 use Rattle.net_model.proofs.Splits.{split_all}
 use Rattle.net_model.specs.declared.element.TaskElement as elements
 use Rattle.net_model.specs.declared.source.TaskSource as sources
+use Rattle.el_settings.specs.Asked.{is_source}
 use Rattle.graph_core.specs.Graph.{IsSound, made as made_in, links as links_in}
-use Rattle.graph_core.specs.Links.{source_before}
+use Rattle.graph_pads.specs.Links.{source_before}
 use Rattle.graph_core.specs.declared.graph.Graph.{Graph}
-use Rattle.graph_core.specs.declared.pad.PadLink.{PadLink}
-use Rattle.graph_core.specs.declared.pad.PadPlace.{PadPlace}
+use Rattle.graph_pads.specs.declared.pad.PadLink.{PadLink}
+use Rattle.graph_pads.specs.declared.pad.PadPlace.{PadPlace}
 use Rattle.graph_core.specs.LinkedOnce.{AreOnce}
-use Rattle.graph_core.specs.Allowed.{first_pad}
 use Rattle.graph_core.specs.GraphPlan.{line_plan, pad_id, sink_at, sink_count, spans_from}
 use Rattle.graph_core.proofs.NumberedPads.{owner_at}
 use Rattle.graph_moment.specs.Pads.{is_pad, pad_owner}
@@ -34,7 +34,7 @@ use Rattle.graph_moment.proofs.Sources.{few_there, linked_there, owner_is}
 use Rattle.graph_moment.proofs.Wholes.{pads_have_numbers}
 use Rattle.graph_bags.specs.Bags.{AreBags, numbers}
 use Rattle.graph_bags.specs.Laws.{StandsIn}
-use Rattle.graph_bags.specs.Links.{has, is_head}
+use Rattle.graph_bags.specs.Links.{has, is_head, place_at}
 use Rattle.graph_bags.specs.declared.bag.Bag.{Bag}
 use Rattle.graph_bags.proofs.Apart.{bags_are_closed, heads_have_bags}
 use Rattle.flow_model.specs.Account.{IsMember}
@@ -100,6 +100,19 @@ module _ (contents : ℕ → List ℕ) (graph : Graph) (bags : List Bag) (m : Mo
             });
       })
 
+  -- such an element took nothing, where nothing crossed pads of those that stand earlier
+  took_by : (e : ℕ) → IsLoose bags e → ((q : ℕ) → rank graph (pad_owner (made_in graph) q) < rank graph e → IsLoose bags (pad_owner (made_in graph) q) → m.history q ≡ [])
+      → m.took e ≡ no_calls (moment_plan contents graph) e
+  unfolding line_plan
+  took_by e loose earlier =
+      let before : (k : ℕ) (source : PadPlace) → source_before (links_in graph) (sink_at e k) ≡ Some source → m.history (pad_id source) ≡ []
+      = λ k source at. let number = pads_have_numbers (made_in graph) source
+      (linked_there (made_in graph) (links_in graph) sound.pads (sink_at e k) source at) in
+      let rises = rank_rises graph sound source (sink_at e k) (once.back source (sink_at e k) at) in
+      let same = ap (rank graph) number.owner in
+      earlier (pad_id source) (omega (arith, rises, same)) (subst (IsLoose bags) (sym number.owner) (source_loose source (sink_at e k) at loose))
+      in split_all (empty e loose) (cells e).input ∙ inputs_none m.history (links_in graph) e (range_with_len 0 (sink_count (slice_get (made_in graph) e))) before
+
   -- nothing crossed a pad of such an element, where that is so of those that stand earlier
   quiet_at : (p : ℕ) → IsLoose bags (pad_owner (made_in graph) p)
       → ((q : ℕ) → rank graph (pad_owner (made_in graph) q) < rank graph (pad_owner (made_in graph) p) → IsLoose bags (pad_owner (made_in graph) q)
@@ -109,15 +122,7 @@ module _ (contents : ℕ → List ℕ) (graph : Graph) (bags : List Bag) (m : Mo
   quiet_at p loose earlier =
       let e = pad_owner (made_in graph) p in
       let plan = moment_plan contents graph in
-      let before : (k : ℕ) (source : PadPlace) → source_before (links_in graph) (sink_at e k) ≡ Some source → m.history (pad_id source) ≡ []
-      = λ k source at. let number = pads_have_numbers (made_in graph) source
-      (linked_there (made_in graph) (links_in graph) sound.pads (sink_at e k) source at) in
-      let rises = rank_rises graph sound source (sink_at e k) (once.back source (sink_at e k) at) in
-      let same = ap (rank graph) number.owner in
-      earlier (pad_id source) (omega (arith, rises, same)) (subst (IsLoose bags) (sym number.owner) (source_loose source (sink_at e k) at loose))
-      in let took : m.took e ≡ no_calls plan e
-      = split_all (empty e loose) (cells e).input ∙ inputs_none m.history (links_in graph) e
-      (range_with_len 0 (sink_count (slice_get (made_in graph) e))) before
+      let took : m.took e ≡ no_calls plan e = took_by e loose earlier
       in let given : given_by (slice_get (made_in graph) e) e (contents e) ≡ []
       = gives_none (made_in graph) e (contents e) (not_so _ (λ is. not_head e loose (source_head (made_in graph) e is)))
       in let whole : plan.rule e (m.took e) (plan.port p) 0 ≡ m.history p ++ m.waits p = (cells e).pads p refl in
@@ -137,14 +142,21 @@ module _ (contents : ℕ → List ℕ) (graph : Graph) (bags : List Bag) (m : Mo
       go true pad = quiet_pad (pad_id place) (subst (IsLoose bags) (sym (owner_is (made_in graph) (pad_id place) pad ∙ owner_at place few)) loose)
       go false none = refl
 
+  -- and it took nothing
+  pub took_none : (e : ℕ) → IsLoose bags e → m.took e ≡ no_calls (moment_plan contents graph) e
+  took_none e loose = took_by e loose (λ q less other. quiet_pad q other)
+
   pub quiet : (n : ℕ) → IsLoose bags n → IsQuiet graph m n
-  quiet n loose = record { came = go (source_before (links_in graph) (first_pad n)) refl; went = crossed_none (first_pad n) (omega arith) loose }
+  quiet n loose = record {
+    came = λ pad. go pad (source_before (links_in graph) (place_at n pad)) refl;
+    went = λ pad there. crossed_none (place_at n pad) (few_there (made_in graph) (place_at n pad) there) loose;
+  }
     where
-      go : (found : Option PadPlace) → source_before (links_in graph) (first_pad n) ≡ found → came_to (links_in graph) (crossed_in graph m) n ≡ []
-      go None at = rw at refl
-      go (Some source) at = rw at
-          (crossed_none source (few_there (made_in graph) source (linked_there (made_in graph) (links_in graph) sound.pads (first_pad n) source at))
-          (source_loose source (first_pad n) at loose))
+      go : (pad : ℕ) (found : Option PadPlace) → source_before (links_in graph) (place_at n pad) ≡ found → came_to (links_in graph) (crossed_in graph m) (place_at n pad) ≡ []
+      go pad None at = rw at refl
+      go pad (Some source) at = rw at
+          (crossed_none source (few_there (made_in graph) source (linked_there (made_in graph) (links_in graph) sound.pads (place_at n pad) source at))
+          (source_loose source (place_at n pad) at loose))
 
 module _ {S E I O L : Type 0} {s : sources.Ghosts S} {e : elements.Ghosts E} {i : inlets.Ghosts I L O} {o : outlets.Ghosts O L}
     (contents : ℕ → List ℕ) (graph : Graph) (bags : List Bag) (m : Moment) (tasks : List (Task S E I O L s e i o)) (tells : Option (List Lane))
@@ -159,6 +171,14 @@ module _ {S E I O L : Type 0} {s : sources.Ghosts S} {e : elements.Ghosts E} {i 
 
   pub loose_quiet : (p : ℕ) → IsLoose bags (pad_owner (made_in graph) p) → m.history p ≡ []
   loose_quiet p loose = quiet_pad contents graph bags m at.sound at.once at.bags_are cells_at held_none p loose
+
+  pub loose_took : (n : ℕ) → IsLoose bags n → m.took n ≡ no_calls (moment_plan contents graph) n
+  loose_took n loose = took_none contents graph bags m at.sound at.once at.bags_are cells_at held_none n loose
+
+  -- an element that no head reaches is no source
+  pub loose_gives : (n : ℕ) → IsLoose bags n → has is_source (made_in graph) n ≡ false
+  loose_gives n loose =
+      not_so _ (λ is. not_head contents graph bags m at.sound at.once at.bags_are cells_at held_none n loose (source_head (made_in graph) n is))
 
 pub loose_are_quiet : {S E I O L : Type 0} (s : sources.Ghosts S) (e : elements.Ghosts E) (i : inlets.Ghosts I L O) (o : outlets.Ghosts O L)
     → LooseAreQuiet s e i o

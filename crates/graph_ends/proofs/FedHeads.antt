@@ -11,7 +11,7 @@ use Rattle.net_model.specs.declared.source.TaskSource as sources
 use Rattle.graph_core.specs.Elements.{Made}
 use Rattle.graph_core.specs.Graph.{made as made_in, links as links_in}
 use Rattle.graph_core.specs.declared.graph.Graph.{Graph}
-use Rattle.graph_core.specs.declared.pad.PadLink.{PadLink}
+use Rattle.graph_pads.specs.declared.pad.PadLink.{PadLink}
 use Rattle.graph_bags.specs.Bags.{IsBag, IsHead}
 use Rattle.graph_bags.specs.Links.{has, has_inlets}
 use Rattle.graph_bags.specs.declared.bag.Bag.{Bag}

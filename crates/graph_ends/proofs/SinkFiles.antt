@@ -68,9 +68,8 @@ module _ {K : Type 0} (k : sinks.Ghosts K) where
 
     -- An element whose file is told stands for all that came to it, where a sink took all that came.
     pub has_all : (element : StreamElement K) → StreamStands k.bytes element behavior took → HasAll k element came
-    has_all (kinds.Filter filter) t keep file is = absurd (none_some is)
-    has_all (kinds.Queue queue) t keep file is = absurd (none_some is)
     has_all (kinds.Sink sink) t keep file is = of_sink sink t keep file is
+    has_all _ t keep file is = absurd (none_some is)
 
     -- One of which a write failed holds a part of the item too.
     pub has_part : (x : Item) (sink : SinkElement K) → SinkFell k.bytes sink x behavior took → HasPart k (kinds.Sink sink) came x

@@ -17,9 +17,12 @@ use Rattle.net_model.specs.declared.source.TaskSource as sources
 use Rattle.net_model.specs.declared.refusal.Refusal.{Refusal}
 use Rattle.net_model.specs.declared.refusal.Refusal.TheVariants.{Fault, Unwritten}
 use Rattle.net_model.specs.Refuses.{RefusesBy}
+use Rattle.flow_model.specs.Eval.{Plan}
+use Rattle.net_model.specs.Step.{Leads}
+use Rattle.graph_core.specs.Allowed.{first_pad}
 use Rattle.graph_core.specs.Graph.{made as made_in, links as links_in}
 use Rattle.graph_core.specs.declared.graph.Graph.{Graph}
-use Rattle.graph_bags.specs.Links.{has, has_inlets}
+use Rattle.graph_bags.specs.Links.{has, has_inlets, place_at}
 use Rattle.graph_bags.specs.declared.bag.Bag.{Bag}
 use Rattle.task_elements.specs.Stands.{StreamFell, takes_all}
 use Rattle.task_elements.specs.declared.element.StreamElement.{StreamElement}
@@ -36,12 +39,16 @@ use Rattle.net_task.specs.Frame.{frame_of, head_frame}
 use Rattle.net_task.specs.Ties.{AreTied, Stands, nothing_lost}
 use Rattle.net_task.specs.declared.task.Task.{Task}
 use Rattle.graph_ends.specs.Owed.{IsAwaited, came_to}
-use Rattle.graph_ends.specs.Runs.{RunsAt, crossed_in}
+use Rattle.graph_ends.specs.Runs.{RunStands, RunsAt, crossed_in}
 use Rattle.graph_ends.specs.Written.{AreStreams, HasAll, HasPart, HeadCrossed, IsBehind, PadsCrossed, StandsBehind, StandsWhole, TaskCrossed, TasksStandBehind}
 use Rattle.graph_ends.specs.Written.{TasksStandWhole}
-use Rattle.graph_ends.proofs.Awaited.{awaited_by}
+use Rattle.graph_ends.proofs.Awaited.{awaited}
+use Rattle.graph_ends.proofs.Came.{leads_from}
+use Rattle.graph_ends.proofs.EndedGraphs.{not_so}
+use Rattle.graph_ends.proofs.FedElements.{no_sink, only_first}
 use Rattle.graph_ends.proofs.FedHeads.{frame_fed, head_fed}
-use Rattle.graph_ends.proofs.SinkCame.{came_whole, no_sink}
+use Rattle.graph_ends.proofs.InOrder.{runs_stand}
+use Rattle.graph_ends.proofs.SinkCame.{came_whole}
 use Rattle.graph_ends.proofs.SinkFiles.{has_all, has_part}
 use Rattle.gst_value.proofs.Basics.{none_some}
 
@@ -82,18 +89,30 @@ module _ {S K I O L : Type 0} (k : sinks.Ghosts K) (s : sources.Ghosts S) (e : e
     (runs : RunsAt contents graph bags m tasks tells) where
   -- what came to an element
   abbrev came : ℕ → List Item
-  came n = came_to (links_in graph) (crossed_in graph m) n
+  came n = came_to (links_in graph) (crossed_in graph m) (first_pad n)
+
+  run : RunStands contents graph m
+  run = runs_stand k s e i o streams contents graph bags m tasks tells runs
 
   -- a sink is no element that is fed from inlets
   not_fed : (n : ℕ) → behavior_at m n ≡ takes_all → has has_inlets (made_in graph) n ≡ true → ⊥
-  not_fed n is inlets = no_sink contents graph n inlets (sym (ap (λ plan. plan.rule n) runs.plan) ∙ ap (λ (b : Behavior). b.owes) is)
+  not_fed n is inlets = no_sink contents graph m runs.plan n inlets is
+
+  -- what waits first at a pad that leads to a sink is awaited at its only sink pad
+  awaited_first : (p n pad : ℕ) (x : Item) (rest : List Item) → m.waits p ≡ x ∷ rest → Leads m.plan p n pad → behavior_at m n ≡ takes_all
+      → IsAwaited contents (made_in graph) (links_in graph) (crossed_in graph m) (first_pad n) x
+  awaited_first p n pad x rest waits leads is =
+      let few = (leads_from contents graph runs.sound p n pad (subst (λ (pl : Plan). Leads pl p n pad) runs.plan leads)).few in
+      subst (λ (d : ℕ). IsAwaited contents (made_in graph) (links_in graph) (crossed_in graph m) (place_at n d) x)
+      (only_first (slice_get (made_in graph) n) pad (not_so _ (λ fed. not_fed n is fed)) few)
+      (awaited contents graph m runs.sound run p n pad x rest waits leads)
 
   -- so it took all that came to it
   took_all : (n : ℕ) → behavior_at m n ≡ takes_all → (list : List Item) → m.took n ≡ feeds list ∷ [] → came n ≡ list
   took_all n is list took =
       let apart = runs.net.others n (λ j head fed same.
       not_fed n is (subst (λ (a : ℕ). has has_inlets (made_in graph) a ≡ true) same (head_fed contents graph bags m tasks tells runs j head fed))) in
-      came_whole contents graph m runs.sound runs.plan n (runs.net.cells n) apart list took
+      came_whole contents graph m runs.sound run n apart list took
 
   -- an element of a task holds all that came to it
   holds_all : (part : Part (StreamElement K) O e) → Stands m part → HasAll k part.element (came part.number)
@@ -118,7 +137,7 @@ module _ {S K I O L : Type 0} (k : sinks.Ghosts K) (s : sources.Ghosts S) (e : e
   }
 
   module _ (n pad : ℕ) (x : Item) (refusal : Refusal) (why : RefusesBy (behavior_at m n) (m.took n) pad x refusal)
-      (awaited : behavior_at m n ≡ takes_all → IsAwaited contents (made_in graph) (links_in graph) (crossed_in graph m) n x) where
+      (awaits : behavior_at m n ≡ takes_all → IsAwaited contents (made_in graph) (links_in graph) (crossed_in graph m) (first_pad n) x) where
     -- a sink has no fault but want of memory, so a write of it failed
     refused_so : (number : ℕ) (element : StreamElement K) (number_is : number ≡ n) → behavior_at m number ≡ takes_all → HasPart k element (came number) x
         → (r : Refusal)
@@ -128,17 +147,16 @@ module _ {S K I O L : Type 0} (k : sinks.Ghosts K) (s : sources.Ghosts S) (e : e
         let memory = passes_none (only (m.took n)) x fault (subst (λ r. IsFaultOf r fault) answers by) in
         IsBehind.no_memory (ap (λ (f : ElementFault). refusal_fault n (Fault f)) memory)
     refused_so number element same is part (Unwritten before after) by =
-        let first = awaited (subst (λ (a : ℕ). behavior_at m a ≡ takes_all) same is) in
+        let first = awaits (subst (λ (a : ℕ). behavior_at m a ≡ takes_all) same is) in
         IsBehind.part before after x (ap (λ (a : ℕ). faults.WriteFault a before after) (sym same))
-        (subst (λ (a : ℕ). IsAwaited contents (made_in graph) (links_in graph) (crossed_in graph m) a x) (sym same) first) part
+        (subst (λ (a : ℕ). IsAwaited contents (made_in graph) (links_in graph) (crossed_in graph m) (first_pad a) x) (sym same) first) part
 
     fell_so : (number : ℕ) (same : number ≡ n) (element : StreamElement K) → StreamFell k.bytes element (behavior_at m number) (m.took number) pad x
         → IsBehind k contents graph m (refusal_fault n refusal) number element
-    fell_so number same (kinds.Filter filter) fell = IsBehind.all (λ keep file is. absurd (none_some is))
-    fell_so number same (kinds.Queue queue) fell = IsBehind.all (λ keep file is. absurd (none_some is))
     fell_so number same (kinds.Sink sink) fell =
         refused_so number (kinds.Sink sink) same fell.behavior_is
         (has_part k (behavior_at m number) (m.took number) (runs.net.first number).0 (came number) (took_all number) x sink fell) refusal why
+    fell_so number same _ fell = IsBehind.all (λ keep file is. absurd (none_some is))
 
     part_behind : (part : Part (StreamElement K) O e) → StandsOrFell n pad x m part
         → IsBehind k contents graph m (refusal_fault n refusal) part.number part.element
@@ -159,16 +177,14 @@ module _ {S K I O L : Type 0} (k : sinks.Ghosts K) (s : sources.Ghosts S) (e : e
         → (origin : Origin) (behind : Moment) (lost : ℕ → List Item) → GaveUp m n pad x origin behind lost → IsOfHead origin n after.head
         → AreTied i o (StandsOrFell n pad x behind) lost behind after.head after.parts.items → StandsBehind k contents graph m (refusal_fault n refusal) after
     gave_up n pad x refusal why origin behind lost (GaveUp.by_pad p rest waits leads) of tied =
-        let awaited = awaited_by contents graph m runs.sound runs.plan runs.net.cells p n pad x rest waits leads in
         record {
           crossed = all_crossed i o (StandsOrFell n pad x behind) lost m behind refl after tied;
-          files = λ number part there. part_behind n pad x refusal why (λ is. awaited) part (tied.parts_tied.each number part there).stood;
+          files = λ number part there. part_behind n pad x refusal why (awaited_first p n pad x rest waits leads) part (tied.parts_tied.each number part there).stood;
         }
     gave_up n pad x refusal why origin behind lost (GaveUp.by_source p rest waits leads) of tied =
-        let awaited = awaited_by contents graph m runs.sound runs.plan runs.net.cells p n pad x rest waits leads in
         record {
           crossed = all_crossed i o (StandsOrFell n pad x behind) lost m behind refl after tied;
-          files = λ number part there. part_behind n pad x refusal why (λ is. awaited) part (tied.parts_tied.each number part there).stood;
+          files = λ number part there. part_behind n pad x refusal why (awaited_first p n pad x rest waits leads) part (tied.parts_tied.each number part there).stood;
         }
     gave_up n pad x refusal why origin behind lost GaveUp.by_inlet of tied =
         record {
@@ -177,9 +193,9 @@ module _ {S K I O L : Type 0} (k : sinks.Ghosts K) (s : sources.Ghosts S) (e : e
               part_behind n pad x refusal why (λ is. absurd (not_fed n is (of_head n after.head refl of))) part (tied.parts_tied.each number part there).stood;
         }
 
-    fails_so : (over : Option (List Lane)) (origin : Origin) (fault : TaskFault) → FailsAs i o tells over m before.head after.head before.parts.items after.parts.items origin fault
-        → StandsBehind k contents graph m fault after
-    fails_so over origin fault (FailsAs.refused at n pad x refusal left for refuses) =
+    fails_so : (over : Option (List Lane)) (origin : Origin) (fault : TaskFault)
+        → FailsAs i o tells over m before.head after.head before.parts.items after.parts.items origin fault → StandsBehind k contents graph m fault after
+    fails_so over origin fault (FailsAs.refused at n pad x refusal left goes refuses) =
         gave_up n pad x refusal refuses.why at left.behind left.lost left.gave_up left.of_head left.tied
     fails_so over origin fault (FailsAs.unread n why tied is short) = all_stand fault after tied.0
     fails_so over origin fault (FailsAs.not_linked p x rest tied waits buffer nowhere) = all_stand fault after tied.0

@@ -12,11 +12,13 @@ use Rattle.net_model.specs.declared.refusal.Refusal.TheVariants.{Fault, Unwritte
 use Rattle.net_model.specs.declared.refusal.Unread.{Unread}
 use Rattle.net_model.specs.declared.source.TaskSource as sources
 use Rattle.gst_outside.specs.declared.sink.Sink as sinks
+use Rattle.el_settings.specs.Asked.{source_pads}
 use Rattle.graph_core.specs.Elements.{Made}
 use Rattle.graph_core.specs.Graph.{IsSound, made as made_in, links as links_in}
-use Rattle.graph_core.specs.Links.{sink_behind}
+use Rattle.graph_pads.specs.Links.{sink_behind}
 use Rattle.graph_core.specs.declared.graph.Graph.{Graph}
-use Rattle.graph_core.specs.declared.pad.PadLink.{PadLink}
+use Rattle.graph_pads.specs.declared.pad.PadLink.{PadLink}
+use Rattle.graph_pads.specs.declared.pad.PadPlace.{PadPlace}
 use Rattle.graph_bags.specs.Bags.{AreBags}
 use Rattle.graph_bags.specs.declared.bag.Bag.{Bag}
 use Rattle.graph_core.specs.Allowed.{first_pad}
@@ -35,20 +37,20 @@ use Rattle.graph_ends.specs.Short.{UnreadAt}
 use Rattle.graph_ends.specs.Written.{AreStreams}
 
 -- The rule of an element has this fault at its next item; or a write of that failed; or a source could not be read, and what
--- crossed its pad ends short; or a buffer
--- is owed to a pad without a link; or another item is owed to a pad that 2^40 items crossed; or memory was wanting.
+-- crossed its pad ends short; or a buffer is owed to a pad of an element of which no source pad is linked; or another item is owed to
+-- a pad that 2^40 items crossed; or memory was wanting.
 pub data IsBlamed (contents : ℕ → List ℕ) (graph : Graph) (m : Moment) : TaskFault → Type 0 where
   refused : (d : ℕ) (element : Made) (own : ElementFault) → slice_get (made_in graph) d ≡ Some element
       → Refuses contents (made_in graph) (links_in graph) (crossed_in graph m) d element.settings own
       → IsBlamed contents graph m (refusal_fault d (Fault own))
-  unwritten : (d before after : ℕ) (x : Item) → IsAwaited contents (made_in graph) (links_in graph) (crossed_in graph m) d x
+  unwritten : (d before after : ℕ) (x : Item) → IsAwaited contents (made_in graph) (links_in graph) (crossed_in graph m) (first_pad d) x
       → IsBlamed contents graph m (refusal_fault d (Unwritten before after))
   unread : (n : ℕ) (why : Unread) → UnreadAt contents (made_in graph) (crossed_in graph m) n why → IsBlamed contents graph m (unread_fault n why)
-  not_linked : (e place : ℕ) → length (went_from (crossed_in graph m) e) ≡ place
-      → WantsLink contents (made_in graph) (links_in graph) (crossed_in graph m) e
-      → IsBlamed contents graph m (NotLinked (pad_id (first_pad e)) place)
-  full : (e : ℕ) → length (went_from (crossed_in graph m) e) ≡ 1099511627776
-      → IsOwedMore contents (made_in graph) (links_in graph) (crossed_in graph m) e → IsBlamed contents graph m (TooLong e 1099511627776 1)
+  not_linked : (source : PadPlace) (place : ℕ) → length (went_from (crossed_in graph m) source) ≡ place
+      → WantsLink contents (made_in graph) (links_in graph) (crossed_in graph m) source → IsBlamed contents graph m (NotLinked (pad_id source) place)
+  full : (source : PadPlace) → length (went_from (crossed_in graph m) source) ≡ 1099511627776
+      → IsOwedMore contents (made_in graph) (links_in graph) (crossed_in graph m) source
+      → IsBlamed contents graph m (TooLong source.element 1099511627776 1)
   no_memory : IsBlamed contents graph m OutOfMemory
 
 module _ {S K I O L : Type 0} (k : sinks.Ghosts K) (s : sources.Ghosts S) (e : elements.Ghosts (StreamElement K)) (i : inlets.Ghosts I L O)
@@ -68,8 +70,8 @@ module _ {S E I O L : Type 0} {s : sources.Ghosts S} {e : elements.Ghosts E} {i 
     refused : (n : ℕ) (refusal : Refusal) → n < length made → HasRefused before.parts.items after.parts.items n refusal
         → IsTold made links before after (refusal_fault n refusal)
     unread : (n : ℕ) (why : Unread) → n < length made → IsUnread before.head after.head n why → IsTold made links before after (unread_fault n why)
-    not_linked : (n place : ℕ) (element : Made) → slice_get made n ≡ Some element → sink_behind links (first_pad n) ≡ None
-        → IsTold made links before after (NotLinked (pad_id (first_pad n)) place)
+    not_linked : (source : PadPlace) (place : ℕ) (element : Made) → slice_get made source.element ≡ Some element
+        → source.pad < source_pads element.settings → sink_behind links source ≡ None → IsTold made links before after (NotLinked (pad_id source) place)
     full : (n : ℕ) → n < length made → IsTold made links before after (TooLong n 1099511627776 1)
     no_memory : IsTold made links before after OutOfMemory
 

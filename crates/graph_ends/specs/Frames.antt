@@ -3,8 +3,8 @@ use Rattle.std.specs.Prelude.{◌≡◌, ℕ, List, Option, None, Some, length, 
 use Rattle.lane_core.specs.declared.ends.Inlet as inlets
 use Rattle.lane_core.specs.declared.ends.Outlet as outlets
 use Rattle.graph_core.specs.Elements.{Made}
-use Rattle.graph_core.specs.Links.{sink_behind}
-use Rattle.graph_core.specs.declared.pad.PadLink.{PadLink}
+use Rattle.graph_pads.specs.Links.{sink_behind}
+use Rattle.graph_pads.specs.declared.pad.PadLink.{PadLink}
 use Rattle.graph_core.specs.GraphPlan.{pad_id, sink_count}
 use Rattle.graph_bags.specs.Links.{link_to, place_at, source_count}
 use Rattle.graph_bags.specs.declared.bag.Bag.{Bag}
@@ -24,14 +24,16 @@ use Rattle.net_task.specs.Frame.{Room, Wire, PartFrame, HeadFrame, by_source, by
 abbrev pub goes_by : BagLink → Goes
 goes_by Nothing = nowhere
 goes_by (Element d i) = inside d i
-goes_by (Lane d i) = over d d i 0
+goes_by (Lane e i) = over (pad_id (place_at e i)) e i 0
 
 module _ (made : List Made) (links : List PadLink) where
   -- a lane stands in the table at the place of the element behind it, with the room of that
   abbrev pub RoomBy : BagLink → Option Room → Type 0
   RoomBy Nothing room = room ≡ None
   RoomBy (Element d i) room = room ≡ None
-  RoomBy (Lane d i) room = (own : Room) × (room ≡ Some own) × (own.place ≡ lane_place made links d) × (lane_room made links d ≡ Some own.limits.items)
+  RoomBy (Lane e i) room =
+      (own : Room) × (room ≡ Some own) × (own.place ≡ lane_place made links (pad_id (place_at e i)))
+      × (lane_room made links (pad_id (place_at e i)) ≡ Some own.limits.items)
 
   -- source pad k of an element, which leads where the graph tells
   pub record IsWireOf (n k : ℕ) (wire : Wire) : Type 0 where

@@ -5,3 +5,5 @@ pub mod Runs
 pub mod Ended
 pub mod Written
 pub mod Blamed
+pub mod Over
+pub mod Stalled

@@ -5,6 +5,7 @@ use Rattle.lane_core.specs.Lane.{Lane}
 use Rattle.lane_core.specs.declared.ends.Inlet as inlets
 use Rattle.lane_core.specs.declared.ends.Outlet as outlets
 use Rattle.net_model.specs.Moment.{Moment, CellStands}
+use Rattle.net_model.specs.Whole.{OwesInOrder}
 use Rattle.net_model.specs.declared.element.TaskElement as elements
 use Rattle.net_model.specs.declared.source.TaskSource as sources
 use Rattle.graph_core.specs.Graph.{IsSound, made as made_in, links as links_in}
@@ -22,11 +23,12 @@ use Rattle.graph_ends.specs.Frames.{HaveBags}
 abbrev pub crossed_in : Graph → Moment → ℕ → List Item
 crossed_in graph m = at_pads (made_in graph) m.history
 
--- The moment is one of the graph, and each element stands there.
+-- The moment is one of the graph, each element stands there, and for what it took it owes a beginning of what it owes for more.
 pub record RunStands (contents : ℕ → List ℕ) (graph : Graph) (m : Moment) : Type 0 where
   pub plan : m.plan ≡ moment_plan contents graph
   pub answers : m.answers ≡ moment_answers graph
   pub cells : (n : ℕ) → CellStands m n
+  pub in_order : (n : ℕ) → OwesInOrder (m.plan.rule n) (m.took n)
 
 -- The tasks of a sound graph's bags stand at a moment of its run.
 pub record RunsAt {S E I O L : Type 0} {s : sources.Ghosts S} {e : elements.Ghosts E} {i : inlets.Ghosts I L O} {o : outlets.Ghosts O L}

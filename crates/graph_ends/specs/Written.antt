@@ -11,10 +11,11 @@ use Rattle.lane_core.specs.declared.ends.Outlet as outlets
 use Rattle.net_model.specs.Moment.{Moment}
 use Rattle.net_model.specs.declared.element.TaskElement as elements
 use Rattle.net_model.specs.declared.source.TaskSource as sources
+use Rattle.graph_core.specs.Allowed.{first_pad}
 use Rattle.graph_core.specs.Graph.{made as made_in, links as links_in}
 use Rattle.graph_core.specs.declared.graph.Graph.{Graph}
 use Rattle.graph_bags.specs.declared.bag.Bag.{Bag}
-use Rattle.task_elements.specs.Stands.{StreamFell, StreamStands, faults_in, file_in, len_in}
+use Rattle.task_elements.specs.Stands.{StreamFell, StreamStands, faults_in, file_in, len_in, pads_of, wanted_of}
 use Rattle.task_elements.specs.declared.element.StreamElement.{StreamElement}
 use Rattle.task_pads.specs.Pads.{HasCrossed, number_of}
 use Rattle.task_pads.specs.declared.pad.Pad.{Pad}
@@ -29,12 +30,15 @@ use Rattle.net_task.specs.Frame.{frame_of}
 use Rattle.graph_ends.specs.Owed.{IsAwaited, came_to}
 use Rattle.graph_ends.specs.Runs.{RunsAt, crossed_in}
 
--- the element of a task is one of streams: it stands as these do, and its failures are those of what it writes
+-- The element of a task is one of streams: it stands as these do, its failures are those of what it writes, it has as many source
+-- pads, and it wants the same sink pad.
 pub record AreStreams {K : Type 0} (k : sinks.Ghosts K) (e : elements.Ghosts (StreamElement K)) : Type 0 where
   pub stands : (element : StreamElement K) (behavior : _) (took : _) → e.stands element behavior took → StreamStands k.bytes element behavior took
   pub fell : (element : StreamElement K) (behavior : _) (took : _) (pad : ℕ) (x : Item) → e.fell element behavior took pad x
       → StreamFell k.bytes element behavior took pad x
   pub failures : (element : StreamElement K) → e.failures element ≡ faults_in k.faults element
+  pub ports : (element : StreamElement K) → e.ports element ≡ pads_of element
+  pub wanted : (element : StreamElement K) → e.wanted element ≡ wanted_of element
 
 module _ {K : Type 0} (k : sinks.Ghosts K) where
   -- a file has this length, and these bytes where they are told
@@ -71,9 +75,10 @@ module _ {S E I O L : Type 0} {s : sources.Ghosts S} {e : elements.Ghosts E} {i 
 -- next item stands there too; or memory was wanting.
 pub data IsBehind {K : Type 0} (k : sinks.Ghosts K) (contents : ℕ → List ℕ) (graph : Graph) (m : Moment) (fault : TaskFault)
     (n : ℕ) (element : StreamElement K) : Type 0 where
-  all : HasAll k element (came_to (links_in graph) (crossed_in graph m) n) → IsBehind k contents graph m fault n element
-  part : (before after : ℕ) (x : Item) → fault ≡ WriteFault n before after → IsAwaited contents (made_in graph) (links_in graph) (crossed_in graph m) n x
-      → HasPart k element (came_to (links_in graph) (crossed_in graph m) n) x → IsBehind k contents graph m fault n element
+  all : HasAll k element (came_to (links_in graph) (crossed_in graph m) (first_pad n)) → IsBehind k contents graph m fault n element
+  part : (before after : ℕ) (x : Item) → fault ≡ WriteFault n before after
+      → IsAwaited contents (made_in graph) (links_in graph) (crossed_in graph m) (first_pad n) x
+      → HasPart k element (came_to (links_in graph) (crossed_in graph m) (first_pad n)) x → IsBehind k contents graph m fault n element
   no_memory : fault ≡ OutOfMemory → IsBehind k contents graph m fault n element
 
 -- what is known of a task behind its fault
@@ -88,7 +93,7 @@ pub record StandsWhole {S K I O L : Type 0} {s : sources.Ghosts S} {e : elements
     (k : sinks.Ghosts K) (graph : Graph) (m : Moment) (task : Task S (StreamElement K) I O L s e i o) : Type 0 where
   pub crossed : TaskCrossed m task
   pub files : (place : ℕ) (part : Part (StreamElement K) O e) → slice_get task.parts.items place ≡ Some part
-      → HasAll k part.element (came_to (links_in graph) (crossed_in graph m) part.number)
+      → HasAll k part.element (came_to (links_in graph) (crossed_in graph m) (first_pad part.number))
 
 module _ {S K I O L : Type 0} (k : sinks.Ghosts K) (s : sources.Ghosts S) (e : elements.Ghosts (StreamElement K))
     (i : inlets.Ghosts I L O) (o : outlets.Ghosts O L) where

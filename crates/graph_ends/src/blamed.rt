@@ -12,9 +12,9 @@ pub fn elements_are_streams<K: Sink>()
     ensures { AreStreams K.Sink ⟦<StreamElement<K> as TaskElement>⟧ }
 {}
 
-/// Where a task of a graph met a fault, the graph alone tells why: the rule of an element has that fault at the next item that is
-/// owed to the pad before it, a write of that item failed, a source could not be read, a buffer is owed to a pad that is not
-/// linked, 2^40 items crossed a pad, or memory was wanting.
+/// Where a task of a graph met a fault, the graph alone tells why: the rule of an element has that fault at its next item, which is
+/// owed to the pad before it or came to it over a lane, a write of that item failed, a source could not be read, a buffer is owed to a
+/// pad of an element of which none is linked, 2^40 items crossed a pad, or memory was wanting.
 pub fn faults_are_blamed<K: Sink, S: TaskSource, I: Inlet<Out = O>, O: Outlet<Lanes = I::Lanes>>()
     ensures { FaultsAreBlamed K.Sink S.TaskSource ⟦<StreamElement<K> as TaskElement>⟧ I.Inlet O.Outlet }
 {}

@@ -1,11 +1,17 @@
 //! Laws of a graph at a moment of its run, and where the run has ended. Each function does nothing: its contract is the law.
-ghost use Rattle.graph_ends.specs.Ended.{HistoriesAreEvaluated, EndsAreOver, EndsAreWhole, LooseAreQuiet, PadsAreLimited, RunsAreOver, RunsEndEmpty};
+ghost use Rattle.graph_ends.specs.Ended.{HistoriesAreEvaluated, EndsAreWhole, LiveHandEosOn, RunsStand};
+ghost use Rattle.graph_ends.specs.Ended.{LooseAreQuiet, PadsAreLimited};
 
 use gst_outside::Sink;
 use lane_core::{Inlet, Outlet};
 use net_model::{TaskElement, TaskSource};
-use net_turns::laws::lines_end;
 use task_elements::StreamElement;
+
+/// At any moment of the run of a graph's tasks each of its elements stands, and took in order: for what it took it owes a beginning of
+/// what it owes for more.
+pub fn runs_stand<S: TaskSource, K: Sink, I: Inlet<Out = O>, O: Outlet<Lanes = I::Lanes>>()
+    ensures { RunsStand K.Sink S.TaskSource ⟦<StreamElement<K> as TaskElement>⟧ I.Inlet O.Outlet }
+{}
 
 /// At any moment what crossed the pads is what the evaluation of the graph gives, cut at these counts.
 pub fn histories_are_evaluated()
@@ -17,14 +23,9 @@ pub fn ends_are_whole()
     ensures { EndsAreWhole }
 {}
 
-/// Where nothing is left the run of the tasks is over: each task with a live head has ended.
-pub fn runs_are_over<S: TaskSource, K: Sink, I: Inlet<Out = O>, O: Outlet<Lanes = I::Lanes>>()
-    ensures { RunsAreOver K.Sink S.TaskSource ⟦<StreamElement<K> as TaskElement>⟧ I.Inlet O.Outlet }
-{}
-
-/// Where nothing is left EOS came to each live sink.
-pub fn ends_are_over<S: TaskSource, K: Sink, I: Inlet<Out = O>, O: Outlet<Lanes = I::Lanes>>()
-    ensures { EndsAreOver K.Sink S.TaskSource ⟦<StreamElement<K> as TaskElement>⟧ I.Inlet O.Outlet }
+/// Each live element hands EOS on: where it took EOS at each of its sink pads, it owes EOS to each of its source pads.
+pub fn live_hand_eos_on<S: TaskSource, K: Sink, I: Inlet<Out = O>, O: Outlet<Lanes = I::Lanes>>()
+    ensures { LiveHandEosOn K.Sink S.TaskSource ⟦<StreamElement<K> as TaskElement>⟧ I.Inlet O.Outlet }
 {}
 
 /// An element that no head reaches is quiet.
@@ -46,15 +47,3 @@ pub fn pads_are_limited<
 >()
     ensures { PadsAreLimited S.TaskSource E.TaskElement I.Inlet O.Outlet }
 {}
-
-/// Where no task can move nothing is left, if each element always wants an item of its first sink pad.
-pub fn runs_end_empty<
-    S: TaskSource,
-    E: TaskElement,
-    I: Inlet<Out = O>,
-    O: Outlet<Lanes = I::Lanes>,
->()
-    ensures { RunsEndEmpty S.TaskSource E.TaskElement I.Inlet O.Outlet }
-{
-    lines_end::<S, E, I, O>();
-}

@@ -4,4 +4,5 @@
 
 pub mod blamed;
 pub mod ended;
+pub mod over;
 pub mod written;

@@ -14,14 +14,14 @@ use Rattle.run_files.specs.declared.end.End.TheVariants.{Src, Snk}
 use Rattle.task_elements.specs.Stands.{file_in, len_in}
 use Rattle.task_elements.specs.declared.element.StreamElement.{StreamElement}
 use Rattle.task_elements.specs.declared.source.StreamSource.{StreamSource}
-use Rattle.task_pads.specs.Pads.{HasCrossed}
+use Rattle.task_pads.specs.Pads.{HasCrossed, number_of}
 use Rattle.task_pads.specs.declared.pad.Pad.{Pad}
 use Rattle.task_parts.specs.declared.part.Part.{Part}
 use Rattle.graph_files.specs.Back.{GivesBack, HasElement, HasSource, Wrote, by_element, by_source, read_end, written_end}
-use Rattle.graph_files.specs.Counts.{HeadCounted, IsCountOf, PartCounted, TaskCounted, TasksCounted}
+use Rattle.graph_files.specs.Counts.{HeadCounted, IsCountOf, TaskCounted, TasksCounted}
 use Rattle.el_settings.specs.Asked.{reads, writes}
 use Rattle.graph_files.specs.Ends.{has}
-use Rattle.graph_files.specs.Put.{Among, PutBack}
+use Rattle.graph_files.specs.Put.{PutBack}
 use Rattle.graph_files.specs.declared.counts.Count.{Count}
 use Rattle.graph_files.proofs.Putting.{kept_at, put_at, same_some}
 
@@ -107,34 +107,21 @@ module _ {S E I O L : Type 0} {s : sources.Ghosts S} {e : elements.Ghosts E} {i 
   count_at tasks old new n pad h put within crossed to back =
       put_at (TasksCounted tasks) old new n (record { items = length h; buffers = buffers h }) put within (to _ (count_in pad h crossed)) (λ y here. same_count pad h y crossed (back y here))
 
-  -- the pad is the first of a part at a place, and its number stands in no other part and in no source
-  pub count_of_part : (tasks : List (Task S E I O L s e i o)) (old new : List Count) (n k place : ℕ) (task : Task S E I O L s e i o) (part : Part E O e) (pad : Pad O) (h : List Item) → PutBack (TasksCounted tasks) old new → n < length old → HasCrossed pad h
-      → slice_get tasks k ≡ Some task → slice_get task.parts.items place ≡ Some part → part.number ≡ n → slice_get part.pads.items 0 ≡ Some pad
-      → ((j other : ℕ) (one : Task S E I O L s e i o) (y : Part E O e) → slice_get tasks j ≡ Some one → slice_get one.parts.items other ≡ Some y → y.number ≡ n → (j ≡ k) × (other ≡ place))
+  -- a pad of a part, where no other pad of a part and no source's pad has its number
+  pub count_of_part : (tasks : List (Task S E I O L s e i o)) (old new : List Count) (n k place port : ℕ) (task : Task S E I O L s e i o) (part : Part E O e) (pad : Pad O) (h : List Item) → PutBack (TasksCounted tasks) old new → n < length old → HasCrossed pad h
+      → slice_get tasks k ≡ Some task → slice_get task.parts.items place ≡ Some part → slice_get part.pads.items port ≡ Some pad → number_of pad ≡ n
+      → ((j other q : ℕ) (one : Task S E I O L s e i o) (y : Part E O e) (p : Pad O) → slice_get tasks j ≡ Some one → slice_get one.parts.items other ≡ Some y → slice_get y.pads.items q ≡ Some p → number_of p ≡ n → p ≡ pad)
       → ((j : ℕ) (one : Task S E I O L s e i o) (count : Count) → slice_get tasks j ≡ Some one → HeadCounted one.head n count → ⊥) → slice_get new n ≡ Some (record { items = length h; buffers = buffers h })
-  count_of_part tasks old new n k place task part pad h put within crossed task_at part_at number_is pad_at only none = count_at tasks old new n pad h put within crossed to back
+  count_of_part tasks old new n k place port task part pad h put within crossed task_at part_at pad_at number_is only none = count_at tasks old new n pad h put within crossed to back
     where
       to : (count : Count) → IsCountOf pad count → TasksCounted tasks n count
-      to count is = record { place = k; one = task; at = task_at; inside = inr (record { place = place; one = part; at = part_at; inside = record { number_is = number_is; pad = pad; first = pad_at; counted = is } }) }
-
-      of_part : (j : ℕ) (one : Task S E I O L s e i o) (count : Count) → slice_get tasks j ≡ Some one → Among PartCounted one.parts.items n count → IsCountOf pad count
-      of_part j one count at here = subst (λ (p : Pad O). IsCountOf p count) same_pad here.inside.counted
-        where
-          same : (j ≡ k) × (here.place ≡ place)
-          same = only j here.place one here.one at here.at here.inside.number_is
-
-          same_task : one ≡ task
-          same_task = same_some (sym at ∙ ap (λ m. slice_get tasks m) same.0 ∙ task_at)
-
-          same_part : here.one ≡ part
-          same_part = same_some (sym here.at ∙ ap (λ (t : Task S E I O L s e i o). slice_get t.parts.items here.place) same_task ∙ ap (λ m. slice_get task.parts.items m) same.1 ∙ part_at)
-
-          same_pad : here.inside.pad ≡ pad
-          same_pad = same_some (sym here.inside.first ∙ ap (λ (p : Part E O e). slice_get p.pads.items 0) same_part ∙ pad_at)
+      to count is =
+          record { place = k; one = task; at = task_at; inside = inr (record { place = place; one = part; at = part_at; inside = record { place = port; one = pad; at = pad_at; inside = (number_is, is) } }) }
 
       by : (j : ℕ) (one : Task S E I O L s e i o) (count : Count) → slice_get tasks j ≡ Some one → TaskCounted one n count → IsCountOf pad count
       by j one count at (inl here) = absurd (none j one count at here)
-      by j one count at (inr here) = of_part j one count at here
+      by j one count at (inr here) =
+          subst (λ (p : Pad O). IsCountOf p count) (only j here.place here.inside.place one here.one here.inside.one at here.at here.inside.at here.inside.inside.0) here.inside.inside.1
 
       back : (count : Count) → TasksCounted tasks n count → IsCountOf pad count
       back count here = by here.place here.one count here.at here.inside

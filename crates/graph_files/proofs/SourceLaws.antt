@@ -9,7 +9,8 @@ use Rattle.lane_core.specs.declared.ends.Outlet as outlets
 use Rattle.net_task.specs.declared.task.Task.{Task}
 use Rattle.task_elements.specs.declared.element.StreamElement.{StreamElement}
 use Rattle.task_elements.specs.declared.source.StreamSource.{StreamSource}
-use Rattle.task_pads.specs.Pads.{HasCrossed}
+use Rattle.task_pads.specs.Pads.{HasCrossed, number_of}
+use Rattle.task_pads.specs.declared.pad.Pad.{Pad}
 use Rattle.task_parts.specs.declared.head.Head.{Head}
 use Rattle.task_parts.specs.declared.head.Head.TheVariants.{Source, Inlets}
 use Rattle.task_parts.specs.declared.head.SourceHead.{SourceHead}
@@ -29,7 +30,7 @@ module _ {S I O : Type 0} {s : sources.Ghosts S} where
   pub record IsCounted (head : Head S I O s) (n : ℕ) (count : Count) : Type 0 where
     pub one : SourceHead S O s
     pub is : head ≡ Source one
-    pub number_is : one.number ≡ n
+    pub number_is : number_of one.pad ≡ n
     pub counted : IsCountOf one.pad count
 
   counted_head : (head : Head S I O s) (n : ℕ) (count : Count) → HeadCounted head n count → IsCounted head n count
@@ -62,11 +63,12 @@ module _ {S K I O L : Type 0} {s : sources.Ghosts (StreamSource S)} {e : element
           same_task = same_some (sym here.at ∙ ap (λ j. slice_get tasks j) (only here.place here.one read.one here.at read.is read.number_is) ∙ task_at)
 
 module _ {S E I O L : Type 0} {s : sources.Ghosts S} {e : elements.Ghosts E} {i : inlets.Ghosts I L O} {o : outlets.Ghosts O L} where
-  -- the counts of the pad of a source whose number stands in no other head and in no part
+  -- the pad of a source, where no other source's pad and no pad of a part has its number
   pub count_of_source : (tasks : List (Task S E I O L s e i o)) (old new : List Count) (n k : ℕ) (task : Task S E I O L s e i o) (head : SourceHead S O s) (h : List Item) → PutBack (TasksCounted tasks) old new → n < length old → HasCrossed head.pad h
-      → slice_get tasks k ≡ Some task → task.head ≡ Source head → head.number ≡ n
-      → ((j : ℕ) (one : Task S E I O L s e i o) (y : SourceHead S O s) → slice_get tasks j ≡ Some one → one.head ≡ Source y → y.number ≡ n → j ≡ k)
-      → ((j other : ℕ) (one : Task S E I O L s e i o) (y : Part E O e) → slice_get tasks j ≡ Some one → slice_get one.parts.items other ≡ Some y → y.number ≡ n → ⊥) → slice_get new n ≡ Some (record { items = length h; buffers = buffers h })
+      → slice_get tasks k ≡ Some task → task.head ≡ Source head → number_of head.pad ≡ n
+      → ((j : ℕ) (one : Task S E I O L s e i o) (y : SourceHead S O s) → slice_get tasks j ≡ Some one → one.head ≡ Source y → number_of y.pad ≡ n → j ≡ k)
+      → ((j other q : ℕ) (one : Task S E I O L s e i o) (y : Part E O e) (p : Pad O) → slice_get tasks j ≡ Some one → slice_get one.parts.items other ≡ Some y → slice_get y.pads.items q ≡ Some p → number_of p ≡ n → ⊥)
+      → slice_get new n ≡ Some (record { items = length h; buffers = buffers h })
   count_of_source tasks old new n k task head h put within crossed task_at head_is number_is only none = count_at tasks old new n head.pad h put within crossed to back
     where
       to : (count : Count) → IsCountOf head.pad count → TasksCounted tasks n count
@@ -80,7 +82,7 @@ module _ {S E I O L : Type 0} {s : sources.Ghosts S} {e : elements.Ghosts E} {i 
 
       by : (j : ℕ) (one : Task S E I O L s e i o) (count : Count) → slice_get tasks j ≡ Some one → TaskCounted one n count → IsCountOf head.pad count
       by j one count at (inl here) = of_head j one count at (counted_head one.head n count here)
-      by j one count at (inr here) = absurd (none j here.place one here.one at here.at here.inside.number_is)
+      by j one count at (inr here) = absurd (none j here.place here.inside.place one here.one here.inside.one at here.at here.inside.at here.inside.inside.0)
 
       back : (count : Count) → TasksCounted tasks n count → IsCountOf head.pad count
       back count here = by here.place here.one count here.at here.inside

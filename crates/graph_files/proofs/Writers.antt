@@ -5,11 +5,10 @@ use Rattle.std.specs.List.{list_any}
 use Rattle.std.proofs.lemmas.Option.{none-some, same_Some, slice_get_within}
 use Rattle.std.proofs.lemmas.Slice.Eq.{bytes_eq-Decides}
 use Rattle.launch_text.specs.declared.tree.Tree.{Tree}
-use Rattle.el_settings.specs.Asked.{location_of, source_pads}
+use Rattle.el_settings.specs.Asked.{is_sink, location_of}
 use Rattle.el_settings.specs.declared.settings.Settings.{Settings}
-use Rattle.gst_caps.specs.declared.caps.Caps.TheVariants.{Any}
-use Rattle.graph_core.proofs.Allowing.{checked_at, clash_checked}
-use Rattle.graph_core.specs.Allowed.{checked, with_caps}
+use Rattle.graph_core.proofs.Bare.{bare, checked_at, clash_checked}
+use Rattle.graph_core.specs.Allowed.{checked}
 use Rattle.graph_core.specs.Asked.{Declared, declared}
 use Rattle.graph_core.specs.Comes.{Comes}
 use Rattle.graph_core.specs.Elements.{ElementsCome, Made, clash, is_location_taken}
@@ -42,17 +41,17 @@ none_passes p [] k x none at = absurd (none-some x at)
 none_passes p (y ∷ ys) zero x none at = ap p (sym (same_Some y x at)) ∙ (neither (p y) (list_any p ys) none).0
 none_passes p (y ∷ ys) (suc k) x none at = none_passes p ys k x (neither (p y) (list_any p ys) none).1 at
 
--- two elements of one location clash where one of them has no source pad
-clash_at : (one other : Settings) (location : List ℕ) → location_of one ≡ Some location → location_of other ≡ Some location → (source_pads one ≡ 0) ⊎ (source_pads other ≡ 0) → clash one other ≡ true
+-- two elements of one location clash where one of them is a sink
+clash_at : (one other : Settings) (location : List ℕ) → location_of one ≡ Some location → location_of other ≡ Some location → (is_sink one ≡ true) ⊎ (is_sink other ≡ true) → clash one other ≡ true
 clash_at one other location first second which = rw (first, second, (bytes_eq-Decides location location).1 refl) (by which)
   where
     or_true : (b : Bool) → (b || true) ≡ true
     or_true true = refl
     or_true false = refl
 
-    by : (source_pads one ≡ 0) ⊎ (source_pads other ≡ 0) → (source_pads one == 0 || source_pads other == 0) ≡ true
-    by (inl none) = rw none refl
-    by (inr none) = rw none (or_true (source_pads one == 0))
+    by : (is_sink one ≡ true) ⊎ (is_sink other ≡ true) → (is_sink one || is_sink other) ≡ true
+    by (inl is) = ap (λ (b : Bool). b || is_sink other) is
+    by (inr is) = ap (λ (b : Bool). is_sink one || b) is ∙ or_true (is_sink one)
 
 -- no element clashes with one that stands behind it
 Apart : List Made → Type 0
@@ -101,11 +100,11 @@ module _ (tree : Tree) (graph : Graph) (is : IsGraph tree graph) (d e : ℕ) (m 
   are_apart : Apart (made_in graph)
   unfolding Apart
   are_apart = λ d e m n first second before.
-      sym (clash_checked m n) ∙ apart_come [] (declared tree) (Ok (checked (made_in graph))) is.elements none_apart d e (with_caps Any m) (with_caps Any n) (checked_at (made_in graph) d m first) (checked_at (made_in graph) e n second) before
+      sym (clash_checked m n) ∙ apart_come [] (declared tree) (Ok (checked (made_in graph))) is.elements none_apart d e (bare m) (bare n) (checked_at (made_in graph) d m first) (checked_at (made_in graph) e n second) before
 
   -- two elements with one location, the first of which writes it, are one element
   one_opens : slice_get (made_in graph) d ≡ Some m → slice_get (made_in graph) e ≡ Some n → location_of m.settings ≡ Some location → location_of n.settings ≡ Some location
-      → source_pads m.settings ≡ 0 → d ≡ e
+      → is_sink m.settings ≡ true → d ≡ e
   unfolding Apart
   one_opens first second here also ends = by (same_or_other d e)
     where
@@ -118,13 +117,13 @@ module _ (tree : Tree) (graph : Graph) (is : IsGraph tree graph) (d e : ℕ) (m 
   pub one_writer : slice_get (made_in graph) d ≡ Some m → slice_get (made_in graph) e ≡ Some n → opening_of m.settings ≡ Some (Write location) → opening_of n.settings ≡ Some (Write location) → d ≡ e
   one_writer first second writes also =
       let one = writer m.settings location writes in
-      one_opens first second one.place (writer n.settings location also).place one.no_pad
+      one_opens first second one.place (writer n.settings location also).place one.sink
 
   -- and no element reads a location that one writes
   pub reader_is_no_writer : slice_get (made_in graph) d ≡ Some m → slice_get (made_in graph) e ≡ Some n → opening_of m.settings ≡ Some (Write location) → opening_of n.settings ≡ Some (Read location) → ⊥
   reader_is_no_writer first second writes reads =
       let one = writer m.settings location writes in
-      let same = one_opens first second one.place (reader n.settings location reads).place one.no_pad in
+      let same = one_opens first second one.place (reader n.settings location reads).place one.sink in
       not_both (same_Some m n (sym first ∙ ap (slice_get (made_in graph)) same ∙ second))
     where
       not_both : m ≡ n → ⊥

@@ -1,7 +1,7 @@
 -- What the elements of a graph open, and where their ends are.
 use Rattle.std.specs.Prelude.{◌≡◌, ◌==◌, ℕ, Bool, true, false, Contains, List, Option, None, Some, count_by, if◌then◌else◌, length, map, slice_get}
 use Rattle.std.specs.Option.{option_map}
-use Rattle.el_settings.specs.Asked.{location_of, sink_pads}
+use Rattle.el_settings.specs.Asked.{is_source, location_of}
 use Rattle.el_settings.specs.declared.settings.Settings.{Settings}
 use Rattle.graph_core.specs.Elements.{Made}
 use Rattle.graph_core.specs.Graph.{IsGraph, made as made_in}
@@ -21,7 +21,7 @@ abbrev pub opened_by : Bool → List ℕ → Opening
 opened_by source location = if source then Read location else Write location
 
 abbrev pub opening_of : Settings → Option Opening
-opening_of settings = option_map (opened_by (sink_pads settings == 0)) (location_of settings)
+opening_of settings = option_map (opened_by (is_source settings)) (location_of settings)
 
 abbrev pub made_opening : Made → Option Opening
 made_opening m = opening_of m.settings

@@ -1,6 +1,5 @@
 -- The elements of a graph, made with the ends of their files.
 use Rattle.std.specs.Prelude.{◌≡◌, ℕ, false, List, [], Option, None, Some, length, slice_get, slice_set}
-use Rattle.el_settings.specs.Asked.{source_pads}
 use Rattle.el_set.specs.Gives.{source_content}
 use Rattle.el_set.specs.Made.{IsSourceFor, list_of, makes_source}
 use Rattle.el_settings.specs.declared.settings.Settings.{Settings}
@@ -8,19 +7,17 @@ use Rattle.graph_core.specs.Elements.{Made}
 use Rattle.gst_outside.specs.declared.sink.Sink as sinks
 use Rattle.gst_outside.specs.declared.source.Source as sources
 use Rattle.run_files.specs.declared.end.End.{End}
-use Rattle.task_elements.specs.Made.{IsElementFor, makes_element}
+use Rattle.task_elements.specs.Made.{IsElementFor}
 use Rattle.task_elements.specs.Owes.{Owes}
-use Rattle.task_elements.specs.Stands.{pads_of}
 use Rattle.task_elements.specs.declared.element.StreamElement.{StreamElement}
 use Rattle.task_elements.specs.declared.source.StreamSource.{StreamSource}
 use Rattle.graph_files.specs.Ends.{at, left_by, sink_end, source_end}
 
 module _ {K : Type 0} (k : sinks.Ghosts K) where
-  -- an element with a sink pad: it does what its settings say, took nothing yet, and writes the file, which is empty; and
-  -- its source pads are those of its settings
+  -- An element with sink pads: it does what its settings say, took nothing yet, and writes the file, which is empty; and its
+  -- source pads are those of its settings.
   abbrev pub IsMadeFor : Settings → Option K → Option (StreamElement K) → Type 0
-  IsMadeFor settings file None = makes_element settings file ≡ false
-  IsMadeFor settings file (Some element) = IsElementFor k.bytes settings file (Some element) × (pads_of element ≡ source_pads settings)
+  IsMadeFor = IsElementFor k.bytes
 
 module _ {S : Type 0} (s : sources.Ghosts S) where
   -- A source of this number owes the list of its settings by the content of what it reads, and gave nothing.

@@ -4,7 +4,7 @@ ghost use Rattle.el_settings.specs.Asked.{title_of};
 ghost use Rattle.graph_core.specs.Graph.{made as made_in};
 ghost use Rattle.graph_files.specs.Blanks.{AreBlanks, IsBlankFor};
 
-use el_set::{FilterElement, filter_of};
+use el_set::{FilterElement, JoinElement, filter_of, join_of};
 use el_settings::Settings;
 use graph_core::Graph;
 use gst_value::{OutOfMemory, Text};
@@ -14,8 +14,10 @@ use std::collections::VecDeque;
 /// What is made of an element before its file is open.
 #[derive(Drop)]
 pub struct Blank {
-    /// None for a source, a queue and a sink.
+    /// The element between one sink pad and one source pad. None for another, and for a queue.
     pub filter: Option<FilterElement>,
+    /// The element with several sink pads. None for another.
+    pub join: Option<JoinElement>,
     /// What a source says that its stream is called.
     pub title: Option<Text>,
 }
@@ -38,7 +40,12 @@ fn blank_of(alloc: Global, settings: &Settings) -> Result<Blank, OutOfMemory>
 {
     let title = title_of(alloc, settings)?;
     let filter = filter_of(alloc, settings)?;
-    Ok(Blank { filter, title })
+    let join = join_of(alloc, settings)?;
+    Ok(Blank {
+        filter,
+        join,
+        title,
+    })
 }
 
 /// What an element of these settings says that its stream is called.

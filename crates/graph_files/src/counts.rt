@@ -1,5 +1,5 @@
 //! What the source pads of tasks have counted.
-ghost use Rattle.graph_files.specs.Counts.{HeadCounted, IsCountOf, PartCounted, TaskCounted, TasksCounted};
+ghost use Rattle.graph_files.specs.Counts.{HeadCounted, IsCountOf, PadCounted, PartCounted, TaskCounted, TasksCounted};
 ghost use Rattle.graph_files.specs.Put.{Among, PutBack};
 
 use crate::placing::put_some;
@@ -26,16 +26,24 @@ fn count_of<O: Outlet>(pad: &Pad<O>) -> Count
     }
 }
 
-/// Puts what the first source pad of an element has counted at its number.
+/// Puts what a pad has counted at its number.
+fn count_pad<O: Outlet>(pad: &Pad<O>, counts: &mut Vec<Count>)
+    ensures { PutBack (PadCounted pad.now) counts.old.items counts.new.items }
+{
+    put_some(counts, pad.number() as usize, Some(count_of(pad)));
+}
+
+/// Puts what the source pads of an element have counted at their numbers.
 fn count_part<E: TaskElement, O: Outlet>(part: &Part<E, O>, counts: &mut Vec<Count>)
     ensures { PutBack (PartCounted part.now) counts.old.items counts.new.items }
 {
-    if let Some(pad) = part.pads().first() {
-        put_some(counts, part.number() as usize, Some(count_of(pad)));
+    let pads = part.pads();
+    for place in 0..pads.len() {
+        count_pad(&pads[place], counts);
     }
 }
 
-/// Puts what the first source pads of elements have counted at their numbers.
+/// Puts what the source pads of elements have counted at their numbers.
 fn count_parts<E: TaskElement, O: Outlet>(parts: &[Part<E, O>], counts: &mut Vec<Count>)
     ensures { PutBack (Among PartCounted parts.now) counts.old.items counts.new.items }
 {
@@ -49,11 +57,11 @@ fn count_head<S: TaskSource, I: Inlet, O: Outlet>(head: &Head<S, I, O>, counts: 
     ensures { PutBack (HeadCounted head.now) counts.old.items counts.new.items }
 {
     if let Head::Source(head) = head {
-        put_some(counts, head.number() as usize, Some(count_of(head.pad())));
+        count_pad(head.pad(), counts);
     }
 }
 
-/// Puts what the source pads of a task have counted at the numbers of their elements.
+/// Puts what the source pads of a task have counted at their numbers.
 fn count_task<S: TaskSource, E: TaskElement, I: Inlet<Out = O>, O: Outlet<Lanes = I::Lanes>>(
     task: &Task<S, E, I, O>,
     counts: &mut Vec<Count>,
@@ -64,7 +72,8 @@ fn count_task<S: TaskSource, E: TaskElement, I: Inlet<Out = O>, O: Outlet<Lanes 
     count_parts(task.parts(), counts);
 }
 
-/// Puts what the source pads of tasks have counted at the numbers of their elements: of an element with some, its first.
+/// Puts what the source pads of tasks have counted at their numbers. That of a pad is its place in its element behind 64
+/// places for each element before that, so that a list with 64 places for each element has room for all.
 pub fn count_pads<S: TaskSource, E: TaskElement, I: Inlet<Out = O>, O: Outlet<Lanes = I::Lanes>>(
     tasks: &[Task<S, E, I, O>],
     counts: &mut Vec<Count>,

@@ -1,7 +1,7 @@
 //! What is made of one element with the end of its file.
 ghost use Rattle.std.specs.Prelude.{◌≡◌, ◌<◌, None, Some, false, length};
-ghost use Rattle.el_settings.specs.Asked.{is_filter as filter_test, is_queue as queue_test, title_of};
-ghost use Rattle.el_set.specs.Made.{IsFilterFor, file_for, read_for};
+ghost use Rattle.el_settings.specs.Asked.{is_filter as filter_test, is_queue as queue_test, makes_sinks as join_test, makes_sources as tee_test, title_of};
+ghost use Rattle.el_set.specs.Made.{IsFilterFor, IsJoinFor, file_for, read_for};
 ghost use Rattle.graph_core.specs.Graph.{made as made_in};
 ghost use Rattle.graph_files.specs.Blanks.{BlankAt, IsBlankFor};
 ghost use Rattle.graph_files.specs.Ends.{left_by, sink_end, source_end};
@@ -10,13 +10,13 @@ ghost use Rattle.graph_files.specs.Filled.{IsFilled, IsGiverFor, IsMadeFor, Pair
 use crate::blank::Blank;
 use crate::taking::{place_at, taken};
 use el_basic::Identity;
-use el_set::{FilterElement, sink_of, source_of};
+use el_set::{FilterElement, JoinElement, sink_of, source_of, tee_of};
 use el_settings::Settings;
 use graph_core::Graph;
 use gst_outside::{Sink, Source};
 use gst_value::Text;
 use run_files::End;
-use task_elements::{StreamElement, StreamFilter, StreamSource};
+use task_elements::{StreamElement, StreamFilter, StreamJoin, StreamSource};
 
 /// What is made of an element, and what is left of the end that stands under its number.
 #[derive(Drop)]
@@ -72,10 +72,14 @@ fn slot_of<S: Source, K: Sink>(
     requires blank { IsBlankFor settings.now blank }
     ensures { IsFilled S.Source K.Sink settings.now number end result.element result.source result.left }
 {
-    let Blank { filter, title } = blank;
+    let Blank {
+        filter,
+        join,
+        title,
+    } = blank;
     let Parted { source, sink, left } = part_end(settings, end);
     Slot {
-        element: element_for(settings, filter, sink),
+        element: element_for(settings, filter, join, sink),
         source: source_for(settings, number, title, source),
         left,
     }
@@ -142,9 +146,11 @@ fn part_sink<S: Source, K: Sink>(settings: &Settings, sink: K) -> Parted<S, K>
 fn element_for<K: Sink>(
     settings: &Settings,
     filter: Option<FilterElement>,
+    join: Option<JoinElement>,
     file: Option<K>,
 ) -> Option<StreamElement<K>>
     requires filter { IsFilterFor settings.now filter }
+    requires join { IsJoinFor settings.now join }
     ensures { IsMadeFor K.Sink settings.now file result }
 {
     if let Some(filter) = filter {
@@ -153,13 +159,35 @@ fn element_for<K: Sink>(
     if settings.is_queue() {
         return Some(StreamElement::Queue(Identity::new()));
     }
+    end_or_joint(settings, join, file)
+}
+
+/// The element of these settings, which are those of no filter and no queue.
+fn end_or_joint<K: Sink>(
+    settings: &Settings,
+    join: Option<JoinElement>,
+    file: Option<K>,
+) -> Option<StreamElement<K>>
+    requires filter { filter_test settings.now ≡ false }
+    requires queue { queue_test settings.now ≡ false }
+    requires join { IsJoinFor settings.now join }
+    ensures { IsMadeFor K.Sink settings.now file result }
+{
+    if let Some(tee) = tee_of(settings) {
+        return Some(StreamElement::Tee(tee));
+    }
+    if let Some(join) = join {
+        return Some(StreamElement::Join(StreamJoin::new(join)));
+    }
     sink_for(settings, file)
 }
 
-/// The sink of these settings, which are those of no filter and no queue.
+/// The sink of these settings, which are those of no other element with a sink pad.
 fn sink_for<K: Sink>(settings: &Settings, file: Option<K>) -> Option<StreamElement<K>>
     requires filter { filter_test settings.now ≡ false }
     requires queue { queue_test settings.now ≡ false }
+    requires tee { tee_test settings.now ≡ false }
+    requires join { join_test settings.now ≡ false }
     ensures { IsMadeFor K.Sink settings.now file result }
 {
     match sink_of(settings, file) {

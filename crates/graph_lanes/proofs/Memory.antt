@@ -1,7 +1,7 @@
 -- The ends of lanes in memory.
 use Rattle.std.proofs.Common.{ℕ, List, Option}
 use Rattle.graph_core.specs.Elements.{Made}
-use Rattle.graph_core.specs.declared.pad.PadLink.{PadLink}
+use Rattle.graph_pads.specs.declared.pad.PadLink.{PadLink}
 use Rattle.lane_core.specs.contracts.memory.MemInletInlet.TheImpl as inlets
 use Rattle.lane_core.specs.contracts.memory.MemOutletOutlet.TheImpl as outlets
 use Rattle.lane_core.specs.declared.memory.MemInlet.{MemInlet}

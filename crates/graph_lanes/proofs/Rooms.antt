@@ -1,15 +1,15 @@
--- The rooms of lanes, counted up over the elements of a line.
+-- The rooms of lanes, counted up over the numbers of sink pads.
 use Rattle.std.proofs.Common.{◌≡◌, ◌+◌, ℕ, suc, List, [], ◌∷◌, ◌++◌, Option, Some, None, cond, filter, filter_map, is_some, length, map, option_to_list, refl, sym, ap, ◌∙◌, arith}
 use Rattle.std.specs.List.{cons_option, range_with_len}
 use Rattle.std.proofs.lemmas.List.{map-append, map-id, length-map}
 use Rattle.std.proofs.lemmas.List.Elements.{filter_map-append}
 use Rattle.std.proofs.lemmas.List.FromFn.{map-range_with_len_more}
 use Rattle.graph_core.specs.Elements.{Made}
-use Rattle.graph_core.specs.declared.pad.PadLink.{PadLink}
+use Rattle.graph_pads.specs.declared.pad.PadLink.{PadLink}
 use Rattle.lane_core.specs.Lane.{Lane, lane_of}
 use Rattle.graph_lanes.specs.Lanes.{lane_place, lane_room}
 
--- there are as many rooms as elements that have one
+-- there are as many rooms as numbers that have one
 rooms_counted : {X Y : Type 0} (room : X → Option Y) (xs : List X) → length (filter (λ x. is_some (room x)) xs) ≡ length (filter_map room xs)
 rooms_counted room [] = refl
 rooms_counted {X} {Y} room (x ∷ xs) = by (room x) (rooms_counted room xs)
@@ -32,11 +32,11 @@ rooms_more : {Y : Type 0} (room : ℕ → Option Y) (n : ℕ) → filter_map roo
 rooms_more room n = ap (filter_map room) (range_more n) ∙ filter_map-append room (range_with_len 0 n) (n ∷ []) ∙ ap (λ rs. filter_map room (range_with_len 0 n) ++ rs) (one_room room n)
 
 module _ (made : List Made) (links : List PadLink) where
-  -- the table of the lanes into the elements before this one
+  -- the table of the lanes of lower numbers
   abbrev pub table_before : ℕ → List Lane
   table_before n = map (lane_of []) (filter_map (lane_room made links) (range_with_len 0 n))
 
-  -- the lane into this element comes behind them
+  -- the lane of this number comes behind them
   pub table_size : (n : ℕ) → length (table_before n) ≡ lane_place made links n
   table_size n = length-map (filter_map (lane_room made links) (range_with_len 0 n)) (lane_of []) ∙ sym (rooms_counted (lane_room made links) (range_with_len 0 n))
 

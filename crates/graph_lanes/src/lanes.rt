@@ -1,10 +1,10 @@
-//! The lanes into the queues of a graph.
+//! The lanes into the sink pads of a graph's elements that are fed from inlets.
 ghost use Rattle.std.specs.Prelude.{◌≡◌, ◌<◌, ◌++◌, [], IfOk, OnOk, length, map, option_to_list};
 ghost use Rattle.graph_core.specs.Graph.{made as made_in, links as links_in};
 ghost use Rattle.lane_core.specs.Lane.{lane_of};
-ghost use Rattle.graph_lanes.specs.Lanes.{AreLanes, InletAt, OutletAt, lane_place, lane_room, room_of};
+ghost use Rattle.graph_lanes.specs.Lanes.{AreLanes, InletAt, OutletAt, lane_place, lane_room, room_by, room_of, sink_numbers};
 
-use el_settings::QueueSettings;
+use el_settings::{QueueSettings, Settings};
 use graph_core::{Graph, PadPlace};
 use gst_value::OutOfMemory;
 use lane_core::{Inlet, MemInlet, MemLanes, MemOutlet, Outlet, memory_lane};
@@ -13,7 +13,14 @@ use std::alloc::Global;
 /// The most items that a queue holds.
 const MOST_HELD: u32 = 16384;
 
-/// The table of lanes, and by the numbers of the elements the ends of the lane into each, where it has one.
+/// How many items a lane into an element holds whose sink pads links make.
+const JOIN_ROOM: u32 = 16;
+
+/// The most sink pads of an element.
+const MOST_PADS: u32 = 64;
+
+/// The table of lanes, and by their numbers the ends of each, where there is one. A lane has the number of the sink pad that it
+/// leads to: 64 times its element's, and the pad's own.
 #[derive(Drop)]
 pub struct Lanes<I, O> {
     pub table: MemLanes,
@@ -21,7 +28,7 @@ pub struct Lanes<I, O> {
     pub outlets: Vec<Option<O>>,
 }
 
-/// A lane for each queue to whose sink pad something is linked, in the order of the line.
+/// A lane for each sink pad of an element that is fed from inlets to which something is linked, in the order of their numbers.
 pub fn lanes_of(alloc: Global, graph: &Graph) -> Result<Lanes<MemInlet, MemOutlet>, OutOfMemory>
     ensures { IfOk result (λ lanes. AreLanes
         ⟦<MemInlet as Inlet>⟧.place ⟦<MemInlet as Inlet>⟧.received
@@ -31,8 +38,8 @@ pub fn lanes_of(alloc: Global, graph: &Graph) -> Result<Lanes<MemInlet, MemOutle
     let mut table = MemLanes::new(alloc);
     let mut inlets = Vec::new(alloc);
     let mut outlets = Vec::new(alloc);
-    for element in 0..graph.count() {
-        let (outlet, inlet) = ends_of(alloc, graph, &mut table, element)?;
+    for number in 0..graph.count() * MOST_PADS {
+        let (outlet, inlet) = ends_of(alloc, graph, &mut table, number)?;
         outlets.push(outlet)?;
         inlets.push(inlet)?;
     }
@@ -43,25 +50,24 @@ pub fn lanes_of(alloc: Global, graph: &Graph) -> Result<Lanes<MemInlet, MemOutle
     })
 }
 
-/// Adds the lane into an element to the table, behind those of the elements before it, and answers its ends. Both are
-/// None where there is none.
+/// Adds the lane of a number to the table, behind those of lower numbers, and answers its ends. Both are None where there is none.
 fn ends_of(
     alloc: Global,
     graph: &Graph,
     table: &mut MemLanes,
-    element: u32,
+    number: u32,
 ) -> Result<(Option<MemOutlet>, Option<MemInlet>), OutOfMemory>
-    requires within { element < length (made_in graph.now) }
-    requires before { length table.old ≡ lane_place (made_in graph.now) (links_in graph.now) element }
-    ensures table { OnOk result (table.new ≡ table.old ++ map (lane_of []) (option_to_list (lane_room (made_in graph.now) (links_in graph.now) element))) }
+    requires within { number < sink_numbers (made_in graph.now) }
+    requires before { length table.old ≡ lane_place (made_in graph.now) (links_in graph.now) number }
+    ensures table { OnOk result (table.new ≡ table.old ++ map (lane_of []) (option_to_list (lane_room (made_in graph.now) (links_in graph.now) number))) }
     ensures outlet { IfOk result (λ ends. OutletAt
         ⟦<MemOutlet as Outlet>⟧.place ⟦<MemOutlet as Outlet>⟧.limits ⟦<MemOutlet as Outlet>⟧.count ⟦<MemOutlet as Outlet>⟧.sent
-        (made_in graph.now) (links_in graph.now) element ends.0) }
+        (made_in graph.now) (links_in graph.now) number ends.0) }
     ensures inlet { IfOk result (λ ends. InletAt
         ⟦<MemInlet as Inlet>⟧.place ⟦<MemInlet as Inlet>⟧.received
-        (made_in graph.now) (links_in graph.now) element ends.1) }
+        (made_in graph.now) (links_in graph.now) number ends.1) }
 {
-    match lane_room(graph, element) {
+    match lane_room(graph, number) {
         Some(room) => {
             let (outlet, inlet) = memory_lane(alloc, table, room)?;
             Ok((Some(outlet), Some(inlet)))
@@ -70,18 +76,27 @@ fn ends_of(
     }
 }
 
-/// How many items the lane into an element holds, where it is a queue to which something is linked.
-fn lane_room(graph: &Graph, element: u32) -> Option<u32>
-    requires { element < length (made_in graph.now) }
-    ensures { result ≡ lane_room (made_in graph.now) (links_in graph.now) element }
+/// How many items the lane of a number holds, where its sink pad is one of an element that is fed from inlets and is linked.
+fn lane_room(graph: &Graph, number: u32) -> Option<u32>
+    requires { number < sink_numbers (made_in graph.now) }
+    ensures { result ≡ lane_room (made_in graph.now) (links_in graph.now) number }
 {
-    let Some(limits) = graph.settings(element).limits() else {
-        return None;
-    };
-    if graph.source_before(PadPlace { element, pad: 0 }).is_none() {
+    let element = number / MOST_PADS;
+    let pad = number % MOST_PADS;
+    if graph.source_before(PadPlace { element, pad }).is_none() {
         return None;
     }
-    Some(room_of(limits))
+    room_by(graph.settings(element))
+}
+
+/// How many items a lane into an element of these settings holds, where it is fed from inlets.
+fn room_by(settings: &Settings) -> Option<u32>
+    ensures { result ≡ room_by settings.now }
+{
+    if settings.makes_sinks() {
+        return Some(JOIN_ROOM);
+    }
+    settings.limits().map(room_of)
 }
 
 /// How many items a queue of these limits holds: without a limit, or above the most, it is the most.

@@ -1,25 +1,26 @@
 -- The numbers of source pads, and the links that come from them.
-use Rattle.std.proofs.Common.{◌≡◌, ◌<◌, ◌%◌, ◌⊎◌, ℕ, true, false, eqb, if◌then◌else◌, List, [], ◌∷◌, All, Option, None, Some, map, length, refl, ap, ◌∙◌, subst, inl, inr, arith}
+use Rattle.std.proofs.Common.{◌≡◌, ◌<◌, ◌%◌, ℕ, Bool, true, false, if◌then◌else◌, List, [], ◌∷◌, All, Option, None, Some, map, length, refl, ap, ◌∙◌, subst, arith}
 use Rattle.std.specs.Prelude.{nat_lt, slice_get}
 use Rattle.std.specs.List.{range_with_len}
 use Rattle.std.specs.Option.{option_map_or}
-use Rattle.std.proofs.lemmas.Bool.Decides.{eqb_tells}
 use Rattle.std.proofs.lemmas.Bool.{lt-ltb, ltb-true}
 use Rattle.std.proofs.lemmas.Nat.{mod-mul-add}
 use Rattle.flow_model.specs.Account.{EachSource, EachSourceOf, GoesForward, IsMember}
-use Rattle.el_settings.specs.Asked.{source_pads, sink_pads}
-use Rattle.el_settings.proofs.Roles.{one_source}
+use Rattle.el_settings.specs.Asked.{is_sink, sink_pads, source_pads}
+use Rattle.el_settings.proofs.Roles.{end_no_source_pad}
 use Rattle.task_elements.specs.Stands.{owes_nothing}
 use Rattle.graph_core.specs.Elements.{Made}
 use Rattle.graph_core.specs.Graph.{IsSound, made as made_in, links as links_in, forward as forward_in}
-use Rattle.graph_core.specs.Links.{HasPads, source_before}
+use Rattle.graph_core.specs.Links.{HasPads}
+use Rattle.graph_pads.specs.Links.{source_before}
 use Rattle.graph_core.specs.declared.graph.Graph.{Graph}
-use Rattle.graph_core.specs.declared.pad.PadLink.{PadLink}
-use Rattle.graph_core.specs.declared.pad.PadPlace.{PadPlace}
+use Rattle.graph_pads.specs.declared.pad.PadLink.{PadLink}
+use Rattle.graph_pads.specs.declared.pad.PadPlace.{PadPlace}
 use Rattle.graph_order.proofs.Once.{within}
 use Rattle.graph_core.specs.GraphPlan.{pad_id, owner_of, spans_from, sink_at, sink_count, graph_plan, line_plan, rule_for}
 use Rattle.graph_core.proofs.NumberedPads.{owner_at, found_in, goes_forward}
 use Rattle.graph_core.proofs.Orders.{pads_at_link, graph_goes, order_size, order_covers, listed, member}
+use Rattle.el_settings.proofs.Padded.{few_sources as few_settings}
 use Rattle.graph_moment.specs.Pads.{source_count, IsThere, is_pad, pad_owner}
 use Rattle.graph_moment.specs.Plans.{moment_plan, tight_plan, tight_rule}
 use Rattle.graph_moment.proofs.Owners.{FromPads, RulesAlike, goes_owned}
@@ -30,7 +31,7 @@ port_at place few = mod-mul-add place.element 64 place.pad few
 -- an element has few pads
 few_sources : (found : Option Made) (pad : ℕ) → pad < option_map_or (λ (m : Made). source_pads m.settings) found 0 → pad < 64
 few_sources None pad w = absurd (omega (arith, w))
-few_sources (Some m) pad w = let one = one_source m.settings in omega (arith, w, one)
+few_sources (Some m) pad w = let few = few_settings m.settings in omega (arith, w, few)
 
 pub sinks_are : (found : Option Made) → option_map_or (λ (m : Made). sink_pads m.settings) found 0 ≡ sink_count found
 sinks_are None = refl
@@ -77,19 +78,20 @@ pub owners_alike : (contents : ℕ → List ℕ) (graph : Graph) (count : ℕ �
 unfolding line_plan
 owners_alike contents graph count p pad = owner_is (made_in graph) p pad
 
--- a source pad that is there belongs to an element that has some
-rule_at : (found : Option Made) (e : ℕ) (content : List ℕ) (pad : ℕ) → nat_lt pad (option_map_or (λ (m : Made). source_pads m.settings) found 0) ≡ true → tight_rule found e content ≡ rule_for found e content
-rule_at None e content pad less = absurd (let none = ltb-true pad 0 less in omega (arith, none))
-rule_at (Some m) e content pad less = go (eqb_tells (source_pads m.settings) 0)
+-- a source pad that is there belongs to an element that is no sink
+pub rule_at : (found : Option Made) (e : ℕ) (content : List ℕ) (pad : ℕ) → pad < option_map_or (λ (m : Made). source_pads m.settings) found 0
+    → tight_rule found e content ≡ rule_for found e content
+rule_at None e content pad less = absurd (omega (arith, less))
+rule_at (Some m) e content pad less = go (is_sink m.settings) refl
   where
-    go : ((eqb (source_pads m.settings) 0 ≡ true) × (source_pads m.settings ≡ 0)) ⊎ ((eqb (source_pads m.settings) 0 ≡ false) × (source_pads m.settings ≡ 0 → ⊥))
-        → (if eqb (source_pads m.settings) 0 then owes_nothing else rule_for (Some m) e content) ≡ rule_for (Some m) e content
-    go (inl t) = absurd (let within = ltb-true pad (source_pads m.settings) less in omega (arith, within, t.1))
-    go (inr t) = rw t.0 refl
+    go : (b : Bool) → is_sink m.settings ≡ b → (if b then owes_nothing else rule_for (Some m) e content) ≡ rule_for (Some m) e content
+    go true is = absurd (let none = end_no_source_pad m.settings is in omega (arith, less, none))
+    go false is = refl
 
 pub rules_alike : (contents : ℕ → List ℕ) (graph : Graph) (count : ℕ → ℕ) → RulesAlike (λ p. is_pad (made_in graph) p ≡ true) (tight_plan contents graph count).rule (graph_plan contents graph count)
 unfolding line_plan
-rules_alike contents graph count p pad = rule_at (slice_get (made_in graph) (owner_of p)) (owner_of p) (contents (owner_of p)) (p % 64) pad
+rules_alike contents graph count p pad =
+    rule_at (slice_get (made_in graph) (owner_of p)) (owner_of p) (contents (owner_of p)) (p % 64) (ltb-true (p % 64) (source_count (made_in graph) (owner_of p)) pad)
 
 pub moment_goes : (contents : ℕ → List ℕ) (graph : Graph) → IsSound graph → GoesForward (moment_plan contents graph) [] (forward_in graph)
 moment_goes contents graph sound =

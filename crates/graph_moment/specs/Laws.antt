@@ -1,8 +1,8 @@
 -- What moments of a graph's run start from, and what is said of the graph by them.
-use Rattle.std.specs.Prelude.{◌≡◌, ◌<◌, ◌%◌, ◌==◌, ◌++◌, ℕ, true, false, List, [], ◌∷◌, Option, None, Some, if◌then◌else◌, length, slice_get}
+use Rattle.std.specs.Prelude.{◌≡◌, ◌<◌, ◌%◌, ◌++◌, ℕ, true, false, List, [], ◌∷◌, Option, None, Some, if◌then◌else◌, length, slice_get}
 use Rattle.flow_model.specs.Item.{Item}
 use Rattle.flow_model.specs.Sticky.{has_flush_stop}
-use Rattle.flow_model.specs.Call.{Call, feeds}
+use Rattle.flow_model.specs.Call.{Call}
 use Rattle.flow_model.specs.Section.{IsPlain}
 use Rattle.flow_model.specs.Eval.{Plan, inputs, eval, eval_whole}
 use Rattle.flow_model.specs.Account.{GoesForward, IsMember}
@@ -10,16 +10,16 @@ use Rattle.pad_core.specs.Crossing.{has_ended}
 use Rattle.net_model.specs.Moment.{Moment, CellStands, behavior_at}
 use Rattle.net_model.specs.Split.{AreEmpty}
 use Rattle.net_model.specs.Step.{Leads, LeadsNowhere}
-use Rattle.net_model.specs.Opening.{AtStart, opening}
+use Rattle.net_model.specs.Opening.{AtStart, no_calls, opening}
 use Rattle.net_model.specs.Whole.{OwesInOrder, CellBegins}
-use Rattle.el_settings.specs.Asked.{sink_pads}
+use Rattle.el_settings.specs.Asked.{is_source, makes_sinks}
 use Rattle.el_set.specs.Made.{list_of}
 use Rattle.task_elements.specs.Made.{behavior_of}
-use Rattle.graph_core.specs.Elements.{Made}
+use Rattle.graph_core.specs.Elements.{Made, has}
 use Rattle.graph_core.specs.Graph.{IsSound, made as made_in, links as links_in, forward as forward_in}
-use Rattle.graph_core.specs.Links.{sink_behind}
+use Rattle.graph_pads.specs.Links.{sink_behind}
 use Rattle.graph_core.specs.declared.graph.Graph.{Graph}
-use Rattle.graph_core.specs.declared.pad.PadPlace.{PadPlace}
+use Rattle.graph_pads.specs.declared.pad.PadPlace.{PadPlace}
 use Rattle.graph_core.specs.LinkedOnce.{AreOnce}
 use Rattle.graph_core.specs.GraphPlan.{graph_plan, most_pads, owner_of, pad_id}
 use Rattle.graph_moment.specs.Pads.{IsThere, is_pad, pad_owner, at_pads}
@@ -62,9 +62,9 @@ MomentStarts = (contents : ℕ → List ℕ) (graph : Graph) → AtStart (moment
 abbrev pub MomentStands : Type 0
 MomentStands = (contents : ℕ → List ℕ) (graph : Graph) (e : ℕ) → CellStands (opening (moment_plan contents graph) (moment_answers graph)) e
 
--- There an element that has sink pads does what its settings say.
+-- There an element that is no source does what its settings say.
 abbrev pub BehaviorsAreTold : Type 0
-BehaviorsAreTold = (contents : ℕ → List ℕ) (graph : Graph) (e : ℕ) (m : Made) → slice_get (made_in graph) e ≡ Some m → (sink_pads m.settings == 0) ≡ false
+BehaviorsAreTold = (contents : ℕ → List ℕ) (graph : Graph) (e : ℕ) (m : Made) → slice_get (made_in graph) e ≡ Some m → (is_source m.settings) ≡ false
     → behavior_of m.settings ≡ behavior_at (opening (moment_plan contents graph) (moment_answers graph)) e
 
 -- each link comes from an element that stands earlier in the order
@@ -90,14 +90,21 @@ abbrev pub UnlinkedLead : Type 0
 UnlinkedLead = (contents : ℕ → List ℕ) (graph : Graph) (source : PadPlace) → IsSound graph → AreOnce (links_in graph)
     → IsThere (made_in graph) source → sink_behind (links_in graph) source ≡ None → LeadsNowhere (moment_plan contents graph) (pad_id source)
 
--- Whatever an element took, it owes a beginning of what it owes for more.
+-- Whatever an element took of which no link makes a sink pad, it owes a beginning of what it owes for more. One of which links
+-- make sink pads owes that for what it stands for.
 abbrev pub RulesGoOn : Type 0
-RulesGoOn = (contents : ℕ → List ℕ) (graph : Graph) (e : ℕ) (took : List (List Call)) → OwesInOrder ((moment_plan contents graph).rule e) took
+RulesGoOn = (contents : ℕ → List ℕ) (graph : Graph) (e : ℕ) (took : List (List Call)) → has makes_sinks (made_in graph) e ≡ false
+    → OwesInOrder ((moment_plan contents graph).rule e) took
+
+-- For nothing an element that is no source owes nothing.
+abbrev pub OwesNoneAtFirst : Type 0
+OwesNoneAtFirst = (contents : ℕ → List ℕ) (graph : Graph) (e port j : ℕ) → has is_source (made_in graph) e ≡ false
+    → (moment_plan contents graph).rule e (no_calls (moment_plan contents graph) e) port j ≡ []
 
 -- what an element gives by itself before any seek: a source its list, by the content of its file, and each other nothing
 abbrev pub given_by : Option Made → ℕ → List ℕ → List Item
 given_by None e content = []
-given_by (Some m) e content = if sink_pads m.settings == 0 then list_of m.settings e content else []
+given_by (Some m) e content = if is_source m.settings then list_of m.settings e content else []
 
 -- At the start what a source is to give waits at its pad, and at each other pad nothing.
 abbrev pub SourcesWait : Type 0
@@ -119,11 +126,6 @@ SectionsArePlain = (contents : ℕ → List ℕ) (graph : Graph) (e : ℕ) (took
 abbrev pub OwesNoneBehind : Type 0
 OwesNoneBehind = (contents : ℕ → List ℕ) (graph : Graph) (e port : ℕ) (took : List (List Call)) (front : List Item) (last : Item)
     → (moment_plan contents graph).rule e took port 0 ≡ front ++ last ∷ [] → has_ended front ≡ false
-
--- For items without FLUSH_STOP an element owes nothing behind an EOS.
-abbrev pub OwesPlain : Type 0
-OwesPlain = (contents : ℕ → List ℕ) (graph : Graph) (e : ℕ) (list : List Item) (port : ℕ) → has_flush_stop list ≡ false
-    → IsPlain ((moment_plan contents graph).rule e (feeds list ∷ []) port 0)
 
 -- Where each element took beginnings of what its links give, and what crossed its pads is what it owes for that, the histories
 -- are those of the evaluation of the graph, cut at their lengths.

@@ -1,14 +1,14 @@
 //! The moments of a graph's run: their plan, the moment at which the run begins, where source pads lead there, what the
 //! rules of its elements owe, and the evaluation of the graph by a moment.
 //!
-//! The plan of a moment is that of the graph, except that a number without a source pad belongs to no element, and that an
-//! element without source pads owes nothing: so an element stands there by its pads alone. At each source pad both plans
-//! have the same history.
+//! The plan of a moment is that of the graph, except that a number without a source pad belongs to no element, and that a
+//! sink owes nothing: so an element stands there by its pads alone. At each source pad both plans have the same history.
 #![tactic(auto)]
 
 ghost use Rattle.graph_moment.specs.Laws.{PadsHaveNumbers, NumbersHavePads, TightIsAlike};
 ghost use Rattle.graph_moment.specs.Laws.{MomentStarts, MomentStands, SourcesWait, BehaviorsAreTold, MomentGoes, OrdersAreWhole};
-ghost use Rattle.graph_moment.specs.Laws.{LinksLead, UnlinkedLead, RulesGoOn, SectionsAreOne, SectionsArePlain, OwesNoneBehind, OwesPlain, MomentIsGraph, EndIsGraph};
+ghost use Rattle.graph_moment.specs.Laws.{LinksLead, UnlinkedLead, RulesGoOn, OwesNoneAtFirst, SectionsAreOne, SectionsArePlain, OwesNoneBehind};
+ghost use Rattle.graph_moment.specs.Laws.{MomentIsGraph, EndIsGraph};
 
 /// Each source pad of a graph has a number of its own, and each number that belongs to an element is that of a pad.
 pub fn pads_have_numbers()
@@ -29,8 +29,8 @@ pub fn runs_begin()
     ensures waiting { SourcesWait }
 {}
 
-/// At a moment an element that has sink pads does what its settings say: it owes by their rule, and answers to one item more
-/// by their response. So the moment of a run tells the fault of an element at an item.
+/// At a moment an element that is no source does what its settings say: it owes by their rule, and answers to one item more
+/// as they do. So the moment of a run tells the fault of an element at an item.
 pub fn behaviors_are_told()
     ensures { BehaviorsAreTold }
 {}
@@ -47,14 +47,14 @@ pub fn links_lead()
     ensures unlinked { UnlinkedLead }
 {}
 
-/// For whatever an element took it owes a beginning of what it owes for more, in sections without FLUSH_STOP and with
-/// nothing behind an EOS.
+/// For whatever an element took it owes in sections without FLUSH_STOP and with nothing behind an EOS, and nothing for nothing.
+/// Where no link makes a sink pad of it, that begins what it owes for more.
 pub fn rules_owe()
     ensures in_order { RulesGoOn }
+    ensures first { OwesNoneAtFirst }
     ensures sections { SectionsAreOne }
     ensures sections_plain { SectionsArePlain }
     ensures behind { OwesNoneBehind }
-    ensures plain { OwesPlain }
 {}
 
 /// The histories of a moment are those of the evaluation of the graph: cut at their lengths at any moment, also behind a

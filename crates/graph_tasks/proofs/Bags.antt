@@ -5,9 +5,9 @@ use Rattle.std.proofs.lemmas.Option.{slice_get_within}
 use Rattle.flow_model.specs.Account.{IsMember}
 use Rattle.graph_core.specs.Elements.{Made}
 use Rattle.graph_core.specs.Links.{HasPads}
-use Rattle.graph_core.specs.declared.pad.PadLink.{PadLink}
-use Rattle.graph_core.specs.LinkedOnce.{AreOnce}
-use Rattle.graph_bags.specs.Links.{has, is_source, Reaches}
+use Rattle.graph_pads.specs.declared.pad.PadLink.{PadLink}
+use Rattle.graph_bags.specs.Links.{has, Reaches}
+use Rattle.el_settings.specs.Asked.{is_source}
 use Rattle.graph_bags.specs.Bags.{number_of, head_cells, cells, numbers, head_number, head_of, IsHead, IsBag}
 use Rattle.graph_bags.specs.declared.bag.Bag.{Bag}
 use Rattle.graph_bags.specs.declared.bag.BagElement.{BagElement}
@@ -47,8 +47,8 @@ module _ (made : List Made) (links : List PadLink) (bag : Bag) (is : IsBag made 
   head_among = is.whole (head_of bag) Reaches.itself
 
   -- the others are no sources
-  pub no_source : All (HasPads made) links → AreOnce links → (j : ℕ) (cell : BagElement) → slice_get bag.elements.items j ≡ Some cell → has is_source made cell.element ≡ false
-  no_source all once j cell at = go bag.head refl is.head (reached_by made links all once (head_of bag) cell.element (is.only cell.element (among j cell at)))
+  pub no_source : All (HasPads made) links → (j : ℕ) (cell : BagElement) → slice_get bag.elements.items j ≡ Some cell → has is_source made cell.element ≡ false
+  no_source all j cell at = go bag.head refl is.head (reached_by made links all (head_of bag) cell.element (is.only cell.element (among j cell at)))
     where
       go : (head : BagHead) → bag.head ≡ head → IsHead made head → (head_number head ≡ cell.element) ⊎ (has is_source made cell.element ≡ false) → has is_source made cell.element ≡ false
       go head of own (inr none) = none

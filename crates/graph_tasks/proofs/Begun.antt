@@ -9,7 +9,7 @@ use Rattle.lane_core.specs.declared.ends.Outlet as outlets
 use Rattle.net_model.specs.declared.element.TaskElement as elements
 use Rattle.net_model.specs.declared.source.TaskSource as sources
 use Rattle.graph_core.specs.Elements.{Made}
-use Rattle.graph_core.specs.declared.pad.PadLink.{PadLink}
+use Rattle.graph_pads.specs.declared.pad.PadLink.{PadLink}
 use Rattle.graph_bags.specs.declared.bag.Bag.{Bag}
 use Rattle.graph_bags.specs.declared.bag.BagElement.{BagElement}
 use Rattle.graph_bags.specs.declared.bag.BagHead.{BagHead}

@@ -6,13 +6,14 @@ use Rattle.std.proofs.lemmas.Bool.Decides.{eqb_tells}
 use Rattle.std.proofs.lemmas.List.{map-append}
 use Rattle.std.proofs.lemmas.Option.{slice_get_within}
 use Rattle.flow_model.specs.Account.{IsMember}
-use Rattle.el_settings.specs.Asked.{sink_pads}
+use Rattle.el_settings.specs.Asked.{is_source, sink_pads}
+use Rattle.el_settings.proofs.Roles.{source_no_sink}
 use Rattle.graph_core.specs.Elements.{Made}
-use Rattle.graph_core.specs.Links.{sink_behind}
-use Rattle.graph_core.specs.declared.pad.PadLink.{PadLink}
-use Rattle.graph_core.specs.declared.pad.PadPlace.{PadPlace}
+use Rattle.graph_pads.specs.Links.{sink_behind}
+use Rattle.graph_pads.specs.declared.pad.PadLink.{PadLink}
+use Rattle.graph_pads.specs.declared.pad.PadPlace.{PadPlace}
 use Rattle.graph_bags.specs.Bags.{IsBag, IsHead, head_cells, head_number, head_of, number_of, numbers}
-use Rattle.graph_bags.specs.Links.{is_source, place_at, source_count, LeadsInside, Reaches}
+use Rattle.graph_bags.specs.Links.{place_at, source_count, LeadsInside, Reaches}
 use Rattle.graph_bags.specs.declared.bag.Bag.{Bag}
 use Rattle.graph_bags.specs.declared.bag.BagElement.{BagElement}
 use Rattle.graph_bags.specs.declared.bag.BagHead.{BagHead}
@@ -76,11 +77,7 @@ module _ {O : Type 0} where
 -- a source has no sink pad
 no_sink : (found : Option Made) (pad : ℕ) → option_map_or (λ (m : Made). is_source m.settings) found false ≡ true → pad < option_map_or (λ (m : Made). sink_pads m.settings) found 0 → ⊥
 no_sink None pad is w = absurd (cc)
-no_sink (Some m) pad is w = go (eqb_tells (sink_pads m.settings) 0)
-  where
-    go : ((eqb (sink_pads m.settings) 0 ≡ true) × (sink_pads m.settings ≡ 0)) ⊎ ((eqb (sink_pads m.settings) 0 ≡ false) × (sink_pads m.settings ≡ 0 → ⊥)) → ⊥
-    go (inl t) = omega (arith, t.1, w)
-    go (inr f) = absurd (let no = sym f.0 ∙ is in cc)
+no_sink (Some m) pad is w = let none = source_no_sink m.settings is in omega (arith, none, w)
 
 at_member : (xs : List BagElement) (k : ℕ) (x : BagElement) → slice_get xs k ≡ Some x → IsMember x.element (map number_of xs)
 at_member [] k x is = absurd (cc)

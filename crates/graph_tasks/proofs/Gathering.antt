@@ -1,41 +1,38 @@
 -- The ends of lanes are taken for one pad, one element and one bag after the other.
-use Rattle.std.proofs.Common.{◌≡◌, ◌≢◌, ◌≤◌, ◌<◌, ◌+◌, ◌⊎◌, ℕ, zero, suc, true, false, List, [], ◌∷◌, ◌++◌, All, Option, None, Some, Vec, Global, length, length-set, map, take, refl, sym, ap, ◌∙◌, subst, inl, inr, append_assoc, arith}
-use Rattle.std.specs.Prelude.{slice_get, slice_index_or, slice_set}
+use Rattle.std.proofs.Common.{◌≡◌, ◌<◌, ◌+◌, ℕ, zero, suc, true, false, List, [], ◌∷◌, ◌++◌, All, Option, None, Some, Vec, Global, length, map, take, refl, sym, ap, ◌∙◌, subst, inl, inr, append_assoc, arith}
+use Rattle.std.specs.Prelude.{slice_get}
 use Rattle.std.specs.List.{flat_map}
-use Rattle.std.specs.Option.{is_some, option_map_or}
+use Rattle.std.specs.Option.{option_map_or}
 use Rattle.std.proofs.lemmas.Grind.{flat_map-append}
-use Rattle.std.proofs.lemmas.List.{append-nil, map-append, take_all}
-use Rattle.std.proofs.lemmas.Option.{slice_get-get_or, slice_get_within}
+use Rattle.std.proofs.lemmas.List.{append-nil, take_all}
+use Rattle.std.proofs.lemmas.Option.{slice_get_within}
 use Rattle.flow_model.specs.Account.{IsMember}
-use Rattle.el_settings.specs.Asked.{source_pads}
+use Rattle.el_settings.specs.Asked.{source_pads, is_source}
 use Rattle.el_settings.proofs.Roles.{source_sources}
 use Rattle.graph_core.specs.Elements.{Made}
-use Rattle.graph_core.specs.declared.pad.PadLink.{PadLink}
+use Rattle.graph_pads.specs.declared.pad.PadLink.{PadLink}
 use Rattle.graph_bags.specs.Bags.{IsBag, Once, cells, head_cells, head_of, number_of, numbers}
-use Rattle.graph_bags.specs.Links.{Reaches, is_source}
+use Rattle.graph_bags.specs.Links.{Reaches}
 use Rattle.graph_bags.specs.declared.bag.Bag.{Bag}
 use Rattle.graph_bags.specs.declared.bag.BagElement.{BagElement}
 use Rattle.graph_bags.specs.declared.bag.BagHead.TheVariants as bags
 use Rattle.graph_bags.specs.declared.bag.BagPad.{BagPad}
 use Rattle.graph_bags.proofs.Apart.{bags_are_there, bags_have_pads}
-use Rattle.graph_bags.proofs.Onces.{in_back, in_front, once_apart, once_front}
-use Rattle.graph_lanes.specs.Lanes.{InletAt, lane_room}
-use Rattle.graph_lanes.proofs.Slots.{one_slot, slot_of_set}
-use Rattle.inlet_row.specs.Row.{feeds_of}
+use Rattle.graph_bags.proofs.Onces.{once_front}
+use Rattle.graph_lanes.proofs.Slots.{one_slot}
 use Rattle.inlet_row.specs.declared.row.InletRow.{InletRow}
 use Rattle.lane_core.specs.declared.ends.Inlet as inlets
 use Rattle.lane_core.specs.declared.ends.Outlet as outlets
 use Rattle.task_pads.specs.declared.pad.Pad.{Pad}
-use Rattle.graph_tasks.specs.Tasks.{IsPadOf, IsRowOf, sink_count}
+use Rattle.graph_tasks.specs.Tasks.{IsPadOf}
 use Rattle.graph_tasks.specs.Wired.{IsWiredPart, IsWiredTask}
-use Rattle.graph_tasks.specs.Wiring.{BagGiven, BagMade, BagsGiven, CellGiven, CellsGiven, HeadGiven, HeadMade, InletsLeft, OutletsLeft, PadGiven, PadMade, PadsMade, PartsMade, cell_lanes, feeds_with, first_link, lane_to, pad_lanes}
+use Rattle.graph_tasks.specs.Wiring.{BagGiven, BagMade, BagsGiven, CellGiven, CellsGiven, HeadGiven, HeadMade, InletsLeft, OutletsLeft, PadGiven, PadMade, PadsMade, PartsMade, RowsMade, cell_lanes, first_link, inlets_of, lane_to, pad_lanes}
 use Rattle.graph_tasks.specs.declared.wired_task.WiredHead.TheVariants.{Source, Inlets}
 use Rattle.graph_tasks.specs.declared.wired_task.WiredPart.{WiredPart}
 use Rattle.graph_tasks.specs.declared.wired_task.WiredTask.{WiredTask}
 use Rattle.graph_tasks.proofs.Closed.{is_shape_closed}
-use Rattle.graph_tasks.proofs.Flats.{apart_back, at_back, at_front, flat_more, next_once, split_at, take_step}
-use Rattle.graph_tasks.proofs.Leading.{few_inlets}
-use Rattle.graph_tasks.proofs.Targets.{all_lanes, heads_once}
+use Rattle.graph_tasks.proofs.Flats.{apart_back, at_back, at_front, flat_more, next_once}
+use Rattle.graph_tasks.proofs.Targets.{all_inlets, all_lanes}
 use Rattle.gst_value.proofs.Basics.{some_same}
 
 module _ (made : List Made) (links : List PadLink) where
@@ -188,51 +185,21 @@ module _ {O L : Type 0} (o : outlets.Ghosts O L) (made : List Made) (links : Lis
   source_left own gone heads ends given left = subst (λ (ns : List ℕ). OutletsLeft o made links (gone ++ ns) ends) (sym (source_lanes own (source_size own gone heads given))) left
 
 module _ {I O L : Type 0} (i : inlets.Ghosts I L O) (o : outlets.Ghosts O L) (made : List Made) (links : List PadLink) where
-  inlets_more : (heads : List ℕ) (n : ℕ) (starts : List (Option I)) → InletsLeft i made links heads starts → InletsLeft i made links (heads ++ n ∷ []) starts
-  inlets_more heads n starts left = record { size = left.size; at = λ m end at fresh. left.at m end at (λ h. fresh (in_front m heads (n ∷ []) h)) }
-
-  pub inlets_less : (heads : List ℕ) (n : ℕ) (starts left : List (Option I)) → InletsLeft i made links heads starts → left ≡ slice_set starts n None → InletsLeft i made links (heads ++ n ∷ []) left
-  inlets_less heads n starts left were is = subst (λ (es : List (Option I)). InletsLeft i made links (heads ++ n ∷ []) es) (sym is) (record {
-    size = length-set starts n None ∙ were.size;
-    at = λ m end at fresh. by m end fresh (slot_of_set starts n None m end at);
-  })
-    where
-      by : (m : ℕ) (end : Option I) → (IsMember m (heads ++ n ∷ []) → ⊥) → ((m ≡ n) × (end ≡ None)) ⊎ ((m ≢ n) × (slice_get starts m ≡ Some end)) → InletAt i.place i.received made links m end
-      by m end fresh (inl here) = absurd (fresh (in_back m heads (n ∷ []) (inl here.0)))
-      by m end fresh (inr other) = were.at m end other.1 (λ h. fresh (in_front m heads (n ∷ []) h))
-
   pub source_head : (own : BagElement) (gone heads : List ℕ) (pad : Pad O) (ends : List (Option O)) (starts : List (Option I)) → HeadGiven made links (bags.Source own) gone heads → InletsLeft i made links heads starts
       → PadMade o made links own.element 0 (first_link own.pads.items) gone pad ends → HeadMade i o made links (bags.Source own) gone heads (Source own.element pad) ends starts
   source_head own gone heads pad ends starts given left one = record {
     wired = (refl, source_has (slice_get made own.element) given.is, one.is);
     outlets = source_left o made links own gone heads ends given one.left;
-    inlets = inlets_more heads own.element starts left;
+    inlets = subst (λ (ns : List ℕ). InletsLeft i made links ns starts) (sym (append-nil heads)) left;
   }
 
-  -- the first row of an element, by the inlet that was there
-  no_lane : (found : Option ℕ) → found ≡ None → is_some found ≡ false
-  no_lane None h = refl
-  no_lane (Some n) h = absurd (cc)
-
-  row_by : (n : ℕ) (row : InletRow I) (found : Option I) → InletAt i.place i.received made links n found → feeds_of row ≡ feeds_with n found → IsRowOf i made links n 0 row
-  row_by n row None at is = IsRowOf.unlinked (no_lane (lane_room made links n) at) is
-  row_by n row (Some inlet) at is = IsRowOf.linked inlet at.0 is at.1 at.2
-
-  pub inlets_head : (n hint : ℕ) (gone heads : List ℕ) (rows : Vec (InletRow I) Global) (ends : List (Option O)) (starts left : List (Option I)) → HeadGiven made links (bags.Inlets n) gone heads → OutletsLeft o made links gone ends
-      → InletsLeft i made links heads starts → left ≡ slice_set starts n None → length rows.items ≡ sink_count made n
-      → ((row : InletRow I) → slice_get rows.items 0 ≡ Some row → feeds_of row ≡ feeds_with n (slice_index_or starts n None)) → HeadMade i o made links (bags.Inlets n) gone heads (Inlets n hint rows) ends left
-  inlets_head n hint gone heads rows ends starts left given outs were less count first = record {
-    wired = (refl, count, λ k row at. by k row at (few_inlets (slice_get made n) given.is));
+  pub inlets_head : (n hint : ℕ) (gone heads : List ℕ) (rows : Vec (InletRow I) Global) (ends : List (Option O)) (starts : List (Option I)) → OutletsLeft o made links gone ends → RowsMade i made links n heads rows.items starts
+      → HeadMade i o made links (bags.Inlets n) gone heads (Inlets n hint rows) ends starts
+  inlets_head n hint gone heads rows ends starts outs they = record {
+    wired = (refl, they.count, they.each);
     outlets = subst (λ (ns : List ℕ). OutletsLeft o made links ns ends) (sym (append-nil gone)) outs;
-    inlets = inlets_less heads n starts left were less;
+    inlets = they.left;
   }
-    where
-      own : InletAt i.place i.received made links n (slice_index_or starts n None)
-      own = were.at n (slice_index_or starts n None) (slice_get-get_or starts n None (let w = given.there in omega (arith, w, were.size))) given.apart
-
-      by : (k : ℕ) (row : InletRow I) → slice_get rows.items k ≡ Some row → sink_count made n ≤ 1 → IsRowOf i made links n k row
-      by zero row at few = row_by n row (slice_index_or starts n None) own (first row at)
-      by (suc k) row at few = absurd (let w = slice_get_within rows.items (suc k) row at in omega (arith, w, few, count))
 
   -- the task of a bag
   pub bag_made : (bag : Bag) (gone heads : List ℕ) (task : WiredTask I O) (middle ends : List (Option O)) (starts : List (Option I)) → BagGiven made links bag gone heads
@@ -253,7 +220,7 @@ module _ {I O L : Type 0} (i : inlets.Ghosts I L O) (o : outlets.Ghosts O L) (ma
   pub record BagsSo (bags : List Bag) (k : ℕ) (tasks : List (WiredTask I O)) (ends : List (Option O)) (starts : List (Option I)) : Type 0 where
     pub each : (j : ℕ) (task : WiredTask I O) → slice_get tasks j ≡ Some task → (bag : Bag) → slice_get bags j ≡ Some bag → IsWiredTask i o made links bag task
     pub outlets : OutletsLeft o made links (flat_map (λ (bag : Bag). cell_lanes (cells bag)) (take k bags)) ends
-    pub inlets : InletsLeft i made links (map head_of (take k bags)) starts
+    pub inlets : InletsLeft i made links (flat_map (λ (bag : Bag). inlets_of made bag.head) (take k bags)) starts
 
   pub bags_begin : (bags : List Bag) (tasks : List (WiredTask I O)) (ends : List (Option O)) (starts : List (Option I)) → tasks ≡ [] → OutletsLeft o made links [] ends → InletsLeft i made links [] starts
       → BagsSo bags 0 tasks ends starts
@@ -265,14 +232,14 @@ module _ {I O L : Type 0} (i : inlets.Ghosts I L O) (o : outlets.Ghosts O L) (ma
 
   pub bags_more : (bags : List Bag) (k : ℕ) (bag : Bag) (tasks tasks' : List (WiredTask I O)) (task : WiredTask I O) (ends' : List (Option O)) (starts' : List (Option I)) → slice_get bags k ≡ Some bag → length tasks ≡ k
       → ((j : ℕ) (t : WiredTask I O) → slice_get tasks j ≡ Some t → (b : Bag) → slice_get bags j ≡ Some b → IsWiredTask i o made links b t)
-      → BagMade i o made links bag (flat_map (λ (b : Bag). cell_lanes (cells b)) (take k bags)) (map head_of (take k bags)) task ends' starts'
+      → BagMade i o made links bag (flat_map (λ (b : Bag). cell_lanes (cells b)) (take k bags)) (flat_map (λ (b : Bag). inlets_of made b.head) (take k bags)) task ends' starts'
       → tasks' ≡ tasks ++ task ∷ [] → BagsSo bags (k + 1) tasks' ends' starts'
   bags_more bags k bag tasks tasks' task ends' starts' at size each one put = record {
     each =
         one_slot (λ (j : ℕ) (t : WiredTask I O). (b : Bag) → slice_get bags j ≡ Some b → IsWiredTask i o made links b t) tasks tasks' task k put size each
         (λ b to. subst (λ (c : Bag). IsWiredTask i o made links c task) (some_same (sym at ∙ to)) one.wired);
     outlets = subst (λ (ns : List ℕ). OutletsLeft o made links ns ends') (flat_more (λ (b : Bag). cell_lanes (cells b)) [] bags k bag at) one.outlets;
-    inlets = subst (λ (ns : List ℕ). InletsLeft i made links ns starts') (sym (ap (map head_of) (take_step bags k bag at) ∙ map-append head_of (take k bags) (bag ∷ []))) one.inlets;
+    inlets = subst (λ (ns : List ℕ). InletsLeft i made links ns starts') (flat_more (λ (b : Bag). inlets_of made b.head) [] bags k bag at) one.inlets;
   }
 
 module _ (made : List Made) (links : List PadLink) (bags : List Bag) (given : BagsGiven made links bags) (k : ℕ) (bag : Bag) (at : slice_get bags k ≡ Some bag) where
@@ -293,7 +260,7 @@ module _ (made : List Made) (links : List PadLink) (bags : List Bag) (given : Ba
   cell_among (x ∷ xs) (suc place) cell is = inr (cell_among xs place cell is)
 
   -- the bag of a number, and that nothing was taken for it
-  pub bag_given : BagGiven made links bag (flat_map (λ (b : Bag). cell_lanes (cells b)) (take k bags)) (map head_of (take k bags))
+  pub bag_given : BagGiven made links bag (flat_map (λ (b : Bag). cell_lanes (cells b)) (take k bags)) (flat_map (λ (b : Bag). inlets_of made b.head) (take k bags))
   bag_given = record {
     is = bag_is;
     own = record {
@@ -303,11 +270,7 @@ module _ (made : List Made) (links : List PadLink) (bags : List Bag) (given : Ba
       once = next_once (λ (b : Bag). cell_lanes (cells b)) [] bags k bag at (all_lanes made links bags given);
     };
     there = stands (head_of bag) (bag_is.whole (head_of bag) Reaches.itself);
-    apart = by;
+    apart =
+        apart_back (flat_map (λ (b : Bag). inlets_of made b.head) (take k bags)) (inlets_of made bag.head)
+        (next_once (λ (b : Bag). inlets_of made b.head) [] bags k bag at (all_inlets made links bags given));
   }
-    where
-      by : IsMember (head_of bag) (map head_of (take k bags)) → ⊥
-      by m =
-          let s = split_at bags k bag at in
-          let whole : map head_of bags ≡ map head_of (take k bags) ++ (head_of bag ∷ map head_of s.0) = ap (map head_of) s.1 ∙ map-append head_of (take k bags) (bag ∷ s.0) in
-          once_apart (map head_of (take k bags)) (head_of bag ∷ map head_of s.0) (subst Once whole (heads_once made links bags given)) (head_of bag) m (inl refl)

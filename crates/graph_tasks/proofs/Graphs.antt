@@ -1,21 +1,20 @@
 -- Sink pads and sources of a graph, and that no pad leads back to the head of its task.
-use Rattle.std.proofs.Common.{◌≡◌, ◌<◌, ◌≤◌, ◌⊎◌, ◌||◌, ℕ, Bool, true, false, eqb, if◌then◌else◌, List, [], All, Option, None, Some, length, refl, sym, ap, ◌∙◌, subst, inl, inr, arith}
+use Rattle.std.proofs.Common.{◌≡◌, ◌<◌, ◌≤◌, ◌⊎◌, ◌||◌, ℕ, Bool, true, false, if◌then◌else◌, List, [], All, Option, None, Some, refl, ap, subst, inl, inr, arith}
 use Rattle.std.specs.Prelude.{slice_get}
 use Rattle.std.specs.Option.{option_map_or}
-use Rattle.std.proofs.lemmas.Bool.Decides.{eqb_tells}
-use Rattle.std.proofs.lemmas.Option.{slice_get_within}
-use Rattle.el_settings.specs.Asked.{sink_pads}
+use Rattle.el_settings.specs.Asked.{Place, Begins, begins, gathers, is_queue, is_source, place_of, sink_pads}
+use Rattle.el_settings.specs.declared.settings.Settings.{Settings}
 use Rattle.el_set.specs.Made.{list_of}
-use Rattle.el_settings.proofs.Roles.{queue_sinks}
+use Rattle.el_settings.proofs.Roles.{queue_no_source, source_no_sink}
 use Rattle.graph_core.specs.Elements.{Made}
 use Rattle.graph_core.specs.Graph.{IsSound, made as made_in, links as links_in, forward as forward_in}
-use Rattle.graph_core.specs.Links.{HasPads, sink_behind, source_before}
+use Rattle.graph_core.specs.Links.{HasPads}
+use Rattle.graph_pads.specs.Links.{sink_behind}
 use Rattle.graph_core.specs.declared.graph.Graph.{Graph}
-use Rattle.graph_core.specs.declared.pad.PadLink.{PadLink}
-use Rattle.graph_core.specs.declared.pad.PadPlace.{PadPlace}
+use Rattle.graph_pads.specs.declared.pad.PadLink.{PadLink}
+use Rattle.graph_pads.specs.declared.pad.PadPlace.{PadPlace}
 use Rattle.graph_core.proofs.Ranks.{after, after_falls}
-use Rattle.graph_core.specs.LinkedOnce.{AreOnce}
-use Rattle.graph_bags.specs.Links.{has, has_inlets, is_source, is_head, place_at, Reaches}
+use Rattle.graph_bags.specs.Links.{has, has_inlets, is_head, place_at, Reaches}
 use Rattle.graph_bags.proofs.Trees.{sink_there}
 use Rattle.graph_moment.specs.Laws.{given_by}
 use Rattle.graph_tasks.specs.Tasks.{sink_count}
@@ -23,28 +22,38 @@ use Rattle.graph_tasks.specs.Tasks.{sink_count}
 pub not_true : {A : Type 0} → false ≡ true → A
 not_true e = absurd (cc)
 
-module _ (made : List Made) (e : ℕ) where
-  pub inlets_sinks : has has_inlets made e ≡ true → sink_count made e ≡ 1
-  inlets_sinks is = go (slice_get made e) is
-    where
-      go : (found : Option Made) → option_map_or (λ (m : Made). has_inlets m.settings) found false ≡ true → option_map_or (λ (m : Made). sink_pads m.settings) found 0 ≡ 1
-      go None is = absurd (cc)
-      go (Some m) is = queue_sinks m.settings is
+-- an element that is fed from inlets does not begin a stream
+gathers_on : (place : Place) → gathers place ≡ true → begins place ≡ false
+gathers_on Begins is = absurd (cc)
+gathers_on _ is = refl
 
-  -- it is no source, and neither is an element that something is linked to
+fed_no_source : (s : Settings) → has_inlets s ≡ true → is_source s ≡ false
+fed_no_source s is = by (is_queue s) refl is
+  where
+    by : (queue : Bool) → is_queue s ≡ queue → (queue || gathers (place_of s)) ≡ true → is_source s ≡ false
+    by true queue is = queue_no_source s queue
+    by false queue is = gathers_on (place_of s) is
+
+module _ (made : List Made) (e : ℕ) where
+  -- an element that something is linked to is no source
   with_sinks : (pad : ℕ) → pad < sink_count made e → has is_source made e ≡ false
   with_sinks pad w = go (slice_get made e) w
     where
       go : (found : Option Made) → pad < option_map_or (λ (m : Made). sink_pads m.settings) found 0 → option_map_or (λ (m : Made). is_source m.settings) found false ≡ false
       go None w = refl
-      go (Some m) w = by (eqb_tells (sink_pads m.settings) 0)
+      go (Some m) w = by (is_source m.settings) refl
         where
-          by : ((eqb (sink_pads m.settings) 0 ≡ true) × (sink_pads m.settings ≡ 0)) ⊎ ((eqb (sink_pads m.settings) 0 ≡ false) × (sink_pads m.settings ≡ 0 → ⊥)) → eqb (sink_pads m.settings) 0 ≡ false
-          by (inl t) = absurd (omega (arith, w, t.1))
-          by (inr f) = f.0
+          by : (b : Bool) → is_source m.settings ≡ b → is_source m.settings ≡ false
+          by true is = absurd (let none = source_no_sink m.settings is in omega (arith, w, none))
+          by false is = is
 
+  -- and neither is one that is fed from inlets
   pub inlets_no_source : has has_inlets made e ≡ true → has is_source made e ≡ false
-  inlets_no_source is = let one = inlets_sinks is in with_sinks 0 (omega (arith, one))
+  inlets_no_source is = go (slice_get made e) is
+    where
+      go : (found : Option Made) → option_map_or (λ (m : Made). has_inlets m.settings) found false ≡ true → option_map_or (λ (m : Made). is_source m.settings) found false ≡ false
+      go None is = absurd (cc)
+      go (Some m) is = fed_no_source m.settings is
 
   -- both are heads
   pub source_head : has is_source made e ≡ true → has is_head made e ≡ true
@@ -73,36 +82,7 @@ module _ (made : List Made) (e : ℕ) where
       go None is = refl
       go (Some m) is = ap (λ (b : Bool). if b then list_of m.settings e content else []) is
 
-  pub inlets_there : has has_inlets made e ≡ true → e < length made
-  inlets_there is = go (slice_get made e) refl is
-    where
-      go : (found : Option Made) → slice_get made e ≡ found → option_map_or (λ (m : Made). has_inlets m.settings) found false ≡ true → e < length made
-      go None at is = absurd (cc)
-      go (Some m) at is = slice_get_within made e m at
-
-same_place : (one other : PadPlace) → one.element ≡ other.element → one.pad ≡ other.pad → one ≡ other
-same_place one other e p = ap (λ (n : ℕ). place_at n one.pad) e ∙ ap (λ (n : ℕ). place_at other.element n) p
-
-module _ (made : List Made) (links : List PadLink) (all : All (HasPads made) links) (once : AreOnce links) where
-  -- what an element that is fed from inlets is linked to is its one sink pad
-  first_sink : (source sink : PadPlace) → sink_behind links source ≡ Some sink → has has_inlets made sink.element ≡ true → sink.pad ≡ 0
-  first_sink source sink at is =
-      let one = inlets_sinks made sink.element is in
-      let w = sink_there made links all source sink at in
-      omega (arith, one, w)
-
-  -- so one source pad leads there
-  pub one_source : (source other sink place : PadPlace) → sink_behind links source ≡ Some sink → sink_behind links other ≡ Some place → has has_inlets made sink.element ≡ true
-      → sink.element ≡ place.element → source ≡ other
-  one_source source other sink place at to is same =
-      let here = first_sink source sink at is in
-      let there = first_sink other place to (subst (λ (n : ℕ). has has_inlets made n ≡ true) same is) in
-      let one : sink ≡ place = same_place sink place same (here ∙ sym there) in
-      some_same (sym (once.there source sink at) ∙ ap (source_before links) one ∙ once.there other place to)
-    where
-      some_same : {A : Type 0} {a b : A} → Some a ≡ Some b → a ≡ b
-      some_same e = cc
-
+module _ (made : List Made) (links : List PadLink) (all : All (HasPads made) links) where
   linked_no_source : (source sink : PadPlace) → sink_behind links source ≡ Some sink → has is_source made sink.element ≡ false
   linked_no_source source sink at = with_sinks made sink.element sink.pad (sink_there made links all source sink at)
 

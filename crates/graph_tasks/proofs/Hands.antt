@@ -8,13 +8,13 @@ use Rattle.lane_core.specs.declared.ends.Inlet as inlets
 use Rattle.lane_core.specs.declared.ends.Outlet as outlets
 use Rattle.net_model.specs.declared.element.TaskElement as elements
 use Rattle.net_model.specs.declared.source.TaskSource as sources
-use Rattle.el_settings.specs.Asked.{source_pads}
+use Rattle.el_settings.specs.Asked.{source_pads, is_source}
 use Rattle.graph_core.specs.Elements.{Made}
 use Rattle.graph_core.specs.Graph.{IsSound, made as made_in, links as links_in}
 use Rattle.graph_core.specs.declared.graph.Graph.{Graph}
 use Rattle.graph_core.specs.LinkedOnce.{AreOnce}
 use Rattle.graph_bags.specs.Bags.{AreBags, IsBag, IsHead}
-use Rattle.graph_bags.specs.Links.{has, is_source, source_count}
+use Rattle.graph_bags.specs.Links.{has, source_count}
 use Rattle.graph_bags.specs.declared.bag.Bag.{Bag}
 use Rattle.graph_bags.specs.declared.bag.BagHead.{BagHead}
 use Rattle.graph_bags.specs.declared.bag.BagHead.TheVariants as bags_heads
@@ -64,7 +64,7 @@ module _ {S E I O L : Type 0} (s : sources.Ghosts S) (e : elements.Ghosts E) (i 
         let one = w.parts j cell.0 part cell.1 here in
         let there = bags_are_there (made_in graph) (links_in graph) bags sound.pads are k cell.0.element (record { bag = bag; is = to; among = among (made_in graph) (links_in graph) bag is j cell.0 cell.1 }) in
         subst (λ (n : ℕ). ElementAt e ends n (length part.pads.items)) (sym one.number)
-        (element_at s e (made_in graph) ends files hand cell.0.element (length part.pads.items) there (no_source (made_in graph) (links_in graph) bag is sound.pads once j cell.0 cell.1) one.all)
+        (element_at s e (made_in graph) ends files hand cell.0.element (length part.pads.items) there (no_source (made_in graph) (links_in graph) bag is sound.pads j cell.0 cell.1) one.all)
 
     is_there : IsThere s e ends files task
     is_there =

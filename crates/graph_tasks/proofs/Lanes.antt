@@ -1,17 +1,21 @@
 -- The lanes of a graph in their table: each at a place of its own.
-use Rattle.std.proofs.Common.{◌≡◌, ◌<◌, ◌≤◌, ◌+◌, ◌-◌, ◌⊎◌, ℕ, zero, suc, Bool, true, List, [], ◌∷◌, ◌++◌, Option, Some, None, cond, filter, filter_map, is_some, length, map, option_to_list, refl, sym, ap, ◌∙◌, subst, inl, inr, arith}
+use Rattle.std.proofs.Common.{◌≡◌, ◌<◌, ◌≤◌, ◌+◌, ◌-◌, ◌⊎◌, ℕ, zero, suc, Bool, true, false, List, [], ◌∷◌, ◌++◌, Option, Some, None, cond, filter, filter_map, is_some, length, map, option_to_list, refl, sym, ap, ◌∙◌, subst, inl, inr, arith}
 use Rattle.std.specs.Prelude.{slice_get}
 use Rattle.std.specs.List.{cons_option, range_with_len}
+use Rattle.std.specs.Option.{option_map_or}
 use Rattle.std.proofs.lemmas.List.{map-append, map-id, length-map, length-append}
 use Rattle.std.proofs.lemmas.List.Elements.{filter-append, filter_map-append}
 use Rattle.std.proofs.lemmas.List.FromFn.{map-range_with_len_more}
+use Rattle.std.proofs.lemmas.Option.{slice_get_within}
 use Rattle.graph_core.specs.Elements.{Made}
-use Rattle.graph_core.specs.declared.pad.PadLink.{PadLink}
+use Rattle.graph_core.specs.GraphPlan.{owner_of}
+use Rattle.graph_pads.specs.Links.{source_before}
+use Rattle.graph_pads.specs.declared.pad.PadLink.{PadLink}
 use Rattle.lane_core.specs.Lane.{Lane, lane_of}
-use Rattle.graph_lanes.specs.Lanes.{has_lane, lane_place, lane_room}
+use Rattle.graph_lanes.specs.Lanes.{has_lane, lane_place, lane_room, room_by, sink_numbers, sink_of}
 use Rattle.graph_tasks.proofs.Lists.{get_front, get_last, less_or_more}
 
--- there are as many rooms as elements that have one
+-- there are as many rooms as numbers that have one
 rooms_counted : {X Y : Type 0} (room : X → Option Y) (xs : List X) → length (filter (λ x. is_some (room x)) xs) ≡ length (filter_map room xs)
 rooms_counted room [] = refl
 rooms_counted {X} {Y} room (x ∷ xs) = by (room x) (rooms_counted room xs)
@@ -82,18 +86,18 @@ module _ (made : List Made) (links : List PadLink) where
   pub lanes_apart : (e d : ℕ) → has_lane made links e ≡ true → has_lane made links d ≡ true → lane_place made links e ≡ lane_place made links d → e ≡ d
   lanes_apart e d = count_apart (has_lane made links) e d
 
-  -- the table of the lanes into the elements before this one
+  -- the table of the lanes of lower numbers
   abbrev table_before : ℕ → List Lane
   table_before n = map (lane_of []) (filter_map (lane_room made links) (range_with_len 0 n))
 
-  -- the lane into this element comes behind them
+  -- the lane of this number comes behind them
   table_size : (n : ℕ) → length (table_before n) ≡ lane_place made links n
   table_size n = length-map (filter_map (lane_room made links) (range_with_len 0 n)) (lane_of []) ∙ sym (rooms_counted (lane_room made links) (range_with_len 0 n))
 
   table_more : (n : ℕ) → table_before n ++ map (lane_of []) (option_to_list (lane_room made links n)) ≡ table_before (n + 1)
   table_more n = sym (ap (map (lane_of [])) (rooms_more (lane_room made links) n) ∙ map-append (lane_of []) (filter_map (lane_room made links) (range_with_len 0 n)) (option_to_list (lane_room made links n)))
 
--- the lane into an element stands at its place, and is empty
+-- the lane of a number stands at its place, and is empty
 pub lane_stands : (made : List Made) (links : List PadLink) (n e room : ℕ) → e < n → lane_room made links e ≡ Some room → slice_get (table_before made links n) (lane_place made links e) ≡ Some (lane_of [] room)
 lane_stands made links zero e room within is = absurd (omega (arith, within))
 lane_stands made links (suc n) e room within is =
@@ -107,3 +111,13 @@ lane_stands made links (suc n) e room within is =
         ∙ ap (λ (k : ℕ). slice_get (table_before made links n ++ lane_of [] room ∷ []) k) (ap (lane_place made links) same ∙ sym (table_size made links n)) ∙ get_last (table_before made links n) (lane_of [] room)
     by (inr (inl less)) rest = get_front (table_before made links n) (map (lane_of []) (option_to_list (lane_room made links n))) (lane_place made links e) (lane_of [] room) (rest less)
     by (inr (inr more)) rest = absurd (omega (arith, within, more))
+
+-- where there is a lane, the number is one of a sink pad
+pub lane_within : (made : List Made) (links : List PadLink) (d room : ℕ) → lane_room made links d ≡ Some room → d < sink_numbers made
+lane_within made links d room is = go (slice_get made (owner_of d)) refl (is_some (source_before links (sink_of d))) is
+  where
+    go : (found : Option Made) → slice_get made (owner_of d) ≡ found → (b : Bool) → cond b (option_map_or (λ (m : Made). room_by m.settings) found None) None ≡ Some room → d < sink_numbers made
+    go None at true is = absurd (cc)
+    go None at false is = absurd (cc)
+    go (Some m) at true is = let w = slice_get_within made (owner_of d) m at in omega (arith, w)
+    go (Some m) at false is = absurd (cc)

@@ -1,4 +1,5 @@
 pub mod Flats
+pub mod Numbers
 pub mod Leading
 pub mod Targets
 pub mod Closed

@@ -1,5 +1,5 @@
 -- Where the run of a graph begins each task is ready: its lanes are of the table, each at one end of it.
-use Rattle.std.proofs.Common.{◌≡◌, ◌≢◌, ◌≤◌, ℕ, true, List, [], Option, None, Some, is_some, length, refl, sym, ap, ◌∙◌, subst, arith}
+use Rattle.std.proofs.Common.{◌≡◌, ◌≢◌, ◌≤◌, ◌<◌, ℕ, true, List, [], Option, None, Some, is_some, length, refl, sym, ap, ◌∙◌, subst, arith}
 use Rattle.std.specs.Prelude.{slice_get}
 use Rattle.std.proofs.lemmas.Option.{same_Some, slice_get_within}
 use Rattle.lane_core.specs.Lane.{Lane, lane_of}
@@ -8,15 +8,17 @@ use Rattle.lane_core.specs.declared.ends.Outlet as outlets
 use Rattle.net_model.specs.declared.element.TaskElement as elements
 use Rattle.net_model.specs.declared.source.TaskSource as sources
 use Rattle.graph_core.specs.Graph.{made as made_in, links as links_in}
-use Rattle.graph_core.specs.Links.{sink_behind}
+use Rattle.graph_core.specs.GraphPlan.{pad_id}
+use Rattle.graph_pads.specs.Links.{sink_behind}
 use Rattle.graph_core.specs.declared.graph.Graph.{Graph}
-use Rattle.graph_core.specs.declared.pad.PadPlace.{PadPlace}
-use Rattle.graph_bags.specs.Links.{has, has_inlets, place_at, Reaches}
-use Rattle.graph_bags.specs.Bags.{IsHead, head_number, head_of}
+use Rattle.graph_pads.specs.declared.pad.PadPlace.{PadPlace}
+use Rattle.graph_core.proofs.NumberedPads.{same_pad}
+use Rattle.graph_bags.specs.Links.{place_at, Reaches}
+use Rattle.graph_bags.specs.Bags.{head_number, head_of}
 use Rattle.graph_bags.specs.declared.bag.Bag.{Bag}
 use Rattle.graph_bags.specs.declared.bag.BagHead.{BagHead}
 use Rattle.graph_bags.specs.declared.bag.BagHead.TheVariants as bags_heads
-use Rattle.graph_lanes.specs.Lanes.{has_lane, lane_place, lane_room}
+use Rattle.graph_lanes.specs.Lanes.{has_lane, lane_place, lane_room, sink_numbers}
 use Rattle.inlet_row.specs.declared.feeding.Feeding.{Feeding}
 use Rattle.inlet_row.specs.declared.row.InletRow.{InletRow}
 use Rattle.inlet_row.specs.Row.{Apart, AreApart, ForLanes, RowIn, feeds_of}
@@ -28,9 +30,10 @@ use Rattle.task_parts.specs.declared.head.Head.{Head}
 use Rattle.net_task.specs.declared.task.Task.{Task}
 use Rattle.net_task.specs.Frame.{TaskFrame, Wire, WireAt, frame_of, head_frame}
 use Rattle.net_task.specs.Ready.{HeadApart, HeadReady, IsReady, LeadsInto, WiresApart}
-use Rattle.graph_tasks.specs.Tasks.{IsHeadOf, IsPadOf, IsRowOf, LeadsTo}
-use Rattle.graph_tasks.proofs.Lanes.{lane_stands, lanes_apart}
-use Rattle.graph_tasks.proofs.Graphs.{inlets_sinks, inlets_there, no_loop}
+use Rattle.graph_tasks.specs.Tasks.{IsHeadOf, IsPadOf, IsRowOf, LeadsTo, sink_count}
+use Rattle.graph_tasks.proofs.Lanes.{lane_stands, lane_within, lanes_apart}
+use Rattle.graph_tasks.proofs.Numbers.{few_pads, few_sink}
+use Rattle.graph_tasks.proofs.Graphs.{no_loop}
 use Rattle.graph_tasks.proofs.Bags.{among, elements_once, source_apart}
 use Rattle.graph_tasks.proofs.Given.{IsKnown, IsPlaced, cell_of, placed}
 use Rattle.graph_tasks.proofs.Wires.{GoesOver, end_inside, end_nowhere, goes_over, head_wire_of, one_over, wire_at}
@@ -48,19 +51,18 @@ for_table P h t same = subst P (same_Some _ _ same) h
 module _ {S E I O L : Type 0} {s : sources.Ghosts S} {e : elements.Ghosts E} {i : inlets.Ghosts I L O} {o : outlets.Ghosts O L}
     {graph : Graph} {bags : List Bag} {ends : List (Option E)} {files : List (Option S)} {tasks : List (Task S E I O L s e i o)} {table : List Lane}
     (g : IsKnown i o graph bags ends files tasks table) where
-  -- the lane into an element
-  lane_in : (n room : ℕ) → has has_inlets (made_in graph) n ≡ true → lane_room (made_in graph) (links_in graph) n ≡ Some room
-      → slice_get table (lane_place (made_in graph) (links_in graph) n) ≡ Some (lane_of [] room)
-  lane_in n room fed is =
-      subst (λ (t : List Lane). slice_get t (lane_place (made_in graph) (links_in graph) n) ≡ Some (lane_of [] room)) (sym g.made_of.table_is)
-      (lane_stands (made_in graph) (links_in graph) (length (made_in graph)) n room (inlets_there (made_in graph) n fed) is)
+  -- the lane of a number
+  lane_in : (d room : ℕ) → lane_room (made_in graph) (links_in graph) d ≡ Some room → slice_get table (lane_place (made_in graph) (links_in graph) d) ≡ Some (lane_of [] room)
+  lane_in d room is =
+      subst (λ (t : List Lane). slice_get t (lane_place (made_in graph) (links_in graph) d) ≡ Some (lane_of [] room)) (sym g.made_of.table_is)
+      (lane_stands (made_in graph) (links_in graph) (sink_numbers (made_in graph)) d room (lane_within (made_in graph) (links_in graph) d room is) is)
 
-  pub lane_empty : (n : ℕ) → has has_inlets (made_in graph) n ≡ true → has_lane (made_in graph) (links_in graph) n ≡ true → IsEmptyAt table (lane_place (made_in graph) (links_in graph) n)
-  lane_empty n fed is = go (lane_room (made_in graph) (links_in graph) n) refl is
+  pub lane_empty : (d : ℕ) → has_lane (made_in graph) (links_in graph) d ≡ true → IsEmptyAt table (lane_place (made_in graph) (links_in graph) d)
+  lane_empty d is = go (lane_room (made_in graph) (links_in graph) d) refl is
     where
-      go : (found : Option ℕ) → lane_room (made_in graph) (links_in graph) n ≡ found → is_some found ≡ true → IsEmptyAt table (lane_place (made_in graph) (links_in graph) n)
+      go : (found : Option ℕ) → lane_room (made_in graph) (links_in graph) d ≡ found → is_some found ≡ true → IsEmptyAt table (lane_place (made_in graph) (links_in graph) d)
       go None of some = absurd (cc)
-      go (Some room) of some = record { lane = lane_of [] room; at = lane_in n room fed of; empty = refl }
+      go (Some room) of some = record { lane = lane_of [] room; at = lane_in d room of; empty = refl }
 
   -- the lane of a pad is of the table
   pad_ready : (n k : ℕ) (pad : Pad O) → IsPadOf o (made_in graph) (links_in graph) n k pad → PadReady o (Some table) pad
@@ -72,44 +74,56 @@ module _ {S E I O L : Type 0} {s : sources.Ghosts S} {e : elements.Ghosts E} {i 
       go found (LeadsTo.lane sink outer into) =
           subst (λ (end : Option LaneEnd). EndReady (Some table) end) (sym into.is)
           (for_table (λ t. (lane : Lane) × (slice_get t into.end.place ≡ Some lane) × (lane.room ≡ into.end.limits.items) × (length lane.items ≤ into.end.count))
-          (lane_of [] into.end.limits.items, ap (slice_get table) into.place ∙ lane_in sink.element into.end.limits.items outer into.room, refl, omega arith))
+          (lane_of [] into.end.limits.items, ap (slice_get table) into.place ∙ lane_in (pad_id sink) into.end.limits.items into.room, refl, omega arith))
 
   -- and so are those of a row
-  row_in : (n port : ℕ) (row : InletRow I) → has has_inlets (made_in graph) n ≡ true → IsRowOf i (made_in graph) (links_in graph) n port row → RowIn i (Some table) row
-  row_in n port row fed (IsRowOf.unlinked none feeds) = subst (λ (fs : List (Feeding I)). ForLanes (λ inlet. IsIn (Some table) (i.place inlet)) fs) (sym feeds) tt
-  row_in n port row fed (IsRowOf.linked inlet has_it feeds place received) =
-      let lane = lane_empty n fed has_it in
+  row_in : (n port : ℕ) (row : InletRow I) → IsRowOf i (made_in graph) (links_in graph) n port row → RowIn i (Some table) row
+  row_in n port row (IsRowOf.unlinked none feeds) = subst (λ (fs : List (Feeding I)). ForLanes (λ inlet. IsIn (Some table) (i.place inlet)) fs) (sym feeds) tt
+  row_in n port row (IsRowOf.linked inlet has_it feeds place received) =
+      let lane = lane_empty (pad_id (place_at n port)) has_it in
       subst (λ (fs : List (Feeding I)). ForLanes (λ inlet. IsIn (Some table) (i.place inlet)) fs) (sym feeds)
       (for_table (λ t. (found : Lane) × (slice_get t (i.place inlet) ≡ Some found)) (lane.lane, ap (slice_get table) place ∙ lane.at), tt)
 
-  head_ready : (bag : BagHead) (head : Head S I O s) → IsHeadOf i o (made_in graph) (links_in graph) files bag head → IsHead (made_in graph) bag → HeadReady i o (Some table) head
-  head_ready bag head (IsHeadOf.from_source cell own number file given one pad) is = pad_ready cell.element 0 own.pad pad
-  head_ready bag head (IsHeadOf.from_inlets n own number count rows) is = λ port row at. row_in n port row is (rows port row at)
+  head_ready : (bag : BagHead) (head : Head S I O s) → IsHeadOf i o (made_in graph) (links_in graph) files bag head → HeadReady i o (Some table) head
+  head_ready bag head (IsHeadOf.from_source cell own number file given one pad) = pad_ready cell.element 0 own.pad pad
+  head_ready bag head (IsHeadOf.from_inlets n own number count rows) = λ port row at. row_in n port row (rows port row at)
 
-  -- no two rows have lanes, and no lane of a row is one of these
+  -- no two rows have one lane, and no lane of a row is one of these
   row_apart : (n port : ℕ) (row : InletRow I) → IsRowOf i (made_in graph) (links_in graph) n port row → AreApart i row
   row_apart n port row (IsRowOf.unlinked none feeds) = subst (λ (fs : List (Feeding I)). Apart i fs) (sym feeds) tt
   row_apart n port row (IsRowOf.linked inlet has_it feeds place received) = subst (λ (fs : List (Feeding I)). Apart i fs) (sym feeds) (tt, tt)
 
   pub row_else : (n port : ℕ) (row : InletRow I) (P : I → Type 0) → IsRowOf i (made_in graph) (links_in graph) n port row
-      → ((inlet : I) → has_lane (made_in graph) (links_in graph) n ≡ true → i.place inlet ≡ lane_place (made_in graph) (links_in graph) n → P inlet) → ForLanes P (feeds_of row)
+      → ((inlet : I) → has_lane (made_in graph) (links_in graph) (pad_id (place_at n port)) ≡ true → i.place inlet ≡ lane_place (made_in graph) (links_in graph) (pad_id (place_at n port)) → P inlet)
+      → ForLanes P (feeds_of row)
   row_else n port row P (IsRowOf.unlinked none feeds) all = subst (λ (fs : List (Feeding I)). ForLanes P fs) (sym feeds) tt
   row_else n port row P (IsRowOf.linked inlet has_it feeds place received) all = subst (λ (fs : List (Feeding I)). ForLanes P fs) (sym feeds) (all inlet has_it place, tt)
 
-  head_apart : (bag : BagHead) (head : Head S I O s) (frame : TaskFrame) → IsHeadOf i o (made_in graph) (links_in graph) files bag head → IsHead (made_in graph) bag
-      → ((n j k place : ℕ) (wire : Wire) → bag ≡ bags_heads.Inlets n → WireAt frame j k wire → LeadsInto wire place → has_lane (made_in graph) (links_in graph) n ≡ true
-      → place ≢ lane_place (made_in graph) (links_in graph) n)
+  -- lanes of two sink pads are two
+  pub rows_apart : (n n' j k : ℕ) (one other : InletRow I) → IsRowOf i (made_in graph) (links_in graph) n j one → IsRowOf i (made_in graph) (links_in graph) n' k other
+      → (pad_id (place_at n j) ≡ pad_id (place_at n' k) → ⊥) → ForLanes (λ inlet. ForLanes (λ second. i.place second ≢ i.place inlet) (feeds_of other)) (feeds_of one)
+  rows_apart n n' j k one other is too apart =
+      row_else n j one (λ inlet. ForLanes (λ second. i.place second ≢ i.place inlet) (feeds_of other)) is
+      (λ inlet has_it at. row_else n' k other (λ second. i.place second ≢ i.place inlet) too
+      (λ second has_too to. λ same. apart (lanes_apart (made_in graph) (links_in graph) (pad_id (place_at n j)) (pad_id (place_at n' k)) has_it has_too (sym at ∙ sym same ∙ to))))
+
+  -- this is no lane of a head
+  abbrev NotOf : BagHead → ℕ → Type 0
+  NotOf bag place = (n port : ℕ) → bag ≡ bags_heads.Inlets n → port < sink_count (made_in graph) n → has_lane (made_in graph) (links_in graph) (pad_id (place_at n port)) ≡ true
+      → place ≢ lane_place (made_in graph) (links_in graph) (pad_id (place_at n port))
+
+  head_apart : (bag : BagHead) (head : Head S I O s) (frame : TaskFrame) → IsHeadOf i o (made_in graph) (links_in graph) files bag head
+      → ((j k place : ℕ) (wire : Wire) → WireAt frame j k wire → LeadsInto wire place → NotOf bag place)
       → HeadApart i frame head
-  head_apart bag head frame (IsHeadOf.from_source cell own number file given one pad) is none = tt
-  head_apart bag head frame (IsHeadOf.from_inlets n own number count rows) is none =
+  head_apart bag head frame (IsHeadOf.from_source cell own number file given one pad) none = tt
+  head_apart bag head frame (IsHeadOf.from_inlets n own number count rows) none =
       record {
         each = λ port row at. row_apart n port row (rows port row at);
-        rows = λ j k one other at to apart.
-            let few = inlets_sinks (made_in graph) n is in
-            let w = slice_get_within own.rows.items j one at in
-            let v = slice_get_within own.rows.items k other to in
-            absurd (apart (omega (arith, w, v, count, few)));
-        pads = λ j k place wire at into port row here. row_else n port row (λ inlet. place ≢ i.place inlet) (rows port row here) (λ inlet has_it is. λ same. none n j k place wire refl at into has_it (same ∙ is));
+        rows = λ j k one other at to apart. rows_apart n n j k one other (rows j one at) (rows k other to) (λ same. apart (omega (arith, same)));
+        pads = λ j k place wire at into port row here.
+            let w = slice_get_within own.rows.items port row here in
+            row_else n port row (λ inlet. place ≢ i.place inlet) (rows port row here)
+            (λ inlet has_it is. λ same. none j k place wire at into n port refl (omega (arith, w, count)) has_it (same ∙ is));
       }
 
   module _ (k : ℕ) (task : Task S E I O L s e i o) (p : IsPlaced i o graph bags ends files k task) where
@@ -124,13 +138,14 @@ module _ {S E I O L : Type 0} {s : sources.Ghosts S} {e : elements.Ghosts E} {i 
           p.is.only c.cell.element (among (made_in graph) (links_in graph) p.bag p.is j c.cell c.at),
         )
 
-    not_back : (n j port place : ℕ) (wire : Wire) → p.bag.head ≡ bags_heads.Inlets n → WireAt (frame_of task) j port wire → LeadsInto wire place
-        → has_lane (made_in graph) (links_in graph) n ≡ true → place ≢ lane_place (made_in graph) (links_in graph) n
-    not_back n j port place wire head at into has_it same =
+    not_back : (j port place : ℕ) (wire : Wire) → WireAt (frame_of task) j port wire → LeadsInto wire place → NotOf p.bag.head place
+    not_back j port place wire at into n pad head within has_it same =
         let a = over_lane j port place wire at into in
         let over = a.1 in
-        let one = lanes_apart (made_in graph) (links_in graph) over.sink.element n over.has_it has_it (sym over.place_is ∙ same) in
-        no_loop graph g.sound (head_of p.bag) a.0 port over.sink a.2 over.linked (one ∙ sym (ap head_number head))
+        let lane = lanes_apart (made_in graph) (links_in graph) (pad_id over.sink) (pad_id (place_at n pad)) over.has_it has_it (sym over.place_is ∙ same) in
+        let few = few_sink (made_in graph) (links_in graph) g.sound.pads (place_at a.0 port) over.sink over.linked in
+        let one = same_pad over.sink (place_at n pad) few (few_pads (made_in graph) n pad within) lane in
+        no_loop graph g.sound (head_of p.bag) a.0 port over.sink a.2 over.linked (ap (λ (place : PadPlace). place.element) one ∙ sym (ap head_number head))
 
     wires_apart : WiresApart (frame_of task)
     wires_apart = record {
@@ -158,9 +173,9 @@ module _ {S E I O L : Type 0} {s : sources.Ghosts S} {e : elements.Ghosts E} {i 
     ready_at : IsReady (Some table) task
     ready_at = record {
       parts_ready = λ j part here port pad at. let c = cell_of g k j task p part here in pad_ready c.cell.element port pad (c.of.pads port pad at);
-      head_ready = head_ready p.bag.head task.head p.of.head p.is.head;
+      head_ready = head_ready p.bag.head task.head p.of.head;
       wires_apart = wires_apart;
-      head_apart = head_apart p.bag.head task.head (frame_of task) p.of.head p.is.head not_back;
+      head_apart = head_apart p.bag.head task.head (frame_of task) p.of.head not_back;
     }
 
   pub ready : (k : ℕ) (task : Task S E I O L s e i o) → slice_get tasks k ≡ Some task → IsReady (Some table) task

@@ -12,7 +12,9 @@ use Rattle.net_model.specs.declared.element.TaskElement as elements
 use Rattle.net_model.specs.declared.source.TaskSource as sources
 use Rattle.graph_core.specs.Graph.{made as made_in, links as links_in}
 use Rattle.graph_core.specs.declared.graph.Graph.{Graph}
-use Rattle.graph_bags.specs.Links.{has, has_inlets, is_source}
+use Rattle.graph_core.specs.GraphPlan.{pad_id}
+use Rattle.graph_bags.specs.Links.{has, place_at}
+use Rattle.el_settings.specs.Asked.{is_source}
 use Rattle.graph_bags.specs.declared.bag.Bag.{Bag}
 use Rattle.graph_moment.specs.Pads.{pad_owner}
 use Rattle.graph_moment.specs.Plans.{moment_plan}
@@ -30,7 +32,7 @@ use Rattle.graph_tasks.proofs.Pads.{start}
 use Rattle.graph_tasks.proofs.Given.{IsBegun}
 use Rattle.graph_tasks.proofs.Tied.{sinks_count, tied}
 use Rattle.graph_tasks.proofs.Readies.{for_table, lane_empty}
-use Rattle.graph_tasks.proofs.Heads.{fed_inlets, fed_rows, source_owned}
+use Rattle.graph_tasks.proofs.Heads.{fed_rows, source_owned}
 use Rattle.graph_tasks.proofs.Readied.{net_ready}
 
 -- nothing was done to the graph but links
@@ -46,11 +48,11 @@ module _ {S E I O L : Type 0} {s : sources.Ghosts S} {e : elements.Ghosts E} {i 
     {contents : ℕ → List ℕ} {graph : Graph} {bags : List Bag} {ends : List (Option E)} {files : List (Option S)} {tasks : List (Task S E I O L s e i o)} {table : List Lane}
     (g : IsBegun i o contents graph bags ends files tasks table) where
   -- a row gave nothing, and its lane holds nothing
-  row_between : (n port : ℕ) (row : InletRow I) → has has_inlets (made_in graph) n ≡ true → IsRowOf i (made_in graph) (links_in graph) n port row → RowBetween i (Some table) (λ place. []) row []
-  row_between n port row fed (IsRowOf.unlinked none feeds) =
+  row_between : (n port : ℕ) (row : InletRow I) → IsRowOf i (made_in graph) (links_in graph) n port row → RowBetween i (Some table) (λ place. []) row []
+  row_between n port row (IsRowOf.unlinked none feeds) =
       subst (λ (fs : List (Feeding I)). GaveInAll (GaveOf i (Some table) (λ place. [])) fs []) (sym feeds) (record { past = []; lane = []; whole = refl; front = refl; behind = tt })
-  row_between n port row fed (IsRowOf.linked inlet has_it feeds place received) =
-      let lane = lane_empty g.known n fed has_it in
+  row_between n port row (IsRowOf.linked inlet has_it feeds place received) =
+      let lane = lane_empty g.known (pad_id (place_at n port)) has_it in
       subst (λ (fs : List (Feeding I)). GaveInAll (GaveOf i (Some table) (λ place. [])) fs []) (sym feeds)
       (record {
         past = [];
@@ -64,16 +66,15 @@ module _ {S E I O L : Type 0} {s : sources.Ghosts S} {e : elements.Ghosts E} {i 
         behind = tt;
       })
 
-  row_empty : (n port : ℕ) (row : InletRow I) → has has_inlets (made_in graph) n ≡ true → IsRowOf i (made_in graph) (links_in graph) n port row → row_holds i table row ≡ []
-  row_empty n port row fed (IsRowOf.unlinked none feeds) = ap (held i table) feeds
-  row_empty n port row fed (IsRowOf.linked inlet has_it feeds place received) =
-      let lane = lane_empty g.known n fed has_it in
+  row_empty : (n port : ℕ) (row : InletRow I) → IsRowOf i (made_in graph) (links_in graph) n port row → row_holds i table row ≡ []
+  row_empty n port row (IsRowOf.unlinked none feeds) = ap (held i table) feeds
+  row_empty n port row (IsRowOf.linked inlet has_it feeds place received) =
+      let lane = lane_empty g.known (pad_id (place_at n port)) has_it in
       ap (held i table) feeds ∙ ap (λ (found : Option Lane). items_of found ++ []) (ap (slice_get table) place ∙ lane.at) ∙ ap (λ (xs : List Item). xs ++ []) lane.empty
 
   row_stands : (k n port : ℕ) (row : InletRow I) → HasRow tasks k n port row → RowStands i table (λ place. []) (start contents graph) n port row
   row_stands k n port row x =
       let rows = fed_rows g.known k x.head x.fed in
-      let fed = fed_inlets g.known k x.head x.fed in
       let is = rows.rows port row x.at in
       let w = slice_get_within x.head.rows.items port row x.at in
       let count = rows.count in
@@ -82,8 +83,8 @@ module _ {S E I O L : Type 0} {s : sources.Ghosts S} {e : elements.Ghosts E} {i 
       record {
         got = [];
         took = none;
-        between = row_between x.head.number port row fed is;
-        holds = subst (λ (xs : List Item). ListAt port ((start contents graph).held n) (feeds xs)) (sym (row_empty x.head.number port row fed is)) none;
+        between = row_between x.head.number port row is;
+        holds = subst (λ (xs : List Item). ListAt port ((start contents graph).held n) (feeds xs)) (sym (row_empty x.head.number port row is)) none;
       }
 
   -- what waits at a pad waits at one of a task

@@ -6,11 +6,13 @@ use Rattle.std.specs.Option.{option_map_or}
 use Rattle.std.proofs.lemmas.List.{map-append}
 use Rattle.flow_model.specs.Account.{IsMember}
 use Rattle.graph_core.specs.Elements.{Made}
-use Rattle.graph_core.specs.Links.{sink_behind, source_before}
-use Rattle.graph_core.specs.declared.pad.PadLink.{PadLink}
-use Rattle.graph_core.specs.declared.pad.PadPlace.{PadPlace}
+use Rattle.graph_core.specs.GraphPlan.{pad_id}
+use Rattle.graph_pads.specs.Links.{sink_behind}
+use Rattle.graph_pads.specs.declared.pad.PadLink.{PadLink}
+use Rattle.graph_pads.specs.declared.pad.PadPlace.{PadPlace}
 use Rattle.graph_bags.specs.Bags.{HavePads, IsBag, IsHead, Once, cells, head_number, head_of, number_of, numbers}
-use Rattle.graph_bags.specs.Links.{has, has_inlets, is_head, is_source, link_to, pad_at, place_at, source_count}
+use Rattle.graph_bags.specs.Links.{has, has_inlets, is_head, link_to, pad_at, place_at, source_count}
+use Rattle.el_settings.specs.Asked.{is_source}
 use Rattle.graph_bags.specs.declared.bag.Bag.{Bag}
 use Rattle.graph_bags.specs.declared.bag.BagElement.{BagElement}
 use Rattle.graph_bags.specs.declared.bag.BagHead.{BagHead}
@@ -20,22 +22,20 @@ use Rattle.graph_bags.specs.declared.bag.BagPad.{BagPad}
 use Rattle.graph_bags.proofs.Apart.{same_head}
 use Rattle.graph_bags.proofs.Onces.{in_either, once_append}
 use Rattle.graph_bags.proofs.Trees.{range_once}
-use Rattle.graph_tasks.specs.Wiring.{AreLinks, BagsGiven, all_cells, cell_lanes, lane_to, pad_lanes}
+use Rattle.graph_tasks.specs.Wiring.{AreLinks, BagsGiven, all_cells, cell_lanes, inlets_of, lane_to, pad_lanes}
 use Rattle.graph_tasks.proofs.Flats.{flat_flat}
-use Rattle.graph_tasks.proofs.Leading.{first_sink}
-use Rattle.gst_value.proofs.Basics.{some_same}
+use Rattle.graph_tasks.proofs.Numbers.{inlets_once, one_source}
 
--- a pad of these leads over the lane into an element
+-- a pad of these leads over the lane of a number
 record LaneBy (made : List Made) (links : List PadLink) (a d : ℕ) (ks : List ℕ) : Type 0 where
   pub pad : ℕ
   pub among : IsMember pad ks
   pub sink : PadPlace
   pub linked : sink_behind links (place_at a pad) ≡ Some sink
-  pub element : sink.element ≡ d
-  pub inlets : has has_inlets made d ≡ true
+  pub number : pad_id sink ≡ d
 
 more_by : (made : List Made) (links : List PadLink) (a d k : ℕ) (ks : List ℕ) → LaneBy made links a d ks → LaneBy made links a d (k ∷ ks)
-more_by made links a d k ks l = record { pad = l.pad; among = inr l.among; sink = l.sink; linked = l.linked; element = l.element; inlets = l.inlets }
+more_by made links a d k ks l = record { pad = l.pad; among = inr l.among; sink = l.sink; linked = l.linked; number = l.number }
 
 lanes_by : (made : List Made) (links : List PadLink) (a d : ℕ) (ks : List ℕ) → IsMember d (pad_lanes (map (pad_at made links a) ks)) → LaneBy made links a d ks
 lanes_by made links a d [] m = absurd m
@@ -49,11 +49,8 @@ lanes_by made links a d (k ∷ ks) m = go (sink_behind links (place_at a k)) ref
         by : (b : Bool) → has has_inlets made sink.element ≡ b
             → IsMember d (lane_to (if b then Lane sink.element sink.pad else Element sink.element sink.pad) ++ pad_lanes (map (pad_at made links a) ks)) → LaneBy made links a d (k ∷ ks)
         by false is m = later m
-        by true is (inl same) = record { pad = k; among = inl refl; sink = sink; linked = at; element = sym same; inlets = subst (λ (n : ℕ). has has_inlets made n ≡ true) (sym same) is }
+        by true is (inl same) = record { pad = k; among = inl refl; sink = sink; linked = at; number = sym same }
         by true is (inr m) = later m
-
-alike : (one other : PadPlace) → one.element ≡ other.element → one.pad ≡ other.pad → one ≡ other
-alike one other e p = ap (λ (n : ℕ). place_at n one.pad) e ∙ ap (λ (n : ℕ). place_at other.element n) p
 
 -- an element of these has a pad that leads over the lane
 record LaneFrom (made : List Made) (links : List PadLink) (d : ℕ) (own : List BagElement) : Type 0 where
@@ -74,18 +71,9 @@ lanes_from made links (x ∷ xs) have d m = go (in_either d (pad_lanes x.pads.it
     go (inr n) later = let f = later n in record { from = f.from; among = inr f.among; by = f.by }
 
 module _ (made : List Made) (links : List PadLink) (are : AreLinks made links) where
-  -- one source pad at the most leads into such an element
-  one_source : (source other sink place : PadPlace) → sink_behind links source ≡ Some sink → sink_behind links other ≡ Some place → sink.element ≡ place.element → has has_inlets made sink.element ≡ true
-      → source ≡ other
-  one_source source other sink place at to same is =
-      let zero_here = first_sink made links are source sink at is in
-      let zero_there = first_sink made links are other place to (subst (λ (n : ℕ). has has_inlets made n ≡ true) same is) in
-      let one : sink ≡ place = alike sink place same (zero_here ∙ sym zero_there) in
-      some_same (sym (are.once.there source sink at) ∙ ap (source_before links) one ∙ are.once.there other place to)
-
+  -- one source pad at the most leads over a lane
   same_source : (a b d : ℕ) (ks ls : List ℕ) (l : LaneBy made links a d ks) (k : LaneBy made links b d ls) → place_at a l.pad ≡ place_at b k.pad
-  same_source a b d ks ls l k =
-      one_source (place_at a l.pad) (place_at b k.pad) l.sink k.sink l.linked k.linked (l.element ∙ sym k.element) (subst (λ (n : ℕ). has has_inlets made n ≡ true) (sym l.element) l.inlets)
+  same_source a b d ks ls l k = one_source made links are.all are.once (place_at a l.pad) (place_at b k.pad) l.sink k.sink l.linked k.linked (l.number ∙ sym k.number)
 
   once_lanes : (a : ℕ) (ks : List ℕ) → Once ks → Once (pad_lanes (map (pad_at made links a) ks))
   once_lanes a [] o = tt
@@ -97,13 +85,13 @@ module _ (made : List Made) (links : List PadLink) (are : AreLinks made links) w
         where
           by : (b : Bool) → has has_inlets made sink.element ≡ b → Once (lane_to (if b then Lane sink.element sink.pad else Element sink.element sink.pad) ++ pad_lanes (map (pad_at made links a) ks))
           by false is = rest
-          by true is = (λ m. again (lanes_by made links a sink.element ks m), rest)
+          by true is = (λ m. again (lanes_by made links a (pad_id sink) ks m), rest)
             where
-              again : LaneBy made links a sink.element ks → ⊥
+              again : LaneBy made links a (pad_id sink) ks → ⊥
               again l =
                   o.0
                   (subst (λ (n : ℕ). IsMember n ks)
-                  (sym (ap (λ (place : PadPlace). place.pad) (one_source (place_at a k) (place_at a l.pad) sink l.sink at l.linked (sym l.element) is))) l.among)
+                  (sym (ap (λ (place : PadPlace). place.pad) (one_source made links are.all are.once (place_at a k) (place_at a l.pad) sink l.sink at l.linked (sym l.number)))) l.among)
 
   once_cells : (own : List BagElement) → HavePads made links own → Once (map number_of own) → Once (cell_lanes own)
   once_cells [] have once = tt
@@ -198,7 +186,11 @@ module _ (made : List Made) (links : List PadLink) (bags : List Bag) (given : Ba
   pub heads_once : Once (map head_of bags)
   heads_once = subst Once (sym given.are.heads) (once_filter (has is_head made) (range_with_len 0 (length made)) (range_once 0 (length made)))
 
-  -- and no element
+  -- no lane feeds two heads
+  pub all_inlets : Once (flat_map (λ (bag : Bag). inlets_of made bag.head) bags)
+  all_inlets = inlets_once made bags heads_once
+
+  -- no element stands twice
   pub all_once : Once (flat_map numbers bags)
   all_once = once_numbers made links given.links_are bags given.are.are heads_once
 

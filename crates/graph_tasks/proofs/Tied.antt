@@ -11,14 +11,14 @@ use Rattle.net_model.specs.declared.element.TaskElement as elements
 use Rattle.net_model.specs.declared.source.TaskSource as sources
 use Rattle.net_model.specs.Moment.{behavior_at}
 use Rattle.std.specs.Option.{option_map_or}
-use Rattle.el_settings.specs.Asked.{sink_pads}
+use Rattle.el_settings.specs.Asked.{sink_pads, is_source}
 use Rattle.graph_core.specs.Elements.{Made}
 use Rattle.graph_core.specs.Graph.{made as made_in, links as links_in}
-use Rattle.graph_core.specs.Links.{sink_behind, source_before}
+use Rattle.graph_pads.specs.Links.{sink_behind, source_before}
 use Rattle.graph_core.specs.declared.graph.Graph.{Graph}
-use Rattle.graph_core.specs.declared.pad.PadPlace.{PadPlace}
-use Rattle.graph_core.specs.GraphPlan.{line_plan, owner_of, sink_at, sink_count as sinks_of, spans_from}
-use Rattle.graph_bags.specs.Links.{has, has_inlets, is_source, place_at, source_count}
+use Rattle.graph_pads.specs.declared.pad.PadPlace.{PadPlace}
+use Rattle.graph_core.specs.GraphPlan.{line_plan, owner_of, pad_id, sink_at, sink_count as sinks_of, spans_from}
+use Rattle.graph_bags.specs.Links.{has, has_inlets, place_at, source_count}
 use Rattle.graph_bags.specs.Bags.{IsHead}
 use Rattle.graph_bags.specs.declared.bag.Bag.{Bag}
 use Rattle.graph_bags.specs.declared.bag.BagElement.{BagElement}
@@ -181,7 +181,7 @@ module _ {S E I O L : Type 0} {s : sources.Ghosts S} {e : elements.Ghosts E} {i 
           no e = cc
       go found (LeadsTo.lane sink outer into) = no (sym into.goes ∙ same)
         where
-          no : over sink.element sink.element sink.pad 0 ≡ inside n port → ⊥
+          no : over (pad_id sink) sink.element sink.pad 0 ≡ inside n port → ⊥
           no e = cc
 
   pub tied : (k : ℕ) (task : Task S E I O L s e i o) → slice_get tasks k ≡ Some task → Ties task (start contents graph)
@@ -192,7 +192,7 @@ module _ {S E I O L : Type 0} {s : sources.Ghosts S} {e : elements.Ghosts E} {i 
         parts_tied = record {
           each = λ j part here.
               let c = cell_of g.known k j task p part here in
-              part_tied c.cell part c.of (no_source (made_in graph) (links_in graph) p.bag p.is g.known.sound.pads g.known.once j c.cell c.at)
+              part_tied c.cell part c.of (no_source (made_in graph) (links_in graph) p.bag p.is g.known.sound.pads j c.cell c.at)
               (there g.known k c.cell.element task p (among (made_in graph) (links_in graph) p.bag p.is j c.cell c.at));
           once = λ j l one other here too same.
               let c = cell_of g.known k j task p one here in

@@ -1,5 +1,6 @@
 -- How the tasks of a graph are wired: each lane has one end of each kind.
 use Rattle.std.proofs.Common.{◌≡◌, ◌≢◌, ◌<◌, ◌+◌, ◌*◌, ℕ, true, List, [], Option, Some, sym, ap, ◌∙◌, subst, arith}
+use Rattle.std.proofs.lemmas.Option.{slice_get_within}
 use Rattle.flow_model.specs.Account.{IsMember}
 use Rattle.lane_core.specs.Lane.{Lane}
 use Rattle.lane_core.specs.declared.ends.Inlet as inlets
@@ -8,10 +9,10 @@ use Rattle.net_model.specs.declared.element.TaskElement as elements
 use Rattle.net_model.specs.declared.source.TaskSource as sources
 use Rattle.graph_core.specs.Elements.{Made}
 use Rattle.graph_core.specs.Graph.{made as made_in, links as links_in}
-use Rattle.graph_core.specs.Links.{sink_behind}
+use Rattle.graph_pads.specs.Links.{sink_behind}
 use Rattle.graph_core.specs.declared.graph.Graph.{Graph}
-use Rattle.graph_core.specs.declared.pad.PadLink.{PadLink}
-use Rattle.graph_core.specs.declared.pad.PadPlace.{PadPlace}
+use Rattle.graph_pads.specs.declared.pad.PadLink.{PadLink}
+use Rattle.graph_pads.specs.declared.pad.PadPlace.{PadPlace}
 use Rattle.graph_bags.specs.Links.{place_at}
 use Rattle.graph_bags.specs.Bags.{numbers}
 use Rattle.graph_bags.specs.declared.bag.Bag.{Bag}
@@ -28,13 +29,14 @@ use Rattle.net_task.specs.Ready.{EndsWith, LeadsInto}
 use Rattle.net_turns.specs.Net.{AreWired, HasRow, SendsInto}
 use Rattle.graph_tasks.specs.Tasks.{IsPadOf, IsRowOf, LeadsTo, sink_count}
 use Rattle.graph_tasks.proofs.Lists.{got_within}
-use Rattle.graph_tasks.proofs.Lanes.{lanes_apart}
+use Rattle.graph_tasks.proofs.Numbers.{few_pads}
 use Rattle.graph_tasks.proofs.Graphs.{inlets_head, not_true}
 use Rattle.graph_tasks.proofs.Given.{IsKnown, IsPlaced, one_task, placed}
 use Rattle.graph_tasks.proofs.Wires.{GoesOver, goes_over, one_over, wire_of_bag}
-use Rattle.graph_tasks.proofs.Readies.{row_else}
+use Rattle.graph_tasks.proofs.Readies.{rows_apart}
 use Rattle.graph_tasks.proofs.Heads.{fed_among, fed_rows, inlets_of, one_owner}
 use Rattle.graph_core.specs.GraphPlan.{pad_id}
+use Rattle.graph_core.proofs.NumberedPads.{same_pad}
 
 module _ {O L : Type 0} (o : outlets.Ghosts O L) (made : List Made) (links : List PadLink) where
   -- the sink pad behind a lane is that of the link
@@ -107,19 +109,26 @@ module _ {S E I O L : Type 0} {s : sources.Ghosts S} {e : elements.Ghosts E} {i 
   one_takes : (k j n n' port port' : ℕ) (one other : InletRow I) → HasRow tasks k n port one → HasRow tasks j n' port' other → k ≢ j
       → ForLanes (λ inlet. ForLanes (λ second. i.place second ≢ i.place inlet) (feeds_of other)) (feeds_of one)
   one_takes k j n n' port port' one other x y apart =
-      row_else g x.head.number port one (λ inlet. ForLanes (λ second. i.place second ≢ i.place inlet) (feeds_of other)) ((fed_rows g k x.head x.fed).rows port one x.at)
-      (λ inlet has_it is. row_else g y.head.number port' other (λ second. i.place second ≢ i.place inlet) ((fed_rows g j y.head y.fed).rows port' other y.at)
-      (λ second has_too too. λ same. apart (both (lanes_apart (made_in graph) (links_in graph) x.head.number y.head.number has_it has_too (sym is ∙ sym same ∙ too)))))
+      rows_apart g x.head.number y.head.number port port' one other ((fed_rows g k x.head x.fed).rows port one x.at) ((fed_rows g j y.head y.fed).rows port' other y.at) (λ same. apart (both same))
     where
-      both : x.head.number ≡ y.head.number → k ≡ j
-      both same =
-          one_task g k j x.head.number x.fed.task y.fed.task (placed g k x.fed.task x.fed.at) (placed g j y.fed.task y.fed.at) (fed_among g k x.head x.fed)
-          (subst (λ (m : ℕ). IsMember m (numbers (placed g j y.fed.task y.fed.at).bag)) (sym same) (fed_among g j y.head y.fed))
+      -- a row is of a sink pad
+      few : (k n port : ℕ) (row : InletRow I) (x : HasRow tasks k n port row) → port < 64
+      few k n port row x =
+          let w = slice_get_within x.head.rows.items port row x.at in
+          let count = (fed_rows g k x.head x.fed).count in
+          few_pads (made_in graph) x.head.number port (omega (arith, w, count))
 
-  ends_with : (n port place : ℕ) (row : InletRow I) → IsRowOf i (made_in graph) (links_in graph) n port row → has_lane (made_in graph) (links_in graph) n ≡ true
-      → place ≡ lane_place (made_in graph) (links_in graph) n → EndsWith i row place
+      both : pad_id (place_at x.head.number port) ≡ pad_id (place_at y.head.number port') → k ≡ j
+      both same =
+          let pads = same_pad (place_at x.head.number port) (place_at y.head.number port') (few k n port one x) (few j n' port' other y) same in
+          one_task g k j x.head.number x.fed.task y.fed.task (placed g k x.fed.task x.fed.at) (placed g j y.fed.task y.fed.at) (fed_among g k x.head x.fed)
+          (subst (λ (m : ℕ). IsMember m (numbers (placed g j y.fed.task y.fed.at).bag)) (sym (ap (λ (place : PadPlace). place.element) pads)) (fed_among g j y.head y.fed))
+
+  ends_with : (n port place : ℕ) (row : InletRow I) → IsRowOf i (made_in graph) (links_in graph) n port row → has_lane (made_in graph) (links_in graph) (pad_id (place_at n port)) ≡ true
+      → place ≡ lane_place (made_in graph) (links_in graph) (pad_id (place_at n port)) → EndsWith i row place
   ends_with n port place row (IsRowOf.unlinked none feeds) has_it is = not_true (sym none ∙ has_it)
-  ends_with n port place row (IsRowOf.linked inlet has_too feeds place_is received) has_it is = record { front = []; number = n; inlet = inlet; whole = feeds; place_is = place_is ∙ sym is }
+  ends_with n port place row (IsRowOf.linked inlet has_too feeds place_is received) has_it is =
+      record { front = []; number = pad_id (place_at n port); inlet = inlet; whole = feeds; place_is = place_is ∙ sym is }
 
   paired : (k p place from n port : ℕ) → SendsInto tasks k p place from n port → (r : ℕ) × (row : InletRow I) × HasRow tasks r n port row × EndsWith i row place
   paired k p place from n port x =
@@ -130,12 +139,13 @@ module _ {S E I O L : Type 0} {s : sources.Ghosts S} {e : elements.Ghosts E} {i 
       let v = subst (λ (m : ℕ). a.out.sink.pad < sink_count (made_in graph) m) (sym h.number) w in
       let count = rows.count in
       let to = a.sink in
-      let found = got_within h.own.rows.items port (omega (arith, v, count, to)) in (
+      let found = got_within h.own.rows.items port (omega (arith, v, count, to)) in
+      let same : place_at h.own.number port ≡ a.out.sink = ap (λ (m : ℕ). place_at m port) h.number ∙ ap (λ (m : ℕ). place_at a.out.sink.element m) to in (
         h.k,
         found.0,
         record { head = h.own; fed = h.fed; number = h.number ∙ sym a.element; at = found.1 },
-        ends_with h.own.number port place found.0 (rows.rows port found.0 found.1) (subst (λ (m : ℕ). has_lane (made_in graph) (links_in graph) m ≡ true) (sym h.number) a.out.has_it)
-            (a.out.place_is ∙ ap (lane_place (made_in graph) (links_in graph)) (sym h.number)),
+        ends_with h.own.number port place found.0 (rows.rows port found.0 found.1) (subst (λ (pad : PadPlace). has_lane (made_in graph) (links_in graph) (pad_id pad) ≡ true) (sym same) a.out.has_it)
+            (a.out.place_is ∙ ap (λ (pad : PadPlace). lane_place (made_in graph) (links_in graph) (pad_id pad)) (sym same)),
       )
 
   pub wired : AreWired tasks

@@ -8,11 +8,12 @@ use Rattle.lane_core.specs.declared.ends.Outlet as outlets
 use Rattle.net_model.specs.declared.element.TaskElement as elements
 use Rattle.net_model.specs.declared.source.TaskSource as sources
 use Rattle.graph_core.specs.Elements.{Made}
+use Rattle.graph_core.specs.GraphPlan.{pad_id}
 use Rattle.graph_core.specs.Graph.{made as made_in, links as links_in}
-use Rattle.graph_core.specs.Links.{sink_behind}
+use Rattle.graph_pads.specs.Links.{sink_behind}
 use Rattle.graph_core.specs.declared.graph.Graph.{Graph}
-use Rattle.graph_core.specs.declared.pad.PadLink.{PadLink}
-use Rattle.graph_core.specs.declared.pad.PadPlace.{PadPlace}
+use Rattle.graph_pads.specs.declared.pad.PadLink.{PadLink}
+use Rattle.graph_pads.specs.declared.pad.PadPlace.{PadPlace}
 use Rattle.graph_bags.specs.Links.{has, has_inlets, place_at, source_count}
 use Rattle.graph_bags.specs.Bags.{numbers}
 use Rattle.graph_bags.specs.declared.bag.Bag.{Bag}
@@ -33,7 +34,7 @@ use Rattle.net_task.specs.Ready.{LeadsInto}
 use Rattle.graph_tasks.specs.Tasks.{IsHeadOf, IsLaneTo, IsPadOf, LeadsTo}
 use Rattle.graph_tasks.proofs.Lists.{map_got}
 use Rattle.graph_tasks.proofs.Lanes.{lanes_apart}
-use Rattle.graph_tasks.proofs.Graphs.{one_source}
+use Rattle.graph_tasks.proofs.Numbers.{one_source}
 use Rattle.graph_tasks.proofs.Bags.{among, source_among}
 use Rattle.graph_tasks.proofs.Given.{IsKnown, IsPlaced, cell_of, pad_there}
 
@@ -42,8 +43,8 @@ pub record GoesOver (made : List Made) (links : List PadLink) (n k place : ℕ) 
   pub sink : PadPlace
   pub linked : sink_behind links (place_at n k) ≡ Some sink
   pub fed : has has_inlets made sink.element ≡ true
-  pub has_it : has_lane made links sink.element ≡ true
-  pub place_is : place ≡ lane_place made links sink.element
+  pub has_it : has_lane made links (pad_id sink) ≡ true
+  pub place_is : place ≡ lane_place made links (pad_id sink)
 
 module _ {O L : Type 0} (o : outlets.Ghosts O L) where
   -- only over a lane a pad has the end of one
@@ -65,7 +66,7 @@ module _ {O L : Type 0} (o : outlets.Ghosts O L) where
       no lane n i from e = cc
 
   module _ (made : List Made) (links : List PadLink) where
-    lane_has : (sink : PadPlace) (pad : Pad O) → IsLaneTo o made links sink pad → has_lane made links sink.element ≡ true
+    lane_has : (sink : PadPlace) (pad : Pad O) → IsLaneTo o made links sink pad → has_lane made links (pad_id sink) ≡ true
     lane_has sink pad into = ap is_some into.room
 
     room_place : (end : LaneEnd) (room : Room) → room_in (Some end) ≡ Some room → room.place ≡ end.place
@@ -125,8 +126,8 @@ pub one_over : {S E I O L : Type 0} {s : sources.Ghosts S} {e : elements.Ghosts 
     (g : IsKnown i o graph bags ends files tasks table) (n k n' k' place : ℕ) → GoesOver (made_in graph) (links_in graph) n k place → GoesOver (made_in graph) (links_in graph) n' k' place
     → (n ≡ n') × (k ≡ k')
 one_over {graph = graph} g n k n' k' place a b =
-    let same = lanes_apart (made_in graph) (links_in graph) a.sink.element b.sink.element a.has_it b.has_it (sym a.place_is ∙ b.place_is) in
-    let one = one_source (made_in graph) (links_in graph) g.sound.pads g.once (place_at n k) (place_at n' k') a.sink b.sink a.linked b.linked a.fed same in
+    let same = lanes_apart (made_in graph) (links_in graph) (pad_id a.sink) (pad_id b.sink) a.has_it b.has_it (sym a.place_is ∙ b.place_is) in
+    let one = one_source (made_in graph) (links_in graph) g.sound.pads g.once (place_at n k) (place_at n' k') a.sink b.sink a.linked b.linked same in
     (ap (λ (place : PadPlace). place.element) one, ap (λ (place : PadPlace). place.pad) one)
 
 module _ {S E I O L : Type 0} {s : sources.Ghosts S} {e : elements.Ghosts E} {i : inlets.Ghosts I L O} {o : outlets.Ghosts O L}

@@ -6,13 +6,12 @@ use Rattle.lane_core.specs.declared.ends.Inlet as inlets
 use Rattle.lane_core.specs.declared.ends.Outlet as outlets
 use Rattle.net_model.specs.declared.element.TaskElement as elements
 use Rattle.net_model.specs.declared.source.TaskSource as sources
-use Rattle.el_settings.specs.Asked.{source_pads}
+use Rattle.el_settings.specs.Asked.{source_pads, is_source}
 use Rattle.graph_core.specs.Elements.{Made}
 use Rattle.graph_core.specs.Graph.{IsSound, made as made_in, links as links_in}
 use Rattle.graph_core.specs.declared.graph.Graph.{Graph}
 use Rattle.graph_core.specs.LinkedOnce.{AreOnce}
 use Rattle.graph_bags.specs.Bags.{AreBags, Once}
-use Rattle.graph_bags.specs.Links.{is_source}
 use Rattle.graph_bags.specs.declared.bag.Bag.{Bag}
 use Rattle.task_parts.specs.Shape.{is_closed}
 use Rattle.graph_tasks.specs.Tasks.{IsOf}

@@ -13,7 +13,8 @@ use Rattle.graph_core.specs.LinkedOnce.{AreOnce}
 use Rattle.graph_moment.specs.Plans.{moment_plan, moment_answers}
 use Rattle.graph_moment.specs.Laws.{given_by}
 use Rattle.graph_bags.specs.Bags.{AreBags}
-use Rattle.graph_bags.specs.Links.{has, is_source}
+use Rattle.graph_bags.specs.Links.{has}
+use Rattle.el_settings.specs.Asked.{is_source}
 use Rattle.graph_bags.specs.declared.bag.Bag.{Bag}
 use Rattle.net_task.specs.declared.task.Task.{Task}
 use Rattle.net_turns.specs.Net.{NetStands}

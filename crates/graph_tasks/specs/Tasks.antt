@@ -6,9 +6,9 @@ use Rattle.lane_core.specs.declared.ends.Inlet as inlets
 use Rattle.lane_core.specs.declared.ends.Outlet as outlets
 use Rattle.el_settings.specs.Asked.{sink_pads}
 use Rattle.graph_core.specs.Elements.{Made}
-use Rattle.graph_core.specs.Links.{sink_behind}
-use Rattle.graph_core.specs.declared.pad.PadLink.{PadLink}
-use Rattle.graph_core.specs.declared.pad.PadPlace.{PadPlace}
+use Rattle.graph_pads.specs.Links.{sink_behind}
+use Rattle.graph_pads.specs.declared.pad.PadLink.{PadLink}
+use Rattle.graph_pads.specs.declared.pad.PadPlace.{PadPlace}
 use Rattle.graph_core.specs.GraphPlan.{pad_id}
 use Rattle.graph_bags.specs.Links.{has, has_inlets, place_at, source_count}
 use Rattle.graph_bags.specs.declared.bag.Bag.{Bag}
@@ -40,13 +40,13 @@ abbrev pub IsOf : {A : Type 0} → List (Option A) → ℕ → A → Type 0
 IsOf ends n end = slice_get ends n ≡ Some (Some end)
 
 module _ {O L : Type 0} (o : outlets.Ghosts O L) (made : List Made) (links : List PadLink) where
-  -- A pad leads over the lane into the element behind it, which was made with it. Nothing was sent.
+  -- A pad leads over the lane to the sink pad behind it, which was made with it. Nothing was sent.
   pub record IsLaneTo (sink : PadPlace) (pad : Pad O) : Type 0 where
-    pub goes : goes_of pad ≡ over sink.element sink.element sink.pad 0
+    pub goes : goes_of pad ≡ over (pad_id sink) sink.element sink.pad 0
     pub end : LaneEnd
     pub is : end_of o pad ≡ Some end
-    pub place : end.place ≡ lane_place made links sink.element
-    pub room : lane_room made links sink.element ≡ Some end.limits.items
+    pub place : end.place ≡ lane_place made links (pad_id sink)
+    pub room : lane_room made links (pad_id sink) ≡ Some end.limits.items
     pub count : end.count ≡ 0
     pub sent : HasSent o pad []
 
@@ -65,10 +65,10 @@ module _ {O L : Type 0} (o : outlets.Ghosts O L) (made : List Made) (links : Lis
     pub unprobed : probe_of pad ≡ None
     pub leads : LeadsTo pad (sink_behind links (place_at n k))
 
--- The row of a sink pad of an element that is fed from inlets: the lane into it, which gave nothing, or nothing.
+-- The row of a sink pad of an element that is fed from inlets: the lane to it, which gave nothing, or nothing.
 pub data IsRowOf {I L O : Type 0} (i : inlets.Ghosts I L O) (made : List Made) (links : List PadLink) (n k : ℕ) (row : InletRow I) : Type 0 where
-  unlinked : has_lane made links n ≡ false → feeds_of row ≡ [] → IsRowOf i made links n k row
-  linked : (inlet : I) → has_lane made links n ≡ true → feeds_of row ≡ OfLane n inlet ∷ [] → i.place inlet ≡ lane_place made links n → i.received inlet [] → IsRowOf i made links n k row
+  unlinked : has_lane made links (pad_id (place_at n k)) ≡ false → feeds_of row ≡ [] → IsRowOf i made links n k row
+  linked : (inlet : I) → has_lane made links (pad_id (place_at n k)) ≡ true → feeds_of row ≡ OfLane (pad_id (place_at n k)) inlet ∷ [] → i.place inlet ≡ lane_place made links (pad_id (place_at n k)) → i.received inlet [] → IsRowOf i made links n k row
 
 module _ {E O L : Type 0} {e : elements.Ghosts E} (o : outlets.Ghosts O L) (made : List Made) (links : List PadLink) where
   -- an element of a task, with its pads by their numbers

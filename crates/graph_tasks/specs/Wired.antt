@@ -5,7 +5,7 @@ use Rattle.lane_core.specs.Lane.{Lane, lane_of}
 use Rattle.lane_core.specs.declared.ends.Inlet as inlets
 use Rattle.lane_core.specs.declared.ends.Outlet as outlets
 use Rattle.graph_core.specs.Elements.{Made}
-use Rattle.graph_core.specs.declared.pad.PadLink.{PadLink}
+use Rattle.graph_pads.specs.declared.pad.PadLink.{PadLink}
 use Rattle.graph_bags.specs.Bags.{AreBags, Once}
 use Rattle.graph_bags.specs.Links.{source_count}
 use Rattle.graph_bags.specs.declared.bag.Bag.{Bag}

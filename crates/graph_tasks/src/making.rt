@@ -43,7 +43,7 @@ impl<S: TaskSource, E: TaskElement, I: Inlet<Out = O>, O: Outlet<Lanes = I::Lane
     O,
 > {
     ghost use Rattle.graph_core.specs.Elements.{Made};
-    ghost use Rattle.graph_core.specs.declared.pad.PadLink.{PadLink};
+    ghost use Rattle.graph_pads.specs.declared.pad.PadLink.{PadLink};
     ghost use Rattle.graph_bags.specs.declared.bag.Bag.{Bag};
     ghost use Rattle.lane_core.specs.Lane.{Lane};
     ghost use Rattle.graph_tasks.specs.Plan.{AreThere};

@@ -3,7 +3,7 @@ ghost use Rattle.std.specs.Prelude.{◌≡◌, ◌<◌, ℕ, List, IfOk, length}
 ghost use Rattle.graph_core.specs.Graph.{made as made_in, links as links_in};
 ghost use Rattle.graph_core.specs.GraphPlan.{most_pads, pad_id};
 ghost use Rattle.graph_bags.specs.Links.{place_at};
-ghost use Rattle.graph_tasks.specs.Wiring.{CellGiven, IsBehind, LooksAt, OutletsLeft, PadGiven, PadMade, PadsMade, over_lane, without_lane};
+ghost use Rattle.graph_tasks.specs.Wiring.{CellGiven, IsBehind, IsNumbered, LooksAt, OutletsLeft, PadGiven, PadMade, PadsMade, over_lane, without_lane};
 
 use crate::taking::taken;
 use graph_bags::{BagElement, BagLink};
@@ -50,12 +50,12 @@ pub(crate) fn pad_of<O: Outlet>(
         → PadGiven (made_in graph.now) (links_in graph.now) element port leads gone
         → PadMade O.Outlet (made_in graph.now) (links_in graph.now) element port leads gone result outlets.new.items }
 {
-    let behind = behind_of(order, leads, outlets);
+    let behind = behind_of(graph, order, leads, outlets);
     Pad::new(alloc, pad_number(graph, element, port), behind)
 }
 
-/// The number of a source pad in the graph, where it is there.
-fn pad_number(graph: &Graph, element: u32, port: usize) -> u32
+/// The number of a source pad in the graph, or of a sink pad and the lane to it, where it is there.
+pub(crate) fn pad_number(graph: &Graph, element: u32, port: usize) -> u32
     ensures { element < length (made_in graph.now) → port < most_pads → result ≡ pad_id (place_at element port) }
 {
     if element >= graph.count() {
@@ -68,9 +68,14 @@ fn pad_number(graph: &Graph, element: u32, port: usize) -> u32
 }
 
 /// What is behind a pad that leads so. The outlet of its lane is taken.
-fn behind_of<O>(order: &[BagElement], leads: BagLink, outlets: &mut Vec<Option<O>>) -> Behind<O>
-    ensures behind { IsBehind leads outlets.old.items result }
-    ensures left { outlets.new.items ≡ without_lane leads outlets.old.items }
+fn behind_of<O>(
+    graph: &Graph,
+    order: &[BagElement],
+    leads: BagLink,
+    outlets: &mut Vec<Option<O>>,
+) -> Behind<O>
+    ensures behind { IsNumbered (made_in graph.now) leads → IsBehind leads outlets.old.items result }
+    ensures left { IsNumbered (made_in graph.now) leads → outlets.new.items ≡ without_lane leads outlets.old.items }
 {
     match leads {
         BagLink::Nothing => Behind::Nothing,
@@ -79,17 +84,20 @@ fn behind_of<O>(order: &[BagElement], leads: BagLink, outlets: &mut Vec<Option<O
             hint: place_of(order, element),
             pad,
         },
-        BagLink::Lane { element, pad } => over_lane(element, pad, taken(outlets, element)),
+        BagLink::Lane { element, pad } => {
+            let lane = pad_number(graph, element, pad as usize);
+            over_lane(lane, element, pad, taken(outlets, lane))
+        }
     }
 }
 
-/// Over the lane into an element, if it has one.
-fn over_lane<O>(element: u32, pad: u32, outlet: Option<O>) -> Behind<O>
-    ensures { result ≡ over_lane element pad outlet }
+/// Over a lane to a sink pad, if there is one.
+fn over_lane<O>(lane: u32, element: u32, pad: u32, outlet: Option<O>) -> Behind<O>
+    ensures { result ≡ over_lane lane element pad outlet }
 {
     match outlet {
         Some(outlet) => Behind::Lane {
-            lane: element,
+            lane,
             element,
             pad,
             from: 0,

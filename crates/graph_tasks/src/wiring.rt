@@ -7,7 +7,6 @@ ghost use Rattle.graph_tasks.specs.Wiring.{BagGiven, BagMade, BagsGiven, BagsMad
 
 use crate::rows::rows_of;
 use crate::source_pads::{pad_of, pads_of, place_of};
-use crate::taking::taken;
 use crate::wired_task::{WiredHead, WiredPart, WiredTask, WiredTasks};
 use graph_bags::{Bag, BagElement, BagHead, BagLink, bags_of};
 use graph_core::Graph;
@@ -126,12 +125,7 @@ fn head_of<I: Inlet<Out = O>, O: Outlet<Lanes = I::Lanes>>(
         BagHead::Inlets(number) => {
             let number = *number;
             let hint = place_of(order, number);
-            let rows = rows_of(
-                alloc,
-                number,
-                graph.sink_pads(number),
-                taken(inlets, number),
-            )?;
+            let rows = rows_of(alloc, graph, number, inlets)?;
             Ok(WiredHead::Inlets { number, hint, rows })
         }
     }

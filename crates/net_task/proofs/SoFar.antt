@@ -23,10 +23,12 @@ use Rattle.gst_item.specs.declared.out.Out.{Out}
 use Rattle.flow_model.specs.Item.{Item}
 use Rattle.net_model.specs.Takes.{on_port}
 use Rattle.task_pads.specs.Pads.{waiting_of}
+use Rattle.task_parts.specs.Gathered.{AreIdleBelow}
 use Rattle.task_parts.specs.Idle.{idle_before}
 use Rattle.task_parts.specs.Moved.{KeepsFront}
 use Rattle.task_parts.proofs.Idling.{idle_at, idle_front, idle_less, idle_out, idle_pad}
 use Rattle.task_parts.specs.Shape.{part_shape}
+use Rattle.task_parts.specs.Part.{IsSettled}
 use Rattle.task_parts.specs.Passing.{HasPort, Settles}
 use Rattle.net_task.specs.declared.task.Task.{Task}
 use Rattle.net_task.specs.Answers.{is_probe, preferred, tried_both, wants_room}
@@ -149,6 +151,20 @@ idle_wire {E = E} {O = O} {e = e} i o m head parts n a before wire z =
     let idle = idle_at n z.0 parts w.item z.2 w.at before in
     ap (λ (x : Wire). m.waits x.number) (sym p.is) ∙ tied.waits ∙ ap (λ (os : List Out). waiting_of p.item ++ on_port z.1 os) (idle_out w.item idle) ∙ ap (λ (xs : List Item). xs ++ []) (idle_pad w.item z.1 p.item idle p.at)
 
+-- nor at the first pads of an element that hold nothing, where all that it put out is there
+pub idle_below : {S E I O L : Type 0} {s : sources.Ghosts S} {e : elements.Ghosts E} (i : inlets.Ghosts I L O) (o : outlets.Ghosts O L) (m : Moment) (head : Head S I O s) (parts : List (Part E O e))
+    (frame : TaskFrame) (place count : ℕ) (part : Part E O e) → frame_in o head parts ≡ frame → slice_get parts place ≡ Some part → IsSettled part → AreIdleBelow count part.pads.items
+    → AreTied i o (Stands m) nothing_lost m head parts → (wire : Wire) → WasBelow frame place count wire → m.waits wire.number ≡ []
+idle_below {E = E} {O = O} {e = e} i o m head parts frame place count part frame_is here filled idle a wire w =
+    let z : WasBelow (frame_in o head parts) place count wire = subst (λ (f : TaskFrame). WasBelow f place count wire) (sym frame_is) w in
+    let own = unmapped (part_frame o) parts place z.2.part z.2.at in
+    let p = unmapped (wire_of o) own.item.pads.items z.0 wire (ap (λ (f : PartFrame). slice_get f.wires z.0) own.is ∙ z.2.pad_at) in
+    let tied = (a.parts_tied.each place own.item own.at).pads z.0 p.item p.at in
+    let same : part ≡ own.item = some_same (sym here ∙ own.at) in
+    let none : waiting_of p.item ≡ [] = subst (λ (x : Part E O e). AreIdleBelow count x.pads.items) same idle z.0 p.item z.1 p.at in
+    let gone : on_port z.0 own.item.out ≡ [] = subst (λ (x : Part E O e). IsSettled x) same filled z.0 p.item p.at none in
+    ap (λ (x : Wire). m.waits x.number) (sym p.is) ∙ tied.waits ∙ ap (λ (xs : List Item). xs ++ on_port z.0 own.item.out) none ∙ gone
+
 module _ {S E I O L : Type 0} {s : sources.Ghosts S} {e : elements.Ghosts E} {i : inlets.Ghosts I L O} {o : outlets.Ghosts O L} where
   -- none of the pads so far let an item pass
   pub record SoFar (start tells : Option (List Lane)) (old now : Task S E I O L s e i o) (Was : Wire → Type 0) (answer : Tried) : Type 0 where
@@ -260,8 +276,8 @@ module _ {S E I O L : Type 0} {s : sources.Ghosts S} {e : elements.Ghosts E} {i 
 
   -- none was tried yet, and what an element put out went to its pads
   pub settled_so : (tells : Option (List Lane)) (old now : Task S E I O L s e i o) (place : ℕ) (Was : Wire → Type 0) → now.head ≡ old.head → Settles old.parts.items now.parts.items place → map part_shape now.parts.items ≡ map part_shape old.parts.items → IsReady tells old
-      → ((wire : Wire) → Was wire → ⊥) → SoFar tells tells old now Was tried.Idle
-  settled_so tells old now place Was head t shapes ready none = record {
+      → ((m : Moment) → AreTied i o (Stands m) nothing_lost m now.head now.parts.items → (wire : Wire) → Was wire → m.waits wire.number ≡ []) → SoFar tells tells old now Was tried.Idle
+  settled_so tells old now place Was head t shapes ready idle = record {
     ready = subst (λ (h : Head S I O s). AreReady i o tells h now.parts.items) (sym head) (settled_ready i o tells old.head old.parts.items now.parts.items place t shapes ready);
     left = let a = settled_left old.parts.items now.parts.items place t shapes in let b = ap (λ (h : Head S I O s). head_left i h) head in omega (arith, a, b);
     table = refl;
@@ -270,7 +286,8 @@ module _ {S E I O L : Type 0} {s : sources.Ghosts S} {e : elements.Ghosts E} {i 
     head = head;
     frame = ap (λ (h : Head S I O s). frame_in o h now.parts.items) head ∙ settled_frame o old.head old.parts.items now.parts.items place t shapes;
     ties = λ m a. subst (λ (h : Head S I O s). AreTied i o (Stands m) nothing_lost m h now.parts.items) (sym head) (settled i o old.head old.parts.items now.parts.items place t shapes m a);
-    tell = λ m a wire w. absurd (none wire w);
+    tell = λ m a.
+        idle m (subst (λ (h : Head S I O s). AreTied i o (Stands m) nothing_lost m h now.parts.items) (sym head) (settled i o old.head old.parts.items now.parts.items place t shapes m a));
   }
 
   -- what is so of a task is so of one that is the same but for its place
@@ -290,9 +307,6 @@ module _ {S E I O L : Type 0} {s : sources.Ghosts S} {e : elements.Ghosts E} {i 
     ties = λ m a. same_so (AreTied i o (Stands m) nothing_lost m) old now head parts a;
     tell = λ m a wire w. idle_wire i o m old.head old.parts.items now.from a (subst (λ (v : _). idle_before now.from v.items ≡ true) parts now.idle) wire w;
   }
-
-pub none_below : (frame : TaskFrame) (place : ℕ) (wire : Wire) → WasBelow frame place 0 wire → ⊥
-none_below frame place wire w = let z = w.1 in omega (arith, z)
 
 pub one_below : (old now : TaskFrame) (place port : ℕ) → now ≡ old → (wire : Wire) → WasBelow old place (port + 1) wire → WasBelow old place port wire ⊎ WireAt now place port wire
 one_below old now place port same wire w = go (cases_eq w.0 port)

@@ -1,10 +1,10 @@
--- Where a net of lines cannot move, nothing is left in it.
-use Rattle.std.proofs.Common.{◌≡◌, ◌<◌, ◌≤◌, ◌+◌, ℕ, zero, suc, true, List, [], drop, length, Option, Some, None, refl, sym, ap, ◌∙◌, subst, ⊎_elim, arith}
+-- Where a net of lines cannot move, nothing waits in it.
+use Rattle.std.proofs.Common.{◌≡◌, ◌<◌, ◌≤◌, ◌+◌, ℕ, zero, suc, true, List, [], ◌∷◌, drop, length, Option, Some, None, refl, sym, ap, ◌∙◌, subst, ⊎_elim, arith}
 use Rattle.std.specs.Prelude.{slice_get}
 use Rattle.std.proofs.lemmas.Bool.{cases_eq}
 use Rattle.std.proofs.lemmas.Option.{slice_get_within}
 use Rattle.flow_model.specs.Item.{Item}
-use Rattle.flow_model.specs.Call.{feeds}
+use Rattle.flow_model.specs.Call.{Call, feeds}
 use Rattle.lane_core.specs.Lane.{Lane, IsBetween}
 use Rattle.lane_core.specs.declared.ends.Inlet as inlets
 use Rattle.lane_core.specs.declared.ends.Outlet as outlets
@@ -21,11 +21,12 @@ use Rattle.task_parts.specs.declared.step.Step.TheVariants.{Moved, NeedsItem, Ne
 use Rattle.net_task.specs.declared.task.Task.{Task}
 use Rattle.net_task.specs.Frame.{HeadFrame, by_inlets, IsWire, Wire, frame_of, head_frame}
 use Rattle.net_task.specs.Reasons.{NoRoom, PadHolds}
-use Rattle.net_turns.specs.Ends.{AreLines, NothingLeft, is_idle}
+use Rattle.net_turns.specs.Ends.{AreLines, TakesOne, is_idle}
 use Rattle.net_turns.specs.Net.{IsFed, ListAt, SendsInto}
 use Rattle.net_turns.specs.Rests.{HeadEnded, HeadLacks, IsHeldUp, Lacks, NetRests, TaskRests}
 use Rattle.net_turns.proofs.Behind.{feeds_nil, gave_last, held_last, list_same, none_behind_eos}
-use Rattle.net_turns.proofs.Left.{left_by, one_empty, rests_at}
+use Rattle.net_turns.proofs.EosComing.{inlets_empty}
+use Rattle.net_turns.proofs.Left.{rests_at, wants_ended, wants_first}
 use Rattle.gst_value.proofs.Basics.{none_some, some_same}
 
 -- a bound of the ranks of the first tasks
@@ -35,8 +36,10 @@ bound_of rank (suc n) =
     let m = bound_of rank n in
     (m.0 + rank n, λ k w. ⊎_elim (λ here. let e = ap rank here in omega (arith, e)) (λ ne. let u = m.1 k (omega (arith, w, ne)) in omega (arith, u)) (cases_eq k n))
 
-none_else : {n : ℕ} → None ≡ Some n → ⊥
-none_else e = cc
+-- where nothing stands in any inlet, nothing stands in the first
+first_empty : (hs : List (List Call)) → length hs ≡ 1 → AreEmpty hs → ListAt 0 hs []
+first_empty [] one h = absurd (omega (arith, one))
+first_empty (cs ∷ hs) one h = h.0
 
 module _ {S E I O L : Type 0} {s : sources.Ghosts S} {e : elements.Ghosts E} {i : inlets.Ghosts I L O} {o : outlets.Ghosts O L}
     (m : Moment) (tasks : List (Task S E I O L s e i o)) (steps : List Step) (tells : Option (List Lane)) (rests : NetRests (λ k. Unit {0}) m tasks steps tells) (lines : AreLines m tasks) where
@@ -50,12 +53,17 @@ module _ {S E I O L : Type 0} {s : sources.Ghosts S} {e : elements.Ghosts E} {i 
   lacks_item k head fed free Moved h = absurd h
   lacks_item k head fed free (NeedsItem lane) h =
       let one : Lacks e m head fed.task.parts.items lane = subst (λ (own : Head S I O s). HeadLacks e m own fed.task.parts.items lane) fed.head_is h.1 in
-      let first : one.port ≡ 0 = some_same (lines.wants k head (Some one.port) fed one.wants) in
-      let single = lines.single k head fed in
+      let takes : TakesOne e m head = lines.single k head fed in
+      let first : one.port ≡ 0 = wants_first (takes.wants (Some one.port) one.wants) in
+      let single = takes.one in
       subst (λ (port : ℕ). ListAt port (m.held head.number) []) first (one.empty (omega (arith, first, single)))
   lacks_item k head fed free (NeedsRoom lane) h = absurd (free (NeedsRoom lane) h)
   lacks_item k head fed free (AtProbe command) h = absurd (free (AtProbe command) h)
-  lacks_item k head fed free Ended h = absurd (none_else (lines.wants k head None fed (subst (λ (f : HeadFrame). HeadEnded e m f) (fed_frame k head fed) h.1)))
+  lacks_item k head fed free Ended h =
+      let takes : TakesOne e m head = lines.single k head fed in
+      first_empty (m.held head.number) (rests.net.each k head fed ∙ takes.one)
+      (inlets_empty m rests.net.cells rests.net.plain head.number takes.linked
+      (wants_ended None refl (takes.wants None (subst (λ (f : HeadFrame). HeadEnded e m f) (fed_frame k head fed) h.1))))
 
   -- a full lane holds an item
   room_of : (k : ℕ) (task : Task S E I O L s e i o) (wire : Wire) (item : Item) (lane : ℕ) → slice_get tasks k ≡ Some task → IsWire (frame_of task) wire → NoRoom tells m wire item lane
@@ -67,7 +75,7 @@ module _ {S E I O L : Type 0} {s : sources.Ghosts S} {e : elements.Ghosts E} {i 
       let row = r.2 in
       let last = r.3 in
       let up = lines.rises k r.0 wire.number nr.room.place nr.from nr.element nr.pad row.head out row.fed row.number in
-      let single = lines.single r.0 row.head row.fed in
+      let single = (lines.single r.0 row.head row.fed).one in
       let within = slice_get_within row.head.rows.items nr.pad r.1 row.at in
       let first : nr.pad ≡ 0 = omega (arith, single, within) in
       let stands = rests.net.rows r.0 nr.element nr.pad r.1 row in
@@ -117,9 +125,7 @@ module _ {S E I O L : Type 0} {s : sources.Ghosts S} {e : elements.Ghosts E} {i 
   calm_by k task at (AtProbe command) h = absurd (free k task (AtProbe command) at h)
   calm_by k task at Ended h = refl
 
-  empty_at : (k : ℕ) (head : InletHead I) → IsFed tasks k head → AreEmpty (m.held head.number)
-  empty_at k head fed =
-      one_empty (m.held head.number) (rests.net.each k head fed ∙ lines.single k head fed) (let one = rests_at m tasks steps tells rests k fed.task fed.at in lacks_item k head fed (λ step h. free k fed.task step fed.at h) one.0 one.2)
-
-  pub nothing_left : NothingLeft m
-  nothing_left = left_by m tasks steps tells rests (λ k task at. let one = rests_at m tasks steps tells rests k task at in calm_by k task at one.0 one.2) empty_at
+  pub calm_at : (k : ℕ) (task : Task S E I O L s e i o) (step : Step) → slice_get tasks k ≡ Some task → slice_get steps k ≡ Some step → is_idle step ≡ true
+  calm_at k task step at there =
+      let one = rests_at m tasks steps tells rests k task at in
+      subst (λ (own : Step). is_idle own ≡ true) (some_same (sym one.1 ∙ there)) (calm_by k task at one.0 one.2)

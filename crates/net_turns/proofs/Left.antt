@@ -1,5 +1,5 @@
 -- What is left in a net that cannot move, by what its tasks answered.
-use Rattle.std.proofs.Common.{◌≡◌, ℕ, true, List, [], ◌∷◌, length, Option, Some, ◌⊎◌, inl, inr, refl, sym, subst, ⊎_elim, arith}
+use Rattle.std.proofs.Common.{◌≡◌, ℕ, true, List, [], ◌∷◌, length, Option, Some, None, ◌⊎◌, inl, inr, refl, sym, ◌∙◌, subst, ⊎_elim, arith}
 use Rattle.std.specs.Prelude.{slice_get}
 use Rattle.std.proofs.lemmas.Bool.{false≢true}
 use Rattle.flow_model.specs.Item.{Item}
@@ -23,6 +23,7 @@ use Rattle.net_task.specs.Reasons.{AllRest, OwnerRests}
 use Rattle.net_turns.specs.Ends.{NothingLeft, is_idle}
 use Rattle.net_turns.specs.Net.{HasElement, part, source, IsFed, ListAt}
 use Rattle.net_turns.specs.Rests.{HeadEnded, HeadLacks, NetRests, TaskRests}
+use Rattle.gst_value.proofs.Basics.{none_some, some_same}
 
 pub cons_not : {A : Type 0} {x : A} {xs ys : List A} → ys ≡ x ∷ xs → ys ≡ [] → ⊥
 cons_not e f = cc
@@ -35,6 +36,15 @@ empty_or_not ((c ∷ cs) ∷ hs) = inr (λ h. cons_nil h.0)
   where
     cons_nil : {c : Call} {cs : List Call} → c ∷ cs ≡ [] → ⊥
     cons_nil e = cc
+
+-- what a head with one row wants, by whether it is an item
+pub wants_first : {A : Type 0} {port : ℕ} → (Some port ≡ Some 0) ⊎ ((Some port ≡ None) × A) → port ≡ 0
+wants_first (inl is) = some_same is
+wants_first (inr none) = absurd (none_some (sym none.0))
+
+pub wants_ended : {A : Type 0} (port : Option ℕ) → port ≡ None → (port ≡ Some 0) ⊎ ((port ≡ None) × A) → A
+wants_ended port none (inl is) = absurd (none_some (sym none ∙ is))
+wants_ended port none (inr ended) = ended.1
 
 -- the one inlet is empty
 pub one_empty : (hs : List (List Call)) → length hs ≡ 1 → ListAt 0 hs [] → AreEmpty hs

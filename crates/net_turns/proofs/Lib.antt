@@ -20,8 +20,9 @@ mod Stepping
 mod Tries
 mod Turning
 mod Behind
-mod Left
-mod Ending
+pub mod Left
 mod EosComing
+mod Ending
 mod Overs
 mod Readies
+mod Alone

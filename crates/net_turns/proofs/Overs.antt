@@ -19,11 +19,11 @@ use Rattle.task_parts.specs.declared.step.Step.TheVariants.{Moved, NeedsItem, Ne
 use Rattle.net_task.specs.declared.task.Task.{Task}
 use Rattle.net_task.specs.Frame.{HeadFrame, TaskFrame, by_inlets, by_source, frame_of, head_frame}
 use Rattle.net_task.specs.Reasons.{OneHolds}
-use Rattle.net_turns.specs.Ends.{HeadIsOver, NetIsOver, NothingLeft, StepsTellOver, StreamsGoOn, TellsOver, head_number, is_idle}
+use Rattle.net_turns.specs.Ends.{HeadIsOver, NetIsOver, NothingLeft, StepsTellOver, StreamsGoOn, TakesOne, TellsOver, head_number, is_idle}
 use Rattle.net_turns.specs.Net.{IsFed, ListAt}
 use Rattle.net_turns.specs.Rests.{HeadEnded, HeadLacks, Lacks, NetRests, TaskRests, Wants}
 use Rattle.net_turns.proofs.EosComing.{eos_came, inlets_empty}
-use Rattle.net_turns.proofs.Left.{cons_not, left_by, one_empty, rests_at}
+use Rattle.net_turns.proofs.Left.{cons_not, left_by, one_empty, rests_at, wants_ended, wants_first}
 use Rattle.gst_value.proofs.Basics.{none_some, some_same}
 
 module _ {S E I O L : Type 0} {s : sources.Ghosts S} {e : elements.Ghosts E} {i : inlets.Ghosts I L O} {o : outlets.Ghosts O L}
@@ -51,15 +51,17 @@ module _ {S E I O L : Type 0} {s : sources.Ghosts S} {e : elements.Ghosts E} {i 
     single_none k head fed apart Moved calm h = absurd h
     single_none k head fed apart (NeedsItem lane) calm h =
         let lacks : Lacks e m head fed.task.parts.items lane = subst (λ (own : Head S I O s). HeadLacks e m own fed.task.parts.items lane) fed.head_is h.1 in
-        let single = streams.single k head fed apart in
-        let one = single.0 in
-        let first : lacks.port ≡ 0 = some_same (single.1 (Some lacks.port) lacks.wants) in
+        let single : TakesOne e m head = streams.single k head fed apart in
+        let one = single.one in
+        let first : lacks.port ≡ 0 = wants_first (single.wants (Some lacks.port) lacks.wants) in
         one_empty (m.held head.number) (rests.net.each k head fed ∙ one)
         (subst (λ (port : ℕ). ListAt port (m.held head.number) []) first (lacks.empty (omega (arith, first, one))))
     single_none k head fed apart (NeedsRoom lane) calm h = absurd (false≢true calm)
     single_none k head fed apart (AtProbe command) calm h = absurd (false≢true calm)
     single_none k head fed apart Ended calm h =
-        absurd (none_some ((streams.single k head fed apart).1 None (subst (λ (f : HeadFrame). HeadEnded e m f) (fed_frame k head fed) h.1)))
+        let single : TakesOne e m head = streams.single k head fed apart in
+        inlets_empty m rests.net.cells rests.net.plain head.number single.linked
+        (wants_ended None refl (single.wants None (subst (λ (f : HeadFrame). HeadEnded e m f) (fed_frame k head fed) h.1)))
 
     calm_at : (k : ℕ) (task : Task S E I O L s e i o) (at : slice_get tasks k ≡ Some task) → is_idle (rests_at m tasks steps tells rests k task at).0 ≡ true
     calm_at k task at = let one = rests_at m tasks steps tells rests k task at in told.idle k task one.0 at one.1

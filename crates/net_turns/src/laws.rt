@@ -1,10 +1,11 @@
 //! Laws of nets.
+ghost use Rattle.net_turns.specs.Alone.{LanesStay};
 ghost use Rattle.net_turns.specs.Ends.{LinesEnd, StepsTellOver};
 
 use lane_core::{Inlet, Outlet};
 use net_model::{TaskElement, TaskSource};
 
-/// Where tasks of lines cannot move, nothing waits at a pad and nothing stands in an inlet.
+/// Where tasks of lines cannot move, nothing waits at their pads.
 ///
 /// A task that waits for room has its lane full, so the task behind that lane could take from it if nothing held that up in
 /// turn; ranks that rise along the lanes exclude that all of them wait for room.
@@ -21,4 +22,10 @@ pub fn steps_tell_over<
     O: Outlet<Lanes = I::Lanes>,
 >()
     ensures { StepsTellOver S.TaskSource E.TaskElement I.Inlet O.Outlet }
+{}
+
+/// Where each row of the heads of tasks holds one lane or nothing, it holds that lane, or nothing, behind a run that ends without a
+/// fault.
+pub fn lanes_stay<S: TaskSource, E: TaskElement, I: Inlet<Out = O>, O: Outlet<Lanes = I::Lanes>>()
+    ensures { LanesStay S.TaskSource E.TaskElement I.Inlet O.Outlet }
 {}

@@ -1,7 +1,7 @@
 //! Rows of whole lists, a kind each.
 use audio_info::{Info, Sample};
 use el_set::*;
-use el_settings::{Settings, check};
+use el_settings::{MadePads, Settings, check};
 use flow_model::ElementFault;
 use gst_item::{Event, Item};
 use gst_time::{Format, Segment};
@@ -12,13 +12,16 @@ use std::fmt::Write;
 use std::process::Abort;
 use std::test::Fail;
 
-/// Each row: the words of an element; the caps that a converter may put out; what is given; and what is owed, or the
-/// fault. `b` is a SEGMENT in bytes from 0, and other single letters are items as `item_of` takes them;
+/// Each row: the words of an element, a tee with the number of its source pads; the caps that a converter may put out; what is
+/// given; and what is owed at each source pad, or the fault. `b` is a SEGMENT in bytes from 0, and other single letters are items as `item_of` takes them;
 /// `wav` and the name of a format are CAPS, of one channel with 8000 frames a second, and `+` and hexadecimal digits
 /// are a buffer of these bytes.
 const ROWS: &str = "\
 identity | ANY | s S16LE g +0100 e +02 => s S16LE g +0100 e
 queue max-size-buffers=1 | ANY | s b +01 +02 f +03 e => s b +01 +02 f +03 e
+tee*1 | ANY | s b +01 f +03 e => s b +01 f +03 e
+tee*3 | ANY | s b +01 e => s b +01 e , s b +01 e , s b +01 e
+tee*0 | ANY | s b +01 e => nothing
 capsfilter caps=audio/x-mulaw | ANY | s MULAW g +01 e => s MULAW g +01 e
 capsfilter caps=audio/x-mulaw | ANY | s S16LE g +0100 e => other
 audioconvert | ANY | s S16LE g +0100 e => s S16LE g +0100 e
@@ -59,7 +62,7 @@ fn caps_by(alloc: Global, name: &str) -> Result<Fixed, Fail> {
     Ok(info.to_fixed(alloc)?)
 }
 
-fn item_by(alloc: Global, word: &str) -> Result<Item, Fail> {
+pub(crate) fn item_by(alloc: Global, word: &str) -> Result<Item, Fail> {
     if let Some(digits) = word.strip_prefix('+') {
         return Ok(buffer_of(alloc, bytes_by(alloc, digits)?.as_slice())?);
     }
@@ -70,7 +73,7 @@ fn item_by(alloc: Global, word: &str) -> Result<Item, Fail> {
     }
 }
 
-fn items_by(alloc: Global, words: &str) -> Result<List<Item>, Fail> {
+pub(crate) fn items_by(alloc: Global, words: &str) -> Result<List<Item>, Fail> {
     let mut items = List::new(alloc);
     for word in words.split(' ') {
         items.push(alloc, item_by(alloc, word)?)?;
@@ -78,15 +81,24 @@ fn items_by(alloc: Global, words: &str) -> Result<List<Item>, Fail> {
     Ok(items)
 }
 
+/// The name of a format, with the number of channels where it is not one.
+fn tell_info(text: &mut String, info: Info) -> Result<(), Fail> {
+    write!(text, " {}", info.format.name())?;
+    if info.channels != 1 {
+        write!(text, "*{}", info.channels)?;
+    }
+    Ok(())
+}
+
 fn tell_caps(text: &mut String, caps: &Fixed) -> Result<(), Fail> {
     match Info::from_fixed(caps) {
-        Ok(info) => write!(text, " {}", info.format.name())?,
+        Ok(info) => tell_info(text, info)?,
         Err(_) => text.push_str(" wav")?,
     }
     Ok(())
 }
 
-fn tell_item(text: &mut String, item: &Item) -> Result<(), Fail> {
+pub(crate) fn tell_item(text: &mut String, item: &Item) -> Result<(), Fail> {
     match item {
         Item::Buffer(buffer) => {
             text.push_str(" +")?;
@@ -103,15 +115,25 @@ fn tell_item(text: &mut String, item: &Item) -> Result<(), Fail> {
     Ok(())
 }
 
-/// What is owed on the only source pad.
+/// What is owed on each source pad.
 fn tell_lists(text: &mut String, lists: &List<List<Item>>) -> Result<(), Fail> {
-    match lists.as_slice().first() {
-        Some(items) => {
-            for item in items.as_slice() {
-                tell_item(text, item)?;
-            }
+    let mut first = true;
+    for items in lists.as_slice() {
+        if !first {
+            text.push_str(" ,")?;
         }
-        None => text.push_str(" nothing")?,
+        first = false;
+        tell_list(text, items)?;
+    }
+    if first {
+        text.push_str(" nothing")?;
+    }
+    Ok(())
+}
+
+fn tell_list(text: &mut String, items: &List<Item>) -> Result<(), Fail> {
+    for item in items.as_slice() {
+        tell_item(text, item)?;
     }
     Ok(())
 }
@@ -126,8 +148,9 @@ fn tell_fault(text: &mut String, fault: &ElementFault) -> Result<(), Fail> {
     Ok(())
 }
 
-/// What the words set an element to.
-fn settings_by(alloc: Global, words: &str) -> Result<Settings, Fail> {
+/// What the words set an element to; behind a `*` stands the number of pads that links made.
+pub(crate) fn settings_by(alloc: Global, words: &str) -> Result<Settings, Fail> {
+    let (words, pads) = words.split_once('*').unwrap_or((words, "0"));
     let (kind, rest) = words.split_once(' ').unwrap_or((words, ""));
     let mut props = List::new(alloc);
     for word in rest.split(' ') {
@@ -137,9 +160,10 @@ fn settings_by(alloc: Global, words: &str) -> Result<Settings, Fail> {
             props.push(alloc, Prop { name, value })?;
         }
     }
-    let Ok(settings) = check(alloc, kind, &props) else {
+    let Ok(mut settings) = check(alloc, kind, &props) else {
         return Err("words of an element")?;
     };
+    settings.set_pads(MadePads::of(pads.parse::<usize>().unwrap_or(0)));
     Ok(settings)
 }
 
@@ -147,7 +171,7 @@ fn settings_by(alloc: Global, words: &str) -> Result<Settings, Fail> {
 fn owed(alloc: Global, words: &str, allowed: &str, given: &str) -> Result<String, Fail> {
     let settings = settings_by(alloc, words)?;
     let mut text = String::new(alloc);
-    if settings.sink_pads() != 1 {
+    if settings.sink_pads() != 1 || settings.makes_sinks() {
         return Ok(text);
     }
     let allowed = caps_text::parse(alloc, allowed)?;

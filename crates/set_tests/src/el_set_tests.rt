@@ -62,7 +62,7 @@ fn items_of(alloc: Global, letters: &str) -> Result<List<Item>, Fail> {
 
 /// What an element with one sink pad and one source pad owes for items, by their letters.
 fn owed(alloc: Global, settings: &Settings, letters: &str) -> Result<String, Fail> {
-    if settings.sink_pads() != 1 || settings.source_pads() != 1 {
+    if settings.makes_sinks() || settings.sink_pads() != 1 || settings.source_pads() != 1 {
         return Ok(String::from_str(alloc, "none")?);
     }
     let mut inputs = List::new(alloc);

@@ -51,6 +51,9 @@ fn shown(alloc: Global, settings: &Settings) -> Result<String, Fail> {
         Settings::AudioBufferSplit(s) => Ok(format!(in alloc; "audiobuffersplit {}", s.frames)?),
         Settings::WavParse => Ok(String::from_str(alloc, "wavparse")?),
         Settings::WavEnc => Ok(String::from_str(alloc, "wavenc")?),
+        Settings::Tee(pads) => Ok(format!(in alloc; "tee {}", pads.count())?),
+        Settings::Interleave(pads) => Ok(format!(in alloc; "interleave {}", pads.count())?),
+        Settings::Concat(pads) => Ok(format!(in alloc; "concat {}", pads.count())?),
         Settings::FileSink(s) => {
             Ok(format!(in alloc; "filesink {} {}", s.location.as_str(), s.keep_flushed)?)
         }

@@ -8,4 +8,6 @@ mod el_set_tests;
 #[cfg(test)]
 mod el_settings_tests;
 #[cfg(test)]
+mod joining_tests;
+#[cfg(test)]
 mod task_elements_tests;

@@ -4,7 +4,9 @@ ghost use Rattle.el_settings.specs.Asked.{title_of};
 ghost use Rattle.el_set.specs.Gives.{source_items};
 
 use el_set::source_of;
-use el_settings::{CapsFilterSettings, FileSinkSettings, FileSrcSettings, QueueSettings, Settings};
+use el_settings::{
+    CapsFilterSettings, FileSinkSettings, FileSrcSettings, MadePads, QueueSettings, Settings,
+};
 use gst_item::Outs;
 use gst_outside::{MemSink, MemSource, Sink, Source};
 use gst_value::{List, Text};
@@ -14,8 +16,8 @@ use std::alloc::Global;
 use std::test::Fail;
 use task_elements::*;
 
-/// What an element puts out for letters on the sink pad that it wants, each behind a `-`; `x` is a fault of its rule, and `w` a
-/// failed write. A `+` stands for EOS on a sink pad that it has not.
+/// What an element puts out for letters on the sink pad that it wants, each behind a `-`; `x` is a fault of its rule, `m` want of
+/// memory, and `w` a failed write. A `+` stands for EOS on a sink pad that it has not.
 fn fed<E: TaskElement>(alloc: Global, element: &mut E, letters: &str) -> Result<String, Fail> {
     let mut text = String::new(alloc);
     for letter in letters.bytes() {
@@ -53,6 +55,7 @@ fn answer_to<E: TaskElement>(
         Ok(()) => Ok('-'),
         Err(refused) => match refused.into_why() {
             Why::Unwritten { .. } => Ok('w'),
+            Why::OutOfMemory => Ok('m'),
             _ => Ok('x'),
         },
     }
@@ -74,6 +77,8 @@ fn settings_of(alloc: Global, word: &str) -> Result<Settings, Fail> {
             keep_flushed: false,
         })),
         "fakesink" => Ok(Settings::FakeSink),
+        "tee" => Ok(Settings::Tee(MadePads::of(2))),
+        "concat" => Ok(Settings::Concat(MadePads::of(2))),
         _ => Ok(Settings::Identity),
     }
 }
@@ -98,6 +103,8 @@ fn rows_of_elements(rt: HostRuntime) -> Result<(), Fail> {
     let rows = "identity srB+BeB -s-r-B--B-e-
 queue srmeB -s-r-m-e-
 capsfilter sBrBmB -sx-r-Bx-B
+tee srB+eB -ss-rr-BB--ee-
+concat srB+esrBes -s-r-Bm--s-r-B-em
 fakesink srBeB -----
 filesink srBB ---w";
     for line in rows.lines() {

@@ -30,7 +30,7 @@ use Rattle.task_elements.proofs.Plain.{ending_quiet}
 use Rattle.task_elements.proofs.Growing.{OwesNoStop, single_grows, next_none, all_on_port, all_within}
 
 -- an equation of truth values has one proof
-known : (b c : Bool) → IsProp (b ≡ c)
+pub known : (b c : Bool) → IsProp (b ≡ c)
 known b c = hlevel props
 
 owes_no_stop : (respond : Response) (element : FilterElement) (calls : List Call) (put : List Item) → Stands respond element calls put → OwesNoStop respond
@@ -101,7 +101,7 @@ more_is old new x out out' more p e =
     sym (all_on_port p.more) ∙ ap (on_port 0) same ∙ all_on_port more
 
 -- a queue puts out the item, or nothing behind EOS
-passed_none : (flow : Flow) (x : Item) → is_flush_stop x ≡ false → has_flush_stop (passed flow x) ≡ false
+pub passed_none : (flow : Flow) (x : Item) → is_flush_stop x ≡ false → has_flush_stop (passed flow x) ≡ false
 passed_none Taken x h = rw h refl
 passed_none NotLinked x h = refl
 passed_none Flushing x h = refl

@@ -1,29 +1,34 @@
 -- Where EOS stands in the first section of what an element took, what it owes there has EOS.
-use Rattle.std.proofs.Common.{◌≡◌, ◌<◌, ◌⊎◌, ℕ, suc, Bool, true, false, ◌||◌, if◌then◌else◌, List, [], ◌∷◌, ◌++◌, Option, refl, sym, ap, ◌∙◌, subst, inl, inr, arith}
+use Rattle.std.proofs.Common.{◌≡◌, ◌<◌, ◌⊎◌, ℕ, zero, suc, Bool, true, false, ◌||◌, if◌then◌else◌, List, [], ◌∷◌, ◌++◌, length, Option, refl, sym, ap, ◌∙◌, subst, inl, inr, arith}
 use Rattle.flow_model.specs.Item.{Item, is_flush_stop, is_eos, eos_among}
 use Rattle.flow_model.specs.Sticky.{has_flush_stop, latest, since_flush_stop}
-use Rattle.flow_model.specs.Section.{section, counted, counted_after}
+use Rattle.flow_model.specs.Section.{section, counted, counted_after, IsPlain}
 use Rattle.flow_model.specs.Prefix.{IsPrefix, nothing, next}
 use Rattle.flow_model.specs.Call.{Call, Feed, Act, items}
-use Rattle.flow_model.specs.Rule.{Response, owed_for, single}
+use Rattle.flow_model.specs.Rule.{Response, owed_for, passes, single}
 use Rattle.flow_model.specs.Feeding.{has_item}
 use Rattle.flow_model.proofs.Prefixes.{prefix_trans, rest_of}
 use Rattle.flow_model.proofs.Sections.{section_prefix, owed_for_prefix}
 use Rattle.net_model.specs.Moment.{Behavior}
 use Rattle.net_model.specs.Over.{list_ended, AllEnded}
 use Rattle.flow_model.specs.SinkPads.{flush_stops_given, InSection}
+use Rattle.el_basic.specs.declared.tee.Tee.{Tee}
 use Rattle.el_set.specs.declared.filter.FilterElement.{FilterElement}
+use Rattle.el_set.specs.declared.join.JoinElement.{JoinElement}
+use Rattle.el_set.specs.Joins.{EachEnded, join_rule}
 use Rattle.el_set.specs.Stands.{Stands, MeetsNone}
-use Rattle.el_set.proofs.Ends.{eos_first, eos_latest, none_first}
+use Rattle.el_set.proofs.Ends.{eos_first, eos_latest, none_first, plain_no_flush}
 use Rattle.el_set.proofs.EachEnding.{counts_or_meets, is_ending}
 use Rattle.el_set.proofs.Ending.{IsEnding, sane}
 use Rattle.el_set.proofs.Elements.{elements_owe}
+use Rattle.el_set.proofs.JoinRules.{joins_end, joins_plain}
 use Rattle.task_elements.specs.declared.element.StreamElement.{StreamElement}
-use Rattle.task_elements.specs.declared.element.StreamElement.TheVariants.{Filter, Queue, Sink}
-use Rattle.task_elements.specs.Stands.{FilterTook, StreamStands, passing, pads_of}
+use Rattle.task_elements.specs.declared.element.StreamElement.TheVariants.{Filter, Queue, Tee as Splits, Join, Sink}
+use Rattle.task_elements.specs.Stands.{FilterTook, TeeTook, JoinTook, StreamStands, is_join, passing, pads_of}
 use Rattle.task_elements.specs.Ended.{FirstEnded}
 use Rattle.task_elements.proofs.Plain.{ending_quiet}
 use Rattle.task_elements.proofs.Growing.{owed_stops, one_section}
+use Rattle.task_elements.proofs.Tees.{counted_owed}
 
 -- a section has no FLUSH_STOP, so an EOS in it is in force at its end
 first_quiet : (xs : List Item) → has_flush_stop (section 0 xs) ≡ false
@@ -128,11 +133,22 @@ filter_first filter behavior took t h port =
     ap (λ (b : Behavior). list_ended (b.owes took port 0)) t.behavior_is ∙ ap (λ (css : List (List Call)). list_ended (single t.respond css port 0)) t.took_is
     ∙ (first_ended (owed_for t.respond t.calls) ∙ owed)
 
-pub first_goes_on : {K : Type 0} (bytes : K → Option (List ℕ)) (element : StreamElement K) (behavior : Behavior) (took : List (List Call)) → StreamStands bytes element behavior took → FirstEnded took
-    → (port : ℕ) → port < pads_of element → list_ended (behavior.owes took port 0) ≡ true
-first_goes_on bytes (Filter filter) behavior took t h port within = filter_first filter.filter behavior took t h port
-first_goes_on bytes (Queue queue) behavior took t h port within = filter_first (passing queue) behavior took t h port
-first_goes_on bytes (Sink sink) behavior took t h port within = absurd (omega (arith, within))
+-- of a tee
+tee_first : (tee : Tee) (behavior : Behavior) (took : List (List Call)) → TeeTook tee behavior took → FirstEnded took → (port : ℕ) → list_ended (behavior.owes took port 0) ≡ true
+tee_first tee behavior took t h port =
+    let ended : list_ended (section 0 (items t.calls)) ≡ true = (subst FirstEnded t.took_is h).0 in
+    let owed : eos_among (section 0 (owed_for passes t.calls)) ≡ true =
+    counts_first passes t.calls (counted (items t.calls)) (counted_owed t.calls) refl (sym (first_ended (items t.calls)) ∙ ended) in
+    ap (λ (b : Behavior). list_ended (b.owes took port 0)) t.behavior_is ∙ ap (λ (css : List (List Call)). list_ended (single passes css port 0)) t.took_is
+    ∙ (first_ended (owed_for passes t.calls) ∙ owed)
+
+pub first_goes_on : {K : Type 0} (bytes : K → Option (List ℕ)) (element : StreamElement K) (behavior : Behavior) (took : List (List Call)) → StreamStands bytes element behavior took
+    → is_join element ≡ false → FirstEnded took → (port : ℕ) → port < pads_of element → list_ended (behavior.owes took port 0) ≡ true
+first_goes_on bytes (Filter filter) behavior took t one h port within = filter_first filter.filter behavior took t h port
+first_goes_on bytes (Queue queue) behavior took t one h port within = filter_first (passing queue) behavior took t h port
+first_goes_on bytes (Splits tee) behavior took t one h port within = tee_first tee behavior took t h port
+first_goes_on bytes (Join join) behavior took t one h port within = absurd (cc)
+first_goes_on bytes (Sink sink) behavior took t one h port within = absurd (omega (arith, within))
 
 -- without FLUSH_STOP all is the first section
 whole_first : (cs : List Call) → flush_stops_given cs ≡ 0 → section 0 (items cs) ≡ items cs
@@ -149,6 +165,30 @@ all_first : (took : List (List Call)) → InSection 0 took → AllEnded took →
 all_first [] inside ended = tt
 all_first (cs ∷ css) inside ended = (ap list_ended (whole_first cs inside.0) ∙ ended.0, all_first css inside.1 ended.1)
 
+-- EOS on each sink pad, by its place
+pub at_place : (took : List (List Call)) → AllEnded took → EachEnded took
+at_place [] h pad within = absurd (omega (arith, within))
+at_place (cs ∷ css) h zero within = h.0
+at_place (cs ∷ css) h (suc pad) within = at_place css h.1 pad (omega (arith, within))
+
+pub by_place : (took : List (List Call)) → EachEnded took → AllEnded took
+by_place [] h = tt
+by_place (cs ∷ css) h = (h 0 (omega arith), by_place css (λ pad within. h (suc pad) (omega (arith, within))))
+
+-- of an element with several sink pads
+plain_ended : (xs : List Item) → IsPlain xs → list_ended xs ≡ eos_among xs
+plain_ended xs plain = ap (λ (ys : List Item). has_item (latest is_eos ys)) (since_all xs (plain_no_flush xs plain)) ∙ eos_latest xs
+
+join_whole : (join : JoinElement) (behavior : Behavior) (took : List (List Call)) → JoinTook join behavior took → 0 < length took → InSection 0 took → AllEnded took
+    → (port : ℕ) → list_ended (behavior.owes took port 0) ≡ true
+join_whole join behavior took t some inside ended port =
+    ap (λ (b : Behavior). list_ended (b.owes took port 0)) t.behavior_is ∙ plain_ended (join_rule join took port 0) (joins_plain join took port 0)
+    ∙ joins_end join took t.put 0 t.stands some inside (at_place took ended) port
+
 pub whole_goes_on : {K : Type 0} (bytes : K → Option (List ℕ)) (element : StreamElement K) (behavior : Behavior) (took : List (List Call)) → StreamStands bytes element behavior took
-    → InSection 0 took → AllEnded took → (port : ℕ) → port < pads_of element → list_ended (behavior.owes took port 0) ≡ true
-whole_goes_on bytes element behavior took t inside ended = first_goes_on bytes element behavior took t (all_first took inside ended)
+    → 0 < length took → InSection 0 took → AllEnded took → (port : ℕ) → port < pads_of element → list_ended (behavior.owes took port 0) ≡ true
+whole_goes_on bytes (Join join) behavior took t some inside ended port within = join_whole join.join behavior took t some inside ended port
+whole_goes_on bytes (Filter filter) behavior took t some inside ended port within = filter_first filter.filter behavior took t (all_first took inside ended) port
+whole_goes_on bytes (Queue queue) behavior took t some inside ended port within = filter_first (passing queue) behavior took t (all_first took inside ended) port
+whole_goes_on bytes (Splits tee) behavior took t some inside ended port within = tee_first tee behavior took t (all_first took inside ended) port
+whole_goes_on bytes (Sink sink) behavior took t some inside ended port within = absurd (omega (arith, within))

@@ -1,8 +1,11 @@
 pub mod Filters
 pub mod FirstEos
 pub mod Growing
+pub mod Joins
 pub mod Plain
 pub mod Refusing
 pub mod Roles
 pub mod RuleLaws
 pub mod Sources
+pub mod Tees
+pub mod Wanting

@@ -1,5 +1,5 @@
 -- Elements of a stream, role by role.
-use Rattle.std.proofs.Common.{◌≡◌, ℕ, zero, suc, Bool, List, [], ◌∷◌, ◌++◌, Option, refl, sym, ap, ◌∙◌, subst, append-nil, arith, Result, Ok, Err, OnOk}
+use Rattle.std.proofs.Common.{◌≡◌, ℕ, zero, suc, Bool, false, List, [], ◌∷◌, ◌++◌, Option, refl, sym, ap, ◌∙◌, subst, append-nil, arith, Result, Ok, Err, OnOk}
 use Rattle.gst_item.specs.declared.out.Out.{Out}
 use Rattle.flow_model.specs.Item.{Item}
 use Rattle.flow_model.specs.Call.{Call, Feed, feeds}
@@ -9,8 +9,9 @@ use Rattle.net_model.specs.Takes.{OwesMore, Takes}
 use Rattle.el_set.specs.declared.sink.SinkElement.{SinkElement}
 use Rattle.el_set.specs.Holds.{SinkHeld}
 use Rattle.task_elements.specs.declared.element.StreamElement.{StreamElement}
-use Rattle.task_elements.specs.declared.element.StreamElement.TheVariants.{Filter, Queue, Sink}
-use Rattle.task_elements.specs.Stands.{SinkStands, StreamStands}
+use Rattle.task_elements.specs.declared.element.StreamElement.TheVariants.{Filter, Queue, Tee, Join, Sink}
+use Rattle.task_elements.specs.declared.join.StreamJoin.{StreamJoin}
+use Rattle.task_elements.specs.Stands.{SinkStands, StreamStands, is_join}
 use Rattle.task_elements.proofs.Growing.{none_grows}
 use Rattle.flow_model.proofs.Calls.{feeds_push}
 
@@ -19,10 +20,21 @@ record IsOne (took : List (List Call)) : Type 0 where
   calls : List Call
   is : took ≡ calls ∷ []
 
-one_list : {K : Type 0} (bytes : K → Option (List ℕ)) (element : StreamElement K) (behavior : Behavior) (took : List (List Call)) → StreamStands bytes element behavior took → IsOne took
-one_list bytes (Filter filter) behavior took t = record { calls = t.calls; is = t.took_is }
-one_list bytes (Queue queue) behavior took t = record { calls = t.calls; is = t.took_is }
-one_list bytes (Sink sink) behavior took t = record { calls = feeds t.list; is = t.took_is }
+one_list : {K : Type 0} (bytes : K → Option (List ℕ)) (element : StreamElement K) (behavior : Behavior) (took : List (List Call)) → is_join element ≡ false
+    → StreamStands bytes element behavior took → IsOne took
+one_list bytes (Filter filter) behavior took one t = record { calls = t.calls; is = t.took_is }
+one_list bytes (Queue queue) behavior took one t = record { calls = t.calls; is = t.took_is }
+one_list bytes (Tee tee) behavior took one t = record { calls = t.calls; is = t.took_is }
+one_list bytes (Join join) behavior took one t = absurd (cc)
+one_list bytes (Sink sink) behavior took one t = record { calls = feeds t.list; is = t.took_is }
+
+-- whether an element is one of several sink pads
+pub no_join : {K : Type 0} (element : StreamElement K) → ((join : StreamJoin) → element ≡ Join join → ⊥) → is_join element ≡ false
+no_join (Filter filter) other = refl
+no_join (Queue queue) other = refl
+no_join (Tee tee) other = refl
+no_join (Join join) other = absurd (other join refl)
+no_join (Sink sink) other = refl
 
 pushed_past : (pad : ℕ) (calls more : List Call) → (pad ≡ 0 → ⊥) → push_calls pad more (calls ∷ []) ≡ calls ∷ []
 pushed_past zero calls more h = absurd (h refl)
@@ -32,9 +44,9 @@ pushed_none : (pad : ℕ) (took : List (List Call)) (more : List Call) → IsOne
 pushed_none pad took more one h = ap (λ css. push_calls pad more css) one.is ∙ pushed_past pad one.calls more h ∙ sym one.is
 
 -- an item for a sink pad that is not there changes nothing
-pub takes_none : {K : Type 0} (bytes : K → Option (List ℕ)) (element : StreamElement K) (ports pad : ℕ) (x : Item) (out : List Out) → (pad ≡ 0 → ⊥)
+pub takes_none : {K : Type 0} (bytes : K → Option (List ℕ)) (element : StreamElement K) (ports pad : ℕ) (x : Item) (out : List Out) → is_join element ≡ false → (pad ≡ 0 → ⊥)
     → Takes (StreamStands bytes element) (StreamStands bytes element) ports pad x out out
-takes_none bytes element ports pad x out h =
+takes_none bytes element ports pad x out one h =
     record {
       more = [];
       appended = sym (append-nil out);
@@ -44,7 +56,7 @@ takes_none bytes element ports pad x out h =
     }
   where
     same : (behavior : Behavior) (took : List (List Call)) → StreamStands bytes element behavior took → push_calls pad (Feed x ∷ []) took ≡ took
-    same behavior took t = pushed_none pad took (Feed x ∷ []) (one_list bytes element behavior took t) h
+    same behavior took t = pushed_none pad took (Feed x ∷ []) (one_list bytes element behavior took one t) h
 
 pub sink_takes : {K : Type 0} (bytes : K → Option (List ℕ)) (old new : SinkElement K) (x : Item)
     → ((keep : Bool) (list : List Item) → SinkHeld bytes keep old list → SinkHeld bytes keep new (list ++ x ∷ []))

@@ -1,25 +1,26 @@
--- For which behavior, and for which lists at its sink pad, an element of a stream stands.
-use Rattle.std.specs.Prelude.{◌≡◌, ℕ, Bool, List, [], ◌∷◌, Option, None, Some}
+-- For which behavior, and for which lists at its sink pads, an element of a stream stands.
+use Rattle.std.specs.Prelude.{◌≡◌, ℕ, Bool, true, false, List, [], ◌∷◌, if◌then◌else◌, replicate, Option, None, Some}
 use Rattle.std.specs.Option.{option_map}
 use Rattle.flow_model.specs.Item.{Item}
 use Rattle.flow_model.specs.Call.{Call, feeds}
-use Rattle.flow_model.specs.Rule.{Rule, Response, only, single, passes}
-use Rattle.flow_model.specs.Feeding.{next_owed}
-use Rattle.net_model.specs.Moment.{Answers, Behavior}
+use Rattle.flow_model.specs.Rule.{Rule, Response, single, passes}
+use Rattle.net_model.specs.Moment.{Behavior}
 use Rattle.el_basic.specs.declared.identity.Identity.{Identity}
+use Rattle.el_basic.specs.declared.tee.Tee.{Tee}
+use Rattle.el_basic.specs.Passed.{has_ended}
+use Rattle.el_basic.specs.Spread.{Spread, pad_count}
 use Rattle.el_set.specs.declared.filter.FilterElement.{FilterElement}
 use Rattle.el_set.specs.declared.filter.FilterElement.TheVariants.{Identity as PassesAll}
+use Rattle.el_set.specs.declared.join.JoinElement.{JoinElement}
 use Rattle.el_set.specs.declared.sink.SinkElement.{SinkElement}
+pub use Rattle.el_set.specs.Denoted.{answers_by}
+use Rattle.el_set.specs.Joins.{JoinStands, join_answers, join_pads, join_rule, join_wanted}
 use Rattle.el_set.specs.Stands.{Stands}
 use Rattle.el_set.specs.Holds.{SinkHeld, SinkPart, sink_file, sink_len, sink_faults}
 use Rattle.task_elements.specs.declared.element.StreamElement.{StreamElement}
-use Rattle.task_elements.specs.declared.element.StreamElement.TheVariants.{Filter, Queue, Sink}
+use Rattle.task_elements.specs.declared.element.StreamElement.TheVariants.{Filter, Queue, Tee as Splits, Join, Sink}
 
--- what an element with one sink pad answers to one item more
-abbrev pub answers_by : Response → Answers
-answers_by respond took pad x = next_owed respond (only took) x
-
--- and what it does
+-- what an element with one sink pad does
 abbrev pub behaves : Response → Behavior
 behaves respond = record { owes = single respond; answers = answers_by respond }
 
@@ -31,6 +32,24 @@ pub record FilterTook (filter : FilterElement) (behavior : Behavior) (took : Lis
   pub behavior_is : behavior ≡ behaves respond
   pub took_is : took ≡ calls ∷ []
   pub stands : Stands respond filter calls put
+
+-- It took one list, and has put out on each of its source pads, which it all had from the start, what it passes.
+pub record TeeTook (tee : Tee) (behavior : Behavior) (took : List (List Call)) : Type 0 where
+  pub calls : List Call
+  pub puts : List (List Item)
+  pub behavior_is : behavior ≡ behaves passes
+  pub took_is : took ≡ calls ∷ []
+  pub spread : Spread tee (replicate (pad_count tee) 0) calls puts
+
+-- what an element with several sink pads does
+abbrev pub joins : JoinElement → Behavior
+joins join = record { owes = join_rule join; answers = join_answers join }
+
+-- It took these lists, and stands for them and for what it put out in the section that is open.
+pub record JoinTook (join : JoinElement) (behavior : Behavior) (took : List (List Call)) : Type 0 where
+  pub put : List Item
+  pub behavior_is : behavior ≡ joins join
+  pub stands : JoinStands join took put
 
 -- nothing is owed on any source pad
 abbrev pub owes_nothing : Rule
@@ -63,19 +82,40 @@ passing queue = PassesAll queue
 abbrev pub StreamStands : {K : Type 0} → (K → Option (List ℕ)) → StreamElement K → Behavior → List (List Call) → Type 0
 StreamStands bytes (Filter filter) = FilterTook filter.filter
 StreamStands bytes (Queue queue) = FilterTook (passing queue)
+StreamStands bytes (Splits tee) = TeeTook tee
+StreamStands bytes (Join join) = JoinTook join.join
 StreamStands bytes (Sink sink) = SinkStands bytes sink
 
--- the same behind an item that it refused: a filter is as before, and of a sink a write failed
+-- the same behind an item that it refused: of a sink a write failed, and each other is as before
 abbrev pub StreamFell : {K : Type 0} → (K → Option (List ℕ)) → StreamElement K → Behavior → List (List Call) → ℕ → Item → Type 0
 StreamFell bytes (Filter filter) behavior took pad x = FilterTook filter.filter behavior took
 StreamFell bytes (Queue queue) behavior took pad x = FilterTook (passing queue) behavior took
+StreamFell bytes (Splits tee) behavior took pad x = TeeTook tee behavior took
+StreamFell bytes (Join join) behavior took pad x = JoinTook join.join behavior took
 StreamFell bytes (Sink sink) behavior took pad x = SinkFell bytes sink x behavior took
 
--- how many source pads there are
+-- how many source pads there are, and how many sink pads
 abbrev pub pads_of : {K : Type 0} → StreamElement K → ℕ
 pads_of (Filter filter) = 1
 pads_of (Queue queue) = 1
+pads_of (Splits tee) = pad_count tee
+pads_of (Join join) = 1
 pads_of (Sink sink) = 0
+
+abbrev pub sinks_of : {K : Type 0} → StreamElement K → ℕ
+sinks_of (Join join) = join_pads join.join
+sinks_of _ = 1
+
+-- the sink pad from which it wants its next item, where it is fed from inlets; a queue wants none behind EOS
+abbrev pub wanted_of : {K : Type 0} → StreamElement K → Option ℕ
+wanted_of (Queue queue) = if has_ended queue then None else Some 0
+wanted_of (Join join) = join_wanted join.join
+wanted_of _ = Some 0
+
+-- whether it is one of those with several sink pads
+abbrev pub is_join : {K : Type 0} → StreamElement K → Bool
+is_join (Join join) = true
+is_join _ = false
 
 -- the filter, the sink, what the sink writes to, and the length of that
 abbrev pub filter_in : {K : Type 0} → StreamElement K → Option FilterElement

@@ -1,5 +1,5 @@
 //! The elements of a stream that have a sink pad, by their role.
-ghost use Rattle.std.specs.Prelude.{◌≡◌, ◌∷◌, [], ℕ, false, List, Some, None, option_map, IfErr, OnOk, OnErr};
+ghost use Rattle.std.specs.Prelude.{◌≡◌, ◌∷◌, [], ℕ, false, List, None, option_map, IfErr, OnOk, OnErr};
 ghost use Rattle.flow_model.specs.Item.{is_flush_stop};
 ghost use Rattle.flow_model.specs.Call.{Call, Feed};
 ghost use Rattle.net_model.specs.Moment.{Behavior};
@@ -7,28 +7,33 @@ ghost use Rattle.flow_model.specs.SinkPads.{push_calls};
 ghost use Rattle.net_model.specs.Takes.{Takes};
 ghost use Rattle.net_model.specs.Refuses.{RefusesBy};
 ghost use Rattle.net_model.specs.Failures.{NeverFalls, IsWriteCause};
+ghost use Rattle.el_basic.specs.Spread.{pad_count};
 ghost use Rattle.el_set.specs.Holds.{sink_file, sink_faults};
-ghost use Rattle.task_elements.specs.Stands.{FilterTook, passing, SinkStands, SinkFell};
+ghost use Rattle.task_elements.specs.Stands.{FilterTook, TeeTook, passing, SinkStands, SinkFell};
 
 use crate::filter::StreamFilter;
-use el_basic::Identity;
+use crate::join::StreamJoin;
+use el_basic::{Identity, Tee};
 use el_set::{FilterElement, SinkElement};
 use gst_item::{Item, Outs};
 use gst_outside::Sink;
 use net_model::{Refused, TaskElement};
 use std::alloc::Global;
 
-/// An element with one sink pad, by its role in a stream. It is fed and asked through `TaskElement`.
+/// An element with sink pads, by its role in a stream. It is fed and asked through `TaskElement`.
 #[derive(Drop)]
 pub enum StreamElement<K> {
     Filter(StreamFilter),
     /// The source side of a queue, which passes all. Its items stand in its lane.
     Queue(Identity),
+    Tee(Tee),
+    /// It has several sink pads, and is fed on the one that it wants.
+    Join(StreamJoin),
     Sink(SinkElement<K>),
 }
 
 impl<K: Sink> TaskElement for StreamElement<K> {
-    ghost use Rattle.task_elements.specs.Stands.{StreamStands, StreamFell, pads_of, location_in, faults_in};
+    ghost use Rattle.task_elements.specs.Stands.{StreamStands, StreamFell, pads_of, wanted_of, location_in, faults_in};
 
     ghost stands = { StreamStands K.bytes };
 
@@ -36,7 +41,7 @@ impl<K: Sink> TaskElement for StreamElement<K> {
 
     ghost ports = { pads_of };
 
-    ghost wanted = { λ element. Some 0 };
+    ghost wanted = { wanted_of };
 
     ghost file = { location_in K.location };
 
@@ -44,18 +49,27 @@ impl<K: Sink> TaskElement for StreamElement<K> {
 
     #[inline(always)]
     fn feed(&mut self, alloc: Global, pad: u32, item: Item, out: &mut Outs) -> Result<(), Refused> {
+        if let StreamElement::Join(join) = self {
+            return join.feed(alloc, pad, item, out);
+        }
         if pad != 0 {
             return Ok(());
         }
         match self {
             StreamElement::Filter(filter) => filter.feed(alloc, item, out),
             StreamElement::Queue(queue) => pass(queue, alloc, item, out),
+            StreamElement::Tee(tee) => spread(tee, alloc, item, out),
+            StreamElement::Join(_) => unreachable!(),
             StreamElement::Sink(sink) => render(sink, &item),
         }
     }
 
     fn wants(&self) -> Option<u32> {
-        Some(0)
+        match self {
+            StreamElement::Queue(queue) if queue.is_over() => None,
+            StreamElement::Join(join) => join.join.wants(),
+            _ => Some(0),
+        }
     }
 }
 
@@ -106,6 +120,23 @@ fn pass(queue: &mut Identity, alloc: Global, item: Item, out: &mut Outs) -> Resu
     ensures out { OnErr result (out.new ≡ out.old) }
 {
     match queue.feed(alloc, 0, item, out) {
+        Ok(_) => Ok(()),
+        Err(fault) => Err(Refused::fault(alloc, fault)),
+    }
+}
+
+/// A tee takes an item and puts it out on each of its source pads. Where it refuses it, for want of memory, it is as before.
+fn spread(tee: &mut Tee, alloc: Global, item: Item, out: &mut Outs) -> Result<(), Refused>
+    requires no_flush { is_flush_stop item ≡ false }
+    ensures took { OnOk result (Takes (TeeTook tee.old) (TeeTook tee.new) (pad_count tee.old) 0 item out.old out.new) }
+    ensures stays { OnErr result ((behavior : Behavior) (took : List (List Call)) → TeeTook tee.old behavior took → TeeTook tee.new behavior took) }
+    ensures refused { IfErr result (λ refusal. (behavior : Behavior) (took : List (List Call)) → TeeTook tee.old behavior took
+        → RefusesBy behavior took 0 item refusal) }
+    ensures cause { IfErr result (IsWriteCause None None) }
+    ensures out { OnErr result (out.new ≡ out.old) }
+    ensures pads { pad_count tee.new ≡ pad_count tee.old }
+{
+    match tee.feed(alloc, 0, item, out) {
         Ok(_) => Ok(()),
         Err(fault) => Err(Refused::fault(alloc, fault)),
     }

@@ -1,5 +1,5 @@
 //! Laws of the elements of a stream. Each function does nothing: its contract is the law.
-ghost use Rattle.std.specs.Prelude.{◌≡◌, ◌<◌, ℕ, true, List, [], ◌∷◌};
+ghost use Rattle.std.specs.Prelude.{◌≡◌, ◌<◌, ℕ, true, false, List, [], None, Some, length, replicate};
 ghost use Rattle.flow_model.specs.Call.{Call};
 ghost use Rattle.flow_model.specs.Section.{IsPlain};
 ghost use Rattle.net_model.specs.Moment.{Behavior};
@@ -7,27 +7,39 @@ ghost use Rattle.net_model.specs.Whole.{OwesInOrder};
 ghost use Rattle.net_model.specs.Over.{list_ended, AllEnded};
 ghost use Rattle.flow_model.specs.SinkPads.{InSection};
 ghost use Rattle.task_elements.specs.Ended.{FirstEnded};
-ghost use Rattle.task_elements.specs.Stands.{StreamStands, pads_of};
+ghost use Rattle.task_elements.specs.Stands.{StreamStands, is_join, pads_of, sinks_of, wanted_of};
 ghost use Rattle.task_elements.specs.declared.element.StreamElement.{StreamElement};
 
 use gst_outside::Sink;
 
-/// Of the rule of what an element stands for, whatever it is given: in no section it owes anything behind an EOS, nor a
-/// FLUSH_STOP; for beginnings of lists it owes beginnings; and for nothing it owes nothing.
+/// Of the rule of what an element stands for: whatever it is given, in no section it owes anything behind an EOS, nor a
+/// FLUSH_STOP; what it owes for what it took begins what it owes for more; and for nothing it owes nothing.
 pub fn rules_of_elements<K: Sink>()
     ensures plain { (element : StreamElement K) (behavior : Behavior) (took : List (List Call)) → StreamStands K.bytes element behavior took
         → (given : List (List Call)) (port j : ℕ) → IsPlain (behavior.owes given port j) }
     ensures in_order { (element : StreamElement K) (behavior : Behavior) (took : List (List Call)) → StreamStands K.bytes element behavior took
-        → (given : List (List Call)) → OwesInOrder behavior.owes given }
+        → OwesInOrder behavior.owes took }
     ensures opens { (element : StreamElement K) (behavior : Behavior) (took : List (List Call)) → StreamStands K.bytes element behavior took
-        → (port j : ℕ) → behavior.owes ([] ∷ []) port j ≡ [] }
+        → (pads port j : ℕ) → behavior.owes (replicate pads []) port j ≡ [] }
 {}
 
-/// An element hands EOS on. Where EOS stands in the first section of what a filter or a queue took, what it owes in its first
-/// section has EOS; where no FLUSH_STOP was taken, that is EOS anywhere. A sink has no pad to which it could owe it.
+/// An element hands EOS on: where it took EOS at each of its sink pads, of which it has one at least, and no FLUSH_STOP, what it
+/// owes at each of its source pads has EOS. Of one that has one sink pad that is so in its first section, whatever it took
+/// behind it. A sink has no pad to which it could owe it.
 pub fn eos_goes_on<K: Sink>()
     ensures first { (element : StreamElement K) (behavior : Behavior) (took : List (List Call)) → StreamStands K.bytes element behavior took
-        → FirstEnded took → (port : ℕ) → port < pads_of element → list_ended (behavior.owes took port 0) ≡ true }
+        → is_join element ≡ false → FirstEnded took → (port : ℕ) → port < pads_of element → list_ended (behavior.owes took port 0) ≡ true }
     ensures whole { (element : StreamElement K) (behavior : Behavior) (took : List (List Call)) → StreamStands K.bytes element behavior took
-        → InSection 0 took → AllEnded took → (port : ℕ) → port < pads_of element → list_ended (behavior.owes took port 0) ≡ true }
+        → 0 < length took → InSection 0 took → AllEnded took → (port : ℕ) → port < pads_of element → list_ended (behavior.owes took port 0) ≡ true }
+{}
+
+/// An element took a list at each of its sink pads, of which only those of `is_join` have another number than one. The pad that
+/// it wants is one of them; where it wants none, EOS came on each since its last FLUSH_STOP.
+pub fn elements_want_open_pads<K: Sink>()
+    ensures pads { (element : StreamElement K) (behavior : Behavior) (took : List (List Call)) → StreamStands K.bytes element behavior took
+        → length took ≡ sinks_of element }
+    ensures single { (element : StreamElement K) → is_join element ≡ false → sinks_of element ≡ 1 }
+    ensures within { (element : StreamElement K) (pad : ℕ) → wanted_of element ≡ Some pad → pad < sinks_of element }
+    ensures none { (element : StreamElement K) (behavior : Behavior) (took : List (List Call)) → StreamStands K.bytes element behavior took
+        → wanted_of element ≡ None → AllEnded took }
 {}

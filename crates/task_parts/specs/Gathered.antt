@@ -1,5 +1,5 @@
 -- The pads of an element, and what it put out and is not there yet.
-use Rattle.std.specs.Prelude.{◌≡◌, ◌&&◌, ◌||◌, ℕ, zero, suc, Bool, true, false, not, List, [], ◌∷◌, Some, nat_lt, slice_get}
+use Rattle.std.specs.Prelude.{◌≡◌, ◌<◌, ◌&&◌, ◌||◌, ℕ, zero, suc, Bool, true, false, not, List, [], ◌∷◌, Some, nat_lt, slice_get}
 use Rattle.net_model.specs.Takes.{on_port}
 use Rattle.gst_item.specs.declared.out.Out.{Out}
 use Rattle.flow_model.specs.Item.{is_flush_stop}
@@ -24,6 +24,10 @@ is_nothing (x ∷ xs) = false
 abbrev pub pads_idle : {O : Type 0} → List (Pad O) → Bool
 pads_idle [] = true
 pads_idle (pad ∷ pads) = is_nothing (waiting_of pad) && pads_idle pads
+
+-- nothing waits at the first pads, so many of them
+abbrev pub AreIdleBelow : {O : Type 0} → ℕ → List (Pad O) → Type 0
+AreIdleBelow {O = O} count pads = (port : ℕ) (pad : Pad O) → port < count → slice_get pads port ≡ Some pad → waiting_of pad ≡ []
 
 abbrev pub are_linked : {O : Type 0} → List (Pad O) → Bool
 are_linked [] = false

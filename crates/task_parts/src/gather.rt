@@ -1,9 +1,9 @@
 //! What an element put out goes to its pads.
-ghost use Rattle.std.specs.Prelude.{◌≡◌, ◌&&◌, not, true, vec_len, map, [], OnOk};
+ghost use Rattle.std.specs.Prelude.{◌≡◌, ◌≤◌, ◌&&◌, not, true, vec_len, map, [], length, OnOk};
 ghost use Rattle.task_pads.specs.Behind.{leads_on};
 ghost use Rattle.task_pads.specs.Pads.{rest_of};
 ghost use Rattle.task_pads.specs.Put.{Spread};
-ghost use Rattle.task_parts.specs.Gathered.{AreFilled, are_within, linked_else};
+ghost use Rattle.task_parts.specs.Gathered.{AreFilled, AreIdleBelow, are_within, linked_else};
 
 use gst_item::Outs;
 use gst_value::OutOfMemory;
@@ -33,6 +33,20 @@ pub(crate) fn gather<O>(
         return Ok(());
     }
     spread(alloc, pads, out)
+}
+
+/// The port of the first pad at which an item waits; the number of pads where none waits at any.
+#[inline(always)]
+pub fn first_waiting<O: Outlet>(pads: &[Pad<O>]) -> usize
+    ensures within { result ≤ length pads.now }
+    ensures idle { AreIdleBelow result pads.now }
+{
+    for port in 0..pads.len() {
+        if !pads[port].is_idle() {
+            return port;
+        }
+    }
+    pads.len()
 }
 
 /// Whether a pad other than that of a port is linked.

@@ -148,6 +148,15 @@ impl<I> InletHead<I> {
     }
 }
 
+impl<I> InletHead<I> {
+    /// The number of the element in the graph.
+    pub fn number(&self) -> u32
+        ensures { result ≡ self.now.number }
+    {
+        self.number
+    }
+}
+
 impl<I: Inlet> InletHead<I> {
     ghost use Rattle.task_parts.specs.Ends.{received_among};
 

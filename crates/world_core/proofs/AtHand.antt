@@ -1,16 +1,15 @@
 -- The elements of a graph are at hand where its files were opened and its elements were made with them.
-use Rattle.std.proofs.Common.{◌≡◌, ℕ, Bool, true, false, List, [], ◌∷◌, Option, None, Some, map, refl, sym, ap, ◌∙◌, subst}
+use Rattle.std.proofs.Common.{◌≡◌, ℕ, Bool, true, false, List, [], ◌∷◌, Option, None, Some, map, replicate, refl, sym, ap, ◌∙◌, subst}
 use Rattle.std.specs.Prelude.{is_some, slice_get}
 use Rattle.std.specs.Option.{ForSome, option_map}
 use Rattle.std.proofs.lemmas.Option.{none-some, same_Some}
 use Rattle.el_set.specs.Gives.{source_items}
 use Rattle.el_set.specs.Made.{IsEmpty, file_for}
-use Rattle.el_settings.specs.Asked.{source_pads}
+use Rattle.el_settings.specs.Asked.{sink_pads, source_pads, is_source}
 use Rattle.net_model.specs.declared.element.TaskElement as elements
 use Rattle.net_model.specs.declared.source.TaskSource as givers
 use Rattle.flow_model.specs.Call.{Call}
 use Rattle.flow_model.specs.Item.{Item}
-use Rattle.graph_bags.specs.Links.{is_source}
 use Rattle.graph_core.specs.Elements.{Made}
 use Rattle.graph_files.specs.Ends.{at, sink_end, source_end}
 use Rattle.graph_files.specs.Files.{GraphOpens, WereTold, made_opening, opening_of}
@@ -78,12 +77,12 @@ module _ {S K : Type 0} (s : sources.Ghosts S) (k : sinks.Ghosts K) (made : List
       (filled : AreFilled s k made ends elements_in sources_in left) where
     -- what is made of an element stands for its settings, with the pads of these
     pub made_at : (e : ℕ) (m : Made) (x : StreamElement K) → slice_get made e ≡ Some m → IsOf elements_in e x
-        → StreamStands k.bytes x (behavior_of m.settings) ([] ∷ []) × (pads_of x ≡ source_pads m.settings)
+        → StreamStands k.bytes x (behavior_of m.settings) (replicate (sink_pads m.settings) []) × (pads_of x ≡ source_pads m.settings)
     made_at e m x here is =
         let own : IsMadeFor k m.settings (sink_end (at ends e)) (Some x) =
         subst (λ (found : Option (StreamElement K)). IsMadeFor k m.settings (sink_end (at ends e)) found) (some_there elements_in e x is)
         (filled.each e m here).element_is in
-        (own.0.0 (opened_empty e m here), own.1)
+        (own.0 (opened_empty e m here), own.2)
 
     pub given_at : (e : ℕ) (m : Made) (x : StreamSource S) → slice_get made e ≡ Some m → IsOf sources_in e x
         → GivesFor s m.settings (source_end (at ends e)) e x

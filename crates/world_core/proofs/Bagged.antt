@@ -13,9 +13,9 @@ use Rattle.graph_bags.specs.declared.bag.BagElement.{BagElement}
 use Rattle.graph_bags.specs.declared.bag.BagHead.{BagHead}
 use Rattle.graph_bags.specs.declared.bag.BagLink.TheVariants as links_of
 use Rattle.graph_core.specs.Elements.{Made}
-use Rattle.graph_core.specs.Links.{sink_behind}
-use Rattle.graph_core.specs.declared.pad.PadLink.{PadLink}
-use Rattle.graph_core.specs.declared.pad.PadPlace.{PadPlace}
+use Rattle.graph_pads.specs.Links.{sink_behind}
+use Rattle.graph_pads.specs.declared.pad.PadLink.{PadLink}
+use Rattle.graph_pads.specs.declared.pad.PadPlace.{PadPlace}
 use Rattle.graph_ends.specs.Frames.{HaveBags, IsFrameOf, IsHeadFrame, IsPartFrame, IsWireOf, RoomBy, goes_by}
 use Rattle.graph_tasks.specs.Tasks.{AreTasks, IsHeadOf, IsPadOf, IsPartOf, IsTaskOf, LeadsTo, sink_count}
 use Rattle.graph_tasks.proofs.Lists.{got_within, map_got}

@@ -6,7 +6,7 @@ use Rattle.graph_bags.specs.declared.bag.Bag.{Bag}
 use Rattle.graph_core.specs.Elements.{Made}
 use Rattle.graph_core.specs.Graph.{made as made_in, links as links_in}
 use Rattle.graph_core.specs.declared.graph.Graph.{Graph}
-use Rattle.graph_core.specs.declared.pad.PadLink.{PadLink}
+use Rattle.graph_pads.specs.declared.pad.PadLink.{PadLink}
 use Rattle.graph_files.specs.Files.{GraphOpens}
 use Rattle.graph_files.specs.Filled.{AreFilled}
 use Rattle.graph_tasks.specs.Plan.{AreThere, without}

@@ -1,5 +1,5 @@
 -- Whom a fault of a run names.
-use Rattle.std.proofs.Common.{◌≡◌, ◌≢◌, ◌⊎◌, ℕ, List, Some, length, refl, sym, ap, ◌∙◌, subst, inl, inr, arith}
+use Rattle.std.proofs.Common.{◌≡◌, ◌≢◌, ◌⊎◌, ◌<◌, ℕ, List, Some, length, refl, sym, ap, ◌∙◌, subst, inl, inr, arith}
 use Rattle.std.specs.Prelude.{slice_get}
 use Rattle.flow_model.specs.declared.fault.ElementFault.{ElementFault}
 use Rattle.flow_model.specs.declared.fault.ElementFault.TheVariants as own_faults
@@ -15,8 +15,11 @@ use Rattle.graph_ends.specs.Owed.{IsAwaited, IsOwedMore, Refuses, WantsLink, wen
 use Rattle.graph_ends.specs.Runs.{crossed_in}
 use Rattle.graph_ends.specs.Short.{IsCutShort}
 use Rattle.graph_core.specs.Allowed.{first_pad}
-use Rattle.graph_core.proofs.NumberedPads.{owner_at}
-use Rattle.graph_core.specs.GraphPlan.{owner_of, pad_id}
+use Rattle.graph_bags.specs.Links.{place_at}
+use Rattle.graph_core.proofs.NumberedPads.{same_pad}
+use Rattle.el_settings.proofs.Padded.{few_sources}
+use Rattle.graph_core.specs.GraphPlan.{pad_id}
+use Rattle.graph_pads.specs.declared.pad.PadPlace.{PadPlace}
 use Rattle.net_model.specs.Moment.{Moment}
 use Rattle.task_parts.specs.Fault.{refusal_fault, unread_fault}
 use Rattle.task_parts.specs.declared.fault.TaskFault.{TaskFault}
@@ -28,11 +31,12 @@ pub record RefusedAt (contents : ℕ → List ℕ) (graph : Graph) (m : Moment) 
   pub at : slice_get (made_in graph) n ≡ Some element
   pub refuses : Refuses contents (made_in graph) (links_in graph) (crossed_in graph m) n element.settings own
 
--- 2^40 items crossed its pad, and another one is owed to it
+-- 2^40 items crossed a source pad of it, and another one is owed there
 pub record IsFull (contents : ℕ → List ℕ) (graph : Graph) (m : Moment) (n : ℕ) (own : ElementFault) : Type 0 where
   pub own_is : own ≡ own_faults.TooLong 1099511627776 1
-  pub full : length (went_from (crossed_in graph m) n) ≡ 1099511627776
-  pub more : IsOwedMore contents (made_in graph) (links_in graph) (crossed_in graph m) n
+  pub pad : ℕ
+  pub full : length (went_from (crossed_in graph m) (place_at n pad)) ≡ 1099511627776
+  pub more : IsOwedMore contents (made_in graph) (links_in graph) (crossed_in graph m) (place_at n pad)
 
 -- a fault of an element, by its number and its own fault
 same_own : (d n : ℕ) (one other : ElementFault) → refusal_fault d (Fault one) ≡ refusal_fault n (Fault other) → other ≢ own_faults.OutOfMemory → (d ≡ n) × (one ≡ other)
@@ -98,13 +102,14 @@ module _ (contents : ℕ → List ℕ) (graph : Graph) (m : Moment) where
       (subst (λ (f : ElementFault). RefusedAt contents graph m d f) both.1 (record { element = element; at = at; refuses = refuses })))
   own_blamed fault (IsBlamed.unwritten d a b x awaited) n own same memory = absurd (no_write d a b n own same)
   own_blamed fault (IsBlamed.unread d why short) n own same memory = absurd (memory (no_read d why n own same))
-  own_blamed fault (IsBlamed.not_linked e place size wants) n own same memory = absurd (no_link (pad_id (first_pad e)) place n own same)
-  own_blamed fault (IsBlamed.full e size more) n own same memory =
-      let both = full_own e n own same in
+  own_blamed fault (IsBlamed.not_linked source place size wants) n own same memory = absurd (no_link (pad_id source) place n own same)
+  own_blamed fault (IsBlamed.full source size more) n own same memory =
+      let both = full_own source.element n own same in
       inr (record {
         own_is = both.1;
-        full = subst (λ (x : ℕ). length (went_from (crossed_in graph m) x) ≡ 1099511627776) both.0 size;
-        more = subst (λ (x : ℕ). IsOwedMore contents (made_in graph) (links_in graph) (crossed_in graph m) x) both.0 more;
+        pad = source.pad;
+        full = subst (λ (x : ℕ). length (went_from (crossed_in graph m) (place_at x source.pad)) ≡ 1099511627776) both.0 size;
+        more = subst (λ (x : ℕ). IsOwedMore contents (made_in graph) (links_in graph) (crossed_in graph m) (place_at x source.pad)) both.0 more;
       })
   own_blamed fault IsBlamed.no_memory n own same memory = absurd (memory (no_memory_own n own same))
 
@@ -125,9 +130,9 @@ module _ (contents : ℕ → List ℕ) (graph : Graph) (m : Moment) where
 
   -- a write failed at the next item that came to its element
   pub write_blamed : (fault : TaskFault) → IsBlamed contents graph m fault → (n a b : ℕ) → fault ≡ faults.WriteFault n a b
-      → (x : Item) × IsAwaited contents (made_in graph) (links_in graph) (crossed_in graph m) n x
+      → (x : Item) × IsAwaited contents (made_in graph) (links_in graph) (crossed_in graph m) (first_pad n) x
   write_blamed fault (IsBlamed.refused d element own at refuses) n a b same = absurd (no_write n a b d own (sym same))
-  write_blamed fault (IsBlamed.unwritten d p q x awaited) n a b same = (x, subst (λ (y : ℕ). IsAwaited contents (made_in graph) (links_in graph) (crossed_in graph m) y x) number awaited)
+  write_blamed fault (IsBlamed.unwritten d p q x awaited) n a b same = (x, subst (λ (y : ℕ). IsAwaited contents (made_in graph) (links_in graph) (crossed_in graph m) (first_pad y) x) number awaited)
     where
       number : d ≡ n
       number = cc
@@ -138,22 +143,24 @@ module _ (contents : ℕ → List ℕ) (graph : Graph) (m : Moment) where
   write_blamed fault IsBlamed.no_memory n a b same = absurd (cc)
 
   -- a buffer is owed to the pad that is not linked
-  pub link_blamed : (fault : TaskFault) → IsBlamed contents graph m fault → (n place : ℕ) → fault ≡ faults.NotLinked (pad_id (first_pad n)) place
-      → (length (went_from (crossed_in graph m) n) ≡ place) × WantsLink contents (made_in graph) (links_in graph) (crossed_in graph m) n
-  link_blamed fault (IsBlamed.refused d element own at refuses) n place same = absurd (no_link (pad_id (first_pad n)) place d own (sym same))
-  link_blamed fault (IsBlamed.unwritten d p q x awaited) n place same = absurd (cc)
-  link_blamed fault (IsBlamed.unread d (reads.Failed p q) short) n place same = absurd (cc)
-  link_blamed fault (IsBlamed.unread d reads.OutOfMemory short) n place same = absurd (cc)
-  link_blamed fault (IsBlamed.not_linked e here size wants) n place same =
-      let one : e ≡ n = sym (owner_at (first_pad e) (omega arith)) ∙ ap owner_of pads ∙ owner_at (first_pad n) (omega arith) in (
-        subst (λ (x : ℕ). length (went_from (crossed_in graph m) x) ≡ place) one (size ∙ places),
-        subst (λ (x : ℕ). WantsLink contents (made_in graph) (links_in graph) (crossed_in graph m) x) one wants,
+  pub link_blamed : (fault : TaskFault) → IsBlamed contents graph m fault → (source : PadPlace) (place : ℕ) → source.pad < 64 → fault ≡ faults.NotLinked (pad_id source) place
+      → (length (went_from (crossed_in graph m) source) ≡ place) × WantsLink contents (made_in graph) (links_in graph) (crossed_in graph m) source
+  link_blamed fault (IsBlamed.refused d element own at refuses) source place few same = absurd (no_link (pad_id source) place d own (sym same))
+  link_blamed fault (IsBlamed.unwritten d p q x awaited) source place few same = absurd (cc)
+  link_blamed fault (IsBlamed.unread d (reads.Failed p q) short) source place few same = absurd (cc)
+  link_blamed fault (IsBlamed.unread d reads.OutOfMemory short) source place few same = absurd (cc)
+  link_blamed fault (IsBlamed.not_linked own here size wants) source place few same =
+      let there = wants.next.there in
+      let most = few_sources wants.next.element.settings in
+      let one : own ≡ source = same_pad own source (omega (arith, there, most)) few pads in (
+        subst (λ (x : PadPlace). length (went_from (crossed_in graph m) x) ≡ place) one (size ∙ places),
+        subst (λ (x : PadPlace). WantsLink contents (made_in graph) (links_in graph) (crossed_in graph m) x) one wants,
       )
     where
-      pads : pad_id (first_pad e) ≡ pad_id (first_pad n)
+      pads : pad_id own ≡ pad_id source
       pads = cc
 
       places : here ≡ place
       places = cc
-  link_blamed fault (IsBlamed.full e size more) n place same = absurd (cc)
-  link_blamed fault IsBlamed.no_memory n place same = absurd (cc)
+  link_blamed fault (IsBlamed.full own size more) source place few same = absurd (cc)
+  link_blamed fault IsBlamed.no_memory source place few same = absurd (cc)

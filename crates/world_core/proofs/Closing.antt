@@ -9,7 +9,8 @@ use Rattle.gst_outside.specs.Causes.{Rose, plus}
 use Rattle.gst_outside.specs.Places.{is_at}
 use Rattle.gst_caps.specs.declared.caps.Caps.TheVariants.{Any}
 use Rattle.flow_model.specs.Item.{Item}
-use Rattle.graph_core.specs.Allowed.{checked, with_caps}
+use Rattle.el_settings.specs.Asked.{no_pads}
+use Rattle.graph_core.specs.Allowed.{all_allowed, checked, with_caps, with_made_pads}
 use Rattle.graph_core.specs.Asked.{Declared, declared}
 use Rattle.graph_core.specs.Comes.{Comes}
 use Rattle.graph_core.specs.Elements.{ElementsCome, Made}
@@ -42,7 +43,7 @@ few_come made ds answer (Comes.stop all d rest fault why) few = tt
 
 pub few_elements : (tree : Tree) (graph : Graph) → IsGraph tree graph → length (made_in graph) ≤ 256
 few_elements tree graph is =
-    subst (λ (n : ℕ). n ≤ 256) (length-map (made_in graph) (with_caps Any))
+    subst (λ (n : ℕ). n ≤ 256) (length-map (all_allowed (made_in graph)) (with_made_pads no_pads) ∙ length-map (made_in graph) (with_caps Any))
     (few_come [] (declared tree) (Ok (checked (made_in graph))) is.elements (omega arith))
 
 module _ (graph : Graph) (before : Seen) (Holds Other : (ℕ → List ℕ) → Type 0) where
@@ -104,22 +105,29 @@ module _ (graph : Graph) (before : Seen) (Holds Other : (ℕ → List ℕ) → T
   }))))
   ended_with Fails More end holds fails (inr (inr (inr (inr (inl x))))) = inr (inr (inr (inr (inl (record {
     status = x.status;
-    e = x.e;
+    source = x.source;
     element = x.element;
     at = x.at;
+    there = x.there;
     alone = x.alone;
     place = x.place;
     fault = x.fault;
     tells = tells_with end.report _ holds x.tells;
   })))))
-  ended_with Fails More end holds fails (inr (inr (inr (inr (inr x))))) = inr (inr (inr (inr (inr (record {
+  ended_with Fails More end holds fails (inr (inr (inr (inr (inr (inl x)))))) = inr (inr (inr (inr (inr (inl (record {
     status = x.status;
     e = x.e;
     element = x.element;
     at = x.at;
     fault = x.fault;
     tells = tells_with end.report _ holds x.tells;
-  })))))
+  }))))))
+  ended_with Fails More end holds fails (inr (inr (inr (inr (inr (inr x)))))) = inr (inr (inr (inr (inr (inr (record {
+    status = x.status;
+    tasks = x.tasks;
+    fault = x.fault;
+    tells = tells_with end.report _ holds x.tells;
+  }))))))
 
 rose_more : (before mid after : ℕ) → before ≤ mid → Rose mid after → Rose before after
 rose_more before mid after more rose = omega (arith, more, rose)

@@ -7,6 +7,7 @@ use Rattle.flow_model.specs.Item.{Item, Ev, StreamStart, NewSegment, Eos, is_buf
 use Rattle.flow_model.specs.Source.{blocks_from, bytes_segment, file_list}
 use Rattle.el_settings.specs.declared.settings.Settings.{Settings}
 use Rattle.el_set.proofs.Lists.{read_list}
+use Rattle.graph_core.specs.Allowed.{first_pad}
 use Rattle.graph_ends.specs.Owed.{went_from}
 use Rattle.graph_ends.specs.Short.{IsCutShort}
 use Rattle.graph_files.specs.Files.{opening_of}
@@ -105,5 +106,5 @@ pub cut_before : (contents : ℕ → List ℕ) (h : ℕ → List Item) (e : ℕ)
     → IsCutShort contents h e settings → IsCutBefore contents h e settings
 cut_before contents h e settings location opens short =
     let own = read_list settings (reader settings location opens).reading in
-    let cut = file_cut e own.size (contents e) (went_from h e) short.left own.some short.buffers (sym (own.is e (contents e)) ∙ short.owed) in
+    let cut = file_cut e own.size (contents e) (went_from h (first_pad e)) short.left own.some short.buffers (sym (own.is e (contents e)) ∙ short.owed) in
     record { eos = short.eos; place = cut.0; crossed = own.is e (take cut.0 (contents e)) ∙ cut.1 }

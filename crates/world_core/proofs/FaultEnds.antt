@@ -1,8 +1,9 @@
 -- How a run that met a fault has ended.
-use Rattle.std.proofs.Common.{◌≡◌, ◌≢◌, ◌⊎◌, ℕ, true, false, eqb, List, Option, Some, length, sym, ap, ◌∙◌, inl, inr}
+use Rattle.std.proofs.Common.{◌≡◌, ◌≢◌, ◌⊎◌, ◌<◌, ℕ, zero, suc, true, false, eqb, List, Option, Some, length, sym, ap, ◌∙◌, subst, inl, inr, arith}
 use Rattle.std.specs.Prelude.{slice_get}
 use Rattle.std.specs.Option.{option_map}
 use Rattle.std.proofs.lemmas.Bool.Decides.{eqb_tells}
+use Rattle.std.proofs.lemmas.Option.{same_Some}
 use Rattle.el_set.specs.Gives.{source_file}
 use Rattle.net_model.specs.declared.element.TaskElement as elements
 use Rattle.net_model.specs.declared.refusal.Refusal.TheVariants.{Fault, Unwritten}
@@ -11,6 +12,10 @@ use Rattle.net_model.specs.declared.source.TaskSource as givers
 use Rattle.graph_core.specs.Elements.{Made}
 use Rattle.graph_core.specs.Graph.{made as made_in, links as links_in}
 use Rattle.graph_core.specs.declared.graph.Graph.{Graph}
+use Rattle.el_settings.specs.Asked.{source_pads}
+use Rattle.graph_bags.specs.Links.{place_at}
+use Rattle.graph_core.specs.GraphPlan.{pad_id}
+use Rattle.graph_pads.specs.declared.pad.PadPlace.{PadPlace}
 use Rattle.graph_ends.specs.Owed.{went_from}
 use Rattle.graph_ends.specs.Runs.{crossed_in}
 use Rattle.graph_files.specs.Files.{WereTold}
@@ -36,20 +41,38 @@ use Rattle.world_core.specs.Ran.{KnownFailed, KnownHold}
 use Rattle.world_core.specs.Stopped.{HasRun}
 use Rattle.world_core.specs.Told.{task_status}
 use Rattle.world_core.specs.declared.ended.WorldEnd.{WorldEnd}
+use Rattle.world_core.specs.declared.report.Stop.TheVariants as stops
 use Rattle.world_core.proofs.Faulted.{IsFaulted, full_ends, refused_ends, unlinked_ends, unread_ends, unwritten_ends}
+use Rattle.world_core.proofs.Blame.{IsFull}
 use Rattle.world_core.proofs.Meeting.{IsMet}
+use Rattle.world_core.proofs.Rooms.{same_or_less}
 use Rattle.world_core.proofs.Settled.{IsTold}
 
--- three numbers are these, or one of them is not
-three : (a b c p q r : ℕ) → ((a ≡ p) × (b ≡ q) × (c ≡ r)) ⊎ ((a ≡ p) × (b ≡ q) × (c ≡ r) → ⊥)
-three a b c p q r = by (eqb_tells a p) (eqb_tells b q) (eqb_tells c r)
+-- two numbers are these, or one of them is not
+two : (a b p q : ℕ) → ((a ≡ p) × (b ≡ q)) ⊎ ((a ≡ p) × (b ≡ q) → ⊥)
+two a b p q = by (eqb_tells a p) (eqb_tells b q)
   where
     by : ((eqb a p ≡ true) × (a ≡ p)) ⊎ ((eqb a p ≡ false) × (a ≡ p → ⊥)) → ((eqb b q ≡ true) × (b ≡ q)) ⊎ ((eqb b q ≡ false) × (b ≡ q → ⊥))
-        → ((eqb c r ≡ true) × (c ≡ r)) ⊎ ((eqb c r ≡ false) × (c ≡ r → ⊥)) → ((a ≡ p) × (b ≡ q) × (c ≡ r)) ⊎ ((a ≡ p) × (b ≡ q) × (c ≡ r) → ⊥)
-    by (inl x) (inl y) (inl z) = inl (x.1, y.1, z.1)
-    by (inr none) y z = inr (λ all. none.1 all.0)
-    by (inl x) (inr none) z = inr (λ all. none.1 all.1)
-    by (inl x) (inl y) (inr none) = inr (λ all. none.1 all.2)
+        → ((a ≡ p) × (b ≡ q)) ⊎ ((a ≡ p) × (b ≡ q) → ⊥)
+    by (inl x) (inl y) = inl (x.1, y.1)
+    by (inr none) y = inr (λ all. none.1 all.0)
+    by (inl x) (inr none) = inr (λ all. none.1 all.1)
+
+-- one of the first places has this number, or none has
+one_or_none : (f : ℕ → ℕ) (number n : ℕ) → ((k : ℕ) × (k < n) × (f k ≡ number)) ⊎ ((k : ℕ) → k < n → f k ≡ number → ⊥)
+one_or_none f number zero = inr (λ k w is. absurd (omega (arith, w)))
+one_or_none f number (suc n) = by (eqb_tells (f n) number) (one_or_none f number n)
+  where
+    by : ((eqb (f n) number ≡ true) × (f n ≡ number)) ⊎ ((eqb (f n) number ≡ false) × (f n ≡ number → ⊥))
+        → ((k : ℕ) × (k < n) × (f k ≡ number)) ⊎ ((k : ℕ) → k < n → f k ≡ number → ⊥)
+        → ((k : ℕ) × (k < suc n) × (f k ≡ number)) ⊎ ((k : ℕ) → k < suc n → f k ≡ number → ⊥)
+    by (inl here) earlier = inl (n, omega arith, here.1)
+    by (inr other) (inl found) = inl (found.0, omega (arith, found.1), found.2)
+    by (inr other) (inr none) = inr (λ k w is. last k (same_or_less k n (omega (arith, w))) is)
+      where
+        last : (k : ℕ) → (k ≡ n) ⊎ (k < n) → f k ≡ number → ⊥
+        last k (inl same) is = other.1 (ap f (sym same) ∙ is)
+        last k (inr less) is = none k less is
 
 module _ {S K I O L : Type 0} {giver : givers.Ghosts (StreamSource S)} {taker : elements.Ghosts (StreamElement K)} {i : inlets.Ghosts I L O} {o : outlets.Ghosts O L}
     (s : sources.Ghosts S) (k : sinks.Ghosts K) (graph : Graph) (first last : List (Task (StreamSource S) (StreamElement K) I O L giver taker i o))
@@ -57,20 +80,20 @@ module _ {S K I O L : Type 0} {giver : givers.Ghosts (StreamSource S)} {taker : 
     (run : HasRun s k graph first last rest left tells before)
     (taken : (x : StreamElement K) → taker.file x ≡ option_map k.location (file_in x)) (given : (x : StreamSource S) → giver.file x ≡ option_map s.location (source_file x.source))
     (write_fails : (x : StreamElement K) → taker.failures x ≡ faults_in k.faults x) (read_fails : (x : StreamSource S) → giver.failures x ≡ option_map s.faults (source_file x.source))
-    (ends : List (Option (End S K))) (fault : TaskFault) (end : WorldEnd) (told : IsTold graph last rest left ends (Some fault) end)
+    (ends : List (Option (End S K))) (fault : TaskFault) (end : WorldEnd) (told : IsTold graph last rest left ends (stops.Fault fault) end)
     (faulted : (contents : ℕ → List ℕ) → WereTold (made_in graph) before contents → IsFaulted k contents graph run.started.bags last rest fault)
     (number : ℕ → ℕ)
-    (counted : (contents : ℕ → List ℕ) → (f : IsFaulted k contents graph run.started.bags last rest fault) → (n : ℕ) (one : Made) → slice_get (made_in graph) n ≡ Some one
-    → length (went_from (crossed_in graph f.m) n) ≡ number n) where
+    (counted : (contents : ℕ → List ℕ) → (f : IsFaulted k contents graph run.started.bags last rest fault) → (source : PadPlace) (one : Made)
+    → slice_get (made_in graph) source.element ≡ Some one → source.pad < source_pads one.settings → length (went_from (crossed_in graph f.m) source) ≡ number (pad_id source)) where
   abbrev known : List (Option Known)
   known = known_ends s k ends
 
   abbrev Ended : Type 0
   Ended = HasEnded graph before (KnownHold graph known) (KnownFailed known) end
 
-  -- a limit of an element was passed, be it that of its pad or of its rule
+  -- a limit of an element was passed, be it that of a source pad or of its rule
   too_long : (n a b : ℕ) (one : Made) → fault ≡ faults.TooLong n a b → slice_get (made_in graph) n ≡ Some one → Ended
-  too_long n a b one is at = by (three a b (number n) 1099511627776 1 1099511627776)
+  too_long n a b one is at = by (two a b 1099511627776 1) (one_or_none (λ pad. number (pad_id (place_at n pad))) 1099511627776 (source_pads one.settings))
     where
       not_memory : own_faults.TooLong a b ≢ own_faults.OutOfMemory
       not_memory e = cc
@@ -81,14 +104,25 @@ module _ {S K I O L : Type 0} {giver : givers.Ghosts (StreamSource S)} {taker : 
       ones : own_faults.TooLong a b ≡ own_faults.TooLong 1099511627776 1 → b ≡ 1
       ones e = cc
 
-      by : ((a ≡ 1099511627776) × (b ≡ 1) × (number n ≡ 1099511627776)) ⊎ ((a ≡ 1099511627776) × (b ≡ 1) × (number n ≡ 1099511627776) → ⊥)
+      by_rule : ((contents : ℕ → List ℕ) → (f : IsFaulted k contents graph run.started.bags last rest fault) → IsFull contents graph f.m n (own_faults.TooLong a b) → ⊥)
           → HasEnded graph before (KnownHold graph (known_ends s k ends)) (KnownFailed (known_ends s k ends)) end
-      by (inl (x, y, z)) = inr (inr (inr (inr (inr
-          (full_ends s k graph first last rest left tells before run taken given write_fails read_fails ends fault end told faulted n one
-          (is ∙ ap (λ p. faults.TooLong n p b) x ∙ ap (λ q. faults.TooLong n 1099511627776 q) y) at (λ contents f. counted contents f n one at ∙ z))))))
-      by (inr none) = inr (inr (inr (inl
+      by_rule none = inr (inr (inr (inl
           (refused_ends s k graph first last rest left tells before run taken given write_fails read_fails ends fault end told faulted n one (own_faults.TooLong a b) is not_memory at
-          (λ contents f full. none (numbers full.own_is, ones full.own_is, sym (counted contents f n one at) ∙ full.full))))))
+          none))))
+
+      by : ((a ≡ 1099511627776) × (b ≡ 1)) ⊎ ((a ≡ 1099511627776) × (b ≡ 1) → ⊥)
+          → ((pad : ℕ) × (pad < source_pads one.settings) × (number (pad_id (place_at n pad)) ≡ 1099511627776))
+          ⊎ ((pad : ℕ) → pad < source_pads one.settings → number (pad_id (place_at n pad)) ≡ 1099511627776 → ⊥)
+          → HasEnded graph before (KnownHold graph (known_ends s k ends)) (KnownFailed (known_ends s k ends)) end
+      by (inl (x, y)) (inl (pad, there, full)) = inr (inr (inr (inr (inr (inl
+          (full_ends s k graph first last rest left tells before run taken given write_fails read_fails ends fault end told faulted n one
+          (is ∙ ap (λ p. faults.TooLong n p b) x ∙ ap (λ q. faults.TooLong n 1099511627776 q) y) at pad there
+          (λ contents f. counted contents f (place_at n pad) one at there ∙ full)))))))
+      by (inl both) (inr none) = by_rule (λ contents f full.
+          let own = full.more.1 in
+          let there = subst (λ (m : Made). full.pad < source_pads m.settings) (same_Some own.element one (sym own.at ∙ at)) own.there in
+          none full.pad there (sym (counted contents f (place_at n full.pad) one at there) ∙ full.full))
+      by (inr none) pads = by_rule (λ contents f full. none (numbers full.own_is, ones full.own_is))
 
   -- the rule of an element has a fault that is no limit
   own_ends : (n : ℕ) (one : Made) (own : ElementFault) → fault ≡ refusal_fault n (Fault own) → own ≢ own_faults.OutOfMemory → slice_get (made_in graph) n ≡ Some one
@@ -120,7 +154,8 @@ module _ {S K I O L : Type 0} {giver : givers.Ghosts (StreamSource S)} {taker : 
   met_ends met (IsMet.unread n one x (reads.Failed a b) was at has cause) is some =
       inr (inl (unread_ends s k graph first last rest left tells before run taken given write_fails read_fails ends fault end told faulted n one x a b was is at has cause))
   met_ends met (IsMet.unread n one x reads.OutOfMemory was at has cause) is some = absurd (some (told.tells.status ∙ ap (λ f. task_status f) is))
-  met_ends met (IsMet.not_linked n one place at alone) is some =
-      inr (inr (inr (inr (inl (unlinked_ends s k graph first last rest left tells before run taken given write_fails read_fails ends fault end told faulted n one place is at alone)))))
+  met_ends met (IsMet.not_linked source one place at there alone) is some =
+      inr (inr (inr (inr (inl
+      (unlinked_ends s k graph first last rest left tells before run taken given write_fails read_fails ends fault end told faulted source one place is at there alone)))))
   met_ends met (IsMet.full n one at) is some = too_long n 1099511627776 1 one is at
   met_ends met IsMet.no_memory is some = absurd (some (told.tells.status ∙ ap (λ f. task_status f) is))

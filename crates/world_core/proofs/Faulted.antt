@@ -1,9 +1,9 @@
 -- A run that stopped at a fault: how it ended.
-use Rattle.std.proofs.Common.{◌≡◌, ◌≢◌, ◌⊎◌, ℕ, List, [], Option, None, Some, length, refl, sym, ap, ◌∙◌, subst, inl, inr, arith}
+use Rattle.std.proofs.Common.{◌≡◌, ◌≢◌, ◌⊎◌, ◌<◌, ℕ, Bool, if◌then◌else◌, List, [], Option, None, Some, length, refl, sym, ap, ◌∙◌, subst, inl, inr, arith}
 use Rattle.std.specs.Prelude.{slice_get, unwrap_or}
 use Rattle.std.specs.Option.{option_map, option_map_or}
 use Rattle.std.proofs.lemmas.Option.{none-some, same_Some}
-use Rattle.el_settings.specs.Asked.{location_of}
+use Rattle.el_settings.specs.Asked.{location_of, source_pads}
 use Rattle.el_set.specs.Gives.{source_file}
 use Rattle.el_set.specs.Made.{file_for, read_for}
 use Rattle.net_model.specs.Failures.{IsReadCause, IsWriteCause}
@@ -16,7 +16,7 @@ use Rattle.graph_bags.specs.declared.bag.Bag.{Bag}
 use Rattle.graph_core.specs.Elements.{Made}
 use Rattle.graph_core.specs.Ends.{name_at}
 use Rattle.graph_core.specs.Graph.{made as made_in, links as links_in}
-use Rattle.graph_core.specs.Links.{sink_behind}
+use Rattle.graph_pads.specs.Links.{sink_behind}
 use Rattle.graph_core.specs.declared.graph.Graph.{Graph}
 use Rattle.graph_ends.specs.Blamed.{IsBlamed}
 use Rattle.graph_ends.specs.Owed.{AreWritten, Refuses, went_from}
@@ -24,7 +24,6 @@ use Rattle.graph_ends.specs.Runs.{crossed_in}
 use Rattle.graph_files.specs.Back.{HasElement, HasSource}
 use Rattle.graph_files.specs.Ends.{at as end_at, sink_end, source_end}
 use Rattle.graph_files.specs.Files.{OpensAt, WereTold}
-use Rattle.graph_core.specs.Allowed.{first_pad}
 use Rattle.flow_model.specs.declared.fault.ElementFault.{ElementFault}
 use Rattle.flow_model.specs.declared.fault.ElementFault.TheVariants as own_faults
 use Rattle.gst_outside.specs.Causes.{Rose}
@@ -34,7 +33,12 @@ use Rattle.gst_outside.specs.declared.source.Source as sources
 use Rattle.lane_core.specs.Lane.{Lane}
 use Rattle.lane_core.specs.declared.ends.Inlet as inlets
 use Rattle.lane_core.specs.declared.ends.Outlet as outlets
-use Rattle.graph_core.proofs.NumberedPads.{owner_at}
+use Rattle.graph_bags.specs.Links.{place_at}
+use Rattle.el_settings.proofs.Padded.{few_sources}
+use Rattle.graph_pads.specs.declared.pad.PadPlace.{PadPlace}
+use Rattle.graph_ends.proofs.Came.{place_again}
+use Rattle.graph_moment.proofs.Sources.{place_is_pad}
+use Rattle.graph_moment.specs.Laws.{place_of}
 use Rattle.graph_core.specs.GraphPlan.{pad_id}
 use Rattle.net_model.specs.Moment.{Moment}
 use Rattle.net_task.specs.declared.task.Task.{Task}
@@ -55,8 +59,10 @@ use Rattle.world_core.specs.Cut.{IsCutBefore}
 use Rattle.world_core.specs.Ended.{EndsRefused, EndsTooLong, EndsUnlinked, EndsUnread, EndsUnwritten, PassesLimit, TellsRun}
 use Rattle.world_core.specs.Ran.{KnownFailed, KnownHold}
 use Rattle.world_core.specs.Stopped.{HasRun}
-use Rattle.world_core.specs.Told.{element_fault, element_status, location_named, source_pad, task_fault, task_status}
+use Rattle.world_core.specs.Pads.{no_pad, source_name, source_pad}
+use Rattle.world_core.specs.Told.{element_fault, element_status, location_named, task_fault, task_status}
 use Rattle.world_core.specs.declared.ended.WorldEnd.{WorldEnd}
+use Rattle.world_core.specs.declared.report.Stop.TheVariants as stops
 use Rattle.world_core.proofs.Blame.{IsFull, RefusedAt, link_blamed, own_blamed, read_blamed, write_blamed}
 use Rattle.world_core.proofs.CutBefore.{cut_before}
 use Rattle.world_core.proofs.Files.{element_file, head_file, known_sink, known_source, one_element}
@@ -72,6 +78,8 @@ rose_zero before after rose = omega (arith, rose)
 counts_file : {K : Type 0} (faults_of : K → ℕ) (x : StreamElement K) (n : ℕ) → faults_in faults_of x ≡ Some n → (file : K) × (file_in x ≡ Some file) × (faults_of file ≡ n)
 counts_file faults_of (kinds.Filter filter) n is = absurd (none-some n is)
 counts_file faults_of (kinds.Queue queue) n is = absurd (none-some n is)
+counts_file faults_of (kinds.Tee tee) n is = absurd (none-some n is)
+counts_file faults_of (kinds.Join join) n is = absurd (none-some n is)
 counts_file faults_of (kinds.Sink (sink_kinds.File file)) n is = (_, refl, same_Some _ n is)
 counts_file faults_of (kinds.Sink (sink_kinds.Fake fake)) n is = absurd (none-some n is)
 
@@ -95,7 +103,7 @@ module _ {S K I O L : Type 0} {giver : givers.Ghosts (StreamSource S)} {taker : 
     (run : HasRun s k graph first last rest left tells before)
     (taken : (x : StreamElement K) → taker.file x ≡ option_map k.location (file_in x)) (given : (x : StreamSource S) → giver.file x ≡ option_map s.location (source_file x.source))
     (write_fails : (x : StreamElement K) → taker.failures x ≡ faults_in k.faults x) (read_fails : (x : StreamSource S) → giver.failures x ≡ option_map s.faults (source_file x.source))
-    (ends : List (Option (End S K))) (fault : TaskFault) (end : WorldEnd) (told : IsTold graph last rest left ends (Some fault) end)
+    (ends : List (Option (End S K))) (fault : TaskFault) (end : WorldEnd) (told : IsTold graph last rest left ends (stops.Fault fault) end)
     (faulted : (contents : ℕ → List ℕ) → WereTold (made_in graph) before contents → IsFaulted k contents graph run.started.bags last rest fault) where
   abbrev known : List (Option Known)
   known = known_ends s k ends
@@ -109,7 +117,7 @@ module _ {S K I O L : Type 0} {giver : givers.Ghosts (StreamSource S)} {taker : 
       → TellsRun graph before (KnownHold graph known) end.report Cause
   all_told memory writes Cause causes contents were =
       let f = faulted contents were in
-      rendered s k graph first last rest left tells before run taken given ends (Some fault) end told contents f.m f.settled (all_bytes graph f.m)
+      rendered s k graph first last rest left tells before run taken given ends (stops.Fault fault) end told contents f.m f.settled (all_bytes graph f.m)
       (behind_held k graph last rest f.m contents fault f.behind f.others memory writes) (Cause contents) (causes contents f)
 
   -- the name of an element, and its location
@@ -187,7 +195,7 @@ module _ {S K I O L : Type 0} {giver : givers.Ghosts (StreamSource S)} {taker : 
             let held = part_held k graph last rest f.m contents n a b one opens.0 x file.0 place at has file.1
             (λ y also. one_element s k graph first last rest left tells before run n y x also has)
             (subst (λ (t : TaskFault). AllBehind k graph last rest f.m contents t) is f.behind) f.others item.0 item.1 in
-            rendered s k graph first last rest left tells before run taken given ends (Some fault) end told contents f.m f.settled held.bytes held.held _
+            rendered s k graph first last rest left tells before run taken given ends (stops.Fault fault) end told contents f.m f.settled held.bytes held.held _
             ((λ c apart. λ m there writes. held.others c apart ∙ all_written graph f.m c m there writes), held.part);
       }
 
@@ -236,17 +244,18 @@ module _ {S K I O L : Type 0} {giver : givers.Ghosts (StreamSource S)} {taker : 
           by (inl r) = subst (λ (x : Made). Refuses contents made (links_in graph) (crossed_in graph f.m) n x.settings own) (same_Some r.element one (sym r.at ∙ at)) r.refuses
           by (inr full) = absurd (not_full contents f full)
 
-  -- the pad of an element is full
-  pub full_ends : (n : ℕ) (one : Made) → fault ≡ faults.TooLong n 1099511627776 1 → slice_get made n ≡ Some one
-      → ((contents : ℕ → List ℕ) → (f : IsFaulted k contents graph run.started.bags last rest fault) → length (went_from (crossed_in graph f.m) n) ≡ 1099511627776)
+  -- a source pad of an element is full
+  pub full_ends : (n : ℕ) (one : Made) → fault ≡ faults.TooLong n 1099511627776 1 → slice_get made n ≡ Some one → (pad : ℕ) → pad < source_pads one.settings
+      → ((contents : ℕ → List ℕ) → (f : IsFaulted k contents graph run.started.bags last rest fault)
+      → length (went_from (crossed_in graph f.m) (place_at n pad)) ≡ 1099511627776)
       → EndsTooLong graph before (KnownHold graph known) end
-  full_ends n one is at full = record {
+  full_ends n one is at pad there full = record {
     status = told.tells.status ∙ ap (λ f. task_status f) is;
     e = n;
     element = one;
     at = at;
     fault = told.tells.fault ∙ ap (λ f. task_fault made f) is ∙ ap (λ name. told_faults.TooLong name 1099511627776 1) (name_is n one at);
-    tells = all_told not_memory not_write _ (λ contents f. (all_written graph f.m, full contents f, passed contents f));
+    tells = all_told not_memory not_write _ (λ contents f. (all_written graph f.m, passed contents f));
   }
     where
       passed : (contents : ℕ → List ℕ) → (f : IsFaulted k contents graph run.started.bags last rest fault)
@@ -258,8 +267,19 @@ module _ {S K I O L : Type 0} {giver : givers.Ghosts (StreamSource S)} {taker : 
 
           by : RefusedAt contents graph f.m n (own_faults.TooLong 1099511627776 1) ⊎ IsFull contents graph f.m n (own_faults.TooLong 1099511627776 1)
               → PassesLimit contents made (links_in graph) (crossed_in graph f.m) n one.settings
-          by (inl r) = inr (subst (λ (x : Made). Refuses contents made (links_in graph) (crossed_in graph f.m) n x.settings (own_faults.TooLong 1099511627776 1)) (same_Some r.element one (sym r.at ∙ at)) r.refuses)
-          by (inr at_limit) = inl at_limit.more
+          by (inl r) = record {
+            pad = pad;
+            there = there;
+            full = full contents f;
+            more = inr (subst (λ (x : Made). Refuses contents made (links_in graph) (crossed_in graph f.m) n x.settings (own_faults.TooLong 1099511627776 1))
+                (same_Some r.element one (sym r.at ∙ at)) r.refuses);
+          }
+          by (inr limit) = record {
+            pad = limit.pad;
+            there = subst (λ (x : Made). limit.pad < source_pads x.settings) (same_Some limit.more.1.element one (sym limit.more.1.at ∙ at)) limit.more.1.there;
+            full = limit.full;
+            more = inl limit.more;
+          }
 
       not_memory : fault ≢ faults.OutOfMemory
       not_memory e = cc
@@ -268,19 +288,30 @@ module _ {S K I O L : Type 0} {giver : givers.Ghosts (StreamSource S)} {taker : 
       not_write d p q e = cc
 
   -- a pad is not linked
-  pub unlinked_ends : (n : ℕ) (one : Made) (place : ℕ) → fault ≡ faults.NotLinked (pad_id (first_pad n)) place → slice_get made n ≡ Some one → sink_behind (links_in graph) (first_pad n) ≡ None
-      → EndsUnlinked graph before (KnownHold graph known) end
-  unlinked_ends n one place is at alone = record {
+  pub unlinked_ends : (source : PadPlace) (one : Made) (place : ℕ) → fault ≡ faults.NotLinked (pad_id source) place → slice_get made source.element ≡ Some one
+      → source.pad < source_pads one.settings → sink_behind (links_in graph) source ≡ None → EndsUnlinked graph before (KnownHold graph known) end
+  unlinked_ends source one place is at there alone = record {
     status = told.tells.status ∙ ap (λ f. task_status f) is;
-    e = n;
+    source = source;
     element = one;
     at = at;
+    there = there;
     alone = alone;
     place = place;
-    fault = told.tells.fault ∙ ap (λ f. task_fault made f) is ∙ ap (λ e. told_faults.NotLinked (source_pad made e) place) (owner_at (first_pad n) (omega arith));
-    tells = all_told not_memory not_write _ (λ contents f. let link = link_blamed contents graph f.m fault f.blamed n place is in (all_written graph f.m, link.0, link.1));
+    fault = told.tells.fault ∙ ap (λ f. task_fault made f) is ∙ ap (λ name. told_faults.NotLinked name place) named;
+    tells = all_told not_memory not_write _
+        (λ contents f. let link = link_blamed contents graph f.m fault f.blamed source place few is in (all_written graph f.m, link.0, link.1));
   }
     where
+      few : source.pad < 64
+      few = let most = few_sources one.settings in omega (arith, there, most)
+
+      named : source_pad made (pad_id source) ≡ source_name made source
+      named =
+          ap (λ (b : Bool). if b then source_name made (place_of (pad_id source)) else no_pad made (place_of (pad_id source)).element)
+          (place_is_pad made source (subst (λ (found : Option Made). source.pad < option_map_or (λ (m : Made). source_pads m.settings) found 0) (sym at) there))
+          ∙ ap (source_name made) (place_again source few)
+
       not_memory : fault ≢ faults.OutOfMemory
       not_memory e = cc
 

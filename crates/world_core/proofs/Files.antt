@@ -9,7 +9,7 @@ use Rattle.el_set.specs.Made.{file_for, read_for}
 use Rattle.net_model.specs.declared.element.TaskElement as elements
 use Rattle.net_model.specs.declared.source.TaskSource as givers
 use Rattle.flow_model.specs.Account.{IsMember}
-use Rattle.graph_bags.specs.Links.{is_source}
+use Rattle.el_settings.specs.Asked.{is_source}
 use Rattle.graph_core.specs.Elements.{Made}
 use Rattle.graph_core.specs.Graph.{made as made_in, links as links_in}
 use Rattle.graph_core.specs.declared.graph.Graph.{Graph}

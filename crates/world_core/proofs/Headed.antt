@@ -7,19 +7,21 @@ use Rattle.net_model.specs.declared.element.TaskElement as elements
 use Rattle.net_model.specs.declared.source.TaskSource as givers
 use Rattle.flow_model.specs.Account.{IsMember}
 use Rattle.graph_bags.specs.Bags.{AreBags, IsBag, IsHead, Once, head_number}
-use Rattle.graph_bags.specs.Links.{has, has_inlets, is_head, is_source}
+use Rattle.graph_bags.specs.Links.{has, has_inlets, is_head}
+use Rattle.el_settings.specs.Asked.{is_source}
 use Rattle.graph_bags.specs.declared.bag.Bag.{Bag}
 use Rattle.graph_bags.specs.declared.bag.BagElement.{BagElement}
 use Rattle.graph_bags.specs.declared.bag.BagHead.{BagHead}
 use Rattle.graph_bags.specs.declared.bag.BagHead.TheVariants as bags_of
 use Rattle.graph_bags.proofs.Apart.{heads_have_bags}
 use Rattle.graph_core.specs.Elements.{Made}
-use Rattle.graph_core.specs.declared.pad.PadLink.{PadLink}
+use Rattle.graph_pads.specs.declared.pad.PadLink.{PadLink}
 use Rattle.graph_tasks.specs.Tasks.{AreTasks, IsHeadOf, IsOf}
 use Rattle.graph_tasks.specs.Wired.{AreWired, IsWiredHead, source_in, source_numbers}
 use Rattle.graph_tasks.specs.declared.wired_task.WiredHead.{WiredHead}
 use Rattle.graph_tasks.specs.declared.wired_task.WiredHead.TheVariants as plans_of
 use Rattle.graph_tasks.specs.declared.wired_task.WiredTask.{WiredTask}
+use Rattle.graph_tasks.proofs.Graphs.{inlets_no_source}
 use Rattle.graph_tasks.proofs.Lists.{all_at, got_within}
 use Rattle.lane_core.specs.Lane.{Lane}
 use Rattle.lane_core.specs.declared.ends.Inlet as inlets
@@ -31,7 +33,6 @@ use Rattle.task_parts.specs.declared.head.Head.{Head}
 use Rattle.task_parts.specs.declared.head.Head.TheVariants.{Source, Inlets}
 use Rattle.task_parts.specs.declared.head.SourceHead.{SourceHead}
 use Rattle.world_core.proofs.Members.{flat_place}
-use Rattle.el_settings.proofs.Roles.{queue_no_source}
 
 -- The source of a head was taken from under its number, and reads its file where it did.
 pub record GivenFrom {S I O : Type 0} (s : givers.Ghosts S) (files : List (Option S)) (plans : List (WiredTask I O)) (k e : ℕ) (x : S) : Type 0 where
@@ -114,15 +115,12 @@ source_bag : (made : List Made) (e : ℕ) (m : Made) (head : BagHead) → slice_
     → head_number head ≡ e
     → (cell : BagElement) × (head ≡ bags_of.Source cell) × (cell.element ≡ e)
 source_bag made e m (bags_of.Source cell) here pads is same = (cell, refl, same)
-source_bag made e m (bags_of.Inlets n) here pads is same = absurd (no (queue_no_source m.settings queue))
+source_bag made e m (bags_of.Inlets n) here pads is same =
+    let source = ap (λ (x : Option Made). option_map_or (λ (m : Made). is_source m.settings) x false) here ∙ pads in
+    absurd (no (sym (inlets_no_source made n is) ∙ ap (λ (k : ℕ). has is_source made k) same ∙ source))
   where
-    queue : has_inlets m.settings ≡ true
-    queue =
-        sym (ap (λ (x : Option Made). option_map_or (λ (m : Made). has_inlets m.settings) x false) here)
-        ∙ ap (λ (k : ℕ). has has_inlets made k) (sym same) ∙ is
-
-    no : is_source m.settings ≡ false → ⊥
-    no none = absurd (cc)
+    no : false ≡ true → ⊥
+    no e = cc
 
 module _ {S E I O L : Type 0} {s : givers.Ghosts S} {e : elements.Ghosts E} (i : inlets.Ghosts I L O) (o : outlets.Ghosts O L)
     (made : List Made) (links : List PadLink) (ends : List (Option E)) (files : List (Option S)) (bags : List Bag)

@@ -6,6 +6,7 @@ use Rattle.net_model.specs.declared.element.TaskElement as elements
 use Rattle.net_model.specs.declared.source.TaskSource as givers
 use Rattle.flow_model.specs.Call.{feeds}
 use Rattle.flow_model.specs.Item.{Item}
+use Rattle.graph_core.specs.Allowed.{first_pad}
 use Rattle.graph_core.specs.Graph.{made as made_in, links as links_in}
 use Rattle.graph_core.specs.declared.graph.Graph.{Graph}
 use Rattle.graph_ends.specs.Owed.{IsPartWritten, came_to}
@@ -46,7 +47,7 @@ module _ {S K I O L : Type 0} {giver : givers.Ghosts (StreamSource S)} {taker : 
     (k : sinks.Ghosts K) (graph : Graph) (last : List (Task (StreamSource S) (StreamElement K) I O L giver taker i o)) (rest : List (Option (StreamElement K))) (m : Moment) where
   -- all that came to an element is in its file
   abbrev pub HasCame : ℕ → StreamElement K → Type 0
-  HasCame d x = HasAll k x (came_to (links_in graph) (crossed_in graph m) d)
+  HasCame d x = HasAll k x (came_to (links_in graph) (crossed_in graph m) (first_pad d))
 
   -- so it is with the elements of the rest that write a file
   abbrev pub RestHasCame : Type 0

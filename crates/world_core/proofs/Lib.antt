@@ -30,3 +30,11 @@ mod Unopened
 mod Ending
 mod PadCounts
 mod RunMade
+mod TaskHeads
+mod StuckRuns
+mod OverRuns
+mod StallTold
+mod StallOver
+mod StallTasks
+mod Stops
+mod FirstRows

@@ -8,12 +8,13 @@ use Rattle.net_model.specs.declared.refusal.Refusal.{Refusal}
 use Rattle.net_model.specs.declared.refusal.Unread.{Unread}
 use Rattle.net_model.specs.Failures.{IsReadCause, IsWriteCause}
 use Rattle.graph_core.specs.Elements.{Made}
-use Rattle.graph_core.specs.Links.{sink_behind}
-use Rattle.graph_core.specs.declared.pad.PadLink.{PadLink}
+use Rattle.graph_pads.specs.Links.{sink_behind}
+use Rattle.graph_pads.specs.declared.pad.PadLink.{PadLink}
 use Rattle.graph_ends.specs.Blamed.{IsTold}
 use Rattle.graph_files.specs.Back.{HasElement, HasSource, IsHead}
 use Rattle.graph_tasks.proofs.Lists.{got_within}
-use Rattle.graph_core.specs.Allowed.{first_pad}
+use Rattle.el_settings.specs.Asked.{source_pads}
+use Rattle.graph_pads.specs.declared.pad.PadPlace.{PadPlace}
 use Rattle.lane_core.specs.Lane.{Lane}
 use Rattle.lane_core.specs.declared.ends.Inlet as inlets
 use Rattle.lane_core.specs.declared.ends.Outlet as outlets
@@ -57,8 +58,8 @@ pub data IsMet {S K I O L : Type 0} {giver : givers.Ghosts (StreamSource S)} {ta
       → IsWriteCause was (taker.failures x) refusal → IsMet made links last rest (refusal_fault n refusal)
   unread : (n : ℕ) (m : Made) (x : StreamSource S) (why : Unread) (was : Option ℕ) → slice_get made n ≡ Some m → HasSource last n x
       → IsReadCause was (giver.failures x) why → IsMet made links last rest (unread_fault n why)
-  not_linked : (n : ℕ) (m : Made) (place : ℕ) → slice_get made n ≡ Some m → sink_behind links (first_pad n) ≡ None
-      → IsMet made links last rest (NotLinked (pad_id (first_pad n)) place)
+  not_linked : (source : PadPlace) (m : Made) (place : ℕ) → slice_get made source.element ≡ Some m → source.pad < source_pads m.settings
+      → sink_behind links source ≡ None → IsMet made links last rest (NotLinked (pad_id source) place)
   full : (n : ℕ) (m : Made) → slice_get made n ≡ Some m → IsMet made links last rest (TooLong n 1099511627776 1)
   no_memory : IsMet made links last rest OutOfMemory
 
@@ -99,6 +100,6 @@ module _ {S K I O L : Type 0} {giver : givers.Ghosts (StreamSource S)} {taker : 
       IsMet.unread n one.0 head.head.source why head.was one.1
       (record { place = k; one = after; at = at; inside = subst (λ (x : Head (StreamSource S) I O giver). IsHead x n head.head.source) (sym head.is) (head.number, refl) })
       head.cause
-  is_met k before after fault at same (IsTold.not_linked n place element here alone) = IsMet.not_linked n element place here alone
+  is_met k before after fault at same (IsTold.not_linked source place element here there alone) = IsMet.not_linked source element place here there alone
   is_met k before after fault at same (IsTold.full n within) = let one = made_at made n within in IsMet.full n one.0 one.1
   is_met k before after fault at same IsTold.no_memory = IsMet.no_memory

@@ -6,7 +6,7 @@ use Rattle.std.proofs.lemmas.List.{length-map}
 use Rattle.std.proofs.lemmas.Option.{same_Some}
 use Rattle.el_set.specs.Gives.{source_file}
 use Rattle.el_set.specs.Made.{file_for, read_for}
-use Rattle.graph_bags.specs.Links.{is_source}
+use Rattle.el_settings.specs.Asked.{is_source}
 use Rattle.graph_core.specs.Elements.{Made}
 use Rattle.graph_files.specs.Ends.{at, sink_end, source_end}
 use Rattle.graph_files.specs.Files.{GraphOpens, made_opening, opening_of}
@@ -114,7 +114,7 @@ module _ {S K : Type 0} (s : sources.Ghosts S) (k : sinks.Ghosts K) (made : List
         → file_in x ≡ file_for m.settings (sink_end (at ends e))
     element_writes e m x here is =
         (subst (λ (found : Option (StreamElement K)). IsMadeFor k m.settings (sink_end (at ends e)) found) (some_there elements_in e x is)
-        (filled.each e m here).element_is).0.1
+        (filled.each e m here).element_is).1
 
     pub source_reads : (e : ℕ) (m : Made) (x : StreamSource S) → slice_get made e ≡ Some m → IsOf sources_in e x
         → source_file x.source ≡ read_for m.settings (source_end (at ends e))

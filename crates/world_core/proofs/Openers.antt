@@ -1,7 +1,8 @@
 -- What is made of an element, what it reads and what it writes, by what it opens.
-use Rattle.std.proofs.Common.{◌≡◌, ◌||◌, not, ℕ, Bool, true, false, eqb, if◌then◌else◌, List, [], Option, Some, None, is_some, refl, sym, ap, ◌∙◌, subst}
+use Rattle.std.proofs.Common.{◌≡◌, ◌||◌, ℕ, Bool, true, false, if◌then◌else◌, List, [], Option, Some, None, is_some, refl, sym, ap, ◌∙◌, subst}
 use Rattle.std.proofs.lemmas.Option.{none-some, same_Some}
-use Rattle.el_settings.specs.Asked.{is_filter, is_queue, location_of, reads, source_pads, writes}
+use Rattle.el_settings.specs.Asked.{Place, Begins, Ends, begins, ends, gathers, is_filter, is_queue, is_source, location_of, makes_sinks, makes_sources, place_of, reads, splits, writes}
+use Rattle.el_settings.specs.Roles.{Role, any_filter, any_join, any_queue, any_tee, drop_sink, file_sink, file_source, made_source}
 use Rattle.el_set.specs.Gives.{source_content, source_file}
 use Rattle.el_set.specs.Made.{IsEmpty, file_for, list_of, makes_sink, makes_source, read_for}
 use Rattle.el_settings.specs.declared.settings.Settings.{Settings}
@@ -9,8 +10,7 @@ use Rattle.el_set.specs.declared.source.SourceElement.{SourceElement}
 use Rattle.el_set.specs.declared.source.SourceElement.TheVariants.{File, Ramp}
 use Rattle.el_set.proofs.Lists.{list_read}
 use Rattle.el_set.proofs.Openings.{content_is, read_is, sink_with, source_with, written_is}
-use Rattle.el_settings.proofs.Roles.{between_pads}
-use Rattle.graph_bags.specs.Links.{is_source}
+use Rattle.el_settings.proofs.Roles.{role_of}
 use Rattle.graph_files.specs.Files.{opening_of}
 use Rattle.graph_files.proofs.OwnFiles.{reading_opens, writing_opens}
 use Rattle.run_files.specs.declared.end.Opening.TheVariants.{Read, Write}
@@ -19,24 +19,36 @@ use Rattle.task_elements.specs.Made.{makes_element}
 -- an element with a sink pad is made, one that writes a file where that is there
 pub makes : {K : Type 0} (settings : Settings) (file : Option K) → is_source settings ≡ false
     → ((location : List ℕ) → opening_of settings ≡ Some (Write location) → is_some file ≡ true) → makes_element settings file ≡ true
-makes settings file pads there = by (eqb (source_pads settings) 0) refl
+makes settings file pads there = by (role_of settings)
   where
-    first : (filter queue sink : Bool) → (filter || queue) ≡ true → (filter || (queue || sink)) ≡ true
-    first true queue sink is = refl
-    first false true sink is = refl
-    first false false sink is = absurd (cc)
+    first : (a b : Bool) → a ≡ true → (a || b) ≡ true
+    first a b is = ap (λ (x : Bool). x || b) is
 
-    last : (filter queue sink : Bool) → sink ≡ true → (filter || (queue || sink)) ≡ true
-    last true queue sink is = refl
-    last false true sink is = refl
-    last false false sink is = is
+    later : (a b : Bool) → b ≡ true → (a || b) ≡ true
+    later true b is = refl
+    later false b is = is
 
     own : writes settings ≡ true → is_some file ≡ true
     own writing = let opens = writing_opens settings writing in there opens.0 opens.1
 
-    by : (none : Bool) → eqb (source_pads settings) 0 ≡ none → makes_element settings file ≡ true
-    by true none = last (is_filter settings) (is_queue settings) (makes_sink settings file) (sink_with settings file none own)
-    by false some = first (is_filter settings) (is_queue settings) (makes_sink settings file) (between_pads settings pads ∙ ap not some)
+    no_source : (p : Place) → place_of settings ≡ p → begins p ≡ true → makes_element settings file ≡ true
+    no_source p place source = absurd (let no : false ≡ true = sym pads ∙ ap begins place ∙ source in cc)
+
+    ended : (p : Place) → place_of settings ≡ p → ends p ≡ true → makes_element settings file ≡ true
+    ended p place sink =
+        later (is_filter settings) _ (later (is_queue settings) _ (later (makes_sources settings) _ (later (makes_sinks settings) (makes_sink settings file)
+        (sink_with settings file (ap ends place ∙ sink) own))))
+
+    by : Role settings → makes_element settings file ≡ true
+    by (file_source location t) = no_source Begins t.place_is refl
+    by (made_source t) = no_source Begins t.place_is refl
+    by (any_filter t) = first (is_filter settings) _ t.filter_is
+    by (any_queue t) = later (is_filter settings) _ (first (is_queue settings) _ t.queue_is)
+    by (any_tee n t) = later (is_filter settings) _ (later (is_queue settings) _ (first (makes_sources settings) _ (ap splits t.place_is)))
+    by (any_join n t) =
+        later (is_filter settings) _ (later (is_queue settings) _ (later (makes_sources settings) _ (first (makes_sinks settings) _ (ap gathers t.place_is))))
+    by (file_sink location t) = ended Ends t.place_is refl
+    by (drop_sink t) = ended Ends t.place_is refl
 
 -- a source is made, one that reads a file where that is there
 pub gives : {S : Type 0} (settings : Settings) (file : Option S) → is_source settings ≡ true

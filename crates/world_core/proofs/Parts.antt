@@ -10,6 +10,7 @@ use Rattle.net_model.specs.declared.source.TaskSource as givers
 use Rattle.flow_model.specs.Item.{Item, body_of}
 use Rattle.flow_model.specs.SinkBytes.{disk_after}
 use Rattle.graph_core.specs.Elements.{Made}
+use Rattle.graph_core.specs.Allowed.{first_pad}
 use Rattle.graph_core.specs.Graph.{made as made_in, links as links_in}
 use Rattle.graph_core.specs.declared.graph.Graph.{Graph}
 use Rattle.graph_ends.specs.Owed.{IsAwaited, came_to}
@@ -39,7 +40,7 @@ module _ {S K I O L : Type 0} {giver : givers.Ghosts (StreamSource S)} {taker : 
     (once : (y : StreamElement K) → HasElement last rest d y → y ≡ x)
     (behind : AllBehind k graph last rest m contents (WriteFault d a b)) (others : RestHasCame k graph last rest m) where
   abbrev came : List Item
-  came = came_to (links_in graph) (crossed_in graph m) d
+  came = came_to (links_in graph) (crossed_in graph m) (first_pad d)
 
   keeps : keep_of (made_in graph) d ≡ keeps_flushed one.settings
   keeps = ap (λ found. option_map_or (λ (y : Made). keeps_flushed y.settings) found false) here
@@ -71,7 +72,7 @@ module _ {S K I O L : Type 0} {giver : givers.Ghosts (StreamSource S)} {taker : 
           subst (λ (bs : List ℕ). HoldsBytes k y other bs) (sym (at_other d own (all_bytes graph m) c apart))
           (came_all k graph last rest m contents (WriteFault d a b) behind others c place y there also not_memory (other_write c apart) (keep_of (made_in graph) c) other told)
 
-  part_of : (item : Item) → IsAwaited contents (made_in graph) (links_in graph) (crossed_in graph m) d item → (count : ℕ)
+  part_of : (item : Item) → IsAwaited contents (made_in graph) (links_in graph) (crossed_in graph m) (first_pad d) item → (count : ℕ)
       → let disk = disk_after (keep_of (made_in graph) d) came in HoldsBytes k x file (written disk.bytes disk.place (take count (body_of item)))
       → PartHeld k graph last rest m contents d one.settings
   part_of item awaited count holds =
@@ -82,17 +83,15 @@ module _ {S K I O L : Type 0} {giver : givers.Ghosts (StreamSource S)} {taker : 
         held = held_with own holds;
         others = λ c apart. at_other d own (all_bytes graph m) c apart;
         part = record {
-          before = awaited.before;
-          linked = awaited.linked;
           item = item;
-          next = awaited.next;
+          awaited = awaited;
           part = count;
           bytes_are = at_here d own (all_bytes graph m)
               ∙ ap (λ keep. let one_disk = disk_after keep came in written one_disk.bytes one_disk.place (take count (body_of item))) keeps;
         };
       }
 
-  pub part_held : (item : Item) → IsAwaited contents (made_in graph) (links_in graph) (crossed_in graph m) d item → PartHeld k graph last rest m contents d one.settings
+  pub part_held : (item : Item) → IsAwaited contents (made_in graph) (links_in graph) (crossed_in graph m) (first_pad d) item → PartHeld k graph last rest m contents d one.settings
   part_held item awaited = by has
     where
       whole : HasCame k graph last rest m d x → PartHeld k graph last rest m contents d one.settings

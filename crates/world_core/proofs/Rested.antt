@@ -1,5 +1,5 @@
 -- The elements that are of no task: where one writes a file that is empty, nothing came to it, and it is of no bag.
-use Rattle.std.proofs.Common.{◌≡◌, ◌⊎◌, ◌++◌, ℕ, true, false, List, [], ◌∷◌, Option, Some, map, sym, ap, ◌∙◌, subst, inl, inr, arith}
+use Rattle.std.proofs.Common.{◌≡◌, ◌⊎◌, ◌++◌, ℕ, true, false, List, [], ◌∷◌, Option, Some, map, replicate, sym, ap, ◌∙◌, subst, inl, inr, arith}
 use Rattle.std.specs.Prelude.{slice_get}
 use Rattle.std.specs.Option.{option_map_or}
 use Rattle.std.proofs.lemmas.Option.{slice_get_within}
@@ -9,7 +9,9 @@ use Rattle.flow_model.specs.Account.{IsMember}
 use Rattle.flow_model.specs.Item.{Item}
 use Rattle.graph_bags.specs.Bags.{IsBag, IsHead, head_cells, number_of}
 use Rattle.graph_bags.specs.Laws.{StandsIn}
-use Rattle.graph_bags.specs.Links.{has, is_source}
+use Rattle.graph_bags.specs.Links.{has}
+use Rattle.el_settings.proofs.Roles.{end_sinks}
+use Rattle.el_settings.specs.Asked.{is_source}
 use Rattle.graph_bags.specs.declared.bag.Bag.{Bag}
 use Rattle.graph_bags.specs.declared.bag.BagElement.{BagElement}
 use Rattle.graph_bags.specs.declared.bag.BagHead.{BagHead}
@@ -35,6 +37,7 @@ use Rattle.net_task.specs.declared.task.Task.{Task}
 use Rattle.run_files.specs.declared.end.End.{End}
 use Rattle.run_files.specs.declared.end.Opening.TheVariants.{Write}
 use Rattle.task_elements.specs.Made.{behavior_of}
+use Rattle.task_elements.specs.Stands.{StreamStands}
 use Rattle.task_elements.specs.declared.element.StreamElement.{StreamElement}
 use Rattle.task_elements.specs.declared.source.StreamSource.{StreamSource}
 use Rattle.world_core.specs.Start.{IsStarted}
@@ -82,9 +85,11 @@ module _ {S K I O L : Type 0} {giver : givers.Ghosts (StreamSource S)} {taker : 
   pub rest_fresh : (d : ℕ) (location : List ℕ) (x : StreamElement K) → OpensAt (made_in graph) d (Write location) → slice_get rest d ≡ Some (Some x)
       → HasAll k x []
   rest_fresh d location x opens is =
+      let one = end_sinks opens.element.settings (writer opens.element.settings location opens.opens).sink in
       fresh_all s k (behavior_of opens.element.settings) x
+      (subst (λ (n : ℕ). StreamStands k.bytes x (behavior_of opens.element.settings) (replicate n [])) one
       (made_at s k (made_in graph) started.ends before started.opened started.opens started.elements_in started.sources_in left started.filled d opens.element x
-      opens.at (rest_at d x is)).0
+      opens.at (rest_at d x is)).0)
 
   -- an element of a bag, with its place there, is of its task
   bag_taken : (j d : ℕ) (bag : Bag) → slice_get started.bags j ≡ Some bag → IsMember d (map number_of bag.elements.items)
@@ -122,4 +127,4 @@ module _ {S K I O L : Type 0} {giver : givers.Ghosts (StreamSource S)} {taker : 
       → IsSettled contents graph started.bags m last → RestHasCame k graph last rest m
   rested last contents m settled d location x opens is =
       let w = slice_get_within (made_in graph) d opens.element opens.at in
-      subst (λ (list : List Item). HasAll k x list) (sym (settled.quiet d w (rest_loose d location x opens is)).came) (rest_fresh d location x opens is)
+      subst (λ (list : List Item). HasAll k x list) (sym ((settled.quiet d w (rest_loose d location x opens is)).came 0)) (rest_fresh d location x opens is)

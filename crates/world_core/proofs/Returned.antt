@@ -18,13 +18,15 @@ use Rattle.run_files.specs.declared.end.End.{End}
 use Rattle.run_files.specs.declared.end.End.TheVariants.{Src, Snk}
 use Rattle.task_elements.specs.Stands.{file_in, len_in}
 use Rattle.task_elements.specs.declared.element.StreamElement.{StreamElement}
-use Rattle.task_elements.specs.declared.element.StreamElement.TheVariants.{Filter, Queue, Sink}
+use Rattle.task_elements.specs.declared.element.StreamElement.TheVariants.{Filter, Join, Queue, Sink, Tee}
 use Rattle.task_elements.specs.declared.source.StreamSource.{StreamSource}
 
 -- an element that has a file has its length
 pub has_length : {K : Type 0} (x : StreamElement K) (file : K) → file_in x ≡ Some file → (n : ℕ) × (len_in x ≡ Some n)
 has_length (Filter filter) file is = absurd (cc)
 has_length (Queue queue) file is = absurd (cc)
+has_length (Tee tee) file is = absurd (cc)
+has_length (Join join) file is = absurd (cc)
 has_length (Sink (sink_elements.File sink)) file is = (length_of sink, refl)
 has_length (Sink (sink_elements.Fake sink)) file is = absurd (cc)
 

@@ -14,7 +14,7 @@ last_there [] x (suc d) h = absurd (omega (arith, h))
 last_there (z ∷ zs) x zero h = absurd (omega (arith, h))
 last_there (z ∷ zs) x (suc d) h = last_there zs x d (omega (arith, h))
 
-same_or_less : (a b : ℕ) → a < b + 1 → (a ≡ b) ⊎ (a < b)
+pub same_or_less : (a b : ℕ) → a < b + 1 → (a ≡ b) ⊎ (a < b)
 same_or_less zero zero w = inl refl
 same_or_less zero (suc b) w = inr (omega arith)
 same_or_less (suc a) zero w = absurd (omega (arith, w))

@@ -30,17 +30,17 @@ use Rattle.run_files.specs.declared.end.End.{End}
 use Rattle.task_elements.specs.Stands.{file_in}
 use Rattle.task_elements.specs.declared.element.StreamElement.{StreamElement}
 use Rattle.task_elements.specs.declared.source.StreamSource.{StreamSource}
-use Rattle.task_parts.specs.declared.fault.TaskFault.{TaskFault}
 use Rattle.task_parts.specs.declared.step.Step.{Step}
 use Rattle.turn_order.specs.declared.order.Order.{Order}
 use Rattle.turn_order.specs.declared.turns.Turns.{Turns}
 use Rattle.world_core.specs.Ended.{HasEnded}
 use Rattle.world_core.specs.Laws.{Laws}
-use Rattle.world_core.specs.Ran.{KnownFailed, KnownHold, TellsEnd, stop_fault, stop_status}
+use Rattle.world_core.specs.Ran.{KnownFailed, KnownHold, StopsAs, TellsEnd, stop_fault, stop_status}
 use Rattle.world_core.specs.Start.{IsStarted}
 use Rattle.world_core.specs.Stopped.{HasRun}
 use Rattle.world_core.specs.Told.{pads_told, sinks_told}
 use Rattle.world_core.specs.declared.ended.WorldEnd.{WorldEnd}
+use Rattle.world_core.specs.declared.report.Stop.{Stop}
 use Rattle.world_core.proofs.AtHand.{MakesStreams}
 use Rattle.world_core.proofs.Ending.{run_ended}
 use Rattle.world_core.proofs.Files.{run_located}
@@ -54,7 +54,7 @@ source_fails faults (File file) = refl
 source_fails faults (Ramp ramp) = refl
 
 -- what is told is so by what is equal
-pub told_by : (made : List Made) (end : WorldEnd) {stop other : Option TaskFault} {counts pads : List Count} {lengths sizes : List ℕ} → other ≡ stop → pads ≡ counts → sizes ≡ lengths
+pub told_by : (made : List Made) (end : WorldEnd) {stop other : Stop} {counts pads : List Count} {lengths sizes : List ℕ} → other ≡ stop → pads ≡ counts → sizes ≡ lengths
     → TellsEnd made other pads sizes end → TellsEnd made stop counts lengths end
 told_by made end same pads sizes tells = record {
   status = tells.status ∙ ap stop_status same;
@@ -79,13 +79,13 @@ module _ {S K I O L : Type 0} {giver : givers.Ghosts (StreamSource S)} {taker : 
 
   -- how it has ended
   pub made_ended : Laws giver taker i o k → ((x : StreamSource S) → giver.failures x ≡ option_map s.faults (source_file x.source)) → (ends : List (Option (End S K))) (end : WorldEnd)
-      → {A : Type 0} (order : Order) (turns : Turns) (steps : List Step) (over : Option (List Lane)) (ran : Result A Stopped)
+      → {A : Type 0} (order : Order) (turns : Turns) (steps : List Step) (over : Option (List Lane)) (ran : Result A Stopped) (stop : Stop)
       → IfOk ran (λ done. (m : Moment) → NetStands m first tells → NetEnded m last steps over)
       → IfErr ran (λ stop. (m : Moment) → NetStands m first tells → NetFaulted m last stop.task stop.fault)
-      → RunBy order 0 first tells turns (stop_of ran) last → IsTold graph last rest left ends (stop_of ran) end → end.status ≢ 13
+      → RunBy order 0 first tells turns (stop_of ran) last → StopsAs graph last steps (stop_of ran) stop → IsTold graph last rest left ends stop end → end.status ≢ 13
       → HasEnded graph before (KnownHold graph (known_ends s k ends)) (KnownFailed (known_ends s k ends)) end
-  made_ended laws read_fails ends end order turns steps over ran ended faulted by told some =
+  made_ended laws read_fails ends end order turns steps over ran stop ended faulted by stopped told some =
       run_ended s k laws graph first last rest left tells before run (started_once s k graph first rest left tells before started)
       (λ contents m settled. rested s k graph first rest left tells before started last contents m settled)
       (λ contents were. started_at s k graph first rest left tells before started are contents were)
-      taken given read_fails ends end order turns steps over ran ended faulted by told some
+      taken given read_fails ends end order turns steps over ran stop ended faulted by stopped told some

@@ -12,6 +12,7 @@ use Rattle.flow_model.specs.SinkBytes.{sink_bytes}
 use Rattle.graph_bags.specs.Laws.{StandsIn}
 use Rattle.graph_bags.specs.declared.bag.Bag.{Bag}
 use Rattle.graph_core.specs.Elements.{Made}
+use Rattle.graph_core.specs.Allowed.{first_pad}
 use Rattle.graph_core.specs.Graph.{made as made_in, links as links_in}
 use Rattle.graph_core.specs.declared.graph.Graph.{Graph}
 use Rattle.graph_ends.specs.Ended.{IsQuiet}
@@ -41,12 +42,12 @@ use Rattle.run_report.specs.declared.report.PadCount.{PadCount}
 use Rattle.task_elements.specs.Stands.{file_in}
 use Rattle.task_elements.specs.declared.element.StreamElement.{StreamElement}
 use Rattle.task_elements.specs.declared.source.StreamSource.{StreamSource}
-use Rattle.task_parts.specs.declared.fault.TaskFault.{TaskFault}
 use Rattle.world_core.specs.Ended.{IsRendered, most_items}
 use Rattle.world_core.specs.Prepared.{HasRoom}
 use Rattle.world_core.specs.Ran.{KnownHold, TellsEnd}
 use Rattle.world_core.specs.Stopped.{HasRun}
 use Rattle.world_core.specs.declared.ended.WorldEnd.{WorldEnd}
+use Rattle.world_core.specs.declared.report.Stop.{Stop}
 use Rattle.world_core.proofs.Counted.{counts_are, lengths_by, limits_are}
 use Rattle.world_core.proofs.Files.{element_there, have_bags, known_sink, length_there, written_file}
 use Rattle.graph_files.proofs.OwnFiles.{writer}
@@ -61,7 +62,7 @@ module _ {S K I O L : Type 0} {giver : givers.Ghosts (StreamSource S)} {taker : 
 
   -- what was counted and given back, and what is told of it
   pub record IsTold (graph : Graph) (last : List (Task (StreamSource S) (StreamElement K) I O L giver taker i o)) (rest : List (Option (StreamElement K))) (left ends : List (Option (End S K)))
-      (stop : Option TaskFault) (end : WorldEnd) : Type 0 where
+      (stop : Stop) (end : WorldEnd) : Type 0 where
     pub none : List Count
     pub counts : List Count
     pub zeros : List ℕ
@@ -83,18 +84,18 @@ keep_of made d = option_map_or (λ (m : Made). keeps_flushed m.settings) (slice_
 
 -- the bytes of all that came to each element
 abbrev pub all_bytes : Graph → Moment → ℕ → List ℕ
-all_bytes graph m d = sink_bytes (keep_of (made_in graph) d) (came_to (links_in graph) (crossed_in graph m) d)
+all_bytes graph m d = sink_bytes (keep_of (made_in graph) d) (came_to (links_in graph) (crossed_in graph m) (first_pad d))
 
 -- those are what is written
 pub all_written : (graph : Graph) (m : Moment) → AreWritten (made_in graph) (links_in graph) (crossed_in graph m) (all_bytes graph m)
-all_written graph m d one at writes = ap (λ found. sink_bytes (option_map_or (λ (y : Made). keeps_flushed y.settings) found false) (came_to (links_in graph) (crossed_in graph m) d)) at
+all_written graph m d one at writes = ap (λ found. sink_bytes (option_map_or (λ (y : Made). keeps_flushed y.settings) found false) (came_to (links_in graph) (crossed_in graph m) (first_pad d))) at
 
 module _ {S K I O L : Type 0} {giver : givers.Ghosts (StreamSource S)} {taker : elements.Ghosts (StreamElement K)} {i : inlets.Ghosts I L O} {o : outlets.Ghosts O L}
     (s : sources.Ghosts S) (k : sinks.Ghosts K) (graph : Graph) (first last : List (Task (StreamSource S) (StreamElement K) I O L giver taker i o))
     (rest : List (Option (StreamElement K))) (left : List (Option (End S K))) (tells : Option (List Lane)) (before : Seen)
     (run : HasRun s k graph first last rest left tells before)
     (taken : (x : StreamElement K) → taker.file x ≡ option_map k.location (file_in x)) (given : (x : StreamSource S) → giver.file x ≡ option_map s.location (source_file x.source))
-    (ends : List (Option (End S K))) (stop : Option TaskFault) (end : WorldEnd) (told : IsTold graph last rest left ends stop end) where
+    (ends : List (Option (End S K))) (stop : Stop) (end : WorldEnd) (told : IsTold graph last rest left ends stop end) where
   -- the ends hold the bytes
   ends_hold : (bytes : ℕ → List ℕ) → AreHeld k graph last rest bytes → KnownHold graph (known_ends s k ends) bytes
   ends_hold bytes held d one location at writes =

@@ -1,16 +1,16 @@
 -- Where the contents of files were told, the elements and sources of a graph stand where its run begins.
-use Rattle.std.proofs.Common.{◌≡◌, ℕ, Bool, true, false, List, [], ◌∷◌, Option, Some, if◌then◌else◌, length, map, refl, sym, ap, ◌∙◌, subst, arith}
+use Rattle.std.proofs.Common.{◌≡◌, ℕ, zero, suc, Bool, true, false, List, [], ◌∷◌, Option, Some, if◌then◌else◌, length, map, replicate, refl, sym, ap, ◌∙◌, subst, arith}
 use Rattle.std.specs.Prelude.{slice_get}
 use Rattle.std.specs.Option.{option_map_or}
 use Rattle.std.proofs.lemmas.Option.{slice_get_within}
-use Rattle.el_settings.specs.Asked.{sink_pads}
+use Rattle.el_settings.specs.Asked.{sink_pads, is_source}
 use Rattle.el_set.specs.Made.{list_of}
 use Rattle.net_model.specs.declared.element.TaskElement as elements
 use Rattle.net_model.specs.declared.source.TaskSource as givers
 use Rattle.flow_model.specs.Call.{Call}
 use Rattle.flow_model.specs.Item.{Item}
 use Rattle.flow_model.specs.Link.{Span}
-use Rattle.graph_bags.specs.Links.{has, is_source}
+use Rattle.graph_bags.specs.Links.{has}
 use Rattle.graph_core.specs.Elements.{Made}
 use Rattle.graph_core.specs.Graph.{made as made_in}
 use Rattle.graph_core.specs.declared.graph.Graph.{Graph}
@@ -32,25 +32,23 @@ use Rattle.task_elements.specs.Owes.{Owes}
 use Rattle.task_elements.specs.declared.element.StreamElement.{StreamElement}
 use Rattle.task_elements.specs.declared.source.StreamSource.{StreamSource}
 use Rattle.world_core.proofs.AtHand.{MakesStreams, given_at, made_at, told_at}
-use Rattle.el_settings.proofs.Roles.{other_sinks}
 
 -- what is asked of an element that is there
 asked_of : (made : List Made) (n : ℕ) (m : Made) → slice_get made n ≡ Some m → has is_source made n ≡ is_source m.settings
 asked_of made n m here = ap (λ (found : Option Made). option_map_or (λ (m : Made). is_source m.settings) found false) here
 
--- one sink pad at which nothing was taken
-one_none : (sss : List (List Span)) → length sss ≡ 1 → ◌≡◌ {A = List (List Call)} ([] ∷ []) (map (λ spans. []) sss)
-one_none [] size = absurd (cc)
-one_none (ss ∷ []) size = refl
-one_none (ss ∷ ts ∷ sss) size = absurd (omega (arith, size))
+-- sink pads at which nothing was taken
+all_none : (sss : List (List Span)) (n : ℕ) → length sss ≡ n → ◌≡◌ {A = List (List Call)} (replicate n []) (map (λ spans. []) sss)
+all_none [] zero size = refl
+all_none [] (suc n) size = absurd (omega (arith, size))
+all_none (ss ∷ sss) zero size = absurd (omega (arith, size))
+all_none (ss ∷ sss) (suc n) size = ap (λ (xs : List (List Call)). [] ∷ xs) (all_none sss n (omega (arith, size)))
 
-took_none : (contents : ℕ → List ℕ) (graph : Graph) (n : ℕ) (m : Made) → slice_get (made_in graph) n ≡ Some m → is_source m.settings ≡ false
-    → ◌≡◌ {A = List (List Call)} ([] ∷ []) ((opening (moment_plan contents graph) (moment_answers graph)).took n)
-took_none contents graph n m here pads =
-    one_none ((moment_plan contents graph).sinks n)
-    (sinks_count contents graph n
-    ∙ ap (λ (found : Option Made). option_map_or (λ (m : Made). sink_pads m.settings) found 0) here
-    ∙ other_sinks m.settings pads)
+took_none : (contents : ℕ → List ℕ) (graph : Graph) (n : ℕ) (m : Made) → slice_get (made_in graph) n ≡ Some m
+    → ◌≡◌ {A = List (List Call)} (replicate (sink_pads m.settings) []) ((opening (moment_plan contents graph) (moment_answers graph)).took n)
+took_none contents graph n m here =
+    all_none ((moment_plan contents graph).sinks n) (sink_pads m.settings)
+    (sinks_count contents graph n ∙ ap (λ (found : Option Made). option_map_or (λ (m : Made). sink_pads m.settings) found 0) here)
 
 -- what a source gives by itself is the list of its settings
 given_here : (made : List Made) (n : ℕ) (m : Made) (content : List ℕ) → slice_get made n ≡ Some m → is_source m.settings ≡ true
@@ -72,9 +70,10 @@ module _ {S K : Type 0} {giver : givers.Ghosts (StreamSource S)} {taker : elemen
       let pads = sym (asked_of (made_in graph) n m.0 m.1) ∙ none in
       let stands = (made_at s k (made_in graph) ends before opened opens elements_in sources_in left filled n m.0 element m.1 is).0 in
       subst (λ (took : List (List Call)). taker.stands element (behavior_at (opening (moment_plan contents graph) (moment_answers graph)) n) took)
-      (took_none contents graph n m.0 m.1 pads)
-      (subst (λ (behavior : Behavior). taker.stands element behavior ([] ∷ [])) (behaviors_are_told contents graph n m.0 m.1 pads)
-      (are.stands element _ ([] ∷ []) stands))
+      (took_none contents graph n m.0 m.1)
+      (subst (λ (behavior : Behavior). taker.stands element behavior (replicate (sink_pads m.0.settings) []))
+      (behaviors_are_told contents graph n m.0 m.1 pads)
+      (are.stands element _ (replicate (sink_pads m.0.settings) []) stands))
 
   -- and each source owes its list, and gave nothing
   pub sources_stand : WereTold (made_in graph) before contents → SourcesStand giver contents graph sources_in

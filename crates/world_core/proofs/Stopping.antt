@@ -8,10 +8,13 @@ use Rattle.el_set.specs.Gives.{source_file}
 use Rattle.net_model.specs.declared.element.TaskElement as elements
 use Rattle.net_model.specs.declared.source.TaskSource as givers
 use Rattle.graph_bags.specs.declared.bag.Bag.{Bag}
-use Rattle.graph_core.specs.Graph.{made as made_in, links as links_in}
+use Rattle.flow_model.specs.Item.{Item}
+use Rattle.graph_core.specs.Graph.{is_live, made as made_in, links as links_in}
 use Rattle.graph_core.specs.declared.graph.Graph.{Graph}
 use Rattle.graph_ends.specs.Frames.{HaveBags, IsFrameOf}
-use Rattle.graph_ends.specs.Runs.{RunStands, RunsAt}
+use Rattle.graph_ends.specs.Over.{joins_in}
+use Rattle.graph_ends.specs.Runs.{RunStands, RunsAt, crossed_in}
+use Rattle.graph_ends.specs.Stalled.{lane_at}
 use Rattle.graph_ends.specs.Written.{IsBehind, StandsBehind, StandsWhole, TaskCrossed}
 use Rattle.graph_files.specs.Files.{WereTold}
 use Rattle.graph_moment.specs.Plans.{moment_answers, moment_plan}
@@ -26,23 +29,31 @@ use Rattle.net_model.specs.Moment.{Moment}
 use Rattle.net_model.specs.Opening.{opening}
 use Rattle.net_task.specs.Frame.{TaskFrame, frame_of}
 use Rattle.net_task.specs.declared.task.Task.{Task}
+use Rattle.net_turns.specs.Alone.{HoldLanes}
+use Rattle.net_turns.specs.Ends.{TellsOver}
 use Rattle.net_turns.specs.Rests.{NetEnded, NetFaulted}
 use Rattle.run_files.specs.Ends.{known_ends}
 use Rattle.run_files.specs.declared.end.End.{End}
+use Rattle.run_report.specs.declared.report.StalledTask.{StalledTask}
 use Rattle.task_elements.specs.Stands.{file_in}
 use Rattle.task_elements.specs.declared.element.StreamElement.{StreamElement}
 use Rattle.task_elements.specs.declared.source.StreamSource.{StreamSource}
 use Rattle.task_parts.specs.declared.fault.TaskFault.{TaskFault}
 use Rattle.task_parts.specs.declared.step.Step.{Step}
-use Rattle.world_core.specs.Ended.{EndsEos}
+use Rattle.world_core.specs.Ended.{EndsEos, EndsStalled, TellsRun}
 use Rattle.world_core.specs.Laws.{Laws}
-use Rattle.world_core.specs.Ran.{KnownHold}
+use Rattle.world_core.specs.Ran.{KnownHold, stop_fault, stop_status}
+use Rattle.world_core.specs.Stalled.{TellsTasks}
 use Rattle.world_core.specs.Stopped.{HasRun}
 use Rattle.world_core.specs.declared.ended.WorldEnd.{WorldEnd}
+use Rattle.world_core.specs.declared.report.Stop.{Stop}
+use Rattle.world_core.specs.declared.report.Stop.TheVariants as stops
 use Rattle.world_core.proofs.Faulted.{IsFaulted}
 use Rattle.world_core.proofs.Files.{have_bags}
 use Rattle.world_core.proofs.Held.{RestHasCame, whole_held}
+use Rattle.world_core.proofs.OverRuns.{run_is_over}
 use Rattle.world_core.proofs.Settled.{IsSettled, IsTold, all_bytes, all_written, rendered}
+use Rattle.world_core.proofs.StallTold.{run_is_stalled}
 
 -- lists that have something at the same places are as long
 same_length : {A B : Type 0} (xs : List A) (ys : List B) → ((n : ℕ) (x : A) → slice_get xs n ≡ Some x → (y : B) × (slice_get ys n ≡ Some y))
@@ -106,7 +117,7 @@ module _ {S K I O L : Type 0} {giver : givers.Ghosts (StreamSource S)} {taker : 
     (k : sinks.Ghosts K) (laws : Laws giver taker i o k) (contents : ℕ → List ℕ) (graph : Graph) (bags : List Bag) where
   stands_at : (m : Moment) (tasks : List (Task (StreamSource S) (StreamElement K) I O L giver taker i o)) (tells : Option (List Lane)) → RunsAt contents graph bags m tasks tells
       → RunStands contents graph m
-  stands_at m tasks tells at = record { plan = at.plan; answers = at.answers; cells = at.net.cells }
+  stands_at m tasks tells at = laws.runs laws.streams contents graph bags m tasks tells at
 
   settled_at : (m : Moment) (tasks last : List (Task (StreamSource S) (StreamElement K) I O L giver taker i o)) (tells : Option (List Lane)) → RunsAt contents graph bags m tasks tells
       → ((place : ℕ) (task : Task (StreamSource S) (StreamElement K) I O L giver taker i o) → slice_get last place ≡ Some task → TaskCrossed m task)
@@ -166,31 +177,67 @@ module _ {S K I O L : Type 0} {giver : givers.Ghosts (StreamSource S)} {taker : 
       settled : IsSettled contents graph run.started.bags f.last last
       settled = settled_at k laws contents graph run.started.bags f.last f.was last f.tells at (λ n task to. (behind n task to).crossed)
 
-  -- a run in which no task can move is whole
-  pub is_over : (taken : (x : StreamElement K) → taker.file x ≡ option_map k.location (file_in x)) (given : (x : StreamSource S) → giver.file x ≡ option_map s.location (source_file x.source))
-      (ends : List (Option (End S K))) (end : WorldEnd) → IsTold graph last rest left ends None end → (steps : List Step) (over : Option (List Lane))
-      → ((contents : ℕ → List ℕ) → WereTold (made_in graph) before contents → NetEnded (opening (moment_plan contents graph) (moment_answers graph)) last steps over)
-      → EndsEos graph before (KnownHold graph (known_ends s k ends)) end
-  is_over taken given ends end told steps over ended = record {
-    status = told.tells.status;
-    fault = told.tells.fault;
-    tells = λ contents were.
+  -- what is told of a run in which no task can move
+  module _ (taken : (x : StreamElement K) → taker.file x ≡ option_map k.location (file_in x)) (given : (x : StreamSource S) → giver.file x ≡ option_map s.location (source_file x.source))
+      (ends : List (Option (End S K))) (end : WorldEnd) (stop : Stop) (told : IsTold graph last rest left ends stop end) (steps : List Step) (over : Option (List Lane))
+      (ended : (contents : ℕ → List ℕ) → WereTold (made_in graph) before contents → NetEnded (opening (moment_plan contents graph) (moment_answers graph)) last steps over) where
+    abbrev have : HaveBags (made_in graph) (links_in graph) run.started.bags last
+    have = have_bags s k graph first last rest left tells before run
+
+    rest_at : (contents : ℕ → List ℕ) → (e : NetEnded (opening (moment_plan contents graph) (moment_answers graph)) last steps over)
+        → RunsAt contents graph run.started.bags e.last last over
+    rest_at contents e = record {
+      sound = run.started.sound;
+      once = once;
+      bags_are = run.started.bags_are;
+      have = have;
+      plan = e.goes_on.plan;
+      answers = e.goes_on.answers;
+      net = e.rests.net;
+    }
+
+    rest_told : (Cause : (ℕ → List ℕ) → (ℕ → List Item) → (ℕ → List ℕ) → Type 0)
+        → ((contents : ℕ → List ℕ) → WereTold (made_in graph) before contents → (e : NetEnded (opening (moment_plan contents graph) (moment_answers graph)) last steps over)
+        → RunsAt contents graph run.started.bags e.last last over → Cause contents (crossed_in graph e.last) (all_bytes graph e.last))
+        → TellsRun graph before (KnownHold graph (known_ends s k ends)) end.report Cause
+    rest_told Cause causes contents were =
         let e = ended contents were in
-        let at : RunsAt contents graph run.started.bags e.last last over = record {
-          sound = run.started.sound;
-          once = once;
-          bags_are = run.started.bags_are;
-          have = have_bags s k graph first last rest left tells before run;
-          plan = e.goes_on.plan;
-          answers = e.goes_on.answers;
-          net = e.rests.net;
-        } in
-        let stands = stands_at k laws contents graph run.started.bags e.last last over at in
-        let empty = laws.empty laws.wants contents graph run.started.bags e.last last steps over at e.rests in
+        let at = rest_at contents e in
         let whole : (n : ℕ) (task : Task (StreamSource S) (StreamElement K) I O L giver taker i o) → slice_get last n ≡ Some task → StandsWhole k graph e.last task
         = λ n task to. laws.stand laws.streams contents graph run.started.bags e.last last over at n task to in
         let settled = settled_at k laws contents graph run.started.bags e.last last last over at (λ n task to. (whole n task to).crossed) in
-        rendered s k graph first last rest left tells before run taken given ends None end told contents e.last settled (all_bytes graph e.last)
-        (whole_held k graph last rest e.last whole (rested contents e.last settled)) _
-        (all_written graph e.last, laws.whole contents graph e.last run.started.sound stands empty, laws.over laws.streams run.started.tree contents graph run.started.bags e.last last over run.started.is at empty);
-  }
+        rendered s k graph first last rest left tells before run taken given ends stop end told contents e.last settled (all_bytes graph e.last)
+        (whole_held k graph last rest e.last whole (rested contents e.last settled)) (Cause contents) (causes contents were e at)
+
+    -- where the steps tell that it is over, it is
+    pub is_over : stop ≡ stops.Over → TellsOver (is_live graph) (joins_in graph) last steps → EndsEos graph before (KnownHold graph (known_ends s k ends)) end
+    is_over is tells_over = record {
+      status = told.tells.status ∙ ap stop_status is;
+      fault = told.tells.fault ∙ ap (stop_fault (made_in graph)) is;
+      tells = rest_told _ (λ contents were e at.
+          let stands = stands_at k laws contents graph run.started.bags e.last last over at in
+          let net = (laws.over laws.streams run.started.tree contents graph run.started.bags e.last last steps over run.started.is at e.rests).0 tells_over in (
+            all_written graph e.last,
+            laws.whole contents graph e.last run.started.sound stands net.0.left,
+            run_is_over contents graph e.last run.started.sound stands net.0.left run.started.bags last have run.started.bags_are net.0.ended net.1,
+          ));
+    }
+
+    -- and else it is stalled
+    pub is_stalled : (tasks : List StalledTask) → stop ≡ stops.Stalled tasks → (TellsOver (is_live graph) (joins_in graph) last steps → ⊥)
+        → TellsTasks (made_in graph) last steps tasks
+        → ((contents : ℕ → List ℕ) → WereTold (made_in graph) before contents → HoldLanes (lane_at (made_in graph) (links_in graph)) last)
+        → EndsStalled graph before (KnownHold graph (known_ends s k ends)) end
+    is_stalled tasks is none tells_tasks rows = record {
+      status = told.tells.status ∙ ap stop_status is;
+      tasks = tasks;
+      fault = told.tells.fault ∙ ap (stop_fault (made_in graph)) is;
+      tells = rest_told _ (λ contents were e at. (
+        all_written graph e.last,
+        run_is_stalled contents graph e.last run.started.bags last steps have run.started.bags_are
+            (laws.stuck laws.streams contents graph run.started.bags e.last last steps over at (rows contents were) e.rests)
+            (λ n task to. let answered = e.rests.rests n task tt to in (answered.0, answered.1))
+            tasks tells_tasks none
+            (laws.lines laws.streams run.started.tree contents graph run.started.bags e.last last steps over run.started.is at e.rests),
+      ));
+    }

@@ -8,7 +8,7 @@ use Rattle.flow_model.specs.Account.{IsMember}
 use Rattle.graph_bags.specs.Bags.{Once}
 use Rattle.graph_bags.specs.declared.bag.Bag.{Bag}
 use Rattle.graph_core.specs.Elements.{Made}
-use Rattle.graph_core.specs.declared.pad.PadLink.{PadLink}
+use Rattle.graph_pads.specs.declared.pad.PadLink.{PadLink}
 use Rattle.graph_tasks.specs.Tasks.{AreTasks, IsOf}
 use Rattle.graph_tasks.specs.Wired.{AreWired, number_in, part_numbers}
 use Rattle.graph_tasks.specs.declared.wired_task.WiredTask.{WiredTask}

@@ -9,20 +9,26 @@ use Rattle.flow_model.specs.Eval.{eval}
 use Rattle.flow_model.specs.Item.{Item}
 use Rattle.graph_core.specs.Elements.{Made}
 use Rattle.graph_core.specs.Graph.{made as made_in, links as links_in}
-use Rattle.graph_core.specs.Links.{sink_behind}
+use Rattle.graph_pads.specs.Links.{sink_behind}
 use Rattle.graph_core.specs.declared.graph.Graph.{Graph}
-use Rattle.graph_core.specs.declared.pad.PadLink.{PadLink}
+use Rattle.graph_pads.specs.declared.pad.PadLink.{PadLink}
+use Rattle.graph_pads.specs.declared.pad.PadPlace.{PadPlace}
+use Rattle.el_settings.specs.Asked.{source_pads}
 use Rattle.el_settings.specs.declared.settings.Settings.{Settings}
-use Rattle.graph_core.specs.Allowed.{first_pad}
+use Rattle.graph_bags.specs.Links.{place_at}
 use Rattle.graph_files.specs.Files.{WereTold, opening_of}
 use Rattle.graph_core.specs.GraphPlan.{graph_plan, owner_of}
 use Rattle.gst_outside.specs.Seen.{Seen}
 use Rattle.run_files.specs.declared.end.Opening.TheVariants.{Read, Write}
 use Rattle.run_report.specs.declared.report.Fault.TheVariants as faults
 use Rattle.run_report.specs.declared.report.Report.{Report}
-use Rattle.graph_ends.specs.Owed.{AreOver, AreWhole, AreWritten, IsOwedMore, IsPartWritten, IsWritten, Refuses, WantsLink, went_from}
+use Rattle.run_report.specs.declared.report.StalledTask.{StalledTask}
+use Rattle.graph_ends.specs.Owed.{AreWhole, AreWritten, IsOwedMore, IsPartWritten, IsWritten, Refuses, WantsLink, went_from}
 use Rattle.world_core.specs.Cut.{IsCutBefore}
-use Rattle.world_core.specs.Told.{element_fault, element_status, pad_entries, sink_entries, source_pad}
+use Rattle.world_core.specs.Over.{IsOver}
+use Rattle.world_core.specs.Pads.{source_name}
+use Rattle.world_core.specs.Stalled.{IsStalled}
+use Rattle.world_core.specs.Told.{element_fault, element_status, pad_entries, sink_entries}
 use Rattle.world_core.specs.declared.ended.WorldEnd.{WorldEnd}
 
 -- the most items that cross a pad
@@ -45,11 +51,20 @@ pub record IsRendered (contents : ℕ → List ℕ) (graph : Graph) (Holds : (�
 abbrev pub TellsRun : Graph → Seen → ((ℕ → List ℕ) → Type 0) → Report → ((ℕ → List ℕ) → (ℕ → List Item) → (ℕ → List ℕ) → Type 0) → Type 0
 TellsRun graph before Holds report Cause = (contents : ℕ → List ℕ) → WereTold (made_in graph) before contents → IsRendered contents graph Holds report (Cause contents)
 
--- EOS came to all live sinks, and every pad is whole.
+-- The run is over, so EOS came to all live sinks, and every pad is whole.
 pub record EndsEos (graph : Graph) (before : Seen) (Holds : (ℕ → List ℕ) → Type 0) (end : WorldEnd) : Type 0 where
   pub status : end.status ≡ 0
   pub fault : end.report.fault ≡ faults.Nothing
-  pub tells : TellsRun graph before Holds end.report (λ contents h bytes. AreWritten (made_in graph) (links_in graph) h bytes × AreWhole contents graph h × AreOver graph h)
+  pub tells : TellsRun graph before Holds end.report
+      (λ contents h bytes. AreWritten (made_in graph) (links_in graph) h bytes × AreWhole contents graph h × IsOver contents graph h h)
+
+-- No task can go on, each for the reason that is told, and the condition of status 0 does not hold.
+pub record EndsStalled (graph : Graph) (before : Seen) (Holds : (ℕ → List ℕ) → Type 0) (end : WorldEnd) : Type 0 where
+  pub status : end.status ≡ 12
+  pub tasks : List StalledTask
+  pub fault : end.report.fault ≡ faults.Stalled None tasks
+  pub tells : TellsRun graph before Holds end.report
+      (λ contents h bytes. AreWritten (made_in graph) (links_in graph) h bytes × IsStalled contents graph h tasks)
 
 -- A source could not be read: what crossed its pad is cut before what could not be read, and has no EOS.
 pub record EndsUnread (graph : Graph) (before : Seen) (Holds : (ℕ → List ℕ) → Type 0) (Failed : ℕ → ℕ → Type 0) (end : WorldEnd) : Type 0 where
@@ -94,23 +109,29 @@ pub record EndsRefused (graph : Graph) (before : Seen) (Holds : (ℕ → List �
   pub tells : TellsRun graph before Holds end.report
       (λ contents h bytes. AreWritten (made_in graph) (links_in graph) h bytes × Refuses contents (made_in graph) (links_in graph) h d element.settings own)
 
--- A buffer is owed to a pad that is not linked.
+-- A buffer is owed to a source pad that is not linked, nor is any other of its element.
 pub record EndsUnlinked (graph : Graph) (before : Seen) (Holds : (ℕ → List ℕ) → Type 0) (end : WorldEnd) : Type 0 where
   pub status : end.status ≡ 11
-  pub e : ℕ
+  pub source : PadPlace
   pub element : Made
-  pub at : slice_get (made_in graph) e ≡ Some element
-  pub alone : sink_behind (links_in graph) (first_pad e) ≡ None
+  pub at : slice_get (made_in graph) source.element ≡ Some element
+  pub there : source.pad < source_pads element.settings
+  pub alone : sink_behind (links_in graph) source ≡ None
   pub place : ℕ
-  pub fault : end.report.fault ≡ faults.NotLinked (source_pad (made_in graph) e) place
+  pub fault : end.report.fault ≡ faults.NotLinked (source_name (made_in graph) source) place
   pub tells : TellsRun graph before Holds end.report
-      (λ contents h bytes. AreWritten (made_in graph) (links_in graph) h bytes × (length (went_from h e) ≡ place) × WantsLink contents (made_in graph) (links_in graph) h e)
+      (λ contents h bytes. AreWritten (made_in graph) (links_in graph) h bytes × (length (went_from h source) ≡ place)
+      × WantsLink contents (made_in graph) (links_in graph) h source)
 
--- another item is owed to the pad of an element, or its rule has at its next item the fault that looks alike
-abbrev pub PassesLimit : (ℕ → List ℕ) → List Made → List PadLink → (ℕ → List Item) → ℕ → Settings → Type 0
-PassesLimit contents made links h e settings = IsOwedMore contents made links h e ⊎ Refuses contents made links h e settings (TooLong most_items 1)
+-- The most items crossed a source pad of an element, and another item is owed there, or the rule of the element has at its next item
+-- the fault that looks alike.
+pub record PassesLimit (contents : ℕ → List ℕ) (made : List Made) (links : List PadLink) (h : ℕ → List Item) (e : ℕ) (settings : Settings) : Type 0 where
+  pub pad : ℕ
+  pub there : pad < source_pads settings
+  pub full : length (went_from h (place_at e pad)) ≡ most_items
+  pub more : IsOwedMore contents made links h (place_at e pad) ⊎ Refuses contents made links h e settings (TooLong most_items 1)
 
--- More items than the limit were to cross the pad of an element.
+-- More items than the limit were to cross a pad of an element.
 pub record EndsTooLong (graph : Graph) (before : Seen) (Holds : (ℕ → List ℕ) → Type 0) (end : WorldEnd) : Type 0 where
   pub status : end.status ≡ 15
   pub e : ℕ
@@ -118,10 +139,9 @@ pub record EndsTooLong (graph : Graph) (before : Seen) (Holds : (ℕ → List �
   pub at : slice_get (made_in graph) e ≡ Some element
   pub fault : end.report.fault ≡ faults.TooLong element.name most_items 1
   pub tells : TellsRun graph before Holds end.report
-      (λ contents h bytes. AreWritten (made_in graph) (links_in graph) h bytes × (length (went_from h e) ≡ most_items)
-      × PassesLimit contents (made_in graph) (links_in graph) h e element.settings)
+      (λ contents h bytes. AreWritten (made_in graph) (links_in graph) h bytes × PassesLimit contents (made_in graph) (links_in graph) h e element.settings)
 
 abbrev pub HasEnded : Graph → Seen → ((ℕ → List ℕ) → Type 0) → (ℕ → ℕ → Type 0) → WorldEnd → Type 0
 HasEnded graph before Holds Failed end =
     EndsEos graph before Holds end ⊎ EndsUnread graph before Holds Failed end ⊎ EndsUnwritten graph before Holds Failed end
-    ⊎ EndsRefused graph before Holds end ⊎ EndsUnlinked graph before Holds end ⊎ EndsTooLong graph before Holds end
+    ⊎ EndsRefused graph before Holds end ⊎ EndsUnlinked graph before Holds end ⊎ EndsTooLong graph before Holds end ⊎ EndsStalled graph before Holds end

@@ -1,4 +1,7 @@
+pub mod Pads
 pub mod Told
+pub mod Over
+pub mod Stalled
 pub mod Cut
 pub mod Ended
 pub mod World

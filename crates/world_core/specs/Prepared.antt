@@ -1,8 +1,9 @@
 -- What a run of a graph takes the memory for before a file is open.
-use Rattle.std.specs.Prelude.{◌≡◌, ◌<◌, ℕ, List, Option, Some, length, map, slice_get}
+use Rattle.std.specs.Prelude.{◌≡◌, ◌<◌, ◌*◌, ℕ, List, Option, Some, length, map, slice_get}
 use Rattle.lane_core.specs.declared.ends.Inlet as inlets
 use Rattle.lane_core.specs.declared.ends.Outlet as outlets
 use Rattle.graph_core.specs.Graph.{made as made_in, links as links_in}
+use Rattle.graph_core.specs.GraphPlan.{most_pads}
 use Rattle.graph_core.specs.declared.graph.Graph.{Graph}
 use Rattle.graph_files.specs.Blanks.{AreBlanks}
 use Rattle.graph_files.specs.Files.{made_opening}
@@ -22,10 +23,10 @@ NothingYet n numbers = (d : ℕ) → d < n → slice_get numbers d ≡ Some 0
 abbrev pub AreUncounted : ℕ → List Count → Type 0
 AreUncounted n counts = (d : ℕ) → d < n → slice_get counts d ≡ Some (record { items = 0; buffers = 0 })
 
--- room for what the pads and the files of so many elements count
+-- room for what the pads and the files of so many elements count: each element has numbers for as many source pads as it can have
 pub record HasRoom (n : ℕ) (counts : List Count) (lengths : List ℕ) : Type 0 where
-  pub size : length counts ≡ n
-  pub uncounted : AreUncounted n counts
+  pub size : length counts ≡ n * most_pads
+  pub uncounted : AreUncounted (n * most_pads) counts
   pub lengths_size : length lengths ≡ n
   pub nothing : NothingYet n lengths
 

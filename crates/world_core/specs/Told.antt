@@ -1,5 +1,5 @@
 -- What a report says of a launch line: the counts of its pads and of the files of its sinks, and its faults by name.
-use Rattle.std.specs.Prelude.{ℕ, List, [], Option, None, Some, if◌then◌else◌, codes, filter_map, length, option_map, slice_get, unwrap_or}
+use Rattle.std.specs.Prelude.{ℕ, ◌*◌, List, [], Option, None, Some, if◌then◌else◌, filter_map, length, option_map, slice_get, unwrap_or}
 use Rattle.std.specs.List.{range_with_len}
 use Rattle.std.specs.Option.{option_map_or}
 use Rattle.flow_model.specs.declared.fault.ElementFault.{ElementFault}
@@ -8,34 +8,27 @@ use Rattle.flow_model.specs.Item.{Item, buffers}
 use Rattle.el_settings.specs.Asked.{location_of}
 use Rattle.graph_core.specs.Elements.{Made}
 use Rattle.graph_core.specs.Ends.{name_at}
-use Rattle.gst_value.specs.declared.name.PadName.{PadName}
 use Rattle.el_settings.specs.Asked.{writes}
-use Rattle.graph_core.specs.Allowed.{first_pad}
-use Rattle.graph_core.specs.GraphPlan.{owner_of, pad_id}
+use Rattle.graph_core.specs.GraphPlan.{most_pads}
 use Rattle.graph_files.specs.Ends.{has}
 use Rattle.graph_files.specs.declared.counts.Count.{Count}
-use Rattle.graph_ends.specs.Owed.{gives}
+use Rattle.graph_moment.specs.Laws.{place_of}
+use Rattle.graph_moment.specs.Pads.{is_pad}
 use Rattle.run_report.specs.declared.report.Fault.{Fault}
 use Rattle.run_report.specs.declared.report.Fault.TheVariants as faults
 use Rattle.run_report.specs.declared.report.PadCount.{PadCount}
 use Rattle.run_report.specs.declared.report.SinkCount.{SinkCount}
 use Rattle.task_parts.specs.declared.fault.TaskFault.{TaskFault}
 use Rattle.task_parts.specs.declared.fault.TaskFault.TheVariants as tasks
+use Rattle.world_core.specs.Pads.{source_name, source_pad}
 
--- the name of an element's source pad
-abbrev pub source_pad : List Made → ℕ → PadName
-source_pad made e = record { element = name_at made e; pad = codes "src" }
-
--- the count of an element's source pad, where it has one, by what crossed the pads
+-- the count of the source pad of a number, where it is there, by what crossed the pads
 abbrev pub pad_entry : List Made → (ℕ → List Item) → ℕ → Option PadCount
-pad_entry made h e =
-    if has gives made e
-    then Some (record { pad = source_pad made e; items = length (h (pad_id (first_pad e))); buffers = buffers (h (pad_id (first_pad e))) })
-    else None
+pad_entry made h p = if is_pad made p then Some (record { pad = source_name made (place_of p); items = length (h p); buffers = buffers (h p) }) else None
 
--- the counts of all source pads, in the order of the line
+-- the counts of all source pads, in the order of their elements, those of one by number
 abbrev pub pad_entries : List Made → (ℕ → List Item) → List PadCount
-pad_entries made h = filter_map (pad_entry made h) (range_with_len 0 (length made))
+pad_entries made h = filter_map (pad_entry made h) (range_with_len 0 (length made * most_pads))
 
 -- the length of the file of a filesink
 abbrev pub sink_entry : List Made → (ℕ → List ℕ) → ℕ → Option SinkCount
@@ -58,13 +51,15 @@ element_status (BadStream place kind) = 9
 element_status (TooLong a b) = 15
 element_status OutOfMemory = 13
 
--- the counts of an element's source pad, by those of pads in the order of the elements
+-- the count of the source pad of a number, by those of all numbers
 abbrev pub pad_told : List Made → List Count → ℕ → Option PadCount
-pad_told made pads e =
-    if has gives made e then option_map (λ (pad : Count). record { pad = source_pad made e; items = pad.items; buffers = pad.buffers }) (slice_get pads e) else None
+pad_told made counts p =
+    if is_pad made p
+    then option_map (λ (count : Count). record { pad = source_name made (place_of p); items = count.items; buffers = count.buffers }) (slice_get counts p)
+    else None
 
 abbrev pub pads_told : List Made → List Count → List PadCount
-pads_told made pads = filter_map (pad_told made pads) (range_with_len 0 (length made))
+pads_told made counts = filter_map (pad_told made counts) (range_with_len 0 (length made * most_pads))
 
 -- the length of the file of a filesink, by lengths in the order of the elements
 abbrev pub sink_told : List Made → List ℕ → ℕ → Option SinkCount
@@ -84,7 +79,7 @@ task_fault made (tasks.WriteFault e before after) = faults.WriteFault (location_
 task_fault made (tasks.Stream e place kind) = faults.BadStream (name_at made e) place kind
 task_fault made (tasks.Caps e offered wanted) = faults.NotNegotiated (name_at made e) offered wanted
 task_fault made (tasks.TooLong e a b) = faults.TooLong (name_at made e) a b
-task_fault made (tasks.NotLinked p place) = faults.NotLinked (source_pad made (owner_of p)) place
+task_fault made (tasks.NotLinked p place) = faults.NotLinked (source_pad made p) place
 task_fault made tasks.OutOfMemory = faults.Nothing
 
 abbrev pub task_status : TaskFault → ℕ

@@ -3,25 +3,29 @@ ghost use Rattle.world_core.specs.Laws.{Laws};
 
 use graph_ends::blamed::{causes_are_told, elements_are_streams, faults_are_blamed};
 use graph_ends::ended::{
-    ends_are_over, ends_are_whole, histories_are_evaluated, loose_are_quiet, pads_are_limited,
-    runs_end_empty,
+    ends_are_whole, histories_are_evaluated, loose_are_quiet, pads_are_limited, runs_stand,
 };
+use graph_ends::over::{lines_tell_over, runs_tell_over, tasks_are_stuck};
 use graph_ends::written::{tasks_stand_behind, tasks_stand_whole};
 use gst_outside::{Sink, Source};
 use lane_core::{Inlet, Outlet};
 use net_model::{TaskElement, TaskSource};
+use net_turns::laws::lanes_stay;
 use task_elements::{StreamElement, StreamSource};
 
 /// The laws of a graph's run, its end and its faults, together. It does nothing.
 pub(crate) fn runs_are_known<S: Source, K: Sink, I: Inlet<Out = O>, O: Outlet<Lanes = I::Lanes>>()
     ensures { Laws ⟦<StreamSource<S> as TaskSource>⟧ ⟦<StreamElement<K> as TaskElement>⟧ I.Inlet O.Outlet K.Sink }
 {
+    runs_stand::<StreamSource<S>, K, I, O>();
     histories_are_evaluated();
     ends_are_whole();
-    ends_are_over::<StreamSource<S>, K, I, O>();
+    runs_tell_over::<StreamSource<S>, K, I, O>();
+    lines_tell_over::<StreamSource<S>, K, I, O>();
+    tasks_are_stuck::<StreamSource<S>, K, I, O>();
+    lanes_stay::<StreamSource<S>, StreamElement<K>, I, O>();
     loose_are_quiet::<StreamSource<S>, StreamElement<K>, I, O>();
     pads_are_limited::<StreamSource<S>, StreamElement<K>, I, O>();
-    runs_end_empty::<StreamSource<S>, StreamElement<K>, I, O>();
     tasks_stand_whole::<StreamSource<S>, K, I, O>();
     tasks_stand_behind::<StreamSource<S>, K, I, O>();
     faults_are_blamed::<K, StreamSource<S>, I, O>();

@@ -3,8 +3,10 @@
 
 pub mod ended;
 mod laws;
+mod pads;
 mod report;
 mod run;
+mod stall;
 
 pub use ended::WorldEnd;
 pub use run::run_turns;

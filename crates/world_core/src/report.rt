@@ -1,33 +1,24 @@
 //! The report of a run.
 ghost use Rattle.std.specs.Prelude.{◌≡◌, ◌<◌, ◌++◌, [], IfOk, OnOk, length};
 ghost use Rattle.std.specs.List.{cons_option};
-ghost use Rattle.graph_core.specs.Ends.{name_at};
 ghost use Rattle.graph_core.specs.Graph.{made as made_in};
 ghost use Rattle.el_settings.specs.Asked.{writes};
 ghost use Rattle.world_core.specs.Ran.{TellsEnd, stop_fault, stop_status};
-ghost use Rattle.world_core.specs.Told.{location_named, pad_told, pads_told, sink_told, sinks_told, source_pad, task_fault, task_status};
+ghost use Rattle.world_core.specs.Told.{location_named, pad_told, pads_told, sink_told, sinks_told, task_fault, task_status};
 
 use crate::ended::WorldEnd;
+use crate::pads::{MOST_PADS, name_of, place_of, source_named};
 use el_settings::Settings;
 use graph_core::Graph;
 use graph_files::Count;
-use gst_value::{List, OutOfMemory, PadName, Text};
-use run_report::{Fault, PadCount, Report, SinkCount};
+use gst_value::{List, OutOfMemory, Text};
+use run_report::{Fault, PadCount, Report, SinkCount, StalledTask};
 use std::alloc::Global;
 use task_parts::TaskFault;
 
-/// How many source pads an element has numbers for.
-const MOST_PADS: u32 = 64;
+const EOS: u8 = 0;
 
-/// The name of an element, and no name where it is not there.
-fn name_of(alloc: Global, graph: &Graph, element: u32) -> Result<Text, OutOfMemory>
-    ensures { IfOk result (λ name. name ≡ name_at (made_in graph.now) element) }
-{
-    match graph.name(element) {
-        Some(name) => Text::from_str(alloc, name),
-        None => Ok(Text::new(alloc)),
-    }
-}
+const STALLED: u8 = 12;
 
 /// The location of an element's file, and none where it opens none.
 fn location_of(alloc: Global, graph: &Graph, element: u32) -> Result<Text, OutOfMemory>
@@ -40,16 +31,6 @@ fn location_of(alloc: Global, graph: &Graph, element: u32) -> Result<Text, OutOf
         Some(location) => Text::from_str(alloc, location),
         None => Ok(Text::new(alloc)),
     }
-}
-
-/// The name of an element's source pad.
-fn pad_of(alloc: Global, graph: &Graph, element: u32) -> Result<PadName, OutOfMemory>
-    ensures { IfOk result (λ name. name ≡ source_pad (made_in graph.now) element) }
-{
-    Ok(PadName {
-        element: name_of(alloc, graph, element)?,
-        pad: Text::from_str(alloc, "src")?,
-    })
 }
 
 /// The fault of a task, as a report tells it.
@@ -99,7 +80,7 @@ fn fault_of(alloc: Global, graph: &Graph, fault: TaskFault) -> Result<Fault, Out
             b,
         }),
         TaskFault::NotLinked { pad, place } => Ok(Fault::NotLinked {
-            pad: pad_of(alloc, graph, pad / MOST_PADS)?,
+            pad: source_named(alloc, graph, pad)?,
             place,
         }),
         TaskFault::OutOfMemory => Ok(Fault::Nothing),
@@ -122,7 +103,7 @@ fn status_of(fault: &TaskFault) -> u8
 }
 
 /// Puts a value at the end of a list, where there is one.
-fn push_some<T: Drop>(
+pub(crate) fn push_some<T: Drop>(
     alloc: Global,
     list: &mut List<T>,
     value: Option<T>,
@@ -135,38 +116,37 @@ fn push_some<T: Drop>(
     }
 }
 
-/// What the source pad of an element has counted, where it has one.
+/// What the source pad of a number has counted, where it is there.
 fn count_at(
     alloc: Global,
     graph: &Graph,
-    pads: &[Count],
-    element: u32,
+    counts: &[Count],
+    number: u32,
 ) -> Result<Option<PadCount>, OutOfMemory>
-    requires { element < length (made_in graph.now) }
-    ensures { IfOk result (λ count. count ≡ pad_told (made_in graph.now) pads.now element) }
+    ensures { IfOk result (λ count. count ≡ pad_told (made_in graph.now) counts.now number) }
 {
-    if graph.settings(element).is_sink() {
+    let Some(pad) = graph.source_name(alloc, place_of(number))? else {
         return Ok(None);
-    }
-    match pads.get(element as usize) {
-        Some(pad) => Ok(Some(PadCount {
-            pad: pad_of(alloc, graph, element)?,
-            items: pad.items,
-            buffers: pad.buffers,
+    };
+    match counts.get(number as usize) {
+        Some(count) => Ok(Some(PadCount {
+            pad,
+            items: count.items,
+            buffers: count.buffers,
         })),
         None => Ok(None),
     }
 }
 
-/// What the source pads of all elements have counted, in their order.
-fn counts_of(alloc: Global, graph: &Graph, pads: &[Count]) -> Result<List<PadCount>, OutOfMemory>
-    ensures { IfOk result (λ counts. counts ≡ pads_told (made_in graph.now) pads.now) }
+/// What all source pads have counted, in the order of their elements, those of one by number.
+fn counts_of(alloc: Global, graph: &Graph, counts: &[Count]) -> Result<List<PadCount>, OutOfMemory>
+    ensures { IfOk result (λ told. told ≡ pads_told (made_in graph.now) counts.now) }
 {
-    let mut counts = List::new(alloc);
-    for element in 0..graph.count() {
-        push_some(alloc, &mut counts, count_at(alloc, graph, pads, element)?)?;
+    let mut told = List::new(alloc);
+    for number in 0..graph.count() * MOST_PADS {
+        push_some(alloc, &mut told, count_at(alloc, graph, counts, number)?)?;
     }
-    Ok(counts)
+    Ok(told)
 }
 
 /// Whether the element writes a file.
@@ -213,40 +193,54 @@ fn lengths_of(alloc: Global, graph: &Graph, lengths: &[u64]) -> Result<List<Sink
     Ok(counts)
 }
 
-/// The status and the fault of a run, by the fault at which its tasks stopped.
-fn stop_told(
-    alloc: Global,
-    graph: &Graph,
-    stop: Option<TaskFault>,
-) -> Result<(u8, Fault), OutOfMemory>
+/// How tasks stopped.
+#[derive(Drop)]
+pub(crate) enum Stop {
+    /// Their run is over.
+    Over,
+    /// None can move, and the run is not over.
+    Stalled(List<StalledTask>),
+    /// One met a fault.
+    Fault(TaskFault),
+}
+
+/// The status and the fault of a run, by how its tasks stopped.
+fn stop_told(alloc: Global, graph: &Graph, stop: Stop) -> Result<(u8, Fault), OutOfMemory>
     ensures { IfOk result (λ told. (told.0 ≡ stop_status stop) × (told.1 ≡ stop_fault (made_in graph.now) stop)) }
 {
     match stop {
-        None => Ok((0, Fault::Nothing)),
-        Some(fault) => {
+        Stop::Over => Ok((EOS, Fault::Nothing)),
+        Stop::Stalled(tasks) => Ok((
+            STALLED,
+            Fault::Stalled {
+                command: None,
+                tasks,
+            },
+        )),
+        Stop::Fault(fault) => {
             let status = status_of(&fault);
             Ok((status, fault_of(alloc, graph, fault)?))
         }
     }
 }
 
-/// How a run ended, by the fault at which its tasks stopped, the counts of the source pads of its elements and the
-/// lengths of their files, in bytes, in the order of the elements.
+/// How a run ended, by how its tasks stopped, the counts of the source pads of its elements by number, and the lengths of their
+/// files, in bytes, in the order of the elements.
 pub(crate) fn end_of(
     alloc: Global,
     graph: &Graph,
-    stop: Option<TaskFault>,
-    pads: &[Count],
+    stop: Stop,
+    counts: &[Count],
     lengths: &[u64],
 ) -> Result<WorldEnd, OutOfMemory>
-    ensures { IfOk result (TellsEnd (made_in graph.now) stop pads.now lengths.now) }
+    ensures { IfOk result (TellsEnd (made_in graph.now) stop counts.now lengths.now) }
 {
     let (status, fault) = stop_told(alloc, graph, stop)?;
     Ok(WorldEnd {
         status,
         report: Report {
             entries: List::new(alloc),
-            pads: counts_of(alloc, graph, pads)?,
+            pads: counts_of(alloc, graph, counts)?,
             sinks: lengths_of(alloc, graph, lengths)?,
             fault,
         },

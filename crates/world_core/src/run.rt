@@ -1,5 +1,5 @@
 //! Runs of lines by turns.
-ghost use Rattle.std.specs.Prelude.{◌≡◌, ◌≢◌, ◌<◌, ◌^◌, ℕ, List, [], Option, Some, IfOk, IfErr, length, slice_get};
+ghost use Rattle.std.specs.Prelude.{◌≡◌, ◌≢◌, ◌<◌, ◌^◌, ℕ, List, [], Option, Some, Ok, IfOk, IfErr, length, slice_get};
 ghost use Rattle.graph_core.specs.Graph.{made as made_in};
 ghost use Rattle.graph_files.specs.Blanks.{blanks_in};
 ghost use Rattle.graph_files.specs.Files.{AreLocated, GraphOpens};
@@ -15,14 +15,17 @@ ghost use Rattle.run_files.specs.declared.end.Opening.{Opening as Openings};
 ghost use Rattle.turn_order.specs.declared.turns.Turns.{Turns as TurnsOf};
 ghost use Rattle.world_core.specs.Ended.{HasEnded};
 ghost use Rattle.world_core.specs.Prepared.{ArePlanned, HasRoom, IsReserved};
-ghost use Rattle.world_core.specs.Ran.{KnownFailed, KnownHold};
+ghost use Rattle.world_core.specs.Ran.{KnownFailed, KnownHold, StopsAs, TellsEnd};
 ghost use Rattle.world_core.specs.Start.{IsStarted};
 ghost use Rattle.world_core.specs.Turned.{RanByTurns};
+ghost use Rattle.world_core.specs.declared.report.Stop.{Stop as StopOf};
 ghost use Rattle.world_core.specs.World.{IsBuilt, IsRunStatus, IsUnwritten, IsWorldEnd, NotBegun};
 
 use crate::ended::WorldEnd;
 use crate::laws::runs_are_known;
-use crate::report::{end_of, without_counts};
+use crate::pads::MOST_PADS;
+use crate::report::{Stop, end_of, without_counts};
+use crate::stall::{is_over, stalled_tasks};
 use graph_core::Graph;
 use graph_files::{Blanks, Count, Filled, count_pads, openings_of, take_back};
 use graph_tasks::{Plan, WiredTasks, wire};
@@ -36,19 +39,19 @@ use run_files::{End, Opening, Unopened, close_all, open_all};
 use run_report::Fault;
 use std::alloc::Global;
 use task_elements::{StreamElement, StreamSource};
-use task_parts::{Step, TaskFault};
+use task_parts::Step;
 use turn_order::{Order, Turns};
 
 const OUT_OF_MEMORY: u8 = 13;
 
 const OPEN_FAULT: u8 = 6;
 
-/// Room for what a run counts, in the order of the elements.
+/// Room for what a run counts.
 #[derive(Drop)]
 struct Counts {
-    /// The source pads.
+    /// What crossed the source pads, by their numbers.
     pads: Vec<Count>,
-    /// The lengths of the files of filesinks, in bytes.
+    /// The lengths of the files of filesinks, in bytes, in the order of the elements.
     lengths: Vec<u64>,
 }
 
@@ -91,16 +94,14 @@ struct Ran<S, K> {
 fn counts_for(alloc: Global, graph: &Graph) -> Result<Counts, OutOfMemory>
     ensures { IfOk result (λ counts. HasRoom (length (made_in graph.now)) counts.pads.items counts.lengths.items) }
 {
-    let mut pads = Vec::new(alloc);
-    let mut lengths = Vec::new(alloc);
-    for _ in 0..graph.count() {
-        pads.push(Count {
-            items: 0,
-            buffers: 0,
-        })?;
-        lengths.push(0)?;
-    }
-    Ok(Counts { pads, lengths })
+    let nothing = Count {
+        items: 0,
+        buffers: 0,
+    };
+    Ok(Counts {
+        pads: vec![in alloc; nothing; (graph.count() * MOST_PADS) as usize]?,
+        lengths: vec![in alloc; 0; graph.count() as usize]?,
+    })
 }
 
 /// Room for what so many tasks answer.
@@ -129,14 +130,37 @@ fn prepare<S: Source, K: Sink>(alloc: Global, graph: &Graph) -> Result<Prepared<
     })
 }
 
-/// The fault at which tasks stopped, if they did at one.
-fn stop_in(ran: Result<(), Stopped>) -> Option<TaskFault>
-    ensures { result ≡ stop_of ran }
+/// How tasks stopped, by the steps that they answered at last.
+fn stop_in<S: TaskSource, E: TaskElement, I: Inlet<Out = O>, O: Outlet<Lanes = I::Lanes>>(
+    alloc: Global,
+    graph: &Graph,
+    tasks: &[Task<S, E, I, O>],
+    steps: &[Step],
+    ran: Result<(), Stopped>,
+) -> Result<Stop, OutOfMemory>
+    requires { length steps.now ≡ length tasks.now }
+    ensures { IfOk result (StopsAs graph.now tasks.now steps.now (stop_of ran)) }
 {
-    match ran {
-        Ok(()) => None,
-        Err(stopped) => Some(stopped.fault.into_fault()),
+    if let Err(stopped) = ran {
+        return Ok(Stop::Fault(stopped.fault.into_fault()));
     }
+    if is_over(graph, tasks, steps) {
+        return Ok(Stop::Over);
+    }
+    Ok(Stop::Stalled(stalled_tasks(alloc, graph, tasks, steps)?))
+}
+
+/// How a run ended, where there is memory to tell how its tasks stopped.
+fn told_end(
+    alloc: Global,
+    graph: &Graph,
+    stop: Result<Stop, OutOfMemory>,
+    counts: &[Count],
+    lengths: &[u64],
+) -> Result<WorldEnd, OutOfMemory>
+    ensures { IfOk result (λ end. (own : StopOf) × (stop ≡ Ok own) × TellsEnd (made_in graph.now) own counts.now lengths.now end) }
+{
+    end_of(alloc, graph, stop?, counts, lengths)
 }
 
 /// Runs all tasks by turns. Where they end, `steps` has what each answered at last.
@@ -156,6 +180,7 @@ fn run_all<S: TaskSource, E: TaskElement, I: Inlet<Out = O>, O: Outlet<Lanes = I
     ensures turned { (next : TurnsOf) × RunBy turns 0 tasks.old.items (O.tells lanes.old) next (stop_of result) tasks.new.items }
     ensures frames { AllFramed tasks.old.items tasks.new.items }
     ensures count { length tasks.new.items ≡ length tasks.old.items }
+    ensures steps { length steps.new.items ≡ length tasks.new.items }
 {
     let mut turns = Turns::new(turns);
     run_tasks(alloc, tasks, steps, lanes, &mut turns)
@@ -197,14 +222,9 @@ fn run_made<S: Source, K: Sink, I: Inlet<Out = O>, O: Outlet<Lanes = I::Lanes>>(
     runs_are_known::<S, K, I, O>();
     let ran = run_all(alloc, &mut tasks, &mut steps, lanes, turns);
     count_pads(tasks.as_slice(), &mut pads);
+    let stop = stop_in(alloc, graph, tasks.as_slice(), steps.as_slice(), ran);
     take_back(graph, tasks, rest, &mut ends, &mut lengths);
-    let told = end_of(
-        alloc,
-        graph,
-        stop_in(ran),
-        pads.as_slice(),
-        lengths.as_slice(),
-    );
+    let told = told_end(alloc, graph, stop, pads.as_slice(), lengths.as_slice());
     match told {
         Ok(end) => Ran { end, ends },
         Err(OutOfMemory) => Ran {
@@ -293,13 +313,13 @@ fn not_begun(alloc: Global, openings: &[Option<Opening>], unopened: Unopened) ->
 /// Runs a launch line's graph by turns on one thread: opens the files of its elements in their order, moves what its
 /// sources give along its links, and gives the files back.
 ///
-/// There is a task for each source and each queue. Each turn steps the task whose place among them is the order's next
-/// number modulo their count. A filesink's file begins empty.
+/// There is a task for each source, each queue and each element that brings streams together. Each turn steps the task whose
+/// place among them is the order's next number modulo their count. A filesink's file begins empty.
 ///
-/// The status is 0 where EOS came to all live sinks, 6 where a location could not be opened, 7 and 8 where a source
-/// could not be read or a filesink not be written, 9, 10 and 15 where an element's rule refuses an item, 11 where a
-/// buffer is owed to a pad without a link, 13 where memory is wanting, and 15 where more than 2^40 items were to cross
-/// a pad.
+/// The status is 0 where the run is over, so EOS came to all live sinks, 6 where a location could not be opened, 7 and 8 where a
+/// source could not be read or a filesink not be written, 9, 10 and 15 where an element's rule refuses an item, 11 where a
+/// buffer is owed to a pad without a link, 12 where no task can go on and the run is not over, 13 where memory is wanting, and
+/// 15 where more than 2^40 items were to cross a pad.
 pub fn run_turns<F: Files>(alloc: Global, graph: Graph, files: &mut F, turns: Order) -> WorldEnd
     requires built { IsBuilt graph }
     ensures ended { result.status ≢ 13 → IsWorldEnd graph (F.seen files.old) (F.seen files.new) result }

@@ -1,6 +1,6 @@
 //! Lines over files in memory, by turns.
 use super::*;
-use graph_core::build;
+use graph_core::{BuildFault, build};
 use gst_outside::{Files, MemFiles};
 use gst_value::List;
 use launch_text::parse;
@@ -12,8 +12,8 @@ use turn_order::Order;
 
 /// Each row: the call that fails, if one does, with its number; behind a colon the turns, a digit each, that come
 /// before 0, 1, 2 and so on; the line; the lines of its report; and the bytes at `b` and at `d`. At `a` stands
-/// `abcdef`, at `c` `xyz`, and at every other location nothing. `r` is a read of `a`, `w` a write of `b`, `i` an
-/// opening for reading and `o` one for writing.
+/// `abcdef`, at `c` `xyz`, and at every other location nothing. `r` is a read of `a`, `w` a write of `b`, `v` one of `d`,
+/// `i` an opening for reading and `o` one for writing.
 const ROWS: &str = "\
 -: filesrc location=a blocksize=2 ! filesink location=b => status 0 Eos / pad filesrc0.src items 6 buffers 3 / sink filesink0 bytes 6 / b=abcdef d=
 -: filesrc location=a blocksize=4 ! identity ! queue max-size-buffers=1 ! identity ! queue ! filesink location=b => status 0 Eos / pad filesrc0.src items 5 buffers 2 / pad identity0.src items 5 buffers 2 / pad queue0.src items 5 buffers 2 / pad identity1.src items 5 buffers 2 / pad queue1.src items 5 buffers 2 / sink filesink0 bytes 6 / b=abcdef d=
@@ -26,6 +26,7 @@ const ROWS: &str = "\
 -: filesrc location=a => status 11 NotLinked / fault unlinked filesrc0.src place 2 / pad filesrc0.src items 2 buffers 0 / b= d=
 -: filesrc location=e => status 0 Eos / pad filesrc0.src items 3 buffers 0 / b= d=
 -: filesink location=b filesrc location=a blocksize=3 ! identity => status 11 NotLinked / fault unlinked identity0.src place 2 / pad filesrc0.src items 3 buffers 1 / pad identity0.src items 2 buffers 0 / sink filesink0 bytes 0 / b= d=
+-: filesrc location=a ! concat name=c => status 11 NotLinked / fault unlinked c.src place 2 / pad filesrc0.src items 3 buffers 1 / pad c.src items 2 buffers 0 / b= d=
 -: queue ! fakesink => status 0 Eos / pad queue0.src items 0 buffers 0 / b= d=
 -: identity ! filesink location=b => status 0 Eos / pad identity0.src items 0 buffers 0 / sink filesink0 bytes 0 / b= d=
 -: fakesink => status 0 Eos / b= d=
@@ -56,7 +57,7 @@ fn files_with(alloc: Global, fails: &str) -> Result<MemFiles, Fail> {
     files.add_input(alloc, "a", b"abcdef", &[number_of(fails, b'r')], &[])?;
     files.add_input(alloc, "c", b"xyz", &[], &[])?;
     files.add_output(alloc, "b", 4096, &[number_of(fails, b'w')], &[])?;
-    files.add_output(alloc, "d", 4096, &[], &[])?;
+    files.add_output(alloc, "d", 4096, &[number_of(fails, b'v')], &[])?;
     files.fail_open_read(alloc, &[number_of(fails, b'i')])?;
     files.fail_open_write(alloc, &[number_of(fails, b'o')])?;
     Ok(files)
@@ -147,6 +148,7 @@ const AUDIO: &str = "\
 : ramptestsrc num-buffers=1 samplesperbuffer=9 rate=8000 ! mulawenc ! filesink location=b => status 0 Eos / pad ramptestsrc0.src items 5 buffers 1 / pad mulawenc0.src items 5 buffers 1 / sink filesink0 bytes 9 / b=FFFFFFFFFEFEFEFEFE
 : ramptestsrc num-buffers=1 samplesperbuffer=3 rate=8000 ! audioconvert ! audio/x-raw,format=S24LE,channels=2 ! filesink location=b => status 0 Eos / pad ramptestsrc0.src items 5 buffers 1 / pad audioconvert0.src items 5 buffers 1 / pad capsfilter0.src items 5 buffers 1 / sink filesink0 bytes 18 / b=000000000000000100000100000200000200
 : ramptestsrc num-buffers=1 samplesperbuffer=3 rate=8000 ! audioconvert ! audio/x-raw,rate=44100 ! fakesink => status 10 NotNegotiated / fault caps audioconvert0 offered audio/x-raw, channels=(int)1, format=(string)S16LE, layout=(string)interleaved, rate=(int)8000 wanted audio/x-raw, rate=(int)44100 / pad ramptestsrc0.src items 1 buffers 0 / pad audioconvert0.src items 1 buffers 0 / pad capsfilter0.src items 1 buffers 0 / b=
+: ramptestsrc num-buffers=1 samplesperbuffer=2 ! tee name=t ! interleave name=v ! filesink location=b t. ! audioconvert ! audio/x-raw,format=U8 ! v. => status 10 NotNegotiated / fault caps v offered audio/x-raw, channels=(int)1, format=(string)U8, layout=(string)interleaved, rate=(int)44100 wanted audio/x-raw, channels=(int)1, format=(string)S16LE, layout=(string)interleaved, rate=(int)44100 / pad ramptestsrc0.src items 4 buffers 1 / pad t.src_0 items 4 buffers 1 / pad t.src_1 items 4 buffers 1 / pad v.src items 0 buffers 0 / pad audioconvert0.src items 4 buffers 1 / pad capsfilter0.src items 3 buffers 0 / sink filesink0 bytes 0 / b=
 : ramptestsrc num-buffers=2 samplesperbuffer=2 ! audioconvert ! queue ! identity ! audio/x-raw,format=U8 ! filesink location=b => status 0 Eos / pad ramptestsrc0.src items 6 buffers 2 / pad audioconvert0.src items 6 buffers 2 / pad queue0.src items 6 buffers 2 / pad identity0.src items 6 buffers 2 / pad capsfilter0.src items 6 buffers 2 / sink filesink0 bytes 4 / b=80808080
 : ramptestsrc num-buffers=2 samplesperbuffer=1 channels=2 gap-every=2 title=x ! filesink location=b => status 0 Eos / pad ramptestsrc0.src items 7 buffers 1 / sink filesink0 bytes 4 / b=00000000
 : ramptestsrc num-buffers=0 ! filesink location=b => status 0 Eos / pad ramptestsrc0.src items 4 buffers 0 / sink filesink0 bytes 0 / b=
@@ -297,5 +299,63 @@ fn a_file_begins_empty(rt: HostRuntime) -> Result<(), Fail> {
         listed(alloc, "")?,
     )?;
     assert!(rt; again.as_str().ends_with("bytes 0 / b= d=xyz"));
+    Ok(())
+}
+
+/// Lines with elements of several pads: the call that fails, if one does, and behind a colon the line; the lines of its report; and the
+/// bytes at `b` and at `d`, two digits each.
+const FANS: &str = "\
+-: filesrc location=a blocksize=2 ! tee name=t ! queue ! filesink location=b t. ! queue ! filesink location=d => status 0 Eos / pad filesrc0.src items 6 buffers 3 / pad t.src_0 items 6 buffers 3 / pad t.src_1 items 6 buffers 3 / pad queue0.src items 6 buffers 3 / pad queue1.src items 6 buffers 3 / sink filesink0 bytes 6 / sink filesink1 bytes 6 / b=616263646566 d=616263646566
+-: filesrc location=a ! tee name=t t. ! filesink location=b => status 0 Eos / pad filesrc0.src items 4 buffers 1 / pad t.src_0 items 4 buffers 1 / sink filesink0 bytes 6 / b=616263646566 d=
+-: filesrc location=a ! tee name=t => status 0 Eos / pad filesrc0.src items 4 buffers 1 / b= d=
+-: filesrc location=a blocksize=2 ! tee name=t ! tee name=u ! filesink location=b u. ! queue ! fakesink t. ! filesink location=d => status 0 Eos / pad filesrc0.src items 6 buffers 3 / pad t.src_0 items 6 buffers 3 / pad t.src_1 items 6 buffers 3 / pad u.src_0 items 6 buffers 3 / pad u.src_1 items 6 buffers 3 / pad queue0.src items 6 buffers 3 / sink filesink0 bytes 6 / sink filesink1 bytes 6 / b=616263646566 d=616263646566
+w2: filesrc location=a blocksize=2 ! tee name=t ! filesink name=p location=b t. ! filesink name=q location=d => status 8 WriteFault / fault write b faults 0 1 / pad filesrc0.src items 4 buffers 2 / pad t.src_0 items 3 buffers 1 / pad t.src_1 items 3 buffers 1 / sink p bytes 2 / sink q bytes 2 / b=6162 d=6162
+v2: filesrc location=a blocksize=2 ! tee name=t ! filesink name=p location=b t. ! filesink name=q location=d => status 8 WriteFault / fault write d faults 0 1 / pad filesrc0.src items 4 buffers 2 / pad t.src_0 items 4 buffers 2 / pad t.src_1 items 3 buffers 1 / sink p bytes 4 / sink q bytes 2 / b=61626364 d=6162
+-: filesrc location=a ! concat name=c ! filesink location=b filesrc location=c ! c. => status 0 Eos / pad filesrc0.src items 4 buffers 1 / pad c.src items 7 buffers 2 / pad filesrc1.src items 4 buffers 1 / sink filesink0 bytes 9 / b=61626364656678797A d=
+-: filesrc location=a blocksize=2 ! tee name=t ! concat name=c ! filesink location=b t. ! c. => status 0 Eos / pad filesrc0.src items 6 buffers 3 / pad t.src_0 items 6 buffers 3 / pad t.src_1 items 6 buffers 3 / pad c.src items 11 buffers 6 / sink filesink0 bytes 12 / b=616263646566616263646566 d=
+-: filesrc location=a blocksize=2 ! tee name=t ! queue max-size-buffers=1 ! concat name=c ! filesink location=b t. ! queue max-size-buffers=1 ! c. => status 0 Eos / pad filesrc0.src items 6 buffers 3 / pad t.src_0 items 6 buffers 3 / pad t.src_1 items 6 buffers 3 / pad queue0.src items 6 buffers 3 / pad c.src items 11 buffers 6 / pad queue1.src items 6 buffers 3 / sink filesink0 bytes 12 / b=616263646566616263646566 d=
+-: ramptestsrc num-buffers=40 samplesperbuffer=1 ! tee name=t ! concat name=c ! filesink location=b t. ! c. => status 12 Stalled / fault command none / task ramptestsrc0 needs-room c.sink_1 / task c needs-item c.sink_0 / pad ramptestsrc0.src items 17 buffers 14 / pad t.src_0 items 17 buffers 14 / pad t.src_1 items 16 buffers 13 / pad c.src items 17 buffers 14 / sink filesink0 bytes 28 / b=00000100020003000400050006000700080009000A000B000C000D00 d=
+-: ramptestsrc num-buffers=2 samplesperbuffer=3 ! tee name=t ! interleave name=v ! filesink location=b t. ! v. => status 0 Eos / pad ramptestsrc0.src items 6 buffers 2 / pad t.src_0 items 6 buffers 2 / pad t.src_1 items 6 buffers 2 / pad v.src items 6 buffers 2 / sink filesink0 bytes 24 / b=000000000100010002000200030003000400040005000500 d=
+-: ramptestsrc num-buffers=2 samplesperbuffer=3 ! tee name=t ! queue ! interleave name=v ! filesink location=b t. ! queue max-size-buffers=1 ! v. => status 0 Eos / pad ramptestsrc0.src items 6 buffers 2 / pad t.src_0 items 6 buffers 2 / pad t.src_1 items 6 buffers 2 / pad queue0.src items 6 buffers 2 / pad v.src items 6 buffers 2 / pad queue1.src items 6 buffers 2 / sink filesink0 bytes 24 / b=000000000100010002000200030003000400040005000500 d=
+-: ramptestsrc num-buffers=100 samplesperbuffer=1 ! tee name=t ! queue max-size-buffers=1 ! interleave name=v ! filesink location=b t. ! audiobuffersplit frames=100 ! v. => status 12 Stalled / fault command none / task ramptestsrc0 needs-room queue0.sink / task queue0 needs-room v.sink_0 / task v needs-item v.sink_1 / pad ramptestsrc0.src items 23 buffers 20 / pad t.src_0 items 22 buffers 19 / pad t.src_1 items 23 buffers 20 / pad queue0.src items 20 buffers 17 / pad v.src items 3 buffers 0 / pad audiobuffersplit0.src items 3 buffers 0 / sink filesink0 bytes 0 / b= d=
+-: filesrc location=a blocksize=1 ! concat name=c ! queue ! filesink location=b identity ! c. => status 12 Stalled / fault command none / task filesrc0 ended / task c needs-item c.sink_1 / task queue0 needs-item queue0.sink / pad filesrc0.src items 9 buffers 6 / pad c.src items 8 buffers 6 / pad queue0.src items 8 buffers 6 / pad identity0.src items 0 buffers 0 / sink filesink0 bytes 6 / b=616263646566 d=
+-: filesrc location=a blocksize=1 ! queue ! concat name=c ! filesink location=b identity ! c. => status 12 Stalled / fault command none / task filesrc0 ended / task queue0 ended / task c needs-item c.sink_1 / pad filesrc0.src items 9 buffers 6 / pad queue0.src items 9 buffers 6 / pad c.src items 8 buffers 6 / pad identity0.src items 0 buffers 0 / sink filesink0 bytes 6 / b=616263646566 d=
+-: identity ! interleave name=v ! filesink location=b => status 0 Eos / pad identity0.src items 0 buffers 0 / pad v.src items 0 buffers 0 / sink filesink0 bytes 0 / b= d=";
+
+/// What came of the run of a line by turns of an order, and what is to come of it.
+fn check_fan(rt: &impl Abort, alloc: Global, row: &str, turns: Order) -> Result<(), Fail> {
+    let (left, wanted) = row.split_once(" => ").ok_or("a row")?;
+    let (fails, line) = left.split_once(": ").ok_or("a call that fails")?;
+    let mut files = files_with(alloc, fails)?;
+    let mut row = String::new(alloc);
+    put_run(alloc, &mut row, line, &mut files, turns)?;
+    row.push_str("b=")?;
+    put_digits(&mut row, files.output_bytes("b"))?;
+    row.push_str(" d=")?;
+    put_digits(&mut row, files.output_bytes("d"))?;
+    assert!(rt; row.as_str() == wanted, "{left}: {row}");
+    assert_eq!(rt; files.ends(), 0);
+    Ok(())
+}
+
+/// An element with one sink pad takes no second branch of a tee.
+#[test]
+fn a_second_branch_is_refused(rt: HostRuntime) -> Result<(), Fail> {
+    let alloc = rt.alloc();
+    let line = "filesrc location=a ! tee name=t ! identity name=i ! filesink location=b t. ! i.";
+    let tree = parse(alloc, line)?;
+    assert!(rt; matches!(build(alloc, &tree), Err(BuildFault::LinkRefused { .. })));
+    Ok(())
+}
+
+/// One order of turns and another leave the same files and the same report.
+#[test]
+fn elements_of_several_pads(rt: HostRuntime) -> Result<(), Fail> {
+    let alloc = rt.alloc();
+    for row in FANS.lines() {
+        check_fan(&rt, alloc, row, listed(alloc, "")?)?;
+        check_fan(&rt, alloc, row, listed(alloc, "222222222222222210")?)?;
+        check_fan(&rt, alloc, row, Order::Drawn(7))?;
+    }
     Ok(())
 }

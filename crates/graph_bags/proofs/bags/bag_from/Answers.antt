@@ -1,7 +1,7 @@
 use Rattle.std.proofs.Common.{◌∙◌, sym}
 use Rattle.std.specs.Prelude.{slice_get}
 use Rattle.graph_core.specs.Graph.{made, links}
-use Rattle.graph_bags.specs.Links.{is_source}
+use Rattle.el_settings.specs.Asked.{is_source}
 use Rattle.graph_bags.proofs.Heads.{has_by, is_bag}
 use Rattle.graph_bags.proofs.bags.bag_from.Goals as goal
 

@@ -3,7 +3,7 @@ use Rattle.graph_core.specs.Asked.{End, chain_elements, links_behind}
 use Rattle.graph_core.specs.Elements.{all_made}
 use Rattle.graph_core.specs.Links.{AreOrdered, LinksCome, all_links}
 use Rattle.graph_core.specs.declared.fault.BuildFault.{BuildFault}
-use Rattle.graph_core.specs.declared.pad.PadLink.{PadLink}
+use Rattle.graph_pads.specs.declared.pad.PadLink.{PadLink}
 use Rattle.graph_core.proofs.links.add_others.Given as goal
 
 abbrev pub invariant-loop-right : goal.invariant-loop-right

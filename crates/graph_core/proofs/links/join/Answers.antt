@@ -1,7 +1,7 @@
 use Rattle.std.proofs.Common.{List, Some, Option, subst}
 use Rattle.graph_core.specs.Elements.{all_made}
 use Rattle.graph_core.specs.Links.{all_links, IsJudged, IsUnjoined}
-use Rattle.graph_core.specs.declared.pad.PadLink.{PadLink}
+use Rattle.graph_pads.specs.declared.pad.PadLink.{PadLink}
 use Rattle.pad_core.specs.declared.linking.LinkReturn.{LinkReturn}
 use Rattle.graph_core.specs.declared.fault.BuildFault.TheVariants.{OutOfMemory}
 use Rattle.graph_core.proofs.HandedOn.{handed_on}

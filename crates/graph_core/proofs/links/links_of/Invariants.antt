@@ -3,7 +3,7 @@ use Rattle.graph_core.specs.Asked.{elements_in, links_in}
 use Rattle.graph_core.specs.Elements.{all_made}
 use Rattle.graph_core.specs.Links.{AreOrdered, LinksCome, all_links}
 use Rattle.graph_core.specs.declared.fault.BuildFault.{BuildFault}
-use Rattle.graph_core.specs.declared.pad.PadLink.{PadLink}
+use Rattle.graph_pads.specs.declared.pad.PadLink.{PadLink}
 use Rattle.graph_core.proofs.links.links_of.Given as goal
 
 abbrev pub invariant-loop-chain : goal.invariant-loop-chain

@@ -1,6 +1,6 @@
 use Rattle.std.proofs.Common.{◌≡◌, ◌∙◌, get_or, sym}
 use Rattle.graph_order.proofs.Reached.{get_or-irrelevant, same_more, fewer_more}
-use Rattle.graph_core.specs.declared.pad.PadLink.{PadLink}
+use Rattle.graph_pads.specs.declared.pad.PadLink.{PadLink}
 use Rattle.graph_core.proofs.Marking.{is_way, closed_further}
 use Rattle.graph_core.proofs.live.spread.Goals as goal
 

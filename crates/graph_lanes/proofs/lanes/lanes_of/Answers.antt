@@ -1,14 +1,14 @@
 use Rattle.std.proofs.Common.{◌≡◌, ◌++◌, [], List, length, map, option_to_list, ap, ◌∙◌, arith}
 use Rattle.graph_core.specs.Graph.{made as made_in, links as links_in}
 use Rattle.lane_core.specs.Lane.{Lane, lane_of}
-use Rattle.graph_lanes.specs.Lanes.{lane_room}
+use Rattle.graph_lanes.specs.Lanes.{lane_room, sink_numbers}
 use Rattle.graph_lanes.proofs.Memory.{MemInletAt, MemOutletAt}
 use Rattle.graph_lanes.proofs.Rooms.{table_before, table_more, table_size}
 use Rattle.graph_lanes.proofs.Slots.{no_slots, one_slot, size_more}
 use Rattle.graph_lanes.proofs.lanes.lanes_of.Goals as goal
 
-pub loop-element-init : goal.loop-element-init
-loop-element-init c = record {
+pub loop-number-init : goal.loop-number-init
+loop-number-init c = record {
   table = c.new-table.ensures;
   inlet_count = ap length c.new-inlets.ensures.items;
   outlet_count = ap length c.new-outlets.ensures.items;
@@ -17,27 +17,27 @@ loop-element-init c = record {
 }
 
 pub ends_of-requires-clause-before : goal.ends_of-requires-clause-before
-ends_of-requires-clause-before c = ap length c.loop-element.invariant.table ∙ table_size (made_in c.args.graph.now) (links_in c.args.graph.now) c.loop-element.element
+ends_of-requires-clause-before c = ap length c.loop-number.invariant.table ∙ table_size (made_in c.args.graph.now) (links_in c.args.graph.now) c.loop-number.number
 
-pub loop-element-preserved : goal.loop-element-preserved
-loop-element-preserved c = record {
+pub loop-number-preserved : goal.loop-number-preserved
+loop-number-preserved c = record {
   table =
       c.in_ok-outlet.ensures.table
-      ∙ ap (λ (t : List Lane). t ++ map (lane_of []) (option_to_list (lane_room (made_in c.args.graph.now) (links_in c.args.graph.now) c.loop-element.element))) c.loop-element.invariant.table
-      ∙ table_more (made_in c.args.graph.now) (links_in c.args.graph.now) c.loop-element.element;
-  inlet_count = size_more _ _ _ c.loop-element.element c.in_ok-push-2.ensures.items c.loop-element.invariant.inlet_count;
-  outlet_count = size_more _ _ _ c.loop-element.element c.in_ok-push.ensures.items c.loop-element.invariant.outlet_count;
-  inlet = one_slot (MemInletAt (made_in c.args.graph.now) (links_in c.args.graph.now)) _ _ _ c.loop-element.element c.in_ok-push-2.ensures.items c.loop-element.invariant.inlet_count c.loop-element.invariant.inlet c.in_ok-outlet.ensures.inlet;
-  outlet = one_slot (MemOutletAt (made_in c.args.graph.now) (links_in c.args.graph.now)) _ _ _ c.loop-element.element c.in_ok-push.ensures.items c.loop-element.invariant.outlet_count c.loop-element.invariant.outlet c.in_ok-outlet.ensures.outlet;
+      ∙ ap (λ (t : List Lane). t ++ map (lane_of []) (option_to_list (lane_room (made_in c.args.graph.now) (links_in c.args.graph.now) c.loop-number.number))) c.loop-number.invariant.table
+      ∙ table_more (made_in c.args.graph.now) (links_in c.args.graph.now) c.loop-number.number;
+  inlet_count = size_more _ _ _ c.loop-number.number c.in_ok-push-2.ensures.items c.loop-number.invariant.inlet_count;
+  outlet_count = size_more _ _ _ c.loop-number.number c.in_ok-push.ensures.items c.loop-number.invariant.outlet_count;
+  inlet = one_slot (MemInletAt (made_in c.args.graph.now) (links_in c.args.graph.now)) _ _ _ c.loop-number.number c.in_ok-push-2.ensures.items c.loop-number.invariant.inlet_count c.loop-number.invariant.inlet c.in_ok-outlet.ensures.inlet;
+  outlet = one_slot (MemOutletAt (made_in c.args.graph.now) (links_in c.args.graph.now)) _ _ _ c.loop-number.number c.in_ok-push.ensures.items c.loop-number.invariant.outlet_count c.loop-number.invariant.outlet c.in_ok-outlet.ensures.outlet;
 }
 
 pub returns : goal.returns
 returns c =
-    let whole : c.loop-element.element ≡ length (made_in c.args.graph.now) = omega arith in
+    let whole : c.loop-number.number ≡ sink_numbers (made_in c.args.graph.now) = omega arith in
     record {
-      table_is = c.loop-element.invariant.table ∙ ap (table_before (made_in c.args.graph.now) (links_in c.args.graph.now)) whole;
-      inlet_count = c.loop-element.invariant.inlet_count ∙ whole;
-      outlet_count = c.loop-element.invariant.outlet_count ∙ whole;
-      inlet = c.loop-element.invariant.inlet;
-      outlet = c.loop-element.invariant.outlet;
+      table_is = c.loop-number.invariant.table ∙ ap (table_before (made_in c.args.graph.now) (links_in c.args.graph.now)) whole;
+      inlet_count = c.loop-number.invariant.inlet_count ∙ whole;
+      outlet_count = c.loop-number.invariant.outlet_count ∙ whole;
+      inlet = c.loop-number.invariant.inlet;
+      outlet = c.loop-number.invariant.outlet;
     }

@@ -7,11 +7,11 @@ use Rattle.graph_lanes.proofs.Memory.{MemInletAt, MemOutletAt}
 use Rattle.graph_lanes.proofs.Rooms.{table_before}
 use Rattle.graph_lanes.proofs.lanes.lanes_of.Given as goal
 
-abbrev pub invariant-loop-element : goal.invariant-loop-element
-invariant-loop-element l = record {
-  table : l.table ≡ table_before (made_in l.graph) (links_in l.graph) l.element;
-  inlet_count : length l.inlets.items ≡ l.element;
-  outlet_count : length l.outlets.items ≡ l.element;
-  inlet : (e : ℕ) (end : Option MemInlet) → slice_get l.inlets.items e ≡ Some end → MemInletAt (made_in l.graph) (links_in l.graph) e end;
-  outlet : (e : ℕ) (end : Option MemOutlet) → slice_get l.outlets.items e ≡ Some end → MemOutletAt (made_in l.graph) (links_in l.graph) e end;
+abbrev pub invariant-loop-number : goal.invariant-loop-number
+invariant-loop-number l = record {
+  table : l.table ≡ table_before (made_in l.graph) (links_in l.graph) l.number;
+  inlet_count : length l.inlets.items ≡ l.number;
+  outlet_count : length l.outlets.items ≡ l.number;
+  inlet : (d : ℕ) (end : Option MemInlet) → slice_get l.inlets.items d ≡ Some end → MemInletAt (made_in l.graph) (links_in l.graph) d end;
+  outlet : (d : ℕ) (end : Option MemOutlet) → slice_get l.outlets.items d ≡ Some end → MemOutletAt (made_in l.graph) (links_in l.graph) d end;
 }

@@ -1,9 +1,9 @@
-use Rattle.std.proofs.Common.{◌∙◌, ap, sym, subst}
+use Rattle.std.proofs.Common.{sym, subst}
 use Rattle.graph_core.specs.Graph.{made as made_in, links as links_in}
 use Rattle.graph_bags.specs.declared.bag.BagHead.{BagHead}
 use Rattle.graph_bags.specs.declared.bag.BagHead.TheVariants.{Source, Inlets}
 use Rattle.graph_bags.specs.declared.bag.BagLink.{BagLink}
-use Rattle.graph_tasks.specs.Wiring.{HeadGiven, HeadMade, PadGiven, PadMade, feeds_with}
+use Rattle.graph_tasks.specs.Wiring.{HeadGiven, HeadMade, PadGiven, PadMade}
 use Rattle.graph_tasks.specs.declared.wired_task.WiredHead.TheVariants as wired
 use Rattle.graph_tasks.proofs.Gathering.{inlets_head, source_given, source_head}
 use Rattle.graph_tasks.proofs.wiring.head_of.Goals as goal
@@ -28,8 +28,7 @@ returns-in_ok-rows-in-Inlets g c = λ gone heads outs ins given.
     let its : HeadGiven (made_in c.args.graph.now) (links_in c.args.graph.now) (Inlets n) gone heads =
     subst (λ (h : BagHead). HeadGiven (made_in c.args.graph.now) (links_in c.args.graph.now) h gone heads) c.in-Inlets.is given in
     subst
-    (λ (h : BagHead). HeadMade g.I.Inlet g.O.Outlet (made_in c.args.graph.now) (links_in c.args.graph.now) h gone heads (wired.Inlets n c.place_of-hint.result c.in_ok-rows-in-Inlets.rows) c.args.outlets.now.items c.taken.new.slots.items)
+    (λ (h : BagHead). HeadMade g.I.Inlet g.O.Outlet (made_in c.args.graph.now) (links_in c.args.graph.now) h gone heads (wired.Inlets n c.place_of-hint.result c.in_ok-rows-in-Inlets.rows) c.args.outlets.now.items c.rows_of.new.inlets.items)
     (sym c.in-Inlets.is)
-    (inlets_head g.I.Inlet g.O.Outlet (made_in c.args.graph.now) (links_in c.args.graph.now) n c.place_of-hint.result gone heads c.in_ok-rows-in-Inlets.rows c.args.outlets.now.items c.args.inlets.now.items c.taken.new.slots.items its
-    outs ins c.taken.ensures.left (c.in_ok-rows-in-Inlets.ensures.count ∙ c.sink_pads.ensures)
-    (λ row at. c.in_ok-rows-in-Inlets.ensures.first row at ∙ ap (feeds_with n) c.taken.ensures.taken))
+    (inlets_head g.I.Inlet g.O.Outlet (made_in c.args.graph.now) (links_in c.args.graph.now) n c.place_of-hint.result gone heads c.in_ok-rows-in-Inlets.rows c.args.outlets.now.items c.rows_of.new.inlets.items outs
+    (c.in_ok-rows-in-Inlets.ensures heads ins its.apart))

@@ -1,12 +1,12 @@
-use Rattle.std.proofs.Common.{◌≡◌, ◌∙◌, Some, length, map, take, ap, refl, arith}
+use Rattle.std.proofs.Common.{◌≡◌, ◌∙◌, Some, length, take, ap, refl, arith}
 use Rattle.std.specs.Prelude.{slice_get}
 use Rattle.std.specs.List.{flat_map}
 use Rattle.std.proofs.lemmas.Option.{slice_get_read}
 use Rattle.graph_core.specs.Graph.{made as made_in, links as links_in}
-use Rattle.graph_bags.specs.Bags.{cells, head_of}
+use Rattle.graph_bags.specs.Bags.{cells}
 use Rattle.graph_bags.specs.declared.bag.Bag.{Bag}
 use Rattle.graph_lanes.proofs.Slots.{size_more}
-use Rattle.graph_tasks.specs.Wiring.{cell_lanes}
+use Rattle.graph_tasks.specs.Wiring.{cell_lanes, inlets_of}
 use Rattle.graph_tasks.proofs.Gathering.{bag_given, bags_begin, bags_more}
 use Rattle.graph_tasks.proofs.wiring.tasks_of.Goals as goal
 
@@ -33,7 +33,7 @@ loop-bag-preserved g c = record {
       slice_get_read c.args.bags.now (length c.args.bags.now) c.loop-bag.bag-index c.bag-item.result refl (omega arith) c.bag-item.is in
       bags_more g.I.Inlet g.O.Outlet (made_in c.args.graph.now) (links_in c.args.graph.now) c.args.bags.now c.loop-bag.bag-index c.bag-item.result c.loop-bag.tasks.items c.push_back_reserved.new.self.items
       c.in_ok-task.task c.task_of.new.outlets.items c.task_of.new.inlets.items at c.loop-bag.invariant.size before.each
-      (c.in_ok-task.ensures (flat_map (λ (bag : Bag). cell_lanes (cells bag)) (take c.loop-bag.bag-index c.args.bags.now)) (map head_of (take c.loop-bag.bag-index c.args.bags.now)) before.outlets before.inlets
+      (c.in_ok-task.ensures (flat_map (λ (bag : Bag). cell_lanes (cells bag)) (take c.loop-bag.bag-index c.args.bags.now)) (flat_map (λ (bag : Bag). inlets_of (made_in c.args.graph.now) bag.head) (take c.loop-bag.bag-index c.args.bags.now)) before.outlets before.inlets
       (bag_given (made_in c.args.graph.now) (links_in c.args.graph.now) c.args.bags.now given c.loop-bag.bag-index c.bag-item.result at))
       c.push_back_reserved.ensures.items;
 }

@@ -3,7 +3,7 @@ use Rattle.world_core.specs.Told.{pad_told}
 use Rattle.world_core.proofs.Choosing.{chosen_next}
 use Rattle.world_core.proofs.report.counts_of.Goals as goal
 
-pub loop-element-preserved : goal.loop-element-preserved
-loop-element-preserved c =
-    chosen_next (pad_told (made c.args.graph.now) c.args.pads.now) c.loop-element.element c.in_ok-count_at.field-0 c.loop-element.counts c.push_some.new.list
-    c.in_ok-count_at.ensures c.loop-element.invariant c.in_ok-push_some.ensures
+pub loop-number-preserved : goal.loop-number-preserved
+loop-number-preserved c =
+    chosen_next (pad_told (made c.args.graph.now) c.args.counts.now) c.loop-number.number c.in_ok-count_at.field-0 c.loop-number.told c.push_some.new.list
+    c.in_ok-count_at.ensures c.loop-number.invariant c.in_ok-push_some.ensures

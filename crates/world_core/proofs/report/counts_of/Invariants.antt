@@ -5,5 +5,5 @@ use Rattle.graph_core.specs.Graph.{made}
 use Rattle.world_core.specs.Told.{pad_told}
 use Rattle.world_core.proofs.report.counts_of.Given as goal
 
-abbrev pub invariant-loop-element : goal.invariant-loop-element
-invariant-loop-element l = l.counts ≡ filter_map (pad_told (made l.graph) l.pads) (range_with_len 0 l.element)
+abbrev pub invariant-loop-number : goal.invariant-loop-number
+invariant-loop-number l = l.told ≡ filter_map (pad_told (made l.graph) l.counts) (range_with_len 0 l.number)

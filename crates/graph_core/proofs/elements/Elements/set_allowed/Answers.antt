@@ -1,6 +1,7 @@
 use Rattle.std.proofs.Common.{◌≤◌, ℕ, sym, ap, ◌∙◌, subst, string_bytes}
 use Rattle.std.specs.Option.{option_copied_mut}
 use Rattle.indexmap.proofs.CallerLemmas.{index_map_len-with_value_at}
+use Rattle.el_settings.specs.Asked.{with_allowed}
 use Rattle.graph_core.specs.declared.element.Element.{Element}
 use Rattle.graph_core.proofs.ByName.{set_made}
 use Rattle.graph_core.proofs.elements.Elements.set_allowed.Goals as goal
@@ -12,4 +13,4 @@ invariant_of-self c =
 
 pub returns : goal.returns
 returns c = λ m at.
-    set_made string_bytes c.args.self.now.by_name.entries c.args.element c.in-Some.element.now c.args.caps c.set_allowed.new.self m (sym c.get_index_mut.ensures.value ∙ ap (λ o. option_copied_mut o) c.in-Some.is) at c.set_allowed.ensures
+    set_made string_bytes (with_allowed c.args.caps) c.args.self.now.by_name.entries c.args.element c.in-Some.element.now c.set_allowed.new.self m (sym c.get_index_mut.ensures.value ∙ ap (λ o. option_copied_mut o) c.in-Some.is) at c.set_allowed.ensures

@@ -1,9 +1,9 @@
 use Rattle.std.proofs.Common.{◌<◌, ◌∙◌, Option, IfSome, ap, subst, sym}
 use Rattle.graph_core.specs.Ends.{pads_at}
 use Rattle.graph_core.specs.Graph.{links, made}
-use Rattle.graph_core.specs.Links.{sink_behind}
-use Rattle.graph_core.specs.declared.pad.Direction.TheVariants.{Sink}
-use Rattle.graph_core.specs.declared.pad.PadPlace.{PadPlace}
+use Rattle.graph_pads.specs.Links.{sink_behind}
+use Rattle.graph_pads.specs.declared.pad.Direction.TheVariants.{Sink}
+use Rattle.graph_pads.specs.declared.pad.PadPlace.{PadPlace}
 use Rattle.graph_core.proofs.Joining.{sink_found}
 use Rattle.graph_core.proofs.graph.Graph.sink_behind.Goals as goal
 

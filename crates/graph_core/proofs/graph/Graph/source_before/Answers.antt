@@ -1,9 +1,9 @@
 use Rattle.std.proofs.Common.{◌<◌, ◌∙◌, Option, IfSome, ap, subst, sym}
 use Rattle.graph_core.specs.Ends.{pads_at}
 use Rattle.graph_core.specs.Graph.{links, made}
-use Rattle.graph_core.specs.Links.{source_before}
-use Rattle.graph_core.specs.declared.pad.Direction.TheVariants.{Source}
-use Rattle.graph_core.specs.declared.pad.PadPlace.{PadPlace}
+use Rattle.graph_pads.specs.Links.{source_before}
+use Rattle.graph_pads.specs.declared.pad.Direction.TheVariants.{Source}
+use Rattle.graph_pads.specs.declared.pad.PadPlace.{PadPlace}
 use Rattle.graph_core.proofs.Joining.{source_found}
 use Rattle.graph_core.proofs.graph.Graph.source_before.Goals as goal
 

@@ -10,3 +10,4 @@ invariant-loop-port g l =
     × PadsAre l.self.parts.items l.place l.port-end
     × SettledAt l.self.parts.items l.place
     × (l.self.from ≤ l.fn.self.from)
+    × (l.port ≤ l.port-end)

@@ -1,6 +1,0 @@
-use Rattle.std.proofs.Common.{◌≡◌, drop}
-use Rattle.graph_core.specs.Links.{sink_behind}
-use Rattle.graph_core.proofs.judging.sink_behind.Given as goal
-
-abbrev pub invariant-loop-link : goal.invariant-loop-link
-invariant-loop-link l = sink_behind (drop l.link-index l.links) l.source ≡ sink_behind l.links l.source

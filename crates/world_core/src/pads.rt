@@ -1,0 +1,82 @@
+//! Pads by their numbers, and their names.
+ghost use Rattle.std.specs.Prelude.{◌≡◌, ◌<◌, ◌≤◌, IfOk};
+ghost use Rattle.graph_core.specs.Ends.{name_at};
+ghost use Rattle.graph_core.specs.Graph.{made as made_in};
+ghost use Rattle.graph_core.specs.GraphPlan.{pad_id};
+ghost use Rattle.graph_moment.specs.Laws.{place_of as place_in};
+ghost use Rattle.world_core.specs.Pads.{no_pad, sink_pad, source_pad};
+
+use graph_core::{Graph, PadPlace};
+use gst_value::{OutOfMemory, PadName, Text};
+use std::alloc::Global;
+
+/// How many numbers an element has for its source pads, and for its sink pads.
+pub(crate) const MOST_PADS: u32 = 64;
+
+/// The place of the pad of a number.
+pub(crate) fn place_of(number: u32) -> PadPlace
+    ensures { result ≡ place_in number }
+{
+    PadPlace {
+        element: number / MOST_PADS,
+        pad: number % MOST_PADS,
+    }
+}
+
+/// The number of the lane into a sink pad.
+pub(crate) fn lane_into(sink: PadPlace) -> u32
+    requires element { sink.element ≤ 256 }
+    requires pad { sink.pad ≤ 64 }
+    ensures { result ≡ pad_id sink }
+{
+    sink.element * MOST_PADS + sink.pad
+}
+
+/// The name of an element, and no name where it is not there.
+pub(crate) fn name_of(alloc: Global, graph: &Graph, element: u32) -> Result<Text, OutOfMemory>
+    ensures { IfOk result (λ name. name ≡ name_at (made_in graph.now) element) }
+{
+    match graph.name(element) {
+        Some(name) => Text::from_str(alloc, name),
+        None => Ok(Text::new(alloc)),
+    }
+}
+
+/// The name of an element in place of that of a pad which is not there.
+fn without_pad(alloc: Global, graph: &Graph, element: u32) -> Result<PadName, OutOfMemory>
+    ensures { IfOk result (λ name. name ≡ no_pad (made_in graph.now) element) }
+{
+    Ok(PadName {
+        element: name_of(alloc, graph, element)?,
+        pad: Text::new(alloc),
+    })
+}
+
+/// The name of the source pad of a number.
+pub(crate) fn source_named(
+    alloc: Global,
+    graph: &Graph,
+    number: u32,
+) -> Result<PadName, OutOfMemory>
+    ensures { IfOk result (λ name. name ≡ source_pad (made_in graph.now) number) }
+{
+    let place = place_of(number);
+    match graph.source_name(alloc, place)? {
+        Some(name) => Ok(name),
+        None => without_pad(alloc, graph, place.element),
+    }
+}
+
+/// The name of a sink pad.
+pub(crate) fn sink_named(
+    alloc: Global,
+    graph: &Graph,
+    place: PadPlace,
+) -> Result<PadName, OutOfMemory>
+    ensures { IfOk result (λ name. name ≡ sink_pad (made_in graph.now) place) }
+{
+    match graph.sink_name(alloc, place)? {
+        Some(name) => Ok(name),
+        None => without_pad(alloc, graph, place.element),
+    }
+}
