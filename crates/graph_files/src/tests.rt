@@ -5,7 +5,7 @@ ghost use Rattle.task_pads.specs.Pads.{goes_of};
 
 use super::*;
 use el_basic::Tee;
-use el_set::{SinkElement, sink_of, source_of};
+use el_set::{SinkElement, SourceElement, sink_of, source_of};
 use el_settings::{FileSinkSettings, FileSrcSettings, Settings};
 use graph_core::{Graph, build};
 use gst_item::{Event, Item};
@@ -223,26 +223,38 @@ fn task_of<S: Source, K: Sink, I: Inlet<Out = O>, O: Outlet<Lanes = I::Lanes>>(
     Ok(Task::new(Head::Source(head), parts))
 }
 
+/// A source that reads a file.
+fn source_with<S: Source>(alloc: Global, input: S) -> Result<SourceElement<S>, Fail> {
+    let reading = Settings::FileSrc(FileSrcSettings {
+        location: Text::from_str(alloc, "a")?,
+        blocksize: 2,
+    });
+    match source_of(&reading, None, Some(input), 0) {
+        Some(source) => Ok(source),
+        None => Err("no source")?,
+    }
+}
+
+/// A sink that writes a file.
+fn sink_with<K: Sink>(alloc: Global, output: K) -> Result<SinkElement<K>, Fail> {
+    let writing = Settings::FileSink(FileSinkSettings {
+        location: Text::from_str(alloc, "x")?,
+        keep_flushed: false,
+    });
+    match sink_of(&writing, Some(output)) {
+        Some(sink) => Ok(sink),
+        None => Err("no sink")?,
+    }
+}
+
 /// A source that reads a file, a tee, of whose pads the second has ended, and a sink that writes a file, as a task.
 fn task_with<S: Source, K: Sink>(
     alloc: Global,
     input: S,
     output: K,
 ) -> Result<Task<StreamSource<S>, StreamElement<K>, MemInlet, MemOutlet>, Fail> {
-    let reading = Settings::FileSrc(FileSrcSettings {
-        location: Text::from_str(alloc, "a")?,
-        blocksize: 2,
-    });
-    let writing = Settings::FileSink(FileSinkSettings {
-        location: Text::from_str(alloc, "x")?,
-        keep_flushed: false,
-    });
-    let Some(source) = source_of(&reading, None, Some(input), 0) else {
-        return Err("no source")?;
-    };
-    let Some(sink) = sink_of(&writing, Some(output)) else {
-        return Err("no sink")?;
-    };
+    let source = source_with(alloc, input)?;
+    let sink = sink_with(alloc, output)?;
     let head = SourceHead::new(0, StreamSource::new(source), pad_of(alloc, 0, false)?);
     let first = pad_of(alloc, 64, false)?;
     let second = pad_of(alloc, 65, true)?;
