@@ -1,5 +1,6 @@
 //! What is made of the elements of a line, and what they, and a task, give back.
 ghost use Rattle.std.specs.Prelude.{◌≡◌, IfOk};
+ghost use Rattle.el_set.specs.Gives.{source_items};
 ghost use Rattle.task_pads.specs.Behind.{nowhere};
 ghost use Rattle.task_pads.specs.Pads.{goes_of};
 
@@ -224,7 +225,9 @@ fn task_of<S: Source, K: Sink, I: Inlet<Out = O>, O: Outlet<Lanes = I::Lanes>>(
 }
 
 /// A source that reads a file.
-fn source_with<S: Source>(alloc: Global, input: S) -> Result<SourceElement<S>, Fail> {
+fn source_with<S: Source>(alloc: Global, input: S) -> Result<SourceElement<S>, Fail>
+    ensures { IfOk result (λ source. source_items source ≡ 0) }
+{
     let reading = Settings::FileSrc(FileSrcSettings {
         location: Text::from_str(alloc, "a")?,
         blocksize: 2,
