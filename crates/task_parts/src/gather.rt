@@ -1,7 +1,7 @@
 //! What an element put out goes to its pads.
-ghost use Rattle.std.specs.Prelude.{◌≡◌, ◌≤◌, ◌&&◌, not, true, vec_len, map, [], length, OnOk};
+ghost use Rattle.std.specs.Prelude.{◌≡◌, ◌≢◌, ◌≤◌, ◌&&◌, not, true, vec_len, map, [], Some, length, slice_get, OnOk};
 ghost use Rattle.task_pads.specs.Behind.{leads_on};
-ghost use Rattle.task_pads.specs.Pads.{rest_of};
+ghost use Rattle.task_pads.specs.Pads.{rest_of, waiting_of};
 ghost use Rattle.task_pads.specs.Put.{Spread};
 ghost use Rattle.task_parts.specs.Gathered.{AreFilled, AreIdleBelow, are_within, linked_else};
 
@@ -40,6 +40,7 @@ pub(crate) fn gather<O>(
 pub fn first_waiting<O: Outlet>(pads: &[Pad<O>]) -> usize
     ensures within { result ≤ length pads.now }
     ensures idle { AreIdleBelow result pads.now }
+    ensures waits { (pad : _) → slice_get pads.now result ≡ Some pad → waiting_of pad ≢ [] }
 {
     for port in 0..pads.len() {
         if !pads[port].is_idle() {
