@@ -24,9 +24,9 @@ use Rattle.flow_model.specs.Item.{Item}
 use Rattle.net_model.specs.Takes.{on_port}
 use Rattle.task_pads.specs.Pads.{waiting_of}
 use Rattle.task_parts.specs.Gathered.{AreIdleBelow}
-use Rattle.task_parts.specs.Idle.{idle_before}
+use Rattle.task_parts.specs.Idle.{idle_before, part_idle}
 use Rattle.task_parts.specs.Moved.{KeepsFront}
-use Rattle.task_parts.proofs.Idling.{idle_at, idle_front, idle_less, idle_out, idle_pad}
+use Rattle.task_parts.proofs.Idling.{idle_all, idle_at, idle_front, idle_out, idle_pad}
 use Rattle.task_parts.specs.Shape.{part_shape}
 use Rattle.task_parts.specs.Part.{IsSettled}
 use Rattle.task_parts.specs.Passing.{HasPort, Settles}
@@ -411,9 +411,13 @@ pub on_ok : {T X : Type 0} (r : Result T X) (P : Type 0) → is_err r ≡ false 
 on_ok (Ok t) P q p = p
 on_ok (Err x) P q p = absurd cc
 
--- the elements before a place stay idle
+-- at the elements before a place nothing waits afterwards either
 pub front_idle : {E O : Type 0} {e : elements.Ghosts E} (from from' : ℕ) (parts parts' : List (Part E O e)) → KeepsFront from from' parts parts' → idle_before from parts ≡ true → idle_before from' parts' ≡ true
-front_idle from from' parts parts' f before = idle_front from' parts parts' f.same (idle_less from' from parts f.lower before)
+front_idle {E = E} {O = O} {e = e} from from' parts parts' f before = idle_all from' parts' (λ k part w at. stays k part w (f.front k part w at))
+  where
+    stays : (k : ℕ) (part : Part E O e) → k < from' → ((slice_get parts k ≡ Some part) ⊎ (part_idle part ≡ true)) → part_idle part ≡ true
+    stays k part w (inl at) = idle_at from k parts part (let low = f.lower in omega (arith, w, low)) at before
+    stays k part w (inr idle) = idle
 
 pub settled_idle : {E O : Type 0} {e : elements.Ghosts E} (from place : ℕ) (parts parts' : List (Part E O e)) → from ≤ place → Settles parts parts' place → idle_before from parts ≡ true → idle_before from parts' ≡ true
 settled_idle {E = E} {O = O} {e = e} from place parts parts' w t before =

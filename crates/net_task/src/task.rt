@@ -8,8 +8,8 @@ use lane_core::{Inlet, Outlet};
 use net_model::{TaskElement, TaskSource};
 use std::alloc::Global;
 use task_parts::{
-    Failure, Head, Part, Step, Tried, cross_part, cross_source, first_busy, first_waiting, give,
-    sent, settle, take,
+    Failure, Head, Part, Step, Tried, cross_part, cross_source, first_busy, give, sent, settle,
+    take,
 };
 
 /// A task: a head, and elements with their source pads, in the order in which these are tried: those that stand farthest
@@ -131,7 +131,7 @@ impl<S: TaskSource, E: TaskElement, I: Inlet<Out = O>, O: Outlet<Lanes = I::Lane
         if settle(alloc, &mut self.parts, place).is_err() {
             return Err(Failure::out_of_memory());
         }
-        let first = first_waiting(self.parts[place].pads());
+        let first = self.parts[place].first_waiting();
         let mut tried = Tried::Idle;
         for port in first..self.parts[place].pads().len() {
             tried = with_next(tried, self.try_pad(alloc, lanes, place, port)?);

@@ -26,6 +26,11 @@ pads_idle [] = true
 pads_idle (pad ∷ pads) = is_nothing (waiting_of pad) && pads_idle pads
 
 -- nothing waits at the first pads, so many of them
+abbrev pub pads_idle_below : {O : Type 0} → ℕ → List (Pad O) → Bool
+pads_idle_below zero pads = true
+pads_idle_below (suc count) [] = true
+pads_idle_below (suc count) (pad ∷ pads) = is_nothing (waiting_of pad) && pads_idle_below count pads
+
 abbrev pub AreIdleBelow : {O : Type 0} → ℕ → List (Pad O) → Type 0
 AreIdleBelow {O = O} count pads = (port : ℕ) (pad : Pad O) → port < count → slice_get pads port ≡ Some pad → waiting_of pad ≡ []
 

@@ -1,5 +1,5 @@
 -- An item goes from a pad of one element of a task to another element.
-use Rattle.std.specs.Prelude.{◌≡◌, ◌≢◌, ◌≤◌, ◌<◌, ◌+◌, ◌++◌, ◌∷◌, ℕ, List, [], Some, slice_get, slice_set}
+use Rattle.std.specs.Prelude.{◌≡◌, ◌≢◌, ◌≤◌, ◌<◌, ◌⊎◌, ◌+◌, ◌++◌, ◌∷◌, ℕ, true, List, [], Some, slice_get, slice_set}
 use Rattle.flow_model.specs.Item.{Item}
 use Rattle.net_model.specs.declared.element.TaskElement as elements
 use Rattle.net_model.specs.declared.refusal.Refusal.{Refusal}
@@ -7,6 +7,7 @@ use Rattle.task_pads.specs.declared.pad.Pad.{Pad}
 use Rattle.task_pads.specs.Pads.{CanTakeBack, HasCrossed, crossed_count, probe_of, rest_of, waiting_of}
 use Rattle.task_pads.specs.Put.{IsTaken}
 use Rattle.task_parts.specs.declared.part.Part.{Part}
+use Rattle.task_parts.specs.Idle.{part_idle}
 use Rattle.task_parts.specs.Part.{PartFed, PartFell, PartGave, PartTookBack}
 
 module _ {E O : Type 0} {e : elements.Ghosts E} where
@@ -81,7 +82,7 @@ module _ {E O : Type 0} {e : elements.Ghosts E} where
     pub fed : PartSet parts parts' to eater ate
     pub fell : PartFell eater ate sink item refusal
 
-  -- The elements before a place are as they were; that place is no later one than it was.
+  -- Each element before a place is as it was, or nothing waits at it; that place is no later one than it was.
   pub record KeepsFront (from from' : ℕ) (parts parts' : List (Part E O e)) : Type 0 where
     pub lower : from' ≤ from
-    pub same : (k : ℕ) → k < from' → slice_get parts' k ≡ slice_get parts k
+    pub front : (k : ℕ) (part : Part E O e) → k < from' → slice_get parts' k ≡ Some part → (slice_get parts k ≡ Some part) ⊎ (part_idle part ≡ true)

@@ -3,7 +3,7 @@ ghost use Rattle.std.specs.Prelude.{◌≡◌, ◌≢◌, ◌≤◌, ◌&&◌, n
 ghost use Rattle.task_pads.specs.Behind.{leads_on};
 ghost use Rattle.task_pads.specs.Pads.{rest_of, waiting_of};
 ghost use Rattle.task_pads.specs.Put.{Spread};
-ghost use Rattle.task_parts.specs.Gathered.{AreFilled, AreIdleBelow, are_within, linked_else};
+ghost use Rattle.task_parts.specs.Gathered.{AreFilled, AreIdleBelow, are_within, linked_else, pads_idle_below};
 
 use gst_item::Outs;
 use gst_value::OutOfMemory;
@@ -12,11 +12,13 @@ use std::alloc::Global;
 use task_pads::{Behind, Pad, fill, spread};
 
 /// What was put out goes to the pads, behind what waits there. Where memory is wanting some of it stays, in its order.
+/// `first` is a port below which nothing waits.
 #[inline(always)]
 pub(crate) fn gather<O>(
     alloc: Global,
     pads: &mut Vec<Pad<O>>,
     out: &mut Outs,
+    first: &mut usize,
 ) -> Result<(), OutOfMemory>
     requires within { are_within (vec_len pads.old) out.old ≡ true }
     ensures rest { map rest_of pads.new.items ≡ map rest_of pads.old.items }
@@ -24,10 +26,12 @@ pub(crate) fn gather<O>(
     ensures within { are_within (vec_len pads.new) out.new ≡ true }
     ensures number { vec_len pads.new ≡ vec_len pads.old }
     ensures all { OnOk result (AreFilled pads.new.items out.new) }
+    ensures first { pads_idle_below first.old pads.old.items ≡ true → pads_idle_below first.new pads.new.items ≡ true }
 {
     if out.as_slice().is_empty() {
         return Ok(());
     }
+    *first = 0;
     if pads.len() == 1 {
         fill(alloc, &mut pads[0], out);
         return Ok(());
@@ -35,14 +39,15 @@ pub(crate) fn gather<O>(
     spread(alloc, pads, out)
 }
 
-/// The port of the first pad at which an item waits; the number of pads where none waits at any.
+/// The port of the first pad at which an item waits; the number of pads where none waits at any. None waits below `from`.
 #[inline(always)]
-pub fn first_waiting<O: Outlet>(pads: &[Pad<O>]) -> usize
+pub(crate) fn first_waiting<O: Outlet>(pads: &[Pad<O>], from: usize) -> usize
+    requires from { pads_idle_below from pads.now ≡ true }
     ensures within { result ≤ length pads.now }
     ensures idle { AreIdleBelow result pads.now }
     ensures waits { (pad : _) → slice_get pads.now result ≡ Some pad → waiting_of pad ≢ [] }
 {
-    for port in 0..pads.len() {
+    for port in from..pads.len() {
         if !pads[port].is_idle() {
             return port;
         }

@@ -12,7 +12,6 @@ pub mod step;
 
 pub use fault::{Failure, TaskFault};
 pub use find::{first_busy, sent};
-pub use gather::first_waiting;
 pub use head::{Head, InletHead, SourceHead};
 pub use part::Part;
 pub use passing::{cross_part, cross_source, give, settle, take};

@@ -6,9 +6,9 @@ ghost use Rattle.net_model.specs.Moment.{Behavior};
 ghost use Rattle.net_model.specs.Failures.{NeverFalls, IsWriteCause};
 ghost use Rattle.net_model.specs.Refuses.{RefusesBy};
 ghost use Rattle.net_model.specs.Takes.{Takes};
-ghost use Rattle.task_parts.specs.Gathered.{are_within};
+ghost use Rattle.task_parts.specs.Gathered.{are_within, pads_idle_below};
 
-use crate::gather::{gather, is_linked_else};
+use crate::gather::{first_waiting, gather, is_linked_else};
 use gst_item::{Item, Outs};
 use gst_value::{List, OutOfMemory};
 use lane_core::Outlet;
@@ -24,12 +24,17 @@ pub struct Part<E: TaskElement, O> {
     /// What it put out and is not at its pads yet: it comes behind what waits there.
     pub(crate) out: Outs,
     pub(crate) pads: Vec<Pad<O>>,
+    /// Nothing waits at the pads below this port.
+    pub(crate) first: usize,
     ghost ports: { E.ports element ≡ vec_len pads },
     ghost within: { are_within (vec_len pads) out ≡ true },
+    ghost idle: { pads_idle_below first pads.items ≡ true },
 }
 
 impl<E: TaskElement, O: Outlet> Part<E, O> {
-    ghost use Rattle.std.specs.Prelude.{◌<◌, []};
+    ghost use Rattle.std.specs.Prelude.{◌<◌, ◌≤◌, ◌≢◌, [], Some, length, slice_get};
+    ghost use Rattle.task_pads.specs.Pads.{waiting_of};
+    ghost use Rattle.task_parts.specs.Gathered.{AreIdleBelow};
     ghost use Rattle.task_parts.specs.Part.{PartSettled, IsSettled, PartFed, PartFell, PartCrossed, PartGave, PartTookBack, PartReady, CanTakeBackAt};
     ghost use Rattle.task_parts.specs.Ends.{sent_from};
     ghost use Rattle.task_parts.specs.Idle.{part_idle};
@@ -48,6 +53,7 @@ impl<E: TaskElement, O: Outlet> Part<E, O> {
             element,
             out: List::new(alloc),
             pads,
+            first: 0,
         }
     }
 
@@ -84,6 +90,16 @@ impl<E: TaskElement, O: Outlet> Part<E, O> {
         None
     }
 
+    /// The port of its first pad at which an item waits; the number of its pads where none waits at any.
+    #[inline(always)]
+    pub fn first_waiting(&self) -> usize
+        ensures within { result ≤ length self.now.pads.items }
+        ensures idle { AreIdleBelow result self.now.pads.items }
+        ensures waits { (pad : _) → slice_get self.now.pads.items result ≡ Some pad → waiting_of pad ≢ [] }
+    {
+        first_waiting(self.pads.as_slice(), self.first)
+    }
+
     /// Whether nothing waits at its pads, and nothing that it put out is to go there.
     #[inline(always)]
     pub(crate) fn is_idle(&self) -> bool
@@ -92,12 +108,7 @@ impl<E: TaskElement, O: Outlet> Part<E, O> {
         if !self.out.as_slice().is_empty() {
             return false;
         }
-        for port in 0..self.pads.len() {
-            if !self.pads[port].is_idle() {
-                return false;
-            }
-        }
-        true
+        self.first_waiting() >= self.pads.len()
     }
 
     /// The element. What waited at its pads is given up.
@@ -115,7 +126,9 @@ impl<E: TaskElement, O: Outlet> Part<E, O> {
         ensures all { OnOk result (IsSettled self.new) }
         ensures shape { part_shape self.new ≡ part_shape self.old }
     {
-        gather(alloc, &mut self.pads, &mut self.out)
+        let settled = gather(alloc, &mut self.pads, &mut self.out, &mut self.first);
+        self.first = self.first_waiting();
+        settled
     }
 
     /// The element takes an item, and what it puts out waits at its pads.
@@ -141,7 +154,7 @@ impl<E: TaskElement, O: Outlet> Part<E, O> {
         ensures settled { PartSettled self.old self.new }
         ensures shape { part_shape self.new ≡ part_shape self.old }
     {
-        if gather(alloc, &mut self.pads, &mut self.out).is_err() {}
+        if gather(alloc, &mut self.pads, &mut self.out, &mut self.first).is_err() {}
     }
 
     /// The oldest item that waits at the pad of a port crosses it, if it can.

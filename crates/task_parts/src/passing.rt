@@ -1,5 +1,6 @@
 //! What one try of a pad, or of a head, moves.
-ghost use Rattle.std.specs.Prelude.{◌≡◌, ◌≤◌, ◌<◌, ◌⊎◌, true, map, vec_len, Some, slice_get, OnOk};
+ghost use Rattle.std.specs.Prelude.{◌≡◌, ◌≤◌, ◌<◌, ◌⊎◌, true, length, map, vec_len, Some, slice_get, OnOk};
+ghost use Rattle.task_parts.specs.Idle.{part_idle};
 ghost use Rattle.task_parts.specs.Moved.{KeepsFront};
 ghost use Rattle.task_parts.specs.Part.{PartReady, IsSettled};
 ghost use Rattle.task_parts.specs.Passing.{CrossesPart, CrossesSource, GivesAs, TakesNext, Settles, HasPort, InletsReady, RowAsked, RowFed};
@@ -39,8 +40,8 @@ pub fn settle<E: TaskElement, O: Outlet>(
 }
 
 /// The oldest item that waits at the pad of a port of the element at a place crosses it, if it can. Where it goes to an
-/// element of the task, that takes it. `from` is a place up to which no element changes: it becomes a lower one where an
-/// element before it takes the item.
+/// element of the task, that takes it. `from` is a place up to which no element changes but one at which nothing waits then:
+/// it becomes a lower one where an element before it takes the item and puts something out.
 #[inline(always)]
 pub fn cross_part<E: TaskElement, O: Outlet>(
     alloc: Global,
@@ -70,8 +71,9 @@ pub fn cross_part<E: TaskElement, O: Outlet>(
         Crossing::OutOfMemory => Err(Failure::out_of_memory()),
         Crossing::To { number, hint, pad } => {
             let to = find(parts.as_slice(), number, hint);
-            lower(from, to);
-            match hand_on(alloc, parts, place, port, to, pad) {
+            let handed = hand_on(alloc, parts, place, port, to, pad);
+            lower(parts.as_slice(), from, to);
+            match handed {
                 Ok(()) => Ok(Tried::Moved),
                 Err(refusal) => Err(Failure::refused(number, refusal)),
             }
@@ -79,15 +81,20 @@ pub fn cross_part<E: TaskElement, O: Outlet>(
     }
 }
 
-/// The lower of two places.
+/// Where something waits at the element at a place `to` before `from`, that place becomes `from`.
 #[inline(always)]
-fn lower(from: &mut usize, to: usize)
+fn lower<E: TaskElement, O: Outlet>(parts: &[Part<E, O>], from: &mut usize, to: usize)
+    requires to { to < length parts.now }
     ensures lower { from.new ≤ from.old }
-    ensures below { from.new ≤ to }
+    ensures idle { (part : _) → slice_get parts.now to ≡ Some part → to < from.new → part_idle part ≡ true }
 {
-    if to < *from {
-        *from = to;
+    if to >= *from {
+        return;
     }
+    if parts[to].is_idle() {
+        return;
+    }
+    *from = to;
 }
 
 /// The fault of a buffer at the pad of a port, which is not linked.
@@ -126,8 +133,9 @@ pub fn cross_source<S: TaskSource, E: TaskElement, O: Outlet>(
         Crossing::OutOfMemory => Err(Failure::out_of_memory()),
         Crossing::To { number, hint, pad } => {
             let to = find(parts.as_slice(), number, hint);
-            lower(from, to);
-            match hand_in(alloc, &mut head.pad, parts, to, pad) {
+            let handed = hand_in(alloc, &mut head.pad, parts, to, pad);
+            lower(parts.as_slice(), from, to);
+            match handed {
                 Ok(()) => Ok(Tried::Moved),
                 Err(refusal) => Err(Failure::refused(number, refusal)),
             }
@@ -179,8 +187,9 @@ pub fn take<E: TaskElement, I: Inlet<Out = O>, O: Outlet<Lanes = I::Lanes>>(
     match take_row(head, lanes, port) {
         Taken::Empty(lane) => Ok(Tried::Stuck(Step::NeedsItem(lane))),
         Taken::Item(item) => {
-            lower(from, to);
-            feed_row(alloc, parts, to, port, item)
+            let fed = feed_row(alloc, parts, to, port, item);
+            lower(parts.as_slice(), from, to);
+            fed
         }
     }
 }

@@ -1,4 +1,4 @@
-use Rattle.std.proofs.Common.{refl, arith, ap, sym, subst, ◌∙◌, ◌≡◌, true, List, map}
+use Rattle.std.proofs.Common.{refl, arith, ap, length, sym, subst, ◌∙◌, ◌≡◌, true, List, map}
 use Rattle.std.specs.Prelude.{slice_set}
 use Rattle.std.proofs.lemmas.Option.{slice_get_within}
 use Rattle.task_pads.specs.declared.crossing.Crossing.TheVariants as crossings
@@ -8,7 +8,7 @@ use Rattle.task_parts.specs.Shape.{has_number, part_shape}
 use Rattle.task_pads.proofs.Lists.{set_length, some_at}
 use Rattle.task_parts.proofs.Lists.{at_get, set_at}
 use Rattle.task_parts.proofs.Tries.{at_other, crossed_shape, err_same, pad_in, place_within, port_in, to_gives, to_named}
-use Rattle.task_parts.proofs.Fronts.{front_back, front_handed, front_set}
+use Rattle.task_parts.proofs.Fronts.{front_back, front_handed, front_set, idle_of, same_length}
 use Rattle.task_parts.proofs.passing.cross_part.Goals as goal
 
 pub index_mut-requires : goal.index_mut-requires
@@ -38,15 +38,23 @@ find-to-requires-clause-named g c κs within =
     subst (λ (ps : List (Part g.row.E.Denot g.row.O.Denot g.E.TaskElement)). has_number c.in-To.number (map part_shape ps) ≡ true) (sym c.as_slice.ensures.value)
     (to_named g.O.Outlet c.args.parts.now.items c.args.place c.args.port c.index_mut.result.now c.cross.new.self (g.O.Outlet.tells c.args.lanes.now) (g.O.Outlet.tells c.cross.new.lanes) c.in-To.number c.in-To.hint c.in-To.pad (some_at c.args.parts.now.items c.args.place c.index_mut.result.now (place_within c.args.parts.now.items c.args.place c.args.port c.requires.at) c.index_mut.ensures.value) c.in-To.ensures (c.requires.closed c.index_mut.result.now (some_at c.args.parts.now.items c.args.place c.index_mut.result.now (place_within c.args.parts.now.items c.args.place c.args.port c.requires.at) c.index_mut.ensures.value)))
 
-pub hand_on-requires-clause-to : goal.hand_on-requires-clause-to
-hand_on-requires-clause-to g c =
+pub hand_on-handed-requires-clause-to : goal.hand_on-handed-requires-clause-to
+hand_on-handed-requires-clause-to g c =
     let z = at_other _ (slice_set c.args.parts.now.items c.args.place c.cross.new.self) c.in-To.number c.find-to.result c.as_slice.ensures.value c.find-to.ensures in
     let low = slice_get_within (slice_set c.args.parts.now.items c.args.place c.cross.new.self) c.find-to.result z.part z.at in
     omega (arith, low, set_length c.args.parts.now.items c.args.place c.cross.new.self, c.args.parts.now.ok.0)
 
-pub hand_on-requires-clause-gives : goal.hand_on-requires-clause-gives
-hand_on-requires-clause-gives g c κs within =
+pub hand_on-handed-requires-clause-gives : goal.hand_on-handed-requires-clause-gives
+hand_on-handed-requires-clause-gives g c κs within =
     to_gives g.O.Outlet c.args.parts.now.items c.args.place c.args.port c.index_mut.result.now c.cross.new.self (g.O.Outlet.tells c.args.lanes.now) (g.O.Outlet.tells c.cross.new.lanes) c.in-To.number c.in-To.hint c.in-To.pad (some_at c.args.parts.now.items c.args.place c.index_mut.result.now (place_within c.args.parts.now.items c.args.place c.args.port c.requires.at) c.index_mut.ensures.value) c.in-To.ensures
+
+pub lower-requires-clause-to : goal.lower-requires-clause-to
+lower-requires-clause-to g c κs within =
+    let z = at_other _ (slice_set c.args.parts.now.items c.args.place c.cross.new.self) c.in-To.number c.find-to.result c.as_slice.ensures.value c.find-to.ensures in
+    let low = slice_get_within (slice_set c.args.parts.now.items c.args.place c.cross.new.self) c.find-to.result z.part z.at in
+    let many = same_length (slice_set c.args.parts.now.items c.args.place c.cross.new.self) c.hand_on-handed.new.parts.items c.hand_on-handed.ensures.shape in
+    let same = ap (λ (ps : List (Part g.row.E.Denot g.row.O.Denot g.E.TaskElement)). length ps) c.as_slice-in-To.ensures.value in
+    omega (arith, low, many, same)
 
 pub returns-in-Idle-clause-crosses : goal.returns-in-Idle-clause-crosses
 returns-in-Idle-clause-crosses g c = record {
@@ -172,7 +180,7 @@ returns-in-Ok-clause-crosses g c = record {
 }
 
 pub returns-in-Ok-clause-shape : goal.returns-in-Ok-clause-shape
-returns-in-Ok-clause-shape g c = c.hand_on.ensures.shape ∙ crossed_shape g.O.Outlet c.args.parts.now.items c.args.place c.args.port c.index_mut.result.now c.cross.new.self (g.O.Outlet.tells c.args.lanes.now) (g.O.Outlet.tells c.cross.new.lanes) (crossings.To c.in-To.number c.in-To.hint c.in-To.pad) (some_at c.args.parts.now.items c.args.place c.index_mut.result.now (place_within c.args.parts.now.items c.args.place c.args.port c.requires.at) c.index_mut.ensures.value) c.in-To.ensures
+returns-in-Ok-clause-shape g c = c.hand_on-handed.ensures.shape ∙ crossed_shape g.O.Outlet c.args.parts.now.items c.args.place c.args.port c.index_mut.result.now c.cross.new.self (g.O.Outlet.tells c.args.lanes.now) (g.O.Outlet.tells c.cross.new.lanes) (crossings.To c.in-To.number c.in-To.hint c.in-To.pad) (some_at c.args.parts.now.items c.args.place c.index_mut.result.now (place_within c.args.parts.now.items c.args.place c.args.port c.requires.at) c.index_mut.ensures.value) c.in-To.ensures
 
 pub returns-in-Err-clause-crosses : goal.returns-in-Err-clause-crosses
 returns-in-Err-clause-crosses g c = record {
@@ -186,7 +194,7 @@ returns-in-Err-clause-crosses g c = record {
 }
 
 pub returns-in-Err-clause-shape : goal.returns-in-Err-clause-shape
-returns-in-Err-clause-shape g c = c.hand_on.ensures.shape ∙ crossed_shape g.O.Outlet c.args.parts.now.items c.args.place c.args.port c.index_mut.result.now c.cross.new.self (g.O.Outlet.tells c.args.lanes.now) (g.O.Outlet.tells c.cross.new.lanes) (crossings.To c.in-To.number c.in-To.hint c.in-To.pad) (some_at c.args.parts.now.items c.args.place c.index_mut.result.now (place_within c.args.parts.now.items c.args.place c.args.port c.requires.at) c.index_mut.ensures.value) c.in-To.ensures
+returns-in-Err-clause-shape g c = c.hand_on-handed.ensures.shape ∙ crossed_shape g.O.Outlet c.args.parts.now.items c.args.place c.args.port c.index_mut.result.now c.cross.new.self (g.O.Outlet.tells c.args.lanes.now) (g.O.Outlet.tells c.cross.new.lanes) (crossings.To c.in-To.number c.in-To.hint c.in-To.pad) (some_at c.args.parts.now.items c.args.place c.index_mut.result.now (place_within c.args.parts.now.items c.args.place c.args.port c.requires.at) c.index_mut.ensures.value) c.in-To.ensures
 
 pub returns-in-Idle-clause-front : goal.returns-in-Idle-clause-front
 returns-in-Idle-clause-front g c = front_set c.args.from.now c.args.place c.args.parts.now.items c.cross.new.self c.requires.from
@@ -213,7 +221,7 @@ pub returns-in-OutOfMemory-clause-front : goal.returns-in-OutOfMemory-clause-fro
 returns-in-OutOfMemory-clause-front g c = front_set c.args.from.now c.args.place c.args.parts.now.items c.cross.new.self c.requires.from
 
 pub returns-in-Ok-clause-front : goal.returns-in-Ok-clause-front
-returns-in-Ok-clause-front g c = front_handed c.args.from.now c.lower.new.from c.args.place c.args.port c.find-to.result c.in-To.pad c.args.parts.now.items c.hand_on.new.parts.items c.cross.new.self c.requires.from c.lower.ensures.lower c.lower.ensures.below c.in-Ok.ensures.handed
+returns-in-Ok-clause-front g c = front_handed c.args.from.now c.lower.new.from c.args.place c.args.port c.find-to.result c.in-To.pad c.args.parts.now.items c.hand_on-handed.new.parts.items c.cross.new.self c.requires.from c.lower.ensures.lower (idle_of _ _ c.find-to.result c.lower.new.from c.as_slice-in-To.ensures.value c.lower.ensures.idle) c.in-Ok.ensures.handed
 
 pub returns-in-Err-clause-front : goal.returns-in-Err-clause-front
-returns-in-Err-clause-front g c = front_back c.args.from.now c.lower.new.from c.args.place c.args.port c.find-to.result c.in-To.pad c.in-Err.refusal c.args.parts.now.items c.hand_on.new.parts.items c.cross.new.self c.requires.from c.lower.ensures.lower c.lower.ensures.below c.in-Err.ensures.back
+returns-in-Err-clause-front g c = front_back c.args.from.now c.lower.new.from c.args.place c.args.port c.find-to.result c.in-To.pad c.in-Err.refusal c.args.parts.now.items c.hand_on-handed.new.parts.items c.cross.new.self c.requires.from c.lower.ensures.lower (idle_of _ _ c.find-to.result c.lower.new.from c.as_slice-in-To.ensures.value c.lower.ensures.idle) c.in-Err.ensures.back

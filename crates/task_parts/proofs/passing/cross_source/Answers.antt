@@ -4,7 +4,7 @@ use Rattle.task_pads.specs.declared.crossing.Crossing.TheVariants as crossings
 use Rattle.task_parts.specs.declared.part.Part.{Part}
 use Rattle.task_parts.specs.Shape.{has_number, part_shape}
 use Rattle.task_parts.proofs.Tries.{at_other, err_same, fault_at, named_in, source_back, source_same, source_to}
-use Rattle.task_parts.proofs.Fronts.{front_in, front_out, front_same}
+use Rattle.task_parts.proofs.Fronts.{front_in, front_out, front_same, idle_of}
 use Rattle.task_parts.proofs.passing.cross_source.Goals as goal
 
 pub find-to-requires-clause-named : goal.find-to-requires-clause-named
@@ -12,17 +12,17 @@ find-to-requires-clause-named g c κs within =
     subst (λ (ps : List (Part g.row.E.Denot g.row.O.Denot g.E.TaskElement)). has_number c.in-To.number (map part_shape ps) ≡ true) (sym c.as_slice.ensures.value)
     (named_in (map part_shape c.args.parts.now.items) _ c.in-To.number c.in-To.pad c.in-To.ensures.crossing.0.to c.requires.closed)
 
-pub hand_in-requires-clause-to : goal.hand_in-requires-clause-to
-hand_in-requires-clause-to g c =
+pub hand_in-handed-requires-clause-to : goal.hand_in-handed-requires-clause-to
+hand_in-handed-requires-clause-to g c =
     let z = at_other _ c.args.parts.now.items c.in-To.number c.find-to.result c.as_slice.ensures.value c.find-to.ensures in
     let low = slice_get_within c.args.parts.now.items c.find-to.result z.part z.at in
     omega (arith, low, c.args.parts.now.ok.0)
 
-pub hand_in-requires-clause-waits : goal.hand_in-requires-clause-waits
-hand_in-requires-clause-waits g c κs within = λ none. (let k : c.in-To.ensures.crossing.0.item ∷ c.in-To.ensures.crossing.0.rest ≡ [] = sym c.in-To.ensures.crossing.0.waits ∙ none in cc)
+pub hand_in-handed-requires-clause-waits : goal.hand_in-handed-requires-clause-waits
+hand_in-handed-requires-clause-waits g c κs within = λ none. (let k : c.in-To.ensures.crossing.0.item ∷ c.in-To.ensures.crossing.0.rest ≡ [] = sym c.in-To.ensures.crossing.0.waits ∙ none in cc)
 
-pub hand_in-requires-clause-back : goal.hand_in-requires-clause-back
-hand_in-requires-clause-back g c κs within = c.in-To.ensures.crossing.0.back
+pub hand_in-handed-requires-clause-back : goal.hand_in-handed-requires-clause-back
+hand_in-handed-requires-clause-back g c κs within = c.in-To.ensures.crossing.0.back
 
 pub returns-in-Idle-clause-crosses : goal.returns-in-Idle-clause-crosses
 returns-in-Idle-clause-crosses g c = source_same g.O.Outlet c.args.head.now _ c.args.parts.now.items (g.O.Outlet.tells c.args.lanes.now) (g.O.Outlet.tells c.cross.new.lanes) crossings.Idle _ refl refl refl c.in-Idle.ensures.shape c.in-Idle.ensures.crossing c.in-Idle.ensures.probe c.in-Idle.ensures.table c.in-Idle.ensures.ready (refl, refl, refl)
@@ -50,19 +50,19 @@ returns-in-AtLimit-clause-crosses g c = source_same g.O.Outlet c.args.head.now _
 
 pub returns-in-Ok-clause-crosses : goal.returns-in-Ok-clause-crosses
 returns-in-Ok-clause-crosses g c =
-    source_to g.O.Outlet c.args.head.now _ c.cross.new.self c.args.parts.now.items c.hand_in.new.parts.items (g.O.Outlet.tells c.args.lanes.now) (g.O.Outlet.tells c.cross.new.lanes) c.in-To.number c.in-To.hint c.in-To.pad c.find-to.result refl refl refl c.in-To.ensures.shape c.in-To.ensures.crossing c.in-To.ensures.probe c.in-To.ensures.table c.in-To.ensures.ready
-    (at_other _ c.args.parts.now.items c.in-To.number c.find-to.result c.as_slice.ensures.value c.find-to.ensures) c.hand_in.ensures.pad c.in-Ok.ensures.handed
+    source_to g.O.Outlet c.args.head.now _ c.cross.new.self c.args.parts.now.items c.hand_in-handed.new.parts.items (g.O.Outlet.tells c.args.lanes.now) (g.O.Outlet.tells c.cross.new.lanes) c.in-To.number c.in-To.hint c.in-To.pad c.find-to.result refl refl refl c.in-To.ensures.shape c.in-To.ensures.crossing c.in-To.ensures.probe c.in-To.ensures.table c.in-To.ensures.ready
+    (at_other _ c.args.parts.now.items c.in-To.number c.find-to.result c.as_slice.ensures.value c.find-to.ensures) c.hand_in-handed.ensures.pad c.in-Ok.ensures.handed
 
 pub returns-in-Ok-clause-shape : goal.returns-in-Ok-clause-shape
-returns-in-Ok-clause-shape g c = c.hand_in.ensures.shape
+returns-in-Ok-clause-shape g c = c.hand_in-handed.ensures.shape
 
 pub returns-in-Err-clause-crosses : goal.returns-in-Err-clause-crosses
 returns-in-Err-clause-crosses g c =
-    source_back g.O.Outlet c.args.head.now _ c.cross.new.self c.args.parts.now.items c.hand_in.new.parts.items (g.O.Outlet.tells c.args.lanes.now) (g.O.Outlet.tells c.cross.new.lanes) c.in-To.number c.in-To.hint c.in-To.pad c.find-to.result c.in-Err.refusal _ refl refl refl c.in-To.ensures.shape c.in-To.ensures.crossing c.in-To.ensures.probe c.in-To.ensures.table
-    c.in-To.ensures.ready (at_other _ c.args.parts.now.items c.in-To.number c.find-to.result c.as_slice.ensures.value c.find-to.ensures) c.hand_in.ensures.pad c.in-Err.ensures.out c.refused.ensures
+    source_back g.O.Outlet c.args.head.now _ c.cross.new.self c.args.parts.now.items c.hand_in-handed.new.parts.items (g.O.Outlet.tells c.args.lanes.now) (g.O.Outlet.tells c.cross.new.lanes) c.in-To.number c.in-To.hint c.in-To.pad c.find-to.result c.in-Err.refusal _ refl refl refl c.in-To.ensures.shape c.in-To.ensures.crossing c.in-To.ensures.probe c.in-To.ensures.table
+    c.in-To.ensures.ready (at_other _ c.args.parts.now.items c.in-To.number c.find-to.result c.as_slice.ensures.value c.find-to.ensures) c.hand_in-handed.ensures.pad c.in-Err.ensures.out c.refused.ensures
 
 pub returns-in-Err-clause-shape : goal.returns-in-Err-clause-shape
-returns-in-Err-clause-shape g c = c.hand_in.ensures.shape
+returns-in-Err-clause-shape g c = c.hand_in-handed.ensures.shape
 
 pub returns-in-Idle-clause-front : goal.returns-in-Idle-clause-front
 returns-in-Idle-clause-front g c = front_same c.args.from.now c.args.parts.now.items
@@ -89,7 +89,7 @@ pub returns-in-OutOfMemory-clause-front : goal.returns-in-OutOfMemory-clause-fro
 returns-in-OutOfMemory-clause-front g c = front_same c.args.from.now c.args.parts.now.items
 
 pub returns-in-Ok-clause-front : goal.returns-in-Ok-clause-front
-returns-in-Ok-clause-front g c = front_in c.args.from.now c.lower.new.from c.find-to.result c.in-To.pad _ _ c.args.parts.now.items c.hand_in.new.parts.items c.lower.ensures.lower c.lower.ensures.below c.in-Ok.ensures.handed
+returns-in-Ok-clause-front g c = front_in c.args.from.now c.lower.new.from c.find-to.result c.in-To.pad _ _ c.args.parts.now.items c.hand_in-handed.new.parts.items c.lower.ensures.lower (idle_of _ _ c.find-to.result c.lower.new.from c.as_slice-in-To.ensures.value c.lower.ensures.idle) c.in-Ok.ensures.handed
 
 pub returns-in-Err-clause-front : goal.returns-in-Err-clause-front
-returns-in-Err-clause-front g c = front_out c.args.from.now c.lower.new.from c.find-to.result c.in-To.pad c.in-Err.refusal _ _ c.args.parts.now.items c.hand_in.new.parts.items c.lower.ensures.lower c.lower.ensures.below c.in-Err.ensures.out
+returns-in-Err-clause-front g c = front_out c.args.from.now c.lower.new.from c.find-to.result c.in-To.pad c.in-Err.refusal _ _ c.args.parts.now.items c.hand_in-handed.new.parts.items c.lower.ensures.lower (idle_of _ _ c.find-to.result c.lower.new.from c.as_slice-in-To.ensures.value c.lower.ensures.idle) c.in-Err.ensures.out

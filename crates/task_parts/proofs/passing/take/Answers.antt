@@ -5,7 +5,7 @@ use Rattle.inlet_row.specs.declared.feeding.Taken.TheVariants as takes
 use Rattle.task_parts.specs.declared.part.Part.{Part}
 use Rattle.task_parts.specs.Shape.{has_number, part_shape}
 use Rattle.task_parts.proofs.Tries.{asked_from, at_other, wants_at}
-use Rattle.task_parts.proofs.Fronts.{front_fed, front_same}
+use Rattle.task_parts.proofs.Fronts.{front_fed, front_same, idle_of}
 use Rattle.task_parts.proofs.passing.take.Goals as goal
 
 pub find-to-requires-clause-named : goal.find-to-requires-clause-named
@@ -44,8 +44,8 @@ returns-in-Empty-clause-takes g c = record {
   });
 }
 
-pub feed_row-requires-clause-to : goal.feed_row-requires-clause-to
-feed_row-requires-clause-to g c =
+pub feed_row-fed-requires-clause-to : goal.feed_row-fed-requires-clause-to
+feed_row-fed-requires-clause-to g c =
     let z = at_other _ c.args.parts.now.items c.args.head.now.number c.find-to.result c.as_slice.ensures.value c.find-to.ensures in
     let low = slice_get_within c.args.parts.now.items c.find-to.result z.part z.at in
     omega (arith, low, c.args.parts.now.ok.0)
@@ -59,7 +59,7 @@ returns-in-Item-clause-takes g c = record {
     wanted = wants_at c.args.parts.now.items c.args.head.now.number c.find-to.result (at_other _ c.args.parts.now.items c.args.head.now.number c.find-to.result c.as_slice.ensures.value c.find-to.ensures) c.index.result.now c.element.result.now c.wants.result (Some c.in-Some.port) c.index.ensures c.element.ensures c.wants.ensures c.in-Some.is;
     taken = takes.Item c.in-Item.item;
     asks = asked_from g.I.Inlet c.args.head.now _ c.take_row.new.head c.in-Some.port _ _ _ refl refl c.in-Item.ensures;
-    after = c.feed_row.ensures.feeds;
+    after = c.feed_row-fed.ensures.feeds;
   });
 }
 
@@ -70,4 +70,4 @@ pub returns-in-Empty-clause-front : goal.returns-in-Empty-clause-front
 returns-in-Empty-clause-front g c = front_same c.args.from.now c.args.parts.now.items
 
 pub returns-in-Item-clause-front : goal.returns-in-Item-clause-front
-returns-in-Item-clause-front g c = front_fed c.args.from.now c.lower.new.from c.find-to.result c.in-Some.port c.in-Item.item c.args.parts.now.items c.feed_row.new.parts.items c.feed_row.result c.lower.ensures.lower c.lower.ensures.below c.feed_row.ensures.feeds
+returns-in-Item-clause-front g c = front_fed c.args.from.now c.lower.new.from c.find-to.result c.in-Some.port c.in-Item.item c.args.parts.now.items c.feed_row-fed.new.parts.items c.feed_row-fed.result c.lower.ensures.lower (idle_of _ _ c.find-to.result c.lower.new.from c.as_slice-in-Item.ensures.value c.lower.ensures.idle) c.feed_row-fed.ensures.feeds

@@ -1,7 +1,6 @@
-use Rattle.std.proofs.Common.{◌∙◌, ◌≡◌, ◌<◌, ◌≤◌, ◌+◌, List, ap, arith, inl, length, refl, subst, sym}
+use Rattle.std.proofs.Common.{◌∙◌, ◌≡◌, ◌<◌, ◌+◌, List, ap, arith, inl, length, refl, subst, sym}
 use Rattle.task_pads.proofs.Lists.{some_at}
 use Rattle.task_pads.specs.declared.pad.Pad.{Pad}
-use Rattle.task_parts.specs.Gathered.{AreIdleBelow}
 use Rattle.task_parts.specs.declared.part.Part.{Part}
 use Rattle.gst_value.proofs.Basics.{some_same}
 use Rattle.net_task.specs.Failed.{at_head, memory, no_memory}
@@ -33,7 +32,7 @@ loop-port-init g c =
     (pads_counted c.settle.new.parts.items c.args.place c.index-2.result.now within c.index-2.ensures) in
     let filled = on_ok c.settle.result _ (sym c.is_err.ensures.value ∙ c.if-is_err.false) c.settle.ensures.all in
     let here = some_at c.settle.new.parts.items c.args.place c.index.result.now within c.index.ensures in
-    let idle = subst (λ (ps : List (Pad g.row.O.Denot)). AreIdleBelow c.first_waiting-first.result ps) c.pads.ensures c.first_waiting-first.ensures.idle in (
+    let idle = c.first_waiting-first.ensures.idle in (
       settled_so _ c.args.self.now _ c.args.place (WasBelow (frame_of c.args.self.now) c.args.place c.first_waiting-first.result) refl c.settle.ensures.settled c.settle.ensures.shape c.requires.ready
           (λ m a. idle_below g.I.Inlet g.O.Outlet m c.args.self.now.head c.settle.new.parts.items (frame_of c.args.self.now) c.args.place c.first_waiting-first.result c.index.result.now
           (settled_frame g.O.Outlet c.args.self.now.head c.args.self.now.parts.items c.settle.new.parts.items c.args.place c.settle.ensures.settled c.settle.ensures.shape)
@@ -42,7 +41,7 @@ loop-port-init g c =
       filled,
       omega arith,
       (let same : pads.part ≡ c.index.result.now = some_same (sym pads.at ∙ here) in
-          let most = subst (λ (ps : List (Pad g.row.O.Denot)). c.first_waiting-first.result ≤ length ps) c.pads.ensures c.first_waiting-first.ensures.within in
+          let most = c.first_waiting-first.ensures.within in
           let count = ap (λ (x : Part g.row.E.Denot g.row.O.Denot _). length x.pads.items) same in
           let many = pads.many in
           omega (arith, most, count, many)),

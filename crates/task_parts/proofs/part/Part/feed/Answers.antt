@@ -10,6 +10,7 @@ pub invariant_of-self : goal.invariant_of-self
 invariant_of-self g c = record {
   ports = c.eat.ensures.ports ∙ c.args.self.now.ports;
   within = subst (λ (n : ℕ). are_within n c.eat.new.out ≡ true) (c.eat.ensures.ports ∙ c.args.self.now.ports) c.eat.ensures.within;
+  idle = c.args.self.now.idle;
 }
 
 pub returns-in-Ok-clause-fed : goal.returns-in-Ok-clause-fed

@@ -1,5 +1,6 @@
 use Rattle.std.proofs.Common.{refl, arith}
 use Rattle.task_pads.proofs.Lists.{some_at}
+use Rattle.task_parts.proofs.Idling.{below_set, taken_idle}
 use Rattle.task_parts.proofs.Outs.{shape_of_rest}
 use Rattle.task_parts.proofs.part.Part.take.Goals as goal
 
@@ -18,3 +19,8 @@ returns g c = record {
   rest = c.take.ensures.rest;
   taken = c.take.ensures.taken;
 }
+
+pub invariant_of-self-clause-idle : goal.invariant_of-self-clause-idle
+invariant_of-self-clause-idle g c =
+    below_set c.args.self.now.first c.args.port c.args.self.now.pads.items c.index_mut.result.now c.take.new.self
+    (some_at c.args.self.now.pads.items c.args.port c.index_mut.result.now (omega (arith, c.requires, c.args.self.now.pads.ok.0)) c.index_mut.ensures.value) (taken_idle c.index_mut.result.now c.take.new.self c.take.result c.take.ensures.taken) c.args.self.now.idle

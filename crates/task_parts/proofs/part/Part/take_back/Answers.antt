@@ -1,5 +1,6 @@
-use Rattle.std.proofs.Common.{refl, arith}
+use Rattle.std.proofs.Common.{refl, arith, ◌∙◌}
 use Rattle.task_pads.proofs.Lists.{some_at}
+use Rattle.task_parts.proofs.Idling.{below_set}
 use Rattle.task_parts.proofs.part.Part.take_back.Goals as goal
 
 pub take_back-requires-after_bounds : goal.take_back-requires-after_bounds
@@ -24,3 +25,8 @@ returns g c = record {
   waiting = c.take_back.ensures.waiting;
   behind = c.take_back.ensures.behind;
 }
+
+pub invariant_of-self-clause-idle : goal.invariant_of-self-clause-idle
+invariant_of-self-clause-idle g c =
+    below_set c.args.self.now.first c.args.port c.args.self.now.pads.items c.index_mut.result.now c.take_back.new.self
+    (some_at c.args.self.now.pads.items c.args.port c.index_mut.result.now (omega (arith, c.requires.port, c.args.self.now.pads.ok.0)) c.index_mut.ensures.value) (λ none. c.take_back.ensures.waiting ∙ none) c.args.self.now.idle
