@@ -132,6 +132,66 @@ fn trace(alloc: Global, calls: &[u8]) -> Result<Vec<u8>, Fail> {
     Ok(trace)
 }
 
+/// Feeds an item on a pad that is there.
+fn feed(
+    alloc: Global,
+    concat: &mut Concat,
+    pad: u32,
+    item: Item,
+    out: &mut Outs,
+) -> Result<(), Fail> {
+    if pad < concat.pad_count() && !is_flush(&item) {
+        concat.feed(alloc, pad, item, out)?;
+    }
+    Ok(())
+}
+
+/// A buffer without bytes from time 0 on, of this duration in nanoseconds.
+fn lasting(alloc: Global, duration: u64) -> Result<Item, Fail> {
+    match item_of(alloc, b'N')? {
+        Item::Buffer(mut buffer) => {
+            buffer.pts = Some(0);
+            buffer.duration = Some(duration);
+            Ok(Item::Buffer(buffer))
+        }
+        other => Ok(other),
+    }
+}
+
+/// The base of the last SEGMENT that was put out.
+fn last_base(out: &Outs) -> Option<u64> {
+    let mut base = None;
+    for one in out.as_slice() {
+        if let Item::Event(Event::Segment(segment)) = &one.item {
+            base = Some(segment.base);
+        }
+    }
+    base
+}
+
+/// The base of the second stream in time, behind a first one whose buffer lasts so long, or that has none.
+fn base_behind(alloc: Global, lasts: Option<u64>) -> Result<Option<u64>, Fail> {
+    let mut concat = Concat::new(alloc, 2)?;
+    let mut out = List::new(alloc);
+    feed(alloc, &mut concat, 0, segment(Format::Time, 0), &mut out)?;
+    if let Some(duration) = lasts {
+        let buffer = lasting(alloc, duration)?;
+        feed(alloc, &mut concat, 0, buffer, &mut out)?;
+    }
+    feed(alloc, &mut concat, 0, Item::Event(Event::Eos), &mut out)?;
+    feed(alloc, &mut concat, 1, segment(Format::Time, 0), &mut out)?;
+    Ok(last_base(&out))
+}
+
+#[test]
+fn second_stream_begins_behind_the_first(rt: HostRuntime) -> Result<(), Fail> {
+    let alloc = rt.alloc();
+    let second = Some(1_000_000_000);
+    assert_eq!(rt; base_behind(alloc, second)?, second);
+    assert_eq!(rt; base_behind(alloc, None)?, Some(0));
+    Ok(())
+}
+
 #[test]
 fn joins(rt: HostRuntime) -> Result<(), Fail> {
     let alloc = rt.alloc();
