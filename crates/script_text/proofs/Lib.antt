@@ -1,0 +1,6 @@
+mod Growing
+mod Outcomes
+mod Order
+mod Lines
+mod Stepping
+mod Props

@@ -1,0 +1,19 @@
+//! Scripts: what is to be done while a pipeline runs, and when.
+#![tactic(auto)]
+
+mod act;
+mod command;
+mod fault;
+mod latest;
+mod laws;
+mod line;
+mod reading;
+mod when;
+
+pub use command::{Act, Command, When};
+pub use fault::{ScriptFault, ScriptKind};
+pub use laws::{one_answer, script_rows};
+pub use reading::{parse, read};
+
+#[cfg(test)]
+mod tests;

@@ -1,0 +1,5 @@
+mod High
+mod Kept
+mod Cutting
+mod Steps
+mod Numbers
