@@ -1,5 +1,5 @@
 -- The line at the front of a text.
-use Rattle.std.proofs.Common.{◌≡◌, ◌∙◌, ◌+◌, ◌<◌, ◌≤◌, ℕ, zero, suc, Bool, true, false, cond, not, eqb, List, [], ◌∷◌, ◌++◌, inl, inr, refl, sym, ap, subst, arith}
+use Rattle.std.proofs.Common.{◌≡◌, ◌∙◌, ℕ, suc, Bool, true, false, cond, not, eqb, List, [], ◌∷◌, inl, inr, refl, sym, ap, arith}
 use Rattle.std.specs.Prelude.{drop, length, take}
 use Rattle.std.specs.List.{IsFirstAndRest, take_while}
 use Rattle.std.proofs.lemmas.Bool.Decides.{eqb_tells}

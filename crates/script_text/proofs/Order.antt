@@ -1,20 +1,17 @@
 -- The last number of buffers of each pad tells whether a command goes back.
-use Rattle.std.proofs.Common.{◌≡◌, ◌∙◌, ◌+◌, ◌<◌, ◌≤◌, ◌⊎◌, ℕ, Bool, true, false, cond, not, ◌&&◌, ◌||◌, eqb, List, [], ◌∷◌, ◌++◌, Option, Some, None, Result, Ok, Err, inl, inr, refl, sym, ap, subst, arith}
+use Rattle.std.proofs.Common.{◌≡◌, ◌∙◌, ◌<◌, ◌≤◌, ℕ, Bool, true, false, cond, ◌&&◌, ◌||◌, List, [], ◌∷◌, ◌++◌, Option, Some, Result, Ok, Err, refl, sym, ap, subst, arith}
 use Rattle.std.specs.Prelude.{String, nat_lt, unwrap_or}
 use Rattle.std.specs.BTreeMap.{BTreeMap, get_by_text, UpdatesBy}
-use Rattle.std.specs.Bool.{IsTrue}
-use Rattle.std.specs.List.{list_any}
 use Rattle.std.specs.Str.{bytes_eq}
 use Rattle.std.specs.String.{string_bytes, string_cmp}
 use Rattle.std.specs.Cmp.Lexicographic.{slice_cmp}
 use Rattle.std.specs.Ordering.{nat_cmp}
 use Rattle.std.specs.declared.alloc.Global.{Global}
-use Rattle.std.proofs.lemmas.Bool.{cases_lt}
 use Rattle.std.proofs.lemmas.List.Folds.{list_any-append}
 use Rattle.std.proofs.lemmas.Map.Text.{btree_map_updates_text}
 use Rattle.std.proofs.lemmas.Slice.Eq.{bytes_eq-Decides}
 use Rattle.script_text.specs.Commands.{spelled}
-use Rattle.script_text.specs.Latest.{IsLatest, Noted, NotedWhen, last_of}
+use Rattle.script_text.specs.Latest.{IsLatest, NotedWhen, last_of}
 use Rattle.script_text.specs.Refusals.{Answers, and_then}
 use Rattle.script_text.specs.Scripts.{goes_back, in_order, waits_beyond}
 use Rattle.script_text.specs.declared.command.Command.{Command}

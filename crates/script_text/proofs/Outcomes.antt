@@ -1,10 +1,10 @@
 -- The one answer for the lines of a text.
-use Rattle.std.proofs.Common.{◌≡◌, ◌∙◌, ◌+◌, ◌<◌, ◌≤◌, ◌⊎◌, ℕ, zero, suc, Bool, true, false, cond, not, List, [], ◌∷◌, ◌++◌, Option, Some, None, Result, Ok, Err, inl, inr, refl, sym, ap, subst, arith, append-nil, append_assoc, length-append}
+use Rattle.std.proofs.Common.{◌≡◌, ◌∙◌, ◌+◌, ◌≤◌, ◌⊎◌, ℕ, suc, Bool, true, false, cond, not, List, [], ◌∷◌, ◌++◌, Some, Result, Ok, Err, inl, inr, refl, sym, ap, subst, arith, append-nil, append_assoc, length-append}
 use Rattle.std.specs.Prelude.{length, slice_get, take}
 use Rattle.std.proofs.lemmas.Bool.{cases_lt}
 use Rattle.script_text.specs.Laws.{EachHasOne, NeverBoth, OneRefusal, OneScript}
 use Rattle.script_text.specs.Lines.{is_passed_over, lines, spoken}
-use Rattle.script_text.specs.Scripts.{AreCommands, HasBadLine, IsBadLine, IsRefused, IsScript, IsTooLong, line_answer, longest}
+use Rattle.script_text.specs.Scripts.{AreCommands, IsBadLine, IsRefused, IsScript, line_answer, longest}
 use Rattle.script_text.specs.declared.command.Command.{Command}
 use Rattle.script_text.specs.declared.fault.ScriptKind.{ScriptKind}
 use Rattle.script_text.specs.declared.fault.ScriptKind.TheVariants.{TooLong}

@@ -1,16 +1,15 @@
 -- What one line does.
-use Rattle.std.proofs.Common.{◌≡◌, ◌∙◌, ◌+◌, ◌<◌, ◌≤◌, ℕ, Bool, true, false, cond, not, ◌&&◌, eqb, List, [], ◌∷◌, ◌++◌, Option, Some, None, Result, Ok, Err, inl, inr, refl, sym, ap, subst, arith, append-nil, append_assoc, length-append}
-use Rattle.std.specs.Prelude.{String, length, nat_lt, unwrap_or}
+use Rattle.std.proofs.Common.{◌≡◌, ◌∙◌, ◌+◌, ◌<◌, ◌≤◌, ℕ, Bool, true, false, cond, ◌&&◌, List, [], ◌∷◌, ◌++◌, Result, Ok, Err, refl, sym, ap, subst, arith}
+use Rattle.std.specs.Prelude.{String, length, nat_lt}
 use Rattle.std.specs.BTreeMap.{BTreeMap}
 use Rattle.std.specs.Str.{IsUtf8, is_utf8}
 use Rattle.std.specs.declared.alloc.Global.{Global}
-use Rattle.std.proofs.lemmas.Bool.{cases_lt}
 use Rattle.std.proofs.lemmas.Str.{IsUtf8-from_is_utf8, is_utf8-from_IsUtf8}
 use Rattle.text_words.specs.Words.{words_of}
 use Rattle.text_words.specs.declared.word.Separator.TheVariants.{Space}
 use Rattle.script_text.specs.Commands.{command_of}
 use Rattle.script_text.specs.Latest.{IsLatest, last_of}
-use Rattle.script_text.specs.Lines.{is_passed_over, lines, says_nothing}
+use Rattle.script_text.specs.Lines.{is_passed_over, says_nothing}
 use Rattle.script_text.specs.Refusals.{Answers, and_then, fault_at}
 use Rattle.script_text.specs.Scripts.{AreCommands, IsFault, in_order, line_answer, step}
 use Rattle.script_text.specs.declared.command.Command.{Command}

@@ -1,5 +1,5 @@
 -- The lines of a text.
-use Rattle.std.specs.Prelude.{ℕ, Bool, true, false, cond, not, ◌==◌, ◌||◌, ◌&&◌, List, [], ◌∷◌}
+use Rattle.std.specs.Prelude.{ℕ, Bool, false, cond, not, ◌==◌, ◌||◌, ◌&&◌, List, [], ◌∷◌}
 use Rattle.std.specs.List.{filter, list_all}
 use Rattle.std.specs.Str.{is_utf8}
 use Rattle.text_words.specs.Words.{onto}

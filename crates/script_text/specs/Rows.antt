@@ -6,9 +6,9 @@ use Rattle.text_words.specs.declared.word.Separator.TheVariants.{Space}
 use Rattle.script_text.specs.Commands.{command_of}
 use Rattle.script_text.specs.Lines.{lines, says_nothing}
 use Rattle.script_text.specs.Scripts.{goes_back}
-use Rattle.script_text.specs.declared.command.Act.TheVariants.{Relink, Unlink, Add, Remove}
+use Rattle.script_text.specs.declared.command.Act.TheVariants.{Unlink, Add}
 use Rattle.script_text.specs.declared.command.Command.{Command}
-use Rattle.script_text.specs.declared.command.When.TheVariants.{At, NowPad, Now}
+use Rattle.script_text.specs.declared.command.When.TheVariants.{At, Now}
 use Rattle.script_text.specs.declared.fault.ScriptKind.TheVariants.{BadWhen, BadNumber, BadAct, NeedsPad, StrayPad}
 
 abbrev pub pad : List ℕ → List ℕ → PadName

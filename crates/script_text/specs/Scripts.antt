@@ -1,5 +1,5 @@
 -- Scripts, and texts that are none.
-use Rattle.std.specs.Prelude.{◌≡◌, ◌+◌, ◌<◌, ◌≤◌, ◌⊎◌, ℕ, Bool, true, false, cond, ◌&&◌, List, [], ◌∷◌, ◌++◌, Option, Some, Result, Ok, Err, length, nat_lt, slice_get, take}
+use Rattle.std.specs.Prelude.{◌≡◌, ◌+◌, ◌<◌, ◌≤◌, ◌⊎◌, ℕ, Bool, false, cond, ◌&&◌, List, [], ◌∷◌, ◌++◌, Some, Result, Ok, Err, length, nat_lt, slice_get, take}
 use Rattle.std.specs.List.{list_any}
 use Rattle.std.specs.Str.{bytes_eq, is_utf8}
 use Rattle.text_words.specs.Words.{words_of}

@@ -26,12 +26,7 @@ fn spelled(alloc: Global, pad: &PadName) -> Result<String, OutOfMemory>
 }
 
 /// Notes the number of buffers of a pad, which is not smaller than the last one.
-fn note_pad(
-    alloc: Global,
-    latest: &mut Latest,
-    pad: &PadName,
-    buffers: u64,
-) -> Result<(), Refusal>
+fn note_pad(alloc: Global, latest: &mut Latest, pad: &PadName, buffers: u64) -> Result<(), Refusal>
     ensures { Noted latest.old latest.new (spelled pad.now) buffers result }
 {
     let name = spelled(alloc, pad)?;

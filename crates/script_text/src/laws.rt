@@ -9,11 +9,9 @@ pub fn one_answer()
     ensures both { NeverBoth }
     ensures script { OneScript }
     ensures refusal { OneRefusal }
-{
-}
+{}
 
 /// Worked rows of the definitions.
 pub fn script_rows()
     ensures { ScriptRows }
-{
-}
+{}

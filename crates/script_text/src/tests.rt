@@ -170,7 +170,10 @@ fn rows(rt: HostRuntime) -> Result<(), Fail> {
     }
     assert!(rt; parse(alloc, "now remove e")?.as_slice().len() == 1);
     assert_eq!(rt; told_of_lines(alloc, 4096)?.as_str(), "4096");
-    assert_eq!(rt; told_of_lines(alloc, 4097)?.as_str(), "line 4097 of the script: TooLong");
+    assert_eq!(rt;
+        told_of_lines(alloc, 4097)?.as_str(),
+        "line 4097 of the script: TooLong"
+    );
     assert_eq!(rt; told_of_bytes(alloc, 1_048_576)?.as_str(), "nothing");
     assert_eq!(rt; told_of_bytes(alloc, 1_048_577)?.as_str(), "line 0 TooLong");
     Ok(())

@@ -4,5 +4,4 @@ ghost use Rattle.text_words.specs.Rows.{WordRows};
 /// Worked rows of words, values, properties, names of pads and numbers.
 pub fn word_rows()
     ensures { WordRows }
-{
-}
+{}

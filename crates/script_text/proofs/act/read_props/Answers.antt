@@ -1,7 +1,7 @@
 -- One word more.
 use Rattle.std.proofs.Common.{◌∙◌, arith, length, ap}
 use Rattle.text_words.specs.Left.{left}
-use Rattle.script_text.proofs.Props.{prop_more, prop_none}
+use Rattle.script_text.proofs.Props.{prop_more}
 use Rattle.script_text.proofs.act.read_props.Goals as goal
 
 pub loop-word-preserved : goal.loop-word-preserved

@@ -1,7 +1,6 @@
 -- The number is noted under the pad's name.
-use Rattle.std.proofs.Common.{◌≤◌, ◌∙◌, sym, subst, arith}
+use Rattle.std.proofs.Common.{◌≤◌, ◌∙◌, subst}
 use Rattle.script_text.specs.Commands.{spelled}
-use Rattle.script_text.specs.Latest.{last_of}
 use Rattle.script_text.proofs.Order.{put_last, read_last}
 use Rattle.script_text.proofs.latest.note_pad.Goals as goal
 

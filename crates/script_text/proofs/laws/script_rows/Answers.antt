@@ -1,6 +1,5 @@
 -- The rows are computed.
 use Rattle.std.proofs.Common.{refl}
-use Rattle.std.specs.Str.Parse.{digits_value}
 use Rattle.text_words.specs.Values.{number_of, pad_of, prop_of, property_of, said}
 use Rattle.text_words.specs.Words.{words_of}
 use Rattle.script_text.specs.Commands.{act_of, command_of, when_of}

@@ -1,6 +1,5 @@
 -- A line is no text, is passed over, is one too many, or says what its words say.
-use Rattle.std.proofs.Common.{◌≡◌, ◌≤◌, ◌<◌, ◌∙◌, false, true, length, arith, sym, ap, List, ℕ}
-use Rattle.script_text.specs.Lines.{says_nothing}
+use Rattle.std.proofs.Common.{◌≤◌, ◌<◌, ◌∙◌, length, arith, sym, ap}
 use Rattle.script_text.specs.declared.command.Command.{Command}
 use Rattle.script_text.proofs.Stepping.{moved, step_command, step_long, step_no_text, step_passed, step_refused}
 use Rattle.script_text.proofs.reading.read_line.Goals as goal

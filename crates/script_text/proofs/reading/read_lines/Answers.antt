@@ -1,5 +1,5 @@
 -- One line more.
-use Rattle.std.proofs.Common.{◌≡◌, ◌≤◌, ◌<◌, ◌+◌, ◌∙◌, ◌∷◌, ◌++◌, [], arith, length, length-append, append_assoc, append-nil, sym, ap, subst, refl}
+use Rattle.std.proofs.Common.{◌≡◌, ◌+◌, ◌∙◌, ◌∷◌, ◌++◌, [], arith, length, length-append, append_assoc, append-nil, sym, ap, subst, refl}
 use Rattle.script_text.specs.Latest.{IsLatest}
 use Rattle.script_text.specs.Lines.{lines}
 use Rattle.script_text.specs.Scripts.{AreCommands}
@@ -23,8 +23,7 @@ loop-rest-preserved c =
     let kept = c.loop-rest.invariant in
     let front = kept.0 in
     let line = c.split_line.result.0.now in
-    let parts : lines c.args.bytes.now ≡ front ++ line ∷ lines c.split_line.result.1.now = kept.1 ∙ ap (λ l. front ++ l) c.split_line.ensures.lines in
-    (
+    let parts : lines c.args.bytes.now ≡ front ++ line ∷ lines c.split_line.result.1.now = kept.1 ∙ ap (λ l. front ++ l) c.split_line.ensures.lines in (
       front ++ line ∷ [],
       parts ∙ sym (append_assoc front (line ∷ []) (lines c.split_line.result.1.now)),
       (let one = length-append front (line ∷ []) in omega (arith, one, kept.2)),

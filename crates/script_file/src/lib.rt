@@ -1,0 +1,12 @@
+//! Scripts in files.
+#![tactic(auto)]
+
+mod fault;
+mod file;
+mod reading;
+
+pub use fault::FileFault;
+pub use file::read_file;
+
+#[cfg(test)]
+mod tests;
