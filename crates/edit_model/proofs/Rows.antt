@@ -9,11 +9,11 @@ use Rattle.graph_order.specs.Links.{IsLink, Way}
 use Rattle.edit_model.specs.Plans.{edited_plan}
 use Rattle.edit_model.specs.Refused.{HasFeeder, HasHead, IsReached}
 use Rattle.edit_model.specs.Lawful.{IsAnswered, IsLinkable, Makes, Reaches}
-use Rattle.edit_model.specs.Rows.{FeederRows, LawfulRows, LoopRows, RelinkRows, pad, relay, relinking, turned}
+use Rattle.edit_model.specs.Rows.{FeederRows, LawfulRows, LoopRows, RelinkRows, crossed, pad, relay, relinking, turned}
 
 pub relink_rows : RelinkRows
 unfolding edited_plan stickies
-relink_rows = record { first = refl; second = refl; passed = refl; buffers = refl; none = refl; all = refl; begins = refl; unreached = refl; empty = refl; there = refl; back = refl; ended = refl }
+relink_rows = record { first = refl; second = refl; passed = refl; buffers = refl; none = refl; all = refl; begins = refl; unreached = refl; empty = refl; there = refl; back = refl; ended = refl; over = refl }
 
 pub loop_rows : LoopRows
 unfolding edited_plan stickies
@@ -50,8 +50,9 @@ have_common : HaveCommon (caps_at relay.made false 1) (caps_at relay.made true 3
 unfolding plain_caps
 have_common = (plain_caps, record { ordered = tt; values = tt; few = lit≤ tt }, refl, refl)
 
-linkable : IsLinkable relay (pad 1) (pad 3)
+linkable : IsLinkable relay crossed (pad 1) (pad 3)
 linkable = record {
+  unended = λ ended. cc;
   free = λ taken. cc;
   forward = λ loops. omega (arith, stays_there 1 loops);
   common = λ lacks. lacks have_common;

@@ -7,13 +7,12 @@ use Rattle.flow_model.specs.Eval.{Plan, inputs}
 use Rattle.gst_value.specs.declared.name.PadName.{PadName}
 use Rattle.gst_value.specs.declared.name.Prop.{Prop}
 use Rattle.pad_core.specs.Crossing.{has_ended}
-use Rattle.el_settings.specs.Asked.{makes_sinks}
+use Rattle.el_settings.specs.Asked.{is_converter, makes_sinks}
 use Rattle.graph_core.specs.Asked.{Declared}
-use Rattle.graph_core.specs.Elements.{IsMade, IsUnmade, Made}
+use Rattle.graph_core.specs.Elements.{IsMade, IsUnmade, Made, has}
 use Rattle.graph_core.specs.Ends.{pad_name}
 use Rattle.graph_core.specs.GraphPlan.{pad_id}
 use Rattle.graph_core.specs.declared.fault.BuildFault.{BuildFault}
-use Rattle.graph_core.specs.declared.fault.What.{What}
 use Rattle.graph_core.specs.declared.fault.BuildFault.TheVariants.{NoSuch as Missing, BadValue as WrongValue, NameTaken as SameName, LocationTaken as SameLocation, TooMany as Limit, LinkRefused as NoLink, OutOfMemory}
 use Rattle.graph_pads.specs.Links.{sink_behind}
 use Rattle.graph_pads.specs.Pads.{pad_at}
@@ -103,8 +102,9 @@ pub data IsUnlinkable (g : Edited) (h : ℕ → List Item) (source to : PadPlace
   fed : ¬ IsTaken g to → ¬ Loops g source to → IsFedElsewhere g h source to → IsUnlinkable g h source to FedElsewhere
   formless : ¬ IsTaken g to → ¬ Loops g source to → LacksFormat g source to → IsUnlinkable g h source to NoFormat
 
--- nothing that the graph alone tells speaks against a link
-pub record IsLinkable (g : Edited) (source to : PadPlace) : Type 0 where
+-- Nothing that the graph tells speaks against a link. That the sink pad had EOS can be told: a pad without a link is given no more.
+pub record IsLinkable (g : Edited) (h : ℕ → List Item) (source to : PadPlace) : Type 0 where
+  pub unended : ¬ IsAfterEos g h to
   pub free : ¬ IsTaken g to
   pub forward : ¬ Loops g source to
   pub common : ¬ LacksFormat g source to
@@ -121,24 +121,19 @@ pub data IsRefusedFor (g : Edited) (h : ℕ → List Item) : Option PadPlace →
 abbrev pub is_all_there : Edited → Command → Bool
 is_all_there g c = is_when_there g c.when && is_act_there g c.when c.act
 
--- Something that a command names is not there: an element, a pad, a link, a kind or a property.
-pub data LacksName (g : Edited) : Command → Type 0 where
-  unnamed : (c : Command) → is_all_there g c ≡ false → LacksName g c
-  unmade : (when : When) (kind name : List ℕ) (props : List Prop) (what : What) → IsUnmade g.made (asked kind props) (Missing name what) → LacksName g (command when (Add kind props))
-
 -- what an act makes of the graph, at a place of the source pad of its command
-pub data Makes (g : Edited) : Option PadPlace → ℕ → Act → Edited → Type 0 where
-  relinks : (sink : PadName) (source to : PadPlace) (place : ℕ) → pad_named Sink g sink ≡ Some to → IsLinkable g source to → Makes g (Some source) place (Relink sink) (relinked_at source place to g)
-  unlinks : (eos : Bool) (source to : PadPlace) (place : ℕ) → sink_behind g.links source ≡ Some to → Makes g (Some source) place (Unlink eos) (unlinked_at source place eos g)
-  adds : (p : Option PadPlace) (place : ℕ) (kind : List ℕ) (props : List Prop) (m : Made) → IsMade g.made (asked kind props) m → makes_sinks m.settings ≡ false → Makes g p place (Add kind props) (added m g)
-  removes : (p : Option PadPlace) (place : ℕ) (name : List ℕ) (e : ℕ) → element_named g name ≡ Some e → has_link g e ≡ false → Makes g p place (Remove name) (without_element e g)
+pub data Makes (g : Edited) (h : ℕ → List Item) : Option PadPlace → ℕ → Act → Edited → Type 0 where
+  relinks : (sink : PadName) (source to : PadPlace) (place : ℕ) → pad_named Sink g sink ≡ Some to → IsLinkable g h source to → Makes g h (Some source) place (Relink sink) (relinked_at source place to g)
+  unlinks : (eos : Bool) (source to : PadPlace) (place : ℕ) → sink_behind g.links source ≡ Some to → Makes g h (Some source) place (Unlink eos) (unlinked_at source place eos g)
+  adds : (p : Option PadPlace) (place : ℕ) (kind : List ℕ) (props : List Prop) (m : Made) → IsMade g.made (asked kind props) m → makes_sinks m.settings ≡ false → Makes g h p place (Add kind props) (added m g)
+  removes : (p : Option PadPlace) (place : ℕ) (name : List ℕ) (e : ℕ) → element_named g name ≡ Some e → has_link g e ≡ false → Makes g h p place (Remove name) (without_element e g)
 
 -- A command is answered so, and leaves the graph so. A refused one leaves it as it was.
 pub data IsAnswered (g : Edited) (h owed : ℕ → List Item) : Command → Answer → Edited → Type 0 where
-  done : (when : When) (act : Act) (p : Option PadPlace) (place : ℕ) (after : Edited) → Reaches g h owed when p place → Makes g p place act after → IsAnswered g h owed (command when act) (Done (places_at g p place)) after
-  unreached : (c : Command) → ¬ LacksName g c → IsUnreached g h c.when → IsAnswered g h owed c Unreached g
-  nameless : (c : Command) → LacksName g c → IsAnswered g h owed c (Refused NoSuch []) g
-  refused : (when : When) (act : Act) (p : Option PadPlace) (place : ℕ) (reason : Reason) → Reaches g h owed when p place → IsRefusedFor g h p act reason → IsAnswered g h owed (command when act) (Refused reason (places_at g p place)) g
+  done : (when : When) (act : Act) (p : Option PadPlace) (place : ℕ) (after : Edited) → Reaches g h owed when p place → Makes g h p place act after → IsAnswered g h owed (command when act) (Done (places_at g p place)) after
+  unreached : (c : Command) → is_all_there g c ≡ true → IsUnreached g h c.when → IsAnswered g h owed c Unreached g
+  nameless : (c : Command) → is_all_there g c ≡ false → IsAnswered g h owed c (Refused NoSuch []) g
+  refused : (when : When) (act : Act) (p : Option PadPlace) (place : ℕ) (reason : Reason) → is_all_there g (command when act) ≡ true → Reaches g h owed when p place → IsRefusedFor g h p act reason → IsAnswered g h owed (command when act) (Refused reason (places_at g p place)) g
 
 -- ---- reports
 
@@ -161,7 +156,9 @@ NeverFall entries = (j k a b : ℕ) (one other : Entry) (before behind : Place) 
 abbrev pub owed_by : Plan → (ℕ → List Item) → ℕ → List Item
 owed_by plan h p = plan.rule (plan.owner p) (inputs plan h (plan.owner p)) (plan.port p) 0
 
--- The entries of a report are lawful, and leave the graph so; the plan is that of the graph in the end.
+-- The entries of a report are lawful, and leave the graph so; the plan is that of the graph in the end. It has no converter: what commands
+-- change of the caps that one is allowed is not told yet.
 pub record AreLawful (first : Edited) (script : List Command) (entries : List Entry) (plan : Plan) (h : ℕ → List Item) (last : Edited) : Type 0 where
   pub answered : AreAnswered h (owed_by plan h) first script entries last
   pub falls : NeverFall entries
+  pub plain : (e : ℕ) → has is_converter last.made e ≡ false

@@ -1,8 +1,11 @@
 -- What a command names, by the names that elements and pads of an edited graph have.
-use Rattle.std.specs.Prelude.{ℕ, Bool, true, List, Option, None, Some, if◌then◌else◌, bytes_eq, is_some, option_and_then, position, slice_get}
-use Rattle.std.specs.List.{range_with_len}
+use Rattle.std.specs.Prelude.{false, ℕ, Bool, true, List, Option, None, Some, if◌then◌else◌, bytes_eq, is_some, option_and_then, position, slice_get}
+use Rattle.std.specs.List.{list_all, range_with_len}
 use Rattle.std.specs.Option.{option_map, option_map_or}
 use Rattle.gst_value.specs.declared.name.PadName.{PadName}
+use Rattle.el_settings.specs.Kinds.{kinds}
+use Rattle.el_settings.specs.Rows.{domain_named, find_row}
+use Rattle.gst_value.specs.declared.name.Prop.{Prop}
 use Rattle.graph_core.specs.Elements.{Made, is_named}
 use Rattle.graph_pads.specs.Links.{sink_behind}
 use Rattle.graph_pads.specs.Pads.{pad_count, pad_text}
@@ -45,9 +48,13 @@ source_when g when = option_and_then (pad_named Source g) (named_when when)
 abbrev pub is_linked_when : Edited → When → Bool
 is_linked_when g when = is_some (option_and_then (sink_behind g.links) (source_when g when))
 
--- what an act names is there; what an added element is made of is judged with its properties
+-- the kind is there, and each property is one of its own
+abbrev pub is_kind_there : List ℕ → List Prop → Bool
+is_kind_there word props = option_map_or (λ kind. list_all (λ (prop : Prop). is_some (domain_named kind prop.name)) props) (find_row word kinds) false
+
+-- what an act names is there
 abbrev pub is_act_there : Edited → When → Act → Bool
 is_act_there g when (Relink sink) = is_some (pad_named Sink g sink)
 is_act_there g when (Unlink eos) = is_linked_when g when
-is_act_there g when (Add kind props) = true
+is_act_there g when (Add kind props) = is_kind_there kind props
 is_act_there g when (Remove element) = is_some (element_named g element)

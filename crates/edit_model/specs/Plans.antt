@@ -1,5 +1,5 @@
 -- The plan by which an edited graph is evaluated.
-use Rattle.std.specs.Prelude.{◌<◌, ◌%◌, ℕ, List, [], if◌then◌else◌, length, slice_get}
+use Rattle.std.specs.Prelude.{◌≡◌, ◌<◌, ◌%◌, ℕ, List, [], if◌then◌else◌, length, slice_get}
 use Rattle.flow_model.specs.Item.{Item}
 use Rattle.flow_model.specs.Call.{Call, items}
 use Rattle.flow_model.specs.Link.{input_of}
@@ -28,9 +28,10 @@ edited_plan contents g forward count =
       log = λ p. record { cuts = []; count = count p };
     }
 
--- an order of all elements in which each link that ever was made goes forward
+-- an order of all elements, each once, in which each link that ever was made goes forward
 pub record IsOrder (g : Edited) (forward : List ℕ) : Type 0 where
   pub whole : (e : ℕ) → e < length g.made → IsMember e forward
+  pub size : length forward ≡ length g.made
   pub goes : GoForward (ways g.ever) forward
 
 -- what a sink pad is given, by the histories of the source pads

@@ -1,9 +1,9 @@
 -- Why a source pad is not linked to a sink pad, by the graph as commands left it and by what crossed its pads.
 use Rattle.std.specs.Prelude.{◌≡◌, ◌≢◌, ◌⊎◌, ◌||◌, ℕ, Bool, true, false, List, [], ◌∷◌, Option, None, Some, if◌then◌else◌, is_some}
 use Rattle.flow_model.specs.Item.{Item}
-use Rattle.flow_model.specs.Call.{Call}
+use Rattle.flow_model.specs.Call.{items}
 use Rattle.flow_model.specs.Link.{Span, Linked, WasLinked, Flushed, Given, span_calls}
-use Rattle.pad_core.specs.Crossing.{has_ended}
+use Rattle.pad_core.specs.Crossing.{has_ended, has_item}
 use Rattle.el_settings.specs.Asked.{is_queue, is_source, makes_sinks}
 use Rattle.graph_core.specs.Elements.{has}
 use Rattle.graph_core.specs.GraphPlan.{owner_of}
@@ -37,20 +37,19 @@ pub data IsReached (g : Edited) : ℕ → ℕ → Type 0 where
 
 -- ---- feeders
 
--- a span gave something: sticky events in force, an item, or a FLUSH_STOP
-abbrev pub gave : List Call → Bool
-gave [] = false
-gave (c ∷ cs) = true
-
 abbrev pub source_of : Span → Option ℕ
 source_of (Linked source from marks) = Some source
 source_of (WasLinked source from to eos marks) = Some source
 source_of (Flushed number) = None
 source_of (Given calls) = None
 
--- the source pad of the first span that gave something
+abbrev pub first_of : Option ℕ → Option ℕ → Option ℕ
+first_of None later = later
+first_of (Some source) later = Some source
+
+-- the source pad of the first link that gave an item, sticky events in force among them
 abbrev pub giver_from : (ℕ → List Item) → Span → Option ℕ → Option ℕ
-giver_from h span later = if gave (span_calls h span) then source_of span else later
+giver_from h span later = if has_item (items (span_calls h span)) then first_of (source_of span) later else later
 
 abbrev pub first_giver : (ℕ → List Item) → List Span → Option ℕ
 first_giver h [] = None

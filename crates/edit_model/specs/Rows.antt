@@ -14,7 +14,7 @@ use Rattle.graph_pads.specs.declared.pad.PadPlace.{PadPlace}
 use Rattle.edit_model.specs.Edited.{Edited, added, link_between, relinked_at, unedited, unlinked_at}
 use Rattle.edit_model.specs.Plans.{edited_plan, items_at}
 use Rattle.edit_model.specs.Lawful.{IsAnswered, IsAtBuffer, owed_by}
-use Rattle.edit_model.specs.Refused.{IsFedElsewhere, Loops}
+use Rattle.edit_model.specs.Refused.{IsAfterEos, IsFedElsewhere, Loops}
 use Rattle.run_report.specs.declared.report.Answer.{Answer}
 use Rattle.run_report.specs.declared.report.Answer.TheVariants.{Done}
 use Rattle.script_text.specs.declared.command.Act.TheVariants.{Relink}
@@ -95,6 +95,8 @@ pub record RelinkRows : Type 0 where
   -- the link is undone with EOS, before the third buffer
   pub ended : items_at (unlinked_at (pad 1) 4 true relay) (histories (codes "abcdef") (unlinked_at (pad 1) 4 true relay) four all_nine) (pad 2)
       ≡ opening ++ block 0 (codes "a") ∷ block 1 (codes "b") ∷ Ev Eos ∷ []
+  -- so its sink is linked no more
+  pub over : IsAfterEos (unlinked_at (pad 1) 4 true relay) (histories (codes "abcdef") (unlinked_at (pad 1) 4 true relay) four all_nine) (pad 2)
 
 -- ---- what a report may say of it
 
