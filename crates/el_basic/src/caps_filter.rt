@@ -8,8 +8,7 @@ ghost use Rattle.flow_model.specs.CapsInForce.{caps_behind};
 ghost use Rattle.flow_model.specs.declared.fault.ElementFault.TheVariants.{OutOfMemory as Wanting};
 ghost use Rattle.el_basic.specs.Filtered.{IsFilteredBy};
 
-use crate::put_out::put_out;
-use flow_model::ElementFault;
+use flow_model::{ElementFault, put_out};
 use gst_caps::Caps;
 use gst_item::{Buffer, Event, Flow, Item, Outs};
 use gst_value::{Fixed, OutOfMemory};

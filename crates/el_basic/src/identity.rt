@@ -6,8 +6,7 @@ ghost use Rattle.flow_model.specs.Rule.{passes};
 ghost use Rattle.flow_model.specs.Feeding.{flow_behind, passed, on_pad, next_owed, IsFaultOf};
 ghost use Rattle.el_basic.specs.Passed.{Passed, has_ended};
 
-use crate::put_out::{is_end, put_out};
-use flow_model::ElementFault;
+use flow_model::{ElementFault, is_end, put_out};
 use gst_item::{Flow, Item, Outs};
 use gst_value::OutOfMemory;
 use std::alloc::Global;

@@ -3,7 +3,6 @@
 
 pub mod caps_filter;
 pub mod identity;
-mod put_out;
 pub mod tee;
 
 pub use caps_filter::CapsFilter;

@@ -9,8 +9,7 @@ ghost use Rattle.flow_model.specs.Rule.{owed_for, only, passes, single};
 ghost use Rattle.flow_model.specs.Feeding.{flow_behind, passed, on_pad};
 ghost use Rattle.el_basic.specs.Spread.{Spread, is_gap, pad_count, pad_list, on_pads};
 
-use crate::put_out::is_end;
-use flow_model::ElementFault;
+use flow_model::{ElementFault, is_end};
 use gst_item::{Event, Flow, Item, Out, Outs, Sticky};
 use gst_value::OutOfMemory;
 use std::alloc::Global;

@@ -7,10 +7,10 @@ ghost use Rattle.flow_model.specs.Feeding.{IsFaultOf};
 ghost use Rattle.el_convert.specs.Choice.{choice};
 ghost use Rattle.el_convert.specs.Converts.{Known, convert_answer};
 
-use crate::put_out::{put_out, put_with_caps};
+use crate::put_out::put_with_caps;
 use crate::stream::{Stream, stream_of};
 use audio_info::{Info, raw_template, same_caps};
-use flow_model::ElementFault;
+use flow_model::{ElementFault, put_out};
 use gst_caps::Caps;
 use gst_item::{Buffer, Event, Flow, Item, Outs};
 use gst_value::{Fixed, OutOfMemory};
@@ -75,7 +75,8 @@ impl Convert {
         requires pad { _pad ≡ 0 }
         requires no_flush { is_flush_stop item ≡ false }
         ensures fed { IfOk result (λ flow. (first : Caps) (calls : List Call) (put : List Item) → IsConverted first self.old calls put
-            → (ys : List Item) × (next_owed (converts first) calls item ≡ Ok ys) × (out.new ≡ out.old ++ on_pad 0 ys) × IsConverted first self.new (calls ++ Feed item ∷ []) (put ++ ys)) }
+            → (ys : List Item) × (next_owed (converts first) calls item ≡ Ok ys) × (out.new ≡ out.old ++ on_pad 0 ys)
+            × IsConverted first self.new (calls ++ Feed item ∷ []) (put ++ ys)) }
         ensures flow { IfOk result (λ flow. (first : Caps) (calls : List Call) (put : List Item) → IsConverted first self.old calls put
             → flow ≡ flow_behind calls) }
         ensures puts { IfOk result (λ flow. Puts self.old self.new (Feed item) out.old out.new) }

@@ -1,10 +1,10 @@
 //! The element that puts streams one behind the other, as GStreamer's concat.
 ghost use Rattle.std.specs.Prelude.{◌≡◌, ◌<◌, ◌^◌, vec_len};
 
-use crate::pad::{Pad, is_end};
+use crate::pad::Pad;
 use crate::pads::{clear_all, end_turn, new_pads};
 use crate::sums::Sums;
-use flow_model::ElementFault;
+use flow_model::{ElementFault, is_end};
 use gst_item::{Event, Flow, Item, Outs};
 use gst_value::OutOfMemory;
 use std::alloc::Global;

@@ -12,7 +12,7 @@ use crate::note::Note;
 use crate::sums::{Excess, Sums};
 use crate::tally::Tally;
 use crate::waiting::Waiting;
-use flow_model::ElementFault;
+use flow_model::{ElementFault, is_end};
 use gst_item::{Event, Item, Out, Outs};
 use gst_value::OutOfMemory;
 use std::alloc::Global;
@@ -298,14 +298,6 @@ impl Pad {
         self.facts.clear();
         self.waiting.clear();
     }
-}
-
-/// Whether an item ends its stream.
-#[inline(always)]
-pub(crate) fn is_end(item: &Item) -> bool
-    ensures { result ≡ is_eos item.now }
-{
-    matches!(item, Item::Event(Event::Eos))
 }
 
 /// Gives up what a slot holds for something else.

@@ -6,10 +6,9 @@ ghost use Rattle.flow_model.specs.Feeding.{on_pad};
 ghost use Rattle.flow_model.specs.Item.{Buf};
 
 use crate::kind::LawKind;
-use crate::put_out::put_out;
 use crate::recode::recoded;
 use audio_info::{Info, sample_template};
-use flow_model::{ElementFault, StreamKind};
+use flow_model::{ElementFault, StreamKind, put_out};
 use gst_item::{Body, Buffer, Event, Flow, Item, Outs};
 use gst_time::LIMIT;
 use gst_value::{Fixed, OutOfMemory};

@@ -3,7 +3,6 @@
 
 pub mod kind;
 pub mod law;
-mod put_out;
 mod recode;
 
 pub use kind::LawKind;

@@ -1,26 +1,18 @@
-//! What elements with one source pad put out.
+//! What parsers put out at once.
 ghost use Rattle.std.specs.Prelude.{◌≡◌, ◌++◌, ◌∷◌, [], OnOk, OnErr};
-ghost use Rattle.flow_model.specs.Item.{Ev, NewCaps, NewSegment, is_eos};
+ghost use Rattle.flow_model.specs.Item.{Ev, NewCaps, NewSegment};
 ghost use Rattle.flow_model.specs.Feeding.{on_pad};
 ghost use Rattle.audio_info.specs.Media.{caps_of};
 ghost use Rattle.el_parse.specs.Frames.{time_segment, buffers_of};
 ghost use Rattle.flow_model.specs.Owed.{events_of};
 
 use audio_info::Info;
-use gst_item::{Buffer, Event, Item, Out, Outs};
+use flow_model::on_pad;
+use gst_item::{Buffer, Event, Item, Outs};
 use gst_time::{Format, Segment};
 use gst_value::OutOfMemory;
 use std::alloc::Global;
 use std::collections::VecDeque;
-
-/// Puts an item out on the only source pad. Where there is no memory nothing is put out, and the item is given
-/// up.
-pub(crate) fn put_out(alloc: Global, item: Item, out: &mut Outs) -> Result<(), OutOfMemory>
-    ensures ok { OnOk result (out.new ≡ out.old ++ on_pad 0 (item ∷ [])) }
-    ensures err { OnErr result (out.new ≡ out.old) }
-{
-    out.push(alloc, Out { pad: 0, item })
-}
 
 /// Puts caps, a segment in time from `start` on, in nanoseconds, and a buffer, where there is one, out on the
 /// only source pad. Where there is no memory nothing is put out.
@@ -67,13 +59,6 @@ pub(crate) fn put_both(
     out.pour(alloc, &mut queue)
 }
 
-/// An item for the only source pad.
-fn on_pad(item: Item) -> Out
-    ensures { result ≡ record { pad = 0; item = item } }
-{
-    Out { pad: 0, item }
-}
-
 /// The segment in time from `start` on, in nanoseconds.
 fn segment_from(start: u64) -> Segment
     ensures { result ≡ time_segment start }
@@ -86,11 +71,4 @@ fn segment_from(start: u64) -> Segment
         base: 0,
         position: start,
     }
-}
-
-/// Whether an item ends its stream.
-pub(crate) fn is_end(item: &Item) -> bool
-    ensures { result ≡ is_eos item.now }
-{
-    matches!(item, Item::Event(Event::Eos))
 }

@@ -9,9 +9,9 @@ ghost use Rattle.el_parse.specs.Frames.{frame_width, frame_time, frame_at, frame
 ghost use Rattle.el_parse.specs.Parses.{parses, parse_answer, beginning, whole_frames, put_frames as behind_frames, progress_behind, IsLate};
 ghost use Rattle.flow_model.specs.Owed.{answered};
 
-use crate::put_out::{put_opening, put_out};
+use crate::put_out::put_opening;
 use audio_info::Info;
-use flow_model::ElementFault;
+use flow_model::{ElementFault, put_out};
 use gst_item::{Body, Buffer, Event, Flow, Item, Outs};
 use gst_time::{Format, LIMIT, Segment, scale};
 use gst_value::OutOfMemory;
@@ -92,7 +92,8 @@ impl RawParse {
         requires pad { _pad ≡ 0 }
         requires no_flush { is_flush_stop item ≡ false }
         ensures fed { IfOk result (λ flow. (info : Info) (calls : List Call) (put : List Item) → Parsed info self.old calls put
-            → (ys : List Item) × (next_owed (parses info) calls item ≡ Ok ys) × (out.new ≡ out.old ++ on_pad 0 ys) × Parsed info self.new (calls ++ Feed item ∷ []) (put ++ ys)) }
+            → (ys : List Item) × (next_owed (parses info) calls item ≡ Ok ys) × (out.new ≡ out.old ++ on_pad 0 ys)
+            × Parsed info self.new (calls ++ Feed item ∷ []) (put ++ ys)) }
         ensures flow { IfOk result (λ flow. (info : Info) (calls : List Call) (put : List Item) → Parsed info self.old calls put → flow ≡ flow_behind calls) }
         ensures puts { IfOk result (λ flow. RawParsePuts self.old self.new (Feed item) out.old out.new) }
         ensures stays { OnErr result ((self.new ≡ self.old) × (out.new ≡ out.old)) }

@@ -10,11 +10,11 @@ ghost use Rattle.el_parse.specs.Streams.{frames_in, stream_by};
 ghost use Rattle.el_parse.specs.Splits.{splits, split_answer, whole_count, whole_pieces, left_behind, rest as rest_answer, rested, cutting_behind, reached_by};
 
 use crate::pieces::cut_pieces;
-use crate::put_out::{put_both, put_out};
+use crate::put_out::put_both;
 use crate::timing::{Timing, end_of_buffer};
 use crate::waiting::Waiting;
 use audio_info::{Info, raw_template};
-use flow_model::{ElementFault, StreamKind};
+use flow_model::{ElementFault, StreamKind, put_out};
 use gst_item::{Body, Buffer, Event, Flow, Item, Outs};
 use gst_time::{LIMIT, Segment};
 use gst_value::{Fixed, OutOfMemory};
@@ -87,7 +87,8 @@ impl Split {
         requires pad { _pad ≡ 0 }
         requires no_flush { is_flush_stop item ≡ false }
         ensures fed { IfOk result (λ flow. (frames : ℕ) (calls : List Call) (put : List Item) → Regrouped frames self.old calls put
-            → (ys : List Item) × (next_owed (splits frames) calls item ≡ Ok ys) × (out.new ≡ out.old ++ on_pad 0 ys) × Regrouped frames self.new (calls ++ Feed item ∷ []) (put ++ ys)) }
+            → (ys : List Item) × (next_owed (splits frames) calls item ≡ Ok ys) × (out.new ≡ out.old ++ on_pad 0 ys)
+            × Regrouped frames self.new (calls ++ Feed item ∷ []) (put ++ ys)) }
         ensures flow { IfOk result (λ flow. (frames : ℕ) (calls : List Call) (put : List Item) → Regrouped frames self.old calls put
             → flow ≡ flow_behind calls) }
         ensures puts { IfOk result (λ flow. SplitPuts self.old self.new (Feed item) out.old out.new) }
@@ -119,7 +120,8 @@ impl Split {
     /// Puts out what EOS would make it put out before the EOS: what waits, as a shorter buffer.
     pub fn drain(&mut self, alloc: Global, out: &mut Outs) -> Result<(), ElementFault>
         ensures drained { OnOk result ((frames : ℕ) (calls : List Call) (put : List Item) → Regrouped frames self.old calls put
-            → (ys : List Item) × (drain_owed (splits frames) calls ≡ Ok ys) × (out.new ≡ out.old ++ on_pad 0 ys) × Regrouped frames self.new (calls ++ Act Drain ∷ []) (put ++ ys)) }
+            → (ys : List Item) × (drain_owed (splits frames) calls ≡ Ok ys) × (out.new ≡ out.old ++ on_pad 0 ys)
+            × Regrouped frames self.new (calls ++ Act Drain ∷ []) (put ++ ys)) }
         ensures puts { OnOk result (SplitPuts self.old self.new (Act Drain) out.old out.new) }
         ensures stays { OnErr result ((self.new ≡ self.old) × (out.new ≡ out.old)) }
         ensures fault { IfErr result

@@ -1,6 +1,5 @@
 pub mod Roles
 pub mod Openings
-pub mod WholeLists
 pub mod Ends
 pub mod Ending
 pub mod Rules

@@ -1,5 +1,4 @@
 pub mod Denoted
-pub mod Stepping
 pub mod Stands
 pub mod Ends
 pub mod Failures

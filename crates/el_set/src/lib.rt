@@ -1,7 +1,6 @@
-//! The elements by what they are set to: how each is made, for what it stands, and what it owes for whole lists.
+//! The elements by what they are set to: how each is made, and for what it stands.
 #![tactic(auto)]
 
-mod denoting;
 pub mod element;
 pub mod filter;
 pub mod join;
@@ -10,7 +9,6 @@ mod making;
 pub mod sink;
 pub mod source;
 
-pub use denoting::denote;
 pub use element::Element;
 pub use filter::FilterElement;
 pub use join::JoinElement;

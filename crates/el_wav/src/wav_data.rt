@@ -86,7 +86,8 @@ impl KnownHead {
     ) -> Result<(), ElementFault>
         requires { is_flush_stop item ≡ false }
         ensures fed { IfOk result (λ done. (k : Known) (calls : List Call) → IsKnown k calls self.old
-            → (ys : List Item) × (next_owed (parses_raw k.info) calls item ≡ Ok ys) × (out.new ≡ out.old ++ on_pad 0 ys) × IsKnown k (calls ++ Feed item ∷ []) self.new) }
+            → (ys : List Item) × (next_owed (parses_raw k.info) calls item ≡ Ok ys) × (out.new ≡ out.old ++ on_pad 0 ys)
+            × IsKnown k (calls ++ Feed item ∷ []) self.new) }
         ensures appends { OnOk result (Appends out.old out.new) }
         ensures head { self.new.head ≡ self.old.head }
         ensures info { self.new.info ≡ self.old.info }

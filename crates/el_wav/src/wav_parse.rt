@@ -18,9 +18,9 @@ ghost use Rattle.el_wav.specs.declared.wav_parse.Phase.TheVariants.{InData as Pa
 use crate::wav_begun::{Begun, read_on};
 use crate::wav_data::{KnownHead, body_item, cut_data, left_of, segment_item};
 use crate::wav_gathered::Gathered;
-use crate::wav_put_out::{put_last, put_out};
+use crate::wav_put_out::put_last;
 use crate::wav_told::heads_are_told;
-use flow_model::{ElementFault, StreamKind};
+use flow_model::{ElementFault, StreamKind, put_out};
 use gst_item::{Body, Buffer, Event, Flow, Item, Outs};
 use gst_time::{Format, Segment};
 use gst_value::{List as Items, OutOfMemory};
@@ -85,7 +85,8 @@ impl WavParse {
         requires pad { _pad ≡ 0 }
         requires no_flush { is_flush_stop item ≡ false }
         ensures fed { IfOk result (λ flow. (calls : List Call) (put : List Item) → Parsed self.old calls put
-            → (ys : List Item) × (next_owed parses calls item ≡ Ok ys) × (out.new ≡ out.old ++ on_pad 0 ys) × Parsed self.new (calls ++ Feed item ∷ []) (put ++ ys)) }
+            → (ys : List Item) × (next_owed parses calls item ≡ Ok ys) × (out.new ≡ out.old ++ on_pad 0 ys)
+            × Parsed self.new (calls ++ Feed item ∷ []) (put ++ ys)) }
         ensures flow { IfOk result (λ flow. (calls : List Call) (put : List Item) → Parsed self.old calls put → flow ≡ flow_behind calls) }
         ensures puts { IfOk result (λ flow. Puts self.old self.new (Feed item) out.old out.new) }
         ensures stays { OnErr result ((calls : List Call) (put : List Item) → Parsed self.old calls put → Parsed self.new calls put) }

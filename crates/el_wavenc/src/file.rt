@@ -8,9 +8,9 @@ ghost use Rattle.flow_model.specs.Owed.{events_of};
 ghost use Rattle.el_wavenc.specs.Known.{stream_by};
 ghost use Rattle.el_wavenc.specs.WavFile.{bytes_at as bytes_at_of, head_bytes, head_items, head_of as head_of_stream, padding, tag_of as tag_of_sample};
 
-use crate::put_out::{on_pad, put_out};
 use crate::stream::Stream;
 use audio_info::Sample;
+use flow_model::{on_pad, put_out};
 use gst_item::{Body, Buffer, Event, Item, Out, Outs};
 use gst_time::{Format, Segment};
 use gst_value::OutOfMemory;

@@ -3,7 +3,6 @@
 
 mod file;
 mod laws;
-mod put_out;
 mod stream;
 mod template;
 pub mod wav_enc;

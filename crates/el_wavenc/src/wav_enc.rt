@@ -10,11 +10,10 @@ ghost use Rattle.el_wavenc.specs.Encodes.{encodes, encode_answer, announcement, 
 use crate::file::{
     HEAD_LENGTH, MOST_DATA, bytes_at, push_event, push_head, push_opening, push_padding, put_data,
 };
-use crate::put_out::put_out;
 use crate::stream::Stream;
 use crate::template::sink_template;
 use audio_info::{Info, exactly, same_caps};
-use flow_model::{ElementFault, StreamKind};
+use flow_model::{ElementFault, StreamKind, put_out};
 use gst_item::{Buffer, Event, Flow, Item, Out, Outs};
 use gst_value::{Fixed, OutOfMemory};
 use std::alloc::Global;
@@ -75,7 +74,8 @@ impl WavEnc {
         requires pad { _pad ≡ 0 }
         requires no_flush { is_flush_stop item ≡ false }
         ensures fed { IfOk result (λ flow. (calls : List Call) (put : List Item) → Encoded self.old calls put
-            → (ys : List Item) × (next_owed encodes calls item ≡ Ok ys) × (out.new ≡ out.old ++ on_pad 0 ys) × Encoded self.new (calls ++ Feed item ∷ []) (put ++ ys)) }
+            → (ys : List Item) × (next_owed encodes calls item ≡ Ok ys) × (out.new ≡ out.old ++ on_pad 0 ys)
+            × Encoded self.new (calls ++ Feed item ∷ []) (put ++ ys)) }
         ensures flow { IfOk result (λ flow. (calls : List Call) (put : List Item) → Encoded self.old calls put → flow ≡ flow_behind calls) }
         ensures puts { IfOk result (λ flow. Puts self.old self.new (Feed item) out.old out.new) }
         ensures stays { OnErr result ((self.new ≡ self.old) × (out.new ≡ out.old)) }
@@ -104,7 +104,8 @@ impl WavEnc {
     /// Puts out what EOS would make it put out before the EOS. Later bytes go on behind those before.
     pub fn drain(&mut self, alloc: Global, out: &mut Outs) -> Result<(), ElementFault>
         ensures drained { OnOk result ((calls : List Call) (put : List Item) → Encoded self.old calls put
-            → (ys : List Item) × (drain_owed encodes calls ≡ Ok ys) × (out.new ≡ out.old ++ on_pad 0 ys) × Encoded self.new (calls ++ Act Drain ∷ []) (put ++ ys)) }
+            → (ys : List Item) × (drain_owed encodes calls ≡ Ok ys) × (out.new ≡ out.old ++ on_pad 0 ys)
+            × Encoded self.new (calls ++ Act Drain ∷ []) (put ++ ys)) }
         ensures puts { OnOk result (Puts self.old self.new (Act Drain) out.old out.new) }
         ensures stays { OnErr result ((self.new ≡ self.old) × (out.new ≡ out.old)) }
         ensures fault { IfErr result

@@ -132,7 +132,8 @@ impl MemLanes {
     pub(crate) fn take(&mut self, place: u64) -> Option<Item>
         requires { (lane : Lane) × (slice_get self.old place ≡ Some lane) }
         ensures { (lane : Lane) → slice_get self.old place ≡ Some lane
-            → MatchOption result ((lane.items ≡ []) × (self.new ≡ self.old)) (λ item. ((rest : _) × (lane.items ≡ item ∷ rest)) × (self.new ≡ table_without_first place self.old)) }
+            → MatchOption result ((lane.items ≡ []) × (self.new ≡ self.old))
+            (λ item. ((rest : _) × (lane.items ≡ item ∷ rest)) × (self.new ≡ table_without_first place self.old)) }
     {
         self.lanes[place as usize].take()
     }

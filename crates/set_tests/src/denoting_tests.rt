@@ -1,6 +1,6 @@
 //! Rows of whole lists, a kind each.
 use audio_info::{Info, Sample};
-use el_set::*;
+use el_denote::denote;
 use el_settings::{MadePads, Settings, check};
 use flow_model::ElementFault;
 use gst_item::{Event, Item};

@@ -2,6 +2,7 @@
 ghost use Rattle.std.specs.Prelude.{◌≡◌, IfOk};
 ghost use Rattle.el_settings.specs.Asked.{title_of};
 
+use el_denote::denote;
 use el_set::*;
 use el_settings::{CapsFilterSettings, PropFault, Settings, check};
 use el_src::Next;

@@ -4,13 +4,13 @@ ghost use Rattle.flow_model.specs.Item.{Item as PadItem, is_flush_stop};
 ghost use Rattle.flow_model.specs.Feeding.{IsFaultOf};
 ghost use Rattle.flow_model.specs.Rule.{Response};
 ghost use Rattle.el_settings.specs.Asked.{makes_sinks, sink_pads, source_pads, with_allowed};
-ghost use Rattle.el_set.specs.Denoted.{IsDenoted, IsOwed, answered, next_fault, response_of};
+ghost use Rattle.el_denote.specs.Denoted.{IsDenoted, IsOwed, answered, next_fault};
+ghost use Rattle.el_set.specs.Denoted.{response_of};
 ghost use Rattle.el_set.specs.Stands.{Stands};
-ghost use Rattle.el_set.specs.Stepping.{TookAll};
+ghost use Rattle.el_denote.specs.Stepping.{TookAll};
 
-use crate::filter::FilterElement;
-use crate::making::filter_of;
 use el_basic::Identity;
+use el_set::{FilterElement, filter_of};
 use el_settings::Settings;
 use flow_model::ElementFault;
 use gst_caps::Caps;

@@ -6,7 +6,7 @@ use Rattle.flow_model.specs.Call.{feeds}
 use Rattle.flow_model.specs.Rule.{Response}
 use Rattle.flow_model.specs.Feeding.{on_pad}
 use Rattle.el_set.specs.declared.filter.FilterElement.{FilterElement}
-use Rattle.el_set.specs.Denoted.{first_fault}
+use Rattle.el_denote.specs.Denoted.{first_fault}
 use Rattle.el_set.specs.Stands.{Stands}
 
 -- It has the rule, was fed the items, of which none was a fault, and this is what it put out.

@@ -1,6 +1,6 @@
 use Rattle.std.proofs.Common.{take}
-use Rattle.el_set.proofs.WholeLists.{owed_fault, owed_all, took_first, took_more, took_whole}
-use Rattle.el_set.proofs.denoting.evaluated.Goals as goal
+use Rattle.el_denote.proofs.WholeLists.{owed_fault, owed_all, took_first, took_more, took_whole}
+use Rattle.el_denote.proofs.denoting.evaluated.Goals as goal
 
 pub loop-item-init : goal.loop-item-init
 loop-item-init c = λ respond s. took_first respond c.args.element c.new-out.result c.new-out.ensures s

@@ -1,6 +1,6 @@
 use Rattle.flow_model.specs.Call.{feeds}
-use Rattle.el_set.proofs.WholeLists.{took_fed, next_of}
-use Rattle.el_set.proofs.denoting.feed.Goals as goal
+use Rattle.el_denote.proofs.WholeLists.{took_fed, next_of}
+use Rattle.el_denote.proofs.denoting.feed.Goals as goal
 
 pub returns-in-Ok-clause-taken : goal.returns-in-Ok-clause-taken
 returns-in-Ok-clause-taken c =

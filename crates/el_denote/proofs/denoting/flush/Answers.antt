@@ -1,5 +1,5 @@
-use Rattle.el_set.proofs.WholeLists.{took_flush}
-use Rattle.el_set.proofs.denoting.flush.Goals as goal
+use Rattle.el_denote.proofs.WholeLists.{took_flush}
+use Rattle.el_denote.proofs.denoting.flush.Goals as goal
 
 pub returns : goal.returns
 returns c =

@@ -13,9 +13,10 @@ use Rattle.el_set.specs.declared.filter.FilterElement.{FilterElement}
 use Rattle.el_settings.specs.declared.settings.Settings.{Settings}
 use Rattle.el_settings.specs.Values.{or_else}
 use Rattle.el_settings.specs.Asked.{source_pads, with_allowed}
-use Rattle.el_set.specs.Denoted.{response_of, fault_at, first_fault_from, first_fault, next_fault, answered, only_input, IsOwed, IsDenoted}
+use Rattle.el_set.specs.Denoted.{response_of}
+use Rattle.el_denote.specs.Denoted.{fault_at, first_fault_from, first_fault, next_fault, answered, only_input, IsOwed, IsDenoted}
 use Rattle.el_set.specs.Stands.{Stands, PutsOut}
-use Rattle.el_set.specs.Stepping.{TookAll}
+use Rattle.el_denote.specs.Stepping.{TookAll}
 use Rattle.el_settings.proofs.Allowing.{sources_set}
 use Rattle.el_set.proofs.Elements.{elements_owe}
 use Rattle.el_settings.proofs.Given.{or_else-or_else}

@@ -1,14 +1,16 @@
 //! What elements with one source pad put out.
 ghost use Rattle.std.specs.Prelude.{◌≡◌, ◌++◌, ◌∷◌, [], OnOk, OnErr};
+ghost use Rattle.flow_model.specs.Item.{is_eos};
 ghost use Rattle.flow_model.specs.Feeding.{on_pad};
 
-use gst_item::{Item, Out, Outs};
+use gst_item::{Event, Item, Out, Outs};
 use gst_value::OutOfMemory;
 use std::alloc::Global;
 
 /// Puts an item out on the only source pad. Where there is no memory nothing is put out, and the item is given
 /// up.
-pub(crate) fn put_out(alloc: Global, item: Item, out: &mut Outs) -> Result<(), OutOfMemory>
+#[inline(always)]
+pub fn put_out(alloc: Global, item: Item, out: &mut Outs) -> Result<(), OutOfMemory>
     ensures ok { OnOk result (out.new ≡ out.old ++ on_pad 0 (item ∷ [])) }
     ensures err { OnErr result (out.new ≡ out.old) }
 {
@@ -16,8 +18,17 @@ pub(crate) fn put_out(alloc: Global, item: Item, out: &mut Outs) -> Result<(), O
 }
 
 /// An item for the only source pad.
-pub(crate) fn on_pad(item: Item) -> Out
+#[inline(always)]
+pub fn on_pad(item: Item) -> Out
     ensures { result ≡ record { pad = 0; item = item } }
 {
     Out { pad: 0, item }
+}
+
+/// Whether an item ends its stream.
+#[inline(always)]
+pub fn is_end(item: &Item) -> bool
+    ensures { result ≡ is_eos item.now }
+{
+    matches!(item, Item::Event(Event::Eos))
 }
