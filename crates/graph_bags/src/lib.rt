@@ -9,6 +9,3 @@ mod walk;
 
 pub use bag::{Bag, BagElement, BagHead, BagLink, BagPad};
 pub use bags::bags_of;
-
-#[cfg(test)]
-mod tests;

@@ -22,6 +22,3 @@ pub use fault::{BuildFault, What};
 pub use graph::Graph;
 pub use graph_pads::{PadLink, PadPlace};
 pub use laws::{one_answer, pads_are_linked_once};
-
-#[cfg(test)]
-mod tests;

@@ -15,6 +15,3 @@ pub use back::take_back;
 pub use blanks::{Blanks, Filled};
 pub use counts::{Count, count_pads};
 pub use openings::openings_of;
-
-#[cfg(test)]
-mod tests;

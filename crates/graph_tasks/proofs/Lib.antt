@@ -24,4 +24,3 @@ pub mod Hands
 pub mod Fillings
 pub mod Plans
 pub mod Begun
-pub mod Under

@@ -13,8 +13,3 @@ pub mod wiring;
 pub use making::Plan;
 pub use wired_task::{WiredHead, WiredPart, WiredTask, WiredTasks};
 pub use wiring::wire;
-
-#[cfg(test)]
-mod plain;
-#[cfg(test)]
-mod tests;

@@ -225,6 +225,3 @@ pub fn run<H: Threads + Wait + Copy + Send + 'static, F: Files, C: Clock, G: Tas
     let ended = run_words(alloc, words, files);
     tell(alloc, ended, out)
 }
-
-#[cfg(test)]
-mod tests;

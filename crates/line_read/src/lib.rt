@@ -10,6 +10,3 @@ pub use laws::one_answer;
 pub use reading::read_request;
 pub use refusal::Refusal;
 pub use request::Request;
-
-#[cfg(test)]
-mod tests;

@@ -14,6 +14,3 @@ pub use report::{
 };
 pub use rows::{flow_rows, line_rows, run_rows, stall_rows};
 pub use text::{NO_MEMORY, no_memory, report_text};
-
-#[cfg(test)]
-mod tests;

@@ -10,6 +10,3 @@ mod stall;
 
 pub use ended::WorldEnd;
 pub use run::run_turns;
-
-#[cfg(test)]
-mod tests;

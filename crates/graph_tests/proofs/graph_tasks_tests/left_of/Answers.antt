@@ -2,11 +2,11 @@ use Rattle.std.proofs.Common.{sym, subst}
 use Rattle.graph_core.proofs.LinkedOnce.{linked_once}
 use Rattle.lane_core.specs.contracts.memory.MemInletInlet.TheImpl as inlets
 use Rattle.lane_core.specs.contracts.memory.MemOutletOutlet.TheImpl as outlets
-use Rattle.graph_tasks.specs.contracts.plain.PlainTaskElement.TheImpl as elements
-use Rattle.graph_tasks.specs.contracts.plain.PlainSourceTaskSource.TheImpl as sources
+use Rattle.graph_tests.specs.contracts.plain.PlainTaskElement.TheImpl as elements
+use Rattle.graph_tests.specs.contracts.plain.PlainSourceTaskSource.TheImpl as sources
 use Rattle.graph_tasks.specs.Plan.{AreThere}
 use Rattle.graph_tasks.proofs.Hands.{elements_are_there}
-use Rattle.graph_tasks.proofs.tests.left_of.Goals as goal
+use Rattle.graph_tests.proofs.graph_tasks_tests.left_of.Goals as goal
 
 pub into_tasks-tasks-requires-clause-there : goal.into_tasks-tasks-requires-clause-there
 into_tasks-tasks-requires-clause-there c κs =

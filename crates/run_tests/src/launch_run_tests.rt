@@ -1,8 +1,11 @@
-use super::*;
 use gst_outside::{MemFiles, MemSink, OpenGate, StepClock};
-use gst_value::Text;
+use gst_value::{List, Text};
+use launch_run::run::run;
+use std::alloc::Global;
 use std::process::Abort;
+use std::sync::Wait;
 use std::test::Fail;
+use std::thread::Threads;
 
 /// A call with these words, between which bars stand, over files in memory: `a` has the content and `e` none, and `b`
 /// and `d` can be written. The calls with these numbers fail. The status and the text are what it has to give, and the

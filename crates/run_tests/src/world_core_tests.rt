@@ -1,5 +1,4 @@
 //! Lines over files in memory, by turns.
-use super::*;
 use graph_core::{BuildFault, build};
 use gst_outside::{Files, MemFiles};
 use gst_value::List;
@@ -9,6 +8,7 @@ use std::alloc::Global;
 use std::process::Abort;
 use std::test::Fail;
 use turn_order::Order;
+use world_core::*;
 
 /// Each row: the call that fails, if one does, with its number; behind a colon the turns, a digit each, that come
 /// before 0, 1, 2 and so on; the line; the lines of its report; and the bytes at `b` and at `d`. At `a` stands

@@ -1,7 +1,7 @@
 //! Rows of words, and what they ask for or why they are refused.
-use super::*;
 use graph_core::Graph;
 use gst_value::List;
+use line_read::*;
 use run_report::{Report, report_text};
 use std::alloc::{AllocError, Global};
 use std::fmt::Write;

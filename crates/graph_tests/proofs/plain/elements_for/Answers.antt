@@ -6,9 +6,9 @@ use Rattle.graph_core.specs.Elements.{Made}
 use Rattle.graph_core.specs.Graph.{made as made_in}
 use Rattle.graph_bags.specs.Links.{source_count}
 use Rattle.graph_lanes.proofs.Slots.{size_more}
-use Rattle.graph_tasks.specs.declared.plain.Plain.{Plain}
-use Rattle.graph_tasks.proofs.Under.{one_more}
-use Rattle.graph_tasks.proofs.plain.elements_for.Goals as goal
+use Rattle.graph_tests.specs.declared.plain.Plain.{Plain}
+use Rattle.graph_tests.proofs.Under.{one_more}
+use Rattle.graph_tests.proofs.plain.elements_for.Goals as goal
 
 pub loop-number-init : goal.loop-number-init
 loop-number-init c = record { size = ap length c.new-all.ensures.items; each = λ n below. absurd (omega (arith, below)) }

@@ -1,10 +1,10 @@
 //! Rows of reports' texts.
-use super::*;
 use caps_text::parse;
 use flow_model::StreamKind;
 use gst_value::{Fixed, List, OutOfMemory, PadName, Text};
 use launch_text::LineKind;
 use pad_core::LinkReturn;
+use run_report::*;
 use std::alloc::Global;
 use std::test::Fail;
 

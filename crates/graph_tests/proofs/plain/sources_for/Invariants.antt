@@ -1,7 +1,7 @@
 use Rattle.std.proofs.Common.{◌≡◌, length}
-use Rattle.graph_tasks.specs.declared.plain.PlainSource.{PlainSource}
-use Rattle.graph_tasks.proofs.Under.{StandBelow}
-use Rattle.graph_tasks.proofs.plain.sources_for.Given as goal
+use Rattle.graph_tests.specs.declared.plain.PlainSource.{PlainSource}
+use Rattle.graph_tests.proofs.Under.{StandBelow}
+use Rattle.graph_tests.proofs.plain.sources_for.Given as goal
 
 abbrev pub invariant-loop : goal.invariant-loop
 invariant-loop l = record {

@@ -1,5 +1,5 @@
 //! Rows of lines and the bags of their graphs.
-use super::*;
+use graph_bags::*;
 use graph_core::{Graph, build};
 use gst_value::Text;
 use launch_text::parse;

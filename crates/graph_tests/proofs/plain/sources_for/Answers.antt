@@ -2,9 +2,9 @@ use Rattle.std.proofs.Common.{ap, length, refl, arith}
 use Rattle.std.proofs.lemmas.Option.{slice_get_within}
 use Rattle.graph_core.specs.Graph.{made as made_in}
 use Rattle.graph_lanes.proofs.Slots.{size_more}
-use Rattle.graph_tasks.specs.declared.plain.PlainSource.{PlainSource}
-use Rattle.graph_tasks.proofs.Under.{one_more}
-use Rattle.graph_tasks.proofs.plain.sources_for.Goals as goal
+use Rattle.graph_tests.specs.declared.plain.PlainSource.{PlainSource}
+use Rattle.graph_tests.proofs.Under.{one_more}
+use Rattle.graph_tests.proofs.plain.sources_for.Goals as goal
 
 pub loop-init : goal.loop-init
 loop-init c = record { size = ap length c.new-all.ensures.items; each = λ n below. absurd (omega (arith, below)) }

@@ -1,7 +1,7 @@
 //! Rows of lines and the tasks of their graphs, without their elements.
-use super::*;
 use crate::plain::{Plain, PlainSource, elements_for, sources_for};
 use graph_core::build;
+use graph_tasks::*;
 use lane_core::{Inlet, MemInlet, MemOutlet, Outlet};
 use launch_text::parse;
 use std::alloc::Global;

@@ -1,6 +1,6 @@
 //! Rows of lines and their graphs.
-use super::*;
 use caps_text::print;
+use graph_core::*;
 use gst_value::{PadName, Text};
 use launch_text::parse;
 use std::alloc::Global;

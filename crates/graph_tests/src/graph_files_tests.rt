@@ -4,11 +4,11 @@ ghost use Rattle.el_set.specs.Gives.{source_items};
 ghost use Rattle.task_pads.specs.Behind.{nowhere};
 ghost use Rattle.task_pads.specs.Pads.{goes_of};
 
-use super::*;
 use el_basic::Tee;
 use el_set::{SinkElement, SourceElement, sink_of, source_of};
 use el_settings::{FileSinkSettings, FileSrcSettings, Settings};
 use graph_core::{Graph, build};
+use graph_files::*;
 use gst_item::{Event, Item};
 use gst_outside::{MemSink, MemSource, Sink, Source};
 use gst_value::{List, Text};

@@ -1,9 +1,9 @@
 use Rattle.std.proofs.Common.{◌≡◌, length}
 use Rattle.graph_core.specs.Graph.{made as made_in}
 use Rattle.graph_bags.specs.Links.{source_count}
-use Rattle.graph_tasks.specs.declared.plain.Plain.{Plain}
-use Rattle.graph_tasks.proofs.Under.{StandBelow}
-use Rattle.graph_tasks.proofs.plain.elements_for.Given as goal
+use Rattle.graph_tests.specs.declared.plain.Plain.{Plain}
+use Rattle.graph_tests.proofs.Under.{StandBelow}
+use Rattle.graph_tests.proofs.plain.elements_for.Given as goal
 
 abbrev pub invariant-loop-number : goal.invariant-loop-number
 invariant-loop-number l = record {
