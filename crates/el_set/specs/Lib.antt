@@ -5,5 +5,4 @@ pub mod Failures
 pub mod Gives
 pub mod Holds
 pub mod Joins
-pub mod Roles
 pub mod Made

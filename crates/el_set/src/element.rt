@@ -1,6 +1,4 @@
 //! The elements, by their role.
-ghost use Rattle.std.specs.Prelude.{◌≡◌};
-
 use crate::filter::FilterElement;
 use crate::join::JoinElement;
 use crate::sink::SinkElement;
@@ -18,15 +16,4 @@ pub enum Element<S, K> {
     Tee(Tee),
     Join(JoinElement),
     Sink(SinkElement<K>),
-}
-
-impl<S: Drop, K: Drop> Element<S, K> {
-    ghost use Rattle.el_set.specs.Roles.{is_lane};
-
-    /// Whether a link to the element is a lane.
-    pub fn is_lane(&self) -> bool
-        ensures { result ≡ is_lane self.now }
-    {
-        matches!(self, Element::Queue(_) | Element::Join(_))
-    }
 }

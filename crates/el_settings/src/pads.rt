@@ -1,5 +1,5 @@
 //! Pads that links make.
-ghost use Rattle.std.specs.Prelude.{◌≡◌, ◌≤◌, ◌+◌, None, IfSome, min};
+ghost use Rattle.std.specs.Prelude.{◌≡◌, ◌≤◌, min};
 
 /// How many pads an element has of those that links make.
 #[derive(Clone, Copy)]
@@ -25,20 +25,6 @@ impl MadePads {
     {
         MadePads {
             count: count.min(MadePads::MOST as usize) as u32,
-        }
-    }
-
-    /// One pad more. None where there are 64.
-    pub fn one_more(self) -> Option<MadePads>
-        ensures more { IfSome result (λ more. more.count ≡ self.count + 1) }
-        ensures most { result ≡ None → self.count ≡ 64 }
-    {
-        if self.count < MadePads::MOST {
-            Some(MadePads {
-                count: self.count + 1,
-            })
-        } else {
-            None
         }
     }
 

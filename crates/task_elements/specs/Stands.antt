@@ -117,11 +117,7 @@ abbrev pub is_join : {K : Type 0} → StreamElement K → Bool
 is_join (Join join) = true
 is_join _ = false
 
--- the filter, the sink, what the sink writes to, and the length of that
-abbrev pub filter_in : {K : Type 0} → StreamElement K → Option FilterElement
-filter_in (Filter filter) = Some filter.filter
-filter_in _ = None
-
+-- the sink, what it writes to, and the length of that
 abbrev pub sink_in : {K : Type 0} → StreamElement K → Option (SinkElement K)
 sink_in (Sink sink) = Some sink
 sink_in _ = None

@@ -14,7 +14,7 @@ ghost use Rattle.task_elements.specs.Stands.{FilterTook, TeeTook, passing, SinkS
 use crate::filter::StreamFilter;
 use crate::join::StreamJoin;
 use el_basic::{Identity, Tee};
-use el_set::{FilterElement, SinkElement};
+use el_set::SinkElement;
 use gst_item::{Item, Outs};
 use gst_outside::Sink;
 use net_model::{Refused, TaskElement};
@@ -74,17 +74,7 @@ impl<K: Sink> TaskElement for StreamElement<K> {
 }
 
 impl<K: Sink> StreamElement<K> {
-    ghost use Rattle.task_elements.specs.Stands.{filter_in, sink_in, len_in};
-
-    /// The filter, where it is one.
-    pub fn into_filter(self) -> Option<FilterElement>
-        ensures { result ≡ filter_in self }
-    {
-        let StreamElement::Filter(filter) = self else {
-            return None;
-        };
-        Some(filter.filter)
-    }
+    ghost use Rattle.task_elements.specs.Stands.{sink_in, len_in};
 
     /// The sink, where it is one.
     pub fn into_sink(self) -> Option<SinkElement<K>>

@@ -32,15 +32,3 @@ pub record SpreadAt {O : Type 0} (pads : List (Pad O)) (out out' : List Out) (pl
 -- so it is at each pad
 abbrev pub Spread : {O : Type 0} → List Out → List Out → List (Pad O) → List (Pad O) → Type 0
 Spread {O = O} out out' pads pads' = (place : ℕ) (pad : Pad O) → slice_get pads' place ≡ Some pad → SpreadAt pads out out' place pad
-
--- nothing waits at the pads from a place on
-abbrev pub AreIdle : {O : Type 0} → ℕ → List (Pad O) → Type 0
-AreIdle {O = O} from pads = (place : ℕ) (pad : Pad O) → from ≤ place → slice_get pads place ≡ Some pad → waiting_of pad ≡ []
-
--- From a place on, the first pad at which an item waits is the one of this place.
-pub record WaitsFirst {O : Type 0} (from : ℕ) (pads : List (Pad O)) (place : ℕ) : Type 0 where
-  pub pad : Pad O
-  pub at : slice_get pads place ≡ Some pad
-  pub waits : waiting_of pad ≢ []
-  pub behind : from ≤ place
-  pub first : (earlier : ℕ) (other : Pad O) → from ≤ earlier → earlier < place → slice_get pads earlier ≡ Some other → waiting_of other ≡ []

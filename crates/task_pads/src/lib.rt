@@ -8,4 +8,4 @@ pub mod put;
 
 pub use crossing::Crossing;
 pub use pad::{Behind, Pad};
-pub use put::{fill, first_waiting, spread};
+pub use put::{fill, spread};

@@ -1,8 +1,8 @@
 //! What an element put out goes to its source pads.
-ghost use Rattle.std.specs.Prelude.{◌≡◌, ◌≢◌, ◌++◌, [], map, length, OnOk, MatchOption};
+ghost use Rattle.std.specs.Prelude.{◌≡◌, ◌≢◌, ◌++◌, [], map, length, OnOk};
 ghost use Rattle.net_model.specs.Takes.{on_port, AreWithin};
 ghost use Rattle.task_pads.specs.Pads.{rest_of, waiting_of, HasRoom};
-ghost use Rattle.task_pads.specs.Put.{AreIdle, FirstNoFlush, MovesFirst, Spread, WaitsFirst};
+ghost use Rattle.task_pads.specs.Put.{FirstNoFlush, MovesFirst, Spread};
 
 use crate::pad::Pad;
 use gst_item::{Out, Outs};
@@ -73,16 +73,4 @@ fn spread_one<O>(pad: &mut Pad<O>, outs: &mut VecDeque<Out>)
     if let Some(out) = outs.pop_front() {
         pad.waiting.push_back_reserved(out);
     }
-}
-
-/// The place of the first pad, from a place on, at which an item waits.
-pub fn first_waiting<O>(pads: &[Pad<O>], from: usize) -> Option<usize>
-    ensures { MatchOption result (AreIdle from pads.now) (WaitsFirst from pads.now) }
-{
-    for place in from..pads.len() {
-        if !pads[place].waiting.is_empty() {
-            return Some(place);
-        }
-    }
-    None
 }
