@@ -1,6 +1,6 @@
 //! The element that lets streams of some caps pass, as GStreamer's capsfilter.
 ghost use Rattle.std.specs.Prelude.{◌≡◌, ◌++◌, ◌∷◌, [], ℕ, List, Some, Ok, false, IfOk, OnOk, OnErr, IfErr, IsOk};
-ghost use Rattle.flow_model.specs.Item.{Item, Buf, Ev, NewCaps, FlushStop, is_buffer, is_caps, is_eos, is_flush_stop};
+ghost use Rattle.flow_model.specs.Item.{Item, Buf, Ev, NewCaps, FlushStop, is_caps, is_eos, is_flush_stop};
 ghost use Rattle.flow_model.specs.Call.{Call, Feed, Act, Drain, Set, Filter};
 ghost use Rattle.flow_model.specs.Feeding.{flow_behind, passed, on_pad, next_owed, IsFaultOf};
 ghost use Rattle.el_basic.specs.Filters.{filters, filter_answer, takes_buffer};

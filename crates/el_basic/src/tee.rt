@@ -1,7 +1,7 @@
 //! The element that puts each item out on all its source pads, as GStreamer's tee.
 ghost use Rattle.std.specs.Prelude.{◌≡◌, ◌≤◌, ◌<◌, ◌+◌, ◌++◌, ◌∷◌, [], ℕ, false, List, length, map, replicate, IfOk, OnOk, OnErr, IfErr, IsOk};
 ghost use Rattle.flow_model.specs.declared.fault.ElementFault.TheVariants.{OutOfMemory as Wanting};
-ghost use Rattle.flow_model.specs.Item.{Item, Ev, FlushStop, is_flush_stop, is_eos};
+ghost use Rattle.flow_model.specs.Item.{Item, Ev, FlushStop, is_flush_stop};
 ghost use Rattle.flow_model.specs.Sticky.{in_force, stickies};
 ghost use Rattle.flow_model.specs.Section.{counted, section};
 ghost use Rattle.flow_model.specs.Call.{Call, Feed, Act, Drain, items};

@@ -56,14 +56,6 @@ opening_free false i = kept_free i
 pub one_free : (x : Item) → is_flush_stop x ≡ false → has_flush_stop (x ∷ []) ≡ false
 one_free x h = rw h refl
 
--- what goes out in front of an item, with the item and alone
-pub line_free : (begun : Bool) (i : Inherited) (x : Item) (line : List Out) → is_flush_stop x ≡ false → line ≡ on_pad 0 (opening_of begun i ++ x ∷ [])
-    → has_flush_stop (items_of line) ≡ false
-line_free begun i x line h e = rw (e, items_on_pad (opening_of begun i ++ x ∷ [])) (free_append (opening_of begun i) (x ∷ []) (opening_free begun i) (one_free x h))
-
-pub front_free : (begun : Bool) (i : Inherited) (line : List Out) → line ≡ on_pad 0 (opening_of begun i) → has_flush_stop (items_of line) ≡ false
-front_free begun i line e = rw (e, items_on_pad (opening_of begun i)) (opening_free begun i)
-
 -- a raised item is a FLUSH_STOP where the item is one
 pub lifted_stop : (sums : Sums) (x : Item) → is_flush_stop (lifted sums x) ≡ is_flush_stop x
 lifted_stop sums (Ev (NewSegment s)) = go (raised_segment sums s)

@@ -5,10 +5,8 @@ use Rattle.std.specs.Prelude.{slice_get, IfErr, OnOk}
 use Rattle.std.specs.Vec.{with_item}
 use Rattle.gst_item.specs.declared.out.Out.{Out}
 use Rattle.flow_model.specs.declared.fault.ElementFault.{ElementFault}
-use Rattle.flow_model.specs.declared.fault.ElementFault.TheVariants.{OutOfMemory as Wanting}
 use Rattle.flow_model.specs.Item.{Item, Ev, Eos, is_flush_stop, is_eos}
 use Rattle.flow_model.specs.Call.{Call}
-use Rattle.flow_model.specs.Rule.{Fault}
 use Rattle.flow_model.specs.Feeding.{on_pad, IsFaultOf}
 use Rattle.el_join.specs.declared.sums.Sums.{Sums}
 use Rattle.el_join.specs.declared.pad.Facts.{Facts}
@@ -25,9 +23,6 @@ use Rattle.el_join.proofs.Joining.{puts_item, turn_fault}
 use Rattle.el_join.proofs.Ending.{puts_end, end_fault}
 use Rattle.el_join.proofs.Keeping.{puts_kept}
 use Rattle.el_join.proofs.Pouring.{facts_swap, waits_swap, waits_same}
-
-pub wanting_fault : (r : Result (List Item) Fault) (fault : ElementFault) → fault ≡ Wanting → IsFaultOf r fault
-wanting_fault r fault is = subst (λ (f : ElementFault). IsFaultOf r f) (sym is) tt
 
 -- an element of the same parts
 few_prop : (n : ℕ) → IsProp (n < 2 ^ 32)

@@ -1,15 +1,13 @@
 -- What waits at the pads, one pad after the other.
-use Rattle.std.proofs.Common.{◌≡◌, ◌≤◌, ◌+◌, ℕ, zero, suc, Bool, if◌then◌else◌, Some, None, List, [], ◌∷◌, ◌++◌, map, length, set, refl, sym, ap, ◌∙◌, subst, length-append, Result, Ok, Err, arith}
+use Rattle.std.proofs.Common.{◌≡◌, ◌≤◌, ◌+◌, ℕ, zero, suc, Bool, if◌then◌else◌, Some, None, List, [], ◌∷◌, ◌++◌, map, length, set, refl, ap, ◌∙◌, length-append, Result, Ok, Err, arith}
 use Rattle.std.specs.Prelude.{slice_get}
 use Rattle.std.proofs.lemmas.List.{length-map}
 use Rattle.gst_item.specs.declared.out.Out.{Out}
-use Rattle.flow_model.specs.declared.fault.ElementFault.{ElementFault}
-use Rattle.flow_model.specs.declared.fault.ElementFault.TheVariants.{TooLong as Passing, OutOfMemory as Wanting}
 use Rattle.flow_model.specs.Item.{Item, Ev, Eos}
-use Rattle.flow_model.specs.Rule.{Fault, TooLong}
+use Rattle.flow_model.specs.Rule.{Fault}
 use Rattle.el_join.specs.declared.sums.Sums.{Sums}
 use Rattle.el_join.specs.declared.pad.Pad.{Pad}
-use Rattle.el_join.specs.Outs.{items_of, fault_in, IsDue}
+use Rattle.el_join.specs.Outs.{items_of, fault_in}
 use Rattle.el_join.specs.Totals.{with_tally, raised, lifted}
 use Rattle.el_join.specs.Passing.{later_from, going_from}
 use Rattle.el_join.proofs.Swapping.{some_is}
@@ -61,13 +59,6 @@ pub fault_first : (rs qs : List (Result Item Fault)) (fault : Fault) → fault_i
 fault_first [] qs fault e = absurd (cc)
 fault_first (Ok x ∷ rs) qs fault e = fault_first rs qs fault e
 fault_first (Err other ∷ rs) qs fault e = e
-
--- a fault that was met is due, and so is want of memory
-pub passing_due : (rs : List (Result Item Fault)) (a b : ℕ) (fault : ElementFault) → fault_in rs ≡ Some (TooLong a b) → fault ≡ Passing a b → IsDue (fault_in rs) fault
-passing_due rs a b fault e is = subst (λ (f : ElementFault). IsDue (fault_in rs) f) (sym is) e
-
-pub wanting_due : (rs : List (Result Item Fault)) (fault : ElementFault) → fault ≡ Wanting → IsDue (fault_in rs) fault
-wanting_due rs fault is = subst (λ (f : ElementFault). IsDue (fault_in rs) f) (sym is) tt
 
 -- how many items go out
 pub outs_length : (sums : Sums) (w : List Out) → length (map (lifted sums) (items_of w)) ≡ length w

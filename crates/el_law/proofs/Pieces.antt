@@ -8,11 +8,6 @@ use Rattle.std.specs.Simd.{first_chunks}
 more_of : (n m : ℕ) → suc m * n ≡ n + m * n
 more_of n m = omega arith
 
--- what is made of one more piece
-pub flat_map_step : {X A : Type 0} (f : X → List A) (xs : List X) (i : ℕ) (x : X) (ys zs : List A) → i < length xs → x ≡ get_or xs i x → ys ≡ flat_map f (take i xs) → zs ≡ ys ++ f x → zs ≡ flat_map f (take (i + 1) xs)
-flat_map_step f xs i x ys zs within is made more =
-    rw (more, made, take_more xs i x within, flat_map-append f (take i xs) (get_or xs i x ∷ []), ← is) (ap (λ s. flat_map f (take i xs) ++ s) (sym (append-nil (f x))))
-
 -- what is made of one more piece of a list
 pub made_more : {X A : Type 0} (f : X → List A) (xs : List X) (i : ℕ) (d : X) (made more : List A) → i < length xs → made ≡ flat_map f (take i xs) → more ≡ made ++ f (get_or xs i d) → more ≡ flat_map f (take (i + 1) xs)
 made_more f xs i d made more within was is =

@@ -30,7 +30,7 @@ pub struct Law {
 impl Law {
     ghost use Rattle.flow_model.specs.declared.fault.ElementFault.TheVariants.{OutOfMemory as Wanting};
     ghost use Rattle.gst_item.specs.declared.flow.Flow.TheVariants.{Ok as Taken};
-    ghost use Rattle.flow_model.specs.Item.{Item, Ev, NewCaps, FlushStop, is_caps, is_buffer, is_eos, is_flush_stop, body_of};
+    ghost use Rattle.flow_model.specs.Item.{Item, Ev, NewCaps, FlushStop, is_caps, is_eos, is_flush_stop};
     ghost use Rattle.flow_model.specs.Call.{Call, Feed, Act, Drain};
     ghost use Rattle.flow_model.specs.Rule.{NotNegotiated};
     ghost use Rattle.flow_model.specs.Feeding.{flow_behind, passed, next_owed, IsFaultOf};

@@ -1,6 +1,6 @@
 //! A channel: what its sink pad has had, and the bodies that wait there.
 ghost use Rattle.std.specs.Prelude.{◌≡◌, ◌<◌, ◌+◌, ◌^◌, false, true, Some, None, length, option_and_then, OnOk, OnErr, IfOk, IfErr, option_map};
-ghost use Rattle.flow_model.specs.Item.{Ev, body_of};
+ghost use Rattle.flow_model.specs.Item.{Ev};
 ghost use Rattle.el_mix.specs.Agreed.{or_else, buffer_refusal};
 ghost use Rattle.el_mix.specs.Heard.{mono_by, heard};
 ghost use Rattle.el_mix.specs.Due.{IsDue, bytes_refusal};

@@ -1,7 +1,7 @@
 //! What is owed more, put out.
-ghost use Rattle.std.specs.Prelude.{◌≡◌, ◌<◌, ◌≤◌, ◌+◌, ◌/◌, ◌^◌, ◌++◌, ◌∷◌, [], ℕ, List, true, None, Some, length, take, map, IfOk, OnOk, OnErr, option_map};
+ghost use Rattle.std.specs.Prelude.{◌≡◌, ◌<◌, ◌≤◌, ◌+◌, ◌/◌, ◌^◌, ◌++◌, ◌∷◌, [], List, true, None, Some, length, take, map, OnOk, OnErr, option_map};
 ghost use Rattle.gst_time.specs.declared.time.TheConstants.{LIMIT};
-ghost use Rattle.flow_model.specs.Item.{Item, Ev, Eos};
+ghost use Rattle.flow_model.specs.Item.{Item, Eos};
 ghost use Rattle.flow_model.specs.Feeding.{on_pad};
 ghost use Rattle.audio_info.specs.Packing.{sample_width};
 ghost use Rattle.el_mix.specs.Mono.{time_of as time_of_frame};

@@ -1,6 +1,6 @@
 //! The element that mixes channels, as GStreamer's interleave.
-ghost use Rattle.std.specs.Prelude.{◌≡◌, ◌<◌, ◌≤◌, ◌+◌, ◌^◌, ℕ, List, [], ◌∷◌, true, false, Ok, Err, Some, None, length, map, replicate, slice_get, vec_len, IfOk, IfErr, OnOk, OnErr, IsOk, IfSome};
-ghost use Rattle.flow_model.specs.Item.{Item, Ev, FlushStop, is_flush_stop, body_of};
+ghost use Rattle.std.specs.Prelude.{◌≡◌, ◌<◌, ◌≤◌, ◌+◌, ℕ, List, [], ◌∷◌, true, false, Ok, Err, Some, None, length, map, replicate, slice_get, vec_len, IfOk, IfErr, OnOk, OnErr, IsOk, IfSome};
+ghost use Rattle.flow_model.specs.Item.{Item, Ev, FlushStop, is_flush_stop};
 ghost use Rattle.flow_model.specs.Call.{Call, Feed};
 ghost use Rattle.flow_model.specs.Feeding.{flow_behind, IsFaultOf};
 ghost use Rattle.flow_model.specs.SinkPads.{push_calls, calls_at, push_each};

@@ -1,5 +1,5 @@
 //! How far an element has come in what it puts out.
-ghost use Rattle.std.specs.Prelude.{◌≡◌, None};
+ghost use Rattle.std.specs.Prelude.{None};
 
 use audio_info::Info;
 

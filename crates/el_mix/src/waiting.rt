@@ -21,7 +21,7 @@ pub(crate) struct Waiting {
 }
 
 impl Model for Waiting {
-    ghost use Rattle.std.specs.Prelude.{◌≡◌, true, ◌&&◌, drop};
+    ghost use Rattle.std.specs.Prelude.{◌≡◌, true, drop};
     ghost use Rattle.el_mix.specs.Line.{Line, cut, holds};
 
     ghost Value = { Line };

@@ -1,5 +1,5 @@
 -- No rule of one sink pad is that of an element with several sink pads.
-use Rattle.std.proofs.Common.{◌≡◌, true, false, List, [], ◌∷◌, sym, ap, ◌∙◌}
+use Rattle.std.proofs.Common.{◌≡◌, true, List, [], ◌∷◌, sym, ap, ◌∙◌}
 use Rattle.flow_model.specs.Item.{Item, Ev, Eos}
 use Rattle.flow_model.specs.Call.{Call, Feed}
 use Rattle.flow_model.specs.Rule.{Response, Rule, single}

@@ -1,4 +1,3 @@
-pub mod Roles
 pub mod Openings
 pub mod Ends
 pub mod Ending

@@ -43,12 +43,6 @@ converter_padded pads (Interleave was) = refl
 converter_padded pads (Concat was) = refl
 converter_padded pads _ = refl
 
-pub allowed_padded : (pads : MadePads) (s : Settings) → allowed_of (with_pads pads s) ≡ allowed_of s
-allowed_padded pads (Tee was) = refl
-allowed_padded pads (Interleave was) = refl
-allowed_padded pads (Concat was) = refl
-allowed_padded pads _ = refl
-
 pub location_padded : (pads : MadePads) (s : Settings) → location_of (with_pads pads s) ≡ location_of s
 location_padded pads (Tee was) = refl
 location_padded pads (Interleave was) = refl

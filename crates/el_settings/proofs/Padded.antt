@@ -1,5 +1,5 @@
 -- Settings of elements of which links make pads.
-use Rattle.std.proofs.Common.{◌≡◌, ◌≤◌, ℕ, true, false, refl, arith}
+use Rattle.std.proofs.Common.{◌≡◌, ◌≤◌, true, false, refl, arith}
 use Rattle.gst_caps.specs.declared.caps.Caps.{Caps}
 use Rattle.el_settings.specs.Asked.{hands_on, makes_sinks, makes_sources, no_pads, sink_pads, source_pads, with_allowed, with_pads}
 use Rattle.el_settings.specs.declared.pads.MadePads.{MadePads}

@@ -1,6 +1,6 @@
 -- The role of each element, and what is known of its pads by it.
-use Rattle.std.proofs.Common.{◌≡◌, ◌||◌, not, ℕ, true, false, is_some, refl}
-use Rattle.el_settings.specs.Asked.{is_filter, is_queue, is_sink, is_source, limits_of, makes_sinks, makes_sources, sink_pads, source_pads}
+use Rattle.std.proofs.Common.{◌≡◌, true, false, is_some, refl}
+use Rattle.el_settings.specs.Asked.{is_queue, is_sink, is_source, limits_of, makes_sinks, sink_pads, source_pads}
 use Rattle.el_settings.specs.Roles.{Role, any_filter, any_queue, any_tee, any_join, drop_sink, file_sink, file_source, made_source}
 use Rattle.el_settings.specs.declared.settings.Settings.{Settings}
 use Rattle.el_settings.specs.declared.settings.Settings.TheVariants.{FileSrc, RampTestSrc, Queue, Tee, Interleave, Concat, FileSink, FakeSink}
@@ -35,13 +35,6 @@ other_sinks (Interleave pads) some plain = absurd (cc)
 other_sinks (Concat pads) some plain = absurd (cc)
 other_sinks _ some plain = refl
 
--- one that is no sink, and of which no link makes a source pad, has one source pad
-pub other_sources : (s : Settings) → is_sink s ≡ false → makes_sources s ≡ false → source_pads s ≡ 1
-other_sources (Tee pads) some plain = absurd (cc)
-other_sources (FileSink s) some plain = absurd (cc)
-other_sources FakeSink some plain = absurd (cc)
-other_sources _ some plain = refl
-
 -- a sink has a sink pad and no source pad
 pub end_sinks : (s : Settings) → is_sink s ≡ true → sink_pads s ≡ 1
 end_sinks (FileSink s) is = refl
@@ -63,17 +56,9 @@ pub queue_sinks : (s : Settings) → is_queue s ≡ true → sink_pads s ≡ 1
 queue_sinks (Queue s) is = refl
 queue_sinks _ is = absurd (cc)
 
-pub queue_sources : (s : Settings) → is_queue s ≡ true → source_pads s ≡ 1
-queue_sources (Queue s) is = refl
-queue_sources _ is = absurd (cc)
-
 pub queue_no_source : (s : Settings) → is_queue s ≡ true → is_source s ≡ false
 queue_no_source (Queue s) is = refl
 queue_no_source _ is = absurd (cc)
-
-pub queue_no_filter : (s : Settings) → is_queue s ≡ true → is_filter s ≡ false
-queue_no_filter (Queue s) is = refl
-queue_no_filter _ is = absurd (cc)
 
 pub queue_limits : (s : Settings) → is_some (limits_of s) ≡ is_queue s
 queue_limits (Queue s) = refl

@@ -1,5 +1,5 @@
 //! Which properties an element takes, and which values.
-ghost use Rattle.std.specs.Prelude.{◌≡◌, IfOk, MatchBool, List};
+ghost use Rattle.std.specs.Prelude.{◌≡◌, IfOk, MatchBool};
 ghost use Rattle.std.specs.List.{list_all};
 ghost use Rattle.el_settings.specs.Rows.{find_row, own_rows, domain_named, formats, InDomain, is_name_byte, is_name, spells_true, spells_false};
 

@@ -1,5 +1,5 @@
 //! The values of properties that count.
-ghost use Rattle.std.specs.Prelude.{◌≡◌, ◌<◌, ◌^◌, ℕ, List, ⊤, Some, false, IfOk, MatchOption};
+ghost use Rattle.std.specs.Prelude.{◌≡◌, ◌<◌, ◌^◌, ℕ, ⊤, Some, false, IfOk, MatchOption};
 ghost use Rattle.std.specs.Option.{option_map};
 ghost use Rattle.gst_caps.specs.declared.caps.Caps.{Caps as FilterCaps};
 ghost use Rattle.caps_text.specs.Grammar.{IsCapsText};

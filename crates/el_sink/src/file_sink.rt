@@ -21,7 +21,6 @@ pub struct FileSink<K> {
 
 impl<K: Sink> FileSink<K> {
     ghost use Rattle.std.specs.Option.{ForSome};
-    ghost use Rattle.gst_outside.specs.Bytes.{written};
     ghost use Rattle.flow_model.specs.Item.{Item, body_of};
     ghost use Rattle.flow_model.specs.SinkBytes.{reopened, next_disk};
     ghost use Rattle.el_sink.specs.Cause.{IsWriteCause};

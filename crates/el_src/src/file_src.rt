@@ -1,5 +1,5 @@
 //! The source that reads a file in blocks, as GStreamer's filesrc.
-ghost use Rattle.std.specs.Prelude.{◌≡◌, ◌≤◌, ◌<◌, ◌^◌, ◌+◌, ◌*◌, ℕ, List, [], ◌∷◌, length, Option, Some, None, Ok, take, drop, false, IsOk, IfOk, OnOk, OnErr, IfErr};
+ghost use Rattle.std.specs.Prelude.{◌≡◌, ◌≤◌, ◌<◌, ◌^◌, ◌+◌, ◌*◌, ℕ, List, [], ◌∷◌, length, Some, None, Ok, take, drop, false, IsOk, IfOk, OnOk, OnErr, IfErr};
 ghost use Rattle.flow_model.specs.Source.{bytes_segment};
 
 use crate::answer::Next;

@@ -75,7 +75,6 @@ impl RampSrc {
     ghost use Rattle.el_src.specs.Ramp.{ramp_list, frame_count, frame_time, is_gap, piece, pieces_from};
     ghost use Rattle.el_src.specs.declared.ramp_src.Phase.TheVariants.{Tag as AtTag};
     ghost use Rattle.el_src.specs.RampGave.{RampGave, AfterRampNext, ramp_items, ramp_is_over, ramp_to_come, ramp_ended_at};
-    ghost use Rattle.audio_info.specs.Media.{caps_of};
     ghost use Rattle.audio_info.specs.declared.sample.Sample.TheVariants.{S16LE};
 
     /// A source that was asked for nothing yet, of the number `id`. The time of the end, in nanoseconds, is below

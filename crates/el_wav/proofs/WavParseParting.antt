@@ -330,10 +330,6 @@ last_map f (x ∷ y ∷ ys) = last_map f (y ∷ ys)
 pub last_taken : (made front : List Out) (x : Out) → made ≡ front ++ x ∷ [] → last_of made ≡ x ∷ []
 last_taken made front x e = ap last_of e ∙ last_push front x
 
-pub last_none : (made : List Out) → length made ≡ 0 → last_of made ≡ []
-last_none [] e = refl
-last_none (x ∷ xs) e = absurd (omega (arith, e))
-
 pub went_on : (k : Known) (calls : List Call) (x : Item) (known : Option KnownHead) (before after made : List Out) → FedOn k calls x known [] made → after ≡ before ++ last_of made → WentOn k calls x known before after
 went_on k calls x known before after made (ys, owed, out, knows) e =
     (ys, owed, e ∙ ap (λ zs. before ++ zs) (ap last_of out ∙ last_map (λ item. record { pad = 0; item = item }) ys), knows)

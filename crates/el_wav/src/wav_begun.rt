@@ -2,7 +2,6 @@
 ghost use Rattle.std.specs.Prelude.{◌≡◌, ◌-◌, ◌++◌, ℕ, List, drop, IfOk, IfErr, OnOk, OnErr};
 ghost use Rattle.flow_model.specs.Call.{Call};
 ghost use Rattle.flow_model.specs.Feeding.{IsFaultOf};
-ghost use Rattle.wav_format.specs.Format.{AreBytes};
 ghost use Rattle.el_wav.specs.WavParseHeads.{Told, ReadsHeads, stream_kind};
 ghost use Rattle.el_wav.specs.WavParseGathered.{HasGathered};
 ghost use Rattle.el_wav.specs.WavParseSteps.{BeganData, IsBeginFault, ReadOn, head_owed};

@@ -1,5 +1,4 @@
 //! Rows of calls, with what they answer and put out, and the files that this makes.
-ghost use Rattle.std.specs.Prelude.{◌≤◌};
 
 use audio_info::{Info, Sample};
 use el_wavenc::{WavEnc, file_is_whole};

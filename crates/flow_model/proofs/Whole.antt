@@ -21,9 +21,6 @@ cut_at_prefix base j (c ∷ cs) w w' p h =
 pub account_whole : (log : PadLog) (w w' : Owed) (h : List Item) → ((i : ℕ) → IsPrefix (w i) (w' i)) → PadAccount log w h → h ≡ crossed log w'
 account_whole log w w' h p a = a.is ∙ take_prefix log.count (cut_at_prefix 0 0 log.cuts w w' p a.cuts) a.count
 
-Same : (ℕ → List Item) → (ℕ → List Item) → ℕ → Type 0
-Same m h p = m p ≡ h p
-
 pub input_same : (m h : ℕ → List Item) (ss : List Span) → EachSource (λ p. m p ≡ h p) ss → input_of m ss ≡ input_of h ss
 input_same m h [] e = refl
 input_same m h (Linked source from marks ∷ ss) e = rw (e.0, input_same m h ss e.1) refl

@@ -9,9 +9,9 @@ use Rattle.gst_caps.specs.declared.caps.Caps.{Caps}
 use Rattle.gst_caps.specs.declared.caps.Caps.TheVariants.{Any}
 use Rattle.gst_value.specs.declared.fault.CapsFault.{CapsFault}
 use Rattle.gst_value.specs.declared.fault.CapsFault.TheVariants.{TooMany, OutOfMemory}
-use Rattle.el_settings.specs.Asked.{allowed_of, filter_caps, hands_on, is_converter, makes_sources, no_pads, source_pads, template_of, with_allowed, with_pads}
+use Rattle.el_settings.specs.Asked.{allowed_of, filter_caps, hands_on, is_converter, makes_sources, no_pads, source_pads, template_of, with_pads}
 use Rattle.el_settings.specs.declared.settings.Settings.{Settings}
-use Rattle.graph_core.specs.Allowed.{Allows, Answers, AreAllowed, AreAllowedBelow, AreCounted, Falls, IsWideFault, all_allowed, all_common, allowed_before, build_fault, checked, filtered, first_pad, with_caps, with_made_pads}
+use Rattle.graph_core.specs.Allowed.{Allows, Answers, AreAllowed, AreAllowedBelow, AreCounted, IsWideFault, all_allowed, all_common, allowed_before, checked, filtered, first_pad, with_caps, with_made_pads}
 use Rattle.graph_core.specs.Asked.{Declared}
 use Rattle.graph_core.specs.Comes.{Comes}
 use Rattle.graph_core.specs.Elements.{Made, ElementsCome, IsMade}
@@ -20,7 +20,6 @@ use Rattle.graph_pads.specs.Pads.{links_at, makes, pad_count}
 use Rattle.graph_core.specs.Links.{AreOrdered, HasPads}
 use Rattle.graph_pads.specs.Links.{sink_behind}
 use Rattle.graph_core.specs.declared.fault.BuildFault.{BuildFault}
-use Rattle.graph_core.specs.declared.fault.BuildFault.TheVariants.{TooMany as TooManyMade}
 use Rattle.graph_core.specs.declared.links.Links.{Links}
 use Rattle.graph_pads.specs.declared.pad.Direction.{Direction}
 use Rattle.graph_pads.specs.declared.pad.Direction.TheVariants.{Source, Sink}
@@ -210,26 +209,6 @@ module _ (made : List Made) (links : List PadLink) (k : ℕ) (m : Made) (at : sl
           by : (e : ℕ) (n : Made) → slice_get (slice_set made k (with_caps caps m)) e ≡ Some n → is_converter n.settings ≡ true → (e < k) ⊎ (e ≡ k) → Allows (slice_set made k (with_caps caps m)) links (first_pad e) (Some (allowed_of n.settings))
           by e n there on (inl less) = allows_alike made (slice_set made k (with_caps caps m)) links alike (first_pad e) (Some (allowed_of n.settings)) (below e n less (sym (set_elsewhere made k e (with_caps caps m) less) ∙ there) on)
           by e n there on (inr same) = subst (λ (d : ℕ). Allows (slice_set made k (with_caps caps m)) links (first_pad d) (Some (allowed_of n.settings))) (sym same) (last n (subst (λ (d : ℕ). slice_get (slice_set made k (with_caps caps m)) d ≡ Some n) same there))
-
-  pub set_none : is_converter m.settings ≡ false → AreAllowedBelow k made links → AreAllowedBelow (k + 1) made links
-  set_none other below = λ e n w there on. by e n there on (less_or_last e k w)
-    where
-      by : (e : ℕ) (n : Made) → slice_get made e ≡ Some n → is_converter n.settings ≡ true → (e < k) ⊎ (e ≡ k) → Allows made links (first_pad e) (Some (allowed_of n.settings))
-      by e n there on (inl less) = below e n less there on
-      by e n there on (inr same) = absurd (never (subst (λ (d : ℕ). slice_get made d ≡ Some n) same there))
-        where
-          never : slice_get made k ≡ Some n → ⊥
-          never also = let is : m ≡ n = same_some (sym at ∙ also) in no_converter (ap (λ (x : Made). is_converter x.settings) is ∙ on)
-            where
-              same_some : Some m ≡ Some n → m ≡ n
-              same_some e = cc
-
-              no_converter : is_converter m.settings ≡ true → ⊥
-              no_converter h = let both = sym other ∙ h in absurd (cc)
-
-  pub wide_one : is_converter m.settings ≡ true → (fault : CapsFault) (put : BuildFault) → put ≡ build_fault fault → Answers (Allows made links (first_pad k)) (Err fault) → IsWideFault made links put
-  wide_one converts (TooMany count) put is h = inr (record { element = k; converter = m; there = at; converts = converts; wide = h.0 }, is ∙ ap TooManyMade h.1)
-  wide_one converts OutOfMemory put is h = inl is
 
 -- when all are set
 pub all_set : (made : List Made) (links : List PadLink) (n : ℕ) → length made ≤ n → AreAllowedBelow n made links → AreAllowed made links

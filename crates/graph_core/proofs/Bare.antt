@@ -1,5 +1,5 @@
 -- Elements without what converters are allowed and which pads links make.
-use Rattle.std.proofs.Common.{◌≡◌, ℕ, zero, suc, Bool, true, false, List, [], ◌∷◌, Option, Some, length, map, slice_get, refl, sym, ap, ◌∙◌}
+use Rattle.std.proofs.Common.{◌≡◌, ℕ, zero, suc, false, List, [], ◌∷◌, Some, length, map, slice_get, refl, sym, ap, ◌∙◌}
 use Rattle.gst_caps.specs.declared.caps.Caps.{Caps}
 use Rattle.gst_caps.specs.declared.caps.Caps.TheVariants.{Any}
 use Rattle.el_settings.specs.Asked.{ends, gathers, is_sink, location_of, no_pads, splits, with_allowed, with_pads}

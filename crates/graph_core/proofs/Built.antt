@@ -1,11 +1,11 @@
 -- The graph of a line, whose elements have the pads of their links, and whose converters are set to what they are allowed.
-use Rattle.std.proofs.Common.{◌≡◌, List, [], Ok, All, subst, sym, ◌∙◌, inl, inr}
+use Rattle.std.proofs.Common.{◌≡◌, List, [], Ok, subst, sym, ◌∙◌, inl, inr}
 use Rattle.launch_text.specs.declared.tree.Tree.{Tree}
 use Rattle.graph_core.specs.Allowed.{AreAllowed, AreCounted, IsWideFault, all_allowed, checked}
 use Rattle.graph_core.specs.Asked.{asked, declared}
 use Rattle.graph_core.specs.Elements.{ElementsCome, Made}
 use Rattle.graph_core.specs.Graph.{IsFaultOrMemory, IsGraph, IsSound, links as links_in, made as made_in}
-use Rattle.graph_core.specs.Links.{AreOrdered, HasPads, LinksCome}
+use Rattle.graph_core.specs.Links.{AreOrdered, LinksCome}
 use Rattle.graph_core.specs.Live.{AreLive}
 use Rattle.graph_core.specs.declared.fault.BuildFault.{BuildFault}
 use Rattle.graph_core.specs.declared.graph.Graph.{Graph}

@@ -1,5 +1,5 @@
 -- What all pads of an element are allowed.
-use Rattle.std.proofs.Common.{◌≡◌, ◌<◌, ◌≤◌, ◌+◌, ◌-◌, ℕ, zero, suc, Bool, true, false, List, Option, None, Some, Result, Ok, Err, All, IfSome, slice_get, refl, sym, ap, ◌∙◌, subst, arith, if◌then◌else◌}
+use Rattle.std.proofs.Common.{◌≡◌, ◌<◌, ◌≤◌, ◌+◌, ◌-◌, ℕ, zero, suc, Bool, true, false, List, Option, None, Some, Err, All, IfSome, slice_get, refl, sym, ap, ◌∙◌, subst, arith, if◌then◌else◌}
 use Rattle.std.specs.Option.{option_map_or}
 use Rattle.gst_value.specs.Limit.{IsFaultWhere}
 use Rattle.gst_caps.specs.Accepts.{intersection, passes}

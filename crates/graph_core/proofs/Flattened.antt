@@ -4,20 +4,8 @@ use Rattle.std.specs.List.{flat_map}
 use Rattle.graph_core.specs.Asked.{part_chains, part_step, tree_chains, tree_step}
 use Rattle.launch_text.specs.declared.tree.Chain.{Chain}
 use Rattle.launch_text.specs.declared.tree.Part.{Part}
-use Rattle.launch_text.specs.declared.tree.Part.TheVariants.{Chain as Links, Bin}
-use Rattle.launch_text.specs.declared.tree.Part.TheFolds.{fold-roll-Part, fold-roll-Tree}
-use Rattle.launch_text.specs.declared.tree.Part.TheOpen.{Chain as Links-F, Bin as Bin-F}
-use Rattle.launch_text.specs.declared.tree.Part.TheViews.{roll-Part}
+use Rattle.launch_text.specs.declared.tree.Part.TheFolds.{fold-roll-Tree}
 use Rattle.launch_text.specs.declared.tree.Tree.{Tree}
-use denote.Hole.Carrier.{roll}
-
-pub chain_part : (c : Chain) → part_chains (Links c) ≡ c ∷ []
-unfolding roll-Part roll
-chain_part c = fold-roll-Part (List Chain) (List Chain) part_step tree_step (Links-F c)
-
-pub bin_part : (t : Tree) → part_chains (Bin t) ≡ tree_chains t
-unfolding roll-Part roll
-bin_part t = fold-roll-Part (List Chain) (List Chain) part_step tree_step (Bin-F t)
 
 all_chains : (ps : List Part) → flat_map (λ chains. chains) (map part_chains ps) ≡ flat_map part_chains ps
 all_chains [] = refl

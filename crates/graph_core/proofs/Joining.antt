@@ -1,5 +1,5 @@
 -- One link more, or the fault of one.
-use Rattle.std.proofs.Common.{◌≡◌, ◌<◌, ◌≤◌, ◌&&◌, ◌==◌, ℕ, suc, Bool, true, false, List, [], ◌∷◌, ◌++◌, length, map, refl, sym, ap, ◌∙◌, subst, arith, bytes_eq, position, slice_get, Option, None, Some, Ok, Err, Result, nat_lt, MatchOption, if◌then◌else◌, inl, inr, OnOk, IfErr, IfOk, IfSome, drop, not, ◌||◌, All}
+use Rattle.std.proofs.Common.{◌≡◌, ◌<◌, ◌≤◌, ◌==◌, ℕ, suc, Bool, true, false, List, [], ◌∷◌, length, map, refl, sym, ap, ◌∙◌, subst, arith, bytes_eq, position, slice_get, Option, None, Some, Ok, Err, Result, nat_lt, MatchOption, if◌then◌else◌, inl, inr, OnOk, IfErr, IfSome, drop, All}
 use Rattle.std.specs.Option.{option_map, option_map_or}
 use Rattle.std.specs.List.{range_with_len}
 use Rattle.std.proofs.lemmas.Bool.{ltb-true}
@@ -8,7 +8,7 @@ use Rattle.std.proofs.lemmas.List.{drop_all}
 use Rattle.std.proofs.lemmas.List.FromFn.{length-range_with_len}
 use Rattle.std.proofs.lemmas.List.Quantifiers.{position-Some}
 use Rattle.std.proofs.lemmas.Option.{slice_get_within}
-use Rattle.el_settings.specs.Asked.{HasPad, most_sinks, most_sources}
+use Rattle.el_settings.specs.Asked.{HasPad}
 use Rattle.el_settings.specs.declared.settings.Settings.{Settings}
 use Rattle.pad_core.specs.declared.linking.LinkReturn.{LinkReturn}
 use Rattle.graph_core.specs.Asked.{End, own, named, links_in}
@@ -17,7 +17,7 @@ use Rattle.graph_core.specs.Comes.{Comes}
 use Rattle.graph_core.specs.Elements.{Made, is_named}
 use Rattle.graph_core.specs.Ends.{IsEndPad, IsPadOf, IsThere, PadOrMemory, dotted, missing, name_at, named_pad, pad_name, pad_or_many, pads_at, taken_pad}
 use Rattle.graph_pads.specs.Pads.{is_sink_pad, links_at, makes, own_number, pad_at, pad_count, pad_number, pad_text, takeable}
-use Rattle.graph_core.specs.Links.{HasPads, IsJudged, IsLinked, IsUnjoined, IsUnlinked, Joins, Leads, LinksCome, LinksFollow, LinksStop}
+use Rattle.graph_core.specs.Links.{HasPads, IsJudged, IsUnjoined, IsUnlinked, Joins, Leads, LinksCome, LinksFollow, LinksStop}
 use Rattle.graph_pads.specs.Links.{is_same, leaves, sink_behind, source_before}
 use Rattle.graph_core.specs.declared.fault.BuildFault.{BuildFault}
 use Rattle.graph_core.specs.declared.fault.BuildFault.TheVariants.{NoSuch, LinkRefused, TooMany, OutOfMemory}
@@ -27,7 +27,6 @@ use Rattle.graph_pads.specs.declared.pad.Direction.TheVariants.{Source, Sink}
 use Rattle.graph_pads.specs.declared.pad.Pad.{Pad}
 use Rattle.graph_pads.specs.declared.pad.PadLink.{PadLink}
 use Rattle.graph_pads.specs.declared.pad.PadPlace.{PadPlace}
-use Rattle.std.proofs.lemmas.List.Elements.{All-push}
 
 -- a pad that is found is one that a link can take
 number_there : (links : List PadLink) (direction : Direction) (element : ℕ) (settings : Settings) (name : List ℕ) (n : ℕ) → pad_number links direction element settings name ≡ Some n → n < takeable links direction element settings

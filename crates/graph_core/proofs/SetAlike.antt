@@ -1,10 +1,9 @@
 -- Elements that are alike, and are set to what they are allowed and to the pads that links make, are the same.
-use Rattle.std.proofs.Common.{◌≡◌, ℕ, zero, suc, Bool, true, false, List, [], ◌∷◌, Option, Some, slice_get, refl, sym, ap, ◌∙◌}
+use Rattle.std.proofs.Common.{◌≡◌, ℕ, suc, Bool, true, false, List, [], ◌∷◌, Option, Some, slice_get, refl, sym, ap, ◌∙◌}
 use Rattle.gst_caps.specs.declared.caps.Caps.{Caps}
 use Rattle.gst_caps.specs.declared.caps.Caps.TheVariants.{Any}
-use Rattle.el_settings.specs.Asked.{allowed_of, is_converter, makes_sinks, makes_sources, no_pads, sink_pads, source_pads, with_allowed, with_pads}
+use Rattle.el_settings.specs.Asked.{allowed_of, is_converter, makes_sinks, makes_sources, no_pads, with_allowed, with_pads}
 use Rattle.el_settings.specs.declared.pads.MadePads.{MadePads}
-use Rattle.el_settings.specs.declared.settings.Settings.{Settings}
 use Rattle.el_settings.proofs.Allowing.{allowed_other, set_own, set_twice}
 use Rattle.el_settings.proofs.Copied.{pads_same}
 use Rattle.graph_core.specs.Allowed.{AreAllowed, AreCounted, checked, first_pad, with_caps, with_made_pads}

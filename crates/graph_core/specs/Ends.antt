@@ -1,5 +1,5 @@
 -- The pads that the ends of a link take.
-use Rattle.std.specs.Prelude.{◌≡◌, ◌⊎◌, ◌<◌, ◌==◌, ℕ, List, [], ◌++◌, Option, None, Some, Result, Ok, Err, MatchOption, if◌then◌else◌, codes, nat_lt, slice_get, position}
+use Rattle.std.specs.Prelude.{◌≡◌, ◌⊎◌, ◌==◌, ℕ, List, [], ◌++◌, Option, None, Some, Result, Ok, Err, MatchOption, if◌then◌else◌, codes, nat_lt, slice_get, position}
 use Rattle.std.specs.Option.{option_map, option_map_or}
 use denote.Bor.{Bor}
 use Rattle.gst_value.specs.declared.name.PadName.{PadName}

@@ -151,14 +151,6 @@ module _ (made : List Made) (links : List PadLink) (bags : List Bag) (place : �
       go (Source cell) of head = subst (λ (j : ℕ). (has is_source made j ≡ true) × (source_count made j ≡ 1)) (sym of.0) (head, of.1)
       go (Inlets k) of head = absurd of
 
-  -- the element at the head of a task that is fed from inlets is one that has them
-  pub fed_there : (n rows : ℕ) → frame.head ≡ by_inlets n rows → has has_inlets made n ≡ true
-  fed_there n rows is = go b.bag.head (subst (IsHeadFrame made links b.bag.head) is b.of.head) b.is.head
-    where
-      go : (own : BagHead) → IsHeadFrame made links own (by_inlets n rows) → IsHead made own → has has_inlets made n ≡ true
-      go (Source cell) of head = absurd of
-      go (Inlets k) of head = subst (λ (j : ℕ). has has_inlets made j ≡ true) (sym of.0) head
-
   -- a pad of a task is one of the graph
   pub wire_there : (wire : Wire) → IsWire frame wire → HasWire made links wire
   wire_there wire (of_part j port w) =

@@ -30,11 +30,6 @@ use Rattle.net_turns.specs.Net.{IsFed}
 use Rattle.graph_ends.specs.Frames.{HaveBags, IsFrameOf, IsHeadFrame}
 
 -- what stands at a place
-pub map_got : {A B : Type 0} (f : A → B) (xs : List A) (k : ℕ) (y : B) → slice_get (map f xs) k ≡ Some y → (x : A) × (slice_get xs k ≡ Some x) × (f x ≡ y)
-map_got f [] k y is = absurd (cc)
-map_got f (x ∷ xs) zero y is = (x, refl, same_Some _ _ is)
-map_got f (x ∷ xs) (suc k) y is = map_got f xs k y is
-
 pub get_map : {A B : Type 0} (f : A → B) (xs : List A) (k : ℕ) (x : A) → slice_get xs k ≡ Some x → slice_get (map f xs) k ≡ Some (f x)
 get_map f [] k x is = absurd (cc)
 get_map f (y ∷ xs) zero x is = ap (λ z. Some (f z)) (same_Some _ _ is)

@@ -1,5 +1,5 @@
 -- The tasks of a graph that joins no streams are lines, so that its run ends where nothing waits.
-use Rattle.std.proofs.Common.{◌≡◌, ◌<◌, ◌≤◌, ◌⊎◌, ◌||◌, ℕ, Bool, true, false, eqb, if◌then◌else◌, List, Option, None, Some, length, map, refl, sym, ap}
+use Rattle.std.proofs.Common.{◌≡◌, ◌<◌, ◌≤◌, ◌⊎◌, ◌||◌, ℕ, Bool, true, false, eqb, if◌then◌else◌, List, Option, None, Some, map, refl, sym, ap}
 use Rattle.std.proofs.Common.{◌∙◌, subst, inl, inr, arith}
 use Rattle.std.specs.Prelude.{nat_lt, slice_get}
 use Rattle.std.specs.Option.{option_map, option_map_or}
@@ -12,18 +12,17 @@ use Rattle.lane_core.specs.declared.ends.Outlet as outlets
 use Rattle.net_model.specs.Moment.{Moment}
 use Rattle.net_model.specs.declared.element.TaskElement as elements
 use Rattle.net_model.specs.declared.source.TaskSource as sources
-use Rattle.el_settings.specs.Asked.{is_queue, limits_of, makes_sinks}
+use Rattle.el_settings.specs.Asked.{limits_of, makes_sinks}
 use Rattle.el_settings.specs.declared.settings.QueueSettings.{QueueSettings}
 use Rattle.el_settings.specs.declared.settings.Settings.{Settings}
-use Rattle.el_settings.proofs.Roles.{queue_sinks}
 use Rattle.graph_core.specs.Elements.{Made}
 use Rattle.graph_core.specs.Graph.{made as made_in, links as links_in}
 use Rattle.graph_pads.specs.Links.{sink_behind}
 use Rattle.graph_core.specs.declared.graph.Graph.{Graph}
 use Rattle.graph_pads.specs.declared.pad.PadLink.{PadLink}
 use Rattle.graph_pads.specs.declared.pad.PadPlace.{PadPlace}
-use Rattle.graph_core.specs.GraphPlan.{owner_of, pad_id, sink_count}
-use Rattle.graph_bags.specs.Bags.{IsHead, head_cells, head_of, number_of, numbers}
+use Rattle.graph_core.specs.GraphPlan.{owner_of, pad_id}
+use Rattle.graph_bags.specs.Bags.{head_cells, head_of, number_of, numbers}
 use Rattle.graph_bags.specs.Links.{has, has_inlets, link_to, place_at}
 use Rattle.graph_bags.specs.declared.bag.Bag.{Bag}
 use Rattle.graph_bags.specs.declared.bag.BagHead.{BagHead}
@@ -32,18 +31,15 @@ use Rattle.graph_bags.specs.declared.bag.BagLink.{BagLink}
 use Rattle.graph_bags.specs.declared.bag.BagLink.TheVariants.{Nothing, Element, Lane as OverLane}
 use Rattle.graph_lanes.specs.Lanes.{join_room, most_held, room_by, room_of}
 use Rattle.task_pads.specs.Behind.{over}
-use Rattle.task_parts.specs.declared.head.Head.{Head}
 use Rattle.task_parts.specs.declared.head.InletHead.{InletHead}
 use Rattle.net_task.specs.declared.task.Task.{Task}
-use Rattle.net_task.specs.Frame.{HeadFrame, Room, TaskFrame, Wire, IsWire, by_inlets, by_source, frame_of, head_frame, head_wire, of_head, of_part}
+use Rattle.net_task.specs.Frame.{HeadFrame, Room, TaskFrame, Wire, IsWire, by_inlets, by_source, frame_of, head_wire, of_head, of_part}
 use Rattle.net_turns.specs.Ends.{AreLines, TakesOne}
 use Rattle.net_turns.specs.Net.{IsFed, SendsInto}
-use Rattle.net_turns.specs.Rests.{Wants}
 use Rattle.graph_ends.specs.Frames.{IsFrameOf, IsHeadFrame, IsWireOf, RoomBy, goes_by}
 use Rattle.graph_ends.specs.Runs.{RunsAt}
 use Rattle.graph_ends.proofs.EndedBags.{among_back, among_front, bag_is, bag_of, fed_number, got_within}
 use Rattle.graph_ends.proofs.EndedGraphs.{rank, rank_rises, reached_later}
-use Rattle.graph_ends.proofs.FedHeads.{head_fed}
 
 -- a queue holds an item
 room_some : (s : QueueSettings) → 1 ≤ room_of s

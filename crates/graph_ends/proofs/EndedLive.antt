@@ -1,11 +1,10 @@
 -- Each sink pad of a live element is linked to a live element, and a live element stands in a bag.
-use Rattle.std.proofs.Common.{◌≡◌, ◌<◌, ◌⊎◌, ◌||◌, ℕ, Bool, true, false, List, [], ◌∷◌, ◌++◌, Option, None, Some, Result, Ok, IfOk, refl, sym, ap, ap₂, ◌∙◌}
+use Rattle.std.proofs.Common.{◌≡◌, ◌<◌, ◌⊎◌, ◌||◌, ℕ, Bool, true, false, List, [], ◌∷◌, ◌++◌, Option, None, Some, Result, Ok, IfOk, refl, sym, ap, ◌∙◌}
 use Rattle.std.proofs.Common.{subst, inl, inr, arith, if◌then◌else◌}
 use Rattle.std.specs.Prelude.{is_some, slice_get}
 use Rattle.std.specs.Option.{option_map_or}
 use Rattle.std.proofs.lemmas.Bool.{eq-eqb}
-use Rattle.el_settings.specs.Asked.{is_source, makes_sinks, sink_pads}
-use Rattle.el_settings.proofs.Roles.{other_sinks, source_no_sink}
+use Rattle.el_settings.specs.Asked.{is_source, sink_pads}
 use Rattle.flow_model.specs.Account.{IsMember}
 use Rattle.graph_order.specs.Links.{IsLink}
 use Rattle.graph_core.specs.Allowed.{checked}

@@ -1,46 +1,35 @@
 -- Where nothing is left EOS came to each live sink.
-use Rattle.std.proofs.Common.{◌≡◌, ◌<◌, ◌+◌, ◌%◌, ℕ, zero, suc, Bool, true, false, List, [], ◌∷◌, Option, None, Some, map, length, refl, sym, ap}
+use Rattle.std.proofs.Common.{◌≡◌, ◌<◌, ◌%◌, ℕ, suc, Bool, true, false, List, Option, None, Some, map, length, refl, sym, ap}
 use Rattle.std.proofs.Common.{◌∙◌, subst, arith}
 use Rattle.std.specs.Prelude.{slice_get}
 use Rattle.std.specs.List.{range_with_len}
 use Rattle.std.specs.Option.{option_map_or}
 use Rattle.std.proofs.lemmas.List.FromFn.{length-map-range_with_len}
-use Rattle.std.proofs.lemmas.Option.{slice_get_within}
 use Rattle.gst_outside.specs.declared.sink.Sink as sinks
-use Rattle.flow_model.specs.Account.{GoesForward, IsMember}
-use Rattle.flow_model.specs.Call.{Call, feeds, items}
+use Rattle.flow_model.specs.Call.{Call, items}
 use Rattle.flow_model.specs.Eval.{Plan}
-use Rattle.flow_model.specs.Feeding.{has_eos as calls_ended}
-use Rattle.flow_model.specs.Item.{Item, eos_among}
-use Rattle.flow_model.specs.Link.{Span, Linked, input_of}
+use Rattle.flow_model.specs.Link.{Span, input_of}
 use Rattle.flow_model.specs.Rule.{Rule}
-use Rattle.flow_model.proofs.Links.{link_input}
 use Rattle.lane_core.specs.Lane.{Lane}
 use Rattle.lane_core.specs.declared.ends.Inlet as inlets
 use Rattle.lane_core.specs.declared.ends.Outlet as outlets
 use Rattle.net_model.specs.Moment.{Moment, behavior_at}
-use Rattle.net_model.specs.Over.{list_ended, AllEnded, FromStart, IsLive, PassesEos}
-use Rattle.net_model.proofs.Overs.{eos_comes}
-use Rattle.net_model.proofs.Splits.{split_all}
+use Rattle.net_model.specs.Over.{list_ended, AllEnded, PassesEos}
 use Rattle.net_model.specs.Split.{AreSplit}
 use Rattle.net_model.specs.Split as splits
 use Rattle.net_model.specs.declared.element.TaskElement as elements
 use Rattle.net_model.specs.declared.source.TaskSource as sources
 use Rattle.el_settings.specs.Asked.{is_source, source_pads}
-use Rattle.el_settings.proofs.Roles.{end_sinks}
 use Rattle.graph_core.specs.Elements.{Made}
-use Rattle.graph_core.specs.Graph.{IsGraph, is_live, made as made_in, links as links_in, forward as forward_in}
+use Rattle.graph_core.specs.Graph.{IsGraph, is_live, made as made_in, links as links_in}
 use Rattle.graph_pads.specs.Links.{source_before}
 use Rattle.graph_core.specs.Live.{Live}
 use Rattle.graph_core.specs.declared.graph.Graph.{Graph}
-use Rattle.graph_pads.specs.declared.pad.PadPlace.{PadPlace}
-use Rattle.graph_core.specs.Allowed.{first_pad}
 use Rattle.launch_text.specs.declared.tree.Tree.{Tree}
-use Rattle.graph_core.specs.GraphPlan.{before_it, line_plan, pad_id, sink_at, sink_count, sinks_in, spans_from}
-use Rattle.graph_moment.specs.Pads.{at_pads, is_pad, pad_owner, source_count}
-use Rattle.graph_moment.specs.Plans.{moment_plan, tight_rule}
-use Rattle.graph_moment.proofs.Sources.{in_order, linked_there, moment_goes, place_is_pad}
-use Rattle.graph_moment.proofs.Wholes.{numbers_have_pads, pads_have_numbers}
+use Rattle.graph_core.specs.GraphPlan.{line_plan, sink_at, sink_count, spans_from}
+use Rattle.graph_moment.specs.Pads.{pad_owner, source_count}
+use Rattle.graph_moment.specs.Plans.{tight_rule}
+use Rattle.graph_moment.proofs.Wholes.{numbers_have_pads}
 use Rattle.graph_bags.specs.Laws.{StandsIn}
 use Rattle.graph_bags.specs.Links.{has}
 use Rattle.graph_bags.specs.declared.bag.Bag.{Bag}
@@ -51,13 +40,10 @@ use Rattle.task_parts.specs.declared.part.Part.{Part}
 use Rattle.net_task.specs.Frame.{wire_of}
 use Rattle.task_elements.specs.declared.element.StreamElement.{StreamElement}
 use Rattle.net_task.specs.declared.task.Task.{Task}
-use Rattle.net_turns.specs.Ends.{NothingLeft}
 use Rattle.graph_ends.specs.Ended.{LiveHandEosOn}
-use Rattle.graph_ends.specs.Owed.{AreOver}
-use Rattle.graph_ends.specs.Runs.{RunsAt, crossed_in}
+use Rattle.graph_ends.specs.Runs.{RunsAt}
 use Rattle.graph_ends.specs.Written.{AreStreams}
 use Rattle.graph_ends.proofs.EndedBags.{HasOwn, map_length, own_part, own_source, part_own, stands_own}
-use Rattle.graph_ends.proofs.EndedEos.{ended_has}
 use Rattle.graph_ends.proofs.EndedLive.{in_bag, live_sinks}
 use Rattle.graph_ends.proofs.EndedLoose.{cells_at}
 use Rattle.graph_ends.proofs.EndedPass.{source_passes}
@@ -66,9 +52,6 @@ use Rattle.graph_ends.proofs.EndedPass.{source_passes}
 split_size : {ts hs ws : List (List Call)} → AreSplit ts hs ws → length ts ≡ length ws
 split_size splits.none = refl
 split_size (splits.pad e s) = ap suc (split_size s)
-
-same_some : {A : Type 0} {a b : A} → Some a ≡ Some b → a ≡ b
-same_some e = cc
 
 module _ {S K I O L : Type 0} (k : sinks.Ghosts K) {s : sources.Ghosts S} {e : elements.Ghosts (StreamElement K)} {i : inlets.Ghosts I L O}
     {o : outlets.Ghosts O L} (streams : AreStreams k e)

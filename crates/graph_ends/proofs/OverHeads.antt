@@ -1,5 +1,5 @@
 -- The heads of a graph's tasks: how many rows they have, and which joins they are.
-use Rattle.std.proofs.Common.{◌≡◌, ◌<◌, ◌||◌, ℕ, Bool, true, false, List, Option, None, Some, length, refl, sym, ap, ◌∙◌, subst}
+use Rattle.std.proofs.Common.{◌≡◌, ◌||◌, ℕ, Bool, true, false, List, Option, None, Some, length, refl, sym, ap, ◌∙◌, subst}
 use Rattle.std.specs.Prelude.{slice_get}
 use Rattle.std.specs.Option.{option_map_or}
 use Rattle.std.proofs.lemmas.Bool.{false≢true}
@@ -16,9 +16,9 @@ use Rattle.graph_core.specs.Elements.{Made}
 use Rattle.graph_core.specs.Graph.{made as made_in, links as links_in}
 use Rattle.graph_core.specs.GraphPlan.{sink_count}
 use Rattle.graph_core.specs.declared.graph.Graph.{Graph}
-use Rattle.graph_bags.specs.Bags.{IsHead, head_number, head_of}
+use Rattle.graph_bags.specs.Bags.{IsHead, head_number}
 use Rattle.graph_bags.specs.Laws.{HasBag}
-use Rattle.graph_bags.specs.Links.{has, has_inlets, is_head}
+use Rattle.graph_bags.specs.Links.{has, has_inlets}
 use Rattle.graph_bags.specs.declared.bag.Bag.{Bag}
 use Rattle.graph_bags.specs.declared.bag.BagHead.{BagHead}
 use Rattle.graph_bags.specs.declared.bag.BagHead.TheVariants as starts

@@ -1,12 +1,11 @@
 -- How streams go on in a graph, so that the steps that its tasks answered tell whether its run is over.
-use Rattle.std.proofs.Common.{◌≡◌, ◌<◌, ◌+◌, ◌⊎◌, ℕ, zero, suc, Bool, true, false, if◌then◌else◌, List, [], ◌∷◌, Option, None, Some, map, length, refl, sym, ap}
+use Rattle.std.proofs.Common.{◌≡◌, ◌<◌, ◌+◌, ◌⊎◌, ℕ, zero, suc, Bool, true, false, List, [], ◌∷◌, Option, None, Some, map, refl, sym, ap}
 use Rattle.std.proofs.Common.{◌∙◌, subst, inl, inr, arith}
 use Rattle.std.specs.Prelude.{slice_get}
 use Rattle.std.specs.List.{range_with_len}
-use Rattle.std.proofs.lemmas.Option.{slice_get_within}
 use Rattle.gst_outside.specs.declared.sink.Sink as sinks
 use Rattle.flow_model.specs.Account.{GoesForward, IsMember}
-use Rattle.flow_model.specs.Call.{Call, feeds, items}
+use Rattle.flow_model.specs.Call.{feeds, items}
 use Rattle.flow_model.specs.Eval.{Plan}
 use Rattle.flow_model.specs.Feeding.{has_eos as calls_ended}
 use Rattle.flow_model.specs.Item.{Item, eos_among}
@@ -20,7 +19,6 @@ use Rattle.net_model.specs.Over.{list_ended, AllEnded, FromStart}
 use Rattle.net_model.proofs.Splits.{split_all}
 use Rattle.net_model.specs.declared.element.TaskElement as elements
 use Rattle.net_model.specs.declared.source.TaskSource as sources
-use Rattle.el_settings.specs.Asked.{is_sink}
 use Rattle.el_settings.proofs.Roles.{end_sinks}
 use Rattle.graph_core.specs.Allowed.{first_pad}
 use Rattle.graph_core.specs.Elements.{Made}
@@ -42,11 +40,9 @@ use Rattle.graph_bags.specs.declared.bag.Bag.{Bag}
 use Rattle.graph_bags.proofs.Apart.{bags_are_there}
 use Rattle.task_elements.specs.declared.element.StreamElement.{StreamElement}
 use Rattle.task_parts.specs.declared.head.InletHead.{InletHead}
-use Rattle.task_parts.specs.declared.step.Step.{Step}
 use Rattle.net_task.specs.declared.task.Task.{Task}
 use Rattle.net_turns.specs.Ends.{AreFromStart, LinesEnd, NothingLeft, StepsTellOver, StreamsGoOn, TakesOne}
 use Rattle.net_turns.specs.Net.{IsFed}
-use Rattle.net_turns.specs.Rests.{NetRests}
 use Rattle.graph_ends.specs.Over.{LinesTellOver, RunsTellOver, joins_in}
 use Rattle.graph_ends.specs.Owed.{AreOver}
 use Rattle.graph_ends.specs.Runs.{RunsAt, crossed_in}

@@ -1,29 +1,16 @@
 -- How many items the heads of a graph's tasks received from the lanes into their sink pads.
-use Rattle.std.proofs.Common.{◌≡◌, ◌≢◌, ◌<◌, ◌⊎◌, ◌+◌, ◌*◌, ◌++◌, ℕ, zero, suc, Bool, true, false, cond, eqb, if◌then◌else◌, List, [], ◌∷◌, Option, None, Some, length, map, drop, inl, inr}
+use Rattle.std.proofs.Common.{◌≡◌, ◌≢◌, ◌⊎◌, ◌+◌, ℕ, zero, suc, true, false, cond, eqb, List, [], ◌∷◌, Option, None, Some, inl, inr}
 use Rattle.std.proofs.Common.{refl, sym, ap, ◌∙◌, subst, arith}
 use Rattle.std.specs.Prelude.{slice_get}
-use Rattle.std.specs.Option.{option_map, option_map_or}
 use Rattle.std.proofs.lemmas.Bool.{eq-eqb}
 use Rattle.std.proofs.lemmas.Bool.Decides.{eqb_tells}
-use Rattle.flow_model.specs.Call.{Call, feeds, items}
-use Rattle.flow_model.specs.Item.{Item}
-use Rattle.flow_model.specs.SinkPads.{calls_at}
-use Rattle.lane_core.specs.Lane.{Lane, IsBetween}
+use Rattle.flow_model.specs.Call.{feeds}
 use Rattle.lane_core.specs.declared.ends.Inlet as inlets
-use Rattle.lane_core.specs.declared.ends.Outlet as outlets
 use Rattle.inlet_row.specs.Feed.{first_some, received_in}
 use Rattle.inlet_row.specs.Row.{feeds_of, received_of}
 use Rattle.inlet_row.specs.declared.feeding.Feeding.{Feeding}
 use Rattle.inlet_row.specs.declared.feeding.Feeding.TheVariants.{Lane as OfLane}
 use Rattle.inlet_row.specs.declared.row.InletRow.{InletRow}
-use Rattle.net_model.specs.Moment.{Moment}
-use Rattle.net_model.specs.declared.element.TaskElement as elements
-use Rattle.net_model.specs.declared.source.TaskSource as sources
-use Rattle.graph_core.specs.GraphPlan.{pad_id, sink_count}
-use Rattle.graph_core.specs.Graph.{made as made_in, links as links_in}
-use Rattle.graph_core.specs.declared.graph.Graph.{Graph}
-use Rattle.graph_pads.specs.declared.pad.PadPlace.{PadPlace}
-use Rattle.graph_bags.specs.Links.{place_at}
 use Rattle.task_parts.specs.Ends.{received_among}
 use Rattle.net_turns.specs.Alone.{HoldsAlone}
 

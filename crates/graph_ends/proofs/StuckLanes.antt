@@ -1,12 +1,11 @@
 -- What the lane into a sink pad gave is what was taken there.
-use Rattle.std.proofs.Common.{◌≡◌, ◌<◌, ◌++◌, ℕ, zero, suc, true, List, [], ◌∷◌, Option, None, Some, length, drop, map, inl, inr, ◌⊎◌, refl, sym, ap, ◌∙◌, subst, length-append, arith}
+use Rattle.std.proofs.Common.{◌≡◌, ◌<◌, ◌++◌, ℕ, zero, List, [], ◌∷◌, Option, Some, length, map, inl, inr, ◌⊎◌, refl, sym, ap, ◌∙◌, subst, length-append, arith}
 use Rattle.std.specs.Prelude.{slice_get}
 use Rattle.std.proofs.lemmas.Option.{slice_get_within}
-use Rattle.flow_model.specs.Call.{Call, feeds, items}
-use Rattle.flow_model.specs.Eval.{Plan}
+use Rattle.flow_model.specs.Call.{feeds, items}
 use Rattle.flow_model.specs.Item.{Item}
 use Rattle.flow_model.specs.SinkPads.{calls_at}
-use Rattle.lane_core.specs.Lane.{Lane, IsBetween}
+use Rattle.lane_core.specs.Lane.{Lane}
 use Rattle.lane_core.specs.declared.ends.Inlet as inlets
 use Rattle.lane_core.specs.declared.ends.Outlet as outlets
 use Rattle.inlet_row.specs.Row.{GaveInAll, GaveOf, feeds_of, items_of as lane_items}
@@ -24,7 +23,7 @@ use Rattle.graph_core.specs.declared.graph.Graph.{Graph}
 use Rattle.graph_pads.specs.declared.pad.PadLink.{PadLink}
 use Rattle.graph_pads.specs.declared.pad.PadPlace.{PadPlace}
 use Rattle.graph_bags.specs.Laws.{StandsIn}
-use Rattle.graph_bags.specs.Links.{has, has_inlets, link_to, place_at, source_count}
+use Rattle.graph_bags.specs.Links.{has, link_to, place_at, source_count}
 use Rattle.graph_bags.specs.declared.bag.Bag.{Bag}
 use Rattle.graph_bags.specs.declared.bag.BagHead.{BagHead}
 use Rattle.graph_bags.specs.declared.bag.BagHead.TheVariants as starts
@@ -33,14 +32,13 @@ use Rattle.graph_bags.specs.declared.bag.BagLink.TheVariants.{Lane as OverLane}
 use Rattle.graph_bags.proofs.Apart.{bags_are_apart}
 use Rattle.graph_moment.specs.Pads.{IsThere}
 use Rattle.graph_moment.proofs.Wholes.{pads_have_numbers}
-use Rattle.task_pads.specs.Behind.{over}
 use Rattle.task_parts.specs.declared.head.Head.{Head}
 use Rattle.task_parts.specs.declared.head.Head.TheVariants.{Inlets}
 use Rattle.task_parts.specs.declared.head.InletHead.{InletHead}
 use Rattle.net_task.specs.declared.task.Task.{Task}
-use Rattle.net_task.specs.Frame.{PartFrame, Room, Wire, IsWire, by_source, frame_of, head_frame, head_wire, of_head, of_part, part_frame, wire_of}
+use Rattle.net_task.specs.Frame.{PartFrame, Wire, IsWire, by_source, frame_of, head_frame, head_wire, of_head, of_part, part_frame, wire_of}
 use Rattle.net_turns.specs.Alone.{HoldLanes}
-use Rattle.net_turns.specs.Net.{HasRow, IsFed, ListAt, RowStands, SendsInto}
+use Rattle.net_turns.specs.Net.{IsFed, RowStands, SendsInto}
 use Rattle.graph_ends.specs.Frames.{IsHeadFrame, IsPartFrame, IsWireOf, RoomBy, goes_by}
 use Rattle.graph_ends.specs.Owed.{went_from}
 use Rattle.graph_ends.specs.Runs.{RunStands, RunsAt, crossed_in}

@@ -21,15 +21,13 @@ use Rattle.inlet_row.specs.Row.{feeds_of, items_of as lane_items}
 use Rattle.inlet_row.specs.declared.row.InletRow.{InletRow}
 use Rattle.net_model.specs.Moment.{Moment, behavior_at}
 use Rattle.net_model.specs.Over.{AllEnded, list_ended}
-use Rattle.net_model.specs.Split.{AreEmpty}
 use Rattle.net_model.specs.declared.element.TaskElement as elements
 use Rattle.net_model.specs.declared.source.TaskSource as sources
-use Rattle.el_settings.specs.Asked.{is_source, makes_sinks}
+use Rattle.el_settings.specs.Asked.{is_source}
 use Rattle.el_settings.proofs.Roles.{source_no_sink}
 use Rattle.el_set.proofs.Ends.{eos_latest, none_first}
-use Rattle.graph_core.specs.Elements.{Made}
 use Rattle.graph_core.specs.Graph.{IsSound, made as made_in, links as links_in}
-use Rattle.graph_core.specs.GraphPlan.{pad_id, sink_count}
+use Rattle.graph_core.specs.GraphPlan.{sink_count}
 use Rattle.graph_core.specs.LinkedOnce.{AreOnce}
 use Rattle.graph_pads.specs.Links.{is_same, sink_behind}
 use Rattle.graph_core.specs.declared.graph.Graph.{Graph}
@@ -38,16 +36,13 @@ use Rattle.graph_core.proofs.LinkedOnce.{same_or_other}
 use Rattle.graph_core.proofs.NumberedPads.{found_in}
 use Rattle.graph_core.proofs.Orders.{pads_at_link}
 use Rattle.graph_moment.proofs.Sources.{sinks_are}
-use Rattle.graph_bags.specs.Links.{Reaches, has, has_inlets, place_at}
+use Rattle.graph_bags.specs.Links.{Reaches, has, place_at}
 use Rattle.graph_bags.specs.declared.bag.Bag.{Bag}
-use Rattle.task_elements.specs.Stands.{StreamStands, sinks_of, wanted_of}
 use Rattle.task_elements.specs.declared.element.StreamElement.{StreamElement}
 use Rattle.task_elements.proofs.FirstEos.{at_place}
 use Rattle.task_elements.proofs.Wanting.{has_pads, wants_within}
 use Rattle.task_parts.specs.declared.head.Head.{Head}
 use Rattle.task_parts.specs.declared.head.Head.TheVariants.{Source, Inlets}
-use Rattle.task_parts.specs.declared.head.InletHead.{InletHead}
-use Rattle.task_parts.specs.declared.part.Part.{Part}
 use Rattle.task_parts.specs.declared.step.Step.{Step}
 use Rattle.task_parts.specs.declared.step.Step.TheVariants.{Moved, NeedsItem, NeedsRoom, AtProbe, Ended}
 use Rattle.net_task.specs.declared.task.Task.{Task}
@@ -58,7 +53,7 @@ use Rattle.net_turns.specs.Ends.{head_number}
 use Rattle.net_turns.specs.Net.{IsFed, ListAt, SendsInto}
 use Rattle.net_turns.specs.Rests.{AwaitsLane, HeadEnded, HeadLacks, IsHeldUp, TaskRests, Wants}
 use Rattle.graph_ends.specs.Over.{joins_in}
-use Rattle.graph_ends.specs.Owed.{came_to, inputs_to, owed_by, went_from}
+use Rattle.graph_ends.specs.Owed.{came_to, went_from}
 use Rattle.graph_ends.specs.Runs.{RunStands, RunsAt, crossed_in}
 use Rattle.graph_ends.specs.Stalled.{IsDue, IsStuck, NothingWaits, ended, lane_at, lane_into, needs_item, needs_room}
 use Rattle.graph_ends.specs.Written.{AreStreams}

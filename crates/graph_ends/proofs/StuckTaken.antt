@@ -1,9 +1,8 @@
 -- What was taken of what crossed the source pads of a graph.
-use Rattle.std.proofs.Common.{◌≡◌, ◌<◌, ◌+◌, ◌%◌, ℕ, zero, suc, Bool, true, false, if◌then◌else◌, List, [], ◌∷◌, ◌++◌, Option, None, Some, length, map, refl, sym, ap}
+use Rattle.std.proofs.Common.{◌≡◌, ◌<◌, ◌+◌, ℕ, zero, suc, false, List, [], ◌∷◌, ◌++◌, Option, None, Some, map, refl, sym, ap}
 use Rattle.std.proofs.Common.{◌∙◌, subst, append-nil, arith}
 use Rattle.std.specs.Prelude.{slice_get}
 use Rattle.std.specs.List.{range_with_len}
-use Rattle.std.specs.Option.{option_map_or}
 use Rattle.flow_model.specs.Call.{Call, Feed, feeds, items}
 use Rattle.flow_model.specs.Item.{Item}
 use Rattle.flow_model.specs.Prefix.{IsPrefix, nothing}
@@ -12,19 +11,16 @@ use Rattle.flow_model.proofs.Prefixes.{prefix_by}
 use Rattle.net_model.specs.Moment.{Moment}
 use Rattle.net_model.specs.Split.{AreEmpty, AreSplit}
 use Rattle.net_model.specs.Split as splits
-use Rattle.el_settings.specs.Asked.{sink_pads}
-use Rattle.graph_core.specs.Elements.{Made}
 use Rattle.graph_core.specs.Graph.{IsSound, made as made_in, links as links_in}
-use Rattle.graph_core.specs.GraphPlan.{pad_id, sink_at, sink_count}
+use Rattle.graph_core.specs.GraphPlan.{pad_id, sink_count}
 use Rattle.graph_core.specs.LinkedOnce.{AreOnce}
 use Rattle.graph_pads.specs.Links.{sink_behind, source_before}
 use Rattle.graph_core.specs.declared.graph.Graph.{Graph}
-use Rattle.graph_pads.specs.declared.pad.PadLink.{PadLink}
 use Rattle.graph_pads.specs.declared.pad.PadPlace.{PadPlace}
 use Rattle.graph_bags.specs.Links.{has, has_inlets, place_at}
 use Rattle.graph_moment.specs.Laws.{place_of}
-use Rattle.graph_moment.specs.Pads.{IsThere, is_pad}
-use Rattle.graph_moment.proofs.Sources.{few_there, linked_there, place_is_pad, sinks_are}
+use Rattle.graph_moment.specs.Pads.{IsThere}
+use Rattle.graph_moment.proofs.Sources.{few_there, linked_there, place_is_pad}
 use Rattle.graph_ends.specs.Owed.{came_to, inputs_to, went_from}
 use Rattle.graph_ends.specs.Runs.{RunStands, crossed_in}
 use Rattle.graph_ends.specs.Stalled.{AreTaken}

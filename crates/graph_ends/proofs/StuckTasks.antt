@@ -16,7 +16,6 @@ use Rattle.net_model.specs.declared.element.TaskElement as elements
 use Rattle.net_model.specs.declared.source.TaskSource as sources
 use Rattle.el_settings.specs.Asked.{is_source}
 use Rattle.el_settings.proofs.Roles.{source_no_sink}
-use Rattle.graph_core.specs.Elements.{Made}
 use Rattle.graph_core.specs.Graph.{made as made_in, links as links_in}
 use Rattle.graph_core.specs.GraphPlan.{before_it, pad_id, sink_count}
 use Rattle.graph_core.specs.declared.graph.Graph.{Graph}
@@ -36,14 +35,12 @@ use Rattle.net_task.specs.Frame.{frame_of, head_frame}
 use Rattle.net_turns.specs.Alone.{HoldLanes}
 use Rattle.net_turns.specs.Ends.{head_number}
 use Rattle.net_turns.specs.Net.{IsFed}
-use Rattle.net_turns.specs.Rests.{NetRests, TaskRests}
+use Rattle.net_turns.specs.Rests.{TaskRests}
 use Rattle.graph_ends.specs.Owed.{came_to, went_from}
 use Rattle.graph_ends.specs.Runs.{RunStands, RunsAt}
-use Rattle.graph_ends.specs.Stalled.{AreStuck, TasksAreStuck, lane_at}
-use Rattle.graph_ends.specs.Written.{AreStreams}
+use Rattle.graph_ends.specs.Stalled.{TasksAreStuck, lane_at}
 use Rattle.graph_ends.proofs.BlamedFrames.{bag_of, source_is}
 use Rattle.graph_ends.proofs.EndedBags.{got_within}
-use Rattle.graph_ends.proofs.EndedGraphs.{not_so}
 use Rattle.graph_ends.proofs.FedElements.{IsAsked, asked_at}
 use Rattle.graph_ends.proofs.FedHeads.{head_fed}
 use Rattle.graph_ends.proofs.InOrder.{runs_stand}

@@ -1,9 +1,8 @@
 -- Where nothing waits in a task, all that is owed for what was taken has crossed its source pads.
-use Rattle.std.proofs.Common.{◌≡◌, ◌<◌, ◌%◌, ℕ, Bool, true, false, if◌then◌else◌, List, [], ◌∷◌, ◌++◌, Option, None, Some, length, map, refl, sym, ap, ◌∙◌, subst}
+use Rattle.std.proofs.Common.{◌≡◌, ◌<◌, ◌%◌, ℕ, Bool, true, false, if◌then◌else◌, List, [], ◌++◌, Option, Some, map, refl, sym, ap, ◌∙◌, subst}
 use Rattle.std.proofs.Common.{append-nil}
 use Rattle.std.specs.Prelude.{slice_get}
 use Rattle.std.specs.Option.{option_map_or}
-use Rattle.flow_model.specs.Account.{IsMember}
 use Rattle.flow_model.specs.Call.{Call, feeds}
 use Rattle.flow_model.specs.Eval.{Plan}
 use Rattle.flow_model.specs.Item.{Item}
@@ -25,8 +24,7 @@ use Rattle.graph_core.specs.GraphPlan.{line_plan, pad_id}
 use Rattle.graph_core.specs.declared.graph.Graph.{Graph}
 use Rattle.graph_pads.specs.declared.pad.PadLink.{PadLink}
 use Rattle.graph_pads.specs.declared.pad.PadPlace.{PadPlace}
-use Rattle.graph_bags.specs.Bags.{IsBag, head_of, numbers}
-use Rattle.graph_bags.specs.Laws.{StandsIn}
+use Rattle.graph_bags.specs.Bags.{numbers}
 use Rattle.graph_bags.specs.Links.{Reaches}
 use Rattle.graph_bags.specs.declared.bag.Bag.{Bag}
 use Rattle.graph_bags.specs.declared.bag.BagHead.{BagHead}

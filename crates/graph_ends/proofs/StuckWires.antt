@@ -1,5 +1,5 @@
 -- The source pads of a graph's tasks that lead over lanes.
-use Rattle.std.proofs.Common.{◌≡◌, ◌<◌, ◌++◌, ℕ, true, false, Bool, if◌then◌else◌, List, [], ◌∷◌, Option, None, Some, length, map, drop, inl, refl, sym, ap, ◌∙◌, subst, append-nil, arith}
+use Rattle.std.proofs.Common.{◌≡◌, ◌<◌, ◌++◌, ℕ, true, false, Bool, if◌then◌else◌, List, [], ◌∷◌, Option, None, Some, map, drop, inl, refl, sym, ap, ◌∙◌, subst, append-nil, arith}
 use Rattle.std.specs.Prelude.{slice_get}
 use Rattle.std.proofs.lemmas.Option.{same_Some, slice_get_within}
 use Rattle.flow_model.specs.Account.{IsMember}
@@ -17,7 +17,6 @@ use Rattle.inlet_row.specs.declared.row.InletRow.{InletRow}
 use Rattle.inlet_row.specs.Row.{GaveInAll, GaveOf, feeds_of, held, items_of}
 use Rattle.graph_core.specs.Elements.{Made}
 use Rattle.graph_core.specs.GraphPlan.{pad_id}
-use Rattle.graph_pads.specs.Links.{sink_behind}
 use Rattle.graph_pads.specs.declared.pad.PadLink.{PadLink}
 use Rattle.graph_pads.specs.declared.pad.PadPlace.{PadPlace}
 use Rattle.graph_bags.specs.Bags.{head_cells, number_of, numbers}
@@ -26,7 +25,7 @@ use Rattle.graph_bags.specs.declared.bag.Bag.{Bag}
 use Rattle.graph_bags.specs.declared.bag.BagHead.{BagHead}
 use Rattle.graph_bags.specs.declared.bag.BagHead.TheVariants as starts
 use Rattle.graph_bags.specs.declared.bag.BagLink.TheVariants.{Element, Lane as OverLane}
-use Rattle.graph_lanes.specs.Lanes.{lane_place, lane_room}
+use Rattle.graph_lanes.specs.Lanes.{lane_room}
 use Rattle.task_pads.specs.Behind.{over}
 use Rattle.net_task.specs.declared.task.Task.{Task}
 use Rattle.net_task.specs.Frame.{HeadFrame, Room, TaskFrame, Wire, IsWire, by_inlets, by_source, head_wire, of_head, of_part}

@@ -1,5 +1,5 @@
 -- What an element of a stream wants that has several sink pads, and which element has.
-use Rattle.std.proofs.Common.{◌≡◌, ◌<◌, ◌⊎◌, ℕ, zero, suc, Bool, true, false, List, [], ◌∷◌, length, Option, None, Some, refl, sym, ap, ◌∙◌, inl, inr, arith}
+use Rattle.std.proofs.Common.{◌≡◌, ◌⊎◌, ℕ, Bool, true, false, List, Option, None, Some, refl, sym, ap, ◌∙◌, inl, inr, arith}
 use Rattle.std.proofs.lemmas.Bool.{false≢true}
 use Rattle.flow_model.specs.Call.{Call}
 use Rattle.flow_model.specs.Feeding.{has_eos}
@@ -10,7 +10,7 @@ use Rattle.net_model.specs.Over.{AllEnded}
 use Rattle.el_basic.specs.Passed.{has_ended}
 use Rattle.task_elements.specs.declared.element.StreamElement.{StreamElement}
 use Rattle.task_elements.specs.declared.element.StreamElement.TheVariants.{Filter, Queue, Tee, Join, Sink}
-use Rattle.task_elements.specs.Stands.{StreamStands, is_join, sinks_of, wanted_of}
+use Rattle.task_elements.specs.Stands.{StreamStands, is_join, wanted_of}
 use Rattle.task_elements.proofs.FirstEos.{at_place}
 use Rattle.task_elements.proofs.Wanting.{has_pads, queue_wants, wants_within}
 use Rattle.el_set.proofs.JoinsApart.{IsAlike, both_ended, join_differs, one_ended, single_alike}

@@ -1,5 +1,5 @@
 -- What is known of a graph at a moment of its run, and where the run has ended.
-use Rattle.std.specs.Prelude.{◌≡◌, ◌<◌, ◌≤◌, ℕ, true, false, List, [], Option, Some, length}
+use Rattle.std.specs.Prelude.{◌≡◌, ◌<◌, ◌≤◌, ℕ, true, List, [], Option, length}
 use Rattle.flow_model.specs.Eval.{eval}
 use Rattle.gst_outside.specs.declared.sink.Sink as sinks
 use Rattle.lane_core.specs.Lane.{Lane}
@@ -9,21 +9,18 @@ use Rattle.net_model.specs.Moment.{Moment}
 use Rattle.net_model.specs.Over.{PassesEos}
 use Rattle.net_model.specs.declared.element.TaskElement as elements
 use Rattle.net_model.specs.declared.source.TaskSource as sources
-use Rattle.el_settings.specs.Asked.{makes_sinks}
 use Rattle.graph_core.specs.Graph.{IsGraph, IsSound, is_live, made as made_in, links as links_in}
 use Rattle.graph_core.specs.declared.graph.Graph.{Graph}
 use Rattle.launch_text.specs.declared.tree.Tree.{Tree}
 use Rattle.graph_core.specs.GraphPlan.{graph_plan}
 use Rattle.graph_moment.specs.Pads.{IsThere, is_pad}
 use Rattle.graph_bags.specs.Laws.{StandsIn}
-use Rattle.graph_bags.specs.Links.{has, has_inlets, place_at}
+use Rattle.graph_bags.specs.Links.{place_at}
 use Rattle.graph_bags.specs.declared.bag.Bag.{Bag}
 use Rattle.task_elements.specs.declared.element.StreamElement.{StreamElement}
-use Rattle.task_parts.specs.declared.step.Step.{Step}
 use Rattle.net_task.specs.declared.task.Task.{Task}
 use Rattle.net_turns.specs.Ends.{NothingLeft}
-use Rattle.net_turns.specs.Rests.{NetRests, Wants}
-use Rattle.graph_ends.specs.Owed.{AreOver, AreWhole, came_to, went_from}
+use Rattle.graph_ends.specs.Owed.{AreWhole, came_to, went_from}
 use Rattle.graph_ends.specs.Runs.{RunStands, RunsAt, crossed_in}
 use Rattle.graph_ends.specs.Written.{AreStreams}
 

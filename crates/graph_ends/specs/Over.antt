@@ -1,5 +1,5 @@
 -- Whether the run of a graph that cannot move is over, by what its tasks answered.
-use Rattle.std.specs.Prelude.{◌≡◌, ℕ, Bool, true, false, List, Option}
+use Rattle.std.specs.Prelude.{◌≡◌, ℕ, Bool, false, List, Option}
 use Rattle.gst_outside.specs.declared.sink.Sink as sinks
 use Rattle.lane_core.specs.Lane.{Lane}
 use Rattle.lane_core.specs.declared.ends.Inlet as inlets

@@ -1,5 +1,5 @@
 -- What the elements of a graph owe, and what came to its sinks, by what crossed its pads.
-use Rattle.std.specs.Prelude.{◌≡◌, ◌<◌, not, ℕ, Bool, true, false, List, [], ◌∷◌, ◌++◌, None, Some, if◌then◌else◌, map, slice_get, take}
+use Rattle.std.specs.Prelude.{◌≡◌, ◌<◌, ℕ, true, false, List, [], ◌∷◌, ◌++◌, None, Some, if◌then◌else◌, map, slice_get, take}
 use Rattle.std.specs.List.{range_with_len}
 use Rattle.flow_model.specs.declared.fault.ElementFault.{ElementFault}
 use Rattle.gst_outside.specs.Bytes.{written}
@@ -96,10 +96,6 @@ pub record IsPartWritten (contents : ℕ → List ℕ) (made : List Made) (links
   pub part : ℕ
   pub bytes_are :
       let disk = disk_after (keeps_flushed settings) (came_to links h (first_pad d)) in bytes d ≡ written disk.bytes disk.place (take part (body_of item))
-
--- items go on behind the element
-abbrev pub gives : Settings → Bool
-gives settings = not (is_sink settings)
 
 -- every pad is whole: nothing that is owed was left waiting
 abbrev pub AreWhole : (ℕ → List ℕ) → Graph → (ℕ → List Item) → Type 0

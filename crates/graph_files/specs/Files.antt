@@ -1,5 +1,5 @@
 -- What the elements of a graph open, and where their ends are.
-use Rattle.std.specs.Prelude.{◌≡◌, ◌==◌, ℕ, Bool, true, false, Contains, List, Option, None, Some, count_by, if◌then◌else◌, length, map, slice_get}
+use Rattle.std.specs.Prelude.{◌≡◌, ℕ, Bool, true, false, Contains, List, Option, None, Some, count_by, if◌then◌else◌, length, map, slice_get}
 use Rattle.std.specs.Option.{option_map}
 use Rattle.el_settings.specs.Asked.{is_source, location_of}
 use Rattle.el_settings.specs.declared.settings.Settings.{Settings}

@@ -1,7 +1,7 @@
 //! What tasks give back behind a run: the files of their sources and sinks, and the lengths of those that were written.
 ghost use Rattle.std.specs.Prelude.{◌≡◌};
 ghost use Rattle.graph_core.specs.Graph.{made as made_in};
-ghost use Rattle.graph_files.specs.Back.{Gives, GivesBack, HasElement, HasHead, HasLength, HasPart, HasSource, IsHead, IsPart, Wrote, read_end, written_end};
+ghost use Rattle.graph_files.specs.Back.{Gives, GivesBack, HasHead, HasLength, HasPart, HasSource, IsHead, IsPart, Wrote, read_end, written_end};
 ghost use Rattle.el_settings.specs.Asked.{reads, writes};
 ghost use Rattle.graph_files.specs.Ends.{has};
 ghost use Rattle.graph_files.specs.Put.{Among, PutBack};

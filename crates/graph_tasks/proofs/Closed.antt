@@ -116,9 +116,6 @@ module _ (made : List Made) (links : List PadLink) (are : AreLinks made links) (
   module _ {I O L : Type 0} (i : inlets.Ghosts I L O) (o : outlets.Ghosts O L) (task : WiredTask I O) (head : IsWiredHead i o made links bag.head task.head)
       (count : length task.parts.items ≡ length bag.elements.items)
       (parts : (place : ℕ) (cell : BagElement) (part : WiredPart O) → slice_get bag.elements.items place ≡ Some cell → slice_get task.parts.items place ≡ Some part → IsWiredPart o made links cell part) where
-    own_shapes : List PartShape
-    own_shapes = map wired_part task.parts.items
-
     own_has : (d : ℕ) → IsMember d (map number_of bag.elements.items) → has_number d (map wired_part task.parts.items) ≡ true
     own_has d m =
         member_has task.parts.items d

@@ -75,18 +75,6 @@ pub record PartsSoon {E O : Type 0} (e : elements.Ghosts E) (all : List (WiredPa
   pub goes_on : (more : List (Part E O e)) → AllZip (IsPartFrom now) rest more → AllZip (IsPartFrom start) all (parts ++ more)
 
 module _ {E O : Type 0} (e : elements.Ghosts E) (all : List (WiredPart O)) (start : List (Option E)) where
-  pub parts_begin : (parts : List (Part E O e)) → parts ≡ [] → AreAt e start all → Once (map number_in all) → PartsSoon e all start all start parts
-  parts_begin parts none there once = record {
-    there = there;
-    once = once;
-    left = refl;
-    goes_on = λ more zip. subst (λ (ps : List (Part E O e)). AllZip (IsPartFrom start) all (ps ++ more)) (sym none) zip;
-  }
-
-  pub first_part : (part : WiredPart O) (rest rest' : List (WiredPart O)) (now : List (Option E)) (parts : List (Part E O e)) → rest ≡ part ∷ rest' → PartsSoon e all start rest now parts
-      → ElementAt e now part.number (length part.pads.items)
-  first_part part rest rest' now parts is so = so.there 0 part (ap (λ (ps : List (WiredPart O)). slice_get ps 0) is)
-
   pub parts_step : (part : WiredPart O) (rest rest' : List (WiredPart O)) (now now' : List (Option E)) (parts parts' : List (Part E O e)) (made : Part E O e) → rest ≡ part ∷ rest' → now' ≡ without (part.number ∷ []) now
       → IsPartFrom now part made → parts' ≡ parts ++ made ∷ [] → PartsSoon e all start rest now parts → PartsSoon e all start rest' now' parts'
   parts_step part rest rest' now now' parts parts' made is taken from more so = record {

@@ -56,10 +56,7 @@ module _ {S E I O L : Type 0} {s : sources.Ghosts S} {e : elements.Ghosts E} {i 
   pub fed_rows : (k : ℕ) (own : InletHead I) (fed : IsFed tasks k own) → HasRows (placed g k fed.task fed.at).bag.head own
   fed_rows k own fed = let p = placed g k fed.task fed.at in head_rows p.bag.head fed.task.head own p.of.head fed.head_is
 
-  -- that element is fed from inlets, and of this task
-  pub fed_inlets : (k : ℕ) (own : InletHead I) → IsFed tasks k own → has has_inlets (made_in graph) own.number ≡ true
-  fed_inlets k own fed = let p = placed g k fed.task fed.at in subst (λ (h : BagHead). IsHead (made_in graph) h) (fed_rows k own fed).is p.is.head
-
+  -- that element is of this task
   pub fed_among : (k : ℕ) (own : InletHead I) (fed : IsFed tasks k own) → IsMember own.number (numbers (placed g k fed.task fed.at).bag)
   fed_among k own fed =
       let p = placed g k fed.task fed.at in

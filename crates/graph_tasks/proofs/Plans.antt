@@ -36,12 +36,6 @@ module _ {S E I O L : Type 0} {s : sources.Ghosts S} {e : elements.Ghosts E} {i 
   }
 
 module _ {I O : Type 0} where
-  numbers_in : WiredTask I O → List ℕ
-  numbers_in task = map number_in task.parts.items
-
-  sources_in : WiredTask I O → List ℕ
-  sources_in task = source_in task.head
-
   among_parts : (tasks : List (WiredTask I O)) (k : ℕ) (task : WiredTask I O) (d : ℕ) → slice_get tasks k ≡ Some task → IsMember d (map number_in task.parts.items) → IsMember d (part_numbers tasks)
   among_parts [] k task d at m = absurd (cc)
   among_parts (t ∷ ts) zero task d at m = in_front d (map number_in t.parts.items) (part_numbers ts) (subst (λ (one : WiredTask I O). IsMember d (map number_in one.parts.items)) (same at) m)

@@ -1,5 +1,5 @@
 //! The tasks of a graph, made of their wired tasks and of elements. All the memory is taken before the elements are there.
-ghost use Rattle.std.specs.Prelude.{◌≡◌, ◌≤◌, ℕ, [], ◌∷◌, List, IfOk, length, map, vec_len, vec_capacity, Some, slice_get};
+ghost use Rattle.std.specs.Prelude.{◌≡◌, ◌≤◌, [], ◌∷◌, List, IfOk, length, map, vec_len, vec_capacity, Some};
 ghost use Rattle.std.specs.List.{AllZip};
 ghost use Rattle.std.specs.VecDeque.{deque_len};
 ghost use Rattle.graph_bags.specs.Bags.{Once};

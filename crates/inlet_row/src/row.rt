@@ -20,7 +20,7 @@ impl<I: Inlet> InletRow<I> {
     ghost use Rattle.lane_core.specs.Lane.{Lane};
     ghost use Rattle.inlet_row.specs.declared.feeding.Feeding.TheVariants.{Given, Lane as OfLane};
     ghost use Rattle.inlet_row.specs.declared.feeding.Taken.TheVariants.{Item as Next};
-    ghost use Rattle.inlet_row.specs.Row.{AreApart, RowBetween, RowGave, RowIn, feeds_of, received_of, room_of, row_holds};
+    ghost use Rattle.inlet_row.specs.Row.{AreApart, RowBetween, RowGave, RowIn, feeds_of, received_of, room_of};
     ghost use Rattle.inlet_row.specs.Ends.{Gives, Links, Stays};
     ghost use Rattle.inlet_row.specs.Take.{First, HoldsAfter, KeepsLanes, Moves, list_after};
 

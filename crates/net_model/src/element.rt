@@ -1,6 +1,5 @@
 //! Elements with sink pads.
 ghost use Rattle.std.specs.Prelude.{◌≡◌, ℕ, false, List, Option, IfErr, OnOk, OnErr};
-ghost use Rattle.flow_model.specs.declared.fault.ElementFault.{ElementFault};
 ghost use Rattle.flow_model.specs.Item.{Item, is_flush_stop};
 ghost use Rattle.flow_model.specs.Call.{Call};
 ghost use Rattle.net_model.specs.Moment.{Behavior};

@@ -11,7 +11,6 @@ use Rattle.pad_core.specs.SrcPad.{CrossedBy, state_of}
 use Rattle.task_pads.specs.Behind.{Goes, nowhere, inside, over, SentIn, goes}
 use Rattle.task_pads.specs.Pads.{HasCrossed, SentOver, PadShape, Rest, number_of, goes_of, pad_shape, rest_of}
 use Rattle.net_task.specs.Ties.{LeadsAs, PadLinked}
-use Rattle.net_task.specs.Failed.{without_first}
 
 -- pads of the same shape, and pads that are the same but for what waits
 pub same_number : {O : Type 0} (p q : Pad O) → pad_shape p ≡ pad_shape q → number_of p ≡ number_of q
@@ -73,9 +72,6 @@ module _ {O L : Type 0} (o : outlets.Ghosts O L) where
   -- an element was fed, or an item that waited was given up: nothing crossed
   pub linked_fed : (m : Moment) (n : ℕ) (took : List (List Call)) (out : ℕ → List Item) (pad : Pad O) → PadLinked o m pad → PadLinked o (fed n took out m) pad
   linked_fed m n took out pad l = linked_same m (fed n took out m) pad refl refl refl l
-
-  pub linked_without : (m : Moment) (p : ℕ) (rest : List Item) (pad : Pad O) → PadLinked o m pad → PadLinked o (without_first p rest m) pad
-  linked_without m p rest pad l = linked_same m (without_first p rest m) pad refl refl refl l
 
   -- what waits at a pad is no part of how it is linked
   pub linked_rest : (m : Moment) (was is : Pad O) → rest_of is ≡ rest_of was → PadLinked o m was → PadLinked o m is

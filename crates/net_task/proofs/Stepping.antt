@@ -27,7 +27,7 @@ use Rattle.net_task.specs.Failed.{Causes, FailsAs, HasFailed, IsUnread, LanesLef
 use Rattle.net_task.specs.Frame.{PartFrame, TaskFrame, Wire, frame_in, frame_of, of_head, part_frame, wire_of}
 use Rattle.net_task.specs.Fuel.{Burns, moves_left}
 use Rattle.net_task.specs.Moves.{Act, Advances, GoesFirst, LanesBy, RowsKept, RowsStay, Steps, TookFrom, Unlawful, flush_given, flush_taken, given_by, given_in, giving, leaving, passing, sending, taking}
-use Rattle.net_task.specs.Reasons.{AllBlocked, AllRest, HeadGaveAll, HeadIdle, HeadLacks, IsFirst, IsStuck, OneHolds, OwnerRests, Why, of_head as first_of_head}
+use Rattle.net_task.specs.Reasons.{AllBlocked, AllRest, HeadGaveAll, HeadIdle, HeadLacks, IsFirst, OneHolds, OwnerRests, Why, of_head as first_of_head}
 use Rattle.net_task.specs.Ties.{AreTied, Stands, Ties, nothing_lost}
 use Rattle.net_task.specs.Tries.{AllTriedAs, AskFault, AsksHead, CrossesAt, HeadStays, HeadTriedAs, HeadWhy, IsHeadPad, IsOfAny, PadMoves, PadsTell, PadsTry, PartsFault, PartsTry, SourceFault, SourceStays, SourceTries, Spends, StepsAs, TableStays, TriedAs, elements_of}
 use Rattle.net_task.specs.Ready.{LanesGoOn, RowsGoOn}
@@ -201,21 +201,6 @@ module _ {S E I O L : Type 0} {s : sources.Ghosts S} {e : elements.Ghosts E} {i 
             source = inr (w.1.0, w.1.1, step, w.1.2);
           },
         )
-
-  -- where items are stuck the task says why
-  pub stuck_steps : (tells tells' : Option (List Lane)) (old new : Task S E I O L s e i o) (m : Moment) (step : Step) → tells' ≡ tells → RowsKept old.head new.head → Ties new m → IsStuck tells m (frame_of old) old.head step → Steps tells tells' old new m step
-  stuck_steps tells tells' old new m steps.Moved same rows a h = absurd h.holds.2.held
-  stuck_steps tells tells' old new m (steps.NeedsItem lane) same rows a h = absurd h.holds.2.held
-  stuck_steps tells tells' old new m (steps.NeedsRoom lane) same rows a h = (a, same, rows)
-  stuck_steps tells tells' old new m (steps.AtProbe command) same rows a h = (a, same, rows)
-  stuck_steps tells tells' old new m steps.Ended same rows a h = (a, same, rows)
-
-  pub stuck_why : (tells : Option (List Lane)) (old new : Task S E I O L s e i o) (m : Moment) (step : Step) → IsStuck tells m (frame_of old) old.head step → Why tells old new m step
-  stuck_why tells old new m steps.Moved h = tt
-  stuck_why tells old new m (steps.NeedsItem lane) h = absurd h.holds.2.held
-  stuck_why tells old new m (steps.NeedsRoom lane) h = h
-  stuck_why tells old new m (steps.AtProbe command) h = h
-  stuck_why tells old new m steps.Ended h = inr h
 
 pub burns_then : (before mid after : ℕ) (step : Step) → mid ≤ before → Burns mid after step → Burns before after step
 burns_then before mid after steps.Moved l k = omega (arith, l, k)

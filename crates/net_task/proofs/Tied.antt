@@ -26,10 +26,9 @@ use Rattle.task_parts.specs.Shape.{PartShape, part_shape}
 use Rattle.task_parts.specs.Part.{PadSet, PadsGrew, waits_at}
 use Rattle.task_parts.specs.Moved.{PartSet}
 use Rattle.net_task.specs.Ties.{TookAt, PadLinked, PortTied, HasPad, AreOnce, NoneLeads, NoneIs, PartTied, PartsTied, SourceTied, HeadTied}
-use Rattle.net_task.specs.Failed.{without_first}
 use Rattle.task_pads.proofs.Lists.{map_set}
 use Rattle.task_parts.proofs.Lists.{each_set, map_back}
-use Rattle.net_task.proofs.Linked.{same_number, same_goes, linked_same, linked_other, linked_rest, linked_fed, linked_without, shape_rest}
+use Rattle.net_task.proofs.Linked.{same_number, same_goes, linked_same, linked_other, linked_rest, linked_fed, shape_rest}
 
 -- a pad of a number is still there
 pub has_same : {O : Type 0} (pads pads' : List (Pad O)) (m m' : Moment) (q : ℕ) → m'.plan ≡ m.plan → map pad_shape pads' ≡ map pad_shape pads → HasPad pads m q → HasPad pads' m' q
@@ -100,17 +99,6 @@ module _ {E O L : Type 0} {e : elements.Ghosts E} (o : outlets.Ghosts O L) where
         let z = t.pads k q at in
         let ne : number_of q ≢ p = λ same. n (ap m.plan.owner (sym same) ∙ z.owner) in
         record { owner = z.owner; port_is = z.port_is; linked = linked_other o m p x rest q ne z.linked; waits = at_other p rest m.waits (number_of q) ne ∙ z.waits };
-    mine = λ q own. let z = t.mine q own in record { pad = z.pad; at = z.at; number = z.number; uncut = z.uncut };
-  }
-
-  -- an item that waited at a pad of another element is given up
-  pub part_without : (S : Type 0) (m : Moment) (p : ℕ) (rest : List Item) (part : Part E O e) → m.plan.owner p ≢ part.number → PartTied o S m part → PartTied o S (without_first p rest m) part
-  part_without S m p rest part n t = record {
-    stood = t.stood;
-    pads = λ k q at.
-        let z = t.pads k q at in
-        let ne : number_of q ≢ p = λ same. n (ap m.plan.owner (sym same) ∙ z.owner) in
-        record { owner = z.owner; port_is = z.port_is; linked = linked_without o m p rest q z.linked; waits = at_other p rest m.waits (number_of q) ne ∙ z.waits };
     mine = λ q own. let z = t.mine q own in record { pad = z.pad; at = z.at; number = z.number; uncut = z.uncut };
   }
 
@@ -258,16 +246,6 @@ module _ {S E I O L : Type 0} {s : sources.Ghosts S} {e : elements.Ghosts E} (i 
       let ne : number_of head.pad ≢ p = λ same. t.apart j part at (sym own ∙ sym (ap m.plan.owner same) ∙ t.owner) in
       source_same o (lost 0) m (crossed p x rest m) head parts parts' refl refl (at_other p (m.history p ++ x ∷ []) m.history (number_of head.pad) ne) (at_other p rest m.waits (number_of head.pad) ne) shape t
   head_crossed lost m p x rest (Inlets head) parts parts' j part at own shape t = λ port row row_at.
-      let z = t port row row_at in
-      record { all = z.all; gave = z.gave; got = z.got; whole = z.whole; took = z.took; apart = none_leads_same parts parts' head.number port shape z.apart }
-
-  -- the head, where an item that waited at a pad of an element is given up
-  pub head_without : (lost : ℕ → List Item) (m : Moment) (p : ℕ) (rest : List Item) (head : Head S I O s) (parts parts' : List (Part E O e)) (j : ℕ) (part : Part E O e)
-      → slice_get parts j ≡ Some part → m.plan.owner p ≡ part.number → map part_shape parts' ≡ map part_shape parts → HeadTied i o lost m head parts → HeadTied i o lost (without_first p rest m) head parts'
-  head_without lost m p rest (Source head) parts parts' j part at own shape t =
-      let ne : number_of head.pad ≢ p = λ same. t.apart j part at (sym own ∙ sym (ap m.plan.owner same) ∙ t.owner) in
-      source_same o (lost 0) m (without_first p rest m) head parts parts' refl refl refl (at_other p rest m.waits (number_of head.pad) ne) shape t
-  head_without lost m p rest (Inlets head) parts parts' j part at own shape t = λ port row row_at.
       let z = t port row row_at in
       record { all = z.all; gave = z.gave; got = z.got; whole = z.whole; took = z.took; apart = none_leads_same parts parts' head.number port shape z.apart }
 

@@ -36,7 +36,7 @@ use Rattle.net_turns.proofs.Others.{tied_still}
 use Rattle.net_turns.proofs.Rows.{between_apart, between_last, ends_apart, holds_apart, holds_last}
 use Rattle.net_turns.proofs.Facts.{inside_no_row, other_pad, own_pad, row_apart, row_in, row_once, rows_apart}
 use Rattle.net_turns.proofs.Keeping.{each_now, each_task, lane_out, loose_now, others_tied, put_each, put_or, ready_still, unfed_now, waits_calm}
-use Rattle.net_turns.proofs.Sending.{pad_before, put_few, put_once, put_row, put_sent, sents_then}
+use Rattle.net_turns.proofs.Sending.{pad_before, put_few, put_once, put_row, put_sent}
 use Rattle.net_turns.proofs.Wired.{IsOther, row_stays, sends_back, wired_still}
 use Rattle.flow_model.proofs.Calls.{feeds_push}
 
@@ -45,9 +45,6 @@ module _ {S E I O L : Type 0} {s : sources.Ghosts S} {e : elements.Ghosts E} {i 
       (tells tells' : Option (List Lane)) (net : NetStands m tasks tells) (place : ℕ) (before after : Task S E I O L s e i o) (c : IsOther tasks tasks' place before after) (ready : IsReady tells' after)
       (stay : RowsStay before.head after.head) (p : ℕ) (x : Item) (rest : List Item) (n port : ℕ) (sends : Sends m p x rest n port) (put : PutInto (frame_of before) p x tells tells')
       (tied : Ties after (crossed p x rest m)) where
-    abbrev to : ℕ
-    to = put.room.place
-
     abbrev table_then : List Lane
     table_then = table_with_item x put.room.place net.table
 
@@ -100,9 +97,6 @@ module _ {S E I O L : Type 0} {s : sources.Ghosts S} {e : elements.Ghosts E} {i 
     empty_then a none =
         put_or (λ d css. AreEmpty css) n (push_calls port (Feed x ∷ []) (m.held n)) m.held a
         (λ same. absurd (none row_then.0 row_then.2.head row_then.2.fed (row_then.2.number ∙ sym same))) (λ other. net.others a none)
-
-    sents_after : ℕ → List Item
-    sents_after = sents_then m tasks tasks' tells tells' net place before after c p x rest n port sends put
 
     -- the row at whose end the lane stands
     row_here : (k : ℕ) (row : InletRow I) → HasRow tasks k n port row → RowStands i net.table net.sents m n port row

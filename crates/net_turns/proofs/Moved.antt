@@ -1,5 +1,5 @@
 -- A step of one task that moved keeps a net.
-use Rattle.std.proofs.Common.{◌≡◌, ◌≢◌, ◌≤◌, ◌^◌, ◌⊎◌, ℕ, zero, suc, Bool, true, false, if◌then◌else◌, List, [], ◌∷◌, length, map, Option, Some, None, refl, sym, ap, ◌∙◌, subst, inl, inr}
+use Rattle.std.proofs.Common.{◌≡◌, ◌≢◌, ◌≤◌, ◌^◌, ◌⊎◌, ℕ, zero, suc, Bool, true, false, if◌then◌else◌, List, [], ◌∷◌, length, map, Option, Some, refl, sym, ap, ◌∙◌, subst, inl, inr}
 use Rattle.std.specs.Prelude.{slice_get}
 use Rattle.flow_model.specs.Item.{Item, Ev, Eos}
 use Rattle.flow_model.specs.Call.{Call, Feed, feeds}
@@ -163,31 +163,6 @@ module _ {S E I O L : Type 0} {s : sources.Ghosts S} {e : elements.Ghosts E} {i 
         from_row n port x out answers (took_row i before.head after.head n port x tells tells' lanes)
         (held_back m.history (fed n (push_calls port (Feed x ∷ []) (m.took n)) out m).took held (fed n (push_calls port (Feed x ∷ []) (m.took n)) out m).waits tied)
     act_comes held act next gives lanes first inner tied = from_source lanes.0 lanes.1 (held_back m.history m.took held m.waits tied)
-
-    -- An item that crosses inside a task does not do so over a lane.
-    abbrev pub PassesInside : Act → Type 0
-    PassesInside (passing p) = (wire : Wire) → IsWire (frame_of before) wire → wire.number ≡ p → wire.room ≡ None
-    PassesInside (sending p x) = Unit {0}
-    PassesInside (leaving p) = Unit {0}
-    PassesInside (taking n port x) = Unit {0}
-    PassesInside giving = Unit {0}
-
-    passes_inward : (act : Act) → PassesInside act → Inward m.held act
-    passes_inward (passing p) inner = λ n port leads none wire is number. go wire (inner wire is number) (wire_way wire p n port is number leads)
-      where
-        go : {n port : ℕ} (wire : Wire) → wire.room ≡ None
-            → (wire.leads ≡ inside n port) ⊎ ((room : Room) × (wire.room ≡ Some room) × (from : ℕ) × SendsInto tasks place p room.place from n port)
-            → wire.leads ≡ inside n port
-        go wire none (inl leads) = leads
-        go wire none (inr way) = absurd (let some = way.1 in cc)
-    passes_inward (sending p x) inner = tt
-    passes_inward (leaving p) inner = tt
-    passes_inward (taking n port x) inner = tt
-    passes_inward giving inner = tt
-
-    -- where the task moved an item the net goes on
-    pub net_moved : (moved : Advances i o tells tells' (frame_of before) m before.head after.head after.parts.items) → PassesInside moved.act → NetGoes m tasks' tells'
-    net_moved moved inner = comes_goes (act_comes m.held moved.act moved.next moved.move moved.lanes moved.first (passes_inward moved.act inner) moved.tied)
 
     -- The moment, but that something stands in each inlet of an element of another task. The task is tied to it too; there it
     -- can hand no item on to an element of another task but over a lane.

@@ -22,11 +22,6 @@ module _ {I : Type 0} where
   for_join P (Given x ∷ xs) ys h k = for_join P xs ys h k
   for_join P (OfLane n inlet ∷ xs) ys h k = (h.0, for_join P xs ys h.1 k)
 
-  for_front : (P : I → Type 0) (xs ys : List (Feeding I)) → ForLanes P (xs ++ ys) → ForLanes P xs
-  for_front P [] ys h = tt
-  for_front P (Given x ∷ xs) ys h = for_front P xs ys h
-  for_front P (OfLane n inlet ∷ xs) ys h = (h.0, for_front P xs ys h.1)
-
   for_behind : (P : I → Type 0) (feeds : List (Feeding I)) → ForLanes P feeds → ForLanes P (drop 1 feeds)
   for_behind P [] h = tt
   for_behind P (Given x ∷ feeds) h = h

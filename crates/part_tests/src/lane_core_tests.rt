@@ -1,5 +1,5 @@
 //! Rows of puts and takes, by functions that know only the traits, called on lanes in memory.
-ghost use Rattle.std.specs.Prelude.{◌≡◌, ◌≢◌, ◌<◌, ◌^◌, ℕ, Some};
+ghost use Rattle.std.specs.Prelude.{◌≡◌, ◌≢◌, ◌<◌, ◌^◌, ℕ};
 ghost use Rattle.lane_core.specs.Lane.{IsOf};
 ghost use Rattle.lane_core.specs.Room.{Limits};
 

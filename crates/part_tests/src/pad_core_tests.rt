@@ -1,5 +1,5 @@
 //! Rows of crossings and links.
-ghost use Rattle.std.specs.Prelude.{◌≡◌, ◌<◌, ◌^◌, List};
+ghost use Rattle.std.specs.Prelude.{◌<◌, ◌^◌};
 ghost use Rattle.pad_core.specs.SrcPad.{crossed_of};
 
 use gst_item::{Event, Flow, Item};

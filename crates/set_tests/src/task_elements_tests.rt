@@ -1,7 +1,5 @@
 //! Elements that are fed through the traits of a task.
-ghost use Rattle.std.specs.Prelude.{◌≡◌, ◌<◌, ◌^◌, None, IfSome};
-ghost use Rattle.el_settings.specs.Asked.{title_of};
-ghost use Rattle.el_set.specs.Gives.{source_items};
+ghost use Rattle.std.specs.Prelude.{◌<◌, ◌^◌, None};
 
 use el_set::source_of;
 use el_settings::{

@@ -1,5 +1,5 @@
 //! The elements of a stream that have a sink pad, by their role.
-ghost use Rattle.std.specs.Prelude.{◌≡◌, ◌∷◌, [], ℕ, false, List, None, option_map, IfErr, OnOk, OnErr};
+ghost use Rattle.std.specs.Prelude.{◌≡◌, ◌∷◌, [], false, List, None, option_map, IfErr, OnOk, OnErr};
 ghost use Rattle.flow_model.specs.Item.{is_flush_stop};
 ghost use Rattle.flow_model.specs.Call.{Call, Feed};
 ghost use Rattle.net_model.specs.Moment.{Behavior};

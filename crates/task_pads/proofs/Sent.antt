@@ -142,18 +142,6 @@ module _ {O L : Type 0} (o : outlets.Ghosts O L) where
   back_leads item number (behinds.Element element hint pad) b' tells tells' w = absurd w
   back_leads item number (behinds.Lane lane element pad from outlet) b' tells tells' w = ap (λ (z : Behind O). goes z) w.2
 
-  -- no crossing changes where the pad leads
-  pub passed_leads : (old new : Seen O) (tells tells' : Option (List Lane)) (crossing : Crossing) → HasPassed o old new tells tells' crossing → goes new.behind ≡ goes old.behind
-  passed_leads old new tells tells' Idle p = absurd p
-  passed_leads old new tells tells' (To number hint pad) p = ap (λ (z : Seen O). goes z.behind) p.0
-  passed_leads old new tells tells' Gone p = went_leads p.0 old.behind new.behind tells tells' p.3
-  passed_leads old new tells tells' (Full number) p = back_leads p.0 number old.behind new.behind tells tells' p.5
-  passed_leads old new tells tells' (AtProbe command) p = absurd p
-  passed_leads old new tells tells' NotLinked p = absurd p
-  passed_leads old new tells tells' BehindEos p = absurd p
-  passed_leads old new tells tells' AtLimit p = absurd p
-  passed_leads old new tells tells' OutOfMemory p = absurd p
-
   went_sent : (item : Item) (b b' : Behind O) (tells tells' : Option (List Lane)) → WentBy o item b b' tells tells' → (h : List Item) → SentIn o b h → SentIn o b' (h ++ item ∷ [])
   went_sent item behinds.Nothing b' tells tells' w h s = subst (λ (z : Behind O). SentIn o z (h ++ item ∷ [])) (sym w.0) tt
   went_sent item (behinds.Element number hint pad) b' tells tells' w h s = absurd w

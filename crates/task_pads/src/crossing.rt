@@ -4,7 +4,7 @@ ghost use Rattle.gst_item.specs.Sticky.{has_flush_stop};
 ghost use Rattle.lane_core.specs.Lane.{IsOf};
 ghost use Rattle.pad_core.specs.SrcPad.{state_of, crossed_of};
 ghost use Rattle.pad_core.specs.Linking.{has_peer};
-ghost use Rattle.task_pads.specs.Behind.{leads_on, items_of, EndReady, end_in, lane_end, count_in, place_in, goes};
+ghost use Rattle.task_pads.specs.Behind.{leads_on, items_of, EndReady, end_in, count_in, place_in, goes};
 ghost use Rattle.task_pads.specs.Pads.{seen_in, setting_of, KeepsTable, IsLoose};
 ghost use Rattle.task_pads.specs.Crossing.{Came};
 ghost use Rattle.task_pads.specs.Passing.{HasPassed, IsPutBy};

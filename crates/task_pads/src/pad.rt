@@ -51,8 +51,7 @@ pub struct Pad<O> {
 }
 
 impl<O: Outlet> Pad<O> {
-    ghost use Rattle.std.specs.Prelude.{◌≢◌, ◌+◌, ◌++◌, ◌∷◌, ◌<◌, ◌==◌, [], ℕ, List, IfOk, OnOk, None, Some, length};
-    ghost use Rattle.std.specs.VecDeque.{deque_len, deque_capacity};
+    ghost use Rattle.std.specs.Prelude.{◌≢◌, ◌+◌, ◌++◌, ◌∷◌, ◌==◌, [], List, OnOk, None, Some, length};
     ghost use Rattle.flow_model.specs.Item.{is_flush_stop, buffers};
     ghost use Rattle.flow_model.specs.Item.{Item as Piece};
     ghost use Rattle.task_pads.specs.Behind.{goes, SetsHint, place_in, sent_in};

@@ -1,5 +1,5 @@
 //! Where the items of a task come from.
-ghost use Rattle.std.specs.Prelude.{◌≡◌, ◌≤◌, ◌<◌, ◌^◌, List, IfOk, IfErr, OnErr};
+ghost use Rattle.std.specs.Prelude.{◌≡◌, ◌≤◌, ◌^◌, List, IfOk, IfErr, OnErr};
 ghost use Rattle.net_model.specs.Failures.{IsReadCause, NeverFalls};
 ghost use Rattle.net_model.specs.Gives.{Gives, count_after};
 ghost use Rattle.net_model.specs.Short.{StopsShort};

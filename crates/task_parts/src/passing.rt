@@ -1,5 +1,5 @@
 //! What one try of a pad, or of a head, moves.
-ghost use Rattle.std.specs.Prelude.{◌≡◌, ◌≤◌, ◌<◌, ◌⊎◌, true, length, map, vec_len, Some, slice_get, OnOk};
+ghost use Rattle.std.specs.Prelude.{◌≡◌, ◌≤◌, ◌<◌, true, length, map, vec_len, Some, slice_get, OnOk};
 ghost use Rattle.task_parts.specs.Idle.{part_idle};
 ghost use Rattle.task_parts.specs.Moved.{KeepsFront};
 ghost use Rattle.task_parts.specs.Part.{PartReady, IsSettled};

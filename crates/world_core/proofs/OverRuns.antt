@@ -3,7 +3,7 @@ use Rattle.std.proofs.Common.{◌≡◌, ◌<◌, ◌+◌, ◌%◌, ℕ, zero, s
 use Rattle.std.specs.Prelude.{slice_get}
 use Rattle.std.specs.List.{range_with_len}
 use Rattle.std.specs.Option.{option_map_or}
-use Rattle.el_settings.specs.Asked.{is_source, sink_pads, source_pads}
+use Rattle.el_settings.specs.Asked.{is_source, source_pads}
 use Rattle.el_settings.proofs.Roles.{source_no_sink}
 use Rattle.flow_model.specs.Call.{Call, feeds, items}
 use Rattle.flow_model.specs.Feeding.{has_eos}
@@ -19,7 +19,7 @@ use Rattle.graph_bags.specs.declared.bag.BagHead.{BagHead}
 use Rattle.graph_bags.specs.declared.bag.BagHead.TheVariants as bags_of
 use Rattle.graph_core.specs.Elements.{Made}
 use Rattle.graph_core.specs.Graph.{IsSound, is_live, made as made_in, links as links_in}
-use Rattle.graph_core.specs.GraphPlan.{owner_of, pad_id, sink_count}
+use Rattle.graph_core.specs.GraphPlan.{pad_id, sink_count}
 use Rattle.graph_core.specs.declared.graph.Graph.{Graph}
 use Rattle.graph_pads.specs.declared.pad.PadPlace.{PadPlace}
 use Rattle.graph_core.proofs.NumberedPads.{owner_at, port_at}
@@ -39,7 +39,7 @@ use Rattle.lane_core.specs.declared.ends.Inlet as inlets
 use Rattle.lane_core.specs.declared.ends.Outlet as outlets
 use Rattle.net_task.specs.Frame.{HeadFrame, by_inlets, by_source, frame_of}
 use Rattle.net_task.specs.declared.task.Task.{Task}
-use Rattle.net_turns.specs.Ends.{HeadIsOver, NetIsOver, NothingLeft, head_number}
+use Rattle.net_turns.specs.Ends.{HeadIsOver, NothingLeft, head_number}
 use Rattle.world_core.specs.Over.{IsOver}
 use Rattle.world_core.proofs.TaskHeads.{task_with}
 

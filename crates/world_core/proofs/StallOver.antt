@@ -1,5 +1,5 @@
 -- Whether the steps that tasks answered tell that their run is over, by the first of them.
-use Rattle.std.proofs.Common.{◌≡◌, ◌<◌, ◌≤◌, ◌+◌, ◌⊎◌, ℕ, Bool, true, false, ◌&&◌, not, List, [], ◌∷◌, ◌++◌, map, Option, Some, length, get_or, refl, sym, ◌∙◌, ap, subst, inl, inr, ⊎_elim, arith}
+use Rattle.std.proofs.Common.{◌≡◌, ◌<◌, ◌≤◌, ◌+◌, ◌⊎◌, ℕ, Bool, true, false, ◌&&◌, not, List, [], ◌∷◌, ◌++◌, map, Some, length, get_or, refl, sym, ◌∙◌, ap, subst, ⊎_elim, arith}
 use Rattle.std.specs.Prelude.{slice_get}
 use Rattle.std.proofs.lemmas.Bool.{cases_eq}
 use Rattle.std.specs.List.{range_with_len}
@@ -68,9 +68,6 @@ module _ {S E I O L : Type 0} {s : givers.Ghosts S} {e : elements.Ghosts E} {i :
   abbrev pub LetOver : ℕ → Type 0
   LetOver n = (k : ℕ) (task : Task S E I O L s e i o) (step : Step) → k < n → slice_get tasks k ≡ Some task → slice_get steps k ≡ Some step
       → step_over live joins (head_number (frame_of task).head) step ≡ true
-
-  pub over_none : LetOver 0
-  over_none k task step w at there = absurd (omega (arith, w))
 
   pub over_more : (n : ℕ) (task : Task S E I O L s e i o) (step : Step) → LetOver n → slice_get tasks n ≡ Some task → slice_get steps n ≡ Some step
       → step_over live joins (head_number (frame_of task).head) step ≡ true → LetOver (n + 1)

@@ -1,5 +1,5 @@
 -- A run that stopped, by the laws of its graph.
-use Rattle.std.proofs.Common.{◌≡◌, ◌≢◌, ◌⊎◌, ℕ, suc, true, false, eqb, List, [], ◌∷◌, Option, None, Some, length, refl, sym, ap, ◌∙◌, subst, inl, inr}
+use Rattle.std.proofs.Common.{◌≡◌, ◌≢◌, ◌⊎◌, ℕ, suc, true, false, eqb, List, [], ◌∷◌, Option, Some, length, refl, sym, ap, ◌∙◌, subst, inl, inr}
 use Rattle.std.specs.Prelude.{slice_get}
 use Rattle.std.specs.Option.{option_map}
 use Rattle.std.proofs.lemmas.Bool.Decides.{eqb_tells}
@@ -138,9 +138,6 @@ module _ {S K I O L : Type 0} {giver : givers.Ghosts (StreamSource S)} {taker : 
     (rest : List (Option (StreamElement K))) (left : List (Option (End S K))) (tells : Option (List Lane)) (before : Seen)
     (run : HasRun s k graph first last rest left tells before) (once : AreOnce (links_in graph))
     (rested : (contents : ℕ → List ℕ) (m : Moment) → IsSettled contents graph run.started.bags m last → RestHasCame k graph last rest m) where
-  abbrev start_at : (ℕ → List ℕ) → Moment
-  start_at contents = opening (moment_plan contents graph) (moment_answers graph)
-
   -- the moment at which a run met a fault
   pub is_faulted : (contents : ℕ → List ℕ) (place : ℕ) (fault : TaskFault) → NetFaulted (opening (moment_plan contents graph) (moment_answers graph)) last place fault
       → IsFaulted k contents graph run.started.bags last rest fault

@@ -1,24 +1,21 @@
 -- A run of a graph that cannot go on, for the reasons that its tasks answered, is not over where they do not tell that it is.
-use Rattle.std.proofs.Common.{◌≡◌, ◌<◌, ℕ, true, false, List, [], ◌∷◌, ◌++◌, Option, Some, length, refl, sym, ap, ◌∙◌, subst, append_assoc, arith}
+use Rattle.std.proofs.Common.{◌≡◌, ℕ, true, false, List, [], ◌∷◌, ◌++◌, Some, length, refl, sym, ap, ◌∙◌, subst, arith}
 use Rattle.std.specs.Prelude.{slice_get}
 use Rattle.std.proofs.lemmas.List.{length-append}
-use Rattle.std.proofs.lemmas.Option.{same_Some}
 use Rattle.flow_model.specs.Item.{Item, eos_among}
 use Rattle.flow_model.specs.Prefix.{IsPrefix}
 use Rattle.flow_model.proofs.Prefixes.{prefix_length}
 use Rattle.net_model.specs.declared.element.TaskElement as elements
 use Rattle.net_model.specs.declared.source.TaskSource as givers
 use Rattle.graph_bags.specs.Bags.{AreBags}
-use Rattle.graph_bags.specs.Links.{has, is_head, place_at}
+use Rattle.graph_bags.specs.Links.{has, is_head}
 use Rattle.graph_bags.specs.declared.bag.Bag.{Bag}
-use Rattle.graph_core.specs.Elements.{Made}
 use Rattle.graph_core.specs.Graph.{is_live, made as made_in, links as links_in}
-use Rattle.graph_core.specs.GraphPlan.{sink_count}
 use Rattle.graph_core.specs.declared.graph.Graph.{Graph}
 use Rattle.graph_ends.specs.Frames.{HaveBags}
 use Rattle.graph_ends.specs.Over.{joins_in}
-use Rattle.graph_ends.specs.Owed.{came_to, owed_by, went_from}
-use Rattle.graph_ends.specs.Stalled.{IsDue, IsStuck, ended, needs_item, needs_room}
+use Rattle.graph_ends.specs.Owed.{went_from}
+use Rattle.graph_ends.specs.Stalled.{IsStuck, ended, needs_item, needs_room}
 use Rattle.lane_core.specs.declared.ends.Inlet as inlets
 use Rattle.lane_core.specs.declared.ends.Outlet as outlets
 use Rattle.net_task.specs.Frame.{frame_of}

@@ -1,5 +1,5 @@
 -- The heads of a graph's tasks, in their order.
-use Rattle.std.proofs.Common.{◌≡◌, ℕ, suc, true, List, [], ◌∷◌, Some, length, map, refl, sym, ap, ◌∙◌, subst, arith}
+use Rattle.std.proofs.Common.{◌≡◌, ℕ, suc, true, List, [], ◌∷◌, Some, length, map, refl, sym, ap, ◌∙◌, arith}
 use Rattle.std.specs.Prelude.{slice_get}
 use Rattle.std.proofs.lemmas.Option.{slice_get_within}
 use Rattle.net_model.specs.declared.element.TaskElement as elements
@@ -14,7 +14,7 @@ use Rattle.graph_core.specs.Elements.{Made}
 use Rattle.graph_pads.specs.declared.pad.PadLink.{PadLink}
 use Rattle.graph_ends.specs.Frames.{HaveBags, IsHeadFrame}
 use Rattle.graph_tasks.proofs.Graphs.{inlets_head, source_head}
-use Rattle.graph_tasks.proofs.Lists.{all_at, get_map, got_within, map_got}
+use Rattle.graph_tasks.proofs.Lists.{all_at, got_within, map_got}
 use Rattle.lane_core.specs.declared.ends.Inlet as inlets
 use Rattle.lane_core.specs.declared.ends.Outlet as outlets
 use Rattle.net_task.specs.Frame.{HeadFrame, by_inlets, by_source, frame_of}

@@ -1,5 +1,5 @@
 -- What a report says of a run that is stalled.
-use Rattle.std.specs.Prelude.{◌≡◌, ℕ, true, List, Option, Some, if◌then◌else◌, length, map, nat_lt, slice_get}
+use Rattle.std.specs.Prelude.{◌≡◌, ℕ, true, List, Some, if◌then◌else◌, length, map, nat_lt, slice_get}
 use Rattle.std.specs.List.{range_with_len}
 use Rattle.std.specs.Option.{unwrap_or}
 use Rattle.flow_model.specs.Item.{Item}

@@ -1,4 +1,4 @@
-use Rattle.std.proofs.Common.{◌≡◌, ◌<◌, ◌*◌, ◌+◌, ℕ, All, List, Option, Some}
+use Rattle.std.proofs.Common.{◌≡◌, ◌<◌, ◌*◌, ◌+◌, ℕ, All, Option, Some}
 use Rattle.gst_caps.specs.declared.caps.Caps.{Caps}
 use Rattle.graph_core.specs.Allowed.{Allows, AreCounted, Falls, all_common}
 use Rattle.graph_core.specs.Elements.{all_made}

@@ -1,4 +1,4 @@
-use Rattle.std.proofs.Common.{◌≡◌, ap, ◌∙◌, arith, min}
+use Rattle.std.proofs.Common.{◌≡◌, ap, ◌∙◌, arith}
 use Rattle.graph_core.specs.Allowed.{checked}
 use Rattle.graph_core.specs.Elements.{all_made}
 use Rattle.graph_pads.specs.Pads.{links_at, makes}

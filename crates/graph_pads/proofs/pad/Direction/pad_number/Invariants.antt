@@ -1,5 +1,5 @@
-use Rattle.std.proofs.Common.{◌≡◌, ◌<◌, ◌≤◌, ℕ, false, bytes_eq}
-use Rattle.graph_pads.specs.Pads.{pad_text, takeable}
+use Rattle.std.proofs.Common.{◌≡◌, ◌<◌, ℕ, false, bytes_eq}
+use Rattle.graph_pads.specs.Pads.{pad_text}
 use Rattle.graph_pads.proofs.pad.Direction.pad_number.Given as goal
 
 -- no pad before has the name
