@@ -8,5 +8,3 @@ pub mod Writers
 pub mod Putting
 pub mod Counting
 pub mod Giving
-pub mod Laws
-pub mod SourceLaws

@@ -1,7 +1,7 @@
 -- Values that are put at places of a list, one after another.
-use Rattle.std.proofs.Common.{◌≡◌, ◌⊎◌, ◌<◌, ◌≤◌, ◌+◌, ℕ, zero, suc, List, [], ◌∷◌, ◌++◌, Option, None, Some, length, set, refl, sym, ap, ◌∙◌, subst, inl, inr, arith, length-set}
+use Rattle.std.proofs.Common.{◌≡◌, ◌⊎◌, ◌<◌, ◌+◌, ℕ, zero, suc, List, [], ◌∷◌, ◌++◌, Option, None, Some, length, set, refl, sym, ap, ◌∙◌, subst, inl, inr, arith, length-set}
 use Rattle.std.specs.Prelude.{slice_get}
-use Rattle.std.proofs.lemmas.Option.{slice_get_past, slice_get_within}
+use Rattle.std.proofs.lemmas.Option.{slice_get_within}
 use Rattle.graph_files.specs.Put.{Among, IsPutAt, PutBack, was_kept, was_put}
 use Rattle.graph_files.specs.Single.{IsAt, IsNone, IsSingle, IsValue}
 use Rattle.graph_files.proofs.Slots.{below_or}
@@ -42,15 +42,6 @@ put_alike {A} Here There old new to back put = record { count = put.count; each 
 
 pub same_some : {A : Type 0} {x y : A} → Some x ≡ Some y → x ≡ y
 same_some h = cc
-
-within_or : (n m : ℕ) → (n < m) ⊎ (m ≤ n)
-within_or n zero = inr (omega arith)
-within_or zero (suc m) = inl (omega arith)
-within_or (suc n) (suc m) = by (within_or n m)
-  where
-    by : (n < m) ⊎ (m ≤ n) → (suc n < suc m) ⊎ (suc m ≤ suc n)
-    by (inl less) = inl (omega (arith, less))
-    by (inr more) = inr (omega (arith, more))
 
 get_last : {A : Type 0} (front : List A) (x : A) → slice_get (front ++ x ∷ []) (length front) ≡ Some x
 get_last [] x = refl
@@ -109,26 +100,6 @@ put_there {A} There n x old new there number put = record { count = put.count; e
     by : (k : ℕ) → IsPutAt (IsValue n (Some x)) old new k → IsPutAt There old new k
     by k (was_put y here is) = was_put y (subst (λ (i : ℕ). There i y) here.0 (subst (λ (z : A). There n z) (same_some here.1) there)) is
     by k (was_kept none same) = was_kept (λ y is. none x (number k y is, refl)) same
-
--- Where one value alone belongs, it stands.
-pub put_at : {A : Type 0} (Here : ℕ → A → Type 0) (old new : List A) (n : ℕ) (x : A) → PutBack Here old new → n < length old → Here n x → ((y : A) → Here n y → y ≡ x) → slice_get new n ≡ Some x
-put_at {A} Here old new n x put within here only = by (put.each n within)
-  where
-    by : IsPutAt Here old new n → slice_get new n ≡ Some x
-    by (was_put y there is) = is ∙ ap Some (only y there)
-    by (was_kept none same) = absurd (none x here)
-
--- Where none belongs, what stood there stands.
-pub kept_at : {A : Type 0} (Here : ℕ → A → Type 0) (old new : List A) (n : ℕ) → PutBack Here old new → ((x : A) → Here n x → ⊥) → slice_get new n ≡ slice_get old n
-kept_at {A} Here old new n put none = by (within_or n (length old))
-  where
-    stays : IsPutAt Here old new n → slice_get new n ≡ slice_get old n
-    stays (was_put y there is) = absurd (none y there)
-    stays (was_kept nothing same) = same
-
-    by : (n < length old) ⊎ (length old ≤ n) → slice_get new n ≡ slice_get old n
-    by (inl within) = stays (put.each n within)
-    by (inr beyond) = slice_get_past new n (let same = put.count in omega (arith, beyond, same)) ∙ sym (slice_get_past old n beyond)
 
 -- what one of a list has
 pub among_joins : {A X : Type 0} (Has : A → ℕ → X → Type 0) (whole front : List A) (one : A) → whole ≡ front ++ one ∷ [] → Joins (Has one) (Among Has front) (Among Has whole)
