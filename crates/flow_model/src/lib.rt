@@ -10,10 +10,10 @@ ghost use Rattle.flow_model.specs.Eval.{Plan, eval};
 ghost use Rattle.flow_model.specs.Account.{GoesForward, Each, Agrees, IsMember};
 
 pub mod fault;
-mod put_out;
+mod outputs;
 
 pub use fault::{ElementFault, StreamKind};
-pub use put_out::{is_end, on_pad, put_out};
+pub use outputs::{is_end, on_pad, put_out};
 
 /// What an element with one sink pad owes for a beginning of what it is given begins what it owes for the whole.
 #[tactic(auto, using(crate::proofs::Sections::owed_for_prefix))]
