@@ -3,6 +3,7 @@ use Rattle.std.proofs.Common.{◌≡◌, ◌<◌, ℕ, zero, suc, Bool, true, fa
 use Rattle.std.specs.Prelude.{nat_lt}
 use Rattle.std.proofs.lemmas.List.{length-map}
 use Rattle.std.proofs.lemmas.Bool.{ltb-true}
+use Rattle.std.proofs.lemmas.Option.{same_Some as some_is}
 use Rattle.flow_model.specs.Item.{Item, Ev, Eos, is_eos}
 use Rattle.flow_model.specs.Call.{Call}
 use Rattle.flow_model.specs.Rule.{Fault}
@@ -97,9 +98,6 @@ all_closed pad (cs ∷ css) e = go (has_eos cs) refl e (all_closed (suc pad) css
 turn_within : (turn n pad : ℕ) → (if nat_lt turn n then Some turn else None) ≡ Some pad → pad < n
 turn_within turn n pad e = go (nat_lt turn n) refl e
   where
-    some_is : (a b : ℕ) → Some a ≡ Some b → a ≡ b
-    some_is a b e = cc
-
     go : (b : Bool) → nat_lt turn n ≡ b → (if b then Some turn else None) ≡ Some pad → pad < n
     go true is e = let less = ltb-true turn n is in let same = some_is turn pad e in omega (arith, less, same)
     go false is e = absurd (cc)

@@ -2,6 +2,7 @@
 use Rattle.std.proofs.Common.{◌≡◌, ◌<◌, ℕ, zero, suc, ◌+◌, ◌^◌, Bool, true, false, if◌then◌else◌, List, [], ◌∷◌, ◌++◌, Option, Some, None, Result, Ok, length, drop, map, set, refl, sym, ap, ◌∙◌, subst, inl, inr, append-nil, append_assoc, arith}
 use Rattle.std.specs.Prelude.{slice_get}
 use Rattle.std.proofs.lemmas.List.{drop_at}
+use Rattle.std.proofs.lemmas.Option.{same_Some as some_is}
 use Rattle.gst_item.proofs.Kept.{latest_push}
 use Rattle.gst_value.specs.Description.{Description}
 use Rattle.gst_value.specs.declared.one.One.{One}
@@ -143,9 +144,6 @@ caps_same low r c xs x caps own agrees v had found is in_x = go low refl
 
     none_some : (d : Description One) → Some d ≡ None → ⊥
     none_some d e = absurd (cc)
-
-    some_is : (a b : Description One) → Some a ≡ Some b → a ≡ b
-    some_is a b e = cc
 
     this : (l : Description One) (y : Item) → caps_in y ≡ Some found → own_refusal r (Some l) (hears c) c.progress.got y ≡ None → l ≡ found
     this l (Buf b) e n = absurd (cc)

@@ -2,6 +2,7 @@
 use Rattle.std.proofs.Common.{◌≡◌, ◌<◌, ◌≤◌, ℕ, zero, suc, ◌+◌, ◌*◌, ◌^◌, true, false, if◌then◌else◌, List, [], ◌∷◌, ◌++◌, Option, Some, None, length, map, set, refl, sym, ap, ◌∙◌, subst, inl, inr, arith}
 use Rattle.std.specs.Prelude.{slice_get}
 use Rattle.std.proofs.Math.Nat.{div-mul-le_self, mul-le-mul_right}
+use Rattle.std.proofs.lemmas.Option.{same_Some as caps_is, same_Some as chan_is}
 use Rattle.gst_caps.specs.Accepts.{accepts}
 use Rattle.gst_value.specs.Description.{Description}
 use Rattle.gst_value.specs.declared.one.One.{One}
@@ -28,12 +29,6 @@ use Rattle.el_mix.proofs.Moving.{length_is}
 
 differ : true ≡ false → ⊥
 differ e = absurd (cc)
-
-caps_is : (a b : Description One) → Some a ≡ Some b → a ≡ b
-caps_is a b e = cc
-
-chan_is : (a b : Channel) → Some a ≡ Some b → a ≡ b
-chan_is a b e = cc
 
 -- what is known of the CAPS of the channel of a place
 or_first : (o p : Option (Description One)) (caps found : Description One) → o ≡ Some found → or_else o p ≡ Some caps → found ≡ caps

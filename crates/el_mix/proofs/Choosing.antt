@@ -1,6 +1,7 @@
 -- From which pad the next item is wanted.
 use Rattle.std.proofs.Common.{◌≡◌, ℕ, zero, suc, ◌+◌, Bool, true, false, if◌then◌else◌, List, [], ◌∷◌, Option, Some, None, map, refl, sym, ap, ◌∙◌, arith}
 use Rattle.std.specs.Option.{IfSome}
+use Rattle.std.proofs.lemmas.Option.{same_Some as some_is}
 use Rattle.gst_value.specs.Description.{Description}
 use Rattle.gst_value.specs.declared.one.One.{One}
 use Rattle.flow_model.specs.Item.{Item}
@@ -54,9 +55,6 @@ below_short k pad [] a e j is = absurd (cc)
 below_short k pad (c ∷ cs) a e zero is = refl
 below_short k pad (c ∷ cs) a e (suc j) is = go (is_short c) refl e (λ e. below_short (suc k) pad cs a.1 e j (omega (arith, is)))
   where
-    some_is : (a b : ℕ) → Some a ≡ Some b → a ≡ b
-    some_is a b e = cc
-
     go : (b : Bool) → is_short c ≡ b → (if b then Some k else lowest is_short (suc k) cs) ≡ Some pad → (lowest is_short (suc k) cs ≡ Some pad → lower_known j cs ≡ true)
         → (if known c then lower_known j cs else false) ≡ true
     go true s e later = absurd (let same = some_is k pad e in omega (arith, is, same))
@@ -77,9 +75,6 @@ order_kept m pad e took put h = go (lowest is_short 0 m.channels.items) refl e
   where
     all : AllServed m.channels.items
     all = served m.at.next m.channels.items (reopenings (section_of took) took) h.holds.each.settled_is h.holds.waits
-
-    some_is : (a b : ℕ) → Some a ≡ Some b → a ≡ b
-    some_is a b e = cc
 
     go : (o : Option ℕ) → lowest is_short 0 m.channels.items ≡ o → else_lowest o m.channels.items ≡ Some pad → lower_known pad m.channels.items ≡ true
     go (Some k) o e = below_short 0 pad m.channels.items all (o ∙ e) pad (omega arith)

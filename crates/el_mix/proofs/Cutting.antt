@@ -2,6 +2,7 @@
 use Rattle.std.proofs.Common.{◌≡◌, ◌⊎◌, ◌<◌, ◌≤◌, ℕ, ◌+◌, ◌*◌, Bool, true, false, if◌then◌else◌, eqb, ltb, List, [], ◌∷◌, Option, Some, None, length, drop, refl, ap, ◌∙◌, subst, inl, inr, length-append, length-drop, arith}
 use Rattle.std.proofs.lemmas.Bool.{eq-eqb, ne_eqb, cases_lt, lt-ltb, le-ltb}
 use Rattle.std.proofs.Math.Nat.{add-mul, le-div_iff_mul-le, div-le_of_le-mul, mul_comm}
+use Rattle.std.proofs.lemmas.Option.{same_Some as some_is}
 use Rattle.flow_model.specs.Item.{Item, is_eos}
 use Rattle.flow_model.specs.Looking.{bytes_of}
 use Rattle.el_mix.specs.Mono.{Mono, width}
@@ -49,9 +50,6 @@ least_before (Some k) m n h = go (cases_lt k m) h
     go : ((k < m) ⊎ (m ≤ k)) → NotBelow (if ltb k m then Some k else Some m) n → (n ≤ k) × (n ≤ m)
     go (inl l) h = let h' : n ≤ k = rw (lt-ltb k m l) at h in (h', omega (arith, h', l))
     go (inr l) h = let h' : n ≤ m = rw (le-ltb k m l) at h in (omega (arith, h', l), h')
-
-some_is : (a b : ℕ) → Some a ≡ Some b → a ≡ b
-some_is a b e = cc
 
 least_from : (o : Option ℕ) (m n : ℕ) → least_of o m ≡ Some n → (o ≡ Some n) ⊎ (m ≡ n)
 least_from None m n e = inr (some_is m n e)

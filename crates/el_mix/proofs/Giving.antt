@@ -2,7 +2,7 @@
 use Rattle.std.proofs.Common.{◌≡◌, ◌≤◌, ℕ, zero, suc, false, List, [], ◌∷◌, ◌++◌, Some, length, map, set, get_or, sym, ap, ◌∙◌, subst}
 use Rattle.std.specs.Prelude.{slice_get}
 use Rattle.std.proofs.lemmas.List.{length-map, length-set, map-set, set-get_or, set-set, get_or-set_same}
-use Rattle.std.proofs.lemmas.Option.{get_or_from_slice_get}
+use Rattle.std.proofs.lemmas.Option.{get_or_from_slice_get, same_Some as some_is}
 use Rattle.gst_item.specs.declared.out.Out.{Out}
 use Rattle.flow_model.specs.Item.{Item, body_of}
 use Rattle.el_mix.specs.declared.channel.Channel.{Channel}
@@ -16,9 +16,6 @@ use Rattle.el_mix.specs.Relation.{MixPuts}
 use Rattle.el_mix.proofs.Calling.{place_below}
 use Rattle.el_mix.proofs.Turning.{with_line}
 use Rattle.el_mix.proofs.Lending.{Channels, lent, lent_is, as_is}
-
-some_is : (a b : Channel) → Some a ≡ Some b → a ≡ b
-some_is a b e = cc
 
 -- the channel of a place
 pub set_back : (cs : List Channel) (k : ℕ) (c d : Channel) → slice_get cs k ≡ Some c → d ≡ c → set cs k d ≡ cs

@@ -1,6 +1,7 @@
 -- What refuses an item, by what a channel knows.
 use Rattle.std.proofs.Common.{◌≡◌, ◌<◌, ℕ, zero, suc, Bool, true, false, if◌then◌else◌, List, [], ◌∷◌, ◌++◌, Option, Some, None, length, map, refl, sym, ap, ◌∙◌, subst, append-nil, append_assoc, arith}
 use Rattle.std.specs.Prelude.{slice_get}
+use Rattle.std.proofs.lemmas.Option.{same_Some as some_is}
 use Rattle.gst_caps.specs.Accepts.{accepts}
 use Rattle.gst_value.specs.Description.{Description}
 use Rattle.gst_value.specs.declared.one.One.{One}
@@ -92,9 +93,6 @@ first_agrees r lowest caps h [] e is = absurd (cc)
 first_agrees r lowest caps h (y ∷ ys) e is =
     go y (neither (refusal r (Some lowest) h y) (first_refusal r (Some lowest) (h ++ y ∷ []) ys) e) is (λ e is. first_agrees r lowest caps (h ++ y ∷ []) ys e is)
   where
-    some_is : (a b : Description One) → Some a ≡ Some b → a ≡ b
-    some_is a b e = cc
-
     go : (z : Item) → (refusal r (Some lowest) h z ≡ None) × (first_refusal r (Some lowest) (h ++ y ∷ []) ys ≡ None) → or_else (caps_in z) (pad_caps ys) ≡ Some caps
         → (first_refusal r (Some lowest) (h ++ y ∷ []) ys ≡ None → pad_caps ys ≡ Some caps → (lowest ≡ caps) × (accepts mono_template caps ≡ true))
         → (lowest ≡ caps) × (accepts mono_template caps ≡ true)
@@ -190,9 +188,6 @@ agreed_at low zero (d ∷ cs) (xs ∷ xss) c at k a =
       subst (λ e. Counts e xs) same k.0,
       λ b. subst (λ (o : Option (Description One)). first_refusal 0 (or_else low o) [] xs ≡ None) (sym k.0.caps) (a.0 (subst (λ (e : Channel). e.progress.begun ≡ true) (sym same) b)),
     )
-  where
-    some_is : (a b : Channel) → Some a ≡ Some b → a ≡ b
-    some_is a b e = cc
 agreed_at low (suc i) (d ∷ cs) (xs ∷ xss) c at k a =
     let rest = agreed_at (or_else low (pad_caps xs)) i cs xss c at k.1 a.1 in
     (rest.0, λ b. ap (λ o. first_refusal 0 o [] (item_at i xss)) (ap (λ o. or_else low (or_else o (lowest_to i (map hears cs)))) k.0.caps ∙ or_or low (pad_caps xs) (lowest_to i (map hears cs))) ∙ rest.1 b)
@@ -200,9 +195,6 @@ agreed_at low (suc i) (d ∷ cs) (xs ∷ xss) c at k a =
 pub own_below : (i : ℕ) (cs : List Channel) (c : Channel) → slice_get cs i ≡ Some c → lowest_to i (map hears cs) ≡ None → hears c ≡ None
 own_below i [] c at e = absurd (cc)
 own_below zero (d ∷ cs) c at e = ap hears (sym (some_is d c at)) ∙ e
-  where
-    some_is : (a b : Channel) → Some a ≡ Some b → a ≡ b
-    some_is a b e = cc
 own_below (suc i) (d ∷ cs) c at e = own_below i cs c at (neither (hears d) (lowest_to i (map hears cs)) e).1
 
 -- Where all have begun, all counts.

@@ -1,6 +1,7 @@
 -- What channels know of what their pads were given.
 use Rattle.std.proofs.Common.{◌≡◌, ℕ, zero, suc, Bool, true, false, if◌then◌else◌, List, [], ◌∷◌, ◌++◌, Option, Some, None, length, map, set, replicate, refl, sym, ap, ◌∙◌, subst, append-nil}
 use Rattle.std.specs.Prelude.{slice_get}
+use Rattle.std.proofs.lemmas.Option.{same_Some as some_is}
 use Rattle.gst_item.proofs.Kept.{latest_push}
 use Rattle.gst_value.specs.Description.{Description}
 use Rattle.gst_value.specs.declared.one.One.{One}
@@ -113,9 +114,6 @@ knows_flushed c calls number k =
     }
 
 -- all of them
-some_is : (a b : Channel) → Some a ≡ Some b → a ≡ b
-some_is a b e = cc
-
 pub know_push : (i : ℕ) (calls : List Call) (cs : List Channel) (took : List (List Call)) (c d : Channel) → slice_get cs i ≡ Some c
     → (Knows c (calls_at i took) → Knows d (calls_at i took ++ calls)) → KnowEach cs took → KnowEach (set cs i d) (push_calls i calls took)
 know_push i calls [] took c d at more k = absurd (cc)

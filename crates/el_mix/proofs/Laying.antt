@@ -1,6 +1,7 @@
 -- An item behind EOS, an event that is laid, a flush, and the beginning.
 use Rattle.std.proofs.Common.{◌≡◌, ◌<◌, ℕ, zero, suc, Bool, true, false, if◌then◌else◌, List, [], ◌∷◌, Some, Result, Ok, length, map, set, replicate, refl, sym, ap, ◌∙◌, subst, inr, append-nil, arith}
 use Rattle.std.specs.Prelude.{slice_get}
+use Rattle.std.proofs.lemmas.Option.{same_Some as some_is}
 use Rattle.gst_item.specs.declared.out.Out.{Out}
 use Rattle.gst_item.specs.declared.flow.Flow.TheVariants.{Ok as Taken, Eos as BehindEos}
 use Rattle.flow_model.specs.Item.{Item, Event, Ev, FlushStop, is_flush_stop}
@@ -34,9 +35,6 @@ know_behind : (i : ℕ) (x : Item) (cs : List Channel) (took : List (List Call))
 know_behind i x [] took c at plain over k = absurd (cc)
 know_behind i x (b ∷ cs) [] c at plain over k = absurd k
 know_behind zero x (b ∷ cs) (calls ∷ took) c at plain over k = (knows_kept b calls x plain (ap (λ (z : Channel). z.progress.ended) (some_is b c at) ∙ over) k.0, k.1)
-  where
-    some_is : (a b : Channel) → Some a ≡ Some b → a ≡ b
-    some_is a b e = cc
 know_behind (suc i) x (b ∷ cs) (calls ∷ took) c at plain over k = (k.0, know_behind i x cs took c at plain over k.1)
 
 pub puts_behind : (m : Mix) (pad : ℕ) (x : Item) (out : List Out) (c : Channel) → slice_get m.channels.items pad ≡ Some c → c.progress.ended ≡ true → is_flush_stop x ≡ false

@@ -2,6 +2,7 @@
 use Rattle.std.proofs.Common.{◌≡◌, ◌<◌, ◌≤◌, ℕ, zero, suc, ◌+◌, ◌-◌, ◌*◌, Bool, true, false, if◌then◌else◌, List, [], ◌∷◌, ◌++◌, Option, Some, None, length, take, drop, get_or, refl, sym, ap, ◌∙◌, subst, append-nil, append_assoc, add-one, arith}
 use Rattle.std.proofs.lemmas.List.{drop_more, take_more, drop_all}
 use Rattle.std.proofs.lemmas.List.Concat.{flat_map-append}
+use Rattle.std.proofs.lemmas.Option.{same_Some as some_is}
 use Rattle.audio_info.specs.declared.sample.Sample.{Sample}
 use Rattle.audio_info.specs.Packing.{sample_width}
 use Rattle.el_mix.specs.declared.channel.Channel.{Channel}
@@ -22,9 +23,6 @@ take_item cs i c lt is = take_more cs i c lt ∙ ap (λ z. take i cs ++ z ∷ []
 cut_some : (o : Option ℕ) (c : Channel) (cs : List Channel) (b : List ℕ) → first_of c.waiting.ahead ≡ Some b → next_cut o (lines (c ∷ cs)) ≡ next_cut (least_of o (length b)) (lines cs)
 cut_some o c cs b e = go c.waiting.ahead e
   where
-    some_is : (x y : List ℕ) → Some x ≡ Some y → x ≡ y
-    some_is x y e = cc
-
     go : (bs : List (List ℕ)) → first_of bs ≡ Some b → next_cut o ((c.progress.ended, bs) ∷ lines cs) ≡ next_cut (least_of o (length b)) (lines cs)
     go [] e = absurd (cc)
     go (x ∷ bs) e = ap (λ (z : List ℕ). next_cut (least_of o (length z)) (lines cs)) (some_is x b e)

@@ -3,6 +3,7 @@ use Rattle.std.proofs.Common.{◌≡◌, ◌<◌, ◌≤◌, ℕ, suc, ◌-◌, 
 use Rattle.std.specs.Option.{option_map}
 use Rattle.std.proofs.lemmas.List.{drop_all}
 use Rattle.std.proofs.Math.Nat.{zero-div}
+use Rattle.std.proofs.lemmas.Option.{same_Some as caps_is, same_Some as mono_is}
 use Rattle.gst_time.specs.declared.time.TheConstants.{LIMIT}
 use Rattle.gst_value.specs.Description.{Description}
 use Rattle.gst_value.specs.declared.one.One.{One}
@@ -32,12 +33,6 @@ use Rattle.el_mix.proofs.Coming.{time_of_none}
 use Rattle.el_mix.proofs.Together.{begun_of_started}
 use Rattle.el_mix.proofs.Owed.{IsOpen, is_open}
 use Rattle.el_mix.proofs.Streaming.{free_append, ended_append}
-
-caps_is : (a b : Description One) → Some a ≡ Some b → a ≡ b
-caps_is a b e = cc
-
-mono_is : (a b : Mono) → Some a ≡ Some b → a ≡ b
-mono_is a b e = cc
 
 pub none_some : {A : Type 0} (a : A) → None ≡ Some a → ⊥
 none_some a e = absurd (cc)

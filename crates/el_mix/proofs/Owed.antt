@@ -1,6 +1,7 @@
 -- What is owed with one item more.
 use Rattle.std.proofs.Common.{◌≡◌, ◌⊎◌, ◌<◌, ℕ, zero, suc, ◌-◌, Bool, true, false, if◌then◌else◌, List, [], ◌∷◌, ◌++◌, Option, Some, None, length, refl, sym, ap, ◌∙◌, subst, inl, inr, append-nil, append_assoc, arith}
 use Rattle.std.specs.Option.{option_map}
+use Rattle.std.proofs.lemmas.Option.{same_Some as some_is}
 use Rattle.gst_value.specs.Description.{Description}
 use Rattle.gst_value.specs.declared.one.One.{One}
 use Rattle.flow_model.specs.Item.{Item, Ev, StreamStart, NewSegment, is_eos}
@@ -79,9 +80,6 @@ pub record IsOpen (mono : Mono) (xss : List (List Item)) : Type 0 where
 pub is_open : (mono : Mono) (xss : List (List Item)) → opened xss ≡ Some mono → IsOpen mono xss
 is_open mono xss e = go (all_have is_start xss) refl (lowest_caps xss) refl e
   where
-    some_is : (a b : Mono) → Some a ≡ Some b → a ≡ b
-    some_is a b e = cc
-
     go : (b : Bool) → all_have is_start xss ≡ b → (o : Option (Description One)) → lowest_caps xss ≡ o → (if b then option_map mono_of o else None) ≡ Some mono → IsOpen mono xss
     go false s o l e = absurd (cc)
     go true s None l e = absurd (cc)

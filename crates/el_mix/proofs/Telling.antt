@@ -2,6 +2,7 @@
 use Rattle.std.proofs.Common.{◌≡◌, ◌⊎◌, ◌≤◌, ℕ, zero, suc, Bool, true, false, if◌then◌else◌, List, [], ◌∷◌, ◌++◌, Option, Some, None, length, take, refl, sym, ap, ◌∙◌, inl, inr, arith}
 use Rattle.std.specs.Prelude.{option_and_then}
 use Rattle.std.proofs.lemmas.List.{take-append-le}
+use Rattle.std.proofs.lemmas.Option.{same_Some as mono_is}
 use Rattle.gst_caps.specs.Accepts.{accepts}
 use Rattle.gst_value.specs.Description.{Description}
 use Rattle.gst_value.specs.declared.one.One.{One}
@@ -51,9 +52,6 @@ pub buffer_told : (reached got n : ℕ) (o : Option (Description One)) (info : I
     → buffer_refusal reached o got n ≡ bytes_refusal reached (mono_by info) got n
 buffer_told reached got n None info h e = absurd (cc)
 buffer_told reached got n (Some caps) info h e = ap (λ (m : Mono). bytes_refusal reached m got n) (mono_is (mono_of caps) (mono_by info) (sym (e ∙ heard_accepted caps h)))
-  where
-    mono_is : (a b : Mono) → Some a ≡ Some b → a ≡ b
-    mono_is a b e = cc
 
 pub buffer_unheard : (reached got n : ℕ) (o : Option (Description One)) → IsHeard o → None ≡ option_and_then heard o → buffer_refusal reached o got n ≡ Some (NotNegotiated None mono_template)
 buffer_unheard reached got n None h e = refl

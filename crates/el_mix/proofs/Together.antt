@@ -1,6 +1,7 @@
 -- The channels of all pads, with one item more on one of them.
 use Rattle.std.proofs.Common.{◌≡◌, ◌<◌, ℕ, zero, suc, ◌+◌, ◌^◌, Bool, true, false, if◌then◌else◌, List, [], ◌∷◌, ◌++◌, Option, Some, None, length, map, set, refl, sym, ap, ◌∙◌, subst, inl, inr}
 use Rattle.std.specs.Prelude.{slice_get}
+use Rattle.std.proofs.lemmas.Option.{same_Some as some_is}
 use Rattle.gst_value.specs.Description.{Description}
 use Rattle.gst_value.specs.declared.one.One.{One}
 use Rattle.flow_model.specs.Item.{Item, is_eos, body_of}
@@ -18,9 +19,6 @@ use Rattle.el_mix.proofs.Growing.{caps_push, or_or}
 use Rattle.el_mix.proofs.Refusing.{push_item, item_at}
 use Rattle.el_mix.proofs.Judged.{Follows, AllBegun, neither}
 use Rattle.el_mix.proofs.Coming.{took_counts, took_settled}
-
-some_is : (a b : Channel) → Some a ≡ Some b → a ≡ b
-some_is a b e = cc
 
 differ : true ≡ false → ⊥
 differ e = absurd (cc)

@@ -3,6 +3,7 @@ use Rattle.std.proofs.Common.{◌≡◌, ◌<◌, ◌≤◌, ℕ, suc, ◌+◌, 
 use Rattle.std.proofs.lemmas.List.{take_all, drop_all}
 use Rattle.std.proofs.lemmas.List.Edits.{map_over_more}
 use Rattle.std.proofs.Math.Nat.{mul-le-mul, mul-le-mul_right, div-mul-le_self}
+use Rattle.std.proofs.lemmas.Option.{same_Some as some_is}
 use Rattle.audio_info.specs.declared.sample.Sample.{Sample}
 use Rattle.audio_info.specs.declared.sample.Sample.TheVariants.{S8, U8, S16LE, S16BE, S24LE, S32LE, MuLaw, ALaw}
 use Rattle.audio_info.specs.Packing.{sample_width}
@@ -31,14 +32,8 @@ cut_more cs i c o least b lt is e l before = next_some cs i c o b lt is (sym e) 
 
 pub cut_small : (o least : Option ℕ) (k : ℕ) → ((n : ℕ) → o ≡ Some n → n < 2 ^ 31) → k < 2 ^ 31 → least ≡ least_of o k → (n : ℕ) → least ≡ Some n → n < 2 ^ 31
 cut_small None least k f small l n e = let same : k ≡ n = some_is k n (sym l ∙ e) in omega (arith, same, small)
-  where
-    some_is : (a b : ℕ) → Some a ≡ Some b → a ≡ b
-    some_is a b e = cc
 cut_small (Some m) least k f small l n e = go (ltb m k) (sym l ∙ e)
   where
-    some_is : (a b : ℕ) → Some a ≡ Some b → a ≡ b
-    some_is a b e = cc
-
     go : (t : Bool) → (if t then Some m else Some k) ≡ Some n → n < 2 ^ 31
     go true e = let same = some_is m n e in omega (arith, same, f m refl)
     go false e = let same = some_is k n e in omega (arith, same, small)
@@ -57,9 +52,6 @@ sampled format [] left into new from width e is m = absurd (cc)
 sampled format (b ∷ bs) left into new from width e is m =
     let count : from + width - from ≡ sample_width format = omega (arith, is) in
     m ∙ ap (λ k. into ++ take k (drop from left)) count ∙ ap (λ zs. into ++ take (sample_width format) (drop from zs)) (some_is left b e)
-  where
-    some_is : (x y : List ℕ) → Some x ≡ Some y → x ≡ y
-    some_is x y e = cc
 
 pub silent : (format : Sample) (ahead : List (List ℕ)) (into new : List ℕ) (from : ℕ) → None ≡ first_of ahead → new ≡ into ++ replicate (sample_width format) (silence format)
     → new ≡ into ++ sample format ahead from

@@ -1,6 +1,7 @@
 -- Which pad is wanted, and how many there are; where none is wanted, EOS came on each.
 use Rattle.std.proofs.Common.{◌≡◌, ◌⊎◌, ◌<◌, ℕ, zero, suc, ◌+◌, ◌*◌, ◌/◌, Bool, true, false, if◌then◌else◌, ltb, List, [], ◌∷◌, length, map, Option, Some, None, refl, sym, ap, ◌∙◌, subst, inl, inr, arith}
 use Rattle.std.specs.Option.{option_map}
+use Rattle.std.proofs.lemmas.Option.{same_Some as some_is}
 use Rattle.gst_value.specs.Description.{Description}
 use Rattle.gst_value.specs.declared.one.One.{One}
 use Rattle.flow_model.specs.Item.{Item}
@@ -191,9 +192,6 @@ lowest_within : (test : Channel → Bool) (k pad : ℕ) (cs : List Channel) → 
 lowest_within test k pad [] e = absurd (cc)
 lowest_within test k pad (c ∷ cs) e = go (test c) e (lowest_within test (suc k) pad cs)
   where
-    some_is : (a b : ℕ) → Some a ≡ Some b → a ≡ b
-    some_is a b e = cc
-
     go : (b : Bool) → (if b then Some k else lowest test (suc k) cs) ≡ Some pad → (lowest test (suc k) cs ≡ Some pad → pad < suc k + length cs) → pad < k + suc (length cs)
     go true e rest = let same = some_is k pad e in omega (arith, same)
     go false e rest = let later = rest e in omega (arith, later)

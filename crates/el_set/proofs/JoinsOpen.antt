@@ -1,5 +1,6 @@
 -- The sink pad that an element with several sink pads wants had no EOS.
 use Rattle.std.proofs.Common.{◌≡◌, ◌+◌, ℕ, suc, Bool, true, false, if◌then◌else◌, List, [], ◌∷◌, Option, None, Some, refl, sym, ◌∙◌, subst, arith}
+use Rattle.std.proofs.lemmas.Option.{same_Some as some_is}
 use Rattle.flow_model.specs.Item.{Item, is_eos, is_segment}
 use Rattle.flow_model.specs.Call.{Call}
 use Rattle.flow_model.specs.Feeding.{has_eos}
@@ -22,9 +23,6 @@ use Rattle.el_set.specs.Joins.{JoinStands, join_wanted}
 -- the sink pad of a number, counted from another on, had no EOS
 abbrev IsOpenFrom : ℕ → ℕ → List (List Call) → Type 0
 IsOpenFrom from pad took = (k : ℕ) × (pad ≡ from + k) × (has_eos (calls_at k took) ≡ false)
-
-some_is : (a b : ℕ) → Some a ≡ Some b → a ≡ b
-some_is a b e = cc
 
 open_at : (from pad : ℕ) (took : List (List Call)) → first_open from took ≡ Some pad → IsOpenFrom from pad took
 open_at from pad [] e = absurd (cc)

@@ -14,6 +14,7 @@ use Rattle.el_settings.specs.Rows.{domain_named, find_row, formats, InDomain}
 use Rattle.gst_caps.specs.declared.caps.Caps.{Caps}
 use Rattle.audio_info.specs.declared.sample.Sample.{Sample}
 use Rattle.caps_text.specs.Grammar.{IsCapsText}
+use Rattle.gst_value.proofs.Basics.{some_same}
 
 pub or_else-or_else : {V : Type 0} → (a b c : Option V) → or_else (or_else a b) c ≡ or_else a (or_else b c)
 or_else-or_else None b c = refl
@@ -59,11 +60,8 @@ taken_own : (kind : Kind) (name : List ℕ) (domain : Domain) (prop : Prop) → 
 taken_own kind name domain prop row own true same text e =
     let words : prop.name ≡ name = (bytes_eq-Decides prop.name name).0 same in
     let rows : Some own.0 ≡ Some domain = sym own.1 ∙ ap (domain_named kind) words ∙ row in
-    moved own.0 domain prop.value text (inner rows) (inner e) own.2
+    moved own.0 domain prop.value text (inner rows) (some_same e) own.2
   where
-    inner : {A : Type 0} {a b : A} → Some a ≡ Some b → a ≡ b
-    inner e = cc
-
     moved : (d f : Domain) (t u : List ℕ) → d ≡ f → t ≡ u → InDomain d t → InDomain f u
     moved d f t u e g s = rw (← e, ← g) s
 taken_own kind name domain prop row own false same text e = absurd (cc)

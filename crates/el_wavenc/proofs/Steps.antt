@@ -21,6 +21,7 @@ use Rattle.el_wavenc.specs.Templates.{sink_template, wav_caps}
 use Rattle.el_wavenc.specs.WavFile.{Stream, stream_of, frame_width, head_length, most_data, bytes_at, head_items}
 use Rattle.el_wavenc.specs.Encodes.{Progress, progress, opening, ending, file_end, buffer_answer, announcement, settled, caps_answer, encode_answer, stream_behind, progress_behind}
 use Rattle.audio_info.proofs.Same.{caps_decide}
+use Rattle.gst_value.proofs.Basics.{some_same}
 
 -- ---- what one more item changes
 
@@ -180,9 +181,6 @@ stream_stays p known is caps first e same = go (p.announced || p.opened) e
         none : None ≡ Some first → ⊥
         none g = absurd (cc)
     by_known (Some c) h f = ap (λ d. Some (stream_of d)) (sym same ∙ sym (some_same (sym (ap (option_map (λ (s : Stream). s.caps)) h) ∙ f))) ∙ sym h
-      where
-        some_same : Some c ≡ Some first → c ≡ first
-        some_same g = cc
 
     go : (b : Bool) → (if b then option_map (λ (s : Stream). s.caps) p.stream else None) ≡ Some first → Some (stream_of caps) ≡ p.stream
     go true f = by_known known is f

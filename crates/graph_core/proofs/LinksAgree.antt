@@ -1,5 +1,6 @@
 -- Elements have one list of links, or one fault of them.
 use Rattle.std.proofs.Common.{◌≡◌, ◌⊎◌, ℕ, List, [], Option, None, Some, Result, Ok, Err, MatchOption, position, slice_get, refl, sym, ap, ◌∙◌, subst, inl, inr}
+use Rattle.std.proofs.lemmas.Option.{same_Some as rets}
 use Rattle.pad_core.specs.declared.linking.LinkReturn.{LinkReturn}
 use Rattle.pad_core.specs.declared.linking.LinkReturn.TheVariants.{WasLinked, WrongDirection, NoFormat}
 use Rattle.graph_core.specs.Asked.{End, own, named}
@@ -96,9 +97,6 @@ module _ (made : List Made) (ls : List PadLink) (l r : Pad) where
   told_link fault (IsUnjoined.refused ret judged) = inr (inl (ret, judged, refl))
   told_link fault (IsUnjoined.loops judged leads) = inr (inr (judged, refl))
   told_link fault IsUnjoined.memory = inl refl
-
-  rets : (a b : LinkReturn) → Some a ≡ Some b → a ≡ b
-  rets a b e = cc
 
   told_links : (f g : BuildFault) → ToldLink f → ToldLink g → AreSame f g
   told_links f g (inl free) k = inr (inl free)

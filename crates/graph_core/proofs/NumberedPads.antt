@@ -16,7 +16,7 @@ use Rattle.graph_pads.specs.declared.pad.PadLink.{PadLink}
 use Rattle.graph_pads.specs.declared.pad.PadPlace.{PadPlace}
 use Rattle.graph_core.specs.GraphPlan.{pad_id, owner_of, spans_from, sink_at, sink_count, line_plan, IsIn, GoesAlong, before_it}
 use Rattle.graph_core.proofs.LinkedOnce.{place_of}
-use Rattle.gst_value.proofs.Basics.{no_true}
+use Rattle.gst_value.proofs.Basics.{no_true, none_some, some_same}
 
 -- the pad of a number belongs to its element
 pub owner_at : (place : PadPlace) → place.pad < 64 → owner_of (pad_id place) ≡ place.element
@@ -36,14 +36,8 @@ same_pad one other few few' same = sym (pad_at_number one few) ∙ ap (λ (d : �
 -- what a linked sink pad is linked to is one of the links
 pub found_in : (links : List PadLink) (sink source : PadPlace) → source_before links sink ≡ Some source → (link : PadLink) × IsIn link links × (link.source ≡ source) × (is_same link.sink sink ≡ true)
 found_in [] sink source e = absurd (none_some e)
-  where
-    none_some : {A : Type 0} {a : A} → None ≡ Some a → ⊥
-    none_some e = cc
 found_in (l ∷ links) sink source e = go (is_same l.sink sink) refl e (found_in links sink source)
   where
-    some_same : {A : Type 0} {a b : A} → Some a ≡ Some b → a ≡ b
-    some_same e = cc
-
     go : (b : Bool) → is_same l.sink sink ≡ b → (if b then Some l.source else source_before links sink) ≡ Some source
         → (source_before links sink ≡ Some source → (link : PadLink) × IsIn link links × (link.source ≡ source) × (is_same link.sink sink ≡ true))
         → (link : PadLink) × IsIn link (l ∷ links) × (link.source ≡ source) × (is_same link.sink sink ≡ true)

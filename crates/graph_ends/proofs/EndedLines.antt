@@ -40,6 +40,7 @@ use Rattle.graph_ends.specs.Frames.{IsFrameOf, IsHeadFrame, IsWireOf, RoomBy, go
 use Rattle.graph_ends.specs.Runs.{RunsAt}
 use Rattle.graph_ends.proofs.EndedBags.{among_back, among_front, bag_is, bag_of, fed_number, got_within}
 use Rattle.graph_ends.proofs.EndedGraphs.{rank, rank_rises, reached_later}
+use Rattle.gst_value.proofs.Basics.{none_some}
 
 -- a queue holds an item
 room_some : (s : QueueSettings) → 1 ≤ room_of s
@@ -70,14 +71,8 @@ lane_some false found n is = absurd (cc)
 -- a lane of a pad has room, and leads to the element that the pad is linked to
 lane_holds : (made : List Made) (links : List PadLink) (link : BagLink) (found : Option Room) (room : Room) → RoomBy made links link found → found ≡ Some room
     → 1 ≤ room.limits.items
-lane_holds made links Nothing found room none is = absurd (no (sym none ∙ is))
-  where
-    no : None ≡ Some room → ⊥
-    no e = cc
-lane_holds made links (Element d j) found room none is = absurd (no (sym none ∙ is))
-  where
-    no : None ≡ Some room → ⊥
-    no e = cc
+lane_holds made links Nothing found room none is = absurd (none_some (sym none ∙ is))
+lane_holds made links (Element d j) found room none is = absurd (none_some (sym none ∙ is))
 lane_holds made links (OverLane d j) found room by is =
     subst (λ (r : Room). 1 ≤ r.limits.items) (same_Some _ _ (sym by.1 ∙ is)) (lane_some _ (slice_get made (owner_of (pad_id (place_at d j)))) by.0.limits.items by.3)
 

@@ -31,6 +31,7 @@ use Rattle.graph_bags.specs.declared.bag.Bag.{Bag}
 use Rattle.graph_bags.proofs.Apart.{bags_are_closed, heads_have_bags}
 use Rattle.graph_ends.proofs.EndedBags.{bag_is, head_among}
 use Rattle.graph_ends.proofs.EndedGraphs.{inlets_head, source_head}
+use Rattle.gst_value.proofs.Basics.{some_same}
 
 -- what is found among some links is found among one more
 behind_old : (links : List PadLink) (more : PadLink) (pad found : PadPlace) → sink_behind links pad ≡ Some found
@@ -134,9 +135,6 @@ module _ (tree : Tree) (graph : Graph) (is : IsGraph tree graph) (sound : IsSoun
       → 0 < sink_count (slice_get (made_in graph) n)
   live_sinks n (Live.source x one at source) m here other = absurd (both (sym source ∙ ap (λ (found : Made). is_source found.settings) same ∙ other))
     where
-      some_same : {a b : Made} → Some a ≡ Some b → a ≡ b
-      some_same e = cc
-
       same : one ≡ m
       same = some_same (sym at ∙ here)
 

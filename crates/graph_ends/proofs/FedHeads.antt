@@ -23,6 +23,7 @@ use Rattle.net_task.specs.declared.task.Task.{Task}
 use Rattle.net_turns.specs.Net.{IsFed}
 use Rattle.graph_ends.specs.Frames.{IsHeadFrame}
 use Rattle.graph_ends.specs.Runs.{RunsAt}
+use Rattle.gst_value.proofs.Basics.{some_same}
 
 -- where one stands at a place of a list, one stands at that of another that is as long
 pub also_at : {A B : Type 0} (xs : List A) (ys : List B) (k : ℕ) (y : B) → length ys ≡ length xs → slice_get ys k ≡ Some y
@@ -38,11 +39,8 @@ also_at {A} xs ys k y size at = go (slice_get_cases xs k).1
 pub all_at : {A : Type 0} (P : A → Type 0) (xs : List A) → All P xs → (k : ℕ) (x : A) → slice_get xs k ≡ Some x → P x
 all_at {A} P xs all k x at = go (slice_get_cases xs k).1
   where
-    same : {a b : A} → Some a ≡ Some b → a ≡ b
-    same e = cc
-
     go : ((y : A) × (k < length xs) × (slice_get xs k ≡ Some y) × (get_or xs k y ≡ y)) ⊎ ((length xs ≤ k) × (slice_get xs k ≡ None)) → P x
-    go (inl t) = subst P (t.3 ∙ same (sym t.2 ∙ at)) (all k t.0 t.1)
+    go (inl t) = subst P (t.3 ∙ some_same (sym t.2 ∙ at)) (all k t.0 t.1)
     go (inr f) = absurd (let within = slice_get_within xs k x at in omega (arith, within, f.0))
 
 head_by : (made : List Made) (links : List PadLink) (number rows : ℕ) (head : BagHead) → IsHead made head → IsHeadFrame made links head (by_inlets number rows)

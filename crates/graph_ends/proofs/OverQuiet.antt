@@ -34,6 +34,7 @@ use Rattle.graph_moment.proofs.Sources.{linked_there}
 use Rattle.graph_moment.proofs.Wholes.{pads_have_numbers}
 use Rattle.graph_bags.specs.Links.{has}
 use Rattle.graph_ends.proofs.EndedGraphs.{gives_none, not_so, rank, rank_rises}
+use Rattle.gst_value.proofs.Basics.{some_same}
 
 -- a moment with this plan
 abbrev at_plan : Moment → Plan → Moment
@@ -73,12 +74,9 @@ pub way_before : (links : List PadLink) (sink source : PadPlace) → source_befo
 way_before [] sink source at = absurd (cc)
 way_before (l ∷ ls) sink source at = go (is_same l.sink sink) refl at (way_before ls sink source)
   where
-    same : {a b : PadPlace} → Some a ≡ Some b → a ≡ b
-    same e = cc
-
     go : (b : Bool) → is_same l.sink sink ≡ b → (if b then Some l.source else source_before ls sink) ≡ Some source
         → (source_before ls sink ≡ Some source → IsLink source.element sink.element (ways ls)) → IsLink source.element sink.element (ways (l ∷ ls))
-    go true is at later = inl (ap (λ (p : PadPlace). p.element) (same at), same_element l.sink sink is)
+    go true is at later = inl (ap (λ (p : PadPlace). p.element) (some_same at), same_element l.sink sink is)
     go false is at later = inr (later at)
 
 module _ (graph : Graph) (sound : IsSound graph) where

@@ -13,6 +13,7 @@ use Rattle.inlet_row.specs.declared.feeding.Feeding.TheVariants.{Lane as OfLane}
 use Rattle.inlet_row.specs.declared.row.InletRow.{InletRow}
 use Rattle.task_parts.specs.Ends.{received_among}
 use Rattle.net_turns.specs.Alone.{HoldsAlone}
+use Rattle.gst_value.proofs.Basics.{some_same as same_some}
 
 -- the lane of another number answers nothing
 other_none : {I L O : Type 0} (i : inlets.Ghosts I L O) (lane number : ℕ) (inlet : I) → number ≢ lane → received_in i lane (OfLane number inlet) ≡ None
@@ -56,9 +57,6 @@ module _ {I L O : Type 0} (i : inlets.Ghosts I L O) (lanes : ℕ → Option ℕ)
       (λ k r here. let later : start + suc k ≡ start + 1 + k = omega arith in subst (λ (n : ℕ). HoldsAlone (lanes n) r) later (each (suc k) r here))
       (λ k. other (start + 1 + k) (λ same. omega (arith, same))))
       ∙ ap (λ (r : InletRow I). received_of i lane (feeds_of r)) (same_some at)
-    where
-      same_some : {a b : InletRow I} → Some a ≡ Some b → a ≡ b
-      same_some e = cc
   among_row lane start (suc pad) (one ∷ rows) row each at other =
       ap (λ (found : Option ℕ). first_some found (received_among i lane rows))
       (row_other lane (lanes (start + 0)) one (other (start + 0) (λ same. omega (arith, same))) (each 0 one refl))

@@ -1,13 +1,11 @@
 -- What stands at the places of a list, with one more at its end, and with one replaced.
 use Rattle.std.proofs.Common.{◌≡◌, ◌≢◌, ◌⊎◌, ◌+◌, ℕ, zero, suc, List, [], ◌∷◌, ◌++◌, Some, length, set, refl, sym, ap, ◌∙◌, subst, inl, inr, arith, length-append}
 use Rattle.std.specs.Prelude.{slice_get}
+use Rattle.gst_value.proofs.Basics.{some_same as some_slot}
 
 -- what holds at each place, and of one more at the end, holds at each place of the longer list
 pub slot_more : {A : Type 0} (P : ℕ → A → Type 0) (xs : List A) (x : A) → ((k : ℕ) (y : A) → slice_get xs k ≡ Some y → P k y) → P (length xs) x → (k : ℕ) (y : A) → slice_get (xs ++ x ∷ []) k ≡ Some y → P k y
 slot_more {A} P [] x all here zero y at = subst (λ (z : A). P 0 z) (some_slot at) here
-  where
-    some_slot : Some x ≡ Some y → x ≡ y
-    some_slot h = cc
 slot_more P [] x all here (suc k) y at = absurd (cc)
 slot_more P (z ∷ xs) x all here zero y at = all 0 y at
 slot_more P (z ∷ xs) x all here (suc k) y at = slot_more (λ i. P (suc i)) xs x (λ i. all (suc i)) here k y at

@@ -17,6 +17,7 @@ use Rattle.graph_core.proofs.NumberedPads.{owner_at, found_in}
 use Rattle.graph_core.proofs.Orders.{pads_at_link}
 use Rattle.graph_moment.specs.Laws.{LinksLead, UnlinkedLead}
 use Rattle.graph_moment.proofs.Sources.{port_at, sinks_are, few_there, linked_there}
+use Rattle.gst_value.proofs.Basics.{none_some, some_same}
 
 -- at some sink pads from one on a source pad leads nowhere
 nowhere_from : (p : ℕ) (f : ℕ → List Span) (start n : ℕ) → ((k : ℕ) → start ≤ k → links_from p (f k) ≡ false) → LinksNowhere p (map f (range_with_len start n))
@@ -99,17 +100,11 @@ module _ (made : List Made) (links : List PadLink) (all : All (HasPads made) lin
       (from_one source (source_before links (sink_at a k)) few (λ s at. few_there made s (linked_there made links all (sink_at a k) s at)) e)
 
   nowhere : (source : PadPlace) → source.pad < 64 → sink_behind links source ≡ None → (a k : ℕ) → links_from (pad_id source) (spans_from (source_before links (sink_at a k))) ≡ false
-  nowhere source few none a k = not_so _ (λ e. absurd (no (sym none ∙ behind_it source few a k e)))
-    where
-      no : {A : Type 0} {a : A} → None ≡ Some a → ⊥
-      no e = cc
+  nowhere source few none a k = not_so _ (λ e. absurd (none_some (sym none ∙ behind_it source few a k e)))
 
   elsewhere : (source sink : PadPlace) → source.pad < 64 → sink_behind links source ≡ Some sink → (a k : ℕ) → (sink ≡ sink_at a k → ⊥)
       → links_from (pad_id source) (spans_from (source_before links (sink_at a k))) ≡ false
   elsewhere source sink few at a k other = not_so _ (λ e. other (some_same (sym at ∙ behind_it source few a k e)))
-    where
-      some_same : {A : Type 0} {a b : A} → Some a ≡ Some b → a ≡ b
-      some_same e = cc
 
   here : (source sink : PadPlace) → sink_behind links source ≡ Some sink → links_from (pad_id source) (spans_from (source_before links (sink_at sink.element sink.pad))) ≡ true
   here source sink at = subst (λ (o : Option PadPlace). links_from (pad_id source) (spans_from o) ≡ true) (sym (once.there source sink at)) (from_itself source)

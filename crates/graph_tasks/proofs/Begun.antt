@@ -29,6 +29,7 @@ use Rattle.graph_tasks.specs.declared.wired_task.WiredHead.TheVariants.{Source, 
 use Rattle.graph_tasks.specs.declared.wired_task.WiredPart.{WiredPart}
 use Rattle.graph_tasks.specs.declared.wired_task.WiredTask.{WiredTask}
 use Rattle.graph_tasks.proofs.Lists.{got_within}
+use Rattle.gst_value.proofs.Basics.{some_same}
 
 zip_size : {A B : Type 0} (P : A → B → Type 0) (xs : List A) (ys : List B) → AllZip P xs ys → length ys ≡ length xs
 zip_size P [] [] all = refl
@@ -39,10 +40,7 @@ zip_size P (x ∷ xs) (y ∷ ys) all = ap suc (zip_size P xs ys all.1)
 zip_at : {A B : Type 0} (P : A → B → Type 0) (xs : List A) (ys : List B) → AllZip P xs ys → (k : ℕ) (x : A) (y : B) → slice_get xs k ≡ Some x → slice_get ys k ≡ Some y → P x y
 zip_at P [] ys all k x y at to = absurd (cc)
 zip_at P (z ∷ xs) [] all k x y at to = absurd (cc)
-zip_at P (z ∷ xs) (w ∷ ys) all zero x y at to = subst (λ b. P x b) (same to) (subst (λ a. P a w) (same at) all.0)
-  where
-    same : {C : Type 0} {a b : C} → Some a ≡ Some b → a ≡ b
-    same e = cc
+zip_at P (z ∷ xs) (w ∷ ys) all zero x y at to = subst (λ b. P x b) (some_same to) (subst (λ a. P a w) (some_same at) all.0)
 zip_at P (z ∷ xs) (w ∷ ys) all (suc k) x y at to = zip_at P xs ys all.1 k x y at to
 
 zip_map : {A B C : Type 0} (P : A → B → Type 0) (f : A → C) (h : B → C) → ((x : A) (y : B) → P x y → h y ≡ f x) → (xs : List A) (ys : List B) → AllZip P xs ys → map h ys ≡ map f xs

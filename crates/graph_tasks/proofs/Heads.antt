@@ -30,6 +30,7 @@ use Rattle.std.proofs.lemmas.Option.{slice_get_within}
 use Rattle.graph_tasks.proofs.Graphs.{inlets_no_source, not_true}
 use Rattle.graph_tasks.proofs.Bags.{among, head_among, source_among}
 use Rattle.graph_tasks.proofs.Given.{IsKnown, IsPlaced, cell_of, one_task, placed}
+use Rattle.gst_value.proofs.Basics.{some_same}
 
 module _ {S E I O L : Type 0} {s : sources.Ghosts S} {e : elements.Ghosts E} {i : inlets.Ghosts I L O} {o : outlets.Ghosts O L}
     {graph : Graph} {bags : List Bag} {ends : List (Option E)} {files : List (Option S)} {tasks : List (Task S E I O L s e i o)} {table : List Lane}
@@ -84,9 +85,6 @@ module _ {S E I O L : Type 0} {s : sources.Ghosts S} {e : elements.Ghosts E} {i 
         place = p;
         head = ap head_of (some_same (sym p.at ∙ b.is)) ∙ b.head;
       }
-    where
-      some_same : {A : Type 0} {a b : A} → Some a ≡ Some b → a ≡ b
-      some_same e = cc
 
   -- of an element that is fed from inlets
   pub record HasInlets (n : ℕ) : Type 0 where

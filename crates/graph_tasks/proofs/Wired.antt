@@ -37,6 +37,7 @@ use Rattle.graph_tasks.proofs.Readies.{rows_apart}
 use Rattle.graph_tasks.proofs.Heads.{fed_among, fed_rows, inlets_of, one_owner}
 use Rattle.graph_core.specs.GraphPlan.{pad_id}
 use Rattle.graph_core.proofs.NumberedPads.{same_pad}
+use Rattle.gst_value.proofs.Basics.{some_same}
 
 module _ {O L : Type 0} (o : outlets.Ghosts O L) (made : List Made) (links : List PadLink) where
   -- the sink pad behind a lane is that of the link
@@ -44,9 +45,6 @@ module _ {O L : Type 0} (o : outlets.Ghosts O L) (made : List Made) (links : Lis
       → (a ≡ out.sink.element) × (b ≡ out.sink.pad)
   to_sink n k place pad is out lane a b from same = go (sink_behind links (place_at n k)) out.linked is.leads
     where
-      some_same : {A : Type 0} {x y : A} → Some x ≡ Some y → x ≡ y
-      some_same e = cc
-
       into : {c d f h : ℕ} → over c d f h ≡ over lane a b from → (a ≡ d) × (b ≡ f)
       into e = (cc, cc)
 

@@ -37,6 +37,7 @@ use Rattle.graph_tasks.proofs.Lanes.{lanes_apart}
 use Rattle.graph_tasks.proofs.Numbers.{one_source}
 use Rattle.graph_tasks.proofs.Bags.{among, source_among}
 use Rattle.graph_tasks.proofs.Given.{IsKnown, IsPlaced, cell_of, pad_there}
+use Rattle.gst_value.proofs.Basics.{some_same}
 
 -- A source pad of an element leads over the lane of this place.
 pub record GoesOver (made : List Made) (links : List PadLink) (n k place : ℕ) : Type 0 where
@@ -71,9 +72,6 @@ module _ {O L : Type 0} (o : outlets.Ghosts O L) where
 
     room_place : (end : LaneEnd) (room : Room) → room_in (Some end) ≡ Some room → room.place ≡ end.place
     room_place end room is = sym (ap (λ (r : Room). r.place) (some_same is))
-      where
-        some_same : {A : Type 0} {a b : A} → Some a ≡ Some b → a ≡ b
-        some_same e = cc
 
     no_room : (found : Option LaneEnd) (room : Room) → found ≡ None → room_in found ≡ Some room → ⊥
     no_room None room none is = cc
@@ -137,9 +135,6 @@ module _ {S E I O L : Type 0} {s : sources.Ghosts S} {e : elements.Ghosts E} {i 
   pub head_wire_of : (bag : BagHead) (head : Head S I O s) (wire : Wire) → IsHeadOf i o (made_in graph) (links_in graph) files bag head → head_wire (head_frame o head) ≡ Some wire
       → (own : BagElement) × (bag ≡ bags_heads.Source own) × (pad : Pad O) × IsPadOf o (made_in graph) (links_in graph) own.element 0 pad × (0 < source_count (made_in graph) own.element) × (wire ≡ wire_of o pad)
   head_wire_of bag head wire (IsHeadOf.from_source cell own number file given one pad) is = (cell, refl, own.pad, pad, omega (arith, one), some_same (sym is))
-    where
-      some_same : {A : Type 0} {a b : A} → Some a ≡ Some b → a ≡ b
-      some_same e = cc
   head_wire_of bag head wire (IsHeadOf.from_inlets n own number count rows) is = absurd (cc)
 
   -- each pad is of an element of the bag

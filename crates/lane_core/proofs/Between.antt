@@ -13,6 +13,7 @@ use Rattle.lane_core.specs.Laws.{HoldsFor}
 use Rattle.lane_core.specs.Moves.{AnswersRoom, IsPut, TakesFirst, list_after_put, list_after_take, table_after_put, table_after_take}
 use Rattle.lane_core.specs.Room.{Limits, number_of, told_of}
 use Rattle.lane_core.proofs.Change.{updated_here, updated_else, within}
+use Rattle.gst_value.proofs.Basics.{some_same}
 
 -- the table before, where one is told after
 told_before : (f : List Lane → List Lane) (tells : Option (List Lane)) (t : List Lane) → option_map f tells ≡ Some t → (u : List Lane) × (tells ≡ Some u) × (f u ≡ t)
@@ -50,9 +51,6 @@ between_taken tells tells' n x sent got e front b t told =
       same_here (λ s. lane_of (drop 1 s.items) s.room) u.0 t n at.0 u.2 at.1,
       at.2 ∙ (ap (λ l. got ++ l) items ∙ (sym (append_assoc got (x ∷ []) fr.1) ∙ ap (λ (l : List Item). (got ++ x ∷ []) ++ drop 1 l) (sym items))),
     )
-  where
-    some_same : {a b : Lane} → Some a ≡ Some b → a ≡ b
-    some_same e = cc
 
 pub put_keeps_between : (place : ℕ) (item : Item) (answer : Put) (tells tells' : Option (List Lane)) (sent got : List Item) → tells' ≡ table_after_put place item answer tells → IsBetween tells place sent got
     → IsBetween tells' place (list_after_put sent item answer) got

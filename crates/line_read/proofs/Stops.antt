@@ -1,7 +1,7 @@
 -- A text stops at one place, for one reason.
 use Rattle.std.proofs.Common.{◌≡◌, ℕ, zero, suc, ◌<◌, ◌≤◌, Bool, true, false, cond, ◌&&◌, not, List, [], ◌∷◌, ◌++◌, length, take, Option, Some, None, refl, sym, ap, ◌∙◌, subst, arith, length-append}
 use Rattle.std.specs.List.{list_all}
-use Rattle.std.proofs.lemmas.Option.{same_Some}
+use Rattle.std.proofs.lemmas.Option.{same_Some, none-some as none_not}
 use Rattle.launch_text.specs.Bytes.{is_white}
 use Rattle.launch_text.specs.Kinds.{is_bracket, kind_of}
 use Rattle.launch_text.specs.Parsed.{Stopped, place_of}
@@ -10,9 +10,6 @@ use Rattle.launch_text.specs.Reading.{IsStuck, Splits, State, first_word, none, 
 use Rattle.launch_text.specs.Words.{after, is_plain, is_start, plain, word_length}
 use Rattle.launch_text.specs.declared.fault.LineKind.{LineKind}
 use Rattle.gst_value.proofs.Basics.{no_true, and_left, and_right}
-
-none_not : {A : Type 0} (x : A) → None ≡ Some x → ⊥
-none_not x e = cc
 
 start_white : (b : ℕ) (bs ys : List ℕ) → list_all is_white (b ∷ bs) ≡ true → is_start ((b ∷ bs) ++ ys) ≡ true → ⊥
 start_white b bs ys h k = no_true (rw (and_left (is_white b) (list_all is_white bs) h) at k)

@@ -29,7 +29,7 @@ use Rattle.net_turns.specs.Net.{AreWired, HasRow, IsFed, NetStands, Owns, SendsI
 use Rattle.net_turns.proofs.Owners.{IsPadOf, closed_head, closed_pad, number_has, of_part, of_source, source_pad, wire_pad}
 use Rattle.net_turns.proofs.Others.{pad_tied}
 use Rattle.net_turns.proofs.Rows.{not_last}
-use Rattle.gst_value.proofs.Basics.{some_same}
+use Rattle.gst_value.proofs.Basics.{some_same, none_some as no_pad}
 
 -- A pad leads to one sink pad.
 at_nowhere : (p k : ℕ) (sss : List (List Span)) → LinksAt p k sss → LinksNowhere p sss → ⊥
@@ -138,9 +138,6 @@ module _ {S E I O L : Type 0} {s : sources.Ghosts S} {e : elements.Ghosts E} {i 
         go : IsPadOf h.fed.task.head h.fed.task.parts.items pad → ⊥
         go (of_part a b part part_at pad_at) = (fed_tied j h.head h.fed port row h.at).apart a b part pad part_at pad_at (leads ∙ ap (λ (q : ℕ). inside q port) (sym h.number))
         go (of_source at) = no_pad (sym (ap source_pad h.fed.head_is) ∙ at)
-          where
-            no_pad : None ≡ Some pad → ⊥
-            no_pad e = cc
 
     -- a pad leads where its lane leads
     pub sends_leads : (k p place from n port : ℕ) → SendsInto tasks k p place from n port → Leads m.plan p n port

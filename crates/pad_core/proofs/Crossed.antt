@@ -2,6 +2,7 @@
 use Rattle.std.proofs.Common.{◌≡◌, ℕ, ◌+◌, Bool, true, false, if◌then◌else◌, List, [], ◌∷◌, ◌++◌, refl, sym, ap, subst, ◌∙◌, arith, Some, IsTrue, add-zero, ◌⊎◌, inl, inr, map, Result, Ok, Err, IfOk}
 use Rattle.std.proofs.lemmas.List.{length_push}
 use Rattle.std.proofs.lemmas.List.Sums.{sum_by_push}
+use Rattle.std.proofs.lemmas.Option.{same_Some as same_some}
 use Rattle.gst_item.proofs.Kept.{in_force_push, buffer_passes, gap_passes}
 use Rattle.gst_value.specs.declared.memory.OutOfMemory.{OutOfMemory}
 use Rattle.gst_item.specs.Sticky.{InForce, in_force, stickies}
@@ -157,9 +158,6 @@ counted_sticky old new ends laid begun nothing crossed buffered ended settled ev
     sticky_is_no_flush (Gap pts duration) s = refl
     sticky_is_no_flush (FlushStop number) s = absurd (cc)
     sticky_is_no_flush Eos s = refl
-
-    same_some : (a b : Event) → Some a ≡ Some b → a ≡ b
-    same_some a b e = cc
 
 -- where no sticky event stands apart, settling changes nothing
 pub settles_same : (last : Last) (s : InForce) → (last ≡ Nothing) ⊎ ((last ≡ LastBuffer) ⊎ (last ≡ LastGap)) → Settles last s s

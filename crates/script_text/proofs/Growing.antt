@@ -3,14 +3,12 @@ use Rattle.std.proofs.Common.{◌≡◌, ◌∙◌, ◌+◌, ◌<◌, ◌⊎◌,
 use Rattle.std.specs.Prelude.{length, slice_get, take}
 use Rattle.std.proofs.lemmas.List.{take_all, take-append-le}
 use Rattle.std.proofs.lemmas.List.Elements.{filter-append}
+use Rattle.std.proofs.lemmas.Option.{same_Some as same_some}
 use Rattle.script_text.specs.Lines.{is_passed_over, spoken}
 use Rattle.script_text.specs.Refusals.{and_then}
 use Rattle.script_text.specs.Scripts.{AreCommands, IsBadLine, line_answer, step}
 use Rattle.script_text.specs.declared.command.Command.{Command}
 use Rattle.script_text.specs.declared.fault.ScriptKind.{ScriptKind}
-
-same_some : {X : Type 0} (x y : X) → Some x ≡ Some y → x ≡ y
-same_some x y e = cc
 
 none_some : {X : Type 0} (y : X) (o : Option X) → o ≡ None → o ≡ Some y → ⊥
 none_some y o e f = cc
