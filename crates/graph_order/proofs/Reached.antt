@@ -11,13 +11,6 @@ set_same [] k w = absurd (omega arith)
 set_same (m ∷ ms) zero w = refl
 set_same (m ∷ ms) (suc k) w = set_same ms k (omega arith)
 
-pub set_stays : (marks : List Bool) (k e : ℕ) → is_marked marks e ≡ true → is_marked (slice_set marks k true) e ≡ true
-set_stays [] k e h = h
-set_stays (m ∷ ms) zero zero h = refl
-set_stays (m ∷ ms) zero (suc e) h = h
-set_stays (m ∷ ms) (suc k) zero h = h
-set_stays (m ∷ ms) (suc k) (suc e) h = set_stays ms k e h
-
 -- an element is marked behind one more mark only where it was, or is the one
 pub set_only : (marks : List Bool) (k e : ℕ) → is_marked (slice_set marks k true) e ≡ true → (e ≡ k) ⊎ (is_marked marks e ≡ true)
 set_only [] k e h = inr h

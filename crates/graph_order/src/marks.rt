@@ -1,5 +1,5 @@
 //! What a way leads to.
-ghost use Rattle.std.specs.Prelude.{◌≡◌, ◌<◌, ℕ, All, true, false, length, IfOk, vec_len};
+ghost use Rattle.std.specs.Prelude.{◌≡◌, ◌<◌, ℕ, All, true, false, IfOk, vec_len};
 ghost use Rattle.graph_order.specs.Links.{IsLink, Way};
 ghost use Rattle.graph_order.specs.Marks.{is_marked, unmarked, AllReached, IsClosed};
 ghost use Rattle.graph_order.specs.declared.link.Link.{Link as LinkOf};

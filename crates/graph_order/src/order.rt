@@ -1,5 +1,5 @@
 //! Elements in an order in which each link goes forward.
-ghost use Rattle.std.specs.Prelude.{◌≡◌, ◌<◌, ◌≤◌, ◌+◌, ◌^◌, ◌++◌, [], All, true, false, length, filter, IfOk, OnOk, OnErr, vec_len};
+ghost use Rattle.std.specs.Prelude.{◌≡◌, ◌<◌, ◌+◌, ◌^◌, ◌++◌, [], All, true, false, length, filter, IfOk, OnOk, OnErr, vec_len};
 ghost use Rattle.graph_order.specs.Marks.{is_chosen};
 
 use crate::link::Link;

@@ -1,5 +1,5 @@
 //! Sink pads.
-ghost use Rattle.std.specs.Prelude.{◌≡◌, ◌++◌, ◌∷◌, [], ℕ, List, Option, None, Some, min, length, false};
+ghost use Rattle.std.specs.Prelude.{◌≡◌, ◌++◌, ◌∷◌, [], List, Option, None, Some, min, length, false};
 ghost use Rattle.pad_core.specs.Item.{Item};
 
 use crate::kind::{is_eos, is_flush_stop};
@@ -19,7 +19,7 @@ pub struct SinkPad {
 }
 
 impl SinkPad {
-    ghost use Rattle.pad_core.specs.SinkPad.{AcceptedBy, SinkState, sink_state, sink_behind, accepted_of, flow, flow_for};
+    ghost use Rattle.pad_core.specs.SinkPad.{AcceptedBy, sink_state, sink_behind, accepted_of, flow, flow_for};
     ghost use Rattle.pad_core.specs.Linking.{has_peer};
     ghost use Rattle.pad_core.specs.Crossing.{has_ended};
 

@@ -41,7 +41,7 @@ pub struct SrcPad {
 }
 
 impl SrcPad {
-    ghost use Rattle.pad_core.specs.Crossing.{PadState, WasKept, crossing, crossing_for, counted_of, state_behind, behind_item, has_ended, stopped_by, goes_to, unless_stopped};
+    ghost use Rattle.pad_core.specs.Crossing.{WasKept, crossing, crossing_for, counted_of, state_behind, behind_item, has_ended, stopped_by, goes_to, unless_stopped};
     ghost use Rattle.pad_core.specs.SrcPad.{CrossedBy, state_of, crossed_of, before};
     ghost use Rattle.pad_core.specs.Linking.{has_peer};
 

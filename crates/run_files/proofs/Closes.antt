@@ -1,5 +1,5 @@
 -- Ends that are given back.
-use Rattle.std.proofs.Common.{◌≡◌, ◌≤◌, ℕ, ◌+◌, true, List, [], ◌++◌, Option, Some, None, refl, sym, ap, ◌∙◌, arith, length-append}
+use Rattle.std.proofs.Common.{◌≡◌, ℕ, ◌+◌, true, List, [], ◌++◌, Option, Some, None, refl, sym, ap, ◌∙◌, arith, length-append}
 use Rattle.std.specs.Prelude.{Contains, IsTrue, count_by, filter, find, option_map}
 use Rattle.std.specs.Option.{option_or}
 use Rattle.std.proofs.lemmas.List.Elements.{filter-append}
@@ -76,9 +76,6 @@ module _ (ends : List Known) (before after : Seen) (h : Closes ends before after
   -- where no sink is, the output stays
   pub closes_others : (l : List ℕ) → count_by (is_sink_at l) ends ≡ 0 → after.output l ≡ before.output l
   closes_others l none = h.output l ∙ ap (λ (o : Option Known). bytes_or (before.output l) o) (find_none (is_sink_at l) ends none)
-
-  pub closes_never_falls : before.faults ≤ after.faults
-  closes_never_falls = omega (arith, h.faults)
 
   -- a call of an end failed
   pub closes_rose : (end : Known) → Contains ends end → Rose 0 end.faults → Rose before.faults after.faults

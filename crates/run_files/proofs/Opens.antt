@@ -2,29 +2,14 @@
 use Rattle.std.proofs.Common.{◌≡◌, ℕ, ◌+◌, List, [], ◌∷◌, ◌++◌, length, false, true, Option, Some, None, refl, sym, ap, ◌∙◌, subst, arith, length-append, get_or, take, ◌<◌}
 use Rattle.std.specs.Prelude.{map, option_map}
 use Rattle.std.proofs.lemmas.List.{map-append, take_more}
-use Rattle.std.proofs.lemmas.Option.{slice_get_read}
 use Rattle.gst_outside.specs.Causes.{plus}
 use Rattle.gst_outside.specs.Seen.{Seen}
-use Rattle.gst_outside.specs.declared.opening.OpenEnd.{OpenEnd}
 use Rattle.run_files.specs.declared.end.Opening.{Opening}
 use Rattle.run_files.specs.declared.end.Opening.TheVariants.{Read, Write}
 use Rattle.run_files.specs.Ends.{Known, present}
 use Rattle.run_files.specs.Opening.{Opens, fresh_end, fresh_ends}
-use Rattle.run_files.specs.Stopping.{RefusedBy, StopsAt}
-use Rattle.run_files.proofs.Closes.{plus_none, plus_plus}
+use Rattle.run_files.proofs.Closes.{plus_plus}
 use Rattle.run_files.proofs.Lists.{present_append}
-
--- none was opened
-pub opens_none : (files : Seen) → Opens [] [] files files
-opens_none files = record {
-  made = refl;
-  input = λ l. refl;
-  output = λ l. refl;
-  faults_of = λ l. refl;
-  refused_of = λ l. refl;
-  faults = omega arith;
-  count = sym (plus_none files.ends);
-}
 
 module _ (before mid : Seen) (input : (l : List ℕ) → mid.input l ≡ before.input l) (output : (l : List ℕ) → mid.output l ≡ before.output l) where
   fresh_same : (o : Option Opening) → option_map (fresh_end mid) o ≡ option_map (fresh_end before) o
@@ -63,13 +48,3 @@ module _ {E : Type 0} (known : E → Known) (openings : List (Option Opening)) (
       subst (λ (xs : List (Option Opening)). Opens xs (map (option_map known) pushed) before after) (sym (take_more openings place entry within ∙ ap (λ (o : Option Opening). take place openings ++ o ∷ []) (sym is)))
       (subst (λ (es : List (Option Known)). Opens (take place openings ++ entry ∷ []) es before after) (sym (ap (λ (es : List (Option E)). map (option_map known) es) push ∙ map-append (option_map known) ends (end ∷ [])))
       (opens_join (take place openings) (entry ∷ []) (map (option_map known) ends) (option_map known end ∷ []) before mid after h k))
-
-  -- it gave no end
-  pub stops_at : (ends : List (Option E)) (why : OpenEnd) → Opens (take place openings) (map (option_map known) ends) before mid → RefusedBy entry mid after why → StopsAt openings (map (option_map known) ends) before after place why
-  stops_at ends why h refused = record {
-    moment = mid;
-    opening = entry;
-    at = slice_get_read openings (length openings) place entry refl within is;
-    opens = h;
-    refused = refused;
-  }

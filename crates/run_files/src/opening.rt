@@ -1,5 +1,5 @@
 //! The files of a run are opened.
-ghost use Rattle.std.specs.Prelude.{◌≡◌, ◌∷◌, ◌≤◌, ◌+◌, ℕ, List, [], Option, Some, IfOk, IfErr, OnOk, length, option_map, vec_capacity};
+ghost use Rattle.std.specs.Prelude.{◌≡◌, ◌∷◌, ◌≤◌, ℕ, List, [], Option, Some, IfOk, IfErr, OnOk, length, option_map, vec_capacity};
 ghost use Rattle.gst_outside.specs.Seen.{Seen};
 ghost use Rattle.run_files.specs.declared.end.Opening.{Opening as Openings};
 ghost use Rattle.run_files.specs.Ends.{AllOpened, Known, known_end, known_ends};

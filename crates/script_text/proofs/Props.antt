@@ -18,7 +18,3 @@ prop_more props new prop word left rest is said put =
     go : (o : Option (List Prop)) → (o >>= λ more. Some ((props ++ prop ∷ []) ++ more)) ≡ behind props (o >>= λ ps. Some (prop ∷ ps))
     go None = refl
     go (Some more) = ap Some (append_assoc props (prop ∷ []) more)
-
--- a word that is none
-pub prop_none : (props : List Prop) (word : List ℕ) (left rest : List (List ℕ)) → left ≡ word ∷ rest → prop_of word ≡ None → behind props (props_of left) ≡ None
-prop_none props word left rest is none = ap (λ l. behind props (props_of l)) is ∙ ap (λ o. behind props (o >>= λ p. props_of rest >>= λ ps. Some (p ∷ ps))) none

@@ -1,9 +1,8 @@
 //! What a command does.
-ghost use Rattle.std.specs.Prelude.{◌≡◌, ◌++◌, Some, IfOk};
-ghost use Rattle.std.specs.List.{list_any};
+ghost use Rattle.std.specs.Prelude.{◌≡◌, Some};
 ghost use Rattle.std.specs.Option.{option_map};
 ghost use Rattle.text_words.specs.Left.{left};
-ghost use Rattle.text_words.specs.Values.{Gives, pad_of};
+ghost use Rattle.text_words.specs.Values.{Gives};
 ghost use Rattle.script_text.specs.Commands.{act_of, add_of, has_name, is_pad_act, only, props_of, relink_of, remove_of, unlink_of};
 
 use crate::command::Act;

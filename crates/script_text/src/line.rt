@@ -1,6 +1,5 @@
 //! The command of one line.
 ghost use Rattle.std.specs.Prelude.{◌≡◌, ok_or};
-ghost use Rattle.std.specs.List.{list_all};
 ghost use Rattle.text_words.specs.Left.{left};
 ghost use Rattle.text_words.specs.Words.{words_of};
 ghost use Rattle.script_text.specs.Commands.{act_of, command_of, misfit};

@@ -1,8 +1,7 @@
 //! When a command is done.
 ghost use Rattle.std.specs.Prelude.{◌≡◌, ok_or};
-ghost use Rattle.std.specs.List.{list_any};
 ghost use Rattle.text_words.specs.Left.{left};
-ghost use Rattle.text_words.specs.Values.{number_of, pad_of};
+ghost use Rattle.text_words.specs.Values.{pad_of};
 ghost use Rattle.script_text.specs.Commands.{at_of, buffers_of, has_point, now_of, when_of};
 ghost use Rattle.script_text.specs.Refusals.{Answers};
 

@@ -1,5 +1,5 @@
 //! The words of a text, between separators.
-ghost use Rattle.std.specs.Prelude.{◌≡◌, ◌==◌, ◌<◌, ◌≤◌, [], ◌∷◌, MatchOption, false, length, true};
+ghost use Rattle.std.specs.Prelude.{◌≡◌, ◌==◌, ◌<◌, [], ◌∷◌, MatchOption, false, length, true};
 ghost use Rattle.std.specs.List.{take_while};
 ghost use Rattle.text_words.specs.Bytes.{separates};
 ghost use Rattle.text_words.specs.Words.{after, is_closed, is_plain, is_start, plain, word_length, words_of};
