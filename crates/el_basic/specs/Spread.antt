@@ -16,6 +16,10 @@ is_gap _ = false
 abbrev pub pad_count : Tee → ℕ
 pad_count tee = tee.pads
 
+-- whether EOS was fed since the last FLUSH_STOP
+abbrev pub has_ended : Tee → Bool
+has_ended tee = tee.ended
+
 -- items that are to cross each of the first source pads, by number
 abbrev pub on_pads : ℕ → List Item → List Out
 on_pads zero xs = []

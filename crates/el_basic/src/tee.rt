@@ -7,7 +7,7 @@ ghost use Rattle.flow_model.specs.Section.{counted, section};
 ghost use Rattle.flow_model.specs.Call.{Call, Feed, Act, Drain, items};
 ghost use Rattle.flow_model.specs.Rule.{owed_for, only, passes, single};
 ghost use Rattle.flow_model.specs.Feeding.{flow_behind, passed, on_pad};
-ghost use Rattle.el_basic.specs.Spread.{Spread, is_gap, pad_count, pad_list, on_pads};
+ghost use Rattle.el_basic.specs.Spread.{Spread, has_ended, is_gap, pad_count, pad_list, on_pads};
 
 use flow_model::{ElementFault, is_end};
 use gst_item::{Event, Flow, Item, Out, Outs, Sticky};
@@ -123,6 +123,13 @@ impl Tee {
         ensures { result ≡ pad_count self.now }
     {
         self.pads
+    }
+
+    /// Whether EOS was fed since the last flush.
+    pub fn is_over(&self) -> bool
+        ensures { result ≡ has_ended self.now }
+    {
+        self.ended
     }
 
     /// Puts an item out on each source pad.
