@@ -13,5 +13,6 @@ pub mod Lists
 pub mod ToldTemplates
 pub mod Ruled
 pub mod JoinsApart
+pub mod PassingApart
 pub mod JoinsOpen
 pub mod Fed

@@ -6,3 +6,4 @@ pub mod Gives
 pub mod Holds
 pub mod Joins
 pub mod Made
+pub mod Passing

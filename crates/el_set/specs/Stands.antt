@@ -1,5 +1,5 @@
 -- For which rule, and for which calls and put-out items, an element between one sink pad and one source pad stands.
-use Rattle.std.specs.Prelude.{◌≡◌, ◌≢◌, List, [], ◌∷◌, ◌++◌, Ok, Err}
+use Rattle.std.specs.Prelude.{◌≡◌, ◌≢◌, Bool, false, List, [], ◌∷◌, ◌++◌, Ok, Err}
 use Rattle.gst_caps.specs.declared.caps.Caps.{Caps}
 use Rattle.gst_item.specs.declared.out.Out.{Out}
 use Rattle.flow_model.specs.Item.{Item}
@@ -8,7 +8,7 @@ use Rattle.flow_model.specs.Call.{Call}
 use Rattle.flow_model.specs.Rule.{Response, Fault, passes}
 use Rattle.flow_model.specs.Feeding.{on_pad}
 use Rattle.flow_model.specs.Owed.{owed_at}
-use Rattle.el_basic.specs.Passed.{Passed}
+use Rattle.el_basic.specs.Passed.{Passed, has_ended}
 use Rattle.el_basic.specs.Filters.{filters}
 use Rattle.el_basic.specs.Filtered.{IsFilteredBy}
 use Rattle.el_convert.specs.Converts.{converts}
@@ -43,6 +43,11 @@ Stands respond (RawParse parser) calls put = Follows parses_raw RawParsed respon
 Stands respond (Split split) calls put = Follows splits Regrouped respond split calls put
 Stands respond (WavParse parser) calls put = Follows (λ (x : Unit {0}). parses_wav) (λ x e given owed. WavParsed e given owed) respond parser calls put
 Stands respond (WavEnc encoder) calls put = Follows (λ (x : Unit {0}). encodes) (λ x e given owed. Encoded e given owed) respond encoder calls put
+
+-- it passes all, and was given EOS since the last FLUSH_STOP; of the others it is not told
+abbrev pub has_passed_eos : FilterElement → Bool
+has_passed_eos (Identity identity) = has_ended identity
+has_passed_eos _ = false
 
 -- one element stands for all that another stands for
 abbrev pub StandsAs : FilterElement → FilterElement → Type 0

@@ -30,7 +30,7 @@ pub enum FilterElement {
 }
 
 impl FilterElement {
-    ghost use Rattle.el_set.specs.Stands.{Stands, StandsAs, PutsOut};
+    ghost use Rattle.el_set.specs.Stands.{Stands, StandsAs, PutsOut, has_passed_eos};
     ghost use Rattle.flow_model.specs.Owed.{owed_at};
 
     /// Takes an item, and appends what it owes for it. Behind EOS, up to the next flush, the answer is `Flow::Eos`
@@ -102,6 +102,17 @@ impl FilterElement {
             FilterElement::Split(split) => split.drain(alloc, out),
             FilterElement::WavParse(parser) => parser.drain(alloc, out),
             FilterElement::WavEnc(encoder) => encoder.drain(alloc, out),
+        }
+    }
+
+    /// Whether it passes all, and EOS came since the last flush. Of the other elements it is not told.
+    #[inline(always)]
+    pub fn has_passed_eos(&self) -> bool
+        ensures { result ≡ has_passed_eos self.now }
+    {
+        match self {
+            FilterElement::Identity(identity) => identity.is_over(),
+            _ => false,
         }
     }
 

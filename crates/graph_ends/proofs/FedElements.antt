@@ -30,15 +30,20 @@ pub asked_at : (asked : Settings → Bool) (found : Option Made) → option_map_
 asked_at asked None is = absurd cc
 asked_at asked (Some m) is = record { element = m; at = refl; is = is }
 
+-- what an element owes that is fed from inlets
+pub fed_rule : (contents : ℕ → List ℕ) (graph : Graph) (m : Moment) → m.plan ≡ moment_plan contents graph → (n : ℕ)
+    → (one : IsAsked has_inlets (slice_get (made_in graph) n)) → m.plan.rule n ≡ rule_of one.element.settings
+fed_rule contents graph m plan n one =
+    let rule : tight_rule (Some one.element) n (contents n) ≡ rule_of one.element.settings =
+    rw (inlets_no_sink one.element.settings one.is, inlets_no_source one.element.settings one.is) refl in
+    ap (λ (pl : Plan). pl.rule n) plan ∙ ap (λ (found : Option Made). tight_rule found n (contents n)) one.at ∙ rule
+
 -- so it does not do what a sink does
 pub no_sink : (contents : ℕ → List ℕ) (graph : Graph) (m : Moment) → m.plan ≡ moment_plan contents graph → (n : ℕ)
     → has has_inlets (made_in graph) n ≡ true → behavior_at m n ≡ takes_all → ⊥
 no_sink contents graph m plan n fed is =
     let one = asked_at has_inlets (slice_get (made_in graph) n) fed in
-    let rule : tight_rule (Some one.element) n (contents n) ≡ rule_of one.element.settings =
-    rw (inlets_no_sink one.element.settings one.is, inlets_no_source one.element.settings one.is) refl in
-    let owes : m.plan.rule n ≡ rule_of one.element.settings =
-    ap (λ (pl : Plan). pl.rule n) plan ∙ ap (λ (found : Option Made). tight_rule found n (contents n)) one.at ∙ rule in
+    let owes = fed_rule contents graph m plan n one in
     inlets_owe one.element.settings one.is
     (ap (λ (r : Rule). r ((Feed (Ev Eos) ∷ []) ∷ []) 0 0) (sym owes) ∙ ap (λ (b : Behavior). b.owes ((Feed (Ev Eos) ∷ []) ∷ []) 0 0) is)
 

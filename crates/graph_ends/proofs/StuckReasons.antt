@@ -1,5 +1,5 @@
 -- The reason that a task of a graph answers is true.
-use Rattle.std.proofs.Common.{◌≡◌, ◌<◌, ◌≤◌, ◌+◌, ◌⊎◌, ◌++◌, inl, inr, ℕ, zero, suc, Bool, true, false, if◌then◌else◌, List, [], ◌∷◌, Option, None, Some, length, map, drop, refl, sym, ap, ◌∙◌}
+use Rattle.std.proofs.Common.{◌≡◌, ◌<◌, ◌≤◌, ◌+◌, ◌⊎◌, ◌||◌, ◌++◌, inl, inr, ℕ, zero, suc, Bool, true, false, if◌then◌else◌, List, [], ◌∷◌, Option, None, Some, length, map, drop, refl, sym, ap, ◌∙◌}
 use Rattle.std.proofs.Common.{subst, append-nil, length-append, arith}
 use Rattle.std.specs.Prelude.{slice_get}
 use Rattle.std.specs.List.{range_with_len}
@@ -23,9 +23,11 @@ use Rattle.net_model.specs.Moment.{Moment, behavior_at}
 use Rattle.net_model.specs.Over.{AllEnded, list_ended}
 use Rattle.net_model.specs.declared.element.TaskElement as elements
 use Rattle.net_model.specs.declared.source.TaskSource as sources
-use Rattle.el_settings.specs.Asked.{is_source}
+use Rattle.el_settings.specs.Asked.{is_queue, is_source, makes_sinks}
 use Rattle.el_settings.proofs.Roles.{source_no_sink}
+use Rattle.el_set.specs.Passing.{PassesEach}
 use Rattle.el_set.proofs.Ends.{eos_latest, none_first}
+use Rattle.el_set.proofs.PassingApart.{queues_pass}
 use Rattle.graph_core.specs.Graph.{IsSound, made as made_in, links as links_in}
 use Rattle.graph_core.specs.GraphPlan.{sink_count}
 use Rattle.graph_core.specs.LinkedOnce.{AreOnce}
@@ -36,11 +38,12 @@ use Rattle.graph_core.proofs.LinkedOnce.{same_or_other}
 use Rattle.graph_core.proofs.NumberedPads.{found_in}
 use Rattle.graph_core.proofs.Orders.{pads_at_link}
 use Rattle.graph_moment.proofs.Sources.{sinks_are}
-use Rattle.graph_bags.specs.Links.{Reaches, has, place_at}
+use Rattle.graph_bags.specs.Links.{Reaches, has, has_inlets, place_at}
 use Rattle.graph_bags.specs.declared.bag.Bag.{Bag}
 use Rattle.task_elements.specs.declared.element.StreamElement.{StreamElement}
 use Rattle.task_elements.proofs.FirstEos.{at_place}
-use Rattle.task_elements.proofs.Wanting.{has_pads, wants_within}
+use Rattle.task_elements.specs.Stands.{StreamStands, is_join}
+use Rattle.task_elements.proofs.Wanting.{has_pads, wants_open, wants_within}
 use Rattle.task_parts.specs.declared.head.Head.{Head}
 use Rattle.task_parts.specs.declared.head.Head.TheVariants.{Source, Inlets}
 use Rattle.task_parts.specs.declared.step.Step.{Step}
@@ -61,7 +64,7 @@ use Rattle.graph_ends.proofs.Awaited.{HasElementAt, element_at}
 use Rattle.graph_ends.proofs.BlamedFrames.{HasBag, bag_of, source_is}
 use Rattle.graph_ends.proofs.EndedBags.{got_within, map_length}
 use Rattle.graph_ends.proofs.EndedEos.{ended_has}
-use Rattle.graph_ends.proofs.FedElements.{IsAsked, asked_at}
+use Rattle.graph_ends.proofs.FedElements.{IsAsked, asked_at, fed_rule, not_asked}
 use Rattle.graph_ends.proofs.FedHeads.{head_fed}
 use Rattle.graph_ends.proofs.OverHeads.{row_count}
 use Rattle.graph_ends.proofs.OverWants.{join_owes, join_wants, single_wants, stands_by, wanted_by}
@@ -69,7 +72,7 @@ use Rattle.graph_ends.proofs.StuckRows.{few_pads, row_awaits}
 use Rattle.graph_ends.proofs.StuckTaken.{InParts, IsTakenAt, came_first, came_taken, feeds_none, items_of, parts_at, taken_here, took_is}
 use Rattle.graph_ends.proofs.StuckWaits.{head_is, nothing_waits, owed_is, took}
 use Rattle.graph_ends.proofs.StuckWires.{LaneRow, LeadsOver, WireIn, lane_row, leads_over, wire_in}
-use Rattle.graph_ends.proofs.WantsOpen.{told_join, wants_open}
+use Rattle.graph_ends.proofs.WantsOpen.{told_join}
 use Rattle.gst_value.proofs.Basics.{none_some, some_same}
 use Rattle.net_turns.proofs.Left.{wants_ended}
 
@@ -150,13 +153,33 @@ module _ {S K I O L : Type 0} (k : sinks.Ghosts K) {s : sources.Ghosts S} {e : e
       let none : p.second ≡ [] = feeds_none p.second (sym p.held ∙ list_calls pad (m.held n) [] empty) in
       came_first contents graph m at.sound at.once run n pad w ∙ sym (p.whole ∙ ap (λ (xs : List Item). p.first ++ xs) none ∙ append-nil p.first)
 
-  -- and a join that wants more there had no EOS
-  came_open : (n pad : ℕ) (w : pad < sink_count (slice_get (made_in graph) n)) → Wants e m n (Some pad) → joins_in graph n ≡ true
+  -- where an element that is fed from inlets wants more it had no EOS
+  wants_open_at : (n pad : ℕ) → Wants e m n (Some pad) → has has_inlets (made_in graph) n ≡ true → (joins : Bool) → joins_in graph n ≡ joins
+      → has_eos (calls_at pad (m.took n)) ≡ false
+  wants_open_at n pad wants fed joins is = wants_open k.bytes wants.element (behavior_at m n) (m.took n) pad stands (kind joins is) (wanted_by k streams contents graph bags m tasks tells at n (Some pad) wants)
+    where
+      stands : StreamStands k.bytes wants.element (behavior_at m n) (m.took n)
+      stands = stands_by k streams contents graph bags m tasks tells at n (Some pad) wants
+
+      one : IsAsked has_inlets (slice_get (made_in graph) n)
+      one = asked_at has_inlets (slice_get (made_in graph) n) fed
+
+      queue : (q d : Bool) → d ≡ false → (q || d) ≡ true → q ≡ true
+      queue true d single is = refl
+      queue false true single is = absurd (cc)
+      queue false false single is = absurd (cc)
+
+      kind : (joins : Bool) → joins_in graph n ≡ joins → (is_join wants.element ≡ true) ⊎ PassesEach (behavior_at m n).owes
+      kind true joins = inl (told_join k.bytes wants.element (behavior_at m n) (m.took n) stands (join_owes k streams contents graph bags m tasks tells at n joins))
+      kind false single =
+          let alone = not_asked makes_sinks (made_in graph) n one.element one.at single in
+          let passes = queues_pass one.element.settings (queue (is_queue one.element.settings) (makes_sinks one.element.settings) alone one.is) in
+          inr (subst PassesEach (sym (fed_rule contents graph m at.plan n one)) passes)
+
+  came_open : (n pad : ℕ) (w : pad < sink_count (slice_get (made_in graph) n)) → Wants e m n (Some pad) → has has_inlets (made_in graph) n ≡ true
       → eos_among (came_to (links_in graph) took_in (place_at n pad)) ≡ false
-  came_open n pad w wants joins =
-      let stands = stands_by k streams contents graph bags m tasks tells at n (Some pad) wants in
-      let told = told_join k.bytes wants.element (behavior_at m n) (m.took n) stands (join_owes k streams contents graph bags m tasks tells at n joins) in
-      let open_ = wants_open k.bytes wants.element (behavior_at m n) (m.took n) pad stands told (wanted_by k streams contents graph bags m tasks tells at n (Some pad) wants) in
+  came_open n pad w wants fed =
+      let open_ = wants_open_at n pad wants fed (joins_in graph n) refl in
       let p : InParts _ _ _ = parts_at contents graph m at.sound at.once run n pad w in
       let stops : flush_stops_given (feeds p.first) ≡ 0 = sym (ap flush_stops_given p.took) ∙ section_at pad (m.took n) (at.net.first n).0 in
       let not_ended : list_ended p.first ≡ false = sym (ap list_ended (ap items p.took ∙ items_of p.first)) ∙ open_ in
@@ -195,7 +218,7 @@ module _ {S K I O L : Type 0} (k : sinks.Ghosts K) {s : sources.Ghosts S} {e : e
           (head_fed contents graph bags m tasks tells at number head fed) row.0 alone lane awaits in
           let all_came = came_all n h.port there (h.empty (omega (arith, there, rows))) in
           subst (λ (number : ℕ). Stuck n (NeedsItem number)) (sym lane_is)
-          (needs_item h.port there waits all_came (λ joins. ap eos_among (sym all_came) ∙ came_open n h.port there h.wants joins))
+          (needs_item h.port there waits all_came (ap eos_among (sym all_came) ∙ came_open n h.port there h.wants (head_fed contents graph bags m tasks tells at number head fed)))
 
   -- an item waits at a source pad, and the lane behind it is full
   held_up : (number : ℕ) (task : Task S (StreamElement K) I O L s e i o) → slice_get tasks number ≡ Some task → (lane : ℕ)

@@ -2,30 +2,24 @@
 use Rattle.std.proofs.Common.{◌≡◌, ◌⊎◌, ℕ, Bool, true, false, List, Option, None, Some, refl, sym, ap, ◌∙◌, inl, inr, arith}
 use Rattle.std.proofs.lemmas.Bool.{false≢true}
 use Rattle.flow_model.specs.Call.{Call}
-use Rattle.flow_model.specs.Feeding.{has_eos}
 use Rattle.flow_model.specs.Rule.{passes}
-use Rattle.flow_model.specs.SinkPads.{calls_at}
 use Rattle.net_model.specs.Moment.{Behavior}
 use Rattle.net_model.specs.Over.{AllEnded}
 use Rattle.el_basic.specs.Passed.{has_ended}
+use Rattle.el_basic.specs.Spread.{has_ended as tee_has_ended}
+use Rattle.el_set.specs.Stands.{has_passed_eos}
 use Rattle.task_elements.specs.declared.element.StreamElement.{StreamElement}
 use Rattle.task_elements.specs.declared.element.StreamElement.TheVariants.{Filter, Queue, Tee, Join, Sink}
-use Rattle.task_elements.specs.Stands.{StreamStands, is_join, wanted_of}
+use Rattle.task_elements.specs.Stands.{StreamStands, first_unless, is_join, wanted_of}
 use Rattle.task_elements.proofs.FirstEos.{at_place}
-use Rattle.task_elements.proofs.Wanting.{has_pads, queue_wants, wants_within}
+use Rattle.task_elements.proofs.Wanting.{has_pads, wants_open, wants_within}
 use Rattle.el_set.proofs.JoinsApart.{IsAlike, both_ended, join_differs, one_ended, single_alike}
-use Rattle.el_set.proofs.JoinsOpen.{joins_want_open}
+
+first_or_none : (over : Bool) → (first_unless over ≡ Some 0) ⊎ (first_unless over ≡ None)
+first_or_none true = inr refl
+first_or_none false = inl refl
 
 module _ {K : Type 0} (bytes : K → Option (List ℕ)) where
-  -- the sink pad that it wants had no EOS
-  pub wants_open : (element : StreamElement K) (behavior : Behavior) (took : List (List Call)) (pad : ℕ) → StreamStands bytes element behavior took
-      → is_join element ≡ true → wanted_of element ≡ Some pad → has_eos (calls_at pad took) ≡ false
-  wants_open (Join join) behavior took pad t is e = joins_want_open join.join took t.put pad t.stands e
-  wants_open (Filter filter) behavior took pad t is e = absurd (cc)
-  wants_open (Queue queue) behavior took pad t is e = absurd (cc)
-  wants_open (Tee tee) behavior took pad t is e = absurd (cc)
-  wants_open (Sink sink) behavior took pad t is e = absurd (cc)
-
   -- so it wants none where EOS came on each
   pub ended_wants_none : (element : StreamElement K) (behavior : Behavior) (took : List (List Call)) → StreamStands bytes element behavior took
       → is_join element ≡ true → AllEnded took → wanted_of element ≡ None
@@ -36,17 +30,15 @@ module _ {K : Type 0} (bytes : K → Option (List ℕ)) where
       go (Some pad) e =
           let within = wants_within element pad e in
           let pads = has_pads bytes element behavior took t in
-          absurd (false≢true (sym (wants_open element behavior took pad t is e) ∙ at_place took ended pad (omega (arith, within, pads))))
+          absurd (false≢true (sym (wants_open bytes element behavior took pad t (inl is) e) ∙ at_place took ended pad (omega (arith, within, pads))))
 
   -- each other one wants its first sink pad, or none
   pub first_wanted : (element : StreamElement K) → is_join element ≡ false → (wanted_of element ≡ Some 0) ⊎ (wanted_of element ≡ None)
   first_wanted (Join join) other = absurd (cc)
-  first_wanted (Queue queue) other = go (has_ended queue)
-    where
-      go : (b : Bool) → (queue_wants b ≡ Some 0) ⊎ (queue_wants b ≡ None)
-      go true = inr refl
-      go false = inl refl
-  first_wanted _ other = inl refl
+  first_wanted (Filter filter) other = first_or_none (has_passed_eos filter.filter)
+  first_wanted (Queue queue) other = first_or_none (has_ended queue)
+  first_wanted (Tee tee) other = first_or_none (tee_has_ended tee)
+  first_wanted (Sink sink) other = inl refl
 
   -- which it is can be told by its rule
   pub told_join : (element : StreamElement K) (behavior : Behavior) (took : List (List Call)) → StreamStands bytes element behavior took

@@ -10,7 +10,7 @@ use Rattle.lane_core.specs.declared.ends.Outlet as outlets
 use Rattle.net_model.specs.Moment.{Moment}
 use Rattle.net_model.specs.declared.element.TaskElement as elements
 use Rattle.net_model.specs.declared.source.TaskSource as sources
-use Rattle.el_settings.specs.Asked.{makes_sinks, source_pads}
+use Rattle.el_settings.specs.Asked.{source_pads}
 use Rattle.graph_core.specs.Elements.{Made}
 use Rattle.graph_core.specs.Graph.{made as made_in, links as links_in}
 use Rattle.graph_core.specs.GraphPlan.{pad_id, sink_count}
@@ -58,13 +58,13 @@ module _ (contents : ℕ → List ℕ) (made : List Made) (links : List PadLink)
       → source.pad < source_pads element.settings → went_from h source ≡ owed_by contents made links took source element.settings
 
   -- Why the task of a head cannot go on, by the step that it answers. It wants an item of a sink pad of its head, of which all that
-  -- came was taken, and which had no EOS where the head joins streams. Or an item waits at a source pad behind which the lane is
+  -- came was taken, and which had no EOS. Or an item waits at a source pad behind which the lane is
   -- full: of what crossed the pad, as many items as that holds were not taken. Or its head took EOS at each of its sink pads; a
   -- source, which has none, has given all.
   pub data IsStuck (head : ℕ) : Step → Type 0 where
     needs_item : (pad : ℕ) → pad < sink_count (slice_get made head) → NothingWaits head
         → came_to links took (place_at head pad) ≡ came_to links h (place_at head pad)
-        → (has makes_sinks made head ≡ true → eos_among (came_to links h (place_at head pad)) ≡ false)
+        → eos_among (came_to links h (place_at head pad)) ≡ false
         → IsStuck head (NeedsItem (lane_into links (place_at head pad)))
     needs_room : (source sink : PadPlace) (item : Item) (room : ℕ) → Reaches made links head source.element → sink_behind links source ≡ Some sink
         → IsDue source item → lane_room made links (pad_id sink) ≡ Some room → length (went_from took source) + room ≤ length (went_from h source)

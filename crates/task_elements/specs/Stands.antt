@@ -8,14 +8,14 @@ use Rattle.net_model.specs.Moment.{Behavior}
 use Rattle.el_basic.specs.declared.identity.Identity.{Identity}
 use Rattle.el_basic.specs.declared.tee.Tee.{Tee}
 use Rattle.el_basic.specs.Passed.{has_ended}
-use Rattle.el_basic.specs.Spread.{Spread, pad_count}
+use Rattle.el_basic.specs.Spread.{Spread, has_ended as tee_has_ended, pad_count}
 use Rattle.el_set.specs.declared.filter.FilterElement.{FilterElement}
 use Rattle.el_set.specs.declared.filter.FilterElement.TheVariants.{Identity as PassesAll}
 use Rattle.el_set.specs.declared.join.JoinElement.{JoinElement}
 use Rattle.el_set.specs.declared.sink.SinkElement.{SinkElement}
 pub use Rattle.el_set.specs.Denoted.{answers_by}
 use Rattle.el_set.specs.Joins.{JoinStands, join_answers, join_pads, join_rule, join_wanted}
-use Rattle.el_set.specs.Stands.{Stands}
+use Rattle.el_set.specs.Stands.{Stands, has_passed_eos}
 use Rattle.el_set.specs.Holds.{SinkHeld, SinkPart, sink_file, sink_len, sink_faults}
 use Rattle.task_elements.specs.declared.element.StreamElement.{StreamElement}
 use Rattle.task_elements.specs.declared.element.StreamElement.TheVariants.{Filter, Queue, Tee as Splits, Join, Sink}
@@ -106,11 +106,17 @@ abbrev pub sinks_of : {K : Type 0} → StreamElement K → ℕ
 sinks_of (Join join) = join_pads join.join
 sinks_of _ = 1
 
--- the sink pad from which it wants its next item, where it is fed from inlets; a queue wants none behind EOS
+-- the only sink pad, where more is wanted
+abbrev pub first_unless : Bool → Option ℕ
+first_unless over = if over then None else Some 0
+
+-- the sink pad from which it wants its next item, where it is fed from inlets; what passes all wants none behind EOS
 abbrev pub wanted_of : {K : Type 0} → StreamElement K → Option ℕ
-wanted_of (Queue queue) = if has_ended queue then None else Some 0
+wanted_of (Filter filter) = first_unless (has_passed_eos filter.filter)
+wanted_of (Queue queue) = first_unless (has_ended queue)
+wanted_of (Splits tee) = first_unless (tee_has_ended tee)
 wanted_of (Join join) = join_wanted join.join
-wanted_of _ = Some 0
+wanted_of (Sink sink) = Some 0
 
 -- whether it is one of those with several sink pads
 abbrev pub is_join : {K : Type 0} → StreamElement K → Bool

@@ -9,7 +9,7 @@ ghost use Rattle.net_model.specs.Refuses.{RefusesBy};
 ghost use Rattle.net_model.specs.Failures.{NeverFalls, IsWriteCause};
 ghost use Rattle.el_basic.specs.Spread.{pad_count};
 ghost use Rattle.el_set.specs.Holds.{sink_file, sink_faults};
-ghost use Rattle.task_elements.specs.Stands.{FilterTook, TeeTook, passing, SinkStands, SinkFell};
+ghost use Rattle.task_elements.specs.Stands.{FilterTook, TeeTook, first_unless, passing, SinkStands, SinkFell};
 
 use crate::filter::StreamFilter;
 use crate::join::StreamJoin;
@@ -66,9 +66,11 @@ impl<K: Sink> TaskElement for StreamElement<K> {
 
     fn wants(&self) -> Option<u32> {
         match self {
-            StreamElement::Queue(queue) if queue.is_over() => None,
+            StreamElement::Filter(filter) => first_unless(filter.filter.has_passed_eos()),
+            StreamElement::Queue(queue) => first_unless(queue.is_over()),
+            StreamElement::Tee(tee) => first_unless(tee.is_over()),
             StreamElement::Join(join) => join.join.wants(),
-            _ => Some(0),
+            StreamElement::Sink(_) => Some(0),
         }
     }
 }
@@ -95,6 +97,14 @@ impl<K: Sink> StreamElement<K> {
             _ => None,
         }
     }
+}
+
+/// The only sink pad, unless all came to it.
+#[inline(always)]
+fn first_unless(over: bool) -> Option<u32>
+    ensures { result ≡ first_unless over }
+{
+    if over { None } else { Some(0) }
 }
 
 /// A queue takes an item and puts it out. Where it refuses it, for want of memory, it is as before.

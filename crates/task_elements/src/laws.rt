@@ -1,11 +1,13 @@
 //! Laws of the elements of a stream. Each function does nothing: its contract is the law.
-ghost use Rattle.std.specs.Prelude.{◌≡◌, ◌<◌, ℕ, true, false, List, [], None, Some, length, replicate};
+ghost use Rattle.std.specs.Prelude.{◌≡◌, ◌<◌, ◌⊎◌, ℕ, true, false, List, [], None, Some, length, replicate};
 ghost use Rattle.flow_model.specs.Call.{Call};
 ghost use Rattle.flow_model.specs.Section.{IsPlain};
 ghost use Rattle.net_model.specs.Moment.{Behavior};
 ghost use Rattle.net_model.specs.Whole.{OwesInOrder};
 ghost use Rattle.net_model.specs.Over.{list_ended, AllEnded};
-ghost use Rattle.flow_model.specs.SinkPads.{InSection};
+ghost use Rattle.flow_model.specs.Feeding.{has_eos};
+ghost use Rattle.flow_model.specs.SinkPads.{InSection, calls_at};
+ghost use Rattle.el_set.specs.Passing.{PassesEach};
 ghost use Rattle.task_elements.specs.Ended.{FirstEnded};
 ghost use Rattle.task_elements.specs.Stands.{StreamStands, is_join, pads_of, sinks_of, wanted_of};
 ghost use Rattle.task_elements.specs.declared.element.StreamElement.{StreamElement};
@@ -34,7 +36,8 @@ pub fn eos_goes_on<K: Sink>()
 {}
 
 /// An element took a list at each of its sink pads, of which only those of `is_join` have another number than one. The pad that
-/// it wants is one of them; where it wants none, EOS came on each since its last FLUSH_STOP.
+/// it wants is one of them; where it wants none, EOS came on each since its last FLUSH_STOP. One that passes all, or is of those, wants
+/// no pad on which EOS came.
 pub fn elements_want_open_pads<K: Sink>()
     ensures pads { (element : StreamElement K) (behavior : Behavior) (took : List (List Call)) → StreamStands K.bytes element behavior took
         → length took ≡ sinks_of element }
@@ -42,4 +45,6 @@ pub fn elements_want_open_pads<K: Sink>()
     ensures within { (element : StreamElement K) (pad : ℕ) → wanted_of element ≡ Some pad → pad < sinks_of element }
     ensures none { (element : StreamElement K) (behavior : Behavior) (took : List (List Call)) → StreamStands K.bytes element behavior took
         → wanted_of element ≡ None → AllEnded took }
+    ensures open { (element : StreamElement K) (behavior : Behavior) (took : List (List Call)) (pad : ℕ) → StreamStands K.bytes element behavior took
+        → (is_join element ≡ true) ⊎ PassesEach behavior.owes → wanted_of element ≡ Some pad → has_eos (calls_at pad took) ≡ false }
 {}

@@ -43,7 +43,7 @@ module _ (contents : ℕ → List ℕ) (graph : Graph) (h took : ℕ → List It
   has_ended : (head : ℕ) → has is_head (made_in graph) head ≡ true → is_live graph head ≡ true → joins_in graph head ≡ true → (step : Step)
       → IsStuck contents (made_in graph) (links_in graph) h took head step → step ≡ steps_of.Ended
   has_ended head is live joins step (needs_item pad within rests same not_ended) =
-      absurd (no (sym (not_ended joins) ∙ ap eos_among (sym same) ∙ over.ended head pad is live within))
+      absurd (no (sym not_ended ∙ ap eos_among (sym same) ∙ over.ended head pad is live within))
     where
       no : false ≡ true → ⊥
       no e = cc
