@@ -60,7 +60,7 @@ taken_own : (kind : Kind) (name : List ℕ) (domain : Domain) (prop : Prop) → 
 taken_own kind name domain prop row own true same text e =
     let words : prop.name ≡ name = (bytes_eq-Decides prop.name name).0 same in
     let rows : Some own.0 ≡ Some domain = sym own.1 ∙ ap (domain_named kind) words ∙ row in
-    moved own.0 domain prop.value text (inner rows) (some_same e) own.2
+    moved own.0 domain prop.value text (some_same rows) (some_same e) own.2
   where
     moved : (d f : Domain) (t u : List ℕ) → d ≡ f → t ≡ u → InDomain d t → InDomain f u
     moved d f t u e g s = rw (← e, ← g) s
