@@ -3,7 +3,7 @@
 use Rattle.std.proofs.Common.{◌≡◌, true, false, List, [], ◌∷◌, None, refl, ◌∙◌, subst}
 use Rattle.gst_caps.specs.declared.caps.Caps.{Caps}
 use Rattle.gst_caps.specs.declared.caps.Caps.TheVariants.{Of}
-use Rattle.flow_model.specs.Item.{Item, Buf, Ev, NewCaps}
+use Rattle.flow_model.specs.Item.{Item, Buf, Ev, FlushStop, NewCaps}
 use Rattle.flow_model.specs.Call.{Call}
 use Rattle.flow_model.specs.Rule.{Response, passes, single}
 use Rattle.flow_model.specs.Feeding.{has_eos}
@@ -19,7 +19,8 @@ use Rattle.el_set.specs.declared.filter.FilterElement.{FilterElement}
 use Rattle.el_set.specs.declared.filter.FilterElement.TheVariants as elements
 
 pub each_passes : PassesEach (single passes)
-each_passes caps x plain = rw plain refl
+each_passes caps (Ev (FlushStop number)) plain = absurd (cc)
+each_passes caps _ plain = refl
 
 pub queues_pass : (s : Settings) → is_queue s ≡ true → PassesEach (rule_of s)
 queues_pass (Queue s) is = each_passes
@@ -28,13 +29,13 @@ queues_pass _ is = absurd (cc)
 none_some : {x : Item} {xs : List Item} → [] ≡ x ∷ xs → ⊥
 none_some e = cc
 
-no_bytes : Item
+abbrev no_bytes : Item
 no_bytes = Buf (record { body = []; pts = None; duration = None; offset = None; discont = false })
 
-some_caps : Item
+abbrev some_caps : Item
 some_caps = Ev (NewCaps (caps_of S16LE 1 1))
 
-no_caps : Caps
+abbrev no_caps : Caps
 no_caps = Of []
 
 -- it was given no EOS in its section, or it says so
