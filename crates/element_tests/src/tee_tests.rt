@@ -2,11 +2,10 @@
 ghost use Rattle.std.specs.Prelude.{◌≤◌};
 
 use el_basic::*;
-use gst_item::{Body, Item, Outs};
+use gst_item::{Item, Outs};
 use gst_value::List;
-use item_letters::{buffer_of, is_flush, item_of, letter_of, letter_of_flow};
+use item_letters::{is_flush, item_of, letter_of, letter_of_flow};
 use std::alloc::Global;
-use std::ptr;
 use std::test::Fail;
 
 fn digit_of(number: u32) -> u8 {
@@ -74,37 +73,5 @@ fn rows_of_tees(rt: HostRuntime) -> Result<(), Fail> {
         let trace = tee_trace(alloc, pads.min(64), calls)?;
         assert_eq!(rt; trace.as_slice(), wanted);
     }
-    Ok(())
-}
-
-/// Whether two bodies of bytes begin at the same place of memory.
-fn begin_together(one: &Body, other: &Body) -> bool {
-    match (one.as_slice().first(), other.as_slice().first()) {
-        (Some(first), Some(second)) => ptr::eq(first, second),
-        _ => false,
-    }
-}
-
-#[test]
-fn branches_share_a_body(rt: HostRuntime) -> Result<(), Fail> {
-    let alloc = rt.alloc();
-    let mut tee = Tee::new(3);
-    let mut out = List::new(alloc);
-    let given = buffer_of(alloc, b"abc")?;
-    let kept = given.copy(alloc)?;
-    tee.feed(alloc, 0, given, &mut out)?;
-    let Item::Buffer(kept) = kept else {
-        return Err("a buffer")?;
-    };
-    let mut shared = 0_u32;
-    for one in out.as_slice() {
-        if let Item::Buffer(buffer) = &one.item {
-            assert!(rt; begin_together(&kept.body, &buffer.body));
-            shared = shared.saturating_add(1);
-        }
-    }
-    assert_eq!(rt; shared, 3);
-    let apart = Body::from_vec(alloc, Vec::from_slice(alloc, b"abc")?)?;
-    assert!(rt; !begin_together(&kept.body, &apart));
     Ok(())
 }
