@@ -5,3 +5,5 @@
 mod launch_run_tests;
 #[cfg(test)]
 mod world_core_tests;
+#[cfg(test)]
+mod script_tests;
