@@ -2,7 +2,5 @@
 #![tactic(auto)]
 
 mod denoting;
-mod joined;
-mod sections;
 
 pub use denoting::denote;

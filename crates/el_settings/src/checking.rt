@@ -39,21 +39,6 @@ pub fn check(alloc: Global, kind: &str, props: &List<Prop>) -> Result<Settings, 
     }
 }
 
-/// Whether a kind is there, and all properties are its own.
-pub fn has_kind(kind: &str, props: &[Prop]) -> bool {
-    match kind_named(kind) {
-        Some(kind) => {
-            for prop in props {
-                if domain_named(kind, prop.name.as_str()).is_none() {
-                    return false;
-                }
-            }
-            true
-        }
-        None => false,
-    }
-}
-
 /// The same for a kind that is there.
 fn check_kind(alloc: Global, kind: Kind, props: &[Prop]) -> Result<Settings, PropFault>
     ensures { IsKindAnswer kind props.now result }

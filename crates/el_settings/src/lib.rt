@@ -14,7 +14,7 @@ mod settings;
 mod templates;
 mod values;
 
-pub use checking::{check, has_kind};
+pub use checking::check;
 pub use fault::PropFault;
 pub use pads::MadePads;
 pub use settings::{

@@ -5,7 +5,6 @@ ghost use Rattle.graph_core.specs.Graph.{IsGraph, IsFaultOrMemory, IsSound};
 use crate::allowed::allow;
 use crate::chains::chains_of;
 use crate::counting::count_pads;
-use crate::editing::Edits;
 use crate::fault::BuildFault;
 use crate::graph::Graph;
 use crate::links::links_of;
@@ -27,15 +26,9 @@ pub fn build(alloc: Global, tree: &Tree) -> Result<Graph, BuildFault>
     count_pads(&mut elements, links.made.as_slice());
     allow(alloc, &mut elements, &links)?;
     let live = live_elements(alloc, &elements, links.made.as_slice())?;
-    let edits = Edits {
-        lined: elements.count(),
-        removed: Vec::new(alloc),
-        activated: Vec::new(alloc),
-    };
     Ok(Graph {
         elements,
         links,
         live,
-        edits,
     })
 }

@@ -1,6 +1,5 @@
 //! The graph of a line.
 use crate::allowed::allowed_caps;
-use crate::editing::Edits;
 use crate::elements::Elements;
 use crate::ends::pad_name;
 use crate::links::Links;
@@ -17,7 +16,6 @@ pub struct Graph {
     pub(crate) elements: Elements,
     pub(crate) links: Links,
     pub(crate) live: Vec<bool>,
-    pub(crate) edits: Edits,
 }
 
 impl Graph {

@@ -71,7 +71,7 @@ fn caps_prop(alloc: Global, caps: &Text) -> Result<List<Prop>, OutOfMemory>
 }
 
 /// Makes an element of a kind behind those before it.
-pub(crate) fn add(
+fn add(
     alloc: Global,
     elements: &mut Elements,
     kind: &str,

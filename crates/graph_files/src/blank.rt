@@ -35,7 +35,7 @@ pub(crate) fn each_blank(alloc: Global, graph: &Graph) -> Result<VecDeque<Blank>
 }
 
 /// What is made of an element of these settings before its file is open.
-pub(crate) fn blank_of(alloc: Global, settings: &Settings) -> Result<Blank, OutOfMemory>
+fn blank_of(alloc: Global, settings: &Settings) -> Result<Blank, OutOfMemory>
     ensures { IfOk result (IsBlankFor settings.now) }
 {
     let title = title_of(alloc, settings)?;

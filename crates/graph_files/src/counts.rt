@@ -44,7 +44,7 @@ fn count_part<E: TaskElement, O: Outlet>(part: &Part<E, O>, counts: &mut Vec<Cou
 }
 
 /// Puts what the source pads of elements have counted at their numbers.
-pub fn count_parts<E: TaskElement, O: Outlet>(parts: &[Part<E, O>], counts: &mut Vec<Count>)
+fn count_parts<E: TaskElement, O: Outlet>(parts: &[Part<E, O>], counts: &mut Vec<Count>)
     ensures { PutBack (Among PartCounted parts.now) counts.old.items counts.new.items }
 {
     for place in 0..parts.len() {

@@ -13,6 +13,5 @@ mod taking;
 
 pub use back::take_back;
 pub use blanks::{Blanks, Filled};
-pub use counts::{Count, count_pads, count_parts};
+pub use counts::{Count, count_pads};
 pub use openings::openings_of;
-pub use parting::{Pair, element_of};

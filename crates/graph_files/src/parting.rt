@@ -7,16 +7,15 @@ ghost use Rattle.graph_files.specs.Blanks.{BlankAt, IsBlankFor};
 ghost use Rattle.graph_files.specs.Ends.{left_by, sink_end, source_end};
 ghost use Rattle.graph_files.specs.Filled.{IsFilled, IsGiverFor, IsMadeFor, PairAt};
 
-use crate::blank::{Blank, blank_of};
+use crate::blank::Blank;
 use crate::taking::{place_at, taken};
 use el_basic::Identity;
 use el_set::{FilterElement, JoinElement, sink_of, source_of, tee_of};
 use el_settings::Settings;
 use graph_core::Graph;
 use gst_outside::{Sink, Source};
-use gst_value::{OutOfMemory, Text};
+use gst_value::Text;
 use run_files::End;
-use std::alloc::Global;
 use task_elements::{StreamElement, StreamFilter, StreamJoin, StreamSource};
 
 /// What is made of an element, and what is left of the end that stands under its number.
@@ -211,18 +210,4 @@ fn source_for<S: Source>(
         Some(source) => Some(StreamSource::new(source)),
         None => None,
     }
-}
-
-/// What is made of an element, with the end of its file.
-pub fn element_of<S: Source, K: Sink>(
-    alloc: Global,
-    graph: &Graph,
-    number: u32,
-    end: Option<End<S, K>>,
-) -> Result<Pair<S, K>, OutOfMemory> {
-    let blank = blank_of(alloc, graph.settings(number))?;
-    let Slot {
-        element, source, ..
-    } = slot_of(graph.settings(number), number, blank, end);
-    Ok(Pair { element, source })
 }

@@ -1,6 +1,5 @@
 //! Elements in an order in which each link goes forward.
-ghost use Rattle.std.specs.Prelude.{◌≡◌, ◌↔◌, IsTrue, ◌<◌, ◌+◌, ◌^◌, ◌++◌, [], All, true, false, length, filter, IfOk, OnOk, OnErr, vec_len};
-ghost use Rattle.graph_order.specs.Links.{Way};
+ghost use Rattle.std.specs.Prelude.{◌≡◌, ◌<◌, ◌+◌, ◌^◌, ◌++◌, [], All, true, false, length, filter, IfOk, OnOk, OnErr, vec_len};
 ghost use Rattle.graph_order.specs.Marks.{is_chosen};
 
 use crate::link::Link;
@@ -75,16 +74,6 @@ impl Order {
         self.links.push(Link { from, to })?;
         self.forward = forward;
         Ok(Linking::Linked)
-    }
-
-    /// Whether a way leads from one element to another along links that were ever made. To itself it does.
-    pub fn leads(&self, alloc: Global, from: u32, to: u32) -> Result<bool, OutOfMemory>
-        requires from { from < count_of self.now }
-        requires to { to < count_of self.now }
-        ensures { IfOk result (λ leads. IsTrue leads ↔ Way (links_of self.now) from to) }
-    {
-        let marks = reached(alloc, self.forward.len(), &self.links, from)?;
-        Ok(marks[to as usize])
     }
 
     /// The elements, each once, in an order in which each link goes forward.

@@ -224,16 +224,6 @@ impl<S: TaskSource, E: TaskElement, I: Inlet<Out = O>, O: Outlet<Lanes = I::Lane
         &self.head
     }
 
-    /// Where its items come from.
-    pub fn head_mut(&mut self) -> &mut Head<S, I, O> {
-        &mut self.head
-    }
-
-    /// Its elements with their source pads.
-    pub fn parts_mut(&mut self) -> &mut Vec<Part<E, O>> {
-        &mut self.parts
-    }
-
     /// Its elements with their source pads, in the order in which these are tried.
     pub fn parts(&self) -> &[Part<E, O>]
         ensures { result.now ≡ self.now.parts.items }

@@ -5,5 +5,3 @@
 mod launch_run_tests;
 #[cfg(test)]
 mod world_core_tests;
-#[cfg(test)]
-mod script_tests;

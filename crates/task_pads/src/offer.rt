@@ -104,10 +104,3 @@ pub(crate) fn linked_pad(number: u32, sink: u32) -> SrcPad
     link(&mut src, &mut sink, true);
     src
 }
-
-/// A pad loses its link, and is linked to a sink pad.
-pub(crate) fn join(src: &mut SrcPad, sink: u32) {
-    src.unlink();
-    let mut sink = SinkPad::new(sink, true);
-    link(src, &mut sink, true);
-}

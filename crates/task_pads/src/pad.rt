@@ -6,14 +6,13 @@ ghost use Rattle.pad_core.specs.Linking.{has_peer};
 ghost use Rattle.task_pads.specs.Behind.{leads_on, items_of};
 
 use crate::crossing::{Crossing, cross};
-use crate::offer::{join, linked_pad};
-use gst_item::{Event, Item, Out};
-use gst_value::{List, OutOfMemory};
+use crate::offer::linked_pad;
+use gst_item::{Item, Out};
+use gst_value::OutOfMemory;
 use lane_core::Outlet;
 use pad_core::SrcPad;
 use std::alloc::Global;
 use std::collections::VecDeque;
-use std::mem;
 
 /// Where a source pad leads.
 #[derive(Drop)]
@@ -215,33 +214,6 @@ impl<O: Outlet> Pad<O> {
         self.waiting.push_back_reserved(Out { pad: 0, item });
     }
 
-    /// From now on it leads elsewhere. What it led to is given back.
-    pub fn lead_to(&mut self, behind: Behind<O>) -> Behind<O> {
-        match behind.sink_pad() {
-            Some(sink) => join(&mut self.src, sink),
-            None => self.src.unlink(),
-        }
-        mem::replace(&mut self.behind, behind)
-    }
-
-    /// Copies of the sticky events in force.
-    pub fn sticky_events(&self, alloc: Global) -> Result<List<Event>, OutOfMemory> {
-        self.src.stickies(alloc)
-    }
-
-    /// Whether EOS has crossed it.
-    pub fn has_ended(&self) -> bool {
-        self.src.has_ended()
-    }
-
-    /// Whether a buffer waits first.
-    pub fn holds_buffer(&self) -> bool {
-        match self.waiting.front() {
-            Some(out) => matches!(out.item, Item::Buffer(_)),
-            None => false,
-        }
-    }
-
     /// Sets the probe of a command, which stops the buffer behind so many.
     pub fn block(&mut self, command: u32, buffers: u64)
         ensures probe { probe_of self.new ≡ Some (record { command = command; buffers = buffers }) }
@@ -268,15 +240,6 @@ impl<O: Outlet> Pad<O> {
 }
 
 impl<O> Behind<O> {
-    /// The number of the sink pad at its element.
-    fn sink_pad(&self) -> Option<u32> {
-        match self {
-            Behind::Nothing => None,
-            Behind::Element { pad, .. } => Some(*pad),
-            Behind::Lane { pad, .. } => Some(*pad),
-        }
-    }
-
     ghost use Rattle.std.specs.Prelude.{[], None};
     ghost use Rattle.pad_core.specs.SrcPad.{CrossedBy};
 

@@ -24,8 +24,6 @@ pub struct SourceHead<S: TaskSource, O> {
     pub(crate) pad: Pad<O>,
     /// How many items it gave.
     pub(crate) given: u64,
-    /// Whether it gives items yet.
-    pub(crate) active: bool,
     ghost few: { S.count source ≤ given },
 }
 
@@ -76,7 +74,6 @@ impl<S: TaskSource, O: Outlet> SourceHead<S, O> {
             source,
             pad,
             given: 0,
-            active: true,
         }
     }
 
@@ -91,9 +88,6 @@ impl<S: TaskSource, O: Outlet> SourceHead<S, O> {
         ensures number { self.new.number ≡ self.old.number }
         ensures rest { rest_of self.new.pad ≡ rest_of self.old.pad }
     {
-        if !self.active {
-            return Ok(Given::Ended);
-        }
         if self.given > MOST_ITEMS {
             return Ok(Given::AtLimit);
         }
@@ -134,16 +128,6 @@ impl<S: TaskSource, O: Outlet> SourceHead<S, O> {
         &self.pad
     }
 
-    /// Its source pad.
-    pub fn pad_mut(&mut self) -> &mut Pad<O> {
-        &mut self.pad
-    }
-
-    /// From now on it gives items, or none.
-    pub fn set_active(&mut self, active: bool) {
-        self.active = active;
-    }
-
     /// The source. What waited at its pad is given up.
     pub fn into_source(self) -> S
         ensures { result ≡ self.source }
@@ -165,16 +149,6 @@ impl<I> InletHead<I> {
 }
 
 impl<I> InletHead<I> {
-    /// What each of its sink pads is fed from, by number.
-    pub fn rows_mut(&mut self) -> &mut Vec<InletRow<I>> {
-        &mut self.rows
-    }
-
-    /// Looks for its element first at a place.
-    pub fn set_hint(&mut self, place: usize) {
-        self.hint = place;
-    }
-
     /// The number of the element in the graph.
     pub fn number(&self) -> u32
         ensures { result ≡ self.now.number }

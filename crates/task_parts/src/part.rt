@@ -111,11 +111,6 @@ impl<E: TaskElement, O: Outlet> Part<E, O> {
         self.first_waiting() >= self.pads.len()
     }
 
-    /// Its source pads, by number.
-    pub fn pads_mut(&mut self) -> &mut Vec<Pad<O>> {
-        &mut self.pads
-    }
-
     /// The element. What waited at its pads is given up.
     pub fn into_element(self) -> E
         ensures { result ≡ self.element }
@@ -126,7 +121,7 @@ impl<E: TaskElement, O: Outlet> Part<E, O> {
 
     /// What was put out goes to its pads.
     #[inline(always)]
-    pub fn settle(&mut self, alloc: Global) -> Result<(), OutOfMemory>
+    pub(crate) fn settle(&mut self, alloc: Global) -> Result<(), OutOfMemory>
         ensures settled { PartSettled self.old self.new }
         ensures all { OnOk result (IsSettled self.new) }
         ensures shape { part_shape self.new ≡ part_shape self.old }
@@ -138,7 +133,7 @@ impl<E: TaskElement, O: Outlet> Part<E, O> {
 
     /// The element takes an item, and what it puts out waits at its pads.
     #[inline(always)]
-    pub fn feed(&mut self, alloc: Global, pad: u32, item: Item) -> Result<(), Refused>
+    pub(crate) fn feed(&mut self, alloc: Global, pad: u32, item: Item) -> Result<(), Refused>
         requires no_flush { is_flush_stop item ≡ false }
         ensures fed { OnOk result (PartFed self.old self.new pad item) }
         ensures fell { IfErr result (PartFell self.old self.new pad item) }

@@ -6,9 +6,7 @@ mod laws;
 mod pads;
 mod report;
 mod run;
-mod script;
 mod stall;
 
 pub use ended::WorldEnd;
 pub use run::run_turns;
-pub use script::run_script;

@@ -202,8 +202,6 @@ pub(crate) enum Stop {
     Stalled(List<StalledTask>),
     /// One met a fault.
     Fault(TaskFault),
-    /// None can move, and the command of this number waits, or the run is not over.
-    Waits(Option<u32>, List<StalledTask>),
 }
 
 /// The status and the fault of a run, by how its tasks stopped.
@@ -219,7 +217,6 @@ fn stop_told(alloc: Global, graph: &Graph, stop: Stop) -> Result<(u8, Fault), Ou
                 tasks,
             },
         )),
-        Stop::Waits(command, tasks) => Ok((STALLED, Fault::Stalled { command, tasks })),
         Stop::Fault(fault) => {
             let status = status_of(&fault);
             Ok((status, fault_of(alloc, graph, fault)?))
