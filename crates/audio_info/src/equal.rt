@@ -1,7 +1,6 @@
 //! Whether two fixed caps are equal.
 ghost use Rattle.std.specs.Prelude.{◌≡◌};
 ghost use Rattle.std.specs.Option.{option_map};
-ghost use Rattle.gst_value.specs.Common.{same};
 ghost use Rattle.audio_info.specs.Same.{same_caps as same_caps_of, same_given};
 
 use gst_value::{Fixed, One};

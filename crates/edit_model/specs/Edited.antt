@@ -5,9 +5,7 @@ use Rattle.flow_model.specs.Link.{Span, Linked}
 use Rattle.net_model.specs.Edit.{push_span, undo}
 use Rattle.el_settings.specs.Asked.{sink_pads}
 use Rattle.graph_core.specs.Elements.{Made}
-use Rattle.graph_core.specs.Graph.{links as links_in, made as made_in}
 use Rattle.graph_core.specs.GraphPlan.{pad_id, sinks_in}
-use Rattle.graph_core.specs.declared.graph.Graph.{Graph}
 use Rattle.graph_pads.specs.Links.{is_same}
 use Rattle.graph_pads.specs.declared.pad.PadLink.{PadLink}
 use Rattle.graph_pads.specs.declared.pad.PadPlace.{PadPlace}
@@ -29,9 +27,6 @@ pub record Edited : Type 0 where
 -- nothing was done to the graph yet
 abbrev pub unedited : List Made → List PadLink → Edited
 unedited made links = record { lined = length made; made = made; removed = []; links = links; ever = links; spans = sinks_in made links }
-
-abbrev pub as_built : Graph → Edited
-as_built graph = unedited (made_in graph) (links_in graph)
 
 -- ---- what is asked of it
 

@@ -1,7 +1,7 @@
 //! Sink pads.
 ghost use Rattle.std.specs.Prelude.{◌≡◌, ◌≤◌, ◌+◌, ◌++◌, ◌∷◌, [], false, if◌then◌else◌, Ok, None, Some, map, length, vec_len, vec_capacity, IfOk, OnOk, OnErr, IfErr};
 ghost use Rattle.flow_model.specs.Sticky.{has_flush_stop};
-ghost use Rattle.flow_model.specs.Item.{is_eos, is_flush_stop};
+ghost use Rattle.flow_model.specs.Item.{is_flush_stop};
 ghost use Rattle.flow_model.specs.Feeding.{on_pad};
 ghost use Rattle.flow_model.specs.Rule.{TooLong};
 ghost use Rattle.el_join.specs.Outs.{items_of, fault_in, IsDue};

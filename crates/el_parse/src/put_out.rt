@@ -1,5 +1,5 @@
 //! What parsers put out at once.
-ghost use Rattle.std.specs.Prelude.{◌≡◌, ◌++◌, ◌∷◌, [], OnOk, OnErr};
+ghost use Rattle.std.specs.Prelude.{◌≡◌, ◌++◌, ◌∷◌, OnOk, OnErr};
 ghost use Rattle.flow_model.specs.Item.{Ev, NewCaps, NewSegment};
 ghost use Rattle.flow_model.specs.Feeding.{on_pad};
 ghost use Rattle.audio_info.specs.Media.{caps_of};

@@ -35,7 +35,6 @@ use Rattle.graph_moment.specs.Plans.{moment_plan}
 use Rattle.graph_moment.proofs.Sources.{in_order, linked_there, moment_goes, place_is_pad}
 use Rattle.graph_moment.proofs.Wholes.{pads_have_numbers}
 use Rattle.graph_bags.specs.Laws.{StandsIn}
-use Rattle.graph_bags.specs.Links.{has}
 use Rattle.graph_bags.specs.declared.bag.Bag.{Bag}
 use Rattle.graph_bags.proofs.Apart.{bags_are_there}
 use Rattle.task_elements.specs.declared.element.StreamElement.{StreamElement}

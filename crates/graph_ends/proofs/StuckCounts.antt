@@ -4,7 +4,6 @@ use Rattle.std.proofs.Common.{refl, sym, ap, ◌∙◌, subst, arith}
 use Rattle.std.specs.Prelude.{slice_get}
 use Rattle.std.proofs.lemmas.Bool.{eq-eqb}
 use Rattle.std.proofs.lemmas.Bool.Decides.{eqb_tells}
-use Rattle.flow_model.specs.Call.{feeds}
 use Rattle.lane_core.specs.declared.ends.Inlet as inlets
 use Rattle.inlet_row.specs.Feed.{first_some, received_in}
 use Rattle.inlet_row.specs.Row.{feeds_of, received_of}

@@ -24,7 +24,6 @@ use Rattle.graph_core.specs.GraphPlan.{line_plan, pad_id}
 use Rattle.graph_core.specs.declared.graph.Graph.{Graph}
 use Rattle.graph_pads.specs.declared.pad.PadLink.{PadLink}
 use Rattle.graph_pads.specs.declared.pad.PadPlace.{PadPlace}
-use Rattle.graph_bags.specs.Bags.{numbers}
 use Rattle.graph_bags.specs.Links.{Reaches}
 use Rattle.graph_bags.specs.declared.bag.Bag.{Bag}
 use Rattle.graph_bags.specs.declared.bag.BagHead.{BagHead}

@@ -1,5 +1,5 @@
 //! The fixation of fields: the first of each list, and the least of each range.
-ghost use Rattle.std.specs.Prelude.{◌≡◌, ◌+◌, ◌<◌, ◌≤◌, ◌++◌, ◌∷◌, [], Option, drop, length, map, IfOk, OnOk};
+ghost use Rattle.std.specs.Prelude.{◌≡◌, ◌+◌, ◌<◌, ◌≤◌, ◌++◌, ◌∷◌, [], Option, length, map, IfOk, OnOk};
 ghost use Rattle.std.specs.List.{filter_map};
 ghost use Rattle.gst_caps.specs.Accepts.{merged};
 ghost use Rattle.gst_value.specs.Common.{common_one, commons, first_least, first_of};

@@ -1,8 +1,7 @@
 //! The fields of two structures in one list, in the order of their names.
-ghost use Rattle.std.specs.Prelude.{◌≡◌, ◌+◌, ◌<◌, ◌≤◌, ◌++◌, ◌∷◌, [], true, false, drop, length, map, IfOk, IfErr, OnOk};
+ghost use Rattle.std.specs.Prelude.{◌≡◌, ◌+◌, ◌<◌, ◌≤◌, ◌++◌, ◌∷◌, [], true, false, length, IfOk, IfErr, OnOk};
 ghost use Rattle.gst_caps.specs.Accepts.{merged};
 ghost use Rattle.gst_caps.specs.Passes.{fields_pass};
-ghost use Rattle.gst_caps.specs.Common.{least, members};
 ghost use Rattle.gst_value.specs.Limit.{IsFaultWhere, TooManyWhere};
 ghost use Rattle.gst_caps.specs.Merge.{IsShort, merged_from};
 ghost use Rattle.gst_value.specs.Names.{Each, Rises};

@@ -1,5 +1,5 @@
 //! Bodies of buffers.
-ghost use Rattle.std.specs.Prelude.{◌≡◌, ◌<◌, ◌≤◌, ◌^◌, length, slice_range, IfOk, OnOk};
+ghost use Rattle.std.specs.Prelude.{◌≡◌, ◌<◌, ◌≤◌, ◌^◌, length, slice_range, IfOk};
 ghost use Rattle.std.specs.Borrow.{sem};
 ghost use Rattle.gst_item.specs.Held.{held_bytes};
 ghost use Rattle.gst_item.specs.Lent.{LendsBlockIfOk, LendsBytes, LendsBytesIfOk, LendsOwnedIfOk};

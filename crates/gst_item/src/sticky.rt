@@ -1,5 +1,5 @@
 //! The sticky events of a pad.
-ghost use Rattle.std.specs.Prelude.{◌≡◌, ◌++◌, ◌∷◌, [], ℕ, List, map, IfOk, IsTrue, OnOk, OnErr};
+ghost use Rattle.std.specs.Prelude.{◌≡◌, ◌++◌, ◌∷◌, [], ℕ, List, map, IfOk, IsTrue, OnOk};
 ghost use Rattle.gst_item.specs.Item.{Item, Buf, Ev, Buffer, Gap, FlushStop, is_sticky};
 ghost use Rattle.gst_item.specs.Sticky.{held, in_force, stickies};
 

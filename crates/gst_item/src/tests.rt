@@ -25,3 +25,30 @@ fn holders_share_their_memory(rt: HostRuntime) -> Result<(), Fail> {
     assert!(rt; !part.holds_alone());
     Ok(())
 }
+
+fn buffer_of(alloc: Global, bytes: &[u8]) -> Result<Buffer, Fail> {
+    Ok(Buffer {
+        body: body_of(alloc, bytes)?,
+        pts: None,
+        duration: None,
+        offset: None,
+        discont: false,
+    })
+}
+
+#[test]
+fn copies_of_an_item_share_its_body(rt: HostRuntime) -> Result<(), Fail> {
+    let alloc = rt.alloc();
+    let item = Item::Buffer(buffer_of(alloc, b"abc")?);
+    let Item::Buffer(copied) = item.copy(alloc)? else {
+        return Err("a buffer")?;
+    };
+    assert!(rt; !copied.body.holds_alone());
+    let Item::Buffer(buffer) = item else {
+        return Err("a buffer")?;
+    };
+    assert!(rt; !buffer.body.holds_alone());
+    let apart = buffer_of(alloc, b"abc")?;
+    assert!(rt; apart.body.holds_alone());
+    Ok(())
+}

@@ -1,5 +1,5 @@
 //! Fields in the order of their names.
-ghost use Rattle.std.specs.Prelude.{◌≡◌, ◌+◌, ◌<◌, ◌≤◌, ◌^◌, ℕ, List, true, false, length, slice_index_or, slice_set, OnOk, OnErr, IfOk, IfErr, MatchResult, take};
+ghost use Rattle.std.specs.Prelude.{◌≡◌, ◌+◌, ◌<◌, ◌≤◌, ℕ, List, true, false, length, slice_index_or, slice_set, OnOk, OnErr, IfOk, IfErr, MatchResult, take};
 ghost use Rattle.std.specs.List.{insert};
 ghost use Rattle.gst_value.specs.Names.{Each, Rises, is_before, fields_with};
 ghost use Rattle.gst_value.specs.Limit.{TooManyWhere};

@@ -1,5 +1,5 @@
 //! Fractions in lowest terms.
-ghost use Rattle.std.specs.Prelude.{◌≡◌, ◌<◌, ◌/◌, ℤ, ℕ, pos, neg_ℤ, ◌⊎◌, IfSome, IfNone, SomeIff, FitsSigned, unsigned_abs};
+ghost use Rattle.std.specs.Prelude.{◌≡◌, ◌<◌, ◌/◌, ℤ, pos, ◌⊎◌, IfSome, IfNone, SomeIff, FitsSigned, unsigned_abs};
 ghost use Rattle.std.specs.Int.{IsGcd, w32};
 ghost use Rattle.gst_value.specs.Fractions.{IsReduced, IsTooWide, signed};
 ghost use Rattle.gst_value.specs.Parts.{HasParts};

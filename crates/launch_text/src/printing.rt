@@ -1,10 +1,9 @@
 //! Writes a line.
-ghost use Rattle.std.specs.Prelude.{◌≡◌, ◌++◌, ◌∷◌, [], map, IfOk, OnOk};
+ghost use Rattle.std.specs.Prelude.{◌≡◌, ◌++◌, ◌∷◌, map, IfOk, OnOk};
 ghost use Rattle.std.specs.String.{string_bytes};
 ghost use Rattle.std.specs.Char.{encode_utf8};
-ghost use Rattle.std.specs.List.{flat_map};
 ghost use Rattle.launch_text.specs.Printed.{caps_text, is_marked, line_text, reference_text, spaced, token_text, value_text, with_marks, with_tokens, with_word};
-ghost use Rattle.launch_text.specs.Tokens.{Token, chain_tokens, kind, linked, node_tokens, part_tokens, prop_token, property, reference, tree_tokens};
+ghost use Rattle.launch_text.specs.Tokens.{Token, chain_tokens, kind, linked, node_tokens, part_tokens, prop_token, tree_tokens};
 
 use crate::characters::Characters;
 use crate::tree::{Chain, Node, Part, Tree};

@@ -1,7 +1,6 @@
 -- What waits at a pad.
-use Rattle.std.proofs.Common.{◌≡◌, ◌≢◌, ◌≤◌, ◌<◌, ◌⊎◌, ◌+◌, ℕ, Bool, true, false, eqb, if◌then◌else◌, List, [], ◌∷◌, ◌++◌, length, get_or, Option, Some, refl, sym, ap, ◌∙◌, subst, inl, inr, arith, append-nil}
-use Rattle.std.specs.Prelude.{option_to_list, slice_get}
-use Rattle.std.proofs.lemmas.Bool.{cases_eq}
+use Rattle.std.proofs.Common.{◌≡◌, ◌≢◌, ◌<◌, ◌⊎◌, ◌+◌, ℕ, Bool, true, false, eqb, if◌then◌else◌, List, [], ◌∷◌, ◌++◌, length, get_or, Option, Some, refl, sym, ap, ◌∙◌, subst, inl, inr, arith, append-nil}
+use Rattle.std.specs.Prelude.{option_to_list}
 use Rattle.std.proofs.lemmas.Bool.Decides.{eqb_tells}
 use Rattle.std.proofs.lemmas.List.{map-append}
 use Rattle.gst_item.specs.declared.out.Out.{Out}
@@ -9,10 +8,7 @@ use Rattle.gst_item.specs.Sticky.{has_flush_stop}
 use Rattle.flow_model.specs.Item.{Item, is_flush_stop}
 use Rattle.net_model.specs.Takes.{on_port, AreWithin}
 use Rattle.task_pads.specs.Behind.{item_of, items_of}
-use Rattle.task_pads.specs.declared.pad.Pad.{Pad}
-use Rattle.task_pads.specs.Pads.{waiting_of}
 use Rattle.task_pads.specs.Put.{FirstNoFlush}
-use Rattle.gst_value.proofs.Basics.{some_same}
 
 pub items_push : (outs : List Out) (out : Out) → items_of (outs ++ out ∷ []) ≡ items_of outs ++ out.item ∷ []
 items_push outs out = map-append item_of outs (out ∷ [])
@@ -82,16 +78,6 @@ is_nil b n xs e size t = go (eqb_tells n 0)
     go (inl z) = nil xs (omega (arith, z.1, size))
     go (inr z) = absurd (let k : true ≡ false = sym t ∙ e ∙ z.0 in cc)
 
-pub not_nil : {A : Type 0} (b : Bool) (n : ℕ) (xs : List A) → b ≡ eqb n 0 → n ≡ length xs → b ≡ false → xs ≡ [] → ⊥
-not_nil b n xs e size f none = go (eqb_tells n 0)
-  where
-    zero_it : n ≡ 0
-    zero_it = size ∙ ap length none
-
-    go : ((eqb n 0 ≡ true) × (n ≡ 0)) ⊎ ((eqb n 0 ≡ false) × (n ≡ 0 → ⊥)) → ⊥
-    go (inl z) = let k : true ≡ false = sym z.0 ∙ sym e ∙ f in cc
-    go (inr z) = z.1 zero_it
-
 -- the first of a list that is not empty
 pub first_at : (outs : List Out) (first : Out) → 0 < length outs → first ≡ get_or outs 0 first → (rest : List Out) × (outs ≡ first ∷ rest)
 first_at [] first some e = absurd (omega arith)
@@ -103,17 +89,3 @@ first_no_flush outs first rest e n = subst FirstNoFlush e n
 -- all that was put out waits at an idle pad
 pub filled : (old outs new left : List Out) → old ≡ [] → AreWithin 1 outs → new ≡ outs → left ≡ [] → items_of new ++ on_port 0 left ≡ items_of old ++ on_port 0 outs
 filled old outs new left none w same empty = rw (none, same, empty) (append-nil (items_of outs) ∙ sym (on_only outs w))
-
-pub items_nil : (outs : List Out) → items_of outs ≡ [] → outs ≡ []
-items_nil [] e = refl
-items_nil (out ∷ outs) e = absurd cc
-
--- one place more at which nothing waits
-pub idle_next : {O : Type 0} (from : ℕ) (pads : List (Pad O)) (k : ℕ) (at : Pad O) → slice_get pads k ≡ Some at → waiting_of at ≡ []
-    → ((place : ℕ) (pad : Pad O) → from ≤ place → place < k → slice_get pads place ≡ Some pad → waiting_of pad ≡ [])
-    → (place : ℕ) (pad : Pad O) → from ≤ place → place < k + 1 → slice_get pads place ≡ Some pad → waiting_of pad ≡ []
-idle_next {O = O} from pads k at here none so_far place pad low less e = go (cases_eq place k)
-  where
-    go : ((place ≡ k) ⊎ (place ≡ k → ⊥)) → waiting_of pad ≡ []
-    go (inl i) = ap (λ (q : Pad O). waiting_of q) (some_same (sym e ∙ ap (slice_get pads) i ∙ here)) ∙ none
-    go (inr n) = so_far place pad low (omega (arith, n, less)) e

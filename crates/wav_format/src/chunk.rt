@@ -1,13 +1,11 @@
 //! The chunks of a RIFF WAVE file, up to the head of `data`.
-ghost use Rattle.std.specs.Prelude.{◌≡◌, ◌≢◌, ℕ, ◌+◌, ◌-◌, ◌*◌, ◌<◌, ◌≤◌, ◌↔◌, ◌==◌, ◌&&◌, if◌then◌else◌, nat_lt, length, take, drop, codes, IsTrue, None, Some, MatchOption, Option, true, false};
-ghost use Rattle.byteorder.specs.Endian.{little_from};
+ghost use Rattle.std.specs.Prelude.{◌≡◌, ◌≢◌, ℕ, ◌+◌, ◌-◌, ◌<◌, ◌≤◌, ◌==◌, ◌&&◌, if◌then◌else◌, nat_lt, length, codes, None, Some, MatchOption, Option, true, false};
 ghost use Rattle.wav_format.specs.Answers.{AnswerAt, BodyFault, ReadsAt};
-ghost use Rattle.wav_format.specs.Chunks.{Spot, begins, body_at, body_size, chunk_length, data_size, format_after};
-ghost use Rattle.wav_format.specs.Cuts.{ChunkCut, HasRoom, body_length, deciding, deciding_head, fronts, open_length};
-ghost use Rattle.wav_format.specs.Faults.{IsHeaded, MayBeFormat};
+ghost use Rattle.wav_format.specs.Chunks.{begins, body_at, body_size, chunk_length, data_size, format_after};
+ghost use Rattle.wav_format.specs.Cuts.{HasRoom, body_length, deciding_head, fronts, open_length};
+ghost use Rattle.wav_format.specs.Faults.{MayBeFormat};
 ghost use Rattle.wav_format.specs.declared.head.HeadAnswer.TheVariants.{NeedMore};
 ghost use Rattle.wav_format.specs.declared.format.SampleFormat.{SampleFormat};
-ghost use Rattle.wav_format.specs.Format.{IsFormat, extensible, format_of};
 
 use crate::format::{SampleFormat, is_extensible, may_be_format, may_fit, read_format};
 use crate::head::{Head, HeadAnswer, WavKind};

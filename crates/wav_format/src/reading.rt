@@ -1,5 +1,5 @@
 //! Reading the head of a WAV file from its first bytes.
-ghost use Rattle.std.specs.Prelude.{◌≡◌, ◌≤◌, ◌<◌, ◌+◌, ◌++◌, ◌↔◌, ℕ, List, length, drop, codes, true, false, MatchOption, None, Some};
+ghost use Rattle.std.specs.Prelude.{◌≡◌, ◌≤◌, ◌<◌, ◌+◌, ◌++◌, ◌↔◌, ℕ, List, length, drop, true, MatchOption, None, Some};
 ghost use Rattle.wav_format.specs.Answers.{AnswerIn, CutsAt};
 ghost use Rattle.wav_format.specs.Chunks.{BeginsWithHead, FrontsSomeHead, HeadThen, HeadWith, IsOpened, longest_head};
 ghost use Rattle.wav_format.specs.Cuts.{IsLeast, fronts, opening_length};
