@@ -12,7 +12,7 @@ use Rattle.graph_core.specs.Elements.{Made}
 use Rattle.graph_pads.specs.declared.pad.PadLink.{PadLink}
 use Rattle.graph_bags.specs.Links.{has, has_inlets, is_head, Reaches}
 use Rattle.el_settings.specs.Asked.{is_source}
-use Rattle.graph_bags.specs.Bags.{Once, number_of, cells, head_number, head_of, IsHead, HavePads, GoBack, IsBag}
+use Rattle.graph_bags.specs.Bags.{Once, number_of, cells, numbers, head_number, head_of, IsHead, HavePads, GoBack, DepthFirst, IsBag}
 use Rattle.graph_bags.specs.Walk.{AreReached, IsBagOf}
 use Rattle.graph_bags.specs.declared.bag.Bag.{Bag}
 use Rattle.graph_bags.specs.declared.bag.BagElement.{BagElement}
@@ -59,6 +59,8 @@ module _ (made : List Made) (links : List PadLink) (head : ℕ) (bag : Bag) (all
       once = subst (λ (xs : List BagElement). Once (map number_of xs)) (sym same) reached.once;
       pads = subst (λ (xs : List BagElement). HavePads made links xs) (sym same) reached.pads;
       back = subst (λ (xs : List BagElement). GoBack [] xs) (sym same) reached.back;
+      order = subst (λ (h : ℕ). DepthFirst made links (h ∷ []) (numbers bag)) (sym number)
+          (subst (λ (xs : List BagElement). DepthFirst made links (head ∷ []) (map number_of xs)) (sym same) reached.order);
     };
   }
 

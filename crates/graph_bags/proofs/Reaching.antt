@@ -10,10 +10,11 @@ use Rattle.graph_core.specs.declared.graph.Graph.{Graph}
 use Rattle.graph_pads.specs.declared.pad.PadLink.{PadLink}
 use Rattle.graph_core.specs.LinkedOnce.{AreOnce}
 use Rattle.graph_bags.specs.Links.{has, is_head, inside, pads_of, Reaches}
-use Rattle.graph_bags.specs.Bags.{number_of, HavePads, GoBack}
+use Rattle.graph_bags.specs.Bags.{number_of, HavePads, GoBack, DepthFirst}
 use Rattle.graph_bags.specs.Walk.{Goes, EndsWith, AreReached}
 use Rattle.graph_bags.specs.declared.bag.BagElement.{BagElement}
 use Rattle.graph_bags.proofs.Onces.{in_front, in_back, in_either}
+use Rattle.graph_bags.proofs.Depths.{depths_more}
 use Rattle.graph_bags.proofs.Walks.{Walked, walk_begins, walk_goes, walk_ends}
 use Rattle.graph_bags.proofs.Trees.{inside_leads, leads_inside, is_tree, reached_there}
 
@@ -31,11 +32,18 @@ pub record HasCome (made : List Made) (links : List PadLink) (head : ℕ) (next 
   pub pads : HavePads made links found
   pub back : GoBack next found
   pub last : ((found ≡ []) × (next ≡ head ∷ [])) ⊎ EndsWith head found
+  pub order : (xs : List ℕ) → DepthFirst made links next xs → DepthFirst made links (head ∷ []) (xs ++ map number_of found)
   pub walked : All (HasPads made) links → AreOnce links → has is_head made head ≡ true
       → Walked (Reaches made links head) (λ a. inside (pads_of made links a)) head next (map number_of found)
 
 pub come_first : (made : List Made) (links : List PadLink) (head : ℕ) → HasCome made links head (head ∷ []) []
-come_first made links head = record { pads = tt; back = tt; last = inl (refl, refl); walked = λ all once is. walk_begins (Reaches made links head) _ head Reaches.itself }
+come_first made links head = record {
+  pads = tt;
+  back = tt;
+  last = inl (refl, refl);
+  order = λ xs d. subst (λ (ns : List ℕ). DepthFirst made links (head ∷ []) ns) (sym (append-nil xs)) d;
+  walked = λ all once is. walk_begins (Reaches made links head) _ head Reaches.itself;
+}
 
 last_member : (rest : List ℕ) (e head : ℕ) → rest ++ e ∷ [] ≡ head ∷ [] → e ≡ head
 last_member [] e head is = cc
@@ -47,6 +55,9 @@ module _ (made : List Made) (links : List PadLink) (head : ℕ) (rest : List ℕ
     pads = (pads, come.pads);
     back = (λ d m. in_back d rest (inside cell.pads.items) m, back_more (rest ++ cell.element ∷ []) (cell.element ∷ (rest ++ inside cell.pads.items)) found seen come.back);
     last = inr (ends come.last);
+    order = λ xs d.
+        depths_more made links head cell.element rest (map number_of found) come.order xs
+        (subst (λ ps. DepthFirst made links (rest ++ inside ps) xs) pads d);
     walked = λ all once is.
         subst (λ xs. Walked (Reaches made links head) (λ a. inside (pads_of made links a)) head (rest ++ inside xs) (cell.element ∷ map number_of found)) (sym pads)
         (walk_goes (Reaches made links head) (λ a. inside (pads_of made links a)) head rest cell.element (map number_of found) (is_tree made links all once head is)
@@ -117,6 +128,7 @@ module _ (graph : Graph) (head : ℕ) (there : head < length (made_in graph)) (c
     pads = come.pads;
     back = subst (λ (ns : List ℕ). GoBack ns cells) none come.back;
     last = ends come.last;
+    order = come.order [] (subst (λ (ns : List ℕ). DepthFirst (made_in graph) (links_in graph) ns []) (sym none) DepthFirst.nothing);
   }
     where
       walked : Walked (Reaches (made_in graph) (links_in graph) head) (λ a. inside (pads_of (made_in graph) (links_in graph) a)) head [] (map number_of cells)

@@ -52,6 +52,12 @@ abbrev pub GoBack : List ℕ → List BagElement → Type 0
 GoBack seen [] = Unit {0}
 GoBack seen (x ∷ xs) = ((d : ℕ) → IsMember d (inside x.pads.items) → IsMember d seen) × GoBack (x.element ∷ seen) xs
 
+-- The numbers of elements and of all that these reach over no lane, depth first: before each element stands all that its pads lead to, pad by pad.
+pub data DepthFirst (made : List Made) (links : List PadLink) : List ℕ → List ℕ → Type 0 where
+  nothing : DepthFirst made links [] []
+  element : (e : ℕ) (es before behind : List ℕ) → DepthFirst made links (inside (pads_of made links e)) before → DepthFirst made links es behind
+      → DepthFirst made links (e ∷ es) (before ++ e ∷ behind)
+
 -- A bag has the elements that its head reaches over links that are no lane, each once and with its pads.
 pub record IsBag (made : List Made) (links : List PadLink) (bag : Bag) : Type 0 where
   pub head : IsHead made bag.head
@@ -60,6 +66,7 @@ pub record IsBag (made : List Made) (links : List PadLink) (bag : Bag) : Type 0 
   pub once : Once (numbers bag)
   pub pads : HavePads made links (cells bag)
   pub back : GoBack [] (cells bag)
+  pub order : DepthFirst made links (head_of bag ∷ []) (numbers bag)
 
 -- the numbers of the sources and of the elements that are fed from inlets, in their order
 abbrev pub heads_in : List Made → List ℕ

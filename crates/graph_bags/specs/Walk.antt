@@ -4,7 +4,7 @@ use Rattle.flow_model.specs.Account.{IsMember}
 use Rattle.graph_core.specs.Elements.{Made}
 use Rattle.graph_pads.specs.declared.pad.PadLink.{PadLink}
 use Rattle.graph_bags.specs.Links.{inside, pads_of, Reaches}
-use Rattle.graph_bags.specs.Bags.{Once, number_of, head_of, HavePads, GoBack, IsBag}
+use Rattle.graph_bags.specs.Bags.{Once, number_of, head_of, HavePads, GoBack, DepthFirst, IsBag}
 use Rattle.graph_bags.specs.declared.bag.Bag.{Bag}
 use Rattle.graph_bags.specs.declared.bag.BagElement.{BagElement}
 
@@ -36,6 +36,7 @@ pub record AreReached (made : List Made) (links : List PadLink) (head : ℕ) (ce
   pub pads : HavePads made links cells
   pub back : GoBack [] cells
   pub last : EndsWith head cells
+  pub order : DepthFirst made links (head ∷ []) (map number_of cells)
 
 -- the bag with this head
 pub record IsBagOf (made : List Made) (links : List PadLink) (head : ℕ) (bag : Bag) : Type 0 where
