@@ -1,1 +1,12 @@
+pub mod GapAnswers
+pub mod GapLists
+pub mod GapOwed
+pub mod Going
+pub mod Looping
+pub mod Nearing
+pub mod Ordering
+pub mod Parting
+pub mod Turns
+pub mod WholeGiven
+pub mod WholeInherited
 pub mod WholeLists

@@ -22,7 +22,7 @@ use Rattle.el_set.proofs.Elements.{elements_owe}
 use Rattle.el_settings.proofs.Given.{or_else-or_else}
 use Rattle.flow_model.proofs.Calls.{feeds_push}
 
-on_pad_append : (pad : ℕ) (xs ys : List Item) → on_pad pad (xs ++ ys) ≡ on_pad pad xs ++ on_pad pad ys
+pub on_pad_append : (pad : ℕ) (xs ys : List Item) → on_pad pad (xs ++ ys) ≡ on_pad pad xs ++ on_pad pad ys
 on_pad_append pad [] ys = refl
 on_pad_append pad (x ∷ xs) ys = ap (λ os. record { pad = pad; item = x } ∷ os) (on_pad_append pad xs ys)
 
@@ -108,7 +108,7 @@ next_of respond items x copy (Broken place kind) same plain p = answered_next re
 next_of respond items x copy (Passing a b) same plain p = answered_next respond (feeds items) x _ plain (rw same at p)
 next_of respond items x copy Wanting same plain p = tt
 
-moved : (o later : Option Fault) (fault : ElementFault) → IsFaultOf (answered o) fault → IsFaultOf (answered (or_else o later)) fault
+pub moved : (o later : Option Fault) (fault : ElementFault) → IsFaultOf (answered o) fault → IsFaultOf (answered (or_else o later)) fault
 moved (Some f) later fault p = p
 moved None later (Refused offered wanted) p = absurd (cc)
 moved None later (Broken place kind) p = absurd (cc)

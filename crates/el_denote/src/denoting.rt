@@ -5,10 +5,12 @@ ghost use Rattle.flow_model.specs.Feeding.{IsFaultOf};
 ghost use Rattle.flow_model.specs.Rule.{Response};
 ghost use Rattle.el_settings.specs.Asked.{makes_sinks, sink_pads, source_pads, with_allowed};
 ghost use Rattle.el_denote.specs.Denoted.{IsDenoted, IsOwed, answered, next_fault};
+ghost use Rattle.el_denote.specs.Joined.{AreJoined};
 ghost use Rattle.el_set.specs.Denoted.{response_of};
 ghost use Rattle.el_set.specs.Stands.{Stands};
 ghost use Rattle.el_denote.specs.Stepping.{TookAll};
 
+use crate::joined::joined;
 use el_basic::Identity;
 use el_set::{FilterElement, filter_of};
 use el_settings::Settings;
@@ -21,7 +23,7 @@ use std::collections::VecDeque;
 
 /// What an element with these settings owes for whole lists, one for each sink pad: a list for each of its source
 /// pads, which a tee owes all the same. A converter may put out the allowed caps. The fault is the first of the element's
-/// rule. An element of which links make the sink pads is not asked here.
+/// rule. An element with several sink pads is given the lists section by section, and in each pad by pad.
 pub fn denote(
     alloc: Global,
     settings: &Settings,
@@ -30,9 +32,54 @@ pub fn denote(
     inputs: &List<List<Item>>,
 ) -> Result<List<List<Item>>, ElementFault>
     requires no_source { sink_pads settings.now ≢ 0 }
-    requires no_join { makes_sinks settings.now ≡ false }
     requires inputs { length inputs.now ≡ sink_pads settings.now }
     requires pads { _pads ≡ source_pads settings.now }
+    ensures single { makes_sinks settings.now ≡ false → IsDenoted (with_allowed allowed.now settings.now) inputs.now result }
+    ensures joined { makes_sinks settings.now ≡ true → AreJoined settings.now inputs.now result }
+{
+    if settings.makes_sinks() {
+        denote_join(alloc, settings, inputs.as_slice())
+    } else {
+        denote_single(alloc, settings, allowed, inputs)
+    }
+}
+
+/// What an element with several sink pads owes.
+fn denote_join(
+    alloc: Global,
+    settings: &Settings,
+    inputs: &[List<Item>],
+) -> Result<List<List<Item>>, ElementFault>
+    requires kind { makes_sinks settings.now ≡ true }
+    requires some { sink_pads settings.now ≢ 0 }
+    requires inputs { length inputs.now ≡ sink_pads settings.now }
+    ensures { AreJoined settings.now inputs.now result }
+{
+    match joined(alloc, settings, inputs) {
+        Ok(output) => Ok(alone(alloc, output)?),
+        Err(fault) => Err(fault),
+    }
+}
+
+/// The output on the only source pad.
+fn alone(alloc: Global, output: List<Item>) -> Result<List<List<Item>>, OutOfMemory>
+    ensures { IfOk result (λ made. made ≡ output ∷ []) }
+{
+    let mut outputs = List::new(alloc);
+    outputs.push(alloc, output)?;
+    Ok(outputs)
+}
+
+/// What an element with one sink pad owes.
+fn denote_single(
+    alloc: Global,
+    settings: &Settings,
+    allowed: &Caps,
+    inputs: &List<List<Item>>,
+) -> Result<List<List<Item>>, ElementFault>
+    requires no_source { sink_pads settings.now ≢ 0 }
+    requires no_join { makes_sinks settings.now ≡ false }
+    requires inputs { length inputs.now ≡ sink_pads settings.now }
     ensures { IsDenoted (with_allowed allowed.now settings.now) inputs.now result }
 {
     let element = element_of(alloc, settings, allowed)?;
@@ -177,7 +224,7 @@ fn feed(
 }
 
 /// The items that were put out.
-fn items_of(alloc: Global, out: Outs) -> Result<List<Item>, OutOfMemory>
+pub(crate) fn items_of(alloc: Global, out: Outs) -> Result<List<Item>, OutOfMemory>
     ensures { IfOk result (λ made. made ≡ map (λ one. one.item) out) }
 {
     let mut items = List::new(alloc);

@@ -2,5 +2,7 @@
 #![tactic(auto)]
 
 mod denoting;
+mod joined;
+mod sections;
 
 pub use denoting::denote;

@@ -170,7 +170,7 @@ module _ {S E I O L : Type 0} {s : sources.Ghosts S} {e : elements.Ghosts E} (i 
   pub gave_moved : (tells : Option (List Lane)) → waiting_of head.pad ≡ [] → AllRest m (frame_in o (Head_of head) parts) → (r : Result Tried TaskFault) → GivesAs head head' r → r ≡ Ok tried.Moved
       → StepsAs i o tells tells (frame_in o (Head_of head) parts) m (Source head) (Source head') parts steps.Moved
   gave_moved tells none all (Ok tried.Moved) (inl g) q =
-      inl (record { act = giving; next = m; move = gives_one; given = g.given; lanes = (tt, refl); first = (all, none); tied = gave_tied (g.item ∷ []) g.gave g.waiting g.given })
+      inl (record { act = giving; next = m; move = gives_one; given = g.given; lanes = (tt, refl); first = (all, none); wanted = tt; tied = gave_tied (g.item ∷ []) g.gave g.waiting g.given })
   gave_moved tells none all (Ok tried.Moved) (inr g) q =
       let z = begins head'.source (m.history p ++ m.waits p) ((m.history p ++ waiting_of head.pad) ++ g.item ∷ []) (g.gave (m.history p ++ m.waits p) (m.history p ++ waiting_of head.pad) a.head_tied.gave) in
       inr (flush_given p (m.history p ++ waiting_of head.pad) g.item z.0 (z.1 ∙ append_assoc (m.history p ++ waiting_of head.pad) (g.item ∷ []) z.0) g.flush)

@@ -61,13 +61,13 @@ module _ {S E I O L : Type 0} (s : sources.Ghosts S) {e : elements.Ghosts E} (i 
   took_bare answer (took_none a w) = ap (λ (ps : List (Part E O e)). map bare ps) w.parts_same
   took_bare answer (took_empty port lane a w k same) = ap (λ (ps : List (Part E O e)). map bare ps) same
   took_bare answer (took_flush port x a k flush same) = ap (λ (ps : List (Part E O e)). map bare ps) same
-  took_bare answer (took_item port x a k was is set fed) = bare_set parts parts' t.to was is set (bare_fed was is port x fed (shape_set parts parts' t.to was is set shapes))
+  took_bare answer (took_item port x a k was is set fed wants) = bare_set parts parts' t.to was is set (bare_fed was is port x fed (shape_set parts parts' t.to was is set shapes))
 
   took_kept : (answer : Tried) → Took_as answer → RowsKept i head head' tells tells'
   took_kept answer (took_none a w) = rows_kept i head head' tells tells' w.number w.rows w.table
   took_kept answer (took_empty port lane a w k same) = asked_rows port lane k
   took_kept answer (took_flush port x a k flush same) = asked_kept i head head' port tells tells' (takes.Item x) k
-  took_kept answer (took_item port x a k was is set fed) = asked_kept i head head' port tells tells' (takes.Item x) k
+  took_kept answer (took_item port x a k was is set fed wants) = asked_kept i head head' port tells tells' (takes.Item x) k
 
   frame_by : RowsKept i head head' tells tells' → map (part_frame o) parts' ≡ map (part_frame o) parts → frame_in o (Head_of head') parts' ≡ frame_in o (Head_of head) parts
   frame_by k same =
@@ -112,7 +112,7 @@ module _ {S E I O L : Type 0} (s : sources.Ghosts S) {e : elements.Ghosts E} (i 
     moved_burns (took_none a w) = absurd cc
     moved_burns (took_empty port lane a w k same) = absurd cc
     moved_burns (took_flush port x a k flush same) = let b = bare_lefts parts parts' (took_bare tried.Moved (took_flush port x a k flush same)) in let c = asked_left i head head' port tells tells' (takes.Item x) k bounded in omega (arith, b, c)
-    moved_burns (took_item port x a k was is set fed) = let b = bare_lefts parts parts' (took_bare tried.Moved (took_item port x a k was is set fed)) in let c = asked_left i head head' port tells tells' (takes.Item x) k bounded in omega (arith, b, c)
+    moved_burns (took_item port x a k was is set fed wants) = let b = bare_lefts parts parts' (took_bare tried.Moved (took_item port x a k was is set fed wants)) in let c = asked_left i head head' port tells tells' (takes.Item x) k bounded in omega (arith, b, c)
 
     idle_burns : Took_as tried.Idle → Burns_as steps.Ended
     idle_burns (took_none a w) =
@@ -121,7 +121,7 @@ module _ {S E I O L : Type 0} (s : sources.Ghosts S) {e : elements.Ghosts E} (i 
         omega (arith, b, c)
     idle_burns (took_empty port lane a w k same) = absurd cc
     idle_burns (took_flush port x a k flush same) = absurd cc
-    idle_burns (took_item port x a k was is set fed) = absurd cc
+    idle_burns (took_item port x a k was is set fed wants) = absurd cc
 
     rows_burn : (port lane : ℕ) → RowAsked i head head' port tells tells' (takes.Empty lane) → sum_by (λ row. row_left i row) head'.rows.items ≤ sum_by (λ row. row_left i row) head.rows.items
     rows_burn port lane (inl k) = asked_left i head head' port tells tells' (takes.Empty lane) k bounded
@@ -148,16 +148,16 @@ module _ {S E I O L : Type 0} (s : sources.Ghosts S) {e : elements.Ghosts E} (i 
     moved_steps all (took_none z w) = absurd cc
     moved_steps all (took_empty port lane z w k same) = absurd cc
     moved_steps all (took_flush port x z k flush same) = inr (flush_taken head.number port x (refl, inl k) flush)
-    moved_steps all (took_item port x z k was is set fed) =
+    moved_steps all (took_item port x z k was is set fed wants) =
         let w = row_fed i o head head' parts parts' t.to t.fed shapes m a port k.was k.is x k.set k.gave was is set fed in
         let n : was.number ≡ head.number = ap (λ (p : Part E O e). p.number) (some_same (sym set.at ∙ t.fed.at)) ∙ t.fed.number_is in
-        inl (record { act = taking was.number port x; next = w.next; move = w.move; given = refl; lanes = (sym n, inl k); first = all; tied = w.tied })
+        inl (record { act = taking was.number port x; next = w.next; move = w.move; given = refl; lanes = (sym n, inl k); first = all; wanted = (was.element, (a.parts_tied.each t.to was set.at).stood, wants); tied = w.tied })
 
     idle_steps : Took_as tried.Idle → Steps_as steps.Ended
     idle_steps (took_none z w) = (rows_same i o head head' parts parts' t.to t.fed shapes m a w.number w.rows w.parts_same, w.table, w.rows)
     idle_steps (took_empty port lane z w k same) = absurd cc
     idle_steps (took_flush port x z k flush same) = absurd cc
-    idle_steps (took_item port x z k was is set fed) = absurd cc
+    idle_steps (took_item port x z k was is set fed wants) = absurd cc
 
     empty_steps : (port lane : ℕ) → RowAsked i head head' port tells tells' (takes.Empty lane) → parts' ≡ parts → Steps_as (steps.NeedsItem lane)
     empty_steps port lane (inl k) same = (row_stays i o head head' parts parts' t.to t.fed shapes m a port k.was k.is k.set k.gave same, k.stays.one)
@@ -167,12 +167,12 @@ module _ {S E I O L : Type 0} (s : sources.Ghosts S) {e : elements.Ghosts E} (i 
     idle_why (took_none z w) = subst (λ (ps : List (Part E O e)). HeadGaveAll m (Head_of head) ps) (sym w.parts_same) (t.to, t.fed, w.wanted)
     idle_why (took_empty port lane z w k same) = absurd cc
     idle_why (took_flush port x z k flush same) = absurd cc
-    idle_why (took_item port x z k was is set fed) = absurd cc
+    idle_why (took_item port x z k was is set fed wants) = absurd cc
 
     pub inlet_failed : (fault : TaskFault) → r ≡ Err fault → FailsAs i o tells tells' m (Head_of head) (Head_of head') parts parts' at_head fault
     inlet_failed fault q =
         let w = refused_by i head head' parts parts' tells tells' r t fault q in
-        let z = row_back i o head head' parts parts' t.to t.fed shapes m a w.port w.asks.was w.asks.is w.item w.asks.set w.asks.gave w.refusal w.was w.is w.set w.fell in
+        let z = row_back i o head head' parts parts' t.to t.fed shapes m a w.port w.asks.was w.asks.is w.item w.asks.set w.asks.gave w.refusal w.was w.is w.set w.fell w.wanted in
         subst (FailsAs i o tells tells' m (Head_of head) (Head_of head') parts parts' at_head) (sym w.named) (refused at_head w.was.number w.port w.item w.refusal z.0 (took w) z.1)
 
   pub inlet_caused : (fault : TaskFault) → r ≡ Err fault → Causes o (frame_in o (Head_of head) parts) (Head_of head) (Head_of head') parts parts' fault
@@ -209,4 +209,4 @@ module _ {S E I O L : Type 0} (s : sources.Ghosts S) {e : elements.Ghosts E} (i 
           subst (Asks i o tells tells' (Head_of head) (Head_of head') parts parts') (sym (stuck_same step (steps.NeedsItem lane) a))
           (record { ready = inlet_ready ready (tried.Stuck step) q; burns = empty_burns bounded port lane k gone; lanes = inlet_lanes (tried.Stuck step) (took_empty port lane a w k gone); steps = λ m y all. empty_steps m y port lane k gone; why = λ m y. empty_why port lane w k gone })
       stuck step q (took_flush port x a k flush gone) = absurd cc
-      stuck step q (took_item port x a k was is set fed) = absurd cc
+      stuck step q (took_item port x a k was is set fed wants) = absurd cc

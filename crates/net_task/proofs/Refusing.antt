@@ -222,6 +222,7 @@ module _ {S E I O L : Type 0} {s : sources.Ghosts S} {e : elements.Ghosts E} (i 
           lost = nothing_lost;
           gave_up = by_pad p rest (waited_at i o head parts h.between place port old h.gave was gone.behind sets pads m a h.item (c.waited ∙ sym c.waits ∙ gone.waiting)) lead.0;
           of_head = tt;
+          wanted = tt;
           tied = record {
             parts_tied = parts_back;
             head_tied = head_at i o nothing_lost m1 mb head h.between parts' refl refl refl

@@ -385,6 +385,7 @@ module _ {S E I O L : Type 0} {s : sources.Ghosts S} {e : elements.Ghosts E} (i 
             lost = lost_at 0 h.item;
             gave_up = by_source p rest z.whole lead.0;
             of_head = tt;
+            wanted = tt;
             tied = record {
               parts_tied = parts_set_at o (Stands m) (StandsOrFell number sink h.item mb) m mb parts parts' to h.eater h.ate h.fed h.fell.number
                   (λ k q at_k y. part_known o (Stands m q) (StandsOrFell number sink h.item mb q) mb q inl (elsewhere (Stands m q) rest q (a.head_tied.apart k q at_k) y))

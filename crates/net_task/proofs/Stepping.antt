@@ -26,7 +26,7 @@ use Rattle.net_task.specs.Answers.{tried_both}
 use Rattle.net_task.specs.Failed.{Causes, FailsAs, HasFailed, IsUnread, LanesLeft, Origin, WasFirst, WasFor, at_head, at_limit, at_pad, by_element, by_source, full_at, full_head, memory, no_memory, not_linked, refused, unlinked, unread}
 use Rattle.net_task.specs.Frame.{PartFrame, TaskFrame, Wire, frame_in, frame_of, of_head, part_frame, wire_of}
 use Rattle.net_task.specs.Fuel.{Burns, moves_left}
-use Rattle.net_task.specs.Moves.{Act, Advances, GoesFirst, LanesBy, RowsKept, RowsStay, Steps, TookFrom, Unlawful, flush_given, flush_taken, given_by, given_in, giving, leaving, passing, sending, taking}
+use Rattle.net_task.specs.Moves.{Act, Advances, GoesFirst, IsWanted, LanesBy, RowsKept, RowsStay, Steps, TookFrom, Unlawful, flush_given, flush_taken, given_by, given_in, giving, leaving, passing, sending, taking}
 use Rattle.net_task.specs.Reasons.{AllBlocked, AllRest, HeadGaveAll, HeadIdle, HeadLacks, IsFirst, OneHolds, OwnerRests, Why, of_head as first_of_head}
 use Rattle.net_task.specs.Ties.{AreTied, Stands, Ties, nothing_lost}
 use Rattle.net_task.specs.Tries.{AllTriedAs, AskFault, AsksHead, CrossesAt, HeadStays, HeadTriedAs, HeadWhy, IsHeadPad, IsOfAny, PadMoves, PadsTell, PadsTry, PartsFault, PartsTry, SourceFault, SourceStays, SourceTries, Spends, StepsAs, TableStays, TriedAs, elements_of}
@@ -46,11 +46,18 @@ module _ {S I O L : Type 0} {s : sources.Ghosts S} (i : inlets.Ghosts I L O) whe
   goes_first tells m frame head p (taking n k x) at f = absurd at
   goes_first tells m frame head p giving at f = absurd at
 
+wants_nothing : {E : Type 0} (e : elements.Ghosts E) (m : Moment) (p : ℕ) (act : Act) → CrossesAt p act → IsWanted e m act
+wants_nothing e m p (passing q) at = tt
+wants_nothing e m p (sending q x) at = tt
+wants_nothing e m p (leaving q) at = tt
+wants_nothing e m p (taking n k x) at = absurd at
+wants_nothing e m p giving at = absurd at
+
 module _ {S E I O L : Type 0} {s : sources.Ghosts S} {e : elements.Ghosts E} (i : inlets.Ghosts I L O) (o : outlets.Ghosts O L) where
   advance : (tells tells' : Option (List Lane)) (frame : TaskFrame) (m : Moment) (head head' : Head S I O s) (parts' : List (Part E O e)) (Where : ℕ → Type 0) → ((p : ℕ) → Where p → IsFirst tells m frame p) → PadMoves i o tells tells' frame m head head' parts' Where
       → Advances i o tells tells' frame m head head' parts'
   advance tells tells' frame m head head' parts' Where lift w =
-      record { act = w.act; next = w.next; move = w.move; given = w.given; lanes = w.lanes; first = goes_first i tells m frame head w.pad w.act w.at (lift w.pad w.first); tied = w.tied }
+      record { act = w.act; next = w.next; move = w.move; given = w.given; lanes = w.lanes; first = goes_first i tells m frame head w.pad w.act w.at (lift w.pad w.first); wanted = wants_nothing e m w.pad w.act w.at; tied = w.tied }
 
 -- where nothing waits at the pads of the elements by the moment, no item is put out there
 pub all_rest : {S E I O L : Type 0} {s : sources.Ghosts S} {e : elements.Ghosts E} (i : inlets.Ghosts I L O) (o : outlets.Ghosts O L) (m : Moment) (head : Head S I O s) (parts : List (Part E O e)) → AreTied i o (Stands m) nothing_lost m head parts
@@ -289,6 +296,7 @@ module _ {S E I O L : Type 0} {s : sources.Ghosts S} {e : elements.Ghosts E} (i 
     given = a.given ∙ ap (λ n. n + given_by a.act) (given_kept old mid k);
     lanes = lanes_then i m frame tells tells' old mid new a.act k a.lanes;
     first = first_then i m frame tells tells' old mid a.act idle a.first;
+    wanted = a.wanted;
     tied = a.tied;
   }
 

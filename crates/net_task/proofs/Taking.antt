@@ -63,7 +63,7 @@ pub data TookBy {E I O L : Type 0} {e : elements.Ghosts E} (i : inlets.Ghosts I 
   took_none : answer ≡ tried.Idle → WantsNone i head head' parts parts' part tells tells' r → TookBy i head head' parts parts' part to tells tells' r answer
   took_empty : (port lane : ℕ) → answer ≡ tried.Stuck (steps.NeedsItem lane) → e.wanted part.element ≡ Some port → RowAsked i head head' port tells tells' (takes.Empty lane) → parts' ≡ parts → TookBy i head head' parts parts' part to tells tells' r answer
   took_flush : (port : ℕ) (x : Item) → answer ≡ tried.Moved → AsksRow i head head' port tells tells' (takes.Item x) → is_flush_stop x ≡ true → parts' ≡ parts → TookBy i head head' parts parts' part to tells tells' r answer
-  took_item : (port : ℕ) (x : Item) → answer ≡ tried.Moved → AsksRow i head head' port tells tells' (takes.Item x) → (was is : Part E O e) → PartSet parts parts' to was is → PartFed was is port x → TookBy i head head' parts parts' part to tells tells' r answer
+  took_item : (port : ℕ) (x : Item) → answer ≡ tried.Moved → AsksRow i head head' port tells tells' (takes.Item x) → (was is : Part E O e) → PartSet parts parts' to was is → PartFed was is port x → e.wanted was.element ≡ Some port → TookBy i head head' parts parts' part to tells tells' r answer
 
 pub record Refused {E I O L : Type 0} {e : elements.Ghosts E} (i : inlets.Ghosts I L O) (head head' : InletHead I) (parts parts' : List (Part E O e)) (to : ℕ) (tells tells' : Option (List Lane)) (fault : TaskFault) : Type 0 where
   pub port : ℕ
@@ -74,6 +74,7 @@ pub record Refused {E I O L : Type 0} {e : elements.Ghosts E} (i : inlets.Ghosts
   pub is : Part E O e
   pub set : PartSet parts parts' to was is
   pub fell : PartFell was is port item refusal
+  pub wanted : e.wanted was.element ≡ Some port
   pub named : fault ≡ refusal_fault was.number refusal
 
 module _ {E I O L : Type 0} {e : elements.Ghosts E} (i : inlets.Ghosts I L O) (head head' : InletHead I) (parts parts' : List (Part E O e)) (tells tells' : Option (List Lane)) (r : Result Tried TaskFault)
@@ -82,20 +83,23 @@ module _ {E I O L : Type 0} {e : elements.Ghosts E} (i : inlets.Ghosts I L O) (h
   asked_item port x (inl k) = k
   asked_item port x (inr k) = absurd (let z = k.empty in cc)
 
+  wanted_of : (port : ℕ) (was is : Part E O e) → PartSet parts parts' t.to was is → e.wanted t.fed.part.element ≡ Some port → e.wanted was.element ≡ Some port
+  wanted_of port was is set w = subst (λ (p : Part E O e). e.wanted p.element ≡ Some port) (some_same (sym t.fed.at ∙ set.at)) w
+
   abbrev Took_as : Tried → Type 0
   Took_as answer = TookBy i head head' parts parts' t.fed.part t.to tells tells' r answer
 
   pub took_by : (answer : Tried) → r ≡ Ok answer → Took_as answer
   took_by answer q = go t.next
     where
-      item : (port : ℕ) (x : Item) (z : Result Tried TaskFault) → z ≡ Ok answer → RowAsked i head head' port tells tells' (takes.Item x) → RowFeeds parts parts' t.to port x z → Took_as answer
-      item port x (Ok given) y k f = let same : answer ≡ given = cc in took_item port x (same ∙ f.0) (asked_item port x k) f.1 f.2 f.3 f.4
-      item port x (Err fault) y k f = absurd cc
+      item : (port : ℕ) (x : Item) (z : Result Tried TaskFault) → z ≡ Ok answer → e.wanted t.fed.part.element ≡ Some port → RowAsked i head head' port tells tells' (takes.Item x) → RowFeeds parts parts' t.to port x z → Took_as answer
+      item port x (Ok given) y w k f = let same : answer ≡ given = cc in took_item port x (same ∙ f.0) (asked_item port x k) f.1 f.2 f.3 f.4 (wanted_of port f.1 f.2 f.3 w)
+      item port x (Err fault) y w k f = absurd cc
 
       one : (port : ℕ) (taken : Taken) → e.wanted t.fed.part.element ≡ Some port → RowAsked i head head' port tells tells' taken → AfterTake i parts parts' t.to port taken r → Took_as answer
       one port (takes.Empty lane) w k f = took_empty port lane (sym (ok_same r (tried.Stuck (steps.NeedsItem lane)) answer f.1 q)) w k f.0
       one port (takes.Item x) w k (inl f) = took_flush port x (sym (ok_same r tried.Moved answer f.2 q)) (asked_item port x k) f.0 f.1
-      one port (takes.Item x) w k (inr f) = item port x r q k f.1
+      one port (takes.Item x) w k (inr f) = item port x r q w k f.1
 
       go : (WantsNone i head head' parts parts' t.fed.part tells tells' r ⊎ WantsOne i head head' parts parts' t.fed.part t.to tells tells' r) → Took_as answer
       go (inl w) = took_none (sym (ok_same r tried.Idle answer w.idle q)) w
@@ -104,20 +108,21 @@ module _ {E I O L : Type 0} {e : elements.Ghosts E} (i : inlets.Ghosts I L O) (h
   pub refused_by : (fault : TaskFault) → r ≡ Err fault → Refused i head head' parts parts' t.to tells tells' fault
   refused_by fault q = go t.next
     where
-      item : (port : ℕ) (x : Item) (z : Result Tried TaskFault) → z ≡ Err fault → RowAsked i head head' port tells tells' (takes.Item x) → RowFeeds parts parts' t.to port x z → Refused i head head' parts parts' t.to tells tells' fault
-      item port x (Ok given) y k f = absurd cc
-      item port x (Err given) y k f =
+      item : (port : ℕ) (x : Item) (z : Result Tried TaskFault) → z ≡ Err fault → e.wanted t.fed.part.element ≡ Some port → RowAsked i head head' port tells tells' (takes.Item x) → RowFeeds parts parts' t.to port x z
+          → Refused i head head' parts parts' t.to tells tells' fault
+      item port x (Ok given) y w k f = absurd cc
+      item port x (Err given) y w k f =
           let same : fault ≡ given = cc in
-          record { port = port; item = x; asks = asked_item port x k; refusal = f.0; was = f.1; is = f.2; set = f.3; fell = f.4; named = same ∙ f.5 }
+          record { port = port; item = x; asks = asked_item port x k; refusal = f.0; was = f.1; is = f.2; set = f.3; fell = f.4; wanted = wanted_of port f.1 f.2 f.3 w; named = same ∙ f.5 }
 
-      one : (port : ℕ) (taken : Taken) → RowAsked i head head' port tells tells' taken → AfterTake i parts parts' t.to port taken r → Refused i head head' parts parts' t.to tells tells' fault
-      one port (takes.Empty lane) k f = not_both r (tried.Stuck (steps.NeedsItem lane)) fault f.1 q
-      one port (takes.Item x) k (inl f) = not_both r tried.Moved fault f.2 q
-      one port (takes.Item x) k (inr f) = item port x r q k f.1
+      one : (port : ℕ) (taken : Taken) → e.wanted t.fed.part.element ≡ Some port → RowAsked i head head' port tells tells' taken → AfterTake i parts parts' t.to port taken r → Refused i head head' parts parts' t.to tells tells' fault
+      one port (takes.Empty lane) w k f = not_both r (tried.Stuck (steps.NeedsItem lane)) fault f.1 q
+      one port (takes.Item x) w k (inl f) = not_both r tried.Moved fault f.2 q
+      one port (takes.Item x) w k (inr f) = item port x r q w k f.1
 
       go : (WantsNone i head head' parts parts' t.fed.part tells tells' r ⊎ WantsOne i head head' parts parts' t.fed.part t.to tells tells' r) → Refused i head head' parts parts' t.to tells tells' fault
       go (inl w) = not_both r tried.Idle fault w.idle q
-      go (inr w) = one w.port w.taken w.asks w.after
+      go (inr w) = one w.port w.taken w.wanted w.asks w.after
 
 module _ {S E I O L : Type 0} {s : sources.Ghosts S} {e : elements.Ghosts E} (i : inlets.Ghosts I L O) (o : outlets.Ghosts O L) (head head' : InletHead I) (parts parts' : List (Part E O e)) (to : ℕ) (at : IsAt parts head.number to)
     (shapes : map part_shape parts' ≡ map part_shape parts) (m : Moment) (a : AreTied {S = S} {s = s} i o (Stands m) nothing_lost m (Inlets head) parts) where
@@ -191,8 +196,8 @@ module _ {S E I O L : Type 0} {s : sources.Ghosts S} {e : elements.Ghosts E} (i 
 
   -- it refused it
   pub row_back : (port : ℕ) (was is : InletRow I) (x : Item) → RowSet i head head' port was is → ((got : List Item) → RowGave i was got → RowGave i is (got ++ x ∷ [])) → (refusal : Refusal) (eater ate : Part E O e) → PartSet parts parts' to eater ate → PartFell eater ate port x refusal
-      → Left {S = S} {s = s} i o m at_head (Inlets head') parts' eater.number port x × Refuses m parts parts' eater.number port x refusal
-  row_back port was is x set gave refusal eater ate eats fell =
+      → e.wanted eater.element ≡ Some port → Left {S = S} {s = s} i o m at_head (Inlets head') parts' eater.number port x × Refuses m parts parts' eater.number port x refusal
+  row_back port was is x set gave refusal eater ate eats fell wanted =
       let z = a.head_tied port was set.at in
       let tied = a.parts_tied.each to eater eats.at in (
         record {
@@ -200,6 +205,7 @@ module _ {S E I O L : Type 0} {s : sources.Ghosts S} {e : elements.Ghosts E} (i 
           lost = lost_at port x;
           gave_up = by_inlet;
           of_head = set.number ∙ sym (ap (λ (q : Part E O e). q.number) (some_same (sym eats.at ∙ at.at)) ∙ at.number_is);
+          wanted = (eater.element, tied.stood, wanted);
           tied = record {
             parts_tied = parts_set o (Stands m) (StandsOrFell eater.number port x m) m m parts parts' to eater ate eats fell.number (λ q n y. part_known o (Stands m q) (StandsOrFell eater.number port x m q) m q inl y)
                 (part_fell o (Stands m eater) (StandsOrFell eater.number port x m ate) m eater ate fell.number fell.pads fell.out

@@ -21,7 +21,7 @@ use Rattle.task_parts.specs.declared.fault.TaskFault.{TaskFault}
 use Rattle.task_parts.specs.declared.fault.TaskFault.TheVariants.{TooLong, NotLinked, OutOfMemory}
 use Rattle.task_parts.specs.Fault.{refusal_fault, unread_fault}
 use Rattle.net_task.specs.Frame.{PartFrame, TaskFrame, Wire, IsWire, by_source as of_source, frame_in, frame_of}
-use Rattle.net_task.specs.Moves.{TookFrom}
+use Rattle.net_task.specs.Moves.{TookFrom, WantsAt}
 use Rattle.net_task.specs.Short.{CrossedShort}
 use Rattle.net_task.specs.Reasons.{AllRest, HeadIdle, IsFirst}
 use Rattle.net_task.specs.Ties.{AreTied, Stands, Ties, nothing_lost}
@@ -64,6 +64,12 @@ module _ {S I O L : Type 0} {s : sources.Ghosts S} (i : inlets.Ghosts I L O) whe
   pub data LanesLeft (tells tells' : Option (List Lane)) (head head' : Head S I O s) : TaskFault → Type 0 where
     kept : (fault : TaskFault) → tells' ≡ tells → LanesLeft tells tells' head head' fault
     taken : (n port : ℕ) (x : Item) (refusal : Refusal) → TookFrom i head head' n port x tells tells' → LanesLeft tells tells' head head' (refusal_fault n refusal)
+
+module _ {E : Type 0} (e : elements.Ghosts E) where
+  -- an item that was met as the head was asked was of the sink pad that its element wants
+  abbrev pub IsOfWanted : Moment → Origin → ℕ → ℕ → Type 0
+  IsOfWanted m (at_pad p) n pad = Unit {0}
+  IsOfWanted m at_head n pad = WantsAt e m n pad
 
 module _ {E O : Type 0} {e : elements.Ghosts E} where
   -- an element stands, or it is the one that refused an item and stands for that
@@ -108,6 +114,7 @@ module _ {S E I O L : Type 0} {s : sources.Ghosts S} {e : elements.Ghosts E} (i 
     pub lost : ℕ → List Item
     pub gave_up : GaveUp m n pad x origin behind lost
     pub of_head : IsOfHead origin n head
+    pub wanted : IsOfWanted e m origin n pad
     pub tied : AreTied i o (StandsOrFell n pad x behind) lost behind head parts
 
   -- a head and elements are tied to the moment, and the lanes are as they were

@@ -8,7 +8,7 @@ use Rattle.lane_core.specs.declared.ends.Inlet as inlets
 use Rattle.lane_core.specs.declared.ends.Outlet as outlets
 use Rattle.lane_core.specs.declared.ends.Put.TheVariants.{Stored}
 use Rattle.inlet_row.specs.declared.feeding.Taken.TheVariants.{Item}
-use Rattle.net_model.specs.Moment.{Moment}
+use Rattle.net_model.specs.Moment.{Moment, behavior_at}
 use Rattle.net_model.specs.Split.{NoneAt}
 use Rattle.flow_model.specs.SinkPads.{push_calls, InSection}
 use Rattle.net_model.specs.Step.{Leads, Sends, Leaves, PutsOut, crossed, passed, fed}
@@ -116,6 +116,19 @@ module _ {S I O L : Type 0} {s : sources.Ghosts S} (i : inlets.Ghosts I L O) whe
   GoesFirst tells m frame head (taking n port x) = AllRest m frame
   GoesFirst tells m frame head giving = AllRest m frame × HeadIdle head
 
+module _ {E : Type 0} (e : elements.Ghosts E) where
+  -- what stands for all that the element of a number took wants its next item of that sink pad
+  abbrev pub WantsAt : Moment → ℕ → ℕ → Type 0
+  WantsAt m n port = (element : E) × e.stands element (behavior_at m n) (m.took n) × (e.wanted element ≡ Some port)
+
+  -- the head takes of the sink pad that its element wants
+  abbrev pub IsWanted : Moment → Act → Type 0
+  IsWanted m (passing p) = Unit {0}
+  IsWanted m (sending p x) = Unit {0}
+  IsWanted m (leaving p) = Unit {0}
+  IsWanted m (taking n port x) = WantsAt m n port
+  IsWanted m giving = Unit {0}
+
 module _ {S E I O L : Type 0} {s : sources.Ghosts S} {e : elements.Ghosts E} (i : inlets.Ghosts I L O) (o : outlets.Ghosts O L) where
   -- One item moved, the moment with it, and a head and elements are tied to that.
   pub record Advances (tells tells' : Option (List Lane)) (frame : TaskFrame) (m : Moment) (head head' : Head S I O s) (parts' : List (Part E O e)) : Type 0 where
@@ -125,6 +138,7 @@ module _ {S E I O L : Type 0} {s : sources.Ghosts S} {e : elements.Ghosts E} (i 
     pub given : given_in head' ≡ given_in head + given_by act
     pub lanes : LanesBy i frame head head' tells tells' act
     pub first : GoesFirst i tells m frame head act
+    pub wanted : IsWanted e m act
     pub tied : AreTied i o (Stands next) nothing_lost next head' parts'
 
 -- What a step of a task makes of a moment to which it is tied. Where nothing moved it stays tied to it, and its rows stay but

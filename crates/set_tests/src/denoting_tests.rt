@@ -12,8 +12,8 @@ use std::fmt::Write;
 use std::process::Abort;
 use std::test::Fail;
 
-/// Each row: the words of an element, a tee with the number of its source pads; the caps that a converter may put out; what is
-/// given; and what is owed at each source pad, or the fault. `b` is a SEGMENT in bytes from 0, and other single letters are items as `item_of` takes them;
+/// Each row: the words of an element, behind a `*` the number of pads that links made; the caps that a converter may put out; what is
+/// given to each sink pad; and what is owed at each source pad, or the fault. `b` is a SEGMENT in bytes from 0, and other single letters are items as `item_of` takes them;
 /// `wav` and the name of a format are CAPS, of one channel with 8000 frames a second, and `+` and hexadecimal digits
 /// are a buffer of these bytes.
 const ROWS: &str = "\
@@ -44,7 +44,30 @@ wavparse | ANY | s b +52494658 e => bad 3
 wavenc | ANY | s S16LE g +01000200 e => s wav b +524946462400000057415645666D74201000000001000100401F0000803E0000020010006461746100000000 +01000200 b +524946462800000057415645666D74201000000001000100401F0000803E0000020010006461746104000000 e
 wavenc | ANY | s S16LE g MULAW => other
 filesink location=a | ANY | s b +01 e => nothing
-fakesink | ANY | s b +01 e => nothing";
+fakesink | ANY | s b +01 e => nothing
+concat*1 | ANY | s b +01 e => s b +01 e
+concat*2 | ANY | s b +01 e , s b +02 e => s b +01 s b +02 e
+concat*2 | ANY | s b +01 , s b +02 e => s b +01
+concat*2 | ANY | s b +01 f b +03 e , s b +02 e f b +04 e => s b +01 f s b +03 s b +04 e
+concat*2 | ANY | s b +01 e f b +03 e , s b +02 e => s b +01 s b +02 e f s b +03
+concat*2 | ANY | s b +01 e , s b +02 e f b +04 e => s b +01 s b +02 e f
+interleave*1 | ANY | s S16LE g +0100 e => s S16LE g +0100 e
+interleave*2 | ANY | s S16LE g +0100 e , s S16LE g +0200 e => s S16LE*2 g +01000200 e
+interleave*2 | ANY | s S16LE g +01000300 e , s S16LE g +0200 e => s S16LE*2 g +01000200 +03000000 e
+interleave*2 | ANY | s S16LE g +0100 f g +0300 e , s S16LE g +0200 f g +0400 e => s S16LE*2 g +01000200 f s S16LE*2 g +03000400 e
+interleave*2 | ANY | s S16LE g +0100 f g +0300 e , s S16LE g +0200 e => s S16LE*2 g +01000200 f
+interleave*2 | ANY | s S16LE g +0100 e , s S16LE g +0200 f g +0400 e => s S16LE*2 g +01000200 f
+interleave*2 | ANY | s g , s S16LE g +0200 e => s S16LE*2 g
+interleave*2 | ANY | s , s S16LE g +0200 e =>
+interleave*3 | ANY | s g , s S16LE g +0200 e , s g => s S16LE*3 g
+interleave*3 | ANY | s g , s S16LE g +0200 e , s =>
+interleave*2 | ANY | s g f S16LE g +0100 e , s S16LE g +0200 e f g +0300 e => s S16LE*2 g f s S16LE*2 g +01000300 e
+interleave*2 | ANY | s g , s MULAW g e => other
+interleave*2 | ANY | s S16LE g +0100 e , s U8 g +02 e => other
+interleave*2 | ANY | s S16LE g +01 , s MULAW g => bad 1
+interleave*2 | ANY | s S16LE g f g +01 , s MULAW g f g e => other
+interleave*2 | ANY | s g +0100 , s S16LE g => none
+interleave*2 | ANY | s g , s S16LE g +02 e => bad 1";
 
 /// CAPS of the format of this name.
 fn caps_by(alloc: Global, name: &str) -> Result<Fixed, Fail> {
@@ -167,16 +190,19 @@ pub(crate) fn settings_by(alloc: Global, words: &str) -> Result<Settings, Fail> 
     Ok(settings)
 }
 
-/// What an element with one sink pad owes for a list of items.
+/// What an element owes for lists of items, one for each sink pad.
 fn owed(alloc: Global, words: &str, allowed: &str, given: &str) -> Result<String, Fail> {
     let settings = settings_by(alloc, words)?;
     let mut text = String::new(alloc);
-    if settings.sink_pads() != 1 || settings.makes_sinks() {
-        return Ok(text);
-    }
     let allowed = caps_text::parse(alloc, allowed)?;
     let mut inputs = List::new(alloc);
-    inputs.push(alloc, items_by(alloc, given)?)?;
+    for items in given.split(" , ") {
+        inputs.push(alloc, items_by(alloc, items)?)?;
+    }
+    let pads = settings.sink_pads();
+    if pads == 0 || inputs.as_slice().len() != pads as usize {
+        return Ok(text);
+    }
     match denote(alloc, &settings, settings.source_pads(), &allowed, &inputs) {
         Ok(outputs) => tell_lists(&mut text, &outputs)?,
         Err(fault) => tell_fault(&mut text, &fault)?,

@@ -1,5 +1,5 @@
 use Rattle.el_denote.proofs.WholeLists.{denoted_ok, denoted_err, first_is}
-use Rattle.el_denote.proofs.denoting.denote.Goals as goal
+use Rattle.el_denote.proofs.denoting.denote_single.Goals as goal
 
 pub returns-in_ok-on_pads-in-Ok : goal.returns-in_ok-on_pads-in-Ok
 returns-in_ok-on_pads-in-Ok c =
