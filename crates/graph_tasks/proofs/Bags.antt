@@ -6,13 +6,13 @@ use Rattle.flow_model.specs.Account.{IsMember}
 use Rattle.graph_core.specs.Elements.{Made}
 use Rattle.graph_core.specs.Links.{HasPads}
 use Rattle.graph_pads.specs.declared.pad.PadLink.{PadLink}
-use Rattle.graph_bags.specs.Links.{has, Reaches}
+use Rattle.graph_parts.specs.Links.{has, Reaches}
 use Rattle.el_settings.specs.Asked.{is_source}
-use Rattle.graph_bags.specs.Bags.{number_of, head_cells, cells, numbers, head_number, head_of, IsHead, IsBag}
-use Rattle.graph_bags.specs.declared.bag.Bag.{Bag}
-use Rattle.graph_bags.specs.declared.bag.BagElement.{BagElement}
-use Rattle.graph_bags.specs.declared.bag.BagHead.{BagHead}
-use Rattle.graph_bags.specs.declared.bag.BagHead.TheVariants.{Source, Inlets}
+use Rattle.graph_parts.specs.Bags.{number_of, head_cells, cells, numbers, head_number, head_of, IsHead, IsBag}
+use Rattle.graph_parts.specs.declared.bag.Bag.{Bag}
+use Rattle.graph_parts.specs.declared.bag.BagElement.{BagElement}
+use Rattle.graph_parts.specs.declared.bag.BagHead.{BagHead}
+use Rattle.graph_parts.specs.declared.bag.BagHead.TheVariants.{Source, Inlets}
 use Rattle.graph_tasks.proofs.Lists.{get_map, get_front, get_last, get_member, place_once}
 use Rattle.graph_tasks.proofs.Graphs.{inlets_no_source, reached_by}
 

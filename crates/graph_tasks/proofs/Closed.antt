@@ -12,14 +12,14 @@ use Rattle.graph_core.specs.Elements.{Made}
 use Rattle.graph_pads.specs.Links.{sink_behind}
 use Rattle.graph_pads.specs.declared.pad.PadLink.{PadLink}
 use Rattle.graph_pads.specs.declared.pad.PadPlace.{PadPlace}
-use Rattle.graph_bags.specs.Bags.{IsBag, IsHead, head_cells, head_number, head_of, number_of, numbers}
-use Rattle.graph_bags.specs.Links.{place_at, source_count, LeadsInside, Reaches}
-use Rattle.graph_bags.specs.declared.bag.Bag.{Bag}
-use Rattle.graph_bags.specs.declared.bag.BagElement.{BagElement}
-use Rattle.graph_bags.specs.declared.bag.BagHead.{BagHead}
-use Rattle.graph_bags.specs.declared.bag.BagHead.TheVariants as bags
-use Rattle.graph_bags.proofs.Onces.{in_back, in_either, in_front}
-use Rattle.graph_bags.proofs.Trees.{sink_there, sinks_at}
+use Rattle.graph_parts.specs.Bags.{IsBag, IsHead, head_cells, head_number, head_of, number_of, numbers}
+use Rattle.graph_parts.specs.Links.{place_at, source_count, LeadsInside, Reaches}
+use Rattle.graph_parts.specs.declared.bag.Bag.{Bag}
+use Rattle.graph_parts.specs.declared.bag.BagElement.{BagElement}
+use Rattle.graph_parts.specs.declared.bag.BagHead.{BagHead}
+use Rattle.graph_parts.specs.declared.bag.BagHead.TheVariants as bags
+use Rattle.graph_parts.proofs.Onces.{in_back, in_either, in_front}
+use Rattle.graph_parts.proofs.Trees.{sink_there, sinks_at}
 use Rattle.lane_core.specs.declared.ends.Inlet as inlets
 use Rattle.lane_core.specs.declared.ends.Outlet as outlets
 use Rattle.task_pads.specs.Pads.{goes_of, pad_shape}

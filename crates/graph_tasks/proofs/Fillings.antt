@@ -4,7 +4,7 @@ use Rattle.std.specs.Prelude.{slice_get}
 use Rattle.std.specs.List.{AllZip}
 use Rattle.flow_model.specs.Account.{IsMember}
 use Rattle.net_model.specs.declared.element.TaskElement as elements
-use Rattle.graph_bags.specs.Bags.{Once}
+use Rattle.graph_parts.specs.Bags.{Once}
 use Rattle.task_parts.specs.declared.part.Part.{Part}
 use Rattle.graph_tasks.specs.Making.{IsPartFrom}
 use Rattle.graph_tasks.specs.Plan.{AreAt, ElementAt, without}

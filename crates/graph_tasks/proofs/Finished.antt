@@ -6,12 +6,12 @@ use Rattle.std.proofs.lemmas.List.{map-append}
 use Rattle.flow_model.specs.Account.{IsMember}
 use Rattle.graph_core.specs.Elements.{Made}
 use Rattle.graph_pads.specs.declared.pad.PadLink.{PadLink}
-use Rattle.graph_bags.specs.Bags.{Once, head_cells, number_of, numbers}
-use Rattle.graph_bags.specs.declared.bag.Bag.{Bag}
-use Rattle.graph_bags.specs.declared.bag.BagHead.{BagHead}
-use Rattle.graph_bags.specs.declared.bag.BagHead.TheVariants as bags
-use Rattle.graph_bags.proofs.Onces.{in_back, in_front, once_back, once_front}
-use Rattle.graph_lanes.specs.Lanes.{AreLanes}
+use Rattle.graph_parts.specs.Bags.{Once, head_cells, number_of, numbers}
+use Rattle.graph_parts.specs.declared.bag.Bag.{Bag}
+use Rattle.graph_parts.specs.declared.bag.BagHead.{BagHead}
+use Rattle.graph_parts.specs.declared.bag.BagHead.TheVariants as bags
+use Rattle.graph_parts.proofs.Onces.{in_back, in_front, once_back, once_front}
+use Rattle.graph_parts.specs.Lanes.{AreLanes}
 use Rattle.lane_core.specs.Lane.{Lane}
 use Rattle.lane_core.specs.declared.ends.Inlet as inlets
 use Rattle.lane_core.specs.declared.ends.Outlet as outlets

@@ -6,9 +6,9 @@ use Rattle.std.proofs.lemmas.Grind.{flat_map-append}
 use Rattle.std.proofs.lemmas.List.{append-nil, map-append, take_more}
 use Rattle.std.proofs.lemmas.Option.{get_or_from_slice_get, slice_get_within}
 use Rattle.flow_model.specs.Account.{IsMember}
-use Rattle.graph_bags.specs.Bags.{Once, number_of}
-use Rattle.graph_bags.specs.declared.bag.BagElement.{BagElement}
-use Rattle.graph_bags.proofs.Onces.{in_front, in_back, in_either, once_append, once_apart, once_back, once_front}
+use Rattle.graph_parts.specs.Bags.{Once, number_of}
+use Rattle.graph_parts.specs.declared.bag.BagElement.{BagElement}
+use Rattle.graph_parts.proofs.Onces.{in_front, in_back, in_either, once_append, once_apart, once_back, once_front}
 use Rattle.graph_tasks.specs.Wiring.{AreApart}
 use Rattle.gst_value.proofs.Basics.{some_same}
 

@@ -11,15 +11,15 @@ use Rattle.el_settings.specs.Asked.{source_pads, is_source}
 use Rattle.el_settings.proofs.Roles.{source_sources}
 use Rattle.graph_core.specs.Elements.{Made}
 use Rattle.graph_pads.specs.declared.pad.PadLink.{PadLink}
-use Rattle.graph_bags.specs.Bags.{IsBag, Once, cells, head_cells, head_of, number_of, numbers}
-use Rattle.graph_bags.specs.Links.{Reaches}
-use Rattle.graph_bags.specs.declared.bag.Bag.{Bag}
-use Rattle.graph_bags.specs.declared.bag.BagElement.{BagElement}
-use Rattle.graph_bags.specs.declared.bag.BagHead.TheVariants as bags
-use Rattle.graph_bags.specs.declared.bag.BagPad.{BagPad}
-use Rattle.graph_bags.proofs.Apart.{bags_are_there, bags_have_pads}
-use Rattle.graph_bags.proofs.Onces.{once_front}
-use Rattle.graph_lanes.proofs.Slots.{one_slot}
+use Rattle.graph_parts.specs.Bags.{IsBag, Once, cells, head_cells, head_of, number_of, numbers}
+use Rattle.graph_parts.specs.Links.{Reaches}
+use Rattle.graph_parts.specs.declared.bag.Bag.{Bag}
+use Rattle.graph_parts.specs.declared.bag.BagElement.{BagElement}
+use Rattle.graph_parts.specs.declared.bag.BagHead.TheVariants as bags
+use Rattle.graph_parts.specs.declared.bag.BagPad.{BagPad}
+use Rattle.graph_parts.proofs.Apart.{bags_are_there, bags_have_pads}
+use Rattle.graph_parts.proofs.Onces.{once_front}
+use Rattle.graph_parts.proofs.LaneSlots.{one_slot}
 use Rattle.inlet_row.specs.declared.row.InletRow.{InletRow}
 use Rattle.lane_core.specs.declared.ends.Inlet as inlets
 use Rattle.lane_core.specs.declared.ends.Outlet as outlets

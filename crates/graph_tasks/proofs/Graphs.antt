@@ -14,9 +14,9 @@ use Rattle.graph_core.specs.declared.graph.Graph.{Graph}
 use Rattle.graph_pads.specs.declared.pad.PadLink.{PadLink}
 use Rattle.graph_pads.specs.declared.pad.PadPlace.{PadPlace}
 use Rattle.graph_core.proofs.Ranks.{after, after_falls}
-use Rattle.graph_bags.specs.Links.{has, has_inlets, is_head, place_at, Reaches}
-use Rattle.graph_bags.proofs.Trees.{sink_there}
-use Rattle.graph_moment.specs.Laws.{given_by}
+use Rattle.graph_parts.specs.Links.{has, has_inlets, is_head, place_at, Reaches}
+use Rattle.graph_parts.proofs.Trees.{sink_there}
+use Rattle.graph_parts.specs.MomentLaws.{given_by}
 use Rattle.graph_tasks.specs.Tasks.{sink_count}
 
 pub not_true : {A : Type 0} → false ≡ true → A

@@ -13,12 +13,12 @@ use Rattle.graph_core.specs.Elements.{Made}
 use Rattle.graph_core.specs.Graph.{IsSound, made as made_in, links as links_in}
 use Rattle.graph_core.specs.declared.graph.Graph.{Graph}
 use Rattle.graph_core.specs.LinkedOnce.{AreOnce}
-use Rattle.graph_bags.specs.Bags.{AreBags, IsBag, IsHead}
-use Rattle.graph_bags.specs.Links.{has, source_count}
-use Rattle.graph_bags.specs.declared.bag.Bag.{Bag}
-use Rattle.graph_bags.specs.declared.bag.BagHead.{BagHead}
-use Rattle.graph_bags.specs.declared.bag.BagHead.TheVariants as bags_heads
-use Rattle.graph_bags.proofs.Apart.{bags_are_there}
+use Rattle.graph_parts.specs.Bags.{AreBags, IsBag, IsHead}
+use Rattle.graph_parts.specs.Links.{has, source_count}
+use Rattle.graph_parts.specs.declared.bag.Bag.{Bag}
+use Rattle.graph_parts.specs.declared.bag.BagHead.{BagHead}
+use Rattle.graph_parts.specs.declared.bag.BagHead.TheVariants as bags_heads
+use Rattle.graph_parts.proofs.Apart.{bags_are_there}
 use Rattle.graph_tasks.specs.Plan.{AreAt, AreAtHand, AreThere, ElementAt, ElementsAreThere, HeadAt, IsThere, SourceAt}
 use Rattle.graph_tasks.specs.Wired.{AreWired, IsWiredHead}
 use Rattle.graph_tasks.specs.declared.wired_task.WiredHead.{WiredHead}

@@ -9,14 +9,14 @@ use Rattle.net_model.specs.declared.element.TaskElement as elements
 use Rattle.net_model.specs.declared.source.TaskSource as sources
 use Rattle.graph_core.specs.Graph.{made as made_in, links as links_in}
 use Rattle.graph_core.specs.declared.graph.Graph.{Graph}
-use Rattle.graph_bags.specs.Links.{has, has_inlets, is_head}
+use Rattle.graph_parts.specs.Links.{has, has_inlets, is_head}
 use Rattle.el_settings.specs.Asked.{is_source}
-use Rattle.graph_bags.specs.Bags.{IsHead, head_number, head_of, numbers}
-use Rattle.graph_bags.specs.declared.bag.Bag.{Bag}
-use Rattle.graph_bags.specs.declared.bag.BagElement.{BagElement}
-use Rattle.graph_bags.specs.declared.bag.BagHead.{BagHead}
-use Rattle.graph_bags.specs.declared.bag.BagHead.TheVariants as bags_heads
-use Rattle.graph_bags.proofs.Apart.{heads_have_bags}
+use Rattle.graph_parts.specs.Bags.{IsHead, head_number, head_of, numbers}
+use Rattle.graph_parts.specs.declared.bag.Bag.{Bag}
+use Rattle.graph_parts.specs.declared.bag.BagElement.{BagElement}
+use Rattle.graph_parts.specs.declared.bag.BagHead.{BagHead}
+use Rattle.graph_parts.specs.declared.bag.BagHead.TheVariants as bags_heads
+use Rattle.graph_parts.proofs.Apart.{heads_have_bags}
 use Rattle.inlet_row.specs.declared.row.InletRow.{InletRow}
 use Rattle.task_parts.specs.declared.head.Head.{Head}
 use Rattle.task_parts.specs.declared.head.Head.TheVariants.{Inlets}

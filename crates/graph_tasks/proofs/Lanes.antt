@@ -12,7 +12,7 @@ use Rattle.graph_core.specs.GraphPlan.{owner_of}
 use Rattle.graph_pads.specs.Links.{source_before}
 use Rattle.graph_pads.specs.declared.pad.PadLink.{PadLink}
 use Rattle.lane_core.specs.Lane.{Lane, lane_of}
-use Rattle.graph_lanes.specs.Lanes.{has_lane, lane_place, lane_room, room_by, sink_numbers, sink_of}
+use Rattle.graph_parts.specs.Lanes.{has_lane, lane_place, lane_room, room_by, sink_numbers, sink_of}
 use Rattle.graph_tasks.proofs.Lists.{get_front, get_last, less_or_more}
 
 -- there are as many rooms as numbers that have one

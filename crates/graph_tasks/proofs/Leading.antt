@@ -16,13 +16,13 @@ use Rattle.graph_pads.specs.declared.pad.PadLink.{PadLink}
 use Rattle.graph_pads.specs.declared.pad.PadPlace.{PadPlace}
 use Rattle.graph_core.proofs.NumberedPads.{owner_at, pad_at_number}
 use Rattle.el_settings.proofs.Padded.{few_sources}
-use Rattle.graph_bags.specs.Links.{has, has_inlets, place_at}
-use Rattle.graph_bags.specs.declared.bag.BagLink.{BagLink}
-use Rattle.graph_bags.specs.declared.bag.BagLink.TheVariants.{Nothing, Element, Lane}
-use Rattle.graph_bags.proofs.Onces.{in_back, in_front}
-use Rattle.graph_bags.proofs.Trees.{sink_there}
-use Rattle.graph_lanes.specs.Lanes.{OutletAt, join_room, lane_room, room_by, room_of, sink_numbers, sink_of}
-use Rattle.graph_lanes.proofs.Slots.{slot_of_set}
+use Rattle.graph_parts.specs.Links.{has, has_inlets, place_at}
+use Rattle.graph_parts.specs.declared.bag.BagLink.{BagLink}
+use Rattle.graph_parts.specs.declared.bag.BagLink.TheVariants.{Nothing, Element, Lane}
+use Rattle.graph_parts.proofs.Onces.{in_back, in_front}
+use Rattle.graph_parts.proofs.Trees.{sink_there}
+use Rattle.graph_parts.specs.Lanes.{OutletAt, join_room, lane_room, room_by, room_of, sink_numbers, sink_of}
+use Rattle.graph_parts.proofs.LaneSlots.{slot_of_set}
 use Rattle.lane_core.specs.declared.ends.Outlet as outlets
 use Rattle.task_pads.specs.Behind.{end_in, goes, lane_end, WentIn}
 use Rattle.task_pads.specs.Pads.{HasCrossed, crossed_count, number_of, probe_of, rest_of, waiting_of}

@@ -9,7 +9,7 @@ use Rattle.net_model.specs.Split.{AreEmpty, NoneAt}
 use Rattle.flow_model.specs.SinkPads.{InSection}
 use Rattle.net_task.specs.Ties.{TookAt}
 use Rattle.net_turns.specs.Net.{ListAt}
-use Rattle.graph_bags.specs.Bags.{Once}
+use Rattle.graph_parts.specs.Bags.{Once}
 
 -- what stands at a place of a mapped list
 pub map_got : {A B : Type 0} (f : A → B) (xs : List A) (k : ℕ) (y : B) → slice_get (map f xs) k ≡ Some y → (x : A) × (slice_get xs k ≡ Some x) × (y ≡ f x)

@@ -16,14 +16,14 @@ use Rattle.graph_pads.specs.declared.pad.PadLink.{PadLink}
 use Rattle.graph_pads.specs.declared.pad.PadPlace.{PadPlace}
 use Rattle.graph_core.proofs.NumberedPads.{owner_at, same_pad}
 use Rattle.el_settings.proofs.Padded.{few_sinks}
-use Rattle.graph_bags.specs.Bags.{Once, head_number, head_of}
-use Rattle.graph_bags.specs.Links.{place_at}
-use Rattle.graph_bags.specs.declared.bag.Bag.{Bag}
-use Rattle.graph_bags.specs.declared.bag.BagHead.{BagHead}
-use Rattle.graph_bags.specs.declared.bag.BagHead.TheVariants.{Source, Inlets}
-use Rattle.graph_bags.proofs.Onces.{in_either, once_append}
-use Rattle.graph_bags.proofs.Trees.{range_has, range_holds, range_once, sink_there}
-use Rattle.graph_lanes.specs.Lanes.{sink_numbers}
+use Rattle.graph_parts.specs.Bags.{Once, head_number, head_of}
+use Rattle.graph_parts.specs.Links.{place_at}
+use Rattle.graph_parts.specs.declared.bag.Bag.{Bag}
+use Rattle.graph_parts.specs.declared.bag.BagHead.{BagHead}
+use Rattle.graph_parts.specs.declared.bag.BagHead.TheVariants.{Source, Inlets}
+use Rattle.graph_parts.proofs.Onces.{in_either, once_append}
+use Rattle.graph_parts.proofs.Trees.{range_has, range_holds, range_once, sink_there}
+use Rattle.graph_parts.specs.Lanes.{sink_numbers}
 use Rattle.graph_tasks.specs.Tasks.{sink_count}
 use Rattle.graph_tasks.specs.Wiring.{inlets_of}
 use Rattle.gst_value.proofs.Basics.{some_same}

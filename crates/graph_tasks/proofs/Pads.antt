@@ -11,12 +11,12 @@ use Rattle.graph_core.specs.declared.graph.Graph.{Graph}
 use Rattle.graph_pads.specs.declared.pad.PadPlace.{PadPlace}
 use Rattle.graph_core.specs.LinkedOnce.{AreOnce}
 use Rattle.graph_core.specs.GraphPlan.{pad_id}
-use Rattle.graph_bags.specs.Links.{place_at, source_count}
-use Rattle.graph_moment.specs.Plans.{moment_plan, moment_answers}
-use Rattle.graph_moment.specs.Laws.{HasNumber, given_by}
-use Rattle.graph_moment.proofs.Leading.{links_lead, unlinked_lead}
-use Rattle.graph_moment.proofs.Rules.{sources_wait}
-use Rattle.graph_moment.proofs.Wholes.{pads_have_numbers}
+use Rattle.graph_parts.specs.Links.{place_at, source_count}
+use Rattle.graph_parts.specs.Plans.{moment_plan, moment_answers}
+use Rattle.graph_parts.specs.MomentLaws.{HasNumber, given_by}
+use Rattle.graph_parts.proofs.MomentLeading.{links_lead, unlinked_lead}
+use Rattle.graph_parts.proofs.Rules.{sources_wait}
+use Rattle.graph_parts.proofs.Wholes.{pads_have_numbers}
 use Rattle.task_pads.specs.declared.pad.Pad.{Pad}
 use Rattle.task_pads.specs.declared.pad.Behind.{Behind}
 use Rattle.task_pads.specs.declared.pad.Behind.TheVariants as behinds

@@ -7,8 +7,8 @@ use Rattle.lane_core.specs.declared.ends.Inlet as inlets
 use Rattle.lane_core.specs.declared.ends.Outlet as outlets
 use Rattle.net_model.specs.declared.element.TaskElement as elements
 use Rattle.net_model.specs.declared.source.TaskSource as sources
-use Rattle.graph_bags.specs.Bags.{Once}
-use Rattle.graph_bags.proofs.Onces.{in_back, in_front, once_apart, once_back, once_front}
+use Rattle.graph_parts.specs.Bags.{Once}
+use Rattle.graph_parts.proofs.Onces.{in_back, in_front, once_apart, once_back, once_front}
 use Rattle.task_parts.specs.declared.head.Head.{Head}
 use Rattle.task_parts.specs.declared.head.Head.TheVariants as heads
 use Rattle.net_task.specs.declared.task.Task.{Task}

@@ -13,12 +13,12 @@ use Rattle.graph_pads.specs.Links.{sink_behind}
 use Rattle.graph_core.specs.declared.graph.Graph.{Graph}
 use Rattle.graph_pads.specs.declared.pad.PadPlace.{PadPlace}
 use Rattle.graph_core.proofs.NumberedPads.{same_pad}
-use Rattle.graph_bags.specs.Links.{place_at, Reaches}
-use Rattle.graph_bags.specs.Bags.{head_number, head_of}
-use Rattle.graph_bags.specs.declared.bag.Bag.{Bag}
-use Rattle.graph_bags.specs.declared.bag.BagHead.{BagHead}
-use Rattle.graph_bags.specs.declared.bag.BagHead.TheVariants as bags_heads
-use Rattle.graph_lanes.specs.Lanes.{has_lane, lane_place, lane_room, sink_numbers}
+use Rattle.graph_parts.specs.Links.{place_at, Reaches}
+use Rattle.graph_parts.specs.Bags.{head_number, head_of}
+use Rattle.graph_parts.specs.declared.bag.Bag.{Bag}
+use Rattle.graph_parts.specs.declared.bag.BagHead.{BagHead}
+use Rattle.graph_parts.specs.declared.bag.BagHead.TheVariants as bags_heads
+use Rattle.graph_parts.specs.Lanes.{has_lane, lane_place, lane_room, sink_numbers}
 use Rattle.inlet_row.specs.declared.feeding.Feeding.{Feeding}
 use Rattle.inlet_row.specs.declared.row.InletRow.{InletRow}
 use Rattle.inlet_row.specs.Row.{Apart, AreApart, ForLanes, RowIn, feeds_of}

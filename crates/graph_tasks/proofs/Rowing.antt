@@ -8,11 +8,11 @@ use Rattle.flow_model.specs.Account.{IsMember}
 use Rattle.graph_core.specs.Elements.{Made}
 use Rattle.graph_core.specs.GraphPlan.{pad_id}
 use Rattle.graph_pads.specs.declared.pad.PadLink.{PadLink}
-use Rattle.graph_bags.specs.Links.{place_at}
-use Rattle.graph_bags.specs.declared.bag.BagHead.TheVariants.{Inlets}
-use Rattle.graph_bags.proofs.Onces.{in_back, in_either, in_front}
-use Rattle.graph_lanes.specs.Lanes.{InletAt, lane_room}
-use Rattle.graph_lanes.proofs.Slots.{one_slot, slot_of_set}
+use Rattle.graph_parts.specs.Links.{place_at}
+use Rattle.graph_parts.specs.declared.bag.BagHead.TheVariants.{Inlets}
+use Rattle.graph_parts.proofs.Onces.{in_back, in_either, in_front}
+use Rattle.graph_parts.specs.Lanes.{InletAt, lane_room}
+use Rattle.graph_parts.proofs.LaneSlots.{one_slot, slot_of_set}
 use Rattle.inlet_row.specs.Row.{feeds_of}
 use Rattle.inlet_row.specs.declared.row.InletRow.{InletRow}
 use Rattle.lane_core.specs.declared.ends.Inlet as inlets

@@ -13,12 +13,12 @@ use Rattle.net_model.specs.declared.source.TaskSource as sources
 use Rattle.graph_core.specs.Graph.{made as made_in, links as links_in}
 use Rattle.graph_core.specs.declared.graph.Graph.{Graph}
 use Rattle.graph_core.specs.GraphPlan.{pad_id}
-use Rattle.graph_bags.specs.Links.{has, place_at}
+use Rattle.graph_parts.specs.Links.{has, place_at}
 use Rattle.el_settings.specs.Asked.{is_source}
-use Rattle.graph_bags.specs.declared.bag.Bag.{Bag}
-use Rattle.graph_moment.specs.Pads.{pad_owner}
-use Rattle.graph_moment.specs.Plans.{moment_plan}
-use Rattle.graph_moment.proofs.Rules.{moment_stands, moment_starts, owes_none_behind, sections_are_one, sources_wait}
+use Rattle.graph_parts.specs.declared.bag.Bag.{Bag}
+use Rattle.graph_parts.specs.Pads.{pad_owner}
+use Rattle.graph_parts.specs.Plans.{moment_plan}
+use Rattle.graph_parts.proofs.Rules.{moment_stands, moment_starts, owes_none_behind, sections_are_one, sources_wait}
 use Rattle.inlet_row.specs.declared.feeding.Feeding.{Feeding}
 use Rattle.inlet_row.specs.declared.row.InletRow.{InletRow}
 use Rattle.inlet_row.specs.Row.{GaveInAll, GaveOf, RowBetween, held, items_of, row_holds}

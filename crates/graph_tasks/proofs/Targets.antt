@@ -10,18 +10,18 @@ use Rattle.graph_core.specs.GraphPlan.{pad_id}
 use Rattle.graph_pads.specs.Links.{sink_behind}
 use Rattle.graph_pads.specs.declared.pad.PadLink.{PadLink}
 use Rattle.graph_pads.specs.declared.pad.PadPlace.{PadPlace}
-use Rattle.graph_bags.specs.Bags.{HavePads, IsBag, IsHead, Once, cells, head_number, head_of, number_of, numbers}
-use Rattle.graph_bags.specs.Links.{has, has_inlets, is_head, link_to, pad_at, place_at, source_count}
+use Rattle.graph_parts.specs.Bags.{HavePads, IsBag, IsHead, Once, cells, head_number, head_of, number_of, numbers}
+use Rattle.graph_parts.specs.Links.{has, has_inlets, is_head, link_to, pad_at, place_at, source_count}
 use Rattle.el_settings.specs.Asked.{is_source}
-use Rattle.graph_bags.specs.declared.bag.Bag.{Bag}
-use Rattle.graph_bags.specs.declared.bag.BagElement.{BagElement}
-use Rattle.graph_bags.specs.declared.bag.BagHead.{BagHead}
-use Rattle.graph_bags.specs.declared.bag.BagHead.TheVariants.{Source, Inlets}
-use Rattle.graph_bags.specs.declared.bag.BagLink.TheVariants.{Element, Lane}
-use Rattle.graph_bags.specs.declared.bag.BagPad.{BagPad}
-use Rattle.graph_bags.proofs.Apart.{same_head}
-use Rattle.graph_bags.proofs.Onces.{in_either, once_append}
-use Rattle.graph_bags.proofs.Trees.{range_once}
+use Rattle.graph_parts.specs.declared.bag.Bag.{Bag}
+use Rattle.graph_parts.specs.declared.bag.BagElement.{BagElement}
+use Rattle.graph_parts.specs.declared.bag.BagHead.{BagHead}
+use Rattle.graph_parts.specs.declared.bag.BagHead.TheVariants.{Source, Inlets}
+use Rattle.graph_parts.specs.declared.bag.BagLink.TheVariants.{Element, Lane}
+use Rattle.graph_parts.specs.declared.bag.BagPad.{BagPad}
+use Rattle.graph_parts.proofs.Apart.{same_head}
+use Rattle.graph_parts.proofs.Onces.{in_either, once_append}
+use Rattle.graph_parts.proofs.Trees.{range_once}
 use Rattle.graph_tasks.specs.Wiring.{AreLinks, BagsGiven, all_cells, cell_lanes, inlets_of, lane_to, pad_lanes}
 use Rattle.graph_tasks.proofs.Flats.{flat_flat}
 use Rattle.graph_tasks.proofs.Numbers.{inlets_once, one_source}

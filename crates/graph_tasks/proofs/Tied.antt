@@ -18,15 +18,15 @@ use Rattle.graph_pads.specs.Links.{sink_behind, source_before}
 use Rattle.graph_core.specs.declared.graph.Graph.{Graph}
 use Rattle.graph_pads.specs.declared.pad.PadPlace.{PadPlace}
 use Rattle.graph_core.specs.GraphPlan.{line_plan, owner_of, pad_id, sink_at, sink_count as sinks_of, spans_from}
-use Rattle.graph_bags.specs.Links.{has, has_inlets, place_at, source_count}
-use Rattle.graph_bags.specs.Bags.{IsHead}
-use Rattle.graph_bags.specs.declared.bag.Bag.{Bag}
-use Rattle.graph_bags.specs.declared.bag.BagElement.{BagElement}
-use Rattle.graph_bags.specs.declared.bag.BagHead.{BagHead}
-use Rattle.graph_bags.specs.declared.bag.BagHead.TheVariants as bags_heads
-use Rattle.graph_moment.specs.Plans.{moment_plan}
-use Rattle.graph_moment.proofs.Rules.{moment_starts}
-use Rattle.graph_moment.proofs.Wholes.{numbers_have_pads}
+use Rattle.graph_parts.specs.Links.{has, has_inlets, place_at, source_count}
+use Rattle.graph_parts.specs.Bags.{IsHead}
+use Rattle.graph_parts.specs.declared.bag.Bag.{Bag}
+use Rattle.graph_parts.specs.declared.bag.BagElement.{BagElement}
+use Rattle.graph_parts.specs.declared.bag.BagHead.{BagHead}
+use Rattle.graph_parts.specs.declared.bag.BagHead.TheVariants as bags_heads
+use Rattle.graph_parts.specs.Plans.{moment_plan}
+use Rattle.graph_parts.proofs.Rules.{moment_starts}
+use Rattle.graph_parts.proofs.Wholes.{numbers_have_pads}
 use Rattle.inlet_row.specs.declared.feeding.Feeding.{Feeding}
 use Rattle.inlet_row.specs.declared.row.InletRow.{InletRow}
 use Rattle.inlet_row.specs.Row.{GaveInAll, RowGave}

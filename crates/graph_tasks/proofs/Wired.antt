@@ -13,11 +13,11 @@ use Rattle.graph_pads.specs.Links.{sink_behind}
 use Rattle.graph_core.specs.declared.graph.Graph.{Graph}
 use Rattle.graph_pads.specs.declared.pad.PadLink.{PadLink}
 use Rattle.graph_pads.specs.declared.pad.PadPlace.{PadPlace}
-use Rattle.graph_bags.specs.Links.{place_at}
-use Rattle.graph_bags.specs.Bags.{numbers}
-use Rattle.graph_bags.specs.declared.bag.Bag.{Bag}
-use Rattle.graph_bags.proofs.Trees.{sink_there}
-use Rattle.graph_lanes.specs.Lanes.{has_lane, lane_place}
+use Rattle.graph_parts.specs.Links.{place_at}
+use Rattle.graph_parts.specs.Bags.{numbers}
+use Rattle.graph_parts.specs.declared.bag.Bag.{Bag}
+use Rattle.graph_parts.proofs.Trees.{sink_there}
+use Rattle.graph_parts.specs.Lanes.{has_lane, lane_place}
 use Rattle.inlet_row.specs.declared.row.InletRow.{InletRow}
 use Rattle.inlet_row.specs.Row.{ForLanes, feeds_of}
 use Rattle.task_pads.specs.declared.pad.Pad.{Pad}

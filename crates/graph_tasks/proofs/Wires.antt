@@ -14,13 +14,13 @@ use Rattle.graph_pads.specs.Links.{sink_behind}
 use Rattle.graph_core.specs.declared.graph.Graph.{Graph}
 use Rattle.graph_pads.specs.declared.pad.PadLink.{PadLink}
 use Rattle.graph_pads.specs.declared.pad.PadPlace.{PadPlace}
-use Rattle.graph_bags.specs.Links.{has, has_inlets, place_at, source_count}
-use Rattle.graph_bags.specs.Bags.{numbers}
-use Rattle.graph_bags.specs.declared.bag.Bag.{Bag}
-use Rattle.graph_bags.specs.declared.bag.BagElement.{BagElement}
-use Rattle.graph_bags.specs.declared.bag.BagHead.{BagHead}
-use Rattle.graph_bags.specs.declared.bag.BagHead.TheVariants as bags_heads
-use Rattle.graph_lanes.specs.Lanes.{has_lane, lane_place}
+use Rattle.graph_parts.specs.Links.{has, has_inlets, place_at, source_count}
+use Rattle.graph_parts.specs.Bags.{numbers}
+use Rattle.graph_parts.specs.declared.bag.Bag.{Bag}
+use Rattle.graph_parts.specs.declared.bag.BagElement.{BagElement}
+use Rattle.graph_parts.specs.declared.bag.BagHead.{BagHead}
+use Rattle.graph_parts.specs.declared.bag.BagHead.TheVariants as bags_heads
+use Rattle.graph_parts.specs.Lanes.{has_lane, lane_place}
 use Rattle.task_pads.specs.declared.pad.Behind.{Behind}
 use Rattle.task_pads.specs.declared.pad.Behind.TheVariants as behinds
 use Rattle.task_pads.specs.declared.pad.Pad.{Pad}

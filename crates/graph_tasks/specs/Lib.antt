@@ -6,3 +6,12 @@ pub mod Start
 pub mod Tasks
 pub mod Wired
 pub mod Wiring
+pub mod Owed
+pub mod Short
+pub mod Frames
+pub mod Runs
+pub mod Ended
+pub mod Written
+pub mod Blamed
+pub mod Over
+pub mod Stalled

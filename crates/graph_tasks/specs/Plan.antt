@@ -11,8 +11,8 @@ use Rattle.graph_core.specs.Elements.{Made}
 use Rattle.graph_core.specs.Graph.{IsSound, made as made_in, links as links_in}
 use Rattle.graph_core.specs.declared.graph.Graph.{Graph}
 use Rattle.graph_core.specs.LinkedOnce.{AreOnce}
-use Rattle.graph_bags.specs.Bags.{AreBags, Once}
-use Rattle.graph_bags.specs.declared.bag.Bag.{Bag}
+use Rattle.graph_parts.specs.Bags.{AreBags, Once}
+use Rattle.graph_parts.specs.declared.bag.Bag.{Bag}
 use Rattle.task_parts.specs.Shape.{is_closed}
 use Rattle.graph_tasks.specs.Tasks.{IsOf}
 use Rattle.graph_tasks.specs.Wired.{AreWired, part_numbers, source_numbers, wired_shape}

@@ -8,8 +8,8 @@ use Rattle.net_model.specs.declared.source.TaskSource as sources
 use Rattle.graph_core.specs.Graph.{IsSound, made as made_in, links as links_in}
 use Rattle.graph_core.specs.declared.graph.Graph.{Graph}
 use Rattle.graph_core.specs.LinkedOnce.{AreOnce}
-use Rattle.graph_bags.specs.Bags.{AreBags}
-use Rattle.graph_bags.specs.declared.bag.Bag.{Bag}
+use Rattle.graph_parts.specs.Bags.{AreBags}
+use Rattle.graph_parts.specs.declared.bag.Bag.{Bag}
 use Rattle.net_task.specs.declared.task.Task.{Task}
 use Rattle.net_turns.specs.Net.{NetReady}
 use Rattle.graph_tasks.specs.Tasks.{AreTasks}

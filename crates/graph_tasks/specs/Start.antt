@@ -10,12 +10,12 @@ use Rattle.net_model.specs.declared.source.TaskSource as sources
 use Rattle.graph_core.specs.Graph.{IsSound, made as made_in, links as links_in}
 use Rattle.graph_core.specs.declared.graph.Graph.{Graph}
 use Rattle.graph_core.specs.LinkedOnce.{AreOnce}
-use Rattle.graph_moment.specs.Plans.{moment_plan, moment_answers}
-use Rattle.graph_moment.specs.Laws.{given_by}
-use Rattle.graph_bags.specs.Bags.{AreBags}
-use Rattle.graph_bags.specs.Links.{has}
+use Rattle.graph_parts.specs.Plans.{moment_plan, moment_answers}
+use Rattle.graph_parts.specs.MomentLaws.{given_by}
+use Rattle.graph_parts.specs.Bags.{AreBags}
+use Rattle.graph_parts.specs.Links.{has}
 use Rattle.el_settings.specs.Asked.{is_source}
-use Rattle.graph_bags.specs.declared.bag.Bag.{Bag}
+use Rattle.graph_parts.specs.declared.bag.Bag.{Bag}
 use Rattle.net_task.specs.declared.task.Task.{Task}
 use Rattle.net_turns.specs.Net.{NetStands}
 use Rattle.graph_tasks.specs.Tasks.{AreTasks, IsOf}

@@ -10,12 +10,12 @@ use Rattle.graph_pads.specs.Links.{sink_behind}
 use Rattle.graph_pads.specs.declared.pad.PadLink.{PadLink}
 use Rattle.graph_pads.specs.declared.pad.PadPlace.{PadPlace}
 use Rattle.graph_core.specs.GraphPlan.{pad_id}
-use Rattle.graph_bags.specs.Links.{has, has_inlets, place_at, source_count}
-use Rattle.graph_bags.specs.declared.bag.Bag.{Bag}
-use Rattle.graph_bags.specs.declared.bag.BagElement.{BagElement}
-use Rattle.graph_bags.specs.declared.bag.BagHead.{BagHead}
-use Rattle.graph_bags.specs.declared.bag.BagHead.TheVariants as bags
-use Rattle.graph_lanes.specs.Lanes.{has_lane, lane_place, lane_room, lane_rooms}
+use Rattle.graph_parts.specs.Links.{has, has_inlets, place_at, source_count}
+use Rattle.graph_parts.specs.declared.bag.Bag.{Bag}
+use Rattle.graph_parts.specs.declared.bag.BagElement.{BagElement}
+use Rattle.graph_parts.specs.declared.bag.BagHead.{BagHead}
+use Rattle.graph_parts.specs.declared.bag.BagHead.TheVariants as bags
+use Rattle.graph_parts.specs.Lanes.{has_lane, lane_place, lane_room, lane_rooms}
 use Rattle.net_model.specs.declared.element.TaskElement as elements
 use Rattle.net_model.specs.declared.source.TaskSource as sources
 use Rattle.inlet_row.specs.declared.feeding.Feeding.TheVariants.{Lane as OfLane}

@@ -2,7 +2,7 @@
 ghost use Rattle.std.specs.Prelude.{◌≡◌, ◌≤◌, [], ◌∷◌, List, IfOk, length, map, vec_len, vec_capacity, Some};
 ghost use Rattle.std.specs.List.{AllZip};
 ghost use Rattle.std.specs.VecDeque.{deque_len};
-ghost use Rattle.graph_bags.specs.Bags.{Once};
+ghost use Rattle.graph_parts.specs.Bags.{Once};
 ghost use Rattle.graph_tasks.specs.Making.{IsHeadFrom, IsPartFrom, IsTaskFrom};
 ghost use Rattle.graph_tasks.specs.Plan.{AreAt, ElementAt, HeadAt, IsThere, without};
 ghost use Rattle.graph_tasks.specs.Wired.{number_in, source_in};
@@ -44,7 +44,7 @@ impl<S: TaskSource, E: TaskElement, I: Inlet<Out = O>, O: Outlet<Lanes = I::Lane
 > {
     ghost use Rattle.graph_core.specs.Elements.{Made};
     ghost use Rattle.graph_pads.specs.declared.pad.PadLink.{PadLink};
-    ghost use Rattle.graph_bags.specs.declared.bag.Bag.{Bag};
+    ghost use Rattle.graph_parts.specs.declared.bag.Bag.{Bag};
     ghost use Rattle.lane_core.specs.Lane.{Lane};
     ghost use Rattle.graph_tasks.specs.Plan.{AreThere};
     ghost use Rattle.graph_tasks.specs.Planned.{planned};

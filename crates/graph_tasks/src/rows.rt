@@ -1,7 +1,7 @@
 //! What the sink pads of an element are fed from.
 ghost use Rattle.std.specs.Prelude.{◌≡◌, ℕ, List, IfOk};
 ghost use Rattle.graph_core.specs.Graph.{made as made_in, links as links_in};
-ghost use Rattle.graph_bags.specs.declared.bag.BagHead.TheVariants.{Inlets};
+ghost use Rattle.graph_parts.specs.declared.bag.BagHead.TheVariants.{Inlets};
 ghost use Rattle.inlet_row.specs.Row.{feeds_of};
 ghost use Rattle.graph_tasks.specs.Wiring.{feeds_with, inlets_of, AreApart, InletsLeft, RowsMade};
 

@@ -2,11 +2,11 @@
 ghost use Rattle.std.specs.Prelude.{◌≡◌, ◌<◌, ℕ, List, IfOk, length};
 ghost use Rattle.graph_core.specs.Graph.{made as made_in, links as links_in};
 ghost use Rattle.graph_core.specs.GraphPlan.{most_pads, pad_id};
-ghost use Rattle.graph_bags.specs.Links.{place_at};
+ghost use Rattle.graph_parts.specs.Links.{place_at};
 ghost use Rattle.graph_tasks.specs.Wiring.{CellGiven, IsBehind, IsNumbered, LooksAt, OutletsLeft, PadGiven, PadMade, PadsMade, over_lane, without_lane};
 
 use crate::taking::taken;
-use graph_bags::{BagElement, BagLink};
+use graph_parts::{BagElement, BagLink};
 use graph_core::Graph;
 use gst_value::OutOfMemory;
 use lane_core::Outlet;

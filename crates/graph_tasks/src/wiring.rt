@@ -8,9 +8,8 @@ ghost use Rattle.graph_tasks.specs.Wiring.{BagGiven, BagMade, BagsGiven, BagsMad
 use crate::rows::rows_of;
 use crate::source_pads::{pad_of, pads_of, place_of};
 use crate::wired_task::{WiredHead, WiredPart, WiredTask, WiredTasks};
-use graph_bags::{Bag, BagElement, BagHead, BagLink, bags_of};
 use graph_core::Graph;
-use graph_lanes::{Lanes, lanes_of};
+use graph_parts::{Bag, BagElement, BagHead, BagLink, Lanes, bags_of, lanes_of};
 use gst_value::OutOfMemory;
 use lane_core::{Inlet, MemInlet, MemOutlet, Outlet};
 use std::alloc::Global;

@@ -2,11 +2,11 @@
 #![tactic(auto)]
 
 #[cfg(test)]
-mod graph_bags_tests;
+mod bags_tests;
 #[cfg(test)]
 mod graph_core_tests;
 #[cfg(test)]
-mod graph_files_tests;
+mod files_tests;
 #[cfg(test)]
 mod graph_tasks_tests;
 #[cfg(test)]

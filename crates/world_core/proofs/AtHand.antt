@@ -11,9 +11,9 @@ use Rattle.net_model.specs.declared.source.TaskSource as givers
 use Rattle.flow_model.specs.Call.{Call}
 use Rattle.flow_model.specs.Item.{Item}
 use Rattle.graph_core.specs.Elements.{Made}
-use Rattle.graph_files.specs.Ends.{at, sink_end, source_end}
-use Rattle.graph_files.specs.Files.{GraphOpens, WereTold, made_opening, opening_of}
-use Rattle.graph_files.specs.Filled.{AreFilled, GivesFor, IsGiverFor, IsMadeFor}
+use Rattle.graph_parts.specs.Ends.{at, sink_end, source_end}
+use Rattle.graph_parts.specs.Files.{GraphOpens, WereTold, made_opening, opening_of}
+use Rattle.graph_parts.specs.Filled.{AreFilled, GivesFor, IsGiverFor, IsMadeFor}
 use Rattle.graph_tasks.specs.Plan.{AreAtHand}
 use Rattle.graph_tasks.specs.Tasks.{IsOf}
 use Rattle.graph_tasks.proofs.Lists.{get_map}

@@ -2,13 +2,13 @@
 use Rattle.std.proofs.Common.{◌≡◌, ◌∙◌, List, Option, Some, length, sym}
 use Rattle.net_model.specs.declared.element.TaskElement as elements
 use Rattle.net_model.specs.declared.source.TaskSource as givers
-use Rattle.graph_bags.specs.declared.bag.Bag.{Bag}
+use Rattle.graph_parts.specs.declared.bag.Bag.{Bag}
 use Rattle.graph_core.specs.Elements.{Made}
 use Rattle.graph_core.specs.Graph.{made as made_in, links as links_in}
 use Rattle.graph_core.specs.declared.graph.Graph.{Graph}
 use Rattle.graph_pads.specs.declared.pad.PadLink.{PadLink}
-use Rattle.graph_files.specs.Files.{GraphOpens}
-use Rattle.graph_files.specs.Filled.{AreFilled}
+use Rattle.graph_parts.specs.Files.{GraphOpens}
+use Rattle.graph_parts.specs.Filled.{AreFilled}
 use Rattle.graph_tasks.specs.Plan.{AreThere, without}
 use Rattle.graph_tasks.specs.Tasks.{AreTasks}
 use Rattle.graph_tasks.specs.Wired.{AreWired, part_numbers}

@@ -10,12 +10,12 @@ use Rattle.flow_model.specs.Item.{Item}
 use Rattle.graph_core.specs.Elements.{Made}
 use Rattle.graph_core.specs.Graph.{made as made_in, links as links_in}
 use Rattle.graph_core.specs.declared.graph.Graph.{Graph}
-use Rattle.graph_ends.specs.Blamed.{IsBlamed}
-use Rattle.graph_ends.specs.Owed.{IsAwaited, IsOwedMore, Refuses, WantsLink, went_from}
-use Rattle.graph_ends.specs.Runs.{crossed_in}
-use Rattle.graph_ends.specs.Short.{IsCutShort}
+use Rattle.graph_tasks.specs.Blamed.{IsBlamed}
+use Rattle.graph_tasks.specs.Owed.{IsAwaited, IsOwedMore, Refuses, WantsLink, went_from}
+use Rattle.graph_tasks.specs.Runs.{crossed_in}
+use Rattle.graph_tasks.specs.Short.{IsCutShort}
 use Rattle.graph_core.specs.Allowed.{first_pad}
-use Rattle.graph_bags.specs.Links.{place_at}
+use Rattle.graph_parts.specs.Links.{place_at}
 use Rattle.graph_core.proofs.NumberedPads.{same_pad}
 use Rattle.el_settings.proofs.Padded.{few_sources}
 use Rattle.graph_core.specs.GraphPlan.{pad_id}

@@ -19,8 +19,8 @@ use Rattle.graph_core.specs.declared.fault.BuildFault.{BuildFault}
 use Rattle.graph_core.specs.declared.graph.Graph.{Graph}
 use Rattle.gst_outside.specs.Seen.{Seen, ToldRose}
 use Rattle.launch_text.specs.declared.tree.Tree.{Tree}
-use Rattle.graph_files.specs.Files.{AreLocated, made_opening, opening_of}
-use Rattle.graph_files.proofs.Locating.{is_present, no_sink, one_sink, same_count}
+use Rattle.graph_parts.specs.Files.{AreLocated, made_opening, opening_of}
+use Rattle.graph_parts.proofs.Locating.{is_present, no_sink, one_sink, same_count}
 use Rattle.run_files.proofs.Lists.{sum_above, sum_above_of}
 use Rattle.run_files.specs.Closing.{Closes, faults_at}
 use Rattle.run_files.specs.Ends.{Known, is_sink_at, present}

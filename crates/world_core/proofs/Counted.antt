@@ -8,25 +8,25 @@ use Rattle.el_settings.specs.Asked.{source_pads, writes}
 use Rattle.net_model.specs.declared.element.TaskElement as elements
 use Rattle.net_model.specs.declared.source.TaskSource as sources
 use Rattle.flow_model.specs.Item.{Item, buffers}
-use Rattle.graph_bags.specs.Laws.{StandsIn}
-use Rattle.graph_bags.specs.declared.bag.Bag.{Bag}
+use Rattle.graph_parts.specs.BagLaws.{StandsIn}
+use Rattle.graph_parts.specs.declared.bag.Bag.{Bag}
 use Rattle.graph_core.specs.Elements.{Made}
 use Rattle.graph_core.specs.Ends.{name_at}
 use Rattle.graph_core.specs.Graph.{made as made_in, links as links_in}
 use Rattle.graph_core.specs.declared.graph.Graph.{Graph}
-use Rattle.graph_ends.specs.Ended.{IsQuiet}
-use Rattle.graph_ends.specs.Frames.{HaveBags}
-use Rattle.graph_ends.specs.Runs.{crossed_in}
-use Rattle.graph_ends.proofs.Came.{number_at, there_at}
-use Rattle.graph_ends.specs.Written.{TaskCrossed}
-use Rattle.graph_files.specs.Counts.{TasksCounted}
-use Rattle.graph_files.specs.Ends.{has}
-use Rattle.graph_files.specs.Files.{OpensAt}
-use Rattle.graph_files.specs.Put.{IsPutAt, PutBack, was_kept, was_put}
-use Rattle.graph_files.proofs.OwnFiles.{writing_opens}
-use Rattle.graph_files.specs.declared.counts.Count.{Count}
-use Rattle.graph_moment.specs.Laws.{place_of}
-use Rattle.graph_moment.specs.Pads.{at_pads, is_pad, source_count}
+use Rattle.graph_tasks.specs.Ended.{IsQuiet}
+use Rattle.graph_tasks.specs.Frames.{HaveBags}
+use Rattle.graph_tasks.specs.Runs.{crossed_in}
+use Rattle.graph_tasks.proofs.Came.{number_at, there_at}
+use Rattle.graph_tasks.specs.Written.{TaskCrossed}
+use Rattle.graph_parts.specs.Counts.{TasksCounted}
+use Rattle.graph_parts.specs.Ends.{has}
+use Rattle.graph_parts.specs.Files.{OpensAt}
+use Rattle.graph_parts.specs.Put.{IsPutAt, PutBack, was_kept, was_put}
+use Rattle.graph_parts.proofs.OwnFiles.{writing_opens}
+use Rattle.graph_parts.specs.declared.counts.Count.{Count}
+use Rattle.graph_parts.specs.MomentLaws.{place_of}
+use Rattle.graph_parts.specs.Pads.{at_pads, is_pad, source_count}
 use Rattle.lane_core.specs.declared.ends.Inlet as inlets
 use Rattle.lane_core.specs.declared.ends.Outlet as outlets
 use Rattle.net_model.specs.Moment.{Moment}

@@ -8,10 +8,10 @@ use Rattle.flow_model.specs.Source.{blocks_from, bytes_segment, file_list}
 use Rattle.el_settings.specs.declared.settings.Settings.{Settings}
 use Rattle.el_set.proofs.Lists.{read_list}
 use Rattle.graph_core.specs.Allowed.{first_pad}
-use Rattle.graph_ends.specs.Owed.{went_from}
-use Rattle.graph_ends.specs.Short.{IsCutShort}
-use Rattle.graph_files.specs.Files.{opening_of}
-use Rattle.graph_files.proofs.OwnFiles.{reader}
+use Rattle.graph_tasks.specs.Owed.{went_from}
+use Rattle.graph_tasks.specs.Short.{IsCutShort}
+use Rattle.graph_parts.specs.Files.{opening_of}
+use Rattle.graph_parts.proofs.OwnFiles.{reader}
 use Rattle.run_files.specs.declared.end.Opening.TheVariants.{Read}
 use Rattle.world_core.specs.Cut.{IsCutBefore}
 use Rattle.el_src.proofs.Blocks.{block_from, blocks_none, blocks_one}

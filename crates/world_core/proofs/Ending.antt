@@ -10,11 +10,11 @@ use Rattle.graph_core.specs.Elements.{Made}
 use Rattle.graph_core.specs.GraphPlan.{pad_id}
 use Rattle.graph_core.specs.Graph.{made as made_in, links as links_in}
 use Rattle.graph_core.specs.declared.graph.Graph.{Graph}
-use Rattle.graph_ends.specs.Runs.{RunsAt}
-use Rattle.graph_ends.specs.Stalled.{lane_at}
-use Rattle.graph_moment.proofs.Sources.{place_is_pad}
-use Rattle.graph_files.specs.Files.{WereTold}
-use Rattle.graph_moment.specs.Plans.{moment_answers, moment_plan}
+use Rattle.graph_tasks.specs.Runs.{RunsAt}
+use Rattle.graph_tasks.specs.Stalled.{lane_at}
+use Rattle.graph_parts.proofs.Sources.{place_is_pad}
+use Rattle.graph_parts.specs.Files.{WereTold}
+use Rattle.graph_parts.specs.Plans.{moment_answers, moment_plan}
 use Rattle.graph_core.specs.LinkedOnce.{AreOnce}
 use Rattle.gst_outside.specs.Seen.{Seen}
 use Rattle.gst_outside.specs.declared.sink.Sink as sinks

@@ -13,12 +13,12 @@ use Rattle.graph_core.specs.Elements.{Made}
 use Rattle.graph_core.specs.Graph.{made as made_in, links as links_in}
 use Rattle.graph_core.specs.declared.graph.Graph.{Graph}
 use Rattle.el_settings.specs.Asked.{source_pads}
-use Rattle.graph_bags.specs.Links.{place_at}
+use Rattle.graph_parts.specs.Links.{place_at}
 use Rattle.graph_core.specs.GraphPlan.{pad_id}
 use Rattle.graph_pads.specs.declared.pad.PadPlace.{PadPlace}
-use Rattle.graph_ends.specs.Owed.{went_from}
-use Rattle.graph_ends.specs.Runs.{crossed_in}
-use Rattle.graph_files.specs.Files.{WereTold}
+use Rattle.graph_tasks.specs.Owed.{went_from}
+use Rattle.graph_tasks.specs.Runs.{crossed_in}
+use Rattle.graph_parts.specs.Files.{WereTold}
 use Rattle.flow_model.specs.declared.fault.ElementFault.{ElementFault}
 use Rattle.flow_model.specs.declared.fault.ElementFault.TheVariants as own_faults
 use Rattle.gst_outside.specs.Seen.{Seen}

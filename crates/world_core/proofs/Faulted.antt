@@ -12,18 +12,18 @@ use Rattle.net_model.specs.declared.refusal.Refusal.TheVariants.{Fault, Unwritte
 use Rattle.net_model.specs.declared.refusal.Unread.TheVariants as reads
 use Rattle.net_model.specs.declared.source.TaskSource as givers
 use Rattle.flow_model.specs.Item.{Item}
-use Rattle.graph_bags.specs.declared.bag.Bag.{Bag}
+use Rattle.graph_parts.specs.declared.bag.Bag.{Bag}
 use Rattle.graph_core.specs.Elements.{Made}
 use Rattle.graph_core.specs.Ends.{name_at}
 use Rattle.graph_core.specs.Graph.{made as made_in, links as links_in}
 use Rattle.graph_pads.specs.Links.{sink_behind}
 use Rattle.graph_core.specs.declared.graph.Graph.{Graph}
-use Rattle.graph_ends.specs.Blamed.{IsBlamed}
-use Rattle.graph_ends.specs.Owed.{AreWritten, Refuses, went_from}
-use Rattle.graph_ends.specs.Runs.{crossed_in}
-use Rattle.graph_files.specs.Back.{HasElement, HasSource}
-use Rattle.graph_files.specs.Ends.{at as end_at, sink_end, source_end}
-use Rattle.graph_files.specs.Files.{OpensAt, WereTold}
+use Rattle.graph_tasks.specs.Blamed.{IsBlamed}
+use Rattle.graph_tasks.specs.Owed.{AreWritten, Refuses, went_from}
+use Rattle.graph_tasks.specs.Runs.{crossed_in}
+use Rattle.graph_parts.specs.Back.{HasElement, HasSource}
+use Rattle.graph_parts.specs.Ends.{at as end_at, sink_end, source_end}
+use Rattle.graph_parts.specs.Files.{OpensAt, WereTold}
 use Rattle.flow_model.specs.declared.fault.ElementFault.{ElementFault}
 use Rattle.flow_model.specs.declared.fault.ElementFault.TheVariants as own_faults
 use Rattle.gst_outside.specs.Causes.{Rose}
@@ -33,12 +33,12 @@ use Rattle.gst_outside.specs.declared.source.Source as sources
 use Rattle.lane_core.specs.Lane.{Lane}
 use Rattle.lane_core.specs.declared.ends.Inlet as inlets
 use Rattle.lane_core.specs.declared.ends.Outlet as outlets
-use Rattle.graph_bags.specs.Links.{place_at}
+use Rattle.graph_parts.specs.Links.{place_at}
 use Rattle.el_settings.proofs.Padded.{few_sources}
 use Rattle.graph_pads.specs.declared.pad.PadPlace.{PadPlace}
-use Rattle.graph_ends.proofs.Came.{place_again}
-use Rattle.graph_moment.proofs.Sources.{place_is_pad}
-use Rattle.graph_moment.specs.Laws.{place_of}
+use Rattle.graph_tasks.proofs.Came.{place_again}
+use Rattle.graph_parts.proofs.Sources.{place_is_pad}
+use Rattle.graph_parts.specs.MomentLaws.{place_of}
 use Rattle.graph_core.specs.GraphPlan.{pad_id}
 use Rattle.net_model.specs.Moment.{Moment}
 use Rattle.net_task.specs.declared.task.Task.{Task}

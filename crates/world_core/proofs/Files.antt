@@ -13,12 +13,12 @@ use Rattle.el_settings.specs.Asked.{is_source}
 use Rattle.graph_core.specs.Elements.{Made}
 use Rattle.graph_core.specs.Graph.{made as made_in, links as links_in}
 use Rattle.graph_core.specs.declared.graph.Graph.{Graph}
-use Rattle.graph_ends.specs.Frames.{HaveBags}
-use Rattle.graph_files.specs.Back.{GivesBack, HasElement, HasHead, HasPart, HasSource, IsHead, Wrote}
-use Rattle.graph_files.specs.Ends.{at, left_by, sink_end, source_end}
-use Rattle.graph_files.specs.Files.{AreLocated, OpensAt}
-use Rattle.graph_files.specs.Put.{Among, IsPutAt, PutBack}
-use Rattle.graph_files.specs.declared.counts.Count.{Count}
+use Rattle.graph_tasks.specs.Frames.{HaveBags}
+use Rattle.graph_parts.specs.Back.{GivesBack, HasElement, HasHead, HasPart, HasSource, IsHead, Wrote}
+use Rattle.graph_parts.specs.Ends.{at, left_by, sink_end, source_end}
+use Rattle.graph_parts.specs.Files.{AreLocated, OpensAt}
+use Rattle.graph_parts.specs.Put.{Among, IsPutAt, PutBack}
+use Rattle.graph_parts.specs.declared.counts.Count.{Count}
 use Rattle.graph_tasks.specs.Tasks.{IsOf}
 use Rattle.graph_tasks.specs.Wired.{number_in, part_numbers}
 use Rattle.graph_tasks.specs.declared.wired_task.WiredTask.{WiredTask}
@@ -45,7 +45,7 @@ use Rattle.task_parts.specs.declared.part.Part.{Part}
 use Rattle.world_core.specs.Prepared.{HasRoom}
 use Rattle.world_core.specs.Stopped.{HasRun}
 use Rattle.world_core.proofs.Bagged.{tasks_have, tasks_keep}
-use Rattle.graph_files.proofs.OwnFiles.{reader, writer}
+use Rattle.graph_parts.proofs.OwnFiles.{reader, writer}
 use Rattle.world_core.proofs.Headed.{GivenFrom, HeadAt, given_from, head_there, one_head}
 use Rattle.world_core.proofs.Members.{flat_member, mapped, member_or, without_gone}
 use Rattle.world_core.proofs.Opened.{element_made, element_writes, end_count, got_end, known, none_at, sink_at, source_at, source_reads}

@@ -4,13 +4,13 @@ use Rattle.std.specs.Prelude.{slice_get}
 use Rattle.std.proofs.lemmas.Option.{slice_get_within}
 use Rattle.net_model.specs.declared.element.TaskElement as elements
 use Rattle.net_model.specs.declared.source.TaskSource as givers
-use Rattle.graph_bags.specs.Links.{place_at}
-use Rattle.graph_bags.specs.declared.bag.Bag.{Bag}
-use Rattle.graph_bags.specs.declared.bag.BagHead.{BagHead}
+use Rattle.graph_parts.specs.Links.{place_at}
+use Rattle.graph_parts.specs.declared.bag.Bag.{Bag}
+use Rattle.graph_parts.specs.declared.bag.BagHead.{BagHead}
 use Rattle.graph_core.specs.Elements.{Made}
 use Rattle.graph_pads.specs.declared.pad.PadLink.{PadLink}
 use Rattle.graph_core.specs.GraphPlan.{pad_id}
-use Rattle.graph_ends.specs.Stalled.{lane_at}
+use Rattle.graph_tasks.specs.Stalled.{lane_at}
 use Rattle.graph_tasks.specs.Tasks.{AreTasks, IsHeadOf, IsRowOf}
 use Rattle.graph_tasks.proofs.Lists.{got_within}
 use Rattle.inlet_row.specs.declared.row.InletRow.{InletRow}

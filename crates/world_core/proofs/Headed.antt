@@ -6,14 +6,14 @@ use Rattle.std.proofs.lemmas.Option.{same_Some, slice_get_within}
 use Rattle.net_model.specs.declared.element.TaskElement as elements
 use Rattle.net_model.specs.declared.source.TaskSource as givers
 use Rattle.flow_model.specs.Account.{IsMember}
-use Rattle.graph_bags.specs.Bags.{AreBags, IsBag, IsHead, Once, head_number}
-use Rattle.graph_bags.specs.Links.{has, has_inlets, is_head}
+use Rattle.graph_parts.specs.Bags.{AreBags, IsBag, IsHead, Once, head_number}
+use Rattle.graph_parts.specs.Links.{has, has_inlets, is_head}
 use Rattle.el_settings.specs.Asked.{is_source}
-use Rattle.graph_bags.specs.declared.bag.Bag.{Bag}
-use Rattle.graph_bags.specs.declared.bag.BagElement.{BagElement}
-use Rattle.graph_bags.specs.declared.bag.BagHead.{BagHead}
-use Rattle.graph_bags.specs.declared.bag.BagHead.TheVariants as bags_of
-use Rattle.graph_bags.proofs.Apart.{heads_have_bags}
+use Rattle.graph_parts.specs.declared.bag.Bag.{Bag}
+use Rattle.graph_parts.specs.declared.bag.BagElement.{BagElement}
+use Rattle.graph_parts.specs.declared.bag.BagHead.{BagHead}
+use Rattle.graph_parts.specs.declared.bag.BagHead.TheVariants as bags_of
+use Rattle.graph_parts.proofs.Apart.{heads_have_bags}
 use Rattle.graph_core.specs.Elements.{Made}
 use Rattle.graph_pads.specs.declared.pad.PadLink.{PadLink}
 use Rattle.graph_tasks.specs.Tasks.{AreTasks, IsHeadOf, IsOf}

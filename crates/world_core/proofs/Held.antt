@@ -9,13 +9,13 @@ use Rattle.flow_model.specs.Item.{Item}
 use Rattle.graph_core.specs.Allowed.{first_pad}
 use Rattle.graph_core.specs.Graph.{made as made_in, links as links_in}
 use Rattle.graph_core.specs.declared.graph.Graph.{Graph}
-use Rattle.graph_ends.specs.Owed.{IsPartWritten, came_to}
-use Rattle.graph_ends.specs.Runs.{crossed_in}
-use Rattle.graph_ends.specs.Written.{HasAll, HoldsBytes, IsBehind, StandsBehind, StandsWhole}
-use Rattle.graph_ends.proofs.SinkFiles.{feeds_same, has_all}
-use Rattle.graph_files.specs.Back.{HasElement, HasPart}
-use Rattle.graph_files.specs.Files.{OpensAt}
-use Rattle.graph_files.specs.Put.{Among}
+use Rattle.graph_tasks.specs.Owed.{IsPartWritten, came_to}
+use Rattle.graph_tasks.specs.Runs.{crossed_in}
+use Rattle.graph_tasks.specs.Written.{HasAll, HoldsBytes, IsBehind, StandsBehind, StandsWhole}
+use Rattle.graph_tasks.proofs.SinkFiles.{feeds_same, has_all}
+use Rattle.graph_parts.specs.Back.{HasElement, HasPart}
+use Rattle.graph_parts.specs.Files.{OpensAt}
+use Rattle.graph_parts.specs.Put.{Among}
 use Rattle.gst_outside.specs.declared.sink.Sink as sinks
 use Rattle.gst_outside.specs.declared.source.Source as sources
 use Rattle.lane_core.specs.declared.ends.Inlet as inlets

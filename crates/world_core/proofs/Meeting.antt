@@ -10,8 +10,8 @@ use Rattle.net_model.specs.Failures.{IsReadCause, IsWriteCause}
 use Rattle.graph_core.specs.Elements.{Made}
 use Rattle.graph_pads.specs.Links.{sink_behind}
 use Rattle.graph_pads.specs.declared.pad.PadLink.{PadLink}
-use Rattle.graph_ends.specs.Blamed.{IsTold}
-use Rattle.graph_files.specs.Back.{HasElement, HasSource, IsHead}
+use Rattle.graph_tasks.specs.Blamed.{IsTold}
+use Rattle.graph_parts.specs.Back.{HasElement, HasSource, IsHead}
 use Rattle.graph_tasks.proofs.Lists.{got_within}
 use Rattle.el_settings.specs.Asked.{source_pads}
 use Rattle.graph_pads.specs.declared.pad.PadPlace.{PadPlace}

@@ -6,8 +6,8 @@ use Rattle.std.specs.Option.{option_map}
 use Rattle.std.proofs.lemmas.Bool.{cases_eq}
 use Rattle.std.proofs.lemmas.Option.{same_Some}
 use Rattle.flow_model.specs.Account.{IsMember}
-use Rattle.graph_bags.specs.Bags.{Once}
-use Rattle.graph_bags.proofs.Onces.{in_back, in_either, in_front, once_apart, once_back, once_front}
+use Rattle.graph_parts.specs.Bags.{Once}
+use Rattle.graph_parts.proofs.Onces.{in_back, in_either, in_front, once_apart, once_back, once_front}
 use Rattle.graph_tasks.specs.Plan.{without}
 use Rattle.graph_tasks.specs.Tasks.{IsOf}
 use Rattle.graph_tasks.proofs.Takes.{without_first, without_stood}

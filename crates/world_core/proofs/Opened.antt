@@ -8,9 +8,9 @@ use Rattle.el_set.specs.Gives.{source_file}
 use Rattle.el_set.specs.Made.{file_for, read_for}
 use Rattle.el_settings.specs.Asked.{is_source}
 use Rattle.graph_core.specs.Elements.{Made}
-use Rattle.graph_files.specs.Ends.{at, sink_end, source_end}
-use Rattle.graph_files.specs.Files.{GraphOpens, made_opening, opening_of}
-use Rattle.graph_files.specs.Filled.{AreFilled, IsGiverFor, IsMadeFor}
+use Rattle.graph_parts.specs.Ends.{at, sink_end, source_end}
+use Rattle.graph_parts.specs.Files.{GraphOpens, made_opening, opening_of}
+use Rattle.graph_parts.specs.Filled.{AreFilled, IsGiverFor, IsMadeFor}
 use Rattle.graph_tasks.specs.Tasks.{IsOf}
 use Rattle.graph_tasks.proofs.Lists.{get_map, map_got}
 use Rattle.graph_tasks.proofs.Takes.{some_there, there_some}

@@ -11,8 +11,8 @@ use Rattle.el_set.specs.declared.source.SourceElement.TheVariants.{File, Ramp}
 use Rattle.el_set.proofs.Lists.{list_read}
 use Rattle.el_set.proofs.Openings.{content_is, read_is, sink_with, source_with, written_is}
 use Rattle.el_settings.proofs.Roles.{role_of}
-use Rattle.graph_files.specs.Files.{opening_of}
-use Rattle.graph_files.proofs.OwnFiles.{reading_opens, writing_opens}
+use Rattle.graph_parts.specs.Files.{opening_of}
+use Rattle.graph_parts.proofs.OwnFiles.{reading_opens, writing_opens}
 use Rattle.run_files.specs.declared.end.Opening.TheVariants.{Read, Write}
 use Rattle.task_elements.specs.Made.{makes_element}
 

@@ -12,11 +12,11 @@ use Rattle.net_model.specs.Moment.{Moment}
 use Rattle.net_model.specs.Over.{AllEnded, list_ended}
 use Rattle.net_model.specs.declared.element.TaskElement as elements
 use Rattle.net_model.specs.declared.source.TaskSource as givers
-use Rattle.graph_bags.specs.Bags.{AreBags, IsBag, IsHead}
-use Rattle.graph_bags.specs.Links.{has, is_head, place_at}
-use Rattle.graph_bags.specs.declared.bag.Bag.{Bag}
-use Rattle.graph_bags.specs.declared.bag.BagHead.{BagHead}
-use Rattle.graph_bags.specs.declared.bag.BagHead.TheVariants as bags_of
+use Rattle.graph_parts.specs.Bags.{AreBags, IsBag, IsHead}
+use Rattle.graph_parts.specs.Links.{has, is_head, place_at}
+use Rattle.graph_parts.specs.declared.bag.Bag.{Bag}
+use Rattle.graph_parts.specs.declared.bag.BagHead.{BagHead}
+use Rattle.graph_parts.specs.declared.bag.BagHead.TheVariants as bags_of
 use Rattle.graph_core.specs.Elements.{Made}
 use Rattle.graph_core.specs.Graph.{IsSound, is_live, made as made_in, links as links_in}
 use Rattle.graph_core.specs.GraphPlan.{pad_id, sink_count}
@@ -25,14 +25,14 @@ use Rattle.graph_pads.specs.declared.pad.PadPlace.{PadPlace}
 use Rattle.graph_core.proofs.NumberedPads.{owner_at, port_at}
 use Rattle.el_settings.proofs.Padded.{few_sources}
 use Rattle.graph_pads.specs.declared.pad.PadLink.{PadLink}
-use Rattle.graph_ends.specs.Frames.{HaveBags, IsHeadFrame}
-use Rattle.graph_ends.specs.Owed.{AreOver, came_to, inputs_to, owed_by, went_from}
-use Rattle.graph_ends.specs.Runs.{RunStands, crossed_in}
-use Rattle.graph_ends.proofs.Awaited.{owed_is, owes, took_all}
-use Rattle.graph_ends.proofs.EndedEos.{ended_has}
-use Rattle.graph_moment.specs.Pads.{is_pad}
-use Rattle.graph_moment.specs.Plans.{tight_rule}
-use Rattle.graph_moment.proofs.Sources.{owner_is, place_is_pad}
+use Rattle.graph_tasks.specs.Frames.{HaveBags, IsHeadFrame}
+use Rattle.graph_tasks.specs.Owed.{AreOver, came_to, inputs_to, owed_by, went_from}
+use Rattle.graph_tasks.specs.Runs.{RunStands, crossed_in}
+use Rattle.graph_tasks.proofs.Awaited.{owed_is, owes, took_all}
+use Rattle.graph_tasks.proofs.EndedEos.{ended_has}
+use Rattle.graph_parts.specs.Pads.{is_pad}
+use Rattle.graph_parts.specs.Plans.{tight_rule}
+use Rattle.graph_parts.proofs.Sources.{owner_is, place_is_pad}
 use Rattle.graph_tasks.proofs.Lists.{all_at, got_within}
 use Rattle.std.proofs.lemmas.Option.{slice_get_within}
 use Rattle.lane_core.specs.declared.ends.Inlet as inlets

@@ -4,18 +4,18 @@ use Rattle.std.specs.Prelude.{slice_get}
 use Rattle.std.specs.Option.{option_map_or}
 use Rattle.net_model.specs.declared.element.TaskElement as elements
 use Rattle.net_model.specs.declared.source.TaskSource as sources
-use Rattle.graph_bags.specs.Laws.{StandsIn}
-use Rattle.graph_bags.specs.declared.bag.Bag.{Bag}
+use Rattle.graph_parts.specs.BagLaws.{StandsIn}
+use Rattle.graph_parts.specs.declared.bag.Bag.{Bag}
 use Rattle.graph_core.specs.Graph.{made as made_in, links as links_in}
 use Rattle.graph_core.specs.declared.graph.Graph.{Graph}
-use Rattle.graph_ends.specs.Ended.{IsQuiet}
-use Rattle.graph_ends.specs.Frames.{HaveBags}
-use Rattle.graph_ends.specs.Runs.{crossed_in}
-use Rattle.graph_ends.specs.Written.{TaskCrossed}
-use Rattle.graph_files.specs.Counts.{TasksCounted}
-use Rattle.graph_files.specs.Put.{PutBack}
-use Rattle.graph_files.specs.declared.counts.Count.{Count}
-use Rattle.graph_moment.specs.Pads.{is_pad}
+use Rattle.graph_tasks.specs.Ended.{IsQuiet}
+use Rattle.graph_tasks.specs.Frames.{HaveBags}
+use Rattle.graph_tasks.specs.Runs.{crossed_in}
+use Rattle.graph_tasks.specs.Written.{TaskCrossed}
+use Rattle.graph_parts.specs.Counts.{TasksCounted}
+use Rattle.graph_parts.specs.Put.{PutBack}
+use Rattle.graph_parts.specs.declared.counts.Count.{Count}
+use Rattle.graph_parts.specs.Pads.{is_pad}
 use Rattle.lane_core.specs.declared.ends.Inlet as inlets
 use Rattle.lane_core.specs.declared.ends.Outlet as outlets
 use Rattle.net_model.specs.Moment.{Moment}

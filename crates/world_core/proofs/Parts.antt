@@ -13,11 +13,11 @@ use Rattle.graph_core.specs.Elements.{Made}
 use Rattle.graph_core.specs.Allowed.{first_pad}
 use Rattle.graph_core.specs.Graph.{made as made_in, links as links_in}
 use Rattle.graph_core.specs.declared.graph.Graph.{Graph}
-use Rattle.graph_ends.specs.Owed.{IsAwaited, came_to}
-use Rattle.graph_ends.specs.Runs.{crossed_in}
-use Rattle.graph_ends.specs.Written.{HoldsBytes, IsBehind}
-use Rattle.graph_files.specs.Back.{HasElement}
-use Rattle.graph_files.specs.Files.{OpensAt}
+use Rattle.graph_tasks.specs.Owed.{IsAwaited, came_to}
+use Rattle.graph_tasks.specs.Runs.{crossed_in}
+use Rattle.graph_tasks.specs.Written.{HoldsBytes, IsBehind}
+use Rattle.graph_parts.specs.Back.{HasElement}
+use Rattle.graph_parts.specs.Files.{OpensAt}
 use Rattle.gst_outside.specs.Bytes.{written}
 use Rattle.gst_outside.specs.declared.sink.Sink as sinks
 use Rattle.lane_core.specs.declared.ends.Inlet as inlets

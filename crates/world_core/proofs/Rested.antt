@@ -7,20 +7,20 @@ use Rattle.net_model.specs.declared.element.TaskElement as elements
 use Rattle.net_model.specs.declared.source.TaskSource as givers
 use Rattle.flow_model.specs.Account.{IsMember}
 use Rattle.flow_model.specs.Item.{Item}
-use Rattle.graph_bags.specs.Bags.{IsBag, IsHead, head_cells, number_of}
-use Rattle.graph_bags.specs.Laws.{StandsIn}
-use Rattle.graph_bags.specs.Links.{has}
+use Rattle.graph_parts.specs.Bags.{IsBag, IsHead, head_cells, number_of}
+use Rattle.graph_parts.specs.BagLaws.{StandsIn}
+use Rattle.graph_parts.specs.Links.{has}
 use Rattle.el_settings.proofs.Roles.{end_sinks}
 use Rattle.el_settings.specs.Asked.{is_source}
-use Rattle.graph_bags.specs.declared.bag.Bag.{Bag}
-use Rattle.graph_bags.specs.declared.bag.BagElement.{BagElement}
-use Rattle.graph_bags.specs.declared.bag.BagHead.{BagHead}
-use Rattle.graph_bags.specs.declared.bag.BagHead.TheVariants as bags_of
+use Rattle.graph_parts.specs.declared.bag.Bag.{Bag}
+use Rattle.graph_parts.specs.declared.bag.BagElement.{BagElement}
+use Rattle.graph_parts.specs.declared.bag.BagHead.{BagHead}
+use Rattle.graph_parts.specs.declared.bag.BagHead.TheVariants as bags_of
 use Rattle.graph_core.specs.Elements.{Made}
 use Rattle.graph_core.specs.Graph.{made as made_in, links as links_in}
 use Rattle.graph_core.specs.declared.graph.Graph.{Graph}
-use Rattle.graph_ends.specs.Written.{HasAll}
-use Rattle.graph_files.specs.Files.{OpensAt}
+use Rattle.graph_tasks.specs.Written.{HasAll}
+use Rattle.graph_parts.specs.Files.{OpensAt}
 use Rattle.graph_tasks.specs.Tasks.{IsOf}
 use Rattle.graph_tasks.specs.Wired.{number_in, part_numbers}
 use Rattle.graph_tasks.specs.declared.wired_task.WiredTask.{WiredTask}
@@ -42,7 +42,7 @@ use Rattle.task_elements.specs.declared.element.StreamElement.{StreamElement}
 use Rattle.task_elements.specs.declared.source.StreamSource.{StreamSource}
 use Rattle.world_core.specs.Start.{IsStarted}
 use Rattle.world_core.proofs.AtHand.{made_at}
-use Rattle.graph_files.proofs.OwnFiles.{writer}
+use Rattle.graph_parts.proofs.OwnFiles.{writer}
 use Rattle.world_core.proofs.Held.{RestHasCame, fresh_all}
 use Rattle.world_core.proofs.Members.{flat_member, member_got, without_gone}
 use Rattle.world_core.proofs.Settled.{IsSettled}

@@ -8,12 +8,12 @@ use Rattle.el_set.specs.declared.sink.SinkElement.TheVariants as sink_elements
 use Rattle.el_set.proofs.Openings.{opens_none}
 use Rattle.el_sink.specs.Held.{length_of}
 use Rattle.graph_core.specs.Elements.{Made}
-use Rattle.graph_files.specs.Back.{Gives, HasLength, read_end, written_end}
+use Rattle.graph_parts.specs.Back.{Gives, HasLength, read_end, written_end}
 use Rattle.el_settings.specs.Asked.{reads, writes}
-use Rattle.graph_files.specs.Ends.{has}
-use Rattle.graph_files.specs.Files.{opening_of}
-use Rattle.graph_files.specs.Put.{IsPutAt}
-use Rattle.graph_files.proofs.OwnFiles.{IsReader, IsWriter, no_place}
+use Rattle.graph_parts.specs.Ends.{has}
+use Rattle.graph_parts.specs.Files.{opening_of}
+use Rattle.graph_parts.specs.Put.{IsPutAt}
+use Rattle.graph_parts.proofs.OwnFiles.{IsReader, IsWriter, no_place}
 use Rattle.run_files.specs.declared.end.End.{End}
 use Rattle.run_files.specs.declared.end.End.TheVariants.{Src, Snk}
 use Rattle.task_elements.specs.Stands.{file_in, len_in}

@@ -9,10 +9,10 @@ use Rattle.net_model.specs.declared.source.TaskSource as givers
 use Rattle.graph_core.specs.Elements.{Made}
 use Rattle.graph_core.specs.Graph.{made as made_in}
 use Rattle.graph_core.specs.declared.graph.Graph.{Graph}
-use Rattle.graph_files.specs.Back.{GivesBack}
-use Rattle.graph_files.specs.Files.{AreLocated}
-use Rattle.graph_files.specs.Put.{PutBack}
-use Rattle.graph_files.specs.declared.counts.Count.{Count}
+use Rattle.graph_parts.specs.Back.{GivesBack}
+use Rattle.graph_parts.specs.Files.{AreLocated}
+use Rattle.graph_parts.specs.Put.{PutBack}
+use Rattle.graph_parts.specs.declared.counts.Count.{Count}
 use Rattle.gst_outside.specs.Seen.{Seen}
 use Rattle.gst_outside.specs.declared.sink.Sink as sinks
 use Rattle.gst_outside.specs.declared.source.Source as sources

@@ -9,22 +9,22 @@ use Rattle.net_model.specs.declared.source.TaskSource as givers
 use Rattle.flow_model.specs.Eval.{eval}
 use Rattle.flow_model.specs.Item.{Item}
 use Rattle.flow_model.specs.SinkBytes.{sink_bytes}
-use Rattle.graph_bags.specs.Laws.{StandsIn}
-use Rattle.graph_bags.specs.declared.bag.Bag.{Bag}
+use Rattle.graph_parts.specs.BagLaws.{StandsIn}
+use Rattle.graph_parts.specs.declared.bag.Bag.{Bag}
 use Rattle.graph_core.specs.Elements.{Made}
 use Rattle.graph_core.specs.Allowed.{first_pad}
 use Rattle.graph_core.specs.Graph.{made as made_in, links as links_in}
 use Rattle.graph_core.specs.declared.graph.Graph.{Graph}
-use Rattle.graph_ends.specs.Ended.{IsQuiet}
-use Rattle.graph_ends.specs.Owed.{AreWritten, came_to}
-use Rattle.graph_ends.specs.Runs.{crossed_in}
-use Rattle.graph_ends.specs.Written.{HoldsBytes, TaskCrossed}
-use Rattle.graph_files.specs.Back.{GivesBack, HasElement, Wrote}
-use Rattle.graph_files.specs.Counts.{TasksCounted}
-use Rattle.graph_files.specs.Files.{OpensAt}
-use Rattle.graph_files.specs.Put.{PutBack}
-use Rattle.graph_files.specs.declared.counts.Count.{Count}
-use Rattle.graph_moment.specs.Pads.{is_pad}
+use Rattle.graph_tasks.specs.Ended.{IsQuiet}
+use Rattle.graph_tasks.specs.Owed.{AreWritten, came_to}
+use Rattle.graph_tasks.specs.Runs.{crossed_in}
+use Rattle.graph_tasks.specs.Written.{HoldsBytes, TaskCrossed}
+use Rattle.graph_parts.specs.Back.{GivesBack, HasElement, Wrote}
+use Rattle.graph_parts.specs.Counts.{TasksCounted}
+use Rattle.graph_parts.specs.Files.{OpensAt}
+use Rattle.graph_parts.specs.Put.{PutBack}
+use Rattle.graph_parts.specs.declared.counts.Count.{Count}
+use Rattle.graph_parts.specs.Pads.{is_pad}
 use Rattle.gst_outside.specs.Seen.{Seen}
 use Rattle.gst_outside.specs.declared.sink.Sink as sinks
 use Rattle.gst_outside.specs.declared.source.Source as sources
@@ -50,7 +50,7 @@ use Rattle.world_core.specs.declared.ended.WorldEnd.{WorldEnd}
 use Rattle.world_core.specs.declared.report.Stop.{Stop}
 use Rattle.world_core.proofs.Counted.{counts_are, lengths_by, limits_are}
 use Rattle.world_core.proofs.Files.{element_there, have_bags, known_sink, length_there, written_file}
-use Rattle.graph_files.proofs.OwnFiles.{writer}
+use Rattle.graph_parts.proofs.OwnFiles.{writer}
 
 module _ {S K I O L : Type 0} {giver : givers.Ghosts (StreamSource S)} {taker : elements.Ghosts (StreamElement K)} {i : inlets.Ghosts I L O} {o : outlets.Ghosts O L} where
   -- what crossed the pads is what the evaluation gives, and what the pads counted; and nothing crossed those of other elements

@@ -8,18 +8,18 @@ use Rattle.net_model.specs.Moment.{Moment}
 use Rattle.net_model.specs.declared.element.TaskElement as elements
 use Rattle.net_model.specs.declared.source.TaskSource as givers
 use Rattle.el_settings.specs.Asked.{makes_sinks}
-use Rattle.graph_bags.specs.Bags.{AreBags, heads_in}
-use Rattle.graph_bags.specs.Links.{has, place_at}
-use Rattle.graph_bags.specs.declared.bag.Bag.{Bag}
+use Rattle.graph_parts.specs.Bags.{AreBags, heads_in}
+use Rattle.graph_parts.specs.Links.{has, place_at}
+use Rattle.graph_parts.specs.declared.bag.Bag.{Bag}
 use Rattle.graph_core.specs.Elements.{Made}
 use Rattle.graph_core.specs.Graph.{is_live, made as made_in, links as links_in}
 use Rattle.graph_core.specs.GraphPlan.{pad_id, sink_count}
 use Rattle.graph_core.specs.declared.graph.Graph.{Graph}
 use Rattle.graph_pads.specs.declared.pad.PadPlace.{PadPlace}
-use Rattle.graph_ends.specs.Frames.{HaveBags}
-use Rattle.graph_ends.specs.Over.{JoinsNone, joins_in}
-use Rattle.graph_ends.specs.Runs.{crossed_in}
-use Rattle.graph_ends.specs.Stalled.{AreStuck, taken_count}
+use Rattle.graph_tasks.specs.Frames.{HaveBags}
+use Rattle.graph_tasks.specs.Over.{JoinsNone, joins_in}
+use Rattle.graph_tasks.specs.Runs.{crossed_in}
+use Rattle.graph_tasks.specs.Stalled.{AreStuck, taken_count}
 use Rattle.lane_core.specs.declared.ends.Inlet as inlets
 use Rattle.lane_core.specs.declared.ends.Outlet as outlets
 use Rattle.net_task.specs.Counted.{received_by}

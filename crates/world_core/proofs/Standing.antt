@@ -10,15 +10,15 @@ use Rattle.net_model.specs.declared.source.TaskSource as givers
 use Rattle.flow_model.specs.Call.{Call}
 use Rattle.flow_model.specs.Item.{Item}
 use Rattle.flow_model.specs.Link.{Span}
-use Rattle.graph_bags.specs.Links.{has}
+use Rattle.graph_parts.specs.Links.{has}
 use Rattle.graph_core.specs.Elements.{Made}
 use Rattle.graph_core.specs.Graph.{made as made_in}
 use Rattle.graph_core.specs.declared.graph.Graph.{Graph}
-use Rattle.graph_files.specs.Files.{GraphOpens, WereTold}
-use Rattle.graph_files.specs.Filled.{AreFilled}
-use Rattle.graph_moment.specs.Laws.{given_by}
-use Rattle.graph_moment.specs.Plans.{moment_answers, moment_plan}
-use Rattle.graph_moment.proofs.Behaviors.{behaviors_are_told}
+use Rattle.graph_parts.specs.Files.{GraphOpens, WereTold}
+use Rattle.graph_parts.specs.Filled.{AreFilled}
+use Rattle.graph_parts.specs.MomentLaws.{given_by}
+use Rattle.graph_parts.specs.Plans.{moment_answers, moment_plan}
+use Rattle.graph_parts.proofs.Behaviors.{behaviors_are_told}
 use Rattle.graph_tasks.specs.Start.{ElementsStand, SourcesStand}
 use Rattle.graph_tasks.proofs.Lists.{got_within}
 use Rattle.graph_tasks.proofs.Tied.{sinks_count}

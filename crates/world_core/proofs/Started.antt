@@ -4,10 +4,10 @@ use Rattle.net_model.specs.declared.element.TaskElement as elements
 use Rattle.net_model.specs.declared.source.TaskSource as givers
 use Rattle.graph_core.specs.Graph.{made as made_in, links as links_in}
 use Rattle.graph_core.specs.declared.graph.Graph.{Graph}
-use Rattle.graph_ends.specs.Frames.{HaveBags}
-use Rattle.graph_ends.specs.Runs.{RunsAt}
-use Rattle.graph_files.specs.Files.{WereTold}
-use Rattle.graph_moment.specs.Plans.{moment_answers, moment_plan}
+use Rattle.graph_tasks.specs.Frames.{HaveBags}
+use Rattle.graph_tasks.specs.Runs.{RunsAt}
+use Rattle.graph_parts.specs.Files.{WereTold}
+use Rattle.graph_parts.specs.Plans.{moment_answers, moment_plan}
 use Rattle.graph_tasks.proofs.Readied.{tasks_are_ready}
 use Rattle.graph_tasks.proofs.Starts.{tasks_start}
 use Rattle.graph_core.specs.LinkedOnce.{AreOnce}

@@ -7,17 +7,17 @@ use Rattle.std.proofs.lemmas.Option.{none-some, same_Some}
 use Rattle.el_set.specs.Gives.{source_file}
 use Rattle.net_model.specs.declared.element.TaskElement as elements
 use Rattle.net_model.specs.declared.source.TaskSource as givers
-use Rattle.graph_bags.specs.declared.bag.Bag.{Bag}
+use Rattle.graph_parts.specs.declared.bag.Bag.{Bag}
 use Rattle.flow_model.specs.Item.{Item}
 use Rattle.graph_core.specs.Graph.{is_live, made as made_in, links as links_in}
 use Rattle.graph_core.specs.declared.graph.Graph.{Graph}
-use Rattle.graph_ends.specs.Frames.{HaveBags, IsFrameOf}
-use Rattle.graph_ends.specs.Over.{joins_in}
-use Rattle.graph_ends.specs.Runs.{RunStands, RunsAt, crossed_in}
-use Rattle.graph_ends.specs.Stalled.{lane_at}
-use Rattle.graph_ends.specs.Written.{IsBehind, StandsBehind, StandsWhole, TaskCrossed}
-use Rattle.graph_files.specs.Files.{WereTold}
-use Rattle.graph_moment.specs.Plans.{moment_answers, moment_plan}
+use Rattle.graph_tasks.specs.Frames.{HaveBags, IsFrameOf}
+use Rattle.graph_tasks.specs.Over.{joins_in}
+use Rattle.graph_tasks.specs.Runs.{RunStands, RunsAt, crossed_in}
+use Rattle.graph_tasks.specs.Stalled.{lane_at}
+use Rattle.graph_tasks.specs.Written.{IsBehind, StandsBehind, StandsWhole, TaskCrossed}
+use Rattle.graph_parts.specs.Files.{WereTold}
+use Rattle.graph_parts.specs.Plans.{moment_answers, moment_plan}
 use Rattle.graph_core.specs.LinkedOnce.{AreOnce}
 use Rattle.gst_outside.specs.Seen.{Seen}
 use Rattle.gst_outside.specs.declared.sink.Sink as sinks

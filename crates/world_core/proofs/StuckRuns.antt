@@ -7,15 +7,15 @@ use Rattle.flow_model.specs.Prefix.{IsPrefix}
 use Rattle.flow_model.proofs.Prefixes.{prefix_length}
 use Rattle.net_model.specs.declared.element.TaskElement as elements
 use Rattle.net_model.specs.declared.source.TaskSource as givers
-use Rattle.graph_bags.specs.Bags.{AreBags}
-use Rattle.graph_bags.specs.Links.{has, is_head}
-use Rattle.graph_bags.specs.declared.bag.Bag.{Bag}
+use Rattle.graph_parts.specs.Bags.{AreBags}
+use Rattle.graph_parts.specs.Links.{has, is_head}
+use Rattle.graph_parts.specs.declared.bag.Bag.{Bag}
 use Rattle.graph_core.specs.Graph.{is_live, made as made_in, links as links_in}
 use Rattle.graph_core.specs.declared.graph.Graph.{Graph}
-use Rattle.graph_ends.specs.Frames.{HaveBags}
-use Rattle.graph_ends.specs.Over.{joins_in}
-use Rattle.graph_ends.specs.Owed.{went_from}
-use Rattle.graph_ends.specs.Stalled.{IsStuck, ended, needs_item, needs_room}
+use Rattle.graph_tasks.specs.Frames.{HaveBags}
+use Rattle.graph_tasks.specs.Over.{joins_in}
+use Rattle.graph_tasks.specs.Owed.{went_from}
+use Rattle.graph_tasks.specs.Stalled.{IsStuck, ended, needs_item, needs_room}
 use Rattle.lane_core.specs.declared.ends.Inlet as inlets
 use Rattle.lane_core.specs.declared.ends.Outlet as outlets
 use Rattle.net_task.specs.Frame.{frame_of}

@@ -8,18 +8,18 @@ use Rattle.net_model.specs.declared.element.TaskElement as elements
 use Rattle.net_model.specs.declared.source.TaskSource as sources
 use Rattle.flow_model.specs.Account.{IsMember}
 use Rattle.flow_model.specs.Item.{Item, buffers}
-use Rattle.graph_bags.specs.Bags.{cells, head_cells, number_of as number_in}
-use Rattle.graph_bags.specs.Laws.{StandsIn}
-use Rattle.graph_bags.specs.Links.{place_at, source_count}
-use Rattle.graph_bags.specs.declared.bag.Bag.{Bag}
-use Rattle.graph_bags.specs.declared.bag.BagHead.{BagHead}
-use Rattle.graph_bags.specs.declared.bag.BagHead.TheVariants as bags
+use Rattle.graph_parts.specs.Bags.{cells, head_cells, number_of as number_in}
+use Rattle.graph_parts.specs.BagLaws.{StandsIn}
+use Rattle.graph_parts.specs.Links.{place_at, source_count}
+use Rattle.graph_parts.specs.declared.bag.Bag.{Bag}
+use Rattle.graph_parts.specs.declared.bag.BagHead.{BagHead}
+use Rattle.graph_parts.specs.declared.bag.BagHead.TheVariants as bags
 use Rattle.graph_core.specs.Elements.{Made}
 use Rattle.graph_pads.specs.declared.pad.PadLink.{PadLink}
-use Rattle.graph_ends.specs.Frames.{HaveBags, IsFrameOf, IsHeadFrame, IsPartFrame}
-use Rattle.graph_ends.specs.Written.{HeadCrossed, PadsCrossed, TaskCrossed}
-use Rattle.graph_files.specs.Counts.{HeadCounted, IsCountOf, PartCounted, TaskCounted, TasksCounted}
-use Rattle.graph_files.specs.declared.counts.Count.{Count}
+use Rattle.graph_tasks.specs.Frames.{HaveBags, IsFrameOf, IsHeadFrame, IsPartFrame}
+use Rattle.graph_tasks.specs.Written.{HeadCrossed, PadsCrossed, TaskCrossed}
+use Rattle.graph_parts.specs.Counts.{HeadCounted, IsCountOf, PartCounted, TaskCounted, TasksCounted}
+use Rattle.graph_parts.specs.declared.counts.Count.{Count}
 use Rattle.lane_core.specs.declared.ends.Inlet as inlets
 use Rattle.lane_core.specs.declared.ends.Outlet as outlets
 use Rattle.graph_core.specs.GraphPlan.{pad_id}

@@ -4,15 +4,15 @@ use Rattle.std.specs.Prelude.{slice_get}
 use Rattle.std.proofs.lemmas.Option.{slice_get_within}
 use Rattle.net_model.specs.declared.element.TaskElement as elements
 use Rattle.net_model.specs.declared.source.TaskSource as givers
-use Rattle.graph_bags.specs.Bags.{AreBags, IsBag, IsHead, head_number as bag_number, head_of, heads_in}
-use Rattle.graph_bags.specs.Links.{has, is_head}
-use Rattle.graph_bags.specs.declared.bag.Bag.{Bag}
-use Rattle.graph_bags.specs.declared.bag.BagHead.{BagHead}
-use Rattle.graph_bags.specs.declared.bag.BagHead.TheVariants as bags_of
-use Rattle.graph_bags.proofs.Apart.{heads_have_bags}
+use Rattle.graph_parts.specs.Bags.{AreBags, IsBag, IsHead, head_number as bag_number, head_of, heads_in}
+use Rattle.graph_parts.specs.Links.{has, is_head}
+use Rattle.graph_parts.specs.declared.bag.Bag.{Bag}
+use Rattle.graph_parts.specs.declared.bag.BagHead.{BagHead}
+use Rattle.graph_parts.specs.declared.bag.BagHead.TheVariants as bags_of
+use Rattle.graph_parts.proofs.Apart.{heads_have_bags}
 use Rattle.graph_core.specs.Elements.{Made}
 use Rattle.graph_pads.specs.declared.pad.PadLink.{PadLink}
-use Rattle.graph_ends.specs.Frames.{HaveBags, IsHeadFrame}
+use Rattle.graph_tasks.specs.Frames.{HaveBags, IsHeadFrame}
 use Rattle.graph_tasks.proofs.Graphs.{inlets_head, source_head}
 use Rattle.graph_tasks.proofs.Lists.{all_at, got_within, map_got}
 use Rattle.lane_core.specs.declared.ends.Inlet as inlets

@@ -11,7 +11,7 @@ use Rattle.graph_core.specs.Graph.{IsGraph, made as made_in}
 use Rattle.graph_core.specs.declared.graph.Graph.{Graph}
 use Rattle.gst_outside.specs.Seen.{Seen}
 use Rattle.launch_text.specs.declared.tree.Tree.{Tree}
-use Rattle.graph_files.specs.Files.{made_opening, opening_of}
+use Rattle.graph_parts.specs.Files.{made_opening, opening_of}
 use Rattle.run_files.specs.Ends.{Known}
 use Rattle.run_files.specs.Opening.{GivesBack, IsUnopened, Opens, writes_to}
 use Rattle.run_files.specs.declared.end.Opening.{Opening}

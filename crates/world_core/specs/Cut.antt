@@ -4,7 +4,7 @@ use Rattle.flow_model.specs.Item.{Item, Ev, Eos, eos_among}
 use Rattle.el_set.specs.Made.{list_of}
 use Rattle.el_settings.specs.declared.settings.Settings.{Settings}
 use Rattle.graph_core.specs.Allowed.{first_pad}
-use Rattle.graph_ends.specs.Owed.{went_from}
+use Rattle.graph_tasks.specs.Owed.{went_from}
 
 -- It has no EOS. With one behind it, it is what the source owes for the content of its file up to a place.
 pub record IsCutBefore (contents : ℕ → List ℕ) (h : ℕ → List Item) (e : ℕ) (settings : Settings) : Type 0 where

@@ -15,15 +15,15 @@ use Rattle.graph_pads.specs.declared.pad.PadLink.{PadLink}
 use Rattle.graph_pads.specs.declared.pad.PadPlace.{PadPlace}
 use Rattle.el_settings.specs.Asked.{source_pads}
 use Rattle.el_settings.specs.declared.settings.Settings.{Settings}
-use Rattle.graph_bags.specs.Links.{place_at}
-use Rattle.graph_files.specs.Files.{WereTold, opening_of}
+use Rattle.graph_parts.specs.Links.{place_at}
+use Rattle.graph_parts.specs.Files.{WereTold, opening_of}
 use Rattle.graph_core.specs.GraphPlan.{graph_plan, owner_of}
 use Rattle.gst_outside.specs.Seen.{Seen}
 use Rattle.run_files.specs.declared.end.Opening.TheVariants.{Read, Write}
 use Rattle.run_report.specs.declared.report.Fault.TheVariants as faults
 use Rattle.run_report.specs.declared.report.Report.{Report}
 use Rattle.run_report.specs.declared.report.StalledTask.{StalledTask}
-use Rattle.graph_ends.specs.Owed.{AreWhole, AreWritten, IsOwedMore, IsPartWritten, IsWritten, Refuses, WantsLink, went_from}
+use Rattle.graph_tasks.specs.Owed.{AreWhole, AreWritten, IsOwedMore, IsPartWritten, IsWritten, Refuses, WantsLink, went_from}
 use Rattle.world_core.specs.Cut.{IsCutBefore}
 use Rattle.world_core.specs.Over.{IsOver}
 use Rattle.world_core.specs.Pads.{source_name}

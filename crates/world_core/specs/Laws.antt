@@ -1,11 +1,11 @@
 -- What is known of the run of a graph by its laws.
 use Rattle.net_model.specs.declared.element.TaskElement as elements
 use Rattle.net_model.specs.declared.source.TaskSource as givers
-use Rattle.graph_ends.specs.Blamed.{CausesAreTold, FaultsAreBlamed}
-use Rattle.graph_ends.specs.Ended.{EndsAreWhole, HistoriesAreEvaluated, LooseAreQuiet, PadsAreLimited, RunsStand}
-use Rattle.graph_ends.specs.Over.{LinesTellOver, RunsTellOver}
-use Rattle.graph_ends.specs.Stalled.{TasksAreStuck}
-use Rattle.graph_ends.specs.Written.{AreStreams, TasksStandBehind, TasksStandWhole}
+use Rattle.graph_tasks.specs.Blamed.{CausesAreTold, FaultsAreBlamed}
+use Rattle.graph_tasks.specs.Ended.{EndsAreWhole, HistoriesAreEvaluated, LooseAreQuiet, PadsAreLimited, RunsStand}
+use Rattle.graph_tasks.specs.Over.{LinesTellOver, RunsTellOver}
+use Rattle.graph_tasks.specs.Stalled.{TasksAreStuck}
+use Rattle.graph_tasks.specs.Written.{AreStreams, TasksStandBehind, TasksStandWhole}
 use Rattle.gst_outside.specs.declared.sink.Sink as sinks
 use Rattle.lane_core.specs.declared.ends.Inlet as inlets
 use Rattle.lane_core.specs.declared.ends.Outlet as outlets

@@ -8,8 +8,8 @@ use Rattle.graph_core.specs.Elements.{Made}
 use Rattle.graph_core.specs.Ends.{name_at}
 use Rattle.graph_core.specs.GraphPlan.{sink_count}
 use Rattle.graph_pads.specs.declared.pad.PadPlace.{PadPlace}
-use Rattle.graph_moment.specs.Laws.{place_of}
-use Rattle.graph_moment.specs.Pads.{is_pad}
+use Rattle.graph_parts.specs.MomentLaws.{place_of}
+use Rattle.graph_parts.specs.Pads.{is_pad}
 
 -- the name of a pad at its element: those that links make are numbered
 abbrev pub pad_text : List ℕ → Bool → ℕ → List ℕ

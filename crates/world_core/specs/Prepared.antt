@@ -5,14 +5,14 @@ use Rattle.lane_core.specs.declared.ends.Outlet as outlets
 use Rattle.graph_core.specs.Graph.{made as made_in, links as links_in}
 use Rattle.graph_core.specs.GraphPlan.{most_pads}
 use Rattle.graph_core.specs.declared.graph.Graph.{Graph}
-use Rattle.graph_files.specs.Blanks.{AreBlanks}
-use Rattle.graph_files.specs.Files.{made_opening}
-use Rattle.graph_files.specs.declared.counts.Count.{Count}
+use Rattle.graph_parts.specs.Blanks.{AreBlanks}
+use Rattle.graph_parts.specs.Files.{made_opening}
+use Rattle.graph_parts.specs.declared.counts.Count.{Count}
 use Rattle.lane_core.specs.Lane.{Lane}
 use Rattle.run_files.specs.declared.end.Opening.{Opening}
-use Rattle.graph_bags.specs.Bags.{AreBags}
-use Rattle.graph_bags.specs.declared.bag.Bag.{Bag}
-use Rattle.graph_files.specs.declared.blank.Blank.{Blank}
+use Rattle.graph_parts.specs.Bags.{AreBags}
+use Rattle.graph_parts.specs.declared.bag.Bag.{Bag}
+use Rattle.graph_parts.specs.declared.blank.Blank.{Blank}
 use Rattle.graph_tasks.specs.Wired.{AreWired}
 use Rattle.graph_tasks.specs.declared.wired_task.WiredTask.{WiredTask}
 

@@ -9,8 +9,8 @@ use Rattle.net_model.specs.declared.source.TaskSource as givers
 use Rattle.graph_core.specs.Elements.{Made}
 use Rattle.graph_core.specs.Graph.{is_live, made as made_in}
 use Rattle.graph_core.specs.declared.graph.Graph.{Graph}
-use Rattle.graph_ends.specs.Over.{joins_in}
-use Rattle.graph_files.specs.Files.{opening_of}
+use Rattle.graph_tasks.specs.Over.{joins_in}
+use Rattle.graph_parts.specs.Files.{opening_of}
 use Rattle.net_task.specs.declared.task.Task.{Task}
 use Rattle.net_turns.specs.Ends.{TellsOver}
 use Rattle.run_files.specs.Ends.{Known}
@@ -20,7 +20,7 @@ use Rattle.run_report.specs.declared.report.Fault.TheVariants as faults
 use Rattle.run_report.specs.declared.report.StalledTask.{StalledTask}
 use Rattle.task_parts.specs.declared.fault.TaskFault.{TaskFault}
 use Rattle.task_parts.specs.declared.step.Step.{Step}
-use Rattle.graph_files.specs.declared.counts.Count.{Count}
+use Rattle.graph_parts.specs.declared.counts.Count.{Count}
 use Rattle.world_core.specs.Stalled.{TellsTasks}
 use Rattle.world_core.specs.Told.{pads_told, sinks_told, task_fault, task_status}
 use Rattle.world_core.specs.declared.ended.WorldEnd.{WorldEnd}

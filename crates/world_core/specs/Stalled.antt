@@ -7,8 +7,8 @@ use Rattle.lane_core.specs.declared.ends.Inlet as inlets
 use Rattle.lane_core.specs.declared.ends.Outlet as outlets
 use Rattle.net_model.specs.declared.element.TaskElement as elements
 use Rattle.net_model.specs.declared.source.TaskSource as givers
-use Rattle.graph_bags.specs.Bags.{heads_in}
-use Rattle.graph_bags.specs.Links.{place_at}
+use Rattle.graph_parts.specs.Bags.{heads_in}
+use Rattle.graph_parts.specs.Links.{place_at}
 use Rattle.graph_core.specs.Elements.{Made}
 use Rattle.graph_core.specs.Ends.{name_at}
 use Rattle.graph_core.specs.Graph.{made as made_in, links as links_in}
@@ -16,9 +16,9 @@ use Rattle.graph_core.specs.GraphPlan.{pad_id, sink_count}
 use Rattle.graph_core.specs.declared.graph.Graph.{Graph}
 use Rattle.graph_pads.specs.declared.pad.PadLink.{PadLink}
 use Rattle.graph_pads.specs.declared.pad.PadPlace.{PadPlace}
-use Rattle.graph_ends.specs.Over.{joins_in}
-use Rattle.graph_ends.specs.Stalled.{AreTaken, IsStuck, taken_count}
-use Rattle.graph_moment.specs.Laws.{place_of}
+use Rattle.graph_tasks.specs.Over.{joins_in}
+use Rattle.graph_tasks.specs.Stalled.{AreTaken, IsStuck, taken_count}
+use Rattle.graph_parts.specs.MomentLaws.{place_of}
 use Rattle.net_task.specs.Counted.{received_by}
 use Rattle.net_task.specs.Frame.{frame_of}
 use Rattle.net_task.specs.declared.task.Task.{Task}

@@ -2,12 +2,12 @@
 use Rattle.std.specs.Prelude.{◌≡◌, List, Option, Some}
 use Rattle.net_model.specs.declared.element.TaskElement as elements
 use Rattle.net_model.specs.declared.source.TaskSource as givers
-use Rattle.graph_bags.specs.Bags.{AreBags}
-use Rattle.graph_bags.specs.declared.bag.Bag.{Bag}
+use Rattle.graph_parts.specs.Bags.{AreBags}
+use Rattle.graph_parts.specs.declared.bag.Bag.{Bag}
 use Rattle.graph_core.specs.Graph.{IsGraph, IsSound, made as made_in, links as links_in}
 use Rattle.graph_core.specs.declared.graph.Graph.{Graph}
-use Rattle.graph_files.specs.Files.{GraphOpens}
-use Rattle.graph_files.specs.Filled.{AreFilled}
+use Rattle.graph_parts.specs.Files.{GraphOpens}
+use Rattle.graph_parts.specs.Filled.{AreFilled}
 use Rattle.graph_tasks.specs.Plan.{without}
 use Rattle.graph_tasks.specs.Tasks.{AreTasks}
 use Rattle.graph_tasks.specs.Wired.{AreWired, part_numbers}

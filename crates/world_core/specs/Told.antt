@@ -10,10 +10,10 @@ use Rattle.graph_core.specs.Elements.{Made}
 use Rattle.graph_core.specs.Ends.{name_at}
 use Rattle.el_settings.specs.Asked.{writes}
 use Rattle.graph_core.specs.GraphPlan.{most_pads}
-use Rattle.graph_files.specs.Ends.{has}
-use Rattle.graph_files.specs.declared.counts.Count.{Count}
-use Rattle.graph_moment.specs.Laws.{place_of}
-use Rattle.graph_moment.specs.Pads.{is_pad}
+use Rattle.graph_parts.specs.Ends.{has}
+use Rattle.graph_parts.specs.declared.counts.Count.{Count}
+use Rattle.graph_parts.specs.MomentLaws.{place_of}
+use Rattle.graph_parts.specs.Pads.{is_pad}
 use Rattle.run_report.specs.declared.report.Fault.{Fault}
 use Rattle.run_report.specs.declared.report.Fault.TheVariants as faults
 use Rattle.run_report.specs.declared.report.PadCount.{PadCount}

@@ -4,10 +4,10 @@ use Rattle.net_model.specs.declared.element.TaskElement as elements
 use Rattle.net_model.specs.declared.source.TaskSource as givers
 use Rattle.graph_core.specs.Graph.{made as made_in}
 use Rattle.graph_core.specs.declared.graph.Graph.{Graph}
-use Rattle.graph_files.specs.Back.{Wrote}
-use Rattle.graph_files.specs.Counts.{TasksCounted}
-use Rattle.graph_files.specs.Put.{PutBack}
-use Rattle.graph_files.specs.declared.counts.Count.{Count}
+use Rattle.graph_parts.specs.Back.{Wrote}
+use Rattle.graph_parts.specs.Counts.{TasksCounted}
+use Rattle.graph_parts.specs.Put.{PutBack}
+use Rattle.graph_parts.specs.declared.counts.Count.{Count}
 use Rattle.gst_outside.specs.Seen.{Seen}
 use Rattle.gst_outside.specs.declared.sink.Sink as sinks
 use Rattle.gst_outside.specs.declared.source.Source as sources

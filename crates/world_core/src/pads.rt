@@ -3,7 +3,7 @@ ghost use Rattle.std.specs.Prelude.{◌≡◌, ◌≤◌, IfOk};
 ghost use Rattle.graph_core.specs.Ends.{name_at};
 ghost use Rattle.graph_core.specs.Graph.{made as made_in};
 ghost use Rattle.graph_core.specs.GraphPlan.{pad_id};
-ghost use Rattle.graph_moment.specs.Laws.{place_of as place_in};
+ghost use Rattle.graph_parts.specs.MomentLaws.{place_of as place_in};
 ghost use Rattle.world_core.specs.Pads.{no_pad, sink_pad, source_pad};
 
 use graph_core::{Graph, PadPlace};

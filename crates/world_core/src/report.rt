@@ -10,7 +10,7 @@ use crate::ended::WorldEnd;
 use crate::pads::{MOST_PADS, name_of, place_of, source_named};
 use el_settings::Settings;
 use graph_core::Graph;
-use graph_files::Count;
+use graph_parts::Count;
 use gst_value::{List, OutOfMemory, Text};
 use run_report::{Fault, PadCount, Report, SinkCount, StalledTask};
 use std::alloc::Global;

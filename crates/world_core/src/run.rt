@@ -1,8 +1,8 @@
 //! Runs of lines by turns.
 ghost use Rattle.std.specs.Prelude.{◌≡◌, ◌≢◌, ◌<◌, ◌^◌, ℕ, List, [], Option, Some, Ok, IfOk, IfErr, length, slice_get};
 ghost use Rattle.graph_core.specs.Graph.{made as made_in};
-ghost use Rattle.graph_files.specs.Blanks.{blanks_in};
-ghost use Rattle.graph_files.specs.Files.{AreLocated, GraphOpens};
+ghost use Rattle.graph_parts.specs.Blanks.{blanks_in};
+ghost use Rattle.graph_parts.specs.Files.{AreLocated, GraphOpens};
 ghost use Rattle.graph_tasks.specs.Planned.{planned};
 ghost use Rattle.gst_outside.specs.Seen.{Seen};
 ghost use Rattle.net_model.specs.Moment.{Moment};
@@ -27,7 +27,7 @@ use crate::pads::MOST_PADS;
 use crate::report::{Stop, end_of, without_counts};
 use crate::stall::{is_over, stalled_tasks};
 use graph_core::Graph;
-use graph_files::{Blanks, Count, Filled, count_pads, openings_of, take_back};
+use graph_parts::{Blanks, Count, Filled, count_pads, openings_of, take_back};
 use graph_tasks::{Plan, WiredTasks, wire};
 use gst_outside::{Files, Sink, Source};
 use gst_value::{OutOfMemory, Text};

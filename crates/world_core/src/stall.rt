@@ -3,7 +3,7 @@ ghost use Rattle.std.specs.Prelude.{◌≡◌, ◌<◌, ◌↔◌, IfOk, IsTrue,
 ghost use Rattle.std.specs.Option.{unwrap_or};
 ghost use Rattle.graph_core.specs.Graph.{is_live, made as made_in};
 ghost use Rattle.graph_core.specs.GraphPlan.{pad_id, sink_count};
-ghost use Rattle.graph_ends.specs.Over.{joins_in};
+ghost use Rattle.graph_tasks.specs.Over.{joins_in};
 ghost use Rattle.net_task.specs.Counted.{received_by};
 ghost use Rattle.net_task.specs.Frame.{frame_of};
 ghost use Rattle.net_turns.specs.Ends.{TellsOver, head_number};

@@ -1,6 +1,6 @@
 use Rattle.std.proofs.Common.{◌≡◌, ◌<◌, ◌∙◌, length, ap, arith}
 use Rattle.graph_core.specs.Graph.{made as made_in, links as links_in}
-use Rattle.graph_lanes.proofs.Slots.{size_more}
+use Rattle.graph_parts.proofs.LaneSlots.{size_more}
 use Rattle.graph_tasks.specs.Tasks.{sink_count}
 use Rattle.graph_tasks.specs.Wiring.{feeds_with}
 use Rattle.graph_tasks.proofs.Numbers.{few_pads, with_pad}

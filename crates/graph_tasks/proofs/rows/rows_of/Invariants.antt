@@ -1,6 +1,6 @@
 use Rattle.std.proofs.Common.{◌≡◌, ℕ, List, length}
 use Rattle.graph_core.specs.Graph.{made as made_in, links as links_in}
-use Rattle.graph_bags.specs.declared.bag.BagHead.TheVariants.{Inlets}
+use Rattle.graph_parts.specs.declared.bag.BagHead.TheVariants.{Inlets}
 use Rattle.graph_tasks.specs.Wiring.{AreApart, InletsLeft, inlets_of}
 use Rattle.graph_tasks.proofs.Rowing.{RowsSo}
 use Rattle.graph_tasks.proofs.rows.rows_of.Given as goal

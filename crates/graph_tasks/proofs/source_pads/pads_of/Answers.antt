@@ -2,7 +2,7 @@ use Rattle.std.proofs.Common.{◌≡◌, ◌++◌, Some, length, take, ap, refl,
 use Rattle.std.specs.Prelude.{slice_get}
 use Rattle.std.proofs.lemmas.Option.{slice_get_read}
 use Rattle.graph_core.specs.Graph.{made as made_in, links as links_in}
-use Rattle.graph_lanes.proofs.Slots.{size_more}
+use Rattle.graph_parts.proofs.LaneSlots.{size_more}
 use Rattle.graph_tasks.specs.Wiring.{pad_lanes}
 use Rattle.graph_tasks.proofs.Gathering.{pad_given, pads_begin, pads_made, pads_more}
 use Rattle.graph_tasks.proofs.source_pads.pads_of.Goals as goal

@@ -2,8 +2,8 @@ use Rattle.std.proofs.Common.{◌∙◌, List, length, map, refl, sym, ap, subst
 use Rattle.std.proofs.lemmas.List.{take_all}
 use Rattle.std.proofs.lemmas.Option.{slice_get_read}
 use Rattle.flow_model.specs.Account.{IsMember}
-use Rattle.graph_bags.specs.Bags.{number_of}
-use Rattle.graph_bags.specs.declared.bag.BagElement.{BagElement}
+use Rattle.graph_parts.specs.Bags.{number_of}
+use Rattle.graph_parts.specs.declared.bag.BagElement.{BagElement}
 use Rattle.graph_tasks.proofs.Flats.{looked_more}
 use Rattle.graph_tasks.proofs.source_pads.place_of.Goals as goal
 

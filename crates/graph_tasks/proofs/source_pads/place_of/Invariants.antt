@@ -1,6 +1,6 @@
 use Rattle.std.proofs.Common.{map, take}
 use Rattle.flow_model.specs.Account.{IsMember}
-use Rattle.graph_bags.specs.Bags.{number_of}
+use Rattle.graph_parts.specs.Bags.{number_of}
 use Rattle.graph_tasks.proofs.source_pads.place_of.Given as goal
 
 abbrev pub invariant-loop-place : goal.invariant-loop-place

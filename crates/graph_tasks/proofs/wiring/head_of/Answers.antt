@@ -1,8 +1,8 @@
 use Rattle.std.proofs.Common.{sym, subst}
 use Rattle.graph_core.specs.Graph.{made as made_in, links as links_in}
-use Rattle.graph_bags.specs.declared.bag.BagHead.{BagHead}
-use Rattle.graph_bags.specs.declared.bag.BagHead.TheVariants.{Source, Inlets}
-use Rattle.graph_bags.specs.declared.bag.BagLink.{BagLink}
+use Rattle.graph_parts.specs.declared.bag.BagHead.{BagHead}
+use Rattle.graph_parts.specs.declared.bag.BagHead.TheVariants.{Source, Inlets}
+use Rattle.graph_parts.specs.declared.bag.BagLink.{BagLink}
 use Rattle.graph_tasks.specs.Wiring.{HeadGiven, HeadMade, PadGiven, PadMade}
 use Rattle.graph_tasks.specs.declared.wired_task.WiredHead.TheVariants as wired
 use Rattle.graph_tasks.proofs.Gathering.{inlets_head, source_given, source_head}

@@ -1,7 +1,7 @@
 use Rattle.std.proofs.Common.{◌++◌, ℕ, List, subst}
 use Rattle.graph_core.specs.Graph.{made as made_in, links as links_in}
-use Rattle.graph_bags.specs.Bags.{head_cells}
-use Rattle.graph_bags.specs.declared.bag.BagElement.{BagElement}
+use Rattle.graph_parts.specs.Bags.{head_cells}
+use Rattle.graph_parts.specs.declared.bag.BagElement.{BagElement}
 use Rattle.graph_tasks.specs.Wiring.{CellsGiven, OutletsLeft, PartsMade, cell_lanes}
 use Rattle.graph_tasks.proofs.Gathering.{bag_made, cells_front, head_given}
 use Rattle.graph_tasks.proofs.wiring.task_of.Goals as goal

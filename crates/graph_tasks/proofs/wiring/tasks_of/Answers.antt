@@ -3,9 +3,9 @@ use Rattle.std.specs.Prelude.{slice_get}
 use Rattle.std.specs.List.{flat_map}
 use Rattle.std.proofs.lemmas.Option.{slice_get_read}
 use Rattle.graph_core.specs.Graph.{made as made_in, links as links_in}
-use Rattle.graph_bags.specs.Bags.{cells}
-use Rattle.graph_bags.specs.declared.bag.Bag.{Bag}
-use Rattle.graph_lanes.proofs.Slots.{size_more}
+use Rattle.graph_parts.specs.Bags.{cells}
+use Rattle.graph_parts.specs.declared.bag.Bag.{Bag}
+use Rattle.graph_parts.proofs.LaneSlots.{size_more}
 use Rattle.graph_tasks.specs.Wiring.{cell_lanes, inlets_of}
 use Rattle.graph_tasks.proofs.Gathering.{bag_given, bags_begin, bags_more}
 use Rattle.graph_tasks.proofs.wiring.tasks_of.Goals as goal

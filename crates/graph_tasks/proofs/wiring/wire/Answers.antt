@@ -1,6 +1,6 @@
 use Rattle.std.proofs.Common.{List, subst}
 use Rattle.graph_core.specs.Graph.{made as made_in, links as links_in}
-use Rattle.graph_bags.specs.declared.bag.Bag.{Bag}
+use Rattle.graph_parts.specs.declared.bag.Bag.{Bag}
 use Rattle.lane_core.specs.contracts.memory.MemInletInlet.TheImpl as inlets
 use Rattle.lane_core.specs.contracts.memory.MemOutletOutlet.TheImpl as outlets
 use Rattle.graph_tasks.specs.Wiring.{BagsGiven, BagsMade}

@@ -4,8 +4,8 @@ use Rattle.std.proofs.lemmas.Option.{slice_get_within}
 use Rattle.el_settings.specs.Asked.{source_pads}
 use Rattle.graph_core.specs.Elements.{Made}
 use Rattle.graph_core.specs.Graph.{made as made_in}
-use Rattle.graph_bags.specs.Links.{source_count}
-use Rattle.graph_lanes.proofs.Slots.{size_more}
+use Rattle.graph_parts.specs.Links.{source_count}
+use Rattle.graph_parts.proofs.LaneSlots.{size_more}
 use Rattle.graph_tests.specs.declared.plain.Plain.{Plain}
 use Rattle.graph_tests.proofs.Under.{one_more}
 use Rattle.graph_tests.proofs.plain.elements_for.Goals as goal

@@ -1,6 +1,6 @@
 use Rattle.std.proofs.Common.{◌≡◌, length}
 use Rattle.graph_core.specs.Graph.{made as made_in}
-use Rattle.graph_bags.specs.Links.{source_count}
+use Rattle.graph_parts.specs.Links.{source_count}
 use Rattle.graph_tests.specs.declared.plain.Plain.{Plain}
 use Rattle.graph_tests.proofs.Under.{StandBelow}
 use Rattle.graph_tests.proofs.plain.elements_for.Given as goal

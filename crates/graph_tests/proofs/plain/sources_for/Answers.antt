@@ -1,7 +1,7 @@
 use Rattle.std.proofs.Common.{ap, length, refl, arith}
 use Rattle.std.proofs.lemmas.Option.{slice_get_within}
 use Rattle.graph_core.specs.Graph.{made as made_in}
-use Rattle.graph_lanes.proofs.Slots.{size_more}
+use Rattle.graph_parts.proofs.LaneSlots.{size_more}
 use Rattle.graph_tests.specs.declared.plain.PlainSource.{PlainSource}
 use Rattle.graph_tests.proofs.Under.{one_more}
 use Rattle.graph_tests.proofs.plain.sources_for.Goals as goal

@@ -1,6 +1,6 @@
 use Rattle.std.proofs.Common.{◌∙◌, inl, inr}
 use Rattle.graph_core.specs.Graph.{made}
-use Rattle.graph_files.proofs.Locating.{all_opened}
+use Rattle.graph_parts.proofs.Locating.{all_opened}
 use Rattle.run_files.specs.Ends.{known_ends}
 use Rattle.world_core.specs.Ran.{KnownFailed, KnownHold}
 use Rattle.world_core.specs.World.{FileFailed, FilesHold}

@@ -1,7 +1,7 @@
 use Rattle.std.proofs.Common.{refl}
 use Rattle.std.proofs.lemmas.Bool.{false≢true}
 use Rattle.graph_core.specs.Graph.{is_live}
-use Rattle.graph_ends.specs.Over.{joins_in}
+use Rattle.graph_tasks.specs.Over.{joins_in}
 use Rattle.world_core.proofs.StallOver.{more_here, not_here, over_all}
 use Rattle.world_core.proofs.stall.is_over.Goals as goal
 

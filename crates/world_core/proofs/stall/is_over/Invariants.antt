@@ -1,5 +1,5 @@
 use Rattle.graph_core.specs.Graph.{is_live}
-use Rattle.graph_ends.specs.Over.{joins_in}
+use Rattle.graph_tasks.specs.Over.{joins_in}
 use Rattle.world_core.proofs.StallOver.{LetOver}
 use Rattle.world_core.proofs.stall.is_over.Given as goal
 

@@ -1,5 +1,5 @@
 use Rattle.std.specs.Option.{unwrap_or}
-use Rattle.graph_bags.specs.Links.{place_at}
+use Rattle.graph_parts.specs.Links.{place_at}
 use Rattle.graph_core.specs.Graph.{made as made_in}
 use Rattle.graph_core.specs.GraphPlan.{pad_id}
 use Rattle.net_task.specs.Counted.{received_by}

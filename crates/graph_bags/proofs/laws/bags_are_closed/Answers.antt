@@ -1,8 +1,0 @@
-use Rattle.graph_bags.proofs.Apart as laws
-use Rattle.graph_bags.proofs.laws.bags_are_closed.Goals as goal
-
-pub returns-clause-closed : goal.returns-clause-closed
-returns-clause-closed c = laws.bags_are_closed
-
-pub returns-clause-pads : goal.returns-clause-pads
-returns-clause-pads c = laws.bags_have_pads

@@ -1,4 +1,0 @@
-pub mod Links
-pub mod Bags
-pub mod Walk
-pub mod Laws

@@ -1,5 +1,0 @@
-use Rattle.graph_ends.proofs.BlamedFaults.{faults_are_blamed}
-use Rattle.graph_ends.proofs.blamed.faults_are_blamed.Goals as goal
-
-pub returns : goal.returns
-returns g c = faults_are_blamed g.K.Sink g.S.TaskSource _ g.I.Inlet g.O.Outlet

@@ -1,5 +1,0 @@
-use Rattle.graph_ends.proofs.EndedWhole.{ends_are_whole}
-use Rattle.graph_ends.proofs.ended.ends_are_whole.Goals as goal
-
-pub returns : goal.returns
-returns c = ends_are_whole

@@ -1,5 +1,0 @@
-use Rattle.graph_ends.proofs.EndedWhole.{histories_are_evaluated}
-use Rattle.graph_ends.proofs.ended.histories_are_evaluated.Goals as goal
-
-pub returns : goal.returns
-returns c = histories_are_evaluated

@@ -1,9 +1,0 @@
-pub mod Owed
-pub mod Short
-pub mod Frames
-pub mod Runs
-pub mod Ended
-pub mod Written
-pub mod Blamed
-pub mod Over
-pub mod Stalled

@@ -1,5 +1,0 @@
-use Rattle.graph_files.proofs.Counting.{pad_counted}
-use Rattle.graph_files.proofs.counts.count_pad.Goals as goal
-
-pub returns : goal.returns
-returns g c = pad_counted c.args.pad.now c.number.result c.count_of.result c.args.counts.now.items c.put_some.new.list.items c.number.ensures c.count_of.ensures c.put_some.ensures

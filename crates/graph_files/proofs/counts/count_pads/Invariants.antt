@@ -1,7 +1,0 @@
-use Rattle.graph_files.specs.Counts.{TaskCounted}
-use Rattle.graph_files.specs.Put.{PutBack}
-use Rattle.graph_files.proofs.Putting.{Upto}
-use Rattle.graph_files.proofs.counts.count_pads.Given as goal
-
-abbrev pub invariant-loop-place : goal.invariant-loop-place
-invariant-loop-place g l = PutBack (Upto TaskCounted l.tasks l.place) l.fn.counts.items l.counts.items

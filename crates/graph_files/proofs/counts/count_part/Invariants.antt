@@ -1,7 +1,0 @@
-use Rattle.graph_files.specs.Counts.{PadCounted}
-use Rattle.graph_files.specs.Put.{PutBack}
-use Rattle.graph_files.proofs.Putting.{Upto}
-use Rattle.graph_files.proofs.counts.count_part.Given as goal
-
-abbrev pub invariant-loop-place : goal.invariant-loop-place
-invariant-loop-place g l = PutBack (Upto PadCounted l.part.pads.items l.place) l.fn.counts.items l.counts.items

@@ -1,7 +1,0 @@
-use Rattle.std.proofs.Common.{◌≡◌, map, take}
-use Rattle.graph_core.specs.Graph.{made}
-use Rattle.graph_files.specs.Files.{made_opening}
-use Rattle.graph_files.proofs.openings.openings_of.Given as goal
-
-abbrev pub invariant-loop-element : goal.invariant-loop-element
-invariant-loop-element l = l.openings.items ≡ map made_opening (take l.element (made l.graph))

@@ -1,5 +1,0 @@
-use Rattle.graph_moment.proofs.Behaviors.{behaviors_are_told}
-use Rattle.graph_moment.proofs.behaviors_are_told.Goals as goal
-
-pub returns : goal.returns
-returns c = behaviors_are_told

@@ -1,8 +1,0 @@
-use Rattle.graph_moment.proofs.Leading.{links_lead, unlinked_lead}
-use Rattle.graph_moment.proofs.links_lead.Goals as goal
-
-pub returns-clause-linked : goal.returns-clause-linked
-returns-clause-linked c = links_lead
-
-pub returns-clause-unlinked : goal.returns-clause-unlinked
-returns-clause-unlinked c = unlinked_lead

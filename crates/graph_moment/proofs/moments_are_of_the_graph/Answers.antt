@@ -1,8 +1,0 @@
-use Rattle.graph_moment.proofs.Wholes.{moment_is_graph, end_is_graph}
-use Rattle.graph_moment.proofs.moments_are_of_the_graph.Goals as goal
-
-pub returns-clause-running : goal.returns-clause-running
-returns-clause-running c = moment_is_graph
-
-pub returns-clause-ended : goal.returns-clause-ended
-returns-clause-ended c = end_is_graph

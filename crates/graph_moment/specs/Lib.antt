@@ -1,3 +1,0 @@
-pub mod Pads
-pub mod Plans
-pub mod Laws

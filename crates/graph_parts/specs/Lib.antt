@@ -1,0 +1,16 @@
+pub mod Links
+pub mod Bags
+pub mod Walk
+pub mod BagLaws
+pub mod Lanes
+pub mod Pads
+pub mod Plans
+pub mod MomentLaws
+pub mod Ends
+pub mod Blanks
+pub mod Filled
+pub mod Files
+pub mod Put
+pub mod Single
+pub mod Back
+pub mod Counts
