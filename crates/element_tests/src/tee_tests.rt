@@ -2,7 +2,7 @@
 ghost use Rattle.std.specs.Prelude.{◌≤◌};
 
 use el_basic::*;
-use gst_item::{Item, Outs};
+use gst_item::Outs;
 use gst_value::List;
 use item_letters::{is_flush, item_of, letter_of, letter_of_flow};
 use std::alloc::Global;

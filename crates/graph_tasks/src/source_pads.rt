@@ -6,8 +6,8 @@ ghost use Rattle.graph_parts.specs.Links.{place_at};
 ghost use Rattle.graph_tasks.specs.Wiring.{CellGiven, IsBehind, IsNumbered, LooksAt, OutletsLeft, PadGiven, PadMade, PadsMade, over_lane, without_lane};
 
 use crate::taking::taken;
-use graph_parts::{BagElement, BagLink};
 use graph_core::Graph;
+use graph_parts::{BagElement, BagLink};
 use gst_value::OutOfMemory;
 use lane_core::Outlet;
 use std::alloc::Global;

@@ -1,7 +1,6 @@
 //! Rows of lines and the bags of their graphs.
-use graph_parts::*;
 use graph_core::{Graph, build};
-use gst_value::Text;
+use graph_parts::*;
 use launch_text::parse;
 use std::alloc::Global;
 use std::fmt::Write;

@@ -1,7 +1,7 @@
 //! Rows of lines and their graphs.
 use caps_text::print;
 use graph_core::*;
-use gst_value::{PadName, Text};
+use gst_value::PadName;
 use launch_text::parse;
 use std::alloc::Global;
 use std::fmt::Write;

@@ -4,9 +4,9 @@
 #[cfg(test)]
 mod bags_tests;
 #[cfg(test)]
-mod graph_core_tests;
-#[cfg(test)]
 mod files_tests;
+#[cfg(test)]
+mod graph_core_tests;
 #[cfg(test)]
 mod graph_tasks_tests;
 #[cfg(test)]

@@ -1,7 +1,7 @@
 //! Rows of reports' texts.
 use caps_text::parse;
 use flow_model::StreamKind;
-use gst_value::{Fixed, List, OutOfMemory, PadName, Text};
+use gst_value::{List, OutOfMemory, PadName, Text};
 use launch_text::LineKind;
 use pad_core::LinkReturn;
 use run_report::*;

@@ -1,5 +1,5 @@
 //! A table of lines, and the limits.
-use launch_text::{LineFault, LineKind, Node, Part, parse, print};
+use launch_text::{LineFault, LineKind, Part, parse, print};
 use std::alloc::Global;
 use std::fmt::Write;
 use std::process::Abort;
