@@ -7,8 +7,7 @@ use Rattle.lane_core.specs.declared.ends.Take.TheVariants as took
 use Rattle.lane_core.specs.Lane.{Lane, IsIn}
 use Rattle.inlet_row.specs.declared.feeding.Feeding.{Feeding}
 use Rattle.inlet_row.specs.declared.feeding.Feeding.TheVariants.{Given, Lane as OfLane}
-use Rattle.inlet_row.specs.declared.feeding.Taken.{Taken}
-use Rattle.inlet_row.specs.declared.feeding.Taken.TheVariants.{Item, Empty}
+use Rattle.inlet_row.specs.Taken.{Taken, Item, Empty}
 use Rattle.inlet_row.specs.declared.row.InletRow.{InletRow}
 use Rattle.inlet_row.specs.Row.{ForLanes, RowIn, feeds_of}
 use Rattle.inlet_row.specs.Take.{AreRefused, AsksLane, First, Moves, Took, answer_of}

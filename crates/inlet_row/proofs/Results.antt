@@ -11,8 +11,7 @@ use Rattle.lane_core.proofs.Between.{take_keeps_between, take_keeps_others, take
 use Rattle.lane_core.proofs.Change.{updated_else, updated_here}
 use Rattle.inlet_row.specs.declared.feeding.Feeding.{Feeding}
 use Rattle.inlet_row.specs.declared.feeding.Feeding.TheVariants.{Given, Lane as OfLane}
-use Rattle.inlet_row.specs.declared.feeding.Taken.{Taken}
-use Rattle.inlet_row.specs.declared.feeding.Taken.TheVariants.{Item, Empty}
+use Rattle.inlet_row.specs.Taken.{Taken, Item, Empty}
 use Rattle.inlet_row.specs.declared.row.InletRow.{InletRow}
 use Rattle.inlet_row.specs.Row.{Apart, AreApart, ForLanes, GaveInAll, GaveOf, RowBetween, RowGave, RowIn, feeds_of, held, items_of, row_holds}
 use Rattle.inlet_row.specs.Take.{AsksLane, GivesOne, HasPlace, HoldsAfter, KeepsLanes, Moves, Took, list_after}

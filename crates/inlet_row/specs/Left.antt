@@ -3,8 +3,7 @@ use Rattle.std.specs.Prelude.{◌<◌, ◌≤◌, ℕ, suc, ◌+◌, ◌-◌, Li
 use Rattle.lane_core.specs.declared.ends.Inlet as inlets
 use Rattle.inlet_row.specs.declared.feeding.Feeding.{Feeding}
 use Rattle.inlet_row.specs.declared.feeding.Feeding.TheVariants.{Given, Lane as OfLane}
-use Rattle.inlet_row.specs.declared.feeding.Taken.{Taken}
-use Rattle.inlet_row.specs.declared.feeding.Taken.TheVariants.{Item, Empty}
+use Rattle.inlet_row.specs.Taken.{Taken, Item, Empty}
 use Rattle.inlet_row.specs.declared.row.InletRow.{InletRow}
 use Rattle.inlet_row.specs.Row.{feeds_of}
 

@@ -3,3 +3,4 @@ pub mod Feed
 pub mod Left
 pub mod Row
 pub mod Take
+pub mod Taken

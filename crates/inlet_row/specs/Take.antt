@@ -10,8 +10,7 @@ use Rattle.lane_core.specs.Moves.{IsTake, TakesFirst, list_after_take, raised, t
 use Rattle.lane_core.specs.Room.{Limits, number_of}
 use Rattle.inlet_row.specs.declared.feeding.Feeding.{Feeding}
 use Rattle.inlet_row.specs.declared.feeding.Feeding.TheVariants.{Given, Lane as OfLane}
-use Rattle.inlet_row.specs.declared.feeding.Taken.{Taken}
-use Rattle.inlet_row.specs.declared.feeding.Taken.TheVariants.{Item, Empty}
+use Rattle.inlet_row.specs.Taken.{Taken, Item, Empty}
 use Rattle.inlet_row.specs.declared.row.InletRow.{InletRow}
 use Rattle.inlet_row.specs.Row.{AreApart, ForLanes, RowIn, feeds_of, row_holds}
 

@@ -1,5 +1,5 @@
 //! One thing that a sink pad is fed from.
-ghost use Rattle.std.specs.Prelude.{◌≡◌};
+ghost use Rattle.std.specs.Prelude.{◌≡◌, Some};
 ghost use Rattle.inlet_row.specs.Feed.{is_given, received_in};
 
 use gst_item::Item;
@@ -17,11 +17,12 @@ pub enum Feeding<I> {
     Lane { number: u32, inlet: I },
 }
 
-/// What a take from a row answers.
-#[derive(Drop)]
-pub enum Taken {
-    /// The next item.
-    Item(Item),
+/// What a row answers that is asked for its next item. The item itself goes where the caller has room for it, so that an
+/// answer without one is small.
+#[derive(Clone, Copy)]
+pub enum Answer {
+    /// The next item went there.
+    Item,
     /// There is none now: the number of the lane that it waits for, or `UNLINKED` where there is no lane.
     Empty(u32),
 }
@@ -29,8 +30,9 @@ pub enum Taken {
 impl<I: Inlet> Feeding<I> {
     ghost use Rattle.gst_item.specs.declared.item.Item.{Item};
     ghost use Rattle.inlet_row.specs.declared.feeding.Feeding.TheVariants.{Given};
-    ghost use Rattle.inlet_row.specs.declared.feeding.Taken.TheVariants.{Item as Next};
+    ghost use Rattle.inlet_row.specs.declared.feeding.Answer.TheVariants.{Item as Next};
     ghost use Rattle.inlet_row.specs.Take.{IsAskable, Asks};
+    ghost use Rattle.inlet_row.specs.Taken.{GoesInto, taken_of};
 
     /// Whether control gave it.
     #[inline(always)]
@@ -58,27 +60,35 @@ impl<I: Inlet> Feeding<I> {
         }
     }
 
-    /// The item that control gave.
-    pub(crate) fn into_taken(self) -> Taken
-        ensures { (item : Item) → self ≡ Given item → result ≡ Next item }
+    /// The item that control gave goes there.
+    pub(crate) fn give(self, into: &mut Option<Item>) -> Answer
+        ensures given { (item : Item) → self ≡ Given item → (result ≡ Next) × (into.new ≡ Some item) }
+        ensures into { GoesInto result into.old into.new }
     {
         match self {
-            Feeding::Given(item) => Taken::Item(item),
-            Feeding::Lane { number, .. } => Taken::Empty(number),
+            Feeding::Given(item) => {
+                *into = Some(item);
+                Answer::Item
+            }
+            Feeding::Lane { number, .. } => Answer::Empty(number),
         }
     }
 
     /// Takes an item of the lane, if there is one now.
     #[inline(always)]
-    pub(crate) fn take(&mut self, lanes: &mut I::Lanes) -> Taken
+    pub(crate) fn take(&mut self, lanes: &mut I::Lanes, into: &mut Option<Item>) -> Answer
         requires table { IsAskable I.Inlet (I.Out.tells lanes.old) self.old }
-        ensures { Asks I.Inlet (I.Out.tells lanes.old) (I.Out.tells lanes.new) self.old self.new result }
+        ensures asks { Asks I.Inlet (I.Out.tells lanes.old) (I.Out.tells lanes.new) self.old self.new (taken_of result into.new) }
+        ensures into { GoesInto result into.old into.new }
     {
         match self {
-            Feeding::Given(_) => Taken::Empty(UNLINKED),
+            Feeding::Given(_) => Answer::Empty(UNLINKED),
             Feeding::Lane { number, inlet } => match inlet.take(lanes) {
-                Take::Item(item) => Taken::Item(item),
-                Take::Empty => Taken::Empty(*number),
+                Take::Item(item) => {
+                    *into = Some(item);
+                    Answer::Item
+                }
+                Take::Empty => Answer::Empty(*number),
             },
         }
     }

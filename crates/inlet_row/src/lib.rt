@@ -4,5 +4,5 @@
 pub mod feeding;
 pub mod row;
 
-pub use feeding::{Feeding, Taken, UNLINKED};
+pub use feeding::{Answer, Feeding, UNLINKED};
 pub use row::InletRow;

@@ -2,7 +2,7 @@
 ghost use Rattle.std.specs.Prelude.{◌≡◌, ◌≤◌, ◌<◌, ◌+◌, ◌++◌, [], ◌∷◌, ℕ, List, Option, Some, OnOk, OnErr, drop};
 ghost use Rattle.gst_item.specs.declared.item.Item.{Item};
 
-use crate::feeding::{Feeding, Taken, UNLINKED};
+use crate::feeding::{Answer, Feeding, UNLINKED};
 use gst_item::Item;
 use gst_value::OutOfMemory;
 use lane_core::Inlet;
@@ -19,10 +19,11 @@ pub struct InletRow<I> {
 impl<I: Inlet> InletRow<I> {
     ghost use Rattle.lane_core.specs.Lane.{Lane};
     ghost use Rattle.inlet_row.specs.declared.feeding.Feeding.TheVariants.{Given, Lane as OfLane};
-    ghost use Rattle.inlet_row.specs.declared.feeding.Taken.TheVariants.{Item as Next};
+    ghost use Rattle.inlet_row.specs.declared.feeding.Answer.TheVariants.{Item as Next};
     ghost use Rattle.inlet_row.specs.Row.{AreApart, RowBetween, RowGave, RowIn, feeds_of, received_of, room_of};
     ghost use Rattle.inlet_row.specs.Ends.{Gives, Links, Stays};
     ghost use Rattle.inlet_row.specs.Take.{First, HoldsAfter, KeepsLanes, Moves, list_after};
+    ghost use Rattle.inlet_row.specs.Taken.{GoesInto, taken_of};
 
     /// A row of nothing, which takes no memory.
     pub fn new(alloc: Global) -> InletRow<I>
@@ -68,21 +69,23 @@ impl<I: Inlet> InletRow<I> {
         self.feeds.push_back_reserved(lane);
     }
 
-    /// The next item, if there is one now. An undone lane in which nothing is left is dropped on the way.
+    /// Takes the next item, if there is one now, and puts it there. An undone lane in which nothing is left is dropped on the
+    /// way.
     #[inline(always)]
-    pub fn take(&mut self, lanes: &mut I::Lanes) -> Taken
+    pub fn take(&mut self, lanes: &mut I::Lanes, into: &mut Option<Item>) -> Answer
         requires table { RowIn I.Inlet (I.Out.tells lanes.old) self.old }
-        ensures moves { Moves I.Inlet (I.Out.tells lanes.old) (I.Out.tells lanes.new) self.old self.new result }
-        ensures table { KeepsLanes I.Inlet (I.Out.tells lanes.old) (I.Out.tells lanes.new) self.old self.new result }
-        ensures gave { (got : List Item) → RowGave I.Inlet self.old got → RowGave I.Inlet self.new (list_after got result) }
+        ensures into { GoesInto result into.old into.new }
+        ensures moves { Moves I.Inlet (I.Out.tells lanes.old) (I.Out.tells lanes.new) self.old self.new (taken_of result into.new) }
+        ensures table { KeepsLanes I.Inlet (I.Out.tells lanes.old) (I.Out.tells lanes.new) self.old self.new (taken_of result into.new) }
+        ensures gave { (got : List Item) → RowGave I.Inlet self.old got → RowGave I.Inlet self.new (list_after got (taken_of result into.new)) }
         ensures between { (sents : ℕ → List Item) (got : List Item) → AreApart I.Inlet self.old
             → RowBetween I.Inlet (I.Out.tells lanes.old) sents self.old got
-            → RowBetween I.Inlet (I.Out.tells lanes.new) sents self.new (list_after got result) }
+            → RowBetween I.Inlet (I.Out.tells lanes.new) sents self.new (list_after got (taken_of result into.new)) }
         ensures holds { (t : List Lane) (sents : ℕ → List Item) (got : List Item) → I.Out.tells lanes.old ≡ Some t
             → AreApart I.Inlet self.old → RowBetween I.Inlet (Some t) sents self.old got
-            → HoldsAfter I.Inlet t (I.Out.tells lanes.new) self.old self.new result }
+            → HoldsAfter I.Inlet t (I.Out.tells lanes.new) self.old self.new (taken_of result into.new) }
     {
-        self.next(lanes)
+        self.next(lanes, into)
     }
 
     /// How many items were received from the first lane of this number.
@@ -105,17 +108,18 @@ impl<I: Inlet> InletRow<I> {
     }
 
     #[inline(always)]
-    fn next(&mut self, lanes: &mut I::Lanes) -> Taken
+    fn next(&mut self, lanes: &mut I::Lanes, into: &mut Option<Item>) -> Answer
         requires table { RowIn I.Inlet (I.Out.tells lanes.old) self.old }
-        ensures { Moves I.Inlet (I.Out.tells lanes.old) (I.Out.tells lanes.new) self.old self.new result }
+        ensures moves { Moves I.Inlet (I.Out.tells lanes.old) (I.Out.tells lanes.new) self.old self.new (taken_of result into.new) }
+        ensures into { GoesInto result into.old into.new }
     {
         while self.feeds.len() > 1 {
-            match self.first(lanes) {
-                Taken::Item(item) => return Taken::Item(item),
-                Taken::Empty(_) => self.drop_first(),
+            match self.first(lanes, into) {
+                Answer::Item => return Answer::Item,
+                Answer::Empty(_) => self.drop_first(),
             }
         }
-        self.first(lanes)
+        self.first(lanes, into)
     }
 
     /// Drops what stands first.
@@ -127,27 +131,29 @@ impl<I: Inlet> InletRow<I> {
 
     /// The item that stands first, or one that the lane there gives.
     #[inline(always)]
-    fn first(&mut self, lanes: &mut I::Lanes) -> Taken
+    fn first(&mut self, lanes: &mut I::Lanes, into: &mut Option<Item>) -> Answer
         requires table { RowIn I.Inlet (I.Out.tells lanes.old) self.old }
-        ensures { First I.Inlet (I.Out.tells lanes.old) (I.Out.tells lanes.new) (feeds_of self.old) (feeds_of self.new) result }
+        ensures first { First I.Inlet (I.Out.tells lanes.old) (I.Out.tells lanes.new) (feeds_of self.old) (feeds_of self.new) (taken_of result into.new) }
+        ensures into { GoesInto result into.old into.new }
     {
         if self.feeds.is_empty() {
-            return Taken::Empty(UNLINKED);
+            return Answer::Empty(UNLINKED);
         }
         if self.feeds[0].is_given() {
-            return self.first_given();
+            return self.first_given(into);
         }
-        self.feeds[0].take(lanes)
+        self.feeds[0].take(lanes, into)
     }
 
     /// The item that stands first.
-    fn first_given(&mut self) -> Taken
-        ensures { (item : Item) (feeds : List (Feeding I)) → feeds_of self.old ≡ Given item ∷ feeds
-            → (feeds_of self.new ≡ feeds) × (result ≡ Next item) }
+    fn first_given(&mut self, into: &mut Option<Item>) -> Answer
+        ensures given { (item : Item) (feeds : List (Feeding I)) → feeds_of self.old ≡ Given item ∷ feeds
+            → (feeds_of self.new ≡ feeds) × (result ≡ Next) × (into.new ≡ Some item) }
+        ensures into { GoesInto result into.old into.new }
     {
         match self.feeds.pop_front() {
-            Some(first) => first.into_taken(),
-            None => Taken::Empty(UNLINKED),
+            Some(first) => first.give(into),
+            None => Answer::Empty(UNLINKED),
         }
     }
 }

@@ -8,7 +8,7 @@ use Rattle.lane_core.specs.declared.ends.Outlet as outlets
 use Rattle.net_model.specs.Moment.{Moment}
 use Rattle.net_model.specs.declared.element.TaskElement as elements
 use Rattle.net_model.specs.declared.source.TaskSource as sources
-use Rattle.inlet_row.specs.declared.feeding.Taken.TheVariants as takes
+use Rattle.inlet_row.specs.Taken as takes
 use Rattle.inlet_row.specs.Left.{row_left}
 use Rattle.task_pads.specs.Behind.{EndReady, LaneEnd}
 use Rattle.task_pads.specs.Pads.{end_of}

@@ -7,8 +7,8 @@ use Rattle.lane_core.specs.Room.{Limits}
 use Rattle.lane_core.specs.declared.ends.Inlet as inlets
 use Rattle.inlet_row.specs.declared.feeding.Feeding.{Feeding}
 use Rattle.inlet_row.specs.declared.feeding.Feeding.TheVariants.{Given, Lane as OfLane}
-use Rattle.inlet_row.specs.declared.feeding.Taken.{Taken}
-use Rattle.inlet_row.specs.declared.feeding.Taken.TheVariants as takes
+use Rattle.inlet_row.specs.Taken.{Taken}
+use Rattle.inlet_row.specs.Taken as takes
 use Rattle.inlet_row.specs.declared.row.InletRow.{InletRow}
 use Rattle.inlet_row.specs.Left.{Lessens, row_left}
 use Rattle.inlet_row.specs.Row.{AreApart, ForLanes, RowIn, feeds_of}

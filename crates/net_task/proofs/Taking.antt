@@ -15,8 +15,8 @@ use Rattle.net_model.specs.declared.element.TaskElement as elements
 use Rattle.net_model.specs.declared.source.TaskSource as sources
 use Rattle.net_model.specs.declared.refusal.Refusal.{Refusal}
 use Rattle.inlet_row.specs.declared.row.InletRow.{InletRow}
-use Rattle.inlet_row.specs.declared.feeding.Taken.{Taken}
-use Rattle.inlet_row.specs.declared.feeding.Taken.TheVariants as takes
+use Rattle.inlet_row.specs.Taken.{Taken}
+use Rattle.inlet_row.specs.Taken as takes
 use Rattle.inlet_row.specs.Row.{RowGave}
 use Rattle.task_parts.specs.declared.part.Part.{Part}
 use Rattle.task_parts.specs.declared.head.Head.{Head}

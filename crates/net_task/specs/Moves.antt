@@ -7,7 +7,7 @@ use Rattle.lane_core.specs.Moves.{table_after_put}
 use Rattle.lane_core.specs.declared.ends.Inlet as inlets
 use Rattle.lane_core.specs.declared.ends.Outlet as outlets
 use Rattle.lane_core.specs.declared.ends.Put.TheVariants.{Stored}
-use Rattle.inlet_row.specs.declared.feeding.Taken.TheVariants.{Item}
+use Rattle.inlet_row.specs.Taken.{Item}
 use Rattle.net_model.specs.Moment.{Moment, behavior_at}
 use Rattle.net_model.specs.Split.{NoneAt}
 use Rattle.flow_model.specs.SinkPads.{push_calls, InSection}

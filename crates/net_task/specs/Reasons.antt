@@ -7,7 +7,7 @@ use Rattle.lane_core.specs.declared.ends.Inlet as inlets
 use Rattle.lane_core.specs.declared.ends.Outlet as outlets
 use Rattle.lane_core.specs.declared.ends.Put.TheVariants.{Full}
 use Rattle.pad_core.specs.Crossing.{has_ended}
-use Rattle.inlet_row.specs.declared.feeding.Taken.TheVariants.{Empty}
+use Rattle.inlet_row.specs.Taken.{Empty}
 use Rattle.net_model.specs.Moment.{Moment}
 use Rattle.net_model.specs.declared.element.TaskElement as elements
 use Rattle.net_model.specs.declared.source.TaskSource as sources

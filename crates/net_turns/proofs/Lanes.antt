@@ -7,7 +7,7 @@ use Rattle.lane_core.specs.Lane.{Lane, lane_of, table_without_first}
 use Rattle.lane_core.proofs.Change.{updated_else}
 use Rattle.inlet_row.specs.declared.feeding.Feeding.{Feeding}
 use Rattle.inlet_row.specs.declared.feeding.Feeding.TheVariants.{Given, Lane as OfLane}
-use Rattle.inlet_row.specs.declared.feeding.Taken.TheVariants.{Item}
+use Rattle.inlet_row.specs.Taken.{Item}
 use Rattle.inlet_row.specs.declared.row.InletRow.{InletRow}
 use Rattle.inlet_row.specs.Row.{ForLanes, GaveOf, RowBetween, feeds_of, row_holds}
 use Rattle.inlet_row.specs.Take.{GivesOne, HasPlace, KeepsLanes, Moves}

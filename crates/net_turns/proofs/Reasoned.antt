@@ -12,7 +12,7 @@ use Rattle.net_model.specs.Moment.{Moment, behavior_at}
 use Rattle.net_model.specs.declared.element.TaskElement as elements
 use Rattle.net_model.specs.declared.source.TaskSource as sources
 use Rattle.inlet_row.specs.declared.feeding.Feeding.{Feeding}
-use Rattle.inlet_row.specs.declared.feeding.Taken.TheVariants.{Empty}
+use Rattle.inlet_row.specs.Taken.{Empty}
 use Rattle.inlet_row.specs.declared.row.InletRow.{InletRow}
 use Rattle.inlet_row.specs.Row.{AreApart, RowBetween, feeds_of}
 use Rattle.task_parts.specs.declared.head.Head.{Head}

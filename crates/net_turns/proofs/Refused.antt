@@ -6,7 +6,7 @@ use Rattle.lane_core.specs.declared.ends.Inlet as inlets
 use Rattle.net_model.specs.Moment.{Moment}
 use Rattle.inlet_row.specs.declared.feeding.Feeding.{Feeding}
 use Rattle.inlet_row.specs.declared.feeding.Feeding.TheVariants.{Given, Lane as OfLane}
-use Rattle.inlet_row.specs.declared.feeding.Taken.TheVariants.{Empty}
+use Rattle.inlet_row.specs.Taken.{Empty}
 use Rattle.inlet_row.specs.declared.row.InletRow.{InletRow}
 use Rattle.inlet_row.specs.Row.{ForLanes, feeds_of}
 use Rattle.inlet_row.specs.Take.{HasPlace, Moves}

@@ -16,7 +16,7 @@ use Rattle.net_model.proofs.Inputs.{at_other}
 use Rattle.net_model.proofs.Steps.{taking_keeps}
 use Rattle.net_model.specs.declared.element.TaskElement as elements
 use Rattle.net_model.specs.declared.source.TaskSource as sources
-use Rattle.inlet_row.specs.declared.feeding.Taken.TheVariants.{Item}
+use Rattle.inlet_row.specs.Taken.{Item}
 use Rattle.inlet_row.specs.declared.row.InletRow.{InletRow}
 use Rattle.inlet_row.specs.Row.{ForLanes, RowBetween, feeds_of, row_holds}
 use Rattle.inlet_row.specs.Take.{HoldsAfter, KeepsLanes}

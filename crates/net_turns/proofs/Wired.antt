@@ -8,7 +8,7 @@ use Rattle.lane_core.specs.declared.ends.Inlet as inlets
 use Rattle.lane_core.specs.declared.ends.Outlet as outlets
 use Rattle.net_model.specs.declared.element.TaskElement as elements
 use Rattle.net_model.specs.declared.source.TaskSource as sources
-use Rattle.inlet_row.specs.declared.feeding.Taken.TheVariants.{Item}
+use Rattle.inlet_row.specs.Taken.{Item}
 use Rattle.inlet_row.specs.declared.row.InletRow.{InletRow}
 use Rattle.inlet_row.specs.Row.{ForLanes, feeds_of}
 use Rattle.inlet_row.specs.Take.{HasPlace, Moves}

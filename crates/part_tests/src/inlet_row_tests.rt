@@ -3,6 +3,7 @@ ghost use Rattle.std.specs.Prelude.{ℕ, IfOk};
 ghost use Rattle.lane_core.specs.Lane.{IsIn, IsOf};
 ghost use Rattle.inlet_row.specs.Row.{RowIn};
 
+use gst_item::Item;
 use gst_value::OutOfMemory;
 use inlet_row::*;
 use item_letters::{item_numbered, number_of};
@@ -15,12 +16,15 @@ use std::test::Fail;
 enum Done {
     Item(u64),
     Empty(u32),
+    /// An item that is not there, or one that is there and was not told.
+    Nothing,
 }
 
-fn done_of(taken: Taken) -> Done {
-    match taken {
-        Taken::Item(item) => Done::Item(number_of(&item)),
-        Taken::Empty(number) => Done::Empty(number),
+fn done_of(answer: Answer, next: Option<Item>) -> Done {
+    match (answer, next) {
+        (Answer::Item, Some(item)) => Done::Item(number_of(&item)),
+        (Answer::Empty(number), None) => Done::Empty(number),
+        _ => Done::Nothing,
     }
 }
 
@@ -71,7 +75,9 @@ fn take_some<I: Inlet>(
     ensures lanes { (n : ℕ) → IsIn (I.Out.tells lanes.old) n → IsIn (I.Out.tells lanes.new) n }
 {
     for _ in 0..count {
-        done.push(done_of(row.take(lanes)))?;
+        let mut next = None;
+        let answer = row.take(lanes, &mut next);
+        done.push(done_of(answer, next))?;
     }
     Ok(())
 }

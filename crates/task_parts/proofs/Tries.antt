@@ -11,7 +11,9 @@ use Rattle.net_model.specs.declared.element.TaskElement as elements
 use Rattle.net_model.specs.declared.source.TaskSource as sources
 use Rattle.net_model.specs.declared.refusal.Refusal.{Refusal}
 use Rattle.net_model.specs.Gives.{Gives, count_after}
-use Rattle.inlet_row.specs.declared.feeding.Taken.{Taken}
+use Rattle.inlet_row.specs.declared.feeding.Answer.TheVariants as answers
+use Rattle.inlet_row.specs.Taken as takes
+use Rattle.inlet_row.specs.Taken.{Taken, taken_of}
 use Rattle.task_pads.specs.declared.pad.Pad.{Pad}
 use Rattle.task_pads.specs.declared.crossing.Crossing.{Crossing}
 use Rattle.task_pads.specs.declared.crossing.Crossing.TheVariants.{To}
@@ -193,6 +195,10 @@ module _ {I O L : Type 0} (i : inlets.Ghosts I L O) where
     holds = a.holds;
   })
   asked_from head mid head' port t t' taken n r (inr h) = inr (record { past = subst (λ v. length v.items ≤ port) r h.past; number = h.number ∙ n; rows = h.rows ∙ r; table = h.table; empty = h.empty })
+
+  -- where an item went into its place, that is the one that was taken
+  pub asked_item : (head head' : InletHead I) (port : ℕ) (t t' : Option (List Lane)) (into : Option Item) (x : Item) → into ≡ Some x → RowAsked i head head' port t t' (taken_of answers.Item into) → RowAsked i head head' port t t' (takes.Item x)
+  asked_item head head' port t t' into x e h = subst (λ (v : Option Item). RowAsked i head head' port t t' (taken_of answers.Item v)) e h
 
 module _ {S : Type 0} (s : sources.Ghosts S) where
   pub gave_item : (was is : S) (v : Option Item) (x : Item) → v ≡ Some x → ((owed given : List Item) → s.gave was owed given → Gives (s.gave is) owed given v) → (owed given : List Item) → s.gave was owed given → s.gave is owed (given ++ x ∷ [])

@@ -11,8 +11,8 @@ use Rattle.net_model.specs.declared.refusal.Unread.{Unread}
 use Rattle.net_model.specs.Failures.{IsReadCause}
 use Rattle.net_model.specs.Short.{StopsShort}
 use Rattle.inlet_row.specs.declared.row.InletRow.{InletRow}
-use Rattle.inlet_row.specs.declared.feeding.Taken.{Taken}
-use Rattle.inlet_row.specs.declared.feeding.Taken.TheVariants as takes
+use Rattle.inlet_row.specs.Taken.{Taken}
+use Rattle.inlet_row.specs.Taken as takes
 use Rattle.inlet_row.specs.Row.{AreApart, RowBetween, RowGave, RowIn}
 use Rattle.inlet_row.specs.Take.{HoldsAfter, Moves, KeepsLanes, list_after}
 use Rattle.task_pads.specs.declared.pad.Pad.{Pad}

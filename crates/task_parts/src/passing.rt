@@ -1,5 +1,6 @@
 //! What one try of a pad, or of a head, moves.
 ghost use Rattle.std.specs.Prelude.{◌≡◌, ◌≤◌, ◌<◌, true, length, map, vec_len, Some, slice_get, OnOk};
+ghost use Rattle.inlet_row.specs.Taken.{GoesInto, taken_of};
 ghost use Rattle.task_parts.specs.Idle.{part_idle};
 ghost use Rattle.task_parts.specs.Moved.{KeepsFront};
 ghost use Rattle.task_parts.specs.Part.{PartReady, IsSettled};
@@ -18,7 +19,7 @@ use crate::part::Part;
 use crate::step::{Step, Tried};
 use gst_item::Item;
 use gst_value::OutOfMemory;
-use inlet_row::{Taken, UNLINKED};
+use inlet_row::{Answer, UNLINKED};
 use lane_core::{Inlet, Outlet};
 use net_model::{TaskElement, TaskSource};
 use std::alloc::Global;
@@ -184,9 +185,11 @@ pub fn take<E: TaskElement, I: Inlet<Out = O>, O: Outlet<Lanes = I::Lanes>>(
     let Some(port) = parts[to].element().wants() else {
         return Ok(Tried::Idle);
     };
-    match take_row(head, lanes, port) {
-        Taken::Empty(lane) => Ok(Tried::Stuck(Step::NeedsItem(lane))),
-        Taken::Item(item) => {
+    let mut next = None;
+    match take_row(head, lanes, port, &mut next) {
+        Answer::Empty(lane) => Ok(Tried::Stuck(Step::NeedsItem(lane))),
+        Answer::Item => {
+            let Some(item) = next else { unreachable!() };
             let fed = feed_row(alloc, parts, to, port, item);
             lower(parts.as_slice(), from, to);
             fed
@@ -217,17 +220,23 @@ fn feed_row<E: TaskElement, O: Outlet>(
     }
 }
 
-/// The next item of the row of a sink pad, if there is one now.
+/// Takes the next item of the row of a sink pad, if there is one now, and puts it there.
 #[inline(always)]
-fn take_row<I: Inlet>(head: &mut InletHead<I>, lanes: &mut I::Lanes, port: u32) -> Taken
+fn take_row<I: Inlet>(
+    head: &mut InletHead<I>,
+    lanes: &mut I::Lanes,
+    port: u32,
+    into: &mut Option<Item>,
+) -> Answer
     requires ready { InletsReady I.Inlet (I.Out.tells lanes.old) head.old }
-    ensures { RowAsked I.Inlet head.old head.new port (I.Out.tells lanes.old) (I.Out.tells lanes.new) result }
+    ensures asked { RowAsked I.Inlet head.old head.new port (I.Out.tells lanes.old) (I.Out.tells lanes.new) (taken_of result into.new) }
+    ensures into { GoesInto result into.old into.new }
 {
     let port = port as usize;
     if port >= head.rows.len() {
-        return Taken::Empty(UNLINKED);
+        return Answer::Empty(UNLINKED);
     }
-    head.rows[port].take(lanes)
+    head.rows[port].take(lanes, into)
 }
 
 /// An item is given up.
