@@ -22,13 +22,14 @@ ask_help() {
 
 usage() {
 	cat >&2 <<-END
-	usage: $name [--threads on|off] [--order N] [--quiet] WORD...
+	usage: $name [--script FILE] [--threads on|off] [--order N] [--quiet] WORD...
 
 	The WORDs are a launch line as gst-launch-1.0 takes it, for example
 	  $name filesrc location=in.wav ! wavparse ! mulawenc ! wavenc ! filesink location=out.wav
 
 	  --quiet           print the status and a fault, and no counts
 	  --order N         the number from which the order of the tasks' turns is drawn (0 without it)
+	  --script FILE     a script of commands, of which no act can be done yet
 	  --threads on|off  both run by turns on one thread today
 
 	The exit status is the status that is printed, 0 to 15; 125 where there is no program to run. README.md tells the kinds of

@@ -5,5 +5,4 @@ pub mod Fields
 pub mod FieldsAlone
 pub mod Intervals
 pub mod Lines
-pub mod Same
 pub mod Sixteen

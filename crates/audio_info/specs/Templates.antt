@@ -9,7 +9,7 @@ use Rattle.gst_caps.specs.declared.value.Value.{Value}
 use Rattle.gst_caps.specs.declared.value.Value.TheVariants.{One as Single, Many}
 use Rattle.audio_info.specs.Media.{sample_name, raw_samples}
 use Rattle.audio_info.specs.declared.sample.Sample.{Sample}
-use Rattle.audio_info.specs.declared.sample.Sample.TheVariants.{MuLaw, ALaw}
+use Rattle.audio_info.specs.declared.sample.Sample.TheVariants.{U8, S16LE, S24LE, S32LE, MuLaw, ALaw}
 
 -- the whole numbers from 1 to the most
 abbrev pub up_to_most : ℕ → Value
@@ -57,3 +57,11 @@ raw_template = Of (raw_structure raw_formats ∷ [])
 -- the template of raw audio of these formats and of the two laws
 abbrev pub audio_template : Value → Caps
 audio_template formats = Of (raw_structure formats ∷ law_structure (codes "audio/x-mulaw") ∷ law_structure (codes "audio/x-alaw") ∷ [])
+
+-- the formats of raw audio that a WAV file can hold
+abbrev pub wav_samples : List Sample
+wav_samples = U8 ∷ S16LE ∷ S24LE ∷ S32LE ∷ []
+
+-- all that a WAV file can be written of
+abbrev pub wav_template : Caps
+wav_template = audio_template (Many (map format_name wav_samples))

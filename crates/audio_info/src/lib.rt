@@ -2,7 +2,6 @@
 #![tactic(auto)]
 
 pub mod alone;
-pub mod equal;
 mod field;
 pub mod g711;
 pub mod info;
@@ -11,12 +10,11 @@ pub mod sample;
 pub mod templates;
 
 pub use alone::exactly;
-pub use equal::same_caps;
 pub use g711::{alaw_dec, alaw_enc, mulaw_dec, mulaw_enc};
 pub use info::{Info, LARGEST_RATE, MOST_CHANNELS, NotAudio};
 pub use lanes::mulaw_enc_sixteen;
 pub use sample::{Sample, get, put};
 pub use templates::{
     audio_template, format_names, only_structure, raw_audio, raw_formats, raw_template,
-    sample_template,
+    sample_template, wav_template,
 };

@@ -3,7 +3,7 @@ ghost use Rattle.std.specs.Prelude.{◌≡◌, ◌<◌, ◌≤◌, ◌^◌, ◌�
 ghost use Rattle.gst_caps.specs.declared.value.Value.TheVariants.{One as Single};
 ghost use Rattle.gst_value.specs.Names.{fields_with};
 ghost use Rattle.gst_caps.specs.Values.{IsValue};
-ghost use Rattle.audio_info.specs.Templates.{audio_template as audio_template_of, format_name, law_structure as law_structure_of, raw as raw_of, raw_formats as raw_formats_of, raw_structure as raw_structure_of, raw_template as raw_template_of, sample_template as sample_template_of, structure_of, up_to_most};
+ghost use Rattle.audio_info.specs.Templates.{audio_template as audio_template_of, format_name, law_structure as law_structure_of, raw as raw_of, raw_formats as raw_formats_of, raw_structure as raw_structure_of, raw_template as raw_template_of, sample_template as sample_template_of, structure_of, up_to_most, wav_template as wav_template_of};
 
 use crate::info::{LARGEST_RATE, MOST_CHANNELS};
 use crate::sample::{RAW, Sample};
@@ -41,6 +41,17 @@ pub fn audio_template(alloc: Global, formats: Value) -> Result<Caps, OutOfMemory
     structures.push(alloc, mulaw)?;
     structures.push(alloc, alaw)?;
     Ok(Caps::Of(structures))
+}
+
+/// All that a WAV file can be written of: raw audio of the formats that it can hold, and the two laws of G.711.
+pub fn wav_template(alloc: Global) -> Result<Caps, OutOfMemory>
+    ensures { IfOk result (λ made. made ≡ wav_template_of) }
+{
+    let formats = format_names(
+        alloc,
+        &[Sample::U8, Sample::S16LE, Sample::S24LE, Sample::S32LE],
+    )?;
+    audio_template(alloc, Value::Many(formats))
 }
 
 /// The caps of one structure.

@@ -1,5 +1,5 @@
 -- What is printed stands for what was printed: numbers, strings and single values.
-use Rattle.std.proofs.Common.{◌≡◌, ◌≢◌, ℕ, suc, zero, ◌<◌, ◌/◌, ◌^◌, ◌<ℤ◌, ℤ, pos, negsuc, Bool, true, false, cond, eqb, ◌&&◌, ◌||◌, not, List, [], ◌∷◌, ◌++◌, length, Option, Some, None, SomeIff, FitsSigned, unsigned_abs, inl, inr, ◌⊎◌, refl, sym, ap, ◌∙◌, subst, arith, append_assoc, codes, leb-true, le-ltb}
+use Rattle.std.proofs.Common.{◌≡◌, ◌≢◌, ℕ, suc, zero, ◌<◌, ◌/◌, ◌^◌, ◌<ℤ◌, ℤ, pos, negsuc, Bool, true, false, cond, eqb, ◌||◌, not, List, [], ◌∷◌, ◌++◌, length, Option, Some, None, SomeIff, FitsSigned, unsigned_abs, inl, inr, ◌⊎◌, refl, sym, ap, ◌∙◌, subst, arith, append_assoc, codes, leb-true, le-ltb}
 use Rattle.std.specs.Prelude.{int_le}
 use Rattle.std.specs.Bool.{beq}
 use Rattle.std.specs.Fmt.{decimal, signed_decimal}
@@ -27,7 +27,7 @@ use Rattle.caps_text.specs.declared.kind.Kind.{Kind}
 use Rattle.caps_text.specs.declared.kind.Kind.TheVariants.{Int as Whole, Bool as Either, Text as Words, Fraction as Quotients}
 use Rattle.caps_text.proofs.Ratios.{fits_from, fits_to, ratio_found}
 use Rattle.caps_text.proofs.Valid.{parts_when, ratio_kind_is, ratio_single}
-use Rattle.gst_value.proofs.Basics.{and_left, and_right}
+use Rattle.gst_value.proofs.Basics.{and_left, and_right, and_both as and-both}
 
 -- decimal digits
 digit_range : (b : ℕ) → is_digit b ≡ true → IsInRange 48 57 b
@@ -35,10 +35,6 @@ digit_range b h = grind arith
 
 range_digit : (b : ℕ) → IsInRange 48 57 b → is_digit b ≡ true
 range_digit b h = grind arith
-
-and-both : (a b : Bool) → a ≡ true → b ≡ true → (a && b) ≡ true
-and-both true b p q = q
-and-both false b p q = p
 
 digits_test : IsDigitsTest (λ ds. list_all is_digit ds ≡ true)
 digits_test = record {

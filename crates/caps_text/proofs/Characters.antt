@@ -1,30 +1,16 @@
 -- Characters of a text, in quotes and out of them.
-use Rattle.std.proofs.Common.{◌≡◌, ◌≢◌, ℕ, suc, ◌<◌, ◌≤◌, true, false, eqb, List, [], ◌∷◌, ◌++◌, length, get_or, inl, inr, refl, sym, ap, ◌∙◌, subst, arith, append_assoc, append-nil, length-append}
+use Rattle.std.proofs.Common.{◌≡◌, ◌≢◌, ℕ, ◌<◌, true, false, eqb, List, [], ◌∷◌, ◌++◌, length, inl, inr, refl, sym, ap, ◌∙◌, subst, arith, append_assoc, append-nil}
 use Rattle.std.specs.Char.{encode_utf8}
 use Rattle.std.proofs.lemmas.Bool.{cases_lt}
 use Rattle.std.proofs.lemmas.Bool.Decides.{eqb_tells}
-use Rattle.std.proofs.lemmas.Str.{encode_ascii, inside_one, length-encode, len_utf8_bounds}
+use Rattle.std.proofs.lemmas.Str.{encode_ascii}
 use Rattle.caps_text.specs.Printed.{escaped, escaped_byte}
 use Rattle.caps_text.specs.Reading.{read_quoted}
+use Rattle.gst_value.proofs.Characters.{some_bytes, AllHigh, encode_high, high_head, high_tail}
 
 -- a byte that is neither a double quote nor a backslash
 pub plain_escaped : (b : ℕ) → b ≢ 34 → b ≢ 92 → escaped_byte b ≡ b ∷ []
 plain_escaped b p q = elim (eqb_tells b 34) [ inl t ↦ absurd (p t.1) | inr t ↦ elim (eqb_tells b 92) [ inl u ↦ absurd (q u.1) | inr u ↦ rw (t.0, u.0) refl ] ]
-
-abbrev AllHigh : List ℕ → Type 0
-AllHigh xs = (k : ℕ) → k < length xs → 128 ≤ get_or xs k 0
-
-encode_high : (c : ℕ) → 128 ≤ c → AllHigh (encode_utf8 c)
-encode_high c big k below = elim (cases_lt (get_or (encode_utf8 c) k 0) 128) [
-  | inl low ↦ absurd (omega (arith, inside_one c [] (encode_utf8 c) k (sym (append-nil _)) below low, big))
-  | inr h ↦ h
-]
-
-high_tail : (x : ℕ) (xs : List ℕ) → AllHigh (x ∷ xs) → AllHigh xs
-high_tail x xs h k below = h (suc k) (omega (arith, below))
-
-high_head : (x : ℕ) (xs : List ℕ) → AllHigh (x ∷ xs) → 128 ≤ x
-high_head x xs h = h 0 (omega arith)
 
 escaped_high : (xs : List ℕ) → AllHigh xs → escaped xs ≡ xs
 escaped_high [] h = refl
@@ -68,13 +54,7 @@ taken_first : (xs so_far y : List ℕ) → 0 < length xs → ((x : ℕ) (rest : 
 taken_first [] so_far y some h = absurd (omega (arith, some))
 taken_first (x ∷ xs) so_far y some h = quoted_high xs (so_far ++ x ∷ []) y (h x xs refl) ∙ ap (λ l. read_quoted false l y) (append_assoc so_far (x ∷ []) xs)
 
-pub some_bytes : (c : ℕ) → 0 < length (encode_utf8 c)
-some_bytes c = let n = length-encode c in let b = len_utf8_bounds c in omega (arith, n, b.0)
-
 pub quoted_taken : (c d : ℕ) (so_far w x y : List ℕ) → w ≡ encode_utf8 c ++ x → c ≡ 92 → x ≡ encode_utf8 d ++ y → read_quoted false so_far w ≡ read_quoted false (so_far ++ encode_utf8 d) y
 quoted_taken c d so_far w x y e is f =
     let one : encode_utf8 c ≡ 92 ∷ [] = ap encode_utf8 is ∙ encode_ascii 92 (omega arith) in
     rw (e, one, f) (taken_first (encode_utf8 d) so_far y (some_bytes d) (λ z rest g. high_from_second d z rest g))
-
-pub shorter_by : (c : ℕ) (x y : List ℕ) → x ≡ encode_utf8 c ++ y → length y < length x
-shorter_by c x y e = let some = some_bytes c in let n = length-append (encode_utf8 c) y in subst (λ l. length y < length l) (sym e) (omega (arith, some, n))

@@ -17,9 +17,9 @@ use Rattle.caps_text.specs.declared.number.Wanted.{Wanted}
 use Rattle.caps_text.specs.declared.number.Wanted.TheVariants.{AtLeast, Denominator}
 use Rattle.caps_text.proofs.Choices.{reads_iff}
 use Rattle.caps_text.proofs.Readers.{IsReader, Reads_front, Stops, Starts, ok_is, bind_ok, found_ok}
-use Rattle.caps_text.proofs.Tokens.{after_byte_is}
+use Rattle.caps_text.proofs.Tokens.{after_byte_is, fits_small as fits_most}
 use Rattle.caps_text.proofs.Words.{passes}
-use Rattle.gst_value.proofs.Basics.{and_left, and_right}
+use Rattle.gst_value.proofs.Basics.{and_left, and_right, and_both as and-both, or_second as or-right}
 
 -- digits at the front, which write the size
 abbrev pub Digits_read : ℕ → List ℕ → List ℕ → ℕ → Type 0
@@ -60,10 +60,6 @@ some_tens (suc k) = let h = some_tens k in omega (arith, h)
 digit_small : (b : ℕ) → is_digit b ≡ true → b - 48 ≤ 9
 digit_small b h = grind arith
 
-pub and-both : (a b : Bool) → a ≡ true → b ≡ true → (a && b) ≡ true
-and-both true b p q = q
-and-both false b p q = p
-
 size_least : (size : ℕ) (ds : List ℕ) → size * tens (length ds) ≤ size_after size ds
 size_least size [] = omega arith
 size_least size (b ∷ bs) =
@@ -78,10 +74,6 @@ size_most size (b ∷ bs) h =
     let later = size_most (size * 10 + (b - 48)) bs (and_right (is_digit b) (list_all is_digit bs) h) in
     let more : (size * 10 + (b - 48) + 1) * tens (length bs) ≤ (size * 10 + 10) * tens (length bs) = mul-le-mul_right (tens (length bs)) (omega (arith, small)) in
     omega (arith, later, more)
-
-or-right : (a b : Bool) → b ≡ true → (a || b) ≡ true
-or-right true b h = refl
-or-right false b h = h
 
 any_at : (p : ℕ → Bool) (xs : List ℕ) (i : ℕ) → i < length xs → p (get_or xs i 0) ≡ true → list_any p xs ≡ true
 any_at p [] i less h = absurd (omega (arith, less))
@@ -160,10 +152,6 @@ wanted_parts w negative size n h = step (fits negative size) (is_wanted w (signe
 wanted_whole : (w : Wanted) (negative : Bool) (size : ℕ) → fits negative size ≡ true → is_wanted w (signed negative size) ≡ true → wanted_number w negative size ≡ Some (signed negative size)
 unfolding wanted_number
 wanted_whole w negative size f g = ap (λ t. cond {A = Option ℤ} t (Some (signed negative size)) None) (and-both (fits negative size) (is_wanted w (signed negative size)) f g)
-
-fits_most : (negative : Bool) (size : ℕ) → fits negative size ≡ true → size ≤ 2147483648
-fits_most true size h = leb-true size 2147483648 h
-fits_most false size h = let a = leb-true size 2147483647 h in omega (arith, a)
 
 -- where more digits make a number that is wanted, the size can begin it
 viable : (w : Wanted) (negative : Bool) (size : ℕ) (ds : List ℕ) → list_all is_digit ds ≡ true → fits negative (size_after size ds) ≡ true → is_wanted w (signed negative (size_after size ds)) ≡ true → can_begin w negative size ≡ true

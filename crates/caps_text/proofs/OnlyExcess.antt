@@ -1,7 +1,7 @@
 -- That there are too many of a kind is told only where there are.
 use Rattle.std.proofs.Common.{◌≡◌, ℕ, zero, suc, ◌<◌, ◌≤◌, ◌+◌, Bool, true, false, cond, eqb, List, [], ◌∷◌, ◌++◌, length, Option, Some, None, Result, Ok, Err, inl, inr, ◌⊎◌, refl, sym, ap, ◌∙◌, subst, arith, append_assoc, append-nil, codes}
 use Rattle.std.specs.Prelude.{is_some, nat_lt}
-use Rattle.std.proofs.lemmas.Bool.{eqb-true, ltb-true}
+use Rattle.std.proofs.lemmas.Bool.{ltb-true}
 use Rattle.gst_caps.specs.Accepts.{value_at}
 use Rattle.gst_caps.specs.Common.{as_value}
 use Rattle.gst_value.specs.Description.{Description}
@@ -31,12 +31,13 @@ use Rattle.caps_text.proofs.Readers.{Reads_front, Stops, nothing}
 use Rattle.caps_text.proofs.Repeats.{repeat_again, repeat_done, repeat_refused, shorter}
 use Rattle.caps_text.proofs.Strings.{reads_kind}
 use Rattle.caps_text.proofs.Tokens.{after_byte_is}
-use Rattle.caps_text.proofs.Values.{reads_member}
+use Rattle.caps_text.proofs.Values.{reads_member, no_length}
 use Rattle.caps_text.proofs.Viable.{IsSound, stopped}
 use Rattle.caps_text.proofs.ViableValues.{wider_step}
-use Rattle.caps_text.proofs.ViableWhole.{wider_caps, wider_value}
-use Rattle.caps_text.proofs.Whole.{Outcome, all_bytes, caps_is_step, lacks_none, marked, reads_head, reads_whole_value, value_ended}
+use Rattle.caps_text.proofs.ViableWhole.{wider_caps, wider_value, ending as finished}
+use Rattle.caps_text.proofs.Whole.{Outcome, all_bytes, caps_is_step, marked, reads_head, reads_whole_value, value_ended}
 use Rattle.caps_text.proofs.Words.{reads_byte, reads_mark, reads_name, reads_spaces, skipping}
+use Rattle.caps_text.proofs.Local.{lacks_none}
 
 -- a front with too many, which ends a word
 abbrev Reaches : {W : Type 0} → (List ℕ → W → Type 0) → List ℕ → Type 0
@@ -294,13 +295,6 @@ more_many made x h = go (after_byte 44 (behind_spaces x)) refl h
     go : (o : Option (List ℕ)) → after_byte 44 (behind_spaces x) ≡ o → more_from made (behind_spaces x) o ≡ Err many → Part_here made x
     go (Some y) e k = field y (after_byte_is 44 (behind_spaces x) y e) (bind_many (read_field made.1 (behind_spaces y)) (λ s. Ok (again (made.0, s.0), s.1)) k)
     go None e k = semicolon (bind_many (expect 59 (behind_spaces x)) (λ m. finishing made m.1) k)
-
-no_length : (xs : List ℕ) → eqb (length xs) 0 ≡ true → xs ≡ []
-no_length [] h = refl
-no_length (x ∷ xs) h = absurd (let e = eqb-true (suc (length xs)) 0 h in omega (arith, e))
-
-abbrev finished : List (Description Value) → Outcome
-finished all = done all
 
 caps_many : (made : Made) (x : List ℕ) → caps_step made x ≡ Err many → Part_here made x
 unfolding caps_step

@@ -18,11 +18,7 @@ use Rattle.caps_text.proofs.LooseWhole.{loose_structures}
 use Rattle.caps_text.proofs.Parsing.{err_not_ok, read_any, read_empty}
 use Rattle.caps_text.proofs.Viable.{stopped}
 use Rattle.caps_text.proofs.ViableWhole.{viable_structures}
-
--- the front of a text, taken and put back
-taken : (front rest : List ℕ) → take (length front) (front ++ rest) ≡ front
-taken [] rest = refl
-taken (b ∷ bs) rest = ap (λ l. b ∷ l) (taken bs rest)
+use Rattle.gst_value.proofs.Places.{take_front as taken}
 
 -- a beginning that is longer goes on with the next byte
 longer : (front rest : List ℕ) (n : ℕ) → length front < n → n ≤ length (front ++ rest) → (b : ℕ) × (bs y : List ℕ) × (rest ≡ b ∷ bs) × (take n (front ++ rest) ≡ front ++ b ∷ y)

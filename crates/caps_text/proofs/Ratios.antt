@@ -12,6 +12,7 @@ use Rattle.gst_value.specs.Values.{IsSingle}
 use Rattle.gst_value.specs.declared.one.One.{One}
 use Rattle.gst_value.specs.declared.one.One.TheVariants.{Fraction}
 use Rattle.caps_text.specs.Ratio.{divisor_in, divisor, fits, ratio}
+use Rattle.gst_value.proofs.Basics.{and_both as both-true}
 
 IsGcd-divisor_in : (n a b : ℕ) → b < n → IsGcd a b (divisor_in n a b)
 IsGcd-divisor_in zero a b h = absurd (omega (arith, h))
@@ -34,10 +35,6 @@ fits_to false n h = le-leb n 2147483647 (omega (arith, ints, h))
 -- whether the two have different signs
 abbrev differ : ℤ → ℤ → Bool
 differ num den = not (beq (is_negative num) (is_negative den))
-
-both-true : (a b : Bool) → a ≡ true → b ≡ true → (a && b) ≡ true
-both-true true b p q = q
-both-true false b p q = p
 
 not_both : (a b : Bool) → (a ≡ true → b ≡ true → ⊥) → (a && b) ≡ false
 not_both true true h = absurd (h refl refl)

@@ -95,11 +95,11 @@ small_reach (p ∷ ps) size least h = step (nat_le size (2147483647 / p)) refl (
     step true e ih = let a = leb-true size (2147483647 / p) e in let b = div-le_self 2147483647 p in omega (arith, a, b)
     step false e ih = ih (rw e at h)
 
-fits_small : (negative : Bool) (size : ℕ) → fits negative size ≡ true → size ≤ 2147483648
+pub fits_small : (negative : Bool) (size : ℕ) → fits negative size ≡ true → size ≤ 2147483648
 fits_small true size h = leb-true size 2147483648 h
 fits_small false size h = let a = leb-true size 2147483647 h in omega (arith, a)
 
-or_cases : (a b : Bool) (P : Type 0) → (a ≡ true → P) → (b ≡ true → P) → (a || b) ≡ true → P
+pub or_cases : (a b : Bool) (P : Type 0) → (a ≡ true → P) → (b ≡ true → P) → (a || b) ≡ true → P
 or_cases true b P f g h = f refl
 or_cases false b P f g h = g h
 

@@ -21,7 +21,7 @@ use Rattle.caps_text.proofs.Numbers.{reads_number, reads_any_number, number_star
 use Rattle.caps_text.proofs.Readers.{IsReader, Stops, Starts, nothing, ok_is, reads_then, reads_as, reads_sure, reads_weaker, reads_any, stops_nothing, starts_stop, starts_more}
 use Rattle.caps_text.proofs.Strings.{To_quote, reads_to_quote, reads_string, reads_truth, word_apart}
 use Rattle.caps_text.proofs.Words.{reads_byte, reads_mark, reads_run, reads_spaces, skipping, starts_is, starts_mark, starts_spaces}
-use Rattle.gst_value.proofs.Basics.{and_left}
+use Rattle.gst_value.proofs.Basics.{and_left, neither as not_or}
 
 abbrev pub any_read : List ℕ → Answer ℤ
 any_read = read_number (AtLeast least_number)
@@ -53,7 +53,7 @@ pub reads_fraction : IsReader Quotient is_digit read_fraction
 reads_fraction = reads_iff Judged Quotient is_digit read_fraction judged_to judged_from reads_judged
 
 -- a value of a whole text
-no_length : (xs : List ℕ) → eqb (length xs) 0 ≡ true → xs ≡ []
+pub no_length : (xs : List ℕ) → eqb (length xs) 0 ≡ true → xs ≡ []
 no_length [] h = refl
 no_length (x ∷ xs) h = absurd (let e = eqb-true (suc (length xs)) 0 h in omega (arith, e))
 
@@ -152,11 +152,6 @@ reads_untyped = reads_iff (λ text one. Behind 34 (As Text To_quote) text one �
       | inr q ↦ inl (q.1.0 ++ 34 ∷ [], q.1.1, (q.0, (q.1.0, refl, q.1.2), q.2))
     ])
     reads_untyped_parts
-
--- a byte that stands in no word is no digit
-not_or : (a b : Bool) → (a || b) ≡ false → (a ≡ false) × (b ≡ false)
-not_or true b h = absurd (cc)
-not_or false b h = (refl, h)
 
 no_digit : (b : ℕ) → in_class Word b ≡ false → is_digit b ≡ false
 no_digit b h = (not_or (is_letter b) (is_digit b) (not_or (is_letter b || is_digit b) (is_sign Word b) h).0).1

@@ -13,6 +13,7 @@ use Rattle.caps_text.proofs.Repeats.{IsStep, repeat_again, repeat_done, repeat_r
 use Rattle.caps_text.proofs.Strings.{To_quote}
 use Rattle.caps_text.proofs.Tokens.{after_byte_is}
 use Rattle.caps_text.proofs.Words.{reads_byte, reads_run, reads_spaces, run_splits, skipping}
+use Rattle.caps_text.proofs.Values.{no_length}
 
 -- the front before the rest begins a text
 abbrev pub Begins : {V : Type 0} → (List ℕ → V → Type 0) → List ℕ → List ℕ → Type 0
@@ -133,10 +134,6 @@ a_byte Word = refl
 
 pub fill_run : (class : Class) → Filled (Run class)
 fill_run class = (97 ∷ [], 97 ∷ [], (refl, omega arith, ap (λ t. t && true) (a_byte class)))
-
-no_length : (xs : List ℕ) → eqb (length xs) 0 ≡ true → xs ≡ []
-no_length [] h = refl
-no_length (x ∷ xs) h = absurd (let e = eqb-true (suc (length xs)) 0 h in omega (arith, e))
 
 pub viable_run : (class : Class) → IsViable (Run class) (some_run class)
 unfolding some_run

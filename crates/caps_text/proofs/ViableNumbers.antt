@@ -6,14 +6,13 @@ use Rattle.std.specs.Int.{IsGcd, is_negative}
 use Rattle.std.specs.List.{list_all, list_any}
 use Rattle.std.proofs.Math.Nat.{div-le_self, div-mul-le_self, le-div_iff_mul-le, mod-lt, mul-div-le, mul-le-mul_right, pos_of_dvd_of_pos}
 use Rattle.std.proofs.lemmas.Bool.{cases_lt, ne_eqb}
-use Rattle.std.proofs.lemmas.Int.{ints}
 use Rattle.std.proofs.lemmas.List.Folds.{list_all-append}
 use Rattle.std.proofs.lemmas.Nat.{div-add-mod'}
 use Rattle.std.proofs.lemmas.Nat.Gcd.{dvd_of_mod-eq-zero, le_of_dvd}
 use Rattle.gst_value.specs.Fractions.{signed}
 use Rattle.gst_value.specs.declared.one.One.{One}
 use Rattle.gst_value.specs.declared.one.One.TheVariants.{Fraction}
-use Rattle.caps_text.specs.Answers.{Answer, Stop, misspelt, ◌>>=◌, found}
+use Rattle.caps_text.specs.Answers.{Answer, misspelt, ◌>>=◌, found}
 use Rattle.caps_text.specs.Bytes.{is_digit}
 use Rattle.caps_text.specs.Grammar.{Wanted_number, size_after}
 use Rattle.caps_text.specs.Ratio.{divisor, fits, parts, ratio, ratio_of}
@@ -21,10 +20,13 @@ use Rattle.caps_text.specs.Reading.{after_byte, behind_minus, can_begin, is_want
 use Rattle.caps_text.specs.declared.number.Wanted.{Wanted}
 use Rattle.caps_text.specs.declared.number.Wanted.TheVariants.{AtLeast, Denominator}
 use Rattle.caps_text.proofs.Local.{read_is, refused_is, rest_is}
-use Rattle.caps_text.proofs.Numbers.{and-both, some_tens, tens, tens_at, wanted_parts}
+use Rattle.caps_text.proofs.Numbers.{some_tens, tens, tens_at, wanted_parts}
 use Rattle.caps_text.proofs.Ratios.{IsGcd-divisor}
-use Rattle.caps_text.proofs.Tokens.{after_byte_is}
+use Rattle.caps_text.proofs.Tokens.{after_byte_is, or_cases as some_or}
 use Rattle.gst_value.proofs.Basics.{and_left, and_right}
+use Rattle.caps_text.proofs.Viable.{stopped as refused_stop}
+use Rattle.gst_value.proofs.Basics.{and_both as and-both}
+use Rattle.gst_value.proofs.Fractions.{size_of_signed as abs_signed}
 
 -- some numbers are wanted
 abbrev pub Possible : Wanted → Type 0
@@ -96,11 +98,6 @@ reached size k least top h =
         let is = pad_size k size r less in
         (pad k r, (pad_digits k r less, ap (fits false) is ∙ le-leb (size * tens k + r) 2147483647 fit, ap (λ n. int_le least (pos n)) is ∙ wanted))
 
--- a fraction whose denominator is even and small
-abs_signed : (negative : Bool) (n : ℕ) → unsigned_abs (signed negative n) ≡ n
-abs_signed true n = omega (arith, ints)
-abs_signed false n = refl
-
 both_fit : (s : Bool) (a b g : ℕ) → IsGcd a b g → a ≤ 2147483648 → b % 2 ≡ 0 → 0 < b → b ≤ 2147483647 → is_some (parts s (a / g) (b / g)) ≡ true
 both_fit s a b g h wide even some small =
     let lower = div-le_self b g in
@@ -141,10 +138,6 @@ even_ratio num negative b h even some small =
         ap (λ n. is_some (ratio_of s x n (divisor x n))) e
         ∙ ap (λ t. is_some (cond {A = Option One} t None (parts s (x / divisor x b) (b / divisor x b)))) (ne_eqb b 0 (λ z. omega (arith, z, some)))
         ∙ both_fit s x b (divisor x b) (IsGcd-divisor x b) wide even some small
-
-some_or : (a b : Bool) (P : Type 0) → (a ≡ true → P) → (b ≡ true → P) → (a || b) ≡ true → P
-some_or true b P f g h = f refl
-some_or false b P f g h = g h
 
 even_ten : (size : ℕ) → (size * 10 + 2) % 2 ≡ 0
 even_ten size = omega arith
@@ -192,9 +185,6 @@ Sized_on w negative y rest = (front more : List ℕ) × (y ≡ front ++ rest) ×
 
 at_start : (w : Wanted) (negative : Bool) (y rest ds : List ℕ) → 0 < length ds → Completes w negative 0 ds → misspelt y ≡ misspelt rest → Sized_on w negative y rest
 at_start w negative y rest ds some c e = ([], ds, rest_is y rest e, some, c)
-
-refused_stop : {V : Type 0} (d e : Stop) → ◌≡◌ {A = Answer V} (Err d) (Err e) → d ≡ e
-refused_stop d e h = cc
 
 size_on : (w : Wanted) (negative : Bool) (y rest ds : List ℕ) → Possible w → 0 < length ds → Completes w negative 0 ds → read_size w (negative, y) ≡ Err (misspelt rest) → Sized_on w negative y rest
 unfolding read_size

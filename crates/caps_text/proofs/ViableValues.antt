@@ -23,14 +23,14 @@ use Rattle.caps_text.proofs.Ended.{ended, member_ended}
 use Rattle.caps_text.proofs.Listed.{Only, from_typed, list_is_step, over_limit, step_to, value_split}
 use Rattle.caps_text.proofs.Local.{rest_is}
 use Rattle.caps_text.proofs.LooseListed.{Any_members, Any_tail, In_any_step, More_members, Typed_any}
-use Rattle.caps_text.proofs.Numbers.{and-both, reads_any_number, reads_number}
+use Rattle.caps_text.proofs.Numbers.{reads_any_number, reads_number}
 use Rattle.caps_text.proofs.Readers.{Reads_front, nothing}
 use Rattle.caps_text.proofs.Strings.{To_quote, reads_kind}
 use Rattle.caps_text.proofs.Values.{Range_end, Range_high, Range_tail, any_read, reads_member}
 use Rattle.caps_text.proofs.Viable.{Begins, Filled, IsSound, IsViable, fill_mark, stopped, viable_as, viable_behind, viable_byte, viable_choice, viable_cond, viable_if, viable_literal, viable_mark, viable_never, viable_quoted, viable_repeat, viable_run, viable_same, viable_then, viable_within}
 use Rattle.caps_text.proofs.ViableNumbers.{Possible, even_ratio, number_on}
 use Rattle.caps_text.proofs.Words.{reads_byte, reads_mark, reads_run}
-use Rattle.gst_value.proofs.Basics.{and_left, and_right}
+use Rattle.gst_value.proofs.Basics.{and_left, and_right, and_both as and-both}
 
 pub fill_then : {V W : Type 0} (P : List ℕ → V → Type 0) (Q : V → List ℕ → W → Type 0) → Filled P → ((used : List ℕ) (v : V) → P used v → Filled (Q v)) → Filled (Then P Q)
 fill_then P Q one two = let t = two one.0 one.1 one.2 in (one.0 ++ t.0, t.1, (one.0, t.0, one.1, refl, one.2, t.2))

@@ -16,15 +16,15 @@ use Rattle.caps_text.specs.Reading.{Made, Next, again, done, after_byte, bare, b
 use Rattle.caps_text.specs.declared.class.Class.TheVariants.{Name}
 use Rattle.caps_text.specs.declared.kind.Kind.{Kind}
 use Rattle.caps_text.proofs.Listed.{reads_value}
-use Rattle.caps_text.proofs.Local.{rest_is}
+use Rattle.caps_text.proofs.Local.{rest_is, lacks_none}
 use Rattle.caps_text.proofs.LocalReaders.{finishing, starting}
 use Rattle.caps_text.proofs.LooseWhole.{Any_fields, Any_structure, Any_structures, In_any_more, Set_any, naming, setting}
-use Rattle.caps_text.proofs.Numbers.{and-both}
 use Rattle.caps_text.proofs.Readers.{Reads_front}
 use Rattle.caps_text.proofs.Viable.{Begins, Filled, IsSound, IsViable, fill_mark, fill_media, stopped, viable_as, viable_behind, viable_byte, viable_choice, viable_cond, viable_if, viable_mark, viable_media, viable_repeat, viable_then, viable_within}
 use Rattle.caps_text.proofs.ViableValues.{fill_then, fill_value, viable_ended, viable_value, wider_step}
-use Rattle.caps_text.proofs.Whole.{Outcome, all_bytes, caps_is_step, lacks_none, marked, one_field, one_structure, reads_head, too_many, value_ended}
+use Rattle.caps_text.proofs.Whole.{Outcome, all_bytes, caps_is_step, marked, one_field, one_structure, reads_head, too_many, value_ended}
 use Rattle.caps_text.proofs.Words.{reads_byte, reads_mark, reads_name}
+use Rattle.gst_value.proofs.Basics.{and_both as and-both}
 
 -- what stands within the limit stands without it
 wider_repeated : {S V : Type 0} (P Q : S → List ℕ → Next S V → Type 0) → ((s : S) (text : List ℕ) (n : Next S V) → P s text n → Q s text n) → (s : S) (text : List ℕ) (v : V) → Repeated P s text v → Repeated Q s text v
@@ -191,7 +191,7 @@ viable_more made = viable_if (Then Spaces (λ s. In_any_more made)) (Caps_step_t
     (viable_if (Any_structures made) (In_any_more made) (λ x. expect 59 x >>= λ m. finishing made m.1) (λ text n p. (n, inr p)) (viable_structures_more made)) (λ x y. refl) (λ x. refl))
     (let f = fill_one made in (59 ∷ f.0, f.1, inr (59 ∷ [], f.0, tt, refl, refl, ([], f.0, tt, refl, refl, f.2)))))
 
-abbrev ending : List (Description Value) → Outcome
+abbrev pub ending : List (Description Value) → Outcome
 ending all = done all
 
 viable_end : (made : Made) → IsViable {V = Outcome} (Caps_step_to None made) (λ x. few_structures made x >>= λ all. Ok (done all.0, all.1))

@@ -1,8 +1,8 @@
 -- Readers of fields, structures and whole texts.
-use Rattle.std.proofs.Common.{◌≡◌, ℕ, suc, ◌<◌, ◌≤◌, Bool, true, false, cond, eqb, ◌||◌, ◌&&◌, List, [], ◌∷◌, ◌++◌, length, Option, Some, None, Ok, Err, inl, inr, ◌⊎◌, refl, sym, ap, ◌∙◌, subst, arith, append_assoc, length-append, ltb-false, le-ltb}
+use Rattle.std.proofs.Common.{◌≡◌, ℕ, ◌<◌, ◌≤◌, Bool, true, false, cond, eqb, ◌&&◌, List, [], ◌∷◌, ◌++◌, length, Option, None, Ok, Err, inl, inr, ◌⊎◌, refl, sym, ap, ◌∙◌, subst, arith, append_assoc, length-append, ltb-false, le-ltb}
 use Rattle.std.specs.Prelude.{is_some, nat_lt}
 use Rattle.std.specs.List.{list_all}
-use Rattle.std.proofs.lemmas.Bool.{eqb-true, ne_eqb}
+use Rattle.std.proofs.lemmas.Bool.{ne_eqb}
 use Rattle.gst_caps.specs.Accepts.{value_at}
 use Rattle.gst_value.specs.Description.{Description}
 use Rattle.gst_caps.specs.declared.value.Value.{Value}
@@ -17,6 +17,8 @@ use Rattle.caps_text.proofs.Listed.{bind_cond, reads_same, reads_value, value_op
 use Rattle.caps_text.proofs.Readers.{IsReader, Reads_front, Stops, Starts, nothing, ok_is, reads_then, reads_as, reads_weaker, stops_nothing, starts_stop, starts_more}
 use Rattle.caps_text.proofs.Repeats.{Within, IsStep, reads_within, reads_repeat}
 use Rattle.caps_text.proofs.Words.{reads_byte, reads_mark, reads_media, reads_name, reads_spaces, skipping, starts_is, starts_mark}
+use Rattle.caps_text.proofs.Local.{lacks_none}
+use Rattle.caps_text.proofs.Values.{no_length}
 
 -- a part that is read unless something forbids it
 module _ {V : Type 0} (P : List ℕ → V → Type 0) (test : ℕ → Bool) (r : List ℕ → Answer V) (first : IsReader P test r) (b : Bool) (e : List ℕ → Stop) where
@@ -35,10 +37,6 @@ module _ {V : Type 0} (P : List ℕ → V → Type 0) (test : ℕ → Bool) (r :
 
 pub none_lacks : {V : Type 0} (o : Option V) → o ≡ None → is_some o ≡ false
 none_lacks o h = ap is_some h
-
-pub lacks_none : {V : Type 0} (o : Option V) → is_some o ≡ false → o ≡ None
-lacks_none None h = refl
-lacks_none (Some v) h = absurd (cc)
 
 pub value_ended : (x : List ℕ) → read_whole_value x ≡ (read_value x >>= λ a. ended a.0 a.1)
 unfolding read_whole_value
@@ -64,10 +62,6 @@ reads_rest s name = reads_iff (λ text w. (is_some (value_at name s.fields) ≡ 
     (λ text w h. let t = h.1 in let v = t.5 in (lacks_none (value_at name s.fields) h.0, (t.0, t.1, t.2, t.3, t.4, (v.0, v.1, v.3)), subst (λ d. length d.fields ≤ 64) (sym v.3) (ltb-false 64 (length (with_field s name v.0).fields) v.2)))
     (λ text w h. let t = h.1 in let v = t.5 in (none_lacks (value_at name s.fields) h.0, (t.0, t.1, t.2, t.3, t.4, (v.0, v.1, le-ltb 64 (length (with_field s name v.0).fields) (subst (λ d. length d.fields ≤ 64) v.2 h.2), v.2))))
     (reads_guarded (Set_field s name) (in_class Word) _ (reads_set s name) (is_some (value_at name s.fields)) misspelt)
-
-pub not_or : (a b : Bool) → (a || b) ≡ false → (a ≡ false) × (b ≡ false)
-not_or true b h = absurd (cc)
-not_or false b h = (refl, h)
 
 pub reads_field : (s : Description Value) → IsReader (Field s) (in_class Word) (read_field s)
 unfolding read_field
@@ -210,10 +204,6 @@ reads_goes_on made = reads_iff (Then Spaces (λ s. In_more made)) (Goes_on made)
 -- the end of the text, and the end of all
 abbrev pub all_bytes : ℕ → Bool
 all_bytes b = true
-
-no_length : (xs : List ℕ) → eqb (length xs) 0 ≡ true → xs ≡ []
-no_length [] h = refl
-no_length (x ∷ xs) h = absurd (let e = eqb-true (suc (length xs)) 0 h in omega (arith, e))
 
 last_few : (made : Made) (x rest : List ℕ) (n : Outcome) (t : Bool) → nat_lt 63 (length made.0) ≡ t → (cond {A = Answer (List (Description Value))} t (Err many) (Ok (made.0 ++ made.1 ∷ [], x)) >>= λ all. Ok (done all.0, all.1)) ≡ Ok (n, rest) → (length made.0 ≤ 63) × (n ≡ done (made.0 ++ made.1 ∷ [])) × (x ≡ rest)
 last_few made x rest n true e h = absurd (cc)

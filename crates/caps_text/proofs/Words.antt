@@ -52,9 +52,6 @@ spaces_gone (b ∷ bs) rest h stop = step (eqb b 32) refl (spaces_gone bs rest)
     step true e ih = rw e (ih (rw e at h) stop)
     step false e ih = absurd (let bad : false ≡ true = rw e at h in cc)
 
-pub skip : List ℕ → Answer (Unit {0})
-skip x = Ok (tt, behind_spaces x)
-
 abbrev pub skipping : List ℕ → Answer (Unit {0})
 skipping x = Ok (tt, behind_spaces x)
 

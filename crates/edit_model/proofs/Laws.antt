@@ -1,5 +1,5 @@
 -- The laws hold: plans are the same by what they compute to.
-use Rattle.std.proofs.Common.{◌≡◌, ◌⊎◌, ℕ, Bool, true, false, eqb, ◌-◌, ◌≤◌, ◌||◌, if◌then◌else◌, List, [], ◌++◌, drop, length, refl, sym, ap, ◌∙◌, inl, inr, arith}
+use Rattle.std.proofs.Common.{◌≡◌, ◌⊎◌, ℕ, Bool, true, false, eqb, ◌-◌, ◌≤◌, ◌||◌, List, [], ◌++◌, drop, length, refl, sym, ap, ◌∙◌, inl, inr, arith}
 use Rattle.std.specs.Prelude.{nat_lt, slice_get}
 use Rattle.std.specs.List.{list_any}
 use Rattle.std.proofs.lemmas.Bool.Decides.{eqb_tells, nat_tests}
@@ -15,14 +15,11 @@ use Rattle.graph_pads.specs.declared.pad.PadLink.{PadLink}
 use Rattle.edit_model.specs.Edited.{touches, unedited}
 use Rattle.edit_model.specs.Laws.{ActsAreEdits, NothingDone, RelinkSplits}
 use Rattle.edit_model.specs.Plans.{edited_plan, edited_rule}
+use Rattle.gst_value.proofs.Basics.{if_same as same_branches}
 
 pub acts_are_edits : ActsAreEdits
 unfolding edited_plan
 acts_are_edits = record { undoing = λ contents forward count g source place eos. refl; linking = λ contents forward count g source sink place. refl }
-
-same_branches : {A : Type 0} (b : Bool) (x : A) → (if b then x else x) ≡ x
-same_branches true x = refl
-same_branches false x = refl
 
 -- a number is below another, or not below it
 below_or_not : (a b : ℕ) → (nat_lt a b ≡ true) ⊎ ((nat_lt a b ≡ false) × (b ≤ a))

@@ -3,7 +3,7 @@ use Rattle.std.specs.Prelude.{◌≡◌, ◌≢◌, ◌⊎◌, ◌||◌, ℕ, Bo
 use Rattle.flow_model.specs.Item.{Item}
 use Rattle.flow_model.specs.Call.{items}
 use Rattle.flow_model.specs.Link.{Span, Linked, WasLinked, Flushed, Given, span_calls}
-use Rattle.pad_core.specs.Crossing.{has_ended, has_item}
+use Rattle.pad_core.specs.Crossing.{has_ended}
 use Rattle.el_settings.specs.Asked.{is_queue, is_source, makes_sinks}
 use Rattle.graph_core.specs.Elements.{has}
 use Rattle.graph_core.specs.GraphPlan.{owner_of}
@@ -12,6 +12,7 @@ use Rattle.graph_pads.specs.Links.{sink_behind, source_before}
 use Rattle.graph_pads.specs.declared.pad.PadPlace.{PadPlace}
 use Rattle.edit_model.specs.Edited.{Edited, spans_at}
 use Rattle.edit_model.specs.Plans.{items_at}
+use Rattle.gst_item.specs.Item.{has_item}
 
 -- ---- tasks
 

@@ -13,6 +13,7 @@ use Rattle.flow_model.proofs.Counted.{counted_taken, counted_behind, counted_flu
 use Rattle.flow_model.proofs.Calls.{items_push, items_act, eos_taken, eos_stays, eos_flushed, eos_act}
 use Rattle.el_basic.specs.declared.tee.Tee.{Tee}
 use Rattle.el_basic.specs.Spread.{Spread, is_gap, AreUpTo, joined_behind, pad_list, on_pads}
+use Rattle.flow_model.proofs.Items.{stop_no_eos as flush_is_no_eos}
 
 -- what counts of a beginning is no longer than what counts of the whole
 counted_take : (ended : Bool) (n : ℕ) (xs : List Item) → length (counted_after ended (take n xs)) ≤ length (counted_after ended xs)
@@ -170,16 +171,6 @@ gap_kept (Err fault) event s e = tt
 -- what passes owes is what counts
 abbrev Counts : List Call → Type 0
 Counts calls = (s : Fed) → (all_called passes s calls).out ≡ s.out ++ counted_after s.over (items calls)
-
-flush_is_no_eos : (x : Item) → is_flush_stop x ≡ true → is_eos x ≡ false
-flush_is_no_eos (Buf b) e = refl
-flush_is_no_eos (Ev (StreamStart id)) e = refl
-flush_is_no_eos (Ev (NewCaps caps)) e = refl
-flush_is_no_eos (Ev (NewSegment segment)) e = refl
-flush_is_no_eos (Ev (Tag title)) e = refl
-flush_is_no_eos (Ev (Gap pts duration)) e = refl
-flush_is_no_eos (Ev (FlushStop number)) e = refl
-flush_is_no_eos (Ev Eos) e = cc
 
 drain_counts : (calls : List Call) → Counts calls → Counts (Act Drain ∷ calls)
 drain_counts calls more s = go s.given s.out s.over

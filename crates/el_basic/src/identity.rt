@@ -6,7 +6,7 @@ ghost use Rattle.flow_model.specs.Rule.{passes};
 ghost use Rattle.flow_model.specs.Feeding.{flow_behind, passed, on_pad, next_owed, IsFaultOf};
 ghost use Rattle.el_basic.specs.Passed.{Passed, has_ended};
 
-use flow_model::{ElementFault, is_end, put_out};
+use flow_model::{ElementFault, put_out};
 use gst_item::{Flow, Item, Outs};
 use gst_value::OutOfMemory;
 use std::alloc::Global;
@@ -49,7 +49,7 @@ impl Identity {
         if self.ended {
             return Ok(Flow::Eos);
         }
-        let ends = is_end(&item);
+        let ends = item.is_eos();
         put_out(alloc, item, out)?;
         self.ended = ends;
         Ok(Flow::Ok)

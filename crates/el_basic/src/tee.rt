@@ -9,7 +9,7 @@ ghost use Rattle.flow_model.specs.Rule.{owed_for, only, passes, single};
 ghost use Rattle.flow_model.specs.Feeding.{flow_behind, passed, on_pad};
 ghost use Rattle.el_basic.specs.Spread.{Spread, has_ended, is_gap, pad_count, pad_list, on_pads};
 
-use flow_model::{ElementFault, is_end};
+use flow_model::ElementFault;
 use gst_item::{Event, Flow, Item, Out, Outs, Sticky};
 use gst_value::OutOfMemory;
 use std::alloc::Global;
@@ -61,7 +61,7 @@ impl Tee {
         if self.ended {
             return Ok(Flow::Eos);
         }
-        let ends = is_end(&item);
+        let ends = item.is_eos();
         self.pass(alloc, item, out)?;
         self.ended = ends;
         Ok(Flow::Ok)

@@ -16,7 +16,7 @@ use Rattle.el_convert.specs.Converts.{Known, convert_answer, whole_frames, frame
 use Rattle.flow_model.specs.Owed.{answered}
 use Rattle.el_convert.specs.Converted.{knows, Stays, Changes}
 use Rattle.el_convert.proofs.Converting.{knowing, same_known}
-use Rattle.audio_info.proofs.Same.{caps_decide}
+use Rattle.gst_caps.proofs.Same.{caps_decide}
 use Rattle.gst_value.proofs.Basics.{and_left, and_right}
 
 -- the answer, by the stream and the choice
@@ -90,11 +90,6 @@ fault_changing element other b fault p h =
     subst (λ (r : Result (List Item) Fault). IsFaultOf r fault) (sym (answer_is element p.stream other.chosen b p.is p.chosen))
     (subst (λ (o : Description One). IsFaultOf (whole_frames (frame_width o) element.got b owed) fault) p.same_stream (h owed))
 
--- a fault that is handed on
-pub handed_on : {T E : Type 0} (r : Result T E) (x : E) (P : E → Type 0) → IsErrAnd r (λ fault. fault ≡ x) → P x → IfErr r P
-handed_on (Ok y) x P h k = tt
-handed_on (Err e) x P h k = subst P (sym h) k
-
 pub if_err : {T E : Type 0} (r : Result T E) (P Q : E → Type 0) → ((e : E) → P e → Q e) → IsErrAnd r P → IfErr r Q
 if_err (Ok y) P Q f h = tt
 if_err (Err e) P Q f h = f e h
@@ -107,10 +102,6 @@ on_no_value (Err e) P Q h = tt
 pub if_no_value : {T E : Type 0} (r : Result T E) (P : E → Type 0) (Q : T → Type 0) → IsErrAnd r P → IfOk r Q
 if_no_value (Ok y) P Q h = absurd (h)
 if_no_value (Err e) P Q h = tt
-
-pub weaken_err : {T E : Type 0} (r : Result T E) (P Q : E → Type 0) → ((e : E) → P e → Q e) → IfErr r P → IfErr r Q
-weaken_err (Ok y) P Q f h = tt
-weaken_err (Err e) P Q f h = f e h
 
 -- what follows where there is no other choice
 pub where_none : {X : Type 0} (o : Option X) (P : Type 0) (Q : X → Type 0) → MatchOption o P Q → o ≡ None → P

@@ -29,6 +29,7 @@ use Rattle.audio_info.proofs.Accepted.{IsAudio, IsKnown, found_same, lacks_nothi
 use Rattle.el_convert.specs.Raw.{channels_from, options_from}
 use Rattle.el_convert.specs.Choice.{choice}
 use Rattle.gst_value.proofs.Basics.{and_left, and_right}
+use Rattle.gst_value.proofs.Sound.{lt_le as below}
 
 abbrev Fields : Type 0
 Fields = List (List ℕ × Value)
@@ -121,9 +122,6 @@ least_plain (Words t) plain = refl
 least_plain (Truth b) plain = absurd plain
 least_plain (Fraction a b) plain = absurd plain
 least_plain (IntRange a b) plain = absurd plain
-
-below : (a b : ℤ) → int_lt a b ≡ true → a ≤ℤ b
-below a b e = grind (arith, ints)
 
 not_above : (a b : ℤ) → int_lt b a ≡ false → a ≤ℤ b
 not_above a b e = grind (arith, ints)

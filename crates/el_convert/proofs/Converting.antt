@@ -1,5 +1,5 @@
 -- A converter with one more call.
-use Rattle.std.proofs.Common.{◌≡◌, ◌+◌, ℕ, Bool, true, false, if◌then◌else◌, List, [], ◌∷◌, ◌++◌, length, Option, refl, sym, ap, ◌∙◌, append-nil, append_assoc, Result, Ok, Err}
+use Rattle.std.proofs.Common.{◌≡◌, ◌+◌, ℕ, Bool, true, false, List, [], ◌∷◌, ◌++◌, length, Option, refl, sym, ap, ◌∙◌, append-nil, append_assoc, Ok}
 use Rattle.std.specs.Prelude.{IsOk}
 use Rattle.std.proofs.lemmas.List.Sums.{sum_by_push}
 use Rattle.gst_value.specs.Description.{Description}
@@ -7,18 +7,20 @@ use Rattle.gst_caps.specs.declared.caps.Caps.{Caps}
 use Rattle.gst_value.specs.declared.one.One.{One}
 use Rattle.gst_item.proofs.Kept.{latest_push, since_push}
 use Rattle.gst_item.specs.Sticky.{since_flush_stop}
-use Rattle.flow_model.specs.Item.{Item, Buf, Ev, StreamStart, NewCaps, NewSegment, Tag, Gap, FlushStop, Eos, is_caps, is_flush_stop, is_eos, body_of}
-use Rattle.flow_model.specs.Sticky.{latest}
+use Rattle.flow_model.specs.Item.{Item, Ev, FlushStop, Eos, is_caps, is_flush_stop, is_eos, body_of}
 use Rattle.flow_model.specs.Call.{Call, Feed, Act, Drain, Set, Filter, Allowed, items}
-use Rattle.flow_model.specs.Rule.{Fed, Fault}
+use Rattle.flow_model.specs.Rule.{Fed}
 use Rattle.flow_model.specs.Feeding.{next_owed, IsFaultOf}
 use Rattle.flow_model.specs.declared.fault.ElementFault.{ElementFault}
-use Rattle.flow_model.specs.CapsInForce.{caps_of, caps_in_force, caps_behind}
+use Rattle.flow_model.specs.CapsInForce.{caps_in_force, caps_behind}
 use Rattle.flow_model.proofs.Calls.{items_push, items_act, fed_taken, fed_behind, fed_flush, drained_begun, drained_behind, set_push, eos_taken, eos_stays, eos_flushed, eos_act}
 use Rattle.el_convert.specs.declared.convert.Convert.{Convert}
-use Rattle.el_convert.specs.Converts.{Known, known, allowed_in, bytes_got, convert_answer, converts, caps_after, known_behind}
+use Rattle.el_convert.specs.Converts.{Known, known, allowed_in, convert_answer, converts, caps_after, known_behind}
 use Rattle.flow_model.specs.Owed.{answered}
 use Rattle.el_convert.specs.Converted.{converted, knows, IsConverted}
+use Rattle.flow_model.proofs.CapsFed.{caps_by}
+use Rattle.flow_model.proofs.Items.{ok_answered}
+use Rattle.flow_model.specs.Looking.{bytes_since_flush as bytes_got}
 
 -- the allowed caps with more calls
 pub allowed_more : (first : Caps) (calls more : List Call) → allowed_in first (calls ++ more) ≡ allowed_in (allowed_in first calls) more
@@ -27,17 +29,6 @@ allowed_more first (Feed x ∷ calls) more = allowed_more first calls more
 allowed_more first (Act Drain ∷ calls) more = allowed_more first calls more
 allowed_more first (Act (Set (Filter caps)) ∷ calls) more = allowed_more first calls more
 allowed_more first (Act (Set (Allowed caps)) ∷ calls) more = allowed_more caps calls more
-
--- the caps in force with more items
-caps_by : (x : Item) (h : List Item) → caps_of (if is_caps x then x ∷ [] else latest is_caps h) ≡ caps_behind (caps_in_force h) x
-caps_by (Buf b) h = refl
-caps_by (Ev (StreamStart id)) h = refl
-caps_by (Ev (NewCaps caps)) h = refl
-caps_by (Ev (NewSegment segment)) h = refl
-caps_by (Ev (Tag title)) h = refl
-caps_by (Ev (Gap pts duration)) h = refl
-caps_by (Ev (FlushStop number)) h = refl
-caps_by (Ev Eos) h = refl
 
 caps_push : (h : List Item) (x : Item) → caps_in_force (h ++ x ∷ []) ≡ caps_behind (caps_in_force h) x
 caps_push h x = rw (latest_push is_caps h x) (caps_by x h)
@@ -72,10 +63,6 @@ known_flushed : (first : Caps) (given : List Call) (out : List Item) (number : �
 known_flushed first given out number =
     let x = Ev (FlushStop number) in
     same_known _ _ _ _ _ _ _ _ (allowed_more first given (Feed x ∷ [])) (ap caps_in_force (items_push given x) ∙ caps_push (items given) x) (caps_push out x) (ap bytes_got (items_push given x) ∙ got_flushed (items given) number)
-
-pub ok_answered : (r : Result (List Item) Fault) → IsOk r → r ≡ Ok (answered r)
-ok_answered (Ok ys) ok = refl
-ok_answered (Err fault) ok = absurd (cc)
 
 -- the answer of the rule, by what the element knows
 pub fault_known : (element : Convert) (x : Item) (fault : ElementFault) → element.ended ≡ false → IsFaultOf (convert_answer (knows element) x) fault

@@ -15,10 +15,12 @@ use Rattle.flow_model.specs.CapsInForce.{caps_in_force}
 use Rattle.flow_model.proofs.Calls.{items_push, items_act}
 use Rattle.el_convert.specs.Choice.{choice}
 use Rattle.audio_info.specs.Templates.{raw_template}
-use Rattle.el_convert.specs.Converts.{Known, known, allowed_in, bytes_got, frame_width, caps_before, whole_frames, buffer_answer, fed_buffer, caps_answer, converted_buffer, convert_answer, converts}
+use Rattle.el_convert.specs.Converts.{Known, known, allowed_in, frame_width, caps_before, whole_frames, buffer_answer, fed_buffer, caps_answer, converted_buffer, convert_answer, converts}
 use Rattle.flow_model.specs.Owed.{answered}
 use Rattle.el_convert.specs.Placed.{allowed_at, converts_placed, setting_at, settings_in, unset, IsTaken, TakesAll}
-use Rattle.el_convert.proofs.Converting.{allowed_more, ok_answered}
+use Rattle.el_convert.proofs.Converting.{allowed_more}
+use Rattle.flow_model.proofs.Items.{ok_answered}
+use Rattle.flow_model.specs.Looking.{bytes_since_flush as bytes_got}
 
 -- ---- what is owed for an item that is taken is one item at least
 

@@ -1,20 +1,21 @@
 -- What a converter puts out for a call.
-use Rattle.std.proofs.Common.{◌≡◌, Bool, true, false, if◌then◌else◌, List, [], ◌∷◌, ◌++◌, Result, Ok, Err, refl, sym, append-nil}
+use Rattle.std.proofs.Common.{◌≡◌, true, false, List, [], ◌++◌, Result, Ok, Err, sym, append-nil}
 use Rattle.std.specs.Prelude.{IsOk, IfOk, OnOk}
 use Rattle.gst_caps.specs.declared.caps.Caps.{Caps}
 use Rattle.flow_model.specs.declared.fault.ElementFault.{ElementFault}
 use Rattle.gst_item.specs.declared.flow.Flow.{Flow}
 use Rattle.gst_item.specs.declared.flow.Flow.TheVariants.{Ok as Taken}
 use Rattle.gst_item.specs.declared.out.Out.{Out}
-use Rattle.flow_model.specs.Item.{Item, Ev, Eos, is_flush_stop, is_eos}
+use Rattle.flow_model.specs.Item.{Item, is_flush_stop, is_eos}
 use Rattle.flow_model.specs.Call.{Call, Feed, Act, Drain}
 use Rattle.flow_model.specs.Feeding.{on_pad, flow_behind}
 use Rattle.el_convert.specs.declared.convert.Convert.{Convert}
 use Rattle.el_convert.specs.Converts.{convert_answer, known_behind}
-use Rattle.flow_model.specs.Owed.{answered, without_eos}
+use Rattle.flow_model.specs.Owed.{answered}
 use Rattle.el_convert.specs.Converted.{converted, knows, IsConverted}
 use Rattle.el_convert.specs.Puts.{Puts}
 use Rattle.el_convert.proofs.Converting.{converted_item, converted_behind, converted_drain}
+use Rattle.flow_model.proofs.Items.{none_owed}
 
 -- for an item in a section that is not over
 pub puts_taken : (old new : Convert) (x : Item) (out out' : List Out) → is_flush_stop x ≡ false → old.ended ≡ false
@@ -51,11 +52,6 @@ puts_behind element x out plain ended =
       owed = λ first calls put p. (converted_behind element x plain ended first calls put p).0;
       stands = λ first calls put p. (converted_behind element x plain ended first calls put p).1;
     }
-
--- for a drain, of which nothing comes
-none_owed : (over : Bool) → without_eos (if over then Ok [] else Ok (Ev Eos ∷ [])) ≡ Ok []
-none_owed true = refl
-none_owed false = refl
 
 pub puts_none : (element : Convert) (out : List Out) → Puts element element (Act Drain) out out
 puts_none element out =

@@ -8,7 +8,7 @@ use Rattle.flow_model.specs.Rule.{Fed, unfed, all_called, owed_for}
 use Rattle.flow_model.specs.Feeding.{has_eos}
 use Rattle.el_convert.specs.declared.convert.Convert.{Convert}
 use Rattle.el_convert.specs.declared.stream.Stream.{Stream}
-use Rattle.audio_info.specs.Same.{same_caps}
+use Rattle.gst_caps.specs.Same.{same_caps}
 use Rattle.el_convert.specs.Choice.{choice}
 use Rattle.el_convert.specs.Converts.{Known, known, converts}
 

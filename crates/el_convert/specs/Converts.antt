@@ -1,11 +1,9 @@
 -- The rule of an element that converts raw audio to what is allowed behind it, as GStreamer's audioconvert.
 use Rattle.std.specs.Prelude.{ℕ, ◌+◌, ◌*◌, ◌%◌, ◌^◌, ◌==◌, false, nat_lt, List, [], ◌∷◌, ◌++◌, length, Option, None, Some, Result, Ok, Err, if◌then◌else◌}
-use Rattle.std.specs.List.{sum_by}
 use Rattle.gst_caps.specs.Accepts.{accepts}
 use Rattle.gst_value.specs.Description.{Description}
 use Rattle.gst_caps.specs.declared.caps.Caps.{Caps}
 use Rattle.gst_value.specs.declared.one.One.{One}
-use Rattle.gst_item.specs.Sticky.{since_flush_stop}
 use Rattle.flow_model.specs.declared.fault.StreamKind.TheVariants.{SplitFrame}
 use Rattle.audio_info.specs.Packing.{sample_width}
 use Rattle.flow_model.specs.Item.{Item, Buffer, Buf, Ev, NewCaps, body_of}
@@ -15,9 +13,10 @@ use Rattle.flow_model.specs.CapsInForce.{caps_in_force, caps_behind}
 use Rattle.flow_model.specs.Owed.{answered}
 use Rattle.audio_info.specs.Templates.{raw_template}
 use Rattle.el_convert.specs.Raw.{format_in, channels_in}
-use Rattle.audio_info.specs.Same.{same_caps}
+use Rattle.gst_caps.specs.Same.{same_caps}
 use Rattle.el_convert.specs.Choice.{choice}
 use Rattle.el_convert.specs.Bodies.{converted_bytes}
+use Rattle.flow_model.specs.Looking.{bytes_since_flush as bytes_got}
 
 -- the allowed caps: those that were set last, and the first ones where none were set
 abbrev pub allowed_in : Caps → List Call → Caps
@@ -26,10 +25,6 @@ allowed_in allowed (Feed x ∷ calls) = allowed_in allowed calls
 allowed_in allowed (Act Drain ∷ calls) = allowed_in allowed calls
 allowed_in allowed (Act (Set (Filter caps)) ∷ calls) = allowed_in allowed calls
 allowed_in allowed (Act (Set (Allowed caps)) ∷ calls) = allowed_in caps calls
-
--- the bytes that a list has since its last FLUSH_STOP
-abbrev pub bytes_got : List Item → ℕ
-bytes_got h = sum_by (λ x. length (body_of x)) (since_flush_stop h)
 
 -- What the rule looks back at: the allowed caps, the caps of the stream, the choice that was put out last, and the
 -- bytes that came since the last FLUSH_STOP.

@@ -9,9 +9,9 @@ ghost use Rattle.el_convert.specs.Converts.{Known, convert_answer};
 
 use crate::put_out::put_with_caps;
 use crate::stream::{Stream, stream_of};
-use audio_info::{Info, raw_template, same_caps};
+use audio_info::{Info, raw_template};
 use flow_model::{ElementFault, put_out};
-use gst_caps::Caps;
+use gst_caps::{Caps, same_caps};
 use gst_item::{Buffer, Event, Flow, Item, Outs};
 use gst_value::{Fixed, OutOfMemory};
 use std::alloc::Global;

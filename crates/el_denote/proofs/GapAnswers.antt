@@ -1,5 +1,5 @@
 -- What such an interleave answers in truth.
-use Rattle.std.proofs.Common.{◌≡◌, ◌<◌, ℕ, zero, suc, ◌+◌, ◌-◌, ◌/◌, ◌%◌, ◌==◌, Bool, true, false, if◌then◌else◌, List, [], ◌∷◌, ◌++◌, length, drop, Option, None, Some, Result, Ok, Err, refl, sym, ap, ◌∙◌, subst, arith}
+use Rattle.std.proofs.Common.{◌≡◌, ◌<◌, ℕ, ◌+◌, ◌-◌, ◌/◌, ◌%◌, ◌==◌, Bool, true, false, if◌then◌else◌, List, [], ◌∷◌, ◌++◌, length, drop, Option, None, Some, Result, Ok, Err, refl, sym, ap, ◌∙◌, subst, arith}
 use Rattle.std.specs.Prelude.{nat_lt}
 use Rattle.std.specs.Option.{option_map}
 use Rattle.gst_time.specs.declared.time.TheConstants.{LIMIT}
@@ -8,7 +8,7 @@ use Rattle.gst_value.specs.Description.{Description}
 use Rattle.gst_value.specs.declared.one.One.{One}
 use Rattle.flow_model.specs.declared.fault.ElementFault.{ElementFault}
 use Rattle.flow_model.specs.declared.fault.ElementFault.TheVariants.{NotNegotiated as Refused, BadStream as Broken, TooLong as Passing, OutOfMemory as Wanting}
-use Rattle.audio_info.specs.Same.{same_caps}
+use Rattle.gst_caps.specs.Same.{same_caps}
 use Rattle.audio_info.specs.Alone.{exactly}
 use Rattle.flow_model.specs.declared.fault.StreamKind.TheVariants.{SplitFrame}
 use Rattle.flow_model.specs.Item.{Item, Buf, Ev, StreamStart, NewCaps, NewSegment, Tag, Gap, FlushStop, Eos, is_flush_stop}
@@ -28,7 +28,9 @@ use Rattle.el_mix.proofs.Refusing.{some_lists}
 use Rattle.el_denote.specs.Near.{Mark, Near, NearEach, done, later, marked, gaps_of, restored}
 use Rattle.el_denote.proofs.Nearing.{near_same, each_push, each_in}
 use Rattle.el_denote.proofs.GapLists.{none_same, lists_near, caps_near}
-use Rattle.el_denote.proofs.GapOwed.{opening_owed, opening_reached, section_is, each_at}
+use Rattle.el_denote.proofs.GapOwed.{opening_owed, opening_reached, each_at}
+use Rattle.el_set.proofs.JoinRules.{mix_open as section_is}
+use Rattle.flow_model.proofs.Items.{push_length}
 
 -- up to where buffers were put out
 abbrev at_reached : ℕ → Fault → Fault
@@ -96,9 +98,6 @@ taken_by xs ys gaps (Passing a b) h = absurd (cc)
 taken_by xs ys None Wanting h = tt
 taken_by xs ys (Some c) Wanting h = tt
 
-fault_none : (r : ℕ) (f : Fault) (fault : ElementFault) → IsFaultOf (Err (at_reached r f)) fault → IsFaultOf (Err (at_reached r f)) (restored None fault)
-fault_none r f fault h = h
-
 fault_gap : (r : ℕ) (c : Bool) (f : Fault) (fault : ElementFault) → IsFaultOf (Err (at_reached r f)) fault → IsFaultOf (Err (at_reached 0 f)) (restored (Some c) fault)
 fault_gap r c f Wanting h = tt
 fault_gap r c (NotNegotiated o w) (Refused offered wanted) h = h
@@ -129,11 +128,6 @@ answer_is : (inputs : List (List Call)) (i j : ℕ) (x : Item) (over : Bool) →
     → mix_answer inputs i x ≡ answer_by over (reached (mixes inputs 0 j)) (first_refusal 0 l [] xs) (mixes inputs 0 j) (mixes (push_calls i (Feed x ∷ []) inputs) 0 j)
 answer_is inputs i j x over e is l low xs list =
     rw (e, is, low, list) (ap (λ o. if over then Ok [] else more_or o (mixes inputs 0 j) (mixes (push_calls i (Feed x ∷ []) inputs) 0 j)) (first_at (reached (mixes inputs 0 j)) l [] xs))
-
-push_length : (i : ℕ) (calls : List Call) (took : List (List Call)) → length (push_calls i calls took) ≡ length took
-push_length i calls [] = refl
-push_length zero calls (cs ∷ took) = refl
-push_length (suc i) calls (cs ∷ took) = ap suc (push_length i calls took)
 
 pub answers_near : (mix : Mix) (tooks givens : List (List Call)) (put : List Item) (j : ℕ) (marks : List Mark) (begun : Bool) (x : Item) → Mixes mix tooks put
     → NearEach j marks begun tooks givens → is_flush_stop x ≡ false → length marks < length tooks

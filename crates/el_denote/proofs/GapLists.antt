@@ -16,6 +16,7 @@ use Rattle.el_mix.proofs.Growing.{has_push, or_none, caps_push, id_push}
 use Rattle.el_mix.proofs.Refusing.{open_list}
 use Rattle.el_denote.specs.Near.{Mark, NearEach, done, later, marked, both, gaps_of}
 use Rattle.el_denote.proofs.Nearing.{near_same}
+use Rattle.gst_value.proofs.Basics.{if_same}
 
 -- the lists of the open section
 pub record PadNear (mark : Mark) (xs' xs : List Item) : Type 0 where
@@ -50,11 +51,6 @@ lists_near j (later {took = took} {given = given} {tooks = tooks} {givens = give
     (sym (ap (λ zs. zs ∷ reopenings j tooks) (near_same j took given n) ∙ ap (λ zss. reopened j (items given) ∷ zss) (none_same j rest refl))) as_given
 lists_near j (marked {given = given} n rest) =
     one_pad (record { list = n.list; none = λ h. open_list j given n.given_in (n.none h); bare = n.bare; starts = n.starts }) (lists_near j rest)
-
--- EOS changes little
-if_same : {A : Type 0} (b : Bool) (x : A) → (if b then x else x) ≡ x
-if_same true x = refl
-if_same false x = refl
 
 caps_stay : (m : Bool) (xs : List Item) → pad_caps (xs ++ eos_if m) ≡ pad_caps xs
 caps_stay true xs = caps_push xs (Ev Eos) ∙ or_none (pad_caps xs)

@@ -6,7 +6,6 @@ use Rattle.gst_value.specs.Description.{Description}
 use Rattle.gst_value.specs.declared.one.One.{One}
 use Rattle.flow_model.specs.Item.{Item, Ev, StreamStart, NewSegment, Eos, is_eos}
 use Rattle.flow_model.specs.Call.{Call}
-use Rattle.flow_model.specs.SinkPads.{InSection}
 use Rattle.el_mix.specs.declared.channel.Channel.{Channel}
 use Rattle.el_mix.specs.declared.mix.Mix.{Mix}
 use Rattle.el_mix.specs.Mono.{mono_of}
@@ -25,6 +24,7 @@ use Rattle.el_mix.proofs.Together.{begun_of_started}
 use Rattle.el_denote.specs.Near.{Mark, NearEach, gaps_of, owed_count}
 use Rattle.el_denote.proofs.Nearing.{each_in}
 use Rattle.el_denote.proofs.GapLists.{ListsNear, none_same, lists_near, caps_near, ids_near, length_near, agreed_near, starts_up, fine, starts_same, gap_unstarted, open_none, unended}
+use Rattle.el_set.proofs.JoinRules.{mix_open as section_is}
 
 -- what stands before the buffers
 abbrev opening_by : Option (Description One) → List (List Item) → List Item
@@ -91,11 +91,6 @@ opening_reached xss = go (all_have is_start xss)
     go : (b : Bool) → reached (if b then opening_by (lowest_caps xss) xss else []) ≡ 0
     go true = none_reached (lowest_caps xss) xss
     go false = refl
-
--- of the element
-pub section_is : (j : ℕ) (took : List (List Call)) → 0 < length took → InSection j took → section_of took ≡ j
-section_is j [] some s = absurd (omega (arith, some))
-section_is j (calls ∷ took) some s = s.0
 
 pub each_at : (mix : Mix) (tooks : List (List Call)) (put : List Item) (j : ℕ) → Mixes mix tooks put → section_of tooks ≡ j → Each mix.channels.items (reopenings j tooks)
 each_at mix tooks put j m is = subst (λ n. Each mix.channels.items (reopenings n tooks)) is m.holds.each

@@ -1,5 +1,5 @@
 -- An element with several sink pads, turn by turn.
-use Rattle.std.proofs.Common.{◌≡◌, ◌<◌, ℕ, zero, suc, ◌+◌, Bool, true, false, if◌then◌else◌, List, [], ◌∷◌, ◌++◌, length, map, take, replicate, None, Some, Result, Ok, Err, refl, sym, ap, ◌∙◌, subst, arith}
+use Rattle.std.proofs.Common.{◌≡◌, ◌<◌, ℕ, suc, ◌+◌, Bool, true, false, if◌then◌else◌, List, [], ◌∷◌, ◌++◌, length, map, take, replicate, None, Some, Result, Ok, Err, refl, sym, ap, ◌∙◌, subst, arith}
 use Rattle.std.proofs.lemmas.List.{take_all, length-map}
 use Rattle.gst_item.specs.declared.out.Out.{Out}
 use Rattle.flow_model.specs.declared.fault.ElementFault.{ElementFault}
@@ -8,7 +8,7 @@ use Rattle.flow_model.specs.Item.{Item, Ev, StreamStart, FlushStop, Eos, is_flus
 use Rattle.flow_model.specs.Call.{Call, Feed}
 use Rattle.flow_model.specs.Rule.{Rule, Fault}
 use Rattle.flow_model.specs.Feeding.{on_pad, IsFaultOf}
-use Rattle.flow_model.specs.SinkPads.{push_calls, push_each, InSection}
+use Rattle.flow_model.specs.SinkPads.{push_calls, push_each}
 use Rattle.el_join.specs.declared.concat.Concat.{Concat as ConcatElement}
 use Rattle.el_join.specs.Concats.{concat_rule}
 use Rattle.el_join.specs.Joins.{Joins, Remembers as JoinRemembers, sink_pads as concat_pads}
@@ -25,7 +25,7 @@ use Rattle.el_set.specs.declared.join.JoinElement.TheVariants.{Concat, Mix}
 use Rattle.el_set.specs.Denoted.{rule_of, answers_of}
 use Rattle.el_set.specs.Joins.{JoinStands, JoinPuts, join_rule, join_answers, join_pads, may_take}
 use Rattle.el_set.specs.Made.{MadeJoin}
-use Rattle.el_set.proofs.JoinRules.{joins_have_pads}
+use Rattle.el_set.proofs.JoinRules.{joins_have_pads, concat_open, mix_open as section_is}
 use Rattle.el_denote.specs.Denoted.{fault_of, answered}
 use Rattle.el_denote.specs.Joined.{first_fault_in, nothing_given}
 use Rattle.el_denote.specs.Turns.{Turn, Give, Flush, all_turned}
@@ -33,9 +33,10 @@ use Rattle.el_denote.specs.Near.{Mark, both, gaps_of, with_gap, owed_count, rest
 use Rattle.el_denote.specs.Running.{MixStood, Stood, Runs}
 use Rattle.el_denote.proofs.WholeLists.{on_pad_append, items_on_pad}
 use Rattle.el_denote.proofs.Nearing.{each_push, each_known, each_close, each_flush, each_in, each_new, lowest_unknown}
-use Rattle.el_denote.proofs.GapOwed.{section_is, owed_near}
+use Rattle.el_denote.proofs.GapOwed.{owed_near}
 use Rattle.el_denote.proofs.GapAnswers.{answers_near}
 use Rattle.el_denote.proofs.Turns.{turned_behind, none_then}
+use Rattle.flow_model.proofs.Items.{none_in}
 
 -- the two rules differ
 pub mix_apart : mixes ≡ concat_rule → ⊥
@@ -252,11 +253,6 @@ mix_flushed settings join a b is pads flushed j gaps marks turns out number r =
       found = refl;
     }
 
--- what is owed in the section
-concat_open : (j : ℕ) (took : List (List Call)) → 0 < length took → InSection j took → open_section took ≡ j
-concat_open j [] some inside = absurd (omega (arith, some))
-concat_open j (cs ∷ css) some inside = inside.0
-
 stood_owed : (join : JoinElement) (j : ℕ) (marks : List Mark) (begun : Bool) (given : List (List Call)) (put : List Item) → 0 < join_pads join → Stood join j marks begun given put
     → take (owed_count (length put) (gaps_of marks)) put ≡ join_rule join given 0 j
 stood_owed (Concat a) j marks begun given put some s =
@@ -277,11 +273,6 @@ runs_owed settings j gaps join marks turns out some r =
     ∙ ap (λ g. take (owed_count (length r.put) g) r.put) (sym r.found)
     ∙ stood_owed join j marks false (all_turned (nothing_given settings) turns) r.put some r.stands
     ∙ ap (λ (rule : Rule). rule (all_turned (nothing_given settings) turns) 0 j) r.rule
-
--- at first
-none_in : (n : ℕ) → InSection 0 (replicate n [])
-none_in zero = tt
-none_in (suc n) = (refl, none_in n)
 
 stood_first : (join : JoinElement) (n : ℕ) → JoinStands join (replicate n []) [] → Stood join 0 [] false (replicate n []) []
 stood_first (Concat a) n s = (s, none_in n, refl)

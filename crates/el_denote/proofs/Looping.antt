@@ -23,9 +23,9 @@ use Rattle.el_denote.specs.Near.{Mark, owed_count}
 use Rattle.el_denote.specs.Running.{Runs, AtSection, SectionDone, owed_given}
 use Rattle.el_denote.proofs.Turns.{fault_stays, give_more, give_split, section_more, section_split}
 use Rattle.el_denote.proofs.Going.{runs_first, runs_owed}
-use Rattle.el_denote.proofs.Parting.{section_plain}
 use Rattle.el_denote.proofs.WholeGiven.{given_whole}
 use Rattle.el_denote.proofs.WholeInherited.{lists_same}
+use Rattle.flow_model.proofs.Items.{section_plain}
 
 -- items of a pad
 pub items_first : (settings : Settings) (j : ℕ) (gaps : Mark) (join : JoinElement) (marks : List Mark) (turns : List Turn) (pad : ℕ) (items : List Item) (out : List Out)

@@ -1,9 +1,9 @@
 -- What the pads of an interleave were given in truth, with items, with an EOS that a list has not, and behind a flush.
-use Rattle.std.proofs.Common.{◌≡◌, ◌<◌, ℕ, zero, suc, Bool, true, false, if◌then◌else◌, List, [], ◌∷◌, ◌++◌, length, replicate, Option, None, Some, refl, sym, ap, ◌∙◌, subst, append-nil, arith}
+use Rattle.std.proofs.Common.{◌≡◌, ◌<◌, ℕ, zero, suc, Bool, true, false, if◌then◌else◌, List, [], ◌∷◌, ◌++◌, length, replicate, None, Some, refl, sym, ap, ◌∙◌, subst, append-nil, arith}
 use Rattle.gst_item.proofs.Kept.{latest_push}
 use Rattle.flow_model.specs.Item.{Item, Ev, FlushStop, Eos, is_stream_start, is_caps, is_tag, is_segment, is_flush_stop, is_eos}
 use Rattle.flow_model.specs.Sticky.{latest}
-use Rattle.flow_model.specs.Section.{section, counted, before_section, to_eos, flush_stops}
+use Rattle.flow_model.specs.Section.{section, counted, flush_stops}
 use Rattle.flow_model.specs.Looking.{bytes_of}
 use Rattle.flow_model.specs.Call.{Call, Feed, items}
 use Rattle.flow_model.specs.Feeding.{has_eos}
@@ -14,14 +14,18 @@ use Rattle.el_mix.specs.declared.channel.Channel.{Channel}
 use Rattle.el_mix.specs.Mixed.{has}
 use Rattle.el_mix.specs.Mixes.{is_start}
 use Rattle.el_mix.specs.Agreed.{is_there}
-use Rattle.el_mix.specs.Reopened.{inherited, counted_section, reopened, reopenings}
+use Rattle.el_mix.specs.Reopened.{reopened, reopenings}
 use Rattle.el_mix.specs.Taking.{hears}
 use Rattle.el_mix.specs.Standing.{Waits, WaitEach, known, lower_known}
 use Rattle.el_mix.specs.Relation.{Knows, KnowEach}
 use Rattle.el_mix.proofs.Growing.{has_push}
-use Rattle.el_mix.proofs.Opening.{stops_of, pad_goes_on, still_in, next_in, section_next}
+use Rattle.el_mix.proofs.Opening.{pad_goes_on, still_in, next_in, section_next}
 use Rattle.el_mix.proofs.Ordering.{fresh}
 use Rattle.el_denote.specs.Near.{Mark, Near, NearEach, done, later, marked}
+use Rattle.el_mix.proofs.Fresh.{flushed_list}
+use Rattle.el_mix.proofs.Judged.{no_there as not_there}
+use Rattle.flow_model.proofs.Items.{stops_of}
+use Rattle.flow_model.specs.Inherited.{inherited}
 
 -- one item more
 kept : (p : Item → Bool) (t g : List Call) (x : Item) (b : Bool) → has_eos t ≡ b → has_eos g ≡ b → is_flush_stop x ≡ false
@@ -90,34 +94,11 @@ near_close j took given begun unended bare starts n =
     some_is : (a b : Bool) → Some a ≡ Some b → a ≡ b
     some_is a b e = cc
 
--- behind a flush
-before_flushed : (w : List Item) (n k : ℕ) → flush_stops w ≡ n → before_section (suc n) (w ++ Ev (FlushStop k) ∷ []) ≡ w ++ Ev (FlushStop k) ∷ []
-before_flushed [] zero k e = refl
-before_flushed [] (suc n) k e = absurd (cc)
-before_flushed (x ∷ w) n k e = ap (λ zs. x ∷ zs) (go (is_flush_stop x) n e (λ m f. before_flushed w m k f))
-  where
-    go : (b : Bool) (n : ℕ) → (if b then suc (flush_stops w) else flush_stops w) ≡ n
-        → ((m : ℕ) → flush_stops w ≡ m → before_section (suc m) (w ++ Ev (FlushStop k) ∷ []) ≡ w ++ Ev (FlushStop k) ∷ [])
-        → (if b then before_section n (w ++ Ev (FlushStop k) ∷ []) else before_section (suc n) (w ++ Ev (FlushStop k) ∷ [])) ≡ w ++ Ev (FlushStop k) ∷ []
-    go true zero e rest = absurd (omega (arith, e))
-    go true (suc m) e rest = rest m (omega (arith, e))
-    go false n e rest = rest n e
-
 next_empty : (n k : ℕ) (calls : List Call) → flush_stops_given calls ≡ n → section (suc n) (items (calls ++ Feed (Ev (FlushStop k)) ∷ [])) ≡ []
 next_empty n k calls is = ap (section (suc n)) (items_push calls (Ev (FlushStop k))) ∙ section_next (suc n) (items calls) k (less (sym (stops_of calls) ∙ is))
   where
     less : flush_stops (items calls) ≡ n → flush_stops (items calls) < suc n
     less e = omega (arith, e)
-
-flushed_list : (n k : ℕ) (calls : List Call) → flush_stops_given calls ≡ n
-    → reopened (suc n) (items (calls ++ Feed (Ev (FlushStop k)) ∷ [])) ≡ inherited (counted (items (calls ++ Feed (Ev (FlushStop k)) ∷ [])))
-flushed_list n k calls is =
-    let stop : Item = Ev (FlushStop k) in
-    let whole : before_section (suc n) (items (calls ++ Feed stop ∷ [])) ≡ items (calls ++ Feed stop ∷ []) =
-    ap (before_section (suc n)) (items_push calls stop) ∙ before_flushed (items calls) n k (sym (stops_of calls) ∙ is) ∙ sym (items_push calls stop) in
-    ap (λ zs. inherited (counted zs) ++ counted_section (suc n) (items (calls ++ Feed stop ∷ []))) whole
-    ∙ ap (λ zs. inherited (counted (items (calls ++ Feed stop ∷ []))) ++ to_eos zs) (next_empty n k calls is)
-    ∙ append-nil (inherited (counted (items (calls ++ Feed stop ∷ []))))
 
 kept_flushed : (p : Item → Bool) (t g : List Call) (k : ℕ) → latest p (counted (items t)) ≡ latest p (counted (items g))
     → latest p (counted (items (t ++ Feed (Ev (FlushStop k)) ∷ []))) ≡ latest p (counted (items (g ++ Feed (Ev (FlushStop k)) ∷ [])))
@@ -199,11 +180,6 @@ each_in j done = (tt, tt)
 each_in j (later n s rest) = ((n.took_in, (each_in j rest).0), (n.given_in, (each_in j rest).1))
 each_in j (marked n rest) = ((n.took_in, (each_in j rest).0), (n.given_in, (each_in j rest).1))
 
-pub each_length : (j : ℕ) {marks : List Mark} {begun : Bool} {tooks givens : List (List Call)} → NearEach j marks begun tooks givens → length tooks ≡ length givens
-each_length j done = refl
-each_length j (later n s rest) = ap suc (each_length j rest)
-each_length j (marked n rest) = ap suc (each_length j rest)
-
 -- at first
 pub each_new : (n : ℕ) → NearEach 0 [] false (replicate n []) (replicate n [])
 each_new zero = done
@@ -220,10 +196,6 @@ known_parts false b e = (refl, e)
 lower_none : (cs : List Channel) → lower_known 0 cs ≡ true
 lower_none [] = refl
 lower_none (c ∷ cs) = refl
-
-not_there : {A : Type 0} (o : Option A) → is_there o ≡ false → o ≡ None
-not_there None e = refl
-not_there (Some x) e = absurd (cc)
 
 pub lowest_unknown : (i n next : ℕ) (cs : List Channel) (took : List (List Call)) → KnowEach cs took → WaitEach next cs (reopenings n took) → lower_known i cs ≡ true
     → lower_known (suc i) cs ≡ false → (has_eos (calls_at i took) ≡ false) × (bytes_of (reopened n (items (calls_at i took))) ≡ [])

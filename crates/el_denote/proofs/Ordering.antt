@@ -1,6 +1,5 @@
 -- A sink pad may be fed where each lower one has CAPS or had EOS, and stays so.
-use Rattle.std.proofs.Common.{◌≡◌, ℕ, zero, suc, Bool, true, false, if◌then◌else◌, List, [], ◌∷◌, ◌++◌, replicate, Option, Some, Result, Ok, Err, refl, sym, ap, ◌∙◌, subst}
-use Rattle.std.specs.Result.{OnOk, is_err}
+use Rattle.std.proofs.Common.{◌≡◌, ℕ, zero, suc, Bool, true, false, if◌then◌else◌, List, [], ◌∷◌, ◌++◌, replicate, Option, Some, refl, sym, ap, ◌∙◌, subst}
 use Rattle.gst_item.specs.declared.out.Out.{Out}
 use Rattle.flow_model.specs.Item.{Item, Ev, FlushStop, Eos}
 use Rattle.flow_model.specs.Call.{Call, Feed, items}
@@ -134,8 +133,3 @@ first_fed settings join made = (replicate (sink_pads settings) [], [], made.stan
 
 pub made_is : (settings : Settings) (made : Option JoinElement) (join : JoinElement) → IsJoinFor settings made → made ≡ Some join → MadeJoin settings join
 made_is settings made join m is = subst (IsJoinFor settings) is m
-
--- a call that did not fail
-pub when_ok : {A B : Type 0} (r : Result A B) (P : Type 0) → is_err r ≡ false → OnOk r P → P
-when_ok (Ok a) P e p = p
-when_ok (Err b) P e p = absurd (cc)

@@ -5,12 +5,12 @@ use Rattle.flow_model.specs.declared.fault.ElementFault.{ElementFault}
 use Rattle.flow_model.specs.Item.{Item}
 use Rattle.flow_model.specs.Section.{section}
 use Rattle.flow_model.specs.Call.{Call}
-use Rattle.flow_model.specs.Rule.{Fault}
+use Rattle.flow_model.specs.Rule.{Fault, Answers}
 use Rattle.flow_model.specs.Feeding.{IsFaultOf}
 use Rattle.el_settings.specs.declared.settings.Settings.{Settings}
 use Rattle.el_settings.specs.Values.{or_else}
 use Rattle.el_settings.proofs.Given.{or_else-or_else}
-use Rattle.el_set.specs.Denoted.{Answers, answers_of}
+use Rattle.el_set.specs.Denoted.{answers_of}
 use Rattle.el_denote.specs.Denoted.{answered}
 use Rattle.el_denote.specs.Joined.{refused, first_refused, first_fault_in, nothing_given}
 use Rattle.el_denote.specs.Turns.{Turn, Give, turned, all_turned, section_turns}

@@ -7,8 +7,8 @@ use Rattle.flow_model.specs.Call.{Call, Feed, feeds}
 use Rattle.flow_model.specs.SinkPads.{push_calls, push_each}
 use Rattle.flow_model.proofs.Calls.{feeds_push}
 use Rattle.el_denote.specs.Turns.{Give, Flush, all_turned, section_turns, stop_behind, turns_before, turns_to}
-use Rattle.el_denote.proofs.Parting.{section_plain}
 use Rattle.el_denote.proofs.Turns.{turned_behind}
+use Rattle.flow_model.proofs.Items.{first_is_all as plain_section, section_plain}
 
 -- the sections before section j of a list, each with a FLUSH_STOP of a number
 abbrev pub fronts : (ℕ → ℕ) → ℕ → List Item → List Item
@@ -117,14 +117,6 @@ before_behind number (suc j) xs n k ys is =
     ∙ before_behind number j xs n (suc k) (section j xs ++ Ev (FlushStop (number j)) ∷ ys) (omega (arith, is))
     ∙ ap (λ zs. fronts number j xs ++ zs) (before_of_plain (section j xs) k (number j) ys (section_plain j xs) ∙ sym (append_assoc (section j xs) stop (before_section k ys)))
     ∙ sym (append_assoc (fronts number j xs) (section j xs ++ stop) (before_section k ys))
-
-plain_section : (s : List Item) → has_flush_stop s ≡ false → section 0 s ≡ s
-plain_section [] e = refl
-plain_section (x ∷ s) e = go (is_flush_stop x) e (plain_section s)
-  where
-    go : (b : Bool) → (if b then true else has_flush_stop s) ≡ false → (has_flush_stop s ≡ false → section 0 s ≡ s) → (if b then [] else x ∷ section 0 s) ≡ x ∷ s
-    go true e r = absurd (cc)
-    go false e r = ap (λ zs. x ∷ zs) (r e)
 
 pub section_whole : (number : ℕ → ℕ) (j : ℕ) (xs : List Item) → section j (whole_to number j xs) ≡ section j xs
 section_whole number j xs = section_behind number j xs j 0 (section j xs) (omega arith) ∙ plain_section (section j xs) (section_plain j xs)

@@ -5,6 +5,7 @@ use Rattle.flow_model.specs.Sticky.{first_found, latest}
 use Rattle.flow_model.specs.Section.{section, before_section, counted_after, counted}
 use Rattle.flow_model.specs.Call.{items, feeds}
 use Rattle.el_denote.proofs.WholeGiven.{fronts, whole_to, section_whole, before_whole}
+use Rattle.flow_model.proofs.Items.{items_feeds, stop_no_eos}
 
 -- what a section inherits
 counted_stop : (b : Bool) (s : List Item) (number : ℕ) (ys : List Item)
@@ -53,10 +54,6 @@ open_at (suc j) b = false
 open_none : (j : ℕ) → open_at j false ≡ false
 open_none zero = refl
 open_none (suc j) = refl
-
-stop_no_eos : (x : Item) → is_flush_stop x ≡ true → is_eos x ≡ false
-stop_no_eos (Ev (FlushStop number)) e = refl
-stop_no_eos _ e = absurd (cc)
 
 counted_before : (j : ℕ) (b : Bool) (xs : List Item)
     → counted_after b (before_section (suc j) xs) ≡ counted_after b (before_section j xs) ++ counted_after (open_at j b) (section j xs ++ stop_list j xs)
@@ -154,10 +151,6 @@ caps_ignore _ e = absurd (cc)
 tag_ignores : Ignores is_tag
 tag_ignores (Ev (FlushStop number)) e = refl
 tag_ignores _ e = absurd (cc)
-
-items_feeds : (xs : List Item) → items (feeds xs) ≡ xs
-items_feeds [] = refl
-items_feeds (x ∷ xs) = ap (λ zs. x ∷ zs) (items_feeds xs)
 
 -- the two rules look at these alone
 abbrev Inherited : Type 0

@@ -3,12 +3,12 @@ use Rattle.std.specs.Prelude.{◌≡◌, ℕ, List, [], ◌∷◌, ◌++◌, map
 use Rattle.flow_model.specs.declared.fault.ElementFault.{ElementFault}
 use Rattle.flow_model.specs.Item.{Item}
 use Rattle.flow_model.specs.Call.{Call, feeds}
-use Rattle.flow_model.specs.Rule.{Fault}
+use Rattle.flow_model.specs.Rule.{Fault, Answers}
 use Rattle.flow_model.specs.Feeding.{IsFaultOf}
 use Rattle.el_settings.specs.declared.settings.Settings.{Settings}
 use Rattle.el_settings.specs.Values.{or_else}
 use Rattle.el_settings.specs.Asked.{sink_pads}
-use Rattle.el_set.specs.Denoted.{Answers, rule_of, answers_of}
+use Rattle.el_set.specs.Denoted.{rule_of, answers_of}
 use Rattle.el_denote.specs.Denoted.{fault_of, answered}
 use Rattle.el_denote.specs.Turns.{Turn, Give, Flush, turned, most_stops, turns_to, woven}
 

@@ -16,7 +16,7 @@ use el_set::{FilterElement, filter_of};
 use el_settings::Settings;
 use flow_model::ElementFault;
 use gst_caps::Caps;
-use gst_item::{Event, Item, Out, Outs};
+use gst_item::{Item, Out, Outs};
 use gst_value::{List, OutOfMemory};
 use std::alloc::Global;
 use std::collections::VecDeque;
@@ -179,7 +179,7 @@ fn take(
     ensures fault { IfErr result (λ fault. (respond : Response) (items : List PadItem) → TookAll respond element.old items out.old
         → IsFaultOf (answered (next_fault respond items item.now)) fault) }
 {
-    if matches!(item, Item::Event(Event::FlushStop { .. })) {
+    if item.is_flush_stop() {
         Ok(flush(alloc, element, item, out)?)
     } else {
         feed(alloc, element, item, out)

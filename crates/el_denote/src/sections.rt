@@ -15,7 +15,7 @@ pub(crate) fn part(alloc: Global, items: &[Item], number: usize) -> Result<List<
     let mut part = List::new(alloc);
     let mut passed = 0;
     for item in items {
-        if is_stop(item) {
+        if item.is_flush_stop() {
             if passed == number {
                 return Ok(part);
             }
@@ -25,12 +25,6 @@ pub(crate) fn part(alloc: Global, items: &[Item], number: usize) -> Result<List<
         }
     }
     Ok(part)
-}
-
-fn is_stop(item: &Item) -> bool
-    ensures { result ≡ is_flush_stop item.now }
-{
-    matches!(item, Item::Event(Event::FlushStop { .. }))
 }
 
 /// The most FLUSH_STOPs that a list has.
@@ -49,7 +43,7 @@ fn stops_in(items: &[Item]) -> usize
 {
     let mut count = 0;
     for item in items {
-        if is_stop(item) {
+        if item.is_flush_stop() {
             count += 1;
         }
     }

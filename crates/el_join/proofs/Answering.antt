@@ -1,22 +1,7 @@
 -- What a call answered, handed on.
-use Rattle.std.proofs.Common.{◌≡◌, Result, Ok, Err, IfErr, OnErr, sym, subst}
-use Rattle.std.specs.Prelude.{OnOk, IsErrAnd}
-
--- where a call was answered with Ok
-pub on_ok : {A E : Type 0} (r : Result A E) (P R : Type 0) → (P → R) → OnOk r P → OnOk r R
-on_ok (Ok x) P R f p = f p
-on_ok (Err e) P R f p = tt
+use Rattle.std.proofs.Common.{Result, Ok, Err, OnErr}
 
 -- where it was answered with a fault
 pub on_err : {A E : Type 0} (r : Result A E) (P R : Type 0) → (P → R) → OnErr r P → OnErr r R
 on_err (Ok x) P R f p = tt
 on_err (Err e) P R f p = f p
-
-pub if_err : {A E : Type 0} (r : Result A E) (P R : E → Type 0) → ((e : E) → P e → R e) → IfErr r P → IfErr r R
-if_err (Ok x) P R f p = tt
-if_err (Err e) P R f p = f e p
-
--- a call hands on the fault of a call in it
-pub handed_on : {T X : Type 0} (r : Result T X) (x : X) (P : X → Type 0) → IsErrAnd r (λ fault. fault ≡ x) → P x → IfErr r P
-handed_on (Ok t) x P f p = absurd f
-handed_on (Err y) x P f p = subst P (sym f) p

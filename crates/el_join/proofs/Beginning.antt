@@ -19,11 +19,13 @@ use Rattle.el_join.specs.Pads.{cleared, laid, no_facts}
 use Rattle.el_join.specs.Sections.{reopened_of, all_reopened, reopened, open_section}
 use Rattle.el_join.specs.Concats.{before_eos, has_end, behind, joined_from, all_or_fault, joined_now}
 use Rattle.el_join.specs.Passing.{Swaps}
-use Rattle.el_join.specs.Joins.{wanted, facts_of, waiting_of, Knows, KnowEach, Counts, CountEach, Wait, InTurn, Remembers, Joins, first_open, is_inherited}
-use Rattle.el_join.proofs.Opened.{stops_of, stops_flushed, reopened_flushed}
+use Rattle.el_join.specs.Joins.{wanted, facts_of, waiting_of, Knows, KnowEach, Counts, CountEach, Wait, InTurn, Remembers, Joins, first_open}
+use Rattle.el_join.proofs.Opened.{reopened_flushed}
 use Rattle.el_join.proofs.Noting.{knows_laid, knows_flushed, plain_of, counts_flushed}
 use Rattle.el_join.proofs.Lines.{know_at, know_swapped, level_pushed}
-use Rattle.el_join.proofs.Joining.{flush_push, open_push}
+use Rattle.el_join.proofs.Joining.{open_push}
+use Rattle.flow_model.proofs.Items.{none_in as level_none, stops_flushed, stops_of, stops_push as flush_push}
+use Rattle.flow_model.specs.Inherited.{is_inherited}
 
 plus_none : (m : ℕ) → m ≡ m + 0
 plus_none m = omega arith
@@ -100,10 +102,6 @@ wait_none : (m n : ℕ) → Wait (replicate n []) (all_reopened m (replicate n [
 wait_none m zero = tt
 wait_none zero (suc n) = (refl, wait_none zero n)
 wait_none (suc m) (suc n) = (refl, wait_none (suc m) n)
-
-level_none : (n : ℕ) → InSection 0 (replicate n [])
-level_none zero = tt
-level_none (suc n) = (refl, level_none n)
 
 turn_none : (n : ℕ) → InTurn 0 no_sums no_sums (replicate n []) (all_reopened 0 (replicate n []))
 turn_none zero = refl

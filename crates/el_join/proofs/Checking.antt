@@ -7,8 +7,8 @@ use Rattle.el_join.specs.declared.pad.Pad.{Pad}
 use Rattle.el_join.specs.Outs.{items_of, fault_in}
 use Rattle.el_join.specs.Totals.{with_tally, raised}
 use Rattle.el_join.specs.Passing.{later_from, going_from}
-use Rattle.el_join.proofs.Swapping.{one_more}
 use Rattle.el_join.proofs.Turning.{later_behind, later_at, later_end, going_end, going_length, fault_behind, fault_first}
+use Rattle.gst_value.proofs.Basics.{one_more}
 
 -- From a pad on, as far as a place: no fault was found, and so many items go out.
 pub record Checked (pads : List Pad) (first : ℕ) (sums : Sums) (place : ℕ) (behind : Sums) (count : ℕ) : Type 0 where

@@ -8,8 +8,8 @@ use Rattle.el_join.specs.Pads.{cleared}
 use Rattle.el_join.specs.Joins.{facts_of, waiting_of}
 use Rattle.el_join.specs.Passing.{Swaps, here, there}
 use Rattle.el_join.proofs.Lines.{map_append}
-use Rattle.el_join.proofs.Swapping.{one_more}
 use Rattle.el_join.proofs.Pouring.{facts_swap, waits_swap}
+use Rattle.gst_value.proofs.Basics.{one_more}
 
 -- each member from a place on changed
 abbrev pub changed_from : {A : Type 0} → (A → A) → ℕ → List A → List A

@@ -21,9 +21,10 @@ use Rattle.el_join.specs.Joins.{facts_of, waiting_of, Counts, CountEach, Joins, 
 use Rattle.el_join.proofs.Noting.{Longer, longer_end, knows_ended, counts_ended}
 use Rattle.el_join.proofs.Lines.{AtPad, count_swapped, all_fit, turn_end}
 use Rattle.el_join.proofs.Joining.{opening_ok, opening_fault, due_is, Brings, answers_are, here_is, swap_is, joins_push, next_is}
-use Rattle.el_join.proofs.Swapping.{swaps_drop, one_more}
-use Rattle.el_join.proofs.Lines.{on_append}
-use Rattle.el_join.proofs.Free.{free_append, opening_free}
+use Rattle.el_join.proofs.Swapping.{swaps_drop}
+use Rattle.el_join.proofs.Free.{opening_free}
+use Rattle.flow_model.proofs.Items.{free_append, on_append}
+use Rattle.gst_value.proofs.Basics.{one_more}
 
 abbrev done : List Item → Result (List Item) Fault
 done ys = Ok ys

@@ -7,23 +7,15 @@ use Rattle.flow_model.specs.Feeding.{on_pad}
 use Rattle.flow_model.specs.Rule.{Fault}
 use Rattle.el_join.specs.declared.inherited.Inherited.{Inherited}
 use Rattle.el_join.specs.declared.sums.Sums.{Sums}
-use Rattle.el_join.specs.Events.{start_event, caps_event, tag_event}
 use Rattle.el_join.specs.Outs.{items_of}
 use Rattle.el_join.specs.Pads.{kept, opening_of}
 use Rattle.el_join.specs.Totals.{raised_segment, as_item, lifted, ok_or}
+use Rattle.flow_model.proofs.Items.{free_append}
+use Rattle.flow_model.specs.Inherited.{start_event, caps_event, tag_event}
 
 pub items_on_pad : (xs : List Item) → items_of (on_pad 0 xs) ≡ xs
 items_on_pad [] = refl
 items_on_pad (x ∷ xs) = ap (λ ys. x ∷ ys) (items_on_pad xs)
-
-pub free_append : (xs ys : List Item) → has_flush_stop xs ≡ false → has_flush_stop ys ≡ false → has_flush_stop (xs ++ ys) ≡ false
-free_append [] ys h k = k
-free_append (x ∷ xs) ys h k = go (is_flush_stop x) h (free_append xs ys)
-  where
-    go : (b : Bool) → (if b then true else has_flush_stop xs) ≡ false → (has_flush_stop xs ≡ false → has_flush_stop ys ≡ false → has_flush_stop (xs ++ ys) ≡ false)
-        → (if b then true else has_flush_stop (xs ++ ys)) ≡ false
-    go true h rest = h
-    go false h rest = rest h k
 
 items_append : (xs ys : List Out) → items_of (xs ++ ys) ≡ items_of xs ++ items_of ys
 items_append [] ys = refl

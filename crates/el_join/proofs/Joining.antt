@@ -9,14 +9,11 @@ use Rattle.flow_model.specs.Item.{Item, Ev, StreamStart, NewCaps, is_flush_stop,
 use Rattle.flow_model.specs.Call.{Call, Feed, items}
 use Rattle.flow_model.specs.Feeding.{on_pad, IsFaultOf}
 use Rattle.flow_model.specs.Rule.{Fault, TooLong}
-use Rattle.flow_model.proofs.Calls.{items_push}
-use Rattle.flow_model.specs.SinkPads.{flush_stops_given, push_calls, InSection, calls_at}
-use Rattle.flow_model.specs.Section.{flush_stops}
+use Rattle.flow_model.specs.SinkPads.{push_calls, InSection, calls_at}
 use Rattle.el_join.specs.declared.sums.Sums.{Sums}
 use Rattle.el_join.specs.declared.inherited.Inherited.{Inherited}
 use Rattle.el_join.specs.declared.pad.Facts.{Facts}
 use Rattle.el_join.specs.declared.concat.Concat.{Concat}
-use Rattle.el_join.specs.Events.{start_event, caps_event, tag_event}
 use Rattle.el_join.specs.Outs.{fault_in, IsDue}
 use Rattle.el_join.specs.Totals.{no_sums, raised, lifted}
 use Rattle.el_join.specs.Pads.{opening_of, note_of, noted}
@@ -24,10 +21,11 @@ use Rattle.el_join.specs.Sections.{reopened_of, all_reopened, open_section}
 use Rattle.el_join.specs.Concats.{joined_from, joined, in_front, all_or_fault, joined_now, concat_answers}
 use Rattle.el_join.specs.Passing.{Swaps, here, there}
 use Rattle.el_join.specs.Joins.{wanted, facts_of, waiting_of, Knows, Counts, CountEach, InTurn, Joins, JoinPuts}
-use Rattle.el_join.proofs.Free.{free_append, opening_free, one_free, lifted_stop}
-use Rattle.el_join.proofs.Opened.{stops_of, stops_push}
+use Rattle.el_join.proofs.Free.{opening_free, one_free, lifted_stop}
 use Rattle.el_join.proofs.Noting.{Longer, longer_item, knows_noted, counts_noted, reopened_next}
 use Rattle.el_join.proofs.Lines.{map_append, AtPad, at_pad, lists_swap, know_swapped, level_pushed, count_swapped, first_fault, turn_item}
+use Rattle.flow_model.proofs.Items.{free_append, stops_push as flush_push}
+use Rattle.flow_model.specs.Inherited.{start_event, caps_event, tag_event}
 
 drop_append : {A : Type 0} (xs ys : List A) → drop (length xs) (xs ++ ys) ≡ ys
 drop_append [] ys = refl
@@ -101,10 +99,6 @@ due_is rs (Refused offered wanted) h = absurd h
 due_is rs (Broken place kind) h = absurd h
 due_is rs (Passing a b) h = first_fault rs (TooLong a b) h
 due_is rs Wanting h = tt
-
--- the section that is open stays
-pub flush_push : (cs : List Call) (x : Item) → is_flush_stop x ≡ false → flush_stops_given (cs ++ Feed x ∷ []) ≡ flush_stops_given cs
-flush_push cs x plain = stops_of (cs ++ Feed x ∷ []) ∙ ap flush_stops (items_push cs x) ∙ stops_push (items cs) x plain ∙ sym (stops_of cs)
 
 pub open_push : (k : ℕ) (took : List (List Call)) (x : Item) → is_flush_stop x ≡ false → open_section (push_calls k (Feed x ∷ []) took) ≡ open_section took
 open_push zero [] x plain = refl

@@ -18,6 +18,7 @@ use Rattle.el_join.specs.Passing.{Swaps, here, there, Coming}
 use Rattle.el_join.specs.Joins.{Knows, KnowEach, Counts, CountEach, Wait, InTurn}
 use Rattle.el_join.proofs.Free.{items_on_pad}
 use Rattle.el_join.proofs.Noting.{Longer}
+use Rattle.flow_model.proofs.Items.{on_append}
 
 pub swaps_map : {A B : Type 0} (g : A → B) {k : ℕ} {a b : A} {xs ys : List A} → Swaps k a b xs ys → Swaps k (g a) (g b) (map g xs) (map g ys)
 swaps_map g here = here
@@ -178,11 +179,6 @@ turn_end {k = suc k} {g = g} sums now (w ∷ ws) more (there {xs = fs} {ys = gs}
           ∙ sym (append_assoc (map (raised sums) (before_eos zs)) (joined_from (behind sums zs) xss) tail)
           ∙ ap (λ (rs : List (Result Item Fault)). rs ++ tail) (sym (opened (has_end zs) (map (raised sums) (before_eos zs)) (joined_from (behind sums zs) xss) t.0)),
     )
-
--- A later pad is given an item, which waits.
-pub on_append : (xs ys : List Item) → on_pad 0 (xs ++ ys) ≡ on_pad 0 xs ++ on_pad 0 ys
-on_append [] ys = refl
-on_append (x ∷ xs) ys = ap (λ (os : List Out). record { pad = 0; item = x } ∷ os) (on_append xs ys)
 
 wait_item : {k : ℕ} {w v : List Out} {ws vs : List (List Out)} {xs ys : List Item} {xss yss : List (List Item)} (more : List Item) (over : Bool) → Swaps k w v ws vs → Swaps k xs ys xss yss
     → Longer xs ys more over → v ≡ w ++ on_pad 0 more → Wait ws xss → Wait vs yss

@@ -8,20 +8,21 @@ use Rattle.flow_model.specs.Item.{Item, Event, Buf, Ev, StreamStart, NewCaps, Ne
 use Rattle.flow_model.specs.Sticky.{latest}
 use Rattle.flow_model.specs.Section.{counted}
 use Rattle.flow_model.specs.Call.{Call, Feed, items}
-use Rattle.flow_model.specs.Feeding.{has_item}
 use Rattle.flow_model.proofs.Calls.{items_push, eos_taken, eos_stays, eos_flushed}
 use Rattle.flow_model.proofs.Counted.{counted_taken, counted_behind, counted_flush}
 use Rattle.flow_model.specs.SinkPads.{flush_stops_given}
 use Rattle.el_join.specs.declared.inherited.Inherited.{Inherited}
 use Rattle.el_join.specs.declared.pad.Facts.{Facts}
 use Rattle.el_join.specs.declared.tally.Tally.{Tally}
-use Rattle.el_join.specs.Events.{start_event, caps_event, tag_event}
 use Rattle.el_join.specs.Totals.{tallied, no_tally, tally_of}
 use Rattle.el_join.specs.Pads.{kept, opening_of, note_of, tally_noted, inherited_noted, noted, ended, cleared, laid}
-use Rattle.el_join.specs.Sections.{inherited, reopened, reopened_of}
+use Rattle.el_join.specs.Sections.{reopened, reopened_of}
 use Rattle.el_join.specs.Concats.{before_eos, has_end}
-use Rattle.el_join.specs.Joins.{Knows, Counts, is_inherited}
-use Rattle.el_join.proofs.Opened.{stops_of, end_append, reopened_behind, reopened_push, reopened_flushed}
+use Rattle.el_join.specs.Joins.{Knows, Counts}
+use Rattle.el_join.proofs.Opened.{end_append, reopened_behind, reopened_push, reopened_flushed}
+use Rattle.flow_model.proofs.Items.{stops_of}
+use Rattle.flow_model.specs.Inherited.{is_inherited, inherited, start_event, caps_event, tag_event}
+use Rattle.gst_item.specs.Item.{has_item}
 
 -- the events that are noted
 start_noted : (i : Inherited) (x : Item) → start_event (inherited_noted i (note_of x)).stream_start ≡ (if is_stream_start x then x ∷ [] else start_event i.stream_start)

@@ -3,29 +3,11 @@ use Rattle.std.proofs.Common.{◌≡◌, ℕ, zero, suc, Bool, true, false, if�
 use Rattle.flow_model.specs.Item.{Item, Buf, Ev, StreamStart, NewCaps, NewSegment, Tag, Gap, FlushStop, Eos, is_flush_stop, is_eos, is_stream_start, is_caps, is_tag}
 use Rattle.flow_model.specs.Sticky.{first_found, latest}
 use Rattle.flow_model.specs.Section.{section, counted, before_section, to_eos, flush_stops}
-use Rattle.flow_model.specs.Call.{Call, Feed, Act, items}
-use Rattle.flow_model.specs.Feeding.{has_item}
-use Rattle.flow_model.specs.SinkPads.{flush_stops_given}
-use Rattle.el_join.specs.Sections.{inherited, with_inherited, reopened}
+use Rattle.el_join.specs.Sections.{with_inherited, reopened}
 use Rattle.el_join.specs.Concats.{has_end}
-
-pub stops_of : (cs : List Call) → flush_stops_given cs ≡ flush_stops (items cs)
-stops_of [] = refl
-stops_of (Feed x ∷ cs) = ap (λ n. if is_flush_stop x then suc n else n) (stops_of cs)
-stops_of (Act m ∷ cs) = stops_of cs
-
-pub stops_push : (xs : List Item) (x : Item) → is_flush_stop x ≡ false → flush_stops (xs ++ x ∷ []) ≡ flush_stops xs
-stops_push [] x plain = ap (λ (b : Bool). if b then suc 0 else 0) plain
-stops_push (y ∷ ys) x plain = ap (λ n. if is_flush_stop y then suc n else n) (stops_push ys x plain)
-
-pub stops_flushed : (xs : List Item) (number : ℕ) → flush_stops (xs ++ Ev (FlushStop number) ∷ []) ≡ suc (flush_stops xs)
-stops_flushed [] number = refl
-stops_flushed (y ∷ ys) number = go (is_flush_stop y) (stops_flushed ys number)
-  where
-    go : (b : Bool) → flush_stops (ys ++ Ev (FlushStop number) ∷ []) ≡ suc (flush_stops ys)
-        → (if b then suc (flush_stops (ys ++ Ev (FlushStop number) ∷ [])) else flush_stops (ys ++ Ev (FlushStop number) ∷ [])) ≡ suc (if b then suc (flush_stops ys) else flush_stops ys)
-    go true e = ap suc e
-    go false e = e
+use Rattle.flow_model.proofs.Items.{section_flushed}
+use Rattle.flow_model.specs.Inherited.{inherited}
+use Rattle.gst_item.specs.Item.{has_item}
 
 -- the open section has the item, and what stands before it stays
 pub section_push : (n : ℕ) (xs : List Item) (x : Item) → is_flush_stop x ≡ false → flush_stops xs ≡ n → section n (xs ++ x ∷ []) ≡ section n xs ++ x ∷ []
@@ -72,19 +54,6 @@ before_whole (suc n) (y ∷ ys) e none = go (is_flush_stop y) e none (before_who
         → y ∷ (if b then before_section n ys else before_section (suc n) ys) ≡ y ∷ ys
     go true e none past same = ap (λ zs. y ∷ zs) (past (cc) none)
     go false e none past same = ap (λ zs. y ∷ zs) (same e none)
-
--- behind a FLUSH_STOP the next section is open, and has no item
-pub section_flushed : (n : ℕ) (xs : List Item) (number : ℕ) → flush_stops xs ≡ n → section (suc n) (xs ++ Ev (FlushStop number) ∷ []) ≡ []
-section_flushed zero [] number e = refl
-section_flushed (suc n) [] number e = absurd (cc)
-section_flushed n (y ∷ ys) number e = go n (is_flush_stop y) e (λ m. section_flushed m ys number)
-  where
-    go : (n : ℕ) (b : Bool) → (if b then suc (flush_stops ys) else flush_stops ys) ≡ n
-        → ((m : ℕ) → flush_stops ys ≡ m → section (suc m) (ys ++ Ev (FlushStop number) ∷ []) ≡ [])
-        → (if b then section n (ys ++ Ev (FlushStop number) ∷ []) else section (suc n) (ys ++ Ev (FlushStop number) ∷ [])) ≡ []
-    go zero true e rest = absurd (cc)
-    go (suc n) true e rest = rest n (cc)
-    go n false e rest = rest n e
 
 -- up to the first EOS
 pub to_eos_none : (xs : List Item) → has_end xs ≡ false → to_eos xs ≡ xs

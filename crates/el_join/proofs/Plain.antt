@@ -7,9 +7,11 @@ use Rattle.flow_model.specs.Call.{Call, items}
 use Rattle.flow_model.specs.Rule.{Fault}
 use Rattle.el_join.specs.declared.sums.Sums.{Sums}
 use Rattle.el_join.specs.Totals.{no_sums, raised_segment, as_item, raised}
-use Rattle.el_join.specs.Sections.{inherited, with_inherited, reopened, all_reopened}
+use Rattle.el_join.specs.Sections.{with_inherited, reopened, all_reopened}
 use Rattle.el_join.specs.Concats.{before_eos, has_end, behind, joined_from, up_to_fault, concat_rule}
-use Rattle.el_join.proofs.Free.{free_append, one_free}
+use Rattle.el_join.proofs.Free.{one_free}
+use Rattle.flow_model.proofs.Items.{free_append, section_plain as section_free}
+use Rattle.flow_model.specs.Inherited.{inherited}
 
 -- what is inherited, and a section, have no FLUSH_STOP
 front_free : (z : Item) (zs : List Item) → has_flush_stop (z ∷ zs) ≡ false → has_flush_stop (z ∷ []) ≡ false
@@ -44,21 +46,6 @@ inherited_free : (h : List Item) → has_flush_stop (inherited h) ≡ false
 inherited_free h =
     free_append (latest is_stream_start h) (latest is_caps h ++ latest is_tag h) (latest_free is_stream_start start_free h)
     (free_append (latest is_caps h) (latest is_tag h) (latest_free is_caps caps_free h) (latest_free is_tag tag_free h))
-
-section_free : (j : ℕ) (xs : List Item) → has_flush_stop (section j xs) ≡ false
-section_free zero [] = refl
-section_free (suc j) [] = refl
-section_free zero (x ∷ xs) = go (is_flush_stop x) refl (section_free zero xs)
-  where
-    go : (b : Bool) → is_flush_stop x ≡ b → has_flush_stop (section 0 xs) ≡ false → has_flush_stop (if b then [] else x ∷ section 0 xs) ≡ false
-    go true e rest = refl
-    go false e rest = rw e rest
-section_free (suc j) (x ∷ xs) = go (is_flush_stop x) (section_free j xs) (section_free (suc j) xs)
-  where
-    go : (b : Bool) → has_flush_stop (section j xs) ≡ false → has_flush_stop (section (suc j) xs) ≡ false
-        → has_flush_stop (if b then section j xs else section (suc j) xs) ≡ false
-    go true past same = past
-    go false past same = same
 
 to_eos_free : (xs : List Item) → has_flush_stop xs ≡ false → has_flush_stop (to_eos xs) ≡ false
 to_eos_free [] h = refl

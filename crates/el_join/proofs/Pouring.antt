@@ -15,10 +15,12 @@ use Rattle.el_join.specs.Pads.{opening_of, ended}
 use Rattle.el_join.specs.Totals.{with_tally, lifted}
 use Rattle.el_join.specs.Joins.{facts_of, waiting_of, CountEach}
 use Rattle.el_join.specs.Passing.{Swaps, Coming, ComesOn, later_from, going_from, GoesOn, PassesOn, TurnEnds}
-use Rattle.el_join.proofs.Free.{free_append, lifted_free}
-use Rattle.el_join.proofs.Lines.{swaps_map, on_append, coming_next, coming_stops, coming_whole}
-use Rattle.el_join.proofs.Swapping.{swaps_set, swaps_same, swaps_none, one_more, some_is}
+use Rattle.el_join.proofs.Free.{lifted_free}
+use Rattle.el_join.proofs.Lines.{swaps_map, coming_next, coming_stops, coming_whole}
+use Rattle.el_join.proofs.Swapping.{swaps_set, swaps_same, swaps_none, some_is}
 use Rattle.el_join.proofs.Turning.{going_at, going_end, going_set, going_length}
+use Rattle.flow_model.proofs.Items.{free_append, on_append}
+use Rattle.gst_value.proofs.Basics.{one_more}
 
 -- a pad's facts and what waits there, with the pad exchanged
 pub facts_swap : (k : ℕ) (pads : List Pad) (p q : Pad) (f : Facts) → slice_get pads k ≡ Some p → q.facts ≡ f → Swaps k p.facts f (facts_of pads) (facts_of (set pads k q))

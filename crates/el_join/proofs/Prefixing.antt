@@ -2,33 +2,22 @@
 use Rattle.std.proofs.Common.{◌≡◌, ℕ, zero, suc, Bool, true, false, List, [], ◌∷◌, ◌++◌, map, refl, sym, ap, subst, append-nil, Result, Ok, Err, if◌then◌else◌}
 use Rattle.flow_model.specs.Item.{Item, is_flush_stop, is_eos}
 use Rattle.flow_model.specs.Section.{section, counted, before_section, to_eos}
-use Rattle.flow_model.specs.Call.{Call, Feed, Act, items}
-use Rattle.flow_model.specs.Feeding.{has_item}
+use Rattle.flow_model.specs.Call.{Call}
 use Rattle.flow_model.specs.Prefix.{IsPrefix, nothing, next, ArePrefixes, none, pad}
 use Rattle.flow_model.specs.Rule.{Fault}
 use Rattle.flow_model.proofs.Prefixes.{prefix_refl, prefix_trans, prefix_append, append_prefix}
 use Rattle.flow_model.proofs.Sections.{section_prefix}
 use Rattle.el_join.specs.declared.sums.Sums.{Sums}
 use Rattle.el_join.specs.Totals.{no_sums, with_tally, tally_of, raised}
-use Rattle.el_join.specs.Sections.{inherited, with_inherited, reopened, all_reopened}
+use Rattle.el_join.specs.Sections.{with_inherited, reopened, all_reopened}
 use Rattle.el_join.specs.Concats.{before_eos, has_end, behind, joined_from, joined, up_to_fault, concat_rule}
+use Rattle.flow_model.proofs.Items.{items_prefix, to_eos_prefix}
+use Rattle.flow_model.specs.Inherited.{inherited}
+use Rattle.gst_item.specs.Item.{has_item}
 
 prefix_map : {A B : Type 0} (f : A → B) {xs ys : List A} → IsPrefix xs ys → IsPrefix (map f xs) (map f ys)
 prefix_map f nothing = nothing
 prefix_map f (next p) = next (prefix_map f p)
-
-pub items_prefix : {cs ds : List Call} → IsPrefix cs ds → IsPrefix (items cs) (items ds)
-items_prefix nothing = nothing
-items_prefix (next {x = Feed x} p) = next (items_prefix p)
-items_prefix (next {x = Act m} p) = items_prefix p
-
-to_eos_prefix : {xs ys : List Item} → IsPrefix xs ys → IsPrefix (to_eos xs) (to_eos ys)
-to_eos_prefix nothing = nothing
-to_eos_prefix (next {x = x} {xs = xs} {ys = ys} p) = next (go (is_eos x) (to_eos_prefix p))
-  where
-    go : (b : Bool) → IsPrefix (to_eos xs) (to_eos ys) → IsPrefix (if b then [] else to_eos xs) (if b then [] else to_eos ys)
-    go true q = nothing
-    go false q = q
 
 -- where a section has an item, what stands before it is settled
 before_settled : (j : ℕ) {xs ys : List Item} → IsPrefix xs ys → has_item (section j xs) ≡ true → before_section j xs ≡ before_section j ys

@@ -1,12 +1,12 @@
 -- SEGMENTs with raised numbers.
 use Rattle.std.proofs.Common.{◌≡◌, ◌≤◌, ◌+◌, ℕ, Bool, true, false, Option, Some, None, Result, Ok, Err, refl, sym, subst, if◌then◌else◌}
-use Rattle.std.proofs.Props.{props}
 use Rattle.std.specs.Prelude.{nat_lt}
 use Rattle.std.specs.Option.{option_map, ForSome}
 use Rattle.gst_time.specs.declared.time.TheConstants.{LIMIT}
 use Rattle.flow_model.specs.Item.{Segment}
 use Rattle.flow_model.specs.Rule.{Fault, TooLong}
 use Rattle.el_join.specs.Totals.{raised_number, some_number, raised_stop, where_fits, based, moved}
+use Rattle.gst_value.proofs.Basics.{ordered_prop}
 
 abbrev number_done : ℕ → Result ℕ Fault
 number_done n = Ok n
@@ -31,9 +31,6 @@ stop_is (Some stop) n made e = go (nat_lt (stop + n) LIMIT) e
     go : (t : Bool) → some_number (if t then Ok (stop + n) else Err (TooLong stop n)) ≡ stop_done made → made ≡ Some (stop + n)
     go true e = cc
     go false e = absurd (cc)
-
-ordered_prop : (start : ℕ) (stop : Option ℕ) → IsProp (ForSome stop (λ e. start ≤ e))
-ordered_prop start stop = hlevel props
 
 pub base_raised : (s : Segment) (n base : ℕ) (o : ForSome s.stop (λ e. s.start ≤ e)) → raised_number s.base n ≡ Ok base
     → where_fits (raised_number s.base n) (Ok (based s n))

@@ -9,43 +9,16 @@ use Rattle.flow_model.proofs.Prefixes.{prefix_refl, prefix_append, are_prefixes_
 use Rattle.flow_model.proofs.Calls.{items_push}
 use Rattle.flow_model.specs.SinkPads.{flush_stops_given, push_calls, push_each, InSection}
 use Rattle.el_join.specs.declared.concat.Concat.{Concat}
-use Rattle.el_join.specs.Sections.{inherited, with_inherited, reopened, reopened_of, all_reopened, open_section}
+use Rattle.el_join.specs.Sections.{with_inherited, reopened, reopened_of, all_reopened, open_section}
 use Rattle.el_join.specs.Concats.{joined_from, joined_now, up_to_fault, in_front, all_or_fault, concat, concat_rule, concat_answers}
 use Rattle.el_join.specs.Joins.{Joins}
 use Rattle.el_join.specs.Totals.{no_sums}
 use Rattle.el_join.specs.Laws.{PutsInOrder, OnlyOpenGrows, FlushEnds}
-use Rattle.el_join.proofs.Opened.{stops_of, reopened_flushed}
+use Rattle.el_join.proofs.Opened.{reopened_flushed}
 use Rattle.el_join.proofs.Joining.{all_append, done, open_push}
 use Rattle.el_join.proofs.Prefixing.{all_reopened_prefix, concat_prefix, join_prefix}
-
--- what stands before the end of a section stays
-section_over : (j : ℕ) (xs ys : List Item) → j < flush_stops xs → section j (xs ++ ys) ≡ section j xs
-section_over j [] ys h = absurd (omega (arith, h))
-section_over zero (x ∷ xs) ys h = go (is_flush_stop x) h (section_over zero xs ys)
-  where
-    go : (b : Bool) → 0 < (if b then suc (flush_stops xs) else flush_stops xs) → (0 < flush_stops xs → section 0 (xs ++ ys) ≡ section 0 xs)
-        → (if b then [] else x ∷ section 0 (xs ++ ys)) ≡ (if b then [] else x ∷ section 0 xs)
-    go true h rest = refl
-    go false h rest = ap (λ zs. x ∷ zs) (rest h)
-section_over (suc j) (x ∷ xs) ys h = go (is_flush_stop x) h (section_over j xs ys) (section_over (suc j) xs ys)
-  where
-    go : (b : Bool) → suc j < (if b then suc (flush_stops xs) else flush_stops xs) → (j < flush_stops xs → section j (xs ++ ys) ≡ section j xs)
-        → (suc j < flush_stops xs → section (suc j) (xs ++ ys) ≡ section (suc j) xs)
-        → (if b then section j (xs ++ ys) else section (suc j) (xs ++ ys)) ≡ (if b then section j xs else section (suc j) xs)
-    go true h past same = past (omega (arith, h))
-    go false h past same = same h
-
-section_closed : (j : ℕ) (xs : List Item) (number : ℕ) → j ≤ flush_stops xs → section j (xs ++ Ev (FlushStop number) ∷ []) ≡ section j xs
-section_closed zero [] number h = refl
-section_closed (suc j) [] number h = absurd (omega (arith, h))
-section_closed zero (x ∷ xs) number h = ap (λ zs. if is_flush_stop x then [] else x ∷ zs) (section_closed zero xs number (omega arith))
-section_closed (suc j) (x ∷ xs) number h = go (is_flush_stop x) h (section_closed j xs number) (section_closed (suc j) xs number)
-  where
-    go : (b : Bool) → suc j ≤ (if b then suc (flush_stops xs) else flush_stops xs) → (j ≤ flush_stops xs → section j (xs ++ Ev (FlushStop number) ∷ []) ≡ section j xs)
-        → (suc j ≤ flush_stops xs → section (suc j) (xs ++ Ev (FlushStop number) ∷ []) ≡ section (suc j) xs)
-        → (if b then section j (xs ++ Ev (FlushStop number) ∷ []) else section (suc j) (xs ++ Ev (FlushStop number) ∷ [])) ≡ (if b then section j xs else section (suc j) xs)
-    go true h past same = past (omega (arith, h))
-    go false h past same = same h
+use Rattle.flow_model.proofs.Items.{section_before as section_over, section_closed, stops_of}
+use Rattle.flow_model.specs.Inherited.{inherited}
 
 before_over : (j : ℕ) (xs ys : List Item) → j ≤ flush_stops xs → before_section j (xs ++ ys) ≡ before_section j xs
 before_over zero xs ys h = refl

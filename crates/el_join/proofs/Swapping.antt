@@ -1,5 +1,5 @@
 -- A list with one member exchanged.
-use Rattle.std.proofs.Common.{◌≡◌, ◌+◌, ℕ, zero, suc, Some, List, [], ◌∷◌, drop, set, refl, sym, ap, subst, arith}
+use Rattle.std.proofs.Common.{◌≡◌, ℕ, zero, suc, Some, List, [], ◌∷◌, drop, set, refl, sym, ap, subst}
 use Rattle.std.specs.Prelude.{slice_get}
 use Rattle.el_join.specs.Passing.{Swaps, here, there}
 
@@ -24,6 +24,3 @@ swaps_set (suc k) (z ∷ zs) x y e = there (swaps_set k zs x y e)
 pub swaps_none : {A : Type 0} {k : ℕ} {a : A} {xs ys : List A} → Swaps k a a xs ys → ys ≡ xs
 swaps_none here = refl
 swaps_none (there {x = x} s) = ap (λ zs. x ∷ zs) (swaps_none s)
-
-pub one_more : (k : ℕ) → k + 1 ≡ suc k
-one_more k = omega arith

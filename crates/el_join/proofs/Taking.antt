@@ -1,5 +1,5 @@
 -- From what a pad did to what the element puts out.
-use Rattle.std.proofs.Common.{◌≡◌, ◌≢◌, ◌<◌, ◌+◌, ◌^◌, ℕ, zero, suc, false, Some, List, [], ◌∷◌, ◌++◌, Vec, Global, vec_len, length, length-set, set, refl, sym, ap, ◌∙◌, subst, Result, Ok, Err, arith}
+use Rattle.std.proofs.Common.{◌≡◌, ◌≢◌, ◌<◌, ◌+◌, ◌^◌, ℕ, false, Some, List, [], ◌∷◌, ◌++◌, Vec, Global, vec_len, length, length-set, set, refl, sym, ap, ◌∙◌, subst, Result, Ok, Err}
 use Rattle.std.proofs.Props.{props}
 use Rattle.std.specs.Prelude.{slice_get, IfErr, OnOk}
 use Rattle.std.specs.Vec.{with_item}
@@ -23,6 +23,8 @@ use Rattle.el_join.proofs.Joining.{puts_item, turn_fault}
 use Rattle.el_join.proofs.Ending.{puts_end, end_fault}
 use Rattle.el_join.proofs.Keeping.{puts_kept}
 use Rattle.el_join.proofs.Pouring.{facts_swap, waits_swap, waits_same}
+use Rattle.gst_value.proofs.Basics.{length_prop}
+use Rattle.gst_value.proofs.Places.{found_at}
 
 -- an element of the same parts
 few_prop : (n : ℕ) → IsProp (n < 2 ^ 32)
@@ -38,9 +40,6 @@ pub concat_is : (old : Concat) (pads : Vec Pad Global) (turn : ℕ) (sums : Sums
 concat_is old pads turn sums e f g =
     subst (λ (v : Vec Pad Global). SameAs old v turn sums) (sym e) (subst (λ (n : ℕ). SameAs old old.pads n sums) (sym f) (subst (λ (s : Sums). SameAs old old.pads old.turn s) (sym g) (as_is old)))
 
-length_prop : (m n : ℕ) → IsProp (m ≡ n)
-length_prop m n = hlevel props
-
 abbrev SameVec : Vec Pad Global → List Pad → Type 0
 SameVec v ws = (o : v.len ≡ length ws) → record { ptr = v.ptr; len = v.len; cap = v.cap; alloc = v.alloc; items = ws; ok = (o, v.ok.1); small = v.small } ≡ v
 
@@ -51,12 +50,6 @@ pub vec_back : (v : Vec Pad Global) (k : ℕ) (p q : Pad) → slice_get v.items 
 vec_back v k p q at is =
     subst (λ (ws : List Pad). SameVec v ws) (sym (ap (λ (r : Pad). set v.items k r) is ∙ swaps_none (swaps_set k v.items p p at))) (same_vec v)
     (v.ok.0 ∙ sym (length-set v.items k q))
-
--- a member of a list
-pub found_at : {A : Type 0} (xs : List A) (k : ℕ) → k < length xs → (x : A) × (slice_get xs k ≡ Some x)
-found_at [] k h = absurd (omega (arith, h))
-found_at (x ∷ xs) zero h = (x, refl)
-found_at (x ∷ xs) (suc k) h = found_at xs k (omega (arith, h))
 
 pub no_eos_is : (old : Concat) (k : ℕ) (p : Pad) → slice_get old.pads.items k ≡ Some p → p.facts.ended ≡ false → HasNoEos old k
 no_eos_is old k p at none q is = ap (λ (r : Pad). r.facts.ended) (some_is q p (sym is ∙ at)) ∙ none

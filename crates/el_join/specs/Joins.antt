@@ -1,20 +1,21 @@
 -- For which lists an element that puts streams one behind the other stands.
-use Rattle.std.specs.Prelude.{◌≡◌, ℕ, zero, suc, Bool, true, false, List, [], ◌∷◌, ◌++◌, map, length, if◌then◌else◌, Option, None, Some, Ok, nat_lt, slice_get}
+use Rattle.std.specs.Prelude.{◌≡◌, ℕ, zero, suc, true, false, List, [], ◌∷◌, ◌++◌, map, length, if◌then◌else◌, Option, None, Some, Ok, nat_lt, slice_get}
 use Rattle.gst_item.specs.declared.out.Out.{Out}
-use Rattle.flow_model.specs.Item.{Item, Event, Ev, is_stream_start, is_caps, is_tag}
+use Rattle.flow_model.specs.Item.{Item, is_stream_start, is_caps, is_tag}
 use Rattle.flow_model.specs.Sticky.{latest, has_flush_stop}
 use Rattle.flow_model.specs.Section.{counted}
 use Rattle.flow_model.specs.Call.{Call, Feed, items}
-use Rattle.flow_model.specs.Feeding.{has_item, has_eos, on_pad}
+use Rattle.flow_model.specs.Feeding.{has_eos, on_pad}
 use Rattle.flow_model.specs.SinkPads.{InSection, push_calls}
 use Rattle.el_join.specs.declared.sums.Sums.{Sums}
 use Rattle.el_join.specs.declared.pad.Facts.{Facts}
 use Rattle.el_join.specs.declared.pad.Pad.{Pad}
 use Rattle.el_join.specs.declared.concat.Concat.{Concat}
-use Rattle.el_join.specs.Events.{start_event, caps_event, tag_event}
 use Rattle.el_join.specs.Totals.{no_sums, tally_of}
 use Rattle.el_join.specs.Sections.{all_reopened, open_section}
 use Rattle.el_join.specs.Concats.{before_eos, has_end, behind, joined_now, all_or_fault, concat_answers}
+use Rattle.flow_model.specs.Inherited.{start_event, caps_event, tag_event}
+use Rattle.gst_item.specs.Item.{has_item}
 
 -- how many sink pads there are, and the one in turn
 abbrev pub sink_pads : Concat → ℕ
@@ -103,7 +104,3 @@ pub record JoinPuts (old new : Concat) (pad : ℕ) (item : Item) (out out' : Lis
 -- a sink pad had no EOS in this section
 abbrev pub HasNoEos : Concat → ℕ → Type 0
 HasNoEos element pad = (p : Pad) → slice_get element.pads.items pad ≡ Some p → p.facts.ended ≡ false
-
--- STREAM_START, CAPS or TAG
-abbrev pub is_inherited : Event → Bool
-is_inherited event = if is_stream_start (Ev event) then true else (if is_caps (Ev event) then true else is_tag (Ev event))

@@ -2,7 +2,6 @@ pub mod Totals
 pub mod Sections
 pub mod Concats
 pub mod Pads
-pub mod Events
 pub mod Outs
 pub mod Joins
 pub mod Going

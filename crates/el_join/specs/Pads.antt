@@ -6,8 +6,8 @@ use Rattle.el_join.specs.declared.note.Note.{Note}
 use Rattle.el_join.specs.declared.note.Note.TheVariants.{Buffer as Length, StreamStart as Start, Caps as OfCaps, Segment as InForce, Tag as Title, Other}
 use Rattle.el_join.specs.declared.pad.Facts.{Facts}
 use Rattle.el_join.specs.declared.tally.Tally.{Tally}
-use Rattle.el_join.specs.Events.{start_event, caps_event, tag_event}
 use Rattle.el_join.specs.Totals.{added, end_of, running_in, no_tally}
+use Rattle.flow_model.specs.Inherited.{start_event, caps_event, tag_event}
 
 -- the events that a pad inherits
 abbrev pub kept : Inherited → List Item

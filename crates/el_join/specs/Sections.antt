@@ -1,15 +1,11 @@
 -- Rules of elements with several sink pads: from the pads' lists of one section, section by section.
 use Rattle.std.specs.Prelude.{ℕ, List, [], ◌∷◌, ◌++◌, map}
-use Rattle.flow_model.specs.Item.{Item, is_stream_start, is_caps, is_tag}
-use Rattle.flow_model.specs.Sticky.{latest}
+use Rattle.flow_model.specs.Item.{Item}
 use Rattle.flow_model.specs.Section.{section, before_section, to_eos, counted}
 use Rattle.flow_model.specs.Call.{Call, items}
 use Rattle.flow_model.specs.SinkPads.{flush_stops_given}
 use Rattle.flow_model.specs.Rule.{Rule}
-
--- what a section inherits: the STREAM_START, CAPS and TAG in force
-abbrev pub inherited : List Item → List Item
-inherited h = latest is_stream_start h ++ (latest is_caps h ++ latest is_tag h)
+use Rattle.flow_model.specs.Inherited.{inherited}
 
 -- what a section inherits stands before its first item
 abbrev pub with_inherited : List Item → List Item → List Item

@@ -4,7 +4,7 @@ ghost use Rattle.std.specs.Prelude.{◌≡◌, ◌<◌, ◌^◌, vec_len};
 use crate::pad::Pad;
 use crate::pads::{clear_all, end_turn, new_pads};
 use crate::sums::Sums;
-use flow_model::{ElementFault, is_end};
+use flow_model::ElementFault;
 use gst_item::{Event, Flow, Item, Outs};
 use gst_value::OutOfMemory;
 use std::alloc::Global;
@@ -29,7 +29,8 @@ impl Concat {
     ghost use Rattle.flow_model.specs.SinkPads.{push_calls, push_each, calls_at};
     ghost use Rattle.el_join.specs.declared.pad.Pad.{Pad};
     ghost use Rattle.el_join.specs.Concats.{concat_answers};
-    ghost use Rattle.el_join.specs.Joins.{Joins, JoinPuts, Remembers, HasNoEos, sink_pads, wanted, first_open, is_inherited};
+    ghost use Rattle.el_join.specs.Joins.{Joins, JoinPuts, Remembers, HasNoEos, sink_pads, wanted, first_open};
+    ghost use Rattle.flow_model.specs.Inherited.{is_inherited};
 
     /// An element of so many sink pads, at most 64, that was fed nothing yet.
     pub fn new(alloc: Global, pads: u32) -> Result<Concat, OutOfMemory>
@@ -145,7 +146,7 @@ impl Concat {
             self.keep(alloc, pad, item)?;
             return Ok(());
         }
-        if is_end(&item) {
+        if item.is_eos() {
             return self.end(alloc, out);
         }
         self.pass(alloc, item, out)

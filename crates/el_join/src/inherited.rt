@@ -2,7 +2,9 @@
 ghost use Rattle.std.specs.Prelude.{◌≡◌, ◌++◌, ◌∷◌, [], IfOk, OnOk};
 ghost use Rattle.flow_model.specs.Item.{Ev};
 ghost use Rattle.flow_model.specs.Feeding.{on_pad};
-ghost use Rattle.el_join.specs.Events.{start_event, caps_event, tag_event};
+ghost use Rattle.flow_model.specs.Inherited.{tag_event};
+ghost use Rattle.flow_model.specs.Inherited.{caps_event};
+ghost use Rattle.flow_model.specs.Inherited.{start_event};
 
 use gst_item::{Event, Item, Out};
 use gst_value::{Fixed, OutOfMemory, Text};

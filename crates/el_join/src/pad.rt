@@ -12,7 +12,7 @@ use crate::note::Note;
 use crate::sums::{Excess, Sums};
 use crate::tally::Tally;
 use crate::waiting::Waiting;
-use flow_model::{ElementFault, is_end};
+use flow_model::ElementFault;
 use gst_item::{Event, Item, Out, Outs};
 use gst_value::OutOfMemory;
 use std::alloc::Global;
@@ -258,7 +258,7 @@ impl Pad {
         ensures facts { OnOk result (self.new.facts ≡ taken self.old.facts item) }
         ensures stays { OnErr result (self.new ≡ self.old) }
     {
-        if is_end(&item) {
+        if item.is_eos() {
             return self.keep_end(alloc);
         }
         self.keep_item(alloc, item)

@@ -1,6 +1,5 @@
 -- Caps that the template of an element accepts are audio, of the format that the element takes.
-use Rattle.std.proofs.Common.{◌≡◌, true, ℕ, ◌*◌, ◌⊎◌, Some, None, refl, sym, ap, ◌∙◌}
-use Rattle.std.specs.Option.{unwrap_or}
+use Rattle.std.proofs.Common.{◌≡◌, true, ℕ, ◌*◌, ◌⊎◌, Some, None, refl, sym, ◌∙◌}
 use Rattle.gst_caps.specs.Accepts.{accepts}
 use Rattle.gst_value.specs.Description.{Description}
 use Rattle.gst_caps.specs.declared.caps.Caps.{Caps}
@@ -10,6 +9,7 @@ use Rattle.audio_info.specs.Packing.{sample_width}
 use Rattle.audio_info.specs.Templates.{sample_template}
 use Rattle.audio_info.specs.declared.sample.Sample.{Sample}
 use Rattle.audio_info.proofs.Accepted.{IsAudio, IsThe, sample_accepted, lacks_nothing}
+use Rattle.gst_value.proofs.Basics.{some_same}
 use Rattle.el_law.specs.Laws.{format_in, frame_width}
 use Rattle.el_law.specs.declared.kind.LawKind.{LawKind}
 
@@ -24,6 +24,3 @@ pub width_is : (kind : LawKind) (caps : Description One) (format : Sample) (chan
 width_is kind caps format channels width p format_is channels_are is =
     let same : format ≡ format_in kind = some_same (sym format_is ∙ p.format) in
     rw (channels_are, is, same) refl
-  where
-    some_same : {a b : Sample} → Some a ≡ Some b → a ≡ b
-    some_same {a = a} e = ap (λ o. unwrap_or o a) e

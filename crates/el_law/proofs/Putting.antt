@@ -1,10 +1,10 @@
 -- What an element of a law puts out for a call.
-use Rattle.std.proofs.Common.{◌≡◌, Bool, true, false, if◌then◌else◌, ℕ, Option, None, List, [], ◌∷◌, ◌++◌, Result, Ok, Err, IfOk, IfErr, OnOk, refl, sym, ◌∙◌, append-nil}
+use Rattle.std.proofs.Common.{◌≡◌, true, false, ℕ, Option, None, List, [], ◌∷◌, ◌++◌, Result, Ok, Err, IfOk, IfErr, OnOk, refl, sym, ◌∙◌, append-nil}
 use Rattle.flow_model.specs.declared.fault.ElementFault.{ElementFault}
 use Rattle.gst_item.specs.declared.flow.Flow.{Flow}
 use Rattle.gst_item.specs.declared.flow.Flow.TheVariants.{Ok as Taken}
 use Rattle.gst_item.specs.declared.out.Out.{Out}
-use Rattle.flow_model.specs.Item.{Item, Buffer, Buf, Ev, Eos, is_flush_stop, is_eos}
+use Rattle.flow_model.specs.Item.{Item, Buffer, Buf, is_flush_stop, is_eos}
 use Rattle.flow_model.specs.Call.{Call, Feed, Act, Drain}
 use Rattle.flow_model.specs.Rule.{NotNegotiated}
 use Rattle.flow_model.specs.Feeding.{on_pad, passed, flow_behind, next_owed, IsFaultOf}
@@ -14,8 +14,8 @@ use Rattle.el_law.specs.Laws.{format_in, law_answer, recodes, recoded, frame_beh
 use Rattle.audio_info.specs.Templates.{sample_template}
 use Rattle.el_law.specs.Recoded.{Recoded, recoding}
 use Rattle.el_law.specs.Puts.{Puts}
-use Rattle.flow_model.specs.Owed.{without_eos}
 use Rattle.el_law.proofs.Recoding.{fault_known, recoded_taken, recoded_behind, recoded_drain}
+use Rattle.flow_model.proofs.Items.{none_owed}
 
 -- an item in a section that is not over
 pub puts_taken : (old new : Law) (x : Item) (out out' : List Out) → is_flush_stop x ≡ false → old.ended ≡ false
@@ -79,11 +79,6 @@ puts_behind law x out plain ended =
           rw over refl;
       stands = recoded_behind law x plain ended;
     }
-
--- a drain, of which nothing comes
-none_owed : (over : Bool) → without_eos (if over then Ok [] else Ok (Ev Eos ∷ [])) ≡ Ok []
-none_owed true = refl
-none_owed false = refl
 
 pub puts_drained : (law : Law) (out : List Out) → Puts law law (Act Drain) out out
 puts_drained law out =

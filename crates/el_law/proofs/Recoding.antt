@@ -19,8 +19,9 @@ use Rattle.flow_model.proofs.Calls.{items_push, items_act, fed_taken, fed_behind
 use Rattle.flow_model.proofs.CapsFed.{caps_fed}
 use Rattle.el_law.specs.declared.kind.LawKind.{LawKind}
 use Rattle.el_law.specs.declared.law.Law.{Law}
-use Rattle.el_law.specs.Laws.{frame_width, frame_in_force, bytes_got, law_answer, recodes, recoded, frame_behind, got_behind}
+use Rattle.el_law.specs.Laws.{frame_width, frame_in_force, law_answer, recodes, recoded, frame_behind, got_behind}
 use Rattle.el_law.specs.Recoded.{recoding, Recoded}
+use Rattle.flow_model.specs.Looking.{bytes_since_flush as bytes_got}
 
 -- the bytes of a frame behind one more item
 width_by : (kind : LawKind) (caps : Option (Description One)) (x : Item) → option_map (frame_width kind) (caps_behind caps x) ≡ frame_behind kind (option_map (frame_width kind) caps) x

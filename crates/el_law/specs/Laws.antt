@@ -1,13 +1,12 @@
 -- The rule of the elements that code and decode by the laws of ITU-T G.711. Each item that counts is recoded by
 -- itself: a body sample by sample, CAPS to those of the other format, and all else passes.
 use Rattle.std.specs.Prelude.{ℕ, ◌+◌, ◌*◌, ◌/◌, ◌%◌, ◌^◌, ◌==◌, false, nat_lt, List, [], ◌∷◌, length, Option, None, Some, Result, Ok, Err, if◌then◌else◌}
-use Rattle.std.specs.List.{flat_map, sum_by}
+use Rattle.std.specs.List.{flat_map}
 use Rattle.std.specs.Option.{option_map, unwrap_or}
 use Rattle.std.specs.Simd.{first_chunks}
 use Rattle.gst_caps.specs.Accepts.{accepts}
 use Rattle.gst_value.specs.Description.{Description}
 use Rattle.gst_value.specs.declared.one.One.{One}
-use Rattle.gst_item.specs.Sticky.{since_flush_stop}
 use Rattle.flow_model.specs.declared.fault.StreamKind.TheVariants.{SplitFrame}
 use Rattle.audio_info.specs.Media.{caps_of, rate_of, channels_of}
 use Rattle.audio_info.specs.Packing.{sample_width, sample_value, sample_bytes}
@@ -20,6 +19,7 @@ use Rattle.flow_model.specs.CapsInForce.{caps_in_force}
 use Rattle.audio_info.specs.Templates.{sample_template}
 use Rattle.el_law.specs.declared.kind.LawKind.{LawKind}
 use Rattle.el_law.specs.declared.kind.LawKind.TheVariants.{MulawEnc, AlawEnc, MulawDec, AlawDec}
+use Rattle.flow_model.specs.Looking.{bytes_since_flush as bytes_got}
 
 -- the format of the samples that an element takes
 abbrev pub format_in : LawKind → Sample
@@ -64,10 +64,6 @@ frame_width kind caps = unwrap_or (channels_of caps) 0 * sample_width (format_in
 -- the bytes of a frame of the caps in force
 abbrev pub frame_in_force : LawKind → List Item → Option ℕ
 frame_in_force kind h = option_map (frame_width kind) (caps_in_force h)
-
--- the bytes that a list has since its last FLUSH_STOP
-abbrev pub bytes_got : List Item → ℕ
-bytes_got h = sum_by (λ x. length (body_of x)) (since_flush_stop h)
 
 -- What is owed for a buffer whose frames have so many bytes, behind so many. One that is not a whole number of
 -- frames is a fault at its end, and so is one at whose end the count of bytes is too large.

@@ -7,7 +7,8 @@ use Rattle.flow_model.specs.Rule.{Fed, unfed, all_called, owed_for}
 use Rattle.flow_model.specs.Feeding.{has_eos}
 use Rattle.el_law.specs.declared.kind.LawKind.{LawKind}
 use Rattle.el_law.specs.declared.law.Law.{Law}
-use Rattle.el_law.specs.Laws.{frame_in_force, bytes_got, recoded, recodes}
+use Rattle.el_law.specs.Laws.{frame_in_force, recoded, recodes}
+use Rattle.flow_model.specs.Looking.{bytes_since_flush as bytes_got}
 
 -- how far its rule has come
 abbrev pub recoding : LawKind → List Call → Fed

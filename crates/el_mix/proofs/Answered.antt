@@ -20,7 +20,7 @@ use Rattle.el_mix.specs.Agreed.{is_there, caps_in, pad_caps, lowest_caps, first_
 use Rattle.el_mix.specs.Reopened.{reopened, reopenings}
 use Rattle.el_mix.specs.Mixes.{interleaved, mixes}
 use Rattle.el_mix.specs.Order.{IsKnown, InOrder}
-use Rattle.el_mix.specs.Answer.{end_of, reached, more_or, answer_in, mix_answer}
+use Rattle.el_mix.specs.Answer.{reached, more_or, answer_in, mix_answer}
 use Rattle.el_mix.specs.Sections.{BelowKnown}
 use Rattle.el_mix.specs.Due.{IsDue}
 use Rattle.el_mix.specs.Judging.{lowest_to, inherited_refusal, own_refusal, verdict, IsFine}
@@ -28,7 +28,7 @@ use Rattle.el_mix.specs.Taking.{hears, bare}
 use Rattle.el_mix.specs.Putting.{ended_by}
 use Rattle.el_mix.specs.Standing.{CountEach, known, lower_known, Holds, Behind, rest_owed}
 use Rattle.el_mix.specs.Calls.{Takes}
-use Rattle.el_mix.specs.Relation.{start_event, caps_event, KnowEach, section_of, Mixes, MixPuts}
+use Rattle.el_mix.specs.Relation.{KnowEach, section_of, Mixes, MixPuts}
 use Rattle.el_mix.proofs.Answering.{section_at}
 use Rattle.el_mix.proofs.Opening.{still_in, pad_goes_on}
 use Rattle.el_mix.proofs.Ordering.{open_in_order, keeps_order}
@@ -36,6 +36,8 @@ use Rattle.el_mix.proofs.Refusing.{push_item, item_at, push_lists, list_at, push
 use Rattle.el_mix.proofs.Judged.{neither, own_below, agreed_at, first_agrees, caps_agree}
 use Rattle.el_mix.proofs.Calling.{fine_at, verdict_push, new_behind, new_owed, place_below}
 use Rattle.el_mix.proofs.Knowing.{knows_took, know_push, know_at, know_length}
+use Rattle.flow_model.specs.Inherited.{start_event, caps_event}
+use Rattle.flow_model.specs.Looking.{end_of}
 
 differ : true ≡ false → ⊥
 differ e = absurd (cc)

@@ -2,7 +2,7 @@
 use Rattle.std.proofs.Common.{◌≡◌, ◌<◌, ◌≤◌, ℕ, zero, suc, ◌+◌, ◌*◌, ◌^◌, true, false, if◌then◌else◌, List, [], ◌∷◌, ◌++◌, Option, Some, None, length, map, set, refl, sym, ap, ◌∙◌, subst, inl, inr, arith}
 use Rattle.std.specs.Prelude.{slice_get}
 use Rattle.std.proofs.Math.Nat.{div-mul-le_self, mul-le-mul_right}
-use Rattle.std.proofs.lemmas.Option.{same_Some as caps_is, same_Some as chan_is}
+use Rattle.std.proofs.lemmas.Option.{same_Some as chan_is}
 use Rattle.gst_caps.specs.Accepts.{accepts}
 use Rattle.gst_value.specs.Description.{Description}
 use Rattle.gst_value.specs.declared.one.One.{One}
@@ -25,14 +25,10 @@ use Rattle.el_mix.proofs.Judged.{AllBegun, Follows, neither, none_start, agreed_
 use Rattle.el_mix.proofs.Coming.{IsTaken, is_taken, took_waits}
 use Rattle.el_mix.proofs.Together.{count_at, wait_at, push_waits, each_took, begun_of_started}
 use Rattle.el_mix.proofs.Owed.{is_open, more_owed, open_behind}
-use Rattle.el_mix.proofs.Moving.{length_is}
+use Rattle.el_mix.proofs.Moving.{length_is, or_first}
 
 differ : true ≡ false → ⊥
 differ e = absurd (cc)
-
--- what is known of the CAPS of the channel of a place
-or_first : (o p : Option (Description One)) (caps found : Description One) → o ≡ Some found → or_else o p ≡ Some caps → found ≡ caps
-or_first o p caps found is e = caps_is found caps (ap (λ q. or_else q p) (sym is) ∙ e)
 
 agree_at : (low : Option (Description One)) (i : ℕ) (cs : List Channel) (xss : List (List Item)) (c : Channel) → slice_get cs i ≡ Some c → CountEach cs xss → AgreeEach low cs xss
     → c.progress.begun ≡ true → (own : Description One) → hears c ≡ Some own

@@ -53,7 +53,7 @@ all_over [] (xs ∷ xss) ks h = absurd ks
 all_over (c ∷ cs) (xs ∷ xss) ks h =
     let k : Counts c xs = ks.0 in ap (λ (b : Bool). if b then all_have is_eos xss else false) (sym k.ended ∙ h.0) ∙ all_over cs xss ks.1 h.1
 
-start_of : (xs : List Item) → has is_eos xs ≡ true → has is_start xs ≡ true
+pub start_of : (xs : List Item) → has is_eos xs ≡ true → has is_start xs ≡ true
 start_of [] h = absurd (cc)
 start_of (x ∷ xs) h = go (is_segment x) (is_eos x) h (start_of xs)
   where

@@ -17,7 +17,8 @@ use Rattle.el_mix.specs.Taking.{hears, kept_line, next_id, settled, Took}
 use Rattle.el_mix.specs.Judging.{own_refusal}
 use Rattle.el_mix.specs.Lined.{joined, AllWhole, Lined}
 use Rattle.el_mix.specs.Standing.{Counts, Waits}
-use Rattle.el_mix.proofs.Growing.{has_push, caps_push, id_push, bytes_push, sum_whole, left_length, lined_body, lined_none, lined_empty}
+use Rattle.el_mix.proofs.Growing.{has_push, caps_push, id_push, sum_whole, left_length, lined_body, lined_none, lined_empty}
+use Rattle.flow_model.proofs.Looking.{bytes_push}
 
 or_swap : (a b : Bool) → (if a then true else b) ≡ (if b then true else a)
 or_swap true true = refl
@@ -171,7 +172,7 @@ took_waits next c d xs x few low i w t = record {
 with_waiting : (d : Channel) (l : Line) → l ≡ d.waiting → record d { waiting = l } ≡ d
 with_waiting d l e = ap (λ (m : Line). record d { waiting = m }) e
 
-kept_settled : (l : Line) (b : List ℕ) → line_of l.rest ≡ l → line_of (kept_line l b).rest ≡ kept_line l b
+pub kept_settled : (l : Line) (b : List ℕ) → line_of l.rest ≡ l → line_of (kept_line l b).rest ≡ kept_line l b
 kept_settled l [] e = e
 kept_settled l (x ∷ b) e = ap (λ (m : Line). record { rest = l.rest ++ (x ∷ b) ∷ []; ahead = m.ahead ++ (x ∷ b) ∷ [] }) e
 

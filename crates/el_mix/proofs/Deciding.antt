@@ -4,7 +4,7 @@ use Rattle.std.specs.Prelude.{OnOk, option_and_then}
 use Rattle.gst_value.specs.Description.{Description}
 use Rattle.gst_value.specs.declared.one.One.{One}
 use Rattle.gst_caps.specs.declared.caps.Caps.{Caps}
-use Rattle.audio_info.specs.Same.{same_caps}
+use Rattle.gst_caps.specs.Same.{same_caps}
 use Rattle.audio_info.specs.Alone.{exactly}
 use Rattle.audio_info.specs.declared.info.Info.{Info}
 use Rattle.flow_model.specs.declared.fault.ElementFault.{ElementFault}
@@ -17,8 +17,8 @@ use Rattle.el_mix.specs.Heard.{mono_by, heard}
 use Rattle.el_mix.specs.Due.{IsDue, bytes_refusal}
 use Rattle.el_mix.specs.Judging.{inherited_refusal, own_refusal, verdict, IsFine}
 use Rattle.el_mix.specs.Taking.{hears, IsHeard}
-use Rattle.el_mix.proofs.Handing.{on_ok, if_err}
 use Rattle.el_mix.proofs.Telling.{buffer_told, caps_heard, verdict_fresh}
+use Rattle.gst_value.proofs.Results.{if_err, then_ok as on_ok}
 
 -- a fault that is due stays due
 pub due_is : (o p : Option Fault) (fault : ElementFault) → p ≡ o → IsDue o fault → IsDue p fault

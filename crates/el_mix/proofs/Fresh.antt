@@ -3,7 +3,7 @@ use Rattle.std.proofs.Common.{◌≡◌, ◌<◌, ℕ, zero, suc, ◌^◌, Bool,
 use Rattle.std.specs.Option.{option_map}
 use Rattle.gst_value.specs.Description.{Description}
 use Rattle.gst_value.specs.declared.one.One.{One}
-use Rattle.flow_model.specs.Item.{Item, Buf, Ev, StreamStart, NewCaps, NewSegment, Tag, Gap, FlushStop, Eos, is_stream_start, is_tag, is_flush_stop, is_eos}
+use Rattle.flow_model.specs.Item.{Item, Buf, Ev, StreamStart, NewCaps, NewSegment, Tag, Gap, FlushStop, Eos, is_stream_start, is_tag, is_eos}
 use Rattle.flow_model.specs.Sticky.{first_found, latest}
 use Rattle.flow_model.specs.Section.{section, counted, before_section, to_eos, flush_stops}
 use Rattle.flow_model.specs.Call.{Call, Feed, items}
@@ -14,17 +14,19 @@ use Rattle.el_mix.specs.declared.position.Position.{Position}
 use Rattle.el_mix.specs.Mono.{mono_of}
 use Rattle.el_mix.specs.Heard.{mono_by}
 use Rattle.el_mix.specs.Positions.{Begins}
-use Rattle.el_mix.specs.Reopened.{counted_section, inherited, reopened, reopenings}
+use Rattle.el_mix.specs.Reopened.{counted_section, reopened, reopenings}
 use Rattle.el_mix.specs.Mixed.{has}
 use Rattle.el_mix.specs.Agreed.{or_else, pad_caps}
 use Rattle.el_mix.specs.Mixes.{pad_id}
 use Rattle.el_mix.specs.Judging.{inherited_refusal}
 use Rattle.el_mix.specs.Taking.{hears, settled, flushed, new_channel}
 use Rattle.el_mix.specs.Standing.{IsFresh, Counts, CountEach, AgreeEach, AnyBegun, BegunInOrder, Waits, WaitEach, opened, limit_in, time_in, Holds}
-use Rattle.el_mix.specs.Relation.{start_event, caps_event, Knows, KnowEach}
+use Rattle.el_mix.specs.Relation.{Knows, KnowEach}
 use Rattle.el_mix.proofs.Growing.{or_none, lined_empty}
 use Rattle.el_mix.proofs.Coming.{time_of_none}
-use Rattle.el_mix.proofs.Opening.{stops_of, section_next}
+use Rattle.el_mix.proofs.Opening.{section_next}
+use Rattle.flow_model.proofs.Items.{before_flushed, stops_of}
+use Rattle.flow_model.specs.Inherited.{inherited, start_event, caps_event}
 
 -- a list of at most one TAG
 pub data OneTag : List Item → Type 0 where
@@ -70,20 +72,7 @@ inherits None (Some c) _ with_one = record { fresh = record { unstarted = refl; 
 inherits (Some n) None _ with_one = record { fresh = record { unstarted = refl; empty = refl; judged = λ r l. refl }; unended = refl; caps_are = refl; id_is = refl }
 inherits (Some n) (Some c) _ with_one = record { fresh = record { unstarted = refl; empty = refl; judged = λ r l. or_none (inherited_refusal l (Some c)) }; unended = refl; caps_are = refl; id_is = refl }
 
--- a pad's list behind a flush
-before_flushed : (w : List Item) (n k : ℕ) → flush_stops w ≡ n → before_section (suc n) (w ++ Ev (FlushStop k) ∷ []) ≡ w ++ Ev (FlushStop k) ∷ []
-before_flushed [] zero k e = refl
-before_flushed [] (suc n) k e = absurd (cc)
-before_flushed (x ∷ w) n k e = ap (λ zs. x ∷ zs) (go (is_flush_stop x) n e (λ m f. before_flushed w m k f))
-  where
-    go : (b : Bool) (n : ℕ) → (if b then suc (flush_stops w) else flush_stops w) ≡ n
-        → ((m : ℕ) → flush_stops w ≡ m → before_section (suc m) (w ++ Ev (FlushStop k) ∷ []) ≡ w ++ Ev (FlushStop k) ∷ [])
-        → (if b then before_section n (w ++ Ev (FlushStop k) ∷ []) else before_section (suc n) (w ++ Ev (FlushStop k) ∷ [])) ≡ w ++ Ev (FlushStop k) ∷ []
-    go true zero e later = absurd (omega (arith, e))
-    go true (suc m) e later = later m (omega (arith, e))
-    go false n e later = later n e
-
-flushed_list : (n k : ℕ) (calls : List Call) → flush_stops_given calls ≡ n
+pub flushed_list : (n k : ℕ) (calls : List Call) → flush_stops_given calls ≡ n
     → reopened (suc n) (items (calls ++ Feed (Ev (FlushStop k)) ∷ [])) ≡ inherited (counted (items (calls ++ Feed (Ev (FlushStop k)) ∷ [])))
 flushed_list n k calls is =
     let stop : Item = Ev (FlushStop k) in

@@ -1,5 +1,5 @@
 -- A channel that takes an item, and what becomes of the others.
-use Rattle.std.proofs.Common.{◌≡◌, ◌≤◌, ℕ, zero, suc, false, List, [], ◌∷◌, ◌++◌, Some, length, map, set, get_or, sym, ap, ◌∙◌, subst}
+use Rattle.std.proofs.Common.{◌≡◌, ◌≤◌, ℕ, zero, suc, false, List, [], ◌∷◌, Some, length, map, set, get_or, sym, ap, ◌∙◌, subst}
 use Rattle.std.specs.Prelude.{slice_get}
 use Rattle.std.proofs.lemmas.List.{length-map, length-set, map-set, set-get_or, set-set, get_or-set_same}
 use Rattle.std.proofs.lemmas.Option.{get_or_from_slice_get, same_Some as some_is}
@@ -9,13 +9,14 @@ use Rattle.el_mix.specs.declared.channel.Channel.{Channel}
 use Rattle.el_mix.specs.declared.position.Position.{Position}
 use Rattle.el_mix.specs.declared.mix.Mix.{Mix}
 use Rattle.el_mix.specs.Line.{Line, line_of}
-use Rattle.el_mix.specs.Taking.{Took, kept_line, settled, bare}
+use Rattle.el_mix.specs.Taking.{Took, settled, bare}
 use Rattle.el_mix.specs.Standing.{Moves}
 use Rattle.el_mix.specs.Calls.{Takes}
 use Rattle.el_mix.specs.Relation.{MixPuts}
 use Rattle.el_mix.proofs.Calling.{place_below}
 use Rattle.el_mix.proofs.Turning.{with_line}
 use Rattle.el_mix.proofs.Lending.{Channels, lent, lent_is, as_is}
+use Rattle.el_mix.proofs.Coming.{kept_settled}
 
 -- the channel of a place
 pub set_back : (cs : List Channel) (k : ℕ) (c d : Channel) → slice_get cs k ≡ Some c → d ≡ c → set cs k d ≡ cs
@@ -47,13 +48,6 @@ set_line cs k d s l = map-set settled cs k d ∙ ap (λ zs. set zs k (settled d)
 
 pub set_settled : (cs : List Channel) (k : ℕ) (c d : Channel) → slice_get cs k ≡ Some c → map settled cs ≡ cs → d.waiting ≡ c.waiting → map settled (set cs k d) ≡ set cs k d
 set_settled cs k c d at s same = set_line cs k d s (ap (λ (l : Line). line_of l.rest) same ∙ line_at c (settled_at cs k c at s) ∙ sym same)
-
-kept_settled : (l : Line) (body : List ℕ) → line_of l.rest ≡ l → line_of (kept_line l body).rest ≡ kept_line l body
-kept_settled l [] e = e
-kept_settled l (b ∷ bs) e = ap (both (l.rest ++ (b ∷ bs) ∷ [])) (ap (λ (m : Line). m.ahead ++ (b ∷ bs) ∷ []) e)
-  where
-    both : List (List ℕ) → List (List ℕ) → Line
-    both rest ahead = record { rest = rest; ahead = ahead }
 
 pub took_settled : (cs : List Channel) (k : ℕ) (c d : Channel) (x : Item) → slice_get cs k ≡ Some c → map settled cs ≡ cs → Took c x d → map settled (set cs k d) ≡ set cs k d
 took_settled cs k c d x at s t =

@@ -14,6 +14,7 @@ use Rattle.el_mix.specs.Line.{all_some}
 use Rattle.el_mix.specs.Lined.{joined, ends_in, AllWhole, Lined}
 use Rattle.el_mix.proofs.Mixing.{width_some}
 use Rattle.el_mix.proofs.Ends.{whole_is, over_some, some_rest, some_more}
+use Rattle.flow_model.proofs.Looking.{bytes_push}
 
 -- what is asked of the items
 pub has_push : (test : Item → Bool) (xs : List Item) (x : Item) → has test (xs ++ x ∷ []) ≡ (if has test xs then true else test x)
@@ -61,10 +62,6 @@ id_push (y ∷ ys) x = go (is_start y) (has is_start ys) (id_push ys x)
     go true c r = refl
     go false true r = ap (or_else (id_in y)) r
     go false false r = ap (or_else (id_in y)) r ∙ or_or (id_in y) (pad_id ys) (id_in x)
-
-pub bytes_push : (xs : List Item) (x : Item) → bytes_of (xs ++ x ∷ []) ≡ bytes_of xs ++ body_of x
-bytes_push [] x = append-nil (body_of x)
-bytes_push (y ∷ ys) x = ap (λ bs. body_of y ++ bs) (bytes_push ys x) ∙ sym (append_assoc (body_of y) (bytes_of ys) (body_of x))
 
 -- the frames at which buffers end
 ends_push : (mono : Mono) (got : ℕ) (xs : List Item) (x : Item) (f : ℕ)

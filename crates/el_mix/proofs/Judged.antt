@@ -5,8 +5,8 @@ use Rattle.std.proofs.lemmas.Option.{same_Some as some_is}
 use Rattle.gst_caps.specs.Accepts.{accepts}
 use Rattle.gst_value.specs.Description.{Description}
 use Rattle.gst_value.specs.declared.one.One.{One}
-use Rattle.audio_info.specs.Same.{same_caps}
-use Rattle.audio_info.proofs.Same.{caps_decide}
+use Rattle.gst_caps.specs.Same.{same_caps}
+use Rattle.gst_caps.proofs.Same.{caps_decide}
 use Rattle.flow_model.specs.Item.{Item, Buf, Ev, StreamStart, NewCaps, NewSegment, Tag, Gap, FlushStop, Eos}
 use Rattle.flow_model.specs.Looking.{bytes_of}
 use Rattle.el_mix.specs.declared.channel.Channel.{Channel}
@@ -22,7 +22,7 @@ pub neither : {A : Type 0} (o p : Option A) → or_else o p ≡ None → (o ≡ 
 neither None p e = (refl, e)
 neither (Some x) p e = absurd (cc)
 
-no_there : {A : Type 0} (o : Option A) → is_there o ≡ false → o ≡ None
+pub no_there : {A : Type 0} (o : Option A) → is_there o ≡ false → o ≡ None
 no_there None e = refl
 no_there (Some x) e = absurd (cc)
 

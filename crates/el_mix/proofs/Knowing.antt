@@ -18,7 +18,8 @@ use Rattle.el_mix.specs.declared.channel.Channel.{Channel}
 use Rattle.el_mix.specs.Agreed.{or_else, caps_in}
 use Rattle.el_mix.specs.Mixes.{id_in}
 use Rattle.el_mix.specs.Taking.{hears, Took, Lays, flushed, new_channel}
-use Rattle.el_mix.specs.Relation.{start_event, caps_event, Knows, KnowEach, is_inherited}
+use Rattle.el_mix.specs.Relation.{Knows, KnowEach}
+use Rattle.flow_model.specs.Inherited.{is_inherited, start_event, caps_event}
 
 -- the events that are kept, with one item more
 start_kept : (o : Option ℕ) (x : Item) → start_event (or_else (id_in x) o) ≡ (if is_stream_start x then x ∷ [] else start_event o)

@@ -17,7 +17,7 @@ use Rattle.el_mix.specs.Answer.{reached, answer_in}
 use Rattle.el_mix.specs.Positions.{Begins}
 use Rattle.el_mix.specs.Taking.{Lays, flushed, new_channel}
 use Rattle.el_mix.specs.Standing.{CountEach, WaitEach, lower_known, Holds}
-use Rattle.el_mix.specs.Relation.{KnowEach, section_of, Remembers, Mixes, MixPuts, is_inherited}
+use Rattle.el_mix.specs.Relation.{KnowEach, section_of, Remembers, Mixes, MixPuts}
 use Rattle.el_mix.proofs.Answering.{behind_same}
 use Rattle.el_mix.proofs.Owing.{not_started}
 use Rattle.el_mix.proofs.Opening.{next_in}
@@ -25,6 +25,8 @@ use Rattle.el_mix.proofs.Ordering.{keeps_order, flush_ends, AllFresh, fresh_in_o
 use Rattle.el_mix.proofs.Knowing.{knows_laid, plain_of, know_push, know_at, know_flushed, know_new, knows_kept, flow_of}
 use Rattle.el_mix.proofs.Fresh.{all_flushed_hold, flushed_hold, new_flushed, new_hold}
 use Rattle.el_mix.proofs.Answered.{section_is, still_level, below_known}
+use Rattle.flow_model.proofs.Items.{none_in as new_level}
+use Rattle.flow_model.specs.Inherited.{is_inherited}
 
 -- behind EOS
 abbrev done : List Item → Result (List Item) Fault
@@ -129,10 +131,6 @@ new_fresh (suc n) (suc j) = (refl, new_fresh n (suc j))
 new_section : (n : ℕ) → section_of (replicate n []) ≡ 0
 new_section zero = refl
 new_section (suc n) = refl
-
-new_level : (n : ℕ) → InSection 0 (replicate n [])
-new_level zero = tt
-new_level (suc n) = (refl, new_level n)
 
 new_owed : (n : ℕ) → mixes (replicate n []) 0 0 ≡ []
 new_owed zero = refl

@@ -19,7 +19,8 @@ use Rattle.el_mix.specs.Putting.{all_started, all_ended, lowest_heard, start_ite
 use Rattle.el_mix.specs.Standing.{Counts, CountEach, AgreeEach, known, AnyBegun, BegunInOrder, WaitEach, opened, limit_in, time_in, Placed, Each, IsOpenAt, Behind, rest_started, rest_owed, Moves}
 use Rattle.el_mix.specs.Pushing.{empty_items, Pushes}
 use Rattle.el_mix.proofs.Together.{begun_of_started}
-use Rattle.el_mix.proofs.Moving.{none_some, all_started_is, all_ended_is, start_is, heard_is, bare_settled, bare_of, heads}
+use Rattle.el_mix.proofs.Moving.{all_started_is, all_ended_is, start_is, heard_is, bare_settled, bare_of, heads}
+use Rattle.gst_value.proofs.Basics.{none_some}
 
 -- a stream without CAPS
 empty_free : (cs : List Channel) → has_flush_stop (empty_items cs) ≡ false
@@ -49,7 +50,7 @@ stays_placed old cs xss b none = go (option_map mono_by old.open) refl
         }
     go (Some m) o =
         let at : (opened xss ≡ Some m) × (old.next ≤ limit m xss) × (old.reached ≡ time_of m old.next) = subst (λ (q : Option Mono). IsOpenAt q old xss) o b.open_at in
-        absurd (none_some m (sym none ∙ at.0))
+        absurd (none_some (sym none ∙ at.0))
 
 map_none : (o : Option (Description One)) → option_map mono_of o ≡ None → o ≡ None
 map_none None e = refl

@@ -8,6 +8,8 @@ use Rattle.el_mix.specs.declared.channel.Channel.{Channel}
 use Rattle.el_mix.specs.declared.position.Position.{Position}
 use Rattle.el_mix.specs.declared.mix.Mix.{Mix}
 use Rattle.el_mix.specs.Taking.{settled, flushed, new_channel}
+use Rattle.el_mix.proofs.Fresh.{flushed_settled as settled_flushed}
+use Rattle.gst_value.proofs.Basics.{length_prop}
 
 abbrev pub Channels : Type 0
 Channels = Vec Channel Global
@@ -20,10 +22,6 @@ pub lent_is : (v : Channels) (ws : List Channel) → length ws ≡ length v.item
 lent_is v ws e =
     let count = v.ok.0 in
     take-append-le v.len ws (drop (length ws) v.items) (omega (arith, e, count)) ∙ take_all v.len ws (omega (arith, e, count))
-
--- where they are as they were, so is the vector, and so is the element
-length_prop : (m n : ℕ) → IsProp (m ≡ n)
-length_prop m n = hlevel props
 
 few_prop : (n : ℕ) → IsProp (n ≤ 64)
 few_prop n = hlevel props
@@ -62,11 +60,6 @@ new_length cs n e = ap length e ∙ length-replicate n new_channel
 
 pub new_more : (cs more : List Channel) (n : ℕ) (c : Channel) → cs ≡ replicate n new_channel → c ≡ new_channel → more ≡ cs ++ c ∷ [] → more ≡ replicate (n + 1) new_channel
 new_more cs more n c e is m = m ∙ ap (λ zs. zs ++ c ∷ []) e ∙ ap (λ z. replicate n new_channel ++ z ∷ []) is ∙ replicate-append-replicate n 1 new_channel
-
--- those behind a flush
-settled_flushed : (cs : List Channel) → map settled (map flushed cs) ≡ map flushed cs
-settled_flushed [] = refl
-settled_flushed (c ∷ cs) = ap (λ ds. flushed c ∷ ds) (settled_flushed cs)
 
 pub flushed_is : (v : Channels) (given ws : List Channel) → given ≡ v.items → ws ≡ map flushed given → lent v ws ≡ map flushed v.items
 flushed_is v given ws e m =

@@ -32,10 +32,8 @@ use Rattle.el_mix.proofs.Hearing.{heard_accepted}
 use Rattle.el_mix.proofs.Coming.{time_of_none}
 use Rattle.el_mix.proofs.Together.{begun_of_started}
 use Rattle.el_mix.proofs.Owed.{IsOpen, is_open}
-use Rattle.el_mix.proofs.Streaming.{free_append, ended_append}
-
-pub none_some : {A : Type 0} (a : A) → None ≡ Some a → ⊥
-none_some a e = absurd (cc)
+use Rattle.el_mix.proofs.Streaming.{ended_append}
+use Rattle.flow_model.proofs.Items.{free_append}
 
 -- what the channels know, all together
 pub all_started_is : (cs : List Channel) (xss : List (List Item)) → CountEach cs xss → all_started cs ≡ all_have is_start xss
@@ -81,7 +79,7 @@ heard_is low (c ∷ cs) (xs ∷ xss) k a b = go (hears c) refl (heard_is (or_els
         ∙ ap (λ p. option_map mono_of (or_else p (lowest_caps xss))) (sym o ∙ k.0.caps)
 
 -- the bodies that are ahead, by the frames of the lowest CAPS
-or_first : (o p : Option (Description One)) (caps found : Description One) → o ≡ Some found → or_else o p ≡ Some caps → found ≡ caps
+pub or_first : (o p : Option (Description One)) (caps found : Description One) → o ≡ Some found → or_else o p ≡ Some caps → found ≡ caps
 or_first o p caps found is e = caps_is found caps (ap (λ q. or_else q p) (sym is) ∙ e)
 
 lined_each : (mono : Mono) (caps : Description One) (low : Option (Description One)) (next : ℕ) (cs : List Channel) (xss : List (List Item)) → mono_of caps ≡ mono

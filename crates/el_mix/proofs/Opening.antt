@@ -4,18 +4,21 @@ use Rattle.flow_model.specs.Item.{Item, Ev, FlushStop, is_flush_stop, is_eos}
 use Rattle.flow_model.specs.Sticky.{first_found, latest, has_flush_stop, since_flush_stop}
 use Rattle.flow_model.specs.Prefix.{IsPrefix, nothing, next, ArePrefixes, none, pad}
 use Rattle.flow_model.specs.Section.{section, counted, before_section, to_eos, flush_stops}
-use Rattle.flow_model.specs.Call.{Call, Feed, Act, items}
-use Rattle.flow_model.specs.Feeding.{has_item, has_eos}
+use Rattle.flow_model.specs.Call.{Call, Feed, items}
+use Rattle.flow_model.specs.Feeding.{has_eos}
 use Rattle.flow_model.proofs.Prefixes.{prefix_append, prefix_refl, are_prefixes_refl}
 use Rattle.flow_model.proofs.Calls.{items_push}
 use Rattle.flow_model.specs.SinkPads.{push_calls, flush_stops_given, InSection, push_each}
-use Rattle.el_mix.specs.Reopened.{has_section, counted_section, inherited, reopened}
+use Rattle.el_mix.specs.Reopened.{has_section, counted_section, reopened}
 use Rattle.el_mix.specs.Mixed.{has}
 use Rattle.el_mix.specs.Mixes.{interleaved}
 use Rattle.el_mix.specs.Order.{AllPast}
 use Rattle.el_mix.specs.Sections.{PadGoesOn, OwesMore}
 use Rattle.el_mix.proofs.Reopening.{before_settled, reopenings_settled}
 use Rattle.el_mix.proofs.Owing.{owes_in_order}
+use Rattle.flow_model.proofs.Items.{first_is_all, no_stops, stops_flushed, stops_of, stops_plain}
+use Rattle.flow_model.specs.Inherited.{inherited}
+use Rattle.gst_item.specs.Item.{has_item}
 
 -- by the number of FLUSH_STOPs
 pub has_to : (j : ℕ) (xs : List Item) → j ≤ flush_stops xs → has_section j xs ≡ true
@@ -38,19 +41,6 @@ has_not (suc j) (x ∷ xs) h = go (is_flush_stop x) (has_not j xs) (has_not (suc
     go true f g h = f (omega (arith, h))
     go false f g h = g h
 
-stops_plain : (xs : List Item) (x : Item) → is_flush_stop x ≡ false → flush_stops (xs ++ x ∷ []) ≡ flush_stops xs
-stops_plain [] x plain = rw plain refl
-stops_plain (y ∷ ys) x plain = rw (stops_plain ys x plain) refl
-
-stops_flushed : (xs : List Item) (k : ℕ) → flush_stops (xs ++ Ev (FlushStop k) ∷ []) ≡ suc (flush_stops xs)
-stops_flushed [] k = refl
-stops_flushed (y ∷ ys) k = go (is_flush_stop y) (stops_flushed ys k)
-  where
-    go : (b : Bool) → flush_stops (ys ++ Ev (FlushStop k) ∷ []) ≡ suc (flush_stops ys)
-        → (if b then suc (flush_stops (ys ++ Ev (FlushStop k) ∷ [])) else flush_stops (ys ++ Ev (FlushStop k) ∷ [])) ≡ suc (if b then suc (flush_stops ys) else flush_stops ys)
-    go true e = ap suc e
-    go false e = e
-
 -- the last section with one more item
 section_push : (j : ℕ) (w : List Item) (x : Item) → flush_stops w ≡ j → is_flush_stop x ≡ false → section j (w ++ x ∷ []) ≡ section j w ++ x ∷ []
 section_push zero [] x e plain = rw plain refl
@@ -70,20 +60,6 @@ section_push (suc j) (y ∷ w) x e plain = go (is_flush_stop y) (section_push j 
     go true r q e = let same : flush_stops w ≡ j = omega arith in r same plain
     go false r q e = q e plain
 
--- sections behind a FLUSH_STOP at the end
-pub section_flushed : (j : ℕ) (w : List Item) (k : ℕ) → j ≤ flush_stops w → section j (w ++ Ev (FlushStop k) ∷ []) ≡ section j w
-section_flushed zero [] k h = refl
-section_flushed (suc j) [] k h = absurd (omega arith)
-section_flushed zero (y ∷ w) k h = ap (λ zs. if is_flush_stop y then [] else y ∷ zs) (section_flushed zero w k (omega arith))
-section_flushed (suc j) (y ∷ w) k h = go (is_flush_stop y) (section_flushed j w k) (section_flushed (suc j) w k) h
-  where
-    go : (b : Bool) → (j ≤ flush_stops w → section j (w ++ Ev (FlushStop k) ∷ []) ≡ section j w)
-        → (suc j ≤ flush_stops w → section (suc j) (w ++ Ev (FlushStop k) ∷ []) ≡ section (suc j) w)
-        → suc j ≤ (if b then suc (flush_stops w) else flush_stops w)
-        → (if b then section j (w ++ Ev (FlushStop k) ∷ []) else section (suc j) (w ++ Ev (FlushStop k) ∷ [])) ≡ (if b then section j w else section (suc j) w)
-    go true r q h = r (omega (arith, h))
-    go false r q h = q h
-
 pub section_next : (j : ℕ) (w : List Item) (k : ℕ) → flush_stops w < j → section j (w ++ Ev (FlushStop k) ∷ []) ≡ []
 section_next zero w k h = absurd (omega arith)
 section_next (suc zero) [] k h = refl
@@ -96,15 +72,6 @@ section_next (suc j) (y ∷ w) k h = go (is_flush_stop y) (section_next j w k) (
     go true r q h = r (omega (arith, h))
     go false r q h = q h
 
--- the last section, going back from the end
-no_stops : (h : List Item) → has_flush_stop h ≡ false → flush_stops h ≡ 0
-no_stops [] e = refl
-no_stops (x ∷ xs) e = go (is_flush_stop x) (no_stops xs) e
-  where
-    go : (b : Bool) → (has_flush_stop xs ≡ false → flush_stops xs ≡ 0) → (if b then true else has_flush_stop xs) ≡ false → (if b then suc (flush_stops xs) else flush_stops xs) ≡ 0
-    go true r e = cc
-    go false r e = r e
-
 some_stops : (h : List Item) → has_flush_stop h ≡ true → 0 < flush_stops h
 some_stops [] e = cc
 some_stops (x ∷ xs) e = go (is_flush_stop x) (some_stops xs) e
@@ -112,14 +79,6 @@ some_stops (x ∷ xs) e = go (is_flush_stop x) (some_stops xs) e
     go : (b : Bool) → (has_flush_stop xs ≡ true → 0 < flush_stops xs) → (if b then true else has_flush_stop xs) ≡ true → 0 < (if b then suc (flush_stops xs) else flush_stops xs)
     go true r e = omega arith
     go false r e = r e
-
-first_is_all : (h : List Item) → has_flush_stop h ≡ false → section 0 h ≡ h
-first_is_all [] e = refl
-first_is_all (x ∷ xs) e = go (is_flush_stop x) (first_is_all xs) e
-  where
-    go : (b : Bool) → (has_flush_stop xs ≡ false → section 0 xs ≡ xs) → (if b then true else has_flush_stop xs) ≡ false → (if b then [] else x ∷ section 0 xs) ≡ x ∷ xs
-    go true r e = cc
-    go false r e = ap (λ zs. x ∷ zs) (r e)
 
 last_section : (h : List Item) → section (flush_stops h) h ≡ since_flush_stop h
 last_section [] = refl
@@ -175,11 +134,6 @@ to_eos_behind (y ∷ ys) x h = ap (λ zs. y ∷ zs) (go (is_eos y) (to_eos_behin
 -- the pad's list with one more item
 pub front_stays : (n : ℕ) (h more : List Item) → n ≤ flush_stops h → inherited (counted (before_section n (h ++ more))) ≡ inherited (counted (before_section n h))
 front_stays n h more le = ap (λ zs. inherited (counted zs)) (sym (before_settled n (prefix_append h more) (has_to n h le)))
-
-pub stops_of : (calls : List Call) → flush_stops_given calls ≡ flush_stops (items calls)
-stops_of [] = refl
-stops_of (Feed x ∷ calls) = rw (stops_of calls) refl
-stops_of (Act m ∷ calls) = stops_of calls
 
 pub pad_goes_on : PadGoesOn
 pad_goes_on = record {

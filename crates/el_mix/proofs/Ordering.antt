@@ -10,7 +10,7 @@ use Rattle.flow_model.specs.Call.{Call, Feed, items}
 use Rattle.flow_model.proofs.Prefixes.{prefix_append}
 use Rattle.flow_model.proofs.Calls.{items_push}
 use Rattle.flow_model.specs.SinkPads.{push_calls, flush_stops_given, InSection, push_each}
-use Rattle.el_mix.specs.Reopened.{counted_section, inherited, reopened, reopenings}
+use Rattle.el_mix.specs.Reopened.{counted_section, reopened, reopenings}
 use Rattle.el_mix.specs.Mixed.{has}
 use Rattle.el_mix.specs.Agreed.{or_else, caps_in, pad_caps, is_there}
 use Rattle.el_mix.specs.Mixes.{is_start, interleaved}
@@ -18,7 +18,9 @@ use Rattle.el_mix.specs.Order.{IsKnown, AnyStarted, InOrder, AllPast, FedInOrder
 use Rattle.el_mix.specs.Sections.{BelowKnown, FlushEnds, KeepsOrder}
 use Rattle.el_mix.proofs.Reopening.{has_settled, starts_behind, section_none, goes_there}
 use Rattle.el_mix.proofs.Owing.{not_started}
-use Rattle.el_mix.proofs.Opening.{has_to, has_not, section_flushed, section_next, front_stays, stops_of, past, still_in, next_in}
+use Rattle.el_mix.proofs.Opening.{has_to, has_not, section_next, front_stays, past, still_in, next_in}
+use Rattle.flow_model.proofs.Items.{section_closed as section_flushed, stops_of}
+use Rattle.flow_model.specs.Inherited.{inherited}
 
 -- a section without items has not started
 pub fresh : (j : ℕ) (xs : List Item) → section j xs ≡ [] → has is_start (reopened j xs) ≡ false

@@ -11,9 +11,7 @@ use Rattle.el_mix.specs.Agreed.{lowest_caps, all_agreed}
 use Rattle.el_mix.specs.Reopened.{reopened, reopenings}
 use Rattle.el_mix.specs.Mixes.{is_start, all_have, stream_start, eos_if, started, begun, mixes}
 use Rattle.el_mix.proofs.Owing.{not_started}
-
-never : {A : Type 0} → false ≡ true → A
-never e = absurd (cc)
+use Rattle.gst_value.proofs.Basics.{from_false as never}
 
 eos_plain : (b : Bool) → IsPlain (eos_if b)
 eos_plain true = (refl, (λ e. refl), tt)

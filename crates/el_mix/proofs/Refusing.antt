@@ -21,9 +21,10 @@ use Rattle.el_mix.specs.Answer.{reached, more_or, answer_in}
 use Rattle.el_mix.specs.Sections.{RefusedOwes}
 use Rattle.el_mix.proofs.Reopening.{ends_behind}
 use Rattle.el_mix.proofs.Owing.{not_started, any_started, not_there, caps_known}
-use Rattle.el_mix.proofs.Opening.{stops_of, pad_goes_on, open_eos}
+use Rattle.el_mix.proofs.Opening.{pad_goes_on, open_eos}
 use Rattle.el_mix.proofs.Ordering.{open_in_order}
 use Rattle.el_mix.proofs.Answering.{section_at}
+use Rattle.flow_model.proofs.Items.{stops_of}
 
 -- one more item on a pad
 abbrev pub push_item : ℕ → Item → List (List Item) → List (List Item)

@@ -4,14 +4,16 @@ use Rattle.flow_model.specs.Item.{Item, Buf, Ev, StreamStart, NewCaps, NewSegmen
 use Rattle.flow_model.specs.Sticky.{first_found, latest}
 use Rattle.flow_model.specs.Prefix.{IsPrefix, nothing, next, ArePrefixes, none, pad}
 use Rattle.flow_model.specs.Section.{section, counted, before_section, to_eos}
-use Rattle.flow_model.specs.Call.{Call, Feed, Act, items}
-use Rattle.flow_model.proofs.Prefixes.{append_prefix, prefix_if}
+use Rattle.flow_model.specs.Call.{Call, items}
+use Rattle.flow_model.proofs.Prefixes.{append_prefix}
 use Rattle.flow_model.proofs.Sections.{section_prefix}
-use Rattle.el_mix.specs.Reopened.{has_section, counted_section, inherited, reopened, reopenings}
+use Rattle.el_mix.specs.Reopened.{has_section, counted_section, reopened, reopenings}
 use Rattle.el_mix.specs.Mixed.{has}
 use Rattle.el_mix.specs.Mixes.{is_start, all_have}
 use Rattle.el_mix.specs.Order.{AllPast}
 use Rattle.el_mix.specs.Pieces.{Goes, AllGo, no_pads, one_pad}
+use Rattle.flow_model.proofs.Items.{items_prefix, to_eos_prefix}
+use Rattle.flow_model.specs.Inherited.{inherited}
 
 -- what a test finds
 pub if_true : (b : Bool) {t u : Bool} → (t ≡ true → u ≡ true) → (if b then true else t) ≡ true → (if b then true else u) ≡ true
@@ -148,10 +150,6 @@ section_none zero xs h = cc
 section_none (suc j) [] h = refl
 section_none (suc j) (x ∷ xs) h = if_none (is_flush_stop x) (section_none j xs) (section_none (suc j) xs) h
 
-to_eos_prefix : {xs ys : List Item} → IsPrefix xs ys → IsPrefix (to_eos xs) (to_eos ys)
-to_eos_prefix nothing = nothing
-to_eos_prefix (next {x = x} p) = next (prefix_if (is_eos x) nothing (to_eos_prefix p))
-
 to_eos_settled : {xs ys : List Item} → IsPrefix xs ys → has is_eos (to_eos xs) ≡ true → to_eos xs ≡ to_eos ys
 to_eos_settled nothing h = cc
 to_eos_settled (next {x = x} {xs = xs} {ys = ys} p) h = ap (λ zs. x ∷ zs) (go (is_eos x) (to_eos_settled p) h)
@@ -182,11 +180,6 @@ reopened_goes j {xs} {ys} p s = go (has_section j xs) refl
     go : (b : Bool) → has_section j xs ≡ b → Goes (reopened j xs) (reopened j ys)
     go true h = goes_there j p h
     go false h = absurd (cc (s, nothing_starts j xs h))
-
-pub items_prefix : {cs ds : List Call} → IsPrefix cs ds → IsPrefix (items cs) (items ds)
-items_prefix nothing = nothing
-items_prefix (next {x = Feed x} p) = next (items_prefix p)
-items_prefix (next {x = Act m} p) = items_prefix p
 
 pub all_of : (test : Item → Bool) (xs : List Item) (xss : List (List Item)) → all_have test (xs ∷ xss) ≡ true → (has test xs ≡ true) × (all_have test xss ≡ true)
 all_of test xs xss h = go (has test xs) refl h

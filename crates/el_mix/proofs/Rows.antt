@@ -1,6 +1,6 @@
 -- The rows hold: each side is computed.
 use Rattle.std.proofs.Common.{refl}
-use Rattle.audio_info.specs.Same.{same_caps}
+use Rattle.gst_caps.specs.Same.{same_caps}
 use Rattle.el_mix.specs.Rows.{MixRows, RefusedRows, SectionRows, AnswerRows}
 
 pub mix_rows : MixRows

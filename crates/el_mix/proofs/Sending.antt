@@ -1,6 +1,5 @@
 -- What goes out, part by part.
 use Rattle.std.proofs.Common.{◌≡◌, ◌≤◌, ℕ, false, List, [], ◌∷◌, ◌++◌, Option, Some, None, length, take, drop, map, refl, sym, ap, ◌∙◌, subst}
-use Rattle.std.proofs.Props.{props}
 use Rattle.std.specs.Prelude.{is_some}
 use Rattle.std.specs.Option.{ForSome}
 use Rattle.std.proofs.lemmas.List.{take-append-drop, length-map}
@@ -21,6 +20,7 @@ use Rattle.el_mix.specs.Taking.{passes}
 use Rattle.el_mix.specs.Putting.{start_item, opening_if, Opens}
 use Rattle.el_mix.proofs.Streaming.{on_behind}
 use Rattle.el_mix.proofs.Telling.{grows_more}
+use Rattle.gst_value.proofs.Basics.{ordered_prop}
 
 -- what stood before stands first
 pub grows_twice : (a b c : List Out) → take (length a) b ≡ a → take (length b) c ≡ b → take (length a) c ≡ a
@@ -29,10 +29,6 @@ grows_twice a b c p q = grows_more a b c (drop (length b) c) p (sym (take-append
 -- as many channels look ahead
 pub passes_length : (n : ℕ) (cs ds : List Channel) → ds ≡ map (passes n) cs → length ds ≡ length cs
 passes_length n cs ds e = ap length e ∙ length-map cs (passes n)
-
--- the segment of a whole stream
-ordered_prop : (start : ℕ) (stop : Option ℕ) → IsProp (ForSome stop (λ e. start ≤ e))
-ordered_prop start stop = hlevel props
 
 abbrev made : (f : Format) (start : ℕ) (stop : Option ℕ) (time base position : ℕ) → ForSome stop (λ e. start ≤ e) → Segment
 made f start stop time base position o = record { format = f; start = start; stop = stop; time = time; base = base; position = position; ordered = o }

@@ -57,7 +57,7 @@ rows_last mono xss f (suc n) =
     ∙ sym (append_assoc (flat_map (λ xs. frame mono xs f) xss) (rows mono xss (suc f) n) (flat_map (λ xs. frame mono xs (suc f + n)) xss))
     ∙ ap (λ k. rows mono xss f (suc n) ++ flat_map (λ xs. frame mono xs k) xss) order
 
-fewer_ahead : (m n : ℕ) (ls : List Ahead) → m ≤ n → IsAhead n ls → IsAhead m ls
+pub fewer_ahead : (m n : ℕ) (ls : List Ahead) → m ≤ n → IsAhead n ls → IsAhead m ls
 fewer_ahead m n [] h a = tt
 fewer_ahead m n ((ended, []) ∷ ls) h a = (tt, fewer_ahead m n ls h a.1)
 fewer_ahead m n ((ended, b ∷ bs) ∷ ls) h a = (omega (arith, h, a.0), fewer_ahead m n ls h a.1)

@@ -1,11 +1,10 @@
 -- Buffers that go out, one by one.
-use Rattle.std.proofs.Common.{◌≡◌, ◌<◌, ℕ, ◌+◌, ◌-◌, ◌/◌, Bool, true, false, if◌then◌else◌, List, [], ◌∷◌, ◌++◌, Option, Some, None, map, refl, sym, ap, ◌∙◌, subst, append-nil, append_assoc, arith}
+use Rattle.std.proofs.Common.{◌≡◌, ◌<◌, ℕ, ◌+◌, ◌-◌, ◌/◌, false, if◌then◌else◌, List, [], ◌∷◌, ◌++◌, Option, Some, None, map, refl, sym, ap, ◌∙◌, subst, append-nil, append_assoc, arith}
 use Rattle.std.specs.Option.{option_map}
 use Rattle.gst_time.specs.declared.time.TheConstants.{LIMIT}
 use Rattle.gst_item.specs.declared.out.Out.{Out}
 use Rattle.audio_info.specs.declared.info.Info.{Info}
-use Rattle.flow_model.specs.Item.{Item, Buf, Ev, is_flush_stop}
-use Rattle.flow_model.specs.Sticky.{has_flush_stop}
+use Rattle.flow_model.specs.Item.{Item, Buf, Ev}
 use Rattle.flow_model.specs.Feeding.{on_pad}
 use Rattle.el_mix.specs.declared.channel.Channel.{Channel}
 use Rattle.el_mix.specs.declared.position.Position.{Position}
@@ -21,23 +20,10 @@ use Rattle.el_mix.specs.Lined.{AllLined, Ready}
 use Rattle.el_mix.specs.Putting.{all_ended, opening_if, Opens, buffer_item, piece_item, GoesOn, ended_by, Pieced}
 use Rattle.el_mix.specs.Pushing.{Streams}
 use Rattle.el_mix.proofs.Stepping.{all_past, Step, step, all_out, time_grows}
-
--- on the only source pad
-pub on_append : (xs ys : List Item) → on_pad 0 (xs ++ ys) ≡ on_pad 0 xs ++ on_pad 0 ys
-on_append [] ys = refl
-on_append (x ∷ xs) ys = ap (λ zs. record { pad = 0; item = x } ∷ zs) (on_append xs ys)
+use Rattle.flow_model.proofs.Items.{free_append, on_append}
 
 pub on_behind : (outs : List Out) (xs ys : List Item) → (outs ++ on_pad 0 xs) ++ on_pad 0 ys ≡ outs ++ on_pad 0 (xs ++ ys)
 on_behind outs xs ys = append_assoc outs (on_pad 0 xs) (on_pad 0 ys) ∙ ap (λ zs. outs ++ zs) (sym (on_append xs ys))
-
-pub free_append : (xs ys : List Item) → has_flush_stop xs ≡ false → has_flush_stop ys ≡ false → has_flush_stop (xs ++ ys) ≡ false
-free_append [] ys p q = q
-free_append (x ∷ xs) ys p q = go (is_flush_stop x) (free_append xs ys) p
-  where
-    go : (b : Bool) → (has_flush_stop xs ≡ false → has_flush_stop ys ≡ false → has_flush_stop (xs ++ ys) ≡ false)
-        → (if b then true else has_flush_stop xs) ≡ false → (if b then true else has_flush_stop (xs ++ ys)) ≡ false
-    go true r p = absurd (cc)
-    go false r p = r p q
 
 -- the time of the end of the last buffer
 pub ended_append : (t : ℕ) (xs ys : List Item) → ended_by t (xs ++ ys) ≡ ended_by (ended_by t xs) ys

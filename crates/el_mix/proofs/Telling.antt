@@ -11,7 +11,7 @@ use Rattle.audio_info.specs.declared.sample.Sample.TheVariants.{S8, U8, S16LE, S
 use Rattle.audio_info.specs.declared.info.Info.{Info}
 use Rattle.audio_info.specs.Media.{sample_of, rate_of, channels_of}
 use Rattle.audio_info.specs.Packing.{sample_width}
-use Rattle.audio_info.specs.Same.{same_caps}
+use Rattle.gst_caps.specs.Same.{same_caps}
 use Rattle.gst_item.specs.declared.out.Out.{Out}
 use Rattle.flow_model.specs.Rule.{NotNegotiated}
 use Rattle.flow_model.specs.Item.{Item}

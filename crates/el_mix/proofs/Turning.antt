@@ -11,7 +11,7 @@ use Rattle.el_mix.specs.declared.channel.Channel.{Channel}
 use Rattle.el_mix.specs.Mono.{silence}
 use Rattle.el_mix.specs.Line.{Line, first_of}
 use Rattle.el_mix.specs.Taking.{lines}
-use Rattle.el_mix.specs.Turns.{Ahead, least_of, next_cut, HasAhead, IsAhead, sample, turn, turns}
+use Rattle.el_mix.specs.Turns.{Ahead, least_of, next_cut, sample, turn, turns}
 use Rattle.el_mix.proofs.Looping.{next_some, next_ended, turns_more}
 
 -- a change of each channel in place
@@ -84,14 +84,6 @@ pub frames_few : (bytes width n : ℕ) → bytes < 2 ^ 31 → n ≤ 64 → bytes
 frames_few bytes width n small few =
     let all : bytes / width * width * n ≤ bytes * 64 = mul-le-mul (div-mul-le_self bytes width) few in
     omega (arith, all, small)
-
-has_less : (n m : ℕ) (bs : List (List ℕ)) → n ≤ m → HasAhead m bs → HasAhead n bs
-has_less n m [] le h = tt
-has_less n m (b ∷ bs) le h = omega (arith, le, h)
-
-pub less_ahead : (n m : ℕ) (ls : List Ahead) → n ≤ m → IsAhead m ls → IsAhead n ls
-less_ahead n m [] le a = tt
-less_ahead n m (l ∷ ls) le a = (has_less n m l.1 le a.0, less_ahead n m ls le a.1)
 
 pub more_turns : (format : Sample) (ls : List Ahead) (k width : ℕ) (made more : List ℕ) → width ≡ sample_width format → made ≡ turns format ls k
     → more ≡ made ++ turn format ls (k * width) → more ≡ turns format ls (k + 1)

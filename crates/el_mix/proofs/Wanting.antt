@@ -11,26 +11,26 @@ use Rattle.el_mix.specs.declared.mix.Mix.{Mix}
 use Rattle.el_mix.specs.declared.position.Position.{Position}
 use Rattle.el_mix.specs.Mono.{Mono, mono_of, width}
 use Rattle.el_mix.specs.Mixed.{limit}
-use Rattle.el_mix.specs.Agreed.{or_else, pad_caps, lowest_caps}
+use Rattle.el_mix.specs.Agreed.{pad_caps, lowest_caps}
 use Rattle.el_mix.specs.Reopened.{reopenings}
 use Rattle.el_mix.specs.Mixes.{is_start, all_have}
 use Rattle.el_mix.specs.Heard.{mono_by}
 use Rattle.el_mix.specs.Line.{is_none}
-use Rattle.el_mix.specs.Taking.{hears, settled, lines}
+use Rattle.el_mix.specs.Taking.{settled, lines}
 use Rattle.el_mix.specs.Turns.{Ahead, next_cut}
 use Rattle.el_mix.specs.Lined.{Ready}
-use Rattle.el_mix.specs.Putting.{all_started, heard_first, lowest_heard}
-use Rattle.el_mix.specs.Standing.{Counts, CountEach, AgreeEach, Waits, WaitEach, opened, limit_in, time_in, Holds, IsOpenAt}
+use Rattle.el_mix.specs.Putting.{all_started, lowest_heard}
+use Rattle.el_mix.specs.Standing.{Counts, CountEach, Waits, WaitEach, opened, limit_in, time_in, Holds, IsOpenAt}
 use Rattle.el_mix.specs.Wanted.{lowest, is_short, is_unstarted, else_lowest}
 use Rattle.el_mix.specs.Relation.{KnowEach, section_of, sink_pads, wanted, Mixes}
 use Rattle.el_mix.specs.Handing.{WantsOpenPads}
 use Rattle.el_mix.proofs.Choosing.{order_kept}
-use Rattle.el_mix.proofs.Hearing.{heard_accepted}
-use Rattle.el_mix.proofs.Judged.{AllBegun, agreeing}
-use Rattle.el_mix.proofs.Moving.{all_started_is, ready_first}
+use Rattle.el_mix.proofs.Judged.{neither}
+use Rattle.el_mix.proofs.Moving.{all_started_is, ready_first, heads, heard_is}
 use Rattle.el_mix.proofs.Stepping.{Step, step}
 use Rattle.el_mix.proofs.Together.{begun_of_started}
 use Rattle.el_mix.proofs.Closing.{AllEnded, EachOver, at_place, ended_of}
+use Rattle.gst_value.proofs.Basics.{from_true as never}
 
 -- Where no pad is wanted each one has bodies or ended, and each one has started.
 abbrev NoneOf : (Channel → Bool) → List Channel → Type 0
@@ -58,9 +58,6 @@ abbrev AllServed : List Ahead → Type 0
 AllServed [] = Unit {0}
 AllServed (l ∷ ls) = ((l.0 ≡ true) ⊎ (is_none l.1 ≡ false)) × AllServed ls
 
-heads : (a b : Channel) (ps qs : List Channel) → a ∷ ps ≡ b ∷ qs → (a ≡ b) × (ps ≡ qs)
-heads a b ps qs e = (cc, cc)
-
 served : (cs : List Channel) → map settled cs ≡ cs → NoneOf is_short cs → AllServed (lines cs)
 served [] s h = tt
 served (c ∷ cs) s h = (go c.progress.ended refl h.0, served cs (heads (settled c) c (map settled cs) cs s).1 h.1)
@@ -71,14 +68,6 @@ served (c ∷ cs) s h = (go c.progress.ended refl h.0, served cs (heads (settled
     go : (b : Bool) → c.progress.ended ≡ b → (if b then false else is_none c.waiting.rest) ≡ false → (c.progress.ended ≡ true) ⊎ (is_none c.waiting.ahead ≡ false)
     go true is e = inl is
     go false is e = inr (ap is_none (sym same) ∙ e)
-
--- without CAPS nothing waits
-never : {A : Type 0} → true ≡ false → A
-never e = absurd (cc)
-
-neither : {A : Type 0} (o p : Option A) → or_else o p ≡ None → (o ≡ None) × (p ≡ None)
-neither None p e = (refl, e)
-neither (Some x) p e = absurd (cc)
 
 over_without : (next : ℕ) (cs : List Channel) (xss : List (List Item)) → lowest_caps xss ≡ None → CountEach cs xss → WaitEach next cs xss → AllServed (lines cs) → EachOver cs
 over_without next [] xss e ks ws s = tt
@@ -94,21 +83,6 @@ over_without next (c ∷ cs) (xs ∷ xss) e ks ws s = (go s.0, over_without next
     go : (c.progress.ended ≡ true) ⊎ (is_none c.waiting.ahead ≡ false) → c.progress.ended ≡ true
     go (inl is) = is
     go (inr some) = never (sym (ap is_none empty) ∙ some)
-
--- with CAPS some frame would be owed more, unless all ended
-heard_is : (low : Option (Description One)) (cs : List Channel) (xss : List (List Item)) → CountEach cs xss → AgreeEach low cs xss → AllBegun cs
-    → lowest_heard cs ≡ option_map mono_of (lowest_caps xss)
-heard_is low [] [] k a b = refl
-heard_is low [] (xs ∷ xss) k a b = absurd k
-heard_is low (c ∷ cs) [] k a b = absurd k
-heard_is low (c ∷ cs) (xs ∷ xss) k a b = go (hears c) refl (heard_is (or_else low (pad_caps xs)) cs xss k.1 a.1 b.1)
-  where
-    go : (o : Option (Description One)) → hears c ≡ o → lowest_heard cs ≡ option_map mono_of (lowest_caps xss)
-        → heard_first (hears c) (lowest_heard cs) ≡ option_map mono_of (or_else (pad_caps xs) (lowest_caps xss))
-    go None o r = ap (λ p. heard_first p (lowest_heard cs)) o ∙ r ∙ ap (λ p. option_map mono_of (or_else p (lowest_caps xss))) (sym o ∙ k.0.caps)
-    go (Some caps) o r =
-        ap (λ p. heard_first p (lowest_heard cs)) o ∙ heard_accepted caps ((agreeing low c xs k.0 (a.0 b.0)).heard caps o)
-        ∙ ap (λ p. option_map mono_of (or_else p (lowest_caps xss))) (sym o ∙ k.0.caps)
 
 some_cut : (m : ℕ) (ls : List Ahead) → AllServed ls → next_cut (Some m) ls ≡ None → ⊥
 some_cut m [] s e = cc

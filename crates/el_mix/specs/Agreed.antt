@@ -8,7 +8,7 @@ use Rattle.flow_model.specs.declared.fault.StreamKind.TheVariants.{SplitFrame}
 use Rattle.flow_model.specs.Item.{Item, Buf, Ev, NewCaps}
 use Rattle.flow_model.specs.Looking.{bytes_of}
 use Rattle.flow_model.specs.Rule.{Fault, NotNegotiated, BadStream, TooLong}
-use Rattle.audio_info.specs.Same.{same_caps}
+use Rattle.gst_caps.specs.Same.{same_caps}
 use Rattle.audio_info.specs.Alone.{exactly}
 use Rattle.el_mix.specs.Mono.{mono_template, mono_of, width, time_of}
 

@@ -1,6 +1,6 @@
 -- What the rule answers to one item more on a pad, by what was given: what is owed for it, or why it is refused.
-use Rattle.std.specs.Prelude.{ℕ, ◌+◌, List, [], ◌∷◌, Option, Some, None, Result, Ok, Err, if◌then◌else◌, length, drop, unwrap_or}
-use Rattle.flow_model.specs.Item.{Item, Buf, is_buffer}
+use Rattle.std.specs.Prelude.{ℕ, List, [], ◌∷◌, Option, Some, None, Result, Ok, Err, if◌then◌else◌, length, drop}
+use Rattle.flow_model.specs.Item.{Item, is_buffer}
 use Rattle.flow_model.specs.Sticky.{latest}
 use Rattle.flow_model.specs.Call.{Call, Feed, items}
 use Rattle.flow_model.specs.Rule.{Fault}
@@ -9,11 +9,7 @@ use Rattle.flow_model.specs.SinkPads.{push_calls, calls_at, flush_stops_given}
 use Rattle.el_mix.specs.Reopened.{reopened, reopenings}
 use Rattle.el_mix.specs.Agreed.{lowest_caps, first_refusal}
 use Rattle.el_mix.specs.Mixes.{mixes}
-
--- the time of the end of the last buffer that is owed, and 0 without one
-abbrev pub end_of : List Item → ℕ
-end_of (Buf b ∷ xs) = unwrap_or b.pts 0 + unwrap_or b.duration 0
-end_of _ = 0
+use Rattle.flow_model.specs.Looking.{end_of}
 
 abbrev pub reached : List Item → ℕ
 reached owed = end_of (latest is_buffer owed)

@@ -14,12 +14,12 @@ use Rattle.el_mix.specs.declared.position.Position.{Position}
 use Rattle.el_mix.specs.Mono.{Mono, width, time_of}
 use Rattle.el_mix.specs.Mixed.{limit_by, mixed, limit}
 use Rattle.el_mix.specs.Mixes.{least, from_zero}
-use Rattle.el_mix.specs.Answer.{end_of}
 use Rattle.el_mix.specs.Heard.{mono_by, heard}
 use Rattle.el_mix.specs.Taking.{hears}
 use Rattle.el_mix.specs.Agreed.{or_else}
 use Rattle.el_mix.specs.Turns.{Ahead, turns}
 use Rattle.el_mix.specs.Lined.{Ready}
+use Rattle.flow_model.specs.Looking.{end_of}
 
 -- whether all channels have started, and ended
 abbrev pub all_started : List Channel → Bool

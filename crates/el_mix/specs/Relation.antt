@@ -1,9 +1,7 @@
 -- For which lists an element that mixes channels stands.
-use Rattle.std.specs.Prelude.{◌≡◌, ℕ, Bool, true, false, List, [], ◌∷◌, ◌++◌, Option, None, Some, Ok, if◌then◌else◌, length}
-use Rattle.gst_value.specs.Description.{Description}
-use Rattle.gst_value.specs.declared.one.One.{One}
+use Rattle.std.specs.Prelude.{◌≡◌, ℕ, Bool, false, List, [], ◌∷◌, ◌++◌, Option, Ok, length}
 use Rattle.gst_item.specs.declared.out.Out.{Out}
-use Rattle.flow_model.specs.Item.{Item, Event, Ev, StreamStart, NewCaps, is_stream_start, is_caps, is_tag}
+use Rattle.flow_model.specs.Item.{Item, is_stream_start, is_caps}
 use Rattle.flow_model.specs.Sticky.{latest, has_flush_stop}
 use Rattle.flow_model.specs.Section.{counted}
 use Rattle.flow_model.specs.Call.{Call, Feed, items}
@@ -18,6 +16,7 @@ use Rattle.el_mix.specs.Answer.{reached, mix_answer}
 use Rattle.el_mix.specs.Wanted.{lowest, is_short, else_lowest}
 use Rattle.el_mix.specs.Taking.{hears}
 use Rattle.el_mix.specs.Standing.{Holds, lower_known as lower_channels_known}
+use Rattle.flow_model.specs.Inherited.{start_event, caps_event}
 
 -- how many sink pads there are, and whether each one below a pad has CAPS or had EOS
 abbrev pub sink_pads : Mix → ℕ
@@ -29,15 +28,6 @@ lower_known pad element = lower_channels_known pad element.channels.items
 -- the pad from which it wants its next item
 abbrev pub wanted : Mix → Option ℕ
 wanted element = else_lowest (lowest is_short 0 element.channels.items) element.channels.items
-
--- the STREAM_START and the CAPS that are kept, each a list of at most one
-abbrev pub start_event : Option ℕ → List Item
-start_event None = []
-start_event (Some id) = Ev (StreamStart id) ∷ []
-
-abbrev pub caps_event : Option (Description One) → List Item
-caps_event None = []
-caps_event (Some caps) = Ev (NewCaps caps) ∷ []
 
 -- A channel knows what the next section inherits of what its pad was given, and whether EOS was fed since the last FLUSH_STOP. TAG
 -- is dropped.
@@ -77,7 +67,3 @@ pub record MixPuts (old new : Mix) (pad : ℕ) (item : Item) (out out' : List Ou
   pub free : has_flush_stop more ≡ false
   pub owed : (took : List (List Call)) (put : List Item) → Mixes old took put → mix_answer took pad item ≡ Ok more
   pub stands : (took : List (List Call)) (put : List Item) → Mixes old took put → Mixes new (push_calls pad (Feed item ∷ []) took) (put ++ more)
-
--- STREAM_START, CAPS or TAG
-abbrev pub is_inherited : Event → Bool
-is_inherited event = if is_stream_start (Ev event) then true else (if is_caps (Ev event) then true else is_tag (Ev event))

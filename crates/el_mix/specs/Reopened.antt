@@ -1,9 +1,9 @@
 -- Sections that begin anew: each pad of a fan-in element keeps the STREAM_START, the CAPS and the TAG in force over a flush.
 use Rattle.std.specs.Prelude.{ℕ, zero, suc, Bool, true, false, List, [], ◌∷◌, ◌++◌, if◌then◌else◌, map}
-use Rattle.flow_model.specs.Item.{Item, is_stream_start, is_caps, is_tag, is_flush_stop}
-use Rattle.flow_model.specs.Sticky.{latest}
+use Rattle.flow_model.specs.Item.{Item, is_flush_stop}
 use Rattle.flow_model.specs.Call.{Call, items}
 use Rattle.flow_model.specs.Section.{section, counted, before_section, to_eos}
+use Rattle.flow_model.specs.Inherited.{inherited}
 
 -- whether a list has come to section j
 abbrev pub has_section : ℕ → List Item → Bool
@@ -14,10 +14,6 @@ has_section (suc j) (x ∷ xs) = if is_flush_stop x then has_section j xs else h
 -- what counts of section j
 abbrev pub counted_section : ℕ → List Item → List Item
 counted_section j xs = to_eos (section j xs)
-
--- what a section inherits
-abbrev pub inherited : List Item → List Item
-inherited h = latest is_stream_start h ++ (latest is_caps h ++ latest is_tag h)
 
 -- section j as it begins anew: first what it inherits, and then what counts of it
 abbrev pub reopened : ℕ → List Item → List Item

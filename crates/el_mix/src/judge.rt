@@ -9,8 +9,9 @@ ghost use Rattle.el_mix.specs.declared.channel.Channel.{Channel};
 
 use crate::channel::Channel;
 use crate::template::mono_template;
-use audio_info::{exactly, same_caps};
+use audio_info::exactly;
 use flow_model::ElementFault;
+use gst_caps::same_caps;
 use gst_item::{Event, Item};
 use gst_value::Fixed;
 use std::alloc::Global;

@@ -32,7 +32,8 @@ pub struct Mix {
 impl Mix {
     ghost use Rattle.el_mix.specs.Reopened.{reopenings};
     ghost use Rattle.el_mix.specs.Lacking.{wanted_of};
-    ghost use Rattle.el_mix.specs.Relation.{Mixes, MixPuts, Remembers, sink_pads, section_of, lower_known, wanted, is_inherited};
+    ghost use Rattle.el_mix.specs.Relation.{Mixes, MixPuts, Remembers, sink_pads, section_of, lower_known, wanted};
+    ghost use Rattle.flow_model.specs.Inherited.{is_inherited};
 
     /// An element with this many sink pads that was fed nothing yet.
     pub fn new(alloc: Global, pads: u32) -> Result<Mix, OutOfMemory>

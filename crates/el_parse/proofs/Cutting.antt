@@ -10,10 +10,10 @@ use Rattle.gst_time.specs.declared.time.TheConstants.{LIMIT}
 use Rattle.flow_model.specs.Item.{Item, Buf, Buffer, is_buffer}
 use Rattle.flow_model.specs.Feeding.{on_pad, IsFaultOf}
 use Rattle.flow_model.specs.Rule.{Fault, TooLong}
-use Rattle.el_parse.specs.Part.{end_of}
 use Rattle.flow_model.specs.Owed.{answered}
 use Rattle.el_parse.specs.Streams.{Stream}
 use Rattle.el_parse.specs.Splits.{time_at, piece, in_time, in_sum, timed, ahead, pieces, reached_by}
+use Rattle.flow_model.specs.Looking.{end_of}
 
 -- a fault of one answer is that of another
 pub fault_by : (a b : Result (List Item) Fault) (fault : ElementFault) → ((f : Fault) → a ≡ Err f → b ≡ Err f) → IsFaultOf a fault → IsFaultOf b fault

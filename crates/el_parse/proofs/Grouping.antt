@@ -22,10 +22,7 @@ use Rattle.el_parse.specs.Regrouped.{splitting, come, KeepsBytes, Regrouped}
 use Rattle.el_parse.proofs.Steps.{some_width}
 use Rattle.el_parse.proofs.Views.{View, view, view_push, view_append}
 use Rattle.el_parse.proofs.Regrouping.{Moved, went, rest_moved, rest_alone, flushed_cutting, flush_moved}
-
-ok_answered : (r : Result (List Item) Fault) → IsOk r → r ≡ Ok (answered r)
-ok_answered (Ok ys) ok = refl
-ok_answered (Err fault) ok = absurd (cc)
+use Rattle.flow_model.proofs.Items.{ok_answered}
 
 -- CAPS that the template takes
 caps_answer : (frames : ℕ) (p : Cutting) (wanted : Caps) (caps : Description One) → wanted ≡ raw_template → true ≡ accepts wanted caps

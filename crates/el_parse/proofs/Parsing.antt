@@ -1,10 +1,10 @@
 -- A parser of raw audio with one more call.
-use Rattle.std.proofs.Common.{◌≡◌, ℕ, Bool, true, false, List, [], ◌∷◌, ◌++◌, refl, sym, ap, subst, ◌∙◌, append-nil, Result, Ok, Err}
+use Rattle.std.proofs.Common.{◌≡◌, ℕ, Bool, true, false, List, [], ◌∷◌, ◌++◌, refl, sym, ap, subst, ◌∙◌, append-nil, Ok}
 use Rattle.std.specs.Prelude.{IsOk}
 use Rattle.audio_info.specs.declared.info.Info.{Info}
 use Rattle.flow_model.specs.Item.{Item, Ev, FlushStop, Eos, is_flush_stop, is_eos}
 use Rattle.flow_model.specs.Call.{Call, Feed, Act, Drain, items}
-use Rattle.flow_model.specs.Rule.{Fed, Fault}
+use Rattle.flow_model.specs.Rule.{Fed}
 use Rattle.flow_model.specs.Feeding.{next_owed}
 use Rattle.flow_model.proofs.Calls.{items_push, items_act, fed_taken, fed_behind, fed_flush, drained_begun, drained_behind, eos_taken, eos_stays, eos_flushed, eos_act}
 use Rattle.el_parse.specs.declared.raw_parse.RawParse.{RawParse}
@@ -14,10 +14,7 @@ use Rattle.flow_model.specs.Owed.{answered}
 use Rattle.el_parse.specs.Parsed.{parsed, come, PutFrames, Parsed}
 use Rattle.el_parse.proofs.Seen.{Seen, seen, seen_one, seen_all, seen_push, seen_append}
 use Rattle.el_parse.proofs.Steps.{progress_by, Split, Went, went, nothing_seen, begins_anew}
-
-ok_answered : (r : Result (List Item) Fault) → IsOk r → r ≡ Ok (answered r)
-ok_answered (Ok ys) ok = refl
-ok_answered (Err fault) ok = absurd (cc)
+use Rattle.flow_model.proofs.Items.{ok_answered}
 
 split_of : {width : ℕ} {fed : Fed} {held : List ℕ} {opened : Bool} → PutFrames width fed held opened → Split width (seen (items fed.given)) (seen fed.out) held opened
 split_of p = record { whole = p.whole; frames = p.frames; unopened = p.unopened }

@@ -1,14 +1,14 @@
 -- What the elements of this crate put out for a call.
-use Rattle.std.proofs.Common.{◌≡◌, Bool, true, false, if◌then◌else◌, List, [], ◌∷◌, ◌++◌, Ok, refl, sym, ap, ◌∙◌, append-nil}
+use Rattle.std.proofs.Common.{◌≡◌, true, false, List, [], ◌++◌, sym, ap, ◌∙◌, append-nil}
 use Rattle.std.specs.Prelude.{IsOk}
 use Rattle.gst_item.specs.declared.out.Out.{Out}
-use Rattle.flow_model.specs.Item.{Item, Ev, Eos, is_flush_stop, is_eos}
+use Rattle.flow_model.specs.Item.{Item, is_flush_stop, is_eos}
 use Rattle.flow_model.specs.Call.{Feed, Act, Drain}
 use Rattle.flow_model.specs.Feeding.{on_pad}
 use Rattle.el_parse.specs.declared.raw_parse.RawParse.{RawParse}
 use Rattle.el_parse.specs.declared.split.Split.{Split}
 use Rattle.el_parse.specs.Parses.{parse_answer, progress_behind}
-use Rattle.flow_model.specs.Owed.{answered, without_eos}
+use Rattle.flow_model.specs.Owed.{answered}
 use Rattle.el_parse.specs.Parsed.{parsed, come}
 use Rattle.el_parse.specs.RawParsePuts.{RawParsePuts}
 use Rattle.el_parse.specs.Splits.{split_answer, rest, rested}
@@ -17,6 +17,7 @@ use Rattle.el_parse.specs.Regrouped.{come as split_come}
 use Rattle.el_parse.specs.SplitPuts.{SplitPuts}
 use Rattle.el_parse.proofs.Parsing.{parsed_item, parsed_behind, parsed_drain}
 use Rattle.el_parse.proofs.Grouping.{split_item, split_behind, split_drained, split_drained_behind}
+use Rattle.flow_model.proofs.Items.{none_owed}
 
 -- a parser, for an item in a section that is not over
 pub parser_puts : (old new : RawParse) (x : Item) (out out' : List Out) → is_flush_stop x ≡ false → old.ended ≡ false
@@ -40,11 +41,6 @@ parser_puts_behind parser x out plain ended =
       owed = λ info calls put p. (parsed_behind parser x plain ended info calls put p).0;
       stands = λ info calls put p. (parsed_behind parser x plain ended info calls put p).1;
     }
-
--- for a drain, of which nothing comes
-none_owed : (over : Bool) → without_eos (if over then Ok [] else Ok (Ev Eos ∷ [])) ≡ Ok []
-none_owed true = refl
-none_owed false = refl
 
 pub parser_puts_none : (parser : RawParse) (out : List Out) → RawParsePuts parser parser (Act Drain) out out
 parser_puts_none parser out =

@@ -9,13 +9,14 @@ use Rattle.gst_caps.specs.Accepts.{accepts}
 use Rattle.flow_model.specs.declared.fault.StreamKind.TheVariants.{SplitFrame}
 use Rattle.flow_model.specs.Item.{Item, Buf, Ev, Buffer, StreamStart, NewCaps, NewSegment, Tag, Gap, FlushStop, Eos, Segment, is_flush_stop, is_buffer}
 use Rattle.flow_model.specs.Rule.{Fault, NotNegotiated, BadStream, TooLong, not_eos}
-use Rattle.el_parse.specs.Part.{end_of}
 use Rattle.flow_model.specs.Owed.{answered}
 use Rattle.audio_info.specs.Templates.{raw_template}
 use Rattle.el_parse.specs.Streams.{Stream, stream_of, frames_in}
 use Rattle.el_parse.specs.Splits.{Cutting, timed, ahead, pieces, pts_with, buffer_answer, rest_by, rest, split_answer, reached_by, rested, size_of, cut_behind, cutting_behind}
 use Rattle.el_parse.proofs.Cutting.{timed_ok, both_ok}
 use Rattle.el_parse.proofs.Views.{View, view_one, view_all, view_more}
+use Rattle.flow_model.proofs.Items.{chosen}
+use Rattle.flow_model.specs.Looking.{end_of}
 
 -- by what is seen of the items that were given, and of those that were put out
 abbrev pub cutting_by : View → View → Cutting
@@ -260,11 +261,6 @@ flush_moved q given out number moved = record {
   as_far = same_cutting (ap (λ (c : Cutting). c.stream) moved.as_far) refl refl refl refl refl refl;
   kept = record { whole = refl; same_stream = moved.kept.same_stream; unknown = λ none. refl };
 }
-
--- an answer that is no fault
-chosen : (b : Bool) (r : Result (List Item) Fault) (fault : Fault) (ys : List Item) → (if b then r else Err fault) ≡ Ok ys → r ≡ Ok ys
-chosen true r fault ys e = e
-chosen false r fault ys e = absurd (cc)
 
 -- a buffer with which buffers are whole
 cut_moved : (frames : ℕ) (p : Cutting) (given out : View) (b : Buffer) (s : Stream) → p.stream ≡ Some s → 0 < s.width → Moved p given out

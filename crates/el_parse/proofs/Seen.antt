@@ -6,7 +6,8 @@ use Rattle.flow_model.specs.Item.{Item, is_segment, is_flush_stop, is_buffer, bo
 use Rattle.flow_model.specs.Sticky.{latest, since_flush_stop, in_force}
 use Rattle.el_parse.specs.Part.{begins_part, has_beginning, last_part, part_bytes}
 use Rattle.flow_model.specs.Looking.{bytes_of}
-use Rattle.flow_model.proofs.Looking.{bytes_push, latest_since}
+use Rattle.flow_model.proofs.Looking.{bytes_push}
+use Rattle.gst_item.proofs.Kept.{latest_since}
 
 pub record Seen : Type 0 where
   pub bytes : List ℕ

@@ -11,13 +11,14 @@ use Rattle.audio_info.specs.declared.sample.Sample.{Sample}
 use Rattle.audio_info.specs.declared.sample.Sample.TheVariants.{S8, U8, S16LE, S16BE, S24LE, S32LE, MuLaw, ALaw}
 use Rattle.audio_info.specs.Packing.{sample_width}
 use Rattle.flow_model.specs.Item.{Item, Buf, Ev, Buffer, StreamStart, NewCaps, NewSegment, Tag, Gap, FlushStop, Eos, Segment, is_flush_stop}
-use Rattle.flow_model.specs.Feeding.{has_item}
 use Rattle.flow_model.specs.Rule.{Fault, TooLong}
-use Rattle.el_parse.specs.Part.{end_of}
 use Rattle.el_parse.specs.Frames.{frame_width, frame_time, opening, frames_buffer, frame_at, first_frame}
 use Rattle.el_parse.specs.Parses.{Progress, in_time, beginning, parse_answer, progress_behind}
 use Rattle.flow_model.specs.Owed.{answered}
 use Rattle.el_parse.proofs.Seen.{Seen, seen_one, seen_all}
+use Rattle.gst_value.proofs.Places.{append_left_nil as left_nil}
+use Rattle.flow_model.specs.Looking.{end_of}
+use Rattle.gst_item.specs.Item.{has_item}
 
 -- by what is seen of the items that were given, and of those that were put out
 abbrev pub progress_by : Info → Seen → Seen → Progress
@@ -38,10 +39,6 @@ pub record Split (width : ℕ) (given out : Seen) (held : List ℕ) (opened : Bo
 pub record Went (info : Info) (p : Progress) (x : Item) (given out : Seen) : Type 0 where
   pub as_far : progress_by info given out ≡ progress_behind info p x
   pub bytes : Split (frame_width info) given out (progress_behind info p x).held (progress_behind info p x).opened
-
-left_nil : (xs ys : List ℕ) → xs ++ ys ≡ [] → xs ≡ []
-left_nil [] ys e = refl
-left_nil (x ∷ xs) ys e = absurd (cc)
 
 none_out : {width : ℕ} {given out : Seen} {held : List ℕ} {opened : Bool} → Split width given out held opened → opened ≡ false → out.bytes ≡ []
 none_out {out = out} {held = held} s e = left_nil out.bytes held (s.whole ∙ s.unopened e)

@@ -1,14 +1,14 @@
 -- What an element that cuts raw audio sees by looking back over a list.
-use Rattle.std.proofs.Common.{◌≡◌, ℕ, ◌+◌, Bool, true, false, if◌then◌else◌, List, [], ◌∷◌, ◌++◌, length, Option, None, refl, sym, ap, ◌∙◌, append_assoc, append-nil, arith, length-append}
+use Rattle.std.proofs.Common.{◌≡◌, ℕ, ◌+◌, Bool, true, false, if◌then◌else◌, List, [], ◌∷◌, ◌++◌, length, Option, None, refl, sym, ap, ◌∙◌, append_assoc, append-nil, arith}
 use Rattle.std.specs.Prelude.{◌||◌}
-use Rattle.gst_item.proofs.Kept.{since_push}
+use Rattle.gst_item.proofs.Kept.{latest_since}
 use Rattle.flow_model.specs.Item.{Item, Buf, Ev, is_flush_stop, is_buffer, body_of}
 use Rattle.flow_model.specs.Sticky.{latest, since_flush_stop}
 use Rattle.el_parse.specs.Part.{begins_part, has_beginning, last_part, part_bytes}
-use Rattle.flow_model.specs.Looking.{bytes_of, bytes_got}
+use Rattle.flow_model.specs.Looking.{bytes_got}
 use Rattle.el_parse.specs.Streams.{Stream, stream_behind, stream_after, frames_in, frames_from, part_frames, has_buffer, first_pts}
 use Rattle.el_parse.proofs.Seen.{has_beginning_push, last_part_push, part_bytes_push}
-use Rattle.flow_model.proofs.Looking.{bytes_push, latest_since}
+use Rattle.flow_model.proofs.Items.{got_push}
 
 pub record View : Type 0 where
   pub stream : Option Stream
@@ -98,13 +98,6 @@ pts_push h x = rw (last_part_push h x) (go (begins_part x))
         ≡ (if b then None else (if is_buffer x then (if has_buffer (last_part h) then first_pts (last_part h) else first_pts (x ∷ [])) else first_pts (last_part h)))
     go true = refl
     go false = first_push (last_part h) x
-
-got_push : (h : List Item) (x : Item) → bytes_got (h ++ x ∷ []) ≡ (if is_flush_stop x then 0 else bytes_got h + length (body_of x))
-got_push h x = rw (since_push h x) (go (is_flush_stop x))
-  where
-    go : (f : Bool) → length (bytes_of (if f then [] else since_flush_stop h ++ x ∷ [])) ≡ (if f then 0 else bytes_got h + length (body_of x))
-    go true = refl
-    go false = ap length (bytes_push (since_flush_stop h) x) ∙ length-append (bytes_of (since_flush_stop h)) (body_of x)
 
 pub view_push : (h : List Item) (x : Item) → view (h ++ x ∷ []) ≡ view_one (view h) x
 view_push h x =

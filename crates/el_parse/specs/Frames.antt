@@ -3,8 +3,8 @@ use Rattle.std.specs.Prelude.{ℕ, ◌+◌, ◌-◌, ◌*◌, ◌/◌, List, [],
 use Rattle.audio_info.specs.declared.info.Info.{Info}
 use Rattle.audio_info.specs.Packing.{sample_width}
 use Rattle.audio_info.specs.Media.{caps_of}
-use Rattle.flow_model.specs.Source.{ordered_without_stop}
-use Rattle.flow_model.specs.Item.{Item, Buf, Ev, NewCaps, NewSegment, Buffer, Segment, Format, Bytes, Time}
+use Rattle.flow_model.specs.Source.{time_segment}
+use Rattle.flow_model.specs.Item.{Item, Buf, Ev, NewCaps, NewSegment, Buffer, Format, Bytes, Time}
 
 -- the bytes of a frame
 abbrev pub frame_width : Info → ℕ
@@ -13,10 +13,6 @@ frame_width info = info.channels * sample_width info.format
 -- the time of a frame, in nanoseconds, rounded down
 abbrev pub frame_time : Info → ℕ → ℕ
 frame_time info frame = frame * 1000000000 / info.rate
-
--- the segment in time from a time on
-abbrev pub time_segment : ℕ → Segment
-time_segment start = record { format = Time; start = start; stop = None; time = start; base = 0; position = start; ordered = ordered_without_stop start }
 
 -- what stands before frames: their caps, and the segment from the time of the first one on
 abbrev pub opening : Info → ℕ → List Item

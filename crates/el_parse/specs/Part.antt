@@ -1,10 +1,10 @@
 -- What stands behind the last SEGMENT or FLUSH_STOP of a list, and its bytes.
-use Rattle.std.specs.Prelude.{ℕ, ◌+◌, Bool, false, ◌||◌, if◌then◌else◌, List, [], ◌∷◌, length, drop, unwrap_or}
-use Rattle.flow_model.specs.Item.{Item, Buf, is_segment, is_flush_stop, is_buffer}
+use Rattle.std.specs.Prelude.{ℕ, Bool, false, ◌||◌, if◌then◌else◌, List, [], ◌∷◌, length, drop}
+use Rattle.flow_model.specs.Item.{Item, is_segment, is_flush_stop, is_buffer}
 use Rattle.flow_model.specs.Sticky.{latest, since_flush_stop}
 use Rattle.flow_model.specs.Call.{items}
 use Rattle.flow_model.specs.Rule.{Fed}
-use Rattle.flow_model.specs.Looking.{bytes_of}
+use Rattle.flow_model.specs.Looking.{bytes_of, end_of}
 
 -- a SEGMENT and a FLUSH_STOP begin a part
 abbrev pub begins_part : Item → Bool
@@ -26,11 +26,6 @@ part_bytes h = bytes_of (last_part h)
 -- the bytes of the last part that were given and not yet put out
 abbrev pub held_bytes : Fed → List ℕ
 held_bytes fed = drop (length (part_bytes fed.out)) (part_bytes (items fed.given))
-
--- the time at which the first item ends, where it is a buffer with times
-abbrev pub end_of : List Item → ℕ
-end_of (Buf b ∷ xs) = unwrap_or b.pts 0 + unwrap_or b.duration 0
-end_of _ = 0
 
 -- the time of the end of what was put out since the last FLUSH_STOP: that of the last buffer, and 0 without one
 abbrev pub end_put_out : Fed → ℕ

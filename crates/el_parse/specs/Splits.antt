@@ -6,11 +6,11 @@ use Rattle.flow_model.specs.declared.fault.StreamKind.TheVariants.{SplitFrame}
 use Rattle.flow_model.specs.Item.{Item, Buf, Ev, Buffer, NewCaps, NewSegment, Eos, is_buffer}
 use Rattle.flow_model.specs.Call.{items}
 use Rattle.flow_model.specs.Rule.{Fed, Fault, NotNegotiated, BadStream, TooLong, Response}
-use Rattle.el_parse.specs.Part.{last_part, held_bytes, end_of, end_put_out}
+use Rattle.el_parse.specs.Part.{last_part, held_bytes, end_put_out}
 use Rattle.flow_model.specs.Owed.{answered}
 use Rattle.audio_info.specs.Templates.{raw_template}
 use Rattle.el_parse.specs.Streams.{Stream, stream_of, stream_after, frames_in, part_frames, has_buffer, first_pts}
-use Rattle.flow_model.specs.Looking.{bytes_got}
+use Rattle.flow_model.specs.Looking.{bytes_got, end_of}
 
 -- How far an element has come: the stream by the CAPS in force; whether a buffer was given since the SEGMENT, and
 -- the time of the first one; the next frame, as counted since the SEGMENT; the bytes that wait; the bytes that it

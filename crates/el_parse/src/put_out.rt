@@ -3,8 +3,9 @@ ghost use Rattle.std.specs.Prelude.{◌≡◌, ◌++◌, ◌∷◌, OnOk, OnErr}
 ghost use Rattle.flow_model.specs.Item.{Ev, NewCaps, NewSegment};
 ghost use Rattle.flow_model.specs.Feeding.{on_pad};
 ghost use Rattle.audio_info.specs.Media.{caps_of};
-ghost use Rattle.el_parse.specs.Frames.{time_segment, buffers_of};
-ghost use Rattle.flow_model.specs.Owed.{events_of};
+ghost use Rattle.el_parse.specs.Frames.{buffers_of};
+ghost use Rattle.flow_model.specs.Source.{time_segment};
+ghost use Rattle.gst_item.specs.Sticky.{held as events_of};
 
 use audio_info::Info;
 use flow_model::on_pad;

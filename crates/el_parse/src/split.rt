@@ -5,7 +5,8 @@ ghost use Rattle.flow_model.specs.Call.{Call, Feed, Act, Drain};
 ghost use Rattle.flow_model.specs.Feeding.{flow_behind, on_pad, next_owed, IsFaultOf};
 ghost use Rattle.gst_time.specs.declared.time.TheConstants.{LIMIT};
 ghost use Rattle.el_parse.specs.Frames.{buffers_of};
-ghost use Rattle.flow_model.specs.Owed.{events_of, answered};
+ghost use Rattle.flow_model.specs.Owed.{answered};
+ghost use Rattle.gst_item.specs.Sticky.{held as events_of};
 ghost use Rattle.el_parse.specs.Streams.{frames_in, stream_by};
 ghost use Rattle.el_parse.specs.Splits.{splits, split_answer, whole_count, whole_pieces, left_behind, rest as rest_answer, rested, cutting_behind, reached_by};
 

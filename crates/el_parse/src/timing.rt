@@ -5,7 +5,7 @@ ghost use Rattle.std.specs.Option.{ForSome};
 ghost use Rattle.flow_model.specs.Item.{Item, Buf};
 ghost use Rattle.flow_model.specs.Rule.{Fault};
 ghost use Rattle.flow_model.specs.Feeding.{IsFaultOf};
-ghost use Rattle.el_parse.specs.Part.{end_of};
+ghost use Rattle.flow_model.specs.Looking.{end_of};
 ghost use Rattle.el_parse.specs.Streams.{stream_by};
 ghost use Rattle.el_parse.specs.Splits.{time_at, later_by, in_time, in_sum, timed};
 

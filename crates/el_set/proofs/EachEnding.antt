@@ -1,7 +1,7 @@
 -- The rule of all settings, and each rule by which a filter stands, owes EOS for EOS, and neither EOS nor FLUSH_STOP in
 -- front of it.
-use Rattle.std.proofs.Common.{◌≡◌, ◌⊎◌, Bool, true, false, List, [], ◌∷◌, refl, inl, inr, Result, Ok, Err}
-use Rattle.flow_model.specs.Item.{Item, is_flush_stop, is_eos}
+use Rattle.std.proofs.Common.{◌≡◌, ◌⊎◌, List, [], ◌∷◌, inl, inr, Result, Ok, Err}
+use Rattle.flow_model.specs.Item.{Item}
 use Rattle.flow_model.specs.Section.{counted}
 use Rattle.flow_model.specs.Call.{Call, items}
 use Rattle.flow_model.specs.Rule.{Response, Fault, passes}
@@ -12,16 +12,8 @@ use Rattle.el_set.specs.declared.filter.FilterElement.TheVariants as elements
 use Rattle.el_settings.specs.declared.settings.Settings.{Settings}
 use Rattle.el_settings.specs.declared.settings.Settings.TheVariants as settings
 use Rattle.el_set.proofs.Ends.{IsPassing, passes_is_passing, filters_is_passing}
-use Rattle.el_set.proofs.Ending.{EndsAs, OwesEos, IsEnding}
-use Rattle.el_set.proofs.Rules.{converts_ending, recodes_ending, raw_ending, splits_ending, wav_ending, encodes_ending}
-
--- an item for itself
-passed_whole : (x : Item) → is_flush_stop x ≡ false → EndsAs x (x ∷ [])
-passed_whole x h = go (is_eos x) refl
-  where
-    go : (e : Bool) → is_eos x ≡ e → EndsAs x (x ∷ [])
-    go true e = record { inner = []; all = rw e refl; quiet = tt }
-    go false e = record { inner = x ∷ []; all = rw e refl; quiet = (h, e, tt) }
+use Rattle.el_set.proofs.Ending.{OwesEos, IsEnding}
+use Rattle.el_set.proofs.Rules.{converts_ending, recodes_ending, raw_ending, splits_ending, wav_ending, encodes_ending, passing as passed_whole}
 
 -- a rule that passes or refuses
 passing_ending : (respond : Response) → IsPassing respond → IsEnding respond

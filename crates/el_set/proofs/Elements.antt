@@ -1,17 +1,17 @@
 -- The elements between one sink pad and one source pad, kind by kind.
-use Rattle.std.proofs.Common.{◌≡◌, ◌⊎◌, ℕ, Bool, true, false, List, [], ◌∷◌, ◌++◌, length, refl, sym, ap, ◌∙◌, inl, inr, if◌then◌else◌, append-nil, Result, Ok, Err, IfOk, IfErr, OnOk, arith}
+use Rattle.std.proofs.Common.{◌≡◌, ◌⊎◌, ℕ, Bool, true, false, List, [], ◌∷◌, ◌++◌, length, refl, sym, ap, ◌∙◌, inl, inr, append-nil, Result, Ok, Err, IfOk, IfErr, OnOk, arith}
 use Rattle.std.proofs.lemmas.List.{append_cancel_left, length_push}
 use Rattle.gst_caps.specs.declared.caps.Caps.{Caps}
 use Rattle.gst_item.specs.declared.flow.Flow.{Flow}
 use Rattle.gst_item.specs.declared.flow.Flow.TheVariants.{Ok as Taken, Eos as BehindEos}
 use Rattle.gst_item.specs.declared.out.Out.{Out}
 use Rattle.flow_model.specs.declared.fault.ElementFault.{ElementFault}
-use Rattle.flow_model.specs.Item.{Item, Ev, Eos, is_flush_stop, eos_among}
+use Rattle.flow_model.specs.Item.{Item, is_flush_stop, eos_among}
 use Rattle.flow_model.specs.Sticky.{has_flush_stop, in_force}
 use Rattle.flow_model.specs.Section.{section, counted, IsPlain}
 use Rattle.flow_model.specs.Call.{Call, Feed, Act, Drain, items, feeds}
 use Rattle.flow_model.specs.Rule.{Response, Fault, Fed, unfed, all_called, owed_for, passes}
-use Rattle.flow_model.specs.Feeding.{has_item, has_eos, flow_behind, passed, on_pad, next_owed, IsFaultOf}
+use Rattle.flow_model.specs.Feeding.{has_eos, flow_behind, passed, on_pad, next_owed, IsFaultOf}
 use Rattle.flow_model.proofs.Sections.{called_push}
 use Rattle.el_basic.specs.Passed.{Passed}
 use Rattle.el_basic.specs.Filters.{filters}
@@ -21,11 +21,12 @@ use Rattle.el_basic.specs.declared.caps_filter.CapsFilter.{CapsFilter}
 use Rattle.el_set.specs.declared.filter.FilterElement.{FilterElement}
 use Rattle.el_set.specs.declared.filter.FilterElement.TheVariants as elements
 use Rattle.el_set.specs.Stands.{Stands, PutsOut, MeetsNone}
-use Rattle.flow_model.specs.Owed.{without_eos}
 use Rattle.el_set.specs.Ends.{MeetsNoFault, EndsWithEos}
-use Rattle.el_set.proofs.Ends.{counted_eos, counted_eos_since, sections_plain, items_feeds, IsPassing, passes_is_passing, filters_is_passing, passing_ends, passing_meets_no_fault}
+use Rattle.el_set.proofs.Ends.{counted_eos, counted_eos_since, sections_plain, IsPassing, passes_is_passing, filters_is_passing, passing_ends, passing_meets_no_fault}
 use Rattle.el_set.proofs.Ending.{IsEnding, ending_eos, ending_sections, ending_among, ending_ends, met_none}
 use Rattle.el_set.proofs.Rules.{converts_ending, recodes_ending, raw_ending, splits_ending, wav_ending, encodes_ending}
+use Rattle.flow_model.proofs.Items.{items_feeds, none_owed as drained_none}
+use Rattle.gst_item.specs.Item.{has_item}
 
 -- what an element stands for is owed by its rule
 pub elements_owe : (respond : Response) (element : FilterElement) (calls : List Call) (put : List Item) → Stands respond element calls put → put ≡ owed_for respond calls
@@ -204,11 +205,6 @@ pub filter_faults : (r : Result Flow ElementFault) (element : FilterElement) (ol
     → IfErr r (λ fault. (respond : Response) (calls : List Call) (put : List Item) → Stands respond element calls put → IsFaultOf (next_owed respond calls x) fault)
 filter_faults (Ok flow) element old x is h = tt
 filter_faults (Err fault) element old x is h = rw is (λ respond calls put s. rw s.1 (h s.0 calls put s.2))
-
--- a drain, of which nothing comes
-drained_none : (over : Bool) → without_eos (if over then Ok [] else Ok (Ev Eos ∷ [])) ≡ Ok []
-drained_none true = refl
-drained_none false = refl
 
 pub identity_drains : (r : Result (Unit {0}) ElementFault) (element : FilterElement) (old new : Identity) (out out' : List Out) → element ≡ elements.Identity old → out' ≡ out
     → ((calls : List Call) (put : List Item) → Passed old calls put → Passed new (calls ++ Act Drain ∷ []) put)

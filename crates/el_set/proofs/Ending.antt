@@ -1,21 +1,22 @@
 -- EOS through an element whose rule owes for EOS something and EOS behind it, and neither EOS nor FLUSH_STOP for another item.
-use Rattle.std.proofs.Common.{◌≡◌, ◌≢◌, ℕ, zero, suc, Bool, true, false, ◌||◌, if◌then◌else◌, List, [], ◌∷◌, ◌++◌, filter, refl, sym, ap, ◌∙◌, subst, append_assoc, append-nil, Result, Ok, Err}
-use Rattle.gst_item.proofs.Kept.{in_force_push}
+use Rattle.std.proofs.Common.{◌≡◌, ◌≢◌, ℕ, Bool, true, false, ◌||◌, if◌then◌else◌, List, [], ◌∷◌, ◌++◌, filter, refl, sym, ap, ◌∙◌, subst, append_assoc, append-nil, Result, Ok, Err}
 use Rattle.flow_model.specs.Item.{Item, Ev, Eos, is_flush_stop, is_eos, eos_among}
-use Rattle.flow_model.specs.Sticky.{has_flush_stop, InForce, in_force}
+use Rattle.flow_model.specs.Sticky.{has_flush_stop, in_force}
 use Rattle.flow_model.specs.Prefix.{IsPrefix, nothing, next}
 use Rattle.flow_model.specs.Section.{section, IsPlain}
 use Rattle.flow_model.specs.Call.{Call, Feed, Act, Drain, Set, items, feeds}
 use Rattle.flow_model.specs.Rule.{Response, Fault, Fed, unfed, responded, flushed, drained, fed_item, all_called, owed_for, not_eos}
-use Rattle.flow_model.specs.Feeding.{has_item}
 use Rattle.flow_model.proofs.Prefixes.{append_prefix}
 use Rattle.flow_model.proofs.Sections.{called_push}
-use Rattle.flow_model.proofs.Calls.{items_push, items_act, feeds_push}
+use Rattle.flow_model.proofs.Calls.{items_push, items_act, feeds_push, eos_behind as eos_with}
 use Rattle.el_set.specs.Stands.{MeetsNone}
 use Rattle.flow_model.specs.Owed.{owed_at, without_eos}
 use Rattle.el_set.specs.Ends.{MeetsNoFault, EndsWithEos}
-use Rattle.el_set.proofs.Ends.{eos_first, none_first, items_feeds}
+use Rattle.el_set.proofs.Ends.{eos_first}
 use Rattle.gst_value.proofs.Basics.{or_false}
+use Rattle.flow_model.proofs.Items.{first_is_all as section_whole, free_append as no_flush_append, items_feeds, none_first, Sound, end_after, ended, after_inner, ended_append, sound_append, sound_plain}
+use Rattle.gst_value.proofs.Basics.{from_true as impossible}
+use Rattle.gst_item.specs.Item.{has_item}
 
 -- EOS as a list, and none of another item
 abbrev pub eos_of : Item → List Item
@@ -39,31 +40,6 @@ OwesEos x (Err fault) = Unit {0}
 abbrev pub IsEnding : Response → Type 0
 IsEnding respond = (s : Fed) (x : Item) → is_flush_stop x ≡ false → OwesEos x (respond s x)
 
--- Whether a section is over behind an item, and behind a list.
-abbrev end_after : Bool → Item → Bool
-end_after b x = if is_flush_stop x then false else (b || is_eos x)
-
-abbrev ended : Bool → List Item → Bool
-ended b [] = b
-ended b (x ∷ xs) = ended (end_after b x) xs
-
--- in no section anything stands behind EOS
-abbrev Sound : Bool → List Item → Type 0
-Sound b [] = Unit {0}
-Sound b (x ∷ xs) = (is_flush_stop x ≡ false → b ≡ false) × Sound (end_after b x) xs
-
-sound_append : (b : Bool) (xs ys : List Item) → Sound b xs → Sound (ended b xs) ys → Sound b (xs ++ ys)
-sound_append b [] ys h k = k
-sound_append b (x ∷ xs) ys h k = (h.0, sound_append (end_after b x) xs ys h.1 k)
-
-ended_append : (b : Bool) (xs ys : List Item) → ended b (xs ++ ys) ≡ ended (ended b xs) ys
-ended_append b [] ys = refl
-ended_append b (x ∷ xs) ys = ended_append (end_after b x) xs ys
-
--- inner items
-after_inner : (y : Item) → is_flush_stop y ≡ false → is_eos y ≡ false → end_after false y ≡ false
-after_inner y f e = rw (f, e) refl
-
 inner_sound : (ys : List Item) → AreInner ys → Sound false ys
 inner_sound [] h = tt
 inner_sound (y ∷ ys) h = ((λ e. refl), rw (after_inner y h.0 h.1) (inner_sound ys h.2))
@@ -79,10 +55,6 @@ inner_append (x ∷ xs) ys h k = (h.0, h.1, inner_append xs ys h.2 k)
 inner_no_flush : (ys : List Item) → AreInner ys → has_flush_stop ys ≡ false
 inner_no_flush [] h = refl
 inner_no_flush (y ∷ ys) h = rw h.0 (inner_no_flush ys h.2)
-
-no_flush_append : (xs ys : List Item) → has_flush_stop xs ≡ false → has_flush_stop ys ≡ false → has_flush_stop (xs ++ ys) ≡ false
-no_flush_append [] ys h k = k
-no_flush_append (x ∷ xs) ys h k = let t = none_first x xs h in rw t.0 (no_flush_append xs ys t.1 k)
 
 inner_no_eos : (ys : List Item) → AreInner ys → eos_among ys ≡ false
 inner_no_eos [] h = refl
@@ -167,15 +139,6 @@ ended_had b (x ∷ xs) h = ap (λ e. b || e) (eos_first x xs) ∙ go (is_flush_s
     go true false false a h = h
     go false false false a h = h
 
--- EOS in force
-eos_with : (h : List Item) (x : Item) → has_item (in_force (h ++ x ∷ [])).eos ≡ (if is_flush_stop x then false else (if is_eos x then true else has_item (in_force h).eos))
-eos_with h x = ap (λ (s : InForce). has_item s.eos) (in_force_push h x) ∙ go (is_flush_stop x) (is_eos x)
-  where
-    go : (f e : Bool) → has_item (if f then [] else (if e then x ∷ [] else (in_force h).eos)) ≡ (if f then false else (if e then true else has_item (in_force h).eos))
-    go true e = refl
-    go false true = refl
-    go false false = refl
-
 eos_from : (front rest : List Item) → has_item (in_force front).eos ≡ ended false front → has_item (in_force (front ++ rest)).eos ≡ ended false (front ++ rest)
 eos_from front [] h = rw (append-nil front) h
 eos_from front (x ∷ xs) h =
@@ -191,38 +154,6 @@ eos_from front (x ∷ xs) h =
 
 pub eos_now : (xs : List Item) → has_item (in_force xs).eos ≡ ended false xs
 eos_now xs = eos_from [] xs refl
-
--- sections
-after_eos : (b : Bool) (x : Item) → is_flush_stop x ≡ false → b ≡ false → is_eos x ≡ true → end_after b x ≡ true
-after_eos b x f g e = rw (f, g, e) refl
-
-sound_over : (xs : List Item) → Sound true xs → section 0 xs ≡ []
-sound_over [] h = refl
-sound_over (x ∷ xs) h = go (is_flush_stop x) h.0
-  where
-    go : (f : Bool) → (f ≡ false → true ≡ false) → (if f then [] else x ∷ section 0 xs) ≡ []
-    go true e = refl
-    go false e = let no : true ≡ false = e refl in absurd (cc)
-
-sound_plain : (j : ℕ) (b : Bool) (xs : List Item) → Sound b xs → IsPlain (section j xs)
-sound_plain j b [] h = tt
-sound_plain zero b (x ∷ xs) h = go (is_flush_stop x) refl (sound_plain zero (end_after b x) xs h.1)
-  where
-    over : is_flush_stop x ≡ false → is_eos x ≡ true → Sound (end_after b x) xs → section 0 xs ≡ []
-    over f e k = sound_over xs (subst (λ (c : Bool). Sound c xs) (after_eos b x f (h.0 f) e) k)
-
-    go : (f : Bool) → is_flush_stop x ≡ f → IsPlain (section 0 xs) → IsPlain (if f then [] else x ∷ section 0 xs)
-    go true f rest = tt
-    go false f rest = (f, (λ e. over f e h.1), rest)
-sound_plain (suc j) b (x ∷ xs) h = go (is_flush_stop x) (sound_plain j (end_after b x) xs h.1) (sound_plain (suc j) (end_after b x) xs h.1)
-  where
-    go : (f : Bool) → IsPlain (section j xs) → IsPlain (section (suc j) xs) → IsPlain (if f then section j xs else section (suc j) xs)
-    go true past same = past
-    go false past same = same
-
-section_whole : (xs : List Item) → has_flush_stop xs ≡ false → section 0 xs ≡ xs
-section_whole [] h = refl
-section_whole (x ∷ xs) h = let t = none_first x xs h in rw t.0 (ap (λ ys. x ∷ ys) (section_whole xs t.1))
 
 -- how far a rule has come, and what it was given
 pub record Sane (s : Fed) (given : List Item) : Type 0 where
@@ -341,9 +272,6 @@ ending_sections respond calls j ending none = sound_plain j false (owed_for resp
 
 pub ending_among : (respond : Response) (list : List Item) → IsEnding respond → MeetsNone respond (feeds list) → eos_among (owed_for respond (feeds list)) ≡ eos_among list
 ending_among respond list ending none = (sane respond (feeds list) ending none).among ∙ ap eos_among (items_feeds list)
-
-impossible : {A : Type 0} → true ≡ false → A
-impossible e = absurd (cc)
 
 -- Of a rule alone. Faults may be met.
 record Quiet (s : Fed) : Type 0 where

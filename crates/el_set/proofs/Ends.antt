@@ -12,10 +12,12 @@ use Rattle.flow_model.specs.Prefix.{IsPrefix, nothing, next}
 use Rattle.flow_model.specs.Section.{section, counted_after, counted, IsPlain}
 use Rattle.flow_model.specs.Call.{items, feeds}
 use Rattle.flow_model.specs.Rule.{Response, Fault, Fed, unfed, responded, flushed, fed_item, all_called, owed_for, passes}
-use Rattle.flow_model.specs.Feeding.{has_item}
 use Rattle.el_basic.specs.Filters.{takes_buffer, filter_in, filter_answer, filters}
 use Rattle.flow_model.specs.CapsInForce.{caps_in_force}
 use Rattle.el_set.specs.Ends.{MeetsNoFault, EndsWithEos, owed_along, MeetNoFaults, RowEndsWithEos}
+use Rattle.flow_model.proofs.Counted.{since_all}
+use Rattle.flow_model.proofs.Items.{none_first, stop_no_eos as flush_is_no_eos}
+use Rattle.gst_item.specs.Item.{has_item}
 
 -- whether a list has EOS, item by item
 eos_from : (b : Bool) (xs : List Item) → fold (λ eos x. eos || is_eos x) b xs ≡ (b || eos_among xs)
@@ -35,14 +37,6 @@ eos_latest (x ∷ xs) = go (is_eos x) (latest is_eos xs) (eos_among xs) (eos_lat
     go true (z ∷ zs) h is = refl
     go false [] h is = is
     go false (z ∷ zs) h is = is
-
--- no FLUSH_STOP in a list, item by item
-pub none_first : (x : Item) (xs : List Item) → has_flush_stop (x ∷ xs) ≡ false → (is_flush_stop x ≡ false) × (has_flush_stop xs ≡ false)
-none_first x xs h = go (is_flush_stop x) refl h
-  where
-    go : (b : Bool) → is_flush_stop x ≡ b → (if b then true else has_flush_stop xs) ≡ false → (is_flush_stop x ≡ false) × (has_flush_stop xs ≡ false)
-    go true e h = absurd (cc)
-    go false e h = (e, h)
 
 pub plain_no_flush : (xs : List Item) → IsPlain xs → has_flush_stop xs ≡ false
 plain_no_flush [] h = refl
@@ -126,16 +120,6 @@ eos_next x c xs same more first some = go (has_flush_stop xs) (is_flush_stop x) 
 eos_all : (xs : List Item) → has_item (latest is_eos (counted xs)) ≡ has_item (latest is_eos xs)
 eos_all xs = eos_latest (counted xs) ∙ counted_eos xs ∙ sym (eos_latest xs)
 
-pub flush_is_no_eos : (x : Item) → is_flush_stop x ≡ true → is_eos x ≡ false
-flush_is_no_eos (Ev Eos) e = absurd (cc)
-flush_is_no_eos (Buf b) e = refl
-flush_is_no_eos (Ev (StreamStart id)) e = refl
-flush_is_no_eos (Ev (NewCaps caps)) e = refl
-flush_is_no_eos (Ev (NewSegment segment)) e = refl
-flush_is_no_eos (Ev (Tag title)) e = refl
-flush_is_no_eos (Ev (Gap pts duration)) e = refl
-flush_is_no_eos (Ev (FlushStop number)) e = refl
-
 -- where there is a FLUSH_STOP, by the state at the beginning
 eos_since : (b : Bool) (xs : List Item) → has_flush_stop xs ≡ true
     → has_item (latest is_eos (since_flush_stop (counted_after b xs))) ≡ has_item (latest is_eos (since_flush_stop xs))
@@ -151,20 +135,12 @@ eos_since true (x ∷ xs) h = go (is_flush_stop x) refl h (eos_since false xs) (
     go true e some begun ended = eos_next x (counted xs) xs (keeps_flush false xs) begun (λ e. eos_all xs) h
     go false e some begun ended = ended some ∙ sym (rw some refl)
 
-since_all : (xs : List Item) → has_flush_stop xs ≡ false → since_flush_stop xs ≡ xs
-since_all [] h = refl
-since_all (x ∷ xs) h = let t = none_first x xs h in rw (t.1, t.0) refl
-
 pub counted_eos_since : (xs : List Item) → has_item (in_force (counted xs)).eos ≡ has_item (in_force xs).eos
 counted_eos_since xs = go (has_flush_stop xs) refl
   where
     go : (h : Bool) → has_flush_stop xs ≡ h → has_item (latest is_eos (since_flush_stop (counted xs))) ≡ has_item (latest is_eos (since_flush_stop xs))
     go true e = eos_since false xs e
     go false e = rw (since_all (counted xs) (keeps_flush false xs ∙ e), since_all xs e) (eos_all xs)
-
-pub items_feeds : (xs : List Item) → items (feeds xs) ≡ xs
-items_feeds [] = refl
-items_feeds (x ∷ xs) = ap (λ ys. x ∷ ys) (items_feeds xs)
 
 -- Rules that owe an item for itself, or meet a fault at it.
 abbrev pub IsPassing : Response → Type 0

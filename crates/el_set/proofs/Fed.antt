@@ -7,7 +7,7 @@ use Rattle.el_settings.specs.declared.settings.Settings.{Settings}
 use Rattle.el_settings.specs.declared.settings.Settings.TheVariants.{Concat, Interleave, Queue}
 use Rattle.el_set.specs.Denoted.{rule_of}
 
-some_item : {x : Item} {xs : List Item} → x ∷ xs ≡ [] → ⊥
+pub some_item : {x : Item} {xs : List Item} → x ∷ xs ≡ [] → ⊥
 some_item e = cc
 
 -- the rule of an element that is fed from inlets owes something for an EOS

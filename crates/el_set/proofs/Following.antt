@@ -139,7 +139,7 @@ told_wav x e given owed = WavParsed e given owed
 pub wav_put : (element : FilterElement) (old new : WavParse) (call : Call) (out out' : List Out) → element ≡ elements.WavParse old
     → wav_puts.Puts old new call out out' → PutsOut element (elements.WavParse new) call out out'
 wav_put element old new call out out' is p =
-    let both = more_followed by_wav told_wav old new call p.more (λ x calls put s. p.owed calls put s) (λ x calls put s. p.stands calls put s) in
+    let both = more_followed by_wav told_wav old new call p.more p.owed p.stands in
     rw is (record { more = p.more; outs = p.outs; owed = λ respond calls put s. (both respond calls put s).0; stands = λ respond calls put s. (both respond calls put s).1 })
 
 abbrev pub by_enc : Unit {0} → Response
@@ -151,7 +151,7 @@ told_enc x e given owed = Encoded e given owed
 pub wavenc_put : (element : FilterElement) (old new : WavEnc) (call : Call) (out out' : List Out) → element ≡ elements.WavEnc old
     → wavenc_puts.Puts old new call out out' → PutsOut element (elements.WavEnc new) call out out'
 wavenc_put element old new call out out' is p =
-    let both = more_followed by_enc told_enc old new call p.more (λ x calls put s. p.owed calls put s) (λ x calls put s. p.stands calls put s) in
+    let both = more_followed by_enc told_enc old new call p.more p.owed p.stands in
     rw is (record { more = p.more; outs = p.outs; owed = λ respond calls put s. (both respond calls put s).0; stands = λ respond calls put s. (both respond calls put s).1 })
 
 -- by the answer of the call

@@ -39,11 +39,11 @@ joins_in_order (Concat concat) took whole put s begins port j = concat_prefix to
 joins_in_order (Mix mix) took whole put s begins port j = owes_in_order took s.fed whole begins port j
 
 -- the section that is open, by the first sink pad
-concat_open : (n : ℕ) (took : List (List Call)) → 0 < length took → InSection n took → open_section took ≡ n
+pub concat_open : (n : ℕ) (took : List (List Call)) → 0 < length took → InSection n took → open_section took ≡ n
 concat_open n [] some inside = absurd (omega (arith, some))
 concat_open n (cs ∷ css) some inside = inside.0
 
-mix_open : (n : ℕ) (took : List (List Call)) → 0 < length took → InSection n took → section_of took ≡ n
+pub mix_open : (n : ℕ) (took : List (List Call)) → 0 < length took → InSection n took → section_of took ≡ n
 mix_open n [] some inside = absurd (omega (arith, some))
 mix_open n (cs ∷ css) some inside = inside.0
 

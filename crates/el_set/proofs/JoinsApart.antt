@@ -1,6 +1,6 @@
 -- No rule of one sink pad is that of an element with several sink pads.
 use Rattle.std.proofs.Common.{◌≡◌, true, List, [], ◌∷◌, sym, ap, ◌∙◌}
-use Rattle.flow_model.specs.Item.{Item, Ev, Eos}
+use Rattle.flow_model.specs.Item.{Ev, Eos}
 use Rattle.flow_model.specs.Call.{Call, Feed}
 use Rattle.flow_model.specs.Rule.{Response, Rule, single}
 use Rattle.el_settings.specs.Asked.{makes_sinks}
@@ -10,6 +10,7 @@ use Rattle.el_set.specs.Denoted.{rule_of}
 use Rattle.el_set.specs.declared.join.JoinElement.{JoinElement}
 use Rattle.el_set.specs.declared.join.JoinElement.TheVariants.{Concat as Joins, Mix as Mixes}
 use Rattle.el_set.specs.Joins.{join_rule}
+use Rattle.el_set.proofs.Fed.{some_item}
 
 -- EOS at two sink pads, and at the first of them alone
 abbrev pub both_ended : List (List Call)
@@ -21,9 +22,6 @@ one_ended = (Feed (Ev Eos) ∷ []) ∷ [] ∷ []
 -- a rule owes the same for both
 abbrev pub IsAlike : Rule → Type 0
 IsAlike rule = rule both_ended 0 0 ≡ rule one_ended 0 0
-
-some_item : {x : Item} {xs : List Item} → x ∷ xs ≡ [] → ⊥
-some_item e = cc
 
 -- so it is with one sink pad, but not with several
 pub single_alike : (respond : Response) (rule : Rule) → rule ≡ single respond → IsAlike rule

@@ -1,7 +1,7 @@
 -- The sink pad that an element with several sink pads wants had no EOS.
 use Rattle.std.proofs.Common.{◌≡◌, ◌+◌, ℕ, suc, Bool, true, false, if◌then◌else◌, List, [], ◌∷◌, Option, None, Some, refl, sym, ◌∙◌, subst, arith}
 use Rattle.std.proofs.lemmas.Option.{same_Some as some_is}
-use Rattle.flow_model.specs.Item.{Item, is_eos, is_segment}
+use Rattle.flow_model.specs.Item.{Item}
 use Rattle.flow_model.specs.Call.{Call}
 use Rattle.flow_model.specs.Feeding.{has_eos}
 use Rattle.flow_model.specs.SinkPads.{calls_at}
@@ -10,8 +10,6 @@ use Rattle.el_join.proofs.Beginning.{wants_first}
 use Rattle.el_mix.specs.declared.channel.Channel.{Channel}
 use Rattle.el_mix.specs.declared.mix.Mix.{Mix}
 use Rattle.el_mix.specs.Line.{is_none}
-use Rattle.el_mix.specs.Mixed.{has}
-use Rattle.el_mix.specs.Mixes.{is_start}
 use Rattle.el_mix.specs.Relation.{KnowEach, Knows, Mixes, section_of, wanted}
 use Rattle.el_mix.specs.Reopened.{reopenings}
 use Rattle.el_mix.specs.Standing.{CountEach, Counts}
@@ -19,6 +17,7 @@ use Rattle.el_mix.specs.Wanted.{else_lowest, is_short, is_unstarted, lowest}
 use Rattle.el_set.specs.declared.join.JoinElement.{JoinElement}
 use Rattle.el_set.specs.declared.join.JoinElement.TheVariants.{Concat, Mix as Mixing}
 use Rattle.el_set.specs.Joins.{JoinStands, join_wanted}
+use Rattle.el_mix.proofs.Closing.{start_of}
 
 -- the sink pad of a number, counted from another on, had no EOS
 abbrev IsOpenFrom : ℕ → ℕ → List (List Call) → Type 0
@@ -49,17 +48,6 @@ open_low test closed from pad (c ∷ cs) (calls ∷ took) (xs ∷ xss) ks ds e =
         → (lowest test (suc from) cs ≡ Some pad → IsOpenFrom (suc from) pad took) → IsOpenFrom from pad (calls ∷ took)
     go true is e rest = let same = some_is from pad e in (0, omega (arith, same), knows.eos ∙ closed c xs ds.0 is)
     go false is e rest = let r = rest e in let later = r.1 in (suc r.0, omega (arith, later), r.2)
-
--- EOS starts a pad
-start_of : (xs : List Item) → has is_eos xs ≡ true → has is_start xs ≡ true
-start_of [] h = absurd (cc)
-start_of (x ∷ xs) h = go (is_segment x) (is_eos x) h (start_of xs)
-  where
-    go : (s e : Bool) → (if e then true else has is_eos xs) ≡ true → (has is_eos xs ≡ true → has is_start xs ≡ true)
-        → (if (if s then true else e) then true else has is_start xs) ≡ true
-    go true e h rest = refl
-    go false true h rest = refl
-    go false false h rest = rest h
 
 short_open : (c : Channel) (xs : List Item) → Counts c xs → is_short c ≡ true → c.progress.ended ≡ false
 short_open c xs d is = go c.progress.ended is

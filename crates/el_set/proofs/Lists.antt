@@ -7,12 +7,13 @@ use Rattle.flow_model.specs.Item.{Item, Ev, StreamStart, NewSegment, Eos, is_eos
 use Rattle.flow_model.specs.Source.{block_at, block_count, blocks_from, bytes_segment, file_list}
 use Rattle.flow_model.specs.Section.{IsPlain}
 use Rattle.el_src.specs.declared.ramp_src.Ramp.{Ramp}
-use Rattle.el_src.specs.Ramp.{frames_buffer, frames_gap, is_gap, piece, ramp_list, title_tag}
+use Rattle.el_src.specs.Ramp.{frames_buffer, frames_gap, is_gap, piece, ramp_list}
 use Rattle.el_settings.specs.declared.settings.Settings.{Settings}
 use Rattle.el_settings.specs.declared.settings.Settings.TheVariants.{FileSrc, RampTestSrc}
 use Rattle.el_settings.specs.Asked.{is_source, reads}
 use Rattle.el_set.specs.Made.{list_of, read_content}
 use Rattle.el_set.proofs.Ends.{eos_first}
+use Rattle.flow_model.specs.Inherited.{tag_event as title_tag}
 
 -- a source's list goes by what it reads of its file
 pub list_read : (s : Settings) (id : ℕ) (content : List ℕ) → list_of s id (read_content s content) ≡ list_of s id content

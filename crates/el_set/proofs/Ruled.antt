@@ -1,9 +1,9 @@
 -- The rule of an element, by whether links make sink pads of it.
-use Rattle.std.proofs.Common.{◌≡◌, ℕ, zero, suc, Bool, true, false, List, [], ◌∷◌, length, map, replicate, refl, ap, ◌∙◌}
+use Rattle.std.proofs.Common.{◌≡◌, ℕ, Bool, true, false, List, [], ◌∷◌, length, map, replicate, refl, ap, ◌∙◌}
 use Rattle.flow_model.specs.Call.{Call}
 use Rattle.flow_model.specs.Link.{Span}
 use Rattle.flow_model.specs.Rule.{Response, Rule, single}
-use Rattle.flow_model.specs.Section.{IsPlain, section}
+use Rattle.flow_model.specs.Section.{IsPlain}
 use Rattle.el_join.specs.Concats.{concat_rule}
 use Rattle.el_join.proofs.Plain.{concat_opens, concat_plain}
 use Rattle.el_mix.specs.Mixes.{mixes}
@@ -12,6 +12,7 @@ use Rattle.el_settings.specs.Asked.{makes_sinks}
 use Rattle.el_settings.specs.declared.settings.Settings.{Settings}
 use Rattle.el_settings.specs.declared.settings.Settings.TheVariants.{Concat, Interleave}
 use Rattle.el_set.specs.Denoted.{response_of, rule_of}
+use Rattle.flow_model.proofs.Items.{none_behind as section_none}
 
 pub single_rule : (s : Settings) → makes_sinks s ≡ false → rule_of s ≡ single (response_of s)
 single_rule (Interleave pads) one = absurd (cc)
@@ -21,10 +22,6 @@ single_rule _ one = refl
 nothing_at : (sss : List (List Span)) → map {B = List Call} (λ spans. []) sss ≡ replicate (length sss) []
 nothing_at [] = refl
 nothing_at (ss ∷ sss) = ap (λ (css : List (List Call)). [] ∷ css) (nothing_at sss)
-
-section_none : (j : ℕ) → section j [] ≡ []
-section_none zero = refl
-section_none (suc j) = refl
 
 single_opens : (respond : Response) (sss : List (List Span)) (port j : ℕ) → single respond (map (λ spans. []) sss) port j ≡ []
 single_opens respond [] port j = section_none j

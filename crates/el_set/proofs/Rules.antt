@@ -8,9 +8,10 @@ use Rattle.flow_model.specs.Item.{Item, Buffer, Buf, Ev, StreamStart, NewCaps, N
 use Rattle.flow_model.specs.Call.{Call, items}
 use Rattle.flow_model.specs.Rule.{Fault, Fed, unfed, all_called}
 use Rattle.flow_model.specs.Feeding.{next_owed}
-use Rattle.audio_info.specs.Same.{same_caps}
+use Rattle.gst_caps.specs.Same.{same_caps}
 use Rattle.el_convert.specs.Choice.{choice}
 use Rattle.el_convert.specs.Converts as conv
+use Rattle.flow_model.specs.Looking.{bytes_since_flush}
 use Rattle.el_law.specs.Laws as laws
 use Rattle.el_law.specs.declared.kind.LawKind.{LawKind}
 use Rattle.el_parse.specs.Frames.{frame_time, frame_width, frame_at, frames_buffer, opening}
@@ -28,7 +29,7 @@ use Rattle.el_wavenc.specs.WavFile.{Stream as FileStream, head_length, head_item
 use Rattle.el_set.proofs.Ending.{AreInner, EndsAs, OwesEos, IsEnding, eos_of, inner_append}
 
 -- an item for itself
-passing : (x : Item) → is_flush_stop x ≡ false → EndsAs x (x ∷ [])
+pub passing : (x : Item) → is_flush_stop x ≡ false → EndsAs x (x ∷ [])
 passing x f = go (is_eos x) refl
   where
     go : (e : Bool) → is_eos x ≡ e → EndsAs x (x ∷ [])
@@ -91,7 +92,7 @@ law_owes kind frame got (Ev (FlushStop number)) f = passing (Ev (FlushStop numbe
 law_owes kind frame got (Ev Eos) f = passing (Ev Eos) f
 
 pub recodes_ending : (kind : LawKind) → IsEnding (laws.recodes kind)
-recodes_ending kind s x f = law_owes kind (laws.frame_in_force kind (items s.given)) (laws.bytes_got (items s.given)) x f
+recodes_ending kind s x f = law_owes kind (laws.frame_in_force kind (items s.given)) (bytes_since_flush (items s.given)) x f
 
 -- a body converted
 before_inner : (last : Option (Description One)) (to : Description One) → AreInner (conv.caps_before last to)

@@ -1,8 +1,5 @@
 -- The rules of the elements, by what they are set to.
-use Rattle.std.specs.Prelude.{ℕ, List, Result}
-use Rattle.flow_model.specs.Item.{Item}
-use Rattle.flow_model.specs.Call.{Call}
-use Rattle.flow_model.specs.Rule.{Response, Rule, Fault, only, passes, single}
+use Rattle.flow_model.specs.Rule.{Response, Rule, only, passes, single, Answers}
 use Rattle.flow_model.specs.Feeding.{next_owed}
 use Rattle.el_basic.specs.Filters.{filters}
 use Rattle.el_convert.specs.Converts.{converts}
@@ -42,11 +39,6 @@ abbrev pub rule_of : Settings → Rule
 rule_of (Interleave pads) = mixes
 rule_of (Concat pads) = concat_rule
 rule_of settings = single (response_of settings)
-
--- What an element answers to one item more on a sink pad, by what its sink pads were given: what it owes for it, or the fault
--- of its rule.
-abbrev pub Answers : Type 0
-Answers = List (List Call) → ℕ → Item → Result (List Item) Fault
 
 abbrev pub answers_by : Response → Answers
 answers_by respond given pad x = next_owed respond (only given) x

@@ -10,7 +10,7 @@ use Rattle.el_src.specs.Gave.{Gave, GaveAll, items_given, source_of}
 use Rattle.el_src.specs.RampGave.{RampGave, RampGaveAll, ramp_items}
 use Rattle.el_set.specs.declared.source.SourceElement.{SourceElement}
 use Rattle.el_set.specs.declared.source.SourceElement.TheVariants.{File, Ramp}
-use Rattle.el_set.specs.Failures.{NamesRise}
+use Rattle.gst_outside.specs.Causes.{NamesRise}
 
 abbrev pub SourceGave : {S : Type 0} → (S → Option (List ℕ)) → SourceElement S → (List ℕ → List Item) → List Item → Type 0
 SourceGave content_of (File file) owed given = Gave content_of file owed given

@@ -6,7 +6,7 @@ use Rattle.el_sink.specs.Held.{Held, HeldPart, sink_of, length_of}
 use Rattle.el_sink.specs.Passed.{Passed}
 use Rattle.el_set.specs.declared.sink.SinkElement.{SinkElement}
 use Rattle.el_set.specs.declared.sink.SinkElement.TheVariants.{File, Fake}
-use Rattle.el_set.specs.Failures.{NamesRise}
+use Rattle.gst_outside.specs.Causes.{NamesRise}
 
 -- It was given the list, whose writes all went well; keep says whether a flush keeps the bytes of a file. A fake sink
 -- knows only whether EOS ended the list.

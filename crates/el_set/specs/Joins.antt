@@ -4,7 +4,7 @@ use Rattle.gst_item.specs.declared.out.Out.{Out}
 use Rattle.flow_model.specs.Item.{Item}
 use Rattle.flow_model.specs.Sticky.{has_flush_stop}
 use Rattle.flow_model.specs.Call.{Call, Feed}
-use Rattle.flow_model.specs.Rule.{Rule}
+use Rattle.flow_model.specs.Rule.{Rule, Answers}
 use Rattle.flow_model.specs.Feeding.{has_eos, on_pad}
 use Rattle.flow_model.specs.SinkPads.{calls_at, push_calls}
 use Rattle.el_join.specs.Concats.{concat_rule, concat_answers}
@@ -14,7 +14,6 @@ use Rattle.el_mix.specs.Mixes.{mixes}
 use Rattle.el_mix.specs.Relation.{Mixes, sink_pads as mix_pads, wanted as mix_wanted, lower_known}
 use Rattle.el_set.specs.declared.join.JoinElement.{JoinElement}
 use Rattle.el_set.specs.declared.join.JoinElement.TheVariants.{Concat, Mix}
-use Rattle.el_set.specs.Denoted.{Answers}
 
 abbrev pub join_rule : JoinElement → Rule
 join_rule (Concat concat) = concat_rule

@@ -1,7 +1,6 @@
 pub mod Denoted
 pub mod Stands
 pub mod Ends
-pub mod Failures
 pub mod Gives
 pub mod Holds
 pub mod Joins

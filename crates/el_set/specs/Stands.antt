@@ -1,13 +1,13 @@
 -- For which rule, and for which calls and put-out items, an element between one sink pad and one source pad stands.
-use Rattle.std.specs.Prelude.{◌≡◌, ◌≢◌, Bool, false, List, [], ◌∷◌, ◌++◌, Ok, Err}
+use Rattle.std.specs.Prelude.{◌≡◌, ◌≢◌, Bool, false, List, [], ◌∷◌, ◌++◌, Err}
 use Rattle.gst_caps.specs.declared.caps.Caps.{Caps}
 use Rattle.gst_item.specs.declared.out.Out.{Out}
 use Rattle.flow_model.specs.Item.{Item}
 use Rattle.flow_model.specs.Prefix.{IsPrefix}
 use Rattle.flow_model.specs.Call.{Call}
 use Rattle.flow_model.specs.Rule.{Response, Fault, passes}
-use Rattle.flow_model.specs.Feeding.{on_pad}
 use Rattle.flow_model.specs.Owed.{owed_at}
+use Rattle.flow_model.specs.Puts.{PutsBy}
 use Rattle.el_basic.specs.Passed.{Passed, has_ended}
 use Rattle.el_basic.specs.Filters.{filters}
 use Rattle.el_basic.specs.Filtered.{IsFilteredBy}
@@ -53,9 +53,6 @@ has_passed_eos _ = false
 abbrev pub StandsAs : FilterElement → FilterElement → Type 0
 StandsAs old new = (respond : Response) (calls : List Call) (put : List Item) → Stands respond old calls put → Stands respond new calls put
 
--- An element put out these items for a call, on its source pad. They are what each rule owes by which it stands.
-pub record PutsOut (old new : FilterElement) (call : Call) (out out' : List Out) : Type 0 where
-  pub more : List Item
-  pub outs : out' ≡ out ++ on_pad 0 more
-  pub owed : (respond : Response) (calls : List Call) (put : List Item) → Stands respond old calls put → owed_at respond calls call ≡ Ok more
-  pub stands : (respond : Response) (calls : List Call) (put : List Item) → Stands respond old calls put → Stands respond new (calls ++ call ∷ []) (put ++ more)
+-- An element put out for a call what each rule owes by which it stands.
+abbrev pub PutsOut : FilterElement → FilterElement → Call → List Out → List Out → Type 0
+PutsOut old new call out out' = PutsBy (λ (respond : Response). respond) Stands old new call out out'

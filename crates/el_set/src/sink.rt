@@ -15,7 +15,7 @@ pub enum SinkElement<K> {
 
 impl<K: Sink> SinkElement<K> {
     ghost use Rattle.el_sink.specs.Ended.{flow_behind};
-    ghost use Rattle.el_set.specs.Failures.{NeverFalls};
+    ghost use Rattle.gst_outside.specs.Causes.{NeverFalls};
     ghost use Rattle.el_set.specs.Holds.{SinkHeld, SinkPart, SinkCause, sink_len, sink_file, sink_faults, sink_location};
 
     /// Takes an item. Behind EOS, up to the next FLUSH_STOP, the answer is `Flow::Eos` and nothing is written, and

@@ -18,7 +18,7 @@ pub enum SourceElement<S> {
 impl<S: Source> SourceElement<S> {
     ghost use Rattle.el_src.specs.Gave.{items_after, is_ended, ended_at};
     ghost use Rattle.el_src.specs.Short.{StopsShort};
-    ghost use Rattle.el_set.specs.Failures.{NeverFalls};
+    ghost use Rattle.gst_outside.specs.Causes.{NeverFalls};
     ghost use Rattle.el_set.specs.Gives.{SourceGave, SourceAfter, SourceCause, source_items, source_file, source_faults, source_location, source_content};
 
     /// The next item. Where it fails nothing was given, and a later call tries once more. Each read that failed is told in its

@@ -8,12 +8,10 @@ use Rattle.el_settings.specs.declared.pads.MadePads.{MadePads}
 use Rattle.el_settings.specs.declared.settings.FileSrcSettings.{FileSrcSettings}
 use Rattle.el_settings.specs.declared.settings.RampTestSrcSettings.{RampTestSrcSettings}
 use Rattle.el_settings.specs.declared.settings.AudioBufferSplitSettings.{AudioBufferSplitSettings}
+use Rattle.gst_value.proofs.Basics.{at_least}
 
 abbrev SameFile : FileSrcSettings → List ℕ → Type 0
 SameFile s location = (a : 1 ≤ s.blocksize) (b : s.blocksize ≤ 1048576) → record { location = location; blocksize = s.blocksize; some = a; small = b } ≡ s
-
-at_least : (least n : ℕ) → IsProp (least ≤ n)
-at_least least n = hlevel props
 
 below : (n limit : ℕ) → IsProp (n < limit)
 below n limit = hlevel props

@@ -26,13 +26,11 @@ use Rattle.el_settings.specs.declared.settings.Settings.TheVariants.{FileSrc as 
 use Rattle.caps_text.specs.Grammar.{IsCapsText}
 use Rattle.el_settings.specs.Alike.{AreAlike, AreLike, IsUnjudged}
 use Rattle.el_settings.proofs.Copied.{file_same, ramp_same, split_same, info_same, pads_same}
+use Rattle.gst_value.proofs.Basics.{one_some as some_one}
 
 -- each text stands for one caps
 abbrev pub OneReading : Type 0
 OneReading = (text : List ℕ) (a b : Caps) → IsCapsText text a → IsCapsText text b → a ≡ b
-
-some_one : {A : Type 0} (o : Option A) (a b : A) → o ≡ Some a → o ≡ Some b → a ≡ b
-some_one o a b e f = cc
 
 some_none : {A : Type 0} {P : Type 0} (o : Option A) (a : A) → o ≡ Some a → o ≡ None → P
 some_none o a e f = absurd (cc)

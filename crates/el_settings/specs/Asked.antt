@@ -4,10 +4,10 @@ use Rattle.std.proofs.Common.{lit≤}
 use Rattle.gst_caps.specs.declared.caps.Caps.{Caps}
 use Rattle.gst_caps.specs.declared.caps.Caps.TheVariants.{Any}
 use Rattle.audio_info.specs.declared.sample.Sample.TheVariants.{S16LE}
-use Rattle.audio_info.specs.Templates.{raw_template, sample_template}
+use Rattle.audio_info.specs.Templates.{raw_template, sample_template, wav_template}
 use Rattle.el_law.specs.Laws.{format_in, format_out}
 use Rattle.el_mix.specs.Mono.{mono_template}
-use Rattle.el_settings.specs.Templates.{read_audio, written_audio, wav_file}
+use Rattle.el_settings.specs.Templates.{read_audio, wav_file}
 use Rattle.el_settings.specs.declared.settings.QueueSettings.{QueueSettings}
 use Rattle.el_settings.specs.declared.pads.MadePads.{MadePads}
 use Rattle.el_settings.specs.declared.settings.Settings.{Settings}
@@ -141,7 +141,7 @@ template_of (Law kind) sink = if sink then sample_template (format_in kind) else
 template_of (RawAudioParse info) sink = if sink then Any else raw_template
 template_of (AudioBufferSplit s) sink = raw_template
 template_of WavParse sink = if sink then Any else read_audio
-template_of WavEnc sink = if sink then written_audio else wav_file
+template_of WavEnc sink = if sink then wav_template else wav_file
 template_of (Interleave pads) sink = if sink then mono_template else raw_template
 template_of settings sink = Any
 

@@ -1,14 +1,14 @@
 //! The templates of pads.
 ghost use Rattle.std.specs.Prelude.{◌≡◌, if◌then◌else◌, IfOk};
-ghost use Rattle.audio_info.specs.Templates.{raw_template as raw_template_of, sample_template as caps_of};
+ghost use Rattle.audio_info.specs.Templates.{raw_template as raw_template_of, sample_template as caps_of, wav_template as all_written};
 ghost use Rattle.el_law.specs.Laws.{format_in, format_out};
 ghost use Rattle.el_mix.specs.Mono.{mono_template as a_mono_template};
 ghost use Rattle.el_settings.specs.Asked.{HasPad, template_of};
-ghost use Rattle.el_settings.specs.Templates.{read_audio as all_read, written_audio as all_written, wav_file as a_wav_file};
+ghost use Rattle.el_settings.specs.Templates.{read_audio as all_read, wav_file as a_wav_file};
 
-use crate::pad_caps::{read_audio, wav_file, written_audio};
+use crate::pad_caps::{read_audio, wav_file};
 use crate::settings::Settings;
-use audio_info::{Sample, raw_template, sample_template};
+use audio_info::{Sample, raw_template, sample_template, wav_template};
 use el_law::LawKind;
 use el_mix::mono_template;
 use gst_caps::Caps;
@@ -101,7 +101,7 @@ fn of_wav_enc(alloc: Global, sink: bool) -> Result<Caps, OutOfMemory>
     ensures { IfOk result (λ made. made ≡ (if sink then all_written else a_wav_file)) }
 {
     if sink {
-        written_audio(alloc)
+        wav_template(alloc)
     } else {
         wav_file(alloc)
     }

@@ -1,18 +1,13 @@
 -- A body that is written in pieces, as it stands after each.
-use Rattle.std.proofs.Common.{◌≡◌, ℕ, ◌+◌, ◌-◌, ◌≤◌, List, ◌++◌, length, take, drop, refl, ap, sym, ◌∙◌, arith, Option, None, Some, option_map, length-take}
-use Rattle.std.proofs.lemmas.List.{take-take, drop-take, take-append-drop}
+use Rattle.std.proofs.Common.{◌≡◌, ℕ, ◌+◌, ◌-◌, ◌≤◌, List, length, take, drop, refl, ap, sym, ◌∙◌, arith, Option, None, Some, option_map, length-take}
+use Rattle.std.proofs.lemmas.List.{take-take}
 use Rattle.gst_outside.specs.Bytes.{written}
 use Rattle.gst_outside.proofs.Writing.{told_written-written}
+use Rattle.gst_value.proofs.Places.{take_apart}
 
 pub nothing_written : (bytes : Option (List ℕ)) (place : ℕ) (body : List ℕ) → bytes ≡ option_map (λ b. written b place (take 0 body)) bytes
 nothing_written None place body = refl
 nothing_written (Some b) place body = refl
-
-take_apart : (m n : ℕ) (xs : List ℕ) → take (m + n) xs ≡ take m xs ++ take n (drop m xs)
-take_apart m n xs =
-    sym (take-append-drop m (take (m + n) xs))
-    ∙ ap (λ front. front ++ drop m (take (m + n) xs)) (take-take m (m + n) xs (omega arith))
-    ∙ ap (λ back. take m xs ++ back) (drop-take m n xs)
 
 pub more_written : (first now after : Option (List ℕ)) (place done more : ℕ) (body : List ℕ) → done ≤ length body → more ≤ length body - done
     → now ≡ option_map (λ b. written b place (take done body)) first

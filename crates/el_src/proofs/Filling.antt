@@ -1,19 +1,14 @@
 -- What the loop that fills a slice from a source keeps.
 use Rattle.std.proofs.Common.{◌≡◌, ℕ, ◌+◌, ◌-◌, ◌≤◌, List, ◌++◌, length, take, drop, ap, sym, ◌∙◌, arith, Option, Some, length-append, length-take, length-drop}
 use Rattle.std.specs.Option.{ForSome}
-use Rattle.std.proofs.lemmas.List.{drop-drop, take-take, drop-take, take-append-drop, take-append-le, take_at, drop_at}
+use Rattle.std.proofs.lemmas.List.{drop-drop, take-append-le, take_at, drop_at}
+use Rattle.gst_value.proofs.Places.{take_apart}
 use borrow.Rule.Slice.PartMut.{put_mid, post_of}
 
 -- what stands in front of a slice, once a number of bytes were read from a place of a told content on
 pub record Filled (content : Option (List ℕ)) (place got : ℕ) (into : List ℕ) : Type 0 where
   pub inside : (c : List ℕ) → content ≡ Some c → got ≤ length c - place
   pub front : (c : List ℕ) → content ≡ Some c → take got into ≡ take got (drop place c)
-
-take_apart : (m n : ℕ) (xs : List ℕ) → take (m + n) xs ≡ take m xs ++ take n (drop m xs)
-take_apart m n xs =
-    sym (take-append-drop m (take (m + n) xs))
-    ∙ ap (λ front. front ++ drop m (take (m + n) xs)) (take-take m (m + n) xs (omega arith))
-    ∙ ap (λ back. take m xs ++ back) (drop-take m n xs)
 
 take_behind : (m n : ℕ) (front back : List ℕ) → length front ≡ m → take (m + n) (front ++ back) ≡ front ++ take n back
 take_behind m n front back size =

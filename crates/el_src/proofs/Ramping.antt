@@ -9,8 +9,10 @@ use Rattle.el_src.proofs.Counting.{pieces_more, pieces_none, pieces_whole, piece
 use Rattle.el_src.specs.declared.ramp_src.Ramp.{Ramp}
 use Rattle.el_src.specs.declared.ramp_src.Phase.{Phase}
 use Rattle.el_src.specs.declared.ramp_src.Phase.TheVariants.{Start as AtStart, Pieces as InPieces}
-use Rattle.el_src.specs.Ramp.{frame_count, piece, piece_count, piece_at, pieces_from, time_segment, title_tag, ramp_list}
+use Rattle.el_src.specs.Ramp.{frame_count, piece, piece_count, piece_at, pieces_from, ramp_list}
 use Rattle.el_src.specs.RampGave.{ramp_to_come}
+use Rattle.flow_model.specs.Inherited.{tag_event as title_tag}
+use Rattle.flow_model.specs.Source.{time_segment}
 
 pub pieces_one : (s : Ramp) (start k : ℕ) → 1 ≤ s.samples → start + k * s.samples < frame_count s → pieces_from s start k ≡ piece_at s start k ∷ pieces_from s start (k + 1)
 pieces_one s start k some before =

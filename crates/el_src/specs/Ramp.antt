@@ -1,13 +1,14 @@
 -- The list of a ramp source: what is owed to the pad of a ramptestsrc.
-use Rattle.std.specs.Prelude.{ℕ, ◌+◌, ◌-◌, ◌*◌, ◌/◌, ◌%◌, ◌^◌, ◌==◌, ◌&&◌, nat_lt, min, Bool, false, if◌then◌else◌, ℤ, List, [], ◌∷◌, ◌++◌, map, Option, Some, None}
+use Rattle.std.specs.Prelude.{ℕ, ◌+◌, ◌-◌, ◌*◌, ◌/◌, ◌%◌, ◌^◌, ◌==◌, ◌&&◌, nat_lt, min, Bool, false, if◌then◌else◌, ℤ, List, [], ◌∷◌, ◌++◌, map, Some}
 use Rattle.std.specs.List.{range_with_len, flat_map, repeat}
 use Rattle.byteorder.specs.Endian.{twos_complement}
 use Rattle.audio_info.specs.Media.{caps_of}
 use Rattle.audio_info.specs.Packing.{sample_bytes}
 use Rattle.audio_info.specs.declared.sample.Sample.TheVariants.{S16LE}
-use Rattle.flow_model.specs.Item.{Item, Buf, Ev, StreamStart, NewCaps, NewSegment, Tag, Gap, Eos, Segment, Time}
-use Rattle.flow_model.specs.Source.{ordered_without_stop}
+use Rattle.flow_model.specs.Item.{Item, Buf, Ev, StreamStart, NewCaps, NewSegment, Gap, Eos}
+use Rattle.flow_model.specs.Source.{time_segment}
 use Rattle.el_src.specs.declared.ramp_src.Ramp.{Ramp}
+use Rattle.flow_model.specs.Inherited.{tag_event as title_tag}
 
 -- the time of a frame, in nanoseconds
 abbrev pub frame_time : ℕ → ℕ → ℕ
@@ -49,15 +50,6 @@ is_gap s k = nat_lt 0 s.gap_every && ((k + 1) % s.gap_every == 0)
 -- so many frames from one on as piece k
 abbrev pub piece : Ramp → ℕ → ℕ → ℕ → Item
 piece s k first count = if is_gap s k then frames_gap s first count else frames_buffer s first count
-
--- the segment in time from a time on
-abbrev pub time_segment : ℕ → Segment
-time_segment start = record { format = Time; start = start; stop = None; time = start; base = 0; position = start; ordered = ordered_without_stop start }
-
--- the TAG of a title
-abbrev pub title_tag : Option (List ℕ) → List Item
-title_tag None = []
-title_tag (Some title) = Ev (Tag title) ∷ []
 
 -- the whole list before any seek: as many pieces as there are buffers, each of as many frames
 abbrev pub ramp_list : Ramp → ℕ → List Item

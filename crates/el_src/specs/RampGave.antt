@@ -9,7 +9,9 @@ use Rattle.el_src.specs.declared.ramp_src.Ramp.{Ramp}
 use Rattle.el_src.specs.declared.ramp_src.RampSrc.{RampSrc}
 use Rattle.el_src.specs.declared.ramp_src.Phase.{Phase}
 use Rattle.el_src.specs.declared.ramp_src.Phase.TheVariants.{Start as AtStart, Caps as AtCaps, Segment as AtSegment, Tag as AtTag, Pieces as InPieces, Eos as AtEos, Ended as Over}
-use Rattle.el_src.specs.Ramp.{frame_time, time_segment, title_tag, pieces_from}
+use Rattle.el_src.specs.Ramp.{frame_time, pieces_from}
+use Rattle.flow_model.specs.Inherited.{tag_event as title_tag}
+use Rattle.flow_model.specs.Source.{time_segment}
 
 -- how many items were given since the start or the last seek
 abbrev pub ramp_items : RampSrc → ℕ

@@ -1,6 +1,6 @@
 //! The source that makes audio whose samples count its frames.
 ghost use Rattle.std.specs.Prelude.{◌≡◌, ◌≤◌, ◌<◌, ◌^◌, ◌+◌, ◌*◌, ◌/◌, ◌++◌, List, [], ◌∷◌, None, Ok, false, IfOk, OnErr, IfErr};
-ghost use Rattle.el_src.specs.Ramp.{time_segment};
+ghost use Rattle.flow_model.specs.Source.{time_segment};
 
 use crate::answer::Next;
 use crate::fault::SrcFault;

@@ -1,27 +1,14 @@
 -- A head that bytes go on to ends behind them, where they end before they say all of one.
-use Rattle.std.proofs.Common.{◌≡◌, ◌≤◌, ◌<◌, ◌+◌, ◌-◌, ◌%◌, ℕ, zero, suc, inl, inr, false, Bool, Option, Some, List, ◌++◌, length, take, drop, codes, cond, bytes_eq, refl, sym, ap, subst, ◌∙◌, arith}
-use Rattle.std.proofs.lemmas.List.{get_or_append_left, take-append-le, drop-append-le, drop-drop, drop_at, length-drop}
+use Rattle.std.proofs.Common.{◌≡◌, ◌≤◌, ◌<◌, ◌+◌, ◌-◌, ℕ, zero, suc, inl, inr, false, Bool, Option, Some, List, ◌++◌, length, drop, codes, cond, refl, sym, ap, subst, ◌∙◌, arith}
+use Rattle.std.proofs.lemmas.List.{drop-append-le, drop-drop, drop_at, length-drop}
 use Rattle.wav_format.specs.declared.format.SampleFormat.{SampleFormat}
 use Rattle.wav_format.specs.declared.head.Head.{Head}
-use Rattle.wav_format.specs.Chunks.{BeginsWithHead, EndsHead, IsPassed, Leads, Spot, begins, spot_behind, body_at, body_size, chunk_length, first_chunk, longest_head}
+use Rattle.wav_format.specs.Chunks.{BeginsWithHead, EndsHead, IsPassed, Leads, Spot, begins, spot_behind, body_at, chunk_length, first_chunk, longest_head}
 use Rattle.wav_format.specs.Cuts.{ChunkCut, CutIn}
 use Rattle.wav_format.specs.Format.{format_of}
+use Rattle.wav_format.proofs.Longer.{begins_more, body_same as body_more, length_more}
 
 -- ---- a chunk with more bytes behind it
-
-pub begins_more : (word left more : List ℕ) → length word ≤ length left → begins word (left ++ more) ≡ begins word left
-begins_more word left more long = ap (λ xs. bytes_eq xs word) (take-append-le (length word) left more long)
-
-pub size_more : (left more : List ℕ) → 8 ≤ length left → body_size (left ++ more) ≡ body_size left
-size_more left more long =
-    let a = get_or_append_left left more 0 4 (omega arith) in
-    let b = get_or_append_left left more 0 5 (omega arith) in
-    let c = get_or_append_left left more 0 6 (omega arith) in
-    let d = get_or_append_left left more 0 7 (omega arith) in
-    omega (arith, a, b, c, d)
-
-pub length_more : (left more : List ℕ) → 8 ≤ length left → chunk_length (left ++ more) ≡ chunk_length left
-length_more left more long = ap (λ n. 8 + n + n % 2) (size_more left more long)
 
 -- ---- a spot with more bytes
 
@@ -40,13 +27,6 @@ other_goes_on s t more h rest g headed other ends =
     let now : begins (codes "data") t.left ≡ false = ap (begins (codes "data")) g.left ∙ begins_more (codes "data") s.left more (omega arith) ∙ other in
     let named = ends.named in
     cc
-
-body_more : (left more : List ℕ) → 8 ≤ length left → chunk_length left ≤ length left → body_at (left ++ more) ≡ body_at left
-body_more left more long whole =
-    let size = body_size left in
-    ap (λ n. take n (drop 8 (left ++ more))) (size_more left more long)
-    ∙ ap (take size) (drop-append-le 8 left more long)
-    ∙ take-append-le size (drop 8 left) more (omega (arith, whole, length-drop 8 left))
 
 same_format : (b b' : Bool) (body body' : List ℕ) (known known' : Option SampleFormat) → b ≡ b' → body ≡ body' → known ≡ known' → cond b (Some (format_of body)) known ≡ cond b' (Some (format_of body')) known'
 same_format b b' body body' known known' e f g = cc

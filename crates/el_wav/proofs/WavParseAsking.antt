@@ -12,8 +12,9 @@ use Rattle.el_wav.specs.WavParseGiven.{IsDone, MayFollow}
 use Rattle.el_wav.proofs.WavParseAhead.{head_ahead}
 use Rattle.el_wav.proofs.WavParseDeciding.{decides_in_head_of}
 use Rattle.el_wav.proofs.WavParseFaulty.{fault_begins_none}
-use Rattle.el_wav.proofs.WavParseGathering.{bytes_joined, bytes_taken}
+use Rattle.el_wav.proofs.WavParseGathering.{bytes_taken}
 use Rattle.el_wav.proofs.WavParseReading.{cut_in}
+use Rattle.wav_format.proofs.Bodies.{bytes-append as bytes_joined}
 
 -- a part that was asked for lies within the head
 pub part_in_head : (bytes part : List ℕ) (answer : HeadAnswer) (h : Head) → AreBytes (bytes ++ part) → AnswerIn bytes answer → MayFollow answer (length bytes) (length part) → BeginsWithHead (bytes ++ part) h → length (bytes ++ part) ≤ h.start

@@ -1,34 +1,18 @@
 -- Bytes at fault begin no head, whatever follows them.
-use Rattle.std.proofs.Common.{◌≡◌, ◌≤◌, ◌+◌, ℕ, zero, suc, inl, inr, true, List, ◌++◌, length, take, drop, get_or, codes, refl, sym, ap, subst, ◌∙◌, arith}
-use Rattle.std.proofs.lemmas.List.{get_or_append_left, get_or-drop, get_or-take, take-append-le, take-take, take_all, drop-append-le, length-drop, length-take, length-take-le}
-use Rattle.std.proofs.lemmas.Slice.Eq.{bytes_eq-Decides}
+use Rattle.std.proofs.Common.{◌≡◌, ◌≤◌, ◌+◌, ℕ, zero, suc, inl, inr, true, List, ◌++◌, length, take, drop, codes, refl, sym, ap, subst, ◌∙◌, arith}
+use Rattle.std.proofs.lemmas.List.{get_or-drop, drop-append-le, length-drop, length-take-le}
 use Rattle.wav_format.specs.declared.head.Head.{Head}
 use Rattle.wav_format.specs.declared.head.WavKind.{WavKind}
 use Rattle.wav_format.specs.declared.head.WavKind.TheVariants.{NotRiff, NotWave, NoFmt, BadFmt, TagUnknown, HeadTooLong}
 use Rattle.wav_format.specs.Chunks.{BeginsWithHead, EndsHead, IsPassed, Leads, Reaches, Spot, begins, spot_behind, body_at, body_size, chunk_length, first_chunk, longest_head}
-use Rattle.wav_format.specs.Faults.{ChunkFault, Differs, FaultIn}
+use Rattle.wav_format.specs.Faults.{ChunkFault, FaultIn}
 use Rattle.wav_format.specs.Format.{AreBytes, Completes}
-use Rattle.el_wav.proofs.WavParseAhead.{GoesOn, behind_goes_on, begins_more, length_goes_on, other_goes_on, size_more}
+use Rattle.el_wav.proofs.WavParseAhead.{GoesOn, behind_goes_on, length_goes_on, other_goes_on}
 use Rattle.el_wav.proofs.WavParseGathering.{bytes_taken}
+use Rattle.wav_format.proofs.Longer.{begins_long, begins_more, body_more as body_front, differs_stays as differs_still, size_more}
+use Rattle.wav_format.proofs.Unique.{not_both}
 
 -- ---- words
-
-begins_long : (word bytes : List ℕ) → begins word bytes ≡ true → length word ≤ length bytes
-begins_long word bytes e =
-    let same = ap length ((bytes_eq-Decides (take (length word) bytes) word).0 e) in
-    omega (arith, same, length-take (length word) bytes)
-
-not_both : (bytes : List ℕ) → begins (codes "data") bytes ≡ true → begins (codes "fmt ") bytes ≡ true → ⊥
-not_both bytes p q =
-    let d = (bytes_eq-Decides (take 4 bytes) (codes "data")).0 p in
-    let f = (bytes_eq-Decides (take 4 bytes) (codes "fmt ")).0 q in
-    let e : get_or (codes "data") 0 0 ≡ get_or (codes "fmt ") 0 0 = ap (λ xs. get_or xs 0 0) (sym d ∙ f) in
-    omega (arith, e)
-
-differs_still : (word bytes more : List ℕ) (i : ℕ) → Differs word bytes i → begins word (bytes ++ more) ≡ true → ⊥
-differs_still word bytes more i d e =
-    let same = (bytes_eq-Decides (take (length word) (bytes ++ more)) word).0 e in
-    d.here (sym (get_or_append_left bytes more 0 i d.within) ∙ sym (get_or-take (length word) (bytes ++ more) i 0 d.within_word) ∙ ap (λ xs. get_or xs i 0) same)
 
 word_goes_on : (word : List ℕ) (s t : Spot) (more : List ℕ) → GoesOn s t more → begins word s.left ≡ true → begins word t.left ≡ true
 word_goes_on word s t more g e = ap (begins word) g.left ∙ begins_more word s.left more (begins_long word s.left e) ∙ e
@@ -37,18 +21,6 @@ word_goes_on word s t more g e = ap (begins word) g.left ∙ begins_more word s.
 
 bytes_dropped : (n : ℕ) (xs : List ℕ) → AreBytes xs → AreBytes (drop n xs)
 bytes_dropped n xs fine i = rw get_or-drop (fine (n + i))
-
-body_front : (left more : List ℕ) → 8 ≤ length left → take (length (body_at left)) (body_at (left ++ more)) ≡ body_at left
-body_front left more long =
-    let size = body_size left in
-    let rest = drop 8 left in
-    let short : length (body_at left) ≤ size = omega (arith, length-take size rest) in
-    let within : length (body_at left) ≤ length rest = omega (arith, length-take size rest) in
-    ap (λ xs. take (length (body_at left)) xs) (ap (λ n. take n (drop 8 (left ++ more))) (size_more left more long) ∙ ap (take size) (drop-append-le 8 left more long))
-    ∙ take-take (length (body_at left)) size (rest ++ more) short
-    ∙ take-append-le (length (body_at left)) rest more within
-    ∙ sym (take-take (length (body_at left)) size rest short)
-    ∙ take_all (length (body_at left)) (body_at left) (omega arith)
 
 completed : (s t : Spot) (more : List ℕ) → AreBytes t.left → 8 ≤ length s.left → GoesOn s t more → IsPassed longest_head t → Completes (body_at s.left) (body_size s.left) (body_at t.left)
 completed s t more fine long g p =

@@ -1,15 +1,8 @@
 -- Bytes of a head that are gathered.
-use Rattle.std.proofs.Common.{◌-◌, ℕ, inl, inr, List, ◌++◌, length, take, refl, arith}
+use Rattle.std.proofs.Common.{◌-◌, ℕ, inl, inr, List, take, arith}
 use Rattle.std.proofs.lemmas.Bool.{cases_lt}
-use Rattle.std.proofs.lemmas.List.{get_or-take, get_or_append_left, get_or-append_right, get_or_past, length-take}
+use Rattle.std.proofs.lemmas.List.{get_or-take, get_or_past, length-take}
 use Rattle.wav_format.specs.Format.{AreBytes}
-
-pub bytes_joined : (xs ys : List ℕ) → AreBytes xs → AreBytes ys → AreBytes (xs ++ ys)
-bytes_joined xs ys hx hy i =
-    elim (cases_lt i (length xs)) [
-      | inl lt ↦ rw (get_or_append_left xs ys 0 i lt) (hx i)
-      | inr le ↦ rw (get_or-append_right xs ys (length xs) i 0 refl le) (hy (i - length xs))
-    ]
 
 pub bytes_taken : (count : ℕ) (bytes : List ℕ) → AreBytes bytes → AreBytes (take count bytes)
 bytes_taken count bytes fine i =

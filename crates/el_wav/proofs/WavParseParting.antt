@@ -27,9 +27,10 @@ use Rattle.el_wav.specs.WavParseRule.{last_of, last_owed, Reopens, within, left_
 use Rattle.el_wav.specs.WavParseData.{IsKnown}
 use Rattle.el_wav.specs.WavParseGathered.{HasGathered}
 use Rattle.el_wav.proofs.WavParseFits.{head_within}
-use Rattle.el_wav.proofs.WavParseGathering.{bytes_joined}
 use Rattle.el_wav.specs.WavParsed.{KnowsHead, StandsAs, IsIn}
 use Rattle.el_wav.specs.WavParseSteps.{ReadOn, IsBehind, FedOn, WentOn, IsPlaceIn, Took, data_item, head_owed}
+use Rattle.gst_value.proofs.Basics.{plus_none as no_bytes}
+use Rattle.wav_format.proofs.Bodies.{bytes-append as bytes_joined}
 
 -- ---- where a reader stands
 
@@ -339,9 +340,6 @@ last_fault owed (Refused offered wanted) e = ap last_owed e
 last_fault owed (Broken place kind) e = ap last_owed e
 last_fault owed (TooFar a b) e = ap last_owed e
 last_fault owed Wanting e = tt
-
-no_bytes : (n : ℕ) → n + 0 ≡ n
-no_bytes n = omega arith
 
 pub took_inside : (read : List ℕ → Told) (p : Part) (s : Segment) (calls : List Call) (place at : ℕ) (left : Option ℕ) (new : WavParse) (before after : List Out)
     → ReadsHeads read → place ≡ place_at s.start s.format → (i : Inside (known_in read p) place at left)

@@ -49,8 +49,8 @@ puts_for_all old new call out out' (more, outs) all =
     record {
       more = more;
       outs = outs;
-      owed = λ calls put p. let did = all calls put p in did.1 ∙ ap (λ zs. Ok zs) (same_items out out' more did.0 outs did.2);
-      stands = λ calls put p.
+      owed = λ one calls put p. let did = all calls put p in did.1 ∙ ap (λ zs. Ok zs) (same_items out out' more did.0 outs did.2);
+      stands = λ one calls put p.
           let did = all calls put p in
           subst (λ zs. Parsed new (calls ++ call ∷ []) (put ++ zs)) (same_items out out' more did.0 outs did.2) did.3;
     }
@@ -62,8 +62,8 @@ puts_over parser out ended =
     record {
       more = [];
       outs = sym (append-nil out);
-      owed = λ calls put p. rw (p.over, ended) refl;
-      stands = λ calls put p. rw (append-nil put) (parsed_over parser ended wav_told calls put p);
+      owed = λ one calls put p. rw (p.over, ended) refl;
+      stands = λ one calls put p. rw (append-nil put) (parsed_over parser ended wav_told calls put p);
     }
 
 pub puts_drained : (parser : WavParse) (out out' : List Out) → parser.ended ≡ false → out' ≡ out
@@ -74,6 +74,6 @@ puts_drained parser out out' begun same ends =
     record {
       more = [];
       outs = same ∙ sym (append-nil out);
-      owed = λ calls put p. rw (p.over, begun) (ap without_eos (ends calls p.is_in));
-      stands = λ calls put p. rw (append-nil put) (parsed_drain parser begun wav_told calls put (ends calls) p);
+      owed = λ one calls put p. rw (p.over, begun) (ap without_eos (ends calls p.is_in));
+      stands = λ one calls put p. rw (append-nil put) (parsed_drain parser begun wav_told calls put (ends calls) p);
     }

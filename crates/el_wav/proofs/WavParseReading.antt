@@ -23,11 +23,9 @@ use Rattle.el_wav.specs.WavParseSteps.{BeganData, IsBeginFault, data_item, head_
 use Rattle.el_wav.specs.declared.wav_gathered.Gathered.{Gathered}
 use Rattle.el_wav.specs.WavParseGathered.{HasGathered}
 use Rattle.el_wav.proofs.WavParseAhead.{head_ahead, drop_behind}
-use Rattle.el_wav.proofs.WavParseGathering.{bytes_joined}
 use Rattle.el_wav.proofs.WavParseFits.{head_fits}
-
-no_more : (n : ℕ) → 0 + n ≡ n
-no_more n = omega arith
+use Rattle.gst_value.proofs.Basics.{no_more}
+use Rattle.wav_format.proofs.Bodies.{bytes-append as bytes_joined}
 
 same_item : (head : Head) (bytes first cut : List ℕ) (item : Item) → first ≡ drop head.start bytes → cut ≡ within head.size 0 first → item ≡ body_item cut → item ≡ data_item head bytes
 same_item head bytes first cut item f c i = i ∙ ap body_item (c ∙ ap (within head.size 0) f)

@@ -1,6 +1,5 @@
 -- What is told of bytes is what the RIFF WAVE format says of them.
-use Rattle.std.proofs.Common.{◌≡◌, ◌≤◌, ◌<◌, ℕ, zero, suc, inl, inr, Bool, true, false, ltb, leb, cond, List, [], ◌∷◌, length, Option, Some, None, refl, sym, ap, subst, ◌∙◌, arith}
-use Rattle.std.proofs.Props.{props}
+use Rattle.std.proofs.Common.{◌≡◌, ◌≤◌, ℕ, suc, inl, inr, Bool, true, false, ltb, leb, cond, List, [], ◌∷◌, length, Option, Some, None, refl, sym, ap, subst, ◌∙◌, arith}
 use Rattle.std.proofs.lemmas.Bool.{and_from, and_parts, le-leb, lt-ltb, ltb-true}
 use Rattle.audio_info.specs.declared.info.Info.{Info}
 use Rattle.audio_info.specs.declared.sample.Sample.{Sample}
@@ -14,15 +13,13 @@ use Rattle.wav_format.specs.Format.{AreBytes}
 use Rattle.wav_format.specs.Told.{answer_told}
 use Rattle.el_wav.specs.WavParseHeads.{Whole, More, IsFormatOf, ReadsHeads, coding}
 use Rattle.el_wav.specs.WavParseTold.{are_bytes, as_told, head_told, info_of, info_with, is_in_limits, wav_told}
+use Rattle.gst_value.proofs.Basics.{at_least as le_prop}
+use Rattle.wav_format.proofs.Bodies.{bytes-cons as bytes_joined}
 
 -- ---- bytes
 
 bytes_front : (byte : ℕ) (bytes : List ℕ) → AreBytes (byte ∷ bytes) → AreBytes bytes
 bytes_front byte bytes fine i = fine (suc i)
-
-bytes_joined : (byte : ℕ) (bytes : List ℕ) → byte < 256 → AreBytes bytes → AreBytes (byte ∷ bytes)
-bytes_joined byte bytes small fine zero = small
-bytes_joined byte bytes small fine (suc i) = fine i
 
 tests_bytes : (bytes : List ℕ) → AreBytes bytes → are_bytes bytes ≡ true
 tests_bytes [] fine = refl
@@ -35,9 +32,6 @@ tested_bytes (byte ∷ bytes) e =
     bytes_joined byte bytes (ltb-true byte 256 parts.0) (tested_bytes bytes parts.1)
 
 -- ---- the format of the data
-
-le_prop : (a b : ℕ) → IsProp (a ≤ b)
-le_prop a b = hlevel props
 
 -- information of the same values, whatever shows its facts
 info_same : (info : Info) (a : 1 ≤ info.rate) (b : info.rate ≤ 768000) (c : 1 ≤ info.channels) (d : info.channels ≤ 64)

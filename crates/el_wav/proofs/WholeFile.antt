@@ -1,7 +1,6 @@
 -- What is put out for a whole WAV file.
-use Rattle.std.proofs.Common.{◌≡◌, ◌≤◌, ◌-◌, ℕ, zero, suc, Bool, true, false, if◌then◌else◌, inl, inr, List, [], ◌∷◌, ◌++◌, length, take, drop, map, Option, Some, None, refl, sym, ap, subst, ◌∙◌, append_assoc, append-nil, arith, Result, Ok, Err}
-use Rattle.std.proofs.lemmas.Bool.{cases_lt}
-use Rattle.std.proofs.lemmas.List.{length-drop, drop-append-le, get_or_append_left, get_or_past}
+use Rattle.std.proofs.Common.{◌≡◌, ◌≤◌, ◌-◌, ℕ, zero, suc, Bool, true, false, if◌then◌else◌, List, [], ◌∷◌, ◌++◌, length, take, drop, map, Option, Some, None, refl, sym, ap, subst, ◌∙◌, append_assoc, append-nil, arith, Result, Ok, Err}
+use Rattle.std.proofs.lemmas.List.{length-drop, drop-append-le}
 use Rattle.audio_info.specs.declared.info.Info.{Info}
 use Rattle.wav_format.specs.declared.head.Head.{Head}
 use Rattle.wav_format.specs.Chunks.{BeginsWithHead}
@@ -22,6 +21,7 @@ use Rattle.el_wav.proofs.WavParseFits.{head_within}
 use Rattle.el_wav.proofs.WavParseParting.{Longer, nothing_more}
 use Rattle.el_wav.proofs.WavParsing.{part_from, calls_from}
 use Rattle.el_wav.proofs.WholeFrames.{Framed, bytes_append, framed_bytes, framed_more, framed_none}
+use Rattle.wav_format.proofs.Least.{front_fine}
 
 -- ---- what stands behind the bytes so far
 
@@ -48,13 +48,6 @@ pub record StandsBehind (fed : Fed) (bytes : List ℕ) : Type 0 where
   pub put : PutBy (wav_told bytes) bytes calls fed.out
 
 -- ---- one more body
-
-pub front_fine : (xs ys : List ℕ) → AreBytes (xs ++ ys) → AreBytes xs
-front_fine xs ys fine i =
-    elim (cases_lt i (length xs)) [
-      | inl lt ↦ rw (← get_or_append_left xs ys 0 i lt) (fine i)
-      | inr le ↦ rw (get_or_past xs i 0 le) (omega arith)
-    ]
 
 take_both : (n : ℕ) (xs ys : List ℕ) → take n (xs ++ ys) ≡ take n xs ++ take (n - length xs) ys
 take_both zero xs ys = let none : 0 - length xs ≡ 0 = omega arith in ap (λ n. take n ys) (sym none)

@@ -17,6 +17,7 @@ use Rattle.el_parse.specs.Parses.{Progress, progress, beginning, parse_answer, p
 use Rattle.el_parse.proofs.Seen.{Seen, seen, seen_one, seen_all, seen_push, seen_append}
 use Rattle.el_parse.proofs.Steps.{Split, Went, went, some_width, nothing_seen, begins_anew}
 use Rattle.el_wav.specs.WholeFile.{whole_frames}
+use Rattle.gst_value.proofs.Places.{append_left_nil as left_none}
 
 -- The parser was given these bytes, and put out whole frames of them. What it holds is less than a frame.
 pub record Framed (info : Info) (fed : Fed) (bytes : List ℕ) : Type 0 where
@@ -92,10 +93,6 @@ put_more info p s bytes b ys e none owed = go (count == 0) owed
     go false owed =
         let same = chosen (nat_lt (frame_time info (p.next + count)) LIMIT) (beginning info p ++ Buf made ∷ []) ys (TooLong p.reached (LIMIT - p.reached)) owed in
         subst (λ zs. bytes ++ bytes_of zs ≡ (seen_all s zs).bytes) same (put_one info s bytes p.opened made e none)
-
-left_none : (xs ys : List ℕ) → xs ++ ys ≡ [] → xs ≡ []
-left_none [] ys e = refl
-left_none (x ∷ xs) ys e = absurd (cc)
 
 ok_of : (r : Result (List Item) Fault) (ys : List Item) → r ≡ Ok ys → IsOk r × (answered r ≡ ys)
 ok_of (Ok xs) ys e = (cc, cc)

@@ -32,7 +32,8 @@ use Rattle.el_wav.proofs.WavParseFaulty.{fault_begins_none}
 use Rattle.el_wav.proofs.WavParseFits.{head_within}
 use Rattle.el_wav.proofs.WavParseParting.{Longer}
 use Rattle.el_wav.proofs.WholeFrames.{Framed, framed_none}
-use Rattle.el_wav.proofs.WholeFile.{part_of, PutOut, PutBy, StandsBehind, passed_by, front_fine, step, data_more, begins_reading}
+use Rattle.el_wav.proofs.WholeFile.{part_of, PutOut, PutBy, StandsBehind, passed_by, step, data_more, begins_reading}
+use Rattle.wav_format.proofs.Least.{front_fine}
 
 -- ---- frames of raw audio
 

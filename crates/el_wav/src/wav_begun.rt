@@ -10,7 +10,7 @@ ghost use Rattle.el_wav.specs.WavParseAppends.{Appends};
 use crate::wav_data::{KnownHead, body_item, cut_data, left_of};
 use crate::wav_gathered::Gathered;
 use flow_model::{ElementFault, StreamKind};
-use gst_item::{Body, Buffer, Item, Out, Outs};
+use gst_item::{Body, Outs};
 use gst_value::OutOfMemory;
 use std::alloc::Global;
 use wav_format::{Head, HeadAnswer, WavKind};

@@ -1,9 +1,9 @@
 -- An element that writes WAV files with one more call.
-use Rattle.std.proofs.Common.{◌≡◌, ℕ, true, false, List, [], ◌∷◌, ◌++◌, refl, sym, ap, ◌∙◌, append-nil, Result, Ok, Err}
+use Rattle.std.proofs.Common.{◌≡◌, ℕ, true, false, List, [], ◌∷◌, ◌++◌, refl, sym, ap, ◌∙◌, append-nil, Ok}
 use Rattle.std.specs.Prelude.{IsOk, filter}
 use Rattle.flow_model.specs.Item.{Item, Ev, FlushStop, Eos, is_flush_stop, is_eos}
 use Rattle.flow_model.specs.Call.{Call, Feed, Act, Drain, items}
-use Rattle.flow_model.specs.Rule.{Fed, Fault, not_eos}
+use Rattle.flow_model.specs.Rule.{Fed, not_eos}
 use Rattle.flow_model.specs.Feeding.{next_owed}
 use Rattle.flow_model.specs.CapsInForce.{caps_in_force}
 use Rattle.flow_model.proofs.Calls.{fed_taken, fed_behind, fed_flush, drained_begun, drained_behind, eos_taken, eos_stays, eos_flushed, eos_act}
@@ -12,10 +12,7 @@ use Rattle.el_wavenc.specs.declared.wav_enc.WavEnc.{WavEnc}
 use Rattle.el_wavenc.specs.Encodes.{Progress, progress, ending, encode_answer, encodes, finished, progress_behind}
 use Rattle.el_wavenc.specs.Encoded.{encoding, come, Encoded}
 use Rattle.el_wavenc.proofs.Steps.{with_one, opened_all, opened_end, progress_fed, progress_drained, went, ending_alone}
-
-ok_answered : (r : Result (List Item) Fault) → IsOk r → r ≡ Ok (answered r)
-ok_answered (Ok ys) ok = refl
-ok_answered (Err fault) ok = absurd (cc)
+use Rattle.flow_model.proofs.Items.{ok_answered}
 
 -- an item that is taken
 pub encoded_item : (old new : WavEnc) (x : Item) → is_flush_stop x ≡ false → old.ended ≡ false

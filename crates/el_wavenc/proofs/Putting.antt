@@ -20,8 +20,8 @@ puts_taken old new x out out' plain begun ok moved ends outs =
     record {
       more = answered (encode_answer (come old) x);
       outs = outs;
-      owed = λ calls put p. (encoded_item old new x plain begun ok moved ends calls put p).0;
-      stands = λ calls put p. (encoded_item old new x plain begun ok moved ends calls put p).1;
+      owed = λ one calls put p. (encoded_item old new x plain begun ok moved ends calls put p).0;
+      stands = λ one calls put p. (encoded_item old new x plain begun ok moved ends calls put p).1;
     }
 
 -- behind EOS
@@ -31,8 +31,8 @@ puts_behind encoder x out plain ended =
     record {
       more = [];
       outs = sym (append-nil out);
-      owed = λ calls put p. (encoded_behind encoder x plain ended calls put p).0;
-      stands = λ calls put p. (encoded_behind encoder x plain ended calls put p).1;
+      owed = λ one calls put p. (encoded_behind encoder x plain ended calls put p).0;
+      stands = λ one calls put p. (encoded_behind encoder x plain ended calls put p).1;
     }
 
 -- for a drain: what ends the file
@@ -42,8 +42,8 @@ puts_ending old new out out' begun moved ends outs =
     record {
       more = ending (come old);
       outs = outs ∙ ap (λ ys. out ++ on_pad 0 ys) (append-nil (ending (come old)));
-      owed = λ calls put p. (encoded_drained old new begun moved ends calls put p).0;
-      stands = λ calls put p. (encoded_drained old new begun moved ends calls put p).1;
+      owed = λ one calls put p. (encoded_drained old new begun moved ends calls put p).0;
+      stands = λ one calls put p. (encoded_drained old new begun moved ends calls put p).1;
     }
 
 -- and behind EOS nothing
@@ -52,6 +52,6 @@ puts_none encoder out ended =
     record {
       more = [];
       outs = sym (append-nil out);
-      owed = λ calls put p. (encoded_drained_behind encoder ended calls put p).0;
-      stands = λ calls put p. (encoded_drained_behind encoder ended calls put p).1;
+      owed = λ one calls put p. (encoded_drained_behind encoder ended calls put p).0;
+      stands = λ one calls put p. (encoded_drained_behind encoder ended calls put p).1;
     }

@@ -1,27 +1,29 @@
 -- How far the rule of an element that writes WAV files is behind one more item.
-use Rattle.std.proofs.Common.{◌≡◌, ℕ, ◌+◌, Bool, true, false, if◌then◌else◌, List, [], ◌∷◌, ◌++◌, length, Option, Some, None, refl, sym, ap, subst, ◌∙◌, append-nil, append_assoc, arith, Result, Ok, Err, length-append, nat_le, is_some}
+use Rattle.std.proofs.Common.{◌≡◌, ℕ, ◌+◌, Bool, true, false, if◌then◌else◌, List, [], ◌∷◌, ◌++◌, length, Option, Some, None, refl, sym, ap, subst, ◌∙◌, append-nil, append_assoc, Result, Ok, Err, nat_le, is_some}
 use Rattle.std.specs.Prelude.{◌==◌, ◌%◌, ◌||◌, filter}
 use Rattle.std.specs.Option.{option_map}
 use Rattle.gst_caps.specs.Accepts.{accepts}
 use Rattle.gst_value.specs.Description.{Description}
 use Rattle.gst_value.specs.declared.one.One.{One}
-use Rattle.gst_item.proofs.Kept.{since_push}
+use Rattle.gst_item.proofs.Kept.{latest_since}
 use Rattle.flow_model.specs.Item.{Item, Buf, Ev, Buffer, StreamStart, NewCaps, NewSegment, Tag, Gap, FlushStop, Eos, is_flush_stop, is_caps, is_segment, body_of}
 use Rattle.flow_model.specs.Sticky.{latest, since_flush_stop}
 use Rattle.flow_model.specs.Call.{Call, Feed, Act, Drain, items}
 use Rattle.flow_model.specs.Rule.{Fed, Fault, not_eos}
-use Rattle.flow_model.specs.Feeding.{has_item}
 use Rattle.flow_model.specs.CapsInForce.{caps_in_force, caps_behind}
 use Rattle.flow_model.proofs.Calls.{items_push, items_act}
 use Rattle.flow_model.proofs.CapsFed.{caps_fed}
-use Rattle.flow_model.specs.Looking.{bytes_got, bytes_of}
-use Rattle.flow_model.proofs.Looking.{bytes_push, latest_since}
-use Rattle.audio_info.specs.Same.{same_caps}
-use Rattle.el_wavenc.specs.Templates.{sink_template, wav_caps}
+use Rattle.flow_model.specs.Looking.{bytes_got}
+use Rattle.gst_caps.specs.Same.{same_caps}
+use Rattle.audio_info.specs.Templates.{wav_template}
+use Rattle.el_wavenc.specs.Templates.{wav_caps}
 use Rattle.el_wavenc.specs.WavFile.{Stream, stream_of, frame_width, head_length, most_data, bytes_at, head_items}
 use Rattle.el_wavenc.specs.Encodes.{Progress, progress, opening, ending, file_end, buffer_answer, announcement, settled, caps_answer, encode_answer, stream_behind, progress_behind}
-use Rattle.audio_info.proofs.Same.{caps_decide}
+use Rattle.gst_caps.proofs.Same.{caps_decide}
 use Rattle.gst_value.proofs.Basics.{some_same}
+use Rattle.flow_model.proofs.Items.{chosen, got_push as size_push}
+use Rattle.gst_value.proofs.Basics.{plus_none}
+use Rattle.gst_item.specs.Item.{has_item}
 
 -- ---- what one more item changes
 
@@ -65,13 +67,6 @@ has_if false false x xs = refl
 announced_push : (h : List Item) (x : Item) → has_item (latest is_caps (since_flush_stop (h ++ x ∷ []))) ≡ (if is_flush_stop x then false else (if is_caps x then true else has_item (latest is_caps (since_flush_stop h))))
 announced_push h x = ap has_item (latest_since is_caps h x) ∙ has_if (is_flush_stop x) (is_caps x) x (latest is_caps (since_flush_stop h))
 
-size_push : (h : List Item) (x : Item) → bytes_got (h ++ x ∷ []) ≡ (if is_flush_stop x then 0 else bytes_got h + length (body_of x))
-size_push h x = rw (since_push h x) (go (is_flush_stop x))
-  where
-    go : (f : Bool) → length (bytes_of (if f then [] else since_flush_stop h ++ x ∷ [])) ≡ (if f then 0 else bytes_got h + length (body_of x))
-    go true = refl
-    go false = ap length (bytes_push (since_flush_stop h) x) ∙ length-append (bytes_of (since_flush_stop h)) (body_of x)
-
 opened_push : (out : List Item) (y : Item) → has_item (latest is_segment (since_flush_stop (out ++ y ∷ []))) ≡ opened_one (has_item (latest is_segment (since_flush_stop out))) y
 opened_push out y = ap has_item (latest_since is_segment out y) ∙ has_if (is_flush_stop y) (is_segment y) y (latest is_segment (since_flush_stop out))
 
@@ -105,9 +100,6 @@ progress_drained fed ys over =
 
 -- ---- how far the rule is behind an item that is taken
 
-plus_none : (n : ℕ) → n + 0 ≡ n
-plus_none n = omega arith
-
 or_false : (b : Bool) → b ≡ (b || false)
 or_false true = refl
 or_false false = refl
@@ -115,10 +107,6 @@ or_false false = refl
 or_true : (b : Bool) → true ≡ (b || true)
 or_true true = refl
 or_true false = refl
-
-pub chosen : (b : Bool) (r : Result (List Item) Fault) (fault : Fault) (ys : List Item) → (if b then r else Err fault) ≡ Ok ys → r ≡ Ok ys
-chosen true r fault ys e = e
-chosen false r fault ys e = absurd (cc)
 
 pub holds : (b : Bool) (r : Result (List Item) Fault) (fault : Fault) (ys : List Item) → (if b then r else Err fault) ≡ Ok ys → b ≡ true
 holds true r fault ys e = refl
@@ -196,7 +184,7 @@ caps_took p known is caps ys e = go (settled p) refl e
 
     go : (first : Option (Description One)) → settled p ≡ first → caps_answer p caps first ≡ Ok ys
         → with_one p (Ev (NewCaps caps)) ys ≡ record p { stream = stream_behind p caps first; announced = true }
-    go None none e = all ys (Some (stream_of caps)) (chosen (accepts sink_template caps) _ _ ys e) refl
+    go None none e = all ys (Some (stream_of caps)) (chosen (accepts wav_template caps) _ _ ys e) refl
     go (Some first) some e =
         all ys p.stream (chosen (same_caps first caps) _ _ ys e)
         (stream_stays p known is caps first some ((caps_decide first caps).0 (holds (same_caps first caps) _ _ ys e)))

@@ -20,12 +20,14 @@ use Rattle.flow_model.specs.CapsInForce.{caps_in_force}
 use Rattle.flow_model.proofs.Calls.{items_push, fed_taken, feeds_push}
 use Rattle.flow_model.specs.Looking.{bytes_of}
 use Rattle.flow_model.proofs.Looking.{bytes_push}
-use Rattle.audio_info.specs.Same.{same_caps}
-use Rattle.el_wavenc.specs.Templates.{sink_template, wav_caps}
+use Rattle.gst_caps.specs.Same.{same_caps}
+use Rattle.audio_info.specs.Templates.{wav_template}
+use Rattle.el_wavenc.specs.Templates.{wav_caps}
 use Rattle.el_wavenc.specs.WavFile.{Stream, stream_of, frame_width, head_length, most_data, bytes_at, head_bytes, head_items, padding}
 use Rattle.el_wavenc.specs.Encodes.{Progress, progress, opening, file_end, buffer_answer, announcement, settled, caps_answer, encode_answer, encodes}
 use Rattle.el_wavenc.specs.WholeFile.{wav_file, taken, data_taken}
-use Rattle.el_wavenc.proofs.Steps.{opened_all, opened_more, chosen, no_fault, ok_same, opened_body}
+use Rattle.el_wavenc.proofs.Steps.{opened_all, opened_more, no_fault, ok_same, opened_body}
+use Rattle.flow_model.proofs.Items.{chosen}
 
 -- ---- writing at places
 
@@ -138,7 +140,7 @@ caps_file : (p : Progress) (d : Disk) (bytes : List ℕ) (caps : Description One
 caps_file p d bytes caps first ys file e = quiet p d bytes ys (announcement p) file (owed first e) (go p.announced) (opens p.announced)
   where
     owed : (first : Option (Description One)) → caps_answer p caps first ≡ Ok ys → no_fault (announcement p) ≡ Ok ys
-    owed None e = chosen (accepts sink_template caps) _ _ ys e
+    owed None e = chosen (accepts wav_template caps) _ _ ys e
     owed (Some c) e = chosen (same_caps c caps) _ _ ys e
 
     go : (a : Bool) → disk_from d (if a then [] else Ev (NewCaps wav_caps) ∷ []) ≡ d

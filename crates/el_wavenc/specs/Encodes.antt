@@ -9,13 +9,14 @@ use Rattle.flow_model.specs.Item.{Item, Buf, Ev, Buffer, NewCaps, NewSegment, Ga
 use Rattle.flow_model.specs.Sticky.{latest, since_flush_stop}
 use Rattle.flow_model.specs.Call.{items}
 use Rattle.flow_model.specs.Rule.{Fed, Fault, NotNegotiated, BadStream, Response}
-use Rattle.flow_model.specs.Feeding.{has_item}
 use Rattle.flow_model.specs.CapsInForce.{caps_in_force}
 use Rattle.flow_model.specs.Looking.{has_opened, bytes_got}
-use Rattle.audio_info.specs.Same.{same_caps}
+use Rattle.gst_caps.specs.Same.{same_caps}
 use Rattle.audio_info.specs.Alone.{exactly}
-use Rattle.el_wavenc.specs.Templates.{sink_template, wav_caps}
+use Rattle.audio_info.specs.Templates.{wav_template}
+use Rattle.el_wavenc.specs.Templates.{wav_caps}
 use Rattle.el_wavenc.specs.WavFile.{Stream, stream_of, frame_width, head_length, most_data, bytes_at, head_items, padding}
+use Rattle.gst_item.specs.Item.{has_item}
 
 -- How far an element has come: the stream by the CAPS in force; and of what came since the last FLUSH_STOP, whether
 -- CAPS did, whether the file was begun, and how many bytes of data it has.
@@ -49,7 +50,7 @@ ending p = file_end p p.stream
 -- What is owed for a buffer: its bytes, behind those before them. One before any CAPS is a fault, and so are one that
 -- is not a whole number of frames and one with which the data is too large.
 abbrev pub buffer_answer : Progress → Buffer → Option Stream → Result (List Item) Fault
-buffer_answer p b None = Err (NotNegotiated None sink_template)
+buffer_answer p b None = Err (NotNegotiated None wav_template)
 buffer_answer p b (Some s) =
     if length b.body % frame_width s == 0 then
     (if nat_le (p.size + length b.body) most_data
@@ -67,7 +68,7 @@ settled p = if (p.announced || p.opened) then option_map (λ (s : Stream). s.cap
 
 -- what is owed for CAPS: they are those of the file, or any of the template
 abbrev pub caps_answer : Progress → Description One → Option (Description One) → Result (List Item) Fault
-caps_answer p caps None = if accepts sink_template caps then Ok (announcement p) else Err (NotNegotiated (Some caps) sink_template)
+caps_answer p caps None = if accepts wav_template caps then Ok (announcement p) else Err (NotNegotiated (Some caps) wav_template)
 caps_answer p caps (Some first) = if same_caps first caps then Ok (announcement p) else Err (NotNegotiated (Some caps) (exactly first))
 
 -- What is owed for an item. SEGMENTs and GAPs are dropped, EOS ends the file, and all else passes.

@@ -4,7 +4,7 @@ ghost use Rattle.flow_model.specs.Item.{Ev, NewSegment};
 ghost use Rattle.flow_model.specs.Source.{bytes_segment};
 ghost use Rattle.flow_model.specs.Feeding.{on_pad};
 ghost use Rattle.wav_format.specs.Format.{IsKnown};
-ghost use Rattle.flow_model.specs.Owed.{events_of};
+ghost use Rattle.gst_item.specs.Sticky.{held as events_of};
 ghost use Rattle.el_wavenc.specs.Known.{stream_by};
 ghost use Rattle.el_wavenc.specs.WavFile.{bytes_at as bytes_at_of, head_bytes, head_items, head_of as head_of_stream, padding, tag_of as tag_of_sample};
 

@@ -4,7 +4,6 @@
 mod file;
 mod laws;
 mod stream;
-mod template;
 pub mod wav_enc;
 
 pub use laws::file_is_whole;

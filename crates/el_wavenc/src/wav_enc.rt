@@ -4,16 +4,17 @@ ghost use Rattle.std.specs.Option.{option_copied};
 ghost use Rattle.flow_model.specs.Item.{Item, Buf, Ev, NewCaps, FlushStop, Eos, is_eos, is_flush_stop};
 ghost use Rattle.flow_model.specs.Call.{Call, Feed, Act, Drain};
 ghost use Rattle.flow_model.specs.Feeding.{flow_behind, on_pad, next_owed, IsFaultOf};
-ghost use Rattle.flow_model.specs.Owed.{events_of, answered, drain_owed};
+ghost use Rattle.flow_model.specs.Owed.{answered, drain_owed};
+ghost use Rattle.gst_item.specs.Sticky.{held as events_of};
 ghost use Rattle.el_wavenc.specs.Encodes.{encodes, encode_answer, announcement, ending, finished, settled, progress_behind};
 
 use crate::file::{
     HEAD_LENGTH, MOST_DATA, bytes_at, push_event, push_head, push_opening, push_padding, put_data,
 };
 use crate::stream::Stream;
-use crate::template::sink_template;
-use audio_info::{Info, exactly, same_caps};
+use audio_info::{Info, exactly, wav_template};
 use flow_model::{ElementFault, StreamKind, put_out};
+use gst_caps::same_caps;
 use gst_item::{Buffer, Event, Flow, Item, Out, Outs};
 use gst_value::{Fixed, OutOfMemory};
 use std::alloc::Global;
@@ -167,7 +168,7 @@ impl WavEnc {
         let Some(stream) = &self.stream else {
             return Err(ElementFault::NotNegotiated {
                 offered: None,
-                wanted: sink_template(alloc)?,
+                wanted: wav_template(alloc)?,
             });
         };
         let length = buffer.body.as_slice().len() as u64;
@@ -235,7 +236,7 @@ impl WavEnc {
         ensures stays { OnErr result ((self.new ≡ self.old) × (out.new ≡ out.old)) }
         ensures fault { IfErr result (λ fault. IsFaultOf (encode_answer (come self.old) (Ev (NewCaps caps))) fault) }
     {
-        let wanted = sink_template(alloc)?;
+        let wanted = wav_template(alloc)?;
         if !wanted.accepts(&caps) {
             return Err(ElementFault::NotNegotiated {
                 offered: Some(caps),

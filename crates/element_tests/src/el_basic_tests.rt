@@ -3,7 +3,7 @@ use el_basic::*;
 use gst_caps::{Caps, Structure};
 use gst_item::Outs;
 use gst_value::List;
-use item_letters::{is_flush, item_of, letter_of_answer, letters_of};
+use item_letters::{item_of, letter_of_answer, letters_of};
 use std::alloc::Global;
 use std::test::Fail;
 
@@ -63,7 +63,7 @@ fn call(alloc: Global, tested: &mut Tested, letter: u8, out: &mut Outs) -> Resul
         return Ok(b'-');
     }
     let item = item_of(alloc, letter)?;
-    if is_flush(&item) {
+    if item.is_flush_stop() {
         return Ok(b'?');
     }
     let answer = match tested {

@@ -7,7 +7,7 @@ use flow_model::ElementFault;
 use gst_caps::{Caps, Structure, Value};
 use gst_item::{Event, Flow, Item, Outs};
 use gst_value::{Fixed, List, One, Text};
-use item_letters::{buffer_of, bytes_by, is_flush, item_of, letter_of, letter_of_answer};
+use item_letters::{buffer_of, bytes_by, item_of, letter_of, letter_of_answer};
 use std::alloc::Global;
 use std::process::Abort;
 use std::test::Fail;
@@ -123,7 +123,7 @@ fn call(alloc: Global, convert: &mut Convert, letter: u8, out: &mut Outs) -> Res
         b'A' | b'O' | b'R' | b'U' | b'W' => convert.set_allowed(allowed_by(alloc, letter)?),
         _ => {
             let item = item_by(alloc, letter)?;
-            if !is_flush(&item) {
+            if !item.is_flush_stop() {
                 let answer = convert.feed(alloc, 0, item, out);
                 return letter_by_wanted(alloc, answer);
             }

@@ -5,7 +5,7 @@ use audio_info::{Info, Sample};
 use el_law::*;
 use gst_item::{Event, Item, Outs};
 use gst_value::{Fixed, List, One};
-use item_letters::{buffer_of, is_flush, item_of, letter_of, letter_of_answer};
+use item_letters::{buffer_of, item_of, letter_of, letter_of_answer};
 use std::alloc::Global;
 use std::test::Fail;
 
@@ -99,7 +99,7 @@ fn call(alloc: Global, law: &mut Law, letter: u8, out: &mut Outs) -> Result<u8, 
         }
         _ => {
             let item = item_by(alloc, letter)?;
-            if !is_flush(&item) {
+            if !item.is_flush_stop() {
                 let answer = law.feed(alloc, 0, item, out);
                 return Ok(letter_of_answer(&answer));
             }

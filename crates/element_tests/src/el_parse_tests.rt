@@ -8,7 +8,7 @@ use el_parse::{RawParse, Split};
 use flow_model::ElementFault;
 use gst_item::{Event, Flow, Item, Outs};
 use gst_value::List;
-use item_letters::{buffer_of, is_flush};
+use item_letters::buffer_of;
 use std::alloc::Global;
 use std::process::Abort;
 use std::test::Fail;
@@ -113,7 +113,7 @@ fn call(
         }
         _ => {
             let item = item_by(alloc, info, word)?;
-            if !is_flush(&item) {
+            if !item.is_flush_stop() {
                 let answer = feed(alloc, tested, item, out);
                 tell_answer(text, &answer)?;
             }

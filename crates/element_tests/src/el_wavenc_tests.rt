@@ -6,7 +6,7 @@ use flow_model::{ElementFault, StreamKind};
 use gst_item::{Buffer, Event, Flow, Item, Outs};
 use gst_time::{Format, Segment};
 use gst_value::{Fixed, List};
-use item_letters::{buffer_of, bytes_by, event_by, is_flush, word_of};
+use item_letters::{buffer_of, bytes_by, event_by, word_of};
 use std::alloc::Global;
 use std::fmt::Write;
 use std::process::Abort;
@@ -181,7 +181,7 @@ fn call(
         }
         _ => {
             let item = item_by(alloc, word)?;
-            if !is_flush(&item) {
+            if !item.is_flush_stop() {
                 let answer = encoder.feed(alloc, 0, item, out);
                 tell_answer(text, &answer)?;
             }

@@ -4,7 +4,7 @@ ghost use Rattle.std.specs.Prelude.{◌≤◌};
 use el_basic::*;
 use gst_item::Outs;
 use gst_value::List;
-use item_letters::{is_flush, item_of, letter_of, letter_of_flow};
+use item_letters::{item_of, letter_of, letter_of_flow};
 use std::alloc::Global;
 use std::test::Fail;
 
@@ -30,7 +30,7 @@ fn call_tee(alloc: Global, tee: &mut Tee, letter: u8, out: &mut Outs) -> Result<
         }
         _ => {
             let item = item_of(alloc, letter)?;
-            if !is_flush(&item) {
+            if !item.is_flush_stop() {
                 return Ok(letter_of_flow(tee.feed(alloc, 0, item, out)?));
             }
         }

@@ -5,8 +5,9 @@ use Rattle.flow_model.specs.Item.{Item, Ev, Eos, FlushStop, is_flush_stop, is_eo
 use Rattle.flow_model.specs.Sticky.{InForce, in_force}
 use Rattle.flow_model.specs.Call.{Call, Feed, Act, Drain, Set, Mark, Setting, feeds, items}
 use Rattle.flow_model.specs.Rule.{Response, Fed, unfed, responded, flushed, drained, called, all_called}
-use Rattle.flow_model.specs.Feeding.{has_item, has_eos}
+use Rattle.flow_model.specs.Feeding.{has_eos}
 use Rattle.flow_model.proofs.Sections.{called_push}
+use Rattle.gst_item.specs.Item.{has_item}
 
 pub items_push : (calls : List Call) (x : Item) → items (calls ++ Feed x ∷ []) ≡ items calls ++ x ∷ []
 items_push [] x = refl
@@ -56,7 +57,7 @@ pub set_push : (respond : Response) (calls : List Call) (setting : Setting)
 set_push respond calls setting = called_push respond unfed calls (Act (Set setting))
 
 -- whether EOS was fed since the last FLUSH_STOP
-eos_behind : (h : List Item) (x : Item) → has_item (in_force (h ++ x ∷ [])).eos ≡ (if is_flush_stop x then false else (if is_eos x then true else has_item (in_force h).eos))
+pub eos_behind : (h : List Item) (x : Item) → has_item (in_force (h ++ x ∷ [])).eos ≡ (if is_flush_stop x then false else (if is_eos x then true else has_item (in_force h).eos))
 eos_behind h x = ap (λ (s : InForce). has_item s.eos) (in_force_push h x) ∙ go (is_flush_stop x) (is_eos x)
   where
     go : (f e : Bool) → has_item (if f then [] else (if e then x ∷ [] else (in_force h).eos)) ≡ (if f then false else (if e then true else has_item (in_force h).eos))

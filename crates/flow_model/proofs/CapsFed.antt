@@ -7,7 +7,7 @@ use Rattle.flow_model.specs.Call.{Call, Feed, items}
 use Rattle.flow_model.specs.CapsInForce.{caps_of, caps_in_force, caps_behind}
 use Rattle.flow_model.proofs.Calls.{items_push}
 
-caps_by : (x : Item) (h : List Item) → caps_of (if is_caps x then x ∷ [] else latest is_caps h) ≡ caps_behind (caps_in_force h) x
+pub caps_by : (x : Item) (h : List Item) → caps_of (if is_caps x then x ∷ [] else latest is_caps h) ≡ caps_behind (caps_in_force h) x
 caps_by (Buf b) h = refl
 caps_by (Ev (StreamStart id)) h = refl
 caps_by (Ev (NewCaps caps)) h = refl

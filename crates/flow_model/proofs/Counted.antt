@@ -4,8 +4,9 @@ use Rattle.gst_item.specs.Sticky.{first_found, latest, has_flush_stop, since_flu
 use Rattle.flow_model.specs.Item.{Item, Buf, Ev, StreamStart, NewCaps, NewSegment, Tag, Gap, FlushStop, Eos, is_flush_stop, is_eos}
 use Rattle.flow_model.specs.Section.{counted_after, counted}
 use Rattle.flow_model.specs.Call.{Call, Feed, Act, Mark, items}
-use Rattle.flow_model.specs.Feeding.{has_item, has_eos}
+use Rattle.flow_model.specs.Feeding.{has_eos}
 use Rattle.flow_model.proofs.Calls.{items_push, items_act}
+use Rattle.gst_item.specs.Item.{has_item}
 
 -- whether the stream has ended behind a list, going forward
 ended_from : Bool → List Item → Bool
@@ -40,7 +41,7 @@ counted_push true (y ∷ ys) x = go (counted_push false ys x) (counted_push true
     go begun ended false = ended
 
 -- and going back from its end
-since_all : (h : List Item) → has_flush_stop h ≡ false → since_flush_stop h ≡ h
+pub since_all : (h : List Item) → has_flush_stop h ≡ false → since_flush_stop h ≡ h
 since_all [] e = refl
 since_all (x ∷ xs) e = go (has_flush_stop xs) (is_flush_stop x) e
   where

@@ -1,3 +1,4 @@
+pub mod Items
 pub mod Calls
 pub mod CapsFed
 pub mod Counted

@@ -1,5 +1,5 @@
 -- What an element with one sink pad answers to an item, and what it puts out.
-use Rattle.std.specs.Prelude.{◌≡◌, ℕ, Bool, true, false, List, [], ◌∷◌, Result, Ok, Err, if◌then◌else◌, map}
+use Rattle.std.specs.Prelude.{◌≡◌, ℕ, Bool, List, [], ◌∷◌, Result, Ok, Err, if◌then◌else◌, map}
 use Rattle.gst_item.specs.declared.flow.Flow.{Flow}
 use Rattle.gst_item.specs.declared.flow.Flow.TheVariants.{Ok as Taken, Eos as BehindEos}
 use Rattle.gst_item.specs.declared.out.Out.{Out}
@@ -9,10 +9,7 @@ use Rattle.flow_model.specs.Item.{Item}
 use Rattle.flow_model.specs.Sticky.{in_force}
 use Rattle.flow_model.specs.Call.{Call, items}
 use Rattle.flow_model.specs.Rule.{Response, Fault, NotNegotiated, BadStream, TooLong, unfed, all_called}
-
-abbrev pub has_item : List Item → Bool
-has_item [] = false
-has_item (x ∷ xs) = true
+use Rattle.gst_item.specs.Item.{has_item}
 
 -- whether EOS was fed since the last FLUSH_STOP
 abbrev pub has_eos : List Call → Bool

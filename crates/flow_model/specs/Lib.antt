@@ -7,6 +7,7 @@ pub mod Item
 pub mod Link
 pub mod Looking
 pub mod Owed
+pub mod Puts
 pub mod Prefix
 pub mod Rule
 pub mod Section
@@ -14,3 +15,4 @@ pub mod SinkBytes
 pub mod SinkPads
 pub mod Source
 pub mod Sticky
+pub mod Inherited

@@ -1,6 +1,6 @@
 -- What a rule owes for any call, and what is read off it.
-use Rattle.std.specs.Prelude.{List, [], ◌∷◌, Option, None, Some, Result, Ok, Err, filter}
-use Rattle.flow_model.specs.Item.{Item, Event, Ev, Eos}
+use Rattle.std.specs.Prelude.{List, [], Result, Ok, Err, filter}
+use Rattle.flow_model.specs.Item.{Item, Ev, Eos}
 use Rattle.flow_model.specs.Call.{Call, Feed, Act, Drain, Set}
 use Rattle.flow_model.specs.Rule.{Response, Fault, not_eos}
 use Rattle.flow_model.specs.Feeding.{next_owed}
@@ -24,8 +24,3 @@ owed_at respond calls (Act (Set setting)) = Ok []
 abbrev pub answered : Result (List Item) Fault → List Item
 answered (Ok ys) = ys
 answered (Err fault) = []
-
--- an event that may be missing, as a list of items
-abbrev pub events_of : Option Event → List Item
-events_of None = []
-events_of (Some event) = Ev event ∷ []

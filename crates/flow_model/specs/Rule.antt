@@ -83,3 +83,8 @@ single respond inputs port j = section j (owed_for respond (only inputs))
 -- identity and queue pass all
 abbrev pub passes : Response
 passes fed x = Ok (x ∷ [])
+
+-- What an element answers to one item more on a sink pad, by what its sink pads were given: what it owes for it, or the fault
+-- of its rule.
+abbrev pub Answers : Type 0
+Answers = List (List Call) → ℕ → Item → Result (List Item) Fault

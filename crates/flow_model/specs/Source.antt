@@ -2,7 +2,7 @@
 use Rattle.std.specs.Prelude.{◌≤◌, ℕ, ◌+◌, ◌-◌, ◌*◌, ◌/◌, false, List, [], ◌∷◌, ◌++◌, length, take, drop, map, Some, None}
 use Rattle.std.specs.List.{range_with_len}
 use Rattle.std.specs.Option.{ForSome}
-use Rattle.flow_model.specs.Item.{Item, Buf, Ev, StreamStart, NewSegment, Eos, Segment, Bytes}
+use Rattle.flow_model.specs.Item.{Item, Buf, Ev, StreamStart, NewSegment, Eos, Segment, Bytes, Time}
 
 -- a segment without a stop is in order
 pub ordered_without_stop : (start : ℕ) → ForSome {T = ℕ} None (λ stop. start ≤ stop)
@@ -32,3 +32,7 @@ file_section size start content = Ev (NewSegment (bytes_segment start)) ∷ (blo
 -- the whole list before any seek
 abbrev pub file_list : ℕ → ℕ → List ℕ → List Item
 file_list id size content = Ev (StreamStart id) ∷ file_section size 0 content
+
+-- the segment in time from a time on
+abbrev pub time_segment : ℕ → Segment
+time_segment start = record { format = Time; start = start; stop = None; time = start; base = 0; position = start; ordered = ordered_without_stop start }

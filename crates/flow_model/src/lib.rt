@@ -13,7 +13,7 @@ pub mod fault;
 mod outputs;
 
 pub use fault::{ElementFault, StreamKind};
-pub use outputs::{is_end, on_pad, put_out};
+pub use outputs::{on_pad, put_out};
 
 /// What an element with one sink pad owes for a beginning of what it is given begins what it owes for the whole.
 #[tactic(auto, using(crate::proofs::Sections::owed_for_prefix))]

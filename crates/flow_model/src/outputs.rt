@@ -1,9 +1,8 @@
 //! What elements with one source pad put out.
 ghost use Rattle.std.specs.Prelude.{◌≡◌, ◌++◌, ◌∷◌, [], OnOk, OnErr};
-ghost use Rattle.flow_model.specs.Item.{is_eos};
 ghost use Rattle.flow_model.specs.Feeding.{on_pad};
 
-use gst_item::{Event, Item, Out, Outs};
+use gst_item::{Item, Out, Outs};
 use gst_value::OutOfMemory;
 use std::alloc::Global;
 
@@ -23,12 +22,4 @@ pub fn on_pad(item: Item) -> Out
     ensures { result ≡ record { pad = 0; item = item } }
 {
     Out { pad: 0, item }
-}
-
-/// Whether an item ends its stream.
-#[inline(always)]
-pub fn is_end(item: &Item) -> bool
-    ensures { result ≡ is_eos item.now }
-{
-    matches!(item, Item::Event(Event::Eos))
 }

@@ -17,14 +17,12 @@ use Rattle.graph_pads.specs.declared.pad.PadPlace.{PadPlace}
 use Rattle.graph_core.proofs.Bare.{alike_asked, alike_at, bare, makes_alike}
 use Rattle.graph_core.proofs.LinkedOnce.{place_of}
 use Rattle.el_settings.proofs.Padded.{split_alone}
-
-some_same : {A : Type 0} (o : Option A) (a b : A) → o ≡ Some a → o ≡ Some b → a ≡ b
-some_same o a b e f = cc
+use Rattle.gst_value.proofs.Basics.{one_some as some_same}
 
 none_some : {A P : Type 0} (o : Option A) (a : A) → o ≡ None → o ≡ Some a → P
 none_some o a e f = absurd (cc)
 
-never_true : {P : Type 0} (b : Bool) → b ≡ true → b ≡ false → P
+pub never_true : {P : Type 0} (b : Bool) → b ≡ true → b ≡ false → P
 never_true b e f = absurd (cc)
 
 -- what is common to as many caps that are the same is the same

@@ -30,7 +30,7 @@ use Rattle.graph_core.proofs.Allowing.{allows_alike, one_allowed, wide_alike}
 use Rattle.graph_core.proofs.Bare.{bare, count_set, given_alike, makes_set, set_to}
 use Rattle.graph_core.proofs.Joining.{sink_found}
 use Rattle.graph_core.proofs.LinkedOnce.{place_of}
-use Rattle.graph_pads.proofs.FirstOf.{less_or_last}
+use Rattle.gst_value.proofs.Basics.{less_or_last}
 
 -- too many caps behind an element are too many before it
 before_none : (s : Settings) → allowed_before s None ≡ None

@@ -12,6 +12,7 @@ use Rattle.graph_pads.specs.Pads.{makes, pad_count}
 use Rattle.graph_pads.specs.declared.pad.Direction.{Direction}
 use Rattle.graph_pads.specs.declared.pad.Direction.TheVariants.{Source, Sink}
 use Rattle.el_settings.proofs.Padded.{padded_allowed, padded_twice, sinks_kept, sources_kept}
+use Rattle.gst_value.proofs.Places.{first_same}
 
 -- an element as its properties set it
 abbrev pub bare : Made → Made
@@ -64,9 +65,6 @@ count_bare direction m fixed = count_kept direction no_pads (with_allowed Any m.
 pub count_alike : (direction : Direction) (m n : Made) → bare m ≡ bare n → makes direction m.settings ≡ false → pad_count direction m.settings ≡ pad_count direction n.settings
 count_alike direction m n same fixed =
     sym (count_bare direction m fixed) ∙ ap (λ (x : Made). pad_count direction x.settings) same ∙ count_bare direction n (sym (makes_alike direction m n same) ∙ fixed)
-
-first_same : {A : Type 0} (a b : A) (xs ys : List A) → a ∷ xs ≡ b ∷ ys → a ≡ b
-first_same a b xs ys e = cc
 
 rest_same : {A : Type 0} (a b : A) (xs ys : List A) → a ∷ xs ≡ b ∷ ys → xs ≡ ys
 rest_same a b xs ys e = cc

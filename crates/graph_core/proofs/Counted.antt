@@ -12,9 +12,9 @@ use Rattle.graph_pads.specs.declared.pad.Direction.{Direction}
 use Rattle.graph_pads.specs.declared.pad.Direction.TheVariants.{Source, Sink}
 use Rattle.graph_pads.specs.declared.pad.PadLink.{PadLink}
 use Rattle.graph_core.proofs.Answering.{set_at, set_elsewhere}
-use Rattle.graph_pads.proofs.FirstOf.{less_or_last}
 use Rattle.graph_core.proofs.Bare.{alike_at, bare, bare_counted, makes_alike, makes_counted}
 use Rattle.el_settings.proofs.Padded.{one_direction, sinks_given, sources_given}
+use Rattle.gst_value.proofs.Basics.{less_or_last}
 
 -- an element has the pads that it is given
 count_given : (direction : Direction) (pads : MadePads) (s : Settings) → makes direction s ≡ true → pad_count direction (with_pads pads s) ≡ pads.count

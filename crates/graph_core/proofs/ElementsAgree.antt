@@ -1,10 +1,11 @@
 -- A line has one list of elements, or one fault of them.
-use Rattle.std.proofs.Common.{◌≡◌, ◌⊎◌, ℕ, Bool, true, false, List, [], ◌∷◌, ◌++◌, Option, Some, Result, Ok, Err, refl, sym, ap, ◌∙◌, subst, inl, inr, arith}
+use Rattle.std.proofs.Common.{◌≡◌, ◌⊎◌, ℕ, List, [], ◌∷◌, ◌++◌, Result, Ok, Err, refl, sym, ap, ◌∙◌, subst, inl, inr, arith}
 use Rattle.el_settings.specs.Asked.{location_of}
 use Rattle.el_settings.specs.Checked.{IsAnswer}
 use Rattle.el_settings.specs.declared.fault.PropFault.{PropFault}
 use Rattle.el_settings.specs.declared.fault.PropFault.TheVariants.{NoSuchKind, NoSuchProperty, BadValue as BadPropValue}
 use Rattle.el_settings.specs.declared.settings.Settings.{Settings}
+use Rattle.gst_value.proofs.Basics.{one_some}
 use Rattle.graph_core.specs.Asked.{Declared}
 use Rattle.graph_core.specs.Comes.{Comes}
 use Rattle.graph_core.specs.Elements.{Made, ElementsCome, IsMade, IsUnmade, IsPlaced, is_name_taken, is_location_taken, name_of, settings_fault}
@@ -13,6 +14,7 @@ use Rattle.graph_core.specs.declared.fault.BuildFault.{BuildFault}
 use Rattle.graph_core.specs.declared.fault.BuildFault.TheVariants.{NoSuch, BadValue, NameTaken, LocationTaken, TooMany, LinkRefused, OutOfMemory}
 use Rattle.el_settings.specs.Alike.{AreAlike, IsUnjudged}
 use Rattle.gst_value.specs.declared.name.Prop.{Prop}
+use Rattle.graph_core.proofs.Allowing.{never_true}
 
 -- properties have one answer
 abbrev pub OneSetting : Type 0
@@ -83,9 +85,6 @@ made_same m n a b c d =
 made_one : OneSetting → (before : List Made) (d : Declared) (m n : Made) → IsMade before d m → IsMade before d n → m ≡ n
 made_one one before d m n h g = made_same m n (h.name ∙ sym g.name) (h.kind ∙ sym g.kind) (h.is_numbered ∙ sym g.is_numbered) (one d.kind d.props (Ok m.settings) (Ok n.settings) h.set g.set)
 
-pub never_true : {P : Type 0} (b : Bool) → b ≡ true → b ≡ false → P
-never_true b e f = absurd (cc)
-
 made_unmade : OneSetting → (before : List Made) (d : Declared) (m : Made) (fault : BuildFault) → IsMade before d m → IsUnmade before d fault → IsFree fault
 made_unmade one before d m fault h (IsUnmade.kind w) = let e = one d.kind d.props (Ok m.settings) (Err NoSuchKind) h.set w in absurd (cc)
 made_unmade one before d m fault h (IsUnmade.property p w) = let e = one d.kind d.props (Ok m.settings) (Err (NoSuchProperty p)) h.set w in absurd (cc)
@@ -123,10 +122,7 @@ placed_one before text s (NameTaken a) (NoSuch _ _) h g = absurd g
 placed_one before text s (NameTaken a) (BadValue _ _) h g = absurd g
 placed_one before text s (NameTaken a) (LinkRefused _ _ _) h g = absurd g
 placed_one before text s (LocationTaken a) (NameTaken b) h g = never_true (is_name_taken text before) g.1 h.1
-placed_one before text s (LocationTaken a) (LocationTaken b) h g = inl (ap LocationTaken (some_same (location_of s) a b h.0 g.0))
-  where
-    some_same : (o : Option (List ℕ)) (a b : List ℕ) → o ≡ Some a → o ≡ Some b → a ≡ b
-    some_same o a b e f = cc
+placed_one before text s (LocationTaken a) (LocationTaken b) h g = inl (ap LocationTaken (one_some (location_of s) a b h.0 g.0))
 placed_one before text s (LocationTaken a) (TooMany b) h g = never_true (is_location_taken s before) h.2 g.2
 placed_one before text s (LocationTaken a) OutOfMemory h g = inr (inr refl)
 placed_one before text s (LocationTaken a) (NoSuch _ _) h g = absurd g

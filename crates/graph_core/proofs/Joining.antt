@@ -34,10 +34,10 @@ number_there links direction element settings name n found =
     let at = position-Some (λ (k : ℕ). bytes_eq name (pad_text direction settings k)) (range_with_len 0 (takeable links direction element settings)) n 0 found in
     omega (arith, at.0, length-range_with_len 0 (takeable links direction element settings))
 
-abbrev okay : Pad → Result Pad BuildFault
+abbrev pub okay : Pad → Result Pad BuildFault
 okay pad = Ok pad
 
-abbrev failed : BuildFault → Result Pad BuildFault
+abbrev pub failed : BuildFault → Result Pad BuildFault
 failed fault = Err fault
 
 okay_same : (a b : Pad) → okay a ≡ okay b → b ≡ a

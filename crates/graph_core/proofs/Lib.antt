@@ -21,4 +21,3 @@ pub mod LinksAgree
 pub mod OneAnswer
 pub mod NumberedPads
 pub mod Orders
-pub mod HandedOn

@@ -15,6 +15,7 @@ use Rattle.graph_pads.specs.declared.pad.PadLink.{PadLink}
 use Rattle.graph_pads.specs.declared.pad.PadPlace.{PadPlace}
 use Rattle.launch_text.specs.declared.tree.Tree.{Tree}
 use Rattle.graph_core.specs.LinkedOnce.{AreOnce}
+use Rattle.gst_value.proofs.Basics.{number_itself}
 
 abbrev pub place_of : ℕ → ℕ → PadPlace
 place_of element pad = record { element = element; pad = pad }
@@ -28,13 +29,6 @@ same_or_other one other = go (eqb_tells one.element other.element) (eqb_tells on
     go (inl e) (inl p) = inl (rw (e.0, p.0) refl, ap (λ (n : ℕ). place_of n one.pad) e.1 ∙ ap (λ (n : ℕ). place_of other.element n) p.1)
     go (inl e) (inr p) = inr (rw (e.0, p.0) refl)
     go (inr e) p = inr (rw e.0 refl)
-
-pub number_itself : (n : ℕ) → eqb n n ≡ true
-number_itself n = go (eqb_tells n n)
-  where
-    go : ((eqb n n ≡ true) × (n ≡ n)) ⊎ ((eqb n n ≡ false) × (n ≡ n → ⊥)) → eqb n n ≡ true
-    go (inl t) = t.0
-    go (inr f) = absurd (f.1 refl)
 
 pub itself : (one : PadPlace) → is_same one one ≡ true
 itself one = rw (number_itself one.element, number_itself one.pad) refl

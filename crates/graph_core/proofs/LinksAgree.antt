@@ -1,8 +1,9 @@
 -- Elements have one list of links, or one fault of them.
-use Rattle.std.proofs.Common.{◌≡◌, ◌⊎◌, ℕ, List, [], Option, None, Some, Result, Ok, Err, MatchOption, position, slice_get, refl, sym, ap, ◌∙◌, subst, inl, inr}
+use Rattle.std.proofs.Common.{◌≡◌, ◌⊎◌, ℕ, List, [], Option, None, Some, Result, Err, MatchOption, position, slice_get, refl, sym, ap, ◌∙◌, subst, inl, inr}
 use Rattle.std.proofs.lemmas.Option.{same_Some as rets}
 use Rattle.pad_core.specs.declared.linking.LinkReturn.{LinkReturn}
 use Rattle.pad_core.specs.declared.linking.LinkReturn.TheVariants.{WasLinked, WrongDirection, NoFormat}
+use Rattle.gst_value.proofs.Basics.{one_some}
 use Rattle.graph_core.specs.Asked.{End, own, named}
 use Rattle.graph_core.specs.Elements.{Made, is_named}
 use Rattle.graph_core.specs.Ends.{IsEndPad, IsPadOf, name_at, pad_name, taken_pad}
@@ -15,13 +16,12 @@ use Rattle.graph_pads.specs.declared.pad.Direction.{Direction}
 use Rattle.graph_pads.specs.declared.pad.Direction.TheVariants.{Source, Sink}
 use Rattle.graph_pads.specs.declared.pad.Pad.{Pad}
 use Rattle.graph_pads.specs.declared.pad.PadLink.{PadLink}
-use Rattle.graph_core.proofs.ElementsAgree.{Agree, agree, never_true}
+use Rattle.graph_core.proofs.ElementsAgree.{Agree, agree}
+use Rattle.graph_core.proofs.Allowing.{never_true}
+use Rattle.graph_core.proofs.Joining.{failed, okay}
 
 pad_one : (made : List Made) (links : List PadLink) (wanted : Direction) (element : ℕ) (wish : Option (List ℕ)) (a b : Result Pad BuildFault) → IsPadOf made links wanted element wish a → IsPadOf made links wanted element wish b → a ≡ b
-pad_one made links wanted element wish a b (m, at, e) (n, there, f) = e ∙ ap (λ x. taken_pad links wanted x element wish) (some_same (slice_get made element) m n at there) ∙ sym f
-  where
-    some_same : (o : Option Made) (m n : Made) → o ≡ Some m → o ≡ Some n → m ≡ n
-    some_same o m n e f = cc
+pad_one made links wanted element wish a b (m, at, e) (n, there, f) = e ∙ ap (λ x. taken_pad links wanted x element wish) (one_some (slice_get made element) m n at there) ∙ sym f
 
 end_one : (made : List Made) (links : List PadLink) (wanted : Direction) (end : End) (a b : Result Pad BuildFault) → IsEndPad made links wanted end a → IsEndPad made links wanted end b → a ≡ b
 end_one made links wanted (own n) a b h g = pad_one made links wanted n None a b h g
@@ -33,12 +33,6 @@ end_one made links wanted (named name wish) a b h g = by (position (is_named nam
     by : (o : Option ℕ) → MatchOption o (a ≡ Err (NoSuch name NoElement)) (λ n. IsPadOf made links wanted n wish a) → MatchOption o (b ≡ Err (NoSuch name NoElement)) (λ n. IsPadOf made links wanted n wish b) → a ≡ b
     by None h g = h ∙ sym g
     by (Some n) h g = pad_one made links wanted n wish a b h g
-
-abbrev okay : Pad → Result Pad BuildFault
-okay pad = Ok pad
-
-abbrev failed : BuildFault → Result Pad BuildFault
-failed fault = Err fault
 
 okay_one : (a b : Pad) → okay a ≡ okay b → a ≡ b
 okay_one a b e = cc

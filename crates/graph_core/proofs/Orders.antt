@@ -45,7 +45,7 @@ pads_at_link made [] all link is = absurd is
 pads_at_link made (l ∷ ls) all link (inl same) = subst (λ (k : PadLink). HasPads made k) (sym same) (all 0 l (omega arith))
 pads_at_link made (l ∷ ls) all link (inr is) = pads_at_link made ls (λ k d w. all (suc k) d (omega (arith, w))) link is
 
-few_pads : (found : Option Made) (pad : ℕ) → pad < option_map_or (λ (m : Made). source_pads m.settings) found 0 → pad < 64
+pub few_pads : (found : Option Made) (pad : ℕ) → pad < option_map_or (λ (m : Made). source_pads m.settings) found 0 → pad < 64
 few_pads None pad w = absurd (omega (arith, w))
 few_pads (Some m) pad w = let few = few_sources m.settings in omega (arith, w, few)
 

@@ -21,7 +21,9 @@ use Rattle.graph_pads.specs.declared.pad.PadLink.{PadLink}
 use Rattle.graph_pads.specs.declared.pad.PadPlace.{PadPlace}
 use Rattle.graph_core.proofs.Bare.{alike_at, bare, count_alike, makes_alike}
 use Rattle.graph_core.proofs.Joining.{CanTake, end_taken}
-use Rattle.graph_core.proofs.LinkedOnce.{at_more, itself, neither, number_itself, place_of}
+use Rattle.graph_core.proofs.LinkedOnce.{at_more, itself, neither, place_of}
+use Rattle.graph_core.proofs.Allowing.{never_true}
+use Rattle.gst_value.proofs.Basics.{number_itself, one_some as same_some}
 
 -- the pad of a link at one end
 abbrev pad_of : Direction → PadLink → PadPlace
@@ -121,12 +123,6 @@ record Kept (made : List Made) (links : List PadLink) (direction : Direction) : 
   within : (k : ℕ) (link : PadLink) → slice_get links k ≡ Some link → HasOwnPad made links direction link
   filled : (e k : ℕ) (m : Made) → slice_get made e ≡ Some m → makes direction m.settings ≡ true → k < links_at links direction e → has_link direction links (place_of e k) ≡ true
   few : (e : ℕ) (m : Made) → slice_get made e ≡ Some m → makes direction m.settings ≡ true → links_at links direction e ≤ 64
-
-same_some : {A : Type 0} (o : Option A) (a b : A) → o ≡ Some a → o ≡ Some b → a ≡ b
-same_some o a b e f = cc
-
-never_true : {P : Type 0} (b : Bool) → b ≡ true → b ≡ false → P
-never_true b e f = absurd (cc)
 
 less_or_same : (k n : ℕ) → k < suc n → (k < n) ⊎ (k ≡ n)
 less_or_same zero zero w = inr refl

@@ -11,6 +11,7 @@ use Rattle.graph_pads.specs.Links.{is_same, sink_behind}
 use Rattle.graph_core.specs.declared.links.Links.{Links}
 use Rattle.graph_pads.specs.declared.pad.PadLink.{PadLink}
 use Rattle.graph_pads.specs.declared.pad.PadPlace.{PadPlace}
+use Rattle.graph_core.proofs.NumberedPads.{same_element}
 
 -- how many elements stand behind the first place of one
 pub after : ℕ → List ℕ → ℕ
@@ -73,13 +74,6 @@ after_less a b (x ∷ xs) once (inr h) =
 by_case : (b : Bool) (found : PadPlace) (rest : Option PadPlace) (wanted : PadPlace) → (if b then Some found else rest) ≡ Some wanted → ((b ≡ true) × (found ≡ wanted)) ⊎ (rest ≡ Some wanted)
 by_case true found rest wanted h = inl (refl, cc)
 by_case false found rest wanted h = inr h
-
-same_element : (one other : PadPlace) → is_same one other ≡ true → one.element ≡ other.element
-same_element one other h = go (eqb_tells one.element other.element)
-  where
-    go : ((eqb one.element other.element ≡ true) × (one.element ≡ other.element)) ⊎ ((eqb one.element other.element ≡ false) × (one.element ≡ other.element → ⊥)) → one.element ≡ other.element
-    go (inl t) = t.1
-    go (inr f) = absurd (cc)
 
 -- a link goes forward
 pub links_forward : (links : List PadLink) (order : List ℕ) (source sink : PadPlace) → GoForward (ways links) order → sink_behind links source ≡ Some sink → StandsBefore source.element sink.element order

@@ -1,5 +1,5 @@
 -- Elements that are alike, and are set to what they are allowed and to the pads that links make, are the same.
-use Rattle.std.proofs.Common.{◌≡◌, ℕ, suc, Bool, true, false, List, [], ◌∷◌, Option, Some, slice_get, refl, sym, ap, ◌∙◌}
+use Rattle.std.proofs.Common.{◌≡◌, ℕ, suc, Bool, true, false, List, [], ◌∷◌, Some, slice_get, refl, sym, ap, ◌∙◌}
 use Rattle.gst_caps.specs.declared.caps.Caps.{Caps}
 use Rattle.gst_caps.specs.declared.caps.Caps.TheVariants.{Any}
 use Rattle.el_settings.specs.Asked.{allowed_of, is_converter, makes_sinks, makes_sources, no_pads, with_allowed, with_pads}
@@ -15,6 +15,7 @@ use Rattle.graph_pads.specs.declared.pad.PadLink.{PadLink}
 use Rattle.graph_core.proofs.Allowing.{allows_alike, converter_like, one_allowed}
 use Rattle.graph_core.proofs.Bare.{alike_at, bare, heads_same, makes_alike, set_to, tails_same}
 use Rattle.el_settings.proofs.Padded.{made_pads, none_made, padded_allowed, padded_own, padded_twice, sinks_made, sources_made}
+use Rattle.gst_value.proofs.Basics.{one_some as some_same}
 
 -- an element is what its properties set it to, with what it is allowed and its pads
 made_again : (m : Made) → m ≡ with_made_pads (made_pads m.settings) (with_caps (allowed_of m.settings) (bare m))
@@ -56,9 +57,6 @@ all_same (x ∷ xs) (y ∷ ys) same given counted =
     let one = one_same x y (heads_same x y xs ys same) (given 0 x y refl refl) (counted 0 x y refl refl) in
     let rest = all_same xs ys (tails_same x y xs ys same) (λ e m n at also. given (suc e) m n at also) (λ e m n at also. counted (suc e) m n at also) in
     ap (λ (z : Made). z ∷ xs) one ∙ ap (λ (l : List Made). y ∷ l) rest
-
-some_same : {A : Type 0} (o : Option A) (a b : A) → o ≡ Some a → o ≡ Some b → a ≡ b
-some_same o a b e f = cc
 
 module _ (ms ns : List Made) (links : List PadLink) (same : checked ms ≡ checked ns) where
   found_like : (e : ℕ) (m n : Made) → slice_get ms e ≡ Some m → slice_get ns e ≡ Some n → bare m ≡ bare n

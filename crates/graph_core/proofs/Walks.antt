@@ -1,5 +1,5 @@
 -- Lists that are gone over from the front.
-use Rattle.std.proofs.Common.{◌≡◌, ◌<◌, ◌≤◌, ◌+◌, ℕ, suc, List, [], ◌∷◌, ◌++◌, length, get_or, drop, drop-cons, map, sym, ap, ◌∙◌, subst, arith, append_assoc, Result, Ok, Err}
+use Rattle.std.proofs.Common.{◌≡◌, ◌<◌, ◌≤◌, ◌+◌, ℕ, List, [], ◌++◌, length, get_or, drop, map, sym, ap, ◌∙◌, subst, append_assoc, Result, Ok, Err}
 use Rattle.std.proofs.lemmas.List.{drop_all}
 use Rattle.graph_core.specs.Asked.{Declared, declared_by, chain_elements, elements_in}
 use Rattle.graph_core.specs.Comes.{Comes}
@@ -7,10 +7,7 @@ use Rattle.graph_core.specs.Elements.{Made, ElementsCome, Follows, Stops}
 use Rattle.graph_core.specs.declared.fault.BuildFault.{BuildFault}
 use Rattle.launch_text.specs.declared.tree.Node.{Node}
 use Rattle.launch_text.specs.declared.tree.Chain.{Chain}
-
--- the first of what is left
-pub next_left : {A : Type 0} (xs : List A) (i : ℕ) (x : A) → i < length xs → x ≡ get_or xs i x → drop i xs ≡ x ∷ drop (i + 1) xs
-next_left xs i x within is = let one : suc i ≡ i + 1 = omega arith in drop-cons xs i x within ∙ ap (λ y. y ∷ drop (suc i) xs) (sym is) ∙ ap (λ n. x ∷ drop n xs) one
+use Rattle.gst_value.proofs.Places.{drop_next as next_left}
 
 module _ (first now new : List Made) (nodes : List Node) (i : ℕ) (node : Node) (within : i < length nodes) (is : node ≡ get_or nodes i node)
     (so_far : (rest : List Declared) (answer : Result (List Made) BuildFault) → ElementsCome now (chain_elements (drop i nodes) ++ rest) answer → ElementsCome first (chain_elements nodes ++ rest) answer) where

@@ -4,6 +4,7 @@ use Rattle.std.specs.Prelude.{slice_set}
 use Rattle.graph_order.specs.declared.link.Link.{Link}
 use Rattle.graph_order.specs.Links.{IsLink, Way}
 use Rattle.graph_order.specs.Marks.{is_marked, unmarked, AllReached, IsClosed}
+use Rattle.gst_value.proofs.Basics.{neither as none_so_far}
 
 -- what is marked behind one more mark
 pub set_same : (marks : List Bool) (k : ℕ) → k < length marks → is_marked (slice_set marks k true) k ≡ true
@@ -69,10 +70,6 @@ pub none_marked : (n e : ℕ) → is_marked (replicate n false) e ≡ false
 none_marked zero e = refl
 none_marked (suc n) zero = refl
 none_marked (suc n) (suc e) = none_marked n e
-
-none_so_far : (a b : Bool) → (a || b) ≡ false → (a ≡ false) × (b ≡ false)
-none_so_far true b e = absurd (cc)
-none_so_far false b e = (refl, e)
 
 -- what holds behind one link more
 pub same_more : (was_new is_new : Bool) (first old new : List Bool) → (was_new ≡ false → old ≡ first) → (is_new ≡ false → new ≡ old) → (was_new || is_new) ≡ false → new ≡ first

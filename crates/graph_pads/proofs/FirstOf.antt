@@ -1,20 +1,10 @@
 -- The first number that passes a test.
-use Rattle.std.proofs.Common.{◌≡◌, ◌<◌, ◌≤◌, ◌⊎◌, ◌+◌, ℕ, zero, suc, Bool, true, false, cond, None, Some, length, get_or, nat_lt, position, refl, ap, ◌∙◌, inl, inr, arith}
+use Rattle.std.proofs.Common.{◌≡◌, ◌<◌, ◌≤◌, ◌⊎◌, ◌+◌, ℕ, Bool, true, false, cond, None, Some, length, get_or, nat_lt, position, ap, ◌∙◌, inl, inr, arith}
 use Rattle.std.specs.List.{position_or_len, range_with_len}
 use Rattle.std.proofs.lemmas.Bool.{lt-ltb, le-ltb}
 use Rattle.std.proofs.lemmas.List.FromFn.{get_or-range_with_len, length-range_with_len}
 use Rattle.std.proofs.lemmas.List.Sums.{position_or_len_is}
-
--- a number that is below the next of another is below that one, or is that one
-pub less_or_last : (e k : ℕ) → e < k + 1 → (e < k) ⊎ (e ≡ k)
-less_or_last zero zero w = inr refl
-less_or_last zero (suc k) w = inl (omega arith)
-less_or_last (suc e) zero w = absurd (omega (arith, w))
-less_or_last (suc e) (suc k) w = by (less_or_last e k (omega (arith, w)))
-  where
-    by : (e < k) ⊎ (e ≡ k) → (suc e < suc k) ⊎ (suc e ≡ suc k)
-    by (inl less) = inl (omega (arith, less))
-    by (inr same) = inr (ap suc same)
+use Rattle.gst_value.proofs.Basics.{less_or_last}
 
 module _ (test : ℕ → Bool) (count : ℕ) where
   number_at : (k : ℕ) → k < count → test (get_or (range_with_len 0 count) k 0) ≡ test k

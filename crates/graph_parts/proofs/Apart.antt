@@ -6,13 +6,13 @@ use Rattle.std.specs.Option.{option_map_or}
 use Rattle.std.proofs.lemmas.List.FromFn.{length-map-range_with_len}
 use Rattle.std.proofs.lemmas.Option.{slice_get_within}
 use Rattle.flow_model.specs.Account.{IsMember}
-use Rattle.graph_core.specs.Elements.{Made}
+use Rattle.graph_core.specs.Elements.{Made, has}
 use Rattle.graph_core.specs.Links.{HasPads}
 use Rattle.graph_pads.specs.Links.{sink_behind}
 use Rattle.graph_pads.specs.declared.pad.PadLink.{PadLink}
 use Rattle.graph_pads.specs.declared.pad.PadPlace.{PadPlace}
 use Rattle.graph_core.specs.LinkedOnce.{AreOnce}
-use Rattle.graph_parts.specs.Links.{has, has_inlets, is_head, source_count, place_at, link_to, pad_at, pads_of, LeadsInside, Reaches}
+use Rattle.graph_parts.specs.Links.{has_inlets, is_head, source_count, link_to, pad_at, pads_of, LeadsInside, Reaches}
 use Rattle.graph_parts.specs.Bags.{Once, cells, head_of, HavePads, IsBag, heads_in, AreBags}
 use Rattle.graph_parts.specs.BagLaws.{IsLink, TellsPads, BagsAreApart, BagsAreClosed, HeadsHaveBags, BagsAreThere, BagsHavePads}
 use Rattle.graph_parts.specs.declared.bag.Bag.{Bag}
@@ -21,6 +21,8 @@ use Rattle.graph_parts.specs.declared.bag.BagLink.TheVariants.{Element, Lane}
 use Rattle.graph_parts.specs.declared.bag.BagPad.{BagPad}
 use Rattle.graph_parts.proofs.Trees.{range_holds, range_has, range_once, is_tree, leads_inside, reached_there}
 use Rattle.gst_value.proofs.Basics.{some_same}
+use Rattle.flow_model.proofs.Items.{get_member, member_got}
+use Rattle.graph_core.specs.GraphPlan.{sink_at as place_at}
 
 -- what stands at a place
 get_map : (f : Bag → ℕ) (bags : List Bag) (k : ℕ) (bag : Bag) → slice_get bags k ≡ Some bag → slice_get (map f bags) k ≡ Some (f bag)
@@ -33,17 +35,7 @@ map_got f [] k e is = absurd (cc)
 map_got f (x ∷ xs) zero e is = (x, refl, some_same is)
 map_got f (x ∷ xs) (suc k) e is = map_got f xs k e is
 
-get_member : (xs : List ℕ) (k e : ℕ) → slice_get xs k ≡ Some e → IsMember e xs
-get_member [] k e is = absurd (cc)
-get_member (x ∷ xs) zero e is = inl (sym (some_same is))
-get_member (x ∷ xs) (suc k) e is = inr (get_member xs k e is)
-
-member_got : (xs : List ℕ) (e : ℕ) → IsMember e xs → (k : ℕ) × (slice_get xs k ≡ Some e)
-member_got [] e m = absurd m
-member_got (x ∷ xs) e (inl same) = (zero, ap Some (sym same))
-member_got (x ∷ xs) e (inr m) = let r = member_got xs e m in (suc r.0, r.1)
-
-place_once : (xs : List ℕ) (k l e : ℕ) → Once xs → slice_get xs k ≡ Some e → slice_get xs l ≡ Some e → k ≡ l
+pub place_once : (xs : List ℕ) (k l e : ℕ) → Once xs → slice_get xs k ≡ Some e → slice_get xs l ≡ Some e → k ≡ l
 place_once [] k l e once at to = absurd (cc)
 place_once (x ∷ xs) zero zero e once at to = refl
 place_once (x ∷ xs) zero (suc l) e once at to = absurd (once.0 (subst (λ (n : ℕ). IsMember n xs) (sym (some_same at)) (get_member xs l e to)))
@@ -69,7 +61,7 @@ kept p (x ∷ xs) e (inr m) is = go (p x) (kept p xs e m is)
     go true m = inr m
     go false m = m
 
-once_filter : (p : ℕ → Bool) (xs : List ℕ) → Once xs → Once (filter p xs)
+pub once_filter : (p : ℕ → Bool) (xs : List ℕ) → Once xs → Once (filter p xs)
 once_filter p [] once = tt
 once_filter p (x ∷ xs) once = go (p x) (once_filter p xs once.1)
   where

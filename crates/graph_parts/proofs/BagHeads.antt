@@ -8,9 +8,9 @@ use Rattle.std.proofs.lemmas.List.{append-nil, map-append, map-id}
 use Rattle.std.proofs.lemmas.List.Elements.{All-push}
 use Rattle.flow_model.specs.Account.{IsMember}
 use Rattle.el_settings.specs.declared.settings.Settings.{Settings}
-use Rattle.graph_core.specs.Elements.{Made}
+use Rattle.graph_core.specs.Elements.{Made, has}
 use Rattle.graph_pads.specs.declared.pad.PadLink.{PadLink}
-use Rattle.graph_parts.specs.Links.{has, has_inlets, is_head, Reaches}
+use Rattle.graph_parts.specs.Links.{has_inlets, is_head, Reaches}
 use Rattle.el_settings.specs.Asked.{is_source}
 use Rattle.graph_parts.specs.Bags.{Once, number_of, cells, numbers, head_number, head_of, IsHead, HavePads, GoBack, DepthFirst, IsBag}
 use Rattle.graph_parts.specs.Walk.{AreReached, IsBagOf}

@@ -11,7 +11,9 @@ use Rattle.task_elements.specs.declared.element.StreamElement.{StreamElement}
 use Rattle.task_elements.specs.declared.source.StreamSource.{StreamSource}
 use Rattle.graph_parts.specs.Ends.{at, left_by, sink_end, source_end}
 use Rattle.graph_parts.specs.Filled.{AreFilled, IsFilled, IsGiverFor, IsMadeFor, PairAt}
-use Rattle.graph_parts.proofs.Slots.{at_front, at_last, below_or, none_past, set_here, set_there, size_more}
+use Rattle.graph_parts.proofs.Slots.{at_front, at_last, none_past, set_here, set_there}
+use Rattle.graph_parts.proofs.LaneSlots.{size_more}
+use Rattle.gst_value.proofs.Basics.{less_or_last as below_or}
 
 module _ {S K : Type 0} (s : sources.Ghosts S) (k : sinks.Ghosts K) (made : List Made) (ends : List (Option (End S K))) where
   pub record FilledTo (n : ℕ) (elements : List (Option (StreamElement K))) (sources : List (Option (StreamSource S))) (left : List (Option (End S K))) : Type 0 where

@@ -1,5 +1,5 @@
 -- Where source pads lead in a graph whose pads are linked once.
-use Rattle.std.proofs.Common.{◌≡◌, ◌<◌, ◌≤◌, ◌⊎◌, ◌+◌, ℕ, zero, suc, Bool, true, false, eqb, ◌&&◌, if◌then◌else◌, List, All, Option, None, Some, map, refl, sym, ap, ◌∙◌, subst, inl, inr, arith}
+use Rattle.std.proofs.Common.{◌≡◌, ◌<◌, ◌≤◌, ◌⊎◌, ◌+◌, ℕ, zero, suc, true, false, eqb, ◌&&◌, if◌then◌else◌, List, All, Option, None, Some, map, refl, sym, ap, ◌∙◌, subst, inl, inr, arith}
 use Rattle.std.specs.Prelude.{slice_get}
 use Rattle.std.specs.List.{range_with_len}
 use Rattle.std.proofs.lemmas.Bool.Decides.{eqb_tells}
@@ -12,12 +12,12 @@ use Rattle.graph_pads.specs.Links.{is_same, sink_behind, source_before}
 use Rattle.graph_pads.specs.declared.pad.PadLink.{PadLink}
 use Rattle.graph_pads.specs.declared.pad.PadPlace.{PadPlace}
 use Rattle.graph_core.specs.LinkedOnce.{AreOnce}
-use Rattle.graph_core.specs.GraphPlan.{pad_id, owner_of, spans_from, sink_at, sink_count, line_plan}
-use Rattle.graph_core.proofs.NumberedPads.{owner_at, found_in}
+use Rattle.graph_core.specs.GraphPlan.{pad_id, spans_from, sink_at, sink_count, line_plan}
+use Rattle.graph_core.proofs.NumberedPads.{found_in, same_pad as same_number}
 use Rattle.graph_core.proofs.Orders.{pads_at_link}
 use Rattle.graph_parts.specs.MomentLaws.{LinksLead, UnlinkedLead}
-use Rattle.graph_parts.proofs.Sources.{port_at, sinks_are, few_there, linked_there}
-use Rattle.gst_value.proofs.Basics.{none_some, some_same}
+use Rattle.graph_parts.proofs.Sources.{sinks_are, few_there, linked_there}
+use Rattle.gst_value.proofs.Basics.{none_some, some_same, false_of as not_so, number_itself}
 
 -- at some sink pads from one on a source pad leads nowhere
 nowhere_from : (p : ℕ) (f : ℕ → List Span) (start n : ℕ) → ((k : ℕ) → start ≤ k → links_from p (f k) ≡ false) → LinksNowhere p (map f (range_with_len start n))
@@ -37,14 +37,9 @@ leads_at p f j (suc i) start (suc n) is few none here =
 place_of : ℕ → ℕ → PadPlace
 place_of element pad = record { element = element; pad = pad }
 
-alike : (one other : PadPlace) → one.element ≡ other.element → one.pad ≡ other.pad → one ≡ other
+pub alike : (one other : PadPlace) → one.element ≡ other.element → one.pad ≡ other.pad → one ≡ other
 unfolding place_of
 alike one other e p = ap (λ (n : ℕ). place_of n one.pad) e ∙ ap (λ (n : ℕ). place_of other.element n) p
-
--- a number is that of one pad
-same_number : (one other : PadPlace) → one.pad < 64 → other.pad < 64 → pad_id one ≡ pad_id other → one ≡ other
-same_number one other few few' e =
-    alike one other (sym (owner_at one few) ∙ ap owner_of e ∙ owner_at other few') (sym (port_at one few) ∙ ap (λ n. Rattle.std.proofs.Common.◌%◌ n 64) e ∙ port_at other few')
 
 same_place : (one other : PadPlace) → is_same one other ≡ true → one ≡ other
 same_place one other e = go (eqb_tells one.element other.element) (eqb_tells one.pad other.pad) e
@@ -60,17 +55,6 @@ same_place one other e = go (eqb_tells one.element other.element) (eqb_tells one
       where
         no : false ≡ true → ⊥
         no e = cc
-
-not_so : (b : Bool) → (b ≡ true → ⊥) → b ≡ false
-not_so true n = absurd (n refl)
-not_so false n = refl
-
-number_itself : (n : ℕ) → eqb n n ≡ true
-number_itself n = go (eqb_tells n n)
-  where
-    go : ((eqb n n ≡ true) × (n ≡ n)) ⊎ ((eqb n n ≡ false) × (n ≡ n → ⊥)) → eqb n n ≡ true
-    go (inl t) = t.0
-    go (inr f) = absurd (f.1 refl)
 
 -- the link of a sink pad comes from its source pad
 from_itself : (source : PadPlace) → links_from (pad_id source) (spans_from (Some source)) ≡ true

@@ -4,7 +4,8 @@ use Rattle.std.specs.Prelude.{slice_get}
 use Rattle.std.proofs.lemmas.Option.{slice_get_within}
 use Rattle.graph_parts.specs.Put.{Among, IsPutAt, PutBack, was_kept, was_put}
 use Rattle.graph_parts.specs.Single.{IsAt, IsNone, IsSingle, IsValue}
-use Rattle.graph_parts.proofs.Slots.{below_or}
+use Rattle.gst_value.proofs.Basics.{less_or_last as below_or, some_same as same_some}
+use Rattle.gst_value.proofs.Places.{get_last}
 
 -- What belongs under numbers is of two kinds.
 pub record Joins {X : Type 0} (First Second All : ℕ → X → Type 0) : Type 0 where
@@ -39,13 +40,6 @@ put_alike {A} Here There old new to back put = record { count = put.count; each 
     by : (n : ℕ) → IsPutAt Here old new n → IsPutAt There old new n
     by n (was_put x here is) = was_put x (to n x here) is
     by n (was_kept none same) = was_kept (λ x there. none x (back n x there)) same
-
-pub same_some : {A : Type 0} {x y : A} → Some x ≡ Some y → x ≡ y
-same_some h = cc
-
-get_last : {A : Type 0} (front : List A) (x : A) → slice_get (front ++ x ∷ []) (length front) ≡ Some x
-get_last [] x = refl
-get_last (y ∷ ys) x = get_last ys x
 
 get_front : {A : Type 0} (front : List A) (x : A) (n : ℕ) (y : A) → slice_get front n ≡ Some y → slice_get (front ++ x ∷ []) n ≡ Some y
 get_front [] x n y is = absurd (cc)

@@ -3,13 +3,13 @@ use Rattle.std.proofs.Common.{◌≡◌, ◌<◌, ◌⊎◌, ◌+◌, ℕ, suc, 
 use Rattle.std.proofs.lemmas.List.{reverse-append, length-reverse}
 use Rattle.flow_model.specs.Account.{IsMember}
 use Rattle.graph_order.specs.Forward.{IsMember as IsOrdered}
-use Rattle.graph_core.specs.Elements.{Made}
+use Rattle.graph_core.specs.Elements.{Made, has}
 use Rattle.graph_core.specs.Graph.{IsSound, made as made_in, links as links_in, forward as forward_in}
 use Rattle.graph_core.specs.Links.{HasPads}
 use Rattle.graph_core.specs.declared.graph.Graph.{Graph}
 use Rattle.graph_pads.specs.declared.pad.PadLink.{PadLink}
 use Rattle.graph_core.specs.LinkedOnce.{AreOnce}
-use Rattle.graph_parts.specs.Links.{has, is_head, inside, pads_of, Reaches}
+use Rattle.graph_parts.specs.Links.{is_head, inside, pads_of, Reaches}
 use Rattle.graph_parts.specs.Bags.{number_of, HavePads, GoBack, DepthFirst}
 use Rattle.graph_parts.specs.Walk.{Goes, EndsWith, AreReached}
 use Rattle.graph_parts.specs.declared.bag.BagElement.{BagElement}

@@ -2,7 +2,7 @@
 use Rattle.std.proofs.Common.{◌≡◌, ℕ, zero, suc, Bool, true, false, if◌then◌else◌, List, [], ◌∷◌, ◌++◌, Option, None, Some, map, refl, sym, ap, subst}
 use Rattle.std.specs.Prelude.{slice_get}
 use Rattle.std.specs.Option.{option_map_or}
-use Rattle.pad_core.specs.Crossing.{has_ended, has_item}
+use Rattle.pad_core.specs.Crossing.{has_ended}
 use Rattle.flow_model.specs.Item.{Item, is_flush_stop, is_eos}
 use Rattle.flow_model.specs.Sticky.{has_flush_stop, latest, since_flush_stop}
 use Rattle.flow_model.specs.Prefix.{nothing}
@@ -37,6 +37,7 @@ use Rattle.graph_parts.specs.Pads.{pad_owner}
 use Rattle.graph_parts.specs.Plans.{moment_plan, moment_answers, tight_rule}
 use Rattle.graph_parts.specs.MomentLaws.{MomentStarts, MomentStands, RulesGoOn, OwesNoneAtFirst, SourcesWait, given_by, SectionsAreOne, SectionsArePlain, OwesNoneBehind}
 use Rattle.el_set.proofs.Ruled.{single_rule, opens, joins_plain}
+use Rattle.gst_item.specs.Item.{has_item}
 
 untouched : (source : Option PadPlace) → IsUntouched (spans_from source)
 untouched None = free

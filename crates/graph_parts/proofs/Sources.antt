@@ -4,7 +4,6 @@ use Rattle.std.specs.Prelude.{nat_lt, slice_get}
 use Rattle.std.specs.List.{range_with_len}
 use Rattle.std.specs.Option.{option_map_or}
 use Rattle.std.proofs.lemmas.Bool.{lt-ltb, ltb-true}
-use Rattle.std.proofs.lemmas.Nat.{mod-mul-add}
 use Rattle.flow_model.specs.Account.{EachSource, EachSourceOf, GoesForward, IsMember}
 use Rattle.el_settings.specs.Asked.{is_sink, sink_pads, source_pads}
 use Rattle.el_settings.proofs.Roles.{end_no_source_pad}
@@ -18,20 +17,12 @@ use Rattle.graph_pads.specs.declared.pad.PadLink.{PadLink}
 use Rattle.graph_pads.specs.declared.pad.PadPlace.{PadPlace}
 use Rattle.graph_order.proofs.Once.{within}
 use Rattle.graph_core.specs.GraphPlan.{pad_id, owner_of, spans_from, sink_at, sink_count, graph_plan, line_plan, rule_for}
-use Rattle.graph_core.proofs.NumberedPads.{owner_at, found_in, goes_forward}
-use Rattle.graph_core.proofs.Orders.{pads_at_link, graph_goes, order_size, order_covers, listed, member}
-use Rattle.el_settings.proofs.Padded.{few_sources as few_settings}
-use Rattle.graph_parts.specs.Pads.{source_count, IsThere, is_pad, pad_owner}
+use Rattle.graph_core.proofs.NumberedPads.{owner_at, found_in, goes_forward, port_at}
+use Rattle.graph_core.proofs.Orders.{pads_at_link, graph_goes, order_size, order_covers, listed, member, few_pads as few_sources}
+use Rattle.graph_parts.specs.Pads.{IsThere, is_pad, pad_owner}
 use Rattle.graph_parts.specs.Plans.{moment_plan, tight_plan, tight_rule}
 use Rattle.graph_parts.proofs.Owners.{FromPads, RulesAlike, goes_owned}
-
-pub port_at : (place : PadPlace) → place.pad < 64 → pad_id place % 64 ≡ place.pad
-port_at place few = mod-mul-add place.element 64 place.pad few
-
--- an element has few pads
-few_sources : (found : Option Made) (pad : ℕ) → pad < option_map_or (λ (m : Made). source_pads m.settings) found 0 → pad < 64
-few_sources None pad w = absurd (omega (arith, w))
-few_sources (Some m) pad w = let few = few_settings m.settings in omega (arith, w, few)
+use Rattle.graph_parts.specs.Links.{source_count}
 
 pub sinks_are : (found : Option Made) → option_map_or (λ (m : Made). sink_pads m.settings) found 0 ≡ sink_count found
 sinks_are None = refl

@@ -9,7 +9,7 @@ use Rattle.std.proofs.lemmas.Option.{slice_get_within}
 use Rattle.flow_model.specs.Account.{IsMember}
 use Rattle.el_settings.specs.Asked.{is_queue, is_source, makes_sinks, sink_pads}
 use Rattle.el_settings.proofs.Roles.{source_no_sink}
-use Rattle.graph_core.specs.Elements.{Made}
+use Rattle.graph_core.specs.Elements.{Made, has}
 use Rattle.graph_core.specs.Links.{HasPads}
 use Rattle.graph_pads.specs.Links.{is_same, sink_behind, source_before}
 use Rattle.graph_pads.specs.declared.pad.PadLink.{PadLink}
@@ -19,10 +19,12 @@ use Rattle.el_settings.proofs.Padded.{one_sink}
 use Rattle.graph_parts.specs.declared.bag.BagLink.{BagLink}
 use Rattle.graph_parts.specs.declared.bag.BagLink.TheVariants.{Nothing, Element, Lane}
 use Rattle.graph_parts.specs.declared.bag.BagPad.{BagPad}
-use Rattle.graph_parts.specs.Links.{has, has_inlets, is_head, source_count, place_at, link_to, pad_at, pads_of, led_to, inside, LeadsInside, Reaches}
+use Rattle.graph_parts.specs.Links.{has_inlets, is_head, source_count, link_to, pad_at, pads_of, led_to, inside, LeadsInside, Reaches}
 use Rattle.graph_parts.specs.Bags.{Once}
 use Rattle.graph_parts.proofs.Walks.{IsTree}
 use Rattle.gst_value.proofs.Basics.{some_same, none_some, no_true}
+use Rattle.graph_parts.proofs.MomentLeading.{alike}
+use Rattle.graph_core.specs.GraphPlan.{sink_at as place_at}
 
 -- the numbers of a range
 pub range_holds : (start n k : ℕ) → IsMember k (range_with_len start n) → (start ≤ k) × (k < start + n)
@@ -119,13 +121,6 @@ no_joins false joins none = none
 only_sink : (found : Option Made) (pad : ℕ) → option_map_or (λ (m : Made). has_inlets m.settings) found false ≡ false → pad < option_map_or (λ (m : Made). sink_pads m.settings) found 0 → pad ≡ 0
 only_sink None pad none w = absurd (omega (arith, w))
 only_sink (Some m) pad none w = let few = one_sink m.settings (no_joins (is_queue m.settings) (makes_sinks m.settings) none) in omega (arith, few, w)
-
-place_of : ℕ → ℕ → PadPlace
-place_of element pad = record { element = element; pad = pad }
-
-alike : (one other : PadPlace) → one.element ≡ other.element → one.pad ≡ other.pad → one ≡ other
-unfolding place_of
-alike one other e p = ap (λ (n : ℕ). place_of n one.pad) e ∙ ap (λ (n : ℕ). place_of other.element n) p
 
 -- no head has a sink pad of its own task
 no_head_there : (found : Option Made) (pad : ℕ) → option_map_or (λ (m : Made). is_head m.settings) found false ≡ true → option_map_or (λ (m : Made). has_inlets m.settings) found false ≡ false

@@ -15,12 +15,13 @@ use Rattle.graph_core.specs.Elements.{Made}
 use Rattle.graph_core.specs.Graph.{IsSound, made as made_in, forward as forward_in}
 use Rattle.graph_core.specs.declared.graph.Graph.{Graph}
 use Rattle.graph_core.specs.GraphPlan.{graph_plan, line_plan, owner_of, pad_id}
-use Rattle.graph_parts.specs.Pads.{source_count, is_pad, pad_owner, at_pads}
+use Rattle.graph_parts.specs.Pads.{is_pad, pad_owner, at_pads}
 use Rattle.graph_parts.specs.Plans.{moment_plan, tight_plan}
 use Rattle.graph_parts.specs.MomentLaws.{HasNumber, place_of, PadsHaveNumbers, NumbersHavePads, TightIsAlike, OrdersAreWhole, MomentIsGraph, IsIdle, IsWhole, EndIsGraph}
 use Rattle.graph_parts.proofs.Owners.{eval_alike, whole_alike, uncounted}
-use Rattle.graph_parts.proofs.Sources.{place_is_pad, port_at, owner_is, from_pads, owners_alike, rules_alike, few_there, moment_goes, in_order, of_order}
-use Rattle.graph_core.proofs.NumberedPads.{owner_at}
+use Rattle.graph_parts.proofs.Sources.{place_is_pad, owner_is, from_pads, owners_alike, rules_alike, few_there, moment_goes, in_order, of_order}
+use Rattle.graph_core.proofs.NumberedPads.{owner_at, port_at}
+use Rattle.graph_parts.specs.Links.{source_count}
 
 pub pads_have_numbers : PadsHaveNumbers
 pads_have_numbers made place there =
@@ -78,7 +79,7 @@ member_pad graph sound p m = go (is_pad (made_in graph) p) (of_order graph sound
     go false w = absurd (omega (arith, w))
 
 -- a moment with this plan
-abbrev at_plan : Moment → Plan → Moment
+abbrev pub at_plan : Moment → Plan → Moment
 at_plan m plan = record m { plan = plan }
 
 module _ (contents : ℕ → List ℕ) (graph : Graph) (m : Moment) (sound : IsSound graph) where

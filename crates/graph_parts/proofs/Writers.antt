@@ -18,6 +18,7 @@ use Rattle.graph_core.specs.declared.graph.Graph.{Graph}
 use Rattle.run_files.specs.declared.end.Opening.TheVariants.{Read, Write}
 use Rattle.graph_parts.specs.Files.{opening_of}
 use Rattle.graph_parts.proofs.OwnFiles.{reader, writer}
+use Rattle.gst_value.proofs.Basics.{neither, same_or_other}
 
 -- one element more at the end of a list
 push_cases : {A : Type 0} (xs : List A) (y x : A) (k : ℕ) → slice_get (xs ++ y ∷ []) k ≡ Some x → (slice_get xs k ≡ Some x) ⊎ ((k ≡ length xs) × (y ≡ x))
@@ -29,11 +30,6 @@ push_cases (z ∷ xs) y x (suc k) e = go (push_cases xs y x k e)
     go : (slice_get xs k ≡ Some x) ⊎ ((k ≡ length xs) × (y ≡ x)) → (slice_get xs k ≡ Some x) ⊎ ((suc k ≡ suc (length xs)) × (y ≡ x))
     go (inl h) = inl h
     go (inr h) = inr (ap suc h.0, h.1)
-
--- where it is false that one of two holds, both are false
-neither : (one other : Bool) → (one || other) ≡ false → (one ≡ false) × (other ≡ false)
-neither true other h = absurd (cc)
-neither false other h = (refl, h)
 
 -- where no element passes a test, that at a place does not
 none_passes : {A : Type 0} (p : A → Bool) (xs : List A) (k : ℕ) (x : A) → list_any p xs ≡ false → slice_get xs k ≡ Some x → p x ≡ false
@@ -82,18 +78,6 @@ none_apart = λ d e m n first second before. absurd (none-some m first)
 -- nothing is both
 never_both : {b : Bool} → b ≡ true → b ≡ false → ⊥
 never_both is is_not = let both = sym is ∙ is_not in cc
-
--- two numbers are one, or one of them comes first
-same_or_other : (d e : ℕ) → (d ≡ e) ⊎ ((d < e) ⊎ (e < d))
-same_or_other zero zero = inl refl
-same_or_other zero (suc e) = inr (inl (omega arith))
-same_or_other (suc d) zero = inr (inr (omega arith))
-same_or_other (suc d) (suc e) = by (same_or_other d e)
-  where
-    by : (d ≡ e) ⊎ ((d < e) ⊎ (e < d)) → (suc d ≡ suc e) ⊎ ((suc d < suc e) ⊎ (suc e < suc d))
-    by (inl same) = inl (ap suc same)
-    by (inr (inl before)) = inr (inl (omega (arith, before)))
-    by (inr (inr behind)) = inr (inr (omega (arith, behind)))
 
 module _ (tree : Tree) (graph : Graph) (is : IsGraph tree graph) (d e : ℕ) (m n : Made) (location : List ℕ) where
   -- the elements of a graph are apart

@@ -1,19 +1,20 @@
 -- What follows for the bags of a graph.
 use Rattle.std.specs.Prelude.{◌≡◌, ◌<◌, ℕ, false, true, List, All, Option, None, Some, length, slice_get}
 use Rattle.flow_model.specs.Account.{IsMember}
-use Rattle.graph_core.specs.Elements.{Made}
+use Rattle.graph_core.specs.Elements.{Made, has}
 use Rattle.graph_core.specs.Links.{HasPads}
 use Rattle.graph_pads.specs.Links.{sink_behind}
 use Rattle.graph_pads.specs.declared.pad.PadLink.{PadLink}
 use Rattle.graph_pads.specs.declared.pad.PadPlace.{PadPlace}
 use Rattle.graph_core.specs.LinkedOnce.{AreOnce}
-use Rattle.graph_parts.specs.Links.{has, has_inlets, is_head, source_count, place_at, LeadsInside}
+use Rattle.graph_parts.specs.Links.{has_inlets, is_head, source_count, LeadsInside}
 use Rattle.graph_parts.specs.Bags.{cells, numbers, head_of, IsBag, AreBags}
 use Rattle.graph_parts.specs.declared.bag.Bag.{Bag}
 use Rattle.graph_parts.specs.declared.bag.BagElement.{BagElement}
 use Rattle.graph_parts.specs.declared.bag.BagLink.{BagLink}
 use Rattle.graph_parts.specs.declared.bag.BagLink.TheVariants.{Nothing, Element, Lane}
 use Rattle.graph_parts.specs.declared.bag.BagPad.{BagPad}
+use Rattle.graph_core.specs.GraphPlan.{sink_at as place_at}
 
 -- an element stands in the bag of this number
 pub record StandsIn (bags : List Bag) (k e : ℕ) : Type 0 where

@@ -2,9 +2,9 @@
 use Rattle.std.specs.Prelude.{◌≡◌, ℕ, true, List, [], ◌∷◌, ◌++◌, All, filter, length, map}
 use Rattle.std.specs.List.{range_with_len}
 use Rattle.flow_model.specs.Account.{IsMember}
-use Rattle.graph_core.specs.Elements.{Made}
+use Rattle.graph_core.specs.Elements.{Made, has}
 use Rattle.graph_pads.specs.declared.pad.PadLink.{PadLink}
-use Rattle.graph_parts.specs.Links.{has, has_inlets, is_head, inside, pads_of, Reaches}
+use Rattle.graph_parts.specs.Links.{has_inlets, is_head, inside, pads_of, Reaches}
 use Rattle.el_settings.specs.Asked.{is_source}
 use Rattle.graph_parts.specs.declared.bag.Bag.{Bag}
 use Rattle.graph_parts.specs.declared.bag.BagElement.{BagElement}

@@ -1,9 +1,7 @@
 -- What stands under the numbers of elements: the ends of their files.
-use Rattle.std.specs.Prelude.{ℕ, Bool, false, List, Option, None, Some, if◌then◌else◌, slice_get, slice_index_or}
-use Rattle.std.specs.Option.{option_map_or}
+use Rattle.std.specs.Prelude.{ℕ, List, Option, None, Some, if◌then◌else◌, slice_index_or}
 use Rattle.el_settings.specs.Asked.{reads, writes}
 use Rattle.el_settings.specs.declared.settings.Settings.{Settings}
-use Rattle.graph_core.specs.Elements.{Made}
 use Rattle.run_files.specs.declared.end.End.{End}
 use Rattle.run_files.specs.declared.end.End.TheVariants.{Src, Snk}
 
@@ -24,7 +22,3 @@ abbrev pub left_by : {S K : Type 0} → Settings → Option (End S K) → Option
 left_by settings None = None
 left_by settings (Some (Src source)) = if reads settings then None else Some (Src source)
 left_by settings (Some (Snk sink)) = if writes settings then None else Some (Snk sink)
-
--- what is asked of the settings of an element, and no where it is not there
-abbrev pub has : (Settings → Bool) → List Made → ℕ → Bool
-has asked made e = option_map_or (λ (m : Made). asked m.settings) (slice_get made e) false

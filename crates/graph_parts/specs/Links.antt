@@ -4,13 +4,14 @@ use Rattle.std.specs.List.{flat_map, range_with_len}
 use Rattle.std.specs.Option.{option_map_or}
 use Rattle.el_settings.specs.Asked.{is_queue, is_source, makes_sinks, source_pads}
 use Rattle.el_settings.specs.declared.settings.Settings.{Settings}
-use Rattle.graph_core.specs.Elements.{Made}
+use Rattle.graph_core.specs.Elements.{Made, has}
 use Rattle.graph_pads.specs.Links.{sink_behind}
 use Rattle.graph_pads.specs.declared.pad.PadLink.{PadLink}
 use Rattle.graph_pads.specs.declared.pad.PadPlace.{PadPlace}
 use Rattle.graph_parts.specs.declared.bag.BagLink.{BagLink}
 use Rattle.graph_parts.specs.declared.bag.BagLink.TheVariants.{Nothing, Element, Lane}
 use Rattle.graph_parts.specs.declared.bag.BagPad.{BagPad}
+use Rattle.graph_core.specs.GraphPlan.{sink_at as place_at}
 
 -- whether an element that is set to this is fed from inlets, so that a link to it is a lane
 abbrev pub has_inlets : Settings → Bool
@@ -20,17 +21,9 @@ has_inlets settings = is_queue settings || makes_sinks settings
 abbrev pub is_head : Settings → Bool
 is_head settings = is_source settings || has_inlets settings
 
--- what is asked of the settings of an element, and no where it is not there
-abbrev pub has : (Settings → Bool) → List Made → ℕ → Bool
-has asked made e = option_map_or (λ (m : Made). asked m.settings) (slice_get made e) false
-
 -- how many source pads an element has, where it is there
 abbrev pub source_count : List Made → ℕ → ℕ
 source_count made e = option_map_or (λ (m : Made). source_pads m.settings) (slice_get made e) 0
-
--- the pad of a number at an element
-abbrev pub place_at : ℕ → ℕ → PadPlace
-place_at e k = record { element = e; pad = k }
 
 -- where a source pad leads that is linked to this sink pad, or to none
 abbrev pub link_to : List Made → Option PadPlace → BagLink

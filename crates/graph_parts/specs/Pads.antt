@@ -1,15 +1,10 @@
 -- The numbers of a graph's source pads.
-use Rattle.std.specs.Prelude.{◌<◌, ◌%◌, ℕ, Bool, List, [], if◌then◌else◌, length, nat_lt, slice_get}
-use Rattle.std.specs.Option.{option_map_or}
+use Rattle.std.specs.Prelude.{◌<◌, ◌%◌, ℕ, Bool, List, [], if◌then◌else◌, length, nat_lt}
 use Rattle.flow_model.specs.Item.{Item}
-use Rattle.el_settings.specs.Asked.{source_pads}
 use Rattle.graph_core.specs.Elements.{Made}
 use Rattle.graph_pads.specs.declared.pad.PadPlace.{PadPlace}
 use Rattle.graph_core.specs.GraphPlan.{most_pads, owner_of}
-
--- how many source pads an element has, where it is there
-abbrev pub source_count : List Made → ℕ → ℕ
-source_count made e = option_map_or (λ (m : Made). source_pads m.settings) (slice_get made e) 0
+use Rattle.graph_parts.specs.Links.{source_count}
 
 -- a source pad that is there
 abbrev pub IsThere : List Made → PadPlace → Type 0

@@ -1,8 +1,7 @@
 -- The plan of a graph for the moments of its run.
 use Rattle.std.specs.Prelude.{ℕ, List, Option, None, Some, if◌then◌else◌, slice_get}
-use Rattle.flow_model.specs.Rule.{Rule, passes}
+use Rattle.flow_model.specs.Rule.{Rule, passes, Answers}
 use Rattle.flow_model.specs.Eval.{Plan}
-use Rattle.net_model.specs.Moment.{Answers}
 use Rattle.el_settings.specs.Asked.{is_sink}
 use Rattle.el_set.specs.Denoted.{answers_by, answers_of}
 use Rattle.task_elements.specs.Stands.{owes_nothing}

@@ -3,7 +3,7 @@ ghost use Rattle.std.specs.Prelude.{◌≡◌};
 ghost use Rattle.graph_core.specs.Graph.{made as made_in};
 ghost use Rattle.graph_parts.specs.Back.{Gives, GivesBack, HasHead, HasLength, HasPart, HasSource, IsHead, IsPart, Wrote, read_end, written_end};
 ghost use Rattle.el_settings.specs.Asked.{reads, writes};
-ghost use Rattle.graph_parts.specs.Ends.{has};
+ghost use Rattle.graph_core.specs.Elements.{has};
 ghost use Rattle.graph_parts.specs.Put.{Among, PutBack};
 ghost use Rattle.graph_parts.specs.Single.{IsAt, IsNone, IsSingle};
 ghost use Rattle.task_elements.specs.Stands.{file_in};

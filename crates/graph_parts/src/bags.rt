@@ -2,7 +2,8 @@
 ghost use Rattle.std.specs.Prelude.{◌≡◌, ◌<◌, ◌++◌, ◌∷◌, [], List, true, false, length, IfOk};
 ghost use Rattle.graph_core.specs.Graph.{IsSound, made as made_in, links as links_in};
 ghost use Rattle.graph_core.specs.LinkedOnce.{AreOnce};
-ghost use Rattle.graph_parts.specs.Links.{has, is_head};
+ghost use Rattle.graph_parts.specs.Links.{is_head};
+ghost use Rattle.graph_core.specs.Elements.{has};
 ghost use Rattle.graph_parts.specs.Bags.{cells, AreBags};
 ghost use Rattle.graph_parts.specs.Walk.{IsBagOf};
 ghost use Rattle.graph_parts.specs.declared.bag.BagElement.{BagElement as CellOf};

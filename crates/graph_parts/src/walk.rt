@@ -2,7 +2,8 @@
 ghost use Rattle.std.specs.Prelude.{◌≡◌, ◌<◌, ◌++◌, true, length, IfOk};
 ghost use Rattle.graph_core.specs.Graph.{IsSound, made as made_in, links as links_in};
 ghost use Rattle.graph_core.specs.LinkedOnce.{AreOnce};
-ghost use Rattle.graph_parts.specs.Links.{has, has_inlets, is_head, link_to, led_to, inside, pads_of};
+ghost use Rattle.graph_parts.specs.Links.{has_inlets, is_head, link_to, led_to, inside, pads_of};
+ghost use Rattle.graph_core.specs.Elements.{has};
 ghost use Rattle.graph_parts.specs.Walk.{Goes, AreReached};
 
 use crate::bag::{BagElement, BagLink, BagPad};

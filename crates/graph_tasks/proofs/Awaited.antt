@@ -24,15 +24,15 @@ use Rattle.graph_core.specs.Elements.{Made}
 use Rattle.graph_core.specs.Graph.{IsSound, made as made_in, links as links_in}
 use Rattle.graph_core.specs.declared.graph.Graph.{Graph}
 use Rattle.graph_pads.specs.declared.pad.PadPlace.{PadPlace}
-use Rattle.graph_core.specs.GraphPlan.{line_plan, owner_of}
-use Rattle.graph_parts.specs.Links.{place_at}
+use Rattle.graph_core.specs.GraphPlan.{line_plan, owner_of, sink_at as place_at}
 use Rattle.graph_parts.specs.MomentLaws.{place_of}
-use Rattle.graph_parts.specs.Pads.{is_pad, pad_owner, source_count}
+use Rattle.graph_parts.specs.Pads.{is_pad, pad_owner}
 use Rattle.graph_parts.specs.Plans.{moment_plan, tight_rule}
 use Rattle.graph_parts.proofs.Sources.{owner_is, rule_at}
 use Rattle.graph_tasks.specs.Owed.{IsAwaited, IsNext, inputs_to, owed_by, went_from}
 use Rattle.graph_tasks.specs.Runs.{RunStands, crossed_in}
 use Rattle.graph_tasks.proofs.Came.{given_is, leads_from, number_at, there_at}
+use Rattle.graph_parts.specs.Links.{source_count}
 
 not_there : (front rest : List Item) (x : Item) → [] ≡ front ++ x ∷ rest → ⊥
 not_there [] rest x e = cc

@@ -3,18 +3,21 @@ use Rattle.std.proofs.Common.{◌≡◌, ◌⊎◌, ◌++◌, ℕ, false, List, 
 use Rattle.std.specs.Prelude.{slice_get}
 use Rattle.std.proofs.lemmas.Option.{slice_get_within}
 use Rattle.flow_model.specs.Account.{IsMember}
-use Rattle.graph_core.specs.Elements.{Made}
+use Rattle.graph_core.specs.Elements.{Made, has}
 use Rattle.graph_core.specs.Links.{HasPads}
 use Rattle.graph_pads.specs.declared.pad.PadLink.{PadLink}
-use Rattle.graph_parts.specs.Links.{has, Reaches}
+use Rattle.graph_parts.specs.Links.{Reaches}
 use Rattle.el_settings.specs.Asked.{is_source}
 use Rattle.graph_parts.specs.Bags.{number_of, head_cells, cells, numbers, head_number, head_of, IsHead, IsBag}
 use Rattle.graph_parts.specs.declared.bag.Bag.{Bag}
 use Rattle.graph_parts.specs.declared.bag.BagElement.{BagElement}
 use Rattle.graph_parts.specs.declared.bag.BagHead.{BagHead}
 use Rattle.graph_parts.specs.declared.bag.BagHead.TheVariants.{Source, Inlets}
-use Rattle.graph_tasks.proofs.Lists.{get_map, get_front, get_last, get_member, place_once}
 use Rattle.graph_tasks.proofs.Graphs.{inlets_no_source, reached_by}
+use Rattle.flow_model.proofs.Items.{get_member}
+use Rattle.graph_parts.proofs.Apart.{place_once}
+use Rattle.graph_tasks.proofs.Flats.{at_front as get_front}
+use Rattle.gst_value.proofs.Places.{get_last, map_get as get_map}
 
 module _ (made : List Made) (links : List PadLink) (bag : Bag) (is : IsBag made links bag) where
   -- an element has its place among the numbers

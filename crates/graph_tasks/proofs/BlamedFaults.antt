@@ -1,5 +1,5 @@
 -- Why a task of a graph met a fault, by the graph alone.
-use Rattle.std.proofs.Common.{◌≡◌, ◌<◌, ℕ, suc, true, false, List, [], ◌∷◌, Option, None, Some, length, map, refl, sym, ap, ◌∙◌, subst, arith}
+use Rattle.std.proofs.Common.{◌≡◌, ◌<◌, ℕ, true, false, List, ◌∷◌, Option, None, Some, length, map, refl, sym, ap, ◌∙◌, subst, arith}
 use Rattle.std.specs.Prelude.{slice_get}
 use Rattle.std.proofs.lemmas.List.FromFn.{length-map-range_with_len}
 use Rattle.gst_outside.specs.declared.sink.Sink as sinks
@@ -11,7 +11,7 @@ use Rattle.lane_core.specs.Lane.{Lane}
 use Rattle.lane_core.specs.declared.ends.Inlet as inlets
 use Rattle.lane_core.specs.declared.ends.Outlet as outlets
 use Rattle.net_model.specs.Failures.{IsWriteCause}
-use Rattle.net_model.specs.Moment.{Answers, Moment, behavior_at}
+use Rattle.net_model.specs.Moment.{Moment, behavior_at}
 use Rattle.net_model.specs.Split.{AreEmpty}
 use Rattle.net_model.specs.Step.{Leads}
 use Rattle.net_model.specs.declared.element.TaskElement as elements
@@ -22,11 +22,11 @@ use Rattle.net_model.specs.declared.source.TaskSource as sources
 use Rattle.net_model.specs.Refuses.{RefusesBy}
 use Rattle.el_settings.specs.Asked.{is_source, sink_pads}
 use Rattle.el_set.specs.Denoted.{answers_of}
-use Rattle.graph_core.specs.Elements.{Made}
+use Rattle.graph_core.specs.Elements.{Made, has}
 use Rattle.graph_core.specs.Graph.{made as made_in, links as links_in}
 use Rattle.graph_core.specs.declared.graph.Graph.{Graph}
-use Rattle.graph_core.specs.GraphPlan.{owner_of, sink_count}
-use Rattle.graph_parts.specs.Links.{has, has_inlets, place_at, source_count}
+use Rattle.graph_core.specs.GraphPlan.{owner_of, sink_count, sink_at as place_at}
+use Rattle.graph_parts.specs.Links.{has_inlets, source_count}
 use Rattle.graph_parts.specs.declared.bag.Bag.{Bag}
 use Rattle.graph_parts.specs.MomentLaws.{place_of}
 use Rattle.graph_parts.specs.Plans.{answers_for}
@@ -60,6 +60,8 @@ use Rattle.graph_tasks.proofs.FedHeads.{head_fed}
 use Rattle.graph_tasks.proofs.FirstHeld.{IsFirstHeld, first_within, next_held, split_first}
 use Rattle.graph_tasks.proofs.InOrder.{runs_stand}
 use Rattle.gst_value.proofs.Basics.{none_some}
+use Rattle.graph_tasks.proofs.EndedBags.{map_length as map_size}
+use Rattle.flow_model.specs.Rule.{Answers}
 
 not_both : true ≡ false → ⊥
 not_both e = cc
@@ -73,10 +75,6 @@ record HasSinkAt (found : Option Made) (pad : ℕ) : Type 0 where
 sink_at : (found : Option Made) (pad : ℕ) → pad < sink_count found → HasSinkAt found pad
 sink_at None pad w = absurd (omega (arith, w))
 sink_at (Some m) pad w = record { element = m; at = refl; few = w }
-
-map_size : {A B : Type 0} (f : A → B) (xs : List A) → length (map f xs) ≡ length xs
-map_size f [] = refl
-map_size f (x ∷ xs) = ap suc (map_size f xs)
 
 -- only a sink writes
 writes_none : {K : Type 0} (bytes : K → Option (List ℕ)) (faults : K → ℕ) (was : StreamElement K) (behavior : _) (took : List (List Call))

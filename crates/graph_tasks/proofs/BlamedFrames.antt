@@ -8,33 +8,29 @@ use Rattle.lane_core.specs.declared.ends.Outlet as outlets
 use Rattle.net_model.specs.declared.element.TaskElement as elements
 use Rattle.net_model.specs.declared.source.TaskSource as sources
 use Rattle.el_settings.specs.Asked.{source_pads, is_source}
-use Rattle.graph_core.specs.Elements.{Made}
+use Rattle.graph_core.specs.Elements.{Made, has}
 use Rattle.graph_core.specs.Links.{HasPads}
 use Rattle.graph_pads.specs.Links.{sink_behind}
 use Rattle.graph_pads.specs.declared.pad.PadLink.{PadLink}
 use Rattle.graph_pads.specs.declared.pad.PadPlace.{PadPlace}
 use Rattle.graph_parts.specs.Bags.{AreBags, IsBag, IsHead, head_cells, number_of, numbers}
-use Rattle.graph_parts.specs.Links.{has, has_inlets, link_to, place_at, source_count}
+use Rattle.graph_parts.specs.Links.{has_inlets, link_to, source_count}
 use Rattle.graph_parts.specs.declared.bag.Bag.{Bag}
 use Rattle.graph_parts.specs.declared.bag.BagElement.{BagElement}
 use Rattle.graph_parts.specs.declared.bag.BagHead.{BagHead}
 use Rattle.graph_parts.specs.declared.bag.BagHead.TheVariants.{Inlets, Source}
 use Rattle.graph_parts.specs.declared.bag.BagLink.TheVariants.{Element, Lane}
 use Rattle.graph_parts.proofs.Apart.{bags_are_there}
-use Rattle.graph_core.specs.GraphPlan.{pad_id}
+use Rattle.graph_core.specs.GraphPlan.{pad_id, sink_at as place_at}
 use Rattle.task_pads.specs.Behind.{inside, nowhere}
 use Rattle.net_task.specs.declared.task.Task.{Task}
 use Rattle.net_task.specs.Frame.{HeadFrame, IsWire, PartFrame, TaskFrame, Wire, by_inlets, by_source, frame_of, head_wire, of_head, of_part}
 use Rattle.graph_tasks.proofs.Awaited.{element_at}
 use Rattle.graph_tasks.specs.Frames.{HaveBags, IsFrameOf, IsHeadFrame, IsPartFrame, IsWireOf, goes_by}
 use Rattle.gst_value.proofs.Basics.{some_same, none_some}
+use Rattle.gst_value.proofs.Places.{found_at as got_within}
 
-got_within : {A : Type 0} (xs : List A) (k : ℕ) → k < length xs → (x : A) × (slice_get xs k ≡ Some x)
-got_within [] k few = absurd (omega (arith, few))
-got_within (x ∷ xs) zero few = (x, refl)
-got_within (x ∷ xs) (suc k) few = got_within xs k (omega (arith, few))
-
-all_at : {A : Type 0} (P : A → Type 0) (xs : List A) → All P xs → (k : ℕ) (x : A) → slice_get xs k ≡ Some x → P x
+pub all_at : {A : Type 0} (P : A → Type 0) (xs : List A) → All P xs → (k : ℕ) (x : A) → slice_get xs k ≡ Some x → P x
 all_at P [] all k x at = absurd (none_some at)
 all_at P (y ∷ xs) all zero x at = subst P (some_same at) (all 0 y (omega arith))
 all_at P (y ∷ xs) all (suc k) x at = all_at P xs (λ j d w. all (suc j) d (omega (arith, w))) k x at

@@ -13,11 +13,11 @@ use Rattle.task_pads.specs.declared.pad.Pad.{Pad}
 use Rattle.task_pads.proofs.Few.{few_crossed}
 use Rattle.task_parts.specs.declared.head.Head.{Head}
 use Rattle.task_parts.specs.declared.head.Head.TheVariants.{Inlets, Source}
-use Rattle.task_parts.proofs.Lists.{get_map}
 use Rattle.net_task.specs.declared.task.Task.{Task}
 use Rattle.net_task.specs.Frame.{Wire, by_inlets, by_source, frame_of, head_frame, part_frame}
 use Rattle.net_task.specs.Ties.{HeadTied, Ties, nothing_lost}
 use Rattle.net_turns.specs.Net.{HasElement, NetStands, Owns, part, source}
+use Rattle.gst_value.proofs.Places.{map_got as get_map}
 
 few_in : {O : Type 0} (pad : Pad O) (h : List Item) → HasCrossed pad h → length h ≤ 1099511627776
 few_in pad h crossed = let few = few_crossed pad in let count = crossed.crossed in omega (arith, few, count)

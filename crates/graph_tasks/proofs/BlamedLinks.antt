@@ -1,18 +1,15 @@
 -- Source pads of a graph that lead nowhere are not linked.
-use Rattle.std.proofs.Common.{◌≡◌, ℕ, zero, suc, true, false, List, [], ◌∷◌, Option, None, Some, refl, sym, ap, ◌∙◌, subst}
+use Rattle.std.proofs.Common.{◌≡◌, ℕ, true, List, ◌∷◌, Option, None, Some, refl, sym, ap, ◌∙◌, subst}
 use Rattle.flow_model.specs.Eval.{Plan}
 use Rattle.flow_model.specs.Item.{Item, is_buffer}
-use Rattle.flow_model.specs.Link.{Span}
 use Rattle.net_model.specs.Moment.{Moment}
-use Rattle.net_model.specs.Standing.{LinksAt, LinksNowhere}
 use Rattle.net_model.specs.Step.{LeadsNowhere}
 use Rattle.graph_core.specs.Graph.{IsSound, made as made_in, links as links_in}
 use Rattle.graph_pads.specs.Links.{sink_behind}
 use Rattle.graph_core.specs.LinkedOnce.{AreOnce}
 use Rattle.graph_core.specs.declared.graph.Graph.{Graph}
 use Rattle.graph_pads.specs.declared.pad.PadPlace.{PadPlace}
-use Rattle.graph_core.specs.GraphPlan.{owner_of, pad_id}
-use Rattle.graph_parts.specs.Links.{place_at}
+use Rattle.graph_core.specs.GraphPlan.{owner_of, pad_id, sink_at as place_at}
 use Rattle.graph_parts.specs.MomentLaws.{place_of}
 use Rattle.graph_parts.specs.Plans.{moment_plan}
 use Rattle.graph_parts.proofs.MomentLeading.{links_lead}
@@ -21,15 +18,7 @@ use Rattle.graph_parts.proofs.Wholes.{pads_have_numbers}
 use Rattle.graph_tasks.specs.Owed.{WantsLink}
 use Rattle.graph_tasks.specs.Runs.{RunStands, crossed_in}
 use Rattle.graph_tasks.proofs.Awaited.{next_at, waits_at_pad}
-
--- a pad that leads to a sink pad of an element does not lead to none of them
-leads_one : (p i : ℕ) (sss : List (List Span)) → LinksAt p i sss → LinksNowhere p sss → ⊥
-leads_one p i [] at none = at
-leads_one p zero (ss ∷ sss) at none = not_both (sym at.0 ∙ none.0)
-  where
-    not_both : true ≡ false → ⊥
-    not_both e = cc
-leads_one p (suc i) (ss ∷ sss) at none = leads_one p i sss at.1 none.1
+use Rattle.net_turns.proofs.Facts.{at_nowhere as leads_one}
 
 module _ (contents : ℕ → List ℕ) (graph : Graph) (m : Moment) (sound : IsSound graph) (once : AreOnce (links_in graph)) (run : RunStands contents graph m) where
   -- an element all of whose pads lead nowhere has none that is linked

@@ -14,12 +14,12 @@ use Rattle.task_parts.specs.declared.fault.TaskFault.TheVariants.{NotLinked}
 use Rattle.task_parts.specs.declared.head.Head.{Head}
 use Rattle.task_parts.specs.declared.head.Head.TheVariants.{Inlets, Source}
 use Rattle.task_parts.specs.declared.part.Part.{Part}
-use Rattle.task_parts.proofs.Lists.{map_get}
 use Rattle.net_task.specs.declared.task.Task.{Task}
 use Rattle.net_task.specs.Failed.{Causes, IsUnread, by_element, by_source, full_at, full_head, memory, unlinked}
 use Rattle.net_task.specs.Frame.{TaskFrame, frame_of, head_frame, part_frame}
 use Rattle.graph_tasks.specs.Blamed.{CausesAreTold, IsTold, full, no_memory, not_linked, refused, unread}
 use Rattle.graph_tasks.proofs.BlamedFrames.{HasBag, bag_of, part_there, source_there, wire_alone, wire_there}
+use Rattle.gst_value.proofs.Places.{map_get}
 
 module _ {S E I O L : Type 0} {s : sources.Ghosts S} {e : elements.Ghosts E} {i : inlets.Ghosts I L O} {o : outlets.Ghosts O L} (graph : Graph)
     (bags : List Bag) (sound : IsSound graph)

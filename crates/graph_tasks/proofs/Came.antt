@@ -16,15 +16,15 @@ use Rattle.graph_core.specs.Graph.{IsSound, made as made_in, links as links_in}
 use Rattle.graph_pads.specs.Links.{source_before}
 use Rattle.graph_core.specs.declared.graph.Graph.{Graph}
 use Rattle.graph_pads.specs.declared.pad.PadPlace.{PadPlace}
-use Rattle.graph_core.specs.GraphPlan.{before_it, line_plan, owner_of, pad_id, sink_at, sink_count, spans_from}
-use Rattle.graph_core.proofs.NumberedPads.{given_calls, owner_at}
-use Rattle.graph_parts.specs.Links.{place_at}
+use Rattle.graph_core.specs.GraphPlan.{before_it, line_plan, owner_of, pad_id, sink_at, sink_count, spans_from, sink_at as place_at}
+use Rattle.graph_core.proofs.NumberedPads.{given_calls, owner_at, port_at}
 use Rattle.graph_parts.specs.MomentLaws.{place_of}
-use Rattle.graph_parts.specs.Pads.{IsThere, at_pads, is_pad, source_count}
+use Rattle.graph_parts.specs.Pads.{IsThere, at_pads, is_pad}
 use Rattle.graph_parts.specs.Plans.{moment_plan}
-use Rattle.graph_parts.proofs.Sources.{few_there, linked_there, place_is_pad, port_at}
+use Rattle.graph_parts.proofs.Sources.{few_there, linked_there, place_is_pad}
 use Rattle.graph_tasks.specs.Owed.{came_to, inputs_to}
 use Rattle.gst_value.proofs.Basics.{no_true}
+use Rattle.graph_parts.specs.Links.{source_count}
 
 -- the number of a source pad tells its place
 pub number_at : (p : ℕ) → p ≡ pad_id (place_of p)

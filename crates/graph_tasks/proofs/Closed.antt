@@ -1,8 +1,7 @@
 -- Each element that a task of a bag names is one of it.
-use Rattle.std.proofs.Common.{◌≡◌, ◌<◌, ◌⊎◌, ◌==◌, ◌||◌, ◌&&◌, ℕ, zero, suc, Bool, true, false, eqb, List, [], ◌∷◌, Option, None, Some, map, length, refl, sym, ap, ◌∙◌, subst, inl, inr, arith}
+use Rattle.std.proofs.Common.{◌≡◌, ◌<◌, ◌⊎◌, ◌==◌, ◌||◌, ℕ, zero, suc, Bool, true, false, List, [], ◌∷◌, Option, None, Some, map, length, refl, sym, ap, ◌∙◌, subst, inl, inr, arith}
 use Rattle.std.specs.Prelude.{slice_get}
 use Rattle.std.specs.Option.{option_map_or}
-use Rattle.std.proofs.lemmas.Bool.Decides.{eqb_tells}
 use Rattle.std.proofs.lemmas.List.{map-append}
 use Rattle.std.proofs.lemmas.Option.{slice_get_within}
 use Rattle.flow_model.specs.Account.{IsMember}
@@ -13,12 +12,12 @@ use Rattle.graph_pads.specs.Links.{sink_behind}
 use Rattle.graph_pads.specs.declared.pad.PadLink.{PadLink}
 use Rattle.graph_pads.specs.declared.pad.PadPlace.{PadPlace}
 use Rattle.graph_parts.specs.Bags.{IsBag, IsHead, head_cells, head_number, head_of, number_of, numbers}
-use Rattle.graph_parts.specs.Links.{place_at, source_count, LeadsInside, Reaches}
+use Rattle.graph_parts.specs.Links.{source_count, LeadsInside, Reaches}
 use Rattle.graph_parts.specs.declared.bag.Bag.{Bag}
 use Rattle.graph_parts.specs.declared.bag.BagElement.{BagElement}
 use Rattle.graph_parts.specs.declared.bag.BagHead.{BagHead}
 use Rattle.graph_parts.specs.declared.bag.BagHead.TheVariants as bags
-use Rattle.graph_parts.proofs.Onces.{in_back, in_either, in_front}
+use Rattle.graph_parts.proofs.Onces.{in_either, in_front, in_back}
 use Rattle.graph_parts.proofs.Trees.{sink_there, sinks_at}
 use Rattle.lane_core.specs.declared.ends.Inlet as inlets
 use Rattle.lane_core.specs.declared.ends.Outlet as outlets
@@ -32,6 +31,8 @@ use Rattle.graph_tasks.specs.declared.wired_task.WiredHead.{WiredHead}
 use Rattle.graph_tasks.specs.declared.wired_task.WiredHead.TheVariants.{Source, Inlets}
 use Rattle.graph_tasks.specs.declared.wired_task.WiredPart.{WiredPart}
 use Rattle.graph_tasks.specs.declared.wired_task.WiredTask.{WiredTask}
+use Rattle.gst_value.proofs.Basics.{and_both as both_true, number_itself as same_number, or_true}
+use Rattle.graph_core.specs.GraphPlan.{sink_at as place_at}
 
 -- lists that are the same at each place
 pub maps_same : {A B C : Type 0} (f : A → C) (g : B → C) (xs : List A) (ys : List B) → length xs ≡ length ys
@@ -41,20 +42,6 @@ maps_same f g [] (y ∷ ys) size same = absurd (omega (arith, size))
 maps_same f g (x ∷ xs) [] size same = absurd (omega (arith, size))
 maps_same {C = C} f g (x ∷ xs) (y ∷ ys) size same =
     ap (λ (c : C). c ∷ map f xs) (same 0 x y refl refl) ∙ ap (λ (cs : List C). g y ∷ cs) (maps_same f g xs ys (omega (arith, size)) (λ k a b at to. same (suc k) a b at to))
-
-same_number : (n : ℕ) → eqb n n ≡ true
-same_number n = go (eqb_tells n n)
-  where
-    go : ((eqb n n ≡ true) × (n ≡ n)) ⊎ ((eqb n n ≡ false) × (n ≡ n → ⊥)) → eqb n n ≡ true
-    go (inl t) = t.0
-    go (inr f) = absurd (f.1 refl)
-
-or_true : (b : Bool) → (b || true) ≡ true
-or_true true = refl
-or_true false = refl
-
-both_true : (a b : Bool) → a ≡ true → b ≡ true → (a && b) ≡ true
-both_true a b is too = ap (λ (c : Bool). c && b) is ∙ too
 
 module _ {O : Type 0} where
   member_has : (parts : List (WiredPart O)) (d : ℕ) → IsMember d (map number_in parts) → has_number d (map wired_part parts) ≡ true

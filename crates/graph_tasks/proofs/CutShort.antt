@@ -10,8 +10,8 @@ use Rattle.net_model.specs.declared.refusal.Unread.{Unread}
 use Rattle.net_model.specs.declared.refusal.Unread.TheVariants.{Failed, OutOfMemory}
 use Rattle.el_settings.specs.Asked.{is_source}
 use Rattle.el_set.specs.Made.{list_of}
-use Rattle.graph_parts.specs.Links.{has, source_count}
-use Rattle.graph_core.specs.Elements.{Made}
+use Rattle.graph_parts.specs.Links.{source_count}
+use Rattle.graph_core.specs.Elements.{Made, has}
 use Rattle.graph_core.specs.Graph.{made as made_in}
 use Rattle.graph_core.specs.declared.graph.Graph.{Graph}
 use Rattle.graph_core.specs.Allowed.{first_pad}

@@ -1,19 +1,19 @@
 -- The tasks of bags: which of them an element is of.
-use Rattle.std.proofs.Common.{◌≡◌, ◌<◌, ◌⊎◌, ℕ, zero, suc, List, [], ◌∷◌, ◌++◌, All, None, Some, length, map, refl, sym, ap, ◌∙◌, subst, inl, inr, arith}
+use Rattle.std.proofs.Common.{◌≡◌, ◌⊎◌, ℕ, zero, suc, List, [], ◌∷◌, ◌++◌, None, Some, length, map, refl, sym, ap, ◌∙◌, subst, inl, inr, arith}
 use Rattle.std.proofs.Common.{true, false, eqb}
 use Rattle.std.specs.Prelude.{slice_get}
 use Rattle.std.proofs.lemmas.Bool.Decides.{eqb_tells}
-use Rattle.std.proofs.lemmas.Option.{same_Some, slice_get_within, get_or_from_slice_get}
+use Rattle.std.proofs.lemmas.Option.{same_Some, slice_get_within}
 use Rattle.flow_model.specs.Account.{IsMember}
 use Rattle.lane_core.specs.declared.ends.Inlet as inlets
 use Rattle.lane_core.specs.declared.ends.Outlet as outlets
 use Rattle.net_model.specs.declared.element.TaskElement as elements
 use Rattle.net_model.specs.declared.source.TaskSource as sources
-use Rattle.graph_core.specs.Elements.{Made}
+use Rattle.graph_core.specs.Elements.{Made, has}
 use Rattle.graph_pads.specs.declared.pad.PadLink.{PadLink}
 use Rattle.graph_parts.specs.Bags.{AreBags, IsBag, IsHead, head_cells, head_number, head_of, number_of, numbers}
 use Rattle.graph_parts.specs.BagLaws.{StandsIn}
-use Rattle.graph_parts.specs.Links.{has, source_count, Reaches}
+use Rattle.graph_parts.specs.Links.{source_count, Reaches}
 use Rattle.el_settings.specs.Asked.{is_source}
 use Rattle.graph_parts.specs.declared.bag.Bag.{Bag}
 use Rattle.graph_parts.specs.declared.bag.BagElement.{BagElement}
@@ -28,20 +28,8 @@ use Rattle.net_task.specs.declared.task.Task.{Task}
 use Rattle.net_task.specs.Frame.{by_inlets, frame_of, head_frame, part_frame, wire_of}
 use Rattle.net_turns.specs.Net.{IsFed}
 use Rattle.graph_tasks.specs.Frames.{HaveBags, IsFrameOf, IsHeadFrame}
-
--- what stands at a place
-pub get_map : {A B : Type 0} (f : A → B) (xs : List A) (k : ℕ) (x : A) → slice_get xs k ≡ Some x → slice_get (map f xs) k ≡ Some (f x)
-get_map f [] k x is = absurd (cc)
-get_map f (y ∷ xs) zero x is = ap (λ z. Some (f z)) (same_Some _ _ is)
-get_map f (y ∷ xs) (suc k) x is = get_map f xs k x is
-
-pub got_within : {A : Type 0} (xs : List A) (k : ℕ) → k < length xs → (x : A) × (slice_get xs k ≡ Some x)
-got_within [] k w = absurd (omega (arith, w))
-got_within (x ∷ xs) zero w = (x, refl)
-got_within (x ∷ xs) (suc k) w = got_within xs k (omega (arith, w))
-
-pub all_at : {A : Type 0} (P : A → Type 0) (xs : List A) → All P xs → (k : ℕ) (x : A) → slice_get xs k ≡ Some x → P x
-all_at P xs all k x is = subst P (get_or_from_slice_get xs k x x is) (all k x (slice_get_within xs k x is))
+use Rattle.graph_tasks.proofs.BlamedFrames.{all_at}
+use Rattle.gst_value.proofs.Places.{found_at as got_within, map_get as get_map}
 
 pub map_length : {A B : Type 0} (f : A → B) (xs : List A) → length (map f xs) ≡ length xs
 map_length f [] = refl

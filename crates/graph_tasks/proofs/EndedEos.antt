@@ -1,18 +1,15 @@
 -- EOS in lists, and in the list that a source owes.
-use Rattle.std.proofs.Common.{◌≡◌, ℕ, Bool, true, false, if◌then◌else◌, List, [], ◌∷◌, refl, sym, ap, ◌∙◌}
+use Rattle.std.proofs.Common.{◌≡◌, ℕ, Bool, true, false, if◌then◌else◌, List, [], ◌∷◌, sym, ap, ◌∙◌}
 use Rattle.flow_model.specs.Item.{Item, is_eos, is_flush_stop, eos_among}
 use Rattle.flow_model.specs.Sticky.{has_flush_stop, latest, since_flush_stop}
-use Rattle.flow_model.specs.Feeding.{has_item}
 use Rattle.net_model.specs.Over.{list_ended}
 use Rattle.el_settings.specs.Asked.{is_source}
 use Rattle.el_set.specs.Made.{list_of}
 use Rattle.el_settings.specs.declared.settings.Settings.{Settings}
-use Rattle.el_set.proofs.Ends.{eos_latest, none_first, plain_no_flush}
+use Rattle.el_set.proofs.Ends.{eos_latest, plain_no_flush}
 use Rattle.el_set.proofs.Lists.{eos_later, plain_list, source_eos}
-
-since_all : (xs : List Item) → has_flush_stop xs ≡ false → since_flush_stop xs ≡ xs
-since_all [] h = refl
-since_all (x ∷ xs) h = let t = none_first x xs h in rw (t.1, t.0) refl
+use Rattle.flow_model.proofs.Counted.{since_all}
+use Rattle.gst_item.specs.Item.{has_item}
 
 -- without FLUSH_STOP any EOS is in force
 ended_is : (xs : List Item) → has_flush_stop xs ≡ false → list_ended xs ≡ eos_among xs

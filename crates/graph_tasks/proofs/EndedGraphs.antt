@@ -3,19 +3,16 @@ use Rattle.std.proofs.Common.{◌≡◌, ◌<◌, ◌≤◌, ◌-◌, ◌||◌, 
 use Rattle.std.specs.Prelude.{slice_get}
 use Rattle.std.specs.Option.{option_map_or}
 use Rattle.el_set.specs.Made.{list_of}
-use Rattle.graph_core.specs.Elements.{Made}
+use Rattle.graph_core.specs.Elements.{Made, has}
 use Rattle.graph_core.specs.Graph.{IsSound, made as made_in, links as links_in, forward as forward_in}
 use Rattle.graph_pads.specs.Links.{sink_behind}
 use Rattle.graph_core.specs.declared.graph.Graph.{Graph}
 use Rattle.graph_pads.specs.declared.pad.PadPlace.{PadPlace}
 use Rattle.graph_core.proofs.Ranks.{after, after_falls, after_most}
-use Rattle.graph_parts.specs.Links.{has, has_inlets, is_head, place_at, Reaches}
+use Rattle.graph_parts.specs.Links.{has_inlets, is_head, Reaches}
 use Rattle.el_settings.specs.Asked.{is_source}
 use Rattle.graph_parts.specs.MomentLaws.{given_by}
-
-pub not_so : (b : Bool) → (b ≡ true → ⊥) → b ≡ false
-not_so true n = absurd (n refl)
-not_so false n = refl
+use Rattle.graph_core.specs.GraphPlan.{sink_at as place_at}
 
 -- a source and an element that is fed from inlets are heads
 module _ (made : List Made) (e : ℕ) where

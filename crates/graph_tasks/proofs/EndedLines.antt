@@ -15,15 +15,15 @@ use Rattle.net_model.specs.declared.source.TaskSource as sources
 use Rattle.el_settings.specs.Asked.{limits_of, makes_sinks}
 use Rattle.el_settings.specs.declared.settings.QueueSettings.{QueueSettings}
 use Rattle.el_settings.specs.declared.settings.Settings.{Settings}
-use Rattle.graph_core.specs.Elements.{Made}
+use Rattle.graph_core.specs.Elements.{Made, has}
 use Rattle.graph_core.specs.Graph.{made as made_in, links as links_in}
 use Rattle.graph_pads.specs.Links.{sink_behind}
 use Rattle.graph_core.specs.declared.graph.Graph.{Graph}
 use Rattle.graph_pads.specs.declared.pad.PadLink.{PadLink}
 use Rattle.graph_pads.specs.declared.pad.PadPlace.{PadPlace}
-use Rattle.graph_core.specs.GraphPlan.{owner_of, pad_id}
+use Rattle.graph_core.specs.GraphPlan.{owner_of, pad_id, sink_at as place_at}
 use Rattle.graph_parts.specs.Bags.{head_cells, head_of, number_of, numbers}
-use Rattle.graph_parts.specs.Links.{has, has_inlets, link_to, place_at}
+use Rattle.graph_parts.specs.Links.{has_inlets, link_to}
 use Rattle.graph_parts.specs.declared.bag.Bag.{Bag}
 use Rattle.graph_parts.specs.declared.bag.BagHead.{BagHead}
 use Rattle.graph_parts.specs.declared.bag.BagHead.TheVariants as starts
@@ -38,9 +38,10 @@ use Rattle.net_turns.specs.Ends.{AreLines, TakesOne}
 use Rattle.net_turns.specs.Net.{IsFed, SendsInto}
 use Rattle.graph_tasks.specs.Frames.{IsFrameOf, IsHeadFrame, IsWireOf, RoomBy, goes_by}
 use Rattle.graph_tasks.specs.Runs.{RunsAt}
-use Rattle.graph_tasks.proofs.EndedBags.{among_back, among_front, bag_is, bag_of, fed_number, got_within}
+use Rattle.graph_tasks.proofs.EndedBags.{among_back, among_front, bag_is, bag_of, fed_number}
 use Rattle.graph_tasks.proofs.EndedGraphs.{rank, rank_rises, reached_later}
 use Rattle.gst_value.proofs.Basics.{none_some}
+use Rattle.gst_value.proofs.Places.{found_at as got_within}
 
 -- a queue holds an item
 room_some : (s : QueueSettings) → 1 ≤ room_of s

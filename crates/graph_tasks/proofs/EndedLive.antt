@@ -10,7 +10,7 @@ use Rattle.graph_order.specs.Links.{IsLink}
 use Rattle.graph_core.specs.Allowed.{checked}
 use Rattle.graph_core.specs.Asked.{End, asked}
 use Rattle.graph_core.specs.Comes.{Comes}
-use Rattle.graph_core.specs.Elements.{Made}
+use Rattle.graph_core.specs.Elements.{Made, has}
 use Rattle.graph_core.specs.Graph.{IsGraph, IsSound, made as made_in, links as links_in}
 use Rattle.graph_core.specs.Links.{HasPads, IsLinked, LinksCome, ways}
 use Rattle.graph_pads.specs.Links.{is_same, sink_behind, source_before}
@@ -26,7 +26,7 @@ use Rattle.graph_core.proofs.Orders.{pads_at_link}
 use Rattle.graph_parts.proofs.Sources.{linked_there, sinks_are}
 use Rattle.graph_parts.specs.Bags.{AreBags, numbers}
 use Rattle.graph_parts.specs.BagLaws.{StandsIn}
-use Rattle.graph_parts.specs.Links.{has, has_inlets, is_head, LeadsInside}
+use Rattle.graph_parts.specs.Links.{has_inlets, is_head, LeadsInside}
 use Rattle.graph_parts.specs.declared.bag.Bag.{Bag}
 use Rattle.graph_parts.proofs.Apart.{bags_are_closed, heads_have_bags}
 use Rattle.graph_tasks.proofs.EndedBags.{bag_is, head_among}

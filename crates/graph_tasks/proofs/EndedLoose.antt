@@ -24,17 +24,17 @@ use Rattle.graph_core.specs.declared.graph.Graph.{Graph}
 use Rattle.graph_pads.specs.declared.pad.PadLink.{PadLink}
 use Rattle.graph_pads.specs.declared.pad.PadPlace.{PadPlace}
 use Rattle.graph_core.specs.LinkedOnce.{AreOnce}
-use Rattle.graph_core.specs.GraphPlan.{line_plan, pad_id, sink_at, sink_count, spans_from}
+use Rattle.graph_core.specs.GraphPlan.{line_plan, pad_id, sink_at, sink_count, spans_from, sink_at as place_at}
 use Rattle.graph_core.proofs.NumberedPads.{owner_at}
 use Rattle.graph_parts.specs.Pads.{is_pad, pad_owner}
 use Rattle.graph_parts.specs.Plans.{moment_plan}
 use Rattle.graph_parts.specs.MomentLaws.{given_by}
 use Rattle.graph_parts.proofs.Rules.{sources_wait}
 use Rattle.graph_parts.proofs.Sources.{few_there, linked_there, owner_is}
-use Rattle.graph_parts.proofs.Wholes.{pads_have_numbers}
+use Rattle.graph_parts.proofs.Wholes.{pads_have_numbers, at_plan}
 use Rattle.graph_parts.specs.Bags.{AreBags, numbers}
 use Rattle.graph_parts.specs.BagLaws.{StandsIn}
-use Rattle.graph_parts.specs.Links.{has, is_head, place_at}
+use Rattle.graph_parts.specs.Links.{is_head}
 use Rattle.graph_parts.specs.declared.bag.Bag.{Bag}
 use Rattle.graph_parts.proofs.Apart.{bags_are_closed, heads_have_bags}
 use Rattle.flow_model.specs.Account.{IsMember}
@@ -43,23 +43,21 @@ use Rattle.graph_tasks.specs.Ended.{IsQuiet, LooseAreQuiet}
 use Rattle.graph_tasks.specs.Owed.{came_to}
 use Rattle.graph_tasks.specs.Runs.{RunsAt, crossed_in}
 use Rattle.graph_tasks.proofs.EndedBags.{IsLoose, bag_is, fed_bag, head_among}
-use Rattle.graph_tasks.proofs.EndedGraphs.{gives_none, inlets_head, not_so, rank, rank_rises, source_head}
-
--- a moment with this plan
-abbrev at_plan : Moment → Plan → Moment
-at_plan m plan = record m { plan = plan }
+use Rattle.graph_tasks.proofs.EndedGraphs.{gives_none, inlets_head, rank, rank_rises, source_head}
+use Rattle.gst_value.proofs.Basics.{false_of as not_so}
+use Rattle.graph_core.specs.Elements.{has}
 
 none_front : (xs ys : List Item) → xs ++ ys ≡ [] → xs ≡ []
 none_front [] ys e = refl
 none_front (x ∷ xs) ys e = absurd (cc)
 
 -- through sink pads that are linked to pads that nothing crossed comes nothing
-input_none : (h : ℕ → List Item) (found : Option PadPlace) → ((source : PadPlace) → found ≡ Some source → h (pad_id source) ≡ [])
+pub input_none : (h : ℕ → List Item) (found : Option PadPlace) → ((source : PadPlace) → found ≡ Some source → h (pad_id source) ≡ [])
     → input_of h (spans_from found) ≡ []
 input_none h None none = refl
 input_none h (Some source) none = link_input h (pad_id source) ∙ ap feeds (none source refl)
 
-inputs_none : (h : ℕ → List Item) (links : List PadLink) (e : ℕ) (ks : List ℕ)
+pub inputs_none : (h : ℕ → List Item) (links : List PadLink) (e : ℕ) (ks : List ℕ)
     → ((k : ℕ) (source : PadPlace) → source_before links (sink_at e k) ≡ Some source → h (pad_id source) ≡ [])
     → map (input_of h) (map (λ k. spans_from (source_before links (sink_at e k))) ks) ≡ map (λ spans. [])
     (map (λ k. spans_from (source_before links (sink_at e k))) ks)

@@ -20,18 +20,17 @@ use Rattle.net_model.specs.Split as splits
 use Rattle.net_model.specs.declared.element.TaskElement as elements
 use Rattle.net_model.specs.declared.source.TaskSource as sources
 use Rattle.el_settings.specs.Asked.{is_source, source_pads}
-use Rattle.graph_core.specs.Elements.{Made}
+use Rattle.graph_core.specs.Elements.{Made, has}
 use Rattle.graph_core.specs.Graph.{IsGraph, is_live, made as made_in, links as links_in}
 use Rattle.graph_pads.specs.Links.{source_before}
 use Rattle.graph_core.specs.Live.{Live}
 use Rattle.graph_core.specs.declared.graph.Graph.{Graph}
 use Rattle.launch_text.specs.declared.tree.Tree.{Tree}
 use Rattle.graph_core.specs.GraphPlan.{line_plan, sink_at, sink_count, spans_from}
-use Rattle.graph_parts.specs.Pads.{pad_owner, source_count}
+use Rattle.graph_parts.specs.Pads.{pad_owner}
 use Rattle.graph_parts.specs.Plans.{tight_rule}
 use Rattle.graph_parts.proofs.Wholes.{numbers_have_pads}
 use Rattle.graph_parts.specs.BagLaws.{StandsIn}
-use Rattle.graph_parts.specs.Links.{has}
 use Rattle.graph_parts.specs.declared.bag.Bag.{Bag}
 use Rattle.graph_parts.proofs.Apart.{bags_are_there}
 use Rattle.task_elements.specs.Stands.{pads_of}
@@ -47,6 +46,7 @@ use Rattle.graph_tasks.proofs.EndedBags.{HasOwn, map_length, own_part, own_sourc
 use Rattle.graph_tasks.proofs.EndedLive.{in_bag, live_sinks}
 use Rattle.graph_tasks.proofs.EndedLoose.{cells_at}
 use Rattle.graph_tasks.proofs.EndedPass.{source_passes}
+use Rattle.graph_parts.specs.Links.{source_count}
 
 -- there is a list taken for each that was given
 split_size : {ts hs ws : List (List Call)} → AreSplit ts hs ws → length ts ≡ length ws

@@ -12,11 +12,11 @@ use Rattle.el_settings.specs.declared.settings.Settings.{Settings}
 use Rattle.el_settings.proofs.Roles.{other_sinks, source_no_sink}
 use Rattle.el_set.specs.Denoted.{rule_of}
 use Rattle.el_set.proofs.Fed.{inlets_no_sink, inlets_no_source, inlets_owe}
-use Rattle.graph_core.specs.Elements.{Made}
+use Rattle.graph_core.specs.Elements.{Made, has}
 use Rattle.graph_core.specs.Graph.{made as made_in}
 use Rattle.graph_core.specs.GraphPlan.{sink_count}
 use Rattle.graph_core.specs.declared.graph.Graph.{Graph}
-use Rattle.graph_parts.specs.Links.{has, has_inlets}
+use Rattle.graph_parts.specs.Links.{has_inlets}
 use Rattle.graph_parts.specs.Plans.{moment_plan, tight_rule}
 use Rattle.task_elements.specs.Stands.{takes_all}
 

@@ -1,5 +1,5 @@
 -- The head of a graph's task that is fed from inlets is an element that is fed from inlets.
-use Rattle.std.proofs.Common.{◌≡◌, ◌<◌, ◌≤◌, ◌⊎◌, ℕ, true, List, All, Option, None, Some, get_or, length, sym, ap, ◌∙◌, subst, inl, inr, arith}
+use Rattle.std.proofs.Common.{◌≡◌, ◌<◌, ◌≤◌, ◌⊎◌, ℕ, true, List, Option, None, Some, get_or, length, sym, ap, subst, inl, inr, arith}
 use Rattle.std.specs.Prelude.{slice_get}
 use Rattle.std.proofs.lemmas.Option.{slice_get_cases, slice_get_within}
 use Rattle.lane_core.specs.Lane.{Lane}
@@ -8,12 +8,12 @@ use Rattle.lane_core.specs.declared.ends.Outlet as outlets
 use Rattle.net_model.specs.Moment.{Moment}
 use Rattle.net_model.specs.declared.element.TaskElement as elements
 use Rattle.net_model.specs.declared.source.TaskSource as sources
-use Rattle.graph_core.specs.Elements.{Made}
+use Rattle.graph_core.specs.Elements.{Made, has}
 use Rattle.graph_core.specs.Graph.{made as made_in, links as links_in}
 use Rattle.graph_core.specs.declared.graph.Graph.{Graph}
 use Rattle.graph_pads.specs.declared.pad.PadLink.{PadLink}
 use Rattle.graph_parts.specs.Bags.{IsBag, IsHead}
-use Rattle.graph_parts.specs.Links.{has, has_inlets}
+use Rattle.graph_parts.specs.Links.{has_inlets}
 use Rattle.graph_parts.specs.declared.bag.Bag.{Bag}
 use Rattle.graph_parts.specs.declared.bag.BagHead.{BagHead}
 use Rattle.graph_parts.specs.declared.bag.BagHead.TheVariants as bags
@@ -23,7 +23,7 @@ use Rattle.net_task.specs.declared.task.Task.{Task}
 use Rattle.net_turns.specs.Net.{IsFed}
 use Rattle.graph_tasks.specs.Frames.{IsHeadFrame}
 use Rattle.graph_tasks.specs.Runs.{RunsAt}
-use Rattle.gst_value.proofs.Basics.{some_same}
+use Rattle.graph_tasks.proofs.BlamedFrames.{all_at}
 
 -- where one stands at a place of a list, one stands at that of another that is as long
 pub also_at : {A B : Type 0} (xs : List A) (ys : List B) (k : ℕ) (y : B) → length ys ≡ length xs → slice_get ys k ≡ Some y
@@ -34,14 +34,6 @@ also_at {A} xs ys k y size at = go (slice_get_cases xs k).1
         → (x : A) × (k < length xs) × (slice_get xs k ≡ Some x)
     go (inl t) = (t.0, t.1, t.2)
     go (inr f) = absurd (let within = slice_get_within ys k y at in omega (arith, within, f.0, size))
-
--- so it is of all of them
-pub all_at : {A : Type 0} (P : A → Type 0) (xs : List A) → All P xs → (k : ℕ) (x : A) → slice_get xs k ≡ Some x → P x
-all_at {A} P xs all k x at = go (slice_get_cases xs k).1
-  where
-    go : ((y : A) × (k < length xs) × (slice_get xs k ≡ Some y) × (get_or xs k y ≡ y)) ⊎ ((length xs ≤ k) × (slice_get xs k ≡ None)) → P x
-    go (inl t) = subst P (t.3 ∙ some_same (sym t.2 ∙ at)) (all k t.0 t.1)
-    go (inr f) = absurd (let within = slice_get_within xs k x at in omega (arith, within, f.0))
 
 head_by : (made : List Made) (links : List PadLink) (number rows : ℕ) (head : BagHead) → IsHead made head → IsHeadFrame made links head (by_inlets number rows)
     → has has_inlets made number ≡ true

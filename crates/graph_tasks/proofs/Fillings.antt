@@ -1,5 +1,5 @@
 -- Tasks that are made of their wired tasks, one behind the other.
-use Rattle.std.proofs.Common.{◌≡◌, ℕ, zero, suc, List, [], ◌∷◌, ◌++◌, Option, Some, length, map, refl, sym, ap, ◌∙◌, subst, inl, inr, arith}
+use Rattle.std.proofs.Common.{◌≡◌, ℕ, zero, suc, List, [], ◌∷◌, ◌++◌, Option, Some, length, map, refl, sym, ap, ◌∙◌, subst, inl, inr}
 use Rattle.std.specs.Prelude.{slice_get}
 use Rattle.std.specs.List.{AllZip}
 use Rattle.flow_model.specs.Account.{IsMember}
@@ -11,6 +11,7 @@ use Rattle.graph_tasks.specs.Plan.{AreAt, ElementAt, without}
 use Rattle.graph_tasks.specs.Wired.{number_in}
 use Rattle.graph_tasks.specs.declared.wired_task.WiredPart.{WiredPart}
 use Rattle.graph_tasks.proofs.Takes.{without_more, without_none, without_stays, without_stood}
+use Rattle.gst_value.proofs.Places.{nil_append as nil}
 
 pub zip_each : {A B : Type 0} (P Q : A → B → Type 0) → ((x : A) (y : B) → P x y → Q x y) → (xs : List A) (ys : List B) → AllZip P xs ys → AllZip Q xs ys
 zip_each P Q so [] [] all = tt
@@ -25,14 +26,6 @@ zip_done P xs none = subst (λ zs. AllZip P zs []) (sym none) tt
 pub at_end : {A : Type 0} (xs ys : List A) (x : A) → xs ++ x ∷ ys ≡ (xs ++ x ∷ []) ++ ys
 at_end [] ys x = refl
 at_end {A = A} (z ∷ zs) ys x = ap (λ (ws : List A). z ∷ ws) (at_end zs ys x)
-
-pub nil : {A : Type 0} (xs : List A) → xs ++ [] ≡ xs
-nil [] = refl
-nil {A = A} (x ∷ xs) = ap (λ (ys : List A). x ∷ ys) (nil xs)
-
-pub is_empty : {A : Type 0} (xs : List A) → length xs ≡ 0 → xs ≡ []
-is_empty [] none = refl
-is_empty (x ∷ xs) none = absurd (omega (arith, none))
 
 -- the number of a part is one of theirs
 pub part_among : {O : Type 0} (parts : List (WiredPart O)) (j : ℕ) (part : WiredPart O) → slice_get parts j ≡ Some part → IsMember part.number (map number_in parts)

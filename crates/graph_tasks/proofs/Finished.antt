@@ -10,7 +10,7 @@ use Rattle.graph_parts.specs.Bags.{Once, head_cells, number_of, numbers}
 use Rattle.graph_parts.specs.declared.bag.Bag.{Bag}
 use Rattle.graph_parts.specs.declared.bag.BagHead.{BagHead}
 use Rattle.graph_parts.specs.declared.bag.BagHead.TheVariants as bags
-use Rattle.graph_parts.proofs.Onces.{in_back, in_front, once_back, once_front}
+use Rattle.graph_parts.proofs.Onces.{once_back, once_front, in_front, in_back}
 use Rattle.graph_parts.specs.Lanes.{AreLanes}
 use Rattle.lane_core.specs.Lane.{Lane}
 use Rattle.lane_core.specs.declared.ends.Inlet as inlets

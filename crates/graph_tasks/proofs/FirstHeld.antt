@@ -21,7 +21,7 @@ use Rattle.inlet_row.specs.Take.{HoldsAfter}
 use Rattle.inlet_row.specs.Taken as takes
 use Rattle.graph_core.specs.Graph.{made as made_in}
 use Rattle.graph_core.specs.declared.graph.Graph.{Graph}
-use Rattle.graph_parts.specs.Links.{has, has_inlets}
+use Rattle.graph_parts.specs.Links.{has_inlets}
 use Rattle.graph_parts.specs.declared.bag.Bag.{Bag}
 use Rattle.task_parts.specs.Passing.{AsksRow, RowAsked}
 use Rattle.task_parts.specs.declared.head.Head.{Head}
@@ -34,6 +34,7 @@ use Rattle.net_task.specs.declared.task.Task.{Task}
 use Rattle.net_turns.specs.Net.{HasRow, IsFed, ListAt, RowStands}
 use Rattle.graph_tasks.specs.Runs.{RunsAt}
 use Rattle.graph_tasks.proofs.FedHeads.{head_fed}
+use Rattle.graph_core.specs.Elements.{has}
 
 -- what was taken at a sink pad, and then the first that stands in its inlet, begins what was given there
 pub split_first : (i : ℕ) (c : Call) (rest : List Call) {ts hs ws : List (List Call)} → AreSplit ts hs ws → ListAt i hs (c ∷ rest)

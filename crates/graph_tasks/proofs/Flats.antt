@@ -8,9 +8,10 @@ use Rattle.std.proofs.lemmas.Option.{get_or_from_slice_get, slice_get_within}
 use Rattle.flow_model.specs.Account.{IsMember}
 use Rattle.graph_parts.specs.Bags.{Once, number_of}
 use Rattle.graph_parts.specs.declared.bag.BagElement.{BagElement}
-use Rattle.graph_parts.proofs.Onces.{in_front, in_back, in_either, once_append, once_apart, once_back, once_front}
+use Rattle.graph_parts.proofs.Onces.{in_either, once_append, once_apart, once_back, once_front, in_front, in_back}
 use Rattle.graph_tasks.specs.Wiring.{AreApart}
 use Rattle.gst_value.proofs.Basics.{some_same}
+use Rattle.gst_value.proofs.Basics.{no_more as zero_less}
 
 -- what stands before a place, at it, and behind it
 pub split_at : {A : Type 0} (xs : List A) (k : ℕ) (x : A) → slice_get xs k ≡ Some x → (rest : List A) × (xs ≡ take k xs ++ x ∷ rest)
@@ -26,9 +27,6 @@ pub at_front : {A : Type 0} (xs ys : List A) (k : ℕ) (x : A) → slice_get xs 
 at_front [] ys k x is = absurd (cc)
 at_front (z ∷ xs) ys zero x is = is
 at_front (z ∷ xs) ys (suc k) x is = at_front xs ys k x is
-
-zero_less : (k : ℕ) → 0 + k ≡ k
-zero_less k = omega arith
 
 suc_less : (n k : ℕ) → suc (n + k) ≡ suc n + k
 suc_less n k = omega arith

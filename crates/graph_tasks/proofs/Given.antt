@@ -21,7 +21,8 @@ use Rattle.task_parts.specs.declared.part.Part.{Part}
 use Rattle.net_task.specs.declared.task.Task.{Task}
 use Rattle.graph_tasks.specs.Tasks.{AreTasks, IsPartOf, IsTaskOf}
 use Rattle.graph_tasks.specs.Start.{ElementsStand, SourcesStand}
-use Rattle.graph_tasks.proofs.Lists.{all_at, got_within}
+use Rattle.graph_tasks.proofs.BlamedFrames.{all_at}
+use Rattle.gst_value.proofs.Places.{found_at as got_within}
 
 module _ {S E I O L : Type 0} {s : sources.Ghosts S} {e : elements.Ghosts E} (i : inlets.Ghosts I L O) (o : outlets.Ghosts O L) where
   pub record IsKnown (graph : Graph) (bags : List Bag) (ends : List (Option E)) (files : List (Option S)) (tasks : List (Task S E I O L s e i o)) (table : List Lane) : Type 0 where

@@ -6,7 +6,7 @@ use Rattle.el_settings.specs.Asked.{Place, Begins, begins, gathers, is_queue, is
 use Rattle.el_settings.specs.declared.settings.Settings.{Settings}
 use Rattle.el_set.specs.Made.{list_of}
 use Rattle.el_settings.proofs.Roles.{queue_no_source, source_no_sink}
-use Rattle.graph_core.specs.Elements.{Made}
+use Rattle.graph_core.specs.Elements.{Made, has}
 use Rattle.graph_core.specs.Graph.{IsSound, made as made_in, links as links_in, forward as forward_in}
 use Rattle.graph_core.specs.Links.{HasPads}
 use Rattle.graph_pads.specs.Links.{sink_behind}
@@ -14,13 +14,11 @@ use Rattle.graph_core.specs.declared.graph.Graph.{Graph}
 use Rattle.graph_pads.specs.declared.pad.PadLink.{PadLink}
 use Rattle.graph_pads.specs.declared.pad.PadPlace.{PadPlace}
 use Rattle.graph_core.proofs.Ranks.{after, after_falls}
-use Rattle.graph_parts.specs.Links.{has, has_inlets, is_head, place_at, Reaches}
+use Rattle.graph_parts.specs.Links.{has_inlets, is_head, Reaches}
 use Rattle.graph_parts.proofs.Trees.{sink_there}
 use Rattle.graph_parts.specs.MomentLaws.{given_by}
 use Rattle.graph_tasks.specs.Tasks.{sink_count}
-
-pub not_true : {A : Type 0} → false ≡ true → A
-not_true e = absurd (cc)
+use Rattle.graph_core.specs.GraphPlan.{sink_at as place_at}
 
 -- an element that is fed from inlets does not begin a stream
 gathers_on : (place : Place) → gathers place ≡ true → begins place ≡ false

@@ -9,12 +9,12 @@ use Rattle.lane_core.specs.declared.ends.Outlet as outlets
 use Rattle.net_model.specs.declared.element.TaskElement as elements
 use Rattle.net_model.specs.declared.source.TaskSource as sources
 use Rattle.el_settings.specs.Asked.{source_pads, is_source}
-use Rattle.graph_core.specs.Elements.{Made}
+use Rattle.graph_core.specs.Elements.{Made, has}
 use Rattle.graph_core.specs.Graph.{IsSound, made as made_in, links as links_in}
 use Rattle.graph_core.specs.declared.graph.Graph.{Graph}
 use Rattle.graph_core.specs.LinkedOnce.{AreOnce}
 use Rattle.graph_parts.specs.Bags.{AreBags, IsBag, IsHead}
-use Rattle.graph_parts.specs.Links.{has, source_count}
+use Rattle.graph_parts.specs.Links.{source_count}
 use Rattle.graph_parts.specs.declared.bag.Bag.{Bag}
 use Rattle.graph_parts.specs.declared.bag.BagHead.{BagHead}
 use Rattle.graph_parts.specs.declared.bag.BagHead.TheVariants as bags_heads
@@ -24,8 +24,9 @@ use Rattle.graph_tasks.specs.Wired.{AreWired, IsWiredHead}
 use Rattle.graph_tasks.specs.declared.wired_task.WiredHead.{WiredHead}
 use Rattle.graph_tasks.specs.declared.wired_task.WiredHead.TheVariants.{Source, Inlets}
 use Rattle.graph_tasks.specs.declared.wired_task.WiredTask.{WiredTask}
-use Rattle.graph_tasks.proofs.Lists.{all_at, got_within}
 use Rattle.graph_tasks.proofs.Bags.{among, no_source}
+use Rattle.graph_tasks.proofs.BlamedFrames.{all_at}
+use Rattle.gst_value.proofs.Places.{found_at as got_within}
 
 module _ {S E : Type 0} (s : sources.Ghosts S) (e : elements.Ghosts E) (made : List Made) (ends : List (Option E)) (files : List (Option S)) (hand : AreAtHand s e made ends files) where
   element_at : (n ports : ℕ) → n < length made → has is_source made n ≡ false → ports ≡ source_count made n → ElementAt e ends n ports

@@ -9,7 +9,7 @@ use Rattle.net_model.specs.declared.element.TaskElement as elements
 use Rattle.net_model.specs.declared.source.TaskSource as sources
 use Rattle.graph_core.specs.Graph.{made as made_in, links as links_in}
 use Rattle.graph_core.specs.declared.graph.Graph.{Graph}
-use Rattle.graph_parts.specs.Links.{has, has_inlets, is_head}
+use Rattle.graph_parts.specs.Links.{has_inlets, is_head}
 use Rattle.el_settings.specs.Asked.{is_source}
 use Rattle.graph_parts.specs.Bags.{IsHead, head_number, head_of, numbers}
 use Rattle.graph_parts.specs.declared.bag.Bag.{Bag}
@@ -25,12 +25,13 @@ use Rattle.net_task.specs.declared.task.Task.{Task}
 use Rattle.net_task.specs.Frame.{PartFrame, Wire, by_source, frame_of, head_frame, part_frame, wire_of}
 use Rattle.net_turns.specs.Net.{HasElement, IsFed, Owns}
 use Rattle.graph_tasks.specs.Tasks.{IsHeadOf, IsRowOf, sink_count}
-use Rattle.graph_tasks.proofs.Lists.{got_within, map_got}
 use Rattle.std.proofs.lemmas.Option.{slice_get_within}
-use Rattle.graph_tasks.proofs.Graphs.{inlets_no_source, not_true}
+use Rattle.graph_tasks.proofs.Graphs.{inlets_no_source}
 use Rattle.graph_tasks.proofs.Bags.{among, head_among, source_among}
 use Rattle.graph_tasks.proofs.Given.{IsKnown, IsPlaced, cell_of, one_task, placed}
-use Rattle.gst_value.proofs.Basics.{some_same}
+use Rattle.gst_value.proofs.Basics.{some_same, from_false as not_true}
+use Rattle.gst_value.proofs.Places.{found_at as got_within, map_got}
+use Rattle.graph_core.specs.Elements.{has}
 
 module _ {S E I O L : Type 0} {s : sources.Ghosts S} {e : elements.Ghosts E} {i : inlets.Ghosts I L O} {o : outlets.Ghosts O L}
     {graph : Graph} {bags : List Bag} {ends : List (Option E)} {files : List (Option S)} {tasks : List (Task S E I O L s e i o)} {table : List Lane}

@@ -5,21 +5,19 @@ use Rattle.std.specs.Option.{option_map, option_map_or}
 use Rattle.std.proofs.lemmas.List.{append-nil}
 use Rattle.std.proofs.lemmas.Option.{slice_get-get_or}
 use Rattle.flow_model.specs.Account.{IsMember}
-use Rattle.el_settings.specs.Asked.{is_queue, limits_of, makes_sinks, source_pads}
+use Rattle.el_settings.specs.Asked.{is_queue, limits_of, makes_sinks}
 use Rattle.el_settings.specs.declared.settings.QueueSettings.{QueueSettings}
 use Rattle.el_settings.specs.declared.settings.Settings.{Settings}
 use Rattle.el_settings.proofs.Roles.{queue_limits}
-use Rattle.graph_core.specs.Elements.{Made}
-use Rattle.graph_core.specs.GraphPlan.{owner_of, pad_id}
+use Rattle.graph_core.specs.Elements.{Made, has}
+use Rattle.graph_core.specs.GraphPlan.{owner_of, pad_id, sink_at as place_at}
 use Rattle.graph_pads.specs.Links.{sink_behind, source_before}
 use Rattle.graph_pads.specs.declared.pad.PadLink.{PadLink}
 use Rattle.graph_pads.specs.declared.pad.PadPlace.{PadPlace}
 use Rattle.graph_core.proofs.NumberedPads.{owner_at, pad_at_number}
-use Rattle.el_settings.proofs.Padded.{few_sources}
-use Rattle.graph_parts.specs.Links.{has, has_inlets, place_at}
+use Rattle.graph_parts.specs.Links.{has_inlets}
 use Rattle.graph_parts.specs.declared.bag.BagLink.{BagLink}
 use Rattle.graph_parts.specs.declared.bag.BagLink.TheVariants.{Nothing, Element, Lane}
-use Rattle.graph_parts.proofs.Onces.{in_back, in_front}
 use Rattle.graph_parts.proofs.Trees.{sink_there}
 use Rattle.graph_parts.specs.Lanes.{OutletAt, join_room, lane_room, room_by, room_of, sink_numbers, sink_of}
 use Rattle.graph_parts.proofs.LaneSlots.{slot_of_set}
@@ -31,6 +29,7 @@ use Rattle.task_pads.specs.declared.pad.Pad.{Pad}
 use Rattle.graph_tasks.specs.Tasks.{IsLaneTo, LeadsTo}
 use Rattle.graph_tasks.specs.Wiring.{AreLinks, IsBehind, IsNumbered, OutletsLeft, PadGiven, PadMade, lane_to, over_lane, without_lane}
 use Rattle.graph_tasks.proofs.Numbers.{few_pads, few_sink, number_within, with_pad}
+use Rattle.graph_parts.proofs.Onces.{in_front, in_back}
 
 -- an element that is fed from inlets has a lane, where something is linked to it
 has_room : (s : Settings) → has_inlets s ≡ true → room_by s ≡ None → ⊥
@@ -47,10 +46,6 @@ room_where : (before : Option PadPlace) (found : Option Made) (p : PadPlace) →
 room_where None found p is queue none = absurd (cc)
 room_where (Some q) None p is queue none = absurd (cc)
 room_where (Some q) (Some m) p is queue none = has_room m.settings queue none
-
-pub few_ports : (found : Option Made) (port : ℕ) → port < option_map_or (λ (m : Made). source_pads m.settings) found 0 → port < 64
-few_ports None port w = absurd (omega (arith, w))
-few_ports (Some m) port w = let few = few_sources m.settings in omega (arith, few, w)
 
 module _ (made : List Made) (links : List PadLink) (are : AreLinks made links) where
   -- such an element has a lane to each sink pad that is linked

@@ -43,7 +43,7 @@ pub mod SinkFiles
 pub mod SinkCame
 pub mod SinkTasks
 mod BlamedLinks
-mod BlamedFrames
+pub mod BlamedFrames
 mod BlamedTold
 mod BlamedLimits
 mod CutShort

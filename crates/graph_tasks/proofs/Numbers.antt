@@ -8,7 +8,7 @@ use Rattle.std.proofs.lemmas.Option.{slice_get_within}
 use Rattle.flow_model.specs.Account.{IsMember}
 use Rattle.el_settings.specs.Asked.{sink_pads}
 use Rattle.graph_core.specs.Elements.{Made}
-use Rattle.graph_core.specs.GraphPlan.{owner_of, pad_id}
+use Rattle.graph_core.specs.GraphPlan.{owner_of, pad_id, sink_at as place_at}
 use Rattle.graph_core.specs.Links.{HasPads}
 use Rattle.graph_pads.specs.Links.{sink_behind, source_before}
 use Rattle.graph_core.specs.LinkedOnce.{AreOnce}
@@ -17,7 +17,6 @@ use Rattle.graph_pads.specs.declared.pad.PadPlace.{PadPlace}
 use Rattle.graph_core.proofs.NumberedPads.{owner_at, same_pad}
 use Rattle.el_settings.proofs.Padded.{few_sinks}
 use Rattle.graph_parts.specs.Bags.{Once, head_number, head_of}
-use Rattle.graph_parts.specs.Links.{place_at}
 use Rattle.graph_parts.specs.declared.bag.Bag.{Bag}
 use Rattle.graph_parts.specs.declared.bag.BagHead.{BagHead}
 use Rattle.graph_parts.specs.declared.bag.BagHead.TheVariants.{Source, Inlets}

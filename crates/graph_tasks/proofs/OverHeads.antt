@@ -12,13 +12,13 @@ use Rattle.net_model.specs.declared.source.TaskSource as sources
 use Rattle.el_settings.specs.Asked.{Place, Begins, Passes, Splits, Gathers, Ends, begins, ends, gathers, is_queue, is_sink, is_source, makes_sinks, place_of}
 use Rattle.el_settings.specs.declared.settings.Settings.{Settings}
 use Rattle.el_settings.proofs.Roles.{queue_sinks}
-use Rattle.graph_core.specs.Elements.{Made}
+use Rattle.graph_core.specs.Elements.{Made, has}
 use Rattle.graph_core.specs.Graph.{made as made_in, links as links_in}
 use Rattle.graph_core.specs.GraphPlan.{sink_count}
 use Rattle.graph_core.specs.declared.graph.Graph.{Graph}
 use Rattle.graph_parts.specs.Bags.{IsHead, head_number}
 use Rattle.graph_parts.specs.BagLaws.{HasBag}
-use Rattle.graph_parts.specs.Links.{has, has_inlets}
+use Rattle.graph_parts.specs.Links.{has_inlets}
 use Rattle.graph_parts.specs.declared.bag.Bag.{Bag}
 use Rattle.graph_parts.specs.declared.bag.BagHead.{BagHead}
 use Rattle.graph_parts.specs.declared.bag.BagHead.TheVariants as starts

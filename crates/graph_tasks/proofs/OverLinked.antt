@@ -4,7 +4,7 @@ use Rattle.std.specs.Prelude.{slice_get}
 use Rattle.std.specs.Option.{option_map_or}
 use Rattle.el_settings.specs.Asked.{is_source, makes_sinks, sink_pads}
 use Rattle.el_settings.proofs.Roles.{other_sinks, source_no_sink}
-use Rattle.graph_core.specs.Elements.{Made}
+use Rattle.graph_core.specs.Elements.{Made, has}
 use Rattle.graph_core.specs.Graph.{IsGraph, IsSound, made as made_in, links as links_in}
 use Rattle.graph_core.specs.GraphPlan.{sink_at, sink_count}
 use Rattle.graph_core.specs.LinkedOnce.{AreOnce}
@@ -13,7 +13,6 @@ use Rattle.graph_core.specs.Live.{Live}
 use Rattle.graph_core.specs.declared.graph.Graph.{Graph}
 use Rattle.launch_text.specs.declared.tree.Tree.{Tree}
 use Rattle.graph_parts.proofs.Sources.{sinks_are}
-use Rattle.graph_parts.specs.Links.{has}
 use Rattle.graph_tasks.proofs.EndedLive.{IsLinkedLive, between}
 
 -- an element of which no link makes a sink pad has one at the most

@@ -5,17 +5,13 @@ use Rattle.std.specs.Prelude.{slice_get}
 use Rattle.std.specs.List.{range_with_len}
 use Rattle.std.specs.Option.{option_map_or}
 use Rattle.std.proofs.lemmas.Bool.{false≢true}
-use Rattle.flow_model.specs.Call.{Call, feeds}
-use Rattle.flow_model.specs.Eval.{Plan}
-use Rattle.flow_model.specs.Item.{Item}
-use Rattle.flow_model.specs.Link.{Span, input_of}
-use Rattle.flow_model.proofs.Links.{link_input}
+use Rattle.flow_model.specs.Call.{Call}
 use Rattle.net_model.specs.Moment.{Moment, CellStands}
 use Rattle.net_model.specs.Opening.{no_calls}
 use Rattle.net_model.specs.Split.{AreEmpty, AreSplit, none, pad}
 use Rattle.el_settings.specs.Asked.{is_source}
 use Rattle.graph_order.specs.Links.{IsLink}
-use Rattle.graph_core.specs.Elements.{Made}
+use Rattle.graph_core.specs.Elements.{Made, has}
 use Rattle.graph_core.specs.Graph.{IsSound, is_live, made as made_in, links as links_in}
 use Rattle.graph_core.specs.GraphPlan.{line_plan, pad_id, sink_at, sink_count, spans_from}
 use Rattle.graph_core.specs.LinkedOnce.{AreOnce}
@@ -31,14 +27,12 @@ use Rattle.graph_parts.specs.Pads.{pad_owner}
 use Rattle.graph_parts.specs.Plans.{moment_plan}
 use Rattle.graph_parts.proofs.Rules.{sources_wait}
 use Rattle.graph_parts.proofs.Sources.{linked_there}
-use Rattle.graph_parts.proofs.Wholes.{pads_have_numbers}
-use Rattle.graph_parts.specs.Links.{has}
-use Rattle.graph_tasks.proofs.EndedGraphs.{gives_none, not_so, rank, rank_rises}
+use Rattle.graph_parts.proofs.Wholes.{pads_have_numbers, at_plan}
+use Rattle.graph_tasks.proofs.EndedGraphs.{gives_none, rank, rank_rises}
 use Rattle.gst_value.proofs.Basics.{some_same}
-
--- a moment with this plan
-abbrev at_plan : Moment → Plan → Moment
-at_plan m plan = record m { plan = plan }
+use Rattle.graph_tasks.proofs.EndedLoose.{inputs_none}
+use Rattle.graph_tasks.proofs.Lists.{all_empty as empties}
+use Rattle.gst_value.proofs.Basics.{false_of as not_so}
 
 none_front : {A : Type 0} (xs ys : List A) → xs ++ ys ≡ [] → (xs ≡ []) × (ys ≡ [])
 none_front [] ys e = (refl, e)
@@ -51,23 +45,6 @@ split_none (pad {t = t} {h = h} {w = w} {ts = ts} e s) n =
     let both = none_front t h (sym e ∙ n.0) in
     let rest = split_none s n.1 in
     (ap (λ (cs : List Call). cs ∷ ts) (both.0 ∙ sym n.0) ∙ ap (λ (css : List (List Call)). w ∷ css) rest.0, (both.1, rest.1))
-
-empties : (sss : List (List Span)) → AreEmpty (map (λ spans. []) sss)
-empties [] = tt
-empties (ss ∷ sss) = (refl, empties sss)
-
--- through sink pads that are linked to pads that nothing crossed comes nothing
-input_none : (h : ℕ → List Item) (found : Option PadPlace) → ((source : PadPlace) → found ≡ Some source → h (pad_id source) ≡ [])
-    → input_of h (spans_from found) ≡ []
-input_none h None quiet = refl
-input_none h (Some source) quiet = link_input h (pad_id source) ∙ ap feeds (quiet source refl)
-
-inputs_none : (h : ℕ → List Item) (links : List PadLink) (e : ℕ) (ks : List ℕ)
-    → ((k : ℕ) (source : PadPlace) → source_before links (sink_at e k) ≡ Some source → h (pad_id source) ≡ [])
-    → map (input_of h) (map (λ k. spans_from (source_before links (sink_at e k))) ks) ≡ map (λ spans. [])
-    (map (λ k. spans_from (source_before links (sink_at e k))) ks)
-inputs_none h links e [] quiet = refl
-inputs_none h links e (k ∷ ks) quiet = rw (input_none h (source_before links (sink_at e k)) (quiet k), inputs_none h links e ks quiet) refl
 
 -- a link to a sink pad is a way from one element to the other
 pub way_before : (links : List PadLink) (sink source : PadPlace) → source_before links sink ≡ Some source → IsLink source.element sink.element (ways links)

@@ -5,7 +5,6 @@ use Rattle.std.specs.Prelude.{slice_get}
 use Rattle.std.specs.List.{range_with_len}
 use Rattle.gst_outside.specs.declared.sink.Sink as sinks
 use Rattle.flow_model.specs.Account.{GoesForward, IsMember}
-use Rattle.flow_model.specs.Call.{feeds, items}
 use Rattle.flow_model.specs.Eval.{Plan}
 use Rattle.flow_model.specs.Feeding.{has_eos as calls_ended}
 use Rattle.flow_model.specs.Item.{Item, eos_among}
@@ -42,6 +41,7 @@ use Rattle.task_parts.specs.declared.head.InletHead.{InletHead}
 use Rattle.net_task.specs.declared.task.Task.{Task}
 use Rattle.net_turns.specs.Ends.{AreFromStart, LinesEnd, NothingLeft, StepsTellOver, StreamsGoOn, TakesOne}
 use Rattle.net_turns.specs.Net.{IsFed}
+use Rattle.gst_value.proofs.Basics.{no_true}
 use Rattle.graph_tasks.specs.Over.{LinesTellOver, RunsTellOver, joins_in}
 use Rattle.graph_tasks.specs.Owed.{AreOver}
 use Rattle.graph_tasks.specs.Runs.{RunsAt, crossed_in}
@@ -55,6 +55,7 @@ use Rattle.graph_tasks.proofs.OverHeads.{join_head, single_row}
 use Rattle.graph_tasks.proofs.OverLinked.{one_linked}
 use Rattle.graph_tasks.proofs.OverQuiet.{dead_held}
 use Rattle.graph_tasks.proofs.OverWants.{join_wants, single_wants}
+use Rattle.flow_model.proofs.Items.{items_feeds as items_of}
 
 -- sink pads that are linked from the start, each to a live element
 from_start : (live : ℕ → Bool) (plan : Plan) (f : ℕ → List Span) (start n : ℕ)
@@ -71,10 +72,6 @@ each_start links e (k ∷ ks) = (one (source_before links (sink_at e k)), each_s
     one : (found : Option PadPlace) → (spans_from found ≡ []) ⊎ ((p : ℕ) × (spans_from found ≡ Linked p 0 [] ∷ []))
     one None = inl refl
     one (Some source) = inr (pad_id source, refl)
-
-items_of : (xs : List Item) → items (feeds xs) ≡ xs
-items_of [] = refl
-items_of (x ∷ xs) = ap (λ (ys : List Item). x ∷ ys) (items_of xs)
 
 -- EOS came through a sink pad where it crossed the pad before it
 came_ended : (made : List Made) (h : ℕ → List Item) (found : Option PadPlace) → ((source : PadPlace) → found ≡ Some source → is_pad made (pad_id source) ≡ true)
@@ -155,9 +152,6 @@ runs_tell_over k s e i o steps_tell_over streams tree contents graph bags m task
       told.1,
       told.2,
     )
-
-no_true : false ≡ true → ⊥
-no_true e = cc
 
 pub lines_tell_over : {S K I O L : Type 0} (k : sinks.Ghosts K) (s : sources.Ghosts S) (e : elements.Ghosts (StreamElement K)) (i : inlets.Ghosts I L O)
     (o : outlets.Ghosts O L) → LinesEnd s e i o → LinesTellOver k s e i o

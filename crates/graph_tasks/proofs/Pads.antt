@@ -10,8 +10,8 @@ use Rattle.graph_pads.specs.Links.{sink_behind}
 use Rattle.graph_core.specs.declared.graph.Graph.{Graph}
 use Rattle.graph_pads.specs.declared.pad.PadPlace.{PadPlace}
 use Rattle.graph_core.specs.LinkedOnce.{AreOnce}
-use Rattle.graph_core.specs.GraphPlan.{pad_id}
-use Rattle.graph_parts.specs.Links.{place_at, source_count}
+use Rattle.graph_core.specs.GraphPlan.{pad_id, sink_at as place_at}
+use Rattle.graph_parts.specs.Links.{source_count}
 use Rattle.graph_parts.specs.Plans.{moment_plan, moment_answers}
 use Rattle.graph_parts.specs.MomentLaws.{HasNumber, given_by}
 use Rattle.graph_parts.proofs.MomentLeading.{links_lead, unlinked_lead}

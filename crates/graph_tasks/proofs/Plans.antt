@@ -8,7 +8,7 @@ use Rattle.lane_core.specs.declared.ends.Outlet as outlets
 use Rattle.net_model.specs.declared.element.TaskElement as elements
 use Rattle.net_model.specs.declared.source.TaskSource as sources
 use Rattle.graph_parts.specs.Bags.{Once}
-use Rattle.graph_parts.proofs.Onces.{in_back, in_front, once_apart, once_back, once_front}
+use Rattle.graph_parts.proofs.Onces.{once_apart, once_back, once_front, in_front, in_back}
 use Rattle.task_parts.specs.declared.head.Head.{Head}
 use Rattle.task_parts.specs.declared.head.Head.TheVariants as heads
 use Rattle.net_task.specs.declared.task.Task.{Task}
@@ -19,7 +19,8 @@ use Rattle.graph_tasks.specs.declared.wired_task.WiredHead.{WiredHead}
 use Rattle.graph_tasks.specs.declared.wired_task.WiredHead.TheVariants.{Source, Inlets}
 use Rattle.graph_tasks.specs.declared.wired_task.WiredTask.{WiredTask}
 use Rattle.graph_tasks.proofs.Takes.{without_more, without_none, without_stays, without_stood}
-use Rattle.graph_tasks.proofs.Fillings.{at_end, element_stays, nil, part_among, parts_stood, zip_done, zip_each}
+use Rattle.graph_tasks.proofs.Fillings.{at_end, element_stays, part_among, parts_stood, zip_done, zip_each}
+use Rattle.gst_value.proofs.Places.{nil_append as nil}
 
 module _ {S I O : Type 0} {s : sources.Ghosts S} where
   head_stood : (ns : List ℕ) (files : List (Option S)) (wired : WiredHead I O) (head : Head S I O s) → IsHeadFrom (without ns files) wired head → IsHeadFrom files wired head

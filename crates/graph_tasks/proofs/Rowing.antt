@@ -6,11 +6,10 @@ use Rattle.std.proofs.lemmas.List.{append-nil}
 use Rattle.std.proofs.lemmas.Option.{slice_get-get_or}
 use Rattle.flow_model.specs.Account.{IsMember}
 use Rattle.graph_core.specs.Elements.{Made}
-use Rattle.graph_core.specs.GraphPlan.{pad_id}
+use Rattle.graph_core.specs.GraphPlan.{pad_id, sink_at as place_at}
 use Rattle.graph_pads.specs.declared.pad.PadLink.{PadLink}
-use Rattle.graph_parts.specs.Links.{place_at}
 use Rattle.graph_parts.specs.declared.bag.BagHead.TheVariants.{Inlets}
-use Rattle.graph_parts.proofs.Onces.{in_back, in_either, in_front}
+use Rattle.graph_parts.proofs.Onces.{in_either, in_front, in_back}
 use Rattle.graph_parts.specs.Lanes.{InletAt, lane_room}
 use Rattle.graph_parts.proofs.LaneSlots.{one_slot, slot_of_set}
 use Rattle.inlet_row.specs.Row.{feeds_of}

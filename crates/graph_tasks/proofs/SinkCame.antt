@@ -9,16 +9,13 @@ use Rattle.net_model.specs.Moment.{Moment}
 use Rattle.net_model.specs.Split.{AreEmpty}
 use Rattle.graph_core.specs.Graph.{IsSound, made as made_in, links as links_in}
 use Rattle.graph_core.specs.Allowed.{first_pad}
-use Rattle.graph_core.specs.GraphPlan.{sink_count}
+use Rattle.graph_core.specs.GraphPlan.{sink_count, sink_at as place_at}
 use Rattle.graph_core.specs.declared.graph.Graph.{Graph}
-use Rattle.graph_parts.specs.Links.{place_at}
 use Rattle.graph_tasks.specs.Owed.{came_to}
 use Rattle.graph_tasks.specs.Runs.{RunStands, crossed_in}
 use Rattle.graph_tasks.proofs.Awaited.{took_all}
 use Rattle.graph_tasks.proofs.SinkFiles.{feeds_same}
-
-nil_cons : {A : Type 0} {x : A} {xs : List A} → [] ≡ x ∷ xs → ⊥
-nil_cons e = cc
+use Rattle.gst_value.proofs.Places.{nil_cons}
 
 -- where an element has one list, that is what came to its first sink pad
 one_list : (f : ℕ → List Item) (count : ℕ) (calls : List Call) → map feeds (map f (range_with_len 0 count)) ≡ calls ∷ [] → feeds (f 0) ≡ calls

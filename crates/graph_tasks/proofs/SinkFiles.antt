@@ -18,10 +18,7 @@ use Rattle.task_elements.specs.declared.element.StreamElement.{StreamElement}
 use Rattle.task_elements.specs.declared.element.StreamElement.TheVariants as kinds
 use Rattle.graph_tasks.specs.Written.{HasAll, HasPart, HoldsBytes}
 use Rattle.gst_value.proofs.Basics.{some_same, none_some}
-
-items_fed : (list : List Item) → items (feeds list) ≡ list
-items_fed [] = refl
-items_fed (x ∷ list) = ap (λ (xs : List Item). x ∷ xs) (items_fed list)
+use Rattle.flow_model.proofs.Items.{items_feeds as items_fed}
 
 pub feeds_same : (one other : List Item) → feeds one ≡ feeds other → one ≡ other
 feeds_same one other same = sym (items_fed one) ∙ ap items same ∙ items_fed other

@@ -22,7 +22,7 @@ use Rattle.net_model.specs.Step.{Leads}
 use Rattle.graph_core.specs.Allowed.{first_pad}
 use Rattle.graph_core.specs.Graph.{made as made_in, links as links_in}
 use Rattle.graph_core.specs.declared.graph.Graph.{Graph}
-use Rattle.graph_parts.specs.Links.{has, has_inlets, place_at}
+use Rattle.graph_parts.specs.Links.{has_inlets}
 use Rattle.graph_parts.specs.declared.bag.Bag.{Bag}
 use Rattle.task_elements.specs.Stands.{StreamFell, takes_all}
 use Rattle.task_elements.specs.declared.element.StreamElement.{StreamElement}
@@ -44,13 +44,14 @@ use Rattle.graph_tasks.specs.Written.{AreStreams, HasAll, HasPart, HeadCrossed, 
 use Rattle.graph_tasks.specs.Written.{TasksStandWhole}
 use Rattle.graph_tasks.proofs.Awaited.{awaited}
 use Rattle.graph_tasks.proofs.Came.{leads_from}
-use Rattle.graph_tasks.proofs.EndedGraphs.{not_so}
 use Rattle.graph_tasks.proofs.FedElements.{no_sink, only_first}
 use Rattle.graph_tasks.proofs.FedHeads.{frame_fed, head_fed}
 use Rattle.graph_tasks.proofs.InOrder.{runs_stand}
 use Rattle.graph_tasks.proofs.SinkCame.{came_whole}
 use Rattle.graph_tasks.proofs.SinkFiles.{has_all, has_part}
-use Rattle.gst_value.proofs.Basics.{none_some}
+use Rattle.gst_value.proofs.Basics.{none_some, false_of as not_so}
+use Rattle.graph_core.specs.Elements.{has}
+use Rattle.graph_core.specs.GraphPlan.{sink_at as place_at}
 
 -- one that passes all has no fault but want of memory
 passes_none : (calls : List Call) (x : Item) (fault : ElementFault) → IsFaultOf (next_owed passes calls x) fault → fault ≡ OutOfMemory

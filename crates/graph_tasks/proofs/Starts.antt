@@ -12,8 +12,7 @@ use Rattle.net_model.specs.declared.element.TaskElement as elements
 use Rattle.net_model.specs.declared.source.TaskSource as sources
 use Rattle.graph_core.specs.Graph.{made as made_in, links as links_in}
 use Rattle.graph_core.specs.declared.graph.Graph.{Graph}
-use Rattle.graph_core.specs.GraphPlan.{pad_id}
-use Rattle.graph_parts.specs.Links.{has, place_at}
+use Rattle.graph_core.specs.GraphPlan.{pad_id, sink_at as place_at}
 use Rattle.el_settings.specs.Asked.{is_source}
 use Rattle.graph_parts.specs.declared.bag.Bag.{Bag}
 use Rattle.graph_parts.specs.Pads.{pad_owner}
@@ -34,6 +33,7 @@ use Rattle.graph_tasks.proofs.Tied.{sinks_count, tied}
 use Rattle.graph_tasks.proofs.Readies.{for_table, lane_empty}
 use Rattle.graph_tasks.proofs.Heads.{fed_rows, source_owned}
 use Rattle.graph_tasks.proofs.Readied.{net_ready}
+use Rattle.graph_core.specs.Elements.{has}
 
 -- nothing was done to the graph but links
 is_plain : (contents : ℕ → List ℕ) (graph : Graph) → IsPlain (moment_plan contents graph)

@@ -15,15 +15,15 @@ use Rattle.inlet_row.specs.declared.row.InletRow.{InletRow}
 use Rattle.net_model.specs.Moment.{Moment}
 use Rattle.net_model.specs.declared.element.TaskElement as elements
 use Rattle.net_model.specs.declared.source.TaskSource as sources
-use Rattle.graph_core.specs.Elements.{Made}
-use Rattle.graph_core.specs.GraphPlan.{pad_id, sink_count}
+use Rattle.graph_core.specs.Elements.{Made, has}
+use Rattle.graph_core.specs.GraphPlan.{pad_id, sink_count, sink_at as place_at}
 use Rattle.graph_core.specs.Graph.{made as made_in, links as links_in}
 use Rattle.graph_pads.specs.Links.{sink_behind, source_before}
 use Rattle.graph_core.specs.declared.graph.Graph.{Graph}
 use Rattle.graph_pads.specs.declared.pad.PadLink.{PadLink}
 use Rattle.graph_pads.specs.declared.pad.PadPlace.{PadPlace}
 use Rattle.graph_parts.specs.BagLaws.{StandsIn}
-use Rattle.graph_parts.specs.Links.{has, link_to, place_at, source_count}
+use Rattle.graph_parts.specs.Links.{link_to, source_count}
 use Rattle.graph_parts.specs.declared.bag.Bag.{Bag}
 use Rattle.graph_parts.specs.declared.bag.BagHead.{BagHead}
 use Rattle.graph_parts.specs.declared.bag.BagHead.TheVariants as starts
@@ -44,14 +44,16 @@ use Rattle.graph_tasks.specs.Owed.{went_from}
 use Rattle.graph_tasks.specs.Runs.{RunStands, RunsAt, crossed_in}
 use Rattle.graph_tasks.specs.Stalled.{lane_at}
 use Rattle.graph_tasks.proofs.BlamedFrames.{HasBag, bag_of}
-use Rattle.graph_tasks.proofs.EndedBags.{HasOwn, IsLoose, OwnsOne, fed_bag, get_map, got_within, in_bag_or_loose, own_part, own_source, stands_own}
+use Rattle.graph_tasks.proofs.EndedBags.{HasOwn, IsLoose, OwnsOne, fed_bag, in_bag_or_loose, own_part, own_source, stands_own}
 use Rattle.graph_tasks.proofs.EndedLoose.{loose_quiet}
 use Rattle.graph_tasks.proofs.FedHeads.{head_fed}
 use Rattle.graph_tasks.proofs.StuckReasons.{list_calls}
-use Rattle.graph_tasks.proofs.StuckTaken.{IsTakenAt, before_there, items_of, taken_at, taken_here, went_here}
+use Rattle.graph_tasks.proofs.StuckTaken.{IsTakenAt, before_there, taken_at, taken_here, went_here}
 use Rattle.graph_tasks.proofs.StuckWaits.{took}
 use Rattle.graph_tasks.proofs.StuckWires.{LaneRow, lane_row}
 use Rattle.gst_value.proofs.Basics.{some_same}
+use Rattle.flow_model.proofs.Items.{items_feeds as items_of}
+use Rattle.gst_value.proofs.Places.{found_at as got_within, map_get as get_map}
 
 none_front : (xs ys : List Item) → [] ≡ xs ++ ys → (xs ≡ []) × (ys ≡ [])
 none_front [] ys e = (refl, sym e)

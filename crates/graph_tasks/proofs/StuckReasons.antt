@@ -8,11 +8,11 @@ use Rattle.std.proofs.lemmas.Bool.{false≢true}
 use Rattle.std.proofs.lemmas.List.FromFn.{length-map-range_with_len}
 use Rattle.gst_outside.specs.declared.sink.Sink as sinks
 use Rattle.flow_model.specs.Call.{Call, feeds, items}
-use Rattle.flow_model.specs.Feeding.{has_eos, has_item}
+use Rattle.flow_model.specs.Feeding.{has_eos}
 use Rattle.flow_model.specs.Item.{Item, eos_among, is_eos, is_flush_stop}
 use Rattle.flow_model.specs.Prefix.{IsPrefix, next, nothing}
 use Rattle.flow_model.specs.SinkPads.{InSection, calls_at, flush_stops_given}
-use Rattle.flow_model.specs.Sticky.{has_flush_stop, latest, since_flush_stop}
+use Rattle.flow_model.specs.Sticky.{has_flush_stop, latest}
 use Rattle.flow_model.proofs.Prefixes.{append_prefix}
 use Rattle.lane_core.specs.Lane.{Lane, IsBetween}
 use Rattle.lane_core.specs.declared.ends.Inlet as inlets
@@ -26,10 +26,10 @@ use Rattle.net_model.specs.declared.source.TaskSource as sources
 use Rattle.el_settings.specs.Asked.{is_queue, is_source, makes_sinks}
 use Rattle.el_settings.proofs.Roles.{source_no_sink}
 use Rattle.el_set.specs.Passing.{PassesEach}
-use Rattle.el_set.proofs.Ends.{eos_latest, none_first}
+use Rattle.el_set.proofs.Ends.{eos_latest}
 use Rattle.el_set.proofs.PassingApart.{queues_pass}
 use Rattle.graph_core.specs.Graph.{IsSound, made as made_in, links as links_in}
-use Rattle.graph_core.specs.GraphPlan.{sink_count}
+use Rattle.graph_core.specs.GraphPlan.{sink_count, sink_at as place_at}
 use Rattle.graph_core.specs.LinkedOnce.{AreOnce}
 use Rattle.graph_pads.specs.Links.{is_same, sink_behind}
 use Rattle.graph_core.specs.declared.graph.Graph.{Graph}
@@ -38,7 +38,7 @@ use Rattle.graph_core.proofs.LinkedOnce.{same_or_other}
 use Rattle.graph_core.proofs.NumberedPads.{found_in}
 use Rattle.graph_core.proofs.Orders.{pads_at_link}
 use Rattle.graph_parts.proofs.Sources.{sinks_are}
-use Rattle.graph_parts.specs.Links.{Reaches, has, has_inlets, place_at}
+use Rattle.graph_parts.specs.Links.{Reaches, has_inlets}
 use Rattle.graph_parts.specs.declared.bag.Bag.{Bag}
 use Rattle.task_elements.specs.declared.element.StreamElement.{StreamElement}
 use Rattle.task_elements.proofs.FirstEos.{at_place}
@@ -62,30 +62,30 @@ use Rattle.graph_tasks.specs.Stalled.{IsDue, IsStuck, NothingWaits, ended, lane_
 use Rattle.graph_tasks.specs.Written.{AreStreams}
 use Rattle.graph_tasks.proofs.Awaited.{HasElementAt, element_at}
 use Rattle.graph_tasks.proofs.BlamedFrames.{HasBag, bag_of, source_is}
-use Rattle.graph_tasks.proofs.EndedBags.{got_within, map_length}
+use Rattle.graph_tasks.proofs.EndedBags.{map_length}
 use Rattle.graph_tasks.proofs.EndedEos.{ended_has}
 use Rattle.graph_tasks.proofs.FedElements.{IsAsked, asked_at, fed_rule, not_asked}
 use Rattle.graph_tasks.proofs.FedHeads.{head_fed}
 use Rattle.graph_tasks.proofs.OverHeads.{row_count}
 use Rattle.graph_tasks.proofs.OverWants.{join_owes, join_wants, single_wants, stands_by, wanted_by}
 use Rattle.graph_tasks.proofs.StuckRows.{few_pads, row_awaits}
-use Rattle.graph_tasks.proofs.StuckTaken.{InParts, IsTakenAt, came_first, came_taken, feeds_none, items_of, parts_at, taken_here, took_is}
+use Rattle.graph_tasks.proofs.StuckTaken.{InParts, IsTakenAt, came_first, came_taken, parts_at, taken_here, took_is}
 use Rattle.graph_tasks.proofs.StuckWaits.{head_is, nothing_waits, owed_is, took}
 use Rattle.graph_tasks.proofs.StuckWires.{LaneRow, LeadsOver, WireIn, lane_row, leads_over, wire_in}
 use Rattle.graph_tasks.proofs.WantsOpen.{told_join}
 use Rattle.gst_value.proofs.Basics.{none_some, some_same}
 use Rattle.net_turns.proofs.Left.{wants_ended}
+use Rattle.flow_model.proofs.Counted.{since_all}
+use Rattle.flow_model.proofs.Items.{feeds_nil as feeds_none, items_feeds as items_of}
+use Rattle.gst_value.proofs.Places.{found_at as got_within}
+use Rattle.graph_core.specs.Elements.{has}
+use Rattle.gst_item.specs.Item.{has_item}
 
 -- what stands at a sink pad
 pub list_calls : (port : ℕ) (css : List (List Call)) (calls : List Call) → ListAt port css calls → calls_at port css ≡ calls
 list_calls port [] calls h = absurd h
 list_calls zero (cs ∷ css) calls h = h
 list_calls (suc port) (cs ∷ css) calls h = list_calls port css calls h
-
--- in items without a FLUSH_STOP any EOS is in force
-since_all : (xs : List Item) → has_flush_stop xs ≡ false → since_flush_stop xs ≡ xs
-since_all [] h = refl
-since_all (x ∷ xs) h = let t = none_first x xs h in rw (t.1, t.0) refl
 
 open_none : (xs : List Item) → has_flush_stop xs ≡ false → list_ended xs ≡ false → eos_among xs ≡ false
 open_none xs none open_ = sym (ap (λ (ys : List Item). has_item (latest is_eos ys)) (since_all xs none) ∙ eos_latest xs) ∙ open_

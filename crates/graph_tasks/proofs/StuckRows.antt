@@ -10,13 +10,13 @@ use Rattle.el_settings.specs.Asked.{is_queue, limits_of, makes_sinks}
 use Rattle.el_settings.specs.declared.settings.QueueSettings.{QueueSettings}
 use Rattle.el_settings.specs.declared.settings.Settings.{Settings}
 use Rattle.el_settings.proofs.Roles.{queue_limits}
-use Rattle.graph_core.specs.Elements.{Made}
-use Rattle.graph_core.specs.GraphPlan.{pad_id, sink_count}
+use Rattle.graph_core.specs.Elements.{Made, has}
+use Rattle.graph_core.specs.GraphPlan.{pad_id, sink_count, sink_at as place_at}
 use Rattle.graph_pads.specs.Links.{source_before}
 use Rattle.graph_pads.specs.declared.pad.PadLink.{PadLink}
 use Rattle.graph_pads.specs.declared.pad.PadPlace.{PadPlace}
 use Rattle.el_settings.proofs.Padded.{few_sinks}
-use Rattle.graph_parts.specs.Links.{has, has_inlets, place_at}
+use Rattle.graph_parts.specs.Links.{has_inlets}
 use Rattle.graph_parts.specs.Lanes.{has_lane, room_by, room_of}
 use Rattle.net_turns.specs.Alone.{HoldsAlone}
 use Rattle.net_turns.specs.Rests.{AwaitsLane}

@@ -12,12 +12,12 @@ use Rattle.net_model.specs.Moment.{Moment}
 use Rattle.net_model.specs.Split.{AreEmpty, AreSplit}
 use Rattle.net_model.specs.Split as splits
 use Rattle.graph_core.specs.Graph.{IsSound, made as made_in, links as links_in}
-use Rattle.graph_core.specs.GraphPlan.{pad_id, sink_count}
+use Rattle.graph_core.specs.GraphPlan.{pad_id, sink_count, sink_at as place_at}
 use Rattle.graph_core.specs.LinkedOnce.{AreOnce}
 use Rattle.graph_pads.specs.Links.{sink_behind, source_before}
 use Rattle.graph_core.specs.declared.graph.Graph.{Graph}
 use Rattle.graph_pads.specs.declared.pad.PadPlace.{PadPlace}
-use Rattle.graph_parts.specs.Links.{has, has_inlets, place_at}
+use Rattle.graph_parts.specs.Links.{has_inlets}
 use Rattle.graph_parts.specs.MomentLaws.{place_of}
 use Rattle.graph_parts.specs.Pads.{IsThere}
 use Rattle.graph_parts.proofs.Sources.{few_there, linked_there, place_is_pad}
@@ -26,10 +26,8 @@ use Rattle.graph_tasks.specs.Runs.{RunStands, crossed_in}
 use Rattle.graph_tasks.specs.Stalled.{AreTaken}
 use Rattle.graph_tasks.proofs.Awaited.{split_came}
 use Rattle.graph_tasks.proofs.Came.{number_at, place_again}
-
-pub items_of : (xs : List Item) → items (feeds xs) ≡ xs
-items_of [] = refl
-items_of (x ∷ xs) = ap (λ (ys : List Item). x ∷ ys) (items_of xs)
+use Rattle.flow_model.proofs.Items.{feeds_nil as feeds_none, items_feeds as items_of}
+use Rattle.graph_core.specs.Elements.{has}
 
 -- items that were given in two parts
 pub record InParts (xs : List Item) (t h : List Call) : Type 0 where
@@ -103,13 +101,6 @@ none_at : (k : ℕ) (hs : List (List Call)) → AreEmpty hs → calls_at k hs �
 none_at k [] n = refl
 none_at zero (h ∷ hs) n = n.0
 none_at (suc k) (h ∷ hs) n = none_at k hs n.1
-
-pub feeds_none : (xs : List Item) → feeds xs ≡ [] → xs ≡ []
-feeds_none [] e = refl
-feeds_none (x ∷ xs) e = absurd (cons_nil e)
-  where
-    cons_nil : {c : Call} {cs : List Call} → c ∷ cs ≡ [] → ⊥
-    cons_nil e = cc
 
 module _ (contents : ℕ → List ℕ) (graph : Graph) (m : Moment) (sound : IsSound graph) (once : AreOnce (links_in graph)) (run : RunStands contents graph m) where
   -- what was taken behind a source pad

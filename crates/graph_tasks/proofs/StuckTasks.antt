@@ -17,12 +17,12 @@ use Rattle.net_model.specs.declared.source.TaskSource as sources
 use Rattle.el_settings.specs.Asked.{is_source}
 use Rattle.el_settings.proofs.Roles.{source_no_sink}
 use Rattle.graph_core.specs.Graph.{made as made_in, links as links_in}
-use Rattle.graph_core.specs.GraphPlan.{before_it, pad_id, sink_count}
+use Rattle.graph_core.specs.GraphPlan.{before_it, pad_id, sink_count, sink_at as place_at}
 use Rattle.graph_core.specs.declared.graph.Graph.{Graph}
 use Rattle.graph_pads.specs.Links.{source_before}
 use Rattle.graph_pads.specs.declared.pad.PadLink.{PadLink}
 use Rattle.graph_pads.specs.declared.pad.PadPlace.{PadPlace}
-use Rattle.graph_parts.specs.Links.{has, has_inlets, place_at}
+use Rattle.graph_parts.specs.Links.{has_inlets}
 use Rattle.graph_parts.specs.declared.bag.Bag.{Bag}
 use Rattle.graph_parts.specs.Lanes.{has_lane}
 use Rattle.task_elements.specs.declared.element.StreamElement.{StreamElement}
@@ -40,7 +40,6 @@ use Rattle.graph_tasks.specs.Owed.{came_to, went_from}
 use Rattle.graph_tasks.specs.Runs.{RunStands, RunsAt}
 use Rattle.graph_tasks.specs.Stalled.{TasksAreStuck, lane_at}
 use Rattle.graph_tasks.proofs.BlamedFrames.{bag_of, source_is}
-use Rattle.graph_tasks.proofs.EndedBags.{got_within}
 use Rattle.graph_tasks.proofs.FedElements.{IsAsked, asked_at}
 use Rattle.graph_tasks.proofs.FedHeads.{head_fed}
 use Rattle.graph_tasks.proofs.InOrder.{runs_stand}
@@ -52,6 +51,8 @@ use Rattle.graph_tasks.proofs.StuckRows.{few_pads, row_lane, row_none}
 use Rattle.graph_tasks.proofs.StuckTaken.{are_taken}
 use Rattle.graph_tasks.proofs.StuckWaits.{took}
 use Rattle.gst_value.proofs.Basics.{some_same}
+use Rattle.gst_value.proofs.Places.{found_at as got_within}
+use Rattle.graph_core.specs.Elements.{has}
 
 -- how many items were taken from the lane into a sink pad, where it is linked
 abbrev lane_count : List PadLink → (ℕ → List Item) → PadPlace → Option ℕ

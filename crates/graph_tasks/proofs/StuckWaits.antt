@@ -43,9 +43,10 @@ use Rattle.graph_tasks.specs.Owed.{inputs_to, owed_by, went_from}
 use Rattle.graph_tasks.specs.Runs.{RunStands, RunsAt, crossed_in}
 use Rattle.graph_tasks.specs.Stalled.{NothingWaits}
 use Rattle.graph_tasks.proofs.BlamedFrames.{HasBag, bag_of}
-use Rattle.graph_tasks.proofs.EndedBags.{HasOwn, OwnsOne, get_map, own_part, own_source, stands_own}
+use Rattle.graph_tasks.proofs.EndedBags.{HasOwn, OwnsOne, own_part, own_source, stands_own}
 use Rattle.graph_tasks.proofs.StuckTaken.{taken, took_is, went_here}
 use Rattle.gst_value.proofs.Basics.{some_same}
+use Rattle.gst_value.proofs.Places.{map_get as get_map}
 
 -- the head of a bag is that of its task
 pub head_is : (made : List Made) (links : List PadLink) (own : BagHead) (frame : HeadFrame) → IsHeadFrame made links own frame → bags.head_number own ≡ head_number frame

@@ -15,12 +15,12 @@ use Rattle.inlet_row.specs.declared.feeding.Feeding.{Feeding}
 use Rattle.inlet_row.specs.declared.feeding.Feeding.TheVariants.{Lane as OfLane}
 use Rattle.inlet_row.specs.declared.row.InletRow.{InletRow}
 use Rattle.inlet_row.specs.Row.{GaveInAll, GaveOf, feeds_of, held, items_of}
-use Rattle.graph_core.specs.Elements.{Made}
-use Rattle.graph_core.specs.GraphPlan.{pad_id}
+use Rattle.graph_core.specs.Elements.{Made, has}
+use Rattle.graph_core.specs.GraphPlan.{pad_id, sink_at as place_at}
 use Rattle.graph_pads.specs.declared.pad.PadLink.{PadLink}
 use Rattle.graph_pads.specs.declared.pad.PadPlace.{PadPlace}
 use Rattle.graph_parts.specs.Bags.{head_cells, number_of, numbers}
-use Rattle.graph_parts.specs.Links.{has, has_inlets, link_to, place_at, source_count}
+use Rattle.graph_parts.specs.Links.{has_inlets, link_to, source_count}
 use Rattle.graph_parts.specs.declared.bag.Bag.{Bag}
 use Rattle.graph_parts.specs.declared.bag.BagHead.{BagHead}
 use Rattle.graph_parts.specs.declared.bag.BagHead.TheVariants as starts
@@ -33,7 +33,8 @@ use Rattle.net_task.specs.Ready.{EndsWith}
 use Rattle.net_turns.specs.Alone.{HoldLanes, HoldsAlone}
 use Rattle.net_turns.specs.Net.{HasRow, ListAt, NetStands, RowStands, SendsInto}
 use Rattle.graph_tasks.specs.Frames.{IsFrameOf, IsHeadFrame, IsWireOf, RoomBy, goes_by}
-use Rattle.graph_tasks.proofs.EndedBags.{among_back, among_front, got_within}
+use Rattle.graph_tasks.proofs.EndedBags.{among_back, among_front}
+use Rattle.gst_value.proofs.Places.{found_at as got_within, some_not}
 
 -- a source pad of a task is one of an element of its bag
 pub record WireIn (made : List Made) (links : List PadLink) (bag : Bag) (wire : Wire) : Type 0 where
@@ -108,10 +109,6 @@ pub record LaneStands {I L O : Type 0} (i : inlets.Ghosts I L O) (t : List Lane)
   pub received : i.received inlet gave
   pub between : IsBetween (Some t) place (drop from (m.history p)) gave
   pub holds : ListAt port (m.held n) (feeds (items_of (slice_get t place)))
-
-some_not : {A : Type 0} (xs ys : List A) (x : A) → xs ++ x ∷ ys ≡ [] → ⊥
-some_not [] ys x e = cc
-some_not (z ∷ xs) ys x e = cc
 
 module _ {S E I O L : Type 0} {s : sources.Ghosts S} {e : elements.Ghosts E} {i : inlets.Ghosts I L O} {o : outlets.Ghosts O L}
     (m : Moment) (tasks : List (Task S E I O L s e i o)) (tells : Option (List Lane)) (net : NetStands m tasks tells)

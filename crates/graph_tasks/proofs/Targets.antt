@@ -1,17 +1,17 @@
 -- Each lane of a graph is led to by one pad of its bags, and no element stands in two of these.
-use Rattle.std.proofs.Common.{◌≡◌, ◌⊎◌, ◌||◌, ℕ, suc, Bool, true, false, cond, if◌then◌else◌, List, [], ◌∷◌, ◌++◌, All, Option, None, Some, filter, map, length, refl, sym, ap, ◌∙◌, subst, inl, inr, arith}
+use Rattle.std.proofs.Common.{◌≡◌, ◌⊎◌, ◌||◌, ℕ, suc, Bool, true, false, if◌then◌else◌, List, [], ◌∷◌, ◌++◌, All, Option, None, Some, map, length, refl, sym, ap, ◌∙◌, subst, inl, inr, arith}
 use Rattle.std.specs.Prelude.{slice_get}
 use Rattle.std.specs.List.{flat_map, range_with_len}
 use Rattle.std.specs.Option.{option_map_or}
 use Rattle.std.proofs.lemmas.List.{map-append}
 use Rattle.flow_model.specs.Account.{IsMember}
-use Rattle.graph_core.specs.Elements.{Made}
-use Rattle.graph_core.specs.GraphPlan.{pad_id}
+use Rattle.graph_core.specs.Elements.{Made, has}
+use Rattle.graph_core.specs.GraphPlan.{pad_id, sink_at as place_at}
 use Rattle.graph_pads.specs.Links.{sink_behind}
 use Rattle.graph_pads.specs.declared.pad.PadLink.{PadLink}
 use Rattle.graph_pads.specs.declared.pad.PadPlace.{PadPlace}
 use Rattle.graph_parts.specs.Bags.{HavePads, IsBag, IsHead, Once, cells, head_number, head_of, number_of, numbers}
-use Rattle.graph_parts.specs.Links.{has, has_inlets, is_head, link_to, pad_at, place_at, source_count}
+use Rattle.graph_parts.specs.Links.{has_inlets, is_head, link_to, pad_at, source_count}
 use Rattle.el_settings.specs.Asked.{is_source}
 use Rattle.graph_parts.specs.declared.bag.Bag.{Bag}
 use Rattle.graph_parts.specs.declared.bag.BagElement.{BagElement}
@@ -19,12 +19,13 @@ use Rattle.graph_parts.specs.declared.bag.BagHead.{BagHead}
 use Rattle.graph_parts.specs.declared.bag.BagHead.TheVariants.{Source, Inlets}
 use Rattle.graph_parts.specs.declared.bag.BagLink.TheVariants.{Element, Lane}
 use Rattle.graph_parts.specs.declared.bag.BagPad.{BagPad}
-use Rattle.graph_parts.proofs.Apart.{same_head}
+use Rattle.graph_parts.proofs.Apart.{same_head, once_filter}
 use Rattle.graph_parts.proofs.Onces.{in_either, once_append}
 use Rattle.graph_parts.proofs.Trees.{range_once}
 use Rattle.graph_tasks.specs.Wiring.{AreLinks, BagsGiven, all_cells, cell_lanes, inlets_of, lane_to, pad_lanes}
 use Rattle.graph_tasks.proofs.Flats.{flat_flat}
 use Rattle.graph_tasks.proofs.Numbers.{inlets_once, one_source}
+use Rattle.gst_value.proofs.Basics.{or_true}
 
 -- a pad of these leads over the lane of a number
 record LaneBy (made : List Made) (links : List PadLink) (a d : ℕ) (ks : List ℕ) : Type 0 where
@@ -104,28 +105,6 @@ module _ (made : List Made) (links : List PadLink) (are : AreLinks made links) w
       let f = lanes_from made links xs have.1 d n in
       let same = same_source x.element f.from d (range_with_len 0 (source_count made x.element)) (range_with_len 0 (source_count made f.from)) l f.by in
       once.0 (subst (λ (k : ℕ). IsMember k (map number_of xs)) (sym (ap (λ (place : PadPlace). place.element) same)) f.among))
-
--- what stands in a filtered list
-filtered : (p : ℕ → Bool) (xs : List ℕ) (e : ℕ) → IsMember e (filter p xs) → IsMember e xs
-filtered p [] e m = absurd m
-filtered p (x ∷ xs) e m = go (p x) (filtered p xs e) m
-  where
-    go : (b : Bool) → (IsMember e (filter p xs) → IsMember e xs) → IsMember e (cond b (x ∷ filter p xs) (filter p xs)) → IsMember e (x ∷ xs)
-    go true later (inl same) = inl same
-    go true later (inr m) = inr (later m)
-    go false later m = inr (later m)
-
-once_filter : (p : ℕ → Bool) (xs : List ℕ) → Once xs → Once (filter p xs)
-once_filter p [] once = tt
-once_filter p (x ∷ xs) once = go (p x) (once_filter p xs once.1)
-  where
-    go : (b : Bool) → Once (filter p xs) → Once (cond b (x ∷ filter p xs) (filter p xs))
-    go true rest = (λ m. once.0 (filtered p xs x m), rest)
-    go false rest = rest
-
-or_true : (b : Bool) → (b || true) ≡ true
-or_true true = refl
-or_true false = refl
 
 source_is_head : (found : Option Made) → option_map_or (λ (m : Made). is_source m.settings) found false ≡ true → option_map_or (λ (m : Made). is_head m.settings) found false ≡ true
 source_is_head None is = absurd (cc)

@@ -12,13 +12,13 @@ use Rattle.net_model.specs.declared.source.TaskSource as sources
 use Rattle.net_model.specs.Moment.{behavior_at}
 use Rattle.std.specs.Option.{option_map_or}
 use Rattle.el_settings.specs.Asked.{sink_pads, is_source}
-use Rattle.graph_core.specs.Elements.{Made}
+use Rattle.graph_core.specs.Elements.{Made, has}
 use Rattle.graph_core.specs.Graph.{made as made_in, links as links_in}
 use Rattle.graph_pads.specs.Links.{sink_behind, source_before}
 use Rattle.graph_core.specs.declared.graph.Graph.{Graph}
 use Rattle.graph_pads.specs.declared.pad.PadPlace.{PadPlace}
-use Rattle.graph_core.specs.GraphPlan.{line_plan, owner_of, pad_id, sink_at, sink_count as sinks_of, spans_from}
-use Rattle.graph_parts.specs.Links.{has, has_inlets, place_at, source_count}
+use Rattle.graph_core.specs.GraphPlan.{line_plan, owner_of, pad_id, sink_at, sink_count as sinks_of, spans_from, sink_at as place_at}
+use Rattle.graph_parts.specs.Links.{has_inlets, source_count}
 use Rattle.graph_parts.specs.Bags.{IsHead}
 use Rattle.graph_parts.specs.declared.bag.Bag.{Bag}
 use Rattle.graph_parts.specs.declared.bag.BagElement.{BagElement}
@@ -41,11 +41,12 @@ use Rattle.task_parts.specs.Part.{waits_at}
 use Rattle.net_task.specs.declared.task.Task.{Task}
 use Rattle.net_task.specs.Ties.{HasPad, HeadTied, NoneIs, NoneLeads, PartTied, PortTied, RowTied, SourceTied, Stands, Ties, nothing_lost}
 use Rattle.graph_tasks.specs.Tasks.{IsHeadOf, IsOf, IsPadOf, IsPartOf, IsRowOf, LeadsTo, sink_count}
-use Rattle.graph_tasks.proofs.Lists.{got_within, took_none}
+use Rattle.graph_tasks.proofs.Lists.{took_none}
 use Rattle.graph_tasks.proofs.Graphs.{gives_none}
 use Rattle.graph_tasks.proofs.Bags.{among, elements_once, no_source, source_among, source_apart}
 use Rattle.graph_tasks.proofs.Pads.{start, pad_linked, pad_number, pad_waits}
 use Rattle.graph_tasks.proofs.Given.{IsBegun, cell_of, pad_there, placed, there}
+use Rattle.gst_value.proofs.Places.{found_at as got_within}
 
 -- how many sink pads an element has
 pub sinks_count : (contents : ℕ → List ℕ) (graph : Graph) (n : ℕ) → length ((moment_plan contents graph).sinks n) ≡ sink_count (made_in graph) n

@@ -13,7 +13,6 @@ use Rattle.graph_pads.specs.Links.{sink_behind}
 use Rattle.graph_core.specs.declared.graph.Graph.{Graph}
 use Rattle.graph_pads.specs.declared.pad.PadLink.{PadLink}
 use Rattle.graph_pads.specs.declared.pad.PadPlace.{PadPlace}
-use Rattle.graph_parts.specs.Links.{place_at}
 use Rattle.graph_parts.specs.Bags.{numbers}
 use Rattle.graph_parts.specs.declared.bag.Bag.{Bag}
 use Rattle.graph_parts.proofs.Trees.{sink_there}
@@ -28,16 +27,16 @@ use Rattle.net_task.specs.Frame.{Wire}
 use Rattle.net_task.specs.Ready.{EndsWith, LeadsInto}
 use Rattle.net_turns.specs.Net.{AreWired, HasRow, SendsInto}
 use Rattle.graph_tasks.specs.Tasks.{IsPadOf, IsRowOf, LeadsTo, sink_count}
-use Rattle.graph_tasks.proofs.Lists.{got_within}
 use Rattle.graph_tasks.proofs.Numbers.{few_pads}
-use Rattle.graph_tasks.proofs.Graphs.{inlets_head, not_true}
+use Rattle.graph_tasks.proofs.Graphs.{inlets_head}
 use Rattle.graph_tasks.proofs.Given.{IsKnown, IsPlaced, one_task, placed}
 use Rattle.graph_tasks.proofs.Wires.{GoesOver, goes_over, one_over, wire_of_bag}
 use Rattle.graph_tasks.proofs.Readies.{rows_apart}
 use Rattle.graph_tasks.proofs.Heads.{fed_among, fed_rows, inlets_of, one_owner}
-use Rattle.graph_core.specs.GraphPlan.{pad_id}
+use Rattle.graph_core.specs.GraphPlan.{pad_id, sink_at as place_at}
 use Rattle.graph_core.proofs.NumberedPads.{same_pad}
-use Rattle.gst_value.proofs.Basics.{some_same}
+use Rattle.gst_value.proofs.Basics.{some_same, from_false as not_true}
+use Rattle.gst_value.proofs.Places.{found_at as got_within}
 
 module _ {O L : Type 0} (o : outlets.Ghosts O L) (made : List Made) (links : List PadLink) where
   -- the sink pad behind a lane is that of the link

@@ -7,14 +7,14 @@ use Rattle.lane_core.specs.declared.ends.Inlet as inlets
 use Rattle.lane_core.specs.declared.ends.Outlet as outlets
 use Rattle.net_model.specs.declared.element.TaskElement as elements
 use Rattle.net_model.specs.declared.source.TaskSource as sources
-use Rattle.graph_core.specs.Elements.{Made}
-use Rattle.graph_core.specs.GraphPlan.{pad_id}
+use Rattle.graph_core.specs.Elements.{Made, has}
+use Rattle.graph_core.specs.GraphPlan.{pad_id, sink_at as place_at}
 use Rattle.graph_core.specs.Graph.{made as made_in, links as links_in}
 use Rattle.graph_pads.specs.Links.{sink_behind}
 use Rattle.graph_core.specs.declared.graph.Graph.{Graph}
 use Rattle.graph_pads.specs.declared.pad.PadLink.{PadLink}
 use Rattle.graph_pads.specs.declared.pad.PadPlace.{PadPlace}
-use Rattle.graph_parts.specs.Links.{has, has_inlets, place_at, source_count}
+use Rattle.graph_parts.specs.Links.{has_inlets, source_count}
 use Rattle.graph_parts.specs.Bags.{numbers}
 use Rattle.graph_parts.specs.declared.bag.Bag.{Bag}
 use Rattle.graph_parts.specs.declared.bag.BagElement.{BagElement}
@@ -32,12 +32,12 @@ use Rattle.net_task.specs.declared.task.Task.{Task}
 use Rattle.net_task.specs.Frame.{HeadFrame, IsWire, PartFrame, Room, Wire, WireAt, frame_of, head_frame, head_wire, of_head, of_part, part_frame, room_in, wire_of}
 use Rattle.net_task.specs.Ready.{LeadsInto}
 use Rattle.graph_tasks.specs.Tasks.{IsHeadOf, IsLaneTo, IsPadOf, LeadsTo}
-use Rattle.graph_tasks.proofs.Lists.{map_got}
 use Rattle.graph_tasks.proofs.Lanes.{lanes_apart}
 use Rattle.graph_tasks.proofs.Numbers.{one_source}
 use Rattle.graph_tasks.proofs.Bags.{among, source_among}
 use Rattle.graph_tasks.proofs.Given.{IsKnown, IsPlaced, cell_of, pad_there}
 use Rattle.gst_value.proofs.Basics.{some_same}
+use Rattle.gst_value.proofs.Places.{map_got}
 
 -- A source pad of an element leads over the lane of this place.
 pub record GoesOver (made : List Made) (links : List PadLink) (n k place : ℕ) : Type 0 where

@@ -12,10 +12,9 @@ use Rattle.net_model.specs.declared.source.TaskSource as sources
 use Rattle.graph_core.specs.Graph.{IsGraph, IsSound, is_live, made as made_in, links as links_in}
 use Rattle.graph_core.specs.declared.graph.Graph.{Graph}
 use Rattle.launch_text.specs.declared.tree.Tree.{Tree}
-use Rattle.graph_core.specs.GraphPlan.{graph_plan}
+use Rattle.graph_core.specs.GraphPlan.{graph_plan, sink_at as place_at}
 use Rattle.graph_parts.specs.Pads.{IsThere, is_pad}
 use Rattle.graph_parts.specs.BagLaws.{StandsIn}
-use Rattle.graph_parts.specs.Links.{place_at}
 use Rattle.graph_parts.specs.declared.bag.Bag.{Bag}
 use Rattle.task_elements.specs.declared.element.StreamElement.{StreamElement}
 use Rattle.net_task.specs.declared.task.Task.{Task}

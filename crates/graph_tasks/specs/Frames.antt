@@ -5,8 +5,8 @@ use Rattle.lane_core.specs.declared.ends.Outlet as outlets
 use Rattle.graph_core.specs.Elements.{Made}
 use Rattle.graph_pads.specs.Links.{sink_behind}
 use Rattle.graph_pads.specs.declared.pad.PadLink.{PadLink}
-use Rattle.graph_core.specs.GraphPlan.{pad_id, sink_count}
-use Rattle.graph_parts.specs.Links.{link_to, place_at, source_count}
+use Rattle.graph_core.specs.GraphPlan.{pad_id, sink_count, sink_at as place_at}
+use Rattle.graph_parts.specs.Links.{link_to, source_count}
 use Rattle.graph_parts.specs.declared.bag.Bag.{Bag}
 use Rattle.graph_parts.specs.declared.bag.BagElement.{BagElement}
 use Rattle.graph_parts.specs.declared.bag.BagHead.{BagHead}

@@ -11,7 +11,6 @@ use Rattle.el_settings.specs.Asked.{makes_sinks}
 use Rattle.graph_core.specs.Graph.{IsGraph, is_live, made as made_in}
 use Rattle.graph_core.specs.declared.graph.Graph.{Graph}
 use Rattle.launch_text.specs.declared.tree.Tree.{Tree}
-use Rattle.graph_parts.specs.Links.{has}
 use Rattle.graph_parts.specs.declared.bag.Bag.{Bag}
 use Rattle.task_elements.specs.declared.element.StreamElement.{StreamElement}
 use Rattle.task_parts.specs.declared.step.Step.{Step}
@@ -21,6 +20,7 @@ use Rattle.net_turns.specs.Rests.{NetRests}
 use Rattle.graph_tasks.specs.Owed.{AreOver}
 use Rattle.graph_tasks.specs.Runs.{RunsAt, crossed_in}
 use Rattle.graph_tasks.specs.Written.{AreStreams}
+use Rattle.graph_core.specs.Elements.{has}
 
 -- the elements of which links make the sink pads, and which so join streams
 abbrev pub joins_in : Graph → ℕ → Bool

@@ -21,8 +21,8 @@ use Rattle.graph_core.specs.declared.graph.Graph.{Graph}
 use Rattle.graph_pads.specs.declared.pad.PadLink.{PadLink}
 use Rattle.graph_pads.specs.declared.pad.PadPlace.{PadPlace}
 use Rattle.graph_core.specs.Allowed.{first_pad}
-use Rattle.graph_core.specs.GraphPlan.{before_it, graph_plan, pad_id, sink_count}
-use Rattle.graph_parts.specs.Links.{has_inlets, place_at}
+use Rattle.graph_core.specs.GraphPlan.{before_it, graph_plan, pad_id, sink_count, sink_at as place_at}
+use Rattle.graph_parts.specs.Links.{has_inlets}
 use Rattle.graph_parts.specs.Pads.{is_pad}
 
 -- what crossed the source pad before a sink pad

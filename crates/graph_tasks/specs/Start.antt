@@ -13,12 +13,12 @@ use Rattle.graph_core.specs.LinkedOnce.{AreOnce}
 use Rattle.graph_parts.specs.Plans.{moment_plan, moment_answers}
 use Rattle.graph_parts.specs.MomentLaws.{given_by}
 use Rattle.graph_parts.specs.Bags.{AreBags}
-use Rattle.graph_parts.specs.Links.{has}
 use Rattle.el_settings.specs.Asked.{is_source}
 use Rattle.graph_parts.specs.declared.bag.Bag.{Bag}
 use Rattle.net_task.specs.declared.task.Task.{Task}
 use Rattle.net_turns.specs.Net.{NetStands}
 use Rattle.graph_tasks.specs.Tasks.{AreTasks, IsOf}
+use Rattle.graph_core.specs.Elements.{has}
 
 -- each element that is no source stands for what it does where a run begins, and took nothing
 abbrev pub ElementsStand : {E : Type 0} → elements.Ghosts E → (ℕ → List ℕ) → Graph → List (Option E) → Type 0

@@ -5,12 +5,12 @@ use Rattle.lane_core.specs.Lane.{Lane, lane_of}
 use Rattle.lane_core.specs.declared.ends.Inlet as inlets
 use Rattle.lane_core.specs.declared.ends.Outlet as outlets
 use Rattle.el_settings.specs.Asked.{sink_pads}
-use Rattle.graph_core.specs.Elements.{Made}
+use Rattle.graph_core.specs.Elements.{Made, has}
 use Rattle.graph_pads.specs.Links.{sink_behind}
 use Rattle.graph_pads.specs.declared.pad.PadLink.{PadLink}
 use Rattle.graph_pads.specs.declared.pad.PadPlace.{PadPlace}
-use Rattle.graph_core.specs.GraphPlan.{pad_id}
-use Rattle.graph_parts.specs.Links.{has, has_inlets, place_at, source_count}
+use Rattle.graph_core.specs.GraphPlan.{pad_id, sink_at as place_at}
+use Rattle.graph_parts.specs.Links.{has_inlets, source_count}
 use Rattle.graph_parts.specs.declared.bag.Bag.{Bag}
 use Rattle.graph_parts.specs.declared.bag.BagElement.{BagElement}
 use Rattle.graph_parts.specs.declared.bag.BagHead.{BagHead}

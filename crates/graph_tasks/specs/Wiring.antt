@@ -11,7 +11,7 @@ use Rattle.graph_pads.specs.declared.pad.PadLink.{PadLink}
 use Rattle.graph_core.specs.LinkedOnce.{AreOnce}
 use Rattle.graph_parts.specs.Bags.{AreBags, IsBag, IsHead, Once, cells, head_cells, head_number, head_of, number_of}
 use Rattle.graph_parts.specs.BagLaws.{IsLink, TellsPads}
-use Rattle.graph_parts.specs.Links.{place_at, source_count}
+use Rattle.graph_parts.specs.Links.{source_count}
 use Rattle.graph_parts.specs.declared.bag.Bag.{Bag}
 use Rattle.graph_parts.specs.declared.bag.BagElement.{BagElement}
 use Rattle.graph_parts.specs.declared.bag.BagHead.{BagHead}
@@ -19,7 +19,7 @@ use Rattle.graph_parts.specs.declared.bag.BagHead.TheVariants.{Source, Inlets}
 use Rattle.graph_parts.specs.declared.bag.BagLink.{BagLink}
 use Rattle.graph_parts.specs.declared.bag.BagLink.TheVariants.{Nothing, Element, Lane}
 use Rattle.graph_parts.specs.declared.bag.BagPad.{BagPad}
-use Rattle.graph_core.specs.GraphPlan.{most_pads, pad_id}
+use Rattle.graph_core.specs.GraphPlan.{most_pads, pad_id, sink_at as place_at}
 use Rattle.graph_parts.specs.Lanes.{InletAt, OutletAt, sink_numbers}
 use Rattle.inlet_row.specs.declared.feeding.Feeding.{Feeding}
 use Rattle.inlet_row.specs.declared.row.InletRow.{InletRow}

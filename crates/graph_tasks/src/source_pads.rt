@@ -2,7 +2,7 @@
 ghost use Rattle.std.specs.Prelude.{◌≡◌, ◌<◌, ℕ, List, IfOk, length};
 ghost use Rattle.graph_core.specs.Graph.{made as made_in, links as links_in};
 ghost use Rattle.graph_core.specs.GraphPlan.{most_pads, pad_id};
-ghost use Rattle.graph_parts.specs.Links.{place_at};
+ghost use Rattle.graph_core.specs.GraphPlan.{sink_at as place_at};
 ghost use Rattle.graph_tasks.specs.Wiring.{CellGiven, IsBehind, IsNumbered, LooksAt, OutletsLeft, PadGiven, PadMade, PadsMade, over_lane, without_lane};
 
 use crate::taking::taken;

@@ -1,7 +1,9 @@
 -- Something under each number, one behind the other.
 use Rattle.std.proofs.Common.{◌≡◌, ◌<◌, ◌+◌, ◌⊎◌, ℕ, List, [], ◌∷◌, ◌++◌, Option, Some, length, sym, ◌∙◌, subst, inl, inr, arith}
 use Rattle.graph_tasks.specs.Tasks.{IsOf}
-use Rattle.graph_tasks.proofs.Lists.{get_front, get_last, less_or_more}
+use Rattle.graph_tasks.proofs.Flats.{at_front as get_front}
+use Rattle.gst_value.proofs.Basics.{same_or_other as less_or_more}
+use Rattle.gst_value.proofs.Places.{get_last}
 
 module _ {A : Type 0} (P : ℕ → A → Type 0) where
   abbrev pub StandBelow : ℕ → List (Option A) → Type 0

@@ -5,6 +5,7 @@ use gst_value::{List, OutOfMemory, PadName, Text};
 use launch_text::LineKind;
 use pad_core::LinkReturn;
 use run_report::*;
+use script_text::ScriptKind;
 use std::alloc::Global;
 use std::test::Fail;
 
@@ -39,6 +40,10 @@ fault BothLines
 2 whole line
 status 2 BadLine
 fault place 20 TrailingLink
+
+5 whole script
+status 5 BadScript
+fault line 1 BadNumber
 
 3 whole kind
 status 3 NoSuch
@@ -247,6 +252,10 @@ fn fault(alloc: Global, case: &str) -> Result<Fault, Fail> {
         "line" => Ok(Fault::BadLine {
             place: 20,
             kind: LineKind::TrailingLink,
+        }),
+        "script" => Ok(Fault::BadScript {
+            line: 1,
+            kind: ScriptKind::BadNumber,
         }),
         "caps" => unfit(
             alloc,

@@ -20,7 +20,7 @@ use Rattle.gst_caps.specs.Description.{IsStructure}
 use Rattle.gst_value.specs.Names.{Each, Rises, is_before}
 use Rattle.gst_value.specs.declared.one.One.{One}
 use Rattle.gst_caps.specs.declared.value.Value.{Value}
-use Rattle.gst_value.proofs.Basics.{and_left, and_right}
+use Rattle.gst_value.proofs.Basics.{and_left, and_right, and_both as and_true}
 
 all-append : (t : List ℕ × Value → Bool) (xs ys : List (List ℕ × Value)) → list_all t (xs ++ ys) ≡ (list_all t xs && list_all t ys)
 all-append t [] ys = refl
@@ -29,9 +29,6 @@ all-append t (x ∷ xs) ys = ap (λ b. t x && b) (all-append t xs ys) ∙ join (
     join : (a b c : Bool) → (a && (b && c)) ≡ ((a && b) && c)
     join true b c = refl
     join false b c = refl
-
-pub and_true : (a b : Bool) → a ≡ true → b ≡ true → (a && b) ≡ true
-and_true a b h k = ap (λ c. c && b) h ∙ k
 
 and_assoc : (a b c : Bool) → (a && (b && c)) ≡ ((a && b) && c)
 and_assoc true b c = refl

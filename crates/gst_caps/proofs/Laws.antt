@@ -6,7 +6,8 @@ use Rattle.gst_caps.specs.Common.{members, contains, common, as_value, have_comm
 use Rattle.gst_value.specs.Common.{holds, common_one, commons}
 use Rattle.gst_value.specs.declared.one.One.{One}
 use Rattle.gst_caps.specs.declared.value.Value.{Value}
-use Rattle.gst_value.proofs.Laws.{any_some, and_true, any-distinct, commons_law}
+use Rattle.gst_value.proofs.Laws.{any_some, any-distinct, commons_law}
+use Rattle.gst_value.proofs.Basics.{and_both as and_true}
 
 -- the common values of two values contain what both contain
 pub value_law : (v w : Value) (o : One) → contains (as_value (common v w)) o ≡ (contains v o && contains w o)

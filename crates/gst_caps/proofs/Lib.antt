@@ -6,3 +6,4 @@ pub mod FieldLaws
 pub mod Overlap
 pub mod Fixing
 pub mod Meeting
+pub mod Same

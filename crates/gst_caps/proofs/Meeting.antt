@@ -8,7 +8,6 @@ use Rattle.std.proofs.lemmas.List.Concat.{flat_map-append}
 use borrow.Author.Tests.{ltb-true}
 use mathlib.Core.Bool.{true≢false}
 use Rattle.gst_value.proofs.Kept.{filter_map_more, filter_map_split}
-use Rattle.gst_value.proofs.Laws.{any-append}
 use Rattle.gst_caps.proofs.Sound.{each_right, each_short_value}
 use Rattle.gst_caps.proofs.FieldLaws.{meets_law}
 use Rattle.gst_caps.proofs.Overlap.{takes_fixed, fixed_right, met_fixed}
@@ -21,17 +20,9 @@ use Rattle.gst_value.specs.Names.{Each}
 use Rattle.gst_caps.specs.Passes.{fields_pass, structures_pass}
 use Rattle.gst_value.specs.declared.one.One.{One}
 use Rattle.gst_caps.specs.declared.value.Value.{Value}
-
-or_right : (a b : Bool) → b ≡ true → (a || b) ≡ true
-or_right true b h = refl
-or_right false b h = h
-
-or_left : (a b : Bool) → a ≡ true → (a || b) ≡ true
-or_left a b h = ap (λ c. c || b) h
-
-from_or : (a b : Bool) → (a || b) ≡ true → (a ≡ true) ⊎ (b ≡ true)
-from_or true b h = inl refl
-from_or false b h = inr h
+use Rattle.gst_caps.proofs.Merging.{from_or}
+use Rattle.gst_value.proofs.Basics.{or_first as or_left, or_second as or_right}
+use Rattle.gst_value.proofs.Places.{any_append as any-append}
 
 -- what passes the limit still does with more behind it
 pub passes-append : (xs ys : List (Description Value)) → structures_pass xs ≡ true → structures_pass (xs ++ ys) ≡ true

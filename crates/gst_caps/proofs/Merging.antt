@@ -8,7 +8,7 @@ use Rattle.std.proofs.lemmas.List.{append-nil, drop_all, take_rest}
 use borrow.Author.Tests.{ltb-true}
 use Rattle.std.proofs.lemmas.Map.Lookups.{exact_bytes}
 use Rattle.gst_value.proofs.NamesInOrder.{cmp, less_trans_each, not_before, filter-all_behind, filter-none_before}
-use Rattle.gst_caps.proofs.Steps.{front, rises_front, greater_less, value_at_behind, value_at_same, value_at_skip}
+use Rattle.gst_caps.proofs.Steps.{rises_front, greater_less, value_at_behind, value_at_same, value_at_skip}
 use Rattle.gst_caps.specs.Accepts.{merged}
 use Rattle.gst_caps.specs.Passes.{fields_pass}
 use Rattle.gst_caps.specs.Common.{as_value, common, members}
@@ -16,6 +16,8 @@ use Rattle.gst_caps.specs.Merge.{merged_from}
 use Rattle.gst_value.specs.Names.{Each, Rises}
 use Rattle.gst_value.specs.declared.one.One.{One}
 use Rattle.gst_caps.specs.declared.value.Value.{Value}
+use Rattle.gst_value.proofs.Basics.{or_first as or_left, or_second as or_right, or_true}
+use Rattle.gst_value.proofs.Places.{any_append as any-append, drop_next as front}
 
 -- ---- one step
 
@@ -74,23 +76,9 @@ from_end fs gs i j (inr h) = rw (drop_all j gs h) (merged-nil (drop i fs) ∙ sy
 pub add_step : {X : Type 0} (old new rest whole : List X) (x : X) → new ≡ old ++ x ∷ [] → whole ≡ x ∷ rest → new ++ rest ≡ old ++ whole
 add_step old new rest whole x e h = ap (λ xs. xs ++ rest) e ∙ append_assoc old (x ∷ []) rest ∙ ap (λ xs. old ++ xs) (sym h)
 
-or_true : (a : Bool) → (a || true) ≡ true
-or_true true = refl
-or_true false = refl
-
-or_join : (a b c : Bool) → (a || (b || c)) ≡ (a || b || c)
-or_join true b c = refl
-or_join false b c = refl
-
 any-middle : {X : Type 0} (t : X → Bool) (xs ys : List X) (x : X) → t x ≡ true → list_any t (xs ++ x ∷ ys) ≡ true
 any-middle t [] ys x h = ap (λ b. b || list_any t ys) h
 any-middle t (y ∷ xs) ys x h = ap (λ b. t y || b) (any-middle t xs ys x h) ∙ or_true (t y)
-
-or_right : (a b : Bool) → b ≡ true → (a || b) ≡ true
-or_right a b h = ap (λ c. a || c) h ∙ or_true a
-
-or_left : (a b : Bool) → a ≡ true → (a || b) ≡ true
-or_left a b h = ap (λ c. c || b) h
 
 -- a field with more than 64 members
 pub over_members : (old rest whole : List (List ℕ × Value)) (x : List ℕ × Value) → whole ≡ x ∷ rest → 64 < length (members x.1) → fields_pass (old ++ whole) ≡ true
@@ -107,11 +95,7 @@ members-as_value (x ∷ y ∷ xs) = refl
 pub over_members_of : (old rest whole : List (List ℕ × Value)) (n : List ℕ) (v w : Value) → whole ≡ (n, as_value (common v w)) ∷ rest → 64 < length (common v w) → fields_pass (old ++ whole) ≡ true
 over_members_of old rest whole n v w e h = over_members old rest whole (n, as_value (common v w)) e (rw (members-as_value (common v w)) h)
 
-any-append : {X : Type 0} (t : X → Bool) (xs ys : List X) → list_any t (xs ++ ys) ≡ (list_any t xs || list_any t ys)
-any-append t [] ys = refl
-any-append t (x ∷ xs) ys = ap (λ b. t x || b) (any-append t xs ys) ∙ or_join (t x) (list_any t xs) (list_any t ys)
-
-from_or : (a b : Bool) → (a || b) ≡ true → (a ≡ true) ⊎ (b ≡ true)
+pub from_or : (a b : Bool) → (a || b) ≡ true → (a ≡ true) ⊎ (b ≡ true)
 from_or true b h = inl refl
 from_or false b h = inr h
 

@@ -11,10 +11,10 @@ use Rattle.std.proofs.lemmas.Slice.Eq.{bytes_eq-Decides}
 use mathlib.Core.Bool.{true≢false}
 use Rattle.gst_value.proofs.NamesInOrder.{cmp, less_from_is_lt, not_before}
 use Rattle.gst_caps.proofs.Steps.{each_at_both}
-use Rattle.gst_value.proofs.Laws.{any-append, same_itself}
+use Rattle.gst_value.proofs.Laws.{same_itself}
 use Rattle.gst_caps.proofs.Sound.{IsRight, each_right, merged_right, Rises-merged}
 use Rattle.gst_value.proofs.Sound.{AreRight}
-use Rattle.gst_caps.proofs.FieldLaws.{pair_law, and_true}
+use Rattle.gst_caps.proofs.FieldLaws.{pair_law}
 use Rattle.gst_caps.specs.Accepts.{value_at, each_at, contains_given, takes, structures_meet, narrowed, merged, met, fixed}
 use Rattle.gst_caps.specs.Common.{members, contains, least}
 use Rattle.gst_value.specs.Common.{holds, least_of, first_least}
@@ -25,7 +25,8 @@ use Rattle.gst_value.specs.Values.{IsOne, IsSingle}
 use Rattle.gst_value.specs.declared.one.One.{One}
 use Rattle.gst_value.specs.declared.one.One.TheVariants.{Int, Bool as Truth, Text as Words, Fraction, IntRange}
 use Rattle.gst_caps.specs.declared.value.Value.{Value}
-use Rattle.gst_value.proofs.Basics.{and_right}
+use Rattle.gst_value.proofs.Basics.{and_right, and_both as and_true}
+use Rattle.gst_value.proofs.Places.{any_append as any-append}
 
 -- ---- what is fixed
 

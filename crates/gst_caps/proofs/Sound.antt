@@ -21,8 +21,8 @@ use Rattle.gst_value.specs.Values.{kind_of, whole, IsOne}
 use Rattle.gst_caps.specs.Values.{IsValue}
 use Rattle.gst_caps.specs.declared.value.Value.{Value}
 use Rattle.gst_caps.specs.declared.value.Value.TheVariants.{One as Single, Many}
-use Rattle.gst_value.proofs.Sound.{IsOf, AreRight, common_members_right, from_each, or_false}
-use Rattle.gst_value.proofs.Basics.{and_left, and_right}
+use Rattle.gst_value.proofs.Sound.{IsOf, AreRight, common_members_right, from_each}
+use Rattle.gst_value.proofs.Basics.{and_left, and_right, neither as or_false}
 
 -- a value with right members
 abbrev pub IsRight : Value → Type 0

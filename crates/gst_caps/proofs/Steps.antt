@@ -4,12 +4,13 @@ use Rattle.std.specs.Ordering.{is_eq, ordering_reverse}
 use Rattle.std.specs.declared.cmp.Ordering.TheVariants.{Less, Equal, Greater}
 use Rattle.std.specs.Str.{bytes_eq}
 use Rattle.std.proofs.lemmas.Cmp.{nat_list_cmp_total}
-use Rattle.std.proofs.lemmas.List.{drop_more, drop_all}
+use Rattle.std.proofs.lemmas.List.{drop_all}
 use Rattle.std.proofs.lemmas.Map.Lookups.{exact_bytes}
 use Rattle.std.proofs.lemmas.Map.Text.{is_eq-slice_cmp}
 use Rattle.gst_value.proofs.NamesInOrder.{cmp, less_trans_each}
 use Rattle.gst_caps.specs.Accepts.{value_at, each_at}
 use Rattle.gst_value.specs.Names.{Each, Rises}
+use Rattle.gst_value.proofs.Places.{drop_next as front}
 
 -- ---- names
 
@@ -60,9 +61,6 @@ each_at_absent : {V W : Type 0} (t : V → Option W → Bool) (gs : List (List �
 each_at_absent t gs f fs p = λ i. t f.1 (value_at_behind f.0 gs p i) && each_at t fs gs
 
 -- ---- the same at places
-
-pub front : {X : Type 0} (xs : List X) (i : ℕ) (x : X) → i < length xs → x ≡ get_or xs i x → drop i xs ≡ x ∷ drop (i + 1) xs
-front xs i x p e = drop_more xs i x p ∙ ap (λ y. y ∷ drop (i + 1) xs) (sym e)
 
 pub rises_front : {X : Type 0} (fs : List (List ℕ × X)) (i : ℕ) (f : List ℕ × X) → Rises fs → i < length fs → f ≡ get_or fs i f → Rises (f ∷ drop (i + 1) fs)
 rises_front {X} fs i f r p e =

@@ -5,3 +5,4 @@ pub mod Description
 pub mod Accepts
 pub mod Common
 pub mod Caps
+pub mod Same

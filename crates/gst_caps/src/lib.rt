@@ -3,6 +3,7 @@
 
 pub mod caps;
 mod common;
+mod equal;
 mod fixate;
 mod merge;
 pub mod structure;
@@ -10,6 +11,7 @@ pub mod value;
 mod walk;
 
 pub use caps::{Caps, choose};
+pub use equal::same_caps;
 pub use gst_value::{CapsFault, Fixed, List, One, OutOfMemory, PadName, Prop, Text, fraction};
 pub use structure::Structure;
 pub use value::Value;

@@ -33,7 +33,7 @@ since_push (y ∷ ys) x = rw (has_flush_push ys x, since_push ys x) (go (is_flus
     go false false true = refl
     go false false false = refl
 
-latest_since : (passes : Item → Bool) (h : List Item) (x : Item)
+pub latest_since : (passes : Item → Bool) (h : List Item) (x : Item)
     → latest passes (since_flush_stop (h ++ x ∷ [])) ≡ (if is_flush_stop x then [] else (if passes x then x ∷ [] else latest passes (since_flush_stop h)))
 latest_since passes h x = rw (since_push h x) (go (is_flush_stop x))
   where

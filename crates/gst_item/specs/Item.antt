@@ -1,6 +1,6 @@
 -- Items: what crosses a source pad. The history of a pad is the list of the items that crossed it, and a place
 -- on the pad is a number of them.
-use Rattle.std.specs.Prelude.{Bool, true, false, ◌||◌, ℕ, List, count_by, fold, []}
+use Rattle.std.specs.Prelude.{Bool, true, false, ◌||◌, ℕ, List, count_by, fold, [], ◌∷◌}
 pub use Rattle.gst_item.specs.declared.item.Item.{Item}
 pub use Rattle.gst_item.specs.declared.item.Item.TheVariants.{Buffer as Buf, Event as Ev}
 pub use Rattle.gst_item.specs.declared.item.Event.{Event}
@@ -56,3 +56,7 @@ buffers history = count_by is_buffer history
 abbrev pub body_of : Item → List ℕ
 body_of (Buf b) = b.body
 body_of (Ev e) = []
+
+abbrev pub has_item : List Item → Bool
+has_item [] = false
+has_item (x ∷ xs) = true

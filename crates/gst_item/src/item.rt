@@ -1,5 +1,6 @@
 //! Buffers and events.
 ghost use Rattle.std.specs.Prelude.{◌≡◌, IfOk};
+ghost use Rattle.gst_item.specs.Item.{is_eos, is_flush_stop, is_sticky};
 
 use crate::body::Body;
 use gst_time::Segment;
@@ -55,6 +56,14 @@ pub enum Event {
 }
 
 impl Event {
+    /// Whether it stays in force on a pad that it crossed.
+    #[inline(always)]
+    pub fn is_sticky(&self) -> bool
+        ensures { result ≡ is_sticky self.now }
+    {
+        !matches!(self, Event::Gap { .. } | Event::FlushStop { .. })
+    }
+
     /// The same event once more.
     pub fn copy(&self, alloc: Global) -> Result<Event, OutOfMemory>
         ensures { IfOk result (λ made. made ≡ self.now) }
@@ -84,6 +93,22 @@ pub enum Item {
 }
 
 impl Item {
+    /// Whether it ends a flush.
+    #[inline(always)]
+    pub fn is_flush_stop(&self) -> bool
+        ensures { result ≡ is_flush_stop self.now }
+    {
+        matches!(self, Item::Event(Event::FlushStop { .. }))
+    }
+
+    /// Whether it ends its stream.
+    #[inline(always)]
+    pub fn is_eos(&self) -> bool
+        ensures { result ≡ is_eos self.now }
+    {
+        matches!(self, Item::Event(Event::Eos))
+    }
+
     /// The same item once more.
     pub fn copy(&self, alloc: Global) -> Result<Item, OutOfMemory>
         ensures { IfOk result (λ made. made ≡ self.now) }

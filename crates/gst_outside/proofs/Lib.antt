@@ -1,4 +1,3 @@
 pub mod Entries
-pub mod Opened
 mod Reading
 pub mod Writing

@@ -1,5 +1,5 @@
 -- Counts of failures, and what a failure does to them.
-use Rattle.std.specs.Prelude.{◌≡◌, ◌≤◌, ◌<◌, ℕ, ◌+◌, ◌-◌, min, Option, option_map, Result, Ok, Err, IfOk, OnErr}
+use Rattle.std.specs.Prelude.{◌≡◌, ◌≤◌, ◌<◌, ℕ, ◌+◌, ◌-◌, min, Option, option_map, Result, Ok, Err, IfOk, OnErr, Some, None}
 use Rattle.gst_outside.specs.declared.opening.OpenEnd.{OpenEnd}
 use Rattle.gst_outside.specs.declared.opening.OpenEnd.TheVariants.{Failed, OutOfMemory}
 
@@ -36,3 +36,14 @@ abbrev pub refused_after : {T : Type 0} → Result T OpenEnd → Option ℕ → 
 refused_after (Ok _) n = n
 refused_after (Err Failed) n = option_map raised n
 refused_after (Err OutOfMemory) n = n
+
+-- the count is no smaller than it was
+abbrev pub NeverFalls : Option ℕ → Option ℕ → Type 0
+NeverFalls (Some was) (Some is) = was ≤ is
+NeverFalls None None = Unit {0}
+NeverFalls (Some was) None = ⊥
+NeverFalls None (Some is) = ⊥
+
+-- the count rose, and both counts are named
+abbrev pub NamesRise : Option ℕ → Option ℕ → ℕ → ℕ → Type 0
+NamesRise was is before after = (was ≡ Some before) × (is ≡ Some after) × Rose before after

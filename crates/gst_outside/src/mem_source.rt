@@ -7,8 +7,7 @@ ghost use Rattle.gst_outside.specs.Ends.{faults_after, new_source};
 use crate::calls::Calls;
 use crate::failed::Failed;
 use crate::source::Source;
-use gst_value::{List as Members, OutOfMemory, Text};
-use std::alloc::Global;
+use gst_value::{List as Members, Text};
 
 /// A source in memory. The calls whose numbers are listed fail, and no others.
 #[derive(Drop)]

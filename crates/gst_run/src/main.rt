@@ -1,4 +1,4 @@
-//! `gst_run [--threads on|off] [--order N] [--quiet] WORD...`: runs a launch line on the files of the host, and prints
+//! `gst_run [--script FILE] [--threads on|off] [--order N] [--quiet] WORD...`: runs a launch line on the files of the host, and prints
 //! its report.
 #![tactic(auto)]
 

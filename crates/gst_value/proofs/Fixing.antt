@@ -42,10 +42,6 @@ row_first : (xs ys : List One) (x : One) → Some x ≡ first_of xs → first_le
 row_first [] ys x e = absurd (cc)
 row_first (z ∷ xs) ys x e = let q : x ≡ z = cc in ap least_of (sym q)
 
-no_first : (xs : List One) → None ≡ first_of xs → xs ≡ []
-no_first [] e = refl
-no_first (x ∷ xs) e = absurd (cc)
-
 pub commons_found : (ms ns : List One) (i : ℕ) (m x : One) (made : One) → i < length ms → commons (take i ms) ns ≡ [] → m ≡ get_or ms i m → Some x ≡ first_of (filter_map (common_one m) ns) → made ≡ least_of x → made ≡ first_least (commons ms ns)
 commons_found ms ns i m x made h e q k l =
     let rest = commons (drop (i + 1) ms) ns in

@@ -22,7 +22,7 @@ size_of_negated : (n : ℕ) (z : ℤ) → z ≡ pos 0 -ℤ pos n → unsigned_ab
 size_of_negated n (pos m) e = omega (arith, ints)
 size_of_negated n (negsuc m) e = omega (arith, ints)
 
-size_of_signed : (s : Bool) (n : ℕ) → unsigned_abs (signed s n) ≡ n
+pub size_of_signed : (s : Bool) (n : ℕ) → unsigned_abs (signed s n) ≡ n
 size_of_signed false n = refl
 size_of_signed true n = size_of_negated n (pos 0 -ℤ pos n) refl
 

@@ -12,7 +12,7 @@ use Rattle.gst_value.specs.Common.{same, common_one, commons, distinct}
 use Rattle.gst_value.specs.Kept.{kept}
 use Rattle.gst_value.specs.declared.one.One.{One}
 use Rattle.gst_value.specs.declared.one.One.TheVariants.{Int, Bool as Truth, Text as Words, Fraction, IntRange}
-use Rattle.gst_value.proofs.Basics.{and_left, and_right, or_false}
+use Rattle.gst_value.proofs.Basics.{and_left, and_right, or_false, or_assoc}
 
 beq_same : (a b : Bool) → beq a b ≡ true → a ≡ b
 beq_same true true h = refl
@@ -79,10 +79,6 @@ cond_both false b c x xs ys e f = λ i. cond (e i) (x ∷ f i) (f i)
 filter-filter : (p q r : One → Bool) → ((y : One) → (q y && p y) ≡ r y) → (xs : List One) → filter p (filter q xs) ≡ filter r xs
 filter-filter p q r h [] = refl
 filter-filter p q r h (x ∷ xs) = filter-cond p (q x) x (filter q xs) ∙ cond_both (q x) (p x) (r x) x _ _ (h x) (filter-filter p q r h xs)
-
-or_assoc : (a b c : Bool) → (a || (b || c)) ≡ (a || b || c)
-or_assoc true b c = refl
-or_assoc false b c = refl
 
 list_any-push : (t : One → Bool) (xs : List One) (y : One) → list_any t (xs ++ y ∷ []) ≡ (list_any t xs || t y)
 list_any-push t [] y = or_false (t y)

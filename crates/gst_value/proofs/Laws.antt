@@ -1,5 +1,5 @@
 -- What is common to two single values or ranges holds what both hold.
-use Rattle.std.proofs.Common.{◌≡◌, ◌≢◌, ℤ, Bool, true, false, not, cond, ◌&&◌, ◌||◌, List, [], ◌∷◌, ◌++◌, Option, Some, None, is_some, int_lt, int_le, refl, sym, ap, ◌∙◌, arith}
+use Rattle.std.proofs.Common.{◌≡◌, ◌≢◌, ℤ, Bool, true, false, not, cond, ◌&&◌, ◌||◌, List, [], ◌∷◌, Option, Some, None, is_some, int_lt, int_le, refl, sym, ap, ◌∙◌, arith}
 use Rattle.std.specs.Bool.{beq}
 use Rattle.std.specs.Int.{int_max, int_min}
 use Rattle.std.specs.List.{filter, filter_map, flat_map, cons_option, list_any}
@@ -14,6 +14,8 @@ use Rattle.gst_value.specs.Common.{holds, same, ends, span, common_of, common_on
 use Rattle.gst_value.specs.Names.{Each}
 use Rattle.gst_value.specs.declared.one.One.{One}
 use Rattle.gst_value.specs.declared.one.One.TheVariants.{Int, Bool as Truth, Text as Words, Fraction, IntRange}
+use Rattle.gst_value.proofs.Basics.{and_both as and_true}
+use Rattle.gst_value.proofs.Places.{any_append as any-append}
 
 -- ---- tests
 
@@ -38,14 +40,6 @@ or_and false true true = refl
 or_and false true false = refl
 or_and false false true = refl
 or_and false false false = refl
-
-pub any-append : {X : Type 0} (t : X → Bool) (xs ys : List X) → list_any t (xs ++ ys) ≡ (list_any t xs || list_any t ys)
-any-append t [] ys = refl
-any-append t (x ∷ xs) ys = ap (λ b. t x || b) (any-append t xs ys) ∙ join (t x) (list_any t xs) (list_any t ys)
-  where
-    join : (a b c : Bool) → (a || (b || c)) ≡ (a || b || c)
-    join true b c = refl
-    join false b c = refl
 
 any-cons_option : {X : Type 0} (t : X → Bool) (o : Option X) (xs : List X) → list_any t (cons_option o xs) ≡ (option_map_or t o false || list_any t xs)
 any-cons_option t None xs = refl
@@ -102,9 +96,6 @@ itself_int a = (Decides-int_eq a a).1 refl
 itself_bool : (a : Bool) → beq a a ≡ true
 itself_bool true = refl
 itself_bool false = refl
-
-pub and_true : (a b : Bool) → a ≡ true → b ≡ true → (a && b) ≡ true
-and_true a b h k = ap (λ c. c && b) h ∙ k
 
 pub same_itself : (x : One) → same x x ≡ true
 same_itself (Int a) = itself_int a

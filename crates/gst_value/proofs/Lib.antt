@@ -1,4 +1,7 @@
 pub mod Basics
+pub mod Results
+pub mod Places
+pub mod Characters
 pub mod Lists
 pub mod NamesInOrder
 pub mod Fractions

@@ -24,7 +24,7 @@ whole_ends (Truth a) p e = absurd (cc)
 whole_ends (Words a) p e = absurd (cc)
 whole_ends (Fraction a b) p e = absurd (cc)
 
-lt_le : (a b : ℤ) → int_lt a b ≡ true → a ≤ℤ b
+pub lt_le : (a b : ℤ) → int_lt a b ≡ true → a ≤ℤ b
 lt_le a b h = grind (arith, ints)
 
 span_right : (low high : ℤ) (a b : Bool) (u : One) → int_lt low high ≡ a → cond a (Some (IntRange low high)) (cond b None (Some (Int low))) ≡ Some u → IsOf whole u
@@ -101,7 +101,3 @@ common_members_right (m ∷ ms) ns p h =
 pub from_each : (x : One) (xs : List One) → Each IsOne xs → Each (λ y. kind_of y ≡ kind_of x) xs → Each (IsOf (kind_of x)) xs
 from_each x [] p q = tt
 from_each x (y ∷ ys) p q = ((p.0, q.0), from_each x ys p.1 q.1)
-
-pub or_false : (a b : Bool) → (a || b) ≡ false → (a ≡ false) × (b ≡ false)
-or_false true b h = absurd (true≢false h)
-or_false false b h = (refl, h)

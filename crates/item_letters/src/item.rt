@@ -108,10 +108,3 @@ pub fn letters_of(alloc: Global, out: &Outs) -> Result<Vec<u8>, OutOfMemory>
     }
     Ok(letters)
 }
-
-/// Whether an item is a FLUSH_STOP, which elements are not fed.
-pub fn is_flush(item: &Item) -> bool
-    ensures { result ≡ is_flush_stop item.now }
-{
-    matches!(item, Item::Event(Event::FlushStop { .. }))
-}

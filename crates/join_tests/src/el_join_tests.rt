@@ -1,13 +1,13 @@
 //! Rows of calls. Two letters stand for a call: the number of a pad, and what it is given.
 ghost use Rattle.std.specs.Prelude.{◌≡◌};
-ghost use Rattle.el_join.specs.Joins.{is_inherited};
+ghost use Rattle.flow_model.specs.Inherited.{is_inherited};
 
 use el_join::Concat;
 use flow_model::ElementFault;
 use gst_item::{Event, Flow, Item, Outs};
 use gst_time::{Format, LIMIT, Segment};
 use gst_value::List;
-use item_letters::{is_flush, item_of, letter_of, letter_of_flow};
+use item_letters::{item_of, letter_of, letter_of_flow};
 use std::alloc::Global;
 use std::test::Fail;
 
@@ -103,7 +103,7 @@ fn call(
 ) -> Result<u8, Fail> {
     let pad = u32::from(place & 1);
     let item = item_by(alloc, what)?;
-    if is_flush(&item) {
+    if item.is_flush_stop() {
         concat.flush();
         return Ok(b'-');
     }
@@ -140,7 +140,7 @@ fn feed(
     item: Item,
     out: &mut Outs,
 ) -> Result<(), Fail> {
-    if pad < concat.pad_count() && !is_flush(&item) {
+    if pad < concat.pad_count() && !item.is_flush_stop() {
         concat.feed(alloc, pad, item, out)?;
     }
     Ok(())

@@ -1,6 +1,6 @@
 //! Rows of calls of a mixing element, with what they answer and put out.
 ghost use Rattle.std.specs.Prelude.{◌≡◌};
-ghost use Rattle.el_mix.specs.Relation.{is_inherited};
+ghost use Rattle.flow_model.specs.Inherited.{is_inherited};
 
 use audio_info::{Info, Sample};
 use el_mix::Mix;
@@ -9,7 +9,6 @@ use gst_caps::Caps;
 use gst_item::{Body, Buffer, Event, Flow, Item, Outs};
 use gst_time::{Format, Segment};
 use gst_value::{List, Text};
-use item_letters::is_flush;
 use std::alloc::Global;
 use std::fmt::Write;
 use std::process::Abort;
@@ -156,7 +155,7 @@ fn feed(
     text: &mut String,
     out: &mut Outs,
 ) -> Result<(), Fail> {
-    if pad < mix.pad_count() && mix.is_in_order(pad) && !is_flush(&item) {
+    if pad < mix.pad_count() && mix.is_in_order(pad) && !item.is_flush_stop() {
         let answer = mix.feed(alloc, pad, item, out);
         return tell_answer(alloc, text, &answer);
     }

@@ -1,5 +1,5 @@
 -- One lane of a table is changed.
-use Rattle.std.proofs.Common.{◌≡◌, ◌≢◌, ◌<◌, ℕ, zero, suc, List, [], ◌∷◌, ◌++◌, length, set, drop, get_or, Option, Some, None, MatchOption, Result, Ok, Err, OnOk, refl, ap, sym, ◌∙◌, arith}
+use Rattle.std.proofs.Common.{◌≡◌, ◌≢◌, ◌<◌, ℕ, zero, suc, List, [], ◌∷◌, ◌++◌, length, set, drop, get_or, Option, Some, None, MatchOption, refl, ap, sym, ◌∙◌, arith}
 use Rattle.std.proofs.lemmas.Option.{get_or_from_slice_get}
 use Rattle.gst_item.specs.declared.item.Item.{Item}
 use Rattle.std.specs.List.{slice_get}
@@ -66,7 +66,3 @@ pour_is inside now n old new same is at e =
 pub poured_is : (inside now : List Lane) (n : ℕ) (old : Lane) (before after : List Item) → inside ≡ now → old ≡ get_or inside n old → after ≡ before ++ old.items → (s : Lane) → slice_get now n ≡ Some s
     → after ≡ before ++ s.items
 poured_is inside now n old before after same is e s at = e ∙ ap (λ (u : Lane). before ++ u.items) (read_is inside now n old s same is at)
-
-pub on_ok : {A E : Type 0} (r : Result A E) (P Q : Type 0) → (P → Q) → OnOk r P → OnOk r Q
-on_ok (Ok x) P Q f h = f h
-on_ok (Err e) P Q f h = h

@@ -4,15 +4,16 @@ ghost use Rattle.gst_outside.specs.Causes.{Rose};
 ghost use Rattle.run_report.specs.ReportText.{report_lines};
 ghost use Rattle.turn_order.specs.declared.order.Order.TheVariants as orders;
 ghost use Rattle.world_core.specs.Turned.{RanByTurns};
+ghost use Rattle.world_core.specs.World.{IsBuilt, IsUnwritten};
 ghost use Rattle.run_report.specs.declared.report.Fault.TheVariants as faults;
 ghost use Rattle.launch_run.specs.declared.run.Untaken.TheVariants.{NotText};
-ghost use Rattle.launch_run.specs.Headline.{HasGone, IsReported, IsUntouched, Wrote, WrotePart, is_quiet, world_end};
+ghost use Rattle.launch_run.specs.Headline.{HasGone, HasRun, IsReported, IsRun, IsUntouched, Wrote, WrotePart, is_quiet, world_end};
 
 use crate::outcome::{Outcome, report_text};
 use gst_outside::{Clock, Failed, Files, Sink, TaskGate};
 use gst_value::{List, OutOfMemory};
 use lane_core::{Inlet, MemInlet, MemOutlet, Outlet};
-use line_read::{Refusal, read_request};
+use line_read::{Refusal, Request, read_commands, read_request};
 use net_model::{TaskElement, TaskSource};
 use run_report::{Fault, Report, no_memory};
 use std::alloc::Global;
@@ -53,12 +54,31 @@ fn not_begun(alloc: Global, refusal: Refusal) -> WorldEnd
     }
 }
 
+/// Reads the script of a request and runs its line, by turns that are drawn from the order of the words.
+fn run_request<F: Files>(alloc: Global, request: Request, files: &mut F) -> WorldEnd
+    requires built { IsBuilt request.graph }
+    ensures reported { result.status ≢ 13 → IsRun request (F.seen files.old) (F.seen files.new) result }
+    ensures turned { result.status ≢ 13 → result.status ≢ 6 → HasRun request (F.seen files.old) (F.seen files.new) (λ begun.
+        RanByTurns ⟦<StreamSource<F::Src> as TaskSource>⟧ ⟦<StreamElement<F::Snk> as TaskElement>⟧ ⟦<MemInlet as Inlet>⟧ ⟦<MemOutlet as Outlet>⟧
+        F.Src.Source F.Snk.Sink request.graph (orders.Drawn request.order) begun result) }
+    ensures status { result.status ≢ 14 }
+    ensures given_back { (F.seen files.old).ends < 2 ^ 63 → (F.seen files.new).ends ≡ (F.seen files.old).ends }
+    ensures inputs { (l : List ℕ) → (F.seen files.new).input l ≡ (F.seen files.old).input l }
+    ensures others { (l : List ℕ) → IsUnwritten request.graph l → (F.seen files.new).output l ≡ (F.seen files.old).output l }
+{
+    match read_commands(alloc, &request, files) {
+        Ok(_none) => run_turns(alloc, request.graph, files, Order::Drawn(request.order)),
+        Err(refusal) => not_begun(alloc, refusal),
+    }
+}
+
 /// Reads the words and runs their line, by turns that are drawn from the order of the words.
 fn run_words<F: Files>(alloc: Global, words: &[String], files: &mut F) -> Ended
     ensures reported { result.end.status ≢ 13 → IsReported (map string_bytes words.now) (F.seen files.old) (F.seen files.new) result.end }
-    ensures turned { result.end.status ≢ 13 → result.end.status ≢ 6 → HasGone (map string_bytes words.now) (λ request.
+    ensures turned { result.end.status ≢ 13 → result.end.status ≢ 6
+        → HasGone (map string_bytes words.now) (F.seen files.old) (F.seen files.new) (λ request begun.
         RanByTurns ⟦<StreamSource<F::Src> as TaskSource>⟧ ⟦<StreamElement<F::Snk> as TaskElement>⟧ ⟦<MemInlet as Inlet>⟧ ⟦<MemOutlet as Outlet>⟧
-        F.Src.Source F.Snk.Sink request.graph (orders.Drawn request.order) (F.seen files.old) result.end) }
+        F.Src.Source F.Snk.Sink request.graph (orders.Drawn request.order) begun result.end) }
     ensures status { result.end.status ≢ 14 }
     ensures text { report_lines result.end.status result.quiet result.end.report
         ≡ report_lines result.end.status (is_quiet (map string_bytes words.now)) result.end.report }
@@ -68,8 +88,8 @@ fn run_words<F: Files>(alloc: Global, words: &[String], files: &mut F) -> Ended
 {
     match read_request(alloc, words) {
         Ok(request) => Ended {
-            end: run_turns(alloc, request.graph, files, Order::Drawn(request.order)),
             quiet: request.quiet,
+            end: run_request(alloc, request, files),
         },
         Err(refusal) => Ended {
             end: not_begun(alloc, refusal),
@@ -189,13 +209,15 @@ pub fn refuse<O: Sink>(alloc: Global, untaken: Untaken, out: &mut O) -> Outcome
 
 /// Runs the launch line that the words spell, and writes its report to `out`.
 ///
-/// The words are `[--threads on|off] [--order N] [--quiet] WORD...`. The WORDs are joined by one space each, and a
-/// space inside of a WORD gets a backslash. The tasks take turns on one thread, drawn from N, with both values of
-/// `--threads`.
+/// The words are `[--script FILE] [--threads on|off] [--order N] [--quiet] WORD...`. The WORDs are joined by one space
+/// each, and a space inside of a WORD gets a backslash. The tasks take turns on one thread, drawn from N, with both
+/// values of `--threads`. The script is read behind the line's graph, before a file of the line is opened; no act of its
+/// commands can be done yet.
 ///
 /// The status is that of the run, or 1 where the words are not taken or have no line, 2 where they spell no line, 3 and
-/// 4 where the line has no graph, 13 where memory is wanting, and 14 where the report could not be written;
-/// `reported` is then the status whose place 14 took.
+/// 4 where the line has no graph, 5 where the script's text is none, 6 and 7 where its file could not be opened or
+/// read, 13 where memory is wanting, and 14 where the report could not be written; `reported` is then the status whose
+/// place 14 took.
 pub fn run<H: Threads + Wait + Copy + Send + 'static, F: Files, C: Clock, G: TaskGate, O: Sink>(
     _rt: &H,
     alloc: Global,
@@ -207,9 +229,10 @@ pub fn run<H: Threads + Wait + Copy + Send + 'static, F: Files, C: Clock, G: Tas
 ) -> Outcome
     ensures headline { result.reported ≢ 13
         → IsReported (map string_bytes words.now) (F.seen files.old) (F.seen files.new) (world_end result) }
-    ensures turned { result.reported ≢ 13 → result.reported ≢ 6 → HasGone (map string_bytes words.now) (λ request.
+    ensures turned { result.reported ≢ 13 → result.reported ≢ 6
+        → HasGone (map string_bytes words.now) (F.seen files.old) (F.seen files.new) (λ request begun.
         RanByTurns ⟦<StreamSource<F::Src> as TaskSource>⟧ ⟦<StreamElement<F::Snk> as TaskElement>⟧ ⟦<MemInlet as Inlet>⟧ ⟦<MemOutlet as Outlet>⟧
-        F.Src.Source F.Snk.Sink request.graph (orders.Drawn request.order) (F.seen files.old) (world_end result)) }
+        F.Src.Source F.Snk.Sink request.graph (orders.Drawn request.order) begun (world_end result)) }
     ensures status { (result.status ≡ result.reported) ⊎ ((result.status ≡ 14) × Rose result.out_before result.out_after) }
     ensures before { result.out_before ≡ O.faults out.old }
     ensures after { result.out_after ≡ O.faults out.new }

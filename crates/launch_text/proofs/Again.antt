@@ -2,23 +2,22 @@
 use Rattle.std.proofs.Common.{◌≡◌, ℕ, suc, ◌<◌, Bool, true, false, cond, eqb, ◌&&◌, ◌||◌, not, List, [], ◌∷◌, ◌++◌, map, length, inl, inr, refl, sym, ap, ◌∙◌, subst, arith, append_assoc, append-nil, codes}
 use Rattle.std.specs.List.{flat_map, fold, list_all}
 use Rattle.std.proofs.lemmas.Bool.Decides.{eqb_tells}
-use Rattle.launch_text.specs.Bytes.{is_run, is_white}
+use Rattle.text_words.specs.Bytes.{is_run, is_white}
+use Rattle.text_words.specs.Words.{after, mode_behind, is_closed, is_plain, plain}
+use Rattle.text_words.specs.declared.class.Class.TheVariants.{Kind, Property}
+use Rattle.text_words.specs.declared.word.Mode.{Mode}
 use Rattle.launch_text.specs.Grammar.{IsLine}
 use Rattle.launch_text.specs.Printed.{caps_text, is_marked, line_text, reference_text, token_text, value_text, with_marks, with_word}
 use Rattle.launch_text.specs.Reading.{Splits}
 use Rattle.launch_text.specs.Tokens.{Token, opens, closes, link, kind, property, caps, reference, tree_tokens}
-use Rattle.launch_text.specs.Words.{AreCaps, Reads, Stands, after, begins_caps, mode_behind, ends, is_closed, is_more, is_plain, kept, plain, taken, word_length}
-use Rattle.launch_text.specs.declared.class.Class.TheVariants.{Kind, Property}
+use Rattle.launch_text.specs.Words.{AreCaps, Reads, Stands, begins_caps, ends, is_more, kept, taken, word_length}
 use Rattle.launch_text.specs.declared.printing.Marked.TheVariants.{Value, Caps}
 use Rattle.launch_text.specs.declared.tree.Tree.{Tree}
-use Rattle.launch_text.specs.declared.word.Mode.{Mode}
 use Rattle.launch_text.proofs.Calm.{calm_behind, calm_closed, calm_length, property_closed, reference_calm, reference_some, run_calm, run_some, some_more, stops_more, word_all}
-use Rattle.launch_text.proofs.Kept.{behind_append, taken_append}
+use Rattle.text_words.proofs.Kept.{behind_append, at_mode as at}
+use Rattle.launch_text.proofs.Kept.{taken_append}
 use Rattle.launch_text.proofs.Spelling.{IsWhole, Says, Spells, more_facts, spelt_line}
 use Rattle.gst_value.proofs.Basics.{and_left, and_right}
-
-abbrev at : Bool → Bool → Mode
-at q e = record { quoted = q; escaped = e }
 
 plain_at : (q e : Bool) → (not q && not e) ≡ true → at q e ≡ plain
 plain_at false false h = refl
@@ -187,10 +186,6 @@ record IsSpelt (value text : List ℕ) : Type 0 where
   mode : mode_behind plain text ≡ plain
   all : word_length plain text ≡ length text
   says : taken Value plain text ≡ value
-
-or_false : (a b : Bool) → (a || b) ≡ false → (a ≡ false) × (b ≡ false)
-or_false true b h = absurd (cc)
-or_false false b h = (refl, h)
 
 unmarked : (b : ℕ) (bs x : List ℕ) → eqb b 34 ≡ false → eqb b 92 ≡ false → is_white b ≡ false → IsSpelt bs x → IsSpelt (b ∷ bs) (b ∷ x)
 unmarked b bs x q s v i = record {

@@ -4,20 +4,17 @@ use Rattle.std.specs.List.{list_all}
 use Rattle.std.proofs.lemmas.Bool.{eqb-true}
 use Rattle.std.proofs.lemmas.Bool.Decides.{eqb_tells}
 use Rattle.std.proofs.lemmas.List.Folds.{list_all-append}
-use Rattle.launch_text.specs.Bytes.{in_class, is_run, is_white}
+use Rattle.text_words.specs.Bytes.{in_class, is_run, is_white}
+use Rattle.text_words.specs.Words.{after, mode_behind, is_closed, is_plain, plain}
+use Rattle.text_words.specs.declared.class.Class.{Class}
+use Rattle.text_words.specs.declared.class.Class.TheVariants.{Kind, Name, Property}
+use Rattle.text_words.specs.declared.word.Mode.{Mode}
 use Rattle.launch_text.specs.Printed.{reference_text}
-use Rattle.launch_text.specs.Words.{after, mode_behind, ends, is_closed, is_pad, is_plain, is_word, plain, word_length}
-use Rattle.launch_text.specs.declared.class.Class.{Class}
-use Rattle.launch_text.specs.declared.class.Class.TheVariants.{Kind, Name, Property}
-use Rattle.launch_text.specs.declared.word.Mode.{Mode}
+use Rattle.launch_text.specs.Words.{ends, is_pad, is_word, word_length}
 use Rattle.launch_text.proofs.Cutting.{ends_behind}
-use Rattle.launch_text.proofs.Kept.{behind_append}
-use Rattle.launch_text.proofs.Splitting.{both_true, drop_front}
-use Rattle.gst_value.proofs.Basics.{no_true, and_left, and_right}
-
-pub not_false : (b : Bool) → not b ≡ true → b ≡ false
-not_false true h = absurd (no_true h)
-not_false false h = refl
+use Rattle.text_words.proofs.Kept.{behind_append}
+use Rattle.launch_text.proofs.Splitting.{drop_front}
+use Rattle.gst_value.proofs.Basics.{no_true, and_left, and_right, and_both as both_true, not_false}
 
 abbrev pub calm : ℕ → Bool
 calm b = not (eqb b 34) && (not (eqb b 92) && not (is_white b))

@@ -3,13 +3,15 @@ use Rattle.std.proofs.Common.{◌≡◌, ℕ, zero, suc, ◌+◌, ◌<◌, ◌�
 use Rattle.std.specs.List.{flat_map, list_all}
 use Rattle.std.specs.Str.{bytes_eq}
 use Rattle.gst_value.specs.declared.name.Prop.{Prop}
-use Rattle.launch_text.specs.Bytes.{is_run}
+use Rattle.text_words.specs.Bytes.{is_run}
+use Rattle.text_words.specs.Values.{property_of, ◌>>=◌}
+use Rattle.text_words.specs.Words.{is_closed, plain}
+use Rattle.text_words.specs.declared.class.Class.TheVariants.{Kind, Name, Property}
 use Rattle.launch_text.specs.Grammar.{are_others, fits_part, fits_tree, is_alone, is_chain, is_end, is_middle, part_fits, tree_fits}
 use Rattle.launch_text.specs.Printed.{reference_text}
-use Rattle.launch_text.specs.Reading.{Held, State, begin_part, behind_caps, behind_element, behind_link, behind_reference, closed, element_from, ended, finish, go_on, linked_to, none, opened, property_of, reference_of, run, said, step, step_from, tree_of, whole, ◌>>=◌}
+use Rattle.launch_text.specs.Reading.{Held, State, begin_part, behind_caps, behind_element, behind_link, behind_reference, closed, element_from, ended, finish, go_on, linked_to, none, opened, reference_of, run, said, step, step_from, tree_of, whole}
 use Rattle.launch_text.specs.Tokens.{Token, opens, closes, caps, reference, chain_tokens, linked, node_tokens, part_tokens, prop_token, tree_tokens}
-use Rattle.launch_text.specs.Words.{begins_caps, is_closed, is_pad, plain, taken}
-use Rattle.launch_text.specs.declared.class.Class.TheVariants.{Kind, Name, Property}
+use Rattle.launch_text.specs.Words.{begins_caps, is_pad, taken}
 use Rattle.launch_text.specs.declared.line.Last.{Last}
 use Rattle.launch_text.specs.declared.line.Last.TheVariants.{Start, Bin, Chain, Element, Link, Caps, Reference}
 use Rattle.launch_text.specs.declared.printing.Marked.TheVariants.{Value as InValue, Caps as InCaps}

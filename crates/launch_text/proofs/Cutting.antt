@@ -1,40 +1,16 @@
 -- Where a text is cut into words.
-use Rattle.std.proofs.Common.{◌≡◌, ℕ, zero, suc, ◌<◌, ◌≤◌, ◌+◌, Bool, true, false, cond, eqb, ◌&&◌, not, List, [], ◌∷◌, ◌++◌, length, drop, take, get_or, inl, inr, refl, sym, ap, ◌∙◌, subst, arith}
+use Rattle.std.proofs.Common.{◌≡◌, ℕ, zero, suc, ◌<◌, ◌≤◌, ◌+◌, Bool, true, false, cond, eqb, ◌&&◌, not, List, [], ◌∷◌, ◌++◌, length, drop, take, get_or, inl, inr, refl, sym, ap, subst, arith}
 use Rattle.std.specs.List.{list_all, take_while}
-use Rattle.std.specs.Str.{IsUtf8, IsCharBoundary}
+use Rattle.std.specs.Str.{IsCharBoundary}
 use Rattle.std.proofs.lemmas.Bool.{cases_lt}
-use Rattle.std.proofs.lemmas.Bool.Decides.{eqb_tells}
 use Rattle.std.proofs.lemmas.List.Sums.{take_while-cons}
-use Rattle.std.proofs.lemmas.Str.{IsCharBoundary-start, IsCharBoundary-end, IsCharBoundary-after_ascii, IsCharBoundary-before_ascii}
-use Rattle.launch_text.specs.Bytes.{is_white}
-use Rattle.launch_text.specs.Words.{after, ends, is_plain, is_start, plain, word_length}
-use Rattle.launch_text.specs.declared.word.Mode.{Mode}
-
-white_ascii : (b : ℕ) → is_white b ≡ true → b < 128
-white_ascii b h = elim (cases_lt b 128) [ inl small ↦ small | inr big ↦ absurd (no (sym h ∙ none big)) ]
-  where
-    no : true ≡ false → ⊥
-    no e = cc
-
-    off : (k : ℕ) → 128 ≤ b → k < 128 → eqb b k ≡ false
-    off k big small = elim (eqb_tells b k) [ inl t ↦ absurd (omega (arith, t.1, big, small)) | inr t ↦ t.0 ]
-
-    none : 128 ≤ b → is_white b ≡ false
-    none big = rw (off 32 big (omega arith), off 9 big (omega arith), off 10 big (omega arith)) refl
-
--- the bytes of white space at the front are ASCII
-white_run : (x : List ℕ) (k : ℕ) → k < length (take_while is_white x) → (k < length x) × (get_or x k 0 < 128)
-white_run [] k h = absurd (omega (arith, h))
-white_run (b ∷ bs) k h = step (white_run bs) (is_white b) refl k (rw (take_while-cons is_white b bs) at h)
-  where
-    step : ((k : ℕ) → k < length (take_while is_white bs) → (k < length bs) × (get_or bs k 0 < 128)) → (t : Bool) → is_white b ≡ t → (k : ℕ) → k < length (cond t (b ∷ take_while is_white bs) []) → (k < length (b ∷ bs)) × (get_or (b ∷ bs) k 0 < 128)
-    step ih true e zero h = (omega arith, white_ascii b e)
-    step ih true e (suc k) h = let r = ih k (omega (arith, h)) in (omega (arith, r.0), r.1)
-    step ih false e k h = absurd (omega (arith, h))
-
-pub white_boundary : (x : List ℕ) (n : ℕ) → IsUtf8 x → n ≡ length (take_while is_white x) → IsCharBoundary x n
-white_boundary x zero u e = IsCharBoundary-start x u
-white_boundary x (suc k) u e = let at = white_run x k (omega (arith, e)) in subst (IsCharBoundary x) (omega arith) (IsCharBoundary-after_ascii x k u at.0 at.1)
+use Rattle.std.proofs.lemmas.Str.{IsCharBoundary-end, IsCharBoundary-before_ascii}
+use Rattle.text_words.specs.Bytes.{is_white}
+use Rattle.text_words.specs.Words.{after, is_plain, plain}
+use Rattle.text_words.specs.declared.word.Mode.{Mode}
+use Rattle.text_words.specs.declared.word.Separator.TheVariants.{White}
+use Rattle.text_words.proofs.Cutting.{separator_ascii}
+use Rattle.launch_text.specs.Words.{ends, is_start, word_length}
 
 -- what is behind it does not begin with white space, and it is white space
 pub behind_start : (x : List ℕ) → is_start (drop (length (take_while is_white x)) x) ≡ true
@@ -74,7 +50,7 @@ stops_at m (b ∷ bs) h = step (λ g. stops_at (after m b) bs g) (is_plain m) (i
 
 pub word_boundary : (x : List ℕ) (n : ℕ) → n ≡ word_length plain x → IsCharBoundary x n
 word_boundary x n e = elim (cases_lt (word_length plain x) (length x)) [
-  | inl less ↦ subst (IsCharBoundary x) (sym e) (IsCharBoundary-before_ascii x (word_length plain x) less (white_ascii _ (stops_at plain x less)))
+  | inl less ↦ subst (IsCharBoundary x) (sym e) (IsCharBoundary-before_ascii x (word_length plain x) less (separator_ascii White _ (stops_at plain x less)))
   | inr all ↦ subst (IsCharBoundary x) (omega (arith, all, within plain x, e)) (IsCharBoundary-end x)
 ]
 
@@ -86,15 +62,6 @@ ends_behind m (b ∷ bs) = step (ends_behind (after m b) bs) (is_plain m) (is_wh
     step ih true true e = e
     step ih true false e = ih
     step ih false w e = ih
-
--- a word has no white space at which it would stop
-whole : (m : Mode) (x : List ℕ) → word_length m (take (word_length m x) x) ≡ word_length m x
-whole m [] = refl
-whole m (b ∷ bs) = step (whole (after m b) bs) (is_plain m && is_white b) refl
-  where
-    step : word_length (after m b) (take (word_length (after m b) bs) bs) ≡ word_length (after m b) bs → (t : Bool) → (is_plain m && is_white b) ≡ t → word_length m (take (cond t 0 (suc (word_length (after m b) bs))) (b ∷ bs)) ≡ cond t 0 (suc (word_length (after m b) bs))
-    step ih true e = refl
-    step ih false e = rw e (ap suc ih)
 
 pub some_word : (x : List ℕ) → is_start x ≡ true → 0 < length x → 0 < word_length plain x
 some_word [] s h = absurd (omega (arith, h))

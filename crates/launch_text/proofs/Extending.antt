@@ -7,13 +7,16 @@ use Rattle.std.proofs.lemmas.Bool.{ltb-true}
 use Rattle.std.proofs.lemmas.Bool.Decides.{eqb_tells}
 use Rattle.std.proofs.lemmas.Option.{none-some, same_Some}
 use Rattle.gst_value.specs.declared.name.Prop.{Prop}
-use Rattle.launch_text.specs.Bytes.{in_class, is_run, is_white}
+use Rattle.text_words.specs.Bytes.{in_class, is_run, is_white}
+use Rattle.text_words.specs.Values.{cut, longer, property_of, ◌>>=◌}
+use Rattle.text_words.specs.Words.{after, mode_behind, is_closed, is_plain, plain}
+use Rattle.text_words.specs.declared.class.Class.{Class}
+use Rattle.text_words.specs.declared.class.Class.TheVariants.{Name}
+use Rattle.text_words.specs.declared.word.Mode.{Mode}
 use Rattle.launch_text.specs.Places.{after_point, begins, behind_run, caps_before, caps_front, element_front, front_of, name_front, next_front, pad_front, part_front, point_front, run_of, spot_of}
 use Rattle.launch_text.specs.Printed.{reference_text}
-use Rattle.launch_text.specs.Reading.{Held, State, begin_part, behind_reference, closed, closed_in, cut, ended, finish, innermost, linked_to, longer, more_outer, opened, property_of, run, step, ◌>>=◌}
-use Rattle.launch_text.specs.Words.{after, begins_caps, mode_behind, is_closed, is_pad, is_plain, plain, taken, word_length}
-use Rattle.launch_text.specs.declared.class.Class.{Class}
-use Rattle.launch_text.specs.declared.class.Class.TheVariants.{Name}
+use Rattle.launch_text.specs.Reading.{Held, State, begin_part, behind_reference, closed, closed_in, ended, finish, innermost, linked_to, more_outer, opened, run, step}
+use Rattle.launch_text.specs.Words.{begins_caps, is_pad, taken, word_length}
 use Rattle.launch_text.specs.declared.line.Last.{Last}
 use Rattle.launch_text.specs.declared.line.Last.TheVariants.{Start, Bin, Chain, Element, Link, Caps, Reference}
 use Rattle.launch_text.specs.declared.printing.Marked.TheVariants.{Value as InValue, Caps as InCaps}
@@ -21,15 +24,14 @@ use Rattle.launch_text.specs.declared.tree.Node.{Node}
 use Rattle.launch_text.specs.declared.tree.Node.TheVariants.{Element as ElementNode, Caps as CapsNode, Reference as ReferenceNode}
 use Rattle.launch_text.specs.declared.tree.Part.{Part}
 use Rattle.launch_text.specs.declared.tree.Tree.{Tree}
-use Rattle.launch_text.specs.declared.word.Mode.{Mode}
 use Rattle.launch_text.proofs.Again.{AllWhole, begins_more, wide}
-use Rattle.launch_text.proofs.Calm.{calm_closed, calm_length, not_false, not_zero, property_closed, reference_calm, reference_some}
+use Rattle.launch_text.proofs.Calm.{calm_closed, calm_length, not_zero, property_closed, reference_calm, reference_some}
 use Rattle.launch_text.proofs.Complete.{Ended, Ready, begin_at, caps_at, caps_linked, close_at, ended_ready, finish_ended, kind_begins, kind_linked, link_at, open_word, property_at, reference_begins}
 use Rattle.launch_text.proofs.Facts.{cut_sound, property_sound, reference_differs, reference_no_property, same_text}
-use Rattle.launch_text.proofs.Kept.{behind_append}
+use Rattle.text_words.proofs.Kept.{behind_append}
 use Rattle.launch_text.proofs.Sound.{innermost_sound}
 use Rattle.launch_text.proofs.Spelling.{IsWhole}
-use Rattle.launch_text.proofs.Splitting.{both_true}
+use Rattle.gst_value.proofs.Basics.{and_both as both_true, not_false}
 
 -- words with which a state leads to a tree
 pub record Completes (s : State) : Type 0 where

@@ -6,17 +6,17 @@ use Rattle.std.proofs.lemmas.Bool.Decides.{eqb_tells}
 use Rattle.std.proofs.lemmas.List.Folds.{list_all-append}
 use Rattle.std.proofs.lemmas.Slice.Eq.{bytes_eq-Decides}
 use Rattle.std.proofs.lemmas.Option.{none-some, same_Some}
-use Rattle.launch_text.specs.Bytes.{in_class, is_run}
+use Rattle.text_words.specs.Bytes.{in_class, is_run}
+use Rattle.text_words.specs.Values.{cut, longer, named, property_of, ◌>>=◌}
+use Rattle.text_words.specs.declared.class.Class.{Class}
+use Rattle.text_words.specs.declared.class.Class.TheVariants.{Kind, Name, Property}
 use Rattle.launch_text.specs.Printed.{reference_text}
-use Rattle.launch_text.specs.Reading.{cut, longer, named, pad_of, property_of, reference_from, reference_of, ◌>>=◌}
+use Rattle.launch_text.specs.Reading.{pad_of, reference_from, reference_of}
 use Rattle.launch_text.specs.Words.{begins_caps, is_link, is_pad}
-use Rattle.launch_text.specs.declared.class.Class.{Class}
-use Rattle.launch_text.specs.declared.class.Class.TheVariants.{Kind, Name, Property}
 use Rattle.launch_text.specs.declared.tree.Node.{Node}
 use Rattle.launch_text.specs.declared.tree.Node.TheVariants.{Reference}
-use Rattle.launch_text.proofs.Calm.{not_false, not_zero, run_all, run_some}
-use Rattle.launch_text.proofs.Splitting.{both_true}
-use Rattle.gst_value.proofs.Basics.{no_true, and_left, and_right}
+use Rattle.launch_text.proofs.Calm.{not_zero, run_all, run_some}
+use Rattle.gst_value.proofs.Basics.{no_true, and_left, and_right, and_both as both_true, not_false}
 
 -- two texts that a test tells apart
 pub differs : (test : List ℕ → Bool) (w x : List ℕ) → test w ≡ true → test x ≡ false → bytes_eq w x ≡ false

@@ -2,10 +2,10 @@
 use Rattle.std.proofs.Common.{◌≡◌, ℕ, Bool, true, false, cond, eqb, List, [], ◌∷◌, ◌++◌, length, Option, Some, None, refl, sym, ap, ◌∙◌, append_assoc, append-nil}
 use Rattle.std.specs.Prelude.{is_some, nat_lt}
 use Rattle.std.proofs.lemmas.Bool.{eqb-true}
+use Rattle.text_words.specs.Values.{cut, property_of}
+use Rattle.text_words.specs.declared.class.Class.TheVariants.{Name}
 use Rattle.launch_text.specs.Places.{begins, behind_run, caps_before, caps_front, element_front, front_of, name_front, next_front, pad_front, part_front, point_front, run_of}
-use Rattle.launch_text.specs.Reading.{cut, property_of}
 use Rattle.launch_text.specs.Words.{begins_caps}
-use Rattle.launch_text.specs.declared.class.Class.TheVariants.{Name}
 use Rattle.launch_text.specs.declared.front.Spot.{Spot}
 use Rattle.launch_text.specs.declared.front.Spot.TheVariants.{Start, Bin, Chain, Element, Link, Caps, Reference}
 use Rattle.launch_text.proofs.Facts.{cut_sound}

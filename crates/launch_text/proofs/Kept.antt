@@ -3,34 +3,22 @@ use Rattle.std.proofs.Common.{◌≡◌, ℕ, ◌<◌, ◌≤◌, Bool, true, fa
 use Rattle.std.specs.Char.{encode_utf8}
 use Rattle.std.proofs.lemmas.Bool.{cases_lt}
 use Rattle.std.proofs.lemmas.Str.{encode_ascii}
-use Rattle.launch_text.proofs.Marks.{AllHigh, apart, encode_high, high_head, high_tail, some_bytes}
-use Rattle.launch_text.specs.Words.{after, mode_behind, kept, taken}
+use Rattle.text_words.specs.Words.{after, mode_behind}
+use Rattle.text_words.specs.declared.word.Mode.{Mode}
+use Rattle.launch_text.specs.Words.{kept, taken}
 use Rattle.launch_text.specs.declared.printing.Marked.{Marked}
 use Rattle.launch_text.specs.declared.printing.Marked.TheVariants.{Value, Caps}
-use Rattle.launch_text.specs.declared.word.Mode.{Mode}
-
-abbrev at_mode : Bool → Bool → Mode
-at_mode q e = record { quoted = q; escaped = e }
-
-high_after : (q e : Bool) (b : ℕ) → 128 ≤ b → after (at_mode q e) b ≡ at_mode q false
-high_after q true b h = refl
-high_after q false b h = rw (apart b 34 (λ e. omega (arith, h, e)), apart b 92 (λ e. omega (arith, h, e))) refl
+use Rattle.gst_value.proofs.Basics.{apart}
+use Rattle.text_words.proofs.Kept.{at_mode, behind_one, high_after}
+use Rattle.gst_value.proofs.Characters.{AllHigh, encode_high, high_head, high_tail, some_bytes}
 
 high_kept : (k : Marked) (b : ℕ) (bytes : List ℕ) → 128 ≤ b → kept k false b bytes ≡ bytes
 high_kept Value b bytes h = rw (apart b 34 (λ e. omega (arith, h, e)), apart b 92 (λ e. omega (arith, h, e))) refl
 high_kept Caps b bytes h = rw (apart b 92 (λ e. omega (arith, h, e))) refl
 
-behind_high : (q : Bool) (xs : List ℕ) → AllHigh xs → mode_behind (at_mode q false) xs ≡ at_mode q false
-behind_high q [] h = refl
-behind_high q (x ∷ xs) h = rw (high_after q false x (high_head x xs h)) (behind_high q xs (high_tail x xs h))
-
 taken_high : (k : Marked) (q : Bool) (xs : List ℕ) → AllHigh xs → taken k (at_mode q false) xs ≡ xs
 taken_high k q [] h = refl
 taken_high k q (x ∷ xs) h = rw (high_kept k x (x ∷ []) (high_head x xs h), high_after q false x (high_head x xs h)) (ap (λ l. x ∷ l) (taken_high k q xs (high_tail x xs h)))
-
-high_behind : (q e : Bool) (xs : List ℕ) → 0 < length xs → AllHigh xs → mode_behind (at_mode q e) xs ≡ at_mode q false
-high_behind q e [] some h = absurd (omega (arith, some))
-high_behind q e (x ∷ xs) some h = rw (high_after q e x (high_head x xs h)) (behind_high q xs (high_tail x xs h))
 
 high_first : (k : Marked) (e : Bool) (x c : ℕ) (xs : List ℕ) → 128 ≤ x → 128 ≤ c → kept k e x (x ∷ []) ++ xs ≡ kept k e c (x ∷ xs)
 high_first Value true x c xs h g = refl
@@ -45,31 +33,18 @@ high_taken k q e c (x ∷ xs) big some h = rw (high_after q e x (high_head x xs 
 one_taken : (k : Marked) (q e : Bool) (c : ℕ) → taken k (at_mode q e) (c ∷ []) ≡ kept k e c (c ∷ [])
 one_taken k q e c = append-nil (kept k e c (c ∷ []))
 
--- a character in UTF-8 is passed as one byte is
-pub behind_one : (m : Mode) (c : ℕ) → mode_behind m (encode_utf8 c) ≡ after m c
-behind_one m c = elim (cases_lt c 128) [
-  | inl small ↦ rw (encode_ascii c small) refl
-  | inr big ↦ high_behind m.quoted m.escaped (encode_utf8 c) (some_bytes c) (encode_high c big) ∙ sym (high_after m.quoted m.escaped c big)
-]
-
+-- a character in UTF-8 is taken as one byte is
 pub taken_one : (k : Marked) (m : Mode) (c : ℕ) → taken k m (encode_utf8 c) ≡ kept k m.escaped c (encode_utf8 c)
 taken_one k m c = elim (cases_lt c 128) [
   | inl small ↦ rw (encode_ascii c small) (one_taken k m.quoted m.escaped c)
   | inr big ↦ high_taken k m.quoted m.escaped c (encode_utf8 c) big (some_bytes c) (encode_high c big)
 ]
 
-pub behind_append : (m : Mode) (xs ys : List ℕ) → mode_behind m (xs ++ ys) ≡ mode_behind (mode_behind m xs) ys
-behind_append m [] ys = refl
-behind_append m (x ∷ xs) ys = behind_append (after m x) xs ys
-
 pub taken_append : (k : Marked) (m : Mode) (xs ys : List ℕ) → taken k m (xs ++ ys) ≡ taken k m xs ++ taken k (mode_behind m xs) ys
 taken_append k m [] ys = refl
 taken_append k m (x ∷ xs) ys = ap (λ l. kept k m.escaped x (x ∷ []) ++ l) (taken_append k (after m x) xs ys) ∙ sym (append_assoc (kept k m.escaped x (x ∷ [])) (taken k (after m x) xs) (taken k (mode_behind (after m x) xs) ys))
 
 -- one character more of a word
-pub behind_step : (m : Mode) (c : ℕ) (x y : List ℕ) → x ≡ encode_utf8 c ++ y → mode_behind (after m c) y ≡ mode_behind m x
-behind_step m c x y e = rw e (ap (λ n. mode_behind n y) (sym (behind_one m c)) ∙ sym (behind_append m (encode_utf8 c) y))
-
 pub taken_step : (k : Marked) (m : Mode) (c : ℕ) (into made x y : List ℕ) → x ≡ encode_utf8 c ++ y → made ≡ into ++ kept k m.escaped c (encode_utf8 c) → made ++ taken k (after m c) y ≡ into ++ taken k m x
 taken_step k m c into made x y e f =
     rw (e, f) (append_assoc into (kept k m.escaped c (encode_utf8 c)) (taken k (after m c) y)

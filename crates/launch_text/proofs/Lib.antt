@@ -4,7 +4,7 @@ mod Kept
 mod Cutting
 mod Rows
 mod Steps
-mod Splitting
+pub mod Splitting
 mod Answering
 mod Calm
 mod Spelling

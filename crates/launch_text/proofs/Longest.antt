@@ -8,22 +8,22 @@ use Rattle.std.proofs.lemmas.Bool.Decides.{eqb_tells}
 use Rattle.std.proofs.lemmas.List.Folds.{list_all-append}
 use Rattle.std.proofs.lemmas.Option.{none-some}
 use Rattle.gst_value.specs.declared.name.Prop.{Prop}
-use Rattle.launch_text.specs.Bytes.{in_class, is_run}
+use Rattle.text_words.specs.Bytes.{in_class, is_run}
+use Rattle.text_words.specs.Values.{cut, property_of, ◌>>=◌}
+use Rattle.text_words.specs.declared.class.Class.{Class}
+use Rattle.text_words.specs.declared.class.Class.TheVariants.{Kind, Name, Property}
 use Rattle.launch_text.specs.Places.{begins, behind_run, caps_before, caps_front, element_front, front_of, link_front, name_front, next_front, part_front, point_front, run_of, spot_of}
 use Rattle.launch_text.specs.Printed.{reference_text}
-use Rattle.launch_text.specs.Reading.{Held, State, begin_part, behind_element, behind_link, behind_reference, closed, closed_in, cut, element_from, ended, go_on, innermost, linked_to, opened, property_of, reference_of, said, step_from, ◌>>=◌}
+use Rattle.launch_text.specs.Reading.{Held, State, begin_part, behind_element, behind_link, behind_reference, closed, closed_in, element_from, ended, go_on, innermost, linked_to, opened, reference_of, said, step_from}
 use Rattle.launch_text.specs.Words.{begins_caps, is_pad}
-use Rattle.launch_text.specs.declared.class.Class.{Class}
-use Rattle.launch_text.specs.declared.class.Class.TheVariants.{Kind, Name, Property}
 use Rattle.launch_text.specs.declared.line.Last.{Last}
 use Rattle.launch_text.specs.declared.line.Last.TheVariants.{Start, Bin, Chain, Element, Link, Caps, Reference}
 use Rattle.launch_text.specs.declared.printing.Marked.TheVariants.{Caps as InCaps}
 use Rattle.launch_text.specs.declared.tree.Node.{Node}
 use Rattle.launch_text.specs.declared.tree.Node.TheVariants.{Element as ElementNode}
-use Rattle.launch_text.proofs.Calm.{not_false, not_zero, run_all, run_some}
+use Rattle.launch_text.proofs.Calm.{not_zero, run_all, run_some}
 use Rattle.launch_text.proofs.Facts.{cut_sound, not_all, not_run, is_point, property_found, property_sound, reference_points, reference_sound, same_text}
-use Rattle.launch_text.proofs.Splitting.{both_true}
-use Rattle.gst_value.proofs.Basics.{no_true, and_left, and_right}
+use Rattle.gst_value.proofs.Basics.{no_true, and_left, and_right, and_both as both_true, not_false}
 
 -- bytes of names
 name_byte : (class : Class) (b : ℕ) → in_class class b ≡ true → in_class Name b ≡ true

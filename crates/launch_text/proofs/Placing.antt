@@ -4,20 +4,22 @@ use Rattle.std.specs.List.{list_all}
 use Rattle.std.proofs.lemmas.Bool.{cases_lt}
 use Rattle.std.proofs.lemmas.List.Folds.{list_all-append}
 use Rattle.std.proofs.lemmas.Option.{none-some}
-use Rattle.launch_text.specs.Bytes.{is_white}
+use Rattle.text_words.specs.Bytes.{is_white}
+use Rattle.text_words.specs.Values.{◌>>=◌}
+use Rattle.text_words.specs.Words.{after, is_closed, is_plain, plain}
+use Rattle.text_words.specs.declared.class.Class.TheVariants.{Kind}
+use Rattle.text_words.specs.declared.word.Mode.{Mode}
 use Rattle.launch_text.specs.Grammar.{IsLine}
 use Rattle.launch_text.specs.Parsed.{Stopped, Told}
 use Rattle.launch_text.specs.Places.{IsFront, IsPlace, front_of, spot_of}
 use Rattle.launch_text.specs.Printed.{reference_text}
-use Rattle.launch_text.specs.Reading.{IsStuck, Splits, State, finish, first_word, none, run, step, tree_of, ◌>>=◌}
+use Rattle.launch_text.specs.Reading.{IsStuck, Splits, State, finish, first_word, none, run, step, tree_of}
 use Rattle.launch_text.specs.Tokens.{Token, opens, closes, link, kind, property, caps, reference}
-use Rattle.launch_text.specs.Words.{after, ends, is_closed, is_plain, is_start, plain, word_length}
-use Rattle.launch_text.specs.declared.class.Class.TheVariants.{Kind}
+use Rattle.launch_text.specs.Words.{ends, is_start, word_length}
 use Rattle.launch_text.specs.declared.fault.LineFault.{LineFault}
 use Rattle.launch_text.specs.declared.fault.LineFault.TheVariants.{BadLine}
 use Rattle.launch_text.specs.declared.fault.LineKind.{LineKind}
 use Rattle.launch_text.specs.declared.tree.Tree.{Tree}
-use Rattle.launch_text.specs.declared.word.Mode.{Mode}
 use Rattle.launch_text.proofs.Again.{spaced_ends, spaced_splits, spaced_words}
 use Rattle.launch_text.proofs.Calm.{calm_closed, property_closed, reference_calm, run_calm, stops_alone, stops_ends, stops_more}
 use Rattle.launch_text.proofs.Complete.{tree_read}
@@ -29,8 +31,9 @@ use Rattle.launch_text.proofs.Parsing.{told_sound}
 use Rattle.launch_text.proofs.Runs.{front_within}
 use Rattle.launch_text.proofs.Sound.{words_fine}
 use Rattle.launch_text.proofs.Spelling.{Means, One, Says, Spells, line_spelt}
-use Rattle.launch_text.proofs.Splitting.{both_true, first_is, more_words, run_append, run_none, some_words, take_front, unique}
-use Rattle.gst_value.proofs.Basics.{and_left, and_right}
+use Rattle.launch_text.proofs.Splitting.{first_is, more_words, run_append, run_none, some_words, unique}
+use Rattle.gst_value.proofs.Basics.{and_left, and_right, and_both as both_true}
+use Rattle.gst_value.proofs.Places.{take_front}
 
 -- words that were read are closed
 means_closed : (w : List ℕ) (t : Token) → Means w t → is_closed w ≡ true

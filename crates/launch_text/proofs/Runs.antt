@@ -7,12 +7,12 @@ use Rattle.std.proofs.lemmas.Bool.Decides.{eqb_tells}
 use Rattle.std.specs.Str.{IsUtf8, IsCharBoundary}
 use Rattle.std.proofs.lemmas.List.Sums.{take_while-cons}
 use Rattle.std.proofs.lemmas.Str.{IsCharBoundary-start, IsCharBoundary-after_ascii}
-use Rattle.launch_text.specs.Bytes.{in_class}
+use Rattle.text_words.specs.Bytes.{in_class}
+use Rattle.text_words.specs.Values.{cut, property_of}
+use Rattle.text_words.specs.declared.class.Class.{Class}
+use Rattle.text_words.specs.declared.class.Class.TheVariants.{Kind, Name, Property}
 use Rattle.launch_text.specs.Places.{after_point, begins, behind_run, caps_before, caps_front, element_front, front_of, name_front, next_front, pad_front, part_front, point_front, run_of}
-use Rattle.launch_text.specs.Reading.{cut, property_of}
 use Rattle.launch_text.specs.Words.{begins_caps}
-use Rattle.launch_text.specs.declared.class.Class.{Class}
-use Rattle.launch_text.specs.declared.class.Class.TheVariants.{Kind, Name, Property}
 use Rattle.launch_text.specs.declared.front.Spot.{Spot}
 use Rattle.launch_text.specs.declared.front.Spot.TheVariants.{Start, Bin, Chain, Element, Link, Caps, Reference}
 use Rattle.launch_text.proofs.Facts.{cut_sound}

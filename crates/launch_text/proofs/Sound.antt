@@ -9,12 +9,14 @@ use Rattle.std.proofs.lemmas.Bool.{ltb-true}
 use Rattle.std.proofs.lemmas.List.{map-append}
 use Rattle.std.proofs.lemmas.Option.{none-some, same_Some}
 use Rattle.gst_value.specs.declared.name.Prop.{Prop}
-use Rattle.launch_text.specs.Bytes.{is_run}
+use Rattle.text_words.specs.Bytes.{is_run}
+use Rattle.text_words.specs.Values.{property_of, ◌>>=◌}
+use Rattle.text_words.specs.Words.{is_closed, plain}
+use Rattle.text_words.specs.declared.class.Class.TheVariants.{Kind}
 use Rattle.launch_text.specs.Grammar.{are_others, is_alone, is_chain, is_end, is_middle, part_fits, tree_fits}
-use Rattle.launch_text.specs.Reading.{Held, State, begin_part, behind_caps, behind_element, behind_link, behind_reference, closed, closed_in, element_from, ended, finish, finish_from, go_on, innermost, linked_to, more_outer, none, opened, property_of, reference_of, run, said, step, step_from, tree_of, whole, ◌>>=◌}
+use Rattle.launch_text.specs.Reading.{Held, State, begin_part, behind_caps, behind_element, behind_link, behind_reference, closed, closed_in, element_from, ended, finish, finish_from, go_on, innermost, linked_to, more_outer, none, opened, reference_of, run, said, step, step_from, tree_of, whole}
 use Rattle.launch_text.specs.Tokens.{Token, opens, closes, link, kind, property, caps, reference, chain_tokens, linked, node_tokens, part_tokens, prop_token, tree_tokens}
-use Rattle.launch_text.specs.Words.{begins_caps, is_closed, plain, taken}
-use Rattle.launch_text.specs.declared.class.Class.TheVariants.{Kind}
+use Rattle.launch_text.specs.Words.{begins_caps, taken}
 use Rattle.launch_text.specs.declared.line.Last.{Last}
 use Rattle.launch_text.specs.declared.line.Last.TheVariants.{Start, Bin, Chain, Element, Link, Caps, Reference}
 use Rattle.launch_text.specs.declared.printing.Marked.{Marked}
@@ -24,13 +26,13 @@ use Rattle.launch_text.specs.declared.tree.Node.TheVariants.{Element as ElementN
 use Rattle.launch_text.specs.declared.tree.Part.{Part}
 use Rattle.launch_text.specs.declared.tree.Part.TheVariants.{Chain as ChainPart, Bin as BinPart}
 use Rattle.launch_text.specs.declared.tree.Tree.{Tree}
-use Rattle.launch_text.proofs.Calm.{not_false, not_zero}
+use Rattle.launch_text.proofs.Calm.{not_zero}
 use Rattle.launch_text.proofs.Complete.{fits_bin, fits_chain, fits_parts}
 use Rattle.launch_text.proofs.Facts.{link_differs_back, property_sound, reference_sound, same_text}
 use Rattle.launch_text.proofs.Lines.{bin_part, chain_part, tree_parts}
 use Rattle.launch_text.proofs.Spelling.{AreCapsWords, Says, Spells, caps_word, no_link, spells_append, spells_parts}
-use Rattle.launch_text.proofs.Splitting.{both_true, run_none}
-use Rattle.gst_value.proofs.Basics.{and_left, and_right}
+use Rattle.launch_text.proofs.Splitting.{run_none}
+use Rattle.gst_value.proofs.Basics.{and_left, and_right, and_both as both_true, not_false}
 
 -- the tokens of what was read
 abbrev pub outer_tokens : List Part → List Token

@@ -1,18 +1,19 @@
 -- A text reads tokens exactly where its words spell them.
 use Rattle.std.proofs.Common.{◌≡◌, ℕ, ◌<◌, Bool, true, false, eqb, ◌&&◌, not, List, [], ◌∷◌, ◌++◌, map, length, refl, sym, ap, ◌∙◌, subst, arith, append_assoc, append-nil, codes}
 use Rattle.std.specs.List.{flat_map, list_all}
-use Rattle.launch_text.specs.Bytes.{is_run, is_white}
+use Rattle.text_words.specs.Bytes.{is_run, is_white}
+use Rattle.text_words.specs.Words.{is_closed, plain}
+use Rattle.text_words.specs.declared.class.Class.TheVariants.{Kind, Name, Property}
 use Rattle.launch_text.specs.Grammar.{IsLine, tree_fits}
 use Rattle.launch_text.specs.Printed.{reference_text}
 use Rattle.launch_text.specs.Reading.{Splits}
 use Rattle.launch_text.specs.Tokens.{Token, opens, closes, link, kind, property, caps, reference, tree_tokens}
-use Rattle.launch_text.specs.Words.{AreCaps, Reads, ReadsOne, Stands, begins_caps, ends, is_closed, is_link, is_more, is_pad, is_start, is_word, plain, taken, word_length}
-use Rattle.launch_text.specs.declared.class.Class.TheVariants.{Kind, Name, Property}
+use Rattle.launch_text.specs.Words.{AreCaps, Reads, ReadsOne, Stands, begins_caps, ends, is_link, is_more, is_pad, is_start, is_word, taken, word_length}
 use Rattle.launch_text.specs.declared.printing.Marked.TheVariants.{Value, Caps}
 use Rattle.launch_text.specs.declared.tree.Tree.{Tree}
 use Rattle.launch_text.proofs.Calm.{calm_closed, calm_length, not_zero, property_closed, reference_calm, reference_some, run_calm, run_some, stops_alone, stops_ends, stops_more, word_all, word_is, word_some}
-use Rattle.launch_text.proofs.Splitting.{both_true, word_starts}
-use Rattle.gst_value.proofs.Basics.{and_left, and_right}
+use Rattle.launch_text.proofs.Splitting.{word_starts}
+use Rattle.gst_value.proofs.Basics.{and_left, and_right, and_both as both_true}
 
 -- one word that stands for a token
 abbrev pub Means : List ℕ → Token → Type 0

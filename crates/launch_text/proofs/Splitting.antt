@@ -3,14 +3,14 @@ use Rattle.std.proofs.Common.{◌≡◌, ℕ, suc, ◌<◌, Bool, true, false, c
 use Rattle.std.specs.List.{list_all, take_while}
 use Rattle.std.proofs.lemmas.Bool.{eqb-true}
 use Rattle.std.proofs.lemmas.List.Folds.{list_all-append}
-use Rattle.launch_text.specs.Bytes.{is_white}
-use Rattle.launch_text.specs.Reading.{Passed, Splits, State, first_word, behind_word, none, run, step, ◌>>=◌}
-use Rattle.launch_text.specs.Words.{after, is_start, plain, word_length}
+use Rattle.text_words.specs.Bytes.{is_white}
+use Rattle.text_words.specs.Values.{◌>>=◌}
+use Rattle.text_words.specs.Words.{after, plain}
+use Rattle.launch_text.specs.Reading.{Passed, Splits, State, first_word, behind_word, none, run, step}
+use Rattle.launch_text.specs.Words.{is_start, word_length}
 use Rattle.launch_text.proofs.Cutting.{behind_start, front_white, length_front, some_word, two_parts, within}
-use Rattle.gst_value.proofs.Basics.{no_true, and_left, and_right}
-
-pub both_true : (a b : Bool) → a ≡ true → b ≡ true → (a && b) ≡ true
-both_true a b h k = rw (h, k) refl
+use Rattle.gst_value.proofs.Basics.{no_true, and_left, and_right, and_both as both_true}
+use Rattle.gst_value.proofs.Places.{same_front, take_front}
 
 pub white_both : (a b : List ℕ) → list_all is_white a ≡ true → list_all is_white b ≡ true → list_all is_white (a ++ b) ≡ true
 white_both a b h k = list_all-append is_white a b ∙ both_true (list_all is_white a) (list_all is_white b) h k
@@ -47,7 +47,7 @@ passed_word text rest word mid front next s t p start some e f g white h = recor
   reads = run_append (Some none) p.words (word ∷ []) ∙ ap (λ o. o >>= (λ s. step s word)) p.reads ∙ h;
 }
 
-start_white : (b : ℕ) (bs ys : List ℕ) → list_all is_white (b ∷ bs) ≡ true → is_start ((b ∷ bs) ++ ys) ≡ true → ⊥
+pub start_white : (b : ℕ) (bs ys : List ℕ) → list_all is_white (b ∷ bs) ≡ true → is_start ((b ∷ bs) ++ ys) ≡ true → ⊥
 start_white b bs ys h k = no_true (rw (and_left (is_white b) (list_all is_white bs) h) at k)
 
 -- white space ends where something else begins
@@ -59,16 +59,6 @@ same_white (a ∷ rs) (b ∷ bs) x y ha hb sx sy e =
     let head : a ≡ b = cc in
     let tail : rs ++ x ≡ bs ++ y = cc in
     let r = same_white rs bs x y (and_right (is_white a) (list_all is_white rs) ha) (and_right (is_white b) (list_all is_white bs) hb) sx sy tail in
-    ((λ i. head i ∷ r.0 i), r.1)
-
-pub same_front : (w v x y : List ℕ) → length w ≡ length v → w ++ x ≡ v ++ y → (w ≡ v) × (x ≡ y)
-same_front [] [] x y n e = (refl, e)
-same_front [] (v ∷ vs) x y n e = absurd (omega (arith, n))
-same_front (w ∷ ws) [] x y n e = absurd (omega (arith, n))
-same_front (w ∷ ws) (v ∷ vs) x y n e =
-    let head : w ≡ v = cc in
-    let tail : ws ++ x ≡ vs ++ y = cc in
-    let r = same_front ws vs x y (omega (arith, n)) tail in
     ((λ i. head i ∷ r.0 i), r.1)
 
 pub same_word : (w v x y : List ℕ) → word_length plain (w ++ x) ≡ length w → word_length plain (v ++ y) ≡ length v → w ++ x ≡ v ++ y → (w ≡ v) × (x ≡ y)
@@ -110,10 +100,6 @@ no_words (w ∷ ws) h = absurd (empty h.0 h.2)
     empty : (white : List ℕ) → [] ≡ white ++ (w ++ h.1) → ⊥
     empty [] e = nothing w h.1 h.4 e
     empty (b ∷ bs) e = cc
-
-pub take_front : (w x : List ℕ) → take (length w) (w ++ x) ≡ w
-take_front [] x = refl
-take_front (b ∷ bs) x = ap (λ l. b ∷ l) (take_front bs x)
 
 pub drop_front : (w x : List ℕ) → drop (length w) (w ++ x) ≡ x
 drop_front [] x = refl

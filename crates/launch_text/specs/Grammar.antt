@@ -1,7 +1,7 @@
 -- Which text stands for which tree.
 use Rattle.std.specs.Prelude.{◌≡◌, ℕ, zero, suc, Bool, true, false, not, ◌==◌, ◌&&◌, List, [], ◌∷◌, length}
 use Rattle.std.specs.List.{list_all}
-use Rattle.launch_text.specs.Bytes.{is_white}
+use Rattle.text_words.specs.Bytes.{is_white}
 use Rattle.launch_text.specs.Tokens.{tree_tokens}
 use Rattle.launch_text.specs.Words.{Reads}
 use Rattle.launch_text.specs.declared.tree.Node.{Node}

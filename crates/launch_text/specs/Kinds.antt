@@ -1,8 +1,9 @@
 -- Why a text is no line.
 use Rattle.std.specs.Prelude.{ℕ, Bool, true, false, cond, ◌==◌, ◌&&◌, ◌||◌, not, List, codes, length, nat_lt, nat_le}
 use Rattle.std.specs.Str.{bytes_eq}
+use Rattle.text_words.specs.Words.{is_closed}
 use Rattle.launch_text.specs.Places.{begins}
-use Rattle.launch_text.specs.Words.{begins_caps, is_closed}
+use Rattle.launch_text.specs.Words.{begins_caps}
 use Rattle.launch_text.specs.declared.fault.LineKind.{LineKind}
 use Rattle.launch_text.specs.declared.fault.LineKind.TheVariants.{EmptyLink, TrailingLink, Unclosed, BadRef, CapsEnd, Deep, Empty, BadName}
 use Rattle.launch_text.specs.declared.front.Spot.{Spot}

@@ -1,11 +1,11 @@
 -- Where a text is no line.
 use Rattle.std.specs.Prelude.{ℕ, ◌<◌, ◌≤◌, Bool, false, cond, ◌==◌, List, [], ◌∷◌, ◌++◌, Option, Some, None, is_some, length, nat_lt, take}
-use Rattle.launch_text.specs.Bytes.{in_class}
+use Rattle.text_words.specs.Bytes.{in_class}
+use Rattle.text_words.specs.Values.{cut, property_of}
+use Rattle.text_words.specs.declared.class.Class.{Class}
+use Rattle.text_words.specs.declared.class.Class.TheVariants.{Name}
 use Rattle.launch_text.specs.Grammar.{IsLine}
-use Rattle.launch_text.specs.Reading.{cut, property_of}
 use Rattle.launch_text.specs.Words.{begins_caps}
-use Rattle.launch_text.specs.declared.class.Class.{Class}
-use Rattle.launch_text.specs.declared.class.Class.TheVariants.{Name}
 use Rattle.launch_text.specs.declared.front.Spot.{Spot}
 use Rattle.launch_text.specs.declared.front.Spot.TheVariants.{Start, Bin, Chain, Element, Link, Caps, Reference}
 use Rattle.launch_text.specs.declared.line.Last.{Last}

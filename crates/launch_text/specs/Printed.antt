@@ -1,7 +1,7 @@
 -- The line of a tree.
 use Rattle.std.specs.Prelude.{ℕ, Bool, cond, ◌==◌, ◌||◌, List, [], ◌∷◌, ◌++◌, Option, Some, None, codes, length, map}
 use Rattle.std.specs.List.{flat_map, fold}
-use Rattle.launch_text.specs.Bytes.{is_white}
+use Rattle.text_words.specs.Bytes.{is_white}
 use Rattle.launch_text.specs.Tokens.{Token, opens, closes, link, kind, property, caps, reference, tree_tokens}
 use Rattle.launch_text.specs.declared.printing.Marked.{Marked}
 use Rattle.launch_text.specs.declared.printing.Marked.TheVariants.{Value, Caps}

@@ -3,9 +3,11 @@ use Rattle.std.specs.Prelude.{◌≡◌, ℕ, true, cond, ◌==◌, ◌<◌, Lis
 use Rattle.std.specs.List.{list_all}
 use Rattle.std.specs.Str.{bytes_eq}
 use Rattle.gst_value.specs.declared.name.Prop.{Prop}
-use Rattle.launch_text.specs.Bytes.{is_run, is_white}
-use Rattle.launch_text.specs.Words.{begins_caps, is_closed, plain, taken, word_length}
-use Rattle.launch_text.specs.declared.class.Class.TheVariants.{Kind, Name, Property}
+use Rattle.text_words.specs.Bytes.{is_run, is_white}
+use Rattle.text_words.specs.Values.{cut, property_of, ◌>>=◌}
+use Rattle.text_words.specs.Words.{is_closed, plain}
+use Rattle.text_words.specs.declared.class.Class.TheVariants.{Kind, Name}
+use Rattle.launch_text.specs.Words.{begins_caps, taken, word_length}
 use Rattle.launch_text.specs.declared.fault.Refusal.{Refusal}
 use Rattle.launch_text.specs.declared.fault.Refusal.TheVariants.{Stuck, OutOfMemory}
 use Rattle.launch_text.specs.declared.line.Last.{Last}
@@ -19,37 +21,15 @@ use Rattle.launch_text.specs.declared.tree.Part.{Part}
 use Rattle.launch_text.specs.declared.tree.Part.TheVariants.{Chain as ChainPart, Bin as BinPart}
 use Rattle.launch_text.specs.declared.tree.Tree.{Tree}
 
--- first one part and then another
-infixl 10 ◌>>=◌
-abbrev pub ◌>>=◌ : {V W : Type 0} → Option V → (V → Option W) → Option W
-(Some v) >>= f = f v
-None >>= f = None
-
 -- what a function gave that is stuck where there is nothing, unless memory was wanting
 abbrev pub Gives : {X V : Type 0} → (X → V) → Result X Refusal → Option V → Type 0
 Gives view (Ok x) answer = answer ≡ Some (view x)
 Gives view (Err Stuck) answer = answer ≡ None
 Gives view (Err OutOfMemory) answer = Unit {0}
 
-abbrev pub longer : ℕ → Option (List ℕ × List ℕ) → Option (List ℕ × List ℕ)
-longer b None = None
-longer b (Some p) = Some (b ∷ p.0, p.1)
-
--- what stands before and behind the first such byte
-abbrev pub cut : ℕ → List ℕ → Option (List ℕ × List ℕ)
-cut mark [] = None
-cut mark (b ∷ bs) = cond (b == mark) (Some ([], bs)) (longer b (cut mark bs))
-
 -- what a word says of a value or of caps
 unfoldable pub said : Marked → List ℕ → Option (List ℕ)
 said marked word = cond (is_closed word) (Some (taken marked plain word)) None
-
--- the name of a property and the word of its value
-abbrev pub named : List ℕ × List ℕ → Option (List ℕ × List ℕ)
-named p = cond (is_run Property p.0) (Some p) None
-
-unfoldable pub property_of : List ℕ → Option (List ℕ × List ℕ)
-property_of word = cut 61 word >>= named
 
 -- the name of a pad, where one stands there
 unfoldable pub pad_of : List ℕ → Option (Option (List ℕ))

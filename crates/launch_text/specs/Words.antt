@@ -1,28 +1,14 @@
 -- Words, and what they stand for.
 use Rattle.std.specs.Prelude.{◌≡◌, ℕ, suc, Bool, true, false, cond, not, ◌==◌, ◌||◌, ◌&&◌, List, [], ◌∷◌, ◌++◌, Option, Some, None, codes, length}
 use Rattle.std.specs.List.{flat_map, list_all}
-use Rattle.launch_text.specs.Bytes.{is_run, is_white}
+use Rattle.text_words.specs.Bytes.{is_run, is_white}
+use Rattle.text_words.specs.Words.{after, is_closed, is_plain, plain}
+use Rattle.text_words.specs.declared.class.Class.TheVariants.{Kind, Name, Property}
+use Rattle.text_words.specs.declared.word.Mode.{Mode}
 use Rattle.launch_text.specs.Printed.{reference_text}
 use Rattle.launch_text.specs.Tokens.{Token, opens, closes, link, kind, property, caps, reference}
-use Rattle.launch_text.specs.declared.class.Class.TheVariants.{Kind, Name, Property}
 use Rattle.launch_text.specs.declared.printing.Marked.{Marked}
 use Rattle.launch_text.specs.declared.printing.Marked.TheVariants.{Value, Caps}
-use Rattle.launch_text.specs.declared.word.Mode.{Mode}
-
--- where a word begins: out of quotes, and not behind a backslash
-abbrev pub plain : Mode
-plain = record { quoted = false; escaped = false }
-
-abbrev pub is_plain : Mode → Bool
-is_plain m = not m.quoted && not m.escaped
-
--- a backslash takes the next byte as it is, and a double quote opens or closes quotes
-abbrev pub after : Mode → ℕ → Mode
-after m b = record { quoted = cond m.escaped m.quoted (cond (b == 34) (not m.quoted) m.quoted); escaped = cond m.escaped false (b == 92) }
-
-abbrev pub mode_behind : Mode → List ℕ → Mode
-mode_behind m [] = m
-mode_behind m (b ∷ bs) = mode_behind (after m b) bs
 
 -- a word goes on up to white space that is neither in quotes nor behind a backslash
 abbrev pub word_length : Mode → List ℕ → ℕ
@@ -32,10 +18,6 @@ word_length m (b ∷ bs) = cond (is_plain m && is_white b) 0 (suc (word_length (
 -- one or more bytes that are one word
 abbrev pub is_word : List ℕ → Bool
 is_word text = not (length text == 0) && (word_length plain text == length text)
-
--- a word that ends out of quotes and not behind a backslash
-abbrev pub is_closed : List ℕ → Bool
-is_closed word = is_plain (mode_behind plain word)
 
 -- what the bytes of b add: to a value a double quote and a backslash add nothing but behind a backslash, and to caps only a
 -- backslash before a space

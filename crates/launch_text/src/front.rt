@@ -3,10 +3,11 @@ ghost use Rattle.std.specs.Prelude.{◌≡◌, ◌+◌, ◌≤◌, length};
 ghost use Rattle.std.specs.Option.{option_map};
 ghost use Rattle.launch_text.specs.Places.{after_point, begins, behind_run, caps_front, element_front, front_of, link_front, name_front, next_front, part_front, point_front, run_of, spot_of};
 
-use crate::class::{Class, run_length};
+use crate::class::run_length;
 use crate::line::Last;
 use crate::parts::DEEPEST;
-use crate::value::{begins_caps, cut, split_property};
+use crate::value::begins_caps;
+use text_words::{Class, cut, split_property};
 
 /// What may follow in a line.
 #[derive(Clone, Copy, PartialEq, Eq)]

@@ -1,7 +1,6 @@
 //! Launch lines as trees, and trees as launch lines, in the way of gst-launch-1.0.
 #![tactic(auto)]
 
-mod characters;
 mod class;
 pub mod fault;
 mod front;

@@ -3,14 +3,14 @@ ghost use Rattle.std.specs.Prelude.{[], Some};
 ghost use Rattle.launch_text.specs.Reading.{Gives, Held, begin_part, behind_caps, behind_element, behind_link, behind_reference, finish_from, go_on, held, step_from, whole, with_property};
 ghost use Rattle.launch_text.specs.declared.line.Last.TheVariants.{Element as ElementOf};
 
-use crate::class::{Class, is_run};
 use crate::fault::Refusal;
 use crate::parts::Parts;
 use crate::printing::Marked;
 use crate::tree::{Node, Tree};
-use crate::value::{begins_caps, read_reference, read_said, split_property};
+use crate::value::{begins_caps, read_reference, read_said};
 use gst_value::{List, Prop, Text};
 use std::alloc::Global;
+use text_words::{Class, is_run, split_property};
 
 /// What was read last.
 #[derive(Drop)]

@@ -10,7 +10,8 @@ use crate::fault::{LineFault, LineKind};
 use crate::front::{Spot, begins, front_length};
 use crate::parts::DEEPEST;
 use crate::value::begins_caps;
-use crate::word::{behind_white, is_closed, split_word};
+use crate::word::{behind_white, split_word};
+use text_words::is_closed;
 
 /// The word at which a line stops, which may be its end.
 #[derive(Drop)]

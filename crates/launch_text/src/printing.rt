@@ -5,10 +5,10 @@ ghost use Rattle.std.specs.Char.{encode_utf8};
 ghost use Rattle.launch_text.specs.Printed.{caps_text, is_marked, line_text, reference_text, spaced, token_text, value_text, with_marks, with_tokens, with_word};
 ghost use Rattle.launch_text.specs.Tokens.{Token, chain_tokens, kind, linked, node_tokens, part_tokens, prop_token, tree_tokens};
 
-use crate::characters::Characters;
 use crate::tree::{Chain, Node, Part, Tree};
 use gst_value::{OutOfMemory, Prop, Text};
 use std::alloc::Global;
+use text_words::Characters;
 
 /// Puts a space behind the words so far.
 fn put_space(into: &mut String) -> Result<(), OutOfMemory>

@@ -1,19 +1,17 @@
 //! What words stand for.
-ghost use Rattle.std.specs.Prelude.{◌≡◌, ◌++◌, ◌<◌, IfOk, OnOk};
+ghost use Rattle.std.specs.Prelude.{◌≡◌, ◌++◌, IfOk, OnOk};
 ghost use Rattle.std.specs.String.{string_bytes};
-ghost use Rattle.std.specs.Option.{option_map};
 ghost use Rattle.std.specs.Char.{encode_utf8};
-ghost use Rattle.launch_text.specs.Reading.{Gives, cut, pad_of, property_of, reference_of, said};
-ghost use Rattle.launch_text.specs.Words.{begins_caps, is_closed, kept, plain, taken};
+ghost use Rattle.text_words.specs.Words.{is_closed, plain};
+ghost use Rattle.launch_text.specs.Reading.{Gives, pad_of, reference_of, said};
+ghost use Rattle.launch_text.specs.Words.{begins_caps, kept, taken};
 
-use crate::characters::Characters;
-use crate::class::{Class, is_run};
 use crate::fault::Refusal;
 use crate::printing::Marked;
 use crate::tree::Node;
-use crate::word::Mode;
 use gst_value::{OutOfMemory, Text};
 use std::alloc::Global;
+use text_words::{Characters, Class, Mode, cut, is_run};
 
 /// Puts what a character of a word adds to a value or to caps.
 fn put_kept(
@@ -97,27 +95,6 @@ pub(crate) fn begins_caps(word: &str) -> bool
         }
     }
     false
-}
-
-/// What stands before and behind the first such ASCII character.
-pub(crate) fn cut(word: &str, mark: char) -> Option<(&str, &str)>
-    requires { mark < 128 }
-    ensures { option_map (λ p. (p.0.now, p.1.now)) result ≡ cut mark word.now }
-{
-    word.split_once(mark)
-}
-
-/// The name of a property and the word of its value.
-#[tactic(auto, unfolding(crate::specs::Reading::property_of))]
-pub(crate) fn split_property(word: &str) -> Option<(&str, &str)>
-    ensures { option_map (λ p. (p.0.now, p.1.now)) result ≡ property_of word.now }
-{
-    let (name, value) = cut(word, '=')?;
-    if is_run(Class::Property, name) {
-        Some((name, value))
-    } else {
-        None
-    }
 }
 
 /// The name of a pad, where one stands there.

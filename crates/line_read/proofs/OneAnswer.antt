@@ -81,4 +81,4 @@ one_request graph = λ words one other h k. by words one other h k
     by : (words : List (List ℕ)) (one other : Request) → IsRequest words one → IsRequest words other → AreAlike one other
     by words one other h k =
         let same = graph k.tree one.graph other.graph (subst (λ t. IsGraph t one.graph) (same_tree words h.tree k.tree h.has_tree k.has_tree) h.graph) k.graph in
-        record { threads = h.threads ∙ sym k.threads; order = h.order ∙ sym k.order; quiet = h.quiet ∙ sym k.quiet; elements = same.0; links = same.1 }
+        record { script = h.script ∙ sym k.script; threads = h.threads ∙ sym k.threads; order = h.order ∙ sym k.order; quiet = h.quiet ∙ sym k.quiet; elements = same.0; links = same.1 }

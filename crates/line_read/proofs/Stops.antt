@@ -2,17 +2,17 @@
 use Rattle.std.proofs.Common.{◌≡◌, ℕ, zero, suc, ◌<◌, ◌≤◌, Bool, true, false, cond, ◌&&◌, not, List, [], ◌∷◌, ◌++◌, length, take, Option, Some, None, refl, sym, ap, ◌∙◌, subst, arith, length-append}
 use Rattle.std.specs.List.{list_all}
 use Rattle.std.proofs.lemmas.Option.{same_Some, none-some as none_not}
-use Rattle.launch_text.specs.Bytes.{is_white}
+use Rattle.text_words.specs.Bytes.{is_white}
+use Rattle.text_words.specs.Words.{after, is_plain, plain}
 use Rattle.launch_text.specs.Kinds.{is_bracket, kind_of}
 use Rattle.launch_text.specs.Parsed.{Stopped, place_of}
 use Rattle.launch_text.specs.Places.{spot_of}
 use Rattle.launch_text.specs.Reading.{IsStuck, Splits, State, first_word, none, run, step}
-use Rattle.launch_text.specs.Words.{after, is_plain, is_start, plain, word_length}
+use Rattle.launch_text.specs.Words.{is_start, word_length}
 use Rattle.launch_text.specs.declared.fault.LineKind.{LineKind}
-use Rattle.gst_value.proofs.Basics.{no_true, and_left, and_right}
-
-start_white : (b : ℕ) (bs ys : List ℕ) → list_all is_white (b ∷ bs) ≡ true → is_start ((b ∷ bs) ++ ys) ≡ true → ⊥
-start_white b bs ys h k = no_true (rw (and_left (is_white b) (list_all is_white bs) h) at k)
+use Rattle.gst_value.proofs.Basics.{no_true, and_right}
+use Rattle.gst_value.proofs.Places.{take_front}
+use Rattle.launch_text.proofs.Splitting.{run_none, same_word, start_white, word_starts}
 
 -- white space ends where something else begins
 same_white : (a b x y : List ℕ) → list_all is_white a ≡ true → list_all is_white b ≡ true → is_start x ≡ true → is_start y ≡ true → a ++ x ≡ b ++ y → x ≡ y
@@ -22,32 +22,6 @@ same_white (a ∷ rs) [] x y ha hb sx sy e = absurd (start_white a rs x ha (subs
 same_white (a ∷ rs) (b ∷ bs) x y ha hb sx sy e =
     let tail : rs ++ x ≡ bs ++ y = cc in
     same_white rs bs x y (and_right (is_white a) (list_all is_white rs) ha) (and_right (is_white b) (list_all is_white bs) hb) sx sy tail
-
-same_front : (w v x y : List ℕ) → length w ≡ length v → w ++ x ≡ v ++ y → (w ≡ v) × (x ≡ y)
-same_front [] [] x y n e = (refl, e)
-same_front [] (v ∷ vs) x y n e = absurd (omega (arith, n))
-same_front (w ∷ ws) [] x y n e = absurd (omega (arith, n))
-same_front (w ∷ ws) (v ∷ vs) x y n e =
-    let head : w ≡ v = cc in
-    let tail : ws ++ x ≡ vs ++ y = cc in
-    let r = same_front ws vs x y (omega (arith, n)) tail in
-    ((λ i. head i ∷ r.0 i), r.1)
-
--- a text begins with one word
-same_word : (w v x y : List ℕ) → word_length plain (w ++ x) ≡ length w → word_length plain (v ++ y) ≡ length v → w ++ x ≡ v ++ y → (w ≡ v) × (x ≡ y)
-same_word w v x y h k e = same_front w v x y (sym h ∙ ap (word_length plain) e ∙ k) e
-
-word_starts : (w x : List ℕ) → 0 < length w → word_length plain (w ++ x) ≡ length w → is_start (w ++ x) ≡ true
-word_starts [] x some h = absurd (omega (arith, some))
-word_starts (b ∷ bs) x some h = by (is_white b) h
-  where
-    by : (t : Bool) → cond t 0 (suc (word_length (after plain b) (bs ++ x))) ≡ suc (length bs) → not t ≡ true
-    by true e = absurd (omega (arith, e))
-    by false e = refl
-
-take_front : (w x : List ℕ) → take (length w) (w ++ x) ≡ w
-take_front [] x = refl
-take_front (b ∷ bs) x = ap (λ l. b ∷ l) (take_front bs x)
 
 -- ---- each text has words
 
@@ -109,10 +83,6 @@ words_of (suc most) text few =
     words_behind text s.white s.rest s.are_white s.starts s.parts (λ rest less. words_of most rest (omega (arith, less, few)))
 
 -- ---- where words lead to
-
-run_none : (words : List (List ℕ)) → run None words ≡ None
-run_none [] = refl
-run_none (w ∷ words) = run_none words
 
 -- a word behind a place at which none goes on
 stuck_word : (s : State) (rest w mid : List ℕ) → IsStuck s rest → rest ≡ w ++ mid → 0 < length w → word_length plain (w ++ mid) ≡ length w → step s w ≡ None

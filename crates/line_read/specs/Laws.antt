@@ -8,6 +8,7 @@ use Rattle.line_read.specs.declared.request.Request.{Request}
 
 -- the same options, and graphs with the same elements and links
 pub record AreAlike (one other : Request) : Type 0 where
+  pub script : one.script ≡ other.script
   pub threads : one.threads ≡ other.threads
   pub order : one.order ≡ other.order
   pub quiet : one.quiet ≡ other.quiet

@@ -12,6 +12,7 @@ pub record IsRequest (words : List (List ℕ)) (request : Request) : Type 0 wher
   pub has_tree : HasTree words tree
   pub graph : IsGraph tree request.graph
   pub sound : IsSound request.graph
+  pub script : request.script ≡ (options_of words).script
   pub threads : request.threads ≡ (options_of words).threads
   pub order : request.order ≡ (options_of words).order
   pub quiet : request.quiet ≡ (options_of words).quiet

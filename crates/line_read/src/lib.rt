@@ -5,8 +5,10 @@ mod laws;
 mod reading;
 mod refusal;
 mod request;
+mod script;
 
 pub use laws::one_answer;
 pub use reading::read_request;
 pub use refusal::Refusal;
 pub use request::Request;
+pub use script::read_commands;

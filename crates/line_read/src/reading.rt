@@ -24,6 +24,7 @@ pub fn read_request(alloc: Global, words: &[String]) -> Result<Request, Refusal>
     let tree = parse(alloc, options.line.as_str())?;
     let graph = build(alloc, &tree)?;
     Ok(Request {
+        script: options.script,
         threads: options.threads,
         order: options.order,
         quiet: options.quiet,

@@ -25,15 +25,15 @@ const OUT_OF_MEMORY: u8 = 13;
 /// Why words ask for no run.
 #[derive(Drop)]
 pub struct Refusal {
-    /// The status of the report: 1 for the words, 2 for the text of the line, 3 and 4 for its graph, and 13 for want
-    /// of memory.
+    /// The status of the report: 1 for the words, 2 for the text of the line, 3 and 4 for its graph, 5 for the text of the
+    /// script, 6 and 7 for its file, and 13 for want of memory.
     pub status: u8,
     /// The fault of the report. It is `Nothing` for want of memory, and there alone.
     pub fault: Fault,
 }
 
 /// The refusal for want of memory.
-fn wanting() -> Refusal
+pub(crate) fn wanting() -> Refusal
     ensures { result ≡ wanting }
 {
     Refusal {

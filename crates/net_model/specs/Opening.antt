@@ -3,7 +3,8 @@ use Rattle.std.specs.Prelude.{◌≡◌, ℕ, List, [], ◌∷◌, map}
 use Rattle.flow_model.specs.Call.{Call}
 use Rattle.flow_model.specs.Link.{Span, Linked}
 use Rattle.flow_model.specs.Eval.{Plan}
-use Rattle.net_model.specs.Moment.{Answers, Moment, CellStands}
+use Rattle.net_model.specs.Moment.{Moment, CellStands}
+use Rattle.flow_model.specs.Rule.{Answers}
 
 -- a sink pad that is not linked, or that is linked from the start
 pub data IsUntouched : List Span → Type 0 where

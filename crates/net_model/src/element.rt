@@ -5,7 +5,8 @@ ghost use Rattle.flow_model.specs.Call.{Call};
 ghost use Rattle.net_model.specs.Moment.{Behavior};
 ghost use Rattle.net_model.specs.Takes.{Takes};
 ghost use Rattle.net_model.specs.Refuses.{RefusesBy};
-ghost use Rattle.net_model.specs.Failures.{NeverFalls, IsWriteCause};
+ghost use Rattle.net_model.specs.Failures.{IsWriteCause};
+ghost use Rattle.gst_outside.specs.Causes.{NeverFalls};
 
 use crate::refusal::Refused;
 use gst_item::{Item, Outs};

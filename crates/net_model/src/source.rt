@@ -3,7 +3,8 @@ ghost use Rattle.std.specs.Prelude.{◌≡◌, ◌<◌, ◌^◌, ◌++◌, ℕ, 
 ghost use Rattle.flow_model.specs.Item.{Item};
 ghost use Rattle.net_model.specs.declared.refusal.Unread.{Unread};
 ghost use Rattle.net_model.specs.Gives.{Gives, count_after};
-ghost use Rattle.net_model.specs.Failures.{NeverFalls, IsReadCause};
+ghost use Rattle.net_model.specs.Failures.{IsReadCause};
+ghost use Rattle.gst_outside.specs.Causes.{NeverFalls};
 ghost use Rattle.net_model.specs.Short.{StopsShort};
 
 use crate::refusal::Unread;

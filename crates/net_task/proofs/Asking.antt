@@ -36,7 +36,6 @@ use Rattle.net_task.specs.Short.{CrossedShort}
 use Rattle.net_task.specs.Tries.{Asks, StepsAs, elements_of, left_in}
 use Rattle.net_task.specs.Fuel.{Burns, part_left}
 use Rattle.task_pads.proofs.Few.{few_crossed}
-use Rattle.task_parts.proofs.Lists.{set_at}
 use Rattle.net_task.proofs.Linked.{linked_rest, shape_rest, same_number}
 use Rattle.net_task.proofs.Tied.{part_pads, parts_set, part_settled, head_same}
 use Rattle.net_task.proofs.Passing.{stands_set}
@@ -46,6 +45,7 @@ use Rattle.net_task.proofs.Bare.{bare, bare_frames, bare_lefts, bare_ready, bare
 use Rattle.net_task.proofs.GoingOn.{keeps_same}
 use Rattle.net_task.proofs.Kept.{kept_set}
 use Rattle.net_task.proofs.Trying.{err_same}
+use Rattle.gst_value.proofs.Places.{set_at}
 
 -- what was put out goes to pads
 pub settled : {S E I O L : Type 0} {s : sources.Ghosts S} {e : elements.Ghosts E} (i : inlets.Ghosts I L O) (o : outlets.Ghosts O L) (head : Head S I O s) (parts parts' : List (Part E O e)) (place : ℕ) → Settles parts parts' place

@@ -19,9 +19,10 @@ use Rattle.net_task.specs.Frame.{PartFrame, Wire, part_frame, room_in, wire_of}
 use Rattle.net_task.specs.Fuel.{pad_left, part_left}
 use Rattle.net_task.specs.Ready.{PartsReady}
 use Rattle.task_pads.proofs.Lists.{map_set}
-use Rattle.task_parts.proofs.Lists.{map_back, map_over, set_at}
+use Rattle.task_parts.proofs.Lists.{map_back, map_over}
 use Rattle.net_task.proofs.Places.{map_each, sum_over}
 use Rattle.net_task.proofs.Handing.{shape_at}
+use Rattle.gst_value.proofs.Places.{set_at}
 
 -- An element, and all of its pads but what waits there.
 pub record Bare (O : Type 0) : Type 0 where

@@ -1,6 +1,6 @@
 -- Each element that a task names is one of it.
-use Rattle.std.proofs.Common.{◌≡◌, ℕ, zero, suc, true, List, [], ◌∷◌, map, Some, refl, sym, subst}
-use Rattle.std.specs.Prelude.{slice_get, Result, Ok, Err, IfOk, IfErr, IsErrAnd, OnOk}
+use Rattle.std.proofs.Common.{◌≡◌, ℕ, zero, suc, true, List, [], ◌∷◌, map, Some, refl, subst}
+use Rattle.std.specs.Prelude.{slice_get, Result, Ok, Err, IfOk, IfErr, OnOk}
 use Rattle.net_model.specs.declared.element.TaskElement as elements
 use Rattle.net_model.specs.declared.source.TaskSource as sources
 use Rattle.task_pads.specs.Pads.{pad_shape}
@@ -30,11 +30,6 @@ if_err (Err x) P f = f x refl
 pub err_at : {T X : Type 0} (r : Result T X) (P : X → Type 0) (x : X) → r ≡ Err x → IfErr r P → P x
 err_at (Ok t) P x q f = absurd cc
 err_at (Err y) P x q f = let same : y ≡ x = cc in subst P same f
-
--- a fault that `?` hands on
-pub handed_on : {T X : Type 0} (r : Result T X) (x : X) (P : X → Type 0) → IsErrAnd r (λ fault. fault ≡ x) → P x → IfErr r P
-handed_on (Ok t) x P f p = absurd f
-handed_on (Err y) x P f p = subst P (sym f) p
 
 pub ok_at : {T X : Type 0} (r : Result T X) (P : T → Type 0) (t : T) → r ≡ Ok t → IfOk r P → P t
 ok_at (Ok u) P t q f = let same : u ≡ t = cc in subst P same f

@@ -22,19 +22,17 @@ use Rattle.task_parts.specs.Part.{PadSet, PartGave, waits_at}
 use Rattle.task_parts.specs.Moved.{PartSet, HandedOn}
 use Rattle.net_task.specs.Ties.{LeadsAs, HeadTied, AreTied, Stands, nothing_lost}
 use Rattle.net_task.specs.Moves.{passes, passing}
-use Rattle.task_parts.proofs.Lists.{map_back, set_at}
+use Rattle.task_parts.proofs.Lists.{map_back}
 use Rattle.net_task.proofs.Linked.{same_goes, crossed_rest}
 use Rattle.net_task.proofs.Tied.{IsNotFed, part_number, set_part_shape, parts_set_shape}
 use Rattle.net_task.proofs.Fed.{now, fed_tied, fed_answers, out_now}
 use Rattle.net_task.proofs.Passing.{MovesOn, sent_inside, pad_twice, part_twice, is_set, is_pad_set, port_here, try_crosses, waited_at}
 use Rattle.gst_value.proofs.Basics.{some_same}
+use Rattle.gst_value.proofs.Places.{first_same, set_at}
 
 -- values at the same place of lists of the same values
 pub shape_at : {A B : Type 0} (f : A → B) (xs ys : List A) → map f ys ≡ map f xs → (k : ℕ) (x y : A) → slice_get xs k ≡ Some x → slice_get ys k ≡ Some y → f y ≡ f x
 shape_at f xs ys s k x y at at' = let z = map_back f xs ys s k y at' in z.2 ∙ ap f (some_same (sym z.1 ∙ at))
-
-pub first_same : {A : Type 0} (x y : A) (xs ys : List A) → x ∷ xs ≡ y ∷ ys → x ≡ y
-first_same x y xs ys q = cc
 
 -- the item that was taken from a pad to which it crossed
 pub record TakenFrom {E O : Type 0} {e : elements.Ghosts E} (new gave : Part E O e) (port : ℕ) (is : Pad O) (item : Item) : Type 0 where

@@ -26,8 +26,8 @@ use Rattle.net_task.specs.Ready.{LeadsInto}
 use Rattle.net_task.specs.Ties.{PadLinked}
 use Rattle.net_task.specs.Reasons.{PadHolds}
 use Rattle.task_pads.proofs.Lists.{map_set}
-use Rattle.task_parts.proofs.Lists.{map_get}
 use Rattle.gst_value.proofs.Basics.{some_same}
+use Rattle.gst_value.proofs.Places.{map_get}
 
 -- all from the place of its lane on went into a pad's lane
 went : {O L : Type 0} (o : outlets.Ghosts O L) (b : Behind O) (lane element pad from : ℕ) (h : List Item) → goes b ≡ over lane element pad from → SentIn o b h → WentIn o b (drop from h)

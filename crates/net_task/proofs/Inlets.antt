@@ -32,12 +32,12 @@ use Rattle.net_task.specs.Ready.{AreReady, LanesGoOn, RowsApart, WiresApart}
 use Rattle.net_task.specs.Reasons.{AllRest, HeadGaveAll, HeadLacks}
 use Rattle.net_task.specs.Ties.{AreTied, Stands, nothing_lost}
 use Rattle.net_task.specs.Tries.{Asks, StepsAs, left_in}
-use Rattle.task_parts.proofs.Lists.{set_at}
 use Rattle.net_task.proofs.Asking.{head_asks}
 use Rattle.net_task.proofs.Bare.{bare, bare_fed, bare_fell, bare_frames, bare_lefts, bare_ready, bare_set, shape_set}
 use Rattle.net_task.proofs.Rows.{RowsKept, asked_kept, asked_left, rows_kept}
 use Rattle.net_task.proofs.Taking.{Refused, TookBy, refused_by, row_back, row_fed, row_stays, rows_same, took_by, took_empty, took_flush, took_item, took_none}
 use Rattle.gst_value.proofs.Basics.{some_same}
+use Rattle.gst_value.proofs.Places.{set_at}
 
 -- where each lane keeps its room, those of pads are of the table as before
 rooms_ready : (tells tells' : Option (List Lane)) → ((n : ℕ) (limits : Limits) (count : ℕ) → IsOf tells n limits count → IsOf tells' n limits count) → (end : Option LaneEnd) → EndReady tells end → EndReady tells' end

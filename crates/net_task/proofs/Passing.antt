@@ -26,10 +26,10 @@ use Rattle.task_parts.specs.Moved.{PartSet}
 use Rattle.net_task.specs.Ties.{LeadsAs, PortTied, PartTied, AreTied, Stands, nothing_lost}
 use Rattle.net_task.specs.Moves.{Act, Move, given_by, leaves, leaving, sending, sends}
 use Rattle.net_task.specs.Tries.{CrossesAt}
-use Rattle.task_parts.proofs.Lists.{set_at}
 use Rattle.net_task.proofs.Linked.{same_number, linked_stays, linked_crosses}
 use Rattle.net_task.proofs.Tied.{set_part_shape, parts_set_shape, parts_set, part_known, part_pad, part_crossed, head_same, head_crossed}
 use Rattle.gst_value.proofs.Basics.{some_same}
+use Rattle.gst_value.proofs.Places.{set_at}
 
 -- a list that is set twice at one place
 pub set_twice : {A : Type 0} (xs : List A) (k : ℕ) (x y : A) → slice_set (slice_set xs k x) k y ≡ slice_set xs k y

@@ -1,6 +1,6 @@
 -- Places of lists, and sums over them.
-use Rattle.std.proofs.Common.{◌≡◌, ◌+◌, ℕ, zero, suc, List, [], ◌∷◌, length, map, Some, refl, sym, ap, ◌∙◌, arith}
-use Rattle.std.specs.Prelude.{slice_get, slice_set, sum_by}
+use Rattle.std.proofs.Common.{◌≡◌, ℕ, zero, suc, List, [], ◌∷◌, length, map, Some, refl, sym, ap, ◌∙◌, arith}
+use Rattle.std.specs.Prelude.{slice_get, sum_by}
 use Rattle.std.proofs.lemmas.List.Sums.{sum_by-cons}
 use Rattle.gst_value.proofs.Basics.{some_same}
 
@@ -22,20 +22,6 @@ map_each f (x ∷ xs) [] l g = absurd (omega (arith, l))
 map_each {B = B} f (x ∷ xs) (y ∷ ys) l g =
     let z = g 0 y refl in
     ap (λ (b : B). b ∷ map f ys) (z.2 ∙ ap f (sym (some_same z.1))) ∙ ap (λ (bs : List B). f x ∷ bs) (map_each f xs ys (omega (arith, l)) (λ k w at. g (suc k) w at))
-
--- a sum where one is set
-pub sum_set : {A : Type 0} (f : A → ℕ) (xs : List A) (k : ℕ) (x y : A) → slice_get xs k ≡ Some x → sum_by f (slice_set xs k y) + f x ≡ sum_by f xs + f y
-sum_set f [] k x y at = absurd cc
-sum_set f (z ∷ xs) zero x y at =
-    let a = sum_by-cons f y xs in
-    let b = sum_by-cons f z xs in
-    let c = ap f (some_same at) in
-    omega (arith, a, b, c)
-sum_set f (z ∷ xs) (suc k) x y at =
-    let a = sum_by-cons f z (slice_set xs k y) in
-    let b = sum_by-cons f z xs in
-    let c = sum_set f xs k x y at in
-    omega (arith, a, b, c)
 
 -- a sum of what a function tells of each
 pub sum_over : {A B : Type 0} (f : B → ℕ) (g : A → B) (h : A → ℕ) → ((x : A) → h x ≡ f (g x)) → (xs : List A) → sum_by h xs ≡ sum_by f (map g xs)

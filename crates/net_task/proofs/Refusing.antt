@@ -29,14 +29,15 @@ use Rattle.net_task.specs.Ties.{LeadsAs, PadLinked, PortTied, PartsTied, AreTied
 use Rattle.net_task.specs.Failed.{HasRefused, StandsOrFell, Left, Refuses, at_pad, by_pad, without_first}
 use Rattle.net_task.specs.Tries.{elements_of}
 use Rattle.task_pads.proofs.Lists.{set_there}
-use Rattle.task_parts.proofs.Lists.{map_back, set_at}
+use Rattle.task_parts.proofs.Lists.{map_back}
 use Rattle.net_task.proofs.Linked.{same_number, same_goes, crossed_rest}
 use Rattle.net_task.proofs.Tied.{set_part_shape, parts_set_shape, parts_set, part_known, part_pad, part_fell, part_at, head_at}
 use Rattle.net_task.proofs.Passing.{sent_inside, pad_twice, part_twice, is_set, stands_set, try_crosses, waited_at}
-use Rattle.net_task.proofs.Handing.{TakenFrom, first_same, taken_from, found_number, leads_here}
+use Rattle.net_task.proofs.Handing.{TakenFrom, taken_from, found_number, leads_here}
 use Rattle.net_task.proofs.Bare.{bare, bare_pad, bare_set, bare_shapes}
 use Rattle.net_task.proofs.Kept.{kept_set, refused_since}
 use Rattle.gst_value.proofs.Basics.{some_same}
+use Rattle.gst_value.proofs.Places.{first_same, set_at}
 
 -- An element as it is behind a refusal by one of its task: it is as it was, or it is the one that refused, with the same pads.
 pub record SamePads {E O : Type 0} {e : elements.Ghosts E} (part again : Part E O e) : Type 0 where

@@ -20,10 +20,10 @@ use Rattle.net_task.specs.Frame.{TaskFrame}
 use Rattle.net_task.specs.Ready.{RowKept, RowsApart}
 use Rattle.net_task.proofs.GoingOn.{asked_row}
 use Rattle.task_pads.proofs.Lists.{set_length, set_there}
-use Rattle.task_parts.proofs.Lists.{each_set, set_at}
-use Rattle.net_task.proofs.Places.{sum_set}
+use Rattle.task_parts.proofs.Lists.{each_set}
 use Rattle.net_task.proofs.Trying.{for_lanes}
 use Rattle.gst_value.proofs.Basics.{some_same}
+use Rattle.gst_value.proofs.Places.{set_at, sum_set}
 
 -- a fact of each lane is one of each that stands behind
 lanes_back : {I : Type 0} (P : I → Type 0) (front back : List (Feeding I)) → ForLanes P (front ++ back) → ForLanes P back

@@ -3,8 +3,7 @@ use Rattle.std.proofs.Common.{◌≡◌, ◌≢◌, ◌<◌, ◌≤◌, ◌⊎�
 use Rattle.std.proofs.lemmas.Bool.{cases_eq}
 use Rattle.std.proofs.lemmas.List.{length-map}
 use Rattle.std.proofs.lemmas.Option.{slice_get_within}
-use Rattle.std.specs.Prelude.{◌+◌, ◌++◌, slice_get, sum_by, Result, Ok, Err, OnOk}
-use Rattle.std.specs.Result.{is_err}
+use Rattle.std.specs.Prelude.{◌+◌, ◌++◌, slice_get, sum_by}
 use Rattle.lane_core.specs.Lane.{Lane}
 use Rattle.lane_core.specs.declared.ends.Inlet as inlets
 use Rattle.lane_core.specs.declared.ends.Outlet as outlets
@@ -40,12 +39,12 @@ use Rattle.net_task.specs.Reasons.{IsBlocked, IsFirst, OneHolds, of_part}
 use Rattle.net_task.specs.Ties.{AreTied, Stands, Ties, nothing_lost}
 use Rattle.net_task.specs.Tries.{IsAtPort, IsFirstOf, IsOfAny, IsOfPart, PadMoves, PadsTell, SettledAt, Spends, StaysSettled, TableStays, TaskFails, TaskTries, TriedAs, elements_of}
 use Rattle.task_pads.proofs.Lists.{set_there, some_at}
-use Rattle.task_parts.proofs.Lists.{map_get}
 use Rattle.net_task.proofs.GoingOn.{keeps_same}
 use Rattle.net_task.proofs.Kept.{caused_since, failed_since, kept_stays, stays_kept}
 use Rattle.net_task.proofs.Places.{unmapped}
 use Rattle.net_task.proofs.Asking.{settled, settled_frame, settled_kept, settled_left, settled_ready}
 use Rattle.gst_value.proofs.Basics.{some_same}
+use Rattle.gst_value.proofs.Places.{map_get}
 
 -- of two reasons the one that is told is one of both
 pub prefers : (P : Step → Type 0) (first second : Step) → P first → P second → P (preferred first second)
@@ -405,11 +404,6 @@ module _ {E O : Type 0} {e : elements.Ghosts E} where
   settled_then parts place first tried.Moved answer same n t = absurd (n same)
   settled_then parts place first tried.Idle answer same n t = t
   settled_then parts place first (tried.Stuck step) answer same n t = t
-
--- a call that did not fail promises what it promises where it succeeds
-pub on_ok : {T X : Type 0} (r : Result T X) (P : Type 0) → is_err r ≡ false → OnOk r P → P
-on_ok (Ok t) P q p = p
-on_ok (Err x) P q p = absurd cc
 
 -- at the elements before a place nothing waits afterwards either
 pub front_idle : {E O : Type 0} {e : elements.Ghosts E} (from from' : ℕ) (parts parts' : List (Part E O e)) → KeepsFront from from' parts parts' → idle_before from parts ≡ true → idle_before from' parts' ≡ true

@@ -44,7 +44,6 @@ use Rattle.net_task.specs.Fuel.{head_left, pad_left, part_left}
 use Rattle.net_task.specs.Ready.{AreReady, LanesGoOn, WiresApart}
 use Rattle.net_task.specs.Reasons.{HeadIdle, PadHolds}
 use Rattle.net_task.specs.Tries.{CrossesAt, ElementsStay, HeadStays, HeadTriedAs, HeadTries, SourceStays, IsHeadPad, PadFails, Spends, TableStays, elements_of}
-use Rattle.task_parts.proofs.Lists.{set_at}
 use Rattle.net_task.proofs.Linked.{same_number, same_goes, crossed_rest}
 use Rattle.net_task.proofs.Tied.{parts_set_at, part_known, part_fell, part_at}
 use Rattle.net_task.proofs.Fed.{now, out_now, fed_tied, fed_answers}
@@ -53,10 +52,11 @@ use Rattle.net_task.proofs.Bare.{bare, bare_fed, bare_fell, bare_frames, bare_le
 use Rattle.net_task.proofs.GoingOn.{keeps_same, rows_on}
 use Rattle.net_task.proofs.Kept.{kept_stays}
 use Rattle.net_task.proofs.Held.{came_room, ended_holds, full_holds, leads_into, probe_holds, same_wire, wire_at}
-use Rattle.net_task.proofs.Handing.{shape_at, first_same}
+use Rattle.net_task.proofs.Handing.{shape_at}
 use Rattle.net_task.proofs.Trying.{Counts, ok_same, err_same, not_both, many_crossed, ready_kept, seen_crossed, seen_sent, seen_waiting, some_first}
 use Rattle.net_task.proofs.Sources.{Begins, Later, later, set_both, source_set, source_stays, source_rest, source_crosses}
 use Rattle.gst_value.proofs.Basics.{some_same}
+use Rattle.gst_value.proofs.Places.{first_same, set_at}
 
 -- what was handed to an element, or refused by it
 pub record FromSource {S E O : Type 0} {s : sources.Ghosts S} {e : elements.Ghosts E} (head head' : SourceHead S O s) (parts parts' : List (Part E O e)) (number sink : ℕ) (answer : Tried) : Type 0 where

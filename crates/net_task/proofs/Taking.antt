@@ -36,13 +36,13 @@ use Rattle.net_task.specs.Ties.{TookAt, PartsTied, RowTied, RowsTied, AreTied, S
 use Rattle.net_task.specs.Moves.{takes as takes_one, taking}
 use Rattle.net_task.specs.Failed.{StandsOrFell, Left, Refuses, at_head, by_inlet, lost_at}
 use Rattle.task_pads.proofs.Lists.{set_there}
-use Rattle.task_parts.proofs.Lists.{set_at}
 use Rattle.net_task.proofs.Tied.{none_leads_same, parts_set, part_known, part_fell, took_other, took_more}
 use Rattle.net_task.proofs.Fed.{now, out_now, fed_parts, fed_answers}
 use Rattle.net_task.proofs.Handing.{shape_at}
 use Rattle.net_task.proofs.Passing.{MovesOn}
 use Rattle.net_task.proofs.Trying.{ok_same, not_both}
 use Rattle.gst_value.proofs.Basics.{some_same}
+use Rattle.gst_value.proofs.Places.{set_at}
 
 lost_here : (port : ℕ) (x : Item) → lost_at port x port ≡ x ∷ []
 lost_here port x = go (eqb_tells port port)

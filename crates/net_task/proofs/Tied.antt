@@ -5,7 +5,7 @@ use Rattle.std.proofs.lemmas.Bool.Decides.{eqb_tells}
 use Rattle.std.proofs.lemmas.Bool.{cases_eq}
 use Rattle.gst_item.specs.declared.out.Out.{Out}
 use Rattle.flow_model.specs.Item.{Item}
-use Rattle.flow_model.specs.Call.{Call, Feed, feeds}
+use Rattle.flow_model.specs.Call.{Call, Feed}
 use Rattle.lane_core.specs.declared.ends.Inlet as inlets
 use Rattle.lane_core.specs.declared.ends.Outlet as outlets
 use Rattle.net_model.specs.Moment.{Moment}
@@ -29,6 +29,7 @@ use Rattle.net_task.specs.Ties.{TookAt, PadLinked, PortTied, HasPad, AreOnce, No
 use Rattle.task_pads.proofs.Lists.{map_set}
 use Rattle.task_parts.proofs.Lists.{each_set, map_back}
 use Rattle.net_task.proofs.Linked.{same_number, same_goes, linked_same, linked_other, linked_rest, linked_fed, shape_rest}
+use Rattle.flow_model.proofs.Calls.{feeds_push as feeds_more}
 
 -- a pad of a number is still there
 pub has_same : {O : Type 0} (pads pads' : List (Pad O)) (m m' : Moment) (q : ℕ) → m'.plan ≡ m.plan → map pad_shape pads' ≡ map pad_shape pads → HasPad pads m q → HasPad pads' m' q
@@ -201,10 +202,6 @@ took_other zero zero cs (t ∷ ts) got n q = absurd (n refl)
 took_other zero (suc j) cs (t ∷ ts) got n q = q
 took_other (suc i) zero cs (t ∷ ts) got n q = q
 took_other (suc i) (suc j) cs (t ∷ ts) got n q = took_other i j cs ts got (λ k. n (ap suc k)) q
-
-feeds_more : (got : List Item) (x : Item) → feeds (got ++ x ∷ []) ≡ feeds got ++ Feed x ∷ []
-feeds_more [] x = refl
-feeds_more (y ∷ got) x = ap (λ (cs : List Call). Feed y ∷ cs) (feeds_more got x)
 
 -- what the sink pad took that is fed
 pub took_more : (i : ℕ) (ts : List (List Call)) (got : List Item) (x : Item) → TookAt i ts got → TookAt i (push_calls i (Feed x ∷ []) ts) (got ++ x ∷ [])

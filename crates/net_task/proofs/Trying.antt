@@ -50,8 +50,7 @@ use Rattle.net_task.specs.Moves.{Act, LanesBy, RowsStay, given_by, passing}
 use Rattle.net_task.specs.Failed.{Causes, FailsAs, WasFor, at_limit, at_pad, by_element, full_at, memory, no_memory, not_linked, refused, unlinked}
 use Rattle.task_pads.specs.Crossing.{WentAway}
 use Rattle.net_task.specs.Tries.{CrossesAt, ElementsStay, IsAtPort, PadFails, SettledAt, Spends, StaysSettled, TableStays, TriedAs, elements_of}
-use Rattle.task_parts.proofs.Lists.{each_set, map_get}
-use Rattle.net_task.proofs.Places.{sum_set}
+use Rattle.task_parts.proofs.Lists.{each_set}
 use Rattle.net_task.proofs.Tied.{parts_set_shape, set_part_shape}
 use Rattle.net_task.proofs.Bare.{bare, bare_fell, bare_frames, bare_handed, bare_lefts, bare_pad, bare_ready, bare_set}
 use Rattle.net_task.proofs.Held.{came_room, ended_holds, frames_set, full_holds, leads_into, probe_holds, same_wire, wire_at, wire_is, wire_set}
@@ -61,6 +60,7 @@ use Rattle.net_task.proofs.Handing.{handed_on}
 use Rattle.net_task.proofs.Kept.{kept_set, kept_stays}
 use Rattle.net_task.proofs.Refusing.{back_refused, handed_back}
 use Rattle.gst_value.proofs.Basics.{some_same}
+use Rattle.gst_value.proofs.Places.{map_get, sum_set}
 
 -- what a call of a trait's law gives: the count of an outlet is the length of what was sent
 abbrev pub Counts : {O L : Type 0} → outlets.Ghosts O L → Type 0

@@ -27,7 +27,7 @@ use Rattle.task_parts.specs.declared.step.Step.{Step}
 use Rattle.task_parts.specs.declared.step.Step.TheVariants.{Moved, NeedsItem, NeedsRoom, AtProbe, Ended}
 use Rattle.task_parts.specs.Passing.{RowAsked}
 use Rattle.net_task.specs.declared.task.Task.{Task}
-use Rattle.net_task.specs.Frame.{TaskFrame, by_inlets, frame_of, head_frame}
+use Rattle.net_task.specs.Frame.{TaskFrame, frame_of, head_frame}
 use Rattle.net_task.specs.Moves.{Act, LanesBy, RowsKept, RowsStay, Steps, TookFrom, Unlawful, flush_given, flush_taken, giving, leaving, passing, sending, taking}
 use Rattle.net_task.specs.Reasons.{HeadLacks, Why}
 use Rattle.net_task.specs.Ties.{Ties}
@@ -36,17 +36,11 @@ use Rattle.net_turns.specs.Net.{IsFed, NetStands}
 use Rattle.net_turns.specs.Turns.{AreTried, ByTurns, IsStepped, StopsBy, at_try, at_turn, begun, ended, none, one, tries, turn, without}
 use Rattle.net_turns.proofs.Behind.{owed_all}
 use Rattle.net_turns.proofs.Calls.{calm_item}
-use Rattle.net_turns.proofs.Places.{set_at, set_there}
+use Rattle.net_turns.proofs.Places.{set_there}
 use Rattle.net_turns.proofs.Stepping.{OutletLaws, net_goes}
 use Rattle.gst_value.proofs.Basics.{some_same}
-
--- a list with something in it is not empty
-some_not : {A : Type 0} (xs ys : List A) (x : A) → xs ++ x ∷ ys ≡ [] → ⊥
-some_not [] ys x e = cc
-some_not (z ∷ xs) ys x e = cc
-
-number_same : {n k a b : ℕ} → by_inlets n a ≡ by_inlets k b → n ≡ k
-number_same e = cc
+use Rattle.gst_value.proofs.Places.{set_at, some_not}
+use Rattle.net_turns.proofs.Readies.{number_same}
 
 module _ {I L O : Type 0} (i : inlets.Ghosts I L O) (tells tells' : Option (List Lane)) where
   asked_alone : (lane : Option ℕ) (was is : InletRow I) (number : ℕ) (rest : List (Feeding I)) (said : _) → AsksLane i tells tells' was is number rest said

@@ -3,26 +3,19 @@ use Rattle.std.proofs.Common.{◌≡◌, ℕ, zero, suc, Bool, true, false, if�
 use Rattle.std.specs.Prelude.{slice_get}
 use Rattle.std.proofs.lemmas.Bool.{true≢false, false≢true}
 use Rattle.flow_model.specs.Item.{Item, is_flush_stop, is_eos}
-use Rattle.flow_model.specs.Call.{Call, feeds}
-use Rattle.gst_item.specs.Sticky.{first_found, has_flush_stop, latest, since_flush_stop}
+use Rattle.flow_model.specs.Call.{Call}
+use Rattle.gst_item.specs.Sticky.{first_found, has_flush_stop, latest}
 use Rattle.lane_core.specs.Lane.{Lane}
 use Rattle.lane_core.specs.declared.ends.Inlet as inlets
-use Rattle.pad_core.specs.Crossing.{has_ended, has_item}
+use Rattle.pad_core.specs.Crossing.{has_ended}
 use Rattle.net_model.specs.Moment.{Moment, CellStands, owed_at}
 use Rattle.net_model.specs.Pad.{Holds}
 use Rattle.inlet_row.specs.declared.feeding.Feeding.{Feeding}
 use Rattle.inlet_row.specs.declared.feeding.Feeding.TheVariants.{Given, Lane as OfLane}
 use Rattle.inlet_row.specs.Row.{ForLanes, GaveInAll, GaveOf, held, items_of}
 use Rattle.net_turns.specs.Net.{IsPlain, ListAt}
-
-since_calm : (h : List Item) → has_flush_stop h ≡ false → since_flush_stop h ≡ h
-since_calm [] calm = refl
-since_calm (x ∷ xs) calm = go (is_flush_stop x) (has_flush_stop xs) (since_flush_stop xs) calm
-  where
-    go : (b f : Bool) (since : List Item) → (if b then true else f) ≡ false → (if f then since else (if b then xs else x ∷ xs)) ≡ x ∷ xs
-    go true f since e = absurd (true≢false e)
-    go false true since e = absurd (true≢false e)
-    go false false since e = refl
+use Rattle.flow_model.proofs.Counted.{since_all as since_calm}
+use Rattle.gst_item.specs.Item.{has_item}
 
 -- what was found is found in more
 found_more : (l l' c : List Item) → (has_item l ≡ true → has_item l' ≡ true) → has_item (first_found l c) ≡ true → has_item (first_found l' c) ≡ true
@@ -75,13 +68,6 @@ nil_right [] ys e = e
 nil_right (x ∷ xs) ys e = absurd (cons_nil e)
   where
     cons_nil : {A : Type 0} {x : A} {xs : List A} → x ∷ xs ≡ [] → ⊥
-    cons_nil e = cc
-
-pub feeds_nil : (xs : List Item) → feeds xs ≡ [] → xs ≡ []
-feeds_nil [] e = refl
-feeds_nil (x ∷ xs) e = absurd (cons_nil e)
-  where
-    cons_nil : {c : Call} {cs : List Call} → c ∷ cs ≡ [] → ⊥
     cons_nil e = cc
 
 -- one list stands at a sink pad

@@ -6,6 +6,7 @@ use Rattle.gst_item.specs.Sticky.{has_flush_stop}
 use Rattle.net_model.specs.Split.{NoneAt, front_calls}
 use Rattle.flow_model.specs.SinkPads.{push_calls, InSection, flush_stops_given}
 use Rattle.net_turns.specs.Net.{ListAt}
+use Rattle.flow_model.proofs.Items.{stops_push}
 
 -- sink pad i has its first call no more
 unfoldable pub without_first : ℕ → List (List Call) → List (List Call)
@@ -31,17 +32,6 @@ push_none zero zero more (cs ∷ css) n h = absurd (n refl)
 push_none zero (suc j) more (cs ∷ css) n h = h
 push_none (suc i) zero more (cs ∷ css) n h = h
 push_none (suc i) (suc j) more (cs ∷ css) n h = push_none i j more css (λ e. n (ap suc e)) h
-
-pub push_length : (i : ℕ) (more : List Call) (css : List (List Call)) → length (push_calls i more css) ≡ length css
-push_length i more [] = refl
-push_length zero more (cs ∷ css) = refl
-push_length (suc i) more (cs ∷ css) = ap suc (push_length i more css)
-
--- an item more is no FLUSH_STOP more
-stops_push : (cs : List Call) (x : Item) → is_flush_stop x ≡ false → flush_stops_given (cs ++ Feed x ∷ []) ≡ flush_stops_given cs
-stops_push [] x f = rw f refl
-stops_push (Feed y ∷ cs) x f = ap (λ n. if is_flush_stop y then suc n else n) (stops_push cs x f)
-stops_push (Act mark ∷ cs) x f = stops_push cs x f
 
 pub push_section : (i : ℕ) (x : Item) (css : List (List Call)) → is_flush_stop x ≡ false → InSection 0 css → InSection 0 (push_calls i (Feed x ∷ []) css)
 push_section i x [] f h = tt

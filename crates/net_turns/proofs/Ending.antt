@@ -24,10 +24,11 @@ use Rattle.net_task.specs.Reasons.{NoRoom, PadHolds}
 use Rattle.net_turns.specs.Ends.{AreLines, TakesOne, is_idle}
 use Rattle.net_turns.specs.Net.{IsFed, ListAt, SendsInto}
 use Rattle.net_turns.specs.Rests.{HeadEnded, HeadLacks, IsHeldUp, Lacks, NetRests, TaskRests}
-use Rattle.net_turns.proofs.Behind.{feeds_nil, gave_last, held_last, list_same, none_behind_eos}
+use Rattle.net_turns.proofs.Behind.{gave_last, held_last, list_same, none_behind_eos}
 use Rattle.net_turns.proofs.EosComing.{inlets_empty}
 use Rattle.net_turns.proofs.Left.{rests_at, wants_ended, wants_first}
 use Rattle.gst_value.proofs.Basics.{none_some, some_same}
+use Rattle.flow_model.proofs.Items.{feeds_nil}
 
 -- a bound of the ranks of the first tasks
 bound_of : (rank : ℕ → ℕ) (n : ℕ) → (most : ℕ) × ((k : ℕ) → k < n → rank k ≤ most)

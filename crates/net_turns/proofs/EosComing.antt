@@ -4,10 +4,8 @@ use Rattle.std.proofs.Common.{◌≡◌, ◌⊎◌, ℕ, Bool, true, false, List
 use Rattle.std.proofs.lemmas.Bool.{false≢true}
 use Rattle.flow_model.specs.Item.{Item}
 use Rattle.flow_model.specs.Call.{Call, Feed, items, feeds}
-use Rattle.flow_model.specs.Feeding as feeding
 use Rattle.flow_model.specs.Feeding.{has_eos}
 use Rattle.flow_model.specs.Link.{Span, Linked, input_of}
-use Rattle.flow_model.specs.Sticky.{in_force}
 use Rattle.flow_model.specs.Eval.{Plan}
 use Rattle.flow_model.specs.Account.{EachSource, EachSourceOf, GoesForward, IsMember}
 use Rattle.flow_model.proofs.Links.{link_input}
@@ -16,14 +14,10 @@ use Rattle.net_model.specs.Over.{AllEnded, FromStart, PassesEos, list_ended}
 use Rattle.net_model.specs.Pad.{Holds}
 use Rattle.net_model.specs.Split.{AreEmpty, AreSplit, none, pad}
 use Rattle.net_model.proofs.Splits.{split_all}
-use Rattle.pad_core.specs.Crossing.{has_item}
 use Rattle.net_turns.specs.Ends.{AreFromStart, NothingLeft}
 use Rattle.net_turns.specs.Net.{IsPlain}
 use Rattle.net_turns.proofs.Behind.{none_behind, owed_all}
-
-items_of : (xs : List Item) → items (feeds xs) ≡ xs
-items_of [] = refl
-items_of (x ∷ xs) = ap (λ (ys : List Item). x ∷ ys) (items_of xs)
+use Rattle.flow_model.proofs.Items.{items_feeds as items_of}
 
 -- items that were given in two parts
 record InParts (xs : List Item) (t h : List Call) : Type 0 where
@@ -55,10 +49,6 @@ in_parts (x ∷ xs) (c ∷ t) h e =
     tail_same : {c d : Call} {cs ds : List Call} → c ∷ cs ≡ d ∷ ds → cs ≡ ds
     tail_same e = cc
 
-same_item : (xs : List Item) → feeding.has_item xs ≡ has_item xs
-same_item [] = refl
-same_item (x ∷ xs) = refl
-
 nil_first : (t h : List Call) → t ++ h ≡ [] → t ≡ []
 nil_first [] h e = refl
 nil_first (c ∷ t) h e = absurd (cons_nil e)
@@ -73,7 +63,7 @@ module _ (m : Moment) (cells : (n : ℕ) → CellStands m n) (plain : IsPlain m.
   held_none p first (x ∷ rest) whole over =
       absurd (none_behind m p first x (rest ++ m.waits p) plain
       (owed_all m p plain (cells (m.plan.owner p)) ∙ ap (λ (l : List Item). l ++ m.waits p) whole ∙ append_assoc first (x ∷ rest) (m.waits p))
-      (sym (same_item (in_force first).eos) ∙ over))
+      over)
 
   inlet_none : (ss : List Span) (t h : List Call) → (ss ≡ []) ⊎ ((p : ℕ) × (ss ≡ Linked p 0 [] ∷ [])) → input_of m.history ss ≡ t ++ h → has_eos t ≡ true → h ≡ []
   inlet_none ss t h (inl bare) e over =

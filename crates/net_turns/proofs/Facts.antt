@@ -32,7 +32,7 @@ use Rattle.net_turns.proofs.Rows.{not_last}
 use Rattle.gst_value.proofs.Basics.{some_same, none_some as no_pad}
 
 -- A pad leads to one sink pad.
-at_nowhere : (p k : ℕ) (sss : List (List Span)) → LinksAt p k sss → LinksNowhere p sss → ⊥
+pub at_nowhere : (p k : ℕ) (sss : List (List Span)) → LinksAt p k sss → LinksNowhere p sss → ⊥
 at_nowhere p k [] h n = h
 at_nowhere p zero (ss ∷ sss) h n = absurd (let a = h.0 in let b = n.0 in cc)
 at_nowhere p (suc k) (ss ∷ sss) h n = at_nowhere p k sss h.1 n.1

@@ -30,7 +30,7 @@ use Rattle.net_task.specs.Moves.{PutInto, RowsStay}
 use Rattle.net_task.specs.Ready.{EndsWith, IsReady}
 use Rattle.net_task.specs.Ties.{Ties}
 use Rattle.net_turns.specs.Net.{HasRow, IsFed, ListAt, NetGoes, NetStands, Owns, RowStands, SendsInto}
-use Rattle.net_turns.proofs.Calls.{push_else, push_here, push_length, push_none, push_section}
+use Rattle.net_turns.proofs.Calls.{push_else, push_here, push_none, push_section}
 use Rattle.net_turns.proofs.Owners.{IsPadOf}
 use Rattle.net_turns.proofs.Others.{tied_still}
 use Rattle.net_turns.proofs.Rows.{between_apart, between_last, ends_apart, holds_apart, holds_last}
@@ -39,6 +39,7 @@ use Rattle.net_turns.proofs.Keeping.{each_now, each_task, lane_out, loose_now, o
 use Rattle.net_turns.proofs.Sending.{pad_before, put_few, put_once, put_row, put_sent}
 use Rattle.net_turns.proofs.Wired.{IsOther, row_stays, sends_back, wired_still}
 use Rattle.flow_model.proofs.Calls.{feeds_push}
+use Rattle.flow_model.proofs.Items.{push_length}
 
 module _ {S E I O L : Type 0} {s : sources.Ghosts S} {e : elements.Ghosts E} {i : inlets.Ghosts I L O} {o : outlets.Ghosts O L} where
   module _ (counts : (outlet : O) (was : List Item) → o.sent outlet was → length was ≡ o.count outlet) (bounded : (outlet : O) → o.count outlet ≤ 2 ^ 62) (m : Moment) (tasks tasks' : List (Task S E I O L s e i o))

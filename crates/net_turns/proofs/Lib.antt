@@ -5,7 +5,7 @@ mod Lanes
 mod Owners
 mod Others
 mod Wired
-mod Facts
+pub mod Facts
 mod Keeping
 mod Crossed
 mod Sending

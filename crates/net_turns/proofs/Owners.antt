@@ -6,17 +6,18 @@ use Rattle.lane_core.specs.declared.ends.Outlet as outlets
 use Rattle.net_model.specs.declared.element.TaskElement as elements
 use Rattle.net_model.specs.declared.source.TaskSource as sources
 use Rattle.task_pads.specs.declared.pad.Pad.{Pad}
-use Rattle.task_pads.specs.Behind.{Goes, inside}
+use Rattle.task_pads.specs.Behind.{inside}
 use Rattle.task_pads.specs.Pads.{PadShape, goes_of, pad_shape}
 use Rattle.task_parts.specs.declared.part.Part.{Part}
 use Rattle.task_parts.specs.declared.head.InletHead.{InletHead}
 use Rattle.task_parts.specs.declared.head.Head.{Head}
 use Rattle.task_parts.specs.declared.head.Head.TheVariants.{Source, Inlets}
 use Rattle.task_parts.specs.Shape.{PartShape, all_within, goes_within, has_number, head_shape, head_within, is_closed, pads_within, part_shape, shape_of}
-use Rattle.task_parts.proofs.Lists.{get_map, map_get}
 use Rattle.net_task.specs.Frame.{PartFrame, Wire, IsWire, of_part as wire_part, of_head as wire_head, frame_in, part_frame, wire_of}
 use Rattle.net_turns.specs.Net.{HasElement, part as has_part}
 use Rattle.gst_value.proofs.Basics.{and_left, and_right, some_same}
+use Rattle.gst_value.proofs.Places.{map_get, map_got as get_map}
+use Rattle.task_parts.proofs.Tries.{named_in as within_number}
 
 module _ {E O : Type 0} {e : elements.Ghosts E} where
   -- an element of the number is among these
@@ -40,9 +41,6 @@ module _ {E O : Type 0} {e : elements.Ghosts E} where
   pub number_part : (parts : List (Part E O e)) (n : ℕ) → has_number n (map part_shape parts) ≡ true → PartOf parts n
   number_part [] n h = absurd cc
   number_part (part ∷ parts) n h = found_or part parts n (eqb_tells part.number n) (number_part parts n) h
-
-within_number : (parts : List PartShape) (g : Goes) (n k : ℕ) → g ≡ inside n k → goes_within parts g ≡ true → has_number n parts ≡ true
-within_number parts g n k leads h = subst (λ (w : Goes). goes_within parts w ≡ true) leads h
 
 pads_each : (parts : List PartShape) (pads : List PadShape) → pads_within parts pads ≡ true → (k : ℕ) (pad : PadShape) → slice_get pads k ≡ Some pad → goes_within parts pad.goes ≡ true
 pads_each parts [] h k pad at = absurd cc

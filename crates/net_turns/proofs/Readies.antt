@@ -24,10 +24,10 @@ use Rattle.net_turns.proofs.Keeping.{lane_out, ready_still}
 use Rattle.net_turns.proofs.Wired.{BecameRow, HeadsGo, IsOther, kept_row, wired_still}
 use Rattle.gst_value.proofs.Basics.{some_same}
 
-number_same : {n k a b : ℕ} → by_inlets n a ≡ by_inlets k b → n ≡ k
+pub number_same : {n k a b : ℕ} → by_inlets n a ≡ by_inlets k b → n ≡ k
 number_same e = cc
 
-size_same : {n k a b : ℕ} → by_inlets n a ≡ by_inlets k b → a ≡ b
+pub size_same : {n k a b : ℕ} → by_inlets n a ≡ by_inlets k b → a ≡ b
 size_same e = cc
 
 room_some : (found : Option LaneEnd) (room : Room) → room_in found ≡ Some room → (end : LaneEnd) × (found ≡ Some end) × (end.place ≡ room.place)

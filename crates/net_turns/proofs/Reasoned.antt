@@ -28,10 +28,11 @@ use Rattle.task_parts.specs.Found.{IsAt}
 use Rattle.net_task.specs.Ties.{PartsTied, Stands}
 use Rattle.net_turns.specs.Net.{ListAt, RowStands}
 use Rattle.net_turns.specs.Rests.{AwaitsLane, HeadEnded, HeadLacks, Lacks, Wants, feeds_at}
-use Rattle.net_turns.proofs.Places.{set_at, set_there}
+use Rattle.net_turns.proofs.Places.{set_there}
 use Rattle.net_turns.proofs.Refused.{RowKeeps, keeps_same, moves_behind, moves_within}
 use Rattle.net_turns.proofs.Rested.{HeadKeeps}
 use Rattle.gst_value.proofs.Basics.{some_same}
+use Rattle.gst_value.proofs.Places.{set_at}
 
 lane_same : {n k : ℕ} → Empty n ≡ Empty k → n ≡ k
 lane_same e = cc

@@ -12,6 +12,7 @@ use Rattle.inlet_row.specs.Row.{ForLanes, feeds_of}
 use Rattle.inlet_row.specs.Take.{HasPlace, Moves}
 use Rattle.net_task.specs.Ready.{EndsWith}
 use Rattle.net_turns.specs.Net.{RowStands}
+use Rattle.gst_value.proofs.Places.{nil_behind}
 
 -- the last of a list
 pub last_same : {A : Type 0} (xs ys : List A) (x y : A) → xs ++ x ∷ [] ≡ ys ++ y ∷ [] → x ≡ y
@@ -36,10 +37,6 @@ last_same (a ∷ xs) (b ∷ ys) x y e = last_same xs ys x y (tail_same e)
   where
     tail_same : {A : Type 0} {a b : A} {xs ys : List A} → a ∷ xs ≡ b ∷ ys → xs ≡ ys
     tail_same e = cc
-
-pub nil_behind : {A : Type 0} (xs : List A) (x : A) → [] ≡ xs ++ x ∷ [] → ⊥
-nil_behind [] x e = cc
-nil_behind (y ∷ xs) x e = cc
 
 lane_same : {I : Type 0} {n k : ℕ} {a b : I} → OfLane n a ≡ OfLane k b → a ≡ b
 lane_same e = cc

@@ -17,15 +17,10 @@ use Rattle.net_turns.specs.Net.{AreWired, HasElement, HasRow, IsFed, LaneOut, Ow
 use Rattle.net_turns.proofs.Places.{some_before}
 use Rattle.net_turns.proofs.Refused.{RowKeeps, keeps_same, kept_apart}
 use Rattle.gst_value.proofs.Basics.{some_same}
+use Rattle.net_turns.proofs.Readies.{number_same as inlets_same, size_same as rows_same}
 
 source_not : {n k rows : ℕ} {file : Option (Option (List ℕ))} {wire : Wire} → by_source n file wire ≡ by_inlets k rows → ⊥
 source_not e = cc
-
-inlets_same : {n k a b : ℕ} → by_inlets n a ≡ by_inlets k b → n ≡ k
-inlets_same e = cc
-
-rows_same : {n k a b : ℕ} → by_inlets n a ≡ by_inlets k b → a ≡ b
-rows_same e = cc
 
 module _ {S I O L : Type 0} {s : sources.Ghosts S} (o : outlets.Ghosts O L) where
   -- a head of such a frame is fed from so many inlets

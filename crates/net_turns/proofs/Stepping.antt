@@ -18,10 +18,11 @@ use Rattle.net_task.specs.Fuel.{Burns, moves_left}
 use Rattle.net_turns.specs.Net.{NetGoes, NetStands}
 use Rattle.net_turns.specs.Rests.{AllFramed, NetFaulted, TaskRests, has_moved}
 use Rattle.net_turns.specs.Turns.{Burned, HasMet, IsStepped, TaskStepped, net_left}
-use Rattle.net_turns.proofs.Places.{set_here, set_there, some_before, sum_set}
+use Rattle.net_turns.proofs.Places.{set_there, some_before}
 use Rattle.net_turns.proofs.Resting.{rested_same, rested_stands, rested_why}
 use Rattle.net_turns.proofs.Moved.{net_step}
 use Rattle.gst_value.proofs.Basics.{some_same}
+use Rattle.gst_value.proofs.Places.{set_here, sum_set}
 
 -- what the laws of an outlet say: its count is the length of what was sent, and no lane takes more than a put allows
 pub record OutletLaws {O L : Type 0} (o : outlets.Ghosts O L) : Type 0 where

@@ -26,7 +26,6 @@ use Rattle.task_parts.specs.declared.head.InletHead.{InletHead}
 use Rattle.task_parts.specs.declared.head.Head.{Head}
 use Rattle.task_parts.specs.declared.head.Head.TheVariants.{Source, Inlets}
 use Rattle.task_parts.specs.Passing.{AsksRow, RowAsked}
-use Rattle.task_parts.proofs.Lists.{set_at}
 use Rattle.net_task.specs.declared.task.Task.{Task}
 use Rattle.net_task.specs.Moves.{Answers, TookFrom}
 use Rattle.net_task.specs.Ready.{IsReady}
@@ -40,6 +39,7 @@ use Rattle.net_turns.proofs.Keeping.{each_now, each_task, loose_now, others_tied
 use Rattle.net_turns.proofs.Wired.{HeadsGo, IsOther, asked_goes, sends_back, wired_still}
 use Rattle.gst_value.proofs.Basics.{some_same}
 use Rattle.flow_model.proofs.Calls.{feeds_push}
+use Rattle.gst_value.proofs.Places.{set_at}
 
 -- An item was the next of a row of a head that is fed from inlets.
 pub record TookRow {S I O L : Type 0} {s : sources.Ghosts S} (i : inlets.Ghosts I L O) (old new : Head S I O s) (n port : ℕ) (x : model.Item) (tells tells' : Option (List Lane)) : Type 0 where

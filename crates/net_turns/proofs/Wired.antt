@@ -18,7 +18,6 @@ use Rattle.task_parts.specs.declared.head.InletHead.{InletHead}
 use Rattle.task_parts.specs.declared.head.Head.{Head}
 use Rattle.task_parts.specs.declared.head.Head.TheVariants.{Source, Inlets}
 use Rattle.task_parts.specs.Passing.{AsksRow}
-use Rattle.task_parts.proofs.Lists.{set_at}
 use Rattle.net_task.specs.declared.task.Task.{Task}
 use Rattle.net_task.specs.Frame.{TaskFrame, frame_of}
 use Rattle.net_task.specs.Moves.{RowsStay}
@@ -27,6 +26,7 @@ use Rattle.net_turns.specs.Net.{AreWired, HasElement, HasRow, IsFed, LaneOut, Ow
 use Rattle.net_turns.proofs.Lanes.{ends_still, places_still}
 use Rattle.net_turns.proofs.Refused.{at_place, map_lanes, within_more}
 use Rattle.gst_value.proofs.Basics.{some_same}
+use Rattle.gst_value.proofs.Places.{set_at}
 
 module _ {I L O : Type 0} (i : inlets.Ghosts I L O) where
   -- a row is as it was, or gave an item, or has no lane that it had not and the last that it had

@@ -4,9 +4,10 @@ use Rattle.std.proofs.lemmas.List.{length_push}
 use Rattle.gst_item.proofs.Kept.{in_force_push}
 use Rattle.gst_item.specs.Sticky.{InForce, in_force}
 use Rattle.pad_core.specs.Item.{Item, is_eos, is_flush_stop}
-use Rattle.pad_core.specs.Crossing.{has_item, has_ended}
+use Rattle.pad_core.specs.Crossing.{has_ended}
 use Rattle.pad_core.specs.declared.sink_pad.SinkPad.{SinkPad}
 use Rattle.pad_core.specs.SinkPad.{AcceptedBy}
+use Rattle.gst_item.specs.Item.{has_item}
 
 -- whether a stream has ended behind one more item
 ended_behind : (h : List Item) (x : Item) → has_ended (h ++ x ∷ []) ≡ (if is_flush_stop x then false else (if is_eos x then true else has_ended h))

@@ -12,8 +12,9 @@ use Rattle.pad_core.proofs.Again.{listed_sticky, stickies_push}
 use Rattle.pad_core.specs.declared.last.Last.{Last}
 use Rattle.pad_core.specs.declared.last.Last.TheVariants.{Nothing, Buffer as LastBuffer, Gap as LastGap, Sticky as LastSticky}
 use Rattle.pad_core.specs.declared.src_pad.SrcPad.{SrcPad}
-use Rattle.pad_core.specs.Crossing.{has_item, has_ended}
+use Rattle.pad_core.specs.Crossing.{has_ended}
 use Rattle.pad_core.specs.SrcPad.{IsLast, LastCrossed, Settled, CrossedBy}
+use Rattle.gst_item.specs.Item.{has_item}
 
 abbrev pub one_if : Bool → ℕ
 one_if b = if b then 1 else 0

@@ -5,6 +5,7 @@ use Rattle.gst_item.specs.Sticky.{in_force}
 use Rattle.pad_core.specs.declared.probe.Probe.{Probe}
 use Rattle.pad_core.specs.declared.crossing.Crossing.{Crossing}
 use Rattle.pad_core.specs.declared.crossing.Crossing.TheVariants.{Flushing, Eos as BehindEos, AtProbe, NotLinked, Alone, Go}
+use Rattle.gst_item.specs.Item.{has_item}
 
 -- how a source pad is set
 pub record PadState : Type 0 where
@@ -16,10 +17,6 @@ pub record PadState : Type 0 where
   pub probe : Option Probe
   -- the sticky event of which a copy was laid by
   pub kept : Option Event
-
-abbrev pub has_item : List Item → Bool
-has_item [] = false
-has_item (x ∷ xs) = true
 
 -- whether EOS came since the last FLUSH_STOP
 abbrev pub has_ended : List Item → Bool

@@ -2,7 +2,6 @@
 #![tactic(auto)]
 
 pub mod crossing;
-mod kind;
 mod last;
 pub mod linking;
 pub mod probe;

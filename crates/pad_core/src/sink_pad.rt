@@ -2,7 +2,6 @@
 ghost use Rattle.std.specs.Prelude.{◌≡◌, ◌++◌, ◌∷◌, [], List, Option, None, Some, min, length, false};
 ghost use Rattle.pad_core.specs.Item.{Item};
 
-use crate::kind::{is_eos, is_flush_stop};
 use gst_item::{Flow, Item};
 
 /// A sink pad of an element: it says whether an item is accepted.
@@ -131,7 +130,7 @@ impl SinkPad {
     fn flow(&self, item: &Item) -> Flow
         ensures { result ≡ flow_for (sink_state self.now) self.now.ended item.now }
     {
-        let flush_stop = is_flush_stop(item);
+        let flush_stop = item.is_flush_stop();
         if !self.active || (self.flushing && !flush_stop) {
             return Flow::Flushing;
         }
@@ -147,10 +146,10 @@ impl SinkPad {
         ensures state { sink_state self.new ≡ sink_behind Flow.Ok item.now (sink_state self.old) }
     {
         self.accepted = self.accepted.saturating_add(1);
-        if is_flush_stop(item) {
+        if item.is_flush_stop() {
             self.flushing = false;
             self.ended = false;
-        } else if is_eos(item) {
+        } else if item.is_eos() {
             self.ended = true;
         }
     }

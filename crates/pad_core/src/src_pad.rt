@@ -6,7 +6,6 @@ ghost use Rattle.pad_core.specs.declared.last.Last.TheVariants.{Nothing as NotAn
 ghost use Rattle.pad_core.specs.Counts.{last_buffers, last_events, is_apart, IsStickyKept, AreSticky};
 
 use crate::crossing::Crossing;
-use crate::kind::{is_flush_stop, is_sticky};
 use crate::last::{Last, replace_last, take};
 use crate::probe::Probe;
 use gst_item::{Event, Item, Sticky};
@@ -242,7 +241,7 @@ impl SrcPad {
     fn answer(&self, item: &Item, sibling: bool) -> Crossing
         ensures { result ≡ crossing_for (state_of self.now) self.now.ended self.now.buffers sibling item.now }
     {
-        let flush_stop = is_flush_stop(item);
+        let flush_stop = item.is_flush_stop();
         if !self.active || (self.flushing && !flush_stop) {
             return Crossing::Flushing;
         }
@@ -448,7 +447,7 @@ fn set_all(sticky: &mut Sticky, events: &mut VecDeque<Event>)
     ensures { (h : List Item) → sticky.old ≡ in_force h → AreSticky events.old.items → sticky.new ≡ in_force (h ++ map Ev events.old.items) }
 {
     while let Some(event) = events.pop_front() {
-        if is_sticky(&event) {
+        if event.is_sticky() {
             sticky.set(event);
         }
     }

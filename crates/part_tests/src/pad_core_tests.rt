@@ -3,7 +3,7 @@ ghost use Rattle.std.specs.Prelude.{◌<◌, ◌^◌};
 ghost use Rattle.pad_core.specs.SrcPad.{crossed_of};
 
 use gst_item::{Event, Flow, Item};
-use item_letters::{is_flush, item_of, letter_of_event};
+use item_letters::{item_of, letter_of_event};
 use pad_core::*;
 use std::alloc::Global;
 use std::test::Fail;
@@ -35,7 +35,7 @@ fn offer(
         pad.keep(alloc, event)?;
     }
     let answer = pad.cross(item, sibling);
-    if back && !is_flush(item) {
+    if back && !item.is_flush_stop() {
         match answer {
             Crossing::Alone => pad.take_back(),
             Crossing::Go(_) => pad.take_back(),

@@ -11,7 +11,7 @@ fn words_of(alloc: Global, row: &str) -> Result<Vec<String>, AllocError> {
     Ok(words)
 }
 
-/// The answer as a row of text.
+/// The answer as a row of text, which begins with the script's location in `<>` where one is named.
 fn told(alloc: Global, answer: &Result<Options, WordsFault>) -> Result<String, AllocError> {
     match answer {
         Ok(options) => {
@@ -19,7 +19,14 @@ fn told(alloc: Global, answer: &Result<Options, WordsFault>) -> Result<String, A
             let quiet = if options.quiet { "quiet" } else { "loud" };
             let order = options.order;
             let line = options.line.as_str();
-            format!(in alloc; "{threads} {order} {quiet} [{line}]")
+            let told = format!(in alloc; "{threads} {order} {quiet} [{line}]")?;
+            match &options.script {
+                None => Ok(told),
+                Some(script) => {
+                    let script = script.as_str();
+                    format!(in alloc; "<{script}> {told}")
+                }
+            }
         }
         Err(WordsFault::Words) => String::from_str(alloc, "Words"),
         Err(WordsFault::NoLine) => String::from_str(alloc, "NoLine"),
@@ -67,7 +74,29 @@ x|--order => Words
 -h|x => Words
 --version => Words
 -V|x => Words
---script|x|y => Words
+--script|x|y => <x> on 0 loud [y]
+--script=x|y => <x> on 0 loud [y]
+--script=a b/é=c|y => <a b/é=c> on 0 loud [y]
+--script=|y => <> on 0 loud [y]
+--script||y => <> on 0 loud [y]
+--script|x|--threads=off|--order|7|--quiet|--|y => <x> off 7 quiet [y]
+--threads=off|--order|7|--quiet|--script=x|y => <x> off 7 quiet [y]
+filesrc|--script|x|!|fakesink => <x> on 0 loud [filesrc ! fakesink]
+y|--script=x => <x> on 0 loud [y]
+--|--script|x => on 0 loud [--script x]
+--script=--quiet|y => <--quiet> on 0 loud [y]
+--script|--quiet|y => Words
+--script|-x|y => Words
+--script|-|y => <-> on 0 loud [y]
+--script|x|--script|y|z => Words
+--script=x|--script=x|z => Words
+--script => Words
+y|--script => Words
+--script|--|y => Words
+--script|x|--threads|maybe|y => Words
+--script|x|--order|01 => Words
+--script|x => NoLine
+--script=x|--quiet|-- => NoLine
 --load|1 => Words
 --|-1|--help => on 0 loud [-1 --help]";
 

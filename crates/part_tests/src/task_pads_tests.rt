@@ -5,7 +5,7 @@ ghost use Rattle.task_pads.specs.Pads.{PadReady, rest_of};
 
 use gst_item::{Out, Outs};
 use gst_value::List;
-use item_letters::{is_flush, item_of};
+use item_letters::item_of;
 use lane_core::{MemLanes, MemOutlet, Outlet, memory_lane};
 use std::alloc::Global;
 use std::test::Fail;
@@ -16,7 +16,7 @@ fn wait<O: Outlet>(alloc: Global, pad: &mut Pad<O>, letter: u8) -> Result<(), Fa
     ensures { rest_of pad.new ≡ rest_of pad.old }
 {
     let item = item_of(alloc, letter)?;
-    if is_flush(&item) {
+    if item.is_flush_stop() {
         return Ok(());
     }
     pad.make_room()?;
@@ -130,7 +130,7 @@ fn one_out(alloc: Global, pad: u32, letter: u8) -> Result<Outs, Fail>
 {
     let item = item_of(alloc, letter)?;
     let mut outs = List::new(alloc);
-    if is_flush(&item) {
+    if item.is_flush_stop() {
         return Ok(outs);
     }
     outs.push(alloc, Out { pad, item })?;

@@ -25,6 +25,7 @@ line_rows = record {
   location = rw (decimal_digit 3 (omega arith)) refl;
   count = rw (decimal_digit 3 (omega arith), sixty_five) refl;
   link = rw (decimal_digit 2 (omega arith), decimal_digit 4 (omega arith)) refl;
+  script = rw (decimal_digit 1 (omega arith), decimal_digit 5 (omega arith)) refl;
 }
 
 pub flow_rows : FlowRows

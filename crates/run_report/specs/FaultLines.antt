@@ -10,10 +10,11 @@ use Rattle.caps_text.specs.Printed.{caps_text, structure_text, typed_text}
 use Rattle.launch_text.specs.declared.fault.LineKind.{LineKind}
 use Rattle.pad_core.specs.Linking.{code_of}
 use Rattle.pad_core.specs.declared.linking.LinkReturn.{LinkReturn}
-use Rattle.run_report.specs.Names.{line_kind_name, stream_kind_name, what_name}
+use Rattle.script_text.specs.declared.fault.ScriptKind.{ScriptKind}
+use Rattle.run_report.specs.Names.{line_kind_name, script_kind_name, stream_kind_name, what_name}
 use Rattle.run_report.specs.Pads.{newline, pad_text}
 use Rattle.run_report.specs.declared.report.Fault.{Fault}
-use Rattle.run_report.specs.declared.report.Fault.TheVariants.{Nothing, Words, NoLine, BothLines, BadLine, NoSuch, BadValue, NameTaken, LocationTaken, TooMany, LinkRefused, OpenFault, ReadFault, WriteFault, BadStream, NotNegotiated, NotLinked, Stalled, TooLong}
+use Rattle.run_report.specs.declared.report.Fault.TheVariants.{Nothing, Words, NoLine, BothLines, BadLine, NoSuch, BadValue, NameTaken, LocationTaken, TooMany, LinkRefused, BadScript, OpenFault, ReadFault, WriteFault, BadStream, NotNegotiated, NotLinked, Stalled, TooLong}
 use Rattle.run_report.specs.declared.report.StallReason.{StallReason}
 use Rattle.run_report.specs.declared.report.StallReason.TheVariants.{NeedsItem, NeedsRoom, AtProbe, Held, Ended}
 use Rattle.run_report.specs.declared.report.StalledTask.{StalledTask}
@@ -29,6 +30,10 @@ about_line word name = codes "fault " ++ word ++ codes " " ++ name ++ newline
 
 abbrev pub place_line : ℕ → LineKind → List ℕ
 place_line place kind = codes "fault place " ++ decimal place ++ codes " " ++ line_kind_name kind ++ newline
+
+-- of a script's text
+abbrev pub script_line : ℕ → ScriptKind → List ℕ
+script_line line kind = codes "fault line " ++ decimal line ++ codes " " ++ script_kind_name kind ++ newline
 
 abbrev pub missing_line : List ℕ → What → List ℕ
 missing_line name what = codes "fault NoSuch " ++ name ++ codes " " ++ what_name what ++ newline
@@ -103,6 +108,7 @@ fault_lines (NameTaken name) = about_line (codes "NameTaken") name
 fault_lines (LocationTaken location) = about_line (codes "LocationTaken") location
 fault_lines (TooMany count) = count_line count
 fault_lines (LinkRefused a b answer) = link_line a b answer
+fault_lines (BadScript line kind) = script_line line kind
 fault_lines (OpenFault location) = about_line (codes "open") location
 fault_lines (ReadFault location before after) = failure_line (codes "read") location before after
 fault_lines (WriteFault location before after) = failure_line (codes "write") location before after

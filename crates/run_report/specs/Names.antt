@@ -4,6 +4,8 @@ use Rattle.flow_model.specs.declared.fault.StreamKind.{StreamKind}
 use Rattle.flow_model.specs.declared.fault.StreamKind.TheVariants.{NotRiff, NotWave, NoFmt, BadFmt, TagUnknown, HeadTooLong, Short, SplitFrame, TooLarge}
 use Rattle.launch_text.specs.declared.fault.LineKind.{LineKind}
 use Rattle.launch_text.specs.declared.fault.LineKind.TheVariants.{EmptyLink, TrailingLink, Unclosed, BadRef, CapsEnd, Deep, Empty, BadName, TooLong}
+use Rattle.script_text.specs.declared.fault.ScriptKind.{ScriptKind}
+use Rattle.script_text.specs.declared.fault.ScriptKind.TheVariants.{NotText, TooLong as LongScript, BadWhen, BadNumber, BadAct, NeedsPad, StrayPad, Backwards, AtInPause, EndsPaused}
 use Rattle.run_report.specs.declared.report.Fault.{Fault}
 use Rattle.run_report.specs.declared.report.Fault.TheVariants.{NoSuch, BadValue, NameTaken, LocationTaken, TooMany}
 use Rattle.run_report.specs.declared.report.Reason.{Reason}
@@ -48,6 +50,18 @@ line_kind_name Deep = codes "Deep"
 line_kind_name Empty = codes "Empty"
 line_kind_name BadName = codes "BadName"
 line_kind_name TooLong = codes "TooLong"
+
+abbrev pub script_kind_name : ScriptKind → List ℕ
+script_kind_name NotText = codes "NotText"
+script_kind_name LongScript = codes "TooLong"
+script_kind_name BadWhen = codes "BadWhen"
+script_kind_name BadNumber = codes "BadNumber"
+script_kind_name BadAct = codes "BadAct"
+script_kind_name NeedsPad = codes "NeedsPad"
+script_kind_name StrayPad = codes "StrayPad"
+script_kind_name Backwards = codes "Backwards"
+script_kind_name AtInPause = codes "AtInPause"
+script_kind_name EndsPaused = codes "EndsPaused"
 
 abbrev pub stream_kind_name : StreamKind → List ℕ
 stream_kind_name NotRiff = codes "NotRiff"

@@ -10,12 +10,13 @@ use Rattle.gst_caps.specs.declared.value.Value.TheVariants.{One as Single}
 use Rattle.flow_model.specs.declared.fault.StreamKind.TheVariants.{Short}
 use Rattle.launch_text.specs.declared.fault.LineKind.TheVariants.{TrailingLink}
 use Rattle.pad_core.specs.declared.linking.LinkReturn.TheVariants.{WasLinked}
+use Rattle.script_text.specs.declared.fault.ScriptKind.TheVariants.{BadNumber}
 use Rattle.run_report.specs.Pads.{newline}
 use Rattle.run_report.specs.ReportText.{report_lines}
 use Rattle.run_report.specs.declared.report.Answer.TheVariants.{Done, Unreached, Refused}
 use Rattle.run_report.specs.declared.report.Answer.{Answer}
 use Rattle.run_report.specs.declared.report.Entry.{Entry}
-use Rattle.run_report.specs.declared.report.Fault.TheVariants.{Nothing, Words, NoLine, BothLines, BadLine, NoSuch, BadValue, NameTaken, LocationTaken, TooMany, LinkRefused, OpenFault, ReadFault, WriteFault, BadStream, NotNegotiated, NotLinked, Stalled, TooLong}
+use Rattle.run_report.specs.declared.report.Fault.TheVariants.{Nothing, Words, NoLine, BothLines, BadLine, NoSuch, BadValue, NameTaken, LocationTaken, TooMany, LinkRefused, BadScript, OpenFault, ReadFault, WriteFault, BadStream, NotNegotiated, NotLinked, Stalled, TooLong}
 use Rattle.run_report.specs.declared.report.Fault.{Fault}
 use Rattle.run_report.specs.declared.report.PadCount.{PadCount}
 use Rattle.run_report.specs.declared.report.Place.{Place}
@@ -100,6 +101,7 @@ pub record LineRows : Type 0 where
   pub count : report_lines 3 false (report_without (TooMany 65)) ≡ lines (codes "status 3 TooMany" ∷ codes "fault TooMany 65" ∷ [])
   pub link : report_lines 4 false (report_without (LinkRefused (pad (codes "f") (codes "src")) (pad (codes "fakesink1") (codes "sink")) WasLinked))
       ≡ lines (codes "status 4 LinkRefused" ∷ codes "fault link f.src fakesink1.sink -2" ∷ [])
+  pub script : report_lines 5 false (report_without (BadScript 1 BadNumber)) ≡ lines (codes "status 5 BadScript" ∷ codes "fault line 1 BadNumber" ∷ [])
 
 pub record FlowRows : Type 0 where
   pub unopened : report_lines 6 false (report_without (OpenFault (codes "b"))) ≡ lines (codes "status 6 OpenFault" ∷ codes "fault open b" ∷ [])

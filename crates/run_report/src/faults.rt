@@ -1,10 +1,10 @@
 //! The lines that tell which fault ended a run.
 ghost use Rattle.std.specs.Prelude.{◌≡◌, ◌++◌, flat_map, IfOk, OnOk};
 ghost use Rattle.std.specs.String.{string_bytes};
-ghost use Rattle.run_report.specs.FaultLines.{about_line, caps_line, cause_lines, command_text, count_line, failure_line, fault_lines, held_text, link_line, missing_line, need_text, offered_text, place_line, probe_text, stall_text, stalled_lines, stream_line, task_line, time_line, unlinked_line, value_line, word_line};
+ghost use Rattle.run_report.specs.FaultLines.{about_line, caps_line, cause_lines, command_text, count_line, failure_line, fault_lines, held_text, link_line, missing_line, need_text, offered_text, place_line, probe_text, script_line, stall_text, stalled_lines, stream_line, task_line, time_line, unlinked_line, value_line, word_line};
 ghost use Rattle.run_report.specs.Pads.{pad_text};
 
-use crate::names::{line_kind_name, stream_kind_name, what_name};
+use crate::names::{line_kind_name, script_kind_name, stream_kind_name, what_name};
 use crate::report::{Fault, StallReason, StalledTask};
 use caps_text::{print, print_fixed};
 use flow_model::StreamKind;
@@ -13,6 +13,7 @@ use gst_caps::Caps;
 use gst_value::{Fixed, List, OutOfMemory, PadName, Text};
 use launch_text::LineKind;
 use pad_core::LinkReturn;
+use script_text::ScriptKind;
 use std::alloc::Global;
 use std::fmt::Write;
 
@@ -49,6 +50,7 @@ fn write_fault(alloc: Global, text: &mut String, fault: &Fault) -> Result<(), Ou
         Fault::LocationTaken { location } => write_about(text, "LocationTaken", location),
         Fault::TooMany { count } => write_count(text, *count),
         Fault::LinkRefused { a, b, ret } => write_link(text, a, b, *ret),
+        Fault::BadScript { line, kind } => write_line(text, *line, *kind),
         Fault::OpenFault { location } => write_about(text, "open", location),
         Fault::ReadFault {
             location,
@@ -96,6 +98,14 @@ fn write_place(text: &mut String, place: u32, kind: LineKind) -> Result<(), OutO
 {
     let kind = line_kind_name(kind);
     write!(text, "fault place {place} {kind}\n")?;
+    Ok(())
+}
+
+fn write_line(text: &mut String, line: u32, kind: ScriptKind) -> Result<(), OutOfMemory>
+    ensures { OnOk result (string_bytes text.new ≡ string_bytes text.old ++ script_line line kind) }
+{
+    let kind = script_kind_name(kind);
+    write!(text, "fault line {line} {kind}\n")?;
     Ok(())
 }
 

@@ -1,11 +1,12 @@
 //! The words that stand for statuses, kinds of faults and reasons in a report's text.
 ghost use Rattle.std.specs.Prelude.{◌≡◌};
-ghost use Rattle.run_report.specs.Names.{line_kind_name, reason_name, refused_name, status_name, stream_kind_name, what_name};
+ghost use Rattle.run_report.specs.Names.{line_kind_name, reason_name, refused_name, script_kind_name, status_name, stream_kind_name, what_name};
 
 use crate::report::{Fault, Reason};
 use flow_model::StreamKind;
 use graph_core::What;
 use launch_text::LineKind;
+use script_text::ScriptKind;
 
 /// The name of a status. That of status 3 is told by the fault.
 pub(crate) fn status_name(status: u8, fault: &Fault) -> &'static str
@@ -75,6 +76,24 @@ pub(crate) fn line_kind_name(kind: LineKind) -> &'static str
         LineKind::Empty => "Empty",
         LineKind::BadName => "BadName",
         LineKind::TooLong => "TooLong",
+    }
+}
+
+/// The word for what is wrong with a line of a script.
+pub(crate) fn script_kind_name(kind: ScriptKind) -> &'static str
+    ensures { result.now ≡ script_kind_name kind }
+{
+    match kind {
+        ScriptKind::NotText => "NotText",
+        ScriptKind::TooLong => "TooLong",
+        ScriptKind::BadWhen => "BadWhen",
+        ScriptKind::BadNumber => "BadNumber",
+        ScriptKind::BadAct => "BadAct",
+        ScriptKind::NeedsPad => "NeedsPad",
+        ScriptKind::StrayPad => "StrayPad",
+        ScriptKind::Backwards => "Backwards",
+        ScriptKind::AtInPause => "AtInPause",
+        ScriptKind::EndsPaused => "EndsPaused",
     }
 }
 

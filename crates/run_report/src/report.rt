@@ -5,6 +5,7 @@ use gst_caps::Caps;
 use gst_value::{Fixed, List, PadName, Text};
 use launch_text::LineKind;
 use pad_core::LinkReturn;
+use script_text::ScriptKind;
 
 /// A place on a source pad: a number of items.
 #[derive(Drop)]
@@ -153,6 +154,11 @@ pub enum Fault {
         a: PadName,
         b: PadName,
         ret: LinkReturn,
+    },
+    /// The text of the script is none. `line` is the first line at fault, counted from 1, and 0 where the text is too long.
+    BadScript {
+        line: u32,
+        kind: ScriptKind,
     },
     /// A location could not be opened.
     OpenFault {

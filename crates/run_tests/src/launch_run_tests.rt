@@ -125,6 +125,10 @@ fn runs_lines(rt: HostRuntime) -> Result<(), Fail> {
             ..PLAIN
         },
         Row {
+            words: "--script|e|filesrc|location=a|blocksize=2|!|identity|!|filesink|location=b",
+            ..PLAIN
+        },
+        Row {
             words: "filesrc|location=e|!|filesink|location=b|filesrc|name=f|location=a|!|queue|!|filesink|location=d",
             text: "status 0 Eos\npad filesrc0.src items 3 buffers 0\npad f.src items 4 buffers 1\npad queue0.src items 4 buffers 1\nsink filesink0 bytes 0\nsink filesink1 bytes 5\n",
             output: "",
@@ -191,6 +195,16 @@ fn refuses_words(rt: HostRuntime) -> Result<(), Fail> {
             4,
             "status 4 LinkRefused\nfault link f.src fakesink1.sink -2\n",
         ),
+        (
+            "--script|a|filesrc|location=e|!|filesink|location=b",
+            5,
+            "status 5 BadScript\nfault line 1 BadWhen\n",
+        ),
+        (
+            "--script|nosuch|filesrc|location=e|!|filesink|location=b",
+            6,
+            "status 6 OpenFault\nfault open nosuch\n",
+        ),
     ];
     for (words, status, text) in rows {
         let row = Row {
@@ -229,6 +243,15 @@ fn ends_at_faults(rt: HostRuntime) -> Result<(), Fail> {
             openings_to_read: &[1],
             status: 6,
             text: "status 6 OpenFault\nfault open a\n",
+            output: "",
+            ..PLAIN
+        },
+        Row {
+            words: "--script|a|filesrc|location=e|!|filesink|location=b",
+            content: "#",
+            reads: &[2],
+            status: 7,
+            text: "status 7 ReadFault\nfault read a faults 0 1\n",
             output: "",
             ..PLAIN
         },

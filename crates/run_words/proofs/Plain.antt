@@ -14,14 +14,12 @@ use Rattle.clap.proofs.OnLiterals.{clap_on_literals}
 use Rattle.run_words.specs.Command.{the_app, words_rule}
 use Rattle.run_words.specs.Law.{PlainWordsAreTheLine, is_plain}
 use Rattle.run_words.specs.Line.{joined}
-use Rattle.run_words.specs.Said.{line_words_in, order_in, quiet_in, threads_in, values_hold}
+use Rattle.run_words.specs.Said.{line_words_in, order_in, quiet_in, script_in, threads_in, values_hold}
 use Rattle.run_words.specs.declared.options.Options.{Options}
+use Rattle.gst_value.proofs.Basics.{and_both as both}
 
 abbrev pub top : Shape
 top = (built the_app).top
-
-pub both : (a b : Bool) → a ≡ true → b ≡ true → (a && b) ≡ true
-both a b p q = rw (p, q) refl
 
 pub halves : (a b : Bool) → (a && b) ≡ true → (a ≡ true) × (b ≡ true)
 halves true b e = (refl, e)
@@ -163,7 +161,7 @@ all_matched : (word : Text) (more : List Text) → list_all is_plain (word ∷ m
 all_matched word more e = ap (λ (w : Walk). finished top.rules w.held) (all_walked word more e)
 
 abbrev pub read_from : List Row → Options
-read_from rows = record { threads = threads_in rows; order = order_in rows; quiet = quiet_in rows; line = joined (line_words_in rows) }
+read_from rows = record { script = script_in rows; threads = threads_in rows; order = order_in rows; quiet = quiet_in rows; line = joined (line_words_in rows) }
 
 pub plain_words : PlainWordsAreTheLine
 unfolding clap_on_literals

@@ -1,29 +1,11 @@
 -- Characters of a word, with and without a backslash before them.
-use Rattle.std.proofs.Common.{◌≡◌, ◌≢◌, ◌==◌, ℕ, suc, ◌<◌, ◌≤◌, false, eqb, List, [], ◌∷◌, ◌++◌, length, get_or, inl, inr, refl, sym, ap, arith, append_assoc, append-nil}
+use Rattle.std.proofs.Common.{◌≡◌, ◌≢◌, ◌==◌, ℕ, false, List, [], ◌∷◌, ◌++◌, inl, inr, refl, sym, ap, arith, append_assoc, append-nil}
 use Rattle.std.specs.Char.{encode_utf8}
 use Rattle.std.proofs.lemmas.Bool.{cases_lt}
-use Rattle.std.proofs.lemmas.Bool.Decides.{eqb_tells}
-use Rattle.std.proofs.lemmas.Str.{encode_ascii, inside_one}
+use Rattle.std.proofs.lemmas.Str.{encode_ascii}
 use Rattle.run_words.specs.Line.{joined, with_backslashes, with_more}
-
--- a byte from 128 on
-abbrev AllHigh : List ℕ → Type 0
-AllHigh xs = (k : ℕ) → k < length xs → 128 ≤ get_or xs k 0
-
-encode_high : (c : ℕ) → 128 ≤ c → AllHigh (encode_utf8 c)
-encode_high c big k below = elim (cases_lt (get_or (encode_utf8 c) k 0) 128) [
-  | inl low ↦ absurd (omega (arith, inside_one c [] (encode_utf8 c) k (sym (append-nil _)) below low, big))
-  | inr h ↦ h
-]
-
-high_tail : (x : ℕ) (xs : List ℕ) → AllHigh (x ∷ xs) → AllHigh xs
-high_tail x xs h k below = h (suc k) (omega (arith, below))
-
-high_head : (x : ℕ) (xs : List ℕ) → AllHigh (x ∷ xs) → 128 ≤ x
-high_head x xs h = h 0 (omega arith)
-
-apart : (a b : ℕ) → a ≢ b → eqb a b ≡ false
-apart a b h = elim (eqb_tells a b) [ inl t ↦ absurd (h t.1) | inr t ↦ t.0 ]
+use Rattle.gst_value.proofs.Basics.{apart}
+use Rattle.gst_value.proofs.Characters.{AllHigh, encode_high, high_head, high_tail}
 
 marks_high : (xs : List ℕ) → AllHigh xs → with_backslashes xs ≡ xs
 marks_high [] h = refl

@@ -23,14 +23,12 @@ use Rattle.run_words.specs.Command.{the_app}
 use Rattle.run_words.specs.Refused.{RefusedFor, fault_of as fault_of_error, is_memory}
 use Rattle.run_words.specs.declared.fault.WordsFault.{WordsFault}
 use Rattle.run_words.specs.declared.fault.WordsFault.TheVariants.{Words, OutOfMemory}
+use Rattle.gst_value.proofs.Basics.{and_both as both}
 
 -- neither of two steps has a fault
 none_of : (a b : Kinds) → or_else a b ≡ [] → (a ≡ []) × (b ≡ [])
 none_of [] b e = (refl, e)
 none_of (k ∷ ks) b e = cc
-
-both : (a b : Bool) → a ≡ true → b ≡ true → (a && b) ≡ true
-both a b p q = rw (p, q) refl
 
 -- ---- one use of an argument
 

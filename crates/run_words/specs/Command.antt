@@ -36,7 +36,8 @@ plain_app name = on_top (λ shape. record shape {
 
 abbrev pub the_rules : List Rule
 the_rules =
-    option_rule (codes "threads")
+    option_rule (codes "script")
+    ∷ option_rule (codes "threads")
     ∷ number_rule (codes "order")
     ∷ flag_rule (codes "quiet")
     ∷ words_rule (codes "WORD")

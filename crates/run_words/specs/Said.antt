@@ -1,5 +1,5 @@
 -- What the program's words say.
-use Rattle.std.specs.Prelude.{ℕ, Bool, true, false, not, ◌&&◌, ◌||◌, ◌==◌, ◌^◌, ◌-◌, List, [], ◌∷◌}
+use Rattle.std.specs.Prelude.{ℕ, Bool, true, false, not, ◌&&◌, ◌||◌, ◌==◌, ◌^◌, ◌-◌, List, [], ◌∷◌, Option}
 use Rattle.std.specs.Prelude.{codes, length, unwrap_or}
 use Rattle.std.specs.Option.{option_map_or}
 use Rattle.std.specs.Str.{bytes_eq}
@@ -41,6 +41,10 @@ order_holds rows = option_map_or is_number (first_of (codes "order") rows) true
 abbrev pub values_hold : List Row → Bool
 values_hold rows = threads_hold rows && order_holds rows
 
+-- the location of the script's file, where one is named: any text, also an empty one
+abbrev pub script_in : List Row → Option (List ℕ)
+script_in rows = first_of (codes "script") rows
+
 -- on where nothing is said
 abbrev pub threads_in : List Row → Bool
 threads_in rows = option_map_or is_on (first_of (codes "threads") rows) true
@@ -68,6 +72,7 @@ line_words words = line_words_in (matches_of the_app words)
 
 abbrev pub options_of : List (List ℕ) → Options
 options_of words = record {
+  script = script_in (matches_of the_app words);
   threads = threads_in (matches_of the_app words);
   order = order_in (matches_of the_app words);
   quiet = quiet_in (matches_of the_app words);

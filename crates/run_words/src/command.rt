@@ -6,18 +6,19 @@ ghost use Rattle.clap.specs.Words.{app_of, found_of, matches_of, rows_of, takes}
 ghost use Rattle.run_words.specs.Command.{the_app};
 ghost use Rattle.run_words.specs.Line.{joined};
 ghost use Rattle.run_words.specs.Refused.{LacksLine, RefusedFor};
-ghost use Rattle.run_words.specs.Said.{is_bare, is_number, is_on, is_switch, line_words_in, order_holds, order_in, quiet_in, threads_hold, threads_in};
+ghost use Rattle.run_words.specs.Said.{is_bare, is_number, is_on, is_switch, line_words_in, order_holds, order_in, quiet_in, script_in, threads_hold, threads_in};
 
 use crate::fault::WordsFault;
 use crate::line::join_words;
 use clap::{Arg, ArgAction, ArgMatches, Command, value_parser};
-use gst_value::Text;
+use gst_value::{OutOfMemory, Text};
 use std::alloc::{AllocError, Global};
 
-/// The program's command: `[--threads on|off] [--order N] [--quiet] WORD...`.
+/// The program's command: `[--script FILE] [--threads on|off] [--order N] [--quiet] WORD...`.
 fn command<'a>(alloc: Global) -> Result<Command<'a>, AllocError>
     ensures { IfOk result (λ command. app_of command ≡ the_app) }
 {
+    let script = Arg::new(alloc, "script").long("script");
     let threads = Arg::new(alloc, "threads").long("threads");
     let order = Arg::new(alloc, "order")
         .long("order")
@@ -30,7 +31,12 @@ fn command<'a>(alloc: Global) -> Result<Command<'a>, AllocError>
         .no_binary_name(true)
         .disable_help_flag(true)
         .disable_version_flag(true);
-    plain.arg(threads)?.arg(order)?.arg(quiet)?.arg(word)
+    plain
+        .arg(script)?
+        .arg(threads)?
+        .arg(order)?
+        .arg(quiet)?
+        .arg(word)
 }
 
 /// The matches of the command on the words.
@@ -45,6 +51,19 @@ pub(crate) fn match_words<'a>(
     let command = command(alloc)?;
     let matches = command.try_get_matches_from(words)?;
     Ok(matches)
+}
+
+/// The location of the script's file, where one is named.
+pub(crate) fn script_of(
+    alloc: Global,
+    matches: &ArgMatches<'_>,
+) -> Result<Option<Text>, OutOfMemory>
+    ensures { IfOk result (λ script. script ≡ script_in (rows_of (found_of matches.now))) }
+{
+    match matches.get_str("script") {
+        None => Ok(None),
+        Some(location) => Ok(Some(Text::from_str(alloc, location)?)),
+    }
 }
 
 /// Whether the value of a switch is `on`.

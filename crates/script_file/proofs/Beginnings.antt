@@ -1,19 +1,14 @@
 -- What the loop that reads a source keeps.
 use Rattle.std.proofs.Common.{◌≡◌, ℕ, ◌+◌, ◌≤◌, ◌<◌, List, ◌++◌, Option, length, take, drop, ap, sym, ◌∙◌, arith, length-append, length-take}
 use Rattle.std.specs.Option.{ForSome}
-use Rattle.std.proofs.lemmas.List.{take-take, drop-take, take-append-drop, take_all}
+use Rattle.std.proofs.lemmas.List.{take_all}
 use Rattle.script_text.specs.Scripts.{longest}
 use Rattle.script_file.specs.Fronts.{IsFront}
+use Rattle.gst_value.proofs.Places.{take_apart}
 
 -- these bytes stand in front of a content, where it is told
 abbrev pub Begins : Option (List ℕ) → List ℕ → Type 0
 Begins told bytes = ForSome told (λ c. bytes ≡ take (length bytes) c)
-
-take_apart : (m n : ℕ) (xs : List ℕ) → take (m + n) xs ≡ take m xs ++ take n (drop m xs)
-take_apart m n xs =
-    sym (take-append-drop m (take (m + n) xs))
-    ∙ ap (λ front. front ++ drop m (take (m + n) xs)) (take-take m (m + n) xs (omega arith))
-    ∙ ap (λ back. take m xs ++ back) (drop-take m n xs)
 
 -- more bytes behind them
 pub begins_more : (told : Option (List ℕ)) (bytes more : List ℕ) (n : ℕ) → Begins told bytes → length more ≡ length bytes + n

@@ -5,6 +5,7 @@ use Rattle.gst_outside.specs.Seen.{Seen, ToldRose}
 use Rattle.gst_outside.specs.declared.opening.OpenEnd.{OpenEnd}
 use Rattle.gst_outside.specs.declared.opening.OpenEnd.TheVariants as endings
 use Rattle.script_text.specs.Scripts.{IsRefused}
+use Rattle.script_text.specs.declared.acts.Acts.{Acts}
 use Rattle.script_text.specs.declared.fault.ScriptFault.{ScriptFault}
 use Rattle.script_text.specs.declared.fault.ScriptFault.TheVariants as refusals
 use Rattle.script_file.specs.Fronts.{IsReadAs}
@@ -24,12 +25,12 @@ pub record IsUnreadAt (location : List ℕ) (before after : Seen) (first last : 
   pub all : Rose before.faults after.faults
   pub here : ToldRose (before.faults_of location) (after.faults_of location)
 
--- why the file at a location gave no script
-abbrev pub IsFileFault : List ℕ → Seen → Seen → FileFault → Type 0
-IsFileFault location before after Unopened = IsRefusedAt location before after
-IsFileFault location before after (UnreadFile first last) = IsUnreadAt location before after first last
-IsFileFault location before after (BadScript line kind) = IsReadAs (before.input location) (λ text. IsRefused text line kind)
-IsFileFault location before after OutOfMemory = Unit {0}
+-- why the file at a location gave no script of these acts
+abbrev pub IsFileFault : Acts → List ℕ → Seen → Seen → FileFault → Type 0
+IsFileFault acts location before after Unopened = IsRefusedAt location before after
+IsFileFault acts location before after (UnreadFile first last) = IsUnreadAt location before after first last
+IsFileFault acts location before after (BadScript line kind) = IsReadAs (before.input location) (λ text. IsRefused acts text line kind)
+IsFileFault acts location before after OutOfMemory = Unit {0}
 
 -- a read failed, and these are the counts of the source, unless memory was wanting
 abbrev pub IsUnread : ℕ → ℕ → Unread → Type 0

@@ -9,13 +9,13 @@ use crate::fault::{FileFault, opening_fault, reading_fault, text_fault};
 use crate::reading::read_all;
 use gst_outside::Files;
 use gst_value::List as Items;
-use script_text::{Command, read};
+use script_text::{Acts, Command, read};
 use std::alloc::Global;
 
 /// The bytes of the file at a location, all of them where it has no more than a script may have.
 fn read_bytes<F: Files>(alloc: Global, files: &mut F, location: &str) -> Result<Vec<u8>, FileFault>
     ensures front { IfOk result (λ bytes. ForSome ((F.seen files.old).input location.now) (IsFront bytes.items)) }
-    ensures fault { IfErr result (IsFileFault location.now (F.seen files.old) (F.seen files.new)) }
+    ensures fault { (acts : Acts) → IfErr result (IsFileFault acts location.now (F.seen files.old) (F.seen files.new)) }
     ensures given_back { (F.seen files.old).ends < 2 ^ 63 → (F.seen files.new).ends ≡ (F.seen files.old).ends }
     ensures inputs { (l : List ℕ) → (F.seen files.new).input l ≡ (F.seen files.old).input l }
     ensures outputs { (l : List ℕ) → (F.seen files.new).output l ≡ (F.seen files.old).output l }
@@ -34,17 +34,18 @@ fn read_bytes<F: Files>(alloc: Global, files: &mut F, location: &str) -> Result<
     }
 }
 
-/// The commands of the script in the file at a location.
+/// The commands of the script in the file at a location, of these acts.
 ///
 /// The file is read by 65,536 bytes at a time, to its end or until more than 1,048,576 bytes were read, and closed.
 /// A script that is longer is refused at line 0 as `TooLong`, whatever stands behind what was read.
 pub fn read_file<F: Files>(
     alloc: Global,
+    acts: Acts,
     files: &mut F,
     location: &str,
 ) -> Result<Items<Command>, FileFault>
-    ensures script { IfOk result (λ commands. IsReadAs ((F.seen files.old).input location.now) (λ text. IsScript text commands)) }
-    ensures fault { IfErr result (IsFileFault location.now (F.seen files.old) (F.seen files.new)) }
+    ensures script { IfOk result (λ commands. IsReadAs ((F.seen files.old).input location.now) (λ text. IsScript acts text commands)) }
+    ensures fault { IfErr result (IsFileFault acts location.now (F.seen files.old) (F.seen files.new)) }
     ensures given_back { (F.seen files.old).ends < 2 ^ 63 → (F.seen files.new).ends ≡ (F.seen files.old).ends }
     ensures inputs { (l : List ℕ) → (F.seen files.new).input l ≡ (F.seen files.old).input l }
     ensures outputs { (l : List ℕ) → (F.seen files.new).output l ≡ (F.seen files.old).output l }
@@ -55,7 +56,7 @@ pub fn read_file<F: Files>(
         Ok(bytes) => bytes,
         Err(fault) => return Err(fault),
     };
-    match read(alloc, bytes.as_slice()) {
+    match read(alloc, acts, bytes.as_slice()) {
         Ok(commands) => Ok(commands),
         Err(why) => Err(text_fault(why)),
     }

@@ -1,6 +1,7 @@
 //! Rows of files, and what is told of their scripts.
 use super::*;
 use gst_outside::{Files, MemFiles};
+use script_text::Acts;
 use std::alloc::Global;
 use std::fmt::Write;
 use std::test::Fail;
@@ -15,6 +16,13 @@ now remove e; 1 0 => the script could not be opened, 0 ends, 1 failures
 now remove e; 0 1 => the script could not be read, failures 0 and now 1, 0 ends, 1 failures
 now remove e; 0 2 => the script could not be read, failures 0 and now 1, 0 ends, 1 failures
 now remove e; 0 3 => 1 commands, 0 ends, 0 failures";
+
+/// The same where no act can be done.
+const IDLE_ROWS: &str = "\
+# a comment|; 0 0 => 0 commands, 0 ends, 0 failures
+# a comment|now remove e; 0 0 => line 2 of the script: BadAct, 0 ends, 0 failures
+at i.src x relink b.sink; 0 0 => line 1 of the script: BadNumber, 0 ends, 0 failures
+now remove e; 1 0 => the script could not be opened, 0 ends, 1 failures";
 
 /// The number that a digit writes.
 fn number(digit: &str) -> u64 {
@@ -36,12 +44,18 @@ fn bytes_of(alloc: Global, text: &str) -> Result<Vec<u8>, Fail> {
 }
 
 /// The answer for a file with these bytes, of which an opening and a read fail.
-fn told(alloc: Global, bytes: &[u8], opening: u64, reading: u64) -> Result<String, Fail> {
+fn told(
+    alloc: Global,
+    acts: Acts,
+    bytes: &[u8],
+    opening: u64,
+    reading: u64,
+) -> Result<String, Fail> {
     let mut files = MemFiles::new(alloc);
     files.add_input(alloc, "s", bytes, &[reading], &[])?;
     files.fail_open_read(alloc, &[opening])?;
     let mut row = String::new(alloc);
-    match read_file(alloc, &mut files, "s") {
+    match read_file(alloc, acts, &mut files, "s") {
         Ok(commands) => write!(row, "{} commands", commands.as_slice().len())?,
         Err(fault) => write!(row, "{fault}")?,
     }
@@ -54,7 +68,21 @@ fn told(alloc: Global, bytes: &[u8], opening: u64, reading: u64) -> Result<Strin
 fn told_of_bytes(alloc: Global, count: usize) -> Result<String, Fail> {
     let mut bytes = vec![in alloc; b'#'; count]?;
     bytes.extend_from_slice(b"\nnow remove e")?;
-    told(alloc, bytes.as_slice(), 0, 0)
+    told(alloc, Acts::ALL, bytes.as_slice(), 0, 0)
+}
+
+/// The answer for a file as a row gives it.
+fn answer_of(alloc: Global, acts: Acts, given: &str) -> Result<String, Fail> {
+    let (text, calls) = given.split_once("; ").ok_or("a file")?;
+    let (opening, reading) = calls.split_once(" ").ok_or("calls")?;
+    let bytes = bytes_of(alloc, text)?;
+    told(
+        alloc,
+        acts,
+        bytes.as_slice(),
+        number(opening),
+        number(reading),
+    )
 }
 
 #[test]
@@ -62,10 +90,12 @@ fn rows(rt: HostRuntime) -> Result<(), Fail> {
     let alloc = rt.alloc();
     for row in ROWS.split('\n') {
         let (given, wanted) = row.split_once(" => ").ok_or("a row")?;
-        let (text, calls) = given.split_once("; ").ok_or("a file")?;
-        let (opening, reading) = calls.split_once(" ").ok_or("calls")?;
-        let bytes = bytes_of(alloc, text)?;
-        let answer = told(alloc, bytes.as_slice(), number(opening), number(reading))?;
+        let answer = answer_of(alloc, Acts::ALL, given)?;
+        assert!(rt; answer.as_str() == wanted, "{row}: {answer}");
+    }
+    for row in IDLE_ROWS.split('\n') {
+        let (given, wanted) = row.split_once(" => ").ok_or("a row")?;
+        let answer = answer_of(alloc, Acts::NONE, given)?;
         assert!(rt; answer.as_str() == wanted, "{row}: {answer}");
     }
     assert_eq!(rt;

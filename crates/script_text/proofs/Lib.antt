@@ -1,5 +1,6 @@
 mod Growing
 mod Outcomes
+mod Undone
 mod Order
 mod Lines
 mod Stepping

@@ -12,6 +12,7 @@ use Rattle.script_text.specs.Latest.{IsLatest, last_of}
 use Rattle.script_text.specs.Lines.{is_passed_over, says_nothing}
 use Rattle.script_text.specs.Refusals.{Answers, and_then, fault_at}
 use Rattle.script_text.specs.Scripts.{AreCommands, IsFault, in_order, line_answer, step}
+use Rattle.script_text.specs.declared.acts.Acts.{Acts}
 use Rattle.script_text.specs.declared.command.Command.{Command}
 use Rattle.script_text.specs.declared.fault.Refusal.{Refusal}
 use Rattle.script_text.specs.declared.fault.Refusal.TheVariants.{Bad, OutOfMemory}
@@ -35,50 +36,51 @@ no_text line h = go (is_utf8 line) refl
 passes : (line : List ℕ) (t u : Bool) → is_utf8 line ≡ t → says_nothing line ≡ u → is_passed_over line ≡ (t && u)
 passes line t u e f = ap (λ x. x && says_nothing line) e ∙ ap (λ x. t && x) f
 
-answers : (old : List Command) (line : List ℕ) (t u : Bool) → is_utf8 line ≡ t → nat_lt (length old) 4096 ≡ u
-    → line_answer old line ≡ cond t (cond u (and_then (command_of (words_of Space line)) (in_order old)) (Err TooLong)) (Err NotText)
-unfolding line_answer
-answers old line t u e f =
-    ap (λ x. cond x (cond (nat_lt (length old) 4096) (and_then (command_of (words_of Space line)) (in_order old)) (Err TooLong)) (Err NotText)) e
-    ∙ ap (λ x. cond t (cond x (and_then (command_of (words_of Space line)) (in_order old)) (Err TooLong)) (Err NotText)) f
-
 abbrev put : List Command → Command → Result (List Command) ScriptKind
 put old command = Ok (old ++ command ∷ [])
 
-stepped : (old : List Command) (line : List ℕ) (t : Bool) (r : Result Command ScriptKind) → is_passed_over line ≡ t → line_answer old line ≡ r → step old line ≡ cond t (Ok old) (and_then r (put old))
-stepped old line t r e f = ap (λ x. cond x (Ok old) (and_then (line_answer old line) (put old))) e ∙ ap (λ x. cond t (Ok old) (and_then x (put old))) f
+module _ (acts : Acts) where
+  answers : (old : List Command) (line : List ℕ) (t u : Bool) → is_utf8 line ≡ t → nat_lt (length old) 4096 ≡ u
+      → line_answer acts old line ≡ cond t (cond u (and_then (command_of acts (words_of Space line)) (in_order old)) (Err TooLong)) (Err NotText)
+  unfolding line_answer
+  answers old line t u e f =
+      ap (λ x. cond x (cond (nat_lt (length old) 4096) (and_then (command_of acts (words_of Space line)) (in_order old)) (Err TooLong)) (Err NotText)) e
+      ∙ ap (λ x. cond t (cond x (and_then (command_of acts (words_of Space line)) (in_order old)) (Err TooLong)) (Err NotText)) f
 
-pub step_no_text : (old : List Command) (line : List ℕ) → ¬ (IsUtf8 line) → step old line ≡ Err NotText
-step_no_text old line h =
-    let bad = no_text line h in
-    stepped old line false (Err NotText) (passes line false (says_nothing line) bad refl) (answers old line false (nat_lt (length old) 4096) bad refl)
+  stepped : (old : List Command) (line : List ℕ) (t : Bool) (r : Result Command ScriptKind) → is_passed_over line ≡ t → line_answer acts old line ≡ r → step acts old line ≡ cond t (Ok old) (and_then r (put old))
+  stepped old line t r e f = ap (λ x. cond x (Ok old) (and_then (line_answer acts old line) (put old))) e ∙ ap (λ x. cond t (Ok old) (and_then x (put old))) f
 
-pub step_passed : (old : List Command) (line text : List ℕ) → text ≡ line → IsUtf8 line → says_nothing text ≡ true → step old line ≡ Ok old
-step_passed old line text same h e = stepped old line true (line_answer old line) (passes line true true (is_text line h) (ap says_nothing (sym same) ∙ e)) refl
+  pub step_no_text : (old : List Command) (line : List ℕ) → ¬ (IsUtf8 line) → step acts old line ≡ Err NotText
+  step_no_text old line h =
+      let bad = no_text line h in
+      stepped old line false (Err NotText) (passes line false (says_nothing line) bad refl) (answers old line false (nat_lt (length old) 4096) bad refl)
 
-pub step_long : (old : List Command) (line text : List ℕ) → text ≡ line → IsUtf8 line → says_nothing text ≡ false → 4096 ≤ length old → step old line ≡ Err TooLong
-step_long old line text same h e many = stepped old line false (Err TooLong) (passes line true false (is_text line h) (ap says_nothing (sym same) ∙ e)) (answers old line true false (is_text line h) full)
-  where
-    full : nat_lt (length old) 4096 ≡ false
-    full = grind (arith, many)
+  pub step_passed : (old : List Command) (line text : List ℕ) → text ≡ line → IsUtf8 line → says_nothing text ≡ true → step acts old line ≡ Ok old
+  step_passed old line text same h e = stepped old line true (line_answer acts old line) (passes line true true (is_text line h) (ap says_nothing (sym same) ∙ e)) refl
 
-step_said : (old : List Command) (line text : List ℕ) → text ≡ line → IsUtf8 line → says_nothing text ≡ false → length old < 4096
-    → step old line ≡ and_then (and_then (command_of (words_of Space text)) (in_order old)) (put old)
-step_said old line text same h e few =
-    stepped old line false (and_then (command_of (words_of Space line)) (in_order old)) (passes line true false (is_text line h) (ap says_nothing (sym same) ∙ e)) (answers old line true true (is_text line h) room)
-    ∙ ap (λ t. and_then (and_then (command_of (words_of Space t)) (in_order old)) (put old)) (sym same)
-  where
-    room : nat_lt (length old) 4096 ≡ true
-    room = grind (arith, few)
+  pub step_long : (old : List Command) (line text : List ℕ) → text ≡ line → IsUtf8 line → says_nothing text ≡ false → 4096 ≤ length old → step acts old line ≡ Err TooLong
+  step_long old line text same h e many = stepped old line false (Err TooLong) (passes line true false (is_text line h) (ap says_nothing (sym same) ∙ e)) (answers old line true false (is_text line h) full)
+    where
+      full : nat_lt (length old) 4096 ≡ false
+      full = grind (arith, many)
 
-pub step_command : (old : List Command) (line text : List ℕ) (command : Command) → text ≡ line → IsUtf8 line → says_nothing text ≡ false → length old < 4096 → command_of (words_of Space text) ≡ Ok command
-    → step old line ≡ and_then (in_order old command) (put old)
-step_command old line text command same h e few f = step_said old line text same h e few ∙ ap (λ r. and_then (and_then r (in_order old)) (put old)) f
+  step_said : (old : List Command) (line text : List ℕ) → text ≡ line → IsUtf8 line → says_nothing text ≡ false → length old < 4096
+      → step acts old line ≡ and_then (and_then (command_of acts (words_of Space text)) (in_order old)) (put old)
+  step_said old line text same h e few =
+      stepped old line false (and_then (command_of acts (words_of Space line)) (in_order old)) (passes line true false (is_text line h) (ap says_nothing (sym same) ∙ e)) (answers old line true true (is_text line h) room)
+      ∙ ap (λ t. and_then (and_then (command_of acts (words_of Space t)) (in_order old)) (put old)) (sym same)
+    where
+      room : nat_lt (length old) 4096 ≡ true
+      room = grind (arith, few)
 
-pub step_refused : {X V : Type 0} (view : X → Command) (see : V → List Command) (old : List Command) (line text : List ℕ) (refusal : Refusal) → text ≡ line → IsUtf8 line → says_nothing text ≡ false → length old < 4096
-    → Answers view (Err refusal) (command_of (words_of Space text)) → Answers see (Err refusal) (step old line)
-step_refused view see old line text (Bad kind) same h e few f = step_said old line text same h e few ∙ ap (λ r. and_then (and_then r (in_order old)) (put old)) f
-step_refused view see old line text OutOfMemory same h e few f = tt
+  pub step_command : (old : List Command) (line text : List ℕ) (command : Command) → text ≡ line → IsUtf8 line → says_nothing text ≡ false → length old < 4096 → command_of acts (words_of Space text) ≡ Ok command
+      → step acts old line ≡ and_then (in_order old command) (put old)
+  step_command old line text command same h e few f = step_said old line text same h e few ∙ ap (λ r. and_then (and_then r (in_order old)) (put old)) f
+
+  pub step_refused : {X V : Type 0} (view : X → Command) (see : V → List Command) (old : List Command) (line text : List ℕ) (refusal : Refusal) → text ≡ line → IsUtf8 line → says_nothing text ≡ false → length old < 4096
+      → Answers view (Err refusal) (command_of acts (words_of Space text)) → Answers see (Err refusal) (step acts old line)
+  step_refused view see old line text (Bad kind) same h e few f = step_said old line text same h e few ∙ ap (λ r. and_then (and_then r (in_order old)) (put old)) f
+  step_refused view see old line text OutOfMemory same h e few f = tt
 
 -- an answer that is the same
 pub moved : {X : Type 0} (see : X → List Command) (result : Result X Refusal) (one other : Result (List Command) ScriptKind) → one ≡ other → Answers see result other → Answers see result one
@@ -96,10 +98,10 @@ first_latest latest e pad buffers = sym (ap (nat_lt buffers) none ∙ never)
     never = grind arith
 
 -- a line is at fault behind the lines before it
-pub faulted : {X : Type 0} (see : X → List Command) (text front more : List (List ℕ)) (line : List ℕ) (old : List Command) (number : ℕ) (refusal : Refusal) (fault : ScriptFault) → text ≡ front ++ line ∷ more → number ≡ length front + 1
-    → AreCommands front old → Answers see (Err refusal) (step old line) → fault ≡ fault_at number refusal → IsFault text fault
-faulted see text front more line old number refusal fault parts counted said answer is = subst (IsFault text) (sym is) (go refusal answer)
+pub faulted : {X : Type 0} (acts : Acts) (see : X → List Command) (text front more : List (List ℕ)) (line : List ℕ) (old : List Command) (number : ℕ) (refusal : Refusal) (fault : ScriptFault) → text ≡ front ++ line ∷ more → number ≡ length front + 1
+    → AreCommands acts front old → Answers see (Err refusal) (step acts old line) → fault ≡ fault_at number refusal → IsFault acts text fault
+faulted acts see text front more line old number refusal fault parts counted said answer is = subst (IsFault acts text) (sym is) (go refusal answer)
   where
-    go : (r : Refusal) → Answers see (Err r) (step old line) → IsFault text (fault_at number r)
-    go (Bad kind) a = stopped text front more line old number kind parts counted said a
+    go : (r : Refusal) → Answers see (Err r) (step acts old line) → IsFault acts text (fault_at number r)
+    go (Bad kind) a = stopped acts text front more line old number kind parts counted said a
     go OutOfMemory a = tt

@@ -8,6 +8,7 @@ use Rattle.text_words.specs.Bytes.{is_run}
 use Rattle.text_words.specs.Values.{number_of, pad_of, prop_of, ◌>>=◌}
 use Rattle.text_words.specs.declared.class.Class.TheVariants.{Kind, Name}
 use Rattle.script_text.specs.Refusals.{and_then, unless}
+use Rattle.script_text.specs.declared.acts.Acts.{Acts}
 use Rattle.script_text.specs.declared.command.Act.{Act}
 use Rattle.script_text.specs.declared.command.Act.TheVariants.{Relink, Unlink, Add, Remove}
 use Rattle.script_text.specs.declared.command.Command.{Command}
@@ -93,6 +94,17 @@ act_of (word ∷ words) =
     (cond (bytes_eq word (codes "add")) (add_of words)
     (cond (bytes_eq word (codes "remove")) (remove_of words) None)))
 
+-- the act is one of these
+abbrev pub does : Acts → Act → Bool
+does acts (Relink sink) = acts.relink
+does acts (Unlink eos) = acts.unlink
+does acts (Add kind props) = acts.add
+does acts (Remove element) = acts.remove
+
+-- what a command does, which is one of these acts
+abbrev pub done_act : Acts → List (List ℕ) → Option Act
+done_act acts words = act_of words >>= λ act. cond (does acts act) (Some act) None
+
 -- ---- both
 
 -- an act that is done at a pad
@@ -111,9 +123,9 @@ misfit Now act = cond (is_pad_act act) (Some NeedsPad) None
 abbrev pub fitted : When → Act → Result Command ScriptKind
 fitted when act = unless (misfit when act) (Ok (record { when = when; act = act }))
 
--- the command that the words of a line say by themselves
-unfoldable pub command_of : List (List ℕ) → Result Command ScriptKind
-command_of words = and_then (when_of words) (λ w. and_then (ok_or (act_of w.1) BadAct) (fitted w.0))
+-- the command that the words of a line say by themselves, where its act is one of these
+unfoldable pub command_of : Acts → List (List ℕ) → Result Command ScriptKind
+command_of acts words = and_then (when_of words) (λ w. and_then (ok_or (done_act acts w.1) BadAct) (fitted w.0))
 
 -- a pad's name in one text
 abbrev pub spelled : PadName → List ℕ

@@ -19,7 +19,8 @@ pub enum ScriptKind {
     BadWhen,
     /// The number of buffers is missing, or is not decimal digits that write a number below 2^63.
     BadNumber,
-    /// The word of the act is missing or unknown, or its words are too few, too many or misspelt.
+    /// The word of the act is missing or unknown, its words are too few, too many or misspelt, or it is none of the acts
+    /// that can be done.
     BadAct,
     /// An act at a pad stands behind a `now` without a pad.
     NeedsPad,

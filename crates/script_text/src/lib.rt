@@ -2,6 +2,7 @@
 #![tactic(auto)]
 
 mod act;
+mod acts;
 mod command;
 mod fault;
 mod latest;
@@ -10,6 +11,7 @@ mod line;
 mod reading;
 mod when;
 
+pub use acts::Acts;
 pub use command::{Act, Command, When};
 pub use fault::{ScriptFault, ScriptKind};
 pub use laws::{one_answer, script_rows};

@@ -2,11 +2,12 @@
 ghost use Rattle.std.specs.Prelude.{◌≡◌, ok_or};
 ghost use Rattle.text_words.specs.Left.{left};
 ghost use Rattle.text_words.specs.Words.{words_of};
-ghost use Rattle.script_text.specs.Commands.{act_of, command_of, misfit};
+ghost use Rattle.script_text.specs.Commands.{command_of, done_act, misfit};
 ghost use Rattle.script_text.specs.Lines.{is_blank, is_comment, says_nothing};
 ghost use Rattle.script_text.specs.Refusals.{Answers};
 
 use crate::act::read_act;
+use crate::acts::Acts;
 use crate::command::{Act, Command, When};
 use crate::fault::{Refusal, ScriptKind};
 use crate::when::read_when;
@@ -63,24 +64,30 @@ fn misfit(when: &When, act: &Act) -> Option<ScriptKind>
     }
 }
 
-/// The act of a line, which all words have to say that are left.
-fn act_behind(alloc: Global, words: &mut Words<'_>) -> Result<Act, Refusal>
-    ensures { Answers (λ act. act) result (ok_or (act_of (left words.old)) ScriptKind.BadAct) }
+/// The act of a line, which all words have to say that are left, and which has to be one of these.
+fn act_behind(alloc: Global, acts: Acts, words: &mut Words<'_>) -> Result<Act, Refusal>
+    ensures { Answers (λ act. act) result (ok_or (done_act acts (left words.old)) ScriptKind.BadAct) }
 {
     match read_act(alloc, words) {
-        Ok(act) => Ok(act),
+        Ok(act) => {
+            if acts.does(&act) {
+                Ok(act)
+            } else {
+                Err(Refusal::Bad(ScriptKind::BadAct))
+            }
+        }
         Err(fault) => Err(Refusal::of(fault, ScriptKind::BadAct)),
     }
 }
 
-/// The command that a line says by itself.
+/// The command that a line says by itself, of these acts.
 #[tactic(auto, unfolding(crate::specs::Commands::command_of))]
-pub(crate) fn read_command(alloc: Global, line: &str) -> Result<Command, Refusal>
-    ensures { Answers (λ command. command) result (command_of (words_of Separator.Space line.now)) }
+pub(crate) fn read_command(alloc: Global, acts: Acts, line: &str) -> Result<Command, Refusal>
+    ensures { Answers (λ command. command) result (command_of acts (words_of Separator.Space line.now)) }
 {
     let mut words = Words::new(Separator::Space, line);
     let when = read_when(alloc, &mut words)?;
-    let act = act_behind(alloc, &mut words)?;
+    let act = act_behind(alloc, acts, &mut words)?;
     if let Some(kind) = misfit(&when, &act) {
         return Err(Refusal::Bad(kind));
     }

@@ -6,6 +6,7 @@ ghost use Rattle.script_text.specs.Lines.{in_line, lines};
 ghost use Rattle.script_text.specs.Refusals.{Answers};
 ghost use Rattle.script_text.specs.Scripts.{AreCommands, IsFault, IsRefusal, IsScript, step};
 
+use crate::acts::Acts;
 use crate::command::Command;
 use crate::fault::{Refusal, ScriptFault, ScriptKind};
 use crate::latest::{Latest, put_command};
@@ -44,13 +45,14 @@ fn split_line(bytes: &[u8]) -> (&[u8], &[u8])
 /// Puts the command of a line behind the others, where the line has one.
 fn read_line(
     alloc: Global,
+    acts: Acts,
     commands: &mut List<Command>,
     latest: &mut Latest,
     line: &[u8],
 ) -> Result<(), Refusal>
     requires { IsLatest latest.old commands.old }
     ensures latest { OnOk result (IsLatest latest.new commands.new) }
-    ensures step { Answers (λ _. commands.new) result (step commands.old line.now) }
+    ensures step { Answers (λ _. commands.new) result (step acts commands.old line.now) }
 {
     let Ok(text) = str::from_utf8(line) else {
         return Err(Refusal::Bad(ScriptKind::NotText));
@@ -61,7 +63,7 @@ fn read_line(
     if commands.as_slice().len() >= MOST_COMMANDS {
         return Err(Refusal::Bad(ScriptKind::TooLong));
     }
-    let command = match read_command(alloc, text) {
+    let command = match read_command(alloc, acts, text) {
         Ok(command) => command,
         Err(refusal) => return Err(refusal),
     };
@@ -69,10 +71,10 @@ fn read_line(
 }
 
 /// Reads all lines of a text that is not too long.
-fn read_lines(alloc: Global, bytes: &[u8]) -> Result<List<Command>, ScriptFault>
+fn read_lines(alloc: Global, acts: Acts, bytes: &[u8]) -> Result<List<Command>, ScriptFault>
     requires { length bytes.now ≤ 1048576 }
-    ensures said { IfOk result (AreCommands (lines bytes.now)) }
-    ensures fault { IfErr result (IsFault (lines bytes.now)) }
+    ensures said { IfOk result (AreCommands acts (lines bytes.now)) }
+    ensures fault { IfErr result (IsFault acts (lines bytes.now)) }
 {
     let mut commands = List::new(alloc);
     let mut latest = BTreeMap::new(alloc);
@@ -81,7 +83,7 @@ fn read_lines(alloc: Global, bytes: &[u8]) -> Result<List<Command>, ScriptFault>
     while !rest.is_empty() {
         let (line, behind) = split_line(rest);
         number += 1;
-        match read_line(alloc, &mut commands, &mut latest, line) {
+        match read_line(alloc, acts, &mut commands, &mut latest, line) {
             Ok(()) => {}
             Err(refusal) => return Err(refusal.at(number)),
         }
@@ -94,10 +96,10 @@ fn read_lines(alloc: Global, bytes: &[u8]) -> Result<List<Command>, ScriptFault>
 ///
 /// Lines end with a line end, which the last one may lack, and count from 1. A line that is empty, has only spaces or
 /// begins with `#` is passed over. A script has at most 1,048,576 bytes and 4,096 commands. A line that is not UTF-8 is
-/// `NotText`.
-pub fn read(alloc: Global, bytes: &[u8]) -> Result<List<Command>, ScriptFault>
-    ensures script { IfOk result (IsScript bytes.now) }
-    ensures refused { IfErr result (IsRefusal bytes.now) }
+/// `NotText`, and one with an act that is none of `acts` is `BadAct`.
+pub fn read(alloc: Global, acts: Acts, bytes: &[u8]) -> Result<List<Command>, ScriptFault>
+    ensures script { IfOk result (IsScript acts bytes.now) }
+    ensures refused { IfErr result (IsRefusal acts bytes.now) }
 {
     if bytes.len() > LONGEST {
         return Err(ScriptFault::BadScript {
@@ -105,13 +107,13 @@ pub fn read(alloc: Global, bytes: &[u8]) -> Result<List<Command>, ScriptFault>
             kind: ScriptKind::TooLong,
         });
     }
-    read_lines(alloc, bytes)
+    read_lines(alloc, acts, bytes)
 }
 
 /// The commands of a script, as `read` gives them of its bytes.
-pub fn parse(alloc: Global, text: &str) -> Result<List<Command>, ScriptFault>
-    ensures script { IfOk result (IsScript text.now) }
-    ensures refused { IfErr result (IsRefusal text.now) }
+pub fn parse(alloc: Global, acts: Acts, text: &str) -> Result<List<Command>, ScriptFault>
+    ensures script { IfOk result (IsScript acts text.now) }
+    ensures refused { IfErr result (IsRefusal acts text.now) }
 {
-    read(alloc, text.as_bytes())
+    read(alloc, acts, text.as_bytes())
 }

@@ -77,6 +77,20 @@ now remove ~ => line 1 NotText
 now remove e|# ~| => line 2 NotText
 now flip|~ => line 1 BadAct";
 
+/// The same where no act can be done.
+const IDLE_ROWS: &str = "\
+# a comment||   | => nothing
+now i.src unlink => line 1 BadAct
+# a comment|at i.src 5 unlink eos => line 2 BadAct
+now i.src relink q.sink => line 1 BadAct
+now add queue name=q => line 1 BadAct
+now remove q => line 1 BadAct
+now unlink => line 1 BadAct
+now i.src remove q => line 1 BadAct
+at isrc x relink b.sink => line 1 BadWhen
+at i.src x relink b.sink => line 1 BadNumber
+now flip => line 1 BadAct";
+
 /// The bytes for which the text of a row stands.
 fn bytes_of(alloc: Global, text: &str) -> Result<Vec<u8>, Fail> {
     let mut bytes = Vec::new(alloc);
@@ -131,9 +145,9 @@ fn put_commands(into: &mut String, commands: &[Command]) -> Result<(), Fail> {
 }
 
 /// The answer as a row of text.
-fn told(alloc: Global, bytes: &[u8]) -> Result<String, Fail> {
+fn told(alloc: Global, acts: Acts, bytes: &[u8]) -> Result<String, Fail> {
     let mut row = String::new(alloc);
-    match read(alloc, bytes) {
+    match read(alloc, acts, bytes) {
         Ok(commands) => put_commands(&mut row, commands.as_slice())?,
         Err(ScriptFault::BadScript { line, kind }) => write!(row, "line {line} {kind:?}")?,
         Err(ScriptFault::OutOfMemory) => row.push_str("no memory")?,
@@ -147,7 +161,7 @@ fn told_of_lines(alloc: Global, count: usize) -> Result<String, Fail> {
     for _ in 0..count {
         bytes.extend_from_slice(b"now remove e\n")?;
     }
-    match read(alloc, bytes.as_slice()) {
+    match read(alloc, Acts::ALL, bytes.as_slice()) {
         Ok(commands) => Ok(format!(in alloc; "{}", commands.as_slice().len())?),
         Err(fault) => Ok(format!(in alloc; "{fault}")?),
     }
@@ -156,7 +170,7 @@ fn told_of_lines(alloc: Global, count: usize) -> Result<String, Fail> {
 /// A comment of so many bytes, as a row of text.
 fn told_of_bytes(alloc: Global, count: usize) -> Result<String, Fail> {
     let bytes = vec![in alloc; b'#'; count]?;
-    told(alloc, bytes.as_slice())
+    told(alloc, Acts::ALL, bytes.as_slice())
 }
 
 #[test]
@@ -165,10 +179,10 @@ fn rows(rt: HostRuntime) -> Result<(), Fail> {
     for row in ROWS.split('\n') {
         let (text, wanted) = row.split_once(" => ").ok_or("a row")?;
         let bytes = bytes_of(alloc, text)?;
-        let answer = told(alloc, bytes.as_slice())?;
+        let answer = told(alloc, Acts::ALL, bytes.as_slice())?;
         assert!(rt; answer.as_str() == wanted, "{row}: {answer}");
     }
-    assert!(rt; parse(alloc, "now remove e")?.as_slice().len() == 1);
+    assert!(rt; parse(alloc, Acts::ALL, "now remove e")?.as_slice().len() == 1);
     assert_eq!(rt; told_of_lines(alloc, 4096)?.as_str(), "4096");
     assert_eq!(rt;
         told_of_lines(alloc, 4097)?.as_str(),
@@ -176,5 +190,17 @@ fn rows(rt: HostRuntime) -> Result<(), Fail> {
     );
     assert_eq!(rt; told_of_bytes(alloc, 1_048_576)?.as_str(), "nothing");
     assert_eq!(rt; told_of_bytes(alloc, 1_048_577)?.as_str(), "line 0 TooLong");
+    Ok(())
+}
+
+#[test]
+fn idle_rows(rt: HostRuntime) -> Result<(), Fail> {
+    let alloc = rt.alloc();
+    for row in IDLE_ROWS.split('\n') {
+        let (text, wanted) = row.split_once(" => ").ok_or("a row")?;
+        let bytes = bytes_of(alloc, text)?;
+        let answer = told(alloc, Acts::NONE, bytes.as_slice())?;
+        assert!(rt; answer.as_str() == wanted, "{row}: {answer}");
+    }
     Ok(())
 }

@@ -10,7 +10,7 @@ use gst_caps::Caps;
 use gst_item::{Item, Outs};
 use gst_outside::{MemSink, MemSource, Sink, Source};
 use gst_value::{List, Prop, Text};
-use item_letters::{is_flush, item_of, letter_of, letter_of_answer, letters_of};
+use item_letters::{item_of, letter_of, letter_of_answer, letters_of};
 use std::alloc::Global;
 use std::test::Fail;
 
@@ -121,7 +121,7 @@ fn answer_to(
         });
     }
     let item = item_of(alloc, letter)?;
-    if is_flush(&item) {
+    if item.is_flush_stop() {
         element.flush();
         return Ok(b'f');
     }

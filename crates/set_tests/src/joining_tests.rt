@@ -3,7 +3,6 @@ use crate::denoting_tests::{items_by, settings_by, tell_item};
 use gst_item::{Item, Outs};
 use gst_outside::MemSink;
 use gst_value::{List, Text};
-use item_letters::is_flush;
 use net_model::TaskElement;
 use std::alloc::Global;
 use std::collections::VecDeque;
@@ -54,7 +53,7 @@ fn feed_one<E: TaskElement>(
     text: &mut String,
 ) -> Result<(), Fail> {
     let mut out = List::new(alloc);
-    if is_flush(&item) {
+    if item.is_flush_stop() {
         return Ok(());
     }
     if element.feed(alloc, pad, item, &mut out).is_err() {

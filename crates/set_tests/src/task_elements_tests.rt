@@ -8,7 +8,7 @@ use el_settings::{
 use gst_item::Outs;
 use gst_outside::{MemSink, MemSource, Sink, Source};
 use gst_value::{List, Text};
-use item_letters::{is_flush, item_of, letter_of, letters_of};
+use item_letters::{item_of, letter_of, letters_of};
 use net_model::{TaskElement, TaskSource, Why};
 use std::alloc::Global;
 use std::test::Fail;
@@ -46,7 +46,7 @@ fn answer_to<E: TaskElement>(
         (element.wants().unwrap_or(7), letter)
     };
     let item = item_of(alloc, letter)?;
-    if is_flush(&item) {
+    if item.is_flush_stop() {
         return Ok('f');
     }
     match element.feed(alloc, pad, item, out) {

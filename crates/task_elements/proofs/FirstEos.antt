@@ -1,12 +1,11 @@
 -- Where EOS stands in the first section of what an element took, what it owes there has EOS.
 use Rattle.std.proofs.Common.{◌≡◌, ◌<◌, ◌⊎◌, ℕ, zero, suc, Bool, true, false, ◌||◌, if◌then◌else◌, List, [], ◌∷◌, ◌++◌, length, Option, refl, sym, ap, ◌∙◌, subst, inl, inr, arith}
 use Rattle.flow_model.specs.Item.{Item, is_flush_stop, is_eos, eos_among}
-use Rattle.flow_model.specs.Sticky.{has_flush_stop, latest, since_flush_stop}
+use Rattle.flow_model.specs.Sticky.{has_flush_stop, latest}
 use Rattle.flow_model.specs.Section.{section, counted, counted_after, IsPlain}
 use Rattle.flow_model.specs.Prefix.{IsPrefix, nothing, next}
 use Rattle.flow_model.specs.Call.{Call, Feed, Act, items}
 use Rattle.flow_model.specs.Rule.{Response, owed_for, passes, single}
-use Rattle.flow_model.specs.Feeding.{has_item}
 use Rattle.flow_model.proofs.Prefixes.{prefix_trans, rest_of}
 use Rattle.flow_model.proofs.Sections.{section_prefix, owed_for_prefix}
 use Rattle.net_model.specs.Moment.{Behavior}
@@ -17,7 +16,7 @@ use Rattle.el_set.specs.declared.filter.FilterElement.{FilterElement}
 use Rattle.el_set.specs.declared.join.JoinElement.{JoinElement}
 use Rattle.el_set.specs.Joins.{EachEnded, join_rule}
 use Rattle.el_set.specs.Stands.{Stands, MeetsNone}
-use Rattle.el_set.proofs.Ends.{eos_first, eos_latest, none_first, plain_no_flush}
+use Rattle.el_set.proofs.Ends.{eos_first, eos_latest, plain_no_flush}
 use Rattle.el_set.proofs.EachEnding.{counts_or_meets, is_ending}
 use Rattle.el_set.proofs.Ending.{IsEnding, sane}
 use Rattle.el_set.proofs.Elements.{elements_owe}
@@ -27,8 +26,11 @@ use Rattle.task_elements.specs.declared.element.StreamElement.TheVariants.{Filte
 use Rattle.task_elements.specs.Stands.{FilterTook, TeeTook, JoinTook, StreamStands, is_join, passing, pads_of}
 use Rattle.task_elements.specs.Ended.{FirstEnded}
 use Rattle.task_elements.proofs.Plain.{ending_quiet}
-use Rattle.task_elements.proofs.Growing.{owed_stops, one_section}
+use Rattle.task_elements.proofs.Growing.{owed_stops}
 use Rattle.task_elements.proofs.Tees.{counted_owed}
+use Rattle.flow_model.proofs.Counted.{since_all}
+use Rattle.flow_model.proofs.Items.{no_stop_section as one_section}
+use Rattle.gst_item.specs.Item.{has_item}
 
 -- a section has no FLUSH_STOP, so an EOS in it is in force at its end
 first_quiet : (xs : List Item) → has_flush_stop (section 0 xs) ≡ false
@@ -38,10 +40,6 @@ first_quiet (x ∷ xs) = go (is_flush_stop x) refl (first_quiet xs)
     go : (f : Bool) → is_flush_stop x ≡ f → has_flush_stop (section 0 xs) ≡ false → has_flush_stop (if f then [] else x ∷ section 0 xs) ≡ false
     go true e rest = refl
     go false e rest = rw e rest
-
-since_all : (xs : List Item) → has_flush_stop xs ≡ false → since_flush_stop xs ≡ xs
-since_all [] h = refl
-since_all (x ∷ xs) h = let t = none_first x xs h in rw (t.1, t.0) refl
 
 first_ended : (xs : List Item) → list_ended (section 0 xs) ≡ eos_among (section 0 xs)
 first_ended xs = ap (λ (ys : List Item). has_item (latest is_eos ys)) (since_all (section 0 xs) (first_quiet xs)) ∙ eos_latest (section 0 xs)

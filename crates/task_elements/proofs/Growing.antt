@@ -1,5 +1,5 @@
 -- What an element with one sink pad puts out for an item is what it owes more, in the section that is open.
-use Rattle.std.proofs.Common.{◌≡◌, ◌<◌, ◌+◌, ℕ, zero, suc, Bool, true, false, if◌then◌else◌, List, [], ◌∷◌, ◌++◌, length, filter, refl, sym, ap, ◌∙◌, subst, append-nil, arith, Result, Ok, Err}
+use Rattle.std.proofs.Common.{◌≡◌, ◌+◌, ℕ, suc, Bool, true, false, if◌then◌else◌, List, [], ◌∷◌, ◌++◌, length, filter, refl, sym, ap, ◌∙◌, subst, append-nil, arith, Result, Ok, Err}
 use Rattle.flow_model.specs.Item.{Item, Ev, Eos, is_flush_stop}
 use Rattle.flow_model.specs.Sticky.{has_flush_stop}
 use Rattle.flow_model.specs.Section.{section, flush_stops}
@@ -9,6 +9,8 @@ use Rattle.flow_model.specs.Feeding.{on_pad, next_owed}
 use Rattle.net_model.specs.Pad.{Grows}
 use Rattle.net_model.specs.Takes.{on_port, AreWithin}
 use Rattle.flow_model.specs.SinkPads.{flush_stops_given}
+use Rattle.flow_model.proofs.Items.{no_stops}
+use Rattle.net_model.proofs.Singles.{grows_last as list_grows}
 
 -- a rule owes no FLUSH_STOP of its own: for no item but FLUSH_STOP, which crosses the element
 abbrev pub HasNoStop : Result (List Item) Fault → Type 0
@@ -26,14 +28,6 @@ stops_append (x ∷ xs) ys = go (is_flush_stop x) (stops_append xs ys)
         → (if b then suc (flush_stops (xs ++ ys)) else flush_stops (xs ++ ys)) ≡ (if b then suc (flush_stops xs) else flush_stops xs) + flush_stops ys
     go true e = omega (arith, e)
     go false e = e
-
-no_stops : (xs : List Item) → has_flush_stop xs ≡ false → flush_stops xs ≡ 0
-no_stops [] h = refl
-no_stops (x ∷ xs) h = go (is_flush_stop x) h (no_stops xs)
-  where
-    go : (b : Bool) → (if b then true else has_flush_stop xs) ≡ false → (has_flush_stop xs ≡ false → flush_stops xs ≡ 0) → (if b then suc (flush_stops xs) else flush_stops xs) ≡ 0
-    go true h rest = absurd (cc)
-    go false h rest = rest h
 
 -- without EOS there is no FLUSH_STOP either
 none_filtered : (xs : List Item) → has_flush_stop xs ≡ false → has_flush_stop (filter not_eos xs) ≡ false
@@ -86,57 +80,6 @@ all_stops respond none s (c ∷ cs) =
 -- as many FLUSH_STOPs are owed as were given
 pub owed_stops : (respond : Response) → OwesNoStop respond → (calls : List Call) → flush_stops (owed_for respond calls) ≡ flush_stops_given calls
 owed_stops respond none calls = all_stops respond none unfed calls ∙ omega arith
-
--- a list without FLUSH_STOP is one section
-pub one_section : (more : List Item) → flush_stops more ≡ 0 → section 0 more ≡ more
-one_section [] n = refl
-one_section (x ∷ xs) n = go (is_flush_stop x) (one_section xs) n
-  where
-    go : (b : Bool) → (flush_stops xs ≡ 0 → section 0 xs ≡ xs) → (if b then suc (flush_stops xs) else flush_stops xs) ≡ 0 → (if b then [] else x ∷ section 0 xs) ≡ x ∷ xs
-    go true rest n = absurd (omega (arith, n))
-    go false rest n = ap (λ zs. x ∷ zs) (rest n)
-
-suc_same : (a b : ℕ) → suc a ≡ suc b → a ≡ b
-suc_same a b e = omega (arith, e)
-
--- what comes behind the last FLUSH_STOP is in the last section
-last_section : (j : ℕ) (xs more : List Item) → flush_stops xs ≡ j → flush_stops more ≡ 0 → section j (xs ++ more) ≡ section j xs ++ more
-last_section zero [] more e n = one_section more n
-last_section (suc j) [] more e n = absurd (omega (arith, e))
-last_section zero (x ∷ xs) more e n = go (is_flush_stop x) (last_section zero xs more) e
-  where
-    go : (b : Bool) → (flush_stops xs ≡ 0 → flush_stops more ≡ 0 → section 0 (xs ++ more) ≡ section 0 xs ++ more) → (if b then suc (flush_stops xs) else flush_stops xs) ≡ 0
-        → (if b then [] else x ∷ section 0 (xs ++ more)) ≡ (if b then [] else x ∷ section 0 xs) ++ more
-    go true rest e = absurd (omega (arith, e))
-    go false rest e = ap (λ zs. x ∷ zs) (rest e n)
-last_section (suc j) (x ∷ xs) more e n = go (is_flush_stop x) (last_section j xs more) (last_section (suc j) xs more) e
-  where
-    go : (b : Bool) → (flush_stops xs ≡ j → flush_stops more ≡ 0 → section j (xs ++ more) ≡ section j xs ++ more)
-        → (flush_stops xs ≡ suc j → flush_stops more ≡ 0 → section (suc j) (xs ++ more) ≡ section (suc j) xs ++ more) → (if b then suc (flush_stops xs) else flush_stops xs) ≡ suc j
-        → (if b then section j (xs ++ more) else section (suc j) (xs ++ more)) ≡ (if b then section j xs else section (suc j) xs) ++ more
-    go true rest here e = rest (suc_same _ _ e) n
-    go false rest here e = here e n
-
--- the sections before it stay
-earlier_section : (j : ℕ) (xs more : List Item) → j < flush_stops xs → section j (xs ++ more) ≡ section j xs
-earlier_section j [] more l = absurd (omega (arith, l))
-earlier_section zero (x ∷ xs) more l = go (is_flush_stop x) (earlier_section zero xs more) l
-  where
-    go : (b : Bool) → (0 < flush_stops xs → section 0 (xs ++ more) ≡ section 0 xs) → 0 < (if b then suc (flush_stops xs) else flush_stops xs)
-        → (if b then [] else x ∷ section 0 (xs ++ more)) ≡ (if b then [] else x ∷ section 0 xs)
-    go true rest l = refl
-    go false rest l = ap (λ zs. x ∷ zs) (rest l)
-earlier_section (suc j) (x ∷ xs) more l = go (is_flush_stop x) (earlier_section j xs more) (earlier_section (suc j) xs more) l
-  where
-    go : (b : Bool) → (j < flush_stops xs → section j (xs ++ more) ≡ section j xs) → (suc j < flush_stops xs → section (suc j) (xs ++ more) ≡ section (suc j) xs)
-        → suc j < (if b then suc (flush_stops xs) else flush_stops xs)
-        → (if b then section j (xs ++ more) else section (suc j) (xs ++ more)) ≡ (if b then section j xs else section (suc j) xs)
-    go true rest here l = rest (omega (arith, l))
-    go false rest here l = here l
-
-list_grows : (j : ℕ) (cuts : List (ℕ × ℕ)) (xs more : List Item) → flush_stops xs ≡ j + length cuts → flush_stops more ≡ 0 → Grows j cuts (λ i. section i xs) (λ i. section i (xs ++ more)) more
-list_grows j [] xs more e n = last_section j xs more (e ∙ omega arith) n
-list_grows j (c ∷ cuts) xs more e n = (earlier_section j xs more (omega (arith, e)), list_grows (suc j) cuts xs more (e ∙ omega arith) n)
 
 -- An item of a rule that owes no FLUSH_STOP of its own: with a cut for each FLUSH_STOP that was taken, the earlier sections
 -- stay, and what is put out is owed more in the last.

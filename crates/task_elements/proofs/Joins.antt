@@ -6,10 +6,10 @@ use Rattle.gst_item.specs.declared.out.Out.{Out}
 use Rattle.flow_model.specs.declared.fault.ElementFault.{ElementFault}
 use Rattle.flow_model.specs.Item.{Item, is_flush_stop}
 use Rattle.flow_model.specs.Call.{Call, Feed}
-use Rattle.flow_model.specs.Rule.{Owed, Rule}
+use Rattle.flow_model.specs.Rule.{Owed, Rule, Answers}
 use Rattle.flow_model.specs.Feeding.{on_pad}
 use Rattle.flow_model.specs.SinkPads.{push_calls}
-use Rattle.net_model.specs.Moment.{Answers, Behavior}
+use Rattle.net_model.specs.Moment.{Behavior}
 use Rattle.net_model.specs.Pad.{Grows}
 use Rattle.net_model.specs.Takes.{OwesMore, Takes}
 use Rattle.el_set.specs.declared.join.JoinElement.{JoinElement}

@@ -1,5 +1,5 @@
 -- A rule that owes EOS for EOS, and neither EOS nor FLUSH_STOP in front of it, owes nothing behind an EOS in any section.
-use Rattle.std.proofs.Common.{◌≡◌, ℕ, zero, suc, Bool, true, false, ◌||◌, if◌then◌else◌, List, [], ◌∷◌, ◌++◌, filter, refl, sym, ap, ◌∙◌, subst, Result, Ok, Err}
+use Rattle.std.proofs.Common.{◌≡◌, ℕ, Bool, true, false, if◌then◌else◌, List, [], ◌∷◌, ◌++◌, filter, refl, sym, ap, ◌∙◌, subst, Result, Ok, Err}
 use Rattle.flow_model.specs.Item.{Item, Ev, Eos, is_flush_stop, is_eos}
 use Rattle.flow_model.specs.Sticky.{has_flush_stop}
 use Rattle.flow_model.specs.Section.{section, IsPlain}
@@ -7,56 +7,7 @@ use Rattle.flow_model.specs.Call.{Call, Feed, Act, Drain, Set}
 use Rattle.flow_model.specs.Rule.{Response, Fault, Fed, unfed, responded, flushed, not_eos, drained, called, all_called, owed_for}
 use Rattle.el_set.proofs.Ending.{AreInner, EndsAs, OwesEos, IsEnding, eos_of}
 use Rattle.task_elements.proofs.Growing.{HasNoStop, OwesNoStop}
-
--- whether a section is over behind an item, and behind a list
-abbrev end_after : Bool → Item → Bool
-end_after b x = if is_flush_stop x then false else (b || is_eos x)
-
-abbrev ended : Bool → List Item → Bool
-ended b [] = b
-ended b (x ∷ xs) = ended (end_after b x) xs
-
--- in no section anything stands behind EOS
-abbrev Sound : Bool → List Item → Type 0
-Sound b [] = Unit {0}
-Sound b (x ∷ xs) = (is_flush_stop x ≡ false → b ≡ false) × Sound (end_after b x) xs
-
-sound_append : (b : Bool) (xs ys : List Item) → Sound b xs → Sound (ended b xs) ys → Sound b (xs ++ ys)
-sound_append b [] ys h k = k
-sound_append b (x ∷ xs) ys h k = (h.0, sound_append (end_after b x) xs ys h.1 k)
-
-ended_append : (b : Bool) (xs ys : List Item) → ended b (xs ++ ys) ≡ ended (ended b xs) ys
-ended_append b [] ys = refl
-ended_append b (x ∷ xs) ys = ended_append (end_after b x) xs ys
-
-sound_over : (xs : List Item) → Sound true xs → section 0 xs ≡ []
-sound_over [] h = refl
-sound_over (x ∷ xs) h = go (is_flush_stop x) h.0
-  where
-    go : (f : Bool) → (f ≡ false → true ≡ false) → (if f then [] else x ∷ section 0 xs) ≡ []
-    go true e = refl
-    go false e = let no : true ≡ false = e refl in absurd (cc)
-
-sound_plain : (j : ℕ) (b : Bool) (xs : List Item) → Sound b xs → IsPlain (section j xs)
-sound_plain zero b [] h = tt
-sound_plain (suc j) b [] h = tt
-sound_plain zero b (x ∷ xs) h = go (is_flush_stop x) refl (sound_plain zero (end_after b x) xs h.1)
-  where
-    after_eos : is_flush_stop x ≡ false → is_eos x ≡ true → end_after b x ≡ true
-    after_eos f e = rw (f, h.0 f, e) refl
-
-    go : (f : Bool) → is_flush_stop x ≡ f → IsPlain (section 0 xs) → IsPlain (if f then [] else x ∷ section 0 xs)
-    go true f rest = tt
-    go false f rest = (f, (λ e. sound_over xs (subst (λ (c : Bool). Sound c xs) (after_eos f e) h.1)), rest)
-sound_plain (suc j) b (x ∷ xs) h = go (is_flush_stop x) (sound_plain j (end_after b x) xs h.1) (sound_plain (suc j) (end_after b x) xs h.1)
-  where
-    go : (f : Bool) → IsPlain (section j xs) → IsPlain (section (suc j) xs) → IsPlain (if f then section j xs else section (suc j) xs)
-    go true past same = past
-    go false past same = same
-
--- items that are neither EOS nor FLUSH_STOP, and EOS behind them where the item is one
-after_inner : (y : Item) → is_flush_stop y ≡ false → is_eos y ≡ false → end_after false y ≡ false
-after_inner y f e = rw (f, e) refl
+use Rattle.flow_model.proofs.Items.{Sound, ended, after_inner, ended_append, sound_append, sound_plain}
 
 inner_sound : (ys : List Item) → AreInner ys → Sound false ys
 inner_sound [] h = tt

@@ -18,6 +18,7 @@ use Rattle.task_elements.specs.declared.element.StreamElement.{StreamElement}
 use Rattle.task_elements.specs.declared.element.StreamElement.TheVariants.{Filter, Queue, Tee, Join, Sink}
 use Rattle.task_elements.specs.Stands.{FilterTook, owes_nothing, passing, StreamStands}
 use Rattle.task_elements.proofs.Plain.{ending_plain}
+use Rattle.flow_model.proofs.Items.{none_behind}
 
 -- a rule of one sink pad, one of several, or one that owes nothing
 data IsOneOf (rule : Rule) : Type 0 where
@@ -59,11 +60,6 @@ owes_in_order bytes (Join join) behavior took t =
     (λ whole begins port j. joins_in_order join.join took whole t.put t.stands begins port j)
 owes_in_order bytes (Sink sink) behavior took t =
     subst (λ (r : Rule). OwesInOrder r took) (sym (ap (λ (b : Behavior). b.owes) t.behavior_is)) (λ whole begins port j. nothing)
-
--- for nothing nothing is owed
-none_behind : (j : ℕ) → section j [] ≡ []
-none_behind zero = refl
-none_behind (suc j) = refl
 
 none_owed : (respond : Response) (pads j : ℕ) → section j (owed_for respond (only (replicate pads []))) ≡ []
 none_owed respond zero j = none_behind j

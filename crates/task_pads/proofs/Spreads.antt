@@ -9,8 +9,9 @@ use Rattle.net_model.specs.Takes.{on_port, AreWithin}
 use Rattle.task_pads.specs.declared.pad.Pad.{Pad}
 use Rattle.task_pads.specs.Pads.{rest_of, waiting_of}
 use Rattle.task_pads.specs.Put.{MovesFirst, Spread, SpreadAt}
-use Rattle.task_pads.proofs.Lists.{some_at, set_here, set_there, map_set, set_length}
+use Rattle.task_pads.proofs.Lists.{some_at, set_there, map_set, set_length}
 use Rattle.task_pads.proofs.Waiting.{on_here, on_other}
+use Rattle.gst_value.proofs.Places.{set_here}
 
 -- of what was put out the rest is still to go to the pads
 pub record SoFar {O : Type 0} (outs rest : List Out) (pads pads' : List (Pad O)) : Type 0 where

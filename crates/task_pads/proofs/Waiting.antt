@@ -9,17 +9,10 @@ use Rattle.flow_model.specs.Item.{Item, is_flush_stop}
 use Rattle.net_model.specs.Takes.{on_port, AreWithin}
 use Rattle.task_pads.specs.Behind.{item_of, items_of}
 use Rattle.task_pads.specs.Put.{FirstNoFlush}
+use Rattle.flow_model.proofs.Items.{none_first as first_free}
 
 pub items_push : (outs : List Out) (out : Out) → items_of (outs ++ out ∷ []) ≡ items_of outs ++ out.item ∷ []
 items_push outs out = map-append item_of outs (out ∷ [])
-
--- the first of a list without FLUSH_STOP, and the others
-pub first_free : (x : Item) (xs : List Item) → has_flush_stop (x ∷ xs) ≡ false → (is_flush_stop x ≡ false) × (has_flush_stop xs ≡ false)
-first_free x xs free = go (is_flush_stop x) free
-  where
-    go : (b : Bool) → (if b then true else has_flush_stop xs) ≡ false → (b ≡ false) × (has_flush_stop xs ≡ false)
-    go true e = absurd (let k : true ≡ false = e in cc)
-    go false e = (refl, e)
 
 free_more : (x : Item) (xs : List Item) → is_flush_stop x ≡ false → has_flush_stop xs ≡ false → has_flush_stop (x ∷ xs) ≡ false
 free_more x xs one free = rw one free

@@ -1,6 +1,6 @@
 //! An item is offered to the pad at which it waits first.
 ghost use Rattle.std.specs.Prelude.{◌≡◌, ◌<◌, ◌^◌, true, false, [], List, None, OnErr, OnOk};
-ghost use Rattle.flow_model.specs.Item.{is_flush_stop, is_sticky as sticky_test};
+ghost use Rattle.flow_model.specs.Item.{is_flush_stop};
 ghost use Rattle.pad_core.specs.Crossing.{WasKept};
 ghost use Rattle.pad_core.specs.Linking.{has_peer};
 ghost use Rattle.pad_core.specs.SrcPad.{CrossedBy, state_of, crossed_of};
@@ -75,18 +75,10 @@ fn keep(alloc: Global, src: &mut SrcPad, item: &Item) -> Result<(), OutOfMemory>
     let Item::Event(event) = item else {
         return Ok(());
     };
-    if is_sticky(event) {
+    if event.is_sticky() {
         return src.keep(alloc, event);
     }
     Ok(())
-}
-
-/// Whether an event stays in force.
-#[inline(always)]
-fn is_sticky(event: &Event) -> bool
-    ensures { result ≡ sticky_test event.now }
-{
-    !matches!(event, Event::Gap { .. } | Event::FlushStop { .. })
 }
 
 /// A pad of this number that nothing crossed, linked to a sink pad.

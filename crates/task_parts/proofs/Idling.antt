@@ -15,8 +15,7 @@ use Rattle.task_pads.specs.Put.{IsTaken}
 use Rattle.task_parts.specs.declared.part.Part.{Part}
 use Rattle.task_parts.specs.Gathered.{is_nothing, pads_idle, pads_idle_below}
 use Rattle.task_parts.specs.Idle.{idle_before, part_idle}
-use Rattle.task_parts.proofs.Outs.{both}
-use Rattle.gst_value.proofs.Basics.{some_same, and_left, and_right}
+use Rattle.gst_value.proofs.Basics.{some_same, and_left, and_right, and_both as both}
 
 pub nothing_is : {A : Type 0} (xs : List A) → is_nothing xs ≡ true → xs ≡ []
 nothing_is [] e = refl

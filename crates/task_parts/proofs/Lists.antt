@@ -1,15 +1,11 @@
 -- Places of lists.
-use Rattle.std.proofs.Common.{◌≡◌, ◌⊎◌, ℕ, zero, suc, List, [], ◌∷◌, ◌++◌, map, get_or, Some, refl, sym, ap, ◌∙◌, subst, inl, inr}
+use Rattle.std.proofs.Common.{◌≡◌, ◌⊎◌, ℕ, List, [], ◌∷◌, ◌++◌, map, get_or, Some, refl, sym, ap, ◌∙◌, subst, inl, inr}
 use Rattle.std.specs.Prelude.{slice_get, slice_set}
-use Rattle.task_pads.proofs.Lists.{some_at, set_here, set_there}
+use Rattle.task_pads.proofs.Lists.{some_at, set_there}
 use Rattle.std.proofs.lemmas.Bool.{cases_eq}
 use Rattle.std.proofs.lemmas.Option.{slice_get_within}
 use Rattle.gst_value.proofs.Basics.{some_same}
-
-pub set_at : {A : Type 0} (xs : List A) (k : ℕ) (x y : A) → slice_get xs k ≡ Some x → slice_get (slice_set xs k y) k ≡ Some y
-set_at [] k x y e = absurd cc
-set_at (z ∷ xs) zero x y e = refl
-set_at (z ∷ xs) (suc k) x y e = set_at xs k x y e
+use Rattle.gst_value.proofs.Places.{map_get, map_got as get_map, set_here}
 
 -- what holds at each place, where one is set
 pub each_set : {A : Type 0} (xs ys : List A) (t : ℕ) (y : A) (P Q : ℕ → A → Type 0) → ys ≡ slice_set xs t y → ((k : ℕ) (x : A) → slice_get xs k ≡ Some x → P k x)
@@ -25,26 +21,11 @@ each_set {A = A} xs ys t y P Q set p f q k x e = go (cases_eq k t)
         subst (λ j. Q j x) (sym i) (subst (Q t) (sym same) q)
     go (inr n) = let old : slice_get xs k ≡ Some x = sym (set_there xs t k y n) ∙ there in f k x n old (p k x old)
 
--- lists of the same shape
-pub map_get : {A B : Type 0} (f : A → B) (xs : List A) (k : ℕ) (x : A) → slice_get xs k ≡ Some x → slice_get (map f xs) k ≡ Some (f x)
-map_get f [] k x e = absurd cc
-map_get f (y ∷ xs) zero x e = ap (λ z. Some (f z)) (some_same e)
-map_get f (y ∷ xs) (suc k) x e = map_get f xs k x e
-
-pub get_map : {A B : Type 0} (f : A → B) (xs : List A) (k : ℕ) (z : B) → slice_get (map f xs) k ≡ Some z → (x : A) × (slice_get xs k ≡ Some x) × (z ≡ f x)
-get_map f [] k z e = absurd cc
-get_map f (x ∷ xs) zero z e = (x, refl, sym (some_same e))
-get_map f (x ∷ xs) (suc k) z e = get_map f xs k z e
-
 pub map_back : {A B : Type 0} (f : A → B) (xs ys : List A) → map f ys ≡ map f xs → (k : ℕ) (y : A) → slice_get ys k ≡ Some y → (x : A) × (slice_get xs k ≡ Some x) × (f y ≡ f x)
 map_back {B = B} f xs ys s k y e = get_map f xs k (f y) (ap (λ (zs : List B). slice_get zs k) (sym s) ∙ map_get f ys k y e)
 
 pub at_get : {A : Type 0} (xs : List A) (k : ℕ) (x y : A) → slice_get xs k ≡ Some x → y ≡ get_or xs k y → y ≡ x
 at_get xs k x y e s = some_same (sym (some_at xs k y (slice_get_within xs k x e) s) ∙ e)
-
-pub nil_append : {A : Type 0} (xs : List A) → xs ++ [] ≡ xs
-nil_append [] = refl
-nil_append {A = A} (x ∷ xs) = ap (λ (ys : List A). x ∷ ys) (nil_append xs)
 
 pub append_more : {A : Type 0} (xs ys zs : List A) → (xs ++ ys) ++ zs ≡ xs ++ (ys ++ zs)
 append_more [] ys zs = refl

@@ -10,9 +10,10 @@ use Rattle.task_pads.specs.Pads.{IsLoose, Rest, waiting_of}
 use Rattle.task_parts.specs.declared.part.Part.{Part}
 use Rattle.task_parts.specs.Moved.{CanGive}
 use Rattle.task_parts.specs.Part.{CanTakeBackAt, PartGave}
-use Rattle.task_pads.proofs.Lists.{set_here, set_length, set_there}
+use Rattle.task_pads.proofs.Lists.{set_length, set_there}
 use Rattle.task_parts.proofs.Lists.{at_get}
 use Rattle.gst_value.proofs.Basics.{some_same}
+use Rattle.gst_value.proofs.Places.{set_here}
 
 module _ {E O : Type 0} {e : elements.Ghosts E} where
   pub giver_at : (parts : List (Part E O e)) (from port : ℕ) (g : CanGive parts from port) (y : Part E O e) → y ≡ get_or parts from y → slice_get y.pads.items port ≡ Some g.pad

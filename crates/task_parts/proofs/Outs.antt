@@ -16,15 +16,7 @@ use Rattle.task_pads.specs.Put.{Spread, SpreadAt}
 use Rattle.pad_core.specs.SrcPad.{state_of}
 use Rattle.task_parts.specs.Gathered.{AreFilled, are_linked, are_within, linked_else}
 use Rattle.task_parts.proofs.Lists.{map_over}
-use Rattle.gst_value.proofs.Basics.{and_left, and_right, some_same}
-
-pub both : (a b : Bool) → a ≡ true → b ≡ true → (a && b) ≡ true
-both true b e f = f
-both false b e f = absurd cc
-
-not_true : (b : Bool) → not b ≡ true → b ≡ false
-not_true true e = absurd cc
-not_true false e = refl
+use Rattle.gst_value.proofs.Basics.{and_left, and_right, some_same, and_both as both, not_false as not_true, or_first, or_second as or_yes}
 
 not_false : (b : Bool) → b ≡ false → not b ≡ true
 not_false true e = absurd cc
@@ -106,14 +98,6 @@ pub eaten : (r : Result (Unit {0}) Refusal) (stood stands : Behavior → List (L
     → are_within n outs ≡ true → are_within n' outs' ≡ true
 eaten (Ok u) stood stands n n' pad item outs outs' t o p w = subst (λ (k : ℕ). are_within k outs' ≡ true) (sym p) (within_append n outs t.more outs' t.appended w t.within)
 eaten (Err x) stood stands n n' pad item outs outs' t o p w = subst (λ (k : ℕ). are_within k outs' ≡ true) (sym p) (subst (λ (os : List Out). are_within n os ≡ true) (sym o) w)
-
-or_yes : (a b : Bool) → b ≡ true → (a || b) ≡ true
-or_yes true b e = refl
-or_yes false b e = e
-
-or_first : (a b : Bool) → a ≡ true → (a || b) ≡ true
-or_first true b e = refl
-or_first false b e = absurd cc
 
 or_none : (a b : Bool) → a ≡ false → b ≡ false → (a || b) ≡ false
 or_none true b e f = absurd cc

@@ -36,9 +36,10 @@ use Rattle.task_parts.specs.Part.{PadSet, PartCrossed}
 use Rattle.task_parts.specs.Passing.{AfterSource, CrossesSource, HasPort, RowAsked}
 use Rattle.task_parts.specs.Shape.{PartShape, goes_within, has_number, pads_within, part_shape}
 use Rattle.task_pads.proofs.Lists.{map_set}
-use Rattle.task_parts.proofs.Lists.{at_get, map_get, set_at}
+use Rattle.task_parts.proofs.Lists.{at_get}
 use Rattle.task_parts.proofs.Turns.{set_shape}
 use Rattle.gst_value.proofs.Basics.{some_same, and_left, and_right}
+use Rattle.gst_value.proofs.Places.{map_get, set_at}
 
 abbrev pub ok_of : Tried → Result Tried TaskFault
 ok_of answer = Ok answer

@@ -8,7 +8,6 @@ use Rattle.flow_model.specs.Call.{Feed}
 use Rattle.flow_model.specs.Item.{Item}
 use Rattle.flow_model.specs.SinkPads.{push_calls}
 use Rattle.net_model.specs.declared.element.TaskElement as elements
-use Rattle.net_model.specs.Failures.{NeverFalls}
 use Rattle.net_model.specs.Takes.{Takes, on_port}
 use Rattle.task_pads.specs.declared.pad.Pad.{Pad}
 use Rattle.task_pads.specs.Pads.{PadShape, pad_shape, waiting_of}
@@ -17,9 +16,11 @@ use Rattle.task_parts.specs.declared.part.Part.{Part}
 use Rattle.task_parts.specs.Part.{PadSet, PartFed, PartSettled}
 use Rattle.task_parts.specs.Shape.{PartShape, has_number, part_shape}
 use Rattle.task_pads.proofs.Lists.{map_set}
-use Rattle.task_parts.proofs.Lists.{append_more, nil_append}
+use Rattle.task_parts.proofs.Lists.{append_more}
 use Rattle.task_parts.proofs.Outs.{on_port_append}
 use Rattle.gst_value.proofs.Basics.{some_same}
+use Rattle.gst_value.proofs.Places.{nil_append}
+use Rattle.gst_outside.specs.Causes.{NeverFalls}
 
 abbrev pub shape_with : ℕ → List PadShape → PartShape
 shape_with number pads = record { number = number; pads = pads }

@@ -9,7 +9,7 @@ use Rattle.net_model.specs.Moment.{Behavior}
 use Rattle.flow_model.specs.SinkPads.{push_calls}
 use Rattle.net_model.specs.declared.element.TaskElement as elements
 use Rattle.net_model.specs.declared.refusal.Refusal.{Refusal}
-use Rattle.net_model.specs.Failures.{IsWriteCause, NeverFalls}
+use Rattle.net_model.specs.Failures.{IsWriteCause}
 use Rattle.net_model.specs.Refuses.{RefusesBy}
 use Rattle.net_model.specs.Takes.{OwesMore, on_port}
 use Rattle.task_pads.specs.declared.pad.Pad.{Pad}
@@ -20,6 +20,7 @@ use Rattle.task_pads.specs.Put.{IsTaken}
 use Rattle.task_pads.specs.Crossing.{IsCrossing}
 use Rattle.task_parts.specs.declared.part.Part.{Part}
 use Rattle.task_parts.specs.Gathered.{AreFilled, linked_else}
+use Rattle.gst_outside.specs.Causes.{NeverFalls}
 
 module _ {E O : Type 0} {e : elements.Ghosts E} where
   -- what waits at the pad of a port: what is there, and what was put out for it and is to go there

@@ -1,14 +1,14 @@
 //! Where the items of a task come from.
 ghost use Rattle.std.specs.Prelude.{◌≡◌, ◌≤◌, ◌^◌, List, IfOk, IfErr, OnErr};
-ghost use Rattle.net_model.specs.Failures.{IsReadCause, NeverFalls};
+ghost use Rattle.net_model.specs.Failures.{IsReadCause};
+ghost use Rattle.gst_outside.specs.Causes.{NeverFalls};
 ghost use Rattle.net_model.specs.Gives.{Gives, count_after};
 ghost use Rattle.net_model.specs.Short.{StopsShort};
 ghost use Rattle.task_parts.specs.declared.head.Given.TheVariants.{FlushStop as FlushGiven};
 ghost use Rattle.flow_model.specs.Item.{Item};
-ghost use Rattle.flow_model.specs.Item.{is_flush_stop as flush_test};
 
 use crate::find::MOST_ITEMS;
-use gst_item::{Event, Item};
+use gst_item::Item;
 use inlet_row::InletRow;
 use lane_core::{Inlet, Outlet};
 use net_model::{TaskSource, Unread};
@@ -96,7 +96,7 @@ impl<S: TaskSource, O: Outlet> SourceHead<S, O> {
         }
         match ask(alloc, &mut self.source, &mut self.given) {
             Ok(Some(item)) => {
-                if is_flush_stop(&item) {
+                if item.is_flush_stop() {
                     return Ok(give_up(item));
                 }
                 self.pad.push_reserved(item);
@@ -171,13 +171,6 @@ impl<I: Inlet> InletHead<I> {
         }
         None
     }
-}
-
-/// Whether an item is FLUSH_STOP.
-pub(crate) fn is_flush_stop(item: &Item) -> bool
-    ensures { result ≡ flush_test item.now }
-{
-    matches!(item, Item::Event(Event::FlushStop { .. }))
 }
 
 /// A source gives its next item, which is counted.

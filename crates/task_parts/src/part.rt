@@ -3,7 +3,8 @@ ghost use Rattle.std.specs.Prelude.{◌≡◌, true, false, List, vec_len, IfErr
 ghost use Rattle.flow_model.specs.Call.{Call};
 ghost use Rattle.flow_model.specs.Item.{is_flush_stop};
 ghost use Rattle.net_model.specs.Moment.{Behavior};
-ghost use Rattle.net_model.specs.Failures.{NeverFalls, IsWriteCause};
+ghost use Rattle.net_model.specs.Failures.{IsWriteCause};
+ghost use Rattle.gst_outside.specs.Causes.{NeverFalls};
 ghost use Rattle.net_model.specs.Refuses.{RefusesBy};
 ghost use Rattle.net_model.specs.Takes.{Takes};
 ghost use Rattle.task_parts.specs.Gathered.{are_within, pads_idle_below};

@@ -6,14 +6,14 @@ ghost use Rattle.task_parts.specs.Moved.{KeepsFront};
 ghost use Rattle.task_parts.specs.Part.{PartReady, IsSettled};
 ghost use Rattle.task_parts.specs.Passing.{CrossesPart, CrossesSource, GivesAs, TakesNext, Settles, HasPort, InletsReady, RowAsked, RowFed};
 ghost use Rattle.task_pads.specs.Pads.{PadReady, crossed_count, goes_of, number_of, pad_shape, rest_of};
-ghost use Rattle.net_model.specs.Failures.{NeverFalls};
+ghost use Rattle.gst_outside.specs.Causes.{NeverFalls};
 ghost use Rattle.task_parts.specs.Shape.{goes_within, has_number, pads_within, part_shape};
 ghost use Rattle.task_parts.specs.declared.fault.TaskFault.TheVariants.{NotLinked as NotLinkedFault};
 ghost use Rattle.task_parts.specs.declared.step.Tried.TheVariants.{Moved as MovedOn};
 
 use crate::fault::Failure;
 use crate::find::find;
-use crate::head::{Given, InletHead, SourceHead, is_flush_stop};
+use crate::head::{Given, InletHead, SourceHead};
 use crate::moving::{hand_in, hand_on};
 use crate::part::Part;
 use crate::step::{Step, Tried};
@@ -210,7 +210,7 @@ fn feed_row<E: TaskElement, O: Outlet>(
     ensures feeds { RowFed parts.old.items parts.new.items to port item result }
     ensures shape { map part_shape parts.new.items ≡ map part_shape parts.old.items }
 {
-    if is_flush_stop(&item) {
+    if item.is_flush_stop() {
         return Ok(give_up(item));
     }
     let number = parts[to].number();

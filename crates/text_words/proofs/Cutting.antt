@@ -22,7 +22,7 @@ none Space b big = off b 32 big (omega arith)
 no : true ≡ false → ⊥
 no e = cc
 
-separator_ascii : (s : Separator) (b : ℕ) → separates s b ≡ true → b < 128
+pub separator_ascii : (s : Separator) (b : ℕ) → separates s b ≡ true → b < 128
 separator_ascii s b h = elim (cases_lt b 128) [ inl small ↦ small | inr big ↦ absurd (no (sym h ∙ none s b big)) ]
 
 -- the separators at the front are ASCII

@@ -3,15 +3,16 @@ use Rattle.std.proofs.Common.{◌≡◌, ℕ, ◌<◌, ◌≤◌, Bool, true, fa
 use Rattle.std.specs.Char.{encode_utf8}
 use Rattle.std.proofs.lemmas.Bool.{cases_lt}
 use Rattle.std.proofs.lemmas.Str.{encode_ascii}
-use Rattle.text_words.proofs.High.{AllHigh, apart, encode_high, high_head, high_tail, some_bytes}
 use Rattle.text_words.specs.Values.{kept, taken}
 use Rattle.text_words.specs.Words.{after, mode_behind}
 use Rattle.text_words.specs.declared.word.Mode.{Mode}
+use Rattle.gst_value.proofs.Basics.{apart}
+use Rattle.gst_value.proofs.Characters.{AllHigh, encode_high, high_head, high_tail, some_bytes}
 
-abbrev at_mode : Bool → Bool → Mode
+abbrev pub at_mode : Bool → Bool → Mode
 at_mode q e = record { quoted = q; escaped = e }
 
-high_after : (q e : Bool) (b : ℕ) → 128 ≤ b → after (at_mode q e) b ≡ at_mode q false
+pub high_after : (q e : Bool) (b : ℕ) → 128 ≤ b → after (at_mode q e) b ≡ at_mode q false
 high_after q true b h = refl
 high_after q false b h = rw (apart b 34 (λ e. omega (arith, h, e)), apart b 92 (λ e. omega (arith, h, e))) refl
 

@@ -1,5 +1,4 @@
-mod High
-mod Kept
-mod Cutting
+pub mod Kept
+pub mod Cutting
 mod Steps
 mod Numbers

@@ -1,5 +1,5 @@
 -- Decimal digits as `parse` reads them.
-use Rattle.std.proofs.Common.{◌≡◌, ◌∙◌, ◌<◌, ◌^◌, ◌&&◌, ℕ, Bool, true, false, cond, not, eqb, List, [], ◌∷◌, Some, None, Result, Ok, Err, inl, inr, refl, sym, ap, arith, rules, length}
+use Rattle.std.proofs.Common.{◌≡◌, ◌∙◌, ◌<◌, ◌^◌, ◌&&◌, ℕ, true, false, cond, not, eqb, List, [], ◌∷◌, Some, None, Result, Ok, Err, inl, inr, refl, sym, ap, arith, rules, length}
 use Rattle.std.specs.Prelude.{nat_lt}
 use Rattle.std.specs.List.{list_all}
 use Rattle.std.specs.Result.{OkIff}
@@ -8,17 +8,10 @@ use Rattle.std.proofs.lemmas.Bool.{cases_lt}
 use Rattle.std.proofs.lemmas.Str.Parse.{IsNumeralModel, numerals_by_value, parse_digits}
 use Rattle.text_words.specs.Bytes.{is_digit}
 use Rattle.text_words.specs.Values.{are_digits, number_of}
+use Rattle.gst_value.proofs.Basics.{and_left, and_right}
 
 no : false ≡ true → ⊥
 no e = cc
-
-and_left : (a b : Bool) → (a && b) ≡ true → a ≡ true
-and_left true b h = refl
-and_left false b h = absurd (no h)
-
-and_right : (a b : Bool) → (a && b) ≡ true → b ≡ true
-and_right true b h = h
-and_right false b h = absurd (no h)
 
 own : IsNumeralModel (λ ds. list_all is_digit ds ≡ true) (digits_value 10)
 own = numerals_by_value (λ ds. list_all is_digit ds ≡ true) (search rules)

@@ -16,7 +16,7 @@ pub enum Class {
 
 impl Class {
     /// Whether the byte stands in such a run.
-    fn holds(self, byte: u8) -> bool
+    pub fn holds(self, byte: u8) -> bool
         ensures { result ≡ in_class self byte }
     {
         match self {

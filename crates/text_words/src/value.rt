@@ -52,7 +52,7 @@ pub fn read_value(alloc: Global, word: &str) -> Result<Text, WordFault>
 }
 
 /// What stands before and behind the first such ASCII character.
-fn cut(word: &str, mark: char) -> Option<(&str, &str)>
+pub fn cut(word: &str, mark: char) -> Option<(&str, &str)>
     requires { mark < 128 }
     ensures { option_map (λ p. (p.0.now, p.1.now)) result ≡ cut mark word.now }
 {

@@ -1,6 +1,4 @@
 //! Rows of bodies, copies and sticky events.
-ghost use Rattle.std.specs.Prelude.{◌≡◌};
-ghost use Rattle.gst_item.specs.Item.{is_sticky};
 
 use gst_item::*;
 use gst_time::{Format, Segment};
@@ -150,12 +148,6 @@ fn letter_of(event: &Event) -> u8 {
     }
 }
 
-fn is_kept(event: &Event) -> bool
-    ensures { result ≡ is_sticky event.now }
-{
-    !matches!(event, Event::Gap { .. } | Event::FlushStop { .. })
-}
-
 fn letters_in_force(alloc: Global, letters: &[u8]) -> Result<Vec<u8>, Fail> {
     let mut sticky = Sticky::new();
     for letter in letters {
@@ -163,7 +155,7 @@ fn letters_in_force(alloc: Global, letters: &[u8]) -> Result<Vec<u8>, Fail> {
         let Item::Event(event) = item.copy(alloc)? else {
             return Err("an event")?;
         };
-        if is_kept(&event) {
+        if event.is_sticky() {
             sticky.set(event);
         } else {
             sticky.clear_flush();

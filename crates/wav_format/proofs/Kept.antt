@@ -246,10 +246,7 @@ module _ (given longer : List ℕ) (fits : length given ≤ length longer) (same
 
 -- ---- a byte that no format has at a place that decides
 
--- 253 is no byte of a tag, above each number of channels, and the low byte of no block align
-abbrev pub wrong : ℕ
-wrong = 253
-
+-- 253 is the low byte of no block align
 not_block : (channels width : ℕ) → channels ≤ 64 → width ≤ 4 → (channels * width) % 256 ≡ 253 → ⊥
 not_block channels zero few narrow e = omega (arith, e)
 not_block channels (suc zero) few narrow e = let one : channels * 1 ≡ channels = omega arith in omega (arith, e, one)

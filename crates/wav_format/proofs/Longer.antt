@@ -54,7 +54,7 @@ body_same left more long whole =
     ap (λ n. take n (drop 8 (left ++ more))) (size_more left more long) ∙ ap (take (body_size left)) (drop-append-le 8 left more long)
     ∙ take-append-le (body_size left) (drop 8 left) more (omega (arith, length-drop 8 left))
 
-same_spot : (at at' : ℕ) (known known' : Option SampleFormat) (left left' : List ℕ) → at ≡ at' → known ≡ known' → left ≡ left' → ◌≡◌ {A = Spot} (record { at = at; known = known; left = left }) (record { at = at'; known = known'; left = left' })
+pub same_spot : (at at' : ℕ) (known known' : Option SampleFormat) (left left' : List ℕ) → at ≡ at' → known ≡ known' → left ≡ left' → ◌≡◌ {A = Spot} (record { at = at; known = known; left = left }) (record { at = at'; known = known'; left = left' })
 same_spot at at' known known' left left' p q r = cc
 
 format_more : (s : Spot) (more : List ℕ) → 8 ≤ length s.left → chunk_length s.left ≤ length s.left → format_after (ext s more) ≡ format_after s

@@ -7,13 +7,11 @@ use Rattle.wav_format.specs.declared.head.HeadAnswer.TheVariants.{Whole, NeedMor
 use Rattle.wav_format.specs.declared.head.WavKind.TheVariants.{NotRiff, NotWave, NoFmt, BadFmt, TagUnknown, HeadTooLong}
 use Rattle.wav_format.specs.Answers.{AnswerAt, AnswerIn}
 use Rattle.wav_format.specs.Chunks.{IsPassed, Leads, Reaches, Spot, spot_behind, chunk_length, first_chunk, format_after, longest_head}
+use Rattle.wav_format.proofs.Longer.{same_spot}
 
 pub leads_next : (limit chunks : ℕ) (s t : Spot) → Leads limit chunks s t → IsPassed limit t → Leads limit (suc chunks) s (spot_behind t)
 leads_next limit zero s t e p = (subst (IsPassed limit) (sym e) p, ap spot_behind e)
 leads_next limit (suc chunks) s t (first, rest) p = (first, leads_next limit chunks (spot_behind s) t rest p)
-
-same_spot : (at at' : ℕ) (known known' : Option SampleFormat) (left left' : List ℕ) → at ≡ at' → known ≡ known' → left ≡ left' → ◌≡◌ {A = Spot} (record { at = at; known = known; left = left }) (record { at = at'; known = known'; left = left' })
-same_spot at at' known known' left left' p q r = cc
 
 pub reaches_next : (limit : ℕ) (bytes : List ℕ) (place : ℕ) (known : Option SampleFormat) (len : ℕ) (format : Option SampleFormat)
     → Reaches limit bytes (record { at = place; known = known; left = drop place bytes })

@@ -16,7 +16,6 @@ use Rattle.graph_parts.specs.Files.{GraphOpens, WereTold, made_opening, opening_
 use Rattle.graph_parts.specs.Filled.{AreFilled, GivesFor, IsGiverFor, IsMadeFor}
 use Rattle.graph_tasks.specs.Plan.{AreAtHand}
 use Rattle.graph_tasks.specs.Tasks.{IsOf}
-use Rattle.graph_tasks.proofs.Lists.{get_map}
 use Rattle.graph_tasks.proofs.Takes.{some_there, there_some}
 use Rattle.gst_outside.specs.Seen.{Seen}
 use Rattle.gst_outside.specs.declared.sink.Sink as sinks
@@ -35,6 +34,7 @@ use Rattle.task_elements.specs.declared.element.StreamElement.{StreamElement}
 use Rattle.task_elements.specs.declared.source.StreamSource.{StreamSource}
 use Rattle.world_core.proofs.Opened.{element_made, known, sink_at, source_at}
 use Rattle.world_core.proofs.Openers.{IsTold, gives, told_of, written_empty}
+use Rattle.gst_value.proofs.Places.{map_get as get_map}
 
 -- the elements and the sources of tasks are those of streams
 pub record MakesStreams {S K : Type 0} (s : sources.Ghosts S) (k : sinks.Ghosts K) (giver : givers.Ghosts (StreamSource S))

@@ -7,7 +7,7 @@ use Rattle.std.proofs.lemmas.Option.{slice_get_within}
 use Rattle.el_settings.specs.Asked.{sink_pads}
 use Rattle.net_model.specs.declared.element.TaskElement as elements
 use Rattle.net_model.specs.declared.source.TaskSource as givers
-use Rattle.graph_parts.specs.Links.{link_to, place_at}
+use Rattle.graph_parts.specs.Links.{link_to}
 use Rattle.graph_parts.specs.declared.bag.Bag.{Bag}
 use Rattle.graph_parts.specs.declared.bag.BagElement.{BagElement}
 use Rattle.graph_parts.specs.declared.bag.BagHead.{BagHead}
@@ -18,11 +18,10 @@ use Rattle.graph_pads.specs.declared.pad.PadLink.{PadLink}
 use Rattle.graph_pads.specs.declared.pad.PadPlace.{PadPlace}
 use Rattle.graph_tasks.specs.Frames.{HaveBags, IsFrameOf, IsHeadFrame, IsPartFrame, IsWireOf, RoomBy, goes_by}
 use Rattle.graph_tasks.specs.Tasks.{AreTasks, IsHeadOf, IsPadOf, IsPartOf, IsTaskOf, LeadsTo, sink_count}
-use Rattle.graph_tasks.proofs.Lists.{got_within, map_got}
 use Rattle.lane_core.specs.Lane.{Lane}
 use Rattle.lane_core.specs.declared.ends.Inlet as inlets
 use Rattle.lane_core.specs.declared.ends.Outlet as outlets
-use Rattle.graph_core.specs.GraphPlan.{sink_count as sinks_in}
+use Rattle.graph_core.specs.GraphPlan.{sink_count as sinks_in, sink_at as place_at}
 use Rattle.net_task.specs.Frame.{PartFrame, TaskFrame, Wire, frame_of, head_frame, part_frame, room_in, wire_of}
 use Rattle.net_task.specs.declared.task.Task.{Task}
 use Rattle.net_turns.specs.Rests.{AllFramed}
@@ -33,6 +32,7 @@ use Rattle.task_pads.specs.declared.pad.Behind.TheVariants as behinds
 use Rattle.task_pads.specs.declared.pad.Pad.{Pad}
 use Rattle.task_parts.specs.declared.head.Head.{Head}
 use Rattle.task_parts.specs.declared.part.Part.{Part}
+use Rattle.gst_value.proofs.Places.{found_at as got_within, map_got}
 
 -- the sink pads of an element
 sinks_same : (made : List Made) (n : ℕ) → sink_count made n ≡ sinks_in (slice_get made n)

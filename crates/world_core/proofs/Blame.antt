@@ -15,10 +15,9 @@ use Rattle.graph_tasks.specs.Owed.{IsAwaited, IsOwedMore, Refuses, WantsLink, we
 use Rattle.graph_tasks.specs.Runs.{crossed_in}
 use Rattle.graph_tasks.specs.Short.{IsCutShort}
 use Rattle.graph_core.specs.Allowed.{first_pad}
-use Rattle.graph_parts.specs.Links.{place_at}
 use Rattle.graph_core.proofs.NumberedPads.{same_pad}
 use Rattle.el_settings.proofs.Padded.{few_sources}
-use Rattle.graph_core.specs.GraphPlan.{pad_id}
+use Rattle.graph_core.specs.GraphPlan.{pad_id, sink_at as place_at}
 use Rattle.graph_pads.specs.declared.pad.PadPlace.{PadPlace}
 use Rattle.net_model.specs.Moment.{Moment}
 use Rattle.task_parts.specs.Fault.{refusal_fault, unread_fault}

@@ -1,9 +1,8 @@
 -- Choices from one number more.
-use Rattle.std.proofs.Common.{◌≡◌, ◌+◌, ℕ, List, [], ◌∷◌, ◌++◌, Option, None, Some, refl, sym, ap, ◌∙◌, arith}
+use Rattle.std.proofs.Common.{◌≡◌, ◌+◌, ℕ, List, [], ◌∷◌, ◌++◌, Option, None, Some, refl, sym, ap, ◌∙◌}
 use Rattle.std.specs.Prelude.{filter_map}
 use Rattle.std.specs.List.{cons_option, range_with_len}
-use Rattle.std.proofs.lemmas.List.{map-id}
-use Rattle.std.proofs.lemmas.List.FromFn.{map-range_with_len_more}
+use Rattle.gst_value.proofs.Places.{range_more as numbers_more}
 
 -- a choice from a list with one more at its end
 chosen_more : {A B : Type 0} (f : A → Option B) (xs : List A) (x : A) → filter_map f (xs ++ x ∷ []) ≡ filter_map f xs ++ cons_option (f x) []
@@ -14,11 +13,6 @@ chosen_more {B = B} f (y ∷ ys) x = put (f y) (chosen_more f ys x)
         → cons_option found (filter_map f (ys ++ x ∷ [])) ≡ cons_option found (filter_map f ys) ++ cons_option (f x) []
     put None same = same
     put (Some z) same = ap (λ (zs : List B). z ∷ zs) same
-
-numbers_more : (n : ℕ) → range_with_len 0 (n + 1) ≡ range_with_len 0 n ++ n ∷ []
-numbers_more n =
-    sym (map-id (range_with_len 0 (n + 1))) ∙ map-range_with_len_more (λ (k : ℕ). k) 0 n n (omega arith)
-    ∙ ap (λ (xs : List ℕ). xs ++ n ∷ []) (map-id (range_with_len 0 n))
 
 pub chosen_next : {B : Type 0} (f : ℕ → Option B) (n : ℕ) (found : Option B) (was is : List B) → found ≡ f n → was ≡ filter_map f (range_with_len 0 n)
     → is ≡ was ++ cons_option found [] → is ≡ filter_map f (range_with_len 0 (n + 1))

@@ -10,7 +10,7 @@ use Rattle.net_model.specs.declared.source.TaskSource as sources
 use Rattle.flow_model.specs.Item.{Item, buffers}
 use Rattle.graph_parts.specs.BagLaws.{StandsIn}
 use Rattle.graph_parts.specs.declared.bag.Bag.{Bag}
-use Rattle.graph_core.specs.Elements.{Made}
+use Rattle.graph_core.specs.Elements.{Made, has}
 use Rattle.graph_core.specs.Ends.{name_at}
 use Rattle.graph_core.specs.Graph.{made as made_in, links as links_in}
 use Rattle.graph_core.specs.declared.graph.Graph.{Graph}
@@ -20,13 +20,12 @@ use Rattle.graph_tasks.specs.Runs.{crossed_in}
 use Rattle.graph_tasks.proofs.Came.{number_at, there_at}
 use Rattle.graph_tasks.specs.Written.{TaskCrossed}
 use Rattle.graph_parts.specs.Counts.{TasksCounted}
-use Rattle.graph_parts.specs.Ends.{has}
 use Rattle.graph_parts.specs.Files.{OpensAt}
 use Rattle.graph_parts.specs.Put.{IsPutAt, PutBack, was_kept, was_put}
 use Rattle.graph_parts.proofs.OwnFiles.{writing_opens}
 use Rattle.graph_parts.specs.declared.counts.Count.{Count}
 use Rattle.graph_parts.specs.MomentLaws.{place_of}
-use Rattle.graph_parts.specs.Pads.{at_pads, is_pad, source_count}
+use Rattle.graph_parts.specs.Pads.{at_pads, is_pad}
 use Rattle.lane_core.specs.declared.ends.Inlet as inlets
 use Rattle.lane_core.specs.declared.ends.Outlet as outlets
 use Rattle.net_model.specs.Moment.{Moment}
@@ -39,6 +38,7 @@ use Rattle.world_core.specs.Ended.{most_items}
 use Rattle.world_core.specs.Prepared.{HasRoom}
 use Rattle.world_core.specs.Pads.{source_name}
 use Rattle.world_core.specs.Told.{pad_entries, pad_entry, pad_told, pads_told, sink_entries, sink_entry, sink_told, sinks_told}
+use Rattle.graph_parts.specs.Links.{source_count}
 
 -- two choices of the same are one
 same_choice : {A B : Type 0} (f g : A → Option B) (xs : List A) → ((x : A) → f x ≡ g x) → filter_map f xs ≡ filter_map g xs

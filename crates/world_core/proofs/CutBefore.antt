@@ -15,6 +15,7 @@ use Rattle.graph_parts.proofs.OwnFiles.{reader}
 use Rattle.run_files.specs.declared.end.Opening.TheVariants.{Read}
 use Rattle.world_core.specs.Cut.{IsCutBefore}
 use Rattle.el_src.proofs.Blocks.{block_from, blocks_none, blocks_one}
+use Rattle.gst_value.proofs.Places.{nil_behind as not_last, nil_cons as no_more}
 
 -- these are the blocks of the content up to a place
 record CutAt (size place : ℕ) (c : List ℕ) (front : List Item) : Type 0 where
@@ -29,9 +30,6 @@ same_body size place n c far =
     ap (λ k. take size (drop place (take k c))) whole
     ∙ ap (take size) (drop-take place (n - place) c)
     ∙ take-take size (n - place) (drop place c) (omega (arith, far))
-
-no_more : {A : Type 0} {x : A} {xs : List A} → [] ≡ x ∷ xs → ⊥
-no_more e = cc
 
 first_same : {A : Type 0} {x y : A} {xs ys : List A} → x ∷ xs ≡ y ∷ ys → (x ≡ y) × (xs ≡ ys)
 first_same e = (cc, cc)
@@ -59,11 +57,6 @@ blocks_cut size some (x ∷ front) left place c is = go (cases_lt place (length 
               ∙ ap (λ y. y ∷ front) both.0;
         }
     go (inr past) step = absurd (no_more (sym (blocks_none size place c some past) ∙ is))
-
--- lists with the same last item
-not_last : {A : Type 0} (xs : List A) (x : A) → [] ≡ xs ++ x ∷ [] → ⊥
-not_last [] x e = cc
-not_last (y ∷ xs) x e = cc
 
 same_front : {A : Type 0} (xs ys : List A) (x : A) → xs ++ x ∷ [] ≡ ys ++ x ∷ [] → xs ≡ ys
 same_front [] [] x e = refl

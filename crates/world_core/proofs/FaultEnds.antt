@@ -13,8 +13,7 @@ use Rattle.graph_core.specs.Elements.{Made}
 use Rattle.graph_core.specs.Graph.{made as made_in, links as links_in}
 use Rattle.graph_core.specs.declared.graph.Graph.{Graph}
 use Rattle.el_settings.specs.Asked.{source_pads}
-use Rattle.graph_parts.specs.Links.{place_at}
-use Rattle.graph_core.specs.GraphPlan.{pad_id}
+use Rattle.graph_core.specs.GraphPlan.{pad_id, sink_at as place_at}
 use Rattle.graph_pads.specs.declared.pad.PadPlace.{PadPlace}
 use Rattle.graph_tasks.specs.Owed.{went_from}
 use Rattle.graph_tasks.specs.Runs.{crossed_in}

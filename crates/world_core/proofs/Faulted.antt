@@ -33,13 +33,12 @@ use Rattle.gst_outside.specs.declared.source.Source as sources
 use Rattle.lane_core.specs.Lane.{Lane}
 use Rattle.lane_core.specs.declared.ends.Inlet as inlets
 use Rattle.lane_core.specs.declared.ends.Outlet as outlets
-use Rattle.graph_parts.specs.Links.{place_at}
 use Rattle.el_settings.proofs.Padded.{few_sources}
 use Rattle.graph_pads.specs.declared.pad.PadPlace.{PadPlace}
 use Rattle.graph_tasks.proofs.Came.{place_again}
 use Rattle.graph_parts.proofs.Sources.{place_is_pad}
 use Rattle.graph_parts.specs.MomentLaws.{place_of}
-use Rattle.graph_core.specs.GraphPlan.{pad_id}
+use Rattle.graph_core.specs.GraphPlan.{pad_id, sink_at as place_at}
 use Rattle.net_model.specs.Moment.{Moment}
 use Rattle.net_task.specs.declared.task.Task.{Task}
 use Rattle.run_files.specs.Ends.{Known, known_end, known_ends}
@@ -70,6 +69,7 @@ use Rattle.world_core.proofs.Held.{AllBehind, RestHasCame, behind_held}
 use Rattle.world_core.proofs.Openers.{reader_opens, writer_opens}
 use Rattle.world_core.proofs.Parts.{part_held}
 use Rattle.world_core.proofs.Settled.{IsSettled, IsTold, all_bytes, all_written, rendered}
+use Rattle.world_core.proofs.Members.{mapped as mapped_some}
 
 rose_zero : (before after : ℕ) → Rose before after → Rose 0 after
 rose_zero before after rose = omega (arith, rose)
@@ -82,11 +82,6 @@ counts_file faults_of (kinds.Tee tee) n is = absurd (none-some n is)
 counts_file faults_of (kinds.Join join) n is = absurd (none-some n is)
 counts_file faults_of (kinds.Sink (sink_kinds.File file)) n is = (_, refl, same_Some _ n is)
 counts_file faults_of (kinds.Sink (sink_kinds.Fake fake)) n is = absurd (none-some n is)
-
--- what is there of what is there by a map
-mapped_some : {A B : Type 0} (f : A → B) (o : Option A) (y : B) → option_map f o ≡ Some y → (x : A) × (o ≡ Some x) × (f x ≡ y)
-mapped_some f None y is = absurd (none-some y is)
-mapped_some f (Some x) y is = (x, refl, same_Some (f x) y is)
 
 module _ {S K I O L : Type 0} {giver : givers.Ghosts (StreamSource S)} {taker : elements.Ghosts (StreamElement K)} {i : inlets.Ghosts I L O} {o : outlets.Ghosts O L} where
   -- at the moment at which a run met a fault

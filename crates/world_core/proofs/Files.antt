@@ -22,7 +22,6 @@ use Rattle.graph_parts.specs.declared.counts.Count.{Count}
 use Rattle.graph_tasks.specs.Tasks.{IsOf}
 use Rattle.graph_tasks.specs.Wired.{number_in, part_numbers}
 use Rattle.graph_tasks.specs.declared.wired_task.WiredTask.{WiredTask}
-use Rattle.graph_tasks.proofs.Lists.{get_map, get_member, got_within}
 use Rattle.graph_tasks.proofs.Takes.{one_of, without_stays, without_stood}
 use Rattle.gst_outside.specs.Seen.{Seen}
 use Rattle.gst_outside.specs.declared.sink.Sink as sinks
@@ -52,6 +51,8 @@ use Rattle.world_core.proofs.Opened.{element_made, element_writes, end_count, go
 use Rattle.world_core.proofs.Returned.{has_length, put_length, put_none, put_sink, put_source}
 use Rattle.world_core.proofs.Traced.{PartAt, TakenFrom, one_part, part_there, taken_from}
 use Rattle.el_set.proofs.Openings.{read_own, written_own}
+use Rattle.flow_model.proofs.Items.{get_member}
+use Rattle.gst_value.proofs.Places.{found_at as got_within, map_get as get_map}
 
 module _ {S K I O L : Type 0} {giver : givers.Ghosts (StreamSource S)} {taker : elements.Ghosts (StreamElement K)}
     {i : inlets.Ghosts I L O} {o : outlets.Ghosts O L}

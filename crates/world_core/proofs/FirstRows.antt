@@ -4,15 +4,13 @@ use Rattle.std.specs.Prelude.{slice_get}
 use Rattle.std.proofs.lemmas.Option.{slice_get_within}
 use Rattle.net_model.specs.declared.element.TaskElement as elements
 use Rattle.net_model.specs.declared.source.TaskSource as givers
-use Rattle.graph_parts.specs.Links.{place_at}
 use Rattle.graph_parts.specs.declared.bag.Bag.{Bag}
 use Rattle.graph_parts.specs.declared.bag.BagHead.{BagHead}
 use Rattle.graph_core.specs.Elements.{Made}
 use Rattle.graph_pads.specs.declared.pad.PadLink.{PadLink}
-use Rattle.graph_core.specs.GraphPlan.{pad_id}
+use Rattle.graph_core.specs.GraphPlan.{pad_id, sink_at as place_at}
 use Rattle.graph_tasks.specs.Stalled.{lane_at}
 use Rattle.graph_tasks.specs.Tasks.{AreTasks, IsHeadOf, IsRowOf}
-use Rattle.graph_tasks.proofs.Lists.{got_within}
 use Rattle.inlet_row.specs.declared.row.InletRow.{InletRow}
 use Rattle.lane_core.specs.Lane.{Lane}
 use Rattle.lane_core.specs.declared.ends.Inlet as inlets
@@ -22,6 +20,7 @@ use Rattle.net_turns.specs.Alone.{HoldLanes, HoldsAlone}
 use Rattle.task_parts.specs.declared.head.Head.{Head}
 use Rattle.task_parts.specs.declared.head.Head.TheVariants.{Inlets}
 use Rattle.task_parts.specs.declared.head.InletHead.{InletHead}
+use Rattle.gst_value.proofs.Places.{found_at as got_within}
 
 row_to : {I L O : Type 0} (i : inlets.Ghosts I L O) (made : List Made) (links : List PadLink) (n k : ℕ) (row : InletRow I) → IsRowOf i made links n k row
     → HoldsAlone (lane_at made links n k) row

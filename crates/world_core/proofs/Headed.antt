@@ -7,14 +7,14 @@ use Rattle.net_model.specs.declared.element.TaskElement as elements
 use Rattle.net_model.specs.declared.source.TaskSource as givers
 use Rattle.flow_model.specs.Account.{IsMember}
 use Rattle.graph_parts.specs.Bags.{AreBags, IsBag, IsHead, Once, head_number}
-use Rattle.graph_parts.specs.Links.{has, has_inlets, is_head}
+use Rattle.graph_parts.specs.Links.{has_inlets, is_head}
 use Rattle.el_settings.specs.Asked.{is_source}
 use Rattle.graph_parts.specs.declared.bag.Bag.{Bag}
 use Rattle.graph_parts.specs.declared.bag.BagElement.{BagElement}
 use Rattle.graph_parts.specs.declared.bag.BagHead.{BagHead}
 use Rattle.graph_parts.specs.declared.bag.BagHead.TheVariants as bags_of
 use Rattle.graph_parts.proofs.Apart.{heads_have_bags}
-use Rattle.graph_core.specs.Elements.{Made}
+use Rattle.graph_core.specs.Elements.{Made, has}
 use Rattle.graph_pads.specs.declared.pad.PadLink.{PadLink}
 use Rattle.graph_tasks.specs.Tasks.{AreTasks, IsHeadOf, IsOf}
 use Rattle.graph_tasks.specs.Wired.{AreWired, IsWiredHead, source_in, source_numbers}
@@ -22,7 +22,6 @@ use Rattle.graph_tasks.specs.declared.wired_task.WiredHead.{WiredHead}
 use Rattle.graph_tasks.specs.declared.wired_task.WiredHead.TheVariants as plans_of
 use Rattle.graph_tasks.specs.declared.wired_task.WiredTask.{WiredTask}
 use Rattle.graph_tasks.proofs.Graphs.{inlets_no_source}
-use Rattle.graph_tasks.proofs.Lists.{all_at, got_within}
 use Rattle.lane_core.specs.Lane.{Lane}
 use Rattle.lane_core.specs.declared.ends.Inlet as inlets
 use Rattle.lane_core.specs.declared.ends.Outlet as outlets
@@ -33,6 +32,8 @@ use Rattle.task_parts.specs.declared.head.Head.{Head}
 use Rattle.task_parts.specs.declared.head.Head.TheVariants.{Source, Inlets}
 use Rattle.task_parts.specs.declared.head.SourceHead.{SourceHead}
 use Rattle.world_core.proofs.Members.{flat_place}
+use Rattle.graph_tasks.proofs.BlamedFrames.{all_at}
+use Rattle.gst_value.proofs.Places.{found_at as got_within}
 
 -- The source of a head was taken from under its number, and reads its file where it did.
 pub record GivenFrom {S I O : Type 0} (s : givers.Ghosts S) (files : List (Option S)) (plans : List (WiredTask I O)) (k e : ℕ) (x : S) : Type 0 where

@@ -12,7 +12,6 @@ use Rattle.graph_pads.specs.Links.{sink_behind}
 use Rattle.graph_pads.specs.declared.pad.PadLink.{PadLink}
 use Rattle.graph_tasks.specs.Blamed.{IsTold}
 use Rattle.graph_parts.specs.Back.{HasElement, HasSource, IsHead}
-use Rattle.graph_tasks.proofs.Lists.{got_within}
 use Rattle.el_settings.specs.Asked.{source_pads}
 use Rattle.graph_pads.specs.declared.pad.PadPlace.{PadPlace}
 use Rattle.lane_core.specs.Lane.{Lane}
@@ -32,6 +31,7 @@ use Rattle.task_parts.specs.declared.head.Head.{Head}
 use Rattle.task_parts.specs.declared.head.Head.TheVariants.{Source, Inlets}
 use Rattle.task_parts.specs.declared.head.SourceHead.{SourceHead}
 use Rattle.turn_order.specs.declared.order.Order.{Order}
+use Rattle.gst_value.proofs.Places.{found_at as got_within}
 
 module _ {S E I O L : Type 0} {s : givers.Ghosts S} {e : elements.Ghosts E} {i : inlets.Ghosts I L O} {o : outlets.Ghosts O L} where
   -- a run that stopped at a fault met it as it stepped one of its tasks

@@ -7,16 +7,10 @@ use Rattle.std.proofs.lemmas.Bool.{cases_eq}
 use Rattle.std.proofs.lemmas.Option.{same_Some}
 use Rattle.flow_model.specs.Account.{IsMember}
 use Rattle.graph_parts.specs.Bags.{Once}
-use Rattle.graph_parts.proofs.Onces.{in_back, in_either, in_front, once_apart, once_back, once_front}
+use Rattle.graph_parts.proofs.Onces.{in_either, once_apart, once_back, once_front, in_front, in_back}
 use Rattle.graph_tasks.specs.Plan.{without}
 use Rattle.graph_tasks.specs.Tasks.{IsOf}
 use Rattle.graph_tasks.proofs.Takes.{without_first, without_stood}
-
--- a member has a place
-pub member_got : (xs : List ℕ) (n : ℕ) → IsMember n xs → (k : ℕ) × (slice_get xs k ≡ Some n)
-member_got [] n m = absurd m
-member_got (x ∷ xs) n (inl same) = (zero, ap Some (sym same))
-member_got (x ∷ xs) n (inr m) = let r = member_got xs n m in (suc r.0, r.1)
 
 -- a number is a member, or is none
 pub member_or : (xs : List ℕ) (n : ℕ) → IsMember n xs ⊎ (IsMember n xs → ⊥)

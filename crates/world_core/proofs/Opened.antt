@@ -12,7 +12,6 @@ use Rattle.graph_parts.specs.Ends.{at, sink_end, source_end}
 use Rattle.graph_parts.specs.Files.{GraphOpens, made_opening, opening_of}
 use Rattle.graph_parts.specs.Filled.{AreFilled, IsGiverFor, IsMadeFor}
 use Rattle.graph_tasks.specs.Tasks.{IsOf}
-use Rattle.graph_tasks.proofs.Lists.{get_map, map_got}
 use Rattle.graph_tasks.proofs.Takes.{some_there, there_some}
 use Rattle.gst_outside.specs.Seen.{Seen}
 use Rattle.gst_outside.specs.declared.sink.Sink as sinks
@@ -26,6 +25,7 @@ use Rattle.task_elements.specs.Stands.{file_in}
 use Rattle.task_elements.specs.declared.element.StreamElement.{StreamElement}
 use Rattle.task_elements.specs.declared.source.StreamSource.{StreamSource}
 use Rattle.world_core.proofs.Openers.{makes}
+use Rattle.gst_value.proofs.Places.{map_get as get_map, map_got}
 
 -- an end under a number
 pub got_end : {A : Type 0} (xs : List (Option A)) (n : ℕ) (x : Option A) → slice_get xs n ≡ Some x → get_or xs n None ≡ x

@@ -1,11 +1,11 @@
 -- Where nothing is left of a graph's run, and each live head has ended, the run is over.
-use Rattle.std.proofs.Common.{◌≡◌, ◌<◌, ◌+◌, ◌%◌, ℕ, zero, suc, Bool, true, false, if◌then◌else◌, List, [], ◌∷◌, ◌++◌, Option, None, Some, map, append-nil, refl, sym, ap, ◌∙◌, subst, arith}
+use Rattle.std.proofs.Common.{◌≡◌, ◌<◌, ◌+◌, ◌%◌, ℕ, zero, suc, Bool, true, false, if◌then◌else◌, List, [], ◌++◌, Option, None, Some, map, append-nil, refl, sym, ap, ◌∙◌, subst, arith}
 use Rattle.std.specs.Prelude.{slice_get}
 use Rattle.std.specs.List.{range_with_len}
 use Rattle.std.specs.Option.{option_map_or}
 use Rattle.el_settings.specs.Asked.{is_source, source_pads}
 use Rattle.el_settings.proofs.Roles.{source_no_sink}
-use Rattle.flow_model.specs.Call.{Call, feeds, items}
+use Rattle.flow_model.specs.Call.{Call, feeds}
 use Rattle.flow_model.specs.Feeding.{has_eos}
 use Rattle.flow_model.specs.Item.{Item, eos_among}
 use Rattle.net_model.specs.Moment.{Moment}
@@ -13,13 +13,13 @@ use Rattle.net_model.specs.Over.{AllEnded, list_ended}
 use Rattle.net_model.specs.declared.element.TaskElement as elements
 use Rattle.net_model.specs.declared.source.TaskSource as givers
 use Rattle.graph_parts.specs.Bags.{AreBags, IsBag, IsHead}
-use Rattle.graph_parts.specs.Links.{has, is_head, place_at}
+use Rattle.graph_parts.specs.Links.{is_head}
 use Rattle.graph_parts.specs.declared.bag.Bag.{Bag}
 use Rattle.graph_parts.specs.declared.bag.BagHead.{BagHead}
 use Rattle.graph_parts.specs.declared.bag.BagHead.TheVariants as bags_of
-use Rattle.graph_core.specs.Elements.{Made}
+use Rattle.graph_core.specs.Elements.{Made, has}
 use Rattle.graph_core.specs.Graph.{IsSound, is_live, made as made_in, links as links_in}
-use Rattle.graph_core.specs.GraphPlan.{pad_id, sink_count}
+use Rattle.graph_core.specs.GraphPlan.{pad_id, sink_count, sink_at as place_at}
 use Rattle.graph_core.specs.declared.graph.Graph.{Graph}
 use Rattle.graph_pads.specs.declared.pad.PadPlace.{PadPlace}
 use Rattle.graph_core.proofs.NumberedPads.{owner_at, port_at}
@@ -33,7 +33,6 @@ use Rattle.graph_tasks.proofs.EndedEos.{ended_has}
 use Rattle.graph_parts.specs.Pads.{is_pad}
 use Rattle.graph_parts.specs.Plans.{tight_rule}
 use Rattle.graph_parts.proofs.Sources.{owner_is, place_is_pad}
-use Rattle.graph_tasks.proofs.Lists.{all_at, got_within}
 use Rattle.std.proofs.lemmas.Option.{slice_get_within}
 use Rattle.lane_core.specs.declared.ends.Inlet as inlets
 use Rattle.lane_core.specs.declared.ends.Outlet as outlets
@@ -42,6 +41,9 @@ use Rattle.net_task.specs.declared.task.Task.{Task}
 use Rattle.net_turns.specs.Ends.{HeadIsOver, NothingLeft, head_number}
 use Rattle.world_core.specs.Over.{IsOver}
 use Rattle.world_core.proofs.TaskHeads.{task_with}
+use Rattle.flow_model.proofs.Items.{items_feeds as items_of}
+use Rattle.graph_tasks.proofs.BlamedFrames.{all_at}
+use Rattle.gst_value.proofs.Places.{found_at as got_within}
 
 -- the list at a place of those that were given
 ended_at : (f : ℕ → List Item) (start n k : ℕ) → AllEnded (map feeds (map f (range_with_len start n))) → k < n → has_eos (feeds (f (start + k))) ≡ true
@@ -50,10 +52,6 @@ ended_at f start (suc n) zero all w = ap (λ (j : ℕ). has_eos (feeds (f j))) (
 ended_at f start (suc n) (suc k) all w =
     ap (λ (j : ℕ). has_eos (feeds (f j))) (let same : start + suc k ≡ (start + 1) + k = omega arith in same)
     ∙ ended_at f (start + 1) n k all.1 (omega (arith, w))
-
-items_of : (xs : List Item) → items (feeds xs) ≡ xs
-items_of [] = refl
-items_of (x ∷ xs) = ap (λ (ys : List Item). x ∷ ys) (items_of xs)
 
 has_among : (xs : List Item) → has_eos (feeds xs) ≡ true → eos_among xs ≡ true
 has_among xs is = ended_has xs (sym (ap list_ended (items_of xs)) ∙ is)

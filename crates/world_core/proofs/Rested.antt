@@ -9,14 +9,13 @@ use Rattle.flow_model.specs.Account.{IsMember}
 use Rattle.flow_model.specs.Item.{Item}
 use Rattle.graph_parts.specs.Bags.{IsBag, IsHead, head_cells, number_of}
 use Rattle.graph_parts.specs.BagLaws.{StandsIn}
-use Rattle.graph_parts.specs.Links.{has}
 use Rattle.el_settings.proofs.Roles.{end_sinks}
 use Rattle.el_settings.specs.Asked.{is_source}
 use Rattle.graph_parts.specs.declared.bag.Bag.{Bag}
 use Rattle.graph_parts.specs.declared.bag.BagElement.{BagElement}
 use Rattle.graph_parts.specs.declared.bag.BagHead.{BagHead}
 use Rattle.graph_parts.specs.declared.bag.BagHead.TheVariants as bags_of
-use Rattle.graph_core.specs.Elements.{Made}
+use Rattle.graph_core.specs.Elements.{Made, has}
 use Rattle.graph_core.specs.Graph.{made as made_in, links as links_in}
 use Rattle.graph_core.specs.declared.graph.Graph.{Graph}
 use Rattle.graph_tasks.specs.Written.{HasAll}
@@ -24,7 +23,6 @@ use Rattle.graph_parts.specs.Files.{OpensAt}
 use Rattle.graph_tasks.specs.Tasks.{IsOf}
 use Rattle.graph_tasks.specs.Wired.{number_in, part_numbers}
 use Rattle.graph_tasks.specs.declared.wired_task.WiredTask.{WiredTask}
-use Rattle.graph_tasks.proofs.Lists.{all_at, get_map, get_member, got_within, map_got}
 use Rattle.graph_tasks.proofs.Takes.{without_stood}
 use Rattle.gst_outside.specs.Seen.{Seen}
 use Rattle.gst_outside.specs.declared.sink.Sink as sinks
@@ -44,8 +42,11 @@ use Rattle.world_core.specs.Start.{IsStarted}
 use Rattle.world_core.proofs.AtHand.{made_at}
 use Rattle.graph_parts.proofs.OwnFiles.{writer}
 use Rattle.world_core.proofs.Held.{RestHasCame, fresh_all}
-use Rattle.world_core.proofs.Members.{flat_member, member_got, without_gone}
+use Rattle.world_core.proofs.Members.{flat_member, without_gone}
 use Rattle.world_core.proofs.Settled.{IsSettled}
+use Rattle.flow_model.proofs.Items.{get_member, member_got}
+use Rattle.graph_tasks.proofs.BlamedFrames.{all_at}
+use Rattle.gst_value.proofs.Places.{found_at as got_within, map_get as get_map, map_got}
 
 -- a number of elements in two lists is of the first, or of the second
 of_either : (xs ys : List BagElement) (d : ℕ) → IsMember d (map number_of (xs ++ ys)) → IsMember d (map number_of xs) ⊎ IsMember d (map number_of ys)

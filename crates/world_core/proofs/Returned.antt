@@ -7,10 +7,9 @@ use Rattle.el_settings.specs.declared.settings.Settings.{Settings}
 use Rattle.el_set.specs.declared.sink.SinkElement.TheVariants as sink_elements
 use Rattle.el_set.proofs.Openings.{opens_none}
 use Rattle.el_sink.specs.Held.{length_of}
-use Rattle.graph_core.specs.Elements.{Made}
+use Rattle.graph_core.specs.Elements.{Made, has}
 use Rattle.graph_parts.specs.Back.{Gives, HasLength, read_end, written_end}
 use Rattle.el_settings.specs.Asked.{reads, writes}
-use Rattle.graph_parts.specs.Ends.{has}
 use Rattle.graph_parts.specs.Files.{opening_of}
 use Rattle.graph_parts.specs.Put.{IsPutAt}
 use Rattle.graph_parts.proofs.OwnFiles.{IsReader, IsWriter, no_place}

@@ -5,7 +5,6 @@ use Rattle.std.proofs.lemmas.Bool.{cases_eq}
 use Rattle.std.specs.List.{range_with_len}
 use Rattle.std.proofs.lemmas.List.FromFn.{map-range_with_len_more}
 use Rattle.std.proofs.lemmas.Option.{slice_get-get_or, slice_get_within}
-use Rattle.graph_tasks.proofs.Lists.{got_within}
 use Rattle.lane_core.specs.declared.ends.Inlet as inlets
 use Rattle.lane_core.specs.declared.ends.Outlet as outlets
 use Rattle.net_model.specs.declared.element.TaskElement as elements
@@ -17,6 +16,7 @@ use Rattle.task_parts.specs.declared.step.Step.{Step}
 use Rattle.task_parts.specs.declared.step.Step.TheVariants as steps_of
 use Rattle.world_core.specs.Stopped.{step_over}
 use Rattle.gst_value.proofs.Basics.{some_same}
+use Rattle.gst_value.proofs.Places.{found_at as got_within}
 
 -- a step that lets the run be over leaves nothing that waits
 calm : (live joins : ℕ → Bool) (head : ℕ) (step : Step) → step_over live joins head step ≡ true → is_idle step ≡ true
@@ -56,7 +56,7 @@ lets live joins head (steps_of.NeedsRoom lane) is = waits refl
 lets live joins head (steps_of.AtProbe command) is = waits refl
 lets live joins head steps_of.Ended is = absurd (cc)
 
-false_true : {b : Bool} → b ≡ false → b ≡ true → ⊥
+pub false_true : {b : Bool} → b ≡ false → b ≡ true → ⊥
 false_true e f = cc
 
 not_ended : {lane : ℕ} → steps_of.NeedsItem lane ≡ steps_of.Ended → ⊥

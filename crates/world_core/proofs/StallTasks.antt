@@ -14,11 +14,7 @@ use Rattle.run_report.specs.declared.report.StalledTask.{StalledTask}
 use Rattle.task_parts.specs.declared.step.Step.{Step}
 use Rattle.world_core.specs.Stalled.{TellsTasks, stalled_task}
 use Rattle.gst_value.proofs.Basics.{some_same}
-
--- the last of a list, and those before it
-last_at : {A : Type 0} (xs : List A) (x : A) → slice_get (xs ++ x ∷ []) (length xs) ≡ Some x
-last_at [] x = refl
-last_at (y ∷ ys) x = last_at ys x
+use Rattle.gst_value.proofs.Places.{get_last as last_at}
 
 front_at : {A : Type 0} (xs ys : List A) (k : ℕ) → k < length xs → slice_get (xs ++ ys) k ≡ slice_get xs k
 front_at [] ys k w = absurd (omega (arith, w))

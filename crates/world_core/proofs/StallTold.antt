@@ -9,11 +9,10 @@ use Rattle.net_model.specs.declared.element.TaskElement as elements
 use Rattle.net_model.specs.declared.source.TaskSource as givers
 use Rattle.el_settings.specs.Asked.{makes_sinks}
 use Rattle.graph_parts.specs.Bags.{AreBags, heads_in}
-use Rattle.graph_parts.specs.Links.{has, place_at}
 use Rattle.graph_parts.specs.declared.bag.Bag.{Bag}
-use Rattle.graph_core.specs.Elements.{Made}
+use Rattle.graph_core.specs.Elements.{Made, has}
 use Rattle.graph_core.specs.Graph.{is_live, made as made_in, links as links_in}
-use Rattle.graph_core.specs.GraphPlan.{pad_id, sink_count}
+use Rattle.graph_core.specs.GraphPlan.{pad_id, sink_count, sink_at as place_at}
 use Rattle.graph_core.specs.declared.graph.Graph.{Graph}
 use Rattle.graph_pads.specs.declared.pad.PadPlace.{PadPlace}
 use Rattle.graph_tasks.specs.Frames.{HaveBags}

@@ -10,8 +10,7 @@ use Rattle.net_model.specs.declared.source.TaskSource as givers
 use Rattle.flow_model.specs.Call.{Call}
 use Rattle.flow_model.specs.Item.{Item}
 use Rattle.flow_model.specs.Link.{Span}
-use Rattle.graph_parts.specs.Links.{has}
-use Rattle.graph_core.specs.Elements.{Made}
+use Rattle.graph_core.specs.Elements.{Made, has}
 use Rattle.graph_core.specs.Graph.{made as made_in}
 use Rattle.graph_core.specs.declared.graph.Graph.{Graph}
 use Rattle.graph_parts.specs.Files.{GraphOpens, WereTold}
@@ -20,7 +19,6 @@ use Rattle.graph_parts.specs.MomentLaws.{given_by}
 use Rattle.graph_parts.specs.Plans.{moment_answers, moment_plan}
 use Rattle.graph_parts.proofs.Behaviors.{behaviors_are_told}
 use Rattle.graph_tasks.specs.Start.{ElementsStand, SourcesStand}
-use Rattle.graph_tasks.proofs.Lists.{got_within}
 use Rattle.graph_tasks.proofs.Tied.{sinks_count}
 use Rattle.gst_outside.specs.Seen.{Seen}
 use Rattle.gst_outside.specs.declared.sink.Sink as sinks
@@ -32,6 +30,7 @@ use Rattle.task_elements.specs.Owes.{Owes}
 use Rattle.task_elements.specs.declared.element.StreamElement.{StreamElement}
 use Rattle.task_elements.specs.declared.source.StreamSource.{StreamSource}
 use Rattle.world_core.proofs.AtHand.{MakesStreams, given_at, made_at, told_at}
+use Rattle.gst_value.proofs.Places.{found_at as got_within}
 
 -- what is asked of an element that is there
 asked_of : (made : List Made) (n : ℕ) (m : Made) → slice_get made n ≡ Some m → has is_source made n ≡ is_source m.settings

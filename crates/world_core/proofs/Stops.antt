@@ -18,9 +18,7 @@ use Rattle.world_core.specs.Ran.{StopsAs}
 use Rattle.world_core.specs.Stalled.{TellsTasks}
 use Rattle.world_core.specs.declared.report.Stop.{Stop}
 use Rattle.world_core.specs.declared.report.Stop.TheVariants as stops
-
-false_true : {b : Bool} → b ≡ false → b ≡ true → ⊥
-false_true e f = cc
+use Rattle.world_core.proofs.StallOver.{false_true}
 
 module _ {S E I O L A : Type 0} {s : givers.Ghosts S} {e : elements.Ghosts E} {i : inlets.Ghosts I L O} {o : outlets.Ghosts O L}
     (graph : Graph) (tasks : List (Task S E I O L s e i o)) (steps : List Step) (ran : Result A Stopped) where

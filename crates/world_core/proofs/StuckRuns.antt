@@ -8,7 +8,7 @@ use Rattle.flow_model.proofs.Prefixes.{prefix_length}
 use Rattle.net_model.specs.declared.element.TaskElement as elements
 use Rattle.net_model.specs.declared.source.TaskSource as givers
 use Rattle.graph_parts.specs.Bags.{AreBags}
-use Rattle.graph_parts.specs.Links.{has, is_head}
+use Rattle.graph_parts.specs.Links.{is_head}
 use Rattle.graph_parts.specs.declared.bag.Bag.{Bag}
 use Rattle.graph_core.specs.Graph.{is_live, made as made_in, links as links_in}
 use Rattle.graph_core.specs.declared.graph.Graph.{Graph}
@@ -25,6 +25,7 @@ use Rattle.task_parts.specs.declared.step.Step.{Step}
 use Rattle.task_parts.specs.declared.step.Step.TheVariants as steps_of
 use Rattle.world_core.specs.Over.{IsOver}
 use Rattle.world_core.proofs.TaskHeads.{is_task_head}
+use Rattle.graph_core.specs.Elements.{has}
 
 -- nothing more is owed than all
 no_more : (xs : List Item) (x : Item) → IsPrefix (xs ++ x ∷ []) xs → ⊥

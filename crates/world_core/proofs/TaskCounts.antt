@@ -10,7 +10,7 @@ use Rattle.flow_model.specs.Account.{IsMember}
 use Rattle.flow_model.specs.Item.{Item, buffers}
 use Rattle.graph_parts.specs.Bags.{cells, head_cells, number_of as number_in}
 use Rattle.graph_parts.specs.BagLaws.{StandsIn}
-use Rattle.graph_parts.specs.Links.{place_at, source_count}
+use Rattle.graph_parts.specs.Links.{source_count}
 use Rattle.graph_parts.specs.declared.bag.Bag.{Bag}
 use Rattle.graph_parts.specs.declared.bag.BagHead.{BagHead}
 use Rattle.graph_parts.specs.declared.bag.BagHead.TheVariants as bags
@@ -22,7 +22,7 @@ use Rattle.graph_parts.specs.Counts.{HeadCounted, IsCountOf, PartCounted, TaskCo
 use Rattle.graph_parts.specs.declared.counts.Count.{Count}
 use Rattle.lane_core.specs.declared.ends.Inlet as inlets
 use Rattle.lane_core.specs.declared.ends.Outlet as outlets
-use Rattle.graph_core.specs.GraphPlan.{pad_id}
+use Rattle.graph_core.specs.GraphPlan.{pad_id, sink_at as place_at}
 use Rattle.net_model.specs.Moment.{Moment}
 use Rattle.net_task.specs.Frame.{frame_of, head_frame, part_frame, wire_of}
 use Rattle.net_task.specs.declared.task.Task.{Task}
@@ -31,12 +31,7 @@ use Rattle.task_pads.specs.declared.pad.Pad.{Pad}
 use Rattle.task_parts.specs.declared.head.Head.{Head}
 use Rattle.task_parts.specs.declared.head.Head.TheVariants.{Source, Inlets}
 use Rattle.task_parts.specs.declared.part.Part.{Part}
-
--- a number within a list is that of something in it
-pub get_within : {A : Type 0} (xs : List A) (n : ℕ) → n < length xs → (x : A) × (slice_get xs n ≡ Some x)
-get_within [] n within = absurd (omega (arith, within))
-get_within (x ∷ xs) zero within = (x, refl)
-get_within (x ∷ xs) (suc n) within = get_within xs n (omega (arith, within))
+use Rattle.gst_value.proofs.Places.{found_at as get_within}
 
 -- a number among those of a list is that of one of it
 member_at : {A : Type 0} (f : A → ℕ) (xs : List A) (d : ℕ) → IsMember d (map f xs) → (k : ℕ) × (x : A) × (slice_get xs k ≡ Some x) × (f x ≡ d)

@@ -5,21 +5,22 @@ use Rattle.std.proofs.lemmas.Option.{slice_get_within}
 use Rattle.net_model.specs.declared.element.TaskElement as elements
 use Rattle.net_model.specs.declared.source.TaskSource as givers
 use Rattle.graph_parts.specs.Bags.{AreBags, IsBag, IsHead, head_number as bag_number, head_of, heads_in}
-use Rattle.graph_parts.specs.Links.{has, is_head}
+use Rattle.graph_parts.specs.Links.{is_head}
 use Rattle.graph_parts.specs.declared.bag.Bag.{Bag}
 use Rattle.graph_parts.specs.declared.bag.BagHead.{BagHead}
 use Rattle.graph_parts.specs.declared.bag.BagHead.TheVariants as bags_of
 use Rattle.graph_parts.proofs.Apart.{heads_have_bags}
-use Rattle.graph_core.specs.Elements.{Made}
+use Rattle.graph_core.specs.Elements.{Made, has}
 use Rattle.graph_pads.specs.declared.pad.PadLink.{PadLink}
 use Rattle.graph_tasks.specs.Frames.{HaveBags, IsHeadFrame}
 use Rattle.graph_tasks.proofs.Graphs.{inlets_head, source_head}
-use Rattle.graph_tasks.proofs.Lists.{all_at, got_within, map_got}
 use Rattle.lane_core.specs.declared.ends.Inlet as inlets
 use Rattle.lane_core.specs.declared.ends.Outlet as outlets
 use Rattle.net_task.specs.Frame.{HeadFrame, by_inlets, by_source, frame_of}
 use Rattle.net_task.specs.declared.task.Task.{Task}
 use Rattle.net_turns.specs.Ends.{head_number}
+use Rattle.graph_tasks.proofs.BlamedFrames.{all_at}
+use Rattle.gst_value.proofs.Places.{found_at as got_within, map_got}
 
 -- the head of the task of a bag is that of the bag
 frame_number : (made : List Made) (links : List PadLink) (bag : BagHead) (frame : HeadFrame) → IsHeadFrame made links bag frame → head_number frame ≡ bag_number bag

@@ -12,7 +12,6 @@ use Rattle.graph_pads.specs.declared.pad.PadLink.{PadLink}
 use Rattle.graph_tasks.specs.Tasks.{AreTasks, IsOf}
 use Rattle.graph_tasks.specs.Wired.{AreWired, number_in, part_numbers}
 use Rattle.graph_tasks.specs.declared.wired_task.WiredTask.{WiredTask}
-use Rattle.graph_tasks.proofs.Lists.{get_map, get_member, got_within, map_got, place_once}
 use Rattle.lane_core.specs.Lane.{Lane}
 use Rattle.lane_core.specs.declared.ends.Inlet as inlets
 use Rattle.lane_core.specs.declared.ends.Outlet as outlets
@@ -20,7 +19,10 @@ use Rattle.net_task.specs.Frame.{PartFrame, TaskFrame, frame_of, part_frame}
 use Rattle.net_task.specs.declared.task.Task.{Task}
 use Rattle.net_turns.specs.Rests.{AllFramed}
 use Rattle.task_parts.specs.declared.part.Part.{Part}
-use Rattle.world_core.proofs.Members.{flat_got, flat_once, flat_place, member_got}
+use Rattle.world_core.proofs.Members.{flat_got, flat_once, flat_place}
+use Rattle.flow_model.proofs.Items.{get_member, member_got}
+use Rattle.graph_parts.proofs.Apart.{place_once}
+use Rattle.gst_value.proofs.Places.{found_at as got_within, map_get as get_map, map_got}
 
 -- An element of a task was taken from under its number, and writes its file where it did.
 pub record TakenFrom {I O E : Type 0} (e : elements.Ghosts E) (ends : List (Option E)) (plans : List (WiredTask I O)) (k j d : ℕ) (x : E) : Type 0 where

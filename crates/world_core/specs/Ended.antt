@@ -15,9 +15,8 @@ use Rattle.graph_pads.specs.declared.pad.PadLink.{PadLink}
 use Rattle.graph_pads.specs.declared.pad.PadPlace.{PadPlace}
 use Rattle.el_settings.specs.Asked.{source_pads}
 use Rattle.el_settings.specs.declared.settings.Settings.{Settings}
-use Rattle.graph_parts.specs.Links.{place_at}
 use Rattle.graph_parts.specs.Files.{WereTold, opening_of}
-use Rattle.graph_core.specs.GraphPlan.{graph_plan, owner_of}
+use Rattle.graph_core.specs.GraphPlan.{graph_plan, owner_of, sink_at as place_at}
 use Rattle.gst_outside.specs.Seen.{Seen}
 use Rattle.run_files.specs.declared.end.Opening.TheVariants.{Read, Write}
 use Rattle.run_report.specs.declared.report.Fault.TheVariants as faults

@@ -8,11 +8,10 @@ use Rattle.lane_core.specs.declared.ends.Outlet as outlets
 use Rattle.net_model.specs.declared.element.TaskElement as elements
 use Rattle.net_model.specs.declared.source.TaskSource as givers
 use Rattle.graph_parts.specs.Bags.{heads_in}
-use Rattle.graph_parts.specs.Links.{place_at}
 use Rattle.graph_core.specs.Elements.{Made}
 use Rattle.graph_core.specs.Ends.{name_at}
 use Rattle.graph_core.specs.Graph.{made as made_in, links as links_in}
-use Rattle.graph_core.specs.GraphPlan.{pad_id, sink_count}
+use Rattle.graph_core.specs.GraphPlan.{pad_id, sink_count, sink_at as place_at}
 use Rattle.graph_core.specs.declared.graph.Graph.{Graph}
 use Rattle.graph_pads.specs.declared.pad.PadLink.{PadLink}
 use Rattle.graph_pads.specs.declared.pad.PadPlace.{PadPlace}

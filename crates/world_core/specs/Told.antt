@@ -6,11 +6,10 @@ use Rattle.flow_model.specs.declared.fault.ElementFault.{ElementFault}
 use Rattle.flow_model.specs.declared.fault.ElementFault.TheVariants.{NotNegotiated, BadStream, TooLong, OutOfMemory}
 use Rattle.flow_model.specs.Item.{Item, buffers}
 use Rattle.el_settings.specs.Asked.{location_of}
-use Rattle.graph_core.specs.Elements.{Made}
+use Rattle.graph_core.specs.Elements.{Made, has}
 use Rattle.graph_core.specs.Ends.{name_at}
 use Rattle.el_settings.specs.Asked.{writes}
 use Rattle.graph_core.specs.GraphPlan.{most_pads}
-use Rattle.graph_parts.specs.Ends.{has}
 use Rattle.graph_parts.specs.declared.counts.Count.{Count}
 use Rattle.graph_parts.specs.MomentLaws.{place_of}
 use Rattle.graph_parts.specs.Pads.{is_pad}

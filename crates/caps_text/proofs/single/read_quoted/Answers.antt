@@ -2,8 +2,9 @@
 use Rattle.std.proofs.Common.{◌∙◌, sym, ap, false, arith}
 use Rattle.std.specs.String.{string_bytes}
 use Rattle.caps_text.specs.Reading.{read_quoted}
-use Rattle.caps_text.proofs.Characters.{quoted_plain, quoted_taken, shorter_by}
+use Rattle.caps_text.proofs.Characters.{quoted_plain, quoted_taken}
 use Rattle.caps_text.proofs.single.read_quoted.Goals as goal
+use Rattle.gst_value.proofs.Characters.{shorter_by}
 
 pub loop-next-preserved-in-Continue-1 : goal.loop-next-preserved-in-Continue-1
 loop-next-preserved-in-Continue-1 c =

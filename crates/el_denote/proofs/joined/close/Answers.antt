@@ -1,7 +1,8 @@
 use Rattle.std.proofs.Common.{◌∙◌, sym, refl}
 use Rattle.el_denote.proofs.Going.{runs_known, runs_closed}
-use Rattle.el_denote.proofs.Ordering.{when_ok, stays_fed, closed_ordered}
+use Rattle.el_denote.proofs.Ordering.{stays_fed, closed_ordered}
 use Rattle.el_denote.proofs.joined.close.Goals as goal
+use Rattle.gst_value.proofs.Results.{on_ok as when_ok}
 
 pub returns-then-is_in_order-clause-closed : goal.returns-then-is_in_order-clause-closed
 returns-then-is_in_order-clause-closed c = λ settings j marks turns is r.

@@ -2,9 +2,9 @@ use Rattle.std.proofs.Common.{sym, ◌∙◌, arith}
 use Rattle.std.proofs.lemmas.Option.{slice_get_read}
 use Rattle.flow_model.specs.Rule.{TooLong}
 use Rattle.flow_model.specs.declared.fault.ElementFault.TheVariants.{TooLong as Passing, OutOfMemory as Wanting}
-use Rattle.el_join.proofs.Answering.{handed_on}
 use Rattle.el_join.proofs.Checking.{checked_first, checked_next, checked_fault, stopped_fits, stopped_count, ended_fits, ended_count}
 use Rattle.el_join.proofs.pads.check_from.Goals as goal
+use Rattle.gst_value.proofs.Results.{handed_on}
 
 pub loop-place-init : goal.loop-place-init
 loop-place-init c = record { checked = checked_first c.args.pads.now.items c.args.first c.args.sums; within = c.requires }

@@ -1,9 +1,9 @@
 use Rattle.std.proofs.Common.{[], arith}
 use Rattle.std.proofs.lemmas.Option.{slice_get_read}
 use Rattle.flow_model.specs.declared.fault.ElementFault.TheVariants.{OutOfMemory as Wanting}
-use Rattle.el_join.proofs.Answering.{handed_on}
 use Rattle.el_join.proofs.Pouring.{ends_is, ends_due}
 use Rattle.el_join.proofs.pads.end_turn.Goals as goal
+use Rattle.gst_value.proofs.Results.{handed_on}
 
 pub pass_on-requires-clause-room : goal.pass_on-requires-clause-room
 pass_on-requires-clause-room c = omega (arith, c.in_ok-into.ensures.room, c.in_ok-count.ensures.count, c.len.ensures)

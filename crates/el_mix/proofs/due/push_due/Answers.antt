@@ -1,9 +1,9 @@
 use Rattle.std.proofs.Common.{sym}
 use Rattle.el_mix.specs.Heard.{mono_by}
-use Rattle.el_mix.proofs.Handing.{on_ok}
 use Rattle.el_mix.proofs.Moving.{pushes_stream}
 use Rattle.el_mix.proofs.Leaving.{pushes_empty}
 use Rattle.el_mix.proofs.due.push_due.Goals as goal
+use Rattle.gst_value.proofs.Results.{then_ok as on_ok}
 
 pub returns-in-Some-clause-pushes : goal.returns-in-Some-clause-pushes
 returns-in-Some-clause-pushes c =

@@ -1,6 +1,6 @@
-use Rattle.el_mix.proofs.Handing.{on_ok}
 use Rattle.el_mix.proofs.Streaming.{streams}
 use Rattle.el_mix.proofs.due.push_stream.Goals as goal
+use Rattle.gst_value.proofs.Results.{then_ok as on_ok}
 
 pub returns-clause-streams : goal.returns-clause-streams
 returns-clause-streams c =

@@ -1,7 +1,7 @@
 use Rattle.std.proofs.Common.{◌∙◌}
-use Rattle.el_mix.proofs.Handing.{on_ok, if_err}
 use Rattle.el_mix.proofs.Deciding.{due_is, same_first, other_refused}
 use Rattle.el_mix.proofs.judge.judge_same.Goals as goal
+use Rattle.gst_value.proofs.Results.{if_err, then_ok as on_ok}
 
 pub returns-then-same_caps-clause-ok : goal.returns-then-same_caps-clause-ok
 returns-then-same_caps-clause-ok c =

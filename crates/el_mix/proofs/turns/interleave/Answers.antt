@@ -2,9 +2,10 @@ use Rattle.std.proofs.Common.{length, ◌∙◌, arith}
 use Rattle.el_mix.specs.Taking.{lines}
 use Rattle.el_mix.proofs.Handing.{if_ok}
 use Rattle.el_mix.proofs.Mixing.{sample_some}
-use Rattle.el_mix.proofs.Turning.{frame_within, frames_few, less_ahead, more_turns, all_turns}
+use Rattle.el_mix.proofs.Turning.{frame_within, frames_few, more_turns, all_turns}
 use Rattle.std.proofs.Math.Nat.{div-mul-le_self}
 use Rattle.el_mix.proofs.turns.interleave.Goals as goal
+use Rattle.el_mix.proofs.Stepping.{fewer_ahead as less_ahead}
 
 pub nonzero_div-frames : goal.nonzero_div-frames
 nonzero_div-frames c = rw c.width-width.ensures (sample_some c.args.format)

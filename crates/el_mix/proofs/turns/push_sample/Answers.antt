@@ -1,6 +1,6 @@
-use Rattle.el_mix.proofs.Handing.{on_ok}
 use Rattle.el_mix.proofs.Turning.{sampled, silent}
 use Rattle.el_mix.proofs.turns.push_sample.Goals as goal
+use Rattle.gst_value.proofs.Results.{then_ok as on_ok}
 
 pub returns-in_ok-extend_from_slice-in-Some : goal.returns-in_ok-extend_from_slice-in-Some
 returns-in_ok-extend_from_slice-in-Some c =

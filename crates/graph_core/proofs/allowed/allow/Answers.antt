@@ -3,8 +3,8 @@ use Rattle.graph_core.specs.Elements.{all_made}
 use Rattle.graph_core.specs.Links.{all_links}
 use Rattle.graph_core.proofs.Answering.{all_set, are_counted, has_pads, same_length, wide_before}
 use Rattle.graph_core.proofs.Bare.{given_alike}
-use Rattle.graph_core.proofs.HandedOn.{handed_on}
 use Rattle.graph_core.proofs.allowed.allow.Goals as goal
+use Rattle.gst_value.proofs.Results.{handed_on}
 
 pub allow_one-requires-clause-pads : goal.allow_one-requires-clause-pads
 allow_one-requires-clause-pads c = has_pads (all_made c.args.elements.now) (all_made c.loop-element.elements) (sym c.loop-element.invariant.stay) (all_links c.args.links.now) c.requires.pads

@@ -10,10 +10,10 @@ use Rattle.graph_core.specs.declared.graph.Graph.{Graph}
 use Rattle.graph_pads.specs.declared.pad.PadLink.{PadLink}
 use Rattle.graph_core.proofs.Answering.{are_ordered}
 use Rattle.graph_core.proofs.Built.{is_graph, is_sound, is_wide, ordered_alike}
-use Rattle.graph_core.proofs.HandedOn.{handed_on}
 use Rattle.graph_core.proofs.PadCounts.{linked_pads, links_few}
 use Rattle.graph_core.proofs.Whole.{each_made, from_elements, to_elements}
 use Rattle.graph_core.proofs.building.build.Goals as goal
+use Rattle.gst_value.proofs.Results.{handed_on}
 
 pub links_of-requires : goal.links_of-requires
 links_of-requires c =

@@ -5,9 +5,9 @@ use Rattle.graph_core.specs.Ends.{IsEndPad, PadOrMemory}
 use Rattle.graph_core.specs.Links.{all_links, IsUnjoined, LinksStop, one_link}
 use Rattle.graph_pads.specs.declared.pad.Direction.TheVariants.{Source, Sink}
 use Rattle.graph_pads.specs.declared.pad.PadLink.{PadLink}
-use Rattle.graph_core.proofs.HandedOn.{handed_on}
 use Rattle.graph_core.proofs.Joining.{end_there, left_stops, right_stops, joint_stops, joint_follows, where_ok, where_fault}
 use Rattle.graph_core.proofs.links.add.Goals as goal
+use Rattle.gst_value.proofs.Results.{handed_on}
 
 pub returns-in_err-source-clause-fault : goal.returns-in_err-source-clause-fault
 returns-in_err-source-clause-fault c =

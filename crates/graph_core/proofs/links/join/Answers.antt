@@ -4,9 +4,9 @@ use Rattle.graph_core.specs.Links.{all_links, IsJudged, IsUnjoined}
 use Rattle.graph_pads.specs.declared.pad.PadLink.{PadLink}
 use Rattle.pad_core.specs.declared.linking.LinkReturn.{LinkReturn}
 use Rattle.graph_core.specs.declared.fault.BuildFault.TheVariants.{OutOfMemory}
-use Rattle.graph_core.proofs.HandedOn.{handed_on}
 use Rattle.graph_core.proofs.Joining.{refusal_unjoined}
 use Rattle.graph_core.proofs.links.join.Goals as goal
+use Rattle.gst_value.proofs.Results.{handed_on}
 
 pub returns-in_err-refusal-clause-fault : goal.returns-in_err-refusal-clause-fault
 returns-in_err-refusal-clause-fault c = handed_on c.from_residual.result OutOfMemory _ c.from_residual.ensures.1 IsUnjoined.memory

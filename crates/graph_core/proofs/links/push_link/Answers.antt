@@ -6,9 +6,9 @@ use Rattle.graph_order.specs.declared.order.Linking.{Linking}
 use Rattle.graph_core.specs.Elements.{all_made}
 use Rattle.graph_core.specs.Links.{all_links, IsUnjoined}
 use Rattle.graph_core.specs.declared.fault.BuildFault.TheVariants.{OutOfMemory}
-use Rattle.graph_core.proofs.HandedOn.{handed_on}
 use Rattle.graph_core.proofs.Joining.{within_there, loop_unjoined, name_told}
 use Rattle.graph_core.proofs.links.push_link.Goals as goal
+use Rattle.gst_value.proofs.Results.{handed_on}
 
 pub name-name-requires : goal.name-name-requires
 name-name-requires c = within_there (all_made c.args.elements.now) c.args.left c.requires.left

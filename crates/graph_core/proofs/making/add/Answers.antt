@@ -2,9 +2,9 @@ use Rattle.std.proofs.Common.{◌≡◌, ◌∙◌, ap}
 use Rattle.graph_core.specs.Asked.{Declared}
 use Rattle.graph_core.specs.Elements.{all_made, name_of, IsUnmade}
 use Rattle.graph_core.specs.declared.fault.BuildFault.TheVariants.{OutOfMemory}
-use Rattle.graph_core.proofs.HandedOn.{handed_on}
 use Rattle.graph_core.proofs.Steps.{stops_one, unset}
 use Rattle.graph_core.proofs.making.add.Goals as goal
+use Rattle.gst_value.proofs.Results.{handed_on}
 
 pub returns-in_err-name-clause-fault : goal.returns-in_err-name-clause-fault
 returns-in_err-name-clause-fault c = handed_on c.from_residual.result OutOfMemory _ c.from_residual.ensures.1 (stops_one (all_made c.args.elements.now) (record { kind = c.args.kind.now; props = c.args.props.now }) OutOfMemory IsUnmade.memory)

@@ -1,7 +1,7 @@
 use Rattle.graph_core.specs.Elements.{all_made}
-use Rattle.graph_core.proofs.HandedOn.{handed_on}
 use Rattle.graph_core.proofs.Walks.{node_follows, node_stops}
 use Rattle.graph_core.proofs.making.add_chain.Goals as goal
+use Rattle.gst_value.proofs.Results.{handed_on}
 
 pub loop-node-preserved : goal.loop-node-preserved
 loop-node-preserved c =

@@ -4,9 +4,9 @@ use Rattle.graph_core.specs.Asked.{Declared}
 use Rattle.graph_core.specs.Elements.{all_made, IsUnmade, Follows, Stops}
 use Rattle.graph_core.specs.declared.fault.BuildFault.{BuildFault}
 use Rattle.graph_core.specs.declared.fault.BuildFault.TheVariants.{OutOfMemory}
-use Rattle.graph_core.proofs.HandedOn.{handed_on}
 use Rattle.graph_core.proofs.Steps.{stops_one}
 use Rattle.graph_core.proofs.making.add_filter.Goals as goal
+use Rattle.gst_value.proofs.Results.{handed_on}
 
 pub returns-clause-made : goal.returns-clause-made
 returns-clause-made c =

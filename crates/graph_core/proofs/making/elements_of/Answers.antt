@@ -1,10 +1,10 @@
 use Rattle.std.proofs.Common.{subst, List}
 use Rattle.graph_core.specs.Asked.{chain_elements}
 use Rattle.graph_core.specs.Elements.{all_made, Follows, Stops}
-use Rattle.graph_core.proofs.HandedOn.{handed_on}
 use Rattle.graph_core.proofs.Walks.{chain_follows, chain_stops, chains_done}
 use Rattle.launch_text.specs.declared.tree.Node.{Node}
 use Rattle.graph_core.proofs.making.elements_of.Goals as goal
+use Rattle.gst_value.proofs.Results.{handed_on}
 
 pub loop-chain-preserved : goal.loop-chain-preserved
 loop-chain-preserved c =

@@ -2,9 +2,9 @@ use Rattle.std.proofs.Common.{◌≡◌, ◌∙◌, string_bytes, Err, is_some, 
 use Rattle.graph_core.specs.Asked.{Declared}
 use Rattle.graph_core.specs.Elements.{all_made, given_name, IsUnmade}
 use Rattle.graph_core.specs.declared.fault.BuildFault.TheVariants.{OutOfMemory}
-use Rattle.graph_core.proofs.HandedOn.{handed_on}
 use Rattle.graph_core.proofs.Steps.{stops_one, unplaced, placed_named, made_behind}
 use Rattle.graph_core.proofs.making.push_element.Goals as goal
+use Rattle.gst_value.proofs.Results.{handed_on}
 
 pub returns-in_err-judge-clause-fault : goal.returns-in_err-judge-clause-fault
 returns-in_err-judge-clause-fault c =

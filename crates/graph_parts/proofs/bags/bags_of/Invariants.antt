@@ -2,9 +2,10 @@ use Rattle.std.proofs.Common.{◌≡◌, All, filter, map}
 use Rattle.std.specs.List.{range_with_len}
 use Rattle.graph_core.specs.Graph.{IsSound, made, links}
 use Rattle.graph_core.specs.LinkedOnce.{AreOnce}
-use Rattle.graph_parts.specs.Links.{has, is_head}
+use Rattle.graph_parts.specs.Links.{is_head}
 use Rattle.graph_parts.specs.Bags.{IsBag, head_of}
 use Rattle.graph_parts.proofs.bags.bags_of.Given as goal
+use Rattle.graph_core.specs.Elements.{has}
 
 abbrev pub invariant-loop-element : goal.invariant-loop-element
 invariant-loop-element l = record {

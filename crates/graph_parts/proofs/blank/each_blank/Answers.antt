@@ -2,8 +2,8 @@ use Rattle.std.proofs.Common.{length, ap, arith}
 use Rattle.graph_core.specs.Graph.{made as made_in}
 use Rattle.graph_parts.specs.Blanks.{BlankAt, IsBlankFor}
 use Rattle.graph_parts.proofs.BlanksLeft.{of_settings}
-use Rattle.graph_parts.proofs.Slots.{no_slots, one_slot, size_more}
 use Rattle.graph_parts.proofs.blank.each_blank.Goals as goal
+use Rattle.graph_parts.proofs.LaneSlots.{no_slots, one_slot, size_more}
 
 pub loop-number-init : goal.loop-number-init
 loop-number-init c = record {

@@ -1,6 +1,7 @@
 use Rattle.std.proofs.Common.{◌∙◌, sym, arith}
-use Rattle.graph_tasks.proofs.Fillings.{is_empty, parts_end, parts_step}
+use Rattle.graph_tasks.proofs.Fillings.{parts_end, parts_step}
 use Rattle.graph_tasks.proofs.making.parts_from.Goals as goal
+use Rattle.gst_value.proofs.Places.{none_left as is_empty}
 
 pub loop-part-preserved : goal.loop-part-preserved
 loop-part-preserved g c = record {

@@ -1,8 +1,9 @@
 use Rattle.std.proofs.Common.{◌∙◌}
 use Rattle.std.specs.Prelude.{slice_get}
 use Rattle.graph_core.specs.Graph.{made as made_in, links as links_in}
-use Rattle.graph_tasks.proofs.Leading.{few_ports, lane_numbered, pad_made}
+use Rattle.graph_tasks.proofs.Leading.{lane_numbered, pad_made}
 use Rattle.graph_tasks.proofs.source_pads.pad_of.Goals as goal
+use Rattle.graph_core.proofs.Orders.{few_pads as few_ports}
 
 pub returns : goal.returns
 returns g c = λ gone left given.

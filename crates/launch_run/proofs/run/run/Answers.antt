@@ -22,3 +22,9 @@ returns-clause-turned g c =
     λ found began.
     let status = ap (λ (end : WorldEnd). end.status) (c.tell.ensures.reported found) in
     rw (c.tell.ensures.reported found) (c.run_words-ended.ensures.turned (λ wanting. found (status ∙ wanting)) (λ unopened. began (status ∙ unopened)))
+
+pub returns-clause-headline : goal.returns-clause-headline
+returns-clause-headline g c =
+    λ found.
+    let status = ap (λ (end : WorldEnd). end.status) (c.tell.ensures.reported found) in
+    rw (c.tell.ensures.reported found) (c.run_words-ended.ensures.reported (λ wanting. found (status ∙ wanting)))

@@ -1,10 +1,12 @@
 -- One character more.
 use Rattle.std.proofs.Common.{◌∙◌, ◌++◌, ap}
 use Rattle.std.specs.String.{string_bytes}
-use Rattle.launch_text.specs.Words.{mode_behind, taken}
-use Rattle.launch_text.proofs.Marks.{shorter_by}
-use Rattle.launch_text.proofs.Kept.{behind_step, taken_step}
+use Rattle.text_words.specs.Words.{mode_behind}
+use Rattle.launch_text.specs.Words.{taken}
+use Rattle.text_words.proofs.Kept.{behind_step}
+use Rattle.launch_text.proofs.Kept.{taken_step}
 use Rattle.launch_text.proofs.value.put_said.Goals as goal
+use Rattle.gst_value.proofs.Characters.{shorter_by}
 
 pub loop-character-smaller : goal.loop-character-smaller
 loop-character-smaller c = shorter_by c.in-Some.character c.loop-character.characters.rest.now c.take.new.self.rest.now c.in-Some.ensures

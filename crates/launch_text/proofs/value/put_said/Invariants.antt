@@ -1,6 +1,7 @@
 use Rattle.std.proofs.Common.{◌≡◌, ◌++◌, length}
 use Rattle.std.specs.String.{string_bytes}
-use Rattle.launch_text.specs.Words.{mode_behind, plain, taken}
+use Rattle.text_words.specs.Words.{mode_behind, plain}
+use Rattle.launch_text.specs.Words.{taken}
 use Rattle.launch_text.proofs.value.put_said.Given as goal
 
 abbrev pub invariant-loop-character : goal.invariant-loop-character

@@ -1,13 +1,15 @@
 -- White space is ASCII, so the text may be cut behind it.
 use Rattle.std.proofs.Common.{◌≡◌, ◌++◌, ◌∙◌, length, drop, sym, ap, arith}
 use Rattle.std.specs.List.{take_while}
-use Rattle.launch_text.specs.Bytes.{is_white}
+use Rattle.text_words.specs.Bytes.{is_white}
 use Rattle.launch_text.specs.Words.{is_start}
-use Rattle.launch_text.proofs.Cutting.{behind_start, front_white, white_boundary}
+use Rattle.text_words.specs.declared.word.Separator.TheVariants.{White}
+use Rattle.text_words.proofs.Cutting.{front_boundary}
+use Rattle.launch_text.proofs.Cutting.{behind_start, front_white}
 use Rattle.launch_text.proofs.word.behind_white.Goals as goal
 
 pub split_at-requires : goal.split_at-requires
-split_at-requires c = white_boundary c.args.text.now c.white_length.result c.utf8.text c.white_length.ensures
+split_at-requires c = front_boundary White c.args.text.now c.white_length.result c.utf8.text c.white_length.ensures
 
 pub returns : goal.returns
 returns c =

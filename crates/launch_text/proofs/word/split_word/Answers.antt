@@ -1,6 +1,7 @@
 -- A word ends at white space, which is ASCII, or at the text's end.
 use Rattle.std.proofs.Common.{◌≡◌, ◌<◌, ◌∙◌, arith, length, drop, take, sym, ap, subst}
-use Rattle.launch_text.specs.Words.{plain, word_length}
+use Rattle.text_words.specs.Words.{plain}
+use Rattle.launch_text.specs.Words.{word_length}
 use Rattle.launch_text.proofs.Cutting.{positive, shorter, word_boundary}
 use Rattle.launch_text.proofs.word.split_word.Goals as goal
 

@@ -1,5 +1,6 @@
 use Rattle.std.proofs.Common.{◌≡◌, ◌+◌, drop}
-use Rattle.launch_text.specs.Words.{plain, word_length}
+use Rattle.text_words.specs.Words.{plain}
+use Rattle.launch_text.specs.Words.{word_length}
 use Rattle.launch_text.proofs.word.word_length.Given as goal
 
 abbrev pub invariant-loop-length : goal.invariant-loop-length

@@ -31,6 +31,7 @@ returns-clause-request c = record {
       (record { short = c.in_ok-tree.ensures.short; stands = c.in_ok-tree.ensures.sound; complete = c.in_ok-tree.ensures.complete });
   graph = c.in_ok-graph.ensures.graph;
   sound = c.in_ok-graph.ensures.sound;
+  script = ap (λ (o : Options). o.script) c.in_ok-options.ensures.said;
   threads = ap (λ (o : Options). o.threads) c.in_ok-options.ensures.said;
   order = ap (λ (o : Options). o.order) c.in_ok-options.ensures.said;
   quiet = ap (λ (o : Options). o.quiet) c.in_ok-options.ensures.said;

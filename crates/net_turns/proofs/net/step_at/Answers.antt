@@ -1,8 +1,9 @@
 use Rattle.std.proofs.lemmas.Option.{slice_get-get_or}
-use Rattle.net_turns.proofs.Places.{set_at, set_there}
+use Rattle.net_turns.proofs.Places.{set_there}
 use Rattle.net_turns.proofs.Readies.{net_ready}
 use Rattle.net_turns.proofs.Stepping.{framed_set, net_burned, net_faulted, net_goes}
 use Rattle.net_turns.proofs.net.step_at.Goals as goal
+use Rattle.gst_value.proofs.Places.{set_at}
 
 pub step-requires-clause-ready : goal.step-requires-clause-ready
 step-requires-clause-ready g c κs within =

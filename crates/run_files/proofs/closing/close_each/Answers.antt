@@ -1,9 +1,9 @@
 use Rattle.std.proofs.Common.{[], ◌∷◌, arith}
 use Rattle.run_files.specs.Ends.{known_end, known_ends}
 use Rattle.run_files.proofs.GivenBack.{closing_none, closing_more, closing_all}
-use Rattle.run_files.proofs.Lists.{none_left}
 use Rattle.run_files.proofs.Ends.{opened_front, opened_back, opened_later}
 use Rattle.run_files.proofs.closing.close_each.Goals as goal
+use Rattle.gst_value.proofs.Places.{none_left}
 
 pub loop-end-init : goal.loop-end-init
 loop-end-init g c =

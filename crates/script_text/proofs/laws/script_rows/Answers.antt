@@ -20,6 +20,8 @@ returns c = record {
   act_row = refl;
   needs_row = refl;
   stray_row = refl;
+  undone_row = refl;
+  undone_number_row = refl;
   back_row = refl;
   equal_row = refl;
 }

@@ -13,7 +13,7 @@ loop-rest-init c = (
   [],
   refl,
   refl,
-  subst (AreCommands []) (sym c.new-commands.ensures) at_first,
+  subst (AreCommands c.args.acts []) (sym c.new-commands.ensures) (at_first c.args.acts),
   subst (IsLatest c.new-latest.result) (sym c.new-commands.ensures) (first_latest c.new-latest.result c.new-latest.ensures.empty),
   omega arith,
 )
@@ -27,7 +27,7 @@ loop-rest-preserved c =
       front ++ line ∷ [],
       parts ∙ sym (append_assoc front (line ∷ []) (lines c.split_line.result.1.now)),
       (let one = length-append front (line ∷ []) in omega (arith, one, kept.2)),
-      grown front line c.loop-rest.commands c.read_line.new.commands kept.3 c.in-Ok.ensures.step,
+      grown c.args.acts front line c.loop-rest.commands c.read_line.new.commands kept.3 c.in-Ok.ensures.step,
       c.in-Ok.ensures.latest,
       omega (arith, kept.5, c.split_line.ensures.shorter),
     )
@@ -37,10 +37,10 @@ returns-in-Err-clause-fault c =
     let kept = c.loop-rest.invariant in
     let parts : lines c.args.bytes.now ≡ kept.0 ++ c.split_line.result.0.now ∷ lines c.split_line.result.1.now = kept.1 ∙ ap (λ l. kept.0 ++ l) c.split_line.ensures.lines in
     let counted : c.loop-rest.number + 1 ≡ length kept.0 + 1 = omega (arith, kept.2) in
-    faulted (λ (x : Unit {0}). c.read_line.new.commands) (lines c.args.bytes.now) kept.0 (lines c.split_line.result.1.now) c.split_line.result.0.now c.loop-rest.commands (c.loop-rest.number + 1) c.in-Err.refusal c.at.result parts counted kept.3 c.in-Err.ensures.step c.at.ensures
+    faulted c.args.acts (λ (x : Unit {0}). c.read_line.new.commands) (lines c.args.bytes.now) kept.0 (lines c.split_line.result.1.now) c.split_line.result.0.now c.loop-rest.commands (c.loop-rest.number + 1) c.in-Err.refusal c.at.result parts counted kept.3 c.in-Err.ensures.step c.at.ensures
 
 pub returns-clause-said : goal.returns-clause-said
 returns-clause-said c =
     let kept = c.loop-rest.invariant in
     let parts : lines c.args.bytes.now ≡ kept.0 = kept.1 ∙ ap (λ l. kept.0 ++ l) (no_lines c.loop-rest.rest.now (sym c.is_empty.ensures ∙ c.loop-rest-test.false)) ∙ append-nil kept.0 in
-    subst (λ t. AreCommands t c.loop-rest.commands) (sym parts) kept.3
+    subst (λ t. AreCommands c.args.acts t c.loop-rest.commands) (sym parts) kept.3

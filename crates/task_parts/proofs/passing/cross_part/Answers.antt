@@ -6,10 +6,11 @@ use Rattle.task_parts.specs.declared.part.Part.{Part}
 use Rattle.task_parts.specs.declared.fault.TaskFault.TheVariants.{TooLong}
 use Rattle.task_parts.specs.Shape.{has_number, part_shape}
 use Rattle.task_pads.proofs.Lists.{set_length, some_at}
-use Rattle.task_parts.proofs.Lists.{at_get, set_at}
+use Rattle.task_parts.proofs.Lists.{at_get}
 use Rattle.task_parts.proofs.Tries.{at_other, crossed_shape, err_same, pad_in, place_within, port_in, to_gives, to_named}
 use Rattle.task_parts.proofs.Fronts.{front_back, front_handed, front_set, idle_of, same_length}
 use Rattle.task_parts.proofs.passing.cross_part.Goals as goal
+use Rattle.gst_value.proofs.Places.{set_at}
 
 pub index_mut-requires : goal.index_mut-requires
 index_mut-requires g c = let low = place_within c.args.parts.now.items c.args.place c.args.port c.requires.at in omega (arith, low, c.args.parts.now.ok.0)

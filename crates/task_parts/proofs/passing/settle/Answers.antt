@@ -2,9 +2,10 @@ use Rattle.std.proofs.Common.{refl, arith, sym, subst}
 use Rattle.task_parts.specs.declared.part.Part.{Part}
 use Rattle.task_parts.specs.Part.{IsSettled}
 use Rattle.task_parts.specs.Shape.{part_shape}
-use Rattle.task_pads.proofs.Lists.{map_set, set_here, some_at}
+use Rattle.task_pads.proofs.Lists.{map_set, some_at}
 use Rattle.task_parts.proofs.Tries.{on_ok}
 use Rattle.task_parts.proofs.passing.settle.Goals as goal
+use Rattle.gst_value.proofs.Places.{set_here}
 
 pub returns-clause-settled : goal.returns-clause-settled
 returns-clause-settled g c = record {

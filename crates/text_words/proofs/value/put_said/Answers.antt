@@ -3,9 +3,9 @@ use Rattle.std.proofs.Common.{◌∙◌, ◌++◌, ap}
 use Rattle.std.specs.String.{string_bytes}
 use Rattle.text_words.specs.Values.{taken}
 use Rattle.text_words.specs.Words.{mode_behind}
-use Rattle.text_words.proofs.High.{shorter_by}
 use Rattle.text_words.proofs.Kept.{behind_step, taken_step}
 use Rattle.text_words.proofs.value.put_said.Goals as goal
+use Rattle.gst_value.proofs.Characters.{shorter_by}
 
 pub loop-character-smaller : goal.loop-character-smaller
 loop-character-smaller c = shorter_by c.in-Some.character c.loop-character.characters.rest.now c.take.new.self.rest.now c.in-Some.ensures

@@ -1,9 +1,8 @@
 use Rattle.std.proofs.Common.{◌≡◌, map}
 use Rattle.std.specs.List.{range_with_len}
 use Rattle.std.specs.Option.{unwrap_or}
-use Rattle.graph_parts.specs.Links.{place_at}
 use Rattle.graph_core.specs.Graph.{made as made_in}
-use Rattle.graph_core.specs.GraphPlan.{pad_id}
+use Rattle.graph_core.specs.GraphPlan.{pad_id, sink_at as place_at}
 use Rattle.net_task.specs.Counted.{received_by}
 use Rattle.world_core.specs.Stalled.{place_told}
 use Rattle.world_core.proofs.stall.taken_by.Given as goal

@@ -5,4 +5,4 @@ pub returns-then-self-clause-fed : goal.returns-then-self-clause-fed
 returns-then-self-clause-fed c = passed_behind c.args.self.now c.args.item c.requires.no_flush c.if-self.true
 
 pub returns-clause-fed : goal.returns-clause-fed
-returns-clause-fed c = passed_item c.args.self.now _ c.args.item c.requires.no_flush c.if-self.false c.is_end-ends.ensures
+returns-clause-fed c = passed_item c.args.self.now _ c.args.item c.requires.no_flush c.if-self.false c.is_eos-ends.ensures

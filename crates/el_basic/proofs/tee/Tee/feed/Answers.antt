@@ -11,4 +11,4 @@ returns-then-self-clause-fed c = spread_behind c.args.self.now c.args.item c.req
 pub returns-clause-fed : goal.returns-clause-fed
 returns-clause-fed c =
     let did = c.in_ok-pass.ensures in
-    spread_item c.args.self.now _ c.args.item c.requires.no_flush c.if-self.false c.is_end-ends.ensures did.pads did.sticky
+    spread_item c.args.self.now _ c.args.item c.requires.no_flush c.if-self.false c.is_eos-ends.ensures did.pads did.sticky

@@ -1,5 +1,6 @@
-use Rattle.el_convert.proofs.Buffers.{chosen_here, handed_on, where_none}
+use Rattle.el_convert.proofs.Buffers.{chosen_here, where_none}
 use Rattle.el_convert.proofs.convert.Convert.choose_anew.Goals as goal
+use Rattle.gst_value.proofs.Results.{handed_on}
 
 pub put_converted-requires : goal.put_converted-requires
 put_converted-requires c = record { kept = λ stream is. chosen_here c.args.self.now stream (where_none c.in_ok-other_choice.field-0 _ _ c.in_ok-other_choice.ensures.choice c.in-None.is) is }

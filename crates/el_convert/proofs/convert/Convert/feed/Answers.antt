@@ -1,9 +1,9 @@
 use Rattle.std.proofs.Common.{[], sym, append-nil}
 use Rattle.el_convert.proofs.Converting.{converted_behind, fault_known}
 use Rattle.el_convert.proofs.Conversion.{weaken}
-use Rattle.el_convert.proofs.Buffers.{weaken_err}
 use Rattle.el_convert.proofs.Putting.{puts_if_taken, puts_behind, flow_taken}
 use Rattle.el_convert.proofs.convert.Convert.feed.Goals as goal
+use Rattle.gst_value.proofs.Results.{if_err as weaken_err}
 
 pub returns-then-self-clause-fed : goal.returns-then-self-clause-fed
 returns-then-self-clause-fed c = λ first calls put p.

@@ -2,7 +2,7 @@ use Rattle.std.proofs.Common.{◌≡◌, sym, ◌∙◌, ap, Some}
 use Rattle.el_convert.specs.Choice.{choice}
 use Rattle.el_convert.specs.Converted.{knows}
 use Rattle.el_convert.proofs.Buffers.{none_offered, if_err, if_no_value}
-use Rattle.audio_info.proofs.Same.{caps_decide}
+use Rattle.gst_caps.proofs.Same.{caps_decide}
 use Rattle.el_convert.proofs.convert.Convert.other_choice.Goals as goal
 
 pub returns-in_default-clause-fault : goal.returns-in_default-clause-fault

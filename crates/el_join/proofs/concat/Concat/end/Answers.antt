@@ -1,7 +1,8 @@
 use Rattle.std.proofs.Common.{arith}
-use Rattle.el_join.proofs.Answering.{on_ok, on_err, if_err}
+use Rattle.el_join.proofs.Answering.{on_err}
 use Rattle.el_join.proofs.Taking.{ended_puts, ended_fault, concat_is}
 use Rattle.el_join.proofs.concat.Concat.end.Goals as goal
+use Rattle.gst_value.proofs.Results.{if_err, then_ok as on_ok}
 
 pub end_turn-requires : goal.end_turn-requires
 end_turn-requires c = omega (arith, c.requires.turn, c.args.self.now.pads.ok.0)

@@ -1,9 +1,9 @@
 use Rattle.std.proofs.Common.{sym, ◌∙◌, arith}
 use Rattle.std.proofs.lemmas.Option.{slice_get_read}
-use Rattle.el_join.proofs.Answering.{handed_on}
 use Rattle.el_join.proofs.Keeping.{puts_over, flow_over, flow_taken}
 use Rattle.el_join.proofs.Taking.{no_eos_is}
 use Rattle.el_join.proofs.concat.Concat.feed.Goals as goal
+use Rattle.gst_value.proofs.Results.{handed_on}
 
 pub index-requires : goal.index-requires
 index-requires c = omega (arith, c.requires.pad, c.args.self.now.pads.ok.0)

@@ -1,8 +1,9 @@
 use Rattle.std.proofs.Common.{refl, arith}
 use Rattle.std.proofs.lemmas.Option.{slice_get_read}
-use Rattle.el_join.proofs.Answering.{on_err, if_err}
+use Rattle.el_join.proofs.Answering.{on_err}
 use Rattle.el_join.proofs.Taking.{passed_on, passed_fault, concat_is, vec_back}
 use Rattle.el_join.proofs.concat.Concat.pass.Goals as goal
+use Rattle.gst_value.proofs.Results.{if_err}
 
 pub index_mut-requires : goal.index_mut-requires
 index_mut-requires c = omega (arith, c.requires.turn, c.args.self.now.pads.ok.0)

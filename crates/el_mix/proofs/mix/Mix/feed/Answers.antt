@@ -1,12 +1,13 @@
 use Rattle.std.proofs.Common.{true, false, refl, ◌∙◌, arith}
 use Rattle.std.proofs.lemmas.Option.{slice_get_read}
 use Rattle.flow_model.specs.declared.fault.ElementFault.TheVariants.{OutOfMemory as Wanting}
-use Rattle.el_mix.proofs.Handing.{whatever, handed_on}
+use Rattle.el_mix.proofs.Handing.{whatever}
 use Rattle.el_mix.proofs.Lending.{mix_is}
 use Rattle.el_mix.proofs.Giving.{open_at, same_settled, lent_length, lent_settled, takes_lent, puts_same}
 use Rattle.el_mix.proofs.Laying.{puts_behind, flow_is}
 use Rattle.el_mix.proofs.Answered.{puts_taken, fault_told}
 use Rattle.el_mix.proofs.mix.Mix.feed.Goals as goal
+use Rattle.gst_value.proofs.Results.{handed_on}
 
 pub index-requires : goal.index-requires
 index-requires c = omega (arith, c.requires.pad, c.args.self.now.channels.ok.0)

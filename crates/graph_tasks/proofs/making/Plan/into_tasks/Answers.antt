@@ -1,9 +1,9 @@
 use Rattle.std.proofs.Common.{◌∙◌, ap, map, sym, arith}
 use Rattle.graph_tasks.specs.Planned.{planned}
 use Rattle.graph_tasks.proofs.Begun.{tasks_are}
-use Rattle.graph_tasks.proofs.Fillings.{is_empty}
 use Rattle.graph_tasks.proofs.Plans.{elements_end, first_once, first_there, sources_end, tasks_begin, tasks_end, tasks_step}
 use Rattle.graph_tasks.proofs.making.Plan.into_tasks.Goals as goal
+use Rattle.gst_value.proofs.Places.{none_left as is_empty}
 
 pub loop-slot-init : goal.loop-slot-init
 loop-slot-init g c = record {

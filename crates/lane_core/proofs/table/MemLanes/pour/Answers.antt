@@ -1,5 +1,6 @@
-use Rattle.lane_core.proofs.Change.{pour_is, poured_is, on_ok}
+use Rattle.lane_core.proofs.Change.{pour_is, poured_is}
 use Rattle.lane_core.proofs.table.MemLanes.pour.Goals as goal
+use Rattle.gst_value.proofs.Results.{then_ok as on_ok}
 
 pub returns-clause-into : goal.returns-clause-into
 returns-clause-into c =

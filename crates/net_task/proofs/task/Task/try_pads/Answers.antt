@@ -1,6 +1,6 @@
-use Rattle.net_task.proofs.Closed.{handed_on}
 use Rattle.net_task.proofs.Stepping.{all_tried, parts_failed, parts_moved_by, source_fault}
 use Rattle.net_task.proofs.task.Task.try_pads.Goals as goal
+use Rattle.gst_value.proofs.Results.{handed_on}
 
 pub returns-in_err-tried-clause-faults : goal.returns-in_err-tried-clause-faults
 returns-in_err-tried-clause-faults g c = handed_on c.from_residual.result c.in_err-tried.field-0.0 _ c.from_residual.ensures.1 (parts_failed _ _ c.args.self.now c.try_parts.new.self c.in_err-tried.field-0.0 c.in_err-tried.ensures.faults)

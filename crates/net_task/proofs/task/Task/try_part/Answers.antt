@@ -6,10 +6,10 @@ use Rattle.gst_value.proofs.Basics.{some_same}
 use Rattle.net_task.specs.Failed.{at_head, memory, no_memory}
 use Rattle.net_task.specs.Frame.{TaskFrame, WireAt, frame_of}
 use Rattle.net_task.specs.Tries.{IsAtPort, IsFirstOf, IsOfPart}
-use Rattle.net_task.proofs.Closed.{handed_on}
 use Rattle.net_task.proofs.Asking.{settled, settled_frame}
-use Rattle.net_task.proofs.SoFar.{PadsAre, WasBelow, below_all, done_so, fails_so, first_of, has_port, idle_below, more_so, moved_so, on_ok, one_below, pads_are, pads_counted, parts_within, settled_idle, settled_so, settled_then}
+use Rattle.net_task.proofs.SoFar.{PadsAre, WasBelow, below_all, done_so, fails_so, first_of, has_port, idle_below, more_so, moved_so, one_below, pads_are, pads_counted, parts_within, settled_idle, settled_so, settled_then}
 use Rattle.net_task.proofs.task.Task.try_part.Goals as goal
+use Rattle.gst_value.proofs.Results.{handed_on, on_ok}
 
 pub returns-then-is_err-clause-faults : goal.returns-then-is_err-clause-faults
 returns-then-is_err-clause-faults g c = rw c.out_of_memory.ensures (record {

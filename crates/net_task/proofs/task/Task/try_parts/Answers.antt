@@ -2,9 +2,9 @@ use Rattle.std.proofs.Common.{◌∙◌, ◌+◌, ap, arith, refl, sym}
 use Rattle.net_task.specs.Frame.{TaskFrame, frame_of}
 use Rattle.net_task.specs.Reasons.{IsFirst}
 use Rattle.net_task.specs.Tries.{IsFirstOf, IsOfAny, IsOfPart}
-use Rattle.net_task.proofs.Closed.{handed_on}
 use Rattle.net_task.proofs.SoFar.{WasBefore, before_all, done_so, fails_so, first_all, idle_so, more_so, moved_so, one_before, same_many}
 use Rattle.net_task.proofs.task.Task.try_parts.Goals as goal
+use Rattle.gst_value.proofs.Results.{handed_on}
 
 pub loop-place-init : goal.loop-place-init
 loop-place-init g c = (idle_so _ c.args.self.now _ refl refl c.requires.ready, c.len-place-end.ensures ∙ c.args.self.now.parts.ok.0, omega arith)
