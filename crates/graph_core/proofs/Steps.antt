@@ -100,10 +100,10 @@ pub placed_named : (before : List Made) (text name : List ℕ) (settings : Setti
 placed_named before text name settings answer same h = subst (λ (t : List ℕ). IsPlaced before t settings answer) same h
 
 -- an element that has its place is made
-pub made_behind : (before after : List Made) (d : Declared) (text name : List ℕ) (props : List Prop) (element : Element) (settings : Settings) → text ≡ name → name ≡ name_of before d → IsAnswer d.kind d.props (Ok settings)
-    → IsPlaced before text settings (Ok tt) → props ≡ d.props → (element.kind ≡ d.kind) × (element.is_numbered ≡ not (is_some (given_name props))) × (element.settings ≡ settings) → after ≡ before ++ made_of name element ∷ [] → Follows before (d ∷ []) after
-made_behind before after d text name props element settings same named set placed all own grown =
-    follows_one before after d (made_of name element) (record {
+pub placed_made : (before : List Made) (d : Declared) (text name : List ℕ) (props : List Prop) (element : Element) (settings : Settings) → text ≡ name → name ≡ name_of before d → IsAnswer d.kind d.props (Ok settings)
+    → IsPlaced before text settings (Ok tt) → props ≡ d.props → (element.kind ≡ d.kind) × (element.is_numbered ≡ not (is_some (given_name props))) × (element.settings ≡ settings) → IsMade before d (made_of name element)
+placed_made before d text name props element settings same named set placed all own =
+    record {
       kind = own.0;
       is_numbered = own.1 ∙ ap (λ ps. not (is_some (given_name ps))) all;
       name = named;
@@ -111,4 +111,4 @@ made_behind before after d text name props element settings same named set place
       free_name = subst (λ (t : List ℕ). is_name_taken t before ≡ false) (same ∙ named) placed.0;
       free_location = subst (λ (s : Settings). is_location_taken s before ≡ false) (sym own.2) placed.1;
       room = placed.2;
-    }) grown
+    }

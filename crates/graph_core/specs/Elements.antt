@@ -14,6 +14,7 @@ use Rattle.el_settings.specs.declared.fault.PropFault.TheVariants.{NoSuchKind, N
 use Rattle.graph_core.specs.Comes.{Comes}
 use Rattle.graph_core.specs.Asked.{Declared}
 use Rattle.graph_core.specs.declared.element.Element.{Element}
+use Rattle.graph_core.specs.declared.element.NewElement.{NewElement}
 use Rattle.graph_core.specs.declared.elements.Elements.{Elements}
 use Rattle.graph_core.specs.declared.fault.BuildFault.{BuildFault}
 use Rattle.graph_core.specs.declared.fault.BuildFault.TheVariants.{NoSuch, BadValue, NameTaken, LocationTaken, TooMany, LinkRefused, OutOfMemory}
@@ -28,6 +29,10 @@ pub record Made : Type 0 where
 
 abbrev pub made_of : List ℕ → Element → Made
 made_of name element = record { name = name; kind = element.kind; is_numbered = element.is_numbered; settings = element.settings }
+
+-- one that is to stand behind others
+abbrev pub made_in : NewElement → Made
+made_in new = made_of (string_bytes new.name) new.element
 
 abbrev pub all_made : Elements → List Made
 all_made elements = map (λ e. made_of (string_bytes e.0) e.1) elements.by_name.entries

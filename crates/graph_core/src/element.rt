@@ -16,6 +16,24 @@ pub(crate) struct Element {
     pub(crate) settings: Settings,
 }
 
+/// An element that has a place behind others, and its name. It does not stand there yet.
+#[derive(Drop)]
+pub struct NewElement {
+    pub(crate) name: String,
+    pub(crate) element: Element,
+}
+
+impl NewElement {
+    ghost use Rattle.graph_core.specs.Elements.{made_in};
+
+    /// What it is set to.
+    pub fn settings(&self) -> &Settings
+        ensures { result.now ≡ (made_in self.now).settings }
+    {
+        &self.element.settings
+    }
+}
+
 /// Whether the name of an element is made of this kind.
 pub(crate) fn is_numbered(element: &Element, kind: &str) -> bool
     ensures { result ≡ (element.now.is_numbered && bytes_eq element.now.kind kind.now) }

@@ -2,7 +2,7 @@
 ghost use Rattle.std.specs.Prelude.{◌≡◌, ◌≤◌};
 ghost use Rattle.indexmap.specs.IndexMap.{index_map_len};
 
-use crate::element::{Element, is_numbered, some_clash};
+use crate::element::{Element, NewElement, is_numbered, some_clash};
 use el_settings::{MadePads, Settings};
 use gst_caps::Caps;
 use gst_value::OutOfMemory;
@@ -14,16 +14,16 @@ pub(crate) const LIMIT: u32 = 256;
 
 /// Elements by their names, in the order of their numbers.
 #[derive(Drop)]
-pub(crate) struct Elements {
+pub struct Elements {
     by_name: IndexMap<String, Element>,
     ghost few: { index_map_len by_name ≤ 256 },
 }
 
 impl Elements {
-    ghost use Rattle.std.specs.Prelude.{◌<◌, ◌++◌, ◌∷◌, [], length, OnOk, OnErr, slice_get, slice_set, position, string_bytes, Some, false};
+    ghost use Rattle.std.specs.Prelude.{◌<◌, ◌++◌, ◌∷◌, [], length, OnOk, OnErr, slice_get, slice_set, position, Some, false};
     ghost use Rattle.std.specs.Option.{option_map};
     ghost use Rattle.graph_core.specs.Allowed.{with_caps, with_made_pads};
-    ghost use Rattle.graph_core.specs.Elements.{Made, made_of, all_made, numbered, is_named, is_name_taken, is_location_taken, limit};
+    ghost use Rattle.graph_core.specs.Elements.{Made, all_made, made_in, numbered, is_named, is_name_taken, is_location_taken, limit};
 
     /// No elements.
     pub(crate) fn new(alloc: Global) -> Elements
@@ -35,7 +35,7 @@ impl Elements {
     }
 
     /// How many elements there are.
-    pub(crate) fn count(&self) -> u32
+    pub fn count(&self) -> u32
         ensures count { result ≡ length (all_made self.now) }
         ensures few { result ≤ limit }
     {
@@ -43,7 +43,7 @@ impl Elements {
     }
 
     /// The number of the element of this name.
-    pub(crate) fn find(&self, name: &str) -> Option<u32>
+    pub fn find(&self, name: &str) -> Option<u32>
         ensures { result ≡ position (is_named name.now) (all_made self.now) }
     {
         match self.by_name.get_index_of(name) {
@@ -53,7 +53,7 @@ impl Elements {
     }
 
     /// The name of an element.
-    pub(crate) fn name(&self, element: u32) -> &str
+    pub fn name(&self, element: u32) -> &str
         requires { element < length (all_made self.now) }
         ensures { option_map (λ (m : Made). m.name) (slice_get (all_made self.now) element) ≡ Some result.now }
     {
@@ -64,7 +64,7 @@ impl Elements {
     }
 
     /// What an element is set to.
-    pub(crate) fn settings(&self, element: u32) -> &Settings
+    pub fn settings(&self, element: u32) -> &Settings
         requires { element < length (all_made self.now) }
         ensures { option_map (λ (m : Made). m.settings) (slice_get (all_made self.now) element) ≡ Some result.now }
     {
@@ -115,12 +115,13 @@ impl Elements {
     }
 
     /// Puts an element of a new name behind these.
-    pub(crate) fn push(&mut self, name: String, element: Element) -> Result<(), OutOfMemory>
-        requires new { is_name_taken (string_bytes name) (all_made self.old) ≡ false }
+    pub fn put(&mut self, new: NewElement) -> Result<(), OutOfMemory>
+        requires free { is_name_taken (made_in new).name (all_made self.old) ≡ false }
         requires room { length (all_made self.old) < limit }
-        ensures made { OnOk result (all_made self.new ≡ all_made self.old ++ made_of (string_bytes name) element ∷ []) }
+        ensures made { OnOk result (all_made self.new ≡ all_made self.old ++ made_in new ∷ []) }
         ensures stays { OnErr result (all_made self.new ≡ all_made self.old) }
     {
+        let NewElement { name, element } = new;
         self.by_name.insert(name, element)?;
         Ok(())
     }

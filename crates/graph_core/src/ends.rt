@@ -130,7 +130,7 @@ fn no_such_pad(alloc: Global, element: &str, pad: &str) -> Result<BuildFault, Ou
 }
 
 /// The name of a pad.
-pub(crate) fn pad_name(alloc: Global, elements: &Elements, pad: Pad) -> Result<PadName, OutOfMemory>
+pub fn pad_name(alloc: Global, elements: &Elements, pad: Pad) -> Result<PadName, OutOfMemory>
     requires { pad.place.element < length (all_made elements.now) }
     ensures { IfOk result (λ name. name ≡ pad_name (all_made elements.now) pad) }
 {

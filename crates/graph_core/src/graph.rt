@@ -4,6 +4,7 @@ use crate::elements::Elements;
 use crate::ends::pad_name;
 use crate::links::Links;
 use el_settings::Settings;
+use graph_order::Order;
 use graph_pads::{Direction, Pad, PadLink, PadPlace, sink_behind, source_before};
 use gst_caps::Caps;
 use gst_value::{CapsFault, OutOfMemory, PadName};
@@ -21,10 +22,10 @@ pub struct Graph {
 impl Graph {
     ghost use Rattle.std.specs.Prelude.{◌≡◌, ◌<◌, ◌≤◌, ◌↔◌, ℕ, None, Some, length, slice_get, position, IfOk, IfSome, IsTrue};
     ghost use Rattle.std.specs.Option.{option_map};
-    ghost use Rattle.graph_order.specs.Forward.{IsMember, GoForward};
+    ghost use Rattle.graph_order.specs.Forward.{IsForward, IsMember, GoForward, count_of, links_of};
     ghost use Rattle.gst_value.specs.Limit.{TooManyWhere};
     ghost use Rattle.graph_core.specs.Allowed.{Allows};
-    ghost use Rattle.graph_core.specs.Elements.{Made, is_named, limit};
+    ghost use Rattle.graph_core.specs.Elements.{Made, all_made, is_named, limit};
     ghost use Rattle.graph_core.specs.Ends.{pad_name, pads_at};
     ghost use Rattle.graph_pads.specs.Pads.{pad_at};
     ghost use Rattle.graph_core.specs.Links.{ways};
@@ -171,5 +172,20 @@ impl Graph {
         ensures live { IsSound self.now → IsTrue result ↔ Live (made self.now) (links self.now) element }
     {
         matches!(self.live.get(element as usize), Some(true))
+    }
+
+    /// The elements, the links in the order of the line, and the order in which each of these goes forward.
+    pub fn into_parts(self) -> (Elements, Vec<PadLink>, Order)
+        ensures elements { all_made result.0 ≡ made self }
+        ensures links { result.1.items ≡ links self }
+        ensures order { IsSound self → IsForward result.2 × (count_of result.2 ≡ length (made self)) × (links_of result.2 ≡ ways (links self)) }
+    {
+        let Graph {
+            elements,
+            links,
+            ..
+        } = self;
+        let Links { made, order } = links;
+        (elements, made, order)
     }
 }

@@ -38,8 +38,8 @@ pub(crate) fn refusal(
     Ok(None)
 }
 
-/// Whether a source pad and a sink pad have common caps.
-fn have_common(
+/// Whether a source pad and a sink pad have common caps: those of their templates, and of a capsfilter its own.
+pub fn have_common(
     alloc: Global,
     elements: &Elements,
     left: Pad,

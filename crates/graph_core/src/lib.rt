@@ -18,7 +18,12 @@ mod making;
 mod naming;
 
 pub use building::build;
+pub use element::NewElement;
+pub use elements::Elements;
+pub use ends::pad_name;
 pub use fault::{BuildFault, What};
 pub use graph::Graph;
 pub use graph_pads::{PadLink, PadPlace};
+pub use judging::have_common;
 pub use laws::{one_answer, pads_are_linked_once};
+pub use making::new_element;

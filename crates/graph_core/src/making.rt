@@ -4,9 +4,9 @@ ghost use Rattle.gst_value.specs.declared.name.Prop.{Prop as Property};
 ghost use Rattle.el_settings.specs.Asked.{location_of};
 ghost use Rattle.el_settings.specs.Checked.{IsAnswer};
 ghost use Rattle.graph_core.specs.Asked.{Declared, declared_by, chain_elements, elements_in};
-ghost use Rattle.graph_core.specs.Elements.{all_made, name_of, ElementsCome, IsPlaced, settings_fault, Follows, Stops};
+ghost use Rattle.graph_core.specs.Elements.{all_made, made_in, name_of, ElementsCome, IsMade, IsPlaced, IsUnmade, settings_fault, Follows, Stops};
 
-use crate::element::Element;
+use crate::element::{Element, NewElement};
 use crate::elements::{Elements, LIMIT};
 use crate::fault::{BuildFault, What};
 use crate::naming::{given_name, name_for};
@@ -81,36 +81,50 @@ fn add(
         ((let d : Declared = record { kind = kind.now; props = props.now } in d) ∷ []) (all_made elements.new)) }
     ensures fault { IfErr result (λ fault. Stops (all_made elements.old) ((let d : Declared = record { kind = kind.now; props = props.now } in d) ∷ []) fault) }
 {
-    let name = name_for(alloc, elements, kind, props.as_slice())?;
+    let made = new_element(alloc, elements, kind, props)?;
+    elements.put(made)?;
+    Ok(())
+}
+
+/// Makes an element of a kind that has a place behind those before it, and does not put it there. Of the faults the first is
+/// answered: of its kind, its properties, its name, its location, and the number of elements.
+pub fn new_element(
+    alloc: Global,
+    before: &Elements,
+    kind: &str,
+    props: &List<Prop>,
+) -> Result<NewElement, BuildFault>
+    ensures made { IfOk result (λ new. IsMade (all_made before.now) (record { kind = kind.now; props = props.now }) (made_in new)) }
+    ensures fault { IfErr result (λ fault. IsUnmade (all_made before.now) (record { kind = kind.now; props = props.now }) fault) }
+{
+    let name = name_for(alloc, before, kind, props.as_slice())?;
     match check(alloc, kind, props) {
-        Ok(settings) => push_element(alloc, elements, name, kind, props, settings),
+        Ok(settings) => place_element(alloc, before, name, kind, props, settings),
         Err(fault) => Err(named_fault(alloc, name.as_str(), kind, fault)?),
     }
 }
 
-/// Puts an element of these settings behind those before it, if its name, its location and its number may be.
-fn push_element(
+/// An element of these settings, if its name, its location and its number may stand behind those before it.
+fn place_element(
     alloc: Global,
-    elements: &mut Elements,
+    before: &Elements,
     name: String,
     kind: &str,
     props: &List<Prop>,
     settings: Settings,
-) -> Result<(), BuildFault>
-    requires name { string_bytes name ≡ name_of (all_made elements.old) (record { kind = kind.now; props = props.now }) }
+) -> Result<NewElement, BuildFault>
+    requires name { string_bytes name ≡ name_of (all_made before.now) (record { kind = kind.now; props = props.now }) }
     requires set { IsAnswer kind.now props.now (Ok settings) }
-    ensures made { OnOk result (Follows (all_made elements.old)
-        ((let d : Declared = record { kind = kind.now; props = props.now } in d) ∷ []) (all_made elements.new)) }
-    ensures fault { IfErr result (λ fault. Stops (all_made elements.old) ((let d : Declared = record { kind = kind.now; props = props.now } in d) ∷ []) fault) }
+    ensures made { IfOk result (λ new. IsMade (all_made before.now) (record { kind = kind.now; props = props.now }) (made_in new)) }
+    ensures fault { IfErr result (λ fault. IsUnmade (all_made before.now) (record { kind = kind.now; props = props.now }) fault) }
 {
-    judge(alloc, elements, name.as_str(), &settings)?;
+    judge(alloc, before, name.as_str(), &settings)?;
     let element = Element {
         kind: Text::from_str(alloc, kind)?,
         is_numbered: given_name(props.as_slice()).is_none(),
         settings,
     };
-    elements.push(name, element)?;
-    Ok(())
+    Ok(NewElement { name, element })
 }
 
 /// Whether an element of this name and these settings has a place behind those before it.

@@ -1,5 +1,5 @@
 -- Orders of elements in which each link goes forward.
-use Rattle.std.specs.Prelude.{◌≡◌, ◌⊎◌, ◌<◌, ◌++◌, ℕ, List, [], ◌∷◌, vec_len}
+use Rattle.std.specs.Prelude.{◌≡◌, ◌⊎◌, ◌<◌, ◌++◌, ℕ, List, [], ◌∷◌, vec_capacity, vec_len}
 use Rattle.graph_order.specs.Links.{Way}
 use Rattle.graph_order.specs.declared.link.Link.{Link}
 use Rattle.graph_order.specs.declared.order.Order.{Order}
@@ -29,6 +29,10 @@ forward_of order = order.forward.items
 -- how many elements there are; they have the numbers from 0 on
 abbrev pub count_of : Order → ℕ
 count_of order = vec_len order.forward
+
+-- there is room for one element more
+abbrev pub HasRoom : Order → Type 0
+HasRoom order = vec_len order.forward < vec_capacity order.forward
 
 -- each element stands in the order, once, and each link goes forward
 pub record IsForward (order : Order) : Type 0 where

@@ -1,5 +1,5 @@
 //! Elements in an order in which each link goes forward.
-ghost use Rattle.std.specs.Prelude.{◌≡◌, ◌<◌, ◌+◌, ◌^◌, ◌++◌, [], All, true, false, length, filter, IfOk, OnOk, OnErr, vec_len};
+ghost use Rattle.std.specs.Prelude.{◌≡◌, ◌<◌, ◌↔◌, ◌+◌, ◌^◌, ◌++◌, [], All, true, false, length, filter, IfOk, IsTrue, OnOk, OnErr, vec_len};
 ghost use Rattle.graph_order.specs.Marks.{is_chosen};
 
 use crate::link::Link;
@@ -28,7 +28,8 @@ pub struct Order {
 }
 
 impl Order {
-    ghost use Rattle.graph_order.specs.Forward.{IsForward, AfterLink, links_of, forward_of, count_of};
+    ghost use Rattle.graph_order.specs.Forward.{IsForward, AfterLink, HasRoom, links_of, forward_of, count_of};
+    ghost use Rattle.graph_order.specs.Links.{Way};
 
     /// No elements. Takes no memory.
     pub fn new(alloc: Global) -> Order
@@ -54,6 +55,40 @@ impl Order {
         let number = self.forward.len() as u32;
         self.forward.push(number)?;
         Ok(number)
+    }
+
+    /// Takes room for another element. Nothing else changes.
+    pub fn make_room(&mut self) -> Result<(), OutOfMemory>
+        ensures room { OnOk result (HasRoom self.new) }
+        ensures same { links_of self.new ≡ links_of self.old }
+        ensures forward { forward_of self.new ≡ forward_of self.old }
+    {
+        self.forward.reserve(1)?;
+        Ok(())
+    }
+
+    /// Another element, behind the others, into room that was made before. Its number is given.
+    pub fn add_reserved(&mut self) -> u32
+        requires few { count_of self.old + 1 < 2 ^ 32 }
+        requires room { HasRoom self.old }
+        ensures number { result ≡ count_of self.old }
+        ensures count { count_of self.new ≡ count_of self.old + 1 }
+        ensures links { links_of self.new ≡ links_of self.old }
+        ensures forward { IsForward self.old → IsForward self.new }
+    {
+        let number = self.forward.len() as u32;
+        self.forward.push_reserved(number);
+        number
+    }
+
+    /// Whether a way leads from one element to another over links that were ever made.
+    pub fn leads(&self, alloc: Global, from: u32, to: u32) -> Result<bool, OutOfMemory>
+        requires from { from < count_of self.now }
+        requires to { to < count_of self.now }
+        ensures { IfOk result (λ leads. IsTrue leads ↔ Way (links_of self.now) from to) }
+    {
+        let marks = reached(alloc, self.forward.len(), &self.links, from)?;
+        Ok(marks[to as usize])
     }
 
     /// A link from one element to another, unless it would close a loop with all links ever made. The elements to

@@ -58,6 +58,10 @@ pad_shape pad = record { number = number_of pad; goes = goes_of pad }
 abbrev pub setting_of : SrcPad → PadState
 setting_of src = record (state_of src) { kept = None }
 
+-- how a pad is set, but for its peer
+abbrev pub without_peer : SrcPad → PadState
+without_peer src = record (state_of src) { peer = None }
+
 -- a sticky event, of which a copy is laid by before it crosses
 abbrev pub is_kept : Item → Bool
 is_kept (Buf b) = false
@@ -83,6 +87,24 @@ pub record Rest (O : Type 0) : Type 0 where
 
 abbrev pub rest_of : {O : Type 0} → Pad O → Rest O
 rest_of pad = record { src = pad.src; behind = pad.behind }
+
+-- Its probe is this one now, and nothing else changed.
+pub record IsProbed {O : Type 0} (old new : Pad O) (probe : Option Probe) : Type 0 where
+  pub probe_is : probe_of new ≡ probe
+  pub history : (h : List Item) → HasCrossed old h → HasCrossed new h
+  pub counted : crossed_count new ≡ crossed_count old
+  pub waiting : waiting_of new ≡ waiting_of old
+  pub behind : (rest_of new).behind ≡ (rest_of old).behind
+  pub shape : pad_shape new ≡ pad_shape old
+
+-- It leads elsewhere now: what crossed it and what waits at it stays, and so do its number and its probe.
+pub record IsLed {O : Type 0} (old new : Pad O) (behind : Behind O) : Type 0 where
+  pub leads : (rest_of new).behind ≡ behind
+  pub number : number_of new ≡ number_of old
+  pub history : (h : List Item) → HasCrossed old h → HasCrossed new h
+  pub counted : crossed_count new ≡ crossed_count old
+  pub waiting : waiting_of new ≡ waiting_of old
+  pub probe : probe_of new ≡ probe_of old
 
 -- there is room for one item more to wait
 abbrev pub HasRoom : {O : Type 0} → Pad O → Type 0

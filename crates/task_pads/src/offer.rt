@@ -1,11 +1,11 @@
 //! An item is offered to the pad at which it waits first.
-ghost use Rattle.std.specs.Prelude.{◌≡◌, ◌<◌, ◌^◌, true, false, [], List, None, OnErr, OnOk};
+ghost use Rattle.std.specs.Prelude.{◌≡◌, ◌<◌, ◌^◌, true, false, [], List, None, OnErr, OnOk, is_some};
 ghost use Rattle.flow_model.specs.Item.{is_flush_stop};
 ghost use Rattle.pad_core.specs.Crossing.{WasKept};
 ghost use Rattle.pad_core.specs.Linking.{has_peer};
 ghost use Rattle.pad_core.specs.SrcPad.{CrossedBy, state_of, crossed_of};
 ghost use Rattle.flow_model.specs.Item.{Item as Piece};
-ghost use Rattle.task_pads.specs.Pads.{is_kept, setting_of};
+ghost use Rattle.task_pads.specs.Pads.{is_kept, setting_of, without_peer};
 ghost use Rattle.task_pads.specs.Passing.{IsOffered, unlinked_answer};
 
 use gst_item::{Event, Item};
@@ -95,4 +95,18 @@ pub(crate) fn linked_pad(number: u32, sink: u32) -> SrcPad
     let mut sink = SinkPad::new(sink, true);
     link(&mut src, &mut sink, true);
     src
+}
+
+/// Links a pad to this sink pad in place of its peer, or only undoes its link where there is none.
+pub(crate) fn lead(src: &mut SrcPad, sink: Option<u32>)
+    ensures linked { has_peer (state_of src.new).peer ≡ is_some sink }
+    ensures rest { without_peer src.new ≡ without_peer src.old }
+    ensures history { (h : List Piece) → CrossedBy src.old h → CrossedBy src.new h }
+    ensures crossed { crossed_of src.new ≡ crossed_of src.old }
+{
+    src.unlink();
+    if let Some(number) = sink {
+        let mut pad = SinkPad::new(number, true);
+        link(src, &mut pad, true);
+    }
 }

@@ -6,13 +6,14 @@ ghost use Rattle.pad_core.specs.Linking.{has_peer};
 ghost use Rattle.task_pads.specs.Behind.{leads_on, items_of};
 
 use crate::crossing::{Crossing, cross};
-use crate::offer::linked_pad;
+use crate::offer::{lead, linked_pad};
 use gst_item::{Item, Out};
 use gst_value::OutOfMemory;
 use lane_core::Outlet;
 use pad_core::SrcPad;
 use std::alloc::Global;
 use std::collections::VecDeque;
+use std::mem;
 
 /// Where a source pad leads.
 #[derive(Drop)]
@@ -54,8 +55,9 @@ impl<O: Outlet> Pad<O> {
     ghost use Rattle.std.specs.Prelude.{◌≢◌, ◌+◌, ◌++◌, ◌∷◌, ◌==◌, [], List, OnOk, None, Some, length};
     ghost use Rattle.flow_model.specs.Item.{is_flush_stop, buffers};
     ghost use Rattle.flow_model.specs.Item.{Item as Piece};
+    ghost use Rattle.pad_core.specs.Crossing.{has_ended};
     ghost use Rattle.task_pads.specs.Behind.{goes, SetsHint, place_in, sent_in};
-    ghost use Rattle.task_pads.specs.Pads.{seen, number_of, goes_of, waiting_of, rest_of, end_of, probe_of, pad_shape, crossed_count, HasCrossed, CanTakeBack, StandsAs, PadReady, KeepsTable, HasRoom};
+    ghost use Rattle.task_pads.specs.Pads.{seen, number_of, goes_of, waiting_of, rest_of, end_of, probe_of, pad_shape, crossed_count, HasCrossed, CanTakeBack, IsLed, IsProbed, StandsAs, PadReady, KeepsTable, HasRoom};
     ghost use Rattle.task_pads.specs.Crossing.{IsCrossing};
     ghost use Rattle.task_pads.specs.Put.{IsTaken};
 
@@ -96,6 +98,13 @@ impl<O: Outlet> Pad<O> {
         ensures { (h : List Piece) → HasCrossed self.now h → result ≡ buffers h }
     {
         self.src.buffers()
+    }
+
+    /// Whether EOS crossed it since the last FLUSH_STOP.
+    pub fn has_ended(&self) -> bool
+        ensures { (h : List Piece) → HasCrossed self.now h → result ≡ has_ended h }
+    {
+        self.src.has_ended()
     }
 
     /// Whether nothing waits at it.
@@ -216,31 +225,30 @@ impl<O: Outlet> Pad<O> {
 
     /// Sets the probe of a command, which stops the buffer behind so many.
     pub fn block(&mut self, command: u32, buffers: u64)
-        ensures probe { probe_of self.new ≡ Some (record { command = command; buffers = buffers }) }
-        ensures history { (h : List Piece) → HasCrossed self.old h → HasCrossed self.new h }
-        ensures crossed { crossed_count self.new ≡ crossed_count self.old }
-        ensures waiting { waiting_of self.new ≡ waiting_of self.old }
-        ensures behind { (rest_of self.new).behind ≡ (rest_of self.old).behind }
-        ensures shape { pad_shape self.new ≡ pad_shape self.old }
+        ensures { IsProbed self.old self.new (Some (record { command = command; buffers = buffers })) }
     {
         self.src.block(command, buffers);
     }
 
     /// Takes the probe away.
     pub fn unblock(&mut self)
-        ensures probe { probe_of self.new ≡ None }
-        ensures history { (h : List Piece) → HasCrossed self.old h → HasCrossed self.new h }
-        ensures crossed { crossed_count self.new ≡ crossed_count self.old }
-        ensures waiting { waiting_of self.new ≡ waiting_of self.old }
-        ensures behind { (rest_of self.new).behind ≡ (rest_of self.old).behind }
-        ensures shape { pad_shape self.new ≡ pad_shape self.old }
+        ensures { IsProbed self.old self.new None }
     {
         self.src.unblock();
+    }
+
+    /// Leads elsewhere from now on. Where it led is given back; what waits at it stays, and goes the new way.
+    pub fn lead(&mut self, behind: Behind<O>) -> Behind<O>
+        ensures led { IsLed self.old self.new behind }
+        ensures was { result ≡ (rest_of self.old).behind }
+    {
+        lead(&mut self.src, behind.sink_pad());
+        mem::replace(&mut self.behind, behind)
     }
 }
 
 impl<O> Behind<O> {
-    ghost use Rattle.std.specs.Prelude.{[], None};
+    ghost use Rattle.std.specs.Prelude.{[], None, is_some};
     ghost use Rattle.pad_core.specs.SrcPad.{CrossedBy};
 
     /// A pad of this number that nothing crossed, with a peer where it leads on.
@@ -257,6 +265,16 @@ impl<O> Behind<O> {
             Behind::Nothing => SrcPad::new(number, true),
             Behind::Element { pad, .. } => linked_pad(number, *pad),
             Behind::Lane { pad, .. } => linked_pad(number, *pad),
+        }
+    }
+
+    /// The sink pad to which it leads, if it leads on.
+    fn sink_pad(&self) -> Option<u32>
+        ensures { is_some result ≡ leads_on self.now }
+    {
+        match self {
+            Behind::Nothing => None,
+            Behind::Element { pad, .. } | Behind::Lane { pad, .. } => Some(*pad),
         }
     }
 }

@@ -12,6 +12,12 @@ module _ {S O : Type 0} {s : sources.Ghosts S} where
   abbrev pub GaveMore : SourceHead S O s → SourceHead S O s → Item → Type 0
   GaveMore old new x = (owed given : List Item) → s.gave old.source owed given → s.gave new.source owed (given ++ x ∷ [])
 
+  -- its pad may be another; the source and its number are the same
+  pub record IsSameSource (old new : SourceHead S O s) : Type 0 where
+    pub number : new.number ≡ old.number
+    pub source : new.source ≡ old.source
+    pub given : new.given ≡ old.given
+
   -- it gave nothing, and nothing changed
   pub record SourceKept (old new : SourceHead S O s) : Type 0 where
     pub gave : (owed given : List Item) → s.gave old.source owed given → s.gave new.source owed given

@@ -12,10 +12,12 @@ use Rattle.net_model.specs.declared.refusal.Refusal.{Refusal}
 use Rattle.net_model.specs.Failures.{IsWriteCause}
 use Rattle.net_model.specs.Refuses.{RefusesBy}
 use Rattle.net_model.specs.Takes.{OwesMore, on_port}
+use Rattle.pad_core.specs.declared.probe.Probe.{Probe}
+use Rattle.task_pads.specs.declared.pad.Behind.{Behind}
 use Rattle.task_pads.specs.declared.pad.Pad.{Pad}
 use Rattle.task_pads.specs.declared.crossing.Crossing.{Crossing}
 use Rattle.task_pads.specs.Behind.{place_in}
-use Rattle.task_pads.specs.Pads.{PadReady, pad_shape, rest_of, waiting_of, CanTakeBack, HasCrossed, KeepsTable, crossed_count, end_of, probe_of}
+use Rattle.task_pads.specs.Pads.{IsLed, IsProbed, PadReady, pad_shape, rest_of, waiting_of, CanTakeBack, HasCrossed, KeepsTable, crossed_count, end_of, probe_of}
 use Rattle.task_pads.specs.Put.{IsTaken}
 use Rattle.task_pads.specs.Crossing.{IsCrossing}
 use Rattle.task_parts.specs.declared.part.Part.{Part}
@@ -102,6 +104,25 @@ module _ {E O : Type 0} {e : elements.Ghosts E} where
     pub probe : probe_of is ≡ probe_of was
     pub waiting : waiting_of is ≡ waiting_of was
     pub behind : (rest_of is).behind ≡ (rest_of was).behind
+
+  -- The probe of the pad of a port is this one now.
+  pub record PartProbed (old new : Part E O e) (port : ℕ) (probe : Option Probe) : Type 0 where
+    pub was : Pad O
+    pub is : Pad O
+    pub pad : PadSet old new port was is
+    pub probed : IsProbed was is probe
+
+  -- The pad of a port leads elsewhere now; where it led was given back.
+  pub record PartLed (old new : Part E O e) (port : ℕ) (behind back : Behind O) : Type 0 where
+    pub number : new.number ≡ old.number
+    pub element : new.element ≡ old.element
+    pub out : new.out ≡ old.out
+    pub was : Pad O
+    pub is : Pad O
+    pub at : slice_get old.pads.items port ≡ Some was
+    pub set : new.pads.items ≡ slice_set old.pads.items port is
+    pub led : IsLed was is behind
+    pub gave : back ≡ (rest_of was).behind
 
 module _ {E O L : Type 0} {e : elements.Ghosts E} (o : outlets.Ghosts O L) where
   -- the lanes of its pads are of the table

@@ -13,7 +13,7 @@ use inlet_row::InletRow;
 use lane_core::{Inlet, Outlet};
 use net_model::{TaskSource, Unread};
 use std::alloc::Global;
-use task_pads::Pad;
+use task_pads::{Behind, Pad};
 
 /// A source with its pad.
 #[derive(Drop)]
@@ -58,8 +58,9 @@ pub(crate) enum Given {
 }
 
 impl<S: TaskSource, O: Outlet> SourceHead<S, O> {
-    ghost use Rattle.task_pads.specs.Pads.{rest_of};
-    ghost use Rattle.task_parts.specs.Head.{SourceGives, SourceKept};
+    ghost use Rattle.std.specs.Prelude.{None, Some};
+    ghost use Rattle.task_pads.specs.Pads.{IsLed, IsProbed, rest_of};
+    ghost use Rattle.task_parts.specs.Head.{IsSameSource, SourceGives, SourceKept};
 
     /// A source of this number that gave nothing, with its pad, which nothing crossed.
     pub fn new(number: u32, source: S, pad: Pad<O>) -> SourceHead<S, O>
@@ -128,6 +129,31 @@ impl<S: TaskSource, O: Outlet> SourceHead<S, O> {
         &self.pad
     }
 
+    /// Sets the probe of a command at its pad, which stops the buffer behind so many.
+    pub fn block(&mut self, command: u32, buffers: u64)
+        ensures probed { IsProbed self.old.pad self.new.pad (Some (record { command = command; buffers = buffers })) }
+        ensures same { IsSameSource self.old self.new }
+    {
+        self.pad.block(command, buffers);
+    }
+
+    /// Takes the probe at its pad away.
+    pub fn unblock(&mut self)
+        ensures probed { IsProbed self.old.pad self.new.pad None }
+        ensures same { IsSameSource self.old self.new }
+    {
+        self.pad.unblock();
+    }
+
+    /// Its pad leads elsewhere from now on. Where it led is given back; what waits at it stays.
+    pub fn lead(&mut self, behind: Behind<O>) -> Behind<O>
+        ensures led { IsLed self.old.pad self.new.pad behind }
+        ensures was { result ≡ (rest_of self.old.pad).behind }
+        ensures same { IsSameSource self.old self.new }
+    {
+        self.pad.lead(behind)
+    }
+
     /// The source. What waited at its pad is given up.
     pub fn into_source(self) -> S
         ensures { result ≡ self.source }
@@ -145,6 +171,16 @@ impl<I> InletHead<I> {
         ensures rows { result.rows ≡ rows }
     {
         InletHead { number, hint, rows }
+    }
+
+    /// The number of the element, the place at which it is looked for first, and what its sink pads are fed from.
+    pub fn into_parts(self) -> (u32, usize, Vec<InletRow<I>>)
+        ensures number { result.0 ≡ self.number }
+        ensures hint { result.1 ≡ self.hint }
+        ensures rows { result.2 ≡ self.rows }
+    {
+        let InletHead { number, hint, rows } = self;
+        (number, hint, rows)
     }
 }
 

@@ -15,7 +15,7 @@ use gst_value::{List, OutOfMemory};
 use lane_core::Outlet;
 use net_model::{Refused, TaskElement};
 use std::alloc::Global;
-use task_pads::{Crossing, Pad};
+use task_pads::{Behind, Crossing, Pad};
 
 /// An element of a task, the number that it has in the graph, and its source pads.
 #[derive(Drop)]
@@ -33,10 +33,10 @@ pub struct Part<E: TaskElement, O> {
 }
 
 impl<E: TaskElement, O: Outlet> Part<E, O> {
-    ghost use Rattle.std.specs.Prelude.{◌<◌, ◌≤◌, ◌≢◌, [], Some, length, slice_get};
+    ghost use Rattle.std.specs.Prelude.{◌<◌, ◌≤◌, ◌≢◌, [], None, Some, length, slice_get};
     ghost use Rattle.task_pads.specs.Pads.{waiting_of};
     ghost use Rattle.task_parts.specs.Gathered.{AreIdleBelow};
-    ghost use Rattle.task_parts.specs.Part.{PartSettled, IsSettled, PartFed, PartFell, PartCrossed, PartGave, PartTookBack, PartReady, CanTakeBackAt};
+    ghost use Rattle.task_parts.specs.Part.{PartSettled, IsSettled, PartFed, PartFell, PartCrossed, PartGave, PartLed, PartProbed, PartTookBack, PartReady, CanTakeBackAt};
     ghost use Rattle.task_parts.specs.Ends.{sent_from};
     ghost use Rattle.task_parts.specs.Idle.{part_idle};
     ghost use Rattle.task_parts.specs.Shape.{part_shape};
@@ -134,7 +134,7 @@ impl<E: TaskElement, O: Outlet> Part<E, O> {
 
     /// The element takes an item, and what it puts out waits at its pads.
     #[inline(always)]
-    pub(crate) fn feed(&mut self, alloc: Global, pad: u32, item: Item) -> Result<(), Refused>
+    pub fn feed(&mut self, alloc: Global, pad: u32, item: Item) -> Result<(), Refused>
         requires no_flush { is_flush_stop item ≡ false }
         ensures fed { OnOk result (PartFed self.old self.new pad item) }
         ensures fell { IfErr result (PartFell self.old self.new pad item) }
@@ -186,6 +186,30 @@ impl<E: TaskElement, O: Outlet> Part<E, O> {
         ensures { PartTookBack self.old self.new port }
     {
         self.pads[port].take_back();
+    }
+
+    /// Sets the probe of a command at the pad of a port, which stops the buffer behind so many.
+    pub fn block(&mut self, port: usize, command: u32, buffers: u64)
+        requires port { port < vec_len self.old.pads }
+        ensures { PartProbed self.old self.new port (Some (record { command = command; buffers = buffers })) }
+    {
+        self.pads[port].block(command, buffers);
+    }
+
+    /// Takes the probe at the pad of a port away.
+    pub fn unblock(&mut self, port: usize)
+        requires port { port < vec_len self.old.pads }
+        ensures { PartProbed self.old self.new port None }
+    {
+        self.pads[port].unblock();
+    }
+
+    /// The pad of a port leads elsewhere from now on. Where it led is given back; what waits at it stays.
+    pub fn lead(&mut self, port: usize, behind: Behind<O>) -> Behind<O>
+        requires port { port < vec_len self.old.pads }
+        ensures { PartLed self.old self.new port behind result }
+    {
+        self.pads[port].lead(behind)
     }
 }
 
