@@ -1,0 +1,5 @@
+mod LinksMade
+mod Earlier
+mod Padding
+mod Wiring
+mod Acts

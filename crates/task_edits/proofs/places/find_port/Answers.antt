@@ -1,0 +1,24 @@
+use Rattle.std.proofs.Common.{arith, sym, ◌∙◌}
+use Rattle.std.specs.Prelude.{◌≢◌}
+use Rattle.task_pads.specs.Pads.{number_of}
+use Rattle.task_pads.proofs.Lists.{some_at}
+use Rattle.task_edits.proofs.Earlier.{before_all, before_next}
+use Rattle.task_edits.proofs.places.find_port.Goals as goal
+
+pub loop-port-init : goal.loop-port-init
+loop-port-init g c = λ j pad less at. omega (arith, less)
+
+pub returns-then-number-pad-clause-there : goal.returns-then-number-pad-clause-there
+returns-then-number-pad-clause-there g c = record {
+  pad = c.index-pads-port.result;
+  at = some_at c.args.pads.now c.loop-port.port c.index-pads-port.result c.loop-port-test.true c.index-pads-port.is;
+  number_is = sym c.number.ensures ∙ c.if-number-pad.true;
+}
+
+pub loop-port-preserved : goal.loop-port-preserved
+loop-port-preserved g c =
+    before_next (λ pad. number_of pad ≢ c.args.pad) c.args.pads.now c.loop-port.port c.index-pads-port.result
+    (some_at c.args.pads.now c.loop-port.port c.index-pads-port.result c.loop-port-test.true c.index-pads-port.is) (λ e. c.if-number-pad.false (c.number.ensures ∙ e)) c.loop-port.invariant
+
+pub returns-clause-none : goal.returns-clause-none
+returns-clause-none g c = λ none. before_all (λ pad. number_of pad ≢ c.args.pad) c.args.pads.now c.loop-port.port (omega (arith, c.loop-port-test.false)) c.loop-port.invariant

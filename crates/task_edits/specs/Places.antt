@@ -1,0 +1,56 @@
+-- Where the source pads of a task stand.
+use Rattle.std.specs.Prelude.{◌≡◌, ◌≢◌, ℕ, List, Some, slice_get}
+use Rattle.net_model.specs.declared.element.TaskElement as elements
+use Rattle.net_model.specs.declared.source.TaskSource as sources
+use Rattle.task_pads.specs.declared.pad.Pad.{Pad}
+use Rattle.task_pads.specs.Pads.{number_of}
+use Rattle.task_parts.specs.declared.part.Part.{Part}
+use Rattle.task_parts.specs.declared.head.Head.{Head}
+use Rattle.task_parts.specs.declared.head.Head.TheVariants.{Source, Inlets}
+use Rattle.task_edits.specs.declared.places.PadAt.{PadAt}
+use Rattle.task_edits.specs.declared.places.PadAt.TheVariants as ats
+
+-- the pad of a number stands at this port
+pub record PortIs {O : Type 0} (pads : List (Pad O)) (number port : ℕ) : Type 0 where
+  pub pad : Pad O
+  pub at : slice_get pads port ≡ Some pad
+  pub number_is : number_of pad ≡ number
+
+-- no pad of these has the number
+abbrev pub NoPort : {O : Type 0} → List (Pad O) → ℕ → Type 0
+NoPort {O = O} pads number = (port : ℕ) (pad : Pad O) → slice_get pads port ≡ Some pad → number_of pad ≢ number
+
+module _ {E O : Type 0} {e : elements.Ghosts E} where
+  -- the element at a place has the pad of a number, at a port
+  pub record PartHas (parts : List (Part E O e)) (number place port : ℕ) : Type 0 where
+    pub part : Part E O e
+    pub part_at : slice_get parts place ≡ Some part
+    pub port_is : PortIs part.pads.items number port
+
+  abbrev pub PartPadIs : List (Part E O e) → ℕ → PadAt → Type 0
+  PartPadIs parts number ats.Source = ⊥
+  PartPadIs parts number (ats.Part place port) = PartHas parts number place port
+
+  -- no element has the pad of a number
+  abbrev pub NoPart : List (Part E O e) → ℕ → Type 0
+  NoPart parts number = (place : ℕ) (part : Part E O e) → slice_get parts place ≡ Some part → NoPort part.pads.items number
+
+module _ {S I O : Type 0} {s : sources.Ghosts S} where
+  -- the head is a source, and its pad has the number
+  abbrev pub IsOfHead : Head S I O s → ℕ → Type 0
+  IsOfHead (Source head) number = number_of head.pad ≡ number
+  IsOfHead (Inlets head) number = ⊥
+
+  abbrev pub HeadHasNot : Head S I O s → ℕ → Type 0
+  HeadHasNot (Source head) number = number_of head.pad ≢ number
+  HeadHasNot (Inlets head) number = Unit {0}
+
+module _ {S E I O : Type 0} {s : sources.Ghosts S} {e : elements.Ghosts E} where
+  -- the pad of a number stands there
+  abbrev pub StandsAt : Head S I O s → List (Part E O e) → ℕ → PadAt → Type 0
+  StandsAt head parts number ats.Source = IsOfHead head number
+  StandsAt head parts number (ats.Part place port) = PartHas parts number place port
+
+  -- no pad of the task has the number
+  abbrev pub HasNoPad : Head S I O s → List (Part E O e) → ℕ → Type 0
+  HasNoPad head parts number = HeadHasNot head number × NoPart parts number

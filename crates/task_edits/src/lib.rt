@@ -1,0 +1,10 @@
+//! What control does to a task between its steps: a source pad gets the probe of a command or loses it, and its link is
+//! undone or made over a new lane.
+#![tactic(auto)]
+
+pub mod leading;
+mod places;
+pub mod probes;
+
+pub use leading::{NewLane, link_over, unlink};
+pub use probes::set_probe;
