@@ -3,3 +3,4 @@ mod Earlier
 mod Padding
 mod Wiring
 mod Acts
+mod NewLanes

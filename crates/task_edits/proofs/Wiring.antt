@@ -134,18 +134,18 @@ module _ {S E I O : Type 0} {s : sources.Ghosts S} {e : elements.Ghosts E} where
 
 module _ {E O : Type 0} {e : elements.Ghosts E} where
   -- a pad stands at the port of the element at a place
-  record PadAt (parts : List (Part E O e)) (place port : ℕ) (pad : Pad O) : Type 0 where
-    part : Part E O e
-    at : slice_get parts place ≡ Some part
-    pad_at : slice_get part.pads.items port ≡ Some pad
+  pub record PadAt (parts : List (Part E O e)) (place port : ℕ) (pad : Pad O) : Type 0 where
+    pub part : Part E O e
+    pub at : slice_get parts place ≡ Some part
+    pub pad_at : slice_get part.pads.items port ≡ Some pad
 
-  pad_before : (parts : List (Part E O e)) (place port : ℕ) (old new : Part E O e) (was is : Pad O) → slice_get parts place ≡ Some old → PadIn old new port was is
-      → (j k : ℕ) (pad : Pad O) → PadAt (slice_set parts place new) j k pad → PadAt parts j k pad ⊎ ((pad ≡ is) × PadAt parts j k was)
+  pub pad_before : (parts : List (Part E O e)) (place port : ℕ) (old new : Part E O e) (was is : Pad O) → slice_get parts place ≡ Some old → PadIn old new port was is
+      → (j k : ℕ) (pad : Pad O) → PadAt (slice_set parts place new) j k pad → PadAt parts j k pad ⊎ ((pad ≡ is) × PadAt parts j k was × (j ≡ place) × (k ≡ port))
   pad_before parts place port old new was is at s j k pad here =
-      each_set parts (slice_set parts place new) place new (λ x p. (p ≡ p)) (λ x p. (y : ℕ) (q : Pad O) → slice_get p.pads.items y ≡ Some q → PadAt parts x y q ⊎ ((q ≡ is) × PadAt parts x y was)) refl
+      each_set parts (slice_set parts place new) place new (λ x p. (p ≡ p)) (λ x p. (y : ℕ) (q : Pad O) → slice_get p.pads.items y ≡ Some q → PadAt parts x y q ⊎ ((q ≡ is) × PadAt parts x y was × (x ≡ place) × (y ≡ port))) refl
       (λ x p p_at. refl) (λ x p ne p_at z y q q_at. inl (record { part = p; at = p_at; pad_at = q_at }))
-      (each_set old.pads.items new.pads.items port is (λ y q. slice_get old.pads.items y ≡ Some q) (λ y q. PadAt parts place y q ⊎ ((q ≡ is) × PadAt parts place y was)) s.set
-      (λ y q q_at. q_at) (λ y q ne q_at z. inl (record { part = old; at = at; pad_at = q_at })) (inr (refl, record { part = old; at = at; pad_at = s.at })))
+      (each_set old.pads.items new.pads.items port is (λ y q. slice_get old.pads.items y ≡ Some q) (λ y q. PadAt parts place y q ⊎ ((q ≡ is) × PadAt parts place y was × (place ≡ place) × (y ≡ port))) s.set
+      (λ y q q_at. q_at) (λ y q ne q_at z. inl (record { part = old; at = at; pad_at = q_at })) (inr (refl, record { part = old; at = at; pad_at = s.at }, refl, refl)))
       j here.part here.at k pad here.pad_at
 
 module _ {E O L : Type 0} {e : elements.Ghosts E} (o : outlets.Ghosts O L) where
@@ -157,10 +157,10 @@ module _ {E O L : Type 0} {e : elements.Ghosts E} (o : outlets.Ghosts O L) where
 
 module _ {S E I O L : Type 0} {s : sources.Ghosts S} {e : elements.Ghosts E} (o : outlets.Ghosts O L) where
   -- where a wire stands in a task, a pad does
-  wire_pad : (head : Head S I O s) (parts : List (Part E O e)) (j k : ℕ) (wire : Wire) → WireAt (frame_in o head parts) j k wire → (pad : Pad O) × PadAt parts j k pad × (wire_of o pad ≡ wire)
+  pub wire_pad : (head : Head S I O s) (parts : List (Part E O e)) (j k : ℕ) (wire : Wire) → WireAt (frame_in o head parts) j k wire → (pad : Pad O) × PadAt parts j k pad × (wire_of o pad ≡ wire)
   wire_pad head parts j k wire w = wires_of o parts j k w.part wire w.at w.pad_at
 
-  pad_wire : (head : Head S I O s) (parts : List (Part E O e)) (j k : ℕ) (pad : Pad O) → PadAt parts j k pad → WireAt (frame_in o head parts) j k (wire_of o pad)
+  pub pad_wire : (head : Head S I O s) (parts : List (Part E O e)) (j k : ℕ) (pad : Pad O) → PadAt parts j k pad → WireAt (frame_in o head parts) j k (wire_of o pad)
   pad_wire head parts j k pad p = record { part = part_frame o p.part; at = map_get (part_frame o) parts j p.part p.at; pad_at = map_get (wire_of o) p.part.pads.items k pad p.pad_at }
 
   -- a lane into which a pad of an element leads now is one into which it led
@@ -174,12 +174,12 @@ module _ {S E I O L : Type 0} {s : sources.Ghosts S} {e : elements.Ghosts E} (o 
       let z = wire_pad head' (slice_set parts place new) j k wire w in
       go z (pad_before parts place port old new was is at pad j k z.0 z.1)
     where
-      go : (z : (q : Pad O) × PadAt (slice_set parts place new) j k q × (wire_of o q ≡ wire)) → PadAt parts j k z.0 ⊎ ((z.0 ≡ is) × PadAt parts j k was) → (was : Wire) × WireAt (frame_in o head parts) j k was × LeadsInto was n
+      go : (z : (q : Pad O) × PadAt (slice_set parts place new) j k q × (wire_of o q ≡ wire)) → PadAt parts j k z.0 ⊎ ((z.0 ≡ is) × PadAt parts j k was × (j ≡ place) × (k ≡ port)) → (was : Wire) × WireAt (frame_in o head parts) j k was × LeadsInto was n
       go z (inl there) = (wire_of o z.0, pad_wire head parts j k z.0 there, subst (λ (x : Wire). LeadsInto x n) (sym z.2) l)
       go z (inr t) = (wire_of o was, pad_wire head parts j k was t.1, into n (subst (λ (q : Pad O). LeadsInto (wire_of o q) n) t.0 (subst (λ (x : Wire). LeadsInto x n) (sym z.2) l)))
 
 module _ {E O L : Type 0} {e : elements.Ghosts E} (o : outlets.Ghosts O L) (tells : Option (List Lane)) where
-  parts_ready_set : (parts : List (Part E O e)) (place port : ℕ) (old new : Part E O e) (was is : Pad O) → slice_get parts place ≡ Some old → PadIn old new port was is → (PadReady o tells was → PadReady o tells is)
+  pub parts_ready_set : (parts : List (Part E O e)) (place port : ℕ) (old new : Part E O e) (was is : Pad O) → slice_get parts place ≡ Some old → PadIn old new port was is → (PadReady o tells was → PadReady o tells is)
       → PartsReady o tells parts → PartsReady o tells (slice_set parts place new)
   parts_ready_set parts place port old new was is at pad ready all =
       each_set parts (slice_set parts place new) place new (λ k p. PartReady o tells p) (λ k p. PartReady o tells p) refl all (λ k p ne got z. z)

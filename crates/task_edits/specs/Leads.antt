@@ -1,11 +1,21 @@
 -- Lanes that are new, and pads that are linked over them.
-use Rattle.std.specs.Prelude.{◌≡◌, ℕ, [], length}
+use Rattle.std.specs.Prelude.{◌≡◌, ℕ, List, [], Option, Some, length}
+use Rattle.lane_core.specs.Lane.{Lane}
+use Rattle.lane_core.specs.declared.ends.Inlet as inlets
 use Rattle.lane_core.specs.declared.ends.Outlet as outlets
 use Rattle.net_model.specs.Edit.{IsFree}
 use Rattle.net_model.specs.Moment.{Moment}
 use Rattle.net_model.specs.Step.{LeadsNowhere}
+use Rattle.net_model.specs.declared.element.TaskElement as elements
+use Rattle.net_model.specs.declared.source.TaskSource as sources
+use Rattle.net_task.specs.Frame.{IsWire, Wire, frame_in}
+use Rattle.net_task.specs.Ready.{LeadsInto, NoneFrom}
+use Rattle.task_pads.specs.Behind.{EndReady, lane_end}
+use Rattle.task_parts.specs.declared.head.Head.{Head}
+use Rattle.task_parts.specs.declared.head.Head.TheVariants.{Source, Inlets}
+use Rattle.task_parts.specs.declared.part.Part.{Part}
 use Rattle.task_pads.specs.declared.pad.Behind.{Behind}
-use Rattle.task_pads.specs.declared.pad.Behind.TheVariants.{Lane}
+use Rattle.task_pads.specs.declared.pad.Behind.TheVariants.{Lane as OverLane}
 use Rattle.task_edits.specs.declared.leading.NewLane.{NewLane}
 
 -- A pad that leads nowhere can be linked over the lane at this moment: the sink pad is free, the lane is made at the place that the pad
@@ -18,4 +28,15 @@ pub record CanLink {O L : Type 0} (o : outlets.Ghosts O L) (m : Moment) (pad : �
 
 -- where a pad leads that is linked over the lane
 abbrev pub lane_behind : {O : Type 0} → NewLane O → Behind O
-lane_behind to = Lane to.lane to.element to.pad to.from to.outlet
+lane_behind to = OverLane to.lane to.element to.pad to.from to.outlet
+
+-- no inlet of the head is of the lane at this place
+abbrev pub NoInlet : {S I L O : Type 0} {s : sources.Ghosts S} → inlets.Ghosts I L O → Head S I O s → ℕ → Type 0
+NoInlet i (Source head) place = Unit {0}
+NoInlet i (Inlets head) place = NoneFrom i head place
+
+-- The lane is of the table, and no end of the task is of it.
+pub record IsApart {S E I O L : Type 0} {s : sources.Ghosts S} {e : elements.Ghosts E} (i : inlets.Ghosts I L O) (o : outlets.Ghosts O L) (tells : Option (List Lane)) (head : Head S I O s) (parts : List (Part E O e)) (to : NewLane O) : Type 0 where
+  pub of_table : EndReady tells (Some (lane_end o to.outlet))
+  pub no_pad : (wire : Wire) → IsWire (frame_in o head parts) wire → LeadsInto wire (o.place to.outlet) → ⊥
+  pub no_row : NoInlet i head (o.place to.outlet)

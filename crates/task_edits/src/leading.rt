@@ -7,7 +7,7 @@ ghost use Rattle.net_task.specs.Fuel.{moves_left};
 ghost use Rattle.net_task.specs.Ready.{IsReady};
 ghost use Rattle.net_task.specs.Ties.{Ties};
 ghost use Rattle.task_edits.specs.Changes.{Changed, HeadChanged, LedBy, PartChanged};
-ghost use Rattle.task_edits.specs.Leads.{CanLink, lane_behind};
+ghost use Rattle.task_edits.specs.Leads.{CanLink, IsApart, lane_behind};
 ghost use Rattle.task_pads.specs.declared.pad.Behind.TheVariants.{Nothing};
 
 use crate::places::{PadAt, find};
@@ -53,6 +53,7 @@ pub fn link_over<S: TaskSource, E: TaskElement, I: Inlet<Out = O>, O: Outlet<Lan
 ) -> (Task<S, E, I, O>, Behind<O>)
     ensures changed { Changed (LedBy (lane_behind to) result.1) (result.1 ≡ lane_behind to) pad task.head task.parts.items result.0.head result.0.parts.items }
     ensures ties { (m : Moment) → Ties task m → CanLink O.Outlet m pad to → Ties result.0 (planned (linked pad to.from to.element to.pad m.plan) m) }
+    ensures ready { (tells : _) → IsReady tells task → IsApart I.Inlet O.Outlet tells task.head task.parts.items to → IsReady tells result.0 }
     ensures moves { moves_left result.0 ≡ moves_left task }
 {
     let (mut head, mut parts) = task.into_parts();

@@ -3,6 +3,7 @@ use Rattle.task_pads.specs.declared.pad.Behind.{Behind}
 use Rattle.task_edits.specs.Changes.{Changed, LedBy}
 use Rattle.task_edits.specs.Leads.{lane_behind}
 use Rattle.task_edits.proofs.Acts.{changed_as, changed_left, led_closed, over_tied}
+use Rattle.task_edits.proofs.NewLanes.{over_ready}
 use Rattle.task_edits.proofs.leading.link_over.Goals as goal
 
 pub new-requires-clause-closed : goal.new-requires-clause-closed
@@ -23,3 +24,7 @@ returns-clause-ties g c = λ m t can.
 pub returns-clause-moves : goal.returns-clause-moves
 returns-clause-moves g c =
     changed_left g.I.Inlet c.args.task.head c.new.result.head c.args.task.parts.items c.new.result.parts.items (LedBy (lane_behind c.args.to) c.lead_in-back.result) (c.lead_in-back.result ≡ (lane_behind c.args.to)) c.args.pad (λ was is by. by.0.counted) (returns-clause-changed g c)
+
+pub returns-clause-ready : goal.returns-clause-ready
+returns-clause-ready g c = λ tells r apart.
+    over_ready g.I.Inlet g.O.Outlet tells c.args.to c.args.task.head c.new.result.head c.args.task.parts.items c.new.result.parts.items c.lead_in-back.result c.args.pad (returns-clause-changed g c) apart r
