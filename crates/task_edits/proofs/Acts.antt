@@ -30,7 +30,7 @@ use Rattle.task_edits.proofs.Padding.{OthersLead, tied_with, tied_without}
 use Rattle.task_edits.proofs.Wiring.{closed_with, left_in, left_same, ready_with}
 
 -- where another pad's link is undone or made, a pad leads where it led
-undone_others : (m : Moment) (p place : ℕ) (eos : Bool) → OthersLead (undone p place eos m.plan).sinks m p
+pub undone_others : (m : Moment) (p place : ℕ) (eos : Bool) → OthersLead (undone p place eos m.plan).sinks m p
 undone_others m p place eos q nowhere ne l = undone_nowhere m.plan p q place eos ne l
 undone_others m p place eos q (inside e i) ne l = (undone_leads m.plan p q place eos e i ne l.0, l.1)
 undone_others m p place eos q (over lane e i from) ne l = undone_leads m.plan p q place eos e i ne l

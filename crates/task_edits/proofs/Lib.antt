@@ -1,6 +1,7 @@
 mod LinksMade
-mod Earlier
-mod Padding
-mod Wiring
-mod Acts
+pub mod Earlier
+pub mod Padding
+pub mod Wiring
+pub mod Acts
 mod NewLanes
+pub mod Absent

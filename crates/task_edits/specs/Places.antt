@@ -54,3 +54,7 @@ module _ {S E I O : Type 0} {s : sources.Ghosts S} {e : elements.Ghosts E} where
   -- no pad of the task has the number
   abbrev pub HasNoPad : Head S I O s → List (Part E O e) → ℕ → Type 0
   HasNoPad head parts number = HeadHasNot head number × NoPart parts number
+
+  -- it stands somewhere
+  abbrev pub HasPad : Head S I O s → List (Part E O e) → ℕ → Type 0
+  HasPad head parts number = (at : PadAt) × StandsAt head parts number at

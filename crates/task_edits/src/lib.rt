@@ -7,4 +7,5 @@ mod places;
 pub mod probes;
 
 pub use leading::{NewLane, link_over, unlink};
+pub use places::has_pad;
 pub use probes::set_probe;

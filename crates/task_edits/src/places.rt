@@ -1,9 +1,10 @@
 //! Where the source pads of a task stand.
 ghost use Rattle.std.specs.Prelude.{◌≡◌, true, false, None, IfSome};
-ghost use Rattle.task_edits.specs.Places.{HasNoPad, HeadHasNot, IsOfHead, NoPart, NoPort, PartPadIs, PortIs, StandsAt};
+ghost use Rattle.task_edits.specs.Places.{HasNoPad, HasPad, HeadHasNot, IsOfHead, NoPart, NoPort, PartPadIs, PortIs, StandsAt};
 
 use lane_core::{Inlet, Outlet};
 use net_model::{TaskElement, TaskSource};
+use net_task::Task;
 use task_pads::Pad;
 use task_parts::{Head, Part};
 
@@ -14,6 +15,17 @@ pub(crate) enum PadAt {
     Source,
     /// At a port of the element at a place.
     Part { place: usize, port: usize },
+}
+
+/// Whether one of the source pads of a task has this number.
+pub fn has_pad<S: TaskSource, E: TaskElement, I: Inlet<Out = O>, O: Outlet<Lanes = I::Lanes>>(
+    task: &Task<S, E, I, O>,
+    pad: u32,
+) -> bool
+    ensures there { result ≡ true → HasPad task.now.head task.now.parts.items pad }
+    ensures none { result ≡ false → HasNoPad task.now.head task.now.parts.items pad }
+{
+    find(task.head(), task.parts(), pad).is_some()
 }
 
 /// Where the source pad of a number stands in a task of these parts.

@@ -1,0 +1,4 @@
+mod Swapped
+mod Alikes
+mod Restands
+mod Acts
