@@ -12,7 +12,7 @@ use gst_value::{List, OutOfMemory, Prop};
 use std::alloc::Global;
 
 /// What comes of an element that is asked for.
-#[derive(Clone, Copy)]
+#[derive(Clone, Copy, Debug, PartialEq, Eq)]
 pub enum Adding {
     /// It stands behind the others, and has this number.
     Added { number: u32 },

@@ -53,7 +53,8 @@ impl EditedGraph {
         }
     }
 
-    /// Whether all that a command names is there.
+    /// Whether all that a command names is there: its pads and its element, the link that it undoes, and the kind and the properties
+    /// of the element that it adds, whatever their values are.
     pub fn has_all(&self, alloc: Global, command: &Command) -> Result<bool, OutOfMemory>
         ensures { (g : Edited) → IsEdited self.now g → IfOk result (λ there. there ≡ is_all_there g command.now) }
     {

@@ -33,7 +33,7 @@ impl EditedGraph {
         element < self.elements.count() && !is_marked(&self.removed, element)
     }
 
-    /// Whether an element owes anything: it is one of the launch line, or a pad of it was linked once.
+    /// Whether an element is active: those of the launch line are, and an added one is since a pad of it was first linked.
     pub fn is_active(&self, element: u32) -> bool
         ensures { (g : Edited) → IsEdited self.now g → result ≡ is_active g element }
     {
@@ -108,7 +108,7 @@ impl EditedGraph {
         self.order.leads(alloc, sink.element, source.element)
     }
 
-    /// Whether some fixed caps are in the static caps of both pads.
+    /// Whether the static caps of the two pads have common fixed caps.
     pub fn have_format(
         &self,
         alloc: Global,
