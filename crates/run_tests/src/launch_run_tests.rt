@@ -200,11 +200,6 @@ fn refuses_words(rt: HostRuntime) -> Result<(), Fail> {
             5,
             "status 5 BadScript\nfault line 1 BadWhen\n",
         ),
-        (
-            "--script|nosuch|filesrc|location=e|!|filesink|location=b",
-            6,
-            "status 6 OpenFault\nfault open nosuch\n",
-        ),
     ];
     for (words, status, text) in rows {
         let row = Row {
@@ -240,6 +235,14 @@ fn ends_at_faults(rt: HostRuntime) -> Result<(), Fail> {
             ..PLAIN
         },
         Row {
+            openings_to_read: &[1],
+            status: 6,
+            text: "status 6 OpenFault\nfault open a\n",
+            output: "",
+            ..PLAIN
+        },
+        Row {
+            words: "--script|a|filesrc|location=e|!|filesink|location=b",
             openings_to_read: &[1],
             status: 6,
             text: "status 6 OpenFault\nfault open a\n",
