@@ -50,3 +50,11 @@ module _ {S E I O L : Type 0} {s : sources.Ghosts S} {e : elements.Ghosts E} {i 
   -- no task has it
   abbrev pub NoneHas : List (Task S E I O L s e i o) → ℕ → Type 0
   NoneHas tasks pad = (k : ℕ) (task : Task S E I O L s e i o) → slice_get tasks k ≡ Some task → HasNoPad task.head task.parts.items pad
+
+  -- the task that has the pad has another probe there, or none
+  abbrev pub IsProbed : List (Task S E I O L s e i o) → List (Task S E I O L s e i o) → ℕ → Option Probe → Type 0
+  IsProbed tasks tasks' pad probe = (place : ℕ) × TaskHas tasks pad place × IsProbedAt tasks tasks' place pad probe
+
+  -- the link of the pad was undone at the task that has it, and there it led
+  abbrev pub IsUnlinked : List (Task S E I O L s e i o) → List (Task S E I O L s e i o) → ℕ → Behind O → Type 0
+  IsUnlinked tasks tasks' pad back = (place : ℕ) × TaskHas tasks pad place × IsUnlinkedAt tasks tasks' place pad back

@@ -1,10 +1,10 @@
 //! Acts on the source pads of tasks that lanes join.
-ghost use Rattle.std.specs.Prelude.{◌≡◌, ◌<◌, None, IfSome, length, vec_len};
+ghost use Rattle.std.specs.Prelude.{◌≡◌, ◌<◌, true, false, None, IfSome, length, vec_len};
 ghost use Rattle.net_model.specs.Edit.{unlinked};
 ghost use Rattle.net_model.specs.Moment.{Moment};
 ghost use Rattle.net_turns.specs.Net.{NetReady, NetStands};
 ghost use Rattle.net_turns.specs.Turns.{net_left};
-ghost use Rattle.net_edits.specs.Nets.{IsProbedAt, IsUnlinkedAt, NoneHas, TaskHas};
+ghost use Rattle.net_edits.specs.Nets.{IsProbed, IsProbedAt, IsUnlinked, IsUnlinkedAt, NoneHas, TaskHas};
 
 use lane_core::{Inlet, Outlet};
 use net_model::{TaskElement, TaskSource};
@@ -20,6 +20,8 @@ pub fn set_probe<S: TaskSource, E: TaskElement, I: Inlet<Out = O>, O: Outlet<Lan
     pad: u32,
     probe: Option<Probe>,
 ) -> bool
+    ensures probed { result ≡ true → IsProbed tasks.old.items tasks.new.items pad probe }
+    ensures none { result ≡ false → NoneHas tasks.old.items pad × (tasks.new ≡ tasks.old) }
     ensures stands { (m : Moment) (tells : _) → NetStands m tasks.old.items tells → NetStands m tasks.new.items tells }
     ensures ready { (tells : _) → NetReady tasks.old.items tells → NetReady tasks.new.items tells }
     ensures moves { net_left tasks.new.items ≡ net_left tasks.old.items }
@@ -39,6 +41,8 @@ pub fn unlink<S: TaskSource, E: TaskElement, I: Inlet<Out = O>, O: Outlet<Lanes 
     tasks: &mut Vec<Task<S, E, I, O>>,
     pad: u32,
 ) -> Option<Behind<O>>
+    ensures undone { IfSome result (IsUnlinked tasks.old.items tasks.new.items pad) }
+    ensures none { result ≡ None → NoneHas tasks.old.items pad × (tasks.new ≡ tasks.old) }
     ensures stands { (m : Moment) (tells : _) → NetStands m tasks.old.items tells → NetStands (unlinked pad m) tasks.new.items tells }
     ensures ready { (tells : _) → NetReady tasks.old.items tells → NetReady tasks.new.items tells }
     ensures moves { net_left tasks.new.items ≡ net_left tasks.old.items }

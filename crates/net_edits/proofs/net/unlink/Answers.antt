@@ -20,3 +20,9 @@ returns-in-Some-clause-count g c = size_set c.args.tasks.now.items c.unlink_at.n
 
 pub returns-in-None-clause-stands : goal.returns-in-None-clause-stands
 returns-in-None-clause-stands g c = λ m tells stands. unlinked_none c.args.tasks.now.items c.args.pad (subst (λ (ts : List (Task _ _ _ _ _ _ _ _ _)). NoneHas ts c.args.pad) c.as_slice.ensures.value (c.in-None.ensures.none refl)) m tells stands
+
+pub returns-in-Some-clause-undone : goal.returns-in-Some-clause-undone
+returns-in-Some-clause-undone g c = (c.in-Some.place, subst (λ (ts : List (Task _ _ _ _ _ _ _ _ _)). TaskHas ts c.args.pad c.in-Some.place) c.as_slice.ensures.value c.in-Some.ensures.there, c.unlink_at.ensures)
+
+pub returns-in-None-clause-none : goal.returns-in-None-clause-none
+returns-in-None-clause-none g c = λ none. (subst (λ (ts : List (Task _ _ _ _ _ _ _ _ _)). NoneHas ts c.args.pad) c.as_slice.ensures.value (c.in-None.ensures.none refl), refl)
