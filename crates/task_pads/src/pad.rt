@@ -7,8 +7,8 @@ ghost use Rattle.task_pads.specs.Behind.{leads_on, items_of};
 
 use crate::crossing::{Crossing, cross};
 use crate::offer::{lead, linked_pad};
-use gst_item::{Item, Out};
-use gst_value::OutOfMemory;
+use gst_item::{Event, Item, Out};
+use gst_value::{List, OutOfMemory};
 use lane_core::Outlet;
 use pad_core::SrcPad;
 use std::alloc::Global;
@@ -52,8 +52,9 @@ pub struct Pad<O> {
 }
 
 impl<O: Outlet> Pad<O> {
-    ghost use Rattle.std.specs.Prelude.{◌≢◌, ◌+◌, ◌++◌, ◌∷◌, ◌==◌, [], List, OnOk, None, Some, length};
-    ghost use Rattle.flow_model.specs.Item.{is_flush_stop, buffers};
+    ghost use Rattle.std.specs.Prelude.{◌≢◌, ◌+◌, ◌++◌, ◌∷◌, ◌==◌, [], List, IfOk, OnOk, None, Some, length, map};
+    ghost use Rattle.gst_item.specs.Sticky.{stickies};
+    ghost use Rattle.flow_model.specs.Item.{Ev, is_flush_stop, buffers};
     ghost use Rattle.flow_model.specs.Item.{Item as Piece};
     ghost use Rattle.pad_core.specs.Crossing.{has_ended};
     ghost use Rattle.task_pads.specs.Behind.{goes, SetsHint, place_in, sent_in};
@@ -105,6 +106,14 @@ impl<O: Outlet> Pad<O> {
         ensures { (h : List Piece) → HasCrossed self.now h → result ≡ has_ended h }
     {
         self.src.has_ended()
+    }
+
+    /// Copies of the sticky events of what crossed it, in the order STREAM_START, CAPS, SEGMENT, TAG, EOS: what a sink pad is given
+    /// first to which it is linked anew.
+    pub fn stickies(&self, alloc: Global) -> Result<List<Event>, OutOfMemory>
+        ensures { IfOk result (λ events. (h : List Piece) → HasCrossed self.now h → map Ev events ≡ stickies h) }
+    {
+        self.src.stickies(alloc)
     }
 
     /// Whether nothing waits at it.

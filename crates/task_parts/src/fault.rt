@@ -123,7 +123,7 @@ impl Failure {
 
     /// The element of this number refused an item.
     #[cold]
-    pub(crate) fn refused(element: u32, refused: Refused) -> Failure
+    pub fn refused(element: u32, refused: Refused) -> Failure
         ensures { result ≡ refusal_fault element refused }
     {
         let cause = match refused.into_why() {

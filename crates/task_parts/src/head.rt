@@ -191,6 +191,13 @@ impl<I> InletHead<I> {
     {
         self.number
     }
+
+    /// What its sink pads are fed from, by number.
+    pub fn rows(&self) -> &[InletRow<I>]
+        ensures { result.now ≡ self.now.rows.items }
+    {
+        self.rows.as_slice()
+    }
 }
 
 impl<I: Inlet> InletHead<I> {
