@@ -8,4 +8,4 @@
 pub mod laws;
 pub mod net;
 
-pub use net::{Stopped, run_tasks};
+pub use net::{Stopped, has_moved, run_tasks, step_at, try_each};

@@ -25,7 +25,7 @@ pub struct Stopped {
 }
 
 /// Whether a step moved.
-fn has_moved(step: Step) -> bool
+pub fn has_moved(step: Step) -> bool
     ensures { result ≡ step_moved step }
 {
     matches!(step, Step::Moved)
@@ -40,7 +40,7 @@ fn idle_turns(idle: u32, moved: bool) -> u32
 }
 
 /// One step of the task at a place; tells what it answered.
-fn step_at<S: TaskSource, E: TaskElement, I: Inlet<Out = O>, O: Outlet<Lanes = I::Lanes>>(
+pub fn step_at<S: TaskSource, E: TaskElement, I: Inlet<Out = O>, O: Outlet<Lanes = I::Lanes>>(
     alloc: Global,
     tasks: &mut [Task<S, E, I, O>],
     place: usize,
@@ -66,7 +66,7 @@ fn step_at<S: TaskSource, E: TaskElement, I: Inlet<Out = O>, O: Outlet<Lanes = I
 }
 
 /// One step of each task, in order, which is written down; tells whether one moved. Where none did, the net has ended.
-fn try_each<S: TaskSource, E: TaskElement, I: Inlet<Out = O>, O: Outlet<Lanes = I::Lanes>>(
+pub fn try_each<S: TaskSource, E: TaskElement, I: Inlet<Out = O>, O: Outlet<Lanes = I::Lanes>>(
     alloc: Global,
     tasks: &mut [Task<S, E, I, O>],
     steps: &mut [Step],
