@@ -1,8 +1,8 @@
 -- Source pads of a task, as they are seen.
-use Rattle.std.specs.Prelude.{◌≡◌, ◌≢◌, ◌<◌, ℕ, Bool, false, List, Option, None, Some}
+use Rattle.std.specs.Prelude.{◌≡◌, ◌≢◌, ◌<◌, ℕ, Bool, false, List, [], ◌∷◌, Option, None, Some}
 use Rattle.std.specs.VecDeque.{deque_len, deque_capacity}
 use Rattle.gst_item.specs.declared.out.Out.{Out}
-use Rattle.flow_model.specs.Item.{Item, Buf, Ev, is_sticky, buffers}
+use Rattle.flow_model.specs.Item.{Item, Buf, Ev, is_buffer, is_sticky, buffers}
 use Rattle.lane_core.specs.declared.ends.Outlet as outlets
 use Rattle.lane_core.specs.Lane.{Lane, IsIn, IsOf, IsBetween}
 use Rattle.lane_core.specs.Room.{Limits}
@@ -35,6 +35,11 @@ goes_of pad = goes pad.behind
 
 abbrev pub waiting_of : {O : Type 0} → Pad O → List Item
 waiting_of pad = items_of pad.waiting.items
+
+-- whether a buffer is the first of these items, where there is one
+abbrev pub first_is_buffer : List Item → Option Bool
+first_is_buffer [] = None
+first_is_buffer (x ∷ xs) = Some (is_buffer x)
 
 -- these items crossed the pad
 abbrev pub HasCrossed : {O : Type 0} → Pad O → List Item → Type 0

@@ -58,7 +58,7 @@ impl<O: Outlet> Pad<O> {
     ghost use Rattle.flow_model.specs.Item.{Item as Piece};
     ghost use Rattle.pad_core.specs.Crossing.{has_ended};
     ghost use Rattle.task_pads.specs.Behind.{goes, SetsHint, place_in, sent_in};
-    ghost use Rattle.task_pads.specs.Pads.{seen, number_of, goes_of, waiting_of, rest_of, end_of, probe_of, pad_shape, crossed_count, HasCrossed, CanTakeBack, IsLed, IsProbed, StandsAs, PadReady, KeepsTable, HasRoom};
+    ghost use Rattle.task_pads.specs.Pads.{first_is_buffer, seen, number_of, goes_of, waiting_of, rest_of, end_of, probe_of, pad_shape, crossed_count, HasCrossed, CanTakeBack, IsLed, IsProbed, StandsAs, PadReady, KeepsTable, HasRoom};
     ghost use Rattle.task_pads.specs.Crossing.{IsCrossing};
     ghost use Rattle.task_pads.specs.Put.{IsTaken};
 
@@ -122,6 +122,16 @@ impl<O: Outlet> Pad<O> {
         ensures waits { result ≡ false → waiting_of self.now ≢ [] }
     {
         self.waiting.is_empty()
+    }
+
+    /// Whether what waits first at it is a buffer. None where nothing waits.
+    pub fn first_is_buffer(&self) -> Option<bool>
+        ensures { result ≡ first_is_buffer (waiting_of self.now) }
+    {
+        if self.waiting.is_empty() {
+            return None;
+        }
+        Some(matches!(self.waiting[0].item, Item::Buffer(_)))
     }
 
     /// Where it leads.
