@@ -1,5 +1,6 @@
 pub mod Lists
 mod Outs
+mod FirstOut
 mod Turns
 mod Moves
 pub mod Tries

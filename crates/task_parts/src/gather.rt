@@ -1,11 +1,12 @@
 //! What an element put out goes to its pads.
 ghost use Rattle.std.specs.Prelude.{◌≡◌, ◌≢◌, ◌≤◌, ◌&&◌, not, true, vec_len, map, [], Some, length, slice_get, OnOk};
 ghost use Rattle.task_pads.specs.Behind.{leads_on};
-ghost use Rattle.task_pads.specs.Pads.{rest_of, waiting_of};
+ghost use Rattle.net_model.specs.Takes.{on_port};
+ghost use Rattle.task_pads.specs.Pads.{first_is_buffer, rest_of, waiting_of};
 ghost use Rattle.task_pads.specs.Put.{Spread};
 ghost use Rattle.task_parts.specs.Gathered.{AreFilled, AreIdleBelow, are_within, linked_else, pads_idle_below};
 
-use gst_item::Outs;
+use gst_item::{Item, Out, Outs};
 use gst_value::OutOfMemory;
 use lane_core::Outlet;
 use std::alloc::Global;
@@ -53,6 +54,19 @@ pub(crate) fn first_waiting<O: Outlet>(pads: &[Pad<O>], from: usize) -> usize
         }
     }
     pads.len()
+}
+
+/// Whether the first that was put out for a port is a buffer. None where there is nothing.
+pub(crate) fn first_out_is_buffer(outs: &[Out], port: usize) -> Option<bool>
+    ensures { result ≡ first_is_buffer (on_port port outs.now) }
+{
+    for place in 0..outs.len() {
+        let out = &outs[place];
+        if out.pad as usize == port {
+            return Some(matches!(out.item, Item::Buffer(_)));
+        }
+    }
+    None
 }
 
 /// Whether a pad other than that of a port is linked.

@@ -9,7 +9,7 @@ ghost use Rattle.net_model.specs.Refuses.{RefusesBy};
 ghost use Rattle.net_model.specs.Takes.{Takes};
 ghost use Rattle.task_parts.specs.Gathered.{are_within, pads_idle_below};
 
-use crate::gather::{first_waiting, gather, is_linked_else};
+use crate::gather::{first_out_is_buffer, first_waiting, gather, is_linked_else};
 use gst_item::{Item, Outs};
 use gst_value::{List, OutOfMemory};
 use lane_core::Outlet;
@@ -34,9 +34,9 @@ pub struct Part<E: TaskElement, O> {
 
 impl<E: TaskElement, O: Outlet> Part<E, O> {
     ghost use Rattle.std.specs.Prelude.{◌<◌, ◌≤◌, ◌≢◌, [], None, Some, length, slice_get};
-    ghost use Rattle.task_pads.specs.Pads.{waiting_of};
+    ghost use Rattle.task_pads.specs.Pads.{first_is_buffer, waiting_of};
     ghost use Rattle.task_parts.specs.Gathered.{AreIdleBelow};
-    ghost use Rattle.task_parts.specs.Part.{PartSettled, IsSettled, PartFed, PartFell, PartCrossed, PartGave, PartLed, PartProbed, PartTookBack, PartReady, CanTakeBackAt};
+    ghost use Rattle.task_parts.specs.Part.{PartSettled, IsSettled, PartFed, PartFell, PartCrossed, PartGave, PartLed, PartProbed, PartTookBack, PartReady, CanTakeBackAt, waits_at};
     ghost use Rattle.task_parts.specs.Ends.{sent_from};
     ghost use Rattle.task_parts.specs.Idle.{part_idle};
     ghost use Rattle.task_parts.specs.Shape.{part_shape};
@@ -99,6 +99,17 @@ impl<E: TaskElement, O: Outlet> Part<E, O> {
         ensures waits { (pad : _) → slice_get self.now.pads.items result ≡ Some pad → waiting_of pad ≢ [] }
     {
         first_waiting(self.pads.as_slice(), self.first)
+    }
+
+    /// Whether what waits first at the pad of a port, or is to wait there, is a buffer. None where there is nothing.
+    pub fn first_is_buffer(&self, port: usize) -> Option<bool>
+        requires port { port < vec_len self.now.pads }
+        ensures { (pad : _) → slice_get self.now.pads.items port ≡ Some pad → result ≡ first_is_buffer (waits_at self.now port pad) }
+    {
+        match self.pads[port].first_is_buffer() {
+            Some(is_buffer) => Some(is_buffer),
+            None => first_out_is_buffer(self.out.as_slice(), port),
+        }
     }
 
     /// Whether nothing waits at its pads, and nothing that it put out is to go there.
