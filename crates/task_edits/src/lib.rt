@@ -5,7 +5,9 @@
 pub mod leading;
 mod places;
 pub mod probes;
+pub mod seeing;
 
 pub use leading::{NewLane, link_over, unlink};
 pub use places::has_pad;
 pub use probes::set_probe;
+pub use seeing::{SeenPad, see_pad};
