@@ -2,3 +2,4 @@ mod Swapped
 mod Alikes
 mod Restands
 mod Acts
+mod Fresh

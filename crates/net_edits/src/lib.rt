@@ -3,5 +3,7 @@
 #![tactic(auto)]
 
 pub mod net;
+pub mod seeing;
 
 pub use net::{set_probe, unlink};
+pub use seeing::see_pad;
