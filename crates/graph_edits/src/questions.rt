@@ -11,6 +11,9 @@ use graph_pads::{Direction, Pad, sink_behind, source_before};
 use gst_value::{OutOfMemory, PadName};
 use std::alloc::Global;
 
+/// How many numbers an element has for its source pads.
+const MOST_PADS: u32 = 64;
+
 impl EditedGraph {
     ghost use Rattle.std.specs.Prelude.{◌<◌, ◌↔◌, true, false, Some, length, slice_get, IfOk, IfSome, IsTrue};
     ghost use Rattle.std.specs.Option.{option_map};
@@ -21,6 +24,7 @@ impl EditedGraph {
     ghost use Rattle.edit_model.specs.Refused.{IsTaken, Loops};
     ghost use Rattle.graph_core.specs.Elements.{Made};
     ghost use Rattle.graph_core.specs.Ends.{pad_name};
+    ghost use Rattle.graph_core.specs.GraphPlan.{pad_id};
     ghost use Rattle.graph_core.specs.Links.{HaveCommon, caps_at};
     ghost use Rattle.graph_edits.specs.Graph.{IsEdited, IsPad, made};
     ghost use Rattle.graph_pads.specs.Links.{sink_behind};
@@ -38,6 +42,14 @@ impl EditedGraph {
         ensures { (g : Edited) → IsEdited self.now g → result ≡ is_active g element }
     {
         element < self.lined || is_marked(&self.touched, element)
+    }
+
+    /// The number of a source pad.
+    pub fn source_number(&self, source: PadPlace) -> u32
+        requires { IsPad self.now Direction.Source source }
+        ensures { result ≡ pad_id source }
+    {
+        source.element * MOST_PADS + source.pad
     }
 
     /// The number of the element of this name, where it is there.

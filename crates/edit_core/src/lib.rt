@@ -1,0 +1,6 @@
+//! What control does with the commands of a script: when each can be answered, and how.
+#![tactic(auto)]
+
+pub mod judging;
+
+pub use judging::{Verdict, judge};
