@@ -9,7 +9,7 @@ use Rattle.graph_order.specs.Links.{IsLink, Way}
 use Rattle.edit_model.specs.Plans.{edited_plan}
 use Rattle.edit_model.specs.Refused.{HasFeeder, HasHead, IsReached}
 use Rattle.edit_model.specs.Lawful.{IsAnswered, IsLinkable, Makes, Reaches}
-use Rattle.edit_model.specs.Rows.{FeederRows, LawfulRows, LoopRows, RelinkRows, crossed, pad, relay, relinking, turned}
+use Rattle.edit_model.specs.Rows.{FallingRows, FeederRows, LawfulRows, LoopRows, RelinkRows, crossed, pad, relay, relinking, turned, turned_back, turning_back}
 
 pub relink_rows : RelinkRows
 unfolding edited_plan stickies
@@ -66,4 +66,39 @@ lawful_rows = record {
       (Makes.relinks (record { element = codes "b"; pad = codes "sink" }) (pad 1) (pad 3) 5 refl linkable);
   late = λ at. omega (arith, at.counted);
   early = λ at. omega (arith, at.counted);
+}
+
+-- no link leaves the first sink either
+stays_back : (c : ℕ) → Leads (turned 5).ever 2 c → c ≡ 2
+stays_back c (Way.none a) = refl
+stays_back c (Way.more a b d way link) = absurd (from_two b (stays_back b way) link)
+  where
+    from_two : (b : ℕ) → b ≡ 2 → IsLink b c (ways (turned 5).ever) → ⊥
+    from_two b same (inl first) = omega (arith, same, first.0)
+    from_two b same (inr (inl second)) = omega (arith, same, second.0)
+    from_two b same (inr (inr (inl third))) = omega (arith, same, third.0)
+    from_two b same (inr (inr (inr none))) = absurd none
+
+have_common_back : HaveCommon (caps_at (turned 5).made false 1) (caps_at (turned 5).made true 2)
+unfolding plain_caps
+have_common_back = (plain_caps, record { ordered = tt; values = tt; few = lit≤ tt }, refl, refl)
+
+linkable_back : IsLinkable (turned 5) crossed (pad 1) (pad 2)
+unfolding edited_plan stickies
+linkable_back = record {
+  unended = λ ended. cc;
+  free = λ taken. cc;
+  forward = λ loops. omega (arith, stays_back 1 loops);
+  common = λ lacks. lacks have_common_back;
+}
+
+pub falling_rows : FallingRows
+unfolding edited_plan stickies
+falling_rows = record {
+  answered = IsAnswered.done turning_back.when turning_back.act (Some (pad 1)) 2 turned_back
+      (Reaches.now_pad (record { element = codes "i"; pad = codes "src" }) 2 (pad 1) refl (record { crossed = lit≤ tt; open_yet = refl }))
+      (Makes.relinks (record { element = codes "o"; pad = codes "sink" }) (pad 1) (pad 2) 2 refl linkable_back);
+  falls = refl;
+  out_of_order = λ stands. let order = stands.0 in omega arith;
+  within = (lit≤ tt, lit≤ tt, tt);
 }

@@ -4,5 +4,6 @@ pub mod Refused
 pub mod Names
 pub mod Lawful
 pub mod Opening
+pub mod Growing
 pub mod Laws
 pub mod Rows

@@ -4,14 +4,17 @@ use Rattle.std.specs.Prelude.{◌≡◌, ◌==◌, ◌++◌, ℕ, true, false, L
 use Rattle.std.proofs.Common.{lit≤}
 use Rattle.flow_model.specs.Item.{Item, Buf, Ev, StreamStart, NewSegment, Eos, buffers}
 use Rattle.flow_model.specs.Eval.{eval}
+use Rattle.flow_model.specs.Link.{WasLinked}
 use Rattle.flow_model.specs.SinkBytes.{sink_bytes}
 use Rattle.flow_model.specs.Source.{bytes_segment}
 use Rattle.el_settings.specs.declared.settings.Settings.{Settings}
 use Rattle.el_settings.specs.declared.settings.Settings.TheVariants.{FileSrc, Identity, FileSink}
 use Rattle.graph_core.specs.Elements.{Made}
+use Rattle.net_model.specs.Standing.{Standing}
 use Rattle.graph_pads.specs.declared.pad.PadLink.{PadLink}
 use Rattle.graph_pads.specs.declared.pad.PadPlace.{PadPlace}
-use Rattle.edit_model.specs.Edited.{Edited, added, link_between, relinked_at, unedited, unlinked_at}
+use Rattle.edit_model.specs.Edited.{Edited, added, link_between, relinked_at, spans_at, unedited, unlinked_at}
+use Rattle.edit_model.specs.Growing.{AreWithin}
 use Rattle.edit_model.specs.Plans.{edited_plan, items_at}
 use Rattle.edit_model.specs.Lawful.{IsAnswered, IsAtBuffer, owed_by}
 use Rattle.edit_model.specs.Refused.{IsAfterEos, IsFedElsewhere, Loops}
@@ -19,7 +22,7 @@ use Rattle.run_report.specs.declared.report.Answer.{Answer}
 use Rattle.run_report.specs.declared.report.Answer.TheVariants.{Done}
 use Rattle.script_text.specs.declared.command.Act.TheVariants.{Relink}
 use Rattle.script_text.specs.declared.command.Command.{Command}
-use Rattle.script_text.specs.declared.command.When.TheVariants.{At}
+use Rattle.script_text.specs.declared.command.When.TheVariants.{At, NowPad}
 
 -- an element of a name, where the name says nothing
 abbrev pub made_as : List ℕ → Settings → Made
@@ -120,6 +123,21 @@ pub record LawfulRows : Type 0 where
   -- a buffer late, and one early
   pub late : ¬ IsAtBuffer crossed due 64 3 6
   pub early : ¬ IsAtBuffer crossed due 64 3 4
+
+-- ---- a place before that of the command before it, which a whole report forbids: what was answered no longer stands in order
+
+-- `i.src relink o.sink`
+abbrev pub turning_back : Command
+turning_back = record { when = NowPad (record { element = codes "i"; pad = codes "src" }); act = Relink (record { element = codes "o"; pad = codes "sink" }) }
+
+abbrev pub turned_back : Edited
+turned_back = relinked_at (pad 1) 2 (pad 2) (turned 5)
+
+pub record FallingRows : Type 0 where
+  pub answered : IsAnswered (turned 5) crossed due turning_back (done_at 2) turned_back
+  pub falls : spans_at turned_back (pad 3) ≡ WasLinked 64 5 2 false [] ∷ []
+  pub out_of_order : ¬ Standing crossed (spans_at turned_back (pad 3))
+  pub within : AreWithin crossed (spans_at turned_back (pad 3))
 
 -- ---- links that were undone count in a loop
 

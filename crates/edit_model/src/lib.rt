@@ -2,8 +2,9 @@
 //! which it is evaluated; and why two pads are not linked.
 #![tactic(auto)]
 
+ghost use Rattle.edit_model.specs.Growing.{GrowthJoins, LinksStayExact, OneMoreEntry, StaysKept, StaysLawful};
 ghost use Rattle.edit_model.specs.Laws.{ActsAreEdits, NothingDone, RelinkSplits};
-ghost use Rattle.edit_model.specs.Rows.{FeederRows, LawfulRows, LoopRows, RelinkRows};
+ghost use Rattle.edit_model.specs.Rows.{FallingRows, FeederRows, LawfulRows, LoopRows, RelinkRows};
 
 /// Links that commands undo and make change the plan of a graph as control's acts change that of a moment.
 #[tactic(auto, using(crate::proofs::Laws::acts_are_edits))]
@@ -35,6 +36,12 @@ pub fn lawful_rows()
     ensures { LawfulRows }
 {}
 
+/// An answer alone may stand before the one before it: only a whole report tells that places never fall.
+#[tactic(auto, using(crate::proofs::Rows::falling_rows))]
+pub fn falling_rows()
+    ensures { FallingRows }
+{}
+
 /// A link that was undone closes a loop too.
 #[tactic(auto, using(crate::proofs::Rows::loop_rows))]
 pub fn loop_rows()
@@ -45,4 +52,34 @@ pub fn loop_rows()
 #[tactic(auto, using(crate::proofs::Rows::feeder_rows))]
 pub fn feeder_rows()
     ensures { FeederRows }
+{}
+
+/// Growth of what crossed the pads and is owed to them, and growth behind it, is growth.
+#[tactic(auto, using(crate::proofs::Staying::growth_joins))]
+pub fn growth_joins()
+    ensures { GrowthJoins }
+{}
+
+/// From the start on the spans of a sink pad are within the histories, and no link stands among them but that of the graph.
+#[tactic(auto, using(crate::proofs::Keeping::stays_kept))]
+pub fn stays_kept()
+    ensures { StaysKept }
+{}
+
+/// Where pads are linked once, a link stands among the spans of a sink pad exactly where the graph has one, behind each answer too.
+#[tactic(auto, using(crate::proofs::LinksStanding::links_stay_exact))]
+pub fn links_stay_exact()
+    ensures { LinksStayExact }
+{}
+
+/// What was answered lawfully at a moment is lawful when more has crossed.
+#[tactic(auto, using(crate::proofs::Staying::stays_lawful))]
+pub fn stays_lawful()
+    ensures { StaysLawful }
+{}
+
+/// The next command of a script is answered behind the others.
+#[tactic(auto, using(crate::proofs::Following::one_more_entry))]
+pub fn one_more_entry()
+    ensures { OneMoreEntry }
 {}
