@@ -1,7 +1,6 @@
 -- The laws hold: plans are the same by what they compute to.
-use Rattle.std.proofs.Common.{◌≡◌, ◌⊎◌, ℕ, Bool, true, false, eqb, ◌-◌, ◌≤◌, ◌||◌, List, [], ◌++◌, drop, length, refl, sym, ap, ◌∙◌, inl, inr, arith}
-use Rattle.std.specs.Prelude.{nat_lt, slice_get}
-use Rattle.std.specs.List.{list_any}
+use Rattle.std.proofs.Common.{◌≡◌, ◌⊎◌, ℕ, Bool, true, false, eqb, ◌-◌, ◌≤◌, ◌&&◌, List, [], ◌++◌, drop, length, refl, sym, ap, ◌∙◌, inl, inr, arith}
+use Rattle.std.specs.Prelude.{nat_lt, if◌then◌else◌, slice_get}
 use Rattle.std.proofs.lemmas.Bool.Decides.{eqb_tells, nat_tests}
 use Rattle.std.proofs.lemmas.List.{drop-drop, take-append-drop}
 use Rattle.std.proofs.lemmas.Option.{slice_get_past}
@@ -9,13 +8,13 @@ use Rattle.flow_model.specs.Item.{Item}
 use Rattle.flow_model.specs.Call.{Mark}
 use Rattle.flow_model.specs.Link.{Linked, between}
 use Rattle.net_model.specs.Edit.{undo}
-use Rattle.graph_core.specs.Elements.{Made}
+use Rattle.el_settings.specs.Asked.{is_source}
+use Rattle.graph_core.specs.Elements.{Made, has}
 use Rattle.graph_core.specs.GraphPlan.{line_plan, rule_for}
 use Rattle.graph_pads.specs.declared.pad.PadLink.{PadLink}
-use Rattle.edit_model.specs.Edited.{touches, unedited}
+use Rattle.edit_model.specs.Edited.{unedited}
 use Rattle.edit_model.specs.Laws.{ActsAreEdits, NothingDone, RelinkSplits}
 use Rattle.edit_model.specs.Plans.{edited_plan, edited_rule}
-use Rattle.gst_value.proofs.Basics.{if_same as same_branches}
 
 pub acts_are_edits : ActsAreEdits
 unfolding edited_plan
@@ -27,11 +26,15 @@ below_or_not a b = grind (arith, nat_tests)
 
 rule_there : (contents : ℕ → List ℕ) (made : List Made) (links : List PadLink) (e : ℕ) → nat_lt e (length made) ≡ true
     → edited_rule contents (unedited made links) e ≡ rule_for (slice_get made e) e (contents e)
-rule_there contents made links e below = rw below refl
+rule_there contents made links e below = rw below (by (has is_source made e))
+  where
+    by : (b : Bool) → (if b && false then (λ inputs port j. []) else rule_for (slice_get made e) e (contents e)) ≡ rule_for (slice_get made e) e (contents e)
+    by true = refl
+    by false = refl
 
 rule_past : (contents : ℕ → List ℕ) (made : List Made) (links : List PadLink) (e : ℕ) → length made ≤ e
     → edited_rule contents (unedited made links) e ≡ rule_for (slice_get made e) e (contents e)
-rule_past contents made links e past = rw (slice_get_past made e past) (same_branches (nat_lt e (length made) || list_any (touches e) links) (λ inputs port j. []))
+rule_past contents made links e past = rw (slice_get_past made e past) refl
 
 pub nothing_done : NothingDone
 unfolding edited_plan line_plan

@@ -159,11 +159,10 @@ single_push (link ∷ links) more few free single = go (same_or_other link.sink 
 -- ---- pads that are named
 
 -- a pad that is named is one that its element has
-Has : Direction → Edited → PadPlace → Type 0
+abbrev pub Has : Direction → Edited → PadPlace → Type 0
 Has direction g place = (m : Made) × (slice_get g.made place.element ≡ Some m) × (place.pad < pad_count direction m.settings)
 
-named_in : (direction : Direction) (g : Edited) (name : PadName) (place : PadPlace) → pad_named direction g name ≡ Some place → Has direction g place
-unfolding Has
+pub named_in : (direction : Direction) (g : Edited) (name : PadName) (place : PadPlace) → pad_named direction g name ≡ Some place → Has direction g place
 named_in direction g name place e = by_element (element_named g name.element) e
   where
     pad_of : (element : ℕ) (m : Made) → slice_get g.made element ≡ Some m → (o : Option ℕ)

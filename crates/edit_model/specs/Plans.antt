@@ -1,19 +1,25 @@
 -- The plan by which an edited graph is evaluated.
-use Rattle.std.specs.Prelude.{◌≡◌, ◌<◌, ◌%◌, ℕ, List, [], if◌then◌else◌, length, slice_get}
+use Rattle.std.specs.Prelude.{◌≡◌, ◌<◌, ◌%◌, ◌&&◌, ℕ, Bool, not, List, [], if◌then◌else◌, length, slice_get}
 use Rattle.flow_model.specs.Item.{Item}
 use Rattle.flow_model.specs.Call.{Call, items}
 use Rattle.flow_model.specs.Link.{input_of}
 use Rattle.flow_model.specs.Rule.{Rule}
 use Rattle.flow_model.specs.Eval.{Plan}
+use Rattle.el_settings.specs.Asked.{is_source}
+use Rattle.graph_core.specs.Elements.{has}
 use Rattle.graph_core.specs.GraphPlan.{most_pads, owner_of, rule_for}
 use Rattle.graph_order.specs.Forward.{GoForward, IsMember}
 use Rattle.graph_core.specs.Links.{ways}
 use Rattle.graph_pads.specs.declared.pad.PadPlace.{PadPlace}
 use Rattle.edit_model.specs.Edited.{Edited, is_active, spans_at}
 
--- what an element owes; one that was never linked since it was added owes nothing, a source neither
+-- a source that was never linked since it was added
+abbrev pub is_asleep : Edited → ℕ → Bool
+is_asleep g e = has is_source g.made e && not (is_active g e)
+
+-- What an element owes. A source that is asleep owes nothing; another element that was never linked took nothing yet.
 abbrev pub edited_rule : (ℕ → List ℕ) → Edited → ℕ → Rule
-edited_rule contents g e = if is_active g e then rule_for (slice_get g.made e) e (contents e) else (λ inputs port j. [])
+edited_rule contents g e = if is_asleep g e then (λ inputs port j. []) else rule_for (slice_get g.made e) e (contents e)
 
 -- The plan of an edited graph: its elements with the spans of their sink pads, what each reads, and how many items crossed each
 -- source pad.
