@@ -1,0 +1,13 @@
+-- The probes that wait at each pad are those of the commands.
+use Rattle.std.proofs.Common.{List, subst, sym, ◌∙◌, ap, filter}
+use Rattle.pad_core.specs.declared.probe.Probe.{Probe}
+use Rattle.script_probes.specs.Queues.{IsQueue, is_at}
+use Rattle.script_probes.proofs.Waiting.{queue_first}
+use Rattle.script_probes.proofs.probes.ScriptProbes.new.Goals as goal
+
+pub returns : goal.returns
+returns c = record {
+  queues = λ pad.
+      subst (λ (queue : List Probe). IsQueue c.args.commands.now 0 pad queue) (sym (c.in_ok-at_pads.ensures pad ∙ ap (filter (is_at c.args.commands.now pad)) c.deref.ensures.value))
+      (queue_first c.args.commands.now c.in_ok-stops.stops.items pad c.in_ok-stops.ensures.whole c.in_ok-stops.ensures.ordered);
+}
