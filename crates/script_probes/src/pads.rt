@@ -18,8 +18,9 @@ pub(crate) type Pads = IndexMap<String, VecDeque<Probe>>;
 pub(crate) type Elements = IndexMap<String, Pads>;
 
 /// Puts a probe behind the others of a pad of the element.
-fn put_at(alloc: Global, pads: &mut Pads, pad: &str, stop: Probe) -> Result<(), OutOfMemory>
-    ensures { OnOk result ((other : List ℕ) → queue_in pads.new other ≡ queue_in pads.old other ++ cond (bytes_eq pad.now other) (stop ∷ []) []) }
+fn put_in(alloc: Global, pads: &mut Pads, pad: &str, stop: Probe) -> Result<(), OutOfMemory>
+    ensures { OnOk result ((other : List ℕ) → queue_in pads.new other
+        ≡ queue_in pads.old other ++ cond (bytes_eq pad.now other) (stop ∷ []) []) }
 {
     if let Some(queue) = pads.get_mut(pad) {
         queue.push_back(stop)?;
@@ -32,19 +33,20 @@ fn put_at(alloc: Global, pads: &mut Pads, pad: &str, stop: Probe) -> Result<(), 
 }
 
 /// Puts a probe behind the others of a pad.
-fn put(
+fn put_at(
     alloc: Global,
     elements: &mut Elements,
     pad: &PadName,
     stop: Probe,
 ) -> Result<(), OutOfMemory>
-    ensures { OnOk result ((other : Name) → queue_at elements.new other ≡ queue_at elements.old other ++ cond (is_pad pad.now other) (stop ∷ []) []) }
+    ensures { OnOk result ((other : Name) → queue_at elements.new other
+        ≡ queue_at elements.old other ++ cond (is_pad pad.now other) (stop ∷ []) []) }
 {
     if let Some(pads) = elements.get_mut(pad.element.as_str()) {
-        return put_at(alloc, pads, pad.pad.as_str(), stop);
+        return put_in(alloc, pads, pad.pad.as_str(), stop);
     }
     let mut pads = IndexMap::new(alloc);
-    put_at(alloc, &mut pads, pad.pad.as_str(), stop)?;
+    put_in(alloc, &mut pads, pad.pad.as_str(), stop)?;
     elements.insert(String::from_str(alloc, pad.element.as_str())?, pads)?;
     Ok(())
 }
@@ -56,10 +58,11 @@ fn put_stop(
     when: &When,
     stop: Probe,
 ) -> Result<(), OutOfMemory>
-    ensures { OnOk result ((other : Name) → queue_at elements.new other ≡ queue_at elements.old other ++ cond (waits_at other (Some when.now)) (stop ∷ []) []) }
+    ensures { OnOk result ((other : Name) → queue_at elements.new other
+        ≡ queue_at elements.old other ++ cond (waits_at other (Some when.now)) (stop ∷ []) []) }
 {
     match when {
-        When::At { pad, .. } => put(alloc, elements, pad, stop),
+        When::At { pad, .. } => put_at(alloc, elements, pad, stop),
         When::NowPad { .. } => Ok(()),
         When::Now => Ok(()),
     }
@@ -96,10 +99,11 @@ fn first_unanswered(queue: &mut VecDeque<Probe>, answered: u32) -> Option<Probe>
     None
 }
 
-/// The same at a pad of an element.
-fn next_at(pads: &mut Pads, pad: &str, answered: u32) -> Option<Probe>
+/// The same at one of the pads of an element.
+fn next_in(pads: &mut Pads, pad: &str, answered: u32) -> Option<Probe>
     ensures next { result ≡ slice_get (queue_in pads.new pad.now) 0 }
-    ensures rest { (other : List ℕ) → queue_in pads.new other ≡ cond (bytes_eq pad.now other) (unanswered answered (queue_in pads.old other)) (queue_in pads.old other) }
+    ensures rest { (other : List ℕ) → queue_in pads.new other
+        ≡ cond (bytes_eq pad.now other) (unanswered answered (queue_in pads.old other)) (queue_in pads.old other) }
 {
     match pads.get_mut(pad) {
         Some(queue) => first_unanswered(queue, answered),
@@ -108,12 +112,13 @@ fn next_at(pads: &mut Pads, pad: &str, answered: u32) -> Option<Probe>
 }
 
 /// The same at a pad.
-pub(crate) fn next(elements: &mut Elements, pad: &PadName, answered: u32) -> Option<Probe>
+pub(crate) fn next_at(elements: &mut Elements, pad: &PadName, answered: u32) -> Option<Probe>
     ensures next { result ≡ slice_get (queue_at elements.new pad.now) 0 }
-    ensures rest { (other : Name) → queue_at elements.new other ≡ cond (is_pad pad.now other) (unanswered answered (queue_at elements.old other)) (queue_at elements.old other) }
+    ensures rest { (other : Name) → queue_at elements.new other
+        ≡ cond (is_pad pad.now other) (unanswered answered (queue_at elements.old other)) (queue_at elements.old other) }
 {
     match elements.get_mut(pad.element.as_str()) {
-        Some(pads) => next_at(pads, pad.pad.as_str(), answered),
+        Some(pads) => next_in(pads, pad.pad.as_str(), answered),
         None => None,
     }
 }

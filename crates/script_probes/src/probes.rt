@@ -3,7 +3,7 @@ ghost use Rattle.std.specs.Prelude.{◌≡◌, ◌<◌, ◌≤◌, ◌^◌, ℕ,
 ghost use Rattle.script_probes.specs.Stops.{IsStop};
 ghost use Rattle.script_text.specs.declared.command.Command.{Command as CommandOf};
 
-use crate::pads::{Elements, at_pads, next};
+use crate::pads::{Elements, at_pads, next_at};
 use crate::stops::ordered_stops;
 use gst_value::{OutOfMemory, PadName};
 use pad_core::Probe;
@@ -13,8 +13,8 @@ use std::alloc::Global;
 /// The blocking probes that the commands of a script set at source pads, one at a time at each pad.
 ///
 /// A command `at PAD n ..` stops the buffer behind `n` others at its pad until it is answered. Commands are answered in
-/// their order. Of those of a pad that are not answered, the one with the least number stops first, and of those with
-/// one number the first.
+/// their order. Of those of a pad that are not answered the one with the least number stops, and of those with one
+/// number the first.
 #[derive(Drop)]
 pub struct ScriptProbes {
     elements: Elements,
@@ -34,12 +34,14 @@ impl ScriptProbes {
         })
     }
 
-    /// The probe of a source pad when so many commands are answered, which are no fewer than at the last call. None where
-    /// no other command waits there.
+    /// The probe of a source pad when so many commands are answered, no fewer than at the call before; none where no
+    /// other command waits there. Over all calls no more steps are taken than there are commands.
     pub fn probe(&mut self, pad: &PadName, answered: u32) -> Option<Probe>
-        ensures stop { (commands : List CommandOf) (before : ℕ) → before ≤ answered → StandsFor self.old commands before → IsStop commands answered pad.now result }
-        ensures stands { (commands : List CommandOf) (before : ℕ) → before ≤ answered → StandsFor self.old commands before → StandsFor self.new commands answered }
+        ensures stop { (commands : List CommandOf) (before : ℕ) → before ≤ answered → StandsFor self.old commands before
+            → IsStop commands answered pad.now result }
+        ensures stands { (commands : List CommandOf) (before : ℕ) → before ≤ answered → StandsFor self.old commands before
+            → StandsFor self.new commands answered }
     {
-        next(&mut self.elements, pad, answered)
+        next_at(&mut self.elements, pad, answered)
     }
 }

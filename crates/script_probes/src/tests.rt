@@ -9,8 +9,8 @@ use std::test::Fail;
 /// Each row: commands by their pads and numbers of buffers, at a pad or anywhere where there is none; pads with how many
 /// commands are answered; and the command that stops there with its number of buffers.
 const ROWS: &str = "\
- => i.src 0 => none
 i.src 5 => i.src 0, i.src 0, i.sink 0, j.src 0, i.src 1, i.src 9 => 0 at 5, 0 at 5, none, none, none, none
+ => i.src 0 => none
 i.src 5; i.src 5 => i.src 0, i.src 1, i.src 1, i.src 2 => 0 at 5, 1 at 5, 1 at 5, none
 i.src 9; i.src 7; i.src 8 => i.src 0, i.src 1, i.src 2, i.src 3 => 1 at 7, 1 at 7, 2 at 8, none
 i.src 9; i.src 7; i.src 8 => i.src 2, i.src 2, i.src 3 => 2 at 8, 2 at 8, none

@@ -10,14 +10,14 @@ pub returns-clause-stop : goal.returns-clause-stop
 returns-clause-stop c = λ commands before le stands.
     let pad = c.args.pad.now in
     let queue = queue_at c.args.self.now.elements c.args.pad.now in
-    let rest = c.next.ensures.rest c.args.pad.now ∙ ap (λ (b : Bool). cond b (unanswered c.args.answered queue) queue) (pad_itself c.args.pad.now) in
-    subst (λ (o : Option Probe). IsStop commands c.args.answered c.args.pad.now o) (sym (c.next.ensures.next ∙ ap (λ (l : List Probe). slice_get l 0) rest))
+    let rest = c.next_at.ensures.rest c.args.pad.now ∙ ap (λ (b : Bool). cond b (unanswered c.args.answered queue) queue) (pad_itself c.args.pad.now) in
+    subst (λ (o : Option Probe). IsStop commands c.args.answered c.args.pad.now o) (sym (c.next_at.ensures.next ∙ ap (λ (l : List Probe). slice_get l 0) rest))
     (stop_of_rest commands c.args.pad.now c.args.answered queue (queue_later commands c.args.pad.now before c.args.answered queue le (stands.queues c.args.pad.now)))
 
 pub returns-clause-stands : goal.returns-clause-stands
 returns-clause-stands c = λ commands before le stands.
     record {
       queues = λ pad.
-          subst (λ (queue : List Probe). IsQueue commands c.args.answered pad queue) (sym (c.next.ensures.rest pad))
+          subst (λ (queue : List Probe). IsQueue commands c.args.answered pad queue) (sym (c.next_at.ensures.rest pad))
           (queue_goes commands pad before c.args.answered (is_pad c.args.pad.now pad) (queue_at c.args.self.now.elements pad) le (stands.queues pad));
     }
