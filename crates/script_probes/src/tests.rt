@@ -1,6 +1,6 @@
 //! Rows of commands, and which of them stop.
 use super::*;
-use gst_value::{OutOfMemory, PadName, Text};
+use gst_value::{PadName, Text};
 use script_text::{Act, Command, When};
 use std::alloc::Global;
 use std::fmt::Write;
@@ -72,6 +72,9 @@ fn told(
 
 /// The answers to all questions of a row.
 fn answers(alloc: Global, commands: &[Command], questions: &str) -> Result<String, Fail> {
+    if commands.len() > 4096 {
+        return Err("too many commands")?;
+    }
     let mut probes = ScriptProbes::new(alloc, commands)?;
     let mut row = String::new(alloc);
     for question in questions.split(", ") {
