@@ -1,0 +1,5 @@
+pub mod Members
+pub mod Gathered
+pub mod Maps
+pub mod Waiting
+pub mod Once

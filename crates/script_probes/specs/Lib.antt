@@ -1,0 +1,4 @@
+pub mod Stops
+pub mod Queues
+pub mod Stands
+pub mod Laws
