@@ -1,0 +1,8 @@
+//! The elements of a net of tasks grouped anew, between the turns of its tasks: a task is split, or two are joined. Nothing moves
+//! and no link changes, so the tasks stand at the moment at which they stood.
+#![tactic(auto)]
+
+pub mod joining;
+mod places;
+
+pub use joining::join;
