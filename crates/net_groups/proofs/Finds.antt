@@ -1,6 +1,6 @@
 -- What was found, and what was not.
-use Rattle.std.proofs.Common.{◌≡◌, ℕ, List, Some, refl, sym, ap, ◌∙◌, subst}
-use Rattle.std.specs.Prelude.{slice_get}
+use Rattle.std.proofs.Common.{◌≡◌, ◌⊎◌, ◌<◌, ◌+◌, ◌++◌, ◌∷◌, [], length, zero, suc, inl, inr, ℕ, List, Some, refl, sym, ap, ◌∙◌, subst}
+use Rattle.std.specs.Prelude.{slice_get, Result, Ok, Err, OnOk}
 use Rattle.lane_core.specs.declared.ends.Inlet as inlets
 use Rattle.lane_core.specs.declared.ends.Outlet as outlets
 use Rattle.net_model.specs.declared.element.TaskElement as elements
@@ -12,7 +12,10 @@ use Rattle.net_task.specs.declared.task.Task.{Task}
 use Rattle.net_task.specs.Frame.{PartFrame, Wire, of_part, of_head, frame_in, head_frame, head_wire, part_frame, wire_of}
 use Rattle.gst_value.proofs.Basics.{none_some, some_same}
 use Rattle.gst_value.proofs.Places.{map_get, map_got}
-use Rattle.net_groups.specs.Places.{FedAt, FeedsIt, HasNoPad, HasPad, IsOfHead, PartHas}
+use Rattle.inlet_row.specs.declared.row.InletRow.{InletRow}
+use Rattle.inlet_row.specs.Row.{feeds_of}
+use Rattle.net_groups.proofs.Lists.{append_back}
+use Rattle.net_groups.specs.Places.{AreBare, FedAt, FeedsIt, HasNoPad, HasPad, IsOfHead, PartHas}
 
 module _ {S E I O L : Type 0} {s : sources.Ghosts S} {e : elements.Ghosts E} {i : inlets.Ghosts I L O} {o : outlets.Ghosts O L} (tasks : List (Task S E I O L s e i o)) (k n : ℕ) (task : Task S E I O L s e i o) (at : slice_get tasks k ≡ Some task) where
   pub fed_here : FeedsIt task.head n → FedAt tasks k n
@@ -50,3 +53,22 @@ module _ {S E I O L : Type 0} {s : sources.Ghosts S} {e : elements.Ghosts E} (o 
       go : (head : Head S I O s) → (IsOfHead head number → ⊥) → head_wire (head_frame o head) ≡ Some wire → ⊥
       go (Source one) none at = none (ap (λ (x : Wire). x.number) (some_same at) ∙ same)
       go (Inlets one) none at = none_some at
+
+-- rows of nothing
+pub none_bare : {I : Type 0} (rows : List (InletRow I)) → rows ≡ [] → AreBare rows
+none_bare {I = I} rows is port row at = absurd (none_some (ap (λ (rs : List (InletRow I)). slice_get rs port) (sym is) ∙ at))
+
+pub bare_next : {I : Type 0} (rows rows' : List (InletRow I)) (more : InletRow I) → rows' ≡ rows ++ more ∷ [] → feeds_of more ≡ [] → AreBare rows → AreBare rows'
+bare_next {I = I} rows rows' more is bare all port row at = go (append_back rows (more ∷ []) port row (ap (λ (rs : List (InletRow I)). slice_get rs port) (sym is) ∙ at))
+  where
+    last : (j : ℕ) → slice_get (more ∷ []) j ≡ Some row → feeds_of row ≡ []
+    last zero at = subst (λ (r : InletRow I). feeds_of r ≡ []) (some_same at) bare
+    last (suc j) at = absurd cc
+
+    go : ((port < length rows) × (slice_get rows port ≡ Some row)) ⊎ ((j : ℕ) × (port ≡ length rows + j) × (slice_get (more ∷ []) j ≡ Some row)) → feeds_of row ≡ []
+    go (inl z) = all port row z.1
+    go (inr z) = last z.0 z.2
+
+pub on_ok_at : {T X : Type 0} (r : Result T X) (P : Type 0) (t : T) → r ≡ Ok t → OnOk r P → P
+on_ok_at (Ok u) P t is p = p
+on_ok_at (Err x) P t is p = absurd cc

@@ -6,3 +6,8 @@ mod Merging
 mod Joins
 mod Swapped
 mod Closing
+mod Within
+mod Taken
+mod Parting
+mod Flags
+mod Parts

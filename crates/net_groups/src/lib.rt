@@ -2,7 +2,10 @@
 //! and no link changes, so the tasks stand at the moment at which they stood.
 #![tactic(auto)]
 
+mod behind;
 pub mod joining;
 mod places;
+pub mod splitting;
 
 pub use joining::join;
+pub use splitting::split;
