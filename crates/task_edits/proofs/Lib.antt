@@ -5,3 +5,4 @@ pub mod Wiring
 pub mod Acts
 mod NewLanes
 pub mod Absent
+mod Opens

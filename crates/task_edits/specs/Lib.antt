@@ -1,3 +1,4 @@
 pub mod Places
 pub mod Changes
 pub mod Leads
+pub mod Openings
