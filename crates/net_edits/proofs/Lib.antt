@@ -2,3 +2,12 @@ mod Swapped
 mod Alikes
 mod Restands
 mod Acts
+mod RowsGrown
+mod TiesGrown
+mod NetGrown
+mod PadsOver
+mod NetLed
+mod Pushed
+mod Linked
+mod Rowed
+mod LanesMore

@@ -2,6 +2,9 @@
 //! undone. The tasks then stand at the moment that the act makes of the one at which they stood.
 #![tactic(auto)]
 
+pub mod laws;
 pub mod net;
+pub mod over;
 
 pub use net::{set_probe, unlink};
+pub use over::{NewLink, link_over};
