@@ -1,37 +1,33 @@
 -- A lane more, which no task uses: tasks stand and are ready as they did.
-use Rattle.std.proofs.Common.{◌≡◌, ◌≢◌, ◌≤◌, ◌^◌, ◌++◌, ℕ, zero, suc, List, [], ◌∷◌, length, Option, None, Some, refl, sym, ap, ◌∙◌, subst}
+use Rattle.std.proofs.Common.{◌≡◌, ◌≢◌, ◌++◌, ℕ, zero, suc, List, [], ◌∷◌, length, Option, None, Some, refl, sym, ap, ◌∙◌, subst}
 use Rattle.std.specs.Prelude.{slice_get}
 use Rattle.flow_model.specs.Call.{feeds}
 use Rattle.flow_model.specs.Item.{Item}
 use Rattle.gst_value.proofs.Basics.{some_same}
 use Rattle.lane_core.specs.Lane.{IsBetween, IsIn, IsOf, Lane, lane_of}
-use Rattle.lane_core.specs.Room.{Limits}
 use Rattle.lane_core.specs.declared.ends.Inlet as inlets
 use Rattle.lane_core.specs.declared.ends.Outlet as outlets
 use Rattle.lane_core.proofs.Between.{in_of, new_lane_has_room, new_lane_is_apart, new_lane_is_empty, new_lane_keeps_lanes, new_lane_keeps_others, new_lane_keeps_room}
 use Rattle.inlet_row.specs.declared.feeding.Feeding.{Feeding}
 use Rattle.inlet_row.specs.declared.feeding.Feeding.TheVariants.{Given, Lane as OfLane}
 use Rattle.inlet_row.specs.declared.row.InletRow.{InletRow}
-use Rattle.inlet_row.specs.Row.{ForLanes, GaveOf, RowBetween, RowIn, feeds_of, held as holds_in, items_of, row_holds}
+use Rattle.inlet_row.specs.Row.{ForLanes, GaveOf, RowBetween, RowIn, feeds_of, held as holds_in, items_of}
 use Rattle.inlet_row.proofs.Losing.{for_map}
-use Rattle.net_model.specs.Moment.{Moment}
 use Rattle.net_model.specs.declared.element.TaskElement as elements
 use Rattle.net_model.specs.declared.source.TaskSource as sources
 use Rattle.task_pads.specs.Behind.{EndReady, LaneEnd}
-use Rattle.task_pads.specs.declared.pad.Pad.{Pad}
-use Rattle.task_pads.specs.Pads.{PadReady, end_of}
+use Rattle.task_pads.specs.Pads.{end_of}
 use Rattle.task_parts.specs.declared.head.Head.{Head}
 use Rattle.task_parts.specs.declared.head.Head.TheVariants.{Source, Inlets}
 use Rattle.task_parts.specs.declared.part.Part.{Part}
 use Rattle.net_task.specs.declared.task.Task.{Task}
-use Rattle.net_task.specs.Frame.{IsWire, Room, Wire, frame_in, frame_of, head_frame, head_wire, of_head, of_part, room_in, wire_of}
-use Rattle.net_task.specs.Ready.{AreReady, HeadReady, IsReady, LeadsInto, PartsReady}
-use Rattle.net_turns.specs.Net.{HasRow, ListAt, NetReady, NetStands, RowStands}
+use Rattle.net_task.specs.Frame.{IsWire, Room, Wire, frame_in, of_head, of_part, room_in}
+use Rattle.net_task.specs.Ready.{AreReady, HeadReady, IsReady, LeadsInto}
+use Rattle.net_turns.specs.Net.{HasRow, ListAt, NetReady, RowStands}
 use Rattle.task_edits.proofs.Wiring.{wire_pad}
 use Rattle.task_edits.specs.Leads.{NoInlet}
-use Rattle.net_edits.specs.NewLanes.{AreMade, LaneIsNew, LaneMoreReady, LaneMoreStands, with_lane}
+use Rattle.net_edits.specs.NewLanes.{LaneIsNew, LaneMoreReady, LaneMoreStands, with_lane}
 use Rattle.net_edits.specs.Over.{NoneIsOf}
-use Rattle.net_edits.specs.declared.over.NewLink.{NewLink}
 use Rattle.net_edits.proofs.RowsGrown.{gave_map}
 
 got_more : (t : List Lane) (one : Lane) (k : ℕ) (lane : Lane) → slice_get t k ≡ Some lane → slice_get (t ++ one ∷ []) k ≡ slice_get t k

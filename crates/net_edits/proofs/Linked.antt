@@ -1,12 +1,12 @@
 -- A net stands and is ready where a pad was linked over a new lane, and where a link fell for want of memory.
-use Rattle.std.proofs.Common.{◌≡◌, ◌≢◌, ◌⊎◌, ◌++◌, ◌≤◌, ◌^◌, ℕ, List, [], ◌∷◌, length, map, Option, Some, refl, sym, ap, ◌∙◌, subst, append-nil, append_assoc, inl, inr, None, arith}
+use Rattle.std.proofs.Common.{◌≡◌, ◌≢◌, ◌⊎◌, ◌++◌, ◌≤◌, ◌^◌, ℕ, List, [], ◌∷◌, length, map, Option, Some, refl, sym, ap, ◌∙◌, subst, append-nil, append_assoc, inl, inr, arith}
 use Rattle.std.specs.Prelude.{slice_get}
 use Rattle.std.proofs.lemmas.Bool.{cases_eq}
 use Rattle.flow_model.specs.Call.{Call, feeds}
 use Rattle.flow_model.specs.Item.{Ev, Event, Item}
 use Rattle.flow_model.specs.SinkPads.{InSection, push_calls}
 use Rattle.flow_model.specs.Sticky.{stickies}
-use Rattle.lane_core.specs.Lane.{IsBetween, IsIn, IsOf, Lane}
+use Rattle.lane_core.specs.Lane.{IsBetween, IsIn, Lane}
 use Rattle.lane_core.specs.declared.ends.Inlet as inlets
 use Rattle.lane_core.specs.declared.ends.Outlet as outlets
 use Rattle.lane_core.proofs.Between.{in_of}
@@ -15,16 +15,15 @@ use Rattle.inlet_row.specs.declared.feeding.Feeding.TheVariants.{Given, Lane as 
 use Rattle.inlet_row.specs.declared.row.InletRow.{InletRow}
 use Rattle.inlet_row.specs.Row.{Apart, ForLanes, GaveOf, feeds_of, held as holds_in, items_of}
 use Rattle.net_model.specs.Edit.{IsFree, linked, linked_over, opening_calls}
-use Rattle.net_model.specs.Moment.{CellStands, Moment, put_at}
+use Rattle.net_model.specs.Moment.{Moment, put_at}
 use Rattle.net_model.specs.Split.{AreEmpty, NoneAt}
 use Rattle.net_model.specs.Standing.{LinksAt}
-use Rattle.net_model.specs.Step.{Leads, LeadsNowhere, planned}
+use Rattle.net_model.specs.Step.{LeadsNowhere, planned}
 use Rattle.net_model.proofs.Acts.{linking_over_keeps}
 use Rattle.net_model.proofs.Inputs.{at_here, at_other}
 use Rattle.net_model.specs.declared.element.TaskElement as elements
 use Rattle.net_model.specs.declared.source.TaskSource as sources
 use Rattle.gst_value.proofs.Basics.{some_same}
-use Rattle.task_pads.proofs.Lists.{set_length}
 use Rattle.task_pads.specs.declared.pad.Pad.{Pad}
 use Rattle.task_pads.specs.Pads.{HasCrossed, number_of}
 use Rattle.task_parts.specs.declared.head.Head.{Head}
@@ -32,11 +31,10 @@ use Rattle.task_parts.specs.declared.head.Head.TheVariants.{Source, Inlets}
 use Rattle.task_parts.specs.declared.head.InletHead.{InletHead}
 use Rattle.task_parts.specs.declared.part.Part.{Part}
 use Rattle.net_task.specs.declared.task.Task.{Task}
-use Rattle.net_task.specs.Frame.{IsWire, Wire, frame_of}
-use Rattle.net_task.specs.Ready.{EndsWith, IsReady, LeadsInto}
+use Rattle.net_task.specs.Ready.{EndsWith}
 use Rattle.net_task.specs.Ties.{AreTied, HeadTied, Stands, Ties, nothing_lost}
-use Rattle.net_turns.specs.Net.{HasRow, IsFed, ListAt, NetReady, NetStands, Owns, SendsInto}
-use Rattle.net_turns.proofs.Facts.{row_owned, sends_leads}
+use Rattle.net_turns.specs.Net.{HasRow, ListAt, NetReady, NetStands, SendsInto}
+use Rattle.net_turns.proofs.Facts.{sends_leads}
 use Rattle.task_edits.specs.Changes.{Changed, LedBy, PadIs}
 use Rattle.task_edits.specs.Leads.{CanLink, IsApart, lane_behind}
 use Rattle.task_edits.specs.Openings.{IsPadOf, OpensAt}
@@ -44,14 +42,12 @@ use Rattle.task_edits.specs.Places.{HasPad}
 use Rattle.task_edits.proofs.Absent.{has_not}
 use Rattle.task_edits.specs.declared.leading.NewLane.{NewLane}
 use Rattle.task_edits.specs.declared.openings.Opening.{Opening}
-use Rattle.net_edits.specs.Nets.{TaskHas}
-use Rattle.net_edits.specs.Over.{AreEnds, AreKept, IsGrownAt, IsLedAt, IsLinkedOver, IsNewLane, NoneIsOf, NoneSends, lane_from, opened_by}
+use Rattle.net_edits.specs.Over.{AreKept, IsGrownAt, IsLinkedOver, IsNewLane, NoneIsOf, NoneSends, lane_from, opened_by}
 use Rattle.net_edits.specs.declared.over.NewLink.{NewLink}
 use Rattle.net_edits.proofs.NetGrown.{AreFresh, Laid, Lays, found, here, laid_grown, net_grown, row_now, sends_back, there}
 use Rattle.net_edits.proofs.NetLed.{laid_led, net_led}
 use Rattle.net_edits.proofs.Pushed.{feeds_more, free_alone, push_else, push_here, push_many, push_none, push_section, stickies_calm}
-use Rattle.net_edits.proofs.RowsGrown.{for_join}
-use Rattle.net_edits.proofs.TiesGrown.{InnerStays, held_at}
+use Rattle.net_edits.proofs.TiesGrown.{held_at}
 
 -- what is so where a value is put, and elsewhere
 put_or : {A : Type 0} (P : ℕ → A → Type 0) (n : ℕ) (now : A) (f : ℕ → A) (k : ℕ) → (k ≡ n → P n now) → ((k ≡ n → ⊥) → P k (f k)) → P k (put_at n now f k)
@@ -140,16 +136,9 @@ module _ {S E I O L : Type 0} {s : sources.Ghosts S} {e : elements.Ghosts E} {i 
   kept_stands tasks tasks' (inl same) m tells n = subst (λ (ts : List (Task S E I O L s e i o)). NetStands m ts tells) (sym same) n
   kept_stands tasks tasks' (inr (place, port, g)) m tells n = grown_stands tasks tasks' place port g m tells n
 
-  pub kept_count : (tasks tasks' : List (Task S E I O L s e i o)) → AreKept tasks tasks' → length tasks' ≡ length tasks
-  kept_count tasks tasks' (inl same) = ap (λ (ts : List (Task S E I O L s e i o)). length ts) same
-  kept_count tasks tasks' (inr (place, port, g)) = ap (λ (ts : List (Task S E I O L s e i o)). length ts) g.set ∙ set_length tasks place g.is
-
   -- ---- linked
 
   module _ (tasks tasks' : List (Task S E I O L s e i o)) (pad : ℕ) (to : NewLink I O) (l : IsLinkedOver tasks tasks' pad to) where
-    pub linked_count : length tasks' ≡ length tasks
-    linked_count = ap (λ (ts : List (Task S E I O L s e i o)). length ts) l.led.set ∙ (set_length l.between l.sender l.led.is ∙ (ap (λ (ts : List (Task S E I O L s e i o)). length ts) l.grown.set ∙ set_length tasks l.receiver l.grown.is))
-
     abbrev more : List (Feeding I)
     more = opened_by l.opening.events to.lane to.inlet
 

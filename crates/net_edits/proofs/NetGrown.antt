@@ -27,7 +27,7 @@ use Rattle.net_task.specs.declared.task.Task.{Task}
 use Rattle.net_task.specs.Frame.{IsWire, TaskFrame, Wire, frame_of}
 use Rattle.net_task.specs.Ready.{EndsWith, IsReady, LeadsInto, NoneFrom}
 use Rattle.net_task.specs.Ties.{Ties}
-use Rattle.net_turns.specs.Net.{AreWired, HasElement, HasRow, IsFed, LaneOut, ListAt, NetReady, NetStands, Owns, RowStands, SendsInto}
+use Rattle.net_turns.specs.Net.{AreWired, HasElement, HasRow, IsFed, LaneOut, ListAt, NetReady, Owns, RowStands, SendsInto}
 use Rattle.net_turns.proofs.Facts.{row_owned}
 use Rattle.task_edits.specs.Leads.{NoInlet}
 use Rattle.net_edits.specs.Over.{IsGrownAt, NoneIsOf}

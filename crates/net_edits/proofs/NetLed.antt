@@ -1,5 +1,5 @@
 -- A pad of one of the tasks leads over a new lane, whose other end stands in a row.
-use Rattle.std.proofs.Common.{◌≡◌, ◌≢◌, ◌⊎◌, ℕ, List, [], drop, length, Option, Some, refl, sym, ap, ◌∙◌, subst, inl, inr}
+use Rattle.std.proofs.Common.{◌≡◌, ◌≢◌, ◌⊎◌, ℕ, List, [], drop, Option, Some, refl, sym, ap, ◌∙◌, subst, inl, inr}
 use Rattle.std.specs.Prelude.{slice_get}
 use Rattle.std.proofs.Math.Seq.{drop-length}
 use Rattle.std.proofs.lemmas.Bool.{cases_eq}
@@ -27,8 +27,8 @@ use Rattle.net_task.specs.declared.task.Task.{Task}
 use Rattle.net_task.specs.Frame.{by_source, frame_of, head_frame, part_frame, wire_of}
 use Rattle.net_task.specs.Ready.{EndsWith, IsReady}
 use Rattle.net_task.specs.Ties.{HeadTied, Ties, nothing_lost}
-use Rattle.net_turns.specs.Net.{AreWired, HasElement, HasRow, IsFed, LaneOut, NetReady, Owns, RowStands, SendsInto, part, source}
-use Rattle.task_edits.specs.Changes.{LedBy, PadIs}
+use Rattle.net_turns.specs.Net.{AreWired, HasElement, HasRow, IsFed, LaneOut, NetReady, Owns, SendsInto, part, source}
+use Rattle.task_edits.specs.Changes.{PadIs}
 use Rattle.task_edits.specs.Leads.{CanLink, IsApart, lane_behind}
 use Rattle.task_edits.specs.Places.{HasNoPad, HeadHasNot}
 use Rattle.task_edits.specs.declared.leading.NewLane.{NewLane}

@@ -1,5 +1,5 @@
 -- A task of which one pad leads over a lane now has the elements and the inlets that it had.
-use Rattle.std.proofs.Common.{◌≡◌, ◌⊎◌, ℕ, zero, suc, List, [], ◌∷◌, Option, Some, map, refl, sym, ap, ◌∙◌, subst, inl, inr}
+use Rattle.std.proofs.Common.{◌≡◌, ◌⊎◌, ℕ, zero, suc, List, [], ◌∷◌, Some, map, refl, sym, ap, ◌∙◌, subst, inl, inr}
 use Rattle.std.specs.Prelude.{slice_get, slice_set}
 use Rattle.gst_value.proofs.Basics.{some_same}
 use Rattle.gst_value.proofs.Places.{map_get, map_got, set_at}
@@ -10,14 +10,13 @@ use Rattle.task_pads.proofs.Lists.{map_set}
 use Rattle.task_pads.specs.Behind.{Goes, end_in, goes, over}
 use Rattle.task_pads.specs.declared.pad.Behind.{Behind}
 use Rattle.task_pads.specs.declared.pad.Pad.{Pad}
-use Rattle.task_pads.specs.Pads.{IsLed, number_of, rest_of}
+use Rattle.task_pads.specs.Pads.{IsLed, number_of}
 use Rattle.task_parts.proofs.Lists.{map_back}
 use Rattle.task_parts.specs.declared.head.Head.{Head}
 use Rattle.task_parts.specs.declared.head.Head.TheVariants.{Source, Inlets}
 use Rattle.task_parts.specs.declared.head.InletHead.{InletHead}
 use Rattle.task_parts.specs.declared.part.Part.{Part}
 use Rattle.net_task.specs.Frame.{HeadFrame, IsWire, PartFrame, Room, Wire, WireAt, by_inlets, by_source, frame_in, head_frame, head_wire, of_head, of_part, part_frame, room_in, wire_of}
-use Rattle.net_task.specs.Ready.{LeadsInto}
 use Rattle.net_turns.specs.Net.{HasElement, LaneOut, part, source}
 use Rattle.task_edits.specs.Changes.{PadIn, PadIs}
 use Rattle.task_edits.specs.Leads.{lane_behind}

@@ -1,5 +1,5 @@
 -- More calls stand at a sink pad, and no link of another source pad leads there.
-use Rattle.std.proofs.Common.{◌≡◌, ◌⊎◌, ◌++◌, ℕ, zero, suc, Bool, true, false, if◌then◌else◌, List, [], ◌∷◌, length, refl, sym, ap, ◌∙◌, append-nil}
+use Rattle.std.proofs.Common.{◌≡◌, ◌++◌, ℕ, zero, suc, Bool, true, false, if◌then◌else◌, List, [], ◌∷◌, length, refl, ap, ◌∙◌}
 use Rattle.flow_model.specs.Call.{Act, Call, Feed, feeds}
 use Rattle.flow_model.specs.Item.{Ev, Item, NewCaps, NewSegment, StreamStart, Tag, Eos, is_caps, is_eos, is_flush_stop, is_segment, is_stream_start, is_tag}
 use Rattle.flow_model.specs.Link.{Flushed, Given, Linked, Span, WasLinked}

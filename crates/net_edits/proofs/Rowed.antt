@@ -1,5 +1,5 @@
 -- The tasks that have a row of a sink pad, and what stands behind it.
-use Rattle.std.proofs.Common.{◌≡◌, ◌<◌, ◌&&◌, ℕ, true, List, Some, get_or, length, map, refl, sym, ap, ◌∙◌, subst}
+use Rattle.std.proofs.Common.{◌≡◌, ℕ, List, Some, get_or, refl, sym, ◌∙◌, subst}
 use Rattle.std.specs.Prelude.{slice_get}
 use Rattle.std.proofs.lemmas.Option.{slice_get_within}
 use Rattle.gst_value.proofs.Basics.{some_same}
@@ -15,7 +15,6 @@ use Rattle.task_parts.specs.declared.head.Head.{Head}
 use Rattle.task_parts.specs.declared.head.Head.TheVariants.{Source, Inlets}
 use Rattle.task_parts.specs.declared.head.InletHead.{InletHead}
 use Rattle.task_parts.specs.declared.part.Part.{Part}
-use Rattle.task_parts.specs.Shape.{all_within, has_number, is_closed, part_shape, shape_of}
 use Rattle.net_task.specs.declared.task.Task.{Task}
 use Rattle.net_turns.specs.Net.{HasRow}
 use Rattle.task_edits.specs.Openings.{OpensAt}
@@ -68,13 +67,6 @@ module _ {S E I O L : Type 0} {s : sources.Ghosts S} {e : elements.Ghosts E} {i 
       → TaskGrew was is port more
   task_grew was is head head' parts port more before now parts_before parts_now h =
       let z = heads_grew head head' port more h in record { old = z.old; new = z.new; was_fed = sym before ∙ z.was_fed; fed = now ∙ z.fed; grew = z.grew; parts = parts_now ∙ parts_before }
-
-module _ {S E I O : Type 0} {s : sources.Ghosts S} {e : elements.Ghosts E} where
-  -- each element that it names is one of it still
-  pub closed_grew : (head head' : Head S I O s) (parts : List (Part E O e)) (port : ℕ) (more : List (Feeding I)) → HeadGrew head head' port more → is_closed (shape_of head parts) ≡ true → is_closed (shape_of head' parts) ≡ true
-  closed_grew (Source head) head' parts port more h c = absurd h
-  closed_grew (Inlets head) (Source head') parts port more h c = absurd h
-  closed_grew (Inlets head) (Inlets head') parts port more h c = subst (λ (n : ℕ). (has_number n (map part_shape parts) && all_within (map part_shape parts) (map part_shape parts)) ≡ true) (sym h.number) c
 
 module _ {S E I O L : Type 0} {s : sources.Ghosts S} {e : elements.Ghosts E} {i : inlets.Ghosts I L O} {o : outlets.Ghosts O L} where
   -- the opening is that of the task that has the pad

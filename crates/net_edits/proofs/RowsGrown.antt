@@ -1,9 +1,7 @@
 -- Rows behind which more stands: items, and lanes that no task uses.
 use Rattle.std.proofs.Common.{◌≡◌, ◌≢◌, ◌⊎◌, ◌++◌, ℕ, List, [], ◌∷◌, drop, length, map, Option, Some, refl, sym, ap, ◌∙◌, subst, append_assoc, append-nil, inl, inr}
-use Rattle.std.specs.Prelude.{slice_get, slice_set}
-use Rattle.std.proofs.lemmas.Bool.{cases_eq}
+use Rattle.std.specs.Prelude.{slice_get}
 use Rattle.flow_model.specs.Item.{Item}
-use Rattle.gst_value.proofs.Basics.{some_same}
 use Rattle.gst_value.proofs.Places.{set_at}
 use Rattle.lane_core.specs.Lane.{IsIn, Lane}
 use Rattle.lane_core.specs.declared.ends.Inlet as inlets
@@ -18,7 +16,7 @@ use Rattle.net_model.specs.declared.source.TaskSource as sources
 use Rattle.task_pads.proofs.Lists.{set_length, set_there}
 use Rattle.task_parts.proofs.Lists.{each_set}
 use Rattle.task_parts.specs.declared.head.Head.{Head}
-use Rattle.task_parts.specs.declared.head.Head.TheVariants.{Source, Inlets}
+use Rattle.task_parts.specs.declared.head.Head.TheVariants.{Inlets}
 use Rattle.task_parts.specs.declared.head.InletHead.{InletHead}
 use Rattle.task_parts.specs.declared.part.Part.{Part}
 use Rattle.net_task.specs.declared.task.Task.{Task}

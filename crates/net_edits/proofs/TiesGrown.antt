@@ -1,8 +1,7 @@
 -- How a task stands to a moment at which more stands in the inlet of an element.
-use Rattle.std.proofs.Common.{◌≡◌, ◌⊎◌, ℕ, List, [], Some, refl, sym, ap, ◌∙◌, subst, inl, inr}
+use Rattle.std.proofs.Common.{◌≡◌, ◌⊎◌, ℕ, List, [], Some, sym, subst, inl, inr}
 use Rattle.std.specs.Prelude.{slice_get}
 use Rattle.flow_model.specs.Call.{Call}
-use Rattle.flow_model.specs.Item.{Item}
 use Rattle.inlet_row.specs.declared.feeding.Feeding.{Feeding}
 use Rattle.inlet_row.specs.declared.row.InletRow.{InletRow}
 use Rattle.inlet_row.specs.Row.{ForLanes, GaveInAll, feeds_of}
@@ -21,7 +20,7 @@ use Rattle.task_parts.specs.declared.head.Head.TheVariants.{Source, Inlets}
 use Rattle.task_parts.specs.declared.head.InletHead.{InletHead}
 use Rattle.task_parts.specs.declared.part.Part.{Part}
 use Rattle.net_task.specs.declared.task.Task.{Task}
-use Rattle.net_task.specs.Ties.{AreTied, HeadTied, LeadsAs, PadLinked, PartTied, PartsTied, RowTied, RowsTied, Stands, Ties, TookAt, nothing_lost}
+use Rattle.net_task.specs.Ties.{AreTied, HeadTied, LeadsAs, PadLinked, PartTied, PartsTied, RowTied, RowsTied, Stands, Ties, nothing_lost}
 use Rattle.net_edits.specs.Over.{InletsGrew, TaskGrew}
 use Rattle.net_edits.proofs.RowsGrown.{fed_head, gave_more, row_was}
 

@@ -47,6 +47,7 @@ when_ok (Err why) list = []
 -- more stands behind one of the rows of a head
 pub record InletsGrew {I : Type 0} (old new : InletHead I) (port : ℕ) (more : List (Feeding I)) : Type 0 where
   pub number : new.number ≡ old.number
+  pub hint : new.hint ≡ old.hint
   pub row : InletRow I
   pub grown : InletRow I
   pub at : slice_get old.rows.items port ≡ Some row

@@ -1,7 +1,7 @@
 use Rattle.std.proofs.Common.{List, refl, subst}
 use Rattle.net_task.specs.declared.task.Task.{Task}
 use Rattle.net_edits.specs.Over.{CannotJoin}
-use Rattle.net_edits.proofs.Linked.{kept_count, kept_ready, kept_stands, linked_count, linked_ready, linked_stands}
+use Rattle.net_edits.proofs.Linked.{kept_ready, kept_stands, linked_ready, linked_stands}
 use Rattle.net_edits.proofs.over.link_over.Goals as goal
 
 pub returns-in-Ok-clause-stands : goal.returns-in-Ok-clause-stands

@@ -8,6 +8,7 @@ pub returns : goal.returns
 returns g c =
     let rows : c.into_parts-number.result.2.items ≡ c.args.inlets.rows.items = ap (λ (v : _). v.items) c.into_parts-number.ensures.rows in record {
       number = c.new.ensures.number ∙ c.into_parts-number.ensures.number;
+      hint = c.new.ensures.hint ∙ c.into_parts-number.ensures.hint;
       row = c.index_mut.result.now;
       grown = c.open_row-opened.new.row;
       at = subst (λ (xs : List (InletRow _)). slice_get xs c.args.port ≡ Some c.index_mut.result.now) rows

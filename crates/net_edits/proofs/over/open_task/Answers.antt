@@ -1,6 +1,6 @@
 use Rattle.std.proofs.Common.{ap}
 use Rattle.net_edits.specs.Over.{opened_by, when_ok}
-use Rattle.net_edits.proofs.Rowed.{closed_grew, task_grew}
+use Rattle.net_edits.proofs.Rowed.{task_grew}
 use Rattle.net_edits.proofs.over.open_task.Goals as goal
 
 pub returns : goal.returns
