@@ -35,7 +35,7 @@ undone_others m p place eos q nowhere ne l = undone_nowhere m.plan p q place eos
 undone_others m p place eos q (inside e i) ne l = (undone_leads m.plan p q place eos e i ne l.0, l.1)
 undone_others m p place eos q (over lane e i from) ne l = undone_leads m.plan p q place eos e i ne l
 
-linked_others : (m : Moment) (p place d j : ℕ) → OthersLead (linked p place d j m.plan).sinks m p
+pub linked_others : (m : Moment) (p place d j : ℕ) → OthersLead (linked p place d j m.plan).sinks m p
 linked_others m p place d j q nowhere ne l = linked_nowhere m.plan p q place d j ne l
 linked_others m p place d j q (inside e i) ne l = (linked_leads_else m.plan p q place d j e i ne l.0, l.1)
 linked_others m p place d j q (over lane e i from) ne l = linked_leads_else m.plan p q place d j e i ne l

@@ -6,3 +6,4 @@ pub mod Acts
 mod NewLanes
 pub mod Absent
 pub mod Seen
+mod Opens

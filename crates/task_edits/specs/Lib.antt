@@ -2,3 +2,4 @@ pub mod Places
 pub mod Changes
 pub mod Leads
 pub mod Seeing
+pub mod Openings

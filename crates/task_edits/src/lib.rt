@@ -3,11 +3,13 @@
 #![tactic(auto)]
 
 pub mod leading;
+pub mod openings;
 mod places;
 pub mod probes;
 pub mod seeing;
 
 pub use leading::{NewLane, link_over, unlink};
+pub use openings::{Opening, opening_at};
 pub use places::has_pad;
 pub use probes::set_probe;
 pub use seeing::{SeenPad, see_pad};
