@@ -2,3 +2,5 @@ mod Swapped
 mod Alikes
 mod Restands
 mod Acts
+pub mod Feds
+pub mod Turned

@@ -3,5 +3,9 @@ pub mod Earlier
 pub mod Padding
 pub mod Wiring
 pub mod Acts
+pub mod Insides
 mod NewLanes
 pub mod Absent
+mod Elements
+mod StickyLists
+pub mod Feeds

@@ -1,3 +1,6 @@
 pub mod Places
 pub mod Changes
 pub mod Leads
+pub mod Inside
+pub mod Feeding
+pub mod Stickies
