@@ -27,7 +27,7 @@ use Rattle.net_model.specs.declared.refusal.Refusal.{Refusal}
 use Rattle.net_model.specs.declared.source.TaskSource as sources
 use Rattle.net_model.proofs.Inputs.{at_here, at_other}
 use Rattle.net_task.specs.Failed.{StandsOrFell}
-use Rattle.net_task.specs.Frame.{PartFrame, TaskFrame, frame_in, head_frame}
+use Rattle.net_task.specs.Frame.{HeadFrame, PartFrame, TaskFrame, frame_in, head_frame}
 use Rattle.net_task.specs.Fuel.{head_left, part_left}
 use Rattle.net_task.specs.Ready.{AreReady, HeadApart, WiresApart}
 use Rattle.net_task.specs.Ties.{AreTied, HeadTied, PartTied, PartsTied, Stands, TookAt, nothing_lost}
@@ -125,8 +125,8 @@ falls_more (Some x) (Some y) (Some z) f g = omega (arith, f, g)
 abbrev rest_shape : {O : Type 0} → Rest O → PadShape
 rest_shape r = record { number = (state_of r.src).number; goes = goes r.behind }
 
-shapes_of : {O : Type 0} {ps qs : List (Pad O)} → map rest_of ps ≡ map rest_of qs → map pad_shape ps ≡ map pad_shape qs
-shapes_of {O = O} {ps = ps} {qs = qs} same = map_over rest_shape rest_of pad_shape (λ (p : Pad O). refl) ps ∙ ap (λ (rs : List (Rest O)). map rest_shape rs) same ∙ sym (map_over rest_shape rest_of pad_shape (λ (p : Pad O). refl) qs)
+shapes_of : {O : Type 0} (ps qs : List (Pad O)) → map rest_of ps ≡ map rest_of qs → map pad_shape ps ≡ map pad_shape qs
+shapes_of {O = O} ps qs same = map_over rest_shape rest_of pad_shape (λ (p : Pad O). refl) ps ∙ ap (λ (rs : List (Rest O)). map rest_shape rs) same ∙ sym (map_over rest_shape rest_of pad_shape (λ (p : Pad O). refl) qs)
 
 -- ---- one element
 
@@ -232,7 +232,7 @@ module _ {E O L : Type 0} {e : elements.Ghosts E} (o : outlets.Ghosts O L) (was 
   -- the element, behind what it took
   part_took : (was_tied : PartTied o (Stands m was) m was) → PartTied o (Stands now is) now is
   part_took a =
-      part_fed o (Stands m was) (Stands now is) m (push_calls pad (feeds items) (m.took was.number)) t.more was is t.number (shapes_of t.rests) t.pads
+      part_fed o (Stands m was) (Stands now is) m (push_calls pad (feeds items) (m.took was.number)) t.more was is t.number (shapes_of is.pads.items was.pads.items t.rests) t.pads
       (subst (λ (n : ℕ). e.stands is.element (behavior_at m n) (now.took n)) (sym t.number)
       (subst (e.stands is.element (behavior_at m was.number)) (sym (at_here was.number (push_calls pad (feeds items) (m.took was.number)) m.took)) (t.stands_now (behavior_at m was.number) (m.took was.number) a.stood)))
       a
@@ -335,7 +335,7 @@ module _ {S E I O L : Type 0} {s : sources.Ghosts S} {e : elements.Ghosts E} (i 
   pub bare_frame : frame_in o head' parts' ≡ frame_in o head parts
   bare_frame = ap (λ (h : Head S I O s). frame_in o h parts') same ∙ ap (λ (fs : List PartFrame). framed_by (head_frame o head) fs) (bare_frames o parts parts' bares)
     where
-      framed_by : _ → List PartFrame → TaskFrame
+      framed_by : HeadFrame → List PartFrame → TaskFrame
       framed_by h fs = record { head = h; parts = fs }
 
   pub bare_closed : is_closed (shape_of head parts) ≡ true → is_closed (shape_of head' parts') ≡ true
@@ -395,3 +395,7 @@ module _ {E O : Type 0} {e : elements.Ghosts E} where
       → map bare parts' ≡ map bare parts
   fed_bares (Ok done) parts parts' element pad items took stopped = took_in_bare parts parts' element pad items took
   fed_bares (Err fault) parts parts' element pad items took stopped = stopped_in_bare parts parts' element pad items fault stopped
+
+pub none_left : {A : Type 0} (xs : List A) → length xs ≡ 0 → xs ≡ []
+none_left [] size = refl
+none_left (x ∷ xs) size = absurd (omega (arith, size))

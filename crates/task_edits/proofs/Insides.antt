@@ -1,7 +1,9 @@
 -- A link inside of a task, at a moment.
-use Rattle.std.proofs.Common.{◌≡◌, ℕ, true, None, Some, List, Option, map, refl, sym, ap, ◌∙◌, subst, arith, inl, inr}
+use Rattle.std.proofs.Common.{◌≡◌, ℕ, true, None, Some, List, Option, map, get_or, refl, sym, ap, ◌∙◌, subst, arith, inl, inr}
 use Rattle.std.specs.Prelude.{slice_get}
 use Rattle.std.proofs.lemmas.Option.{slice_get_within}
+use Rattle.flow_model.specs.Item.{Item}
+use Rattle.gst_item.specs.Sticky.{stickies}
 use Rattle.inlet_row.specs.declared.row.InletRow.{InletRow}
 use Rattle.lane_core.specs.Lane.{Lane}
 use Rattle.lane_core.specs.declared.ends.Inlet as inlets
@@ -13,7 +15,7 @@ use Rattle.net_model.specs.declared.element.TaskElement as elements
 use Rattle.net_model.specs.declared.source.TaskSource as sources
 use Rattle.net_task.specs.Frame.{room_in}
 use Rattle.net_task.specs.Ready.{AreReady}
-use Rattle.net_task.specs.Ties.{AreTied, LeadsAs, PadLinked, Stands, nothing_lost}
+use Rattle.net_task.specs.Ties.{AreTied, HeadTied, LeadsAs, PadLinked, Stands, nothing_lost}
 use Rattle.task_pads.specs.Behind.{EndReady, Goes, inside, SentIn, end_in, goes}
 use Rattle.task_pads.specs.Pads.{HasCrossed, IsLed, goes_of, number_of}
 use Rattle.task_pads.specs.declared.pad.Behind.{Behind}
@@ -26,6 +28,8 @@ use Rattle.task_edits.specs.Changes.{Changed, LedBy, PadIs}
 use Rattle.task_edits.specs.Inside.{CanLinkInside, HasNoRow, HeadLeadsTo, IsPadOf, LeadsInside, PadLeadsTo, inside_behind}
 use Rattle.task_edits.specs.Places.{HasPad, IsOfHead, PartHas}
 use Rattle.task_edits.specs.declared.places.PadAt.TheVariants as ats
+use Rattle.task_edits.specs.Stickies.{AreStickiesOf, HeadStickies}
+use Rattle.task_parts.proofs.Lists.{at_get}
 use Rattle.task_edits.specs.declared.inside.Inside.{Inside}
 use Rattle.task_edits.proofs.LinksMade.{linked_leads}
 use Rattle.task_edits.proofs.Padding.{LeavesRows, tied_beside, tied_without}
@@ -115,3 +119,27 @@ changed_has By Kept number head head' parts parts' (inl (was, is, number_is, by,
 changed_has By Kept number head head' parts parts' (inl (was, is, number_is, by, PadIs.of_part place port old new at set pad same)) n has =
     subst (λ (ps : List (Part _ _ _)). has_number n (map part_shape ps) ≡ true) (sym set) (numbers_as parts place old new at pad.number n ∙ has)
 changed_has By Kept number head head' parts parts' (inr (none, h, p, k)) n has = subst (λ (ps : List (Part _ _ _)). has_number n (map part_shape ps) ≡ true) (sym p) has
+
+-- what was looked up at the place and the port of a pad is that pad
+pub found_pad : {S E I O : Type 0} {s : sources.Ghosts S} {e : elements.Ghosts E} (head : Head S I O s) (parts : List (Part E O e)) (number place port : ℕ) (part : Part E O e) (pads : List (Pad O)) (pad : Pad O) → PartHas parts number place port → part ≡ get_or parts place part
+    → pads ≡ part.pads.items → pad ≡ get_or pads port pad → IsPadOf head parts pad × (number_of pad ≡ number)
+found_pad head parts number place port part pads pad h part_is pads_is pad_is =
+    let one : part ≡ h.part = at_get parts place h.part part h.part_at part_is in
+    let two : pad ≡ h.port_is.pad = at_get pads port h.port_is.pad pad (ap (λ (ps : List (Pad _)). slice_get ps port) (pads_is ∙ ap (λ (p : Part _ _ _). p.pads.items) one) ∙ h.port_is.at) pad_is in
+    (IsPadOf.of_part place port h.part h.part_at (subst (λ (q : Pad _). slice_get h.part.pads.items port ≡ Some q) (sym two) h.port_is.at), ap (λ (q : Pad _). number_of q) two ∙ h.port_is.number_is)
+
+-- a source pad of a task is linked as the graph tells
+pub pad_tied : {S E I O L : Type 0} {s : sources.Ghosts S} {e : elements.Ghosts E} (i : inlets.Ghosts I L O) (o : outlets.Ghosts O L) (head : Head S I O s) (parts : List (Part E O e)) (m : Moment) (pad : Pad O) → AreTied i o (Stands m) nothing_lost m head parts → IsPadOf head parts pad
+    → PadLinked o m pad
+pad_tied i o head parts m pad t (IsPadOf.of_source source is same) = subst (PadLinked o m) same (subst (λ (h : Head _ _ _ _). HeadTied i o nothing_lost m h parts) is t.head_tied).linked
+pad_tied i o head parts m pad t (IsPadOf.of_part place port part at pad_at) = ((t.parts_tied.each place part at).pads port pad pad_at).linked
+
+-- its sticky events are those of what crossed it
+pub stickies_are : {S E I O L : Type 0} {s : sources.Ghosts S} {e : elements.Ghosts E} (i : inlets.Ghosts I L O) (o : outlets.Ghosts O L) (head : Head S I O s) (parts : List (Part E O e)) (number : ℕ) (pad : Pad O) (items : List Item) → IsPadOf head parts pad → number_of pad ≡ number
+    → AreStickiesOf pad items → (m : Moment) → AreTied i o (Stands m) nothing_lost m head parts → items ≡ stickies (m.history number)
+stickies_are i o head parts number pad items is number_is are m t = subst (λ (n : ℕ). items ≡ stickies (m.history n)) number_is (are (m.history (number_of pad)) (pad_tied i o head parts m pad t is).crossed)
+
+pub head_stickies_are : {S E I O L : Type 0} {s : sources.Ghosts S} {e : elements.Ghosts E} (i : inlets.Ghosts I L O) (o : outlets.Ghosts O L) (head : Head S I O s) (parts : List (Part E O e)) (number : ℕ) (items : List Item) → IsOfHead head number → HeadStickies head items
+    → (m : Moment) → AreTied i o (Stands m) nothing_lost m head parts → items ≡ stickies (m.history number)
+head_stickies_are i o (Source head) parts number items is are m t = stickies_are i o (Source head) parts number head.pad items (IsPadOf.of_source head refl refl) is are m t
+head_stickies_are i o (Inlets head) parts number items is are m t = absurd is

@@ -1,11 +1,12 @@
 -- Sticky events of a pad, as items.
-use Rattle.std.proofs.Common.{◌≡◌, ◌++◌, Bool, true, false, List, [], ◌∷◌, map, refl, sym, ap, ◌∙◌, subst, append_assoc, append-nil}
+use Rattle.std.proofs.Common.{◌≡◌, ◌++◌, Bool, true, false, if◌then◌else◌, List, [], ◌∷◌, map, refl, sym, ap, ◌∙◌, subst, append_assoc, append-nil}
 use Rattle.std.specs.Prelude.{IsTrue}
 use Rattle.flow_model.specs.Item.{Item, Event, Ev, FlushStop, is_flush_stop}
 use Rattle.flow_model.proofs.Items.{free_append}
 use Rattle.gst_item.specs.Item.{is_sticky}
 use Rattle.gst_item.specs.Sticky.{has_flush_stop, stickies}
 use Rattle.pad_core.specs.Counts.{AreSticky}
+use Rattle.task_edits.specs.Stickies.{with_sticky}
 use Rattle.pad_core.proofs.Again.{listed_sticky}
 
 sticky_calm : (event : Event) → is_sticky event ≡ true → is_flush_stop (Ev event) ≡ false
@@ -20,16 +21,15 @@ pub record SoFarSticky (events : List Event) (items : List Item) (rest : List Ev
 pub sticky_begins : (events : List Event) → SoFarSticky events [] events
 sticky_begins events = record { calm = refl; all = λ h. (refl, h) }
 
-pub sticky_next : (events : List Event) (items items' : List Item) (event : Event) (rest : List Event) → is_sticky event ≡ true → items' ≡ items ++ Ev event ∷ [] → SoFarSticky events items (event ∷ rest) → SoFarSticky events items' rest
-sticky_next events items items' event rest sticky more s =
-    subst (λ (xs : List Item). SoFarSticky events xs rest) (sym more)
-    (record {
+pub sticky_next : (events : List Event) (items items' : List Item) (event : Event) (rest : List Event) → items' ≡ with_sticky event items → SoFarSticky events items (event ∷ rest) → SoFarSticky events items' rest
+sticky_next events items items' event rest more s = subst (λ (xs : List Item). SoFarSticky events xs rest) (sym more) (go (is_sticky event) refl)
+  where
+    go : (b : Bool) → is_sticky event ≡ b → SoFarSticky events (if b then items ++ Ev event ∷ [] else items) rest
+    go true sticky = record {
       calm = free_append items (Ev event ∷ []) s.calm (let one = sticky_calm event sticky in rw one refl);
       all = λ h. let z = s.all h in (append_assoc items (Ev event ∷ []) (map Ev rest) ∙ z.0, z.1.1);
-    })
-
-pub sticky_skips : (events : List Event) (items : List Item) (event : Event) (rest : List Event) → is_sticky event ≡ false → SoFarSticky events items (event ∷ rest) → SoFarSticky events items rest
-sticky_skips events items event rest other s = record { calm = s.calm; all = λ h. absurd (let is = (s.all h).1.0 in cc) }
+    }
+    go false other = record { calm = s.calm; all = λ h. absurd (let is = (s.all h).1.0 in cc) }
 
 pub sticky_ends : (events : List Event) (items : List Item) → SoFarSticky events items [] → AreSticky events → items ≡ map Ev events
 sticky_ends events items s h = sym (append-nil items) ∙ (s.all h).0

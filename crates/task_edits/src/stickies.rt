@@ -1,12 +1,12 @@
 //! The sticky events of what crossed the source pads of a task.
-ghost use Rattle.std.specs.Prelude.{◌≡◌, ◌<◌, [], false, length, map, Some, slice_get, IfOk};
+ghost use Rattle.std.specs.Prelude.{◌≡◌, ◌<◌, [], false, length, map, Some, slice_get, IfOk, OnOk};
 ghost use Rattle.flow_model.specs.Item.{Ev};
 ghost use Rattle.gst_item.specs.Sticky.{has_flush_stop, stickies};
 ghost use Rattle.net_model.specs.Moment.{Moment};
 ghost use Rattle.net_task.specs.Ties.{Ties};
 ghost use Rattle.pad_core.specs.Counts.{AreSticky};
 ghost use Rattle.task_edits.specs.Places.{HasPad, IsOfHead};
-ghost use Rattle.task_edits.specs.Stickies.{AreStickiesOf, HeadStickies};
+ghost use Rattle.task_edits.specs.Stickies.{AreStickiesOf, HeadStickies, with_sticky};
 
 use crate::places::{PadAt, find};
 use gst_item::{Event, Item};
@@ -69,9 +69,17 @@ fn as_items(alloc: Global, events: List<Event>) -> Result<List<Item>, OutOfMemor
     let mut rest = VecDeque::from_vec(events.into_vec());
     let mut items = List::new(alloc);
     while let Some(event) = rest.pop_front() {
-        if event.is_sticky() {
-            items.push(alloc, Item::Event(event))?;
-        }
+        push_sticky(alloc, &mut items, event)?;
     }
     Ok(items)
+}
+
+/// An event goes behind the items, if it is sticky.
+fn push_sticky(alloc: Global, items: &mut List<Item>, event: Event) -> Result<(), OutOfMemory>
+    ensures { OnOk result (items.new ≡ with_sticky event items.old) }
+{
+    if event.is_sticky() {
+        return items.push(alloc, Item::Event(event));
+    }
+    Ok(())
 }
