@@ -17,7 +17,7 @@ use Rattle.inlet_row.specs.declared.row.InletRow.{InletRow}
 use Rattle.lane_core.specs.Lane.{Lane}
 use Rattle.lane_core.specs.declared.ends.Inlet as inlets
 use Rattle.lane_core.specs.declared.ends.Outlet as outlets
-use Rattle.net_model.specs.Moment.{Behavior, Moment, behavior_at}
+use Rattle.net_model.specs.Moment.{Moment, behavior_at}
 use Rattle.net_model.specs.Pad.{Grows}
 use Rattle.net_model.specs.Refuses.{RefusesBy}
 use Rattle.net_model.specs.Step.{fed}
@@ -38,8 +38,7 @@ use Rattle.pad_core.specs.SrcPad.{state_of}
 use Rattle.task_pads.specs.Behind.{goes}
 use Rattle.task_pads.specs.Pads.{PadShape, Rest, number_of, pad_shape, rest_of}
 use Rattle.task_parts.proofs.Lists.{map_over}
-use Rattle.task_parts.specs.Moved.{PartSet}
-use Rattle.task_parts.specs.Part.{PadsGrew, PartFed, PartFell, waits_at}
+use Rattle.task_parts.specs.Part.{PartFed, PartFell, waits_at}
 use Rattle.task_parts.specs.Shape.{HeadShape, PartShape, TaskShape, head_shape, is_closed, part_shape, shape_of}
 use Rattle.task_parts.specs.Fault.{refusal_fault}
 use Rattle.task_parts.specs.declared.fault.TaskFault.{TaskFault}

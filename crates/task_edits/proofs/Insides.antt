@@ -4,7 +4,6 @@ use Rattle.std.specs.Prelude.{slice_get}
 use Rattle.std.proofs.lemmas.Option.{slice_get_within}
 use Rattle.flow_model.specs.Item.{Item}
 use Rattle.gst_item.specs.Sticky.{stickies}
-use Rattle.inlet_row.specs.declared.row.InletRow.{InletRow}
 use Rattle.lane_core.specs.Lane.{Lane}
 use Rattle.lane_core.specs.declared.ends.Inlet as inlets
 use Rattle.lane_core.specs.declared.ends.Outlet as outlets
@@ -16,8 +15,8 @@ use Rattle.net_model.specs.declared.source.TaskSource as sources
 use Rattle.net_task.specs.Frame.{room_in}
 use Rattle.net_task.specs.Ready.{AreReady}
 use Rattle.net_task.specs.Ties.{AreTied, HeadTied, LeadsAs, PadLinked, Stands, nothing_lost}
-use Rattle.task_pads.specs.Behind.{EndReady, Goes, inside, SentIn, end_in, goes}
-use Rattle.task_pads.specs.Pads.{HasCrossed, IsLed, goes_of, number_of}
+use Rattle.task_pads.specs.Behind.{EndReady, inside, SentIn, end_in, goes}
+use Rattle.task_pads.specs.Pads.{HasCrossed, IsLed, number_of}
 use Rattle.task_pads.specs.declared.pad.Behind.{Behind}
 use Rattle.task_pads.specs.declared.pad.Pad.{Pad}
 use Rattle.task_parts.specs.Shape.{goes_within, has_number, is_closed, part_shape, shape_of}

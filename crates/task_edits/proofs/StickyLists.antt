@@ -1,6 +1,5 @@
 -- Sticky events of a pad, as items.
-use Rattle.std.proofs.Common.{◌≡◌, ◌++◌, Bool, true, false, if◌then◌else◌, List, [], ◌∷◌, map, refl, sym, ap, ◌∙◌, subst, append_assoc, append-nil}
-use Rattle.std.specs.Prelude.{IsTrue}
+use Rattle.std.proofs.Common.{◌≡◌, ◌++◌, Bool, true, false, if◌then◌else◌, List, [], ◌∷◌, map, refl, sym, ◌∙◌, subst, append_assoc, append-nil}
 use Rattle.flow_model.specs.Item.{Item, Event, Ev, FlushStop, is_flush_stop}
 use Rattle.flow_model.proofs.Items.{free_append}
 use Rattle.gst_item.specs.Item.{is_sticky}

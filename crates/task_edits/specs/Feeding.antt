@@ -1,5 +1,5 @@
 -- Items that control gives to an element of a task, and that crossed no pad.
-use Rattle.std.specs.Prelude.{◌≡◌, ◌++◌, ◌∷◌, ℕ, List, [], Option, map}
+use Rattle.std.specs.Prelude.{◌≡◌, ◌++◌, ◌∷◌, ℕ, List, map}
 use Rattle.flow_model.specs.Call.{Call, feeds}
 use Rattle.flow_model.specs.Item.{Item}
 use Rattle.flow_model.specs.SinkPads.{InSection, push_calls}
@@ -7,7 +7,6 @@ use Rattle.gst_item.specs.declared.out.Out.{Out}
 use Rattle.gst_outside.specs.Causes.{NeverFalls}
 use Rattle.lane_core.specs.declared.ends.Inlet as inlets
 use Rattle.lane_core.specs.declared.ends.Outlet as outlets
-use Rattle.net_model.specs.Failures.{IsWriteCause}
 use Rattle.net_model.specs.Moment.{Behavior, Moment, behavior_at}
 use Rattle.net_model.specs.Refuses.{RefusesBy}
 use Rattle.net_model.specs.Step.{PutsOut, fed}

@@ -1,7 +1,6 @@
-use Rattle.std.proofs.Common.{◌≡◌, ◌∙◌, List, map, ap, refl, subst, sym}
+use Rattle.std.proofs.Common.{◌∙◌, List, ap, subst, sym}
 use Rattle.std.specs.Prelude.{IfErr, OnOk}
 use Rattle.std.proofs.lemmas.Result.{IfErr-weaker, on_ok_weaker}
-use Rattle.net_task.proofs.Bare.{bare}
 use Rattle.task_parts.specs.declared.part.Part.{Part}
 use Rattle.task_edits.specs.Feeding.{StoppedIn, TookIn}
 use Rattle.task_edits.proofs.Feeds.{bare_are_ready, bare_closed, bare_frame, bare_left, fed_bares, stopped_tied, took_tied}

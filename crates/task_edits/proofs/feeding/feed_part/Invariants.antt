@@ -1,6 +1,4 @@
-use Rattle.std.proofs.Common.{◌≡◌, ◌++◌, false}
 use Rattle.std.specs.VecDeque.{deque_len}
-use Rattle.gst_item.specs.Sticky.{has_flush_stop}
 use Rattle.task_edits.proofs.Feeds.{SoFar}
 use Rattle.task_edits.proofs.feeding.feed_part.Given as goal
 

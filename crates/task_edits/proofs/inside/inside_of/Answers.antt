@@ -1,4 +1,4 @@
-use Rattle.std.proofs.Common.{◌≡◌, List, Some, ap, get_or, subst}
+use Rattle.std.proofs.Common.{◌≡◌, List, get_or, subst}
 use Rattle.std.specs.Prelude.{IfSome}
 use Rattle.std.proofs.lemmas.Option.{IfSome_then}
 use Rattle.task_parts.specs.declared.head.Head.{Head}

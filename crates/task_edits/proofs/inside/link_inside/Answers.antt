@@ -1,7 +1,5 @@
-use Rattle.std.proofs.Common.{◌≡◌, List, ap, map, refl, subst, sym, true}
+use Rattle.std.proofs.Common.{◌≡◌, ap, refl, subst}
 use Rattle.task_pads.specs.declared.pad.Behind.{Behind}
-use Rattle.task_parts.specs.Shape.{has_number, part_shape}
-use Rattle.task_parts.specs.declared.part.Part.{Part}
 use Rattle.task_edits.specs.Changes.{Changed, LedBy}
 use Rattle.task_edits.specs.Inside.{inside_behind}
 use Rattle.task_edits.proofs.Acts.{changed_as, changed_left}

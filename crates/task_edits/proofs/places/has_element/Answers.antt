@@ -1,4 +1,4 @@
-use Rattle.std.proofs.Common.{◌≡◌, ◌∙◌, List, Option, None, ℕ, false, map, subst}
+use Rattle.std.proofs.Common.{◌≡◌, ◌∙◌, List, None, false, map, subst}
 use Rattle.std.specs.Prelude.{IfSome}
 use Rattle.task_parts.specs.Found.{IsAt}
 use Rattle.task_parts.specs.Shape.{has_number, part_shape}
