@@ -4,3 +4,4 @@ mod Restands
 mod Acts
 pub mod Feds
 pub mod Turned
+pub mod Both

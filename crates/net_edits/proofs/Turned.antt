@@ -156,8 +156,8 @@ module _ {S E I O L : Type 0} {s : sources.Ghosts S} {e : elements.Ghosts E} {i 
       let ties : Ties t.turned (replanned (linked pad (length (m.history pad)) to.element to.pad m.plan).sinks m) =
       t.ties m (length (m.history pad)) (stands.tied place t.was t.at) (record { nowhere = can.nowhere; free = can.free; inner = inner; no_row = no_row_at m tells stands can.no_row place t.was t.at owns_to t.was.head refl }) in
       let z = turned_stands tasks tasks' place pad (inside_behind to) (TiesLinked pad to) (FedAll to l.items) over_none t (linked pad (length (m.history pad)) to.element to.pad m.plan).sinks m tells to (stickies (m.history pad)) stands has
-          (linked_others m pad (length (m.history pad)) to.element to.pad) ties f (subst (λ (xs : List Item). has_flush_stop xs ≡ false) events calm) can.no_row
-          (λ out answers a. linking_keeps m pad to.element to.pad out (record { free = can.free; inner = inner; puts_out = answers (stands.first to.element).0 }) a (stands.cells a)) in
+      (linked_others m pad (length (m.history pad)) to.element to.pad) ties f (subst (λ (xs : List Item). has_flush_stop xs ≡ false) events calm) can.no_row
+      (λ out answers a. linking_keeps m pad to.element to.pad out (record { free = can.free; inner = inner; puts_out = answers (stands.first to.element).0 }) a (stands.cells a)) in
       record {
         out = z.out;
         links = record { free = can.free; inner = inner; puts_out = z.answers (stands.first to.element).0 };
@@ -206,8 +206,8 @@ module _ {S E I O L : Type 0} {s : sources.Ghosts S} {e : elements.Ghosts E} {i 
       subst (λ (p : ℕ). LeadsAs m p (inside to.element to.pad)) l.inside.leads.number_is (subst (LeadsAs m (number_of l.inside.leads.pad)) l.inside.leads.leads linked_as.leads) in
       let ties : Ties t.turned (replanned (undone pad (length (m.history pad)) true m.plan).sinks m) = t.ties m (length (m.history pad)) true (stands.tied place t.was t.at) in
       let z = turned_stands tasks tasks' place pad Nothing (TiesUndone pad) (FedAll to eos_alone) over_none t (undone pad (length (m.history pad)) true m.plan).sinks m tells to eos_alone stands has
-          (undone_others m pad (length (m.history pad)) true) ties t.fed refl no_row
-          (λ out answers a. ending_keeps m pad to.element to.pad out (record { leads = leads.0; inner = leads.1; puts_out = answers (stands.first to.element).0 }) a (stands.cells a)) in
+      (undone_others m pad (length (m.history pad)) true) ties t.fed refl no_row
+      (λ out answers a. ending_keeps m pad to.element to.pad out (record { leads = leads.0; inner = leads.1; puts_out = answers (stands.first to.element).0 }) a (stands.cells a)) in
       record {
         to = to;
         out = z.out;
