@@ -1,2 +1,1 @@
 pub mod Nets
-pub mod Inside

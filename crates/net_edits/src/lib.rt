@@ -2,8 +2,6 @@
 //! undone. The tasks then stand at the moment that the act makes of the one at which they stood.
 #![tactic(auto)]
 
-pub mod inside;
 pub mod net;
 
-pub use inside::{EditFault, end_inside, link_inside};
 pub use net::{set_probe, unlink};

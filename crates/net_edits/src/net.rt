@@ -55,12 +55,10 @@ pub fn unlink<S: TaskSource, E: TaskElement, I: Inlet<Out = O>, O: Outlet<Lanes 
 }
 
 /// The place of the task that has the source pad of a number.
-pub(crate) fn find_task<
-    S: TaskSource,
-    E: TaskElement,
-    I: Inlet<Out = O>,
-    O: Outlet<Lanes = I::Lanes>,
->(tasks: &[Task<S, E, I, O>], pad: u32) -> Option<usize>
+fn find_task<S: TaskSource, E: TaskElement, I: Inlet<Out = O>, O: Outlet<Lanes = I::Lanes>>(
+    tasks: &[Task<S, E, I, O>],
+    pad: u32,
+) -> Option<usize>
     ensures there { IfSome result (TaskHas tasks.now pad) }
     ensures none { result ≡ None → NoneHas tasks.now pad }
 {
