@@ -33,7 +33,8 @@ pub fn split<S: TaskSource, E: TaskElement, I: Inlet<Out = O>, O: Outlet<Lanes =
     pads: usize,
 ) -> Result<bool, OutOfMemory>
     requires tree { IsTreeIn tasks.old.items element }
-    ensures stands { result ≡ Ok true → (m : Moment) (tells : _) → NetStands m tasks.old.items tells → TookItems m element pads → NetStands m tasks.new.items tells }
+    ensures stands { result ≡ Ok true → (m : Moment) (tells : _) → NetStands m tasks.old.items tells → TookItems m element pads
+        → NetStands m tasks.new.items tells }
     ensures ready { result ≡ Ok true → (tells : _) → NetReady tasks.old.items tells → NetReady tasks.new.items tells }
     ensures split { result ≡ Ok true → IsSplit tasks.old.items tasks.new.items element pads }
     ensures none { result ≡ Ok false → CannotSplit tasks.old.items element × (tasks.new ≡ tasks.old) }

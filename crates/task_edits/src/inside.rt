@@ -33,8 +33,10 @@ pub fn link_inside<S: TaskSource, E: TaskElement, I: Inlet<Out = O>, O: Outlet<L
     to: Inside,
 ) -> (Task<S, E, I, O>, Behind<O>)
     requires there { has_number to.element (map part_shape task.parts.items) ≡ true }
-    ensures changed { Changed (LedBy (inside_behind to) result.1) (result.1 ≡ inside_behind to) pad task.head task.parts.items result.0.head result.0.parts.items }
-    ensures ties { (m : Moment) (from : ℕ) → Ties task m → CanLinkInside m task.head pad to → Ties result.0 (planned (linked pad from to.element to.pad m.plan) m) }
+    ensures changed { Changed (LedBy (inside_behind to) result.1) (result.1 ≡ inside_behind to) pad task.head task.parts.items
+        result.0.head result.0.parts.items }
+    ensures ties { (m : Moment) (from : ℕ) → Ties task m → CanLinkInside m task.head pad to
+        → Ties result.0 (planned (linked pad from to.element to.pad m.plan) m) }
     ensures ready { (tells : _) → IsReady tells task → IsReady tells result.0 }
     ensures moves { moves_left result.0 ≡ moves_left task }
 {
