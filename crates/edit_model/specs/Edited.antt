@@ -67,7 +67,7 @@ unlinked_at source place eos g =
     record g {
       links = without source g.links;
       spans = λ e. map (map (undo (pad_id source) place eos)) (g.spans e);
-      ended = if eos then and_sink (sink_behind g.links source) g.ended else g.ended;
+      ended = and_sink (if eos then sink_behind g.links source else None) g.ended;
     }
 
 abbrev pub link_between : PadPlace → PadPlace → PadLink
