@@ -2,6 +2,7 @@
 ghost use Rattle.std.specs.Prelude.{◌≡◌};
 ghost use Rattle.std.specs.List.{list_any};
 ghost use Rattle.edit_model.specs.Edited.{touches as touches_one};
+ghost use Rattle.graph_pads.specs.Links.{is_same};
 
 use crate::graph::EditedGraph;
 use crate::marks::is_marked;
@@ -17,7 +18,7 @@ const MOST_PADS: u32 = 64;
 impl EditedGraph {
     ghost use Rattle.std.specs.Prelude.{◌<◌, ◌↔◌, true, false, Some, length, slice_get, IfOk, IfSome, IsTrue};
     ghost use Rattle.std.specs.Option.{option_map};
-    ghost use Rattle.edit_model.specs.Edited.{Edited, is_active, is_there};
+    ghost use Rattle.edit_model.specs.Edited.{Edited, is_active, is_ended, is_there};
     ghost use Rattle.edit_model.specs.Lawful.{has_link};
     ghost use Rattle.edit_model.specs.Names.{element_named};
     ghost use Rattle.edit_model.specs.Plans.{IsOrder};
@@ -27,7 +28,7 @@ impl EditedGraph {
     ghost use Rattle.graph_core.specs.GraphPlan.{pad_id};
     ghost use Rattle.graph_core.specs.Links.{HaveCommon, caps_at};
     ghost use Rattle.graph_edits.specs.Graph.{IsEdited, IsPad, made};
-    ghost use Rattle.graph_pads.specs.Links.{sink_behind};
+    ghost use Rattle.graph_pads.specs.Links.{sink_behind, source_before};
     ghost use Rattle.graph_pads.specs.Pads.{pad_at};
 
     /// Whether an element was made and was not removed.
@@ -90,6 +91,20 @@ impl EditedGraph {
         ensures { (g : Edited) → IsEdited self.now g → result ≡ sink_behind g.links source }
     {
         sink_behind(&self.links, source)
+    }
+
+    /// The source pad that is linked to a sink pad.
+    pub fn source_before(&self, sink: PadPlace) -> Option<PadPlace>
+        ensures { (g : Edited) → IsEdited self.now g → result ≡ source_before g.links sink }
+    {
+        source_before(&self.links, sink)
+    }
+
+    /// Whether a link to a sink pad was undone with EOS.
+    pub fn is_ended(&self, sink: PadPlace) -> bool
+        ensures { (g : Edited) → IsEdited self.now g → result ≡ is_ended g sink }
+    {
+        is_among(&self.ended, sink)
     }
 
     /// Whether a sink pad is linked.
@@ -156,4 +171,12 @@ fn some_touches(links: &[PadLink], element: u32) -> bool
     ensures { result ≡ list_any (touches_one element) links.now }
 {
     links.iter().any(|link| link.source.element == element || link.sink.element == element)
+}
+
+/// Whether a pad is one of these.
+fn is_among(pads: &[PadPlace], pad: PadPlace) -> bool
+    ensures { result ≡ list_any (is_same pad) pads.now }
+{
+    pads.iter()
+        .any(|one| pad.element == one.element && pad.pad == one.pad)
 }
