@@ -3,3 +3,8 @@ mod Alikes
 mod Restands
 mod Acts
 mod Fresh
+mod Beside
+mod Differing
+mod Endings
+mod Frozen
+mod Added

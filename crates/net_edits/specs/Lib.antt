@@ -1,2 +1,3 @@
 pub mod Nets
 pub mod Seeing
+pub mod Adding

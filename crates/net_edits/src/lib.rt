@@ -2,8 +2,10 @@
 //! undone. The tasks then stand at the moment that the act makes of the one at which they stood.
 #![tactic(auto)]
 
+pub mod adding;
 pub mod net;
 pub mod seeing;
 
+pub use adding::{add_task, take_task};
 pub use net::{set_probe, unlink};
 pub use seeing::see_pad;
