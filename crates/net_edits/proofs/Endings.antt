@@ -51,6 +51,19 @@ not_ended front rest x calm closed =
     by true is more over none = absurd (true≢false (sym (over is) ∙ none))
     by false is more over none = is
 
+-- no item of a list without FLUSH_STOP is one
+calm_item : (front : List Item) (x : Item) (rest : List Item) → has_flush_stop (front ++ x ∷ rest) ≡ false → is_flush_stop x ≡ false
+calm_item [] x rest h = one (is_flush_stop x) h
+  where
+    one : (b : Bool) → (if b then true else has_flush_stop rest) ≡ false → b ≡ false
+    one true h = absurd (true≢false h)
+    one false h = refl
+calm_item (y ∷ front) x rest h = calm_item front x rest (more (is_flush_stop y) h)
+  where
+    more : (b : Bool) → (if b then true else has_flush_stop (front ++ x ∷ rest)) ≡ false → has_flush_stop (front ++ x ∷ rest) ≡ false
+    more true h = absurd (true≢false h)
+    more false h = h
+
 module _ (m : Moment) (p : ℕ) (plain : IsPlain m.plan) (cell : CellStands m (m.plan.owner p)) where
   owed_all : owed_at m p 0 ≡ m.history p ++ m.waits p
   owed_all = subst (λ (cuts : List (ℕ × ℕ)). Holds 0 0 cuts (owed_at m p) (m.history p) (m.waits p)) (plain.uncut p) (cell.pads p refl)
@@ -63,3 +76,7 @@ module _ (m : Moment) (p : ℕ) (plain : IsPlain m.plan) (cell : CellStands m (m
       let whole : owed_at m p 0 ≡ front ++ last ∷ m.waits p = owed_all ∙ (ap (λ (l : List Item). l ++ m.waits p) is ∙ append_assoc front (last ∷ []) (m.waits p)) in
       not_ended front (m.waits p) last (subst (λ (l : List Item). has_flush_stop l ≡ false) whole (plain.calm (m.plan.owner p) (m.plan.port p) (m.took (m.plan.owner p))))
       (λ ys x e. plain.closed (m.plan.owner p) (m.plan.port p) (m.took (m.plan.owner p)) ys x (whole ∙ e))
+
+  pub whole_calm : (front : List Item) (x : Item) (rest : List Item) → m.history p ++ m.waits p ≡ front ++ x ∷ rest → is_flush_stop x ≡ false
+  whole_calm front x rest is =
+      calm_item front x rest (subst (λ (l : List Item). has_flush_stop l ≡ false) (owed_all ∙ is) (plain.calm (m.plan.owner p) (m.plan.port p) (m.took (m.plan.owner p))))

@@ -8,3 +8,4 @@ mod Differing
 mod Endings
 mod Frozen
 mod Added
+mod Empties

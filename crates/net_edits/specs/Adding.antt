@@ -1,8 +1,9 @@
 -- A task of one element that comes to the tasks of a net, and one that is taken out of them.
-use Rattle.std.specs.Prelude.{◌≡◌, ◌≢◌, ◌==◌, ◌⊎◌, ℕ, zero, suc, false, List, [], ◌∷◌, Some, if◌then◌else◌, length, map, replicate, slice_get}
+use Rattle.std.specs.Prelude.{◌≡◌, ◌≢◌, ◌==◌, ◌⊎◌, ℕ, zero, suc, false, List, [], ◌∷◌, Option, Some, if◌then◌else◌, length, map, replicate, slice_get}
 use Rattle.flow_model.specs.Item.{Item}
 use Rattle.flow_model.specs.Link.{Span, Given}
 use Rattle.flow_model.specs.Rule.{Rule}
+use Rattle.lane_core.specs.Lane.{Lane}
 use Rattle.lane_core.specs.declared.ends.Inlet as inlets
 use Rattle.lane_core.specs.declared.ends.Outlet as outlets
 use Rattle.net_model.specs.Moment.{Moment, put_at}
@@ -11,13 +12,15 @@ use Rattle.net_model.specs.Standing.{is_linked}
 use Rattle.net_model.specs.declared.element.TaskElement as elements
 use Rattle.net_model.specs.declared.source.TaskSource as sources
 use Rattle.inlet_row.specs.declared.row.InletRow.{InletRow}
-use Rattle.inlet_row.specs.Row.{feeds_of}
+use Rattle.inlet_row.specs.Row.{ForLanes, feeds_of}
 use Rattle.task_pads.specs.Behind.{nowhere}
 use Rattle.task_parts.specs.declared.head.Head.{Head}
 use Rattle.task_parts.specs.declared.head.Head.TheVariants.{Source, Inlets}
+use Rattle.task_parts.specs.declared.step.Step.{Step}
 use Rattle.net_task.specs.declared.task.Task.{Task}
 use Rattle.net_task.specs.Frame.{IsWire, TaskFrame, Wire, frame_of}
-use Rattle.net_turns.specs.Net.{HasElement, Owns}
+use Rattle.net_turns.specs.Net.{HasElement, HasRow, NetStands, Owns}
+use Rattle.net_turns.specs.Turns.{IsStepped}
 
 -- no element of a task is another
 abbrev pub IsOnly : TaskFrame → ℕ → Type 0
@@ -102,3 +105,18 @@ pub record IsCut (m : Moment) (n : ℕ) (cut : ℕ → List Item) : Type 0 where
 pub record CanTake (m : Moment) (n : ℕ) (frame : TaskFrame) : Type 0 where
   pub only : IsOnly frame n
   pub free : NoneStand (m.plan.sinks n)
+
+-- no lane stands in a row
+abbrev pub HasNoLane : {I : Type 0} → InletRow I → Type 0
+HasNoLane row = ForLanes (λ inlet. ⊥) (feeds_of row)
+
+-- A row gets nothing new: where it is empty it stays so, and where no lane stands in it none comes.
+pub record GetsNothing {I : Type 0} (was is : InletRow I) : Type 0 where
+  pub empty : feeds_of was ≡ [] → feeds_of is ≡ []
+  pub no_lane : HasNoLane was → HasNoLane is
+
+-- In a step of a task no row of the net gets anything new.
+abbrev pub HoldsNothingNew : {S E I O L : Type 0} → sources.Ghosts S → elements.Ghosts E → inlets.Ghosts I L O → outlets.Ghosts O L → Type 0
+HoldsNothingNew {S} {E} {I} {O} {L} s e i o =
+    (m : Moment) (tasks tasks' : List (Task S E I O L s e i o)) (tells tells' : Option (List Lane)) (place : ℕ) (step : Step) → NetStands m tasks tells → IsStepped place step tasks tasks' tells tells'
+    → (k n port : ℕ) (row : InletRow I) → HasRow tasks' k n port row → (was : InletRow I) × HasRow tasks k n port was × GetsNothing was row

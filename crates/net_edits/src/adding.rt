@@ -7,7 +7,7 @@ ghost use Rattle.net_task.specs.Frame.{frame_of};
 ghost use Rattle.net_task.specs.Ready.{IsReady};
 ghost use Rattle.net_task.specs.Ties.{Ties};
 ghost use Rattle.net_turns.specs.Net.{IsPlain, NetReady, NetStands, SendsInto};
-ghost use Rattle.net_edits.specs.Adding.{CanTake, IsAdded, IsCut, IsFresh, IsOnly, NoneOwns, frozen};
+ghost use Rattle.net_edits.specs.Adding.{CanTake, HoldsNothingNew, IsAdded, IsCut, IsFresh, IsOnly, NoneOwns, frozen};
 
 use lane_core::{Inlet, Outlet};
 use net_model::{TaskElement, TaskSource};
@@ -60,3 +60,13 @@ pub fn take_task<S: TaskSource, E: TaskElement, I: Inlet<Out = O>, O: Outlet<Lan
 {
     tasks.remove(place)
 }
+
+/// Where nothing stands in a row of a net, nothing does behind a step, and where no lane stands in it none comes.
+pub fn holds_nothing_new<
+    S: TaskSource,
+    E: TaskElement,
+    I: Inlet<Out = O>,
+    O: Outlet<Lanes = I::Lanes>,
+>()
+    ensures { HoldsNothingNew S.TaskSource E.TaskElement I.Inlet O.Outlet }
+{}

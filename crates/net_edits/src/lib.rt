@@ -6,6 +6,6 @@ pub mod adding;
 pub mod net;
 pub mod seeing;
 
-pub use adding::{add_task, take_task};
+pub use adding::{add_task, holds_nothing_new, take_task};
 pub use net::{set_probe, unlink};
 pub use seeing::see_pad;
