@@ -31,9 +31,8 @@ use Rattle.net_task.specs.Frame.{TaskFrame, by_inlets, frame_of, head_frame}
 use Rattle.net_task.specs.Moves.{Act, LanesBy, RowsKept, RowsStay, Steps, TookFrom, Unlawful, flush_given, flush_taken, giving, leaving, passing, sending, taking}
 use Rattle.net_task.specs.Reasons.{HeadLacks, Why}
 use Rattle.net_task.specs.Ties.{Ties}
-use Rattle.net_turns.specs.Net.{HasRow, NetStands}
-use Rattle.net_turns.specs.Turns.{IsStepped}
-use Rattle.net_edits.specs.Adding.{GetsNothing, HasNoLane, HoldsNothingNew}
+use Rattle.net_turns.specs.Net.{HasRow}
+use Rattle.net_edits.specs.Adding.{GetsNothing, HoldsNothingNew}
 use Rattle.net_edits.proofs.Endings.{whole_calm}
 
 module _ {I : Type 0} where

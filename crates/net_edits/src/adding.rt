@@ -1,12 +1,14 @@
 //! A task more and a task less among tasks that lanes join.
 ghost use Rattle.std.specs.List.{insert, remove};
-ghost use Rattle.std.specs.Prelude.{◌≡◌, ◌≤◌, ◌<◌, ℕ, List, Some, slice_get, vec_len, vec_capacity};
+ghost use Rattle.std.specs.Prelude.{◌≡◌, ◌≤◌, ◌<◌, ◌+◌, ℕ, List, Some, slice_get, vec_len, vec_capacity};
 ghost use Rattle.flow_model.specs.Item.{Item};
 ghost use Rattle.net_model.specs.Moment.{CellStands, Moment};
 ghost use Rattle.net_task.specs.Frame.{frame_of};
+ghost use Rattle.net_task.specs.Fuel.{moves_left};
 ghost use Rattle.net_task.specs.Ready.{IsReady};
 ghost use Rattle.net_task.specs.Ties.{Ties};
 ghost use Rattle.net_turns.specs.Net.{IsPlain, NetReady, NetStands, SendsInto};
+ghost use Rattle.net_turns.specs.Turns.{net_left};
 ghost use Rattle.net_edits.specs.Adding.{CanTake, HoldsNothingNew, IsAdded, IsCut, IsFresh, IsOnly, NoneOwns, frozen};
 
 use lane_core::{Inlet, Outlet};
@@ -24,6 +26,7 @@ pub fn add_task<S: TaskSource, E: TaskElement, I: Inlet<Out = O>, O: Outlet<Lane
     requires room { vec_len tasks.old < vec_capacity tasks.old }
     ensures added { tasks.new.items ≡ insert tasks.old.items place task }
     ensures room { vec_capacity tasks.new ≡ vec_capacity tasks.old }
+    ensures moves { net_left tasks.new.items ≡ net_left tasks.old.items + moves_left task }
     ensures stands { (m m' : Moment) (tells : _) (n : ℕ) → NetStands m tasks.old.items tells → IsAdded m m' n task.head → NoneOwns tasks.old.items n → IsFresh task n
         → IsPlain m'.plan → Ties task m' → IsReady tells task → CellStands m' n → NetStands m' tasks.new.items tells }
     ensures ready { (tells : _) (n : ℕ) → NetReady tasks.old.items tells → NoneOwns tasks.old.items n → IsFresh task n → IsReady tells task → NetReady tasks.new.items tells }
@@ -53,6 +56,7 @@ pub fn take_task<S: TaskSource, E: TaskElement, I: Inlet<Out = O>, O: Outlet<Lan
     ensures task { slice_get tasks.old.items place ≡ Some result }
     ensures taken { tasks.new.items ≡ remove tasks.old.items place }
     ensures room { vec_capacity tasks.new ≡ vec_capacity tasks.old }
+    ensures moves { net_left tasks.new.items + moves_left result ≡ net_left tasks.old.items }
     ensures stands { (m : Moment) (tells : _) (n : ℕ) (cut : ℕ → List Item) → NetStands m tasks.old.items tells → CanTake m n (frame_of result) → IsCut m n cut
         → NetStands (frozen n cut m) tasks.new.items tells }
     ensures ready { (tells : _) (n : ℕ) → NetReady tasks.old.items tells → IsOnly (frame_of result) n
