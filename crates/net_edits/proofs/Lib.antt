@@ -12,3 +12,9 @@ mod Pushed
 mod Linked
 mod Rowed
 mod LanesMore
+mod Beside
+mod Differing
+mod Endings
+mod Frozen
+mod Added
+mod Empties
