@@ -1,2 +1,3 @@
 mod Judged
 pub mod Trees
+pub mod Stepped

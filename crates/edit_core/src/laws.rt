@@ -1,4 +1,5 @@
 //! Laws of nets whose graph commands edit.
+ghost use Rattle.edit_core.specs.Tasks.{StepsKeepTasks};
 ghost use Rattle.edit_core.specs.Trees.{TreesStand};
 
 use lane_core::{Inlet, Outlet};
@@ -8,4 +9,14 @@ use net_model::{TaskElement, TaskSource};
 /// the most.
 pub fn trees_stand<S: TaskSource, E: TaskElement, I: Inlet<Out = O>, O: Outlet<Lanes = I::Lanes>>()
     ensures { TreesStand S.TaskSource E.TaskElement I.Inlet O.Outlet }
+{}
+
+/// A step of a task leaves the tasks with the elements of the edited graph as they had them.
+pub fn steps_keep_tasks<
+    S: TaskSource,
+    E: TaskElement,
+    I: Inlet<Out = O>,
+    O: Outlet<Lanes = I::Lanes>,
+>()
+    ensures { StepsKeepTasks S.TaskSource E.TaskElement I.Inlet O.Outlet }
 {}

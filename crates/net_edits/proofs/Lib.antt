@@ -17,4 +17,4 @@ mod Differing
 mod Endings
 mod Frozen
 mod Added
-mod Empties
+pub mod Empties
