@@ -1,3 +1,4 @@
 mod Judged
 pub mod Trees
 pub mod Stepped
+pub mod Marks

@@ -1,3 +1,4 @@
 pub mod Judging
 pub mod Trees
 pub mod Tasks
+pub mod Marks

@@ -1,4 +1,5 @@
 //! Laws of nets whose graph commands edit.
+ghost use Rattle.edit_core.specs.Marks.{StaysUnmarked};
 ghost use Rattle.edit_core.specs.Tasks.{StepsKeepTasks};
 ghost use Rattle.edit_core.specs.Trees.{TreesStand};
 
@@ -19,4 +20,10 @@ pub fn steps_keep_tasks<
     O: Outlet<Lanes = I::Lanes>,
 >()
     ensures { StepsKeepTasks S.TaskSource E.TaskElement I.Inlet O.Outlet }
+{}
+
+/// The spans of sink pads have no marks, from the start and behind each answer.
+#[tactic(auto, using(crate::proofs::Marks::stays_unmarked))]
+pub fn stays_unmarked()
+    ensures { StaysUnmarked }
 {}
