@@ -2,3 +2,4 @@ mod Judged
 pub mod Trees
 pub mod Stepped
 pub mod Marks
+pub mod Inner

@@ -79,7 +79,7 @@ answered h owed g after c a (IsAnswered.unreached one there is) none = none
 answered h owed g after c a (IsAnswered.nameless one missing) none = none
 answered h owed g after c a (IsAnswered.refused when act p place reason there reaches is) none = none
 
-each : (sinks : List (List Span)) (port : ℕ) (spans : List Span) → AllUnmarked sinks → slice_get sinks port ≡ Some spans → HaveNoMarks spans
+pub each : (sinks : List (List Span)) (port : ℕ) (spans : List Span) → AllUnmarked sinks → slice_get sinks port ≡ Some spans → HaveNoMarks spans
 each [] port spans none at = absurd (none_some at)
 each (ss ∷ sss) zero spans none at = subst HaveNoMarks (some_same at) none.0
 each (ss ∷ sss) (suc port) spans none at = each sss port spans none.1 at

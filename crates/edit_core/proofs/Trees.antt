@@ -106,7 +106,7 @@ module _ {S E I O L : Type 0} {s : sources.Ghosts S} {e : elements.Ghosts E} (i 
       }
   source_pad (Inlets fed) t wire is = absurd cc
 
-  wire_leads : (wire : Wire) → IsWire (frame_in o head parts) wire → (n sink : ℕ) → wire.leads ≡ inside n sink → Leads m.plan wire.number n sink
+  pub wire_leads : (wire : Wire) → IsWire (frame_in o head parts) wire → (n sink : ℕ) → wire.leads ≡ inside n sink → Leads m.plan wire.number n sink
   wire_leads wire (of_part j k w) n sink is = (part_pad j k wire w).leads n sink is
   wire_leads wire (of_head at) n sink is = (source_pad head tied.head_tied wire at).leads n sink is
 

@@ -1,6 +1,6 @@
 //! Laws of nets whose graph commands edit.
 ghost use Rattle.edit_core.specs.Marks.{StaysUnmarked};
-ghost use Rattle.edit_core.specs.Tasks.{StepsKeepTasks};
+ghost use Rattle.edit_core.specs.Tasks.{InnerPadsAreFirst, StepsKeepTasks};
 ghost use Rattle.edit_core.specs.Trees.{TreesStand};
 
 use lane_core::{Inlet, Outlet};
@@ -26,4 +26,14 @@ pub fn steps_keep_tasks<
 #[tactic(auto, using(crate::proofs::Marks::stays_unmarked))]
 pub fn stays_unmarked()
     ensures { StaysUnmarked }
+{}
+
+/// Inside of a task of an edited graph pads lead to the first sink pads of elements that have no others.
+pub fn inner_pads_are_first<
+    S: TaskSource,
+    E: TaskElement,
+    I: Inlet<Out = O>,
+    O: Outlet<Lanes = I::Lanes>,
+>()
+    ensures { InnerPadsAreFirst S.TaskSource E.TaskElement I.Inlet O.Outlet }
 {}
