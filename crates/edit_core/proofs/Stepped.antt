@@ -78,6 +78,7 @@ module _ {S E I O L : Type 0} {s : sources.Ghosts S} {e : elements.Ghosts E} {i 
         fed = λ n there has. let z = are.fed n there has in let f = fed_behind z.0 z.1 z.2 in (z.0, f.0, f.1, f.2 ∙ z.3);
         inner = λ k task wire n port at is leads. let b = before k task at in are.inner k b.task wire n port b.at (subst (λ (f : TaskFrame). IsWire f wire) b.frame is) leads;
         lanes = λ k task wire lane n port from at is leads. let b = before k task at in are.lanes k b.task wire lane n port from b.at (subst (λ (f : TaskFrame). IsWire f wire) b.frame is) leads;
+        sources = λ k task n file wire at head. let b = before k task at in are.sources k b.task n file wire b.at (sym (ap (λ (f : TaskFrame). f.head) b.frame) ∙ head);
         bare = λ k n port row has none. let z = nothing_new m tasks tasks' tells tells' place step stands stepped k n port row has in z.2.empty (are.bare k n port z.0 z.1 none);
         reached = λ k task n at has. let b = before k task at in
             subst (λ (f : TaskFrame). IsReachedIn f n) (sym b.frame) (are.reached k b.task n b.at (subst (λ (f : TaskFrame). HasElement f n) b.frame has));

@@ -1,5 +1,5 @@
 -- In a net that stands each sink pad has one link at the most, so what stands behind an element is a tree.
-use Rattle.std.proofs.Common.{◌≡◌, ◌⊎◌, ℕ, zero, suc, true, false, eqb, if◌then◌else◌, List, [], ◌∷◌, Some, sym, ap, ◌∙◌, subst, inl, inr}
+use Rattle.std.proofs.Common.{◌≡◌, ◌⊎◌, ℕ, zero, suc, true, false, eqb, if◌then◌else◌, List, [], ◌∷◌, Some, sym, ap, Option, ◌∙◌, subst, inl, inr}
 use Rattle.std.specs.Prelude.{slice_get}
 use Rattle.std.proofs.lemmas.Bool.Decides.{eqb_tells}
 use Rattle.flow_model.specs.Item.{Item}
@@ -12,12 +12,11 @@ use Rattle.net_model.specs.Standing.{AllStanding, LinksAt, Standing, is_linked, 
 use Rattle.net_model.specs.Step.{Leads}
 use Rattle.net_model.specs.declared.element.TaskElement as elements
 use Rattle.net_model.specs.declared.source.TaskSource as sources
-use Rattle.task_pads.specs.Behind.{Goes, inside}
-use Rattle.task_pads.specs.Pads.{number_of}
+use Rattle.task_pads.specs.Behind.{Goes, inside, over}
 use Rattle.task_parts.specs.declared.head.Head.{Head}
 use Rattle.task_parts.specs.declared.head.Head.TheVariants.{Source, Inlets}
 use Rattle.task_parts.specs.declared.part.Part.{Part}
-use Rattle.net_task.specs.Frame.{PartFrame, Wire, IsWire, WireAt, frame_in, head_frame, head_wire, part_frame, wire_of}
+use Rattle.net_task.specs.Frame.{HeadFrame, by_inlets, by_source, PartFrame, Wire, IsWire, WireAt, frame_in, head_frame, head_wire, part_frame, wire_of}
 use Rattle.net_task.specs.Frame.IsWire.{of_head, of_part}
 use Rattle.net_task.specs.Ties.{AreTied, HeadTied, LeadsAs, Stands, nothing_lost}
 use Rattle.net_groups.specs.Behind.{IsTree}
@@ -56,12 +55,20 @@ no_link p (WasLinked source from to eos marks ∷ spans) free is = no_link p spa
 no_link p (Flushed number ∷ spans) free is = no_link p spans free is
 no_link p (Given calls ∷ spans) free is = no_link p spans free is
 
-no_source : (p i : ℕ) (sss : List (List Span)) → IsFree i sss → LinksAt p i sss → ⊥
+pub no_source : (p i : ℕ) (sss : List (List Span)) → IsFree i sss → LinksAt p i sss → ⊥
 no_source p i [] free at = at
 no_source p zero (ss ∷ sss) free at = no_link p ss free at.0
 no_source p (suc i) (ss ∷ sss) free at = no_source p i sss free at.1
 
 -- ---- pads of a task
+
+abbrev frame_wire : Wire → HeadFrame → Wire
+frame_wire other (by_source n file wire) = wire
+frame_wire other (by_inlets n rows) = other
+
+abbrev frame_number : HeadFrame → ℕ
+frame_number (by_source n file wire) = n
+frame_number (by_inlets n rows) = n
 
 module _ {S E I O L : Type 0} {s : sources.Ghosts S} {e : elements.Ghosts E} (i : inlets.Ghosts I L O) (o : outlets.Ghosts O L) (m : Moment) (head : Head S I O s) (parts : List (Part E O e))
     (tied : AreTied i o (Stands m) nothing_lost m head parts) where
@@ -71,7 +78,7 @@ module _ {S E I O L : Type 0} {s : sources.Ghosts S} {e : elements.Ghosts E} (i 
     at : slice_get parts j ≡ Some part
     owner : m.plan.owner wire.number ≡ part.number
     port : m.plan.port wire.number ≡ k
-    leads : (n sink : ℕ) → wire.leads ≡ inside n sink → Leads m.plan wire.number n sink
+    leads : LeadsAs m wire.number wire.leads
 
   part_pad : (j k : ℕ) (wire : Wire) → WireAt (frame_in o head parts) j k wire → PadAt j k wire
   part_pad j k wire w =
@@ -83,8 +90,7 @@ module _ {S E I O L : Type 0} {s : sources.Ghosts S} {e : elements.Ghosts E} (i 
         at = a.1;
         owner = ap (λ (x : Wire). m.plan.owner x.number) b.2 ∙ port.owner;
         port = ap (λ (x : Wire). m.plan.port x.number) b.2 ∙ port.port_is;
-        leads = λ n sink is. subst (λ (x : Wire). Leads m.plan x.number n sink) (sym b.2)
-            (subst (λ (g : Goes). LeadsAs m (number_of b.0) g) (sym (ap (λ (x : Wire). x.leads) b.2) ∙ is) port.linked.leads).0;
+        leads = subst (λ (x : Wire). LeadsAs m x.number x.leads) (sym b.2) port.linked.leads;
       }
 
   -- the pad of a source
@@ -92,7 +98,7 @@ module _ {S E I O L : Type 0} {s : sources.Ghosts S} {e : elements.Ghosts E} (i 
     owner : ℕ
     owner_is : m.plan.owner wire.number ≡ owner
     apart : (j : ℕ) (part : Part E O e) → slice_get parts j ≡ Some part → part.number ≡ owner → ⊥
-    leads : (n sink : ℕ) → wire.leads ≡ inside n sink → Leads m.plan wire.number n sink
+    leads : LeadsAs m wire.number wire.leads
 
   source_pad : (one : Head S I O s) → HeadTied i o nothing_lost m one parts → (wire : Wire) → head_wire (head_frame o one) ≡ Some wire → SourceAt wire
   source_pad (Source source) t wire is =
@@ -101,14 +107,31 @@ module _ {S E I O L : Type 0} {s : sources.Ghosts S} {e : elements.Ghosts E} (i 
         owner = source.number;
         owner_is = ap (λ (x : Wire). m.plan.owner x.number) (sym same) ∙ t.owner;
         apart = λ j part at eq. t.apart j part at eq;
-        leads = λ n sink leads. subst (λ (x : Wire). Leads m.plan x.number n sink) same
-            (subst (λ (g : Goes). LeadsAs m (number_of source.pad) g) (ap (λ (x : Wire). x.leads) same ∙ leads) t.linked.leads).0;
+        leads = subst (λ (x : Wire). LeadsAs m x.number x.leads) same t.linked.leads;
       }
   source_pad (Inlets fed) t wire is = absurd cc
 
+  pub wire_leads_as : (wire : Wire) → IsWire (frame_in o head parts) wire → LeadsAs m wire.number wire.leads
+  wire_leads_as wire (of_part j k w) = (part_pad j k wire w).leads
+  wire_leads_as wire (of_head at) = (source_pad head tied.head_tied wire at).leads
+
   pub wire_leads : (wire : Wire) → IsWire (frame_in o head parts) wire → (n sink : ℕ) → wire.leads ≡ inside n sink → Leads m.plan wire.number n sink
-  wire_leads wire (of_part j k w) n sink is = (part_pad j k wire w).leads n sink is
-  wire_leads wire (of_head at) n sink is = (source_pad head tied.head_tied wire at).leads n sink is
+  wire_leads wire is n sink leads = (subst (λ (g : Goes). LeadsAs m wire.number g) leads (wire_leads_as wire is)).0
+
+  pub wire_leads_over : (wire : Wire) → IsWire (frame_in o head parts) wire → (lane n sink from : ℕ) → wire.leads ≡ over lane n sink from → Leads m.plan wire.number n sink
+  wire_leads_over wire is lane n sink from leads = subst (λ (g : Goes). LeadsAs m wire.number g) leads (wire_leads_as wire is)
+
+  -- whose pad a wire is
+  pub wire_owner : (j k : ℕ) (wire : Wire) (w : WireAt (frame_in o head parts) j k wire) → m.plan.owner wire.number ≡ w.part.number
+  wire_owner j k wire w =
+      let a = map_got (part_frame o) parts j w.part w.at in
+      let b = map_got (wire_of o) a.0.pads.items k wire (ap (λ (one : PartFrame). slice_get one.wires k) (sym a.2) ∙ w.pad_at) in
+      ap (λ (x : Wire). m.plan.owner x.number) b.2 ∙ ((tied.parts_tied.each j a.0 a.1).pads k b.0 b.1).owner ∙ sym (ap (λ (one : PartFrame). one.number) a.2)
+
+  pub source_owner : (one : Head S I O s) → HeadTied i o nothing_lost m one parts → (n : ℕ) (file : Option (Option (List ℕ))) (wire : Wire) → head_frame o one ≡ by_source n file wire → m.plan.owner wire.number ≡ n
+  source_owner (Source source) t n file wire is =
+      ap (λ (h : HeadFrame). m.plan.owner (frame_wire (wire_of o source.pad) h).number) (sym is) ∙ t.owner ∙ ap (λ (h : HeadFrame). frame_number h) is
+  source_owner (Inlets fed) t n file wire is = absurd cc
 
   -- two pads of one number are one
   module _ (cells : (n : ℕ) → AllStanding m.history (m.plan.sinks n)) (first : (wire : Wire) → IsWire (frame_in o head parts) wire → (n port : ℕ) → wire.leads ≡ inside n port → port ≡ 0) where

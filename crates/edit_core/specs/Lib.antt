@@ -2,3 +2,4 @@ pub mod Judging
 pub mod Trees
 pub mod Tasks
 pub mod Marks
+pub mod Ways

@@ -15,11 +15,9 @@ use Rattle.net_task.specs.declared.task.Task.{Task}
 use Rattle.net_task.specs.Frame.{HeadFrame, PartFrame, TaskFrame, Wire, IsWire, by_inlets, by_source, frame_of}
 use Rattle.net_turns.specs.Net.{HasElement, HasRow, IsFed, NetStands, Owns}
 use Rattle.net_turns.specs.Turns.{IsStepped}
-use Rattle.net_groups.specs.Splits.{TookItems}
-use Rattle.edit_core.specs.Marks.{IsUnmarked}
-use Rattle.edit_core.specs.Trees.{LeadsToFirst}
+use Rattle.el_settings.specs.Asked.{is_source}
+use Rattle.graph_core.specs.Elements.{has}
 use Rattle.edit_model.specs.Edited.{Edited, is_there}
-use Rattle.edit_model.specs.Growing.{LinksStand}
 use Rattle.edit_model.specs.Plans.{is_asleep}
 use Rattle.edit_model.specs.Refused.{has_lanes}
 
@@ -47,16 +45,14 @@ module _ {S E I O L : Type 0} {s : sources.Ghosts S} {e : elements.Ghosts E} {i 
     pub owned : (n : ℕ) → is_there g n ≡ true → is_asleep g n ≡ false → (k : ℕ) × Owns tasks k n
     pub fed : (n : ℕ) → is_there g n ≡ true → has_lanes g n ≡ true → (k : ℕ) × (head : InletHead I) × IsFed tasks k head × (head.number ≡ n)
     pub inner : (k : ℕ) (task : Task S E I O L s e i o) (wire : Wire) (n port : ℕ) → slice_get tasks k ≡ Some task → IsWire (frame_of task) wire → wire.leads ≡ inside n port
-        → (has_lanes g n ≡ false) × (port ≡ 0)
+        → (is_there g n ≡ true) × (has_lanes g n ≡ false) × (port ≡ 0)
     pub lanes : (k : ℕ) (task : Task S E I O L s e i o) (wire : Wire) (lane n port from : ℕ) → slice_get tasks k ≡ Some task → IsWire (frame_of task) wire → wire.leads ≡ over lane n port from
-        → has_lanes g n ≡ true
+        → (is_there g n ≡ true) × (has_lanes g n ≡ true)
+    -- a source has its task
+    pub sources : (k : ℕ) (task : Task S E I O L s e i o) (n : ℕ) (file : Option (Option (List ℕ))) (wire : Wire) → slice_get tasks k ≡ Some task → (frame_of task).head ≡ by_source n file wire
+        → has is_source g.made n ≡ true
     pub bare : (k n port : ℕ) (row : InletRow I) → HasRow tasks k n port row → has_lanes g n ≡ false → feeds_of row ≡ []
     pub reached : (k : ℕ) (task : Task S E I O L s e i o) (n : ℕ) → slice_get tasks k ≡ Some task → HasElement (frame_of task) n → IsReachedIn (frame_of task) n
-
-module _ {S E I O L : Type 0} {s : sources.Ghosts S} {e : elements.Ghosts E} {i : inlets.Ghosts I L O} {o : outlets.Ghosts O L} where
-  -- each element to which a pad leads inside of its task has one sink pad, without marks
-  abbrev pub InnerTookItems : Moment → List (Task S E I O L s e i o) → Type 0
-  InnerTookItems m tasks = (k : ℕ) (task : Task S E I O L s e i o) (wire : Wire) (n port : ℕ) → slice_get tasks k ≡ Some task → IsWire (frame_of task) wire → wire.leads ≡ inside n port → TookItems m n 1
 
 module _ {S E I O L : Type 0} (s : sources.Ghosts S) (e : elements.Ghosts E) (i : inlets.Ghosts I L O) (o : outlets.Ghosts O L) where
   -- A step of a task leaves it so.
@@ -64,7 +60,3 @@ module _ {S E I O L : Type 0} (s : sources.Ghosts S) (e : elements.Ghosts E) (i 
   StepsKeepTasks = (g : Edited) (m : Moment) (tasks tasks' : List (Task S E I O L s e i o)) (tells tells' : Option (List Lane)) (place : ℕ) (step : Step) → NetStands m tasks tells
       → IsStepped place step tasks tasks' tells tells' → AreTasksOf g tasks → AreTasksOf g tasks'
 
-  -- A pad that leads inside of a task leads to the first sink pad of an element, which has no other, and whose spans have no marks.
-  abbrev pub InnerPadsAreFirst : Type 0
-  InnerPadsAreFirst = (g : Edited) (m : Moment) (tasks : List (Task S E I O L s e i o)) (tells : Option (List Lane)) → NetStands m tasks tells → AreTasksOf g tasks
-      → ((a : ℕ) → m.plan.sinks a ≡ g.spans a) → LinksStand g → IsUnmarked g → LeadsToFirst tasks × InnerTookItems m tasks

@@ -1,7 +1,8 @@
 //! Laws of nets whose graph commands edit.
 ghost use Rattle.edit_core.specs.Marks.{StaysUnmarked};
-ghost use Rattle.edit_core.specs.Tasks.{InnerPadsAreFirst, StepsKeepTasks};
+ghost use Rattle.edit_core.specs.Tasks.{StepsKeepTasks};
 ghost use Rattle.edit_core.specs.Trees.{TreesStand};
+ghost use Rattle.edit_core.specs.Ways.{FreeIsLoose, InnerPadsAreFirst, JoinsApart};
 
 use lane_core::{Inlet, Outlet};
 use net_model::{TaskElement, TaskSource};
@@ -36,4 +37,14 @@ pub fn inner_pads_are_first<
     O: Outlet<Lanes = I::Lanes>,
 >()
     ensures { InnerPadsAreFirst S.TaskSource E.TaskElement I.Inlet O.Outlet }
+{}
+
+/// An element without lanes whose sink pad is free is what the head of a task feeds, from nothing.
+pub fn free_is_loose<S: TaskSource, E: TaskElement, I: Inlet<Out = O>, O: Outlet<Lanes = I::Lanes>>()
+    ensures { FreeIsLoose S.TaskSource E.TaskElement I.Inlet O.Outlet }
+{}
+
+/// Its task may be joined to that of a source pad where no links that ever were made lead from it to the element of that pad.
+pub fn joins_apart<S: TaskSource, E: TaskElement, I: Inlet<Out = O>, O: Outlet<Lanes = I::Lanes>>()
+    ensures { JoinsApart S.TaskSource E.TaskElement I.Inlet O.Outlet }
 {}

@@ -1,4 +1,4 @@
-use Rattle.edit_core.proofs.Inner.{inner_pads_are_first}
+use Rattle.edit_core.proofs.Ways.{inner_pads_are_first}
 use Rattle.edit_core.proofs.laws.inner_pads_are_first.Goals as goal
 
 pub returns : goal.returns
