@@ -12,3 +12,7 @@ mod Pushed
 mod Linked
 mod Rowed
 mod LanesMore
+pub mod Feds
+pub mod Turned
+pub mod Both
+pub mod Together

@@ -2,3 +2,4 @@ pub mod Nets
 pub mod Seeing
 pub mod Over
 pub mod NewLanes
+pub mod Inside
