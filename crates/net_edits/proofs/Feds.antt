@@ -1,13 +1,11 @@
 -- A net stands where one of its tasks has another pad and an element of it took more.
-use Rattle.std.proofs.Common.{◌≡◌, ◌≢◌, ◌⊎◌, ◌≤◌, ◌<◌, ◌++◌, ℕ, zero, suc, true, false, Bool, eqb, List, [], ◌∷◌, length, map, Option, None, Some, refl, sym, ap, ◌∙◌, subst, inl, inr, arith}
+use Rattle.std.proofs.Common.{◌≡◌, ◌≢◌, ◌⊎◌, ◌≤◌, ℕ, zero, suc, List, [], ◌∷◌, length, Option, None, Some, refl, sym, ap, ◌∙◌, subst, inl, inr, arith}
 use Rattle.std.specs.Prelude.{slice_get, slice_set}
 use Rattle.std.proofs.lemmas.Bool.{cases_eq}
-use Rattle.std.proofs.lemmas.Bool.Decides.{eqb_tells}
 use Rattle.flow_model.specs.Call.{Call, feeds}
 use Rattle.flow_model.specs.Item.{Item}
 use Rattle.flow_model.specs.Link.{Span}
 use Rattle.flow_model.specs.SinkPads.{InSection, push_calls}
-use Rattle.gst_item.specs.Sticky.{has_flush_stop}
 use Rattle.inlet_row.specs.declared.row.InletRow.{InletRow}
 use Rattle.lane_core.specs.Lane.{Lane}
 use Rattle.lane_core.specs.declared.ends.Inlet as inlets
@@ -18,9 +16,9 @@ use Rattle.net_model.specs.Step.{fed}
 use Rattle.net_model.specs.declared.element.TaskElement as elements
 use Rattle.net_model.specs.declared.source.TaskSource as sources
 use Rattle.net_model.proofs.Inputs.{at_here, at_other}
-use Rattle.net_task.specs.Frame.{by_source, frame_of, head_frame, part_frame, wire_of}
+use Rattle.net_task.specs.Frame.{head_frame, part_frame, wire_of}
 use Rattle.net_task.specs.Ready.{IsReady}
-use Rattle.net_task.specs.Ties.{AreTied, HeadTied, PartTied, Stands, Ties, TookAt, nothing_lost}
+use Rattle.net_task.specs.Ties.{AreTied, HeadTied, Stands, Ties, TookAt, nothing_lost}
 use Rattle.net_task.specs.declared.task.Task.{Task}
 use Rattle.net_task.proofs.Tied.{part_else, part_known, source_same, waits_else}
 use Rattle.net_turns.specs.Net.{HasRow, IsFed, ListAt, NetStands, Owns, RowStands, part, source}

@@ -14,5 +14,5 @@ mod Rowed
 mod LanesMore
 pub mod Feds
 pub mod Turned
-pub mod Both
-pub mod Together
+mod Both
+mod Together

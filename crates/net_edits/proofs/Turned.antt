@@ -1,6 +1,6 @@
 -- A pad of one of the tasks of a net leads elsewhere now, and an element of the task took items: how the net stands.
-use Rattle.std.proofs.Common.{◌≡◌, ◌≢◌, ◌⊎◌, ◌≤◌, ℕ, Bool, true, false, List, length, Option, Some, refl, sym, ap, ◌∙◌, subst, inl, inr}
-use Rattle.std.specs.Prelude.{slice_get, slice_set}
+use Rattle.std.proofs.Common.{◌≡◌, ℕ, true, false, List, length, Option, Some, refl, sym, ap, ◌∙◌, subst, inl, inr}
+use Rattle.std.specs.Prelude.{slice_get}
 use Rattle.flow_model.specs.Call.{feeds}
 use Rattle.flow_model.specs.Item.{Item}
 use Rattle.flow_model.specs.Link.{Span}
@@ -9,33 +9,32 @@ use Rattle.inlet_row.specs.declared.row.InletRow.{InletRow}
 use Rattle.lane_core.specs.Lane.{Lane}
 use Rattle.lane_core.specs.declared.ends.Inlet as inlets
 use Rattle.lane_core.specs.declared.ends.Outlet as outlets
-use Rattle.net_model.specs.Edit.{IsFree, LinksInside, linked, linked_inside, undone}
+use Rattle.net_model.specs.Edit.{linked, undone}
 use Rattle.net_model.specs.Moment.{CellStands, Moment}
 use Rattle.net_model.specs.Split.{NoneAt}
-use Rattle.net_model.specs.Step.{Leads, LeadsNowhere}
+use Rattle.net_model.specs.Step.{Leads}
 use Rattle.net_model.specs.declared.element.TaskElement as elements
 use Rattle.net_model.specs.declared.source.TaskSource as sources
 use Rattle.net_model.proofs.Acts.{ending_keeps, linking_keeps}
-use Rattle.net_task.specs.Frame.{TaskFrame, frame_in, frame_of, part_frame, wire_of}
+use Rattle.net_task.specs.Frame.{TaskFrame, frame_in, part_frame, wire_of}
 use Rattle.net_task.specs.Ties.{HeadTied, LeadsAs, PadLinked, Ties, nothing_lost}
 use Rattle.net_task.specs.declared.task.Task.{Task}
 use Rattle.net_turns.specs.Net.{HasElement, HasRow, LaneOut, NetReady, NetStands, Owns, part}
 use Rattle.net_turns.specs.Turns.{net_left}
 use Rattle.net_turns.proofs.Facts.{row_owned}
-use Rattle.task_pads.specs.Behind.{Goes, goes, inside, nowhere, over}
-use Rattle.task_pads.specs.Pads.{IsLed, goes_of, number_of}
+use Rattle.task_pads.specs.Behind.{goes, inside, nowhere, over}
+use Rattle.task_pads.specs.Pads.{IsLed, number_of}
 use Rattle.task_pads.specs.declared.pad.Behind.{Behind}
 use Rattle.task_pads.specs.declared.pad.Behind.TheVariants.{Nothing}
 use Rattle.task_pads.specs.declared.pad.Pad.{Pad}
 use Rattle.task_parts.specs.declared.head.Head.{Head}
 use Rattle.task_parts.specs.declared.head.Head.TheVariants.{Source, Inlets}
-use Rattle.task_parts.specs.declared.head.InletHead.{InletHead}
 use Rattle.task_parts.specs.declared.part.Part.{Part}
 use Rattle.gst_value.proofs.Basics.{some_same}
 use Rattle.gst_value.proofs.Places.{map_get}
-use Rattle.task_edits.specs.Changes.{Changed, LedBy, PadIs}
+use Rattle.task_edits.specs.Changes.{Changed, LedBy}
 use Rattle.task_edits.specs.Feeding.{AnswersAll, given}
-use Rattle.task_edits.specs.Inside.{CanLinkInside, HasNoRow, IsPadOf, LeadsInside, inside_behind}
+use Rattle.task_edits.specs.Inside.{HasNoRow, IsPadOf, inside_behind}
 use Rattle.task_edits.specs.Places.{HasPad}
 use Rattle.task_edits.specs.declared.inside.Inside.{Inside}
 use Rattle.task_edits.proofs.Absent.{has_not}

@@ -26,7 +26,6 @@ use Rattle.task_edits.specs.Feeding.{HasFed, HasFedShort, StoppedIn, TookIn}
 use Rattle.task_edits.specs.Inside.{CanLinkInside, HasNoRow, LeadsInside, inside_behind}
 use Rattle.task_edits.specs.Places.{HasNoPad, HasPad}
 use Rattle.task_edits.specs.declared.inside.Inside.{Inside}
-use Rattle.net_edits.specs.Nets.{NoneHas, TaskHas}
 use Rattle.net_edits.specs.declared.inside.EditFault.{EditFault}
 use Rattle.net_edits.specs.declared.inside.EditFault.TheVariants as faults
 

@@ -1,6 +1,5 @@
 //! Links inside of tasks that lanes join, made, and undone with EOS.
-ghost use Rattle.std.specs.Prelude.{◌≡◌, ◌<◌, ◌⊎◌, true, false, None, Some, List, map, length, slice_get, vec_len, IfOk, IfErr, IfSome, OnOk};
-ghost use Rattle.flow_model.specs.Item.{Item as Piece};
+ghost use Rattle.std.specs.Prelude.{◌≡◌, ◌<◌, true, false, None, Some, map, length, slice_get, vec_len, IfOk, IfErr, IfSome, OnOk};
 ghost use Rattle.gst_item.specs.Sticky.{has_flush_stop};
 ghost use Rattle.net_model.specs.Moment.{Moment};
 ghost use Rattle.net_turns.specs.Net.{NetReady, NetStands};
@@ -9,7 +8,7 @@ ghost use Rattle.task_parts.specs.Shape.{has_number, part_shape};
 ghost use Rattle.task_edits.specs.Inside.{inside_behind};
 ghost use Rattle.task_edits.specs.Places.{HasPad};
 ghost use Rattle.task_pads.specs.declared.pad.Behind.TheVariants.{Nothing};
-ghost use Rattle.net_edits.specs.Inside.{CanLinkIn, FedAll, FedShort, HasBoth, HasInside, IsEndedInside, IsLinkedInside, IsTurned, LacksOne, NoneHasBoth, NotEnded, NotLinked, StandEnded, StandLinked, TiesLinked, TiesUndone, eos_alone};
+ghost use Rattle.net_edits.specs.Inside.{CanLinkIn, FedAll, FedShort, HasBoth, IsEndedInside, IsLinkedInside, IsTurned, LacksOne, NoneHasBoth, NotEnded, NotLinked, StandEnded, StandLinked, TiesLinked, TiesUndone, eos_alone};
 
 use crate::net::find_task;
 use gst_item::{Event, Item};

@@ -4,7 +4,7 @@ use Rattle.gst_item.specs.Sticky.{has_flush_stop}
 use Rattle.task_pads.proofs.Lists.{some_at}
 use Rattle.task_pads.specs.declared.pad.Behind.TheVariants.{Nothing}
 use Rattle.net_task.specs.declared.task.Task.{Task}
-use Rattle.net_edits.specs.Inside.{FedAll, FedShort, HasInside, IsEndedInside, IsTurned, TiesUndone}
+use Rattle.net_edits.specs.Inside.{FedAll, FedShort, HasInside, IsTurned, TiesUndone}
 use Rattle.net_edits.specs.Nets.{TaskHas}
 use Rattle.net_edits.proofs.Together.{inside_element, pad_within}
 use Rattle.net_edits.proofs.Turned.{ended_stands, nothing_over_none, turned_left, turned_ready, turned_size}

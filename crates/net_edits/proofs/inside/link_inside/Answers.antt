@@ -2,7 +2,7 @@ use Rattle.std.proofs.Common.{List, refl, subst, arith}
 use Rattle.task_pads.proofs.Lists.{some_at}
 use Rattle.task_edits.specs.Inside.{inside_behind}
 use Rattle.net_task.specs.declared.task.Task.{Task}
-use Rattle.net_edits.specs.Inside.{FedAll, FedShort, HasBoth, IsLinkedInside, NoneHasBoth, TiesLinked}
+use Rattle.net_edits.specs.Inside.{FedAll, FedShort, HasBoth, NoneHasBoth, TiesLinked}
 use Rattle.net_edits.proofs.Together.{both_element, both_within, opening_read}
 use Rattle.net_edits.proofs.Turned.{inside_over_none, linked_stands, turned_left, turned_ready, turned_size}
 use Rattle.net_edits.proofs.inside.link_inside.Goals as goal
