@@ -10,7 +10,7 @@ use Rattle.net_edits.proofs.inside.end_at.Goals as goal
 
 pub feed-task-requires-clause-there : goal.feed-task-requires-clause-there
 feed-task-requires-clause-there g c κs within =
-    changed_has (LedBy Nothing c.unlink-task.result.1) (c.unlink-task.result.1 ≡ Nothing) c.args.pad c.swap_remove-task.result.head c.unlink-task.result.0.head c.swap_remove-task.result.parts.items c.unlink-task.result.0.parts.items c.unlink-task.ensures.changed c.args.to.element
+    changed_has (LedBy Nothing c.unlink-task.result.1) (c.unlink-task.result.1 ≡ Nothing) _ c.swap_remove-task.result.head c.unlink-task.result.0.head c.swap_remove-task.result.parts.items c.unlink-task.result.0.parts.items c.unlink-task.ensures.changed c.args.to.element
     (c.requires.there c.swap_remove-task.result (some_at c.args.tasks.now.items c.args.place c.swap_remove-task.result (omega (arith, c.requires.place, c.args.tasks.now.ok.0)) c.swap_remove-task.ensures.value))
 
 pub returns-clause-ended : goal.returns-clause-ended
