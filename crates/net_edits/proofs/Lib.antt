@@ -18,3 +18,7 @@ mod Endings
 mod Frozen
 mod Added
 pub mod Empties
+pub mod Feds
+pub mod Turned
+mod Both
+mod Together

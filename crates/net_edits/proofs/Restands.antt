@@ -50,48 +50,48 @@ module _ {S E I O L : Type 0} {s : sources.Ghosts S} {e : elements.Ghosts E} {i 
   here : slice_get now k ≡ Some new
   here = set_at tasks k old new at
 
-  owns_back : (j n : ℕ) → Owns now j n → Owns tasks j n
+  pub owns_back : (j n : ℕ) → Owns now j n → Owns tasks j n
   owns_back j n w = go (found j w.task w.at)
     where
       go : ((j ≡ k) × (w.task ≡ new)) ⊎ (slice_get tasks j ≡ Some w.task) → Owns tasks j n
       go (inl t) = record { task = old; at = ap (λ (x : ℕ). slice_get tasks x) t.0 ∙ at; has = alike.has n (subst (λ (z : Task S E I O L s e i o). HasElement (frame_of z) n) t.1 w.has) }
       go (inr t) = record { task = w.task; at = t; has = w.has }
 
-  owns_on : (j n : ℕ) → Owns tasks j n → Owns now j n
+  pub owns_on : (j n : ℕ) → Owns tasks j n → Owns now j n
   owns_on j n w = go (kept j w.task w.at)
     where
       go : ((j ≡ k) × (w.task ≡ old)) ⊎ (slice_get now j ≡ Some w.task) → Owns now j n
       go (inl t) = record { task = new; at = ap (λ (x : ℕ). slice_get now x) t.0 ∙ here; has = alike.had n (subst (λ (z : Task S E I O L s e i o). HasElement (frame_of z) n) t.1 w.has) }
       go (inr t) = record { task = w.task; at = t; has = w.has }
 
-  fed_back : (j : ℕ) (head : InletHead I) → IsFed now j head → IsFed tasks j head
+  pub fed_back : (j : ℕ) (head : InletHead I) → IsFed now j head → IsFed tasks j head
   fed_back j head w = go (found j w.task w.at)
     where
       go : ((j ≡ k) × (w.task ≡ new)) ⊎ (slice_get tasks j ≡ Some w.task) → IsFed tasks j head
       go (inl t) = record { task = old; at = ap (λ (x : ℕ). slice_get tasks x) t.0 ∙ at; head_is = alike.fed head (subst (λ (z : Task S E I O L s e i o). z.head ≡ Inlets head) t.1 w.head_is) }
       go (inr t) = record { task = w.task; at = t; head_is = w.head_is }
 
-  fed_on : (j : ℕ) (head : InletHead I) → IsFed tasks j head → IsFed now j head
+  pub fed_on : (j : ℕ) (head : InletHead I) → IsFed tasks j head → IsFed now j head
   fed_on j head w = go (kept j w.task w.at)
     where
       go : ((j ≡ k) × (w.task ≡ old)) ⊎ (slice_get now j ≡ Some w.task) → IsFed now j head
       go (inl t) = record { task = new; at = ap (λ (x : ℕ). slice_get now x) t.0 ∙ here; head_is = alike.was_fed head (subst (λ (z : Task S E I O L s e i o). z.head ≡ Inlets head) t.1 w.head_is) }
       go (inr t) = record { task = w.task; at = t; head_is = w.head_is }
 
-  row_back : (j n port : ℕ) (row : InletRow I) → HasRow now j n port row → HasRow tasks j n port row
+  pub row_back : (j n port : ℕ) (row : InletRow I) → HasRow now j n port row → HasRow tasks j n port row
   row_back j n port row w = record { head = w.head; fed = fed_back j w.head w.fed; number = w.number; at = w.at }
 
   row_on : (j n port : ℕ) (row : InletRow I) → HasRow tasks j n port row → HasRow now j n port row
   row_on j n port row w = record { head = w.head; fed = fed_on j w.head w.fed; number = w.number; at = w.at }
 
-  sends_back : (j p place from n port : ℕ) → SendsInto now j p place from n port → SendsInto tasks j p place from n port
+  pub sends_back : (j p place from n port : ℕ) → SendsInto now j p place from n port → SendsInto tasks j p place from n port
   sends_back j p place from n port w = go (found j w.task w.at)
     where
       go : ((j ≡ k) × (w.task ≡ new)) ⊎ (slice_get tasks j ≡ Some w.task) → SendsInto tasks j p place from n port
       go (inl t) = record { task = old; at = ap (λ (x : ℕ). slice_get tasks x) t.0 ∙ at; out = alike.lanes p place from n port (subst (λ (z : Task S E I O L s e i o). LaneOut (frame_of z) p place from n port) t.1 w.out) }
       go (inr t) = record { task = w.task; at = t; out = w.out }
 
-  wired_again : AreWired tasks → AreWired now
+  pub wired_again : AreWired tasks → AreWired now
   wired_again w = record {
     once = λ a b n x y. w.once a b n (owns_back a n x) (owns_back b n y);
     one_sends = λ a b p q place from from' n n' port port' x y. w.one_sends a b p q place from from' n n' port port' (sends_back a p place from n port x) (sends_back b q place from' n' port' y);
@@ -99,7 +99,7 @@ module _ {S E I O L : Type 0} {s : sources.Ghosts S} {e : elements.Ghosts E} {i 
     paired = λ a p place from n port x. let z = w.paired a p place from n port (sends_back a p place from n port x) in (z.0, z.1, row_on z.0 n port z.1 z.2, z.3);
   }
 
-  ready_again : (tells : Option (List Lane)) → IsReady tells new → ((j : ℕ) (task : Task S E I O L s e i o) → slice_get tasks j ≡ Some task → IsReady tells task) → (j : ℕ) (task : Task S E I O L s e i o) → slice_get now j ≡ Some task → IsReady tells task
+  pub ready_again : (tells : Option (List Lane)) → IsReady tells new → ((j : ℕ) (task : Task S E I O L s e i o) → slice_get tasks j ≡ Some task → IsReady tells task) → (j : ℕ) (task : Task S E I O L s e i o) → slice_get now j ≡ Some task → IsReady tells task
   ready_again tells ready each = each_set tasks now k new (λ x t. IsReady tells t) (λ x t. IsReady tells t) refl each (λ x t ne z w. w) ready
 
   -- tasks are ready again
@@ -108,7 +108,7 @@ module _ {S E I O L : Type 0} {s : sources.Ghosts S} {e : elements.Ghosts E} {i 
 
   module _ (sinks : ℕ → List (List Span)) (m : Moment) (p : ℕ) (tells : Option (List Lane)) (stands : NetStands m tasks tells) where
     -- the pad is one of the task's
-    own_pad : (j : ℕ) (task : Task S E I O L s e i o) → slice_get tasks j ≡ Some task → (q : ℕ) → Owns tasks k (m.plan.owner p) → (j ≡ k → ⊥) → HasNoPad task.head task.parts.items p
+    pub own_pad : (j : ℕ) (task : Task S E I O L s e i o) → slice_get tasks j ≡ Some task → (q : ℕ) → Owns tasks k (m.plan.owner p) → (j ≡ k → ⊥) → HasNoPad task.head task.parts.items p
     own_pad j task got q owns other = (heads task.head refl, parts)
       where
         parts : (place : ℕ) (one : Part E O e) → slice_get task.parts.items place ≡ Some one → (port : ℕ) (pad : Pad O) → slice_get one.pads.items port ≡ Some pad → number_of pad ≢ p

@@ -3,3 +3,4 @@ pub mod Seeing
 pub mod Over
 pub mod NewLanes
 pub mod Adding
+pub mod Inside
