@@ -1,5 +1,5 @@
 -- The task at a place has a pad, and an element beside it, to which the pad may lead.
-use Rattle.std.proofs.Common.{◌≡◌, ◌<◌, ◌∙◌, ℕ, zero, suc, true, List, [], ◌∷◌, length, map, Some, sym, subst}
+use Rattle.std.proofs.Common.{◌≡◌, ◌<◌, ◌∙◌, ℕ, zero, suc, true, List, [], ◌∷◌, length, map, Some, get_or, inl, inr, sym, subst}
 use Rattle.std.specs.Prelude.{slice_get}
 use Rattle.std.proofs.lemmas.Option.{slice_get_within}
 use Rattle.flow_model.specs.Item.{Item}
@@ -19,10 +19,12 @@ use Rattle.task_parts.specs.Shape.{PartShape, all_within, goes_within, has_numbe
 use Rattle.task_parts.specs.declared.head.Head.{Head}
 use Rattle.task_parts.specs.declared.part.Part.{Part}
 use Rattle.task_parts.proofs.Tries.{named_in}
-use Rattle.task_edits.specs.Inside.{IsPadOf, LeadsInside}
+use Rattle.task_pads.proofs.Lists.{some_at}
+use Rattle.task_edits.proofs.Absent.{has_not}
+use Rattle.task_edits.specs.Inside.{IsPadOf, LeadsInside, NotInside}
 use Rattle.task_edits.specs.declared.inside.Inside.{Inside}
 use Rattle.task_edits.specs.Places.{HasPad}
-use Rattle.net_edits.specs.Inside.{AreOpening, HasBoth, HasInside}
+use Rattle.net_edits.specs.Inside.{AreOpening, HasBoth, HasInside, HasOutside}
 use Rattle.net_edits.specs.Nets.{TaskHas}
 
 module _ {S E I O L : Type 0} {s : sources.Ghosts S} {e : elements.Ghosts E} {i : inlets.Ghosts I L O} {o : outlets.Ghosts O L} (tasks : List (Task S E I O L s e i o)) (pad element place : ℕ) (both : HasBoth tasks pad element place) where
@@ -69,3 +71,17 @@ module _ {S E I O L : Type 0} {s : sources.Ghosts S} {e : elements.Ghosts E} {i 
   pub inside_element : (to : Inside) (h : HasInside tasks pad place to) (task : Task S E I O L s e i o) → slice_get tasks place ≡ Some task → has_number to.element (map part_shape task.parts.items) ≡ true
   inside_element to h task at =
       subst (λ (t : Task S E I O L s e i o). has_number to.element (map part_shape t.parts.items) ≡ true) (some_same (sym h.at ∙ at)) (leads_has h.task.head h.task.parts.items h.task.closed pad to h.leads)
+
+  -- where the pad was looked up and leads to no element of its task
+  pub leads_out : (has : TaskHas tasks pad place) (task : Task S E I O L s e i o) → task ≡ get_or tasks place task → NotInside task.head task.parts.items pad → HasOutside tasks pad place
+  leads_out has task is none = go none
+    where
+      at : slice_get tasks place ≡ Some task
+      at = some_at tasks place task (pad_within has) is
+
+      there : HasPad task.head task.parts.items pad
+      there = subst (λ (t : Task S E I O L s e i o). HasPad t.head t.parts.items pad) (some_same (sym has.at ∙ at)) has.has
+
+      go : NotInside task.head task.parts.items pad → HasOutside tasks pad place
+      go (inl lacks) = absurd (has_not task.head task.parts.items pad there lacks)
+      go (inr leads) = record { task = task; at = at; leads = leads }

@@ -23,9 +23,10 @@ use Rattle.net_task.specs.Ties.{Ties}
 use Rattle.net_turns.specs.Net.{HasRow, NetStands}
 use Rattle.task_edits.specs.Changes.{Changed, LedBy}
 use Rattle.task_edits.specs.Feeding.{HasFed, HasFedShort, StoppedIn, TookIn}
-use Rattle.task_edits.specs.Inside.{CanLinkInside, HasNoRow, LeadsInside, inside_behind}
+use Rattle.task_edits.specs.Inside.{CanLinkInside, HasNoRow, LeadsElsewhere, LeadsInside, inside_behind}
 use Rattle.task_edits.specs.Places.{HasNoPad, HasPad}
 use Rattle.task_edits.specs.declared.inside.Inside.{Inside}
+use Rattle.net_edits.specs.Nets.{NoneHas}
 use Rattle.net_edits.specs.declared.inside.EditFault.{EditFault}
 use Rattle.net_edits.specs.declared.inside.EditFault.TheVariants as faults
 
@@ -105,6 +106,16 @@ module _ {S E I O L : Type 0} {s : sources.Ghosts S} {e : elements.Ghosts E} {i 
     pub task : Task S E I O L s e i o
     pub at : slice_get tasks place ≡ Some task
     pub leads : LeadsInside task.head task.parts.items pad to
+
+  -- The pad of the task at a place leads to no element of the task.
+  pub record HasOutside (tasks : List (Task S E I O L s e i o)) (pad place : ℕ) : Type 0 where
+    pub task : Task S E I O L s e i o
+    pub at : slice_get tasks place ≡ Some task
+    pub leads : LeadsElsewhere task.head task.parts.items pad
+
+  -- no task has the pad, or it leads so
+  abbrev pub NoneInside : List (Task S E I O L s e i o) → ℕ → Type 0
+  NoneInside tasks pad = NoneHas tasks pad ⊎ ((place : ℕ) × HasOutside tasks pad place)
 
   -- The link of the pad was undone, and the element behind it took EOS.
   pub record IsEndedInside (tasks tasks' : List (Task S E I O L s e i o)) (pad : ℕ) : Type 0 where

@@ -8,7 +8,7 @@ ghost use Rattle.task_parts.specs.Shape.{has_number, part_shape};
 ghost use Rattle.task_edits.specs.Inside.{inside_behind};
 ghost use Rattle.task_edits.specs.Places.{HasPad};
 ghost use Rattle.task_pads.specs.declared.pad.Behind.TheVariants.{Nothing};
-ghost use Rattle.net_edits.specs.Inside.{CanLinkIn, FedAll, FedShort, HasBoth, IsEndedInside, IsLinkedInside, IsTurned, LacksOne, NoneHasBoth, NotEnded, NotLinked, StandEnded, StandLinked, TiesLinked, TiesUndone, eos_alone};
+ghost use Rattle.net_edits.specs.Inside.{CanLinkIn, FedAll, FedShort, HasBoth, IsEndedInside, IsLinkedInside, IsTurned, LacksOne, NoneHasBoth, NoneInside, NotEnded, NotLinked, StandEnded, StandLinked, TiesLinked, TiesUndone, eos_alone};
 
 use crate::net::find_task;
 use gst_item::{Event, Item};
@@ -68,7 +68,7 @@ pub fn end_inside<S: TaskSource, E: TaskElement, I: Inlet<Out = O>, O: Outlet<La
     pad: u32,
 ) -> Result<bool, EditFault>
     ensures ended { IfOk result (λ done. done ≡ true → IsEndedInside tasks.old.items tasks.new.items pad) }
-    ensures none { IfOk result (λ done. done ≡ false → tasks.new ≡ tasks.old) }
+    ensures none { IfOk result (λ done. done ≡ false → NoneInside tasks.old.items pad × (tasks.new ≡ tasks.old)) }
     ensures faults { IfErr result (NotEnded tasks.old.items tasks.new.items pad) }
     ensures stands { IfOk result (λ done. done ≡ true → (m : Moment) (tells : _) → NetStands m tasks.old.items tells → StandEnded m tasks.new.items tells pad) }
     ensures ready { (tells : _) → NetReady tasks.old.items tells → NetReady tasks.new.items tells }

@@ -1,5 +1,5 @@
 -- Pads that are linked inside of their task.
-use Rattle.std.specs.Prelude.{◌≡◌, ◌≤◌, ℕ, List, Some, length, slice_get}
+use Rattle.std.specs.Prelude.{◌≡◌, ◌≤◌, ◌⊎◌, ℕ, List, Some, length, slice_get}
 use Rattle.net_model.specs.Edit.{IsFree}
 use Rattle.net_model.specs.Moment.{Moment}
 use Rattle.net_model.specs.Split.{NoneAt}
@@ -15,6 +15,7 @@ use Rattle.task_parts.specs.declared.head.Head.{Head}
 use Rattle.task_parts.specs.declared.head.Head.TheVariants.{Source, Inlets}
 use Rattle.task_parts.specs.declared.head.SourceHead.{SourceHead}
 use Rattle.task_parts.specs.declared.part.Part.{Part}
+use Rattle.task_edits.specs.Places.{HasNoPad}
 use Rattle.task_edits.specs.declared.inside.Inside.{Inside}
 
 -- where a pad leads that is linked to the sink pad
@@ -56,3 +57,14 @@ module _ {S E I O : Type 0} {s : sources.Ghosts S} {e : elements.Ghosts E} where
     pub is : IsPadOf head parts pad
     pub number_is : number_of pad ≡ number
     pub leads : PadLeadsTo pad to
+
+  -- it leads to no element of its task
+  pub record LeadsElsewhere (head : Head S I O s) (parts : List (Part E O e)) (number : ℕ) : Type 0 where
+    pub pad : Pad O
+    pub is : IsPadOf head parts pad
+    pub number_is : number_of pad ≡ number
+    pub elsewhere : (to : Inside) → PadLeadsTo pad to → ⊥
+
+  -- the task has no such pad, or it leads to no element of the task
+  abbrev pub NotInside : Head S I O s → List (Part E O e) → ℕ → Type 0
+  NotInside head parts number = HasNoPad head parts number ⊎ LeadsElsewhere head parts number

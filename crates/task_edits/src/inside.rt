@@ -1,5 +1,5 @@
 //! Links inside of a task.
-ghost use Rattle.std.specs.Prelude.{◌≡◌, ℕ, true, map, IfSome};
+ghost use Rattle.std.specs.Prelude.{◌≡◌, ℕ, true, map, None, IfSome};
 ghost use Rattle.net_model.specs.Edit.{linked};
 ghost use Rattle.net_model.specs.Moment.{Moment};
 ghost use Rattle.net_model.specs.Step.{planned};
@@ -7,7 +7,7 @@ ghost use Rattle.net_task.specs.Fuel.{moves_left};
 ghost use Rattle.net_task.specs.Ready.{IsReady};
 ghost use Rattle.net_task.specs.Ties.{Ties};
 ghost use Rattle.task_edits.specs.Changes.{Changed, LedBy};
-ghost use Rattle.task_edits.specs.Inside.{CanLinkInside, HeadLeadsTo, LeadsInside, PadLeadsTo, inside_behind};
+ghost use Rattle.task_edits.specs.Inside.{CanLinkInside, HeadLeadsTo, LeadsInside, NotInside, PadLeadsTo, inside_behind};
 ghost use Rattle.task_parts.specs.Shape.{has_number, part_shape};
 
 use crate::leading::lead_in;
@@ -64,6 +64,7 @@ pub fn inside_of<S: TaskSource, E: TaskElement, I: Inlet<Out = O>, O: Outlet<Lan
     pad: u32,
 ) -> Option<Inside>
     ensures leads { IfSome result (LeadsInside task.now.head task.now.parts.items pad) }
+    ensures none { result ≡ None → NotInside task.now.head task.now.parts.items pad }
 {
     match find(task.head(), task.parts(), pad) {
         Some(PadAt::Source) => head_inside(task.head()),
@@ -74,7 +75,8 @@ pub fn inside_of<S: TaskSource, E: TaskElement, I: Inlet<Out = O>, O: Outlet<Lan
 
 /// Where the pad of a source leads, if that is an element of its task.
 fn head_inside<S: TaskSource, I, O: Outlet>(head: &Head<S, I, O>) -> Option<Inside>
-    ensures { IfSome result (HeadLeadsTo head.now) }
+    ensures leads { IfSome result (HeadLeadsTo head.now) }
+    ensures none { result ≡ None → (to : Inside) → HeadLeadsTo head.now to → ⊥ }
 {
     match head {
         Head::Source(source) => pad_inside(source.pad()),
@@ -84,7 +86,8 @@ fn head_inside<S: TaskSource, I, O: Outlet>(head: &Head<S, I, O>) -> Option<Insi
 
 /// Where a pad leads, if that is an element of its task.
 fn pad_inside<O: Outlet>(pad: &Pad<O>) -> Option<Inside>
-    ensures { IfSome result (PadLeadsTo pad.now) }
+    ensures leads { IfSome result (PadLeadsTo pad.now) }
+    ensures none { result ≡ None → (to : Inside) → PadLeadsTo pad.now to → ⊥ }
 {
     match pad.behind() {
         Behind::Element { number, pad, .. } => Some(Inside {

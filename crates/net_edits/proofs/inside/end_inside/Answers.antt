@@ -1,12 +1,12 @@
-use Rattle.std.proofs.Common.{◌≡◌, false, List, refl, subst, sym, arith}
+use Rattle.std.proofs.Common.{◌≡◌, false, List, inl, inr, refl, subst, sym, arith}
 use Rattle.flow_model.specs.Item.{Item}
 use Rattle.gst_item.specs.Sticky.{has_flush_stop}
 use Rattle.task_pads.proofs.Lists.{some_at}
 use Rattle.task_pads.specs.declared.pad.Behind.TheVariants.{Nothing}
 use Rattle.net_task.specs.declared.task.Task.{Task}
 use Rattle.net_edits.specs.Inside.{FedAll, FedShort, HasInside, IsTurned, TiesUndone}
-use Rattle.net_edits.specs.Nets.{TaskHas}
-use Rattle.net_edits.proofs.Together.{inside_element, pad_within}
+use Rattle.net_edits.specs.Nets.{NoneHas, TaskHas}
+use Rattle.net_edits.proofs.Together.{inside_element, leads_out, pad_within}
 use Rattle.net_edits.proofs.Turned.{ended_stands, nothing_over_none, turned_left, turned_ready, turned_size}
 use Rattle.net_edits.proofs.inside.end_inside.Goals as goal
 
@@ -67,3 +67,10 @@ returns-in-Err-end_at-clause-moves g c = turned_left c.args.tasks.now.items c.en
 
 pub returns-in-Err-end_at-clause-count : goal.returns-in-Err-end_at-clause-count
 returns-in-Err-end_at-clause-count g c = turned_size c.args.tasks.now.items c.end_at.new.tasks.items c.in-Some.place c.args.pad Nothing (TiesUndone c.args.pad) (FedShort c.in-Some-inside_of.to c.in-Ok.items c.in-Err-end_at.fault) (nothing_over_none g.row.O.Denot) c.in-Err-end_at.ensures.faults
+
+pub returns-in_default-clause-none : goal.returns-in_default-clause-none
+returns-in_default-clause-none g c = λ none. (inl (subst (λ (ts : List (Task _ _ _ _ _ _ _ _ _)). NoneHas ts c.args.pad) c.as_slice.ensures.value (c.in_default.ensures.none refl)), refl)
+
+pub returns-in_default-inside_of-clause-none : goal.returns-in_default-inside_of-clause-none
+returns-in_default-inside_of-clause-none g c = λ none.
+    (inr (c.in-Some.place, leads_out c.args.tasks.now.items c.args.pad c.in-Some.place (subst (λ (ts : List (Task _ _ _ _ _ _ _ _ _)). TaskHas ts c.args.pad c.in-Some.place) c.as_slice.ensures.value c.in-Some.ensures.there) c.index.result.now c.index.ensures (c.in_default-inside_of.ensures.none refl)), refl)

@@ -20,12 +20,11 @@ pub returns-in-Some-Source-clause-at : goal.returns-in-Some-Source-clause-at
 returns-in-Some-Source-clause-at g c =
     seen_if g.I.Inlet g.O.Outlet (λ source owed given gave. (g.met.S.TaskSource).begins source owed given gave) c.args.task.now.head c.args.task.now.parts.items c.args.pad c.see_source.result (returns-in-Some-Source-clause-seen g c)
 
-
 pub returns-in-Some-Part-clause-seen : goal.returns-in-Some-Part-clause-seen
 returns-in-Some-Part-clause-seen g c =
     let has : PartHas c.args.task.now.parts.items c.args.pad c.in-Some-Part.place c.in-Some-Part.port =
-        subst (λ (parts : List (Part _ _ _)). PartHas parts c.args.pad c.in-Some-Part.place c.in-Some-Part.port) c.parts.ensures
-        (subst (λ (at : PadAt). StandsAt c.head.result.now c.parts.result.now c.args.pad at) c.in-Some-Part.field-0-is c.in-Some-Part.ensures.there) in
+    subst (λ (parts : List (Part _ _ _)). PartHas parts c.args.pad c.in-Some-Part.place c.in-Some-Part.port) c.parts.ensures
+    (subst (λ (at : PadAt). StandsAt c.head.result.now c.parts.result.now c.args.pad at) c.in-Some-Part.field-0-is c.in-Some-Part.ensures.there) in
     part_seen c.args.task.now.parts.items c.args.task.now.head c.args.pad c.in-Some-Part.place c.in-Some-Part.port c.index-parts-place.result c.see_port.result has
     (subst (λ (parts : List (Part _ _ _)). slice_get parts c.in-Some-Part.place ≡ Some c.index-parts-place.result) c.parts-in-Some-Part.ensures
     (some_at c.parts-in-Some-Part.result.now c.in-Some-Part.place c.index-parts-place.result
