@@ -1,0 +1,4 @@
+mod Spans
+mod Lists
+mod Staying
+mod Changes
