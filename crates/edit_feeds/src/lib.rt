@@ -4,8 +4,11 @@
 ghost use Rattle.edit_feeds.specs.Feeds.{FeedsStay};
 
 mod feeds;
+mod judging;
+mod notes;
 
 pub use feeds::Feeds;
+pub use judging::is_fed_elsewhere;
 
 /// What is kept of the elements' feeders stays so while more crosses the pads.
 #[tactic(auto, using(crate::proofs::Staying::feeds_stay))]
