@@ -2,5 +2,6 @@
 #![tactic(auto)]
 
 pub mod judging;
+pub mod laws;
 
 pub use judging::{Verdict, judge};

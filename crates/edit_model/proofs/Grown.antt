@@ -29,7 +29,7 @@ latest_more : (passes : Item → Bool) (h ys : List Item) → has_item (latest p
 latest_more passes [] ys e = absurd (false≢true e)
 latest_more passes (x ∷ xs) ys e = found_more (latest passes xs) (latest passes (xs ++ ys)) (if passes x then x ∷ [] else []) (latest_more passes xs ys) e
 
-flush_more : (xs more : List Item) → has_flush_stop more ≡ false → has_flush_stop (xs ++ more) ≡ has_flush_stop xs
+pub flush_more : (xs more : List Item) → has_flush_stop more ≡ false → has_flush_stop (xs ++ more) ≡ has_flush_stop xs
 flush_more [] more calm = calm
 flush_more (x ∷ xs) more calm = ap (λ (b : Bool). if is_flush_stop x then true else b) (flush_more xs more calm)
 
@@ -46,7 +46,7 @@ since_more (x ∷ xs) more calm = rw (flush_more xs more calm, since_more xs mor
 pub ended_more : (xs more : List Item) → has_flush_stop more ≡ false → has_ended xs ≡ true → has_ended (xs ++ more) ≡ true
 ended_more xs more calm e = subst (λ (l : List Item). has_item (latest is_eos l) ≡ true) (sym (since_more xs more calm)) (latest_more is_eos (since_flush_stop xs) more e)
 
-calm_back : (xs more : List Item) → has_flush_stop (xs ++ more) ≡ false → has_flush_stop more ≡ false
+pub calm_back : (xs more : List Item) → has_flush_stop (xs ++ more) ≡ false → has_flush_stop more ≡ false
 calm_back [] more e = e
 calm_back (x ∷ xs) more e = go (is_flush_stop x) e (calm_back xs more)
   where
@@ -60,7 +60,7 @@ item_more (x ∷ xs) more e = refl
 
 -- ---- the items among calls
 
-items_append : (cs ds : List Call) → items (cs ++ ds) ≡ items cs ++ items ds
+pub items_append : (cs ds : List Call) → items (cs ++ ds) ≡ items cs ++ items ds
 items_append [] ds = refl
 items_append (Feed x ∷ cs) ds = ap (λ zs. x ∷ zs) (items_append cs ds)
 items_append (Act m ∷ cs) ds = items_append cs ds
@@ -73,7 +73,7 @@ no_items n (m ∷ ms) = go (eqb m.0 n) (no_items n ms)
     go true e = e
     go false e = e
 
-items_marked : (ms : List (ℕ × Mark)) (n : ℕ) (xs : List Item) → items (with_marks ms n xs) ≡ xs
+pub items_marked : (ms : List (ℕ × Mark)) (n : ℕ) (xs : List Item) → items (with_marks ms n xs) ≡ xs
 items_marked ms n [] = no_items n ms
 items_marked ms n (x ∷ xs) =
     items_append (marks_at n ms) (Feed x ∷ with_marks ms (suc n) xs)
@@ -81,7 +81,7 @@ items_marked ms n (x ∷ xs) =
     ∙ ap (λ zs. x ∷ zs) (items_marked ms (suc n) xs)
 
 -- what a link gives: the sticky events in force, and the items from its place on
-link_items : (h : ℕ → List Item) (source from : ℕ) (marks : List (ℕ × Mark)) → items (span_calls h (Linked source from marks)) ≡ stickies (take from (h source)) ++ drop from (h source)
+pub link_items : (h : ℕ → List Item) (source from : ℕ) (marks : List (ℕ × Mark)) → items (span_calls h (Linked source from marks)) ≡ stickies (take from (h source)) ++ drop from (h source)
 link_items h source from marks =
     let first = feeds (stickies (take from (h source))) in
     let rest = with_marks marks from (drop from (h source)) in

@@ -136,7 +136,7 @@ pushed_at (suc i) (suc k) s (ss ∷ sss) = go (pushed_at i k s sss)
     go (inl same) = inl same
     go (inr more) = inr (ap suc more.0, more.1)
 
-none_at : (n k : ℕ) → get_or (replicate n []) k [] ≡ spans_from None
+pub none_at : (n k : ℕ) → get_or (replicate n []) k [] ≡ spans_from None
 none_at zero k = refl
 none_at (suc n) zero = refl
 none_at (suc n) (suc k) = none_at n k
@@ -309,24 +309,25 @@ first_only : (o : Option PadPlace) → StandsOnlyFrom o (spans_from o)
 first_only None = refl
 first_only (Some source) = rw (number_itself (pad_id source)) refl
 
+-- at first a sink pad has a link that stands, or none
+pub first_spans : (made : List Made) (links : List PadLink) (sink : PadPlace)
+    → (spans_at (unedited made links) sink ≡ spans_from (source_before links sink)) ⊎ (spans_at (unedited made links) sink ≡ spans_from None)
+first_spans made links sink = go (below_or_not sink.pad (sink_count (slice_get made sink.element)))
+  where
+    go : (suc sink.pad ≤ sink_count (slice_get made sink.element)) ⊎ (sink_count (slice_get made sink.element) ≤ sink.pad)
+        → (spans_at (unedited made links) sink ≡ spans_from (source_before links sink)) ⊎ (spans_at (unedited made links) sink ≡ spans_from None)
+    go (inl below) = inl (get_or-map-range_with_len (λ k. spans_from (source_before links (sink_at sink.element k))) 0 (sink_count (slice_get made sink.element)) sink.pad sink.pad [] below (omega arith))
+    go (inr past) =
+        let all = map (λ k. spans_from (source_before links (sink_at sink.element k))) (range_with_len 0 (sink_count (slice_get made sink.element))) in
+        let long : length all ≡ sink_count (slice_get made sink.element) = length-map-range_with_len (λ k. spans_from (source_before links (sink_at sink.element k))) 0 (sink_count (slice_get made sink.element)) in
+        inr (get_or_past all sink.pad [] (omega (arith, long)))
+
 begins_kept : (h : ℕ → List Item) (made : List Made) (links : List PadLink) → IsKept h (unedited made links)
 begins_kept h made links = record {
-  within = λ sink. within_by sink (first_spans sink);
-  linked = λ sink. only_by sink (first_spans sink);
+  within = λ sink. within_by sink (first_spans made links sink);
+  linked = λ sink. only_by sink (first_spans made links sink);
 }
   where
-    first_spans : (sink : PadPlace)
-        → (spans_at (unedited made links) sink ≡ spans_from (source_before links sink)) ⊎ (spans_at (unedited made links) sink ≡ spans_from None)
-    first_spans sink = go (below_or_not sink.pad (sink_count (slice_get made sink.element)))
-      where
-        go : (suc sink.pad ≤ sink_count (slice_get made sink.element)) ⊎ (sink_count (slice_get made sink.element) ≤ sink.pad)
-            → (spans_at (unedited made links) sink ≡ spans_from (source_before links sink)) ⊎ (spans_at (unedited made links) sink ≡ spans_from None)
-        go (inl below) = inl (get_or-map-range_with_len (λ k. spans_from (source_before links (sink_at sink.element k))) 0 (sink_count (slice_get made sink.element)) sink.pad sink.pad [] below (omega arith))
-        go (inr past) =
-            let all = map (λ k. spans_from (source_before links (sink_at sink.element k))) (range_with_len 0 (sink_count (slice_get made sink.element))) in
-            let long : length all ≡ sink_count (slice_get made sink.element) = length-map-range_with_len (λ k. spans_from (source_before links (sink_at sink.element k))) 0 (sink_count (slice_get made sink.element)) in
-            inr (get_or_past all sink.pad [] (omega (arith, long)))
-
     within_by : (sink : PadPlace) → (spans_at (unedited made links) sink ≡ spans_from (source_before links sink)) ⊎ (spans_at (unedited made links) sink ≡ spans_from None)
         → AreWithin h (spans_at (unedited made links) sink)
     within_by sink (inl is) = subst (λ (ss : List Span). AreWithin h ss) (sym is) (first_within h (source_before links sink))

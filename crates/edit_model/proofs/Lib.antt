@@ -5,3 +5,5 @@ pub mod Keeping
 pub mod Staying
 pub mod Following
 pub mod LinksStanding
+pub mod Ending
+pub mod Ended

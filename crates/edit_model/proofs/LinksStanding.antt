@@ -45,7 +45,7 @@ use Rattle.edit_model.proofs.Following.{get_front, get_last}
 use Rattle.edit_model.proofs.Keeping.{free_at, from_none, linked_spans, none_before, none_push, not_taken, some_push, undone_at}
 
 -- nothing is None and Some at once
-no_some : {A : Type 0} {x : A} → Some x ≡ None → ⊥
+pub no_some : {A : Type 0} {x : A} → Some x ≡ None → ⊥
 no_some e = cc
 
 -- ---- the spans of one sink pad
@@ -106,7 +106,7 @@ pushed_here (suc i) s (ss ∷ sss) within = pushed_here i s sss (omega arith)
 -- ---- links
 
 -- what is left where a link is undone was there, and is that of another source pad
-rest_other : (source sink found : PadPlace) (links : List PadLink) → AreSingle links → source_before (without source links) sink ≡ Some found
+pub rest_other : (source sink found : PadPlace) (links : List PadLink) → AreSingle links → source_before (without source links) sink ≡ Some found
     → (is_same found source ≡ false) × (source_before links sink ≡ Some found)
 rest_other source sink found [] single e = absurd (no_some (sym e))
 rest_other source sink found (link ∷ links) single e = go (same_or_other link.sink sink) (is_same link.source source) refl e (rest_other source sink found links single.2)
@@ -126,7 +126,7 @@ rest_other source sink found (link ∷ links) single e = go (same_or_other link.
     go either false other e rest = kept (is_same link.sink sink) refl other e rest
 
 -- the source pad of a link is one that an element can have
-few_of : (links : List PadLink) (sink found : PadPlace) → AreSingle links → source_before links sink ≡ Some found → found.pad < most_pads
+pub few_of : (links : List PadLink) (sink found : PadPlace) → AreSingle links → source_before links sink ≡ Some found → found.pad < most_pads
 few_of [] sink found single e = absurd (no_some (sym e))
 few_of (link ∷ links) sink found single e = go (is_same link.sink sink) e (few_of links sink found single.2)
   where
@@ -187,7 +187,7 @@ named_in direction g name place e = by_element (element_named g name.element) e
     by_element None e = absurd (no_some (sym e))
     by_element (Some element) e = by_made element (slice_get g.made element) refl e
 
-source_few : (g : Edited) (name : PadName) (source : PadPlace) → pad_named Source g name ≡ Some source → source.pad < most_pads
+pub source_few : (g : Edited) (name : PadName) (source : PadPlace) → pad_named Source g name ≡ Some source → source.pad < most_pads
 unfolding Has
 source_few g name source e = let has = named_in Source g name source e in let low = has.2 in let few = few_sources has.0.settings in omega (arith, low, few)
 
@@ -351,11 +351,11 @@ begins_stand made links pads once = record {
 -- ---- behind answers
 
 -- the source pad of a command is one that an element can have
-abbrev IsFew : Option PadPlace → Type 0
+abbrev pub IsFew : Option PadPlace → Type 0
 IsFew None = Unit {0}
 IsFew (Some source) = source.pad < most_pads
 
-reached_few : (g : Edited) (h owed : ℕ → List Item) (when : When) (p : Option PadPlace) (place : ℕ) → Reaches g h owed when p place → IsFew p
+pub reached_few : (g : Edited) (h owed : ℕ → List Item) (when : When) (p : Option PadPlace) (place : ℕ) → Reaches g h owed when p place → IsFew p
 reached_few g h owed when p place (Reaches.at pad n at source named is) = source_few g pad source named
 reached_few g h owed when p place (Reaches.now_pad pad at source named is) = source_few g pad source named
 reached_few g h owed when p place Reaches.now = tt
@@ -367,7 +367,7 @@ made_stand h g p place act after (Makes.unlinks eos source to at behind) few sta
 made_stand h g p place act after (Makes.adds q at kind props m is plain) few stand = added_stand g m stand
 made_stand h g p place act after (Makes.removes q at name e named loose) few stand = record { counted = stand.counted; single = stand.single; stands = stand.stands }
 
-answered_stand : (h owed : ℕ → List Item) (g after : Edited) (c : Command) (a : Answer) → IsAnswered g h owed c a after → LinksStand g → LinksStand after
+pub answered_stand : (h owed : ℕ → List Item) (g after : Edited) (c : Command) (a : Answer) → IsAnswered g h owed c a after → LinksStand g → LinksStand after
 answered_stand h owed g after c a (IsAnswered.done when act p place made reaches makes) stand = made_stand h g p place act made makes (reached_few g h owed when p place reaches) stand
 answered_stand h owed g after c a (IsAnswered.unreached command there never) stand = stand
 answered_stand h owed g after c a (IsAnswered.nameless command missing) stand = stand
@@ -387,7 +387,7 @@ stands_linked p ss e = go (is_linked ss) refl
     go true is = is
     go false is = absurd (false≢true (sym (from_none p ss is) ∙ e))
 
-exactly : (h : ℕ → List Item) (g : Edited) → IsKept h g → LinksStand g → (sink : PadPlace) → AreExact g sink
+pub exactly : (h : ℕ → List Item) (g : Edited) → IsKept h g → LinksStand g → (sink : PadPlace) → AreExact g sink
 exactly h g kept stand sink = record {
   linked = linked (source_before g.links sink) refl;
   there = λ source e. stand.stands source sink e;

@@ -1,12 +1,12 @@
 -- A graph with all that commands did to it so far. Elements and pads have the numbers that they were made with, for ever.
-use Rattle.std.specs.Prelude.{ℕ, Bool, false, ◌==◌, ◌||◌, not, nat_lt, List, [], ◌∷◌, ◌++◌, if◌then◌else◌, filter, length, map, replicate, get_or}
+use Rattle.std.specs.Prelude.{ℕ, Bool, false, ◌==◌, ◌||◌, not, nat_lt, List, [], ◌∷◌, ◌++◌, Option, None, Some, if◌then◌else◌, filter, length, map, replicate, get_or}
 use Rattle.std.specs.List.{list_any}
 use Rattle.flow_model.specs.Link.{Span, Linked}
 use Rattle.net_model.specs.Edit.{push_span, undo}
 use Rattle.el_settings.specs.Asked.{sink_pads}
 use Rattle.graph_core.specs.Elements.{Made}
 use Rattle.graph_core.specs.GraphPlan.{pad_id, sinks_in}
-use Rattle.graph_pads.specs.Links.{is_same}
+use Rattle.graph_pads.specs.Links.{is_same, sink_behind}
 use Rattle.graph_pads.specs.declared.pad.PadLink.{PadLink}
 use Rattle.graph_pads.specs.declared.pad.PadPlace.{PadPlace}
 
@@ -23,10 +23,12 @@ pub record Edited : Type 0 where
   pub ever : List PadLink
   -- what each sink pad of an element is given
   pub spans : ℕ → List (List Span)
+  -- the sink pads whose stream ended with a link that was undone
+  pub ended : List PadPlace
 
 -- nothing was done to the graph yet
 abbrev pub unedited : List Made → List PadLink → Edited
-unedited made links = record { lined = length made; made = made; removed = []; links = links; ever = links; spans = sinks_in made links }
+unedited made links = record { lined = length made; made = made; removed = []; links = links; ever = links; spans = sinks_in made links; ended = [] }
 
 -- ---- what is asked of it
 
@@ -45,14 +47,28 @@ is_active g e = nat_lt e g.lined || list_any (touches e) g.ever
 abbrev pub spans_at : Edited → PadPlace → List Span
 spans_at g sink = get_or (g.spans sink.element) sink.pad []
 
+-- a link to the sink pad was undone with EOS
+abbrev pub is_ended : Edited → PadPlace → Bool
+is_ended g sink = list_any (is_same sink) g.ended
+
 -- ---- what is done to it, at the place that the source pad has reached
 
 abbrev pub without : PadPlace → List PadLink → List PadLink
 without source links = filter (λ link. not (is_same link.source source)) links
 
+-- one sink pad more, where there is one
+abbrev pub and_sink : Option PadPlace → List PadPlace → List PadPlace
+and_sink None sinks = sinks
+and_sink (Some sink) sinks = sinks ++ sink ∷ []
+
 -- the link of a source pad, where there is one, is undone, with EOS or without
 abbrev pub unlinked_at : PadPlace → ℕ → Bool → Edited → Edited
-unlinked_at source place eos g = record g { links = without source g.links; spans = λ e. map (map (undo (pad_id source) place eos)) (g.spans e) }
+unlinked_at source place eos g =
+    record g {
+      links = without source g.links;
+      spans = λ e. map (map (undo (pad_id source) place eos)) (g.spans e);
+      ended = and_sink (if eos then sink_behind g.links source else None) g.ended;
+    }
 
 abbrev pub link_between : PadPlace → PadPlace → PadLink
 link_between source sink = record { source = source; sink = sink }

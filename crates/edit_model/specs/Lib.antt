@@ -7,3 +7,4 @@ pub mod Opening
 pub mod Growing
 pub mod Laws
 pub mod Rows
+pub mod Ended

@@ -2,6 +2,7 @@
 //! which it is evaluated; and why two pads are not linked.
 #![tactic(auto)]
 
+ghost use Rattle.edit_model.specs.Ended.{EndsAreTold, StaysOpen};
 ghost use Rattle.edit_model.specs.Growing.{GrowthJoins, LinksStayExact, OneMoreEntry, StaysKept, StaysLawful};
 ghost use Rattle.edit_model.specs.Laws.{ActsAreEdits, NothingDone, RelinkSplits};
 ghost use Rattle.edit_model.specs.Rows.{FallingRows, FeederRows, LawfulRows, LoopRows, RelinkRows};
@@ -82,4 +83,16 @@ pub fn stays_lawful()
 #[tactic(auto, using(crate::proofs::Following::one_more_entry))]
 pub fn one_more_entry()
     ensures { OneMoreEntry }
+{}
+
+/// No link is made or undone behind EOS, and a sink pad is marked where its link was undone with EOS, behind each answer too.
+#[tactic(auto, using(crate::proofs::Ended::stays_open))]
+pub fn stays_open()
+    ensures { StaysOpen }
+{}
+
+/// A sink pad has had EOS where EOS crossed the source pad of its link, and one without a link where a link to it was undone with EOS.
+#[tactic(auto, using(crate::proofs::Ended::ends_are_told))]
+pub fn ends_are_told()
+    ensures { EndsAreTold }
 {}

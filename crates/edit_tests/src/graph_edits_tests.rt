@@ -17,6 +17,8 @@ filesrc name=f location=a ! filesink name=b location=b | -> / 0*>1.0 1*
 filesrc name=f location=a ! filesink name=b location=b identity name=i | now f.src relink i.sink | now f.src relink b.sink -> done done / 0*>1.0 2* 1*
 filesrc name=f location=a ! filesink name=b location=b identity name=i | now f.src relink i.sink -> done / 0*>2.0 1* 2*
 filesrc name=f location=a ! filesink name=b location=b | now f.src relink b.sink | now f.src unlink | now f.src unlink | now f.src relink b.sink -> WasLinked done NoSuch done / 0*>1.0 1*
+filesrc name=f location=a ! filesink name=b location=b | now f.src unlink eos | now f.src relink b.sink -> done AfterEos / 0* 1*
+filesrc name=f location=a ! fakesink name=b fakesink name=c | now f.src unlink eos | now f.src relink c.sink | now f.src unlink | now f.src relink b.sink | now f.src relink c.sink -> done done done AfterEos done / 0*>2.0 1* 2*
 filesrc name=f location=a ! identity name=a ! identity name=b ! filesink name=p location=p | now f.src relink p.sink | now b.src unlink | now f.src relink p.sink | now b.src relink a.sink | now a.src relink p.sink -> WasLinked done done WouldLoop WasLinked / 0*>3.0 1*>2.0 2* 3*
 filesrc name=f location=a ! identity name=a ! identity name=b ! filesink name=p location=p | now a.src unlink | now f.src unlink | now b.src relink a.sink -> done done WouldLoop / 0* 1* 2*>3.0 3*
 identity name=a identity name=b | now b.src relink a.sink | now a.src relink b.sink | now b.src unlink | now a.src relink a.sink -> done WouldLoop done WouldLoop / 1* 0*
@@ -55,6 +57,9 @@ fn relink(
     let sink = graph
         .pad(alloc, Direction::Sink, sink)?
         .ok_or("a sink pad")?;
+    if graph.is_ended(sink) {
+        return Ok("AfterEos");
+    }
     if graph.is_taken(sink) {
         return Ok("WasLinked");
     }
@@ -64,7 +69,7 @@ fn relink(
     if !graph.have_format(alloc, source, sink)? {
         return Ok("NoFormat");
     }
-    graph.unlink(source);
+    graph.unlink(source, false);
     match graph.link(alloc, source, sink)? {
         Linking::Linked => Ok("done"),
         Linking::Loops => Ok("Loops"),
@@ -102,9 +107,9 @@ fn done(alloc: Global, graph: &mut EditedGraph, command: &Command) -> Result<&'s
     }
     match &command.act {
         Act::Relink { sink } => relink(alloc, graph, &command.when, sink),
-        Act::Unlink { .. } => {
+        Act::Unlink { eos } => {
             let source = graph.source(alloc, &command.when)?.ok_or("a source pad")?;
-            graph.unlink(source);
+            graph.unlink(source, *eos);
             Ok("done")
         }
         Act::Add { kind, props } => add(alloc, graph, kind.as_str(), props),

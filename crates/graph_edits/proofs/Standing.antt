@@ -1,13 +1,14 @@
 -- Pads of the elements of a graph, and the ends of its links.
-use Rattle.std.proofs.Common.{◌≡◌, ◌<◌, ◌++◌, ◌∷◌, [], ℕ, zero, suc, Bool, false, List, Option, None, Some, All, length, slice_get, refl, sym, ap, ◌∙◌, subst, arith, position, bytes_eq}
+use Rattle.std.proofs.Common.{◌≡◌, ◌+◌, ◌<◌, ◌≤◌, ◌++◌, ◌∷◌, [], ℕ, zero, suc, Bool, true, false, not, if◌then◌else◌, List, Option, None, Some, All, length, slice_get, refl, sym, ap, ◌∙◌, subst, arith, position, bytes_eq}
 use Rattle.std.specs.Option.{option_and_then, option_map, option_map_or}
 use Rattle.std.specs.List.{range_with_len}
+use Rattle.std.proofs.lemmas.List.{length-append}
 use Rattle.std.proofs.lemmas.List.FromFn.{length-range_with_len}
 use Rattle.std.proofs.lemmas.List.Quantifiers.{position-Some}
 use Rattle.std.proofs.lemmas.Option.{slice_get_within}
 use Rattle.gst_value.specs.declared.name.PadName.{PadName}
 use Rattle.el_settings.specs.declared.settings.Settings.{Settings}
-use Rattle.edit_model.specs.Edited.{Edited}
+use Rattle.edit_model.specs.Edited.{Edited, and_sink, without}
 use Rattle.edit_model.specs.Names.{element_named, pad_in, pad_named}
 use Rattle.graph_core.specs.Elements.{Made}
 use Rattle.graph_core.specs.Ends.{pads_at}
@@ -15,6 +16,7 @@ use Rattle.graph_core.specs.Links.{HasPads}
 use Rattle.graph_edits.specs.Graph.{IsEdited, made}
 use Rattle.graph_edits.specs.declared.graph.EditedGraph.{EditedGraph}
 use Rattle.graph_order.specs.Marks.{is_marked}
+use Rattle.graph_pads.specs.Links.{is_same, sink_behind}
 use Rattle.graph_pads.specs.Pads.{pad_count, pad_text}
 use Rattle.graph_pads.specs.declared.pad.Direction.{Direction}
 use Rattle.graph_pads.specs.declared.pad.Direction.TheVariants.{Source, Sink}
@@ -84,3 +86,32 @@ more_marks [] zero = refl
 more_marks [] (suc e) = refl
 more_marks (m ∷ marks) zero = refl
 more_marks (m ∷ marks) (suc e) = more_marks marks e
+
+-- ---- sink pads that end
+
+fewer : (source : PadPlace) (links : List PadLink) → length (without source links) ≤ length links
+fewer source [] = omega arith
+fewer source (link ∷ links) = go (is_same link.source source) (fewer source links)
+  where
+    go : (b : Bool) → length (without source links) ≤ length links → length (if not b then link ∷ without source links else without source links) ≤ length (link ∷ links)
+    go true rest = omega (arith, rest)
+    go false rest = omega (arith, rest)
+
+fewer_one : (source sink : PadPlace) (links : List PadLink) → sink_behind links source ≡ Some sink → length (without source links) < length links
+fewer_one source sink [] e = absurd (cc)
+fewer_one source sink (link ∷ links) e = go (is_same link.source source) e (fewer source links) (fewer_one source sink links)
+  where
+    go : (b : Bool) → (if b then Some link.sink else sink_behind links source) ≡ Some sink → length (without source links) ≤ length links
+        → (sink_behind links source ≡ Some sink → length (without source links) < length links) → length (if not b then link ∷ without source links else without source links) < length (link ∷ links)
+    go true e few rest = omega (arith, few)
+    go false e few rest = let less = rest e in omega (arith, less)
+
+-- where a link is undone there is room for its sink pad
+pub room_left : (source : PadPlace) (eos : Bool) (links : List PadLink) (ended : List PadPlace)
+    → length (without source links) + length (and_sink (if eos then sink_behind links source else None) ended) ≤ length links + length ended
+room_left source false links ended = let few = fewer source links in omega (arith, few)
+room_left source true links ended = by (sink_behind links source) refl
+  where
+    by : (o : Option PadPlace) → sink_behind links source ≡ o → length (without source links) + length (and_sink o ended) ≤ length links + length ended
+    by None e = let few = fewer source links in omega (arith, few)
+    by (Some sink) e = let few = fewer_one source sink links e in omega (arith, few, length-append ended (sink ∷ []))

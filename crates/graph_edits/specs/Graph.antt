@@ -29,3 +29,4 @@ pub record IsEdited (graph : EditedGraph) (g : Edited) : Type 0 where
   pub count : count_of graph.order ≡ length g.made
   pub forward : IsForward graph.order
   pub touched : (e : ℕ) → is_marked graph.touched.items e ≡ list_any (touches e) g.ever
+  pub ended : graph.ended.items ≡ g.ended

@@ -1,13 +1,15 @@
 //! What commands do to the graph.
-ghost use Rattle.std.specs.Prelude.{◌≡◌, ◌+◌, ◌<◌, ◌++◌, ◌∷◌, [], false, length, IfOk, OnOk, OnErr, vec_len};
-ghost use Rattle.edit_model.specs.Edited.{without};
+ghost use Rattle.std.specs.Prelude.{◌≡◌, ◌+◌, ◌<◌, ◌≤◌, ◌++◌, ◌∷◌, [], true, false, if◌then◌else◌, None, is_some, length, IfOk, OnOk, OnErr, vec_capacity, vec_len};
+ghost use Rattle.edit_model.specs.Edited.{and_sink, without};
 ghost use Rattle.graph_core.specs.Elements.{all_made, is_name_taken, limit, made_in};
 ghost use Rattle.graph_order.specs.Forward.{IsForward, count_of, forward_of, links_of};
+ghost use Rattle.graph_pads.specs.Links.{sink_behind};
 
 use crate::graph::EditedGraph;
 use crate::marks::touch;
 use graph_core::{BuildFault, Elements, NewElement, PadLink, PadPlace, new_element};
 use graph_order::{Linking, Order};
+use graph_pads::sink_behind;
 use gst_value::{List, OutOfMemory, Prop};
 use std::alloc::Global;
 
@@ -27,12 +29,12 @@ impl EditedGraph {
     ghost use Rattle.graph_edits.specs.Graph.{IsEdited, made};
     ghost use Rattle.graph_edits.specs.Changes.{AfterAdd, AfterFault, AfterLink, IsNumbered};
 
-    /// Undoes the link of a source pad, where it has one.
-    pub fn unlink(&mut self, source: PadPlace)
-        ensures edited { (g : Edited) (place : ℕ) (eos : Bool) → IsEdited self.old g → IsEdited self.new (unlinked_at source place eos g) }
+    /// Undoes the link of a source pad, where it has one, with EOS or without. Behind EOS the sink pad counts as ended.
+    pub fn unlink(&mut self, source: PadPlace, eos: bool)
+        ensures edited { (g : Edited) (place : ℕ) → IsEdited self.old g → IsEdited self.new (unlinked_at source place eos g) }
         ensures made { made self.new ≡ made self.old }
     {
-        cut(&mut self.links, source);
+        undo(&mut self.links, &mut self.ended, source, eos);
     }
 
     /// Links a source pad to a sink pad, unless elements would then feed themselves by links that ever were made. Memory is found
@@ -50,6 +52,7 @@ impl EditedGraph {
         ensures made { made self.new ≡ made self.old }
     {
         self.links.reserve(1)?;
+        self.ended.reserve(self.links.len() + 1)?;
         match self.order.link(alloc, source.element, sink.element)? {
             Linking::Loops => Ok(Linking::Loops),
             Linking::Linked => {
@@ -94,6 +97,39 @@ impl EditedGraph {
         ensures made { made self.new ≡ made self.old }
     {
         self.removed[element as usize] = true;
+    }
+}
+
+/// Takes the links of a source pad away, and behind EOS puts the sink pad among those that ended. There is room for those of all links.
+fn undo(links: &mut Vec<PadLink>, ended: &mut Vec<PadPlace>, source: PadPlace, eos: bool)
+    requires { vec_len links.old + vec_len ended.old ≤ vec_capacity ended.old }
+    ensures links { links.new.items ≡ without source links.old.items }
+    ensures ended { ended.new.items ≡ and_sink (if eos then sink_behind links.old.items source else None) ended.old.items }
+    ensures room { vec_len links.new + vec_len ended.new ≤ vec_capacity ended.new }
+{
+    let sink = sink_to_end(links, source, eos);
+    cut(links, source);
+    mark(ended, sink);
+}
+
+/// The sink pad that is given EOS where the link of a source pad is undone.
+fn sink_to_end(links: &[PadLink], source: PadPlace, eos: bool) -> Option<PadPlace>
+    ensures { result ≡ (if eos then sink_behind links.now source else None) }
+{
+    if !eos {
+        return None;
+    }
+    sink_behind(links, source)
+}
+
+/// Puts a sink pad, where there is one, among those that ended.
+fn mark(ended: &mut Vec<PadPlace>, sink: Option<PadPlace>)
+    requires { is_some sink ≡ true → vec_len ended.old < vec_capacity ended.old }
+    ensures ended { ended.new.items ≡ and_sink sink ended.old.items }
+    ensures room { vec_capacity ended.new ≡ vec_capacity ended.old }
+{
+    if let Some(sink) = sink {
+        ended.push_reserved(sink);
     }
 }
 

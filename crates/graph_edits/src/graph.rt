@@ -1,10 +1,10 @@
 //! The graph of a run.
-ghost use Rattle.std.specs.Prelude.{◌≡◌, length, vec_len};
+ghost use Rattle.std.specs.Prelude.{◌≡◌, ◌+◌, ◌≤◌, length, vec_capacity, vec_len};
 ghost use Rattle.graph_core.specs.Elements.{all_made};
 ghost use Rattle.graph_order.specs.Forward.{count_of};
 
 use crate::marks::touched_by;
-use graph_core::{Elements, Graph, PadLink};
+use graph_core::{Elements, Graph, PadLink, PadPlace};
 use graph_order::Order;
 use gst_value::OutOfMemory;
 use std::alloc::Global;
@@ -26,9 +26,12 @@ pub struct EditedGraph {
     pub(crate) links: Vec<PadLink>,
     /// All links that ever were made, and an order in which each of them goes forward.
     pub(crate) order: Order,
+    /// The sink pads whose stream ended with a link that was undone. There is room for those of all links that stand.
+    pub(crate) ended: Vec<PadPlace>,
     ghost removable: { vec_len removed ≡ length (all_made elements) },
     ghost touchable: { vec_len touched ≡ length (all_made elements) },
     ghost ordered: { count_of order ≡ length (all_made elements) },
+    ghost endable: { vec_len links + vec_len ended ≤ vec_capacity ended },
 }
 
 impl EditedGraph {
@@ -46,6 +49,7 @@ impl EditedGraph {
         let lined = elements.count();
         let removed = vec![in alloc; false; lined as usize]?;
         let touched = touched_by(alloc, lined as usize, &links)?;
+        let ended = Vec::with_capacity(alloc, links.len())?;
         Ok(EditedGraph {
             elements,
             lined,
@@ -53,6 +57,7 @@ impl EditedGraph {
             touched,
             links,
             order,
+            ended,
         })
     }
 }

@@ -2,6 +2,7 @@
 ghost use Rattle.std.specs.Prelude.{◌≡◌};
 ghost use Rattle.std.specs.List.{list_any};
 ghost use Rattle.edit_model.specs.Edited.{touches as touches_one};
+ghost use Rattle.graph_pads.specs.Links.{is_same};
 
 use crate::graph::EditedGraph;
 use crate::marks::is_marked;
@@ -17,7 +18,7 @@ const MOST_PADS: u32 = 64;
 impl EditedGraph {
     ghost use Rattle.std.specs.Prelude.{◌<◌, ◌≤◌, ◌↔◌, true, false, Some, length, slice_get, IfOk, IfSome, IsTrue};
     ghost use Rattle.std.specs.Option.{option_map};
-    ghost use Rattle.edit_model.specs.Edited.{Edited, is_active, is_there};
+    ghost use Rattle.edit_model.specs.Edited.{Edited, is_active, is_ended, is_there};
     ghost use Rattle.edit_model.specs.Lawful.{has_link};
     ghost use Rattle.edit_model.specs.Names.{element_named};
     ghost use Rattle.edit_model.specs.Plans.{IsOrder};
@@ -107,6 +108,13 @@ impl EditedGraph {
         source_before(&self.links, sink)
     }
 
+    /// Whether a link to a sink pad was undone with EOS.
+    pub fn is_ended(&self, sink: PadPlace) -> bool
+        ensures { (g : Edited) → IsEdited self.now g → result ≡ is_ended g sink }
+    {
+        is_among(&self.ended, sink)
+    }
+
     /// Whether a sink pad is linked.
     pub fn is_taken(&self, sink: PadPlace) -> bool
         ensures { (g : Edited) → IsEdited self.now g → IsTrue result ↔ IsTaken g sink }
@@ -171,4 +179,12 @@ fn some_touches(links: &[PadLink], element: u32) -> bool
     ensures { result ≡ list_any (touches_one element) links.now }
 {
     links.iter().any(|link| link.source.element == element || link.sink.element == element)
+}
+
+/// Whether a pad is one of these.
+fn is_among(pads: &[PadPlace], pad: PadPlace) -> bool
+    ensures { result ≡ list_any (is_same pad) pads.now }
+{
+    pads.iter()
+        .any(|one| pad.element == one.element && pad.pad == one.pad)
 }

@@ -1,2 +1,4 @@
 pub mod Nets
 pub mod Seeing
+pub mod Over
+pub mod NewLanes

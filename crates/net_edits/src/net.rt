@@ -55,10 +55,12 @@ pub fn unlink<S: TaskSource, E: TaskElement, I: Inlet<Out = O>, O: Outlet<Lanes 
 }
 
 /// The place of the task that has the source pad of a number.
-fn find_task<S: TaskSource, E: TaskElement, I: Inlet<Out = O>, O: Outlet<Lanes = I::Lanes>>(
-    tasks: &[Task<S, E, I, O>],
-    pad: u32,
-) -> Option<usize>
+pub(crate) fn find_task<
+    S: TaskSource,
+    E: TaskElement,
+    I: Inlet<Out = O>,
+    O: Outlet<Lanes = I::Lanes>,
+>(tasks: &[Task<S, E, I, O>], pad: u32) -> Option<usize>
     ensures there { IfSome result (TaskHas tasks.now pad) }
     ensures none { result ≡ None → NoneHas tasks.now pad }
 {

@@ -35,7 +35,7 @@ undone_others m p place eos q nowhere ne l = undone_nowhere m.plan p q place eos
 undone_others m p place eos q (inside e i) ne l = (undone_leads m.plan p q place eos e i ne l.0, l.1)
 undone_others m p place eos q (over lane e i from) ne l = undone_leads m.plan p q place eos e i ne l
 
-linked_others : (m : Moment) (p place d j : ℕ) → OthersLead (linked p place d j m.plan).sinks m p
+pub linked_others : (m : Moment) (p place d j : ℕ) → OthersLead (linked p place d j m.plan).sinks m p
 linked_others m p place d j q nowhere ne l = linked_nowhere m.plan p q place d j ne l
 linked_others m p place d j q (inside e i) ne l = (linked_leads_else m.plan p q place d j e i ne l.0, l.1)
 linked_others m p place d j q (over lane e i from) ne l = linked_leads_else m.plan p q place d j e i ne l
@@ -66,7 +66,7 @@ module _ {O L : Type 0} (o : outlets.Ghosts O L) where
       }
 
 module _ {S E I O L : Type 0} {s : sources.Ghosts S} {e : elements.Ghosts E} (i : inlets.Ghosts I L O) (o : outlets.Ghosts O L) (head head' : Head S I O s) (parts parts' : List (Part E O e)) where
-  stays_tied : (m : Moment) → head' ≡ head → parts' ≡ parts → AreTied i o (Stands m) nothing_lost m head parts → AreTied i o (Stands m) nothing_lost m head' parts'
+  pub stays_tied : (m : Moment) → head' ≡ head → parts' ≡ parts → AreTied i o (Stands m) nothing_lost m head parts → AreTied i o (Stands m) nothing_lost m head' parts'
   stays_tied m h p t =
       subst (λ (x : Head S I O s). AreTied i o (Stands m) nothing_lost m x parts') (sym h) (subst (λ (ps : List (Part E O e)). AreTied i o (Stands m) nothing_lost m head ps) (sym p) t)
 
@@ -112,7 +112,7 @@ changed_as By Kept number before head now after parts_before parts parts_now par
     (subst (λ x. Changed By Kept number head parts x parts_after) (sym h') (subst (λ ps. Changed By Kept number head parts now ps) (sym p') c)))
 
 module _ {S E I O : Type 0} {s : sources.Ghosts S} {e : elements.Ghosts E} (head head' : Head S I O s) (parts parts' : List (Part E O e)) where
-  stays_closed : head' ≡ head → parts' ≡ parts → is_closed (shape_of head parts) ≡ true → is_closed (shape_of head' parts') ≡ true
+  pub stays_closed : head' ≡ head → parts' ≡ parts → is_closed (shape_of head parts) ≡ true → is_closed (shape_of head' parts') ≡ true
   stays_closed h p closed = subst (λ (x : Head S I O s). is_closed (shape_of x parts') ≡ true) (sym h) (subst (λ (ps : List (Part E O e)). is_closed (shape_of head ps) ≡ true) (sym p) closed)
 
   pub probe_closed : (probe : Option Probe) (pad : ℕ) → Changed (ProbedBy probe) (Unit {0}) pad head parts head' parts' → is_closed (shape_of head parts) ≡ true → is_closed (shape_of head' parts') ≡ true
@@ -133,7 +133,7 @@ module _ {S E I O L : Type 0} {s : sources.Ghosts S} {e : elements.Ghosts E} (i 
   changed_left By Kept pad counted (inr (none, h, p, k)) = ap (λ (x : Head S I O s). left_in i x parts') h ∙ ap (left_in i head) p
 
 module _ {S E I O L : Type 0} {s : sources.Ghosts S} {e : elements.Ghosts E} (i : inlets.Ghosts I L O) (o : outlets.Ghosts O L) (tells : Option (List Lane)) (head head' : Head S I O s) (parts parts' : List (Part E O e)) where
-  stays_ready : head' ≡ head → parts' ≡ parts → AreReady i o tells head parts → AreReady i o tells head' parts'
+  pub stays_ready : head' ≡ head → parts' ≡ parts → AreReady i o tells head parts → AreReady i o tells head' parts'
   stays_ready h p r = subst (λ (x : Head S I O s). AreReady i o tells x parts') (sym h) (subst (λ (ps : List (Part E O e)). AreReady i o tells head ps) (sym p) r)
 
   pub probe_ready : (probe : Option Probe) (pad : ℕ) → Changed (ProbedBy probe) (Unit {0}) pad head parts head' parts' → AreReady i o tells head parts → AreReady i o tells head' parts'

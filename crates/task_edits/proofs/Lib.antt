@@ -3,6 +3,11 @@ pub mod Earlier
 pub mod Padding
 pub mod Wiring
 pub mod Acts
+pub mod Insides
 mod NewLanes
 pub mod Absent
 pub mod Seen
+mod Opens
+mod Elements
+mod StickyLists
+pub mod Feeds

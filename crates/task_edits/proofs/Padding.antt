@@ -5,6 +5,7 @@ use Rattle.std.proofs.lemmas.Option.{slice_get_within}
 use Rattle.gst_item.specs.declared.out.Out.{Out}
 use Rattle.flow_model.specs.Item.{Item}
 use Rattle.flow_model.specs.Link.{Span}
+use Rattle.inlet_row.specs.declared.row.InletRow.{InletRow}
 use Rattle.lane_core.specs.declared.ends.Inlet as inlets
 use Rattle.lane_core.specs.declared.ends.Outlet as outlets
 use Rattle.net_model.specs.Moment.{Moment, behavior_at}
@@ -115,13 +116,23 @@ module _ {E O : Type 0} {e : elements.Ghosts E} where
       (each_set old.pads.items new.pads.items port is (λ y q. goes_of q ≢ inside n i) (λ y q. goes_of q ≢ inside n i) s.set (λ y q q_at. none place y old q at q_at) (λ y q ne q_at z. z) (λ to. none place port old was at s.at (leads to)))
       j part got k pad pad_at g
 
+module _ {S I O : Type 0} {s : sources.Ghosts S} where
+  -- the pad leads to no sink pad that a row of the head feeds, unless it led there
+  abbrev pub LeavesRows : Head S I O s → Pad O → Pad O → Type 0
+  LeavesRows (Source head) was is = Unit {0}
+  LeavesRows (Inlets head) was is = (port : ℕ) (row : InletRow I) → slice_get head.rows.items port ≡ Some row → goes_of is ≡ inside head.number port → goes_of was ≡ inside head.number port
+
+  leaves_rows : (head : Head S I O s) (was is : Pad O) → ((n k : ℕ) → goes_of is ≡ inside n k → goes_of was ≡ inside n k) → LeavesRows head was is
+  leaves_rows (Source head) was is leads = tt
+  leaves_rows (Inlets head) was is leads = λ port row got. leads head.number port
+
 abbrev no_items : List Item
 no_items = []
 
 module _ {S E I O L : Type 0} {s : sources.Ghosts S} {e : elements.Ghosts E} (i : inlets.Ghosts I L O) (o : outlets.Ghosts O L) (sinks : ℕ → List (List Span)) (m : Moment) where
   -- the head, where a pad of an element is another
   head_beside : (head : Head S I O s) (parts : List (Part E O e)) (place port : ℕ) (old new : Part E O e) (was is : Pad O) → slice_get parts place ≡ Some old → PadIn old new port was is → m.plan.owner (number_of was) ≡ old.number
-      → ((n k : ℕ) → goes_of is ≡ inside n k → goes_of was ≡ inside n k) → OthersLead sinks m (number_of was) → HeadTied i o nothing_lost m head parts → HeadTied i o nothing_lost (replanned sinks m) head (slice_set parts place new)
+      → LeavesRows head was is → OthersLead sinks m (number_of was) → HeadTied i o nothing_lost m head parts → HeadTied i o nothing_lost (replanned sinks m) head (slice_set parts place new)
   head_beside (Source head) parts place port old new was is at set own leads others t =
       let other : number_of head.pad ≢ number_of was = λ same. t.apart place old at (sym own ∙ sym (ap m.plan.owner same) ∙ t.owner) in
       record {
@@ -134,7 +145,7 @@ module _ {S E I O L : Type 0} {s : sources.Ghosts S} {e : elements.Ghosts E} (i 
       }
   head_beside (Inlets head) parts place port old new was is at set own leads others t = λ k row got.
       let z = t k row got in
-      record { all = z.all; gave = z.gave; got = z.got; whole = z.whole; took = z.took; apart = none_leads_set parts place port old new was is at set head.number k (leads head.number k) z.apart }
+      record { all = z.all; gave = z.gave; got = z.got; whole = z.whole; took = z.took; apart = none_leads_set parts place port old new was is at set head.number k (leads k row got) z.apart }
 
   -- the head, where its own pad is another
   head_with : (old new : SourceHead S O s) (parts : List (Part E O e)) → IsSameSource old new → number_of new.pad ≡ number_of old.pad → waiting_of new.pad ≡ waiting_of old.pad → PadLinked o (replanned sinks m) new.pad
@@ -150,11 +161,11 @@ module _ {S E I O L : Type 0} {s : sources.Ghosts S} {e : elements.Ghosts E} (i 
     apart = λ j part at n. t.apart j part at (n ∙ same.number);
   }
 
-  -- the head and the elements, where one pad is another
-  pub tied_with : (head head' : Head S I O s) (parts parts' : List (Part E O e)) (was is : Pad O) → PadIs head parts head' parts' was is → number_of is ≡ number_of was → waiting_of is ≡ waiting_of was
-      → ((n k : ℕ) → goes_of is ≡ inside n k → goes_of was ≡ inside n k) → OthersLead sinks m (number_of was) → (PadLinked o m was → PadLinked o (replanned sinks m) is)
+  -- the head and the elements, where one pad is another that leads to no sink pad of the head's rows
+  pub tied_beside : (head head' : Head S I O s) (parts parts' : List (Part E O e)) (was is : Pad O) → PadIs head parts head' parts' was is → number_of is ≡ number_of was → waiting_of is ≡ waiting_of was
+      → LeavesRows head was is → OthersLead sinks m (number_of was) → (PadLinked o m was → PadLinked o (replanned sinks m) is)
       → AreTied i o (Stands m) nothing_lost m head parts → AreTied i o (Stands (replanned sinks m)) nothing_lost (replanned sinks m) head' parts'
-  tied_with head head' parts parts' was is (PadIs.of_source old new here here' pad pad' same stays) number waiting leads others linked t =
+  tied_beside head head' parts parts' was is (PadIs.of_source old new here here' pad pad' same stays) number waiting leads others linked t =
       let at : HeadTied i o nothing_lost m (Source old) parts = subst (λ (h : Head S I O s). HeadTied i o nothing_lost m h parts) here t.head_tied in
       let none : NoPart parts (number_of was) = λ j part got k q q_at equal. at.apart j part got (sym ((t.parts_tied.each j part got).pads k q q_at).owner ∙ ap m.plan.owner (equal ∙ ap (λ (z : Pad O). number_of z) (sym pad)) ∙ at.owner) in
       let ours : PadLinked o (replanned sinks m) is = linked (subst (PadLinked o m) pad at.linked) in
@@ -164,7 +175,7 @@ module _ {S E I O L : Type 0} {s : sources.Ghosts S} {e : elements.Ghosts E} (i 
       subst (λ (h : Head S I O s). AreTied i o (Stands (replanned sinks m)) nothing_lost (replanned sinks m) h parts') (sym here')
       (subst (λ (ps : List (Part E O e)). AreTied i o (Stands (replanned sinks m)) nothing_lost (replanned sinks m) (Source new) ps) (sym stays)
       (record { parts_tied = parts_without o sinks m (number_of was) parts others none t.parts_tied; head_tied = heads }))
-  tied_with head head' parts parts' was is (PadIs.of_part place port old new at set pad same) number waiting leads others linked t =
+  tied_beside head head' parts parts' was is (PadIs.of_part place port old new at set pad same) number waiting leads others linked t =
       let here : PortTied o m old.number port was (waits_at old port was) = (t.parts_tied.each place old at).pads port was pad.at in
       subst (λ (h : Head S I O s). AreTied i o (Stands (replanned sinks m)) nothing_lost (replanned sinks m) h parts') (sym same)
       (subst (λ (ps : List (Part E O e)). AreTied i o (Stands (replanned sinks m)) nothing_lost (replanned sinks m) head ps) (sym set)
@@ -172,6 +183,12 @@ module _ {S E I O L : Type 0} {s : sources.Ghosts S} {e : elements.Ghosts E} (i 
         parts_tied = parts_with o sinks m parts place port old new was is at pad number waiting others (linked here.linked) t.parts_tied;
         head_tied = head_beside head parts place port old new was is at pad here.owner leads others t.head_tied;
       }))
+
+  -- the head and the elements, where one pad is another that leads to no sink pad of the task to which it did not lead
+  pub tied_with : (head head' : Head S I O s) (parts parts' : List (Part E O e)) (was is : Pad O) → PadIs head parts head' parts' was is → number_of is ≡ number_of was → waiting_of is ≡ waiting_of was
+      → ((n k : ℕ) → goes_of is ≡ inside n k → goes_of was ≡ inside n k) → OthersLead sinks m (number_of was) → (PadLinked o m was → PadLinked o (replanned sinks m) is)
+      → AreTied i o (Stands m) nothing_lost m head parts → AreTied i o (Stands (replanned sinks m)) nothing_lost (replanned sinks m) head' parts'
+  tied_with head head' parts parts' was is changed number waiting leads others linked t = tied_beside head head' parts parts' was is changed number waiting (leaves_rows head was is leads) others linked t
 
   -- the head and the elements, none of which has the pad
   pub tied_without : (p : ℕ) (head : Head S I O s) (parts : List (Part E O e)) → HasNoPad head parts p → OthersLead sinks m p → AreTied i o (Stands m) nothing_lost m head parts → AreTied i o (Stands (replanned sinks m)) nothing_lost (replanned sinks m) head parts

@@ -59,7 +59,7 @@ module _ {S E I O L : Type 0} {s : sources.Ghosts S} {e : elements.Ghosts E} (i 
 -- ---- that each element which the task names is one of it
 
 -- the same numbers are there
-abbrev SameNumbers : List PartShape → List PartShape → Type 0
+abbrev pub SameNumbers : List PartShape → List PartShape → Type 0
 SameNumbers all all' = (n : ℕ) → has_number n all' ≡ has_number n all
 
 goes_as : (all all' : List PartShape) (g : Goes) → SameNumbers all all' → goes_within all' g ≡ goes_within all g
@@ -93,7 +93,7 @@ pads_set all (p ∷ ps) (suc k) was is at leads within =
     (pads_set all ps k was is at leads (and_right (goes_within all (goes_of p)) (pads_within all (map pad_shape ps)) within))
 
 module _ {E O : Type 0} {e : elements.Ghosts E} where
-  numbers_as : (parts : List (Part E O e)) (place : ℕ) (old new : Part E O e) → slice_get parts place ≡ Some old → new.number ≡ old.number → SameNumbers (map part_shape parts) (map part_shape (slice_set parts place new))
+  pub numbers_as : (parts : List (Part E O e)) (place : ℕ) (old new : Part E O e) → slice_get parts place ≡ Some old → new.number ≡ old.number → SameNumbers (map part_shape parts) (map part_shape (slice_set parts place new))
   numbers_as [] place old new at number n = refl
   numbers_as (p ∷ ps) zero old new at number n = let same : new.number ≡ p.number = number ∙ ap (λ (z : Part E O e). z.number) (sym (some_same at)) in rw same refl
   numbers_as (p ∷ ps) (suc place) old new at number n = rw (numbers_as ps place old new at number n) refl
@@ -109,26 +109,30 @@ module _ {E O : Type 0} {e : elements.Ghosts E} where
       (parts_within_set all ps place old new at pads (and_right (pads_within all (map pad_shape p.pads.items)) (all_within all (map part_shape ps)) within))
 
 module _ {S E I O : Type 0} {s : sources.Ghosts S} {e : elements.Ghosts E} where
-  pub closed_with : (head head' : Head S I O s) (parts parts' : List (Part E O e)) (was is : Pad O) → PadIs head parts head' parts' was is → ((all : List PartShape) → goes_within all (goes_of was) ≡ true → goes_within all (goes_of is) ≡ true)
+  pub closed_in : (head head' : Head S I O s) (parts parts' : List (Part E O e)) (was is : Pad O) → PadIs head parts head' parts' was is → (goes_within (map part_shape parts) (goes_of was) ≡ true → goes_within (map part_shape parts) (goes_of is) ≡ true)
       → is_closed (shape_of head parts) ≡ true → is_closed (shape_of head' parts') ≡ true
-  closed_with head head' parts parts' was is (PadIs.of_source old new here here' pad pad' same stays) leads closed =
+  closed_in head head' parts parts' was is (PadIs.of_source old new here here' pad pad' same stays) leads closed =
       let all : List PartShape = map part_shape parts in
       let head_in : goes_within all (goes_of old.pad) ≡ true = subst (λ (h : Head S I O s). head_within all (head_shape h) ≡ true) here (and_left (head_within all (head_shape head)) (all_within all all) closed) in
       let head_now : goes_within all (goes_of new.pad) ≡ true =
-      subst (λ (z : Pad O). goes_within all (goes_of z) ≡ true) (sym pad') (leads all (subst (λ (z : Pad O). goes_within all (goes_of z) ≡ true) pad head_in)) in
+      subst (λ (z : Pad O). goes_within all (goes_of z) ≡ true) (sym pad') (leads (subst (λ (z : Pad O). goes_within all (goes_of z) ≡ true) pad head_in)) in
       let now : Head S I O s = Source new in
       subst (λ (h : Head S I O s). is_closed (shape_of h parts') ≡ true) (sym here') (subst (λ (ps : List (Part E O e)). is_closed (shape_of now ps) ≡ true) (sym stays)
       (both_true (goes_within all (goes_of new.pad)) (all_within all all) head_now (and_right (head_within all (head_shape head)) (all_within all all) closed)))
-  closed_with head head' parts parts' was is (PadIs.of_part place port old new at set pad same) leads closed =
+  closed_in head head' parts parts' was is (PadIs.of_part place port old new at set pad same) leads closed =
       let all : List PartShape = map part_shape parts in
       let now : List PartShape = map part_shape (slice_set parts place new) in
       let numbers : SameNumbers all now = numbers_as parts place old new at pad.number in
       let heads : head_within now (head_shape head) ≡ true = head_as all now (head_shape head) numbers ∙ and_left (head_within all (head_shape head)) (all_within all all) closed in
       let elements : all_within all now ≡ true =
       parts_within_set all parts place old new at
-      (λ within. ap (λ (ps : List (Pad O)). pads_within all (map pad_shape ps)) pad.set ∙ pads_set all old.pads.items port was is pad.at (leads all) within) (and_right (head_within all (head_shape head)) (all_within all all) closed) in
+      (λ within. ap (λ (ps : List (Pad O)). pads_within all (map pad_shape ps)) pad.set ∙ pads_set all old.pads.items port was is pad.at leads within) (and_right (head_within all (head_shape head)) (all_within all all) closed) in
       subst (λ (h : Head S I O s). is_closed (shape_of h parts') ≡ true) (sym same) (subst (λ (ps : List (Part E O e)). is_closed (shape_of head ps) ≡ true) (sym set)
       (both_true (head_within now (head_shape head)) (all_within now now) heads (parts_as all now now numbers ∙ elements)))
+
+  pub closed_with : (head head' : Head S I O s) (parts parts' : List (Part E O e)) (was is : Pad O) → PadIs head parts head' parts' was is → ((all : List PartShape) → goes_within all (goes_of was) ≡ true → goes_within all (goes_of is) ≡ true)
+      → is_closed (shape_of head parts) ≡ true → is_closed (shape_of head' parts') ≡ true
+  closed_with head head' parts parts' was is changed leads closed = closed_in head head' parts parts' was is changed (leads (map part_shape parts)) closed
 
 -- ---- that no two ends of the task are of one lane
 

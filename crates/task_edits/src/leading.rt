@@ -81,13 +81,13 @@ fn behind_of<O>(to: NewLane<O>) -> Behind<O>
     }
 }
 
-/// The pad of a number of these parts leads nowhere now, or over a lane. Where it led is given; where there is no such pad, where it was to lead.
-fn lead_in<S: TaskSource, E: TaskElement, I: Inlet<Out = O>, O: Outlet<Lanes = I::Lanes>>(
-    head: &mut Head<S, I, O>,
-    parts: &mut Vec<Part<E, O>>,
-    pad: u32,
-    behind: Behind<O>,
-) -> Behind<O>
+/// The pad of a number of these parts leads there now. Where it led is given; where there is no such pad, where it was to lead.
+pub(crate) fn lead_in<
+    S: TaskSource,
+    E: TaskElement,
+    I: Inlet<Out = O>,
+    O: Outlet<Lanes = I::Lanes>,
+>(head: &mut Head<S, I, O>, parts: &mut Vec<Part<E, O>>, pad: u32, behind: Behind<O>) -> Behind<O>
     ensures { Changed (LedBy behind result) (result ≡ behind) pad head.old parts.old.items head.new parts.new.items }
 {
     match find(head, parts.as_slice(), pad) {

@@ -1,13 +1,21 @@
-//! What control does to a task between its steps: a source pad gets the probe of a command or loses it, and its link is
-//! undone or made over a new lane.
+//! What control does to a task between its steps: a source pad gets the probe of a command or loses it, its link is
+//! undone, or made inside of the task or over a new lane, and an element takes items that no pad gave.
 #![tactic(auto)]
 
+pub mod feeding;
+pub mod inside;
 pub mod leading;
+pub mod openings;
 mod places;
 pub mod probes;
 pub mod seeing;
+pub mod stickies;
 
+pub use feeding::feed;
+pub use inside::{Inside, inside_of, link_inside};
 pub use leading::{NewLane, link_over, unlink};
-pub use places::has_pad;
+pub use openings::{Opening, opening_at};
+pub use places::{has_element, has_pad};
 pub use probes::set_probe;
 pub use seeing::{SeenPad, see_pad};
+pub use stickies::sticky_items;

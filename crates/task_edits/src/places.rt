@@ -1,6 +1,8 @@
 //! Where the source pads of a task stand.
-ghost use Rattle.std.specs.Prelude.{◌≡◌, true, false, None, IfSome};
+ghost use Rattle.std.specs.Prelude.{◌≡◌, true, false, None, IfSome, map};
 ghost use Rattle.task_edits.specs.Places.{HasNoPad, HasPad, HeadHasNot, IsOfHead, NoPart, NoPort, PartPadIs, PortIs, StandsAt};
+ghost use Rattle.task_parts.specs.Found.{IsAt};
+ghost use Rattle.task_parts.specs.Shape.{has_number, part_shape};
 
 use lane_core::{Inlet, Outlet};
 use net_model::{TaskElement, TaskSource};
@@ -75,6 +77,32 @@ fn find_port<O: Outlet>(pads: &[Pad<O>], pad: u32) -> Option<usize>
     for port in 0..pads.len() {
         if pads[port].number() == pad {
             return Some(port);
+        }
+    }
+    None
+}
+
+/// Whether one of the elements of a task has this number.
+pub fn has_element<S: TaskSource, E: TaskElement, I: Inlet<Out = O>, O: Outlet<Lanes = I::Lanes>>(
+    task: &Task<S, E, I, O>,
+    element: u32,
+) -> bool
+    ensures { result ≡ has_number element (map part_shape task.now.parts.items) }
+{
+    find_element(task.parts(), element).is_some()
+}
+
+/// The place of the element of a number among these parts.
+pub(crate) fn find_element<E: TaskElement, O: Outlet>(
+    parts: &[Part<E, O>],
+    number: u32,
+) -> Option<usize>
+    ensures there { IfSome result (IsAt parts.now number) }
+    ensures none { result ≡ None → has_number number (map part_shape parts.now) ≡ false }
+{
+    for place in 0..parts.len() {
+        if parts[place].number() == number {
+            return Some(place);
         }
     }
     None

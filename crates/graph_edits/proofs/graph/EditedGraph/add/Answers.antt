@@ -24,6 +24,7 @@ returns-in_err-number-clause-fault c =
         count = put.count_stays ∙ is.count;
         forward = put.forward is.forward;
         touched = λ e. ap (λ (marks : List Bool). is_marked marks e) put.touched_stays ∙ is.touched e;
+        ended = is.ended;
       },
     ))
 
@@ -45,5 +46,6 @@ returns-clause-answer c = λ g is.
         count = omega (arith, put.count, is.count, length-append g.made (m ∷ []));
         forward = put.forward is.forward;
         touched = λ e. ap (λ (marks : List Bool). is_marked marks e) put.touched ∙ more_marks c.args.self.now.touched.items e ∙ is.touched e;
+        ended = is.ended;
       };
     }

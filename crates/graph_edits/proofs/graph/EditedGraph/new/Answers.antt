@@ -30,5 +30,6 @@ returns c =
         count = order.1;
         forward = order.0;
         touched = λ e. c.in_ok-touched.ensures.touched e ∙ ap (list_any (touches e)) (c.deref.ensures.value ∙ c.into_parts-elements.ensures.links);
+        ended = c.in_ok-ended.ensures.items;
       };
     }

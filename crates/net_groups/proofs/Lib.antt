@@ -1,0 +1,13 @@
+pub mod Lists
+mod Finds
+pub mod Wiring
+pub mod Regrouped
+mod Merging
+mod Joins
+mod Swapped
+mod Closing
+mod Within
+mod Taken
+mod Parting
+mod Flags
+mod Parts

@@ -1,0 +1,19 @@
+use Rattle.std.proofs.Common.{arith, ap, length, refl, sym, subst, ◌∙◌, List}
+use Rattle.std.proofs.lemmas.Option.{slice_get_within}
+use Rattle.gst_value.proofs.Basics.{some_same}
+use Rattle.task_pads.proofs.Lists.{some_at}
+use Rattle.net_groups.specs.Behind.{FlaggedAt}
+use Rattle.net_groups.proofs.Lists.{loop_done, loop_next}
+use Rattle.net_groups.proofs.behind.flagged_lead.Goals as goal
+
+pub loop-place-init : goal.loop-place-init
+loop-place-init g c = λ j less p. absurd (omega (arith, less))
+
+pub returns-then-flagged_leads-clause-led : goal.returns-then-flagged_leads-clause-led
+returns-then-flagged_leads-clause-led g c = λ is. (c.loop-place.place, c.flagged_leads.ensures.led c.if-flagged_leads.true)
+
+pub loop-place-preserved : goal.loop-place-preserved
+loop-place-preserved g c = loop_next (λ j. FlaggedAt c.args.parts.now c.args.flags.now c.args.number j) c.loop-place.place (c.flagged_leads.ensures.none c.if-flagged_leads.false) c.loop-place.invariant
+
+pub returns-clause-none : goal.returns-clause-none
+returns-clause-none g c = λ none. loop_done (λ j. FlaggedAt c.args.parts.now c.args.flags.now c.args.number j) (length c.args.parts.now) c.loop-place.place (omega (arith, c.loop-place-test.false)) (λ j p. slice_get_within c.args.parts.now j _ p.at) c.loop-place.invariant

@@ -1,0 +1,11 @@
+//! The elements of a net of tasks grouped anew, between the turns of its tasks: a task is split, or two are joined. Nothing moves
+//! and no link changes, so the tasks stand at the moment at which they stood.
+#![tactic(auto)]
+
+mod behind;
+pub mod joining;
+mod places;
+pub mod splitting;
+
+pub use joining::join;
+pub use splitting::split;
