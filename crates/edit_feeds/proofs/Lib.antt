@@ -6,3 +6,4 @@ mod Standing
 mod Noting
 mod Givers
 mod Passing
+mod Elsewhere

@@ -15,10 +15,10 @@ use Rattle.edit_model.specs.Edited.{Edited, spans_at}
 use Rattle.edit_model.specs.Growing.{LinksStand}
 use Rattle.edit_model.specs.Refused.{HasFeeder, HasHead, IsReached, first_giver, has_lanes, is_head}
 use Rattle.edit_whole.specs.Whole.{AreMade}
-use Rattle.edit_feeds.specs.Notes.{AreApart, AreNotedBefore, IsNoted, head_note, note_of, plain_note}
+use Rattle.edit_feeds.specs.Notes.{AreNotedBefore, IsNoted, head_note, note_of, plain_note}
 use Rattle.edit_feeds.specs.declared.notes.Note.{Note}
 use Rattle.edit_feeds.proofs.Lists.{no_some, told}
-use Rattle.edit_feeds.proofs.Standing.{came_given, came_linked, first_pad, found_back, found_behind, no_source_pad}
+use Rattle.edit_feeds.proofs.Standing.{came_given, came_linked, first_pad, found_back, no_source_pad}
 
 -- ---- the ways to a head, to a feeder and to an element that is reached
 
@@ -125,7 +125,7 @@ module _ (g : Edited) (h : ℕ → List Item) (start : ℕ) (stand : LinksStand 
               absurd (no_source_pad g stand next.0 next.1 (subst (λ (d : ℕ). has is_source g.made d ≡ true) (sym next.5) source_is) (found_back g stand next.0 next.1 next.3))
 
   -- ---- other elements
-  module _ (made : AreMade g) (apart : AreApart g) (notes : List Note) (e : ℕ) (plain : has_lanes g e ≡ false) (source_is : has is_source g.made e ≡ false) (before_it : AreNotedBefore g h start notes e) where
+  module _ (made : AreMade g) (behind : (source sink : PadPlace) → source_before g.links sink ≡ Some source → sink_behind g.links source ≡ Some sink) (notes : List Note) (e : ℕ) (plain : has_lanes g e ≡ false) (source_is : has is_source g.made e ≡ false) (before_it : AreNotedBefore g h start notes e) where
     no_head : is_head g e ≡ false
     no_head = rw source_is plain
 
@@ -199,7 +199,7 @@ module _ (g : Edited) (h : ℕ → List Item) (start : ℕ) (stand : LinksStand 
         back before at (inl same) = subst (λ (d : ℕ). IsReached g d e) (same_number e start same) (IsReached.first e plain)
         back None at (inr none) = absurd (false≢true none)
         back (Some source) at (inr some) =
-            IsReached.next start source (sink_at e 0) ((noted_source source (sym at)).reached.1 some) (found_behind g stand apart source (sink_at e 0) (sym at)) plain
+            IsReached.next start source (sink_at e 0) ((noted_source source (sym at)).reached.1 some) (behind source (sink_at e 0) (sym at)) plain
 
     pub plain_noted : (before : Option PadPlace) (giver : Option ℕ) → before ≡ source_before g.links (sink_at e 0) → giver ≡ first_giver h (spans_at g (sink_at e 0)) → IsNoted g h start e (plain_note notes before giver (e == start))
     plain_noted before giver before_is giver_is = record {

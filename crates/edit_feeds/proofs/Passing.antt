@@ -21,12 +21,8 @@ pub record AreNotedIn (g : Edited) (h : ℕ → List Item) (start : ℕ) (notes 
   pub each : (e : ℕ) → IsMember e es → IsNoted g h start e (note_of notes e)
 
 module _ (g : Edited) (h : ℕ → List Item) (start : ℕ) where
-  pub pass_begins : (notes : List Note) (order : List ℕ) → length notes ≡ length g.made → AreNotedIn g h start notes (take 0 order)
-  pass_begins notes order count = record { count = count; each = λ e m. absurd (none order m) }
-    where
-      none : {e : ℕ} → (xs : List ℕ) → IsMember e (take 0 xs) → ⊥
-      none [] m = m
-      none (x ∷ xs) m = m
+  pub pass_begins : (notes : List Note) → length notes ≡ length g.made → AreNotedIn g h start notes []
+  pass_begins notes count = record { count = count; each = λ e m. absurd m }
 
   module _ (order : List ℕ) (is : IsOrder g order) where
     once : Once order

@@ -1,7 +1,7 @@
 -- The links that stand, and from where they come.
 use Rattle.std.proofs.Common.{◌≡◌, ◌⊎◌, ◌<◌, ◌≤◌, ◌||◌, ℕ, zero, suc, Bool, true, false, if◌then◌else◌, eqb, List, [], ◌∷◌, Option, None, Some, get_or, length, take, refl, sym, ap, ◌∙◌, subst, inl, inr, arith}
 use Rattle.std.specs.Prelude.{slice_get}
-use Rattle.std.specs.Option.{option_map_or}
+use Rattle.std.specs.Option.{option_map, option_map_or}
 use Rattle.std.proofs.lemmas.Bool.{false≢true, true≢false}
 use Rattle.std.proofs.lemmas.Bool.Decides.{eqb_tells}
 use Rattle.std.proofs.lemmas.List.{get_or_past}
@@ -36,8 +36,7 @@ use Rattle.edit_model.specs.Refused.{first_giver, has_lanes, is_head}
 use Rattle.edit_model.proofs.Keeping.{below_or_not}
 use Rattle.edit_model.proofs.LinksStanding.{links_stay_exact}
 use Rattle.edit_whole.specs.Whole.{AreMade, ComesFrom}
-use Rattle.edit_feeds.specs.Feeds.{IsTheLink}
-use Rattle.edit_feeds.specs.Notes.{AreApart}
+use Rattle.edit_feeds.specs.Feeds.{IsTheLink, TheLinkStands}
 use Rattle.edit_feeds.proofs.Lists.{no_some, told}
 
 -- ---- lists of links
@@ -63,18 +62,6 @@ back_from (link ∷ links) source sink single e = go (same_or_other link.source 
         absurd (true≢false (sym (itself link.sink) ∙ ap (is_same link.sink) (some_same (rw t.0 at e)) ∙ u))
     go (inr t) (inl u) e rest = absurd (no_some (sym (rest (rw t at e)) ∙ ap (source_before links) (sym u.1) ∙ single.1))
     go (inr t) (inr u) e rest = rw u (rest (rw t at e))
-
--- a source pad that is linked has a link
-some_behind : (links : List PadLink) (source sink : PadPlace) → source_before links sink ≡ Some source → (other : PadPlace) × (sink_behind links source ≡ Some other)
-some_behind [] source sink e = absurd (no_some (sym e))
-some_behind (link ∷ links) source sink e = go (same_or_other link.source source) (is_same link.sink sink) e (some_behind links source sink)
-  where
-    go : ((is_same link.source source ≡ true) × (link.source ≡ source)) ⊎ (is_same link.source source ≡ false) → (b : Bool) → (if b then Some link.source else source_before links sink) ≡ Some source
-        → (source_before links sink ≡ Some source → (other : PadPlace) × (sink_behind links source ≡ Some other))
-        → (other : PadPlace) × ((if is_same link.source source then Some link.sink else sink_behind links source) ≡ Some other)
-    go (inl t) b e rest = (link.sink, rw t.0 refl)
-    go (inr t) true e rest = absurd (true≢false (sym (itself source) ∙ ap (λ (place : PadPlace). is_same place source) (sym (some_same e)) ∙ t))
-    go (inr t) false e rest = let r = rest e in (r.0, rw t r.1)
 
 -- ---- spans
 
@@ -132,6 +119,27 @@ no_sinks : (o : Option Made) → option_map_or (λ (m : Made). is_source m.setti
 no_sinks None is = absurd (false≢true is)
 no_sinks (Some m) is = source_no_sink m.settings is
 
+-- what is asked of an element, by its settings
+pub has_at : (asked : Settings → Bool) (made : List Made) (e : ℕ) (s : Settings) → option_map (λ (m : Made). m.settings) (slice_get made e) ≡ Some s → has asked made e ≡ asked s
+has_at asked made e s at = go (slice_get made e) at
+  where
+    go : (o : Option Made) → option_map (λ (m : Made). m.settings) o ≡ Some s → option_map_or (λ (m : Made). asked m.settings) o false ≡ asked s
+    go None at = absurd (no_some (sym at))
+    go (Some m) at = ap asked (some_same at)
+
+pub lanes_at : (g : Edited) (e : ℕ) (s : Settings) → option_map (λ (m : Made). m.settings) (slice_get g.made e) ≡ Some s → has_lanes g e ≡ (is_queue s || makes_sinks s)
+lanes_at g e s at = ap (λ (b : Bool). b || has makes_sinks g.made e) (has_at is_queue g.made e s at) ∙ ap (λ (b : Bool). is_queue s || b) (has_at makes_sinks g.made e s at)
+
+-- a head is there
+pub head_there : (g : Edited) (e : ℕ) → is_head g e ≡ true → e < length g.made
+head_there g e is = go (slice_get g.made e) refl is
+  where
+    go : (o : Option Made) → slice_get g.made e ≡ o
+        → (option_map_or (λ (m : Made). is_source m.settings) o false || (option_map_or (λ (m : Made). is_queue m.settings) o false || option_map_or (λ (m : Made). makes_sinks m.settings) o false)) ≡ true
+        → e < length g.made
+    go None at is = absurd (false≢true is)
+    go (Some m) at is = slice_get_within g.made e m at
+
 -- ---- the links of an edited graph
 
 module _ (g : Edited) (stand : LinksStand g) where
@@ -156,11 +164,6 @@ module _ (g : Edited) (stand : LinksStand g) where
 
   pub found_back : (source sink : PadPlace) → sink_behind g.links source ≡ Some sink → source_before g.links sink ≡ Some source
   found_back source sink e = back_from g.links source sink stand.single e
-
-  pub found_behind : AreApart g → (source sink : PadPlace) → source_before g.links sink ≡ Some source → sink_behind g.links source ≡ Some sink
-  found_behind apart source sink e =
-      let one = some_behind g.links source sink e in
-      one.1 ∙ ap Some (apart source one.0 sink (found_back source one.0 one.1) e)
 
   pub few_at : (source sink : PadPlace) → source_before g.links sink ≡ Some source → source.pad < most_pads
   few_at source sink e = few_of g.links sink source stand.single e
@@ -200,12 +203,15 @@ module _ (g : Edited) (stand : LinksStand g) where
         let pads = pads_at_link g.made g.ever made.pads came.0 came.1 in
         subst (λ (d : ℕ). d < length g.made) came.3 (element_there g.made Source came.0.source.element came.0.source.pad pads.0)
 
--- ---- the link of a source pad that is apart
+-- ---- where the link of a source pad stands
 
-pub the_link : (h : ℕ → List Item) (g : Edited) (source sink : PadPlace) → IsKept h g → LinksStand g → AreApart g → source_before g.links sink ≡ Some source → IsTheLink g source sink
-the_link h g source sink kept stand apart e = record {
+pub the_link : TheLinkStands
+the_link h g source sink kept stand ends e = record {
   there = stand.stands source sink e;
-  only = λ other is. apart source other sink ((links_stay_exact.exact h g kept stand other).back source (few_at g stand source sink e) is) e;
+  only = λ other is.
+      some_same
+      (sym (ends.back source other ((links_stay_exact.exact h g kept stand other).back source (few_at g stand source sink e) is))
+      ∙ ends.back source sink e);
 }
 
 -- ---- the order of the elements

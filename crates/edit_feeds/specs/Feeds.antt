@@ -5,10 +5,12 @@ use Rattle.flow_model.specs.Link.{Span, Linked, WasLinked, Flushed, Given}
 use Rattle.flow_model.specs.Sticky.{stickies}
 use Rattle.gst_item.specs.Item.{has_item}
 use Rattle.graph_core.specs.GraphPlan.{pad_id, sink_at}
+use Rattle.graph_pads.specs.Links.{source_before}
 use Rattle.graph_pads.specs.declared.pad.PadPlace.{PadPlace}
 use Rattle.net_model.specs.Standing.{links_from}
 use Rattle.edit_model.specs.Edited.{Edited, spans_at, without_element}
-use Rattle.edit_model.specs.Growing.{AreWithin, GrowsTo, IsKept}
+use Rattle.edit_model.specs.Ended.{EndsOpen}
+use Rattle.edit_model.specs.Growing.{GrowsTo, IsKept, LinksStand}
 use Rattle.edit_model.specs.Refused.{first_giver, first_of}
 use Rattle.edit_feeds.specs.declared.feeds.Feed.{Feed}
 use Rattle.edit_feeds.specs.declared.feeds.Feeds.{Feeds}
@@ -63,3 +65,7 @@ pub record IsTheLink (g : Edited) (source sink : PadPlace) : Type 0 where
 pub record FeedsStay : Type 0 where
   pub grows : (h owed h' owed' : ℕ → List Item) (g : Edited) (feeds : Feeds) → GrowsTo h owed h' owed' → IsKept h g → AreFeeds feeds g h → AreFeeds feeds g h'
   pub removed : (h : ℕ → List Item) (g : Edited) (feeds : Feeds) (e : ℕ) → AreFeeds feeds g h → AreFeeds feeds (without_element e g) h
+
+-- The link of a source pad that the graph has is the one that stands.
+abbrev pub TheLinkStands : Type 0
+TheLinkStands = (h : ℕ → List Item) (g : Edited) (source sink : PadPlace) → IsKept h g → LinksStand g → EndsOpen h g → source_before g.links sink ≡ Some source → IsTheLink g source sink

@@ -20,6 +20,7 @@ use Rattle.graph_pads.specs.declared.pad.PadPlace.{PadPlace}
 use Rattle.gst_value.specs.declared.name.PadName.{PadName}
 use Rattle.edit_core.specs.Judging.{AreFresh}
 use Rattle.edit_model.specs.Edited.{Edited}
+use Rattle.edit_model.specs.Ended.{EndsOpen}
 use Rattle.edit_model.specs.Growing.{IsKept, LinksStand}
 use Rattle.edit_model.specs.Names.{pad_named}
 use Rattle.edit_model.specs.Refused.{HasFeeder, HasHead, IsReached, first_of}
@@ -29,10 +30,6 @@ use Rattle.edit_feeds.specs.declared.feeds.Feeds.{Feeds}
 use Rattle.edit_feeds.specs.declared.notes.Note.{Note}
 
 -- ---- what the links that stand are like
-
--- a source pad has one link at the most
-abbrev pub AreApart : Edited → Type 0
-AreApart g = (source sink other : PadPlace) → source_before g.links sink ≡ Some source → source_before g.links other ≡ Some source → sink ≡ other
 
 -- the source pad of each link has a name by which it is found
 abbrev pub AreNamed : Edited → Type 0
@@ -48,7 +45,7 @@ pub record IsCurrent {S E I O L : Type 0} {s : sources.Ghosts S} {e : elements.G
   pub kept : IsKept m.history g
   pub stand : LinksStand g
   pub made : AreMade g
-  pub apart : AreApart g
+  pub ends : EndsOpen m.history g
   pub named : AreNamed g
 
 -- ---- notes

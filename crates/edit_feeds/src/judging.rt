@@ -19,7 +19,12 @@ use net_task::Task;
 use std::alloc::Global;
 
 /// Whether an element that would come into the task of a source pad, were that linked to a sink pad, has had an item from another task.
-pub fn is_fed_elsewhere<S: TaskSource, E: TaskElement, I: Inlet<Out = O>, O: Outlet<Lanes = I::Lanes>>(
+pub fn is_fed_elsewhere<
+    S: TaskSource,
+    E: TaskElement,
+    I: Inlet<Out = O>,
+    O: Outlet<Lanes = I::Lanes>,
+>(
     alloc: Global,
     graph: &EditedGraph,
     feeds: &Feeds,

@@ -1,7 +1,7 @@
 //! Which element was fed first by which, and whether a link would bring elements together that different tasks have fed.
 #![tactic(auto)]
 
-ghost use Rattle.edit_feeds.specs.Feeds.{FeedsStay};
+ghost use Rattle.edit_feeds.specs.Feeds.{FeedsStay, TheLinkStands};
 
 mod feeds;
 mod judging;
@@ -14,4 +14,10 @@ pub use judging::is_fed_elsewhere;
 #[tactic(auto, using(crate::proofs::Staying::feeds_stay))]
 pub fn feeds_stay()
     ensures { FeedsStay }
+{}
+
+/// The link of a source pad that the graph has stands at its sink pad, and at no other.
+#[tactic(auto, using(crate::proofs::Standing::the_link))]
+pub fn the_link_stands()
+    ensures { TheLinkStands }
 {}

@@ -89,7 +89,12 @@ pub(crate) fn note_of(notes: &[Note], element: u32) -> Note
 }
 
 /// What is found of all elements in one pass along their links; it begins where an element would be linked.
-pub(crate) fn note_all<S: TaskSource, E: TaskElement, I: Inlet<Out = O>, O: Outlet<Lanes = I::Lanes>>(
+pub(crate) fn note_all<
+    S: TaskSource,
+    E: TaskElement,
+    I: Inlet<Out = O>,
+    O: Outlet<Lanes = I::Lanes>,
+>(
     alloc: Global,
     graph: &EditedGraph,
     feeds: &Feeds,
