@@ -1,6 +1,5 @@
 -- Whether elements were fed elsewhere, by the notes of all.
-use Rattle.std.proofs.Common.{◌≡◌, ◌↔◌, ◌⊎◌, ◌<◌, ◌&&◌, ◌||◌, ◌==◌, ℕ, zero, suc, Bool, true, false, eqb, not, List, [], ◌∷◌, Option, None, Some, get_or, length, refl, sym, ap, ◌∙◌, subst, inl, inr, arith}
-use Rattle.std.specs.Prelude.{slice_get}
+use Rattle.std.proofs.Common.{◌≡◌, ◌↔◌, ◌⊎◌, ◌<◌, ◌&&◌, ◌||◌, ◌==◌, ℕ, zero, suc, Bool, true, false, eqb, not, List, [], ◌∷◌, Option, None, Some, length, refl, sym, ap, ◌∙◌, inl, inr, arith}
 use Rattle.std.specs.List.{list_any}
 use Rattle.std.specs.Option.{option_map_or}
 use Rattle.std.proofs.lemmas.Bool.{false≢true, true≢false}
@@ -12,7 +11,7 @@ use Rattle.graph_pads.specs.declared.pad.PadPlace.{PadPlace}
 use Rattle.gst_value.proofs.Basics.{and_left, and_right, number_itself, some_same}
 use Rattle.edit_model.specs.Edited.{Edited, spans_at}
 use Rattle.edit_model.specs.Growing.{LinksStand}
-use Rattle.edit_model.specs.Refused.{FeedsTask, HasFeeder, HasHead, IsFedElsewhere, IsLoose, first_giver, first_of, is_head}
+use Rattle.edit_model.specs.Refused.{FeedsTask, HasFeeder, IsFedElsewhere, first_giver, first_of, is_head}
 use Rattle.edit_feeds.specs.Notes.{AreNoted, IsNoted, is_foreign, no_note, note_of, task_feeder}
 use Rattle.edit_feeds.specs.declared.notes.Note.{Note}
 use Rattle.edit_feeds.proofs.Lists.{no_some, told}

@@ -7,3 +7,4 @@ mod Noting
 mod Givers
 mod Passing
 mod Elsewhere
+mod Named

@@ -1,5 +1,5 @@
 -- Lists of which one member is another.
-use Rattle.std.proofs.Common.{◌≡◌, ◌⊎◌, ◌<◌, ◌++◌, ℕ, zero, suc, Bool, true, false, if◌then◌else◌, List, [], ◌∷◌, Option, None, Some, length, refl, sym, ap, ◌∙◌, inl, inr, arith}
+use Rattle.std.proofs.Common.{◌≡◌, ◌⊎◌, ◌<◌, ◌++◌, ℕ, zero, suc, Bool, true, false, List, [], ◌∷◌, None, Some, length, refl, ap, inl, inr, arith}
 use Rattle.std.specs.Prelude.{slice_get, slice_set}
 
 pub told : (b : Bool) → (b ≡ true) ⊎ (b ≡ false)

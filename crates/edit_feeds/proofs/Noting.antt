@@ -1,5 +1,5 @@
 -- What is found of an element, by what was found of those from which links ever led to it.
-use Rattle.std.proofs.Common.{◌≡◌, ◌↔◌, ◌⊎◌, ◌<◌, ◌||◌, ◌==◌, ℕ, Bool, true, false, eqb, List, Option, None, Some, refl, sym, ap, ◌∙◌, subst, inl, inr}
+use Rattle.std.proofs.Common.{◌≡◌, ◌↔◌, ◌⊎◌, ◌||◌, ◌==◌, ℕ, Bool, true, false, eqb, List, Option, None, Some, refl, sym, ap, ◌∙◌, subst, inl, inr}
 use Rattle.std.specs.Prelude.{option_and_then}
 use Rattle.std.specs.Option.{option_map_or}
 use Rattle.std.proofs.lemmas.Bool.{false≢true, true≢false}
@@ -17,7 +17,7 @@ use Rattle.edit_model.specs.Refused.{HasFeeder, HasHead, IsReached, first_giver,
 use Rattle.edit_whole.specs.Whole.{AreMade}
 use Rattle.edit_feeds.specs.Notes.{AreNotedBefore, IsNoted, head_note, note_of, plain_note}
 use Rattle.edit_feeds.specs.declared.notes.Note.{Note}
-use Rattle.edit_feeds.proofs.Lists.{no_some, told}
+use Rattle.edit_feeds.proofs.Lists.{no_some}
 use Rattle.edit_feeds.proofs.Standing.{came_given, came_linked, first_pad, found_back, no_source_pad}
 
 -- ---- the ways to a head, to a feeder and to an element that is reached

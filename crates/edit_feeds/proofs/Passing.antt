@@ -1,12 +1,10 @@
 -- One pass along an order of the elements.
-use Rattle.std.proofs.Common.{◌≡◌, ◌⊎◌, ◌<◌, ◌≤◌, ℕ, suc, true, false, eqb, List, [], ◌∷◌, Some, get_or, length, replicate, take, refl, sym, ap, ◌∙◌, subst, inl, inr, arith}
+use Rattle.std.proofs.Common.{◌≡◌, ◌⊎◌, ◌<◌, ◌≤◌, ℕ, suc, true, false, eqb, List, [], Some, length, take, sym, ap, ◌∙◌, subst, inl, inr, arith}
 use Rattle.std.specs.Prelude.{slice_get, slice_set}
 use Rattle.std.proofs.Math.Seq.{take-length}
 use Rattle.std.proofs.lemmas.Bool.Decides.{eqb_tells}
-use Rattle.std.proofs.lemmas.List.{get_or-set_other, get_or-set_same, length-replicate, length-set}
+use Rattle.std.proofs.lemmas.List.{get_or-set_other, get_or-set_same, length-set}
 use Rattle.flow_model.specs.Item.{Item}
-use Rattle.graph_pads.specs.declared.pad.PadLink.{PadLink}
-use Rattle.graph_core.specs.GraphPlan.{IsIn}
 use Rattle.graph_order.specs.Forward.{IsMember, StandsBefore}
 use Rattle.graph_order.proofs.Once.{Once, once_by, within}
 use Rattle.edit_model.specs.Edited.{Edited}

@@ -1,10 +1,10 @@
 -- What the spans of one sink pad say of its first giver.
-use Rattle.std.proofs.Common.{◌≡◌, ◌⊎◌, ℕ, zero, suc, ◌-◌, ◌<◌, ◌≤◌, ◌||◌, Bool, true, false, if◌then◌else◌, eqb, List, [], ◌∷◌, ◌++◌, Option, None, Some, length, map, take, drop, refl, sym, ap, ◌∙◌, subst, append_assoc, append-nil, length-drop, inl, inr, arith}
+use Rattle.std.proofs.Common.{◌≡◌, ◌⊎◌, ℕ, zero, suc, ◌<◌, ◌≤◌, ◌||◌, Bool, true, false, if◌then◌else◌, eqb, List, [], ◌∷◌, ◌++◌, None, Some, length, map, take, drop, refl, sym, ap, ◌∙◌, length-drop, inl, inr, arith}
 use Rattle.std.specs.Prelude.{nat_lt}
 use Rattle.std.proofs.Math.Seq.{take-length}
 use Rattle.std.proofs.lemmas.Bool.{false≢true, ltb-false, ltb-true, true≢false}
 use Rattle.std.proofs.lemmas.Bool.Decides.{eqb_tells}
-use Rattle.flow_model.specs.Item.{Item, Ev, Eos, FlushStop}
+use Rattle.flow_model.specs.Item.{Item, Ev, Eos}
 use Rattle.flow_model.specs.Call.{Call, Feed as Fed, Act, Mark, feeds, items, marks_at, with_marks}
 use Rattle.flow_model.specs.Link.{Span, Linked, WasLinked, Flushed, Given, between, span_calls}
 use Rattle.flow_model.specs.Sticky.{stickies}
@@ -13,7 +13,7 @@ use Rattle.gst_item.specs.Item.{has_item}
 use Rattle.net_model.specs.Edit.{undo}
 use Rattle.net_model.specs.Standing.{is_linked, links_from}
 use Rattle.edit_model.specs.Growing.{AreWithin}
-use Rattle.edit_model.specs.Refused.{first_giver, first_of, giver_from}
+use Rattle.edit_model.specs.Refused.{first_giver}
 use Rattle.edit_feeds.proofs.Lists.{told}
 use Rattle.edit_feeds.specs.Feeds.{IsBegun, closed, given_by}
 

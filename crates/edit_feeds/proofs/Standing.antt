@@ -29,15 +29,15 @@ use Rattle.gst_value.proofs.Basics.{some_same}
 use Rattle.graph_core.specs.Links.{ways}
 use Rattle.graph_order.specs.Forward.{GoForward, IsMember, StandsBefore}
 use Rattle.graph_order.proofs.Once.{Once, behind_member}
-use Rattle.net_model.specs.Standing.{is_linked, links_from}
+use Rattle.net_model.specs.Standing.{links_from}
 use Rattle.edit_model.specs.Edited.{Edited, spans_at}
-use Rattle.edit_model.specs.Growing.{AreSingle, IsKept, LinksStand}
+use Rattle.edit_model.specs.Growing.{AreSingle, LinksStand}
 use Rattle.edit_model.specs.Refused.{first_giver, has_lanes, is_head}
 use Rattle.edit_model.proofs.Keeping.{below_or_not}
 use Rattle.edit_model.proofs.LinksStanding.{links_stay_exact}
 use Rattle.edit_whole.specs.Whole.{AreMade, ComesFrom}
-use Rattle.edit_feeds.specs.Feeds.{IsTheLink, TheLinkStands}
-use Rattle.edit_feeds.proofs.Lists.{no_some, told}
+use Rattle.edit_feeds.specs.Feeds.{TheLinkStands}
+use Rattle.edit_feeds.proofs.Lists.{no_some}
 
 -- ---- lists of links
 

@@ -1,5 +1,5 @@
 -- What is kept of the feeders stays so while more crosses.
-use Rattle.std.proofs.Common.{◌≡◌, ℕ, ◌≤◌, ◌||◌, Bool, true, false, if◌then◌else◌, List, [], ◌∷◌, ◌++◌, Option, None, Some, length, take, refl, sym, ap, ◌∙◌, append-nil}
+use Rattle.std.proofs.Common.{◌≡◌, ℕ, Bool, if◌then◌else◌, List, [], ◌∷◌, Option, Some, refl, sym, ap, ◌∙◌, append-nil}
 use Rattle.flow_model.specs.Item.{Item}
 use Rattle.flow_model.specs.Call.{Call, items}
 use Rattle.flow_model.specs.Link.{Span, Linked, WasLinked, Flushed, Given, span_calls}
@@ -8,13 +8,11 @@ use Rattle.flow_model.specs.Sticky.{stickies}
 use Rattle.flow_model.proofs.Prefixes.{take_prefix}
 use Rattle.gst_item.specs.Item.{has_item}
 use Rattle.graph_core.specs.GraphPlan.{sink_at}
-use Rattle.edit_model.specs.Edited.{Edited, spans_at}
-use Rattle.edit_model.specs.Growing.{AreWithin, GrowsTo, IsKept}
+use Rattle.edit_model.specs.Edited.{spans_at}
+use Rattle.edit_model.specs.Growing.{AreWithin}
 use Rattle.edit_model.specs.Refused.{first_giver}
 use Rattle.edit_model.proofs.Grown.{unlinked_same}
-use Rattle.edit_feeds.specs.Feeds.{AreFeeds, FeedsStay, IsBegun, IsFeed, closed}
-use Rattle.edit_feeds.specs.declared.feeds.Feed.{Feed}
-use Rattle.edit_feeds.specs.declared.feeds.Feeds.{Feeds}
+use Rattle.edit_feeds.specs.Feeds.{FeedsStay, IsBegun, closed}
 
 module _ (h h' : ℕ → List Item) (longer : (p : ℕ) → IsPrefix (h p) (h' p)) where
   -- a link that was undone gives what it gave

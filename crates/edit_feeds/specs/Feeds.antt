@@ -1,5 +1,5 @@
 -- What control keeps of what each element was given, and for which edited graph and histories it stands.
-use Rattle.std.specs.Prelude.{◌≡◌, ◌||◌, ◌<◌, ℕ, Bool, nat_lt, true, List, [], ◌∷◌, Option, None, Some, if◌then◌else◌, length, slice_get, take}
+use Rattle.std.specs.Prelude.{◌≡◌, ◌||◌, ℕ, Bool, nat_lt, true, List, [], ◌∷◌, Option, None, Some, if◌then◌else◌, length, slice_get, take}
 use Rattle.flow_model.specs.Item.{Item}
 use Rattle.flow_model.specs.Link.{Span, Linked, WasLinked, Flushed, Given}
 use Rattle.flow_model.specs.Sticky.{stickies}

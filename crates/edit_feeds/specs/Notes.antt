@@ -1,5 +1,5 @@
 -- What one pass along the links finds of each element, and what it rests on.
-use Rattle.std.specs.Prelude.{◌≡◌, ◌↔◌, ◌<◌, ◌&&◌, ◌||◌, ◌==◌, ℕ, Bool, true, false, not, List, Option, None, Some, get_or, length, option_and_then}
+use Rattle.std.specs.Prelude.{◌≡◌, ◌↔◌, ◌<◌, ◌&&◌, ◌||◌, ◌==◌, ℕ, Bool, true, false, not, All, List, Option, None, Some, get_or, length, option_and_then, slice_get}
 use Rattle.std.specs.Option.{option_map_or}
 use Rattle.flow_model.specs.Item.{Item}
 use Rattle.lane_core.specs.Lane.{Lane}
@@ -10,7 +10,9 @@ use Rattle.net_model.specs.declared.element.TaskElement as elements
 use Rattle.net_model.specs.declared.source.TaskSource as sources
 use Rattle.net_task.specs.declared.task.Task.{Task}
 use Rattle.net_turns.specs.Net.{NetStands}
+use Rattle.graph_core.specs.Elements.{Made}
 use Rattle.graph_core.specs.GraphPlan.{IsIn, owner_of}
+use Rattle.graph_core.specs.Links.{HasPads}
 use Rattle.graph_edits.specs.Graph.{IsEdited}
 use Rattle.graph_edits.specs.declared.graph.EditedGraph.{EditedGraph}
 use Rattle.graph_pads.specs.Links.{source_before}
@@ -18,10 +20,13 @@ use Rattle.graph_pads.specs.declared.pad.Direction.TheVariants.{Source}
 use Rattle.graph_pads.specs.declared.pad.PadLink.{PadLink}
 use Rattle.graph_pads.specs.declared.pad.PadPlace.{PadPlace}
 use Rattle.gst_value.specs.declared.name.PadName.{PadName}
+use Rattle.run_report.specs.declared.report.Answer.{Answer}
+use Rattle.script_text.specs.declared.command.Command.{Command}
 use Rattle.edit_core.specs.Judging.{AreFresh}
-use Rattle.edit_model.specs.Edited.{Edited}
+use Rattle.edit_model.specs.Edited.{Edited, unedited}
 use Rattle.edit_model.specs.Ended.{EndsOpen}
 use Rattle.edit_model.specs.Growing.{IsKept, LinksStand}
+use Rattle.edit_model.specs.Lawful.{IsAnswered}
 use Rattle.edit_model.specs.Names.{pad_named}
 use Rattle.edit_model.specs.Refused.{HasFeeder, HasHead, IsReached, first_of}
 use Rattle.edit_whole.specs.Whole.{AreMade}
@@ -91,3 +96,14 @@ task_feeder note = first_of note.head note.feeder
 -- an element that is reached has another feeder
 abbrev pub is_foreign : ℕ → Note → Bool
 is_foreign own note = note.is_reached && option_map_or (λ feeder. not (feeder == own)) note.feeder false
+
+-- ---- laws
+
+-- no two elements have one name
+abbrev pub AreDistinct : List Made → Type 0
+AreDistinct made = (j k : ℕ) (one other : Made) → slice_get made j ≡ Some one → slice_get made k ≡ Some other → one.name ≡ other.name → j ≡ k
+
+-- The source pads of links have names from the start, where no two elements have one, and behind each answer.
+pub record StaysNamed : Type 0 where
+  pub begins : (made : List Made) (links : List PadLink) → AreDistinct made → All (HasPads made) links → AreNamed (unedited made links)
+  pub answered : (h owed : ℕ → List Item) (g after : Edited) (c : Command) (a : Answer) → IsAnswered g h owed c a after → LinksStand g → AreNamed g → AreNamed after

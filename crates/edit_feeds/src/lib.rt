@@ -2,6 +2,7 @@
 #![tactic(auto)]
 
 ghost use Rattle.edit_feeds.specs.Feeds.{FeedsStay, TheLinkStands};
+ghost use Rattle.edit_feeds.specs.Notes.{StaysNamed};
 
 mod feeds;
 mod judging;
@@ -20,4 +21,10 @@ pub fn feeds_stay()
 #[tactic(auto, using(crate::proofs::Standing::the_link))]
 pub fn the_link_stands()
     ensures { TheLinkStands }
+{}
+
+/// The source pad of each link has a name by which it is found, from the start and behind each answer.
+#[tactic(auto, using(crate::proofs::Named::stays_named))]
+pub fn stays_named()
+    ensures { StaysNamed }
 {}

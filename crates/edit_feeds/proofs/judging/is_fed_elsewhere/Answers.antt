@@ -1,11 +1,11 @@
-use Rattle.std.proofs.Common.{◌≡◌, ◌<◌, false, true, List, None, Some, length, sym, ap, ◌∙◌, subst}
+use Rattle.std.proofs.Common.{◌≡◌, ◌<◌, List, None, Some, length, sym, ap, ◌∙◌, subst}
 use Rattle.std.specs.List.{list_any}
 use Rattle.std.proofs.lemmas.Bool.{false≢true}
 use Rattle.graph_core.specs.Elements.{Made}
 use Rattle.graph_edits.proofs.Standing.{element_there}
 use Rattle.graph_edits.specs.Graph.{made}
 use Rattle.graph_pads.specs.declared.pad.Direction.TheVariants.{Source}
-use Rattle.edit_feeds.specs.Notes.{AreNoted, is_foreign, note_of, task_feeder}
+use Rattle.edit_feeds.specs.Notes.{is_foreign, note_of, task_feeder}
 use Rattle.edit_feeds.specs.declared.notes.Note.{Note}
 use Rattle.edit_feeds.proofs.Elsewhere.{fed_by, unfed}
 use Rattle.edit_feeds.proofs.judging.is_fed_elsewhere.Goals as goal

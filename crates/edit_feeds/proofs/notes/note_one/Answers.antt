@@ -1,4 +1,4 @@
-use Rattle.std.proofs.Common.{◌≡◌, true, false, sym, ap, ◌∙◌, subst}
+use Rattle.std.proofs.Common.{◌≡◌, true, false, sym, ◌∙◌, subst}
 use Rattle.el_settings.specs.Asked.{is_source}
 use Rattle.graph_core.specs.Elements.{has}
 use Rattle.edit_model.specs.Refused.{has_lanes}

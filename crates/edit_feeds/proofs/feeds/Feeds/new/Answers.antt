@@ -1,4 +1,4 @@
-use Rattle.std.proofs.Common.{List, ap, ◌∙◌, replicate}
+use Rattle.std.proofs.Common.{ap, ◌∙◌, replicate}
 use Rattle.edit_feeds.specs.declared.feeds.Feed.{Feed}
 use Rattle.edit_feeds.proofs.Changes.{begins}
 use Rattle.edit_feeds.proofs.feeds.Feeds.new.Goals as goal
