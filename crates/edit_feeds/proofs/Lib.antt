@@ -7,4 +7,5 @@ mod Noting
 mod Givers
 mod Passing
 mod Elsewhere
+mod Distinct
 mod Named

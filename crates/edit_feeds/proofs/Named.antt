@@ -21,6 +21,7 @@ use Rattle.el_settings.specs.declared.settings.Settings.TheVariants.{FakeSink, F
 use Rattle.el_settings.proofs.Padded.{few_sources}
 use Rattle.graph_core.specs.Elements.{Made, is_named}
 use Rattle.graph_core.specs.Ends.{pads_at}
+use Rattle.graph_core.specs.Graph.{links as links_in, made as made_in}
 use Rattle.graph_core.specs.Links.{HasPads}
 use Rattle.graph_core.proofs.NumberedPads.{found_in}
 use Rattle.graph_core.proofs.Orders.{pads_at_link}
@@ -41,7 +42,8 @@ use Rattle.edit_model.specs.Names.{element_named, pad_in, pad_named}
 use Rattle.edit_model.proofs.Following.{get_front}
 use Rattle.edit_model.proofs.Keeping.{none_push, some_push}
 use Rattle.edit_model.proofs.LinksStanding.{rest_other}
-use Rattle.edit_feeds.specs.Notes.{AreDistinct, AreNamed, StaysNamed}
+use Rattle.edit_feeds.specs.Notes.{AreNamed, StaysNamed}
+use Rattle.edit_feeds.proofs.Distinct.{AreDistinct, line_distinct}
 use Rattle.edit_feeds.proofs.Lists.{no_some, told}
 
 -- an element of which links make no source pads has one at the most
@@ -293,4 +295,4 @@ answered_named h owed g after c a (IsAnswered.nameless one none) stand named = n
 answered_named h owed g after c a (IsAnswered.refused when act p place reason there reaches is) stand named = named
 
 pub stays_named : StaysNamed
-stays_named = record { begins = begins_named; answered = answered_named }
+stays_named = record { begins = λ tree graph is sound. begins_named (made_in graph) (links_in graph) (line_distinct tree graph is) sound.pads; answered = answered_named }

@@ -1,7 +1,8 @@
 -- What one pass along the links finds of each element, and what it rests on.
-use Rattle.std.specs.Prelude.{◌≡◌, ◌↔◌, ◌<◌, ◌&&◌, ◌||◌, ◌==◌, ℕ, Bool, true, false, not, All, List, Option, None, Some, get_or, length, option_and_then, slice_get}
+use Rattle.std.specs.Prelude.{◌≡◌, ◌↔◌, ◌<◌, ◌&&◌, ◌||◌, ◌==◌, ℕ, Bool, true, false, not, List, Option, None, Some, get_or, length, option_and_then}
 use Rattle.std.specs.Option.{option_map_or}
 use Rattle.flow_model.specs.Item.{Item}
+use Rattle.launch_text.specs.declared.tree.Tree.{Tree}
 use Rattle.lane_core.specs.Lane.{Lane}
 use Rattle.lane_core.specs.declared.ends.Inlet as inlets
 use Rattle.lane_core.specs.declared.ends.Outlet as outlets
@@ -10,9 +11,9 @@ use Rattle.net_model.specs.declared.element.TaskElement as elements
 use Rattle.net_model.specs.declared.source.TaskSource as sources
 use Rattle.net_task.specs.declared.task.Task.{Task}
 use Rattle.net_turns.specs.Net.{NetStands}
-use Rattle.graph_core.specs.Elements.{Made}
+use Rattle.graph_core.specs.Graph.{IsGraph, IsSound, links as links_in, made as made_in}
 use Rattle.graph_core.specs.GraphPlan.{IsIn, owner_of}
-use Rattle.graph_core.specs.Links.{HasPads}
+use Rattle.graph_core.specs.declared.graph.Graph.{Graph}
 use Rattle.graph_edits.specs.Graph.{IsEdited}
 use Rattle.graph_edits.specs.declared.graph.EditedGraph.{EditedGraph}
 use Rattle.graph_pads.specs.Links.{source_before}
@@ -99,11 +100,7 @@ is_foreign own note = note.is_reached && option_map_or (λ feeder. not (feeder =
 
 -- ---- laws
 
--- no two elements have one name
-abbrev pub AreDistinct : List Made → Type 0
-AreDistinct made = (j k : ℕ) (one other : Made) → slice_get made j ≡ Some one → slice_get made k ≡ Some other → one.name ≡ other.name → j ≡ k
-
--- The source pads of links have names from the start, where no two elements have one, and behind each answer.
+-- The source pads of links have names from the start, in the graph of a launch line, and behind each answer.
 pub record StaysNamed : Type 0 where
-  pub begins : (made : List Made) (links : List PadLink) → AreDistinct made → All (HasPads made) links → AreNamed (unedited made links)
+  pub begins : (tree : Tree) (graph : Graph) → IsGraph tree graph → IsSound graph → AreNamed (unedited (made_in graph) (links_in graph))
   pub answered : (h owed : ℕ → List Item) (g after : Edited) (c : Command) (a : Answer) → IsAnswered g h owed c a after → LinksStand g → AreNamed g → AreNamed after
