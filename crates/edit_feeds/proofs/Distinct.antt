@@ -1,7 +1,6 @@
 -- The elements of a launch line have names of their own.
-use Rattle.std.proofs.Common.{◌≡◌, ◌⊎◌, ◌<◌, ◌++◌, ℕ, zero, suc, true, false, List, [], ◌∷◌, Some, Ok, Err, Result, length, map, bytes_eq, refl, sym, ap, ◌∙◌, subst, inl, inr}
+use Rattle.std.proofs.Common.{◌≡◌, ◌⊎◌, ◌++◌, ℕ, zero, suc, true, false, List, [], ◌∷◌, Some, Ok, Err, Result, length, bytes_eq, sym, ap, ◌∙◌, subst, inl, inr}
 use Rattle.std.specs.Prelude.{◌||◌, Bool, slice_get}
-use Rattle.std.specs.List.{list_any}
 use Rattle.std.proofs.lemmas.Bool.{true≢false}
 use Rattle.std.proofs.lemmas.Slice.Eq.{bytes_eq-Decides}
 use Rattle.gst_value.proofs.Basics.{some_same}
@@ -11,7 +10,7 @@ use Rattle.el_settings.specs.Asked.{no_pads}
 use Rattle.graph_core.specs.Allowed.{all_allowed, checked, with_caps, with_made_pads}
 use Rattle.graph_core.specs.Asked.{Declared}
 use Rattle.graph_core.specs.Comes.{Comes}
-use Rattle.graph_core.specs.Elements.{ElementsCome, IsMade, IsUnmade, Made, is_name_taken, is_named, name_of}
+use Rattle.graph_core.specs.Elements.{ElementsCome, Made, is_name_taken}
 use Rattle.graph_core.specs.Graph.{IsGraph, made as made_in}
 use Rattle.graph_core.specs.declared.fault.BuildFault.{BuildFault}
 use Rattle.graph_core.specs.declared.graph.Graph.{Graph}

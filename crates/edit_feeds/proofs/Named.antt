@@ -1,5 +1,5 @@
 -- The source pads of links have names by which they are found, from the start and behind each answer.
-use Rattle.std.proofs.Common.{◌≡◌, ◌⊎◌, ◌<◌, ◌≤◌, ◌++◌, ◌||◌, ℕ, zero, suc, Bool, true, false, if◌then◌else◌, eqb, All, List, [], ◌∷◌, Option, None, Some, cond, drop, get_or, length, nat_lt, position, bytes_eq, codes, refl, sym, ap, ◌∙◌, subst, inl, inr, arith}
+use Rattle.std.proofs.Common.{◌≡◌, ◌⊎◌, ◌<◌, ◌≤◌, ◌++◌, ◌||◌, ℕ, Bool, true, false, if◌then◌else◌, eqb, All, List, [], ◌∷◌, Option, None, Some, cond, drop, get_or, length, nat_lt, position, bytes_eq, codes, refl, sym, ap, ◌∙◌, subst, inl, inr, arith}
 use Rattle.std.specs.Prelude.{◌==◌, option_and_then, slice_get}
 use Rattle.std.specs.Fmt.{decimal}
 use Rattle.std.specs.List.{list_any, position_or_len, range_with_len}
@@ -35,10 +35,10 @@ use Rattle.run_report.specs.declared.report.Answer.{Answer}
 use Rattle.script_text.specs.declared.command.Act.{Act}
 use Rattle.script_text.specs.declared.command.Command.{Command}
 use Rattle.script_text.specs.declared.command.When.{When}
-use Rattle.edit_model.specs.Edited.{Edited, added, is_there, link_between, linked_at, relinked_at, touches, unedited, unlinked_at, without, without_element}
+use Rattle.edit_model.specs.Edited.{Edited, added, is_there, link_between, relinked_at, touches, unedited, without, without_element}
 use Rattle.edit_model.specs.Growing.{LinksStand}
-use Rattle.edit_model.specs.Lawful.{IsAnswered, Makes, Reaches, has_link}
-use Rattle.edit_model.specs.Names.{element_named, pad_in, pad_named}
+use Rattle.edit_model.specs.Lawful.{IsAnswered, Makes, Reaches}
+use Rattle.edit_model.specs.Names.{pad_in, pad_named}
 use Rattle.edit_model.proofs.Following.{get_front}
 use Rattle.edit_model.proofs.Keeping.{none_push, some_push}
 use Rattle.edit_model.proofs.LinksStanding.{rest_other}
