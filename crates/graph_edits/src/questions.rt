@@ -16,20 +16,28 @@ use std::alloc::Global;
 const MOST_PADS: u32 = 64;
 
 impl EditedGraph {
-    ghost use Rattle.std.specs.Prelude.{◌<◌, ◌↔◌, true, false, Some, length, slice_get, IfOk, IfSome, IsTrue};
+    ghost use Rattle.std.specs.Prelude.{◌<◌, ◌≤◌, ◌↔◌, true, false, Some, length, slice_get, IfOk, IfSome, IsTrue};
     ghost use Rattle.std.specs.Option.{option_map};
     ghost use Rattle.edit_model.specs.Edited.{Edited, is_active, is_ended, is_there};
     ghost use Rattle.edit_model.specs.Lawful.{has_link};
     ghost use Rattle.edit_model.specs.Names.{element_named};
     ghost use Rattle.edit_model.specs.Plans.{IsOrder};
     ghost use Rattle.edit_model.specs.Refused.{IsTaken, Loops};
-    ghost use Rattle.graph_core.specs.Elements.{Made};
+    ghost use Rattle.graph_core.specs.Elements.{Made, limit};
     ghost use Rattle.graph_core.specs.Ends.{pad_name};
     ghost use Rattle.graph_core.specs.GraphPlan.{pad_id};
     ghost use Rattle.graph_core.specs.Links.{HaveCommon, caps_at};
     ghost use Rattle.graph_edits.specs.Graph.{IsEdited, IsPad, made};
     ghost use Rattle.graph_pads.specs.Links.{sink_behind, source_before};
     ghost use Rattle.graph_pads.specs.Pads.{pad_at};
+
+    /// How many elements ever were.
+    pub fn count(&self) -> u32
+        ensures made { result ≡ length (made self.now) }
+        ensures few { result ≤ limit }
+    {
+        self.elements.count()
+    }
 
     /// Whether an element was made and was not removed.
     pub fn is_there(&self, element: u32) -> bool

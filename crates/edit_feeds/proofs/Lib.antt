@@ -1,0 +1,11 @@
+mod Spans
+mod Lists
+mod Staying
+mod Changes
+mod Standing
+mod Noting
+mod Givers
+mod Passing
+mod Elsewhere
+mod Distinct
+mod Named
