@@ -1,6 +1,7 @@
 mod Spans
 mod Lists
 mod Staying
+mod Refusals
 mod Changes
 mod Standing
 mod Noting

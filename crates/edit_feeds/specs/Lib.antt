@@ -1,2 +1,3 @@
 pub mod Feeds
 pub mod Notes
+pub mod Refusing

@@ -7,9 +7,11 @@ ghost use Rattle.edit_feeds.specs.Notes.{StaysNamed};
 mod feeds;
 mod judging;
 mod notes;
+mod refusing;
 
 pub use feeds::Feeds;
 pub use judging::is_fed_elsewhere;
+pub use refusing::{LinkReason, link_refusal};
 
 /// What is kept of the elements' feeders stays so while more crosses the pads.
 #[tactic(auto, using(crate::proofs::Staying::feeds_stay))]

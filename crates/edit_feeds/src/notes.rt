@@ -206,7 +206,7 @@ fn giver<S: TaskSource, E: TaskElement, I: Inlet<Out = O>, O: Outlet<Lanes = I::
 }
 
 /// The number of a source pad, where an element can have it.
-fn pad_number(graph: &EditedGraph, source: PadPlace) -> Option<u32>
+pub(crate) fn pad_number(graph: &EditedGraph, source: PadPlace) -> Option<u32>
     ensures { source.element < length (made graph.now) → source.pad < most_pads → result ≡ Some (pad_id source) }
 {
     if source.element >= graph.count() {
