@@ -2,6 +2,7 @@ mod Swapped
 mod Alikes
 mod Restands
 mod Acts
+pub mod Counts
 mod Fresh
 mod RowsGrown
 mod TiesGrown

@@ -1,5 +1,5 @@
 //! Acts on the source pads of tasks that lanes join.
-ghost use Rattle.std.specs.Prelude.{◌≡◌, ◌<◌, true, false, None, IfSome, length, vec_len};
+ghost use Rattle.std.specs.Prelude.{◌≡◌, ◌<◌, true, false, None, IfSome, length, vec_len, vec_capacity};
 ghost use Rattle.net_model.specs.Edit.{unlinked};
 ghost use Rattle.net_model.specs.Moment.{Moment};
 ghost use Rattle.net_turns.specs.Net.{NetReady, NetStands};
@@ -47,6 +47,7 @@ pub fn unlink<S: TaskSource, E: TaskElement, I: Inlet<Out = O>, O: Outlet<Lanes 
     ensures ready { (tells : _) → NetReady tasks.old.items tells → NetReady tasks.new.items tells }
     ensures moves { net_left tasks.new.items ≡ net_left tasks.old.items }
     ensures count { length tasks.new.items ≡ length tasks.old.items }
+    ensures room { vec_capacity tasks.new ≡ vec_capacity tasks.old }
 {
     match find_task(tasks.as_slice(), pad) {
         Some(place) => Some(unlink_at(tasks, place, pad)),
@@ -95,7 +96,8 @@ fn unlink_at<S: TaskSource, E: TaskElement, I: Inlet<Out = O>, O: Outlet<Lanes =
     pad: u32,
 ) -> Behind<O>
     requires place { place < vec_len tasks.old }
-    ensures { IsUnlinkedAt tasks.old.items tasks.new.items place pad result }
+    ensures undone { IsUnlinkedAt tasks.old.items tasks.new.items place pad result }
+    ensures room { vec_capacity tasks.new ≡ vec_capacity tasks.old }
 {
     let last = tasks.len() - 1;
     let task = tasks.swap_remove(place);

@@ -7,13 +7,29 @@ use Rattle.net_model.specs.declared.element.TaskElement as elements
 use Rattle.task_parts.specs.declared.part.Part.{Part}
 use Rattle.task_pads.proofs.Lists.{set_there}
 use Rattle.gst_value.proofs.Basics.{some_same}
-use Rattle.net_groups.specs.Behind.{AreParted, none, stays, goes, FlaggedAt, IsBehind, itself, further, IsLed, first, led, IsNext, LeadTo, NoneIsNext, StepsTo, TellBehind, flagged, unflagged, unmarked}
+use Rattle.net_groups.proofs.Lists.{append_back}
+use Rattle.net_groups.specs.Behind.{AreParted, none, stays, goes, FlaggedAt, IsBehind, itself, further, IsLed, first, led, IsNext, LeadTo, NoneIsNext, NoneSet, StepsTo, TellBehind, flagged, unflagged, unmarked}
 
 -- the flag of a place
 pub flag_at : (flags : List Bool) (k : ℕ) (b : Bool) → k < length flags → get_or flags k false ≡ b → slice_get flags k ≡ Some b
 flag_at [] k b within is = absurd (omega (arith, within))
 flag_at (f ∷ fs) zero b within is = ap (λ (x : Bool). Some x) is
 flag_at (f ∷ fs) (suc k) b within is = flag_at fs k b (omega (arith, within)) is
+
+-- no flag is set where there is none, nor where one more comes that is not
+pub none_set : (flags : List Bool) → flags ≡ [] → NoneSet flags
+none_set flags is k at = let same = sym (ap (λ (fs : List Bool). slice_get fs k) is) ∙ at in cc
+
+pub none_set_next : (flags flags' : List Bool) → flags' ≡ flags ++ false ∷ [] → NoneSet flags → NoneSet flags'
+none_set_next flags flags' is unset k at = go (append_back flags (false ∷ []) k true (ap (λ (fs : List Bool). slice_get fs k) (sym is) ∙ at))
+  where
+    last : (j : ℕ) → slice_get (false ∷ []) j ≡ Some true → ⊥
+    last zero got = let same : false ≡ true = some_same got in cc
+    last (suc j) got = cc
+
+    go : ((k < length flags) × (slice_get flags k ≡ Some true)) ⊎ ((j : ℕ) × (k ≡ length flags + j) × (slice_get (false ∷ []) j ≡ Some true)) → ⊥
+    go (inl z) = unset k z.1
+    go (inr z) = last z.0 z.2
 
 -- one place more has a flag
 pub marked_fewer : (flags : List Bool) (k : ℕ) → slice_get flags k ≡ Some false → unmarked (slice_set flags k true) < unmarked flags

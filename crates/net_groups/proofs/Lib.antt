@@ -11,3 +11,4 @@ mod Taken
 mod Parting
 mod Flags
 mod Parts
+pub mod Rooms

@@ -95,6 +95,10 @@ pub record IsTree (frame : TaskFrame) (n : ℕ) : Type 0 where
   pub once : (j k j' k' m port port' : ℕ) (one other : Wire) → WireAt frame j k one → WireAt frame j' k' other → one.leads ≡ inside m port → other.leads ≡ inside m port' → (j ≡ j') × (k ≡ k')
   pub source : (j k m port port' : ℕ) (one other : Wire) → WireAt frame j k one → head_wire frame.head ≡ Some other → one.leads ≡ inside m port → other.leads ≢ inside m port'
 
+-- no place has a flag
+abbrev pub NoneSet : List Bool → Type 0
+NoneSet flags = (place : ℕ) → slice_get flags place ≡ Some true → ⊥
+
 -- how many places have no flag
 abbrev pub unmarked : List Bool → ℕ
 unmarked [] = 0

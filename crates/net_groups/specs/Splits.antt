@@ -1,5 +1,6 @@
 -- A task of a net becomes two.
-use Rattle.std.specs.Prelude.{◌≡◌, ◌⊎◌, ◌++◌, ◌≤◌, ◌∷◌, ℕ, Bool, true, List, [], Some, length, map, slice_get, slice_set, vec_len, vec_capacity}
+use Rattle.std.specs.Prelude.{◌≡◌, ◌⊎◌, ◌++◌, ◌≤◌, ◌<◌, ◌∷◌, ℕ, Bool, true, List, [], Some, length, map, slice_get, slice_set, vec_len, vec_capacity}
+use Rattle.std.specs.Global.{Vec}
 use Rattle.flow_model.specs.Link.{Span, Linked, WasLinked, Flushed, Given}
 use Rattle.lane_core.specs.declared.ends.Inlet as inlets
 use Rattle.lane_core.specs.declared.ends.Outlet as outlets
@@ -13,8 +14,10 @@ use Rattle.task_parts.specs.declared.part.Part.{Part}
 use Rattle.task_parts.specs.Shape.{all_within, has_number, is_closed, part_shape, shape_of}
 use Rattle.net_task.specs.declared.task.Task.{Task}
 use Rattle.net_task.specs.Frame.{frame_of}
+use Rattle.net_groups.specs.declared.splitting.Parting.{Parting}
 use Rattle.net_groups.specs.declared.splitting.Room.{Room}
-use Rattle.net_groups.specs.Behind.{AreParted, IsBehind, IsTree, flagged, unflagged}
+use Rattle.net_groups.specs.declared.splitting.SplitRoom.{SplitRoom}
+use Rattle.net_groups.specs.Behind.{AreParted, HasFlagAt, IsBehind, IsTree, TellBehind, flagged, unflagged}
 use Rattle.net_groups.specs.Places.{AreBare, IsBare, IsPartOf}
 
 -- no mark stands at the spans of a sink pad
@@ -103,6 +106,15 @@ pub record IsRoom {E I O : Type 0} {e : elements.Ghosts E} (room : Room E I O e)
   pub size : vec_len room.rows ≡ pads
   pub bare : AreBare room.rows.items
 
+-- how many sink pads there are rows for
+abbrev pub pads_of : {E I O : Type 0} {e : elements.Ghosts E} → SplitRoom E I O e → ℕ
+pads_of room = vec_len room.halves.rows
+
+-- There is room for so many flags, and for so many elements, twice, and empty rows are there.
+pub record IsSplitRoom {E I O : Type 0} {e : elements.Ghosts E} (room : SplitRoom E I O e) (count : ℕ) : Type 0 where
+  pub flags : (room.flags.items ≡ []) × (count ≤ vec_capacity room.flags)
+  pub halves : IsRoom room.halves count (pads_of room)
+
 module _ {S E I O L : Type 0} {s : sources.Ghosts S} {e : elements.Ghosts E} {i : inlets.Ghosts I L O} {o : outlets.Ghosts O L} where
   -- the task at a place can be parted by flags
   abbrev pub CanPartAt : List (Task S E I O L s e i o) → ℕ → List Bool → ℕ → Type 0
@@ -111,3 +123,24 @@ module _ {S E I O L : Type 0} {s : sources.Ghosts S} {e : elements.Ghosts E} {i 
   -- there is room for its elements
   abbrev pub HasRoomAt : List (Task S E I O L s e i o) → ℕ → Room E I O e → Type 0
   HasRoomAt tasks place room = (task : Task S E I O L s e i o) → slice_get tasks place ≡ Some task → IsRoom room (length task.parts.items) (vec_len room.rows)
+
+  -- there is room for the elements of a task that has the element
+  abbrev pub HasRoomBeside : List (Task S E I O L s e i o) → ℕ → SplitRoom E I O e → Type 0
+  HasRoomBeside tasks element room = (k : ℕ) (p : IsPartOf tasks k element) → IsSplitRoom room (length p.task.parts.items)
+
+  -- and for one task more
+  pub record HasRoomToSplit (tasks : Vec (Task S E I O L s e i o)) (element : ℕ) (room : SplitRoom E I O e) : Type 0 where
+    pub more : vec_len tasks < vec_capacity tasks
+    pub beside : HasRoomBeside tasks.items element room
+
+  -- flags tell what of a task is behind an element, and what its head names is not
+  pub record TakesApart (task : Task S E I O L s e i o) (element : ℕ) (flags : List Bool) : Type 0 where
+    pub size : length flags ≡ length task.parts.items
+    pub tell : TellBehind task.parts.items element flags
+    pub ahead : (k : ℕ) → HasFlagAt task.parts.items flags (number_in task.head) k → ⊥
+
+  -- so it is with a task that has the element, and there is room for its elements
+  pub record AreParting (tasks : List (Task S E I O L s e i o)) (element : ℕ) (parting : Parting E I O e) : Type 0 where
+    pub part : IsPartOf tasks parting.place element
+    pub apart : TakesApart part.task element parting.flags.items
+    pub room : IsRoom parting.halves (length part.task.parts.items) (vec_len parting.halves.rows)

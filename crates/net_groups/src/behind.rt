@@ -1,30 +1,43 @@
 //! What stands behind an element inside of its task.
-ghost use Rattle.std.specs.Prelude.{◌≡◌, ◌≢◌, ◌<◌, ◌≤◌, ◌+◌, ◌++◌, ◌∷◌, [], ℕ, true, false, None, IfOk, IfSome, length, vec_len, vec_capacity, if◌then◌else◌};
+ghost use Rattle.std.specs.Prelude.{◌≡◌, ◌≢◌, ◌<◌, ◌≤◌, ◌+◌, ◌++◌, ◌∷◌, [], ℕ, true, false, None, IfSome, length, vec_len, vec_capacity, if◌then◌else◌};
 ghost use Rattle.task_pads.specs.Behind.{goes, inside};
-ghost use Rattle.net_groups.specs.Behind.{FlaggedAt, FlaggedLeads, HasFlag, HasFlagAt, IsLed, IsNext, LeadTo, NoneIsNext, TellBehind, flagged, unflagged};
+ghost use Rattle.net_groups.specs.Behind.{FlaggedAt, FlaggedLeads, HasFlag, HasFlagAt, IsLed, IsNext, LeadTo, NoneIsNext, NoneSet, TellBehind, flagged, unflagged};
 
-use gst_value::OutOfMemory;
 use lane_core::Outlet;
 use net_model::TaskElement;
-use std::alloc::Global;
 use std::collections::VecDeque;
 use task_pads::{Behind, Pad};
 use task_parts::Part;
 
-/// Which of the elements of a task are behind that of a number, it itself among them: a flag for each place.
+/// Which of the elements of a task are behind that of a number, it itself among them: a flag for each place, in room that was taken before.
 pub(crate) fn behind<E: TaskElement, O: Outlet>(
-    alloc: Global,
     parts: &[Part<E, O>],
     element: u32,
-) -> Result<Vec<bool>, OutOfMemory>
-    ensures tell { IfOk result (λ flags. TellBehind parts.now element flags.items) }
-    ensures len { IfOk result (λ flags. length flags.items ≡ length parts.now) }
+    flags: Vec<bool>,
+) -> Vec<bool>
+    requires empty { flags.items ≡ [] }
+    requires room { length parts.now ≤ vec_capacity flags }
+    ensures tell { TellBehind parts.now element result.items }
+    ensures len { length result.items ≡ length parts.now }
 {
-    let mut flags = vec![in alloc; false; parts.len()]?;
+    let mut flags = unset(flags, parts.len());
     while let Some(place) = find_next(parts, flags.as_slice(), element) {
         flags[place] = true;
     }
-    Ok(flags)
+    flags
+}
+
+/// So many flags, none of them set.
+fn unset(mut flags: Vec<bool>, count: usize) -> Vec<bool>
+    requires empty { flags.items ≡ [] }
+    requires room { count ≤ vec_capacity flags }
+    ensures len { length result.items ≡ count }
+    ensures none { NoneSet result.items }
+{
+    for _ in 0..count {
+        flags.push_reserved(false);
+    }
+    flags
 }
 
 /// The place of an element without a flag that is that of a number, or to which a pad of a flagged one leads.

@@ -8,4 +8,4 @@ mod places;
 pub mod splitting;
 
 pub use joining::join;
-pub use splitting::split;
+pub use splitting::{SplitRoom, room_to_split, split, split_reserved};

@@ -64,7 +64,7 @@ pub(crate) fn find_part<
 }
 
 /// Whether one of these elements has this number.
-fn has_part<E: TaskElement, O: Outlet>(parts: &[Part<E, O>], number: u32) -> bool
+pub(crate) fn has_part<E: TaskElement, O: Outlet>(parts: &[Part<E, O>], number: u32) -> bool
     ensures there { result ≡ true → (place : _) × PartIs parts.now number place }
     ensures none { result ≡ false → (place : _) → PartIs parts.now number place → ⊥ }
 {

@@ -1,12 +1,13 @@
 //! A task becomes two.
-ghost use Rattle.std.specs.Prelude.{◌≡◌, ◌<◌, Ok, true, false, IfOk, OnOk, OnErr, length, vec_len, vec_capacity};
+ghost use Rattle.std.specs.Prelude.{◌≡◌, ◌≤◌, ◌<◌, ℕ, Ok, None, true, false, IfOk, IfSome, OnOk, OnErr, [], length, vec_len, vec_capacity};
 ghost use Rattle.net_model.specs.Moment.{Moment};
 ghost use Rattle.net_turns.specs.Net.{NetReady, NetStands};
-ghost use Rattle.net_groups.specs.Places.{AreBare, IsPartOf};
-ghost use Rattle.net_groups.specs.Splits.{CanPart, CanPartAt, CannotSplit, HasRoomAt, IsParted, IsPartedAt, IsRoom, IsSplit, IsSplitAt, IsTreeIn, NamesBehind, TookItems, number_in};
+ghost use Rattle.net_groups.specs.Behind.{IsBehind};
+ghost use Rattle.net_groups.specs.Places.{AreBare, IsPartOf, PartIs};
+ghost use Rattle.net_groups.specs.Splits.{AreParting, CanPart, CanPartAt, CannotSplit, HasRoomAt, HasRoomBeside, HasRoomToSplit, IsParted, IsPartedAt, IsRoom, IsSplit, IsSplitRoom, IsTreeIn, TakesApart, TookItems, number_in, pads_of};
 
 use crate::behind::{behind, deal, has_flag};
-use crate::places::find_part;
+use crate::places::{find_part, has_part};
 use gst_value::OutOfMemory;
 use inlet_row::InletRow;
 use lane_core::{Inlet, Outlet};
@@ -21,6 +22,21 @@ struct Room<E: TaskElement, I, O> {
     kept: Vec<Part<E, O>>,
     gone: Vec<Part<E, O>>,
     rows: Vec<InletRow<I>>,
+}
+
+/// All the room that it takes to split a task at an element of it, but for that of the task more. It is taken before anything changes.
+#[derive(Drop)]
+pub struct SplitRoom<E: TaskElement, I, O> {
+    flags: Vec<bool>,
+    halves: Room<E, I, O>,
+}
+
+/// What goes out of the task at a place: the flags tell which of its elements.
+#[derive(Drop)]
+struct Parting<E: TaskElement, I, O> {
+    place: usize,
+    flags: Vec<bool>,
+    halves: Room<E, I, O>,
 }
 
 /// Takes an element to which no pad of its task leads, and all that stand behind it inside of the task, out of the task: they become a
@@ -40,57 +56,175 @@ pub fn split<S: TaskSource, E: TaskElement, I: Inlet<Out = O>, O: Outlet<Lanes =
     ensures none { result ≡ Ok false → CannotSplit tasks.old.items element × (tasks.new ≡ tasks.old) }
     ensures kept { OnErr result (tasks.new.items ≡ tasks.old.items) }
 {
-    match find_part(tasks.as_slice(), element) {
-        Some(place) => split_at(alloc, tasks, place, element, pads),
+    let room = room_beside(alloc, tasks.as_slice(), element, pads)?;
+    match to_part(tasks.as_slice(), element, room) {
+        Some(parting) => split_by(tasks, element, parting),
         None => Ok(false),
     }
 }
 
-/// What is behind an element of the task at a place goes out of it. Tells whether that leaves what its head feeds.
-fn split_at<S: TaskSource, E: TaskElement, I: Inlet<Out = O>, O: Outlet<Lanes = I::Lanes>>(
+/// Takes all the memory that it takes to split the task that has an element: so [`split_reserved`] needs none.
+pub fn room_to_split<S: TaskSource, E: TaskElement, I: Inlet<Out = O>, O: Outlet<Lanes = I::Lanes>>(
     alloc: Global,
     tasks: &mut Vec<Task<S, E, I, O>>,
-    place: usize,
     element: u32,
     pads: usize,
-) -> Result<bool, OutOfMemory>
-    requires part { IsPartOf tasks.old.items place element }
-    requires tree { IsTreeIn tasks.old.items element }
-    ensures split { result ≡ Ok true → IsSplitAt tasks.old.items tasks.new.items place element pads }
-    ensures none { result ≡ Ok false → NamesBehind tasks.old.items place element × (tasks.new ≡ tasks.old) }
-    ensures kept { OnErr result (tasks.new.items ≡ tasks.old.items) }
+) -> Result<SplitRoom<E, I, O>, OutOfMemory>
+    ensures room { IfOk result (λ room. HasRoomToSplit tasks.new element room) }
+    ensures pads { IfOk result (λ room. pads_of room ≡ pads) }
+    ensures items { tasks.new.items ≡ tasks.old.items }
 {
-    match behind(alloc, tasks[place].parts(), element) {
-        Ok(flags) => {
-            let number = head_number(tasks[place].head());
-            if has_flag(tasks[place].parts(), flags.as_slice(), number) {
-                return Ok(false);
-            }
-            split_by(alloc, tasks, place, element, pads, flags.as_slice())
+    let room = room_beside(alloc, tasks.as_slice(), element, pads)?;
+    tasks.reserve(1)?;
+    Ok(room)
+}
+
+/// Does what [`split`] does, in room that was taken before. It takes no memory.
+pub fn split_reserved<
+    S: TaskSource,
+    E: TaskElement,
+    I: Inlet<Out = O>,
+    O: Outlet<Lanes = I::Lanes>,
+>(tasks: &mut Vec<Task<S, E, I, O>>, element: u32, room: SplitRoom<E, I, O>) -> bool
+    requires tree { IsTreeIn tasks.old.items element }
+    requires room { HasRoomToSplit tasks.old element room }
+    ensures stands { result ≡ true → (m : Moment) (tells : _) → NetStands m tasks.old.items tells → TookItems m element (pads_of room)
+        → NetStands m tasks.new.items tells }
+    ensures ready { result ≡ true → (tells : _) → NetReady tasks.old.items tells → NetReady tasks.new.items tells }
+    ensures split { result ≡ true → IsSplit tasks.old.items tasks.new.items element (pads_of room) }
+    ensures none { result ≡ false → CannotSplit tasks.old.items element × (tasks.new ≡ tasks.old) }
+{
+    match to_part(tasks.as_slice(), element, room) {
+        Some(parting) => {
+            part_off(tasks, element, parting);
+            true
         }
-        Err(wanting) => Err(wanting),
+        None => false,
     }
 }
 
-/// The flagged elements of the task at a place become a task of their own.
-fn split_by<S: TaskSource, E: TaskElement, I: Inlet<Out = O>, O: Outlet<Lanes = I::Lanes>>(
+/// Takes room to split the task that has an element, but for that of the task more.
+fn room_beside<S: TaskSource, E: TaskElement, I: Inlet<Out = O>, O: Outlet<Lanes = I::Lanes>>(
     alloc: Global,
-    tasks: &mut Vec<Task<S, E, I, O>>,
-    place: usize,
+    tasks: &[Task<S, E, I, O>],
     element: u32,
     pads: usize,
-    flags: &[bool],
-) -> Result<bool, OutOfMemory>
-    requires place { place < vec_len tasks.old }
-    requires closed { CanPartAt tasks.old.items place flags.now element }
-    ensures told { IfOk result (λ done. done ≡ true) }
-    ensures parted { OnOk result (IsPartedAt tasks.old.items tasks.new.items place flags.now element pads) }
-    ensures kept { OnErr result (tasks.new.items ≡ tasks.old.items) }
+) -> Result<SplitRoom<E, I, O>, OutOfMemory>
+    ensures room { IfOk result (HasRoomBeside tasks.now element) }
+    ensures pads { IfOk result (λ room. pads_of room ≡ pads) }
 {
-    let room = room_for(alloc, tasks[place].parts().len(), pads)?;
-    tasks.reserve(1)?;
-    take_out(tasks, place, element, flags, room);
-    Ok(true)
+    split_room(alloc, most_beside(tasks, element), pads)
+}
+
+/// Takes room for so many flags, and for so many elements, twice, and rows for so many sink pads.
+fn split_room<E: TaskElement, I: Inlet, O: Outlet>(
+    alloc: Global,
+    count: usize,
+    pads: usize,
+) -> Result<SplitRoom<E, I, O>, OutOfMemory>
+    ensures room { IfOk result (λ room. IsSplitRoom room count) }
+    ensures pads { IfOk result (λ room. pads_of room ≡ pads) }
+{
+    let flags = Vec::with_capacity(alloc, count)?;
+    let halves = room_for(alloc, count, pads)?;
+    Ok(SplitRoom { flags, halves })
+}
+
+/// How many elements there are at the most in a task of which that of a number is one.
+fn most_beside<S: TaskSource, E: TaskElement, I: Inlet<Out = O>, O: Outlet<Lanes = I::Lanes>>(
+    tasks: &[Task<S, E, I, O>],
+    element: u32,
+) -> usize
+    ensures { (k : ℕ) (p : IsPartOf tasks.now k element) → length p.task.parts.items ≤ result }
+{
+    let mut most = 0;
+    for place in 0..tasks.len() {
+        most = larger(most, count_beside(&tasks[place], element));
+    }
+    most
+}
+
+/// How many elements a task has, if that of a number is one of them.
+fn count_beside<S: TaskSource, E: TaskElement, I: Inlet<Out = O>, O: Outlet<Lanes = I::Lanes>>(
+    task: &Task<S, E, I, O>,
+    element: u32,
+) -> usize
+    ensures { (place : ℕ) → PartIs task.now.parts.items element place → length task.now.parts.items ≤ result }
+{
+    if has_part(task.parts(), element) {
+        return task.parts().len();
+    }
+    0
+}
+
+/// The larger one of two numbers.
+fn larger(one: usize, other: usize) -> usize
+    ensures one { one ≤ result }
+    ensures other { other ≤ result }
+{
+    if one < other {
+        return other;
+    }
+    one
+}
+
+/// What goes out of the task that has an element. None where no task has it, or what the head of its task names is behind it.
+fn to_part<S: TaskSource, E: TaskElement, I: Inlet<Out = O>, O: Outlet<Lanes = I::Lanes>>(
+    tasks: &[Task<S, E, I, O>],
+    element: u32,
+    room: SplitRoom<E, I, O>,
+) -> Option<Parting<E, I, O>>
+    requires room { HasRoomBeside tasks.now element room }
+    ensures parting { IfSome result (AreParting tasks.now element) }
+    ensures pads { IfSome result (λ parting. vec_len parting.halves.rows ≡ pads_of room) }
+    ensures none { result ≡ None → CannotSplit tasks.now element }
+{
+    match find_part(tasks, element) {
+        Some(place) => to_part_at(tasks, place, element, room),
+        None => None,
+    }
+}
+
+/// What goes out of the task at a place. None where what its head names is behind the element.
+fn to_part_at<S: TaskSource, E: TaskElement, I: Inlet<Out = O>, O: Outlet<Lanes = I::Lanes>>(
+    tasks: &[Task<S, E, I, O>],
+    place: usize,
+    element: u32,
+    room: SplitRoom<E, I, O>,
+) -> Option<Parting<E, I, O>>
+    requires part { IsPartOf tasks.now place element }
+    requires room { HasRoomBeside tasks.now element room }
+    ensures parting { IfSome result (AreParting tasks.now element) }
+    ensures pads { IfSome result (λ parting. vec_len parting.halves.rows ≡ pads_of room) }
+    ensures none { result ≡ None → CannotSplit tasks.now element }
+{
+    let SplitRoom { flags, halves } = room;
+    match flags_of(&tasks[place], element, flags) {
+        Some(flags) => Some(Parting {
+            place,
+            flags,
+            halves,
+        }),
+        None => None,
+    }
+}
+
+/// Flags that tell what of a task is behind an element. None where what its head names is.
+fn flags_of<S: TaskSource, E: TaskElement, I: Inlet<Out = O>, O: Outlet<Lanes = I::Lanes>>(
+    task: &Task<S, E, I, O>,
+    element: u32,
+    flags: Vec<bool>,
+) -> Option<Vec<bool>>
+    requires empty { flags.items ≡ [] }
+    requires room { length task.now.parts.items ≤ vec_capacity flags }
+    ensures apart { IfSome result (λ flags. TakesApart task.now element flags.items) }
+    ensures none { result ≡ None → IsBehind task.now.parts.items element (number_in task.now.head) }
+{
+    let flags = behind(task.parts(), element, flags);
+    if has_flag(task.parts(), flags.as_slice(), head_number(task.head())) {
+        return None;
+    }
+    Some(flags)
 }
 
 /// Takes room for so many elements, twice, and rows for so many sink pads.
@@ -118,6 +252,44 @@ fn empty_rows<I: Inlet>(alloc: Global, pads: usize) -> Result<Vec<InletRow<I>>, 
         rows.push_reserved(InletRow::new(alloc));
     }
     Ok(rows)
+}
+
+/// Takes room for a task more, in which what goes out of the task at a place is.
+fn split_by<S: TaskSource, E: TaskElement, I: Inlet<Out = O>, O: Outlet<Lanes = I::Lanes>>(
+    tasks: &mut Vec<Task<S, E, I, O>>,
+    element: u32,
+    parting: Parting<E, I, O>,
+) -> Result<bool, OutOfMemory>
+    requires place { parting.place < vec_len tasks.old }
+    requires closed { CanPartAt tasks.old.items parting.place parting.flags.items element }
+    requires rooms { HasRoomAt tasks.old.items parting.place parting.halves }
+    ensures told { IfOk result (λ done. done ≡ true) }
+    ensures parted { OnOk result (IsPartedAt tasks.old.items tasks.new.items parting.place parting.flags.items element (vec_len parting.halves.rows)) }
+    ensures kept { OnErr result (tasks.new.items ≡ tasks.old.items) }
+{
+    tasks.reserve(1)?;
+    part_off(tasks, element, parting);
+    Ok(true)
+}
+
+/// What goes out of the task at a place becomes a task behind all others.
+fn part_off<S: TaskSource, E: TaskElement, I: Inlet<Out = O>, O: Outlet<Lanes = I::Lanes>>(
+    tasks: &mut Vec<Task<S, E, I, O>>,
+    element: u32,
+    parting: Parting<E, I, O>,
+)
+    requires place { parting.place < vec_len tasks.old }
+    requires closed { CanPartAt tasks.old.items parting.place parting.flags.items element }
+    requires room { vec_len tasks.old < vec_capacity tasks.old }
+    requires rooms { HasRoomAt tasks.old.items parting.place parting.halves }
+    ensures { IsPartedAt tasks.old.items tasks.new.items parting.place parting.flags.items element (vec_len parting.halves.rows) }
+{
+    let Parting {
+        place,
+        flags,
+        halves,
+    } = parting;
+    take_out(tasks, place, element, flags.as_slice(), halves);
 }
 
 /// The flagged elements of the task at a place become a task behind all others.

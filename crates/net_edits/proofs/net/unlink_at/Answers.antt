@@ -3,8 +3,8 @@ use Rattle.task_pads.proofs.Lists.{some_at}
 use Rattle.net_edits.proofs.Swapped.{set_by_swap}
 use Rattle.net_edits.proofs.net.unlink_at.Goals as goal
 
-pub returns : goal.returns
-returns g c = record {
+pub returns-clause-undone : goal.returns-clause-undone
+returns-clause-undone g c = record {
   was = c.swap_remove-task.result;
   is = c.unlink-task.result.0;
   at = some_at c.args.tasks.now.items c.args.place c.swap_remove-task.result (omega (arith, c.requires.place, c.args.tasks.now.ok.0)) c.swap_remove-task.ensures.value;
@@ -15,3 +15,6 @@ returns g c = record {
   ready = c.unlink-task.ensures.ready;
   moves = c.unlink-task.ensures.moves;
 }
+
+pub returns-clause-room : goal.returns-clause-room
+returns-clause-room g c = let a = c.swap_remove-task.ensures.capacity in let b = c.push_reserved.ensures.capacity in let d = c.swap.ensures.capacity in omega (arith, a, b, d)

@@ -1,26 +1,33 @@
-use Rattle.std.proofs.Common.{◌≡◌, ◌∙◌, List, ℕ, inl, inr, refl, subst, sym}
-use Rattle.gst_value.proofs.Basics.{some_same}
+use Rattle.std.proofs.Common.{◌≡◌, ◌∙◌, List, ℕ, true, arith, length, refl, subst, sym, vec_len}
 use Rattle.net_task.specs.declared.task.Task.{Task}
-use Rattle.net_task.specs.Frame.{frame_of}
-use Rattle.net_groups.specs.Behind.{IsTree}
-use Rattle.net_groups.specs.Places.{IsPartOf}
-use Rattle.net_groups.proofs.Parting.{split_ready, split_stands}
+use Rattle.net_groups.specs.Splits.{AreParting, CannotSplit, HasRoomBeside, IsPartedAt, IsSplit}
+use Rattle.net_groups.proofs.Finds.{on_ok_at}
+use Rattle.net_groups.proofs.Rooms.{can_part_at, parting_within, room_at, split_is, splits_ready, splits_stand}
 use Rattle.net_groups.proofs.splitting.split.Goals as goal
 
-pub split_at-requires-clause-part : goal.split_at-requires-clause-part
-split_at-requires-clause-part g c κs within = (subst (λ (ts : List (Task _ _ _ _ _ _ _ _ _)). IsPartOf ts c.in-Some.place c.args.element) c.as_slice.ensures.value c.in-Some.ensures.there)
+pub split_by-requires-clause-place : goal.split_by-requires-clause-place
+split_by-requires-clause-place g c κs within = let a = parting_within c.args.tasks.now.items c.args.element c.in-Some.parting (subst (λ (ts : List (Task _ _ _ _ _ _ _ _ _)). AreParting ts c.args.element c.in-Some.parting) c.as_slice-2.ensures.value c.in-Some.ensures.parting) in let size = c.args.tasks.now.ok.0 in omega (arith, a, size)
 
-pub returns-in-Some-clause-stands : goal.returns-in-Some-clause-stands
-returns-in-Some-clause-stands g c = λ is m tells stands items. split_stands c.args.tasks.now.items c.split_at.new.tasks.items c.in-Some.place c.args.element c.args.pads (c.split_at.ensures.split is) (subst (λ (ts : List (Task _ _ _ _ _ _ _ _ _)). IsPartOf ts c.in-Some.place c.args.element) c.as_slice.ensures.value c.in-Some.ensures.there) (let same = some_same (sym (c.split_at.ensures.split is).at ∙ (subst (λ (ts : List (Task _ _ _ _ _ _ _ _ _)). IsPartOf ts c.in-Some.place c.args.element) c.as_slice.ensures.value c.in-Some.ensures.there).at) in subst (λ (t : Task _ _ _ _ _ _ _ _ _). IsTree (frame_of t) c.args.element) (sym same) (c.requires.tree c.in-Some.place (subst (λ (ts : List (Task _ _ _ _ _ _ _ _ _)). IsPartOf ts c.in-Some.place c.args.element) c.as_slice.ensures.value c.in-Some.ensures.there))) m tells stands items
+pub split_by-requires-clause-closed : goal.split_by-requires-clause-closed
+split_by-requires-clause-closed g c κs within = can_part_at c.args.tasks.now.items c.args.element c.in-Some.parting (subst (λ (ts : List (Task _ _ _ _ _ _ _ _ _)). AreParting ts c.args.element c.in-Some.parting) c.as_slice-2.ensures.value c.in-Some.ensures.parting) c.requires.tree
 
-pub returns-in-Some-clause-ready : goal.returns-in-Some-clause-ready
-returns-in-Some-clause-ready g c = λ is tells ready. split_ready c.args.tasks.now.items c.split_at.new.tasks.items c.in-Some.place c.args.element c.args.pads (c.split_at.ensures.split is) (subst (λ (ts : List (Task _ _ _ _ _ _ _ _ _)). IsPartOf ts c.in-Some.place c.args.element) c.as_slice.ensures.value c.in-Some.ensures.there) (let same = some_same (sym (c.split_at.ensures.split is).at ∙ (subst (λ (ts : List (Task _ _ _ _ _ _ _ _ _)). IsPartOf ts c.in-Some.place c.args.element) c.as_slice.ensures.value c.in-Some.ensures.there).at) in subst (λ (t : Task _ _ _ _ _ _ _ _ _). IsTree (frame_of t) c.args.element) (sym same) (c.requires.tree c.in-Some.place (subst (λ (ts : List (Task _ _ _ _ _ _ _ _ _)). IsPartOf ts c.in-Some.place c.args.element) c.as_slice.ensures.value c.in-Some.ensures.there))) tells ready
+pub split_by-requires-clause-rooms : goal.split_by-requires-clause-rooms
+split_by-requires-clause-rooms g c κs within = room_at c.args.tasks.now.items c.args.element c.in-Some.parting (subst (λ (ts : List (Task _ _ _ _ _ _ _ _ _)). AreParting ts c.args.element c.in-Some.parting) c.as_slice-2.ensures.value c.in-Some.ensures.parting)
 
 pub returns-in-Some-clause-split : goal.returns-in-Some-clause-split
-returns-in-Some-clause-split g c = λ is. (c.in-Some.place, (subst (λ (ts : List (Task _ _ _ _ _ _ _ _ _)). IsPartOf ts c.in-Some.place c.args.element) c.as_slice.ensures.value c.in-Some.ensures.there), c.split_at.ensures.split is)
+returns-in-Some-clause-split g c = λ is.
+    split_is c.args.tasks.now.items c.args.element c.in-Some.parting (subst (λ (ts : List (Task _ _ _ _ _ _ _ _ _)). AreParting ts c.args.element c.in-Some.parting) c.as_slice-2.ensures.value c.in-Some.ensures.parting) c.split_by.new.tasks.items c.args.pads
+    (subst (λ (n : ℕ). IsPartedAt c.args.tasks.now.items c.split_by.new.tasks.items c.in-Some.parting.place c.in-Some.parting.flags.items c.args.element n) (c.in-Some.ensures.pads ∙ c.in_ok-room.ensures.pads)
+    (on_ok_at c.split_by.result _ true is c.split_by.ensures.parted))
 
-pub returns-in-Some-clause-none : goal.returns-in-Some-clause-none
-returns-in-Some-clause-none g c = λ is. let z = c.split_at.ensures.none is in (inr (c.in-Some.place, z.0), z.1)
+pub returns-in-Some-clause-stands : goal.returns-in-Some-clause-stands
+returns-in-Some-clause-stands g c = λ is m tells stands items. splits_stand c.args.tasks.now.items c.split_by.new.tasks.items c.args.element c.args.pads c.requires.tree (returns-in-Some-clause-split g c is) m tells stands items
+
+pub returns-in-Some-clause-ready : goal.returns-in-Some-clause-ready
+returns-in-Some-clause-ready g c = λ is tells ready. splits_ready c.args.tasks.now.items c.split_by.new.tasks.items c.args.element c.args.pads c.requires.tree (returns-in-Some-clause-split g c is) tells ready
 
 pub returns-in-None-clause-none : goal.returns-in-None-clause-none
-returns-in-None-clause-none g c = λ is. (inl (subst (λ (ts : List (Task _ _ _ _ _ _ _ _ _)). (k : ℕ) → IsPartOf ts k c.args.element → ⊥) c.as_slice.ensures.value (c.in-None.ensures.none refl)), refl)
+returns-in-None-clause-none g c = λ is. (subst (λ (ts : List (Task _ _ _ _ _ _ _ _ _)). CannotSplit ts c.args.element) c.as_slice-2.ensures.value (c.in-None.ensures.none refl), refl)
+
+pub to_part-requires-clause-room : goal.to_part-requires-clause-room
+to_part-requires-clause-room g c κs within = subst (λ (ts : List (Task _ _ _ _ _ _ _ _ _)). HasRoomBeside ts c.args.element c.in_ok-room.room) (c.as_slice.ensures.value ∙ sym c.as_slice-2.ensures.value) c.in_ok-room.ensures.room
