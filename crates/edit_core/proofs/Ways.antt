@@ -114,9 +114,11 @@ module _ {S E I O L : Type 0} {s : sources.Ghosts S} {e : elements.Ghosts E} {i 
       where
         by : (head : Head S I O s) → task.head ≡ head → head_wire (head_frame o head) ≡ Some wire → (a : ℕ) × HasElement (frame_of task) a × (m.plan.owner wire.number ≡ a)
         by (Source source) same is =
-            let frame : (frame_of task).head ≡ by_source source.number (s.file source.source) (wire_of o source.pad) = ap (λ (h : Head S I O s). head_frame o h) same in
-            (source.number, HasElement.source (s.file source.source) (wire_of o source.pad) frame,
-              ap (λ (x : Wire). m.plan.owner x.number) (sym (some_same is)) ∙ source_owner i o m task.head task.parts.items tied task.head tied.head_tied source.number (s.file source.source) (wire_of o source.pad) frame)
+            let frame : (frame_of task).head ≡ by_source source.number (s.file source.source) (wire_of o source.pad) = ap (λ (h : Head S I O s). head_frame o h) same in (
+              source.number,
+              HasElement.source (s.file source.source) (wire_of o source.pad) frame,
+              ap (λ (x : Wire). m.plan.owner x.number) (sym (some_same is)) ∙ source_owner i o m task.head task.parts.items tied task.head tied.head_tied source.number (s.file source.source) (wire_of o source.pad) frame,
+            )
         by (Inlets fed) same is = absurd cc
 
     owner_is : (wire : Wire) (is : IsWire (frame_of task) wire) → owner_of wire.number ≡ (element_of wire is).0
@@ -184,7 +186,7 @@ module _ {S E I O L : Type 0} {s : sources.Ghosts S} {e : elements.Ghosts E} {i 
       let one = element_of k has.task has.at wire has.is in
       let over = run.are.lanes k has.task wire lane head.number port from has.at has.is leads in
       let link = subst (λ (b : ℕ). IsLink b head.number (ways g.ever)) (owner_is k has.task has.at wire has.is)
-          (way_of wire.number head.number port (wire_leads_over i o m has.task.head has.task.parts.items (run.net.tied k has.task has.at) wire has.is lane head.number port from leads) over.0) in
+      (way_of wire.number head.number port (wire_leads_over i o m has.task.head has.task.parts.items (run.net.tied k has.task has.at) wire has.is lane head.number port from leads) over.0) in
       let named = head_named k has.task has.at fed in
       let first = subst (λ (a : ℕ). Way (ways g.ever) a one.0) named (element_way k has.task has.at one.0 one.1) in
       let own = element_of j of.task of.at of.has.wire of.has.is in

@@ -59,4 +59,3 @@ module _ {S E I O L : Type 0} (s : sources.Ghosts S) (e : elements.Ghosts E) (i 
   abbrev pub StepsKeepTasks : Type 0
   StepsKeepTasks = (g : Edited) (m : Moment) (tasks tasks' : List (Task S E I O L s e i o)) (tells tells' : Option (List Lane)) (place : ℕ) (step : Step) → NetStands m tasks tells
       → IsStepped place step tasks tasks' tells tells' → AreTasksOf g tasks → AreTasksOf g tasks'
-

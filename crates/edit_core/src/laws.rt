@@ -40,7 +40,12 @@ pub fn inner_pads_are_first<
 {}
 
 /// An element without lanes whose sink pad is free is what the head of a task feeds, from nothing.
-pub fn free_is_loose<S: TaskSource, E: TaskElement, I: Inlet<Out = O>, O: Outlet<Lanes = I::Lanes>>()
+pub fn free_is_loose<
+    S: TaskSource,
+    E: TaskElement,
+    I: Inlet<Out = O>,
+    O: Outlet<Lanes = I::Lanes>,
+>()
     ensures { FreeIsLoose S.TaskSource E.TaskElement I.Inlet O.Outlet }
 {}
 

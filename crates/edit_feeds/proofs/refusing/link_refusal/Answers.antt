@@ -23,33 +23,37 @@ loops-requires-clause-sink g c = element_there (made c.args.graph.now) Sink c.ar
 
 pub returns-then-branch : goal.returns-then-branch
 returns-then-branch g c = λ e m tells is.
-    let had = ends_are_told.told m.history e c.args.sink is.kept is.stand is.ends in
-    (λ after. denied c.has_had_eos.result c.if-has_had_eos.false (λ a. c.has_had_eos.ensures c.args.feeds.now e m tells is ∙ had.0 a) after,
-    λ taken. denied c.is_taken.result c.if-is_taken.false (c.is_taken.ensures e is.edited).1 taken,
-    (c.in_ok-loops.ensures e is.edited).0 c.if-branch.true)
+    let had = ends_are_told.told m.history e c.args.sink is.kept is.stand is.ends in (
+      λ after. denied c.has_had_eos.result c.if-has_had_eos.false (λ a. c.has_had_eos.ensures c.args.feeds.now e m tells is ∙ had.0 a) after,
+      λ taken. denied c.is_taken.result c.if-is_taken.false (c.is_taken.ensures e is.edited).1 taken,
+      (c.in_ok-loops.ensures e is.edited).0 c.if-branch.true,
+    )
 
 pub returns-then-branch-2 : goal.returns-then-branch-2
 returns-then-branch-2 g c = λ e m tells is.
-    let had = ends_are_told.told m.history e c.args.sink is.kept is.stand is.ends in
-    (λ after. denied c.has_had_eos.result c.if-has_had_eos.false (λ a. c.has_had_eos.ensures c.args.feeds.now e m tells is ∙ had.0 a) after,
-    λ taken. denied c.is_taken.result c.if-is_taken.false (c.is_taken.ensures e is.edited).1 taken,
-    λ loops. denied c.in_ok-loops.field-0 c.if-branch.false (c.in_ok-loops.ensures e is.edited).1 loops,
-    (c.in_ok-is_fed_elsewhere.ensures e m tells is).0 c.if-branch-2.true)
+    let had = ends_are_told.told m.history e c.args.sink is.kept is.stand is.ends in (
+      λ after. denied c.has_had_eos.result c.if-has_had_eos.false (λ a. c.has_had_eos.ensures c.args.feeds.now e m tells is ∙ had.0 a) after,
+      λ taken. denied c.is_taken.result c.if-is_taken.false (c.is_taken.ensures e is.edited).1 taken,
+      λ loops. denied c.in_ok-loops.field-0 c.if-branch.false (c.in_ok-loops.ensures e is.edited).1 loops,
+      (c.in_ok-is_fed_elsewhere.ensures e m tells is).0 c.if-branch-2.true,
+    )
 
 pub returns-then-branch-3 : goal.returns-then-branch-3
 returns-then-branch-3 g c = λ e m tells is.
-    let had = ends_are_told.told m.history e c.args.sink is.kept is.stand is.ends in
-    (λ after. denied c.has_had_eos.result c.if-has_had_eos.false (λ a. c.has_had_eos.ensures c.args.feeds.now e m tells is ∙ had.0 a) after,
-    λ taken. denied c.is_taken.result c.if-is_taken.false (c.is_taken.ensures e is.edited).1 taken,
-    λ loops. denied c.in_ok-loops.field-0 c.if-branch.false (c.in_ok-loops.ensures e is.edited).1 loops,
-    λ fed. denied c.in_ok-is_fed_elsewhere.field-0 c.if-branch-2.false (c.in_ok-is_fed_elsewhere.ensures e m tells is).1 fed,
-    λ lacks. lacks ((c.in_ok-have_format.ensures e is.edited).0 c.if-branch-3.true))
+    let had = ends_are_told.told m.history e c.args.sink is.kept is.stand is.ends in (
+      λ after. denied c.has_had_eos.result c.if-has_had_eos.false (λ a. c.has_had_eos.ensures c.args.feeds.now e m tells is ∙ had.0 a) after,
+      λ taken. denied c.is_taken.result c.if-is_taken.false (c.is_taken.ensures e is.edited).1 taken,
+      λ loops. denied c.in_ok-loops.field-0 c.if-branch.false (c.in_ok-loops.ensures e is.edited).1 loops,
+      λ fed. denied c.in_ok-is_fed_elsewhere.field-0 c.if-branch-2.false (c.in_ok-is_fed_elsewhere.ensures e m tells is).1 fed,
+      λ lacks. lacks ((c.in_ok-have_format.ensures e is.edited).0 c.if-branch-3.true),
+    )
 
 pub returns : goal.returns
 returns g c = λ e m tells is.
-    let had = ends_are_told.told m.history e c.args.sink is.kept is.stand is.ends in
-    (λ after. denied c.has_had_eos.result c.if-has_had_eos.false (λ a. c.has_had_eos.ensures c.args.feeds.now e m tells is ∙ had.0 a) after,
-    λ taken. denied c.is_taken.result c.if-is_taken.false (c.is_taken.ensures e is.edited).1 taken,
-    λ loops. denied c.in_ok-loops.field-0 c.if-branch.false (c.in_ok-loops.ensures e is.edited).1 loops,
-    λ fed. denied c.in_ok-is_fed_elsewhere.field-0 c.if-branch-2.false (c.in_ok-is_fed_elsewhere.ensures e m tells is).1 fed,
-    λ common. denied c.in_ok-have_format.field-0 c.if-branch-3.false (c.in_ok-have_format.ensures e is.edited).1 common)
+    let had = ends_are_told.told m.history e c.args.sink is.kept is.stand is.ends in (
+      λ after. denied c.has_had_eos.result c.if-has_had_eos.false (λ a. c.has_had_eos.ensures c.args.feeds.now e m tells is ∙ had.0 a) after,
+      λ taken. denied c.is_taken.result c.if-is_taken.false (c.is_taken.ensures e is.edited).1 taken,
+      λ loops. denied c.in_ok-loops.field-0 c.if-branch.false (c.in_ok-loops.ensures e is.edited).1 loops,
+      λ fed. denied c.in_ok-is_fed_elsewhere.field-0 c.if-branch-2.false (c.in_ok-is_fed_elsewhere.ensures e m tells is).1 fed,
+      λ common. denied c.in_ok-have_format.field-0 c.if-branch-3.false (c.in_ok-have_format.ensures e is.edited).1 common,
+    )
