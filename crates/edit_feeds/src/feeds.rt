@@ -75,7 +75,8 @@ impl Feeds {
 
     /// What is kept of so many elements to which nothing was done yet.
     pub fn new(alloc: Global, elements: u32) -> Result<Feeds, OutOfMemory>
-        ensures { IfOk result (λ feeds. (made : List Made) (links : List Links) (h : ℕ → List Item) → length made ≡ elements → AreFeeds feeds (unedited made links) h) }
+        ensures { IfOk result (λ feeds. (made : List Made) (links : List Links) (h : ℕ → List Item) → length made ≡ elements
+            → AreFeeds feeds (unedited made links) h) }
     {
         let feeds = vec![in alloc; Feed::none(); elements as usize]?;
         Ok(Feeds { feeds })
@@ -83,7 +84,8 @@ impl Feeds {
 
     /// The link of a source pad to a sink pad is undone, with EOS or without, when so many items have crossed the source pad.
     pub fn undone(&mut self, sink: PadPlace, pad: u32, items: u64, eos: bool)
-        ensures { (g : Edited) (h : ℕ → List Item) (source : Places) → AreFeeds self.old g h → IsKept h g → pad ≡ pad_id source → items ≡ length (h pad) → IsTheLink g source sink
+        ensures { (g : Edited) (h : ℕ → List Item) (source : Places) → AreFeeds self.old g h → IsKept h g → pad ≡ pad_id source
+            → items ≡ length (h pad) → IsTheLink g source sink
             → AreFeeds self.new (unlinked_at source items eos g) h }
     {
         if let Some(feed) = self.first_of(sink) {
@@ -96,7 +98,8 @@ impl Feeds {
     /// A source pad is linked to a sink pad that is not linked, when so many items have crossed the source pad; sticky events are in
     /// force there, or none are.
     pub fn linked(&mut self, sink: PadPlace, items: u64, opened: bool)
-        ensures { (g : Edited) (h : ℕ → List Item) (source : Places) → AreFeeds self.old g h → is_linked (spans_at g sink) ≡ false → opened ≡ has_item (stickies (take items (h (pad_id source))))
+        ensures { (g : Edited) (h : ℕ → List Item) (source : Places) → AreFeeds self.old g h → is_linked (spans_at g sink) ≡ false
+            → opened ≡ has_item (stickies (take items (h (pad_id source))))
             → AreFeeds self.new (linked_at source items sink g) h }
     {
         if let Some(feed) = self.first_of(sink) {

@@ -34,7 +34,8 @@ pub fn is_fed_elsewhere<
 ) -> Result<bool, OutOfMemory>
     requires source { IsPad graph.now Direction.Source source }
     requires sink { IsPad graph.now Direction.Sink sink }
-    ensures { IfOk result (λ fed. (g : Edited) (m : Moment) (tells : _) → IsCurrent graph.now feeds.now tasks.now g m tells → IsTrue fed ↔ IsFedElsewhere g m.history source sink) }
+    ensures { IfOk result (λ fed. (g : Edited) (m : Moment) (tells : _) → IsCurrent graph.now feeds.now tasks.now g m tells
+        → IsTrue fed ↔ IsFedElsewhere g m.history source sink) }
 {
     let notes = note_all(alloc, graph, feeds, tasks, sink.element)?;
     let Some(own) = note_of(&notes, source.element).task_feeder() else {

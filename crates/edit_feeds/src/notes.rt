@@ -101,7 +101,8 @@ pub(crate) fn note_all<
     tasks: &[Task<S, E, I, O>],
     start: u32,
 ) -> Result<Vec<Note>, OutOfMemory>
-    ensures { IfOk result (λ notes. (g : Edited) (m : Moment) (tells : _) → IsCurrent graph.now feeds.now tasks.now g m tells → AreNoted g m.history start notes.items) }
+    ensures { IfOk result (λ notes. (g : Edited) (m : Moment) (tells : _) → IsCurrent graph.now feeds.now tasks.now g m tells
+        → AreNoted g m.history start notes.items) }
 {
     let mut notes = vec![in alloc; Note::none(); graph.count() as usize]?;
     let order = graph.forward();
@@ -130,7 +131,8 @@ fn note_one<S: TaskSource, E: TaskElement, I: Inlet<Out = O>, O: Outlet<Lanes = 
     start: u32,
     element: u32,
 ) -> Note
-    ensures { (g : Edited) (m : Moment) (tells : _) → IsCurrent graph.now feeds.now tasks.now g m tells → element < length g.made → AreNotedBefore g m.history start notes.now element
+    ensures { (g : Edited) (m : Moment) (tells : _) → IsCurrent graph.now feeds.now tasks.now g m tells → element < length g.made
+        → AreNotedBefore g m.history start notes.now element
         → IsNoted g m.history start element result }
 {
     if element >= graph.count() {
@@ -193,7 +195,8 @@ fn giver<S: TaskSource, E: TaskElement, I: Inlet<Out = O>, O: Outlet<Lanes = I::
     element: u32,
     before: Option<PadPlace>,
 ) -> Option<u32>
-    ensures { (g : Edited) (m : Moment) (tells : _) → IsCurrent graph.now feeds.now tasks.now g m tells → element < length g.made → before ≡ source_before g.links (sink_at element 0)
+    ensures { (g : Edited) (m : Moment) (tells : _) → IsCurrent graph.now feeds.now tasks.now g m tells → element < length g.made
+        → before ≡ source_before g.links (sink_at element 0)
         → result ≡ first_giver m.history (spans_at g (sink_at element 0)) }
 {
     let feed = feeds.of(element)?;

@@ -27,9 +27,11 @@ pub fn add_task<S: TaskSource, E: TaskElement, I: Inlet<Out = O>, O: Outlet<Lane
     ensures added { tasks.new.items ≡ insert tasks.old.items place task }
     ensures room { vec_capacity tasks.new ≡ vec_capacity tasks.old }
     ensures moves { net_left tasks.new.items ≡ net_left tasks.old.items + moves_left task }
-    ensures stands { (m m' : Moment) (tells : _) (n : ℕ) → NetStands m tasks.old.items tells → IsAdded m m' n task.head → NoneOwns tasks.old.items n → IsFresh task n
+    ensures stands { (m m' : Moment) (tells : _) (n : ℕ) → NetStands m tasks.old.items tells → IsAdded m m' n task.head
+        → NoneOwns tasks.old.items n → IsFresh task n
         → IsPlain m'.plan → Ties task m' → IsReady tells task → CellStands m' n → NetStands m' tasks.new.items tells }
-    ensures ready { (tells : _) (n : ℕ) → NetReady tasks.old.items tells → NoneOwns tasks.old.items n → IsFresh task n → IsReady tells task → NetReady tasks.new.items tells }
+    ensures ready { (tells : _) (n : ℕ) → NetReady tasks.old.items tells → NoneOwns tasks.old.items n → IsFresh task n
+        → IsReady tells task → NetReady tasks.new.items tells }
 {
     insert_reserved(tasks, place, task)
 }

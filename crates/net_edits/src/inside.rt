@@ -42,7 +42,8 @@ pub fn link_inside<S: TaskSource, E: TaskElement, I: Inlet<Out = O>, O: Outlet<L
     ensures linked { IfOk result (λ done. done ≡ true → IsLinkedInside tasks.old.items tasks.new.items pad to) }
     ensures none { IfOk result (λ done. done ≡ false → NoneHasBoth tasks.old.items pad to.element × (tasks.new ≡ tasks.old)) }
     ensures faults { IfErr result (NotLinked tasks.old.items tasks.new.items pad to) }
-    ensures stands { IfOk result (λ done. done ≡ true → (m : Moment) (tells : _) → NetStands m tasks.old.items tells → CanLinkIn m tasks.old.items pad to → StandLinked m tasks.new.items tells pad to) }
+    ensures stands { IfOk result (λ done. done ≡ true → (m : Moment) (tells : _) → NetStands m tasks.old.items tells
+        → CanLinkIn m tasks.old.items pad to → StandLinked m tasks.new.items tells pad to) }
     ensures ready { (tells : _) → NetReady tasks.old.items tells → NetReady tasks.new.items tells }
     ensures moves { net_left tasks.new.items ≡ net_left tasks.old.items }
     ensures count { length tasks.new.items ≡ length tasks.old.items }
@@ -145,7 +146,8 @@ fn link_at<S: TaskSource, E: TaskElement, I: Inlet<Out = O>, O: Outlet<Lanes = I
     requires there { (task : _) → slice_get tasks.old.items place ≡ Some task → has_number to.element (map part_shape task.parts.items) ≡ true }
     requires calm { has_flush_stop items ≡ false }
     ensures linked { OnOk result (IsTurned tasks.old.items tasks.new.items place pad (inside_behind to) (TiesLinked pad to) (FedAll to items)) }
-    ensures faults { IfErr result (λ fault. IsTurned tasks.old.items tasks.new.items place pad (inside_behind to) (TiesLinked pad to) (FedShort to items fault)) }
+    ensures faults { IfErr result (λ fault. IsTurned tasks.old.items tasks.new.items place pad (inside_behind to) (TiesLinked
+        pad to) (FedShort to items fault)) }
 {
     let last = tasks.len() - 1;
     let task = tasks.swap_remove(place);
