@@ -19,7 +19,7 @@ use net_task::Task;
 use std::alloc::Global;
 
 /// Whether an element that would come into the task of a source pad, were that linked to a sink pad, has had an item from another task.
-pub fn is_fed_elsewhere<
+pub(crate) fn is_fed_elsewhere<
     S: TaskSource,
     E: TaskElement,
     I: Inlet<Out = O>,

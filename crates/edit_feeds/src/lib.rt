@@ -10,7 +10,6 @@ mod notes;
 mod refusing;
 
 pub use feeds::Feeds;
-pub use judging::is_fed_elsewhere;
 pub use refusing::{LinkReason, link_refusal};
 
 /// What is kept of the elements' feeders stays so while more crosses the pads.

@@ -3,8 +3,7 @@ ghost use Rattle.std.specs.Prelude.{◌≡◌, ◌<◌, ◌||◌, Some, IfOk, le
 ghost use Rattle.edit_model.specs.Edited.{Edited, spans_at};
 ghost use Rattle.edit_model.specs.Refused.{first_giver};
 ghost use Rattle.el_settings.specs.Asked.{is_queue, makes_sinks};
-ghost use Rattle.graph_core.specs.GraphPlan.{most_pads, owner_of, pad_id, sink_at};
-ghost use Rattle.graph_edits.specs.Graph.{made};
+ghost use Rattle.graph_core.specs.GraphPlan.{owner_of, sink_at};
 ghost use Rattle.graph_pads.specs.Links.{source_before};
 ghost use Rattle.net_model.specs.Moment.{Moment};
 ghost use Rattle.edit_feeds.specs.Notes.{AreNoted, AreNotedBefore, IsCurrent, IsNoted, head_note, is_foreign, no_note, note_of, plain_note, task_feeder};
@@ -203,20 +202,7 @@ fn giver<S: TaskSource, E: TaskElement, I: Inlet<Out = O>, O: Outlet<Lanes = I::
     let Some(source) = before else {
         return feed.first;
     };
-    let pad = pad_number(graph, source)?;
+    let pad = graph.source_number(source)?;
     let seen = see_pad(tasks, pad);
     given_by(feed.first, pad, feed.has_given(seen.items))
-}
-
-/// The number of a source pad, where an element can have it.
-pub(crate) fn pad_number(graph: &EditedGraph, source: PadPlace) -> Option<u32>
-    ensures { source.element < length (made graph.now) → source.pad < most_pads → result ≡ Some (pad_id source) }
-{
-    if source.element >= graph.count() {
-        return None;
-    }
-    if source.pad >= MOST_PADS {
-        return None;
-    }
-    Some(source.element * MOST_PADS + source.pad)
 }

@@ -10,7 +10,6 @@ ghost use Rattle.edit_feeds.specs.declared.feeds.Feeds.{Feeds as KeptFeeds};
 
 use crate::feeds::Feeds;
 use crate::judging::is_fed_elsewhere;
-use crate::notes::pad_number;
 use graph_core::PadPlace;
 use graph_edits::EditedGraph;
 use graph_pads::Direction;
@@ -80,7 +79,7 @@ fn has_had_eos<S: TaskSource, E: TaskElement, I: Inlet<Out = O>, O: Outlet<Lanes
     let Some(source) = graph.source_before(sink) else {
         return graph.is_ended(sink);
     };
-    let Some(pad) = pad_number(graph, source) else {
+    let Some(pad) = graph.source_number(source) else {
         return false;
     };
     see_pad(tasks, pad).has_ended

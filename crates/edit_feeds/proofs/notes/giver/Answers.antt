@@ -22,7 +22,7 @@ returns-in_err-pad g c = λ e m tells is there before.
     let linked : source_before e.links (sink_at c.args.element 0) ≡ Some c.in-Some.source = sym before ∙ c.in-Some.is in
     let inside : c.in-Some.source.element < length (made c.args.graph.now) =
     subst (λ (ms : List Made). c.in-Some.source.element < length ms) (sym is.edited.elements) (source_there e is.stand is.made c.in-Some.source c.args.element 0 linked) in
-    absurd (no_some (sym (c.pad_number.ensures inside (few_at e is.stand c.in-Some.source (sink_at c.args.element 0) linked)) ∙ c.in_err-pad.was))
+    absurd (no_some (sym (c.source_number.ensures.there inside (few_at e is.stand c.in-Some.source (sink_at c.args.element 0) linked)) ∙ c.in_err-pad.was))
 
 pub returns : goal.returns
 returns g c = λ e m tells is there before.
@@ -30,7 +30,7 @@ returns g c = λ e m tells is there before.
     let inside : c.in-Some.source.element < length (made c.args.graph.now) =
     subst (λ (ms : List Made). c.in-Some.source.element < length ms) (sym is.edited.elements) (source_there e is.stand is.made c.in-Some.source c.args.element 0 linked) in
     let number : c.in_ok-pad.pad ≡ pad_id c.in-Some.source =
-    some_same (sym c.in_ok-pad.was ∙ c.pad_number.ensures inside (few_at e is.stand c.in-Some.source (sink_at c.args.element 0) linked)) in
+    some_same (sym c.in_ok-pad.was ∙ c.source_number.ensures.there inside (few_at e is.stand c.in-Some.source (sink_at c.args.element 0) linked)) in
     let name = is.named c.in-Some.source (sink_at c.args.element 0) linked in
     let fresh : NoneHas c.args.tasks.now c.in_ok-pad.pad → m.history c.in_ok-pad.pad ≡ [] =
     subst (λ (p : ℕ). NoneHas c.args.tasks.now p → m.history p ≡ []) (sym number) (is.fresh name.0 c.in-Some.source name.1) in
