@@ -4,3 +4,15 @@ pub mod Stepped
 pub mod Marks
 pub mod Inner
 pub mod Ways
+mod Spans
+mod Lists
+mod Staying
+mod Refusals
+mod Changes
+mod Standing
+mod Noting
+mod Givers
+mod Passing
+mod Elsewhere
+mod Distinct
+mod Named

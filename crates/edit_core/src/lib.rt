@@ -1,7 +1,13 @@
-//! What control does with the commands of a script: when each can be answered, and how.
+//! What control does with the commands of a script: when each can be answered, and why two pads are not linked.
 #![tactic(auto)]
 
+mod fed;
+mod feeds;
 pub mod judging;
 pub mod laws;
+mod notes;
+mod refusing;
 
+pub use feeds::Feeds;
 pub use judging::{Verdict, judge};
+pub use refusing::{LinkReason, link_refusal};
