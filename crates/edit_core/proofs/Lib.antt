@@ -1,4 +1,5 @@
 mod Judged
+mod Decided
 pub mod Trees
 pub mod Stepped
 pub mod Marks

@@ -6,3 +6,4 @@ pub mod Ways
 pub mod Feeds
 pub mod Notes
 pub mod Refusing
+pub mod Deciding

@@ -1,4 +1,5 @@
 //! Laws of nets whose graph commands edit.
+ghost use Rattle.edit_core.specs.Deciding.{DeedsAreAnswers};
 ghost use Rattle.edit_core.specs.Feeds.{FeedsStay, TheLinkStands};
 ghost use Rattle.edit_core.specs.Marks.{StaysUnmarked};
 ghost use Rattle.edit_core.specs.Notes.{StaysNamed};
@@ -72,4 +73,10 @@ pub fn the_link_stands()
 #[tactic(auto, using(crate::proofs::Named::stays_named))]
 pub fn stays_named()
     ensures { StaysNamed }
+{}
+
+/// A command that is done so, but for one that adds an element, is answered by its places, and the graph is what the deed makes of it.
+#[tactic(auto, using(crate::proofs::Decided::deeds_are_answers))]
+pub fn deeds_are_answers()
+    ensures { DeedsAreAnswers }
 {}
