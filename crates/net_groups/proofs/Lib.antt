@@ -3,6 +3,7 @@ mod Finds
 pub mod Wiring
 pub mod Regrouped
 mod Merging
+mod Sending
 mod Joins
 mod Swapped
 mod Closing
@@ -12,4 +13,5 @@ mod Parting
 mod Flags
 mod Entered
 mod Parts
+mod Most
 pub mod Rooms
