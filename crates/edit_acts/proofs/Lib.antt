@@ -1,0 +1,5 @@
+mod Made
+mod Cut
+mod Reached
+mod Unlinked
+mod Parted
