@@ -3,3 +3,5 @@ mod Cut
 mod Reached
 mod Unlinked
 mod Parted
+mod Spans
+mod Undone
