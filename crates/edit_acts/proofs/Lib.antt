@@ -5,3 +5,4 @@ mod Unlinked
 mod Parted
 mod Spans
 mod Undone
+mod Runs
