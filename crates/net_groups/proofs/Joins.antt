@@ -1,7 +1,6 @@
 -- Two tasks of a net become one: the net is ready as it was, and stands.
-use Rattle.std.proofs.Common.{◌≡◌, ◌≢◌, ◌⊎◌, ◌<◌, ◌++◌, ℕ, zero, suc, List, [], ◌∷◌, length, Option, Some, refl, sym, ap, ◌∙◌, subst, inl, inr, arith}
+use Rattle.std.proofs.Common.{◌≡◌, ◌≢◌, ◌⊎◌, ◌<◌, ℕ, suc, List, [], ◌∷◌, length, Option, Some, refl, sym, ap, ◌∙◌, subst, inl, inr, arith}
 use Rattle.std.specs.Prelude.{slice_get, slice_set}
-use Rattle.std.specs.List.{remove}
 use Rattle.std.proofs.lemmas.Bool.{cases_eq}
 use Rattle.flow_model.specs.Call.{Call, feeds}
 use Rattle.lane_core.specs.Lane.{Lane}
@@ -13,21 +12,21 @@ use Rattle.net_model.specs.declared.element.TaskElement as elements
 use Rattle.net_model.specs.declared.source.TaskSource as sources
 use Rattle.inlet_row.specs.declared.feeding.Feeding.{Feeding}
 use Rattle.inlet_row.specs.declared.row.InletRow.{InletRow}
-use Rattle.inlet_row.specs.Row.{feeds_of, held}
+use Rattle.inlet_row.specs.Row.{held}
 use Rattle.task_pads.specs.Behind.{over}
 use Rattle.task_pads.proofs.Lists.{set_there}
 use Rattle.task_parts.specs.declared.head.Head.{Head}
-use Rattle.task_parts.specs.declared.head.Head.TheVariants.{Source, Inlets}
+use Rattle.task_parts.specs.declared.head.Head.TheVariants.{Inlets}
 use Rattle.task_parts.specs.declared.head.InletHead.{InletHead}
 use Rattle.task_parts.specs.declared.part.Part.{Part}
 use Rattle.net_task.specs.declared.task.Task.{Task}
-use Rattle.net_task.specs.Frame.{TaskFrame, Wire, frame_in, frame_of, head_frame, by_inlets}
+use Rattle.net_task.specs.Frame.{Wire, frame_of, head_frame}
 use Rattle.net_task.specs.Ready.{AreReady, IsReady}
 use Rattle.net_task.specs.Ties.{AreTied, Stands, Ties, nothing_lost}
 use Rattle.net_turns.specs.Net.{AreWired, HasElement, HasRow, IsFed, ListAt, NetReady, NetStands, Owns, RowStands}
 use Rattle.gst_value.proofs.Basics.{some_same}
 use Rattle.gst_value.proofs.Places.{found_at, set_at, set_here}
-use Rattle.net_groups.specs.Places.{FedAt, HasWire, IsBare, PadOf}
+use Rattle.net_groups.specs.Places.{FedAt, HasWire, IsBare}
 use Rattle.net_groups.specs.Joined.{IsApart, IsJoined, IsMerged, IsUnfed, MovesUp}
 use Rattle.net_groups.proofs.Lists.{moves_once, removed_back, removed_on}
 use Rattle.net_groups.proofs.Merging.{FramesJoined, frames_joined, has_back, has_first, has_second, of_back, ready_joined, tied_joined}

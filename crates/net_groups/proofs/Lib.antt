@@ -10,5 +10,6 @@ mod Within
 mod Taken
 mod Parting
 mod Flags
+mod Entered
 mod Parts
 pub mod Rooms

@@ -8,9 +8,9 @@ use Rattle.net_model.specs.declared.source.TaskSource as sources
 use Rattle.task_pads.specs.Behind.{over}
 use Rattle.task_parts.specs.declared.head.InletHead.{InletHead}
 use Rattle.net_task.specs.declared.task.Task.{Task}
-use Rattle.net_task.specs.Frame.{Wire, frame_of}
+use Rattle.net_task.specs.Frame.{Wire}
 use Rattle.net_turns.specs.Net.{IsFed}
-use Rattle.net_groups.specs.Places.{FedAt, FeedsIt, HasPad, HasWire, IsBare, PadOf}
+use Rattle.net_groups.specs.Places.{FedAt, HasWire, IsBare, PadOf}
 
 -- a place of a list from which one thing was taken out, and the place there of the same thing before
 abbrev pub MovesUp : ℕ → ℕ → ℕ → Type 0

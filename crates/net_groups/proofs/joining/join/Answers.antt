@@ -1,8 +1,7 @@
-use Rattle.std.proofs.Common.{List, ℕ, arith, inl, inr, refl, subst, sym, ap, ◌∙◌}
+use Rattle.std.proofs.Common.{List, ℕ, arith, inl, inr, refl, subst, sym}
 use Rattle.std.proofs.lemmas.Option.{slice_get_within}
 use Rattle.net_task.specs.declared.task.Task.{Task}
 use Rattle.net_groups.specs.Places.{FedAt, PadOf}
-use Rattle.net_groups.specs.Joined.{IsJoined}
 use Rattle.net_groups.proofs.Joins.{joined_ready, joined_stands}
 use Rattle.net_groups.proofs.joining.join.Goals as goal
 

@@ -1,4 +1,4 @@
-use Rattle.std.proofs.Common.{ap, arith, length, refl, sym, ◌∙◌}
+use Rattle.std.proofs.Common.{ap, arith, length, sym, ◌∙◌}
 use Rattle.gst_value.proofs.Basics.{some_same}
 use Rattle.task_pads.proofs.Lists.{some_at}
 use Rattle.net_task.specs.declared.task.Task.{Task}

@@ -1,6 +1,5 @@
-use Rattle.std.proofs.Common.{◌≡◌, ◌-◌, ℕ, List, Some, ap, sym, ◌∙◌, subst, arith, length, vec_len}
+use Rattle.std.proofs.Common.{◌-◌, ℕ, List, ap, sym, ◌∙◌, arith, vec_len}
 use Rattle.std.specs.Prelude.{slice_get, slice_set}
-use Rattle.std.specs.List.{remove}
 use Rattle.task_pads.proofs.Lists.{some_at}
 use Rattle.net_task.specs.declared.task.Task.{Task}
 use Rattle.net_groups.proofs.Lists.{removed_at, set_removed, up_within}
