@@ -1,7 +1,8 @@
 -- A pad of a task leads nowhere now: what the task has, and where its other pads lead.
-use Rattle.std.proofs.Common.{◌≡◌, ◌⊎◌, ℕ, List, Option, Some, map, refl, sym, ap, ◌∙◌, subst, inl, inr}
+use Rattle.std.proofs.Common.{◌≡◌, ◌⊎◌, ℕ, List, Option, Some, length, map, refl, sym, ap, ◌∙◌, subst, inl, inr}
 use Rattle.std.specs.Prelude.{slice_get, slice_set}
 use Rattle.std.proofs.lemmas.Bool.{cases_eq}
+use Rattle.std.proofs.lemmas.List.{length-map}
 use Rattle.lane_core.specs.declared.ends.Outlet as outlets
 use Rattle.net_model.specs.declared.element.TaskElement as elements
 use Rattle.net_model.specs.declared.source.TaskSource as sources
@@ -10,7 +11,7 @@ use Rattle.task_pads.specs.declared.pad.Behind.{Behind}
 use Rattle.task_pads.specs.declared.pad.Behind.TheVariants.{Nothing}
 use Rattle.task_pads.specs.declared.pad.Pad.{Pad}
 use Rattle.task_pads.specs.Pads.{IsLed, number_of}
-use Rattle.task_pads.proofs.Lists.{map_set, set_there}
+use Rattle.task_pads.proofs.Lists.{map_set, set_length, set_there}
 use Rattle.task_parts.specs.Head.{IsSameSource}
 use Rattle.task_parts.specs.declared.head.Head.{Head}
 use Rattle.task_parts.specs.declared.head.Head.TheVariants.{Source, Inlets}
@@ -35,6 +36,12 @@ pub record LeadsBy (pad : ℕ) (frame : TaskFrame) (n : ℕ) : Type 0 where
   pub port : ℕ
   pub leads : wire.leads ≡ inside n port
 
+-- an element of the number stands at a place
+pub record SameAt (parts : List PartFrame) (k number : ℕ) : Type 0 where
+  pub one : PartFrame
+  pub at : slice_get parts k ≡ Some one
+  pub same : one.number ≡ number
+
 -- The pad of a number may lead nowhere now, and all else is as it was.
 pub record IsCut (pad : ℕ) (was is : TaskFrame) : Type 0 where
   pub head : number_of_head is.head ≡ number_of_head was.head
@@ -43,9 +50,11 @@ pub record IsCut (pad : ℕ) (was is : TaskFrame) : Type 0 where
   pub wires : (wire : Wire) → IsWire is wire → IsWire was wire ⊎ (wire.leads ≡ nowhere)
   pub leads : (a b : ℕ) → LeadsOn was a b → LeadsOn is a b ⊎ LeadsBy pad was b
   pub sources : (n : ℕ) → IsSource is n → IsSource was n
+  pub size : length is.parts ≡ length was.parts
+  pub places : (k : ℕ) (one : PartFrame) → slice_get is.parts k ≡ Some one → SameAt was.parts k one.number
 
 pub same_cut : (pad : ℕ) (frame : TaskFrame) → IsCut pad frame frame
-same_cut pad frame = record { head = refl; has = λ n x. x; had = λ n x. x; wires = λ wire x. inl x; leads = λ a b x. inl x; sources = λ n x. x }
+same_cut pad frame = record { head = refl; has = λ n x. x; had = λ n x. x; wires = λ wire x. inl x; leads = λ a b x. inl x; sources = λ n x. x; size = refl; places = λ k one at. record { one = one; at = at; same = refl } }
 
 abbrev wire_in : Wire → HeadFrame → Wire
 wire_in other (by_source n file wire) = wire
@@ -74,6 +83,8 @@ module _ {S E I O L : Type 0} {s : sources.Ghosts S} {e : elements.Ghosts E} (o 
         wires = wires;
         leads = leads;
         sources = λ n x. record { file = s.file old.source; wire = wire_of o old.pad; is = ap (λ (k : ℕ). by_source k (s.file old.source) (wire_of o old.pad)) (sym same.number ∙ ap (λ (h : HeadFrame). number_of_head h) x.is) };
+        size = refl;
+        places = λ k one at. record { one = one; at = at; same = refl };
       }))
     where
       before : Head S I O s
@@ -116,16 +127,21 @@ module _ {S E I O L : Type 0} {s : sources.Ghosts S} {e : elements.Ghosts E} (o 
     wires = wires;
     leads = leads;
     sources = λ n x. record { file = x.file; wire = x.wire; is = x.is };
+    size = length-map (slice_set parts place new) (part_frame o) ∙ set_length parts place new ∙ sym (length-map parts (part_frame o));
+    places = places;
   }
     where
       numbers : map (λ (q : Part E O e). q.number) (slice_set parts place new) ≡ map (λ (q : Part E O e). q.number) parts
       numbers = map_set (λ (q : Part E O e). q.number) parts place old new at changed.number
 
-      has : (n : ℕ) → HasElement (frame_in o head (slice_set parts place new)) n → HasElement (frame_in o head parts) n
-      has n (HasElement.part k one one_at same) =
+      places : (k : ℕ) (one : PartFrame) → slice_get (map (part_frame o) (slice_set parts place new)) k ≡ Some one → SameAt (map (part_frame o) parts) k one.number
+      places k one one_at =
           let z = map_got (part_frame o) (slice_set parts place new) k one one_at in
           let y = map_back (λ (q : Part E O e). q.number) parts (slice_set parts place new) numbers k z.0 z.1 in
-          HasElement.part k (part_frame o y.0) (map_get (part_frame o) parts k y.0 y.1) (sym y.2 ∙ ap (λ (f : PartFrame). f.number) (sym z.2) ∙ same)
+          record { one = part_frame o y.0; at = map_get (part_frame o) parts k y.0 y.1; same = sym y.2 ∙ ap (λ (f : PartFrame). f.number) (sym z.2) }
+
+      has : (n : ℕ) → HasElement (frame_in o head (slice_set parts place new)) n → HasElement (frame_in o head parts) n
+      has n (HasElement.part k one one_at same) = let z = places k one one_at in HasElement.part k z.one z.at (z.same ∙ same)
       has n (HasElement.source file wire is_head) = HasElement.source file wire is_head
 
       had : (n : ℕ) → HasElement (frame_in o head parts) n → HasElement (frame_in o head (slice_set parts place new)) n

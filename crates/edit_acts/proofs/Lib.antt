@@ -6,3 +6,4 @@ mod Parted
 mod Spans
 mod Undone
 mod Runs
+mod Undoes

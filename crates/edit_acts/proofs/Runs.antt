@@ -1,5 +1,6 @@
 -- A run goes on where a link of its graph was undone, with EOS or without.
-use Rattle.std.proofs.Common.{◌≡◌, ◌⊎◌, ◌<◌, ℕ, Bool, true, false, not, if◌then◌else◌, List, [], ◌∷◌, Option, length, map, sym, ap, ◌∙◌, subst, inl, inr, arith}
+use Rattle.std.proofs.Common.{◌≡◌, ◌⊎◌, ℕ, Bool, true, false, not, if◌then◌else◌, List, [], ◌∷◌, Option, length, map, sym, ap, ◌∙◌, subst, inl, inr, arith}
+use Rattle.flow_model.specs.Item.{Item}
 use Rattle.flow_model.specs.Link.{Span}
 use Rattle.flow_model.specs.Eval.{Plan}
 use Rattle.lane_core.specs.Lane.{Lane}
@@ -11,7 +12,7 @@ use Rattle.net_model.specs.declared.element.TaskElement as elements
 use Rattle.net_model.specs.declared.source.TaskSource as sources
 use Rattle.net_task.specs.declared.task.Task.{Task}
 use Rattle.net_turns.specs.Net.{NetStands}
-use Rattle.graph_core.specs.GraphPlan.{IsIn, most_pads, owner_of, pad_id}
+use Rattle.graph_core.specs.GraphPlan.{IsIn, owner_of, pad_id}
 use Rattle.graph_pads.specs.Links.{is_same}
 use Rattle.graph_pads.specs.declared.pad.PadLink.{PadLink}
 use Rattle.graph_pads.specs.declared.pad.PadPlace.{PadPlace}
@@ -22,6 +23,7 @@ use Rattle.edit_model.proofs.LinksStanding.{unlinked_stand}
 use Rattle.edit_core.specs.Tasks.{AreTasksOf}
 use Rattle.edit_core.specs.Ways.{IsRun}
 use Rattle.edit_core.proofs.Marks.{all_undone}
+use Rattle.edit_acts.specs.Undoing.{IsRunWith}
 
 -- a link that is left was there
 left : (source : PadPlace) (links : List PadLink) (link : PadLink) → IsIn link (without source links) → IsIn link links
@@ -48,24 +50,34 @@ module _ {S E I O L : Type 0} {s : sources.Ghosts S} {e : elements.Ghosts E} {i 
   }
 
 module _ {S E I O L : Type 0} {s : sources.Ghosts S} {e : elements.Ghosts E} {i : inlets.Ghosts I L O} {o : outlets.Ghosts O L} (g : Edited) (m : Moment) (tasks : List (Task S E I O L s e i o)) (tells : Option (List Lane))
-    (run : IsRun g m tasks tells) (source : PadPlace) (few : source.pad < most_pads) (eos : Bool) (m' : Moment) (plan : m'.plan ≡ undone (pad_id source) (length (m.history (pad_id source))) eos m.plan) (history : m'.history ≡ m.history) where
+    (pad : ℕ) (source : PadPlace) (w : IsRunWith g m tasks tells pad source) (eos : Bool) (m' : Moment) (plan : m'.plan ≡ undone pad (length (m.history pad)) eos m.plan) (history : m'.history ≡ m.history) where
+  abbrev place : ℕ
+  place = length (m.history pad)
+
   abbrev after : Edited
-  after = unlinked_at source (length (m.history (pad_id source))) eos g
+  after = unlinked_at source place eos g
 
   sinks : (a : ℕ) → is_there g a ≡ true → m'.plan.sinks a ≡ after.spans a
-  sinks a there = ap (λ (p : Plan). p.sinks a) plan ∙ ap (λ (sss : List (List Span)). map (map (undo (pad_id source) (length (m.history (pad_id source))) eos)) sss) (run.sinks a there)
+  sinks a there =
+      ap (λ (p : Plan). p.sinks a) plan
+      ∙ ap (λ (sss : List (List Span)). map (map (undo pad place eos)) sss) (w.run.sinks a there)
+      ∙ ap (λ (p : ℕ). map (map (undo p place eos)) (g.spans a)) w.number
 
   owners : (p a : ℕ) → m'.plan.owner p ≡ a → is_there g a ≡ true → owner_of p ≡ a
-  owners p a own there = run.owners p a (ap (λ (q : Plan). q.owner p) (sym plan) ∙ own) there
+  owners p a own there = w.run.owners p a (ap (λ (q : Plan). q.owner p) (sym plan) ∙ own) there
 
+  kept : IsKept m.history after
+  kept = let same = ap (λ (p : ℕ). length (m.history p)) w.number in unlinked_kept m.history g source place eos (omega (arith, same)) w.run.kept
+
+  -- tasks that stand then and have the elements are those of a run
   pub run_on : (tasks' : List (Task S E I O L s e i o)) → NetStands m' tasks' tells → AreTasksOf g tasks' → IsRun after m' tasks' tells
   run_on tasks' stands are = record {
     net = stands;
-    are = same_are g source (length (m.history (pad_id source))) eos tasks' are;
+    are = same_are g source place eos tasks' are;
     sinks = sinks;
     owners = owners;
-    kept = subst (λ (h : _). IsKept h after) (sym history) (unlinked_kept m.history g source (length (m.history (pad_id source))) eos (omega arith) run.kept);
-    links = unlinked_stand g source (length (m.history (pad_id source))) eos few run.links;
-    made = λ link is. run.made link (left source g.links link is);
-    unmarked = λ a. all_undone (pad_id source) (length (m.history (pad_id source))) eos (g.spans a) (run.unmarked a);
+    kept = subst (λ (h : ℕ → List Item). IsKept h after) (sym history) kept;
+    links = unlinked_stand g source place eos w.few w.run.links;
+    made = λ link is. w.run.made link (left source g.links link is);
+    unmarked = λ a. all_undone (pad_id source) place eos (g.spans a) (w.run.unmarked a);
   }

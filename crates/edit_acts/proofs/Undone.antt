@@ -27,11 +27,10 @@ use Rattle.net_task.specs.Frame.{HeadFrame, IsWire, PartFrame, Wire, WireAt, by_
 use Rattle.net_task.specs.Ties.{LeadsAs}
 use Rattle.net_turns.specs.Net.{HasElement, HasRow, IsFed, NetStands, Owns}
 use Rattle.net_turns.proofs.Facts.{inside_no_row, inside_owned, leads_nowhere, leads_once, wire_owned}
-use Rattle.task_edits.specs.Inside.{IsPadOf}
+use Rattle.task_edits.specs.Inside.{IsPadOf, LeadsElsewhere, NotInside}
 use Rattle.task_edits.specs.Places.{HasNoPad}
 use Rattle.task_edits.specs.declared.inside.Inside.{Inside}
-use Rattle.net_edits.specs.Inside.{HasInside, HasOutside, NoneInside}
-use Rattle.net_edits.specs.Nets.{NoneHas}
+use Rattle.net_edits.specs.Inside.{HasInside}
 use Rattle.net_groups.specs.Behind.{IsBehind, IsElsewhere, IsEntered, IsTree, StepsTo}
 use Rattle.net_groups.specs.Places.{HasWire, IsPartOf}
 use Rattle.net_groups.specs.Splits.{CannotSplit, IsSplit, IsTreeIn, NamesBehind, StaysLed, TookItems, number_in}
@@ -42,10 +41,11 @@ use Rattle.edit_model.specs.Edited.{Edited, is_there}
 use Rattle.edit_model.specs.Refused.{has_lanes}
 use Rattle.edit_core.specs.Tasks.{AreTasksOf, IsReachedIn, number_of_head}
 use Rattle.edit_core.specs.Trees.{LeadsToFirst}
-use Rattle.edit_core.specs.Ways.{IsRun}
+use Rattle.edit_core.specs.Ways.{InnerTookItems, IsRun}
 use Rattle.edit_core.proofs.Inner.{some}
 use Rattle.edit_core.proofs.Trees.{trees_stand, wire_leads, wire_leads_over, wire_leads_as}
 use Rattle.edit_core.proofs.Ways.{inner_pads_are_first, sinks_tell}
+use Rattle.edit_acts.specs.Undoing.{LeadsNoneInside}
 use Rattle.edit_acts.proofs.Cut.{LeadsBy}
 use Rattle.edit_acts.proofs.Made.{are_again, made_both}
 use Rattle.edit_acts.proofs.Parted.{split_made, split_reached}
@@ -73,6 +73,11 @@ module _ {S E I O L : Type 0} {s : sources.Ghosts S} {e : elements.Ghosts E} (o 
       let z = map_got (part_frame o) parts j w.part w.at in
       let y = map_got (wire_of o) z.0.pads.items k wire (ap (λ (f : PartFrame). slice_get f.wires k) (sym z.2) ∙ w.pad_at) in
       none.1 j z.0 z.1 k y.0 y.1 (ap (λ (x : Wire). x.number) (sym y.2) ∙ same)
+
+module _ {S E I O L : Type 0} {s : sources.Ghosts S} {e : elements.Ghosts E} {i : inlets.Ghosts I L O} {o : outlets.Ghosts O L} where
+  -- the element to which a pad leads inside of its task took items alone
+  pub inner_took : (tasks : List (Task S E I O L s e i o)) (pad place : ℕ) (to : Inside) (m : Moment) → InnerTookItems m tasks → HasInside tasks pad place to → TookItems m to.element 1
+  inner_took tasks pad place to m took h = took place h.task (wire_of o h.leads.pad) to.element to.pad h.at (pad_is_wire o h.task.head h.task.parts.items h.leads.pad h.leads.is) h.leads.leads
 
 module _ {S E I O L : Type 0} {s : sources.Ghosts S} {e : elements.Ghosts E} {i : inlets.Ghosts I L O} {o : outlets.Ghosts O L} (g : Edited) (m : Moment) (tasks : List (Task S E I O L s e i o)) (tells : Option (List Lane))
     (run : IsRun g m tasks tells) where
@@ -111,33 +116,40 @@ module _ {S E I O L : Type 0} {s : sources.Ghosts S} {e : elements.Ghosts E} {i 
             inside_no_row m tasks tells run.net k k n port task w.0 row.0 at w.1 (ap (λ (x : Wire). x.leads) (sym w.2) ∙ leads) (record { head = fed; fed = is_fed; number = number; at = row.1 })
 
   module _ (pad : ℕ) where
-    -- where the pad leads to no element of its task
-    pub none_leads : NoneInside tasks pad → (k : ℕ) (task : Task S E I O L s e i o) → slice_get tasks k ≡ Some task → (b : ℕ) → LeadsBy pad (frame_of task) b → ⊥
-    none_leads (inl none) k task at b by = no_wire o task.head task.parts.items pad (none k task at) by.wire by.is by.number
-    none_leads (inr (place, other)) k task at b by = go (goes_of other.leads.pad) refl
+    -- a pad that leads elsewhere leads to no element of its task
+    elsewhere : (place : ℕ) (one : Task S E I O L s e i o) → slice_get tasks place ≡ Some one → LeadsElsewhere one.head one.parts.items pad
+        → (k : ℕ) (task : Task S E I O L s e i o) → slice_get tasks k ≡ Some task → (b : ℕ) → LeadsBy pad (frame_of task) b → ⊥
+    elsewhere place one one_at other k task at b by = go (goes_of other.pad) refl
       where
         here : Leads m.plan pad b by.port
         here = subst (λ (p : ℕ). Leads m.plan p b by.port) by.number (linked k task at by.wire by.is b by.port by.leads)
 
-        other_is : IsWire (frame_of other.task) (wire_of o other.leads.pad)
-        other_is = pad_is_wire o other.task.head other.task.parts.items other.leads.pad other.leads.is
+        other_is : IsWire (frame_of one) (wire_of o other.pad)
+        other_is = pad_is_wire o one.head one.parts.items other.pad other.is
 
-        led : LeadsAs m pad (goes_of other.leads.pad)
-        led = subst (λ (p : ℕ). LeadsAs m p (goes_of other.leads.pad)) other.leads.number_is
-            (wire_leads_as i o m other.task.head other.task.parts.items (run.net.tied place other.task other.at) (wire_of o other.leads.pad) other_is)
+        led : LeadsAs m pad (goes_of other.pad)
+        led = subst (λ (p : ℕ). LeadsAs m p (goes_of other.pad)) other.number_is (wire_leads_as i o m one.head one.parts.items (run.net.tied place one one_at) (wire_of o other.pad) other_is)
 
-        go : (leads : Goes) → goes_of other.leads.pad ≡ leads → ⊥
+        go : (leads : Goes) → goes_of other.pad ≡ leads → ⊥
         go nowhere same = leads_nowhere m.plan pad b by.port here (subst (LeadsAs m pad) same led)
-        go (inside n port) same = other.leads.elsewhere (record { element = n; pad = port }) same
+        go (inside n port) same = other.elsewhere (record { element = n; pad = port }) same
         go (over lane n port from) same =
             let is_n : b ≡ n = (leads_once m.plan pad b by.port n port here (subst (LeadsAs m pad) same led)).0 in
-            let lanes = (run.are.lanes place other.task (wire_of o other.leads.pad) lane n port from other.at other_is same).1 in
+            let lanes = (run.are.lanes place one (wire_of o other.pad) lane n port from one_at other_is same).1 in
             let none = (first k task at by.wire by.is b by.port by.leads).1 in
             true_false (sym lanes ∙ ap (has_lanes g) (sym is_n) ∙ none)
 
+    -- where the pad leads to no element of its task
+    pub none_leads : LeadsNoneInside tasks pad → (k : ℕ) (task : Task S E I O L s e i o) → slice_get tasks k ≡ Some task → (b : ℕ) → LeadsBy pad (frame_of task) b → ⊥
+    none_leads none k task at b by = go (none k task at)
+      where
+        go : NotInside task.head task.parts.items pad → ⊥
+        go (inl no_pad) = no_wire o task.head task.parts.items pad no_pad by.wire by.is by.number
+        go (inr other) = elsewhere k task at other k task at b by
+
     module _ (mid : List (Task S E I O L s e i o)) (cut : AreCut pad tasks mid) where
       -- the tasks have the elements without a split then
-      pub kept_are : NoneInside tasks pad → AreTasksOf g mid
+      pub kept_are : LeadsNoneInside tasks pad → AreTasksOf g mid
       kept_are none = are_again g tasks mid (cut_made pad tasks mid cut) run.are (λ k task n at has.
           let y = cut.back k task at in
           still_reached pad (frame_of y.was) (frame_of task) y.cut.frame (none_leads none k y.was y.at) n (run.are.reached k y.was n y.at (y.cut.frame.has n has)))
@@ -160,10 +172,6 @@ module _ {S E I O L : Type 0} {s : sources.Ghosts S} {e : elements.Ghosts E} {i 
 
         only : (k : ℕ) (task : Task S E I O L s e i o) → slice_get tasks k ≡ Some task → (b : ℕ) → LeadsBy pad (frame_of task) b → b ≡ to.element
         only k task at b by = (leads_once m.plan pad b by.port to.element to.pad (subst (λ (p : ℕ). Leads m.plan p b by.port) by.number (linked k task at by.wire by.is b by.port by.leads)) here).0
-
-        -- the element took items alone
-        pub took : TookItems m to.element 1
-        took = (inner_pads_are_first s e i o g m tasks tells run).1 place h.task wire to.element to.pad h.at is_wire h.leads.leads
 
         part_owned : (k : ℕ) → IsPartOf mid k to.element → Owns tasks k to.element
         part_owned k q = owns_back pad tasks mid cut k to.element (record { task = q.task; at = q.at; has = HasElement.part q.place (part_frame o q.is.part) (map_get (part_frame o) q.task.parts.items q.place q.is.part q.is.at) q.is.number_is })
@@ -259,7 +267,7 @@ module _ {S E I O L : Type 0} {s : sources.Ghosts S} {e : elements.Ghosts E} {i 
           can_split (inr (inr (k, led))) = not_entered k led
 
           pub took_then : TookItems m' to.element 1
-          took_then = undone_took m m' pad (length (m.history pad)) eos to.element 1 plan took
+          took_then = undone_took m m' pad (length (m.history pad)) eos to.element 1 plan (inner_took tasks pad place to m (inner_pads_are_first s e i o g m tasks tells run).1 h)
 
           -- and once it was, the tasks have the elements
           pub split_are : (tasks' : List (Task S E I O L s e i o)) (pads : ℕ) → IsSplit mid tasks' to.element pads → AreTasksOf g tasks'

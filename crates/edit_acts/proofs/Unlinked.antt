@@ -1,7 +1,8 @@
 -- The link of a pad of one of the tasks was undone: each of them may have a pad that leads nowhere now.
-use Rattle.std.proofs.Common.{◌≡◌, ◌⊎◌, ℕ, List, Option, Some, refl, sym, ap, ◌∙◌, subst, inl, inr}
+use Rattle.std.proofs.Common.{◌≡◌, ◌⊎◌, ℕ, List, Option, Some, length, refl, sym, ap, ◌∙◌, subst, inl, inr}
 use Rattle.std.specs.Prelude.{slice_get, slice_set}
 use Rattle.std.proofs.lemmas.Bool.{cases_eq}
+use Rattle.std.proofs.lemmas.List.{length-map}
 use Rattle.lane_core.specs.declared.ends.Inlet as inlets
 use Rattle.lane_core.specs.declared.ends.Outlet as outlets
 use Rattle.net_model.specs.declared.element.TaskElement as elements
@@ -15,14 +16,14 @@ use Rattle.task_parts.specs.declared.head.Head.TheVariants.{Inlets}
 use Rattle.task_parts.specs.declared.head.InletHead.{InletHead}
 use Rattle.task_parts.proofs.Lists.{each_set}
 use Rattle.gst_value.proofs.Basics.{some_same}
-use Rattle.gst_value.proofs.Places.{set_at}
+use Rattle.gst_value.proofs.Places.{map_get, map_got, set_at}
 use Rattle.net_task.specs.declared.task.Task.{Task}
-use Rattle.net_task.specs.Frame.{IsWire, TaskFrame, Wire, frame_of}
+use Rattle.net_task.specs.Frame.{IsWire, PartFrame, Wire, frame_of, part_frame}
 use Rattle.net_turns.specs.Net.{HasRow, IsFed, Owns}
 use Rattle.task_edits.specs.Changes.{LedBy}
 use Rattle.net_edits.specs.Inside.{IsTurned}
 use Rattle.net_edits.specs.Nets.{IsUnlinkedAt}
-use Rattle.net_groups.specs.Places.{HasWire}
+use Rattle.net_groups.specs.Places.{HasWire, IsPartOf}
 use Rattle.edit_acts.proofs.Cut.{IsCut, changed_cut, fed_back, same_cut}
 use Rattle.edit_acts.proofs.Made.{AreMadeOf, HasSource}
 
@@ -117,3 +118,13 @@ module _ {S E I O L : Type 0} {s : sources.Ghosts S} {e : elements.Ghosts E} {i 
         wires : (k : ℕ) (wire : Wire) → HasWire tasks k wire ⊎ (wire.leads ≡ nowhere) → ((j : ℕ) × HasWire tasks j wire) ⊎ (wire.leads ≡ nowhere)
         wires k wire (inl has) = inl (k, has)
         wires k wire (inr none) = inr none
+
+    -- an element stands at the place at which it stood, and there are as many
+    pub part_back : (k n : ℕ) (p : IsPartOf tasks' k n) → (q : IsPartOf tasks k n) × (length q.task.parts.items ≡ length p.task.parts.items)
+    part_back k n p =
+        let y = cut.back k p.task p.at in
+        let z = y.cut.frame.places p.place (part_frame o p.is.part) (map_get (part_frame o) p.task.parts.items p.place p.is.part p.is.at) in
+        let x = map_got (part_frame o) y.was.parts.items p.place z.one z.at in (
+          record { task = y.was; at = y.at; place = p.place; is = record { part = x.0; at = x.1; number_is = ap (λ (f : PartFrame). f.number) (sym x.2) ∙ z.same ∙ p.is.number_is } },
+          sym (length-map y.was.parts.items (part_frame o)) ∙ sym y.cut.frame.size ∙ length-map p.task.parts.items (part_frame o),
+        )

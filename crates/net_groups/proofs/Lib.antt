@@ -6,9 +6,9 @@ mod Merging
 mod Joins
 mod Swapped
 mod Closing
-mod Within
-mod Taken
-mod Parting
+pub mod Within
+pub mod Taken
+pub mod Parting
 mod Flags
 mod Entered
 mod Parts
