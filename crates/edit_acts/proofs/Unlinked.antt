@@ -1,6 +1,7 @@
 -- The link of a pad of one of the tasks was undone: each of them may have a pad that leads nowhere now.
-use Rattle.std.proofs.Common.{◌≡◌, ◌⊎◌, ℕ, List, Option, Some, length, refl, sym, ap, ◌∙◌, subst, inl, inr}
-use Rattle.std.specs.Prelude.{slice_get, slice_set}
+use Rattle.std.proofs.Common.{◌≡◌, ◌⊎◌, ℕ, List, Option, None, Some, length, refl, sym, ap, ◌∙◌, subst, inl, inr}
+use Rattle.std.specs.Prelude.{IfSome, slice_get, slice_set}
+use Rattle.std.specs.Global.{Vec}
 use Rattle.std.proofs.lemmas.Bool.{cases_eq}
 use Rattle.std.proofs.lemmas.List.{length-map}
 use Rattle.lane_core.specs.declared.ends.Inlet as inlets
@@ -22,7 +23,7 @@ use Rattle.net_task.specs.Frame.{IsWire, PartFrame, Wire, frame_of, part_frame}
 use Rattle.net_turns.specs.Net.{HasRow, IsFed, Owns}
 use Rattle.task_edits.specs.Changes.{LedBy}
 use Rattle.net_edits.specs.Inside.{IsTurned}
-use Rattle.net_edits.specs.Nets.{IsUnlinkedAt}
+use Rattle.net_edits.specs.Nets.{IsUnlinked, IsUnlinkedAt, NoneHas}
 use Rattle.net_groups.specs.Places.{HasWire, IsPartOf}
 use Rattle.edit_acts.proofs.Cut.{IsCut, changed_cut, fed_back, same_cut}
 use Rattle.edit_acts.proofs.Made.{AreMadeOf, HasSource}
@@ -77,6 +78,11 @@ module _ {S E I O L : Type 0} {s : sources.Ghosts S} {e : elements.Ghosts E} {i 
     fed = λ head. (fed_back pad u.was.head u.is.head u.was.parts.items u.is.parts.items (LedBy Nothing back) (back ≡ Nothing) u.changed head).0;
     was_fed = λ head. (fed_back pad u.was.head u.is.head u.was.parts.items u.is.parts.items (LedBy Nothing back) (back ≡ Nothing) u.changed head).1;
   }))
+
+  -- what a call told that undid it
+  pub told_cut : (pad : ℕ) (tasks mid : Vec (Task S E I O L s e i o)) (back : Option (Behind O)) → IfSome back (IsUnlinked tasks.items mid.items pad) → (back ≡ None → NoneHas tasks.items pad × (mid ≡ tasks)) → AreCut pad tasks.items mid.items
+  told_cut pad tasks mid (Some back) there none = unlinked_cut pad there.0 tasks.items mid.items back there.2
+  told_cut pad tasks mid None there none = none_cut pad tasks.items mid.items (ap (λ (v : Vec (Task S E I O L s e i o)). v.items) (none refl).1)
 
   -- the same where an element took items then
   pub turned_cut : (pad place : ℕ) (tasks tasks' : List (Task S E I O L s e i o)) (Tied Fed : Task S E I O L s e i o → Task S E I O L s e i o → Type 0) → IsTurned tasks tasks' place pad Nothing Tied Fed → AreCut pad tasks tasks'

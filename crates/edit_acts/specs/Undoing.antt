@@ -9,7 +9,6 @@ use Rattle.net_model.specs.declared.element.TaskElement as elements
 use Rattle.net_model.specs.declared.source.TaskSource as sources
 use Rattle.net_task.specs.declared.task.Task.{Task}
 use Rattle.task_edits.specs.Inside.{NotInside}
-use Rattle.task_edits.specs.declared.inside.Inside.{Inside}
 use Rattle.net_edits.specs.Inside.{HasInside}
 use Rattle.net_groups.specs.Splits.{HasRoomToSplit, pads_of}
 use Rattle.net_groups.specs.declared.splitting.SplitRoom.{SplitRoom}
@@ -25,10 +24,18 @@ module _ {S E I O L : Type 0} {s : sources.Ghosts S} {e : elements.Ghosts E} {i 
   abbrev pub LeadsNoneInside : List (Task S E I O L s e i o) → ℕ → Type 0
   LeadsNoneInside tasks pad = (k : ℕ) (task : Task S E I O L s e i o) → slice_get tasks k ≡ Some task → NotInside task.head task.parts.items pad
 
-  -- Where the pad leads to an element of its task, the room is that to split the task at that element, which gets one row. Else no task is split.
-  pub data HasRoomToUndo (tasks : Vec (Task S E I O L s e i o)) (pad : ℕ) : UndoRoom E I O e → Type 0 where
-    whole : LeadsNoneInside tasks.items pad → HasRoomToUndo tasks pad Whole
-    split : (place : ℕ) (to : Inside) (room : SplitRoom E I O e) → HasInside tasks.items pad place to → HasRoomToSplit tasks to.element room → pads_of room ≡ 1 → HasRoomToUndo tasks pad (Split to.element room)
+  -- The pad leads to the element inside of its task, and the room is that to split the task there, with one row.
+  pub record HasRoomBehind (tasks : Vec (Task S E I O L s e i o)) (pad element : ℕ) (room : SplitRoom E I O e) : Type 0 where
+    pub place : ℕ
+    pub sink : ℕ
+    pub leads : HasInside tasks.items pad place (record { element = element; pad = sink })
+    pub split : HasRoomToSplit tasks element room
+    pub row : pads_of room ≡ 1
+
+  -- Room is there to split the task of the pad at the element to which it leads. Where it leads to none in its task, that stays whole.
+  abbrev pub HasRoomToUndo : Vec (Task S E I O L s e i o) → ℕ → UndoRoom E I O e → Type 0
+  HasRoomToUndo tasks pad Whole = LeadsNoneInside tasks.items pad
+  HasRoomToUndo tasks pad (Split element room) = HasRoomBehind tasks pad element room
 
   -- The pad of this number is a source pad of a run.
   pub record IsRunWith (g : Edited) (m : Moment) (tasks : List (Task S E I O L s e i o)) (tells : Option (List Lane)) (pad : ℕ) (source : PadPlace) : Type 0 where
