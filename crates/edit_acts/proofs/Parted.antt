@@ -1,5 +1,5 @@
 -- What stood behind an element became a task of its own: the tasks are made of those before.
-use Rattle.std.proofs.Common.{◌≡◌, ◌≢◌, ◌⊎◌, ℕ, List, [], Option, Some, length, sym, ap, ◌∙◌, subst, inl, inr}
+use Rattle.std.proofs.Common.{◌≡◌, ◌≢◌, ◌⊎◌, ℕ, List, [], Some, length, sym, ap, ◌∙◌, subst, inl, inr}
 use Rattle.std.specs.Prelude.{slice_get}
 use Rattle.lane_core.specs.declared.ends.Inlet as inlets
 use Rattle.lane_core.specs.declared.ends.Outlet as outlets
@@ -7,17 +7,16 @@ use Rattle.net_model.specs.declared.element.TaskElement as elements
 use Rattle.net_model.specs.declared.source.TaskSource as sources
 use Rattle.inlet_row.specs.declared.row.InletRow.{InletRow}
 use Rattle.inlet_row.specs.Row.{feeds_of}
-use Rattle.task_pads.specs.Behind.{inside, nowhere}
+use Rattle.task_pads.specs.Behind.{inside}
 use Rattle.task_parts.specs.declared.head.Head.{Head}
 use Rattle.task_parts.specs.declared.head.InletHead.{InletHead}
 use Rattle.net_task.specs.declared.task.Task.{Task}
-use Rattle.net_task.specs.Frame.{HeadFrame, IsWire, Wire, by_inlets, by_source, frame_of, head_frame}
+use Rattle.net_task.specs.Frame.{IsWire, Wire, by_inlets, by_source, frame_of, head_frame}
 use Rattle.net_turns.specs.Net.{HasElement, HasRow, IsFed, Owns}
 use Rattle.net_groups.specs.Behind.{IsBehind}
 use Rattle.net_groups.specs.Places.{HasWire, IsPartOf}
 use Rattle.net_groups.specs.Splits.{IsSplitAt}
 use Rattle.net_groups.proofs.Parting.{Came, Found, came, fed_back, fed_on, found, fresh_has, is_has, owned, wires}
-use Rattle.net_groups.proofs.Regrouped.{OwnsWire}
 use Rattle.net_groups.proofs.Wiring.{is_wire, named}
 use Rattle.edit_core.specs.Tasks.{IsReachedIn}
 use Rattle.edit_acts.proofs.Made.{AllReached, AreMadeOf, HasSource, IsSource}

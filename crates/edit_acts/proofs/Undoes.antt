@@ -1,5 +1,5 @@
 -- What is left of a run where the link of a pad was undone, and what it led to was split off in room that was taken before.
-use Rattle.std.proofs.Common.{◌≡◌, ◌<◌, ℕ, Bool, true, false, List, Option, length, refl, sym, ap, ◌∙◌, subst, arith, vec_len, vec_capacity}
+use Rattle.std.proofs.Common.{◌≡◌, ℕ, Bool, true, false, List, Option, length, refl, sym, subst, arith, vec_capacity}
 use Rattle.std.specs.Global.{Vec}
 use Rattle.lane_core.specs.Lane.{Lane}
 use Rattle.lane_core.specs.declared.ends.Inlet as inlets
@@ -12,7 +12,6 @@ use Rattle.net_task.specs.declared.task.Task.{Task}
 use Rattle.net_turns.specs.Net.{NetReady, NetStands}
 use Rattle.task_edits.specs.declared.inside.Inside.{Inside}
 use Rattle.net_edits.specs.Inside.{HasInside}
-use Rattle.net_groups.specs.Places.{IsPartOf}
 use Rattle.net_groups.specs.Splits.{CannotSplit, HasRoomToSplit, IsSplit, IsSplitRoom, TookItems}
 use Rattle.net_groups.specs.declared.splitting.SplitRoom.{SplitRoom}
 use Rattle.graph_pads.specs.declared.pad.PadPlace.{PadPlace}

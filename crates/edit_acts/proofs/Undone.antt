@@ -1,8 +1,7 @@
 -- In a run a pad leads inside of its task to one element, which can be split off once the link of the pad was undone; and the tasks have the
 -- elements of the graph then.
-use Rattle.std.proofs.Common.{◌≡◌, ◌≢◌, ◌⊎◌, ◌<◌, ◌≤◌, ℕ, Bool, true, false, List, Option, Some, length, refl, sym, ap, ◌∙◌, subst, inl, inr, arith}
+use Rattle.std.proofs.Common.{◌≡◌, ◌≢◌, ◌⊎◌, ℕ, Bool, true, false, List, Option, Some, length, refl, sym, ap, ◌∙◌, subst, inl, inr, arith}
 use Rattle.std.specs.Prelude.{slice_get}
-use Rattle.flow_model.specs.Link.{Span}
 use Rattle.flow_model.specs.Eval.{Plan}
 use Rattle.lane_core.specs.Lane.{Lane}
 use Rattle.lane_core.specs.declared.ends.Inlet as inlets
@@ -13,7 +12,6 @@ use Rattle.net_model.specs.Standing.{LinksAt}
 use Rattle.net_model.specs.Step.{Leads}
 use Rattle.net_model.specs.declared.element.TaskElement as elements
 use Rattle.net_model.specs.declared.source.TaskSource as sources
-use Rattle.inlet_row.specs.declared.row.InletRow.{InletRow}
 use Rattle.task_pads.specs.Behind.{Goes, inside, nowhere, over}
 use Rattle.task_pads.specs.declared.pad.Pad.{Pad}
 use Rattle.task_pads.specs.Pads.{goes_of}
@@ -25,13 +23,13 @@ use Rattle.gst_value.proofs.Places.{found_at, map_get, map_got}
 use Rattle.net_task.specs.declared.task.Task.{Task}
 use Rattle.net_task.specs.Frame.{HeadFrame, IsWire, PartFrame, Wire, WireAt, by_source, frame_in, frame_of, head_frame, head_wire, part_frame, wire_of}
 use Rattle.net_task.specs.Ties.{LeadsAs}
-use Rattle.net_turns.specs.Net.{HasElement, HasRow, IsFed, NetStands, Owns}
+use Rattle.net_turns.specs.Net.{HasElement, IsFed, NetStands, Owns}
 use Rattle.net_turns.proofs.Facts.{inside_no_row, inside_owned, leads_nowhere, leads_once, wire_owned}
 use Rattle.task_edits.specs.Inside.{IsPadOf, LeadsElsewhere, NotInside}
 use Rattle.task_edits.specs.Places.{HasNoPad}
 use Rattle.task_edits.specs.declared.inside.Inside.{Inside}
 use Rattle.net_edits.specs.Inside.{HasInside}
-use Rattle.net_groups.specs.Behind.{IsBehind, IsElsewhere, IsEntered, IsTree, StepsTo}
+use Rattle.net_groups.specs.Behind.{IsBehind, IsElsewhere, IsTree, StepsTo}
 use Rattle.net_groups.specs.Places.{HasWire, IsPartOf}
 use Rattle.net_groups.specs.Splits.{CannotSplit, IsSplit, IsTreeIn, NamesBehind, StaysLed, TookItems, number_in}
 use Rattle.net_groups.proofs.Taken.{held_size}
@@ -43,7 +41,7 @@ use Rattle.edit_core.specs.Tasks.{AreTasksOf, IsReachedIn, number_of_head}
 use Rattle.edit_core.specs.Trees.{LeadsToFirst}
 use Rattle.edit_core.specs.Ways.{InnerTookItems, IsRun}
 use Rattle.edit_core.proofs.Inner.{some}
-use Rattle.edit_core.proofs.Trees.{trees_stand, wire_leads, wire_leads_over, wire_leads_as}
+use Rattle.edit_core.proofs.Trees.{trees_stand, wire_leads, wire_leads_as}
 use Rattle.edit_core.proofs.Ways.{inner_pads_are_first, sinks_tell}
 use Rattle.edit_acts.specs.Undoing.{LeadsNoneInside}
 use Rattle.edit_acts.proofs.Cut.{LeadsBy}

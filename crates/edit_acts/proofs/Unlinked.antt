@@ -20,13 +20,13 @@ use Rattle.gst_value.proofs.Basics.{some_same}
 use Rattle.gst_value.proofs.Places.{map_get, map_got, set_at}
 use Rattle.net_task.specs.declared.task.Task.{Task}
 use Rattle.net_task.specs.Frame.{IsWire, PartFrame, Wire, frame_of, part_frame}
-use Rattle.net_turns.specs.Net.{HasRow, IsFed, Owns}
+use Rattle.net_turns.specs.Net.{HasRow, Owns}
 use Rattle.task_edits.specs.Changes.{LedBy}
 use Rattle.net_edits.specs.Inside.{IsTurned}
 use Rattle.net_edits.specs.Nets.{IsUnlinked, IsUnlinkedAt, NoneHas}
 use Rattle.net_groups.specs.Places.{HasWire, IsPartOf}
 use Rattle.edit_acts.proofs.Cut.{IsCut, changed_cut, fed_back, same_cut}
-use Rattle.edit_acts.proofs.Made.{AreMadeOf, HasSource}
+use Rattle.edit_acts.proofs.Made.{AreMadeOf}
 
 module _ {S E I O L : Type 0} {s : sources.Ghosts S} {e : elements.Ghosts E} {i : inlets.Ghosts I L O} {o : outlets.Ghosts O L} where
   -- a task with a pad that may lead nowhere now, fed as before

@@ -1,5 +1,4 @@
-use Rattle.std.proofs.Common.{List, false, ap, refl, subst, sym}
-use Rattle.net_task.specs.declared.task.Task.{Task}
+use Rattle.std.proofs.Common.{false, ap, refl, subst, sym}
 use Rattle.net_groups.specs.Splits.{TookItems, pads_of}
 use Rattle.edit_acts.specs.Undoing.{HasRoomBehind, LeadsNoneInside}
 use Rattle.edit_acts.proofs.Undoes.{ToldSplit, room_then, split_run, told_ready, told_stands, took_beside, whole_run}
