@@ -1,12 +1,11 @@
 -- What stood behind an element became a task of its own: the tasks are made of those before.
-use Rattle.std.proofs.Common.{◌≡◌, ◌≢◌, ◌⊎◌, ℕ, List, [], Some, length, sym, ap, ◌∙◌, subst, inl, inr}
+use Rattle.std.proofs.Common.{◌≡◌, ◌≢◌, ◌⊎◌, ℕ, List, Some, length, sym, ap, ◌∙◌, subst, inl, inr}
 use Rattle.std.specs.Prelude.{slice_get}
 use Rattle.lane_core.specs.declared.ends.Inlet as inlets
 use Rattle.lane_core.specs.declared.ends.Outlet as outlets
 use Rattle.net_model.specs.declared.element.TaskElement as elements
 use Rattle.net_model.specs.declared.source.TaskSource as sources
 use Rattle.inlet_row.specs.declared.row.InletRow.{InletRow}
-use Rattle.inlet_row.specs.Row.{feeds_of}
 use Rattle.task_pads.specs.Behind.{inside}
 use Rattle.task_parts.specs.declared.head.Head.{Head}
 use Rattle.task_parts.specs.declared.head.InletHead.{InletHead}
@@ -19,7 +18,7 @@ use Rattle.net_groups.specs.Splits.{IsSplitAt}
 use Rattle.net_groups.proofs.Parting.{Came, Found, came, fed_back, fed_on, found, fresh_has, is_has, owned, wires}
 use Rattle.net_groups.proofs.Wiring.{is_wire, named}
 use Rattle.edit_core.specs.Tasks.{IsReachedIn}
-use Rattle.edit_acts.proofs.Made.{AllReached, AreMadeOf, HasSource, IsSource}
+use Rattle.edit_acts.proofs.Made.{AllReached, AreMadeOf, HasSource, IsRowOf, IsSource}
 use Rattle.edit_acts.proofs.Reached.{goes_reached, stays_reached}
 
 module _ {S E I O L : Type 0} {s : sources.Ghosts S} {e : elements.Ghosts E} {i : inlets.Ghosts I L O} {o : outlets.Ghosts O L} (tasks tasks' : List (Task S E I O L s e i o)) (place element pads : ℕ)
@@ -42,9 +41,9 @@ module _ {S E I O L : Type 0} {s : sources.Ghosts S} {e : elements.Ghosts E} {i 
       clash : by_inlets z.fed.number (length z.fed.rows.items) ≡ by_source n is.file is.wire → ⊥
       clash same = cc
 
-  row_at : (k n port : ℕ) (row : InletRow I) (has : HasRow tasks' k n port row) → ((j : ℕ) × IsFed tasks j has.head) ⊎ (z.fed ≡ has.head) → ((j : ℕ) × HasRow tasks j n port row) ⊎ (feeds_of row ≡ [])
-  row_at k n port row has (inl y) = inl (y.0, record { head = has.head; fed = y.1; number = has.number; at = has.at })
-  row_at k n port row has (inr same) = inr (z.bare port row (ap (λ (h : InletHead I). slice_get h.rows.items port) same ∙ has.at))
+  row_at : (k n port : ℕ) (row : InletRow I) (has : HasRow tasks' k n port row) → ((j : ℕ) × IsFed tasks j has.head) ⊎ (z.fed ≡ has.head) → IsRowOf tasks n port row
+  row_at k n port row has (inl y) = IsRowOf.of_old y.0 (record { head = has.head; fed = y.1; number = has.number; at = has.at })
+  row_at k n port row has (inr same) = IsRowOf.of_none (z.bare port row (ap (λ (h : InletHead I). slice_get h.rows.items port) same ∙ has.at))
 
   wire_at : (k : ℕ) (wire : Wire) → HasWire tasks' k wire → (j : ℕ) × HasWire tasks j wire
   wire_at k wire has =
@@ -56,7 +55,7 @@ module _ {S E I O L : Type 0} {s : sources.Ghosts S} {e : elements.Ghosts E} {i 
   split_made = record {
     owns = λ k n own. owns k n (came tasks tasks' place element pads z p unled k n own);
     kept = λ k n own. owned tasks tasks' place element pads z p unled k n own;
-    fed = λ k head fed. fed_on tasks tasks' place element pads z p unled k head fed;
+    fed = λ k n fed. let y = fed_on tasks tasks' place element pads z p unled k fed.head fed.fed in (y.0, record { head = fed.head; fed = y.1; number = fed.number });
     wires = λ k wire has. inl (wire_at k wire has);
     sources = λ k n has. source k n has.task has.is (found tasks tasks' place element pads z p unled k has.task has.at);
     rows = λ k n port one has. row_at k n port one has (fed_back tasks tasks' place element pads z p unled k has.head has.fed);

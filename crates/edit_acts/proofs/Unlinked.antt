@@ -26,7 +26,7 @@ use Rattle.net_edits.specs.Inside.{IsTurned}
 use Rattle.net_edits.specs.Nets.{IsUnlinked, IsUnlinkedAt, NoneHas}
 use Rattle.net_groups.specs.Places.{HasWire, IsPartOf}
 use Rattle.edit_acts.proofs.Cut.{IsCut, changed_cut, fed_back, same_cut}
-use Rattle.edit_acts.proofs.Made.{AreMadeOf}
+use Rattle.edit_acts.proofs.Made.{AreMadeOf, IsRowOf}
 
 module _ {S E I O L : Type 0} {s : sources.Ghosts S} {e : elements.Ghosts E} {i : inlets.Ghosts I L O} {o : outlets.Ghosts O L} where
   -- a task with a pad that may lead nowhere now, fed as before
@@ -115,10 +115,10 @@ module _ {S E I O L : Type 0} {s : sources.Ghosts S} {e : elements.Ghosts E} {i 
     cut_made = record {
       owns = λ k n own. (k, owns_back k n own);
       kept = λ k n own. (k, owns_on k n own);
-      fed = λ k head fed. let y = cut.on k fed.task fed.at in (k, record { task = y.is; at = y.at; head_is = y.cut.was_fed head fed.head_is });
+      fed = λ k n fed. let y = cut.on k fed.fed.task fed.fed.at in (k, record { head = fed.head; fed = record { task = y.is; at = y.at; head_is = y.cut.was_fed fed.head fed.fed.head_is }; number = fed.number });
       wires = λ k wire has. wires k wire (wire_back k wire has);
       sources = λ k n has. let y = cut.back k has.task has.at in (k, record { task = y.was; at = y.at; is = y.cut.frame.sources n has.is });
-      rows = λ k n port row has. inl (k, row_back k n port row has);
+      rows = λ k n port row has. IsRowOf.of_old k (row_back k n port row has);
     }
       where
         wires : (k : ℕ) (wire : Wire) → HasWire tasks k wire ⊎ (wire.leads ≡ nowhere) → ((j : ℕ) × HasWire tasks j wire) ⊎ (wire.leads ≡ nowhere)
