@@ -1,5 +1,5 @@
 -- Flags by place, and what they tell.
-use Rattle.std.proofs.Common.{◌≡◌, ◌≢◌, ◌⊎◌, ◌<◌, ◌+◌, ◌++◌, ◌&&◌, ℕ, zero, suc, Bool, true, false, List, [], ◌∷◌, length, get_or, drop, if◌then◌else◌, append_assoc, map, Some, refl, sym, ap, ◌∙◌, subst, inl, inr, arith}
+use Rattle.std.proofs.Common.{◌≡◌, ◌⊎◌, ◌<◌, ◌+◌, ◌++◌, ℕ, zero, suc, Bool, true, false, List, [], ◌∷◌, length, get_or, drop, if◌then◌else◌, append_assoc, Some, refl, sym, ap, ◌∙◌, subst, inl, inr, arith}
 use Rattle.std.specs.Prelude.{slice_get, slice_set}
 use Rattle.std.proofs.lemmas.Bool.{cases_eq}
 use Rattle.std.proofs.lemmas.List.{drop_more}
@@ -8,7 +8,7 @@ use Rattle.task_parts.specs.declared.part.Part.{Part}
 use Rattle.task_pads.proofs.Lists.{set_there}
 use Rattle.gst_value.proofs.Basics.{some_same}
 use Rattle.net_groups.proofs.Lists.{append_back}
-use Rattle.net_groups.specs.Behind.{AreParted, none, stays, goes, FlaggedAt, IsBehind, itself, further, IsLed, first, led, IsNext, LeadTo, NoneIsNext, NoneSet, StepsTo, TellBehind, flagged, unflagged, unmarked}
+use Rattle.net_groups.specs.Behind.{AreParted, none, stays, goes, FlaggedAt, IsBehind, itself, further, IsLed, first, led, IsNext, LeadTo, NoneIsNext, NoneSet, TellBehind, flagged, unflagged, unmarked}
 
 -- the flag of a place
 pub flag_at : (flags : List Bool) (k : ℕ) (b : Bool) → k < length flags → get_or flags k false ≡ b → slice_get flags k ≡ Some b

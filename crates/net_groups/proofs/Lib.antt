@@ -3,6 +3,7 @@ mod Finds
 pub mod Wiring
 pub mod Regrouped
 mod Merging
+mod Sending
 mod Joins
 mod Swapped
 mod Closing
@@ -10,5 +11,7 @@ mod Within
 mod Taken
 mod Parting
 mod Flags
+mod Entered
 mod Parts
+mod Most
 pub mod Rooms

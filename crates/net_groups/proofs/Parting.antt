@@ -1,9 +1,8 @@
 -- A task of a net becomes two: the net is ready as it was, and stands.
-use Rattle.std.proofs.Common.{◌≡◌, ◌≢◌, ◌⊎◌, ◌<◌, ◌+◌, ◌++◌, ℕ, zero, suc, List, [], ◌∷◌, length, Option, None, Some, refl, sym, ap, ◌∙◌, subst, inl, inr, arith, append-nil}
+use Rattle.std.proofs.Common.{◌≡◌, ◌≢◌, ◌⊎◌, ◌<◌, ◌+◌, ◌++◌, ℕ, zero, suc, List, [], ◌∷◌, length, Option, Some, refl, sym, ap, ◌∙◌, subst, inl, inr, arith, append-nil}
 use Rattle.std.specs.Prelude.{slice_get, slice_set}
 use Rattle.std.proofs.lemmas.Bool.{cases_eq}
 use Rattle.std.proofs.lemmas.Option.{slice_get_within}
-use Rattle.flow_model.specs.Item.{Item}
 use Rattle.flow_model.specs.Call.{feeds}
 use Rattle.lane_core.specs.Lane.{IsIn, Lane}
 use Rattle.lane_core.specs.declared.ends.Inlet as inlets
@@ -14,38 +13,36 @@ use Rattle.net_model.specs.declared.element.TaskElement as elements
 use Rattle.net_model.specs.declared.source.TaskSource as sources
 use Rattle.inlet_row.specs.declared.feeding.Feeding.{Feeding}
 use Rattle.inlet_row.specs.declared.row.InletRow.{InletRow}
-use Rattle.inlet_row.specs.Row.{Apart, ForLanes, GaveInAll, GaveOf, RowBetween, feeds_of, held}
+use Rattle.inlet_row.specs.Row.{Apart, ForLanes, GaveInAll, GaveOf, feeds_of, held}
 use Rattle.task_pads.specs.Behind.{inside}
-use Rattle.task_pads.specs.declared.pad.Pad.{Pad}
-use Rattle.task_pads.specs.Pads.{goes_of}
 use Rattle.task_pads.proofs.Lists.{set_length, set_there}
 use Rattle.task_parts.specs.declared.head.Head.{Head}
 use Rattle.task_parts.specs.declared.head.Head.TheVariants.{Source, Inlets}
 use Rattle.task_parts.specs.declared.head.InletHead.{InletHead}
 use Rattle.task_parts.specs.declared.part.Part.{Part}
 use Rattle.net_task.specs.declared.task.Task.{Task}
-use Rattle.net_task.specs.Frame.{HeadFrame, by_source, by_inlets, IsWire, of_part as wire_part, PartFrame, Wire, WireAt, frame_in, frame_of, head_frame, part_frame, wire_of}
+use Rattle.net_task.specs.Frame.{HeadFrame, by_source, by_inlets, IsWire, of_part as wire_part, PartFrame, Wire, frame_of, head_frame, part_frame, wire_of}
 use Rattle.net_task.specs.Ready.{AreReady, IsReady}
-use Rattle.net_task.specs.Ties.{AreTied, NoneLeads, RowTied, Stands, Ties, nothing_lost}
+use Rattle.net_task.specs.Ties.{AreTied, RowTied, Stands, Ties, nothing_lost}
 use Rattle.net_turns.specs.Net.{AreWired, HasElement, HasRow, IsFed, ListAt, NetReady, NetStands, Owns, RowStands, part as has_part, source as has_source}
 use Rattle.net_turns.proofs.Facts.{fed_owned}
 use Rattle.gst_value.proofs.Basics.{some_same}
-use Rattle.gst_value.proofs.Places.{map_get, map_got, set_at, set_here}
+use Rattle.gst_value.proofs.Places.{map_got, set_at, set_here}
 use Rattle.net_groups.specs.Places.{IsBare, IsPartOf}
-use Rattle.net_groups.specs.Behind.{AreParted, IsBehind, IsTree, itself}
-use Rattle.net_groups.specs.Splits.{IsSplitAt, IsTreeIn, TookItems, number_in}
+use Rattle.net_groups.specs.Behind.{IsBehind, itself}
+use Rattle.net_groups.specs.Splits.{IsSplitAt, TookItems, number_in}
 use Rattle.net_groups.proofs.Lists.{append_back, append_first, append_second}
 use Rattle.net_groups.proofs.Regrouped.{OwnsWire, Regrouped, regrouped_ready, regrouped_stands}
 use Rattle.net_groups.proofs.Taken.{GotAt, held_size, none_at, took_items}
-use Rattle.net_groups.proofs.Wiring.{IsOf, of_part, of_source, part_has}
-use Rattle.net_groups.proofs.Within.{gone_within, kept_within, of_within, part_within, parted_on, parts_ready_within, parts_tied_within, place_in, ready_within, tied_within, wire_within, wires_apart_within, within_at}
+use Rattle.net_groups.proofs.Wiring.{IsOf, of_part, of_source, pad_wire, part_has}
+use Rattle.net_groups.proofs.Within.{gone_within, kept_within, of_within, part_within, parted_on, parts_ready_within, parts_tied_within, place_in, ready_within, tied_within, wires_apart_within, within_at}
 
 abbrev frame_number : HeadFrame → ℕ
 frame_number (by_source x f w) = x
 frame_number (by_inlets x r) = x
 
 module _ {S E I O L : Type 0} {s : sources.Ghosts S} {e : elements.Ghosts E} {i : inlets.Ghosts I L O} {o : outlets.Ghosts O L} (tasks tasks' : List (Task S E I O L s e i o)) (place element pads : ℕ)
-    (z : IsSplitAt tasks tasks' place element pads) (p : IsPartOf tasks place element) (tree : IsTree (frame_of z.was) element) where
+    (z : IsSplitAt tasks tasks' place element pads) (p : IsPartOf tasks place element) (unled : (wire : Wire) (port : ℕ) → IsWire (frame_of z.was) wire → wire.leads ≢ inside element port) where
   abbrev was : Task S E I O L s e i o
   was = z.was
 
@@ -286,7 +283,7 @@ module _ {S E I O L : Type 0} {s : sources.Ghosts S} {e : elements.Ghosts E} {i 
           took = g.took;
           apart = λ j k part pad part_at pad_at leads.
               let at = (within_at (gone_within z.parted) j part part_at).0 in
-              tree.unfed (wire_of o pad) port (wire_part (place_in (gone_within z.parted) j) k (record { part = part_frame o part; at = map_get (part_frame o) was.parts.items (place_in (gone_within z.parted) j) part at; pad_at = map_get (wire_of o) part.pads.items k pad pad_at })) leads;
+              unled (wire_of o pad) port (wire_part (place_in (gone_within z.parted) j) k (pad_wire o was.head was.parts.items (place_in (gone_within z.parted) j) k part pad at pad_at)) leads;
         })
 
     tied : (k : ℕ) (task : Task S E I O L s e i o) → slice_get tasks' k ≡ Some task → Ties task m

@@ -1,4 +1,5 @@
 pub mod Places
+pub mod Lanes
 pub mod Joined
 pub mod Behind
 pub mod Splits

@@ -4,8 +4,10 @@
 
 mod behind;
 pub mod joining;
+mod lanes;
 mod places;
+mod sizes;
 pub mod splitting;
 
-pub use joining::join;
+pub use joining::{JoinRoom, join, join_reserved, room_to_join};
 pub use splitting::{SplitRoom, room_to_split, split, split_reserved};

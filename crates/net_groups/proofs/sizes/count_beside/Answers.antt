@@ -1,7 +1,7 @@
 use Rattle.std.proofs.Common.{List, ap, arith, length, subst, sym}
 use Rattle.task_parts.specs.declared.part.Part.{Part}
 use Rattle.net_groups.specs.Places.{PartIs}
-use Rattle.net_groups.proofs.splitting.count_beside.Goals as goal
+use Rattle.net_groups.proofs.sizes.count_beside.Goals as goal
 
 pub returns-then-has_part : goal.returns-then-has_part
 returns-then-has_part g c = λ place is. let e = ap (λ (ps : List (Part _ _ _)). length ps) c.parts-then-has_part.ensures in omega (arith, e)
