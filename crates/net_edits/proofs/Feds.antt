@@ -33,6 +33,7 @@ use Rattle.gst_value.proofs.Basics.{some_same}
 use Rattle.gst_value.proofs.Places.{map_get}
 use Rattle.task_edits.proofs.Padding.{OthersLead, replanned, tied_without}
 use Rattle.net_edits.proofs.Alikes.{Alike}
+use Rattle.net_edits.proofs.Laying.{laid_of}
 use Rattle.net_edits.proofs.Restands.{fed_back, fed_on, own_pad, owns_on, ready_again, row_back, sends_back, wired_again}
 
 -- what another sink pad took
@@ -122,7 +123,7 @@ module _ {S E I O L : Type 0} {s : sources.Ghosts S} {e : elements.Ghosts E} {i 
       other_tied : (x : ℕ) (t : Task S E I O L s e i o) → (x ≡ k → ⊥) → slice_get tasks x ≡ Some t → Ties t m → Ties t behind
       other_tied x t ne got z =
           else_tied i o (replanned sinks m) n css out t.head t.parts.items (heads t.head refl) parts
-          (tied_without i o sinks m p t.head t.parts.items (own_pad tasks k old new at alike sinks m p tells stands x t got 0 owns ne) others z)
+          (tied_without i o sinks m p t.head t.parts.items (own_pad tasks k old new at alike sinks m p tells stands.table stands.sents (laid_of m tasks tells stands) x t got 0 owns ne) others z)
         where
           not_it : (a : ℕ) → Owns tasks x a → a ≢ n
           not_it a own same = ne (stands.wired.once x k n (subst (Owns tasks x) same own) owns_to)

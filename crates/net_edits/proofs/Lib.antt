@@ -1,4 +1,5 @@
 mod Swapped
+mod Laying
 mod Alikes
 mod Restands
 mod Acts
@@ -6,11 +7,15 @@ pub mod Counts
 mod Fresh
 mod RowsGrown
 mod TiesGrown
-mod NetGrown
+pub mod NetGrown
 mod PadsOver
-mod NetLed
+pub mod NetLed
 mod Pushed
-mod Linked
+mod Pushing
+pub mod Linked
+mod Parted
+mod Ended
+mod Lefts
 mod Rowed
 mod LanesMore
 mod Beside

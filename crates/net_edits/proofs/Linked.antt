@@ -1,10 +1,8 @@
 -- A net stands and is ready where a pad was linked over a new lane, and where a link fell for want of memory.
 use Rattle.std.proofs.Common.{◌≡◌, ◌≢◌, ◌⊎◌, ◌++◌, ◌≤◌, ◌^◌, ℕ, List, [], ◌∷◌, length, map, Option, Some, refl, sym, ap, ◌∙◌, subst, append-nil, append_assoc, inl, inr, arith}
 use Rattle.std.specs.Prelude.{slice_get}
-use Rattle.std.proofs.lemmas.Bool.{cases_eq}
 use Rattle.flow_model.specs.Call.{Call, feeds}
 use Rattle.flow_model.specs.Item.{Ev, Event, Item}
-use Rattle.flow_model.specs.SinkPads.{InSection, push_calls}
 use Rattle.flow_model.specs.Sticky.{stickies}
 use Rattle.lane_core.specs.Lane.{IsBetween, IsIn, Lane}
 use Rattle.lane_core.specs.declared.ends.Inlet as inlets
@@ -16,8 +14,6 @@ use Rattle.inlet_row.specs.declared.row.InletRow.{InletRow}
 use Rattle.inlet_row.specs.Row.{Apart, ForLanes, GaveOf, feeds_of, held as holds_in, items_of}
 use Rattle.net_model.specs.Edit.{IsFree, linked, linked_over, opening_calls}
 use Rattle.net_model.specs.Moment.{Moment, put_at}
-use Rattle.net_model.specs.Split.{AreEmpty, NoneAt}
-use Rattle.net_model.specs.Standing.{LinksAt}
 use Rattle.net_model.specs.Step.{LeadsNowhere, planned}
 use Rattle.net_model.proofs.Acts.{linking_over_keeps}
 use Rattle.net_model.proofs.Inputs.{at_here, at_other}
@@ -27,8 +23,6 @@ use Rattle.gst_value.proofs.Basics.{some_same}
 use Rattle.task_pads.specs.declared.pad.Pad.{Pad}
 use Rattle.task_pads.specs.Pads.{HasCrossed, number_of}
 use Rattle.task_parts.specs.declared.head.Head.{Head}
-use Rattle.task_parts.specs.declared.head.Head.TheVariants.{Source, Inlets}
-use Rattle.task_parts.specs.declared.head.InletHead.{InletHead}
 use Rattle.task_parts.specs.declared.part.Part.{Part}
 use Rattle.net_task.specs.declared.task.Task.{Task}
 use Rattle.net_task.specs.Ready.{EndsWith}
@@ -44,18 +38,12 @@ use Rattle.task_edits.specs.declared.leading.NewLane.{NewLane}
 use Rattle.task_edits.specs.declared.openings.Opening.{Opening}
 use Rattle.net_edits.specs.Over.{AreKept, IsGrownAt, IsLinkedOver, IsNewLane, NoneIsOf, NoneSends, lane_from, opened_by}
 use Rattle.net_edits.specs.declared.over.NewLink.{NewLink}
-use Rattle.net_edits.proofs.NetGrown.{AreFresh, Laid, Lays, found, here, laid_grown, net_grown, row_now, sends_back, there}
+use Rattle.net_edits.proofs.Laying.{Laid, laid_of, net_of}
+use Rattle.net_edits.proofs.NetGrown.{AreFresh, Lays, element_grown, found, laid_grown, net_grown, row_now, sends_back}
 use Rattle.net_edits.proofs.NetLed.{laid_led, net_led}
-use Rattle.net_edits.proofs.Pushed.{feeds_more, free_alone, push_else, push_here, push_many, push_none, push_section, stickies_calm}
+use Rattle.net_edits.proofs.Pushed.{feeds_more, free_alone, stickies_calm}
+use Rattle.net_edits.proofs.Pushing.{lays_pushed, pushed}
 use Rattle.net_edits.proofs.TiesGrown.{held_at}
-
--- what is so where a value is put, and elsewhere
-put_or : {A : Type 0} (P : ℕ → A → Type 0) (n : ℕ) (now : A) (f : ℕ → A) (k : ℕ) → (k ≡ n → P n now) → ((k ≡ n → ⊥) → P k (f k)) → P k (put_at n now f k)
-put_or P n now f k here there = go (cases_eq k n)
-  where
-    go : (k ≡ n) ⊎ (k ≡ n → ⊥) → P k (put_at n now f k)
-    go (inl same) = subst (λ (j : ℕ). P j (put_at n now f j)) (sym same) (subst (P n) (sym (at_here n now f)) (here same))
-    go (inr other) = subst (P k) (sym (at_other n now f k other)) (there other)
 
 module _ {I : Type 0} where
   -- what is so of the lane behind the events
@@ -109,24 +97,8 @@ module _ {S E I O L : Type 0} {s : sources.Ghosts S} {e : elements.Ghosts E} {i 
           section = λ a h. h;
           empty = λ a ne h. h;
           inner = λ p a b leads h. h;
-        }) feeds_more
-        (record { tied = n.tied; ready = n.ready; wired = n.wired; first = n.first; told = n.told; sent = n.sent; rows = n.rows; each = n.each; others = n.others; loose = n.loose }) in
-        record {
-          plain = n.plain;
-          tied = laid.tied;
-          ready = laid.ready;
-          wired = laid.wired;
-          cells = n.cells;
-          first = laid.first;
-          table = n.table;
-          told = laid.told;
-          sents = n.sents;
-          sent = laid.sent;
-          rows = laid.rows;
-          each = laid.each;
-          others = laid.others;
-          loose = laid.loose;
-        }
+        }) feeds_more (laid_of m tasks tells n) in
+        net_of m tasks' tells n.table n.sents laid n.plain n.cells
 
   pub kept_ready : (tasks tasks' : List (Task S E I O L s e i o)) → AreKept tasks tasks' → (tells : Option (List Lane)) → NetReady tasks tells → NetReady tasks' tells
   kept_ready tasks tasks' (inl same) tells n = subst (λ (ts : List (Task S E I O L s e i o)). NetReady ts tells) (sym same) n
@@ -153,28 +125,15 @@ module _ {S E I O L : Type 0} {s : sources.Ghosts S} {e : elements.Ghosts E} {i 
         go (inl t) = absurd (l.ends.other t.0)
         go (inr t) = some_same (sym t.1 ∙ l.ends.sends.at)
 
-    sender_at : slice_get tasks l.sender ≡ Some l.led.was
+    pub sender_at : slice_get tasks l.sender ≡ Some l.led.was
     sender_at = l.ends.sends.at ∙ ap Some (sym sender_same)
 
     -- the row that was opened is that of the sink pad
-    element_is : l.grown.grew.old.number ≡ to.element
-    element_is =
-        let row = l.ends.feeds.1 in
-        let one : l.grown.was ≡ row.fed.task = some_same (sym l.grown.at ∙ row.fed.at) in
-        ap (λ (h : InletHead I). h.number) (heads (sym l.grown.grew.was_fed ∙ (ap (λ (t : Task S E I O L s e i o). t.head) one ∙ row.fed.head_is))) ∙ row.number
-      where
-        head_or : InletHead I → Head S I O s → InletHead I
-        head_or fed (Source head) = fed
-        head_or fed (Inlets head) = head
-
-        from_inlets : InletHead I → Head S I O s
-        from_inlets head = Inlets head
-
-        heads : {a b : InletHead I} → from_inlets a ≡ from_inlets b → a ≡ b
-        heads {a} same = ap (head_or a) same
+    pub element_is : l.grown.grew.old.number ≡ to.element
+    element_is = element_grown tasks l.between l.receiver to.pad more l.grown to.element l.ends.feeds.0 l.ends.feeds.1
 
     -- what the pad was, and what it is
-    pads : (was : Pad O) × (is : Pad O) × (number_of was ≡ pad) × LedBy (lane_behind lane) l.led.back was is × PadIs l.led.was.head l.led.was.parts.items l.led.is.head l.led.is.parts.items was is
+    pub pads : (was : Pad O) × (is : Pad O) × (number_of was ≡ pad) × LedBy (lane_behind lane) l.led.back was is × PadIs l.led.was.head l.led.was.parts.items l.led.is.head l.led.is.parts.items was is
     pads = go l.led.changed
       where
         go : Changed (LedBy (lane_behind lane) l.led.back) (l.led.back ≡ lane_behind lane) pad l.led.was.head l.led.was.parts.items l.led.is.head l.led.is.parts.items
@@ -217,7 +176,7 @@ module _ {S E I O L : Type 0} {s : sources.Ghosts S} {e : elements.Ghosts E} {i 
 
       module _ (m : Moment) (n : NetStands m tasks tells) (nowhere : LeadsNowhere m.plan pad) (free : IsFree to.pad (m.plan.sinks to.element)) where
         abbrev held : ℕ → List (List Call)
-        held = put_at to.element (push_calls to.pad (opening_calls pad m) (m.held to.element)) m.held
+        held = pushed to.element to.pad (opening_calls pad m) m
 
         abbrev sents : ℕ → List Item
         sents = put_at (o.place to.outlet) [] n.sents
@@ -242,25 +201,8 @@ module _ {S E I O L : Type 0} {s : sources.Ghosts S} {e : elements.Ghosts E} {i 
         calls_are = ap feeds (holds ∙ opened.0)
 
         lays : Lays tasks l.between l.receiver to.pad more l.grown m held (feeds (holds_in i n.table more))
-        lays = record {
-          here_more = λ was at. subst (λ (calls : List Call). ListAt to.pad (held l.grown.grew.old.number) (was ++ calls)) (sym calls_are)
-              (subst (λ (css : List (List Call)). ListAt to.pad css (was ++ opening_calls pad m)) (sym (ap held element_is ∙ at_here to.element (push_calls to.pad (opening_calls pad m) (m.held to.element)) m.held))
-              (push_here to.pad (opening_calls pad m) (m.held to.element) was (subst (λ (a : ℕ). ListAt to.pad (m.held a) was) element_is at)));
-          elsewhere = λ a b was ne at.
-              put_or (λ k css. k ≡ a → ListAt b css was) to.element (push_calls to.pad (opening_calls pad m) (m.held to.element)) m.held a
-              (λ same back. push_else to.pad b (opening_calls pad m) (m.held to.element) was (λ at_port. ne (same ∙ sym element_is) at_port) (subst (λ (k : ℕ). ListAt b (m.held k) was) same at)) (λ other back. at) refl;
-          many = λ a. put_or (λ k css. length css ≡ length (m.held k)) to.element (push_calls to.pad (opening_calls pad m) (m.held to.element)) m.held a (λ same. push_many to.pad (opening_calls pad m) (m.held to.element)) (λ other. refl);
-          section = λ a h.
-              put_or (λ k css. InSection 0 css) to.element (push_calls to.pad (opening_calls pad m) (m.held to.element)) m.held a
-              (λ same. push_section to.pad (opening_calls pad m) (m.held to.element) (stickies_calm (m.history pad)) (subst (λ (k : ℕ). InSection 0 (m.held k)) same h)) (λ other. h);
-          empty = λ a ne h.
-              put_or (λ k css. AreEmpty css) to.element (push_calls to.pad (opening_calls pad m) (m.held to.element)) m.held a (λ same. absurd (ne (same ∙ sym element_is))) (λ other. h);
-          inner = λ p a b leads h.
-              put_or (λ k css. NoneAt b css) to.element (push_calls to.pad (opening_calls pad m) (m.held to.element)) m.held a
-              (λ same. push_none to.pad b (opening_calls pad m) (m.held to.element)
-              (λ at_port. free_alone p to.pad (m.plan.sinks to.element) free (subst (λ (k : ℕ). LinksAt p k (m.plan.sinks to.element)) at_port (subst (λ (k : ℕ). LinksAt p b (m.plan.sinks k)) same leads.here)))
-              (subst (λ (k : ℕ). NoneAt b (m.held k)) same h)) (λ other. h);
-        }
+        lays = subst (λ (calls : List Call). Lays tasks l.between l.receiver to.pad more l.grown m held calls) (sym calls_are)
+            (lays_pushed tasks l.between l.receiver to.pad more l.grown m to.element (opening_calls pad m) element_is (stickies_calm (m.history pad)) (λ p leads. free_alone p to.pad (m.plan.sinks to.element) free leads.here))
 
         between_laid : Laid (held_at held m) l.between tells n.table sents
         between_laid =
@@ -268,7 +210,7 @@ module _ {S E I O L : Type 0} {s : sources.Ghosts S} {e : elements.Ghosts E} {i 
             (λ k p place from x end. absurd (none_sends k p place from (subst (λ (a : ℕ). SendsInto tasks k p place from a to.pad) element_is x)))
             (λ a far. at_other (o.place to.outlet) [] n.sents a (λ same. last far (new.one_place ∙ sym same)))
             (for_opened (λ inlet. GaveOf i (Some n.table) sents inlet []) l.opening.events to.lane to.inlet gave) lays feeds_more
-            (record { tied = n.tied; ready = n.ready; wired = n.wired; first = n.first; told = n.told; sent = n.sent; rows = n.rows; each = n.each; others = n.others; loose = n.loose })
+            (laid_of m tasks tells n)
           where
             last : {a : ℕ} → ForLanes (λ inlet. i.place inlet ≢ a) more → i.place to.inlet ≢ a
             last {a} far = go l.opening.events far
@@ -297,20 +239,5 @@ module _ {S E I O L : Type 0} {s : sources.Ghosts S} {e : elements.Ghosts E} {i 
         -- The tasks stand.
         pub linked_stands : NetStands (linked_over pad to.element to.pad m) tasks' tells
         linked_stands =
-            let now : Laid (linked_over pad to.element to.pad m) tasks' tells n.table sents = subst (λ (from : ℕ). Laid (planned (linked pad from to.element to.pad m.plan) (held_at held m)) tasks' tells n.table sents) opened.1 laid in
-            record {
-              plain = record { uncut = n.plain.uncut; calm = n.plain.calm; closed = n.plain.closed };
-              tied = now.tied;
-              ready = now.ready;
-              wired = now.wired;
-              cells = λ a. linking_over_keeps m pad to.element to.pad (record { free = free }) a (n.cells a);
-              first = now.first;
-              table = n.table;
-              told = now.told;
-              sents = sents;
-              sent = now.sent;
-              rows = now.rows;
-              each = now.each;
-              others = now.others;
-              loose = now.loose;
-            }
+            net_of (linked_over pad to.element to.pad m) tasks' tells n.table sents (subst (λ (from : ℕ). Laid (planned (linked pad from to.element to.pad m.plan) (held_at held m)) tasks' tells n.table sents) opened.1 laid)
+            (record { uncut = n.plain.uncut; calm = n.plain.calm; closed = n.plain.closed }) (λ a. linking_over_keeps m pad to.element to.pad (record { free = free }) a (n.cells a))

@@ -1,5 +1,5 @@
 -- More stands behind a row of one of the tasks: the net is wired and ready, and stands where that much more stands in the inlet.
-use Rattle.std.proofs.Common.{◌≡◌, ◌≢◌, ◌≤◌, ◌^◌, ◌⊎◌, ◌++◌, ℕ, List, [], drop, length, Option, Some, refl, sym, ap, ◌∙◌, subst, inl, inr}
+use Rattle.std.proofs.Common.{◌≡◌, ◌≢◌, ◌≤◌, ◌^◌, ◌⊎◌, ◌++◌, ℕ, List, [], length, Option, Some, refl, sym, ap, ◌∙◌, subst, inl, inr}
 use Rattle.std.specs.Prelude.{slice_get}
 use Rattle.std.proofs.lemmas.Bool.{cases_eq}
 use Rattle.flow_model.specs.Call.{Call, feeds}
@@ -31,6 +31,7 @@ use Rattle.net_turns.specs.Net.{AreWired, HasElement, HasRow, IsFed, LaneOut, Li
 use Rattle.net_turns.proofs.Facts.{row_owned}
 use Rattle.task_edits.specs.Leads.{NoInlet}
 use Rattle.net_edits.specs.Over.{IsGrownAt, NoneIsOf}
+use Rattle.net_edits.proofs.Laying.{Laid}
 use Rattle.net_edits.proofs.RowsGrown.{Differ, Unused, apart_grown, for_swap, frame_grown, gave_map, gave_more, grown_apart, held_more, row_here, row_there, row_was, rows_many, task_ready}
 use Rattle.net_edits.proofs.TiesGrown.{InnerStays, held_at, ties_grown, ties_held}
 
@@ -43,19 +44,6 @@ module _ {S I O : Type 0} {s : sources.Ghosts S} where
   inlets_same one other head a b = ap (inlets_in one) (sym a ∙ b)
 
 module _ {S E I O L : Type 0} {s : sources.Ghosts S} {e : elements.Ghosts E} {i : inlets.Ghosts I L O} {o : outlets.Ghosts O L} where
-  -- All that stands of a net but its elements and what was done to its graph.
-  pub record Laid (m : Moment) (tasks : List (Task S E I O L s e i o)) (tells : Option (List Lane)) (table : List Lane) (sents : ℕ → List Item) : Type 0 where
-    pub tied : (k : ℕ) (task : Task S E I O L s e i o) → slice_get tasks k ≡ Some task → Ties task m
-    pub ready : (k : ℕ) (task : Task S E I O L s e i o) → slice_get tasks k ≡ Some task → IsReady tells task
-    pub wired : AreWired tasks
-    pub first : (n : ℕ) → InSection 0 (m.took n) × InSection 0 (m.held n)
-    pub told : tells ≡ Some table
-    pub sent : (k p place from n port : ℕ) → SendsInto tasks k p place from n port → sents place ≡ drop from (m.history p)
-    pub rows : (k n port : ℕ) (row : InletRow I) → HasRow tasks k n port row → RowStands i table sents m n port row
-    pub each : (k : ℕ) (head : InletHead I) → IsFed tasks k head → length (m.held head.number) ≡ length head.rows.items
-    pub others : (n : ℕ) → ((k : ℕ) (head : InletHead I) → IsFed tasks k head → head.number ≢ n) → AreEmpty (m.held n)
-    pub loose : (p : ℕ) → ((k : ℕ) → Owns tasks k (m.plan.owner p) → ⊥) → m.waits p ≡ []
-
   -- lanes of the table that no task uses, each another
   pub record AreFresh (tells : Option (List Lane)) (tasks : List (Task S E I O L s e i o)) (more : List (Feeding I)) : Type 0 where
     pub unused : ForLanes (λ inlet. NoneIsOf tasks (i.place inlet)) more
@@ -132,6 +120,11 @@ module _ {S E I O L : Type 0} {s : sources.Ghosts S} {e : elements.Ghosts E} {i 
             let one : g.was ≡ h.task = some_same (sym g.at ∙ (ap (λ (x : ℕ). slice_get tasks x) (sym same) ∙ h.at)) in
             inl (same, inlets_same head old g.was.head (ap (λ (x : Task S E I O L s e i o). x.head) one ∙ h.head_is) g.grew.was_fed)
         go (inr ne) = inr (ne, record { task = h.task; at = there k ne ∙ h.at; head_is = h.head_is })
+
+    -- it is of the element whose row it is
+    pub element_grown : (n : ℕ) (row : InletRow I) → HasRow tasks r n port row → old.number ≡ n
+    element_grown n row h =
+        ap (λ (head : InletHead I). head.number) (inlets_same old h.head g.was.head g.grew.was_fed (ap (λ (t : Task S E I O L s e i o). t.head) (some_same (sym g.at ∙ h.fed.at)) ∙ h.fed.head_is)) ∙ h.number
 
     -- the row behind which more stands, and each other row
     pub data RowBack (k n j : ℕ) (row : InletRow I) : Type 0 where

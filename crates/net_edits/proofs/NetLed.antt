@@ -35,12 +35,12 @@ use Rattle.task_edits.specs.declared.leading.NewLane.{NewLane}
 use Rattle.task_edits.proofs.Acts.{linked_others}
 use Rattle.task_edits.proofs.Padding.{tied_without}
 use Rattle.net_edits.specs.Over.{IsLedAt}
-use Rattle.net_edits.proofs.NetGrown.{Laid}
+use Rattle.net_edits.proofs.Laying.{Laid}
 use Rattle.net_edits.proofs.PadsOver.{IsThat, fed_with, fed_without, has_with, has_without, lane_back}
 
 module _ {S E I O L : Type 0} {s : sources.Ghosts S} {e : elements.Ghosts E} {i : inlets.Ghosts I L O} {o : outlets.Ghosts O L} (tasks tasks' : List (Task S E I O L s e i o)) (k pad : ℕ) (to : NewLane O)
     (l : IsLedAt tasks tasks' k pad to) (was is : Pad O) (number : number_of was ≡ pad) (led : IsLed was is (lane_behind to)) (changed : PadIs l.was.head l.was.parts.items l.is.head l.is.parts.items was is) where
-  found : (j : ℕ) (task : Task S E I O L s e i o) → slice_get tasks' j ≡ Some task → ((j ≡ k) × (task ≡ l.is)) ⊎ ((j ≡ k → ⊥) × (slice_get tasks j ≡ Some task))
+  pub found : (j : ℕ) (task : Task S E I O L s e i o) → slice_get tasks' j ≡ Some task → ((j ≡ k) × (task ≡ l.is)) ⊎ ((j ≡ k → ⊥) × (slice_get tasks j ≡ Some task))
   found = each_set tasks tasks' k l.is (λ x t. slice_get tasks x ≡ Some t) (λ x t. ((x ≡ k) × (t ≡ l.is)) ⊎ ((x ≡ k → ⊥) × (slice_get tasks x ≡ Some t))) l.set (λ x t z. z) (λ x t ne z w. inr (ne, w)) (inl (refl, refl))
 
   here : slice_get tasks' k ≡ Some l.is
@@ -53,7 +53,7 @@ module _ {S E I O L : Type 0} {s : sources.Ghosts S} {e : elements.Ghosts E} {i 
       go (inl same) = inl (same, some_same (sym got ∙ ap (λ (x : ℕ). slice_get tasks x) same ∙ l.at))
       go (inr other) = inr (ap (λ (ts : List (Task S E I O L s e i o)). slice_get ts j) l.set ∙ (set_there tasks k j l.is other ∙ got))
 
-  owns_back : (j n : ℕ) → Owns tasks' j n → Owns tasks j n
+  pub owns_back : (j n : ℕ) → Owns tasks' j n → Owns tasks j n
   owns_back j n w = go (found j w.task w.at)
     where
       go : ((j ≡ k) × (w.task ≡ l.is)) ⊎ ((j ≡ k → ⊥) × (slice_get tasks j ≡ Some w.task)) → Owns tasks j n
@@ -64,7 +64,7 @@ module _ {S E I O L : Type 0} {s : sources.Ghosts S} {e : elements.Ghosts E} {i 
       }
       go (inr t) = record { task = w.task; at = t.1; has = w.has }
 
-  owns_on : (j n : ℕ) → Owns tasks j n → Owns tasks' j n
+  pub owns_on : (j n : ℕ) → Owns tasks j n → Owns tasks' j n
   owns_on j n w = go (kept j w.task w.at)
     where
       go : ((j ≡ k) × (w.task ≡ l.was)) ⊎ (slice_get tasks' j ≡ Some w.task) → Owns tasks' j n
@@ -86,7 +86,7 @@ module _ {S E I O L : Type 0} {s : sources.Ghosts S} {e : elements.Ghosts E} {i 
       }
       go (inr t) = record { task = w.task; at = t.1; head_is = w.head_is }
 
-  fed_on : (j : ℕ) (head : InletHead I) → IsFed tasks j head → IsFed tasks' j head
+  pub fed_on : (j : ℕ) (head : InletHead I) → IsFed tasks j head → IsFed tasks' j head
   fed_on j head w = go (kept j w.task w.at)
     where
       go : ((j ≡ k) × (w.task ≡ l.was)) ⊎ (slice_get tasks' j ≡ Some w.task) → IsFed tasks' j head
@@ -97,7 +97,7 @@ module _ {S E I O L : Type 0} {s : sources.Ghosts S} {e : elements.Ghosts E} {i 
       }
       go (inr t) = record { task = w.task; at = t; head_is = w.head_is }
 
-  row_back : (j n port : ℕ) (row : InletRow I) → HasRow tasks' j n port row → HasRow tasks j n port row
+  pub row_back : (j n port : ℕ) (row : InletRow I) → HasRow tasks' j n port row → HasRow tasks j n port row
   row_back j n port row w = record { head = w.head; fed = fed_back j w.head w.fed; number = w.number; at = w.at }
 
   row_on : (j n port : ℕ) (row : InletRow I) → HasRow tasks j n port row → HasRow tasks' j n port row

@@ -2,6 +2,7 @@
 use Rattle.std.proofs.Common.{◌≡◌, ◌≢◌, ◌⊎◌, ℕ, List, Option, Some, refl, sym, ap, ◌∙◌, subst, inl, inr}
 use Rattle.std.specs.Prelude.{slice_get, slice_set}
 use Rattle.std.proofs.lemmas.Bool.{cases_eq}
+use Rattle.flow_model.specs.Item.{Item}
 use Rattle.flow_model.specs.Link.{Span}
 use Rattle.lane_core.specs.Lane.{Lane}
 use Rattle.lane_core.specs.declared.ends.Inlet as inlets
@@ -30,6 +31,7 @@ use Rattle.task_edits.proofs.Padding.{OthersLead, replanned, tied_without}
 use Rattle.task_edits.specs.Changes.{PadIs}
 use Rattle.net_edits.specs.Nets.{NoneHas}
 use Rattle.net_edits.proofs.Alikes.{Alike}
+use Rattle.net_edits.proofs.Laying.{Laid, laid_of, net_of}
 
 module _ {S E I O L : Type 0} {s : sources.Ghosts S} {e : elements.Ghosts E} {i : inlets.Ghosts I L O} {o : outlets.Ghosts O L} (tasks : List (Task S E I O L s e i o)) (k : ℕ) (old new : Task S E I O L s e i o)
     (at : slice_get tasks k ≡ Some old) (alike : Alike o old.head new.head old.parts.items new.parts.items) where
@@ -106,46 +108,49 @@ module _ {S E I O L : Type 0} {s : sources.Ghosts S} {e : elements.Ghosts E} {i 
   pub net_ready : (tells : Option (List Lane)) → IsReady tells new → NetReady tasks tells → NetReady now tells
   net_ready tells ready n = record { wired = wired_again n.wired; ready = ready_again tells ready n.ready }
 
-  module _ (sinks : ℕ → List (List Span)) (m : Moment) (p : ℕ) (tells : Option (List Lane)) (stands : NetStands m tasks tells) where
+  module _ (sinks : ℕ → List (List Span)) (m : Moment) (p : ℕ) (tells : Option (List Lane)) (table : List Lane) (sents : ℕ → List Item) (laid : Laid m tasks tells table sents) where
     -- the pad is one of the task's
     pub own_pad : (j : ℕ) (task : Task S E I O L s e i o) → slice_get tasks j ≡ Some task → (q : ℕ) → Owns tasks k (m.plan.owner p) → (j ≡ k → ⊥) → HasNoPad task.head task.parts.items p
     own_pad j task got q owns other = (heads task.head refl, parts)
       where
         parts : (place : ℕ) (one : Part E O e) → slice_get task.parts.items place ≡ Some one → (port : ℕ) (pad : Pad O) → slice_get one.pads.items port ≡ Some pad → number_of pad ≢ p
         parts place one one_at port pad pad_at same =
-            let owner = (((stands.tied j task got).parts_tied.each place one one_at).pads port pad pad_at).owner in
-            other (stands.wired.once j k (m.plan.owner p) (record { task = task; at = got; has = part place (part_frame o one) (map_get (part_frame o) task.parts.items place one one_at) (sym owner ∙ ap m.plan.owner same) }) owns)
+            let owner = (((laid.tied j task got).parts_tied.each place one one_at).pads port pad pad_at).owner in
+            other (laid.wired.once j k (m.plan.owner p) (record { task = task; at = got; has = part place (part_frame o one) (map_get (part_frame o) task.parts.items place one one_at) (sym owner ∙ ap m.plan.owner same) }) owns)
 
         heads : (h : Head S I O s) → task.head ≡ h → HeadHasNot h p
         heads (Inlets h) is = tt
         heads (Source h) is = λ same.
-            let tied = subst (λ (x : Head S I O s). HeadTied i o nothing_lost m x task.parts.items) is (stands.tied j task got).head_tied in
+            let tied = subst (λ (x : Head S I O s). HeadTied i o nothing_lost m x task.parts.items) is (laid.tied j task got).head_tied in
             let owner : m.plan.owner p ≡ h.number = ap m.plan.owner (sym same) ∙ tied.owner in
-            other (stands.wired.once j k (m.plan.owner p) (record {
+            other (laid.wired.once j k (m.plan.owner p) (record {
               task = task;
               at = got;
               has = source (s.file h.source) (wire_of o h.pad) (ap (λ (x : Head S I O s). head_frame o x) is ∙ ap (λ (n : ℕ). by_source n (s.file h.source) (wire_of o h.pad)) (sym owner));
             }) owns)
 
-    -- The net stands with the other task, where the elements stand.
-    pub restands : Owns tasks k (m.plan.owner p) → OthersLead sinks m p → Ties new (replanned sinks m) → IsReady tells new → ((n : ℕ) → CellStands (replanned sinks m) n) → NetStands (replanned sinks m) now tells
-    restands owns others ties ready cells = record {
-      plain = record { uncut = stands.plain.uncut; calm = stands.plain.calm; closed = stands.plain.closed };
-      tied = each_set tasks now k new (λ x t. Ties t m) (λ x t. Ties t (replanned sinks m)) refl stands.tied
+    -- All but the elements stands with the other task.
+    pub laid_again : Owns tasks k (m.plan.owner p) → OthersLead sinks m p → Ties new (replanned sinks m) → IsReady tells new → Laid (replanned sinks m) now tells table sents
+    laid_again owns others ties ready = record {
+      tied = each_set tasks now k new (λ x t. Ties t m) (λ x t. Ties t (replanned sinks m)) refl laid.tied
           (λ x t ne got z. tied_without i o sinks m p t.head t.parts.items (own_pad x t got 0 owns ne) others z) ties;
-      ready = ready_again tells ready stands.ready;
-      wired = wired_again stands.wired;
-      cells = cells;
-      first = stands.first;
-      table = stands.table;
-      told = stands.told;
-      sents = stands.sents;
-      sent = λ j q place from n port x. stands.sent j q place from n port (sends_back j q place from n port x);
-      rows = λ j n port row x. let z = stands.rows j n port row (row_back j n port row x) in record { got = z.got; took = z.took; between = z.between; holds = z.holds };
-      each = λ j head x. stands.each j head (fed_back j head x);
-      others = λ n x. stands.others n (λ j head y. x j head (fed_on j head y));
-      loose = λ q x. stands.loose q (λ j y. x j (owns_on j (m.plan.owner q) y));
+      ready = ready_again tells ready laid.ready;
+      wired = wired_again laid.wired;
+      first = laid.first;
+      told = laid.told;
+      sent = λ j q place from n port x. laid.sent j q place from n port (sends_back j q place from n port x);
+      rows = λ j n port row x. let z = laid.rows j n port row (row_back j n port row x) in record { got = z.got; took = z.took; between = z.between; holds = z.holds };
+      each = λ j head x. laid.each j head (fed_back j head x);
+      others = λ n x. laid.others n (λ j head y. x j head (fed_on j head y));
+      loose = λ q x. laid.loose q (λ j y. x j (owns_on j (m.plan.owner q) y));
     }
+
+  -- The net stands with the other task, where the elements stand.
+  pub restands : (sinks : ℕ → List (List Span)) (m : Moment) (p : ℕ) (tells : Option (List Lane)) → NetStands m tasks tells → Owns tasks k (m.plan.owner p) → OthersLead sinks m p → Ties new (replanned sinks m) → IsReady tells new → ((n : ℕ) → CellStands (replanned sinks m) n)
+      → NetStands (replanned sinks m) now tells
+  restands sinks m p tells stands owns others ties ready cells =
+      net_of (replanned sinks m) now tells stands.table stands.sents (laid_again sinks m p tells stands.table stands.sents (laid_of m tasks tells stands) owns others ties ready)
+      (record { uncut = stands.plain.uncut; calm = stands.plain.calm; closed = stands.plain.closed }) cells
 
   -- The task has the pad of a number, by what it stands for.
   pub owns_pad : (m : Moment) (p : ℕ) (was is : Pad O) → Ties old m → number_of was ≡ p → PadIs old.head old.parts.items new.head new.parts.items was is → Owns tasks k (m.plan.owner p)

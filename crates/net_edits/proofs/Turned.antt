@@ -22,7 +22,7 @@ use Rattle.net_task.specs.declared.task.Task.{Task}
 use Rattle.net_turns.specs.Net.{HasElement, HasRow, LaneOut, NetReady, NetStands, Owns, part}
 use Rattle.net_turns.specs.Turns.{net_left}
 use Rattle.net_turns.proofs.Facts.{row_owned}
-use Rattle.task_pads.specs.Behind.{goes, inside, nowhere, over}
+use Rattle.task_pads.specs.Behind.{goes, inside, over}
 use Rattle.task_pads.specs.Pads.{IsLed, number_of}
 use Rattle.task_pads.specs.declared.pad.Behind.{Behind}
 use Rattle.task_pads.specs.declared.pad.Behind.TheVariants.{Nothing}
@@ -42,7 +42,7 @@ use Rattle.task_edits.proofs.Acts.{linked_others, undone_others}
 use Rattle.task_edits.proofs.Feeds.{section_more}
 use Rattle.task_edits.proofs.Insides.{has_pad_of}
 use Rattle.task_edits.proofs.Padding.{OthersLead, replanned}
-use Rattle.net_edits.specs.Inside.{CanLinkIn, FedAll, HasInside, IsEndedInside, IsLinkedInside, IsTurned, StandEnded, StandLinked, TiesLinked, TiesUndone, eos_alone}
+use Rattle.net_edits.specs.Inside.{CanLinkIn, FedAll, HasInside, IsEndedInside, IsLinkedInside, IsLinkedOpened, IsTurned, StandEnded, StandLinked, TiesLinked, TiesUndone, eos_alone}
 use Rattle.net_edits.proofs.Acts.{left_set, size_set}
 use Rattle.net_edits.proofs.Alikes.{Alike, LeadsBack, pad_alike, same_alike}
 use Rattle.net_edits.proofs.Feds.{few_rows, inner_none, refed}
@@ -140,21 +140,20 @@ module _ {S E I O L : Type 0} {s : sources.Ghosts S} {e : elements.Ghosts E} {i 
       own (inr (none, h, q, k)) = absurd (has_not t.was.head t.was.parts.items pad has none)
 
 module _ {S E I O L : Type 0} {s : sources.Ghosts S} {e : elements.Ghosts E} {i : inlets.Ghosts I L O} {o : outlets.Ghosts O L} (tasks tasks' : List (Task S E I O L s e i o)) (pad : ℕ) where
-  -- the pad was linked, and the element took the sticky events
-  pub linked_stands : (to : Inside) (l : IsLinkedInside tasks tasks' pad to) → has_flush_stop l.items ≡ false → (m : Moment) (tells : Option (List Lane)) → NetStands m tasks tells → CanLinkIn m tasks pad to → StandLinked m tasks' tells pad to
-  linked_stands to l calm m tells stands can =
+  -- the pad was linked, and the element took the items, which are the sticky events of what crossed the pad
+  pub opened_stands : (to : Inside) (items : List Item) (l : IsLinkedOpened tasks tasks' pad to items) → has_flush_stop items ≡ false → (m : Moment) (tells : Option (List Lane)) → NetStands m tasks tells → CanLinkIn m tasks pad to → items ≡ stickies (m.history pad) → StandLinked m tasks' tells pad to
+  opened_stands to items l calm m tells stands can events =
       let t = l.done in
       let place : ℕ = l.place in
       let over_none = inside_over_none O to in
       let same_was : l.both.task ≡ t.was = some_same (sym l.both.at ∙ t.at) in
       let has : HasPad t.was.head t.was.parts.items pad = subst (λ (task : Task S E I O L s e i o). HasPad task.head task.parts.items pad) same_was l.both.has in
-      let events : l.items ≡ stickies (m.history pad) = l.opening t.was t.at m (stands.tied place t.was t.at) has in
       let f : FedAll to (stickies (m.history pad)) t.turned t.is = subst (λ (xs : List Item). FedAll to xs t.turned t.is) events t.fed in
-      let owns_to = took_owned tasks tasks' place pad (inside_behind to) (TiesLinked pad to) (FedAll to l.items) over_none t to l.items t.fed in
+      let owns_to = took_owned tasks tasks' place pad (inside_behind to) (TiesLinked pad to) (FedAll to items) over_none t to items t.fed in
       let inner : NoneAt to.pad (m.held to.element) = inner_none tasks m tells stands place t.was t.at to.element to.pad owns_to can.no_row in
       let ties : Ties t.turned (replanned (linked pad (length (m.history pad)) to.element to.pad m.plan).sinks m) =
       t.ties m (length (m.history pad)) (stands.tied place t.was t.at) (record { nowhere = can.nowhere; free = can.free; inner = inner; no_row = no_row_at m tells stands can.no_row place t.was t.at owns_to t.was.head refl }) in
-      let z = turned_stands tasks tasks' place pad (inside_behind to) (TiesLinked pad to) (FedAll to l.items) over_none t (linked pad (length (m.history pad)) to.element to.pad m.plan).sinks m tells to (stickies (m.history pad)) stands has
+      let z = turned_stands tasks tasks' place pad (inside_behind to) (TiesLinked pad to) (FedAll to items) over_none t (linked pad (length (m.history pad)) to.element to.pad m.plan).sinks m tells to (stickies (m.history pad)) stands has
       (linked_others m pad (length (m.history pad)) to.element to.pad) ties f (subst (λ (xs : List Item). has_flush_stop xs ≡ false) events calm) can.no_row
       (λ out answers a. linking_keeps m pad to.element to.pad out (record { free = can.free; inner = inner; puts_out = answers (stands.first to.element).0 }) a (stands.cells a)) in
       record {
@@ -167,6 +166,11 @@ module _ {S E I O L : Type 0} {s : sources.Ghosts S} {e : elements.Ghosts E} {i 
           → Owns tasks place to.element → (h : Head S I O s) → was.head ≡ h → HasNoRow h to.element to.pad
       no_row_at m tells stands no_row place was at owns_to (Source h) is = tt
       no_row_at m tells stands no_row place was at owns_to (Inlets h) is = λ same. few_rows tasks m tells stands place was at to.element to.pad owns_to no_row h is same
+
+  -- the pad was linked, and the element took the sticky events
+  pub linked_stands : (to : Inside) (l : IsLinkedInside tasks tasks' pad to) → has_flush_stop l.items ≡ false → (m : Moment) (tells : Option (List Lane)) → NetStands m tasks tells → CanLinkIn m tasks pad to → StandLinked m tasks' tells pad to
+  linked_stands to l calm m tells stands can =
+      opened_stands to l.items (record { place = l.place; both = l.both; done = l.done }) calm m tells stands can (l.opening l.both.task l.both.at m (stands.tied l.place l.both.task l.both.at) l.both.has)
 
   -- a pad of a task is linked as the graph tells
   pad_linked : (task : Task S E I O L s e i o) (m : Moment) (p : Pad O) → Ties task m → IsPadOf task.head task.parts.items p → PadLinked o m p

@@ -21,12 +21,13 @@ use Rattle.net_task.specs.Fuel.{moves_left}
 use Rattle.net_task.specs.Ready.{IsReady}
 use Rattle.net_task.specs.Ties.{Ties}
 use Rattle.net_turns.specs.Net.{HasRow, NetStands}
+use Rattle.net_turns.specs.declared.net.Stopped.{Stopped}
 use Rattle.task_edits.specs.Changes.{Changed, LedBy}
 use Rattle.task_edits.specs.Feeding.{HasFed, HasFedShort, StoppedIn, TookIn}
 use Rattle.task_edits.specs.Inside.{CanLinkInside, HasNoRow, LeadsElsewhere, LeadsInside, inside_behind}
 use Rattle.task_edits.specs.Places.{HasNoPad, HasPad}
 use Rattle.task_edits.specs.declared.inside.Inside.{Inside}
-use Rattle.net_edits.specs.Nets.{NoneHas}
+use Rattle.net_edits.specs.Nets.{NoneHas, TaskHas}
 use Rattle.net_edits.specs.declared.inside.EditFault.{EditFault}
 use Rattle.net_edits.specs.declared.inside.EditFault.TheVariants as faults
 
@@ -86,6 +87,22 @@ module _ {S E I O L : Type 0} {s : sources.Ghosts S} {e : elements.Ghosts E} {i 
   -- these are the sticky events of what crossed the pad of the task at a place
   abbrev pub AreOpening : List (Task S E I O L s e i o) → ℕ → ℕ → List Item → Type 0
   AreOpening tasks place pad items = (task : Task S E I O L s e i o) → slice_get tasks place ≡ Some task → (m : Moment) → Ties task m → HasPad task.head task.parts.items pad → items ≡ stickies (m.history pad)
+
+  -- They are those of the task that has the pad.
+  pub record IsOpeningOf (tasks : List (Task S E I O L s e i o)) (pad : ℕ) (items : List Item) : Type 0 where
+    pub place : ℕ
+    pub has : TaskHas tasks pad place
+    pub opening : AreOpening tasks place pad items
+
+  -- The pad was linked, and the element took the items.
+  pub record IsLinkedOpened (tasks tasks' : List (Task S E I O L s e i o)) (pad : ℕ) (to : Inside) (items : List Item) : Type 0 where
+    pub place : ℕ
+    pub both : HasBoth tasks pad to.element place
+    pub done : IsTurned tasks tasks' place pad (inside_behind to) (TiesLinked pad to) (FedAll to items)
+
+  -- The pad was linked, and the element refused one of the items.
+  abbrev pub NotLinkedOpened : List (Task S E I O L s e i o) → List (Task S E I O L s e i o) → ℕ → Inside → List Item → Stopped → Type 0
+  NotLinkedOpened tasks tasks' pad to items stopped = HasBoth tasks pad to.element stopped.task × IsTurned tasks tasks' stopped.task pad (inside_behind to) (TiesLinked pad to) (FedShort to items stopped.fault)
 
   -- The pad was linked, and the element took the sticky events of what crossed the pad.
   pub record IsLinkedInside (tasks tasks' : List (Task S E I O L s e i o)) (pad : ℕ) (to : Inside) : Type 0 where

@@ -4,3 +4,4 @@ pub mod Over
 pub mod NewLanes
 pub mod Adding
 pub mod Inside
+pub mod Ending

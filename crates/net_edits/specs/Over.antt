@@ -1,6 +1,6 @@
 -- A source pad of one task is linked over a new lane to a sink pad of another one.
 use Rattle.std.specs.Prelude.{◌≡◌, ◌≢◌, ◌⊎◌, ◌<◌, ◌++◌, ℕ, List, [], ◌∷◌, Option, Some, Result, Ok, Err, length, map, slice_get, slice_set}
-use Rattle.flow_model.specs.Item.{Ev, Event}
+use Rattle.flow_model.specs.Item.{Ev, Event, Eos}
 use Rattle.inlet_row.specs.Row.{feeds_of}
 use Rattle.inlet_row.specs.declared.feeding.Feeding.{Feeding}
 use Rattle.inlet_row.specs.declared.feeding.Feeding.TheVariants.{Given, Lane as OfLane}
@@ -29,6 +29,8 @@ use Rattle.task_edits.specs.Openings.{OpensAt}
 use Rattle.task_edits.specs.declared.leading.NewLane.{NewLane}
 use Rattle.task_edits.specs.declared.openings.Opening.{Opening}
 use Rattle.net_edits.specs.Nets.{NoneHas, TaskHas}
+use Rattle.net_edits.specs.declared.over.More.{More}
+use Rattle.net_edits.specs.declared.over.More.TheVariants as mores
 use Rattle.net_edits.specs.declared.over.NewLink.{NewLink}
 
 -- what stands behind a row where a pad was linked to its sink pad: sticky events, and the lane of a number
@@ -38,6 +40,15 @@ opened_by events lane inlet = map (λ event. Given (Ev event)) events ++ OfLane 
 -- the new lane, as the task of the source pad knows it
 abbrev pub lane_from : {I O : Type 0} → ℕ → NewLink I O → NewLane O
 lane_from from to = record { lane = to.lane; element = to.element; pad = to.pad; from = from; outlet = to.outlet }
+
+-- EOS, which is given
+abbrev pub eos_given : {I : Type 0} → List (Feeding I)
+eos_given = Given (Ev Eos) ∷ []
+
+-- what is put behind what stands in a row
+abbrev pub feeds_in : {I : Type 0} → More I → List (Feeding I)
+feeds_in (mores.Link events lane inlet) = opened_by events lane inlet
+feeds_in mores.Eos = eos_given
 
 -- a list, where a call did what it was to do
 abbrev pub when_ok : {A E F : Type 0} → Result A E → List F → List F

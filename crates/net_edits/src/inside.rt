@@ -1,6 +1,6 @@
 //! Links inside of tasks that lanes join, made, and undone with EOS.
-ghost use Rattle.std.specs.Prelude.{◌≡◌, ◌<◌, true, false, None, Some, map, length, slice_get, vec_len, IfOk, IfErr, IfSome, OnOk};
-ghost use Rattle.gst_item.specs.Sticky.{has_flush_stop};
+ghost use Rattle.std.specs.Prelude.{◌≡◌, ◌<◌, true, false, None, Some, map, length, slice_get, vec_len, vec_capacity, IfOk, IfErr, IfSome, OnOk};
+ghost use Rattle.gst_item.specs.Sticky.{has_flush_stop, stickies};
 ghost use Rattle.net_model.specs.Moment.{Moment};
 ghost use Rattle.net_turns.specs.Net.{NetReady, NetStands};
 ghost use Rattle.net_turns.specs.Turns.{net_left};
@@ -8,7 +8,8 @@ ghost use Rattle.task_parts.specs.Shape.{has_number, part_shape};
 ghost use Rattle.task_edits.specs.Inside.{inside_behind};
 ghost use Rattle.task_edits.specs.Places.{HasPad};
 ghost use Rattle.task_pads.specs.declared.pad.Behind.TheVariants.{Nothing};
-ghost use Rattle.net_edits.specs.Inside.{CanLinkIn, FedAll, FedShort, HasBoth, IsEndedInside, IsLinkedInside, IsTurned, LacksOne, NoneHasBoth, NoneInside, NotEnded, NotLinked, StandEnded, StandLinked, TiesLinked, TiesUndone, eos_alone};
+ghost use Rattle.net_edits.specs.Inside.{CanLinkIn, FedAll, FedShort, HasBoth, IsEndedInside, IsLinkedInside, IsLinkedOpened, IsOpeningOf, IsTurned, LacksOne, NoneHasBoth, NoneInside, NotEnded, NotLinked, NotLinkedOpened, StandEnded, StandLinked, TiesLinked, TiesUndone, eos_alone};
+ghost use Rattle.net_edits.specs.Nets.{NoneHas};
 
 use crate::net::find_task;
 use gst_item::{Event, Item};
@@ -58,6 +59,57 @@ pub fn link_inside<S: TaskSource, E: TaskElement, I: Inlet<Out = O>, O: Outlet<L
     match link_at(alloc, tasks, place, pad, to, items) {
         Ok(()) => Ok(true),
         Err(fault) => Err(EditFault::Failed(Stopped { task: place, fault })),
+    }
+}
+
+/// The sticky events of what crossed the source pad of a number, as items: what a link of the pad inside of its task gives first, taken before that is
+/// made. None where no task has the pad.
+pub fn opening_items<S: TaskSource, E: TaskElement, I: Inlet<Out = O>, O: Outlet<Lanes = I::Lanes>>(
+    alloc: Global,
+    tasks: &[Task<S, E, I, O>],
+    pad: u32,
+) -> Result<Option<List<Item>>, OutOfMemory>
+    ensures calm { IfOk result (λ found. IfSome found (λ items. has_flush_stop items ≡ false)) }
+    ensures opening { IfOk result (λ found. IfSome found (IsOpeningOf tasks.now pad)) }
+    ensures at { IfOk result (λ found. IfSome found (λ items. (m : Moment) (tells : _) → NetStands m tasks.now tells → items ≡ stickies (m.history pad))) }
+    ensures none { IfOk result (λ found. found ≡ None → NoneHas tasks.now pad) }
+{
+    let Some(place) = find_task(tasks, pad) else {
+        return Ok(None);
+    };
+    match sticky_items(alloc, &tasks[place], pad) {
+        Ok(items) => Ok(Some(items)),
+        Err(wanting) => Err(wanting),
+    }
+}
+
+/// Links the source pad of a number to a sink pad of an element of its task, which takes the items at once, before any other: those are to be the
+/// sticky events of what crossed the source pad, as `opening_items` tells them. What waits at the pad goes that way. Tells whether a task has the
+/// pad and the element; where none has, all tasks stay, and the items are given up.
+pub fn link_opened<S: TaskSource, E: TaskElement, I: Inlet<Out = O>, O: Outlet<Lanes = I::Lanes>>(
+    alloc: Global,
+    tasks: &mut Vec<Task<S, E, I, O>>,
+    pad: u32,
+    to: Inside,
+    items: List<Item>,
+) -> Result<bool, Stopped>
+    requires calm { has_flush_stop items ≡ false }
+    ensures linked { IfOk result (λ done. done ≡ true → IsLinkedOpened tasks.old.items tasks.new.items pad to items) }
+    ensures none { IfOk result (λ done. done ≡ false → NoneHasBoth tasks.old.items pad to.element × (tasks.new ≡ tasks.old)) }
+    ensures faults { IfErr result (NotLinkedOpened tasks.old.items tasks.new.items pad to items) }
+    ensures stands { IfOk result (λ done. done ≡ true → (m : Moment) (tells : _) → NetStands m tasks.old.items tells
+        → CanLinkIn m tasks.old.items pad to → items ≡ stickies (m.history pad) → StandLinked m tasks.new.items tells pad to) }
+    ensures ready { (tells : _) → NetReady tasks.old.items tells → NetReady tasks.new.items tells }
+    ensures moves { net_left tasks.new.items ≡ net_left tasks.old.items }
+    ensures count { length tasks.new.items ≡ length tasks.old.items }
+    ensures room { vec_capacity tasks.new ≡ vec_capacity tasks.old }
+{
+    let Some(place) = find_both(tasks.as_slice(), pad, to.element) else {
+        return Ok(false);
+    };
+    match link_at(alloc, tasks, place, pad, to, items) {
+        Ok(()) => Ok(true),
+        Err(fault) => Err(Stopped { task: place, fault }),
     }
 }
 
@@ -148,6 +200,7 @@ fn link_at<S: TaskSource, E: TaskElement, I: Inlet<Out = O>, O: Outlet<Lanes = I
     ensures linked { OnOk result (IsTurned tasks.old.items tasks.new.items place pad (inside_behind to) (TiesLinked pad to) (FedAll to items)) }
     ensures faults { IfErr result (λ fault. IsTurned tasks.old.items tasks.new.items place pad (inside_behind to) (TiesLinked
         pad to) (FedShort to items fault)) }
+    ensures room { vec_capacity tasks.new ≡ vec_capacity tasks.old }
 {
     let last = tasks.len() - 1;
     let task = tasks.swap_remove(place);

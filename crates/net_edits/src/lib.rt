@@ -1,6 +1,6 @@
 //! What control does to tasks that lanes join, between their turns: a source pad gets the probe of a command or loses it, its link is
-//! undone, or made over a new lane or inside of its task, and a task comes to them or is taken out. The tasks then stand at the moment that
-//! the act makes of the one at which they stood.
+//! undone, with EOS or without, or made over a new lane or inside of its task, and a task comes to them or is taken out. The tasks then
+//! stand at the moment that the act makes of the one at which they stood.
 #![tactic(auto)]
 
 pub mod adding;
@@ -11,7 +11,7 @@ pub mod over;
 pub mod seeing;
 
 pub use adding::{add_task, holds_nothing_new, take_task};
-pub use inside::{EditFault, end_inside, link_inside};
+pub use inside::{EditFault, end_inside, link_inside, link_opened, opening_items};
 pub use net::{set_probe, unlink};
-pub use over::{NewLink, link_over};
+pub use over::{NewLink, end_over, link_over};
 pub use seeing::see_pad;

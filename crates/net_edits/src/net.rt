@@ -90,11 +90,12 @@ fn probe_at<S: TaskSource, E: TaskElement, I: Inlet<Out = O>, O: Outlet<Lanes = 
 }
 
 /// Undoes the link of a pad of the task at a place, and gives where it led.
-fn unlink_at<S: TaskSource, E: TaskElement, I: Inlet<Out = O>, O: Outlet<Lanes = I::Lanes>>(
-    tasks: &mut Vec<Task<S, E, I, O>>,
-    place: usize,
-    pad: u32,
-) -> Behind<O>
+pub(crate) fn unlink_at<
+    S: TaskSource,
+    E: TaskElement,
+    I: Inlet<Out = O>,
+    O: Outlet<Lanes = I::Lanes>,
+>(tasks: &mut Vec<Task<S, E, I, O>>, place: usize, pad: u32) -> Behind<O>
     requires place { place < vec_len tasks.old }
     ensures undone { IsUnlinkedAt tasks.old.items tasks.new.items place pad result }
     ensures room { vec_capacity tasks.new ≡ vec_capacity tasks.old }

@@ -1,5 +1,5 @@
-//! Links over new lanes.
-ghost use Rattle.std.specs.Prelude.{◌≡◌, ◌<◌, ◌+◌, ◌++◌, [], true, false, None, Ok, IfSome, OnErr, OnOk, length, vec_len, slice_get, map};
+//! Links over lanes, made, and undone with EOS.
+ghost use Rattle.std.specs.Prelude.{◌≡◌, ◌<◌, ◌+◌, ◌++◌, [], true, false, None, Ok, IfSome, OnErr, OnOk, length, vec_len, vec_capacity, slice_get, map};
 ghost use Rattle.std.specs.VecDeque.{deque_len};
 ghost use Rattle.flow_model.specs.Item.{Ev};
 ghost use Rattle.inlet_row.specs.Row.{feeds_of, room_of};
@@ -8,9 +8,11 @@ ghost use Rattle.net_model.specs.Edit.{IsFree, linked_over};
 ghost use Rattle.net_model.specs.Moment.{Moment};
 ghost use Rattle.net_model.specs.Step.{LeadsNowhere};
 ghost use Rattle.net_turns.specs.Net.{NetReady, NetStands};
-ghost use Rattle.net_edits.specs.Over.{AreEnds, AreKept, CannotJoin, FeedsPad, HasRowOf, HeadGrew, InletsFeed, InletsGrew, IsGrownAt, IsLedAt, IsLinkedOver, IsNewLane, NoneFeeds, NoneSends, TaskFeeds, TaskGrew, opened_by, when_ok};
+ghost use Rattle.net_turns.specs.Turns.{net_left};
+ghost use Rattle.net_edits.specs.Ending.{CannotEnd, HaveOnce, IsEndedOver, StandEndedOver};
+ghost use Rattle.net_edits.specs.Over.{AreEnds, AreKept, CannotJoin, FeedsPad, HasRowOf, HeadGrew, InletsFeed, InletsGrew, IsGrownAt, IsLedAt, IsLinkedOver, IsNewLane, NoneFeeds, NoneSends, TaskFeeds, TaskGrew, eos_given, feeds_in, opened_by, when_ok};
 
-use crate::net::find_task;
+use crate::net::{find_task, unlink_at};
 use gst_item::{Event, Item};
 use gst_value::{List, OutOfMemory};
 use inlet_row::InletRow;
@@ -19,7 +21,7 @@ use net_model::{TaskElement, TaskSource};
 use net_task::Task;
 use std::alloc::Global;
 use std::collections::VecDeque;
-use task_edits::{NewLane, Opening, opening_at};
+use task_edits::{NewLane, Opening, opening_at, over_of};
 use task_parts::{Head, InletHead};
 
 /// A lane that is new, with both its ends, to a sink pad of an element that is fed from inlets.
@@ -30,6 +32,19 @@ pub struct NewLink<I, O> {
     pub pad: u32,
     pub outlet: O,
     pub inlet: I,
+}
+
+/// What is put behind what stands in a row.
+#[derive(Drop)]
+enum More<I> {
+    /// Sticky events, and the lane of a new link.
+    Link {
+        events: List<Event>,
+        lane: u32,
+        inlet: I,
+    },
+    /// EOS alone.
+    Eos,
 }
 
 /// The places of two tasks that a lane is to join.
@@ -60,6 +75,7 @@ pub fn link_over<S: TaskSource, E: TaskElement, I: Inlet<Out = O>, O: Outlet<Lan
     ensures stays { OnErr result ((m : Moment) (tells : _) → NetStands m tasks.old.items tells → NetStands m tasks.new.items tells) }
     ensures stays_ready { OnErr result ((tells : _) → NetReady tasks.old.items tells → NetReady tasks.new.items tells) }
     ensures count { length tasks.new.items ≡ length tasks.old.items }
+    ensures room { vec_capacity tasks.new ≡ vec_capacity tasks.old }
 {
     match find_ends(tasks.as_slice(), pad, to.element, to.pad) {
         Some(ends) => match link_between(alloc, tasks, ends, pad, to) {
@@ -67,6 +83,44 @@ pub fn link_over<S: TaskSource, E: TaskElement, I: Inlet<Out = O>, O: Outlet<Lan
             Err(wanting) => Err(wanting),
         },
         None => Ok(false),
+    }
+}
+
+/// Undoes the link of the source pad of a number that leads over a lane, and puts EOS into the row of the sink pad to which it leads, behind
+/// all that stands there. What was sent into the lane stays for the row, and what waits at the pad stays there. Tells whether a task has the
+/// pad, it leads over a lane, and a task has a row of that sink pad; where not, all tasks stay.
+///
+/// All memory is taken before anything changes.
+pub fn end_over<S: TaskSource, E: TaskElement, I: Inlet<Out = O>, O: Outlet<Lanes = I::Lanes>>(
+    tasks: &mut Vec<Task<S, E, I, O>>,
+    pad: u32,
+) -> Result<bool, OutOfMemory>
+    ensures ended { result ≡ Ok true → IsEndedOver tasks.old.items tasks.new.items pad }
+    ensures none { result ≡ Ok false → CannotEnd tasks.old.items pad × (tasks.new ≡ tasks.old) }
+    ensures stands { result ≡ Ok true → (m : Moment) (tells : _) → NetStands m tasks.old.items tells → StandEndedOver m tasks.new.items tells pad }
+    ensures ready { result ≡ Ok true → (tells : _) → NetReady tasks.old.items tells → HaveOnce tasks.old.items pad → NetReady tasks.new.items tells }
+    ensures moves { result ≡ Ok true → net_left tasks.new.items ≡ net_left tasks.old.items + 1 }
+    ensures kept { OnErr result (AreKept tasks.old.items tasks.new.items) }
+    ensures stays { OnErr result ((m : Moment) (tells : _) → NetStands m tasks.old.items tells → NetStands m tasks.new.items tells) }
+    ensures stays_ready { OnErr result ((tells : _) → NetReady tasks.old.items tells → NetReady tasks.new.items tells) }
+    ensures count { length tasks.new.items ≡ length tasks.old.items }
+    ensures room { vec_capacity tasks.new ≡ vec_capacity tasks.old }
+{
+    let Some(sender) = find_task(tasks.as_slice(), pad) else {
+        return Ok(false);
+    };
+    let Some(to) = over_of(&tasks[sender], pad) else {
+        return Ok(false);
+    };
+    let Some(receiver) = find_row(tasks.as_slice(), to.element, to.pad) else {
+        return Ok(false);
+    };
+    match grow_at(tasks, receiver, to.pad, More::Eos) {
+        Ok(()) => {
+            drop(unlink_at(tasks, sender, pad));
+            Ok(true)
+        }
+        Err(wanting) => Err(wanting),
     }
 }
 
@@ -142,6 +196,7 @@ fn link_between<S: TaskSource, E: TaskElement, I: Inlet<Out = O>, O: Outlet<Lane
     requires ends { AreEnds tasks.old.items pad to.element to.pad ends.sender ends.receiver }
     ensures linked { OnOk result (IsLinkedOver tasks.old.items tasks.new.items pad to) }
     ensures kept { OnErr result (AreKept tasks.old.items tasks.new.items) }
+    ensures room { vec_capacity tasks.new ≡ vec_capacity tasks.old }
 {
     let NewLink {
         lane,
@@ -152,7 +207,12 @@ fn link_between<S: TaskSource, E: TaskElement, I: Inlet<Out = O>, O: Outlet<Lane
     } = to;
     match opening_at(alloc, &tasks[ends.sender], pad) {
         Ok(Opening { events, from }) => {
-            match open_at(tasks, ends.receiver, port, events, lane, inlet) {
+            let more = More::Link {
+                events,
+                lane,
+                inlet,
+            };
+            match grow_at(tasks, ends.receiver, port, more) {
                 Ok(()) => {
                     let to = NewLane {
                         lane,
@@ -171,80 +231,87 @@ fn link_between<S: TaskSource, E: TaskElement, I: Inlet<Out = O>, O: Outlet<Lane
     }
 }
 
-/// Puts sticky events and a lane behind what stands in a row of the task at a place.
-fn open_at<S: TaskSource, E: TaskElement, I: Inlet<Out = O>, O: Outlet<Lanes = I::Lanes>>(
+/// Puts more behind what stands in a row of the task at a place.
+fn grow_at<S: TaskSource, E: TaskElement, I: Inlet<Out = O>, O: Outlet<Lanes = I::Lanes>>(
     tasks: &mut Vec<Task<S, E, I, O>>,
     place: usize,
     port: u32,
-    events: List<Event>,
-    lane: u32,
-    inlet: I,
+    more: More<I>,
 ) -> Result<(), OutOfMemory>
     requires place { place < vec_len tasks.old }
     requires row { (task : _) → slice_get tasks.old.items place ≡ Some task → HasRowOf task.head port }
-    ensures { IsGrownAt tasks.old.items tasks.new.items place port (when_ok result (opened_by events lane inlet)) }
+    ensures grown { IsGrownAt tasks.old.items tasks.new.items place port (when_ok result (feeds_in more)) }
+    ensures room { vec_capacity tasks.new ≡ vec_capacity tasks.old }
 {
     let last = tasks.len() - 1;
     let task = tasks.swap_remove(place);
-    let (task, opened) = open_task(task, port, events, lane, inlet);
+    let (task, grown) = grow_task(task, port, more);
     tasks.push_reserved(task);
     tasks.swap(place, last);
-    opened
+    grown
 }
 
-/// Puts sticky events and a lane behind what stands in a row of a task.
-fn open_task<S: TaskSource, E: TaskElement, I: Inlet<Out = O>, O: Outlet<Lanes = I::Lanes>>(
+/// Puts more behind what stands in a row of a task.
+fn grow_task<S: TaskSource, E: TaskElement, I: Inlet<Out = O>, O: Outlet<Lanes = I::Lanes>>(
     task: Task<S, E, I, O>,
     port: u32,
-    events: List<Event>,
-    lane: u32,
-    inlet: I,
+    more: More<I>,
 ) -> (Task<S, E, I, O>, Result<(), OutOfMemory>)
     requires row { HasRowOf task.head port }
-    ensures { TaskGrew task result.0 port (when_ok result.1 (opened_by events lane inlet)) }
+    ensures { TaskGrew task result.0 port (when_ok result.1 (feeds_in more)) }
 {
     let (head, parts) = task.into_parts();
-    let (head, opened) = open_head(head, port, events, lane, inlet);
-    (Task::new(head, parts), opened)
+    let (head, grown) = grow_head(head, port, more);
+    (Task::new(head, parts), grown)
 }
 
-/// Puts sticky events and a lane behind what stands in a row of a head.
-fn open_head<S: TaskSource, I: Inlet, O: Outlet>(
+/// Puts more behind what stands in a row of a head.
+fn grow_head<S: TaskSource, I: Inlet, O: Outlet>(
     head: Head<S, I, O>,
     port: u32,
-    events: List<Event>,
-    lane: u32,
-    inlet: I,
+    more: More<I>,
 ) -> (Head<S, I, O>, Result<(), OutOfMemory>)
     requires row { HasRowOf head port }
-    ensures { HeadGrew head result.0 port (when_ok result.1 (opened_by events lane inlet)) }
+    ensures { HeadGrew head result.0 port (when_ok result.1 (feeds_in more)) }
 {
     match head {
         Head::Source(_) => unreachable!(),
         Head::Inlets(inlets) => {
-            let (inlets, opened) = open_inlets(inlets, port, events, lane, inlet);
-            (Head::Inlets(inlets), opened)
+            let (inlets, grown) = grow_inlets(inlets, port, more);
+            (Head::Inlets(inlets), grown)
         }
     }
 }
 
-/// Puts sticky events and a lane behind what stands in one of the rows of an element.
-fn open_inlets<I: Inlet>(
+/// Puts more behind what stands in one of the rows of an element.
+fn grow_inlets<I: Inlet>(
     inlets: InletHead<I>,
     port: u32,
-    events: List<Event>,
-    lane: u32,
-    inlet: I,
+    more: More<I>,
 ) -> (InletHead<I>, Result<(), OutOfMemory>)
     requires row { port < length inlets.rows.items }
-    ensures { InletsGrew inlets result.0 port (when_ok result.1 (opened_by events lane inlet)) }
+    ensures { InletsGrew inlets result.0 port (when_ok result.1 (feeds_in more)) }
 {
     let (number, hint, mut rows) = inlets.into_parts();
-    let opened = open_row(&mut rows[port as usize], events, lane, inlet);
-    (InletHead::new(number, hint, rows), opened)
+    let grown = grow_row(&mut rows[port as usize], more);
+    (InletHead::new(number, hint, rows), grown)
 }
 
-/// Puts sticky events and a lane behind what stands in a row. The memory for them is taken first.
+/// Puts more behind what stands in a row. The memory for it is taken first.
+fn grow_row<I: Inlet>(row: &mut InletRow<I>, more: More<I>) -> Result<(), OutOfMemory>
+    ensures { feeds_of row.new ≡ feeds_of row.old ++ when_ok result (feeds_in more) }
+{
+    match more {
+        More::Link {
+            events,
+            lane,
+            inlet,
+        } => open_row(row, events, lane, inlet),
+        More::Eos => end_row(row),
+    }
+}
+
+/// Puts sticky events and a lane behind what stands in a row.
 fn open_row<I: Inlet>(
     row: &mut InletRow<I>,
     events: List<Event>,
@@ -258,6 +325,19 @@ fn open_row<I: Inlet>(
         Ok(()) => {
             give_all(row, &mut events);
             row.link(lane, inlet);
+            Ok(())
+        }
+        Err(wanting) => Err(wanting),
+    }
+}
+
+/// Puts EOS behind what stands in a row.
+fn end_row<I: Inlet>(row: &mut InletRow<I>) -> Result<(), OutOfMemory>
+    ensures { feeds_of row.new ≡ feeds_of row.old ++ when_ok result eos_given }
+{
+    match row.make_room(1) {
+        Ok(()) => {
+            row.give(Item::Event(Event::Eos));
             Ok(())
         }
         Err(wanting) => Err(wanting),
@@ -283,7 +363,8 @@ fn lead_at<S: TaskSource, E: TaskElement, I: Inlet<Out = O>, O: Outlet<Lanes = I
     to: NewLane<O>,
 )
     requires place { place < vec_len tasks.old }
-    ensures { IsLedAt tasks.old.items tasks.new.items place pad to }
+    ensures led { IsLedAt tasks.old.items tasks.new.items place pad to }
+    ensures room { vec_capacity tasks.new ≡ vec_capacity tasks.old }
 {
     let last = tasks.len() - 1;
     let task = tasks.swap_remove(place);

@@ -25,11 +25,13 @@ use Rattle.task_parts.specs.declared.head.Head.TheVariants.{Source, Inlets}
 use Rattle.task_parts.specs.declared.part.Part.{Part}
 use Rattle.task_edits.specs.Changes.{Changed, LedBy, PadIs}
 use Rattle.task_edits.specs.Inside.{CanLinkInside, HasNoRow, HeadLeadsTo, IsPadOf, LeadsElsewhere, LeadsInside, PadLeadsTo, inside_behind}
+use Rattle.task_edits.specs.Leads.{HeadLeadsOver, LeadsOver, LeadsOverNone}
 use Rattle.task_edits.specs.Places.{HasPad, IsOfHead, PartHas}
 use Rattle.task_edits.specs.declared.places.PadAt.TheVariants as ats
 use Rattle.task_edits.specs.Stickies.{AreStickiesOf, HeadStickies}
 use Rattle.task_parts.proofs.Lists.{at_get}
 use Rattle.task_edits.specs.declared.inside.Inside.{Inside}
+use Rattle.task_edits.specs.declared.leading.Beyond.{Beyond}
 use Rattle.task_edits.proofs.LinksMade.{linked_leads}
 use Rattle.task_edits.proofs.Padding.{LeavesRows, tied_beside, tied_without}
 use Rattle.task_edits.proofs.Wiring.{closed_in, numbers_as, ready_with}
@@ -111,6 +113,14 @@ head_leads (Inlets head) parts number to is leads = absurd is
 pub head_elsewhere : {S E I O : Type 0} {s : sources.Ghosts S} {e : elements.Ghosts E} (head : Head S I O s) (parts : List (Part E O e)) (number : ℕ) → IsOfHead head number → ((to : Inside) → HeadLeadsTo head to → ⊥) → LeadsElsewhere head parts number
 head_elsewhere (Source head) parts number is none = record { pad = head.pad; is = IsPadOf.of_source head refl refl; number_is = is; elsewhere = none }
 head_elsewhere (Inlets head) parts number is none = absurd is
+
+pub head_leads_over : {S E I O : Type 0} {s : sources.Ghosts S} {e : elements.Ghosts E} (head : Head S I O s) (parts : List (Part E O e)) (number : ℕ) (to : Beyond) → IsOfHead head number → HeadLeadsOver head to → LeadsOver head parts number to
+head_leads_over (Source head) parts number to is leads = record { pad = head.pad; is = IsPadOf.of_source head refl refl; number_is = is; leads = leads }
+head_leads_over (Inlets head) parts number to is leads = absurd is
+
+pub head_over_none : {S E I O : Type 0} {s : sources.Ghosts S} {e : elements.Ghosts E} (head : Head S I O s) (parts : List (Part E O e)) (number : ℕ) → IsOfHead head number → ((to : Beyond) → HeadLeadsOver head to → ⊥) → LeadsOverNone head parts number
+head_over_none (Source head) parts number is none = record { pad = head.pad; is = IsPadOf.of_source head refl refl; number_is = is; none = none }
+head_over_none (Inlets head) parts number is none = absurd is
 
 pub part_leads : {S E I O : Type 0} {s : sources.Ghosts S} {e : elements.Ghosts E} (head : Head S I O s) (parts : List (Part E O e)) (number place port : ℕ) (to : Inside) → (h : PartHas parts number place port) → PadLeadsTo h.port_is.pad to → LeadsInside head parts number to
 part_leads head parts number place port to h leads = record { pad = h.port_is.pad; is = IsPadOf.of_part place port h.part h.part_at h.port_is.at; number_is = h.port_is.number_is; leads = leads }

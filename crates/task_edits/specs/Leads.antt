@@ -1,5 +1,5 @@
 -- Lanes that are new, and pads that are linked over them.
-use Rattle.std.specs.Prelude.{◌≡◌, ℕ, List, [], Option, Some, length}
+use Rattle.std.specs.Prelude.{◌≡◌, ◌⊎◌, ℕ, List, [], Option, Some, length}
 use Rattle.lane_core.specs.Lane.{Lane}
 use Rattle.lane_core.specs.declared.ends.Inlet as inlets
 use Rattle.lane_core.specs.declared.ends.Outlet as outlets
@@ -10,12 +10,17 @@ use Rattle.net_model.specs.declared.element.TaskElement as elements
 use Rattle.net_model.specs.declared.source.TaskSource as sources
 use Rattle.net_task.specs.Frame.{IsWire, Wire, frame_in}
 use Rattle.net_task.specs.Ready.{LeadsInto, NoneFrom}
-use Rattle.task_pads.specs.Behind.{EndReady, lane_end}
+use Rattle.task_pads.specs.Behind.{EndReady, lane_end, over}
+use Rattle.task_pads.specs.Pads.{goes_of, number_of}
+use Rattle.task_pads.specs.declared.pad.Pad.{Pad}
 use Rattle.task_parts.specs.declared.head.Head.{Head}
 use Rattle.task_parts.specs.declared.head.Head.TheVariants.{Source, Inlets}
 use Rattle.task_parts.specs.declared.part.Part.{Part}
 use Rattle.task_pads.specs.declared.pad.Behind.{Behind}
 use Rattle.task_pads.specs.declared.pad.Behind.TheVariants.{Lane as OverLane}
+use Rattle.task_edits.specs.Inside.{IsPadOf}
+use Rattle.task_edits.specs.Places.{HasNoPad}
+use Rattle.task_edits.specs.declared.leading.Beyond.{Beyond}
 use Rattle.task_edits.specs.declared.leading.NewLane.{NewLane}
 
 -- A pad that leads nowhere can be linked over the lane at this moment: the sink pad is free, the lane is made at the place that the pad
@@ -40,3 +45,31 @@ pub record IsApart {S E I O L : Type 0} {s : sources.Ghosts S} {e : elements.Gho
   pub of_table : EndReady tells (Some (lane_end o to.outlet))
   pub no_pad : (wire : Wire) → IsWire (frame_in o head parts) wire → LeadsInto wire (o.place to.outlet) → ⊥
   pub no_row : NoInlet i head (o.place to.outlet)
+
+-- the pad leads over a lane to the sink pad
+abbrev pub PadLeadsOver : {O : Type 0} → Pad O → Beyond → Type 0
+PadLeadsOver pad to = (lane : ℕ) × (from : ℕ) × (goes_of pad ≡ over lane to.element to.pad from)
+
+module _ {S I O : Type 0} {s : sources.Ghosts S} where
+  abbrev pub HeadLeadsOver : Head S I O s → Beyond → Type 0
+  HeadLeadsOver (Source head) to = PadLeadsOver head.pad to
+  HeadLeadsOver (Inlets head) to = ⊥
+
+module _ {S E I O : Type 0} {s : sources.Ghosts S} {e : elements.Ghosts E} where
+  -- the source pad of a number leads over a lane to the sink pad
+  pub record LeadsOver (head : Head S I O s) (parts : List (Part E O e)) (number : ℕ) (to : Beyond) : Type 0 where
+    pub pad : Pad O
+    pub is : IsPadOf head parts pad
+    pub number_is : number_of pad ≡ number
+    pub leads : PadLeadsOver pad to
+
+  -- it leads over no lane
+  pub record LeadsOverNone (head : Head S I O s) (parts : List (Part E O e)) (number : ℕ) : Type 0 where
+    pub pad : Pad O
+    pub is : IsPadOf head parts pad
+    pub number_is : number_of pad ≡ number
+    pub none : (to : Beyond) → PadLeadsOver pad to → ⊥
+
+  -- the task has no such pad, or it leads over no lane
+  abbrev pub NotOver : Head S I O s → List (Part E O e) → ℕ → Type 0
+  NotOver head parts number = HasNoPad head parts number ⊎ LeadsOverNone head parts number

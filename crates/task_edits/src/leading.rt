@@ -1,5 +1,5 @@
 //! Links of the source pads of a task, undone and made.
-ghost use Rattle.std.specs.Prelude.{◌≡◌, ◌<◌, ℕ, true, Bool, vec_len};
+ghost use Rattle.std.specs.Prelude.{◌≡◌, ◌<◌, ℕ, true, Bool, None, IfSome, vec_len};
 ghost use Rattle.net_model.specs.Edit.{linked, undone};
 ghost use Rattle.net_model.specs.Moment.{Moment};
 ghost use Rattle.net_model.specs.Step.{planned};
@@ -7,14 +7,14 @@ ghost use Rattle.net_task.specs.Fuel.{moves_left};
 ghost use Rattle.net_task.specs.Ready.{IsReady};
 ghost use Rattle.net_task.specs.Ties.{Ties};
 ghost use Rattle.task_edits.specs.Changes.{Changed, HeadChanged, LedBy, PartChanged};
-ghost use Rattle.task_edits.specs.Leads.{CanLink, IsApart, lane_behind};
+ghost use Rattle.task_edits.specs.Leads.{CanLink, HeadLeadsOver, IsApart, LeadsOver, NotOver, PadLeadsOver, lane_behind};
 ghost use Rattle.task_pads.specs.declared.pad.Behind.TheVariants.{Nothing};
 
 use crate::places::{PadAt, find};
 use lane_core::{Inlet, Outlet};
 use net_model::{TaskElement, TaskSource};
 use net_task::Task;
-use task_pads::Behind;
+use task_pads::{Behind, Pad};
 use task_parts::{Head, Part};
 
 /// A lane into which nothing was put yet, to a sink pad of an element of another task. It is made when so many items have
@@ -26,6 +26,13 @@ pub struct NewLane<O> {
     pub pad: u32,
     pub from: u64,
     pub outlet: O,
+}
+
+/// A sink pad of an element of another task.
+#[derive(Clone, Copy, Debug, PartialEq, Eq)]
+pub struct Beyond {
+    pub element: u32,
+    pub pad: u32,
 }
 
 /// Undoes the link of the source pad of a number, and gives where it led. What waits at the pad stays, and goes the way that the
@@ -117,4 +124,44 @@ fn lead_part<E: TaskElement, O: Outlet>(
     ensures { PartChanged (LedBy behind result) port part.old part.new }
 {
     part.lead(port, behind)
+}
+
+/// The sink pad to which the source pad of a number leads over a lane. None where the task has no such pad, or that leads elsewhere.
+pub fn over_of<S: TaskSource, E: TaskElement, I: Inlet<Out = O>, O: Outlet<Lanes = I::Lanes>>(
+    task: &Task<S, E, I, O>,
+    pad: u32,
+) -> Option<Beyond>
+    ensures leads { IfSome result (LeadsOver task.now.head task.now.parts.items pad) }
+    ensures none { result ≡ None → NotOver task.now.head task.now.parts.items pad }
+{
+    match find(task.head(), task.parts(), pad) {
+        Some(PadAt::Source) => head_over(task.head()),
+        Some(PadAt::Part { place, port }) => pad_over(&task.parts()[place].pads()[port]),
+        None => None,
+    }
+}
+
+/// Where the pad of a source leads, if that is over a lane.
+fn head_over<S: TaskSource, I, O: Outlet>(head: &Head<S, I, O>) -> Option<Beyond>
+    ensures leads { IfSome result (HeadLeadsOver head.now) }
+    ensures none { result ≡ None → (to : Beyond) → HeadLeadsOver head.now to → ⊥ }
+{
+    match head {
+        Head::Source(source) => pad_over(source.pad()),
+        Head::Inlets(_) => None,
+    }
+}
+
+/// Where a pad leads, if that is over a lane.
+fn pad_over<O: Outlet>(pad: &Pad<O>) -> Option<Beyond>
+    ensures leads { IfSome result (PadLeadsOver pad.now) }
+    ensures none { result ≡ None → (to : Beyond) → PadLeadsOver pad.now to → ⊥ }
+{
+    match pad.behind() {
+        Behind::Lane { element, pad, .. } => Some(Beyond {
+            element: *element,
+            pad: *pad,
+        }),
+        Behind::Nothing | Behind::Element { .. } => None,
+    }
 }

@@ -13,7 +13,7 @@ pub mod stickies;
 
 pub use feeding::feed;
 pub use inside::{Inside, inside_of, link_inside};
-pub use leading::{NewLane, link_over, unlink};
+pub use leading::{Beyond, NewLane, link_over, over_of, unlink};
 pub use openings::{Opening, opening_at};
 pub use places::{has_element, has_pad};
 pub use probes::set_probe;

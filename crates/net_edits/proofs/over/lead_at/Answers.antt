@@ -3,8 +3,8 @@ use Rattle.task_pads.proofs.Lists.{some_at}
 use Rattle.net_edits.proofs.Swapped.{set_by_swap}
 use Rattle.net_edits.proofs.over.lead_at.Goals as goal
 
-pub returns : goal.returns
-returns g c = record {
+pub returns-clause-led : goal.returns-clause-led
+returns-clause-led g c = record {
   was = c.swap_remove-task.result;
   is = c.link_over-task.result.0;
   back = c.link_over-task.result.1;
@@ -15,3 +15,6 @@ returns g c = record {
   ties = c.link_over-task.ensures.ties;
   ready = c.link_over-task.ensures.ready;
 }
+
+pub returns-clause-room : goal.returns-clause-room
+returns-clause-room g c = let a = c.swap_remove-task.ensures.capacity in let b = c.push_reserved.ensures.capacity in let d = c.swap.ensures.capacity in omega (arith, a, b, d)
