@@ -7,3 +7,11 @@ mod Spans
 mod Undone
 mod Runs
 mod Undoes
+pub mod Rewired
+mod Appended
+mod Placed
+pub mod Loose
+pub mod Kept
+pub mod Graphs
+mod Joinable
+mod Linked

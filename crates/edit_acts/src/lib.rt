@@ -2,6 +2,8 @@
 //! have the elements of the graph again.
 #![tactic(auto)]
 
+pub mod linking;
 pub mod undoing;
 
+pub use linking::{LinkRoom, link, room_to_link};
 pub use undoing::{UndoRoom, room_to_undo, undo};
