@@ -6,3 +6,4 @@ pub mod Kept
 pub mod Graphs
 mod Joinable
 mod Linked
+mod Overs

@@ -3,5 +3,6 @@
 #![tactic(auto)]
 
 pub mod linking;
+pub mod over;
 
 pub use linking::{LinkRoom, link, room_to_link};
