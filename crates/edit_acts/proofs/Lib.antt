@@ -15,3 +15,4 @@ pub mod Kept
 pub mod Graphs
 mod Joinable
 mod Linked
+mod Overs

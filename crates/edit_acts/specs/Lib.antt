@@ -1,2 +1,3 @@
 pub mod Undoing
 pub mod Linking
+pub mod Over

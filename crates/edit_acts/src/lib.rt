@@ -3,6 +3,7 @@
 #![tactic(auto)]
 
 pub mod linking;
+pub mod over;
 pub mod undoing;
 
 pub use linking::{LinkRoom, link, room_to_link};
