@@ -15,3 +15,4 @@ mod Entered
 mod Parts
 mod Most
 pub mod Rooms
+mod Speaking
