@@ -9,6 +9,7 @@ mod Swapped
 mod Closing
 mod Within
 mod Taken
+mod Halves
 mod Parting
 mod Flags
 mod Entered
