@@ -10,8 +10,13 @@ mod Closing
 pub mod Within
 pub mod Taken
 pub mod Parting
+mod Within
+mod Taken
+mod Halves
+mod Parting
 mod Flags
 mod Entered
 mod Parts
 mod Most
 pub mod Rooms
+mod Speaking
