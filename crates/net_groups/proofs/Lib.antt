@@ -7,9 +7,6 @@ mod Sending
 mod Joins
 mod Swapped
 mod Closing
-pub mod Within
-pub mod Taken
-pub mod Parting
 mod Within
 mod Taken
 mod Halves
