@@ -16,3 +16,6 @@ pub mod Graphs
 mod Joinable
 mod Linked
 mod Overs
+mod Owned
+mod Owing
+mod Controls

@@ -1,3 +1,4 @@
 pub mod Undoing
 pub mod Linking
 pub mod Over
+pub mod Controlled

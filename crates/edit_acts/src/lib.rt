@@ -2,6 +2,7 @@
 //! have the elements of the graph again.
 #![tactic(auto)]
 
+pub mod controlling;
 pub mod linking;
 pub mod over;
 pub mod undoing;

@@ -1,5 +1,5 @@
 mod Judged
-mod Decided
+pub mod Decided
 pub mod Trees
 pub mod Stepped
 pub mod Marks
@@ -10,10 +10,10 @@ mod Lists
 mod Staying
 mod Refusals
 mod Changes
-mod Standing
+pub mod Standing
 mod Noting
 mod Givers
 mod Passing
 mod Elsewhere
 mod Distinct
-mod Named
+pub mod Named

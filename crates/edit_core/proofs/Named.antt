@@ -100,6 +100,10 @@ found_element name k made source e = by (position (λ n. bytes_eq name (pad_text
     by None e = absurd (no_some (sym e))
     by (Some n) e = ap (λ (place : PadPlace). place.element) (some_same e)
 
+-- the element of a pad that is found is there
+pub named_there : (g : Edited) (name : PadName) (source : PadPlace) → pad_named Source g name ≡ Some source → is_there g source.element ≡ true
+named_there g name source e = let found = found_of g name source e in subst (λ (k : ℕ). is_there g k ≡ true) (found_element name.pad found.element found.made source found.pad) found.there
+
 -- ---- from the start
 
 same_text : (a : List ℕ) → bytes_eq a a ≡ true

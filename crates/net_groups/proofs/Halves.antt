@@ -81,7 +81,7 @@ module _ {S E I O L : Type 0} {s : sources.Ghosts S} {e : elements.Ghosts E} {i 
 
   -- ---- the elements of the two tasks
 
-  is_has : (n : ℕ) → HasElement (frame_of is) n → HasElement (frame_of was) n × (IsBehind was.parts.items element n → ⊥)
+  pub is_has : (n : ℕ) → HasElement (frame_of is) n → HasElement (frame_of was) n × (IsBehind was.parts.items element n → ⊥)
   is_has n (has_part j one at number) =
       let y = part_within o was.head is.head (kept_within z.parted) j one at in (
         part_has o was.head was.parts.items n (record { place = place_in (kept_within z.parted) j; part = y.0; at = y.2; number = sym y.4 ∙ number }),
@@ -98,7 +98,7 @@ module _ {S E I O L : Type 0} {s : sources.Ghosts S} {e : elements.Ghosts E} {i 
   fresh_frame : head_frame o fresh.head ≡ by_inlets z.fed.number (length z.fed.rows.items)
   fresh_frame = ap (λ (h : Head S I O s). head_frame o h) z.fed_is
 
-  fresh_has : (n : ℕ) → HasElement (frame_of fresh) n → HasElement (frame_of was) n × IsBehind was.parts.items element n
+  pub fresh_has : (n : ℕ) → HasElement (frame_of fresh) n → HasElement (frame_of was) n × IsBehind was.parts.items element n
   fresh_has n (has_part j one at number) =
       let y = part_within o was.head fresh.head (gone_within z.parted) j one at in (
         part_has o was.head was.parts.items n (record { place = place_in (gone_within z.parted) j; part = y.0; at = y.2; number = sym y.4 ∙ number }),
@@ -107,12 +107,12 @@ module _ {S E I O L : Type 0} {s : sources.Ghosts S} {e : elements.Ghosts E} {i 
   fresh_has n (has_source file wire at) = absurd (let a : by_inlets z.fed.number (length z.fed.rows.items) ≡ by_source n file wire = sym fresh_frame ∙ at in cc)
 
   -- where an element of a place was
-  data Came (k n : ℕ) : Type 0 where
+  pub data Came (k n : ℕ) : Type 0 where
     of_first : k ≡ place → Owns tasks place n → (IsBehind was.parts.items element n → ⊥) → Came k n
     of_other : (k ≡ place → ⊥) → Owns tasks k n → Came k n
     of_last : k ≡ length tasks → Owns tasks place n → IsBehind was.parts.items element n → Came k n
 
-  came : (k n : ℕ) → Owns tasks' k n → Came k n
+  pub came : (k n : ℕ) → Owns tasks' k n → Came k n
   came k n w = go (found k w.task w.at)
     where
       go : Found k w.task → Came k n
@@ -134,7 +134,7 @@ module _ {S E I O L : Type 0} {s : sources.Ghosts S} {e : elements.Ghosts E} {i 
       go (of_last same x y) (of_other else x') = absurd (else (wired.once j place n x' x))
       go (of_last same x y) (of_last same' x' y') = same ∙ sym same'
 
-  owned : (k n : ℕ) → Owns tasks k n → (j : ℕ) × Owns tasks' j n
+  pub owned : (k n : ℕ) → Owns tasks k n → (j : ℕ) × Owns tasks' j n
   owned k n w = go (cases_eq k place)
     where
       by : (part : Part E O e) → part.number ≡ n → ((x : ℕ) × (slice_get is.parts.items x ≡ Some part) × (Goes part → ⊥)) ⊎ ((x : ℕ) × (slice_get fresh.parts.items x ≡ Some part) × Goes part) → (j : ℕ) × Owns tasks' j n
@@ -151,7 +151,7 @@ module _ {S E I O L : Type 0} {s : sources.Ghosts S} {e : elements.Ghosts E} {i 
       go (inl same) = has (subst (λ (t : Task S E I O L s e i o). HasElement (frame_of t) n) (some_same (sym w.at ∙ ap (λ (x : ℕ). slice_get tasks x) same ∙ z.at)) w.has)
       go (inr else) = (k, record { task = w.task; at = other_at k w.task else w.at; has = w.has })
 
-  wires : (k n : ℕ) (wire : Wire) → OwnsWire tasks' k n wire → (j : ℕ) × OwnsWire tasks j n wire
+  pub wires : (k n : ℕ) (wire : Wire) → OwnsWire tasks' k n wire → (j : ℕ) × OwnsWire tasks j n wire
   wires k n wire w = go (found k w.task w.at)
     where
       of_is : IsOf (frame_of is) n wire → IsOf (frame_of was) n wire

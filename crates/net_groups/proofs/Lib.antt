@@ -7,9 +7,9 @@ mod Sending
 mod Joins
 mod Swapped
 mod Closing
-mod Within
-mod Taken
-mod Halves
+pub mod Within
+pub mod Taken
+pub mod Halves
 mod Parting
 mod Flags
 mod Entered
