@@ -7,3 +7,5 @@ mod Spans
 mod Undone
 mod Runs
 mod Undoes
+mod Ends
+mod Grown
