@@ -1,6 +1,6 @@
 -- What a run is where the link of a pad was undone with EOS, and where it has none.
-use Rattle.std.proofs.Common.{◌≡◌, ◌⊎◌, ℕ, Bool, true, false, List, Option, None, Some, length, refl, sym, ap, ◌∙◌, subst, inl, inr}
-use Rattle.std.specs.Prelude.{Result, Ok, Err, slice_get}
+use Rattle.std.proofs.Common.{◌≡◌, ◌⊎◌, ℕ, Bool, true, List, Option, Some, refl, ap, subst, inl, inr}
+use Rattle.std.specs.Prelude.{slice_get}
 use Rattle.lane_core.specs.Lane.{Lane}
 use Rattle.lane_core.specs.declared.ends.Inlet as inlets
 use Rattle.lane_core.specs.declared.ends.Outlet as outlets
@@ -14,26 +14,21 @@ use Rattle.task_pads.specs.declared.pad.Behind.TheVariants as behinds
 use Rattle.task_pads.specs.declared.pad.Pad.{Pad}
 use Rattle.task_pads.specs.Pads.{goes_of, rest_of}
 use Rattle.net_task.specs.declared.task.Task.{Task}
-use Rattle.net_task.specs.Frame.{IsWire, Wire, frame_of, room_in, wire_of}
+use Rattle.net_task.specs.Frame.{IsWire, frame_of, room_in, wire_of}
 use Rattle.net_task.specs.Ties.{LeadsAs}
 use Rattle.net_turns.specs.Net.{NetStands, SendsInto}
 use Rattle.task_edits.specs.Inside.{IsPadOf}
-use Rattle.task_edits.specs.Leads.{LeadsOver, LeadsOverNone}
 use Rattle.task_edits.specs.declared.inside.Inside.{Inside}
 use Rattle.task_edits.specs.declared.leading.Beyond.{Beyond}
-use Rattle.net_edits.specs.Ending.{CannotEnd, HasOver, HasOverNone, IsEndedOver, StandEndedOver}
-use Rattle.net_edits.specs.Inside.{FedAll, HasInside, HasOutside, IsEndedInside, NoneInside, NotEnded, StandEnded, TiesUndone, eos_alone}
+use Rattle.net_edits.specs.Ending.{CannotEnd, IsEndedOver, StandEndedOver}
+use Rattle.net_edits.specs.Inside.{FedAll, HasInside, IsEndedInside, NoneInside, StandEnded, TiesUndone, eos_alone}
 use Rattle.net_edits.specs.Nets.{NoneHas}
-use Rattle.net_edits.specs.Over.{AreKept, NoneFeeds}
-use Rattle.net_edits.specs.declared.inside.EditFault.{EditFault}
-use Rattle.net_edits.specs.declared.inside.EditFault.TheVariants as faults
-use Rattle.graph_pads.specs.declared.pad.PadPlace.{PadPlace}
+use Rattle.net_edits.specs.Over.{NoneFeeds}
 use Rattle.edit_model.specs.Edited.{Edited}
 use Rattle.edit_core.specs.Ways.{IsRun}
 use Rattle.edit_core.proofs.Trees.{wire_leads_as}
-use Rattle.edit_acts.specs.Ending.{EndsAt, HasNoLink, IsRunEnded, NotEndedWhole, RunsEnd}
-use Rattle.edit_acts.specs.Undoing.{IsRunWith, LeadsNoneInside}
-use Rattle.edit_acts.proofs.Cut.{LeadsBy}
+use Rattle.edit_acts.specs.Ending.{EndsAt, HasNoLink, RunsEnd}
+use Rattle.edit_acts.specs.Undoing.{LeadsNoneInside}
 use Rattle.edit_acts.proofs.Grown.{ended_over_are}
 use Rattle.edit_acts.proofs.Runs.{run_on}
 use Rattle.edit_acts.proofs.Undoes.{ToldSplit, split_run}
@@ -72,15 +67,6 @@ module _ {S E I O L : Type 0} {s : sources.Ghosts S} {e : elements.Ghosts E} {i 
     port = to.pad;
     leads = h.leads.leads;
   }))
-
-  pub not_ended : (tasks tasks' : List (Task S E I O L s e i o)) (pad : ℕ) (fault : EditFault) → NotEnded tasks tasks' pad fault → NotEndedWhole tasks tasks' pad fault
-  not_ended tasks tasks' pad faults.OutOfMemory same = inl same
-  not_ended tasks tasks' pad (faults.Failed stopped) told = told
-
-  pub wanting_stays : (tasks tasks' : List (Task S E I O L s e i o)) (pad : ℕ) (fault : EditFault) → NotEnded tasks tasks' pad fault → (answer : Result Bool EditFault) → answer ≡ Err fault → answer ≡ Err faults.OutOfMemory
-      → (m : Moment) (tells : Option (List Lane)) → NetStands m tasks tells → NetStands m tasks' tells
-  wanting_stays tasks tasks' pad faults.OutOfMemory same answer is wanting m tells stands = subst (λ (ts : List (Task S E I O L s e i o)). NetStands m ts tells) (sym same) stands
-  wanting_stays tasks tasks' pad (faults.Failed stopped) told answer is wanting m tells stands = absurd (let same = sym is ∙ wanting in cc)
 
   -- ---- over a lane
 

@@ -20,9 +20,9 @@ use Rattle.task_parts.proofs.Lists.{each_set}
 use Rattle.gst_value.proofs.Basics.{some_same}
 use Rattle.gst_value.proofs.Places.{set_at}
 use Rattle.net_task.specs.declared.task.Task.{Task}
-use Rattle.net_task.specs.Frame.{HeadFrame, IsWire, TaskFrame, Wire, by_inlets, frame_in, frame_of, head_frame, part_frame, wire_of}
-use Rattle.net_turns.specs.Net.{HasElement, HasRow, IsFed, Owns}
-use Rattle.net_edits.specs.Ending.{HasOver, IsEndedOver}
+use Rattle.net_task.specs.Frame.{IsWire, TaskFrame, Wire, by_inlets, frame_in, frame_of, head_frame, part_frame, wire_of}
+use Rattle.net_turns.specs.Net.{HasElement, HasRow}
+use Rattle.net_edits.specs.Ending.{IsEndedOver}
 use Rattle.net_edits.specs.Over.{IsGrownAt, TaskGrew}
 use Rattle.net_groups.specs.Places.{FedAt, HasWire}
 use Rattle.edit_model.specs.Edited.{Edited}
@@ -30,7 +30,7 @@ use Rattle.edit_core.specs.Tasks.{AreTasksOf, IsReachedIn, number_of_head}
 use Rattle.edit_core.specs.Ways.{IsRun}
 use Rattle.edit_acts.specs.Undoing.{LeadsNoneInside}
 use Rattle.edit_acts.proofs.Cut.{LeadsBy}
-use Rattle.edit_acts.proofs.Made.{AreMadeOf, HasSource, IsRowOf, IsSource, are_again, made_both}
+use Rattle.edit_acts.proofs.Made.{AreMadeOf, IsRowOf, IsSource, are_again, made_both}
 use Rattle.edit_acts.proofs.Reached.{still_reached}
 use Rattle.edit_acts.proofs.Undone.{none_leads, pad_is_wire}
 use Rattle.edit_acts.proofs.Unlinked.{AreCut, cut_made, unlinked_cut}

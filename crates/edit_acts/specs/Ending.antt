@@ -1,5 +1,5 @@
 -- Links of a run that are undone with EOS.
-use Rattle.std.specs.Prelude.{◌≡◌, ◌⊎◌, ℕ, true, List, Option, length}
+use Rattle.std.specs.Prelude.{◌⊎◌, ℕ, true, List, Option, length}
 use Rattle.flow_model.specs.Item.{Item}
 use Rattle.lane_core.specs.Lane.{Lane}
 use Rattle.lane_core.specs.declared.ends.Inlet as inlets

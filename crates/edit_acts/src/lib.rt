@@ -2,6 +2,8 @@
 //! have the elements of the graph again.
 #![tactic(auto)]
 
+pub mod ending;
 pub mod undoing;
 
+pub use ending::end;
 pub use undoing::{UndoRoom, room_to_undo, undo};
