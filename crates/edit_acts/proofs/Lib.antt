@@ -19,3 +19,5 @@ mod Overs
 mod Owned
 mod Owing
 mod Controls
+mod Ends
+mod Grown

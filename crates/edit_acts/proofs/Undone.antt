@@ -59,7 +59,7 @@ leads_not n port same = cc
 
 -- a pad of a task is one of its wires
 module _ {S E I O L : Type 0} {s : sources.Ghosts S} {e : elements.Ghosts E} (o : outlets.Ghosts O L) where
-  pad_is_wire : (head : Head S I O s) (parts : List (Part E O e)) (pad : Pad O) → IsPadOf head parts pad → IsWire (frame_in o head parts) (wire_of o pad)
+  pub pad_is_wire : (head : Head S I O s) (parts : List (Part E O e)) (pad : Pad O) → IsPadOf head parts pad → IsWire (frame_in o head parts) (wire_of o pad)
   pad_is_wire head parts pad (IsPadOf.of_source source is same) = IsWire.of_head (ap (λ (h : Head S I O s). head_wire (head_frame o h)) is ∙ ap (λ (q : Pad O). Some (wire_of o q)) same)
   pad_is_wire head parts pad (IsPadOf.of_part place port part at pad_at) =
       IsWire.of_part place port (record { part = part_frame o part; at = map_get (part_frame o) parts place part at; pad_at = map_get (wire_of o) part.pads.items port pad pad_at })
@@ -115,7 +115,7 @@ module _ {S E I O L : Type 0} {s : sources.Ghosts S} {e : elements.Ghosts E} {i 
 
   module _ (pad : ℕ) where
     -- a pad that leads elsewhere leads to no element of its task
-    elsewhere : (place : ℕ) (one : Task S E I O L s e i o) → slice_get tasks place ≡ Some one → LeadsElsewhere one.head one.parts.items pad
+    pub elsewhere : (place : ℕ) (one : Task S E I O L s e i o) → slice_get tasks place ≡ Some one → LeadsElsewhere one.head one.parts.items pad
         → (k : ℕ) (task : Task S E I O L s e i o) → slice_get tasks k ≡ Some task → (b : ℕ) → LeadsBy pad (frame_of task) b → ⊥
     elsewhere place one one_at other k task at b by = go (goes_of other.pad) refl
       where

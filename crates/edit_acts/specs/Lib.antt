@@ -1,3 +1,4 @@
+pub mod Ending
 pub mod Undoing
 pub mod Linking
 pub mod Over

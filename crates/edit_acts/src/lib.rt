@@ -3,9 +3,11 @@
 #![tactic(auto)]
 
 pub mod controlling;
+pub mod ending;
 pub mod linking;
 pub mod over;
 pub mod undoing;
 
+pub use ending::end;
 pub use linking::{LinkRoom, link, room_to_link};
 pub use undoing::{UndoRoom, room_to_undo, undo};
