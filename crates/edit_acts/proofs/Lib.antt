@@ -1,8 +1,9 @@
-pub mod Rewired
+mod Rewired
 mod Appended
 mod Placed
-pub mod Loose
-pub mod Kept
+mod Loose
+mod Kept
 pub mod Graphs
 mod Joinable
 mod Linked
+mod Answered
