@@ -10,8 +10,8 @@ mod Undoes
 pub mod Rewired
 mod Appended
 mod Placed
-pub mod Loose
-pub mod Kept
+mod Loose
+mod Kept
 pub mod Graphs
 mod Joinable
 mod Linked
@@ -21,3 +21,4 @@ mod Owing
 mod Controls
 mod Ends
 mod Grown
+mod Answered
