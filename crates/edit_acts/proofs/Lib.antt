@@ -22,3 +22,5 @@ mod Controls
 mod Ends
 mod Grown
 mod Answered
+mod Keeps
+mod Relinking

@@ -3,3 +3,4 @@ pub mod Undoing
 pub mod Linking
 pub mod Over
 pub mod Controlled
+pub mod Relinked

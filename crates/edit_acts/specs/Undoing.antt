@@ -1,5 +1,5 @@
 -- Links of a run that are undone, and the room that this takes.
-use Rattle.std.specs.Prelude.{◌≡◌, ◌<◌, ℕ, List, Option, Some, slice_get}
+use Rattle.std.specs.Prelude.{◌≡◌, ◌≢◌, ◌<◌, ℕ, List, Option, Some, slice_get}
 use Rattle.std.specs.Global.{Vec}
 use Rattle.lane_core.specs.Lane.{Lane}
 use Rattle.lane_core.specs.declared.ends.Inlet as inlets
@@ -18,6 +18,11 @@ use Rattle.edit_model.specs.Edited.{Edited}
 use Rattle.edit_core.specs.Ways.{IsRun}
 use Rattle.edit_acts.specs.declared.undoing.UndoRoom.{UndoRoom}
 use Rattle.edit_acts.specs.declared.undoing.UndoRoom.TheVariants.{Whole, Split}
+
+-- the task is not split at this element
+abbrev pub SplitsNot : {E I O : Type 0} {e : elements.Ghosts E} → UndoRoom E I O e → ℕ → Type 0
+SplitsNot Whole n = Unit {0}
+SplitsNot (Split element room) n = element ≢ n
 
 module _ {S E I O L : Type 0} {s : sources.Ghosts S} {e : elements.Ghosts E} {i : inlets.Ghosts I L O} {o : outlets.Ghosts O L} where
   -- no task has the pad, or it leads to no element of its task

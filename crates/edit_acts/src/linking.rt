@@ -29,6 +29,17 @@ pub struct LinkRoom<E: TaskElement, O> {
     opening: List<Item>,
 }
 
+impl<E: TaskElement, O> LinkRoom<E, O> {
+    ghost use Rattle.gst_item.specs.Item.{has_item};
+
+    /// Whether the link gives sticky events first.
+    pub(crate) fn opens(&self) -> bool
+        ensures { result ≡ has_item (opening_of self.now) }
+    {
+        !self.opening.as_slice().is_empty()
+    }
+}
+
 /// Takes all the memory that it takes to link the source pad of a number to a sink pad of an element: so [`link`] needs none for itself.
 pub fn room_to_link<S: TaskSource, E: TaskElement, I: Inlet<Out = O>, O: Outlet<Lanes = I::Lanes>>(
     alloc: Global,

@@ -1,13 +1,14 @@
 //! Links that are undone. What an element of a task led to becomes a task of its own, which nothing feeds.
-ghost use Rattle.std.specs.Prelude.{◌≡◌, ◌<◌, false, None, IfOk, IfSome, length};
+ghost use Rattle.std.specs.Prelude.{◌≡◌, ◌<◌, ℕ, false, None, IfOk, IfSome, length};
 ghost use Rattle.edit_core.specs.Ways.{InnerTookItems, IsRun};
 ghost use Rattle.edit_model.specs.Edited.{Edited, unlinked_at};
 ghost use Rattle.graph_pads.specs.declared.pad.PadPlace.{PadPlace};
 ghost use Rattle.net_edits.specs.Inside.{HasInside};
 ghost use Rattle.net_model.specs.Edit.{unlinked};
 ghost use Rattle.net_model.specs.Moment.{Moment};
+ghost use Rattle.net_groups.specs.Joined.{HasRoomToJoin};
 ghost use Rattle.net_turns.specs.Net.{NetReady, NetStands};
-ghost use Rattle.edit_acts.specs.Undoing.{HasRoomToUndo, IsRunWith, LeadsNoneInside};
+ghost use Rattle.edit_acts.specs.Undoing.{HasRoomToUndo, IsRunWith, LeadsNoneInside, SplitsNot};
 
 use gst_value::OutOfMemory;
 use lane_core::{Inlet, Outlet};
@@ -58,6 +59,8 @@ pub fn undo<S: TaskSource, E: TaskElement, I: Inlet<Out = O>, O: Outlet<Lanes = 
     requires room { HasRoomToUndo tasks.old pad room }
     ensures run { (g : Edited) (m : Moment) (tells : _) (source : PadPlace) → IsRunWith g m tasks.old.items tells pad source
         → IsRun (unlinked_at source (length (m.history pad)) false g) (unlinked pad m) tasks.new.items tells }
+    ensures join { (element : ℕ) (join : _) → SplitsNot room element → HasRoomToJoin tasks.old.items pad element join
+        → HasRoomToJoin tasks.new.items pad element join }
     ensures stands { (m : Moment) (tells : _) → NetStands m tasks.old.items tells → InnerTookItems m tasks.old.items
         → NetStands (unlinked pad m) tasks.new.items tells }
     ensures ready { (tells : _) → NetReady tasks.old.items tells → NetReady tasks.new.items tells }

@@ -5,7 +5,7 @@ pub mod Stepped
 pub mod Marks
 pub mod Inner
 pub mod Ways
-mod Spans
+pub mod Spans
 mod Lists
 mod Staying
 mod Refusals

@@ -6,7 +6,7 @@ use Rattle.edit_model.specs.Edited.{unlinked_at}
 use Rattle.edit_core.specs.Ways.{IsRun}
 use Rattle.edit_acts.specs.Undoing.{IsRunWith}
 use Rattle.edit_acts.proofs.Controls.{few, is_made, is_unlinked, items_is, link_is, run_with}
-use Rattle.edit_acts.proofs.controlling.unlink.Goals as goal
+use Rattle.edit_acts.proofs.unlinking.unlink.Goals as goal
 
 -- a source pad with a link has a number
 pub returns-in_default-clause-run : goal.returns-in_default-clause-run
