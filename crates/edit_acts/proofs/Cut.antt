@@ -25,6 +25,7 @@ use Rattle.net_task.specs.Frame.{HeadFrame, IsWire, PartFrame, TaskFrame, Wire, 
 use Rattle.net_turns.specs.Net.{HasElement}
 use Rattle.task_edits.specs.Changes.{Changed, LedBy, PadIn, PadIs}
 use Rattle.task_edits.proofs.Wiring.{PadAt, pad_before, pad_wire, wire_pad}
+use Rattle.net_groups.specs.Places.{HasPad}
 use Rattle.edit_core.specs.Tasks.{LeadsOn, number_of_head}
 use Rattle.edit_acts.proofs.Made.{IsSource}
 
@@ -48,13 +49,14 @@ pub record IsCut (pad : ℕ) (was is : TaskFrame) : Type 0 where
   pub has : (n : ℕ) → HasElement is n → HasElement was n
   pub had : (n : ℕ) → HasElement was n → HasElement is n
   pub wires : (wire : Wire) → IsWire is wire → IsWire was wire ⊎ (wire.leads ≡ nowhere)
+  pub pads : (wire : Wire) → IsWire is wire → HasPad was wire.number
   pub leads : (a b : ℕ) → LeadsOn was a b → LeadsOn is a b ⊎ LeadsBy pad was b
   pub sources : (n : ℕ) → IsSource is n → IsSource was n
   pub size : length is.parts ≡ length was.parts
   pub places : (k : ℕ) (one : PartFrame) → slice_get is.parts k ≡ Some one → SameAt was.parts k one.number
 
 pub same_cut : (pad : ℕ) (frame : TaskFrame) → IsCut pad frame frame
-same_cut pad frame = record { head = refl; has = λ n x. x; had = λ n x. x; wires = λ wire x. inl x; leads = λ a b x. inl x; sources = λ n x. x; size = refl; places = λ k one at. record { one = one; at = at; same = refl } }
+same_cut pad frame = record { head = refl; has = λ n x. x; had = λ n x. x; wires = λ wire x. inl x; pads = λ wire x. record { wire = wire; is = x; number_is = refl }; leads = λ a b x. inl x; sources = λ n x. x; size = refl; places = λ k one at. record { one = one; at = at; same = refl } }
 
 abbrev wire_in : Wire → HeadFrame → Wire
 wire_in other (by_source n file wire) = wire
@@ -81,6 +83,7 @@ module _ {S E I O L : Type 0} {s : sources.Ghosts S} {e : elements.Ghosts E} (o 
         has = has;
         had = had;
         wires = wires;
+        pads = pads;
         leads = leads;
         sources = λ n x. record { file = s.file old.source; wire = wire_of o old.pad; is = ap (λ (k : ℕ). by_source k (s.file old.source) (wire_of o old.pad)) (sym same.number ∙ ap (λ (h : HeadFrame). number_of_head h) x.is) };
         size = refl;
@@ -107,6 +110,10 @@ module _ {S E I O L : Type 0} {s : sources.Ghosts S} {e : elements.Ghosts E} (o 
       wires wire (IsWire.of_part j k w) = inl (IsWire.of_part j k (record { part = w.part; at = w.at; pad_at = w.pad_at }))
       wires wire (IsWire.of_head is) = inr (leads_nowhere o old.pad new.pad led wire (some_same is))
 
+      pads : (wire : Wire) → IsWire (frame_in o now parts) wire → HasPad (frame_in o before parts) wire.number
+      pads wire (IsWire.of_part j k w) = record { wire = wire; is = IsWire.of_part j k (record { part = w.part; at = w.at; pad_at = w.pad_at }); number_is = refl }
+      pads wire (IsWire.of_head is) = record { wire = wire_of o old.pad; is = IsWire.of_head refl; number_is = sym led.number ∙ ap (λ (w : Wire). w.number) (some_same is) }
+
       leads : (a b : ℕ) → LeadsOn (frame_in o before parts) a b → LeadsOn (frame_in o now parts) a b ⊎ LeadsBy pad (frame_in o before parts) b
       leads a b (LeadsOn.of_part j k port part wire at wire_at is to) = inl (LeadsOn.of_part j k port part wire at wire_at is to)
       leads a b (LeadsOn.of_source port file wire is to) = inr (record {
@@ -125,6 +132,7 @@ module _ {S E I O L : Type 0} {s : sources.Ghosts S} {e : elements.Ghosts E} (o 
     has = has;
     had = had;
     wires = wires;
+    pads = pads;
     leads = leads;
     sources = λ n x. record { file = x.file; wire = x.wire; is = x.is };
     size = length-map (slice_set parts place new) (part_frame o) ∙ set_length parts place new ∙ sym (length-map parts (part_frame o));
@@ -161,6 +169,20 @@ module _ {S E I O L : Type 0} {s : sources.Ghosts S} {e : elements.Ghosts E} (o 
               → IsWire (frame_in o head parts) wire ⊎ (wire.leads ≡ nowhere)
           go z (inl there) = inl (IsWire.of_part j k (subst (WireAt (frame_in o head parts) j k) z.2 (pad_wire o head parts j k z.0 there)))
           go z (inr t) = inr (leads_nowhere o was is led wire (ap (λ (q : Pad O). wire_of o q) (sym t.0) ∙ z.2))
+
+      pads : (wire : Wire) → IsWire (frame_in o head (slice_set parts place new)) wire → HasPad (frame_in o head parts) wire.number
+      pads wire (IsWire.of_head is_head) = record { wire = wire; is = IsWire.of_head is_head; number_is = refl }
+      pads wire (IsWire.of_part j k w) =
+          let z = wire_pad o head (slice_set parts place new) j k wire w in
+          go z (pad_before parts place port old new was is at changed j k z.0 z.1)
+        where
+          go : (z : (q : Pad O) × PadAt (slice_set parts place new) j k q × (wire_of o q ≡ wire)) → PadAt parts j k z.0 ⊎ ((z.0 ≡ is) × PadAt parts j k was × (j ≡ place) × (k ≡ port)) → HasPad (frame_in o head parts) wire.number
+          go z (inl there) = record { wire = wire_of o z.0; is = IsWire.of_part j k (pad_wire o head parts j k z.0 there); number_is = ap (λ (w : Wire). w.number) z.2 }
+          go z (inr t) = record {
+            wire = wire_of o was;
+            is = IsWire.of_part j k (pad_wire o head parts j k was t.1);
+            number_is = sym led.number ∙ ap (λ (q : Pad O). number_of q) (sym t.0) ∙ ap (λ (w : Wire). w.number) z.2;
+          }
 
       -- a pad that stood at a port stands there, or is the one
       stays : (j k : ℕ) (one : Part E O e) (q : Pad O) → slice_get parts j ≡ Some one → slice_get one.pads.items k ≡ Some q → Stays (slice_set parts place new) j k one.number q ⊎ (q ≡ was)

@@ -7,6 +7,7 @@ mod Spans
 mod Undone
 mod Runs
 mod Undoes
+mod Fits
 pub mod Rewired
 mod Appended
 mod Placed

@@ -50,6 +50,10 @@ module _ {S E I O L : Type 0} {s : sources.Ghosts S} {e : elements.Ghosts E} {i 
     pub back : (k : ℕ) (is : Task S E I O L s e i o) → slice_get tasks' k ≡ Some is → CutAt pad tasks k is
     pub on : (k : ℕ) (was : Task S E I O L s e i o) → slice_get tasks k ≡ Some was → CutOn pad tasks' k was
 
+  -- it has as many elements
+  pub cut_size : (pad : ℕ) (was is : Task S E I O L s e i o) → IsCutTask pad was is → length was.parts.items ≡ length is.parts.items
+  cut_size pad was is cut = sym (length-map was.parts.items (part_frame o)) ∙ sym cut.frame.size ∙ length-map is.parts.items (part_frame o)
+
   same_task : (pad : ℕ) (task : Task S E I O L s e i o) → IsCutTask pad task task
   same_task pad task = record { frame = same_cut pad (frame_of task); fed = λ head x. x; was_fed = λ head x. x }
 
@@ -132,5 +136,5 @@ module _ {S E I O L : Type 0} {s : sources.Ghosts S} {e : elements.Ghosts E} {i 
         let z = y.cut.frame.places p.place (part_frame o p.is.part) (map_get (part_frame o) p.task.parts.items p.place p.is.part p.is.at) in
         let x = map_got (part_frame o) y.was.parts.items p.place z.one z.at in (
           record { task = y.was; at = y.at; place = p.place; is = record { part = x.0; at = x.1; number_is = ap (λ (f : PartFrame). f.number) (sym x.2) ∙ z.same ∙ p.is.number_is } },
-          sym (length-map y.was.parts.items (part_frame o)) ∙ sym y.cut.frame.size ∙ length-map p.task.parts.items (part_frame o),
+          cut_size pad y.was p.task y.cut,
         )

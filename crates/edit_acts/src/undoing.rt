@@ -4,6 +4,8 @@ ghost use Rattle.edit_core.specs.Ways.{InnerTookItems, IsRun};
 ghost use Rattle.edit_model.specs.Edited.{Edited, unlinked_at};
 ghost use Rattle.graph_pads.specs.declared.pad.PadPlace.{PadPlace};
 ghost use Rattle.net_edits.specs.Inside.{HasInside};
+ghost use Rattle.net_groups.specs.Joined.{HasRoomToJoin};
+ghost use Rattle.net_groups.specs.declared.joining.JoinRoom.{JoinRoom};
 ghost use Rattle.net_model.specs.Edit.{unlinked};
 ghost use Rattle.net_model.specs.Moment.{Moment};
 ghost use Rattle.net_groups.specs.Joined.{HasRoomToJoin};
@@ -50,7 +52,8 @@ pub fn room_to_undo<S: TaskSource, E: TaskElement, I: Inlet<Out = O>, O: Outlet<
 }
 
 /// Undoes the link of the source pad of a number, without EOS, in room that was taken before. Where it led to an element of the pad's
-/// task, that element and what stands behind it become a task of their own, which nothing feeds. It takes no memory.
+/// task, that element and what stands behind it become a task of their own, which nothing feeds. It takes no memory. Room that was taken before
+/// to join the task of another element to that of the pad is still enough then.
 pub fn undo<S: TaskSource, E: TaskElement, I: Inlet<Out = O>, O: Outlet<Lanes = I::Lanes>>(
     tasks: &mut Vec<Task<S, E, I, O>>,
     pad: u32,
@@ -64,6 +67,8 @@ pub fn undo<S: TaskSource, E: TaskElement, I: Inlet<Out = O>, O: Outlet<Lanes = 
     ensures stands { (m : Moment) (tells : _) → NetStands m tasks.old.items tells → InnerTookItems m tasks.old.items
         → NetStands (unlinked pad m) tasks.new.items tells }
     ensures ready { (tells : _) → NetReady tasks.old.items tells → NetReady tasks.new.items tells }
+    ensures join { (element : ℕ) (join : JoinRoom _ _ _) → SplitsNot room element → HasRoomToJoin tasks.old.items pad element join
+        → HasRoomToJoin tasks.new.items pad element join }
 {
     unlink(tasks, pad);
     if let UndoRoom::Split { element, room } = room {

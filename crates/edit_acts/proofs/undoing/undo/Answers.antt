@@ -1,6 +1,7 @@
-use Rattle.std.proofs.Common.{false, ap, refl, subst, sym}
+use Rattle.std.proofs.Common.{◌≢◌, false, ap, refl, subst, sym}
 use Rattle.net_groups.specs.Splits.{TookItems, pads_of}
 use Rattle.edit_acts.specs.Undoing.{HasRoomBehind, LeadsNoneInside}
+use Rattle.edit_acts.proofs.Fits.{cut_fits, split_fits}
 use Rattle.edit_acts.proofs.Undoes.{ToldSplit, room_then, split_run, told_ready, told_stands, took_beside, whole_run}
 use Rattle.edit_acts.proofs.Unlinked.{AreCut, told_cut}
 use Rattle.edit_acts.proofs.undoing.undo.Goals as goal
@@ -36,6 +37,13 @@ returns-in-Split-clause-stands g c = λ m tells stands took.
 pub returns-in-Split-clause-ready : goal.returns-in-Split-clause-ready
 returns-in-Split-clause-ready g c = λ tells ready. told_ready c.split_reserved.result c.unlink.new.tasks.items c.split_reserved.new.tasks.items c.in-Split.element _ (told g c) tells (c.unlink.ensures.ready tells ready)
 
+pub returns-in-Split-clause-join : goal.returns-in-Split-clause-join
+returns-in-Split-clause-join g c = λ element join other has.
+    let cut : AreCut c.args.pad c.args.tasks.now.items c.unlink.new.tasks.items = told_cut c.args.pad c.args.tasks.now c.unlink.new.tasks c.unlink.result c.unlink.ensures.undone c.unlink.ensures.none in
+    let apart : c.in-Split.element ≢ element = rw c.in-Split.is at other in
+    split_fits c.split_reserved.result c.unlink.new.tasks.items c.split_reserved.new.tasks.items c.in-Split.element _ (told g c) c.args.pad element join apart
+    (cut_fits c.args.pad c.args.tasks.now.items c.unlink.new.tasks.items cut c.args.pad element join has)
+
 pub returns-in_default-clause-run : goal.returns-in_default-clause-run
 returns-in_default-clause-run g c = λ graph m tells source w.
     let cut : AreCut c.args.pad c.args.tasks.now.items c.unlink.new.tasks.items = told_cut c.args.pad c.args.tasks.now c.unlink.new.tasks c.unlink.result c.unlink.ensures.undone c.unlink.ensures.none in
@@ -44,3 +52,8 @@ returns-in_default-clause-run g c = λ graph m tells source w.
 
 pub returns-in_default-clause-stands : goal.returns-in_default-clause-stands
 returns-in_default-clause-stands g c = λ m tells stands took. c.unlink.ensures.stands m tells stands
+
+pub returns-in_default-clause-join : goal.returns-in_default-clause-join
+returns-in_default-clause-join g c = λ element join other has.
+    let cut : AreCut c.args.pad c.args.tasks.now.items c.unlink.new.tasks.items = told_cut c.args.pad c.args.tasks.now c.unlink.new.tasks c.unlink.result c.unlink.ensures.undone c.unlink.ensures.none in
+    cut_fits c.args.pad c.args.tasks.now.items c.unlink.new.tasks.items cut c.args.pad element join has
