@@ -9,3 +9,4 @@ mod Runs
 mod Undoes
 mod Ends
 mod Grown
+mod Having
