@@ -32,22 +32,10 @@ use Rattle.graph_pads.specs.declared.pad.PadPlace.{PadPlace}
 use Rattle.edit_model.specs.Edited.{Edited, is_active, spans_at, touches}
 use Rattle.edit_model.specs.Growing.{AreSingle}
 use Rattle.edit_model.specs.Plans.{is_asleep}
+use Rattle.edit_core.proofs.Standing.{found_back}
 use Rattle.edit_core.specs.Tasks.{number_of_head}
 use Rattle.edit_acts.specs.Ending.{HasLink}
 use Rattle.edit_acts.specs.Undoing.{IsRunWith}
-
--- where links are single the sink pad behind a source pad leads back to it
-back_from : (links : List PadLink) (source sink : PadPlace) → AreSingle links → sink_behind links source ≡ Some sink → source_before links sink ≡ Some source
-back_from [] source sink single e = absurd cc
-back_from (link ∷ links) source sink single e = go (same_or_other link.source source) (same_or_other link.sink sink) e (back_from links source sink single.2)
-  where
-    go : ((is_same link.source source ≡ true) × (link.source ≡ source)) ⊎ (is_same link.source source ≡ false) → ((is_same link.sink sink ≡ true) × (link.sink ≡ sink)) ⊎ (is_same link.sink sink ≡ false)
-        → (if is_same link.source source then Some link.sink else sink_behind links source) ≡ Some sink → (sink_behind links source ≡ Some sink → source_before links sink ≡ Some source)
-        → (if is_same link.sink sink then Some link.source else source_before links sink) ≡ Some source
-    go (inl t) (inl u) e rest = rw u.0 (ap (λ (p : PadPlace). Some p) t.1)
-    go (inl t) (inr u) e rest = absurd (let same : link.sink ≡ sink = some_same (rw t.0 at e) in let is = sym (ap (λ (p : PadPlace). is_same link.sink p) same) ∙ itself link.sink in let none = sym is ∙ u in cc)
-    go (inr t) (inl u) e rest = absurd (let before = rest (rw t at e) in let none = sym (ap (source_before links) u.1) ∙ single.1 in cc)
-    go (inr t) (inr u) e rest = rw u (rest (rw t at e))
 
 any_in : (f : PadLink → Bool) (links : List PadLink) (link : PadLink) → IsIn link links → f link ≡ true → list_any f links ≡ true
 any_in f [] link is e = absurd is
@@ -66,7 +54,7 @@ nowhere_at p (suc k) (ss ∷ sss) none = nowhere_at p k sss none.1
 module _ {S E I O L : Type 0} {s : sources.Ghosts S} {e : elements.Ghosts E} {i : inlets.Ghosts I L O} {o : outlets.Ghosts O L} (g : Edited) (m : Moment) (tasks : List (Task S E I O L s e i o)) (tells : Option (List Lane))
     (pad : ℕ) (source : PadPlace) (w : IsRunWith g m tasks tells pad source) (link : HasLink g m pad source) where
   before : source_before g.links link.sink ≡ Some source
-  before = back_from g.links source link.sink w.run.links.single link.behind
+  before = found_back g w.run.links source link.sink link.behind
 
   active : is_active g source.element ≡ true
   active =

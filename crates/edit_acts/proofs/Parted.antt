@@ -15,7 +15,7 @@ use Rattle.net_turns.specs.Net.{HasElement, HasRow, IsFed, Owns}
 use Rattle.net_groups.specs.Behind.{IsBehind}
 use Rattle.net_groups.specs.Places.{HasWire, IsPartOf}
 use Rattle.net_groups.specs.Splits.{IsSplitAt}
-use Rattle.net_groups.proofs.Parting.{Came, Found, came, fed_back, fed_on, found, fresh_has, is_has, owned, wires}
+use Rattle.net_groups.proofs.Halves.{Came, Found, came, fed_back, fed_on, found, fresh_has, is_has, owned, wires}
 use Rattle.net_groups.proofs.Wiring.{is_wire, named}
 use Rattle.edit_core.specs.Tasks.{IsReachedIn}
 use Rattle.edit_acts.proofs.Made.{AllReached, AreMadeOf, HasSource, IsRowOf, IsSource}

@@ -1,7 +1,6 @@
 -- Room to split a task, and what goes out of it.
-use Rattle.std.proofs.Common.{◌≡◌, ◌≢◌, ◌⊎◌, ◌<◌, ◌≤◌, ◌+◌, ℕ, List, length, Some, refl, sym, ap, ◌∙◌, subst, inl, inr, arith, vec_len}
-use Rattle.std.specs.Prelude.{slice_get, Result, Ok, Err, IfOk}
-use Rattle.std.proofs.lemmas.Bool.{cases_eq}
+use Rattle.std.proofs.Common.{◌≡◌, ◌≢◌, ◌⊎◌, ◌<◌, ◌≤◌, ℕ, List, length, refl, sym, ◌∙◌, subst, inl, inr, arith, vec_len}
+use Rattle.std.specs.Prelude.{Result, Ok, Err, IfOk}
 use Rattle.std.proofs.lemmas.Option.{slice_get_within}
 use Rattle.lane_core.specs.declared.ends.Inlet as inlets
 use Rattle.lane_core.specs.declared.ends.Outlet as outlets
@@ -15,7 +14,7 @@ use Rattle.net_task.specs.Frame.{IsWire, Wire, frame_of}
 use Rattle.net_turns.specs.Net.{NetReady, NetStands}
 use Rattle.gst_value.proofs.Basics.{some_same}
 use Rattle.net_groups.specs.Behind.{AreParted, IsBehind, itself, IsEntered, flagged, unflagged}
-use Rattle.net_groups.specs.Places.{IsPartOf, PartIs}
+use Rattle.net_groups.specs.Places.{IsPartOf}
 use Rattle.net_groups.specs.Splits.{AreParting, CanPart, CanPartAt, CannotSplit, HasRoomAt, HasRoomBeside, IsPartedAt, IsRoom, IsSplit, IsSplitAt, IsSplitRoom, TookItems, number_in}
 use Rattle.net_groups.specs.declared.splitting.Parting.{Parting}
 use Rattle.net_groups.specs.declared.splitting.SplitRoom.{SplitRoom}
@@ -35,21 +34,6 @@ less_room room count most less r = record {
 }
 
 module _ {S E I O L : Type 0} {s : sources.Ghosts S} {e : elements.Ghosts E} {i : inlets.Ghosts I L O} {o : outlets.Ghosts O L} where
-  -- how many elements a task has at the most of which one is that of a number, of those before a place and of all
-  pub most_next : (tasks : List (Task S E I O L s e i o)) (n k : ℕ) (task : Task S E I O L s e i o) (most most' count : ℕ) → slice_get tasks k ≡ Some task → ((place : ℕ) → PartIs task.parts.items n place → length task.parts.items ≤ count) → most ≤ most' → count ≤ most'
-      → ((j : ℕ) → j < k → (p : IsPartOf tasks j n) → length p.task.parts.items ≤ most) → (j : ℕ) → j < k + 1 → (p : IsPartOf tasks j n) → length p.task.parts.items ≤ most'
-  most_next tasks n k task most most' count at here a b before j less p = go (cases_eq j k)
-    where
-      go : ((j ≡ k) ⊎ (j ≡ k → ⊥)) → length p.task.parts.items ≤ most'
-      go (inl same) =
-          let is : task ≡ p.task = some_same (sym at ∙ ap (λ (x : ℕ). slice_get tasks x) (sym same) ∙ p.at) in
-          let few = subst (λ (t : Task S E I O L s e i o). ((place : ℕ) → PartIs t.parts.items n place → length t.parts.items ≤ count)) is here p.place p.is in
-          omega (arith, few, b)
-      go (inr other) = let few = before j (omega (arith, less, other)) p in omega (arith, few, a)
-
-  pub most_all : (tasks : List (Task S E I O L s e i o)) (n k most : ℕ) → length tasks ≤ k → ((j : ℕ) → j < k → (p : IsPartOf tasks j n) → length p.task.parts.items ≤ most) → (j : ℕ) (p : IsPartOf tasks j n) → length p.task.parts.items ≤ most
-  most_all tasks n k most all before j p = let low = slice_get_within tasks j p.task p.at in before j (omega (arith, low, all)) p
-
   pub room_all : {X : Type 0} (r : Result (SplitRoom E I O e) X) (tasks : List (Task S E I O L s e i o)) (n most : ℕ) → IfOk r (λ room. IsSplitRoom room most) → ((j : ℕ) (p : IsPartOf tasks j n) → length p.task.parts.items ≤ most) → IfOk r (HasRoomBeside tasks n)
   room_all (Ok room) tasks n most is few = λ k p. less_room room (length p.task.parts.items) most (few k p) is
   room_all (Err why) tasks n most is few = tt

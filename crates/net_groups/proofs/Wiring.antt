@@ -95,7 +95,7 @@ module _ {O L : Type 0} (o : outlets.Ghosts O L) where
   over_lane (behinds.Lane lane element pad from outlet) room at = (lane, element, pad, from, refl)
 
 module _ {S E I O L : Type 0} {s : sources.Ghosts S} {e : elements.Ghosts E} (o : outlets.Ghosts O L) where
-  a_pad : (head : Head S I O s) (parts : List (Part E O e)) (wire : Wire) → IsWire (frame_in o head parts) wire → (pad : Pad O) × (wire ≡ wire_of o pad)
+  pub a_pad : (head : Head S I O s) (parts : List (Part E O e)) (wire : Wire) → IsWire (frame_in o head parts) wire → (pad : Pad O) × (wire ≡ wire_of o pad)
   a_pad head parts wire (wire_part j k w) =
       let a = map_got (part_frame o) parts j w.part w.at in
       let b = map_got (wire_of o) a.0.pads.items k wire (ap (λ (one : PartFrame). slice_get one.wires k) (sym a.2) ∙ w.pad_at) in

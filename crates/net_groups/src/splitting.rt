@@ -4,11 +4,12 @@ ghost use Rattle.net_model.specs.Moment.{Moment};
 ghost use Rattle.net_turns.specs.Net.{NetReady, NetStands};
 ghost use Rattle.net_task.specs.Frame.{frame_of};
 ghost use Rattle.net_groups.specs.Behind.{IsBehind, IsEntered, SourceLeads, TellBehind};
-ghost use Rattle.net_groups.specs.Places.{AreBare, IsPartOf, PartIs};
+ghost use Rattle.net_groups.specs.Places.{AreBare, IsPartOf};
 ghost use Rattle.net_groups.specs.Splits.{AreParting, CanPart, CanPartAt, CannotSplit, HasRoomAt, HasRoomBeside, HasRoomToSplit, IsParted, IsPartedAt, IsRoom, IsSplit, IsSplitRoom, TakesApart, TookItems, number_in, pads_of};
 
 use crate::behind::{behind, deal, flagged_lead, has_flag, leads_flagged, others_lead};
-use crate::places::{find_part, has_part};
+use crate::places::find_part;
+use crate::sizes::most_beside;
 use gst_value::OutOfMemory;
 use inlet_row::InletRow;
 use lane_core::{Inlet, Outlet};
@@ -129,44 +130,6 @@ fn split_room<E: TaskElement, I: Inlet, O: Outlet>(
     let flags = Vec::with_capacity(alloc, count)?;
     let halves = room_for(alloc, count, pads)?;
     Ok(SplitRoom { flags, halves })
-}
-
-/// How many elements there are at the most in a task of which that of a number is one.
-fn most_beside<S: TaskSource, E: TaskElement, I: Inlet<Out = O>, O: Outlet<Lanes = I::Lanes>>(
-    tasks: &[Task<S, E, I, O>],
-    element: u32,
-) -> usize
-    ensures { (k : ℕ) (p : IsPartOf tasks.now k element) → length p.task.parts.items ≤ result }
-{
-    let mut most = 0;
-    for place in 0..tasks.len() {
-        most = larger(most, count_beside(&tasks[place], element));
-    }
-    most
-}
-
-/// How many elements a task has, if that of a number is one of them.
-fn count_beside<S: TaskSource, E: TaskElement, I: Inlet<Out = O>, O: Outlet<Lanes = I::Lanes>>(
-    task: &Task<S, E, I, O>,
-    element: u32,
-) -> usize
-    ensures { (place : ℕ) → PartIs task.now.parts.items element place → length task.now.parts.items ≤ result }
-{
-    if has_part(task.parts(), element) {
-        return task.parts().len();
-    }
-    0
-}
-
-/// The larger one of two numbers.
-fn larger(one: usize, other: usize) -> usize
-    ensures one { one ≤ result }
-    ensures other { other ≤ result }
-{
-    if one < other {
-        return other;
-    }
-    one
 }
 
 /// What goes out of the task that has an element. None where no task has it, what the head of its task names is behind it, or what is

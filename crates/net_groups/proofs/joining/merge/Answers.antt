@@ -13,8 +13,8 @@ join_into-requires-clause-room g c κs within =
     let b = c.swap_remove-was.result.parts.ok.0 in
     omega (arith, room, a, b)
 
-pub returns : goal.returns
-returns g c = record {
+pub returns-clause-merged : goal.returns-clause-merged
+returns-clause-merged g c = record {
   gave = c.remove-gave.result;
   was = c.swap_remove-was.result;
   is = c.join_into.result;
