@@ -1,5 +1,5 @@
 -- The link of a source pad is undone in all that control has of a run.
-use Rattle.std.proofs.Common.{◌≡◌, ◌<◌, ℕ, Bool, false, List, Option, Some, length, subst}
+use Rattle.std.proofs.Common.{◌≡◌, ◌<◌, ℕ, Bool, false, List, Option, Some, length, subst, sym, refl}
 use Rattle.flow_model.specs.Item.{Item}
 use Rattle.lane_core.specs.Lane.{Lane}
 use Rattle.lane_core.specs.declared.ends.Inlet as inlets
@@ -18,6 +18,7 @@ use Rattle.run_report.specs.declared.report.Answer.TheVariants.{Done}
 use Rattle.script_text.specs.declared.command.Act.{Act}
 use Rattle.edit_model.specs.Edited.{Edited, unlinked_at}
 use Rattle.edit_model.specs.Lawful.{IsAnswered, command}
+use Rattle.edit_model.specs.Names.{source_when}
 use Rattle.edit_model.proofs.Ended.{stays_open}
 use Rattle.edit_whole.proofs.Made.{stays_made}
 use Rattle.edit_core.specs.Deciding.{IsDeed}
@@ -25,28 +26,27 @@ use Rattle.edit_core.specs.Feeds.{AreFeeds, IsTheLink}
 use Rattle.edit_core.specs.Judging.{IsLast, owed_then}
 use Rattle.edit_core.specs.Notes.{IsCurrent}
 use Rattle.edit_core.specs.Ways.{IsRun}
-use Rattle.edit_core.specs.declared.deciding.Deed.{Deed}
-use Rattle.edit_core.specs.declared.deciding.Deed.TheVariants.{Unlink, Add}
+use Rattle.edit_core.specs.declared.deciding.Deed.TheVariants.{Unlink}
 use Rattle.edit_core.specs.declared.feeds.Feeds.{Feeds}
 use Rattle.edit_core.proofs.Decided.{deeds_are_answers}
 use Rattle.edit_core.proofs.Named.{stays_named}
 use Rattle.edit_core.proofs.Standing.{few_at, found_back, source_there, the_link}
-use Rattle.edit_acts.specs.Controlled.{AreOwned, IsControlled, IsToUnlink, IsUnlinked}
+use Rattle.edit_acts.specs.Controlled.{AreOwned, IsToUnlink, IsUnlinked}
 use Rattle.edit_acts.specs.Undoing.{IsRunWith}
 use Rattle.edit_acts.proofs.Owned.{fresh}
 use Rattle.edit_acts.proofs.Owing.{owes}
 
 unlinks_of : (g : Edited) (h : ℕ → List Item) (p : Option PadPlace) (act : Act) (source sink : PadPlace) (eos : Bool) → IsDeed g h p act (Unlink source sink eos)
     → (p ≡ Some source) × (sink_behind g.links source ≡ Some sink)
-unlinks_of g h p _ source sink eos (IsDeed.unlinks eos source sink same linked) = (same, linked)
+unlinks_of g h p _ _ _ _ (IsDeed.unlinks eos source sink same linked) = (same, linked)
 
 module _ {S E I O L : Type 0} {s : sources.Ghosts S} {e : elements.Ghosts E} {i : inlets.Ghosts I L O} {o : outlets.Ghosts O L} (graph : EditedGraph) (feeds : Feeds) (tasks : List (Task S E I O L s e i o))
     (g : Edited) (m : Moment) (tells : Option (List Lane)) (source sink : PadPlace) (items : ℕ) (w : IsToUnlink graph feeds tasks g m tells source sink items) where
   abbrev now : IsCurrent graph feeds tasks g m tells
   now = w.controlled.current
 
-  deed : (source_is : _) × (sink_behind g.links source ≡ Some sink)
-  deed = unlinks_of g m.history _ w.act source sink false w.to_do.deed_is
+  deed : (source_when g w.when ≡ Some source) × (sink_behind g.links source ≡ Some sink)
+  deed = unlinks_of g m.history (source_when g w.when) w.act source sink false w.to_do.deed_is
 
   linked : source_before g.links sink ≡ Some source
   linked = found_back g now.stand source sink deed.1

@@ -1,5 +1,5 @@
 -- At a moment at which tasks stand EOS is the last item that is owed to a source pad, and nothing is flushed.
-use Rattle.std.proofs.Common.{◌≡◌, ◌++◌, ℕ, List, Option, sym, ap, ◌∙◌, subst, refl}
+use Rattle.std.proofs.Common.{◌≡◌, ℕ, List, Option, sym, ap, ◌∙◌, subst, refl}
 use Rattle.gst_item.specs.Sticky.{has_flush_stop}
 use Rattle.flow_model.proofs.Prefixes.{prefix_append}
 use Rattle.lane_core.specs.Lane.{Lane}

@@ -1,5 +1,5 @@
 -- A source pad that is named and that no task has is that of a source that is asleep: nothing has crossed it.
-use Rattle.std.proofs.Common.{◌≡◌, ℕ, Bool, true, false, List, Option, Some, refl, sym, ap, ◌∙◌, subst}
+use Rattle.std.proofs.Common.{◌≡◌, ℕ, Bool, true, false, List, [], Option, Some, refl, sym, ap, ◌∙◌, subst}
 use Rattle.std.specs.Prelude.{slice_get}
 use Rattle.gst_value.proofs.Places.{map_got}
 use Rattle.gst_value.specs.declared.name.PadName.{PadName}
@@ -13,7 +13,7 @@ use Rattle.task_parts.specs.declared.head.Head.{Head}
 use Rattle.task_parts.specs.declared.head.Head.TheVariants.{Source as OfSource, Inlets}
 use Rattle.task_edits.specs.Places.{HeadHasNot}
 use Rattle.net_task.specs.declared.task.Task.{Task}
-use Rattle.net_task.specs.Frame.{HeadFrame, PartFrame, Wire, by_source, frame_of, head_frame, part_frame}
+use Rattle.net_task.specs.Frame.{PartFrame, by_source, frame_of, head_frame, part_frame}
 use Rattle.net_task.specs.Ties.{HeadTied, nothing_lost}
 use Rattle.net_turns.specs.Net.{HasElement}
 use Rattle.net_edits.specs.Nets.{NoneHas}
@@ -47,9 +47,9 @@ module _ {S E I O L : Type 0} {s : sources.Ghosts S} {e : elements.Ghosts E} {i 
         by : (head : Head S I O s) → task.head ≡ head → ⊥
         by (OfSource head) same =
             let number_is : head.number ≡ source.element = ap (λ (h : Head S I O s). number_of_head (head_frame o h)) (sym same) ∙ ap number_of_head is in
-            let tied = subst (λ (h : Head S I O s). HeadTied i o (nothing_lost 0) m h task.parts.items) same (run.net.tied k task at).head_tied in
+            let tied = subst (λ (h : Head S I O s). HeadTied i o nothing_lost m h task.parts.items) same (run.net.tied k task at).head_tied in
             subst (λ (h : Head S I O s). HeadHasNot h (pad_id source)) same (none k task at).0 (sym (tied.mine (pad_id source) (mine ∙ sym number_is)))
-        by (Inlets head) same = let other : head_frame o (Inlets head) ≡ by_source source.element file wire = ap (λ (h : Head S I O s). head_frame o h) (sym same) ∙ is in cc
+        by (Inlets head) same = let other : head_frame {s = s} o (Inlets head) ≡ by_source source.element file wire = ap (λ (h : Head S I O s). head_frame o h) (sym same) ∙ is in cc
 
   pub fresh : AreFresh g m tasks
   fresh pad source named none = by (is_asleep g source.element) refl

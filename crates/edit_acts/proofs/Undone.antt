@@ -1,6 +1,6 @@
 -- In a run a pad leads inside of its task to one element, which can be split off once the link of the pad was undone; and the tasks have the
 -- elements of the graph then.
-use Rattle.std.proofs.Common.{◌≡◌, ◌≢◌, ◌⊎◌, ℕ, Bool, true, false, List, Option, Some, length, refl, sym, ap, ◌∙◌, subst, inl, inr, arith}
+use Rattle.std.proofs.Common.{◌≡◌, ◌⊎◌, ℕ, Bool, true, false, List, Option, Some, length, refl, sym, ap, ◌∙◌, subst, inl, inr, arith}
 use Rattle.std.specs.Prelude.{slice_get}
 use Rattle.flow_model.specs.Eval.{Plan}
 use Rattle.lane_core.specs.Lane.{Lane}
@@ -269,14 +269,8 @@ module _ {S E I O L : Type 0} {s : sources.Ghosts S} {e : elements.Ghosts E} {i 
 
           -- and once it was, the tasks have the elements
           pub split_are : (tasks' : List (Task S E I O L s e i o)) (pads : ℕ) → IsSplit mid tasks' to.element pads → AreTasksOf g tasks'
-          split_are tasks' pads (j, q, z) = are_again g tasks tasks' (made_both tasks mid tasks' (cut_made pad tasks mid cut) (split_made mid tasks' j to.element pads z q unled)) run.are (split_reached mid tasks' j to.element pads z q unled within others)
+          split_are tasks' pads (j, q, z) = are_again g tasks tasks' (made_both tasks mid tasks' (cut_made pad tasks mid cut) (split_made mid tasks' j to.element pads z)) run.are (split_reached mid tasks' j to.element pads z within others)
             where
-              same : q.task ≡ z.was
-              same = some_same (sym q.at ∙ z.at)
-
-              unled : (one : Wire) (port : ℕ) → IsWire (frame_of z.was) one → one.leads ≢ inside to.element port
-              unled one port is = (tree j q).unfed one port (subst (λ (t : Task S E I O L s e i o). IsWire (frame_of t) one) (sym same) is)
-
               within : (n : ℕ) → HasElement (frame_of z.was) n → IsReachedIn (frame_of z.was) n ⊎ IsBehind z.was.parts.items to.element n
               within n has =
                   let y = cut.back j z.was z.at in

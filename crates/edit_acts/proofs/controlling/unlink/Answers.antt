@@ -1,4 +1,4 @@
-use Rattle.std.proofs.Common.{◌≡◌, ℕ, List, ap, refl, subst, sym, ◌∙◌}
+use Rattle.std.proofs.Common.{◌≡◌, ◌<◌, ℕ, List, false, length, ap, refl, subst, sym, ◌∙◌}
 use Rattle.graph_core.specs.GraphPlan.{pad_id}
 use Rattle.net_model.specs.Edit.{unlinked}
 use Rattle.net_task.specs.declared.task.Task.{Task}
@@ -14,7 +14,7 @@ returns-in_default-clause-run g c = λ graph m tells w.
     let low = is_made c.args.graph.now c.args.feeds.now c.args.tasks.now.items graph m tells c.args.source c.args.sink c.args.items w in
     let there = subst (λ made. c.args.source.element < length made) (sym w.controlled.current.edited.elements) low in
     let told = c.source_number.ensures.there there (few c.args.graph.now c.args.feeds.now c.args.tasks.now.items graph m tells c.args.source c.args.sink c.args.items w) in
-    ?
+    absurd (c.in_default.not-Some (pad_id c.args.source) told)
 
 pub returns-clause-run : goal.returns-clause-run
 returns-clause-run g c = λ graph m tells w.
