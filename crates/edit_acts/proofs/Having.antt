@@ -1,5 +1,5 @@
 -- In a run of whose graph a link stands a task has its source pad, and that leads somewhere.
-use Rattle.std.proofs.Common.{◌≡◌, ◌⊎◌, ◌&&◌, ◌==◌, ℕ, zero, suc, Bool, true, false, if◌then◌else◌, List, [], ◌∷◌, Option, Some, get_or, refl, sym, ap, ◌∙◌, subst, inl, inr}
+use Rattle.std.proofs.Common.{◌≡◌, ◌⊎◌, ◌&&◌, ◌==◌, ℕ, zero, suc, Bool, true, false, List, [], ◌∷◌, Option, Some, get_or, refl, sym, ap, ◌∙◌, subst, inl, inr}
 use Rattle.std.specs.Prelude.{nat_lt}
 use Rattle.std.specs.List.{list_any}
 use Rattle.flow_model.specs.Link.{Span}
@@ -13,7 +13,7 @@ use Rattle.net_model.specs.declared.element.TaskElement as elements
 use Rattle.net_model.specs.declared.source.TaskSource as sources
 use Rattle.task_parts.specs.declared.head.Head.{Head}
 use Rattle.task_parts.specs.declared.head.Head.TheVariants.{Source, Inlets}
-use Rattle.gst_value.proofs.Basics.{number_itself, or_first, or_second, some_same}
+use Rattle.gst_value.proofs.Basics.{number_itself, or_first, or_second}
 use Rattle.gst_value.proofs.Places.{map_got}
 use Rattle.net_task.specs.declared.task.Task.{Task}
 use Rattle.net_task.specs.Frame.{HeadFrame, PartFrame, Wire, by_source, frame_of, head_frame, part_frame}
@@ -24,13 +24,11 @@ use Rattle.net_edits.specs.Nets.{NoneHas}
 use Rattle.el_settings.specs.Asked.{is_source}
 use Rattle.graph_core.specs.Elements.{has}
 use Rattle.graph_core.specs.GraphPlan.{IsIn}
-use Rattle.graph_core.proofs.LinkedOnce.{itself, same_or_other}
 use Rattle.graph_core.proofs.NumberedPads.{found_in}
-use Rattle.graph_pads.specs.Links.{is_same, sink_behind, source_before}
+use Rattle.graph_pads.specs.Links.{source_before}
 use Rattle.graph_pads.specs.declared.pad.PadLink.{PadLink}
 use Rattle.graph_pads.specs.declared.pad.PadPlace.{PadPlace}
 use Rattle.edit_model.specs.Edited.{Edited, is_active, spans_at, touches}
-use Rattle.edit_model.specs.Growing.{AreSingle}
 use Rattle.edit_model.specs.Plans.{is_asleep}
 use Rattle.edit_core.proofs.Standing.{found_back}
 use Rattle.edit_core.specs.Tasks.{number_of_head}
