@@ -30,6 +30,7 @@ use Rattle.edit_core.proofs.Trees.{wire_leads_as}
 use Rattle.edit_acts.specs.Ending.{EndsAt, HasNoLink, RunsEnd}
 use Rattle.edit_acts.specs.Undoing.{LeadsNoneInside}
 use Rattle.edit_acts.proofs.Grown.{ended_over_are}
+use Rattle.edit_acts.proofs.Having.{link_leads}
 use Rattle.edit_acts.proofs.Runs.{run_on}
 use Rattle.edit_acts.proofs.Undoes.{ToldSplit, split_run}
 use Rattle.edit_acts.proofs.Undone.{elsewhere, none_leads, pad_is_wire}
@@ -59,14 +60,14 @@ module _ {S E I O L : Type 0} {s : sources.Ghosts S} {e : elements.Ghosts E} {i 
 
   -- a pad that leads inside of its task in a run does so
   pub inside_link : (tasks : List (Task S E I O L s e i o)) (pad place : ℕ) (to : Inside) → HasInside tasks pad place to → NoneInside tasks pad → HasNoLink tasks pad
-  inside_link tasks pad place to h (inl none) g m tells run = inl none
-  inside_link tasks pad place to h (inr (k, other)) g m tells run = absurd (elsewhere g m tasks tells run pad k other.task other.at other.leads place h.task h.at to.element (record {
+  inside_link tasks pad place to h (inl none) g m tells source w link = link_leads g m tasks tells pad source w link (inl none)
+  inside_link tasks pad place to h (inr (k, other)) g m tells source w link = elsewhere g m tasks tells w.run pad k other.task other.at other.leads place h.task h.at to.element (record {
     wire = wire_of o h.leads.pad;
     is = pad_is_wire o h.task.head h.task.parts.items h.leads.pad h.leads.is;
     number = h.leads.number_is;
     port = to.pad;
     leads = h.leads.leads;
-  }))
+  })
 
   -- ---- over a lane
 
@@ -108,7 +109,10 @@ module _ {S E I O L : Type 0} {s : sources.Ghosts S} {e : elements.Ghosts E} {i 
           let z = run.net.wired.paired place pad (lane_end o y.0).place from to.element to.pad sends in
           feeds z.0 z.1 z.2
 
-    pub over_none : CannotEnd tasks pad → NoneHas tasks pad ⊎ LeadsNowhere m.plan pad
+    over_none : CannotEnd tasks pad → NoneHas tasks pad ⊎ LeadsNowhere m.plan pad
     over_none (CannotEnd.no_pad nothing) = inl nothing
     over_none (CannotEnd.no_lane place h) = inr (leads_nothing place h.task h.at h.leads.pad h.leads.is h.leads.number_is (λ to lane from same. h.leads.none to (lane, from, same)))
     over_none (CannotEnd.no_row place to h feeds) = absurd (has_row place h.task h.at h.leads.pad h.leads.is h.leads.number_is to h.leads.leads.0 h.leads.leads.1 h.leads.leads.2 feeds)
+
+  pub over_link : (tasks : List (Task S E I O L s e i o)) (pad : ℕ) → LeadsNoneInside tasks pad → CannotEnd tasks pad → HasNoLink tasks pad
+  over_link tasks pad none why g m tells source w link = link_leads g m tasks tells pad source w link (over_none tasks pad none g m tells w.run why)

@@ -22,6 +22,7 @@ mod Owing
 mod Controls
 mod Ends
 mod Grown
+mod Having
 mod Answered
 mod Keeps
 mod Relinking

@@ -20,13 +20,15 @@ pub returns-clause-run : goal.returns-clause-run
 returns-clause-run g c = λ graph m tells w.
     let number : c.in-Some.pad ≡ pad_id c.args.source = c.in-Some.ensures.number in
     let as_told : IsRunWith graph m c.args.tasks.now.items tells c.in-Some.pad c.args.source =
-            subst (λ (p : ℕ). IsRunWith graph m c.args.tasks.now.items tells p c.args.source) (sym number)
-            (run_with c.args.graph.now c.args.feeds.now c.args.tasks.now.items graph m tells c.args.source c.args.sink c.args.items w) in
+    subst (λ (p : ℕ). IsRunWith graph m c.args.tasks.now.items tells p c.args.source) (sym number)
+    (run_with c.args.graph.now c.args.feeds.now c.args.tasks.now.items graph m tells c.args.source c.args.sink c.args.items w) in
     let with_room : IsRunWith graph m c.room_to_undo.new.tasks.items tells c.in-Some.pad c.args.source =
-            subst (λ (ts : List (Task _ _ _ _ _ _ _ _ _)). IsRunWith graph m ts tells c.in-Some.pad c.args.source) (sym c.in_ok-room.ensures.items) as_told in
+    subst (λ (ts : List (Task _ _ _ _ _ _ _ _ _)). IsRunWith graph m ts tells c.in-Some.pad c.args.source) (sym c.in_ok-room.ensures.items) as_told in
     let ran = subst (λ (p : ℕ). IsRun (unlinked_at c.args.source (length (m.history p)) false graph) (unlinked p m) c.undo.new.tasks.items tells) number (c.undo.ensures.run graph m tells c.args.source with_room) in
     let crossed = items_is c.args.graph.now c.args.feeds.now c.args.tasks.now.items graph m tells c.args.source c.args.sink c.args.items w in
     let kept = c.undone.ensures graph m.history c.args.source w.controlled.current.feeds_are w.controlled.current.kept number (crossed ∙ ap (λ (p : ℕ). length (m.history p)) (sym number))
-            (link_is c.args.graph.now c.args.feeds.now c.args.tasks.now.items graph m tells c.args.source c.args.sink c.args.items w) in
-    (refl, is_unlinked c.args.graph.now c.args.feeds.now c.args.tasks.now.items graph m tells c.args.source c.args.sink c.args.items w
-      c.unlink.new.self c.undone.new.self c.undo.new.tasks.items (c.unlink.ensures.edited graph c.args.items w.controlled.current.edited) kept ran)
+    (link_is c.args.graph.now c.args.feeds.now c.args.tasks.now.items graph m tells c.args.source c.args.sink c.args.items w) in (
+      refl,
+      is_unlinked c.args.graph.now c.args.feeds.now c.args.tasks.now.items graph m tells c.args.source c.args.sink c.args.items w
+          c.unlink.new.self c.undone.new.self c.undo.new.tasks.items (c.unlink.ensures.edited graph c.args.items w.controlled.current.edited) kept ran,
+    )
