@@ -1,17 +1,15 @@
 -- What control keeps of the elements, once the link of a source pad was undone and another was made.
-use Rattle.std.proofs.Common.{◌≡◌, ◌<◌, ℕ, Bool, true, false, List, Option, None, Some, length, take, refl, sym, ap, ◌∙◌, subst, arith}
+use Rattle.std.proofs.Common.{◌≡◌, ℕ, Bool, true, false, List, Option, None, Some, length, take, refl, sym, ap, ◌∙◌, subst, arith}
 use Rattle.std.proofs.lemmas.List.{take_all}
 use Rattle.flow_model.specs.Item.{Item}
 use Rattle.flow_model.specs.Link.{Span}
 use Rattle.gst_item.specs.Item.{has_item}
 use Rattle.gst_item.specs.Sticky.{stickies}
-use Rattle.graph_core.specs.GraphPlan.{most_pads, pad_id, sink_at}
+use Rattle.graph_core.specs.GraphPlan.{pad_id, sink_at}
 use Rattle.graph_pads.specs.Links.{sink_behind}
 use Rattle.graph_pads.specs.declared.pad.PadPlace.{PadPlace}
 use Rattle.net_model.specs.Standing.{links_from}
 use Rattle.edit_model.specs.Edited.{Edited, spans_at, unlinked_at}
-use Rattle.edit_model.specs.Ended.{EndsOpen}
-use Rattle.edit_model.specs.Growing.{IsKept, LinksStand}
 use Rattle.edit_model.proofs.Keeping.{undone_at}
 use Rattle.edit_model.proofs.LinksStanding.{links_stay_exact}
 use Rattle.edit_core.specs.Feeds.{AreFeeds, IsFeed, IsTheLink}

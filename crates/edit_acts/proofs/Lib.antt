@@ -25,4 +25,6 @@ mod Grown
 mod Having
 mod Answered
 mod Keeps
-mod Relinking
+mod Carried
+mod Relinks
+mod Apart

@@ -7,7 +7,7 @@ use Rattle.lane_core.specs.declared.ends.Inlet as inlets
 use Rattle.lane_core.specs.declared.ends.Outlet as outlets
 use Rattle.net_model.specs.Edit.{IsFree}
 use Rattle.net_model.specs.Moment.{Moment}
-use Rattle.net_model.specs.Standing.{LinksAt, is_linked, links_from}
+use Rattle.net_model.specs.Standing.{LinksAt, is_linked}
 use Rattle.net_model.specs.Step.{Leads, LeadsNowhere}
 use Rattle.net_model.specs.declared.element.TaskElement as elements
 use Rattle.net_model.specs.declared.source.TaskSource as sources
@@ -37,7 +37,7 @@ use Rattle.edit_core.specs.Tasks.{IsReachedIn, LeadsOn, number_of_head}
 use Rattle.edit_core.specs.Ways.{IsRun}
 use Rattle.edit_core.proofs.Inner.{few}
 use Rattle.edit_core.proofs.Trees.{wire_leads, wire_leads_as, wire_leads_over, wire_owner}
-use Rattle.edit_core.proofs.Ways.{free_is_loose}
+use Rattle.edit_core.proofs.Ways.{at_port, free_is_loose, is_link, number_whole}
 
 -- ---- links
 
@@ -51,16 +51,6 @@ not_behind (one ∷ links) link (inr is) none = go (is_same one.source link.sour
     go true none rest = cc
     go false none rest = rest none
 
-is_link : (links : List PadLink) (link : PadLink) → IsIn link links → IsLink link.source.element link.sink.element (ways links)
-is_link [] link is = absurd is
-is_link (one ∷ links) link (inl same) = inl (ap (λ (k : PadLink). k.source.element) (sym same), ap (λ (k : PadLink). k.sink.element) (sym same))
-is_link (one ∷ links) link (inr is) = inr (is_link links link is)
-
-at_port : (p i : ℕ) (sinks : List (List Span)) → LinksAt p i sinks → links_from p (get_or sinks i []) ≡ true
-at_port p i [] at = absurd at
-at_port p zero (ss ∷ sinks) at = at.0
-at_port p (suc i) (ss ∷ sinks) at = at_port p i sinks at.1
-
 -- a sink pad that is there and has no link is free
 free_there : (i : ℕ) (sinks : List (List Span)) → i < length sinks → is_linked (get_or sinks i []) ≡ false → IsFree i sinks
 free_there i [] low none = absurd (omega arith)
@@ -69,9 +59,6 @@ free_there (suc i) (ss ∷ sinks) low none = free_there i sinks (omega arith) no
 
 abbrev place_of_number : ℕ → PadPlace
 place_of_number w = record { element = owner_of w; pad = w % 64 }
-
-number_whole : (w : ℕ) → pad_id (place_of_number w) ≡ w
-number_whole w = omega arith
 
 port_low : (w : ℕ) → w % 64 < 64
 port_low w = omega arith

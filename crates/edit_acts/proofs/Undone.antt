@@ -80,10 +80,10 @@ module _ {S E I O L : Type 0} {s : sources.Ghosts S} {e : elements.Ghosts E} {i 
 module _ {S E I O L : Type 0} {s : sources.Ghosts S} {e : elements.Ghosts E} {i : inlets.Ghosts I L O} {o : outlets.Ghosts O L} (g : Edited) (m : Moment) (tasks : List (Task S E I O L s e i o)) (tells : Option (List Lane))
     (run : IsRun g m tasks tells) where
   module _ (k : ℕ) (task : Task S E I O L s e i o) (at : slice_get tasks k ≡ Some task) (wire : Wire) (is : IsWire (frame_of task) wire) (n port : ℕ) (leads : wire.leads ≡ inside n port) where
-    linked : Leads m.plan wire.number n port
+    pub linked : Leads m.plan wire.number n port
     linked = wire_leads i o m task.head task.parts.items (run.net.tied k task at) wire is n port leads
 
-    first : (is_there g n ≡ true) × (has_lanes g n ≡ false) × (port ≡ 0)
+    pub first : (is_there g n ≡ true) × (has_lanes g n ≡ false) × (port ≡ 0)
     first = run.are.inner k task wire n port at is leads
 
     inner_owned : Owns tasks k n

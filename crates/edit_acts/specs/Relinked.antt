@@ -1,5 +1,5 @@
 -- How control links a source pad of a run elsewhere, inside of its task.
-use Rattle.std.specs.Prelude.{◌≡◌, ◌<◌, ℕ, Bool, true, false, List, Option, length}
+use Rattle.std.specs.Prelude.{◌≡◌, ◌<◌, ℕ, Bool, false, List, Option, length}
 use Rattle.std.specs.Global.{Vec}
 use Rattle.flow_model.specs.Item.{Item}
 use Rattle.gst_item.specs.Item.{has_item}

@@ -47,9 +47,3 @@ module _ {S E I O L : Type 0} {s : sources.Ghosts S} {e : elements.Ghosts E} {i 
     pub run : IsRun g m tasks tells
     pub few : source.pad < most_pads
     pub number : pad ≡ pad_id source
-
-module _ {E I O : Type 0} {e : elements.Ghosts E} where
-  -- the task is not split at this element
-  abbrev pub SplitsNot : UndoRoom E I O e → ℕ → Type 0
-  SplitsNot Whole n = Unit {0}
-  SplitsNot (Split element room) n = element ≢ n

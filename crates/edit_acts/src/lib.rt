@@ -1,5 +1,5 @@
 //! What control does to a run where a command is done: the tasks are split and joined as the links of its graph are undone and made, and
-//! have the elements of the graph again.
+//! have the elements of the graph again; and so do the graph and what control keeps of the elements.
 #![tactic(auto)]
 
 pub mod ending;
@@ -11,4 +11,6 @@ pub mod unlinking;
 
 pub use ending::end;
 pub use linking::{LinkRoom, link, room_to_link};
+pub use relinking::relink;
 pub use undoing::{UndoRoom, room_to_undo, undo};
+pub use unlinking::unlink;

@@ -139,12 +139,26 @@ fn carry_out<S: TaskSource, E: TaskElement, I: Inlet<Out = O>, O: Outlet<Lanes =
         pad: sink.pad,
     };
     undo(tasks, prepared.pad, prepared.undo);
-    keep(feeds, prepared.before, sink, prepared.pad, items, prepared.opened);
+    keep(
+        feeds,
+        prepared.before,
+        sink,
+        prepared.pad,
+        items,
+        prepared.opened,
+    );
     link(alloc, tasks, prepared.pad, to, prepared.link)
 }
 
 /// What control keeps of the elements, once the link of a source pad to the one sink pad was undone and one to another was made.
-fn keep(feeds: &mut Feeds, before: Option<PadPlace>, sink: PadPlace, pad: u32, items: u64, opened: bool)
+fn keep(
+    feeds: &mut Feeds,
+    before: Option<PadPlace>,
+    sink: PadPlace,
+    pad: u32,
+    items: u64,
+    opened: bool,
+)
     ensures { (g : Edited) (h : ℕ → List Item) (source : Places) → AreFeeds feeds.old g h → IsToKeep g h source sink before pad items opened
         → AreFeeds feeds.new (relinked_at source items sink g) h }
 {

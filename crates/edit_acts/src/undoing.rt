@@ -8,7 +8,6 @@ ghost use Rattle.net_groups.specs.Joined.{HasRoomToJoin};
 ghost use Rattle.net_groups.specs.declared.joining.JoinRoom.{JoinRoom};
 ghost use Rattle.net_model.specs.Edit.{unlinked};
 ghost use Rattle.net_model.specs.Moment.{Moment};
-ghost use Rattle.net_groups.specs.Joined.{HasRoomToJoin};
 ghost use Rattle.net_turns.specs.Net.{NetReady, NetStands};
 ghost use Rattle.edit_acts.specs.Undoing.{HasRoomToUndo, IsRunWith, LeadsNoneInside, SplitsNot};
 
@@ -62,8 +61,6 @@ pub fn undo<S: TaskSource, E: TaskElement, I: Inlet<Out = O>, O: Outlet<Lanes = 
     requires room { HasRoomToUndo tasks.old pad room }
     ensures run { (g : Edited) (m : Moment) (tells : _) (source : PadPlace) → IsRunWith g m tasks.old.items tells pad source
         → IsRun (unlinked_at source (length (m.history pad)) false g) (unlinked pad m) tasks.new.items tells }
-    ensures join { (element : ℕ) (join : _) → SplitsNot room element → HasRoomToJoin tasks.old.items pad element join
-        → HasRoomToJoin tasks.new.items pad element join }
     ensures stands { (m : Moment) (tells : _) → NetStands m tasks.old.items tells → InnerTookItems m tasks.old.items
         → NetStands (unlinked pad m) tasks.new.items tells }
     ensures ready { (tells : _) → NetReady tasks.old.items tells → NetReady tasks.new.items tells }

@@ -111,7 +111,7 @@ either_false : (a b : Bool) → (a || b) ≡ false → b ≡ false
 either_false false b e = e
 either_false true b e = absurd (true≢false e)
 
-few_sinks : (o : Option Made) → (option_map_or (λ (m : Made). is_queue m.settings) o false || option_map_or (λ (m : Made). makes_sinks m.settings) o false) ≡ false → sink_count o ≤ 1
+pub few_sinks : (o : Option Made) → (option_map_or (λ (m : Made). is_queue m.settings) o false || option_map_or (λ (m : Made). makes_sinks m.settings) o false) ≡ false → sink_count o ≤ 1
 few_sinks None plain = omega arith
 few_sinks (Some m) plain = one_sink m.settings (either_false (is_queue m.settings) (makes_sinks m.settings) plain)
 

@@ -64,7 +64,7 @@ both_ways : (links : List Link) (a b c : ℕ) → Way links a b → Way links b 
 both_ways links a b c first (Way.none d) = first
 both_ways links a b c first (Way.more d e f rest link) = Way.more a e f (both_ways links a d e first rest) link
 
-is_link : (links : List PadLink) (link : PadLink) → IsIn link links → IsLink link.source.element link.sink.element (ways links)
+pub is_link : (links : List PadLink) (link : PadLink) → IsIn link links → IsLink link.source.element link.sink.element (ways links)
 is_link [] link is = absurd is
 is_link (l ∷ links) link (inl same) = inl (ap (λ (k : PadLink). k.source.element) (sym same), ap (λ (k : PadLink). k.sink.element) (sym same))
 is_link (l ∷ links) link (inr is) = inr (is_link links link is)
@@ -72,12 +72,12 @@ is_link (l ∷ links) link (inr is) = inr (is_link links link is)
 place_at : ℕ → ℕ → PadPlace
 place_at e n = record { element = e; pad = n }
 
-at_port : (p i : ℕ) (sinks : List (List Span)) → LinksAt p i sinks → links_from p (get_or sinks i []) ≡ true
+pub at_port : (p i : ℕ) (sinks : List (List Span)) → LinksAt p i sinks → links_from p (get_or sinks i []) ≡ true
 at_port p i [] at = absurd at
 at_port p zero (ss ∷ sinks) at = at.0
 at_port p (suc i) (ss ∷ sinks) at = at_port p i sinks at.1
 
-number_whole : (w : ℕ) → pad_id (record { element = owner_of w; pad = w % 64 }) ≡ w
+pub number_whole : (w : ℕ) → pad_id (record { element = owner_of w; pad = w % 64 }) ≡ w
 number_whole w = omega arith
 
 port_low : (w : ℕ) → w % 64 < 64

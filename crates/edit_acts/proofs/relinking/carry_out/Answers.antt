@@ -1,10 +1,34 @@
+use Rattle.std.proofs.Common.{ℕ, false, refl, subst, sym}
+use Rattle.net_model.specs.Edit.{unlinked}
+use Rattle.edit_model.specs.Edited.{unlinked_at}
+use Rattle.edit_core.specs.Ways.{IsRun}
+use Rattle.edit_core.proofs.Decided.{carry}
+use Rattle.edit_acts.proofs.Carried.{carry_fault, crossed, may_at, run_with, runs, short, to_keep}
 use Rattle.edit_acts.proofs.relinking.carry_out.Goals as goal
 
 pub link-requires-clause-room : goal.link-requires-clause-room
-link-requires-clause-room g c = ?
+link-requires-clause-room g c κs within =
+    let ready = c.requires.prepared.1 in
+    record { join = c.undo.ensures.join c.args.sink.element c.args.prepared.link.join ready.apart ready.link.join; calm = ready.link.calm }
 
 pub returns-clause-run : goal.returns-clause-run
-returns-clause-run g c = ?
+returns-clause-run g c = carry c.link.result _ _
+    (λ done told graph edited m tells source ready was w.
+    let mid = subst (λ (n : ℕ). IsRun (unlinked_at source n false edited) (unlinked c.args.prepared.pad m) c.undo.new.tasks.items tells)
+    (sym (crossed graph c.args.feeds.now c.args.tasks.now.items edited m tells source c.args.sink c.args.items w c.args.tasks.now refl c.args.prepared ready))
+    (c.undo.ensures.run edited m tells source (run_with graph c.args.feeds.now c.args.tasks.now.items edited m tells source c.args.sink c.args.items w c.args.tasks.now refl c.args.prepared ready)) in
+    let linked = told (unlinked_at source c.args.items false edited) (unlinked c.args.prepared.pad m) tells source c.args.sink mid
+    (may_at graph c.args.feeds.now c.args.tasks.now.items edited m tells source c.args.sink c.args.items w c.args.tasks.now refl c.args.prepared ready) in
+    let kept = c.keep.ensures edited m.history source w.controlled.current.feeds_are
+    (to_keep graph c.args.feeds.now c.args.tasks.now.items edited m tells source c.args.sink c.args.items w c.args.tasks.now refl c.args.prepared ready c.undo.new.tasks.items mid was) in
+    (linked.0, runs graph c.args.feeds.now c.args.tasks.now.items edited m tells source c.args.sink c.args.items w c.args.tasks.now refl c.args.prepared ready c.keep.new.feeds c.link.new.tasks.items linked.1 kept))
+    c.link.ensures.run
 
 pub returns-clause-faults : goal.returns-clause-faults
-returns-clause-faults g c = ?
+returns-clause-faults g c = carry_fault c.link.result _ _
+    (λ stopped told graph edited m tells source ready w.
+    let mid = subst (λ (n : ℕ). IsRun (unlinked_at source n false edited) (unlinked c.args.prepared.pad m) c.undo.new.tasks.items tells)
+    (sym (crossed graph c.args.feeds.now c.args.tasks.now.items edited m tells source c.args.sink c.args.items w c.args.tasks.now refl c.args.prepared ready))
+    (c.undo.ensures.run edited m tells source (run_with graph c.args.feeds.now c.args.tasks.now.items edited m tells source c.args.sink c.args.items w c.args.tasks.now refl c.args.prepared ready)) in
+    short graph c.args.feeds.now c.args.tasks.now.items edited m tells source c.args.sink c.args.items w c.args.tasks.now refl c.args.prepared ready c.undo.new.tasks.items c.link.new.tasks.items stopped mid told)
+    c.link.ensures.faults

@@ -1,33 +1,37 @@
-use Rattle.std.proofs.Common.{rules, ◌≡◌, ◌<◌, ◌↔◌, ℕ, List, true, false, length, IfOk, IfErr, IfSome, None, OnErr, IsTrue, ◌+◌, ◌-◌, ◌*◌, ◌≤◌, ◌/◌, ◌%◌, Bool, nat_eq, nat_lt, [], ◌∷◌, ◌++◌, slice_index_or, slice_set, bit_and, bit_or, Fits, w8, w32, w64, Bor, MutBor}
-use Rattle.flow_model.specs.Item.{Item}
-use Rattle.graph_edits.specs.Graph.{IsEdited, made}
-use Rattle.graph_edits.specs.declared.graph.EditedGraph.{EditedGraph as Graphs}
-use Rattle.graph_pads.specs.Links.{sink_behind}
-use Rattle.graph_pads.specs.declared.pad.PadPlace.{PadPlace as Places}
-use Rattle.net_model.specs.Moment.{Moment}
-use Rattle.edit_model.specs.Edited.{Edited, relinked_at}
-use Rattle.edit_core.specs.Feeds.{AreFeeds}
-use Rattle.edit_core.specs.declared.feeds.Feeds.{Feeds as KeptFeeds}
-use Rattle.edit_acts.specs.Relinked.{HasNewLink, IsPrepared, IsRelinked, IsRelinkedShort, IsToKeep, IsToRelink, RelinkFails, RunsRelinked}
-use Rattle.edit_acts.specs.Undoing.{SplitsNot}
+use Rattle.std.proofs.Common.{List, refl, subst}
+use Rattle.net_task.specs.declared.task.Task.{Task}
+use Rattle.edit_acts.specs.Linking.{HasRoomToLink, opening_of}
+use Rattle.edit_acts.specs.Relinked.{OpensWith}
+use Rattle.edit_acts.proofs.Apart.{is_apart, linkable, low}
 use Rattle.edit_acts.proofs.relinking.prepare.Goals as goal
 
--- src/relinking.rt:88:9
 pub returns-in_default-clause-none : goal.returns-in_default-clause-none
-returns-in_default-clause-none g c = ?
+returns-in_default-clause-none g c = λ same feeds graph m tells items w.
+    c.in_default.not-Some _ (c.source_number.ensures.there c.requires.source (low c.args.graph.now feeds c.args.tasks.now.items graph m tells c.args.source c.args.sink items w))
 
--- src/relinking.rt:92:9
 pub returns-then-not-is_apart-clause-none : goal.returns-then-not-is_apart-clause-none
-returns-then-not-is_apart-clause-none g c = ?
+returns-then-not-is_apart-clause-none g c = λ same feeds graph m tells items w.
+    let apart = is_apart c.args.graph.now feeds c.args.tasks.now.items graph m tells c.args.source c.args.sink items w c.in-Some.pad c.in-Some.ensures.number
+    c.room_to_undo.new.tasks c.in_ok-undo.ensures.items c.in_ok-undo.undo c.in_ok-undo.ensures.room in
+    let told = c.if-not-is_apart.ensures.1 apart in cc
 
--- src/relinking.rt:71:1
 pub returns-in-Linked-clause-prepared : goal.returns-in-Linked-clause-prepared
-returns-in-Linked-clause-prepared g c = ?
+returns-in-Linked-clause-prepared g c = record {
+  number = c.in-Some.ensures.number;
+  undo = c.in_ok-undo.ensures.room;
+  link = subst (λ (ts : List (Task _ _ _ _ _ _ _ _ _)). HasRoomToLink ts c.in-Some.pad c.args.sink.element c.in_ok-link.link) c.as_slice.ensures.value c.in_ok-link.ensures.room;
+  apart = c.if-not-is_apart.ensures.0 refl;
+  opens = subst (λ (ts : List (Task _ _ _ _ _ _ _ _ _)). OpensWith ts c.in-Some.pad (opening_of c.in_ok-link.link)) c.as_slice.ensures.value c.in_ok-link.ensures.opening;
+  opened = c.opens-opened.ensures;
+}
 
--- src/relinking.rt:71:1
 pub returns-in-Linked-clause-link : goal.returns-in-Linked-clause-link
-returns-in-Linked-clause-link g c = ?
+returns-in-Linked-clause-link g c = record {
+  edited = λ graph place is. let answer = rw c.in-Linked.is at c.in_ok-relink.ensures.answer in (answer graph place is).1;
+  was = λ graph is. c.sink_behind-before.ensures graph is;
+}
 
--- src/relinking.rt:71:1
 pub returns-in-Loops-clause-none : goal.returns-in-Loops-clause-none
-returns-in-Loops-clause-none g c = ?
+returns-in-Loops-clause-none g c = λ same feeds graph m tells items w.
+    let answer = rw c.in-Loops.is at c.in_ok-relink.ensures.answer in
+    (linkable c.args.graph.now feeds c.args.tasks.now.items graph m tells c.args.source c.args.sink items w).forward (answer graph w.controlled.current.edited).0

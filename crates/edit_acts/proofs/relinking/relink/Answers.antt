@@ -1,33 +1,29 @@
-use Rattle.std.proofs.Common.{rules, ◌≡◌, ◌<◌, ◌↔◌, ℕ, List, true, false, length, IfOk, IfErr, IfSome, None, OnErr, IsTrue, ◌+◌, ◌-◌, ◌*◌, ◌≤◌, ◌/◌, ◌%◌, Bool, nat_eq, nat_lt, [], ◌∷◌, ◌++◌, slice_index_or, slice_set, bit_and, bit_or, Fits, w8, w32, w64, Bor, MutBor}
-use Rattle.flow_model.specs.Item.{Item}
-use Rattle.gst_item.specs.Item.{has_item}
-use Rattle.gst_item.specs.Sticky.{stickies}
-use Rattle.graph_core.specs.GraphPlan.{pad_id}
-use Rattle.graph_edits.specs.Graph.{IsEdited, made}
-use Rattle.graph_edits.specs.declared.graph.EditedGraph.{EditedGraph as Graphs}
-use Rattle.graph_pads.specs.Links.{sink_behind}
-use Rattle.graph_pads.specs.declared.pad.PadPlace.{PadPlace as Places}
-use Rattle.net_model.specs.Moment.{Moment}
-use Rattle.net_model.specs.Standing.{is_linked}
-use Rattle.edit_model.specs.Edited.{Edited, relinked_at, spans_at, unlinked_at}
-use Rattle.edit_core.specs.Feeds.{AreFeeds}
-use Rattle.edit_core.specs.declared.feeds.Feeds.{Feeds as KeptFeeds}
-use Rattle.edit_acts.specs.Relinked.{AreLinked, HasNewLink, IsPrepared, IsRelinked, IsRelinkedShort, IsToRelink, RelinkFails, RunsRelinked}
-use Rattle.edit_acts.specs.Undoing.{SplitsNot}
+use Rattle.std.proofs.Common.{List, subst, sym}
+use Rattle.net_task.specs.declared.task.Task.{Task}
+use Rattle.edit_acts.specs.Relinked.{IsToRelink}
+use Rattle.edit_acts.proofs.Carried.{has_again, is_relinked}
 use Rattle.edit_acts.proofs.relinking.relink.Goals as goal
 
--- src/relinking.rt:49:1
 pub returns-in-Ok-clause-run : goal.returns-in-Ok-clause-run
-returns-in-Ok-clause-run g c = ?
+returns-in-Ok-clause-run g c = λ graph m tells w.
+    let ready = rw c.in-Ok-Some.field-0-is at c.in-Ok-Some.ensures.prepared in
+    let new = rw c.in-Ok-Some.field-0-is at c.in-Ok-Some.ensures.link in
+    let same = subst (λ (ts : List (Task _ _ _ _ _ _ _ _ _)). IsToRelink c.args.graph.now c.args.feeds.now ts graph m tells c.args.source c.args.sink c.args.items) (sym c.in-Ok-Some.ensures.tasks) w in
+    let ran = c.in-Ok.ensures.run c.args.graph.now graph m tells c.args.source ready (new.was graph w.controlled.current.edited) same in (
+      ran.0,
+      is_relinked c.args.graph.now c.args.feeds.now c.args.tasks.now.items graph m tells c.args.source c.args.sink c.args.items w
+          c.prepare.new.graph c.carry_out.new.feeds c.carry_out.new.tasks.items c.in-Ok-Some.prepared.before new ran.1,
+    )
 
--- src/relinking.rt:49:1
 pub returns-in-Err-carry_out-clause-faults : goal.returns-in-Err-carry_out-clause-faults
-returns-in-Err-carry_out-clause-faults g c = ?
+returns-in-Err-carry_out-clause-faults g c = λ graph m tells w.
+    let ready = rw c.in-Ok-Some.field-0-is at c.in-Ok-Some.ensures.prepared in
+    let same = subst (λ (ts : List (Task _ _ _ _ _ _ _ _ _)). IsToRelink c.args.graph.now c.args.feeds.now ts graph m tells c.args.source c.args.sink c.args.items) (sym c.in-Ok-Some.ensures.tasks) w in
+    c.in-Err-carry_out.ensures.faults c.args.graph.now graph m tells c.args.source ready same
 
--- src/relinking.rt:49:1
 pub returns-in-Ok-None-clause-run : goal.returns-in-Ok-None-clause-run
-returns-in-Ok-None-clause-run g c = ?
+returns-in-Ok-None-clause-run g c = λ graph m tells w. absurd (c.in-Ok-None.ensures.none c.in-Ok-None.field-0-is c.args.feeds.now graph m tells c.args.items w)
 
--- src/relinking.rt:49:1
 pub returns-in-Err-clause-faults : goal.returns-in-Err-clause-faults
-returns-in-Err-clause-faults g c = ?
+returns-in-Err-clause-faults g c = λ graph m tells w.
+    has_again c.args.graph.now c.prepare.new.graph c.args.feeds.now c.args.tasks.now.items c.prepare.new.tasks.items graph m tells c.in-Err.ensures.tasks (c.in-Err.ensures.stays graph w.current.edited) w

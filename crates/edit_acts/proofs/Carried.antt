@@ -1,9 +1,9 @@
 -- A source pad is linked elsewhere, inside of its task, in all that control has of a run.
-use Rattle.std.proofs.Common.{◌≡◌, ◌<◌, ◌&&◌, ◌||◌, ◌++◌, ℕ, Bool, true, false, not, List, [], ◌∷◌, Option, None, Some, length, nat_lt, refl, sym, ap, ◌∙◌, subst}
+use Rattle.std.proofs.Common.{◌≡◌, ◌&&◌, ◌||◌, ℕ, Bool, true, false, not, List, [], ◌∷◌, Option, None, Some, length, nat_lt, refl, sym, ap, ◌∙◌, subst}
 use Rattle.std.specs.List.{list_any}
-use Rattle.std.specs.Prelude.{option_and_then}
+use Rattle.std.specs.Prelude.{Result, Ok, Err, IfErr}
 use Rattle.std.specs.Global.{Vec}
-use Rattle.std.proofs.lemmas.List.Quantifiers.{list_any-append}
+use Rattle.std.proofs.lemmas.List.Folds.{list_any-append}
 use Rattle.flow_model.specs.Item.{Item}
 use Rattle.gst_item.specs.Item.{has_item}
 use Rattle.gst_item.specs.Sticky.{stickies}
@@ -23,13 +23,12 @@ use Rattle.net_turns.specs.declared.net.Stopped.{Stopped}
 use Rattle.el_settings.specs.Asked.{is_source}
 use Rattle.graph_core.specs.Elements.{has}
 use Rattle.graph_core.specs.GraphPlan.{pad_id}
+use Rattle.graph_edits.specs.Graph.{IsEdited}
 use Rattle.graph_edits.specs.declared.graph.EditedGraph.{EditedGraph}
 use Rattle.graph_pads.specs.Links.{sink_behind, source_before}
 use Rattle.graph_pads.specs.declared.pad.Direction.TheVariants.{Source}
-use Rattle.graph_pads.specs.declared.pad.PadLink.{PadLink}
 use Rattle.graph_pads.specs.declared.pad.PadPlace.{PadPlace}
 use Rattle.run_report.specs.declared.report.Answer.TheVariants.{Done}
-use Rattle.script_text.specs.declared.command.When.{When}
 use Rattle.edit_model.specs.Edited.{Edited, link_between, linked_at, relinked_at, spans_at, touches, unlinked_at}
 use Rattle.edit_model.specs.Growing.{StandsOnlyFrom}
 use Rattle.edit_model.specs.Lawful.{IsAnswered, command}
@@ -45,22 +44,18 @@ use Rattle.edit_core.specs.declared.deciding.Deed.TheVariants.{Relink}
 use Rattle.edit_core.specs.declared.feeds.Feeds.{Feeds}
 use Rattle.edit_core.proofs.Decided.{deeds_are_answers}
 use Rattle.edit_core.proofs.Named.{stays_named}
-use Rattle.edit_acts.specs.Controlled.{AreOwned}
+use Rattle.edit_acts.specs.Controlled.{AreOwned, IsControlled}
 use Rattle.edit_acts.specs.Linking.{GoesOnLinked, IsLinkedShort, MayLink, MayLinkAt, opening_of, sink_in}
 use Rattle.edit_acts.specs.Relinked.{HasNewLink, IsPrepared, IsRelinked, IsRelinkedShort, IsToKeep, IsToRelink, RunsRelinked, relinked}
 use Rattle.edit_acts.specs.Undoing.{IsRunWith}
 use Rattle.edit_acts.specs.declared.relinking.Prepared.{Prepared}
 use Rattle.edit_acts.proofs.Owned.{fresh, task_has}
 use Rattle.edit_acts.proofs.Owing.{owes}
-use Rattle.edit_acts.proofs.Relinks.{may_link, source_told}
+use Rattle.edit_acts.proofs.Relinks.{may_link, source_named, source_told}
 
--- the source pad of a command has a name
-named_by : (g : Edited) (when : When) (source : PadPlace) → source_when g when ≡ Some source → (name : PadName) × (pad_named Source g name ≡ Some source)
-named_by g when source e = by (named_when when) e
-  where
-    by : (name : Option PadName) → option_and_then (pad_named Source g) name ≡ Some source → (name : PadName) × (pad_named Source g name ≡ Some source)
-    by None e = cc
-    by (Some name) e = (name, e)
+pub carry_fault : {A E : Type 0} (r : Result A E) (P Q : E → Type 0) → ((why : E) → P why → Q why) → IfErr r P → IfErr r Q
+carry_fault (Ok a) P Q more is = tt
+carry_fault (Err why) P Q more is = more why is
 
 -- what sleeps behind one link more slept before
 slept : (a b x y : Bool) → a && not (b || (x || y)) ≡ true → a && not (b || x) ≡ true
@@ -91,7 +86,7 @@ module _ {S E I O L : Type 0} {s : sources.Ghosts S} {e : elements.Ghosts E} {i 
   items_is = subst (λ (p : Option PadPlace). IsLast m.history p items) told w.to_do.reached.last
 
   name : (name : PadName) × (pad_named Source g name ≡ Some source)
-  name = named_by g w.when source told
+  name = source_named g (named_when w.when) source told
 
   pub may : MayLink (unlinked_at source items false g) source sink
   may = may_link g m.history items w.when w.act source sink now.stand w.to_do.deed_is w.awake w.bare
@@ -183,3 +178,24 @@ module _ {S E I O L : Type 0} {s : sources.Ghosts S} {e : elements.Ghosts E} {i 
         owned = w.controlled.pads.owned;
         asleep = λ pad place named is. w.controlled.pads.asleep pad place named (was_asleep g source items sink place.element is);
       }
+
+-- control has a run whose graph stands for the same edited one, and whose tasks are the same
+pub has_again : {S E I O L : Type 0} {s : sources.Ghosts S} {e : elements.Ghosts E} {i : inlets.Ghosts I L O} {o : outlets.Ghosts O L} (graph graph' : EditedGraph) (feeds : Feeds) (tasks tasks' : List (Task S E I O L s e i o))
+    (g : Edited) (m : Moment) (tells : Option (List Lane)) → tasks' ≡ tasks → IsEdited graph' g → IsControlled graph feeds tasks g m tells → IsControlled graph' feeds tasks' g m tells
+has_again {S} {E} {I} {O} {L} {s} {e} {i} {o} graph graph' feeds tasks tasks' g m tells same edited w =
+    subst (λ (ts : List (Task S E I O L s e i o)). IsControlled graph' feeds ts g m tells) (sym same)
+    (record {
+      current = record {
+        edited = edited;
+        feeds_are = w.current.feeds_are;
+        net = w.current.net;
+        fresh = w.current.fresh;
+        kept = w.current.kept;
+        stand = w.current.stand;
+        made = w.current.made;
+        ends = w.current.ends;
+        named = w.current.named;
+      };
+      run = w.run;
+      pads = w.pads;
+    })
