@@ -22,3 +22,4 @@ mod Controls
 mod Ends
 mod Grown
 mod Answered
+mod Relinks

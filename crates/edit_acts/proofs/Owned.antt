@@ -56,4 +56,4 @@ module _ {S E I O L : Type 0} {s : sources.Ghosts S} {e : elements.Ghosts E} {i 
     where
       by : (asleep : Bool) → is_asleep g source.element ≡ asleep → m.history (pad_id source) ≡ []
       by true is = pads.asleep pad source named is
-      by false is = let own = run.are.owned source.element (named_there g pad source named) is in absurd (has_not pad source named none own.0 own.1.task own.1.at own.1.has)
+      by false is = let own = run.are.owned source.element (named_there Source g pad source named) is in absurd (has_not pad source named none own.0 own.1.task own.1.at own.1.has)

@@ -28,6 +28,7 @@ use Rattle.graph_core.proofs.Orders.{pads_at_link}
 use Rattle.graph_pads.proofs.FirstOf.{first_found}
 use Rattle.graph_pads.specs.Links.{is_same, source_before}
 use Rattle.graph_pads.specs.Pads.{pad_count, pad_text}
+use Rattle.graph_pads.specs.declared.pad.Direction.{Direction}
 use Rattle.graph_pads.specs.declared.pad.Direction.TheVariants.{Source}
 use Rattle.graph_pads.specs.declared.pad.PadLink.{PadLink}
 use Rattle.graph_pads.specs.declared.pad.PadPlace.{PadPlace}
@@ -60,32 +61,33 @@ Named g source = (name : PadName) × (pad_named Source g name ≡ Some source)
 -- ---- how a pad is found
 
 -- the element that has a name is there, and the pad is one of it
-record IsFound (g : Edited) (name : PadName) (source : PadPlace) : Type 0 where
+record IsFound (direction : Direction) (g : Edited) (name : PadName) (place : PadPlace) : Type 0 where
   element : ℕ
   first : position (is_named name.element) g.made ≡ Some element
   there : is_there g element ≡ true
   made : Made
   at : slice_get g.made element ≡ Some made
-  pad : pad_in Source name.pad element made ≡ Some source
+  pad : pad_in direction name.pad element made ≡ Some place
 
-found_of : (g : Edited) (name : PadName) (source : PadPlace) → pad_named Source g name ≡ Some source → IsFound g name source
-found_of g name source e = by (position (is_named name.element) g.made) refl e
+found_of : (direction : Direction) (g : Edited) (name : PadName) (place : PadPlace) → pad_named direction g name ≡ Some place → IsFound direction g name place
+found_of direction g name place e = by (position (is_named name.element) g.made) refl e
   where
-    by_made : (k : ℕ) → position (is_named name.element) g.made ≡ Some k → is_there g k ≡ true → (o : Option Made) → slice_get g.made k ≡ o → option_and_then (pad_in Source name.pad k) o ≡ Some source → IsFound g name source
+    by_made : (k : ℕ) → position (is_named name.element) g.made ≡ Some k → is_there g k ≡ true → (o : Option Made) → slice_get g.made k ≡ o → option_and_then (pad_in direction name.pad k) o ≡ Some place
+        → IsFound direction g name place
     by_made k first there None at e = absurd (no_some (sym e))
     by_made k first there (Some made) at e = record { element = k; first = first; there = there; made = made; at = at; pad = e }
 
     by_there : (k : ℕ) → position (is_named name.element) g.made ≡ Some k → (b : Bool) → is_there g k ≡ b
-        → option_and_then (λ x. option_and_then (pad_in Source name.pad x) (slice_get g.made x)) (if b then Some k else None) ≡ Some source → IsFound g name source
+        → option_and_then (λ x. option_and_then (pad_in direction name.pad x) (slice_get g.made x)) (if b then Some k else None) ≡ Some place → IsFound direction g name place
     by_there k first true there e = by_made k first there (slice_get g.made k) refl e
     by_there k first false there e = absurd (no_some (sym e))
 
     by : (o : Option ℕ) → position (is_named name.element) g.made ≡ o
-        → option_and_then (λ x. option_and_then (pad_in Source name.pad x) (slice_get g.made x)) (option_and_then (λ x. if is_there g x then Some x else None) o) ≡ Some source → IsFound g name source
+        → option_and_then (λ x. option_and_then (pad_in direction name.pad x) (slice_get g.made x)) (option_and_then (λ x. if is_there g x then Some x else None) o) ≡ Some place → IsFound direction g name place
     by None first e = absurd (no_some (sym e))
     by (Some k) first e = by_there k first (is_there g k) refl e
 
-named_by : (g : Edited) (name : PadName) (source : PadPlace) → IsFound g name source → pad_named Source g name ≡ Some source
+named_by : (g : Edited) (name : PadName) (source : PadPlace) → IsFound Source g name source → pad_named Source g name ≡ Some source
 named_by g name source found =
     ap (λ (o : Option ℕ). option_and_then (λ x. option_and_then (pad_in Source name.pad x) (slice_get g.made x)) (option_and_then (λ x. if is_there g x then Some x else None) o)) found.first
     ∙ ap (λ (b : Bool). option_and_then (λ x. option_and_then (pad_in Source name.pad x) (slice_get g.made x)) (if b then Some found.element else None)) found.there
@@ -93,16 +95,17 @@ named_by g name source found =
     ∙ found.pad
 
 -- a pad that is found is one of the element
-found_element : (name : List ℕ) (k : ℕ) (made : Made) (source : PadPlace) → pad_in Source name k made ≡ Some source → k ≡ source.element
-found_element name k made source e = by (position (λ n. bytes_eq name (pad_text Source made.settings n)) (range_with_len 0 (pad_count Source made.settings))) e
+found_element : (direction : Direction) (name : List ℕ) (k : ℕ) (made : Made) (place : PadPlace) → pad_in direction name k made ≡ Some place → k ≡ place.element
+found_element direction name k made place e = by (position (λ n. bytes_eq name (pad_text direction made.settings n)) (range_with_len 0 (pad_count direction made.settings))) e
   where
-    by : (o : Option ℕ) → option_map {U = PadPlace} (λ n. record { element = k; pad = n }) o ≡ Some source → k ≡ source.element
+    by : (o : Option ℕ) → option_map {U = PadPlace} (λ n. record { element = k; pad = n }) o ≡ Some place → k ≡ place.element
     by None e = absurd (no_some (sym e))
     by (Some n) e = ap (λ (place : PadPlace). place.element) (some_same e)
 
 -- the element of a pad that is found is there
-pub named_there : (g : Edited) (name : PadName) (source : PadPlace) → pad_named Source g name ≡ Some source → is_there g source.element ≡ true
-named_there g name source e = let found = found_of g name source e in subst (λ (k : ℕ). is_there g k ≡ true) (found_element name.pad found.element found.made source found.pad) found.there
+pub named_there : (direction : Direction) (g : Edited) (name : PadName) (place : PadPlace) → pad_named direction g name ≡ Some place → is_there g place.element ≡ true
+named_there direction g name place e =
+    let found = found_of direction g name place e in subst (λ (k : ℕ). is_there g k ≡ true) (found_element direction name.pad found.element found.made place found.pad) found.there
 
 -- ---- from the start
 
@@ -205,7 +208,7 @@ more_there g m k low there = by (list_any (λ gone. gone == k) g.removed) there
 
 added_named : (g : Edited) (m : Made) (source : PadPlace) → Named g source → Named (added m g) source
 added_named g m source named =
-    let found = found_of g named.0 source named.1 in
+    let found = found_of Source g named.0 source named.1 in
     let low = slice_get_within g.made found.element found.made found.at in (
       named.0,
       named_by (added m g) named.0 source
@@ -229,8 +232,8 @@ gone_too (d ∷ removed) e k other = ap (λ (b : Bool). (d == k) || b) (gone_too
 
 removed_named : (g : Edited) (e : ℕ) (source : PadPlace) → (e ≡ source.element → ⊥) → Named g source → Named (without_element e g) source
 removed_named g e source other named =
-    let found = found_of g named.0 source named.1 in
-    let own = found_element named.0.pad found.element found.made source found.pad in (
+    let found = found_of Source g named.0 source named.1 in
+    let own = found_element Source named.0.pad found.element found.made source found.pad in (
       named.0,
       named_by (without_element e g) named.0 source
           (record {
