@@ -28,3 +28,4 @@ mod Keeps
 mod Carried
 mod Relinks
 mod Apart
+mod Relinks
