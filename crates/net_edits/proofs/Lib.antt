@@ -14,7 +14,7 @@ mod Pushed
 mod Pushing
 pub mod Linked
 mod Parted
-mod Ended
+pub mod Ended
 mod Lefts
 mod Rowed
 mod LanesMore
