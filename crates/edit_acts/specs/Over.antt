@@ -18,9 +18,8 @@ use Rattle.edit_model.specs.Edited.{Edited, is_there, linked_at}
 use Rattle.edit_model.specs.Refused.{has_lanes}
 use Rattle.edit_core.specs.Ways.{IsRun}
 
--- A source pad, and a sink pad of an element that lanes feed, are there and have no link.
+-- A source pad has no link, and a sink pad of an element that lanes feed is there and has none.
 pub record MayLinkOver (g : Edited) (source sink : PadPlace) : Type 0 where
-  pub source_there : is_there g source.element ≡ true
   pub low : source.pad < most_pads
   pub loose : sink_behind g.links source ≡ None
   pub sink_there : is_there g sink.element ≡ true
