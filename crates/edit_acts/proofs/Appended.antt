@@ -1,5 +1,5 @@
 -- The elements of one task and then those of another, by their frames.
-use Rattle.std.proofs.Common.{◌≡◌, ◌⊎◌, ◌<◌, ◌+◌, ◌++◌, ℕ, List, length, map, Option, Some, sym, ap, ◌∙◌, inl, inr}
+use Rattle.std.proofs.Common.{◌≡◌, ◌⊎◌, ◌<◌, ◌+◌, ◌++◌, ℕ, List, length, map, Some, sym, ap, ◌∙◌, inl, inr}
 use Rattle.std.specs.Prelude.{slice_get}
 use Rattle.std.proofs.lemmas.List.{map-append}
 use Rattle.lane_core.specs.declared.ends.Inlet as inlets
@@ -9,7 +9,7 @@ use Rattle.net_model.specs.declared.source.TaskSource as sources
 use Rattle.task_parts.specs.declared.head.Head.{Head}
 use Rattle.task_parts.specs.declared.part.Part.{Part}
 use Rattle.net_task.specs.declared.task.Task.{Task}
-use Rattle.net_task.specs.Frame.{HeadFrame, PartFrame, TaskFrame, Wire, IsWire, WireAt, by_inlets, by_source, frame_of, head_frame, head_wire, of_head as wire_head, of_part as wire_part, part_frame}
+use Rattle.net_task.specs.Frame.{HeadFrame, PartFrame, TaskFrame, Wire, IsWire, by_inlets, by_source, frame_of, head_frame, head_wire, of_head as wire_head, of_part as wire_part, part_frame}
 use Rattle.net_turns.specs.Net.{HasElement, part, source}
 use Rattle.net_groups.specs.Joined.{IsMerged}
 use Rattle.net_groups.proofs.Lists.{append_back, append_first, append_second}

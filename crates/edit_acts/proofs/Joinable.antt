@@ -1,5 +1,5 @@
 -- In a run the task of a free sink pad is joined to that of a source pad without a link, and then the pad can be linked.
-use Rattle.std.proofs.Common.{◌≡◌, ◌⊎◌, ◌++◌, ◌||◌, ℕ, Bool, true, false, eqb, List, [], ◌∷◌, map, Option, Some, refl, sym, ap, ◌∙◌, subst, inl, inr}
+use Rattle.std.proofs.Common.{◌≡◌, ◌++◌, ◌||◌, ℕ, Bool, true, false, eqb, List, [], ◌∷◌, map, Option, refl, sym, ap, ◌∙◌, subst, inl, inr}
 use Rattle.std.specs.Prelude.{slice_get}
 use Rattle.std.proofs.lemmas.List.{map-append}
 use Rattle.flow_model.specs.Link.{Span}
@@ -11,14 +11,12 @@ use Rattle.net_model.specs.Moment.{Moment}
 use Rattle.net_model.specs.declared.element.TaskElement as elements
 use Rattle.net_model.specs.declared.source.TaskSource as sources
 use Rattle.inlet_row.specs.declared.row.InletRow.{InletRow}
-use Rattle.task_pads.specs.Pads.{number_of}
 use Rattle.task_parts.specs.Shape.{PartShape, has_number, head_shape, head_within, part_shape}
 use Rattle.task_parts.specs.declared.head.Head.{Head}
 use Rattle.task_parts.specs.declared.head.Head.TheVariants.{Source, Inlets}
-use Rattle.task_parts.specs.declared.head.InletHead.{InletHead}
 use Rattle.task_parts.specs.declared.part.Part.{Part}
 use Rattle.net_task.specs.declared.task.Task.{Task}
-use Rattle.net_task.specs.Frame.{HeadFrame, PartFrame, TaskFrame, Wire, IsWire, by_inlets, by_source, frame_in, frame_of, head_frame, head_wire, of_head, of_part, part_frame, wire_of}
+use Rattle.net_task.specs.Frame.{HeadFrame, PartFrame, Wire, IsWire, by_inlets, by_source, frame_in, frame_of, head_frame, head_wire, of_head, of_part, part_frame, wire_of}
 use Rattle.net_task.specs.Ties.{HeadTied, Ties, nothing_lost}
 use Rattle.net_turns.specs.Net.{HasElement, HasRow, IsFed, Owns, part, source as of_source}
 use Rattle.net_turns.proofs.Facts.{fed_owned, own_pad}
@@ -28,7 +26,7 @@ use Rattle.task_edits.specs.Places.{HasNoPad}
 use Rattle.net_edits.specs.Inside.{CanLinkIn, LacksOne, NoneHasBoth}
 use Rattle.gst_value.proofs.Basics.{and_left, some_same}
 use Rattle.gst_value.proofs.Places.{map_get, map_got}
-use Rattle.graph_core.specs.GraphPlan.{owner_of, pad_id}
+use Rattle.graph_core.specs.GraphPlan.{pad_id}
 use Rattle.graph_core.specs.Links.{Leads, ways}
 use Rattle.graph_core.proofs.NumberedPads.{owner_at}
 use Rattle.graph_order.specs.Links.{Way}

@@ -13,7 +13,6 @@ use Rattle.net_model.specs.declared.element.TaskElement as elements
 use Rattle.net_model.specs.declared.source.TaskSource as sources
 use Rattle.task_pads.specs.Behind.{inside, over}
 use Rattle.task_parts.specs.declared.head.Head.{Head}
-use Rattle.task_parts.specs.declared.head.Head.TheVariants.{Inlets}
 use Rattle.task_parts.specs.declared.head.InletHead.{InletHead}
 use Rattle.net_task.specs.declared.task.Task.{Task}
 use Rattle.net_task.specs.Frame.{HeadFrame, TaskFrame, Wire, IsWire, by_inlets, by_source, frame_of, head_frame}
@@ -233,8 +232,7 @@ module _ {S E I O L : Type 0} {s : sources.Ghosts S} {e : elements.Ghosts E} {i 
       go (inr own) =
           let same : inside sink.element sink.pad ≡ inside n port = sym own ∙ leads in
           let element : sink.element ≡ n = cc in
-          let pad : sink.pad ≡ port = cc in
-          (
+          let pad : sink.pad ≡ port = cc in (
             subst (λ (k : ℕ). is_there g k ≡ true) element may.sink_there,
             subst (λ (k : ℕ). has_lanes g k ≡ false) element may.bare,
             sym pad ∙ sink_first g m tasks tells run sink may.within may.free may.bare,

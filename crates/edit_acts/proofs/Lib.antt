@@ -1,10 +1,29 @@
+mod Made
+mod Cut
+mod Reached
+mod Unlinked
+mod Parted
+mod Spans
+mod Undone
+mod Runs
+mod Undoes
+mod Fits
 pub mod Rewired
 mod Appended
 mod Placed
-pub mod Loose
-pub mod Kept
+mod Loose
+mod Kept
 pub mod Graphs
 mod Joinable
 mod Linked
 mod Overs
 mod Fitting
+mod Owned
+mod Owing
+mod Controls
+mod Ends
+mod Grown
+mod Having
+mod Answered
+mod Keeps
+mod Relinking

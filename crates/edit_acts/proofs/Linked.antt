@@ -1,5 +1,5 @@
 -- A run in which two tasks were joined, and linked then, goes on with the edited graph.
-use Rattle.std.proofs.Common.{◌≡◌, ◌≤◌, ℕ, eqb, if◌then◌else◌, List, [], Option, length, sym, ap, ◌∙◌, subst, arith}
+use Rattle.std.proofs.Common.{ℕ, eqb, if◌then◌else◌, List, [], Option, length, sym, ap, ◌∙◌, subst, arith}
 use Rattle.flow_model.specs.Item.{Item}
 use Rattle.flow_model.specs.Link.{Linked, Span}
 use Rattle.lane_core.specs.Lane.{Lane}

@@ -1,5 +1,5 @@
 -- A source pad of a run without a link leads nowhere, and what the head of a task names is before all of the task.
-use Rattle.std.proofs.Common.{◌≡◌, ◌⊎◌, ◌<◌, ◌≤◌, ◌%◌, ℕ, zero, suc, Bool, true, false, if◌then◌else◌, List, [], ◌∷◌, Option, None, Some, get_or, length, refl, sym, ap, ◌∙◌, subst, inl, inr, arith}
+use Rattle.std.proofs.Common.{◌≡◌, ◌<◌, ◌%◌, ℕ, zero, suc, Bool, true, false, if◌then◌else◌, List, [], ◌∷◌, Option, None, Some, get_or, length, refl, sym, ap, ◌∙◌, subst, inl, inr, arith}
 use Rattle.std.specs.Prelude.{slice_get}
 use Rattle.flow_model.specs.Link.{Span}
 use Rattle.lane_core.specs.Lane.{Lane}
@@ -15,7 +15,7 @@ use Rattle.task_pads.specs.Behind.{Goes, nowhere, inside, over}
 use Rattle.task_parts.specs.declared.head.Head.{Head}
 use Rattle.task_parts.specs.declared.head.InletHead.{InletHead}
 use Rattle.net_task.specs.declared.task.Task.{Task}
-use Rattle.net_task.specs.Frame.{HeadFrame, TaskFrame, Wire, IsWire, WireAt, by_inlets, by_source, frame_of, head_frame, of_part}
+use Rattle.net_task.specs.Frame.{Wire, IsWire, WireAt, by_inlets, by_source, frame_of, head_frame, of_part}
 use Rattle.net_task.specs.Ties.{LeadsAs}
 use Rattle.net_groups.specs.Joined.{IsUnfed}
 use Rattle.net_groups.specs.Places.{FedAt, PadOf}
@@ -29,7 +29,7 @@ use Rattle.graph_order.specs.Links.{IsLink, Way}
 use Rattle.graph_pads.specs.Links.{is_same, sink_behind, source_before}
 use Rattle.graph_pads.specs.declared.pad.PadLink.{PadLink}
 use Rattle.graph_pads.specs.declared.pad.PadPlace.{PadPlace}
-use Rattle.edit_model.specs.Edited.{Edited, is_there, spans_at}
+use Rattle.edit_model.specs.Edited.{Edited, is_there}
 use Rattle.edit_model.specs.Refused.{has_lanes}
 use Rattle.edit_model.proofs.Keeping.{free_at}
 use Rattle.edit_model.proofs.LinksStanding.{exactly}
@@ -38,7 +38,6 @@ use Rattle.edit_core.specs.Ways.{IsRun}
 use Rattle.edit_core.proofs.Inner.{few}
 use Rattle.edit_core.proofs.Trees.{wire_leads, wire_leads_as, wire_leads_over, wire_owner}
 use Rattle.edit_core.proofs.Ways.{free_is_loose}
-use Rattle.edit_acts.specs.Linking.{MayLink}
 
 -- ---- links
 

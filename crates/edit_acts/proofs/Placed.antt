@@ -1,5 +1,5 @@
 -- Which tasks there are behind a join, and behind a link inside of the joined task.
-use Rattle.std.proofs.Common.{◌≡◌, ◌≢◌, ◌⊎◌, ℕ, List, Option, Some, refl, sym, ap, ◌∙◌, subst, inl, inr}
+use Rattle.std.proofs.Common.{◌≡◌, ◌≢◌, ◌⊎◌, ℕ, List, Some, refl, sym, ap, ◌∙◌, subst, inl, inr}
 use Rattle.std.specs.Prelude.{slice_get, slice_set}
 use Rattle.std.proofs.lemmas.Bool.{cases_eq}
 use Rattle.flow_model.specs.Item.{Item}
@@ -8,7 +8,6 @@ use Rattle.lane_core.specs.declared.ends.Outlet as outlets
 use Rattle.net_model.specs.declared.element.TaskElement as elements
 use Rattle.net_model.specs.declared.source.TaskSource as sources
 use Rattle.task_pads.specs.Behind.{goes, inside}
-use Rattle.task_pads.specs.Pads.{number_of}
 use Rattle.task_pads.specs.declared.pad.Behind.{Behind}
 use Rattle.task_pads.specs.declared.pad.Pad.{Pad}
 use Rattle.task_pads.proofs.Lists.{set_there}
@@ -33,11 +32,14 @@ use Rattle.edit_acts.proofs.Rewired.{Rewired, rewired}
 
 -- a task has no pad that its frame has not
 none_in : {S E I O L : Type 0} {s : sources.Ghosts S} {e : elements.Ghosts E} (o : outlets.Ghosts O L) (head : Head S I O s) (parts : List (Part E O e)) (pad : ℕ) → (PadIn (frame_in o head parts) pad → ⊥) → HasNoPad head parts pad
-none_in {S = S} {I = I} {O = O} {s = s} o head parts pad none = (by head none, λ j one at port one_pad pad_at same. none (record {
-  wire = wire_of o one_pad;
-  is = of_part j port (record { part = part_frame o one; at = map_get (part_frame o) parts j one at; pad_at = map_get (wire_of o) one.pads.items port one_pad pad_at });
-  number_is = same;
-}))
+none_in {S = S} {I = I} {O = O} {s = s} o head parts pad none = (
+  by head none,
+  λ j one at port one_pad pad_at same. none (record {
+    wire = wire_of o one_pad;
+    is = of_part j port (record { part = part_frame o one; at = map_get (part_frame o) parts j one at; pad_at = map_get (wire_of o) one.pads.items port one_pad pad_at });
+    number_is = same;
+  }),
+)
   where
     by : (one : Head S I O s) → (PadIn (frame_in o one parts) pad → ⊥) → HeadHasNot one pad
     by (Source source) none = λ same. none (record { wire = wire_of o source.pad; is = of_head refl; number_is = same })

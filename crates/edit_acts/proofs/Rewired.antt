@@ -1,5 +1,5 @@
 -- A task of which one pad leads elsewhere, by its frame.
-use Rattle.std.proofs.Common.{◌≡◌, ◌⊎◌, ℕ, List, Option, Some, map, refl, sym, ap, ◌∙◌, subst, inl, inr}
+use Rattle.std.proofs.Common.{◌≡◌, ◌⊎◌, ℕ, List, Option, Some, map, refl, sym, ap, ◌∙◌, inl, inr}
 use Rattle.std.specs.Prelude.{slice_get, slice_set}
 use Rattle.std.proofs.lemmas.Bool.{cases_eq}
 use Rattle.std.proofs.lemmas.List.{map-set}
@@ -9,14 +9,12 @@ use Rattle.net_model.specs.declared.source.TaskSource as sources
 use Rattle.task_pads.specs.Behind.{inside}
 use Rattle.task_pads.specs.declared.pad.Pad.{Pad}
 use Rattle.task_pads.proofs.Lists.{set_there}
-use Rattle.task_parts.specs.Head.{IsSameSource}
 use Rattle.task_parts.specs.declared.head.Head.{Head}
-use Rattle.task_parts.specs.declared.head.Head.TheVariants.{Source}
 use Rattle.task_parts.specs.declared.part.Part.{Part}
-use Rattle.net_task.specs.Frame.{HeadFrame, PartFrame, TaskFrame, Wire, IsWire, WireAt, by_inlets, by_source, frame_in, head_frame, head_wire, of_head, of_part, part_frame, wire_of}
+use Rattle.net_task.specs.Frame.{HeadFrame, PartFrame, TaskFrame, Wire, IsWire, by_inlets, by_source, frame_in, head_frame, head_wire, of_head, of_part, part_frame, wire_of}
 use Rattle.net_turns.specs.Net.{HasElement, part, source}
 use Rattle.net_groups.proofs.Wiring.{IsOf, of_part as of_element, of_source}
-use Rattle.task_edits.specs.Changes.{PadIn, PadIs}
+use Rattle.task_edits.specs.Changes.{PadIs}
 use Rattle.gst_value.proofs.Basics.{some_same}
 use Rattle.gst_value.proofs.Places.{map_get, set_at, set_here}
 use Rattle.edit_core.specs.Tasks.{LeadsOn, number_of_head}

@@ -1,2 +1,6 @@
+pub mod Ending
+pub mod Undoing
 pub mod Linking
 pub mod Over
+pub mod Controlled
+pub mod Relinked

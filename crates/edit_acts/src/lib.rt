@@ -2,7 +2,13 @@
 //! have the elements of the graph again.
 #![tactic(auto)]
 
+pub mod ending;
 pub mod linking;
 pub mod over;
+pub mod relinking;
+pub mod undoing;
+pub mod unlinking;
 
+pub use ending::end;
 pub use linking::{LinkRoom, link, room_to_link};
+pub use undoing::{UndoRoom, room_to_undo, undo};

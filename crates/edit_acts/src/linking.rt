@@ -1,6 +1,6 @@
 //! A source pad of a run is linked inside of a task.
 ghost use Rattle.std.specs.Prelude.{◌≡◌, ℕ, true, false, IfOk, IfErr, vec_capacity};
-ghost use Rattle.gst_item.specs.Sticky.{stickies};
+ghost use Rattle.gst_item.specs.Sticky.{has_flush_stop, stickies};
 ghost use Rattle.net_model.specs.Moment.{Moment};
 ghost use Rattle.net_turns.specs.Net.{NetReady, NetStands};
 ghost use Rattle.net_groups.specs.Joined.{CannotJoin};
@@ -29,6 +29,17 @@ pub struct LinkRoom<E: TaskElement, O> {
     opening: List<Item>,
 }
 
+impl<E: TaskElement, O> LinkRoom<E, O> {
+    ghost use Rattle.gst_item.specs.Item.{has_item};
+
+    /// Whether the link gives sticky events first.
+    pub(crate) fn opens(&self) -> bool
+        ensures { result ≡ has_item (opening_of self.now) }
+    {
+        !self.opening.as_slice().is_empty()
+    }
+}
+
 /// Takes all the memory that it takes to link the source pad of a number to a sink pad of an element: so [`link`] needs none for itself.
 pub fn room_to_link<S: TaskSource, E: TaskElement, I: Inlet<Out = O>, O: Outlet<Lanes = I::Lanes>>(
     alloc: Global,
@@ -41,11 +52,24 @@ pub fn room_to_link<S: TaskSource, E: TaskElement, I: Inlet<Out = O>, O: Outlet<
         → opening_of room ≡ stickies (m.history pad)) }
 {
     let join = room_to_join(alloc, tasks, pad, element)?;
-    let opening = match opening_items(alloc, tasks, pad)? {
-        Some(items) => items,
-        None => List::new(alloc),
-    };
+    let opening = opening(alloc, tasks, pad)?;
     Ok(LinkRoom { join, opening })
+}
+
+/// The sticky events of what crossed a source pad, and nothing where no task has the pad.
+fn opening<S: TaskSource, E: TaskElement, I: Inlet<Out = O>, O: Outlet<Lanes = I::Lanes>>(
+    alloc: Global,
+    tasks: &[Task<S, E, I, O>],
+    pad: u32,
+) -> Result<List<Item>, OutOfMemory>
+    ensures calm { IfOk result (λ items. has_flush_stop items ≡ false) }
+    ensures at { IfOk result (λ items. (m : Moment) (tells : _) (place : ℕ) → NetStands m tasks.now tells → TaskHas tasks.now pad place
+        → items ≡ stickies (m.history pad)) }
+{
+    match opening_items(alloc, tasks, pad)? {
+        Some(items) => Ok(items),
+        None => Ok(List::new(alloc)),
+    }
 }
 
 /// Links the source pad of a number to a sink pad of an element that the head of another task feeds from nothing: that task is joined to the

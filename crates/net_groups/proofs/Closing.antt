@@ -1,6 +1,5 @@
 -- That each element which a task names is one of it, where elements are put together.
-use Rattle.std.proofs.Common.{◌≡◌, ◌++◌, ◌&&◌, ◌||◌, ℕ, zero, suc, Bool, true, false, eqb, List, [], ◌∷◌, map, Some, refl, sym, ap, ◌∙◌, subst}
-use Rattle.std.specs.Prelude.{slice_get}
+use Rattle.std.proofs.Common.{◌≡◌, ◌++◌, ◌&&◌, ◌||◌, ℕ, Bool, true, false, eqb, List, [], ◌∷◌, map, refl, sym, subst}
 use Rattle.std.proofs.lemmas.List.{map-append}
 use Rattle.net_model.specs.declared.element.TaskElement as elements
 use Rattle.net_model.specs.declared.source.TaskSource as sources
@@ -9,7 +8,7 @@ use Rattle.task_pads.specs.Pads.{PadShape}
 use Rattle.task_parts.specs.declared.head.Head.{Head}
 use Rattle.task_parts.specs.declared.part.Part.{Part}
 use Rattle.task_parts.specs.Shape.{HeadShape, PartShape, all_within, by_source, by_inlets, goes_within, has_number, head_shape, head_within, is_closed, pads_within, part_shape, shape_of}
-use Rattle.gst_value.proofs.Basics.{and_both, and_left, and_right, or_first, or_second}
+use Rattle.gst_value.proofs.Basics.{and_both, and_left, and_right, or_second}
 
 -- these have all numbers of those
 abbrev HaveAll : List PartShape → List PartShape → Type 0

@@ -1,5 +1,5 @@
 -- Flags by place, and what they tell.
-use Rattle.std.proofs.Common.{◌≡◌, ◌≢◌, ◌⊎◌, ◌<◌, ◌+◌, ◌++◌, ◌&&◌, ℕ, zero, suc, Bool, true, false, List, [], ◌∷◌, length, get_or, drop, if◌then◌else◌, append_assoc, map, Some, refl, sym, ap, ◌∙◌, subst, inl, inr, arith}
+use Rattle.std.proofs.Common.{◌≡◌, ◌⊎◌, ◌<◌, ◌+◌, ◌++◌, ℕ, zero, suc, Bool, true, false, List, [], ◌∷◌, length, get_or, drop, if◌then◌else◌, append_assoc, Some, refl, sym, ap, ◌∙◌, subst, inl, inr, arith}
 use Rattle.std.specs.Prelude.{slice_get, slice_set}
 use Rattle.std.proofs.lemmas.Bool.{cases_eq}
 use Rattle.std.proofs.lemmas.List.{drop_more}
@@ -8,7 +8,7 @@ use Rattle.task_parts.specs.declared.part.Part.{Part}
 use Rattle.task_pads.proofs.Lists.{set_there}
 use Rattle.gst_value.proofs.Basics.{some_same}
 use Rattle.net_groups.proofs.Lists.{append_back}
-use Rattle.net_groups.specs.Behind.{AreParted, none, stays, goes, FlaggedAt, IsBehind, itself, further, IsLed, first, led, IsNext, LeadTo, NoneIsNext, NoneSet, StepsTo, TellBehind, flagged, unflagged, unmarked}
+use Rattle.net_groups.specs.Behind.{AreParted, none, stays, goes, FlaggedAt, IsBehind, itself, further, IsLed, first, led, IsNext, LeadTo, NoneIsNext, NoneSet, TellBehind, flagged, unflagged, unmarked}
 
 -- the flag of a place
 pub flag_at : (flags : List Bool) (k : ℕ) (b : Bool) → k < length flags → get_or flags k false ≡ b → slice_get flags k ≡ Some b
@@ -79,10 +79,6 @@ dealt P [] (x ∷ xs) size yes_all no_all = absurd (omega (arith, size))
 dealt P (f ∷ fs) [] size yes_all no_all = absurd (omega (arith, size))
 dealt P (true ∷ fs) (x ∷ xs) size yes_all no_all = goes (yes_all 0 x refl refl) (dealt P fs xs (omega (arith, size)) (λ k y. yes_all (suc k) y) (λ k y. no_all (suc k) y))
 dealt P (false ∷ fs) (x ∷ xs) size yes_all no_all = stays (no_all 0 x refl refl) (dealt P fs xs (omega (arith, size)) (λ k y. yes_all (suc k) y) (λ k y. no_all (suc k) y))
-
--- an item at a place is the one that is there
-pub at_place : {A : Type 0} (P : A → Type 0) (xs : List A) (k : ℕ) (x y : A) → slice_get xs k ≡ Some x → slice_get xs k ≡ Some y → P y → P x
-at_place P xs k x y a b p = subst P (some_same (sym b ∙ a)) p
 
 pub not_led : {E O : Type 0} {e : elements.Ghosts E} (parts : List (Part E O e)) (flags : List Bool) (n m : ℕ) → (m ≡ n → ⊥) → ((place : ℕ) → FlaggedAt parts flags m place → ⊥) → IsLed parts flags n m → ⊥
 not_led parts flags n m other never (first same) = other same

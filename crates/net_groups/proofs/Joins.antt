@@ -1,7 +1,6 @@
 -- Two tasks of a net become one: the net is ready as it was, and stands.
-use Rattle.std.proofs.Common.{◌≡◌, ◌≢◌, ◌⊎◌, ◌<◌, ◌++◌, ℕ, zero, suc, List, [], ◌∷◌, length, Option, Some, refl, sym, ap, ◌∙◌, subst, inl, inr, arith}
+use Rattle.std.proofs.Common.{◌≡◌, ◌≢◌, ◌⊎◌, ◌<◌, ℕ, suc, List, [], ◌∷◌, length, Option, Some, refl, sym, ap, ◌∙◌, subst, inl, inr, arith}
 use Rattle.std.specs.Prelude.{slice_get, slice_set}
-use Rattle.std.specs.List.{remove}
 use Rattle.std.proofs.lemmas.Bool.{cases_eq}
 use Rattle.flow_model.specs.Call.{Call, feeds}
 use Rattle.lane_core.specs.Lane.{Lane}
@@ -13,25 +12,26 @@ use Rattle.net_model.specs.declared.element.TaskElement as elements
 use Rattle.net_model.specs.declared.source.TaskSource as sources
 use Rattle.inlet_row.specs.declared.feeding.Feeding.{Feeding}
 use Rattle.inlet_row.specs.declared.row.InletRow.{InletRow}
-use Rattle.inlet_row.specs.Row.{feeds_of, held}
+use Rattle.inlet_row.specs.Row.{held}
 use Rattle.task_pads.specs.Behind.{over}
 use Rattle.task_pads.proofs.Lists.{set_there}
 use Rattle.task_parts.specs.declared.head.Head.{Head}
-use Rattle.task_parts.specs.declared.head.Head.TheVariants.{Source, Inlets}
+use Rattle.task_parts.specs.declared.head.Head.TheVariants.{Inlets}
 use Rattle.task_parts.specs.declared.head.InletHead.{InletHead}
 use Rattle.task_parts.specs.declared.part.Part.{Part}
 use Rattle.net_task.specs.declared.task.Task.{Task}
-use Rattle.net_task.specs.Frame.{TaskFrame, Wire, frame_in, frame_of, head_frame, by_inlets}
+use Rattle.net_task.specs.Frame.{Wire, frame_of, head_frame}
 use Rattle.net_task.specs.Ready.{AreReady, IsReady}
 use Rattle.net_task.specs.Ties.{AreTied, Stands, Ties, nothing_lost}
 use Rattle.net_turns.specs.Net.{AreWired, HasElement, HasRow, IsFed, ListAt, NetReady, NetStands, Owns, RowStands}
 use Rattle.gst_value.proofs.Basics.{some_same}
 use Rattle.gst_value.proofs.Places.{found_at, set_at, set_here}
-use Rattle.net_groups.specs.Places.{FedAt, HasWire, IsBare, PadOf}
-use Rattle.net_groups.specs.Joined.{IsApart, IsJoined, IsMerged, IsUnfed, MovesUp}
+use Rattle.net_groups.specs.Places.{FedAt, HasWire, IsBare}
+use Rattle.net_groups.specs.Joined.{CanJoinAt, IsJoined, IsMerged, IsUnfed, MovesUp}
 use Rattle.net_groups.proofs.Lists.{moves_once, removed_back, removed_on}
 use Rattle.net_groups.proofs.Merging.{FramesJoined, frames_joined, has_back, has_first, has_second, of_back, ready_joined, tied_joined}
-use Rattle.net_groups.proofs.Regrouped.{OwnsWire, Regrouped, fed_same, regrouped_ready, regrouped_stands}
+use Rattle.net_groups.proofs.Regrouped.{IsUnsent, OwnsWire, Regrouped, fed_same, regrouped_ready, regrouped_stands}
+use Rattle.net_groups.proofs.Sending.{into_sends}
 use Rattle.net_groups.proofs.Wiring.{IsOf}
 
 -- where nothing is at each place, nothing is there
@@ -40,7 +40,7 @@ all_empty [] each = tt
 all_empty (cs ∷ css) each = (each 0 (omega arith), all_empty css (λ port within. each (suc port) (omega (arith, within))))
 
 module _ {S E I O L : Type 0} {s : sources.Ghosts S} {e : elements.Ghosts E} {i : inlets.Ghosts I L O} {o : outlets.Ghosts O L} (tasks tasks' : List (Task S E I O L s e i o)) (from to : ℕ) (ne : from ≢ to)
-    (merged : IsMerged tasks tasks' from to) (element : ℕ) (fed : FedAt tasks from element) (bare : IsBare fed.head) where
+    (merged : IsMerged tasks tasks' from to) (element : ℕ) (fed : FedAt tasks from element) (unsent : IsUnsent tasks element) where
   abbrev gave : Task S E I O L s e i o
   gave = merged.gave
 
@@ -158,9 +158,9 @@ module _ {S E I O L : Type 0} {s : sources.Ghosts S} {e : elements.Ghosts E} {i 
     kept = λ x head w. kept head (fed_on x head w);
   }
     where
-      kept : (head : InletHead I) → ((k : ℕ) × IsFed tasks' k head) ⊎ (fed.head ≡ head) → ((k : ℕ) × IsFed tasks' k head) ⊎ IsBare head
+      kept : (head : InletHead I) → ((k : ℕ) × IsFed tasks' k head) ⊎ (fed.head ≡ head) → ((k : ℕ) × IsFed tasks' k head) ⊎ IsUnsent tasks head.number
       kept head (inl z) = inl z
-      kept head (inr same) = inr (subst (λ (h : InletHead I). IsBare h) same bare)
+      kept head (inr same) = inr (subst (λ (n : ℕ). IsUnsent tasks n) (sym fed.number ∙ ap (λ (h : InletHead I). h.number) same) unsent)
 
   module _ (apart : (head : InletHead I) → IsFed tasks to head → (wire : Wire) → HasWire tasks from wire → (lane port at : ℕ) → wire.leads ≢ over lane head.number port at) where
     ready_each : (tells : Option (List Lane)) → AreWired tasks → ((k : ℕ) (task : Task S E I O L s e i o) → slice_get tasks k ≡ Some task → IsReady tells task)
@@ -178,8 +178,8 @@ module _ {S E I O L : Type 0} {s : sources.Ghosts S} {e : elements.Ghosts E} {i 
     pub merged_ready : (tells : Option (List Lane)) → NetReady tasks tells → NetReady tasks' tells
     merged_ready tells n = regrouped_ready tasks tasks' (regrouped n.wired) tells (ready_each tells n.wired n.ready) n
 
-    pub merged_stands : (m : Moment) (tells : Option (List Lane)) → NetStands m tasks tells → NetStands m tasks' tells
-    merged_stands m tells n = regrouped_stands tasks tasks' (regrouped n.wired) m tells n tied (ready_each tells n.wired n.ready) rows each others
+    pub merged_stands : IsBare fed.head → (m : Moment) (tells : Option (List Lane)) → NetStands m tasks tells → NetStands m tasks' tells
+    merged_stands bare m tells n = regrouped_stands tasks tasks' (regrouped n.wired) m tells n tied (ready_each tells n.wired n.ready) rows each others
       where
         made : Ties is m
         made = subst (λ (h : Head S I O s). AreTied i o (Stands m) nothing_lost m h is.parts.items) (sym merged.head) (subst (λ (ps : List (Part E O e)). AreTied i o (Stands m) nothing_lost m was.head ps) (sym merged.parts)
@@ -218,10 +218,19 @@ module _ {S E I O L : Type 0} {s : sources.Ghosts S} {e : elements.Ghosts E} {i 
                 by head (inl z) = none z.0 head z.1
                 by head (inr same) = λ number. else (ap (λ (h : InletHead I). h.number) same ∙ number)
 
-module _ {S E I O L : Type 0} {s : sources.Ghosts S} {e : elements.Ghosts E} {i : inlets.Ghosts I L O} {o : outlets.Ghosts O L} (tasks tasks' : List (Task S E I O L s e i o)) (pad element : ℕ) (j : IsJoined tasks tasks' pad element)
-    (unfed : IsUnfed tasks element) (apart : IsApart tasks pad element) where
-  pub joined_ready : (tells : Option (List Lane)) → NetReady tasks tells → NetReady tasks' tells
-  joined_ready = merged_ready tasks tasks' j.from j.to j.apart j.merged element j.fed (unfed j.from j.fed) (λ head fed wire has lane port at. apart j.from j.to head j.fed j.has fed j.apart wire has lane port at)
+module _ {S E I O L : Type 0} {s : sources.Ghosts S} {e : elements.Ghosts E} {i : inlets.Ghosts I L O} {o : outlets.Ghosts O L} (tasks tasks' : List (Task S E I O L s e i o)) (pad element from to : ℕ)
+    (can : CanJoinAt tasks pad element from to) (merged : IsMerged tasks tasks' from to) where
+  pub joins : IsJoined tasks tasks' pad element
+  joins = record { from = from; to = to; apart = can.two; fed = can.fed; has = can.has; merged = merged }
 
-  pub joined_stands : (m : Moment) (tells : Option (List Lane)) → NetStands m tasks tells → NetStands m tasks' tells
-  joined_stands = merged_stands tasks tasks' j.from j.to j.apart j.merged element j.fed (unfed j.from j.fed) (λ head fed wire has lane port at. apart j.from j.to head j.fed j.has fed j.apart wire has lane port at)
+  unsent : IsUnsent tasks element
+  unsent k p place at port x = can.unsent k (into_sends tasks k p place at element port x)
+
+  apart : (head : InletHead I) → IsFed tasks to head → (wire : Wire) → HasWire tasks from wire → (lane port at : ℕ) → wire.leads ≢ over lane head.number port at
+  apart head fed wire has lane port at leads = can.between head fed (record { task = has.task; at = has.at; sends = record { wire = wire; is = has.is; lane = lane; port = port; from = at; leads = leads } })
+
+  pub joined_ready : (tells : Option (List Lane)) → NetReady tasks tells → NetReady tasks' tells
+  joined_ready = merged_ready tasks tasks' from to can.two merged element can.fed unsent apart
+
+  pub joined_stands : (m : Moment) (tells : Option (List Lane)) → NetStands m tasks tells → IsUnfed tasks element → NetStands m tasks' tells
+  joined_stands m tells stands unfed = merged_stands tasks tasks' from to can.two merged element can.fed unsent apart (unfed from can.fed) m tells stands

@@ -1,5 +1,5 @@
 -- The elements of one task come into another: what the one task is that they make.
-use Rattle.std.proofs.Common.{◌≡◌, ◌≢◌, ◌⊎◌, ◌<◌, ◌+◌, ◌++◌, ◌&&◌, ℕ, Bool, true, List, [], ◌∷◌, length, map, Option, Some, refl, sym, ap, ◌∙◌, subst, inl, inr, arith}
+use Rattle.std.proofs.Common.{◌≡◌, ◌≢◌, ◌⊎◌, ◌<◌, ◌+◌, ◌++◌, ℕ, List, length, map, Option, Some, refl, sym, ap, ◌∙◌, subst, inl, inr}
 use Rattle.std.specs.Prelude.{slice_get}
 use Rattle.std.proofs.lemmas.List.{map-append}
 use Rattle.std.proofs.lemmas.Bool.{cases_eq}
@@ -21,14 +21,12 @@ use Rattle.task_parts.specs.declared.head.InletHead.{InletHead}
 use Rattle.task_parts.specs.declared.part.Part.{Part}
 use Rattle.task_parts.specs.Part.{PartReady}
 use Rattle.net_task.specs.declared.task.Task.{Task}
-use Rattle.net_task.specs.Frame.{HeadFrame, by_source, by_inlets, PartFrame, TaskFrame, Wire, IsWire, WireAt, frame_in, frame_of, head_frame, head_wire, part_frame, of_part as wire_part, of_head as wire_head, wire_of}
-use Rattle.net_task.specs.Ready.{AreReady, EndsWith, HeadApart, IsReady, LeadsInto, NoneFrom, PartsReady, RowsApart, WiresApart}
-use Rattle.net_task.specs.Ties.{AreOnce, AreTied, HeadTied, NoneIs, NoneLeads, PartTied, PartsTied, Stands, Ties, nothing_lost}
-use Rattle.net_turns.specs.Net.{AreWired, HasElement, HasRow, IsFed, Owns, SendsInto, part as has_part, source as has_source}
+use Rattle.net_task.specs.Frame.{by_source, by_inlets, PartFrame, TaskFrame, Wire, IsWire, WireAt, frame_in, frame_of, head_frame, head_wire, part_frame, of_part as wire_part, of_head as wire_head, wire_of}
+use Rattle.net_task.specs.Ready.{AreReady, EndsWith, HeadApart, IsReady, LeadsInto, NoneFrom, WiresApart}
+use Rattle.net_task.specs.Ties.{AreOnce, AreTied, HeadTied, PartTied, Stands, Ties, nothing_lost}
+use Rattle.net_turns.specs.Net.{AreWired, HasElement, HasRow, IsFed, SendsInto, part as has_part, source as has_source}
 use Rattle.net_turns.proofs.Facts.{fed_owned}
-use Rattle.gst_value.proofs.Basics.{none_some, some_same}
-use Rattle.gst_value.proofs.Places.{map_get, map_got}
-use Rattle.net_groups.specs.Places.{FedAt, HasWire, PadOf}
+use Rattle.net_groups.specs.Places.{HasWire}
 use Rattle.net_groups.proofs.Lists.{append_back, append_first, append_second}
 use Rattle.net_groups.proofs.Regrouped.{fed_same}
 use Rattle.net_groups.proofs.Wiring.{IsOf, LeadsOver, for_last, inside_part, leads_over, of_part, of_source, part_has}

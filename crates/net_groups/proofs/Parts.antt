@@ -1,5 +1,5 @@
 -- That the two tasks into which one is split name their own elements alone.
-use Rattle.std.proofs.Common.{◌≡◌, ◌≢◌, ◌⊎◌, ◌&&◌, ◌||◌, ℕ, zero, suc, Bool, true, false, eqb, List, [], ◌∷◌, length, map, Some, refl, sym, ap, ◌∙◌, subst, inl, inr}
+use Rattle.std.proofs.Common.{◌≡◌, ◌⊎◌, ℕ, zero, suc, Bool, true, false, eqb, List, [], ◌∷◌, length, map, Some, refl, sym, ap, ◌∙◌, subst, inl, inr}
 use Rattle.std.specs.Prelude.{slice_get}
 use Rattle.lane_core.specs.declared.ends.Inlet as inlets
 use Rattle.lane_core.specs.declared.ends.Outlet as outlets
@@ -14,15 +14,14 @@ use Rattle.task_parts.specs.declared.head.Head.TheVariants.{Source, Inlets}
 use Rattle.task_parts.specs.declared.part.Part.{Part}
 use Rattle.task_parts.specs.Shape.{PartShape, all_within, goes_within, has_number, head_shape, head_within, is_closed, pads_within, part_shape, shape_of}
 use Rattle.task_parts.proofs.Tries.{named_in}
-use Rattle.net_task.specs.Frame.{WireAt, of_part as wire_part, of_head as wire_head, frame_in, head_frame, head_wire, part_frame, wire_of}
-use Rattle.gst_value.proofs.Basics.{and_both, and_left, and_right, number_itself, or_first, or_second, some_same}
-use Rattle.gst_value.proofs.Places.{map_get}
-use Rattle.net_groups.specs.Behind.{AreParted, IsBehind, itself, further, IsTree, TellBehind, flagged, unflagged}
+use Rattle.net_task.specs.Frame.{of_part as wire_part, of_head as wire_head, frame_in, head_frame, head_wire, wire_of}
+use Rattle.gst_value.proofs.Basics.{and_both, and_left, number_itself, or_first, or_second, some_same}
+use Rattle.net_groups.specs.Behind.{AreParted, IsBehind, itself, further, IsEntered, at_other, at_source, TellBehind, flagged, unflagged}
 use Rattle.net_groups.specs.Behind.{HasFlagAt}
 use Rattle.net_groups.specs.Places.{PartIs}
 use Rattle.net_groups.specs.Splits.{CanPart, IsPartedAt, IsSplitAt, number_in}
 use Rattle.net_groups.proofs.Flags.{dealt, flag_of}
-use Rattle.net_groups.proofs.Wiring.{PartOf, inside_part, number_part}
+use Rattle.net_groups.proofs.Wiring.{PartOf, inside_part, number_part, pad_wire}
 use Rattle.net_groups.proofs.Within.{IsOne, gone_within, kept_within, parted_on, place_in, within_at}
 
 goes_if : (all : List PartShape) (g : Goes) → ((n port : ℕ) → g ≡ inside n port → has_number n all ≡ true) → goes_within all g ≡ true
@@ -68,22 +67,15 @@ module _ {S E I O L : Type 0} {s : sources.Ghosts S} {e : elements.Ghosts E} (o 
       go q (inl flag) = never q.place (record { part = q.part; at = q.at; flag = flag; number = q.number })
       go q (inr flag) = tell.others q.place q.part q.at flag (subst (λ (n : ℕ). IsBehind parts element n) (sym q.number) behind)
 
-  module _ (tree : IsTree (frame_in o head parts) element) (never : IsBehind parts element (number_in head) → ⊥) where
-    pad_at : (j k : ℕ) (part : Part E O e) (pad : Pad O) → slice_get parts j ≡ Some part → slice_get part.pads.items k ≡ Some pad → WireAt (frame_in o head parts) j k (wire_of o pad)
-    pad_at j k part pad at at' = record { part = part_frame o part; at = map_get (part_frame o) parts j part at; pad_at = map_get (wire_of o) part.pads.items k pad at' }
-
+  module _ (free : IsEntered (frame_in o head parts) parts element → ⊥) (never : IsBehind parts element (number_in head) → ⊥) where
     -- a pad of an element that stays leads to none that goes
     stays_out : (j k port : ℕ) (part : Part E O e) (pad : Pad O) → slice_get parts j ≡ Some part → slice_get part.pads.items k ≡ Some pad → (IsBehind parts element part.number → ⊥) → (n : ℕ) → goes_of pad ≡ inside n port → IsBehind parts element n → ⊥
-    stays_out j k port part pad at at' never n leads itself = tree.unfed (wire_of o pad) port (wire_part j k (pad_at j k part pad at at')) leads
-    stays_out j k port part pad at at' never n leads (further m next b step) =
-        let z = tree.once j k step.place step.port n port step.lead.sink (wire_of o pad) (wire_of o step.lead.pad) (pad_at j k part pad at at') (pad_at step.place step.port step.part step.lead.pad step.at step.lead.at) leads step.lead.leads in
-        let same : step.part ≡ part = some_same (sym step.at ∙ ap (λ (x : ℕ). slice_get parts x) (sym z.0) ∙ at) in
-        never (subst (λ (x : ℕ). IsBehind parts element x) (sym step.number ∙ ap (λ (q : Part E O e). q.number) same) b)
+    stays_out j k port part pad at at' other n leads behind =
+        let w = pad_wire o head parts j k part pad at at' in
+        free (record { wire = wire_of o pad; is = wire_part j k w; to = n; port = port; leads = leads; behind = behind; from = inr (at_other j k w other) })
 
     source_out : (port : ℕ) (pad : Pad O) → head_wire (head_frame o head) ≡ Some (wire_of o pad) → (n : ℕ) → goes_of pad ≡ inside n port → IsBehind parts element n → ⊥
-    source_out port pad is n leads itself = tree.unfed (wire_of o pad) port (wire_head is) leads
-    source_out port pad is n leads (further m next b step) =
-        tree.source step.place step.port n step.lead.sink port (wire_of o step.lead.pad) (wire_of o pad) (pad_at step.place step.port step.part step.lead.pad step.at step.lead.at) is step.lead.leads leads
+    source_out port pad is n leads behind = free (record { wire = wire_of o pad; is = wire_head is; to = n; port = port; leads = leads; behind = behind; from = inr (at_source is) })
 
     kept_has : (n : ℕ) → PartOf parts n → (IsBehind parts element n → ⊥) → has_number n (map part_shape (unflagged flags parts)) ≡ true
     kept_has n q other = go (parted_on told_parts q.place q.part q.at)

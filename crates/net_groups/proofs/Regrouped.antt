@@ -1,5 +1,5 @@
 -- Tasks whose elements are grouped anew: they are wired as they were, and stand at the moment at which they stood.
-use Rattle.std.proofs.Common.{◌≡◌, ◌≢◌, ◌⊎◌, ◌++◌, ℕ, List, [], ◌∷◌, length, Option, Some, refl, sym, ap, ◌∙◌, subst, inl, inr}
+use Rattle.std.proofs.Common.{◌≡◌, ◌≢◌, ◌⊎◌, ℕ, List, length, Option, Some, sym, ap, ◌∙◌, subst, inl, inr}
 use Rattle.std.specs.Prelude.{slice_get}
 use Rattle.lane_core.specs.Lane.{Lane}
 use Rattle.lane_core.specs.declared.ends.Inlet as inlets
@@ -21,7 +21,7 @@ use Rattle.net_task.specs.Ties.{Ties}
 use Rattle.net_turns.specs.Net.{AreWired, HasRow, IsFed, NetReady, NetStands, Owns, RowStands, SendsInto}
 use Rattle.net_turns.proofs.Facts.{row_owned, same_task}
 use Rattle.net_groups.specs.Places.{IsBare}
-use Rattle.net_groups.proofs.Wiring.{IsOf, for_all, has_one, is_wire, named, not_bare, one_leads}
+use Rattle.net_groups.proofs.Wiring.{IsOf, for_all, has_one, is_wire, named, one_leads}
 
 module _ {S E I O L : Type 0} {s : sources.Ghosts S} {e : elements.Ghosts E} {i : inlets.Ghosts I L O} {o : outlets.Ghosts O L} where
   -- a pad of an element of the task at a place leads there
@@ -38,13 +38,18 @@ module _ {S E I O L : Type 0} {s : sources.Ghosts S} {e : elements.Ghosts E} {i 
       inlets_of fed (Source head) = fed
       inlets_of fed (Inlets head) = head
 
-  -- Each element, each pad with where it leads, and each row is in exactly one task as it was; a row that is new or gone has nothing.
+  -- no pad of the tasks leads into a lane to an element
+  abbrev pub IsUnsent : List (Task S E I O L s e i o) → ℕ → Type 0
+  IsUnsent tasks n = (k p place from port : ℕ) → SendsInto tasks k p place from n port → ⊥
+
+  -- Each element, each pad with where it leads, and each row is in exactly one task as it was; but a row that is new has nothing, and to one
+  -- that is gone no lane leads.
   pub record Regrouped (tasks tasks' : List (Task S E I O L s e i o)) : Type 0 where
     pub once : (k j n : ℕ) → Owns tasks' k n → Owns tasks' j n → k ≡ j
     pub owned : (k n : ℕ) → Owns tasks k n → (j : ℕ) × Owns tasks' j n
     pub wires : (k n : ℕ) (wire : Wire) → OwnsWire tasks' k n wire → (j : ℕ) × OwnsWire tasks j n wire
     pub fed : (k : ℕ) (head : InletHead I) → IsFed tasks' k head → ((j : ℕ) × IsFed tasks j head) ⊎ IsBare head
-    pub kept : (k : ℕ) (head : InletHead I) → IsFed tasks k head → ((j : ℕ) × IsFed tasks' j head) ⊎ IsBare head
+    pub kept : (k : ℕ) (head : InletHead I) → IsFed tasks k head → ((j : ℕ) × IsFed tasks' j head) ⊎ IsUnsent tasks head.number
 
   module _ (tasks tasks' : List (Task S E I O L s e i o)) (r : Regrouped tasks tasks') where
     -- a lane into which a pad leads now, and from which task it led there
@@ -105,9 +110,9 @@ module _ {S E I O L : Type 0} {s : sources.Ghosts S} {e : elements.Ghosts E} {i 
           let z = w.paired a.old p place from n port a.sends in
           go z.0 z.1 z.2 z.3 (r.kept z.0 z.2.head z.2.fed)
         where
-          go : (a : ℕ) (row : InletRow I) (has : HasRow tasks a n port row) → EndsWith i row place → ((j : ℕ) × IsFed tasks' j has.head) ⊎ IsBare has.head → (a : ℕ) × (row : InletRow I) × HasRow tasks' a n port row × EndsWith i row place
-          go a row has ends (inl b) = (b.0, row, record { head = has.head; fed = b.1; number = has.number; at = has.at }, ends)
-          go a row has ends (inr bare) = absurd (not_bare ends.front _ (sym (bare port row has.at) ∙ ends.whole))
+          go : (b : ℕ) (row : InletRow I) (has : HasRow tasks b n port row) → EndsWith i row place → ((j : ℕ) × IsFed tasks' j has.head) ⊎ IsUnsent tasks has.head.number → (a : ℕ) × (row : InletRow I) × HasRow tasks' a n port row × EndsWith i row place
+          go b row has ends (inl y) = (y.0, row, record { head = has.head; fed = y.1; number = has.number; at = has.at }, ends)
+          go b row has ends (inr unsent) = let a = sent_from k p place from n port x in absurd (unsent a.old p place from port (subst (λ (m : ℕ). SendsInto tasks a.old p place from m port) (sym has.number) a.sends))
 
       pub wired_again : AreWired tasks'
       wired_again = record { once = r.once; one_sends = one_sends; one_takes = one_takes; paired = paired }

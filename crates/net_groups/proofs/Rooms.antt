@@ -1,9 +1,7 @@
 -- Room to split a task, and what goes out of it.
-use Rattle.std.proofs.Common.{◌≡◌, ◌⊎◌, ◌<◌, ◌≤◌, ◌+◌, ℕ, List, [], length, Some, sym, ap, ◌∙◌, subst, inl, inr, arith, vec_len, vec_capacity}
-use Rattle.std.specs.Prelude.{slice_get, Result, Ok, Err, IfOk}
-use Rattle.std.proofs.lemmas.Bool.{cases_eq}
+use Rattle.std.proofs.Common.{◌≡◌, ◌≢◌, ◌⊎◌, ◌<◌, ◌≤◌, ℕ, List, length, refl, sym, ◌∙◌, subst, inl, inr, arith, vec_len}
+use Rattle.std.specs.Prelude.{Result, Ok, Err, IfOk}
 use Rattle.std.proofs.lemmas.Option.{slice_get_within}
-use Rattle.lane_core.specs.Lane.{Lane}
 use Rattle.lane_core.specs.declared.ends.Inlet as inlets
 use Rattle.lane_core.specs.declared.ends.Outlet as outlets
 use Rattle.net_model.specs.Moment.{Moment}
@@ -11,12 +9,13 @@ use Rattle.net_model.specs.declared.element.TaskElement as elements
 use Rattle.net_model.specs.declared.source.TaskSource as sources
 use Rattle.task_parts.specs.declared.part.Part.{Part}
 use Rattle.net_task.specs.declared.task.Task.{Task}
-use Rattle.net_task.specs.Frame.{frame_of}
+use Rattle.task_pads.specs.Behind.{inside}
+use Rattle.net_task.specs.Frame.{IsWire, Wire, frame_of}
 use Rattle.net_turns.specs.Net.{NetReady, NetStands}
 use Rattle.gst_value.proofs.Basics.{some_same}
-use Rattle.net_groups.specs.Behind.{AreParted, IsBehind, IsTree, flagged, unflagged}
-use Rattle.net_groups.specs.Places.{IsPartOf, PartIs}
-use Rattle.net_groups.specs.Splits.{AreParting, CanPart, CanPartAt, HasRoomAt, HasRoomBeside, IsPartedAt, IsRoom, IsSplit, IsSplitRoom, IsTreeIn, TookItems, number_in, pads_of}
+use Rattle.net_groups.specs.Behind.{AreParted, IsBehind, itself, IsEntered, flagged, unflagged}
+use Rattle.net_groups.specs.Places.{IsPartOf}
+use Rattle.net_groups.specs.Splits.{AreParting, CanPart, CanPartAt, CannotSplit, HasRoomAt, HasRoomBeside, IsPartedAt, IsRoom, IsSplit, IsSplitAt, IsSplitRoom, TookItems, number_in}
 use Rattle.net_groups.specs.declared.splitting.Parting.{Parting}
 use Rattle.net_groups.specs.declared.splitting.SplitRoom.{SplitRoom}
 use Rattle.net_groups.proofs.Parting.{split_ready, split_stands}
@@ -35,24 +34,14 @@ less_room room count most less r = record {
 }
 
 module _ {S E I O L : Type 0} {s : sources.Ghosts S} {e : elements.Ghosts E} {i : inlets.Ghosts I L O} {o : outlets.Ghosts O L} where
-  -- how many elements a task has at the most of which one is that of a number, of those before a place and of all
-  pub most_next : (tasks : List (Task S E I O L s e i o)) (n k : ℕ) (task : Task S E I O L s e i o) (most most' count : ℕ) → slice_get tasks k ≡ Some task → ((place : ℕ) → PartIs task.parts.items n place → length task.parts.items ≤ count) → most ≤ most' → count ≤ most'
-      → ((j : ℕ) → j < k → (p : IsPartOf tasks j n) → length p.task.parts.items ≤ most) → (j : ℕ) → j < k + 1 → (p : IsPartOf tasks j n) → length p.task.parts.items ≤ most'
-  most_next tasks n k task most most' count at here a b before j less p = go (cases_eq j k)
-    where
-      go : ((j ≡ k) ⊎ (j ≡ k → ⊥)) → length p.task.parts.items ≤ most'
-      go (inl same) =
-          let is : task ≡ p.task = some_same (sym at ∙ ap (λ (x : ℕ). slice_get tasks x) (sym same) ∙ p.at) in
-          let few = subst (λ (t : Task S E I O L s e i o). ((place : ℕ) → PartIs t.parts.items n place → length t.parts.items ≤ count)) is here p.place p.is in
-          omega (arith, few, b)
-      go (inr other) = let few = before j (omega (arith, less, other)) p in omega (arith, few, a)
-
-  pub most_all : (tasks : List (Task S E I O L s e i o)) (n k most : ℕ) → length tasks ≤ k → ((j : ℕ) → j < k → (p : IsPartOf tasks j n) → length p.task.parts.items ≤ most) → (j : ℕ) (p : IsPartOf tasks j n) → length p.task.parts.items ≤ most
-  most_all tasks n k most all before j p = let low = slice_get_within tasks j p.task p.at in before j (omega (arith, low, all)) p
-
   pub room_all : {X : Type 0} (r : Result (SplitRoom E I O e) X) (tasks : List (Task S E I O L s e i o)) (n most : ℕ) → IfOk r (λ room. IsSplitRoom room most) → ((j : ℕ) (p : IsPartOf tasks j n) → length p.task.parts.items ≤ most) → IfOk r (HasRoomBeside tasks n)
   room_all (Ok room) tasks n most is few = λ k p. less_room room (length p.task.parts.items) most (few k p) is
   room_all (Err why) tasks n most is few = tt
+
+  -- what speaks against it, at a task that has the element
+  pub cannot_split : (tasks : List (Task S E I O L s e i o)) (element k : ℕ) (p : IsPartOf tasks k element) → IsBehind p.task.parts.items element (number_in p.task.head) ⊎ IsEntered (frame_of p.task) p.task.parts.items element → CannotSplit tasks element
+  cannot_split tasks element k p (inl named) = inr (inl (k, (p, named)))
+  cannot_split tasks element k p (inr led) = inr (inr (k, (p, led)))
 
   module _ (tasks : List (Task S E I O L s e i o)) (element : ℕ) (parting : Parting E I O e) (a : AreParting tasks element parting) where
     pub parting_within : parting.place < length tasks
@@ -61,32 +50,43 @@ module _ {S E I O L : Type 0} {s : sources.Ghosts S} {e : elements.Ghosts E} {i 
     ahead : IsBehind a.part.task.parts.items element (number_in a.part.task.head) → ⊥
     ahead = not_ahead o a.part.task.head a.part.task.parts.items parting.flags.items element a.part.place a.apart.size a.apart.tell a.part.is a.part.task.closed a.apart.ahead
 
-    pub can_part_at : IsTreeIn tasks element → CanPartAt tasks parting.place parting.flags.items element
-    can_part_at tree task at =
+    pub can_part_at : CanPartAt tasks parting.place parting.flags.items element
+    can_part_at task at =
         subst (λ (t : Task S E I O L s e i o). CanPart t.head t.parts.items parting.flags.items element) (some_same (sym a.part.at ∙ at))
-        (can_part o a.part.task.head a.part.task.parts.items parting.flags.items element a.part.place a.apart.size a.apart.tell a.part.is a.part.task.closed (tree parting.place a.part) ahead)
+        (can_part o a.part.task.head a.part.task.parts.items parting.flags.items element a.part.place a.apart.size a.apart.tell a.part.is a.part.task.closed a.apart.free ahead)
 
     pub room_at : HasRoomAt tasks parting.place parting.halves
     room_at task at = subst (λ (t : Task S E I O L s e i o). IsRoom parting.halves (length t.parts.items) (vec_len parting.halves.rows)) (some_same (sym a.part.at ∙ at)) a.room
 
-    pub split_is : (tasks' : List (Task S E I O L s e i o)) (pads : ℕ) → IsPartedAt tasks tasks' parting.place parting.flags.items element pads → IsSplit tasks tasks' element pads
-    split_is tasks' pads z =
-        let same = some_same (sym a.part.at ∙ z.at) in (
-          parting.place,
-          a.part,
-          split_told tasks tasks' parting.place element pads parting.flags.items z
-              (subst (λ (t : Task S E I O L s e i o). AreParted (λ (part : Part E O e). IsBehind t.parts.items element part.number) t.parts.items (unflagged parting.flags.items t.parts.items) (flagged parting.flags.items t.parts.items)) same
-              (told_parts o a.part.task.head a.part.task.parts.items parting.flags.items element a.part.place a.apart.size a.apart.tell a.part.is a.part.task.closed))
-              (subst (λ (t : Task S E I O L s e i o). IsBehind t.parts.items element (number_in t.head) → ⊥) same ahead),
-        )
+    module _ (tasks' : List (Task S E I O L s e i o)) (pads : ℕ) (z : IsPartedAt tasks tasks' parting.place parting.flags.items element pads) where
+      same : a.part.task ≡ z.was
+      same = some_same (sym a.part.at ∙ z.at)
 
-  -- a net of which a task was split stands, and is ready
-  module _ (tasks tasks' : List (Task S E I O L s e i o)) (element pads : ℕ) (tree : IsTreeIn tasks element) (z : IsSplit tasks tasks' element pads) where
-    tree_was : IsTree (frame_of z.2.was) element
-    tree_was = subst (λ (t : Task S E I O L s e i o). IsTree (frame_of t) element) (some_same (sym z.1.at ∙ z.2.at)) (tree z.0 z.1)
+      split_at : IsSplitAt tasks tasks' parting.place element pads
+      split_at = split_told tasks tasks' parting.place element pads parting.flags.items z
+          (subst (λ (t : Task S E I O L s e i o). AreParted (λ (part : Part E O e). IsBehind t.parts.items element part.number) t.parts.items (unflagged parting.flags.items t.parts.items) (flagged parting.flags.items t.parts.items)) same
+          (told_parts o a.part.task.head a.part.task.parts.items parting.flags.items element a.part.place a.apart.size a.apart.tell a.part.is a.part.task.closed))
+          (subst (λ (t : Task S E I O L s e i o). IsBehind t.parts.items element (number_in t.head) → ⊥) same ahead)
 
-    pub splits_stand : (m : Moment) (tells : _) → NetStands m tasks tells → TookItems m element pads → NetStands m tasks' tells
-    splits_stand m tells stands items = split_stands tasks tasks' z.0 element pads z.2 z.1 tree_was m tells stands items
+      pub split_is : IsSplit tasks tasks' element pads
+      split_is = (parting.place, a.part, split_at)
 
-    pub splits_ready : (tells : _) → NetReady tasks tells → NetReady tasks' tells
-    splits_ready tells ready = split_ready tasks tasks' z.0 element pads z.2 z.1 tree_was tells ready
+      -- no pad of the task leads to the element
+      unled : (wire : Wire) (port : ℕ) → IsWire (frame_of split_at.was) wire → wire.leads ≢ inside element port
+      unled wire port is leads =
+          a.apart.free (record {
+            wire = wire;
+            is = subst (λ (t : Task S E I O L s e i o). IsWire (frame_of t) wire) (some_same (sym split_at.at ∙ a.part.at)) is;
+            to = element;
+            port = port;
+            leads = leads;
+            behind = itself;
+            from = inl refl;
+          })
+
+      -- the net of which the task was split stands, and is ready
+      pub splits_stand : (m : Moment) (tells : _) → NetStands m tasks tells → TookItems m element pads → NetStands m tasks' tells
+      splits_stand m tells stands items = split_stands tasks tasks' parting.place element pads split_at a.part unled m tells stands items
+
+      pub splits_ready : (tells : _) → NetReady tasks tells → NetReady tasks' tells
+      splits_ready tells ready = split_ready tasks tasks' parting.place element pads split_at a.part unled tells ready

@@ -1,16 +1,15 @@
 -- What an element that nothing feeds took, and what stands in its inlets.
-use Rattle.std.proofs.Common.{◌≡◌, ◌<◌, ◌++◌, ℕ, zero, suc, true, false, Bool, List, [], ◌∷◌, length, map, take, drop, Some, refl, sym, ap, ◌∙◌, subst, arith, append-nil, append_assoc, if◌then◌else◌}
-use Rattle.std.specs.Prelude.{slice_get, flat_map, ◌-◌}
+use Rattle.std.proofs.Common.{◌≡◌, ◌<◌, ◌++◌, ℕ, zero, suc, true, false, Bool, List, [], ◌∷◌, length, map, take, drop, Some, refl, sym, ap, ◌∙◌, subst, arith, if◌then◌else◌}
+use Rattle.std.specs.Prelude.{slice_get}
 use Rattle.flow_model.specs.Item.{Item, Ev, Eos}
 use Rattle.flow_model.specs.Sticky.{stickies}
 use Rattle.flow_model.specs.Call.{Call, Feed, Mark, feeds, with_marks}
 use Rattle.flow_model.specs.Link.{Span, Linked, WasLinked, Flushed, Given, between, input_of, span_calls}
 use Rattle.net_model.specs.Split.{AreEmpty, AreSplit, none, pad}
-use Rattle.net_model.specs.Moment.{Moment}
 use Rattle.net_model.proofs.Splits.{split_all}
 use Rattle.net_task.specs.Ties.{TookAt}
 use Rattle.net_turns.specs.Net.{ListAt}
-use Rattle.net_groups.specs.Splits.{HaveNoMarks, TookItems}
+use Rattle.net_groups.specs.Splits.{HaveNoMarks}
 
 feeds_more : (xs ys : List Item) → feeds (xs ++ ys) ≡ feeds xs ++ feeds ys
 feeds_more [] ys = refl

@@ -1,15 +1,14 @@
 -- Pads of tasks with the elements that they are of, lanes into which they lead, and elements that a task names.
-use Rattle.std.proofs.Common.{◌≡◌, ◌≢◌, ◌⊎◌, ◌++◌, ◌||◌, ℕ, zero, suc, Bool, true, false, eqb, List, [], ◌∷◌, map, Option, Some, None, refl, sym, ap, ◌∙◌, subst, inl, inr}
+use Rattle.std.proofs.Common.{◌≡◌, ◌⊎◌, ◌++◌, ◌||◌, ℕ, zero, suc, Bool, true, false, eqb, List, [], ◌∷◌, map, Option, Some, refl, sym, ap, ◌∙◌, subst, inl, inr}
 use Rattle.std.specs.Prelude.{slice_get}
 use Rattle.std.proofs.lemmas.Bool.Decides.{eqb_tells}
-use Rattle.lane_core.specs.declared.ends.Inlet as inlets
 use Rattle.lane_core.specs.declared.ends.Outlet as outlets
 use Rattle.net_model.specs.declared.element.TaskElement as elements
 use Rattle.net_model.specs.declared.source.TaskSource as sources
 use Rattle.inlet_row.specs.declared.feeding.Feeding.{Feeding}
 use Rattle.inlet_row.specs.declared.feeding.Feeding.TheVariants.{Given, Lane as OfLane}
 use Rattle.inlet_row.specs.Row.{ForLanes}
-use Rattle.task_pads.specs.Behind.{Goes, inside, over, end_in, goes}
+use Rattle.task_pads.specs.Behind.{inside, over, end_in, goes}
 use Rattle.task_pads.specs.declared.pad.Behind.{Behind}
 use Rattle.task_pads.specs.declared.pad.Behind.TheVariants as behinds
 use Rattle.task_pads.specs.declared.pad.Pad.{Pad}
@@ -96,13 +95,17 @@ module _ {O L : Type 0} (o : outlets.Ghosts O L) where
   over_lane (behinds.Lane lane element pad from outlet) room at = (lane, element, pad, from, refl)
 
 module _ {S E I O L : Type 0} {s : sources.Ghosts S} {e : elements.Ghosts E} (o : outlets.Ghosts O L) where
-  a_pad : (head : Head S I O s) (parts : List (Part E O e)) (wire : Wire) → IsWire (frame_in o head parts) wire → (pad : Pad O) × (wire ≡ wire_of o pad)
+  pub a_pad : (head : Head S I O s) (parts : List (Part E O e)) (wire : Wire) → IsWire (frame_in o head parts) wire → (pad : Pad O) × (wire ≡ wire_of o pad)
   a_pad head parts wire (wire_part j k w) =
       let a = map_got (part_frame o) parts j w.part w.at in
       let b = map_got (wire_of o) a.0.pads.items k wire (ap (λ (one : PartFrame). slice_get one.wires k) (sym a.2) ∙ w.pad_at) in
       (b.0, b.2)
   a_pad (Source source) parts wire (wire_head at) = (source.pad, sym (some_same at))
   a_pad (Inlets fed) parts wire (wire_head at) = absurd (none_some at)
+
+  -- a pad of an element of a task
+  abbrev pub pad_wire : (head : Head S I O s) (parts : List (Part E O e)) (j k : ℕ) (part : Part E O e) (pad : Pad O) → slice_get parts j ≡ Some part → slice_get part.pads.items k ≡ Some pad → WireAt (frame_in o head parts) j k (wire_of o pad)
+  pad_wire head parts j k part pad at at' = record { part = part_frame o part; at = map_get (part_frame o) parts j part at; pad_at = map_get (wire_of o) part.pads.items k pad at' }
 
   -- A pad of a task that leads into a lane leads over it.
   pub leads_over : (head : Head S I O s) (parts : List (Part E O e)) (wire : Wire) (place : ℕ) → IsWire (frame_in o head parts) wire → LeadsInto wire place → LeadsOver wire

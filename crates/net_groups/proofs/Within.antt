@@ -1,5 +1,5 @@
 -- Some of the elements of a task, in their order, as a task: how they are tied and ready.
-use Rattle.std.proofs.Common.{◌≡◌, ◌≢◌, ◌⊎◌, ℕ, zero, suc, List, [], ◌∷◌, map, Option, Some, refl, sym, ap, ◌∙◌, subst, inl, inr, arith}
+use Rattle.std.proofs.Common.{◌≡◌, ◌⊎◌, ℕ, zero, suc, List, [], ◌∷◌, Option, Some, refl, sym, ap, ◌∙◌, subst, inl, inr, arith}
 use Rattle.std.specs.Prelude.{slice_get}
 use Rattle.lane_core.specs.Lane.{Lane}
 use Rattle.lane_core.specs.declared.ends.Inlet as inlets
@@ -7,19 +7,16 @@ use Rattle.lane_core.specs.declared.ends.Outlet as outlets
 use Rattle.net_model.specs.Moment.{Moment}
 use Rattle.net_model.specs.declared.element.TaskElement as elements
 use Rattle.net_model.specs.declared.source.TaskSource as sources
-use Rattle.inlet_row.specs.declared.row.InletRow.{InletRow}
 use Rattle.task_parts.specs.declared.head.Head.{Head}
 use Rattle.task_parts.specs.declared.head.Head.TheVariants.{Source, Inlets}
-use Rattle.task_parts.specs.declared.head.InletHead.{InletHead}
 use Rattle.task_parts.specs.declared.part.Part.{Part}
 use Rattle.net_task.specs.Frame.{PartFrame, Wire, WireAt, frame_in, head_frame, head_wire, part_frame}
-use Rattle.net_task.specs.Ready.{AreReady, HeadApart, LeadsInto, PartsReady, WiresApart}
-use Rattle.net_task.specs.Ties.{AreOnce, AreTied, HeadTied, NoneIs, NoneLeads, PartsTied, Stands, nothing_lost}
-use Rattle.net_turns.specs.Net.{HasElement, part as has_part, source as has_source}
+use Rattle.net_task.specs.Ready.{AreReady, HeadApart, PartsReady, WiresApart}
+use Rattle.net_task.specs.Ties.{AreTied, HeadTied, PartsTied, Stands, nothing_lost}
 use Rattle.gst_value.proofs.Basics.{some_same}
 use Rattle.gst_value.proofs.Places.{map_get, map_got}
 use Rattle.net_groups.specs.Behind.{AreParted, none, stays, goes}
-use Rattle.net_groups.proofs.Wiring.{IsOf, of_part, of_source}
+use Rattle.net_groups.proofs.Wiring.{IsOf, of_part}
 
 -- some of the items of a list, in their order, for each of which something is so
 pub data IsWithin {A : Type 0} (Q : A → Type 0) : List A → List A → Type 0 where

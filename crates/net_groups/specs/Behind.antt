@@ -1,10 +1,12 @@
 -- What stands behind an element inside of its task.
-use Rattle.std.specs.Prelude.{◌≡◌, ◌≢◌, ℕ, suc, Bool, true, false, if◌then◌else◌, List, [], ◌∷◌, Some, slice_get}
-use Rattle.lane_core.specs.declared.ends.Outlet as outlets
+use Rattle.std.specs.Prelude.{◌≡◌, ◌≢◌, ◌⊎◌, ℕ, suc, Bool, true, false, if◌then◌else◌, List, [], ◌∷◌, Some, slice_get}
 use Rattle.net_model.specs.declared.element.TaskElement as elements
+use Rattle.net_model.specs.declared.source.TaskSource as sources
 use Rattle.task_pads.specs.Behind.{inside}
 use Rattle.task_pads.specs.declared.pad.Pad.{Pad}
 use Rattle.task_pads.specs.Pads.{goes_of}
+use Rattle.task_parts.specs.declared.head.Head.{Head}
+use Rattle.task_parts.specs.declared.head.Head.TheVariants.{Source, Inlets}
 use Rattle.task_parts.specs.declared.part.Part.{Part}
 use Rattle.net_task.specs.Frame.{TaskFrame, Wire, IsWire, WireAt, head_wire}
 
@@ -51,6 +53,20 @@ module _ {E O : Type 0} {e : elements.Ghosts E} where
   abbrev pub HasFlag : List (Part E O e) → List Bool → ℕ → Type 0
   HasFlag parts flags n = (place : ℕ) × HasFlagAt parts flags n place
 
+  -- one of these pads leads inside of the task to an element with a flag
+  pub record LeadFlagged (parts : List (Part E O e)) (flags : List Bool) (pads : List (Pad O)) (port : ℕ) : Type 0 where
+    pub number : ℕ
+    pub lead : LeadTo pads number port
+    pub flag : HasFlag parts flags number
+
+  -- the element at a place has no flag, and a pad that leads to one with a flag
+  pub record OtherAt (parts : List (Part E O e)) (flags : List Bool) (place : ℕ) : Type 0 where
+    pub part : Part E O e
+    pub at : slice_get parts place ≡ Some part
+    pub flag : slice_get flags place ≡ Some false
+    pub port : ℕ
+    pub lead : LeadFlagged parts flags part.pads.items port
+
   -- the number is that of the first one, or a pad of a flagged element leads there
   pub data IsLed (parts : List (Part E O e)) (flags : List Bool) (n m : ℕ) : Type 0 where
     first : m ≡ n → IsLed parts flags n m
@@ -71,6 +87,26 @@ module _ {E O : Type 0} {e : elements.Ghosts E} where
   pub record TellBehind (parts : List (Part E O e)) (n : ℕ) (flags : List Bool) : Type 0 where
     pub behind : (place : ℕ) (part : Part E O e) → slice_get parts place ≡ Some part → slice_get flags place ≡ Some true → IsBehind parts n part.number
     pub others : (place : ℕ) (part : Part E O e) → slice_get parts place ≡ Some part → slice_get flags place ≡ Some false → IsBehind parts n part.number → ⊥
+
+-- the head is a source, and its pad leads inside of the task to an element with a flag
+abbrev pub SourceLeads : {S E I O : Type 0} {s : sources.Ghosts S} {e : elements.Ghosts E} → List (Part E O e) → List Bool → Head S I O s → Type 0
+SourceLeads parts flags (Source head) = (n : ℕ) × (sink : ℕ) × (goes_of head.pad ≡ inside n sink) × HasFlag parts flags n
+SourceLeads parts flags (Inlets head) = ⊥
+
+-- a pad is that of the source, or of an element that is not behind one
+pub data IsElsewhere {E O : Type 0} {e : elements.Ghosts E} (frame : TaskFrame) (parts : List (Part E O e)) (n : ℕ) (wire : Wire) : Type 0 where
+  at_source : head_wire frame.head ≡ Some wire → IsElsewhere frame parts n wire
+  at_other : (place port : ℕ) (w : WireAt frame place port wire) → (IsBehind parts n w.part.number → ⊥) → IsElsewhere frame parts n wire
+
+-- A pad that is elsewhere leads inside of the task to what is behind an element, or any pad leads to the element itself.
+pub record IsEntered {E O : Type 0} {e : elements.Ghosts E} (frame : TaskFrame) (parts : List (Part E O e)) (n : ℕ) : Type 0 where
+  pub wire : Wire
+  pub is : IsWire frame wire
+  pub to : ℕ
+  pub port : ℕ
+  pub leads : wire.leads ≡ inside to port
+  pub behind : IsBehind parts n to
+  pub from : (to ≡ n) ⊎ IsElsewhere frame parts n wire
 
 -- the items at places without a flag, and those at places with one
 abbrev pub unflagged : {A : Type 0} → List Bool → List A → List A

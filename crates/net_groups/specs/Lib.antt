@@ -1,4 +1,6 @@
 pub mod Places
+pub mod Lanes
 pub mod Joined
 pub mod Behind
 pub mod Splits
+pub mod Told

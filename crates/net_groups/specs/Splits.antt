@@ -17,7 +17,7 @@ use Rattle.net_task.specs.Frame.{frame_of}
 use Rattle.net_groups.specs.declared.splitting.Parting.{Parting}
 use Rattle.net_groups.specs.declared.splitting.Room.{Room}
 use Rattle.net_groups.specs.declared.splitting.SplitRoom.{SplitRoom}
-use Rattle.net_groups.specs.Behind.{AreParted, HasFlagAt, IsBehind, IsTree, TellBehind, flagged, unflagged}
+use Rattle.net_groups.specs.Behind.{AreParted, HasFlagAt, IsBehind, IsEntered, IsTree, TellBehind, flagged, unflagged}
 use Rattle.net_groups.specs.Places.{AreBare, IsBare, IsPartOf}
 
 -- no mark stands at the spans of a sink pad
@@ -88,9 +88,13 @@ module _ {S E I O L : Type 0} {s : sources.Ghosts S} {e : elements.Ghosts E} {i 
   abbrev pub NamesBehind : List (Task S E I O L s e i o) → ℕ → ℕ → Type 0
   NamesBehind tasks k element = (p : IsPartOf tasks k element) × IsBehind p.task.parts.items element (number_in p.task.head)
 
-  -- no task has the element, or its task has such a head
+  -- what is behind the element is led to from elsewhere in its task
+  abbrev pub StaysLed : List (Task S E I O L s e i o) → ℕ → ℕ → Type 0
+  StaysLed tasks k element = (p : IsPartOf tasks k element) × IsEntered (frame_of p.task) p.task.parts.items element
+
+  -- no task has the element, or its task has such a head or such a pad
   abbrev pub CannotSplit : List (Task S E I O L s e i o) → ℕ → Type 0
-  CannotSplit tasks element = ((k : ℕ) → IsPartOf tasks k element → ⊥) ⊎ ((k : ℕ) × NamesBehind tasks k element)
+  CannotSplit tasks element = ((k : ℕ) → IsPartOf tasks k element → ⊥) ⊎ ((k : ℕ) × NamesBehind tasks k element) ⊎ ((k : ℕ) × StaysLed tasks k element)
 
 -- Each element that a head and the elements without a flag name is one of them, and so it is with the elements with a flag.
 pub record CanPart {S E I O : Type 0} {s : sources.Ghosts S} {e : elements.Ghosts E} (head : Head S I O s) (parts : List (Part E O e)) (flags : List Bool) (element : ℕ) : Type 0 where
@@ -133,11 +137,12 @@ module _ {S E I O L : Type 0} {s : sources.Ghosts S} {e : elements.Ghosts E} {i 
     pub more : vec_len tasks < vec_capacity tasks
     pub beside : HasRoomBeside tasks.items element room
 
-  -- flags tell what of a task is behind an element, and what its head names is not
+  -- Flags tell what of a task is behind an element; what its head names is not, and no pad leads there from elsewhere.
   pub record TakesApart (task : Task S E I O L s e i o) (element : ℕ) (flags : List Bool) : Type 0 where
     pub size : length flags ≡ length task.parts.items
     pub tell : TellBehind task.parts.items element flags
     pub ahead : (k : ℕ) → HasFlagAt task.parts.items flags (number_in task.head) k → ⊥
+    pub free : IsEntered (frame_of task) task.parts.items element → ⊥
 
   -- so it is with a task that has the element, and there is room for its elements
   pub record AreParting (tasks : List (Task S E I O L s e i o)) (element : ℕ) (parting : Parting E I O e) : Type 0 where

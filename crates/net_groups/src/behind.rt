@@ -1,7 +1,7 @@
 //! What stands behind an element inside of its task.
 ghost use Rattle.std.specs.Prelude.{◌≡◌, ◌≢◌, ◌<◌, ◌≤◌, ◌+◌, ◌++◌, ◌∷◌, [], ℕ, true, false, None, IfSome, length, vec_len, vec_capacity, if◌then◌else◌};
 ghost use Rattle.task_pads.specs.Behind.{goes, inside};
-ghost use Rattle.net_groups.specs.Behind.{FlaggedAt, FlaggedLeads, HasFlag, HasFlagAt, IsLed, IsNext, LeadTo, NoneIsNext, NoneSet, TellBehind, flagged, unflagged};
+ghost use Rattle.net_groups.specs.Behind.{FlaggedAt, FlaggedLeads, HasFlag, HasFlagAt, IsLed, IsNext, LeadFlagged, LeadTo, NoneIsNext, NoneSet, OtherAt, TellBehind, flagged, unflagged};
 
 use lane_core::Outlet;
 use net_model::TaskElement;
@@ -94,7 +94,7 @@ fn is_led<E: TaskElement, O: Outlet>(
 }
 
 /// Whether a pad of a flagged element leads to the element of a number.
-fn flagged_lead<E: TaskElement, O: Outlet>(
+pub(crate) fn flagged_lead<E: TaskElement, O: Outlet>(
     parts: &[Part<E, O>],
     flags: &[bool],
     number: u32,
@@ -149,6 +149,72 @@ fn leads_to<O>(behind: &Behind<O>, number: u32) -> bool
 {
     match behind {
         Behind::Element { number: to, .. } => *to == number,
+        Behind::Nothing => false,
+        Behind::Lane { .. } => false,
+    }
+}
+
+/// Whether a pad of an element without a flag leads inside of the task to one with a flag.
+pub(crate) fn others_lead<E: TaskElement, O: Outlet>(parts: &[Part<E, O>], flags: &[bool]) -> bool
+    requires len { length flags.now ≡ length parts.now }
+    ensures led { result ≡ true → (place : ℕ) × OtherAt parts.now flags.now place }
+    ensures none { result ≡ false → (place : ℕ) → OtherAt parts.now flags.now place → ⊥ }
+{
+    for place in 0..parts.len() {
+        if other_leads(parts, flags, place) {
+            return true;
+        }
+    }
+    false
+}
+
+/// Whether the element at a place has no flag, and a pad of it leads inside of the task to one with a flag.
+fn other_leads<E: TaskElement, O: Outlet>(
+    parts: &[Part<E, O>],
+    flags: &[bool],
+    place: usize,
+) -> bool
+    requires len { length flags.now ≡ length parts.now }
+    requires place { place < length parts.now }
+    ensures led { result ≡ true → OtherAt parts.now flags.now place }
+    ensures none { result ≡ false → OtherAt parts.now flags.now place → ⊥ }
+{
+    if flags[place] {
+        return false;
+    }
+    lead_flagged(parts, flags, parts[place].pads())
+}
+
+/// Whether one of these pads leads inside of the task to an element with a flag.
+fn lead_flagged<E: TaskElement, O: Outlet>(
+    parts: &[Part<E, O>],
+    flags: &[bool],
+    pads: &[Pad<O>],
+) -> bool
+    requires len { length flags.now ≡ length parts.now }
+    ensures led { result ≡ true → (port : ℕ) × LeadFlagged parts.now flags.now pads.now port }
+    ensures none { result ≡ false → (port : ℕ) → LeadFlagged parts.now flags.now pads.now port → ⊥ }
+{
+    for port in 0..pads.len() {
+        if leads_flagged(parts, flags, pads[port].behind()) {
+            return true;
+        }
+    }
+    false
+}
+
+/// Whether a pad leads inside of the task to an element with a flag.
+pub(crate) fn leads_flagged<E: TaskElement, O: Outlet>(
+    parts: &[Part<E, O>],
+    flags: &[bool],
+    behind: &Behind<O>,
+) -> bool
+    requires len { length flags.now ≡ length parts.now }
+    ensures led { result ≡ true → (n : ℕ) × (sink : ℕ) × (goes behind.now ≡ inside n sink) × HasFlag parts.now flags.now n }
+    ensures none { result ≡ false → (n sink : ℕ) → goes behind.now ≡ inside n sink → HasFlag parts.now flags.now n → ⊥ }
+{
+    match behind {
+        Behind::Element { number, .. } => has_flag(parts, flags, *number),
         Behind::Nothing => false,
         Behind::Lane { .. } => false,
     }

@@ -1,11 +1,13 @@
 //! Two tasks become one.
-ghost use Rattle.std.specs.Prelude.{◌≡◌, ◌≢◌, ◌≤◌, ◌<◌, ◌+◌, ◌++◌, [], Option, List, Ok, true, false, IfOk, OnErr, length, vec_len, vec_capacity};
-ghost use Rattle.lane_core.specs.Lane.{Lane};
+ghost use Rattle.std.specs.Prelude.{◌≡◌, ◌≢◌, ◌≤◌, ◌<◌, ◌+◌, ◌++◌, [], Ok, None, true, false, IfOk, IfSome, OnErr, length, vec_len, vec_capacity};
 ghost use Rattle.net_model.specs.Moment.{Moment};
 ghost use Rattle.net_turns.specs.Net.{NetReady, NetStands};
-ghost use Rattle.net_groups.specs.Joined.{AreNotTwo, HasRoomFor, IsApart, IsJoined, IsMerged, IsUnfed, MovesUp};
+ghost use Rattle.net_groups.specs.Joined.{CanJoinAt, CannotJoin, HasRoomFor, HasRoomToJoin, IsJoined, IsMerged, IsUnfed, MovesUp};
+ghost use Rattle.net_groups.specs.Places.{FedAt, PadOf};
 
+use crate::lanes::{is_sent_to, sends_to_head};
 use crate::places::{find_fed, find_pad};
+use crate::sizes::{most_fed, most_with};
 use gst_value::OutOfMemory;
 use lane_core::{Inlet, Outlet};
 use net_model::{TaskElement, TaskSource};
@@ -13,54 +15,118 @@ use net_task::Task;
 use std::alloc::Global;
 use task_parts::Part;
 
-/// The elements of the task whose head feeds `element`, from nothing, come into the task that has the source pad of a number, before
-/// its own. Tells whether there are two such tasks; where not, all tasks stay. The task that gave its elements is no more; those behind
-/// it move up.
+/// All the room that it takes to join two tasks. It is taken before anything changes.
+#[derive(Drop)]
+pub struct JoinRoom<E: TaskElement, O> {
+    parts: Vec<Part<E, O>>,
+}
+
+/// The places of a task that gives its elements, and of that into which they come.
+#[derive(Drop)]
+struct TwoTasks {
+    from: usize,
+    to: usize,
+}
+
+/// The elements of the task whose head feeds `element` from inlets come into the task that has the source pad of a number, before its own.
+/// The task that gave them is no more, nor is anything that stood in its inlets; those behind it move up. Tells whether that was done. It
+/// is not where there are no two such tasks, where a lane leads from the first one to the element that the head of the other feeds, or where
+/// one leads to `element`; all tasks stay then.
 pub fn join<S: TaskSource, E: TaskElement, I: Inlet<Out = O>, O: Outlet<Lanes = I::Lanes>>(
     tasks: &mut Vec<Task<S, E, I, O>>,
     pad: u32,
     element: u32,
 ) -> Result<bool, OutOfMemory>
-    requires empty { IsUnfed tasks.old.items element }
-    requires apart { IsApart tasks.old.items pad element }
-    ensures stands { result ≡ Ok true → (m : Moment) (tells : _) → NetStands m tasks.old.items tells → NetStands m tasks.new.items tells }
+    ensures stands { result ≡ Ok true → (m : Moment) (tells : _) → NetStands m tasks.old.items tells → IsUnfed tasks.old.items element
+        → NetStands m tasks.new.items tells }
     ensures ready { result ≡ Ok true → (tells : _) → NetReady tasks.old.items tells → NetReady tasks.new.items tells }
     ensures joined { result ≡ Ok true → IsJoined tasks.old.items tasks.new.items pad element }
-    ensures none { result ≡ Ok false → AreNotTwo tasks.old.items pad element × (tasks.new ≡ tasks.old) }
+    ensures none { result ≡ Ok false → CannotJoin tasks.old.items pad element × (tasks.new ≡ tasks.old) }
     ensures kept { OnErr result (tasks.new.items ≡ tasks.old.items) }
 {
-    match find_fed(tasks.as_slice(), element) {
-        Some(from) => match find_pad(tasks.as_slice(), pad) {
-            Some(to) => join_at(tasks, from, to),
-            None => Ok(false),
-        },
-        None => Ok(false),
+    let alloc = *tasks.allocator();
+    let room = room_to_join(alloc, tasks.as_slice(), pad, element)?;
+    Ok(join_reserved(tasks, pad, element, room))
+}
+
+/// Takes all the memory that it takes to join two tasks: so [`join_reserved`] needs none.
+pub fn room_to_join<S: TaskSource, E: TaskElement, I: Inlet<Out = O>, O: Outlet<Lanes = I::Lanes>>(
+    alloc: Global,
+    tasks: &[Task<S, E, I, O>],
+    pad: u32,
+    element: u32,
+) -> Result<JoinRoom<E, O>, OutOfMemory>
+    ensures { IfOk result (HasRoomToJoin tasks.now pad element) }
+{
+    let parts = room(alloc, most_fed(tasks, element), most_with(tasks, pad))?;
+    Ok(JoinRoom { parts })
+}
+
+/// Does what [`join`] does, in room that was taken before. It takes no memory.
+pub fn join_reserved<S: TaskSource, E: TaskElement, I: Inlet<Out = O>, O: Outlet<Lanes = I::Lanes>>(
+    tasks: &mut Vec<Task<S, E, I, O>>,
+    pad: u32,
+    element: u32,
+    room: JoinRoom<E, O>,
+) -> bool
+    requires room { HasRoomToJoin tasks.old.items pad element room }
+    ensures stands { result ≡ true → (m : Moment) (tells : _) → NetStands m tasks.old.items tells → IsUnfed tasks.old.items element
+        → NetStands m tasks.new.items tells }
+    ensures ready { result ≡ true → (tells : _) → NetReady tasks.old.items tells → NetReady tasks.new.items tells }
+    ensures joined { result ≡ true → IsJoined tasks.old.items tasks.new.items pad element }
+    ensures none { result ≡ false → CannotJoin tasks.old.items pad element × (tasks.new ≡ tasks.old) }
+    ensures room { vec_capacity tasks.new ≡ vec_capacity tasks.old }
+{
+    match to_join(tasks.as_slice(), pad, element) {
+        Some(two) => {
+            merge(tasks, two.from, two.to, room.parts);
+            true
+        }
+        None => false,
     }
 }
 
-/// The elements of the task at one place come into that at another. Tells whether these are two.
-fn join_at<S: TaskSource, E: TaskElement, I: Inlet<Out = O>, O: Outlet<Lanes = I::Lanes>>(
-    tasks: &mut Vec<Task<S, E, I, O>>,
+/// The places of the two tasks that can become one. None where something speaks against it.
+fn to_join<S: TaskSource, E: TaskElement, I: Inlet<Out = O>, O: Outlet<Lanes = I::Lanes>>(
+    tasks: &[Task<S, E, I, O>],
+    pad: u32,
+    element: u32,
+) -> Option<TwoTasks>
+    ensures two { IfSome result (λ two. CanJoinAt tasks.now pad element two.from two.to) }
+    ensures none { result ≡ None → CannotJoin tasks.now pad element }
+{
+    match find_fed(tasks, element) {
+        Some(from) => match find_pad(tasks, pad) {
+            Some(to) => to_join_at(tasks, from, to, pad, element),
+            None => None,
+        },
+        None => None,
+    }
+}
+
+/// The places, where two tasks stand there and no lane speaks against it.
+fn to_join_at<S: TaskSource, E: TaskElement, I: Inlet<Out = O>, O: Outlet<Lanes = I::Lanes>>(
+    tasks: &[Task<S, E, I, O>],
     from: usize,
     to: usize,
-) -> Result<bool, OutOfMemory>
-    requires from { from < vec_len tasks.old }
-    requires to { to < vec_len tasks.old }
-    ensures merged { result ≡ Ok true → (from ≢ to) × IsMerged tasks.old.items tasks.new.items from to }
-    ensures none { result ≡ Ok false → (from ≡ to) × (tasks.new ≡ tasks.old) }
-    ensures kept { OnErr result (tasks.new.items ≡ tasks.old.items) }
+    pad: u32,
+    element: u32,
+) -> Option<TwoTasks>
+    requires fed { FedAt tasks.now from element }
+    requires has { PadOf tasks.now to pad }
+    ensures two { IfSome result (λ two. CanJoinAt tasks.now pad element two.from two.to) }
+    ensures none { result ≡ None → CannotJoin tasks.now pad element }
 {
     if from == to {
-        return Ok(false);
+        return None;
     }
-    let alloc = *tasks.allocator();
-    match room(alloc, tasks[from].parts().len(), tasks[to].parts().len()) {
-        Ok(parts) => {
-            merge(tasks, from, to, parts);
-            Ok(true)
-        }
-        Err(wanting) => Err(wanting),
+    if sends_to_head(&tasks[from], tasks[to].head()) {
+        return None;
     }
+    if is_sent_to(tasks, element) {
+        return None;
+    }
+    Some(TwoTasks { from, to })
 }
 
 /// Room for two numbers of things.
@@ -86,7 +152,8 @@ fn merge<S: TaskSource, E: TaskElement, I: Inlet<Out = O>, O: Outlet<Lanes = I::
     requires apart { from ≢ to }
     requires empty { parts.items ≡ [] }
     requires room { HasRoomFor tasks.old.items from to (vec_capacity parts) }
-    ensures { IsMerged tasks.old.items tasks.new.items from to }
+    ensures merged { IsMerged tasks.old.items tasks.new.items from to }
+    ensures room { vec_capacity tasks.new ≡ vec_capacity tasks.old }
 {
     let gave = tasks.remove(from);
     let to = place_without(from, to);

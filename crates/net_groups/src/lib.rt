@@ -4,8 +4,11 @@
 
 mod behind;
 pub mod joining;
+mod lanes;
+pub mod laws;
 mod places;
+mod sizes;
 pub mod splitting;
 
-pub use joining::join;
+pub use joining::{JoinRoom, join, join_reserved, room_to_join};
 pub use splitting::{SplitRoom, room_to_split, split, split_reserved};

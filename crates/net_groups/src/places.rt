@@ -77,10 +77,12 @@ pub(crate) fn has_part<E: TaskElement, O: Outlet>(parts: &[Part<E, O>], number: 
 }
 
 /// Whether one of the source pads of a task has this number.
-fn has_pad<S: TaskSource, E: TaskElement, I: Inlet<Out = O>, O: Outlet<Lanes = I::Lanes>>(
-    task: &Task<S, E, I, O>,
-    pad: u32,
-) -> bool
+pub(crate) fn has_pad<
+    S: TaskSource,
+    E: TaskElement,
+    I: Inlet<Out = O>,
+    O: Outlet<Lanes = I::Lanes>,
+>(task: &Task<S, E, I, O>, pad: u32) -> bool
     ensures there { result ≡ true → HasPad (frame_of task.now) pad }
     ensures none { result ≡ false → HasNoPad (frame_of task.now) pad }
 {

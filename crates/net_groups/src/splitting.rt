@@ -1,13 +1,15 @@
 //! A task becomes two.
-ghost use Rattle.std.specs.Prelude.{◌≡◌, ◌≤◌, ◌<◌, ℕ, Ok, None, true, false, IfOk, IfSome, OnOk, OnErr, [], length, vec_len, vec_capacity};
+ghost use Rattle.std.specs.Prelude.{◌≡◌, ◌≤◌, ◌<◌, ◌⊎◌, ℕ, Ok, None, true, false, IfOk, IfSome, OnOk, OnErr, [], length, vec_len, vec_capacity};
 ghost use Rattle.net_model.specs.Moment.{Moment};
 ghost use Rattle.net_turns.specs.Net.{NetReady, NetStands};
-ghost use Rattle.net_groups.specs.Behind.{IsBehind};
-ghost use Rattle.net_groups.specs.Places.{AreBare, IsPartOf, PartIs};
-ghost use Rattle.net_groups.specs.Splits.{AreParting, CanPart, CanPartAt, CannotSplit, HasRoomAt, HasRoomBeside, HasRoomToSplit, IsParted, IsPartedAt, IsRoom, IsSplit, IsSplitRoom, IsTreeIn, TakesApart, TookItems, number_in, pads_of};
+ghost use Rattle.net_task.specs.Frame.{frame_of};
+ghost use Rattle.net_groups.specs.Behind.{IsBehind, IsEntered, SourceLeads, TellBehind};
+ghost use Rattle.net_groups.specs.Places.{AreBare, IsPartOf};
+ghost use Rattle.net_groups.specs.Splits.{AreParting, CanPart, CanPartAt, CannotSplit, HasRoomAt, HasRoomBeside, HasRoomToSplit, IsParted, IsPartedAt, IsRoom, IsSplit, IsSplitRoom, TakesApart, TookItems, number_in, pads_of};
 
-use crate::behind::{behind, deal, has_flag};
-use crate::places::{find_part, has_part};
+use crate::behind::{behind, deal, flagged_lead, has_flag, leads_flagged, others_lead};
+use crate::places::find_part;
+use crate::sizes::most_beside;
 use gst_value::OutOfMemory;
 use inlet_row::InletRow;
 use lane_core::{Inlet, Outlet};
@@ -41,14 +43,14 @@ struct Parting<E: TaskElement, I, O> {
 
 /// Takes an element to which no pad of its task leads, and all that stand behind it inside of the task, out of the task: they become a
 /// task of their own, behind all others. Its head is that element with an empty row for each of its `pads` sink pads: nothing feeds it.
-/// Tells whether the element is one of a task and not what its head feeds already; where not, all tasks stay.
+/// Tells whether that was done. It is not where no task has the element, where its head feeds it already, or where a pad of the task still
+/// leads to what would go out of it, from what stays or back to the element itself; all tasks stay then.
 pub fn split<S: TaskSource, E: TaskElement, I: Inlet<Out = O>, O: Outlet<Lanes = I::Lanes>>(
     alloc: Global,
     tasks: &mut Vec<Task<S, E, I, O>>,
     element: u32,
     pads: usize,
 ) -> Result<bool, OutOfMemory>
-    requires tree { IsTreeIn tasks.old.items element }
     ensures stands { result ≡ Ok true → (m : Moment) (tells : _) → NetStands m tasks.old.items tells → TookItems m element pads
         → NetStands m tasks.new.items tells }
     ensures ready { result ≡ Ok true → (tells : _) → NetReady tasks.old.items tells → NetReady tasks.new.items tells }
@@ -86,13 +88,13 @@ pub fn split_reserved<
     I: Inlet<Out = O>,
     O: Outlet<Lanes = I::Lanes>,
 >(tasks: &mut Vec<Task<S, E, I, O>>, element: u32, room: SplitRoom<E, I, O>) -> bool
-    requires tree { IsTreeIn tasks.old.items element }
     requires room { HasRoomToSplit tasks.old element room }
     ensures stands { result ≡ true → (m : Moment) (tells : _) → NetStands m tasks.old.items tells → TookItems m element (pads_of room)
         → NetStands m tasks.new.items tells }
     ensures ready { result ≡ true → (tells : _) → NetReady tasks.old.items tells → NetReady tasks.new.items tells }
     ensures split { result ≡ true → IsSplit tasks.old.items tasks.new.items element (pads_of room) }
     ensures none { result ≡ false → CannotSplit tasks.old.items element × (tasks.new ≡ tasks.old) }
+    ensures room { vec_capacity tasks.new ≡ vec_capacity tasks.old }
 {
     match to_part(tasks.as_slice(), element, room) {
         Some(parting) => {
@@ -130,45 +132,8 @@ fn split_room<E: TaskElement, I: Inlet, O: Outlet>(
     Ok(SplitRoom { flags, halves })
 }
 
-/// How many elements there are at the most in a task of which that of a number is one.
-fn most_beside<S: TaskSource, E: TaskElement, I: Inlet<Out = O>, O: Outlet<Lanes = I::Lanes>>(
-    tasks: &[Task<S, E, I, O>],
-    element: u32,
-) -> usize
-    ensures { (k : ℕ) (p : IsPartOf tasks.now k element) → length p.task.parts.items ≤ result }
-{
-    let mut most = 0;
-    for place in 0..tasks.len() {
-        most = larger(most, count_beside(&tasks[place], element));
-    }
-    most
-}
-
-/// How many elements a task has, if that of a number is one of them.
-fn count_beside<S: TaskSource, E: TaskElement, I: Inlet<Out = O>, O: Outlet<Lanes = I::Lanes>>(
-    task: &Task<S, E, I, O>,
-    element: u32,
-) -> usize
-    ensures { (place : ℕ) → PartIs task.now.parts.items element place → length task.now.parts.items ≤ result }
-{
-    if has_part(task.parts(), element) {
-        return task.parts().len();
-    }
-    0
-}
-
-/// The larger one of two numbers.
-fn larger(one: usize, other: usize) -> usize
-    ensures one { one ≤ result }
-    ensures other { other ≤ result }
-{
-    if one < other {
-        return other;
-    }
-    one
-}
-
-/// What goes out of the task that has an element. None where no task has it, or what the head of its task names is behind it.
+/// What goes out of the task that has an element. None where no task has it, what the head of its task names is behind it, or what is
+/// behind it is led to from elsewhere in the task.
 fn to_part<S: TaskSource, E: TaskElement, I: Inlet<Out = O>, O: Outlet<Lanes = I::Lanes>>(
     tasks: &[Task<S, E, I, O>],
     element: u32,
@@ -185,7 +150,7 @@ fn to_part<S: TaskSource, E: TaskElement, I: Inlet<Out = O>, O: Outlet<Lanes = I
     }
 }
 
-/// What goes out of the task at a place. None where what its head names is behind the element.
+/// What goes out of the task at a place. None where what its head names is behind the element, or what is behind it is led to from elsewhere.
 fn to_part_at<S: TaskSource, E: TaskElement, I: Inlet<Out = O>, O: Outlet<Lanes = I::Lanes>>(
     tasks: &[Task<S, E, I, O>],
     place: usize,
@@ -209,7 +174,7 @@ fn to_part_at<S: TaskSource, E: TaskElement, I: Inlet<Out = O>, O: Outlet<Lanes 
     }
 }
 
-/// Flags that tell what of a task is behind an element. None where what its head names is.
+/// Flags that tell what of a task is behind an element. None where what its head names is, or a pad leads there from elsewhere.
 fn flags_of<S: TaskSource, E: TaskElement, I: Inlet<Out = O>, O: Outlet<Lanes = I::Lanes>>(
     task: &Task<S, E, I, O>,
     element: u32,
@@ -218,13 +183,53 @@ fn flags_of<S: TaskSource, E: TaskElement, I: Inlet<Out = O>, O: Outlet<Lanes = 
     requires empty { flags.items ≡ [] }
     requires room { length task.now.parts.items ≤ vec_capacity flags }
     ensures apart { IfSome result (λ flags. TakesApart task.now element flags.items) }
-    ensures none { result ≡ None → IsBehind task.now.parts.items element (number_in task.now.head) }
+    ensures none { result ≡ None → IsBehind task.now.parts.items element (number_in task.now.head)
+        ⊎ IsEntered (frame_of task.now) task.now.parts.items element }
 {
     let flags = behind(task.parts(), element, flags);
     if has_flag(task.parts(), flags.as_slice(), head_number(task.head())) {
         return None;
     }
+    if is_entered(task, element, flags.as_slice()) {
+        return None;
+    }
     Some(flags)
+}
+
+/// Whether a pad of the source or of an element without a flag leads inside of a task to one with a flag, or any pad to the element itself.
+fn is_entered<S: TaskSource, E: TaskElement, I: Inlet<Out = O>, O: Outlet<Lanes = I::Lanes>>(
+    task: &Task<S, E, I, O>,
+    element: u32,
+    flags: &[bool],
+) -> bool
+    requires size { length flags.now ≡ length task.now.parts.items }
+    requires tell { TellBehind task.now.parts.items element flags.now }
+    ensures entered { result ≡ true → IsEntered (frame_of task.now) task.now.parts.items element }
+    ensures free { result ≡ false → IsEntered (frame_of task.now) task.now.parts.items element → ⊥ }
+{
+    if source_leads(task.head(), task.parts(), flags) {
+        return true;
+    }
+    if others_lead(task.parts(), flags) {
+        return true;
+    }
+    flagged_lead(task.parts(), flags, element)
+}
+
+/// Whether a head is a source whose pad leads inside of the task to an element with a flag.
+fn source_leads<S: TaskSource, E: TaskElement, I, O: Outlet>(
+    head: &Head<S, I, O>,
+    parts: &[Part<E, O>],
+    flags: &[bool],
+) -> bool
+    requires len { length flags.now ≡ length parts.now }
+    ensures led { result ≡ true → SourceLeads parts.now flags.now head.now }
+    ensures none { result ≡ false → SourceLeads parts.now flags.now head.now → ⊥ }
+{
+    match head {
+        Head::Source(source) => leads_flagged(parts, flags, source.pad().behind()),
+        Head::Inlets(_) => false,
+    }
 }
 
 /// Takes room for so many elements, twice, and rows for so many sink pads.
@@ -282,7 +287,8 @@ fn part_off<S: TaskSource, E: TaskElement, I: Inlet<Out = O>, O: Outlet<Lanes = 
     requires closed { CanPartAt tasks.old.items parting.place parting.flags.items element }
     requires room { vec_len tasks.old < vec_capacity tasks.old }
     requires rooms { HasRoomAt tasks.old.items parting.place parting.halves }
-    ensures { IsPartedAt tasks.old.items tasks.new.items parting.place parting.flags.items element (vec_len parting.halves.rows) }
+    ensures parted { IsPartedAt tasks.old.items tasks.new.items parting.place parting.flags.items element (vec_len parting.halves.rows) }
+    ensures room { vec_capacity tasks.new ≡ vec_capacity tasks.old }
 {
     let Parting {
         place,
@@ -304,7 +310,8 @@ fn take_out<S: TaskSource, E: TaskElement, I: Inlet<Out = O>, O: Outlet<Lanes = 
     requires closed { CanPartAt tasks.old.items place flags.now element }
     requires room { vec_len tasks.old < vec_capacity tasks.old }
     requires rooms { HasRoomAt tasks.old.items place room }
-    ensures { IsPartedAt tasks.old.items tasks.new.items place flags.now element (vec_len room.rows) }
+    ensures parted { IsPartedAt tasks.old.items tasks.new.items place flags.now element (vec_len room.rows) }
+    ensures room { vec_capacity tasks.new ≡ vec_capacity tasks.old }
 {
     let last = tasks.len() - 1;
     let was = tasks.swap_remove(place);

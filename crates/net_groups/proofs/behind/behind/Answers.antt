@@ -1,4 +1,4 @@
-use Rattle.std.proofs.Common.{◌≡◌, ◌∙◌, Bool, List, ℕ, true, false, ap, arith, refl, sym, subst}
+use Rattle.std.proofs.Common.{◌∙◌, Bool, List, true, refl, subst}
 use Rattle.task_pads.proofs.Lists.{set_length}
 use Rattle.task_parts.specs.declared.part.Part.{Part}
 use Rattle.net_groups.specs.Behind.{IsBehind, IsNext, NoneIsNext}

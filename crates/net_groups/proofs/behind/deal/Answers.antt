@@ -1,4 +1,4 @@
-use Rattle.std.proofs.Common.{arith, refl}
+use Rattle.std.proofs.Common.{arith}
 use Rattle.net_groups.proofs.Flags.{gone_next, kept_next}
 use Rattle.net_groups.proofs.behind.deal.Goals as goal
 

@@ -1,7 +1,5 @@
-use Rattle.std.proofs.Common.{arith, ap, length, refl, sym, subst, ◌∙◌, List}
+use Rattle.std.proofs.Common.{arith, length}
 use Rattle.std.proofs.lemmas.Option.{slice_get_within}
-use Rattle.gst_value.proofs.Basics.{some_same}
-use Rattle.task_pads.proofs.Lists.{some_at}
 use Rattle.net_groups.specs.Behind.{IsNext}
 use Rattle.net_groups.proofs.Lists.{loop_done, loop_next}
 use Rattle.net_groups.proofs.behind.find_next.Goals as goal

@@ -1,10 +1,9 @@
-use Rattle.std.proofs.Common.{◌≡◌, ◌∙◌, List, ℕ, true, false, ap, arith, refl, sym, subst}
-use Rattle.gst_value.proofs.Basics.{none_some, some_same}
+use Rattle.std.proofs.Common.{◌∙◌, ℕ, true, false, arith, sym, subst}
+use Rattle.gst_value.proofs.Basics.{some_same}
 use Rattle.task_pads.proofs.Lists.{some_at}
-use Rattle.task_pads.specs.declared.pad.Pad.{Pad}
 use Rattle.task_parts.specs.declared.part.Part.{Part}
-use Rattle.net_groups.specs.Behind.{FlaggedAt, HasFlagAt, IsLed, IsNext, LeadTo}
-use Rattle.net_groups.proofs.Flags.{flag_at, not_led}
+use Rattle.net_groups.specs.Behind.{IsLed}
+use Rattle.net_groups.proofs.Flags.{flag_at}
 use Rattle.net_groups.proofs.behind.is_next.Goals as goal
 
 pub returns-then-flags-place-clause-not : goal.returns-then-flags-place-clause-not

@@ -1,4 +1,4 @@
-use Rattle.std.proofs.Common.{◌≡◌, ◌∙◌, ◌+◌, ◌++◌, Bool, List, [], ◌∷◌, false, ap, arith, length, length-append}
+use Rattle.std.proofs.Common.{◌∙◌, ◌+◌, Bool, List, [], ◌∷◌, false, ap, arith, length, length-append}
 use Rattle.net_groups.proofs.Flags.{none_set, none_set_next}
 use Rattle.net_groups.proofs.behind.unset.Goals as goal
 

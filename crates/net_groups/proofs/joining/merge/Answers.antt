@@ -1,6 +1,5 @@
-use Rattle.std.proofs.Common.{◌≡◌, ◌-◌, ℕ, List, Some, ap, sym, ◌∙◌, subst, arith, length, vec_len}
+use Rattle.std.proofs.Common.{◌-◌, ℕ, List, ap, sym, ◌∙◌, arith, vec_len}
 use Rattle.std.specs.Prelude.{slice_get, slice_set}
-use Rattle.std.specs.List.{remove}
 use Rattle.task_pads.proofs.Lists.{some_at}
 use Rattle.net_task.specs.declared.task.Task.{Task}
 use Rattle.net_groups.proofs.Lists.{removed_at, set_removed, up_within}
@@ -14,8 +13,8 @@ join_into-requires-clause-room g c κs within =
     let b = c.swap_remove-was.result.parts.ok.0 in
     omega (arith, room, a, b)
 
-pub returns : goal.returns
-returns g c = record {
+pub returns-clause-merged : goal.returns-clause-merged
+returns-clause-merged g c = record {
   gave = c.remove-gave.result;
   was = c.swap_remove-was.result;
   is = c.join_into.result;

@@ -1,8 +1,6 @@
-use Rattle.std.proofs.Common.{arith, ap, length, refl, sym, subst, ◌∙◌, List}
+use Rattle.std.proofs.Common.{arith, length, sym, subst}
 use Rattle.std.proofs.lemmas.Option.{slice_get_within}
-use Rattle.gst_value.proofs.Basics.{some_same}
 use Rattle.task_pads.proofs.Lists.{some_at}
-use Rattle.net_task.specs.declared.task.Task.{Task}
 use Rattle.task_parts.specs.declared.head.Head.{Head}
 use Rattle.net_groups.specs.Places.{FedAt, FeedsIt}
 use Rattle.net_groups.proofs.Finds.{fed_here, fed_not}

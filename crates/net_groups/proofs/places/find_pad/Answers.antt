@@ -1,4 +1,4 @@
-use Rattle.std.proofs.Common.{arith, ap, length, refl, sym, subst, ◌∙◌, List}
+use Rattle.std.proofs.Common.{arith, length, sym, subst, ◌∙◌}
 use Rattle.std.proofs.lemmas.Option.{slice_get_within}
 use Rattle.gst_value.proofs.Basics.{some_same}
 use Rattle.task_pads.proofs.Lists.{some_at}

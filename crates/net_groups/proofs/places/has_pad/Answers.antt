@@ -1,4 +1,4 @@
-use Rattle.std.proofs.Common.{◌≡◌, List, refl, subst, sym}
+use Rattle.std.proofs.Common.{List, subst, sym}
 use Rattle.task_parts.specs.declared.head.Head.{Head}
 use Rattle.task_parts.specs.declared.part.Part.{Part}
 use Rattle.net_groups.specs.Places.{IsOfHead, PartHas}

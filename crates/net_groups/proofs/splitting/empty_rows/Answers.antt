@@ -1,4 +1,4 @@
-use Rattle.std.proofs.Common.{arith, refl}
+use Rattle.std.proofs.Common.{arith}
 use Rattle.net_groups.proofs.Finds.{bare_next, none_bare}
 use Rattle.net_groups.proofs.splitting.empty_rows.Goals as goal
 

@@ -1,5 +1,3 @@
-use Rattle.std.specs.Prelude.{IfOk}
-use Rattle.std.proofs.Common.{ℕ}
 use Rattle.net_groups.proofs.Rooms.{room_all}
 use Rattle.net_groups.proofs.splitting.room_beside.Goals as goal
 

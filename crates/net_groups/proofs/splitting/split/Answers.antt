@@ -1,6 +1,6 @@
-use Rattle.std.proofs.Common.{◌≡◌, ◌∙◌, List, ℕ, true, arith, length, refl, subst, sym, vec_len}
+use Rattle.std.proofs.Common.{◌∙◌, List, ℕ, true, arith, refl, subst, sym}
 use Rattle.net_task.specs.declared.task.Task.{Task}
-use Rattle.net_groups.specs.Splits.{AreParting, CannotSplit, HasRoomBeside, IsPartedAt, IsSplit}
+use Rattle.net_groups.specs.Splits.{AreParting, CannotSplit, HasRoomBeside, IsPartedAt}
 use Rattle.net_groups.proofs.Finds.{on_ok_at}
 use Rattle.net_groups.proofs.Rooms.{can_part_at, parting_within, room_at, split_is, splits_ready, splits_stand}
 use Rattle.net_groups.proofs.splitting.split.Goals as goal
@@ -9,7 +9,7 @@ pub split_by-requires-clause-place : goal.split_by-requires-clause-place
 split_by-requires-clause-place g c κs within = let a = parting_within c.args.tasks.now.items c.args.element c.in-Some.parting (subst (λ (ts : List (Task _ _ _ _ _ _ _ _ _)). AreParting ts c.args.element c.in-Some.parting) c.as_slice-2.ensures.value c.in-Some.ensures.parting) in let size = c.args.tasks.now.ok.0 in omega (arith, a, size)
 
 pub split_by-requires-clause-closed : goal.split_by-requires-clause-closed
-split_by-requires-clause-closed g c κs within = can_part_at c.args.tasks.now.items c.args.element c.in-Some.parting (subst (λ (ts : List (Task _ _ _ _ _ _ _ _ _)). AreParting ts c.args.element c.in-Some.parting) c.as_slice-2.ensures.value c.in-Some.ensures.parting) c.requires.tree
+split_by-requires-clause-closed g c κs within = can_part_at c.args.tasks.now.items c.args.element c.in-Some.parting (subst (λ (ts : List (Task _ _ _ _ _ _ _ _ _)). AreParting ts c.args.element c.in-Some.parting) c.as_slice-2.ensures.value c.in-Some.ensures.parting)
 
 pub split_by-requires-clause-rooms : goal.split_by-requires-clause-rooms
 split_by-requires-clause-rooms g c κs within = room_at c.args.tasks.now.items c.args.element c.in-Some.parting (subst (λ (ts : List (Task _ _ _ _ _ _ _ _ _)). AreParting ts c.args.element c.in-Some.parting) c.as_slice-2.ensures.value c.in-Some.ensures.parting)
@@ -21,10 +21,16 @@ returns-in-Some-clause-split g c = λ is.
     (on_ok_at c.split_by.result _ true is c.split_by.ensures.parted))
 
 pub returns-in-Some-clause-stands : goal.returns-in-Some-clause-stands
-returns-in-Some-clause-stands g c = λ is m tells stands items. splits_stand c.args.tasks.now.items c.split_by.new.tasks.items c.args.element c.args.pads c.requires.tree (returns-in-Some-clause-split g c is) m tells stands items
+returns-in-Some-clause-stands g c = λ is.
+    splits_stand c.args.tasks.now.items c.args.element c.in-Some.parting (subst (λ (ts : List (Task _ _ _ _ _ _ _ _ _)). AreParting ts c.args.element c.in-Some.parting) c.as_slice-2.ensures.value c.in-Some.ensures.parting) c.split_by.new.tasks.items c.args.pads
+    (subst (λ (n : ℕ). IsPartedAt c.args.tasks.now.items c.split_by.new.tasks.items c.in-Some.parting.place c.in-Some.parting.flags.items c.args.element n) (c.in-Some.ensures.pads ∙ c.in_ok-room.ensures.pads)
+    (on_ok_at c.split_by.result _ true is c.split_by.ensures.parted))
 
 pub returns-in-Some-clause-ready : goal.returns-in-Some-clause-ready
-returns-in-Some-clause-ready g c = λ is tells ready. splits_ready c.args.tasks.now.items c.split_by.new.tasks.items c.args.element c.args.pads c.requires.tree (returns-in-Some-clause-split g c is) tells ready
+returns-in-Some-clause-ready g c = λ is.
+    splits_ready c.args.tasks.now.items c.args.element c.in-Some.parting (subst (λ (ts : List (Task _ _ _ _ _ _ _ _ _)). AreParting ts c.args.element c.in-Some.parting) c.as_slice-2.ensures.value c.in-Some.ensures.parting) c.split_by.new.tasks.items c.args.pads
+    (subst (λ (n : ℕ). IsPartedAt c.args.tasks.now.items c.split_by.new.tasks.items c.in-Some.parting.place c.in-Some.parting.flags.items c.args.element n) (c.in-Some.ensures.pads ∙ c.in_ok-room.ensures.pads)
+    (on_ok_at c.split_by.result _ true is c.split_by.ensures.parted))
 
 pub returns-in-None-clause-none : goal.returns-in-None-clause-none
 returns-in-None-clause-none g c = λ is. (subst (λ (ts : List (Task _ _ _ _ _ _ _ _ _)). CannotSplit ts c.args.element) c.as_slice-2.ensures.value (c.in-None.ensures.none refl), refl)

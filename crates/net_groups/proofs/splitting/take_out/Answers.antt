@@ -1,11 +1,11 @@
-use Rattle.std.proofs.Common.{◌≡◌, ◌∙◌, ◌-◌, ◌++◌, ◌∷◌, [], List, ℕ, ap, arith, refl, sym}
+use Rattle.std.proofs.Common.{◌∙◌, ◌-◌, ◌++◌, ◌∷◌, [], List, ℕ, ap, arith}
 use Rattle.task_pads.proofs.Lists.{some_at}
 use Rattle.net_task.specs.declared.task.Task.{Task}
 use Rattle.net_groups.proofs.Swapped.{set_by_swap}
 use Rattle.net_groups.proofs.splitting.take_out.Goals as goal
 
-pub returns : goal.returns
-returns g c = record {
+pub returns-clause-parted : goal.returns-clause-parted
+returns-clause-parted g c = record {
   was = c.swap_remove-was.result;
   is = c.part-is.result.0;
   fresh = c.part-is.result.1;

@@ -1,0 +1,185 @@
+-- A source pad is linked elsewhere, inside of its task, in all that control has of a run.
+use Rattle.std.proofs.Common.{◌≡◌, ◌<◌, ◌&&◌, ◌||◌, ◌++◌, ℕ, Bool, true, false, not, List, [], ◌∷◌, Option, None, Some, length, nat_lt, refl, sym, ap, ◌∙◌, subst}
+use Rattle.std.specs.List.{list_any}
+use Rattle.std.specs.Prelude.{option_and_then}
+use Rattle.std.specs.Global.{Vec}
+use Rattle.std.proofs.lemmas.List.Quantifiers.{list_any-append}
+use Rattle.flow_model.specs.Item.{Item}
+use Rattle.gst_item.specs.Item.{has_item}
+use Rattle.gst_item.specs.Sticky.{stickies}
+use Rattle.gst_value.specs.declared.name.PadName.{PadName}
+use Rattle.lane_core.specs.Lane.{Lane}
+use Rattle.lane_core.specs.declared.ends.Inlet as inlets
+use Rattle.lane_core.specs.declared.ends.Outlet as outlets
+use Rattle.net_model.specs.Edit.{unlinked}
+use Rattle.net_model.specs.Moment.{Moment}
+use Rattle.net_model.specs.Standing.{is_linked}
+use Rattle.net_model.specs.declared.element.TaskElement as elements
+use Rattle.net_model.specs.declared.source.TaskSource as sources
+use Rattle.net_task.specs.declared.task.Task.{Task}
+use Rattle.net_turns.specs.Net.{NetStands}
+use Rattle.net_edits.specs.Nets.{TaskHas}
+use Rattle.net_turns.specs.declared.net.Stopped.{Stopped}
+use Rattle.el_settings.specs.Asked.{is_source}
+use Rattle.graph_core.specs.Elements.{has}
+use Rattle.graph_core.specs.GraphPlan.{pad_id}
+use Rattle.graph_edits.specs.declared.graph.EditedGraph.{EditedGraph}
+use Rattle.graph_pads.specs.Links.{sink_behind, source_before}
+use Rattle.graph_pads.specs.declared.pad.Direction.TheVariants.{Source}
+use Rattle.graph_pads.specs.declared.pad.PadLink.{PadLink}
+use Rattle.graph_pads.specs.declared.pad.PadPlace.{PadPlace}
+use Rattle.run_report.specs.declared.report.Answer.TheVariants.{Done}
+use Rattle.script_text.specs.declared.command.When.{When}
+use Rattle.edit_model.specs.Edited.{Edited, link_between, linked_at, relinked_at, spans_at, touches, unlinked_at}
+use Rattle.edit_model.specs.Growing.{StandsOnlyFrom}
+use Rattle.edit_model.specs.Lawful.{IsAnswered, command}
+use Rattle.edit_model.specs.Names.{named_when, pad_named, source_when}
+use Rattle.edit_model.specs.Plans.{is_asleep}
+use Rattle.edit_model.proofs.Ended.{stays_open}
+use Rattle.edit_whole.proofs.Made.{stays_made}
+use Rattle.edit_core.specs.Feeds.{AreFeeds}
+use Rattle.edit_core.specs.Judging.{IsLast, owed_then}
+use Rattle.edit_core.specs.Notes.{IsCurrent}
+use Rattle.edit_core.specs.Ways.{IsRun}
+use Rattle.edit_core.specs.declared.deciding.Deed.TheVariants.{Relink}
+use Rattle.edit_core.specs.declared.feeds.Feeds.{Feeds}
+use Rattle.edit_core.proofs.Decided.{deeds_are_answers}
+use Rattle.edit_core.proofs.Named.{stays_named}
+use Rattle.edit_acts.specs.Controlled.{AreOwned}
+use Rattle.edit_acts.specs.Linking.{GoesOnLinked, IsLinkedShort, MayLink, MayLinkAt, opening_of, sink_in}
+use Rattle.edit_acts.specs.Relinked.{HasNewLink, IsPrepared, IsRelinked, IsRelinkedShort, IsToKeep, IsToRelink, RunsRelinked, relinked}
+use Rattle.edit_acts.specs.Undoing.{IsRunWith}
+use Rattle.edit_acts.specs.declared.relinking.Prepared.{Prepared}
+use Rattle.edit_acts.proofs.Owned.{fresh, task_has}
+use Rattle.edit_acts.proofs.Owing.{owes}
+use Rattle.edit_acts.proofs.Relinks.{may_link, source_told}
+
+-- the source pad of a command has a name
+named_by : (g : Edited) (when : When) (source : PadPlace) → source_when g when ≡ Some source → (name : PadName) × (pad_named Source g name ≡ Some source)
+named_by g when source e = by (named_when when) e
+  where
+    by : (name : Option PadName) → option_and_then (pad_named Source g) name ≡ Some source → (name : PadName) × (pad_named Source g name ≡ Some source)
+    by None e = cc
+    by (Some name) e = (name, e)
+
+-- what sleeps behind one link more slept before
+slept : (a b x y : Bool) → a && not (b || (x || y)) ≡ true → a && not (b || x) ≡ true
+slept false b x y e = e
+slept true true x y e = e
+slept true false true y e = e
+slept true false false y e = refl
+
+was_asleep : (g : Edited) (source : PadPlace) (items : ℕ) (sink : PadPlace) (n : ℕ) → is_asleep (relinked_at source items sink g) n ≡ true → is_asleep g n ≡ true
+was_asleep g source items sink n e =
+    slept (has is_source g.made n) (nat_lt n g.lined) (list_any (touches n) g.ever) (list_any (touches n) (link_between source sink ∷ []))
+    (subst (λ (any : Bool). has is_source g.made n && not (nat_lt n g.lined || any) ≡ true) (list_any-append (touches n) g.ever (link_between source sink ∷ [])) e)
+
+-- a sink pad without a source pad has no link that stands
+free_there : (found : Option PadPlace) (g : Edited) (sink : PadPlace) → found ≡ None → StandsOnlyFrom found (spans_at g sink) → is_linked (spans_at g sink) ≡ false
+free_there None g sink none stands = stands
+free_there (Some source) g sink none stands = cc
+
+module _ {S E I O L : Type 0} {s : sources.Ghosts S} {e : elements.Ghosts E} {i : inlets.Ghosts I L O} {o : outlets.Ghosts O L} (graph : EditedGraph) (feeds : Feeds) (tasks : List (Task S E I O L s e i o))
+    (g : Edited) (m : Moment) (tells : Option (List Lane)) (source sink : PadPlace) (items : ℕ) (w : IsToRelink graph feeds tasks g m tells source sink items) where
+  abbrev now : IsCurrent graph feeds tasks g m tells
+  now = w.controlled.current
+
+  told : source_when g w.when ≡ Some source
+  told = source_told g m.history (source_when g w.when) w.act source sink w.to_do.deed_is
+
+  pub items_is : items ≡ length (m.history (pad_id source))
+  items_is = subst (λ (p : Option PadPlace). IsLast m.history p items) told w.to_do.reached.last
+
+  name : (name : PadName) × (pad_named Source g name ≡ Some source)
+  name = named_by g w.when source told
+
+  pub may : MayLink (unlinked_at source items false g) source sink
+  may = may_link g m.history items w.when w.act source sink now.stand w.to_do.deed_is w.awake w.bare
+
+  module _ (all : Vec (Task S E I O L s e i o)) (all_are : all.items ≡ tasks) (p : Prepared E I O e) (ready : IsPrepared all source sink p) where
+    opening_is : opening_of p.link ≡ stickies (m.history (pad_id source))
+    opening_is =
+        let has = task_has g m tasks tells w.controlled.run w.controlled.pads name.0 source name.1 w.awake in
+        ready.opens m tells has.0 (subst (λ (ts : List (Task S E I O L s e i o)). NetStands m ts tells) (sym all_are) now.net)
+        (subst (λ (n : ℕ). TaskHas all.items n has.0) (sym ready.number) (subst (λ (ts : List (Task S E I O L s e i o)). TaskHas ts (pad_id source) has.0) (sym all_are) has.1))
+        ∙ ap (λ (n : ℕ). stickies (m.history n)) ready.number
+
+    pub run_with : IsRunWith g m all.items tells p.pad source
+    run_with = record { run = subst (λ (ts : List (Task S E I O L s e i o)). IsRun g m ts tells) (sym all_are) w.controlled.run; few = may.low; number = ready.number }
+
+    pub may_at : MayLinkAt (unlinked_at source items false g) (unlinked p.pad m) source sink p.pad (sink_in sink) (opening_of p.link)
+    may_at = record {
+      may = may;
+      pad_is = ready.number;
+      to_is = refl;
+      owned = ap m.plan.owner ready.number ∙ w.controlled.pads.owned name.0 source name.1;
+      opening_is = opening_is ∙ ap (λ (n : ℕ). stickies (m.history n)) (sym ready.number);
+    }
+
+    pub crossed : items ≡ length (m.history p.pad)
+    crossed = items_is ∙ ap (λ (n : ℕ). length (m.history n)) (sym ready.number)
+
+    pub to_keep : (mid : List (Task S E I O L s e i o)) → IsRun (unlinked_at source items false g) (unlinked p.pad m) mid tells → p.before ≡ sink_behind g.links source
+        → IsToKeep g m.history source sink p.before p.pad items p.opened
+    to_keep mid run was = record {
+      kept = now.kept;
+      stand = now.stand;
+      ends = now.ends;
+      few = may.low;
+      number = ready.number;
+      all = crossed;
+      was = was;
+      free = free_there (source_before (unlinked_at source items false g).links sink) (unlinked_at source items false g) sink may.free (run.kept.linked sink);
+      opens = ready.opened ∙ ap has_item (opening_is ∙ ap (λ (n : ℕ). stickies (m.history n)) (sym ready.number));
+    }
+
+    pub runs : (feeds' : Feeds) (tasks' : List (Task S E I O L s e i o)) → GoesOnLinked (unlinked_at source items false g) (unlinked p.pad m) tasks' tells source sink → AreFeeds feeds' (relinked_at source items sink g) m.history
+        → RunsRelinked feeds' tasks' g m tells source sink items
+    runs feeds' tasks' goes kept =
+        let goes_on = subst (λ (n : ℕ). GoesOnLinked (unlinked_at source items false g) (unlinked n m) tasks' tells source sink) ready.number goes in
+        record {
+          out = goes_on.out;
+          links = goes_on.links;
+          run = subst (λ (n : ℕ). IsRun (linked_at source n sink (unlinked_at source items false g)) (relinked source sink goes_on.out m) tasks' tells) (sym items_is) goes_on.run;
+          feeds = kept;
+        }
+
+    pub short : (mid tasks' : List (Task S E I O L s e i o)) (stopped : Stopped) → IsRun (unlinked_at source items false g) (unlinked p.pad m) mid tells
+        → IsLinkedShort mid tasks' p.pad (sink_in sink) (opening_of p.link) stopped → IsRelinkedShort tasks' g m tells source sink items stopped
+    short mid tasks' stopped run is = record {
+      mid = mid;
+      run = subst (λ (n : ℕ). IsRun (unlinked_at source items false g) (unlinked n m) mid tells) ready.number run;
+      short = subst (λ (n : ℕ). IsLinkedShort mid tasks' n (sink_in sink) (stickies (m.history (pad_id source))) stopped) ready.number
+          (subst (λ (given : List Item). IsLinkedShort mid tasks' p.pad (sink_in sink) given stopped) opening_is is);
+    }
+
+  answered : IsAnswered g m.history (owed_then m) (command w.when w.act) (Done w.places) (relinked_at source items sink g)
+  answered = deeds_are_answers g m w.when w.act (Relink source sink) items w.places (λ same. cc) w.to_do
+
+  pub is_relinked : (graph' : EditedGraph) (feeds' : Feeds) (tasks' : List (Task S E I O L s e i o)) (before : Option PadPlace) → HasNewLink graph graph' source sink before → RunsRelinked feeds' tasks' g m tells source sink items
+      → IsRelinked graph' feeds' tasks' g m tells source sink items
+  is_relinked graph' feeds' tasks' before new r = record {
+    out = r.out;
+    links = r.links;
+    controlled = record {
+      current = record {
+        edited = new.edited g items now.edited;
+        feeds_are = r.feeds;
+        net = r.run.net;
+        fresh = fresh (relinked_at source items sink g) (relinked source sink r.out m) tasks' tells r.run pads;
+        kept = r.run.kept;
+        stand = r.run.links;
+        made = stays_made.answered m.history (owed_then m) g (relinked_at source items sink g) (command w.when w.act) (Done w.places) answered now.made;
+        ends = stays_open.answered m.history (owed_then m) g (relinked_at source items sink g) (command w.when w.act) (Done w.places) (owes m tasks tells now.net) answered now.kept now.stand now.ends;
+        named = stays_named.answered m.history (owed_then m) g (relinked_at source items sink g) (command w.when w.act) (Done w.places) answered now.stand now.named;
+      };
+      run = r.run;
+      pads = pads;
+    };
+  }
+    where
+      pads : AreOwned (relinked_at source items sink g) (relinked source sink r.out m)
+      pads = record {
+        owned = w.controlled.pads.owned;
+        asleep = λ pad place named is. w.controlled.pads.asleep pad place named (was_asleep g source items sink place.element is);
+      }

@@ -1,0 +1,113 @@
+-- How control links a source pad of a run elsewhere, inside of its task.
+use Rattle.std.specs.Prelude.{◌≡◌, ◌<◌, ℕ, Bool, true, false, List, Option, length}
+use Rattle.std.specs.Global.{Vec}
+use Rattle.flow_model.specs.Item.{Item}
+use Rattle.gst_item.specs.Item.{has_item}
+use Rattle.gst_item.specs.Sticky.{stickies}
+use Rattle.lane_core.specs.Lane.{Lane}
+use Rattle.lane_core.specs.declared.ends.Inlet as inlets
+use Rattle.lane_core.specs.declared.ends.Outlet as outlets
+use Rattle.net_edits.specs.Nets.{TaskHas}
+use Rattle.net_edits.specs.declared.inside.EditFault.{EditFault}
+use Rattle.net_edits.specs.declared.inside.EditFault.TheVariants as faults
+use Rattle.net_model.specs.Edit.{LinksInside, linked_inside, unlinked}
+use Rattle.net_model.specs.Moment.{Moment}
+use Rattle.net_model.specs.Standing.{is_linked}
+use Rattle.net_model.specs.declared.element.TaskElement as elements
+use Rattle.net_model.specs.declared.source.TaskSource as sources
+use Rattle.net_task.specs.declared.task.Task.{Task}
+use Rattle.net_turns.specs.Net.{NetStands}
+use Rattle.net_turns.specs.declared.net.Stopped.{Stopped}
+use Rattle.graph_core.specs.GraphPlan.{most_pads, pad_id}
+use Rattle.graph_edits.specs.Graph.{IsEdited}
+use Rattle.graph_edits.specs.declared.graph.EditedGraph.{EditedGraph}
+use Rattle.graph_pads.specs.Links.{sink_behind}
+use Rattle.graph_pads.specs.declared.pad.PadPlace.{PadPlace}
+use Rattle.run_report.specs.declared.report.Place.{Place}
+use Rattle.script_text.specs.declared.command.Act.{Act}
+use Rattle.script_text.specs.declared.command.When.{When}
+use Rattle.edit_model.specs.Edited.{Edited, relinked_at, spans_at, unlinked_at}
+use Rattle.edit_model.specs.Ended.{EndsOpen}
+use Rattle.edit_model.specs.Growing.{IsKept, LinksStand}
+use Rattle.edit_model.specs.Lawful.{command}
+use Rattle.edit_model.specs.Plans.{is_asleep}
+use Rattle.edit_model.specs.Refused.{has_lanes}
+use Rattle.edit_core.specs.Deciding.{IsToDo}
+use Rattle.edit_core.specs.Feeds.{AreFeeds}
+use Rattle.edit_core.specs.Ways.{IsRun}
+use Rattle.edit_core.specs.declared.deciding.Deed.TheVariants.{Relink}
+use Rattle.edit_core.specs.declared.feeds.Feeds.{Feeds}
+use Rattle.edit_acts.specs.Controlled.{IsControlled}
+use Rattle.edit_acts.specs.Linking.{HasRoomToLink, IsLinkedShort, opening_of, sink_in}
+use Rattle.edit_acts.specs.Undoing.{HasRoomToUndo, SplitsNot}
+use Rattle.edit_acts.specs.declared.relinking.Prepared.{Prepared}
+
+-- the moment at which a pad was linked elsewhere, where the element behind it put this out for what it was given first
+abbrev pub relinked : PadPlace → PadPlace → (ℕ → List Item) → Moment → Moment
+relinked source sink out m = linked_inside (pad_id source) sink.element sink.pad out (unlinked (pad_id source) m)
+
+module _ {S E I O L : Type 0} {s : sources.Ghosts S} {e : elements.Ghosts E} {i : inlets.Ghosts I L O} {o : outlets.Ghosts O L} where
+  -- A source pad is to be linked elsewhere now: its element is awake, and no lanes feed the other element.
+  pub record IsToRelink (graph : EditedGraph) (feeds : Feeds) (tasks : List (Task S E I O L s e i o)) (g : Edited) (m : Moment) (tells : Option (List Lane)) (source sink : PadPlace) (items : ℕ) : Type 0 where
+    pub controlled : IsControlled graph feeds tasks g m tells
+    pub when : When
+    pub act : Act
+    pub places : List Place
+    pub to_do : IsToDo g m (command when act) (Relink source sink) items places
+    pub awake : is_asleep g source.element ≡ false
+    pub bare : has_lanes g sink.element ≡ false
+
+  -- The run goes on at the moment at which the pad was linked so.
+  pub record RunsRelinked (feeds' : Feeds) (tasks' : List (Task S E I O L s e i o)) (g : Edited) (m : Moment) (tells : Option (List Lane)) (source sink : PadPlace) (items : ℕ) : Type 0 where
+    pub out : ℕ → List Item
+    pub links : LinksInside (unlinked (pad_id source) m) (pad_id source) sink.element sink.pad out
+    pub run : IsRun (relinked_at source items sink g) (relinked source sink out m) tasks' tells
+    pub feeds : AreFeeds feeds' (relinked_at source items sink g) m.history
+
+  -- control has that run
+  pub record IsRelinked (graph' : EditedGraph) (feeds' : Feeds) (tasks' : List (Task S E I O L s e i o)) (g : Edited) (m : Moment) (tells : Option (List Lane)) (source sink : PadPlace) (items : ℕ) : Type 0 where
+    pub out : ℕ → List Item
+    pub links : LinksInside (unlinked (pad_id source) m) (pad_id source) sink.element sink.pad out
+    pub controlled : IsControlled graph' feeds' tasks' (relinked_at source items sink g) (relinked source sink out m) tells
+
+  -- The link was undone. When the pad was linked the element refused one of the sticky events.
+  pub record IsRelinkedShort (tasks' : List (Task S E I O L s e i o)) (g : Edited) (m : Moment) (tells : Option (List Lane)) (source sink : PadPlace) (items : ℕ) (stopped : Stopped) : Type 0 where
+    pub mid : List (Task S E I O L s e i o)
+    pub run : IsRun (unlinked_at source items false g) (unlinked (pad_id source) m) mid tells
+    pub short : IsLinkedShort mid tasks' (pad_id source) (sink_in sink) (stickies (m.history (pad_id source))) stopped
+
+  -- where memory was wanting control has the run as it was
+  abbrev pub RelinkFails : EditedGraph → Feeds → List (Task S E I O L s e i o) → EditedGraph → Feeds → List (Task S E I O L s e i o) → PadPlace → PadPlace → ℕ → EditFault → Type 0
+  RelinkFails graph feeds tasks graph' feeds' tasks' source sink items faults.OutOfMemory = (g : Edited) (m : Moment) (tells : Option (List Lane)) → IsControlled graph feeds tasks g m tells → IsControlled graph' feeds' tasks' g m tells
+  RelinkFails graph feeds tasks graph' feeds' tasks' source sink items (faults.Failed stopped) =
+      (g : Edited) (m : Moment) (tells : Option (List Lane)) → IsToRelink graph feeds tasks g m tells source sink items → IsRelinkedShort tasks' g m tells source sink items stopped
+
+  -- the sticky events of what crossed a pad are given first
+  abbrev pub OpensWith : List (Task S E I O L s e i o) → ℕ → List Item → Type 0
+  OpensWith tasks pad opening = (m : Moment) (tells : Option (List Lane)) (place : ℕ) → NetStands m tasks tells → TaskHas tasks pad place → opening ≡ stickies (m.history pad)
+
+  -- Room was taken and the graph has the new link, before the tasks change.
+  pub record IsPrepared (tasks : Vec (Task S E I O L s e i o)) (source sink : PadPlace) (p : Prepared E I O e) : Type 0 where
+    pub number : p.pad ≡ pad_id source
+    pub undo : HasRoomToUndo tasks p.pad p.undo
+    pub link : HasRoomToLink tasks.items p.pad sink.element p.link
+    pub apart : SplitsNot p.undo sink.element
+    pub opens : OpensWith tasks.items p.pad (opening_of p.link)
+    pub opened : p.opened ≡ has_item (opening_of p.link)
+
+-- the graph stands for the edited one that has the new link, and the link before it was told
+pub record HasNewLink (graph graph' : EditedGraph) (source sink : PadPlace) (before : Option PadPlace) : Type 0 where
+  pub edited : (g : Edited) (place : ℕ) → IsEdited graph g → IsEdited graph' (relinked_at source place sink g)
+  pub was : (g : Edited) → IsEdited graph g → before ≡ sink_behind g.links source
+
+-- The link of a source pad, if any, is to be undone and the pad linked to a free sink pad, when so many items have crossed it.
+pub record IsToKeep (g : Edited) (h : ℕ → List Item) (source sink : PadPlace) (before : Option PadPlace) (pad items : ℕ) (opened : Bool) : Type 0 where
+  pub kept : IsKept h g
+  pub stand : LinksStand g
+  pub ends : EndsOpen h g
+  pub few : source.pad < most_pads
+  pub number : pad ≡ pad_id source
+  pub all : items ≡ length (h pad)
+  pub was : before ≡ sink_behind g.links source
+  pub free : is_linked (spans_at (unlinked_at source items false g) sink) ≡ false
+  pub opens : opened ≡ has_item (stickies (h pad))

@@ -1,0 +1,155 @@
+//! Control links a source pad of a run elsewhere, inside of its task.
+ghost use Rattle.std.specs.Prelude.{◌≡◌, ◌<◌, ◌↔◌, ℕ, List, true, false, length, IfOk, IfErr, IfSome, None, OnErr, IsTrue};
+ghost use Rattle.flow_model.specs.Item.{Item};
+ghost use Rattle.graph_edits.specs.Graph.{IsEdited, made};
+ghost use Rattle.graph_edits.specs.declared.graph.EditedGraph.{EditedGraph as Graphs};
+ghost use Rattle.graph_pads.specs.Links.{sink_behind};
+ghost use Rattle.graph_pads.specs.declared.pad.PadPlace.{PadPlace as Places};
+ghost use Rattle.net_model.specs.Moment.{Moment};
+ghost use Rattle.edit_model.specs.Edited.{Edited, relinked_at};
+ghost use Rattle.edit_core.specs.Feeds.{AreFeeds};
+ghost use Rattle.edit_core.specs.declared.feeds.Feeds.{Feeds as KeptFeeds};
+ghost use Rattle.edit_acts.specs.Relinked.{HasNewLink, IsPrepared, IsRelinked, IsRelinkedShort, IsToKeep, IsToRelink, RelinkFails, RunsRelinked};
+ghost use Rattle.edit_acts.specs.Undoing.{SplitsNot};
+
+use crate::linking::{LinkRoom, link, room_to_link};
+use crate::undoing::{UndoRoom, room_to_undo, undo};
+use edit_core::Feeds;
+use graph_core::PadPlace;
+use graph_edits::{EditedGraph, Linking};
+use gst_value::OutOfMemory;
+use lane_core::{Inlet, Outlet};
+use net_edits::EditFault;
+use net_model::{TaskElement, TaskSource};
+use net_task::Task;
+use net_turns::net::Stopped;
+use std::alloc::Global;
+use task_edits::Inside;
+
+/// What is there before the tasks change.
+#[derive(Drop)]
+pub(crate) struct Prepared<E: TaskElement, I, O> {
+    /// The number of the source pad.
+    pad: u32,
+    /// The sink pad to which it was linked.
+    before: Option<PadPlace>,
+    /// Whether the new link gives sticky events first.
+    opened: bool,
+    undo: UndoRoom<E, I, O>,
+    link: LinkRoom<E, O>,
+}
+
+/// Undoes the link of a source pad, where it has one, and links the pad inside of its task to a sink pad of an element that no lanes
+/// feed, when so many items have crossed the source pad: in the tasks, in the graph, and in what control keeps. The element takes the
+/// sticky events at once. Memory is found before anything changes. Tells whether it was done; where the pad is to be linked so it is.
+pub fn relink<S: TaskSource, E: TaskElement, I: Inlet<Out = O>, O: Outlet<Lanes = I::Lanes>>(
+    alloc: Global,
+    graph: &mut EditedGraph,
+    feeds: &mut Feeds,
+    tasks: &mut Vec<Task<S, E, I, O>>,
+    source: PadPlace,
+    sink: PadPlace,
+    items: u64,
+) -> Result<bool, EditFault>
+    requires source { source.element < length (made graph.old) }
+    requires sink { sink.element < length (made graph.old) }
+    ensures run { IfOk result (λ done. (g : Edited) (m : Moment) (tells : _) → IsToRelink graph.old feeds.old tasks.old.items g m tells source sink items
+        → (done ≡ true) × IsRelinked graph.new feeds.new tasks.new.items g m tells source sink items) }
+    ensures faults { IfErr result (RelinkFails graph.old feeds.old tasks.old.items graph.new feeds.new tasks.new.items source sink items) }
+{
+    match prepare(alloc, graph, tasks, source, sink) {
+        Ok(Some(prepared)) => match carry_out(alloc, feeds, tasks, prepared, sink, items) {
+            Ok(done) => Ok(done),
+            Err(stopped) => Err(EditFault::Failed(stopped)),
+        },
+        Ok(None) => Ok(false),
+        Err(_) => Err(EditFault::OutOfMemory),
+    }
+}
+
+/// Takes the room for all that is to be done to the tasks, and makes the link in the graph. None where nothing can be done: all stays then.
+fn prepare<S: TaskSource, E: TaskElement, I: Inlet<Out = O>, O: Outlet<Lanes = I::Lanes>>(
+    alloc: Global,
+    graph: &mut EditedGraph,
+    tasks: &mut Vec<Task<S, E, I, O>>,
+    source: PadPlace,
+    sink: PadPlace,
+) -> Result<Option<Prepared<E, I, O>>, OutOfMemory>
+    requires source { source.element < length (made graph.old) }
+    requires sink { sink.element < length (made graph.old) }
+    ensures prepared { IfOk result (λ found. IfSome found (IsPrepared tasks.new source sink)) }
+    ensures link { IfOk result (λ found. IfSome found (λ p. HasNewLink graph.old graph.new source sink p.before)) }
+    ensures none { IfOk result (λ found. found ≡ None → (feeds : KeptFeeds) (g : Edited) (m : Moment) (tells : _) (items : ℕ)
+        → IsToRelink graph.old feeds tasks.old.items g m tells source sink items → ⊥) }
+    ensures tasks { tasks.new.items ≡ tasks.old.items }
+    ensures stays { OnErr result ((g : Edited) → IsEdited graph.old g → IsEdited graph.new g) }
+{
+    let Some(pad) = graph.source_number(source) else {
+        return Ok(None);
+    };
+    let undo = room_to_undo(alloc, tasks, pad)?;
+    if !is_apart(&undo, sink.element) {
+        return Ok(None);
+    }
+    let link = room_to_link(alloc, tasks.as_slice(), pad, sink.element)?;
+    let before = graph.sink_behind(source);
+    match graph.relink(alloc, source, sink)? {
+        Linking::Linked => {
+            let opened = link.opens();
+            Ok(Some(Prepared {
+                pad,
+                before,
+                opened,
+                undo,
+                link,
+            }))
+        }
+        Linking::Loops => Ok(None),
+    }
+}
+
+/// Whether the task is not split at an element.
+fn is_apart<E: TaskElement, I, O>(room: &UndoRoom<E, I, O>, element: u32) -> bool
+    ensures { IsTrue result ↔ SplitsNot room.now element }
+{
+    match room {
+        UndoRoom::Split { element: at, .. } => *at != element,
+        UndoRoom::Whole => true,
+    }
+}
+
+/// Undoes the link of the source pad and links it to a sink pad of an element, in the tasks and in what control keeps.
+fn carry_out<S: TaskSource, E: TaskElement, I: Inlet<Out = O>, O: Outlet<Lanes = I::Lanes>>(
+    alloc: Global,
+    feeds: &mut Feeds,
+    tasks: &mut Vec<Task<S, E, I, O>>,
+    prepared: Prepared<E, I, O>,
+    sink: PadPlace,
+    items: u64,
+) -> Result<bool, Stopped>
+    requires prepared { (source : Places) × IsPrepared tasks.old source sink prepared }
+    ensures run { IfOk result (λ done. (graph : Graphs) (g : Edited) (m : Moment) (tells : _) (source : Places) → IsPrepared tasks.old source sink prepared
+        → prepared.before ≡ sink_behind g.links source → IsToRelink graph feeds.old tasks.old.items g m tells source sink items
+        → (done ≡ true) × RunsRelinked feeds.new tasks.new.items g m tells source sink items) }
+    ensures faults { IfErr result (λ stopped. (graph : Graphs) (g : Edited) (m : Moment) (tells : _) (source : Places) → IsPrepared tasks.old source sink prepared
+        → IsToRelink graph feeds.old tasks.old.items g m tells source sink items → IsRelinkedShort tasks.new.items g m tells source sink items stopped) }
+{
+    let to = Inside {
+        element: sink.element,
+        pad: sink.pad,
+    };
+    undo(tasks, prepared.pad, prepared.undo);
+    keep(feeds, prepared.before, sink, prepared.pad, items, prepared.opened);
+    link(alloc, tasks, prepared.pad, to, prepared.link)
+}
+
+/// What control keeps of the elements, once the link of a source pad to the one sink pad was undone and one to another was made.
+fn keep(feeds: &mut Feeds, before: Option<PadPlace>, sink: PadPlace, pad: u32, items: u64, opened: bool)
+    ensures { (g : Edited) (h : ℕ → List Item) (source : Places) → AreFeeds feeds.old g h → IsToKeep g h source sink before pad items opened
+        → AreFeeds feeds.new (relinked_at source items sink g) h }
+{
+    if let Some(before) = before {
+        feeds.undone(before, pad, items, false);
+    }
+    feeds.linked(sink, items, opened);
+}
