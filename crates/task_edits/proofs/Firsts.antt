@@ -12,8 +12,7 @@ use Rattle.task_parts.specs.declared.head.Head.{Head}
 use Rattle.task_parts.specs.declared.head.Head.TheVariants.{Source, Inlets}
 use Rattle.task_parts.specs.declared.part.Part.{Part}
 use Rattle.task_edits.specs.Changes.{HeadChanged, LedBy, PartChanged}
-use Rattle.task_edits.specs.Places.{FirstAt, FirstPart, HasNoPad, HeadHasNot, IsOfHead, NoPart, NoPort, first_pad, first_part, first_port, or_next}
-use Rattle.task_edits.specs.declared.places.PadAt.{PadAt}
+use Rattle.task_edits.specs.Places.{FirstAt, HasNoPad, HeadHasNot, NoPart, NoPort, first_pad, first_part, first_port, or_next}
 use Rattle.task_edits.specs.declared.places.PadAt.TheVariants as ats
 
 module _ {O : Type 0} where
@@ -58,19 +57,10 @@ module _ {E O : Type 0} {e : elements.Ghosts E} where
       ap (λ (first : Option (Pad O)). or_next first (first_part parts number)) (port_none one.pads.items number (none zero one refl)) ∙ part_none parts number (λ place part at. none (suc place) part at)
 
 module _ {S E I O : Type 0} {s : sources.Ghosts S} {e : elements.Ghosts E} where
-  -- the pad of the source is found before all others
-  pub head_first : (head : Head S I O s) (parts : List (Part E O e)) (number : ℕ) → IsOfHead head number → FirstAt head parts number ats.Source
-  head_first (Source head) parts number is = here head.pad (first_part parts number) number is
-  head_first (Inlets head) parts number is = is
-
-  -- and where it has not the number, the first of the elements
+  -- where the pad of the source has not the number, the first of the elements is found
   past_head : (head : Head S I O s) (parts : List (Part E O e)) (number : ℕ) → HeadHasNot head number → first_pad head parts number ≡ first_part parts number
   past_head (Source head) parts number none = past head.pad (first_part parts number) number none
   past_head (Inlets head) parts number none = refl
-
-  pub parts_first : (head : Head S I O s) (parts : List (Part E O e)) (number : ℕ) (at : PadAt) → HeadHasNot head number → FirstPart parts number at → FirstAt head parts number at
-  parts_first head parts number ats.Source none first = absurd first
-  parts_first head parts number (ats.Part place port) none first = λ part pad part_at pad_at. past_head head parts number none ∙ first part pad part_at pad_at
 
   pub pad_none : (head : Head S I O s) (parts : List (Part E O e)) (number : ℕ) → HasNoPad head parts number → first_pad head parts number ≡ None
   pad_none head parts number none = past_head head parts number none.0 ∙ part_none parts number none.1
