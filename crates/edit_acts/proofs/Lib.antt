@@ -17,6 +17,7 @@ pub mod Graphs
 mod Joinable
 mod Linked
 mod Overs
+mod Fitting
 mod Owned
 mod Owing
 mod Controls

@@ -25,7 +25,7 @@ use Rattle.task_pads.specs.declared.pad.Behind.TheVariants.{Nothing}
 use Rattle.task_parts.specs.declared.head.Head.{Head}
 use Rattle.task_parts.specs.declared.head.Head.TheVariants.{Source, Inlets}
 use Rattle.net_task.specs.declared.task.Task.{Task}
-use Rattle.net_task.specs.Frame.{IsWire, Room, Wire, frame_of, room_in, wire_of}
+use Rattle.net_task.specs.Frame.{IsWire, Room, frame_of, room_in, wire_of}
 use Rattle.net_task.specs.Ready.{EndsWith, HeadApart, LeadsInto, RowsApart}
 use Rattle.net_turns.specs.Net.{HasRow, NetReady, NetStands, SendsInto}
 use Rattle.net_turns.proofs.Facts.{row_once, sends_leads}
@@ -35,13 +35,13 @@ use Rattle.task_edits.specs.Places.{HasPad}
 use Rattle.task_edits.proofs.Absent.{has_not}
 use Rattle.task_edits.proofs.Insides.{has_pad_of}
 use Rattle.task_edits.proofs.Wiring.{pad_wire}
-use Rattle.net_edits.specs.Ending.{HaveOnce, IsEndedOver, StandEndedOver}
+use Rattle.net_edits.specs.Ending.{IsEndedOver, StandEndedOver}
 use Rattle.net_edits.specs.Nets.{IsUnlinkedAt, TaskHas}
 use Rattle.net_edits.specs.Over.{IsGrownAt, eos_given}
 use Rattle.net_edits.proofs.Acts.{unlinked_alike, unlinked_laid, unlinked_ready}
 use Rattle.net_edits.proofs.Laying.{Laid, laid_of, net_of}
 use Rattle.net_edits.proofs.NetGrown.{AreFresh, EndsStay, element_grown, found, laid_grown, net_grown, row_before}
-use Rattle.net_edits.proofs.Parted.{ends_once, none_into, not_last, over_room, pad_is_wire, tied_once, was_pad}
+use Rattle.net_edits.proofs.Parted.{ends_once, none_into, not_last, over_room, pad_is_wire}
 use Rattle.net_edits.proofs.Pushed.{feeds_more, free_alone}
 use Rattle.net_edits.proofs.Pushing.{lays_pushed, pushed}
 use Rattle.net_edits.proofs.Restands.{sends_back}
@@ -70,7 +70,7 @@ undo_alone h p place eos (WasLinked source from to ended marks ∷ ss) stands li
 undo_alone h p place eos (Flushed number ∷ ss) stands links = undo_alone h p place eos ss stands links
 undo_alone h p place eos (Given calls ∷ ss) stands links = undo_alone h p place eos ss stands links
 
-undo_frees : (h : ℕ → List Item) (p place : ℕ) (eos : Bool) (k : ℕ) (sss : List (List Span)) → AllStanding h sss → LinksAt p k sss → IsFree k (map (map (undo p place eos)) sss)
+pub undo_frees : (h : ℕ → List Item) (p place : ℕ) (eos : Bool) (k : ℕ) (sss : List (List Span)) → AllStanding h sss → LinksAt p k sss → IsFree k (map (map (undo p place eos)) sss)
 undo_frees h p place eos k [] stands links = absurd links
 undo_frees h p place eos zero (ss ∷ sss) stands links = undo_alone h p place eos ss stands.0 links.0
 undo_frees h p place eos (suc k) (ss ∷ sss) stands links = undo_frees h p place eos k sss stands.1 links.1
@@ -162,64 +162,59 @@ module _ {S E I O L : Type 0} {s : sources.Ghosts S} {e : elements.Ghosts E} {i 
   abbrev has : TaskHas tasks pad l.sender
   has = record { task = l.over.task; at = l.over.at; has = has_pad_of l.over.task.head l.over.task.parts.items l.over.leads.pad pad l.over.leads.is l.over.leads.number_is }
 
-  module _ (once : HaveOnce tasks pad) where
-    -- no pad leads into the lane any more
-    gone : (k q from a b : ℕ) → SendsInto mid k q place from a b → ⊥
-    gone k q from a b x =
-        let before = sends_back tasks l.sender l.undone.was l.undone.is was_at (unlinked_alike tasks mid l.sender pad l.back apart) k q place from a b x in
-        let same = n.wired.one_sends k l.sender q pad place from l.over.leads.leads.1 a element b port before sends in
-        let task_is : x.task ≡ l.undone.is = some_same (sym x.at ∙ (ap (λ (j : ℕ). slice_get mid j) same.0 ∙ set_at tasks l.sender l.undone.was l.undone.is was_at)) in
-        go task_is l.undone.changed
-      where
-        was_is : l.over.task ≡ l.undone.was
-        was_is = some_same (sym l.over.at ∙ was_at)
+  -- no pad leads into the lane any more
+  gone : (k q from a b : ℕ) → SendsInto mid k q place from a b → ⊥
+  gone k q from a b x =
+      let before = sends_back tasks l.sender l.undone.was l.undone.is was_at (unlinked_alike tasks mid l.sender pad l.back apart) k q place from a b x in
+      let same = n.wired.one_sends k l.sender q pad place from l.over.leads.leads.1 a element b port before sends in
+      let task_is : x.task ≡ l.undone.is = some_same (sym x.at ∙ (ap (λ (j : ℕ). slice_get mid j) same.0 ∙ set_at tasks l.sender l.undone.was l.undone.is was_at)) in
+      go task_is l.undone.changed
+    where
+      was_is : l.over.task ≡ l.undone.was
+      was_is = some_same (sym l.over.at ∙ was_at)
 
-        go : x.task ≡ l.undone.is → Changed (LedBy Nothing l.back) (l.back ≡ Nothing) pad l.undone.was.head l.undone.was.parts.items l.undone.is.head l.undone.is.parts.items → ⊥
-        go task_is (inl (was, is, number, by, changed)) =
-            let pad_is = was_pad o l.undone.was.head l.undone.is.head l.undone.was.parts.items l.undone.is.parts.items was is changed in
-            let wire_is : wire_of o l.over.leads.pad ≡ wire_of o was =
-            once l.sender l.undone.was (wire_of o l.over.leads.pad) (wire_of o was) was_at (subst (λ (t : Task S E I O L s e i o). IsWire (frame_of t) (wire_of o l.over.leads.pad)) was_is (pad_is_wire o l.over.task.head l.over.task.parts.items l.over.leads.pad l.over.leads.is))
-            (pad_is_wire o l.undone.was.head l.undone.was.parts.items was pad_is) l.over.leads.number_is number in
-            none_into o l.undone.was.head l.undone.is.head l.undone.was.parts.items l.undone.is.parts.items was is changed (ap (λ (behind : Behind O). goes behind) by.0.leads) place (subst (λ (w : Wire). LeadsInto w place) wire_is into) (n.ready l.sender l.undone.was was_at).wires_apart
-            x.out.wire (subst (λ (t : Task S E I O L s e i o). IsWire (frame_of t) x.out.wire) task_is x.out.is) x.out.lane a b from x.out.leads x.out.into
-        go task_is (inr (none, h, q, k)) = has_not l.undone.was.head l.undone.was.parts.items pad (subst (λ (t : Task S E I O L s e i o). HasPad t.head t.parts.items pad) was_is has.has) none
+      go : x.task ≡ l.undone.is → Changed (LedBy Nothing l.back) (l.back ≡ Nothing) pad l.undone.was.head l.undone.was.parts.items l.undone.is.head l.undone.is.parts.items → ⊥
+      go task_is (inl (was, is, number, by, changed)) =
+          let led : LeadsInto (wire_of o was) place = record { room = room.0; room_is = ap (λ (behind : Behind O). room_in (end_in o behind)) (sym by.1 ∙ l.led) ∙ room.1; place_is = refl } in
+          none_into o l.undone.was.head l.undone.is.head l.undone.was.parts.items l.undone.is.parts.items was is changed (ap (λ (behind : Behind O). goes behind) by.0.leads) place led (n.ready l.sender l.undone.was was_at).wires_apart
+          x.out.wire (subst (λ (t : Task S E I O L s e i o). IsWire (frame_of t) x.out.wire) task_is x.out.is) x.out.lane a b from x.out.leads x.out.into
+      go task_is (inr (none, h, q, k)) = has_not l.undone.was.head l.undone.was.parts.items pad (subst (λ (t : Task S E I O L s e i o). HasPad t.head t.parts.items pad) was_is has.has) none
 
-    stay : EndsStay mid tasks' l.receiver port eos_given grown
-    stay k q at from x end = absurd (gone k q from l.grown.grew.old.number port (subst (λ (a : ℕ). SendsInto mid k q a from l.grown.grew.old.number port) (ends_once i row at place end ends) x))
+  stay : EndsStay mid tasks' l.receiver port eos_given grown
+  stay k q at from x end = absurd (gone k q from l.grown.grew.old.number port (subst (λ (a : ℕ). SendsInto mid k q a from l.grown.grew.old.number port) (ends_once i row at place end ends) x))
 
-    fresh : AreFresh tells mid eos_given
-    fresh = record { unused = tt; within = tt; apart = tt }
+  fresh : AreFresh tells mid eos_given
+  fresh = record { unused = tt; within = tt; apart = tt }
 
-    -- The tasks are ready.
-    pub ended_ready : NetReady tasks' tells
-    ended_ready = net_grown mid tasks' l.receiver port eos_given grown tells fresh stay (unlinked_ready tasks mid l.sender pad l.back apart tells n)
+  -- The tasks are ready.
+  pub ended_ready : NetReady tasks' tells
+  ended_ready = net_grown mid tasks' l.receiver port eos_given grown tells fresh stay (unlinked_ready tasks mid l.sender pad l.back apart tells n)
 
-    module _ (m : Moment) (net : NetStands m tasks tells) where
-      abbrev after : Moment
-      after = planned (undone pad (length (m.history pad)) true m.plan) m
+  module _ (m : Moment) (net : NetStands m tasks tells) where
+    abbrev after : Moment
+    after = planned (undone pad (length (m.history pad)) true m.plan) m
 
-      leads : Leads m.plan pad element port
-      leads = sends_leads m tasks tells net l.sender pad place l.over.leads.leads.1 element port sends
+    leads : Leads m.plan pad element port
+    leads = sends_leads m tasks tells net l.sender pad place l.over.leads.leads.1 element port sends
 
-      free : (p : ℕ) → Leads after.plan p element port → ⊥
-      free p there = free_alone p port (after.plan.sinks element) (undo_frees m.history pad (length (m.history pad)) true port (m.plan.sinks element) (net.cells element).standing leads.here) there.here
+    free : (p : ℕ) → Leads after.plan p element port → ⊥
+    free p there = free_alone p port (after.plan.sinks element) (undo_frees m.history pad (length (m.history pad)) true port (m.plan.sinks element) (net.cells element).standing leads.here) there.here
 
-      laid : Laid (held_at (pushed element port (Feed (Ev Eos) ∷ []) after) after) tasks' tells net.table net.sents
-      laid =
-          laid_grown mid tasks' l.receiver port eos_given grown after (pushed element port (Feed (Ev Eos) ∷ []) after) tells net.table net.sents net.sents fresh stay (λ a far. refl) tt
-          (lays_pushed mid tasks' l.receiver port eos_given grown after element (Feed (Ev Eos) ∷ []) element_is refl free) feeds_more
-          (unlinked_laid tasks mid l.sender pad l.back true has apart m tells net.table net.sents (laid_of m tasks tells net))
+    laid : Laid (held_at (pushed element port (Feed (Ev Eos) ∷ []) after) after) tasks' tells net.table net.sents
+    laid =
+        laid_grown mid tasks' l.receiver port eos_given grown after (pushed element port (Feed (Ev Eos) ∷ []) after) tells net.table net.sents net.sents fresh stay (λ a far. refl) tt
+        (lays_pushed mid tasks' l.receiver port eos_given grown after element (Feed (Ev Eos) ∷ []) element_is refl free) feeds_more
+        (unlinked_laid tasks mid l.sender pad l.back true has apart m tells net.table net.sents (laid_of m tasks tells net))
 
-      stands : StandEndedOver m tasks' tells pad
-      stands = record {
-        to = l.to;
-        leads = leads;
-        stands = net_of (ended_over pad element port m) tasks' tells net.table net.sents laid (record { uncut = net.plain.uncut; calm = net.plain.calm; closed = net.plain.closed }) (λ a. ending_over_keeps m pad element port leads a (net.cells a));
-      }
+    stands : StandEndedOver m tasks' tells pad
+    stands = record {
+      to = l.to;
+      leads = leads;
+      stands = net_of (ended_over pad element port m) tasks' tells net.table net.sents laid (record { uncut = net.plain.uncut; calm = net.plain.calm; closed = net.plain.closed }) (λ a. ending_over_keeps m pad element port leads a (net.cells a));
+    }
 
 module _ {S E I O L : Type 0} {s : sources.Ghosts S} {e : elements.Ghosts E} {i : inlets.Ghosts I L O} {o : outlets.Ghosts O L} (tasks tasks' : List (Task S E I O L s e i o)) (pad : ℕ) (l : IsEndedOver tasks tasks' pad) where
   -- The tasks stand.
   pub ended_stands : (m : Moment) (tells : Option (List Lane)) → NetStands m tasks tells → StandEndedOver m tasks' tells pad
   ended_stands m tells net =
-      stands tasks tasks' pad l tells (record { wired = net.wired; ready = net.ready })
-      (λ k task one other at. tied_once i o m task.head task.parts.items (net.tied k task at) pad one other) m net
+      stands tasks tasks' pad l tells (record { wired = net.wired; ready = net.ready }) m net

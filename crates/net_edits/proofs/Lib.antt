@@ -10,11 +10,11 @@ mod TiesGrown
 pub mod NetGrown
 mod PadsOver
 pub mod NetLed
-mod Pushed
+pub mod Pushed
 mod Pushing
 pub mod Linked
-mod Parted
-mod Ended
+pub mod Parted
+pub mod Ended
 mod Lefts
 mod Rowed
 mod LanesMore

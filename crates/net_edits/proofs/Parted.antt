@@ -1,6 +1,7 @@
 -- A pad that led over a lane: how its task sends into that, and that nobody does once the pad leads nowhere.
 use Rattle.std.proofs.Common.{◌≡◌, ◌≢◌, ◌⊎◌, ◌++◌, ℕ, List, [], ◌∷◌, map, Some, get_or, refl, sym, ap, ◌∙◌, subst, inl, inr}
 use Rattle.std.specs.Prelude.{slice_get, slice_set}
+use Rattle.std.proofs.lemmas.Bool.{cases_eq}
 use Rattle.gst_value.proofs.Basics.{some_same}
 use Rattle.gst_value.proofs.Places.{map_get, set_at}
 use Rattle.inlet_row.specs.Row.{ForLanes, feeds_of}
@@ -9,7 +10,6 @@ use Rattle.inlet_row.specs.declared.feeding.Feeding.TheVariants.{Given, Lane as 
 use Rattle.inlet_row.specs.declared.row.InletRow.{InletRow}
 use Rattle.lane_core.specs.declared.ends.Inlet as inlets
 use Rattle.lane_core.specs.declared.ends.Outlet as outlets
-use Rattle.net_model.specs.Moment.{Moment}
 use Rattle.net_model.specs.declared.element.TaskElement as elements
 use Rattle.net_model.specs.declared.source.TaskSource as sources
 use Rattle.task_pads.proofs.Lists.{some_at}
@@ -17,23 +17,23 @@ use Rattle.task_pads.specs.Behind.{end_in, goes, nowhere, over}
 use Rattle.task_pads.specs.declared.pad.Behind.{Behind}
 use Rattle.task_pads.specs.declared.pad.Behind.TheVariants as behinds
 use Rattle.task_pads.specs.declared.pad.Pad.{Pad}
-use Rattle.task_pads.specs.Pads.{goes_of, number_of}
+use Rattle.task_pads.specs.Pads.{goes_of}
 use Rattle.task_parts.specs.declared.head.Head.{Head}
-use Rattle.task_parts.specs.declared.head.Head.TheVariants.{Source, Inlets}
 use Rattle.task_parts.specs.declared.part.Part.{Part}
 use Rattle.net_task.specs.declared.task.Task.{Task}
 use Rattle.net_task.specs.Frame.{IsWire, Room, Wire, WireAt, frame_in, head_frame, head_wire, of_head, of_part, part_frame, room_in, wire_of}
 use Rattle.net_task.specs.Ready.{EndsWith, LeadsInto, WiresApart}
-use Rattle.net_task.specs.Ties.{AreTied, Stands, nothing_lost}
 use Rattle.task_edits.specs.Changes.{PadIs}
 use Rattle.task_edits.specs.Inside.{IsPadOf}
 use Rattle.task_edits.specs.Leads.{LeadsOver, NotOver}
-use Rattle.task_edits.specs.Places.{HasPad}
+use Rattle.task_edits.specs.Places.{HasPad, first_pad, first_part}
 use Rattle.task_edits.specs.declared.leading.Beyond.{Beyond}
 use Rattle.task_edits.proofs.Absent.{has_not}
 use Rattle.task_edits.proofs.Wiring.{PadAt, pad_before, pad_wire, wire_pad}
 use Rattle.net_edits.specs.Ending.{HasOver, HasOverNone}
-use Rattle.net_edits.specs.Nets.{TaskHas}
+use Rattle.net_edits.specs.Nets.{IsFirstOf, TaskHas}
+use Rattle.net_edits.specs.Over.{IsGrownAt}
+use Rattle.net_edits.proofs.NetGrown.{here as grown_here, there as grown_there}
 use Rattle.net_edits.proofs.Together.{pad_within}
 
 module _ {I L O : Type 0} (i : inlets.Ghosts I L O) where
@@ -82,11 +82,6 @@ module _ {S E I O L : Type 0} {s : sources.Ghosts S} {e : elements.Ghosts E} (o 
   pad_is_wire head parts pad (IsPadOf.of_source source is same) = of_head (ap (λ (h : Head S I O s). head_wire (head_frame o h)) is ∙ ap (λ (q : Pad O). Some (wire_of o q)) same)
   pad_is_wire head parts pad (IsPadOf.of_part place port part at pad_at) = of_part place port (record { part = part_frame o part; at = map_get (part_frame o) parts place part at; pad_at = map_get (wire_of o) part.pads.items port pad pad_at })
 
-  -- so is the pad that is another now
-  pub was_pad : (head head' : Head S I O s) (parts parts' : List (Part E O e)) (was is : Pad O) → PadIs head parts head' parts' was is → IsPadOf head parts was
-  was_pad head head' parts parts' was is (PadIs.of_source old new here here' pad pad' same stays) = IsPadOf.of_source old here pad
-  was_pad head head' parts parts' was is (PadIs.of_part place port old new at set pad same) = IsPadOf.of_part place port old at pad.at
-
   -- No pad of a task leads over a lane any more once the one that did leads nowhere.
   pub none_into : (head head' : Head S I O s) (parts parts' : List (Part E O e)) (was is : Pad O) → PadIs head parts head' parts' was is → goes_of is ≡ nowhere → (place : ℕ) → LeadsInto (wire_of o was) place → WiresApart (frame_in o head parts)
       → (wire : Wire) → IsWire (frame_in o head' parts') wire → (lane n k from : ℕ) → wire.leads ≡ over lane n k from → LeadsInto wire place → ⊥
@@ -114,44 +109,36 @@ module _ {S E I O L : Type 0} {s : sources.Ghosts S} {e : elements.Ghosts E} (o 
           some_same (sym z.1.pad_at ∙ (ap (λ (p : Part E O e). slice_get p.pads.items k) part_is ∙ (ap (λ (x : ℕ). slice_get new.pads.items x) places.1 ∙ (ap (λ (ps : List (Pad O)). slice_get ps at_port) pad.set ∙ set_at old.pads.items at_port was is pad.at)))) in
           clash o is wire lane n i from nothing (ap (λ (q : Pad O). wire_of o q) (sym pad_is) ∙ z.2) leads
 
-module _ {S E I O L : Type 0} {s : sources.Ghosts S} {e : elements.Ghosts E} (i : inlets.Ghosts I L O) (o : outlets.Ghosts O L) (m : Moment) where
-  -- the pad of a source has another number than that of an element
-  source_apart : (head : Head S I O s) (parts : List (Part E O e)) → AreTied i o (Stands m) nothing_lost m head parts → (p j k : ℕ) (one other : Wire) → head_wire (head_frame o head) ≡ Some one → WireAt (frame_in o head parts) j k other → one.number ≡ p → other.number ≡ p → ⊥
-  source_apart (Inlets head) parts t p j k one other is_head w a b = absurd cc
-  source_apart (Source head) parts t p j k one other is_head w a b =
-      let z = wire_pad {I = I} o (Source head) parts j k other w in
-      let tied = (t.parts_tied.each j z.1.part z.1.at).pads k z.0 z.1.pad_at in
-      let theirs : number_of z.0 ≡ p = ap (λ (x : Wire). x.number) z.2 ∙ b in
-      let ours : number_of head.pad ≡ p = ap (λ (x : Wire). x.number) (some_same is_head) ∙ a in
-      t.head_tied.apart j z.1.part z.1.at (sym tied.owner ∙ (ap m.plan.owner (theirs ∙ sym ours) ∙ t.head_tied.owner))
-
-  -- Where a task stands for a moment, no two of its source pads have one number.
-  pub tied_once : (head : Head S I O s) (parts : List (Part E O e)) → AreTied i o (Stands m) nothing_lost m head parts → (p : ℕ) (one other : Wire) → IsWire (frame_in o head parts) one → IsWire (frame_in o head parts) other → one.number ≡ p → other.number ≡ p → one ≡ other
-  tied_once head parts t p one other (of_head x) (of_head y) a b = some_same (sym x ∙ y)
-  tied_once head parts t p one other (of_head x) (of_part j k w) a b = absurd (source_apart head parts t p j k one other x w a b)
-  tied_once head parts t p one other (of_part j k w) (of_head y) a b = absurd (source_apart head parts t p j k other one y w b a)
-  tied_once head parts t p one other (of_part j k w) (of_part j' k' w') a b =
-      let z = wire_pad o head parts j k one w in
-      let z' = wire_pad o head parts j' k' other w' in
-      let tied = (t.parts_tied.each j z.1.part z.1.at).pads k z.0 z.1.pad_at in
-      let tied' = (t.parts_tied.each j' z'.1.part z'.1.at).pads k' z'.0 z'.1.pad_at in
-      let number : number_of z.0 ≡ p = ap (λ (x : Wire). x.number) z.2 ∙ a in
-      let number' : number_of z'.0 ≡ p = ap (λ (x : Wire). x.number) z'.2 ∙ b in
-      let place : j ≡ j' = t.parts_tied.once j j' z.1.part z'.1.part z.1.at z'.1.at (sym tied.owner ∙ (ap m.plan.owner (number ∙ sym number') ∙ tied'.owner)) in
-      let part_is : z.1.part ≡ z'.1.part = some_same (sym z.1.at ∙ (ap (λ (x : ℕ). slice_get parts x) place ∙ z'.1.at)) in
-      let port : k ≡ k' = sym tied.port_is ∙ (ap m.plan.port (number ∙ sym number') ∙ tied'.port_is) in
-      let pad_is : z.0 ≡ z'.0 = some_same (sym z.1.pad_at ∙ (ap (λ (q : Part E O e). slice_get q.pads.items k) part_is ∙ (ap (λ (x : ℕ). slice_get z'.1.part.pads.items x) port ∙ z'.1.pad_at))) in
-      sym z.2 ∙ (ap (λ (q : Pad O). wire_of o q) pad_is ∙ z'.2)
-
 module _ {S E I O L : Type 0} {s : sources.Ghosts S} {e : elements.Ghosts E} {i : inlets.Ghosts I L O} {o : outlets.Ghosts O L} (tasks : List (Task S E I O L s e i o)) (pad place : ℕ) (has : TaskHas tasks pad place) (task : Task S E I O L s e i o) (is : task ≡ get_or tasks place task) where
-  task_at : slice_get tasks place ≡ Some task
+  pub task_at : slice_get tasks place ≡ Some task
   task_at = some_at tasks place task (pad_within tasks pad place has) is
 
   -- where the pad was looked up and leads over a lane
-  pub leads_over : (to : Beyond) → LeadsOver task.head task.parts.items pad to → HasOver tasks pad place to
+  abbrev pub leads_over : (to : Beyond) → LeadsOver task.head task.parts.items pad to → HasOver tasks pad place to
   leads_over to leads = record { task = task; at = task_at; leads = leads }
+
+  pub leads_first : (to : Beyond) (leads : LeadsOver task.head task.parts.items pad to) → IsFirstOf tasks place pad leads.pad
+  leads_first to leads = record { task = task; at = task_at; first = leads.first }
 
   -- where it leads over none
   pub leads_over_none : NotOver task.head task.parts.items pad → HasOverNone tasks pad place
   leads_over_none (inl lacks) = absurd (has_not task.head task.parts.items pad (subst (λ (t : Task S E I O L s e i o). HasPad t.head t.parts.items pad) (some_same (sym has.at ∙ task_at)) has.has) lacks)
   leads_over_none (inr none) = record { task = task; at = task_at; leads = none }
+
+-- where more stands behind a row of one of the tasks
+module _ {S E I O L : Type 0} {s : sources.Ghosts S} {e : elements.Ghosts E} {i : inlets.Ghosts I L O} {o : outlets.Ghosts O L} (tasks tasks' : List (Task S E I O L s e i o)) (r port : ℕ) (more : List (Feeding I)) (g : IsGrownAt tasks tasks' r port more) where
+  -- the first pad of a number is the one that it was
+  pub first_grown : (j pad : ℕ) (one : Pad O) → IsFirstOf tasks j pad one → IsFirstOf tasks' j pad one
+  first_grown j pad one z = go (cases_eq j r)
+    where
+      go : (j ≡ r) ⊎ (j ≡ r → ⊥) → IsFirstOf tasks' j pad one
+      go (inr ne) = record { task = z.task; at = grown_there tasks tasks' r port more g j ne ∙ z.at; first = z.first }
+      go (inl same) =
+          let was : first_pad g.was.head g.was.parts.items pad ≡ Some one =
+          subst (λ (t : Task S E I O L s e i o). first_pad t.head t.parts.items pad ≡ Some one) (some_same (sym z.at ∙ (ap (λ (x : ℕ). slice_get tasks x) same ∙ g.at))) z.first in
+          let fed : first_part g.was.parts.items pad ≡ Some one = subst (λ (h : Head S I O s). first_pad h g.was.parts.items pad ≡ Some one) g.grew.was_fed was in
+          record {
+            task = g.is;
+            at = ap (λ (x : ℕ). slice_get tasks' x) same ∙ grown_here tasks tasks' r port more g;
+            first = subst (λ (h : Head S I O s). first_pad h g.is.parts.items pad ≡ Some one) (sym g.grew.fed) (subst (λ (ps : List (Part E O e)). first_part ps pad ≡ Some one) (sym g.grew.parts) fed);
+          }

@@ -10,7 +10,6 @@ use Rattle.net_model.specs.declared.element.TaskElement as elements
 use Rattle.net_model.specs.declared.source.TaskSource as sources
 use Rattle.task_pads.specs.declared.pad.Behind.{Behind}
 use Rattle.net_task.specs.declared.task.Task.{Task}
-use Rattle.net_task.specs.Frame.{IsWire, Wire, frame_of}
 use Rattle.net_turns.specs.Net.{NetStands}
 use Rattle.task_edits.specs.Leads.{LeadsOver, LeadsOverNone}
 use Rattle.task_edits.specs.declared.leading.Beyond.{Beyond}
@@ -41,16 +40,13 @@ module _ {S E I O L : Type 0} {s : sources.Ghosts S} {e : elements.Ghosts E} {i 
     pub grown : IsGrownAt tasks between receiver to.pad eos_given
     pub back : Behind O
     pub undone : IsUnlinkedAt between tasks' sender pad back
+    pub led : back ≡ over.leads.pad.behind
 
   -- Why no link over a lane can be ended: no task has the pad, it leads over none, or no task has a row of the sink pad.
   pub data CannotEnd (tasks : List (Task S E I O L s e i o)) (pad : ℕ) : Type 0 where
     no_pad : NoneHas tasks pad → CannotEnd tasks pad
     no_lane : (place : ℕ) → HasOverNone tasks pad place → CannotEnd tasks pad
     no_row : (place : ℕ) (to : Beyond) → HasOver tasks pad place to → NoneFeeds tasks to.element to.pad → CannotEnd tasks pad
-
-  -- no two source pads of a task have the number
-  abbrev pub HaveOnce : List (Task S E I O L s e i o) → ℕ → Type 0
-  HaveOnce tasks pad = (k : ℕ) (task : Task S E I O L s e i o) (one other : Wire) → slice_get tasks k ≡ Some task → IsWire (frame_of task) one → IsWire (frame_of task) other → one.number ≡ pad → other.number ≡ pad → one ≡ other
 
   -- Tasks stand at the moment at which the link of the pad over a lane was undone with EOS.
   pub record StandEndedOver (m : Moment) (tasks' : List (Task S E I O L s e i o)) (tells : Option (List Lane)) (pad : ℕ) : Type 0 where

@@ -15,8 +15,9 @@ use Rattle.net_task.specs.Ties.{Ties}
 use Rattle.pad_core.specs.declared.probe.Probe.{Probe}
 use Rattle.task_pads.specs.declared.pad.Behind.{Behind}
 use Rattle.task_pads.specs.declared.pad.Behind.TheVariants.{Nothing}
+use Rattle.task_pads.specs.declared.pad.Pad.{Pad}
 use Rattle.task_edits.specs.Changes.{Changed, LedBy, ProbedBy}
-use Rattle.task_edits.specs.Places.{HasNoPad, HasPad}
+use Rattle.task_edits.specs.Places.{HasNoPad, HasPad, first_pad}
 
 module _ {S E I O L : Type 0} {s : sources.Ghosts S} {e : elements.Ghosts E} {i : inlets.Ghosts I L O} {o : outlets.Ghosts O L} where
   -- The task at a place has another probe at a pad, or none, and no other task changed.
@@ -46,6 +47,12 @@ module _ {S E I O L : Type 0} {s : sources.Ghosts S} {e : elements.Ghosts E} {i 
     pub task : Task S E I O L s e i o
     pub at : slice_get tasks place ≡ Some task
     pub has : HasPad task.head task.parts.items pad
+
+  -- this is the source pad of a number of the task at a place, the first if several have the number
+  pub record IsFirstOf (tasks : List (Task S E I O L s e i o)) (place pad : ℕ) (one : Pad O) : Type 0 where
+    pub task : Task S E I O L s e i o
+    pub at : slice_get tasks place ≡ Some task
+    pub first : first_pad task.head task.parts.items pad ≡ Some one
 
   -- no task has it
   abbrev pub NoneHas : List (Task S E I O L s e i o) → ℕ → Type 0

@@ -4,7 +4,7 @@ ghost use Rattle.net_model.specs.Edit.{unlinked};
 ghost use Rattle.net_model.specs.Moment.{Moment};
 ghost use Rattle.net_turns.specs.Net.{NetReady, NetStands};
 ghost use Rattle.net_turns.specs.Turns.{net_left};
-ghost use Rattle.net_edits.specs.Nets.{IsProbed, IsProbedAt, IsUnlinked, IsUnlinkedAt, NoneHas, TaskHas};
+ghost use Rattle.net_edits.specs.Nets.{IsFirstOf, IsProbed, IsProbedAt, IsUnlinked, IsUnlinkedAt, NoneHas, TaskHas};
 
 use lane_core::{Inlet, Outlet};
 use net_model::{TaskElement, TaskSource};
@@ -98,6 +98,7 @@ pub(crate) fn unlink_at<
 >(tasks: &mut Vec<Task<S, E, I, O>>, place: usize, pad: u32) -> Behind<O>
     requires place { place < vec_len tasks.old }
     ensures undone { IsUnlinkedAt tasks.old.items tasks.new.items place pad result }
+    ensures back { (one : _) → IsFirstOf tasks.old.items place pad one → result ≡ one.behind }
     ensures room { vec_capacity tasks.new ≡ vec_capacity tasks.old }
 {
     let last = tasks.len() - 1;

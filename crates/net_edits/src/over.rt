@@ -9,7 +9,7 @@ ghost use Rattle.net_model.specs.Moment.{Moment};
 ghost use Rattle.net_model.specs.Step.{LeadsNowhere};
 ghost use Rattle.net_turns.specs.Net.{NetReady, NetStands};
 ghost use Rattle.net_turns.specs.Turns.{net_left};
-ghost use Rattle.net_edits.specs.Ending.{CannotEnd, HaveOnce, IsEndedOver, StandEndedOver};
+ghost use Rattle.net_edits.specs.Ending.{CannotEnd, IsEndedOver, StandEndedOver};
 ghost use Rattle.net_edits.specs.Over.{AreEnds, AreKept, CannotJoin, FeedsPad, HasRowOf, HeadGrew, InletsFeed, InletsGrew, IsGrownAt, IsLedAt, IsLinkedOver, IsNewLane, NoneFeeds, NoneSends, TaskFeeds, TaskGrew, eos_given, feeds_in, opened_by, when_ok};
 
 use crate::net::{find_task, unlink_at};
@@ -98,7 +98,7 @@ pub fn end_over<S: TaskSource, E: TaskElement, I: Inlet<Out = O>, O: Outlet<Lane
     ensures ended { result ≡ Ok true → IsEndedOver tasks.old.items tasks.new.items pad }
     ensures none { result ≡ Ok false → CannotEnd tasks.old.items pad × (tasks.new ≡ tasks.old) }
     ensures stands { result ≡ Ok true → (m : Moment) (tells : _) → NetStands m tasks.old.items tells → StandEndedOver m tasks.new.items tells pad }
-    ensures ready { result ≡ Ok true → (tells : _) → NetReady tasks.old.items tells → HaveOnce tasks.old.items pad → NetReady tasks.new.items tells }
+    ensures ready { result ≡ Ok true → (tells : _) → NetReady tasks.old.items tells → NetReady tasks.new.items tells }
     ensures moves { result ≡ Ok true → net_left tasks.new.items ≡ net_left tasks.old.items + 1 }
     ensures kept { OnErr result (AreKept tasks.old.items tasks.new.items) }
     ensures stays { OnErr result ((m : Moment) (tells : _) → NetStands m tasks.old.items tells → NetStands m tasks.new.items tells) }

@@ -26,7 +26,7 @@ use Rattle.task_parts.specs.declared.part.Part.{Part}
 use Rattle.task_edits.specs.Changes.{Changed, LedBy, PadIs}
 use Rattle.task_edits.specs.Inside.{CanLinkInside, HasNoRow, HeadLeadsTo, IsPadOf, LeadsElsewhere, LeadsInside, PadLeadsTo, inside_behind}
 use Rattle.task_edits.specs.Leads.{HeadLeadsOver, LeadsOver, LeadsOverNone}
-use Rattle.task_edits.specs.Places.{HasPad, IsOfHead, PartHas}
+use Rattle.task_edits.specs.Places.{FirstAt, HasPad, IsOfHead, PartHas}
 use Rattle.task_edits.specs.declared.places.PadAt.TheVariants as ats
 use Rattle.task_edits.specs.Stickies.{AreStickiesOf, HeadStickies}
 use Rattle.task_parts.proofs.Lists.{at_get}
@@ -114,9 +114,9 @@ pub head_elsewhere : {S E I O : Type 0} {s : sources.Ghosts S} {e : elements.Gho
 head_elsewhere (Source head) parts number is none = record { pad = head.pad; is = IsPadOf.of_source head refl refl; number_is = is; elsewhere = none }
 head_elsewhere (Inlets head) parts number is none = absurd is
 
-pub head_leads_over : {S E I O : Type 0} {s : sources.Ghosts S} {e : elements.Ghosts E} (head : Head S I O s) (parts : List (Part E O e)) (number : ℕ) (to : Beyond) → IsOfHead head number → HeadLeadsOver head to → LeadsOver head parts number to
-head_leads_over (Source head) parts number to is leads = record { pad = head.pad; is = IsPadOf.of_source head refl refl; number_is = is; leads = leads }
-head_leads_over (Inlets head) parts number to is leads = absurd is
+pub head_leads_over : {S E I O : Type 0} {s : sources.Ghosts S} {e : elements.Ghosts E} (head : Head S I O s) (parts : List (Part E O e)) (number : ℕ) (to : Beyond) → IsOfHead head number → FirstAt head parts number ats.Source → HeadLeadsOver head to → LeadsOver head parts number to
+head_leads_over (Source head) parts number to is first leads = record { pad = head.pad; is = IsPadOf.of_source head refl refl; first = first; number_is = is; leads = leads }
+head_leads_over (Inlets head) parts number to is first leads = absurd is
 
 pub head_over_none : {S E I O : Type 0} {s : sources.Ghosts S} {e : elements.Ghosts E} (head : Head S I O s) (parts : List (Part E O e)) (number : ℕ) → IsOfHead head number → ((to : Beyond) → HeadLeadsOver head to → ⊥) → LeadsOverNone head parts number
 head_over_none (Source head) parts number is none = record { pad = head.pad; is = IsPadOf.of_source head refl refl; number_is = is; none = none }
@@ -134,12 +134,12 @@ changed_has By Kept number head head' parts parts' (inl (was, is, number_is, by,
 changed_has By Kept number head head' parts parts' (inr (none, h, p, k)) n has = subst (λ (ps : List (Part _ _ _)). has_number n (map part_shape ps) ≡ true) (sym p) has
 
 -- what was looked up at the place and the port of a pad is that pad
-pub found_pad : {S E I O : Type 0} {s : sources.Ghosts S} {e : elements.Ghosts E} (head : Head S I O s) (parts : List (Part E O e)) (number place port : ℕ) (part : Part E O e) (pads : List (Pad O)) (pad : Pad O) → PartHas parts number place port → part ≡ get_or parts place part
-    → pads ≡ part.pads.items → pad ≡ get_or pads port pad → IsPadOf head parts pad × (number_of pad ≡ number)
+pub found_pad : {S E I O : Type 0} {s : sources.Ghosts S} {e : elements.Ghosts E} (head : Head S I O s) (parts : List (Part E O e)) (number place port : ℕ) (part : Part E O e) (pads : List (Pad O)) (pad : Pad O) → (h : PartHas parts number place port) → part ≡ get_or parts place part
+    → pads ≡ part.pads.items → pad ≡ get_or pads port pad → IsPadOf head parts pad × (number_of pad ≡ number) × (pad ≡ h.port_is.pad)
 found_pad head parts number place port part pads pad h part_is pads_is pad_is =
     let one : part ≡ h.part = at_get parts place h.part part h.part_at part_is in
     let two : pad ≡ h.port_is.pad = at_get pads port h.port_is.pad pad (ap (λ (ps : List (Pad _)). slice_get ps port) (pads_is ∙ ap (λ (p : Part _ _ _). p.pads.items) one) ∙ h.port_is.at) pad_is in
-    (IsPadOf.of_part place port h.part h.part_at (subst (λ (q : Pad _). slice_get h.part.pads.items port ≡ Some q) (sym two) h.port_is.at), ap (λ (q : Pad _). number_of q) two ∙ h.port_is.number_is)
+    (IsPadOf.of_part place port h.part h.part_at (subst (λ (q : Pad _). slice_get h.part.pads.items port ≡ Some q) (sym two) h.port_is.at), ap (λ (q : Pad _). number_of q) two ∙ h.port_is.number_is, two)
 
 -- a source pad of a task is linked as the graph tells
 pub pad_tied : {S E I O L : Type 0} {s : sources.Ghosts S} {e : elements.Ghosts E} (i : inlets.Ghosts I L O) (o : outlets.Ghosts O L) (head : Head S I O s) (parts : List (Part E O e)) (m : Moment) (pad : Pad O) → AreTied i o (Stands m) nothing_lost m head parts → IsPadOf head parts pad

@@ -1,5 +1,6 @@
 mod LinksMade
 pub mod Earlier
+mod Firsts
 pub mod Padding
 pub mod Wiring
 pub mod Acts

@@ -19,7 +19,7 @@ use Rattle.task_parts.specs.declared.part.Part.{Part}
 use Rattle.task_pads.specs.declared.pad.Behind.{Behind}
 use Rattle.task_pads.specs.declared.pad.Behind.TheVariants.{Lane as OverLane}
 use Rattle.task_edits.specs.Inside.{IsPadOf}
-use Rattle.task_edits.specs.Places.{HasNoPad}
+use Rattle.task_edits.specs.Places.{HasNoPad, first_pad}
 use Rattle.task_edits.specs.declared.leading.Beyond.{Beyond}
 use Rattle.task_edits.specs.declared.leading.NewLane.{NewLane}
 
@@ -60,6 +60,7 @@ module _ {S E I O : Type 0} {s : sources.Ghosts S} {e : elements.Ghosts E} where
   pub record LeadsOver (head : Head S I O s) (parts : List (Part E O e)) (number : ℕ) (to : Beyond) : Type 0 where
     pub pad : Pad O
     pub is : IsPadOf head parts pad
+    pub first : first_pad head parts number ≡ Some pad
     pub number_is : number_of pad ≡ number
     pub leads : PadLeadsOver pad to
 

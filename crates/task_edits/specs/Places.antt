@@ -1,5 +1,5 @@
 -- Where the source pads of a task stand.
-use Rattle.std.specs.Prelude.{◌≡◌, ◌≢◌, ℕ, List, Some, slice_get}
+use Rattle.std.specs.Prelude.{◌≡◌, ◌≢◌, ◌==◌, ℕ, List, [], ◌∷◌, Option, None, Some, if◌then◌else◌, slice_get}
 use Rattle.net_model.specs.declared.element.TaskElement as elements
 use Rattle.net_model.specs.declared.source.TaskSource as sources
 use Rattle.task_pads.specs.declared.pad.Pad.{Pad}
@@ -58,3 +58,36 @@ module _ {S E I O : Type 0} {s : sources.Ghosts S} {e : elements.Ghosts E} where
   -- it stands somewhere
   abbrev pub HasPad : Head S I O s → List (Part E O e) → ℕ → Type 0
   HasPad head parts number = (at : PadAt) × StandsAt head parts number at
+
+-- ---- the first pad of a number, where several have it
+
+abbrev pub or_next : {A : Type 0} → Option A → Option A → Option A
+or_next None other = other
+or_next (Some one) other = Some one
+
+abbrev pub first_port : {O : Type 0} → List (Pad O) → ℕ → Option (Pad O)
+first_port [] number = None
+first_port (pad ∷ pads) number = if number_of pad == number then Some pad else first_port pads number
+
+abbrev pub first_part : {E O : Type 0} {e : elements.Ghosts E} → List (Part E O e) → ℕ → Option (Pad O)
+first_part [] number = None
+first_part (part ∷ parts) number = or_next (first_port part.pads.items number) (first_part parts number)
+
+module _ {S E I O : Type 0} {s : sources.Ghosts S} {e : elements.Ghosts E} where
+  abbrev pub first_pad : Head S I O s → List (Part E O e) → ℕ → Option (Pad O)
+  first_pad (Source head) parts number = if number_of head.pad == number then Some head.pad else first_part parts number
+  first_pad (Inlets head) parts number = first_part parts number
+
+  -- it is the one that stands there
+  abbrev pub FirstAt : Head S I O s → List (Part E O e) → ℕ → PadAt → Type 0
+  FirstAt (Source head) parts number ats.Source = first_pad (Source head) parts number ≡ Some head.pad
+  FirstAt (Inlets head) parts number ats.Source = ⊥
+  FirstAt head parts number (ats.Part place port) = (part : Part E O e) (pad : Pad O) → slice_get parts place ≡ Some part → slice_get part.pads.items port ≡ Some pad → first_pad head parts number ≡ Some pad
+
+-- so among pads, and among elements
+abbrev pub FirstPort : {O : Type 0} → List (Pad O) → ℕ → ℕ → Type 0
+FirstPort {O = O} pads number port = (pad : Pad O) → slice_get pads port ≡ Some pad → first_port pads number ≡ Some pad
+
+abbrev pub FirstPart : {E O : Type 0} {e : elements.Ghosts E} → List (Part E O e) → ℕ → PadAt → Type 0
+FirstPart parts number ats.Source = ⊥
+FirstPart {E = E} {O = O} {e = e} parts number (ats.Part place port) = (part : Part E O e) (pad : Pad O) → slice_get parts place ≡ Some part → slice_get part.pads.items port ≡ Some pad → first_part parts number ≡ Some pad

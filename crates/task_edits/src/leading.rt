@@ -1,5 +1,5 @@
 //! Links of the source pads of a task, undone and made.
-ghost use Rattle.std.specs.Prelude.{◌≡◌, ◌<◌, ℕ, true, Bool, None, IfSome, vec_len};
+ghost use Rattle.std.specs.Prelude.{◌≡◌, ◌<◌, ℕ, true, Bool, None, Some, IfSome, vec_len};
 ghost use Rattle.net_model.specs.Edit.{linked, undone};
 ghost use Rattle.net_model.specs.Moment.{Moment};
 ghost use Rattle.net_model.specs.Step.{planned};
@@ -8,6 +8,7 @@ ghost use Rattle.net_task.specs.Ready.{IsReady};
 ghost use Rattle.net_task.specs.Ties.{Ties};
 ghost use Rattle.task_edits.specs.Changes.{Changed, HeadChanged, LedBy, PartChanged};
 ghost use Rattle.task_edits.specs.Leads.{CanLink, HeadLeadsOver, IsApart, LeadsOver, NotOver, PadLeadsOver, lane_behind};
+ghost use Rattle.task_edits.specs.Places.{first_pad};
 ghost use Rattle.task_pads.specs.declared.pad.Behind.TheVariants.{Nothing};
 
 use crate::places::{PadAt, find};
@@ -45,6 +46,7 @@ pub fn unlink<S: TaskSource, E: TaskElement, I: Inlet<Out = O>, O: Outlet<Lanes 
     ensures ties { (m : Moment) (place : ℕ) (eos : Bool) → Ties task m → Ties result.0 (planned (undone pad place eos m.plan) m) }
     ensures ready { (tells : _) → IsReady tells task → IsReady tells result.0 }
     ensures moves { moves_left result.0 ≡ moves_left task }
+    ensures back { (one : _) → first_pad task.head task.parts.items pad ≡ Some one → result.1 ≡ one.behind }
 {
     let (mut head, mut parts) = task.into_parts();
     let back = lead_in(&mut head, &mut parts, pad, Behind::Nothing);
@@ -95,7 +97,8 @@ pub(crate) fn lead_in<
     I: Inlet<Out = O>,
     O: Outlet<Lanes = I::Lanes>,
 >(head: &mut Head<S, I, O>, parts: &mut Vec<Part<E, O>>, pad: u32, behind: Behind<O>) -> Behind<O>
-    ensures { Changed (LedBy behind result) (result ≡ behind) pad head.old parts.old.items head.new parts.new.items }
+    ensures changed { Changed (LedBy behind result) (result ≡ behind) pad head.old parts.old.items head.new parts.new.items }
+    ensures back { (one : _) → first_pad head.old parts.old.items pad ≡ Some one → result ≡ one.behind }
 {
     match find(head, parts.as_slice(), pad) {
         Some(PadAt::Source) => lead_head(head, behind),

@@ -1,6 +1,6 @@
 //! Where the source pads of a task stand.
 ghost use Rattle.std.specs.Prelude.{◌≡◌, true, false, None, IfSome, map};
-ghost use Rattle.task_edits.specs.Places.{HasNoPad, HasPad, HeadHasNot, IsOfHead, NoPart, NoPort, PartPadIs, PortIs, StandsAt};
+ghost use Rattle.task_edits.specs.Places.{FirstAt, FirstPart, FirstPort, HasNoPad, HasPad, HeadHasNot, IsOfHead, NoPart, NoPort, PartPadIs, PortIs, StandsAt};
 ghost use Rattle.task_parts.specs.Found.{IsAt};
 ghost use Rattle.task_parts.specs.Shape.{has_number, part_shape};
 
@@ -30,13 +30,14 @@ pub fn has_pad<S: TaskSource, E: TaskElement, I: Inlet<Out = O>, O: Outlet<Lanes
     find(task.head(), task.parts(), pad).is_some()
 }
 
-/// Where the source pad of a number stands in a task of these parts.
+/// Where the source pad of a number stands in a task of these parts: the first, if several have the number.
 pub(crate) fn find<S: TaskSource, E: TaskElement, I: Inlet<Out = O>, O: Outlet<Lanes = I::Lanes>>(
     head: &Head<S, I, O>,
     parts: &[Part<E, O>],
     pad: u32,
 ) -> Option<PadAt>
     ensures there { IfSome result (StandsAt head.now parts.now pad) }
+    ensures first { IfSome result (FirstAt head.now parts.now pad) }
     ensures none { result ≡ None → HasNoPad head.now parts.now pad }
 {
     if is_of_head(head, pad) {
@@ -59,6 +60,7 @@ fn is_of_head<S: TaskSource, I, O: Outlet>(head: &Head<S, I, O>, pad: u32) -> bo
 /// The place of the element that has the pad of a number, and its port.
 fn find_part<E: TaskElement, O: Outlet>(parts: &[Part<E, O>], pad: u32) -> Option<PadAt>
     ensures there { IfSome result (PartPadIs parts.now pad) }
+    ensures first { IfSome result (FirstPart parts.now pad) }
     ensures none { result ≡ None → NoPart parts.now pad }
 {
     for place in 0..parts.len() {
@@ -72,6 +74,7 @@ fn find_part<E: TaskElement, O: Outlet>(parts: &[Part<E, O>], pad: u32) -> Optio
 /// The port of the pad of a number.
 fn find_port<O: Outlet>(pads: &[Pad<O>], pad: u32) -> Option<usize>
     ensures there { IfSome result (PortIs pads.now pad) }
+    ensures first { IfSome result (FirstPort pads.now pad) }
     ensures none { result ≡ None → NoPort pads.now pad }
 {
     for port in 0..pads.len() {

@@ -1,4 +1,7 @@
-use Rattle.std.proofs.Common.{◌-◌, ℕ, ap, arith}
+use Rattle.std.proofs.Common.{◌≡◌, ◌∙◌, ◌-◌, ℕ, Some, ap, arith, subst, sym}
+use Rattle.gst_value.proofs.Basics.{some_same}
+use Rattle.net_task.specs.declared.task.Task.{Task}
+use Rattle.task_edits.specs.Places.{first_pad}
 use Rattle.task_pads.proofs.Lists.{some_at}
 use Rattle.net_edits.proofs.Swapped.{set_by_swap}
 use Rattle.net_edits.proofs.net.unlink_at.Goals as goal
@@ -18,3 +21,8 @@ returns-clause-undone g c = record {
 
 pub returns-clause-room : goal.returns-clause-room
 returns-clause-room g c = let a = c.swap_remove-task.ensures.capacity in let b = c.push_reserved.ensures.capacity in let d = c.swap.ensures.capacity in omega (arith, a, b, d)
+
+pub returns-clause-back : goal.returns-clause-back
+returns-clause-back g c = λ one z.
+    let at = some_at c.args.tasks.now.items c.args.place c.swap_remove-task.result (omega (arith, c.requires.place, c.args.tasks.now.ok.0)) c.swap_remove-task.ensures.value in
+    c.unlink-task.ensures.back one (subst (λ (t : Task _ _ _ _ _ _ _ _ _). first_pad t.head t.parts.items c.args.pad ≡ Some one) (some_same (sym z.at ∙ at)) z.first)

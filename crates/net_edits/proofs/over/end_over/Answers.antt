@@ -8,7 +8,7 @@ use Rattle.net_edits.proofs.Acts.{left_set, size_set}
 use Rattle.net_edits.proofs.Ended.{ended_ready, ended_stands}
 use Rattle.net_edits.proofs.Lefts.{grown_left}
 use Rattle.net_edits.proofs.Linked.{kept_ready, kept_stands}
-use Rattle.net_edits.proofs.Parted.{leads_over, leads_over_none}
+use Rattle.net_edits.proofs.Parted.{first_grown, leads_first, leads_over, leads_over_none}
 use Rattle.net_edits.proofs.Rowed.{feeds_has}
 use Rattle.net_edits.proofs.Together.{pad_within}
 use Rattle.net_edits.proofs.over.end_over.Goals as goal
@@ -65,13 +65,14 @@ returns-in-Ok-clause-ended g c = λ done.
       grown = c.in-Ok.ensures.grown;
       back = c.unlink_at.result;
       undone = c.unlink_at.ensures.undone;
+      led = c.unlink_at.ensures.back _ (first_grown c.args.tasks.now.items c.grow_at.new.tasks.items c.in-Some-find_row.receiver c.in-Some-over_of.to.pad eos_given c.in-Ok.ensures.grown c.in-Some.sender c.args.pad _ (leads_first c.args.tasks.now.items c.args.pad c.in-Some.sender has c.index.result.now c.index.ensures c.in-Some-over_of.to c.in-Some-over_of.ensures.leads));
     }
 
 pub returns-in-Ok-clause-stands : goal.returns-in-Ok-clause-stands
 returns-in-Ok-clause-stands g c = λ done m tells n. ended_stands c.args.tasks.now.items c.unlink_at.new.tasks.items c.args.pad (returns-in-Ok-clause-ended g c refl) m tells n
 
 pub returns-in-Ok-clause-ready : goal.returns-in-Ok-clause-ready
-returns-in-Ok-clause-ready g c = λ done tells n once. ended_ready c.args.tasks.now.items c.unlink_at.new.tasks.items c.args.pad (returns-in-Ok-clause-ended g c refl) tells n once
+returns-in-Ok-clause-ready g c = λ done tells n. ended_ready c.args.tasks.now.items c.unlink_at.new.tasks.items c.args.pad (returns-in-Ok-clause-ended g c refl) tells n
 
 pub returns-in-Ok-clause-moves : goal.returns-in-Ok-clause-moves
 returns-in-Ok-clause-moves g c = λ done.

@@ -9,13 +9,13 @@ use Rattle.task_edits.proofs.leading.link_over.Goals as goal
 pub new-requires-clause-closed : goal.new-requires-clause-closed
 new-requires-clause-closed g c κs within =
     led_closed c.args.task.head c.lead_in-back.new.head c.args.task.parts.items c.lead_in-back.new.parts.items (lane_behind c.args.to) c.lead_in-back.result (c.lead_in-back.result ≡ (lane_behind c.args.to)) c.args.pad (λ all. refl)
-    (changed_as (LedBy (lane_behind c.args.to) c.lead_in-back.result) (c.lead_in-back.result ≡ (lane_behind c.args.to)) c.args.pad c.args.task.head _ _ c.lead_in-back.new.head c.args.task.parts.items _ _ c.lead_in-back.new.parts.items c.into_parts-head.ensures.head (ap (λ (v : _). v.items) c.into_parts-head.ensures.parts) refl refl (subst (λ (b : Behind _). Changed (LedBy b c.lead_in-back.result) (c.lead_in-back.result ≡ b) c.args.pad c.into_parts-head.result.0 c.into_parts-head.result.1.items c.lead_in-back.new.head c.lead_in-back.new.parts.items) c.behind_of.ensures c.lead_in-back.ensures))
+    (changed_as (LedBy (lane_behind c.args.to) c.lead_in-back.result) (c.lead_in-back.result ≡ (lane_behind c.args.to)) c.args.pad c.args.task.head _ _ c.lead_in-back.new.head c.args.task.parts.items _ _ c.lead_in-back.new.parts.items c.into_parts-head.ensures.head (ap (λ (v : _). v.items) c.into_parts-head.ensures.parts) refl refl (subst (λ (b : Behind _). Changed (LedBy b c.lead_in-back.result) (c.lead_in-back.result ≡ b) c.args.pad c.into_parts-head.result.0 c.into_parts-head.result.1.items c.lead_in-back.new.head c.lead_in-back.new.parts.items) c.behind_of.ensures c.lead_in-back.ensures.changed))
     c.args.task.closed
 
 pub returns-clause-changed : goal.returns-clause-changed
 returns-clause-changed g c =
     changed_as (LedBy (lane_behind c.args.to) c.lead_in-back.result) (c.lead_in-back.result ≡ (lane_behind c.args.to)) c.args.pad c.args.task.head _ _ c.new.result.head c.args.task.parts.items _ _ c.new.result.parts.items c.into_parts-head.ensures.head (ap (λ (v : _). v.items) c.into_parts-head.ensures.parts) c.new.ensures.head
-    (ap (λ (v : _). v.items) c.new.ensures.parts) (subst (λ (b : Behind _). Changed (LedBy b c.lead_in-back.result) (c.lead_in-back.result ≡ b) c.args.pad c.into_parts-head.result.0 c.into_parts-head.result.1.items c.lead_in-back.new.head c.lead_in-back.new.parts.items) c.behind_of.ensures c.lead_in-back.ensures)
+    (ap (λ (v : _). v.items) c.new.ensures.parts) (subst (λ (b : Behind _). Changed (LedBy b c.lead_in-back.result) (c.lead_in-back.result ≡ b) c.args.pad c.into_parts-head.result.0 c.into_parts-head.result.1.items c.lead_in-back.new.head c.lead_in-back.new.parts.items) c.behind_of.ensures c.lead_in-back.ensures.changed)
 
 pub returns-clause-ties : goal.returns-clause-ties
 returns-clause-ties g c = λ m t can.
