@@ -7,3 +7,4 @@ pub mod Graphs
 mod Joinable
 mod Linked
 mod Answered
+mod Roomy
