@@ -83,9 +83,9 @@ module _ {S E I O L : Type 0} {s : sources.Ghosts S} {e : elements.Ghosts E} {i 
 module _ {S E I O L : Type 0} (s : sources.Ghosts S) (e : elements.Ghosts E) (i : inlets.Ghosts I L O) (o : outlets.Ghosts O L) where
   -- Room for a link is room for it where another link was undone, and where a task was split behind another element.
   abbrev pub RoomStaysUnlinked : Type 0
-  RoomStaysUnlinked = (tasks mid : List (Task S E I O L s e i o)) (other : ℕ) (back : Behind O) (pad element : ℕ) (room : LinkRoom E O e) → IsUnlinked tasks mid other back
-      → HasRoomToLink tasks pad element room → HasRoomToLink mid pad element room
+  RoomStaysUnlinked = (tasks mid : List (Task S E I O L s e i o)) (other : ℕ) (back : Behind O) (pad element : ℕ) (room : LinkRoom E O e)
+      → IsUnlinked tasks mid other back → HasRoomToLink tasks pad element room → HasRoomToLink mid pad element room
 
   abbrev pub RoomStaysSplit : Type 0
-  RoomStaysSplit = (tasks mid : List (Task S E I O L s e i o)) (first rows pad element : ℕ) (room : LinkRoom E O e) → IsSplit tasks mid first rows → first ≢ element
-      → HasRoomToLink tasks pad element room → HasRoomToLink mid pad element room
+  RoomStaysSplit = (tasks mid : List (Task S E I O L s e i o)) (first rows pad element : ℕ) (room : LinkRoom E O e)
+      → IsSplit tasks mid first rows → first ≢ element → HasRoomToLink tasks pad element room → HasRoomToLink mid pad element room
