@@ -7,4 +7,3 @@ pub mod Graphs
 mod Joinable
 mod Linked
 mod Answered
-mod Roomy

@@ -94,14 +94,6 @@ pub record SameInlets {S I O : Type 0} {s : sources.Ghosts S} (head head' : Head
   pub back : (fed : InletHead I) → head' ≡ Inlets fed → head ≡ Inlets fed
   pub on : (fed : InletHead I) → head ≡ Inlets fed → head' ≡ Inlets fed
 
--- so it is where one pad is another
-pub pad_inlets : {S E I O : Type 0} {s : sources.Ghosts S} {e : elements.Ghosts E} (head head' : Head S I O s) (parts parts' : List (Part E O e)) (was is : Pad O) → PadIs head parts head' parts' was is → SameInlets head head'
-pad_inlets head head' parts parts' was is (PadIs.of_source old new here here' at at' same stays) = record {
-  back = λ fed inlets. absurd (let clash : Source new ≡ Inlets fed = sym here' ∙ inlets in cc);
-  on = λ fed inlets. absurd (let clash : Source old ≡ Inlets fed = sym here ∙ inlets in cc);
-}
-pad_inlets head head' parts parts' was is (PadIs.of_part j port old new at set changed same) = record { back = λ fed inlets. sym same ∙ inlets; on = λ fed inlets. same ∙ inlets }
-
 module _ {S E I O L : Type 0} {s : sources.Ghosts S} {e : elements.Ghosts E} {i : inlets.Ghosts I L O} {o : outlets.Ghosts O L} (tasks tasks' : List (Task S E I O L s e i o)) (place pad : ℕ) (to : Inside)
     (Tied Fed : Task S E I O L s e i o → Task S E I O L s e i o → Type 0) (t : IsTurned tasks tasks' place pad (inside_behind to) Tied Fed) (has : HasPad t.was.head t.was.parts.items pad) where
   turned_pad : PadLed (frame_of t.was) (frame_of t.is) pad to
@@ -120,8 +112,15 @@ module _ {S E I O L : Type 0} {s : sources.Ghosts S} {e : elements.Ghosts E} {i 
   turned_inlets : SameInlets t.was.head t.is.head
   turned_inlets = subst (λ (h : Head S I O s). SameInlets t.was.head h) (sym t.head) (go t.changed)
     where
+      by : (was is : Pad O) → PadIs t.was.head t.was.parts.items t.turned.head t.turned.parts.items was is → SameInlets t.was.head t.turned.head
+      by was is (PadIs.of_source old new here here' at at' same stays) = record {
+        back = λ fed inlets. absurd (let clash : Source new ≡ Inlets fed = sym here' ∙ inlets in cc);
+        on = λ fed inlets. absurd (let clash : Source old ≡ Inlets fed = sym here ∙ inlets in cc);
+      }
+      by was is (PadIs.of_part j port old new at set pad_in same) = record { back = λ fed inlets. sym same ∙ inlets; on = λ fed inlets. same ∙ inlets }
+
       go : Changed (LedBy (inside_behind to) t.back) (t.back ≡ inside_behind to) pad t.was.head t.was.parts.items t.turned.head t.turned.parts.items → SameInlets t.was.head t.turned.head
-      go (inl (was, is, number, led, changed)) = pad_inlets t.was.head t.turned.head t.was.parts.items t.turned.parts.items was is changed
+      go (inl (was, is, number, led, changed)) = by was is changed
       go (inr none) = absurd (has_not t.was.head t.was.parts.items pad has none.0)
 
 module _ {S E I O L : Type 0} {s : sources.Ghosts S} {e : elements.Ghosts E} {i : inlets.Ghosts I L O} {o : outlets.Ghosts O L} (tasks mid tasks' : List (Task S E I O L s e i o)) (pad : ℕ) (to : Inside)

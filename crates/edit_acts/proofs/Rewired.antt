@@ -34,7 +34,7 @@ wire_of_source other (by_source n file wire) = wire
 wire_of_source other (by_inlets n rows) = other
 
 -- what stands at a place of a list of which one is another
-pub at_set : {A : Type 0} (xs ys : List A) (k : ℕ) (y : A) → ys ≡ slice_set xs k y → (j : ℕ) (x : A) → slice_get ys j ≡ Some x → ((j ≡ k) × (x ≡ y)) ⊎ (slice_get xs j ≡ Some x)
+at_set : {A : Type 0} (xs ys : List A) (k : ℕ) (y : A) → ys ≡ slice_set xs k y → (j : ℕ) (x : A) → slice_get ys j ≡ Some x → ((j ≡ k) × (x ≡ y)) ⊎ (slice_get xs j ≡ Some x)
 at_set {A = A} xs ys k y set j x at = go (cases_eq j k)
   where
     there : slice_get (slice_set xs k y) j ≡ Some x

@@ -1,5 +1,5 @@
 -- A source pad of a run is linked inside of a task.
-use Rattle.std.specs.Prelude.{◌≡◌, ◌≢◌, ◌<◌, ℕ, true, false, List, Option, None, length}
+use Rattle.std.specs.Prelude.{◌≡◌, ◌<◌, ℕ, true, false, List, Option, None, length}
 use Rattle.flow_model.specs.Item.{Item}
 use Rattle.gst_item.specs.Sticky.{has_flush_stop, stickies}
 use Rattle.lane_core.specs.Lane.{Lane}
@@ -12,11 +12,8 @@ use Rattle.net_model.specs.declared.source.TaskSource as sources
 use Rattle.net_task.specs.declared.task.Task.{Task}
 use Rattle.net_turns.specs.declared.net.Stopped.{Stopped}
 use Rattle.net_groups.specs.Joined.{HasRoomToJoin, IsJoined}
-use Rattle.net_groups.specs.Splits.{IsSplit}
-use Rattle.task_pads.specs.declared.pad.Behind.{Behind}
 use Rattle.task_edits.specs.declared.inside.Inside.{Inside}
 use Rattle.net_edits.specs.Inside.{IsLinkedOpened, NotLinkedOpened}
-use Rattle.net_edits.specs.Nets.{IsUnlinked}
 use Rattle.graph_core.specs.GraphPlan.{most_pads, pad_id}
 use Rattle.graph_core.specs.Links.{Leads}
 use Rattle.graph_pads.specs.Links.{sink_behind, source_before}
@@ -79,13 +76,3 @@ module _ {S E I O L : Type 0} {s : sources.Ghosts S} {e : elements.Ghosts E} {i 
     pub out : ℕ → List Item
     pub links : LinksInside m (pad_id source) sink.element sink.pad out
     pub run : IsRun (linked_at source (length (m.history (pad_id source))) sink g) (linked_inside (pad_id source) sink.element sink.pad out m) tasks tells
-
-module _ {S E I O L : Type 0} (s : sources.Ghosts S) (e : elements.Ghosts E) (i : inlets.Ghosts I L O) (o : outlets.Ghosts O L) where
-  -- Room for a link is room for it where another link was undone, and where a task was split behind another element.
-  abbrev pub RoomStaysUnlinked : Type 0
-  RoomStaysUnlinked = (tasks mid : List (Task S E I O L s e i o)) (other : ℕ) (back : Behind O) (pad element : ℕ) (room : LinkRoom E O e)
-      → IsUnlinked tasks mid other back → HasRoomToLink tasks pad element room → HasRoomToLink mid pad element room
-
-  abbrev pub RoomStaysSplit : Type 0
-  RoomStaysSplit = (tasks mid : List (Task S E I O L s e i o)) (first rows pad element : ℕ) (room : LinkRoom E O e)
-      → IsSplit tasks mid first rows → first ≢ element → HasRoomToLink tasks pad element room → HasRoomToLink mid pad element room

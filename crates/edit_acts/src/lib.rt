@@ -4,4 +4,4 @@
 
 pub mod linking;
 
-pub use linking::{LinkRoom, link, room_stays, room_to_link};
+pub use linking::{LinkRoom, link, room_to_link};

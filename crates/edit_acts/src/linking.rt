@@ -7,7 +7,7 @@ ghost use Rattle.net_groups.specs.Joined.{CannotJoin};
 ghost use Rattle.graph_pads.specs.declared.pad.PadPlace.{PadPlace};
 ghost use Rattle.edit_model.specs.Edited.{Edited};
 ghost use Rattle.edit_core.specs.Ways.{IsRun};
-ghost use Rattle.edit_acts.specs.Linking.{GoesOnLinked, HasRoomToLink, IsLinked, IsLinkedShort, MayLinkAt, RoomStaysSplit, RoomStaysUnlinked, opening_of};
+ghost use Rattle.edit_acts.specs.Linking.{GoesOnLinked, HasRoomToLink, IsLinked, IsLinkedShort, MayLinkAt, opening_of};
 
 use gst_item::Item;
 use gst_value::{List, OutOfMemory};
@@ -85,9 +85,3 @@ pub fn link<S: TaskSource, E: TaskElement, I: Inlet<Out = O>, O: Outlet<Lanes = 
     }
     link_opened(alloc, tasks, pad, to, room.opening)
 }
-
-/// Room for a link is still room for it where another link was undone, and where a task was split behind another element.
-pub fn room_stays<S: TaskSource, E: TaskElement, I: Inlet<Out = O>, O: Outlet<Lanes = I::Lanes>>()
-    ensures unlinked { RoomStaysUnlinked S.TaskSource E.TaskElement I.Inlet O.Outlet }
-    ensures split { RoomStaysSplit S.TaskSource E.TaskElement I.Inlet O.Outlet }
-{}
