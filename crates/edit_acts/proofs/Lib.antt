@@ -1,4 +1,13 @@
-mod Rewired
+mod Made
+mod Cut
+mod Reached
+mod Unlinked
+mod Parted
+mod Spans
+mod Undone
+mod Runs
+mod Undoes
+pub mod Rewired
 mod Appended
 mod Placed
 mod Loose
@@ -6,4 +15,10 @@ mod Kept
 pub mod Graphs
 mod Joinable
 mod Linked
+mod Overs
+mod Owned
+mod Owing
+mod Controls
+mod Ends
+mod Grown
 mod Answered

@@ -1,1 +1,5 @@
+pub mod Ending
+pub mod Undoing
 pub mod Linking
+pub mod Over
+pub mod Controlled

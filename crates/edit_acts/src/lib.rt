@@ -2,6 +2,12 @@
 //! have the elements of the graph again.
 #![tactic(auto)]
 
+pub mod controlling;
+pub mod ending;
 pub mod linking;
+pub mod over;
+pub mod undoing;
 
+pub use ending::end;
 pub use linking::{LinkRoom, link, room_to_link};
+pub use undoing::{UndoRoom, room_to_undo, undo};

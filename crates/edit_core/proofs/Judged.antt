@@ -78,20 +78,20 @@ module _ {S E I O L : Type 0} {s : sources.Ghosts S} {e : elements.Ghosts E} {i 
       by : ((has_ended_before n seen ≡ true) ⊎ (has_ended_before n seen ≡ false)) → ((stands_at n seen ≡ true) ⊎ (stands_at n seen ≡ false))
           → IsVerdict g m tasks (command (At pad n) act) (if has_ended_before n seen then Unreached else if stands_at n seen then Reached seen.items else Waits)
       by (inl is) there = rw is (let z = over m (pad_id source) seen at n is in IsVerdict.unreached (command (At pad n) act) all (IsUnreached.at pad n source named z.0 z.1))
-      by (inr not) (inl is) = rw not (rw is (IsVerdict.reached (command (At pad n) act) (Some source) seen.items all (Reaches.at pad n seen.items source named (stands m (pad_id source) seen at n is))))
+      by (inr not) (inl is) = rw not (rw is (IsVerdict.reached (command (At pad n) act) (Some source) seen.items all (Reaches.at pad n seen.items source named (stands m (pad_id source) seen at n is)) at.tells.items))
       by (inr not) (inr none) = rw not (rw none (IsVerdict.waits pad n act source seen all named sees not none))
   judged (NowPad pad) act source seen all named sees at = by (told seen.has_ended)
     where
       by : ((seen.has_ended ≡ true) ⊎ (seen.has_ended ≡ false)) → IsVerdict g m tasks (command (NowPad pad) act) (if seen.has_ended then Unreached else Reached seen.items)
       by (inl is) = rw is (IsVerdict.unreached (command (NowPad pad) act) all (IsUnreached.now_pad pad source named (sym at.tells.ended ∙ is)))
-      by (inr not) = rw not (IsVerdict.reached (command (NowPad pad) act) (Some source) seen.items all (Reaches.now_pad pad seen.items source named (before m (pad_id source) seen at not)))
+      by (inr not) = rw not (IsVerdict.reached (command (NowPad pad) act) (Some source) seen.items all (Reaches.now_pad pad seen.items source named (before m (pad_id source) seen at not)) at.tells.items)
   judged Now act source seen all named sees at = absurd cc
 
   -- and one that names none
   pub judged_now : (when : When) (act : Act) → is_all_there g (command when act) ≡ true → source_when g when ≡ None → IsVerdict g m tasks (command when act) (Reached 0)
   judged_now (At pad n) act all none = absurd (let there = and_left (is_when_there g (At pad n)) (is_act_there g (At pad n) act) all in missing_pad (pad_named Source g pad) none there)
   judged_now (NowPad pad) act all none = absurd (let there = and_left (is_when_there g (NowPad pad)) (is_act_there g (NowPad pad) act) all in missing_pad (pad_named Source g pad) none there)
-  judged_now Now act all none = IsVerdict.reached (command Now act) None 0 all Reaches.now
+  judged_now Now act all none = IsVerdict.reached (command Now act) None 0 all Reaches.now refl
 
 -- a source pad that is named is one that is there under that name
 pub fresh_when : (g : Edited) (when : When) (source : PadPlace) (P : PadPlace → Type 0) → source_when g when ≡ Some source → ((pad : PadName) (there : PadPlace) → pad_named Source g pad ≡ Some there → P there) → P source

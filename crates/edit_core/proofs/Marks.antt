@@ -26,7 +26,7 @@ all_from_line : (links : List PadLink) (e : ℕ) (ks : List ℕ) → AllUnmarked
 all_from_line links e [] = tt
 all_from_line links e (k ∷ ks) = (from_line (source_before links (sink_at e k)), all_from_line links e ks)
 
-undone : (p place : ℕ) (eos : Bool) (spans : List Span) → HaveNoMarks spans → HaveNoMarks (map (undo p place eos) spans)
+pub undone : (p place : ℕ) (eos : Bool) (spans : List Span) → HaveNoMarks spans → HaveNoMarks (map (undo p place eos) spans)
 undone p place eos [] none = tt
 undone p place eos (Linked source from marks ∷ spans) none = by (eqb source p) (undone p place eos spans none.1)
   where
@@ -37,7 +37,7 @@ undone p place eos (WasLinked source from to ended marks ∷ spans) none = (none
 undone p place eos (Flushed number ∷ spans) none = absurd none
 undone p place eos (Given calls ∷ spans) none = absurd none
 
-all_undone : (p place : ℕ) (eos : Bool) (sss : List (List Span)) → AllUnmarked sss → AllUnmarked (map (map (undo p place eos)) sss)
+pub all_undone : (p place : ℕ) (eos : Bool) (sss : List (List Span)) → AllUnmarked sss → AllUnmarked (map (map (undo p place eos)) sss)
 all_undone p place eos [] none = tt
 all_undone p place eos (ss ∷ sss) none = (undone p place eos ss none.0, all_undone p place eos sss none.1)
 

@@ -46,7 +46,7 @@ true_false : true ≡ false → ⊥
 true_false same = cc
 
 -- an element with a sink pad is no source
-sinks_tell : (found : Option Made) (size : ℕ) → size ≡ sink_count found → 1 ≤ size → option_map_or (λ (m : Made). is_source m.settings) found false ≡ false
+pub sinks_tell : (found : Option Made) (size : ℕ) → size ≡ sink_count found → 1 ≤ size → option_map_or (λ (m : Made). is_source m.settings) found false ≡ false
 sinks_tell None size same low = refl
 sinks_tell (Some m) size same low = by (is_source m.settings) refl
   where

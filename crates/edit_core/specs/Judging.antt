@@ -1,5 +1,5 @@
 -- When the next command can be answered, by the graph as the commands before it left it and by what stands at the source pads.
-use Rattle.std.specs.Prelude.{◌≡◌, ◌==◌, ◌&&◌, ◌++◌, ℕ, Bool, true, false, nat_le, List, [], Option, None, Some, if◌then◌else◌}
+use Rattle.std.specs.Prelude.{◌≡◌, ◌==◌, ◌&&◌, ◌++◌, ℕ, Bool, true, false, nat_le, List, [], Option, None, Some, if◌then◌else◌, length}
 use Rattle.flow_model.specs.Item.{Item}
 use Rattle.lane_core.specs.declared.ends.Inlet as inlets
 use Rattle.lane_core.specs.declared.ends.Outlet as outlets
@@ -45,6 +45,11 @@ verdict_of Now seen = Reached 0
 abbrev pub owed_then : Moment → ℕ → List Item
 owed_then m p = m.history p ++ m.waits p
 
+-- so many items have crossed the source pad that a command names, and none where it names none
+abbrev pub IsLast : (ℕ → List Item) → Option PadPlace → ℕ → Type 0
+IsLast h None items = items ≡ 0
+IsLast h (Some source) items = items ≡ length (h (pad_id source))
+
 module _ {S E I O L : Type 0} {s : sources.Ghosts S} {e : elements.Ghosts E} {i : inlets.Ghosts I L O} {o : outlets.Ghosts O L} where
   -- nothing has crossed a pad that is there and that no task has
   abbrev pub AreFresh : Edited → Moment → List (Task S E I O L s e i o) → Type 0
@@ -54,6 +59,7 @@ module _ {S E I O L : Type 0} {s : sources.Ghosts S} {e : elements.Ghosts E} {i 
   pub data IsVerdict (g : Edited) (m : Moment) (tasks : List (Task S E I O L s e i o)) : Command → Verdict → Type 0 where
     missing : (c : Command) → is_all_there g c ≡ false → IsVerdict g m tasks c Missing
     unreached : (c : Command) → is_all_there g c ≡ true → IsUnreached g m.history c.when → IsVerdict g m tasks c Unreached
-    reached : (c : Command) (p : Option PadPlace) (items : ℕ) → is_all_there g c ≡ true → Reaches g m.history (owed_then m) c.when p items → IsVerdict g m tasks c (Reached items)
+    reached : (c : Command) (p : Option PadPlace) (items : ℕ) → is_all_there g c ≡ true → Reaches g m.history (owed_then m) c.when p items → IsLast m.history p items
+        → IsVerdict g m tasks c (Reached items)
     waits : (pad : PadName) (n : ℕ) (act : Act) (source : PadPlace) (seen : SeenPad) → is_all_there g (command (At pad n) act) ≡ true → pad_named Source g pad ≡ Some source
         → SeesPad tasks (pad_id source) seen → has_ended_before n seen ≡ false → stands_at n seen ≡ false → IsVerdict g m tasks (command (At pad n) act) Waits

@@ -3,3 +3,7 @@ pub mod Trees
 pub mod Tasks
 pub mod Marks
 pub mod Ways
+pub mod Feeds
+pub mod Notes
+pub mod Refusing
+pub mod Deciding

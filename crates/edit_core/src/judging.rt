@@ -46,8 +46,10 @@ pub fn judge<S: TaskSource, E: TaskElement, I: Inlet<Out = O>, O: Outlet<Lanes =
     }
     match graph.source(alloc, &command.when)? {
         Some(source) => {
-            let seen = see_pad(tasks, graph.source_number(source));
-            Ok(by_pad(&command.when, seen))
+            let Some(pad) = graph.source_number(source) else {
+                unreachable!()
+            };
+            Ok(by_pad(&command.when, see_pad(tasks, pad)))
         }
         None => Ok(Verdict::Reached { items: 0 }),
     }

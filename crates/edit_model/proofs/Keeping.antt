@@ -63,7 +63,7 @@ undo_free p place eos (Flushed number ∷ ss) e = undo_free p place eos ss e
 undo_free p place eos (Given calls ∷ ss) e = undo_free p place eos ss e
 
 -- where only a link of this source pad stands, none does behind that
-undo_own : (h : ℕ → List Item) (p place : ℕ) (eos : Bool) (ss : List Span) → AreWithin h ss → links_from p ss ≡ is_linked ss → is_linked (map (undo p place eos) ss) ≡ false
+pub undo_own : (h : ℕ → List Item) (p place : ℕ) (eos : Bool) (ss : List Span) → AreWithin h ss → links_from p ss ≡ is_linked ss → is_linked (map (undo p place eos) ss) ≡ false
 undo_own h p place eos [] w e = refl
 undo_own h p place eos (Linked source from marks ∷ ss) w e = rw w.1 (go (eqb source p) (rw w.1 at e))
   where
@@ -211,7 +211,7 @@ undone_only h source place eos links sink ss w (Some found) e only = go (same_or
     go (inr t) = subst (λ (o : Option PadPlace). StandsOnlyFrom o (map (undo (pad_id source) place eos) ss)) (sym (kept_before source sink found links t e))
         (undo_other h (pad_id source) (pad_id found) place eos ss w only)
 
-unlinked_kept : (h : ℕ → List Item) (g : Edited) (source : PadPlace) (place : ℕ) (eos : Bool) → place ≤ length (h (pad_id source)) → IsKept h g → IsKept h (unlinked_at source place eos g)
+pub unlinked_kept : (h : ℕ → List Item) (g : Edited) (source : PadPlace) (place : ℕ) (eos : Bool) → place ≤ length (h (pad_id source)) → IsKept h g → IsKept h (unlinked_at source place eos g)
 unlinked_kept h g source place eos low kept = record {
   within = λ sink. subst (λ (ss : List Span). AreWithin h ss) (sym (undone_at (pad_id source) place eos (g.spans sink.element) sink.pad))
       (undo_within h (pad_id source) place eos low (spans_at g sink) (kept.within sink));

@@ -201,7 +201,7 @@ sink_there g name sink stand e =
 
 -- ---- what acts make of it
 
-unlinked_stand : (g : Edited) (source : PadPlace) (place : ℕ) (eos : Bool) → source.pad < most_pads → LinksStand g → LinksStand (unlinked_at source place eos g)
+pub unlinked_stand : (g : Edited) (source : PadPlace) (place : ℕ) (eos : Bool) → source.pad < most_pads → LinksStand g → LinksStand (unlinked_at source place eos g)
 unlinked_stand g source place eos few stand = record {
   counted = λ e. length-map (g.spans e) (map (undo (pad_id source) place eos)) ∙ stand.counted e;
   single = single_without source g.links stand.single;

@@ -1,6 +1,6 @@
 -- What comes of a link and of an element that is asked for.
 use Rattle.std.specs.Prelude.{◌≡◌, ◌<◌, ℕ, true, false, length}
-use Rattle.edit_model.specs.Edited.{Edited, added, linked_at}
+use Rattle.edit_model.specs.Edited.{Edited, added, linked_at, relinked_at}
 use Rattle.edit_model.specs.Refused.{Loops}
 use Rattle.el_settings.specs.Asked.{makes_sinks}
 use Rattle.graph_core.specs.Asked.{Declared}
@@ -18,6 +18,11 @@ use Rattle.graph_pads.specs.declared.pad.PadPlace.{PadPlace}
 abbrev pub AfterLink : EditedGraph → PadPlace → PadPlace → EditedGraph → Linking → Type 0
 AfterLink old source sink new Linked = (g : Edited) (place : ℕ) → IsEdited old g → ¬ Loops g source sink × IsEdited new (linked_at source place sink g)
 AfterLink old source sink new WouldLoop = (g : Edited) → IsEdited old g → Loops g source sink × IsEdited new g
+
+-- The link of the source pad, if any, is undone, and the pad is linked to the sink pad; or elements would feed themselves and nothing changes.
+abbrev pub AfterRelink : EditedGraph → PadPlace → PadPlace → EditedGraph → Linking → Type 0
+AfterRelink old source sink new Linked = (g : Edited) (place : ℕ) → IsEdited old g → ¬ Loops g source sink × IsEdited new (relinked_at source place sink g)
+AfterRelink old source sink new WouldLoop = (g : Edited) → IsEdited old g → Loops g source sink × IsEdited new g
 
 -- The element that was asked for stands behind the others, and has this number.
 pub record HasAdded (g : Edited) (d : Declared) (n : ℕ) (new : EditedGraph) : Type 0 where

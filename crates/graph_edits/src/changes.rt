@@ -27,7 +27,7 @@ impl EditedGraph {
     ghost use Rattle.edit_model.specs.Edited.{Edited, unlinked_at, without_element};
     ghost use Rattle.edit_model.specs.Lawful.{asked};
     ghost use Rattle.graph_edits.specs.Graph.{IsEdited, made};
-    ghost use Rattle.graph_edits.specs.Changes.{AfterAdd, AfterFault, AfterLink, IsNumbered};
+    ghost use Rattle.graph_edits.specs.Changes.{AfterAdd, AfterFault, AfterLink, AfterRelink, IsNumbered};
 
     /// Undoes the link of a source pad, where it has one, with EOS or without. Behind EOS the sink pad counts as ended.
     pub fn unlink(&mut self, source: PadPlace, eos: bool)
@@ -56,6 +56,34 @@ impl EditedGraph {
         match self.order.link(alloc, source.element, sink.element)? {
             Linking::Loops => Ok(Linking::Loops),
             Linking::Linked => {
+                let link = PadLink { source, sink };
+                self.links.push_reserved(link);
+                touch(&mut self.touched, link);
+                Ok(Linking::Linked)
+            }
+        }
+    }
+
+    /// Undoes the link of a source pad, where it has one, and links the pad to a sink pad, unless elements would then feed themselves
+    /// by links that ever were made; nothing changes then. Memory is found before anything changes.
+    pub fn relink(
+        &mut self,
+        alloc: Global,
+        source: PadPlace,
+        sink: PadPlace,
+    ) -> Result<Linking, OutOfMemory>
+        requires source { source.element < length (made self.old) }
+        requires sink { sink.element < length (made self.old) }
+        ensures answer { IfOk result (AfterRelink self.old source sink self.new) }
+        ensures stays { OnErr result ((g : Edited) → IsEdited self.old g → IsEdited self.new g) }
+        ensures made { made self.new ≡ made self.old }
+    {
+        self.links.reserve(1)?;
+        self.ended.reserve(self.links.len() + 1)?;
+        match self.order.link(alloc, source.element, sink.element)? {
+            Linking::Loops => Ok(Linking::Loops),
+            Linking::Linked => {
+                cut(&mut self.links, source);
                 let link = PadLink { source, sink };
                 self.links.push_reserved(link);
                 touch(&mut self.touched, link);
@@ -135,7 +163,9 @@ fn mark(ended: &mut Vec<PadPlace>, sink: Option<PadPlace>)
 
 /// Takes the links of a source pad away.
 fn cut(links: &mut Vec<PadLink>, source: PadPlace)
-    ensures { links.new.items ≡ without source links.old.items }
+    ensures links { links.new.items ≡ without source links.old.items }
+    ensures fewer { vec_len links.new ≤ vec_len links.old }
+    ensures room { vec_capacity links.new ≡ vec_capacity links.old }
 {
     links.retain(|link| { link.source.element != source.element || link.source.pad != source.pad });
 }

@@ -25,7 +25,7 @@ impl EditedGraph {
     ghost use Rattle.edit_model.specs.Refused.{IsTaken, Loops};
     ghost use Rattle.graph_core.specs.Elements.{Made, limit};
     ghost use Rattle.graph_core.specs.Ends.{pad_name};
-    ghost use Rattle.graph_core.specs.GraphPlan.{pad_id};
+    ghost use Rattle.graph_core.specs.GraphPlan.{most_pads, pad_id};
     ghost use Rattle.graph_core.specs.Links.{HaveCommon, caps_at};
     ghost use Rattle.graph_edits.specs.Graph.{IsEdited, IsPad, made};
     ghost use Rattle.graph_pads.specs.Links.{sink_behind, source_before};
@@ -53,12 +53,18 @@ impl EditedGraph {
         element < self.lined || is_marked(&self.touched, element)
     }
 
-    /// The number of a source pad.
-    pub fn source_number(&self, source: PadPlace) -> u32
-        requires { IsPad self.now Direction.Source source }
-        ensures { result ≡ pad_id source }
+    /// The number of a source pad. None for a place at which no element can have one.
+    pub fn source_number(&self, source: PadPlace) -> Option<u32>
+        ensures number { IfSome result (λ number. number ≡ pad_id source) }
+        ensures there { source.element < length (made self.now) → source.pad < most_pads → result ≡ Some (pad_id source) }
     {
-        source.element * MOST_PADS + source.pad
+        if source.element >= self.count() {
+            return None;
+        }
+        if source.pad >= MOST_PADS {
+            return None;
+        }
+        Some(source.element * MOST_PADS + source.pad)
     }
 
     /// The number of the element of this name, where it is there.

@@ -127,6 +127,7 @@ pub fn end_inside<S: TaskSource, E: TaskElement, I: Inlet<Out = O>, O: Outlet<La
     ensures ready { (tells : _) → NetReady tasks.old.items tells → NetReady tasks.new.items tells }
     ensures moves { net_left tasks.new.items ≡ net_left tasks.old.items }
     ensures count { length tasks.new.items ≡ length tasks.old.items }
+    ensures room { vec_capacity tasks.new ≡ vec_capacity tasks.old }
 {
     let Some(place) = find_task(tasks.as_slice(), pad) else {
         return Ok(false);
@@ -225,6 +226,7 @@ fn end_at<S: TaskSource, E: TaskElement, I: Inlet<Out = O>, O: Outlet<Lanes = I:
     requires calm { has_flush_stop items ≡ false }
     ensures ended { OnOk result (IsTurned tasks.old.items tasks.new.items place pad Nothing (TiesUndone pad) (FedAll to items)) }
     ensures faults { IfErr result (λ fault. IsTurned tasks.old.items tasks.new.items place pad Nothing (TiesUndone pad) (FedShort to items fault)) }
+    ensures room { vec_capacity tasks.new ≡ vec_capacity tasks.old }
 {
     let last = tasks.len() - 1;
     let task = tasks.swap_remove(place);

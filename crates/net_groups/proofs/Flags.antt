@@ -80,10 +80,6 @@ dealt P (f ∷ fs) [] size yes_all no_all = absurd (omega (arith, size))
 dealt P (true ∷ fs) (x ∷ xs) size yes_all no_all = goes (yes_all 0 x refl refl) (dealt P fs xs (omega (arith, size)) (λ k y. yes_all (suc k) y) (λ k y. no_all (suc k) y))
 dealt P (false ∷ fs) (x ∷ xs) size yes_all no_all = stays (no_all 0 x refl refl) (dealt P fs xs (omega (arith, size)) (λ k y. yes_all (suc k) y) (λ k y. no_all (suc k) y))
 
--- an item at a place is the one that is there
-pub at_place : {A : Type 0} (P : A → Type 0) (xs : List A) (k : ℕ) (x y : A) → slice_get xs k ≡ Some x → slice_get xs k ≡ Some y → P y → P x
-at_place P xs k x y a b p = subst P (some_same (sym b ∙ a)) p
-
 pub not_led : {E O : Type 0} {e : elements.Ghosts E} (parts : List (Part E O e)) (flags : List Bool) (n m : ℕ) → (m ≡ n → ⊥) → ((place : ℕ) → FlaggedAt parts flags m place → ⊥) → IsLed parts flags n m → ⊥
 not_led parts flags n m other never (first same) = other same
 not_led parts flags n m other never (led l) = never l.0 l.1

@@ -7,11 +7,13 @@ mod Sending
 mod Joins
 mod Swapped
 mod Closing
-mod Within
-mod Taken
+pub mod Within
+pub mod Taken
+pub mod Halves
 mod Parting
 mod Flags
 mod Entered
 mod Parts
 mod Most
 pub mod Rooms
+mod Speaking

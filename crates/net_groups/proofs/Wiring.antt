@@ -37,6 +37,10 @@ for_last P [] number inlet h = h.0
 for_last P (Given x ∷ front) number inlet h = for_last P front number inlet h
 for_last P (OfLane n one ∷ front) number inlet h = for_last P front number inlet h.1
 
+pub not_bare : {A : Type 0} (front : List A) (x : A) → [] ≡ front ++ x ∷ [] → ⊥
+not_bare [] x e = cc
+not_bare (y ∷ front) x e = cc
+
 -- ---- pads with their elements
 
 -- the number of the element that has a pad, or of the source

@@ -54,7 +54,8 @@ module _ {S E I O L : Type 0} {s : sources.Ghosts S} {e : elements.Ghosts E} {i 
     no_head : ((k : ℕ) → FedAt tasks k element → ⊥) → CannotJoin tasks pad element
     no_pad : ((k : ℕ) → PadOf tasks k pad → ⊥) → CannotJoin tasks pad element
     one_task : (k : ℕ) → FedAt tasks k element → PadOf tasks k pad → CannotJoin tasks pad element
-    lane_between : (k j : ℕ) (head : InletHead I) → FedAt tasks k element → PadOf tasks j pad → IsFed tasks j head → k ≢ j → SendsTo tasks k head.number → CannotJoin tasks pad element
+    lane_between : (k j : ℕ) (head : InletHead I) → FedAt tasks k element → PadOf tasks j pad → IsFed tasks j head → k ≢ j
+        → SendsTo tasks k head.number → CannotJoin tasks pad element
     lane_there : (k : ℕ) → SendsTo tasks k element → CannotJoin tasks pad element
 
   -- the task at the first place, whose head feeds the element, can come into that at the second, which has the pad
@@ -68,7 +69,8 @@ module _ {S E I O L : Type 0} {s : sources.Ghosts S} {e : elements.Ghosts E} {i 
   -- there is room for the elements of a task whose head feeds the element, and of one that has the pad
   pub record HasRoomToJoin (tasks : List (Task S E I O L s e i o)) (pad element : ℕ) (room : JoinRoom E O e) : Type 0 where
     pub empty : room.parts.items ≡ []
-    pub both : (k j : ℕ) (f : FedAt tasks k element) (p : PadOf tasks j pad) → length f.fed.task.parts.items + length p.task.parts.items ≤ vec_capacity room.parts
+    pub both : (k j : ℕ) (f : FedAt tasks k element) (p : PadOf tasks j pad)
+        → length f.fed.task.parts.items + length p.task.parts.items ≤ vec_capacity room.parts
 
   -- there is room for the elements of the tasks at two places
   abbrev pub HasRoomFor : List (Task S E I O L s e i o) → ℕ → ℕ → ℕ → Type 0

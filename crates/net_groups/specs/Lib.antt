@@ -3,3 +3,4 @@ pub mod Lanes
 pub mod Joined
 pub mod Behind
 pub mod Splits
+pub mod Told

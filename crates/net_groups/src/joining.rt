@@ -29,9 +29,9 @@ struct TwoTasks {
 }
 
 /// The elements of the task whose head feeds `element` from inlets come into the task that has the source pad of a number, before its own.
-/// The task that gave its elements is no more, and what still stands in its inlets neither; those behind it move up. Tells whether that was
-/// done. It is not where there are no two such tasks, where a lane leads from the first to the element that the head of the second feeds,
-/// or where one leads to `element`; all tasks stay then.
+/// The task that gave them is no more, nor is anything that stood in its inlets; those behind it move up. Tells whether that was done. It
+/// is not where there are no two such tasks, where a lane leads from the first one to the element that the head of the other feeds, or where
+/// one leads to `element`; all tasks stay then.
 pub fn join<S: TaskSource, E: TaskElement, I: Inlet<Out = O>, O: Outlet<Lanes = I::Lanes>>(
     tasks: &mut Vec<Task<S, E, I, O>>,
     pad: u32,

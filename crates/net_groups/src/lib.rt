@@ -5,6 +5,7 @@
 mod behind;
 pub mod joining;
 mod lanes;
+pub mod laws;
 mod places;
 mod sizes;
 pub mod splitting;

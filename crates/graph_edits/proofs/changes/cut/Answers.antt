@@ -2,5 +2,5 @@ use Rattle.std.proofs.lemmas.Fn.{filter_same}
 use Rattle.std.proofs.Common.{rules}
 use Rattle.graph_edits.proofs.changes.cut.Goals as goal
 
-pub returns : goal.returns
-returns c = filter_same _ _ _ (λ x b f' k. search rules) _ _ c.retain.ensures.filtered
+pub returns-clause-links : goal.returns-clause-links
+returns-clause-links c = filter_same _ _ _ (λ x b f' k. search rules) _ _ c.retain.ensures.filtered

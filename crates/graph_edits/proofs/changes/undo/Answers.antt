@@ -27,7 +27,7 @@ returns-clause-room c =
       ended_long,
       left_long,
       all_long,
-      ap length c.cut.ensures,
+      ap length c.cut.ensures.links,
       ap length c.mark.ensures.ended ∙ ap (λ (o : Option PadPlace). length (and_sink o ended.items)) sink,
       c.mark.ensures.room,
       room_left source eos links.items ended.items,

@@ -54,3 +54,6 @@ returns-clause-faults g c =
       moves = c.feed-task.ensures.moves ∙ c.unlink-task.ensures.moves;
       fed = record { stopped = z.0; stands = z.1 };
     }) (err_both c.feed-task.result.1 _ _ c.feed-task.ensures.stopped c.feed-task.ensures.faults)
+
+pub returns-clause-room : goal.returns-clause-room
+returns-clause-room g c = let a = c.swap_remove-task.ensures.capacity in let b = c.push_reserved.ensures.capacity in let d = c.swap.ensures.capacity in omega (arith, a, b, d)

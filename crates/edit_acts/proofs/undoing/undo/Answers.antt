@@ -1,0 +1,46 @@
+use Rattle.std.proofs.Common.{false, ap, refl, subst, sym}
+use Rattle.net_groups.specs.Splits.{TookItems, pads_of}
+use Rattle.edit_acts.specs.Undoing.{HasRoomBehind, LeadsNoneInside}
+use Rattle.edit_acts.proofs.Undoes.{ToldSplit, room_then, split_run, told_ready, told_stands, took_beside, whole_run}
+use Rattle.edit_acts.proofs.Unlinked.{AreCut, told_cut}
+use Rattle.edit_acts.proofs.undoing.undo.Goals as goal
+
+pub split_reserved-requires-clause-room : goal.split_reserved-requires-clause-room
+split_reserved-requires-clause-room g c κs within =
+    let cut : AreCut c.args.pad c.args.tasks.now.items c.unlink.new.tasks.items = told_cut c.args.pad c.args.tasks.now c.unlink.new.tasks c.unlink.result c.unlink.ensures.undone c.unlink.ensures.none in
+    let room : HasRoomBehind c.args.tasks.now c.args.pad c.in-Split.element c.in-Split.room = rw c.in-Split.is at c.requires.room in
+    room_then c.args.pad c.args.tasks.now c.unlink.new.tasks c.in-Split.element c.in-Split.room cut c.unlink.ensures.room c.unlink.ensures.count room.split
+
+told : (g : _) (c : goal.After-split_reserved g) → ToldSplit c.split_reserved.result c.unlink.new.tasks.items c.split_reserved.new.tasks.items c.in-Split.element (pads_of c.in-Split.room)
+told g c = record {
+  stands = c.split_reserved.ensures.stands;
+  ready = c.split_reserved.ensures.ready;
+  split = c.split_reserved.ensures.split;
+  none = λ is. (c.split_reserved.ensures.none is).0;
+  same = λ is. ap (λ (v : _). v.items) (c.split_reserved.ensures.none is).1;
+}
+
+pub returns-in-Split-clause-run : goal.returns-in-Split-clause-run
+returns-in-Split-clause-run g c = λ graph m tells source w.
+    let cut : AreCut c.args.pad c.args.tasks.now.items c.unlink.new.tasks.items = told_cut c.args.pad c.args.tasks.now c.unlink.new.tasks c.unlink.result c.unlink.ensures.undone c.unlink.ensures.none in
+    let room : HasRoomBehind c.args.tasks.now c.args.pad c.in-Split.element c.in-Split.room = rw c.in-Split.is at c.requires.room in
+    split_run graph m c.args.tasks.now.items tells c.args.pad source w c.unlink.new.tasks.items cut false _ refl refl (c.unlink.ensures.stands m tells w.run.net) room.place _ room.leads c.split_reserved.result c.split_reserved.new.tasks.items _ room.row
+    (told g c)
+
+pub returns-in-Split-clause-stands : goal.returns-in-Split-clause-stands
+returns-in-Split-clause-stands g c = λ m tells stands took.
+    let room : HasRoomBehind c.args.tasks.now c.args.pad c.in-Split.element c.in-Split.room = rw c.in-Split.is at c.requires.room in
+    told_stands c.split_reserved.result c.unlink.new.tasks.items c.split_reserved.new.tasks.items c.in-Split.element _ (told g c) _ tells (c.unlink.ensures.stands m tells stands)
+    (subst (TookItems _ c.in-Split.element) (sym room.row) (took_beside c.args.tasks.now.items c.args.pad room.place _ m _ false took room.leads refl))
+
+pub returns-in-Split-clause-ready : goal.returns-in-Split-clause-ready
+returns-in-Split-clause-ready g c = λ tells ready. told_ready c.split_reserved.result c.unlink.new.tasks.items c.split_reserved.new.tasks.items c.in-Split.element _ (told g c) tells (c.unlink.ensures.ready tells ready)
+
+pub returns-in_default-clause-run : goal.returns-in_default-clause-run
+returns-in_default-clause-run g c = λ graph m tells source w.
+    let cut : AreCut c.args.pad c.args.tasks.now.items c.unlink.new.tasks.items = told_cut c.args.pad c.args.tasks.now c.unlink.new.tasks c.unlink.result c.unlink.ensures.undone c.unlink.ensures.none in
+    let none : LeadsNoneInside c.args.tasks.now.items c.args.pad = rw c.in_default.is at c.requires.room in
+    whole_run graph m c.args.tasks.now.items tells c.args.pad source w c.unlink.new.tasks.items cut false _ refl refl (c.unlink.ensures.stands m tells w.run.net) none
+
+pub returns-in_default-clause-stands : goal.returns-in_default-clause-stands
+returns-in_default-clause-stands g c = λ m tells stands took. c.unlink.ensures.stands m tells stands
