@@ -17,8 +17,7 @@ use Rattle.net_model.specs.Standing.{is_linked}
 use Rattle.net_model.specs.declared.element.TaskElement as elements
 use Rattle.net_model.specs.declared.source.TaskSource as sources
 use Rattle.net_task.specs.declared.task.Task.{Task}
-use Rattle.net_turns.specs.Net.{NetStands}
-use Rattle.net_edits.specs.Nets.{TaskHas}
+use Rattle.net_turns.specs.Net.{NetStands, Owns}
 use Rattle.net_turns.specs.declared.net.Stopped.{Stopped}
 use Rattle.el_settings.specs.Asked.{is_source}
 use Rattle.graph_core.specs.Elements.{has}
@@ -49,7 +48,7 @@ use Rattle.edit_acts.specs.Linking.{GoesOnLinked, IsLinkedShort, MayLink, MayLin
 use Rattle.edit_acts.specs.Relinked.{HasNewLink, IsPrepared, IsRelinked, IsRelinkedShort, IsToKeep, IsToRelink, RunsRelinked, relinked}
 use Rattle.edit_acts.specs.Undoing.{IsRunWith}
 use Rattle.edit_acts.specs.declared.relinking.Prepared.{Prepared}
-use Rattle.edit_acts.proofs.Owned.{fresh, task_has}
+use Rattle.edit_acts.proofs.Owned.{fresh}
 use Rattle.edit_acts.proofs.Owing.{owes}
 use Rattle.edit_acts.proofs.Relinks.{may_link, source_named, source_told}
 
@@ -94,9 +93,10 @@ module _ {S E I O L : Type 0} {s : sources.Ghosts S} {e : elements.Ghosts E} {i 
   module _ (all : Vec (Task S E I O L s e i o)) (all_are : all.items ≡ tasks) (p : Prepared E I O e) (ready : IsPrepared all source sink p) where
     opening_is : opening_of p.link ≡ stickies (m.history (pad_id source))
     opening_is =
-        let has = task_has g m tasks tells w.controlled.run w.controlled.pads name.0 source name.1 w.awake in
-        ready.opens m tells has.0 (subst (λ (ts : List (Task S E I O L s e i o)). NetStands m ts tells) (sym all_are) now.net)
-        (subst (λ (n : ℕ). TaskHas all.items n has.0) (sym ready.number) (subst (λ (ts : List (Task S E I O L s e i o)). TaskHas ts (pad_id source) has.0) (sym all_are) has.1))
+        let own = w.controlled.run.are.owned source.element may.source_there w.awake in
+        let owner : m.plan.owner p.pad ≡ source.element = ap m.plan.owner ready.number ∙ w.controlled.pads.owned name.0 source name.1 in
+        ready.opens m tells own.0 (subst (λ (ts : List (Task S E I O L s e i o)). NetStands m ts tells) (sym all_are) now.net)
+        (subst (λ (n : ℕ). Owns all.items own.0 n) (sym owner) (subst (λ (ts : List (Task S E I O L s e i o)). Owns ts own.0 source.element) (sym all_are) own.1))
         ∙ ap (λ (n : ℕ). stickies (m.history n)) ready.number
 
     pub run_with : IsRunWith g m all.items tells p.pad source

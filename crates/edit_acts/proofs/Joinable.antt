@@ -18,12 +18,13 @@ use Rattle.task_parts.specs.declared.part.Part.{Part}
 use Rattle.net_task.specs.declared.task.Task.{Task}
 use Rattle.net_task.specs.Frame.{HeadFrame, PartFrame, Wire, IsWire, by_inlets, by_source, frame_in, frame_of, head_frame, head_wire, of_head, of_part, part_frame, wire_of}
 use Rattle.net_task.specs.Ties.{HeadTied, Ties, nothing_lost}
-use Rattle.net_turns.specs.Net.{HasElement, HasRow, IsFed, Owns, part, source as of_source}
+use Rattle.net_turns.specs.Net.{HasElement, HasRow, IsFed, NetStands, Owns, part, source as of_source}
 use Rattle.net_turns.proofs.Facts.{fed_owned, own_pad}
 use Rattle.net_groups.specs.Joined.{CannotJoin, IsApart, IsJoined}
 use Rattle.net_groups.specs.Places.{FedAt, HasPad, PadOf}
 use Rattle.task_edits.specs.Places.{HasNoPad}
 use Rattle.net_edits.specs.Inside.{CanLinkIn, LacksOne, NoneHasBoth}
+use Rattle.net_edits.specs.Nets.{NoneHas}
 use Rattle.gst_value.proofs.Basics.{and_left, some_same}
 use Rattle.gst_value.proofs.Places.{map_get, map_got}
 use Rattle.graph_core.specs.GraphPlan.{pad_id}
@@ -90,45 +91,53 @@ module _ {S E I O L : Type 0} {s : sources.Ghosts S} {e : elements.Ghosts E} {i 
       go (inl no_pad) = not_without o j.merged.is.head j.merged.is.parts.items pad no_pad j.has.has.wire joined_wire j.has.has.number_is
       go (inr no_element) = absurd (let clash : true ≡ false = sym joined_has ∙ no_element in cc)
 
+-- ---- where tasks stand
+
+module _ {S E I O L : Type 0} {s : sources.Ghosts S} {e : elements.Ghosts E} {i : inlets.Ghosts I L O} {o : outlets.Ghosts O L} (m : Moment) (tasks : List (Task S E I O L s e i o)) (tells : Option (List Lane)) (net : NetStands m tasks tells) (k p : ℕ)
+    (owns : Owns tasks k (m.plan.owner p)) where
+  -- the task of an element has its pads
+  owner_has : PadOf tasks k p
+  owner_has = record { task = owns.task; at = owns.at; has = go owns.has }
+    where
+      tied : Ties owns.task m
+      tied = net.tied k owns.task owns.at
+
+      number_of_source : HeadFrame → ℕ
+      number_of_source (by_source n file wire) = n
+      number_of_source (by_inlets n rows) = 0
+
+      of_a_source : (head : Head S I O s) → owns.task.head ≡ head → HeadTied i o nothing_lost m head owns.task.parts.items → (file : Option (Option (List ℕ))) (wire : Wire)
+          → head_frame o head ≡ by_source (m.plan.owner p) file wire → HasPad (frame_of owns.task) p
+      of_a_source (Source head) is t file wire frame = record {
+        wire = wire_of o head.pad;
+        is = of_head (ap (λ (h : Head S I O s). head_wire (head_frame o h)) is);
+        number_is = sym (t.mine p (sym (ap number_of_source frame)));
+      }
+      of_a_source (Inlets head) is t file wire frame = absurd cc
+
+      go : HasElement (frame_of owns.task) (m.plan.owner p) → HasPad (frame_of owns.task) p
+      go (part place one at number) =
+          let a = map_got (part_frame o) owns.task.parts.items place one at in
+          let pad = (tied.parts_tied.each place a.0 a.1).mine p (sym number ∙ ap (λ (q : PartFrame). q.number) a.2) in
+          record {
+            wire = wire_of o pad.pad;
+            is = of_part place (m.plan.port p) (record { part = part_frame o a.0; at = map_get (part_frame o) owns.task.parts.items place a.0 a.1; pad_at = map_get (wire_of o) a.0.pads.items (m.plan.port p) pad.pad pad.at });
+            number_is = pad.number;
+          }
+      go (of_source file wire is) = of_a_source owns.task.head refl tied.head_tied file wire is
+
+  pub some_has : NoneHas tasks p → ⊥
+  some_has none = not_without o owner_has.task.head owner_has.task.parts.items p (none k owner_has.task owner_has.at) owner_has.has.wire owner_has.has.is owner_has.has.number_is
+
 -- ---- in a run
 
 module _ {S E I O L : Type 0} {s : sources.Ghosts S} {e : elements.Ghosts E} {i : inlets.Ghosts I L O} {o : outlets.Ghosts O L} (g : Edited) (m : Moment) (tasks : List (Task S E I O L s e i o)) (tells : Option (List Lane))
     (run : IsRun g m tasks tells) (source sink : PadPlace) (may : MayLink g source sink) where
   -- the task of the source pad
   source_task : m.plan.owner (pad_id source) ≡ source.element → (k : ℕ) × PadOf tasks k (pad_id source)
-  source_task own = let z = run.are.owned source.element may.source_there may.awake in (z.0, at_task z.0 z.1)
-    where
-      at_task : (k : ℕ) → Owns tasks k source.element → PadOf tasks k (pad_id source)
-      at_task k owns = record { task = owns.task; at = owns.at; has = go owns.has }
-        where
-          tied : Ties owns.task m
-          tied = run.net.tied k owns.task owns.at
-
-          of_head_source : (head : Head S I O s) → owns.task.head ≡ head → HeadTied i o nothing_lost m head owns.task.parts.items → (file : Option (Option (List ℕ))) (wire : Wire) → head_frame o head ≡ by_source source.element file wire → HasPad (frame_of owns.task) (pad_id source)
-          of_head_source (Source head) is t file wire frame = record {
-            wire = wire_of o head.pad;
-            is = of_head (ap (λ (h : Head S I O s). source_wire h) is);
-            number_is = sym (t.mine (pad_id source) (own ∙ sym (ap (λ (h : HeadFrame). source_number h) frame)));
-          }
-            where
-              source_wire : Head S I O s → Option Wire
-              source_wire h = head_wire (head_frame o h)
-
-              source_number : HeadFrame → ℕ
-              source_number (by_source n file wire) = n
-              source_number (by_inlets n rows) = 0
-          of_head_source (Inlets head) is t file wire frame = absurd cc
-
-          go : HasElement (frame_of owns.task) source.element → HasPad (frame_of owns.task) (pad_id source)
-          go (part place one at number) =
-              let a = map_got (part_frame o) owns.task.parts.items place one at in
-              let pad = (tied.parts_tied.each place a.0 a.1).mine (pad_id source) (own ∙ sym number ∙ ap (λ (p : PartFrame). p.number) a.2) in
-              record {
-                wire = wire_of o pad.pad;
-                is = of_part place (m.plan.port (pad_id source)) (record { part = part_frame o a.0; at = map_get (part_frame o) owns.task.parts.items place a.0 a.1; pad_at = map_get (wire_of o) a.0.pads.items (m.plan.port (pad_id source)) pad.pad pad.at });
-                number_is = pad.number;
-              }
-          go (of_source file wire is) = of_head_source owns.task.head refl tied.head_tied file wire is
+  source_task own =
+      let z = run.are.owned source.element may.source_there may.awake in
+      (z.0, owner_has m tasks tells run.net z.0 (pad_id source) (subst (λ (n : ℕ). Owns tasks z.0 n) (sym own) z.1))
 
   -- the links that were made lead from the element of the sink pad to no task of the source pad
   never_both : (k : ℕ) → FedAt tasks k sink.element → PadOf tasks k (pad_id source) → ⊥

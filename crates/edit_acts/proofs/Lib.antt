@@ -29,4 +29,3 @@ mod Keeps
 mod Carried
 mod Relinks
 mod Apart
-mod Relinks

@@ -55,7 +55,7 @@ module _ {S E I O L : Type 0} {s : sources.Ghosts S} {e : elements.Ghosts E} {i 
         by (Inlets head) same = let other : head_frame {s = s} o (Inlets head) ≡ by_source source.element file wire = ap (λ (h : Head S I O s). head_frame o h) (sym same) ∙ is in cc
 
     -- so one of the tasks has it, where its element is awake
-    pub task_has : is_asleep g source.element ≡ false → (place : ℕ) × TaskHas tasks (pad_id source) place
+    task_has : is_asleep g source.element ≡ false → (place : ℕ) × TaskHas tasks (pad_id source) place
     task_has awake =
         let own = run.are.owned source.element (named_there Source g pad source named) awake in
         (own.0, record { task = own.1.task; at = own.1.at; has = has_pad own.0 own.1.task own.1.at own.1.has })

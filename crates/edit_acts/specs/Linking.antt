@@ -28,7 +28,7 @@ use Rattle.edit_acts.specs.declared.linking.LinkRoom.{LinkRoom}
 abbrev pub sink_in : PadPlace → Inside
 sink_in sink = record { element = sink.element; pad = sink.pad }
 
--- A source pad of an element that is awake, and a sink pad of one that no lanes feed, are there and have no link, and no links that ever were
+-- A source pad, of an element that is awake, and a sink pad, of one that no lanes feed, are there and have no link. No links that ever were
 -- made lead from the second element to the first.
 pub record MayLink (g : Edited) (source sink : PadPlace) : Type 0 where
   pub source_there : is_there g source.element ≡ true
@@ -41,7 +41,7 @@ pub record MayLink (g : Edited) (source sink : PadPlace) : Type 0 where
   pub bare : has_lanes g sink.element ≡ false
   pub forward : ¬ Leads g.ever sink.element source.element
 
--- So it is with the pads that a task names, the first is one of its element at the moment, and these are the sticky events of what crossed it.
+-- They are the pads of these numbers, the first is one of its element at the moment, and these are the sticky events of what crossed it.
 pub record MayLinkAt (g : Edited) (m : Moment) (source sink : PadPlace) (pad : ℕ) (to : Inside) (opening : List Item) : Type 0 where
   pub may : MayLink g source sink
   pub pad_is : pad ≡ pad_id source
@@ -66,13 +66,13 @@ module _ {S E I O L : Type 0} {s : sources.Ghosts S} {e : elements.Ghosts E} {i 
     pub linked : IsLinkedOpened mid tasks' pad to items
 
   -- The same, but that the element refused one of the items.
-  pub record IsLinkedShort (tasks tasks' : List (Task S E I O L s e i o)) (pad : ℕ) (to : Inside) (items : List Item) (stopped : Stopped) : Type 0 where
+  pub record IsLinkedShort (tasks tasks' : List (Task S E I O L s e i o)) (pad : ℕ) (to : Inside) (items : List Item) (fault : Stopped) : Type 0 where
     pub mid : List (Task S E I O L s e i o)
     pub joined : IsJoined tasks mid pad to.element
-    pub stopped_is : NotLinkedOpened mid tasks' pad to items stopped
+    pub stopped : NotLinkedOpened mid tasks' pad to items fault
 
   -- The run goes on at the moment at which the pad was linked, with the graph that has the link.
-  pub record GoesOnLinked (g : Edited) (m : Moment) (tasks' : List (Task S E I O L s e i o)) (tells : Option (List Lane)) (source sink : PadPlace) : Type 0 where
+  pub record GoesOnLinked (g : Edited) (m : Moment) (tasks : List (Task S E I O L s e i o)) (tells : Option (List Lane)) (source sink : PadPlace) : Type 0 where
     pub out : ℕ → List Item
     pub links : LinksInside m (pad_id source) sink.element sink.pad out
-    pub run : IsRun (linked_at source (length (m.history (pad_id source))) sink g) (linked_inside (pad_id source) sink.element sink.pad out m) tasks' tells
+    pub run : IsRun (linked_at source (length (m.history (pad_id source))) sink g) (linked_inside (pad_id source) sink.element sink.pad out m) tasks tells

@@ -7,7 +7,6 @@ use Rattle.gst_item.specs.Sticky.{stickies}
 use Rattle.lane_core.specs.Lane.{Lane}
 use Rattle.lane_core.specs.declared.ends.Inlet as inlets
 use Rattle.lane_core.specs.declared.ends.Outlet as outlets
-use Rattle.net_edits.specs.Nets.{TaskHas}
 use Rattle.net_edits.specs.declared.inside.EditFault.{EditFault}
 use Rattle.net_edits.specs.declared.inside.EditFault.TheVariants as faults
 use Rattle.net_model.specs.Edit.{LinksInside, linked_inside, unlinked}
@@ -16,7 +15,7 @@ use Rattle.net_model.specs.Standing.{is_linked}
 use Rattle.net_model.specs.declared.element.TaskElement as elements
 use Rattle.net_model.specs.declared.source.TaskSource as sources
 use Rattle.net_task.specs.declared.task.Task.{Task}
-use Rattle.net_turns.specs.Net.{NetStands}
+use Rattle.net_turns.specs.Net.{NetStands, Owns}
 use Rattle.net_turns.specs.declared.net.Stopped.{Stopped}
 use Rattle.graph_core.specs.GraphPlan.{most_pads, pad_id}
 use Rattle.graph_edits.specs.Graph.{IsEdited}
@@ -84,7 +83,7 @@ module _ {S E I O L : Type 0} {s : sources.Ghosts S} {e : elements.Ghosts E} {i 
 
   -- the sticky events of what crossed a pad are given first
   abbrev pub OpensWith : List (Task S E I O L s e i o) → ℕ → List Item → Type 0
-  OpensWith tasks pad opening = (m : Moment) (tells : Option (List Lane)) (place : ℕ) → NetStands m tasks tells → TaskHas tasks pad place → opening ≡ stickies (m.history pad)
+  OpensWith tasks pad opening = (m : Moment) (tells : Option (List Lane)) (k : ℕ) → NetStands m tasks tells → Owns tasks k (m.plan.owner pad) → opening ≡ stickies (m.history pad)
 
   -- Room was taken and the graph has the new link, before the tasks change.
   pub record IsPrepared (tasks : Vec (Task S E I O L s e i o)) (source sink : PadPlace) (p : Prepared E I O e) : Type 0 where

@@ -2,9 +2,8 @@
 ghost use Rattle.std.specs.Prelude.{◌≡◌, ℕ, true, false, IfOk, IfErr, vec_capacity};
 ghost use Rattle.gst_item.specs.Sticky.{has_flush_stop, stickies};
 ghost use Rattle.net_model.specs.Moment.{Moment};
-ghost use Rattle.net_turns.specs.Net.{NetReady, NetStands};
+ghost use Rattle.net_turns.specs.Net.{NetReady, NetStands, Owns};
 ghost use Rattle.net_groups.specs.Joined.{CannotJoin};
-ghost use Rattle.net_edits.specs.Nets.{TaskHas};
 ghost use Rattle.graph_pads.specs.declared.pad.PadPlace.{PadPlace};
 ghost use Rattle.edit_model.specs.Edited.{Edited};
 ghost use Rattle.edit_core.specs.Ways.{IsRun};
@@ -40,7 +39,8 @@ impl<E: TaskElement, O> LinkRoom<E, O> {
     }
 }
 
-/// Takes all the memory that it takes to link the source pad of a number to a sink pad of an element: so [`link`] needs none for itself.
+/// Takes the memory for a link of the source pad of a number to a sink pad of an element, and reads the sticky events at the pad: so [`link`]
+/// needs memory for what the element does with these alone.
 pub fn room_to_link<S: TaskSource, E: TaskElement, I: Inlet<Out = O>, O: Outlet<Lanes = I::Lanes>>(
     alloc: Global,
     tasks: &[Task<S, E, I, O>],
@@ -48,7 +48,7 @@ pub fn room_to_link<S: TaskSource, E: TaskElement, I: Inlet<Out = O>, O: Outlet<
     element: u32,
 ) -> Result<LinkRoom<E, O>, OutOfMemory>
     ensures room { IfOk result (HasRoomToLink tasks.now pad element) }
-    ensures opening { IfOk result (λ room. (m : Moment) (tells : _) (place : ℕ) → NetStands m tasks.now tells → TaskHas tasks.now pad place
+    ensures opening { IfOk result (λ room. (m : Moment) (tells : _) (k : ℕ) → NetStands m tasks.now tells → Owns tasks.now k (m.plan.owner pad)
         → opening_of room ≡ stickies (m.history pad)) }
 {
     let join = room_to_join(alloc, tasks, pad, element)?;
@@ -63,7 +63,7 @@ fn opening<S: TaskSource, E: TaskElement, I: Inlet<Out = O>, O: Outlet<Lanes = I
     pad: u32,
 ) -> Result<List<Item>, OutOfMemory>
     ensures calm { IfOk result (λ items. has_flush_stop items ≡ false) }
-    ensures at { IfOk result (λ items. (m : Moment) (tells : _) (place : ℕ) → NetStands m tasks.now tells → TaskHas tasks.now pad place
+    ensures at { IfOk result (λ items. (m : Moment) (tells : _) (k : ℕ) → NetStands m tasks.now tells → Owns tasks.now k (m.plan.owner pad)
         → items ≡ stickies (m.history pad)) }
 {
     match opening_items(alloc, tasks, pad)? {
@@ -74,7 +74,7 @@ fn opening<S: TaskSource, E: TaskElement, I: Inlet<Out = O>, O: Outlet<Lanes = I
 
 /// Links the source pad of a number to a sink pad of an element that the head of another task feeds from nothing: that task is joined to the
 /// one with the pad, and the element takes the sticky events at once, before any other item. What waits at the pad goes that way. Tells whether
-/// it was done; in a run in which the pads may be linked it is. Else all tasks stay.
+/// it was done; where not, all tasks stay. In a run in which the pads may be linked it is done.
 pub fn link<S: TaskSource, E: TaskElement, I: Inlet<Out = O>, O: Outlet<Lanes = I::Lanes>>(
     alloc: Global,
     tasks: &mut Vec<Task<S, E, I, O>>,
