@@ -131,8 +131,9 @@ fn carry_out<S: TaskSource, E: TaskElement, I: Inlet<Out = O>, O: Outlet<Lanes =
     ensures run { IfOk result (λ done. (graph : Graphs) (g : Edited) (m : Moment) (tells : _) (source : Places) → IsPrepared tasks.old source sink prepared
         → prepared.before ≡ sink_behind g.links source → IsToRelink graph feeds.old tasks.old.items g m tells source sink items
         → (done ≡ true) × RunsRelinked feeds.new tasks.new.items g m tells source sink items) }
-    ensures faults { IfErr result (λ stopped. (graph : Graphs) (g : Edited) (m : Moment) (tells : _) (source : Places) → IsPrepared tasks.old source sink prepared
-        → IsToRelink graph feeds.old tasks.old.items g m tells source sink items → IsRelinkedShort tasks.new.items g m tells source sink items stopped) }
+    ensures faults { IfErr result (λ stopped. (graph : Graphs) (g : Edited) (m : Moment) (tells : _) (source : Places)
+        → IsPrepared tasks.old source sink prepared → IsToRelink graph feeds.old tasks.old.items g m tells source sink items
+        → IsRelinkedShort tasks.new.items g m tells source sink items stopped) }
 {
     let to = Inside {
         element: sink.element,
