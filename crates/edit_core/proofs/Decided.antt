@@ -1,5 +1,5 @@
 -- What becomes of a command that can be answered.
-use Rattle.std.proofs.Common.{◌≡◌, ◌≢◌, ℕ, true, List, [], Option, None, Some, refl, sym, subst}
+use Rattle.std.proofs.Common.{◌≡◌, ◌≢◌, ◌&&◌, ℕ, Bool, true, false, List, [], Option, None, Some, refl, sym, ap, ◌∙◌, subst, inl, inr}
 use Rattle.std.specs.Prelude.{Result, Ok, Err, IfOk, is_some}
 use Rattle.flow_model.specs.Item.{Item}
 use Rattle.lane_core.specs.declared.ends.Inlet as inlets
@@ -8,9 +8,10 @@ use Rattle.net_model.specs.Moment.{Moment}
 use Rattle.net_model.specs.declared.element.TaskElement as elements
 use Rattle.net_model.specs.declared.source.TaskSource as sources
 use Rattle.net_task.specs.declared.task.Task.{Task}
-use Rattle.graph_pads.specs.declared.pad.Direction.TheVariants.{Source}
+use Rattle.gst_value.specs.declared.name.PadName.{PadName}
+use Rattle.graph_pads.specs.declared.pad.Direction.TheVariants.{Sink, Source}
 use Rattle.graph_pads.specs.declared.pad.PadPlace.{PadPlace}
-use Rattle.gst_value.proofs.Basics.{and_left}
+use Rattle.gst_value.proofs.Basics.{and_left, some_same}
 use Rattle.run_report.specs.declared.report.Answer.TheVariants.{Done, Refused, Unreached}
 use Rattle.run_report.specs.declared.report.Place.{Place}
 use Rattle.run_report.specs.declared.report.Reason.{Reason}
@@ -24,7 +25,7 @@ use Rattle.edit_model.specs.Edited.{Edited, relinked_at, unlinked_at, without_el
 use Rattle.edit_model.specs.Lawful.{IsAnswered, IsLinkable, IsRefusedFor, IsUnlinkable, Makes, Reaches, command, is_all_there, places_at}
 use Rattle.edit_model.specs.Names.{is_act_there, is_when_there, pad_named, source_when}
 use Rattle.edit_model.specs.Refused.{IsFedElsewhere}
-use Rattle.edit_core.specs.Deciding.{DeedsAreAnswers, IsDeed, IsReached, IsRuled, IsRuledAnyhow, is_of_pad, made_by, names_its_pad, reason_of}
+use Rattle.edit_core.specs.Deciding.{DeedsAreAnswers, IsAnsweredNow, IsDeed, IsReached, IsRuled, IsRuledAnyhow, is_of_pad, made_by, names_its_pad, reason_of, TellsFirst}
 use Rattle.edit_core.specs.Judging.{IsLast, IsVerdict, owed_then}
 use Rattle.edit_core.specs.Refusing.{IsRefusedSo}
 use Rattle.edit_core.specs.declared.deciding.Deed.{Deed}
@@ -69,12 +70,30 @@ reached g m tasks c items places (IsVerdict.reached _ p _ all reaches last) are 
       places_are = are;
     }
 
--- it is refused
+-- it is refused, and if for a link then for the first reason
 pub refuse : (g : Edited) (m : Moment) (when : When) (act : Act) (items : ℕ) (places : List Place) (reason : Reason) → IsReached g m (command when act) items places
-    → IsRefusedFor g m.history (source_when g when) act reason → IsAnswered g m.history (owed_then m) (command when act) (Refused reason places) g
-refuse g m when act items places reason at for =
-    subst (λ (ps : List Place). IsAnswered g m.history (owed_then m) (command when act) (Refused reason ps) g) (sym at.places_are)
-    (IsAnswered.refused when act (source_when g when) items reason at.all at.reaches for)
+    → IsRefusedFor g m.history (source_when g when) act reason → TellsFirst g m (command when act) (Refused reason places) → IsAnsweredNow g m (command when act) (Refused reason places)
+refuse g m when act items places reason at for first = record {
+  lawful = subst (λ (ps : List Place). IsAnswered g m.history (owed_then m) (command when act) (Refused reason ps) g) (sym at.places_are)
+      (IsAnswered.refused when act (source_when g when) items reason at.all at.reaches for);
+  place = inr (items, at);
+  first = first;
+}
+
+-- the first reason against a link is told
+pub first_told : (g : Edited) (m : Moment) (when : When) (sink : PadName) (source to : PadPlace) (places : List Place) (why : LinkReason) → source_when g when ≡ Some source → pad_named Sink g sink ≡ Some to
+    → IsRefusedSo g m.history source to (Some why) → TellsFirst g m (command when (Acts.Relink sink)) (Refused (reason_of why) places)
+first_told g m when sink source to places why named there so other from at act by found =
+    let sink_is : sink ≡ other = ap sink_of act in
+    let from_is : source ≡ from = some_same (sym named ∙ by) in
+    let at_is : to ≡ at = some_same (sym there ∙ ap (pad_named Sink g) sink_is ∙ found) in
+    (why, refl, subst (λ (p : PadPlace). IsRefusedSo g m.history p at (Some why)) from_is (subst (λ (p : PadPlace). IsRefusedSo g m.history source p (Some why)) at_is so))
+  where
+    sink_of : Act → PadName
+    sink_of (Acts.Relink name) = name
+    sink_of (Acts.Unlink eos) = sink
+    sink_of (Acts.Add kind props) = sink
+    sink_of (Acts.Remove element) = sink
 
 none_some : (found : Option PadPlace) → found ≡ None → is_some found ≡ true → ⊥
 none_some None is there = cc
@@ -85,6 +104,23 @@ pub no_pad : (g : Edited) (when : When) (act : Act) → is_of_pad act ≡ true �
 no_pad g (At pad n) act of names all none = none_some (pad_named Source g pad) none (and_left (is_when_there g (At pad n)) (is_act_there g (At pad n) act) all)
 no_pad g (NowPad pad) act of names all none = none_some (pad_named Source g pad) none (and_left (is_when_there g (NowPad pad)) (is_act_there g (NowPad pad) act) all)
 no_pad g Now act of names all none = let same = rw of at names in cc
+
+-- all that a relink names is there, where both its pads are found
+all_named : (g : Edited) (c : Command) (sink : PadName) (from to : PadPlace) → c.act ≡ Acts.Relink sink → source_when g c.when ≡ Some from → pad_named Sink g sink ≡ Some to → is_all_there g c ≡ false → ⊥
+all_named g c sink from to act named there none =
+    let acts : is_act_there g c.when c.act ≡ true = ap (is_act_there g c.when) act ∙ ap is_some there in
+    let clash : true ≡ false = sym (both_true (is_when_there g c.when) (is_act_there g c.when c.act) (when_there g c.when from named) acts) ∙ none in
+    cc
+  where
+    both_true : (a b : Bool) → a ≡ true → b ≡ true → a && b ≡ true
+    both_true true true one other = refl
+    both_true true false one other = other
+    both_true false b one other = one
+
+    when_there : (g : Edited) (when : When) (from : PadPlace) → source_when g when ≡ Some from → is_when_there g when ≡ true
+    when_there g (At pad n) from named = ap is_some named
+    when_there g (NowPad pad) from named = ap is_some named
+    when_there g Now from named = refl
 
 -- ---- rulings
 
@@ -99,11 +135,15 @@ module _ {S E I O L : Type 0} {s : sources.Ghosts S} {e : elements.Ghosts E} {i 
   anyhow (ToDo deed items places) is = is
 
 module _ {S E I O L : Type 0} {s : sources.Ghosts S} {e : elements.Ghosts E} {i : inlets.Ghosts I L O} {o : outlets.Ghosts O L} where
-  pub nameless : (g : Edited) (m : Moment) (tasks : List (Task S E I O L s e i o)) (c : Command) → IsVerdict g m tasks c Missing → IsAnswered g m.history (owed_then m) c (Refused NoSuch []) g
-  nameless g m tasks c (IsVerdict.missing _ none) = IsAnswered.nameless c none
+  pub nameless : (g : Edited) (m : Moment) (tasks : List (Task S E I O L s e i o)) (c : Command) → IsVerdict g m tasks c Missing → IsAnsweredNow g m c (Refused NoSuch [])
+  nameless g m tasks c (IsVerdict.missing _ none) = record {
+    lawful = IsAnswered.nameless c none;
+    place = inl refl;
+    first = λ sink from to act named there. absurd (all_named g c sink from to act named there none);
+  }
 
-  pub passed_by : (g : Edited) (m : Moment) (tasks : List (Task S E I O L s e i o)) (c : Command) → IsVerdict g m tasks c PassedBy → IsAnswered g m.history (owed_then m) c Unreached g
-  passed_by g m tasks c (IsVerdict.unreached _ all over) = IsAnswered.unreached c all over
+  pub passed_by : (g : Edited) (m : Moment) (tasks : List (Task S E I O L s e i o)) (c : Command) → IsVerdict g m tasks c PassedBy → IsAnsweredNow g m c Unreached
+  passed_by g m tasks c (IsVerdict.unreached _ all over) = record { lawful = IsAnswered.unreached c all over; place = tt; first = tt }
 
 -- ---- deeds
 

@@ -1,5 +1,5 @@
 -- What becomes of the next command at a moment.
-use Rattle.std.specs.Prelude.{◌≡◌, ◌≢◌, ℕ, Bool, true, List, [], Option, Some, if◌then◌else◌, is_some}
+use Rattle.std.specs.Prelude.{◌≡◌, ◌≢◌, ◌⊎◌, ℕ, Bool, true, List, [], Option, Some, if◌then◌else◌, is_some}
 use Rattle.flow_model.specs.Item.{Item}
 use Rattle.lane_core.specs.declared.ends.Inlet as inlets
 use Rattle.lane_core.specs.declared.ends.Outlet as outlets
@@ -12,7 +12,8 @@ use Rattle.graph_pads.specs.declared.pad.Direction.TheVariants.{Sink}
 use Rattle.graph_pads.specs.declared.pad.PadPlace.{PadPlace}
 use Rattle.gst_value.specs.declared.name.PadName.{PadName}
 use Rattle.gst_value.specs.declared.name.Prop.{Prop}
-use Rattle.run_report.specs.declared.report.Answer.TheVariants.{Done, Refused}
+use Rattle.run_report.specs.declared.report.Answer.{Answer}
+use Rattle.run_report.specs.declared.report.Answer.TheVariants.{Done, Refused, Unreached}
 use Rattle.run_report.specs.declared.report.Place.{Place}
 use Rattle.run_report.specs.declared.report.Reason.{Reason}
 use Rattle.run_report.specs.declared.report.Reason.TheVariants as reasons
@@ -25,6 +26,7 @@ use Rattle.edit_model.specs.Lawful.{IsAnswered, IsLinkable, Reaches, command, ha
 use Rattle.edit_model.specs.Names.{element_named, named_when, pad_named, source_when}
 use Rattle.edit_model.specs.Refused.{IsFedElsewhere}
 use Rattle.edit_core.specs.Judging.{IsLast, IsVerdict, owed_then}
+use Rattle.edit_core.specs.Refusing.{IsRefusedSo}
 use Rattle.edit_core.specs.declared.deciding.Deed.{Deed}
 use Rattle.edit_core.specs.declared.deciding.Deed.TheVariants.{Relink, Unlink, Add, Remove}
 use Rattle.edit_core.specs.declared.deciding.Ruling.{Ruling}
@@ -86,10 +88,29 @@ pub record IsToDo (g : Edited) (m : Moment) (c : Command) (deed : Deed) (items :
   pub reached : IsReached g m c items places
   pub deed_is : IsDeed g m.history (source_when g c.when) c.act deed
 
+-- A refusal names the place that the command has reached, but where something is not there.
+abbrev pub TellsPlace : Edited → Moment → Command → Answer → Type 0
+TellsPlace g m c (Done places) = Unit {0}
+TellsPlace g m c Unreached = Unit {0}
+TellsPlace g m c (Refused reason places) = (reason ≡ reasons.NoSuch) ⊎ ((items : ℕ) × IsReached g m c items places)
+
+-- Of the reasons against a link the first is told.
+abbrev pub TellsFirst : Edited → Moment → Command → Answer → Type 0
+TellsFirst g m c (Done places) = Unit {0}
+TellsFirst g m c Unreached = Unit {0}
+TellsFirst g m c (Refused reason places) =
+    (sink : PadName) (from to : PadPlace) → c.act ≡ acts.Relink sink → source_when g c.when ≡ Some from → pad_named Sink g sink ≡ Some to → (why : LinkReason) × (reason ≡ reason_of why) × IsRefusedSo g m.history from to (Some why)
+
+-- A command is answered so, and nothing is done.
+pub record IsAnsweredNow (g : Edited) (m : Moment) (c : Command) (answer : Answer) : Type 0 where
+  pub lawful : IsAnswered g m.history (owed_then m) c answer g
+  pub place : TellsPlace g m c answer
+  pub first : TellsFirst g m c answer
+
 -- what becomes of a command that can be answered
 abbrev pub IsRuledAnyhow : Edited → Moment → Command → Ruling → Type 0
 IsRuledAnyhow g m c Waits = ⊥
-IsRuledAnyhow g m c (Answered answer) = IsAnswered g m.history (owed_then m) c answer g
+IsRuledAnyhow g m c (Answered answer) = IsAnsweredNow g m c answer
 IsRuledAnyhow g m c (ToDo deed items places) = IsToDo g m c deed items places
 
 -- what becomes of a command

@@ -11,7 +11,7 @@ use Rattle.edit_core.specs.Refusing.{IsRefusedSo}
 use Rattle.edit_core.specs.declared.deciding.Ruling.{Ruling}
 use Rattle.edit_core.specs.declared.deciding.Ruling.TheVariants.{Answered}
 use Rattle.edit_core.specs.declared.refusing.LinkReason.{LinkReason}
-use Rattle.edit_core.proofs.Decided.{linkable, own_fed, refuse, unlinkable}
+use Rattle.edit_core.proofs.Decided.{first_told, linkable, own_fed, refuse, unlinkable}
 use Rattle.edit_core.proofs.deciding.decide_relink.Goals as goal
 
 pub returns-in-Some-2 : goal.returns-in-Some-2
@@ -23,7 +23,8 @@ returns-in-Some-2 g c = λ e m tells when is by.
     (sym (c.refused.ensures ∙ ap (λ (reason : Reason). Answered (Refused reason c.args.places)) c.reason_of.ensures))
     (refuse e m when (Relink c.args.sink.now) c.args.items c.args.places (reason_of c.in-Some-2.reason) by.0
     (subst (λ (p : Option PadPlace). IsRefusedFor e m.history p (Relink c.args.sink.now) (reason_of c.in-Some-2.reason)) (sym by.1)
-    (IsRefusedFor.unlinkable c.args.sink.now c.args.source c.in-Some.to (reason_of c.in-Some-2.reason) named (unlinkable e m.history c.args.source c.in-Some.to c.in-Some-2.reason so))))
+    (IsRefusedFor.unlinkable c.args.sink.now c.args.source c.in-Some.to (reason_of c.in-Some-2.reason) named (unlinkable e m.history c.args.source c.in-Some.to c.in-Some-2.reason so)))
+    (first_told e m when c.args.sink.now c.args.source c.in-Some.to c.args.places c.in-Some-2.reason by.1 named so))
 
 pub returns-in-None : goal.returns-in-None
 returns-in-None g c = λ e m tells when is by.

@@ -12,7 +12,8 @@ pub returns-then-has_link : goal.returns-then-has_link
 returns-then-has_link c = λ e m when edited at.
     subst (λ (r : Ruling). IsRuledAnyhow e m (command when (Remove c.args.name.now)) r) (sym c.refused.ensures)
     (refuse e m when (Remove c.args.name.now) c.args.items c.args.places WasLinked at
-    (IsRefusedFor.linked (source_when e when) c.args.name.now c.in-Some.element (sym (c.find.ensures.found e edited) ∙ c.in-Some.is) (sym (c.has_link.ensures e edited) ∙ c.if-has_link.true)))
+    (IsRefusedFor.linked (source_when e when) c.args.name.now c.in-Some.element (sym (c.find.ensures.found e edited) ∙ c.in-Some.is) (sym (c.has_link.ensures e edited) ∙ c.if-has_link.true))
+    (λ sink from to act named there. cc))
 
 pub returns : goal.returns
 returns c = λ e m when edited at. record {
