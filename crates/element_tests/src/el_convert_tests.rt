@@ -1,6 +1,7 @@
 //! Rows of bodies and of calls. A letter stands for a call, and for what it answers and puts out.
 ghost use Rattle.std.specs.Prelude.{◌≤◌};
 
+use crate::rows::{holds, is_buffer, same_bytes};
 use audio_info::{Info, Sample};
 use el_convert::*;
 use flow_model::ElementFault;
@@ -132,18 +133,35 @@ fn call(alloc: Global, convert: &mut Convert, letter: u8, out: &mut Outs) -> Res
     Ok(b'-')
 }
 
-/// The answers, a `:`, and what was put out.
-fn trace_of(alloc: Global, calls: &[u8]) -> Result<Vec<u8>, Fail> {
-    let mut convert = Convert::new(Caps::Any).copy(alloc)?;
-    let mut out = List::new(alloc);
+/// The answers to calls.
+fn answers(
+    alloc: Global,
+    convert: &mut Convert,
+    calls: &[u8],
+    out: &mut Outs,
+) -> Result<Vec<u8>, Fail> {
     let mut trace = Vec::new(alloc);
     for letter in calls {
-        trace.push(call(alloc, &mut convert, *letter, &mut out)?)?;
+        trace.push(call(alloc, convert, *letter, out)?)?;
     }
+    Ok(trace)
+}
+
+/// Adds a `:`, and what was put out.
+fn add_outs(trace: &mut Vec<u8>, out: &Outs) -> Result<(), Fail> {
     trace.push(b':')?;
     for one in out.as_slice() {
         trace.push(letter_by_format(&one.item))?;
     }
+    Ok(())
+}
+
+/// The answers of a converter, and what it put out.
+fn trace_of(alloc: Global, calls: &[u8]) -> Result<Vec<u8>, Fail> {
+    let mut convert = Convert::new(Caps::Any).copy(alloc)?;
+    let mut out = List::new(alloc);
+    let mut trace = answers(alloc, &mut convert, calls, &mut out)?;
+    add_outs(&mut trace, &out)?;
     Ok(trace)
 }
 
@@ -171,29 +189,44 @@ fn calls(rt: HostRuntime) -> Result<(), Fail> {
         (b"lRC", b"+-y:l"),
     ];
     for (calls, wanted) in rows {
-        let trace = trace_of(alloc, calls)?;
-        assert_eq!(rt; trace.as_slice(), wanted);
+        same_bytes(&rt, trace_of(alloc, calls)?.as_slice(), wanted);
     }
     Ok(())
 }
 
-/// The body that is put out for a body in one format and number of channels, in others.
-fn body_for(alloc: Global, from: Info, to: Info, bytes: Vec<u8>) -> Result<Item, Fail> {
+/// Caps of raw audio in a format and a number of channels.
+fn raw_caps(alloc: Global, to: Info) -> Result<Caps, Fail> {
     let mut structure = Structure::new(alloc, "audio/x-raw")?;
     set_format(alloc, &mut structure, to.format.name())?;
     structure.set(alloc, "channels", Value::One(One::Int(to.channels as i32)))?;
     let mut structures = List::new(alloc);
     structures.push(alloc, structure)?;
-    let mut convert = Convert::new(Caps::Of(structures));
+    Ok(Caps::Of(structures))
+}
+
+/// The item that a converter puts out last for caps and a body.
+fn last_of(
+    alloc: Global,
+    mut convert: Convert,
+    caps: Fixed,
+    bytes: &[u8],
+) -> Result<Option<Item>, Fail> {
     let mut out = List::new(alloc);
-    let caps = Item::Event(Event::Caps(from.to_fixed(alloc)?));
-    let _ = convert.feed(alloc, 0, caps, &mut out).is_ok();
-    let buffer = buffer_of(alloc, bytes.as_slice())?;
+    let buffer = buffer_of(alloc, bytes)?;
+    let _ = convert
+        .feed(alloc, 0, Item::Event(Event::Caps(caps)), &mut out)
+        .is_ok();
     let _ = convert.feed(alloc, 0, buffer, &mut out).is_ok();
     match out.into_vec().pop() {
-        Some(one) => Ok(one.item),
-        None => Ok(Item::Event(Event::Eos)),
+        Some(one) => Ok(Some(one.item)),
+        None => Ok(None),
     }
+}
+
+/// What is put out for a body in one format and number of channels, in others.
+fn body_for(alloc: Global, from: Info, to: Info, bytes: &[u8]) -> Result<Option<Item>, Fail> {
+    let convert = Convert::new(raw_caps(alloc, to)?);
+    last_of(alloc, convert, from.to_fixed(alloc)?, bytes)
 }
 
 /// The letter and the channels of caps.
@@ -223,25 +256,35 @@ l1 1234 b1 3412
 u2 00FF u1 7F
 81 80FF u1 007F";
 
+/// Whether a body in one format gives this one in another.
+fn gives(alloc: Global, from: Info, to: Info, bytes: &[u8], wanted: &[u8]) -> Result<bool, Fail> {
+    match body_for(alloc, from, to, bytes)? {
+        Some(item) => Ok(is_buffer(&item, wanted)),
+        None => Ok(false),
+    }
+}
+
+/// That for caps and digits.
+fn gives_digits(alloc: Global, from: (&str, &str), to: (&str, &str)) -> Result<bool, Fail> {
+    let bytes = bytes_by(alloc, from.1)?;
+    let wanted = bytes_by(alloc, to.1)?;
+    gives(
+        alloc,
+        caps_of(from.0),
+        caps_of(to.0),
+        bytes.as_slice(),
+        wanted.as_slice(),
+    )
+}
+
 #[test]
 fn bodies(rt: HostRuntime) -> Result<(), Fail> {
     let alloc = rt.alloc();
     for line in BODIES.lines() {
         let mut words = line.split(' ');
-        let from = caps_of(words.next().unwrap_or(""));
-        let bytes = bytes_by(alloc, words.next().unwrap_or(""))?;
-        let to = caps_of(words.next().unwrap_or(""));
-        let wanted = bytes_by(alloc, words.next().unwrap_or(""))?;
-        match body_for(alloc, from, to, bytes)? {
-            Item::Buffer(buffer) => {
-                assert_eq!(rt; buffer.body.as_slice(), wanted.as_slice(), "{line}");
-                assert_eq!(rt; buffer.pts, Some(1));
-                assert_eq!(rt; buffer.duration, Some(2));
-                assert_eq!(rt; buffer.offset, Some(3));
-                assert!(rt; !buffer.discont);
-            }
-            Item::Event(_) => assert!(rt; false, "{line}"),
-        }
+        let from = (words.next().unwrap_or(""), words.next().unwrap_or(""));
+        let to = (words.next().unwrap_or(""), words.next().unwrap_or(""));
+        holds(&rt, line, gives_digits(alloc, from, to)?);
     }
     Ok(())
 }
@@ -329,25 +372,26 @@ fn infos() -> [Info; 12] {
     ]
 }
 
-fn check_pair(rt: &impl Abort, alloc: Global, from: Info, to: Info) -> Result<(), Fail> {
+/// All pairs of samples of the ramp in one format, and in another.
+fn ramps(alloc: Global, from: Info, to: Info) -> Result<(Vec<u8>, Vec<u8>), Fail> {
     let mut bytes = Vec::new(alloc);
     let mut wanted = Vec::new(alloc);
     for left in RAMP {
         for right in RAMP {
-            push_sample(&mut bytes, from.format, left)?;
-            push_sample(&mut bytes, from.format, right)?;
+            push_samples(&mut bytes, from.format, &[left, right])?;
             push_pair(&mut wanted, from, to, [left, right])?;
         }
     }
-    match body_for(alloc, from, to, bytes)? {
-        Item::Buffer(buffer) => {
-            assert!(rt;
-                buffer.body.as_slice() == wanted.as_slice(),
-                "{from:?} {to:?}"
-            );
-        }
-        Item::Event(_) => assert!(rt; false, "{from:?} {to:?}"),
-    }
+    Ok((bytes, wanted))
+}
+
+fn check_pair(rt: &impl Abort, alloc: Global, from: Info, to: Info) -> Result<(), Fail> {
+    let (bytes, wanted) = ramps(alloc, from, to)?;
+    holds(
+        rt,
+        "a pair",
+        gives(alloc, from, to, bytes.as_slice(), wanted.as_slice())?,
+    );
     Ok(())
 }
 

@@ -1,6 +1,7 @@
 //! Rows of calls. A letter stands for a call, and for what it answers and puts out.
 ghost use Rattle.std.specs.Prelude.{◌≤◌};
 
+use crate::rows::{holds, is_buffer, same_bytes};
 use audio_info::{Info, Sample};
 use el_law::*;
 use gst_item::{Event, Item, Outs};
@@ -145,8 +146,7 @@ fn calls(rt: HostRuntime) -> Result<(), Fail> {
         (LawKind::MulawEnc, b"lBdB", b"++-+:mAA"),
     ];
     for (kind, calls, wanted) in rows {
-        let trace = trace_of(alloc, kind, calls)?;
-        assert_eq!(rt; trace.as_slice(), wanted);
+        same_bytes(&rt, trace_of(alloc, kind, calls)?.as_slice(), wanted);
     }
     Ok(())
 }
@@ -160,8 +160,8 @@ fn taken_by(kind: LawKind) -> Sample {
     }
 }
 
-/// The body that is put out for one of these bytes, in one channel.
-fn put_for(alloc: Global, kind: LawKind, bytes: &[u8]) -> Result<Item, Fail> {
+/// What is put out for one of these bytes, in one channel.
+fn put_for(alloc: Global, kind: LawKind, bytes: &[u8]) -> Result<Option<Item>, Fail> {
     let mut law = Law::new(kind);
     let mut out = List::new(alloc);
     let caps = Info {
@@ -170,13 +170,19 @@ fn put_for(alloc: Global, kind: LawKind, bytes: &[u8]) -> Result<Item, Fail> {
         channels: 1,
     };
     let caps = Item::Event(Event::Caps(caps.to_fixed(alloc)?));
+    let buffer = buffer_of(alloc, bytes)?;
     let _ = law.feed(alloc, 0, caps, &mut out).is_ok();
-    let _ = law
-        .feed(alloc, 0, buffer_of(alloc, bytes)?, &mut out)
-        .is_ok();
+    let _ = law.feed(alloc, 0, buffer, &mut out).is_ok();
     match out.into_vec().pop() {
-        Some(one) => Ok(one.item),
-        None => Ok(Item::Event(Event::Eos)),
+        Some(one) => Ok(Some(one.item)),
+        None => Ok(None),
+    }
+}
+
+fn gives(alloc: Global, kind: LawKind, bytes: &[u8], wanted: &[u8]) -> Result<bool, Fail> {
+    match put_for(alloc, kind, bytes)? {
+        Some(item) => Ok(is_buffer(&item, wanted)),
+        None => Ok(false),
     }
 }
 
@@ -210,16 +216,7 @@ fn bodies(rt: HostRuntime) -> Result<(), Fail> {
         (LawKind::AlawDec, &[0xD5], &[0x08, 0x00]),
     ];
     for (kind, bytes, wanted) in rows {
-        match put_for(alloc, kind, bytes)? {
-            Item::Buffer(buffer) => {
-                assert_eq!(rt; buffer.body.as_slice(), wanted);
-                assert_eq!(rt; buffer.pts, Some(1));
-                assert_eq!(rt; buffer.duration, Some(2));
-                assert_eq!(rt; buffer.offset, Some(3));
-                assert!(rt; !buffer.discont);
-            }
-            Item::Event(_) => assert!(rt; false),
-        }
+        holds(&rt, "a body", gives(alloc, kind, bytes, wanted)?);
     }
     Ok(())
 }

@@ -3,6 +3,7 @@ ghost use Rattle.std.specs.Prelude.{◌≡◌, false};
 ghost use Rattle.flow_model.specs.Item.{is_flush_stop};
 
 use crate::parse_rows_tests::{item_by, tell_answer, tell_out};
+use crate::rows::{holds, same_text};
 use audio_info::{Info, Sample};
 use el_parse::{RawParse, Split};
 use flow_model::ElementFault;
@@ -123,6 +124,22 @@ fn call(
 }
 
 /// Makes the calls, of a copy each time.
+fn call_all(
+    alloc: Global,
+    first: Tested,
+    info: &Info,
+    calls: &str,
+    out: &mut Outs,
+) -> Result<String, Fail> {
+    let mut tested = first;
+    let mut text = String::new(alloc);
+    for word in calls.split(' ') {
+        tested = copied(alloc, &tested)?;
+        call(alloc, &mut tested, info, word, &mut text, out)?;
+    }
+    Ok(text)
+}
+
 fn check_row(
     rt: &impl Abort,
     alloc: Global,
@@ -130,16 +147,11 @@ fn check_row(
     info: &Info,
     line: &str,
 ) -> Result<(), Fail> {
-    let (calls, wanted) = line.split_once(" -> ").ok_or("two sides")?;
-    let mut tested = copied(alloc, &first)?;
-    let mut text = String::new(alloc);
+    let (calls, wanted) = line.split_once(" -> ").unwrap_or((line, ""));
     let mut out = List::new(alloc);
-    for word in calls.split(' ') {
-        call(alloc, &mut tested, info, word, &mut text, &mut out)?;
-        tested = copied(alloc, &tested)?;
-    }
+    let mut text = call_all(alloc, first, info, calls, &mut out)?;
     tell_out(&mut text, &out)?;
-    assert_eq!(rt; text.as_str(), wanted);
+    same_text(rt, calls, text.as_str(), wanted);
     Ok(())
 }
 
@@ -171,14 +183,24 @@ fn splits_a_long_buffer(rt: HostRuntime) -> Result<(), Fail> {
         rate: 8000,
         channels: 1,
     };
+    let caps = info.to_fixed(alloc)?;
+    let buffer = buffer_of(alloc, &[0; 200])?;
     let mut split = Split::new(3);
     let mut out = List::new(alloc);
-    let caps = Item::Event(Event::Caps(info.to_fixed(alloc)?));
-    assert!(rt; split.feed(alloc, 0, caps, &mut out).is_ok());
-    let buffer = buffer_of(alloc, &[0; 200])?;
-    assert!(rt; split.feed(alloc, 0, buffer, &mut out).is_ok());
-    assert_eq!(rt; out.as_slice().len(), 1 + 33);
-    assert!(rt; split.drain(alloc, &mut out).is_ok());
-    assert_eq!(rt; out.as_slice().len(), 1 + 33 + 1);
+    holds(
+        &rt,
+        "caps",
+        split
+            .feed(alloc, 0, Item::Event(Event::Caps(caps)), &mut out)
+            .is_ok(),
+    );
+    holds(
+        &rt,
+        "a buffer",
+        split.feed(alloc, 0, buffer, &mut out).is_ok(),
+    );
+    holds(&rt, "33 buffers", out.as_slice().len() == 1 + 33);
+    holds(&rt, "a drain", split.drain(alloc, &mut out).is_ok());
+    holds(&rt, "34 buffers", out.as_slice().len() == 1 + 33 + 1);
     Ok(())
 }

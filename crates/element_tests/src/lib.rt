@@ -6,7 +6,11 @@ mod el_basic_tests;
 #[cfg(test)]
 mod el_convert_tests;
 #[cfg(test)]
+mod el_join_tests;
+#[cfg(test)]
 mod el_law_tests;
+#[cfg(test)]
+mod el_mix_tests;
 #[cfg(test)]
 mod el_parse_tests;
 #[cfg(test)]
@@ -19,6 +23,8 @@ mod el_wavenc_tests;
 mod parse_rows_tests;
 #[cfg(test)]
 mod ramp_tests;
+#[cfg(test)]
+mod rows;
 #[cfg(test)]
 mod tee_tests;
 #[cfg(test)]

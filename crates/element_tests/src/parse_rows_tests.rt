@@ -8,29 +8,25 @@ use std::alloc::Global;
 use std::fmt::Write;
 use std::test::Fail;
 
-/// `+` and letters are a buffer of these bytes, with `@N` behind them one of this time; `bytes=N` and `time=N` are
-/// segments, and `rate=N` are CAPS of this rate.
-pub(crate) fn item_by(alloc: Global, caps: &Info, word: &str) -> Result<Item, Fail> {
-    if let Some(letters) = word.strip_prefix('+') {
-        let (letters, pts) = match letters.split_once('@') {
-            Some((letters, pts)) => (letters, pts.parse().ok()),
-            None => (letters, None),
-        };
-        let bytes = Vec::from_slice(alloc, letters.as_bytes())?;
-        return Ok(Item::Buffer(Buffer {
-            body: Body::from_vec(alloc, bytes)?,
-            pts,
-            duration: None,
-            offset: Some(7),
-            discont: true,
-        }));
-    }
-    if let Some(start) = word.strip_prefix("bytes=") {
-        return Ok(Item::Event(segment_by(Format::Bytes, start)));
-    }
-    if let Some(start) = word.strip_prefix("time=") {
-        return Ok(Item::Event(segment_by(Format::Time, start)));
-    }
+/// Letters are a buffer of these bytes, with `@N` behind them one of this time.
+fn buffer_by(alloc: Global, letters: &str) -> Result<Item, Fail> {
+    let (letters, pts) = letters.split_once('@').unwrap_or((letters, ""));
+    let bytes = Vec::from_slice(alloc, letters.as_bytes())?;
+    Ok(Item::Buffer(Buffer {
+        body: Body::from_vec(alloc, bytes)?,
+        pts: pts.parse().ok(),
+        duration: None,
+        offset: Some(7),
+        discont: true,
+    }))
+}
+
+fn caps_of(alloc: Global, info: Info) -> Result<Event, Fail> {
+    Ok(Event::Caps(info.to_fixed(alloc)?))
+}
+
+/// `rate=N` are CAPS of this rate, and `mulaw` those of another format; others are as `event_by` takes them.
+fn caps_by(alloc: Global, caps: &Info, word: &str) -> Result<Event, Fail> {
     if let Some(rate) = word.strip_prefix("rate=") {
         let rate = rate.parse().unwrap_or(1).clamp(1, LARGEST_RATE);
         let other = Info {
@@ -38,21 +34,34 @@ pub(crate) fn item_by(alloc: Global, caps: &Info, word: &str) -> Result<Item, Fa
             rate,
             channels: caps.channels,
         };
-        return Ok(Item::Event(Event::Caps(other.to_fixed(alloc)?)));
+        return caps_of(alloc, other);
     }
-    let event = match word {
-        "caps" => Event::Caps(caps.to_fixed(alloc)?),
-        "mulaw" => {
-            let law = Info {
+    match word {
+        "caps" => caps_of(alloc, *caps),
+        "mulaw" => caps_of(
+            alloc,
+            Info {
                 format: Sample::MuLaw,
                 rate: caps.rate,
                 channels: caps.channels,
-            };
-            Event::Caps(law.to_fixed(alloc)?)
-        }
-        _ => event_by(alloc, word)?,
-    };
-    Ok(Item::Event(event))
+            },
+        ),
+        _ => Ok(event_by(alloc, word)?),
+    }
+}
+
+/// `+` is a buffer, `bytes=N` and `time=N` are segments, and others are as `caps_by` takes them.
+pub(crate) fn item_by(alloc: Global, caps: &Info, word: &str) -> Result<Item, Fail> {
+    if let Some(letters) = word.strip_prefix('+') {
+        return buffer_by(alloc, letters);
+    }
+    if let Some(start) = word.strip_prefix("bytes=") {
+        return Ok(Item::Event(segment_by(Format::Bytes, start)));
+    }
+    if let Some(start) = word.strip_prefix("time=") {
+        return Ok(Item::Event(segment_by(Format::Time, start)));
+    }
+    Ok(Item::Event(caps_by(alloc, caps, word)?))
 }
 
 /// `+` for Ok, `.` for Eos, and the numbers of a fault.

@@ -2,6 +2,7 @@
 ghost use Rattle.std.specs.Prelude.{◌≡◌, ◌≤◌, ◌<◌, ◌+◌, ◌^◌};
 ghost use Rattle.el_src.specs.RampGave.{ramp_items};
 
+use crate::rows::{holds, same_text};
 use audio_info::Info;
 use el_src::{Next, Ramp, RampSrc};
 use gst_item::{Buffer, Event, Item};
@@ -132,8 +133,8 @@ fn tell_ten(alloc: Global, ramp: &mut RampSrc, end: u32, text: &mut String) -> R
     Ok(())
 }
 
-fn check_row(rt: &impl Abort, alloc: Global, line: &str) -> Result<(), Fail> {
-    let (settings, wanted) = line.split_once(" -> ").ok_or("two sides")?;
+/// What ten calls give, and how many items a source then counts, by the words of a row.
+fn told(rt: &impl Abort, alloc: Global, words: &str) -> Result<(String, u64), Fail> {
     let mut ramp = Ramp {
         buffers: 1,
         samples: 1,
@@ -143,15 +144,21 @@ fn check_row(rt: &impl Abort, alloc: Global, line: &str) -> Result<(), Fail> {
         title: None,
     };
     let mut end = 10;
-    for word in settings.split(' ') {
+    for word in words.split(' ') {
         set(alloc, &mut ramp, &mut end, word)?;
     }
     let mut source = source_of(rt, ramp);
     let mut text = String::new(alloc);
     tell_ten(alloc, &mut source, end, &mut text)?;
-    assert_eq!(rt; text.as_str(), wanted);
+    Ok((text, source.items()))
+}
+
+fn check_row(rt: &impl Abort, alloc: Global, line: &str) -> Result<(), Fail> {
+    let (words, wanted) = line.split_once(" -> ").unwrap_or((line, ""));
+    let (text, count) = told(rt, alloc, words)?;
+    same_text(rt, words, text.as_str(), wanted);
     let items = wanted.split(' ').filter(|word| *word != ".").count();
-    assert_eq!(rt; source.items(), items as u64);
+    holds(rt, words, count == items as u64);
     Ok(())
 }
 

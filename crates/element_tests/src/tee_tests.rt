@@ -1,6 +1,7 @@
 //! Rows of calls of a tee. A letter stands for a call, and for what it answers and puts out.
 ghost use Rattle.std.specs.Prelude.{◌≤◌};
 
+use crate::rows::same_bytes;
 use el_basic::*;
 use gst_item::Outs;
 use gst_value::List;
@@ -38,21 +39,33 @@ fn call_tee(alloc: Global, tee: &mut Tee, letter: u8, out: &mut Outs) -> Result<
     Ok(b'-')
 }
 
-/// The answers, a `:`, and what was put out, each item behind the number of its source pad.
-fn tee_trace(alloc: Global, pads: u32, calls: &[u8]) -> Result<Vec<u8>, Fail>
-    requires few { pads ≤ 64 }
-{
-    let mut tee = Tee::new(pads).copy(alloc)?;
-    let mut out = List::new(alloc);
+/// The answers to calls.
+fn answers(alloc: Global, tee: &mut Tee, calls: &[u8], out: &mut Outs) -> Result<Vec<u8>, Fail> {
     let mut trace = Vec::new(alloc);
     for letter in calls {
-        trace.push(call_tee(alloc, &mut tee, *letter, &mut out)?)?;
+        trace.push(call_tee(alloc, tee, *letter, out)?)?;
     }
+    Ok(trace)
+}
+
+/// Adds a `:`, and what was put out, each item behind the number of its source pad.
+fn add_outs(trace: &mut Vec<u8>, out: &Outs) -> Result<(), Fail> {
     trace.push(b':')?;
     for one in out.as_slice() {
         trace.push(digit_of(one.pad))?;
         trace.push(letter_of(&one.item))?;
     }
+    Ok(())
+}
+
+/// The answers of a tee with these pads, and what it put out.
+fn tee_trace(alloc: Global, pads: u32, calls: &[u8]) -> Result<Vec<u8>, Fail>
+    requires few { pads ≤ 64 }
+{
+    let mut tee = Tee::new(pads).copy(alloc)?;
+    let mut out = List::new(alloc);
+    let mut trace = answers(alloc, &mut tee, calls, &mut out)?;
+    add_outs(&mut trace, &out)?;
     Ok(trace)
 }
 
@@ -70,8 +83,11 @@ fn rows_of_tees(rt: HostRuntime) -> Result<(), Fail> {
         (0, b"setn", b"++.0:0s0e"),
     ];
     for (pads, calls, wanted) in rows {
-        let trace = tee_trace(alloc, pads.min(64), calls)?;
-        assert_eq!(rt; trace.as_slice(), wanted);
+        same_bytes(
+            &rt,
+            tee_trace(alloc, pads.min(64), calls)?.as_slice(),
+            wanted,
+        );
     }
     Ok(())
 }

@@ -1,4 +1,5 @@
 //! A table of lines, and the limits.
+use crate::rows::same_text;
 use launch_text::{LineFault, LineKind, Part, parse, print};
 use std::alloc::Global;
 use std::fmt::Write;
@@ -168,18 +169,8 @@ a ! x/y z="q -> 12 Unclosed
 ( ( ( ( ( ( ( ( ( ( ( ( ( ( ( ( a ( -> 34 Deep
 "#;
 
-fn check_good(rt: &impl Abort, alloc: Global, row: &str) -> Result<(), Fail> {
-    let (line, wanted) = row.split_once(" -> ").ok_or("an arrow")?;
-    let told = read(alloc, line)?;
-    assert_eq!(rt; told.as_str(), wanted.trim());
-    assert_eq!(rt; read(alloc, wanted)?.as_str(), wanted.trim());
-    Ok(())
-}
-
-fn check_bad(rt: &impl Abort, alloc: Global, row: &str) -> Result<(), Fail> {
-    let (line, wanted) = row.split_once(" -> ").ok_or("an arrow")?;
-    let told = read(alloc, line)?;
-    assert_eq!(rt; told.as_str(), wanted);
+fn check_line(rt: &impl Abort, alloc: Global, line: &str, wanted: &str) -> Result<(), Fail> {
+    same_text(rt, line, read(alloc, line)?.as_str(), wanted);
     Ok(())
 }
 
@@ -187,24 +178,34 @@ fn check_bad(rt: &impl Abort, alloc: Global, row: &str) -> Result<(), Fail> {
 fn good_lines(rt: HostRuntime) -> Result<(), Fail> {
     let alloc = rt.alloc();
     for row in GOOD.lines() {
-        check_good(&rt, alloc, row)?;
+        let (line, wanted) = row.split_once(" -> ").unwrap_or((row, ""));
+        check_line(&rt, alloc, line, wanted.trim())?;
+        check_line(&rt, alloc, wanted, wanted.trim())?;
     }
-    assert_eq!(rt; read(alloc, "\ta\n!\tb\n")?.as_str(), "a ! b");
-    assert_eq!(rt; read(alloc, "a x=\"p\tq\nr\"")?.as_str(), "a x=p\\\tq\\\nr");
-    assert_eq!(rt; read(alloc, "a x=p\\\tq")?.as_str(), "a x=p\\\tq");
-    assert_eq!(rt;
-        read(alloc, "a ! x/y\t\"p\tq\"\n! b")?.as_str(),
-        "a ! x/y\\ \"p\tq\" ! b"
-    );
-    assert_eq!(rt; read(alloc, "a\rb")?.as_str(), "1 BadName");
     Ok(())
+}
+
+#[test]
+fn lines_with_white_space(rt: HostRuntime) -> Result<(), Fail> {
+    let alloc = rt.alloc();
+    check_line(&rt, alloc, "\ta\n!\tb\n", "a ! b")?;
+    check_line(&rt, alloc, "a x=\"p\tq\nr\"", "a x=p\\\tq\\\nr")?;
+    check_line(&rt, alloc, "a x=p\\\tq", "a x=p\\\tq")?;
+    check_line(
+        &rt,
+        alloc,
+        "a ! x/y\t\"p\tq\"\n! b",
+        "a ! x/y\\ \"p\tq\" ! b",
+    )?;
+    check_line(&rt, alloc, "a\rb", "1 BadName")
 }
 
 #[test]
 fn bad_lines(rt: HostRuntime) -> Result<(), Fail> {
     let alloc = rt.alloc();
     for row in BAD.lines() {
-        check_bad(&rt, alloc, row)?;
+        let (line, wanted) = row.split_once(" -> ").unwrap_or((row, ""));
+        check_line(&rt, alloc, line, wanted)?;
     }
     Ok(())
 }
@@ -222,10 +223,9 @@ fn line_of(alloc: Global, length: usize) -> Result<String, Fail> {
 fn longest_line(rt: HostRuntime) -> Result<(), Fail> {
     let alloc = rt.alloc();
     let whole = line_of(alloc, 65_536)?;
-    assert_eq!(rt; read(alloc, whole.as_str())?.as_str(), whole.as_str());
+    check_line(&rt, alloc, whole.as_str(), whole.as_str())?;
     let more = line_of(alloc, 65_537)?;
-    assert_eq!(rt; read(alloc, more.as_str())?.as_str(), "65536 TooLong");
-    Ok(())
+    check_line(&rt, alloc, more.as_str(), "65536 TooLong")
 }
 
 /// How many nodes the chain has, where the part is a chain.

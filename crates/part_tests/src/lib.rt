@@ -1,4 +1,4 @@
-//! Tests of launch lines as texts, orders, words, files, lanes and pads.
+//! Tests of launch lines and scripts as texts, orders, words, files, lanes and pads.
 #![tactic(auto)]
 
 #[cfg(test)]
@@ -14,9 +14,15 @@ mod pad_core_tests;
 #[cfg(test)]
 mod read_ahead_tests;
 #[cfg(test)]
+mod rows;
+#[cfg(test)]
 mod run_files_tests;
 #[cfg(test)]
 mod run_words_tests;
+#[cfg(test)]
+mod script_file_tests;
+#[cfg(test)]
+mod script_text_tests;
 #[cfg(test)]
 mod task_pads_tests;
 #[cfg(test)]

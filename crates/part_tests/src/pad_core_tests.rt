@@ -2,10 +2,12 @@
 ghost use Rattle.std.specs.Prelude.{◌<◌, ◌^◌};
 ghost use Rattle.pad_core.specs.SrcPad.{crossed_of};
 
+use crate::rows::holds;
 use gst_item::{Event, Flow, Item};
 use item_letters::{item_of, letter_of_event};
 use pad_core::*;
 use std::alloc::Global;
+use std::process::Abort;
 use std::test::Fail;
 
 /// The letter of an answer.
@@ -126,11 +128,30 @@ ALsUsB gan 2 0 -s";
 fn links(rt: HostRuntime) {
     let mut src = SrcPad::new(3, true);
     let mut sink = SinkPad::new(7, true);
-    assert_eq!(rt; link(&mut src, &mut sink, false), LinkReturn::NoFormat);
-    assert_eq!(rt; link(&mut src, &mut sink, true), LinkReturn::Ok);
-    assert_eq!(rt; link(&mut src, &mut sink, true), LinkReturn::WasLinked);
-    assert_eq!(rt; src.peer(), Some(7));
-    assert_eq!(rt; sink.peer(), Some(3));
+    holds(
+        &rt,
+        "no format",
+        link(&mut src, &mut sink, false) == LinkReturn::NoFormat,
+    );
+    holds(
+        &rt,
+        "a link",
+        link(&mut src, &mut sink, true) == LinkReturn::Ok,
+    );
+    holds(
+        &rt,
+        "a second link",
+        link(&mut src, &mut sink, true) == LinkReturn::WasLinked,
+    );
+    holds(
+        &rt,
+        "peers",
+        src.peer() == Some(7) && sink.peer() == Some(3),
+    );
+}
+
+#[test]
+fn codes_of_links(rt: HostRuntime) {
     let codes = [
         (LinkReturn::Ok, 0),
         (LinkReturn::WrongHierarchy, -1),
@@ -145,20 +166,26 @@ fn links(rt: HostRuntime) {
     }
 }
 
+fn check_accepts(rt: &impl Abort, pad: &mut SinkPad, event: Event, wanted: Flow) {
+    holds(rt, "an item", pad.accept(&Item::Event(event)) == wanted);
+}
+
 #[test]
 fn a_sink_pad_accepts(rt: HostRuntime) {
     let mut pad = SinkPad::new(7, false);
-    let stop = Item::Event(Event::FlushStop { number: 1 });
-    let eos = Item::Event(Event::Eos);
-    let start = Item::Event(Event::StreamStart { id: 1 });
-    assert_eq!(rt; pad.accept(&stop), Flow::Flushing);
+    check_accepts(
+        &rt,
+        &mut pad,
+        Event::FlushStop { number: 1 },
+        Flow::Flushing,
+    );
     pad.set_active(true);
     pad.set_flushing(true);
-    assert_eq!(rt; pad.accept(&start), Flow::Flushing);
-    assert_eq!(rt; pad.accept(&stop), Flow::Ok);
-    assert_eq!(rt; pad.accept(&eos), Flow::Ok);
-    assert_eq!(rt; pad.accept(&start), Flow::Eos);
-    assert_eq!(rt; pad.accept(&stop), Flow::Ok);
-    assert_eq!(rt; pad.accept(&start), Flow::Ok);
-    assert_eq!(rt; pad.accepted(), 4);
+    check_accepts(&rt, &mut pad, Event::StreamStart { id: 1 }, Flow::Flushing);
+    check_accepts(&rt, &mut pad, Event::FlushStop { number: 1 }, Flow::Ok);
+    check_accepts(&rt, &mut pad, Event::Eos, Flow::Ok);
+    check_accepts(&rt, &mut pad, Event::StreamStart { id: 1 }, Flow::Eos);
+    check_accepts(&rt, &mut pad, Event::FlushStop { number: 1 }, Flow::Ok);
+    check_accepts(&rt, &mut pad, Event::StreamStart { id: 1 }, Flow::Ok);
+    holds(&rt, "how many", pad.accepted() == 4);
 }

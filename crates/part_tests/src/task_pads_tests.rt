@@ -3,6 +3,7 @@ ghost use Rattle.std.specs.Prelude.{◌≡◌, ◌<◌, ℕ, IfOk};
 ghost use Rattle.net_model.specs.Takes.{AreWithin};
 ghost use Rattle.task_pads.specs.Pads.{PadReady, rest_of};
 
+use crate::rows::holds;
 use gst_item::{Out, Outs};
 use gst_value::List;
 use item_letters::item_of;
@@ -146,16 +147,26 @@ fn what_is_put_out_waits_at_its_pad(rt: HostRuntime) -> Result<(), Fail> {
         pads.push(pad)?;
     }
     assert!(rt; pads.len() == 2);
-    assert!(rt; pads[0].is_idle());
+    holds(&rt, "idle at first", pads[0].is_idle());
     let mut outs = one_out(alloc, 1, b's')?;
     spread(alloc, &mut pads, &mut outs)?;
-    assert!(rt; pads[0].is_idle());
-    assert!(rt; !pads[1].is_idle());
+    holds(
+        &rt,
+        "the second one waits",
+        pads[0].is_idle() && !pads[1].is_idle(),
+    );
     let mut outs = one_out(alloc, 0, b'e')?;
     fill(alloc, &mut pads[0], &mut outs);
-    assert!(rt; outs.as_slice().is_empty());
-    assert!(rt; !pads[0].is_idle());
-    assert_eq!(rt; pads[0].number(), 0);
-    assert!(rt; matches!(pads[0].behind(), Behind::Nothing));
+    holds(&rt, "all is taken", outs.as_slice().is_empty());
+    holds(
+        &rt,
+        "the first one waits",
+        !pads[0].is_idle() && pads[0].number() == 0,
+    );
+    holds(
+        &rt,
+        "it leads nowhere",
+        matches!(pads[0].behind(), Behind::Nothing),
+    );
     Ok(())
 }

@@ -7,6 +7,3 @@ mod reading;
 
 pub use fault::FileFault;
 pub use file::read_file;
-
-#[cfg(test)]
-mod tests;

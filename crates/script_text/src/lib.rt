@@ -16,6 +16,3 @@ pub use command::{Act, Command, When};
 pub use fault::{ScriptFault, ScriptKind};
 pub use laws::{one_answer, script_rows};
 pub use reading::{parse, read};
-
-#[cfg(test)]
-mod tests;

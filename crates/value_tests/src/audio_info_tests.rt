@@ -1,10 +1,12 @@
 ghost use Rattle.std.specs.Prelude.{◌≤◌, ◌≤ℤ◌, negsuc, pos};
 ghost use Rattle.audio_info.specs.Packing.{FitsBytes, IsRaw, sample_width};
 
+use crate::rows::holds;
 use audio_info::{
     Info, NotAudio, Sample, alaw_dec, alaw_enc, get, mulaw_dec, mulaw_enc, mulaw_enc_sixteen, put,
 };
 use gst_value::{Fixed, One, Text};
+use std::alloc::Global;
 use std::process::Abort;
 use std::test::Fail;
 
@@ -90,11 +92,11 @@ fn worked_codes(rt: HostRuntime) {
         (1, 0xFF, 0xD5),
     ];
     for (v, mulaw, alaw) in rows {
-        assert_eq!(rt; mulaw_enc(v), mulaw, "{v}");
-        assert_eq!(rt; alaw_enc(v), alaw, "{v}");
+        holds(&rt, "a mu-law code", mulaw_enc(v) == mulaw);
+        holds(&rt, "an A-law code", alaw_enc(v) == alaw);
     }
-    assert_eq!(rt; mulaw_dec(0x00), -32_124);
-    assert_eq!(rt; alaw_dec(0xD5), 8);
+    holds(&rt, "a mu-law sample", mulaw_dec(0x00) == -32_124);
+    holds(&rt, "an A-law sample", alaw_dec(0xD5) == 8);
 }
 
 /// Puts a value in front of other bytes, and gets it back.
@@ -104,13 +106,9 @@ fn packs<R: Abort>(rt: &R, format: Sample, value: i32, wanted: &[u8])
 {
     let mut bytes = [0x5A; 5];
     put(format, value, &mut bytes);
-    assert_eq!(rt;
-        bytes.get(..wanted.len()),
-        Some(wanted),
-        "{format:?} {value}"
-    );
-    assert_eq!(rt; bytes[4], 0x5A);
-    assert_eq!(rt; get(format, &bytes), value, "{format:?} {value}");
+    holds(rt, format.name(), bytes.get(..wanted.len()) == Some(wanted));
+    holds(rt, format.name(), bytes[4] == 0x5A);
+    holds(rt, format.name(), get(format, &bytes) == value);
 }
 
 /// The same for the least and the greatest value, -1 and 0.
@@ -183,30 +181,53 @@ fn packings(rt: HostRuntime) {
     );
 }
 
-#[test]
-fn caps_and_back(rt: HostRuntime) -> Result<(), Fail> {
-    let rows = [
-        (Sample::S16LE, 4, "audio/x-raw"),
-        (Sample::S24LE, 6, "audio/x-raw"),
-        (Sample::MuLaw, 2, "audio/x-mulaw"),
-        (Sample::ALaw, 2, "audio/x-alaw"),
-    ];
-    for (format, width, media) in rows {
-        let info = Info {
-            format,
-            rate: 768_000,
-            channels: 2,
-        };
-        let caps = info.to_fixed(rt.alloc())?;
-        assert_eq!(rt; caps.media(), media);
-        assert_eq!(rt; info.width(), width);
-        assert_eq!(rt; Info::from_fixed(&caps)?, info);
-    }
+/// What caps of a format with two channels say, and what is read from them.
+fn goes_round(
+    rt: &impl Abort,
+    alloc: Global,
+    format: Sample,
+    width: u32,
+    media: &str,
+) -> Result<(), Fail> {
+    let info = Info {
+        format,
+        rate: 768_000,
+        channels: 2,
+    };
+    holds(rt, media, info.width() == width);
+    let caps = info.to_fixed(alloc)?;
+    holds(rt, media, caps.media() == media);
+    holds(rt, media, Info::from_fixed(&caps) == Ok(info));
     Ok(())
 }
 
 #[test]
+fn caps_and_back(rt: HostRuntime) -> Result<(), Fail> {
+    let alloc = rt.alloc();
+    goes_round(&rt, alloc, Sample::S16LE, 4, "audio/x-raw")?;
+    goes_round(&rt, alloc, Sample::S24LE, 6, "audio/x-raw")?;
+    goes_round(&rt, alloc, Sample::MuLaw, 2, "audio/x-mulaw")?;
+    goes_round(&rt, alloc, Sample::ALaw, 2, "audio/x-alaw")
+}
+
+/// Caps without channels.
+fn caps_of(alloc: Global, media: &str, format: &str, rate: i32) -> Result<Fixed, Fail> {
+    let mut caps = Fixed::new(alloc, media)?;
+    caps.set(alloc, "rate", One::Int(rate))?;
+    caps.set(alloc, "format", One::Text(Text::from_str(alloc, format)?))?;
+    Ok(caps)
+}
+
+/// Whether caps with channels are of audio; those without never are.
+fn are_audio(rt: &impl Abort, alloc: Global, mut caps: Fixed, channels: i32) -> Result<bool, Fail> {
+    holds(rt, "no channels", Info::from_fixed(&caps) == Err(NotAudio));
+    caps.set(alloc, "channels", One::Int(channels))?;
+    Ok(Info::from_fixed(&caps).is_ok())
+}
+
+#[test]
 fn not_audio(rt: HostRuntime) -> Result<(), Fail> {
+    let alloc = rt.alloc();
     let rows = [
         ("audio/x-raw", "S16LE", 8_000, 64, true),
         ("audio/x-raw", "S16LE", 8_000, 65, false),
@@ -217,20 +238,8 @@ fn not_audio(rt: HostRuntime) -> Result<(), Fail> {
         ("audio/x-wav", "S16LE", 8_000, 1, false),
     ];
     for (media, format, rate, channels, wanted) in rows {
-        let mut caps = Fixed::new(rt.alloc(), media)?;
-        caps.set(rt.alloc(), "rate", One::Int(rate))?;
-        caps.set(
-            rt.alloc(),
-            "format",
-            One::Text(Text::from_str(rt.alloc(), format)?),
-        )?;
-        assert_eq!(rt; Info::from_fixed(&caps), Err(NotAudio), "no channels");
-        caps.set(rt.alloc(), "channels", One::Int(channels))?;
-        assert_eq!(rt;
-            Info::from_fixed(&caps).is_ok(),
-            wanted,
-            "{media} {format} {rate} {channels}"
-        );
+        let caps = caps_of(alloc, media, format, rate)?;
+        holds(&rt, media, are_audio(&rt, alloc, caps, channels)? == wanted);
     }
     Ok(())
 }

@@ -1,306 +1,259 @@
 //! A table of intersections, and the edges of the limit.
-ghost use Rattle.std.specs.Prelude.{◌≡◌, IfOk, IsTrue};
-ghost use Rattle.gst_value.specs.Values.{IsOne, kind_of};
-ghost use Rattle.gst_caps.specs.Values.{IsValue};
+ghost use Rattle.gst_value.specs.Values.{IsOne};
 
+use crate::rows::{check_rows, number_of, parts_of, same_text};
+use caps_text::{parse, print, print_fixed};
 use gst_caps::{Caps, Structure, Value, choose};
-use gst_value::{CapsFault, Fixed, List, One, Text, fraction};
+use gst_value::{CapsFault, Fixed, List, One, Text};
 use std::alloc::Global;
 use std::fmt::Write;
-use std::process::Abort;
 use std::test::Fail;
 
-/// A member: `a..b`, `a/b`, a boolean, a number or a word.
-fn one_of(alloc: Global, text: &str) -> Result<One, CapsFault>
-    ensures { IfOk result IsOne }
-{
-    if let Some((low, high)) = text.split_once("..") {
-        return Ok(range_of(number_of(low), number_of(high)));
-    }
-    if let Some((num, den)) = text.split_once('/') {
-        return Ok(ratio_of(number_of(num), number_of(den)));
-    }
-    match text {
-        "true" => Ok(One::Bool(true)),
-        "false" => Ok(One::Bool(false)),
-        _ => match text.parse() {
-            Ok(number) => Ok(One::Int(number)),
-            Err(_) => Ok(One::Text(Text::from_str(alloc, text)?)),
-        },
-    }
-}
-
-fn number_of(text: &str) -> i32 {
-    text.parse().unwrap_or(0)
-}
-
-fn range_of(low: i32, high: i32) -> One
-    ensures { IsOne result }
-{
-    if low <= high {
-        One::IntRange(low, high)
-    } else {
-        One::Int(low)
-    }
-}
-
-fn ratio_of(num: i32, den: i32) -> One
-    ensures { IsOne result }
-{
-    match fraction(num, den) {
-        Some(ratio) => ratio,
-        None => One::Int(0),
-    }
-}
-
-fn are_alike(one: &One, other: &One) -> bool
-    ensures { IsTrue result → kind_of other.now ≡ kind_of one.now }
-{
-    match (one, other) {
-        (One::Int(_) | One::IntRange(_, _), One::Int(_) | One::IntRange(_, _)) => true,
-        (One::Bool(_), One::Bool(_)) => true,
-        (One::Text(_), One::Text(_)) => true,
-        (One::Fraction(_, _), One::Fraction(_, _)) => true,
-        _ => false,
-    }
-}
-
-/// The members of the type of the first, at most 64.
-fn value_of(alloc: Global, text: &str) -> Result<Value, CapsFault>
-    ensures { IfOk result IsValue }
-{
-    let Some((first, rest)) = text.split_once('|') else {
-        return Ok(Value::One(one_of(alloc, text)?));
-    };
-    let kind = one_of(alloc, first)?;
-    let mut members = Vec::new(alloc);
-    members.push(kind.copy(alloc)?)?;
-    for sample in rest.split('|') {
-        let one = one_of(alloc, sample)?;
-        if members.len() < 64 && are_alike(&kind, &one) {
-            members.push(one)?;
-        }
-    }
-    Ok(Value::Many(List::from_vec(members)))
-}
-
-fn structure_of(alloc: Global, text: &str) -> Result<Structure, CapsFault> {
-    let (media, fields) = text.split_once(", ").unwrap_or((text, ""));
-    let mut made = Structure::new(alloc, media)?;
-    for field in fields.split(", ") {
-        if let Some((name, value)) = field.split_once('=') {
-            made.set(alloc, name, value_of(alloc, value)?)?;
-        }
-    }
-    Ok(made)
-}
-
-fn caps_of(alloc: Global, text: &str) -> Result<Caps, CapsFault> {
-    if text == "ANY" {
-        return Ok(Caps::Any);
-    }
-    let mut made = List::new(alloc);
-    if text != "EMPTY" {
-        for structure in text.split("; ") {
-            made.push(alloc, structure_of(alloc, structure)?)?;
-        }
-    }
-    Ok(Caps::Of(made))
-}
-
-fn describe_one(text: &mut String, one: &One) -> Result<(), Fail> {
-    match one {
-        One::Int(number) => write!(text, "{number}")?,
-        One::Bool(truth) => write!(text, "{truth}")?,
-        One::Text(word) => text.push_str(word.as_str())?,
-        One::Fraction(num, den) => write!(text, "{num}/{den}")?,
-        One::IntRange(low, high) => write!(text, "[{low},{high}]")?,
-    }
-    Ok(())
-}
-
-fn describe_value(text: &mut String, value: &Value) -> Result<(), Fail> {
-    let members = match value {
-        Value::One(one) => return describe_one(text, one),
-        Value::Many(members) => members,
-    };
-    text.push_str("{")?;
-    for (place, one) in members.as_slice().iter().enumerate() {
-        if place > 0 {
-            text.push_str(",")?;
-        }
-        describe_one(text, one)?;
-    }
-    text.push_str("}")?;
-    Ok(())
-}
-
-fn describe_structure(text: &mut String, structure: &Structure) -> Result<(), Fail> {
-    text.push_str(structure.media())?;
-    for place in 0..structure.fields() {
-        if let Some((name, value)) = structure.field(place) {
-            write!(text, ", {name}=")?;
-            describe_value(text, value)?;
-        }
-    }
-    Ok(())
-}
-
-fn describe(alloc: Global, caps: &Caps) -> Result<String, Fail> {
-    let mut text = String::new(alloc);
-    let Caps::Of(listed) = caps else {
-        text.push_str("ANY")?;
-        return Ok(text);
-    };
-    if caps.is_empty() {
-        text.push_str("EMPTY")?;
-    }
-    for (place, structure) in listed.as_slice().iter().enumerate() {
-        if place > 0 {
-            text.push_str("; ")?;
-        }
-        describe_structure(&mut text, structure)?;
-    }
-    Ok(text)
-}
-
-fn describe_fixed(alloc: Global, fixed: &Option<Fixed>) -> Result<String, Fail> {
-    let mut text = String::new(alloc);
-    let Some(fixed) = fixed else {
-        text.push_str("none")?;
-        return Ok(text);
-    };
-    text.push_str(fixed.media())?;
-    for place in 0..fixed.fields() {
-        if let Some((name, one)) = fixed.field(place) {
-            write!(text, ", {name}=")?;
-            describe_one(&mut text, one)?;
-        }
-    }
-    Ok(text)
-}
-
-/// Two caps, their intersection, and the fixation of its first structure.
-const TABLE: &str = "\
-a/r, rate=8000..48000, format=S16LE|U8 & a/r, rate=44100|96000 -> a/r, format={S16LE,U8}, rate=44100 -> a/r, format=S16LE, rate=44100
-a/r, rate=8000..48000, format=S16LE|U8 & a/m, rate=8000..48000 -> EMPTY -> none
+/// Two caps, their intersection, and its fixation.
+const TABLE: &str =
+    r#"audio/x-raw, rate=[ 8000, 48000 ], format={ S16LE, U8 } & audio/x-raw, rate={ 44100, 96000 } -> audio/x-raw, format=(string){ S16LE, U8 }, rate=(int)44100 -> audio/x-raw, format=(string)S16LE, rate=(int)44100
+audio/x-raw, rate=[ 8000, 48000 ], format={ S16LE, U8 } & audio/x-mulaw -> EMPTY -> none
 ANY & ANY -> ANY -> none
-ANY & a/r, n=1; a/r, n=2 -> a/r, n=1; a/r, n=2 -> a/r, n=1
-a/r, n=8..9, w=a|b & ANY -> a/r, n=[8,9], w={a,b} -> a/r, n=8, w=a
+ANY & EMPTY -> EMPTY -> none
+EMPTY & ANY -> EMPTY -> none
+EMPTY & EMPTY -> EMPTY -> none
+EMPTY & a/b -> EMPTY -> none
+a/b & EMPTY -> EMPTY -> none
+ANY & a/b, x=1; c/d -> a/b, x=(int)1; c/d -> a/b, x=(int)1
+a/b, x={ 2, 1 }; c/d & ANY -> a/b, x=(int){ 2, 1 }; c/d -> a/b, x=(int)2
+a/b & a/b -> a/b -> a/b
+a/b & a/c -> EMPTY -> none
+a/b & A/b -> EMPTY -> none
+a/b, x=1 & a/b -> a/b, x=(int)1 -> a/b, x=(int)1
+a/b & a/b, x=1 -> a/b, x=(int)1 -> a/b, x=(int)1
+a/b, x=1 & a/b, y=2 -> a/b, x=(int)1, y=(int)2 -> a/b, x=(int)1, y=(int)2
+a/b, y=1 & a/b, z=3, x=2 -> a/b, x=(int)2, y=(int)1, z=(int)3 -> a/b, x=(int)2, y=(int)1, z=(int)3
+a/b, x=1 & a/b, x=2 -> EMPTY -> none
+a/b, x=1, y=1 & a/b, x=1, y=2 -> EMPTY -> none
+a/b, x=1 & a/b, x=1 -> a/b, x=(int)1 -> a/b, x=(int)1
+a/b, x=1 & a/b, x=(string)1 -> EMPTY -> none
+a/b, x=1 & a/b, x=1/1 -> EMPTY -> none
+a/b, x=true & a/b, x=(string)true -> EMPTY -> none
+a/b, x=[ 1, 10 ] & a/b, x=[ 5, 20 ] -> a/b, x=(int)[ 5, 10 ] -> a/b, x=(int)5
+a/b, x=[ 1, 5 ] & a/b, x=[ 5, 9 ] -> a/b, x=(int)5 -> a/b, x=(int)5
+a/b, x=[ 1, 4 ] & a/b, x=[ 5, 9 ] -> EMPTY -> none
+a/b, x=[ -5, -1 ] & a/b, x=[ -3, 7 ] -> a/b, x=(int)[ -3, -1 ] -> a/b, x=(int)-3
+a/b, x=5 & a/b, x=[ 1, 9 ] -> a/b, x=(int)5 -> a/b, x=(int)5
+a/b, x=[ 1, 9 ] & a/b, x=5 -> a/b, x=(int)5 -> a/b, x=(int)5
+a/b, x=0 & a/b, x=[ 1, 9 ] -> EMPTY -> none
+a/b, x={ 3, 1, 2 } & a/b, x={ 1, 2, 3 } -> a/b, x=(int){ 3, 1, 2 } -> a/b, x=(int)3
+a/b, x={ 1, 2, 3 } & a/b, x={ 3, 1 } -> a/b, x=(int){ 1, 3 } -> a/b, x=(int)1
+a/b, x=[ 1, 10 ] & a/b, x={ 9, 2, 5 } -> a/b, x=(int){ 9, 2, 5 } -> a/b, x=(int)9
+a/b, x={ 9, 2, 50 } & a/b, x=[ 1, 10 ] -> a/b, x=(int){ 9, 2 } -> a/b, x=(int)9
+a/b, x={ [ 1, 10 ], [ 5, 20 ] } & a/b, x={ 7, 8 } -> a/b, x=(int){ 7, 8 } -> a/b, x=(int)7
+a/b, x={ [ 1, 3 ], [ 7, 9 ] } & a/b, x=[ 3, 8 ] -> a/b, x=(int){ 3, [ 7, 8 ] } -> a/b, x=(int)3
+a/b, x={ [ 1, 3 ], 3 } & a/b, x=[ 3, 8 ] -> a/b, x=(int)3 -> a/b, x=(int)3
+a/b, x={ a, b, c } & a/b, x={ c, b } -> a/b, x=(string){ b, c } -> a/b, x=(string)b
+a/b, x={ a, b } & a/b, x={ c, d } -> EMPTY -> none
+a/b, x={ 1/2, 30/1 } & a/b, x=60/2 -> a/b, x=(fraction)30/1 -> a/b, x=(fraction)30/1
+a/b, x=true & a/b, x={ false, true } -> a/b, x=(boolean)true -> a/b, x=(boolean)true
+a/b, x="a b" & a/b, x={ a, "a b" } -> a/b, x=(string)"a b" -> a/b, x=(string)"a b"
+a/b, x=1; a/b, x=2 & a/b, y=1; a/b, y=2 -> a/b, x=(int)1, y=(int)1; a/b, x=(int)1, y=(int)2; a/b, x=(int)2, y=(int)1; a/b, x=(int)2, y=(int)2 -> a/b, x=(int)1, y=(int)1
+a/b, x=1; c/d & c/d, y=1; a/b, x=[ 0, 9 ] -> a/b, x=(int)1; c/d, y=(int)1 -> a/b, x=(int)1
+a/b, x=1 & c/d; a/b, x=2; a/b, x=1 -> a/b, x=(int)1 -> a/b, x=(int)1
+a/r, rate=[ 8000, 48000 ], format={ S16LE, U8 } & a/r, rate={ 44100, 96000 } -> a/r, format=(string){ S16LE, U8 }, rate=(int)44100 -> a/r, format=(string)S16LE, rate=(int)44100
+a/r, rate=[ 8000, 48000 ], format={ S16LE, U8 } & a/m, rate=[ 8000, 48000 ] -> EMPTY -> none
+ANY & ANY -> ANY -> none
+ANY & a/r, n=1; a/r, n=2 -> a/r, n=(int)1; a/r, n=(int)2 -> a/r, n=(int)1
+a/r, n=[ 8, 9 ], w={ a, b } & ANY -> a/r, n=(int)[ 8, 9 ], w=(string){ a, b } -> a/r, n=(int)8, w=(string)a
 EMPTY & ANY -> EMPTY -> none
 EMPTY & a/r -> EMPTY -> none
-a/r, n=1..10 & a/r, n=5..20 -> a/r, n=[5,10] -> a/r, n=5
-a/r, n=1..5 & a/r, n=5..9 -> a/r, n=5 -> a/r, n=5
-a/r, n=1..4 & a/r, n=5..9 -> EMPTY -> none
-a/r, n=-5..-1 & a/r, n=-3..7 -> a/r, n=[-3,-1] -> a/r, n=-3
-a/r, n=-2147483648..2147483647 & a/r, n=-2147483648..0 -> a/r, n=[-2147483648,0] -> a/r, n=-2147483648
-a/r, n=5 & a/r, n=1..9 -> a/r, n=5 -> a/r, n=5
-a/r, n=3|1|2 & a/r, n=1|2|3 -> a/r, n={3,1,2} -> a/r, n=3
-a/r, n=1..10 & a/r, n=9|2|5 -> a/r, n={9,2,5} -> a/r, n=9
-a/r, n=1..10|5..20 & a/r, n=7|8 -> a/r, n={7,8} -> a/r, n=7
-a/r, w=a|b|c & a/r, w=c|b -> a/r, w={b,c} -> a/r, w=b
-a/r, f=1/2|30/1 & a/r, f=60/2 -> a/r, f=30/1 -> a/r, f=30/1
-a/r, b=true & a/r, b=false|true -> a/r, b=true -> a/r, b=true
+a/r, n=[ 1, 10 ] & a/r, n=[ 5, 20 ] -> a/r, n=(int)[ 5, 10 ] -> a/r, n=(int)5
+a/r, n=[ 1, 5 ] & a/r, n=[ 5, 9 ] -> a/r, n=(int)5 -> a/r, n=(int)5
+a/r, n=[ 1, 4 ] & a/r, n=[ 5, 9 ] -> EMPTY -> none
+a/r, n=[ -5, -1 ] & a/r, n=[ -3, 7 ] -> a/r, n=(int)[ -3, -1 ] -> a/r, n=(int)-3
+a/r, n=[ -2147483648, 2147483647 ] & a/r, n=[ -2147483648, 0 ] -> a/r, n=(int)[ -2147483648, 0 ] -> a/r, n=(int)-2147483648
+a/r, n=5 & a/r, n=[ 1, 9 ] -> a/r, n=(int)5 -> a/r, n=(int)5
+a/r, n={ 3, 1, 2 } & a/r, n={ 1, 2, 3 } -> a/r, n=(int){ 3, 1, 2 } -> a/r, n=(int)3
+a/r, n=[ 1, 10 ] & a/r, n={ 9, 2, 5 } -> a/r, n=(int){ 9, 2, 5 } -> a/r, n=(int)9
+a/r, n={ [ 1, 10 ], [ 5, 20 ] } & a/r, n={ 7, 8 } -> a/r, n=(int){ 7, 8 } -> a/r, n=(int)7
+a/r, w={ a, b, c } & a/r, w={ c, b } -> a/r, w=(string){ b, c } -> a/r, w=(string)b
+a/r, f={ 1/2, 30/1 } & a/r, f=60/2 -> a/r, f=(fraction)30/1 -> a/r, f=(fraction)30/1
+a/r, b=true & a/r, b={ false, true } -> a/r, b=(boolean)true -> a/r, b=(boolean)true
 a/r, n=1 & a/r, n=one -> EMPTY -> none
-a/r, b=1 & a/r, c=3, a=2 -> a/r, a=2, b=1, c=3 -> a/r, a=2, b=1, c=3
-a/r, n=1; a/r, n=2 & a/r, c=1; a/r, c=2 -> a/r, c=1, n=1; a/r, c=2, n=1; a/r, c=1, n=2; a/r, c=2, n=2 -> a/r, c=1, n=1
-a/r, n=1 & a/m; a/r, n=2; a/r, n=1 -> a/r, n=1 -> a/r, n=1
-a/r, n=5..5 & a/r, m=1 -> a/r, m=1, n=[5,5] -> a/r, m=1, n=5
-";
+a/r, b=1 & a/r, c=3, a=2 -> a/r, a=(int)2, b=(int)1, c=(int)3 -> a/r, a=(int)2, b=(int)1, c=(int)3
+a/r, n=1; a/r, n=2 & a/r, c=1; a/r, c=2 -> a/r, c=(int)1, n=(int)1; a/r, c=(int)2, n=(int)1; a/r, c=(int)1, n=(int)2; a/r, c=(int)2, n=(int)2 -> a/r, c=(int)1, n=(int)1
+a/r, n=1 & a/m; a/r, n=2; a/r, n=1 -> a/r, n=(int)1 -> a/r, n=(int)1"#;
 
-fn intersects(
-    rt: &impl Abort,
-    alloc: Global,
-    left: &Caps,
-    right: &Caps,
-    wanted: &str,
-) -> Result<Caps, Fail> {
-    let both = left.intersect(alloc, right)?;
-    assert_eq!(rt; describe(alloc, &both)?.as_str(), wanted);
-    assert_eq!(rt; left.meets(right), !both.is_empty());
-    assert_eq!(rt; right.meets(left), !both.is_empty());
-    Ok(both)
+/// The caps of a text of the table.
+fn caps_of(alloc: Global, text: &str) -> Result<Caps, Fail> {
+    match parse(alloc, text) {
+        Ok(caps) => Ok(caps),
+        Err(_) => Err("a caps text")?,
+    }
 }
 
-fn chooses(
-    rt: &impl Abort,
+/// What was chosen of two caps, with a `!` where one of them does not accept it.
+fn text_of(alloc: Global, sides: (&Caps, &Caps), fixed: &Fixed) -> Result<Text, Fail> {
+    let mut text = print_fixed(alloc, fixed)?;
+    if !sides.0.accepts(fixed) || !sides.1.accepts(fixed) {
+        text = Text::from_str(alloc, "!")?;
+    }
+    Ok(text)
+}
+
+/// Puts what is chosen of two caps, with a `!` where it is not the fixation of their intersection.
+fn put_choice(
     alloc: Global,
-    left: &Caps,
-    right: &Caps,
-    wanted: &str,
+    into: &mut String,
+    sides: (&Caps, &Caps),
+    first: Option<Fixed>,
 ) -> Result<(), Fail> {
-    let chosen = choose(alloc, left, right)?;
-    assert_eq!(rt; describe_fixed(alloc, &chosen)?.as_str(), wanted);
-    if let Some(fixed) = &chosen {
-        assert!(rt; left.accepts(fixed));
-        assert!(rt; right.accepts(fixed));
+    match (&first, &choose(alloc, sides.0, sides.1)?) {
+        (None, None) => into.push_str("none")?,
+        (Some(first), Some(chosen)) => put_same(alloc, into, sides, (first, chosen))?,
+        _ => into.push('!')?,
     }
     Ok(())
 }
 
-fn fixates(rt: &impl Abort, alloc: Global, caps: &Caps, wanted: &str) -> Result<(), Fail> {
-    let fixed = caps.copy(alloc)?.fixate(alloc)?;
-    assert_eq!(rt; describe_fixed(alloc, &fixed)?.as_str(), wanted);
+fn put_same(
+    alloc: Global,
+    into: &mut String,
+    sides: (&Caps, &Caps),
+    (first, chosen): (&Fixed, &Fixed),
+) -> Result<(), Fail> {
+    let text = text_of(alloc, sides, first)?;
+    let other = text_of(alloc, sides, chosen)?;
+    into.push_str(text.as_str())?;
+    if text.as_str() != other.as_str() {
+        into.push('!')?;
+    }
     Ok(())
 }
 
-fn check_row(rt: &impl Abort, alloc: Global, line: &str) -> Result<(), Fail> {
-    let (sides, answers) = line.split_once(" -> ").ok_or("two sides")?;
-    let (left, right) = sides.split_once(" & ").ok_or("a left side")?;
-    let (wanted, first) = answers.split_once(" -> ").ok_or("two answers")?;
+/// Puts an intersection, with a `!` where the two do not say right whether they meet.
+fn put_both(
+    alloc: Global,
+    into: &mut String,
+    sides: (&Caps, &Caps),
+    both: &Caps,
+) -> Result<(), Fail> {
+    into.push_str(print(alloc, both)?.as_str())?;
+    if sides.0.meets(sides.1) == both.is_empty() || sides.1.meets(sides.0) == both.is_empty() {
+        into.push('!')?;
+    }
+    into.push_str(" -> ")?;
+    put_choice(alloc, into, sides, both.copy(alloc)?.fixate(alloc)?)
+}
+
+/// The intersection of two caps, and what is chosen of them.
+fn both_of(alloc: Global, left: &Caps, right: &Caps) -> Result<String, Fail> {
+    let both = left.intersect(alloc, right)?;
+    let mut text = String::new(alloc);
+    put_both(alloc, &mut text, (left, right), &both)?;
+    Ok(text)
+}
+
+/// That for two texts of caps.
+fn told(alloc: Global, sides: &str) -> Result<String, Fail> {
+    let (left, right) = parts_of(sides, " & ");
     let left = caps_of(alloc, left)?;
-    let right = caps_of(alloc, right)?;
-    let both = intersects(rt, alloc, &left, &right, wanted)?;
-    chooses(rt, alloc, &left, &right, first)?;
-    fixates(rt, alloc, &both, first)
+    both_of(alloc, &left, &caps_of(alloc, right)?)
 }
 
 #[test]
 fn intersections(rt: HostRuntime) -> Result<(), Fail> {
+    check_rows(&rt, rt.alloc(), TABLE, told)
+}
+
+/// A structure with one field.
+fn structure_of(alloc: Global, name: &str, one: One) -> Result<Structure, CapsFault>
+    requires { IsOne one }
+{
+    let mut made = Structure::new(alloc, "a/r")?;
+    made.set(alloc, name, Value::One(one))?;
+    Ok(made)
+}
+
+/// Structures with the numbers from 0 on in a field.
+fn numbered(alloc: Global, name: &str, count: i32) -> Result<List<Structure>, CapsFault> {
+    let mut made = List::new(alloc);
+    for number in 0..count {
+        made.push(alloc, structure_of(alloc, name, One::Int(number))?)?;
+    }
+    Ok(made)
+}
+
+/// Caps of a range of one number, which no text gives.
+#[test]
+fn a_range_of_one(rt: HostRuntime) -> Result<(), Fail> {
     let alloc = rt.alloc();
-    for line in TABLE.lines() {
-        check_row(&rt, alloc, line)?;
+    let mut left = List::new(alloc);
+    left.push(alloc, structure_of(alloc, "n", One::IntRange(5, 5))?)?;
+    let text = both_of(alloc, &Caps::Of(left), &caps_of(alloc, "a/r, m=1")?)?;
+    same_text(
+        &rt,
+        "5..5",
+        text.as_str(),
+        "a/r, m=(int)1, n=(int)[ 5, 5 ] -> a/r, m=(int)1, n=(int)5",
+    );
+    Ok(())
+}
+
+fn put_count(into: &mut String, made: &Result<Caps, CapsFault>) -> Result<(), Fail> {
+    match made {
+        Ok(Caps::Of(listed)) => write!(into, "{}", listed.as_slice().len())?,
+        Ok(Caps::Any) => into.push_str("any")?,
+        Err(CapsFault::TooMany { count }) => write!(into, "more {count}")?,
+        Err(_) => into.push_str("memory")?,
     }
     Ok(())
 }
 
-fn numbered(alloc: Global, name: &str, count: i32) -> Result<Caps, CapsFault> {
-    let mut made = List::new(alloc);
-    for number in 0..count {
-        let mut one = Structure::new(alloc, "a/r")?;
-        one.set(alloc, name, Value::One(One::Int(number)))?;
-        made.push(alloc, one)?;
-    }
-    Ok(Caps::Of(made))
+/// How many structures the intersection of so many has with others, whose field has a name.
+fn count_of(alloc: Global, row: &str) -> Result<String, Fail> {
+    let (left, rest) = parts_of(row, " ");
+    let (name, right) = parts_of(rest, " ");
+    let left = Caps::Of(numbered(alloc, "a", number_of(left))?);
+    let right = Caps::Of(numbered(alloc, name, number_of(right))?);
+    let mut text = String::new(alloc);
+    put_count(&mut text, &left.intersect(alloc, &right))?;
+    Ok(text)
+}
+
+/// Caps behind a push.
+fn pushed(alloc: Global, structures: List<Structure>, one: Structure) -> Result<Caps, CapsFault> {
+    let mut caps = Caps::Of(structures);
+    caps.push(alloc, one)?;
+    Ok(caps)
 }
 
 #[test]
 fn limits(rt: HostRuntime) -> Result<(), Fail> {
-    let alloc = rt.alloc();
-    let eight = numbered(alloc, "a", 8)?;
-    let most = eight.intersect(alloc, &numbered(alloc, "b", 8)?)?;
-    if let Caps::Of(listed) = &most {
-        assert_eq!(rt; listed.as_slice().len(), 64);
-    }
-    let more = numbered(alloc, "a", 9)?.intersect(alloc, &numbered(alloc, "b", 8)?);
-    assert!(rt; matches!(&more, Err(CapsFault::TooMany { count: 65 })));
-    let apart = numbered(alloc, "a", 70)?.intersect(alloc, &eight)?;
-    if let Caps::Of(listed) = &apart {
-        assert_eq!(rt; listed.as_slice().len(), 8);
-    }
-    Ok(())
+    check_rows(
+        &rt,
+        rt.alloc(),
+        "8 b 8 -> 64\n9 b 8 -> more 65\n70 a 8 -> 8",
+        count_of,
+    )
 }
 
 #[test]
 fn pushes(rt: HostRuntime) -> Result<(), Fail> {
     let alloc = rt.alloc();
-    let mut caps = Caps::Of(List::new(alloc));
-    caps.push(alloc, structure_of(alloc, "a/r, n=1")?)?;
-    assert_eq!(rt; describe(alloc, &caps)?.as_str(), "a/r, n=1");
-    if let Caps::Of(listed) = numbered(alloc, "n", 64)? {
-        let mut full = Caps::Of(listed);
-        let more = full.push(alloc, structure_of(alloc, "a/r")?);
-        assert!(rt; matches!(&more, Err(CapsFault::TooMany { count: 65 })));
-    }
+    let caps = pushed(
+        alloc,
+        List::new(alloc),
+        structure_of(alloc, "n", One::Int(1))?,
+    )?;
+    same_text(
+        &rt,
+        "pushed",
+        print(alloc, &caps)?.as_str(),
+        "a/r, n=(int)1",
+    );
+    let mut text = String::new(alloc);
+    let full = numbered(alloc, "n", 64)?;
+    put_count(
+        &mut text,
+        &pushed(alloc, full, Structure::new(alloc, "a/r")?),
+    )?;
+    same_text(&rt, "pushed to 64", text.as_str(), "more 65");
     Ok(())
 }

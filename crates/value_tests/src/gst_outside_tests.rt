@@ -1,26 +1,28 @@
 //! Tests over files in memory, and one of the host's files, output and clock.
 ghost use Rattle.std.specs.Prelude.{◌≡◌};
 
+use crate::rows::{check_rows, digit_at, holds, number_of, parts_of, put_bytes, same_text};
 use gst_outside::{
     Clock, Failed, Files, HostClock, HostFiles, MemFiles, OpenEnd, OpenGate, OutSink, Sink, Source,
     StepClock, TaskGate,
 };
 use std::alloc::Global;
+use std::fmt::Write;
 use std::fs;
 use std::process::Abort;
 use std::test::Fail;
 
-/// What is said of the location that is read and of the one that is written, and what is to be left.
-#[derive(Clone, Copy)]
-struct Row {
-    input: &'static [u8],
-    reads: &'static [u64],
-    room: usize,
-    writes: &'static [u64],
-    cuts: &'static [u64],
-    output: &'static [u8],
-    faults: u64,
-}
+/// Each row: what is read; the numbers of the read, the write and the cut that fail, and 0 for none; the room of what is written; then its
+/// bytes, the failures, and the ends that were not given back.
+const MOVED: &str = "\
+abcdef 000 16 -> 0000626364. 0 0
+ab 000 16 -> 000062. 0 0
+a 000 16 -> . 0 0
+abcdef 100 16 -> . 1 0
+abcdef 010 16 -> . 1 0
+abcdef 000 5 -> . 1 0
+abcdef 001 16 -> 000062636465. 1 0
+abcdef 002 16 -> 0000626364. 0 0";
 
 /// Reads up to four bytes from place 1 on, writes them at place 2, and cuts at 5.
 fn move_bytes<S: Source, K: Sink>(source: &mut S, sink: &mut K) -> Result<(), Failed>
@@ -50,102 +52,104 @@ fn copy_some<F: Files>(files: &mut F, alloc: Global, from: &str, to: &str) -> Re
     }
 }
 
-fn check_row(rt: &impl Abort, alloc: Global, row: &Row) -> Result<(), Fail> {
+/// The number at a place of a call that fails.
+fn fault_at(fails: &str, place: usize) -> u64 {
+    u64::from(digit_at(fails, place))
+}
+
+/// Files in memory for a row.
+fn files_of(alloc: Global, given: &str) -> Result<MemFiles, Fail> {
+    let (input, rest) = parts_of(given, " ");
+    let (fails, room) = parts_of(rest, " ");
+    let room = number_of(room).unsigned_abs() as usize;
     let mut files = MemFiles::new(alloc);
-    files.add_input(alloc, "a", row.input, row.reads, &[])?;
-    files.add_output(alloc, "b", row.room, row.writes, row.cuts)?;
+    files.add_input(alloc, "a", input.as_bytes(), &[fault_at(fails, 0)], &[])?;
+    files.add_output(
+        alloc,
+        "b",
+        room,
+        &[fault_at(fails, 1)],
+        &[fault_at(fails, 2)],
+    )?;
+    Ok(files)
+}
+
+fn moved(alloc: Global, given: &str) -> Result<String, Fail> {
+    let mut files = files_of(alloc, given)?;
     copy_some(&mut files, alloc, "a", "b")?;
-    assert_eq!(rt; files.output_bytes("b"), row.output);
-    assert_eq!(rt; files.faults(), row.faults);
-    assert_eq!(rt; files.ends(), 0);
-    Ok(())
+    let mut text = String::new(alloc);
+    put_bytes(&mut text, files.output_bytes("b"))?;
+    write!(text, " {} {}", files.faults(), files.ends())?;
+    Ok(text)
 }
 
 #[test]
 fn bytes_and_failures_in_memory(rt: HostRuntime) -> Result<(), Fail> {
-    let whole = Row {
-        input: b"abcdef",
-        reads: &[],
-        room: 16,
-        writes: &[],
-        cuts: &[],
-        output: b"\0\0bcd",
-        faults: 0,
-    };
-    let rows = [
-        whole,
-        Row {
-            input: b"ab",
-            output: b"\0\0b",
-            ..whole
-        },
-        Row {
-            input: b"a",
-            output: b"",
-            ..whole
-        },
-        Row {
-            reads: &[1],
-            output: b"",
-            faults: 1,
-            ..whole
-        },
-        Row {
-            writes: &[1],
-            output: b"",
-            faults: 1,
-            ..whole
-        },
-        Row {
-            room: 5,
-            output: b"",
-            faults: 1,
-            ..whole
-        },
-        Row {
-            cuts: &[1],
-            output: b"\0\0bcde",
-            faults: 1,
-            ..whole
-        },
-        Row {
-            cuts: &[2],
-            ..whole
-        },
-    ];
-    for row in &rows {
-        check_row(&rt, rt.alloc(), row)?;
+    check_rows(&rt, rt.alloc(), MOVED, moved)
+}
+
+/// Each row: the numbers of looks at a size that fail; then three looks, and the failures of the location.
+const SIZES: &str = "0 -> 666 0\n1 -> !66 1\n32 -> 6!! 2\n4 -> 666 0";
+
+fn put_size<S: Source>(into: &mut String, source: &mut S) -> Result<(), Fail>
+    ensures location_stays { S.location source.new ≡ S.location source.old }
+{
+    match source.size() {
+        Ok(size) => write!(into, "{size}")?,
+        Err(Failed) => into.push('!')?,
     }
     Ok(())
 }
 
+fn put_three<S: Source>(into: &mut String, source: &mut S) -> Result<(), Fail>
+    ensures location_stays { S.location source.new ≡ S.location source.old }
+{
+    put_size(into, source)?;
+    put_size(into, source)?;
+    put_size(into, source)
+}
+
 /// What three looks at the size of a location give.
-fn three_sizes<F: Files>(
-    files: &mut F,
-    alloc: Global,
-    location: &str,
-) -> Result<[Result<u64, Failed>; 3], OpenEnd> {
-    let mut source = files.open_read(alloc, location)?;
-    let sizes = [source.size(), source.size(), source.size()];
+fn three_sizes<F: Files>(files: &mut F, alloc: Global, into: &mut String) -> Result<(), Fail> {
+    let mut source = files.open_read(alloc, "a")?;
+    let told = put_three(into, &mut source);
     files.close_read(source);
-    Ok(sizes)
+    told
+}
+
+fn sizes(alloc: Global, fails: &str) -> Result<String, Fail> {
+    let mut files = MemFiles::new(alloc);
+    files.add_input(
+        alloc,
+        "a",
+        b"abcdef",
+        &[],
+        &[fault_at(fails, 0), fault_at(fails, 1)],
+    )?;
+    let mut text = String::new(alloc);
+    three_sizes(&mut files, alloc, &mut text)?;
+    write!(text, " {}", files.faults_of("a"))?;
+    Ok(text)
 }
 
 #[test]
 fn sizes_in_memory(rt: HostRuntime) -> Result<(), Fail> {
-    let alloc = rt.alloc();
-    let rows: [(&'static [u64], [Result<u64, Failed>; 3], u64); 4] = [
-        (&[], [Ok(6), Ok(6), Ok(6)], 0),
-        (&[1], [Err(Failed), Ok(6), Ok(6)], 1),
-        (&[3, 2], [Ok(6), Err(Failed), Err(Failed)], 2),
-        (&[4], [Ok(6), Ok(6), Ok(6)], 0),
-    ];
-    for (failing, sizes, faults) in rows {
-        let mut files = MemFiles::new(alloc);
-        files.add_input(alloc, "a", b"abcdef", &[], failing)?;
-        assert_eq!(rt; three_sizes(&mut files, alloc, "a")?, sizes);
-        assert_eq!(rt; files.faults_of("a"), faults);
+    check_rows(&rt, rt.alloc(), SIZES, sizes)
+}
+
+/// `.` where a copy begins, and `!` where an opening fails.
+fn put_copy<F: Files>(into: &mut String, files: &mut F, alloc: Global) -> Result<(), Fail> {
+    match copy_some(files, alloc, "a", "b") {
+        Ok(()) => into.push('.')?,
+        Err(OpenEnd::Failed) => into.push('!')?,
+        Err(OpenEnd::OutOfMemory) => into.push('m')?,
     }
+    Ok(())
+}
+
+fn put_counts(into: &mut String, files: &MemFiles) -> Result<(), Fail> {
+    write!(into, " {} {}", files.refused_of("a"), files.refused_of("b"))?;
+    write!(into, " {} {}", files.faults_of("a"), files.faults())?;
     Ok(())
 }
 
@@ -155,19 +159,12 @@ fn refused_openings(rt: HostRuntime) -> Result<(), Fail> {
     let mut files = MemFiles::new(alloc);
     files.fail_open_read(alloc, &[1])?;
     files.fail_open_write(alloc, &[1])?;
-    assert_eq!(rt;
-        copy_some(&mut files, alloc, "a", "b"),
-        Err(OpenEnd::Failed)
-    );
-    assert_eq!(rt;
-        copy_some(&mut files, alloc, "a", "b"),
-        Err(OpenEnd::Failed)
-    );
-    assert_eq!(rt; copy_some(&mut files, alloc, "a", "b"), Ok(()));
-    assert_eq!(rt; files.refused_of("a"), 1);
-    assert_eq!(rt; files.refused_of("b"), 1);
-    assert_eq!(rt; files.faults_of("a"), 0);
-    assert_eq!(rt; files.faults(), 2);
+    let mut text = String::new(alloc);
+    for _ in 0..3 {
+        put_copy(&mut text, &mut files, alloc)?;
+    }
+    put_counts(&mut text, &files)?;
+    same_text(&rt, "openings", text.as_str(), "!!. 1 1 0 2");
     Ok(())
 }
 
@@ -189,18 +186,17 @@ fn pass<G: TaskGate>(gate: &G, alloc: Global) -> Result<(), Fail> {
 fn clocks_and_gates(rt: HostRuntime) -> Result<(), Fail> {
     let alloc = rt.alloc();
     let mut clock = StepClock::new(alloc, 5, &[7])?;
-    assert_eq!(rt; two_readings(&mut clock, alloc)?, (5, 7));
-    assert_eq!(rt; clock.now(), 7);
-    assert_eq!(rt; clock.now(), 7);
-    assert_eq!(rt; clock.reads(), 3);
+    holds(&rt, "twins", two_readings(&mut clock, alloc)? == (5, 7));
+    holds(&rt, "readings", clock.now() == 7 && clock.now() == 7);
+    holds(&rt, "reads", clock.reads() == 3);
     let mut host = HostClock::new(rt);
     let _ = two_readings(&mut host, alloc)?;
-    assert_eq!(rt; host.reads(), 1);
+    holds(&rt, "reads of the host's", host.reads() == 1);
     pass(&OpenGate, alloc)
 }
 
 /// Writes the first bytes of a location.
-fn put_bytes<F: Files>(
+fn put_file<F: Files>(
     files: &mut F,
     alloc: Global,
     location: &str,
@@ -226,36 +222,53 @@ fn first_bytes<F: Files>(
     Ok(size)
 }
 
+/// What a copy of a file leaves: its size, its first bytes, and behind them what stood in the room.
+fn copied<F: Files>(files: &mut F, alloc: Global) -> Result<String, Fail> {
+    put_file(files, alloc, "outside_in.tmp", b"abcdef")?;
+    copy_some(files, alloc, "outside_in.tmp", "outside_out.tmp")?;
+    let mut room = [9u8; 6];
+    let size = first_bytes(files, alloc, "outside_out.tmp", &mut room)?;
+    let mut text = String::new(alloc);
+    write!(text, "{size} ")?;
+    put_bytes(&mut text, &room)?;
+    Ok(text)
+}
+
+/// What is counted behind a copy of a file that is not there.
+fn missed<F: Files>(files: &mut F, alloc: Global) -> (Result<(), OpenEnd>, u64) {
+    let copied = copy_some(files, alloc, "outside_in.tmp", "b");
+    (copied, files.faults())
+}
+
 #[test]
 fn files_of_the_host(rt: HostRuntime) -> Result<(), Fail> {
     let alloc = rt.alloc();
     let mut files = HostFiles::new(rt);
-    put_bytes(&mut files, alloc, "outside_in.tmp", b"abcdef")?;
-    copy_some(&mut files, alloc, "outside_in.tmp", "outside_out.tmp")?;
-    let mut room = [9u8; 6];
-    assert_eq!(rt;
-        first_bytes(&mut files, alloc, "outside_out.tmp", &mut room)?,
-        5
-    );
-    assert_eq!(rt; room, *b"\0\0bcd\x09");
+    let text = copied(&mut files, alloc)?;
+    same_text(&rt, "a copy", text.as_str(), "5 000062636409.");
     fs::remove_file(&rt, "outside_in.tmp")?;
     fs::remove_file(&rt, "outside_out.tmp")?;
-    assert_eq!(rt;
-        copy_some(&mut files, alloc, "outside_in.tmp", "b"),
-        Err(OpenEnd::Failed)
+    holds(
+        &rt,
+        "no file",
+        missed(&mut files, alloc) == (Err(OpenEnd::Failed), 1),
     );
-    assert_eq!(rt; files.faults(), 1);
-    assert_eq!(rt; files.ends(), 0);
+    holds(&rt, "ends", files.ends() == 0);
     Ok(())
+}
+
+/// Whether a sink that writes in order takes no more than that.
+fn is_ordered<K: Sink>(out: &mut K) -> bool {
+    out.write_at(0, b"in order\n") == Ok(9)
+        && out.write_at(4, b"too early\n") == Err(Failed)
+        && out.write_at(10, b"past the end\n") == Err(Failed)
+        && out.cut(8) == Err(Failed)
+        && out.cut(9) == Ok(())
+        && out.faults() == 3
 }
 
 #[test]
 fn output_in_order(rt: HostRuntime) {
     let mut out = OutSink::new(rt.stdout());
-    assert_eq!(rt; out.write_at(0, b"in order\n"), Ok(9));
-    assert_eq!(rt; out.write_at(4, b"too early\n"), Err(Failed));
-    assert_eq!(rt; out.write_at(10, b"past the end\n"), Err(Failed));
-    assert_eq!(rt; out.cut(8), Err(Failed));
-    assert_eq!(rt; out.cut(9), Ok(()));
-    assert_eq!(rt; out.faults(), 3);
+    holds(&rt, "an output", is_ordered(&mut out));
 }

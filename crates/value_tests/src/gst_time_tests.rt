@@ -1,3 +1,4 @@
+use crate::rows::holds;
 use gst_time::{Format, LIMIT, Segment, scale};
 
 #[test]
@@ -16,7 +17,7 @@ fn scales(rt: HostRuntime) {
     ];
     for (n, num, den, wanted) in rows {
         assert!(rt; den != 0);
-        assert_eq!(rt; scale(n, num, den), wanted, "{n} * {num} / {den}");
+        holds(&rt, "a scale", scale(n, num, den) == wanted);
     }
 }
 
@@ -31,18 +32,34 @@ fn places(rt: HostRuntime) {
         base: 100,
         position: 10,
     };
-    assert_eq!(rt; segment.running(9), None);
-    assert_eq!(rt; segment.running(10), Some(100));
-    assert_eq!(rt; segment.running(20), Some(110));
-    assert_eq!(rt; segment.running(21), None);
-    assert_eq!(rt; segment.stream(20), Some(15));
-    assert_eq!(rt; segment.clip(0, 15), Some((10, 15)));
-    assert_eq!(rt; segment.clip(15, 30), Some((15, 20)));
-    assert_eq!(rt; segment.clip(20, 30), None);
-    assert_eq!(rt; whole.running(LIMIT - 1), Some(LIMIT - 1));
-    assert_eq!(rt; whole.running(LIMIT), None);
+    holds(&rt, "segment.running(9)", segment.running(9) == None);
+    holds(&rt, "segment.running(10)", segment.running(10) == Some(100));
+    holds(&rt, "segment.running(20)", segment.running(20) == Some(110));
+    holds(&rt, "segment.running(21)", segment.running(21) == None);
+    holds(&rt, "segment.stream(20)", segment.stream(20) == Some(15));
+    holds(
+        &rt,
+        "segment.clip(0, 15)",
+        segment.clip(0, 15) == Some((10, 15)),
+    );
+    holds(
+        &rt,
+        "segment.clip(15, 30)",
+        segment.clip(15, 30) == Some((15, 20)),
+    );
+    holds(&rt, "segment.clip(20, 30)", segment.clip(20, 30) == None);
+    holds(
+        &rt,
+        "whole.running(LIMIT - 1)",
+        whole.running(LIMIT - 1) == Some(LIMIT - 1),
+    );
+    holds(&rt, "whole.running(LIMIT)", whole.running(LIMIT) == None);
     let kept = whole.seek(7, None, false, LIMIT - 1);
-    assert_eq!(rt; kept.running(7), Some(LIMIT - 1));
-    assert_eq!(rt; kept.running(8), None);
-    assert_eq!(rt; whole.seek(7, Some(9), true, 40).running(9), Some(2));
+    holds(&rt, "kept.running(7)", kept.running(7) == Some(LIMIT - 1));
+    holds(&rt, "kept.running(8)", kept.running(8) == None);
+    holds(
+        &rt,
+        "whole.seek(7, Some(9), true, 40).running(9)",
+        whole.seek(7, Some(9), true, 40).running(9) == Some(2),
+    );
 }

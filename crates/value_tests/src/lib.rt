@@ -20,4 +20,6 @@ mod gst_value_tests;
 #[cfg(test)]
 mod item_letters_tests;
 #[cfg(test)]
+mod rows;
+#[cfg(test)]
 mod wav_format_tests;

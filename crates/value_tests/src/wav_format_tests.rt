@@ -1,3 +1,4 @@
+use crate::rows::holds;
 use std::alloc::Global;
 use std::test::*;
 use wav_format::*;
@@ -36,8 +37,8 @@ fn writes_a_head(rt: HostRuntime) {
     };
     let mut into = [0u8; 44];
     write_head(&head, &mut into);
-    assert_eq!(rt; into, MONO);
-    assert_eq!(rt; read_head(&into), HeadAnswer::Whole(head));
+    holds(&rt, "a head", into == MONO);
+    holds(&rt, "a head", read_head(&into) == HeadAnswer::Whole(head));
     head_stays();
 }
 
@@ -114,7 +115,7 @@ fn reads_changed_heads(rt: HostRuntime) {
         (&[(12, b'L'), (19, 1)], bad(12, WavKind::HeadTooLong)),
     ];
     for (changes, want) in rows {
-        assert_eq!(rt; read_head(&changed(changes)), want);
+        holds(&rt, "a head", read_head(&changed(changes)) == want);
     }
 }
 
@@ -126,10 +127,10 @@ fn asks_for_more(rt: HostRuntime) {
         27, 27, 28, 33, 33, 33, 33, 33, 34, 35, 36, 44, 44, 44, 44, 44, 44, 44, 44,
     ];
     for (len, want) in lengths.iter().enumerate() {
-        assert_eq!(rt;
-            read_head(&MONO[..len]),
-            HeadAnswer::NeedMore(*want),
-            "at {len}"
+        holds(
+            &rt,
+            "a head",
+            read_head(&MONO[..len]) == HeadAnswer::NeedMore(*want),
         );
     }
 }
@@ -141,14 +142,29 @@ const EXTENSIBLE: [u8; 48] = [
     0x06, 0x00, 0x00, 0x00, 0x00, 0x00, 0x10, 0x00, 0x80, 0x00, 0x00, 0xAA, 0x00, 0x38, 0x9B, 0x71,
 ];
 
-#[test]
-fn reads_past_chunks(rt: HostRuntime) -> Result<(), Fail> {
-    let mut bytes = Vec::new(rt.alloc());
+/// A file of A-law with a chunk before each of its chunks.
+fn with_chunks(alloc: Global) -> Result<Vec<u8>, Fail> {
+    let mut bytes = Vec::new(alloc);
     bytes.extend_from_slice(&MONO[..12])?;
     bytes.extend_from_slice(b"LIST\x03\0\0\0abc\0")?;
     bytes.extend_from_slice(&MONO[12..36])?;
     bytes.extend_from_slice(&EXTENSIBLE)?;
     bytes.extend_from_slice(b"data\x09\0\0\0abcdefghi")?;
+    Ok(bytes)
+}
+
+/// What a reader answers behind bytes that come one by one.
+fn read_singly(reader: &mut HeadReader, bytes: &[u8]) -> Result<HeadAnswer, Fail> {
+    let mut last = HeadAnswer::NeedMore(0);
+    for byte in bytes {
+        last = reader.read(&[*byte])?;
+    }
+    Ok(last)
+}
+
+#[test]
+fn reads_past_chunks(rt: HostRuntime) -> Result<(), Fail> {
+    let bytes = with_chunks(rt.alloc())?;
     let head = Head {
         tag: 6,
         channels: 2,
@@ -157,14 +173,26 @@ fn reads_past_chunks(rt: HostRuntime) -> Result<(), Fail> {
         start: 104,
         size: Some(9),
     };
-    assert_eq!(rt; read_head(&bytes), HeadAnswer::Whole(head));
+    holds(&rt, "a head", read_head(&bytes) == HeadAnswer::Whole(head));
     let mut reader = HeadReader::new(rt.alloc());
-    let mut last = HeadAnswer::NeedMore(0);
-    for byte in bytes.as_slice() {
-        last = reader.read(&[*byte])?;
+    let last = read_singly(&mut reader, bytes.as_slice())?;
+    holds(&rt, "a head", last == HeadAnswer::Whole(head));
+    holds(&rt, "a head", reader.count() == bytes.len() as u64);
+    Ok(())
+}
+
+/// The length that decides more behind each front of a file, and of what a reader says that is fed behind it.
+fn asks(reader: &mut HeadReader, bytes: &[u8], len: usize, want: u64) -> Result<bool, Fail> {
+    let answer = HeadAnswer::NeedMore(want);
+    if len > bytes.len() || read_head(&bytes[..len]) != answer {
+        return Ok(false);
     }
-    assert_eq!(rt; last, HeadAnswer::Whole(head));
-    assert_eq!(rt; reader.count(), bytes.len() as u64);
+    Ok(len == 0 || reader.read(&bytes[len - 1..len])? == answer)
+}
+
+#[test]
+fn asks_past_chunks(rt: HostRuntime) -> Result<(), Fail> {
+    let bytes = with_chunks(rt.alloc())?;
     let lengths: [u64; 104] = [
         1, 2, 3, 4, 9, 9, 9, 9, 9, 10, 11, 12, 16, 20, 20, 20, 20, 20, 20, 20, 28, 28, 28, 28, 28,
         32, 32, 32, 32, 32, 32, 32, 33, 34, 35, 36, 39, 39, 39, 40, 45, 45, 45, 45, 45, 46, 47, 48,
@@ -174,12 +202,11 @@ fn reads_past_chunks(rt: HostRuntime) -> Result<(), Fail> {
     ];
     let mut reader = HeadReader::new(rt.alloc());
     for (len, want) in lengths.iter().enumerate() {
-        let answer = HeadAnswer::NeedMore(*want);
-        assert!(rt; len < bytes.len());
-        assert_eq!(rt; read_head(&bytes[..len]), answer, "at {len}");
-        if len > 0 {
-            assert_eq!(rt; reader.read(&bytes[len - 1..len])?, answer, "at {len}");
-        }
+        holds(
+            &rt,
+            "a head",
+            asks(&mut reader, bytes.as_slice(), len, *want)?,
+        );
     }
     Ok(())
 }
@@ -222,9 +249,9 @@ fn reads_past_long_chunks(rt: HostRuntime) -> Result<(), Fail> {
             start,
             ..mono(Some(4))
         });
-        assert_eq!(rt; read_head(&bytes), want);
+        holds(&rt, "a head", read_head(&bytes) == want);
         for len in [1, 7, 4096] {
-            assert!(rt; reads_alike(rt.alloc(), &bytes, len)?, "pieces of {len}");
+            holds(&rt, "a head", reads_alike(rt.alloc(), &bytes, len)?);
         }
     }
     Ok(())
@@ -270,7 +297,7 @@ fn knows_sizes_of_formats(rt: HostRuntime) -> Result<(), Fail> {
             }),
         };
         let bytes = sized(rt.alloc(), tag, size)?;
-        assert_eq!(rt; read_head(&bytes), want, "tag {tag}, size {size}");
+        holds(&rt, "a head", read_head(&bytes) == want);
     }
     Ok(())
 }
@@ -301,23 +328,30 @@ fn ends_within_the_limit(rt: HostRuntime) -> Result<(), Fail> {
         (u32::MAX, bad(36, WavKind::HeadTooLong)),
     ];
     for (size, want) in rows {
-        assert_eq!(rt; read_head(&followed(rt.alloc(), size)?), want, "{size}");
+        holds(
+            &rt,
+            "a head",
+            read_head(&followed(rt.alloc(), size)?) == want,
+        );
     }
     let mut bytes = followed(rt.alloc(), 16_777_164)?;
     let body = vec![in rt.alloc(); 0u8; 16_777_164]?;
     bytes.extend_from_slice(&body)?;
     bytes.extend_from_slice(&MONO[36..])?;
-    assert_eq!(rt;
-        read_head(&bytes),
-        HeadAnswer::Whole(Head {
-            start: 16_777_216,
-            ..mono(Some(4))
-        })
+    holds(
+        &rt,
+        "a head",
+        read_head(&bytes)
+            == HeadAnswer::Whole(Head {
+                start: 16_777_216,
+                ..mono(Some(4))
+            }),
     );
     let before_formats = listed(rt.alloc(), &MONO[..12], 16_777_188)?;
-    assert_eq!(rt;
-        read_head(&before_formats),
-        HeadAnswer::NeedMore(16_777_212)
+    holds(
+        &rt,
+        "a head",
+        read_head(&before_formats) == HeadAnswer::NeedMore(16_777_212),
     );
     Ok(())
 }
@@ -351,9 +385,10 @@ fn knows_codings(rt: HostRuntime) {
                 size: Some(4),
             }),
         };
-        assert_eq!(rt;
-            read_head(&changed(&[(20, tag), (34, bits), (32, align)])),
-            want
+        holds(
+            &rt,
+            "a head",
+            read_head(&changed(&[(20, tag), (34, bits), (32, align)])) == want,
         );
     }
 }
@@ -395,10 +430,10 @@ fn knows_all_tags(rt: HostRuntime) {
                 0xFFFE => Some(WavKind::BadFmt),
                 _ => coding_fault(tag, bits),
             };
-            assert_eq!(rt;
-                read_head(&bytes),
-                coded(tag, bits, 44, fault),
-                "tag {tag} of {bits} bits"
+            holds(
+                &rt,
+                "a head",
+                read_head(&bytes) == coded(tag, bits, 44, fault),
             );
         }
     }
@@ -422,10 +457,10 @@ fn knows_all_true_tags(rt: HostRuntime) {
         let bits = u16::from(bits);
         for tag in 0..=u16::MAX {
             [bytes[44], bytes[45]] = tag.to_le_bytes();
-            assert_eq!(rt;
-                read_head(&bytes),
-                coded(tag, bits, 68, coding_fault(tag, bits)),
-                "true tag {tag} of {bits} bits"
+            holds(
+                &rt,
+                "a head",
+                read_head(&bytes) == coded(tag, bits, 68, coding_fault(tag, bits)),
             );
         }
     }
@@ -458,7 +493,7 @@ fn knows_true_tags(rt: HostRuntime) -> Result<(), Fail> {
                 size: None,
             }),
         };
-        assert_eq!(rt; read_head(&bytes), want);
+        holds(&rt, "a head", read_head(&bytes) == want);
     }
     Ok(())
 }

@@ -1,7 +1,9 @@
 //! Rows of scripts, and the commands that they say or the line that is wrong.
-use super::*;
+use crate::rows::same_text;
+use script_text::*;
 use std::alloc::Global;
 use std::fmt::Write;
+use std::process::Abort;
 use std::test::Fail;
 
 /// Each row: a text with bars for line ends and `~` for a byte that is no UTF-8, and behind `=>` its commands, or the
@@ -173,34 +175,50 @@ fn told_of_bytes(alloc: Global, count: usize) -> Result<String, Fail> {
     told(alloc, Acts::ALL, bytes.as_slice())
 }
 
-#[test]
-fn rows(rt: HostRuntime) -> Result<(), Fail> {
-    let alloc = rt.alloc();
-    for row in ROWS.split('\n') {
-        let (text, wanted) = row.split_once(" => ").ok_or("a row")?;
+/// Checks rows where these acts can be done.
+fn check_all(rt: &impl Abort, alloc: Global, acts: Acts, rows: &str) -> Result<(), Fail> {
+    for row in rows.split('\n') {
+        let (text, wanted) = row.split_once(" => ").unwrap_or((row, ""));
         let bytes = bytes_of(alloc, text)?;
-        let answer = told(alloc, Acts::ALL, bytes.as_slice())?;
-        assert!(rt; answer.as_str() == wanted, "{row}: {answer}");
+        same_text(
+            rt,
+            row,
+            told(alloc, acts, bytes.as_slice())?.as_str(),
+            wanted,
+        );
     }
-    assert!(rt; parse(alloc, Acts::ALL, "now remove e")?.as_slice().len() == 1);
-    assert_eq!(rt; told_of_lines(alloc, 4096)?.as_str(), "4096");
-    assert_eq!(rt;
-        told_of_lines(alloc, 4097)?.as_str(),
-        "line 4097 of the script: TooLong"
-    );
-    assert_eq!(rt; told_of_bytes(alloc, 1_048_576)?.as_str(), "nothing");
-    assert_eq!(rt; told_of_bytes(alloc, 1_048_577)?.as_str(), "line 0 TooLong");
     Ok(())
 }
 
 #[test]
-fn idle_rows(rt: HostRuntime) -> Result<(), Fail> {
+fn rows(rt: HostRuntime) -> Result<(), Fail> {
     let alloc = rt.alloc();
-    for row in IDLE_ROWS.split('\n') {
-        let (text, wanted) = row.split_once(" => ").ok_or("a row")?;
-        let bytes = bytes_of(alloc, text)?;
-        let answer = told(alloc, Acts::NONE, bytes.as_slice())?;
-        assert!(rt; answer.as_str() == wanted, "{row}: {answer}");
-    }
+    check_all(&rt, alloc, Acts::ALL, ROWS)?;
+    check_all(&rt, alloc, Acts::NONE, IDLE_ROWS)
+}
+
+#[test]
+fn one_command(rt: HostRuntime) -> Result<(), Fail> {
+    let commands = parse(rt.alloc(), Acts::ALL, "now remove e")?;
+    assert!(rt; commands.as_slice().len() == 1);
+    Ok(())
+}
+
+#[test]
+fn lengths(rt: HostRuntime) -> Result<(), Fail> {
+    let alloc = rt.alloc();
+    let most = told_of_lines(alloc, 4096)?;
+    same_text(&rt, "4096 lines", most.as_str(), "4096");
+    let more = told_of_lines(alloc, 4097)?;
+    same_text(
+        &rt,
+        "4097 lines",
+        more.as_str(),
+        "line 4097 of the script: TooLong",
+    );
+    let most = told_of_bytes(alloc, 1_048_576)?;
+    same_text(&rt, "a MiB", most.as_str(), "nothing");
+    let more = told_of_bytes(alloc, 1_048_577)?;
+    same_text(&rt, "a MiB and a byte", more.as_str(), "line 0 TooLong");
     Ok(())
 }

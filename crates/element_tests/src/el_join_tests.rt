@@ -2,6 +2,7 @@
 ghost use Rattle.std.specs.Prelude.{◌≡◌};
 ghost use Rattle.flow_model.specs.Inherited.{is_inherited};
 
+use crate::rows::{holds, same_bytes};
 use el_join::Concat;
 use flow_model::ElementFault;
 use gst_item::{Event, Flow, Item, Outs};
@@ -187,8 +188,16 @@ fn base_behind(alloc: Global, lasts: Option<u64>) -> Result<Option<u64>, Fail> {
 fn second_stream_begins_behind_the_first(rt: HostRuntime) -> Result<(), Fail> {
     let alloc = rt.alloc();
     let second = Some(1_000_000_000);
-    assert_eq!(rt; base_behind(alloc, second)?, second);
-    assert_eq!(rt; base_behind(alloc, None)?, Some(0));
+    holds(
+        &rt,
+        "behind a buffer",
+        base_behind(alloc, second)? == second,
+    );
+    holds(
+        &rt,
+        "behind no buffer",
+        base_behind(alloc, None)? == Some(0),
+    );
     Ok(())
 }
 
@@ -215,8 +224,7 @@ fn joins(rt: HostRuntime) -> Result<(), Fail> {
         (b"", b":"),
     ];
     for (calls, wanted) in rows {
-        let trace = trace(alloc, calls)?;
-        assert_eq!(rt; trace.as_slice(), wanted);
+        same_bytes(&rt, trace(alloc, calls)?.as_slice(), wanted);
     }
     Ok(())
 }

@@ -1,9 +1,11 @@
 //! Rows of files, and what is told of their scripts.
-use super::*;
+use crate::rows::same_text;
 use gst_outside::{Files, MemFiles};
+use script_file::read_file;
 use script_text::Acts;
 use std::alloc::Global;
 use std::fmt::Write;
+use std::process::Abort;
 use std::test::Fail;
 
 /// Each row: the text of a file with bars for line ends, the number of the opening and of the read that fails, where 0
@@ -73,8 +75,8 @@ fn told_of_bytes(alloc: Global, count: usize) -> Result<String, Fail> {
 
 /// The answer for a file as a row gives it.
 fn answer_of(alloc: Global, acts: Acts, given: &str) -> Result<String, Fail> {
-    let (text, calls) = given.split_once("; ").ok_or("a file")?;
-    let (opening, reading) = calls.split_once(" ").ok_or("calls")?;
+    let (text, calls) = given.split_once("; ").unwrap_or((given, ""));
+    let (opening, reading) = calls.split_once(" ").unwrap_or((calls, ""));
     let bytes = bytes_of(alloc, text)?;
     told(
         alloc,
@@ -85,27 +87,34 @@ fn answer_of(alloc: Global, acts: Acts, given: &str) -> Result<String, Fail> {
     )
 }
 
+/// Checks rows where these acts can be done.
+fn check_all(rt: &impl Abort, alloc: Global, acts: Acts, rows: &str) -> Result<(), Fail> {
+    for row in rows.split('\n') {
+        let (given, wanted) = row.split_once(" => ").unwrap_or((row, ""));
+        same_text(rt, row, answer_of(alloc, acts, given)?.as_str(), wanted);
+    }
+    Ok(())
+}
+
 #[test]
 fn rows(rt: HostRuntime) -> Result<(), Fail> {
     let alloc = rt.alloc();
-    for row in ROWS.split('\n') {
-        let (given, wanted) = row.split_once(" => ").ok_or("a row")?;
-        let answer = answer_of(alloc, Acts::ALL, given)?;
-        assert!(rt; answer.as_str() == wanted, "{row}: {answer}");
-    }
-    for row in IDLE_ROWS.split('\n') {
-        let (given, wanted) = row.split_once(" => ").ok_or("a row")?;
-        let answer = answer_of(alloc, Acts::NONE, given)?;
-        assert!(rt; answer.as_str() == wanted, "{row}: {answer}");
-    }
-    assert_eq!(rt;
-        told_of_bytes(alloc, 70_000)?.as_str(),
-        "1 commands, 0 ends, 0 failures"
+    check_all(&rt, alloc, Acts::ALL, ROWS)?;
+    check_all(&rt, alloc, Acts::NONE, IDLE_ROWS)
+}
+
+#[test]
+fn long_files(rt: HostRuntime) -> Result<(), Fail> {
+    let alloc = rt.alloc();
+    let read = told_of_bytes(alloc, 70_000)?;
+    same_text(
+        &rt,
+        "70000 bytes",
+        read.as_str(),
+        "1 commands, 0 ends, 0 failures",
     );
     let long = told_of_bytes(alloc, 1_200_000)?;
-    assert_eq!(rt;
-        long.as_str(),
-        "line 0 of the script: TooLong, 0 ends, 0 failures"
-    );
+    let wanted = "line 0 of the script: TooLong, 0 ends, 0 failures";
+    same_text(&rt, "1200000 bytes", long.as_str(), wanted);
     Ok(())
 }

@@ -2,13 +2,14 @@
 ghost use Rattle.std.specs.Prelude.{◌≡◌};
 ghost use Rattle.flow_model.specs.Inherited.{is_inherited};
 
+use crate::rows::same_text;
 use audio_info::{Info, Sample};
 use el_mix::Mix;
 use flow_model::ElementFault;
 use gst_caps::Caps;
 use gst_item::{Body, Buffer, Event, Flow, Item, Outs};
 use gst_time::{Format, Segment};
-use gst_value::{List, Text};
+use gst_value::{Fixed, List, Text};
 use std::alloc::Global;
 use std::fmt::Write;
 use std::process::Abort;
@@ -198,73 +199,92 @@ fn call(
             Some(pad) => write!(text, "{pad} ")?,
             None => text.push_str("- ")?,
         },
-        _ => {
-            if let Some((pad, laid)) = word.split_once('>') {
-                lay(mix, number(pad), event_by(alloc, laid)?);
-                text.push_str("- ")?;
-            } else {
-                let (pad, item) = word.split_once(':').ok_or("a pad")?;
-                feed(alloc, mix, number(pad), item_by(alloc, item)?, text, out)?;
-            }
-        }
+        _ => give(alloc, mix, word, text, out)?,
+    }
+    Ok(())
+}
+
+/// Lays what stands behind a `>`, and feeds what stands behind a `:`.
+fn give(
+    alloc: Global,
+    mix: &mut Mix,
+    word: &str,
+    text: &mut String,
+    out: &mut Outs,
+) -> Result<(), Fail> {
+    if let Some((pad, laid)) = word.split_once('>') {
+        lay(mix, number(pad), event_by(alloc, laid)?);
+        text.push_str("- ")?;
+        return Ok(());
+    }
+    let (pad, item) = word.split_once(':').unwrap_or((word, ""));
+    feed(alloc, mix, number(pad), item_by(alloc, item)?, text, out)
+}
+
+fn tell_buffer(text: &mut String, buffer: &Buffer) -> Result<(), Fail> {
+    text.push_str("+")?;
+    for byte in buffer.body.as_slice() {
+        text.push(match *byte {
+            0 => '.',
+            128 => '~',
+            byte => char::from(byte),
+        })?;
+    }
+    let pts = buffer.pts.unwrap_or(99) / 1_000_000;
+    let duration = buffer.duration.unwrap_or(99) / 1_000_000;
+    write!(text, ",{},{pts},{duration}", buffer.offset.unwrap_or(99))?;
+    Ok(())
+}
+
+fn tell_caps(text: &mut String, caps: &Fixed) -> Result<(), Fail> {
+    match Info::from_fixed(caps) {
+        Ok(info) if info.format == Sample::U8 => write!(text, "u8,{}", info.channels)?,
+        Ok(info) => write!(text, "s16,{}", info.channels)?,
+        Err(_) => text.push_str("caps")?,
     }
     Ok(())
 }
 
 fn tell_item(text: &mut String, item: &Item) -> Result<(), Fail> {
     match item {
-        Item::Buffer(buffer) => {
-            text.push_str("+")?;
-            for byte in buffer.body.as_slice() {
-                text.push(match *byte {
-                    0 => '.',
-                    128 => '~',
-                    byte => char::from(byte),
-                })?;
-            }
-            let offset = buffer.offset.unwrap_or(99);
-            let pts = buffer.pts.unwrap_or(99) / 1_000_000;
-            let duration = buffer.duration.unwrap_or(99) / 1_000_000;
-            write!(text, ",{offset},{pts},{duration}")?;
-        }
+        Item::Buffer(buffer) => tell_buffer(text, buffer)?,
         Item::Event(Event::StreamStart { id }) => write!(text, "start={id}")?,
-        Item::Event(Event::Caps(caps)) => {
-            let info = Info::from_fixed(caps).map_err(|_| "caps")?;
-            let format = if info.format == Sample::U8 {
-                "u8"
-            } else {
-                "s16"
-            };
-            let channels = info.channels;
-            write!(text, "{format},{channels}")?;
-        }
-        Item::Event(Event::Segment(segment)) => {
-            let start = segment.start;
-            write!(text, "time={start}")?;
-        }
+        Item::Event(Event::Caps(caps)) => tell_caps(text, caps)?,
+        Item::Event(Event::Segment(segment)) => write!(text, "time={}", segment.start)?,
         Item::Event(Event::Eos) => text.push_str("eos")?,
         Item::Event(_) => text.push_str("?")?,
     }
     Ok(())
 }
 
-fn check_row(rt: &impl Abort, alloc: Global, line: &str) -> Result<(), Fail> {
-    let (calls, wanted) = line.split_once(" -> ").ok_or("two sides")?;
-    let mut mix = Mix::new(alloc, 2)?;
-    let mut text = String::new(alloc);
-    let mut out = List::new(alloc);
-    for word in calls.split(' ') {
-        call(alloc, &mut mix, word, &mut text, &mut out)?;
-    }
+fn tell_out(text: &mut String, out: &Outs) -> Result<(), Fail> {
     text.push_str(":")?;
     for one in out.as_slice() {
         text.push_str(" ")?;
-        tell_item(&mut text, &one.item)?;
+        tell_item(text, &one.item)?;
     }
     if out.as_slice().is_empty() {
         text.push_str(" ")?;
     }
-    assert_eq!(rt; text.as_str(), wanted);
+    Ok(())
+}
+
+/// Makes the calls, and tells the answers.
+fn call_all(alloc: Global, calls: &str, out: &mut Outs) -> Result<String, Fail> {
+    let mut mix = Mix::new(alloc, 2)?;
+    let mut text = String::new(alloc);
+    for word in calls.split(' ') {
+        call(alloc, &mut mix, word, &mut text, out)?;
+    }
+    Ok(text)
+}
+
+fn check_row(rt: &impl Abort, alloc: Global, line: &str) -> Result<(), Fail> {
+    let (calls, wanted) = line.split_once(" -> ").unwrap_or((line, ""));
+    let mut out = List::new(alloc);
+    let mut text = call_all(alloc, calls, &mut out)?;
+    tell_out(&mut text, &out)?;
+    same_text(rt, calls, text.as_str(), wanted);
     Ok(())
 }
 
