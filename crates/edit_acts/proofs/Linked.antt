@@ -17,9 +17,11 @@ use Rattle.net_edits.specs.Inside.{CanLinkIn, IsLinkedOpened, StandLinked}
 use Rattle.graph_core.specs.GraphPlan.{pad_id}
 use Rattle.graph_pads.specs.declared.pad.PadPlace.{PadPlace}
 use Rattle.edit_model.specs.Edited.{Edited, linked_at}
+use Rattle.edit_model.proofs.Keeping.{linked_kept}
+use Rattle.edit_model.proofs.LinksStanding.{linked_stand}
 use Rattle.edit_core.specs.Ways.{IsRun}
 use Rattle.edit_acts.specs.Linking.{GoesOnLinked, MayLink, MayLinkAt, sink_in}
-use Rattle.edit_acts.proofs.Graphs.{linked_kept, linked_made, linked_stand, linked_unmarked}
+use Rattle.edit_acts.proofs.Graphs.{linked_made, linked_unmarked}
 use Rattle.edit_acts.proofs.Joinable.{joined_can, joins}
 use Rattle.edit_acts.proofs.Kept.{linked_tasks}
 use Rattle.edit_acts.proofs.Loose.{sink_loose}

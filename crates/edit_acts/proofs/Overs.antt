@@ -35,10 +35,12 @@ use Rattle.task_edits.specs.declared.leading.NewLane.{NewLane}
 use Rattle.edit_model.specs.Edited.{Edited, is_there, link_between, linked_at, touches}
 use Rattle.edit_model.specs.Plans.{is_asleep}
 use Rattle.edit_model.specs.Refused.{has_lanes}
+use Rattle.edit_model.proofs.Keeping.{linked_kept}
+use Rattle.edit_model.proofs.LinksStanding.{linked_stand}
 use Rattle.edit_core.specs.Tasks.{AreTasksOf, IsReachedIn, LeadsOn}
 use Rattle.edit_core.specs.Ways.{IsRun}
 use Rattle.edit_acts.specs.Over.{LeadsTo, MayLinkOver}
-use Rattle.edit_acts.proofs.Graphs.{linked_kept, linked_made, linked_stand, linked_unmarked}
+use Rattle.edit_acts.proofs.Graphs.{linked_made, linked_unmarked}
 use Rattle.edit_acts.proofs.Loose.{leads_not_inside}
 use Rattle.edit_acts.proofs.Rewired.{Rewired, rewired, rewired_back, rewired_has, rewired_head, rewired_on, rewired_source, rewired_there}
 

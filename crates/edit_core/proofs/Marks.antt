@@ -48,7 +48,7 @@ put_behind p place (WasLinked source from to ended marks ∷ spans) none = (none
 put_behind p place (Flushed number ∷ spans) none = absurd none
 put_behind p place (Given calls ∷ spans) none = absurd none
 
-pushed : (p place i : ℕ) (sss : List (List Span)) → AllUnmarked sss → AllUnmarked (push_span i (Linked p place []) sss)
+pub pushed : (p place i : ℕ) (sss : List (List Span)) → AllUnmarked sss → AllUnmarked (push_span i (Linked p place []) sss)
 pushed p place i [] none = tt
 pushed p place zero (ss ∷ sss) none = (put_behind p place ss none.0, none.1)
 pushed p place (suc i) (ss ∷ sss) none = (none.0, pushed p place i sss none.1)

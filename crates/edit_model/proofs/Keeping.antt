@@ -63,7 +63,7 @@ undo_free p place eos (Flushed number ∷ ss) e = undo_free p place eos ss e
 undo_free p place eos (Given calls ∷ ss) e = undo_free p place eos ss e
 
 -- where only a link of this source pad stands, none does behind that
-pub undo_own : (h : ℕ → List Item) (p place : ℕ) (eos : Bool) (ss : List Span) → AreWithin h ss → links_from p ss ≡ is_linked ss → is_linked (map (undo p place eos) ss) ≡ false
+undo_own : (h : ℕ → List Item) (p place : ℕ) (eos : Bool) (ss : List Span) → AreWithin h ss → links_from p ss ≡ is_linked ss → is_linked (map (undo p place eos) ss) ≡ false
 undo_own h p place eos [] w e = refl
 undo_own h p place eos (Linked source from marks ∷ ss) w e = rw w.1 (go (eqb source p) (rw w.1 at e))
   where
@@ -232,7 +232,7 @@ linked_spans g source place to sink = go (eqb_tells sink.element to.element) (pu
     go (inl t) (inr more) = inr (ap (λ (n : ℕ). place_of n sink.pad) t.1 ∙ ap (λ (n : ℕ). place_of to.element n) more.0, rw t.0 more.1)
     go (inr t) either = inl (rw t.0 refl)
 
-linked_kept : (h : ℕ → List Item) (g : Edited) (source : PadPlace) (place : ℕ) (to : PadPlace) → place ≤ length (h (pad_id source)) → source_before g.links to ≡ None → IsKept h g
+pub linked_kept : (h : ℕ → List Item) (g : Edited) (source : PadPlace) (place : ℕ) (to : PadPlace) → place ≤ length (h (pad_id source)) → source_before g.links to ≡ None → IsKept h g
     → IsKept h (linked_at source place to g)
 linked_kept h g source place to low free kept = record {
   within = λ sink. within_by sink (linked_spans g source place to sink);

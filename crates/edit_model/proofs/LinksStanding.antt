@@ -218,7 +218,7 @@ unlinked_stand g source place eos few stand = record {
         differ : is_same found source ≡ false → found.pad < most_pads → pad_id source ≡ pad_id found → ⊥
         differ other low same = true≢false (sym (itself source) ∙ ap (λ (place : PadPlace). is_same place source) (same_pad source found few low same) ∙ other)
 
-linked_stand : (g : Edited) (source : PadPlace) (place : ℕ) (to : PadPlace) → source.pad < most_pads → to.pad < length (g.spans to.element) → source_before g.links to ≡ None
+pub linked_stand : (g : Edited) (source : PadPlace) (place : ℕ) (to : PadPlace) → source.pad < most_pads → to.pad < length (g.spans to.element) → source_before g.links to ≡ None
     → LinksStand g → LinksStand (linked_at source place to g)
 linked_stand g source place to few there free stand = record {
   counted = λ e. counted e (eqb e to.element);
