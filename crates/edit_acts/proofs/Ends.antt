@@ -1,5 +1,5 @@
 -- What a run is where the link of a pad was undone with EOS, and where it has none.
-use Rattle.std.proofs.Common.{◌≡◌, ◌⊎◌, ℕ, Bool, true, List, Option, Some, refl, ap, subst, inl, inr}
+use Rattle.std.proofs.Common.{◌≡◌, ◌⊎◌, ℕ, Bool, true, false, List, Option, Some, refl, ap, subst, inl, inr}
 use Rattle.std.specs.Prelude.{slice_get}
 use Rattle.lane_core.specs.Lane.{Lane}
 use Rattle.lane_core.specs.declared.ends.Inlet as inlets
@@ -116,3 +116,8 @@ module _ {S E I O L : Type 0} {s : sources.Ghosts S} {e : elements.Ghosts E} {i 
 
   pub over_link : (tasks : List (Task S E I O L s e i o)) (pad : ℕ) → LeadsNoneInside tasks pad → CannotEnd tasks pad → HasNoLink tasks pad
   over_link tasks pad none why g m tells source w link = link_leads g m tasks tells pad source w link (over_none tasks pad none g m tells w.run why)
+
+-- what holds where something was done, and where nothing was
+pub either_way : {A : Type 0} (done : Bool) → (done ≡ true → A) → (done ≡ false → A) → A
+either_way true done_so left_so = done_so refl
+either_way false done_so left_so = left_so refl

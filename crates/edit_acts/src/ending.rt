@@ -30,7 +30,7 @@ pub fn end<S: TaskSource, E: TaskElement, I: Inlet<Out = O>, O: Outlet<Lanes = I
     ensures none { IfOk result (λ done. done ≡ false → HasNoLink tasks.old.items pad × (tasks.new.items ≡ tasks.old.items)) }
     ensures faults { IfErr result (NotEndedWhole tasks.old.items tasks.new.items pad) }
     ensures stays { result ≡ Err Wanting → (m : Moment) (tells : _) → NetStands m tasks.old.items tells → NetStands m tasks.new.items tells }
-    ensures ready { IfErr result (λ fault. (tells : _) → NetReady tasks.old.items tells → NetReady tasks.new.items tells) }
+    ensures ready { (tells : _) → NetReady tasks.old.items tells → NetReady tasks.new.items tells }
 {
     match room {
         UndoRoom::Split { element, room } => end_behind(alloc, tasks, pad, element, room),
@@ -51,7 +51,7 @@ fn end_behind<S: TaskSource, E: TaskElement, I: Inlet<Out = O>, O: Outlet<Lanes 
     ensures none { IfOk result (λ done. done ≡ false → HasNoLink tasks.old.items pad × (tasks.new.items ≡ tasks.old.items)) }
     ensures faults { IfErr result (NotEndedWhole tasks.old.items tasks.new.items pad) }
     ensures stays { result ≡ Err Wanting → (m : Moment) (tells : _) → NetStands m tasks.old.items tells → NetStands m tasks.new.items tells }
-    ensures ready { IfErr result (λ fault. (tells : _) → NetReady tasks.old.items tells → NetReady tasks.new.items tells) }
+    ensures ready { (tells : _) → NetReady tasks.old.items tells → NetReady tasks.new.items tells }
 {
     match end_inside(alloc, tasks, pad) {
         Ok(true) => {
@@ -73,7 +73,7 @@ fn end_lane<S: TaskSource, E: TaskElement, I: Inlet<Out = O>, O: Outlet<Lanes = 
     ensures none { IfOk result (λ done. done ≡ false → HasNoLink tasks.old.items pad × (tasks.new.items ≡ tasks.old.items)) }
     ensures faults { IfErr result (NotEndedWhole tasks.old.items tasks.new.items pad) }
     ensures stays { result ≡ Err Wanting → (m : Moment) (tells : _) → NetStands m tasks.old.items tells → NetStands m tasks.new.items tells }
-    ensures ready { IfErr result (λ fault. (tells : _) → NetReady tasks.old.items tells → NetReady tasks.new.items tells) }
+    ensures ready { (tells : _) → NetReady tasks.old.items tells → NetReady tasks.new.items tells }
 {
     match end_over(tasks, pad) {
         Ok(done) => Ok(done),
