@@ -15,4 +15,4 @@ module _ {T F : Type 0} (t : Ghosts T F) where
   -- while there is more it has come on, and else it has ended
   abbrev pub HasAdvanced : Bool → Order → ℕ → T → Turns → ℕ → T → Type 0
   HasAdvanced true order start first turns idle is = HasCome order start first turns idle is
-  HasAdvanced false order start first turns idle is = HasEnded t order start first is
+  HasAdvanced false order start first turns idle is = HasEnded t order start first turns is

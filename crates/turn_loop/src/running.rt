@@ -26,9 +26,9 @@ fn idle_turns(idle: u32, moved: bool) -> u32
 pub fn run<T: TakesTurns>(alloc: Global, all: &mut T, turns: &mut Turns) -> Result<(), T::Fault>
     requires ready { T.ready all.old }
     ensures ready { OnOk result (T.ready all.new) }
-    ensures ended { OnOk result ((order : Order) (start : ℕ) → GoesFrom order start turns.old → HasEnded T.TakesTurns order start all.old all.new) }
+    ensures ended { OnOk result ((order : Order) (start : ℕ) → GoesFrom order start turns.old → HasEnded T.TakesTurns order start all.old turns.new all.new) }
     ensures failed { IfErr result (λ fault. (order : Order) (start : ℕ) → GoesFrom order start turns.old
-        → HasFailed T.TakesTurns order start all.old all.new fault) }
+        → HasFailed T.TakesTurns order start all.old turns.new all.new fault) }
 {
     let mut idle = 0;
     'acts: loop {
@@ -55,7 +55,7 @@ fn run_to_act<T: TakesTurns>(
     ensures come { IfOk result (λ acted. (order : Order) (start : ℕ) (first : _)
         → HasCome T.TakesTurns order start first turns.old idle.old all.old → HasAdvanced T.TakesTurns acted order start first turns.new idle.new all.new) }
     ensures failed { IfErr result (λ fault. (order : Order) (start : ℕ) (first : _)
-        → HasCome T.TakesTurns order start first turns.old idle.old all.old → HasFailed T.TakesTurns order start first all.new fault) }
+        → HasCome T.TakesTurns order start first turns.old idle.old all.old → HasFailed T.TakesTurns order start first turns.new all.new fault) }
 {
     'turns: loop {
         match all.act(alloc) {
@@ -90,7 +90,7 @@ fn advance<T: TakesTurns>(
     ensures come { IfOk result (λ more. (order : Order) (start : ℕ) (first : _) → T.waits all.old
         → HasCome T.TakesTurns order start first turns.old idle.old all.old → HasAdvanced T.TakesTurns more order start first turns.new idle.new all.new) }
     ensures failed { IfErr result (λ fault. (order : Order) (start : ℕ) (first : _) → T.waits all.old
-        → HasCome T.TakesTurns order start first turns.old idle.old all.old → HasFailed T.TakesTurns order start first all.new fault) }
+        → HasCome T.TakesTurns order start first turns.old idle.old all.old → HasFailed T.TakesTurns order start first turns.new all.new fault) }
 {
     let count = all.count();
     if count == 0 {

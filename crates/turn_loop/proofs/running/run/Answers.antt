@@ -16,5 +16,8 @@ acts-preserved g c = record {
   come = λ order start next. (rw c.in-Ok-true.field-0-test at c.in-Ok-true.ensures.come) order start c.args.all.now (c.acts.invariant.come order start next);
 }
 
+pub returns-in-Ok-false-clause-ended : goal.returns-in-Ok-false-clause-ended
+returns-in-Ok-false-clause-ended g c = λ order start next. (rw c.in-Ok-false.field-0-test at c.in-Ok-false.ensures.come) order start c.args.all.now (c.acts.invariant.come order start next)
+
 pub returns-in-Err-clause-failed : goal.returns-in-Err-clause-failed
 returns-in-Err-clause-failed g c = λ order start next. c.in-Err.ensures.failed order start c.args.all.now (c.acts.invariant.come order start next)
