@@ -29,7 +29,7 @@ use Rattle.edit_model.specs.Plans.{is_asleep}
 use Rattle.edit_core.specs.Judging.{AreFresh}
 use Rattle.edit_core.specs.Tasks.{number_of_head}
 use Rattle.edit_core.specs.Ways.{IsRun}
-use Rattle.edit_core.proofs.Named.{named_there}
+use Rattle.edit_core.proofs.Finding.{named_there}
 use Rattle.edit_acts.specs.Controlled.{AreOwned}
 
 module _ {S E I O L : Type 0} {s : sources.Ghosts S} {e : elements.Ghosts E} {i : inlets.Ghosts I L O} {o : outlets.Ghosts O L} (g : Edited) (m : Moment) (tasks : List (Task S E I O L s e i o)) (tells : Option (List Lane))

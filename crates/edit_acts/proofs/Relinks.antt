@@ -22,7 +22,7 @@ use Rattle.edit_model.proofs.Keeping.{none_before, not_taken}
 use Rattle.edit_model.proofs.LinksStanding.{named_in, no_some, source_few}
 use Rattle.edit_core.specs.Deciding.{IsDeed}
 use Rattle.edit_core.specs.declared.deciding.Deed.TheVariants.{Relink}
-use Rattle.edit_core.proofs.Named.{Named, named_there}
+use Rattle.edit_core.proofs.Finding.{Named, named_there}
 use Rattle.edit_acts.specs.Linking.{MayLink}
 
 -- a source pad has no link once it was undone

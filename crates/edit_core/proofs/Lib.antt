@@ -16,4 +16,5 @@ mod Givers
 mod Passing
 mod Elsewhere
 mod Distinct
+pub mod Finding
 pub mod Named

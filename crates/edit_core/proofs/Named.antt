@@ -1,8 +1,8 @@
 -- The source pads of links have names by which they are found, from the start and behind each answer.
 use Rattle.std.proofs.Common.{◌≡◌, ◌⊎◌, ◌<◌, ◌≤◌, ◌++◌, ◌||◌, ℕ, Bool, true, false, if◌then◌else◌, eqb, All, List, [], ◌∷◌, Option, None, Some, cond, drop, get_or, length, nat_lt, position, bytes_eq, codes, refl, sym, ap, ◌∙◌, subst, inl, inr, arith}
-use Rattle.std.specs.Prelude.{◌==◌, option_and_then, slice_get}
+use Rattle.std.specs.Prelude.{◌==◌, slice_get}
 use Rattle.std.specs.Fmt.{decimal}
-use Rattle.std.specs.List.{list_any, position_or_len, range_with_len}
+use Rattle.std.specs.List.{list_any, position_or_len}
 use Rattle.std.specs.Option.{option_map, option_map_or}
 use Rattle.std.proofs.lemmas.Bool.{false≢true, lt-ltb, true≢false}
 use Rattle.std.proofs.lemmas.Bool.Decides.{eqb_tells}
@@ -27,8 +27,7 @@ use Rattle.graph_core.proofs.NumberedPads.{found_in}
 use Rattle.graph_core.proofs.Orders.{pads_at_link}
 use Rattle.graph_pads.proofs.FirstOf.{first_found}
 use Rattle.graph_pads.specs.Links.{is_same, source_before}
-use Rattle.graph_pads.specs.Pads.{pad_count, pad_text}
-use Rattle.graph_pads.specs.declared.pad.Direction.{Direction}
+use Rattle.graph_pads.specs.Pads.{pad_text}
 use Rattle.graph_pads.specs.declared.pad.Direction.TheVariants.{Source}
 use Rattle.graph_pads.specs.declared.pad.PadLink.{PadLink}
 use Rattle.graph_pads.specs.declared.pad.PadPlace.{PadPlace}
@@ -39,13 +38,14 @@ use Rattle.script_text.specs.declared.command.When.{When}
 use Rattle.edit_model.specs.Edited.{Edited, added, is_there, link_between, relinked_at, touches, unedited, without, without_element}
 use Rattle.edit_model.specs.Growing.{LinksStand}
 use Rattle.edit_model.specs.Lawful.{IsAnswered, Makes, Reaches}
-use Rattle.edit_model.specs.Names.{pad_in, pad_named}
+use Rattle.edit_model.specs.Names.{pad_in}
 use Rattle.edit_model.proofs.Following.{get_front}
 use Rattle.edit_model.proofs.Keeping.{none_push, some_push}
 use Rattle.edit_model.proofs.LinksStanding.{rest_other}
 use Rattle.edit_core.specs.Notes.{AreNamed, StaysNamed}
 use Rattle.edit_core.proofs.Distinct.{AreDistinct, line_distinct}
 use Rattle.edit_core.proofs.Lists.{no_some, told}
+use Rattle.edit_core.proofs.Finding.{Named, found_element, found_of, named_by}
 
 -- an element of which links make no source pads has one at the most
 one_source : (s : Settings) → makes_sources s ≡ false → source_pads s ≤ 1
@@ -53,59 +53,6 @@ one_source (Tee pads) plain = absurd (true≢false plain)
 one_source (FileSink s) plain = omega arith
 one_source FakeSink plain = omega arith
 one_source _ plain = omega arith
-
--- a source pad has this name
-abbrev pub Named : Edited → PadPlace → Type 0
-Named g source = (name : PadName) × (pad_named Source g name ≡ Some source)
-
--- ---- how a pad is found
-
--- the element that has a name is there, and the pad is one of it
-record IsFound (direction : Direction) (g : Edited) (name : PadName) (place : PadPlace) : Type 0 where
-  element : ℕ
-  first : position (is_named name.element) g.made ≡ Some element
-  there : is_there g element ≡ true
-  made : Made
-  at : slice_get g.made element ≡ Some made
-  pad : pad_in direction name.pad element made ≡ Some place
-
-found_of : (direction : Direction) (g : Edited) (name : PadName) (place : PadPlace) → pad_named direction g name ≡ Some place → IsFound direction g name place
-found_of direction g name place e = by (position (is_named name.element) g.made) refl e
-  where
-    by_made : (k : ℕ) → position (is_named name.element) g.made ≡ Some k → is_there g k ≡ true → (o : Option Made) → slice_get g.made k ≡ o → option_and_then (pad_in direction name.pad k) o ≡ Some place
-        → IsFound direction g name place
-    by_made k first there None at e = absurd (no_some (sym e))
-    by_made k first there (Some made) at e = record { element = k; first = first; there = there; made = made; at = at; pad = e }
-
-    by_there : (k : ℕ) → position (is_named name.element) g.made ≡ Some k → (b : Bool) → is_there g k ≡ b
-        → option_and_then (λ x. option_and_then (pad_in direction name.pad x) (slice_get g.made x)) (if b then Some k else None) ≡ Some place → IsFound direction g name place
-    by_there k first true there e = by_made k first there (slice_get g.made k) refl e
-    by_there k first false there e = absurd (no_some (sym e))
-
-    by : (o : Option ℕ) → position (is_named name.element) g.made ≡ o
-        → option_and_then (λ x. option_and_then (pad_in direction name.pad x) (slice_get g.made x)) (option_and_then (λ x. if is_there g x then Some x else None) o) ≡ Some place → IsFound direction g name place
-    by None first e = absurd (no_some (sym e))
-    by (Some k) first e = by_there k first (is_there g k) refl e
-
-named_by : (g : Edited) (name : PadName) (source : PadPlace) → IsFound Source g name source → pad_named Source g name ≡ Some source
-named_by g name source found =
-    ap (λ (o : Option ℕ). option_and_then (λ x. option_and_then (pad_in Source name.pad x) (slice_get g.made x)) (option_and_then (λ x. if is_there g x then Some x else None) o)) found.first
-    ∙ ap (λ (b : Bool). option_and_then (λ x. option_and_then (pad_in Source name.pad x) (slice_get g.made x)) (if b then Some found.element else None)) found.there
-    ∙ ap (option_and_then (pad_in Source name.pad found.element)) found.at
-    ∙ found.pad
-
--- a pad that is found is one of the element
-found_element : (direction : Direction) (name : List ℕ) (k : ℕ) (made : Made) (place : PadPlace) → pad_in direction name k made ≡ Some place → k ≡ place.element
-found_element direction name k made place e = by (position (λ n. bytes_eq name (pad_text direction made.settings n)) (range_with_len 0 (pad_count direction made.settings))) e
-  where
-    by : (o : Option ℕ) → option_map {U = PadPlace} (λ n. record { element = k; pad = n }) o ≡ Some place → k ≡ place.element
-    by None e = absurd (no_some (sym e))
-    by (Some n) e = ap (λ (place : PadPlace). place.element) (some_same e)
-
--- the element of a pad that is found is there
-pub named_there : (direction : Direction) (g : Edited) (name : PadName) (place : PadPlace) → pad_named direction g name ≡ Some place → is_there g place.element ≡ true
-named_there direction g name place e =
-    let found = found_of direction g name place e in subst (λ (k : ℕ). is_there g k ≡ true) (found_element direction name.pad found.element found.made place found.pad) found.there
 
 -- ---- from the start
 
