@@ -41,7 +41,8 @@ pub(crate) struct Prepared<E: TaskElement, I, O> {
 
 /// Undoes the link of a source pad, where it has one, and links the pad inside of its task to a sink pad of an element that no lanes
 /// feed, when so many items have crossed the source pad: in the tasks, in the graph, and in what control keeps. The element takes the
-/// sticky events at once. Memory is found before anything changes. Tells whether it was done; where the pad is to be linked so it is.
+/// sticky events at once. All memory but what it takes for these is found before anything changes. Tells whether it was done; where the pad
+/// is to be linked so it is.
 pub fn relink<S: TaskSource, E: TaskElement, I: Inlet<Out = O>, O: Outlet<Lanes = I::Lanes>>(
     alloc: Global,
     graph: &mut EditedGraph,
