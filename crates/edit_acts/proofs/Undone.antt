@@ -29,6 +29,7 @@ use Rattle.task_edits.specs.Inside.{IsPadOf, LeadsElsewhere, NotInside}
 use Rattle.task_edits.specs.Places.{HasNoPad}
 use Rattle.task_edits.specs.declared.inside.Inside.{Inside}
 use Rattle.net_edits.specs.Inside.{HasInside}
+use Rattle.net_edits.proofs.Ended.{undo_frees}
 use Rattle.net_groups.specs.Behind.{IsBehind, IsElsewhere, IsTree, StepsTo}
 use Rattle.net_groups.specs.Places.{HasWire, IsPartOf}
 use Rattle.net_groups.specs.Splits.{CannotSplit, IsSplit, IsTreeIn, NamesBehind, StaysLed, TookItems, number_in}
@@ -48,7 +49,7 @@ use Rattle.edit_acts.proofs.Cut.{LeadsBy}
 use Rattle.edit_acts.proofs.Made.{are_again, made_both}
 use Rattle.edit_acts.proofs.Parted.{split_made, split_reached}
 use Rattle.edit_acts.proofs.Reached.{reached_or_behind, same_number, still_reached}
-use Rattle.edit_acts.proofs.Spans.{undone_free, undone_took}
+use Rattle.edit_acts.proofs.Spans.{undone_took}
 use Rattle.edit_acts.proofs.Unlinked.{AreCut, CutAt, cut_made, owns_back, owns_on, wire_back}
 
 true_false : true ≡ false → ⊥
@@ -226,7 +227,7 @@ module _ {S E I O L : Type 0} {s : sources.Ghosts S} {e : elements.Ghosts E} {i 
 
           free : IsFree 0 (m'.plan.sinks to.element)
           free = subst (λ (p : Plan). IsFree 0 (p.sinks to.element)) (sym plan)
-              (undone_free m.history pad (length (m.history pad)) eos 0 (m.plan.sinks to.element) (run.net.cells to.element).standing (subst (λ (x : ℕ). LinksAt pad x (m.plan.sinks to.element)) inner.2 here.here))
+              (undo_frees m.history pad (length (m.history pad)) eos 0 (m.plan.sinks to.element) (run.net.cells to.element).standing (subst (λ (x : ℕ). LinksAt pad x (m.plan.sinks to.element)) inner.2 here.here))
 
           tree : IsTreeIn mid to.element
           tree = trees_stand s e i o m' mid tells to.element stands to_first free
