@@ -25,9 +25,10 @@ module _ {T F : Type 0} (t : Ghosts T F) where
   pub data ByTurns (order : Order) (start : ℕ) (first : T) : ℕ → ℕ → T → Type 0 where
     begun : ByTurns order start first start 0 first
     act : (n idle : ℕ) (was is : T) → ByTurns order start first n idle was → t.acted was is → ByTurns order start first n 0 is
-    turn : (n idle place : ℕ) (moved : Bool) (was is : T) → ByTurns order start first n idle was → t.waits was → idle < 4096 → IsTurn order n (t.count was) place
-        → t.stepped place moved was is → ByTurns order start first (n + 1) (if moved then 0 else idle + 1) is
-    tries : (n idle : ℕ) (was is : T) → ByTurns order start first n idle was → t.waits was → IsIdle idle (t.count was) → t.tried true was is → ByTurns order start first n 0 is
+    turn : (n idle place : ℕ) (moved : Bool) (was is : T) → ByTurns order start first n idle was → t.waits was → idle < 4096
+        → IsTurn order n (t.count was) place → t.stepped place moved was is → ByTurns order start first (n + 1) (if moved then 0 else idle + 1) is
+    tries : (n idle : ℕ) (was is : T) → ByTurns order start first n idle was → t.waits was → IsIdle idle (t.count was) → t.tried true was is
+        → ByTurns order start first n 0 is
 
   -- Such a run has ended, and the next turn is that of this number: control has nothing to do that can be done, each was tried, and none of them moved.
   pub record HasEnded (order : Order) (start : ℕ) (first : T) (turns : Turns) (last : T) : Type 0 where
@@ -40,11 +41,12 @@ module _ {T F : Type 0} (t : Ghosts T F) where
     pub is_idle : IsIdle idle (t.count was)
     pub tried : t.tried false was last
 
-  -- Such a run met a fault: at an act of control, at the turn of the one that the number tells, or as each was tried. The turn at which it did
-  -- took its number; an act and a trial take none.
+  -- Such a run met a fault: at an act of control, at the turn of the one that the number tells, or as each was tried. The turn at which it
+  -- did so took its number; an act and a trial take none.
   pub data HasFailed (order : Order) (start : ℕ) (first : T) (turns : Turns) (last : T) (fault : F) : Type 0 where
-    acting : (n idle : ℕ) (was : T) → ByTurns order start first n idle was → GoesFrom order n turns → t.act_failed was last fault → HasFailed order start first turns last fault
-    at_turn : (n idle place : ℕ) (was : T) → ByTurns order start first n idle was → GoesFrom order (n + 1) turns → t.waits was → idle < 4096 → IsTurn order n (t.count was) place
-        → t.step_failed place was last fault → HasFailed order start first turns last fault
-    trying : (n idle : ℕ) (was : T) → ByTurns order start first n idle was → GoesFrom order n turns → t.waits was → IsIdle idle (t.count was) → t.try_failed was last fault
+    acting : (n idle : ℕ) (was : T) → ByTurns order start first n idle was → GoesFrom order n turns → t.act_failed was last fault
         → HasFailed order start first turns last fault
+    at_turn : (n idle place : ℕ) (was : T) → ByTurns order start first n idle was → GoesFrom order (n + 1) turns → t.waits was → idle < 4096
+        → IsTurn order n (t.count was) place → t.step_failed place was last fault → HasFailed order start first turns last fault
+    trying : (n idle : ℕ) (was : T) → ByTurns order start first n idle was → GoesFrom order n turns → t.waits was → IsIdle idle (t.count was)
+        → t.try_failed was last fault → HasFailed order start first turns last fault

@@ -22,7 +22,8 @@ fn idle_turns(idle: u32, moved: bool) -> u32
 
 /// Runs by turns until nothing is left to do: control has no act that can be done, and none of all can move. Before every turn
 /// control does what it can do. The next number of the order tells, by its remainder, whose turn it is. Behind 4,096 turns in a row
-/// that moved nothing each is tried once; so it is where none takes turns.
+/// that moved nothing each is tried once; so it is where none takes turns. Behind the run the next number is the one behind the last
+/// turn's, also where that turn met a fault.
 pub fn run<T: TakesTurns>(alloc: Global, all: &mut T, turns: &mut Turns) -> Result<(), T::Fault>
     requires ready { T.ready all.old }
     ensures ready { OnOk result (T.ready all.new) }
