@@ -75,11 +75,17 @@ module _ {S E I O L : Type 0} {s : sources.Ghosts S} {e : elements.Ghosts E} {i 
     pub run : IsRun (unlinked_at source items false g) (unlinked (pad_id source) m) mid tells
     pub short : IsLinkedShort mid tasks' (pad_id source) (sink_in sink) (stickies (m.history (pad_id source))) stopped
 
+  -- The graph has the new link then, and so does what control keeps.
+  pub record FailsShort (graph' : EditedGraph) (feeds' : Feeds) (tasks' : List (Task S E I O L s e i o)) (g : Edited) (m : Moment) (tells : Option (List Lane)) (source sink : PadPlace) (items : ℕ) (stopped : Stopped) : Type 0 where
+    pub short : IsRelinkedShort tasks' g m tells source sink items stopped
+    pub edited : IsEdited graph' (relinked_at source items sink g)
+    pub feeds : AreFeeds feeds' (relinked_at source items sink g) m.history
+
   -- where memory was wanting control has the run as it was
   abbrev pub RelinkFails : EditedGraph → Feeds → List (Task S E I O L s e i o) → EditedGraph → Feeds → List (Task S E I O L s e i o) → PadPlace → PadPlace → ℕ → EditFault → Type 0
   RelinkFails graph feeds tasks graph' feeds' tasks' source sink items faults.OutOfMemory = (g : Edited) (m : Moment) (tells : Option (List Lane)) → IsControlled graph feeds tasks g m tells → IsControlled graph' feeds' tasks' g m tells
   RelinkFails graph feeds tasks graph' feeds' tasks' source sink items (faults.Failed stopped) =
-      (g : Edited) (m : Moment) (tells : Option (List Lane)) → IsToRelink graph feeds tasks g m tells source sink items → IsRelinkedShort tasks' g m tells source sink items stopped
+      (g : Edited) (m : Moment) (tells : Option (List Lane)) → IsToRelink graph feeds tasks g m tells source sink items → FailsShort graph' feeds' tasks' g m tells source sink items stopped
 
   -- the sticky events of what crossed a pad are given first
   abbrev pub OpensWith : List (Task S E I O L s e i o) → ℕ → List Item → Type 0

@@ -82,6 +82,7 @@ fn prepare<S: TaskSource, E: TaskElement, I: Inlet<Out = O>, O: Outlet<Lanes = I
     ensures link { IfOk result (λ found. IfSome found (λ p. HasNewLink graph.old graph.new source sink p.before)) }
     ensures none { IfOk result (λ found. found ≡ None → (feeds : KeptFeeds) (g : Edited) (m : Moment) (tells : _) (items : ℕ)
         → IsToRelink graph.old feeds tasks.old.items g m tells source sink items → ⊥) }
+    ensures left { IfOk result (λ found. found ≡ None → (g : Edited) → IsEdited graph.old g → IsEdited graph.new g) }
     ensures tasks { tasks.new.items ≡ tasks.old.items }
     ensures stays { OnErr result ((g : Edited) → IsEdited graph.old g → IsEdited graph.new g) }
 {
@@ -132,6 +133,9 @@ fn carry_out<S: TaskSource, E: TaskElement, I: Inlet<Out = O>, O: Outlet<Lanes =
     ensures run { IfOk result (λ done. (graph : Graphs) (g : Edited) (m : Moment) (tells : _) (source : Places) → IsPrepared tasks.old source sink prepared
         → prepared.before ≡ sink_behind g.links source → IsToRelink graph feeds.old tasks.old.items g m tells source sink items
         → (done ≡ true) × RunsRelinked feeds.new tasks.new.items g m tells source sink items) }
+    ensures kept { (graph : Graphs) (g : Edited) (m : Moment) (tells : _) (source : Places) → IsPrepared tasks.old source sink prepared
+        → prepared.before ≡ sink_behind g.links source → IsToRelink graph feeds.old tasks.old.items g m tells source sink items
+        → AreFeeds feeds.new (relinked_at source items sink g) m.history }
     ensures faults { IfErr result (λ stopped. (graph : Graphs) (g : Edited) (m : Moment) (tells : _) (source : Places)
         → IsPrepared tasks.old source sink prepared → IsToRelink graph feeds.old tasks.old.items g m tells source sink items
         → IsRelinkedShort tasks.new.items g m tells source sink items stopped) }

@@ -1,6 +1,7 @@
 //! What commands do to a run and to all that control keeps of it.
 ghost use Rattle.std.specs.Prelude.{◌≡◌, true, false, IfOk, OnErr};
-ghost use Rattle.edit_model.specs.Edited.{Edited};
+ghost use Rattle.edit_model.specs.Edited.{Edited, unlinked_at};
+ghost use Rattle.graph_edits.specs.Graph.{IsEdited};
 ghost use Rattle.net_model.specs.Moment.{Moment};
 ghost use Rattle.edit_acts.specs.Controlled.{IsControlled, IsToUnlink, IsUnlinked};
 
@@ -27,6 +28,7 @@ pub fn unlink<S: TaskSource, E: TaskElement, I: Inlet<Out = O>, O: Outlet<Lanes 
 ) -> Result<bool, OutOfMemory>
     ensures run { IfOk result (λ done. (g : Edited) (m : Moment) (tells : _) → IsToUnlink graph.old feeds.old tasks.old.items g m tells source sink items
         → (done ≡ true) × IsUnlinked graph.new feeds.new tasks.new.items g m tells source items) }
+    ensures graph { IfOk result (λ done. done ≡ true → (g : Edited) → IsEdited graph.old g → IsEdited graph.new (unlinked_at source items false g)) }
     ensures none { IfOk result (λ done. done ≡ false → (graph.new ≡ graph.old) × (feeds.new ≡ feeds.old) × (tasks.new ≡ tasks.old)) }
     ensures stays { OnErr result ((g : Edited) (m : Moment) (tells : _) → IsControlled graph.old feeds.old tasks.old.items g m tells
         → IsControlled graph.new feeds.new tasks.new.items g m tells) }

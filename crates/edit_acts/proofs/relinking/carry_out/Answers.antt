@@ -32,3 +32,11 @@ returns-clause-faults g c = carry_fault c.link.result _ _
     (c.undo.ensures.run edited m tells source (run_with graph c.args.feeds.now c.args.tasks.now.items edited m tells source c.args.sink c.args.items w c.args.tasks.now refl c.args.prepared ready)) in
     short graph c.args.feeds.now c.args.tasks.now.items edited m tells source c.args.sink c.args.items w c.args.tasks.now refl c.args.prepared ready c.undo.new.tasks.items c.link.new.tasks.items stopped mid told)
     c.link.ensures.faults
+
+pub returns-clause-kept : goal.returns-clause-kept
+returns-clause-kept g c = λ graph edited m tells source ready was w.
+    let mid = subst (λ (n : ℕ). IsRun (unlinked_at source n false edited) (unlinked c.args.prepared.pad m) c.undo.new.tasks.items tells)
+    (sym (crossed graph c.args.feeds.now c.args.tasks.now.items edited m tells source c.args.sink c.args.items w c.args.tasks.now refl c.args.prepared ready))
+    (c.undo.ensures.run edited m tells source (run_with graph c.args.feeds.now c.args.tasks.now.items edited m tells source c.args.sink c.args.items w c.args.tasks.now refl c.args.prepared ready)) in
+    c.keep.ensures edited m.history source w.controlled.current.feeds_are
+    (to_keep graph c.args.feeds.now c.args.tasks.now.items edited m tells source c.args.sink c.args.items w c.args.tasks.now refl c.args.prepared ready c.undo.new.tasks.items mid was)

@@ -35,3 +35,8 @@ pub returns-in-Loops-clause-none : goal.returns-in-Loops-clause-none
 returns-in-Loops-clause-none g c = λ same feeds graph m tells items w.
     let answer = rw c.in-Loops.is at c.in_ok-relink.ensures.answer in
     (linkable c.args.graph.now feeds c.args.tasks.now.items graph m tells c.args.source c.args.sink items w).forward (answer graph w.controlled.current.edited).0
+
+pub returns-in-Loops-clause-left : goal.returns-in-Loops-clause-left
+returns-in-Loops-clause-left g c = λ same graph is.
+    let answer = rw c.in-Loops.is at c.in_ok-relink.ensures.answer in
+    (answer graph is).1

@@ -19,7 +19,12 @@ pub returns-in-Err-carry_out-clause-faults : goal.returns-in-Err-carry_out-claus
 returns-in-Err-carry_out-clause-faults g c = λ graph m tells w.
     let ready = rw c.in-Ok-Some.field-0-is at c.in-Ok-Some.ensures.prepared in
     let same = subst (λ (ts : List (Task _ _ _ _ _ _ _ _ _)). IsToRelink c.args.graph.now c.args.feeds.now ts graph m tells c.args.source c.args.sink c.args.items) (sym c.in-Ok-Some.ensures.tasks) w in
-    c.in-Err-carry_out.ensures.faults c.args.graph.now graph m tells c.args.source ready same
+    let new = rw c.in-Ok-Some.field-0-is at c.in-Ok-Some.ensures.link in
+    record {
+      short = c.in-Err-carry_out.ensures.faults c.args.graph.now graph m tells c.args.source ready same;
+      edited = new.edited graph c.args.items w.controlled.current.edited;
+      feeds = c.carry_out.ensures.kept c.args.graph.now graph m tells c.args.source ready (new.was graph w.controlled.current.edited) same;
+    }
 
 pub returns-in-Ok-None-clause-run : goal.returns-in-Ok-None-clause-run
 returns-in-Ok-None-clause-run g c = λ graph m tells w. absurd (c.in-Ok-None.ensures.none c.in-Ok-None.field-0-is c.args.feeds.now graph m tells c.args.items w)

@@ -32,3 +32,6 @@ returns-clause-run g c = λ graph m tells w.
       is_unlinked c.args.graph.now c.args.feeds.now c.args.tasks.now.items graph m tells c.args.source c.args.sink c.args.items w
           c.unlink.new.self c.undone.new.self c.undo.new.tasks.items (c.unlink.ensures.edited graph c.args.items w.controlled.current.edited) kept ran,
     )
+
+pub returns-clause-graph : goal.returns-clause-graph
+returns-clause-graph g c = λ done graph edited. c.unlink.ensures.edited graph c.args.items edited
