@@ -1,10 +1,9 @@
 //! Rows of lines and the bags of their graphs.
-use graph_core::{Graph, build};
+use crate::lines::{graph_of, same_text, sides_of};
+use graph_core::Graph;
 use graph_parts::*;
-use launch_text::parse;
 use std::alloc::Global;
 use std::fmt::Write;
-use std::process::Abort;
 use std::test::Fail;
 
 /// Each row: a line, and then its bags. A source stands before a colon, and an element that is fed from inlets before a
@@ -88,34 +87,22 @@ fn put_bag(into: &mut String, graph: &Graph, bag: &Bag) -> Result<(), Fail> {
     Ok(())
 }
 
-/// A line with the bags of its graph.
+/// The bags of the graph of a line.
 fn row_of(alloc: Global, line: &str) -> Result<String, Fail> {
-    let tree = parse(alloc, line)?;
-    let Ok(graph) = build(alloc, &tree) else {
-        return Err("a line without a graph")?;
-    };
+    let graph = graph_of(alloc, line)?;
     let mut row = String::new(alloc);
-    row.push_str(line)?;
-    row.push_str(" ->")?;
-    let bags = bags_of(alloc, &graph)?;
-    for bag in bags.as_slice() {
+    for bag in bags_of(alloc, &graph)?.as_slice() {
         put_bag(&mut row, &graph, bag)?;
     }
     Ok(row)
-}
-
-fn line_of(row: &str) -> &str {
-    match row.split_once(" ->") {
-        Some((line, _)) => line,
-        None => row,
-    }
 }
 
 #[test]
 fn bags_of_lines(rt: HostRuntime) -> Result<(), Fail> {
     let alloc = rt.alloc();
     for row in ROWS.lines() {
-        assert_eq!(rt; row_of(alloc, line_of(row))?.as_str(), row);
+        let (line, bags) = sides_of(row);
+        same_text(&rt, row_of(alloc, line)?.as_str(), bags);
     }
     Ok(())
 }

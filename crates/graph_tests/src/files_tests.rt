@@ -4,16 +4,16 @@ ghost use Rattle.el_set.specs.Gives.{source_items};
 ghost use Rattle.task_pads.specs.Behind.{nowhere};
 ghost use Rattle.task_pads.specs.Pads.{goes_of};
 
+use crate::lines::{graph_of, same_text, sides_of};
 use el_basic::Tee;
 use el_set::{SinkElement, SourceElement, sink_of, source_of};
 use el_settings::{FileSinkSettings, FileSrcSettings, Settings};
-use graph_core::{Graph, build};
+use graph_core::Graph;
 use graph_parts::*;
 use gst_item::{Event, Item};
 use gst_outside::{MemSink, MemSource, Sink, Source};
 use gst_value::{List, Text};
 use lane_core::{Inlet, MemInlet, MemLanes, MemOutlet, Outlet};
-use launch_text::parse;
 use net_task::Task;
 use run_files::End;
 use std::alloc::Global;
@@ -44,14 +44,6 @@ concat name=c ! filesink location=x filesrc location=a ! c. interleave ! c. -> -
 struct Given<S, K> {
     ends: Vec<Option<End<S, K>>>,
     lengths: Vec<u64>,
-}
-
-fn graph_of(alloc: Global, line: &str) -> Result<Graph, Fail> {
-    let tree = parse(alloc, line)?;
-    match build(alloc, &tree) {
-        Ok(graph) => Ok(graph),
-        Err(_) => Err("a line without a graph")?,
-    }
 }
 
 /// A file that is written, with room for eight bytes.
@@ -119,8 +111,8 @@ fn kinds(alloc: Global, line: &str) -> Result<String, Fail> {
 fn what_is_made(rt: HostRuntime) -> Result<(), Fail> {
     let alloc = rt.alloc();
     for row in MADE.lines() {
-        let (line, made) = row.split_once(" ->").unwrap_or((row, ""));
-        assert_eq!(rt; kinds(alloc, line)?.as_str(), made);
+        let (line, made) = sides_of(row);
+        same_text(&rt, kinds(alloc, line)?.as_str(), made);
     }
     Ok(())
 }
@@ -178,8 +170,8 @@ fn told(alloc: Global, line: &str) -> Result<String, Fail> {
 fn what_is_given_back(rt: HostRuntime) -> Result<(), Fail> {
     let alloc = rt.alloc();
     for row in ROWS.lines() {
-        let (line, told_here) = row.split_once(" ->").unwrap_or((row, ""));
-        assert_eq!(rt; told(alloc, line)?.as_str(), told_here);
+        let (line, back) = sides_of(row);
+        same_text(&rt, told(alloc, line)?.as_str(), back);
     }
     Ok(())
 }
@@ -296,17 +288,23 @@ fn tasks_in(
     Ok(tasks)
 }
 
+/// What tasks of a line give back.
+fn given_back(
+    alloc: Global,
+    tasks: Vec<Task<StreamSource<MemSource>, StreamElement<MemSink>, MemInlet, MemOutlet>>,
+) -> Result<String, Fail> {
+    let line = "filesrc location=a ! tee name=t ! filesink location=x t. ! fakesink";
+    let graph = graph_of(alloc, line)?;
+    let back = give_all(alloc, &graph, tasks, Vec::new(alloc))?;
+    text_of(alloc, &back)
+}
+
 #[test]
 fn a_task_gives_back(rt: HostRuntime) -> Result<(), Fail> {
     let alloc = rt.alloc();
-    let line = "filesrc location=a ! tee name=t ! filesink location=x t. ! fakesink";
-    let graph = graph_of(alloc, line)?;
     let tasks = tasks_in(alloc)?;
-    assert_eq!(rt;
-        counted(alloc, tasks.as_slice())?.as_str(),
-        " 0:0 64:0 65:1"
-    );
-    let back = give_all(alloc, &graph, tasks, Vec::new(alloc))?;
-    assert_eq!(rt; text_of(alloc, &back)?.as_str(), " a 9 - 9 x 0 - 9");
+    let counts = counted(alloc, tasks.as_slice())?;
+    same_text(&rt, counts.as_str(), " 0:0 64:0 65:1");
+    same_text(&rt, given_back(alloc, tasks)?.as_str(), " a 9 - 9 x 0 - 9");
     Ok(())
 }

@@ -1,4 +1,5 @@
 //! Rows of lines and the tasks of their graphs, without their elements.
+use crate::lines::{graph_of, same_text, sides_of};
 use crate::plain::{Plain, PlainSource, elements_for, sources_for};
 use graph_core::build;
 use graph_tasks::*;
@@ -80,34 +81,22 @@ fn put_task<I: Inlet<Out = O>, O: Outlet<Lanes = I::Lanes>>(
     Ok(())
 }
 
-/// A line with its tasks.
+/// The tasks of a line.
 fn row_of(alloc: Global, line: &str) -> Result<String, Fail> {
-    let tree = parse(alloc, line)?;
-    let Ok(graph) = build(alloc, &tree) else {
-        return Err("a line without a graph")?;
-    };
+    let graph = graph_of(alloc, line)?;
     let mut row = String::new(alloc);
-    row.push_str(line)?;
-    row.push_str(" ->")?;
-    let wired = wire(alloc, &graph)?;
-    for task in wired.tasks.iter() {
+    for task in wire(alloc, &graph)?.tasks.iter() {
         put_task(&mut row, task)?;
     }
     Ok(row)
-}
-
-fn line_of(row: &str) -> &str {
-    match row.split_once(" ->") {
-        Some((line, _)) => line,
-        None => row,
-    }
 }
 
 #[test]
 fn tasks_of_lines(rt: HostRuntime) -> Result<(), Fail> {
     let alloc = rt.alloc();
     for row in ROWS.lines() {
-        assert_eq!(rt; row_of(alloc, line_of(row))?.as_str(), row);
+        let (line, tasks) = sides_of(row);
+        same_text(&rt, row_of(alloc, line)?.as_str(), tasks);
     }
     Ok(())
 }
@@ -130,7 +119,22 @@ fn put_left<T>(into: &mut String, slots: &[Option<T>]) -> Result<(), Fail> {
     Ok(())
 }
 
-/// A line with what is left of its elements.
+/// How many tasks there are, and what is left of elements and sources.
+fn left_text(
+    alloc: Global,
+    tasks: usize,
+    elements: &[Option<Plain>],
+    sources: &[Option<PlainSource>],
+) -> Result<String, Fail> {
+    let mut row = String::new(alloc);
+    write!(row, " {tasks}:")?;
+    put_left(&mut row, elements)?;
+    row.push_str(" /")?;
+    put_left(&mut row, sources)?;
+    Ok(row)
+}
+
+/// What is left of the elements of a line.
 fn left_of(alloc: Global, line: &str) -> Result<String, Fail> {
     let tree = parse(alloc, line)?;
     let Ok(graph) = build(alloc, &tree) else {
@@ -141,19 +145,15 @@ fn left_of(alloc: Global, line: &str) -> Result<String, Fail> {
     let wired = wire(alloc, &graph)?;
     let plan: Plan<PlainSource, Plain, MemInlet, MemOutlet> = Plan::new(alloc, wired.tasks)?;
     let tasks = plan.into_tasks(&mut elements, &mut sources);
-    let mut row = String::new(alloc);
-    write!(&mut row, "{line} -> {}:", tasks.len())?;
-    put_left(&mut row, elements.as_slice())?;
-    row.push_str(" /")?;
-    put_left(&mut row, sources.as_slice())?;
-    Ok(row)
+    left_text(alloc, tasks.len(), elements.as_slice(), sources.as_slice())
 }
 
 #[test]
 fn tasks_take_their_elements(rt: HostRuntime) -> Result<(), Fail> {
     let alloc = rt.alloc();
     for row in LEFT.lines() {
-        assert_eq!(rt; left_of(alloc, line_of(row))?.as_str(), row);
+        let (line, left) = sides_of(row);
+        same_text(&rt, left_of(alloc, line)?.as_str(), left);
     }
     Ok(())
 }

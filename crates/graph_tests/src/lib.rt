@@ -12,6 +12,8 @@ mod graph_tasks_tests;
 #[cfg(test)]
 mod line_read_tests;
 #[cfg(test)]
+mod lines;
+#[cfg(test)]
 mod plain;
 #[cfg(test)]
 mod run_report_tests;

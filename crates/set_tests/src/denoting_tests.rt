@@ -1,15 +1,16 @@
 //! Rows of whole lists, a kind each.
+use crate::el_settings_tests::{checked, holds};
 use audio_info::{Info, Sample};
 use el_denote::denote;
-use el_settings::{MadePads, Settings, check};
+use el_settings::{MadePads, Settings};
 use flow_model::ElementFault;
+use gst_caps::Caps;
 use gst_item::{Event, Item};
 use gst_time::{Format, Segment};
-use gst_value::{Fixed, List, Prop, Text};
+use gst_value::{Fixed, List};
 use item_letters::{buffer_of, bytes_by, item_of, letter_of};
 use std::alloc::Global;
 use std::fmt::Write;
-use std::process::Abort;
 use std::test::Fail;
 
 /// Each row: the words of an element, behind a `*` the number of pads that links made; the caps that a converter may put out; what is
@@ -174,56 +175,56 @@ fn tell_fault(text: &mut String, fault: &ElementFault) -> Result<(), Fail> {
 /// What the words set an element to; behind a `*` stands the number of pads that links made.
 pub(crate) fn settings_by(alloc: Global, words: &str) -> Result<Settings, Fail> {
     let (words, pads) = words.split_once('*').unwrap_or((words, "0"));
-    let (kind, rest) = words.split_once(' ').unwrap_or((words, ""));
-    let mut props = List::new(alloc);
-    for word in rest.split(' ') {
-        if let Some((name, value)) = word.split_once('=') {
-            let name = Text::from_str(alloc, name)?;
-            let value = Text::from_str(alloc, value)?;
-            props.push(alloc, Prop { name, value })?;
-        }
-    }
-    let Ok(mut settings) = check(alloc, kind, &props) else {
+    let Ok(mut settings) = checked(alloc, words)? else {
         return Err("words of an element")?;
     };
     settings.set_pads(MadePads::of(pads.parse::<usize>().unwrap_or(0)));
     Ok(settings)
 }
 
-/// What an element owes for lists of items, one for each sink pad.
-fn owed(alloc: Global, words: &str, allowed: &str, given: &str) -> Result<String, Fail> {
-    let settings = settings_by(alloc, words)?;
-    let mut text = String::new(alloc);
-    let allowed = caps_text::parse(alloc, allowed)?;
+/// The items that are given to each sink pad.
+fn inputs_by(alloc: Global, given: &str) -> Result<List<List<Item>>, Fail> {
     let mut inputs = List::new(alloc);
     for items in given.split(" , ") {
         inputs.push(alloc, items_by(alloc, items)?)?;
     }
+    Ok(inputs)
+}
+
+/// What an element owes for lists of items, one for each sink pad.
+fn owed(
+    alloc: Global,
+    settings: &Settings,
+    allowed: &Caps,
+    inputs: &List<List<Item>>,
+) -> Result<String, Fail> {
+    let mut text = String::new(alloc);
     let pads = settings.sink_pads();
     if pads == 0 || inputs.as_slice().len() != pads as usize {
         return Ok(text);
     }
-    match denote(alloc, &settings, settings.source_pads(), &allowed, &inputs) {
+    match denote(alloc, settings, settings.source_pads(), allowed, inputs) {
         Ok(outputs) => tell_lists(&mut text, &outputs)?,
         Err(fault) => tell_fault(&mut text, &fault)?,
     }
     Ok(text)
 }
 
-fn check_row(rt: &impl Abort, alloc: Global, row: &str) -> Result<(), Fail> {
-    let (left, wanted) = row.split_once(" =>").ok_or("a row")?;
-    let (words, rest) = left.split_once(" | ").ok_or("an element")?;
-    let (allowed, given) = rest.split_once(" | ").ok_or("caps")?;
-    let text = owed(alloc, words, allowed, given)?;
-    assert!(rt; text.as_str() == wanted, "{left}: {text}");
-    Ok(())
+/// What is told of a row.
+fn told(alloc: Global, row: &str) -> Result<String, Fail> {
+    let (words, rest) = row.split_once(" | ").unwrap_or((row, ""));
+    let (allowed, given) = rest.split_once(" | ").unwrap_or((rest, ""));
+    let settings = settings_by(alloc, words)?;
+    let allowed = caps_text::parse(alloc, allowed)?;
+    owed(alloc, &settings, &allowed, &inputs_by(alloc, given)?)
 }
 
 #[test]
 fn rows_of_kinds(rt: HostRuntime) -> Result<(), Fail> {
     let alloc = rt.alloc();
     for row in ROWS.lines() {
-        check_row(&rt, alloc, row)?;
+        let (left, wanted) = row.split_once(" =>").unwrap_or((row, ""));
+        holds(&rt, row, told(alloc, left)?.as_str() == wanted);
     }
     Ok(())
 }

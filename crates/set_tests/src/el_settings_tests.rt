@@ -5,7 +5,14 @@ use el_src::Ramp;
 use gst_caps::Caps;
 use gst_value::{List, Prop, Text};
 use std::alloc::Global;
+use std::fmt::Write;
+use std::process::Abort;
 use std::test::Fail;
+
+/// A truth of a row.
+pub(crate) fn holds(rt: &impl Abort, row: &str, truth: bool) {
+    assert!(rt; truth, "{row}");
+}
 
 /// A property from a word such as `blocksize=16`.
 fn prop_of(alloc: Global, word: &str) -> Result<Prop, Fail> {
@@ -17,7 +24,7 @@ fn prop_of(alloc: Global, word: &str) -> Result<Prop, Fail> {
 }
 
 /// What the words of an element set it to, or why they are refused.
-fn checked(alloc: Global, words: &str) -> Result<Result<Settings, PropFault>, Fail> {
+pub(crate) fn checked(alloc: Global, words: &str) -> Result<Result<Settings, PropFault>, Fail> {
     let (kind, rest) = words.split_once(' ').unwrap_or((words, ""));
     let mut props = List::new(alloc);
     for word in rest.split(' ') {
@@ -28,52 +35,65 @@ fn checked(alloc: Global, words: &str) -> Result<Result<Settings, PropFault>, Fa
     Ok(check(alloc, kind, &props))
 }
 
-fn shown(alloc: Global, settings: &Settings) -> Result<String, Fail> {
-    match settings {
-        Settings::FileSrc(s) => {
-            Ok(format!(in alloc; "filesrc {} {}", s.location.as_str(), s.blocksize)?)
-        }
-        Settings::RampTestSrc(s) => shown_ramp(alloc, &s.ramp),
-        Settings::Identity => Ok(String::from_str(alloc, "identity")?),
-        Settings::CapsFilter(s) => {
-            let caps = caps_text::print(alloc, &s.caps)?;
-            Ok(format!(in alloc; "capsfilter {}", caps.as_str())?)
-        }
-        Settings::Queue(s) => Ok(format!(in alloc; "queue {} {} {}", s.buffers, s.bytes, s.time)?),
-        Settings::AudioConvert(s) => {
-            let caps = caps_text::print(alloc, &s.allowed)?;
-            Ok(format!(in alloc; "audioconvert {}", caps.as_str())?)
-        }
-        Settings::Law(kind) => Ok(String::from_str(alloc, law_of(*kind))?),
-        Settings::RawAudioParse(info) => {
-            Ok(format!(in alloc; "{} {} {}", info.format.name(), info.rate, info.channels)?)
-        }
-        Settings::AudioBufferSplit(s) => Ok(format!(in alloc; "audiobuffersplit {}", s.frames)?),
-        Settings::WavParse => Ok(String::from_str(alloc, "wavparse")?),
-        Settings::WavEnc => Ok(String::from_str(alloc, "wavenc")?),
-        Settings::Tee(pads) => Ok(format!(in alloc; "tee {}", pads.count())?),
-        Settings::Interleave(pads) => Ok(format!(in alloc; "interleave {}", pads.count())?),
-        Settings::Concat(pads) => Ok(format!(in alloc; "concat {}", pads.count())?),
-        Settings::FileSink(s) => {
-            Ok(format!(in alloc; "filesink {} {}", s.location.as_str(), s.keep_flushed)?)
-        }
-        Settings::FakeSink => Ok(String::from_str(alloc, "fakesink")?),
-    }
-}
-
-fn shown_ramp(alloc: Global, ramp: &Ramp) -> Result<String, Fail> {
+fn put_ramp(into: &mut String, ramp: &Ramp) -> Result<(), Fail> {
     let title = match &ramp.title {
         Some(title) => title.as_str(),
         None => "none",
     };
-    let size = format!(in alloc; "{} {} {}", ramp.buffers, ramp.samples, ramp.rate)?;
-    Ok(format!(in alloc;
-        "ramp {} {} {} {}",
-        size.as_str(),
-        ramp.channels,
-        ramp.gap_every,
-        title
-    )?)
+    write!(
+        into,
+        "ramp {} {} {} ",
+        ramp.buffers, ramp.samples, ramp.rate
+    )?;
+    write!(into, "{} {} {title}", ramp.channels, ramp.gap_every)?;
+    Ok(())
+}
+
+fn put_caps(alloc: Global, into: &mut String, kind: &str, caps: &Caps) -> Result<(), Fail> {
+    write!(into, "{kind} {}", caps_text::print(alloc, caps)?.as_str())?;
+    Ok(())
+}
+
+/// Puts what a source, a sink, a queue, or an element of several pads is set to.
+fn put_end(into: &mut String, settings: &Settings) -> Result<(), Fail> {
+    match settings {
+        Settings::FileSrc(s) => write!(into, "filesrc {} {}", s.location.as_str(), s.blocksize)?,
+        Settings::RampTestSrc(s) => put_ramp(into, &s.ramp)?,
+        Settings::Queue(s) => write!(into, "queue {} {} {}", s.buffers, s.bytes, s.time)?,
+        Settings::Tee(pads) => write!(into, "tee {}", pads.count())?,
+        Settings::Interleave(pads) => write!(into, "interleave {}", pads.count())?,
+        Settings::Concat(pads) => write!(into, "concat {}", pads.count())?,
+        Settings::FileSink(s) => {
+            write!(into, "filesink {} {}", s.location.as_str(), s.keep_flushed)?;
+        }
+        Settings::FakeSink => into.push_str("fakesink")?,
+        _ => into.push_str("?")?,
+    }
+    Ok(())
+}
+
+/// Puts what an element is set to.
+fn put_settings(alloc: Global, into: &mut String, settings: &Settings) -> Result<(), Fail> {
+    match settings {
+        Settings::Identity => into.push_str("identity")?,
+        Settings::CapsFilter(s) => put_caps(alloc, into, "capsfilter", &s.caps)?,
+        Settings::AudioConvert(s) => put_caps(alloc, into, "audioconvert", &s.allowed)?,
+        Settings::Law(kind) => into.push_str(law_of(*kind))?,
+        Settings::RawAudioParse(info) => {
+            write!(
+                into,
+                "{} {} {}",
+                info.format.name(),
+                info.rate,
+                info.channels
+            )?;
+        }
+        Settings::AudioBufferSplit(s) => write!(into, "audiobuffersplit {}", s.frames)?,
+        Settings::WavParse => into.push_str("wavparse")?,
+        Settings::WavEnc => into.push_str("wavenc")?,
+        _ => put_end(into, settings)?,
+    }
+    Ok(())
 }
 
 fn law_of(kind: LawKind) -> &'static str {
@@ -85,16 +105,23 @@ fn law_of(kind: LawKind) -> &'static str {
     }
 }
 
-fn answer_of(alloc: Global, words: &str) -> Result<String, Fail> {
-    match checked(alloc, words)? {
-        Ok(settings) => shown(alloc, &settings.copy(alloc)?),
-        Err(PropFault::NoSuchKind) => Ok(String::from_str(alloc, "NoSuchKind")?),
-        Err(PropFault::NoSuchProperty { name }) => {
-            Ok(format!(in alloc; "NoSuchProperty {}", name.as_str())?)
-        }
-        Err(PropFault::BadValue { name }) => Ok(format!(in alloc; "BadValue {}", name.as_str())?),
-        Err(PropFault::OutOfMemory) => Ok(String::from_str(alloc, "OutOfMemory")?),
+fn put_refusal(into: &mut String, fault: &PropFault) -> Result<(), Fail> {
+    match fault {
+        PropFault::NoSuchKind => into.push_str("NoSuchKind")?,
+        PropFault::NoSuchProperty { name } => write!(into, "NoSuchProperty {}", name.as_str())?,
+        PropFault::BadValue { name } => write!(into, "BadValue {}", name.as_str())?,
+        PropFault::OutOfMemory => into.push_str("OutOfMemory")?,
     }
+    Ok(())
+}
+
+fn answer_of(alloc: Global, words: &str) -> Result<String, Fail> {
+    let mut text = String::new(alloc);
+    match checked(alloc, words)? {
+        Ok(settings) => put_settings(alloc, &mut text, &settings.copy(alloc)?)?,
+        Err(fault) => put_refusal(&mut text, &fault)?,
+    }
+    Ok(text)
 }
 
 #[test]
@@ -228,15 +255,21 @@ fakesink: 10k";
     Ok(())
 }
 
-#[test]
-fn a_template_is_the_filter(rt: HostRuntime) -> Result<(), Fail> {
-    let alloc = rt.alloc();
+/// The template of a filter of raw audio.
+fn filter_template(alloc: Global) -> Result<Caps, Fail> {
     let settings = Settings::CapsFilter(CapsFilterSettings {
         caps: caps_text::parse(alloc, "audio/x-raw")?,
     });
-    let filter = template(alloc, &settings, true, 0)?;
-    assert_eq!(rt; caps_text::print(alloc, &filter)?.as_str(), "audio/x-raw");
-    assert!(rt; matches!(template(alloc, &Settings::Identity, false, 0)?, Caps::Any));
+    Ok(template(alloc, &settings, true, 0)?)
+}
+
+#[test]
+fn a_template_is_the_filter(rt: HostRuntime) -> Result<(), Fail> {
+    let alloc = rt.alloc();
+    let text = caps_text::print(alloc, &filter_template(alloc)?)?;
+    holds(&rt, text.as_str(), text.as_str() == "audio/x-raw");
+    let whole = template(alloc, &Settings::Identity, false, 0)?;
+    holds(&rt, "an identity", matches!(whole, Caps::Any));
     Ok(())
 }
 
@@ -258,36 +291,23 @@ fn template_text(alloc: Global, words: &str, sink: bool) -> Result<String, Fail>
     Ok(String::from_str(alloc, text.as_str())?)
 }
 
-/// Raw audio of a format, or of a list of them.
-fn raw_text(alloc: Global, formats: &str) -> Result<String, Fail> {
-    Ok(format!(in alloc;
-        "audio/x-raw, channels=(int)[ 1, 64 ], format=(string){}, layout=(string)interleaved, rate=(int)[ 1, 768000 ]",
-        formats
-    )?)
-}
-
 /// The templates that a row names: `r` raw audio, `s` samples of 16 bits, `m` and `a` the laws, `w` a WAV file, `i`
 /// what one is read as, `o` what one is written of, and `*` all caps.
-fn named(alloc: Global, letter: &str) -> Result<String, Fail> {
-    let laws =
-        "audio/x-mulaw, channels=(int)[ 1, 64 ], rate=(int)[ 1, 768000 ]; audio/x-alaw, channels=(int)[ 1, 64 ], rate=(int)[ 1, 768000 ]";
-    let (mulaw, alaw) = laws.split_once("; ").unwrap_or(("", ""));
+fn named(letter: &str) -> &'static str {
     match letter {
-        "r" => raw_text(alloc, "{ S8, U8, S16LE, S16BE, S24LE, S32LE }"),
-        "s" => raw_text(alloc, "S16LE"),
-        "m" => Ok(String::from_str(alloc, mulaw)?),
-        "a" => Ok(String::from_str(alloc, alaw)?),
-        "w" => Ok(String::from_str(alloc, "audio/x-wav")?),
-        "i" => {
-            let raw = raw_text(alloc, "{ S8, U8, S16LE, S16BE, S24LE, S32LE }")?;
-            Ok(format!(in alloc; "{}; {}", raw.as_str(), laws)?)
-        }
-        "o" => {
-            let raw = raw_text(alloc, "{ U8, S16LE, S24LE, S32LE }")?;
-            Ok(format!(in alloc; "{}; {}", raw.as_str(), laws)?)
-        }
-        "*" => Ok(String::from_str(alloc, "ANY")?),
-        _ => Ok(String::new(alloc)),
+        "r" =>
+            "audio/x-raw, channels=(int)[ 1, 64 ], format=(string){ S8, U8, S16LE, S16BE, S24LE, S32LE }, layout=(string)interleaved, rate=(int)[ 1, 768000 ]",
+        "s" =>
+            "audio/x-raw, channels=(int)[ 1, 64 ], format=(string)S16LE, layout=(string)interleaved, rate=(int)[ 1, 768000 ]",
+        "m" => "audio/x-mulaw, channels=(int)[ 1, 64 ], rate=(int)[ 1, 768000 ]",
+        "a" => "audio/x-alaw, channels=(int)[ 1, 64 ], rate=(int)[ 1, 768000 ]",
+        "w" => "audio/x-wav",
+        "i" =>
+            "audio/x-raw, channels=(int)[ 1, 64 ], format=(string){ S8, U8, S16LE, S16BE, S24LE, S32LE }, layout=(string)interleaved, rate=(int)[ 1, 768000 ]; audio/x-mulaw, channels=(int)[ 1, 64 ], rate=(int)[ 1, 768000 ]; audio/x-alaw, channels=(int)[ 1, 64 ], rate=(int)[ 1, 768000 ]",
+        "o" =>
+            "audio/x-raw, channels=(int)[ 1, 64 ], format=(string){ U8, S16LE, S24LE, S32LE }, layout=(string)interleaved, rate=(int)[ 1, 768000 ]; audio/x-mulaw, channels=(int)[ 1, 64 ], rate=(int)[ 1, 768000 ]; audio/x-alaw, channels=(int)[ 1, 64 ], rate=(int)[ 1, 768000 ]",
+        "*" => "ANY",
+        _ => "",
     }
 }
 
@@ -311,14 +331,10 @@ fakesink:*:-";
     for row in rows.lines() {
         let (words, pads) = row.split_once(":").unwrap_or((row, ""));
         let (sink, source) = pads.split_once(":").unwrap_or((pads, ""));
-        assert_eq!(rt;
-            template_text(alloc, words, true)?.as_str(),
-            named(alloc, sink)?.as_str()
-        );
-        assert_eq!(rt;
-            template_text(alloc, words, false)?.as_str(),
-            named(alloc, source)?.as_str()
-        );
+        let text = template_text(alloc, words, true)?;
+        holds(&rt, row, text.as_str() == named(sink));
+        let text = template_text(alloc, words, false)?;
+        holds(&rt, row, text.as_str() == named(source));
     }
     Ok(())
 }

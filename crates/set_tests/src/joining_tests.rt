@@ -1,12 +1,12 @@
 //! Rows of elements with several sink pads, which are fed as they want.
 use crate::denoting_tests::{items_by, settings_by, tell_item};
+use crate::el_settings_tests::holds;
 use gst_item::{Item, Outs};
 use gst_outside::MemSink;
 use gst_value::{List, Text};
 use net_model::TaskElement;
 use std::alloc::Global;
 use std::collections::VecDeque;
-use std::process::Abort;
 use std::test::Fail;
 use task_elements::element_of;
 
@@ -81,36 +81,29 @@ fn fed<E: TaskElement>(
     Ok(text)
 }
 
-fn joined(alloc: Global, words: &str, left: &str, right: &str) -> Result<String, Fail> {
+/// A file without room.
+pub(crate) fn output(alloc: Global, room: usize) -> Result<MemSink, Fail> {
+    let location = Text::from_str(alloc, "out")?;
+    Ok(MemSink::new(alloc, location, room, List::new(alloc), List::new(alloc))?)
+}
+
+fn joined(alloc: Global, words: &str, given: &str) -> Result<String, Fail> {
+    let (left, right) = given.split_once(" | ").unwrap_or((given, ""));
     let settings = settings_by(alloc, words)?;
     let mut inputs = inputs_by(alloc, left, right)?;
-    let file = MemSink::new(
-        alloc,
-        Text::from_str(alloc, "out")?,
-        0,
-        List::new(alloc),
-        List::new(alloc),
-    )?;
-    match element_of(alloc, &settings, Some(file))? {
+    match element_of(alloc, &settings, Some(output(alloc, 0)?))? {
         Some(mut element) => fed(alloc, &mut element, &mut inputs),
         None => Ok(String::new(alloc)),
     }
-}
-
-fn check_row(rt: &impl Abort, alloc: Global, row: &str) -> Result<(), Fail> {
-    let (left, wanted) = row.split_once(" =>").ok_or("a row")?;
-    let (words, rest) = left.split_once(" | ").ok_or("an element")?;
-    let (first, second) = rest.split_once(" | ").ok_or("two pads")?;
-    let text = joined(alloc, words, first, second)?;
-    assert!(rt; text.as_str() == wanted, "{left}: {text}");
-    Ok(())
 }
 
 #[test]
 fn rows_of_joins(rt: HostRuntime) -> Result<(), Fail> {
     let alloc = rt.alloc();
     for row in ROWS.lines() {
-        check_row(&rt, alloc, row)?;
+        let (left, wanted) = row.split_once(" =>").unwrap_or((row, ""));
+        let (words, given) = left.split_once(" | ").unwrap_or((left, ""));
+        holds(&rt, row, joined(alloc, words, given)?.as_str() == wanted);
     }
     Ok(())
 }
