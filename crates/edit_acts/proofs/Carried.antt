@@ -27,7 +27,7 @@ use Rattle.graph_edits.specs.declared.graph.EditedGraph.{EditedGraph}
 use Rattle.graph_pads.specs.Links.{sink_behind, source_before}
 use Rattle.graph_pads.specs.declared.pad.Direction.TheVariants.{Source}
 use Rattle.graph_pads.specs.declared.pad.PadPlace.{PadPlace}
-use Rattle.run_report.specs.declared.report.Answer.TheVariants.{Done}
+use Rattle.script_text.specs.declared.answer.Answer.TheVariants.{Done}
 use Rattle.edit_model.specs.Edited.{Edited, link_between, linked_at, relinked_at, spans_at, touches, unlinked_at}
 use Rattle.edit_model.specs.Growing.{StandsOnlyFrom}
 use Rattle.edit_model.specs.Lawful.{IsAnswered, command}

@@ -14,7 +14,7 @@ use Rattle.graph_edits.specs.Graph.{IsEdited}
 use Rattle.graph_edits.specs.declared.graph.EditedGraph.{EditedGraph}
 use Rattle.graph_pads.specs.Links.{sink_behind, source_before}
 use Rattle.graph_pads.specs.declared.pad.PadPlace.{PadPlace}
-use Rattle.run_report.specs.declared.report.Answer.TheVariants.{Done}
+use Rattle.script_text.specs.declared.answer.Answer.TheVariants.{Done}
 use Rattle.script_text.specs.declared.command.Act.{Act}
 use Rattle.edit_model.specs.Edited.{Edited, unlinked_at}
 use Rattle.edit_model.specs.Lawful.{IsAnswered, command}

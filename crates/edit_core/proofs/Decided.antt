@@ -12,10 +12,10 @@ use Rattle.gst_value.specs.declared.name.PadName.{PadName}
 use Rattle.graph_pads.specs.declared.pad.Direction.TheVariants.{Sink, Source}
 use Rattle.graph_pads.specs.declared.pad.PadPlace.{PadPlace}
 use Rattle.gst_value.proofs.Basics.{and_left, some_same}
-use Rattle.run_report.specs.declared.report.Answer.TheVariants.{Done, Refused, Unreached}
-use Rattle.run_report.specs.declared.report.Place.{Place}
-use Rattle.run_report.specs.declared.report.Reason.{Reason}
-use Rattle.run_report.specs.declared.report.Reason.TheVariants.{NoSuch}
+use Rattle.script_text.specs.declared.answer.Answer.TheVariants.{Done, Refused, Unreached}
+use Rattle.script_text.specs.declared.answer.Place.{Place}
+use Rattle.script_text.specs.declared.answer.Reason.{Reason}
+use Rattle.script_text.specs.declared.answer.Reason.TheVariants.{NoSuch}
 use Rattle.script_text.specs.declared.command.Act.{Act}
 use Rattle.script_text.specs.declared.command.Act.TheVariants as Acts
 use Rattle.script_text.specs.declared.command.Command.{Command}

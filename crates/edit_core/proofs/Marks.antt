@@ -11,7 +11,7 @@ use Rattle.graph_pads.specs.declared.pad.PadLink.{PadLink}
 use Rattle.graph_pads.specs.declared.pad.PadPlace.{PadPlace}
 use Rattle.gst_value.proofs.Basics.{none_some, some_same}
 use Rattle.net_groups.specs.Splits.{HaveNoMarks}
-use Rattle.run_report.specs.declared.report.Answer.{Answer}
+use Rattle.script_text.specs.declared.answer.Answer.{Answer}
 use Rattle.script_text.specs.declared.command.Act.{Act}
 use Rattle.script_text.specs.declared.command.Command.{Command}
 use Rattle.edit_model.specs.Edited.{Edited}

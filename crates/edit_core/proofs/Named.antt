@@ -31,7 +31,7 @@ use Rattle.graph_pads.specs.Pads.{pad_text}
 use Rattle.graph_pads.specs.declared.pad.Direction.TheVariants.{Source}
 use Rattle.graph_pads.specs.declared.pad.PadLink.{PadLink}
 use Rattle.graph_pads.specs.declared.pad.PadPlace.{PadPlace}
-use Rattle.run_report.specs.declared.report.Answer.{Answer}
+use Rattle.script_text.specs.declared.answer.Answer.{Answer}
 use Rattle.script_text.specs.declared.command.Act.{Act}
 use Rattle.script_text.specs.declared.command.Command.{Command}
 use Rattle.script_text.specs.declared.command.When.{When}

@@ -12,11 +12,11 @@ use Rattle.graph_pads.specs.declared.pad.Direction.TheVariants.{Sink}
 use Rattle.graph_pads.specs.declared.pad.PadPlace.{PadPlace}
 use Rattle.gst_value.specs.declared.name.PadName.{PadName}
 use Rattle.gst_value.specs.declared.name.Prop.{Prop}
-use Rattle.run_report.specs.declared.report.Answer.{Answer}
-use Rattle.run_report.specs.declared.report.Answer.TheVariants.{Done, Refused, Unreached}
-use Rattle.run_report.specs.declared.report.Place.{Place}
-use Rattle.run_report.specs.declared.report.Reason.{Reason}
-use Rattle.run_report.specs.declared.report.Reason.TheVariants as reasons
+use Rattle.script_text.specs.declared.answer.Answer.{Answer}
+use Rattle.script_text.specs.declared.answer.Answer.TheVariants.{Done, Refused, Unreached}
+use Rattle.script_text.specs.declared.answer.Place.{Place}
+use Rattle.script_text.specs.declared.answer.Reason.{Reason}
+use Rattle.script_text.specs.declared.answer.Reason.TheVariants as reasons
 use Rattle.script_text.specs.declared.command.Act.{Act}
 use Rattle.script_text.specs.declared.command.Act.TheVariants as acts
 use Rattle.script_text.specs.declared.command.Command.{Command}

@@ -5,7 +5,7 @@ use Rattle.flow_model.specs.Link.{Span}
 use Rattle.graph_core.specs.Elements.{Made}
 use Rattle.graph_pads.specs.declared.pad.PadLink.{PadLink}
 use Rattle.net_groups.specs.Splits.{HaveNoMarks}
-use Rattle.run_report.specs.declared.report.Answer.{Answer}
+use Rattle.script_text.specs.declared.answer.Answer.{Answer}
 use Rattle.script_text.specs.declared.command.Command.{Command}
 use Rattle.edit_model.specs.Edited.{Edited, unedited}
 use Rattle.edit_model.specs.Lawful.{IsAnswered}

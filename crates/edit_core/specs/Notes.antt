@@ -21,7 +21,7 @@ use Rattle.graph_pads.specs.declared.pad.Direction.TheVariants.{Source}
 use Rattle.graph_pads.specs.declared.pad.PadLink.{PadLink}
 use Rattle.graph_pads.specs.declared.pad.PadPlace.{PadPlace}
 use Rattle.gst_value.specs.declared.name.PadName.{PadName}
-use Rattle.run_report.specs.declared.report.Answer.{Answer}
+use Rattle.script_text.specs.declared.answer.Answer.{Answer}
 use Rattle.script_text.specs.declared.command.Command.{Command}
 use Rattle.edit_core.specs.Judging.{AreFresh}
 use Rattle.edit_model.specs.Edited.{Edited, unedited}

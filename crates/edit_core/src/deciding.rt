@@ -4,7 +4,7 @@ ghost use Rattle.edit_model.specs.Edited.{Edited};
 ghost use Rattle.edit_model.specs.Lawful.{command, places_at};
 ghost use Rattle.graph_edits.specs.Graph.{IsEdited, IsPad, made};
 ghost use Rattle.net_model.specs.Moment.{Moment};
-ghost use Rattle.run_report.specs.declared.report.Answer.TheVariants.{Refused};
+ghost use Rattle.script_text.specs.declared.answer.Answer.TheVariants.{Refused};
 ghost use Rattle.script_text.specs.declared.command.Act.TheVariants.{Relink, Unlink, Remove};
 ghost use Rattle.script_text.specs.declared.command.When.{When as Whens};
 ghost use Rattle.edit_core.specs.Deciding.{IsReached, IsReachedBy, IsRuled, IsRuledAnyhow, names_its_pad, no_such, reason_of};
@@ -23,8 +23,7 @@ use gst_value::{List, OutOfMemory, PadName};
 use lane_core::{Inlet, Outlet};
 use net_model::{TaskElement, TaskSource};
 use net_task::Task;
-use run_report::{Answer, Place, Reason};
-use script_text::{Act, Command};
+use script_text::{Act, Answer, Command, Place, Reason};
 use std::alloc::Global;
 
 /// What is to be done for a command.

@@ -22,8 +22,8 @@ use Rattle.el_settings.specs.Asked.{sink_pads}
 use Rattle.gst_value.proofs.Basics.{some_same}
 use Rattle.net_model.specs.Standing.{links_from}
 use Rattle.pad_core.specs.Crossing.{has_ended}
-use Rattle.run_report.specs.declared.report.Answer.{Answer}
-use Rattle.run_report.specs.declared.report.Entry.{Entry}
+use Rattle.script_text.specs.declared.answer.Answer.{Answer}
+use Rattle.script_text.specs.declared.answer.Entry.{Entry}
 use Rattle.script_text.specs.declared.command.Act.{Act}
 use Rattle.script_text.specs.declared.command.Command.{Command}
 use Rattle.script_text.specs.declared.command.When.{When}

@@ -2,7 +2,7 @@
 use Rattle.std.proofs.Common.{◌≡◌, ◌⊎◌, ℕ, zero, suc, ◌≤◌, ◌<◌, List, [], ◌∷◌, ◌++◌, Some, drop, length, refl, sym, ap, subst, inl, inr, arith, slice_get}
 use Rattle.flow_model.specs.Item.{Item}
 use Rattle.gst_value.proofs.Basics.{some_same}
-use Rattle.run_report.specs.declared.report.Entry.{Entry}
+use Rattle.script_text.specs.declared.answer.Entry.{Entry}
 use Rattle.script_text.specs.declared.command.Command.{Command}
 use Rattle.edit_model.specs.Edited.{Edited}
 use Rattle.edit_model.specs.Growing.{FallsNowhere, OneMoreEntry}

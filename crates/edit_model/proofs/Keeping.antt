@@ -18,8 +18,8 @@ use Rattle.gst_value.proofs.Basics.{number_itself, some_same}
 use Rattle.el_settings.specs.Asked.{sink_pads}
 use Rattle.net_model.specs.Edit.{push_span, undo}
 use Rattle.net_model.specs.Standing.{AllStanding, Standing, is_linked, links_from}
-use Rattle.run_report.specs.declared.report.Answer.{Answer}
-use Rattle.run_report.specs.declared.report.Entry.{Entry}
+use Rattle.script_text.specs.declared.answer.Answer.{Answer}
+use Rattle.script_text.specs.declared.answer.Entry.{Entry}
 use Rattle.script_text.specs.declared.command.Act.{Act}
 use Rattle.script_text.specs.declared.command.Command.{Command}
 use Rattle.script_text.specs.declared.command.When.{When}

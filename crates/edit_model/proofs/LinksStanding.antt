@@ -30,8 +30,8 @@ use Rattle.el_settings.specs.Asked.{sink_pads}
 use Rattle.el_settings.proofs.Padded.{few_sources}
 use Rattle.net_model.specs.Edit.{push_span, undo}
 use Rattle.net_model.specs.Standing.{is_linked, links_from}
-use Rattle.run_report.specs.declared.report.Answer.{Answer}
-use Rattle.run_report.specs.declared.report.Entry.{Entry}
+use Rattle.script_text.specs.declared.answer.Answer.{Answer}
+use Rattle.script_text.specs.declared.answer.Entry.{Entry}
 use Rattle.script_text.specs.declared.command.Act.{Act}
 use Rattle.script_text.specs.declared.command.Command.{Command}
 use Rattle.script_text.specs.declared.command.When.{When}

@@ -8,9 +8,9 @@ use Rattle.flow_model.proofs.Prefixes.{prefix_length, prefix_of_drop, prefix_ref
 use Rattle.graph_core.specs.GraphPlan.{owner_of, pad_id}
 use Rattle.graph_pads.specs.declared.pad.PadPlace.{PadPlace}
 use Rattle.pad_core.specs.Crossing.{has_ended}
-use Rattle.run_report.specs.declared.report.Answer.{Answer}
-use Rattle.run_report.specs.declared.report.Entry.{Entry}
-use Rattle.run_report.specs.declared.report.Reason.{Reason}
+use Rattle.script_text.specs.declared.answer.Answer.{Answer}
+use Rattle.script_text.specs.declared.answer.Entry.{Entry}
+use Rattle.script_text.specs.declared.answer.Reason.{Reason}
 use Rattle.script_text.specs.declared.command.Act.{Act}
 use Rattle.script_text.specs.declared.command.Command.{Command}
 use Rattle.script_text.specs.declared.command.When.{When}

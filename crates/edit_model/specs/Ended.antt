@@ -13,8 +13,8 @@ use Rattle.graph_pads.specs.Links.{sink_behind, source_before}
 use Rattle.graph_pads.specs.declared.pad.PadLink.{PadLink}
 use Rattle.graph_pads.specs.declared.pad.PadPlace.{PadPlace}
 use Rattle.pad_core.specs.Crossing.{has_ended}
-use Rattle.run_report.specs.declared.report.Answer.{Answer}
-use Rattle.run_report.specs.declared.report.Entry.{Entry}
+use Rattle.script_text.specs.declared.answer.Answer.{Answer}
+use Rattle.script_text.specs.declared.answer.Entry.{Entry}
 use Rattle.script_text.specs.declared.command.Command.{Command}
 use Rattle.edit_model.specs.Edited.{Edited, is_ended, spans_at, unedited}
 use Rattle.edit_model.specs.Growing.{GrowsTo, IsKept, LinksStand}

@@ -18,12 +18,12 @@ use Rattle.graph_pads.specs.Links.{sink_behind}
 use Rattle.graph_pads.specs.Pads.{pad_at}
 use Rattle.graph_pads.specs.declared.pad.Direction.TheVariants.{Source, Sink}
 use Rattle.graph_pads.specs.declared.pad.PadPlace.{PadPlace}
-use Rattle.run_report.specs.declared.report.Answer.{Answer}
-use Rattle.run_report.specs.declared.report.Answer.TheVariants.{Done, Unreached, Refused}
-use Rattle.run_report.specs.declared.report.Entry.{Entry}
-use Rattle.run_report.specs.declared.report.Place.{Place}
-use Rattle.run_report.specs.declared.report.Reason.{Reason}
-use Rattle.run_report.specs.declared.report.Reason.TheVariants.{NoSuch, BadValue, NameTaken, LocationTaken, TooMany, NotPlain, AfterEos, WasLinked, WouldLoop, FedElsewhere, NoFormat}
+use Rattle.script_text.specs.declared.answer.Answer.{Answer}
+use Rattle.script_text.specs.declared.answer.Answer.TheVariants.{Done, Unreached, Refused}
+use Rattle.script_text.specs.declared.answer.Entry.{Entry}
+use Rattle.script_text.specs.declared.answer.Place.{Place}
+use Rattle.script_text.specs.declared.answer.Reason.{Reason}
+use Rattle.script_text.specs.declared.answer.Reason.TheVariants.{NoSuch, BadValue, NameTaken, LocationTaken, TooMany, NotPlain, AfterEos, WasLinked, WouldLoop, FedElsewhere, NoFormat}
 use Rattle.script_text.specs.declared.command.Act.{Act}
 use Rattle.script_text.specs.declared.command.Act.TheVariants.{Relink, Unlink, Add, Remove}
 use Rattle.script_text.specs.declared.command.Command.{Command}

@@ -1,11 +1,11 @@
 -- Opening commands: those before which no command waits for a buffer. They are answered before anything crosses a pad.
 use Rattle.std.specs.Prelude.{◌≡◌, ◌<◌, ℕ, suc, Bool, true, false, All, List, [], ◌∷◌, if◌then◌else◌, Some, slice_get}
-use Rattle.run_report.specs.declared.report.Answer.{Answer}
-use Rattle.run_report.specs.declared.report.Answer.TheVariants.{Done, Unreached, Refused}
-use Rattle.run_report.specs.declared.report.Entry.{Entry}
-use Rattle.run_report.specs.declared.report.Place.{Place}
-use Rattle.run_report.specs.declared.report.Reason.{Reason}
-use Rattle.run_report.specs.declared.report.Reason.TheVariants.{AfterEos, FedElsewhere}
+use Rattle.script_text.specs.declared.answer.Answer.{Answer}
+use Rattle.script_text.specs.declared.answer.Answer.TheVariants.{Done, Unreached, Refused}
+use Rattle.script_text.specs.declared.answer.Entry.{Entry}
+use Rattle.script_text.specs.declared.answer.Place.{Place}
+use Rattle.script_text.specs.declared.answer.Reason.{Reason}
+use Rattle.script_text.specs.declared.answer.Reason.TheVariants.{AfterEos, FedElsewhere}
 use Rattle.script_text.specs.declared.command.Act.{Act}
 use Rattle.script_text.specs.declared.command.Act.TheVariants.{Relink, Unlink, Add, Remove}
 use Rattle.script_text.specs.declared.command.Command.{Command}

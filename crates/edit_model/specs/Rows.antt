@@ -18,8 +18,8 @@ use Rattle.edit_model.specs.Growing.{AreWithin}
 use Rattle.edit_model.specs.Plans.{edited_plan, items_at}
 use Rattle.edit_model.specs.Lawful.{IsAnswered, IsAtBuffer, owed_by}
 use Rattle.edit_model.specs.Refused.{IsAfterEos, IsFedElsewhere, Loops}
-use Rattle.run_report.specs.declared.report.Answer.{Answer}
-use Rattle.run_report.specs.declared.report.Answer.TheVariants.{Done}
+use Rattle.script_text.specs.declared.answer.Answer.{Answer}
+use Rattle.script_text.specs.declared.answer.Answer.TheVariants.{Done}
 use Rattle.script_text.specs.declared.command.Act.TheVariants.{Relink}
 use Rattle.script_text.specs.declared.command.Command.{Command}
 use Rattle.script_text.specs.declared.command.When.TheVariants.{At, NowPad}

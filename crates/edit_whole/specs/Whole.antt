@@ -14,7 +14,7 @@ use Rattle.graph_core.specs.GraphPlan.{IsIn, owner_of, pad_id}
 use Rattle.graph_core.specs.Links.{HasPads}
 use Rattle.graph_pads.specs.declared.pad.PadLink.{PadLink}
 use Rattle.graph_parts.specs.Pads.{is_pad}
-use Rattle.run_report.specs.declared.report.Answer.{Answer}
+use Rattle.script_text.specs.declared.answer.Answer.{Answer}
 use Rattle.script_text.specs.declared.command.Command.{Command}
 use Rattle.edit_model.specs.Edited.{Edited, unedited}
 use Rattle.edit_model.specs.Lawful.{IsAnswered, owed_by}

@@ -5,7 +5,7 @@ use gst_value::{List, OutOfMemory, PadName, Text};
 use launch_text::LineKind;
 use pad_core::LinkReturn;
 use run_report::*;
-use script_text::ScriptKind;
+use script_text::{Answer, Entry, Place, Reason, ScriptKind};
 use std::alloc::Global;
 use std::test::Fail;
 

@@ -2,7 +2,7 @@
 use Rattle.std.proofs.Common.{◌≡◌, ℕ, ◌+◌, ◌<◌, List, [], ◌∷◌, ◌++◌, length, take, get_or, append_assoc, append-nil, add-zero, ap, arith, ◌∙◌, sym, refl}
 use Rattle.std.proofs.lemmas.List.{take_more, length-take}
 use Rattle.run_report.specs.CountLines.{entry_line, entry_lines}
-use Rattle.run_report.specs.declared.report.Entry.{Entry}
+use Rattle.script_text.specs.declared.answer.Entry.{Entry}
 
 pub entry_lines_more : (k : ℕ) (xs : List Entry) (x : Entry) → entry_lines k (xs ++ x ∷ []) ≡ entry_lines k xs ++ entry_line (k + length xs) x
 entry_lines_more k [] x = rw (append-nil, add-zero) refl

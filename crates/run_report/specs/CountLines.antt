@@ -3,12 +3,12 @@ use Rattle.std.specs.Prelude.{ℕ, ◌+◌, List, [], ◌∷◌, ◌++◌, codes
 use Rattle.std.specs.Fmt.{decimal}
 use Rattle.run_report.specs.Names.{reason_name}
 use Rattle.run_report.specs.Pads.{newline, pad_text, place_text}
-use Rattle.run_report.specs.declared.report.Answer.{Answer}
-use Rattle.run_report.specs.declared.report.Answer.TheVariants.{Done, Unreached, Refused}
-use Rattle.run_report.specs.declared.report.Entry.{Entry}
+use Rattle.script_text.specs.declared.answer.Answer.{Answer}
+use Rattle.script_text.specs.declared.answer.Answer.TheVariants.{Done, Unreached, Refused}
+use Rattle.script_text.specs.declared.answer.Entry.{Entry}
 use Rattle.run_report.specs.declared.report.PadCount.{PadCount}
-use Rattle.run_report.specs.declared.report.Reason.{Reason}
-use Rattle.run_report.specs.declared.report.Reason.TheVariants.{TooMany}
+use Rattle.script_text.specs.declared.answer.Reason.{Reason}
+use Rattle.script_text.specs.declared.answer.Reason.TheVariants.{TooMany}
 use Rattle.run_report.specs.declared.report.Report.{Report}
 use Rattle.run_report.specs.declared.report.SinkCount.{SinkCount}
 

@@ -8,8 +8,8 @@ use Rattle.script_text.specs.declared.fault.ScriptKind.{ScriptKind}
 use Rattle.script_text.specs.declared.fault.ScriptKind.TheVariants.{NotText, TooLong as LongScript, BadWhen, BadNumber, BadAct, NeedsPad, StrayPad, Backwards, AtInPause, EndsPaused}
 use Rattle.run_report.specs.declared.report.Fault.{Fault}
 use Rattle.run_report.specs.declared.report.Fault.TheVariants.{NoSuch, BadValue, NameTaken, LocationTaken, TooMany}
-use Rattle.run_report.specs.declared.report.Reason.{Reason}
-use Rattle.run_report.specs.declared.report.Reason.TheVariants.{NoSuch as Missing, BadValue as WrongValue, NameTaken as SameName, LocationTaken as SameLocation, TooMany as Limit, NotPeer, NotPlain, AfterEos, WasLinked, WouldLoop, FedElsewhere, NoFormat, NotReady, NotSeekable, BeyondEnd}
+use Rattle.script_text.specs.declared.answer.Reason.{Reason}
+use Rattle.script_text.specs.declared.answer.Reason.TheVariants.{NoSuch as Missing, BadValue as WrongValue, NameTaken as SameName, LocationTaken as SameLocation, TooMany as Limit, NotPeer, NotPlain, AfterEos, WasLinked, WouldLoop, FedElsewhere, NoFormat, NotReady, NotSeekable, BeyondEnd}
 use Rattle.graph_core.specs.declared.fault.What.{What}
 use Rattle.graph_core.specs.declared.fault.What.TheVariants.{Kind, Property, Element, Pad, SrcPad, SinkPad, Order}
 

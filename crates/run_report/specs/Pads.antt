@@ -2,7 +2,7 @@
 use Rattle.std.specs.Prelude.{ℕ, List, [], ◌∷◌, ◌++◌, codes}
 use Rattle.std.specs.Fmt.{decimal}
 use Rattle.gst_value.specs.declared.name.PadName.{PadName}
-use Rattle.run_report.specs.declared.report.Place.{Place}
+use Rattle.script_text.specs.declared.answer.Place.{Place}
 
 abbrev pub newline : List ℕ
 newline = 10 ∷ []

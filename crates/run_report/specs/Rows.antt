@@ -13,14 +13,14 @@ use Rattle.pad_core.specs.declared.linking.LinkReturn.TheVariants.{WasLinked}
 use Rattle.script_text.specs.declared.fault.ScriptKind.TheVariants.{BadNumber}
 use Rattle.run_report.specs.Pads.{newline}
 use Rattle.run_report.specs.ReportText.{report_lines}
-use Rattle.run_report.specs.declared.report.Answer.TheVariants.{Done, Unreached, Refused}
-use Rattle.run_report.specs.declared.report.Answer.{Answer}
-use Rattle.run_report.specs.declared.report.Entry.{Entry}
+use Rattle.script_text.specs.declared.answer.Answer.TheVariants.{Done, Unreached, Refused}
+use Rattle.script_text.specs.declared.answer.Answer.{Answer}
+use Rattle.script_text.specs.declared.answer.Entry.{Entry}
 use Rattle.run_report.specs.declared.report.Fault.TheVariants.{Nothing, Words, NoLine, BothLines, BadLine, NoSuch, BadValue, NameTaken, LocationTaken, TooMany, LinkRefused, BadScript, OpenFault, ReadFault, WriteFault, BadStream, NotNegotiated, NotLinked, Stalled, TooLong}
 use Rattle.run_report.specs.declared.report.Fault.{Fault}
 use Rattle.run_report.specs.declared.report.PadCount.{PadCount}
-use Rattle.run_report.specs.declared.report.Place.{Place}
-use Rattle.run_report.specs.declared.report.Reason.TheVariants.{TooMany as Limit, AfterEos, NotReady}
+use Rattle.script_text.specs.declared.answer.Place.{Place}
+use Rattle.script_text.specs.declared.answer.Reason.TheVariants.{TooMany as Limit, AfterEos, NotReady}
 use Rattle.run_report.specs.declared.report.Report.{Report}
 use Rattle.run_report.specs.declared.report.StallReason.TheVariants.{NeedsItem, NeedsRoom, AtProbe, Held, Ended}
 use Rattle.run_report.specs.declared.report.StallReason.{StallReason}

@@ -6,8 +6,9 @@ ghost use Rattle.run_report.specs.Names.{reason_name};
 ghost use Rattle.run_report.specs.Pads.{place_text};
 
 use crate::names::reason_name;
-use crate::report::{Answer, Entry, PadCount, Place, Reason, Report, SinkCount};
+use crate::report::{PadCount, Report, SinkCount};
 use gst_value::{List, OutOfMemory};
+use script_text::{Answer, Entry, Place, Reason};
 use std::fmt::Write;
 
 /// Writes the lines of the commands, then those of the pads, then those of the sinks.

@@ -9,8 +9,6 @@ mod rows;
 mod text;
 
 pub use graph_core::What;
-pub use report::{
-    Answer, Entry, Fault, PadCount, Place, Reason, Report, SinkCount, StallReason, StalledTask,
-};
+pub use report::{Fault, PadCount, Report, SinkCount, StallReason, StalledTask};
 pub use rows::{flow_rows, line_rows, run_rows, stall_rows};
 pub use text::{NO_MEMORY, no_memory, report_text};

@@ -2,11 +2,11 @@
 ghost use Rattle.std.specs.Prelude.{◌≡◌};
 ghost use Rattle.run_report.specs.Names.{line_kind_name, reason_name, refused_name, script_kind_name, status_name, stream_kind_name, what_name};
 
-use crate::report::{Fault, Reason};
+use crate::report::Fault;
 use flow_model::StreamKind;
 use graph_core::What;
 use launch_text::LineKind;
-use script_text::ScriptKind;
+use script_text::{Reason, ScriptKind};
 
 /// The name of a status. That of status 3 is told by the fault.
 pub(crate) fn status_name(status: u8, fault: &Fault) -> &'static str

@@ -25,7 +25,7 @@ use Rattle.net_task.specs.Counted.{received_by}
 use Rattle.net_task.specs.Frame.{frame_of}
 use Rattle.net_task.specs.declared.task.Task.{Task}
 use Rattle.net_turns.specs.Ends.{TellsOver, head_number}
-use Rattle.run_report.specs.declared.report.Place.{Place}
+use Rattle.script_text.specs.declared.answer.Place.{Place}
 use Rattle.run_report.specs.declared.report.StalledTask.{StalledTask}
 use Rattle.task_parts.specs.declared.step.Step.{Step}
 use Rattle.world_core.specs.Stalled.{AreStalledTasks, IsStalled, IsStalledTask, TellsTasks, place_told, places_of, stalled_task}

@@ -22,7 +22,7 @@ use Rattle.net_task.specs.Counted.{received_by}
 use Rattle.net_task.specs.Frame.{frame_of}
 use Rattle.net_task.specs.declared.task.Task.{Task}
 use Rattle.net_turns.specs.Ends.{head_number}
-use Rattle.run_report.specs.declared.report.Place.{Place}
+use Rattle.script_text.specs.declared.answer.Place.{Place}
 use Rattle.run_report.specs.declared.report.StallReason.{StallReason}
 use Rattle.run_report.specs.declared.report.StallReason.TheVariants as reasons
 use Rattle.run_report.specs.declared.report.StalledTask.{StalledTask}

@@ -16,7 +16,8 @@ use gst_value::{List, OutOfMemory};
 use lane_core::{Inlet, Outlet};
 use net_model::{TaskElement, TaskSource};
 use net_task::Task;
-use run_report::{Place, StallReason, StalledTask};
+use run_report::{StallReason, StalledTask};
+use script_text::Place;
 use std::alloc::Global;
 use task_parts::{Head, Step};
 

@@ -1,8 +1,8 @@
 use Rattle.std.proofs.Common.{◌≡◌, Option, None, Some, ap, sym, ◌∙◌, subst}
 use Rattle.graph_pads.specs.declared.pad.Direction.TheVariants.{Sink}
 use Rattle.graph_pads.specs.declared.pad.PadPlace.{PadPlace}
-use Rattle.run_report.specs.declared.report.Answer.TheVariants.{Refused}
-use Rattle.run_report.specs.declared.report.Reason.{Reason}
+use Rattle.script_text.specs.declared.answer.Answer.TheVariants.{Refused}
+use Rattle.script_text.specs.declared.answer.Reason.{Reason}
 use Rattle.script_text.specs.declared.command.Act.TheVariants.{Relink}
 use Rattle.edit_model.specs.Lawful.{IsRefusedFor, command}
 use Rattle.edit_model.specs.Names.{pad_named}

@@ -1,5 +1,5 @@
 use Rattle.std.proofs.Common.{sym, ◌∙◌, subst}
-use Rattle.run_report.specs.declared.report.Reason.TheVariants.{WasLinked}
+use Rattle.script_text.specs.declared.answer.Reason.TheVariants.{WasLinked}
 use Rattle.script_text.specs.declared.command.Act.TheVariants.{Remove}
 use Rattle.edit_model.specs.Lawful.{IsRefusedFor, command}
 use Rattle.edit_model.specs.Names.{source_when}
