@@ -51,6 +51,7 @@ use Rattle.edit_acts.specs.declared.relinking.Prepared.{Prepared}
 use Rattle.edit_acts.proofs.Owned.{fresh}
 use Rattle.edit_acts.proofs.Owing.{owes}
 use Rattle.edit_acts.proofs.Relinks.{may_link, source_named, source_told}
+use Rattle.edit_acts.proofs.SinksStay.{sinks_stay}
 
 pub carry_fault : {A E : Type 0} (r : Result A E) (P Q : E → Type 0) → ((why : E) → P why → Q why) → IfErr r P → IfErr r Q
 carry_fault (Ok a) P Q more is = tt
@@ -170,6 +171,7 @@ module _ {S E I O L : Type 0} {s : sources.Ghosts S} {e : elements.Ghosts E} {i 
       };
       run = r.run;
       pads = pads;
+      sinks = sinks_stay m.history (owed_then m) g (relinked_at source items sink g) (command w.when w.act) (Done w.places) answered w.controlled.sinks;
     };
   }
     where
@@ -198,4 +200,5 @@ has_again {S} {E} {I} {O} {L} {s} {e} {i} {o} graph graph' feeds tasks tasks' g 
       };
       run = w.run;
       pads = w.pads;
+      sinks = w.sinks;
     })

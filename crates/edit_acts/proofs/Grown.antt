@@ -52,23 +52,23 @@ module _ {S E I O L : Type 0} {s : sources.Ghosts S} {e : elements.Ghosts E} {i 
 
   module _ (tasks tasks' : List (Task S E I O L s e i o)) (receiver port : ℕ) (more : List (Feeding I)) (z : IsGrownAt tasks tasks' receiver port more) where
     -- the task of a place as it was, with the same frame: the same, or the one that grew
-    record From (k : ℕ) (is : Task S E I O L s e i o) : Type 0 where
-      was : Task S E I O L s e i o
-      at : slice_get tasks k ≡ Some was
-      frame : frame_of is ≡ frame_of was
-      which : (is ≡ was) ⊎ (k ≡ receiver)
+    pub record From (k : ℕ) (is : Task S E I O L s e i o) : Type 0 where
+      pub was : Task S E I O L s e i o
+      pub at : slice_get tasks k ≡ Some was
+      pub frame : frame_of is ≡ frame_of was
+      pub which : (is ≡ was) ⊎ (k ≡ receiver)
 
-    from : (k : ℕ) (is : Task S E I O L s e i o) → slice_get tasks' k ≡ Some is → From k is
+    pub from : (k : ℕ) (is : Task S E I O L s e i o) → slice_get tasks' k ≡ Some is → From k is
     from = each_set tasks tasks' receiver z.is (λ k t. From k t) (λ k t. From k t) z.set (λ k t at. record { was = t; at = at; frame = refl; which = inl refl }) (λ k t other at y. y)
         (record { was = z.was; at = z.at; frame = grew_frame z.was z.is port more z.grew; which = inr refl })
 
-    record To (k : ℕ) (was : Task S E I O L s e i o) : Type 0 where
-      is : Task S E I O L s e i o
-      at : slice_get tasks' k ≡ Some is
-      frame : frame_of is ≡ frame_of was
-      fed : (head : InletHead I) → was.head ≡ Inlets head → (new : InletHead I) × (is.head ≡ Inlets new)
+    pub record To (k : ℕ) (was : Task S E I O L s e i o) : Type 0 where
+      pub is : Task S E I O L s e i o
+      pub at : slice_get tasks' k ≡ Some is
+      pub frame : frame_of is ≡ frame_of was
+      pub fed : (head : InletHead I) → was.head ≡ Inlets head → (new : InletHead I) × (is.head ≡ Inlets new)
 
-    to : (k : ℕ) (was : Task S E I O L s e i o) → slice_get tasks k ≡ Some was → To k was
+    pub to : (k : ℕ) (was : Task S E I O L s e i o) → slice_get tasks k ≡ Some was → To k was
     to k was at = go (cases_eq k receiver)
       where
         in_list : (t : Task S E I O L s e i o) → slice_get (slice_set tasks receiver z.is) k ≡ Some t → slice_get tasks' k ≡ Some t
@@ -85,7 +85,7 @@ module _ {S E I O L : Type 0} {s : sources.Ghosts S} {e : elements.Ghosts E} {i 
             }
         go (inr other) = record { is = was; at = in_list was (set_there tasks receiver k z.is other ∙ at); frame = refl; fed = λ head is. (head, is) }
 
-    fed_on : (k n : ℕ) → FedAt tasks k n → FedAt tasks' k n
+    pub fed_on : (k n : ℕ) → FedAt tasks k n → FedAt tasks' k n
     fed_on k n f =
         let y = to k f.fed.task f.fed.at in
         let h = y.fed f.head f.fed.head_is in

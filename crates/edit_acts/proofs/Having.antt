@@ -35,7 +35,7 @@ use Rattle.edit_core.specs.Tasks.{number_of_head}
 use Rattle.edit_acts.specs.Ending.{HasLink}
 use Rattle.edit_acts.specs.Undoing.{IsRunWith}
 
-any_in : (f : PadLink → Bool) (links : List PadLink) (link : PadLink) → IsIn link links → f link ≡ true → list_any f links ≡ true
+pub any_in : (f : PadLink → Bool) (links : List PadLink) (link : PadLink) → IsIn link links → f link ≡ true → list_any f links ≡ true
 any_in f [] link is e = absurd is
 any_in f (one ∷ links) link (inl same) e = or_first (f one) (list_any f links) (ap f (sym same) ∙ e)
 any_in f (one ∷ links) link (inr is) e = or_second (f one) (list_any f links) (any_in f links link is e)

@@ -29,3 +29,11 @@ mod Keeps
 mod Carried
 mod Relinks
 mod Apart
+mod Gone
+mod SinksStay
+mod MoreRoom
+mod EosControls
+mod Alone
+mod Others
+mod Without
+mod Members

@@ -57,10 +57,10 @@ free_there i [] low none = absurd (omega arith)
 free_there zero (ss ∷ sinks) low none = none
 free_there (suc i) (ss ∷ sinks) low none = free_there i sinks (omega arith) none
 
-abbrev place_of_number : ℕ → PadPlace
+abbrev pub place_of_number : ℕ → PadPlace
 place_of_number w = record { element = owner_of w; pad = w % 64 }
 
-port_low : (w : ℕ) → w % 64 < 64
+pub port_low : (w : ℕ) → w % 64 < 64
 port_low w = omega arith
 
 module _ {S E I O L : Type 0} {s : sources.Ghosts S} {e : elements.Ghosts E} {i : inlets.Ghosts I L O} {o : outlets.Ghosts O L} (g : Edited) (m : Moment) (tasks : List (Task S E I O L s e i o)) (tells : Option (List Lane))
@@ -72,7 +72,7 @@ module _ {S E I O L : Type 0} {s : sources.Ghosts S} {e : elements.Ghosts E} {i 
       (own_pad m tasks tells run.net x other.task other.at other.has.wire p other.has.is other.has.number_is)
 
   -- where a link of the moment leads, one of the graph does
-  graph_link : (source : PadPlace) (n port : ℕ) → source.pad < 64 → Leads m.plan (pad_id source) n port → is_there g n ≡ true
+  pub graph_link : (source : PadPlace) (n port : ℕ) → source.pad < 64 → Leads m.plan (pad_id source) n port → is_there g n ≡ true
       → (link : PadLink) × IsIn link g.links × (link.source ≡ source) × (link.sink.element ≡ n)
   graph_link source n port low leads there =
       let sink : PadPlace = record { element = n; pad = port } in

@@ -26,7 +26,7 @@ use Rattle.edit_core.proofs.Marks.{all_undone}
 use Rattle.edit_acts.specs.Undoing.{IsRunWith}
 
 -- a link that is left was there
-left : (source : PadPlace) (links : List PadLink) (link : PadLink) → IsIn link (without source links) → IsIn link links
+pub left : (source : PadPlace) (links : List PadLink) (link : PadLink) → IsIn link (without source links) → IsIn link links
 left source [] link is = is
 left source (one ∷ links) link is = go (is_same one.source source) is (left source links link)
   where

@@ -4,3 +4,5 @@ pub mod Linking
 pub mod Over
 pub mod Controlled
 pub mod Relinked
+pub mod Unlinked
+pub mod Removed

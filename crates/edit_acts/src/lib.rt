@@ -6,11 +6,13 @@ pub mod ending;
 pub mod linking;
 pub mod over;
 pub mod relinking;
+pub mod removing;
 pub mod undoing;
 pub mod unlinking;
 
 pub use ending::end;
 pub use linking::{LinkRoom, link, room_to_link};
 pub use relinking::relink;
+pub use removing::remove;
 pub use undoing::{UndoRoom, room_to_undo, undo};
-pub use unlinking::unlink;
+pub use unlinking::{unlink, unlink_eos};

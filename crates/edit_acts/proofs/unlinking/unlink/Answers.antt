@@ -11,9 +11,9 @@ use Rattle.edit_acts.proofs.unlinking.unlink.Goals as goal
 -- a source pad with a link has a number
 pub returns-in_default-clause-run : goal.returns-in_default-clause-run
 returns-in_default-clause-run g c = λ graph m tells w.
-    let low = is_made c.args.graph.now c.args.feeds.now c.args.tasks.now.items graph m tells c.args.source c.args.sink c.args.items w in
+    let low = is_made c.args.graph.now c.args.feeds.now c.args.tasks.now.items graph m tells c.args.source c.args.sink false c.args.items w in
     let there = subst (λ made. c.args.source.element < length made) (sym w.controlled.current.edited.elements) low in
-    let told = c.source_number.ensures.there there (few c.args.graph.now c.args.feeds.now c.args.tasks.now.items graph m tells c.args.source c.args.sink c.args.items w) in
+    let told = c.source_number.ensures.there there (few c.args.graph.now c.args.feeds.now c.args.tasks.now.items graph m tells c.args.source c.args.sink false c.args.items w) in
     absurd (c.in_default.not-Some (pad_id c.args.source) told)
 
 pub returns-clause-run : goal.returns-clause-run
@@ -21,17 +21,17 @@ returns-clause-run g c = λ graph m tells w.
     let number : c.in-Some.pad ≡ pad_id c.args.source = c.in-Some.ensures.number in
     let as_told : IsRunWith graph m c.args.tasks.now.items tells c.in-Some.pad c.args.source =
     subst (λ (p : ℕ). IsRunWith graph m c.args.tasks.now.items tells p c.args.source) (sym number)
-    (run_with c.args.graph.now c.args.feeds.now c.args.tasks.now.items graph m tells c.args.source c.args.sink c.args.items w) in
+    (run_with c.args.graph.now c.args.feeds.now c.args.tasks.now.items graph m tells c.args.source c.args.sink false c.args.items w) in
     let with_room : IsRunWith graph m c.room_to_undo.new.tasks.items tells c.in-Some.pad c.args.source =
     subst (λ (ts : List (Task _ _ _ _ _ _ _ _ _)). IsRunWith graph m ts tells c.in-Some.pad c.args.source) (sym c.in_ok-room.ensures.items) as_told in
     let ran = subst (λ (p : ℕ). IsRun (unlinked_at c.args.source (length (m.history p)) false graph) (unlinked p m) c.undo.new.tasks.items tells) number (c.undo.ensures.run graph m tells c.args.source with_room) in
-    let crossed = items_is c.args.graph.now c.args.feeds.now c.args.tasks.now.items graph m tells c.args.source c.args.sink c.args.items w in
-    let kept = c.undone.ensures graph m.history c.args.source w.controlled.current.feeds_are w.controlled.current.kept number (crossed ∙ ap (λ (p : ℕ). length (m.history p)) (sym number))
-    (link_is c.args.graph.now c.args.feeds.now c.args.tasks.now.items graph m tells c.args.source c.args.sink c.args.items w) in (
+    let crossed = items_is c.args.graph.now c.args.feeds.now c.args.tasks.now.items graph m tells c.args.source c.args.sink false c.args.items w in
+    let kept = c.undo_kept.ensures.feeds graph m.history w.controlled.current.feeds_are w.controlled.current.kept number (crossed ∙ ap (λ (p : ℕ). length (m.history p)) (sym number))
+    (link_is c.args.graph.now c.args.feeds.now c.args.tasks.now.items graph m tells c.args.source c.args.sink false c.args.items w) in (
       refl,
-      is_unlinked c.args.graph.now c.args.feeds.now c.args.tasks.now.items graph m tells c.args.source c.args.sink c.args.items w
-          c.unlink.new.self c.undone.new.self c.undo.new.tasks.items (c.unlink.ensures.edited graph c.args.items w.controlled.current.edited) kept ran,
+      is_unlinked c.args.graph.now c.args.feeds.now c.args.tasks.now.items graph m tells c.args.source c.args.sink false c.args.items w (unlinked (pad_id c.args.source) m) refl refl
+          c.undo_kept.new.graph c.undo_kept.new.feeds c.undo.new.tasks.items (c.undo_kept.ensures.graph graph w.controlled.current.edited) kept ran,
     )
 
 pub returns-clause-graph : goal.returns-clause-graph
-returns-clause-graph g c = λ done graph edited. c.unlink.ensures.edited graph c.args.items edited
+returns-clause-graph g c = λ done graph edited. c.undo_kept.ensures.graph graph edited

@@ -1,0 +1,25 @@
+use Rattle.std.proofs.Common.{arith, refl, subst, sym, ◌∙◌}
+use Rattle.gst_value.proofs.Basics.{some_same}
+use Rattle.net_task.specs.declared.task.Task.{Task}
+use Rattle.net_task.specs.Frame.{frame_of}
+use Rattle.net_turns.specs.Net.{HasElement}
+use Rattle.edit_acts.proofs.removing.take_out.Goals as goal
+
+pub take_task-requires-clause-place : goal.take_task-requires-clause-place
+take_task-requires-clause-place g c κs within = ?
+
+pub returns-in-Some-clause-taken : goal.returns-in-Some-clause-taken
+returns-in-Some-clause-taken g c =
+    let own = c.in-Some.ensures.there in
+    record {
+      place = c.in-Some.place;
+      at = c.take_task.ensures.task;
+      has = subst (λ (t : Task _ _ _ _ _ _ _ _ _). HasElement (frame_of t) c.args.element) (some_same (sym own.at ∙ c.take_task.ensures.task)) own.has;
+      rest = c.take_task.ensures.taken;
+    }
+
+pub returns-in-Some-clause-stands : goal.returns-in-Some-clause-stands
+returns-in-Some-clause-stands g c = λ m tells cut stands can crossed. c.take_task.ensures.stands m tells c.args.element cut stands can crossed
+
+pub returns-in-None-clause-taken : goal.returns-in-None-clause-taken
+returns-in-None-clause-taken g c = (c.in-None.ensures.none refl, refl)

@@ -1,0 +1,104 @@
+//! An element that no link touches is taken away.
+ghost use Rattle.std.specs.Prelude.{◌≡◌, ◌<◌, ℕ, List, true, false, None, IfSome, length};
+ghost use Rattle.flow_model.specs.Item.{Item};
+ghost use Rattle.edit_core.specs.declared.feeds.Feeds.{Feeds};
+ghost use Rattle.edit_model.specs.Edited.{Edited, without_element};
+ghost use Rattle.graph_edits.specs.Graph.{IsEdited, made};
+ghost use Rattle.net_edits.specs.Adding.{CanTake, IsCut, NoneOwns, frozen};
+ghost use Rattle.net_model.specs.Moment.{Moment};
+ghost use Rattle.net_task.specs.Frame.{frame_of};
+ghost use Rattle.net_turns.specs.Net.{HasElement, NetStands, Owns};
+ghost use Rattle.edit_acts.specs.Removed.{IsRemoved, IsSourceOf, IsToRemove, TakesOut, UnlinkedIsAlone};
+
+use graph_edits::EditedGraph;
+use lane_core::{Inlet, Outlet};
+use net_edits::take_task;
+use net_model::{TaskElement, TaskSource};
+use net_task::Task;
+use task_edits::has_element;
+use task_parts::Head;
+
+/// An element that no link touches is alone in its task, and can be taken out of a run with it.
+pub fn unlinked_is_alone<
+    S: TaskSource,
+    E: TaskElement,
+    I: Inlet<Out = O>,
+    O: Outlet<Lanes = I::Lanes>,
+>()
+    ensures { UnlinkedIsAlone S.TaskSource E.TaskElement I.Inlet O.Outlet }
+{}
+
+/// Takes an element away, in the tasks and in the graph; what control keeps of it stays. Tells its task, which is taken out of the tasks with all
+/// that it still holds: its file is still open then. None where no task has the element, as with a source that is asleep. The other tasks stay in
+/// their order. It takes no memory.
+pub fn remove<S: TaskSource, E: TaskElement, I: Inlet<Out = O>, O: Outlet<Lanes = I::Lanes>>(
+    graph: &mut EditedGraph,
+    tasks: &mut Vec<Task<S, E, I, O>>,
+    element: u32,
+) -> Option<Task<S, E, I, O>>
+    requires element { element < length (made graph.old) }
+    ensures taken { TakesOut tasks.old.items tasks.new.items element result }
+    ensures graph { (g : Edited) → IsEdited graph.old g → IsEdited graph.new (without_element element g) }
+    ensures run { (feeds : Feeds) (g : Edited) (m : Moment) (tells : _) → IsToRemove graph.old feeds tasks.old.items g m tells element
+        → IsRemoved graph.new feeds tasks.new.items g m tells element result }
+{
+    graph.remove(element);
+    take_out(tasks, element)
+}
+
+/// Takes the task that has an element out of the tasks. None where no task has it.
+fn take_out<S: TaskSource, E: TaskElement, I: Inlet<Out = O>, O: Outlet<Lanes = I::Lanes>>(
+    tasks: &mut Vec<Task<S, E, I, O>>,
+    element: u32,
+) -> Option<Task<S, E, I, O>>
+    ensures taken { TakesOut tasks.old.items tasks.new.items element result }
+    ensures stands { IfSome result (λ task. (m : Moment) (tells : _) (cut : ℕ → List Item) → NetStands m tasks.old.items tells
+        → CanTake m element (frame_of task) → IsCut m element cut → NetStands (frozen element cut m) tasks.new.items tells) }
+{
+    match place_of(tasks.as_slice(), element) {
+        Some(place) => Some(take_task(tasks, place)),
+        None => None,
+    }
+}
+
+/// The place of the task that has an element.
+fn place_of<S: TaskSource, E: TaskElement, I: Inlet<Out = O>, O: Outlet<Lanes = I::Lanes>>(
+    tasks: &[Task<S, E, I, O>],
+    element: u32,
+) -> Option<usize>
+    ensures there { IfSome result (λ place. Owns tasks.now place element) }
+    ensures within { IfSome result (λ place. place < length tasks.now) }
+    ensures none { result ≡ None → NoneOwns tasks.now element }
+{
+    for place in 0..tasks.len() {
+        if is_of_task(&tasks[place], element) {
+            return Some(place);
+        }
+    }
+    None
+}
+
+/// Whether an element is one of a task, or its source.
+fn is_of_task<S: TaskSource, E: TaskElement, I: Inlet<Out = O>, O: Outlet<Lanes = I::Lanes>>(
+    task: &Task<S, E, I, O>,
+    element: u32,
+) -> bool
+    ensures there { result ≡ true → HasElement (frame_of task.now) element }
+    ensures none { result ≡ false → HasElement (frame_of task.now) element → ⊥ }
+{
+    if is_source(task.head(), element) {
+        return true;
+    }
+    has_element(task, element)
+}
+
+/// Whether a head is the source of a number.
+fn is_source<S: TaskSource, I, O: Outlet>(head: &Head<S, I, O>, element: u32) -> bool
+    ensures is { result ≡ true → IsSourceOf head.now element }
+    ensures not { result ≡ false → IsSourceOf head.now element → ⊥ }
+{
+    match head {
+        Head::Source(source) => source.number() == element,
+        Head::Inlets(_) => false,
+    }
+}
