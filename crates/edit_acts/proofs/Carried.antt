@@ -48,6 +48,7 @@ use Rattle.edit_acts.specs.Linking.{GoesOnLinked, IsLinkedShort, MayLink, MayLin
 use Rattle.edit_acts.specs.Relinked.{HasNewLink, IsPrepared, IsRelinked, IsRelinkedShort, IsToKeep, IsToRelink, RunsRelinked, relinked}
 use Rattle.edit_acts.specs.Undoing.{IsRunWith}
 use Rattle.edit_acts.specs.declared.relinking.Prepared.{Prepared}
+use Rattle.edit_acts.proofs.Asleep.{bare_of}
 use Rattle.edit_acts.proofs.Owned.{fresh}
 use Rattle.edit_acts.proofs.Owing.{owes}
 use Rattle.edit_acts.proofs.Relinks.{may_link, source_named, source_told}
@@ -162,7 +163,8 @@ module _ {S E I O L : Type 0} {s : sources.Ghosts S} {e : elements.Ghosts E} {i 
         edited = new.edited g items now.edited;
         feeds_are = r.feeds;
         net = r.run.net;
-        fresh = fresh (relinked_at source items sink g) (relinked source sink r.out m) tasks' tells r.run pads;
+        fresh = fresh (relinked_at source items sink g) (relinked source sink r.out m) tasks' tells r.run pads
+            (λ pad place named is. bare_of graph feeds tasks g m tells w.controlled pad place named (was_asleep g source items sink place.element is));
         kept = r.run.kept;
         stand = r.run.links;
         made = stays_made.answered m.history (owed_then m) g (relinked_at source items sink g) (command w.when w.act) (Done w.places) answered now.made;
@@ -176,10 +178,7 @@ module _ {S E I O L : Type 0} {s : sources.Ghosts S} {e : elements.Ghosts E} {i 
   }
     where
       pads : AreOwned (relinked_at source items sink g) (relinked source sink r.out m)
-      pads = record {
-        owned = w.controlled.pads.owned;
-        asleep = λ pad place named is. w.controlled.pads.asleep pad place named (was_asleep g source items sink place.element is);
-      }
+      pads = record { owned = w.controlled.pads.owned }
 
 -- control has a run whose graph stands for the same edited one, and whose tasks are the same
 pub has_again : {S E I O L : Type 0} {s : sources.Ghosts S} {e : elements.Ghosts E} {i : inlets.Ghosts I L O} {o : outlets.Ghosts O L} (graph graph' : EditedGraph) (feeds : Feeds) (tasks tasks' : List (Task S E I O L s e i o))

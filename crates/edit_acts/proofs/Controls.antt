@@ -37,6 +37,7 @@ use Rattle.edit_core.proofs.Standing.{few_at, found_back, source_there, the_link
 use Rattle.edit_acts.specs.Controlled.{AreOwned, IsControlled, IsToUnlink}
 use Rattle.edit_acts.specs.Ending.{EndsAt, HasLink}
 use Rattle.edit_acts.specs.Undoing.{IsRunWith}
+use Rattle.edit_acts.proofs.Asleep.{bare_of}
 use Rattle.edit_acts.proofs.Owned.{fresh}
 use Rattle.edit_acts.proofs.Owing.{owes}
 use Rattle.edit_acts.proofs.SinksStay.{sinks_stay}
@@ -105,7 +106,8 @@ module _ {S E I O L : Type 0} {s : sources.Ghosts S} {e : elements.Ghosts E} {i 
         edited = edited;
         feeds_are = subst (λ (h : ℕ → List Item). AreFeeds feeds' (unlinked_at source items eos g) h) (sym history) kept;
         net = run.net;
-        fresh = fresh (unlinked_at source items eos g) m' tasks' tells run pads;
+        fresh = fresh (unlinked_at source items eos g) m' tasks' tells run pads
+            (λ pad place named is. ap (λ (h : ℕ → List Item). h (pad_id place)) history ∙ bare_of graph feeds tasks g m tells w.controlled pad place named is);
         kept = run.kept;
         stand = run.links;
         made = stays_made.answered m.history (owed_then m) g (unlinked_at source items eos g) (command w.when w.act) (Done w.places) answered now.made;
@@ -122,7 +124,4 @@ module _ {S E I O L : Type 0} {s : sources.Ghosts S} {e : elements.Ghosts E} {i 
         run = subst (λ (n : ℕ). IsRun (unlinked_at source n eos g) m' tasks' tells) (sym items_is) ran
 
         pads : AreOwned (unlinked_at source items eos g) m'
-        pads = record {
-          owned = λ pad place named. ap (λ (f : ℕ → ℕ). f (pad_id place)) owner ∙ w.controlled.pads.owned pad place named;
-          asleep = λ pad place named is. ap (λ (h : ℕ → List Item). h (pad_id place)) history ∙ w.controlled.pads.asleep pad place named is;
-        }
+        pads = record { owned = λ pad place named. ap (λ (f : ℕ → ℕ). f (pad_id place)) owner ∙ w.controlled.pads.owned pad place named }

@@ -24,6 +24,7 @@ use Rattle.edit_core.specs.Tasks.{AreTasksOf, IsReachedIn}
 use Rattle.edit_core.specs.Ways.{IsRun}
 use Rattle.edit_core.specs.declared.feeds.Feeds.{Feeds}
 use Rattle.edit_acts.specs.Controlled.{IsControlled}
+use Rattle.edit_acts.proofs.Asleep.{bare_of}
 use Rattle.edit_acts.proofs.Grown.{From, fed_on, from, to}
 use Rattle.edit_acts.proofs.Owned.{fresh}
 
@@ -61,6 +62,9 @@ module _ {S E I O L : Type 0} {s : sources.Ghosts S} {e : elements.Ghosts E} {i 
       there = λ k n own.
           let y = from tasks tasks' receiver port [] z k own.task own.at in
           are.there k n (record { task = y.was; at = y.at; has = subst (λ (t : TaskFrame). HasElement t n) y.frame own.has });
+      awake = λ k n own.
+          let y = from tasks tasks' receiver port [] z k own.task own.at in
+          are.awake k n (record { task = y.was; at = y.at; has = subst (λ (t : TaskFrame). HasElement t n) y.frame own.has });
       owned = λ n there awake.
           let own = are.owned n there awake in
           let y = to tasks tasks' receiver port [] z own.0 own.1.task own.1.at in
@@ -96,7 +100,7 @@ module _ {S E I O L : Type 0} {s : sources.Ghosts S} {e : elements.Ghosts E} {i 
       edited = w.current.edited;
       feeds_are = w.current.feeds_are;
       net = stands;
-      fresh = fresh g m tasks' tells run w.pads;
+      fresh = fresh g m tasks' tells run w.pads (bare_of graph feeds tasks g m tells w);
       kept = w.current.kept;
       stand = w.current.stand;
       made = w.current.made;

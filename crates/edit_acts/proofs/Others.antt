@@ -112,6 +112,7 @@ module _ {S E I O L : Type 0} {s : sources.Ghosts S} {e : elements.Ghosts E} {i 
     others_are : AreTasksOf (without_element n g) tasks'
     others_are = record {
       there = λ k b own. let z = owns_back k b own in still_there g n b z.1 (run.are.there z.0.0 b z.0.1);
+      awake = λ k b own. let z = owns_back k b own in run.are.awake z.0.0 b z.0.1;
       owned = owned;
       fed = fed;
       inner = inner;

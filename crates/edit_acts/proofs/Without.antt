@@ -39,6 +39,7 @@ use Rattle.edit_core.proofs.Named.{stays_named}
 use Rattle.edit_acts.specs.Controlled.{AreOwned, IsControlled}
 use Rattle.edit_acts.specs.Removed.{IsRemoved, IsToRemove, TakesOut}
 use Rattle.edit_acts.proofs.Alone.{unlinked_is_alone}
+use Rattle.edit_acts.proofs.Asleep.{bare_of}
 use Rattle.edit_acts.proofs.Gone.{element_there, was_named}
 use Rattle.edit_acts.proofs.Others.{AreOthers, none_others, others_run, taken_others}
 use Rattle.edit_acts.proofs.Owned.{fresh}
@@ -74,10 +75,7 @@ module _ {S E I O L : Type 0} {s : sources.Ghosts S} {e : elements.Ghosts E} {i 
     run = others_run g m tasks tasks' tells w.controlled.run n deed.1 others m' history owner sinks net
 
     pads : AreOwned (without_element n g) m'
-    pads = record {
-      owned = λ pad place named. ap (λ (f : ℕ → ℕ). f (pad_id place)) owner ∙ w.controlled.pads.owned pad place (was_named g n pad place named);
-      asleep = λ pad place named is. ap (λ (h : ℕ → List Item). h (pad_id place)) history ∙ w.controlled.pads.asleep pad place (was_named g n pad place named) is;
-    }
+    pads = record { owned = λ pad place named. ap (λ (f : ℕ → ℕ). f (pad_id place)) owner ∙ w.controlled.pads.owned pad place (was_named g n pad place named) }
 
     has_others : (graph' : EditedGraph) → IsEdited graph' (without_element n g) → IsControlled graph' feeds tasks' (without_element n g) m' tells
     has_others graph' edited = record {
@@ -85,7 +83,8 @@ module _ {S E I O L : Type 0} {s : sources.Ghosts S} {e : elements.Ghosts E} {i 
         edited = edited;
         feeds_are = subst (λ (h : ℕ → List Item). AreFeeds feeds (without_element n g) h) (sym history) feeds_stay;
         net = net;
-        fresh = fresh (without_element n g) m' tasks' tells run pads;
+        fresh = fresh (without_element n g) m' tasks' tells run pads
+            (λ pad place named is. ap (λ (h : ℕ → List Item). h (pad_id place)) history ∙ bare_of graph feeds tasks g m tells w.controlled pad place (was_named g n pad place named) is);
         kept = run.kept;
         stand = run.links;
         made = stays_made.answered m.history (owed_then m) g (without_element n g) (command w.when w.act) (Done w.places) answered now.made;
@@ -116,6 +115,7 @@ module _ {S E I O L : Type 0} {s : sources.Ghosts S} {e : elements.Ghosts E} {i 
       record {
         cut = cut;
         is_cut = alone.1.1;
+        awake = w.controlled.run.are.awake taken.place n (record { task = task; at = taken.at; has = taken.has });
         controlled = has_others tasks' (taken_others tasks tasks' n task (λ k j. w.controlled.run.net.wired.once k j n) taken) (frozen n cut m) refl refl
             (λ a other. at_other n (map (λ calls. Given calls ∷ []) (m.took n)) m.plan.sinks a other) (stands m tells cut w.controlled.run.net alone.0 alone.1.1) graph' edited;
       }

@@ -4,5 +4,6 @@ pub mod Linking
 pub mod Over
 pub mod Controlled
 pub mod Relinked
+pub mod Stepping
 pub mod Unlinked
 pub mod Removed

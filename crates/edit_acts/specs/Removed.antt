@@ -55,10 +55,11 @@ module _ {S E I O L : Type 0} {s : sources.Ghosts S} {e : elements.Ghosts E} {i 
   TakesOut tasks tasks' element None = NoneOwns tasks element × (tasks' ≡ tasks)
   TakesOut tasks tasks' element (Some task) = IsTakenOut tasks tasks' element task
 
-  -- Control has the run without the element: that took what it took, and owes what crossed its pads.
+  -- The element is awake. Control has the run without it: it took what it took, and owes what crossed its pads.
   pub record IsWithout (graph' : EditedGraph) (feeds : Feeds) (tasks' : List (Task S E I O L s e i o)) (g : Edited) (m : Moment) (tells : Option (List Lane)) (element : ℕ) : Type 0 where
     pub cut : ℕ → List Item
     pub is_cut : IsCut m element cut
+    pub awake : is_asleep g element ≡ false
     pub controlled : IsControlled graph' feeds tasks' (without_element element g) (frozen element cut m) tells
 
   -- so it has where its task was taken out; else the element is a source that is asleep, and the moment stays

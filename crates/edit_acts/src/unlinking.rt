@@ -7,6 +7,7 @@ ghost use Rattle.edit_core.specs.Feeds.{AreFeeds, IsTheLink};
 ghost use Rattle.graph_core.specs.GraphPlan.{pad_id};
 ghost use Rattle.graph_edits.specs.Graph.{IsEdited};
 ghost use Rattle.net_model.specs.Moment.{Moment};
+ghost use Rattle.net_turns.specs.Net.{NetReady};
 ghost use Rattle.edit_acts.specs.Controlled.{IsControlled, IsToUnlink, IsUnlinked};
 ghost use Rattle.edit_acts.specs.Unlinked.{EndFails, IsEnded};
 
@@ -68,6 +69,7 @@ pub fn unlink_eos<S: TaskSource, E: TaskElement, I: Inlet<Out = O>, O: Outlet<La
         → (done ≡ true) × IsEnded graph.new feeds.new tasks.new.items g m tells source items) }
     ensures graph { IfOk result (λ done. done ≡ true → (g : Edited) → IsEdited graph.old g → IsEdited graph.new (unlinked_at source items true g)) }
     ensures none { IfOk result (λ done. done ≡ false → (graph.new ≡ graph.old) × (feeds.new ≡ feeds.old) × (tasks.new.items ≡ tasks.old.items)) }
+    ensures ready { (tells : _) → NetReady tasks.old.items tells → NetReady tasks.new.items tells }
     ensures faults { IfErr result (EndFails graph.old feeds.old tasks.old.items graph.new feeds.new tasks.new.items source sink items) }
 {
     let Some(pad) = graph.source_number(source) else {

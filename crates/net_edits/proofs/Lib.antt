@@ -20,7 +20,7 @@ mod Rowed
 mod LanesMore
 mod Beside
 mod Differing
-mod Endings
+pub mod Endings
 mod Frozen
 mod Added
 pub mod Empties
