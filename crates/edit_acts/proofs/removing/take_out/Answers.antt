@@ -1,16 +1,17 @@
-use Rattle.std.proofs.Common.{arith, refl, subst, sym, ◌∙◌}
+use Rattle.std.proofs.Common.{List, arith, refl, subst, sym, ◌∙◌}
 use Rattle.gst_value.proofs.Basics.{some_same}
 use Rattle.net_task.specs.declared.task.Task.{Task}
 use Rattle.net_task.specs.Frame.{frame_of}
-use Rattle.net_turns.specs.Net.{HasElement}
+use Rattle.net_turns.specs.Net.{HasElement, Owns}
+use Rattle.net_edits.specs.Adding.{NoneOwns}
 use Rattle.edit_acts.proofs.removing.take_out.Goals as goal
 
 pub take_task-requires-clause-place : goal.take_task-requires-clause-place
-take_task-requires-clause-place g c κs within = ?
+take_task-requires-clause-place g c κs within = let low = c.in-Some.ensures.within in let len = c.as_slice.ensures.len in omega (arith, low, len)
 
 pub returns-in-Some-clause-taken : goal.returns-in-Some-clause-taken
 returns-in-Some-clause-taken g c =
-    let own = c.in-Some.ensures.there in
+    let own = subst (λ (ts : List (Task _ _ _ _ _ _ _ _ _)). Owns ts c.in-Some.place c.args.element) c.as_slice.ensures.value c.in-Some.ensures.there in
     record {
       place = c.in-Some.place;
       at = c.take_task.ensures.task;
@@ -22,4 +23,5 @@ pub returns-in-Some-clause-stands : goal.returns-in-Some-clause-stands
 returns-in-Some-clause-stands g c = λ m tells cut stands can crossed. c.take_task.ensures.stands m tells c.args.element cut stands can crossed
 
 pub returns-in-None-clause-taken : goal.returns-in-None-clause-taken
-returns-in-None-clause-taken g c = (c.in-None.ensures.none refl, refl)
+returns-in-None-clause-taken g c =
+    (subst (λ (ts : List (Task _ _ _ _ _ _ _ _ _)). NoneOwns ts c.args.element) c.as_slice.ensures.value (c.in-None.ensures.none refl), refl)

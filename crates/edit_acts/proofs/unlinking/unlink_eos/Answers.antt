@@ -1,4 +1,8 @@
-use Rattle.std.proofs.Common.{◌<◌, length, refl, subst, sym, true, ◌∙◌}
+use Rattle.std.proofs.Common.{◌<◌, List, ap, length, refl, subst, sym, true, ◌∙◌}
+use Rattle.std.specs.Prelude.{Err}
+use Rattle.net_edits.specs.declared.inside.EditFault.{EditFault}
+use Rattle.net_task.specs.declared.task.Task.{Task}
+use Rattle.net_turns.specs.Net.{NetReady}
 use Rattle.graph_core.specs.GraphPlan.{pad_id}
 use Rattle.edit_acts.proofs.Carried.{has_again}
 use Rattle.edit_acts.proofs.Controls.{few, has_link, is_made, link_is}
@@ -13,8 +17,8 @@ returns-in_default-clause-run g c = λ graph m tells w.
     let told = c.source_number.ensures.there there (few c.args.graph.now c.args.feeds.now c.args.tasks.now.items graph m tells c.args.source c.args.sink true c.args.items w) in
     absurd (c.in_default.not-Some (pad_id c.args.source) told)
 
-pub returns-in-Err-room_to_undo-clause-faults : goal.returns-in-Err-room_to_undo-clause-faults
-returns-in-Err-room_to_undo-clause-faults g c = λ graph m tells w.
+pub returns-in-Err-clause-faults : goal.returns-in-Err-clause-faults
+returns-in-Err-clause-faults g c = λ graph m tells w.
     has_again c.args.graph.now c.args.graph.now c.args.feeds.now c.args.tasks.now.items c.room_to_undo.new.tasks.items graph m tells c.room_to_undo.ensures.items w.current.edited w
 
 pub returns-in-Ok-true-clause-run : goal.returns-in-Ok-true-clause-run
@@ -46,14 +50,23 @@ returns-in-Ok-false-clause-none g c = λ done. (refl, refl, (c.in-Ok-false.ensur
 pub returns-in-Err-Failed-clause-faults : goal.returns-in-Err-Failed-clause-faults
 returns-in-Err-Failed-clause-faults g c = λ graph m tells w.
     let number = c.in-Some.ensures.number in
-    let kept = c.undo_kept.ensures.feeds graph m.history w.controlled.current.feeds_are w.controlled.current.kept number
+    let kept = c.undo_kept-in-Err-Failed.ensures.feeds graph m.history w.controlled.current.feeds_are w.controlled.current.kept number
     (crossed c.args.graph.now c.args.feeds.now c.args.tasks.now.items graph m tells c.args.source c.args.sink c.args.items w c.in-Some.pad number)
     (link_is c.args.graph.now c.args.feeds.now c.args.tasks.now.items graph m tells c.args.source c.args.sink true c.args.items w) in
     let short = rw c.in-Err-Failed.field-0-is at c.in-Err-Failed.ensures.faults in
     ends_short c.args.graph.now c.args.feeds.now c.args.tasks.now.items graph m tells c.args.source c.args.sink c.args.items w c.in-Some.pad number
-    c.undo_kept.new.graph c.undo_kept.new.feeds c.room_to_undo.new.tasks.items c.end.new.tasks.items c.in-Err-Failed.stopped c.room_to_undo.ensures.items short (c.undo_kept.ensures.graph graph w.controlled.current.edited) kept
+    c.undo_kept-in-Err-Failed.new.graph c.undo_kept-in-Err-Failed.new.feeds c.room_to_undo.new.tasks.items c.end.new.tasks.items c.in-Err-Failed.stopped c.room_to_undo.ensures.items short (c.undo_kept-in-Err-Failed.ensures.graph graph w.controlled.current.edited) kept
 
 pub returns-in-Err-OutOfMemory-clause-faults : goal.returns-in-Err-OutOfMemory-clause-faults
 returns-in-Err-OutOfMemory-clause-faults g c =
     let kept = rw c.in-Err-OutOfMemory.field-0-is at c.in-Err-OutOfMemory.ensures.faults in
-    wanting c.args.graph.now c.args.feeds.now c.args.tasks.now.items c.room_to_undo.new.tasks.items c.end.new.tasks.items c.room_to_undo.ensures.items kept (c.end.ensures.stays c.in-Err-OutOfMemory.is)
+    wanting c.args.graph.now c.args.feeds.now c.args.tasks.now.items c.room_to_undo.new.tasks.items c.end.new.tasks.items c.room_to_undo.ensures.items kept (c.end.ensures.stays (c.in-Err-OutOfMemory.is ∙ ap (λ (why : EditFault). Err why) c.in-Err-OutOfMemory.field-0-is))
+
+pub returns-in-Ok-true-clause-ready : goal.returns-in-Ok-true-clause-ready
+returns-in-Ok-true-clause-ready g c = λ tells ready. c.end.ensures.ready tells (subst (λ (ts : List (Task _ _ _ _ _ _ _ _ _)). NetReady ts tells) (sym c.room_to_undo.ensures.items) ready)
+
+pub returns-in-Err-Failed-clause-ready : goal.returns-in-Err-Failed-clause-ready
+returns-in-Err-Failed-clause-ready g c = λ tells ready. c.end.ensures.ready tells (subst (λ (ts : List (Task _ _ _ _ _ _ _ _ _)). NetReady ts tells) (sym c.room_to_undo.ensures.items) ready)
+
+pub returns-in-Err-OutOfMemory-clause-ready : goal.returns-in-Err-OutOfMemory-clause-ready
+returns-in-Err-OutOfMemory-clause-ready g c = λ tells ready. c.end.ensures.ready tells (subst (λ (ts : List (Task _ _ _ _ _ _ _ _ _)). NetReady ts tells) (sym c.room_to_undo.ensures.items) ready)
