@@ -6,6 +6,7 @@ ghost use Rattle.graph_edits.specs.declared.graph.EditedGraph.{EditedGraph as Gr
 ghost use Rattle.graph_pads.specs.Links.{sink_behind};
 ghost use Rattle.graph_pads.specs.declared.pad.PadPlace.{PadPlace as Places};
 ghost use Rattle.net_model.specs.Moment.{Moment};
+ghost use Rattle.net_turns.specs.Net.{NetReady};
 ghost use Rattle.edit_model.specs.Edited.{Edited, relinked_at};
 ghost use Rattle.edit_core.specs.Feeds.{AreFeeds};
 ghost use Rattle.edit_core.specs.declared.feeds.Feeds.{Feeds as KeptFeeds};
@@ -57,6 +58,7 @@ pub fn relink<S: TaskSource, E: TaskElement, I: Inlet<Out = O>, O: Outlet<Lanes 
     ensures run { IfOk result (λ done. (g : Edited) (m : Moment) (tells : _) → IsToRelink graph.old feeds.old tasks.old.items g m tells source sink items
         → (done ≡ true) × IsRelinked graph.new feeds.new tasks.new.items g m tells source sink items) }
     ensures faults { IfErr result (RelinkFails graph.old feeds.old tasks.old.items graph.new feeds.new tasks.new.items source sink items) }
+    ensures ready { (tells : _) → NetReady tasks.old.items tells → NetReady tasks.new.items tells }
 {
     match prepare(alloc, graph, tasks, source, sink) {
         Ok(Some(prepared)) => match carry_out(alloc, feeds, tasks, prepared, sink, items) {
@@ -139,6 +141,7 @@ fn carry_out<S: TaskSource, E: TaskElement, I: Inlet<Out = O>, O: Outlet<Lanes =
     ensures faults { IfErr result (λ stopped. (graph : Graphs) (g : Edited) (m : Moment) (tells : _) (source : Places)
         → IsPrepared tasks.old source sink prepared → IsToRelink graph feeds.old tasks.old.items g m tells source sink items
         → IsRelinkedShort tasks.new.items g m tells source sink items stopped) }
+    ensures ready { (tells : _) → NetReady tasks.old.items tells → NetReady tasks.new.items tells }
 {
     let to = Inside {
         element: sink.element,

@@ -40,3 +40,6 @@ returns-clause-kept g c = λ graph edited m tells source ready was w.
     (c.undo.ensures.run edited m tells source (run_with graph c.args.feeds.now c.args.tasks.now.items edited m tells source c.args.sink c.args.items w c.args.tasks.now refl c.args.prepared ready)) in
     c.keep.ensures edited m.history source w.controlled.current.feeds_are
     (to_keep graph c.args.feeds.now c.args.tasks.now.items edited m tells source c.args.sink c.args.items w c.args.tasks.now refl c.args.prepared ready c.undo.new.tasks.items mid was)
+
+pub returns-clause-ready : goal.returns-clause-ready
+returns-clause-ready g c = λ tells ready. c.link.ensures.ready tells (c.undo.ensures.ready tells ready)

@@ -1,5 +1,6 @@
 use Rattle.std.proofs.Common.{List, subst, sym}
 use Rattle.net_task.specs.declared.task.Task.{Task}
+use Rattle.net_turns.specs.Net.{NetReady}
 use Rattle.edit_acts.specs.Relinked.{IsToRelink}
 use Rattle.edit_acts.proofs.Carried.{has_again, is_relinked}
 use Rattle.edit_acts.proofs.relinking.relink.Goals as goal
@@ -32,3 +33,9 @@ returns-in-Ok-None-clause-run g c = λ graph m tells w. absurd (c.in-Ok-None.ens
 pub returns-in-Err-clause-faults : goal.returns-in-Err-clause-faults
 returns-in-Err-clause-faults g c = λ graph m tells w.
     has_again c.args.graph.now c.prepare.new.graph c.args.feeds.now c.args.tasks.now.items c.prepare.new.tasks.items graph m tells c.in-Err.ensures.tasks (c.in-Err.ensures.stays graph w.current.edited) w
+
+pub returns-in-Ok-clause-ready : goal.returns-in-Ok-clause-ready
+returns-in-Ok-clause-ready g c = λ tells ready. c.carry_out.ensures.ready tells (subst (λ (ts : List (Task _ _ _ _ _ _ _ _ _)). NetReady ts tells) (sym c.in-Ok-Some.ensures.tasks) ready)
+
+pub returns-in-Err-carry_out-clause-ready : goal.returns-in-Err-carry_out-clause-ready
+returns-in-Err-carry_out-clause-ready g c = λ tells ready. c.carry_out.ensures.ready tells (subst (λ (ts : List (Task _ _ _ _ _ _ _ _ _)). NetReady ts tells) (sym c.in-Ok-Some.ensures.tasks) ready)
