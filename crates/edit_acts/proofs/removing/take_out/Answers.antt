@@ -13,7 +13,7 @@ pub returns-in-Some-clause-taken : goal.returns-in-Some-clause-taken
 returns-in-Some-clause-taken g c =
     let own = subst (λ (ts : List (Task _ _ _ _ _ _ _ _ _)). Owns ts c.in-Some.place c.args.element) c.as_slice.ensures.value c.in-Some.ensures.there in
     record {
-      place = c.in-Some.place;
+      place = _;
       at = c.take_task.ensures.task;
       has = subst (λ (t : Task _ _ _ _ _ _ _ _ _). HasElement (frame_of t) c.args.element) (some_same (sym own.at ∙ c.take_task.ensures.task)) own.has;
       rest = c.take_task.ensures.taken;
