@@ -4,6 +4,7 @@ use Rattle.net_model.specs.Edit.{unlinked}
 use Rattle.net_task.specs.declared.task.Task.{Task}
 use Rattle.edit_model.specs.Edited.{unlinked_at}
 use Rattle.edit_core.specs.Ways.{IsRun}
+use Rattle.net_turns.specs.Net.{NetReady}
 use Rattle.edit_acts.specs.Undoing.{IsRunWith}
 use Rattle.edit_acts.proofs.Controls.{few, is_made, is_unlinked, items_is, link_is, run_with}
 use Rattle.edit_acts.proofs.unlinking.unlink.Goals as goal
@@ -35,3 +36,6 @@ returns-clause-run g c = λ graph m tells w.
 
 pub returns-clause-graph : goal.returns-clause-graph
 returns-clause-graph g c = λ done graph edited. c.undo_kept.ensures.graph graph edited
+
+pub returns-clause-ready : goal.returns-clause-ready
+returns-clause-ready g c = λ tells ready. c.undo.ensures.ready tells (subst (λ (ts : List (Task _ _ _ _ _ _ _ _ _)). NetReady ts tells) (sym c.in_ok-room.ensures.items) ready)
