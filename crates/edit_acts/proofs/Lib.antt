@@ -39,3 +39,8 @@ mod Alone
 mod Others
 mod Without
 mod Members
+mod StillOwed
+mod Deeds
+mod Passed
+mod Entered
+mod Turning

@@ -7,3 +7,5 @@ pub mod Relinked
 pub mod Stepping
 pub mod Unlinked
 pub mod Removed
+pub mod Deeds
+pub mod Scripted

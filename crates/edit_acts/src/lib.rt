@@ -2,15 +2,18 @@
 //! have the elements of the graph again; and so do the graph and what control keeps of the elements.
 #![tactic(auto)]
 
+pub mod doing;
 pub mod ending;
 pub mod laws;
 pub mod linking;
 pub mod over;
 pub mod relinking;
 pub mod removing;
+pub mod scripts;
 pub mod undoing;
 pub mod unlinking;
 
+pub use doing::do_deed;
 pub use ending::end;
 pub use linking::{LinkRoom, link, room_to_link};
 pub use relinking::relink;
