@@ -79,7 +79,8 @@ fn undo_link<S: TaskSource, E: TaskElement, I: Inlet<Out = O>, O: Outlet<Lanes =
     eos: bool,
     items: u64,
 ) -> Result<bool, EditFault>
-    ensures done { IfOk result (λ done. (g : Edited) (m : Moment) (tells : _) → IsDue graph.old feeds.old tasks.old.items g m tells (Unlink source sink eos) items
+    ensures done { IfOk result (λ done. (g : Edited) (m : Moment) (tells : _)
+        → IsDue graph.old feeds.old tasks.old.items g m tells (Unlink source sink eos) items
         → (done ≡ true) × IsDone graph.new feeds.new tasks.new.items g m tells (Unlink source sink eos) items) }
     ensures failed { IfErr result (DeedFails graph.old feeds.old tasks.old.items graph.new feeds.new tasks.new.items
         (Unlink source sink eos) items) }
