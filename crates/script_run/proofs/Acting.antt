@@ -1,0 +1,231 @@
+-- A run stays one of a script when the next command is answered.
+use Rattle.std.proofs.Common.{◌≡◌, ◌⊎◌, ◌≤◌, ◌++◌, ℕ, zero, suc, true, false, All, List, [], ◌∷◌, Option, None, Some, drop, length, refl, sym, ap, ◌∙◌, subst, inl, inr, arith}
+use Rattle.std.specs.Prelude.{slice_get}
+use Rattle.std.proofs.lemmas.List.{length_push}
+use Rattle.flow_model.specs.Item.{Item}
+use Rattle.flow_model.specs.Prefix.{IsPrefix}
+use Rattle.flow_model.proofs.Prefixes.{prefix_refl}
+use Rattle.gst_item.specs.Sticky.{has_flush_stop}
+use Rattle.gst_value.specs.declared.name.PadName.{PadName}
+use Rattle.gst_value.proofs.Basics.{some_same}
+use Rattle.graph_core.specs.GraphPlan.{pad_id}
+use Rattle.graph_parts.proofs.LaneSlots.{no_slots}
+use Rattle.graph_core.specs.declared.fault.BuildFault.{BuildFault}
+use Rattle.graph_core.specs.declared.fault.BuildFault.TheVariants.{NoSuch as Missing, BadValue as WrongValue, NameTaken as SameName, LocationTaken as SameLocation, TooMany as Limit, LinkRefused as NoLink, OutOfMemory}
+use Rattle.graph_pads.specs.declared.pad.Direction.TheVariants.{Source}
+use Rattle.graph_pads.specs.declared.pad.PadPlace.{PadPlace}
+use Rattle.lane_core.specs.declared.ends.Inlet as inlets
+use Rattle.lane_core.specs.declared.ends.Outlet as outlets
+use Rattle.net_model.specs.Moment.{Moment}
+use Rattle.net_model.specs.declared.element.TaskElement as elements
+use Rattle.net_model.specs.declared.source.TaskSource as sources
+use Rattle.script_text.specs.declared.answer.Answer.{Answer}
+use Rattle.script_text.specs.declared.answer.Answer.TheVariants.{Done, Refused, Unreached}
+use Rattle.script_text.specs.declared.answer.Entry.{Entry}
+use Rattle.script_text.specs.declared.answer.Place.{Place}
+use Rattle.script_text.specs.declared.answer.Reason.{Reason}
+use Rattle.script_text.specs.declared.answer.Reason.TheVariants.{NoSuch}
+use Rattle.script_text.specs.declared.command.Act.{Act}
+use Rattle.script_text.specs.declared.command.Command.{Command}
+use Rattle.script_text.specs.declared.command.When.{When}
+use Rattle.script_text.specs.declared.command.When.TheVariants.{At, NowPad, Now}
+use Rattle.edit_model.specs.Edited.{Edited}
+use Rattle.edit_model.specs.Growing.{FallsNowhere, GrowsTo, IsKept}
+use Rattle.edit_model.specs.Lawful.{AreAnswered, IsAnswered, IsRefusedFor, IsUnlinkable, Makes, NeverFall, place_at, places_at, places_of, reason_of}
+use Rattle.edit_model.specs.Names.{pad_named, source_when}
+use Rattle.edit_model.proofs.Following.{one_more_entry}
+use Rattle.edit_model.proofs.Staying.{stays_lawful}
+use Rattle.edit_core.specs.Deciding.{IsReached, names_its_pad}
+use Rattle.edit_core.specs.Judging.{IsLast, owed_then}
+use Rattle.script_run.specs.Answering.{IsAnsweredBy, IsActed, IsExact}
+use Rattle.script_run.specs.Scripted.{ActsKeepScripts, ArePassed, IsPassed, IsScripted, pad_once_named}
+use Rattle.script_run.specs.declared.running.Running.{Running}
+use Rattle.script_run.proofs.Passed.{name_is, once_named, passed_made, passed_more}
+
+-- ---- the places of an answer
+
+-- a place is that of the source pad that a command names, which so many items have crossed
+record IsOwn (g : Edited) (h : ℕ → List Item) (place : Place) : Type 0 where
+  name : PadName
+  source : PadPlace
+  named : pad_named Source g name ≡ Some source
+  items : ℕ
+  is : place ≡ place_at g source items
+  last : items ≡ length (h (pad_id source))
+
+only : {A : Type 0} (x y : A) (a : ℕ) → slice_get (x ∷ []) a ≡ Some y → x ≡ y
+only x y zero e = some_same e
+only x y (suc a) e = absurd (no_slots (λ k z. ⊥) [] refl a y e)
+
+own_place : (g : Edited) (h : ℕ → List Item) (when : When) (items : ℕ) (places : List Place) (a : ℕ) (place : Place) → places ≡ places_at g (source_when g when) items → IsLast h (source_when g when) items
+    → slice_get places a ≡ Some place → IsOwn g h place
+own_place g h when items places a place are last at = by when are last (subst (λ (ps : List Place). slice_get ps a ≡ Some place) are at)
+  where
+    by_source : (name : PadName) (o : Option PadPlace) → pad_named Source g name ≡ o → IsLast h o items → slice_get (places_at g o items) a ≡ Some place → IsOwn g h place
+    by_source name None named last at = absurd (no_slots (λ k z. ⊥) [] refl a place at)
+    by_source name (Some source) named last at = record { name = name; source = source; named = named; items = items; is = sym (only (place_at g source items) place a at); last = last }
+
+    by : (w : When) → places ≡ places_at g (source_when g w) items → IsLast h (source_when g w) items → slice_get (places_at g (source_when g w) items) a ≡ Some place → IsOwn g h place
+    by (At pad n) are last at = by_source pad (pad_named Source g pad) refl last at
+    by (NowPad pad) are last at = by_source pad (pad_named Source g pad) refl last at
+    by Now are last at = absurd (no_slots (λ k z. ⊥) [] refl a place at)
+
+-- ---- nothing is refused as missing but what is not there
+
+unlinkable_there : (g : Edited) (h : ℕ → List Item) (source to : PadPlace) (reason : Reason) → IsUnlinkable g h source to reason → reason ≡ NoSuch → ⊥
+unlinkable_there g h source to _ (IsUnlinkable.ended is) e = cc
+unlinkable_there g h source to _ (IsUnlinkable.taken is) e = cc
+unlinkable_there g h source to _ (IsUnlinkable.loops free is) e = cc
+unlinkable_there g h source to _ (IsUnlinkable.fed free forward is) e = cc
+unlinkable_there g h source to _ (IsUnlinkable.formless free forward is) e = cc
+
+unmade_there : (fault : BuildFault) → reason_of fault ≡ Some NoSuch → ⊥
+unmade_there (Missing name what) e = cc
+unmade_there (WrongValue name property) e = cc
+unmade_there (SameName name) e = cc
+unmade_there (SameLocation location) e = cc
+unmade_there (Limit count) e = cc
+unmade_there (NoLink a b ret) e = cc
+unmade_there OutOfMemory e = cc
+
+refused_there : (g : Edited) (h : ℕ → List Item) (p : Option PadPlace) (act : Act) (reason : Reason) → IsRefusedFor g h p act reason → reason ≡ NoSuch → ⊥
+refused_there g h _ _ _ (IsRefusedFor.unlinkable sink source to reason named not) e = unlinkable_there g h source to reason not e
+refused_there g h p _ _ (IsRefusedFor.unmade same kind props fault reason unmade is) e = unmade_there fault (is ∙ ap (λ (r : Reason). Some r) e)
+refused_there g h p _ _ (IsRefusedFor.gathering same kind props m made makes) e = cc
+refused_there g h p _ _ (IsRefusedFor.linked same name n named has) e = cc
+
+abbrev reason_in : Reason → Answer → Reason
+reason_in other (Refused reason places) = reason
+reason_in other (Done places) = other
+reason_in other Unreached = other
+
+nameless_empty : (g : Edited) (h owed : ℕ → List Item) (c : Command) (answer : Answer) (next : Edited) (reason : Reason) (places : List Place) → IsAnswered g h owed c answer next
+    → answer ≡ Refused reason places → reason ≡ NoSuch → places ≡ []
+nameless_empty g h owed c _ next reason places (IsAnswered.done when act p place after reaches makes) e missing = absurd cc
+nameless_empty g h owed c _ _ reason places (IsAnswered.unreached same all over) e missing = absurd cc
+nameless_empty g h owed c _ _ reason places (IsAnswered.nameless same not) e missing = sym (ap places_of e)
+nameless_empty g h owed c _ _ reason places (IsAnswered.refused when act p place own all reaches refused) e missing =
+    absurd (refused_there g h p act own refused (ap (reason_in own) e ∙ missing))
+
+-- ---- the places of an answer are passed
+
+module _ (g : Edited) (m : Moment) (c : Command) where
+  own_of : (answer : Answer) (next : Edited) → IsAnswered g m.history (owed_then m) c answer next → IsExact g m c answer → (a : ℕ) (place : Place) → slice_get (places_of answer) a ≡ Some place
+      → IsOwn g m.history place
+  own_of (Done places) next lawful exact a place at = own_place g m.history c.when exact.0 places a place exact.1.places_are exact.1.last at
+  own_of Unreached next lawful exact a place at = absurd (no_slots (λ k z. ⊥) [] refl a place at)
+  own_of (Refused reason places) next lawful exact a place at = by exact.0
+    where
+      by : (reason ≡ NoSuch) ⊎ ((items : ℕ) × IsReached g m c items places) → IsOwn g m.history place
+      by (inl missing) =
+          absurd (no_slots (λ k z. ⊥) places (nameless_empty g m.history (owed_then m) c (Refused reason places) next reason places lawful refl missing) a place at)
+      by (inr t) = own_place g m.history c.when t.0 places a place t.1.places_are t.1.last at
+
+  own_passed : (place : Place) → IsOwn g m.history place → IsPassed g.made m.history place
+  own_passed place own =
+      let items : place.items ≡ own.items = ap (λ (p : Place). p.items) own.is in
+      let last = own.last in
+      record {
+        source = own.source;
+        named = ap (pad_once_named g.made) (ap (λ (p : Place). p.pad) own.is ∙ name_is g own.name own.source own.items own.named) ∙ once_named g own.name own.source own.named;
+        crossed = omega (arith, items, last);
+      }
+
+  falls : (entries : List Entry) (answer : Answer) (next : Edited) → IsAnswered g m.history (owed_then m) c answer next → IsExact g m c answer → ArePassed g.made m.history entries
+      → FallsNowhere entries (record { answer = answer })
+  falls entries answer next lawful exact passed j a b one before behind at at_before at_behind same =
+      let own = own_of answer next lawful exact b behind at_behind in
+      let was = passed j a one before at at_before in
+      let name : before.pad ≡ own.name = same ∙ ap (λ (p : Place). p.pad) own.is ∙ name_is g own.name own.source own.items own.named in
+      let source : was.source ≡ own.source = some_same (sym was.named ∙ ap (pad_once_named g.made) name ∙ once_named g own.name own.source own.named) in
+      let low = subst (λ (p : PadPlace). before.items ≤ length (m.history (pad_id p))) source was.crossed in
+      let items : behind.items ≡ own.items = ap (λ (p : Place). p.items) own.is in
+      let last = own.last in
+      omega (arith, low, items, last)
+
+-- an answer takes no element away and adds one at the most
+passed_answered : (g : Edited) (h owed : ℕ → List Item) (c : Command) (answer : Answer) (next : Edited) (entries : List Entry) → IsAnswered g h owed c answer next → ArePassed g.made h entries
+    → ArePassed next.made h entries
+passed_answered g h owed _ _ _ entries (IsAnswered.done when act p place after reaches makes) passed = by p place act after makes
+  where
+    by : (p : Option PadPlace) (place : ℕ) (act : Act) (after : Edited) → Makes g h p place act after → ArePassed after.made h entries
+    by _ _ _ _ (Makes.relinks sink source to at named linkable) = passed
+    by _ _ _ _ (Makes.unlinks eos source to at behind) = passed
+    by _ _ _ _ (Makes.adds source at kind props m made plain) = passed_made g.made m h entries passed
+    by _ _ _ _ (Makes.removes source at name e named free) = passed
+passed_answered g h owed _ _ _ entries (IsAnswered.unreached c all over) passed = passed
+passed_answered g h owed _ _ _ entries (IsAnswered.nameless c not) passed = passed
+passed_answered g h owed _ _ _ entries (IsAnswered.refused when act p place reason all reaches refused) passed = passed
+
+-- ---- what is left of a script
+
+abbrev tail_of : {A : Type 0} → List A → List A
+tail_of [] = []
+tail_of (x ∷ xs) = xs
+
+abbrev first_in : {A : Type 0} → List A → Option A
+first_in [] = None
+first_in (x ∷ xs) = Some x
+
+drop_one_more : {A : Type 0} (xs : List A) (n : ℕ) (x : A) (rest : List A) → drop n xs ≡ x ∷ rest → drop (suc n) xs ≡ rest
+drop_one_more [] zero x rest e = absurd cc
+drop_one_more [] (suc n) x rest e = absurd cc
+drop_one_more (y ∷ xs) zero x rest e = ap tail_of e
+drop_one_more (y ∷ xs) (suc n) x rest e = drop_one_more xs n x rest e
+
+next_of : {A : Type 0} (P : A → Type 0) (xs : List A) (n : ℕ) (x : A) (rest : List A) → All P xs → drop n xs ≡ x ∷ rest → P x
+next_of P [] zero x rest all e = absurd cc
+next_of P [] (suc n) x rest all e = absurd cc
+next_of P (y ∷ xs) zero x rest all e = subst P (some_same (ap first_in e)) (all 0 y (omega arith))
+next_of P (y ∷ xs) (suc n) x rest all e = next_of P xs n x rest (λ k d low. all (suc k) d (omega (arith, low))) e
+
+-- ---- the law
+
+module _ {S E I O L : Type 0} {s : sources.Ghosts S} {e : elements.Ghosts E} {i : inlets.Ghosts I L O} {o : outlets.Ghosts O L} where
+  module _ (script : List Command) (first : Edited) (was is : Running S E I O L s e i o) (named : All (λ c. names_its_pad c ≡ true) script) (scripted : IsScripted script first was) (acted : IsActed was is) where
+    here : drop (length was.entries.items) script ≡ acted.command ∷ is.commands.items
+    here = sym scripted.left ∙ acted.next
+
+    by_moment : IsAnsweredBy is scripted.g scripted.m acted.command acted.entry.answer → IsScripted script first is
+    by_moment by =
+        record {
+          g = by.next;
+          m = by.now;
+          has = by.has;
+          calm = grows.unflushed;
+          kept = subst (λ (h : ℕ → List Item). IsKept h first) (sym by.crossed) scripted.kept;
+          answered = subst (λ (es : List Entry). AreAnswered by.now.history (owed_then by.now) first script es by.next) (sym acted.entered)
+              (one_more_entry.answered by.now.history (owed_then by.now) first scripted.g by.next script is.commands.items acted.command was.entries.items acted.entry
+              (stays_lawful.entries scripted.m.history (owed_then scripted.m) by.now.history (owed_then by.now) first scripted.g script was.entries.items scripted.kept grows scripted.answered) here
+              (stays_lawful.answer scripted.m.history (owed_then scripted.m) by.now.history (owed_then by.now) scripted.g by.next acted.command acted.entry.answer scripted.has.current.kept grows by.lawful));
+          left = sym (ap (λ (es : List Entry). drop (length es) script) acted.entered
+              ∙ ap (λ (n : ℕ). drop n script) one_more
+              ∙ drop_one_more script (length was.entries.items) acted.command is.commands.items here);
+          falls = subst NeverFall (sym acted.entered)
+              (one_more_entry.falls_nowhere was.entries.items acted.entry scripted.falls (falls scripted.g scripted.m acted.command was.entries.items acted.entry.answer by.next by.lawful by.exact scripted.passed));
+          passed = subst (λ (h : ℕ → List Item). ArePassed by.next.made h is.entries.items) (sym by.crossed)
+              (subst (λ (es : List Entry). ArePassed by.next.made scripted.m.history es) (sym acted.entered)
+              (passed_answered scripted.g scripted.m.history (owed_then scripted.m) acted.command acted.entry.answer by.next (was.entries.items ++ acted.entry ∷ []) by.lawful
+              (passed_more scripted.g.made scripted.m.history was.entries.items acted.entry scripted.passed
+              (λ a place at. own_passed scripted.g scripted.m acted.command place (own_of scripted.g scripted.m acted.command acted.entry.answer by.next by.lawful by.exact a place at)))));
+        }
+      where
+        one_more : length (was.entries.items ++ acted.entry ∷ []) ≡ suc (length was.entries.items)
+        one_more = let long = length_push was.entries.items acted.entry in omega (arith, long)
+
+        grows : GrowsTo scripted.m.history (owed_then scripted.m) by.now.history (owed_then by.now)
+        grows = record {
+          crossed = λ p. subst (λ (h : ℕ → List Item). IsPrefix (scripted.m.history p) (h p)) (sym by.crossed) (prefix_refl (scripted.m.history p));
+          due = by.owed;
+          over = λ p ended. ap (λ (h : ℕ → List Item). h p) by.crossed;
+          unflushed = λ p. subst (λ (h : ℕ → List Item). has_flush_stop (h p) ≡ false) (sym by.crossed) (scripted.calm p);
+        }
+
+    keeps : IsScripted script first is
+    keeps =
+        by_moment
+        (acted.answered scripted.g scripted.m
+        (next_of (λ c. names_its_pad c ≡ true) script (length was.entries.items) acted.command is.commands.items named here) scripted.has)
+
+pub acts_keep_scripts : {S E I O L : Type 0} (s : sources.Ghosts S) (e : elements.Ghosts E) (i : inlets.Ghosts I L O) (o : outlets.Ghosts O L) → ActsKeepScripts s e i o
+acts_keep_scripts s e i o = λ script first was is named scripted acted. keeps script first was is named scripted acted

@@ -1,0 +1,129 @@
+-- Control has the run behind a deed that was done.
+use Rattle.std.proofs.Common.{◌≡◌, ◌≤◌, ◌<◌, ◌++◌, ℕ, Bool, true, false, List, [], ◌∷◌, Option, Some, length, refl, ap, subst, arith}
+use Rattle.std.specs.Prelude.{Result, Ok, Err, IfErr}
+use Rattle.std.proofs.lemmas.Option.{slice_get_within}
+use Rattle.flow_model.specs.Call.{Feed}
+use Rattle.flow_model.specs.Item.{Item, Ev, Eos}
+use Rattle.flow_model.proofs.Prefixes.{prefix_refl}
+use Rattle.gst_value.specs.declared.name.PadName.{PadName}
+use Rattle.gst_value.proofs.Basics.{none_some}
+use Rattle.graph_core.specs.GraphPlan.{pad_id}
+use Rattle.graph_core.specs.Elements.{Made}
+use Rattle.graph_edits.specs.Graph.{made}
+use Rattle.graph_edits.specs.declared.graph.EditedGraph.{EditedGraph}
+use Rattle.graph_pads.specs.declared.pad.Direction.{Direction}
+use Rattle.graph_pads.specs.declared.pad.Direction.TheVariants.{Source, Sink}
+use Rattle.graph_pads.specs.declared.pad.PadPlace.{PadPlace}
+use Rattle.lane_core.specs.Lane.{Lane}
+use Rattle.lane_core.specs.declared.ends.Inlet as inlets
+use Rattle.lane_core.specs.declared.ends.Outlet as outlets
+use Rattle.net_model.specs.Edit.{ended_inside, ended_over, linked, opening_calls, undone, unlinked}
+use Rattle.net_model.specs.Moment.{Moment}
+use Rattle.net_model.specs.Step.{planned}
+use Rattle.flow_model.specs.SinkPads.{push_calls}
+use Rattle.net_model.specs.declared.element.TaskElement as elements
+use Rattle.net_model.specs.declared.source.TaskSource as sources
+use Rattle.net_task.specs.declared.task.Task.{Task}
+use Rattle.net_edits.specs.declared.inside.EditFault.{EditFault}
+use Rattle.net_edits.specs.declared.inside.EditFault.TheVariants as faults
+use Rattle.script_text.specs.declared.command.Act.{Act}
+use Rattle.script_text.specs.declared.command.When.TheVariants.{At, NowPad, Now}
+use Rattle.script_text.specs.declared.command.When.{When}
+use Rattle.edit_model.specs.Edited.{Edited, unlinked_at}
+use Rattle.edit_model.specs.Names.{pad_named, source_when}
+use Rattle.edit_core.specs.Deciding.{IsDeed}
+use Rattle.edit_core.specs.declared.deciding.Deed.TheVariants.{Relink, Unlink}
+use Rattle.edit_core.specs.declared.feeds.Feeds.{Feeds}
+use Rattle.edit_core.proofs.Finding.{found_element, found_of}
+use Rattle.edit_acts.specs.Controlled.{IsControlled, IsToUnlink}
+use Rattle.edit_acts.specs.Ending.{EndsAt}
+use Rattle.edit_acts.specs.Unlinked.{EndFails, IsEnded}
+use Rattle.edit_acts.specs.Relinked.{IsRelinked, IsToRelink, RelinkFails, relinked}
+use Rattle.script_run.specs.Deeds.{DeedFails, IsDone, IsDue}
+use Rattle.script_run.proofs.Owed.{fed_owes}
+
+-- the element of a pad that is named is one of those that were made
+named_low : (direction : Direction) (g : Edited) (name : PadName) (place : PadPlace) → pad_named direction g name ≡ Some place → place.element < length g.made
+named_low direction g name place e =
+    let found = found_of direction g name place e in
+    subst (λ (k : ℕ). k < length g.made) (found_element direction name.pad found.element found.made place found.pad) (slice_get_within g.made found.element found.made found.at)
+
+source_low : (g : Edited) (when : When) (source : PadPlace) → source_when g when ≡ Some source → source.element < length g.made
+source_low g (At pad n) source e = named_low Source g pad source e
+source_low g (NowPad pad) source e = named_low Source g pad source e
+source_low g Now source e = absurd (none_some e)
+
+ends_low : (g : Edited) (h : ℕ → List Item) (when : When) (act : Act) (source sink : PadPlace) → IsDeed g h (source_when g when) act (Relink source sink) → (source.element < length g.made) × (sink.element < length g.made)
+ends_low g h when _ _ _ (IsDeed.relinks name source sink told named linkable unfed) = (source_low g when source told, named_low Sink g name sink named)
+
+-- what holds of a fault, where more follows of it
+pub carry_err : {A E : Type 0} (r : Result A E) (P Q : E → Type 0) → ((e : E) → P e → Q e) → IfErr r P → IfErr r Q
+carry_err (Ok a) P Q each told = tt
+carry_err (Err e) P Q each told = each e told
+
+module _ {S E I O L : Type 0} {s : sources.Ghosts S} {e : elements.Ghosts E} {i : inlets.Ghosts I L O} {o : outlets.Ghosts O L} (graph : EditedGraph) (feeds : Feeds) (tasks : List (Task S E I O L s e i o))
+    (g : Edited) (m : Moment) (tells : Option (List Lane)) (source sink : PadPlace) (items : ℕ) where
+  -- ---- a pad is linked elsewhere
+
+  module _ (w : IsDue graph feeds tasks g m tells (Relink source sink) items) where
+    pub to_relink : IsToRelink graph feeds tasks g m tells source sink items
+    to_relink = record { controlled = w.controlled; when = w.command.when; act = w.command.act; places = w.places; to_do = w.to_do; awake = w.can.0; bare = w.can.1 }
+
+    pub low : (source.element < length g.made) × (sink.element < length g.made)
+    low = ends_low g m.history w.command.when w.command.act source sink w.to_do.deed_is
+
+    pub no_source : (count : ℕ) → count ≡ length (made graph) → count ≤ source.element → ⊥
+    no_source count is past = let size = ap (λ (made : List Made). length made) w.controlled.current.edited.elements in let within = low.0 in omega (arith, is, past, size, within)
+
+    pub no_sink : (count : ℕ) → count ≡ length (made graph) → count ≤ sink.element → ⊥
+    no_sink count is past = let size = ap (λ (made : List Made). length made) w.controlled.current.edited.elements in let within = low.1 in omega (arith, is, past, size, within)
+
+    pub relink_done : (graph' : EditedGraph) (feeds' : Feeds) (tasks' : List (Task S E I O L s e i o)) → IsRelinked graph' feeds' tasks' g m tells source sink items
+        → IsDone graph' feeds' tasks' g m tells (Relink source sink) items
+    relink_done graph' feeds' tasks' r = record {
+      now = relinked source sink r.out m;
+      crossed = refl;
+      owed = λ p. fed_owes (planned (linked (pad_id source) (length (m.history (pad_id source))) sink.element sink.pad (unlinked (pad_id source) m).plan) (unlinked (pad_id source) m)) sink.element
+          (push_calls sink.pad (opening_calls (pad_id source) m) (m.took sink.element)) r.out p;
+      controlled = r.controlled;
+    }
+
+  -- ---- a link is undone
+
+  pub to_unlink : (eos : Bool) → IsDue graph feeds tasks g m tells (Unlink source sink eos) items → IsToUnlink graph feeds tasks g m tells source sink eos items
+  to_unlink eos w = record { controlled = w.controlled; when = w.command.when; act = w.command.act; places = w.places; to_do = w.to_do }
+
+  pub unlink_done : (graph' : EditedGraph) (feeds' : Feeds) (tasks' : List (Task S E I O L s e i o)) → IsControlled graph' feeds' tasks' (unlinked_at source items false g) (unlinked (pad_id source) m) tells
+      → IsDone graph' feeds' tasks' g m tells (Unlink source sink false) items
+  unlink_done graph' feeds' tasks' controlled = record { now = unlinked (pad_id source) m; crossed = refl; owed = λ p. prefix_refl (m.history p ++ m.waits p); controlled = controlled }
+
+  end_done : (graph' : EditedGraph) (feeds' : Feeds) (tasks' : List (Task S E I O L s e i o)) (now : Moment) → EndsAt m (pad_id source) now → IsControlled graph' feeds' tasks' (unlinked_at source items true g) now tells
+      → IsDone graph' feeds' tasks' g m tells (Unlink source sink true) items
+  end_done graph' feeds' tasks' _ (EndsAt.inside element port out ends) controlled = record {
+    now = ended_inside (pad_id source) element port out m;
+    crossed = refl;
+    owed = λ p. fed_owes (planned (undone (pad_id source) (length (m.history (pad_id source))) true m.plan) m) element (push_calls port (Feed (Ev Eos) ∷ []) (m.took element)) out p;
+    controlled = controlled;
+  }
+  end_done graph' feeds' tasks' _ (EndsAt.over element port leads) controlled = record {
+    now = ended_over (pad_id source) element port m;
+    crossed = refl;
+    owed = λ p. prefix_refl (m.history p ++ m.waits p);
+    controlled = controlled;
+  }
+
+  pub eos_done : (graph' : EditedGraph) (feeds' : Feeds) (tasks' : List (Task S E I O L s e i o)) → IsEnded graph' feeds' tasks' g m tells source items
+      → IsDone graph' feeds' tasks' g m tells (Unlink source sink true) items
+  eos_done graph' feeds' tasks' r = end_done graph' feeds' tasks' r.now r.ends r.controlled
+
+module _ {S E I O L : Type 0} {s : sources.Ghosts S} {e : elements.Ghosts E} {i : inlets.Ghosts I L O} {o : outlets.Ghosts O L} (graph : EditedGraph) (feeds : Feeds) (tasks : List (Task S E I O L s e i o))
+    (source sink : PadPlace) (items : ℕ) (graph' : EditedGraph) (feeds' : Feeds) (tasks' : List (Task S E I O L s e i o)) where
+  -- ---- what was not done whole
+
+  pub relink_fails : (fault : EditFault) → RelinkFails graph feeds tasks graph' feeds' tasks' source sink items fault → DeedFails graph feeds tasks graph' feeds' tasks' (Relink source sink) items fault
+  relink_fails faults.OutOfMemory told = told
+  relink_fails (faults.Failed stopped) told = λ g m tells w. (told g m tells (to_relink graph feeds tasks g m tells source sink items w)).edited
+
+  pub end_fails : (fault : EditFault) → EndFails graph feeds tasks graph' feeds' tasks' source sink items fault → DeedFails graph feeds tasks graph' feeds' tasks' (Unlink source sink true) items fault
+  end_fails faults.OutOfMemory told = told
+  end_fails (faults.Failed stopped) told = λ g m tells w. (told g m tells (to_unlink graph feeds tasks g m tells source sink items true w)).edited

@@ -1,0 +1,6 @@
+mod Passed
+mod Acting
+mod Stepping
+mod Turns
+mod Owed
+mod Doing

@@ -1,0 +1,55 @@
+-- What control does for a command, in all that it has of a run.
+use Rattle.std.specs.Prelude.{◌≡◌, ℕ, false, List, Option}
+use Rattle.flow_model.specs.Prefix.{IsPrefix}
+use Rattle.lane_core.specs.Lane.{Lane}
+use Rattle.lane_core.specs.declared.ends.Inlet as inlets
+use Rattle.lane_core.specs.declared.ends.Outlet as outlets
+use Rattle.net_model.specs.Moment.{Moment}
+use Rattle.net_model.specs.declared.element.TaskElement as elements
+use Rattle.net_model.specs.declared.source.TaskSource as sources
+use Rattle.net_task.specs.declared.task.Task.{Task}
+use Rattle.net_edits.specs.declared.inside.EditFault.{EditFault}
+use Rattle.net_edits.specs.declared.inside.EditFault.TheVariants as faults
+use Rattle.graph_edits.specs.Graph.{IsEdited}
+use Rattle.graph_edits.specs.declared.graph.EditedGraph.{EditedGraph}
+use Rattle.script_text.specs.declared.answer.Place.{Place}
+use Rattle.script_text.specs.declared.command.Command.{Command}
+use Rattle.edit_model.specs.Edited.{Edited}
+use Rattle.edit_model.specs.Plans.{is_asleep}
+use Rattle.edit_model.specs.Refused.{has_lanes}
+use Rattle.edit_core.specs.Deciding.{IsToDo, made_by}
+use Rattle.edit_core.specs.Judging.{owed_then}
+use Rattle.edit_core.specs.declared.deciding.Deed.{Deed}
+use Rattle.edit_core.specs.declared.deciding.Deed.TheVariants.{Relink, Unlink, Add, Remove}
+use Rattle.edit_core.specs.declared.feeds.Feeds.{Feeds}
+use Rattle.edit_acts.specs.Controlled.{IsControlled}
+
+-- Control can do a deed. It can't add an element or take one away yet, link a source that is asleep, or link a pad over a lane.
+abbrev pub CanBeDone : Edited → Deed → Type 0
+CanBeDone g (Relink source sink) = (is_asleep g source.element ≡ false) × (has_lanes g sink.element ≡ false)
+CanBeDone g (Unlink source sink eos) = Unit {0}
+CanBeDone g Add = ⊥
+CanBeDone g (Remove element) = ⊥
+
+module _ {S E I O L : Type 0} {s : sources.Ghosts S} {e : elements.Ghosts E} {i : inlets.Ghosts I L O} {o : outlets.Ghosts O L} where
+  -- A command asks for a deed, which control can do, and it is to be done now.
+  pub record IsDue (graph : EditedGraph) (feeds : Feeds) (tasks : List (Task S E I O L s e i o)) (g : Edited) (m : Moment) (tells : Option (List Lane)) (deed : Deed) (items : ℕ) : Type 0 where
+    pub controlled : IsControlled graph feeds tasks g m tells
+    pub can : CanBeDone g deed
+    pub command : Command
+    pub places : List Place
+    pub to_do : IsToDo g m command deed items places
+
+  -- It was done: control has the run of the graph that it makes. Nothing crossed a pad in that, and what was owed to a pad still is.
+  pub record IsDone (graph : EditedGraph) (feeds : Feeds) (tasks : List (Task S E I O L s e i o)) (g : Edited) (m : Moment) (tells : Option (List Lane)) (deed : Deed) (items : ℕ) : Type 0 where
+    pub now : Moment
+    pub crossed : now.history ≡ m.history
+    pub owed : (p : ℕ) → IsPrefix (owed_then m p) (owed_then now p)
+    pub controlled : IsControlled graph feeds tasks (made_by deed items g) now tells
+
+  -- Memory was wanting, and control has the run as it was; or an element refused what it was given, and the graph has the deed.
+  abbrev pub DeedFails : EditedGraph → Feeds → List (Task S E I O L s e i o) → EditedGraph → Feeds → List (Task S E I O L s e i o) → Deed → ℕ → EditFault → Type 0
+  DeedFails graph feeds tasks graph' feeds' tasks' deed items faults.OutOfMemory =
+      (g : Edited) (m : Moment) (tells : Option (List Lane)) → IsControlled graph feeds tasks g m tells → IsControlled graph' feeds' tasks' g m tells
+  DeedFails graph feeds tasks graph' feeds' tasks' deed items (faults.Failed stopped) =
+      (g : Edited) (m : Moment) (tells : Option (List Lane)) → IsDue graph feeds tasks g m tells deed items → IsEdited graph' (made_by deed items g)

@@ -1,0 +1,4 @@
+pub mod Running
+pub mod Deeds
+pub mod Answering
+pub mod Scripted

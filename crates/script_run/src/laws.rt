@@ -1,0 +1,29 @@
+//! What stays of a run that the commands of a script edit. Each function does nothing: its contract is the law.
+ghost use Rattle.script_run.specs.Scripted.{ActsKeepScripts, TurnsKeepScripts};
+
+use edit_acts::laws::{steps_keep_control, trials_keep_control};
+use lane_core::{Inlet, Outlet};
+use net_model::{TaskElement, TaskSource};
+
+/// Where the next command is answered the entries stay lawful, and no place that they name falls.
+pub fn acts_keep_scripts<
+    S: TaskSource,
+    E: TaskElement,
+    I: Inlet<Out = O>,
+    O: Outlet<Lanes = I::Lanes>,
+>()
+    ensures { ActsKeepScripts S.TaskSource E.TaskElement I.Inlet O.Outlet }
+{}
+
+/// So it is in each turn of a task, and where all are tried.
+pub fn turns_keep_scripts<
+    S: TaskSource,
+    E: TaskElement,
+    I: Inlet<Out = O>,
+    O: Outlet<Lanes = I::Lanes>,
+>()
+    ensures { TurnsKeepScripts S.TaskSource E.TaskElement I.Inlet O.Outlet }
+{
+    steps_keep_control::<S, E, I, O>();
+    trials_keep_control::<S, E, I, O>();
+}
