@@ -29,3 +29,6 @@ mod Keeps
 mod Carried
 mod Relinks
 mod Apart
+mod RowsMore
+mod Laned
+mod Carrying

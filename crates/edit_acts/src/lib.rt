@@ -11,6 +11,6 @@ pub mod unlinking;
 
 pub use ending::end;
 pub use linking::{LinkRoom, link, room_to_link};
-pub use relinking::relink;
+pub use relinking::{relink, relink_over};
 pub use undoing::{UndoRoom, room_to_undo, undo};
 pub use unlinking::unlink;

@@ -17,6 +17,7 @@ pub mod Parted
 pub mod Ended
 mod Lefts
 mod Rowed
+mod Exchanged
 mod LanesMore
 mod Beside
 mod Differing
