@@ -48,6 +48,7 @@ use Rattle.edit_acts.specs.Linking.{GoesOnLinked, IsLinkedShort, MayLinkAt, open
 use Rattle.edit_acts.specs.Relinked.{HasNewLink, IsRelinked, IsRelinkedShort, IsToKeep, IsToLink, IsToRelink, RunsRelinked, relinked}
 use Rattle.edit_acts.specs.Undoing.{IsRunWith}
 use Rattle.edit_acts.specs.declared.linking.LinkRoom.{LinkRoom}
+use Rattle.edit_acts.proofs.Asleep.{AreBare, bare_of}
 use Rattle.edit_acts.proofs.Owned.{fresh}
 use Rattle.edit_acts.proofs.Owing.{owes}
 use Rattle.edit_acts.proofs.Relinks.{ArePads, are_pads, may_link, source_named, source_told}
@@ -130,7 +131,7 @@ module _ {S E I O L : Type 0} {s : sources.Ghosts S} {e : elements.Ghosts E} {i 
       edited = new.edited g items now.edited;
       feeds_are = subst (λ (h : ℕ → List Item). AreFeeds feeds' (relinked_at source items sink g) h) (sym history) kept;
       net = run.net;
-      fresh = fresh (relinked_at source items sink g) m' tasks' tells run owned;
+      fresh = fresh (relinked_at source items sink g) m' tasks' tells run owned bare;
       kept = run.kept;
       stand = run.links;
       made = stays_made.answered m.history (owed_then m) g (relinked_at source items sink g) (command w.when w.act) (Done w.places) answered now.made;
@@ -143,10 +144,11 @@ module _ {S E I O L : Type 0} {s : sources.Ghosts S} {e : elements.Ghosts E} {i 
   }
     where
       owned : AreOwned (relinked_at source items sink g) m'
-      owned = record {
-        owned = λ pad place named. ap (λ (f : ℕ → ℕ). f (pad_id place)) owners ∙ w.controlled.pads.owned pad place named;
-        asleep = λ pad place named is. ap (λ (h : ℕ → List Item). h (pad_id place)) history ∙ w.controlled.pads.asleep pad place named (was_asleep g source items sink place.element is);
-      }
+      owned = record { owned = λ pad place named. ap (λ (f : ℕ → ℕ). f (pad_id place)) owners ∙ w.controlled.pads.owned pad place named }
+
+      bare : AreBare (relinked_at source items sink g) m'
+      bare pad place named is =
+          ap (λ (h : ℕ → List Item). h (pad_id place)) history ∙ bare_of graph feeds tasks g m tells w.controlled pad place named (was_asleep g source items sink place.element is)
 
 -- ---- inside of its task
 

@@ -33,6 +33,7 @@ use Rattle.edit_core.proofs.Named.{stays_named}
 use Rattle.edit_core.proofs.Standing.{few_at, found_back, source_there, the_link}
 use Rattle.edit_acts.specs.Controlled.{AreOwned, IsToUnlink, IsUnlinked}
 use Rattle.edit_acts.specs.Undoing.{IsRunWith}
+use Rattle.edit_acts.proofs.Asleep.{bare_of}
 use Rattle.edit_acts.proofs.Owned.{fresh}
 use Rattle.edit_acts.proofs.Owing.{owes}
 
@@ -76,7 +77,7 @@ module _ {S E I O L : Type 0} {s : sources.Ghosts S} {e : elements.Ghosts E} {i 
       edited = edited;
       feeds_are = kept;
       net = run.net;
-      fresh = fresh (unlinked_at source items false g) (unlinked (pad_id source) m) tasks' tells run pads;
+      fresh = fresh (unlinked_at source items false g) (unlinked (pad_id source) m) tasks' tells run pads (bare_of graph feeds tasks g m tells w.controlled);
       kept = run.kept;
       stand = run.links;
       made = stays_made.answered m.history (owed_then m) g (unlinked_at source items false g) (command w.when w.act) (Done w.places) answered now.made;
@@ -91,4 +92,4 @@ module _ {S E I O L : Type 0} {s : sources.Ghosts S} {e : elements.Ghosts E} {i 
       run = subst (λ (n : ℕ). IsRun (unlinked_at source n false g) (unlinked (pad_id source) m) tasks' tells) (sym items_is) ran
 
       pads : AreOwned (unlinked_at source items false g) (unlinked (pad_id source) m)
-      pads = record { owned = w.controlled.pads.owned; asleep = w.controlled.pads.asleep }
+      pads = record { owned = w.controlled.pads.owned }

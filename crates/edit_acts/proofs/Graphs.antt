@@ -1,11 +1,18 @@
 -- What is known of an edited graph is known of it with a link more.
-use Rattle.std.proofs.Common.{ℕ, Bool, true, false, eqb, if◌then◌else◌, List, [], ◌∷◌, ◌++◌, inl, inr}
+use Rattle.std.proofs.Common.{◌≡◌, ◌&&◌, ◌||◌, ℕ, Bool, true, false, eqb, if◌then◌else◌, not, List, [], ◌∷◌, ◌++◌, refl, ap, ◌∙◌, inl, inr}
+use Rattle.std.specs.Prelude.{nat_lt}
+use Rattle.std.specs.List.{list_any}
+use Rattle.std.proofs.lemmas.Bool.{true≢false}
 use Rattle.flow_model.specs.Link.{Linked}
+use Rattle.el_settings.specs.Asked.{is_source}
+use Rattle.gst_value.proofs.Places.{any_append}
+use Rattle.graph_core.specs.Elements.{has}
 use Rattle.graph_core.specs.GraphPlan.{IsIn, pad_id}
 use Rattle.graph_pads.specs.declared.pad.PadLink.{PadLink}
 use Rattle.graph_pads.specs.declared.pad.PadPlace.{PadPlace}
 use Rattle.net_model.specs.Edit.{push_span}
-use Rattle.edit_model.specs.Edited.{Edited, link_between, linked_at}
+use Rattle.edit_model.specs.Edited.{Edited, link_between, linked_at, touches}
+use Rattle.edit_model.specs.Plans.{is_asleep}
 use Rattle.edit_core.specs.Marks.{AllUnmarked, IsUnmarked}
 use Rattle.edit_core.proofs.Marks.{pushed}
 
@@ -34,3 +41,15 @@ more_made more link (one ∷ links) ever each (inr is) = more_made more link lin
 
 pub linked_made : (g : Edited) (source : PadPlace) (place : ℕ) (to : PadPlace) → ((link : PadLink) → IsIn link g.links → IsIn link g.ever) → (link : PadLink) → IsIn link (linked_at source place to g).links → IsIn link (linked_at source place to g).ever
 linked_made g source place to made link is = more_made (link_between source to) link g.links g.ever made is
+
+-- a source that is awake stays so
+wakes : (a b x y : Bool) → (a && not (b || x)) ≡ false → (a && not (b || (x || y))) ≡ false
+wakes false b x y awake = refl
+wakes true true x y awake = refl
+wakes true false true y awake = refl
+wakes true false false y awake = absurd (true≢false awake)
+
+pub still_awake : (g : Edited) (source : PadPlace) (place : ℕ) (to : PadPlace) (n : ℕ) → is_asleep g n ≡ false → is_asleep (linked_at source place to g) n ≡ false
+still_awake g source place to n awake =
+    ap (λ (any : Bool). has is_source g.made n && not (nat_lt n g.lined || any)) (any_append (touches n) g.ever (link_between source to ∷ []))
+    ∙ wakes (has is_source g.made n) (nat_lt n g.lined) (list_any (touches n) g.ever) (list_any (touches n) (link_between source to ∷ [])) awake

@@ -36,6 +36,7 @@ use Rattle.edit_core.specs.Tasks.{AreTasksOf, IsReachedIn, LeadsOn, number_of_he
 use Rattle.edit_core.specs.Ways.{IsRun}
 use Rattle.edit_acts.specs.Linking.{MayLink, sink_in}
 use Rattle.edit_acts.proofs.Appended.{Appended, appended, has_back, has_first, has_second, of_back, on_first, on_second, wire_back}
+use Rattle.edit_acts.proofs.Graphs.{still_awake}
 use Rattle.edit_acts.proofs.Loose.{leads_not_inside, pad_once, sink_first}
 use Rattle.edit_acts.proofs.Placed.{IsOther, PadLed, SameInlets, linked_found, linked_here, linked_inlets, linked_pad, linked_stays}
 use Rattle.edit_acts.proofs.Rewired.{rewired_back, rewired_had, rewired_has, rewired_head, rewired_new, rewired_on, rewired_source, rewired_there}
@@ -266,6 +267,7 @@ module _ {S E I O L : Type 0} {s : sources.Ghosts S} {e : elements.Ghosts E} {i 
   pub linked_tasks : (place : ℕ) → AreTasksOf (linked_at source place sink g) tasks'
   linked_tasks place = record {
     there = λ k n own. let z = owns_back k n own in run.are.there z.0 n z.1;
+    awake = λ k n own. let z = owns_back k n own in still_awake g source place sink n (run.are.awake z.0 n z.1);
     owned = λ n there awake. let z = owned n place there awake in owns_on z.0 n z.1;
     fed = λ n there has.
         let z = run.are.fed n there has in

@@ -18,8 +18,9 @@ mod Joinable
 mod Linked
 mod Overs
 mod Fitting
-mod Owned
 mod Owing
+mod Asleep
+mod Owned
 mod Controls
 mod Ends
 mod Grown
@@ -29,6 +30,7 @@ mod Keeps
 mod Carried
 mod Relinks
 mod Apart
+mod Stepped
 mod RowsMore
 mod Laned
 mod Carrying

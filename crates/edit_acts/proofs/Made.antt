@@ -98,6 +98,7 @@ module _ {S E I O L : Type 0} {s : sources.Ghosts S} {e : elements.Ghosts E} {i 
     pub are_again : AllReached tasks' → AreTasksOf g tasks'
     are_again reached = record {
       there = λ k n own. let y = made.owns k n own in are.there y.0 n y.1;
+      awake = λ k n own. let y = made.owns k n own in are.awake y.0 n y.1;
       owned = λ n there awake. let y = are.owned n there awake in made.kept y.0 n y.1;
       fed = λ n there has. let y = are.fed n there has in let x = made.fed y.0 n (record { head = y.1; fed = y.2; number = y.3 }) in (x.0, x.1.head, x.1.fed, x.1.number);
       inner = λ k task wire n port at is leads. inner wire n port leads (made.wires k wire (record { task = task; at = at; is = is }));

@@ -41,7 +41,7 @@ use Rattle.edit_model.proofs.LinksStanding.{linked_stand}
 use Rattle.edit_core.specs.Tasks.{AreTasksOf, IsReachedIn, LeadsOn}
 use Rattle.edit_core.specs.Ways.{IsRun}
 use Rattle.edit_acts.specs.Over.{LeadsTo, MayLinkOver}
-use Rattle.edit_acts.proofs.Graphs.{linked_made, linked_unmarked}
+use Rattle.edit_acts.proofs.Graphs.{linked_made, linked_unmarked, still_awake}
 use Rattle.edit_acts.proofs.Loose.{leads_not_inside}
 use Rattle.edit_acts.proofs.Rewired.{Rewired, rewired, rewired_back, rewired_has, rewired_head, rewired_on, rewired_source, rewired_there}
 
@@ -215,6 +215,7 @@ module _ {S E I O L : Type 0} {s : sources.Ghosts S} {e : elements.Ghosts E} {i 
   tasks_of : (place : ℕ) → AreTasksOf (linked_at source place sink g) tasks'
   tasks_of place = record {
     there = λ k n own. run.are.there k n (owned_back k n own);
+    awake = λ k n own. still_awake g source place sink n (run.are.awake k n (owned_back k n own));
     owned = λ n there awake. let z = owned n place there awake in (z.0, owned_on z.0 n z.1);
     fed = fed;
     inner = inner;

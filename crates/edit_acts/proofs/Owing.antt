@@ -16,7 +16,7 @@ use Rattle.edit_core.specs.Judging.{owed_then}
 
 module _ {S E I O L : Type 0} {s : sources.Ghosts S} {e : elements.Ghosts E} {i : inlets.Ghosts I L O} {o : outlets.Ghosts O L} (m : Moment) (tasks : List (Task S E I O L s e i o)) (tells : Option (List Lane))
     (net : NetStands m tasks tells) where
-  owed_is : (p : ℕ) → owed_at m p 0 ≡ owed_then m p
+  pub owed_is : (p : ℕ) → owed_at m p 0 ≡ owed_then m p
   owed_is p = subst (λ (cuts : List (ℕ × ℕ)). Holds 0 0 cuts (owed_at m p) (m.history p) (m.waits p)) (net.plain.uncut p) ((net.cells (m.plan.owner p)).pads p refl)
 
   pub owes : OwesToEos m.history (owed_then m)

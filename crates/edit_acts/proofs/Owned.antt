@@ -31,6 +31,7 @@ use Rattle.edit_core.specs.Tasks.{number_of_head}
 use Rattle.edit_core.specs.Ways.{IsRun}
 use Rattle.edit_core.proofs.Finding.{named_there}
 use Rattle.edit_acts.specs.Controlled.{AreOwned}
+use Rattle.edit_acts.proofs.Asleep.{AreBare}
 
 module _ {S E I O L : Type 0} {s : sources.Ghosts S} {e : elements.Ghosts E} {i : inlets.Ghosts I L O} {o : outlets.Ghosts O L} (g : Edited) (m : Moment) (tasks : List (Task S E I O L s e i o)) (tells : Option (List Lane))
     (run : IsRun g m tasks tells) (pads : AreOwned g m) where
@@ -60,9 +61,9 @@ module _ {S E I O L : Type 0} {s : sources.Ghosts S} {e : elements.Ghosts E} {i 
         let own = run.are.owned source.element (named_there Source g pad source named) awake in
         (own.0, record { task = own.1.task; at = own.1.at; has = has_pad own.0 own.1.task own.1.at own.1.has })
 
-  pub fresh : AreFresh g m tasks
-  fresh pad source named none = by (is_asleep g source.element) refl
+  pub fresh : AreBare g m → AreFresh g m tasks
+  fresh bare pad source named none = by (is_asleep g source.element) refl
     where
       by : (asleep : Bool) → is_asleep g source.element ≡ asleep → m.history (pad_id source) ≡ []
-      by true is = pads.asleep pad source named is
+      by true is = bare pad source named is
       by false is = let one = (task_has pad source named is).1 in absurd (has_not one.task.head one.task.parts.items (pad_id source) one.has (none _ one.task one.at))

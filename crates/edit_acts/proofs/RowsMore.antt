@@ -27,6 +27,7 @@ use Rattle.edit_core.specs.Tasks.{AreTasksOf, IsReachedIn}
 use Rattle.edit_core.specs.Ways.{IsRun}
 use Rattle.edit_core.specs.declared.feeds.Feeds.{Feeds}
 use Rattle.edit_acts.specs.Controlled.{IsControlled}
+use Rattle.edit_acts.proofs.Asleep.{bare_of}
 use Rattle.edit_acts.proofs.Owned.{fresh}
 
 module _ {S E I O L : Type 0} {s : sources.Ghosts S} {e : elements.Ghosts E} {i : inlets.Ghosts I L O} {o : outlets.Ghosts O L} where
@@ -38,6 +39,7 @@ module _ {S E I O L : Type 0} {s : sources.Ghosts S} {e : elements.Ghosts E} {i 
     grown_are g are = record {
       there = λ k n own. are.there k n (owns_back tasks tasks' place port [] z k n own);
       owned = λ n there awake. let y = are.owned n there awake in (y.0, owns_forth tasks tasks' place port [] z y.0 n y.1);
+      awake = λ k n own. are.awake k n (owns_back tasks tasks' place port [] z k n own);
       fed = fed;
       inner = λ k task wire n port' at is leads. let w = task_back tasks tasks' place port [] z k task at in are.inner k w.0 wire n port' w.1 (subst (λ (f : TaskFrame). IsWire f wire) (sym w.2) is) leads;
       lanes = λ k task wire lane n port' from at is leads. let w = task_back tasks tasks' place port [] z k task at in are.lanes k w.0 wire lane n port' from w.1 (subst (λ (f : TaskFrame). IsWire f wire) (sym w.2) is) leads;
@@ -119,7 +121,7 @@ module _ {S E I O L : Type 0} {s : sources.Ghosts S} {e : elements.Ghosts E} {i 
           edited = w.current.edited;
           feeds_are = w.current.feeds_are;
           net = net;
-          fresh = fresh g m tasks' tells run w.pads;
+          fresh = fresh g m tasks' tells run w.pads (bare_of graph feeds tasks g m tells w);
           kept = w.current.kept;
           stand = w.current.stand;
           made = w.current.made;

@@ -40,6 +40,7 @@ module _ {S E I O L : Type 0} {s : sources.Ghosts S} {e : elements.Ghosts E} {i 
   same_are : (tasks : List (Task S E I O L s e i o)) → AreTasksOf g tasks → AreTasksOf (unlinked_at source place eos g) tasks
   same_are tasks are = record {
     there = are.there;
+    awake = are.awake;
     owned = are.owned;
     fed = are.fed;
     inner = are.inner;

@@ -1,5 +1,5 @@
 -- What control has of a run at a moment, and how it goes on when the link of a source pad is undone.
-use Rattle.std.specs.Prelude.{◌≡◌, ℕ, true, false, List, [], Option, Some}
+use Rattle.std.specs.Prelude.{◌≡◌, ℕ, false, List, Option, Some}
 use Rattle.lane_core.specs.Lane.{Lane}
 use Rattle.lane_core.specs.declared.ends.Inlet as inlets
 use Rattle.lane_core.specs.declared.ends.Outlet as outlets
@@ -19,17 +19,15 @@ use Rattle.script_text.specs.declared.command.When.{When}
 use Rattle.edit_model.specs.Edited.{Edited, unlinked_at}
 use Rattle.edit_model.specs.Lawful.{command}
 use Rattle.edit_model.specs.Names.{pad_named}
-use Rattle.edit_model.specs.Plans.{is_asleep}
 use Rattle.edit_core.specs.Deciding.{IsToDo}
 use Rattle.edit_core.specs.Notes.{IsCurrent}
 use Rattle.edit_core.specs.Ways.{IsRun}
 use Rattle.edit_core.specs.declared.deciding.Deed.TheVariants.{Unlink}
 use Rattle.edit_core.specs.declared.feeds.Feeds.{Feeds}
 
--- Source pads that are named are those of their elements, and nothing has crossed one of a source that is asleep.
+-- Source pads that are named are those of their elements.
 pub record AreOwned (g : Edited) (m : Moment) : Type 0 where
   pub owned : (pad : PadName) (source : PadPlace) → pad_named Source g pad ≡ Some source → m.plan.owner (pad_id source) ≡ source.element
-  pub asleep : (pad : PadName) (source : PadPlace) → pad_named Source g pad ≡ Some source → is_asleep g source.element ≡ true → m.history (pad_id source) ≡ []
 
 module _ {S E I O L : Type 0} {s : sources.Ghosts S} {e : elements.Ghosts E} {i : inlets.Ghosts I L O} {o : outlets.Ghosts O L} where
   -- The tasks are a run of the edited graph, and what control keeps stands for it.

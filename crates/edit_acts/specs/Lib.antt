@@ -4,3 +4,4 @@ pub mod Linking
 pub mod Over
 pub mod Controlled
 pub mod Relinked
+pub mod Stepping

@@ -3,6 +3,7 @@
 #![tactic(auto)]
 
 pub mod ending;
+pub mod laws;
 pub mod linking;
 pub mod over;
 pub mod relinking;

@@ -74,6 +74,7 @@ module _ {S E I O L : Type 0} {s : sources.Ghosts S} {e : elements.Ghosts E} {i 
       pub steps_keep : AreTasksOf g tasks'
       steps_keep = record {
         there = λ k n own. are.there k n (owns_before k n own);
+        awake = λ k n own. are.awake k n (owns_before k n own);
         owned = λ n there awake. let z = are.owned n there awake in (z.0, owns_behind z.0 n z.1);
         fed = λ n there has. let z = are.fed n there has in let f = fed_behind z.0 z.1 z.2 in (z.0, f.0, f.1, f.2 ∙ z.3);
         inner = λ k task wire n port at is leads. let b = before k task at in are.inner k b.task wire n port b.at (subst (λ (f : TaskFrame). IsWire f wire) b.frame is) leads;

@@ -42,6 +42,7 @@ module _ {S E I O L : Type 0} {s : sources.Ghosts S} {e : elements.Ghosts E} {i 
   -- A task is what its head reaches.
   pub record AreTasksOf (g : Edited) (tasks : List (Task S E I O L s e i o)) : Type 0 where
     pub there : (k n : ℕ) → Owns tasks k n → is_there g n ≡ true
+    pub awake : (k n : ℕ) → Owns tasks k n → is_asleep g n ≡ false
     pub owned : (n : ℕ) → is_there g n ≡ true → is_asleep g n ≡ false → (k : ℕ) × Owns tasks k n
     pub fed : (n : ℕ) → is_there g n ≡ true → has_lanes g n ≡ true → (k : ℕ) × (head : InletHead I) × IsFed tasks k head × (head.number ≡ n)
     pub inner : (k : ℕ) (task : Task S E I O L s e i o) (wire : Wire) (n port : ℕ) → slice_get tasks k ≡ Some task → IsWire (frame_of task) wire → wire.leads ≡ inside n port

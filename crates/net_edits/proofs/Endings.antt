@@ -40,7 +40,7 @@ split_last x [] = ([], x, refl)
 split_last x (y ∷ xs) = let r = split_last y xs in (x ∷ r.0, r.1, ap (λ (l : List Item). x ∷ l) r.2)
 
 -- a list that begins one whose items all stand before its EOS does so too
-not_ended : (front rest : List Item) (x : Item) → has_flush_stop (front ++ x ∷ rest) ≡ false → ((ys : List Item) (last : Item) → front ++ x ∷ rest ≡ ys ++ last ∷ [] → has_ended ys ≡ false) → has_ended front ≡ false
+pub not_ended : (front rest : List Item) (x : Item) → has_flush_stop (front ++ x ∷ rest) ≡ false → ((ys : List Item) (last : Item) → front ++ x ∷ rest ≡ ys ++ last ∷ [] → has_ended ys ≡ false) → has_ended front ≡ false
 not_ended front rest x calm closed =
     let r = split_last x rest in
     let whole : front ++ x ∷ rest ≡ (front ++ r.0) ++ r.1 ∷ [] = ap (λ (l : List Item). front ++ l) r.2 ∙ sym (append_assoc front r.0 (r.1 ∷ [])) in

@@ -21,7 +21,7 @@ mod Exchanged
 mod LanesMore
 mod Beside
 mod Differing
-mod Endings
+pub mod Endings
 mod Frozen
 mod Added
 pub mod Empties

@@ -23,6 +23,7 @@ use Rattle.net_task.specs.Ready.{IsReady}
 use Rattle.net_task.specs.Ties.{Ties}
 use Rattle.net_turns.specs.Net.{HasRow, ListAt, NetGoes, NetStands, Owns, RowStands, SendsInto}
 use Rattle.net_turns.proofs.Calls.{push_else, push_section}
+use Rattle.net_turns.proofs.Growing.{crossed_on, passed_on, stays_so}
 use Rattle.net_turns.proofs.Facts.{inside_no_row, inside_owned, leads_nowhere, leads_once, other_pad, own_pad, sends_leads, wire_owned}
 use Rattle.net_turns.proofs.Keeping.{each_now, each_task, loose_now, others_tied, put_each, put_or, unfed_now, waits_calm}
 use Rattle.net_turns.proofs.Wired.{IsOther, row_stays, sends_back, wired_still}
@@ -89,7 +90,7 @@ module _ {S E I O L : Type 0} {s : sources.Ghosts S} {e : elements.Ghosts E} {i 
       passed_goes =
           record {
             now = passed p x rest n port out m;
-            goes_on = record { plan = refl; answers = refl };
+            goes_on = passed_on m p x rest n port out hands.waited;
             net = record {
               plain = net.plain;
               tied = each_task tasks tasks' place before after c (λ task. Ties task (passed p x rest n port out m)) tied
@@ -134,7 +135,7 @@ module _ {S E I O L : Type 0} {s : sources.Ghosts S} {e : elements.Ghosts E} {i 
       left_goes =
           record {
             now = crossed p x rest m;
-            goes_on = record { plan = refl; answers = refl };
+            goes_on = crossed_on m p x rest leaves.waited;
             net = record {
               plain = net.plain;
               tied = each_task tasks tasks' place before after c (λ task. Ties task (crossed p x rest m)) tied
@@ -161,7 +162,7 @@ module _ {S E I O L : Type 0} {s : sources.Ghosts S} {e : elements.Ghosts E} {i 
     gave_goes tied =
         record {
           now = m;
-          goes_on = record { plan = refl; answers = refl };
+          goes_on = stays_so m;
           net = record {
             plain = net.plain;
             tied = each_task tasks tasks' place before after c (λ task. Ties task m) tied (λ k task apart at. net.tied k task at);

@@ -34,6 +34,7 @@ use Rattle.net_turns.proofs.Calls.{push_else, push_here, push_none, push_section
 use Rattle.net_turns.proofs.Owners.{IsPadOf}
 use Rattle.net_turns.proofs.Others.{tied_still}
 use Rattle.net_turns.proofs.Rows.{between_apart, between_last, ends_apart, holds_apart, holds_last}
+use Rattle.net_turns.proofs.Growing.{sent_on}
 use Rattle.net_turns.proofs.Facts.{inside_no_row, other_pad, own_pad, row_apart, row_in, row_once, rows_apart}
 use Rattle.net_turns.proofs.Keeping.{each_now, each_task, lane_out, loose_now, others_tied, put_each, put_or, ready_still, unfed_now, waits_calm}
 use Rattle.net_turns.proofs.Sending.{pad_before, put_few, put_once, put_row, put_sent}
@@ -162,7 +163,7 @@ module _ {S E I O L : Type 0} {s : sources.Ghosts S} {e : elements.Ghosts E} {i 
     sent_goes =
         record {
           now = sent p x rest n port m;
-          goes_on = record { plan = refl; answers = refl };
+          goes_on = sent_on m p x rest n port sends.waited;
           net = record {
             plain = net.plain;
             tied = each_task tasks tasks' place before after c (λ task. Ties task (sent p x rest n port m)) tied_then

@@ -6,6 +6,7 @@ mod Owners
 mod Others
 mod Wired
 pub mod Facts
+pub mod Growing
 mod Keeping
 mod Crossed
 mod Sending

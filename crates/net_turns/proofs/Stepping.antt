@@ -18,6 +18,7 @@ use Rattle.net_task.specs.Fuel.{Burns, moves_left}
 use Rattle.net_turns.specs.Net.{NetGoes, NetStands}
 use Rattle.net_turns.specs.Rests.{AllFramed, NetFaulted, TaskRests, has_moved}
 use Rattle.net_turns.specs.Turns.{Burned, HasMet, IsStepped, TaskStepped, net_left}
+use Rattle.net_turns.proofs.Growing.{stays_so}
 use Rattle.net_turns.proofs.Places.{set_there, some_before}
 use Rattle.net_turns.proofs.Resting.{rested_same, rested_stands, rested_why}
 use Rattle.net_turns.proofs.Moved.{net_step}
@@ -71,13 +72,13 @@ module _ {S E I O L : Type 0} {s : sources.Ghosts S} {e : elements.Ghosts E} {i 
     where
       by : (moved : Bool) → has_moved step ≡ moved → NetGoes m is tells'
       by true did = net_went laws m was is tells tells' place step net h did
-      by false none = record { now = m; goes_on = record { plan = refl; answers = refl }; net = net_stays m was is tells tells' place step net h none }
+      by false none = record { now = m; goes_on = stays_so m; net = net_stays m was is tells tells' place step net h none }
 
   pub net_faulted : (m : Moment) (was is : List (Task S E I O L s e i o)) (tells : Option (List Lane)) (place : ℕ) (fault : TaskFault) → NetStands m was tells
       → HasMet place fault was is tells → NetFaulted m is place fault
   net_faulted m was is tells place fault net h = record {
     last = m;
-    goes_on = record { plan = refl; answers = refl };
+    goes_on = stays_so m;
     was = was;
     tells = tells;
     net = net;

@@ -34,6 +34,7 @@ use Rattle.net_turns.specs.Net.{HasRow, IsFed, ListAt, NetGoes, NetStands, Owns,
 use Rattle.net_turns.proofs.Calls.{first_calm, gone_else, gone_front, gone_here, gone_length, gone_none, gone_section, push_else, push_here, push_section, without_first}
 use Rattle.net_turns.proofs.Others.{tied_still}
 use Rattle.net_turns.proofs.Lanes.{other_between, other_holds}
+use Rattle.net_turns.proofs.Growing.{taken_on}
 use Rattle.net_turns.proofs.Facts.{row_apart, row_once, row_owned, rows_apart}
 use Rattle.net_turns.proofs.Keeping.{each_now, each_task, loose_now, others_tied, put_each, put_or, ready_still, unfed_now}
 use Rattle.net_turns.proofs.Wired.{HeadsGo, IsOther, asked_goes, sends_back, wired_still}
@@ -221,7 +222,7 @@ module _ {S E I O L : Type 0} {s : sources.Ghosts S} {e : elements.Ghosts E} {i 
     taken_goes =
         record {
           now = taken n port (Feed x) (without_first port (m.held n)) out m;
-          goes_on = record { plan = refl; answers = refl };
+          goes_on = taken_on m n port (Feed x) (without_first port (m.held n)) out;
           net = record {
             plain = net.plain;
             tied = each_task tasks tasks' place before after c (λ task. Ties task then_is)

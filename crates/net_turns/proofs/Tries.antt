@@ -15,6 +15,7 @@ use Rattle.net_task.specs.declared.task.Task.{Task}
 use Rattle.net_turns.specs.Net.{GoesOn, NetGoes, NetStands}
 use Rattle.net_turns.specs.Rests.{NetAdvanced, NetEnded, NetFaulted, NetRests, NetStepped, TaskRests, has_moved}
 use Rattle.net_turns.specs.Turns.{Burned, IsStepped}
+use Rattle.net_turns.proofs.Growing.{goes_both, stays_so}
 use Rattle.net_turns.proofs.Places.{set_there, set_within}
 use Rattle.net_turns.proofs.Stepping.{OutletLaws, net_goes, net_same, net_stays, net_went, net_why}
 use Rattle.gst_value.proofs.Basics.{some_same}
@@ -25,13 +26,6 @@ burned_both true true a b c x y = omega (arith, x, y)
 burned_both true false a b c x y = omega (arith, x, y)
 burned_both false true a b c x y = omega (arith, x, y)
 burned_both false false a b c x y = omega (arith, x, y)
-
--- a moment goes on to itself, and to what one to which it goes on goes on
-stays_so : (m : Moment) → GoesOn m m
-stays_so m = record { plan = refl; answers = refl }
-
-goes_both : {a b c : Moment} → GoesOn a b → GoesOn b c → GoesOn a c
-goes_both x y = record { plan = y.plan ∙ x.plan; answers = y.answers ∙ x.answers }
 
 module _ {S E I O L : Type 0} {s : sources.Ghosts S} {e : elements.Ghosts E} {i : inlets.Ghosts I L O} {o : outlets.Ghosts O L} where
   pub goes_same : (m : Moment) (tasks : List (Task S E I O L s e i o)) (tells : Option (List Lane)) → NetStands m tasks tells → NetGoes m tasks tells

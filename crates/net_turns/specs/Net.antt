@@ -4,6 +4,7 @@ use Rattle.std.specs.Prelude.{◌≡◌, ◌≢◌, ◌++◌, ℕ, zero, suc, fa
 use Rattle.flow_model.specs.Item.{Item}
 use Rattle.flow_model.specs.Call.{Call, feeds}
 use Rattle.flow_model.specs.Eval.{Plan}
+use Rattle.flow_model.specs.Prefix.{IsPrefix}
 use Rattle.gst_item.specs.Sticky.{has_flush_stop}
 use Rattle.lane_core.specs.Lane.{Lane}
 use Rattle.lane_core.specs.declared.ends.Inlet as inlets
@@ -31,10 +32,12 @@ pub record IsPlain (plan : Plan) : Type 0 where
   pub calm : (e port : ℕ) (took : List (List Call)) → has_flush_stop (plan.rule e took port 0) ≡ false
   pub closed : (e port : ℕ) (took : List (List Call)) (front : List Item) (last : Item) → plan.rule e took port 0 ≡ front ++ last ∷ [] → has_ended front ≡ false
 
--- The graph stays, and what each element answers.
+-- The graph stays, and what each element answers. More crosses each source pad, and more is put out there.
 pub record GoesOn (m m' : Moment) : Type 0 where
   pub plan : m'.plan ≡ m.plan
   pub answers : m'.answers ≡ m.answers
+  pub crossed : (p : ℕ) → IsPrefix (m.history p) (m'.history p)
+  pub due : (p : ℕ) → IsPrefix (m.history p ++ m.waits p) (m'.history p ++ m'.waits p)
 
 -- an element is one of a task, or its source
 pub data HasElement (frame : TaskFrame) (n : ℕ) : Type 0 where

@@ -20,6 +20,7 @@ use Rattle.net_task.specs.Ready.{IsReady, LanesGoOn}
 use Rattle.net_task.specs.Reasons.{Why}
 use Rattle.net_task.specs.Ties.{Ties}
 use Rattle.net_turns.specs.declared.net.Stopped.{Stopped}
+use Rattle.net_turns.specs.Net.{NetGoes, NetStands}
 use Rattle.net_turns.specs.Rests.{has_moved}
 
 module _ {S E I O L : Type 0} {s : sources.Ghosts S} {e : elements.Ghosts E} {i : inlets.Ghosts I L O} {o : outlets.Ghosts O L} where
@@ -111,6 +112,12 @@ module _ {S E I O L : Type 0} {s : sources.Ghosts S} {e : elements.Ghosts E} {i 
   abbrev pub HasAdvanced : Order → ℕ → List (Task S E I O L s e i o) → Option (List Lane) → Turns → ℕ → Bool → List (Task S E I O L s e i o) → Option (List Lane) → Type 0
   HasAdvanced order start first told turns idle true tasks tells = HasCome order start first told turns idle tasks tells
   HasAdvanced order start first told turns idle false tasks tells = RunBy order start first told turns None tasks
+
+module _ {S E I O L : Type 0} (s : sources.Ghosts S) (e : elements.Ghosts E) (i : inlets.Ghosts I L O) (o : outlets.Ghosts O L) where
+  -- Where one of its tasks was stepped a net stands at a moment to which it has gone on.
+  abbrev pub StepsKeepNet : Type 0
+  StepsKeepNet = (m : Moment) (tasks tasks' : List (Task S E I O L s e i o)) (tells tells' : Option (List Lane)) (place : ℕ) (step : Step) → NetStands m tasks tells
+      → IsStepped place step tasks tasks' tells tells' → NetGoes m tasks' tells'
 
 -- where a step moved less is left, and else no more
 abbrev pub Burned : Bool → ℕ → ℕ → Type 0

@@ -1,9 +1,21 @@
 //! Laws of nets.
 ghost use Rattle.net_turns.specs.Alone.{LanesStay};
 ghost use Rattle.net_turns.specs.Ends.{LinesEnd, StepsTellOver};
+ghost use Rattle.net_turns.specs.Turns.{StepsKeepNet};
 
 use lane_core::{Inlet, Outlet};
 use net_model::{TaskElement, TaskSource};
+
+/// Where one of the tasks of a net was stepped, the net stands at a moment to which it has gone on: more has crossed the pads, and more was put
+/// out there.
+pub fn steps_keep_net<
+    S: TaskSource,
+    E: TaskElement,
+    I: Inlet<Out = O>,
+    O: Outlet<Lanes = I::Lanes>,
+>()
+    ensures { StepsKeepNet S.TaskSource E.TaskElement I.Inlet O.Outlet }
+{}
 
 /// Where tasks of lines cannot move, nothing waits at their pads.
 ///
