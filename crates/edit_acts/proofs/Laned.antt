@@ -1,5 +1,5 @@
 -- Room in a row of a task stays, and so does a lane that no task uses, where the link of a pad was undone and a task was split.
-use Rattle.std.proofs.Common.{◌≡◌, ◌≢◌, ◌⊎◌, ℕ, Bool, true, false, List, None, Some, length, refl, sym, ap, ◌∙◌, subst, inl, inr, arith}
+use Rattle.std.proofs.Common.{◌≡◌, ◌≢◌, ◌⊎◌, ℕ, Bool, true, false, List, [], ◌∷◌, None, Some, refl, sym, ap, ◌∙◌, subst, inl, inr}
 use Rattle.std.specs.Prelude.{slice_get, slice_set}
 use Rattle.std.proofs.lemmas.Bool.{cases_eq}
 use Rattle.inlet_row.specs.Row.{ForLanes, feeds_of}
@@ -9,7 +9,7 @@ use Rattle.lane_core.specs.declared.ends.Inlet as inlets
 use Rattle.lane_core.specs.declared.ends.Outlet as outlets
 use Rattle.net_model.specs.declared.element.TaskElement as elements
 use Rattle.net_model.specs.declared.source.TaskSource as sources
-use Rattle.task_pads.specs.Behind.{end_in, goes, nowhere}
+use Rattle.task_pads.specs.Behind.{end_in, goes, nowhere, over}
 use Rattle.task_pads.specs.declared.pad.Behind.{Behind}
 use Rattle.task_pads.specs.declared.pad.Behind.TheVariants.{Nothing, Element, Lane as OverLane}
 use Rattle.task_pads.specs.declared.pad.Pad.{Pad}
@@ -34,13 +34,14 @@ use Rattle.edit_acts.proofs.Fits.{all_wires, none_some}
 use Rattle.edit_acts.proofs.Undoes.{ToldSplit}
 use Rattle.edit_acts.proofs.Unlinked.{AreCut}
 
-module _ {S E I O L : Type 0} {s : sources.Ghosts S} {e : elements.Ghosts E} (o : outlets.Ghosts O L) where
+module _ {O L : Type 0} (o : outlets.Ghosts O L) where
   -- a pad that leads nowhere leads into no lane
   no_lane : (behind : Behind O) → goes behind ≡ nowhere → (room : Room) → room_in (end_in o behind) ≡ Some room → ⊥
   no_lane Nothing to room is = none_some room is
   no_lane (Element number hint pad) to room is = none_some room is
-  no_lane (OverLane lane element pad from outlet) to room is = cc
+  no_lane (OverLane lane element pad from outlet) to room is = absurd (let clash : over lane element pad from ≡ nowhere = to in cc)
 
+module _ {S E I O L : Type 0} {s : sources.Ghosts S} {e : elements.Ghosts E} (o : outlets.Ghosts O L) where
   pad_of : (head : Head S I O s) (parts : List (Part E O e)) (wire : Wire) → IsWire (frame_in o head parts) wire → (pad : Pad O) × (wire_of o pad ≡ wire)
   pad_of head parts wire (IsWire.of_part j k x) = let z = wire_pad o head parts j k wire x in (z.0, z.2)
   pad_of (Source head) parts wire (IsWire.of_head is) = (head.pad, some_same is)
@@ -80,7 +81,7 @@ module _ {S E I O L : Type 0} {s : sources.Ghosts S} {e : elements.Ghosts E} {i 
 
   module _ (mid tasks' : List (Task S E I O L s e i o)) (place element pads : ℕ) (z : IsSplitAt mid tasks' place element pads) where
     stays_at : (k : ℕ) (t : Task S E I O L s e i o) → slice_get (slice_set mid place z.is) k ≡ Some t → slice_get tasks' k ≡ Some t
-    stays_at k t at = ap (λ (ts : List (Task S E I O L s e i o)). slice_get ts k) z.list ∙ append_first (slice_set mid place z.is) _ k t at
+    stays_at k t at = ap (λ (ts : List (Task S E I O L s e i o)). slice_get ts k) z.list ∙ append_first (slice_set mid place z.is) (z.fresh ∷ []) k t at
 
     split_at_room : (k n port more : ℕ) → HasRoomAt mid k n port more → HasRoomAt tasks' k n port more
     split_at_room k n port more has = go (cases_eq k place)

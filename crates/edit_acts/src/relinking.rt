@@ -197,7 +197,7 @@ fn carry_over<S: TaskSource, E: TaskElement, I: Inlet<Out = O>, O: Outlet<Lanes 
 ) -> bool
     requires prepared { (source : Places) × IsPrepared tasks.old source sink prepared }
     requires room { HasRoomOver tasks.old.items to.element to.pad room }
-    ensures run { (graph : Graphs) (g : Edited) (m : Moment) (tells : _) (source : Places) → IsPrepared tasks.old source sink prepared
+    ensures { (graph : Graphs) (g : Edited) (m : Moment) (tells : _) (source : Places) → IsPrepared tasks.old source sink prepared
         → prepared.before ≡ sink_behind g.links source → IsToRelink graph feeds.old tasks.old.items g m tells source sink items true
         → HasLane m tasks.old.items tells prepared.pad sink to (opening_in room)
         → (result ≡ true) × RunsRelinkedOver feeds.new tasks.new.items g m tells source sink items }

@@ -5,8 +5,8 @@ use Rattle.edit_acts.proofs.Carried.{run_undone, run_with, to_keep}
 use Rattle.edit_acts.proofs.Carrying.{ToldOver, runs_over}
 use Rattle.edit_acts.proofs.relinking.carry_over.Goals as goal
 
-pub link_over-requires : goal.link_over-requires
-link_over-requires g c κs within = c.undo.ensures.row _ _ _ _ c.requires.room
+pub link_over-requires-clause-room : goal.link_over-requires-clause-room
+link_over-requires-clause-room g c κs within = c.undo.ensures.row _ _ _ _ c.requires.room
 
 told : (g : _) (c : goal.After-link_over g) → ToldOver c.link_over.result c.undo.new.tasks.items c.link_over.new.tasks.items c.args.prepared.pad c.args.to (opening_in c.args.room)
 told g c = record { linked = c.link_over.ensures.linked; none = λ is. (c.link_over.ensures.none is).0; stands = c.link_over.ensures.stands }

@@ -3,8 +3,8 @@ use Rattle.net_edits.proofs.Acts.{size_set}
 use Rattle.net_edits.proofs.Together.{pad_within}
 use Rattle.net_edits.proofs.over.link_between.Goals as goal
 
-pub lead_at-requires : goal.lead_at-requires
-lead_at-requires g c κs within =
+pub lead_at-requires-clause-place : goal.lead_at-requires-clause-place
+lead_at-requires-clause-place g c κs within =
     let low = pad_within c.args.tasks.now.items c.args.pad c.args.sender c.requires.sends in
     let size = size_set c.args.tasks.now.items c.open_at.new.tasks.items c.args.room.receiver c.args.pad _ c.open_at.ensures.grown.set in
     omega (arith, low, size, c.open_at.new.tasks.ok.0)

@@ -6,17 +6,17 @@ use Rattle.net_edits.proofs.Exchanged.{exchanged_has, exchanged_size, grown_by, 
 use Rattle.net_edits.proofs.Rowed.{feeds_has}
 use Rattle.net_edits.proofs.over.open_at.Goals as goal
 
-pub take_row-requires-clause-place : goal.take_row-requires-clause-place
-take_row-requires-clause-place g c κs within =
+pub take_row-row-requires-clause-place : goal.take_row-row-requires-clause-place
+take_row-row-requires-clause-place g c κs within =
     let has = c.requires.room.1.has in
     let low = slice_get_within c.args.tasks.now.items c.args.place has.fed.task has.fed.at in
     omega (arith, low, c.args.tasks.now.ok.0)
 
-pub take_row-requires-clause-row : goal.take_row-requires-clause-row
-take_row-requires-clause-row g c κs within = feeds_has c.args.tasks.now.items c.args.place c.requires.room.0 c.args.port (c.requires.room.1.row, c.requires.room.1.has)
+pub take_row-row-requires-clause-row : goal.take_row-row-requires-clause-row
+take_row-row-requires-clause-row g c κs within = feeds_has c.args.tasks.now.items c.args.place c.requires.room.0 c.args.port (c.requires.room.1.row, c.requires.room.1.has)
 
-pub open_row-requires : goal.open_row-requires
-open_row-requires g c κs within =
+pub open_row-requires-clause-room : goal.open_row-requires-clause-room
+open_row-requires-clause-room g c κs within =
     subst (λ (row : InletRow _). length c.args.events + 1 ≤ room_of row)
     (row_taken c.args.tasks.now.items c.take_row-row.new.tasks.items c.args.place c.args.port c.take_row-row.ensures.taken.0 c.take_row-row.result c.take_row-row.ensures.taken.1 c.requires.room.0 c.requires.room.1.row c.requires.room.1.has)
     c.requires.room.1.room
