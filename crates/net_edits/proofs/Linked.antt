@@ -3,7 +3,6 @@ use Rattle.std.proofs.Common.{◌≡◌, ◌≢◌, ◌⊎◌, ◌++◌, ◌≤�
 use Rattle.std.specs.Prelude.{slice_get}
 use Rattle.flow_model.specs.Call.{Call, feeds}
 use Rattle.flow_model.specs.Item.{Ev, Event, Item}
-use Rattle.flow_model.specs.Sticky.{stickies}
 use Rattle.lane_core.specs.Lane.{IsBetween, IsIn, Lane}
 use Rattle.lane_core.specs.declared.ends.Inlet as inlets
 use Rattle.lane_core.specs.declared.ends.Outlet as outlets

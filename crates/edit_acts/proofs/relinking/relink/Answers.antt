@@ -45,3 +45,6 @@ returns-in-Ok-None-clause-run g c = λ graph m tells w. absurd (c.in-Ok-None.ens
 pub returns-in-Err-prepare-clause-faults : goal.returns-in-Err-prepare-clause-faults
 returns-in-Err-prepare-clause-faults g c = λ graph m tells w.
     has_again c.args.graph.now c.prepare.new.graph c.args.feeds.now c.args.tasks.now.items c.prepare.new.tasks.items graph m tells c.in-Err-prepare.ensures.tasks (c.in-Err-prepare.ensures.stays graph w.current.edited) w
+
+pub returns-in-Err-clause-faults : goal.returns-in-Err-clause-faults
+returns-in-Err-clause-faults g c = λ graph m tells w. w

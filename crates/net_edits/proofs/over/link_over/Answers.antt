@@ -1,7 +1,7 @@
 use Rattle.std.proofs.Common.{List, refl, subst}
 use Rattle.net_task.specs.declared.task.Task.{Task}
 use Rattle.net_edits.specs.Nets.{NoneHas, TaskHas}
-use Rattle.net_edits.specs.Over.{CannotJoin, TaskFeeds}
+use Rattle.net_edits.specs.Over.{CannotJoin}
 use Rattle.net_edits.proofs.Linked.{linked_ready, linked_stands}
 use Rattle.net_edits.proofs.over.link_over.Goals as goal
 

@@ -1,4 +1,4 @@
-use Rattle.std.proofs.Common.{◌≡◌, ◌++◌, ◌∙◌, arith, [], append-nil, sym}
+use Rattle.std.proofs.Common.{◌∙◌, arith, [], append-nil, sym}
 use Rattle.std.proofs.lemmas.Result.{on_ok_weaker}
 use Rattle.inlet_row.specs.Row.{feeds_of}
 use Rattle.net_edits.proofs.Exchanged.{exchanged_has, exchanged_size, grown_by, row_put}
