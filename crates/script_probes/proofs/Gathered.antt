@@ -1,5 +1,5 @@
 -- The probes of commands, as they are gathered and sorted.
-use Rattle.std.proofs.Common.{◌≡◌, ◌<◌, ◌≤◌, ◌+◌, ℕ, zero, suc, false, List, [], ◌∷◌, ◌++◌, Some, None, length, get_or, take, refl, sym, ap, ◌∙◌, subst, inl, arith, length-take}
+use Rattle.std.proofs.Common.{◌≡◌, ◌<◌, ◌≤◌, ◌+◌, ℕ, zero, suc, false, List, [], ◌∷◌, ◌++◌, Some, length, get_or, take, refl, sym, ap, ◌∙◌, subst, inl, arith, length-take}
 use Rattle.std.specs.List.Sorted.{IsPermutation, IsSortedBy}
 use Rattle.std.specs.Ordering.{nat_cmp, ordering_then, is_lt}
 use Rattle.std.specs.declared.cmp.Ordering.{Ordering}
@@ -16,9 +16,7 @@ use Rattle.script_text.specs.declared.command.When.{When}
 use Rattle.script_text.specs.declared.command.When.TheVariants.{At, NowPad, Now}
 use Rattle.script_probes.specs.Stops.{AreStops, InOrder, IsMember, StopsFirst, WaitsAt, stop_at, stops_of, when_at}
 use Rattle.script_probes.proofs.Members.{each_append, each_from_all, each_permuted, member_left, member_permuted, member_right}
-
-none_some : {X : Type 0} (x : X) → None ≡ Some x → ⊥
-none_some x e = cc
+use Rattle.gst_value.proofs.Basics.{none_some}
 
 stops_append : (place : ℕ) (xs ys : List Command) (end : ℕ) → end ≡ place + length xs → stops_of place (xs ++ ys) ≡ stops_of place xs ++ stops_of end ys
 stops_append place [] ys end e = ap (λ n. stops_of n ys) (omega (arith, e))
@@ -62,7 +60,7 @@ each_stop P place (c ∷ cs) h =
     go Now e = tt
 
 member_stop : (place : ℕ) (cs : List Command) (k q : ℕ) (pad : PadName) (buffers : ℕ) → q ≡ place + k → when_at cs k ≡ Some (At pad buffers) → IsMember (record { command = q; buffers = buffers }) (stops_of place cs)
-member_stop place [] k q pad buffers e is = absurd (none_some (At pad buffers) is)
+member_stop place [] k q pad buffers e is = absurd (none_some is)
 member_stop place (c ∷ cs) zero q pad buffers e is =
     member_left (record { command = q; buffers = buffers }) (stop_at place c.when) (stops_of (suc place) cs)
     (subst (λ (when : When). IsMember (record { command = q; buffers = buffers }) (stop_at place when)) (sym (some_same c.when (At pad buffers) is))

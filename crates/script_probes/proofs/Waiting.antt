@@ -13,6 +13,7 @@ use Rattle.script_text.specs.declared.command.When.TheVariants.{At}
 use Rattle.script_probes.specs.Queues.{IsQueue, is_at, is_pad, unanswered, waits_at}
 use Rattle.script_probes.specs.Stops.{AreStops, InOrder, IsMember, IsStop, StillWaits, StopsFirst, WaitsAt}
 use Rattle.script_probes.proofs.Members.{all_from_each, each_member, each_passed, each_weaker, member_filter, order_filter}
+use Rattle.gst_value.proofs.Basics.{none_some}
 
 both : (a b : Bool) → (a && b) ≡ true → (a ≡ true) × (b ≡ true)
 both true b h = (refl, h)
@@ -28,16 +29,13 @@ pub pad_itself : (a : PadName) → is_pad a a ≡ true
 pad_itself a =
     ap (λ t. t && bytes_eq a.pad a.pad) ((bytes_eq-Decides a.element a.element).1 refl) ∙ (bytes_eq-Decides a.pad a.pad).1 refl
 
-none_some : {X : Type 0} (x : X) → None ≡ Some x → ⊥
-none_some x e = cc
-
 -- each command of a probe is there
 pub commands_there : (commands : List Command) (stops : List Probe) → AreStops commands stops → All (λ (stop : Probe). stop.command < length commands) stops
 commands_there commands stops h = all_from_each (λ (stop : Probe). stop.command < length commands) stops
     (each_weaker (λ (stop : Probe). (pad : PadName) × WaitsAt commands pad stop) (λ (stop : Probe). stop.command < length commands) stops (λ stop w. within stop.command (At w.0 stop.buffers) (slice_get commands stop.command) refl w.1) h.each)
   where
     within : (place : ℕ) (when : When) (found : Option Command) → slice_get commands place ≡ found → option_map (λ (command : Command). command.when) found ≡ Some when → place < length commands
-    within place when None e is = absurd (none_some when is)
+    within place when None e is = absurd (none_some is)
     within place when (Some c) e is = slice_get_within commands place c e
 
 -- of all probes, those of one pad are its queue at first

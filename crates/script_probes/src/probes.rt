@@ -1,5 +1,5 @@
 //! The probes of a script.
-ghost use Rattle.std.specs.Prelude.{◌≡◌, ◌<◌, ◌≤◌, ◌^◌, ℕ, List, length, IfOk};
+ghost use Rattle.std.specs.Prelude.{◌<◌, ◌≤◌, ◌^◌, ℕ, List, length, IfOk};
 ghost use Rattle.script_probes.specs.Stops.{IsStop};
 ghost use Rattle.script_text.specs.declared.command.Command.{Command as CommandOf};
 
