@@ -1,14 +1,16 @@
 -- Control has the run behind a deed that was done.
-use Rattle.std.proofs.Common.{◌≡◌, ◌≤◌, ◌<◌, ◌++◌, ℕ, Bool, true, false, List, [], ◌∷◌, Option, Some, length, refl, ap, subst, arith}
-use Rattle.std.specs.Prelude.{Result, Ok, Err, IfErr, IfOk}
+use Rattle.std.proofs.Common.{◌≡◌, ◌≤◌, ◌<◌, ◌++◌, ℕ, Bool, true, false, List, [], ◌∷◌, Option, None, Some, if◌then◌else◌, length, nat_lt, position, refl, ap, subst, arith}
+use Rattle.std.specs.List.{list_any}
+use Rattle.std.proofs.lemmas.Bool.{false≢true, ltb-true}
+use Rattle.std.specs.Prelude.{◌==◌, Result, Ok, Err, IfErr, IfOk, option_and_then}
 use Rattle.std.proofs.lemmas.Option.{slice_get_within}
 use Rattle.flow_model.specs.Call.{Feed}
 use Rattle.flow_model.specs.Item.{Item, Ev, Eos}
 use Rattle.flow_model.proofs.Prefixes.{prefix_refl}
 use Rattle.gst_value.specs.declared.name.PadName.{PadName}
-use Rattle.gst_value.proofs.Basics.{none_some}
+use Rattle.gst_value.proofs.Basics.{none_some, some_same}
 use Rattle.graph_core.specs.GraphPlan.{pad_id}
-use Rattle.graph_core.specs.Elements.{Made}
+use Rattle.graph_core.specs.Elements.{Made, is_named}
 use Rattle.graph_edits.specs.Graph.{made}
 use Rattle.graph_edits.specs.declared.graph.EditedGraph.{EditedGraph}
 use Rattle.graph_pads.specs.declared.pad.Direction.{Direction}
@@ -29,14 +31,15 @@ use Rattle.net_edits.specs.declared.inside.EditFault.TheVariants as faults
 use Rattle.script_text.specs.declared.command.Act.{Act}
 use Rattle.script_text.specs.declared.command.When.TheVariants.{At, NowPad, Now}
 use Rattle.script_text.specs.declared.command.When.{When}
-use Rattle.edit_model.specs.Edited.{Edited, unlinked_at}
+use Rattle.edit_model.specs.Edited.{Edited, is_there, unlinked_at}
 use Rattle.edit_model.specs.Names.{pad_named, source_when}
 use Rattle.edit_core.specs.Deciding.{IsDeed}
-use Rattle.edit_core.specs.declared.deciding.Deed.TheVariants.{Relink, Unlink}
+use Rattle.edit_core.specs.declared.deciding.Deed.TheVariants.{Relink, Remove, Unlink}
 use Rattle.edit_core.specs.declared.feeds.Feeds.{Feeds}
 use Rattle.edit_core.proofs.Finding.{found_element, found_of}
 use Rattle.edit_acts.specs.Controlled.{IsControlled, IsToUnlink, IsUnlinked}
 use Rattle.edit_acts.specs.Ending.{EndsAt}
+use Rattle.edit_acts.specs.Removed.{IsToRemove}
 use Rattle.edit_acts.specs.Unlinked.{EndFails, IsEnded}
 use Rattle.edit_acts.specs.Relinked.{IsRelinked, IsToRelink, RelinkFails, relinked}
 use Rattle.edit_acts.specs.Deeds.{DeedFails, IsDone, IsDue}
@@ -56,10 +59,38 @@ source_low g Now source e = absurd (none_some e)
 ends_low : (g : Edited) (h : ℕ → List Item) (when : When) (act : Act) (source sink : PadPlace) → IsDeed g h (source_when g when) act (Relink source sink) → (source.element < length g.made) × (sink.element < length g.made)
 ends_low g h when _ _ _ (IsDeed.relinks name source sink told named linkable unfed) = (source_low g when source told, named_low Sink g name sink named)
 
--- what holds of a fault, where more follows of it
-pub carry_err : {A E : Type 0} (r : Result A E) (P Q : E → Type 0) → ((e : E) → P e → Q e) → IfErr r P → IfErr r Q
-carry_err (Ok a) P Q each told = tt
-carry_err (Err e) P Q each told = each e told
+element_low : (g : Edited) (h : ℕ → List Item) (p : Option PadPlace) (act : Act) (element : ℕ) → IsDeed g h p act (Remove element) → element < length g.made
+element_low g h p _ _ (IsDeed.removes name element named free) = by (position (is_named name) g.made) refl named
+  where
+    there_low : (b : Bool) → (if b then false else nat_lt element (length g.made)) ≡ true → element < length g.made
+    there_low true e = absurd (false≢true e)
+    there_low false e = ltb-true element (length g.made) e
+
+    by_there : (k : ℕ) (b : Bool) → is_there g k ≡ b → (if b then Some k else None) ≡ Some element → element < length g.made
+    by_there k true there e = there_low (list_any (λ gone. gone == element) g.removed) (subst (λ (n : ℕ). is_there g n ≡ true) (some_same e) there)
+    by_there k false there e = absurd (none_some e)
+
+    by : (o : Option ℕ) → position (is_named name) g.made ≡ o → option_and_then (λ k. if is_there g k then Some k else None) o ≡ Some element → element < length g.made
+    by None at e = absurd (none_some e)
+    by (Some k) at e = by_there k (is_there g k) refl e
+
+module _ {S E I O L : Type 0} {s : sources.Ghosts S} {e : elements.Ghosts E} {i : inlets.Ghosts I L O} {o : outlets.Ghosts O L} (graph : EditedGraph) (feeds : Feeds) (tasks : List (Task S E I O L s e i o))
+    (g : Edited) (m : Moment) (tells : Option (List Lane)) where
+  size : IsControlled graph feeds tasks g m tells → length (made graph) ≡ length g.made
+  size w = ap (λ (made : List Made). length made) w.current.edited.elements
+
+  module _ (source sink : PadPlace) (items : ℕ) (w : IsToRelink graph feeds tasks g m tells source sink items) where
+    pub no_source : (count : ℕ) → count ≡ length (made graph) → count ≤ source.element → ⊥
+    no_source count is past =
+        let same = size w.controlled in let within = (ends_low g m.history w.when w.act source sink w.to_do.deed_is).0 in omega (arith, is, past, same, within)
+
+    pub no_sink : (count : ℕ) → count ≡ length (made graph) → count ≤ sink.element → ⊥
+    no_sink count is past =
+        let same = size w.controlled in let within = (ends_low g m.history w.when w.act source sink w.to_do.deed_is).1 in omega (arith, is, past, same, within)
+
+  pub no_element : (element : ℕ) → IsToRemove graph feeds tasks g m tells element → (count : ℕ) → count ≡ length (made graph) → count ≤ element → ⊥
+  no_element element w count is past =
+      let same = size w.controlled in let within = element_low g m.history (source_when g w.when) w.act element w.to_do.deed_is in omega (arith, is, past, same, within)
 
 module _ {S E I O L : Type 0} {s : sources.Ghosts S} {e : elements.Ghosts E} {i : inlets.Ghosts I L O} {o : outlets.Ghosts O L} (graph : EditedGraph) (feeds : Feeds) (tasks : List (Task S E I O L s e i o))
     (g : Edited) (m : Moment) (tells : Option (List Lane)) (source sink : PadPlace) (items : ℕ) where
@@ -68,15 +99,6 @@ module _ {S E I O L : Type 0} {s : sources.Ghosts S} {e : elements.Ghosts E} {i 
   module _ (w : IsDue graph feeds tasks g m tells (Relink source sink) items) where
     pub to_relink : IsToRelink graph feeds tasks g m tells source sink items
     to_relink = record { controlled = w.controlled; when = w.command.when; act = w.command.act; places = w.places; to_do = w.to_do; awake = w.can.0; bare = w.can.1 }
-
-    pub low : (source.element < length g.made) × (sink.element < length g.made)
-    low = ends_low g m.history w.command.when w.command.act source sink w.to_do.deed_is
-
-    pub no_source : (count : ℕ) → count ≡ length (made graph) → count ≤ source.element → ⊥
-    no_source count is past = let size = ap (λ (made : List Made). length made) w.controlled.current.edited.elements in let within = low.0 in omega (arith, is, past, size, within)
-
-    pub no_sink : (count : ℕ) → count ≡ length (made graph) → count ≤ sink.element → ⊥
-    no_sink count is past = let size = ap (λ (made : List Made). length made) w.controlled.current.edited.elements in let within = low.1 in omega (arith, is, past, size, within)
 
     pub relink_done : (graph' : EditedGraph) (feeds' : Feeds) (tasks' : List (Task S E I O L s e i o)) → IsRelinked graph' feeds' tasks' g m tells source sink items
         → IsDone graph' feeds' tasks' g m tells (Relink source sink) items
@@ -120,11 +142,11 @@ module _ {S E I O L : Type 0} {s : sources.Ghosts S} {e : elements.Ghosts E} {i 
     (source sink : PadPlace) (items : ℕ) (graph' : EditedGraph) (feeds' : Feeds) (tasks' : List (Task S E I O L s e i o)) where
   -- ---- what was not done whole
 
-  pub relink_fails : (fault : EditFault) → RelinkFails graph feeds tasks graph' feeds' tasks' source sink items fault → DeedFails graph feeds tasks graph' feeds' tasks' (Relink source sink) items fault
+  relink_fails : (fault : EditFault) → RelinkFails graph feeds tasks graph' feeds' tasks' source sink items fault → DeedFails graph feeds tasks graph' feeds' tasks' (Relink source sink) items fault
   relink_fails faults.OutOfMemory told = told
   relink_fails (faults.Failed stopped) told = λ g m tells w. (told g m tells (to_relink graph feeds tasks g m tells source sink items w)).edited
 
-  pub end_fails : (fault : EditFault) → EndFails graph feeds tasks graph' feeds' tasks' source sink items fault → DeedFails graph feeds tasks graph' feeds' tasks' (Unlink source sink true) items fault
+  end_fails : (fault : EditFault) → EndFails graph feeds tasks graph' feeds' tasks' source sink items fault → DeedFails graph feeds tasks graph' feeds' tasks' (Unlink source sink true) items fault
   end_fails faults.OutOfMemory told = told
   end_fails (faults.Failed stopped) told = λ g m tells w. (told g m tells (to_unlink graph feeds tasks g m tells source sink items true w)).edited
 
@@ -155,3 +177,15 @@ module _ {S E I O L : Type 0} {s : sources.Ghosts S} {e : elements.Ghosts E} {i 
       let ran = told g m tells (to_unlink graph feeds tasks g m tells source sink items false w) in
       (ran.0, unlink_done graph feeds tasks g m tells source sink items graph' feeds' tasks' ran.1)
   plain_told true done is told g m tells w = absurd cc
+
+  pub relink_told : (r : Result Bool EditFault)
+      → IfOk r (λ done. (g : Edited) (m : Moment) (tells : Option (List Lane)) → IsToRelink graph feeds tasks g m tells source sink items → (done ≡ true) × IsRelinked graph' feeds' tasks' g m tells source sink items)
+      → IfOk r (λ done. (g : Edited) (m : Moment) (tells : Option (List Lane)) → IsDue graph feeds tasks g m tells (Relink source sink) items → (done ≡ true) × IsDone graph' feeds' tasks' g m tells (Relink source sink) items)
+  relink_told (Ok done) told = λ g m tells w.
+      let ran = told g m tells (to_relink graph feeds tasks g m tells source sink items w) in
+      (ran.0, relink_done graph feeds tasks g m tells source sink items w graph' feeds' tasks' ran.1)
+  relink_told (Err fault) told = tt
+
+  pub relink_failed : {A : Type 0} (r : Result A EditFault) → IfErr r (RelinkFails graph feeds tasks graph' feeds' tasks' source sink items) → IfErr r (DeedFails graph feeds tasks graph' feeds' tasks' (Relink source sink) items)
+  relink_failed (Ok done) told = tt
+  relink_failed (Err fault) told = relink_fails fault told

@@ -3,7 +3,7 @@ ghost use Rattle.std.specs.Prelude.{◌≡◌, true, IfOk, IfErr};
 ghost use Rattle.edit_model.specs.Edited.{Edited};
 ghost use Rattle.net_model.specs.Moment.{Moment};
 ghost use Rattle.net_turns.specs.Net.{NetReady};
-ghost use Rattle.edit_core.specs.declared.deciding.Deed.TheVariants.{Relink, Unlink};
+ghost use Rattle.edit_core.specs.declared.deciding.Deed.TheVariants.{Unlink};
 ghost use Rattle.edit_acts.specs.Deeds.{DeedFails, IsDone, IsDue};
 
 use crate::relinking::relink;
@@ -33,39 +33,12 @@ pub fn do_deed<S: TaskSource, E: TaskElement, I: Inlet<Out = O>, O: Outlet<Lanes
     ensures ready { (tells : _) → NetReady tasks.old.items tells → NetReady tasks.new.items tells }
 {
     match deed {
-        Deed::Relink { source, sink } => {
-            link_elsewhere(alloc, graph, feeds, tasks, source, sink, items)
-        }
+        Deed::Relink { source, sink } => relink(alloc, graph, feeds, tasks, source, sink, items),
         Deed::Unlink { source, sink, eos } => {
             undo_link(alloc, graph, feeds, tasks, source, sink, eos, items)
         }
         Deed::Add | Deed::Remove { .. } => Ok(false),
     }
-}
-
-/// Links a source pad elsewhere, where the elements of both pads are there.
-fn link_elsewhere<S: TaskSource, E: TaskElement, I: Inlet<Out = O>, O: Outlet<Lanes = I::Lanes>>(
-    alloc: Global,
-    graph: &mut EditedGraph,
-    feeds: &mut Feeds,
-    tasks: &mut Vec<Task<S, E, I, O>>,
-    source: PadPlace,
-    sink: PadPlace,
-    items: u64,
-) -> Result<bool, EditFault>
-    ensures done { IfOk result (λ done. (g : Edited) (m : Moment) (tells : _) → IsDue graph.old feeds.old tasks.old.items g m tells (Relink source sink) items
-        → (done ≡ true) × IsDone graph.new feeds.new tasks.new.items g m tells (Relink source sink) items) }
-    ensures failed { IfErr result (DeedFails graph.old feeds.old tasks.old.items graph.new feeds.new tasks.new.items (Relink source sink) items) }
-    ensures ready { (tells : _) → NetReady tasks.old.items tells → NetReady tasks.new.items tells }
-{
-    let count = graph.count();
-    if source.element >= count {
-        return Ok(false);
-    }
-    if sink.element >= count {
-        return Ok(false);
-    }
-    relink(alloc, graph, feeds, tasks, source, sink, items)
 }
 
 /// Undoes the link of a source pad, with EOS or without.

@@ -53,13 +53,18 @@ pub fn relink<S: TaskSource, E: TaskElement, I: Inlet<Out = O>, O: Outlet<Lanes 
     sink: PadPlace,
     items: u64,
 ) -> Result<bool, EditFault>
-    requires source { source.element < length (made graph.old) }
-    requires sink { sink.element < length (made graph.old) }
     ensures run { IfOk result (λ done. (g : Edited) (m : Moment) (tells : _) → IsToRelink graph.old feeds.old tasks.old.items g m tells source sink items
         → (done ≡ true) × IsRelinked graph.new feeds.new tasks.new.items g m tells source sink items) }
     ensures faults { IfErr result (RelinkFails graph.old feeds.old tasks.old.items graph.new feeds.new tasks.new.items source sink items) }
     ensures ready { (tells : _) → NetReady tasks.old.items tells → NetReady tasks.new.items tells }
 {
+    let count = graph.count();
+    if source.element >= count {
+        return Ok(false);
+    }
+    if sink.element >= count {
+        return Ok(false);
+    }
     match prepare(alloc, graph, tasks, source, sink) {
         Ok(Some(prepared)) => match carry_out(alloc, feeds, tasks, prepared, sink, items) {
             Ok(done) => Ok(done),

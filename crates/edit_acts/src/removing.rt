@@ -1,5 +1,5 @@
 //! An element that no link touches is taken away.
-ghost use Rattle.std.specs.Prelude.{◌≡◌, ◌<◌, ℕ, List, true, false, None, IfSome, length};
+ghost use Rattle.std.specs.Prelude.{◌≡◌, ◌≤◌, ◌<◌, ℕ, List, true, false, None, IfSome, length};
 ghost use Rattle.flow_model.specs.Item.{Item};
 ghost use Rattle.edit_core.specs.declared.feeds.Feeds.{Feeds};
 ghost use Rattle.edit_model.specs.Edited.{Edited, without_element};
@@ -30,18 +30,21 @@ pub fn unlinked_is_alone<
 
 /// Takes an element away, in the tasks and in the graph; what control keeps of it stays. Tells its task, which is taken out of the tasks with all
 /// that it still holds: its file is still open then. None where no task has the element, as with a source that is asleep. The other tasks stay in
-/// their order. It takes no memory.
+/// their order. A graph that never had the element stays. It takes no memory.
 pub fn remove<S: TaskSource, E: TaskElement, I: Inlet<Out = O>, O: Outlet<Lanes = I::Lanes>>(
     graph: &mut EditedGraph,
     tasks: &mut Vec<Task<S, E, I, O>>,
     element: u32,
 ) -> Option<Task<S, E, I, O>>
-    requires element { element < length (made graph.old) }
     ensures taken { TakesOut tasks.old.items tasks.new.items element result }
-    ensures graph { (g : Edited) → IsEdited graph.old g → IsEdited graph.new (without_element element g) }
+    ensures graph { (g : Edited) → element < length (made graph.old) → IsEdited graph.old g → IsEdited graph.new (without_element element g) }
+    ensures outside { length (made graph.old) ≤ element → graph.new ≡ graph.old }
     ensures run { (feeds : Feeds) (g : Edited) (m : Moment) (tells : _) → IsToRemove graph.old feeds tasks.old.items g m tells element
         → IsRemoved graph.new feeds tasks.new.items g m tells element result }
 {
+    if element >= graph.count() {
+        return take_out(tasks, element);
+    }
     graph.remove(element);
     take_out(tasks, element)
 }

@@ -3,6 +3,7 @@ use Rattle.net_task.specs.declared.task.Task.{Task}
 use Rattle.net_turns.specs.Net.{NetReady}
 use Rattle.edit_acts.specs.Relinked.{IsToRelink}
 use Rattle.edit_acts.proofs.Carried.{has_again, is_relinked}
+use Rattle.edit_acts.proofs.Deeds.{no_sink, no_source}
 use Rattle.edit_acts.proofs.relinking.relink.Goals as goal
 
 pub returns-in-Ok-clause-run : goal.returns-in-Ok-clause-run
@@ -39,3 +40,11 @@ returns-in-Ok-clause-ready g c = λ tells ready. c.carry_out.ensures.ready tells
 
 pub returns-in-Err-carry_out-clause-ready : goal.returns-in-Err-carry_out-clause-ready
 returns-in-Err-carry_out-clause-ready g c = λ tells ready. c.carry_out.ensures.ready tells (subst (λ (ts : List (Task _ _ _ _ _ _ _ _ _)). NetReady ts tells) (sym c.in-Ok-Some.ensures.tasks) ready)
+
+pub returns-then-source-count-clause-run : goal.returns-then-source-count-clause-run
+returns-then-source-count-clause-run g c = λ graph m tells w.
+    absurd (no_source c.args.graph.now c.args.feeds.now c.args.tasks.now.items graph m tells c.args.source c.args.sink c.args.items w c.count-count.result c.count-count.ensures.made c.if-source-count.true)
+
+pub returns-then-sink-count-clause-run : goal.returns-then-sink-count-clause-run
+returns-then-sink-count-clause-run g c = λ graph m tells w.
+    absurd (no_sink c.args.graph.now c.args.feeds.now c.args.tasks.now.items graph m tells c.args.source c.args.sink c.args.items w c.count-count.result c.count-count.ensures.made c.if-sink-count.true)
