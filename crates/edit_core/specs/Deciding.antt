@@ -88,9 +88,9 @@ pub record IsToDo (g : Edited) (m : Moment) (c : Command) (deed : Deed) (items :
   pub reached : IsReached g m c items places
   pub deed_is : IsDeed g m.history (source_when g c.when) c.act deed
 
--- A refusal names the place that the command has reached, but where something is not there.
+-- A refusal names the place that the command has reached, but where something is not there. Where nothing is done, nothing is told as done.
 abbrev pub TellsPlace : Edited → Moment → Command → Answer → Type 0
-TellsPlace g m c (Done places) = Unit {0}
+TellsPlace g m c (Done places) = ⊥
 TellsPlace g m c Unreached = Unit {0}
 TellsPlace g m c (Refused reason places) = (reason ≡ reasons.NoSuch) ⊎ ((items : ℕ) × IsReached g m c items places)
 
