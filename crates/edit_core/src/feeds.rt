@@ -60,7 +60,7 @@ pub struct Feeds {
 }
 
 impl Feeds {
-    ghost use Rattle.std.specs.Prelude.{ℕ, Bool, List, false, length, take, IfOk, OnErr, OnOk};
+    ghost use Rattle.std.specs.Prelude.{ℕ, List, false, length, take, IfOk, OnErr, OnOk};
     ghost use Rattle.flow_model.specs.Item.{Item};
     ghost use Rattle.flow_model.specs.Sticky.{stickies};
     ghost use Rattle.gst_item.specs.Item.{has_item};

@@ -6,7 +6,7 @@ use Rattle.gst_item.specs.declared.out.Out.{Out}
 use Rattle.flow_model.specs.declared.fault.ElementFault.{ElementFault}
 use Rattle.flow_model.specs.declared.fault.ElementFault.TheVariants.{NotNegotiated as Refused, BadStream as Broken, TooLong as Passing, OutOfMemory as Wanting}
 use Rattle.flow_model.specs.Item.{Item, Ev, StreamStart, NewCaps, is_flush_stop, is_eos}
-use Rattle.flow_model.specs.Call.{Call, Feed, items}
+use Rattle.flow_model.specs.Call.{Call, Feed}
 use Rattle.flow_model.specs.Feeding.{on_pad, IsFaultOf}
 use Rattle.flow_model.specs.Rule.{Fault, TooLong}
 use Rattle.flow_model.specs.SinkPads.{push_calls, InSection, calls_at}

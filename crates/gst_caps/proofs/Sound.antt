@@ -17,7 +17,7 @@ use Rattle.gst_value.specs.Description.{Description}
 use Rattle.gst_caps.specs.Description.{IsStructure}
 use Rattle.gst_caps.specs.Merge.{IsShort}
 use Rattle.gst_value.specs.Names.{Each, Rises, is_before}
-use Rattle.gst_value.specs.Values.{kind_of, whole, IsOne}
+use Rattle.gst_value.specs.Values.{kind_of, IsOne}
 use Rattle.gst_caps.specs.Values.{IsValue}
 use Rattle.gst_caps.specs.declared.value.Value.{Value}
 use Rattle.gst_caps.specs.declared.value.Value.TheVariants.{One as Single, Many}

@@ -3,7 +3,6 @@ use Rattle.std.proofs.Common.{◌≡◌, ◌<◌, ℤ, Bool, true, false, not, c
 use Rattle.std.specs.Int.{int_max, int_min}
 use Rattle.std.specs.List.{filter_map, cons_option, list_any}
 use Rattle.std.proofs.lemmas.Int.{ints}
-use mathlib.Core.Bool.{true≢false}
 use Rattle.gst_value.proofs.Lists.{Each-append, Each-filter}
 use Rattle.gst_value.specs.Common.{same, ends, common_of, common_one, distinct, commons}
 use Rattle.gst_value.specs.Names.{Each}

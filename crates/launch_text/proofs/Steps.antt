@@ -1,5 +1,5 @@
 -- What single readers do.
-use Rattle.std.proofs.Common.{◌≡◌, ◌+◌, List, [], ◌∷◌, ◌++◌, Some, refl, sym, ap, ◌∙◌}
+use Rattle.std.proofs.Common.{◌≡◌, List, [], ◌∷◌, ◌++◌, Some, refl, sym, ap, ◌∙◌}
 use Rattle.text_words.specs.Values.{◌>>=◌}
 use Rattle.launch_text.specs.Reading.{Held, closed, closed_in, innermost, more_outer}
 use Rattle.launch_text.specs.declared.tree.Part.{Part}

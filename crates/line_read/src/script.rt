@@ -1,6 +1,5 @@
 //! Reads the script that a program's words name.
-ghost use Rattle.std.specs.Prelude.{◌≡◌, ◌≢◌, ◌≤◌, ◌<◌, ◌^◌, ℕ, List, None, IfOk, IfErr};
-ghost use Rattle.gst_outside.specs.Seen.{Seen};
+ghost use Rattle.std.specs.Prelude.{◌≡◌, ◌≢◌, ◌<◌, ◌^◌, ℕ, List, IfOk, IfErr};
 ghost use Rattle.line_read.specs.Refusals.{wanting};
 ghost use Rattle.line_read.specs.Scripts.{HasCommands, IsScriptStatus, RefusesScript, script_refusal};
 

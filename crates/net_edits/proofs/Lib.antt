@@ -3,7 +3,6 @@ mod Laying
 mod Alikes
 mod Restands
 mod Acts
-pub mod Counts
 mod Fresh
 mod RowsGrown
 mod TiesGrown

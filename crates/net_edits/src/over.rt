@@ -1,5 +1,5 @@
 //! Links over lanes, made, and undone with EOS.
-ghost use Rattle.std.specs.Prelude.{◌≡◌, ◌<◌, ◌+◌, ◌++◌, [], true, false, None, Ok, IfSome, OnErr, OnOk, length, vec_len, vec_capacity, slice_get, map};
+ghost use Rattle.std.specs.Prelude.{◌≡◌, ◌<◌, ◌+◌, ◌++◌, true, false, None, Ok, IfSome, OnErr, OnOk, length, vec_len, vec_capacity, slice_get, map};
 ghost use Rattle.std.specs.VecDeque.{deque_len};
 ghost use Rattle.flow_model.specs.Item.{Ev};
 ghost use Rattle.inlet_row.specs.Row.{feeds_of, room_of};

@@ -1,5 +1,5 @@
 //! Two tasks become one.
-ghost use Rattle.std.specs.Prelude.{◌≡◌, ◌≢◌, ◌≤◌, ◌<◌, ◌+◌, ◌++◌, [], Ok, None, true, false, IfOk, IfSome, OnErr, length, vec_len, vec_capacity};
+ghost use Rattle.std.specs.Prelude.{◌≡◌, ◌≢◌, ◌≤◌, ◌<◌, ◌+◌, ◌++◌, [], Ok, None, true, false, IfOk, IfSome, OnErr, vec_len, vec_capacity};
 ghost use Rattle.net_model.specs.Moment.{Moment};
 ghost use Rattle.net_turns.specs.Net.{NetReady, NetStands};
 ghost use Rattle.net_groups.specs.Joined.{CanJoinAt, CannotJoin, HasRoomFor, HasRoomToJoin, IsJoined, IsMerged, IsUnfed, MovesUp};

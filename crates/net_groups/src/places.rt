@@ -1,5 +1,5 @@
 //! Where the source pads of tasks stand, and which task has a head that feeds an element.
-ghost use Rattle.std.specs.Prelude.{◌≡◌, ◌<◌, true, false, None, IfSome, length};
+ghost use Rattle.std.specs.Prelude.{◌≡◌, ◌<◌, true, false, None, IfSome};
 ghost use Rattle.net_task.specs.Frame.{frame_of};
 ghost use Rattle.net_groups.specs.Places.{FedAt, FeedsIt, HasNoPad, HasPad, IsOfHead, IsPartOf, PadOf, PartHas, PartIs, PortIs};
 

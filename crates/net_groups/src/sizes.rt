@@ -1,5 +1,5 @@
 //! How many elements tasks have.
-ghost use Rattle.std.specs.Prelude.{◌≡◌, ◌≤◌, ℕ, length};
+ghost use Rattle.std.specs.Prelude.{◌≤◌, ℕ, length};
 ghost use Rattle.net_task.specs.Frame.{frame_of};
 ghost use Rattle.net_groups.specs.Places.{FedAt, FeedsIt, HasPad, IsPartOf, PadOf, PartIs};
 

@@ -1,5 +1,5 @@
 //! A task becomes two.
-ghost use Rattle.std.specs.Prelude.{◌≡◌, ◌≤◌, ◌<◌, ◌⊎◌, ℕ, Ok, None, true, false, IfOk, IfSome, OnOk, OnErr, [], length, vec_len, vec_capacity};
+ghost use Rattle.std.specs.Prelude.{◌≡◌, ◌≤◌, ◌<◌, ◌⊎◌, Ok, None, true, false, IfOk, IfSome, OnOk, OnErr, [], length, vec_len, vec_capacity};
 ghost use Rattle.net_model.specs.Moment.{Moment};
 ghost use Rattle.net_turns.specs.Net.{NetReady, NetStands};
 ghost use Rattle.net_task.specs.Frame.{frame_of};

@@ -24,7 +24,7 @@ use Rattle.task_parts.specs.declared.head.Head.{Head}
 use Rattle.task_parts.specs.declared.head.Head.TheVariants.{Source, Inlets}
 use Rattle.task_parts.specs.declared.part.Part.{Part}
 use Rattle.task_edits.specs.Changes.{Changed, LedBy, PadIs}
-use Rattle.task_edits.specs.Inside.{CanLinkInside, HasNoRow, HeadLeadsTo, IsPadOf, LeadsElsewhere, LeadsInside, PadLeadsTo, inside_behind}
+use Rattle.task_edits.specs.Inside.{CanLinkInside, HasNoRow, HeadLeadsTo, IsPadOf, LeadsElsewhere, LeadsInside, inside_behind}
 use Rattle.task_edits.specs.Leads.{HeadLeadsOver, LeadsOver, LeadsOverNone}
 use Rattle.task_edits.specs.Places.{FirstAt, HasPad, IsOfHead, PartHas}
 use Rattle.task_edits.specs.declared.places.PadAt.TheVariants as ats
@@ -121,9 +121,6 @@ head_leads_over (Inlets head) parts number to is first leads = absurd is
 pub head_over_none : {S E I O : Type 0} {s : sources.Ghosts S} {e : elements.Ghosts E} (head : Head S I O s) (parts : List (Part E O e)) (number : ℕ) → IsOfHead head number → ((to : Beyond) → HeadLeadsOver head to → ⊥) → LeadsOverNone head parts number
 head_over_none (Source head) parts number is none = record { pad = head.pad; is = IsPadOf.of_source head refl refl; number_is = is; none = none }
 head_over_none (Inlets head) parts number is none = absurd is
-
-pub part_leads : {S E I O : Type 0} {s : sources.Ghosts S} {e : elements.Ghosts E} (head : Head S I O s) (parts : List (Part E O e)) (number place port : ℕ) (to : Inside) → (h : PartHas parts number place port) → PadLeadsTo h.port_is.pad to → LeadsInside head parts number to
-part_leads head parts number place port to h leads = record { pad = h.port_is.pad; is = IsPadOf.of_part place port h.part h.part_at h.port_is.at; number_is = h.port_is.number_is; leads = leads }
 
 -- a task of which a pad is another has the elements that it had
 pub changed_has : {S E I O : Type 0} {s : sources.Ghosts S} {e : elements.Ghosts E} (By : Pad O → Pad O → Type 0) (Kept : Type 0) (number : ℕ) (head head' : Head S I O s) (parts parts' : List (Part E O e)) → Changed By Kept number head parts head' parts' → (n : ℕ)

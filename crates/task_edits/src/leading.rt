@@ -1,5 +1,5 @@
 //! Links of the source pads of a task, undone and made.
-ghost use Rattle.std.specs.Prelude.{◌≡◌, ◌<◌, ℕ, true, Bool, None, Some, IfSome, vec_len};
+ghost use Rattle.std.specs.Prelude.{◌≡◌, ◌<◌, ℕ, Bool, None, Some, IfSome, vec_len};
 ghost use Rattle.net_model.specs.Edit.{linked, undone};
 ghost use Rattle.net_model.specs.Moment.{Moment};
 ghost use Rattle.net_model.specs.Step.{planned};

@@ -1,11 +1,11 @@
 //! The sticky events of what crossed the source pads of a task.
-ghost use Rattle.std.specs.Prelude.{◌≡◌, ◌<◌, [], false, length, map, Some, slice_get, IfOk, OnOk};
+ghost use Rattle.std.specs.Prelude.{◌≡◌, ◌<◌, false, map, Some, IfOk, OnOk};
 ghost use Rattle.flow_model.specs.Item.{Ev};
 ghost use Rattle.gst_item.specs.Sticky.{has_flush_stop, stickies};
 ghost use Rattle.net_model.specs.Moment.{Moment};
 ghost use Rattle.net_task.specs.Ties.{Ties};
 ghost use Rattle.pad_core.specs.Counts.{AreSticky};
-ghost use Rattle.task_edits.specs.Places.{HasPad, IsOfHead};
+ghost use Rattle.task_edits.specs.Places.{HasPad};
 ghost use Rattle.task_edits.specs.Stickies.{AreStickiesOf, HeadStickies, with_sticky};
 
 use crate::places::{PadAt, find};
