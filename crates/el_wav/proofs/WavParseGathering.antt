@@ -1,5 +1,5 @@
 -- Bytes of a head that are gathered.
-use Rattle.std.proofs.Common.{◌-◌, ℕ, inl, inr, List, take, arith}
+use Rattle.std.proofs.Common.{ℕ, inl, inr, List, take, arith}
 use Rattle.std.proofs.lemmas.Bool.{cases_lt}
 use Rattle.std.proofs.lemmas.List.{get_or-take, get_or_past, length-take}
 use Rattle.wav_format.specs.Format.{AreBytes}

@@ -18,7 +18,7 @@ use Rattle.graph_core.specs.Elements.{Made, is_named}
 use Rattle.graph_core.specs.Ends.{IsEndPad, IsPadOf, IsThere, PadOrMemory, dotted, missing, name_at, named_pad, pad_name, pad_or_many, pads_at, taken_pad}
 use Rattle.graph_pads.specs.Pads.{is_sink_pad, links_at, makes, own_number, pad_at, pad_count, pad_number, pad_text, takeable}
 use Rattle.graph_core.specs.Links.{HasPads, IsJudged, IsUnjoined, IsUnlinked, Joins, Leads, LinksCome, LinksFollow, LinksStop}
-use Rattle.graph_pads.specs.Links.{is_same, leaves, sink_behind, source_before}
+use Rattle.graph_pads.specs.Links.{is_same, sink_behind, source_before}
 use Rattle.graph_core.specs.declared.fault.BuildFault.{BuildFault}
 use Rattle.graph_core.specs.declared.fault.BuildFault.TheVariants.{NoSuch, LinkRefused, TooMany, OutOfMemory}
 use Rattle.graph_core.specs.declared.fault.What.TheVariants.{Order as NoOrder, Pad as NoPad, Element as NoElement}

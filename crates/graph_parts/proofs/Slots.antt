@@ -1,5 +1,5 @@
 -- What stands at the places of a list, with one more at its end, and with one replaced.
-use Rattle.std.proofs.Common.{◌≡◌, ◌<◌, ◌≤◌, ◌+◌, ℕ, zero, suc, List, [], ◌∷◌, ◌++◌, Option, None, get_or, length, set, refl, sym, ap, arith}
+use Rattle.std.proofs.Common.{◌≡◌, ◌<◌, ◌≤◌, ℕ, zero, suc, List, [], ◌∷◌, ◌++◌, Option, None, get_or, length, set, refl, sym, ap, arith}
 use Rattle.std.specs.Prelude.{slice_get}
 
 -- nothing stands past the end

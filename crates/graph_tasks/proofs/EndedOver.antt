@@ -6,7 +6,7 @@ use Rattle.std.specs.List.{range_with_len}
 use Rattle.std.specs.Option.{option_map_or}
 use Rattle.std.proofs.lemmas.List.FromFn.{length-map-range_with_len}
 use Rattle.gst_outside.specs.declared.sink.Sink as sinks
-use Rattle.flow_model.specs.Call.{Call, items}
+use Rattle.flow_model.specs.Call.{Call}
 use Rattle.flow_model.specs.Eval.{Plan}
 use Rattle.flow_model.specs.Link.{Span, input_of}
 use Rattle.flow_model.specs.Rule.{Rule}

@@ -15,7 +15,7 @@ use Rattle.inlet_row.specs.declared.row.InletRow.{InletRow}
 use Rattle.net_model.specs.Moment.{Moment}
 use Rattle.net_model.specs.declared.element.TaskElement as elements
 use Rattle.net_model.specs.declared.source.TaskSource as sources
-use Rattle.graph_core.specs.Elements.{Made, has}
+use Rattle.graph_core.specs.Elements.{Made}
 use Rattle.graph_core.specs.GraphPlan.{pad_id, sink_count, sink_at as place_at}
 use Rattle.graph_core.specs.Graph.{made as made_in, links as links_in}
 use Rattle.graph_pads.specs.Links.{sink_behind, source_before}

@@ -1,4 +1,4 @@
-use Rattle.std.proofs.Common.{◌<◌, true, false, bytes_eq, sym, ap, ◌∙◌, arith}
+use Rattle.std.proofs.Common.{◌<◌, bytes_eq, sym, ap, ◌∙◌, arith}
 use Rattle.graph_pads.specs.Pads.{pad_text, takeable}
 use Rattle.graph_pads.proofs.FirstOf.{first_found, last_fails, none_found}
 use Rattle.graph_pads.proofs.pad.Direction.pad_number.Goals as goal
