@@ -1,0 +1,6 @@
+mod Left
+mod Acting
+mod Turns
+mod Scripting
+mod Whole
+mod Results

@@ -1,0 +1,37 @@
+use Rattle.std.proofs.Common.{refl, sym, ap, ◌∙◌}
+use Rattle.std.proofs.lemmas.Bool.{true≢false}
+use Rattle.script_run.proofs.Acting.{due, out_of_memory, ready_behind, short}
+use Rattle.script_run.proofs.running.Running.carry_out.Goals as goal
+
+pub returns-in-Ok-true-clause-ready : goal.returns-in-Ok-true-clause-ready
+returns-in-Ok-true-clause-ready g c = ready_behind c.args.self.now c.enter.new.self c.do_deed.new.tasks.items c.do_deed.ensures.ready (ap (λ ts. ts.items) c.enter.ensures.tasks) c.enter.ensures.lanes
+
+pub returns-in-Ok-false-clause-ready : goal.returns-in-Ok-false-clause-ready
+returns-in-Ok-false-clause-ready g c = c.do_deed.ensures.ready _
+
+pub returns-in-Ok-false-clause-failed : goal.returns-in-Ok-false-clause-failed
+returns-in-Ok-false-clause-failed g c = λ edited m command has to_do can.
+    let done = c.in-Ok-false.ensures.done edited m _ (due c.args.self.now edited m command c.args.deed c.args.items c.args.places has to_do can) in
+    absurd (true≢false (sym done.0 ∙ c.in-Ok-false.field-0-test))
+
+pub returns-in-Err-OutOfMemory-clause-ready : goal.returns-in-Err-OutOfMemory-clause-ready
+returns-in-Err-OutOfMemory-clause-ready g c = c.do_deed.ensures.ready _
+
+pub returns-in-Err-OutOfMemory-clause-failed : goal.returns-in-Err-OutOfMemory-clause-failed
+returns-in-Err-OutOfMemory-clause-failed g c = record {
+  entries = refl;
+  keeps = record { script = refl; taking = refl };
+  control = out_of_memory c.args.self.now c.do_deed.new.graph c.do_deed.new.feeds c.do_deed.new.tasks.items c.args.deed c.args.items c.in-Err-OutOfMemory.field-0 c.in-Err-OutOfMemory.field-0-is
+      c.in-Err-OutOfMemory.ensures.failed;
+}
+
+pub returns-in-Err-Failed-clause-ready : goal.returns-in-Err-Failed-clause-ready
+returns-in-Err-Failed-clause-ready g c =
+    ready_behind c.args.self.now c.enter-in-Err-Failed.new.self c.do_deed.new.tasks.items c.do_deed.ensures.ready (ap (λ ts. ts.items) c.enter-in-Err-Failed.ensures.tasks) c.enter-in-Err-Failed.ensures.lanes
+
+pub returns-in-Err-Failed-clause-failed : goal.returns-in-Err-Failed-clause-failed
+returns-in-Err-Failed-clause-failed g c = record {
+  entered = c.enter-in-Err-Failed.ensures.entered;
+  edited = short c.args.self.now c.do_deed.new.graph c.do_deed.new.feeds c.do_deed.new.tasks.items c.args.deed c.args.items c.args.places c.in-Err-Failed.field-0 c.in-Err-Failed.stopped c.in-Err-Failed.field-0-is
+      c.in-Err-Failed.ensures.failed (λ edited is. (c.can_do.ensures edited is).0 c.if-not-can_do.false) c.enter-in-Err-Failed.new.self.graph c.enter-in-Err-Failed.ensures.graph;
+}
