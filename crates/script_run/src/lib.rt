@@ -4,6 +4,7 @@
 
 mod able;
 mod answering;
+pub mod laws;
 pub mod running;
 
 pub use running::{RunFault, Running};

@@ -1,7 +1,6 @@
 //! What takes turns in a run that commands edit.
 ghost use Rattle.std.specs.Prelude.{◌≡◌, ◌≤◌, OnOk, vec_len, vec_capacity};
 
-use edit_acts::scripts::{acts_keep_scripts, turns_keep_scripts};
 use edit_core::Feeds;
 use graph_edits::EditedGraph;
 use gst_value::{List, OutOfMemory};
@@ -12,8 +11,7 @@ use net_turns::{Stopped, has_moved, step_at, try_each};
 use script_text::{Command, Entry};
 use std::alloc::Global;
 use task_parts::Step;
-use turn_loop::{TakesTurns, run};
-use turn_order::Turns;
+use turn_loop::TakesTurns;
 
 /// Why a run can't go on.
 #[derive(Drop)]
@@ -26,7 +24,7 @@ pub enum RunFault {
     Undone,
 }
 
-/// A run that commands edit. Its tasks that take turns come first; the loose ones stand behind them.
+/// A run that commands edit, which `run` of turn_loop takes to its end. Its tasks that take turns come first; the loose ones stand behind them.
 #[derive(Drop)]
 pub struct Running<S: TaskSource, E: TaskElement, I: Inlet<Out = O>, O: Outlet<Lanes = I::Lanes>> {
     pub(crate) tasks: Vec<Task<S, E, I, O>>,
@@ -87,35 +85,6 @@ impl<S: TaskSource, E: TaskElement, I: Inlet<Out = O>, O: Outlet<Lanes = I::Lane
         ensures { result.now ≡ self.now.entries.items }
     {
         self.entries.as_slice()
-    }
-}
-
-impl<S: TaskSource, E: TaskElement> Running<S, E, MemInlet, MemOutlet> {
-    ghost use Rattle.std.specs.Prelude.{ℕ, List as Lists, All, true, IfErr};
-    ghost use Rattle.net_turns.specs.Net.{NetReady as AreReady};
-    ghost use Rattle.script_text.specs.declared.command.Command.{Command as Commands};
-    ghost use Rattle.turn_order.specs.declared.order.Order.{Order};
-    ghost use Rattle.turn_loop.specs.Turns.{GoesFrom, HasEnded, HasFailed};
-    ghost use Rattle.edit_model.specs.Edited.{Edited};
-    ghost use Rattle.edit_core.specs.Deciding.{names_its_pad};
-    ghost use Rattle.edit_acts.specs.Scripted.{IsScripted};
-    ghost use Rattle.script_run.specs.Running.{tells_of as told_lanes, view_of};
-
-    /// Runs by turns until nothing is left to do: no command is left, or the next one can't be answered, and no task can move. The order
-    /// tells whose turn it is.
-    pub fn run(&mut self, alloc: Global, turns: &mut Turns) -> Result<(), RunFault>
-        requires ready { AreReady self.old.tasks.items (told_lanes self.old) }
-        ensures ready { OnOk result (AreReady self.new.tasks.items (told_lanes self.new)) }
-        ensures ended { OnOk result ((order : Order) (start : ℕ) → GoesFrom order start turns.old
-            → HasEnded ⟦<Running<S, E, MemInlet, MemOutlet> as TakesTurns>⟧ order start self.old turns.new self.new) }
-        ensures scripted { OnOk result ((order : Order) (start : ℕ) (script : Lists Commands) (first : Edited) → GoesFrom order start turns.old
-            → All (λ c. names_its_pad c ≡ true) script → IsScripted script first (view_of self.old) → IsScripted script first (view_of self.new)) }
-        ensures failed { IfErr result (λ fault. (order : Order) (start : ℕ) → GoesFrom order start turns.old
-            → HasFailed ⟦<Running<S, E, MemInlet, MemOutlet> as TakesTurns>⟧ order start self.old turns.new self.new fault) }
-    {
-        acts_keep_scripts::<S, E, MemInlet, MemOutlet>();
-        turns_keep_scripts::<S, E, MemInlet, MemOutlet>();
-        run(alloc, self, turns)
     }
 }
 
