@@ -1,6 +1,6 @@
 -- The next command is answered, or control can't go on.
 use Rattle.std.proofs.Common.{◌≡◌, ◌≢◌, ◌<◌, ◌≤◌, ◌+◌, ℕ, Bool, true, List, Option, None, Some, drop, get_or, length, refl, sym, ap, ◌∙◌, subst}
-use Rattle.std.specs.Prelude.{Result, Ok, Err, IfErr, IfOk, slice_get}
+use Rattle.std.specs.Prelude.{Result, Ok, Err, IfOk, slice_get}
 use Rattle.std.proofs.lemmas.List.{drop_all}
 use Rattle.std.proofs.lemmas.Option.{slice_get_read}
 use Rattle.flow_model.proofs.Prefixes.{prefix_refl}
@@ -55,10 +55,6 @@ no_addition g deed can is = subst (λ (d : Deed). CanBeDone g d) is can
 pub done_of : {P : Type 0} (r : Result Bool RunFault) → r ≡ Ok true → IfOk r (λ done. (done ≡ true) × P) → P
 done_of (Ok done) is told = told.1
 done_of (Err fault) is told = absurd cc
-
-pub fails_of : {A : Type 0} (P Q : RunFault → Type 0) (r : Result A RunFault) → ((fault : RunFault) → P fault → Q fault) → IfErr r P → IfErr r Q
-fails_of P Q (Ok done) more told = tt
-fails_of P Q (Err fault) more told = more fault told
 
 module _ {S E I O L : Type 0} {s : sources.Ghosts S} {e : elements.Ghosts E} {i : inlets.Ghosts I L O} {o : outlets.Ghosts O L} where
   -- what is decided of the command that is found behind those that were answered

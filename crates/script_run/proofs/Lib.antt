@@ -3,4 +3,3 @@ mod Acting
 mod Turns
 mod Scripting
 mod Whole
-mod Results

@@ -1,6 +1,7 @@
 use Rattle.std.proofs.Common.{Option, refl, subst}
 use Rattle.edit_core.specs.declared.deciding.Ruling.{Ruling}
-use Rattle.script_run.proofs.Acting.{answered, done, done_of, fails, fails_of, ruled, waits_so}
+use Rattle.gst_value.proofs.Results.{if_err}
+use Rattle.script_run.proofs.Acting.{answered, done, done_of, fails, ruled, waits_so}
 use Rattle.script_run.specs.Answering.{ActFails, CarryFails, NothingCanBeDone, RulesNext}
 use Rattle.script_run.proofs.running.Running.answer_next.Goals as goal
 
@@ -26,6 +27,6 @@ returns-in-Ok-Some-ToDo-clause-acted g c = λ is.
 pub returns-in-Ok-Some-ToDo-clause-failed : goal.returns-in-Ok-Some-ToDo-clause-failed
 returns-in-Ok-Some-ToDo-clause-failed g c =
     let next = ruled c.args.self.now c.in-Ok-Some-ToDo.field-0 _ c.in-Ok-Some-ToDo.field-0-is c.in-Ok-Some-ToDo.ensures in
-    fails_of (CarryFails c.args.self.now c.carry_out.new.self c.in-Ok-Some-ToDo.deed c.in-Ok-Some-ToDo.items c.in-Ok-Some-ToDo.places) (ActFails c.args.self.now c.carry_out.new.self) c.carry_out.result
+    if_err c.carry_out.result (CarryFails c.args.self.now c.carry_out.new.self c.in-Ok-Some-ToDo.deed c.in-Ok-Some-ToDo.items c.in-Ok-Some-ToDo.places) (ActFails c.args.self.now c.carry_out.new.self)
     (fails c.deeds_are_answers.ensures c.args.self.now c.carry_out.new.self c.in-Ok-Some-ToDo.field-0-0 c.in-Ok-Some-ToDo.deed c.in-Ok-Some-ToDo.items c.in-Ok-Some-ToDo.places c.in-Ok-Some-ToDo.field-0-0-is next)
     c.carry_out.ensures.failed

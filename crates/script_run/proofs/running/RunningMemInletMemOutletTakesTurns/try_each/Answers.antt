@@ -1,12 +1,12 @@
 use Rattle.std.proofs.Common.{◌≡◌, ◌∙◌, ap, length, refl, sym, arith}
 use Rattle.std.specs.Prelude.{vec_len}
-use Rattle.script_run.proofs.Results.{ok_of}
+use Rattle.gst_value.proofs.Results.{on_ok}
 use Rattle.script_run.proofs.Whole.{whole_again}
 use Rattle.script_run.proofs.running.RunningMemInletMemOutletTakesTurns.try_each.Goals as goal
 
 pub try_each-requires-clause-steps : goal.try_each-requires-clause-steps
 try_each-requires-clause-steps g c κs within =
-    let fitted : vec_len c.fit.new.steps ≡ c.len.result = ok_of c.fit.result (sym c.is_err.ensures.value ∙ c.if-is_err.false) c.fit.ensures in
+    let fitted : vec_len c.fit.new.steps ≡ c.len.result = on_ok c.fit.result (vec_len c.fit.new.steps ≡ c.len.result) (sym c.is_err.ensures.value ∙ c.if-is_err.false) c.fit.ensures in
     omega (arith, ap length c.deref_mut-2.ensures.value, c.fit.new.steps.ok.0, fitted, c.len.ensures, c.args.self.now.tasks.ok.0, ap length c.deref_mut.ensures.value)
 
 pub returns-in-Ok-clause-ready : goal.returns-in-Ok-clause-ready
