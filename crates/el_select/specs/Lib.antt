@@ -1,0 +1,4 @@
+pub mod Kept
+pub mod Selections
+pub mod Selects
+pub mod Laws
