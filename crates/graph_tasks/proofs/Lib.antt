@@ -63,5 +63,3 @@ mod StuckReasons
 mod StuckCounts
 mod StuckLanes
 mod StuckTasks
-pub mod Bagged
-pub mod WiredBags

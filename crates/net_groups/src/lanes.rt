@@ -11,7 +11,7 @@ use task_pads::{Behind, Pad};
 use task_parts::{Head, Part};
 
 /// Whether a pad of one of these tasks leads over a lane to the element of a number.
-pub fn is_sent_to<
+pub(crate) fn is_sent_to<
     S: TaskSource,
     E: TaskElement,
     I: Inlet<Out = O>,

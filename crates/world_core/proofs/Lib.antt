@@ -5,6 +5,7 @@ mod Closing
 mod Counted
 mod FaultEnds
 mod Faulted
+mod Bagged
 mod Members
 mod Traced
 mod Headed
