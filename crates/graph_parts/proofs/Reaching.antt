@@ -1,15 +1,15 @@
 -- Where the walk from a head has come, and where it ends.
-use Rattle.std.proofs.Common.{◌≡◌, ◌<◌, ◌⊎◌, ◌+◌, ℕ, suc, true, List, [], ◌∷◌, ◌++◌, All, map, length, length-append, reverse, refl, sym, ap, ◌∙◌, subst, inl, inr, append-nil, arith}
+use Rattle.std.proofs.Common.{◌≡◌, ◌<◌, ◌⊎◌, ◌+◌, ℕ, suc, List, [], ◌∷◌, ◌++◌, All, map, length, length-append, reverse, refl, sym, ap, ◌∙◌, subst, inl, inr, append-nil, arith}
 use Rattle.std.proofs.lemmas.List.{reverse-append, length-reverse}
 use Rattle.flow_model.specs.Account.{IsMember}
 use Rattle.graph_order.specs.Forward.{IsMember as IsOrdered}
-use Rattle.graph_core.specs.Elements.{Made, has}
+use Rattle.graph_core.specs.Elements.{Made}
 use Rattle.graph_core.specs.Graph.{IsSound, made as made_in, links as links_in, forward as forward_in}
 use Rattle.graph_core.specs.Links.{HasPads}
 use Rattle.graph_core.specs.declared.graph.Graph.{Graph}
 use Rattle.graph_pads.specs.declared.pad.PadLink.{PadLink}
 use Rattle.graph_core.specs.LinkedOnce.{AreOnce}
-use Rattle.graph_parts.specs.Links.{is_head, inside, pads_of, Reaches}
+use Rattle.graph_parts.specs.Links.{inside, pads_of, Begins, Reaches}
 use Rattle.graph_parts.specs.Bags.{number_of, HavePads, GoBack, DepthFirst}
 use Rattle.graph_parts.specs.Walk.{Goes, EndsWith, AreReached}
 use Rattle.graph_parts.specs.declared.bag.BagElement.{BagElement}
@@ -33,7 +33,7 @@ pub record HasCome (made : List Made) (links : List PadLink) (head : ℕ) (next 
   pub back : GoBack next found
   pub last : ((found ≡ []) × (next ≡ head ∷ [])) ⊎ EndsWith head found
   pub order : (xs : List ℕ) → DepthFirst made links next xs → DepthFirst made links (head ∷ []) (xs ++ map number_of found)
-  pub walked : All (HasPads made) links → AreOnce links → has is_head made head ≡ true
+  pub walked : All (HasPads made) links → AreOnce links → Begins made links head
       → Walked (Reaches made links head) (λ a. inside (pads_of made links a)) head next (map number_of found)
 
 pub come_first : (made : List Made) (links : List PadLink) (head : ℕ) → HasCome made links head (head ∷ []) []
@@ -111,7 +111,7 @@ module _ (graph : Graph) (head : ℕ) (there : head < length (made_in graph)) (c
   map_length (x ∷ xs) = ap suc (map_length xs)
 
   -- where the walk had as many turns as there are elements none is next
-  none_next : (next : List ℕ) → IsSound graph → HasCome (made_in graph) (links_in graph) head next cells → AreOnce (links_in graph) → has is_head (made_in graph) head ≡ true
+  none_next : (next : List ℕ) → IsSound graph → HasCome (made_in graph) (links_in graph) head next cells → AreOnce (links_in graph) → Begins (made_in graph) (links_in graph) head
       → (next ≡ []) ⊎ (length cells ≡ length (made_in graph)) → next ≡ []
   none_next next sound come once is (inl none) = none
   none_next next sound come once is (inr many) =
@@ -119,7 +119,7 @@ module _ (graph : Graph) (head : ℕ) (there : head < length (made_in graph)) (c
       (λ d r. listed d (forward_in graph) (sound.order.forward.whole d (let w = reached_there (made_in graph) (links_in graph) sound.pads head there d r in omega (arith, w, sound.order.count))))
       (map_length cells ∙ many ∙ sym (sym graph.links.order.forward.ok.0 ∙ sound.order.count))
 
-  reached_by : (next : List ℕ) → next ≡ [] → IsSound graph → AreOnce (links_in graph) → has is_head (made_in graph) head ≡ true → HasCome (made_in graph) (links_in graph) head next cells
+  reached_by : (next : List ℕ) → next ≡ [] → IsSound graph → AreOnce (links_in graph) → Begins (made_in graph) (links_in graph) head → HasCome (made_in graph) (links_in graph) head next cells
       → AreReached (made_in graph) (links_in graph) head cells
   reached_by next none sound once is come = record {
     whole = all;
@@ -154,7 +154,7 @@ come_begins made links head next found one none =
 
 -- the walk is at its end
 pub come_all : (graph : Graph) (head : ℕ) → head < length (made_in graph) → (next : List ℕ) (found cells : List BagElement) (n : ℕ) → IsSound graph → AreOnce (links_in graph)
-    → has is_head (made_in graph) head ≡ true → HasCome (made_in graph) (links_in graph) head next (reverse found) → (next ≡ []) ⊎ (length found ≡ n) → n ≡ length (made_in graph) → cells ≡ reverse found
+    → Begins (made_in graph) (links_in graph) head → HasCome (made_in graph) (links_in graph) head next (reverse found) → (next ≡ []) ⊎ (length found ≡ n) → n ≡ length (made_in graph) → cells ≡ reverse found
     → AreReached (made_in graph) (links_in graph) head cells
 come_all graph head there next found cells n sound once is come counted all put =
     subst (λ (xs : List BagElement). AreReached (made_in graph) (links_in graph) head xs) (sym put)

@@ -1,5 +1,5 @@
 -- The links of a graph that are no lane: they make a tree behind each head.
-use Rattle.std.proofs.Common.{◌≡◌, ◌<◌, ◌≤◌, ◌⊎◌, ◌+◌, ℕ, zero, suc, Bool, true, false, eqb, ◌||◌, if◌then◌else◌, List, [], ◌∷◌, ◌++◌, All, Option, None, Some, map, length, refl, sym, ap, ◌∙◌, subst, inl, inr, arith}
+use Rattle.std.proofs.Common.{◌≡◌, ◌<◌, ◌≤◌, ◌⊎◌, ◌+◌, ℕ, zero, suc, Bool, true, false, eqb, ◌||◌, if◌then◌else◌, is_some, not, List, [], ◌∷◌, ◌++◌, All, Option, None, Some, map, length, refl, sym, ap, ◌∙◌, subst, inl, inr, arith}
 use Rattle.std.specs.Prelude.{slice_get}
 use Rattle.std.specs.List.{range_with_len}
 use Rattle.std.specs.Option.{option_map_or}
@@ -19,7 +19,7 @@ use Rattle.el_settings.proofs.Padded.{one_sink}
 use Rattle.graph_parts.specs.declared.bag.BagLink.{BagLink}
 use Rattle.graph_parts.specs.declared.bag.BagLink.TheVariants.{Nothing, Element, Lane}
 use Rattle.graph_parts.specs.declared.bag.BagPad.{BagPad}
-use Rattle.graph_parts.specs.Links.{has_inlets, is_head, source_count, link_to, pad_at, pads_of, led_to, inside, LeadsInside, Reaches}
+use Rattle.graph_parts.specs.Links.{has_inlets, is_head, source_count, link_to, pad_at, pads_of, led_to, inside, Begins, LeadsInside, Reaches}
 use Rattle.graph_parts.specs.Bags.{Once}
 use Rattle.graph_parts.proofs.Walks.{IsTree}
 use Rattle.gst_value.proofs.Basics.{some_same, none_some, no_true}
@@ -118,7 +118,7 @@ no_joins true joins none = absurd (cc)
 no_joins false joins none = none
 
 -- an element that is not fed from inlets has one sink pad at the most
-only_sink : (found : Option Made) (pad : ℕ) → option_map_or (λ (m : Made). has_inlets m.settings) found false ≡ false → pad < option_map_or (λ (m : Made). sink_pads m.settings) found 0 → pad ≡ 0
+pub only_sink : (found : Option Made) (pad : ℕ) → option_map_or (λ (m : Made). has_inlets m.settings) found false ≡ false → pad < option_map_or (λ (m : Made). sink_pads m.settings) found 0 → pad ≡ 0
 only_sink None pad none w = absurd (omega (arith, w))
 only_sink (Some m) pad none w = let few = one_sink m.settings (no_joins (is_queue m.settings) (makes_sinks m.settings) none) in omega (arith, few, w)
 
@@ -131,6 +131,12 @@ no_head_there (Some m) pad head none w = go (is_source m.settings) refl head
     go : (b : Bool) → is_source m.settings ≡ b → (b || has_inlets m.settings) ≡ true → ⊥
     go true is head = let no_sink = source_no_sink m.settings is in omega (arith, no_sink, w)
     go false is head = no_true (sym none ∙ head)
+
+-- the first sink pad of a loose element has no link
+pub is_free : (b : Bool) (found : Option PadPlace) → not (b || is_some found) ≡ true → found ≡ None
+is_free true found e = absurd cc
+is_free false None e = refl
+is_free false (Some source) e = absurd cc
 
 module _ (made : List Made) (links : List PadLink) (all : All (HasPads made) links) (once : AreOnce links) where
   -- one source pad at the most leads to an element that is not fed from inlets
@@ -165,18 +171,24 @@ module _ (made : List Made) (links : List PadLink) (all : All (HasPads made) lin
                   (subst (λ (n : ℕ). IsMember n ks)
                   (sym (ap (λ (place : PadPlace). place.pad) (one_source (place_at a k) (place_at a l.pad) sink l.sink at l.linked (sym l.element) is))) l.among)
 
+  -- no link leads to what begins a bag over no lane
+  pub none_leads : (head : ℕ) → Begins made links head → (a : ℕ) → LeadsInside made links a head → ⊥
+  none_leads head (inl is) a l =
+      no_head_there (slice_get made head) l.sink.pad is l.inner
+      (subst (λ (n : ℕ). l.sink.pad < sinks_at made n) l.element (sink_there made links all (place_at a l.pad) l.sink l.linked))
+  none_leads head (inr loose) a l =
+      let there = subst (λ (n : ℕ). l.sink.pad < sinks_at made n) l.element (sink_there made links all (place_at a l.pad) l.sink l.linked) in
+      let first : l.sink ≡ place_at head 0 = alike l.sink (place_at head 0) l.element (only_sink (slice_get made head) l.sink.pad l.inner there) in
+      let free = is_free (has is_head made head) (source_before links (place_at head 0)) loose.loose in
+      none_some (sym free ∙ ap (source_before links) (sym first) ∙ once.there (place_at a l.pad) l.sink l.linked)
+
   -- behind each head
-  pub is_tree : (head : ℕ) → has is_head made head ≡ true → IsTree (λ a. inside (pads_of made links a)) head
+  pub is_tree : (head : ℕ) → Begins made links head → IsTree (λ a. inside (pads_of made links a)) head
   is_tree head is = record {
     each = λ a. once_inside a (range_with_len 0 (source_count made a)) (range_once 0 (source_count made a));
     one = λ a b d m n. one_leads a b d (inside_leads made links a d m) (inside_leads made links b d n);
-    no_head = λ a m. not_led (inside_leads made links a head m);
+    no_head = λ a m. none_leads head is a (inside_leads made links a head m);
   }
-    where
-      not_led : {a : ℕ} → LeadsInside made links a head → ⊥
-      not_led l =
-          no_head_there (slice_get made head) l.sink.pad is l.inner
-          (subst (λ (n : ℕ). l.sink.pad < sinks_at made n) l.element (sink_there made links all (place_at _ l.pad) l.sink l.linked))
 
 -- what a head reaches is there
 pub reached_there : (made : List Made) (links : List PadLink) → All (HasPads made) links → (head : ℕ) → head < length made → (e : ℕ) → Reaches made links head e → e < length made

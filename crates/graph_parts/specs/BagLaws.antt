@@ -7,8 +7,8 @@ use Rattle.graph_pads.specs.Links.{sink_behind}
 use Rattle.graph_pads.specs.declared.pad.PadLink.{PadLink}
 use Rattle.graph_pads.specs.declared.pad.PadPlace.{PadPlace}
 use Rattle.graph_core.specs.LinkedOnce.{AreOnce}
-use Rattle.graph_parts.specs.Links.{has_inlets, is_head, source_count, LeadsInside}
-use Rattle.graph_parts.specs.Bags.{cells, numbers, head_of, IsBag, AreBags}
+use Rattle.graph_parts.specs.Links.{has_inlets, is_head, source_count, IsLoose, LeadsInside}
+use Rattle.graph_parts.specs.Bags.{cells, numbers, head_of, IsBag, AreAllBags, AreBags}
 use Rattle.graph_parts.specs.declared.bag.Bag.{Bag}
 use Rattle.graph_parts.specs.declared.bag.BagElement.{BagElement}
 use Rattle.graph_parts.specs.declared.bag.BagLink.{BagLink}
@@ -42,6 +42,10 @@ pub record HasBag (bags : List Bag) (e : ℕ) : Type 0 where
 -- Each source and each element that is fed from inlets is the head of a bag.
 abbrev pub HeadsHaveBags : Type 0
 HeadsHaveBags = (made : List Made) (links : List PadLink) (bags : List Bag) → AreBags made links bags → (e : ℕ) → has is_head made e ≡ true → HasBag bags e
+
+-- So is each loose element, where these have bags too.
+abbrev pub LooseHaveBags : Type 0
+LooseHaveBags = (made : List Made) (links : List PadLink) (bags : List Bag) → AreAllBags made links bags → (e : ℕ) → IsLoose made links e → HasBag bags e
 
 -- The elements of bags are elements of the graph.
 abbrev pub BagsAreThere : Type 0

@@ -1,10 +1,10 @@
 -- The tasks of a graph as bags of elements.
-use Rattle.std.specs.Prelude.{◌≡◌, ℕ, true, List, [], ◌∷◌, ◌++◌, All, filter, length, map}
+use Rattle.std.specs.Prelude.{◌≡◌, ◌⊎◌, ℕ, true, List, [], ◌∷◌, ◌++◌, All, filter, length, map}
 use Rattle.std.specs.List.{range_with_len}
 use Rattle.flow_model.specs.Account.{IsMember}
 use Rattle.graph_core.specs.Elements.{Made, has}
 use Rattle.graph_pads.specs.declared.pad.PadLink.{PadLink}
-use Rattle.graph_parts.specs.Links.{has_inlets, is_head, inside, pads_of, Reaches}
+use Rattle.graph_parts.specs.Links.{has_inlets, is_head, is_loose, inside, pads_of, IsLoose, Reaches}
 use Rattle.el_settings.specs.Asked.{is_source}
 use Rattle.graph_parts.specs.declared.bag.Bag.{Bag}
 use Rattle.graph_parts.specs.declared.bag.BagElement.{BagElement}
@@ -37,10 +37,10 @@ head_number (Inlets e) = e
 abbrev pub head_of : Bag → ℕ
 head_of bag = head_number bag.head
 
--- a head is a source, or an element that is fed from inlets
-abbrev pub IsHead : List Made → BagHead → Type 0
-IsHead made (Source own) = has is_source made own.element ≡ true
-IsHead made (Inlets e) = has has_inlets made e ≡ true
+-- a head is a source, an element that is fed from inlets, or one that is loose, which is fed from nothing
+abbrev pub IsHead : List Made → List PadLink → BagHead → Type 0
+IsHead made links (Source own) = has is_source made own.element ≡ true
+IsHead made links (Inlets e) = (has has_inlets made e ≡ true) ⊎ IsLoose made links e
 
 -- the pads of each are those of the graph
 abbrev pub HavePads : List Made → List PadLink → List BagElement → Type 0
@@ -60,7 +60,7 @@ pub data DepthFirst (made : List Made) (links : List PadLink) : List ℕ → Lis
 
 -- A bag has the elements that its head reaches over links that are no lane, each once and with its pads.
 pub record IsBag (made : List Made) (links : List PadLink) (bag : Bag) : Type 0 where
-  pub head : IsHead made bag.head
+  pub head : IsHead made links bag.head
   pub whole : (e : ℕ) → Reaches made links (head_of bag) e → IsMember e (numbers bag)
   pub only : (e : ℕ) → IsMember e (numbers bag) → Reaches made links (head_of bag) e
   pub once : Once (numbers bag)
@@ -72,7 +72,24 @@ pub record IsBag (made : List Made) (links : List PadLink) (bag : Bag) : Type 0 
 abbrev pub heads_in : List Made → List ℕ
 heads_in made = filter (has is_head made) (range_with_len 0 (length made))
 
--- There is a bag for each of these, in their order, and no other.
+-- the numbers of the elements that are loose, in their order
+abbrev pub loose_in : List Made → List PadLink → List ℕ
+loose_in made links = filter (is_loose made links) (range_with_len 0 (length made))
+
+-- There is a bag for each head, in their order, and behind them one for each of these loose elements; and no other.
 pub record AreBags (made : List Made) (links : List PadLink) (bags : List Bag) : Type 0 where
-  pub heads : map head_of bags ≡ heads_in made
+  pub loose : List ℕ
+  pub heads : map head_of bags ≡ heads_in made ++ loose
   pub are : All (IsBag made links) bags
+  pub loose_are : (e : ℕ) → IsMember e loose → IsLoose made links e
+  pub loose_once : Once loose
+
+-- no loose element has a bag
+pub record AreHeadBags (made : List Made) (links : List PadLink) (bags : List Bag) : Type 0 where
+  pub are : AreBags made links bags
+  pub none : are.loose ≡ []
+
+-- each loose element has one
+pub record AreAllBags (made : List Made) (links : List PadLink) (bags : List Bag) : Type 0 where
+  pub are : AreBags made links bags
+  pub all : are.loose ≡ loose_in made links

@@ -1,11 +1,11 @@
 -- Where the source pads of a graph's elements lead, over lanes and over no lane.
-use Rattle.std.specs.Prelude.{◌≡◌, ◌<◌, ◌||◌, ℕ, Bool, false, List, [], ◌∷◌, Option, None, Some, if◌then◌else◌, map, slice_get}
+use Rattle.std.specs.Prelude.{◌≡◌, ◌<◌, ◌⊎◌, ◌||◌, ℕ, Bool, true, false, List, [], ◌∷◌, Option, None, Some, if◌then◌else◌, is_some, length, map, not, slice_get}
 use Rattle.std.specs.List.{flat_map, range_with_len}
 use Rattle.std.specs.Option.{option_map_or}
 use Rattle.el_settings.specs.Asked.{is_queue, is_source, makes_sinks, source_pads}
 use Rattle.el_settings.specs.declared.settings.Settings.{Settings}
 use Rattle.graph_core.specs.Elements.{Made, has}
-use Rattle.graph_pads.specs.Links.{sink_behind}
+use Rattle.graph_pads.specs.Links.{sink_behind, source_before}
 use Rattle.graph_pads.specs.declared.pad.PadLink.{PadLink}
 use Rattle.graph_pads.specs.declared.pad.PadPlace.{PadPlace}
 use Rattle.graph_parts.specs.declared.bag.BagLink.{BagLink}
@@ -20,6 +20,19 @@ has_inlets settings = is_queue settings || makes_sinks settings
 -- a bag begins with a source, or with an element that is fed from inlets
 abbrev pub is_head : Settings → Bool
 is_head settings = is_source settings || has_inlets settings
+
+-- an element is no head, and no link leads to its first sink pad
+abbrev pub is_loose : List Made → List PadLink → ℕ → Bool
+is_loose made links e = not (has is_head made e || is_some (source_before links (place_at e 0)))
+
+-- It is there, and so no head reaches it.
+pub record IsLoose (made : List Made) (links : List PadLink) (e : ℕ) : Type 0 where
+  pub there : e < length made
+  pub loose : is_loose made links e ≡ true
+
+-- an element begins a bag
+abbrev pub Begins : List Made → List PadLink → ℕ → Type 0
+Begins made links e = (has is_head made e ≡ true) ⊎ IsLoose made links e
 
 -- how many source pads an element has, where it is there
 abbrev pub source_count : List Made → ℕ → ℕ

@@ -1,5 +1,5 @@
 //! Laws of the bags of a graph. Each function does nothing: its contract is the law.
-ghost use Rattle.graph_parts.specs.BagLaws.{BagsAreApart, BagsAreClosed, HeadsHaveBags, BagsAreThere, BagsHavePads};
+ghost use Rattle.graph_parts.specs.BagLaws.{BagsAreApart, BagsAreClosed, HeadsHaveBags, LooseHaveBags, BagsAreThere, BagsHavePads};
 
 /// An element of the graph stands in one bag at the most.
 pub fn bags_are_apart()
@@ -13,7 +13,9 @@ pub fn bags_are_closed()
     ensures pads { BagsHavePads }
 {}
 
-/// Each source and each element that is fed from inlets is the head of a bag, so that each lane leads to a head.
+/// Each source and each element that is fed from inlets is the head of a bag, so that each lane leads to a head; and so is each loose
+/// element, where these have bags.
 pub fn heads_have_bags()
-    ensures { HeadsHaveBags }
+    ensures heads { HeadsHaveBags }
+    ensures loose { LooseHaveBags }
 {}

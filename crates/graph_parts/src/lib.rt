@@ -22,7 +22,7 @@ mod walk;
 
 pub use back::take_back;
 pub use bag::{Bag, BagElement, BagHead, BagLink, BagPad};
-pub use bags::bags_of;
+pub use bags::{all_bags_of, bags_of};
 pub use blanks::{Blanks, Filled};
 pub use counts::{Count, count_pads};
 pub use lanes::{Lanes, lanes_of};

@@ -2,7 +2,7 @@
 ghost use Rattle.std.specs.Prelude.{◌≡◌, ◌<◌, ◌++◌, true, length, IfOk};
 ghost use Rattle.graph_core.specs.Graph.{IsSound, made as made_in, links as links_in};
 ghost use Rattle.graph_core.specs.LinkedOnce.{AreOnce};
-ghost use Rattle.graph_parts.specs.Links.{has_inlets, is_head, link_to, led_to, inside, pads_of};
+ghost use Rattle.graph_parts.specs.Links.{has_inlets, link_to, led_to, inside, pads_of, Begins};
 ghost use Rattle.graph_core.specs.Elements.{has};
 ghost use Rattle.graph_parts.specs.Walk.{Goes, AreReached};
 
@@ -107,7 +107,7 @@ pub(crate) fn reached(
     head: u32,
 ) -> Result<Vec<BagElement>, OutOfMemory>
     requires { head < length (made_in graph.now) }
-    ensures { IfOk result (λ cells. IsSound graph.now → AreOnce (links_in graph.now) → has is_head (made_in graph.now) head ≡ true
+    ensures { IfOk result (λ cells. IsSound graph.now → AreOnce (links_in graph.now) → Begins (made_in graph.now) (links_in graph.now) head
         → AreReached (made_in graph.now) (links_in graph.now) head cells.items) }
 {
     let mut next = Vec::new(alloc);

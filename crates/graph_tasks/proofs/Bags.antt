@@ -1,11 +1,13 @@
 -- The elements of a bag: each once, and only the head is a source.
-use Rattle.std.proofs.Common.{◌≡◌, ◌⊎◌, ◌++◌, ℕ, false, List, [], ◌∷◌, All, Some, length, map, refl, sym, ap, ◌∙◌, subst, inl, inr, arith}
+use Rattle.std.proofs.Common.{◌≡◌, ◌⊎◌, ◌++◌, ℕ, false, is_some, List, [], ◌∷◌, All, Some, length, map, refl, sym, ap, ◌∙◌, subst, inl, inr, arith}
 use Rattle.std.specs.Prelude.{slice_get}
 use Rattle.std.proofs.lemmas.Option.{slice_get_within}
 use Rattle.flow_model.specs.Account.{IsMember}
 use Rattle.graph_core.specs.Elements.{Made, has}
+use Rattle.graph_core.specs.GraphPlan.{sink_at}
 use Rattle.graph_core.specs.Links.{HasPads}
 use Rattle.graph_pads.specs.declared.pad.PadLink.{PadLink}
+use Rattle.graph_pads.specs.Links.{source_before}
 use Rattle.graph_parts.specs.Links.{Reaches}
 use Rattle.el_settings.specs.Asked.{is_source}
 use Rattle.graph_parts.specs.Bags.{number_of, head_cells, cells, numbers, head_number, head_of, IsHead, IsBag}
@@ -16,8 +18,14 @@ use Rattle.graph_parts.specs.declared.bag.BagHead.TheVariants.{Source, Inlets}
 use Rattle.graph_tasks.proofs.Graphs.{inlets_no_source, reached_by}
 use Rattle.flow_model.proofs.Items.{get_member}
 use Rattle.graph_parts.proofs.Apart.{place_once}
+use Rattle.graph_parts.proofs.BagHeads.{not_source}
 use Rattle.graph_tasks.proofs.Flats.{at_front as get_front}
 use Rattle.gst_value.proofs.Places.{get_last, map_get as get_map}
+
+-- what a head feeds is no source
+pub fed_no_source : (made : List Made) (links : List PadLink) (n : ℕ) → IsHead made links (Inlets n) → has is_source made n ≡ false
+fed_no_source made links n (inl fed) = inlets_no_source made n fed
+fed_no_source made links n (inr loose) = not_source (slice_get made n) (is_some (source_before links (sink_at n 0))) loose.loose
 
 module _ (made : List Made) (links : List PadLink) (bag : Bag) (is : IsBag made links bag) where
   -- an element has its place among the numbers
@@ -53,7 +61,7 @@ module _ (made : List Made) (links : List PadLink) (bag : Bag) (is : IsBag made 
   pub no_source : All (HasPads made) links → (j : ℕ) (cell : BagElement) → slice_get bag.elements.items j ≡ Some cell → has is_source made cell.element ≡ false
   no_source all j cell at = go bag.head refl is.head (reached_by made links all (head_of bag) cell.element (is.only cell.element (among j cell at)))
     where
-      go : (head : BagHead) → bag.head ≡ head → IsHead made head → (head_number head ≡ cell.element) ⊎ (has is_source made cell.element ≡ false) → has is_source made cell.element ≡ false
+      go : (head : BagHead) → bag.head ≡ head → IsHead made links head → (head_number head ≡ cell.element) ⊎ (has is_source made cell.element ≡ false) → has is_source made cell.element ≡ false
       go head of own (inr none) = none
       go (Source source) of own (inl same) = absurd (source_apart source of j cell at (sym same))
-      go (Inlets n) of own (inl same) = subst (λ (k : ℕ). has is_source made k ≡ false) same (inlets_no_source made n own)
+      go (Inlets n) of own (inl same) = subst (λ (k : ℕ). has is_source made k ≡ false) same (fed_no_source made links n own)

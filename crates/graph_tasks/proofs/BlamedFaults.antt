@@ -164,8 +164,8 @@ module _ {S K I O L : Type 0} (k : sinks.Ghosts K) (s : sources.Ghosts S) (e : e
     -- an element that a pad of its own task leads to is not fed from inlets
     inner : (n pad p : ℕ) (x : Item) → WasFor i tells over (frame_of after) before.head after.head (at_pad p) n pad x → has has_inlets (made_in graph) n ≡ false
     inner n pad p x goes =
-        let b = bag_of (made_in graph) (links_in graph) bags tasks at.bags_are at.have place before here in
-        let wire = wire_there (made_in graph) (links_in graph) bags place (frame_of before) at.sound.pads at.bags_are b goes.0
+        let b = bag_of (made_in graph) (links_in graph) bags tasks at.bags_are.are at.have place before here in
+        let wire = wire_there (made_in graph) (links_in graph) bags place (frame_of before) at.sound.pads at.bags_are.are b goes.0
         (subst (λ (f : TaskFrame). IsWire f goes.0) framed goes.1) in
         wire_inner (made_in graph) (links_in graph) goes.0 wire n pad goes.3
 
@@ -183,8 +183,8 @@ module _ {S K I O L : Type 0} (k : sinks.Ghosts K) (s : sources.Ghosts S) (e : e
     unread_short : (n : ℕ) (why : Unread) (head head' : Head S I O s) → before.head ≡ head → IsUnread head head' n why → CrossedShort m n why
         → UnreadAt contents (made_in graph) (crossed_in graph m) n why
     unread_short n why (Source old) (Source new) is unread_at short =
-        let b = bag_of (made_in graph) (links_in graph) bags tasks at.bags_are at.have place before here in
-        let t = source_is (made_in graph) (links_in graph) bags place (frame_of before) at.sound.pads at.bags_are b old.number (s.file old.source) _ (ap (head_frame o) is) in
+        let b = bag_of (made_in graph) (links_in graph) bags tasks at.bags_are.are at.have place before here in
+        let t = source_is (made_in graph) (links_in graph) bags place (frame_of before) at.sound.pads at.bags_are.are b old.number (s.file old.source) _ (ap (head_frame o) is) in
         let own = subst (λ (j : ℕ). (has is_source (made_in graph) j ≡ true) × (source_count (made_in graph) j ≡ 1)) unread_at.0 t in
         cut_short contents graph m at.plan at.net.cells n own.0 own.1 why short
     unread_short n why (Source old) (Inlets new) is unread_at short = absurd unread_at

@@ -36,13 +36,13 @@ all_at P (y ∷ xs) all zero x at = subst P (some_same at) (all 0 y (omega arith
 all_at P (y ∷ xs) all (suc k) x at = all_at P xs (λ j d w. all (suc j) d (omega (arith, w))) k x at
 
 -- an element of a bag, and the source at its head, are among its numbers
-member_at : (xs : List BagElement) (k : ℕ) (cell : BagElement) → slice_get xs k ≡ Some cell → (more : List BagElement)
+pub member_at : (xs : List BagElement) (k : ℕ) (cell : BagElement) → slice_get xs k ≡ Some cell → (more : List BagElement)
     → IsMember cell.element (map number_of (xs ++ more))
 member_at [] k cell at more = absurd (none_some at)
 member_at (x ∷ xs) zero cell at more = inl (ap number_of (sym (some_same at)))
 member_at (x ∷ xs) (suc k) cell at more = inr (member_at xs k cell at more)
 
-member_last : (xs : List BagElement) (own : BagElement) → IsMember own.element (map number_of (xs ++ own ∷ []))
+pub member_last : (xs : List BagElement) (own : BagElement) → IsMember own.element (map number_of (xs ++ own ∷ []))
 member_last [] own = inl refl
 member_last (x ∷ xs) own = inr (member_last xs own)
 
@@ -113,7 +113,7 @@ module _ (made : List Made) (links : List PadLink) (bags : List Bag) (place : �
   member_there n among = bags_are_there made links bags all are place n (record { bag = b.bag; is = b.at; among = among })
 
   -- an element of a task, with that of its bag
-  cell_at : (j : ℕ) (part : PartFrame) → slice_get frame.parts j ≡ Some part → (cell : BagElement) × (slice_get b.bag.elements.items j ≡ Some cell)
+  pub cell_at : (j : ℕ) (part : PartFrame) → slice_get frame.parts j ≡ Some part → (cell : BagElement) × (slice_get b.bag.elements.items j ≡ Some cell)
       × IsPartFrame made links cell.element part
   cell_at j part at =
       let few = slice_get_within frame.parts j part at in
@@ -143,7 +143,7 @@ module _ (made : List Made) (links : List PadLink) (bags : List Bag) (place : �
       → (has is_source made n ≡ true) × (source_count made n ≡ 1)
   source_is n file wire is = go b.bag.head (subst (IsHeadFrame made links b.bag.head) is b.of.head) b.is.head
     where
-      go : (own : BagHead) → IsHeadFrame made links own (by_source n file wire) → IsHead made own → (has is_source made n ≡ true) × (source_count made n ≡ 1)
+      go : (own : BagHead) → IsHeadFrame made links own (by_source n file wire) → IsHead made links own → (has is_source made n ≡ true) × (source_count made n ≡ 1)
       go (Source cell) of head = subst (λ (j : ℕ). (has is_source made j ≡ true) × (source_count made j ≡ 1)) (sym of.0) (head, of.1)
       go (Inlets k) of head = absurd of
 

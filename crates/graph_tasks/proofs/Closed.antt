@@ -86,7 +86,7 @@ module _ (made : List Made) (links : List PadLink) (are : AreLinks made links) (
       (in_front cell.element (map number_of bag.elements.items) (map number_of (head_cells bag.head)) (at_member bag.elements.items k cell at))
 
   -- over no lane nothing leads to the source of a bag
-  no_source : (head : BagHead) → IsHead made head → (a d : ℕ) → LeadsInside made links a d → IsMember d (map number_of (head_cells head)) → ⊥
+  no_source : (head : BagHead) → IsHead made links head → (a d : ℕ) → LeadsInside made links a d → IsMember d (map number_of (head_cells head)) → ⊥
   no_source (bags.Inlets n) kind a d l m = m
   no_source (bags.Source own) kind a d l (inr m) = m
   no_source (bags.Source own) kind a d l (inl same) =

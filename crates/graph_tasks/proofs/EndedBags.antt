@@ -162,7 +162,7 @@ module _ {S E I O L : Type 0} {s : sources.Ghosts S} {e : elements.Ghosts E} {i 
       }
 
   -- an element in a bag is one of the bag's task
-  by_head : (head : BagHead) → IsHead made head → (task : Task S E I O L s e i o) (own : Head S I O s) → task.head ≡ own
+  by_head : (head : BagHead) → IsHead made links head → (task : Task S E I O L s e i o) (own : Head S I O s) → task.head ≡ own
       → IsHeadFrame made links head (head_frame o own)
       → (n : ℕ) → IsMember n (map number_of (head_cells head)) → HasOwn made task n
   by_head (starts.Source cell) is task (heads.Source own) at frame n (inl same) =

@@ -153,7 +153,7 @@ module _ {S E I O L : Type 0} {s : sources.Ghosts S} {e : elements.Ghosts E} {i 
       (sym wire.is.leads ∙ sends.out.leads) in
       let less = rank_rises graph at.sound (place_at wire.number wire.port) behind.0 behind.1 in
       let later = reached_later graph at.sound (head_of b.0) wire.number
-      ((bag_is (made_in graph) (links_in graph) bags at.bags_are k b.0 b.1).only wire.number wire.among) in
+      ((bag_is (made_in graph) (links_in graph) bags at.bags_are.are k b.0 b.1).only wire.number wire.among) in
       let first = ap (rank graph) (fed_number (made_in graph) (links_in graph) bags tasks at.have c.0.head fed.task.head head fed.head_is c.2.head ∙ number
       ∙ sym behind.2) in
       let one = rank_is k b.0 b.1 in

@@ -165,21 +165,21 @@ module _ {S E I O L : Type 0} {s : sources.Ghosts S} {e : elements.Ghosts E} {i 
   pub held_none : (n : ℕ) → IsLoose bags n → AreEmpty (m.held n)
   held_none n loose = at.net.others n
       (λ k head fed same. loose k (subst (λ (d : ℕ). StandsIn bags k d) same
-      (fed_bag (made_in graph) (links_in graph) bags tasks at.have at.bags_are k head fed)))
+      (fed_bag (made_in graph) (links_in graph) bags tasks at.have at.bags_are.are k head fed)))
 
   pub loose_quiet : (p : ℕ) → IsLoose bags (pad_owner (made_in graph) p) → m.history p ≡ []
-  loose_quiet p loose = quiet_pad contents graph bags m at.sound at.once at.bags_are cells_at held_none p loose
+  loose_quiet p loose = quiet_pad contents graph bags m at.sound at.once at.bags_are.are cells_at held_none p loose
 
   pub loose_took : (n : ℕ) → IsLoose bags n → m.took n ≡ no_calls (moment_plan contents graph) n
-  loose_took n loose = took_none contents graph bags m at.sound at.once at.bags_are cells_at held_none n loose
+  loose_took n loose = took_none contents graph bags m at.sound at.once at.bags_are.are cells_at held_none n loose
 
   -- an element that no head reaches is no source
   pub loose_gives : (n : ℕ) → IsLoose bags n → has is_source (made_in graph) n ≡ false
   loose_gives n loose =
-      not_so _ (λ is. not_head contents graph bags m at.sound at.once at.bags_are cells_at held_none n loose (source_head (made_in graph) n is))
+      not_so _ (λ is. not_head contents graph bags m at.sound at.once at.bags_are.are cells_at held_none n loose (source_head (made_in graph) n is))
 
 pub loose_are_quiet : {S E I O L : Type 0} (s : sources.Ghosts S) (e : elements.Ghosts E) (i : inlets.Ghosts I L O) (o : outlets.Ghosts O L)
     → LooseAreQuiet s e i o
 loose_are_quiet s e i o contents graph bags m tasks tells at n there loose =
-    quiet contents graph bags m at.sound at.once at.bags_are (cells_at contents graph bags m tasks tells at)
+    quiet contents graph bags m at.sound at.once at.bags_are.are (cells_at contents graph bags m tasks tells at)
     (held_none contents graph bags m tasks tells at) n loose

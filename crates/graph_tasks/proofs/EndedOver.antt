@@ -135,17 +135,17 @@ module _ {S K I O L : Type 0} (k : sinks.Ghosts K) {s : sources.Ghosts S} {e : e
   live_passes n live ended p own = go (is_source pad.element.settings) refl
     where
       bag : (j : ℕ) × StandsIn bags j n
-      bag = in_bag tree graph is at.sound at.once bags at.bags_are n live
+      bag = in_bag tree graph is at.sound at.once bags at.bags_are.are n live
 
       pad : IsPadAt n p
-      pad = pad_at n (bags_are_there (made_in graph) (links_in graph) bags at.sound.pads at.bags_are bag.0 n bag.1) p own
+      pad = pad_at n (bags_are_there (made_in graph) (links_in graph) bags at.sound.pads at.bags_are.are bag.0 n bag.1) p own
 
       go : (b : Bool) → is_source pad.element.settings ≡ b → list_ended (m.plan.rule n (m.took n) (m.plan.port p) 0) ≡ true
       go true source =
           ap (λ (r : Rule). list_ended (r (m.took n) (m.plan.port p) 0)) (rule_at n pad.element pad.there)
           ∙ source_passes pad.element n (contents n) (m.took n) (m.plan.port p) source
       go false other =
-          let one = stands_own (made_in graph) (links_in graph) bags tasks at.have at.bags_are bag.0 n bag.1 in
+          let one = stands_own (made_in graph) (links_in graph) bags tasks at.have at.bags_are.are bag.0 n bag.1 in
           own_passes n live pad.element pad.there other bag.0 one.task one.at one.own ended (m.plan.port p) pad.few
 
   pub passes : (n : ℕ) → is_live graph n ≡ true → PassesEos m n

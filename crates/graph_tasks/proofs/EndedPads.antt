@@ -45,7 +45,7 @@ pads_are_limited s e i o contents graph bags m tasks tells at p pad = go (in_bag
   where
     go : ((k : ℕ) × StandsIn bags k (m.plan.owner p)) ⊎ IsLoose bags (m.plan.owner p) → length (m.history p) ≤ 1099511627776
     go (inl t) =
-        let one = stands_own (made_in graph) (links_in graph) bags tasks at.have at.bags_are t.0 (m.plan.owner p) t.1 in
+        let one = stands_own (made_in graph) (links_in graph) bags tasks at.have at.bags_are.are t.0 (m.plan.owner p) t.1 in
         own_limited (made_in graph) m one.task (at.net.tied t.0 one.task one.at) p one.own
     go (inr loose) =
         let none = ap length (loose_quiet contents graph bags m tasks tells at p (subst (λ (plan : Plan). IsLoose bags (plan.owner p)) at.plan loose)) in

@@ -48,7 +48,7 @@ module _ {S E : Type 0} (s : sources.Ghosts S) (e : elements.Ghosts E) (made : L
 module _ {S E I O L : Type 0} (s : sources.Ghosts S) (e : elements.Ghosts E) (i : inlets.Ghosts I L O) (o : outlets.Ghosts O L) (graph : Graph) (bags : List Bag) (ends : List (Option E)) (files : List (Option S))
     (tasks : List (WiredTask I O)) (table : List Lane) (sound : IsSound graph) (once : AreOnce (links_in graph)) (are : AreBags (made_in graph) (links_in graph) bags)
     (wired : AreWired i o (made_in graph) (links_in graph) bags tasks table) (hand : AreAtHand s e (made_in graph) ends files) where
-  head_at : (bag : BagHead) (head : WiredHead I O) → IsHead (made_in graph) bag → IsWiredHead i o (made_in graph) (links_in graph) bag head → HeadAt s files head
+  head_at : (bag : BagHead) (head : WiredHead I O) → IsHead (made_in graph) (links_in graph) bag → IsWiredHead i o (made_in graph) (links_in graph) bag head → HeadAt s files head
   head_at (bags_heads.Source cell) (Source number pad) is w = source_at s e (made_in graph) ends files hand number (subst (λ (n : ℕ). has is_source (made_in graph) n ≡ true) (sym w.0) is)
   head_at (bags_heads.Inlets n) (Inlets number hint rows) is w = tt
   head_at (bags_heads.Source cell) (Inlets number hint rows) is w = absurd w

@@ -27,7 +27,7 @@ use Rattle.net_turns.specs.Net.{HasElement, IsFed, Owns}
 use Rattle.graph_tasks.specs.Tasks.{IsHeadOf, IsRowOf, sink_count}
 use Rattle.std.proofs.lemmas.Option.{slice_get_within}
 use Rattle.graph_tasks.proofs.Graphs.{inlets_no_source}
-use Rattle.graph_tasks.proofs.Bags.{among, head_among, source_among}
+use Rattle.graph_tasks.proofs.Bags.{among, fed_no_source, head_among, source_among}
 use Rattle.graph_tasks.proofs.Given.{IsKnown, IsPlaced, cell_of, one_task, placed}
 use Rattle.gst_value.proofs.Basics.{some_same, from_false as not_true}
 use Rattle.gst_value.proofs.Places.{found_at as got_within, map_got}
@@ -94,7 +94,7 @@ module _ {S E I O L : Type 0} {s : sources.Ghosts S} {e : elements.Ghosts E} {i 
     pub fed : IsFed tasks k own
     pub number : own.number ≡ n
 
-  inlets_head_of : (bag : BagHead) (head : Head S I O s) (n : ℕ) → IsHeadOf i o (made_in graph) (links_in graph) files bag head → IsHead (made_in graph) bag → head_number bag ≡ n
+  inlets_head_of : (bag : BagHead) (head : Head S I O s) (n : ℕ) → IsHeadOf i o (made_in graph) (links_in graph) files bag head → IsHead (made_in graph) (links_in graph) bag → head_number bag ≡ n
       → has has_inlets (made_in graph) n ≡ true → (own : InletHead I) × (head ≡ Inlets own) × (own.number ≡ n)
   inlets_head_of bag head n (IsHeadOf.from_source cell source number file given one pad) is same fed =
       not_true (sym (inlets_no_source (made_in graph) n fed) ∙ subst (λ (k : ℕ). has is_source (made_in graph) k ≡ true) same is)
@@ -107,12 +107,12 @@ module _ {S E I O L : Type 0} {s : sources.Ghosts S} {e : elements.Ghosts E} {i 
       record { k = t.k; own = h.0; fed = record { task = t.task; at = t.at; head_is = h.1 }; number = h.2 }
 
   -- of a source
-  source_frame : (bag : BagHead) (head : Head S I O s) (n : ℕ) → IsHeadOf i o (made_in graph) (links_in graph) files bag head → IsHead (made_in graph) bag → head_number bag ≡ n
+  source_frame : (bag : BagHead) (head : Head S I O s) (n : ℕ) → IsHeadOf i o (made_in graph) (links_in graph) files bag head → IsHead (made_in graph) (links_in graph) bag → head_number bag ≡ n
       → has is_source (made_in graph) n ≡ true → (file : Option (Option (List ℕ))) × (wire : Wire) × (head_frame o head ≡ by_source n file wire)
   source_frame bag head n (IsHeadOf.from_source cell source number file given one pad) is same own =
       (s.file source.source, wire_of o source.pad, ap (λ (k : ℕ). by_source k (s.file source.source) (wire_of o source.pad)) (number ∙ same))
   source_frame bag head n (IsHeadOf.from_inlets m its number count rows) is same own =
-      not_true (sym (inlets_no_source (made_in graph) m is) ∙ subst (λ (k : ℕ). has is_source (made_in graph) k ≡ true) (sym same) own)
+      not_true (sym (fed_no_source (made_in graph) (links_in graph) m is) ∙ subst (λ (k : ℕ). has is_source (made_in graph) k ≡ true) (sym same) own)
 
   pub source_owned : (n : ℕ) → has is_head (made_in graph) n ≡ true → has is_source (made_in graph) n ≡ true → (k : ℕ) × Owns tasks k n
   source_owned n is own =

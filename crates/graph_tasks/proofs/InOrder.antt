@@ -75,7 +75,7 @@ module _ {S K I O L : Type 0} (k : sinks.Ghosts K) (s : sources.Ghosts S) (e : e
       go : (b : Bool) → has makes_sinks (made_in graph) n ≡ b → ((place : ℕ) × StandsIn bags place n) ⊎ IsLoose bags n → OwesInOrder (m.plan.rule n) (m.took n)
       go false none where_is = subst (λ (pl : Plan). OwesInOrder (pl.rule n) (m.took n)) (sym at.plan) (rules_go_on contents graph n (m.took n) none)
       go true makes (inl t) =
-          let one = stands_own (made_in graph) (links_in graph) bags tasks at.have at.bags_are t.0 n t.1 in
+          let one = stands_own (made_in graph) (links_in graph) bags tasks at.have at.bags_are.are t.0 n t.1 in
           of_task n makes t.0 one.task one.at one.own
       go true makes (inr loose) = of_none n loose
 

@@ -63,3 +63,5 @@ mod StuckReasons
 mod StuckCounts
 mod StuckLanes
 mod StuckTasks
+pub mod Bagged
+pub mod WiredBags

@@ -97,13 +97,13 @@ module _ {S E I O L : Type 0} {s : sources.Ghosts S} {e : elements.Ghosts E} {i 
   -- an element that brings streams together is the head of a task
   pub join_head : (n : ℕ) → has makes_sinks (made_in graph) n ≡ true → (k : ℕ) × (head : InletHead I) × IsFed tasks k head × (head.number ≡ n)
   join_head n joins =
-      let b : HasBag bags n = heads_have_bags (made_in graph) (links_in graph) bags at.bags_are n
+      let b : HasBag bags n = heads_have_bags (made_in graph) (links_in graph) bags at.bags_are.are n
       (inlets_head (made_in graph) n (joins_inlets (slice_get (made_in graph) n) joins)) in
       let t = task_of (made_in graph) (links_in graph) bags tasks at.have b.number b.bag b.is in
-      go b.number t.0 t.1 b.bag.head t.0.head refl t.2.head (bag_is (made_in graph) (links_in graph) bags at.bags_are b.number b.bag b.is).head b.head
+      go b.number t.0 t.1 b.bag.head t.0.head refl t.2.head (bag_is (made_in graph) (links_in graph) bags at.bags_are.are b.number b.bag b.is).head b.head
     where
       go : (k : ℕ) (task : Task S E I O L s e i o) → slice_get tasks k ≡ Some task → (own : BagHead) (head : Head S I O s) → task.head ≡ head
-          → IsHeadFrame (made_in graph) (links_in graph) own (head_frame o head) → IsHead (made_in graph) own → head_number own ≡ n
+          → IsHeadFrame (made_in graph) (links_in graph) own (head_frame o head) → IsHead (made_in graph) (links_in graph) own → head_number own ≡ n
           → (k : ℕ) × (head : InletHead I) × IsFed tasks k head × (head.number ≡ n)
       go k task task_at (starts.Source cell) head head_is frame source number =
           absurd (no_both (slice_get (made_in graph) n) joins (subst (λ (d : ℕ). has is_source (made_in graph) d ≡ true) number source))

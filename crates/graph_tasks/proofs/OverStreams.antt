@@ -91,8 +91,8 @@ module _ {S K I O L : Type 0} (k : sinks.Ghosts K) {s : sources.Ghosts S} {e : e
 
   live_among : (n : ℕ) → is_live graph n ≡ true → IsMember n (forward_in graph)
   live_among n marked =
-      let bag : (j : ℕ) × StandsIn bags j n = in_bag tree graph is at.sound at.once bags at.bags_are n (live_of n marked) in
-      in_order graph at.sound n (bags_are_there (made_in graph) (links_in graph) bags at.sound.pads at.bags_are bag.0 n bag.1)
+      let bag : (j : ℕ) × StandsIn bags j n = in_bag tree graph is at.sound at.once bags at.bags_are.are n (live_of n marked) in
+      in_order graph at.sound n (bags_are_there (made_in graph) (links_in graph) bags at.sound.pads at.bags_are.are bag.0 n bag.1)
 
   live_linked : (n : ℕ) → Live (made_in graph) (links_in graph) n → joins_in graph n ≡ false
       → FromStart (is_live graph) (moment_plan contents graph) ((moment_plan contents graph).sinks n)

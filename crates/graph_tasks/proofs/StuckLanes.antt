@@ -81,7 +81,7 @@ module _ {S E I O L : Type 0} {s : sources.Ghosts S} {e : elements.Ghosts E} {i 
   own_wire k task task_at source there own = by own
     where
       b : HasBag (made_in graph) (links_in graph) bags k (frame_of task)
-      b = bag_of (made_in graph) (links_in graph) bags tasks at.bags_are at.have k task task_at
+      b = bag_of (made_in graph) (links_in graph) bags tasks at.bags_are.are at.have k task task_at
 
       of_frame : (place : ℕ) (part : PartFrame) → slice_get (frame_of task).parts place ≡ Some part → part.number ≡ source.element → IsWireAt (made_in graph) (links_in graph) task source
       of_frame place part part_at same =
@@ -146,7 +146,7 @@ module _ {S E I O L : Type 0} {s : sources.Ghosts S} {e : elements.Ghosts E} {i 
         omega (arith, size, history, whole, count, counted)
       where
         one : OwnsOne (made_in graph) tasks k source.element
-        one = stands_own (made_in graph) (links_in graph) bags tasks at.have at.bags_are k source.element stands
+        one = stands_own (made_in graph) (links_in graph) bags tasks at.have at.bags_are.are k source.element stands
 
         wire : IsWireAt (made_in graph) (links_in graph) one.task source
         wire =
@@ -183,10 +183,10 @@ module _ {S E I O L : Type 0} {s : sources.Ghosts S} {e : elements.Ghosts E} {i 
         -- the row in which the lane stands is that of the head
         row_same : lane.row ≡ row
         row_same =
-            let here : StandsIn bags number head.number = fed_bag (made_in graph) (links_in graph) bags tasks at.have at.bags_are number head fed in
+            let here : StandsIn bags number head.number = fed_bag (made_in graph) (links_in graph) bags tasks at.have at.bags_are.are number head fed in
             let there : StandsIn bags lane.task lane.has.head.number
-            = fed_bag (made_in graph) (links_in graph) bags tasks at.have at.bags_are lane.task lane.has.head lane.has.fed in
-            let place : lane.task ≡ number = bags_are_apart (made_in graph) (links_in graph) bags at.sound.pads at.once at.bags_are lane.task number head.number
+            = fed_bag (made_in graph) (links_in graph) bags tasks at.have at.bags_are.are lane.task lane.has.head lane.has.fed in
+            let place : lane.task ≡ number = bags_are_apart (made_in graph) (links_in graph) bags at.sound.pads at.once at.bags_are.are lane.task number head.number
             (subst (StandsIn bags lane.task) lane.has.number there) here in
             let task = some_same (sym lane.has.fed.at ∙ ap (λ (j : ℕ). slice_get tasks j) place ∙ fed.at) in
             let heads = heads_same (sym lane.has.fed.head_is ∙ ap (λ t. t.head) task ∙ fed.head_is) in

@@ -236,7 +236,7 @@ module _ {S K I O L : Type 0} (k : sinks.Ghosts K) {s : sources.Ghosts S} {e : e
       none = pad.held
 
       b : HasBag (made_in graph) (links_in graph) bags number (frame_of task)
-      b = bag_of (made_in graph) (links_in graph) bags tasks at.bags_are at.have number task task_at
+      b = bag_of (made_in graph) (links_in graph) bags tasks at.bags_are.are at.have number task task_at
 
       own : WireIn (made_in graph) (links_in graph) b.bag wire
       own = wire_in (made_in graph) (links_in graph) b.bag (frame_of task) wire b.of h.0.1
@@ -310,7 +310,7 @@ module _ {S K I O L : Type 0} (k : sinks.Ghosts K) {s : sources.Ghosts S} {e : e
   over_at number task task_at h pad w = go (frame_of task).head refl h w
     where
       b : HasBag (made_in graph) (links_in graph) bags number (frame_of task)
-      b = bag_of (made_in graph) (links_in graph) bags tasks at.bags_are at.have number task task_at
+      b = bag_of (made_in graph) (links_in graph) bags tasks at.bags_are.are at.have number task task_at
 
       all_ended : (n : ℕ) → Wants e m n None → (joins : Bool) → joins_in graph n ≡ joins → AllEnded (m.took n)
       all_ended n wants true joins = (join_wants k streams contents graph bags m tasks tells at n None joins wants).0 refl
@@ -327,7 +327,7 @@ module _ {S K I O L : Type 0} (k : sinks.Ghosts K) {s : sources.Ghosts S} {e : e
           → eos_among (came_to (links_in graph) took_in (place_at (head_number head) pad)) ≡ true
       go (by_source n file wire) is h w =
           let one : IsAsked is_source (slice_get (made_in graph) n)
-          = asked_at is_source (slice_get (made_in graph) n) (source_is (made_in graph) (links_in graph) bags number (frame_of task) at.sound.pads at.bags_are b n file wire is).0 in
+          = asked_at is_source (slice_get (made_in graph) n) (source_is (made_in graph) (links_in graph) bags number (frame_of task) at.sound.pads at.bags_are.are b n file wire is).0 in
           let none = source_no_sink one.element.settings one.is in
           let count = ap sink_count one.at in
           absurd (omega (arith, w, none, count))
@@ -340,7 +340,7 @@ module _ {S K I O L : Type 0} (k : sinks.Ghosts K) {s : sources.Ghosts S} {e : e
   stuck_at number task task_at (NeedsItem lane) h = lacks number task task_at lane h.0 h.1
   stuck_at number task task_at (NeedsRoom lane) h = held_up number task task_at lane h
   stuck_at number task task_at (AtProbe command) h =
-      let b : HasBag (made_in graph) (links_in graph) bags number (frame_of task) = bag_of (made_in graph) (links_in graph) bags tasks at.bags_are at.have number task task_at in
+      let b : HasBag (made_in graph) (links_in graph) bags number (frame_of task) = bag_of (made_in graph) (links_in graph) bags tasks at.bags_are.are at.have number task task_at in
       let own = wire_in (made_in graph) (links_in graph) b.bag (frame_of task) h.0.0 b.of h.0.1 in
       absurd (none_some (sym own.is.unprobed ∙ h.0.2.held.probe))
   stuck_at number task task_at Ended h =

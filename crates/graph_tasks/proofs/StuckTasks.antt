@@ -88,8 +88,8 @@ module _ {S E I O L : Type 0} {s : sources.Ghosts S} {e : elements.Ghosts E} {i 
       → received_by i (pad_id (place_at (head_number (head_frame o head)) pad)) head
       ≡ lane_count (links_in graph) (took contents graph bags m tasks tells at run) (place_at (head_number (head_frame o head)) pad)
   counted_at number task pad task_at (Source head) is w =
-      let b = bag_of (made_in graph) (links_in graph) bags tasks at.bags_are at.have number task task_at in
-      let source = source_is (made_in graph) (links_in graph) bags number (frame_of task) at.sound.pads at.bags_are b head.number _ _ (ap (λ h. head_frame o h) is) in
+      let b = bag_of (made_in graph) (links_in graph) bags tasks at.bags_are.are at.have number task task_at in
+      let source = source_is (made_in graph) (links_in graph) bags number (frame_of task) at.sound.pads at.bags_are.are b head.number _ _ (ap (λ h. head_frame o h) is) in
       let one : IsAsked is_source (slice_get (made_in graph) head.number) = asked_at is_source (slice_get (made_in graph) head.number) source.0 in
       let none = source_no_sink one.element.settings one.is in
       let count = ap sink_count one.at in

@@ -110,10 +110,10 @@ module _ {S E I O L : Type 0} {s : sources.Ghosts S} {e : elements.Ghosts E} {i 
   pub in_task : (k : ℕ) (task : Task S E I O L s e i o) → slice_get tasks k ≡ Some task → (n : ℕ)
       → Reaches (made_in graph) (links_in graph) (head_number (frame_of task).head) n → HasOwn (made_in graph) task n
   in_task k task task_at n reaches =
-      let b : HasBag (made_in graph) (links_in graph) bags k (frame_of task) = bag_of (made_in graph) (links_in graph) bags tasks at.bags_are at.have k task task_at in
+      let b : HasBag (made_in graph) (links_in graph) bags k (frame_of task) = bag_of (made_in graph) (links_in graph) bags tasks at.bags_are.are at.have k task task_at in
       let head = head_is (made_in graph) (links_in graph) b.bag.head (frame_of task).head b.of.head in
       let among = b.is.whole n (subst (λ (h : ℕ). Reaches (made_in graph) (links_in graph) h n) (sym head) reaches) in
-      let one : OwnsOne (made_in graph) tasks k n = stands_own (made_in graph) (links_in graph) bags tasks at.have at.bags_are k n (record { bag = b.bag; is = b.at; among = among }) in
+      let one : OwnsOne (made_in graph) tasks k n = stands_own (made_in graph) (links_in graph) bags tasks at.have at.bags_are.are k n (record { bag = b.bag; is = b.at; among = among }) in
       subst (λ (t : Task S E I O L s e i o). HasOwn (made_in graph) t n) (some_same (sym one.at ∙ task_at)) one.own
 
   -- where nothing waits at the pads of its elements nothing waits in the task

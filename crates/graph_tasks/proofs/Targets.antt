@@ -1,5 +1,5 @@
 -- Each lane of a graph is led to by one pad of its bags, and no element stands in two of these.
-use Rattle.std.proofs.Common.{◌≡◌, ◌⊎◌, ◌||◌, ℕ, suc, Bool, true, false, if◌then◌else◌, List, [], ◌∷◌, ◌++◌, All, Option, None, Some, map, length, refl, sym, ap, ◌∙◌, subst, inl, inr, arith}
+use Rattle.std.proofs.Common.{◌≡◌, ◌⊎◌, ◌||◌, ℕ, suc, Bool, true, false, if◌then◌else◌, List, [], ◌∷◌, ◌++◌, All, Option, None, Some, map, refl, sym, ap, ◌∙◌, subst, inl, inr, arith}
 use Rattle.std.specs.Prelude.{slice_get}
 use Rattle.std.specs.List.{flat_map, range_with_len}
 use Rattle.std.specs.Option.{option_map_or}
@@ -11,7 +11,7 @@ use Rattle.graph_pads.specs.Links.{sink_behind}
 use Rattle.graph_pads.specs.declared.pad.PadLink.{PadLink}
 use Rattle.graph_pads.specs.declared.pad.PadPlace.{PadPlace}
 use Rattle.graph_parts.specs.Bags.{HavePads, IsBag, IsHead, Once, cells, head_number, head_of, number_of, numbers}
-use Rattle.graph_parts.specs.Links.{has_inlets, is_head, link_to, pad_at, source_count}
+use Rattle.graph_parts.specs.Links.{Begins, has_inlets, is_head, link_to, pad_at, source_count}
 use Rattle.el_settings.specs.Asked.{is_source}
 use Rattle.graph_parts.specs.declared.bag.Bag.{Bag}
 use Rattle.graph_parts.specs.declared.bag.BagElement.{BagElement}
@@ -19,7 +19,7 @@ use Rattle.graph_parts.specs.declared.bag.BagHead.{BagHead}
 use Rattle.graph_parts.specs.declared.bag.BagHead.TheVariants.{Source, Inlets}
 use Rattle.graph_parts.specs.declared.bag.BagLink.TheVariants.{Element, Lane}
 use Rattle.graph_parts.specs.declared.bag.BagPad.{BagPad}
-use Rattle.graph_parts.proofs.Apart.{same_head, once_filter}
+use Rattle.graph_parts.proofs.Apart.{heads_once, same_head}
 use Rattle.graph_parts.proofs.Onces.{in_either, once_append}
 use Rattle.graph_parts.proofs.Trees.{range_once}
 use Rattle.graph_tasks.specs.Wiring.{AreLinks, BagsGiven, all_cells, cell_lanes, inlets_of, lane_to, pad_lanes}
@@ -114,9 +114,10 @@ inlets_are_head : (found : Option Made) → option_map_or (λ (m : Made). has_in
 inlets_are_head None is = absurd (cc)
 inlets_are_head (Some m) is = ap (λ (b : Bool). is_source m.settings || b) is ∙ or_true (is_source m.settings)
 
-head_kind : (made : List Made) (head : BagHead) → IsHead made head → has is_head made (head_number head) ≡ true
-head_kind made (Source own) is = source_is_head (slice_get made own.element) is
-head_kind made (Inlets n) is = inlets_are_head (slice_get made n) is
+pub head_begins : (made : List Made) (links : List PadLink) (head : BagHead) → IsHead made links head → Begins made links (head_number head)
+head_begins made links (Source own) is = inl (source_is_head (slice_get made own.element) is)
+head_begins made links (Inlets n) (inl fed) = inl (inlets_are_head (slice_get made n) fed)
+head_begins made links (Inlets n) (inr loose) = inr loose
 
 rest_of : {A : Type 0} (P : A → Type 0) (x : A) (xs : List A) → All P (x ∷ xs) → All P xs
 rest_of P x xs all = λ k d w. all (suc k) d (omega (arith, w))
@@ -157,21 +158,17 @@ module _ (made : List Made) (links : List PadLink) (are : AreLinks made links) w
       once_append (numbers x) (flat_map numbers xs) own.once (once_numbers xs rest once.1)
       (λ d m n.
       let b = bag_for made links xs rest d n in
-      let same = same_head made links are.all are.once (head_of x) (head_of b.bag) d (head_kind made x.head own.head) (head_kind made b.bag.head b.is.head) (own.only d m) (b.is.only d b.among) in
+      let same = same_head made links are.all are.once (head_of x) (head_of b.bag) d (head_begins made links x.head own.head) (head_begins made links b.bag.head b.is.head) (own.only d m) (b.is.only d b.among) in
       once.0 (subst (λ (k : ℕ). IsMember k (map head_of xs)) (sym same) b.head))
 
 module _ (made : List Made) (links : List PadLink) (bags : List Bag) (given : BagsGiven made links bags) where
-  -- no head stands twice
-  pub heads_once : Once (map head_of bags)
-  heads_once = subst Once (sym given.are.heads) (once_filter (has is_head made) (range_with_len 0 (length made)) (range_once 0 (length made)))
-
   -- no lane feeds two heads
   pub all_inlets : Once (flat_map (λ (bag : Bag). inlets_of made bag.head) bags)
-  all_inlets = inlets_once made bags heads_once
+  all_inlets = inlets_once made bags (heads_once made links bags given.are)
 
   -- no element stands twice
   pub all_once : Once (flat_map numbers bags)
-  all_once = once_numbers made links given.links_are bags given.are.are heads_once
+  all_once = once_numbers made links given.links_are bags given.are.are (heads_once made links bags given.are)
 
   -- no lane is led to twice
   pub all_lanes : Once (flat_map (λ (bag : Bag). cell_lanes (cells bag)) bags)

@@ -18,7 +18,7 @@ use Rattle.graph_pads.specs.Links.{sink_behind, source_before}
 use Rattle.graph_core.specs.declared.graph.Graph.{Graph}
 use Rattle.graph_pads.specs.declared.pad.PadPlace.{PadPlace}
 use Rattle.graph_core.specs.GraphPlan.{line_plan, owner_of, pad_id, sink_at, sink_count as sinks_of, spans_from, sink_at as place_at}
-use Rattle.graph_parts.specs.Links.{has_inlets, source_count}
+use Rattle.graph_parts.specs.Links.{Begins, has_inlets, source_count}
 use Rattle.graph_parts.specs.Bags.{IsHead}
 use Rattle.graph_parts.specs.declared.bag.Bag.{Bag}
 use Rattle.graph_parts.specs.declared.bag.BagElement.{BagElement}
@@ -26,6 +26,7 @@ use Rattle.graph_parts.specs.declared.bag.BagHead.{BagHead}
 use Rattle.graph_parts.specs.declared.bag.BagHead.TheVariants as bags_heads
 use Rattle.graph_parts.specs.Plans.{moment_plan}
 use Rattle.graph_parts.proofs.Rules.{moment_starts}
+use Rattle.graph_parts.proofs.Trees.{none_leads as no_lead}
 use Rattle.graph_parts.proofs.Wholes.{numbers_have_pads}
 use Rattle.inlet_row.specs.declared.feeding.Feeding.{Feeding}
 use Rattle.inlet_row.specs.declared.row.InletRow.{InletRow}
@@ -45,6 +46,7 @@ use Rattle.graph_tasks.proofs.Lists.{took_none}
 use Rattle.graph_tasks.proofs.Graphs.{gives_none}
 use Rattle.graph_tasks.proofs.Bags.{among, elements_once, no_source, source_among, source_apart}
 use Rattle.graph_tasks.proofs.Pads.{start, pad_linked, pad_number, pad_waits}
+use Rattle.graph_tasks.proofs.Targets.{head_begins}
 use Rattle.graph_tasks.proofs.Given.{IsBegun, cell_of, pad_there, placed, there}
 use Rattle.gst_value.proofs.Places.{found_at as got_within}
 
@@ -152,7 +154,7 @@ module _ {S E I O L : Type 0} {s : sources.Ghosts S} {e : elements.Ghosts E} {i 
         apart = none;
       }
 
-  head_tied : (bag : BagHead) (head : Head S I O s) (parts : List (Part E O e)) → IsHeadOf i o (made_in graph) (links_in graph) files bag head → IsHead (made_in graph) bag
+  head_tied : (bag : BagHead) (head : Head S I O s) (parts : List (Part E O e)) → IsHeadOf i o (made_in graph) (links_in graph) files bag head → IsHead (made_in graph) (links_in graph) bag
       → ((own : BagElement) → bag ≡ bags_heads.Source own → (own.element < length (made_in graph)) × NoneIs parts own.element)
       → ((n port : ℕ) → bag ≡ bags_heads.Inlets n → NoneLeads parts n port) → HeadTied i o nothing_lost (start contents graph) head parts
   head_tied bag head parts (IsHeadOf.from_source cell own number file given one pad) is apart none =
@@ -162,25 +164,31 @@ module _ {S E I O L : Type 0} {s : sources.Ghosts S} {e : elements.Ghosts E} {i 
       let w = slice_get_within own.rows.items port row at in
       row_tied n port own row parts number (omega (arith, w, count)) (rows port row at) (subst (λ (k : ℕ). NoneLeads parts k port) (sym number) (none n port refl))
 
-  -- no pad leads inside to an element that is fed from inlets
+  -- no pad leads inside to what begins a bag
   inside_element : {a b c d : ℕ} → inside a b ≡ inside c d → a ≡ c
   inside_element same = cc
 
-  none_leads : (cell : BagElement) (part : Part E O e) → IsPartOf o (made_in graph) (links_in graph) ends cell part → (n port k : ℕ) (pad : Pad O) → has has_inlets (made_in graph) n ≡ true
+  none_leads : (cell : BagElement) (part : Part E O e) → IsPartOf o (made_in graph) (links_in graph) ends cell part → (n port k : ℕ) (pad : Pad O) → Begins (made_in graph) (links_in graph) n
       → slice_get part.pads.items k ≡ Some pad → goes_of pad ≢ inside n port
-  none_leads cell part is n port k pad fed at same = go (sink_behind (links_in graph) (place_at cell.element k)) (is.pads k pad at).leads
+  none_leads cell part is n port k pad begins at same = go (sink_behind (links_in graph) (place_at cell.element k)) refl (is.pads k pad at).leads
     where
-      go : (found : Option PadPlace) → LeadsTo o (made_in graph) (links_in graph) pad found → ⊥
-      go found (LeadsTo.nothing leads) = no (sym leads ∙ same)
+      go : (found : Option PadPlace) → sink_behind (links_in graph) (place_at cell.element k) ≡ found → LeadsTo o (made_in graph) (links_in graph) pad found → ⊥
+      go _ here (LeadsTo.nothing leads) = no (sym leads ∙ same)
         where
           no : nowhere ≡ inside n port → ⊥
           no e = cc
-      go found (LeadsTo.element sink inner leads) =
-          no (sym inner ∙ subst (λ (a : ℕ). has has_inlets (made_in graph) a ≡ true) (sym (inside_element (sym leads ∙ same))) fed)
-        where
-          no : false ≡ true → ⊥
-          no e = cc
-      go found (LeadsTo.lane sink outer into) = no (sym into.goes ∙ same)
+      go _ here (LeadsTo.element sink inner leads) =
+          let to : sink.element ≡ n = inside_element (sym leads ∙ same) in
+          no_lead (made_in graph) (links_in graph) g.known.sound.pads g.known.once n begins cell.element
+          (record {
+            pad = k;
+            there = let w = slice_get_within part.pads.items k pad at in let all = is.all in omega (arith, w, all);
+            sink = sink;
+            linked = here;
+            element = to;
+            inner = subst (λ (a : ℕ). has has_inlets (made_in graph) a ≡ false) to inner;
+          })
+      go _ here (LeadsTo.lane sink outer into) = no (sym into.goes ∙ same)
         where
           no : over (pad_id sink) sink.element sink.pad 0 ≡ inside n port → ⊥
           no e = cc
@@ -210,5 +218,5 @@ module _ {S E I O L : Type 0} {s : sources.Ghosts S} {e : elements.Ghosts E} {i 
             ))
             (λ n port is j l part pad here there same.
             let c = cell_of g.known k j task p part here in
-            none_leads c.cell part c.of n port l pad (subst (λ (h : BagHead). IsHead (made_in graph) h) is p.is.head) there same);
+            none_leads c.cell part c.of n port l pad (head_begins (made_in graph) (links_in graph) (bags_heads.Inlets n) (subst (λ (h : BagHead). IsHead (made_in graph) (links_in graph) h) is p.is.head)) there same);
       }

@@ -13,7 +13,7 @@ use Rattle.graph_core.specs.declared.graph.Graph.{Graph}
 use Rattle.graph_core.specs.LinkedOnce.{AreOnce}
 use Rattle.graph_parts.specs.Pads.{at_pads}
 use Rattle.graph_parts.specs.Plans.{moment_answers, moment_plan}
-use Rattle.graph_parts.specs.Bags.{AreBags}
+use Rattle.graph_parts.specs.Bags.{AreHeadBags}
 use Rattle.graph_parts.specs.declared.bag.Bag.{Bag}
 use Rattle.net_task.specs.declared.task.Task.{Task}
 use Rattle.net_turns.specs.Net.{NetStands}
@@ -35,7 +35,7 @@ pub record RunsAt {S E I O L : Type 0} {s : sources.Ghosts S} {e : elements.Ghos
     (contents : ℕ → List ℕ) (graph : Graph) (bags : List Bag) (m : Moment) (tasks : List (Task S E I O L s e i o)) (tells : Option (List Lane)) : Type 0 where
   pub sound : IsSound graph
   pub once : AreOnce (links_in graph)
-  pub bags_are : AreBags (made_in graph) (links_in graph) bags
+  pub bags_are : AreHeadBags (made_in graph) (links_in graph) bags
   pub have : HaveBags (made_in graph) (links_in graph) bags tasks
   pub plan : m.plan ≡ moment_plan contents graph
   pub answers : m.answers ≡ moment_answers graph

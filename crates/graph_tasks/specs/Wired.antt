@@ -6,7 +6,7 @@ use Rattle.lane_core.specs.declared.ends.Inlet as inlets
 use Rattle.lane_core.specs.declared.ends.Outlet as outlets
 use Rattle.graph_core.specs.Elements.{Made}
 use Rattle.graph_pads.specs.declared.pad.PadLink.{PadLink}
-use Rattle.graph_parts.specs.Bags.{AreBags, Once}
+use Rattle.graph_parts.specs.Bags.{AreAllBags, AreHeadBags, Once}
 use Rattle.graph_parts.specs.Links.{source_count}
 use Rattle.graph_parts.specs.declared.bag.Bag.{Bag}
 use Rattle.graph_parts.specs.declared.bag.BagElement.{BagElement}
@@ -81,8 +81,14 @@ module _ {I O L : Type 0} (i : inlets.Ghosts I L O) (o : outlets.Ghosts O L) (ma
     pub parts_once : Once (part_numbers tasks)
     pub sources_once : Once (source_numbers tasks)
 
-  -- the tasks of a graph's bags
+  -- the tasks of a graph's bags, of which no loose element has one
   pub record IsWired (wired : WiredTasks I O) : Type 0 where
     pub bags : List Bag
-    pub are : AreBags made links bags
+    pub are : AreHeadBags made links bags
+    pub tasks : AreWired bags wired.tasks.items wired.lanes
+
+  -- and of which each has one
+  pub record IsAllWired (wired : WiredTasks I O) : Type 0 where
+    pub bags : List Bag
+    pub are : AreAllBags made links bags
     pub tasks : AreWired bags wired.tasks.items wired.lanes

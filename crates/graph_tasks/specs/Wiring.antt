@@ -110,7 +110,7 @@ module _ (made : List Made) (links : List PadLink) where
 
   -- and of the head of a bag
   pub record HeadGiven (head : BagHead) (gone heads : List ℕ) : Type 0 where
-    pub is : IsHead made head
+    pub is : IsHead made links head
     pub own : CellsGiven (head_cells head) gone
     pub there : head_number head < length made
     pub apart : AreApart (inlets_of made head) heads

@@ -17,4 +17,4 @@ pub mod written;
 
 pub use making::Plan;
 pub use wired_task::{WiredHead, WiredPart, WiredTask, WiredTasks};
-pub use wiring::wire;
+pub use wiring::{wire, wire_all};

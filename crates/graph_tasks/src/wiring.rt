@@ -2,14 +2,15 @@
 ghost use Rattle.std.specs.Prelude.{◌≡◌, ℕ, List, [], IfOk};
 ghost use Rattle.graph_core.specs.Graph.{IsSound, made as made_in, links as links_in};
 ghost use Rattle.graph_core.specs.LinkedOnce.{AreOnce};
-ghost use Rattle.graph_tasks.specs.Wired.{IsWired};
+ghost use Rattle.graph_parts.specs.Bags.{AreBags};
+ghost use Rattle.graph_tasks.specs.Wired.{AreWired, IsAllWired, IsWired};
 ghost use Rattle.graph_tasks.specs.Wiring.{BagGiven, BagMade, BagsGiven, BagsMade, CellsGiven, HeadGiven, HeadMade, InletsLeft, OutletsLeft, PartsMade, first_link};
 
 use crate::rows::rows_of;
 use crate::source_pads::{pad_of, pads_of, place_of};
 use crate::wired_task::{WiredHead, WiredPart, WiredTask, WiredTasks};
 use graph_core::Graph;
-use graph_parts::{Bag, BagElement, BagHead, BagLink, Lanes, bags_of, lanes_of};
+use graph_parts::{Bag, BagElement, BagHead, BagLink, Lanes, all_bags_of, bags_of, lanes_of};
 use gst_value::OutOfMemory;
 use lane_core::{Inlet, MemInlet, MemOutlet, Outlet};
 use std::alloc::Global;
@@ -21,12 +22,36 @@ pub fn wire(alloc: Global, graph: &Graph) -> Result<WiredTasks<MemInlet, MemOutl
         → IsWired ⟦<MemInlet as Inlet>⟧ ⟦<MemOutlet as Outlet>⟧ (made_in graph.now) (links_in graph.now) wired) }
 {
     let bags = bags_of(alloc, graph)?;
+    wire_bags(alloc, graph, bags.as_slice())
+}
+
+/// The same, and behind the tasks of heads those of loose elements, so that each element of the graph is of a task.
+pub fn wire_all(
+    alloc: Global,
+    graph: &Graph,
+) -> Result<WiredTasks<MemInlet, MemOutlet>, OutOfMemory>
+    ensures { IfOk result (λ wired. IsSound graph.now → AreOnce (links_in graph.now)
+        → IsAllWired ⟦<MemInlet as Inlet>⟧ ⟦<MemOutlet as Outlet>⟧ (made_in graph.now) (links_in graph.now) wired) }
+{
+    let bags = all_bags_of(alloc, graph)?;
+    wire_bags(alloc, graph, bags.as_slice())
+}
+
+/// The tasks of these bags without their elements, in their order, and the lanes between them.
+fn wire_bags(
+    alloc: Global,
+    graph: &Graph,
+    bags: &[Bag],
+) -> Result<WiredTasks<MemInlet, MemOutlet>, OutOfMemory>
+    ensures { IfOk result (λ wired. IsSound graph.now → AreOnce (links_in graph.now) → AreBags (made_in graph.now) (links_in graph.now) bags.now
+        → AreWired ⟦<MemInlet as Inlet>⟧ ⟦<MemOutlet as Outlet>⟧ (made_in graph.now) (links_in graph.now) bags.now wired.tasks.items wired.lanes) }
+{
     let Lanes {
         table,
         mut inlets,
         mut outlets,
     } = lanes_of(alloc, graph)?;
-    let tasks = tasks_of(alloc, graph, bags.as_slice(), &mut inlets, &mut outlets)?;
+    let tasks = tasks_of(alloc, graph, bags, &mut inlets, &mut outlets)?;
     Ok(WiredTasks {
         tasks,
         lanes: table,

@@ -11,12 +11,10 @@ use task_pads::{Behind, Pad};
 use task_parts::{Head, Part};
 
 /// Whether a pad of one of these tasks leads over a lane to the element of a number.
-pub(crate) fn is_sent_to<
-    S: TaskSource,
-    E: TaskElement,
-    I: Inlet<Out = O>,
-    O: Outlet<Lanes = I::Lanes>,
->(tasks: &[Task<S, E, I, O>], number: u32) -> bool
+pub fn is_sent_to<S: TaskSource, E: TaskElement, I: Inlet<Out = O>, O: Outlet<Lanes = I::Lanes>>(
+    tasks: &[Task<S, E, I, O>],
+    number: u32,
+) -> bool
     ensures sends { result ≡ true → (k : ℕ) × SendsAt tasks.now k number }
     ensures none { result ≡ false → (k : ℕ) → SendsAt tasks.now k number → ⊥ }
 {

@@ -11,4 +11,5 @@ mod sizes;
 pub mod splitting;
 
 pub use joining::{JoinRoom, join, join_reserved, room_to_join};
+pub use lanes::is_sent_to;
 pub use splitting::{SplitRoom, room_to_split, split, split_reserved};

@@ -41,7 +41,7 @@ module _ {S K I O L : Type 0} (giver : givers.Ghosts (StreamSource S)) (taker : 
   pub all_there : MakesStreams s k giver taker → AreThere giver taker wired elements_in sources_in
   all_there are =
       elements_are_there giver taker i o graph planned.bags elements_in sources_in wired table built.sound (linked_once built.tree graph built.line)
-      planned.bags_are planned.wired (at_hand s k (made_in graph) ends before opened opens elements_in sources_in left filled giver taker are)
+      planned.bags_are.are planned.wired (at_hand s k (made_in graph) ends before opened opens elements_in sources_in left filled giver taker are)
 
   -- and the tasks of a run that starts are made of it
   pub begins : (tasks : List (Task (StreamSource S) (StreamElement K) I O L giver taker i o)) (rest : List (Option (StreamElement K)))

@@ -83,7 +83,7 @@ module _ {S K I O L : Type 0} {giver : givers.Ghosts (StreamSource S)} {taker : 
       (place_is_pad (made_in graph) source (subst (λ (found : Option Made). source.pad < option_map_or (λ (m : Made). source_pads m.settings) found 0) (sym at) there)))
       stop.fault
       (is_met (made_in graph) (links_in graph) last rest own.place own.met.before own.met.after stop.fault own.met.at_after own.met.frame
-      (laws.causes graph run.started.bags own.was run.started.sound run.started.bags_are
+      (laws.causes graph run.started.bags own.was run.started.sound run.started.bags_are.are
       (bags_before graph run.started.bags last
       (record { place = own.place; was = own.was; before = own.met.before; after = own.met.after; others = own.met.others; at = own.met.at; at_after = own.met.at_after; frame = own.met.frame })
       (have_bags s k graph first last rest left tells before run))

@@ -43,7 +43,7 @@ use Rattle.task_parts.specs.declared.head.SourceHead.{SourceHead}
 use Rattle.task_parts.specs.declared.part.Part.{Part}
 use Rattle.world_core.specs.Prepared.{HasRoom}
 use Rattle.world_core.specs.Stopped.{HasRun}
-use Rattle.world_core.proofs.Bagged.{tasks_have, tasks_keep}
+use Rattle.graph_tasks.proofs.Bagged.{tasks_have, tasks_keep}
 use Rattle.graph_parts.proofs.OwnFiles.{reader, writer}
 use Rattle.world_core.proofs.Headed.{GivenFrom, HeadAt, given_from, head_there, one_head}
 use Rattle.world_core.proofs.Members.{flat_member, mapped, member_or, without_gone}
@@ -169,7 +169,7 @@ module _ {S K I O L : Type 0} {giver : givers.Ghosts (StreamSource S)} {taker : 
   source_there e m here pads =
       let there =
       head_there i o (made_in graph) (links_in graph) run.started.elements_in run.started.sources_in run.started.bags first last run.started.table
-      run.started.wired run.started.tasks_are run.started.wired_are run.framed run.count run.started.bags_are e m here pads in
+      run.started.wired run.started.tasks_are run.started.wired_are run.framed run.count run.started.bags_are.are e m here pads in
       let own = there.1 in
       let inside : HasHead own.task e own.own.source =
       subst (λ (head : Head (StreamSource S) I O giver). IsHead head e own.own.source) (sym own.is) (own.number, refl) in

@@ -21,7 +21,7 @@ use Rattle.graph_tasks.specs.Wired.{AreWired, IsWiredHead, source_in, source_num
 use Rattle.graph_tasks.specs.declared.wired_task.WiredHead.{WiredHead}
 use Rattle.graph_tasks.specs.declared.wired_task.WiredHead.TheVariants as plans_of
 use Rattle.graph_tasks.specs.declared.wired_task.WiredTask.{WiredTask}
-use Rattle.graph_tasks.proofs.Graphs.{inlets_no_source}
+use Rattle.graph_tasks.proofs.Bags.{fed_no_source}
 use Rattle.lane_core.specs.Lane.{Lane}
 use Rattle.lane_core.specs.declared.ends.Inlet as inlets
 use Rattle.lane_core.specs.declared.ends.Outlet as outlets
@@ -112,13 +112,13 @@ module _ {I O L : Type 0} (i : inlets.Ghosts I L O) (o : outlets.Ghosts O L) (ma
   numbered_so (bags_of.Inlets n) (plans_of.Inlets number hint rows) cell is same = absurd (cc)
 
 -- the bag of a source begins with it
-source_bag : (made : List Made) (e : ℕ) (m : Made) (head : BagHead) → slice_get made e ≡ Some m → is_source m.settings ≡ true → IsHead made head
+source_bag : (made : List Made) (links : List PadLink) (e : ℕ) (m : Made) (head : BagHead) → slice_get made e ≡ Some m → is_source m.settings ≡ true → IsHead made links head
     → head_number head ≡ e
     → (cell : BagElement) × (head ≡ bags_of.Source cell) × (cell.element ≡ e)
-source_bag made e m (bags_of.Source cell) here pads is same = (cell, refl, same)
-source_bag made e m (bags_of.Inlets n) here pads is same =
+source_bag made links e m (bags_of.Source cell) here pads is same = (cell, refl, same)
+source_bag made links e m (bags_of.Inlets n) here pads is same =
     let source = ap (λ (x : Option Made). option_map_or (λ (m : Made). is_source m.settings) x false) here ∙ pads in
-    absurd (no (sym (inlets_no_source made n is) ∙ ap (λ (k : ℕ). has is_source made k) same ∙ source))
+    absurd (no (sym (fed_no_source made links n is) ∙ ap (λ (k : ℕ). has is_source made k) same ∙ source))
   where
     no : false ≡ true → ⊥
     no e = cc
@@ -160,7 +160,7 @@ module _ {S E I O L : Type 0} {s : givers.Ghosts S} {e : elements.Ghosts E} (i :
       let before = got_within first k (omega (arith, w, are.count)) in
       let after = got_within last k (omega (arith, w, are.count, count)) in
       let is = all_at (IsBag made links) bags bags_are.are k bag.bag bag.is in
-      let cell = source_bag made n m bag.bag.head here pads is.head bag.head in
+      let cell = source_bag made links n m bag.bag.head here pads is.head bag.head in
       let was = source_first i o made links files bag.bag.head before.0.head cell.0 (are.each k bag.bag before.0 bag.is before.1).head cell.1 in
       let now =
       source_back o was.0 after.0.head

@@ -5,7 +5,6 @@ mod Closing
 mod Counted
 mod FaultEnds
 mod Faulted
-mod Bagged
 mod Members
 mod Traced
 mod Headed

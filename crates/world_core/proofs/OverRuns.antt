@@ -12,7 +12,7 @@ use Rattle.net_model.specs.Moment.{Moment}
 use Rattle.net_model.specs.Over.{AllEnded, list_ended}
 use Rattle.net_model.specs.declared.element.TaskElement as elements
 use Rattle.net_model.specs.declared.source.TaskSource as givers
-use Rattle.graph_parts.specs.Bags.{AreBags, IsBag, IsHead}
+use Rattle.graph_parts.specs.Bags.{AreHeadBags, IsBag, IsHead}
 use Rattle.graph_parts.specs.Links.{is_head}
 use Rattle.graph_parts.specs.declared.bag.Bag.{Bag}
 use Rattle.graph_parts.specs.declared.bag.BagHead.{BagHead}
@@ -67,7 +67,7 @@ module _ (made : List Made) where
   IsSourceHead (by_source n file wire) = has is_source made n ≡ true
   IsSourceHead (by_inlets n rows) = Unit {0}
 
-  source_head : (links : List PadLink) (bag : BagHead) (frame : HeadFrame) → IsHead made bag → IsHeadFrame made links bag frame → IsSourceHead frame
+  source_head : (links : List PadLink) (bag : BagHead) (frame : HeadFrame) → IsHead made links bag → IsHeadFrame made links bag frame → IsSourceHead frame
   source_head links (bags_of.Source cell) (by_source number file wire) head is = ap (has is_source made) is.0 ∙ head
   source_head links bag (by_inlets number rows) head is = tt
   source_head links (bags_of.Inlets n) (by_source number file wire) head is = absurd is
@@ -106,7 +106,7 @@ module _ (contents : ℕ → List ℕ) (graph : Graph) (m : Moment) (sound : IsS
 
   module _ {S E I O L : Type 0} {s : givers.Ghosts S} {e : elements.Ghosts E} {i : inlets.Ghosts I L O} {o : outlets.Ghosts O L}
       (bags : List Bag) (tasks : List (Task S E I O L s e i o)) (have : HaveBags (made_in graph) (links_in graph) bags tasks)
-      (bags_are : AreBags (made_in graph) (links_in graph) bags)
+      (bags_are : AreHeadBags (made_in graph) (links_in graph) bags)
       (ended : (k : ℕ) (task : Task S E I O L s e i o) → slice_get tasks k ≡ Some task → is_live graph (head_number (frame_of task).head) ≡ true → HeadIsOver m (frame_of task).head) where
     -- a live head had EOS at each of its sink pads
     head_had : (head pad : ℕ) → has is_head (made_in graph) head ≡ true → is_live graph head ≡ true → pad < sink_count (slice_get (made_in graph) head)
@@ -121,7 +121,7 @@ module _ (contents : ℕ → List ℕ) (graph : Graph) (m : Moment) (sound : IsS
             let within = slice_get_within tasks k task at in
             let bag = got_within bags k (omega (arith, within, have.count)) in
             source_head (made_in graph) (links_in graph) bag.0.head (frame_of task).head
-            (all_at (IsBag (made_in graph) (links_in graph)) bags bags_are.are k bag.0 bag.1).head (have.each k bag.0 task bag.1 at).head
+            (all_at (IsBag (made_in graph) (links_in graph)) bags bags_are.are.are k bag.0 bag.1).head (have.each k bag.0 task bag.1 at).head
 
         came : ℕ → List Item
         came j = came_to (links_in graph) (crossed_in graph m) (place_at head j)

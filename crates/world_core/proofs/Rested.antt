@@ -17,6 +17,7 @@ use Rattle.graph_parts.specs.declared.bag.BagHead.{BagHead}
 use Rattle.graph_parts.specs.declared.bag.BagHead.TheVariants as bags_of
 use Rattle.graph_core.specs.Elements.{Made, has}
 use Rattle.graph_core.specs.Graph.{made as made_in, links as links_in}
+use Rattle.graph_pads.specs.declared.pad.PadLink.{PadLink}
 use Rattle.graph_core.specs.declared.graph.Graph.{Graph}
 use Rattle.graph_tasks.specs.Written.{HasAll}
 use Rattle.graph_parts.specs.Files.{OpensAt}
@@ -59,14 +60,14 @@ of_either (x ∷ xs) ys d (inr m) = by (of_either xs ys d m)
     by (inr m) = inr m
 
 -- one that is no source is not at the head of its bag's own cells
-no_head : (made : List Made) (head : BagHead) (d : ℕ) → has is_source made d ≡ false → IsHead made head → IsMember d (map number_of (head_cells head)) → ⊥
-no_head made (bags_of.Source own) d none is (inl same) =
+no_head : (made : List Made) (links : List PadLink) (head : BagHead) (d : ℕ) → has is_source made d ≡ false → IsHead made links head → IsMember d (map number_of (head_cells head)) → ⊥
+no_head made links (bags_of.Source own) d none is (inl same) =
     let so = ap (λ (n : ℕ). has is_source made n) same ∙ is in absurd (no none so)
   where
     no : has is_source made d ≡ false → has is_source made d ≡ true → ⊥
     no none so = absurd (cc)
-no_head made (bags_of.Source own) d none is (inr m) = m
-no_head made (bags_of.Inlets n) d none is m = m
+no_head made links (bags_of.Source own) d none is (inr m) = m
+no_head made links (bags_of.Inlets n) d none is m = m
 
 module _ {S K I O L : Type 0} {giver : givers.Ghosts (StreamSource S)} {taker : elements.Ghosts (StreamElement K)}
     {i : inlets.Ghosts I L O} {o : outlets.Ghosts O L}
@@ -120,8 +121,8 @@ module _ {S K I O L : Type 0} {giver : givers.Ghosts (StreamSource S)} {taker : 
       by : IsMember d (map number_of in_bag.bag.elements.items) ⊎ IsMember d (map number_of (head_cells in_bag.bag.head)) → ⊥
       by (inl m) = rest_untaken d x is (bag_taken j d in_bag.bag in_bag.is m)
       by (inr m) =
-          let is_bag = all_at (IsBag (made_in graph) (links_in graph)) started.bags started.bags_are.are j in_bag.bag in_bag.is in
-          no_head (made_in graph) in_bag.bag.head d none is_bag.head m
+          let is_bag = all_at (IsBag (made_in graph) (links_in graph)) started.bags started.bags_are.are.are j in_bag.bag in_bag.is in
+          no_head (made_in graph) (links_in graph) in_bag.bag.head d none is_bag.head m
 
   -- So all that came to it is in its file.
   pub rested : (last : List (Task (StreamSource S) (StreamElement K) I O L giver taker i o)) (contents : ℕ → List ℕ) (m : Moment)

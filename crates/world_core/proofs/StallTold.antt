@@ -8,7 +8,7 @@ use Rattle.net_model.specs.Moment.{Moment}
 use Rattle.net_model.specs.declared.element.TaskElement as elements
 use Rattle.net_model.specs.declared.source.TaskSource as givers
 use Rattle.el_settings.specs.Asked.{makes_sinks}
-use Rattle.graph_parts.specs.Bags.{AreBags, heads_in}
+use Rattle.graph_parts.specs.Bags.{AreHeadBags, heads_in}
 use Rattle.graph_parts.specs.declared.bag.Bag.{Bag}
 use Rattle.graph_core.specs.Elements.{Made, has}
 use Rattle.graph_core.specs.Graph.{is_live, made as made_in, links as links_in}
@@ -68,7 +68,7 @@ some_join made some = ⊎_elim (λ found. found) (λ none. absurd (some none)) (
 
 module _ {S E I O L : Type 0} {s : givers.Ghosts S} {e : elements.Ghosts E} {i : inlets.Ghosts I L O} {o : outlets.Ghosts O L}
     (contents : ℕ → List ℕ) (graph : Graph) (m : Moment) (bags : List Bag) (tasks : List (Task S E I O L s e i o)) (steps : List Step)
-    (have : HaveBags (made_in graph) (links_in graph) bags tasks) (bags_are : AreBags (made_in graph) (links_in graph) bags)
+    (have : HaveBags (made_in graph) (links_in graph) bags tasks) (bags_are : AreHeadBags (made_in graph) (links_in graph) bags)
     (stuck : AreStuck contents graph m tasks steps)
     (answered : (k : ℕ) (task : Task S E I O L s e i o) → slice_get tasks k ≡ Some task → (step : Step) × (slice_get steps k ≡ Some step)) where
   -- what is told of one task

@@ -26,7 +26,7 @@ use Rattle.task_elements.specs.declared.element.StreamElement.{StreamElement}
 use Rattle.task_elements.specs.declared.source.StreamSource.{StreamSource}
 use Rattle.world_core.specs.Start.{IsStarted}
 use Rattle.world_core.proofs.AtHand.{MakesStreams}
-use Rattle.world_core.proofs.Bagged.{tasks_have}
+use Rattle.graph_tasks.proofs.Bagged.{tasks_have}
 use Rattle.world_core.proofs.Standing.{elements_stand, sources_stand}
 
 module _ {S K I O L : Type 0} {giver : givers.Ghosts (StreamSource S)} {taker : elements.Ghosts (StreamElement K)}
@@ -41,7 +41,7 @@ module _ {S K I O L : Type 0} {giver : givers.Ghosts (StreamSource S)} {taker : 
   pub started_ready : NetReady first tells
   started_ready =
       subst (λ (t : Option (List Lane)). NetReady first t) (sym started.told)
-      (tasks_are_ready giver taker i o graph started.bags started.elements_in started.sources_in first started.table started.sound started_once started.bags_are
+      (tasks_are_ready giver taker i o graph started.bags started.elements_in started.sources_in first started.table started.sound started_once started.bags_are.are
       started.tasks_are)
 
   -- there is a task for each bag
@@ -52,7 +52,7 @@ module _ {S K I O L : Type 0} {giver : givers.Ghosts (StreamSource S)} {taker : 
     started_net : NetStands (opening (moment_plan contents graph) (moment_answers graph)) first (Some started.table)
     started_net =
         tasks_start giver taker i o contents graph started.bags started.elements_in started.sources_in first started.table started.sound started_once
-        started.bags_are started.tasks_are
+        started.bags_are.are started.tasks_are
         (elements_stand s k are graph started.ends before started.opened started.opens started.elements_in started.sources_in left started.filled contents)
         (sources_stand s k are graph started.ends before started.opened started.opens started.elements_in started.sources_in left started.filled contents were)
 

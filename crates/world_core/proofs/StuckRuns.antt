@@ -7,7 +7,7 @@ use Rattle.flow_model.specs.Prefix.{IsPrefix}
 use Rattle.flow_model.proofs.Prefixes.{prefix_length}
 use Rattle.net_model.specs.declared.element.TaskElement as elements
 use Rattle.net_model.specs.declared.source.TaskSource as givers
-use Rattle.graph_parts.specs.Bags.{AreBags}
+use Rattle.graph_parts.specs.Bags.{AreHeadBags}
 use Rattle.graph_parts.specs.Links.{is_head}
 use Rattle.graph_parts.specs.declared.bag.Bag.{Bag}
 use Rattle.graph_core.specs.Graph.{is_live, made as made_in, links as links_in}
@@ -55,7 +55,7 @@ module _ (contents : ℕ → List ℕ) (graph : Graph) (h took : ℕ → List It
 
 module _ {S E I O L : Type 0} {s : givers.Ghosts S} {e : elements.Ghosts E} {i : inlets.Ghosts I L O} {o : outlets.Ghosts O L}
     (contents : ℕ → List ℕ) (graph : Graph) (h took : ℕ → List Item) (bags : List Bag) (tasks : List (Task S E I O L s e i o)) (steps : List Step)
-    (have : HaveBags (made_in graph) (links_in graph) bags tasks) (bags_are : AreBags (made_in graph) (links_in graph) bags)
+    (have : HaveBags (made_in graph) (links_in graph) bags tasks) (bags_are : AreHeadBags (made_in graph) (links_in graph) bags)
     (stuck : (k : ℕ) (task : Task S E I O L s e i o) (step : Step) → slice_get tasks k ≡ Some task → slice_get steps k ≡ Some step
     → IsStuck contents (made_in graph) (links_in graph) h took (head_number (frame_of task).head) step)
     (answered : (k : ℕ) (task : Task S E I O L s e i o) → slice_get tasks k ≡ Some task → (step : Step) × (slice_get steps k ≡ Some step)) where

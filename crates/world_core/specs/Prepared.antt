@@ -10,7 +10,7 @@ use Rattle.graph_parts.specs.Files.{made_opening}
 use Rattle.graph_parts.specs.declared.counts.Count.{Count}
 use Rattle.lane_core.specs.Lane.{Lane}
 use Rattle.run_files.specs.declared.end.Opening.{Opening}
-use Rattle.graph_parts.specs.Bags.{AreBags}
+use Rattle.graph_parts.specs.Bags.{AreHeadBags}
 use Rattle.graph_parts.specs.declared.bag.Bag.{Bag}
 use Rattle.graph_parts.specs.declared.blank.Blank.{Blank}
 use Rattle.graph_tasks.specs.Wired.{AreWired}
@@ -33,7 +33,7 @@ pub record HasRoom (n : ℕ) (counts : List Count) (lengths : List ℕ) : Type 0
 -- The tasks of a graph without their elements, and the table of their lanes.
 pub record ArePlanned {I O L : Type 0} (i : inlets.Ghosts I L O) (o : outlets.Ghosts O L) (graph : Graph) (tasks : List (WiredTask I O)) (table : List Lane) : Type 0 where
   pub bags : List Bag
-  pub bags_are : AreBags (made_in graph) (links_in graph) bags
+  pub bags_are : AreHeadBags (made_in graph) (links_in graph) bags
   pub wired : AreWired i o (made_in graph) (links_in graph) bags tasks table
 
 -- What is counted, what its elements are made of, and what they open.

@@ -2,7 +2,7 @@
 use Rattle.std.specs.Prelude.{◌≡◌, List, Option, Some}
 use Rattle.net_model.specs.declared.element.TaskElement as elements
 use Rattle.net_model.specs.declared.source.TaskSource as givers
-use Rattle.graph_parts.specs.Bags.{AreBags}
+use Rattle.graph_parts.specs.Bags.{AreHeadBags}
 use Rattle.graph_parts.specs.declared.bag.Bag.{Bag}
 use Rattle.graph_core.specs.Graph.{IsGraph, IsSound, made as made_in, links as links_in}
 use Rattle.graph_core.specs.declared.graph.Graph.{Graph}
@@ -40,7 +40,7 @@ module _ {S K I O L : Type 0} {giver : givers.Ghosts (StreamSource S)} {taker : 
     pub sources_in : List (Option (StreamSource S))
     pub filled : AreFilled s k (made_in graph) ends elements_in sources_in left
     pub bags : List Bag
-    pub bags_are : AreBags (made_in graph) (links_in graph) bags
+    pub bags_are : AreHeadBags (made_in graph) (links_in graph) bags
     pub table : List Lane
     pub told : tells ≡ Some table
     pub wired : List (WiredTask I O)
