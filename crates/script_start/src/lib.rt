@@ -1,0 +1,4 @@
+//! How a run of a script begins.
+#![tactic(auto)]
+
+pub mod start;
