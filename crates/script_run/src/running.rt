@@ -80,12 +80,6 @@ impl<S: TaskSource, E: TaskElement, I: Inlet<Out = O>, O: Outlet<Lanes = I::Lane
         })
     }
 
-    /// The tasks.
-    pub fn into_tasks(self) -> Vec<Task<S, E, I, O>> {
-        let Running { tasks, .. } = self;
-        tasks
-    }
-
     /// How the first commands of the script were answered, in their order.
     pub fn entries(&self) -> &[Entry]
         ensures { result.now ≡ self.now.entries.items }
