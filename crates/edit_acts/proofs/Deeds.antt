@@ -105,8 +105,12 @@ module _ {S E I O L : Type 0} {s : sources.Ghosts S} {e : elements.Ghosts E} {i 
     relink_done graph' feeds' tasks' r = record {
       now = relinked source sink r.out m;
       crossed = refl;
-      owed = λ p. fed_owes (planned (linked (pad_id source) (length (m.history (pad_id source))) sink.element sink.pad (unlinked (pad_id source) m).plan) (unlinked (pad_id source) m)) sink.element
-          (push_calls sink.pad (opening_calls (pad_id source) m) (m.took sink.element)) r.out p;
+      owner = refl;
+      owed = λ p there. (
+        there,
+        fed_owes (planned (linked (pad_id source) (length (m.history (pad_id source))) sink.element sink.pad (unlinked (pad_id source) m).plan) (unlinked (pad_id source) m)) sink.element
+            (push_calls sink.pad (opening_calls (pad_id source) m) (m.took sink.element)) r.out p,
+      );
       controlled = r.controlled;
     }
 
@@ -117,20 +121,22 @@ module _ {S E I O L : Type 0} {s : sources.Ghosts S} {e : elements.Ghosts E} {i 
 
   pub unlink_done : (graph' : EditedGraph) (feeds' : Feeds) (tasks' : List (Task S E I O L s e i o)) → IsControlled graph' feeds' tasks' (unlinked_at source items false g) (unlinked (pad_id source) m) tells
       → IsDone graph' feeds' tasks' g m tells (Unlink source sink false) items
-  unlink_done graph' feeds' tasks' controlled = record { now = unlinked (pad_id source) m; crossed = refl; owed = λ p. prefix_refl (m.history p ++ m.waits p); controlled = controlled }
+  unlink_done graph' feeds' tasks' controlled = record { now = unlinked (pad_id source) m; crossed = refl; owner = refl; owed = λ p there. (there, prefix_refl (m.history p ++ m.waits p)); controlled = controlled }
 
   end_done : (graph' : EditedGraph) (feeds' : Feeds) (tasks' : List (Task S E I O L s e i o)) (now : Moment) → EndsAt m (pad_id source) now → IsControlled graph' feeds' tasks' (unlinked_at source items true g) now tells
       → IsDone graph' feeds' tasks' g m tells (Unlink source sink true) items
   end_done graph' feeds' tasks' _ (EndsAt.inside element port out ends) controlled = record {
     now = ended_inside (pad_id source) element port out m;
     crossed = refl;
-    owed = λ p. fed_owes (planned (undone (pad_id source) (length (m.history (pad_id source))) true m.plan) m) element (push_calls port (Feed (Ev Eos) ∷ []) (m.took element)) out p;
+    owner = refl;
+    owed = λ p there. (there, fed_owes (planned (undone (pad_id source) (length (m.history (pad_id source))) true m.plan) m) element (push_calls port (Feed (Ev Eos) ∷ []) (m.took element)) out p);
     controlled = controlled;
   }
   end_done graph' feeds' tasks' _ (EndsAt.over element port leads) controlled = record {
     now = ended_over (pad_id source) element port m;
     crossed = refl;
-    owed = λ p. prefix_refl (m.history p ++ m.waits p);
+    owner = refl;
+    owed = λ p there. (there, prefix_refl (m.history p ++ m.waits p));
     controlled = controlled;
   }
 

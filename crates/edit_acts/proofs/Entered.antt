@@ -29,7 +29,7 @@ use Rattle.script_text.specs.declared.command.Act.{Act}
 use Rattle.script_text.specs.declared.command.Command.{Command}
 use Rattle.script_text.specs.declared.command.When.{When}
 use Rattle.script_text.specs.declared.command.When.TheVariants.{At, NowPad, Now}
-use Rattle.edit_model.specs.Edited.{Edited}
+use Rattle.edit_model.specs.Edited.{Edited, is_there}
 use Rattle.edit_model.specs.Growing.{FallsNowhere, GrowsTo, IsKept}
 use Rattle.edit_model.specs.Lawful.{AreAnswered, IsAnswered, IsRefusedFor, IsUnlinkable, Makes, NeverFall, place_at, places_at, places_of, reason_of}
 use Rattle.edit_model.specs.Names.{pad_named, source_when}
@@ -38,6 +38,8 @@ use Rattle.edit_model.proofs.Staying.{stays_lawful}
 use Rattle.edit_core.specs.Deciding.{IsReached, names_its_pad}
 use Rattle.edit_core.specs.Judging.{IsLast, owed_then}
 use Rattle.edit_acts.specs.Scripted.{ActsKeepScripts, ArePassed, IsActed, IsAnsweredBy, IsExact, IsPassed, IsScripted, ScriptRun, pad_once_named}
+use Rattle.edit_core.proofs.Finding.{named_there}
+use Rattle.edit_acts.proofs.Due.{answered_so, due_more, due_now, still_due}
 use Rattle.edit_acts.proofs.Passed.{name_is, once_named, passed_made, passed_more}
 
 -- ---- the places of an answer
@@ -192,10 +194,13 @@ module _ {S E I O L : Type 0} {s : sources.Ghosts S} {e : elements.Ghosts E} {i 
           has = by.has;
           calm = grows.unflushed;
           kept = subst (λ (h : ℕ → List Item). IsKept h first) (sym by.crossed) scripted.kept;
-          answered = subst (λ (es : List Entry). AreAnswered by.now.history (owed_then by.now) first script es by.next) (sym acted.entered)
-              (one_more_entry.answered by.now.history (owed_then by.now) first scripted.g by.next script is.commands acted.command was.entries acted.entry
-              (stays_lawful.entries scripted.m.history (owed_then scripted.m) by.now.history (owed_then by.now) first scripted.g script was.entries scripted.kept grows scripted.answered) here
-              (stays_lawful.answer scripted.m.history (owed_then scripted.m) by.now.history (owed_then by.now) scripted.g by.next acted.command acted.entry.answer scripted.has.current.kept grows by.lawful));
+          due = due;
+          owes = λ p there. due_now by.next by.now.plan.owner scripted.due (owed_then by.now) p there;
+          answered = subst (λ (es : List Entry). AreAnswered by.now.history due first script es by.next) (sym acted.entered)
+              (one_more_entry.answered by.now.history due first scripted.g by.next script is.commands acted.command was.entries acted.entry
+              (stays_lawful.entries scripted.m.history scripted.due by.now.history due first scripted.g script was.entries scripted.kept grows scripted.answered) here
+              (stays_lawful.answer scripted.m.history scripted.due by.now.history due scripted.g by.next acted.command acted.entry.answer scripted.has.current.kept grows
+              (answered_so scripted.g scripted.m.history (owed_then scripted.m) scripted.due same_due acted.command acted.entry.answer by.next by.lawful)));
           left = sym (ap (λ (es : List Entry). drop (length es) script) acted.entered
               ∙ ap (λ (n : ℕ). drop n script) one_more
               ∙ drop_one_more script (length was.entries) acted.command is.commands here);
@@ -211,10 +216,22 @@ module _ {S E I O L : Type 0} {s : sources.Ghosts S} {e : elements.Ghosts E} {i 
         one_more : length (was.entries ++ acted.entry ∷ []) ≡ suc (length was.entries)
         one_more = let long = length_push was.entries acted.entry in omega (arith, long)
 
-        grows : GrowsTo scripted.m.history (owed_then scripted.m) by.now.history (owed_then by.now)
+        due : ℕ → List Item
+        due = still_due by.next by.now.plan.owner scripted.due (owed_then by.now)
+
+        same_due : (pad : PadName) (source : PadPlace) → pad_named Source scripted.g pad ≡ Some source → scripted.due (pad_id source) ≡ owed_then scripted.m (pad_id source)
+        same_due pad source named =
+            scripted.owes (pad_id source) (ap (is_there scripted.g) (scripted.has.pads.owned pad source named) ∙ named_there Source scripted.g pad source named)
+
+        more : (p : ℕ) → is_there by.next (by.now.plan.owner p) ≡ true → IsPrefix (scripted.due p) (owed_then by.now p)
+        more p there =
+            let own = by.owed p (ap (λ (owner : ℕ → ℕ). is_there by.next (owner p)) (sym by.owner) ∙ there) in
+            subst (λ (l : List Item). IsPrefix l (owed_then by.now p)) (sym (scripted.owes p own.0)) own.1
+
+        grows : GrowsTo scripted.m.history scripted.due by.now.history due
         grows = record {
           crossed = λ p. subst (λ (h : ℕ → List Item). IsPrefix (scripted.m.history p) (h p)) (sym by.crossed) (prefix_refl (scripted.m.history p));
-          due = by.owed;
+          due = due_more by.next by.now.plan.owner scripted.due (owed_then by.now) more;
           over = λ p ended. ap (λ (h : ℕ → List Item). h p) by.crossed;
           unflushed = λ p. subst (λ (h : ℕ → List Item). has_flush_stop (h p) ≡ false) (sym by.crossed) (scripted.calm p);
         }

@@ -44,3 +44,4 @@ mod Deeds
 mod Passed
 mod Entered
 mod Turning
+pub mod Due

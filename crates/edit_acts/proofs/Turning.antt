@@ -1,5 +1,8 @@
 -- A run stays one of a script where its tasks are stepped.
-use Rattle.std.proofs.Common.{List, drop, length, sym, ap, ◌∙◌, subst}
+use Rattle.std.proofs.Common.{◌≡◌, ℕ, true, List, drop, length, sym, ap, ◌∙◌, subst}
+use Rattle.flow_model.specs.Eval.{Plan}
+use Rattle.flow_model.specs.Item.{Item}
+use Rattle.flow_model.specs.Prefix.{IsPrefix}
 use Rattle.lane_core.specs.declared.ends.Inlet as inlets
 use Rattle.lane_core.specs.declared.ends.Outlet as outlets
 use Rattle.net_model.specs.declared.element.TaskElement as elements
@@ -7,7 +10,8 @@ use Rattle.net_model.specs.declared.source.TaskSource as sources
 use Rattle.graph_edits.specs.declared.graph.EditedGraph.{EditedGraph}
 use Rattle.script_text.specs.declared.answer.Entry.{Entry}
 use Rattle.script_text.specs.declared.command.Command.{Command}
-use Rattle.edit_model.specs.Edited.{Edited}
+use Rattle.edit_model.specs.Edited.{Edited, is_there}
+use Rattle.edit_model.specs.Growing.{GrowsTo}
 use Rattle.edit_model.specs.Lawful.{AreAnswered, NeverFall}
 use Rattle.edit_model.proofs.Keeping.{stays_kept}
 use Rattle.edit_model.proofs.Staying.{stays_lawful}
@@ -16,6 +20,7 @@ use Rattle.edit_core.specs.declared.feeds.Feeds.{Feeds}
 use Rattle.edit_acts.specs.Controlled.{IsControlled}
 use Rattle.edit_acts.specs.Stepping.{GoesOnControlled, StepsKeepControl, TrialsKeepControl}
 use Rattle.edit_acts.specs.Scripted.{ArePassed, IsScripted, KeepsControl, ScriptRun, TurnsKeepScripts}
+use Rattle.edit_acts.proofs.Due.{due_more, due_now, still_due}
 use Rattle.edit_acts.proofs.Passed.{passed_on}
 
 module _ {S E I O L : Type 0} {s : sources.Ghosts S} {e : elements.Ghosts E} {i : inlets.Ghosts I L O} {o : outlets.Ghosts O L} where
@@ -30,13 +35,26 @@ module _ {S E I O L : Type 0} {s : sources.Ghosts S} {e : elements.Ghosts E} {i 
             (subst (λ (graph : EditedGraph). IsControlled graph was.feeds is.tasks w.g goes.now is.tells) (sym keeps.graph) goes.controlled);
         calm = goes.grows.unflushed;
         kept = stays_kept.grows w.m.history (owed_then w.m) goes.now.history (owed_then goes.now) first goes.grows w.kept;
-        answered = subst (λ (es : List Entry). AreAnswered goes.now.history (owed_then goes.now) first script es w.g) (sym keeps.entries)
-            (stays_lawful.entries w.m.history (owed_then w.m) goes.now.history (owed_then goes.now) first w.g script was.entries w.kept goes.grows w.answered);
+        due = due;
+        owes = λ p there. due_now w.g goes.now.plan.owner w.due (owed_then goes.now) p there;
+        answered = subst (λ (es : List Entry). AreAnswered goes.now.history due first script es w.g) (sym keeps.entries)
+            (stays_lawful.entries w.m.history w.due goes.now.history due first w.g script was.entries w.kept grows w.answered);
         left = keeps.commands ∙ w.left ∙ ap (λ (es : List Entry). drop (length es) script) (sym keeps.entries);
         falls = subst NeverFall (sym keeps.entries) w.falls;
         passed = subst (λ (es : List Entry). ArePassed w.g.made goes.now.history es) (sym keeps.entries)
             (passed_on w.g.made w.m.history goes.now.history was.entries goes.grows.crossed w.passed);
       }
+    where
+      due : ℕ → List Item
+      due = still_due w.g goes.now.plan.owner w.due (owed_then goes.now)
+
+      more : (p : ℕ) → is_there w.g (goes.now.plan.owner p) ≡ true → IsPrefix (w.due p) (owed_then goes.now p)
+      more p there =
+          let was_there = ap (λ (plan : Plan). is_there w.g (plan.owner p)) (sym goes.goes_on.plan) ∙ there in
+          subst (λ (l : List Item). IsPrefix l (owed_then goes.now p)) (sym (w.owes p was_there)) (goes.grows.due p)
+
+      grows : GrowsTo w.m.history w.due goes.now.history due
+      grows = record { crossed = goes.grows.crossed; due = due_more w.g goes.now.plan.owner w.due (owed_then goes.now) more; over = goes.grows.over; unflushed = goes.grows.unflushed }
 
 pub turns_keep_scripts : {S E I O L : Type 0} (s : sources.Ghosts S) (e : elements.Ghosts E) (i : inlets.Ghosts I L O) (o : outlets.Ghosts O L)
     → StepsKeepControl s e i o → TrialsKeepControl s e i o → TurnsKeepScripts s e i o

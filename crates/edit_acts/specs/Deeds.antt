@@ -1,5 +1,5 @@
 -- What control does for a command, in all that it has of a run.
-use Rattle.std.specs.Prelude.{◌≡◌, ℕ, false, List, Option}
+use Rattle.std.specs.Prelude.{◌≡◌, ℕ, true, false, List, Option}
 use Rattle.flow_model.specs.Prefix.{IsPrefix}
 use Rattle.lane_core.specs.Lane.{Lane}
 use Rattle.lane_core.specs.declared.ends.Inlet as inlets
@@ -14,7 +14,7 @@ use Rattle.graph_edits.specs.Graph.{IsEdited}
 use Rattle.graph_edits.specs.declared.graph.EditedGraph.{EditedGraph}
 use Rattle.script_text.specs.declared.answer.Place.{Place}
 use Rattle.script_text.specs.declared.command.Command.{Command}
-use Rattle.edit_model.specs.Edited.{Edited}
+use Rattle.edit_model.specs.Edited.{Edited, is_there}
 use Rattle.edit_model.specs.Plans.{is_asleep}
 use Rattle.edit_model.specs.Refused.{has_lanes}
 use Rattle.edit_core.specs.Deciding.{IsToDo, made_by}
@@ -40,11 +40,13 @@ module _ {S E I O L : Type 0} {s : sources.Ghosts S} {e : elements.Ghosts E} {i 
     pub places : List Place
     pub to_do : IsToDo g m command deed items places
 
-  -- It was done: control has the run of the graph that it makes. Nothing crossed a pad in that, and what was owed to a pad still is.
+  -- It was done: control has the run of the graph that it makes. Nothing crossed a pad in that, and what was owed to a pad still is, where its element
+  -- is there behind it.
   pub record IsDone (graph : EditedGraph) (feeds : Feeds) (tasks : List (Task S E I O L s e i o)) (g : Edited) (m : Moment) (tells : Option (List Lane)) (deed : Deed) (items : ℕ) : Type 0 where
     pub now : Moment
     pub crossed : now.history ≡ m.history
-    pub owed : (p : ℕ) → IsPrefix (owed_then m p) (owed_then now p)
+    pub owner : now.plan.owner ≡ m.plan.owner
+    pub owed : (p : ℕ) → is_there (made_by deed items g) (m.plan.owner p) ≡ true → (is_there g (m.plan.owner p) ≡ true) × IsPrefix (owed_then m p) (owed_then now p)
     pub controlled : IsControlled graph feeds tasks (made_by deed items g) now tells
 
   -- Memory was wanting, and control has the run as it was; or an element refused what it was given, and the graph has the deed.

@@ -24,7 +24,7 @@ use Rattle.script_text.specs.declared.answer.Entry.{Entry}
 use Rattle.script_text.specs.declared.answer.Place.{Place}
 use Rattle.script_text.specs.declared.command.Command.{Command}
 use Rattle.task_parts.specs.declared.step.Step.{Step}
-use Rattle.edit_model.specs.Edited.{Edited}
+use Rattle.edit_model.specs.Edited.{Edited, is_there}
 use Rattle.edit_model.specs.Growing.{IsKept}
 use Rattle.edit_model.specs.Lawful.{AreAnswered, IsAnswered, NeverFall, places_of}
 use Rattle.edit_model.specs.Names.{pad_in}
@@ -79,14 +79,16 @@ module _ {S E I O L : Type 0} {s : sources.Ghosts S} {e : elements.Ghosts E} {i 
     pub commands : is.commands ≡ was.commands
     pub entries : is.entries ≡ was.entries
 
-  -- A command is answered so, by the graph and the moment at which it is. Nothing crosses a pad in that, and what was owed to a pad still is.
+  -- A command is answered so, by the graph and the moment at which it is. Nothing crosses a pad in that, and what was owed to a pad still is, where
+  -- its element is there behind it.
   pub record IsAnsweredBy (is : ScriptRun s e i o) (g : Edited) (m : Moment) (c : Command) (answer : Answer) : Type 0 where
     pub next : Edited
     pub now : Moment
     pub lawful : IsAnswered g m.history (owed_then m) c answer next
     pub exact : IsExact g m c answer
     pub crossed : now.history ≡ m.history
-    pub owed : (p : ℕ) → IsPrefix (owed_then m p) (owed_then now p)
+    pub owner : now.plan.owner ≡ m.plan.owner
+    pub owed : (p : ℕ) → is_there next (m.plan.owner p) ≡ true → (is_there g (m.plan.owner p) ≡ true) × IsPrefix (owed_then m p) (owed_then now p)
     pub has : Has is next now
 
   -- The next command was answered.
@@ -98,13 +100,16 @@ module _ {S E I O L : Type 0} {s : sources.Ghosts S} {e : elements.Ghosts E} {i 
     pub answered : (g : Edited) (m : Moment) → names_its_pad command ≡ true → Has was g m → IsAnsweredBy is g m command entry.answer
 
   -- Control has a run of a graph that was edited by the first commands of a script, which its entries answer lawfully; the others are still to come.
+  -- What is due to a pad is owed by the moment, where its element is there, and else it was when that was taken away.
   pub record IsScripted (script : List Command) (first : Edited) (run : ScriptRun s e i o) : Type 0 where
     pub g : Edited
     pub m : Moment
     pub has : Has run g m
     pub calm : (p : ℕ) → has_flush_stop (m.history p) ≡ false
     pub kept : IsKept m.history first
-    pub answered : AreAnswered m.history (owed_then m) first script run.entries g
+    pub due : ℕ → List Item
+    pub owes : (p : ℕ) → is_there g (m.plan.owner p) ≡ true → due p ≡ owed_then m p
+    pub answered : AreAnswered m.history due first script run.entries g
     pub left : run.commands ≡ drop (length run.entries) script
     pub falls : NeverFall run.entries
     pub passed : ArePassed g.made m.history run.entries

@@ -133,7 +133,8 @@ module _ {S E I O L : Type 0} {s : sources.Ghosts S} {e : elements.Ghosts E} {i 
             lawful = now.lawful;
             exact = exact_of g m command answer now;
             crossed = refl;
-            owed = λ p. prefix_refl (owed_then m p);
+            owner = refl;
+            owed = λ p there. (there, prefix_refl (owed_then m p));
             has = same_control was is answer entered g m has;
           };
     };
@@ -162,6 +163,7 @@ module _ {S E I O L : Type 0} {s : sources.Ghosts S} {e : elements.Ghosts E} {i 
             lawful = law g m command.when command.act deed items places (no_addition g deed made.0) to_do;
             exact = (items, to_do.reached);
             crossed = made.1.crossed;
+            owner = made.1.owner;
             owed = made.1.owed;
             has = subst (λ (tells : Option (List Lane)). IsControlled is.graph is.feeds is.tasks.items (made_by deed items g) made.1.now tells) (ap o.tells (sym carried.lanes)) made.1.controlled;
           };

@@ -64,6 +64,7 @@ use Rattle.edit_model.proofs.Keeping.{stays_kept}
 use Rattle.edit_model.proofs.LinksStanding.{links_stay_exact}
 use Rattle.edit_whole.proofs.Made.{stays_made}
 use Rattle.edit_core.specs.Feeds.{AreFeeds}
+use Rattle.edit_core.specs.Judging.{owed_then}
 use Rattle.edit_core.specs.Notes.{IsCurrent}
 use Rattle.edit_core.specs.Tasks.{AreTasksOf}
 use Rattle.edit_core.specs.Ways.{IsRun}
@@ -207,6 +208,8 @@ module _ {S E I O L : Type 0} (s : sources.Ghosts S) (e : elements.Ghosts E) (i 
       has = controlled;
       calm = λ p. refl;
       kept = run.kept;
+      due = owed_then first;
+      owes = λ p there. refl;
       answered = AreAnswered.none (line_graph graph) script;
       left = refl;
       falls = λ j k a b one other before behind less at at_other at_before at_behind same. absurd (no_slots (λ n x. ⊥) [] refl j one at);
