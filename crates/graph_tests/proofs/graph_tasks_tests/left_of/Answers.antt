@@ -14,5 +14,5 @@ into_tasks-tasks-requires-clause-there c κs =
     let wired = c.in_ok-wired.ensures c.in-Ok.ensures.sound once in
     subst (λ tasks. AreThere sources.ghosts elements.ghosts tasks c.in_ok-elements.elements.items c.in_ok-sources.sources.items) (sym c.in_ok-plan.ensures)
     (elements_are_there sources.ghosts elements.ghosts inlets.ghosts outlets.ghosts c.in-Ok.graph wired.bags c.in_ok-elements.elements.items c.in_ok-sources.sources.items c.in_ok-wired.wired.tasks.items
-    c.in_ok-wired.wired.lanes c.in-Ok.ensures.sound once wired.are wired.tasks
+    c.in_ok-wired.wired.lanes c.in-Ok.ensures.sound once wired.are.are wired.tasks
     (record { elements = λ n m at none. c.in_ok-elements.ensures n m at; sources = λ n m at is. c.in_ok-sources.ensures n m at }))
