@@ -1,10 +1,7 @@
 //! Rows of lines and the tasks of their graphs, without their elements.
 use crate::lines::{graph_of, same_text, sides_of};
-use crate::plain::{Plain, PlainSource, elements_for, sources_for};
-use graph_core::build;
 use graph_tasks::*;
-use lane_core::{Inlet, MemInlet, MemOutlet, Outlet};
-use launch_text::parse;
+use lane_core::{Inlet, Outlet};
 use std::alloc::Global;
 use std::fmt::Write;
 use std::test::Fail;
@@ -97,63 +94,6 @@ fn tasks_of_lines(rt: HostRuntime) -> Result<(), Fail> {
     for row in ROWS.lines() {
         let (line, tasks) = sides_of(row);
         same_text(&rt, row_of(alloc, line)?.as_str(), tasks);
-    }
-    Ok(())
-}
-
-/// A line, how many tasks are made of it, and under which numbers elements and sources are left. There was one of each
-/// under each number.
-const LEFT: &str = "\
-filesrc location=a ! filesink location=b -> 1: 0 / 1
-filesrc location=a ! queue ! identity ! fakesink -> 2: 0 / 1 2 3
-identity ! queue ! identity -> 1: 0 / 0 1 2
-filesrc location=a ! tee name=t ! concat name=c ! fakesink t. ! identity ! c. -> 2: 0 / 1 2 3 4
-filesrc location=a ! queue ! concat name=c tee ! c. -> 3: 0 3 / 1 2 3";
-
-fn put_left<T>(into: &mut String, slots: &[Option<T>]) -> Result<(), Fail> {
-    for number in 0..slots.len() {
-        if slots[number].is_some() {
-            write!(into, " {number}")?;
-        }
-    }
-    Ok(())
-}
-
-/// How many tasks there are, and what is left of elements and sources.
-fn left_text(
-    alloc: Global,
-    tasks: usize,
-    elements: &[Option<Plain>],
-    sources: &[Option<PlainSource>],
-) -> Result<String, Fail> {
-    let mut row = String::new(alloc);
-    write!(row, " {tasks}:")?;
-    put_left(&mut row, elements)?;
-    row.push_str(" /")?;
-    put_left(&mut row, sources)?;
-    Ok(row)
-}
-
-/// What is left of the elements of a line.
-fn left_of(alloc: Global, line: &str) -> Result<String, Fail> {
-    let tree = parse(alloc, line)?;
-    let Ok(graph) = build(alloc, &tree) else {
-        return Err("a line without a graph")?;
-    };
-    let mut elements = elements_for(alloc, &graph)?;
-    let mut sources = sources_for(alloc, &graph)?;
-    let wired = wire(alloc, &graph)?;
-    let plan: Plan<PlainSource, Plain, MemInlet, MemOutlet> = Plan::new(alloc, wired.tasks)?;
-    let tasks = plan.into_tasks(&mut elements, &mut sources);
-    left_text(alloc, tasks.len(), elements.as_slice(), sources.as_slice())
-}
-
-#[test]
-fn tasks_take_their_elements(rt: HostRuntime) -> Result<(), Fail> {
-    let alloc = rt.alloc();
-    for row in LEFT.lines() {
-        let (line, left) = sides_of(row);
-        same_text(&rt, left_of(alloc, line)?.as_str(), left);
     }
     Ok(())
 }
