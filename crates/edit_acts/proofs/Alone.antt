@@ -23,6 +23,7 @@ use Rattle.net_task.specs.declared.task.Task.{Task}
 use Rattle.net_task.specs.Frame.{HeadFrame, IsWire, PartFrame, Wire, WireAt, by_source, frame_of, head_frame, head_wire, of_head, of_part, part_frame}
 use Rattle.net_task.specs.Ties.{HeadTied, Ties, nothing_lost}
 use Rattle.net_turns.specs.Net.{HasElement}
+use Rattle.net_groups.specs.Lanes.{SendsAt}
 use Rattle.net_edits.specs.Adding.{IsCut, IsOnly, NoneStand}
 use Rattle.graph_core.specs.GraphPlan.{IsIn, owner_of}
 use Rattle.graph_core.proofs.NumberedPads.{found_in, same_element}
@@ -36,7 +37,7 @@ use Rattle.edit_core.specs.Tasks.{IsReachedIn, LeadsOn, number_of_head}
 use Rattle.edit_core.specs.Ways.{IsRun}
 use Rattle.edit_core.proofs.Trees.{source_owner, wire_leads, wire_leads_over, wire_owner}
 use Rattle.edit_core.proofs.Ways.{number_whole}
-use Rattle.edit_acts.specs.Removed.{UnlinkedIsAlone}
+use Rattle.edit_acts.specs.Removed.{IsFree, UnlinkedIsAlone}
 use Rattle.edit_acts.proofs.Gone.{not_sink, not_source}
 use Rattle.edit_acts.proofs.Loose.{graph_link, place_of_number, port_low}
 
@@ -94,6 +95,10 @@ module _ {S E I O L : Type 0} {s : sources.Ghosts S} {e : elements.Ghosts E} {i 
     free : is_there g n ≡ true → NoneStand (m.plan.sinks n)
     free there = subst (λ (sinks : List (List Span)). NoneStand sinks) (sym (run.sinks n there)) (none_stand (g.spans n) (λ j. unlinked_sink (record { element = n; pad = j }) refl))
 
+    unsent : (k : ℕ) → SendsAt tasks k n → ⊥
+    unsent k z =
+        let link = over_link k z.task z.at z.sends.wire z.sends.is n z.sends.port z.sends.lane z.sends.from z.sends.leads in not_sink g n link.0 none link.1 link.3
+
     module _ (k : ℕ) (task : Task S E I O L s e i o) (at : slice_get tasks k ≡ Some task) (has : HasElement (frame_of task) n) where
       not_from : (b : ℕ) → LeadsOn (frame_of task) n b → ⊥
       not_from b on = let link = on_link k task at n b on in not_source g n link.0 none link.1 link.2
@@ -147,6 +152,11 @@ module _ {S E I O L : Type 0} {s : sources.Ghosts S} {e : elements.Ghosts E} {i 
 
       pub its_cut : (cut : ℕ → List Item) × IsCut m n cut
       its_cut = cut_of has
+
+-- It can be taken out of the tasks.
+pub unlinked_is_free : {S E I O L : Type 0} {s : sources.Ghosts S} {e : elements.Ghosts E} {i : inlets.Ghosts I L O} {o : outlets.Ghosts O L} (g : Edited) (m : Moment) (tasks : List (Task S E I O L s e i o)) (tells : Option (List Lane))
+    → IsRun g m tasks tells → (n : ℕ) → has_link g n ≡ false → IsFree tasks n
+unlinked_is_free g m tasks tells run n none = record { alone = λ k task at has. only g m tasks tells run n none k task at has; unsent = unsent g m tasks tells run n none }
 
 pub unlinked_is_alone : {S E I O L : Type 0} (s : sources.Ghosts S) (e : elements.Ghosts E) (i : inlets.Ghosts I L O) (o : outlets.Ghosts O L) → UnlinkedIsAlone s e i o
 unlinked_is_alone s e i o g m tasks tells k n task run none at has =

@@ -1,5 +1,5 @@
 -- Control has the run behind a deed that was done.
-use Rattle.std.proofs.Common.{◌≡◌, ◌≤◌, ◌<◌, ◌++◌, ℕ, Bool, true, false, List, [], ◌∷◌, Option, None, Some, if◌then◌else◌, length, nat_lt, position, refl, ap, subst, arith}
+use Rattle.std.proofs.Common.{◌≡◌, ◌≤◌, ◌<◌, ◌++◌, ℕ, Bool, true, false, List, [], ◌∷◌, Option, None, Some, if◌then◌else◌, length, nat_lt, position, refl, sym, ap, subst, arith}
 use Rattle.std.specs.List.{list_any}
 use Rattle.std.proofs.lemmas.Bool.{false≢true, ltb-true}
 use Rattle.std.specs.Prelude.{◌==◌, Result, Ok, Err, IfErr, IfOk, option_and_then}
@@ -26,6 +26,7 @@ use Rattle.flow_model.specs.SinkPads.{push_calls}
 use Rattle.net_model.specs.declared.element.TaskElement as elements
 use Rattle.net_model.specs.declared.source.TaskSource as sources
 use Rattle.net_task.specs.declared.task.Task.{Task}
+use Rattle.net_edits.specs.Adding.{frozen}
 use Rattle.net_edits.specs.declared.inside.EditFault.{EditFault}
 use Rattle.net_edits.specs.declared.inside.EditFault.TheVariants as faults
 use Rattle.script_text.specs.declared.command.Act.{Act}
@@ -34,16 +35,21 @@ use Rattle.script_text.specs.declared.command.When.{When}
 use Rattle.edit_model.specs.Edited.{Edited, is_there, unlinked_at}
 use Rattle.edit_model.specs.Names.{pad_named, source_when}
 use Rattle.edit_core.specs.Deciding.{IsDeed}
+use Rattle.edit_core.specs.Judging.{owed_then}
+use Rattle.edit_core.specs.declared.deciding.Deed.{Deed}
 use Rattle.edit_core.specs.declared.deciding.Deed.TheVariants.{Relink, Remove, Unlink}
 use Rattle.edit_core.specs.declared.feeds.Feeds.{Feeds}
 use Rattle.edit_core.proofs.Finding.{found_element, found_of}
 use Rattle.edit_acts.specs.Controlled.{IsControlled, IsToUnlink, IsUnlinked}
 use Rattle.edit_acts.specs.Ending.{EndsAt}
-use Rattle.edit_acts.specs.Removed.{IsToRemove}
+use Rattle.edit_acts.specs.Removed.{IsRemoved, IsToRemove}
+use Rattle.edit_acts.specs.declared.removing.TakenOut.{TakenOut}
 use Rattle.edit_acts.specs.Unlinked.{EndFails, IsEnded}
 use Rattle.edit_acts.specs.Relinked.{IsRelinked, IsToRelink, RelinkFails, relinked}
-use Rattle.edit_acts.specs.Deeds.{DeedFails, IsDone, IsDue}
-use Rattle.edit_acts.proofs.StillOwed.{fed_owes}
+use Rattle.edit_acts.specs.Deeds.{DeedFails, IsDone, IsDue, TakesNone, WasDone, outcome_of}
+use Rattle.edit_acts.specs.declared.doing.Outcome.{Outcome}
+use Rattle.edit_acts.proofs.Gone.{was_there}
+use Rattle.edit_acts.proofs.StillOwed.{fed_owes, frozen_owes}
 
 -- the element of a pad that is named is one of those that were made
 named_low : (direction : Direction) (g : Edited) (name : PadName) (place : PadPlace) → pad_named direction g name ≡ Some place → place.element < length g.made
@@ -91,6 +97,31 @@ module _ {S E I O L : Type 0} {s : sources.Ghosts S} {e : elements.Ghosts E} {i 
   pub no_element : (element : ℕ) → IsToRemove graph feeds tasks g m tells element → (count : ℕ) → count ≡ length (made graph) → count ≤ element → ⊥
   no_element element w count is past =
       let same = size w.controlled in let within = element_low g m.history (source_when g w.when) w.act element w.to_do.deed_is in omega (arith, is, past, same, within)
+
+module _ {S E I O L : Type 0} {s : sources.Ghosts S} {e : elements.Ghosts E} {i : inlets.Ghosts I L O} {o : outlets.Ghosts O L} (graph : EditedGraph) (feeds : Feeds) (tasks : List (Task S E I O L s e i o))
+    (g : Edited) (m : Moment) (tells : Option (List Lane)) where
+  -- ---- an element is taken away
+
+  module _ (element items : ℕ) (w : IsDue graph feeds tasks g m tells (Remove element) items) where
+    pub to_remove : IsToRemove graph feeds tasks g m tells element
+    to_remove = record { controlled = w.controlled; when = w.command.when; act = w.command.act; items = items; places = w.places; to_do = w.to_do }
+
+    pub remove_done : (graph' : EditedGraph) (tasks' : List (Task S E I O L s e i o)) (told : Option (TakenOut S E I O L s e i o)) → IsRemoved graph' feeds tasks' g m tells element told
+        → IsDone graph' feeds tasks' g m tells (Remove element) items
+    remove_done graph' tasks' None r = record {
+      now = m;
+      crossed = refl;
+      owner = refl;
+      owed = λ p there. ((was_there g element (m.plan.owner p) there).0, prefix_refl (owed_then m p));
+      controlled = r.1;
+    }
+    remove_done graph' tasks' (Some out) r = record {
+      now = frozen element r.cut m;
+      crossed = refl;
+      owner = refl;
+      owed = λ p there. let z = was_there g element (m.plan.owner p) there in (z.0, frozen_owes m element r.cut p z.1);
+      controlled = r.controlled;
+    }
 
 module _ {S E I O L : Type 0} {s : sources.Ghosts S} {e : elements.Ghosts E} {i : inlets.Ghosts I L O} {o : outlets.Ghosts O L} (graph : EditedGraph) (feeds : Feeds) (tasks : List (Task S E I O L s e i o))
     (g : Edited) (m : Moment) (tells : Option (List Lane)) (source sink : PadPlace) (items : ℕ) where
@@ -195,3 +226,39 @@ module _ {S E I O L : Type 0} {s : sources.Ghosts S} {e : elements.Ghosts E} {i 
   pub relink_failed : {A : Type 0} (r : Result A EditFault) → IfErr r (RelinkFails graph feeds tasks graph' feeds' tasks' source sink items) → IfErr r (DeedFails graph feeds tasks graph' feeds' tasks' (Relink source sink) items)
   relink_failed (Ok done) told = tt
   relink_failed (Err fault) told = relink_fails fault told
+
+-- ---- what a deed that takes no task out came to
+
+module _ {S E I O L : Type 0} {s : sources.Ghosts S} {e : elements.Ghosts E} {i : inlets.Ghosts I L O} {o : outlets.Ghosts O L} (graph : EditedGraph) (feeds : Feeds) (tasks : List (Task S E I O L s e i o))
+    (items : ℕ) (graph' : EditedGraph) (feeds' : Feeds) (tasks' : List (Task S E I O L s e i o)) (deed : Deed) where
+  -- where it was done so it is
+  abbrev DoneWhere : Bool → Type 0
+  DoneWhere done = (g : Edited) (m : Moment) (tells : Option (List Lane)) → IsDue graph feeds tasks g m tells deed items → (done ≡ true) × IsDone graph' feeds' tasks' g m tells deed items
+
+  abbrev DidWhere : Outcome S E I O L s e i o → Type 0
+  DidWhere outcome = (g : Edited) (m : Moment) (tells : Option (List Lane)) → IsDue graph feeds tasks g m tells deed items → WasDone outcome × IsDone graph' feeds' tasks' g m tells deed items
+
+  did : (r : Result Bool EditFault) → IfOk r DoneWhere → IfOk (outcome_of {s = s} {e = e} {i = i} {o = o} r) DidWhere
+  did (Ok true) told = λ g m tells w. (tt, (told g m tells w).1)
+  did (Ok false) told = λ g m tells w. absurd (false≢true (told g m tells w).0)
+  did (Err fault) told = tt
+
+  failed : (r : Result Bool EditFault) → IfErr r (DeedFails graph feeds tasks graph' feeds' tasks' deed items) → IfErr (outcome_of {s = s} {e = e} {i = i} {o = o} r) (DeedFails graph feeds tasks graph' feeds' tasks' deed items)
+  failed (Ok true) told = tt
+  failed (Ok false) told = tt
+  failed (Err fault) told = told
+
+  took_none : (r : Result Bool EditFault) → IfOk (outcome_of {s = s} {e = e} {i = i} {o = o} r) TakesNone
+  took_none (Ok true) = tt
+  took_none (Ok false) = tt
+  took_none (Err fault) = tt
+
+  module _ (out : Result (Outcome S E I O L s e i o) EditFault) (r : Result Bool EditFault) (is : out ≡ outcome_of r) where
+    pub done_told : IfOk r DoneWhere → IfOk out DidWhere
+    done_told told = subst (λ (x : Result (Outcome S E I O L s e i o) EditFault). IfOk x DidWhere) (sym is) (did r told)
+
+    pub failed_told : IfErr r (DeedFails graph feeds tasks graph' feeds' tasks' deed items) → IfErr out (DeedFails graph feeds tasks graph' feeds' tasks' deed items)
+    failed_told told = subst (λ (x : Result (Outcome S E I O L s e i o) EditFault). IfErr x (DeedFails graph feeds tasks graph' feeds' tasks' deed items)) (sym is) (failed r told)
+
+    pub none_told : IfOk out TakesNone
+    none_told = subst (λ (x : Result (Outcome S E I O L s e i o) EditFault). IfOk x TakesNone) (sym is) (took_none r)

@@ -10,8 +10,9 @@ use Rattle.task_parts.specs.declared.head.Head.{Head}
 use Rattle.task_parts.specs.declared.head.Head.TheVariants.{Source, Inlets}
 use Rattle.task_parts.specs.declared.part.Part.{Part}
 use Rattle.gst_value.proofs.Basics.{number_itself, or_first, or_second, some_same}
-use Rattle.gst_value.proofs.Places.{map_got}
+use Rattle.gst_value.proofs.Places.{map_get, map_got}
 use Rattle.net_task.specs.Frame.{HeadFrame, PartFrame, frame_in, part_frame, wire_of}
+use Rattle.net_edits.specs.Adding.{IsOnly}
 use Rattle.net_turns.specs.Net.{HasElement}
 use Rattle.edit_core.specs.Tasks.{number_of_head}
 use Rattle.edit_acts.specs.Removed.{IsSourceOf}
@@ -36,3 +37,15 @@ module _ {S E I O L : Type 0} {s : sources.Ghosts S} {e : elements.Ghosts E} (o 
       let found = map_got (part_frame o) parts j one at in
       let own : found.0.number ≡ n = ap (λ (f : PartFrame). f.number) (sym found.2) ∙ number in
       true≢false (sym (ap (λ (k : ℕ). has_number k (map part_shape parts)) (sym own) ∙ has_it parts j found.0 found.1) ∙ none)
+
+  pub part_there : (head : Head S I O s) (parts : List (Part E O e)) (j : ℕ) (part : Part E O e) → slice_get parts j ≡ Some part → HasElement (frame_in o head parts) part.number
+  part_there head parts j part at = HasElement.part j (part_frame o part) (map_get (part_frame o) parts j part at) refl
+
+  -- where each has one number there is no other
+  pub only_one : (head : Head S I O s) (parts : List (Part E O e)) (n : ℕ) → ((k : ℕ) → IsSourceOf head k → k ≡ n) → ((j : ℕ) (part : Part E O e) → slice_get parts j ≡ Some part → part.number ≡ n) → IsOnly (frame_in o head parts) n
+  only_one (Source head) parts n source each k (HasElement.source file wire is) = source k (ap (λ (h : HeadFrame). number_of_head h) is)
+  only_one (Inlets head) parts n source each k (HasElement.source file wire is) = absurd cc
+  only_one head parts n source each k (HasElement.part j one at number) =
+      let found = map_got (part_frame o) parts j one at in
+      let own : found.0.number ≡ k = ap (λ (f : PartFrame). f.number) (sym found.2) ∙ number in
+      sym own ∙ each j found.0 found.1

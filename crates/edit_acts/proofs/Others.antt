@@ -26,6 +26,7 @@ use Rattle.edit_model.specs.Refused.{has_lanes}
 use Rattle.edit_core.specs.Tasks.{AreTasksOf}
 use Rattle.edit_core.specs.Ways.{IsRun}
 use Rattle.edit_acts.specs.Removed.{IsTakenOut}
+use Rattle.edit_acts.specs.declared.removing.TakenOut.{TakenOut}
 use Rattle.edit_acts.proofs.Alone.{inside_link, only, over_link}
 use Rattle.edit_acts.proofs.Gone.{not_sink, still_there, was_there}
 
@@ -48,20 +49,20 @@ module _ {S E I O L : Type 0} {s : sources.Ghosts S} {e : elements.Ghosts E} {i 
   }
 
   -- the one that has it was taken out
-  pub taken_others : (tasks tasks' : List (Task S E I O L s e i o)) (n : ℕ) (task : Task S E I O L s e i o) → ((k j : ℕ) → Owns tasks k n → Owns tasks j n → k ≡ j) → IsTakenOut tasks tasks' n task → AreOthers tasks tasks' n
-  taken_others tasks tasks' n task once taken = subst (λ (ts : List (Task S E I O L s e i o)). AreOthers tasks ts n) (sym taken.rest) (record { back = back; on = on })
+  pub taken_others : (tasks tasks' : List (Task S E I O L s e i o)) (n : ℕ) (out : TakenOut S E I O L s e i o) → ((k j : ℕ) → Owns tasks k n → Owns tasks j n → k ≡ j) → IsTakenOut tasks tasks' n out → AreOthers tasks tasks' n
+  taken_others tasks tasks' n out once taken = subst (λ (ts : List (Task S E I O L s e i o)). AreOthers tasks ts n) (sym taken.rest) (record { back = back; on = on })
     where
-      owns : Owns tasks taken.place n
-      owns = record { task = task; at = taken.at; has = taken.has }
+      owns : Owns tasks out.place n
+      owns = record { task = out.task; at = taken.at; has = taken.has }
 
-      back : (k : ℕ) (one : Task S E I O L s e i o) → slice_get (remove tasks taken.place) k ≡ Some one → (x : ℕ) × OtherAt tasks n x one
+      back : (k : ℕ) (one : Task S E I O L s e i o) → slice_get (remove tasks out.place) k ≡ Some one → (x : ℕ) × OtherAt tasks n x one
       back k one at =
-          let z = removed_back tasks taken.place k one at in
-          (z.0, record { at = z.2; not = λ has. z.3 (once z.0 taken.place (record { task = one; at = z.2; has = has }) owns) })
+          let z = removed_back tasks out.place k one at in
+          (z.0, record { at = z.2; not = λ has. z.3 (once z.0 out.place (record { task = one; at = z.2; has = has }) owns) })
 
-      on : (x : ℕ) (one : Task S E I O L s e i o) → OtherAt tasks n x one → (k : ℕ) × (slice_get (remove tasks taken.place) k ≡ Some one)
+      on : (x : ℕ) (one : Task S E I O L s e i o) → OtherAt tasks n x one → (k : ℕ) × (slice_get (remove tasks out.place) k ≡ Some one)
       on x one other =
-          let z = removed_on tasks taken.place x one other.at
+          let z = removed_on tasks out.place x one other.at
           (λ same. other.not (subst (λ (t : Task S E I O L s e i o). HasElement (frame_of t) n) (some_same (sym taken.at ∙ ap (λ (y : ℕ). slice_get tasks y) (sym same) ∙ other.at)) taken.has)) in
           (z.0, z.2)
 

@@ -37,8 +37,9 @@ use Rattle.edit_core.specs.declared.feeds.Feeds.{Feeds}
 use Rattle.edit_core.proofs.Decided.{deeds_are_answers}
 use Rattle.edit_core.proofs.Named.{stays_named}
 use Rattle.edit_acts.specs.Controlled.{AreOwned, IsControlled}
-use Rattle.edit_acts.specs.Removed.{IsRemoved, IsToRemove, TakesOut}
-use Rattle.edit_acts.proofs.Alone.{unlinked_is_alone}
+use Rattle.edit_acts.specs.Removed.{IsFree, IsRemoved, IsToRemove, TakesOut}
+use Rattle.edit_acts.specs.declared.removing.TakenOut.{TakenOut}
+use Rattle.edit_acts.proofs.Alone.{unlinked_is_alone, unlinked_is_free}
 use Rattle.edit_acts.proofs.Asleep.{bare_of}
 use Rattle.edit_acts.proofs.Gone.{element_there, was_named}
 use Rattle.edit_acts.proofs.Others.{AreOthers, none_others, others_run, taken_others}
@@ -61,6 +62,9 @@ module _ {S E I O L : Type 0} {s : sources.Ghosts S} {e : elements.Ghosts E} {i 
 
   deed : (is_there g n ≡ true) × (has_link g n ≡ false)
   deed = removes_of g m.history (source_when g w.when) w.act n w.to_do.deed_is
+
+  pub free_to_go : IsFree tasks n
+  free_to_go = unlinked_is_free g m tasks tells w.controlled.run n deed.1
 
   answered : IsAnswered g m.history (owed_then m) (command w.when w.act) (Done w.places) (without_element n g)
   answered = deeds_are_answers g m w.when w.act (Remove n) w.items w.places (λ same. cc) w.to_do
@@ -101,21 +105,21 @@ module _ {S E I O L : Type 0} {s : sources.Ghosts S} {e : elements.Ghosts E} {i 
   abbrev Stands : List (Task S E I O L s e i o) → Task S E I O L s e i o → Type 0
   Stands tasks' task = (m : Moment) (tells : Option (List Lane)) (cut : ℕ → List Item) → NetStands m tasks tells → CanTake m n (frame_of task) → IsCut m n cut → NetStands (frozen n cut m) tasks' tells
 
-  pub is_removed : (graph' : EditedGraph) (tasks' : List (Task S E I O L s e i o)) (taken : Option (Task S E I O L s e i o)) → IsEdited graph' (without_element n g) → TakesOut tasks tasks' n taken → IfSome taken (Stands tasks')
-      → IsRemoved graph' feeds tasks' g m tells n taken
+  pub is_removed : (graph' : EditedGraph) (tasks' : List (Task S E I O L s e i o)) (told : Option (TakenOut S E I O L s e i o)) → IsEdited graph' (without_element n g) → TakesOut tasks tasks' n told → IfSome told (λ out. Stands tasks' out.task)
+      → IsRemoved graph' feeds tasks' g m tells n told
   is_removed graph' tasks' None edited none stands =
       let same : tasks' ≡ tasks = none.1 in (
         true_else (is_asleep g n) (λ awake. let own = w.controlled.run.are.owned n deed.0 awake in none.0 own.0 own.1),
         subst (λ (ts : List (Task S E I O L s e i o)). IsControlled graph' feeds ts (without_element n g) m tells) (sym same)
             (has_others tasks (none_others tasks n none.0) m refl refl (λ a other. refl) w.controlled.run.net graph' edited),
       )
-  is_removed graph' tasks' (Some task) edited taken stands =
-      let alone = unlinked_is_alone s e i o g m tasks tells taken.place n task w.controlled.run deed.1 taken.at taken.has in
+  is_removed graph' tasks' (Some out) edited taken stands =
+      let alone = unlinked_is_alone s e i o g m tasks tells out.place n out.task w.controlled.run deed.1 taken.at taken.has in
       let cut = alone.1.0 in
       record {
         cut = cut;
         is_cut = alone.1.1;
-        awake = w.controlled.run.are.awake taken.place n (record { task = task; at = taken.at; has = taken.has });
-        controlled = has_others tasks' (taken_others tasks tasks' n task (λ k j. w.controlled.run.net.wired.once k j n) taken) (frozen n cut m) refl refl
+        awake = w.controlled.run.are.awake out.place n (record { task = out.task; at = taken.at; has = taken.has });
+        controlled = has_others tasks' (taken_others tasks tasks' n out (λ k j. w.controlled.run.net.wired.once k j n) taken) (frozen n cut m) refl refl
             (λ a other. at_other n (map (λ calls. Given calls ∷ []) (m.took n)) m.plan.sinks a other) (stands m tells cut w.controlled.run.net alone.0 alone.1.1) graph' edited;
       }

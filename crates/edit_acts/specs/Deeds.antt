@@ -1,5 +1,5 @@
 -- What control does for a command, in all that it has of a run.
-use Rattle.std.specs.Prelude.{◌≡◌, ℕ, true, false, List, Option}
+use Rattle.std.specs.Prelude.{◌≡◌, ℕ, Bool, true, false, List, Option, None, Some, Result, Ok, Err}
 use Rattle.flow_model.specs.Prefix.{IsPrefix}
 use Rattle.lane_core.specs.Lane.{Lane}
 use Rattle.lane_core.specs.declared.ends.Inlet as inlets
@@ -23,13 +23,16 @@ use Rattle.edit_core.specs.declared.deciding.Deed.{Deed}
 use Rattle.edit_core.specs.declared.deciding.Deed.TheVariants.{Relink, Unlink, Add, Remove}
 use Rattle.edit_core.specs.declared.feeds.Feeds.{Feeds}
 use Rattle.edit_acts.specs.Controlled.{IsControlled}
+use Rattle.edit_acts.specs.Removed.{TakesOut}
+use Rattle.edit_acts.specs.declared.doing.Outcome.{Outcome}
+use Rattle.edit_acts.specs.declared.doing.Outcome.TheVariants.{Done, TakenOut, Undone}
 
--- Control can do a deed. It can't add an element or take one away yet, link a source that is asleep, or link a pad over a lane.
+-- Control can do a deed. It can't add an element yet, link a source that is asleep, or link a pad over a lane.
 abbrev pub CanBeDone : Edited → Deed → Type 0
 CanBeDone g (Relink source sink) = (is_asleep g source.element ≡ false) × (has_lanes g sink.element ≡ false)
 CanBeDone g (Unlink source sink eos) = Unit {0}
 CanBeDone g Add = ⊥
-CanBeDone g (Remove element) = ⊥
+CanBeDone g (Remove element) = Unit {0}
 
 module _ {S E I O L : Type 0} {s : sources.Ghosts S} {e : elements.Ghosts E} {i : inlets.Ghosts I L O} {o : outlets.Ghosts O L} where
   -- A command asks for a deed, which control can do, and it is to be done now.
@@ -39,6 +42,35 @@ module _ {S E I O L : Type 0} {s : sources.Ghosts S} {e : elements.Ghosts E} {i 
     pub command : Command
     pub places : List Place
     pub to_do : IsToDo g m command deed items places
+
+  abbrev pub WasDone : Outcome S E I O L s e i o → Type 0
+  WasDone Done = Unit {0}
+  WasDone (TakenOut taken) = Unit {0}
+  WasDone Undone = ⊥
+
+  -- what a deed that takes no task out came to, where it was done or not
+  abbrev pub outcome_of : Result Bool EditFault → Result (Outcome S E I O L s e i o) EditFault
+  outcome_of (Ok true) = Ok Done
+  outcome_of (Ok false) = Ok Undone
+  outcome_of (Err fault) = Err fault
+
+  -- the task that was taken out is that of an element; where none is told, none of the tasks has it
+  abbrev pub TakesFrom : List (Task S E I O L s e i o) → List (Task S E I O L s e i o) → ℕ → Outcome S E I O L s e i o → Type 0
+  TakesFrom tasks tasks' element Done = TakesOut tasks tasks' element None
+  TakesFrom tasks tasks' element (TakenOut taken) = TakesOut tasks tasks' element (Some taken)
+  TakesFrom tasks tasks' element Undone = Unit {0}
+
+  abbrev pub TakesNone : Outcome S E I O L s e i o → Type 0
+  TakesNone Done = Unit {0}
+  TakesNone (TakenOut taken) = ⊥
+  TakesNone Undone = Unit {0}
+
+  -- a deed takes out the task of the element that it takes away, and no other
+  abbrev pub TakesFor : List (Task S E I O L s e i o) → List (Task S E I O L s e i o) → Deed → Outcome S E I O L s e i o → Type 0
+  TakesFor tasks tasks' (Relink source sink) outcome = TakesNone outcome
+  TakesFor tasks tasks' (Unlink source sink eos) outcome = TakesNone outcome
+  TakesFor tasks tasks' Add outcome = TakesNone outcome
+  TakesFor tasks tasks' (Remove element) outcome = TakesFrom tasks tasks' element outcome
 
   -- It was done: control has the run of the graph that it makes. Nothing crossed a pad in that, and what was owed to a pad still is, where its element
   -- is there behind it.

@@ -1,12 +1,14 @@
 //! What control does for a command.
-ghost use Rattle.std.specs.Prelude.{◌≡◌, true, IfOk, IfErr};
+ghost use Rattle.std.specs.Prelude.{◌≡◌, ℕ, true, IfOk, IfErr};
 ghost use Rattle.edit_model.specs.Edited.{Edited};
 ghost use Rattle.net_model.specs.Moment.{Moment};
 ghost use Rattle.net_turns.specs.Net.{NetReady};
-ghost use Rattle.edit_core.specs.declared.deciding.Deed.TheVariants.{Unlink};
-ghost use Rattle.edit_acts.specs.Deeds.{DeedFails, IsDone, IsDue};
+ghost use Rattle.edit_core.specs.declared.deciding.Deed.TheVariants.{Remove, Unlink};
+ghost use Rattle.edit_core.specs.declared.feeds.Feeds.{Feeds as KeptFeeds};
+ghost use Rattle.edit_acts.specs.Deeds.{DeedFails, IsDone, IsDue, TakesFor, TakesFrom, WasDone, outcome_of};
 
 use crate::relinking::relink;
+use crate::removing::{TakenOut, is_free, remove};
 use crate::unlinking::{unlink, unlink_eos};
 use edit_core::{Deed, Feeds};
 use graph_core::PadPlace;
@@ -17,7 +19,18 @@ use net_model::{TaskElement, TaskSource};
 use net_task::Task;
 use std::alloc::Global;
 
-/// Does what a command asks for, where so many items have crossed its source pad. Tells whether it was done; where it is to be done, and
+/// What a deed came to.
+#[derive(Drop)]
+pub enum Outcome<S: TaskSource, E: TaskElement, I: Inlet<Out = O>, O: Outlet<Lanes = I::Lanes>> {
+    /// It was done, and no task was taken out.
+    Done,
+    /// It was done, and the task of an element that was taken away is none of the tasks any more.
+    TakenOut { taken: TakenOut<S, E, I, O> },
+    /// It was not done.
+    Undone,
+}
+
+/// Does what a command asks for, where so many items have crossed its source pad. Tells what it came to; where it is to be done, and
 /// control can do it, it is.
 pub fn do_deed<S: TaskSource, E: TaskElement, I: Inlet<Out = O>, O: Outlet<Lanes = I::Lanes>>(
     alloc: Global,
@@ -26,18 +39,56 @@ pub fn do_deed<S: TaskSource, E: TaskElement, I: Inlet<Out = O>, O: Outlet<Lanes
     tasks: &mut Vec<Task<S, E, I, O>>,
     deed: Deed,
     items: u64,
-) -> Result<bool, EditFault>
-    ensures done { IfOk result (λ done. (g : Edited) (m : Moment) (tells : _) → IsDue graph.old feeds.old tasks.old.items g m tells deed items
-        → (done ≡ true) × IsDone graph.new feeds.new tasks.new.items g m tells deed items) }
+) -> Result<Outcome<S, E, I, O>, EditFault>
+    ensures done { IfOk result (λ outcome. (g : Edited) (m : Moment) (tells : _) → IsDue graph.old feeds.old tasks.old.items g m tells deed items
+        → WasDone outcome × IsDone graph.new feeds.new tasks.new.items g m tells deed items) }
+    ensures taken { IfOk result (TakesFor tasks.old.items tasks.new.items deed) }
     ensures failed { IfErr result (DeedFails graph.old feeds.old tasks.old.items graph.new feeds.new tasks.new.items deed items) }
     ensures ready { (tells : _) → NetReady tasks.old.items tells → NetReady tasks.new.items tells }
 {
     match deed {
-        Deed::Relink { source, sink } => relink(alloc, graph, feeds, tasks, source, sink, items),
-        Deed::Unlink { source, sink, eos } => {
-            undo_link(alloc, graph, feeds, tasks, source, sink, eos, items)
-        }
-        Deed::Add | Deed::Remove { .. } => Ok(false),
+        Deed::Relink { source, sink } => told(relink(
+            alloc, graph, feeds, tasks, source, sink, items,
+        )),
+        Deed::Unlink { source, sink, eos } => told(undo_link(
+            alloc, graph, feeds, tasks, source, sink, eos, items,
+        )),
+        Deed::Add => Ok(Outcome::Undone),
+        Deed::Remove { element } => Ok(take_away(graph, tasks, element)),
+    }
+}
+
+/// What a deed that takes no task out came to.
+fn told<S: TaskSource, E: TaskElement, I: Inlet<Out = O>, O: Outlet<Lanes = I::Lanes>>(
+    done: Result<bool, EditFault>,
+) -> Result<Outcome<S, E, I, O>, EditFault>
+    ensures { result ≡ outcome_of done }
+{
+    match done {
+        Ok(true) => Ok(Outcome::Done),
+        Ok(false) => Ok(Outcome::Undone),
+        Err(fault) => Err(fault),
+    }
+}
+
+/// Takes an element away, where it is alone in its task and no lane leads to it.
+fn take_away<S: TaskSource, E: TaskElement, I: Inlet<Out = O>, O: Outlet<Lanes = I::Lanes>>(
+    graph: &mut EditedGraph,
+    tasks: &mut Vec<Task<S, E, I, O>>,
+    element: u32,
+) -> Outcome<S, E, I, O>
+    ensures done { (feeds : KeptFeeds) (g : Edited) (m : Moment) (tells : _) (items : ℕ)
+        → IsDue graph.old feeds tasks.old.items g m tells (Remove element) items
+        → WasDone result × IsDone graph.new feeds tasks.new.items g m tells (Remove element) items }
+    ensures taken { TakesFrom tasks.old.items tasks.new.items element result }
+    ensures ready { (tells : _) → NetReady tasks.old.items tells → NetReady tasks.new.items tells }
+{
+    if !is_free(tasks.as_slice(), element) {
+        return Outcome::Undone;
+    }
+    match remove(graph, tasks, element) {
+        Some(taken) => Outcome::TakenOut { taken },
+        None => Outcome::Done,
     }
 }
 

@@ -1,6 +1,6 @@
 -- The next command is answered, or control can't go on.
 use Rattle.std.proofs.Common.{◌≡◌, ◌≢◌, ◌<◌, ◌≤◌, ◌+◌, ℕ, Bool, true, List, Option, None, Some, drop, get_or, length, refl, sym, ap, ◌∙◌, subst}
-use Rattle.std.specs.Prelude.{Result, Ok, Err, IfOk, slice_get}
+use Rattle.std.specs.Prelude.{Result, Ok, Err, IfOk, OnOk, slice_get}
 use Rattle.std.proofs.lemmas.List.{drop_all}
 use Rattle.std.proofs.lemmas.Option.{slice_get_read}
 use Rattle.flow_model.proofs.Prefixes.{prefix_refl}
@@ -33,7 +33,7 @@ use Rattle.graph_edits.specs.declared.graph.EditedGraph.{EditedGraph}
 use Rattle.edit_acts.specs.Controlled.{IsControlled}
 use Rattle.edit_acts.specs.Deeds.{CanBeDone, DeedFails, IsDue}
 use Rattle.edit_acts.specs.Scripted.{IsExact}
-use Rattle.script_run.specs.Answering.{ActFails, ActsOn, CarryFails, Controls, Decides, IsCarriedOut, IsEntered, IsNext, NothingCanBeDone, RulesNext}
+use Rattle.script_run.specs.Answering.{ActFails, ActsOn, CarryFails, Controls, Decides, IsCarriedOut, IsEntered, IsNext, NothingCanBeDone, RulesNext, SetsAside, TellsNothingDone}
 use Rattle.script_run.specs.Running.{tells_of}
 use Rattle.script_run.specs.declared.running.RunFault.{RunFault}
 use Rattle.script_run.specs.declared.running.RunFault.TheVariants as faults
@@ -46,6 +46,12 @@ exact_of g m c (Done places) now = absurd now.place
 exact_of g m c Unreached now = tt
 exact_of g m c (Refused reason places) now = (now.place, now.first)
 
+-- and nothing is told as done
+nothing_done : (g : Edited) (m : Moment) (c : Command) (answer : Answer) → IsAnsweredNow g m c answer → TellsNothingDone answer
+nothing_done g m c (Done places) now = now.place
+nothing_done g m c Unreached now = tt
+nothing_done g m c (Refused reason places) now = tt
+
 -- what control can do is no addition
 no_addition : (g : Edited) (deed : Deed) → CanBeDone g deed → deed ≢ deeds.Add
 no_addition g deed can is = subst (λ (d : Deed). CanBeDone g d) is can
@@ -55,6 +61,10 @@ no_addition g deed can is = subst (λ (d : Deed). CanBeDone g d) is can
 pub done_of : {P : Type 0} (r : Result Bool RunFault) → r ≡ Ok true → IfOk r (λ done. (done ≡ true) × P) → P
 done_of (Ok done) is told = told.1
 done_of (Err fault) is told = absurd cc
+
+pub aside_of : {P : Type 0} (r : Result Bool RunFault) → r ≡ Ok true → OnOk r P → P
+aside_of (Ok done) is told = told
+aside_of (Err fault) is told = absurd cc
 
 module _ {S E I O L : Type 0} {s : sources.Ghosts S} {e : elements.Ghosts E} {i : inlets.Ghosts I L O} {o : outlets.Ghosts O L} where
   -- what is decided of the command that is found behind those that were answered
@@ -138,7 +148,10 @@ module _ {S E I O L : Type 0} {s : sources.Ghosts S} {e : elements.Ghosts E} {i 
             has = same_control was is answer entered g m has;
           };
     };
-    keeps = entered.keeps;
+    script = entered.keeps.script;
+    deed = None;
+    asks = λ g m names has. nothing_done g m command answer (decides g m (tells_of was) has.current names);
+    aside = entered.keeps.turns;
   }
 
   pub answered : (was is : Running S E I O L s e i o) (told : Ruling) (answer : Answer) → told ≡ Answered answer → RulesNext was (Some told) → IsEntered was is answer → ActsOn was is
@@ -147,12 +160,12 @@ module _ {S E I O L : Type 0} {s : sources.Ghosts S} {e : elements.Ghosts E} {i 
   -- ---- it is done
 
   done_so : DeedsAreAnswers → (was is : Running S E I O L s e i o) (command : Command) (deed : Deed) (items : ℕ) (places : List Place) → IsNext was command → Decides was command (ToDo deed items places)
-      → IsCarriedOut was is deed items places → ActsOn was is
-  done_so law was is command deed items places next decides carried = record {
+      → IsCarriedOut was is deed items places → SetsAside was is deed → ActsOn was is
+  done_so law was is command deed items places next decides carried aside = record {
     acted = record {
       command = command;
       entry = record { answer = Done places };
-      next = left_behind was.script.items is.script.items was.entries.items is.entries.items command (record { answer = Done places }) next carried.keeps.script carried.entered;
+      next = left_behind was.script.items is.script.items was.entries.items is.entries.items command (record { answer = Done places }) next carried.script carried.entered;
       entered = carried.entered;
       answered = λ g m names has.
           let to_do = decides g m (tells_of was) has.current names in
@@ -168,13 +181,16 @@ module _ {S E I O L : Type 0} {s : sources.Ghosts S} {e : elements.Ghosts E} {i 
             has = subst (λ (tells : Option (List Lane)). IsControlled is.graph is.feeds is.tasks.items (made_by deed items g) made.1.now tells) (ap o.tells (sym carried.lanes)) made.1.controlled;
           };
     };
-    keeps = carried.keeps;
+    script = carried.script;
+    deed = Some deed;
+    asks = λ g m names has. (items, places, decides g m (tells_of was) has.current names);
+    aside = aside;
   }
 
   pub done : DeedsAreAnswers → (was is : Running S E I O L s e i o) (told : Ruling) (deed : Deed) (items : ℕ) (places : List Place) → told ≡ ToDo deed items places → RulesNext was (Some told)
-      → IsCarriedOut was is deed items places → ActsOn was is
-  done law was is told deed items places same next carried =
-      let ruled = same_ruling was told (ToDo deed items places) same next in done_so law was is ruled.0 deed items places ruled.1 ruled.2 carried
+      → IsCarriedOut was is deed items places → SetsAside was is deed → ActsOn was is
+  done law was is told deed items places same next carried aside =
+      let ruled = same_ruling was told (ToDo deed items places) same next in done_so law was is ruled.0 deed items places ruled.1 ruled.2 carried aside
 
   -- ---- it can't be answered yet
 

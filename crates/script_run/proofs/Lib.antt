@@ -3,3 +3,4 @@ mod Acting
 mod Turns
 mod Scripting
 mod Whole
+mod Aside

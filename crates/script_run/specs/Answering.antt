@@ -1,13 +1,14 @@
 -- How control answers the next command of a run.
-use Rattle.std.specs.Prelude.{◌≡◌, ◌++◌, ℕ, true, List, [], ◌∷◌, Option, None, Some, length, slice_get}
+use Rattle.std.specs.Prelude.{◌≡◌, ◌⊎◌, ◌++◌, ℕ, true, List, [], ◌∷◌, Option, None, Some, length, slice_get}
 use Rattle.lane_core.specs.Lane.{Lane}
 use Rattle.lane_core.specs.declared.ends.Inlet as inlets
 use Rattle.lane_core.specs.declared.ends.Outlet as outlets
 use Rattle.net_model.specs.Moment.{Moment}
 use Rattle.net_model.specs.declared.element.TaskElement as elements
 use Rattle.net_model.specs.declared.source.TaskSource as sources
+use Rattle.net_edits.specs.Adding.{NoneOwns}
 use Rattle.script_text.specs.declared.answer.Answer.{Answer}
-use Rattle.script_text.specs.declared.answer.Answer.TheVariants.{Done}
+use Rattle.script_text.specs.declared.answer.Answer.TheVariants.{Done, Refused, Unreached}
 use Rattle.script_text.specs.declared.answer.Place.{Place}
 use Rattle.script_text.specs.declared.command.Command.{Command}
 use Rattle.edit_model.specs.Edited.{Edited}
@@ -15,17 +16,31 @@ use Rattle.edit_model.specs.Lawful.{IsAnswered}
 use Rattle.graph_edits.specs.Graph.{IsEdited}
 use Rattle.edit_core.specs.Deciding.{IsReached, IsRuled, IsToDo, made_by, names_its_pad}
 use Rattle.edit_core.specs.declared.deciding.Deed.{Deed}
+use Rattle.edit_core.specs.declared.deciding.Deed.TheVariants.{Relink, Unlink, Add, Remove}
 use Rattle.edit_core.specs.declared.deciding.Ruling.{Ruling}
 use Rattle.edit_core.specs.Judging.{IsVerdict, owed_then}
 use Rattle.edit_core.specs.Notes.{IsCurrent}
 use Rattle.edit_core.specs.declared.judging.Verdict.TheVariants as verdicts
 use Rattle.edit_acts.specs.Controlled.{IsControlled}
 use Rattle.edit_acts.specs.Deeds.{CanBeDone, IsDone}
+use Rattle.edit_acts.specs.Removed.{IsTakenOut}
 use Rattle.edit_acts.specs.Scripted.{IsActed}
+use Rattle.edit_acts.specs.declared.removing.TakenOut.{TakenOut}
 use Rattle.script_run.specs.declared.running.RunFault.{RunFault}
 use Rattle.script_run.specs.declared.running.RunFault.TheVariants.{Stopped, OutOfMemory, Undone}
 use Rattle.script_run.specs.declared.running.Running.{Running}
-use Rattle.script_run.specs.Running.{KeepsScript, tells_of, view_of}
+use Rattle.script_run.specs.Running.{KeepsScript, KeepsTurns, taking_without, tells_of, view_of}
+
+-- nothing is told as done
+abbrev pub TellsNothingDone : Answer → Type 0
+TellsNothingDone (Done places) = ⊥
+TellsNothingDone Unreached = Unit {0}
+TellsNothingDone (Refused reason places) = Unit {0}
+
+-- a command that is answered so asks for this deed, or for none
+abbrev pub AsksFor : Edited → Moment → Command → Answer → Option Deed → Type 0
+AsksFor g m command answer None = TellsNothingDone answer
+AsksFor g m command answer (Some deed) = (items : ℕ) × (places : List Place) × IsToDo g m command deed items places
 
 module _ {S E I O L : Type 0} {s : sources.Ghosts S} {e : elements.Ghosts E} {i : inlets.Ghosts I L O} {o : outlets.Ghosts O L} where
   -- control has the run, edited so, at a moment
@@ -46,10 +61,31 @@ module _ {S E I O L : Type 0} {s : sources.Ghosts S} {e : elements.Ghosts E} {i 
   RulesNext run None = (view_of run).commands ≡ []
   RulesNext run (Some ruling) = (command : Command) × IsNext run command × Decides run command ruling
 
+  -- The task of an element that was taken away is kept among those that were set aside, and one fewer takes turns where it did.
+  pub record HasSetAside (was is : Running S E I O L s e i o) (element : ℕ) : Type 0 where
+    pub taken : TakenOut S E I O L s e i o
+    pub out : IsTakenOut was.tasks.items is.tasks.items element taken
+    pub removed : is.removed.items ≡ was.removed.items ++ taken.task ∷ []
+    pub taking : is.taking ≡ taking_without taken.place was.taking
+
+  -- a deed sets the task of the element aside that it takes away, where one has it, and no other
+  abbrev pub SetsAside : Running S E I O L s e i o → Running S E I O L s e i o → Deed → Type 0
+  SetsAside was is (Relink source sink) = KeepsTurns was is
+  SetsAside was is (Unlink source sink eos) = KeepsTurns was is
+  SetsAside was is Add = KeepsTurns was is
+  SetsAside was is (Remove element) = HasSetAside was is element ⊎ (NoneOwns was.tasks.items element × KeepsTurns was is)
+
+  abbrev pub SetsAsideFor : Running S E I O L s e i o → Running S E I O L s e i o → Option Deed → Type 0
+  SetsAsideFor was is None = KeepsTurns was is
+  SetsAsideFor was is (Some deed) = SetsAside was is deed
+
   -- The next command was answered.
   pub record ActsOn (was is : Running S E I O L s e i o) : Type 0 where
     pub acted : IsActed (view_of was) (view_of is)
-    pub keeps : KeepsScript was is
+    pub script : is.script.items ≡ was.script.items
+    pub deed : Option Deed
+    pub asks : (g : Edited) (m : Moment) → names_its_pad acted.command ≡ true → Controls was g m → AsksFor g m acted.command acted.entry.answer deed
+    pub aside : SetsAsideFor was is deed
 
   -- No command is left, or the next one can't be answered yet.
   pub data NothingCanBeDone (run : Running S E I O L s e i o) : Type 0 where
@@ -69,7 +105,7 @@ module _ {S E I O L : Type 0} {s : sources.Ghosts S} {e : elements.Ghosts E} {i 
   -- The next command counts as done at these places. Where it asks for this deed control can do that, and did it.
   pub record IsCarriedOut (was is : Running S E I O L s e i o) (deed : Deed) (items : ℕ) (places : List Place) : Type 0 where
     pub entered : is.entries.items ≡ was.entries.items ++ record { answer = Done places } ∷ []
-    pub keeps : KeepsScript was is
+    pub script : is.script.items ≡ was.script.items
     pub lanes : is.lanes ≡ was.lanes
     pub done : (g : Edited) (m : Moment) (command : Command) → Controls was g m → IsToDo g m command deed items places
         → CanBeDone g deed × IsDone is.graph is.feeds is.tasks.items g m (tells_of was) deed items

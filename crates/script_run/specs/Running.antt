@@ -1,5 +1,5 @@
 -- What a turn does to a run that commands edit.
-use Rattle.std.specs.Prelude.{◌≡◌, ◌<◌, ◌-◌, ℕ, Bool, List, Option, if◌then◌else◌, drop, length, nat_lt}
+use Rattle.std.specs.Prelude.{◌≡◌, ◌<◌, ◌-◌, ◌++◌, ℕ, Bool, List, [], ◌∷◌, Option, if◌then◌else◌, drop, length, nat_lt}
 use Rattle.lane_core.specs.Lane.{Lane}
 use Rattle.lane_core.specs.declared.ends.Inlet as inlets
 use Rattle.lane_core.specs.declared.ends.Outlet as outlets
@@ -11,9 +11,14 @@ use Rattle.net_turns.specs.Rests.{NetAdvanced, has_moved}
 use Rattle.net_turns.specs.Turns.{AreTried, HasMet, HasMetTrying, IsStepped as StepsAt}
 use Rattle.task_parts.specs.declared.step.Step.{Step}
 use Rattle.edit_acts.specs.Scripted.{KeepsControl, ScriptRun}
+use Rattle.edit_acts.specs.declared.removing.TakenOut.{TakenOut}
 use Rattle.script_run.specs.declared.running.RunFault.{RunFault}
 use Rattle.script_run.specs.declared.running.RunFault.TheVariants.{Stopped, OutOfMemory, Undone}
 use Rattle.script_run.specs.declared.running.Running.{Running}
+
+-- how many take turns once the task of a place is taken out
+abbrev pub taking_without : ℕ → ℕ → ℕ
+taking_without place taking = if nat_lt place taking then taking - 1 else taking
 
 module _ {S E I O L : Type 0} {s : sources.Ghosts S} {e : elements.Ghosts E} {i : inlets.Ghosts I L O} {o : outlets.Ghosts O L} where
   -- the lanes of a run, where their table tells them
@@ -39,10 +44,26 @@ module _ {S E I O L : Type 0} {s : sources.Ghosts S} {e : elements.Ghosts E} {i 
   abbrev pub taking_of : Running S E I O L s e i o → ℕ
   taking_of run = if nat_lt run.taking (length run.tasks.items) then run.taking else length run.tasks.items
 
-  -- its script stays, and how many tasks take turns
+  -- as many of its tasks take turns, and no more were set aside
+  pub record KeepsTurns (was is : Running S E I O L s e i o) : Type 0 where
+    pub taking : is.taking ≡ was.taking
+    pub removed : is.removed.items ≡ was.removed.items
+
+  -- its script stays, and so it is
   pub record KeepsScript (was is : Running S E I O L s e i o) : Type 0 where
     pub script : is.script.items ≡ was.script.items
-    pub taking : is.taking ≡ was.taking
+    pub turns : KeepsTurns was is
+
+  -- A task that was taken out is kept among those that were set aside. One fewer takes turns, where it did.
+  pub record IsSetAside (was is : Running S E I O L s e i o) (taken : TakenOut S E I O L s e i o) : Type 0 where
+    pub removed : is.removed.items ≡ was.removed.items ++ taken.task ∷ []
+    pub taking : is.taking ≡ taking_without taken.place was.taking
+    pub script : is.script ≡ was.script
+    pub entries : is.entries ≡ was.entries
+    pub graph : is.graph ≡ was.graph
+    pub feeds : is.feeds ≡ was.feeds
+    pub tasks : is.tasks ≡ was.tasks
+    pub lanes : is.lanes ≡ was.lanes
 
   -- the task at a place was stepped, and moved or not
   pub record IsStepped (place : ℕ) (moved : Bool) (was is : Running S E I O L s e i o) : Type 0 where

@@ -17,8 +17,8 @@ pub(crate) fn can_do(graph: &EditedGraph, deed: &Deed) -> bool
         Deed::Relink { source, sink } => {
             !is_asleep(graph, source.element) && !has_lanes(graph, sink.element)
         }
-        Deed::Unlink { .. } => true,
-        Deed::Add | Deed::Remove { .. } => false,
+        Deed::Unlink { .. } | Deed::Remove { .. } => true,
+        Deed::Add => false,
     }
 }
 

@@ -1,12 +1,12 @@
 //! How control answers the next command of a run.
-ghost use Rattle.std.specs.Prelude.{◌≡◌, ◌<◌, true, false, Ok, IfErr, IfOk, OnOk, vec_len};
+ghost use Rattle.std.specs.Prelude.{◌≡◌, ◌<◌, true, false, Ok, IfErr, IfOk, OnOk, vec_len, vec_capacity};
 ghost use Rattle.net_turns.specs.Net.{NetReady};
-ghost use Rattle.script_run.specs.Answering.{ActFails, ActsOn, CarryFails, IsCarriedOut, IsEntered, NothingCanBeDone, RulesNext};
-ghost use Rattle.script_run.specs.Running.{commands_left, tells_of};
+ghost use Rattle.script_run.specs.Answering.{ActFails, ActsOn, CarryFails, IsCarriedOut, IsEntered, NothingCanBeDone, RulesNext, SetsAside};
+ghost use Rattle.script_run.specs.Running.{IsSetAside, commands_left, tells_of};
 
 use crate::able::can_do;
 use crate::running::{RunFault, Running};
-use edit_acts::do_deed;
+use edit_acts::{Outcome, TakenOut, do_deed};
 use edit_core::laws::deeds_are_answers;
 use edit_core::{Deed, Ruling, decide};
 use gst_value::{List, OutOfMemory};
@@ -76,10 +76,14 @@ impl<S: TaskSource, E: TaskElement, I: Inlet<Out = O>, O: Outlet<Lanes = I::Lane
         requires some { vec_len self.old.entries < vec_len self.old.script }
         ensures ready { NetReady self.old.tasks.items (tells_of self.old) → NetReady self.new.tasks.items (tells_of self.new) }
         ensures done { IfOk result (λ done. (done ≡ true) × IsCarriedOut self.old self.new deed items places) }
+        ensures aside { OnOk result (SetsAside self.old self.new deed) }
         ensures failed { IfErr result (CarryFails self.old self.new deed items places) }
     {
         if !can_do(&self.graph, &deed) {
             return Err(RunFault::Undone);
+        }
+        if self.removed.reserve(1).is_err() {
+            return Err(RunFault::OutOfMemory);
         }
         match do_deed(
             alloc,
@@ -89,17 +93,33 @@ impl<S: TaskSource, E: TaskElement, I: Inlet<Out = O>, O: Outlet<Lanes = I::Lane
             deed,
             items,
         ) {
-            Ok(true) => {
+            Ok(Outcome::Done) => {
                 self.enter(Answer::Done { places });
                 Ok(true)
             }
-            Ok(false) => Err(RunFault::Undone),
+            Ok(Outcome::TakenOut { taken }) => {
+                self.set_aside(taken);
+                self.enter(Answer::Done { places });
+                Ok(true)
+            }
+            Ok(Outcome::Undone) => Err(RunFault::Undone),
             Err(EditFault::OutOfMemory) => Err(RunFault::OutOfMemory),
             Err(EditFault::Failed(stopped)) => {
                 self.enter(Answer::Done { places });
                 Err(RunFault::Stopped { stopped })
             }
         }
+    }
+
+    /// Keeps a task that was taken out to the end of the run, with the file that it has open.
+    fn set_aside(&mut self, taken: TakenOut<S, E, I, O>)
+        requires room { vec_len self.old.removed < vec_capacity self.old.removed }
+        ensures { IsSetAside self.old self.new taken }
+    {
+        if taken.place < self.taking {
+            self.taking -= 1;
+        }
+        self.removed.push_reserved(taken.task);
     }
 
     /// The next command is answered so.

@@ -7,4 +7,4 @@ mod answering;
 pub mod laws;
 pub mod running;
 
-pub use running::{RunFault, Running};
+pub use running::{Ended, RunFault, Running};

@@ -37,10 +37,25 @@ pub struct Running<S: TaskSource, E: TaskElement, I: Inlet<Out = O>, O: Outlet<L
     pub(crate) script: Vec<Command>,
     /// How the first of them were answered.
     pub(crate) entries: Vec<Entry>,
+    /// The tasks of elements that were taken away, with the files that they have open.
+    pub(crate) removed: Vec<Task<S, E, I, O>>,
     /// What each task answered when all were tried at last.
     pub(crate) steps: Vec<Step>,
     ghost answered: { vec_len entries ≤ vec_len script },
     ghost room: { vec_len script ≤ vec_capacity entries },
+}
+
+/// What a run leaves.
+#[derive(Drop)]
+pub struct Ended<S: TaskSource, E: TaskElement, I: Inlet<Out = O>, O: Outlet<Lanes = I::Lanes>> {
+    pub tasks: Vec<Task<S, E, I, O>>,
+    /// What each of them answered when all were tried at last.
+    pub steps: Vec<Step>,
+    /// The tasks of elements that were taken away.
+    pub removed: Vec<Task<S, E, I, O>>,
+    pub graph: EditedGraph,
+    /// How the first commands of the script were answered.
+    pub entries: Vec<Entry>,
 }
 
 impl<S: TaskSource, E: TaskElement, I: Inlet<Out = O>, O: Outlet<Lanes = I::Lanes>> Running<
@@ -62,7 +77,7 @@ impl<S: TaskSource, E: TaskElement, I: Inlet<Out = O>, O: Outlet<Lanes = I::Lane
         feeds: Feeds,
         commands: List<Command>,
     ) -> Result<Running<S, E, I, O>, OutOfMemory>
-        ensures tasks { IfOk result (λ run. (run.tasks ≡ tasks) × (run.taking ≡ taking) × (run.lanes ≡ lanes)) }
+        ensures tasks { IfOk result (λ run. (run.tasks ≡ tasks) × (run.taking ≡ taking) × (run.lanes ≡ lanes) × (run.removed.items ≡ [])) }
         ensures control { IfOk result (λ run. (run.graph ≡ graph) × (run.feeds ≡ feeds)) }
         ensures script { IfOk result (λ run. (run.script.items ≡ commands) × (run.entries.items ≡ [])) }
     {
@@ -76,6 +91,7 @@ impl<S: TaskSource, E: TaskElement, I: Inlet<Out = O>, O: Outlet<Lanes = I::Lane
             feeds,
             script,
             entries,
+            removed: Vec::new(alloc),
             steps: Vec::new(alloc),
         })
     }
@@ -85,6 +101,28 @@ impl<S: TaskSource, E: TaskElement, I: Inlet<Out = O>, O: Outlet<Lanes = I::Lane
         ensures { result.now ≡ self.now.entries.items }
     {
         self.entries.as_slice()
+    }
+
+    /// Ends the run, and gives back all that it has.
+    pub fn end(self) -> Ended<S, E, I, O>
+        ensures tasks { (result.tasks ≡ self.tasks) × (result.steps ≡ self.steps) × (result.removed ≡ self.removed) }
+        ensures control { (result.graph ≡ self.graph) × (result.entries ≡ self.entries) }
+    {
+        let Running {
+            tasks,
+            steps,
+            removed,
+            graph,
+            entries,
+            ..
+        } = self;
+        Ended {
+            tasks,
+            steps,
+            removed,
+            graph,
+            entries,
+        }
     }
 }
 

@@ -1,25 +1,62 @@
-use Rattle.std.proofs.Common.{◌≡◌, Bool, true, sym, subst}
+use Rattle.std.proofs.Common.{sym, subst}
 use Rattle.std.specs.Prelude.{IfErr, IfOk}
 use Rattle.net_model.specs.Moment.{Moment}
 use Rattle.edit_core.specs.declared.deciding.Deed.{Deed}
+use Rattle.edit_core.specs.declared.deciding.Deed.TheVariants.{Relink, Unlink}
 use Rattle.edit_model.specs.Edited.{Edited}
-use Rattle.edit_acts.specs.Deeds.{DeedFails, IsDone, IsDue}
-use Rattle.edit_acts.proofs.Deeds.{relink_failed, relink_told}
+use Rattle.edit_acts.specs.Deeds.{DeedFails, IsDone, IsDue, TakesFor, WasDone}
+use Rattle.edit_acts.specs.declared.doing.Outcome.{Outcome}
+use Rattle.edit_acts.proofs.Deeds.{done_told, failed_told, none_told, relink_failed, relink_told}
 use Rattle.edit_acts.proofs.doing.do_deed.Goals as goal
 
 pub returns-in-Relink-clause-done : goal.returns-in-Relink-clause-done
 returns-in-Relink-clause-done g c =
     subst
-    (λ (d : Deed). IfOk c.relink.result
-    (λ (done : Bool). (graph : Edited) (m : Moment) (tells : _) → IsDue c.args.graph.now c.args.feeds.now c.args.tasks.now.items graph m tells d c.args.items
-    → (done ≡ true) × IsDone c.relink.new.graph c.relink.new.feeds c.relink.new.tasks.items graph m tells d c.args.items))
+    (λ (d : Deed). IfOk c.told.result
+    (λ (outcome : Outcome _ _ _ _ _ _ _ _ _). (graph : Edited) (m : Moment) (tells : _) → IsDue c.args.graph.now c.args.feeds.now c.args.tasks.now.items graph m tells d c.args.items
+    → WasDone outcome × IsDone c.relink.new.graph c.relink.new.feeds c.relink.new.tasks.items graph m tells d c.args.items))
     (sym c.in-Relink.is)
-    (relink_told c.args.graph.now c.args.feeds.now c.args.tasks.now.items c.in-Relink.source c.in-Relink.sink c.args.items c.relink.new.graph c.relink.new.feeds c.relink.new.tasks.items c.relink.result c.relink.ensures.run)
+    (done_told c.args.graph.now c.args.feeds.now c.args.tasks.now.items c.args.items c.relink.new.graph c.relink.new.feeds c.relink.new.tasks.items (Relink c.in-Relink.source c.in-Relink.sink) c.told.result c.relink.result c.told.ensures
+    (relink_told c.args.graph.now c.args.feeds.now c.args.tasks.now.items c.in-Relink.source c.in-Relink.sink c.args.items c.relink.new.graph c.relink.new.feeds c.relink.new.tasks.items c.relink.result c.relink.ensures.run))
+
+pub returns-in-Relink-clause-taken : goal.returns-in-Relink-clause-taken
+returns-in-Relink-clause-taken g c =
+    subst (λ (d : Deed). IfOk c.told.result (TakesFor c.args.tasks.now.items c.relink.new.tasks.items d)) (sym c.in-Relink.is)
+    (none_told c.args.graph.now c.args.feeds.now c.args.tasks.now.items c.args.items c.relink.new.graph c.relink.new.feeds c.relink.new.tasks.items (Relink c.in-Relink.source c.in-Relink.sink) c.told.result c.relink.result c.told.ensures)
 
 pub returns-in-Relink-clause-failed : goal.returns-in-Relink-clause-failed
 returns-in-Relink-clause-failed g c =
-    subst (λ (d : Deed). IfErr c.relink.result (DeedFails c.args.graph.now c.args.feeds.now c.args.tasks.now.items c.relink.new.graph c.relink.new.feeds c.relink.new.tasks.items d c.args.items)) (sym c.in-Relink.is)
-    (relink_failed c.args.graph.now c.args.feeds.now c.args.tasks.now.items c.in-Relink.source c.in-Relink.sink c.args.items c.relink.new.graph c.relink.new.feeds c.relink.new.tasks.items c.relink.result c.relink.ensures.faults)
+    subst (λ (d : Deed). IfErr c.told.result (DeedFails c.args.graph.now c.args.feeds.now c.args.tasks.now.items c.relink.new.graph c.relink.new.feeds c.relink.new.tasks.items d c.args.items)) (sym c.in-Relink.is)
+    (failed_told c.args.graph.now c.args.feeds.now c.args.tasks.now.items c.args.items c.relink.new.graph c.relink.new.feeds c.relink.new.tasks.items (Relink c.in-Relink.source c.in-Relink.sink) c.told.result c.relink.result c.told.ensures
+    (relink_failed c.args.graph.now c.args.feeds.now c.args.tasks.now.items c.in-Relink.source c.in-Relink.sink c.args.items c.relink.new.graph c.relink.new.feeds c.relink.new.tasks.items c.relink.result c.relink.ensures.faults))
 
 pub returns-in-Unlink-clause-done : goal.returns-in-Unlink-clause-done
-returns-in-Unlink-clause-done g c = rw (sym c.in-Unlink.is) at c.undo_link.ensures.done
+returns-in-Unlink-clause-done g c =
+    subst
+    (λ (d : Deed). IfOk c.told-in-Unlink.result
+    (λ (outcome : Outcome _ _ _ _ _ _ _ _ _). (graph : Edited) (m : Moment) (tells : _) → IsDue c.args.graph.now c.args.feeds.now c.args.tasks.now.items graph m tells d c.args.items
+    → WasDone outcome × IsDone c.undo_link.new.graph c.undo_link.new.feeds c.undo_link.new.tasks.items graph m tells d c.args.items))
+    (sym c.in-Unlink.is)
+    (done_told c.args.graph.now c.args.feeds.now c.args.tasks.now.items c.args.items c.undo_link.new.graph c.undo_link.new.feeds c.undo_link.new.tasks.items (Unlink c.in-Unlink.source c.in-Unlink.sink c.in-Unlink.eos) c.told-in-Unlink.result c.undo_link.result c.told-in-Unlink.ensures
+    c.undo_link.ensures.done)
+
+pub returns-in-Unlink-clause-taken : goal.returns-in-Unlink-clause-taken
+returns-in-Unlink-clause-taken g c =
+    subst (λ (d : Deed). IfOk c.told-in-Unlink.result (TakesFor c.args.tasks.now.items c.undo_link.new.tasks.items d)) (sym c.in-Unlink.is)
+    (none_told c.args.graph.now c.args.feeds.now c.args.tasks.now.items c.args.items c.undo_link.new.graph c.undo_link.new.feeds c.undo_link.new.tasks.items (Unlink c.in-Unlink.source c.in-Unlink.sink c.in-Unlink.eos) c.told-in-Unlink.result c.undo_link.result c.told-in-Unlink.ensures)
+
+pub returns-in-Unlink-clause-failed : goal.returns-in-Unlink-clause-failed
+returns-in-Unlink-clause-failed g c =
+    subst (λ (d : Deed). IfErr c.told-in-Unlink.result (DeedFails c.args.graph.now c.args.feeds.now c.args.tasks.now.items c.undo_link.new.graph c.undo_link.new.feeds c.undo_link.new.tasks.items d c.args.items)) (sym c.in-Unlink.is)
+    (failed_told c.args.graph.now c.args.feeds.now c.args.tasks.now.items c.args.items c.undo_link.new.graph c.undo_link.new.feeds c.undo_link.new.tasks.items (Unlink c.in-Unlink.source c.in-Unlink.sink c.in-Unlink.eos) c.told-in-Unlink.result c.undo_link.result c.told-in-Unlink.ensures
+    c.undo_link.ensures.failed)
+
+pub returns-in-Remove-clause-done : goal.returns-in-Remove-clause-done
+returns-in-Remove-clause-done g c =
+    subst
+    (λ (d : Deed). (graph : Edited) (m : Moment) (tells : _) → IsDue c.args.graph.now c.args.feeds.now c.args.tasks.now.items graph m tells d c.args.items
+    → WasDone c.take_away.result × IsDone c.take_away.new.graph c.args.feeds.now c.take_away.new.tasks.items graph m tells d c.args.items)
+    (sym c.in-Remove.is) (λ graph m tells w. c.take_away.ensures.done c.args.feeds.now graph m tells c.args.items w)
+
+pub returns-in-Remove-clause-taken : goal.returns-in-Remove-clause-taken
+returns-in-Remove-clause-taken g c = subst (λ (d : Deed). TakesFor c.args.tasks.now.items c.take_away.new.tasks.items d c.take_away.result) (sym c.in-Remove.is) c.take_away.ensures.taken

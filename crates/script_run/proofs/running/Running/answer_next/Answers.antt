@@ -1,7 +1,7 @@
 use Rattle.std.proofs.Common.{Option, refl, subst}
 use Rattle.edit_core.specs.declared.deciding.Ruling.{Ruling}
 use Rattle.gst_value.proofs.Results.{if_err}
-use Rattle.script_run.proofs.Acting.{answered, done, done_of, fails, ruled, waits_so}
+use Rattle.script_run.proofs.Acting.{answered, aside_of, done, done_of, fails, ruled, waits_so}
 use Rattle.script_run.specs.Answering.{ActFails, CarryFails, NothingCanBeDone, RulesNext}
 use Rattle.script_run.proofs.running.Running.answer_next.Goals as goal
 
@@ -22,7 +22,7 @@ pub returns-in-Ok-Some-ToDo-clause-acted : goal.returns-in-Ok-Some-ToDo-clause-a
 returns-in-Ok-Some-ToDo-clause-acted g c = λ is.
     let next = ruled c.args.self.now c.in-Ok-Some-ToDo.field-0 _ c.in-Ok-Some-ToDo.field-0-is c.in-Ok-Some-ToDo.ensures in
     done c.deeds_are_answers.ensures c.args.self.now c.carry_out.new.self c.in-Ok-Some-ToDo.field-0-0 c.in-Ok-Some-ToDo.deed c.in-Ok-Some-ToDo.items c.in-Ok-Some-ToDo.places c.in-Ok-Some-ToDo.field-0-0-is next
-    (done_of c.carry_out.result is c.carry_out.ensures.done)
+    (done_of c.carry_out.result is c.carry_out.ensures.done) (aside_of c.carry_out.result is c.carry_out.ensures.aside)
 
 pub returns-in-Ok-Some-ToDo-clause-failed : goal.returns-in-Ok-Some-ToDo-clause-failed
 returns-in-Ok-Some-ToDo-clause-failed g c =

@@ -1,18 +1,34 @@
-use Rattle.std.proofs.Common.{refl, sym, ap, ◌∙◌}
-use Rattle.std.proofs.lemmas.Bool.{true≢false}
+use Rattle.std.proofs.Common.{refl, ap, ◌∙◌}
 use Rattle.script_run.proofs.Acting.{due, out_of_memory, ready_behind, short}
+use Rattle.script_run.proofs.Aside.{none_aside, one_aside}
 use Rattle.script_run.proofs.running.Running.carry_out.Goals as goal
 
-pub returns-in-Ok-true-clause-ready : goal.returns-in-Ok-true-clause-ready
-returns-in-Ok-true-clause-ready g c = ready_behind c.args.self.now c.enter.new.self c.do_deed.new.tasks.items c.do_deed.ensures.ready (ap (λ ts. ts.items) c.enter.ensures.tasks) c.enter.ensures.lanes
+pub returns-in-Ok-Done-clause-ready : goal.returns-in-Ok-Done-clause-ready
+returns-in-Ok-Done-clause-ready g c = ready_behind c.args.self.now c.enter.new.self c.do_deed.new.tasks.items c.do_deed.ensures.ready (ap (λ ts. ts.items) c.enter.ensures.tasks) c.enter.ensures.lanes
 
-pub returns-in-Ok-false-clause-ready : goal.returns-in-Ok-false-clause-ready
-returns-in-Ok-false-clause-ready g c = c.do_deed.ensures.ready _
+pub returns-in-Ok-Done-clause-aside : goal.returns-in-Ok-Done-clause-aside
+returns-in-Ok-Done-clause-aside g c =
+    none_aside c.args.self.now c.enter.new.self c.do_deed.new.tasks.items c.args.deed c.in-Ok-Done.ensures.taken
+    (record { taking = c.enter.ensures.keeps.turns.taking; removed = c.enter.ensures.keeps.turns.removed ∙ c.reserve.ensures.items })
 
-pub returns-in-Ok-false-clause-failed : goal.returns-in-Ok-false-clause-failed
-returns-in-Ok-false-clause-failed g c = λ edited m command has to_do can.
-    let done = c.in-Ok-false.ensures.done edited m _ (due c.args.self.now edited m command c.args.deed c.args.items c.args.places has to_do can) in
-    absurd (true≢false (sym done.0 ∙ c.in-Ok-false.field-0-test))
+pub returns-in-Ok-TakenOut-clause-ready : goal.returns-in-Ok-TakenOut-clause-ready
+returns-in-Ok-TakenOut-clause-ready g c =
+    ready_behind c.args.self.now c.enter-in-Ok-TakenOut.new.self c.do_deed.new.tasks.items c.do_deed.ensures.ready
+    (ap (λ ts. ts.items) c.enter-in-Ok-TakenOut.ensures.tasks ∙ ap (λ ts. ts.items) c.set_aside.ensures.tasks) (c.enter-in-Ok-TakenOut.ensures.lanes ∙ c.set_aside.ensures.lanes)
+
+pub returns-in-Ok-TakenOut-clause-aside : goal.returns-in-Ok-TakenOut-clause-aside
+returns-in-Ok-TakenOut-clause-aside g c =
+    one_aside c.args.self.now c.enter-in-Ok-TakenOut.new.self c.do_deed.new.tasks.items c.args.deed c.in-Ok-TakenOut.taken c.in-Ok-TakenOut.ensures.taken
+    (ap (λ ts. ts.items) c.enter-in-Ok-TakenOut.ensures.tasks ∙ ap (λ ts. ts.items) c.set_aside.ensures.tasks)
+    (c.enter-in-Ok-TakenOut.ensures.keeps.turns.removed ∙ c.set_aside.ensures.removed)
+    (c.enter-in-Ok-TakenOut.ensures.keeps.turns.taking ∙ c.set_aside.ensures.taking)
+
+pub returns-in-Ok-Undone-clause-ready : goal.returns-in-Ok-Undone-clause-ready
+returns-in-Ok-Undone-clause-ready g c = c.do_deed.ensures.ready _
+
+pub returns-in-Ok-Undone-clause-failed : goal.returns-in-Ok-Undone-clause-failed
+returns-in-Ok-Undone-clause-failed g c = λ edited m command has to_do can.
+    absurd (c.in-Ok-Undone.ensures.done edited m _ (due c.args.self.now edited m command c.args.deed c.args.items c.args.places has to_do can)).0
 
 pub returns-in-Err-OutOfMemory-clause-ready : goal.returns-in-Err-OutOfMemory-clause-ready
 returns-in-Err-OutOfMemory-clause-ready g c = c.do_deed.ensures.ready _
@@ -20,7 +36,7 @@ returns-in-Err-OutOfMemory-clause-ready g c = c.do_deed.ensures.ready _
 pub returns-in-Err-OutOfMemory-clause-failed : goal.returns-in-Err-OutOfMemory-clause-failed
 returns-in-Err-OutOfMemory-clause-failed g c = record {
   entries = refl;
-  keeps = record { script = refl; taking = refl };
+  keeps = record { script = refl; turns = record { taking = refl; removed = c.reserve.ensures.items } };
   control = out_of_memory c.args.self.now c.do_deed.new.graph c.do_deed.new.feeds c.do_deed.new.tasks.items c.args.deed c.args.items c.in-Err-OutOfMemory.field-0 c.in-Err-OutOfMemory.field-0-is
       c.in-Err-OutOfMemory.ensures.failed;
 }

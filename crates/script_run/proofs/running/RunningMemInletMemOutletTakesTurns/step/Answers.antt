@@ -12,7 +12,7 @@ returns-in-Ok-clause-stepped g c = record {
       c.in-Ok.ensures.stepped;
   moved_is = c.has_moved.ensures;
   control = record { graph = refl; feeds = refl; commands = refl; entries = refl };
-  keeps = record { script = refl; taking = refl };
+  keeps = record { script = refl; turns = record { taking = refl; removed = refl } };
 }
 
 pub returns-in-Err-clause-failed : goal.returns-in-Err-clause-failed

@@ -28,5 +28,5 @@ returns-in-Ok-clause-tried g c = record {
   )
       c.in-Ok.ensures.goes;
   control = record { graph = refl; feeds = refl; commands = refl; entries = refl };
-  keeps = record { script = refl; taking = refl };
+  keeps = record { script = refl; turns = record { taking = refl; removed = refl } };
 }
