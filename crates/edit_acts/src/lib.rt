@@ -13,10 +13,10 @@ pub mod scripts;
 pub mod undoing;
 pub mod unlinking;
 
-pub use doing::do_deed;
+pub use doing::{Outcome, do_deed};
 pub use ending::end;
 pub use linking::{LinkRoom, link, room_to_link};
 pub use relinking::relink;
-pub use removing::remove;
+pub use removing::{TakenOut, is_free, remove};
 pub use undoing::{UndoRoom, room_to_undo, undo};
 pub use unlinking::{unlink, unlink_eos};

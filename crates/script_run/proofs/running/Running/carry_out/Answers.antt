@@ -1,6 +1,7 @@
-use Rattle.std.proofs.Common.{refl, ap, ◌∙◌}
+use Rattle.std.proofs.Common.{◌++◌, ◌∙◌, ◌∷◌, List, [], ap, refl}
+use Rattle.net_task.specs.declared.task.Task.{Task}
 use Rattle.script_run.proofs.Acting.{due, out_of_memory, ready_behind, short}
-use Rattle.script_run.proofs.Aside.{none_aside, one_aside}
+use Rattle.script_run.proofs.Aside.{none_aside, not_done, one_aside}
 use Rattle.script_run.proofs.running.Running.carry_out.Goals as goal
 
 pub returns-in-Ok-Done-clause-ready : goal.returns-in-Ok-Done-clause-ready
@@ -8,7 +9,7 @@ returns-in-Ok-Done-clause-ready g c = ready_behind c.args.self.now c.enter.new.s
 
 pub returns-in-Ok-Done-clause-aside : goal.returns-in-Ok-Done-clause-aside
 returns-in-Ok-Done-clause-aside g c =
-    none_aside c.args.self.now c.enter.new.self c.do_deed.new.tasks.items c.args.deed c.in-Ok-Done.ensures.taken
+    none_aside c.args.self.now c.enter.new.self c.do_deed.new.tasks.items c.args.deed c.in-Ok-Done.field-0 c.in-Ok-Done.field-0-is c.in-Ok-Done.ensures.taken
     (record { taking = c.enter.ensures.keeps.turns.taking; removed = c.enter.ensures.keeps.turns.removed ∙ c.reserve.ensures.items })
 
 pub returns-in-Ok-TakenOut-clause-ready : goal.returns-in-Ok-TakenOut-clause-ready
@@ -18,9 +19,10 @@ returns-in-Ok-TakenOut-clause-ready g c =
 
 pub returns-in-Ok-TakenOut-clause-aside : goal.returns-in-Ok-TakenOut-clause-aside
 returns-in-Ok-TakenOut-clause-aside g c =
-    one_aside c.args.self.now c.enter-in-Ok-TakenOut.new.self c.do_deed.new.tasks.items c.args.deed c.in-Ok-TakenOut.taken c.in-Ok-TakenOut.ensures.taken
+    one_aside c.args.self.now c.enter-in-Ok-TakenOut.new.self c.do_deed.new.tasks.items c.args.deed c.in-Ok-TakenOut.field-0 c.in-Ok-TakenOut.taken c.in-Ok-TakenOut.field-0-is c.in-Ok-TakenOut.ensures.taken
     (ap (λ ts. ts.items) c.enter-in-Ok-TakenOut.ensures.tasks ∙ ap (λ ts. ts.items) c.set_aside.ensures.tasks)
-    (c.enter-in-Ok-TakenOut.ensures.keeps.turns.removed ∙ c.set_aside.ensures.removed)
+    (c.enter-in-Ok-TakenOut.ensures.keeps.turns.removed ∙ c.set_aside.ensures.removed
+    ∙ ap (λ (ts : List (Task _ _ _ _ _ _ _ _ _)). ts ++ c.in-Ok-TakenOut.taken.task ∷ []) c.reserve.ensures.items)
     (c.enter-in-Ok-TakenOut.ensures.keeps.turns.taking ∙ c.set_aside.ensures.taking)
 
 pub returns-in-Ok-Undone-clause-ready : goal.returns-in-Ok-Undone-clause-ready
@@ -28,7 +30,8 @@ returns-in-Ok-Undone-clause-ready g c = c.do_deed.ensures.ready _
 
 pub returns-in-Ok-Undone-clause-failed : goal.returns-in-Ok-Undone-clause-failed
 returns-in-Ok-Undone-clause-failed g c = λ edited m command has to_do can.
-    absurd (c.in-Ok-Undone.ensures.done edited m _ (due c.args.self.now edited m command c.args.deed c.args.items c.args.places has to_do can)).0
+    not_done c.in-Ok-Undone.field-0 c.in-Ok-Undone.field-0-is
+    (c.in-Ok-Undone.ensures.done edited m _ (due c.args.self.now edited m command c.args.deed c.args.items c.args.places has to_do can)).0
 
 pub returns-in-Err-OutOfMemory-clause-ready : goal.returns-in-Err-OutOfMemory-clause-ready
 returns-in-Err-OutOfMemory-clause-ready g c = c.do_deed.ensures.ready _
