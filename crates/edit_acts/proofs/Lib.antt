@@ -45,6 +45,3 @@ mod Passed
 mod Entered
 mod Turning
 pub mod Due
-mod RowsMore
-mod Laned
-mod Carrying
