@@ -1,5 +1,5 @@
 -- A pad that is to be linked elsewhere does not lead to the element of the sink pad already.
-use Rattle.std.proofs.Common.{◌≡◌, ◌<◌, ℕ, true, List, Option, length, sym, ap, ◌∙◌, subst, arith}
+use Rattle.std.proofs.Common.{◌≡◌, ◌<◌, ℕ, Bool, true, false, List, Option, length, sym, ap, ◌∙◌, subst, arith}
 use Rattle.std.specs.Global.{Vec}
 use Rattle.std.specs.Prelude.{slice_get}
 use Rattle.lane_core.specs.Lane.{Lane}
@@ -27,16 +27,17 @@ use Rattle.edit_core.specs.declared.feeds.Feeds.{Feeds}
 use Rattle.edit_core.proofs.Standing.{few_sinks}
 use Rattle.edit_core.proofs.Ways.{at_port}
 use Rattle.edit_model.specs.Names.{source_when}
+use Rattle.edit_model.specs.Refused.{has_lanes}
 use Rattle.edit_acts.specs.Relinked.{IsToRelink}
 use Rattle.edit_acts.specs.Undoing.{HasRoomToUndo, SplitsNot}
 use Rattle.edit_acts.specs.declared.undoing.UndoRoom.{UndoRoom}
 use Rattle.edit_acts.specs.declared.undoing.UndoRoom.TheVariants.{Whole, Split}
-use Rattle.edit_acts.proofs.Carried.{may}
+use Rattle.edit_acts.proofs.Carried.{pads}
 use Rattle.edit_acts.proofs.Relinks.{deed_linkable}
 use Rattle.edit_acts.proofs.Undone.{first, linked, pad_is_wire}
 
 module _ {S E I O L : Type 0} {s : sources.Ghosts S} {e : elements.Ghosts E} {i : inlets.Ghosts I L O} {o : outlets.Ghosts O L} (graph : EditedGraph) (feeds : Feeds) (tasks : List (Task S E I O L s e i o))
-    (g : Edited) (m : Moment) (tells : Option (List Lane)) (source sink : PadPlace) (items : ℕ) (w : IsToRelink graph feeds tasks g m tells source sink items) where
+    (g : Edited) (m : Moment) (tells : Option (List Lane)) (source sink : PadPlace) (items : ℕ) {fed : Bool} (w : IsToRelink graph feeds tasks g m tells source sink items fed) where
   abbrev now : IsCurrent graph feeds tasks g m tells
   now = w.controlled.current
 
@@ -46,15 +47,15 @@ module _ {S E I O L : Type 0} {s : sources.Ghosts S} {e : elements.Ghosts E} {i 
   pub linkable : IsLinkable g m.history source sink
   linkable = (deed_linkable g m.history (source_when g w.when) w.act source sink now.stand w.to_do.deed_is).0
 
-  within : sink.pad < length (g.spans sink.element)
+  pub within : sink.pad < length (g.spans sink.element)
   within = (deed_linkable g m.history (source_when g w.when) w.act source sink now.stand w.to_do.deed_is).1
 
   pub low : source.pad < most_pads
-  low = (may graph feeds tasks g m tells source sink items w).low
+  low = (pads graph feeds tasks g m tells source sink items w).low
 
-  -- the element has one sink pad
-  first_sink : sink.pad ≡ 0
-  first_sink = let few = few_sinks (slice_get g.made sink.element) w.bare in let counted = now.stand.counted sink.element in let there = within in omega (arith, few, counted, there)
+  -- an element that no lanes feed has one sink pad
+  first_sink : has_lanes g sink.element ≡ false → sink.pad ≡ 0
+  first_sink bare = let few = few_sinks (slice_get g.made sink.element) bare in let counted = now.stand.counted sink.element in let there = within in omega (arith, few, counted, there)
 
   module _ (pad : ℕ) (number : pad ≡ pad_id source) where
     not_behind : (place : ℕ) (to : Inside) → HasInside tasks pad place to → to.element ≡ sink.element → ⊥
@@ -66,7 +67,8 @@ module _ {S E I O L : Type 0} {s : sources.Ghosts S} {e : elements.Ghosts E} {i 
         at_port (pad_id source) to.pad (g.spans to.element)
         (subst (λ (n : ℕ). LinksAt n to.pad (g.spans to.element)) (h.leads.number_is ∙ number) (subst (LinksAt (wire_of o h.leads.pad).number to.pad) (run.sinks to.element inner.0) leads.here)) in
         let before = (links_stay_exact.exact m.history g now.kept now.stand (sink_at to.element to.pad)).back source low here in
-        let place_is : sink_at to.element to.pad ≡ sink = ap (λ (n : ℕ). sink_at n to.pad) same ∙ ap (λ (n : ℕ). sink_at sink.element n) (inner.2 ∙ sym first_sink) in
+        let bare : has_lanes g sink.element ≡ false = subst (λ (n : ℕ). has_lanes g n ≡ false) same inner.1 in
+        let place_is : sink_at to.element to.pad ≡ sink = ap (λ (n : ℕ). sink_at n to.pad) same ∙ ap (λ (n : ℕ). sink_at sink.element n) (inner.2 ∙ sym (first_sink bare)) in
         no_some (sym before ∙ ap (source_before g.links) place_is ∙ not_taken g sink linkable.free)
 
     -- so the task is not split at that element

@@ -32,7 +32,7 @@ use Rattle.net_edits.specs.declared.inside.EditFault.TheVariants as faults
 use Rattle.script_text.specs.declared.command.Act.{Act}
 use Rattle.script_text.specs.declared.command.When.TheVariants.{At, NowPad, Now}
 use Rattle.script_text.specs.declared.command.When.{When}
-use Rattle.edit_model.specs.Edited.{Edited, is_there, unlinked_at}
+use Rattle.edit_model.specs.Edited.{Edited, is_there, relinked_at, unlinked_at}
 use Rattle.edit_model.specs.Names.{pad_named, source_when}
 use Rattle.edit_core.specs.Deciding.{IsDeed}
 use Rattle.edit_core.specs.Judging.{owed_then}
@@ -45,7 +45,7 @@ use Rattle.edit_acts.specs.Ending.{EndsAt}
 use Rattle.edit_acts.specs.Removed.{IsRemoved, IsToRemove}
 use Rattle.edit_acts.specs.declared.removing.TakenOut.{TakenOut}
 use Rattle.edit_acts.specs.Unlinked.{EndFails, IsEnded}
-use Rattle.edit_acts.specs.Relinked.{IsRelinked, IsToRelink, RelinkFails, relinked}
+use Rattle.edit_acts.specs.Relinked.{IsRelinked, IsToRelink, RelinkFails, relinked, relinked_over}
 use Rattle.edit_acts.specs.Deeds.{DeedFails, IsDone, IsDue, TakesNone, WasDone, outcome_of}
 use Rattle.edit_acts.specs.declared.doing.Outcome.{Outcome}
 use Rattle.edit_acts.proofs.Gone.{was_there}
@@ -85,7 +85,10 @@ module _ {S E I O L : Type 0} {s : sources.Ghosts S} {e : elements.Ghosts E} {i 
   size : IsControlled graph feeds tasks g m tells → length (made graph) ≡ length g.made
   size w = ap (λ (made : List Made). length made) w.current.edited.elements
 
-  module _ (source sink : PadPlace) (items : ℕ) (w : IsToRelink graph feeds tasks g m tells source sink items) where
+  module _ (source sink : PadPlace) (items : ℕ) {fed : Bool} (w : IsToRelink graph feeds tasks g m tells source sink items fed) where
+    pub source_made : source.element < length (made graph)
+    source_made = let same = size w.controlled in let within = (ends_low g m.history w.when w.act source sink w.to_do.deed_is).0 in omega (arith, same, within)
+
     pub no_source : (count : ℕ) → count ≡ length (made graph) → count ≤ source.element → ⊥
     no_source count is past =
         let same = size w.controlled in let within = (ends_low g m.history w.when w.act source sink w.to_do.deed_is).0 in omega (arith, is, past, same, within)
@@ -128,8 +131,8 @@ module _ {S E I O L : Type 0} {s : sources.Ghosts S} {e : elements.Ghosts E} {i 
   -- ---- a pad is linked elsewhere
 
   module _ (w : IsDue graph feeds tasks g m tells (Relink source sink) items) where
-    pub to_relink : IsToRelink graph feeds tasks g m tells source sink items
-    to_relink = record { controlled = w.controlled; when = w.command.when; act = w.command.act; places = w.places; to_do = w.to_do; awake = w.can.0; bare = w.can.1 }
+    pub to_relink : IsToRelink graph feeds tasks g m tells source sink items false
+    to_relink = record { controlled = w.controlled; when = w.command.when; act = w.command.act; places = w.places; to_do = w.to_do; awake = w.can.0; lanes = w.can.1 }
 
     pub relink_done : (graph' : EditedGraph) (feeds' : Feeds) (tasks' : List (Task S E I O L s e i o)) → IsRelinked graph' feeds' tasks' g m tells source sink items
         → IsDone graph' feeds' tasks' g m tells (Relink source sink) items
@@ -144,6 +147,10 @@ module _ {S E I O L : Type 0} {s : sources.Ghosts S} {e : elements.Ghosts E} {i 
       );
       controlled = r.controlled;
     }
+
+  pub relink_over_done : (graph' : EditedGraph) (feeds' : Feeds) (tasks' : List (Task S E I O L s e i o)) → IsControlled graph' feeds' tasks' (relinked_at source items sink g) (relinked_over source sink m) tells
+      → IsDone graph' feeds' tasks' g m tells (Relink source sink) items
+  relink_over_done graph' feeds' tasks' controlled = record { now = relinked_over source sink m; crossed = refl; owner = refl; owed = λ p there. (there, prefix_refl (m.history p ++ m.waits p)); controlled = controlled }
 
   -- ---- a link is undone
 
@@ -216,7 +223,7 @@ module _ {S E I O L : Type 0} {s : sources.Ghosts S} {e : elements.Ghosts E} {i 
   plain_told true done is told g m tells w = absurd cc
 
   pub relink_told : (r : Result Bool EditFault)
-      → IfOk r (λ done. (g : Edited) (m : Moment) (tells : Option (List Lane)) → IsToRelink graph feeds tasks g m tells source sink items → (done ≡ true) × IsRelinked graph' feeds' tasks' g m tells source sink items)
+      → IfOk r (λ done. (g : Edited) (m : Moment) (tells : Option (List Lane)) → IsToRelink graph feeds tasks g m tells source sink items false → (done ≡ true) × IsRelinked graph' feeds' tasks' g m tells source sink items)
       → IfOk r (λ done. (g : Edited) (m : Moment) (tells : Option (List Lane)) → IsDue graph feeds tasks g m tells (Relink source sink) items → (done ≡ true) × IsDone graph' feeds' tasks' g m tells (Relink source sink) items)
   relink_told (Ok done) told = λ g m tells w.
       let ran = told g m tells (to_relink graph feeds tasks g m tells source sink items w) in

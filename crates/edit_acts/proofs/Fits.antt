@@ -24,17 +24,17 @@ within_size IsWithin.end = omega arith
 within_size (IsWithin.here q w) = let low = within_size w in omega (arith, low)
 within_size (IsWithin.past w) = let low = within_size w in omega (arith, low)
 
-none_some : {A : Type 0} (x : A) → None ≡ Some x → ⊥
+pub none_some : {A : Type 0} (x : A) → None ≡ Some x → ⊥
 none_some x same = cc
 
 -- a pad of some of the elements of a task is one of all
 module _ {S E I O L : Type 0} {s : sources.Ghosts S} {e : elements.Ghosts E} (o : outlets.Ghosts O L) {Q : Part E O e → Type 0} (head head' : Head S I O s) {parts some : List (Part E O e)} (w : IsWithin Q parts some) where
+  pub all_wires : ((wire : Wire) → head_wire (head_frame o head') ≡ Some wire → head_wire (head_frame o head) ≡ Some wire) → (wire : Wire) → IsWire (frame_in o head' some) wire → IsWire (frame_in o head parts) wire
+  all_wires heads wire (IsWire.of_part j k x) = IsWire.of_part (place_in w j) k (wire_within o head head' w j k wire x)
+  all_wires heads wire (IsWire.of_head is) = IsWire.of_head (heads wire is)
+
   pad_within : ((wire : Wire) → head_wire (head_frame o head') ≡ Some wire → head_wire (head_frame o head) ≡ Some wire) → (number : ℕ) → HasPad (frame_in o head' some) number → HasPad (frame_in o head parts) number
-  pad_within heads number has = record { wire = has.wire; is = go has.is; number_is = has.number_is }
-    where
-      go : IsWire (frame_in o head' some) has.wire → IsWire (frame_in o head parts) has.wire
-      go (IsWire.of_part j k x) = IsWire.of_part (place_in w j) k (wire_within o head head' w j k has.wire x)
-      go (IsWire.of_head is) = IsWire.of_head (heads has.wire is)
+  pad_within heads number has = record { wire = has.wire; is = all_wires heads has.wire has.is; number_is = has.number_is }
 
 module _ {S E I O L : Type 0} {s : sources.Ghosts S} {e : elements.Ghosts E} {i : inlets.Ghosts I L O} {o : outlets.Ghosts O L} where
   -- the head of a task with so many elements or more feeds the element

@@ -1,5 +1,5 @@
 -- In a run in which pads may be linked over a lane, nothing speaks against it.
-use Rattle.std.proofs.Common.{◌≡◌, ◌∙◌, ℕ, suc, List, Option, length, refl, sym, ap, subst, arith}
+use Rattle.std.proofs.Common.{◌≡◌, ◌<◌, ◌∙◌, ℕ, suc, true, List, Option, length, refl, sym, ap, subst, arith}
 use Rattle.std.proofs.lemmas.List.{length-map}
 use Rattle.flow_model.specs.Call.{Call}
 use Rattle.flow_model.specs.Link.{Span, input_of}
@@ -37,10 +37,17 @@ use Rattle.graph_core.specs.GraphPlan.{pad_id}
 use Rattle.graph_core.specs.Links.{ways}
 use Rattle.graph_order.specs.Links.{Way}
 use Rattle.graph_pads.specs.declared.pad.PadPlace.{PadPlace}
-use Rattle.edit_model.specs.Edited.{Edited}
+use Rattle.edit_model.specs.Edited.{Edited, is_there}
+use Rattle.edit_model.specs.Refused.{has_lanes}
 use Rattle.edit_core.specs.Ways.{IsRun}
 use Rattle.edit_acts.specs.Over.{CanLinkOver, IsAhead, LeadsTo, MayLinkOver}
 use Rattle.edit_acts.proofs.Loose.{element_way, pad_nowhere, sink_free}
+
+-- a sink pad of an element that is there and that lanes feed
+pub record IsFedSink (g : Edited) (sink : PadPlace) : Type 0 where
+  pub there : is_there g sink.element ≡ true
+  pub within : sink.pad < length (g.spans sink.element)
+  pub lanes : has_lanes g sink.element ≡ true
 
 split_size : {ts hs ws : List (List Call)} → AreSplit ts hs ws → length hs ≡ length ws
 split_size none = refl
@@ -75,8 +82,7 @@ module _ {S E I O L : Type 0} {s : sources.Ghosts S} {e : elements.Ghosts E} {i 
           let number : head.number ≡ n = ap number_in (ap (λ (h : Head S I O s). head_frame o h) (sym at) ∙ is) in
           (head.pad, IsPadOf.of_source head at refl, sym (here.mine p (own ∙ sym number)))
 
-  module _ (g : Edited) (m : Moment) (tasks : List (Task S E I O L s e i o)) (tells : Option (List Lane)) (source sink : PadPlace) (to : NewLink I O) (run : IsRun g m tasks tells) (may : MayLinkOver g source sink) (ahead : IsAhead g m source sink)
-      (leads : LeadsTo to sink) where
+  module _ (g : Edited) (m : Moment) (tasks : List (Task S E I O L s e i o)) (tells : Option (List Lane)) (source sink : PadPlace) (run : IsRun g m tasks tells) (fed : IsFedSink g sink) (ahead : IsAhead g m source sink) where
     -- the task of the source pad
     owns : (k : ℕ) × Owns tasks k source.element
     owns = run.are.owned source.element ahead.there ahead.awake
@@ -84,18 +90,15 @@ module _ {S E I O L : Type 0} {s : sources.Ghosts S} {e : elements.Ghosts E} {i 
     pad_there : (q : Pad O) × IsPadOf owns.1.task.head owns.1.task.parts.items q × (number_of q ≡ pad_id source)
     pad_there = pad_in m owns.1.task source.element (pad_id source) (run.net.tied owns.0 owns.1.task owns.1.at) ahead.owned owns.1.has
 
-    free : IsFree sink.pad (m.plan.sinks sink.element)
-    free = subst (λ (sss : List (List Span)). IsFree sink.pad sss) (sym (run.sinks sink.element may.sink_there)) (sink_free g m tasks tells run sink may.within may.free)
-
     -- the row of the sink pad
     row_there : (k : ℕ) × TaskFeeds tasks sink.element sink.pad k
     row_there =
-        let z = run.are.fed sink.element may.sink_there may.fed in
+        let z = run.are.fed sink.element fed.there fed.lanes in
         let many : length (m.held z.1.number) ≡ length z.1.rows.items = run.net.each z.0 z.1 z.2 in
         let held : length (m.held sink.element) ≡ length (m.plan.sinks sink.element) = split_size (run.net.cells sink.element).input ∙ length-map (m.plan.sinks sink.element) (input_of m.history) in
-        let size : length (m.plan.sinks sink.element) ≡ length (g.spans sink.element) = ap (λ (sss : List (List Span)). length sss) (run.sinks sink.element may.sink_there) in
+        let size : length (m.plan.sinks sink.element) ≡ length (g.spans sink.element) = ap (λ (sss : List (List Span)). length sss) (run.sinks sink.element fed.there) in
         let same : length (m.held z.1.number) ≡ length (m.held sink.element) = ap (λ (n : ℕ). length (m.held n)) z.3 in
-        let low = may.within in
+        let low = fed.within in
         let row = found_at z.1.rows.items sink.pad (omega (arith, many, held, size, same, low)) in
         (z.0, (row.0, record { head = z.1; fed = z.2; number = z.3; at = row.1 }))
 
@@ -111,22 +114,36 @@ module _ {S E I O L : Type 0} {s : sources.Ghosts S} {e : elements.Ghosts E} {i 
             subst (λ (n : ℕ). HasElement (frame_of feeds.1.fed.task) n) ahead.owned (subst (λ (t : Task S E I O L s e i o). HasElement (frame_of t) (m.plan.owner (pad_id source))) same own.has) in
             ahead.forward (subst (λ (n : ℕ). Way (ways g.ever) n source.element) feeds.1.number (element_way g m tasks tells run k feeds.1.head feeds.1.fed source.element element))
 
-    joins : CannotJoin tasks (pad_id source) sink.element sink.pad → ⊥
+    pub joins : CannotJoin tasks (pad_id source) sink.element sink.pad → ⊥
     joins (CannotJoin.no_pad lacks) = has_not owns.1.task.head owns.1.task.parts.items (pad_id source) (has_pad_of owns.1.task.head owns.1.task.parts.items pad_there.0 (pad_id source) pad_there.1 pad_there.2) (lacks owns.0 owns.1.task owns.1.at)
     joins (CannotJoin.no_row lacks) = let z = row_there in lacks z.0 z.1.0 z.1.1
     joins (CannotJoin.one_task k has feeds) = never_both k has feeds
 
+  module _ (g : Edited) (m : Moment) (tasks : List (Task S E I O L s e i o)) (tells : Option (List Lane)) (source sink : PadPlace) (to : NewLink I O) (run : IsRun g m tasks tells) (may : MayLinkOver g source sink) (ahead : IsAhead g m source sink)
+      (leads : LeadsTo to sink) where
+    abbrev fed : IsFedSink g sink
+    fed = record { there = may.sink_there; within = may.within; lanes = may.fed }
+
+    abbrev own : (k : ℕ) × Owns tasks k source.element
+    own = owns g m tasks tells source sink run fed ahead
+
+    pad_found : (q : Pad O) × IsPadOf own.1.task.head own.1.task.parts.items q × (number_of q ≡ pad_id source)
+    pad_found = pad_there g m tasks tells source sink run fed ahead
+
+    free : IsFree sink.pad (m.plan.sinks sink.element)
+    free = subst (λ (sss : List (List Span)). IsFree sink.pad sss) (sym (run.sinks sink.element may.sink_there)) (sink_free g m tasks tells run sink may.within may.free)
+
     nowhere : LeadsNowhere m.plan (pad_id source)
     nowhere =
-        pad_nowhere g m tasks tells run source may.low may.loose owns.0
-        (record { task = owns.1.task; at = owns.1.at; has = record { wire = wire_of o pad_there.0; is = pad_is_wire o owns.1.task.head owns.1.task.parts.items pad_there.0 pad_there.1; number_is = pad_there.2 } })
+        pad_nowhere g m tasks tells run source may.low may.loose own.0
+        (record { task = own.1.task; at = own.1.at; has = record { wire = wire_of o pad_found.0; is = pad_is_wire o own.1.task.head own.1.task.parts.items pad_found.0 pad_found.1; number_is = pad_found.2 } })
 
     to_free : IsFree to.pad (m.plan.sinks to.element)
     to_free = subst (λ (k : ℕ). IsFree k (m.plan.sinks to.element)) (sym leads.pad) (subst (λ (n : ℕ). IsFree sink.pad (m.plan.sinks n)) (sym leads.element) free)
 
     can_link : CanLinkOver m tasks (pad_id source) to
     can_link = record {
-      joins = λ why. joins (subst (λ (n : ℕ). CannotJoin tasks (pad_id source) n sink.pad) leads.element (subst (λ (k : ℕ). CannotJoin tasks (pad_id source) to.element k) leads.pad why));
+      joins = λ why. joins g m tasks tells source sink run fed ahead (subst (λ (n : ℕ). CannotJoin tasks (pad_id source) n sink.pad) leads.element (subst (λ (k : ℕ). CannotJoin tasks (pad_id source) to.element k) leads.pad why));
       nowhere = nowhere;
       free = to_free;
       none_sends = λ k p place from x. free_alone p to.pad (m.plan.sinks to.element) to_free (sends_leads m tasks tells run.net k p place from to.element to.pad x).here;

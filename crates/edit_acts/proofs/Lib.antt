@@ -45,3 +45,6 @@ mod Passed
 mod Entered
 mod Turning
 pub mod Due
+mod RowsMore
+mod Laned
+mod Carrying

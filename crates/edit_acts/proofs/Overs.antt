@@ -32,6 +32,7 @@ use Rattle.graph_core.specs.Elements.{has}
 use Rattle.graph_core.specs.GraphPlan.{owner_of, pad_id}
 use Rattle.graph_pads.specs.declared.pad.PadPlace.{PadPlace}
 use Rattle.task_edits.specs.declared.leading.NewLane.{NewLane}
+use Rattle.task_edits.specs.declared.openings.Opening.{Opening}
 use Rattle.edit_model.specs.Edited.{Edited, is_there, link_between, linked_at, touches}
 use Rattle.edit_model.specs.Plans.{is_asleep}
 use Rattle.edit_model.specs.Refused.{has_lanes}
@@ -49,12 +50,12 @@ or_none true = refl
 or_none false = refl
 
 module _ {S E I O L : Type 0} {s : sources.Ghosts S} {e : elements.Ghosts E} {i : inlets.Ghosts I L O} {o : outlets.Ghosts O L} (g : Edited) (m : Moment) (tasks tasks' : List (Task S E I O L s e i o)) (tells : Option (List Lane)) (source sink : PadPlace) (to : NewLink I O)
-    (run : IsRun g m tasks tells) (may : MayLinkOver g source sink) (leads : LeadsTo to sink) (l : IsLinkedOver tasks tasks' (pad_id source) to) where
+    {opening : Opening} (run : IsRun g m tasks tells) (may : MayLinkOver g source sink) (leads : LeadsTo to sink) (l : IsLinkedOver tasks tasks' (pad_id source) to opening) where
   abbrev more : List (Feeding I)
-  more = opened_by l.opening.events to.lane to.inlet
+  more = opened_by opening.events to.lane to.inlet
 
   abbrev lane : NewLane O
-  lane = lane_from l.opening.from to
+  lane = lane_from opening.from to
 
   -- the pad that leads over the lane, as it was and as it is
   abbrev was : Wire
@@ -75,7 +76,7 @@ module _ {S E I O L : Type 0} {s : sources.Ghosts S} {e : elements.Ghosts E} {i 
   turned : Rewired before now was is
   turned = rewired o l.led.was.head l.led.is.head l.led.was.parts.items l.led.is.parts.items (pads tasks tasks' (pad_id source) to l).0 (pads tasks tasks' (pad_id source) to l).1 (pads tasks tasks' (pad_id source) to l).4
 
-  leads_over : is.leads ≡ over to.lane to.element to.pad l.opening.from
+  leads_over : is.leads ≡ over to.lane to.element to.pad opening.from
   leads_over = ap (λ (b : Behind O). goes b) (pads tasks tasks' (pad_id source) to l).3.0.leads
 
   -- it led to no element of its task
@@ -141,31 +142,31 @@ module _ {S E I O L : Type 0} {s : sources.Ghosts S} {e : elements.Ghosts E} {i 
 
   -- a pad was one, or is the one that leads over the lane
   wire_found : (k : ℕ) (task : Task S E I O L s e i o) (wire : Wire) → slice_get tasks' k ≡ Some task → IsWire (frame_of task) wire
-      → ((x : ℕ) × (t : Task S E I O L s e i o) × (slice_get tasks x ≡ Some t) × IsWire (frame_of t) wire) ⊎ (wire.leads ≡ over to.lane to.element to.pad l.opening.from)
+      → ((x : ℕ) × (t : Task S E I O L s e i o) × (slice_get tasks x ≡ Some t) × IsWire (frame_of t) wire) ⊎ (wire.leads ≡ over to.lane to.element to.pad opening.from)
   wire_found k task wire at own = go (found_at k task at)
     where
-      by : IsWire before wire ⊎ (wire ≡ is) → ((x : ℕ) × (t : Task S E I O L s e i o) × (slice_get tasks x ≡ Some t) × IsWire (frame_of t) wire) ⊎ (wire.leads ≡ over to.lane to.element to.pad l.opening.from)
+      by : IsWire before wire ⊎ (wire ≡ is) → ((x : ℕ) × (t : Task S E I O L s e i o) × (slice_get tasks x ≡ Some t) × IsWire (frame_of t) wire) ⊎ (wire.leads ≡ over to.lane to.element to.pad opening.from)
       by (inl one) = inl (l.sender, l.led.was, here, one)
       by (inr same) = inr (ap (λ (w : Wire). w.leads) same ∙ leads_over)
 
-      go : IsFound k task → ((x : ℕ) × (t : Task S E I O L s e i o) × (slice_get tasks x ≡ Some t) × IsWire (frame_of t) wire) ⊎ (wire.leads ≡ over to.lane to.element to.pad l.opening.from)
+      go : IsFound k task → ((x : ℕ) × (t : Task S E I O L s e i o) × (slice_get tasks x ≡ Some t) × IsWire (frame_of t) wire) ⊎ (wire.leads ≡ over to.lane to.element to.pad opening.from)
       go (inl same) = by (rewired_back before now was is turned wire (subst (λ (t : Task S E I O L s e i o). IsWire (frame_of t) wire) same own))
       go (inr z) = inl (k, z.0, z.1, subst (λ (f : TaskFrame). IsWire f wire) (sym z.2) own)
 
   inner : (k : ℕ) (task : Task S E I O L s e i o) (wire : Wire) (n port : ℕ) → slice_get tasks' k ≡ Some task → IsWire (frame_of task) wire → wire.leads ≡ inside n port → (is_there g n ≡ true) × (has_lanes g n ≡ false) × (port ≡ 0)
   inner k task wire n port at own goes_in = go (wire_found k task wire at own)
     where
-      go : ((x : ℕ) × (t : Task S E I O L s e i o) × (slice_get tasks x ≡ Some t) × IsWire (frame_of t) wire) ⊎ (wire.leads ≡ over to.lane to.element to.pad l.opening.from) → (is_there g n ≡ true) × (has_lanes g n ≡ false) × (port ≡ 0)
+      go : ((x : ℕ) × (t : Task S E I O L s e i o) × (slice_get tasks x ≡ Some t) × IsWire (frame_of t) wire) ⊎ (wire.leads ≡ over to.lane to.element to.pad opening.from) → (is_there g n ≡ true) × (has_lanes g n ≡ false) × (port ≡ 0)
       go (inl z) = run.are.inner z.0 z.1 wire n port z.2 z.3 goes_in
-      go (inr new) = absurd (let clash : over to.lane to.element to.pad l.opening.from ≡ inside n port = sym new ∙ goes_in in cc)
+      go (inr new) = absurd (let clash : over to.lane to.element to.pad opening.from ≡ inside n port = sym new ∙ goes_in in cc)
 
   lanes : (k : ℕ) (task : Task S E I O L s e i o) (wire : Wire) (number n port from : ℕ) → slice_get tasks' k ≡ Some task → IsWire (frame_of task) wire → wire.leads ≡ over number n port from → (is_there g n ≡ true) × (has_lanes g n ≡ true)
   lanes k task wire number n port from at own goes_over = go (wire_found k task wire at own)
     where
-      go : ((x : ℕ) × (t : Task S E I O L s e i o) × (slice_get tasks x ≡ Some t) × IsWire (frame_of t) wire) ⊎ (wire.leads ≡ over to.lane to.element to.pad l.opening.from) → (is_there g n ≡ true) × (has_lanes g n ≡ true)
+      go : ((x : ℕ) × (t : Task S E I O L s e i o) × (slice_get tasks x ≡ Some t) × IsWire (frame_of t) wire) ⊎ (wire.leads ≡ over to.lane to.element to.pad opening.from) → (is_there g n ≡ true) × (has_lanes g n ≡ true)
       go (inl z) = run.are.lanes z.0 z.1 wire number n port from z.2 z.3 goes_over
       go (inr new) =
-          let same : over to.lane to.element to.pad l.opening.from ≡ over number n port from = sym new ∙ goes_over in
+          let same : over to.lane to.element to.pad opening.from ≡ over number n port from = sym new ∙ goes_over in
           let element : to.element ≡ n = cc in
           (subst (λ (k : ℕ). is_there g k ≡ true) (sym leads.element ∙ element) may.sink_there, subst (λ (k : ℕ). has_lanes g k ≡ true) (sym leads.element ∙ element) may.fed)
 
@@ -224,10 +225,10 @@ module _ {S E I O L : Type 0} {s : sources.Ghosts S} {e : elements.Ghosts E} {i 
     reached = reached;
   }
 
-pub linked_over_runs : {S E I O L : Type 0} {s : sources.Ghosts S} {e : elements.Ghosts E} {i : inlets.Ghosts I L O} {o : outlets.Ghosts O L} (g : Edited) (m : Moment) (tasks tasks' : List (Task S E I O L s e i o)) (tells : Option (List Lane)) (source sink : PadPlace) (to : NewLink I O)
-    → IsRun g m tasks tells → MayLinkOver g source sink → LeadsTo to sink → IsLinkedOver tasks tasks' (pad_id source) to → NetStands (linked_over (pad_id source) sink.element sink.pad m) tasks' tells
+pub linked_over_runs : {S E I O L : Type 0} {s : sources.Ghosts S} {e : elements.Ghosts E} {i : inlets.Ghosts I L O} {o : outlets.Ghosts O L} (g : Edited) (m : Moment) (tasks tasks' : List (Task S E I O L s e i o)) (tells : Option (List Lane)) (source sink : PadPlace) (to : NewLink I O) (opening : Opening)
+    → IsRun g m tasks tells → MayLinkOver g source sink → LeadsTo to sink → IsLinkedOver tasks tasks' (pad_id source) to opening → NetStands (linked_over (pad_id source) sink.element sink.pad m) tasks' tells
     → IsRun (linked_at source (length (m.history (pad_id source))) sink g) (linked_over (pad_id source) sink.element sink.pad m) tasks' tells
-linked_over_runs g m tasks tasks' tells source sink to run may leads l net = record {
+linked_over_runs g m tasks tasks' tells source sink to opening run may leads l net = record {
   net = net;
   are = tasks_of g m tasks tasks' tells source sink to run may leads l (length (m.history (pad_id source)));
   sinks = λ a there. ap (λ (sss : List (List Span)). if eqb a sink.element then push_span sink.pad (Linked (pad_id source) (length (m.history (pad_id source))) []) sss else sss) (run.sinks a there);

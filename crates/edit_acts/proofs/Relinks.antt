@@ -5,14 +5,16 @@ use Rattle.std.proofs.lemmas.List.{length-map}
 use Rattle.flow_model.specs.Item.{Item}
 use Rattle.gst_value.specs.declared.name.PadName.{PadName}
 use Rattle.net_model.specs.Edit.{undo}
-use Rattle.graph_core.specs.GraphPlan.{pad_id, sink_count}
-use Rattle.graph_pads.specs.Links.{is_same, sink_behind}
+use Rattle.net_model.specs.Moment.{Moment}
+use Rattle.graph_core.specs.GraphPlan.{most_pads, pad_id, sink_count}
+use Rattle.graph_core.specs.Links.{Leads}
+use Rattle.graph_pads.specs.Links.{is_same, sink_behind, source_before}
 use Rattle.graph_pads.specs.declared.pad.Direction.TheVariants.{Source, Sink}
 use Rattle.graph_pads.specs.declared.pad.PadLink.{PadLink}
 use Rattle.graph_pads.specs.declared.pad.PadPlace.{PadPlace}
 use Rattle.script_text.specs.declared.command.Act.{Act}
 use Rattle.script_text.specs.declared.command.When.{When}
-use Rattle.edit_model.specs.Edited.{Edited, unlinked_at, without}
+use Rattle.edit_model.specs.Edited.{Edited, is_there, unlinked_at, without}
 use Rattle.edit_model.specs.Growing.{LinksStand}
 use Rattle.edit_model.specs.Lawful.{IsLinkable}
 use Rattle.edit_model.specs.Names.{named_when, pad_named, source_when}
@@ -24,6 +26,7 @@ use Rattle.edit_core.specs.Deciding.{IsDeed}
 use Rattle.edit_core.specs.declared.deciding.Deed.TheVariants.{Relink}
 use Rattle.edit_core.proofs.Finding.{Named, named_there}
 use Rattle.edit_acts.specs.Linking.{MayLink}
+use Rattle.edit_acts.specs.Over.{IsAhead, MayLinkOver}
 
 -- a source pad has no link once it was undone
 none_behind : (source : PadPlace) (links : List PadLink) → sink_behind (without source links) source ≡ None
@@ -54,9 +57,21 @@ pub deed_linkable : (g : Edited) (h : ℕ → List Item) (p : Option PadPlace) (
     → IsLinkable g h source sink × (sink.pad < length (g.spans sink.element))
 deed_linkable g h p _ _ _ stand (IsDeed.relinks name source sink told named linkable unfed) = (linkable, sink_within g name sink stand named)
 
-pub may_link : (g : Edited) (h : ℕ → List Item) (items : ℕ) (when : When) (act : Act) (source sink : PadPlace) → LinksStand g → IsDeed g h (source_when g when) act (Relink source sink)
-    → is_asleep g source.element ≡ false → has_lanes g sink.element ≡ false → MayLink (unlinked_at source items false g) source sink
-may_link g h items when _ _ _ stand (IsDeed.relinks name source sink told named linkable unfed) awake bare =
+-- A source pad without a link, of an element that is awake, and a sink pad without one are there. No links that ever were made lead from the second
+-- element to the first.
+pub record ArePads (g : Edited) (source sink : PadPlace) : Type 0 where
+  pub source_there : is_there g source.element ≡ true
+  pub awake : is_asleep g source.element ≡ false
+  pub low : source.pad < most_pads
+  pub loose : sink_behind g.links source ≡ None
+  pub sink_there : is_there g sink.element ≡ true
+  pub within : sink.pad < length (g.spans sink.element)
+  pub free : source_before g.links sink ≡ None
+  pub forward : ¬ Leads g.ever sink.element source.element
+
+pub are_pads : (g : Edited) (h : ℕ → List Item) (items : ℕ) (when : When) (act : Act) (source sink : PadPlace) → LinksStand g → IsDeed g h (source_when g when) act (Relink source sink)
+    → is_asleep g source.element ≡ false → ArePads (unlinked_at source items false g) source sink
+are_pads g h items when _ _ _ stand (IsDeed.relinks name source sink told named linkable unfed) awake =
     let own : Named g source = source_named g (named_when when) source told in
     record {
       source_there = named_there Source g own.0 source own.1;
@@ -66,6 +81,25 @@ may_link g h items when _ _ _ stand (IsDeed.relinks name source sink told named 
       sink_there = named_there Sink g name sink named;
       within = subst (λ (n : ℕ). sink.pad < n) (sym (length-map (g.spans sink.element) (map (undo (pad_id source) items false)))) (sink_within g name sink stand named);
       free = none_before source sink g.links (not_taken g sink linkable.free);
-      bare = bare;
       forward = linkable.forward;
     }
+
+-- So they may be linked, inside of a task or over a lane.
+pub may_link : (g : Edited) (source sink : PadPlace) → ArePads g source sink → has_lanes g sink.element ≡ false → MayLink g source sink
+may_link g source sink pads bare = record {
+  source_there = pads.source_there;
+  awake = pads.awake;
+  low = pads.low;
+  loose = pads.loose;
+  sink_there = pads.sink_there;
+  within = pads.within;
+  free = pads.free;
+  bare = bare;
+  forward = pads.forward;
+}
+
+pub may_link_over : (g : Edited) (source sink : PadPlace) → ArePads g source sink → has_lanes g sink.element ≡ true → MayLinkOver g source sink
+may_link_over g source sink pads fed = record { low = pads.low; loose = pads.loose; sink_there = pads.sink_there; within = pads.within; free = pads.free; fed = fed }
+
+pub is_ahead : (g : Edited) (m : Moment) (source sink : PadPlace) → ArePads g source sink → m.plan.owner (pad_id source) ≡ source.element → IsAhead g m source sink
+is_ahead g m source sink pads owned = record { there = pads.source_there; awake = pads.awake; owned = owned; forward = pads.forward }

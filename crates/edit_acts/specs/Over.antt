@@ -10,6 +10,7 @@ use Rattle.net_model.specs.declared.element.TaskElement as elements
 use Rattle.net_model.specs.declared.source.TaskSource as sources
 use Rattle.net_task.specs.declared.task.Task.{Task}
 use Rattle.net_turns.specs.Net.{NetStands}
+use Rattle.task_edits.specs.declared.openings.Opening.{Opening}
 use Rattle.net_edits.specs.Over.{CannotJoin, IsLinkedOver, NoneSends}
 use Rattle.net_edits.specs.declared.over.NewLink.{NewLink}
 use Rattle.graph_core.specs.GraphPlan.{most_pads, pad_id}
@@ -56,7 +57,7 @@ RunsLinkOver {S} {E} {I} {O} {L} s e i o = (g : Edited) (m : Moment) (tasks : Li
 
 -- A run in which a pad was linked so goes on with the edited graph that has the link.
 abbrev pub LinkingOverKeepsRun : {S E I O L : Type 0} → sources.Ghosts S → elements.Ghosts E → inlets.Ghosts I L O → outlets.Ghosts O L → Type 0
-LinkingOverKeepsRun {S} {E} {I} {O} {L} s e i o = (g : Edited) (m : Moment) (tasks tasks' : List (Task S E I O L s e i o)) (tells : Option (List Lane)) (source sink : PadPlace) (to : NewLink I O)
-    → IsRun g m tasks tells → MayLinkOver g source sink → LeadsTo to sink → IsLinkedOver tasks tasks' (pad_id source) to
+LinkingOverKeepsRun {S} {E} {I} {O} {L} s e i o = (g : Edited) (m : Moment) (tasks tasks' : List (Task S E I O L s e i o)) (tells : Option (List Lane)) (source sink : PadPlace) (to : NewLink I O) (opening : Opening)
+    → IsRun g m tasks tells → MayLinkOver g source sink → LeadsTo to sink → IsLinkedOver tasks tasks' (pad_id source) to opening
     → NetStands (linked_over (pad_id source) sink.element sink.pad m) tasks' tells
     → IsRun (linked_at source (length (m.history (pad_id source))) sink g) (linked_over (pad_id source) sink.element sink.pad m) tasks' tells

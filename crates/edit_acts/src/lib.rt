@@ -16,7 +16,7 @@ pub mod unlinking;
 pub use doing::{Outcome, do_deed};
 pub use ending::end;
 pub use linking::{LinkRoom, link, room_to_link};
-pub use relinking::relink;
+pub use relinking::{relink, relink_over};
 pub use removing::{TakenOut, is_free, remove};
 pub use undoing::{UndoRoom, room_to_undo, undo};
 pub use unlinking::{unlink, unlink_eos};

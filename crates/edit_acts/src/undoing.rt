@@ -4,6 +4,8 @@ ghost use Rattle.edit_core.specs.Ways.{InnerTookItems, IsRun};
 ghost use Rattle.edit_model.specs.Edited.{Edited, unlinked_at};
 ghost use Rattle.graph_pads.specs.declared.pad.PadPlace.{PadPlace};
 ghost use Rattle.net_edits.specs.Inside.{HasInside};
+ghost use Rattle.net_edits.specs.Over.{HasRoomAt, IsNewLane};
+ghost use Rattle.net_edits.specs.declared.over.NewLink.{NewLink as Links};
 ghost use Rattle.net_groups.specs.Joined.{HasRoomToJoin};
 ghost use Rattle.net_groups.specs.declared.joining.JoinRoom.{JoinRoom};
 ghost use Rattle.net_model.specs.Edit.{unlinked};
@@ -52,7 +54,7 @@ pub fn room_to_undo<S: TaskSource, E: TaskElement, I: Inlet<Out = O>, O: Outlet<
 
 /// Undoes the link of the source pad of a number, without EOS, in room that was taken before. Where it led to an element of the pad's
 /// task, that element and what stands behind it become a task of their own, which nothing feeds. It takes no memory. Room that was taken before
-/// to join the task of another element to that of the pad is still enough then.
+/// to join the task of another element to that of the pad is still enough then, and so is room in a row of a task; a lane that is new stays so.
 pub fn undo<S: TaskSource, E: TaskElement, I: Inlet<Out = O>, O: Outlet<Lanes = I::Lanes>>(
     tasks: &mut Vec<Task<S, E, I, O>>,
     pad: u32,
@@ -66,6 +68,8 @@ pub fn undo<S: TaskSource, E: TaskElement, I: Inlet<Out = O>, O: Outlet<Lanes = 
     ensures ready { (tells : _) → NetReady tasks.old.items tells → NetReady tasks.new.items tells }
     ensures join { (element : ℕ) (join : JoinRoom _ _ _) → SplitsNot room element → HasRoomToJoin tasks.old.items pad element join
         → HasRoomToJoin tasks.new.items pad element join }
+    ensures row { (place element port more : ℕ) → HasRoomAt tasks.old.items place element port more → HasRoomAt tasks.new.items place element port more }
+    ensures lane { (tells : _) (to : Links _ _) → IsNewLane tells tasks.old.items to → IsNewLane tells tasks.new.items to }
 {
     unlink(tasks, pad);
     if let UndoRoom::Split { element, room } = room {

@@ -16,6 +16,7 @@ pub mod Parted
 pub mod Ended
 mod Lefts
 mod Rowed
+mod Exchanged
 mod LanesMore
 mod Beside
 mod Differing

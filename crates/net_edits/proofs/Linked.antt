@@ -3,7 +3,6 @@ use Rattle.std.proofs.Common.{◌≡◌, ◌≢◌, ◌⊎◌, ◌++◌, ◌≤�
 use Rattle.std.specs.Prelude.{slice_get}
 use Rattle.flow_model.specs.Call.{Call, feeds}
 use Rattle.flow_model.specs.Item.{Ev, Event, Item}
-use Rattle.flow_model.specs.Sticky.{stickies}
 use Rattle.lane_core.specs.Lane.{IsBetween, IsIn, Lane}
 use Rattle.lane_core.specs.declared.ends.Inlet as inlets
 use Rattle.lane_core.specs.declared.ends.Outlet as outlets
@@ -36,7 +35,8 @@ use Rattle.task_edits.specs.Places.{HasPad}
 use Rattle.task_edits.proofs.Absent.{has_not}
 use Rattle.task_edits.specs.declared.leading.NewLane.{NewLane}
 use Rattle.task_edits.specs.declared.openings.Opening.{Opening}
-use Rattle.net_edits.specs.Over.{AreKept, IsGrownAt, IsLinkedOver, IsNewLane, NoneIsOf, NoneSends, lane_from, opened_by}
+use Rattle.net_edits.specs.Nets.{TaskHas}
+use Rattle.net_edits.specs.Over.{AreKept, IsGrownAt, IsLinkedOver, IsNewLane, NoneIsOf, NoneSends, OpensNow, lane_from, opened_by}
 use Rattle.net_edits.specs.declared.over.NewLink.{NewLink}
 use Rattle.net_edits.proofs.Laying.{Laid, laid_of, net_of}
 use Rattle.net_edits.proofs.NetGrown.{AreFresh, Lays, element_grown, found, laid_grown, net_grown, row_now, sends_back}
@@ -72,10 +72,15 @@ module _ {S E I O L : Type 0} {s : sources.Ghosts S} {e : elements.Ghosts E} {i 
       let tied = subst (λ (h : Head S I O s). HeadTied i o nothing_lost m h parts) is t.head_tied in
       subst (λ (q : Pad O). HasCrossed q (m.history (number_of q))) pad_is tied.linked.crossed
 
-  pub opens_tied : (m : Moment) (task : Task S E I O L s e i o) (pad : ℕ) (opening : Opening) → Ties task m → OpensAt task.head task.parts.items pad opening → (map Ev opening.events ≡ stickies (m.history pad)) × (opening.from ≡ length (m.history pad))
+  -- what was read there is so
+  opens_tied : (m : Moment) (task : Task S E I O L s e i o) (pad : ℕ) (opening : Opening) → Ties task m → OpensAt task.head task.parts.items pad opening → OpensNow m pad opening
   opens_tied m task pad opening t opens =
       let crossed = subst (λ (n : ℕ). HasCrossed opens.pad (m.history n)) opens.number_is (pad_crossed m task.head task.parts.items t opens.pad opens.is) in
-      (opens.opens.events (m.history pad) crossed, opens.opens.from (m.history pad) crossed)
+      record { events = opens.opens.events (m.history pad) crossed; from = opens.opens.from (m.history pad) crossed }
+
+  pub opens_now : (tasks : List (Task S E I O L s e i o)) (place pad : ℕ) (has : TaskHas tasks pad place) (opening : Opening) → OpensAt has.task.head has.task.parts.items pad opening
+      → (m : Moment) (tells : Option (List Lane)) → NetStands m tasks tells → OpensNow m pad opening
+  opens_now tasks place pad has opening opens m tells n = opens_tied m has.task pad opening (n.tied place has.task has.at) opens
 
   -- ---- for want of memory
 
@@ -110,12 +115,12 @@ module _ {S E I O L : Type 0} {s : sources.Ghosts S} {e : elements.Ghosts E} {i 
 
   -- ---- linked
 
-  module _ (tasks tasks' : List (Task S E I O L s e i o)) (pad : ℕ) (to : NewLink I O) (l : IsLinkedOver tasks tasks' pad to) where
+  module _ (tasks tasks' : List (Task S E I O L s e i o)) (pad : ℕ) (to : NewLink I O) {opening : Opening} (l : IsLinkedOver tasks tasks' pad to opening) where
     abbrev more : List (Feeding I)
-    more = opened_by l.opening.events to.lane to.inlet
+    more = opened_by opening.events to.lane to.inlet
 
     abbrev lane : NewLane O
-    lane = lane_from l.opening.from to
+    lane = lane_from opening.from to
 
     -- the task with the pad stays where the row of the other one is opened
     sender_same : l.led.was ≡ l.ends.sends.task
@@ -142,14 +147,14 @@ module _ {S E I O L : Type 0} {s : sources.Ghosts S} {e : elements.Ghosts E} {i 
         go (inr t) = absurd (has_not l.led.was.head l.led.was.parts.items pad (subst (λ (x : Task S E I O L s e i o). HasPad x.head x.parts.items pad) (sym sender_same) l.ends.sends.has) t.0)
 
     row_end : EndsWith i l.grown.grew.grew.grown (i.place to.inlet)
-    row_end = record { front = feeds_of l.grown.grew.grew.row ++ map (λ event. Given (Ev event)) l.opening.events; number = to.lane; inlet = to.inlet; whole = l.grown.grew.grew.feeds ∙ sym (append_assoc (feeds_of l.grown.grew.grew.row) (map (λ event. Given (Ev event)) l.opening.events) (OfLane to.lane to.inlet ∷ [])); place_is = refl }
+    row_end = record { front = feeds_of l.grown.grew.grew.row ++ map (λ event. Given (Ev event)) opening.events; number = to.lane; inlet = to.inlet; whole = l.grown.grew.grew.feeds ∙ sym (append_assoc (feeds_of l.grown.grew.grew.row) (map (λ event. Given (Ev event)) opening.events) (OfLane to.lane to.inlet ∷ [])); place_is = refl }
 
     module _ (tells : Option (List Lane)) (new : IsNewLane tells tasks to) where
       fresh : AreFresh tells tasks more
       fresh = record {
-        unused = for_opened (λ inlet. NoneIsOf tasks (i.place inlet)) l.opening.events to.lane to.inlet (subst (λ (n : ℕ). NoneIsOf tasks n) (sym new.one_place) new.unused);
-        within = for_opened (λ inlet. IsIn tells (i.place inlet)) l.opening.events to.lane to.inlet (subst (λ (n : ℕ). IsIn tells n) (sym new.one_place) (in_of tells (o.place to.outlet) (o.limits to.outlet) (o.count to.outlet) new.of_table));
-        apart = opened_apart i l.opening.events to.lane to.inlet;
+        unused = for_opened (λ inlet. NoneIsOf tasks (i.place inlet)) opening.events to.lane to.inlet (subst (λ (n : ℕ). NoneIsOf tasks n) (sym new.one_place) new.unused);
+        within = for_opened (λ inlet. IsIn tells (i.place inlet)) opening.events to.lane to.inlet (subst (λ (n : ℕ). IsIn tells n) (sym new.one_place) (in_of tells (o.place to.outlet) (o.limits to.outlet) (o.count to.outlet) new.of_table));
+        apart = opened_apart i opening.events to.lane to.inlet;
       }
 
       apart : IsApart i o tells l.led.was.head l.led.was.parts.items lane
@@ -174,15 +179,12 @@ module _ {S E I O L : Type 0} {s : sources.Ghosts S} {e : elements.Ghosts E} {i 
           net_led l.between tasks' l.sender pad lane l.led pads.0 pads.1 pads.2 pads.3.0 pads.4 none_between l.receiver l.grown.grew.grew.grown row_has ends_new tells apart
           (net_grown tasks l.between l.receiver to.pad more l.grown tells fresh (λ k p place from x end. absurd (none k p place from (subst (λ (a : ℕ). SendsInto tasks k p place from a to.pad) element_is x))) n)
 
-      module _ (m : Moment) (n : NetStands m tasks tells) (nowhere : LeadsNowhere m.plan pad) (free : IsFree to.pad (m.plan.sinks to.element)) where
+      module _ (m : Moment) (n : NetStands m tasks tells) (nowhere : LeadsNowhere m.plan pad) (free : IsFree to.pad (m.plan.sinks to.element)) (opened : OpensNow m pad opening) where
         abbrev held : ℕ → List (List Call)
         held = pushed to.element to.pad (opening_calls pad m) m
 
         abbrev sents : ℕ → List Item
         sents = put_at (o.place to.outlet) [] n.sents
-
-        opened : (map Ev l.opening.events ≡ stickies (m.history pad)) × (l.opening.from ≡ length (m.history pad))
-        opened = opens_tied m l.ends.sends.task pad l.opening (n.tied l.sender l.ends.sends.task l.ends.sends.at) l.opens
 
         none_sends : NoneSends tasks to.element to.pad
         none_sends k p place from x = free_alone p to.pad (m.plan.sinks to.element) free (sends_leads m tasks tells n k p place from to.element to.pad x).here
@@ -193,12 +195,12 @@ module _ {S E I O L : Type 0} {s : sources.Ghosts S} {e : elements.Ghosts E} {i 
             go : (t : List Lane) → IsBetween (Some t) (o.place to.outlet) [] [] → (lane : Lane) × (slice_get t (o.place to.outlet) ≡ Some lane) × ([] ≡ lane.items)
             go t z = z t refl
 
-        holds : holds_in i n.table more ≡ map Ev l.opening.events
-        holds = opened_holds i n.table l.opening.events to.lane to.inlet
+        holds : holds_in i n.table more ≡ map Ev opening.events
+        holds = opened_holds i n.table opening.events to.lane to.inlet
             (ap (λ (k : ℕ). items_of (slice_get n.table k)) new.one_place ∙ (ap items_of empty.1 ∙ sym empty.2))
 
         calls_are : feeds (holds_in i n.table more) ≡ opening_calls pad m
-        calls_are = ap feeds (holds ∙ opened.0)
+        calls_are = ap feeds (holds ∙ opened.events)
 
         lays : Lays tasks l.between l.receiver to.pad more l.grown m held (feeds (holds_in i n.table more))
         lays = subst (λ (calls : List Call). Lays tasks l.between l.receiver to.pad more l.grown m held calls) (sym calls_are)
@@ -209,11 +211,11 @@ module _ {S E I O L : Type 0} {s : sources.Ghosts S} {e : elements.Ghosts E} {i 
             laid_grown tasks l.between l.receiver to.pad more l.grown m held tells n.table n.sents sents fresh
             (λ k p place from x end. absurd (none_sends k p place from (subst (λ (a : ℕ). SendsInto tasks k p place from a to.pad) element_is x)))
             (λ a far. at_other (o.place to.outlet) [] n.sents a (λ same. last far (new.one_place ∙ sym same)))
-            (for_opened (λ inlet. GaveOf i (Some n.table) sents inlet []) l.opening.events to.lane to.inlet gave) lays feeds_more
+            (for_opened (λ inlet. GaveOf i (Some n.table) sents inlet []) opening.events to.lane to.inlet gave) lays feeds_more
             (laid_of m tasks tells n)
           where
             last : {a : ℕ} → ForLanes (λ inlet. i.place inlet ≢ a) more → i.place to.inlet ≢ a
-            last {a} far = go l.opening.events far
+            last {a} far = go opening.events far
               where
                 go : (events : List Event) → ForLanes (λ inlet. i.place inlet ≢ a) (opened_by events to.lane to.inlet) → i.place to.inlet ≢ a
                 go [] h = h.0
@@ -231,13 +233,13 @@ module _ {S E I O L : Type 0} {s : sources.Ghosts S} {e : elements.Ghosts E} {i 
             )
 
         can : CanLink o (held_at held m) pad lane
-        can = record { nowhere = nowhere; free = free; place = opened.1; unsent = new.unsent }
+        can = record { nowhere = nowhere; free = free; place = opened.from; unsent = new.unsent }
 
-        laid : Laid (planned (linked pad l.opening.from to.element to.pad m.plan) (held_at held m)) tasks' tells n.table sents
+        laid : Laid (planned (linked pad opening.from to.element to.pad m.plan) (held_at held m)) tasks' tells n.table sents
         laid = laid_led l.between tasks' l.sender pad lane l.led pads.0 pads.1 pads.2 pads.3.0 pads.4 none_between l.receiver l.grown.grew.grew.grown row_has ends_new tells apart (held_at held m) n.table sents between_laid can (at_here (o.place to.outlet) [] n.sents)
 
         -- The tasks stand.
         pub linked_stands : NetStands (linked_over pad to.element to.pad m) tasks' tells
         linked_stands =
-            net_of (linked_over pad to.element to.pad m) tasks' tells n.table sents (subst (λ (from : ℕ). Laid (planned (linked pad from to.element to.pad m.plan) (held_at held m)) tasks' tells n.table sents) opened.1 laid)
+            net_of (linked_over pad to.element to.pad m) tasks' tells n.table sents (subst (λ (from : ℕ). Laid (planned (linked pad from to.element to.pad m.plan) (held_at held m)) tasks' tells n.table sents) opened.from laid)
             (record { uncut = n.plain.uncut; calm = n.plain.calm; closed = n.plain.closed }) (λ a. linking_over_keeps m pad to.element to.pad (record { free = free }) a (n.cells a))

@@ -1,4 +1,4 @@
--- The tasks that have a row of a sink pad, and what stands behind it.
+-- The tasks that have a row of a sink pad, and what becomes of it.
 use Rattle.std.proofs.Common.{◌≡◌, ℕ, List, Some, get_or, refl, sym, ◌∙◌, subst}
 use Rattle.std.specs.Prelude.{slice_get}
 use Rattle.std.proofs.lemmas.Option.{slice_get_within}
@@ -6,7 +6,6 @@ use Rattle.gst_value.proofs.Basics.{some_same}
 use Rattle.gst_value.proofs.Places.{found_at}
 use Rattle.lane_core.specs.declared.ends.Inlet as inlets
 use Rattle.lane_core.specs.declared.ends.Outlet as outlets
-use Rattle.inlet_row.specs.declared.feeding.Feeding.{Feeding}
 use Rattle.inlet_row.specs.declared.row.InletRow.{InletRow}
 use Rattle.net_model.specs.declared.element.TaskElement as elements
 use Rattle.net_model.specs.declared.source.TaskSource as sources
@@ -18,9 +17,10 @@ use Rattle.task_parts.specs.declared.part.Part.{Part}
 use Rattle.net_task.specs.declared.task.Task.{Task}
 use Rattle.net_turns.specs.Net.{HasRow}
 use Rattle.task_edits.specs.Openings.{OpensAt}
+use Rattle.task_edits.specs.Places.{HasPad}
 use Rattle.task_edits.specs.declared.openings.Opening.{Opening}
 use Rattle.net_edits.specs.Nets.{TaskHas}
-use Rattle.net_edits.specs.Over.{FeedsPad, HasRowOf, HeadGrew, InletsGrew, NoneFeeds, TaskFeeds, TaskGrew}
+use Rattle.net_edits.specs.Over.{FeedsPad, HasRowOf, HeadExchanged, InletsExchanged, NoneFeeds, TaskExchanged, TaskFeeds}
 
 module _ {S E I O L : Type 0} {s : sources.Ghosts S} {e : elements.Ghosts E} {i : inlets.Ghosts I L O} {o : outlets.Ghosts O L} where
   pub feeds_row : (tasks : List (Task S E I O L s e i o)) (place element port : ℕ) (task : Task S E I O L s e i o) → slice_get tasks place ≡ Some task → FeedsPad task.head element port → TaskFeeds tasks element port place
@@ -48,25 +48,25 @@ module _ {S E I O L : Type 0} {s : sources.Ghosts S} {e : elements.Ghosts E} {i 
       go (Inlets head) h = h.1
 
 module _ {S I O : Type 0} {s : sources.Ghosts S} where
-  -- a head behind one of whose rows more stands
-  pub record HeadsGrew (head head' : Head S I O s) (port : ℕ) (more : List (Feeding I)) : Type 0 where
+  -- a head one of whose rows is another
+  pub record HeadsExchanged (head head' : Head S I O s) (port : ℕ) (row back : InletRow I) : Type 0 where
     pub old : InletHead I
     pub new : InletHead I
     pub was_fed : head ≡ Inlets old
     pub fed : head' ≡ Inlets new
-    pub grew : InletsGrew old new port more
+    pub rows : InletsExchanged old new port row back
 
-  pub heads_grew : (head head' : Head S I O s) (port : ℕ) (more : List (Feeding I)) → HeadGrew head head' port more → HeadsGrew head head' port more
-  heads_grew (Source head) head' port more h = absurd h
-  heads_grew (Inlets head) (Source head') port more h = absurd h
-  heads_grew (Inlets head) (Inlets head') port more h = record { old = head; new = head'; was_fed = refl; fed = refl; grew = h }
+  pub heads_exchanged : (head head' : Head S I O s) (port : ℕ) (row back : InletRow I) → HeadExchanged head head' port row back → HeadsExchanged head head' port row back
+  heads_exchanged (Source head) head' port row back h = absurd h
+  heads_exchanged (Inlets head) (Source head') port row back h = absurd h
+  heads_exchanged (Inlets head) (Inlets head') port row back h = record { old = head; new = head'; was_fed = refl; fed = refl; rows = h }
 
 module _ {S E I O L : Type 0} {s : sources.Ghosts S} {e : elements.Ghosts E} {i : inlets.Ghosts I L O} {o : outlets.Ghosts O L} where
   -- so it is with the task that is made of it
-  pub task_grew : (was is : Task S E I O L s e i o) (head head' : Head S I O s) (parts : List (Part E O e)) (port : ℕ) (more : List (Feeding I)) → head ≡ was.head → is.head ≡ head' → parts ≡ was.parts.items → is.parts.items ≡ parts → HeadGrew head head' port more
-      → TaskGrew was is port more
-  task_grew was is head head' parts port more before now parts_before parts_now h =
-      let z = heads_grew head head' port more h in record { old = z.old; new = z.new; was_fed = sym before ∙ z.was_fed; fed = now ∙ z.fed; grew = z.grew; parts = parts_now ∙ parts_before }
+  pub task_exchanged : (was is : Task S E I O L s e i o) (head head' : Head S I O s) (parts : List (Part E O e)) (port : ℕ) (row back : InletRow I) → head ≡ was.head → is.head ≡ head' → parts ≡ was.parts.items → is.parts.items ≡ parts
+      → HeadExchanged head head' port row back → TaskExchanged was is port row back
+  task_exchanged was is head head' parts port row back before now parts_before parts_now h =
+      let z = heads_exchanged head head' port row back h in record { old = z.old; new = z.new; was_fed = sym before ∙ z.was_fed; fed = now ∙ z.fed; rows = z.rows; parts = parts_now ∙ parts_before }
 
 module _ {S E I O L : Type 0} {s : sources.Ghosts S} {e : elements.Ghosts E} {i : inlets.Ghosts I L O} {o : outlets.Ghosts O L} where
   -- the opening is that of the task that has the pad
@@ -74,3 +74,7 @@ module _ {S E I O L : Type 0} {s : sources.Ghosts S} {e : elements.Ghosts E} {i 
       → OpensAt has.task.head has.task.parts.items pad opening
   opens_there tasks place pad has task opening is opens =
       subst (λ (x : Task S E I O L s e i o). OpensAt x.head x.parts.items pad opening) (at_get tasks place has.task task has.at is) opens
+
+  -- what was read there is the task with the pad
+  pub pad_read : (tasks : List (Task S E I O L s e i o)) (place pad : ℕ) (has : TaskHas tasks pad place) (task : Task S E I O L s e i o) → task ≡ get_or tasks place task → HasPad task.head task.parts.items pad
+  pad_read tasks place pad has task is = subst (λ (x : Task S E I O L s e i o). HasPad x.head x.parts.items pad) (sym (at_get tasks place has.task task has.at is)) has.has

@@ -1,7 +1,8 @@
 -- A source pad of one task is linked over a new lane to a sink pad of another one.
-use Rattle.std.specs.Prelude.{◌≡◌, ◌≢◌, ◌⊎◌, ◌<◌, ◌++◌, ℕ, List, [], ◌∷◌, Option, Some, Result, Ok, Err, length, map, slice_get, slice_set}
-use Rattle.flow_model.specs.Item.{Ev, Event, Eos}
-use Rattle.inlet_row.specs.Row.{feeds_of}
+use Rattle.std.specs.Prelude.{◌≡◌, ◌≢◌, ◌⊎◌, ◌≤◌, ◌<◌, ◌+◌, ◌++◌, ℕ, List, [], ◌∷◌, Option, Some, Result, Ok, Err, length, map, slice_get, slice_set}
+use Rattle.flow_model.specs.Item.{Ev, Event, Eos, Item}
+use Rattle.flow_model.specs.Sticky.{stickies}
+use Rattle.inlet_row.specs.Row.{feeds_of, room_of}
 use Rattle.inlet_row.specs.declared.feeding.Feeding.{Feeding}
 use Rattle.inlet_row.specs.declared.feeding.Feeding.TheVariants.{Given, Lane as OfLane}
 use Rattle.inlet_row.specs.declared.row.InletRow.{InletRow}
@@ -25,13 +26,11 @@ use Rattle.task_parts.specs.declared.head.Head.TheVariants.{Source, Inlets}
 use Rattle.task_parts.specs.declared.head.InletHead.{InletHead}
 use Rattle.task_edits.specs.Changes.{Changed, LedBy}
 use Rattle.task_edits.specs.Leads.{CanLink, IsApart, NoInlet, lane_behind}
-use Rattle.task_edits.specs.Openings.{OpensAt}
 use Rattle.task_edits.specs.declared.leading.NewLane.{NewLane}
 use Rattle.task_edits.specs.declared.openings.Opening.{Opening}
 use Rattle.net_edits.specs.Nets.{NoneHas, TaskHas}
-use Rattle.net_edits.specs.declared.over.More.{More}
-use Rattle.net_edits.specs.declared.over.More.TheVariants as mores
 use Rattle.net_edits.specs.declared.over.NewLink.{NewLink}
+use Rattle.net_edits.specs.declared.over.OverRoom.{OverRoom}
 
 -- what stands behind a row where a pad was linked to its sink pad: sticky events, and the lane of a number
 abbrev pub opened_by : {I : Type 0} → List Event → ℕ → I → List (Feeding I)
@@ -41,14 +40,21 @@ opened_by events lane inlet = map (λ event. Given (Ev event)) events ++ OfLane 
 abbrev pub lane_from : {I O : Type 0} → ℕ → NewLink I O → NewLane O
 lane_from from to = record { lane = to.lane; element = to.element; pad = to.pad; from = from; outlet = to.outlet }
 
+-- what a link gives first, and where it begins
+abbrev pub opening_in : OverRoom → Opening
+opening_in room = room.opening
+
+abbrev pub given_first : OverRoom → List Item
+given_first room = map Ev room.opening.events
+
+-- These are the sticky events of what crossed the pad by this moment, and the place is the one that it has reached.
+pub record OpensNow (m : Moment) (pad : ℕ) (opening : Opening) : Type 0 where
+  pub events : map Ev opening.events ≡ stickies (m.history pad)
+  pub from : opening.from ≡ length (m.history pad)
+
 -- EOS, which is given
 abbrev pub eos_given : {I : Type 0} → List (Feeding I)
 eos_given = Given (Ev Eos) ∷ []
-
--- what is put behind what stands in a row
-abbrev pub feeds_in : {I : Type 0} → More I → List (Feeding I)
-feeds_in (mores.Link events lane inlet) = opened_by events lane inlet
-feeds_in mores.Eos = eos_given
 
 -- a list, where a call did what it was to do
 abbrev pub when_ok : {A E F : Type 0} → Result A E → List F → List F
@@ -65,6 +71,13 @@ pub record InletsGrew {I : Type 0} (old new : InletHead I) (port : ℕ) (more : 
   pub set : new.rows.items ≡ slice_set old.rows.items port grown
   pub feeds : feeds_of grown ≡ feeds_of row ++ more
 
+-- another row stands in the place of one of an element, which was given back
+pub record InletsExchanged {I : Type 0} (old new : InletHead I) (port : ℕ) (row back : InletRow I) : Type 0 where
+  pub number : new.number ≡ old.number
+  pub hint : new.hint ≡ old.hint
+  pub at : slice_get old.rows.items port ≡ Some back
+  pub set : new.rows.items ≡ slice_set old.rows.items port row
+
 -- the inlets are those of an element, and one of the sink pad is among them
 abbrev pub InletsFeed : {I : Type 0} → InletHead I → ℕ → ℕ → Type 0
 InletsFeed inlets element port = (inlets.number ≡ element) × (port < length inlets.rows.items)
@@ -80,11 +93,11 @@ module _ {S I O : Type 0} {s : sources.Ghosts S} where
   FeedsPad (Source head) element port = ⊥
   FeedsPad (Inlets head) element port = InletsFeed head element port
 
-  -- more stands behind a row of the head
-  abbrev pub HeadGrew : Head S I O s → Head S I O s → ℕ → List (Feeding I) → Type 0
-  HeadGrew (Source old) new port more = ⊥
-  HeadGrew (Inlets old) (Source new) port more = ⊥
-  HeadGrew (Inlets old) (Inlets new) port more = InletsGrew old new port more
+  -- another row stands in the place of one of the head
+  abbrev pub HeadExchanged : Head S I O s → Head S I O s → ℕ → InletRow I → InletRow I → Type 0
+  HeadExchanged (Source old) new port row back = ⊥
+  HeadExchanged (Inlets old) (Source new) port row back = ⊥
+  HeadExchanged (Inlets old) (Inlets new) port row back = InletsExchanged old new port row back
 
 module _ {S E I O L : Type 0} {s : sources.Ghosts S} {e : elements.Ghosts E} {i : inlets.Ghosts I L O} {o : outlets.Ghosts O L} where
   -- more stands behind a row of the head of a task, and nothing else of the task changed
@@ -103,6 +116,23 @@ module _ {S E I O L : Type 0} {s : sources.Ghosts S} {e : elements.Ghosts E} {i 
     pub at : slice_get tasks place ≡ Some was
     pub set : tasks' ≡ slice_set tasks place is
     pub grew : TaskGrew was is port more
+
+  -- another row stands in the place of one of a task, and nothing else of the task changed
+  pub record TaskExchanged (was is : Task S E I O L s e i o) (port : ℕ) (row back : InletRow I) : Type 0 where
+    pub old : InletHead I
+    pub new : InletHead I
+    pub was_fed : was.head ≡ Inlets old
+    pub fed : is.head ≡ Inlets new
+    pub rows : InletsExchanged old new port row back
+    pub parts : is.parts.items ≡ was.parts.items
+
+  -- so it is with the task at a place, and no other task changed
+  pub record IsExchangedAt (tasks tasks' : List (Task S E I O L s e i o)) (place port : ℕ) (row back : InletRow I) : Type 0 where
+    pub was : Task S E I O L s e i o
+    pub is : Task S E I O L s e i o
+    pub at : slice_get tasks place ≡ Some was
+    pub set : tasks' ≡ slice_set tasks place is
+    pub exchanged : TaskExchanged was is port row back
 
   -- no pad of the tasks leads into the lane at a place, and no row of them has it
   pub record NoneIsOf (tasks : List (Task S E I O L s e i o)) (place : ℕ) : Type 0 where
@@ -130,6 +160,16 @@ module _ {S E I O L : Type 0} {s : sources.Ghosts S} {e : elements.Ghosts E} {i 
   abbrev pub TaskFeeds : List (Task S E I O L s e i o) → ℕ → ℕ → ℕ → Type 0
   TaskFeeds tasks element port place = (row : InletRow I) × HasRow tasks place element port row
 
+  -- the task at a place has a row of the sink pad, with room for so many things more
+  pub record HasRoomAt (tasks : List (Task S E I O L s e i o)) (place element port more : ℕ) : Type 0 where
+    pub row : InletRow I
+    pub has : HasRow tasks place element port row
+    pub room : more ≤ room_of row
+
+  -- there is room for what a link over a lane to the sink pad gives first, and for the lane
+  abbrev pub HasRoomOver : List (Task S E I O L s e i o) → ℕ → ℕ → OverRoom → Type 0
+  HasRoomOver tasks element port room = HasRoomAt tasks room.receiver element port (length room.opening.events + 1)
+
   -- the task at a place has the source pad, and another one the row of the sink pad
   pub record AreEnds (tasks : List (Task S E I O L s e i o)) (pad element port sender receiver : ℕ) : Type 0 where
     pub sends : TaskHas tasks pad sender
@@ -153,14 +193,12 @@ module _ {S E I O L : Type 0} {s : sources.Ghosts S} {e : elements.Ghosts E} {i 
     pub ties : (m : Moment) → Ties was m → CanLink o m pad to → Ties is (planned (linked pad to.from to.element to.pad m.plan) m)
     pub ready : (tells : Option (List Lane)) → IsReady tells was → IsApart i o tells was.head was.parts.items to → IsReady tells is
 
-  -- The pad of one task was linked over the lane to a row of another one, which has the sticky events of what crossed the pad and then the lane behind
-  -- what it had. The lane is one from the place that the pad had reached. Nothing else changed.
-  pub record IsLinkedOver (tasks tasks' : List (Task S E I O L s e i o)) (pad : ℕ) (to : NewLink I O) : Type 0 where
+  -- The pad of one task was linked over the lane, from the place that the opening tells, to a row of another one, which has the sticky events of the
+  -- opening and then the lane behind what it had. Nothing else changed.
+  pub record IsLinkedOver (tasks tasks' : List (Task S E I O L s e i o)) (pad : ℕ) (to : NewLink I O) (opening : Opening) : Type 0 where
     pub sender : ℕ
     pub receiver : ℕ
     pub ends : AreEnds tasks pad to.element to.pad sender receiver
-    pub opening : Opening
-    pub opens : OpensAt ends.sends.task.head ends.sends.task.parts.items pad opening
     pub between : List (Task S E I O L s e i o)
     pub grown : IsGrownAt tasks between receiver to.pad (opened_by opening.events to.lane to.inlet)
     pub led : IsLedAt between tasks' sender pad (lane_from opening.from to)

@@ -13,5 +13,5 @@ pub mod seeing;
 pub use adding::{add_task, holds_nothing_new, take_task};
 pub use inside::{EditFault, end_inside, link_inside, link_opened, opening_items};
 pub use net::{set_probe, unlink};
-pub use over::{NewLink, end_over, link_over};
+pub use over::{NewLink, OverRoom, end_over, link_over, room_to_link_over};
 pub use seeing::see_pad;

@@ -1,8 +1,9 @@
 //! Links over lanes, made, and undone with EOS.
-ghost use Rattle.std.specs.Prelude.{◌≡◌, ◌<◌, ◌+◌, ◌++◌, true, false, None, Ok, IfSome, OnErr, OnOk, length, vec_len, vec_capacity, slice_get, map};
+ghost use Rattle.std.specs.Prelude.{◌≡◌, ◌≢◌, ◌<◌, ◌≤◌, ◌+◌, ◌++◌, [], ℕ, true, false, None, Ok, Some, IfOk, IfSome, OnErr, OnOk, length, vec_len, vec_capacity, slice_get, map};
 ghost use Rattle.std.specs.VecDeque.{deque_len};
 ghost use Rattle.flow_model.specs.Item.{Ev};
 ghost use Rattle.inlet_row.specs.Row.{feeds_of, room_of};
+ghost use Rattle.inlet_row.specs.declared.row.InletRow.{InletRow as InletRows};
 ghost use Rattle.inlet_row.specs.declared.feeding.Feeding.TheVariants.{Given};
 ghost use Rattle.net_model.specs.Edit.{IsFree, linked_over};
 ghost use Rattle.net_model.specs.Moment.{Moment};
@@ -10,7 +11,8 @@ ghost use Rattle.net_model.specs.Step.{LeadsNowhere};
 ghost use Rattle.net_turns.specs.Net.{NetReady, NetStands};
 ghost use Rattle.net_turns.specs.Turns.{net_left};
 ghost use Rattle.net_edits.specs.Ending.{CannotEnd, IsEndedOver, StandEndedOver};
-ghost use Rattle.net_edits.specs.Over.{AreEnds, AreKept, CannotJoin, FeedsPad, HasRowOf, HeadGrew, InletsFeed, InletsGrew, IsGrownAt, IsLedAt, IsLinkedOver, IsNewLane, NoneFeeds, NoneSends, TaskFeeds, TaskGrew, eos_given, feeds_in, opened_by, when_ok};
+ghost use Rattle.net_edits.specs.Nets.{TaskHas};
+ghost use Rattle.net_edits.specs.Over.{AreEnds, AreKept, CannotJoin, FeedsPad, HasRoomAt, HasRoomOver, HasRowOf, HeadExchanged, InletsExchanged, InletsFeed, IsExchangedAt, IsGrownAt, IsLedAt, IsLinkedOver, IsNewLane, NoneFeeds, NoneSends, OpensNow, TaskExchanged, TaskFeeds, eos_given, opened_by, opening_in, when_ok};
 
 use crate::net::{find_task, unlink_at};
 use gst_item::{Event, Item};
@@ -21,6 +23,7 @@ use net_model::{TaskElement, TaskSource};
 use net_task::Task;
 use std::alloc::Global;
 use std::collections::VecDeque;
+use std::mem;
 use task_edits::{NewLane, Opening, opening_at, over_of};
 use task_parts::{Head, InletHead};
 
@@ -34,17 +37,25 @@ pub struct NewLink<I, O> {
     pub inlet: I,
 }
 
-/// What is put behind what stands in a row.
+/// What it takes to link a source pad over a lane: what the link gives first, read at the pad, and a row of a task with room for that and for
+/// the lane. It is taken before anything changes.
 #[derive(Drop)]
-enum More<I> {
-    /// Sticky events, and the lane of a new link.
-    Link {
-        events: List<Event>,
-        lane: u32,
-        inlet: I,
-    },
-    /// EOS alone.
-    Eos,
+pub struct OverRoom {
+    /// The place of the task that has the row.
+    receiver: usize,
+    opening: Opening,
+}
+
+impl OverRoom {
+    ghost use Rattle.gst_item.specs.Item.{has_item};
+    ghost use Rattle.net_edits.specs.Over.{given_first};
+
+    /// Whether the link gives sticky events first.
+    pub fn opens(&self) -> bool
+        ensures { result ≡ has_item (given_first self.now) }
+    {
+        !self.opening.events.as_slice().is_empty()
+    }
 }
 
 /// The places of two tasks that a lane is to join.
@@ -54,36 +65,76 @@ pub(crate) struct Ends {
     pub(crate) receiver: usize,
 }
 
-/// Links the source pad of a number over a new lane to a sink pad of an element of another task, which is fed from inlets. What is fed there
-/// first are the sticky events of what crossed the source pad, and what waits at that goes over the lane. Tells whether a task has the source
-/// pad and another one the inlets of the sink pad; where not, all tasks stay, and the lane is given up.
+/// Takes all the memory for a link of the source pad of a number over a lane to a sink pad of an element of another task, which is fed from inlets, and
+/// reads what the link gives first: so [`link_over`] needs none. None where no task has the source pad and another one the inlets of the sink pad.
 ///
-/// All memory is taken before anything changes.
-pub fn link_over<S: TaskSource, E: TaskElement, I: Inlet<Out = O>, O: Outlet<Lanes = I::Lanes>>(
+/// Nothing changes but how much room the inlets of the sink pad have.
+pub fn room_to_link_over<
+    S: TaskSource,
+    E: TaskElement,
+    I: Inlet<Out = O>,
+    O: Outlet<Lanes = I::Lanes>,
+>(
     alloc: Global,
     tasks: &mut Vec<Task<S, E, I, O>>,
     pad: u32,
+    element: u32,
+    port: u32,
+) -> Result<Option<OverRoom>, OutOfMemory>
+    ensures there { IfOk result (λ found. IfSome found (HasRoomOver tasks.new.items element port)) }
+    ensures opening { IfOk result (λ found. IfSome found (λ room. (m : Moment) (tells : _) → NetStands m tasks.old.items tells
+        → OpensNow m pad (opening_in room))) }
+    ensures none { IfOk result (λ found. found ≡ None → CannotJoin tasks.old.items pad element port) }
+    ensures kept { AreKept tasks.old.items tasks.new.items }
+    ensures stays { (m : Moment) (tells : _) → NetStands m tasks.old.items tells → NetStands m tasks.new.items tells }
+    ensures stays_ready { (tells : _) → NetReady tasks.old.items tells → NetReady tasks.new.items tells }
+    ensures room { vec_capacity tasks.new ≡ vec_capacity tasks.old }
+{
+    let Some(ends) = find_ends(tasks.as_slice(), pad, element, port) else {
+        return Ok(None);
+    };
+    let opening = match opening_at(alloc, &tasks[ends.sender], pad) {
+        Ok(opening) => opening,
+        Err(wanting) => return Err(wanting),
+    };
+    let more = opening.events.as_slice().len() + 1;
+    match room_at(tasks, ends.receiver, port, more) {
+        Ok(()) => Ok(Some(OverRoom {
+            receiver: ends.receiver,
+            opening,
+        })),
+        Err(wanting) => Err(wanting),
+    }
+}
+
+/// Links the source pad of a number over a new lane to a sink pad of an element of another task, which is fed from inlets, in room that was taken
+/// before. What is fed there first are the sticky events of what crossed the source pad, and what waits at that goes over the lane. It takes no
+/// memory. Tells whether a task has the source pad, and not the one with the inlets; where not, all tasks stay, and the lane is given up.
+pub fn link_over<S: TaskSource, E: TaskElement, I: Inlet<Out = O>, O: Outlet<Lanes = I::Lanes>>(
+    tasks: &mut Vec<Task<S, E, I, O>>,
+    pad: u32,
     to: NewLink<I, O>,
-) -> Result<bool, OutOfMemory>
-    ensures linked { result ≡ Ok true → IsLinkedOver tasks.old.items tasks.new.items pad to }
-    ensures none { result ≡ Ok false → CannotJoin tasks.old.items pad to.element to.pad × (tasks.new ≡ tasks.old) }
-    ensures stands { result ≡ Ok true → (m : Moment) (tells : _) → NetStands m tasks.old.items tells → IsNewLane tells tasks.old.items to
-        → LeadsNowhere m.plan pad → IsFree to.pad (m.plan.sinks to.element) → NetStands (linked_over pad to.element to.pad m) tasks.new.items tells }
-    ensures ready { result ≡ Ok true → (tells : _) → NetReady tasks.old.items tells → IsNewLane tells tasks.old.items to
+    room: OverRoom,
+) -> bool
+    requires room { HasRoomOver tasks.old.items to.element to.pad room }
+    ensures linked { result ≡ true → IsLinkedOver tasks.old.items tasks.new.items pad to (opening_in room) }
+    ensures none { result ≡ false → CannotJoin tasks.old.items pad to.element to.pad × (tasks.new ≡ tasks.old) }
+    ensures stands { result ≡ true → (m : Moment) (tells : _) → NetStands m tasks.old.items tells → IsNewLane tells tasks.old.items to
+        → LeadsNowhere m.plan pad → IsFree to.pad (m.plan.sinks to.element) → OpensNow m pad (opening_in room)
+        → NetStands (linked_over pad to.element to.pad m) tasks.new.items tells }
+    ensures ready { result ≡ true → (tells : _) → NetReady tasks.old.items tells → IsNewLane tells tasks.old.items to
         → NoneSends tasks.old.items to.element to.pad → NetReady tasks.new.items tells }
-    ensures kept { OnErr result (AreKept tasks.old.items tasks.new.items) }
-    ensures stays { OnErr result ((m : Moment) (tells : _) → NetStands m tasks.old.items tells → NetStands m tasks.new.items tells) }
-    ensures stays_ready { OnErr result ((tells : _) → NetReady tasks.old.items tells → NetReady tasks.new.items tells) }
     ensures count { length tasks.new.items ≡ length tasks.old.items }
     ensures room { vec_capacity tasks.new ≡ vec_capacity tasks.old }
 {
-    match find_ends(tasks.as_slice(), pad, to.element, to.pad) {
-        Some(ends) => match link_between(alloc, tasks, ends, pad, to) {
-            Ok(()) => Ok(true),
-            Err(wanting) => Err(wanting),
-        },
-        None => Ok(false),
+    let Some(sender) = find_task(tasks.as_slice(), pad) else {
+        return false;
+    };
+    if sender == room.receiver {
+        return false;
     }
+    link_between(tasks, sender, pad, to, room);
+    true
 }
 
 /// Undoes the link of the source pad of a number that leads over a lane, and puts EOS into the row of the sink pad to which it leads, behind
@@ -115,7 +166,7 @@ pub fn end_over<S: TaskSource, E: TaskElement, I: Inlet<Out = O>, O: Outlet<Lane
     let Some(receiver) = find_row(tasks.as_slice(), to.element, to.pad) else {
         return Ok(false);
     };
-    match grow_at(tasks, receiver, to.pad, More::Eos) {
+    match end_at(tasks, receiver, to.pad) {
         Ok(()) => {
             drop(unlink_at(tasks, sender, pad));
             Ok(true)
@@ -185,17 +236,18 @@ fn inlets_feed<I>(inlets: &InletHead<I>, element: u32, port: u32) -> bool
     (port as usize) < inlets.rows().len()
 }
 
-/// Links a source pad of one task over a new lane to a sink pad that another one feeds.
+/// Links a source pad of the task at a place over a new lane to a sink pad that another one feeds.
 fn link_between<S: TaskSource, E: TaskElement, I: Inlet<Out = O>, O: Outlet<Lanes = I::Lanes>>(
-    alloc: Global,
     tasks: &mut Vec<Task<S, E, I, O>>,
-    ends: Ends,
+    sender: usize,
     pad: u32,
     to: NewLink<I, O>,
-) -> Result<(), OutOfMemory>
-    requires ends { AreEnds tasks.old.items pad to.element to.pad ends.sender ends.receiver }
-    ensures linked { OnOk result (IsLinkedOver tasks.old.items tasks.new.items pad to) }
-    ensures kept { OnErr result (AreKept tasks.old.items tasks.new.items) }
+    room: OverRoom,
+)
+    requires sends { TaskHas tasks.old.items pad sender }
+    requires room { HasRoomOver tasks.old.items to.element to.pad room }
+    requires other { sender ≢ room.receiver }
+    ensures linked { IsLinkedOver tasks.old.items tasks.new.items pad to (opening_in room) }
     ensures room { vec_capacity tasks.new ≡ vec_capacity tasks.old }
 {
     let NewLink {
@@ -205,130 +257,162 @@ fn link_between<S: TaskSource, E: TaskElement, I: Inlet<Out = O>, O: Outlet<Lane
         outlet,
         inlet,
     } = to;
-    match opening_at(alloc, &tasks[ends.sender], pad) {
-        Ok(Opening { events, from }) => {
-            let more = More::Link {
-                events,
-                lane,
-                inlet,
-            };
-            match grow_at(tasks, ends.receiver, port, more) {
-                Ok(()) => {
-                    let to = NewLane {
-                        lane,
-                        element,
-                        pad: port,
-                        from,
-                        outlet,
-                    };
-                    lead_at(tasks, ends.sender, pad, to);
-                    Ok(())
-                }
-                Err(wanting) => Err(wanting),
-            }
-        }
-        Err(wanting) => Err(wanting),
-    }
+    let OverRoom { receiver, opening } = room;
+    let Opening { events, from } = opening;
+    open_at(tasks, receiver, port, events, lane, inlet);
+    let to = NewLane {
+        lane,
+        element,
+        pad: port,
+        from,
+        outlet,
+    };
+    lead_at(tasks, sender, pad, to);
 }
 
-/// Puts more behind what stands in a row of the task at a place.
-fn grow_at<S: TaskSource, E: TaskElement, I: Inlet<Out = O>, O: Outlet<Lanes = I::Lanes>>(
+/// Makes room in a row of the task at a place for so many things more.
+fn room_at<S: TaskSource, E: TaskElement, I: Inlet<Out = O>, O: Outlet<Lanes = I::Lanes>>(
     tasks: &mut Vec<Task<S, E, I, O>>,
     place: usize,
     port: u32,
-    more: More<I>,
+    more: usize,
 ) -> Result<(), OutOfMemory>
     requires place { place < vec_len tasks.old }
     requires row { (task : _) → slice_get tasks.old.items place ≡ Some task → HasRowOf task.head port }
-    ensures grown { IsGrownAt tasks.old.items tasks.new.items place port (when_ok result (feeds_in more)) }
+    ensures kept { IsGrownAt tasks.old.items tasks.new.items place port [] }
+    ensures enough { OnOk result ((element : ℕ) → TaskFeeds tasks.old.items element port place → HasRoomAt tasks.new.items place element port more) }
+    ensures room { vec_capacity tasks.new ≡ vec_capacity tasks.old }
+{
+    let mut row = take_row(tasks, place, port);
+    let made = row.make_room(more);
+    drop(exchange_at(tasks, place, port, row));
+    made
+}
+
+/// Puts sticky events and a lane behind what stands in a row of the task at a place.
+fn open_at<S: TaskSource, E: TaskElement, I: Inlet<Out = O>, O: Outlet<Lanes = I::Lanes>>(
+    tasks: &mut Vec<Task<S, E, I, O>>,
+    place: usize,
+    port: u32,
+    events: List<Event>,
+    lane: u32,
+    inlet: I,
+)
+    requires room { (element : ℕ) × HasRoomAt tasks.old.items place element port (length events + 1) }
+    ensures grown { IsGrownAt tasks.old.items tasks.new.items place port (opened_by events lane inlet) }
+    ensures room { vec_capacity tasks.new ≡ vec_capacity tasks.old }
+{
+    let mut row = take_row(tasks, place, port);
+    open_row(&mut row, events, lane, inlet);
+    drop(exchange_at(tasks, place, port, row));
+}
+
+/// Puts EOS behind what stands in a row of the task at a place.
+fn end_at<S: TaskSource, E: TaskElement, I: Inlet<Out = O>, O: Outlet<Lanes = I::Lanes>>(
+    tasks: &mut Vec<Task<S, E, I, O>>,
+    place: usize,
+    port: u32,
+) -> Result<(), OutOfMemory>
+    requires place { place < vec_len tasks.old }
+    requires row { (task : _) → slice_get tasks.old.items place ≡ Some task → HasRowOf task.head port }
+    ensures grown { IsGrownAt tasks.old.items tasks.new.items place port (when_ok result eos_given) }
+    ensures room { vec_capacity tasks.new ≡ vec_capacity tasks.old }
+{
+    let mut row = take_row(tasks, place, port);
+    let ended = end_row(&mut row);
+    drop(exchange_at(tasks, place, port, row));
+    ended
+}
+
+/// Takes a row of the task at a place out. An empty one stands there until it is put back.
+fn take_row<S: TaskSource, E: TaskElement, I: Inlet<Out = O>, O: Outlet<Lanes = I::Lanes>>(
+    tasks: &mut Vec<Task<S, E, I, O>>,
+    place: usize,
+    port: u32,
+) -> InletRow<I>
+    requires place { place < vec_len tasks.old }
+    requires row { (task : _) → slice_get tasks.old.items place ≡ Some task → HasRowOf task.head port }
+    ensures taken { (empty : InletRows _) × IsExchangedAt tasks.old.items tasks.new.items place port empty result }
+    ensures room { vec_capacity tasks.new ≡ vec_capacity tasks.old }
+{
+    let alloc = *tasks.allocator();
+    exchange_at(tasks, place, port, InletRow::new(alloc))
+}
+
+/// Puts a row in the place of one of the task at a place, and gives that back.
+fn exchange_at<S: TaskSource, E: TaskElement, I: Inlet<Out = O>, O: Outlet<Lanes = I::Lanes>>(
+    tasks: &mut Vec<Task<S, E, I, O>>,
+    place: usize,
+    port: u32,
+    row: InletRow<I>,
+) -> InletRow<I>
+    requires place { place < vec_len tasks.old }
+    requires row { (task : _) → slice_get tasks.old.items place ≡ Some task → HasRowOf task.head port }
+    ensures exchanged { IsExchangedAt tasks.old.items tasks.new.items place port row result }
     ensures room { vec_capacity tasks.new ≡ vec_capacity tasks.old }
 {
     let last = tasks.len() - 1;
     let task = tasks.swap_remove(place);
-    let (task, grown) = grow_task(task, port, more);
+    let (task, back) = exchange(task, port, row);
     tasks.push_reserved(task);
     tasks.swap(place, last);
-    grown
+    back
 }
 
-/// Puts more behind what stands in a row of a task.
-fn grow_task<S: TaskSource, E: TaskElement, I: Inlet<Out = O>, O: Outlet<Lanes = I::Lanes>>(
+/// Puts a row in the place of one of a task.
+fn exchange<S: TaskSource, E: TaskElement, I: Inlet<Out = O>, O: Outlet<Lanes = I::Lanes>>(
     task: Task<S, E, I, O>,
     port: u32,
-    more: More<I>,
-) -> (Task<S, E, I, O>, Result<(), OutOfMemory>)
+    row: InletRow<I>,
+) -> (Task<S, E, I, O>, InletRow<I>)
     requires row { HasRowOf task.head port }
-    ensures { TaskGrew task result.0 port (when_ok result.1 (feeds_in more)) }
+    ensures { TaskExchanged task result.0 port row result.1 }
 {
     let (head, parts) = task.into_parts();
-    let (head, grown) = grow_head(head, port, more);
-    (Task::new(head, parts), grown)
+    let (head, back) = exchange_of_head(head, port, row);
+    (Task::new(head, parts), back)
 }
 
-/// Puts more behind what stands in a row of a head.
-fn grow_head<S: TaskSource, I: Inlet, O: Outlet>(
+/// Puts a row in the place of one of a head.
+fn exchange_of_head<S: TaskSource, I: Inlet, O: Outlet>(
     head: Head<S, I, O>,
     port: u32,
-    more: More<I>,
-) -> (Head<S, I, O>, Result<(), OutOfMemory>)
+    row: InletRow<I>,
+) -> (Head<S, I, O>, InletRow<I>)
     requires row { HasRowOf head port }
-    ensures { HeadGrew head result.0 port (when_ok result.1 (feeds_in more)) }
+    ensures { HeadExchanged head result.0 port row result.1 }
 {
     match head {
         Head::Source(_) => unreachable!(),
         Head::Inlets(inlets) => {
-            let (inlets, grown) = grow_inlets(inlets, port, more);
-            (Head::Inlets(inlets), grown)
+            let (inlets, back) = exchange_of_inlets(inlets, port, row);
+            (Head::Inlets(inlets), back)
         }
     }
 }
 
-/// Puts more behind what stands in one of the rows of an element.
-fn grow_inlets<I: Inlet>(
+/// Puts a row in the place of one of an element.
+fn exchange_of_inlets<I: Inlet>(
     inlets: InletHead<I>,
     port: u32,
-    more: More<I>,
-) -> (InletHead<I>, Result<(), OutOfMemory>)
+    row: InletRow<I>,
+) -> (InletHead<I>, InletRow<I>)
     requires row { port < length inlets.rows.items }
-    ensures { InletsGrew inlets result.0 port (when_ok result.1 (feeds_in more)) }
+    ensures { InletsExchanged inlets result.0 port row result.1 }
 {
     let (number, hint, mut rows) = inlets.into_parts();
-    let grown = grow_row(&mut rows[port as usize], more);
-    (InletHead::new(number, hint, rows), grown)
-}
-
-/// Puts more behind what stands in a row. The memory for it is taken first.
-fn grow_row<I: Inlet>(row: &mut InletRow<I>, more: More<I>) -> Result<(), OutOfMemory>
-    ensures { feeds_of row.new ≡ feeds_of row.old ++ when_ok result (feeds_in more) }
-{
-    match more {
-        More::Link {
-            events,
-            lane,
-            inlet,
-        } => open_row(row, events, lane, inlet),
-        More::Eos => end_row(row),
-    }
+    let back = mem::replace(&mut rows[port as usize], row);
+    (InletHead::new(number, hint, rows), back)
 }
 
 /// Puts sticky events and a lane behind what stands in a row.
-fn open_row<I: Inlet>(
-    row: &mut InletRow<I>,
-    events: List<Event>,
-    lane: u32,
-    inlet: I,
-) -> Result<(), OutOfMemory>
-    ensures { feeds_of row.new ≡ feeds_of row.old ++ when_ok result (opened_by events lane inlet) }
+fn open_row<I: Inlet>(row: &mut InletRow<I>, events: List<Event>, lane: u32, inlet: I)
+    requires room { length events + 1 ≤ room_of row.old }
+    ensures { feeds_of row.new ≡ feeds_of row.old ++ opened_by events lane inlet }
 {
     let mut events = VecDeque::from(events.into_vec());
-    match row.make_room(events.len() + 1) {
-        Ok(()) => {
-            give_all(row, &mut events);
-            row.link(lane, inlet);
-            Ok(())
-        }
-        Err(wanting) => Err(wanting),
-    }
+    give_all(row, &mut events);
+    row.link(lane, inlet);
 }
 
 /// Puts EOS behind what stands in a row.

@@ -1,29 +1,15 @@
-use Rattle.std.proofs.Common.{List, refl, subst}
-use Rattle.net_task.specs.declared.task.Task.{Task}
-use Rattle.edit_acts.specs.Linking.{HasRoomToLink, opening_of}
-use Rattle.edit_acts.specs.Relinked.{OpensWith}
-use Rattle.edit_acts.proofs.Apart.{is_apart, linkable, low}
+use Rattle.std.proofs.Common.{refl}
+use Rattle.edit_acts.proofs.Apart.{is_apart, linkable}
 use Rattle.edit_acts.proofs.relinking.prepare.Goals as goal
 
-pub returns-in_default-clause-none : goal.returns-in_default-clause-none
-returns-in_default-clause-none g c = λ same feeds graph m tells items w.
-    c.in_default.not-Some _ (c.source_number.ensures.there c.requires.source (low c.args.graph.now feeds c.args.tasks.now.items graph m tells c.args.source c.args.sink items w))
-
 pub returns-then-not-is_apart-clause-none : goal.returns-then-not-is_apart-clause-none
-returns-then-not-is_apart-clause-none g c = λ same feeds graph m tells items w.
-    let apart = is_apart c.args.graph.now feeds c.args.tasks.now.items graph m tells c.args.source c.args.sink items w c.in-Some.pad c.in-Some.ensures.number
+returns-then-not-is_apart-clause-none g c = λ same feeds graph m tells items fed w.
+    let apart = is_apart c.args.graph.now feeds c.args.tasks.now.items graph m tells c.args.source c.args.sink items w c.args.pad c.requires.number
     c.room_to_undo.new.tasks c.in_ok-undo.ensures.items c.in_ok-undo.undo c.in_ok-undo.ensures.room in
     let told = c.if-not-is_apart.ensures.1 apart in cc
 
 pub returns-in-Linked-clause-prepared : goal.returns-in-Linked-clause-prepared
-returns-in-Linked-clause-prepared g c = record {
-  number = c.in-Some.ensures.number;
-  undo = c.in_ok-undo.ensures.room;
-  link = subst (λ (ts : List (Task _ _ _ _ _ _ _ _ _)). HasRoomToLink ts c.in-Some.pad c.args.sink.element c.in_ok-link.link) c.as_slice.ensures.value c.in_ok-link.ensures.room;
-  apart = c.if-not-is_apart.ensures.0 refl;
-  opens = subst (λ (ts : List (Task _ _ _ _ _ _ _ _ _)). OpensWith ts c.in-Some.pad (opening_of c.in_ok-link.link)) c.as_slice.ensures.value c.in_ok-link.ensures.opening;
-  opened = c.opens-opened.ensures;
-}
+returns-in-Linked-clause-prepared g c = record { number = c.requires.number; undo = c.in_ok-undo.ensures.room; apart = c.if-not-is_apart.ensures.0 refl }
 
 pub returns-in-Linked-clause-link : goal.returns-in-Linked-clause-link
 returns-in-Linked-clause-link g c = record {
@@ -32,7 +18,7 @@ returns-in-Linked-clause-link g c = record {
 }
 
 pub returns-in-Loops-clause-none : goal.returns-in-Loops-clause-none
-returns-in-Loops-clause-none g c = λ same feeds graph m tells items w.
+returns-in-Loops-clause-none g c = λ same feeds graph m tells items fed w.
     let answer = rw c.in-Loops.is at c.in_ok-relink.ensures.answer in
     (linkable c.args.graph.now feeds c.args.tasks.now.items graph m tells c.args.source c.args.sink items w).forward (answer graph w.controlled.current.edited).0
 

@@ -1,17 +1,31 @@
-use Rattle.std.proofs.Common.{List, subst, sym}
+use Rattle.std.proofs.Common.{ℕ, List, false, subst, sym}
 use Rattle.net_task.specs.declared.task.Task.{Task}
 use Rattle.net_turns.specs.Net.{NetReady}
-use Rattle.edit_acts.specs.Relinked.{IsToRelink}
+use Rattle.edit_acts.specs.Relinked.{IsToLink, IsToRelink}
+use Rattle.edit_acts.proofs.Apart.{low}
 use Rattle.edit_acts.proofs.Carried.{has_again, is_relinked}
-use Rattle.edit_acts.proofs.Deeds.{no_sink, no_source}
+use Rattle.edit_acts.proofs.Deeds.{no_sink, no_source, source_made}
 use Rattle.edit_acts.proofs.relinking.relink.Goals as goal
 
-pub returns-in-Ok-clause-run : goal.returns-in-Ok-clause-run
-returns-in-Ok-clause-run g c = λ graph m tells w.
+pub returns-in_default-clause-run : goal.returns-in_default-clause-run
+returns-in_default-clause-run g c = λ graph m tells w.
+    absurd (c.in_default.not-Some _ (c.source_number.ensures.there (source_made c.args.graph.now c.args.feeds.now c.args.tasks.now.items graph m tells c.args.source c.args.sink c.args.items w)
+    (low c.args.graph.now c.args.feeds.now c.args.tasks.now.items graph m tells c.args.source c.args.sink c.args.items w)))
+
+pub carry_out-requires-clause-room : goal.carry_out-requires-clause-room
+carry_out-requires-clause-room g c κs within =
+    let link : IsToLink c.args.tasks.now.items c.in-Some.pad c.args.sink.element c.in-Ok.link =
+    subst (λ (ts : List (Task _ _ _ _ _ _ _ _ _)). IsToLink ts c.in-Some.pad c.args.sink.element c.in-Ok.link) c.as_slice.ensures.value (record { room = c.in-Ok.ensures.room; opens = c.in-Ok.ensures.opening }) in
+    let number = rw c.in-Ok-Some.field-0-is at c.in-Ok-Some.ensures.pad in
+    subst (λ (p : ℕ). IsToLink c.prepare.new.tasks.items p c.args.sink.element c.in-Ok.link) (sym number)
+    (subst (λ (ts : List (Task _ _ _ _ _ _ _ _ _)). IsToLink ts c.in-Some.pad c.args.sink.element c.in-Ok.link) (sym c.in-Ok-Some.ensures.tasks) link)
+
+pub returns-in-Ok-carry_out-clause-run : goal.returns-in-Ok-carry_out-clause-run
+returns-in-Ok-carry_out-clause-run g c = λ graph m tells w.
     let ready = rw c.in-Ok-Some.field-0-is at c.in-Ok-Some.ensures.prepared in
     let new = rw c.in-Ok-Some.field-0-is at c.in-Ok-Some.ensures.link in
-    let same = subst (λ (ts : List (Task _ _ _ _ _ _ _ _ _)). IsToRelink c.args.graph.now c.args.feeds.now ts graph m tells c.args.source c.args.sink c.args.items) (sym c.in-Ok-Some.ensures.tasks) w in
-    let ran = c.in-Ok.ensures.run c.args.graph.now graph m tells c.args.source ready (new.was graph w.controlled.current.edited) same in (
+    let same = subst (λ (ts : List (Task _ _ _ _ _ _ _ _ _)). IsToRelink c.args.graph.now c.args.feeds.now ts graph m tells c.args.source c.args.sink c.args.items false) (sym c.in-Ok-Some.ensures.tasks) w in
+    let ran = c.in-Ok-carry_out.ensures.run c.args.graph.now graph m tells c.args.source ready (new.was graph w.controlled.current.edited) same in (
       ran.0,
       is_relinked c.args.graph.now c.args.feeds.now c.args.tasks.now.items graph m tells c.args.source c.args.sink c.args.items w
           c.prepare.new.graph c.carry_out.new.feeds c.carry_out.new.tasks.items c.in-Ok-Some.prepared.before new ran.1,
@@ -20,7 +34,7 @@ returns-in-Ok-clause-run g c = λ graph m tells w.
 pub returns-in-Err-carry_out-clause-faults : goal.returns-in-Err-carry_out-clause-faults
 returns-in-Err-carry_out-clause-faults g c = λ graph m tells w.
     let ready = rw c.in-Ok-Some.field-0-is at c.in-Ok-Some.ensures.prepared in
-    let same = subst (λ (ts : List (Task _ _ _ _ _ _ _ _ _)). IsToRelink c.args.graph.now c.args.feeds.now ts graph m tells c.args.source c.args.sink c.args.items) (sym c.in-Ok-Some.ensures.tasks) w in
+    let same = subst (λ (ts : List (Task _ _ _ _ _ _ _ _ _)). IsToRelink c.args.graph.now c.args.feeds.now ts graph m tells c.args.source c.args.sink c.args.items false) (sym c.in-Ok-Some.ensures.tasks) w in
     let new = rw c.in-Ok-Some.field-0-is at c.in-Ok-Some.ensures.link in
     record {
       short = c.in-Err-carry_out.ensures.faults c.args.graph.now graph m tells c.args.source ready same;
@@ -29,14 +43,17 @@ returns-in-Err-carry_out-clause-faults g c = λ graph m tells w.
     }
 
 pub returns-in-Ok-None-clause-run : goal.returns-in-Ok-None-clause-run
-returns-in-Ok-None-clause-run g c = λ graph m tells w. absurd (c.in-Ok-None.ensures.none c.in-Ok-None.field-0-is c.args.feeds.now graph m tells c.args.items w)
+returns-in-Ok-None-clause-run g c = λ graph m tells w. absurd (c.in-Ok-None.ensures.none c.in-Ok-None.field-0-is c.args.feeds.now graph m tells c.args.items false w)
+
+pub returns-in-Err-prepare-clause-faults : goal.returns-in-Err-prepare-clause-faults
+returns-in-Err-prepare-clause-faults g c = λ graph m tells w.
+    has_again c.args.graph.now c.prepare.new.graph c.args.feeds.now c.args.tasks.now.items c.prepare.new.tasks.items graph m tells c.in-Err-prepare.ensures.tasks (c.in-Err-prepare.ensures.stays graph w.current.edited) w
 
 pub returns-in-Err-clause-faults : goal.returns-in-Err-clause-faults
-returns-in-Err-clause-faults g c = λ graph m tells w.
-    has_again c.args.graph.now c.prepare.new.graph c.args.feeds.now c.args.tasks.now.items c.prepare.new.tasks.items graph m tells c.in-Err.ensures.tasks (c.in-Err.ensures.stays graph w.current.edited) w
+returns-in-Err-clause-faults g c = λ graph m tells w. w
 
-pub returns-in-Ok-clause-ready : goal.returns-in-Ok-clause-ready
-returns-in-Ok-clause-ready g c = λ tells ready. c.carry_out.ensures.ready tells (subst (λ (ts : List (Task _ _ _ _ _ _ _ _ _)). NetReady ts tells) (sym c.in-Ok-Some.ensures.tasks) ready)
+pub returns-in-Ok-carry_out-clause-ready : goal.returns-in-Ok-carry_out-clause-ready
+returns-in-Ok-carry_out-clause-ready g c = λ tells ready. c.carry_out.ensures.ready tells (subst (λ (ts : List (Task _ _ _ _ _ _ _ _ _)). NetReady ts tells) (sym c.in-Ok-Some.ensures.tasks) ready)
 
 pub returns-in-Err-carry_out-clause-ready : goal.returns-in-Err-carry_out-clause-ready
 returns-in-Err-carry_out-clause-ready g c = λ tells ready. c.carry_out.ensures.ready tells (subst (λ (ts : List (Task _ _ _ _ _ _ _ _ _)). NetReady ts tells) (sym c.in-Ok-Some.ensures.tasks) ready)

@@ -2,6 +2,8 @@ use Rattle.std.proofs.Common.{◌≢◌, false, ap, refl, subst, sym}
 use Rattle.net_groups.specs.Splits.{TookItems, pads_of}
 use Rattle.edit_acts.specs.Undoing.{HasRoomBehind, LeadsNoneInside}
 use Rattle.edit_acts.proofs.Fits.{cut_fits, split_fits}
+use Rattle.edit_acts.proofs.Laned.{cut_none, cut_room, split_none, split_room}
+use Rattle.edit_acts.proofs.RowsMore.{new_among}
 use Rattle.edit_acts.proofs.Undoes.{ToldSplit, room_then, split_run, told_ready, told_stands, took_beside, whole_run}
 use Rattle.edit_acts.proofs.Unlinked.{AreCut, told_cut}
 use Rattle.edit_acts.proofs.undoing.undo.Goals as goal
@@ -44,6 +46,18 @@ returns-in-Split-clause-join g c = λ element join other has.
     split_fits c.split_reserved.result c.unlink.new.tasks.items c.split_reserved.new.tasks.items c.in-Split.element _ (told g c) c.args.pad element join apart
     (cut_fits c.args.pad c.args.tasks.now.items c.unlink.new.tasks.items cut c.args.pad element join has)
 
+pub returns-in-Split-clause-row : goal.returns-in-Split-clause-row
+returns-in-Split-clause-row g c = λ place element port more has.
+    let cut : AreCut c.args.pad c.args.tasks.now.items c.unlink.new.tasks.items = told_cut c.args.pad c.args.tasks.now c.unlink.new.tasks c.unlink.result c.unlink.ensures.undone c.unlink.ensures.none in
+    split_room c.split_reserved.result c.unlink.new.tasks.items c.split_reserved.new.tasks.items c.in-Split.element _ (told g c) place element port more
+    (cut_room c.args.pad c.args.tasks.now.items c.unlink.new.tasks.items cut place element port more has)
+
+pub returns-in-Split-clause-lane : goal.returns-in-Split-clause-lane
+returns-in-Split-clause-lane g c = λ tells to new.
+    let cut : AreCut c.args.pad c.args.tasks.now.items c.unlink.new.tasks.items = told_cut c.args.pad c.args.tasks.now c.unlink.new.tasks c.unlink.result c.unlink.ensures.undone c.unlink.ensures.none in
+    new_among c.args.tasks.now.items c.split_reserved.new.tasks.items tells to
+    (λ at none. split_none c.split_reserved.result c.unlink.new.tasks.items c.split_reserved.new.tasks.items c.in-Split.element _ (told g c) at (cut_none c.args.pad c.args.tasks.now.items c.unlink.new.tasks.items cut at none)) new
+
 pub returns-in_default-clause-run : goal.returns-in_default-clause-run
 returns-in_default-clause-run g c = λ graph m tells source w.
     let cut : AreCut c.args.pad c.args.tasks.now.items c.unlink.new.tasks.items = told_cut c.args.pad c.args.tasks.now c.unlink.new.tasks c.unlink.result c.unlink.ensures.undone c.unlink.ensures.none in
@@ -57,3 +71,13 @@ pub returns-in_default-clause-join : goal.returns-in_default-clause-join
 returns-in_default-clause-join g c = λ element join other has.
     let cut : AreCut c.args.pad c.args.tasks.now.items c.unlink.new.tasks.items = told_cut c.args.pad c.args.tasks.now c.unlink.new.tasks c.unlink.result c.unlink.ensures.undone c.unlink.ensures.none in
     cut_fits c.args.pad c.args.tasks.now.items c.unlink.new.tasks.items cut c.args.pad element join has
+
+pub returns-in_default-clause-row : goal.returns-in_default-clause-row
+returns-in_default-clause-row g c = λ place element port more has.
+    let cut : AreCut c.args.pad c.args.tasks.now.items c.unlink.new.tasks.items = told_cut c.args.pad c.args.tasks.now c.unlink.new.tasks c.unlink.result c.unlink.ensures.undone c.unlink.ensures.none in
+    cut_room c.args.pad c.args.tasks.now.items c.unlink.new.tasks.items cut place element port more has
+
+pub returns-in_default-clause-lane : goal.returns-in_default-clause-lane
+returns-in_default-clause-lane g c = λ tells to new.
+    let cut : AreCut c.args.pad c.args.tasks.now.items c.unlink.new.tasks.items = told_cut c.args.pad c.args.tasks.now c.unlink.new.tasks c.unlink.result c.unlink.ensures.undone c.unlink.ensures.none in
+    new_among c.args.tasks.now.items c.unlink.new.tasks.items tells to (λ at none. cut_none c.args.pad c.args.tasks.now.items c.unlink.new.tasks.items cut at none) new

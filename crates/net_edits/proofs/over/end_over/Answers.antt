@@ -34,23 +34,23 @@ returns-in_default-find_row-clause-none g c = λ none.
       refl,
     )
 
-pub grow_at-requires-clause-place : goal.grow_at-requires-clause-place
-grow_at-requires-clause-place g c κs within =
+pub end_at-requires-clause-place : goal.end_at-requires-clause-place
+end_at-requires-clause-place g c κs within =
     let feeds : TaskFeeds c.args.tasks.now.items c.in-Some-over_of.to.element c.in-Some-over_of.to.pad c.in-Some-find_row.receiver =
     subst (λ (ts : List (Task _ _ _ _ _ _ _ _ _)). TaskFeeds ts c.in-Some-over_of.to.element c.in-Some-over_of.to.pad c.in-Some-find_row.receiver) c.as_slice-2.ensures.value c.in-Some-find_row.ensures.there in
     let low = slice_get_within c.args.tasks.now.items c.in-Some-find_row.receiver feeds.1.fed.task feeds.1.fed.at in
     omega (arith, low, c.args.tasks.now.ok.0)
 
-pub grow_at-requires-clause-row : goal.grow_at-requires-clause-row
-grow_at-requires-clause-row g c κs within =
+pub end_at-requires-clause-row : goal.end_at-requires-clause-row
+end_at-requires-clause-row g c κs within =
     feeds_has c.args.tasks.now.items c.in-Some-find_row.receiver c.in-Some-over_of.to.element c.in-Some-over_of.to.pad
     (subst (λ (ts : List (Task _ _ _ _ _ _ _ _ _)). TaskFeeds ts c.in-Some-over_of.to.element c.in-Some-over_of.to.pad c.in-Some-find_row.receiver) c.as_slice-2.ensures.value c.in-Some-find_row.ensures.there)
 
 pub unlink_at-requires-clause-place : goal.unlink_at-requires-clause-place
 unlink_at-requires-clause-place g c κs within =
     let low = pad_within c.args.tasks.now.items c.args.pad c.in-Some.sender (subst (λ (ts : List (Task _ _ _ _ _ _ _ _ _)). TaskHas ts c.args.pad c.in-Some.sender) c.as_slice.ensures.value c.in-Some.ensures.there) in
-    let size = size_set c.args.tasks.now.items c.grow_at.new.tasks.items c.in-Some-find_row.receiver c.args.pad _ c.in-Ok.ensures.grown.set in
-    omega (arith, low, size, c.grow_at.new.tasks.ok.0)
+    let size = size_set c.args.tasks.now.items c.end_at.new.tasks.items c.in-Some-find_row.receiver c.args.pad _ c.in-Ok.ensures.grown.set in
+    omega (arith, low, size, c.end_at.new.tasks.ok.0)
 
 pub returns-in-Ok-clause-ended : goal.returns-in-Ok-clause-ended
 returns-in-Ok-clause-ended g c = λ done.
@@ -61,11 +61,11 @@ returns-in-Ok-clause-ended g c = λ done.
       to = c.in-Some-over_of.to;
       over = leads_over c.args.tasks.now.items c.args.pad c.in-Some.sender has c.index.result.now c.index.ensures c.in-Some-over_of.to c.in-Some-over_of.ensures.leads;
       feeds = subst (λ (ts : List (Task _ _ _ _ _ _ _ _ _)). TaskFeeds ts c.in-Some-over_of.to.element c.in-Some-over_of.to.pad c.in-Some-find_row.receiver) c.as_slice-2.ensures.value c.in-Some-find_row.ensures.there;
-      between = c.grow_at.new.tasks.items;
+      between = c.end_at.new.tasks.items;
       grown = c.in-Ok.ensures.grown;
       back = c.unlink_at.result;
       undone = c.unlink_at.ensures.undone;
-      led = c.unlink_at.ensures.back _ (first_grown c.args.tasks.now.items c.grow_at.new.tasks.items c.in-Some-find_row.receiver c.in-Some-over_of.to.pad eos_given c.in-Ok.ensures.grown c.in-Some.sender c.args.pad _ (leads_first c.args.tasks.now.items c.args.pad c.in-Some.sender has c.index.result.now c.index.ensures c.in-Some-over_of.to c.in-Some-over_of.ensures.leads));
+      led = c.unlink_at.ensures.back _ (first_grown c.args.tasks.now.items c.end_at.new.tasks.items c.in-Some-find_row.receiver c.in-Some-over_of.to.pad eos_given c.in-Ok.ensures.grown c.in-Some.sender c.args.pad _ (leads_first c.args.tasks.now.items c.args.pad c.in-Some.sender has c.index.result.now c.index.ensures c.in-Some-over_of.to c.in-Some-over_of.ensures.leads));
     }
 
 pub returns-in-Ok-clause-stands : goal.returns-in-Ok-clause-stands
@@ -76,11 +76,11 @@ returns-in-Ok-clause-ready g c = λ done tells n. ended_ready c.args.tasks.now.i
 
 pub returns-in-Ok-clause-moves : goal.returns-in-Ok-clause-moves
 returns-in-Ok-clause-moves g c = λ done.
-    left_set c.grow_at.new.tasks.items c.unlink_at.new.tasks.items c.in-Some.sender c.args.pad _ _ c.unlink_at.ensures.undone.at c.unlink_at.ensures.undone.set c.unlink_at.ensures.undone.moves
-    ∙ grown_left c.args.tasks.now.items c.grow_at.new.tasks.items c.in-Some-find_row.receiver c.in-Some-over_of.to.pad eos_given c.in-Ok.ensures.grown
+    left_set c.end_at.new.tasks.items c.unlink_at.new.tasks.items c.in-Some.sender c.args.pad _ _ c.unlink_at.ensures.undone.at c.unlink_at.ensures.undone.set c.unlink_at.ensures.undone.moves
+    ∙ grown_left c.args.tasks.now.items c.end_at.new.tasks.items c.in-Some-find_row.receiver c.in-Some-over_of.to.pad eos_given c.in-Ok.ensures.grown
 
 pub returns-in-Err-clause-stays : goal.returns-in-Err-clause-stays
-returns-in-Err-clause-stays g c = λ m tells n. kept_stands c.args.tasks.now.items c.grow_at.new.tasks.items (inr (c.in-Some-find_row.receiver, c.in-Some-over_of.to.pad, c.in-Err.ensures.grown)) m tells n
+returns-in-Err-clause-stays g c = λ m tells n. kept_stands c.args.tasks.now.items c.end_at.new.tasks.items (inr (c.in-Some-find_row.receiver, c.in-Some-over_of.to.pad, c.in-Err.ensures.grown)) m tells n
 
 pub returns-in-Err-clause-stays_ready : goal.returns-in-Err-clause-stays_ready
-returns-in-Err-clause-stays_ready g c = λ tells n. kept_ready c.args.tasks.now.items c.grow_at.new.tasks.items (inr (c.in-Some-find_row.receiver, c.in-Some-over_of.to.pad, c.in-Err.ensures.grown)) tells n
+returns-in-Err-clause-stays_ready g c = λ tells n. kept_ready c.args.tasks.now.items c.end_at.new.tasks.items (inr (c.in-Some-find_row.receiver, c.in-Some-over_of.to.pad, c.in-Err.ensures.grown)) tells n

@@ -1,18 +1,20 @@
-use Rattle.std.proofs.Common.{inr}
-use Rattle.net_edits.proofs.Rowed.{opens_there}
+use Rattle.std.proofs.Common.{arith}
+use Rattle.net_edits.proofs.Acts.{size_set}
+use Rattle.net_edits.proofs.Together.{pad_within}
 use Rattle.net_edits.proofs.over.link_between.Goals as goal
 
-pub returns-in-Ok-grow_at-clause-linked : goal.returns-in-Ok-grow_at-clause-linked
-returns-in-Ok-grow_at-clause-linked g c = record {
-  sender = c.args.ends.sender;
-  receiver = c.args.ends.receiver;
-  ends = c.requires.ends;
-  opening = c.in-Ok.field-0;
-  opens = opens_there c.args.tasks.now.items c.args.ends.sender c.args.pad c.requires.ends.sends c.index.result.now c.in-Ok.field-0 c.index.ensures c.in-Ok.ensures;
-  between = c.grow_at.new.tasks.items;
-  grown = c.in-Ok-grow_at.ensures.grown;
+pub lead_at-requires-clause-place : goal.lead_at-requires-clause-place
+lead_at-requires-clause-place g c κs within =
+    let low = pad_within c.args.tasks.now.items c.args.pad c.args.sender c.requires.sends in
+    let size = size_set c.args.tasks.now.items c.open_at.new.tasks.items c.args.room.receiver c.args.pad _ c.open_at.ensures.grown.set in
+    omega (arith, low, size, c.open_at.new.tasks.ok.0)
+
+pub returns-clause-linked : goal.returns-clause-linked
+returns-clause-linked g c = record {
+  sender = c.args.sender;
+  receiver = c.args.room.receiver;
+  ends = record { sends = c.requires.sends; feeds = (c.requires.room.row, c.requires.room.has); other = c.requires.other };
+  between = c.open_at.new.tasks.items;
+  grown = c.open_at.ensures.grown;
   led = c.lead_at.ensures.led;
 }
-
-pub returns-in-Err-grow_at-clause-kept : goal.returns-in-Err-grow_at-clause-kept
-returns-in-Err-grow_at-clause-kept g c = inr (c.args.ends.receiver, c.args.to.pad, c.in-Err-grow_at.ensures.grown)
