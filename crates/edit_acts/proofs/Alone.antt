@@ -7,11 +7,11 @@ use Rattle.flow_model.specs.Link.{Span}
 use Rattle.lane_core.specs.Lane.{Lane}
 use Rattle.lane_core.specs.declared.ends.Inlet as inlets
 use Rattle.lane_core.specs.declared.ends.Outlet as outlets
-use Rattle.net_model.specs.Moment.{Moment}
-use Rattle.net_model.specs.Standing.{is_linked}
-use Rattle.net_model.specs.Step.{Leads}
-use Rattle.net_model.specs.declared.element.TaskElement as elements
-use Rattle.net_model.specs.declared.source.TaskSource as sources
+use Rattle.flow_model.specs.Moment.{Moment}
+use Rattle.flow_model.specs.Standing.{is_linked}
+use Rattle.flow_model.specs.Step.{Leads}
+use Rattle.flow_model.specs.declared.element.TaskElement as elements
+use Rattle.flow_model.specs.declared.source.TaskSource as sources
 use Rattle.task_pads.specs.Behind.{inside, over}
 use Rattle.task_pads.specs.declared.pad.Pad.{Pad}
 use Rattle.task_pads.specs.Pads.{number_of}
@@ -30,9 +30,9 @@ use Rattle.graph_core.proofs.NumberedPads.{found_in, same_element}
 use Rattle.graph_pads.specs.Links.{source_before}
 use Rattle.graph_pads.specs.declared.pad.PadLink.{PadLink}
 use Rattle.graph_pads.specs.declared.pad.PadPlace.{PadPlace}
-use Rattle.edit_model.specs.Edited.{Edited, is_there, spans_at}
-use Rattle.edit_model.specs.Lawful.{has_link}
-use Rattle.edit_model.proofs.Keeping.{free_at}
+use Rattle.graph_edits.specs.Edited.{Edited, is_there, spans_at}
+use Rattle.graph_edits.specs.Lawful.{has_link}
+use Rattle.graph_edits.proofs.Keeping.{free_at}
 use Rattle.edit_core.specs.Tasks.{IsReachedIn, LeadsOn, number_of_head}
 use Rattle.edit_core.specs.Ways.{IsRun}
 use Rattle.edit_core.proofs.Trees.{source_owner, wire_leads, wire_leads_over, wire_owner}

@@ -6,9 +6,9 @@ use Rattle.gst_item.specs.Sticky.{stickies}
 use Rattle.lane_core.specs.Lane.{Lane}
 use Rattle.lane_core.specs.declared.ends.Inlet as inlets
 use Rattle.lane_core.specs.declared.ends.Outlet as outlets
-use Rattle.net_model.specs.Moment.{Moment}
-use Rattle.net_model.specs.declared.element.TaskElement as elements
-use Rattle.net_model.specs.declared.source.TaskSource as sources
+use Rattle.flow_model.specs.Moment.{Moment}
+use Rattle.flow_model.specs.declared.element.TaskElement as elements
+use Rattle.flow_model.specs.declared.source.TaskSource as sources
 use Rattle.net_task.specs.declared.task.Task.{Task}
 use Rattle.net_turns.specs.Net.{NetStands}
 use Rattle.net_turns.specs.declared.net.Stopped.{Stopped}
@@ -16,7 +16,7 @@ use Rattle.net_groups.specs.Joined.{IsJoined, IsUnfed}
 use Rattle.task_edits.specs.declared.inside.Inside.{Inside}
 use Rattle.net_edits.specs.Inside.{CanLinkIn, IsLinkedOpened, NoneHasBoth, StandLinked}
 use Rattle.graph_pads.specs.declared.pad.PadPlace.{PadPlace}
-use Rattle.edit_model.specs.Edited.{Edited}
+use Rattle.graph_edits.specs.Edited.{Edited}
 use Rattle.edit_core.specs.Ways.{IsRun}
 use Rattle.edit_acts.specs.Linking.{GoesOnLinked, MayLinkAt}
 use Rattle.edit_acts.proofs.Joinable.{both_there}

@@ -5,10 +5,10 @@ use Rattle.std.specs.Prelude.{slice_get}
 use Rattle.lane_core.specs.Lane.{Lane}
 use Rattle.lane_core.specs.declared.ends.Inlet as inlets
 use Rattle.lane_core.specs.declared.ends.Outlet as outlets
-use Rattle.net_model.specs.Moment.{Moment}
-use Rattle.net_model.specs.Standing.{LinksAt, links_from}
-use Rattle.net_model.specs.declared.element.TaskElement as elements
-use Rattle.net_model.specs.declared.source.TaskSource as sources
+use Rattle.flow_model.specs.Moment.{Moment}
+use Rattle.flow_model.specs.Standing.{LinksAt, links_from}
+use Rattle.flow_model.specs.declared.element.TaskElement as elements
+use Rattle.flow_model.specs.declared.source.TaskSource as sources
 use Rattle.net_task.specs.declared.task.Task.{Task}
 use Rattle.net_task.specs.Frame.{wire_of}
 use Rattle.net_edits.specs.Inside.{HasInside}
@@ -17,17 +17,17 @@ use Rattle.graph_core.specs.GraphPlan.{most_pads, pad_id, sink_at}
 use Rattle.graph_edits.specs.declared.graph.EditedGraph.{EditedGraph}
 use Rattle.graph_pads.specs.Links.{source_before}
 use Rattle.graph_pads.specs.declared.pad.PadPlace.{PadPlace}
-use Rattle.edit_model.specs.Edited.{Edited, spans_at}
-use Rattle.edit_model.specs.Lawful.{IsLinkable}
-use Rattle.edit_model.proofs.Keeping.{not_taken}
-use Rattle.edit_model.proofs.LinksStanding.{links_stay_exact, no_some}
+use Rattle.graph_edits.specs.Edited.{Edited, spans_at}
+use Rattle.graph_edits.specs.Lawful.{IsLinkable}
+use Rattle.graph_edits.proofs.Keeping.{not_taken}
+use Rattle.graph_edits.proofs.LinksStanding.{links_stay_exact, no_some}
 use Rattle.edit_core.specs.Notes.{IsCurrent}
 use Rattle.edit_core.specs.Ways.{IsRun}
 use Rattle.edit_core.specs.declared.feeds.Feeds.{Feeds}
 use Rattle.edit_core.proofs.Standing.{few_sinks}
 use Rattle.edit_core.proofs.Ways.{at_port}
-use Rattle.edit_model.specs.Names.{source_when}
-use Rattle.edit_model.specs.Refused.{has_lanes}
+use Rattle.graph_edits.specs.Names.{source_when}
+use Rattle.graph_edits.specs.Refused.{has_lanes}
 use Rattle.edit_acts.specs.Relinked.{IsToRelink}
 use Rattle.edit_acts.specs.Undoing.{HasRoomToUndo, SplitsNot}
 use Rattle.edit_acts.specs.declared.undoing.UndoRoom.{UndoRoom}

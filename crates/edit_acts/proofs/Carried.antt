@@ -10,11 +10,11 @@ use Rattle.gst_value.specs.declared.name.PadName.{PadName}
 use Rattle.lane_core.specs.Lane.{Lane}
 use Rattle.lane_core.specs.declared.ends.Inlet as inlets
 use Rattle.lane_core.specs.declared.ends.Outlet as outlets
-use Rattle.net_model.specs.Edit.{unlinked}
-use Rattle.net_model.specs.Moment.{Moment}
-use Rattle.net_model.specs.Standing.{is_linked}
-use Rattle.net_model.specs.declared.element.TaskElement as elements
-use Rattle.net_model.specs.declared.source.TaskSource as sources
+use Rattle.flow_model.specs.Edit.{unlinked}
+use Rattle.flow_model.specs.Moment.{Moment}
+use Rattle.flow_model.specs.Standing.{is_linked}
+use Rattle.flow_model.specs.declared.element.TaskElement as elements
+use Rattle.flow_model.specs.declared.source.TaskSource as sources
 use Rattle.net_task.specs.declared.task.Task.{Task}
 use Rattle.net_turns.specs.Net.{Owns}
 use Rattle.net_turns.specs.declared.net.Stopped.{Stopped}
@@ -27,14 +27,14 @@ use Rattle.graph_pads.specs.Links.{sink_behind, source_before}
 use Rattle.graph_pads.specs.declared.pad.Direction.TheVariants.{Source}
 use Rattle.graph_pads.specs.declared.pad.PadPlace.{PadPlace}
 use Rattle.script_text.specs.declared.answer.Answer.TheVariants.{Done}
-use Rattle.edit_model.specs.Edited.{Edited, link_between, linked_at, relinked_at, spans_at, touches, unlinked_at}
-use Rattle.edit_model.specs.Ended.{EndsOpen}
-use Rattle.edit_model.specs.Growing.{StandsOnlyFrom}
-use Rattle.edit_model.specs.Lawful.{IsAnswered, command}
-use Rattle.edit_model.specs.Names.{named_when, pad_named, source_when}
-use Rattle.edit_model.specs.Plans.{is_asleep}
-use Rattle.edit_model.proofs.Ended.{stays_open}
-use Rattle.edit_whole.proofs.Made.{stays_made}
+use Rattle.graph_edits.specs.Edited.{Edited, link_between, linked_at, relinked_at, spans_at, touches, unlinked_at}
+use Rattle.graph_edits.specs.Ended.{EndsOpen}
+use Rattle.graph_edits.specs.Growing.{StandsOnlyFrom}
+use Rattle.graph_edits.specs.Lawful.{IsAnswered, command}
+use Rattle.graph_edits.specs.Names.{named_when, pad_named, source_when}
+use Rattle.graph_edits.specs.Plans.{is_asleep}
+use Rattle.graph_edits.proofs.Ended.{stays_open}
+use Rattle.edit_core.proofs.Made.{stays_made}
 use Rattle.edit_core.specs.Feeds.{AreFeeds}
 use Rattle.edit_core.specs.Judging.{IsLast, owed_then}
 use Rattle.edit_core.specs.Notes.{IsCurrent}

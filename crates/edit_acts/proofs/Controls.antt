@@ -4,9 +4,9 @@ use Rattle.flow_model.specs.Item.{Item}
 use Rattle.lane_core.specs.Lane.{Lane}
 use Rattle.lane_core.specs.declared.ends.Inlet as inlets
 use Rattle.lane_core.specs.declared.ends.Outlet as outlets
-use Rattle.net_model.specs.Moment.{Moment}
-use Rattle.net_model.specs.declared.element.TaskElement as elements
-use Rattle.net_model.specs.declared.source.TaskSource as sources
+use Rattle.flow_model.specs.Moment.{Moment}
+use Rattle.flow_model.specs.declared.element.TaskElement as elements
+use Rattle.flow_model.specs.declared.source.TaskSource as sources
 use Rattle.net_task.specs.declared.task.Task.{Task}
 use Rattle.graph_core.specs.GraphPlan.{most_pads, pad_id}
 use Rattle.graph_core.proofs.NumberedPads.{found_in, same_element}
@@ -17,12 +17,12 @@ use Rattle.graph_pads.specs.declared.pad.Direction.TheVariants.{Source}
 use Rattle.graph_pads.specs.declared.pad.PadPlace.{PadPlace}
 use Rattle.script_text.specs.declared.answer.Answer.TheVariants.{Done}
 use Rattle.script_text.specs.declared.command.Act.{Act}
-use Rattle.edit_model.specs.Edited.{Edited, is_there, unlinked_at}
-use Rattle.edit_model.specs.Lawful.{IsAnswered, command}
-use Rattle.edit_model.specs.Names.{source_when}
-use Rattle.edit_model.specs.Ended.{EndsOpen}
-use Rattle.edit_model.proofs.Ended.{stays_open}
-use Rattle.edit_whole.proofs.Made.{stays_made}
+use Rattle.graph_edits.specs.Edited.{Edited, is_there, unlinked_at}
+use Rattle.graph_edits.specs.Lawful.{IsAnswered, command}
+use Rattle.graph_edits.specs.Names.{source_when}
+use Rattle.graph_edits.specs.Ended.{EndsOpen}
+use Rattle.graph_edits.proofs.Ended.{stays_open}
+use Rattle.edit_core.proofs.Made.{stays_made}
 use Rattle.edit_core.specs.Deciding.{IsDeed}
 use Rattle.edit_core.specs.Feeds.{AreFeeds, IsTheLink}
 use Rattle.edit_core.specs.Judging.{IsLast, owed_then}

@@ -19,12 +19,12 @@ use Rattle.graph_pads.specs.declared.pad.PadPlace.{PadPlace}
 use Rattle.lane_core.specs.Lane.{Lane}
 use Rattle.lane_core.specs.declared.ends.Inlet as inlets
 use Rattle.lane_core.specs.declared.ends.Outlet as outlets
-use Rattle.net_model.specs.Edit.{ended_inside, ended_over, linked, opening_calls, undone, unlinked}
-use Rattle.net_model.specs.Moment.{Moment}
-use Rattle.net_model.specs.Step.{planned}
+use Rattle.flow_model.specs.Edit.{ended_inside, ended_over, linked, opening_calls, undone, unlinked}
+use Rattle.flow_model.specs.Moment.{Moment}
+use Rattle.flow_model.specs.Step.{planned}
 use Rattle.flow_model.specs.SinkPads.{push_calls}
-use Rattle.net_model.specs.declared.element.TaskElement as elements
-use Rattle.net_model.specs.declared.source.TaskSource as sources
+use Rattle.flow_model.specs.declared.element.TaskElement as elements
+use Rattle.flow_model.specs.declared.source.TaskSource as sources
 use Rattle.net_task.specs.declared.task.Task.{Task}
 use Rattle.net_edits.specs.Adding.{frozen}
 use Rattle.net_edits.specs.declared.inside.EditFault.{EditFault}
@@ -32,8 +32,8 @@ use Rattle.net_edits.specs.declared.inside.EditFault.TheVariants as faults
 use Rattle.script_text.specs.declared.command.Act.{Act}
 use Rattle.script_text.specs.declared.command.When.TheVariants.{At, NowPad, Now}
 use Rattle.script_text.specs.declared.command.When.{When}
-use Rattle.edit_model.specs.Edited.{Edited, is_there, relinked_at, unlinked_at}
-use Rattle.edit_model.specs.Names.{pad_named, source_when}
+use Rattle.graph_edits.specs.Edited.{Edited, is_there, relinked_at, unlinked_at}
+use Rattle.graph_edits.specs.Names.{pad_named, source_when}
 use Rattle.edit_core.specs.Deciding.{IsDeed}
 use Rattle.edit_core.specs.Judging.{owed_then}
 use Rattle.edit_core.specs.declared.deciding.Deed.{Deed}

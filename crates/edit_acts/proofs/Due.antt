@@ -10,9 +10,9 @@ use Rattle.graph_pads.specs.declared.pad.PadPlace.{PadPlace}
 use Rattle.script_text.specs.declared.answer.Answer.{Answer}
 use Rattle.script_text.specs.declared.command.Command.{Command}
 use Rattle.script_text.specs.declared.command.When.{When}
-use Rattle.edit_model.specs.Edited.{Edited, is_there}
-use Rattle.edit_model.specs.Lawful.{IsAnswered, Reaches, begins_with_buffer}
-use Rattle.edit_model.specs.Names.{pad_named}
+use Rattle.graph_edits.specs.Edited.{Edited, is_there}
+use Rattle.graph_edits.specs.Lawful.{IsAnswered, Reaches, begins_with_buffer}
+use Rattle.graph_edits.specs.Names.{pad_named}
 
 -- what is owed to a source pad that is there by what is owed now, and else what was
 abbrev pub still_due : Edited → (ℕ → ℕ) → (ℕ → List Item) → (ℕ → List Item) → ℕ → List Item

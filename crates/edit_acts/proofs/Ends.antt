@@ -4,10 +4,10 @@ use Rattle.std.specs.Prelude.{slice_get}
 use Rattle.lane_core.specs.Lane.{Lane}
 use Rattle.lane_core.specs.declared.ends.Inlet as inlets
 use Rattle.lane_core.specs.declared.ends.Outlet as outlets
-use Rattle.net_model.specs.Moment.{Moment}
-use Rattle.net_model.specs.Step.{LeadsNowhere}
-use Rattle.net_model.specs.declared.element.TaskElement as elements
-use Rattle.net_model.specs.declared.source.TaskSource as sources
+use Rattle.flow_model.specs.Moment.{Moment}
+use Rattle.flow_model.specs.Step.{LeadsNowhere}
+use Rattle.flow_model.specs.declared.element.TaskElement as elements
+use Rattle.flow_model.specs.declared.source.TaskSource as sources
 use Rattle.task_pads.specs.Behind.{Goes, LaneEnd, end_in, goes, inside, lane_end, nowhere, over}
 use Rattle.task_pads.specs.declared.pad.Behind.{Behind}
 use Rattle.task_pads.specs.declared.pad.Behind.TheVariants as behinds
@@ -24,7 +24,7 @@ use Rattle.net_edits.specs.Ending.{CannotEnd, IsEndedOver, StandEndedOver}
 use Rattle.net_edits.specs.Inside.{FedAll, HasInside, IsEndedInside, NoneInside, StandEnded, TiesUndone, eos_alone}
 use Rattle.net_edits.specs.Nets.{NoneHas}
 use Rattle.net_edits.specs.Over.{NoneFeeds}
-use Rattle.edit_model.specs.Edited.{Edited}
+use Rattle.graph_edits.specs.Edited.{Edited}
 use Rattle.edit_core.specs.Ways.{IsRun}
 use Rattle.edit_core.proofs.Trees.{wire_leads_as}
 use Rattle.edit_acts.specs.Ending.{EndsAt, HasNoLink, RunsEnd}

@@ -16,9 +16,9 @@ use Rattle.graph_pads.specs.declared.pad.Direction.TheVariants.{Source}
 use Rattle.graph_pads.specs.declared.pad.PadPlace.{PadPlace}
 use Rattle.lane_core.specs.declared.ends.Inlet as inlets
 use Rattle.lane_core.specs.declared.ends.Outlet as outlets
-use Rattle.net_model.specs.Moment.{Moment}
-use Rattle.net_model.specs.declared.element.TaskElement as elements
-use Rattle.net_model.specs.declared.source.TaskSource as sources
+use Rattle.flow_model.specs.Moment.{Moment}
+use Rattle.flow_model.specs.declared.element.TaskElement as elements
+use Rattle.flow_model.specs.declared.source.TaskSource as sources
 use Rattle.script_text.specs.declared.answer.Answer.{Answer}
 use Rattle.script_text.specs.declared.answer.Answer.TheVariants.{Done, Refused, Unreached}
 use Rattle.script_text.specs.declared.answer.Entry.{Entry}
@@ -29,12 +29,12 @@ use Rattle.script_text.specs.declared.command.Act.{Act}
 use Rattle.script_text.specs.declared.command.Command.{Command}
 use Rattle.script_text.specs.declared.command.When.{When}
 use Rattle.script_text.specs.declared.command.When.TheVariants.{At, NowPad, Now}
-use Rattle.edit_model.specs.Edited.{Edited, is_there}
-use Rattle.edit_model.specs.Growing.{FallsNowhere, GrowsTo, IsKept}
-use Rattle.edit_model.specs.Lawful.{AreAnswered, IsAnswered, IsRefusedFor, IsUnlinkable, Makes, NeverFall, place_at, places_at, places_of, reason_of}
-use Rattle.edit_model.specs.Names.{pad_named, source_when}
-use Rattle.edit_model.proofs.Following.{one_more_entry}
-use Rattle.edit_model.proofs.Staying.{stays_lawful}
+use Rattle.graph_edits.specs.Edited.{Edited, is_there}
+use Rattle.graph_edits.specs.Growing.{FallsNowhere, GrowsTo, IsKept}
+use Rattle.graph_edits.specs.Lawful.{AreAnswered, IsAnswered, IsRefusedFor, IsUnlinkable, Makes, NeverFall, place_at, places_at, places_of, reason_of}
+use Rattle.graph_edits.specs.Names.{pad_named, source_when}
+use Rattle.graph_edits.proofs.Following.{one_more_entry}
+use Rattle.graph_edits.proofs.Staying.{stays_lawful}
 use Rattle.edit_core.specs.Deciding.{IsReached, names_its_pad}
 use Rattle.edit_core.specs.Judging.{IsLast, owed_then}
 use Rattle.edit_acts.specs.Scripted.{ActsKeepScripts, ArePassed, IsActed, IsAnsweredBy, IsExact, IsPassed, IsScripted, ScriptRun, pad_once_named}

@@ -6,9 +6,9 @@ use Rattle.lane_core.specs.declared.ends.Outlet as outlets
 use Rattle.net_edits.specs.Inside.{NotEnded}
 use Rattle.net_edits.specs.Over.{AreKept}
 use Rattle.net_edits.specs.declared.inside.EditFault.TheVariants as faults
-use Rattle.net_model.specs.Moment.{Moment}
-use Rattle.net_model.specs.declared.element.TaskElement as elements
-use Rattle.net_model.specs.declared.source.TaskSource as sources
+use Rattle.flow_model.specs.Moment.{Moment}
+use Rattle.flow_model.specs.declared.element.TaskElement as elements
+use Rattle.flow_model.specs.declared.source.TaskSource as sources
 use Rattle.net_task.specs.declared.task.Task.{Task}
 use Rattle.net_turns.specs.Net.{NetStands}
 use Rattle.net_turns.specs.declared.net.Stopped.{Stopped}
@@ -16,7 +16,7 @@ use Rattle.graph_core.specs.GraphPlan.{pad_id}
 use Rattle.graph_edits.specs.Graph.{IsEdited}
 use Rattle.graph_edits.specs.declared.graph.EditedGraph.{EditedGraph}
 use Rattle.graph_pads.specs.declared.pad.PadPlace.{PadPlace}
-use Rattle.edit_model.specs.Edited.{Edited, unlinked_at}
+use Rattle.graph_edits.specs.Edited.{Edited, unlinked_at}
 use Rattle.edit_core.specs.Feeds.{AreFeeds}
 use Rattle.edit_core.specs.Ways.{IsRun}
 use Rattle.edit_core.specs.declared.feeds.Feeds.{Feeds}

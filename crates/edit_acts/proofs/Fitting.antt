@@ -8,12 +8,12 @@ use Rattle.gst_value.proofs.Places.{found_at, map_got}
 use Rattle.lane_core.specs.Lane.{Lane}
 use Rattle.lane_core.specs.declared.ends.Inlet as inlets
 use Rattle.lane_core.specs.declared.ends.Outlet as outlets
-use Rattle.net_model.specs.Edit.{IsFree}
-use Rattle.net_model.specs.Moment.{Moment}
-use Rattle.net_model.specs.Split.{AreSplit, none, pad}
-use Rattle.net_model.specs.Step.{LeadsNowhere}
-use Rattle.net_model.specs.declared.element.TaskElement as elements
-use Rattle.net_model.specs.declared.source.TaskSource as sources
+use Rattle.flow_model.specs.Edit.{IsFree}
+use Rattle.flow_model.specs.Moment.{Moment}
+use Rattle.flow_model.specs.Split.{AreSplit, none, pad}
+use Rattle.flow_model.specs.Step.{LeadsNowhere}
+use Rattle.flow_model.specs.declared.element.TaskElement as elements
+use Rattle.flow_model.specs.declared.source.TaskSource as sources
 use Rattle.task_pads.specs.Pads.{number_of}
 use Rattle.task_pads.specs.declared.pad.Pad.{Pad}
 use Rattle.task_parts.specs.declared.head.Head.{Head}
@@ -37,8 +37,8 @@ use Rattle.graph_core.specs.GraphPlan.{pad_id}
 use Rattle.graph_core.specs.Links.{ways}
 use Rattle.graph_order.specs.Links.{Way}
 use Rattle.graph_pads.specs.declared.pad.PadPlace.{PadPlace}
-use Rattle.edit_model.specs.Edited.{Edited, is_there}
-use Rattle.edit_model.specs.Refused.{has_lanes}
+use Rattle.graph_edits.specs.Edited.{Edited, is_there}
+use Rattle.graph_edits.specs.Refused.{has_lanes}
 use Rattle.edit_core.specs.Ways.{IsRun}
 use Rattle.edit_acts.specs.Over.{CanLinkOver, IsAhead, LeadsTo, MayLinkOver}
 use Rattle.edit_acts.proofs.Loose.{element_way, pad_nowhere, sink_free}

@@ -13,9 +13,9 @@ use Rattle.graph_core.specs.GraphPlan.{IsIn}
 use Rattle.graph_pads.specs.declared.pad.Direction.TheVariants.{Source}
 use Rattle.graph_pads.specs.declared.pad.PadLink.{PadLink}
 use Rattle.graph_pads.specs.declared.pad.PadPlace.{PadPlace}
-use Rattle.edit_model.specs.Edited.{Edited, added, is_there, touches, without_element}
-use Rattle.edit_model.specs.Lawful.{has_link}
-use Rattle.edit_model.specs.Names.{element_named, pad_named}
+use Rattle.graph_edits.specs.Edited.{Edited, added, is_there, touches, without_element}
+use Rattle.graph_edits.specs.Lawful.{has_link}
+use Rattle.graph_edits.specs.Names.{element_named, pad_named}
 use Rattle.edit_core.proofs.Finding.{found_of, named_by}
 use Rattle.edit_acts.proofs.Having.{any_in}
 

@@ -10,9 +10,9 @@ use Rattle.graph_core.specs.Elements.{has}
 use Rattle.graph_core.specs.GraphPlan.{IsIn, pad_id}
 use Rattle.graph_pads.specs.declared.pad.PadLink.{PadLink}
 use Rattle.graph_pads.specs.declared.pad.PadPlace.{PadPlace}
-use Rattle.net_model.specs.Edit.{push_span}
-use Rattle.edit_model.specs.Edited.{Edited, link_between, linked_at, touches}
-use Rattle.edit_model.specs.Plans.{is_asleep}
+use Rattle.flow_model.specs.Edit.{push_span}
+use Rattle.graph_edits.specs.Edited.{Edited, link_between, linked_at, touches}
+use Rattle.graph_edits.specs.Plans.{is_asleep}
 use Rattle.edit_core.specs.Marks.{AllUnmarked, IsUnmarked}
 use Rattle.edit_core.proofs.Marks.{pushed}
 

@@ -5,9 +5,9 @@ use Rattle.std.proofs.lemmas.Bool.{cases_eq}
 use Rattle.lane_core.specs.Lane.{Lane}
 use Rattle.lane_core.specs.declared.ends.Inlet as inlets
 use Rattle.lane_core.specs.declared.ends.Outlet as outlets
-use Rattle.net_model.specs.Moment.{Moment}
-use Rattle.net_model.specs.declared.element.TaskElement as elements
-use Rattle.net_model.specs.declared.source.TaskSource as sources
+use Rattle.flow_model.specs.Moment.{Moment}
+use Rattle.flow_model.specs.declared.element.TaskElement as elements
+use Rattle.flow_model.specs.declared.source.TaskSource as sources
 use Rattle.inlet_row.specs.declared.feeding.Feeding.{Feeding}
 use Rattle.inlet_row.specs.declared.row.InletRow.{InletRow}
 use Rattle.task_pads.proofs.Lists.{set_length, set_there}
@@ -25,7 +25,7 @@ use Rattle.net_turns.specs.Net.{HasElement, HasRow}
 use Rattle.net_edits.specs.Ending.{IsEndedOver}
 use Rattle.net_edits.specs.Over.{IsGrownAt, TaskGrew}
 use Rattle.net_groups.specs.Places.{FedAt, HasWire}
-use Rattle.edit_model.specs.Edited.{Edited}
+use Rattle.graph_edits.specs.Edited.{Edited}
 use Rattle.edit_core.specs.Tasks.{AreTasksOf, IsReachedIn, number_of_head}
 use Rattle.edit_core.specs.Ways.{IsRun}
 use Rattle.edit_acts.specs.Undoing.{LeadsNoneInside}

@@ -6,11 +6,11 @@ use Rattle.flow_model.specs.Link.{Span}
 use Rattle.lane_core.specs.Lane.{Lane}
 use Rattle.lane_core.specs.declared.ends.Inlet as inlets
 use Rattle.lane_core.specs.declared.ends.Outlet as outlets
-use Rattle.net_model.specs.Moment.{Moment}
-use Rattle.net_model.specs.Standing.{LinksNowhere, links_from}
-use Rattle.net_model.specs.Step.{LeadsNowhere}
-use Rattle.net_model.specs.declared.element.TaskElement as elements
-use Rattle.net_model.specs.declared.source.TaskSource as sources
+use Rattle.flow_model.specs.Moment.{Moment}
+use Rattle.flow_model.specs.Standing.{LinksNowhere, links_from}
+use Rattle.flow_model.specs.Step.{LeadsNowhere}
+use Rattle.flow_model.specs.declared.element.TaskElement as elements
+use Rattle.flow_model.specs.declared.source.TaskSource as sources
 use Rattle.task_parts.specs.declared.head.Head.{Head}
 use Rattle.task_parts.specs.declared.head.Head.TheVariants.{Source, Inlets}
 use Rattle.gst_value.proofs.Basics.{number_itself, or_first, or_second}
@@ -28,8 +28,8 @@ use Rattle.graph_core.proofs.NumberedPads.{found_in}
 use Rattle.graph_pads.specs.Links.{source_before}
 use Rattle.graph_pads.specs.declared.pad.PadLink.{PadLink}
 use Rattle.graph_pads.specs.declared.pad.PadPlace.{PadPlace}
-use Rattle.edit_model.specs.Edited.{Edited, is_active, spans_at, touches}
-use Rattle.edit_model.specs.Plans.{is_asleep}
+use Rattle.graph_edits.specs.Edited.{Edited, is_active, spans_at, touches}
+use Rattle.graph_edits.specs.Plans.{is_asleep}
 use Rattle.edit_core.proofs.Standing.{found_back}
 use Rattle.edit_core.specs.Tasks.{number_of_head}
 use Rattle.edit_acts.specs.Ending.{HasLink}

@@ -8,10 +8,10 @@ use Rattle.gst_item.specs.Sticky.{stickies}
 use Rattle.graph_core.specs.GraphPlan.{pad_id, sink_at}
 use Rattle.graph_pads.specs.Links.{sink_behind}
 use Rattle.graph_pads.specs.declared.pad.PadPlace.{PadPlace}
-use Rattle.net_model.specs.Standing.{links_from}
-use Rattle.edit_model.specs.Edited.{Edited, spans_at, unlinked_at}
-use Rattle.edit_model.proofs.Keeping.{undone_at}
-use Rattle.edit_model.proofs.LinksStanding.{links_stay_exact}
+use Rattle.flow_model.specs.Standing.{links_from}
+use Rattle.graph_edits.specs.Edited.{Edited, spans_at, unlinked_at}
+use Rattle.graph_edits.proofs.Keeping.{undone_at}
+use Rattle.graph_edits.proofs.LinksStanding.{links_stay_exact}
 use Rattle.edit_core.specs.Feeds.{AreFeeds, IsFeed, IsTheLink}
 use Rattle.edit_core.specs.declared.feeds.Feeds.{Feeds}
 use Rattle.edit_core.proofs.Spans.{undone_none}

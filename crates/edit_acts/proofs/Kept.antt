@@ -8,9 +8,9 @@ use Rattle.flow_model.specs.Item.{Item}
 use Rattle.lane_core.specs.Lane.{Lane}
 use Rattle.lane_core.specs.declared.ends.Inlet as inlets
 use Rattle.lane_core.specs.declared.ends.Outlet as outlets
-use Rattle.net_model.specs.Moment.{Moment}
-use Rattle.net_model.specs.declared.element.TaskElement as elements
-use Rattle.net_model.specs.declared.source.TaskSource as sources
+use Rattle.flow_model.specs.Moment.{Moment}
+use Rattle.flow_model.specs.declared.element.TaskElement as elements
+use Rattle.flow_model.specs.declared.source.TaskSource as sources
 use Rattle.task_pads.specs.Behind.{inside, over}
 use Rattle.task_parts.specs.declared.head.Head.{Head}
 use Rattle.task_parts.specs.declared.head.InletHead.{InletHead}
@@ -29,9 +29,9 @@ use Rattle.gst_value.proofs.Places.{any_append}
 use Rattle.graph_core.specs.Elements.{has}
 use Rattle.graph_core.specs.GraphPlan.{pad_id}
 use Rattle.graph_pads.specs.declared.pad.PadPlace.{PadPlace}
-use Rattle.edit_model.specs.Edited.{Edited, is_there, link_between, linked_at, touches}
-use Rattle.edit_model.specs.Plans.{is_asleep}
-use Rattle.edit_model.specs.Refused.{has_lanes}
+use Rattle.graph_edits.specs.Edited.{Edited, is_there, link_between, linked_at, touches}
+use Rattle.graph_edits.specs.Plans.{is_asleep}
+use Rattle.graph_edits.specs.Refused.{has_lanes}
 use Rattle.edit_core.specs.Tasks.{AreTasksOf, IsReachedIn, LeadsOn, number_of_head}
 use Rattle.edit_core.specs.Ways.{IsRun}
 use Rattle.edit_acts.specs.Linking.{MayLink, sink_in}

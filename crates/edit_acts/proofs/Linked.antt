@@ -5,10 +5,10 @@ use Rattle.flow_model.specs.Link.{Linked, Span}
 use Rattle.lane_core.specs.Lane.{Lane}
 use Rattle.lane_core.specs.declared.ends.Inlet as inlets
 use Rattle.lane_core.specs.declared.ends.Outlet as outlets
-use Rattle.net_model.specs.Edit.{linked_inside, push_span}
-use Rattle.net_model.specs.Moment.{Moment}
-use Rattle.net_model.specs.declared.element.TaskElement as elements
-use Rattle.net_model.specs.declared.source.TaskSource as sources
+use Rattle.flow_model.specs.Edit.{linked_inside, push_span}
+use Rattle.flow_model.specs.Moment.{Moment}
+use Rattle.flow_model.specs.declared.element.TaskElement as elements
+use Rattle.flow_model.specs.declared.source.TaskSource as sources
 use Rattle.net_task.specs.declared.task.Task.{Task}
 use Rattle.net_turns.specs.Net.{NetStands}
 use Rattle.net_groups.specs.Joined.{CannotJoin, IsJoined, IsUnfed}
@@ -16,9 +16,9 @@ use Rattle.task_edits.specs.declared.inside.Inside.{Inside}
 use Rattle.net_edits.specs.Inside.{CanLinkIn, IsLinkedOpened, StandLinked}
 use Rattle.graph_core.specs.GraphPlan.{pad_id}
 use Rattle.graph_pads.specs.declared.pad.PadPlace.{PadPlace}
-use Rattle.edit_model.specs.Edited.{Edited, linked_at}
-use Rattle.edit_model.proofs.Keeping.{linked_kept}
-use Rattle.edit_model.proofs.LinksStanding.{linked_stand}
+use Rattle.graph_edits.specs.Edited.{Edited, linked_at}
+use Rattle.graph_edits.proofs.Keeping.{linked_kept}
+use Rattle.graph_edits.proofs.LinksStanding.{linked_stand}
 use Rattle.edit_core.specs.Ways.{IsRun}
 use Rattle.edit_acts.specs.Linking.{GoesOnLinked, MayLink, MayLinkAt, sink_in}
 use Rattle.edit_acts.proofs.Graphs.{linked_made, linked_unmarked}

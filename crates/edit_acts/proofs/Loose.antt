@@ -5,12 +5,12 @@ use Rattle.flow_model.specs.Link.{Span}
 use Rattle.lane_core.specs.Lane.{Lane}
 use Rattle.lane_core.specs.declared.ends.Inlet as inlets
 use Rattle.lane_core.specs.declared.ends.Outlet as outlets
-use Rattle.net_model.specs.Edit.{IsFree}
-use Rattle.net_model.specs.Moment.{Moment}
-use Rattle.net_model.specs.Standing.{LinksAt, is_linked}
-use Rattle.net_model.specs.Step.{Leads, LeadsNowhere}
-use Rattle.net_model.specs.declared.element.TaskElement as elements
-use Rattle.net_model.specs.declared.source.TaskSource as sources
+use Rattle.flow_model.specs.Edit.{IsFree}
+use Rattle.flow_model.specs.Moment.{Moment}
+use Rattle.flow_model.specs.Standing.{LinksAt, is_linked}
+use Rattle.flow_model.specs.Step.{Leads, LeadsNowhere}
+use Rattle.flow_model.specs.declared.element.TaskElement as elements
+use Rattle.flow_model.specs.declared.source.TaskSource as sources
 use Rattle.task_pads.specs.Behind.{Goes, nowhere, inside, over}
 use Rattle.task_parts.specs.declared.head.Head.{Head}
 use Rattle.task_parts.specs.declared.head.InletHead.{InletHead}
@@ -29,10 +29,10 @@ use Rattle.graph_order.specs.Links.{IsLink, Way}
 use Rattle.graph_pads.specs.Links.{is_same, sink_behind, source_before}
 use Rattle.graph_pads.specs.declared.pad.PadLink.{PadLink}
 use Rattle.graph_pads.specs.declared.pad.PadPlace.{PadPlace}
-use Rattle.edit_model.specs.Edited.{Edited, is_there}
-use Rattle.edit_model.specs.Refused.{has_lanes}
-use Rattle.edit_model.proofs.Keeping.{free_at}
-use Rattle.edit_model.proofs.LinksStanding.{exactly}
+use Rattle.graph_edits.specs.Edited.{Edited, is_there}
+use Rattle.graph_edits.specs.Refused.{has_lanes}
+use Rattle.graph_edits.proofs.Keeping.{free_at}
+use Rattle.graph_edits.proofs.LinksStanding.{exactly}
 use Rattle.edit_core.specs.Tasks.{IsReachedIn, LeadsOn, number_of_head}
 use Rattle.edit_core.specs.Ways.{IsRun}
 use Rattle.edit_core.proofs.Inner.{few}

@@ -4,9 +4,9 @@ use Rattle.std.specs.Prelude.{slice_get}
 use Rattle.lane_core.specs.Lane.{Lane}
 use Rattle.lane_core.specs.declared.ends.Inlet as inlets
 use Rattle.lane_core.specs.declared.ends.Outlet as outlets
-use Rattle.net_model.specs.Moment.{Moment}
-use Rattle.net_model.specs.declared.element.TaskElement as elements
-use Rattle.net_model.specs.declared.source.TaskSource as sources
+use Rattle.flow_model.specs.Moment.{Moment}
+use Rattle.flow_model.specs.declared.element.TaskElement as elements
+use Rattle.flow_model.specs.declared.source.TaskSource as sources
 use Rattle.inlet_row.specs.Row.{feeds_of}
 use Rattle.inlet_row.specs.declared.row.InletRow.{InletRow}
 use Rattle.task_parts.specs.declared.head.InletHead.{InletHead}
@@ -18,8 +18,8 @@ use Rattle.net_turns.specs.Net.{HasElement, HasRow, IsFed, NetStands}
 use Rattle.net_edits.specs.Over.{AreKept, IsGrownAt}
 use Rattle.net_groups.proofs.Regrouped.{fed_same}
 use Rattle.graph_edits.specs.declared.graph.EditedGraph.{EditedGraph}
-use Rattle.edit_model.specs.Edited.{Edited}
-use Rattle.edit_model.specs.Refused.{has_lanes}
+use Rattle.graph_edits.specs.Edited.{Edited}
+use Rattle.graph_edits.specs.Refused.{has_lanes}
 use Rattle.edit_core.specs.Tasks.{AreTasksOf, IsReachedIn}
 use Rattle.edit_core.specs.Ways.{IsRun}
 use Rattle.edit_core.specs.declared.feeds.Feeds.{Feeds}

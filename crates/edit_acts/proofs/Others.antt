@@ -6,9 +6,9 @@ use Rattle.flow_model.specs.Item.{Item}
 use Rattle.lane_core.specs.Lane.{Lane}
 use Rattle.lane_core.specs.declared.ends.Inlet as inlets
 use Rattle.lane_core.specs.declared.ends.Outlet as outlets
-use Rattle.net_model.specs.Moment.{Moment}
-use Rattle.net_model.specs.declared.element.TaskElement as elements
-use Rattle.net_model.specs.declared.source.TaskSource as sources
+use Rattle.flow_model.specs.Moment.{Moment}
+use Rattle.flow_model.specs.declared.element.TaskElement as elements
+use Rattle.flow_model.specs.declared.source.TaskSource as sources
 use Rattle.task_pads.specs.Behind.{inside, over}
 use Rattle.task_parts.specs.declared.head.InletHead.{InletHead}
 use Rattle.gst_value.proofs.Basics.{some_same}
@@ -18,11 +18,11 @@ use Rattle.net_turns.specs.Net.{HasElement, IsFed, NetStands, Owns}
 use Rattle.net_turns.proofs.Facts.{fed_owned}
 use Rattle.net_edits.specs.Adding.{NoneOwns}
 use Rattle.net_groups.proofs.Lists.{removed_back, removed_on}
-use Rattle.edit_model.specs.Edited.{Edited, is_there, without_element}
-use Rattle.edit_model.specs.Growing.{IsKept}
-use Rattle.edit_model.specs.Lawful.{has_link}
-use Rattle.edit_model.specs.Plans.{is_asleep}
-use Rattle.edit_model.specs.Refused.{has_lanes}
+use Rattle.graph_edits.specs.Edited.{Edited, is_there, without_element}
+use Rattle.graph_edits.specs.Growing.{IsKept}
+use Rattle.graph_edits.specs.Lawful.{has_link}
+use Rattle.graph_edits.specs.Plans.{is_asleep}
+use Rattle.graph_edits.specs.Refused.{has_lanes}
 use Rattle.edit_core.specs.Tasks.{AreTasksOf}
 use Rattle.edit_core.specs.Ways.{IsRun}
 use Rattle.edit_acts.specs.Removed.{IsTakenOut}

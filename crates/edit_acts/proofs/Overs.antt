@@ -11,10 +11,10 @@ use Rattle.inlet_row.specs.declared.row.InletRow.{InletRow}
 use Rattle.lane_core.specs.Lane.{Lane}
 use Rattle.lane_core.specs.declared.ends.Inlet as inlets
 use Rattle.lane_core.specs.declared.ends.Outlet as outlets
-use Rattle.net_model.specs.Edit.{linked_over, push_span}
-use Rattle.net_model.specs.Moment.{Moment}
-use Rattle.net_model.specs.declared.element.TaskElement as elements
-use Rattle.net_model.specs.declared.source.TaskSource as sources
+use Rattle.flow_model.specs.Edit.{linked_over, push_span}
+use Rattle.flow_model.specs.Moment.{Moment}
+use Rattle.flow_model.specs.declared.element.TaskElement as elements
+use Rattle.flow_model.specs.declared.source.TaskSource as sources
 use Rattle.task_pads.specs.Behind.{goes, inside, over}
 use Rattle.task_pads.specs.declared.pad.Behind.{Behind}
 use Rattle.task_parts.specs.declared.head.InletHead.{InletHead}
@@ -33,11 +33,11 @@ use Rattle.graph_core.specs.GraphPlan.{owner_of, pad_id}
 use Rattle.graph_pads.specs.declared.pad.PadPlace.{PadPlace}
 use Rattle.task_edits.specs.declared.leading.NewLane.{NewLane}
 use Rattle.task_edits.specs.declared.openings.Opening.{Opening}
-use Rattle.edit_model.specs.Edited.{Edited, is_there, link_between, linked_at, touches}
-use Rattle.edit_model.specs.Plans.{is_asleep}
-use Rattle.edit_model.specs.Refused.{has_lanes}
-use Rattle.edit_model.proofs.Keeping.{linked_kept}
-use Rattle.edit_model.proofs.LinksStanding.{linked_stand}
+use Rattle.graph_edits.specs.Edited.{Edited, is_there, link_between, linked_at, touches}
+use Rattle.graph_edits.specs.Plans.{is_asleep}
+use Rattle.graph_edits.specs.Refused.{has_lanes}
+use Rattle.graph_edits.proofs.Keeping.{linked_kept}
+use Rattle.graph_edits.proofs.LinksStanding.{linked_stand}
 use Rattle.edit_core.specs.Tasks.{AreTasksOf, IsReachedIn, LeadsOn}
 use Rattle.edit_core.specs.Ways.{IsRun}
 use Rattle.edit_acts.specs.Over.{LeadsTo, MayLinkOver}

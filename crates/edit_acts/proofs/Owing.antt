@@ -5,13 +5,13 @@ use Rattle.flow_model.proofs.Prefixes.{prefix_append}
 use Rattle.lane_core.specs.Lane.{Lane}
 use Rattle.lane_core.specs.declared.ends.Inlet as inlets
 use Rattle.lane_core.specs.declared.ends.Outlet as outlets
-use Rattle.net_model.specs.Moment.{Moment, owed_at}
-use Rattle.net_model.specs.Pad.{Holds}
-use Rattle.net_model.specs.declared.element.TaskElement as elements
-use Rattle.net_model.specs.declared.source.TaskSource as sources
+use Rattle.flow_model.specs.Moment.{Moment, owed_at}
+use Rattle.flow_model.specs.Pad.{Holds}
+use Rattle.flow_model.specs.declared.element.TaskElement as elements
+use Rattle.flow_model.specs.declared.source.TaskSource as sources
 use Rattle.net_task.specs.declared.task.Task.{Task}
 use Rattle.net_turns.specs.Net.{NetStands}
-use Rattle.edit_model.specs.Ended.{OwesToEos}
+use Rattle.graph_edits.specs.Ended.{OwesToEos}
 use Rattle.edit_core.specs.Judging.{owed_then}
 
 module _ {S E I O L : Type 0} {s : sources.Ghosts S} {e : elements.Ghosts E} {i : inlets.Ghosts I L O} {o : outlets.Ghosts O L} (m : Moment) (tasks : List (Task S E I O L s e i o)) (tells : Option (List Lane))

@@ -6,9 +6,9 @@ use Rattle.gst_value.specs.declared.name.PadName.{PadName}
 use Rattle.lane_core.specs.Lane.{Lane}
 use Rattle.lane_core.specs.declared.ends.Inlet as inlets
 use Rattle.lane_core.specs.declared.ends.Outlet as outlets
-use Rattle.net_model.specs.Moment.{Moment}
-use Rattle.net_model.specs.declared.element.TaskElement as elements
-use Rattle.net_model.specs.declared.source.TaskSource as sources
+use Rattle.flow_model.specs.Moment.{Moment}
+use Rattle.flow_model.specs.declared.element.TaskElement as elements
+use Rattle.flow_model.specs.declared.source.TaskSource as sources
 use Rattle.task_parts.specs.declared.head.Head.{Head}
 use Rattle.task_parts.specs.declared.head.Head.TheVariants.{Source as OfSource, Inlets}
 use Rattle.task_edits.specs.Inside.{IsPadOf}
@@ -23,9 +23,9 @@ use Rattle.net_edits.specs.Nets.{TaskHas}
 use Rattle.graph_core.specs.GraphPlan.{pad_id}
 use Rattle.graph_pads.specs.declared.pad.Direction.TheVariants.{Source}
 use Rattle.graph_pads.specs.declared.pad.PadPlace.{PadPlace}
-use Rattle.edit_model.specs.Edited.{Edited}
-use Rattle.edit_model.specs.Names.{pad_named}
-use Rattle.edit_model.specs.Plans.{is_asleep}
+use Rattle.graph_edits.specs.Edited.{Edited}
+use Rattle.graph_edits.specs.Names.{pad_named}
+use Rattle.graph_edits.specs.Plans.{is_asleep}
 use Rattle.edit_core.specs.Judging.{AreFresh}
 use Rattle.edit_core.specs.Tasks.{number_of_head}
 use Rattle.edit_core.specs.Ways.{IsRun}

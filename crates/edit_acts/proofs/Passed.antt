@@ -21,11 +21,11 @@ use Rattle.graph_pads.specs.declared.pad.Direction.TheVariants.{Source}
 use Rattle.graph_pads.specs.declared.pad.PadPlace.{PadPlace}
 use Rattle.script_text.specs.declared.answer.Entry.{Entry}
 use Rattle.script_text.specs.declared.answer.Place.{Place}
-use Rattle.edit_model.specs.Edited.{Edited}
-use Rattle.edit_model.specs.Lawful.{place_at, places_of}
-use Rattle.edit_model.specs.Names.{pad_in, pad_named}
+use Rattle.graph_edits.specs.Edited.{Edited}
+use Rattle.graph_edits.specs.Lawful.{place_at, places_of}
+use Rattle.graph_edits.specs.Names.{pad_in, pad_named}
 use Rattle.graph_parts.proofs.LaneSlots.{slot_more}
-use Rattle.edit_model.proofs.Following.{get_front}
+use Rattle.graph_edits.proofs.Following.{get_front}
 use Rattle.edit_core.proofs.Finding.{IsFound, found_element, found_of}
 use Rattle.edit_acts.specs.Scripted.{ArePassed, IsPassed, pad_once_named}
 

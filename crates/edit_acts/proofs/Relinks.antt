@@ -4,8 +4,8 @@ use Rattle.std.specs.Prelude.{option_and_then}
 use Rattle.std.proofs.lemmas.List.{length-map}
 use Rattle.flow_model.specs.Item.{Item}
 use Rattle.gst_value.specs.declared.name.PadName.{PadName}
-use Rattle.net_model.specs.Edit.{undo}
-use Rattle.net_model.specs.Moment.{Moment}
+use Rattle.flow_model.specs.Edit.{undo}
+use Rattle.flow_model.specs.Moment.{Moment}
 use Rattle.graph_core.specs.GraphPlan.{most_pads, pad_id, sink_count}
 use Rattle.graph_core.specs.Links.{Leads}
 use Rattle.graph_pads.specs.Links.{is_same, sink_behind, source_before}
@@ -14,14 +14,14 @@ use Rattle.graph_pads.specs.declared.pad.PadLink.{PadLink}
 use Rattle.graph_pads.specs.declared.pad.PadPlace.{PadPlace}
 use Rattle.script_text.specs.declared.command.Act.{Act}
 use Rattle.script_text.specs.declared.command.When.{When}
-use Rattle.edit_model.specs.Edited.{Edited, is_there, unlinked_at, without}
-use Rattle.edit_model.specs.Growing.{LinksStand}
-use Rattle.edit_model.specs.Lawful.{IsLinkable}
-use Rattle.edit_model.specs.Names.{named_when, pad_named, source_when}
-use Rattle.edit_model.specs.Plans.{is_asleep}
-use Rattle.edit_model.specs.Refused.{has_lanes}
-use Rattle.edit_model.proofs.Keeping.{none_before, not_taken}
-use Rattle.edit_model.proofs.LinksStanding.{named_in, no_some, source_few}
+use Rattle.graph_edits.specs.Edited.{Edited, is_there, unlinked_at, without}
+use Rattle.graph_edits.specs.Growing.{LinksStand}
+use Rattle.graph_edits.specs.Lawful.{IsLinkable}
+use Rattle.graph_edits.specs.Names.{named_when, pad_named, source_when}
+use Rattle.graph_edits.specs.Plans.{is_asleep}
+use Rattle.graph_edits.specs.Refused.{has_lanes}
+use Rattle.graph_edits.proofs.Keeping.{none_before, not_taken}
+use Rattle.graph_edits.proofs.LinksStanding.{named_in, no_some, source_few}
 use Rattle.edit_core.specs.Deciding.{IsDeed}
 use Rattle.edit_core.specs.declared.deciding.Deed.TheVariants.{Relink}
 use Rattle.edit_core.proofs.Finding.{Named, named_there}

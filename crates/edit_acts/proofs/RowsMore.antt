@@ -7,9 +7,9 @@ use Rattle.inlet_row.specs.declared.row.InletRow.{InletRow}
 use Rattle.lane_core.specs.Lane.{Lane}
 use Rattle.lane_core.specs.declared.ends.Inlet as inlets
 use Rattle.lane_core.specs.declared.ends.Outlet as outlets
-use Rattle.net_model.specs.Moment.{Moment}
-use Rattle.net_model.specs.declared.element.TaskElement as elements
-use Rattle.net_model.specs.declared.source.TaskSource as sources
+use Rattle.flow_model.specs.Moment.{Moment}
+use Rattle.flow_model.specs.declared.element.TaskElement as elements
+use Rattle.flow_model.specs.declared.source.TaskSource as sources
 use Rattle.task_parts.specs.declared.head.Head.{Head}
 use Rattle.task_parts.specs.declared.head.Head.TheVariants.{Source, Inlets}
 use Rattle.task_parts.specs.declared.head.InletHead.{InletHead}
@@ -21,8 +21,8 @@ use Rattle.net_edits.specs.Over.{AreKept, IsGrownAt, IsNewLane, NoneIsOf}
 use Rattle.net_edits.specs.declared.over.NewLink.{NewLink}
 use Rattle.net_edits.proofs.NetGrown.{RowBack, fed_forth, fed_now, owns_back, owns_forth, row_back, row_before, rows_unused, task_back}
 use Rattle.graph_edits.specs.declared.graph.EditedGraph.{EditedGraph}
-use Rattle.edit_model.specs.Edited.{Edited, is_there}
-use Rattle.edit_model.specs.Refused.{has_lanes}
+use Rattle.graph_edits.specs.Edited.{Edited, is_there}
+use Rattle.graph_edits.specs.Refused.{has_lanes}
 use Rattle.edit_core.specs.Tasks.{AreTasksOf, IsReachedIn}
 use Rattle.edit_core.specs.Ways.{IsRun}
 use Rattle.edit_core.specs.declared.feeds.Feeds.{Feeds}

@@ -6,20 +6,20 @@ use Rattle.flow_model.specs.Eval.{Plan}
 use Rattle.lane_core.specs.Lane.{Lane}
 use Rattle.lane_core.specs.declared.ends.Inlet as inlets
 use Rattle.lane_core.specs.declared.ends.Outlet as outlets
-use Rattle.net_model.specs.Edit.{undo, undone}
-use Rattle.net_model.specs.Moment.{Moment}
-use Rattle.net_model.specs.declared.element.TaskElement as elements
-use Rattle.net_model.specs.declared.source.TaskSource as sources
+use Rattle.flow_model.specs.Edit.{undo, undone}
+use Rattle.flow_model.specs.Moment.{Moment}
+use Rattle.flow_model.specs.declared.element.TaskElement as elements
+use Rattle.flow_model.specs.declared.source.TaskSource as sources
 use Rattle.net_task.specs.declared.task.Task.{Task}
 use Rattle.net_turns.specs.Net.{NetStands}
 use Rattle.graph_core.specs.GraphPlan.{IsIn, owner_of, pad_id}
 use Rattle.graph_pads.specs.Links.{is_same}
 use Rattle.graph_pads.specs.declared.pad.PadLink.{PadLink}
 use Rattle.graph_pads.specs.declared.pad.PadPlace.{PadPlace}
-use Rattle.edit_model.specs.Edited.{Edited, is_there, unlinked_at, without}
-use Rattle.edit_model.specs.Growing.{IsKept}
-use Rattle.edit_model.proofs.Keeping.{unlinked_kept}
-use Rattle.edit_model.proofs.LinksStanding.{unlinked_stand}
+use Rattle.graph_edits.specs.Edited.{Edited, is_there, unlinked_at, without}
+use Rattle.graph_edits.specs.Growing.{IsKept}
+use Rattle.graph_edits.proofs.Keeping.{unlinked_kept}
+use Rattle.graph_edits.proofs.LinksStanding.{unlinked_stand}
 use Rattle.edit_core.specs.Tasks.{AreTasksOf}
 use Rattle.edit_core.specs.Ways.{IsRun}
 use Rattle.edit_core.proofs.Marks.{all_undone}

@@ -8,8 +8,8 @@ use Rattle.graph_pads.specs.declared.pad.PadPlace.{PadPlace}
 use Rattle.script_text.specs.declared.answer.Answer.{Answer}
 use Rattle.script_text.specs.declared.command.Act.{Act}
 use Rattle.script_text.specs.declared.command.Command.{Command}
-use Rattle.edit_model.specs.Edited.{Edited, is_there, link_between, without}
-use Rattle.edit_model.specs.Lawful.{IsAnswered, Makes}
+use Rattle.graph_edits.specs.Edited.{Edited, is_there, link_between, without}
+use Rattle.graph_edits.specs.Lawful.{IsAnswered, Makes}
 use Rattle.edit_core.proofs.Finding.{named_there}
 use Rattle.edit_acts.specs.Controlled.{SinksAreThere}
 use Rattle.edit_acts.proofs.Gone.{more_there, not_sink, still_there}

@@ -4,8 +4,8 @@ use Rattle.std.specs.Prelude.{slice_get}
 use Rattle.std.proofs.lemmas.List.{length-map}
 use Rattle.flow_model.specs.Link.{Span}
 use Rattle.flow_model.specs.Eval.{Plan}
-use Rattle.net_model.specs.Edit.{undo, undone}
-use Rattle.net_model.specs.Moment.{Moment}
+use Rattle.flow_model.specs.Edit.{undo, undone}
+use Rattle.flow_model.specs.Moment.{Moment}
 use Rattle.gst_value.proofs.Places.{map_got}
 use Rattle.net_groups.specs.Splits.{HaveNoMarks, TookItems}
 use Rattle.edit_core.proofs.Marks.{undone as undone_marks}

@@ -9,9 +9,9 @@ use Rattle.lane_core.specs.Lane.{Lane}
 use Rattle.lane_core.specs.declared.ends.Inlet as inlets
 use Rattle.lane_core.specs.declared.ends.Outlet as outlets
 use Rattle.pad_core.specs.Crossing.{has_ended}
-use Rattle.net_model.specs.Moment.{Moment}
-use Rattle.net_model.specs.declared.element.TaskElement as elements
-use Rattle.net_model.specs.declared.source.TaskSource as sources
+use Rattle.flow_model.specs.Moment.{Moment}
+use Rattle.flow_model.specs.declared.element.TaskElement as elements
+use Rattle.flow_model.specs.declared.source.TaskSource as sources
 use Rattle.task_parts.specs.declared.step.Step.{Step}
 use Rattle.net_task.specs.declared.task.Task.{Task}
 use Rattle.net_turns.specs.Net.{GoesOn, NetGoes, NetStands}
@@ -20,11 +20,11 @@ use Rattle.net_turns.proofs.Growing.{goes_both, stays_so}
 use Rattle.net_edits.proofs.Endings.{crossed_calm, crossed_closed, not_ended}
 use Rattle.graph_core.specs.GraphPlan.{pad_id}
 use Rattle.graph_edits.specs.declared.graph.EditedGraph.{EditedGraph}
-use Rattle.edit_model.specs.Edited.{Edited}
-use Rattle.edit_model.specs.Growing.{GrowsTo}
-use Rattle.edit_model.proofs.Ended.{stays_open}
-use Rattle.edit_model.proofs.Keeping.{stays_kept}
-use Rattle.edit_model.proofs.Staying.{growth_joins}
+use Rattle.graph_edits.specs.Edited.{Edited}
+use Rattle.graph_edits.specs.Growing.{GrowsTo}
+use Rattle.graph_edits.proofs.Ended.{stays_open}
+use Rattle.graph_edits.proofs.Keeping.{stays_kept}
+use Rattle.graph_edits.proofs.Staying.{growth_joins}
 use Rattle.edit_core.specs.Feeds.{FeedsStay}
 use Rattle.edit_core.specs.Judging.{owed_then}
 use Rattle.edit_core.specs.Tasks.{AreTasksOf}

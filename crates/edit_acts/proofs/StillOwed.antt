@@ -7,8 +7,8 @@ use Rattle.flow_model.specs.Item.{Item}
 use Rattle.flow_model.specs.Prefix.{IsPrefix}
 use Rattle.flow_model.proofs.Prefixes.{append_prefix, prefix_append, prefix_refl}
 use Rattle.net_edits.specs.Adding.{frozen}
-use Rattle.net_model.specs.Moment.{Moment}
-use Rattle.net_model.specs.Step.{fed}
+use Rattle.flow_model.specs.Moment.{Moment}
+use Rattle.flow_model.specs.Step.{fed}
 use Rattle.edit_core.specs.Judging.{owed_then}
 
 -- an element that took something put more behind what waits at its pads

@@ -5,16 +5,16 @@ use Rattle.flow_model.specs.Item.{Item}
 use Rattle.flow_model.specs.Prefix.{IsPrefix}
 use Rattle.lane_core.specs.declared.ends.Inlet as inlets
 use Rattle.lane_core.specs.declared.ends.Outlet as outlets
-use Rattle.net_model.specs.declared.element.TaskElement as elements
-use Rattle.net_model.specs.declared.source.TaskSource as sources
+use Rattle.flow_model.specs.declared.element.TaskElement as elements
+use Rattle.flow_model.specs.declared.source.TaskSource as sources
 use Rattle.graph_edits.specs.declared.graph.EditedGraph.{EditedGraph}
 use Rattle.script_text.specs.declared.answer.Entry.{Entry}
 use Rattle.script_text.specs.declared.command.Command.{Command}
-use Rattle.edit_model.specs.Edited.{Edited, is_there}
-use Rattle.edit_model.specs.Growing.{GrowsTo}
-use Rattle.edit_model.specs.Lawful.{AreAnswered, NeverFall}
-use Rattle.edit_model.proofs.Keeping.{stays_kept}
-use Rattle.edit_model.proofs.Staying.{stays_lawful}
+use Rattle.graph_edits.specs.Edited.{Edited, is_there}
+use Rattle.graph_edits.specs.Growing.{GrowsTo}
+use Rattle.graph_edits.specs.Lawful.{AreAnswered, NeverFall}
+use Rattle.graph_edits.proofs.Keeping.{stays_kept}
+use Rattle.graph_edits.proofs.Staying.{stays_lawful}
 use Rattle.edit_core.specs.Judging.{owed_then}
 use Rattle.edit_core.specs.declared.feeds.Feeds.{Feeds}
 use Rattle.edit_acts.specs.Controlled.{IsControlled}

@@ -4,10 +4,10 @@ use Rattle.std.specs.Global.{Vec}
 use Rattle.lane_core.specs.Lane.{Lane}
 use Rattle.lane_core.specs.declared.ends.Inlet as inlets
 use Rattle.lane_core.specs.declared.ends.Outlet as outlets
-use Rattle.net_model.specs.Edit.{undone}
-use Rattle.net_model.specs.Moment.{Moment}
-use Rattle.net_model.specs.declared.element.TaskElement as elements
-use Rattle.net_model.specs.declared.source.TaskSource as sources
+use Rattle.flow_model.specs.Edit.{undone}
+use Rattle.flow_model.specs.Moment.{Moment}
+use Rattle.flow_model.specs.declared.element.TaskElement as elements
+use Rattle.flow_model.specs.declared.source.TaskSource as sources
 use Rattle.net_task.specs.declared.task.Task.{Task}
 use Rattle.net_turns.specs.Net.{NetReady, NetStands}
 use Rattle.task_edits.specs.declared.inside.Inside.{Inside}
@@ -15,7 +15,7 @@ use Rattle.net_edits.specs.Inside.{HasInside}
 use Rattle.net_groups.specs.Splits.{CannotSplit, HasRoomToSplit, IsSplit, IsSplitRoom, TookItems}
 use Rattle.net_groups.specs.declared.splitting.SplitRoom.{SplitRoom}
 use Rattle.graph_pads.specs.declared.pad.PadPlace.{PadPlace}
-use Rattle.edit_model.specs.Edited.{Edited, unlinked_at}
+use Rattle.graph_edits.specs.Edited.{Edited, unlinked_at}
 use Rattle.edit_core.specs.Ways.{InnerTookItems, IsRun}
 use Rattle.edit_acts.specs.Undoing.{IsRunWith, LeadsNoneInside}
 use Rattle.edit_acts.proofs.Runs.{run_on}

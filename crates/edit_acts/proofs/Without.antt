@@ -7,10 +7,10 @@ use Rattle.lane_core.specs.Lane.{Lane}
 use Rattle.lane_core.specs.declared.ends.Inlet as inlets
 use Rattle.lane_core.specs.declared.ends.Outlet as outlets
 use Rattle.net_edits.specs.Adding.{CanTake, IsCut, frozen}
-use Rattle.net_model.specs.Moment.{Moment}
-use Rattle.net_model.specs.declared.element.TaskElement as elements
-use Rattle.net_model.specs.declared.source.TaskSource as sources
-use Rattle.net_model.proofs.Inputs.{at_other}
+use Rattle.flow_model.specs.Moment.{Moment}
+use Rattle.flow_model.specs.declared.element.TaskElement as elements
+use Rattle.flow_model.specs.declared.source.TaskSource as sources
+use Rattle.flow_model.proofs.Inputs.{at_other}
 use Rattle.net_task.specs.Frame.{frame_of}
 use Rattle.net_task.specs.declared.task.Task.{Task}
 use Rattle.net_turns.specs.Net.{NetStands}
@@ -20,13 +20,13 @@ use Rattle.graph_edits.specs.declared.graph.EditedGraph.{EditedGraph}
 use Rattle.graph_pads.specs.declared.pad.PadPlace.{PadPlace}
 use Rattle.script_text.specs.declared.answer.Answer.TheVariants.{Done}
 use Rattle.script_text.specs.declared.command.Act.{Act}
-use Rattle.edit_model.specs.Edited.{Edited, is_there, without_element}
-use Rattle.edit_model.specs.Ended.{EndsOpen}
-use Rattle.edit_model.specs.Lawful.{IsAnswered, command, has_link}
-use Rattle.edit_model.specs.Names.{source_when}
-use Rattle.edit_model.specs.Plans.{is_asleep}
-use Rattle.edit_model.proofs.Ended.{stays_open}
-use Rattle.edit_whole.proofs.Made.{stays_made}
+use Rattle.graph_edits.specs.Edited.{Edited, is_there, without_element}
+use Rattle.graph_edits.specs.Ended.{EndsOpen}
+use Rattle.graph_edits.specs.Lawful.{IsAnswered, command, has_link}
+use Rattle.graph_edits.specs.Names.{source_when}
+use Rattle.graph_edits.specs.Plans.{is_asleep}
+use Rattle.graph_edits.proofs.Ended.{stays_open}
+use Rattle.edit_core.proofs.Made.{stays_made}
 use Rattle.edit_core.specs.Deciding.{IsDeed}
 use Rattle.edit_core.specs.Feeds.{AreFeeds}
 use Rattle.edit_core.specs.Judging.{owed_then}

@@ -3,10 +3,10 @@ use Rattle.std.specs.Prelude.{◌≡◌, ℕ, Bool, true, false, List, Option, S
 use Rattle.lane_core.specs.Lane.{Lane}
 use Rattle.lane_core.specs.declared.ends.Inlet as inlets
 use Rattle.lane_core.specs.declared.ends.Outlet as outlets
-use Rattle.net_model.specs.Edit.{unlinked}
-use Rattle.net_model.specs.Moment.{Moment}
-use Rattle.net_model.specs.declared.element.TaskElement as elements
-use Rattle.net_model.specs.declared.source.TaskSource as sources
+use Rattle.flow_model.specs.Edit.{unlinked}
+use Rattle.flow_model.specs.Moment.{Moment}
+use Rattle.flow_model.specs.declared.element.TaskElement as elements
+use Rattle.flow_model.specs.declared.source.TaskSource as sources
 use Rattle.net_task.specs.declared.task.Task.{Task}
 use Rattle.graph_core.specs.GraphPlan.{IsIn, pad_id}
 use Rattle.graph_edits.specs.declared.graph.EditedGraph.{EditedGraph}
@@ -17,9 +17,9 @@ use Rattle.gst_value.specs.declared.name.PadName.{PadName}
 use Rattle.script_text.specs.declared.answer.Place.{Place}
 use Rattle.script_text.specs.declared.command.Act.{Act}
 use Rattle.script_text.specs.declared.command.When.{When}
-use Rattle.edit_model.specs.Edited.{Edited, is_there, unlinked_at}
-use Rattle.edit_model.specs.Lawful.{command}
-use Rattle.edit_model.specs.Names.{pad_named}
+use Rattle.graph_edits.specs.Edited.{Edited, is_there, unlinked_at}
+use Rattle.graph_edits.specs.Lawful.{command}
+use Rattle.graph_edits.specs.Names.{pad_named}
 use Rattle.edit_core.specs.Deciding.{IsToDo}
 use Rattle.edit_core.specs.Notes.{IsCurrent}
 use Rattle.edit_core.specs.Ways.{IsRun}

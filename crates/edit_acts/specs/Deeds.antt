@@ -4,9 +4,9 @@ use Rattle.flow_model.specs.Prefix.{IsPrefix}
 use Rattle.lane_core.specs.Lane.{Lane}
 use Rattle.lane_core.specs.declared.ends.Inlet as inlets
 use Rattle.lane_core.specs.declared.ends.Outlet as outlets
-use Rattle.net_model.specs.Moment.{Moment}
-use Rattle.net_model.specs.declared.element.TaskElement as elements
-use Rattle.net_model.specs.declared.source.TaskSource as sources
+use Rattle.flow_model.specs.Moment.{Moment}
+use Rattle.flow_model.specs.declared.element.TaskElement as elements
+use Rattle.flow_model.specs.declared.source.TaskSource as sources
 use Rattle.net_task.specs.declared.task.Task.{Task}
 use Rattle.net_edits.specs.declared.inside.EditFault.{EditFault}
 use Rattle.net_edits.specs.declared.inside.EditFault.TheVariants as faults
@@ -14,9 +14,9 @@ use Rattle.graph_edits.specs.Graph.{IsEdited}
 use Rattle.graph_edits.specs.declared.graph.EditedGraph.{EditedGraph}
 use Rattle.script_text.specs.declared.answer.Place.{Place}
 use Rattle.script_text.specs.declared.command.Command.{Command}
-use Rattle.edit_model.specs.Edited.{Edited, is_there}
-use Rattle.edit_model.specs.Plans.{is_asleep}
-use Rattle.edit_model.specs.Refused.{has_lanes}
+use Rattle.graph_edits.specs.Edited.{Edited, is_there}
+use Rattle.graph_edits.specs.Plans.{is_asleep}
+use Rattle.graph_edits.specs.Refused.{has_lanes}
 use Rattle.edit_core.specs.Deciding.{IsToDo, made_by}
 use Rattle.edit_core.specs.Judging.{owed_then}
 use Rattle.edit_core.specs.declared.deciding.Deed.{Deed}

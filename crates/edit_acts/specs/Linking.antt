@@ -5,10 +5,10 @@ use Rattle.gst_item.specs.Sticky.{has_flush_stop, stickies}
 use Rattle.lane_core.specs.Lane.{Lane}
 use Rattle.lane_core.specs.declared.ends.Inlet as inlets
 use Rattle.lane_core.specs.declared.ends.Outlet as outlets
-use Rattle.net_model.specs.Edit.{LinksInside, linked_inside}
-use Rattle.net_model.specs.Moment.{Moment}
-use Rattle.net_model.specs.declared.element.TaskElement as elements
-use Rattle.net_model.specs.declared.source.TaskSource as sources
+use Rattle.flow_model.specs.Edit.{LinksInside, linked_inside}
+use Rattle.flow_model.specs.Moment.{Moment}
+use Rattle.flow_model.specs.declared.element.TaskElement as elements
+use Rattle.flow_model.specs.declared.source.TaskSource as sources
 use Rattle.net_task.specs.declared.task.Task.{Task}
 use Rattle.net_turns.specs.declared.net.Stopped.{Stopped}
 use Rattle.net_groups.specs.Joined.{HasRoomToJoin, IsJoined}
@@ -18,9 +18,9 @@ use Rattle.graph_core.specs.GraphPlan.{most_pads, pad_id}
 use Rattle.graph_core.specs.Links.{Leads}
 use Rattle.graph_pads.specs.Links.{sink_behind, source_before}
 use Rattle.graph_pads.specs.declared.pad.PadPlace.{PadPlace}
-use Rattle.edit_model.specs.Edited.{Edited, is_there, linked_at}
-use Rattle.edit_model.specs.Plans.{is_asleep}
-use Rattle.edit_model.specs.Refused.{has_lanes}
+use Rattle.graph_edits.specs.Edited.{Edited, is_there, linked_at}
+use Rattle.graph_edits.specs.Plans.{is_asleep}
+use Rattle.graph_edits.specs.Refused.{has_lanes}
 use Rattle.edit_core.specs.Ways.{IsRun}
 use Rattle.edit_acts.specs.declared.linking.LinkRoom.{LinkRoom}
 

@@ -3,11 +3,11 @@ use Rattle.std.specs.Prelude.{◌≡◌, ◌<◌, ℕ, true, false, List, None, 
 use Rattle.lane_core.specs.Lane.{Lane}
 use Rattle.lane_core.specs.declared.ends.Inlet as inlets
 use Rattle.lane_core.specs.declared.ends.Outlet as outlets
-use Rattle.net_model.specs.Edit.{IsFree, linked_over}
-use Rattle.net_model.specs.Moment.{Moment}
-use Rattle.net_model.specs.Step.{LeadsNowhere}
-use Rattle.net_model.specs.declared.element.TaskElement as elements
-use Rattle.net_model.specs.declared.source.TaskSource as sources
+use Rattle.flow_model.specs.Edit.{IsFree, linked_over}
+use Rattle.flow_model.specs.Moment.{Moment}
+use Rattle.flow_model.specs.Step.{LeadsNowhere}
+use Rattle.flow_model.specs.declared.element.TaskElement as elements
+use Rattle.flow_model.specs.declared.source.TaskSource as sources
 use Rattle.net_task.specs.declared.task.Task.{Task}
 use Rattle.net_turns.specs.Net.{NetStands}
 use Rattle.task_edits.specs.declared.openings.Opening.{Opening}
@@ -17,9 +17,9 @@ use Rattle.graph_core.specs.GraphPlan.{most_pads, pad_id}
 use Rattle.graph_core.specs.Links.{Leads}
 use Rattle.graph_pads.specs.Links.{sink_behind, source_before}
 use Rattle.graph_pads.specs.declared.pad.PadPlace.{PadPlace}
-use Rattle.edit_model.specs.Edited.{Edited, is_there, linked_at}
-use Rattle.edit_model.specs.Plans.{is_asleep}
-use Rattle.edit_model.specs.Refused.{has_lanes}
+use Rattle.graph_edits.specs.Edited.{Edited, is_there, linked_at}
+use Rattle.graph_edits.specs.Plans.{is_asleep}
+use Rattle.graph_edits.specs.Refused.{has_lanes}
 use Rattle.edit_core.specs.Ways.{IsRun}
 
 -- A source pad has no link, and a sink pad of an element that lanes feed is there and has none.

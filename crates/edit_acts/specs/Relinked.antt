@@ -11,11 +11,11 @@ use Rattle.net_edits.specs.Over.{IsNewLane, OpensNow}
 use Rattle.net_edits.specs.declared.inside.EditFault.{EditFault}
 use Rattle.net_edits.specs.declared.inside.EditFault.TheVariants as faults
 use Rattle.net_edits.specs.declared.over.NewLink.{NewLink}
-use Rattle.net_model.specs.Edit.{LinksInside, linked_inside, linked_over, unlinked}
-use Rattle.net_model.specs.Moment.{Moment}
-use Rattle.net_model.specs.Standing.{is_linked}
-use Rattle.net_model.specs.declared.element.TaskElement as elements
-use Rattle.net_model.specs.declared.source.TaskSource as sources
+use Rattle.flow_model.specs.Edit.{LinksInside, linked_inside, linked_over, unlinked}
+use Rattle.flow_model.specs.Moment.{Moment}
+use Rattle.flow_model.specs.Standing.{is_linked}
+use Rattle.flow_model.specs.declared.element.TaskElement as elements
+use Rattle.flow_model.specs.declared.source.TaskSource as sources
 use Rattle.net_task.specs.declared.task.Task.{Task}
 use Rattle.net_turns.specs.Net.{NetStands, Owns}
 use Rattle.net_turns.specs.declared.net.Stopped.{Stopped}
@@ -28,12 +28,12 @@ use Rattle.graph_pads.specs.declared.pad.PadPlace.{PadPlace}
 use Rattle.script_text.specs.declared.answer.Place.{Place}
 use Rattle.script_text.specs.declared.command.Act.{Act}
 use Rattle.script_text.specs.declared.command.When.{When}
-use Rattle.edit_model.specs.Edited.{Edited, relinked_at, spans_at, unlinked_at}
-use Rattle.edit_model.specs.Ended.{EndsOpen}
-use Rattle.edit_model.specs.Growing.{IsKept, LinksStand}
-use Rattle.edit_model.specs.Lawful.{command}
-use Rattle.edit_model.specs.Plans.{is_asleep}
-use Rattle.edit_model.specs.Refused.{has_lanes}
+use Rattle.graph_edits.specs.Edited.{Edited, relinked_at, spans_at, unlinked_at}
+use Rattle.graph_edits.specs.Ended.{EndsOpen}
+use Rattle.graph_edits.specs.Growing.{IsKept, LinksStand}
+use Rattle.graph_edits.specs.Lawful.{command}
+use Rattle.graph_edits.specs.Plans.{is_asleep}
+use Rattle.graph_edits.specs.Refused.{has_lanes}
 use Rattle.edit_core.specs.Deciding.{IsToDo}
 use Rattle.edit_core.specs.Feeds.{AreFeeds}
 use Rattle.edit_core.specs.Ways.{IsRun}

@@ -6,9 +6,9 @@ use Rattle.lane_core.specs.Lane.{Lane}
 use Rattle.lane_core.specs.declared.ends.Inlet as inlets
 use Rattle.lane_core.specs.declared.ends.Outlet as outlets
 use Rattle.net_edits.specs.Adding.{CanTake, IsCut, IsOnly, NoneOwns, frozen}
-use Rattle.net_model.specs.Moment.{Moment}
-use Rattle.net_model.specs.declared.element.TaskElement as elements
-use Rattle.net_model.specs.declared.source.TaskSource as sources
+use Rattle.flow_model.specs.Moment.{Moment}
+use Rattle.flow_model.specs.declared.element.TaskElement as elements
+use Rattle.flow_model.specs.declared.source.TaskSource as sources
 use Rattle.net_task.specs.Frame.{TaskFrame, frame_of}
 use Rattle.net_task.specs.declared.task.Task.{Task}
 use Rattle.net_turns.specs.Net.{HasElement}
@@ -20,9 +20,9 @@ use Rattle.graph_edits.specs.declared.graph.EditedGraph.{EditedGraph}
 use Rattle.script_text.specs.declared.answer.Place.{Place}
 use Rattle.script_text.specs.declared.command.Act.{Act}
 use Rattle.script_text.specs.declared.command.When.{When}
-use Rattle.edit_model.specs.Edited.{Edited, without_element}
-use Rattle.edit_model.specs.Lawful.{command, has_link}
-use Rattle.edit_model.specs.Plans.{is_asleep}
+use Rattle.graph_edits.specs.Edited.{Edited, without_element}
+use Rattle.graph_edits.specs.Lawful.{command, has_link}
+use Rattle.graph_edits.specs.Plans.{is_asleep}
 use Rattle.edit_core.specs.Deciding.{IsToDo}
 use Rattle.edit_core.specs.Ways.{IsRun}
 use Rattle.edit_core.specs.declared.deciding.Deed.TheVariants.{Remove}

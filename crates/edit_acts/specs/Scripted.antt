@@ -13,9 +13,9 @@ use Rattle.graph_pads.specs.declared.pad.PadPlace.{PadPlace}
 use Rattle.lane_core.specs.Lane.{Lane}
 use Rattle.lane_core.specs.declared.ends.Inlet as inlets
 use Rattle.lane_core.specs.declared.ends.Outlet as outlets
-use Rattle.net_model.specs.Moment.{Moment}
-use Rattle.net_model.specs.declared.element.TaskElement as elements
-use Rattle.net_model.specs.declared.source.TaskSource as sources
+use Rattle.flow_model.specs.Moment.{Moment}
+use Rattle.flow_model.specs.declared.element.TaskElement as elements
+use Rattle.flow_model.specs.declared.source.TaskSource as sources
 use Rattle.net_task.specs.declared.task.Task.{Task}
 use Rattle.net_turns.specs.Turns.{AreTried, IsStepped}
 use Rattle.script_text.specs.declared.answer.Answer.{Answer}
@@ -24,10 +24,10 @@ use Rattle.script_text.specs.declared.answer.Entry.{Entry}
 use Rattle.script_text.specs.declared.answer.Place.{Place}
 use Rattle.script_text.specs.declared.command.Command.{Command}
 use Rattle.task_parts.specs.declared.step.Step.{Step}
-use Rattle.edit_model.specs.Edited.{Edited, is_there}
-use Rattle.edit_model.specs.Growing.{IsKept}
-use Rattle.edit_model.specs.Lawful.{AreAnswered, IsAnswered, NeverFall, places_of}
-use Rattle.edit_model.specs.Names.{pad_in}
+use Rattle.graph_edits.specs.Edited.{Edited, is_there}
+use Rattle.graph_edits.specs.Growing.{IsKept}
+use Rattle.graph_edits.specs.Lawful.{AreAnswered, IsAnswered, NeverFall, places_of}
+use Rattle.graph_edits.specs.Names.{pad_in}
 use Rattle.edit_core.specs.Deciding.{IsReached, TellsFirst, TellsPlace, names_its_pad}
 use Rattle.edit_core.specs.Judging.{owed_then}
 use Rattle.edit_core.specs.declared.feeds.Feeds.{Feeds}

@@ -4,9 +4,9 @@ use Rattle.std.specs.Global.{Vec}
 use Rattle.lane_core.specs.Lane.{Lane}
 use Rattle.lane_core.specs.declared.ends.Inlet as inlets
 use Rattle.lane_core.specs.declared.ends.Outlet as outlets
-use Rattle.net_model.specs.Moment.{Moment}
-use Rattle.net_model.specs.declared.element.TaskElement as elements
-use Rattle.net_model.specs.declared.source.TaskSource as sources
+use Rattle.flow_model.specs.Moment.{Moment}
+use Rattle.flow_model.specs.declared.element.TaskElement as elements
+use Rattle.flow_model.specs.declared.source.TaskSource as sources
 use Rattle.net_task.specs.declared.task.Task.{Task}
 use Rattle.task_edits.specs.Inside.{NotInside}
 use Rattle.net_edits.specs.Inside.{HasInside}
@@ -14,7 +14,7 @@ use Rattle.net_groups.specs.Splits.{HasRoomToSplit, pads_of}
 use Rattle.net_groups.specs.declared.splitting.SplitRoom.{SplitRoom}
 use Rattle.graph_core.specs.GraphPlan.{most_pads, pad_id}
 use Rattle.graph_pads.specs.declared.pad.PadPlace.{PadPlace}
-use Rattle.edit_model.specs.Edited.{Edited}
+use Rattle.graph_edits.specs.Edited.{Edited}
 use Rattle.edit_core.specs.Ways.{IsRun}
 use Rattle.edit_acts.specs.declared.undoing.UndoRoom.{UndoRoom}
 use Rattle.edit_acts.specs.declared.undoing.UndoRoom.TheVariants.{Whole, Split}

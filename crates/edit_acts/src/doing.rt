@@ -1,7 +1,7 @@
 //! What control does for a command.
 ghost use Rattle.std.specs.Prelude.{◌≡◌, ℕ, true, IfOk, IfErr};
-ghost use Rattle.edit_model.specs.Edited.{Edited};
-ghost use Rattle.net_model.specs.Moment.{Moment};
+ghost use Rattle.graph_edits.specs.Edited.{Edited};
+ghost use Rattle.flow_model.specs.Moment.{Moment};
 ghost use Rattle.net_turns.specs.Net.{NetReady};
 ghost use Rattle.edit_core.specs.declared.deciding.Deed.TheVariants.{Remove, Unlink};
 ghost use Rattle.edit_core.specs.declared.feeds.Feeds.{Feeds as KeptFeeds};
@@ -15,7 +15,7 @@ use graph_core::PadPlace;
 use graph_edits::EditedGraph;
 use lane_core::{Inlet, Outlet};
 use net_edits::EditFault;
-use net_model::{TaskElement, TaskSource};
+use flow_model::{TaskElement, TaskSource};
 use net_task::Task;
 use std::alloc::Global;
 

@@ -3,14 +3,14 @@ ghost use Rattle.std.specs.Prelude.{◌≡◌, true, false, Err, IfOk, IfErr};
 ghost use Rattle.edit_acts.specs.Ending.{HasNoLink, NotEndedWhole, RunsEnd};
 ghost use Rattle.edit_acts.specs.Undoing.{HasRoomBehind, HasRoomToUndo, LeadsNoneInside};
 ghost use Rattle.net_edits.specs.declared.inside.EditFault.TheVariants.{OutOfMemory as Wanting};
-ghost use Rattle.net_model.specs.Moment.{Moment};
+ghost use Rattle.flow_model.specs.Moment.{Moment};
 ghost use Rattle.net_turns.specs.Net.{NetReady, NetStands};
 
 use crate::undoing::UndoRoom;
 use lane_core::{Inlet, Outlet};
 use net_edits::{EditFault, end_inside, end_over};
 use net_groups::{SplitRoom, split_reserved};
-use net_model::{TaskElement, TaskSource};
+use flow_model::{TaskElement, TaskSource};
 use net_task::Task;
 use std::alloc::Global;
 

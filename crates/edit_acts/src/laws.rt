@@ -3,7 +3,7 @@ ghost use Rattle.edit_acts.specs.Stepping.{FaultsKeepControl, StepsKeepControl, 
 
 use edit_core::laws::feeds_stay;
 use lane_core::{Inlet, Outlet};
-use net_model::{TaskElement, TaskSource};
+use flow_model::{TaskElement, TaskSource};
 use net_turns::laws::steps_keep_net;
 
 /// Where one of the tasks was stepped control has the run at the moment to which it has gone on: with the same graph and the same feeders, while

@@ -1,11 +1,11 @@
 //! A source pad of a run is linked inside of a task.
 ghost use Rattle.std.specs.Prelude.{◌≡◌, ℕ, true, false, IfOk, IfErr, vec_capacity};
 ghost use Rattle.gst_item.specs.Sticky.{has_flush_stop, stickies};
-ghost use Rattle.net_model.specs.Moment.{Moment};
+ghost use Rattle.flow_model.specs.Moment.{Moment};
 ghost use Rattle.net_turns.specs.Net.{NetReady, NetStands, Owns};
 ghost use Rattle.net_groups.specs.Joined.{CannotJoin};
 ghost use Rattle.graph_pads.specs.declared.pad.PadPlace.{PadPlace};
-ghost use Rattle.edit_model.specs.Edited.{Edited};
+ghost use Rattle.graph_edits.specs.Edited.{Edited};
 ghost use Rattle.edit_core.specs.Ways.{IsRun};
 ghost use Rattle.edit_acts.specs.Linking.{GoesOnLinked, HasRoomToLink, IsLinked, IsLinkedShort, MayLinkAt, opening_of};
 
@@ -14,7 +14,7 @@ use gst_value::{List, OutOfMemory};
 use lane_core::{Inlet, Outlet};
 use net_edits::{link_opened, opening_items};
 use net_groups::{JoinRoom, join_reserved, room_to_join};
-use net_model::{TaskElement, TaskSource};
+use flow_model::{TaskElement, TaskSource};
 use net_task::Task;
 use net_turns::net::Stopped;
 use std::alloc::Global;

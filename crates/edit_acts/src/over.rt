@@ -2,7 +2,7 @@
 ghost use Rattle.edit_acts.specs.Over.{LinkingOverKeepsRun, RunsLinkOver};
 
 use lane_core::{Inlet, Outlet};
-use net_model::{TaskElement, TaskSource};
+use flow_model::{TaskElement, TaskSource};
 
 /// In a run in which pads may be linked over a lane, a task has the source pad and another one the row of the sink pad, and what `link_over`
 /// asks of the moment and of the tasks is so.

@@ -1,15 +1,15 @@
 //! Links that are undone. What an element of a task led to becomes a task of its own, which nothing feeds.
 ghost use Rattle.std.specs.Prelude.{◌≡◌, ◌<◌, ℕ, false, None, IfOk, IfSome, length};
 ghost use Rattle.edit_core.specs.Ways.{InnerTookItems, IsRun};
-ghost use Rattle.edit_model.specs.Edited.{Edited, unlinked_at};
+ghost use Rattle.graph_edits.specs.Edited.{Edited, unlinked_at};
 ghost use Rattle.graph_pads.specs.declared.pad.PadPlace.{PadPlace};
 ghost use Rattle.net_edits.specs.Inside.{HasInside};
 ghost use Rattle.net_edits.specs.Over.{HasRoomAt, IsNewLane};
 ghost use Rattle.net_edits.specs.declared.over.NewLink.{NewLink as Links};
 ghost use Rattle.net_groups.specs.Joined.{HasRoomToJoin};
 ghost use Rattle.net_groups.specs.declared.joining.JoinRoom.{JoinRoom};
-ghost use Rattle.net_model.specs.Edit.{unlinked};
-ghost use Rattle.net_model.specs.Moment.{Moment};
+ghost use Rattle.flow_model.specs.Edit.{unlinked};
+ghost use Rattle.flow_model.specs.Moment.{Moment};
 ghost use Rattle.net_turns.specs.Net.{NetReady, NetStands};
 ghost use Rattle.edit_acts.specs.Undoing.{HasRoomToUndo, IsRunWith, LeadsNoneInside, SplitsNot};
 
@@ -17,7 +17,7 @@ use gst_value::OutOfMemory;
 use lane_core::{Inlet, Outlet};
 use net_edits::unlink;
 use net_groups::{SplitRoom, room_to_split, split_reserved};
-use net_model::{TaskElement, TaskSource};
+use flow_model::{TaskElement, TaskSource};
 use net_task::Task;
 use std::alloc::Global;
 use task_edits::{Inside, inside_of};

@@ -1,12 +1,12 @@
 //! What commands do to a run and to all that control keeps of it.
 ghost use Rattle.std.specs.Prelude.{◌≡◌, ℕ, List, true, false, length, IfOk, IfErr, OnErr};
 ghost use Rattle.flow_model.specs.Item.{Item};
-ghost use Rattle.edit_model.specs.Edited.{Edited, unlinked_at};
-ghost use Rattle.edit_model.specs.Growing.{IsKept};
+ghost use Rattle.graph_edits.specs.Edited.{Edited, unlinked_at};
+ghost use Rattle.graph_edits.specs.Growing.{IsKept};
 ghost use Rattle.edit_core.specs.Feeds.{AreFeeds, IsTheLink};
 ghost use Rattle.graph_core.specs.GraphPlan.{pad_id};
 ghost use Rattle.graph_edits.specs.Graph.{IsEdited};
-ghost use Rattle.net_model.specs.Moment.{Moment};
+ghost use Rattle.flow_model.specs.Moment.{Moment};
 ghost use Rattle.net_turns.specs.Net.{NetReady};
 ghost use Rattle.edit_acts.specs.Controlled.{IsControlled, IsToUnlink, IsUnlinked};
 ghost use Rattle.edit_acts.specs.Unlinked.{EndFails, IsEnded};
@@ -19,7 +19,7 @@ use graph_edits::EditedGraph;
 use gst_value::OutOfMemory;
 use lane_core::{Inlet, Outlet};
 use net_edits::EditFault;
-use net_model::{TaskElement, TaskSource};
+use flow_model::{TaskElement, TaskSource};
 use net_task::Task;
 use std::alloc::Global;
 

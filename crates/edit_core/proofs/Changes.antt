@@ -16,12 +16,12 @@ use Rattle.graph_pads.specs.Links.{source_before}
 use Rattle.graph_pads.specs.declared.pad.PadLink.{PadLink}
 use Rattle.graph_pads.specs.declared.pad.PadPlace.{PadPlace}
 use Rattle.el_settings.specs.Asked.{sink_pads}
-use Rattle.net_model.specs.Edit.{undo}
-use Rattle.net_model.specs.Standing.{is_linked, links_from}
-use Rattle.edit_model.specs.Edited.{Edited, added, linked_at, spans_at, unedited, unlinked_at}
-use Rattle.edit_model.specs.Growing.{IsKept}
-use Rattle.edit_model.specs.Refused.{first_giver}
-use Rattle.edit_model.proofs.Keeping.{below_or_not, linked_spans, undone_at}
+use Rattle.flow_model.specs.Edit.{undo}
+use Rattle.flow_model.specs.Standing.{is_linked, links_from}
+use Rattle.graph_edits.specs.Edited.{Edited, added, linked_at, spans_at, unedited, unlinked_at}
+use Rattle.graph_edits.specs.Growing.{IsKept}
+use Rattle.graph_edits.specs.Refused.{first_giver}
+use Rattle.graph_edits.proofs.Keeping.{below_or_not, linked_spans, undone_at}
 use Rattle.edit_core.specs.Feeds.{AreKept, IsBegun, IsFeed, IsTheLink, closed, given_by, has_given, no_feed}
 use Rattle.edit_core.specs.declared.feeds.Feed.{Feed}
 use Rattle.edit_core.proofs.Lists.{more_at, no_some, set_here, set_there, told}

@@ -9,9 +9,9 @@ use Rattle.flow_model.specs.Item.{Item}
 use Rattle.graph_core.specs.GraphPlan.{owner_of, sink_at}
 use Rattle.graph_pads.specs.declared.pad.PadPlace.{PadPlace}
 use Rattle.gst_value.proofs.Basics.{and_left, and_right, number_itself, some_same}
-use Rattle.edit_model.specs.Edited.{Edited, spans_at}
-use Rattle.edit_model.specs.Growing.{LinksStand}
-use Rattle.edit_model.specs.Refused.{FeedsTask, HasFeeder, IsFedElsewhere, first_giver, first_of, is_head}
+use Rattle.graph_edits.specs.Edited.{Edited, spans_at}
+use Rattle.graph_edits.specs.Growing.{LinksStand}
+use Rattle.graph_edits.specs.Refused.{FeedsTask, HasFeeder, IsFedElsewhere, first_giver, first_of, is_head}
 use Rattle.edit_core.specs.Notes.{AreNoted, IsNoted, is_foreign, no_note, note_of, task_feeder}
 use Rattle.edit_core.specs.declared.notes.Note.{Note}
 use Rattle.edit_core.proofs.Lists.{no_some, told}

@@ -10,8 +10,8 @@ use Rattle.graph_pads.specs.Pads.{pad_count, pad_text}
 use Rattle.graph_pads.specs.declared.pad.Direction.{Direction}
 use Rattle.graph_pads.specs.declared.pad.Direction.TheVariants.{Source}
 use Rattle.graph_pads.specs.declared.pad.PadPlace.{PadPlace}
-use Rattle.edit_model.specs.Edited.{Edited, is_there}
-use Rattle.edit_model.specs.Names.{pad_in, pad_named}
+use Rattle.graph_edits.specs.Edited.{Edited, is_there}
+use Rattle.graph_edits.specs.Names.{pad_in, pad_named}
 use Rattle.edit_core.proofs.Lists.{no_some}
 
 -- a source pad has this name

@@ -5,10 +5,10 @@ use Rattle.flow_model.specs.Item.{Item}
 use Rattle.graph_core.specs.GraphPlan.{pad_id, sink_at}
 use Rattle.graph_pads.specs.Links.{source_before}
 use Rattle.graph_pads.specs.declared.pad.PadPlace.{PadPlace}
-use Rattle.edit_model.specs.Edited.{Edited, spans_at}
-use Rattle.edit_model.specs.Growing.{IsKept, LinksStand}
-use Rattle.edit_model.specs.Refused.{first_giver}
-use Rattle.edit_model.proofs.LinksStanding.{links_stay_exact}
+use Rattle.graph_edits.specs.Edited.{Edited, spans_at}
+use Rattle.graph_edits.specs.Growing.{IsKept, LinksStand}
+use Rattle.graph_edits.specs.Refused.{first_giver}
+use Rattle.graph_edits.proofs.LinksStanding.{links_stay_exact}
 use Rattle.edit_core.specs.Feeds.{AreKept, given_by, has_given}
 use Rattle.edit_core.specs.declared.feeds.Feed.{Feed}
 use Rattle.edit_core.proofs.Spans.{free_closed, standing_giver}

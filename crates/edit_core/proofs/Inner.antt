@@ -2,7 +2,7 @@
 use Rattle.std.proofs.Common.{◌≡◌, ◌≤◌, ◌||◌, ℕ, Bool, true, false, List, [], ◌∷◌, Option, None, Some, length, arith}
 use Rattle.std.specs.Option.{option_map_or}
 use Rattle.flow_model.specs.Link.{Span}
-use Rattle.net_model.specs.Standing.{LinksAt}
+use Rattle.flow_model.specs.Standing.{LinksAt}
 use Rattle.el_settings.specs.Asked.{is_queue, makes_sinks}
 use Rattle.el_settings.proofs.Padded.{one_sink}
 use Rattle.graph_core.specs.Elements.{Made}

@@ -6,9 +6,9 @@ use Rattle.std.proofs.lemmas.Bool.{eqb-true, leb-true}
 use Rattle.flow_model.specs.Item.{Item, buffers}
 use Rattle.lane_core.specs.declared.ends.Inlet as inlets
 use Rattle.lane_core.specs.declared.ends.Outlet as outlets
-use Rattle.net_model.specs.Moment.{Moment}
-use Rattle.net_model.specs.declared.element.TaskElement as elements
-use Rattle.net_model.specs.declared.source.TaskSource as sources
+use Rattle.flow_model.specs.Moment.{Moment}
+use Rattle.flow_model.specs.declared.element.TaskElement as elements
+use Rattle.flow_model.specs.declared.source.TaskSource as sources
 use Rattle.net_task.specs.declared.task.Task.{Task}
 use Rattle.graph_core.specs.GraphPlan.{pad_id}
 use Rattle.graph_pads.specs.declared.pad.Direction.TheVariants.{Source}
@@ -20,9 +20,9 @@ use Rattle.script_text.specs.declared.command.Act.{Act}
 use Rattle.script_text.specs.declared.command.When.{When}
 use Rattle.script_text.specs.declared.command.When.TheVariants.{At, NowPad, Now}
 use Rattle.task_pads.specs.Pads.{first_is_buffer}
-use Rattle.edit_model.specs.Edited.{Edited}
-use Rattle.edit_model.specs.Lawful.{IsAtBuffer, IsBeforeEos, IsUnreached, Reaches, begins_with_buffer, command, is_all_there}
-use Rattle.edit_model.specs.Names.{is_act_there, is_when_there, pad_named, source_when}
+use Rattle.graph_edits.specs.Edited.{Edited}
+use Rattle.graph_edits.specs.Lawful.{IsAtBuffer, IsBeforeEos, IsUnreached, Reaches, begins_with_buffer, command, is_all_there}
+use Rattle.graph_edits.specs.Names.{is_act_there, is_when_there, pad_named, source_when}
 use Rattle.net_edits.specs.Seeing.{SeesPad}
 use Rattle.task_edits.specs.Seeing.{SeenAt}
 use Rattle.task_edits.specs.declared.seeing.SeenPad.{SeenPad}

@@ -18,3 +18,5 @@ mod Elsewhere
 mod Distinct
 pub mod Finding
 pub mod Named
+pub mod Made
+mod Evaluated

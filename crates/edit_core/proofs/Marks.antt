@@ -4,7 +4,7 @@ use Rattle.std.specs.Prelude.{slice_get}
 use Rattle.std.specs.List.{range_with_len}
 use Rattle.flow_model.specs.Item.{Item}
 use Rattle.flow_model.specs.Link.{Span, Linked, WasLinked, Flushed, Given}
-use Rattle.net_model.specs.Edit.{push_span, undo}
+use Rattle.flow_model.specs.Edit.{push_span, undo}
 use Rattle.graph_core.specs.GraphPlan.{pad_id, sink_at, sink_count, spans_from}
 use Rattle.graph_pads.specs.Links.{source_before}
 use Rattle.graph_pads.specs.declared.pad.PadLink.{PadLink}
@@ -14,8 +14,8 @@ use Rattle.net_groups.specs.Splits.{HaveNoMarks}
 use Rattle.script_text.specs.declared.answer.Answer.{Answer}
 use Rattle.script_text.specs.declared.command.Act.{Act}
 use Rattle.script_text.specs.declared.command.Command.{Command}
-use Rattle.edit_model.specs.Edited.{Edited}
-use Rattle.edit_model.specs.Lawful.{IsAnswered, Makes}
+use Rattle.graph_edits.specs.Edited.{Edited}
+use Rattle.graph_edits.specs.Lawful.{IsAnswered, Makes}
 use Rattle.edit_core.specs.Marks.{AllUnmarked, IsUnmarked, StaysUnmarked}
 
 from_line : (o : Option PadPlace) → HaveNoMarks (spans_from o)

@@ -35,13 +35,13 @@ use Rattle.script_text.specs.declared.answer.Answer.{Answer}
 use Rattle.script_text.specs.declared.command.Act.{Act}
 use Rattle.script_text.specs.declared.command.Command.{Command}
 use Rattle.script_text.specs.declared.command.When.{When}
-use Rattle.edit_model.specs.Edited.{Edited, added, is_there, link_between, relinked_at, touches, unedited, without, without_element}
-use Rattle.edit_model.specs.Growing.{LinksStand}
-use Rattle.edit_model.specs.Lawful.{IsAnswered, Makes, Reaches}
-use Rattle.edit_model.specs.Names.{pad_in}
-use Rattle.edit_model.proofs.Following.{get_front}
-use Rattle.edit_model.proofs.Keeping.{none_push, some_push}
-use Rattle.edit_model.proofs.LinksStanding.{rest_other}
+use Rattle.graph_edits.specs.Edited.{Edited, added, is_there, link_between, relinked_at, touches, unedited, without, without_element}
+use Rattle.graph_edits.specs.Growing.{LinksStand}
+use Rattle.graph_edits.specs.Lawful.{IsAnswered, Makes, Reaches}
+use Rattle.graph_edits.specs.Names.{pad_in}
+use Rattle.graph_edits.proofs.Following.{get_front}
+use Rattle.graph_edits.proofs.Keeping.{none_push, some_push}
+use Rattle.graph_edits.proofs.LinksStanding.{rest_other}
 use Rattle.edit_core.specs.Notes.{AreNamed, StaysNamed}
 use Rattle.edit_core.proofs.Distinct.{AreDistinct, line_distinct}
 use Rattle.edit_core.proofs.Lists.{no_some, told}

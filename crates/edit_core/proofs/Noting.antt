@@ -11,10 +11,10 @@ use Rattle.graph_core.specs.GraphPlan.{owner_of, sink_at}
 use Rattle.graph_pads.specs.Links.{sink_behind, source_before}
 use Rattle.graph_pads.specs.declared.pad.PadPlace.{PadPlace}
 use Rattle.gst_value.proofs.Basics.{number_itself, some_same}
-use Rattle.edit_model.specs.Edited.{Edited, spans_at}
-use Rattle.edit_model.specs.Growing.{LinksStand}
-use Rattle.edit_model.specs.Refused.{HasFeeder, HasHead, IsReached, first_giver, has_lanes, is_head}
-use Rattle.edit_whole.specs.Whole.{AreMade}
+use Rattle.graph_edits.specs.Edited.{Edited, spans_at}
+use Rattle.graph_edits.specs.Growing.{LinksStand}
+use Rattle.graph_edits.specs.Refused.{HasFeeder, HasHead, IsReached, first_giver, has_lanes, is_head}
+use Rattle.edit_core.specs.Whole.{AreMade}
 use Rattle.edit_core.specs.Notes.{AreNotedBefore, IsNoted, head_note, note_of, plain_note}
 use Rattle.edit_core.specs.declared.notes.Note.{Note}
 use Rattle.edit_core.proofs.Lists.{no_some}

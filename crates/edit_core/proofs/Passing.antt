@@ -7,8 +7,8 @@ use Rattle.std.proofs.lemmas.List.{get_or-set_other, get_or-set_same, length-set
 use Rattle.flow_model.specs.Item.{Item}
 use Rattle.graph_order.specs.Forward.{IsMember, StandsBefore}
 use Rattle.graph_order.proofs.Once.{Once, once_by, within}
-use Rattle.edit_model.specs.Edited.{Edited}
-use Rattle.edit_model.specs.Plans.{IsOrder}
+use Rattle.graph_edits.specs.Edited.{Edited}
+use Rattle.graph_edits.specs.Plans.{IsOrder}
 use Rattle.edit_core.specs.Notes.{AreNoted, AreNotedBefore, IsNoted, no_note, note_of}
 use Rattle.edit_core.specs.declared.notes.Note.{Note}
 use Rattle.edit_core.proofs.Standing.{before_place, made_before, member_at, one_further}

@@ -10,10 +10,10 @@ use Rattle.flow_model.specs.Link.{Span, Linked, WasLinked, Flushed, Given, betwe
 use Rattle.flow_model.specs.Sticky.{stickies}
 use Rattle.flow_model.proofs.Items.{items_feeds}
 use Rattle.gst_item.specs.Item.{has_item}
-use Rattle.net_model.specs.Edit.{undo}
-use Rattle.net_model.specs.Standing.{is_linked, links_from}
-use Rattle.edit_model.specs.Growing.{AreWithin}
-use Rattle.edit_model.specs.Refused.{first_giver}
+use Rattle.flow_model.specs.Edit.{undo}
+use Rattle.flow_model.specs.Standing.{is_linked, links_from}
+use Rattle.graph_edits.specs.Growing.{AreWithin}
+use Rattle.graph_edits.specs.Refused.{first_giver}
 use Rattle.edit_core.proofs.Lists.{told}
 use Rattle.edit_core.specs.Feeds.{IsBegun, closed, given_by}
 

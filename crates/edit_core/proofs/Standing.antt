@@ -29,13 +29,13 @@ use Rattle.gst_value.proofs.Basics.{some_same}
 use Rattle.graph_core.specs.Links.{ways}
 use Rattle.graph_order.specs.Forward.{GoForward, IsMember, StandsBefore}
 use Rattle.graph_order.proofs.Once.{Once, behind_member}
-use Rattle.net_model.specs.Standing.{links_from}
-use Rattle.edit_model.specs.Edited.{Edited, spans_at}
-use Rattle.edit_model.specs.Growing.{AreSingle, LinksStand}
-use Rattle.edit_model.specs.Refused.{first_giver, has_lanes, is_head}
-use Rattle.edit_model.proofs.Keeping.{below_or_not}
-use Rattle.edit_model.proofs.LinksStanding.{links_stay_exact}
-use Rattle.edit_whole.specs.Whole.{AreMade, ComesFrom}
+use Rattle.flow_model.specs.Standing.{links_from}
+use Rattle.graph_edits.specs.Edited.{Edited, spans_at}
+use Rattle.graph_edits.specs.Growing.{AreSingle, LinksStand}
+use Rattle.graph_edits.specs.Refused.{first_giver, has_lanes, is_head}
+use Rattle.graph_edits.proofs.Keeping.{below_or_not}
+use Rattle.graph_edits.proofs.LinksStanding.{links_stay_exact}
+use Rattle.edit_core.specs.Whole.{AreMade, ComesFrom}
 use Rattle.edit_core.specs.Feeds.{TheLinkStands}
 use Rattle.edit_core.proofs.Lists.{no_some}
 

@@ -8,10 +8,10 @@ use Rattle.flow_model.specs.Sticky.{stickies}
 use Rattle.flow_model.proofs.Prefixes.{take_prefix}
 use Rattle.gst_item.specs.Item.{has_item}
 use Rattle.graph_core.specs.GraphPlan.{sink_at}
-use Rattle.edit_model.specs.Edited.{spans_at}
-use Rattle.edit_model.specs.Growing.{AreWithin}
-use Rattle.edit_model.specs.Refused.{first_giver}
-use Rattle.edit_model.proofs.Grown.{unlinked_same}
+use Rattle.graph_edits.specs.Edited.{spans_at}
+use Rattle.graph_edits.specs.Growing.{AreWithin}
+use Rattle.graph_edits.specs.Refused.{first_giver}
+use Rattle.graph_edits.proofs.Grown.{unlinked_same}
 use Rattle.edit_core.specs.Feeds.{FeedsStay, IsBegun, closed}
 
 module _ (h h' : ℕ → List Item) (longer : (p : ℕ) → IsPrefix (h p) (h' p)) where

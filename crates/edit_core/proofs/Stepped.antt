@@ -5,9 +5,9 @@ use Rattle.std.proofs.lemmas.Bool.{cases_eq}
 use Rattle.lane_core.specs.Lane.{Lane}
 use Rattle.lane_core.specs.declared.ends.Inlet as inlets
 use Rattle.lane_core.specs.declared.ends.Outlet as outlets
-use Rattle.net_model.specs.Moment.{Moment}
-use Rattle.net_model.specs.declared.element.TaskElement as elements
-use Rattle.net_model.specs.declared.source.TaskSource as sources
+use Rattle.flow_model.specs.Moment.{Moment}
+use Rattle.flow_model.specs.declared.element.TaskElement as elements
+use Rattle.flow_model.specs.declared.source.TaskSource as sources
 use Rattle.task_parts.specs.declared.head.Head.{Head}
 use Rattle.task_parts.specs.declared.head.Head.TheVariants.{Source, Inlets}
 use Rattle.task_parts.specs.declared.head.InletHead.{InletHead}
@@ -19,7 +19,7 @@ use Rattle.net_turns.specs.Turns.{IsStepped}
 use Rattle.net_edits.specs.Adding.{HoldsNothingNew}
 use Rattle.net_edits.proofs.Empties.{holds_nothing}
 use Rattle.gst_value.proofs.Basics.{some_same}
-use Rattle.edit_model.specs.Edited.{Edited}
+use Rattle.graph_edits.specs.Edited.{Edited}
 use Rattle.edit_core.specs.Tasks.{AreTasksOf, IsReachedIn, StepsKeepTasks}
 
 module _ {S E I O L : Type 0} {s : sources.Ghosts S} {e : elements.Ghosts E} {i : inlets.Ghosts I L O} {o : outlets.Ghosts O L} where

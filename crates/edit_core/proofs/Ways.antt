@@ -6,12 +6,12 @@ use Rattle.flow_model.specs.Link.{Span}
 use Rattle.lane_core.specs.Lane.{Lane}
 use Rattle.lane_core.specs.declared.ends.Inlet as inlets
 use Rattle.lane_core.specs.declared.ends.Outlet as outlets
-use Rattle.net_model.specs.Edit.{IsFree}
-use Rattle.net_model.specs.Moment.{Moment}
-use Rattle.net_model.specs.Standing.{LinksAt, links_from}
-use Rattle.net_model.specs.Step.{Leads}
-use Rattle.net_model.specs.declared.element.TaskElement as elements
-use Rattle.net_model.specs.declared.source.TaskSource as sources
+use Rattle.flow_model.specs.Edit.{IsFree}
+use Rattle.flow_model.specs.Moment.{Moment}
+use Rattle.flow_model.specs.Standing.{LinksAt, links_from}
+use Rattle.flow_model.specs.Step.{Leads}
+use Rattle.flow_model.specs.declared.element.TaskElement as elements
+use Rattle.flow_model.specs.declared.source.TaskSource as sources
 use Rattle.task_pads.specs.Behind.{inside}
 use Rattle.task_parts.specs.declared.head.Head.{Head}
 use Rattle.task_parts.specs.declared.head.Head.TheVariants.{Source, Inlets}
@@ -33,9 +33,9 @@ use Rattle.graph_order.specs.declared.link.Link.{Link}
 use Rattle.graph_pads.specs.declared.pad.PadLink.{PadLink}
 use Rattle.graph_pads.specs.declared.pad.PadPlace.{PadPlace}
 use Rattle.gst_value.proofs.Basics.{some_same}
-use Rattle.edit_model.specs.Edited.{Edited, is_there, spans_at}
-use Rattle.edit_model.specs.Refused.{has_lanes}
-use Rattle.edit_model.proofs.LinksStanding.{exactly}
+use Rattle.graph_edits.specs.Edited.{Edited, is_there, spans_at}
+use Rattle.graph_edits.specs.Refused.{has_lanes}
+use Rattle.graph_edits.proofs.LinksStanding.{exactly}
 use Rattle.edit_core.specs.Tasks.{IsReachedIn, LeadsOn, number_of_head}
 use Rattle.edit_core.specs.Ways.{FreeIsLoose, InnerPadsAreFirst, IsRun, JoinsApart}
 use Rattle.edit_core.proofs.Inner.{few, some}

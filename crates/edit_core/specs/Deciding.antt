@@ -3,9 +3,9 @@ use Rattle.std.specs.Prelude.{◌≡◌, ◌≢◌, ◌⊎◌, ℕ, Bool, true, 
 use Rattle.flow_model.specs.Item.{Item}
 use Rattle.lane_core.specs.declared.ends.Inlet as inlets
 use Rattle.lane_core.specs.declared.ends.Outlet as outlets
-use Rattle.net_model.specs.Moment.{Moment}
-use Rattle.net_model.specs.declared.element.TaskElement as elements
-use Rattle.net_model.specs.declared.source.TaskSource as sources
+use Rattle.flow_model.specs.Moment.{Moment}
+use Rattle.flow_model.specs.declared.element.TaskElement as elements
+use Rattle.flow_model.specs.declared.source.TaskSource as sources
 use Rattle.net_task.specs.declared.task.Task.{Task}
 use Rattle.graph_pads.specs.Links.{sink_behind}
 use Rattle.graph_pads.specs.declared.pad.Direction.TheVariants.{Sink}
@@ -21,10 +21,10 @@ use Rattle.script_text.specs.declared.command.Act.{Act}
 use Rattle.script_text.specs.declared.command.Act.TheVariants as acts
 use Rattle.script_text.specs.declared.command.Command.{Command}
 use Rattle.script_text.specs.declared.command.When.{When}
-use Rattle.edit_model.specs.Edited.{Edited, relinked_at, unlinked_at, without_element}
-use Rattle.edit_model.specs.Lawful.{IsAnswered, IsLinkable, Reaches, command, has_link, is_all_there, places_at}
-use Rattle.edit_model.specs.Names.{element_named, named_when, pad_named, source_when}
-use Rattle.edit_model.specs.Refused.{IsFedElsewhere}
+use Rattle.graph_edits.specs.Edited.{Edited, relinked_at, unlinked_at, without_element}
+use Rattle.graph_edits.specs.Lawful.{IsAnswered, IsLinkable, Reaches, command, has_link, is_all_there, places_at}
+use Rattle.graph_edits.specs.Names.{element_named, named_when, pad_named, source_when}
+use Rattle.graph_edits.specs.Refused.{IsFedElsewhere}
 use Rattle.edit_core.specs.Judging.{IsLast, IsVerdict, owed_then}
 use Rattle.edit_core.specs.Refusing.{IsRefusedSo}
 use Rattle.edit_core.specs.declared.deciding.Deed.{Deed}

@@ -7,11 +7,11 @@ use Rattle.gst_item.specs.Item.{has_item}
 use Rattle.graph_core.specs.GraphPlan.{pad_id, sink_at}
 use Rattle.graph_pads.specs.Links.{source_before}
 use Rattle.graph_pads.specs.declared.pad.PadPlace.{PadPlace}
-use Rattle.net_model.specs.Standing.{links_from}
-use Rattle.edit_model.specs.Edited.{Edited, spans_at, without_element}
-use Rattle.edit_model.specs.Ended.{EndsOpen}
-use Rattle.edit_model.specs.Growing.{GrowsTo, IsKept, LinksStand}
-use Rattle.edit_model.specs.Refused.{first_giver, first_of}
+use Rattle.flow_model.specs.Standing.{links_from}
+use Rattle.graph_edits.specs.Edited.{Edited, spans_at, without_element}
+use Rattle.graph_edits.specs.Ended.{EndsOpen}
+use Rattle.graph_edits.specs.Growing.{GrowsTo, IsKept, LinksStand}
+use Rattle.graph_edits.specs.Refused.{first_giver, first_of}
 use Rattle.edit_core.specs.declared.feeds.Feed.{Feed}
 use Rattle.edit_core.specs.declared.feeds.Feeds.{Feeds}
 

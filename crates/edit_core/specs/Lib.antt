@@ -7,3 +7,4 @@ pub mod Feeds
 pub mod Notes
 pub mod Refusing
 pub mod Deciding
+pub mod Whole

@@ -7,8 +7,8 @@ use Rattle.graph_pads.specs.declared.pad.PadLink.{PadLink}
 use Rattle.net_groups.specs.Splits.{HaveNoMarks}
 use Rattle.script_text.specs.declared.answer.Answer.{Answer}
 use Rattle.script_text.specs.declared.command.Command.{Command}
-use Rattle.edit_model.specs.Edited.{Edited, unedited}
-use Rattle.edit_model.specs.Lawful.{IsAnswered}
+use Rattle.graph_edits.specs.Edited.{Edited, unedited}
+use Rattle.graph_edits.specs.Lawful.{IsAnswered}
 
 -- no mark stands at the spans of these sink pads
 abbrev pub AllUnmarked : List (List Span) → Type 0

@@ -6,9 +6,9 @@ use Rattle.launch_text.specs.declared.tree.Tree.{Tree}
 use Rattle.lane_core.specs.Lane.{Lane}
 use Rattle.lane_core.specs.declared.ends.Inlet as inlets
 use Rattle.lane_core.specs.declared.ends.Outlet as outlets
-use Rattle.net_model.specs.Moment.{Moment}
-use Rattle.net_model.specs.declared.element.TaskElement as elements
-use Rattle.net_model.specs.declared.source.TaskSource as sources
+use Rattle.flow_model.specs.Moment.{Moment}
+use Rattle.flow_model.specs.declared.element.TaskElement as elements
+use Rattle.flow_model.specs.declared.source.TaskSource as sources
 use Rattle.net_task.specs.declared.task.Task.{Task}
 use Rattle.net_turns.specs.Net.{NetStands}
 use Rattle.graph_core.specs.Graph.{IsGraph, IsSound, links as links_in, made as made_in}
@@ -24,13 +24,13 @@ use Rattle.gst_value.specs.declared.name.PadName.{PadName}
 use Rattle.script_text.specs.declared.answer.Answer.{Answer}
 use Rattle.script_text.specs.declared.command.Command.{Command}
 use Rattle.edit_core.specs.Judging.{AreFresh}
-use Rattle.edit_model.specs.Edited.{Edited, unedited}
-use Rattle.edit_model.specs.Ended.{EndsOpen}
-use Rattle.edit_model.specs.Growing.{IsKept, LinksStand}
-use Rattle.edit_model.specs.Lawful.{IsAnswered}
-use Rattle.edit_model.specs.Names.{pad_named}
-use Rattle.edit_model.specs.Refused.{HasFeeder, HasHead, IsReached, first_of}
-use Rattle.edit_whole.specs.Whole.{AreMade}
+use Rattle.graph_edits.specs.Edited.{Edited, unedited}
+use Rattle.graph_edits.specs.Ended.{EndsOpen}
+use Rattle.graph_edits.specs.Growing.{IsKept, LinksStand}
+use Rattle.graph_edits.specs.Lawful.{IsAnswered}
+use Rattle.graph_edits.specs.Names.{pad_named}
+use Rattle.graph_edits.specs.Refused.{HasFeeder, HasHead, IsReached, first_of}
+use Rattle.edit_core.specs.Whole.{AreMade}
 use Rattle.edit_core.specs.Feeds.{AreFeeds}
 use Rattle.edit_core.specs.declared.feeds.Feeds.{Feeds}
 use Rattle.edit_core.specs.declared.notes.Note.{Note}

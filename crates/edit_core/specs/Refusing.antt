@@ -2,8 +2,8 @@
 use Rattle.std.specs.Prelude.{ℕ, List, Option, None, Some}
 use Rattle.flow_model.specs.Item.{Item}
 use Rattle.graph_pads.specs.declared.pad.PadPlace.{PadPlace}
-use Rattle.edit_model.specs.Edited.{Edited}
-use Rattle.edit_model.specs.Refused.{IsAfterEos, IsFedElsewhere, IsTaken, LacksFormat, Loops}
+use Rattle.graph_edits.specs.Edited.{Edited}
+use Rattle.graph_edits.specs.Refused.{IsAfterEos, IsFedElsewhere, IsTaken, LacksFormat, Loops}
 use Rattle.edit_core.specs.declared.refusing.LinkReason.{LinkReason}
 use Rattle.edit_core.specs.declared.refusing.LinkReason.TheVariants.{AfterEos, WasLinked, WouldLoop, FedElsewhere, NoFormat}
 

@@ -5,9 +5,9 @@ use Rattle.lane_core.specs.declared.ends.Inlet as inlets
 use Rattle.lane_core.specs.declared.ends.Outlet as outlets
 use Rattle.inlet_row.specs.Row.{feeds_of}
 use Rattle.inlet_row.specs.declared.row.InletRow.{InletRow}
-use Rattle.net_model.specs.Moment.{Moment}
-use Rattle.net_model.specs.declared.element.TaskElement as elements
-use Rattle.net_model.specs.declared.source.TaskSource as sources
+use Rattle.flow_model.specs.Moment.{Moment}
+use Rattle.flow_model.specs.declared.element.TaskElement as elements
+use Rattle.flow_model.specs.declared.source.TaskSource as sources
 use Rattle.task_pads.specs.Behind.{inside, over}
 use Rattle.task_parts.specs.declared.head.InletHead.{InletHead}
 use Rattle.task_parts.specs.declared.step.Step.{Step}
@@ -17,9 +17,9 @@ use Rattle.net_turns.specs.Net.{HasElement, HasRow, IsFed, NetStands, Owns}
 use Rattle.net_turns.specs.Turns.{IsStepped}
 use Rattle.el_settings.specs.Asked.{is_source}
 use Rattle.graph_core.specs.Elements.{has}
-use Rattle.edit_model.specs.Edited.{Edited, is_there}
-use Rattle.edit_model.specs.Plans.{is_asleep}
-use Rattle.edit_model.specs.Refused.{has_lanes}
+use Rattle.graph_edits.specs.Edited.{Edited, is_there}
+use Rattle.graph_edits.specs.Plans.{is_asleep}
+use Rattle.graph_edits.specs.Refused.{has_lanes}
 
 -- the number of a source, or of the element that a head feeds
 abbrev pub number_of_head : HeadFrame → ℕ

@@ -1,9 +1,9 @@
 //! What becomes of the next command.
 ghost use Rattle.std.specs.Prelude.{◌≡◌, ◌<◌, true, length, IfOk, IfSome};
-ghost use Rattle.edit_model.specs.Edited.{Edited};
-ghost use Rattle.edit_model.specs.Lawful.{command, places_at};
+ghost use Rattle.graph_edits.specs.Edited.{Edited};
+ghost use Rattle.graph_edits.specs.Lawful.{command, places_at};
 ghost use Rattle.graph_edits.specs.Graph.{IsEdited, IsPad, made};
-ghost use Rattle.net_model.specs.Moment.{Moment};
+ghost use Rattle.flow_model.specs.Moment.{Moment};
 ghost use Rattle.script_text.specs.declared.answer.Answer.TheVariants.{Refused};
 ghost use Rattle.script_text.specs.declared.command.Act.TheVariants.{Relink, Unlink, Remove};
 ghost use Rattle.script_text.specs.declared.command.When.{When as Whens};
@@ -21,7 +21,7 @@ use graph_edits::EditedGraph;
 use graph_pads::Direction;
 use gst_value::{List, OutOfMemory, PadName};
 use lane_core::{Inlet, Outlet};
-use net_model::{TaskElement, TaskSource};
+use flow_model::{TaskElement, TaskSource};
 use net_task::Task;
 use script_text::{Act, Answer, Command, Place, Reason};
 use std::alloc::Global;

@@ -1,10 +1,10 @@
 //! Whether a link would bring elements together that different tasks have fed.
 ghost use Rattle.std.specs.Prelude.{◌≡◌, ◌↔◌, IfOk, IsTrue};
 ghost use Rattle.std.specs.List.{list_any};
-ghost use Rattle.edit_model.specs.Edited.{Edited};
-ghost use Rattle.edit_model.specs.Refused.{IsFedElsewhere};
+ghost use Rattle.graph_edits.specs.Edited.{Edited};
+ghost use Rattle.graph_edits.specs.Refused.{IsFedElsewhere};
 ghost use Rattle.graph_edits.specs.Graph.{IsPad};
-ghost use Rattle.net_model.specs.Moment.{Moment};
+ghost use Rattle.flow_model.specs.Moment.{Moment};
 ghost use Rattle.edit_core.specs.Notes.{IsCurrent, is_foreign};
 
 use crate::feeds::Feeds;
@@ -14,7 +14,7 @@ use graph_edits::EditedGraph;
 use graph_pads::Direction;
 use gst_value::OutOfMemory;
 use lane_core::{Inlet, Outlet};
-use net_model::{TaskElement, TaskSource};
+use flow_model::{TaskElement, TaskSource};
 use net_task::Task;
 use std::alloc::Global;
 

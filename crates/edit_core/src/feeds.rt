@@ -68,9 +68,9 @@ impl Feeds {
     ghost use Rattle.graph_core.specs.GraphPlan.{pad_id};
     ghost use Rattle.graph_pads.specs.declared.pad.PadLink.{PadLink as Links};
     ghost use Rattle.graph_pads.specs.declared.pad.PadPlace.{PadPlace as Places};
-    ghost use Rattle.net_model.specs.Standing.{is_linked};
-    ghost use Rattle.edit_model.specs.Edited.{Edited, added, linked_at, spans_at, unedited, unlinked_at};
-    ghost use Rattle.edit_model.specs.Growing.{IsKept};
+    ghost use Rattle.flow_model.specs.Standing.{is_linked};
+    ghost use Rattle.graph_edits.specs.Edited.{Edited, added, linked_at, spans_at, unedited, unlinked_at};
+    ghost use Rattle.graph_edits.specs.Growing.{IsKept};
     ghost use Rattle.edit_core.specs.Feeds.{AreFeeds, IsTheLink};
 
     /// What is kept of so many elements to which nothing was done yet.

@@ -1,8 +1,8 @@
 //! When the next command can be answered.
 ghost use Rattle.std.specs.Prelude.{◌≡◌, ◌<◌, IfOk};
-ghost use Rattle.edit_model.specs.Edited.{Edited};
+ghost use Rattle.graph_edits.specs.Edited.{Edited};
 ghost use Rattle.graph_edits.specs.Graph.{IsEdited};
-ghost use Rattle.net_model.specs.Moment.{Moment};
+ghost use Rattle.flow_model.specs.Moment.{Moment};
 ghost use Rattle.net_turns.specs.Net.{NetStands};
 ghost use Rattle.edit_core.specs.Judging.{AreFresh, IsVerdict, verdict_of};
 
@@ -11,7 +11,7 @@ use graph_edits::EditedGraph;
 use gst_value::OutOfMemory;
 use lane_core::{Inlet, Outlet};
 use net_edits::see_pad;
-use net_model::{TaskElement, TaskSource};
+use flow_model::{TaskElement, TaskSource};
 use net_task::Task;
 use script_text::{Command, When};
 use std::alloc::Global;

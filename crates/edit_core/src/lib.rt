@@ -8,8 +8,10 @@ pub mod judging;
 pub mod laws;
 mod notes;
 mod refusing;
+pub mod whole;
 
 pub use deciding::{Deed, Ruling, decide};
 pub use feeds::Feeds;
 pub use judging::{Verdict, judge};
 pub use refusing::{LinkReason, link_refusal};
+pub use whole::{stays_made, edited_is_eval, edited_is_whole};

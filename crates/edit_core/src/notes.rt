@@ -1,11 +1,11 @@
 //! What one pass along the links finds of each element.
 ghost use Rattle.std.specs.Prelude.{◌≡◌, ◌<◌, ◌||◌, Some, IfOk, length, option_and_then, slice_set};
-ghost use Rattle.edit_model.specs.Edited.{Edited, spans_at};
-ghost use Rattle.edit_model.specs.Refused.{first_giver};
+ghost use Rattle.graph_edits.specs.Edited.{Edited, spans_at};
+ghost use Rattle.graph_edits.specs.Refused.{first_giver};
 ghost use Rattle.el_settings.specs.Asked.{is_queue, makes_sinks};
 ghost use Rattle.graph_core.specs.GraphPlan.{owner_of, sink_at};
 ghost use Rattle.graph_pads.specs.Links.{source_before};
-ghost use Rattle.net_model.specs.Moment.{Moment};
+ghost use Rattle.flow_model.specs.Moment.{Moment};
 ghost use Rattle.edit_core.specs.Notes.{AreNoted, AreNotedBefore, IsCurrent, IsNoted, head_note, is_foreign, no_note, note_of, plain_note, task_feeder};
 
 use crate::feeds::{Feeds, given_by};
@@ -15,7 +15,7 @@ use graph_edits::EditedGraph;
 use gst_value::OutOfMemory;
 use lane_core::{Inlet, Outlet};
 use net_edits::see_pad;
-use net_model::{TaskElement, TaskSource};
+use flow_model::{TaskElement, TaskSource};
 use net_task::Task;
 use std::alloc::Global;
 

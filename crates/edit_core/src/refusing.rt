@@ -1,9 +1,9 @@
 //! Why a source pad is not linked to a sink pad.
 ghost use Rattle.std.specs.Prelude.{◌≡◌, IfOk};
-ghost use Rattle.edit_model.specs.Edited.{Edited};
-ghost use Rattle.edit_model.specs.Ended.{had_eos};
+ghost use Rattle.graph_edits.specs.Edited.{Edited};
+ghost use Rattle.graph_edits.specs.Ended.{had_eos};
 ghost use Rattle.graph_edits.specs.Graph.{IsPad};
-ghost use Rattle.net_model.specs.Moment.{Moment};
+ghost use Rattle.flow_model.specs.Moment.{Moment};
 ghost use Rattle.edit_core.specs.Notes.{IsCurrent};
 ghost use Rattle.edit_core.specs.Refusing.{IsRefusedSo};
 ghost use Rattle.edit_core.specs.declared.feeds.Feeds.{Feeds as KeptFeeds};
@@ -16,7 +16,7 @@ use graph_pads::Direction;
 use gst_value::OutOfMemory;
 use lane_core::{Inlet, Outlet};
 use net_edits::see_pad;
-use net_model::{TaskElement, TaskSource};
+use flow_model::{TaskElement, TaskSource};
 use net_task::Task;
 use std::alloc::Global;
 

@@ -7,7 +7,7 @@ use el_settings::{FileSinkSettings, FileSrcSettings, Settings};
 use gst_outside::{MemSink, MemSource, Sink, Source};
 use gst_value::{List, Text};
 use lane_core::{Inlet, MemInlet, MemLanes, MemOutlet, Outlet, memory_lane};
-use net_model::{TaskElement, TaskSource};
+use flow_model::{TaskElement, TaskSource};
 use net_task::Task;
 use pad_core::Probe;
 use std::alloc::Global;

@@ -7,3 +7,15 @@ pub mod Looking
 pub mod Prefixes
 pub mod Sections
 pub mod Whole
+pub mod Acts
+pub mod Bags
+pub mod Edits
+pub mod Inputs
+pub mod Openings
+pub mod Overs
+pub mod Pads
+pub mod Seeks
+pub mod Singles
+pub mod Splits
+pub mod Steps
+pub mod Wholes

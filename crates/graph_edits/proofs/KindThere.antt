@@ -4,7 +4,7 @@ use Rattle.std.specs.Option.{option_map_or}
 use Rattle.std.specs.List.{list_all}
 use Rattle.std.proofs.lemmas.List.{length-append}
 use Rattle.gst_value.specs.declared.name.Prop.{Prop}
-use Rattle.edit_model.specs.Names.{is_kind_there}
+use Rattle.graph_edits.specs.Names.{is_kind_there}
 use Rattle.el_settings.specs.Checked.{IsAnswer, IsAnswerFor}
 use Rattle.el_settings.specs.Kinds.{kinds}
 use Rattle.el_settings.specs.Rows.{domain_named, find_row}

@@ -8,8 +8,8 @@ use Rattle.std.proofs.lemmas.List.Quantifiers.{position-Some}
 use Rattle.std.proofs.lemmas.Option.{slice_get_within}
 use Rattle.gst_value.specs.declared.name.PadName.{PadName}
 use Rattle.el_settings.specs.declared.settings.Settings.{Settings}
-use Rattle.edit_model.specs.Edited.{Edited, and_sink, without}
-use Rattle.edit_model.specs.Names.{element_named, pad_in, pad_named}
+use Rattle.graph_edits.specs.Edited.{Edited, and_sink, without}
+use Rattle.graph_edits.specs.Names.{element_named, pad_in, pad_named}
 use Rattle.graph_core.specs.Elements.{Made}
 use Rattle.graph_core.specs.Ends.{pads_at}
 use Rattle.graph_core.specs.Links.{HasPads}

@@ -1,7 +1,7 @@
 -- What comes of a link and of an element that is asked for.
 use Rattle.std.specs.Prelude.{◌≡◌, ◌<◌, ℕ, true, false, length}
-use Rattle.edit_model.specs.Edited.{Edited, added, linked_at, relinked_at}
-use Rattle.edit_model.specs.Refused.{Loops}
+use Rattle.graph_edits.specs.Edited.{Edited, added, linked_at, relinked_at}
+use Rattle.graph_edits.specs.Refused.{Loops}
 use Rattle.el_settings.specs.Asked.{makes_sinks}
 use Rattle.graph_core.specs.Asked.{Declared}
 use Rattle.graph_core.specs.Elements.{IsMade, IsUnmade, Made}

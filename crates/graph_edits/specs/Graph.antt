@@ -1,7 +1,7 @@
 -- For which edited graph the graph of a run stands.
 use Rattle.std.specs.Prelude.{◌≡◌, ◌<◌, ◌==◌, ℕ, List, length}
 use Rattle.std.specs.List.{list_any}
-use Rattle.edit_model.specs.Edited.{Edited, touches}
+use Rattle.graph_edits.specs.Edited.{Edited, touches}
 use Rattle.graph_core.specs.Elements.{Made, all_made}
 use Rattle.graph_core.specs.Ends.{pads_at}
 use Rattle.graph_core.specs.Links.{ways}

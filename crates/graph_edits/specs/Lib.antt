@@ -1,2 +1,12 @@
 pub mod Graph
 pub mod Changes
+pub mod Edited
+pub mod Plans
+pub mod Refused
+pub mod Names
+pub mod Lawful
+pub mod Opening
+pub mod Growing
+pub mod Laws
+pub mod Rows
+pub mod Ended

@@ -1,6 +1,6 @@
 //! What commands do to the graph.
 ghost use Rattle.std.specs.Prelude.{◌≡◌, ◌+◌, ◌<◌, ◌≤◌, ◌++◌, ◌∷◌, [], true, false, if◌then◌else◌, None, is_some, length, IfOk, OnOk, OnErr, vec_capacity, vec_len};
-ghost use Rattle.edit_model.specs.Edited.{and_sink, without};
+ghost use Rattle.graph_edits.specs.Edited.{and_sink, without};
 ghost use Rattle.graph_core.specs.Elements.{all_made, is_name_taken, limit, made_in};
 ghost use Rattle.graph_order.specs.Forward.{IsForward, count_of, links_of};
 ghost use Rattle.graph_pads.specs.Links.{sink_behind};
@@ -24,8 +24,8 @@ pub enum Adding {
 
 impl EditedGraph {
     ghost use Rattle.std.specs.Prelude.{ℕ, IfErr};
-    ghost use Rattle.edit_model.specs.Edited.{Edited, unlinked_at, without_element};
-    ghost use Rattle.edit_model.specs.Lawful.{asked};
+    ghost use Rattle.graph_edits.specs.Edited.{Edited, unlinked_at, without_element};
+    ghost use Rattle.graph_edits.specs.Lawful.{asked};
     ghost use Rattle.graph_edits.specs.Graph.{IsEdited, made};
     ghost use Rattle.graph_edits.specs.Changes.{AfterAdd, AfterFault, AfterLink, AfterRelink, IsNumbered};
 

@@ -36,7 +36,7 @@ pub struct EditedGraph {
 
 impl EditedGraph {
     ghost use Rattle.std.specs.Prelude.{IfOk};
-    ghost use Rattle.edit_model.specs.Edited.{unedited};
+    ghost use Rattle.graph_edits.specs.Edited.{unedited};
     ghost use Rattle.graph_core.specs.Graph.{IsSound, made as made_in, links as links_in};
     ghost use Rattle.graph_edits.specs.Graph.{IsEdited};
 

@@ -2,7 +2,7 @@
 ghost use Rattle.std.specs.Prelude.{◌≡◌, ◌<◌, ◌||◌, ℕ, All, IfOk, vec_len};
 ghost use Rattle.std.specs.List.{list_any};
 ghost use Rattle.graph_order.specs.Marks.{is_marked};
-ghost use Rattle.edit_model.specs.Edited.{touches};
+ghost use Rattle.graph_edits.specs.Edited.{touches};
 
 use graph_pads::PadLink;
 use gst_value::OutOfMemory;

@@ -14,9 +14,9 @@ use std::alloc::Global;
 
 impl EditedGraph {
     ghost use Rattle.std.specs.Prelude.{◌<◌, IfSome, length};
-    ghost use Rattle.edit_model.specs.Edited.{Edited};
-    ghost use Rattle.edit_model.specs.Lawful.{is_all_there};
-    ghost use Rattle.edit_model.specs.Names.{is_act_there, is_linked_when, is_when_there, pad_named, source_when};
+    ghost use Rattle.graph_edits.specs.Edited.{Edited};
+    ghost use Rattle.graph_edits.specs.Lawful.{is_all_there};
+    ghost use Rattle.graph_edits.specs.Names.{is_act_there, is_linked_when, is_when_there, pad_named, source_when};
     ghost use Rattle.graph_edits.specs.Graph.{IsEdited, IsPad, made};
 
     /// The pad of this name and direction, where it is there.

@@ -1,6 +1,6 @@
 //! Whether there is an element of a kind with properties of these names.
 ghost use Rattle.std.specs.Prelude.{◌≡◌, ◌≤◌, [], ◌∷◌, length, IfOk};
-ghost use Rattle.edit_model.specs.Names.{is_kind_there};
+ghost use Rattle.graph_edits.specs.Names.{is_kind_there};
 
 use el_settings::{PropFault, check};
 use gst_value::{List, OutOfMemory, Prop};

@@ -1,7 +1,7 @@
 //! What is asked of the graph: its elements, its links, and what speaks against a link.
 ghost use Rattle.std.specs.Prelude.{◌≡◌};
 ghost use Rattle.std.specs.List.{list_any};
-ghost use Rattle.edit_model.specs.Edited.{touches as touches_one};
+ghost use Rattle.graph_edits.specs.Edited.{touches as touches_one};
 ghost use Rattle.graph_pads.specs.Links.{is_same};
 
 use crate::graph::EditedGraph;
@@ -18,11 +18,11 @@ const MOST_PADS: u32 = 64;
 impl EditedGraph {
     ghost use Rattle.std.specs.Prelude.{◌<◌, ◌≤◌, ◌↔◌, true, false, Some, length, slice_get, IfOk, IfSome, IsTrue};
     ghost use Rattle.std.specs.Option.{option_map};
-    ghost use Rattle.edit_model.specs.Edited.{Edited, is_active, is_ended, is_there};
-    ghost use Rattle.edit_model.specs.Lawful.{has_link};
-    ghost use Rattle.edit_model.specs.Names.{element_named};
-    ghost use Rattle.edit_model.specs.Plans.{IsOrder};
-    ghost use Rattle.edit_model.specs.Refused.{IsTaken, Loops};
+    ghost use Rattle.graph_edits.specs.Edited.{Edited, is_active, is_ended, is_there};
+    ghost use Rattle.graph_edits.specs.Lawful.{has_link};
+    ghost use Rattle.graph_edits.specs.Names.{element_named};
+    ghost use Rattle.graph_edits.specs.Plans.{IsOrder};
+    ghost use Rattle.graph_edits.specs.Refused.{IsTaken, Loops};
     ghost use Rattle.graph_core.specs.Elements.{Made, limit};
     ghost use Rattle.graph_core.specs.Ends.{pad_name};
     ghost use Rattle.graph_core.specs.GraphPlan.{most_pads, pad_id};

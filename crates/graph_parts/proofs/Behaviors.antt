@@ -2,7 +2,7 @@
 use Rattle.std.proofs.Common.{◌≡◌, ℕ, Bool, false, if◌then◌else◌, List, Option, Some, sym, ap, ◌∙◌}
 use Rattle.flow_model.specs.Section.{first_section}
 use Rattle.flow_model.specs.Rule.{Rule}
-use Rattle.net_model.specs.Moment.{Behavior}
+use Rattle.flow_model.specs.Moment.{Behavior}
 use Rattle.el_settings.specs.Asked.{is_sink, is_source}
 use Rattle.el_set.specs.Denoted.{answers_of, rule_of as owes_by}
 use Rattle.el_set.specs.Made.{list_of}

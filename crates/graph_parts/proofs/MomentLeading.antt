@@ -4,7 +4,7 @@ use Rattle.std.specs.Prelude.{slice_get}
 use Rattle.std.specs.List.{range_with_len}
 use Rattle.std.proofs.lemmas.Bool.Decides.{eqb_tells}
 use Rattle.flow_model.specs.Link.{Span}
-use Rattle.net_model.specs.Standing.{links_from, LinksNowhere, LinksAt}
+use Rattle.flow_model.specs.Standing.{links_from, LinksNowhere, LinksAt}
 use Rattle.graph_core.specs.Elements.{Made}
 use Rattle.graph_core.specs.Graph.{made as made_in, links as links_in}
 use Rattle.graph_core.specs.Links.{HasPads}

@@ -11,10 +11,10 @@ use Rattle.flow_model.specs.Section.{first_section, IsPlain}
 use Rattle.flow_model.specs.Rule.{Rule, Response, only, single}
 use Rattle.flow_model.specs.Link.{Span}
 use Rattle.flow_model.proofs.Prefixes.{prefix_refl}
-use Rattle.net_model.specs.Opening.{IsUntouched, free, from_start, AllUntouched}
-use Rattle.net_model.specs.Whole.{OwesInOrder}
-use Rattle.net_model.proofs.Singles.{single_in_order}
-use Rattle.net_model.proofs.Openings.{opening_stands}
+use Rattle.flow_model.specs.Opening.{IsUntouched, free, from_start, AllUntouched}
+use Rattle.flow_model.specs.Whole.{OwesInOrder}
+use Rattle.flow_model.proofs.Singles.{single_in_order}
+use Rattle.flow_model.proofs.Openings.{opening_stands}
 use Rattle.el_settings.specs.Asked.{is_sink, is_source, makes_sinks}
 use Rattle.el_settings.specs.declared.settings.Settings.{Settings}
 use Rattle.el_set.specs.Denoted.{response_of, rule_of}

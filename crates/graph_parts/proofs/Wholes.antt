@@ -7,9 +7,9 @@ use Rattle.std.proofs.lemmas.Option.{slice_get_within}
 use Rattle.flow_model.specs.Eval.{Plan, PadLog, inputs, eval, eval_whole}
 use Rattle.flow_model.specs.Account.{IsMember}
 use Rattle.flow_model.proofs.Whole.{inputs_same, all_sources_weaker}
-use Rattle.net_model.specs.Moment.{Moment, CellStands}
-use Rattle.net_model.specs.Whole.{counted, CellBegins, IsOver, OverIsWhole}
-use Rattle.net_model.proofs.Wholes.{moment_is_eval, end_is_whole}
+use Rattle.flow_model.specs.Moment.{Moment, CellStands}
+use Rattle.flow_model.specs.Whole.{counted, CellBegins, IsOver, OverIsWhole}
+use Rattle.flow_model.proofs.Wholes.{moment_is_eval, end_is_whole}
 use Rattle.el_settings.specs.Asked.{source_pads}
 use Rattle.graph_core.specs.Elements.{Made}
 use Rattle.graph_core.specs.Graph.{IsSound, made as made_in, forward as forward_in}

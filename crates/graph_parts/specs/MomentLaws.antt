@@ -7,11 +7,11 @@ use Rattle.flow_model.specs.Section.{IsPlain}
 use Rattle.flow_model.specs.Eval.{Plan, inputs, eval, eval_whole}
 use Rattle.flow_model.specs.Account.{GoesForward, IsMember}
 use Rattle.pad_core.specs.Crossing.{has_ended}
-use Rattle.net_model.specs.Moment.{Moment, CellStands, behavior_at}
-use Rattle.net_model.specs.Split.{AreEmpty}
-use Rattle.net_model.specs.Step.{Leads, LeadsNowhere}
-use Rattle.net_model.specs.Opening.{AtStart, no_calls, opening}
-use Rattle.net_model.specs.Whole.{OwesInOrder, CellBegins}
+use Rattle.flow_model.specs.Moment.{Moment, CellStands, behavior_at}
+use Rattle.flow_model.specs.Split.{AreEmpty}
+use Rattle.flow_model.specs.Step.{Leads, LeadsNowhere}
+use Rattle.flow_model.specs.Opening.{AtStart, no_calls, opening}
+use Rattle.flow_model.specs.Whole.{OwesInOrder, CellBegins}
 use Rattle.el_settings.specs.Asked.{is_source, makes_sinks}
 use Rattle.el_set.specs.Made.{list_of}
 use Rattle.task_elements.specs.Made.{behavior_of}

@@ -4,7 +4,7 @@ ghost use Rattle.graph_parts.specs.Put.{Among, PutBack};
 
 use crate::placing::put_some;
 use lane_core::{Inlet, Outlet};
-use net_model::{TaskElement, TaskSource};
+use flow_model::{TaskElement, TaskSource};
 use net_task::Task;
 use task_pads::Pad;
 use task_parts::{Head, Part};

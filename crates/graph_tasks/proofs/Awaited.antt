@@ -11,12 +11,12 @@ use Rattle.flow_model.specs.Prefix.{IsPrefix, nothing, next}
 use Rattle.flow_model.specs.Rule.{Rule}
 use Rattle.flow_model.specs.Section.{first_section}
 use Rattle.flow_model.proofs.Prefixes.{append_prefix, prefix_trans}
-use Rattle.net_model.specs.Moment.{Moment}
-use Rattle.net_model.specs.Pad.{Holds}
-use Rattle.net_model.specs.Split.{AreEmpty, AreSplit}
-use Rattle.net_model.specs.Step.{Leads}
-use Rattle.net_model.specs.Whole.{OwesInOrder}
-use Rattle.net_model.proofs.Splits.{split_all, split_begins}
+use Rattle.flow_model.specs.Moment.{Moment}
+use Rattle.flow_model.specs.Pad.{Holds}
+use Rattle.flow_model.specs.Split.{AreEmpty, AreSplit}
+use Rattle.flow_model.specs.Step.{Leads}
+use Rattle.flow_model.specs.Whole.{OwesInOrder}
+use Rattle.flow_model.proofs.Splits.{split_all, split_begins}
 use Rattle.el_settings.specs.Asked.{is_source, source_pads}
 use Rattle.el_set.specs.Denoted.{rule_of}
 use Rattle.el_set.specs.Made.{list_of}

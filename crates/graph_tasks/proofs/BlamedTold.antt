@@ -3,9 +3,9 @@ use Rattle.std.proofs.Common.{◌≡◌, ◌<◌, ℕ, List, Some, length, refl,
 use Rattle.std.specs.Prelude.{slice_get}
 use Rattle.lane_core.specs.declared.ends.Inlet as inlets
 use Rattle.lane_core.specs.declared.ends.Outlet as outlets
-use Rattle.net_model.specs.declared.element.TaskElement as elements
-use Rattle.net_model.specs.declared.source.TaskSource as sources
-use Rattle.net_model.specs.declared.refusal.Unread.{Unread}
+use Rattle.flow_model.specs.declared.element.TaskElement as elements
+use Rattle.flow_model.specs.declared.source.TaskSource as sources
+use Rattle.flow_model.specs.declared.refusal.Unread.{Unread}
 use Rattle.graph_core.specs.Graph.{IsSound, made as made_in, links as links_in}
 use Rattle.graph_core.specs.declared.graph.Graph.{Graph}
 use Rattle.graph_parts.specs.declared.bag.Bag.{Bag}

@@ -9,8 +9,8 @@ use Rattle.flow_model.specs.Call.{feeds}
 use Rattle.flow_model.specs.Eval.{inputs}
 use Rattle.flow_model.specs.Item.{Item}
 use Rattle.flow_model.specs.Link.{Span, input_of}
-use Rattle.net_model.specs.Standing.{links_from, LinksAt}
-use Rattle.net_model.specs.Step.{Leads}
+use Rattle.flow_model.specs.Standing.{links_from, LinksAt}
+use Rattle.flow_model.specs.Step.{Leads}
 use Rattle.graph_core.specs.Elements.{Made}
 use Rattle.graph_core.specs.Graph.{IsSound, made as made_in, links as links_in}
 use Rattle.graph_pads.specs.Links.{source_before}

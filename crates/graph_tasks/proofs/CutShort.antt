@@ -5,9 +5,9 @@ use Rattle.std.specs.Option.{option_map_or}
 use Rattle.flow_model.specs.Eval.{Plan}
 use Rattle.flow_model.specs.Item.{Item, Ev, Eos, eos_among}
 use Rattle.flow_model.specs.Rule.{Rule}
-use Rattle.net_model.specs.Moment.{CellStands, Moment}
-use Rattle.net_model.specs.declared.refusal.Unread.{Unread}
-use Rattle.net_model.specs.declared.refusal.Unread.TheVariants.{Failed, OutOfMemory}
+use Rattle.flow_model.specs.Moment.{CellStands, Moment}
+use Rattle.flow_model.specs.declared.refusal.Unread.{Unread}
+use Rattle.flow_model.specs.declared.refusal.Unread.TheVariants.{Failed, OutOfMemory}
 use Rattle.el_settings.specs.Asked.{is_source}
 use Rattle.el_set.specs.Made.{list_of}
 use Rattle.graph_parts.specs.Links.{source_count}

@@ -2,7 +2,7 @@
 use Rattle.std.proofs.Common.{◌≡◌, ℕ, Bool, true, false, if◌then◌else◌, List, [], ◌∷◌, sym, ap, ◌∙◌}
 use Rattle.flow_model.specs.Item.{Item, is_eos, is_flush_stop, eos_among}
 use Rattle.flow_model.specs.Sticky.{has_flush_stop, latest, since_flush_stop}
-use Rattle.net_model.specs.Over.{list_ended}
+use Rattle.flow_model.specs.Over.{list_ended}
 use Rattle.el_settings.specs.Asked.{is_source}
 use Rattle.el_set.specs.Made.{list_of}
 use Rattle.el_settings.specs.declared.settings.Settings.{Settings}

@@ -11,12 +11,12 @@ use Rattle.flow_model.proofs.Links.{link_input}
 use Rattle.lane_core.specs.Lane.{Lane}
 use Rattle.lane_core.specs.declared.ends.Inlet as inlets
 use Rattle.lane_core.specs.declared.ends.Outlet as outlets
-use Rattle.net_model.specs.Moment.{Moment, CellStands}
-use Rattle.net_model.specs.Opening.{no_calls}
-use Rattle.net_model.specs.Split.{AreEmpty}
-use Rattle.net_model.proofs.Splits.{split_all}
-use Rattle.net_model.specs.declared.element.TaskElement as elements
-use Rattle.net_model.specs.declared.source.TaskSource as sources
+use Rattle.flow_model.specs.Moment.{Moment, CellStands}
+use Rattle.flow_model.specs.Opening.{no_calls}
+use Rattle.flow_model.specs.Split.{AreEmpty}
+use Rattle.flow_model.proofs.Splits.{split_all}
+use Rattle.flow_model.specs.declared.element.TaskElement as elements
+use Rattle.flow_model.specs.declared.source.TaskSource as sources
 use Rattle.el_settings.specs.Asked.{is_source}
 use Rattle.graph_core.specs.Graph.{IsSound, made as made_in, links as links_in}
 use Rattle.graph_pads.specs.Links.{source_before}

@@ -13,12 +13,12 @@ use Rattle.flow_model.specs.Rule.{Rule}
 use Rattle.lane_core.specs.Lane.{Lane}
 use Rattle.lane_core.specs.declared.ends.Inlet as inlets
 use Rattle.lane_core.specs.declared.ends.Outlet as outlets
-use Rattle.net_model.specs.Moment.{Moment, behavior_at}
-use Rattle.net_model.specs.Over.{list_ended, AllEnded, PassesEos}
-use Rattle.net_model.specs.Split.{AreSplit}
-use Rattle.net_model.specs.Split as splits
-use Rattle.net_model.specs.declared.element.TaskElement as elements
-use Rattle.net_model.specs.declared.source.TaskSource as sources
+use Rattle.flow_model.specs.Moment.{Moment, behavior_at}
+use Rattle.flow_model.specs.Over.{list_ended, AllEnded, PassesEos}
+use Rattle.flow_model.specs.Split.{AreSplit}
+use Rattle.flow_model.specs.Split as splits
+use Rattle.flow_model.specs.declared.element.TaskElement as elements
+use Rattle.flow_model.specs.declared.source.TaskSource as sources
 use Rattle.el_settings.specs.Asked.{is_source, source_pads}
 use Rattle.graph_core.specs.Elements.{Made, has}
 use Rattle.graph_core.specs.Graph.{IsGraph, is_live, made as made_in, links as links_in}

@@ -3,7 +3,7 @@ use Rattle.std.proofs.Common.{◌≡◌, ℕ, Bool, true, false, List, Some, ref
 use Rattle.flow_model.specs.Call.{Call}
 use Rattle.flow_model.specs.Rule.{Rule}
 use Rattle.flow_model.specs.Section.{first_section}
-use Rattle.net_model.specs.Over.{list_ended}
+use Rattle.flow_model.specs.Over.{list_ended}
 use Rattle.el_settings.specs.Asked.{is_sink, is_source}
 use Rattle.el_settings.specs.declared.settings.Settings.{Settings}
 use Rattle.el_settings.proofs.Roles.{end_no_source}

@@ -1,6 +1,6 @@
 -- The histories of a moment are those of the evaluation of the graph, cut at the counts or whole.
 use Rattle.std.proofs.Common.{refl, ◌∙◌}
-use Rattle.net_model.proofs.Wholes.{begins_of}
+use Rattle.flow_model.proofs.Wholes.{begins_of}
 use Rattle.graph_parts.proofs.Wholes.{moment_is_graph, end_is_graph}
 use Rattle.graph_tasks.specs.Ended.{HistoriesAreEvaluated, EndsAreWhole}
 

@@ -6,7 +6,7 @@ use Rattle.flow_model.specs.Call.{Feed}
 use Rattle.flow_model.specs.Eval.{Plan}
 use Rattle.flow_model.specs.Item.{Ev, Eos}
 use Rattle.flow_model.specs.Rule.{Rule}
-use Rattle.net_model.specs.Moment.{Behavior, Moment, behavior_at}
+use Rattle.flow_model.specs.Moment.{Behavior, Moment, behavior_at}
 use Rattle.el_settings.specs.Asked.{is_queue, is_source, makes_sinks, sink_pads}
 use Rattle.el_settings.specs.declared.settings.Settings.{Settings}
 use Rattle.el_settings.proofs.Roles.{other_sinks, source_no_sink}

@@ -3,7 +3,7 @@ use Rattle.std.proofs.Common.{◌≡◌, ℕ, zero, suc, List, [], ◌∷◌, �
 use Rattle.std.specs.Prelude.{slice_get}
 use Rattle.std.specs.List.{AllZip}
 use Rattle.flow_model.specs.Account.{IsMember}
-use Rattle.net_model.specs.declared.element.TaskElement as elements
+use Rattle.flow_model.specs.declared.element.TaskElement as elements
 use Rattle.graph_parts.specs.Bags.{Once}
 use Rattle.task_parts.specs.declared.part.Part.{Part}
 use Rattle.graph_tasks.specs.Making.{IsPartFrom}

@@ -10,12 +10,12 @@ use Rattle.flow_model.proofs.Prefixes.{prefix_by}
 use Rattle.lane_core.specs.Lane.{Lane}
 use Rattle.lane_core.specs.declared.ends.Inlet as inlets
 use Rattle.lane_core.specs.declared.ends.Outlet as outlets
-use Rattle.net_model.specs.Moment.{Moment}
-use Rattle.net_model.specs.Split.{AreSplit}
-use Rattle.net_model.specs.Split as splits
-use Rattle.net_model.proofs.Splits.{split_begins}
-use Rattle.net_model.specs.declared.element.TaskElement as elements
-use Rattle.net_model.specs.declared.source.TaskSource as sources
+use Rattle.flow_model.specs.Moment.{Moment}
+use Rattle.flow_model.specs.Split.{AreSplit}
+use Rattle.flow_model.specs.Split as splits
+use Rattle.flow_model.proofs.Splits.{split_begins}
+use Rattle.flow_model.specs.declared.element.TaskElement as elements
+use Rattle.flow_model.specs.declared.source.TaskSource as sources
 use Rattle.inlet_row.specs.Row.{AreApart, row_holds}
 use Rattle.inlet_row.specs.Take.{HoldsAfter}
 use Rattle.inlet_row.specs.Taken as takes

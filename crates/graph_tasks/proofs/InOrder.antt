@@ -10,11 +10,11 @@ use Rattle.gst_outside.specs.declared.sink.Sink as sinks
 use Rattle.lane_core.specs.Lane.{Lane}
 use Rattle.lane_core.specs.declared.ends.Inlet as inlets
 use Rattle.lane_core.specs.declared.ends.Outlet as outlets
-use Rattle.net_model.specs.Moment.{Moment, behavior_at}
-use Rattle.net_model.specs.Opening.{no_calls}
-use Rattle.net_model.specs.Whole.{OwesInOrder}
-use Rattle.net_model.specs.declared.element.TaskElement as elements
-use Rattle.net_model.specs.declared.source.TaskSource as sources
+use Rattle.flow_model.specs.Moment.{Moment, behavior_at}
+use Rattle.flow_model.specs.Opening.{no_calls}
+use Rattle.flow_model.specs.Whole.{OwesInOrder}
+use Rattle.flow_model.specs.declared.element.TaskElement as elements
+use Rattle.flow_model.specs.declared.source.TaskSource as sources
 use Rattle.el_settings.specs.Asked.{Begins, Ends, Gathers, Passes, Place, Splits, begins, gathers, is_source, makes_sinks, place_of}
 use Rattle.graph_core.specs.Elements.{Made, has}
 use Rattle.graph_core.specs.Graph.{made as made_in, links as links_in}

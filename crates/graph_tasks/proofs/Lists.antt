@@ -2,7 +2,7 @@
 use Rattle.std.proofs.Common.{◌≡◌, ◌<◌, ℕ, zero, suc, List, [], ◌∷◌, drop, length, map, refl, arith}
 use Rattle.flow_model.specs.Item.{Item}
 use Rattle.flow_model.specs.Link.{Span}
-use Rattle.net_model.specs.Split.{AreEmpty, NoneAt}
+use Rattle.flow_model.specs.Split.{AreEmpty, NoneAt}
 use Rattle.flow_model.specs.SinkPads.{InSection}
 use Rattle.net_task.specs.Ties.{TookAt}
 use Rattle.net_turns.specs.Net.{ListAt}

@@ -6,9 +6,9 @@ use Rattle.std.specs.List.{range_with_len}
 use Rattle.std.specs.Option.{option_map_or}
 use Rattle.std.proofs.lemmas.Bool.{false≢true}
 use Rattle.flow_model.specs.Call.{Call}
-use Rattle.net_model.specs.Moment.{Moment, CellStands}
-use Rattle.net_model.specs.Opening.{no_calls}
-use Rattle.net_model.specs.Split.{AreEmpty, AreSplit, none, pad}
+use Rattle.flow_model.specs.Moment.{Moment, CellStands}
+use Rattle.flow_model.specs.Opening.{no_calls}
+use Rattle.flow_model.specs.Split.{AreEmpty, AreSplit, none, pad}
 use Rattle.el_settings.specs.Asked.{is_source}
 use Rattle.graph_order.specs.Links.{IsLink}
 use Rattle.graph_core.specs.Elements.{Made, has}

@@ -13,11 +13,11 @@ use Rattle.flow_model.proofs.Links.{link_input}
 use Rattle.lane_core.specs.Lane.{Lane}
 use Rattle.lane_core.specs.declared.ends.Inlet as inlets
 use Rattle.lane_core.specs.declared.ends.Outlet as outlets
-use Rattle.net_model.specs.Moment.{Moment}
-use Rattle.net_model.specs.Over.{list_ended, AllEnded, FromStart}
-use Rattle.net_model.proofs.Splits.{split_all}
-use Rattle.net_model.specs.declared.element.TaskElement as elements
-use Rattle.net_model.specs.declared.source.TaskSource as sources
+use Rattle.flow_model.specs.Moment.{Moment}
+use Rattle.flow_model.specs.Over.{list_ended, AllEnded, FromStart}
+use Rattle.flow_model.proofs.Splits.{split_all}
+use Rattle.flow_model.specs.declared.element.TaskElement as elements
+use Rattle.flow_model.specs.declared.source.TaskSource as sources
 use Rattle.el_settings.proofs.Roles.{end_sinks}
 use Rattle.graph_core.specs.Allowed.{first_pad}
 use Rattle.graph_core.specs.Elements.{Made}

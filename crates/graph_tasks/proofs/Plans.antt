@@ -5,8 +5,8 @@ use Rattle.std.specs.List.{AllZip}
 use Rattle.flow_model.specs.Account.{IsMember}
 use Rattle.lane_core.specs.declared.ends.Inlet as inlets
 use Rattle.lane_core.specs.declared.ends.Outlet as outlets
-use Rattle.net_model.specs.declared.element.TaskElement as elements
-use Rattle.net_model.specs.declared.source.TaskSource as sources
+use Rattle.flow_model.specs.declared.element.TaskElement as elements
+use Rattle.flow_model.specs.declared.source.TaskSource as sources
 use Rattle.graph_parts.specs.Bags.{Once}
 use Rattle.graph_parts.proofs.Onces.{once_apart, once_back, once_front, in_front, in_back}
 use Rattle.task_parts.specs.declared.head.Head.{Head}

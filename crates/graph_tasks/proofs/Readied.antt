@@ -3,8 +3,8 @@ use Rattle.std.proofs.Common.{List, Option, Some}
 use Rattle.lane_core.specs.Lane.{Lane}
 use Rattle.lane_core.specs.declared.ends.Inlet as inlets
 use Rattle.lane_core.specs.declared.ends.Outlet as outlets
-use Rattle.net_model.specs.declared.element.TaskElement as elements
-use Rattle.net_model.specs.declared.source.TaskSource as sources
+use Rattle.flow_model.specs.declared.element.TaskElement as elements
+use Rattle.flow_model.specs.declared.source.TaskSource as sources
 use Rattle.graph_core.specs.declared.graph.Graph.{Graph}
 use Rattle.graph_parts.specs.declared.bag.Bag.{Bag}
 use Rattle.net_task.specs.declared.task.Task.{Task}

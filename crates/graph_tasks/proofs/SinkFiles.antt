@@ -7,7 +7,7 @@ use Rattle.gst_outside.specs.declared.sink.Sink as sinks
 use Rattle.flow_model.specs.Item.{Item, body_of, is_flush_stop}
 use Rattle.flow_model.specs.Call.{Call, feeds, items}
 use Rattle.flow_model.specs.SinkBytes.{Disk, disk_after, empty_disk, next_disk, rendered, sink_bytes}
-use Rattle.net_model.specs.Moment.{Behavior}
+use Rattle.flow_model.specs.Moment.{Behavior}
 use Rattle.flow_model.specs.SinkPads.{InSection, flush_stops_given}
 use Rattle.el_set.specs.declared.sink.SinkElement.{SinkElement}
 use Rattle.el_set.specs.declared.sink.SinkElement.TheVariants as sink_kinds

@@ -11,14 +11,14 @@ use Rattle.flow_model.specs.Feeding.{IsFaultOf, next_owed}
 use Rattle.lane_core.specs.Lane.{Lane}
 use Rattle.lane_core.specs.declared.ends.Inlet as inlets
 use Rattle.lane_core.specs.declared.ends.Outlet as outlets
-use Rattle.net_model.specs.Moment.{Behavior, Moment, behavior_at}
-use Rattle.net_model.specs.declared.element.TaskElement as elements
-use Rattle.net_model.specs.declared.source.TaskSource as sources
-use Rattle.net_model.specs.declared.refusal.Refusal.{Refusal}
-use Rattle.net_model.specs.declared.refusal.Refusal.TheVariants.{Fault, Unwritten}
-use Rattle.net_model.specs.Refuses.{RefusesBy}
+use Rattle.flow_model.specs.Moment.{Behavior, Moment, behavior_at}
+use Rattle.flow_model.specs.declared.element.TaskElement as elements
+use Rattle.flow_model.specs.declared.source.TaskSource as sources
+use Rattle.flow_model.specs.declared.refusal.Refusal.{Refusal}
+use Rattle.flow_model.specs.declared.refusal.Refusal.TheVariants.{Fault, Unwritten}
+use Rattle.flow_model.specs.Refuses.{RefusesBy}
 use Rattle.flow_model.specs.Eval.{Plan}
-use Rattle.net_model.specs.Step.{Leads}
+use Rattle.flow_model.specs.Step.{Leads}
 use Rattle.graph_core.specs.Allowed.{first_pad}
 use Rattle.graph_core.specs.Graph.{made as made_in, links as links_in}
 use Rattle.graph_core.specs.declared.graph.Graph.{Graph}

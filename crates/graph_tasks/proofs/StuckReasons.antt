@@ -19,10 +19,10 @@ use Rattle.lane_core.specs.declared.ends.Inlet as inlets
 use Rattle.lane_core.specs.declared.ends.Outlet as outlets
 use Rattle.inlet_row.specs.Row.{feeds_of, items_of as lane_items}
 use Rattle.inlet_row.specs.declared.row.InletRow.{InletRow}
-use Rattle.net_model.specs.Moment.{Moment, behavior_at}
-use Rattle.net_model.specs.Over.{AllEnded, list_ended}
-use Rattle.net_model.specs.declared.element.TaskElement as elements
-use Rattle.net_model.specs.declared.source.TaskSource as sources
+use Rattle.flow_model.specs.Moment.{Moment, behavior_at}
+use Rattle.flow_model.specs.Over.{AllEnded, list_ended}
+use Rattle.flow_model.specs.declared.element.TaskElement as elements
+use Rattle.flow_model.specs.declared.source.TaskSource as sources
 use Rattle.el_settings.specs.Asked.{is_queue, is_source, makes_sinks}
 use Rattle.el_settings.proofs.Roles.{source_no_sink}
 use Rattle.el_set.specs.Passing.{PassesEach}

@@ -8,9 +8,9 @@ use Rattle.flow_model.specs.Item.{Item}
 use Rattle.flow_model.specs.Prefix.{IsPrefix, nothing}
 use Rattle.flow_model.specs.SinkPads.{calls_at}
 use Rattle.flow_model.proofs.Prefixes.{prefix_by}
-use Rattle.net_model.specs.Moment.{Moment}
-use Rattle.net_model.specs.Split.{AreEmpty, AreSplit}
-use Rattle.net_model.specs.Split as splits
+use Rattle.flow_model.specs.Moment.{Moment}
+use Rattle.flow_model.specs.Split.{AreEmpty, AreSplit}
+use Rattle.flow_model.specs.Split as splits
 use Rattle.graph_core.specs.Graph.{IsSound, made as made_in, links as links_in}
 use Rattle.graph_core.specs.GraphPlan.{pad_id, sink_count, sink_at as place_at}
 use Rattle.graph_core.specs.LinkedOnce.{AreOnce}

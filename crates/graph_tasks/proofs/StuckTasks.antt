@@ -10,10 +10,10 @@ use Rattle.lane_core.specs.declared.ends.Outlet as outlets
 use Rattle.inlet_row.specs.Row.{feeds_of, received_of}
 use Rattle.inlet_row.specs.declared.feeding.Feeding.{Feeding}
 use Rattle.inlet_row.specs.declared.row.InletRow.{InletRow}
-use Rattle.net_model.specs.Moment.{Moment}
-use Rattle.net_model.specs.Split.{AreEmpty}
-use Rattle.net_model.specs.declared.element.TaskElement as elements
-use Rattle.net_model.specs.declared.source.TaskSource as sources
+use Rattle.flow_model.specs.Moment.{Moment}
+use Rattle.flow_model.specs.Split.{AreEmpty}
+use Rattle.flow_model.specs.declared.element.TaskElement as elements
+use Rattle.flow_model.specs.declared.source.TaskSource as sources
 use Rattle.el_settings.specs.Asked.{is_source}
 use Rattle.el_settings.proofs.Roles.{source_no_sink}
 use Rattle.graph_core.specs.Graph.{made as made_in, links as links_in}

@@ -11,10 +11,10 @@ use Rattle.flow_model.specs.Section.{first_section}
 use Rattle.lane_core.specs.Lane.{Lane}
 use Rattle.lane_core.specs.declared.ends.Inlet as inlets
 use Rattle.lane_core.specs.declared.ends.Outlet as outlets
-use Rattle.net_model.specs.Moment.{Moment}
-use Rattle.net_model.specs.Pad.{Holds}
-use Rattle.net_model.specs.declared.element.TaskElement as elements
-use Rattle.net_model.specs.declared.source.TaskSource as sources
+use Rattle.flow_model.specs.Moment.{Moment}
+use Rattle.flow_model.specs.Pad.{Holds}
+use Rattle.flow_model.specs.declared.element.TaskElement as elements
+use Rattle.flow_model.specs.declared.source.TaskSource as sources
 use Rattle.el_settings.specs.Asked.{is_source, source_pads}
 use Rattle.el_set.specs.Denoted.{rule_of}
 use Rattle.el_set.specs.Made.{list_of}

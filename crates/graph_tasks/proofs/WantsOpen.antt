@@ -3,8 +3,8 @@ use Rattle.std.proofs.Common.{◌≡◌, ◌⊎◌, ℕ, Bool, true, false, List
 use Rattle.std.proofs.lemmas.Bool.{false≢true}
 use Rattle.flow_model.specs.Call.{Call}
 use Rattle.flow_model.specs.Rule.{passes}
-use Rattle.net_model.specs.Moment.{Behavior}
-use Rattle.net_model.specs.Over.{AllEnded}
+use Rattle.flow_model.specs.Moment.{Behavior}
+use Rattle.flow_model.specs.Over.{AllEnded}
 use Rattle.el_basic.specs.Passed.{has_ended}
 use Rattle.el_basic.specs.Spread.{has_ended as tee_has_ended}
 use Rattle.el_set.specs.Stands.{has_passed_eos}

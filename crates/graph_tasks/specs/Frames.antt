@@ -14,8 +14,8 @@ use Rattle.graph_parts.specs.declared.bag.BagHead.TheVariants as bags
 use Rattle.graph_parts.specs.declared.bag.BagLink.{BagLink}
 use Rattle.graph_parts.specs.declared.bag.BagLink.TheVariants.{Nothing, Element, Lane}
 use Rattle.graph_parts.specs.Lanes.{lane_place, lane_room}
-use Rattle.net_model.specs.declared.element.TaskElement as elements
-use Rattle.net_model.specs.declared.source.TaskSource as sources
+use Rattle.flow_model.specs.declared.element.TaskElement as elements
+use Rattle.flow_model.specs.declared.source.TaskSource as sources
 use Rattle.task_pads.specs.Behind.{Goes, nowhere, inside, over}
 use Rattle.net_task.specs.declared.task.Task.{Task}
 use Rattle.net_task.specs.Frame.{Room, Wire, PartFrame, HeadFrame, by_source, by_inlets, TaskFrame, frame_of}

@@ -4,9 +4,9 @@ use Rattle.gst_outside.specs.declared.sink.Sink as sinks
 use Rattle.lane_core.specs.Lane.{Lane}
 use Rattle.lane_core.specs.declared.ends.Inlet as inlets
 use Rattle.lane_core.specs.declared.ends.Outlet as outlets
-use Rattle.net_model.specs.Moment.{Moment}
-use Rattle.net_model.specs.declared.element.TaskElement as elements
-use Rattle.net_model.specs.declared.source.TaskSource as sources
+use Rattle.flow_model.specs.Moment.{Moment}
+use Rattle.flow_model.specs.declared.element.TaskElement as elements
+use Rattle.flow_model.specs.declared.source.TaskSource as sources
 use Rattle.el_settings.specs.Asked.{makes_sinks}
 use Rattle.graph_core.specs.Graph.{IsGraph, is_live, made as made_in}
 use Rattle.graph_core.specs.declared.graph.Graph.{Graph}

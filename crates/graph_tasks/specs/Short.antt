@@ -2,8 +2,8 @@
 use Rattle.std.specs.Prelude.{◌≡◌, ℕ, true, false, List, [], ◌∷◌, ◌++◌, Some, slice_get}
 use Rattle.std.specs.List.{list_all}
 use Rattle.flow_model.specs.Item.{Item, Ev, Eos, is_buffer, eos_among}
-use Rattle.net_model.specs.declared.refusal.Unread.{Unread}
-use Rattle.net_model.specs.declared.refusal.Unread.TheVariants.{Failed, OutOfMemory}
+use Rattle.flow_model.specs.declared.refusal.Unread.{Unread}
+use Rattle.flow_model.specs.declared.refusal.Unread.TheVariants.{Failed, OutOfMemory}
 use Rattle.el_set.specs.Made.{list_of}
 use Rattle.el_settings.specs.declared.settings.Settings.{Settings}
 use Rattle.graph_core.specs.Allowed.{first_pad}

@@ -7,9 +7,9 @@ use Rattle.gst_outside.specs.declared.sink.Sink as sinks
 use Rattle.lane_core.specs.Lane.{Lane}
 use Rattle.lane_core.specs.declared.ends.Inlet as inlets
 use Rattle.lane_core.specs.declared.ends.Outlet as outlets
-use Rattle.net_model.specs.Moment.{Moment}
-use Rattle.net_model.specs.declared.element.TaskElement as elements
-use Rattle.net_model.specs.declared.source.TaskSource as sources
+use Rattle.flow_model.specs.Moment.{Moment}
+use Rattle.flow_model.specs.declared.element.TaskElement as elements
+use Rattle.flow_model.specs.declared.source.TaskSource as sources
 use Rattle.el_settings.specs.Asked.{source_pads}
 use Rattle.graph_core.specs.Elements.{Made, has}
 use Rattle.graph_core.specs.Graph.{made as made_in, links as links_in}

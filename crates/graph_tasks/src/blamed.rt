@@ -4,7 +4,7 @@ ghost use Rattle.graph_tasks.specs.Written.{AreStreams};
 
 use gst_outside::Sink;
 use lane_core::{Inlet, Outlet};
-use net_model::{TaskElement, TaskSource};
+use flow_model::{TaskElement, TaskSource};
 use task_elements::StreamElement;
 
 /// The elements of a stream are such as the laws of files and of faults speak of.

@@ -4,7 +4,7 @@ ghost use Rattle.graph_tasks.specs.Ended.{LooseAreQuiet, PadsAreLimited};
 
 use gst_outside::Sink;
 use lane_core::{Inlet, Outlet};
-use net_model::{TaskElement, TaskSource};
+use flow_model::{TaskElement, TaskSource};
 use task_elements::StreamElement;
 
 /// At any moment of the run of a graph's tasks each of its elements stands, and took in order: for what it took it owes a beginning of

@@ -11,7 +11,7 @@ use crate::taking::take_there;
 use crate::wired_task::{WiredHead, WiredPart, WiredTask};
 use gst_value::OutOfMemory;
 use lane_core::{Inlet, Outlet};
-use net_model::{TaskElement, TaskSource};
+use flow_model::{TaskElement, TaskSource};
 use net_task::Task;
 use std::alloc::Global;
 use std::collections::VecDeque;

@@ -5,7 +5,7 @@ ghost use Rattle.graph_tasks.specs.Stalled.{TasksAreStuck};
 
 use gst_outside::Sink;
 use lane_core::{Inlet, Outlet};
-use net_model::{TaskElement, TaskSource};
+use flow_model::{TaskElement, TaskSource};
 use net_turns::laws::{lines_end, steps_tell_over};
 use task_elements::StreamElement;
 

@@ -3,7 +3,7 @@
 #![tactic(auto)]
 
 use gst_outside::{HostClock, HostFiles, OpenGate, OutSink};
-use launch_run::run::{self, Untaken};
+use world_core::run::{self, Untaken};
 use read_ahead::AheadFiles;
 use std::alloc::Global;
 use std::io::ErrorKind;

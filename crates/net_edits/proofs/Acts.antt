@@ -6,12 +6,12 @@ use Rattle.flow_model.specs.Item.{Item}
 use Rattle.lane_core.specs.Lane.{Lane}
 use Rattle.lane_core.specs.declared.ends.Inlet as inlets
 use Rattle.lane_core.specs.declared.ends.Outlet as outlets
-use Rattle.net_model.specs.Edit.{undone, unlinked}
-use Rattle.net_model.specs.Moment.{Moment}
-use Rattle.net_model.specs.Step.{planned}
-use Rattle.net_model.specs.declared.element.TaskElement as elements
-use Rattle.net_model.specs.declared.source.TaskSource as sources
-use Rattle.net_model.proofs.Acts.{unlinking_keeps}
+use Rattle.flow_model.specs.Edit.{undone, unlinked}
+use Rattle.flow_model.specs.Moment.{Moment}
+use Rattle.flow_model.specs.Step.{planned}
+use Rattle.flow_model.specs.declared.element.TaskElement as elements
+use Rattle.flow_model.specs.declared.source.TaskSource as sources
+use Rattle.flow_model.proofs.Acts.{unlinking_keeps}
 use Rattle.gst_value.proofs.Basics.{some_same}
 use Rattle.pad_core.specs.declared.probe.Probe.{Probe}
 use Rattle.task_pads.specs.Behind.{end_in, goes, nowhere, over}

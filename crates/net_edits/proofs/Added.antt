@@ -9,11 +9,11 @@ use Rattle.gst_value.proofs.Basics.{none_some}
 use Rattle.lane_core.specs.Lane.{Lane}
 use Rattle.lane_core.specs.declared.ends.Inlet as inlets
 use Rattle.lane_core.specs.declared.ends.Outlet as outlets
-use Rattle.net_model.specs.Moment.{CellStands, Moment}
-use Rattle.net_model.specs.Split.{AreEmpty, emptied}
-use Rattle.net_model.specs.Standing.{LinksAt, LinksNowhere}
-use Rattle.net_model.specs.declared.element.TaskElement as elements
-use Rattle.net_model.specs.declared.source.TaskSource as sources
+use Rattle.flow_model.specs.Moment.{CellStands, Moment}
+use Rattle.flow_model.specs.Split.{AreEmpty, emptied}
+use Rattle.flow_model.specs.Standing.{LinksAt, LinksNowhere}
+use Rattle.flow_model.specs.declared.element.TaskElement as elements
+use Rattle.flow_model.specs.declared.source.TaskSource as sources
 use Rattle.inlet_row.specs.declared.feeding.Feeding.{Feeding}
 use Rattle.inlet_row.specs.declared.row.InletRow.{InletRow}
 use Rattle.inlet_row.specs.Row.{GaveInAll, GaveOf, feeds_of, held}

@@ -2,8 +2,8 @@
 use Rattle.std.proofs.Common.{◌≡◌, ◌⊎◌, ℕ, List, Option, Some, map, refl, sym, ap, ◌∙◌, subst, inl, inr}
 use Rattle.std.specs.Prelude.{slice_get, slice_set}
 use Rattle.lane_core.specs.declared.ends.Outlet as outlets
-use Rattle.net_model.specs.declared.element.TaskElement as elements
-use Rattle.net_model.specs.declared.source.TaskSource as sources
+use Rattle.flow_model.specs.declared.element.TaskElement as elements
+use Rattle.flow_model.specs.declared.source.TaskSource as sources
 use Rattle.task_pads.specs.Behind.{over}
 use Rattle.task_pads.specs.declared.pad.Pad.{Pad}
 use Rattle.task_parts.specs.Head.{IsSameSource}

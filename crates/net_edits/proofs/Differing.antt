@@ -11,13 +11,13 @@ use Rattle.gst_value.proofs.Places.{map_get}
 use Rattle.lane_core.specs.Lane.{Lane}
 use Rattle.lane_core.specs.declared.ends.Inlet as inlets
 use Rattle.lane_core.specs.declared.ends.Outlet as outlets
-use Rattle.net_model.specs.Moment.{CellStands, Moment, PadStands, behavior_at, owed_at}
-use Rattle.net_model.specs.Pad.{Holds}
-use Rattle.net_model.specs.Split.{AreSplit, NoneAt}
-use Rattle.net_model.specs.Standing.{AllStanding, LinksAt, LinksNowhere}
-use Rattle.net_model.specs.Step.{Leads}
-use Rattle.net_model.specs.declared.element.TaskElement as elements
-use Rattle.net_model.specs.declared.source.TaskSource as sources
+use Rattle.flow_model.specs.Moment.{CellStands, Moment, PadStands, behavior_at, owed_at}
+use Rattle.flow_model.specs.Pad.{Holds}
+use Rattle.flow_model.specs.Split.{AreSplit, NoneAt}
+use Rattle.flow_model.specs.Standing.{AllStanding, LinksAt, LinksNowhere}
+use Rattle.flow_model.specs.Step.{Leads}
+use Rattle.flow_model.specs.declared.element.TaskElement as elements
+use Rattle.flow_model.specs.declared.source.TaskSource as sources
 use Rattle.inlet_row.specs.declared.row.InletRow.{InletRow}
 use Rattle.inlet_row.specs.Row.{row_holds}
 use Rattle.task_pads.specs.Behind.{Goes, inside, nowhere, over}

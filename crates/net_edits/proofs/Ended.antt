@@ -11,13 +11,13 @@ use Rattle.inlet_row.specs.declared.row.InletRow.{InletRow}
 use Rattle.lane_core.specs.Lane.{Lane}
 use Rattle.lane_core.specs.declared.ends.Inlet as inlets
 use Rattle.lane_core.specs.declared.ends.Outlet as outlets
-use Rattle.net_model.specs.Edit.{IsFree, ended_over, undo, undone}
-use Rattle.net_model.specs.Moment.{Moment}
-use Rattle.net_model.specs.Standing.{AllStanding, LinksAt, Standing, is_linked, links_from}
-use Rattle.net_model.specs.Step.{Leads, planned}
-use Rattle.net_model.proofs.Acts.{ending_over_keeps}
-use Rattle.net_model.specs.declared.element.TaskElement as elements
-use Rattle.net_model.specs.declared.source.TaskSource as sources
+use Rattle.flow_model.specs.Edit.{IsFree, ended_over, undo, undone}
+use Rattle.flow_model.specs.Moment.{Moment}
+use Rattle.flow_model.specs.Standing.{AllStanding, LinksAt, Standing, is_linked, links_from}
+use Rattle.flow_model.specs.Step.{Leads, planned}
+use Rattle.flow_model.proofs.Acts.{ending_over_keeps}
+use Rattle.flow_model.specs.declared.element.TaskElement as elements
+use Rattle.flow_model.specs.declared.source.TaskSource as sources
 use Rattle.task_pads.proofs.Lists.{set_there}
 use Rattle.task_pads.specs.Behind.{end_in, goes}
 use Rattle.task_pads.specs.declared.pad.Behind.{Behind}

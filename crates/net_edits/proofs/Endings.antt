@@ -6,8 +6,8 @@ use Rattle.flow_model.proofs.Counted.{since_all as since_calm}
 use Rattle.gst_item.specs.Item.{has_item}
 use Rattle.gst_item.specs.Sticky.{first_found, has_flush_stop, latest}
 use Rattle.pad_core.specs.Crossing.{has_ended}
-use Rattle.net_model.specs.Moment.{CellStands, Moment, owed_at}
-use Rattle.net_model.specs.Pad.{Holds}
+use Rattle.flow_model.specs.Moment.{CellStands, Moment, owed_at}
+use Rattle.flow_model.specs.Pad.{Holds}
 use Rattle.net_turns.specs.Net.{IsPlain}
 
 -- what was found is found in more

@@ -10,12 +10,12 @@ use Rattle.inlet_row.specs.declared.row.InletRow.{InletRow}
 use Rattle.lane_core.specs.Lane.{Lane}
 use Rattle.lane_core.specs.declared.ends.Inlet as inlets
 use Rattle.lane_core.specs.declared.ends.Outlet as outlets
-use Rattle.net_model.specs.Moment.{CellStands, Moment, behavior_at, put_at}
-use Rattle.net_model.specs.Split.{AreEmpty, NoneAt}
-use Rattle.net_model.specs.Step.{fed}
-use Rattle.net_model.specs.declared.element.TaskElement as elements
-use Rattle.net_model.specs.declared.source.TaskSource as sources
-use Rattle.net_model.proofs.Inputs.{at_here, at_other}
+use Rattle.flow_model.specs.Moment.{CellStands, Moment, behavior_at, put_at}
+use Rattle.flow_model.specs.Split.{AreEmpty, NoneAt}
+use Rattle.flow_model.specs.Step.{fed}
+use Rattle.flow_model.specs.declared.element.TaskElement as elements
+use Rattle.flow_model.specs.declared.source.TaskSource as sources
+use Rattle.flow_model.proofs.Inputs.{at_here, at_other}
 use Rattle.net_task.specs.Frame.{head_frame, part_frame, wire_of}
 use Rattle.net_task.specs.Ready.{IsReady}
 use Rattle.net_task.specs.Ties.{AreTied, HeadTied, Stands, Ties, TookAt, nothing_lost}

@@ -1,7 +1,7 @@
 -- A pad that nothing crossed, at a moment.
 use Rattle.std.proofs.Common.{◌≡◌, ℕ, List, [], refl, sym, ap}
 use Rattle.flow_model.specs.Item.{Item, buffers}
-use Rattle.net_model.specs.Moment.{Moment}
+use Rattle.flow_model.specs.Moment.{Moment}
 use Rattle.pad_core.specs.Crossing.{has_ended}
 use Rattle.task_edits.specs.Seeing.{SeenAt}
 use Rattle.net_edits.specs.Seeing.{fresh_pad}

@@ -8,11 +8,11 @@ use Rattle.flow_model.specs.Link.{Span, Flushed, Given, Linked, WasLinked, input
 use Rattle.flow_model.specs.Rule.{Rule}
 use Rattle.flow_model.specs.SinkPads.{InSection}
 use Rattle.gst_item.specs.Sticky.{has_flush_stop}
-use Rattle.net_model.specs.Moment.{CellStands, Moment, PadStands, owed_at, put_at}
-use Rattle.net_model.specs.Pad.{Holds}
-use Rattle.net_model.specs.Split.{AreEmpty, AreSplit, emptied, none, pad}
-use Rattle.net_model.specs.Standing.{AllStanding, LinksAt, LinksNowhere, links_from_one}
-use Rattle.net_model.proofs.Inputs.{at_here, at_other}
+use Rattle.flow_model.specs.Moment.{CellStands, Moment, PadStands, owed_at, put_at}
+use Rattle.flow_model.specs.Pad.{Holds}
+use Rattle.flow_model.specs.Split.{AreEmpty, AreSplit, emptied, none, pad}
+use Rattle.flow_model.specs.Standing.{AllStanding, LinksAt, LinksNowhere, links_from_one}
+use Rattle.flow_model.proofs.Inputs.{at_here, at_other}
 use Rattle.pad_core.specs.Crossing.{has_ended}
 use Rattle.net_turns.specs.Net.{IsPlain}
 use Rattle.net_edits.specs.Adding.{DiffersAt, IsCut, NoneStand, frozen, owes_just}

@@ -13,8 +13,8 @@ use Rattle.inlet_row.specs.declared.feeding.Feeding.TheVariants.{Given, Lane as 
 use Rattle.inlet_row.specs.declared.row.InletRow.{InletRow}
 use Rattle.inlet_row.specs.Row.{ForLanes, GaveOf, RowBetween, RowIn, feeds_of, held as holds_in, items_of}
 use Rattle.inlet_row.proofs.Losing.{for_map}
-use Rattle.net_model.specs.declared.element.TaskElement as elements
-use Rattle.net_model.specs.declared.source.TaskSource as sources
+use Rattle.flow_model.specs.declared.element.TaskElement as elements
+use Rattle.flow_model.specs.declared.source.TaskSource as sources
 use Rattle.task_pads.specs.Behind.{EndReady, LaneEnd}
 use Rattle.task_pads.specs.Pads.{end_of}
 use Rattle.task_parts.specs.declared.head.Head.{Head}

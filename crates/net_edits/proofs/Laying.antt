@@ -7,10 +7,10 @@ use Rattle.lane_core.specs.Lane.{Lane}
 use Rattle.lane_core.specs.declared.ends.Inlet as inlets
 use Rattle.lane_core.specs.declared.ends.Outlet as outlets
 use Rattle.inlet_row.specs.declared.row.InletRow.{InletRow}
-use Rattle.net_model.specs.Moment.{CellStands, Moment}
-use Rattle.net_model.specs.Split.{AreEmpty}
-use Rattle.net_model.specs.declared.element.TaskElement as elements
-use Rattle.net_model.specs.declared.source.TaskSource as sources
+use Rattle.flow_model.specs.Moment.{CellStands, Moment}
+use Rattle.flow_model.specs.Split.{AreEmpty}
+use Rattle.flow_model.specs.declared.element.TaskElement as elements
+use Rattle.flow_model.specs.declared.source.TaskSource as sources
 use Rattle.task_parts.specs.declared.head.InletHead.{InletHead}
 use Rattle.net_task.specs.declared.task.Task.{Task}
 use Rattle.net_task.specs.Ready.{IsReady}

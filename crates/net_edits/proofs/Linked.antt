@@ -11,13 +11,13 @@ use Rattle.inlet_row.specs.declared.feeding.Feeding.{Feeding}
 use Rattle.inlet_row.specs.declared.feeding.Feeding.TheVariants.{Given, Lane as OfLane}
 use Rattle.inlet_row.specs.declared.row.InletRow.{InletRow}
 use Rattle.inlet_row.specs.Row.{Apart, ForLanes, GaveOf, feeds_of, held as holds_in, items_of}
-use Rattle.net_model.specs.Edit.{IsFree, linked, linked_over, opening_calls}
-use Rattle.net_model.specs.Moment.{Moment, put_at}
-use Rattle.net_model.specs.Step.{LeadsNowhere, planned}
-use Rattle.net_model.proofs.Acts.{linking_over_keeps}
-use Rattle.net_model.proofs.Inputs.{at_here, at_other}
-use Rattle.net_model.specs.declared.element.TaskElement as elements
-use Rattle.net_model.specs.declared.source.TaskSource as sources
+use Rattle.flow_model.specs.Edit.{IsFree, linked, linked_over, opening_calls}
+use Rattle.flow_model.specs.Moment.{Moment, put_at}
+use Rattle.flow_model.specs.Step.{LeadsNowhere, planned}
+use Rattle.flow_model.proofs.Acts.{linking_over_keeps}
+use Rattle.flow_model.proofs.Inputs.{at_here, at_other}
+use Rattle.flow_model.specs.declared.element.TaskElement as elements
+use Rattle.flow_model.specs.declared.source.TaskSource as sources
 use Rattle.gst_value.proofs.Basics.{some_same}
 use Rattle.task_pads.specs.declared.pad.Pad.{Pad}
 use Rattle.task_pads.specs.Pads.{HasCrossed, number_of}

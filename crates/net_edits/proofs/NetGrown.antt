@@ -14,10 +14,10 @@ use Rattle.inlet_row.specs.declared.feeding.Feeding.{Feeding}
 use Rattle.inlet_row.specs.declared.row.InletRow.{InletRow}
 use Rattle.inlet_row.specs.Row.{Apart, ForLanes, GaveInAll, GaveOf, RowBetween, feeds_of, held as holds_in, row_holds}
 use Rattle.inlet_row.proofs.Losing.{for_map}
-use Rattle.net_model.specs.Moment.{Moment}
-use Rattle.net_model.specs.Split.{AreEmpty}
-use Rattle.net_model.specs.declared.element.TaskElement as elements
-use Rattle.net_model.specs.declared.source.TaskSource as sources
+use Rattle.flow_model.specs.Moment.{Moment}
+use Rattle.flow_model.specs.Split.{AreEmpty}
+use Rattle.flow_model.specs.declared.element.TaskElement as elements
+use Rattle.flow_model.specs.declared.source.TaskSource as sources
 use Rattle.task_pads.proofs.Lists.{set_there}
 use Rattle.task_parts.proofs.Lists.{each_set}
 use Rattle.task_parts.specs.declared.head.Head.{Head}

@@ -4,8 +4,8 @@ use Rattle.std.specs.Prelude.{slice_get, slice_set}
 use Rattle.gst_value.proofs.Basics.{some_same}
 use Rattle.gst_value.proofs.Places.{map_get, map_got, set_at}
 use Rattle.lane_core.specs.declared.ends.Outlet as outlets
-use Rattle.net_model.specs.declared.element.TaskElement as elements
-use Rattle.net_model.specs.declared.source.TaskSource as sources
+use Rattle.flow_model.specs.declared.element.TaskElement as elements
+use Rattle.flow_model.specs.declared.source.TaskSource as sources
 use Rattle.task_pads.proofs.Lists.{map_set}
 use Rattle.task_pads.specs.Behind.{Goes, end_in, goes, over}
 use Rattle.task_pads.specs.declared.pad.Behind.{Behind}

@@ -10,8 +10,8 @@ use Rattle.inlet_row.specs.declared.feeding.Feeding.TheVariants.{Given, Lane as 
 use Rattle.inlet_row.specs.declared.row.InletRow.{InletRow}
 use Rattle.lane_core.specs.declared.ends.Inlet as inlets
 use Rattle.lane_core.specs.declared.ends.Outlet as outlets
-use Rattle.net_model.specs.declared.element.TaskElement as elements
-use Rattle.net_model.specs.declared.source.TaskSource as sources
+use Rattle.flow_model.specs.declared.element.TaskElement as elements
+use Rattle.flow_model.specs.declared.source.TaskSource as sources
 use Rattle.task_pads.proofs.Lists.{some_at}
 use Rattle.task_pads.specs.Behind.{end_in, goes, nowhere, over}
 use Rattle.task_pads.specs.declared.pad.Behind.{Behind}

@@ -5,9 +5,9 @@ use Rattle.flow_model.specs.Item.{Ev, Item, NewCaps, NewSegment, StreamStart, Ta
 use Rattle.flow_model.specs.Link.{Flushed, Given, Linked, Span, WasLinked}
 use Rattle.flow_model.specs.SinkPads.{InSection, flush_stops_given, push_calls}
 use Rattle.flow_model.specs.Sticky.{first_found, latest, since_flush_stop, stickies}
-use Rattle.net_model.specs.Edit.{IsFree}
-use Rattle.net_model.specs.Split.{NoneAt}
-use Rattle.net_model.specs.Standing.{LinksAt, is_linked, links_from}
+use Rattle.flow_model.specs.Edit.{IsFree}
+use Rattle.flow_model.specs.Split.{NoneAt}
+use Rattle.flow_model.specs.Standing.{LinksAt, is_linked, links_from}
 use Rattle.net_turns.specs.Net.{ListAt}
 
 pub push_here : (i : ℕ) (more : List Call) (css : List (List Call)) (calls : List Call) → ListAt i css calls → ListAt i (push_calls i more css) (calls ++ more)

@@ -6,12 +6,12 @@ use Rattle.flow_model.specs.SinkPads.{InSection, flush_stops_given, push_calls}
 use Rattle.inlet_row.specs.declared.feeding.Feeding.{Feeding}
 use Rattle.lane_core.specs.declared.ends.Inlet as inlets
 use Rattle.lane_core.specs.declared.ends.Outlet as outlets
-use Rattle.net_model.specs.Moment.{Moment, put_at}
-use Rattle.net_model.specs.Split.{AreEmpty, NoneAt}
-use Rattle.net_model.specs.Step.{Leads}
-use Rattle.net_model.specs.declared.element.TaskElement as elements
-use Rattle.net_model.specs.declared.source.TaskSource as sources
-use Rattle.net_model.proofs.Inputs.{at_here, at_other}
+use Rattle.flow_model.specs.Moment.{Moment, put_at}
+use Rattle.flow_model.specs.Split.{AreEmpty, NoneAt}
+use Rattle.flow_model.specs.Step.{Leads}
+use Rattle.flow_model.specs.declared.element.TaskElement as elements
+use Rattle.flow_model.specs.declared.source.TaskSource as sources
+use Rattle.flow_model.proofs.Inputs.{at_here, at_other}
 use Rattle.net_task.specs.declared.task.Task.{Task}
 use Rattle.net_turns.specs.Net.{ListAt}
 use Rattle.net_edits.specs.Over.{IsGrownAt}

@@ -11,8 +11,8 @@ use Rattle.inlet_row.specs.declared.feeding.Feeding.TheVariants.{Given, Lane as 
 use Rattle.inlet_row.specs.declared.row.InletRow.{InletRow}
 use Rattle.inlet_row.specs.Row.{Apart, AreApart, ForLanes, GaveFirst, GaveInAll, RowIn, feeds_of, held, items_of}
 use Rattle.inlet_row.proofs.Losing.{for_both, for_map}
-use Rattle.net_model.specs.declared.element.TaskElement as elements
-use Rattle.net_model.specs.declared.source.TaskSource as sources
+use Rattle.flow_model.specs.declared.element.TaskElement as elements
+use Rattle.flow_model.specs.declared.source.TaskSource as sources
 use Rattle.task_pads.proofs.Lists.{set_length, set_there}
 use Rattle.task_parts.proofs.Lists.{each_set}
 use Rattle.task_parts.specs.declared.head.Head.{Head}

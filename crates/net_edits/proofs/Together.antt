@@ -8,9 +8,9 @@ use Rattle.gst_value.proofs.Basics.{and_left, and_right, some_same}
 use Rattle.gst_value.proofs.Places.{map_get}
 use Rattle.lane_core.specs.declared.ends.Inlet as inlets
 use Rattle.lane_core.specs.declared.ends.Outlet as outlets
-use Rattle.net_model.specs.Moment.{Moment}
-use Rattle.net_model.specs.declared.element.TaskElement as elements
-use Rattle.net_model.specs.declared.source.TaskSource as sources
+use Rattle.flow_model.specs.Moment.{Moment}
+use Rattle.flow_model.specs.declared.element.TaskElement as elements
+use Rattle.flow_model.specs.declared.source.TaskSource as sources
 use Rattle.net_task.specs.Ties.{Ties}
 use Rattle.net_task.specs.declared.task.Task.{Task}
 use Rattle.task_pads.specs.Pads.{PadShape, goes_of, pad_shape}

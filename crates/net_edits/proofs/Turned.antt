@@ -9,13 +9,13 @@ use Rattle.inlet_row.specs.declared.row.InletRow.{InletRow}
 use Rattle.lane_core.specs.Lane.{Lane}
 use Rattle.lane_core.specs.declared.ends.Inlet as inlets
 use Rattle.lane_core.specs.declared.ends.Outlet as outlets
-use Rattle.net_model.specs.Edit.{linked, undone}
-use Rattle.net_model.specs.Moment.{CellStands, Moment}
-use Rattle.net_model.specs.Split.{NoneAt}
-use Rattle.net_model.specs.Step.{Leads}
-use Rattle.net_model.specs.declared.element.TaskElement as elements
-use Rattle.net_model.specs.declared.source.TaskSource as sources
-use Rattle.net_model.proofs.Acts.{ending_keeps, linking_keeps}
+use Rattle.flow_model.specs.Edit.{linked, undone}
+use Rattle.flow_model.specs.Moment.{CellStands, Moment}
+use Rattle.flow_model.specs.Split.{NoneAt}
+use Rattle.flow_model.specs.Step.{Leads}
+use Rattle.flow_model.specs.declared.element.TaskElement as elements
+use Rattle.flow_model.specs.declared.source.TaskSource as sources
+use Rattle.flow_model.proofs.Acts.{ending_keeps, linking_keeps}
 use Rattle.net_task.specs.Frame.{TaskFrame, frame_in, part_frame, wire_of}
 use Rattle.net_task.specs.Ties.{HeadTied, LeadsAs, PadLinked, Ties, nothing_lost}
 use Rattle.net_task.specs.declared.task.Task.{Task}

@@ -6,11 +6,11 @@ use Rattle.flow_model.specs.Rule.{Rule}
 use Rattle.lane_core.specs.Lane.{Lane}
 use Rattle.lane_core.specs.declared.ends.Inlet as inlets
 use Rattle.lane_core.specs.declared.ends.Outlet as outlets
-use Rattle.net_model.specs.Moment.{Moment, put_at}
-use Rattle.net_model.specs.Split.{emptied}
-use Rattle.net_model.specs.Standing.{is_linked}
-use Rattle.net_model.specs.declared.element.TaskElement as elements
-use Rattle.net_model.specs.declared.source.TaskSource as sources
+use Rattle.flow_model.specs.Moment.{Moment, put_at}
+use Rattle.flow_model.specs.Split.{emptied}
+use Rattle.flow_model.specs.Standing.{is_linked}
+use Rattle.flow_model.specs.declared.element.TaskElement as elements
+use Rattle.flow_model.specs.declared.source.TaskSource as sources
 use Rattle.inlet_row.specs.declared.row.InletRow.{InletRow}
 use Rattle.inlet_row.specs.Row.{ForLanes, feeds_of}
 use Rattle.task_pads.specs.Behind.{nowhere}

@@ -3,11 +3,11 @@ use Rattle.std.specs.Prelude.{◌≡◌, ℕ, List, Option, Some, slice_get}
 use Rattle.lane_core.specs.Lane.{Lane}
 use Rattle.lane_core.specs.declared.ends.Inlet as inlets
 use Rattle.lane_core.specs.declared.ends.Outlet as outlets
-use Rattle.net_model.specs.Edit.{ended_over}
-use Rattle.net_model.specs.Moment.{Moment}
-use Rattle.net_model.specs.Step.{Leads}
-use Rattle.net_model.specs.declared.element.TaskElement as elements
-use Rattle.net_model.specs.declared.source.TaskSource as sources
+use Rattle.flow_model.specs.Edit.{ended_over}
+use Rattle.flow_model.specs.Moment.{Moment}
+use Rattle.flow_model.specs.Step.{Leads}
+use Rattle.flow_model.specs.declared.element.TaskElement as elements
+use Rattle.flow_model.specs.declared.source.TaskSource as sources
 use Rattle.task_pads.specs.declared.pad.Behind.{Behind}
 use Rattle.net_task.specs.declared.task.Task.{Task}
 use Rattle.net_turns.specs.Net.{NetStands}

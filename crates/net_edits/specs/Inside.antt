@@ -5,11 +5,11 @@ use Rattle.gst_item.specs.Sticky.{stickies}
 use Rattle.lane_core.specs.Lane.{Lane}
 use Rattle.lane_core.specs.declared.ends.Inlet as inlets
 use Rattle.lane_core.specs.declared.ends.Outlet as outlets
-use Rattle.net_model.specs.Edit.{EndsInside, IsFree, LinksInside, ended_inside, linked, linked_inside, undone}
-use Rattle.net_model.specs.Moment.{Moment}
-use Rattle.net_model.specs.Step.{LeadsNowhere, planned}
-use Rattle.net_model.specs.declared.element.TaskElement as elements
-use Rattle.net_model.specs.declared.source.TaskSource as sources
+use Rattle.flow_model.specs.Edit.{EndsInside, IsFree, LinksInside, ended_inside, linked, linked_inside, undone}
+use Rattle.flow_model.specs.Moment.{Moment}
+use Rattle.flow_model.specs.Step.{LeadsNowhere, planned}
+use Rattle.flow_model.specs.declared.element.TaskElement as elements
+use Rattle.flow_model.specs.declared.source.TaskSource as sources
 use Rattle.inlet_row.specs.declared.row.InletRow.{InletRow}
 use Rattle.task_pads.specs.declared.pad.Behind.{Behind}
 use Rattle.task_pads.specs.declared.pad.Behind.TheVariants.{Nothing}

@@ -2,7 +2,7 @@
 ghost use Rattle.std.specs.List.{insert, remove};
 ghost use Rattle.std.specs.Prelude.{◌≡◌, ◌≤◌, ◌<◌, ◌+◌, ℕ, List, Some, slice_get, vec_len, vec_capacity};
 ghost use Rattle.flow_model.specs.Item.{Item};
-ghost use Rattle.net_model.specs.Moment.{CellStands, Moment};
+ghost use Rattle.flow_model.specs.Moment.{CellStands, Moment};
 ghost use Rattle.net_task.specs.Frame.{frame_of};
 ghost use Rattle.net_task.specs.Fuel.{moves_left};
 ghost use Rattle.net_task.specs.Ready.{IsReady};
@@ -12,7 +12,7 @@ ghost use Rattle.net_turns.specs.Turns.{net_left};
 ghost use Rattle.net_edits.specs.Adding.{CanTake, HoldsNothingNew, IsAdded, IsCut, IsFresh, IsOnly, NoneOwns, frozen};
 
 use lane_core::{Inlet, Outlet};
-use net_model::{TaskElement, TaskSource};
+use flow_model::{TaskElement, TaskSource};
 use net_task::Task;
 
 /// A task of one element that took nothing, or of a source that gave nothing, and that no link touches, comes to the tasks of a

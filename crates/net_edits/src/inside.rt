@@ -1,7 +1,7 @@
 //! Links inside of tasks that lanes join, made, and undone with EOS.
 ghost use Rattle.std.specs.Prelude.{◌≡◌, ◌<◌, true, false, None, Some, map, length, slice_get, vec_len, vec_capacity, IfOk, IfErr, IfSome, OnOk};
 ghost use Rattle.gst_item.specs.Sticky.{has_flush_stop, stickies};
-ghost use Rattle.net_model.specs.Moment.{Moment};
+ghost use Rattle.flow_model.specs.Moment.{Moment};
 ghost use Rattle.net_turns.specs.Net.{NetReady, NetStands};
 ghost use Rattle.net_turns.specs.Turns.{net_left};
 ghost use Rattle.task_parts.specs.Shape.{has_number, part_shape};
@@ -15,7 +15,7 @@ use crate::net::find_task;
 use gst_item::{Event, Item};
 use gst_value::{List, OutOfMemory};
 use lane_core::{Inlet, Outlet};
-use net_model::{TaskElement, TaskSource};
+use flow_model::{TaskElement, TaskSource};
 use net_task::Task;
 use net_turns::net::Stopped;
 use std::alloc::Global;

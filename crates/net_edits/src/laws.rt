@@ -2,7 +2,7 @@
 ghost use Rattle.net_edits.specs.NewLanes.{LaneIsNew, LaneMoreReady, LaneMoreStands};
 
 use lane_core::{Inlet, Outlet};
-use net_model::{TaskElement, TaskSource};
+use flow_model::{TaskElement, TaskSource};
 
 /// Tasks that stand do so with a lane more, which none of them uses.
 pub fn lane_more_stands<

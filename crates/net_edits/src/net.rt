@@ -1,13 +1,13 @@
 //! Acts on the source pads of tasks that lanes join.
 ghost use Rattle.std.specs.Prelude.{◌≡◌, ◌<◌, true, false, None, IfSome, length, vec_len, vec_capacity};
-ghost use Rattle.net_model.specs.Edit.{unlinked};
-ghost use Rattle.net_model.specs.Moment.{Moment};
+ghost use Rattle.flow_model.specs.Edit.{unlinked};
+ghost use Rattle.flow_model.specs.Moment.{Moment};
 ghost use Rattle.net_turns.specs.Net.{NetReady, NetStands};
 ghost use Rattle.net_turns.specs.Turns.{net_left};
 ghost use Rattle.net_edits.specs.Nets.{IsFirstOf, IsProbed, IsProbedAt, IsUnlinked, IsUnlinkedAt, NoneHas, TaskHas};
 
 use lane_core::{Inlet, Outlet};
-use net_model::{TaskElement, TaskSource};
+use flow_model::{TaskElement, TaskSource};
 use net_task::Task;
 use pad_core::Probe;
 use task_edits::has_pad;

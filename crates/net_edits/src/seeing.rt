@@ -1,13 +1,13 @@
 //! What control sees of the source pads of tasks that lanes join.
 ghost use Rattle.std.specs.Prelude.{◌≡◌, []};
-ghost use Rattle.net_model.specs.Moment.{Moment};
+ghost use Rattle.flow_model.specs.Moment.{Moment};
 ghost use Rattle.net_turns.specs.Net.{NetStands};
 ghost use Rattle.net_edits.specs.Nets.{NoneHas};
 ghost use Rattle.net_edits.specs.Seeing.{SeesPad, fresh_pad};
 ghost use Rattle.task_edits.specs.Seeing.{SeenAt};
 
 use lane_core::{Inlet, Outlet};
-use net_model::{TaskElement, TaskSource};
+use flow_model::{TaskElement, TaskSource};
 use net_task::Task;
 use task_edits::SeenPad;
 

@@ -1,8 +1,8 @@
 -- That each element which a task names is one of it, where elements are put together.
 use Rattle.std.proofs.Common.{◌≡◌, ◌++◌, ◌&&◌, ◌||◌, ℕ, Bool, true, false, eqb, List, [], ◌∷◌, map, refl, sym, subst}
 use Rattle.std.proofs.lemmas.List.{map-append}
-use Rattle.net_model.specs.declared.element.TaskElement as elements
-use Rattle.net_model.specs.declared.source.TaskSource as sources
+use Rattle.flow_model.specs.declared.element.TaskElement as elements
+use Rattle.flow_model.specs.declared.source.TaskSource as sources
 use Rattle.task_pads.specs.Behind.{Goes, nowhere, inside, over}
 use Rattle.task_pads.specs.Pads.{PadShape}
 use Rattle.task_parts.specs.declared.head.Head.{Head}

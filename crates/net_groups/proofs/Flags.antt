@@ -3,7 +3,7 @@ use Rattle.std.proofs.Common.{◌≡◌, ◌⊎◌, ◌<◌, ◌+◌, ◌++◌, 
 use Rattle.std.specs.Prelude.{slice_get, slice_set}
 use Rattle.std.proofs.lemmas.Bool.{cases_eq}
 use Rattle.std.proofs.lemmas.List.{drop_more}
-use Rattle.net_model.specs.declared.element.TaskElement as elements
+use Rattle.flow_model.specs.declared.element.TaskElement as elements
 use Rattle.task_parts.specs.declared.part.Part.{Part}
 use Rattle.task_pads.proofs.Lists.{set_there}
 use Rattle.gst_value.proofs.Basics.{some_same}

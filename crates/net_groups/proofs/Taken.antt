@@ -5,8 +5,8 @@ use Rattle.flow_model.specs.Item.{Item, Ev, Eos}
 use Rattle.flow_model.specs.Sticky.{stickies}
 use Rattle.flow_model.specs.Call.{Call, Feed, Mark, feeds, with_marks}
 use Rattle.flow_model.specs.Link.{Span, Linked, WasLinked, Flushed, Given, between, input_of, span_calls}
-use Rattle.net_model.specs.Split.{AreEmpty, AreSplit, none, pad}
-use Rattle.net_model.proofs.Splits.{split_all}
+use Rattle.flow_model.specs.Split.{AreEmpty, AreSplit, none, pad}
+use Rattle.flow_model.proofs.Splits.{split_all}
 use Rattle.net_task.specs.Ties.{TookAt}
 use Rattle.net_turns.specs.Net.{ListAt}
 use Rattle.net_groups.specs.Splits.{HaveNoMarks}

@@ -4,7 +4,7 @@ ghost use Rattle.task_pads.specs.Behind.{goes, inside};
 ghost use Rattle.net_groups.specs.Behind.{FlaggedAt, FlaggedLeads, HasFlag, HasFlagAt, IsLed, IsNext, LeadFlagged, LeadTo, NoneIsNext, NoneSet, OtherAt, TellBehind, flagged, unflagged};
 
 use lane_core::Outlet;
-use net_model::TaskElement;
+use flow_model::TaskElement;
 use std::collections::VecDeque;
 use task_pads::{Behind, Pad};
 use task_parts::Part;

@@ -1,6 +1,6 @@
 //! Two tasks become one.
 ghost use Rattle.std.specs.Prelude.{◌≡◌, ◌≢◌, ◌≤◌, ◌<◌, ◌+◌, ◌++◌, [], Ok, None, true, false, IfOk, IfSome, OnErr, vec_len, vec_capacity};
-ghost use Rattle.net_model.specs.Moment.{Moment};
+ghost use Rattle.flow_model.specs.Moment.{Moment};
 ghost use Rattle.net_turns.specs.Net.{NetReady, NetStands};
 ghost use Rattle.net_groups.specs.Joined.{CanJoinAt, CannotJoin, HasRoomFor, HasRoomToJoin, IsJoined, IsMerged, IsUnfed, MovesUp};
 ghost use Rattle.net_groups.specs.Places.{FedAt, PadOf};
@@ -10,7 +10,7 @@ use crate::places::{find_fed, find_pad};
 use crate::sizes::{most_fed, most_with};
 use gst_value::OutOfMemory;
 use lane_core::{Inlet, Outlet};
-use net_model::{TaskElement, TaskSource};
+use flow_model::{TaskElement, TaskSource};
 use net_task::Task;
 use std::alloc::Global;
 use task_parts::Part;

@@ -5,7 +5,7 @@ ghost use Rattle.net_task.specs.Frame.{frame_of};
 ghost use Rattle.net_groups.specs.Lanes.{HeadSends, LeadOver, PartSends, Sends, SendsAt, SendsToHead};
 
 use lane_core::{Inlet, Outlet};
-use net_model::{TaskElement, TaskSource};
+use flow_model::{TaskElement, TaskSource};
 use net_task::Task;
 use task_pads::{Behind, Pad};
 use task_parts::{Head, Part};

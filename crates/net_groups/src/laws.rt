@@ -2,7 +2,7 @@
 ghost use Rattle.net_groups.specs.Told.{TreesSplit, UnfedJoin};
 
 use lane_core::{Inlet, Outlet};
-use net_model::{TaskElement, TaskSource};
+use flow_model::{TaskElement, TaskSource};
 
 /// Where what is behind an element is a tree, a task that has it is split, unless what its head names is behind it.
 pub fn trees_split<S: TaskSource, E: TaskElement, I: Inlet<Out = O>, O: Outlet<Lanes = I::Lanes>>()

@@ -4,7 +4,7 @@ ghost use Rattle.net_task.specs.Frame.{frame_of};
 ghost use Rattle.net_groups.specs.Places.{FedAt, FeedsIt, HasNoPad, HasPad, IsOfHead, IsPartOf, PadOf, PartHas, PartIs, PortIs};
 
 use lane_core::{Inlet, Outlet};
-use net_model::{TaskElement, TaskSource};
+use flow_model::{TaskElement, TaskSource};
 use net_task::Task;
 use task_pads::Pad;
 use task_parts::{Head, Part};

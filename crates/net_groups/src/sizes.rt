@@ -5,7 +5,7 @@ ghost use Rattle.net_groups.specs.Places.{FedAt, FeedsIt, HasPad, IsPartOf, PadO
 
 use crate::places::{feeds, has_pad, has_part};
 use lane_core::{Inlet, Outlet};
-use net_model::{TaskElement, TaskSource};
+use flow_model::{TaskElement, TaskSource};
 use net_task::Task;
 
 /// How many elements there are at the most in a task of which that of a number is one.

@@ -1,6 +1,6 @@
 //! A task becomes two.
 ghost use Rattle.std.specs.Prelude.{◌≡◌, ◌≤◌, ◌<◌, ◌⊎◌, Ok, None, true, false, IfOk, IfSome, OnOk, OnErr, [], length, vec_len, vec_capacity};
-ghost use Rattle.net_model.specs.Moment.{Moment};
+ghost use Rattle.flow_model.specs.Moment.{Moment};
 ghost use Rattle.net_turns.specs.Net.{NetReady, NetStands};
 ghost use Rattle.net_task.specs.Frame.{frame_of};
 ghost use Rattle.net_groups.specs.Behind.{IsBehind, IsEntered, SourceLeads, TellBehind};
@@ -13,7 +13,7 @@ use crate::sizes::most_beside;
 use gst_value::OutOfMemory;
 use inlet_row::InletRow;
 use lane_core::{Inlet, Outlet};
-use net_model::{TaskElement, TaskSource};
+use flow_model::{TaskElement, TaskSource};
 use net_task::Task;
 use std::alloc::Global;
 use task_parts::{Head, InletHead, Part};

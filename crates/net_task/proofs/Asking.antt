@@ -4,11 +4,11 @@ use Rattle.std.specs.Prelude.{slice_get, Option, Result, Ok, Err, IfOk, IfErr, s
 use Rattle.flow_model.specs.Item.{Item}
 use Rattle.lane_core.specs.declared.ends.Inlet as inlets
 use Rattle.lane_core.specs.declared.ends.Outlet as outlets
-use Rattle.net_model.specs.Moment.{Moment}
-use Rattle.net_model.specs.declared.element.TaskElement as elements
-use Rattle.net_model.specs.declared.refusal.Unread.{Unread}
-use Rattle.net_model.specs.declared.source.TaskSource as sources
-use Rattle.net_model.specs.Short.{StopsShort}
+use Rattle.flow_model.specs.Moment.{Moment}
+use Rattle.flow_model.specs.declared.element.TaskElement as elements
+use Rattle.flow_model.specs.declared.refusal.Unread.{Unread}
+use Rattle.flow_model.specs.declared.source.TaskSource as sources
+use Rattle.flow_model.specs.Short.{StopsShort}
 use Rattle.pad_core.specs.SrcPad.{crossed_of}
 use Rattle.task_pads.specs.Behind.{EndReady, end_in}
 use Rattle.task_pads.specs.Pads.{Rest, number_of, rest_of, waiting_of}

@@ -5,8 +5,8 @@ use Rattle.std.specs.Prelude.{slice_get, sum_by, ◌-◌}
 use Rattle.lane_core.specs.Lane.{Lane}
 use Rattle.lane_core.specs.declared.ends.Outlet as outlets
 use Rattle.pad_core.specs.SrcPad.{crossed_of, state_of}
-use Rattle.net_model.specs.declared.element.TaskElement as elements
-use Rattle.net_model.specs.declared.refusal.Refusal.{Refusal}
+use Rattle.flow_model.specs.declared.element.TaskElement as elements
+use Rattle.flow_model.specs.declared.refusal.Refusal.{Refusal}
 use Rattle.flow_model.specs.Item.{Item}
 use Rattle.task_pads.specs.declared.pad.Pad.{Pad}
 use Rattle.task_pads.specs.Behind.{EndReady, end_in, goes}

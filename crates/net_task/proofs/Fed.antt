@@ -5,14 +5,14 @@ use Rattle.flow_model.specs.Item.{Item}
 use Rattle.flow_model.specs.Call.{Call, Feed}
 use Rattle.lane_core.specs.declared.ends.Inlet as inlets
 use Rattle.lane_core.specs.declared.ends.Outlet as outlets
-use Rattle.net_model.specs.Moment.{Moment, behavior_at}
-use Rattle.net_model.specs.Pad.{Grows}
+use Rattle.flow_model.specs.Moment.{Moment, behavior_at}
+use Rattle.flow_model.specs.Pad.{Grows}
 use Rattle.flow_model.specs.SinkPads.{push_calls}
-use Rattle.net_model.specs.Step.{fed}
-use Rattle.net_model.proofs.Inputs.{at_here, at_other}
-use Rattle.net_model.specs.declared.element.TaskElement as elements
-use Rattle.net_model.specs.declared.source.TaskSource as sources
-use Rattle.net_model.specs.Takes.{on_port}
+use Rattle.flow_model.specs.Step.{fed}
+use Rattle.flow_model.proofs.Inputs.{at_here, at_other}
+use Rattle.flow_model.specs.declared.element.TaskElement as elements
+use Rattle.flow_model.specs.declared.source.TaskSource as sources
+use Rattle.flow_model.specs.Takes.{on_port}
 use Rattle.task_parts.specs.declared.part.Part.{Part}
 use Rattle.task_parts.specs.declared.head.Head.{Head}
 use Rattle.task_parts.specs.Shape.{part_shape}

@@ -4,11 +4,11 @@ use Rattle.std.specs.Prelude.{slice_get, slice_set}
 use Rattle.flow_model.specs.Item.{Item}
 use Rattle.lane_core.specs.declared.ends.Inlet as inlets
 use Rattle.lane_core.specs.declared.ends.Outlet as outlets
-use Rattle.net_model.specs.Moment.{Moment}
-use Rattle.net_model.specs.Split.{NoneAt}
-use Rattle.net_model.specs.Step.{Leads, crossed}
-use Rattle.net_model.specs.declared.element.TaskElement as elements
-use Rattle.net_model.specs.declared.source.TaskSource as sources
+use Rattle.flow_model.specs.Moment.{Moment}
+use Rattle.flow_model.specs.Split.{NoneAt}
+use Rattle.flow_model.specs.Step.{Leads, crossed}
+use Rattle.flow_model.specs.declared.element.TaskElement as elements
+use Rattle.flow_model.specs.declared.source.TaskSource as sources
 use Rattle.task_pads.specs.declared.pad.Pad.{Pad}
 use Rattle.task_pads.specs.Behind.{inside}
 use Rattle.task_pads.specs.Pads.{HasCrossed, seen, number_of, goes_of, rest_of, waiting_of}

@@ -5,9 +5,9 @@ use Rattle.lane_core.specs.Lane.{IsOf, Lane}
 use Rattle.lane_core.specs.Room.{Limits}
 use Rattle.lane_core.specs.declared.ends.Inlet as inlets
 use Rattle.lane_core.specs.declared.ends.Outlet as outlets
-use Rattle.net_model.specs.Moment.{Moment}
-use Rattle.net_model.specs.declared.element.TaskElement as elements
-use Rattle.net_model.specs.declared.source.TaskSource as sources
+use Rattle.flow_model.specs.Moment.{Moment}
+use Rattle.flow_model.specs.declared.element.TaskElement as elements
+use Rattle.flow_model.specs.declared.source.TaskSource as sources
 use Rattle.inlet_row.specs.Taken as takes
 use Rattle.inlet_row.specs.Left.{row_left}
 use Rattle.task_pads.specs.Behind.{EndReady, LaneEnd}

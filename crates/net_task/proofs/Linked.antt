@@ -3,9 +3,9 @@ use Rattle.std.proofs.Common.{◌≡◌, ◌≢◌, ◌++◌, ℕ, List, [], ◌
 use Rattle.flow_model.specs.Item.{Item}
 use Rattle.flow_model.specs.Call.{Call}
 use Rattle.lane_core.specs.declared.ends.Outlet as outlets
-use Rattle.net_model.specs.Moment.{Moment}
-use Rattle.net_model.specs.Step.{crossed, fed}
-use Rattle.net_model.proofs.Inputs.{at_here, at_other}
+use Rattle.flow_model.specs.Moment.{Moment}
+use Rattle.flow_model.specs.Step.{crossed, fed}
+use Rattle.flow_model.proofs.Inputs.{at_here, at_other}
 use Rattle.task_pads.specs.declared.pad.Pad.{Pad}
 use Rattle.pad_core.specs.SrcPad.{CrossedBy, state_of}
 use Rattle.task_pads.specs.Behind.{Goes, nowhere, inside, over, SentIn, goes}

@@ -5,14 +5,14 @@ use Rattle.flow_model.specs.Item.{Item}
 use Rattle.lane_core.specs.Lane.{Lane}
 use Rattle.lane_core.specs.declared.ends.Inlet as inlets
 use Rattle.lane_core.specs.declared.ends.Outlet as outlets
-use Rattle.net_model.specs.Moment.{Moment, behavior_at}
-use Rattle.net_model.specs.Split.{NoneAt}
-use Rattle.net_model.specs.Step.{Leads, LeadsNowhere, crossed}
-use Rattle.net_model.proofs.Inputs.{at_here, at_other}
-use Rattle.net_model.specs.declared.element.TaskElement as elements
-use Rattle.net_model.specs.declared.source.TaskSource as sources
-use Rattle.net_model.specs.declared.refusal.Refusal.{Refusal}
-use Rattle.net_model.specs.Refuses.{RefusesBy}
+use Rattle.flow_model.specs.Moment.{Moment, behavior_at}
+use Rattle.flow_model.specs.Split.{NoneAt}
+use Rattle.flow_model.specs.Step.{Leads, LeadsNowhere, crossed}
+use Rattle.flow_model.proofs.Inputs.{at_here, at_other}
+use Rattle.flow_model.specs.declared.element.TaskElement as elements
+use Rattle.flow_model.specs.declared.source.TaskSource as sources
+use Rattle.flow_model.specs.declared.refusal.Refusal.{Refusal}
+use Rattle.flow_model.specs.Refuses.{RefusesBy}
 use Rattle.task_pads.specs.declared.crossing.Crossing.{Crossing}
 use Rattle.task_pads.specs.declared.crossing.Crossing.TheVariants.{Idle, To, Gone, Full, AtProbe, NotLinked, BehindEos, AtLimit, OutOfMemory}
 use Rattle.task_pads.specs.declared.pad.Pad.{Pad}

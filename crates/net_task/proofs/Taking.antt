@@ -8,12 +8,12 @@ use Rattle.flow_model.specs.Call.{Call, Feed}
 use Rattle.lane_core.specs.Lane.{Lane}
 use Rattle.lane_core.specs.declared.ends.Inlet as inlets
 use Rattle.lane_core.specs.declared.ends.Outlet as outlets
-use Rattle.net_model.specs.Moment.{Moment, behavior_at}
+use Rattle.flow_model.specs.Moment.{Moment, behavior_at}
 use Rattle.flow_model.specs.SinkPads.{push_calls}
-use Rattle.net_model.proofs.Inputs.{at_here}
-use Rattle.net_model.specs.declared.element.TaskElement as elements
-use Rattle.net_model.specs.declared.source.TaskSource as sources
-use Rattle.net_model.specs.declared.refusal.Refusal.{Refusal}
+use Rattle.flow_model.proofs.Inputs.{at_here}
+use Rattle.flow_model.specs.declared.element.TaskElement as elements
+use Rattle.flow_model.specs.declared.source.TaskSource as sources
+use Rattle.flow_model.specs.declared.refusal.Refusal.{Refusal}
 use Rattle.inlet_row.specs.declared.row.InletRow.{InletRow}
 use Rattle.inlet_row.specs.Taken.{Taken}
 use Rattle.inlet_row.specs.Taken as takes

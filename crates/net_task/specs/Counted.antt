@@ -2,7 +2,7 @@
 use Rattle.std.specs.Prelude.{ℕ, Option, None}
 use Rattle.lane_core.specs.declared.ends.Inlet as inlets
 use Rattle.lane_core.specs.declared.ends.Outlet as outlets
-use Rattle.net_model.specs.declared.source.TaskSource as sources
+use Rattle.flow_model.specs.declared.source.TaskSource as sources
 use Rattle.task_pads.specs.Behind.{sent_in}
 use Rattle.task_pads.specs.Pads.{rest_of}
 use Rattle.task_parts.specs.Ends.{received_among}

@@ -4,14 +4,14 @@ use Rattle.flow_model.specs.Item.{Item, is_buffer}
 use Rattle.lane_core.specs.Lane.{Lane}
 use Rattle.lane_core.specs.declared.ends.Inlet as inlets
 use Rattle.lane_core.specs.declared.ends.Outlet as outlets
-use Rattle.net_model.specs.Moment.{Moment, put_at, behavior_at}
-use Rattle.net_model.specs.Step.{Leads, LeadsNowhere}
-use Rattle.net_model.specs.declared.element.TaskElement as elements
-use Rattle.net_model.specs.declared.source.TaskSource as sources
-use Rattle.net_model.specs.declared.refusal.Refusal.{Refusal}
-use Rattle.net_model.specs.declared.refusal.Unread.{Unread}
-use Rattle.net_model.specs.Failures.{IsReadCause, IsWriteCause}
-use Rattle.net_model.specs.Refuses.{RefusesBy}
+use Rattle.flow_model.specs.Moment.{Moment, put_at, behavior_at}
+use Rattle.flow_model.specs.Step.{Leads, LeadsNowhere}
+use Rattle.flow_model.specs.declared.element.TaskElement as elements
+use Rattle.flow_model.specs.declared.source.TaskSource as sources
+use Rattle.flow_model.specs.declared.refusal.Refusal.{Refusal}
+use Rattle.flow_model.specs.declared.refusal.Unread.{Unread}
+use Rattle.flow_model.specs.Failures.{IsReadCause, IsWriteCause}
+use Rattle.flow_model.specs.Refuses.{RefusesBy}
 use Rattle.task_parts.specs.declared.part.Part.{Part}
 use Rattle.task_parts.specs.declared.head.Head.{Head}
 use Rattle.task_parts.specs.declared.head.Head.TheVariants.{Source, Inlets}

@@ -5,8 +5,8 @@ use Rattle.lane_core.specs.Room.{Limits}
 use Rattle.lane_core.specs.declared.ends.Inlet as inlets
 use Rattle.lane_core.specs.declared.ends.Outlet as outlets
 use Rattle.pad_core.specs.declared.probe.Probe.{Probe}
-use Rattle.net_model.specs.declared.element.TaskElement as elements
-use Rattle.net_model.specs.declared.source.TaskSource as sources
+use Rattle.flow_model.specs.declared.element.TaskElement as elements
+use Rattle.flow_model.specs.declared.source.TaskSource as sources
 use Rattle.task_pads.specs.declared.pad.Pad.{Pad}
 use Rattle.task_pads.specs.Behind.{Goes, LaneEnd}
 use Rattle.task_pads.specs.Pads.{end_of, goes_of, number_of, probe_of}

@@ -8,9 +8,9 @@ use Rattle.lane_core.specs.declared.ends.Outlet as outlets
 use Rattle.lane_core.specs.declared.ends.Put.TheVariants.{Full}
 use Rattle.pad_core.specs.Crossing.{has_ended}
 use Rattle.inlet_row.specs.Taken.{Empty}
-use Rattle.net_model.specs.Moment.{Moment}
-use Rattle.net_model.specs.declared.element.TaskElement as elements
-use Rattle.net_model.specs.declared.source.TaskSource as sources
+use Rattle.flow_model.specs.Moment.{Moment}
+use Rattle.flow_model.specs.declared.element.TaskElement as elements
+use Rattle.flow_model.specs.declared.source.TaskSource as sources
 use Rattle.task_pads.specs.Behind.{over}
 use Rattle.task_pads.specs.Pads.{waiting_of}
 use Rattle.task_parts.specs.declared.part.Part.{Part}

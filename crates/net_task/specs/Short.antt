@@ -1,8 +1,8 @@
 -- How what crossed a source's pad ends where the source can't be read.
 use Rattle.std.specs.Prelude.{◌≡◌, ◌++◌, ℕ}
-use Rattle.net_model.specs.Moment.{Moment}
-use Rattle.net_model.specs.declared.refusal.Unread.{Unread}
-use Rattle.net_model.specs.Short.{StopsShort}
+use Rattle.flow_model.specs.Moment.{Moment}
+use Rattle.flow_model.specs.declared.refusal.Unread.{Unread}
+use Rattle.flow_model.specs.Short.{StopsShort}
 
 -- it ends short of what the source owes
 abbrev pub CrossedShort : Moment → ℕ → Unread → Type 0

@@ -5,7 +5,7 @@ ghost use Rattle.task_parts.specs.Shape.{is_closed, shape_of};
 
 use crate::answers::{step_of, with_next};
 use lane_core::{Inlet, Outlet};
-use net_model::{TaskElement, TaskSource};
+use flow_model::{TaskElement, TaskSource};
 use std::alloc::Global;
 use task_parts::{
     Failure, Head, Part, Step, Tried, cross_part, cross_source, first_busy, give, sent, settle,
@@ -30,7 +30,7 @@ impl<S: TaskSource, E: TaskElement, I: Inlet<Out = O>, O: Outlet<Lanes = I::Lane
     O,
 > {
     ghost use Rattle.std.specs.Prelude.{◌≤◌, ◌<◌, IfOk, IfErr, OnOk, vec_len};
-    ghost use Rattle.net_model.specs.Moment.{Moment};
+    ghost use Rattle.flow_model.specs.Moment.{Moment};
     ghost use Rattle.task_parts.specs.Passing.{HasPort};
     ghost use Rattle.inlet_row.specs.Feed.{first_some};
     ghost use Rattle.task_parts.specs.Ends.{sent_among};

@@ -8,8 +8,8 @@ use Rattle.gst_item.specs.Sticky.{first_found, has_flush_stop, latest}
 use Rattle.lane_core.specs.Lane.{Lane}
 use Rattle.lane_core.specs.declared.ends.Inlet as inlets
 use Rattle.pad_core.specs.Crossing.{has_ended}
-use Rattle.net_model.specs.Moment.{Moment, CellStands, owed_at}
-use Rattle.net_model.specs.Pad.{Holds}
+use Rattle.flow_model.specs.Moment.{Moment, CellStands, owed_at}
+use Rattle.flow_model.specs.Pad.{Holds}
 use Rattle.inlet_row.specs.declared.feeding.Feeding.{Feeding}
 use Rattle.inlet_row.specs.declared.feeding.Feeding.TheVariants.{Given, Lane as OfLane}
 use Rattle.inlet_row.specs.Row.{ForLanes, GaveInAll, GaveOf, held, items_of}

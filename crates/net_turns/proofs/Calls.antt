@@ -3,7 +3,7 @@ use Rattle.std.proofs.Common.{◌≡◌, ℕ, zero, suc, Bool, true, false, if�
 use Rattle.flow_model.specs.Item.{Item, is_flush_stop}
 use Rattle.flow_model.specs.Call.{Call, Feed, Act}
 use Rattle.gst_item.specs.Sticky.{has_flush_stop}
-use Rattle.net_model.specs.Split.{NoneAt, front_calls}
+use Rattle.flow_model.specs.Split.{NoneAt, front_calls}
 use Rattle.flow_model.specs.SinkPads.{push_calls, InSection, flush_stops_given}
 use Rattle.net_turns.specs.Net.{ListAt}
 use Rattle.flow_model.proofs.Items.{stops_push}

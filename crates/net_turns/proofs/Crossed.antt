@@ -7,13 +7,13 @@ use Rattle.flow_model.specs.Call.{Feed, feeds}
 use Rattle.lane_core.specs.Lane.{Lane}
 use Rattle.lane_core.specs.declared.ends.Inlet as inlets
 use Rattle.lane_core.specs.declared.ends.Outlet as outlets
-use Rattle.net_model.specs.Moment.{Moment, put_at}
+use Rattle.flow_model.specs.Moment.{Moment, put_at}
 use Rattle.flow_model.specs.SinkPads.{push_calls, InSection}
-use Rattle.net_model.specs.Step.{Leads, Leaves, crossed, passed}
-use Rattle.net_model.proofs.Inputs.{at_other}
-use Rattle.net_model.proofs.Steps.{leaving_keeps, passing_keeps}
-use Rattle.net_model.specs.declared.element.TaskElement as elements
-use Rattle.net_model.specs.declared.source.TaskSource as sources
+use Rattle.flow_model.specs.Step.{Leads, Leaves, crossed, passed}
+use Rattle.flow_model.proofs.Inputs.{at_other}
+use Rattle.flow_model.proofs.Steps.{leaving_keeps, passing_keeps}
+use Rattle.flow_model.specs.declared.element.TaskElement as elements
+use Rattle.flow_model.specs.declared.source.TaskSource as sources
 use Rattle.inlet_row.specs.declared.row.InletRow.{InletRow}
 use Rattle.task_pads.specs.Behind.{inside}
 use Rattle.net_task.specs.declared.task.Task.{Task}

@@ -9,11 +9,11 @@ use Rattle.flow_model.specs.Link.{Span, Linked, input_of}
 use Rattle.flow_model.specs.Eval.{Plan}
 use Rattle.flow_model.specs.Account.{EachSource, EachSourceOf, GoesForward, IsMember}
 use Rattle.flow_model.proofs.Links.{link_input}
-use Rattle.net_model.specs.Moment.{Moment, CellStands, owed_at}
-use Rattle.net_model.specs.Over.{AllEnded, FromStart, PassesEos, list_ended}
-use Rattle.net_model.specs.Pad.{Holds}
-use Rattle.net_model.specs.Split.{AreEmpty, AreSplit, none, pad}
-use Rattle.net_model.proofs.Splits.{split_all}
+use Rattle.flow_model.specs.Moment.{Moment, CellStands, owed_at}
+use Rattle.flow_model.specs.Over.{AllEnded, FromStart, PassesEos, list_ended}
+use Rattle.flow_model.specs.Pad.{Holds}
+use Rattle.flow_model.specs.Split.{AreEmpty, AreSplit, none, pad}
+use Rattle.flow_model.proofs.Splits.{split_all}
 use Rattle.net_turns.specs.Ends.{AreFromStart, NothingLeft}
 use Rattle.net_turns.specs.Net.{IsPlain}
 use Rattle.net_turns.proofs.Behind.{none_behind, owed_all}

@@ -7,9 +7,9 @@ use Rattle.flow_model.specs.Item.{Item}
 use Rattle.flow_model.specs.Prefix.{IsPrefix}
 use Rattle.flow_model.specs.SinkPads.{push_calls}
 use Rattle.flow_model.proofs.Prefixes.{append_prefix, prefix_append, prefix_refl, prefix_trans}
-use Rattle.net_model.specs.Moment.{Moment, put_at}
-use Rattle.net_model.specs.Step.{crossed, fed, laid, passed, sent, taken}
-use Rattle.net_model.proofs.Inputs.{at_here, at_other}
+use Rattle.flow_model.specs.Moment.{Moment, put_at}
+use Rattle.flow_model.specs.Step.{crossed, fed, laid, passed, sent, taken}
+use Rattle.flow_model.proofs.Inputs.{at_here, at_other}
 use Rattle.net_turns.specs.Net.{GoesOn}
 
 -- a moment goes on to itself, and to what one to which it goes on goes on

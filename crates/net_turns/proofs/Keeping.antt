@@ -8,11 +8,11 @@ use Rattle.flow_model.specs.Call.{Call}
 use Rattle.lane_core.specs.Lane.{Lane, IsIn, IsOf}
 use Rattle.lane_core.specs.declared.ends.Inlet as inlets
 use Rattle.lane_core.specs.declared.ends.Outlet as outlets
-use Rattle.net_model.specs.Moment.{Moment, owed_at, put_at}
-use Rattle.net_model.specs.Pad.{Holds}
-use Rattle.net_model.specs.Split.{NoneAt}
-use Rattle.net_model.specs.declared.element.TaskElement as elements
-use Rattle.net_model.specs.declared.source.TaskSource as sources
+use Rattle.flow_model.specs.Moment.{Moment, owed_at, put_at}
+use Rattle.flow_model.specs.Pad.{Holds}
+use Rattle.flow_model.specs.Split.{NoneAt}
+use Rattle.flow_model.specs.declared.element.TaskElement as elements
+use Rattle.flow_model.specs.declared.source.TaskSource as sources
 use Rattle.inlet_row.specs.Row.{feeds_of}
 use Rattle.inlet_row.proofs.Losing.{for_map}
 use Rattle.task_pads.specs.declared.pad.Pad.{Pad}

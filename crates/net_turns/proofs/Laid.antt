@@ -10,14 +10,14 @@ use Rattle.lane_core.specs.declared.ends.Inlet as inlets
 use Rattle.lane_core.specs.declared.ends.Outlet as outlets
 use Rattle.lane_core.specs.declared.ends.Put.TheVariants.{Stored}
 use Rattle.lane_core.proofs.Between.{put_keeps_lanes, put_keeps_other_room}
-use Rattle.net_model.specs.Moment.{Moment, put_at}
-use Rattle.net_model.specs.Split.{AreEmpty, NoneAt}
+use Rattle.flow_model.specs.Moment.{Moment, put_at}
+use Rattle.flow_model.specs.Split.{AreEmpty, NoneAt}
 use Rattle.flow_model.specs.SinkPads.{push_calls, InSection}
-use Rattle.net_model.specs.Step.{Sends, crossed, sent}
-use Rattle.net_model.proofs.Inputs.{at_other}
-use Rattle.net_model.proofs.Steps.{sending_keeps}
-use Rattle.net_model.specs.declared.element.TaskElement as elements
-use Rattle.net_model.specs.declared.source.TaskSource as sources
+use Rattle.flow_model.specs.Step.{Sends, crossed, sent}
+use Rattle.flow_model.proofs.Inputs.{at_other}
+use Rattle.flow_model.proofs.Steps.{sending_keeps}
+use Rattle.flow_model.specs.declared.element.TaskElement as elements
+use Rattle.flow_model.specs.declared.source.TaskSource as sources
 use Rattle.inlet_row.specs.declared.row.InletRow.{InletRow}
 use Rattle.inlet_row.specs.Row.{AreApart, ForLanes, RowIn, feeds_of, row_holds}
 use Rattle.task_pads.specs.declared.pad.Pad.{Pad}

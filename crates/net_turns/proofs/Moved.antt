@@ -6,12 +6,12 @@ use Rattle.flow_model.specs.Call.{Call, Feed, feeds}
 use Rattle.lane_core.specs.Lane.{Lane}
 use Rattle.lane_core.specs.declared.ends.Inlet as inlets
 use Rattle.lane_core.specs.declared.ends.Outlet as outlets
-use Rattle.net_model.specs.Moment.{Moment}
-use Rattle.net_model.specs.Split.{NoneAt}
+use Rattle.flow_model.specs.Moment.{Moment}
+use Rattle.flow_model.specs.Split.{NoneAt}
 use Rattle.flow_model.specs.SinkPads.{push_calls}
-use Rattle.net_model.specs.Step.{Leads, Leaves, Sends, crossed, fed, passed}
-use Rattle.net_model.specs.declared.element.TaskElement as elements
-use Rattle.net_model.specs.declared.source.TaskSource as sources
+use Rattle.flow_model.specs.Step.{Leads, Leaves, Sends, crossed, fed, passed}
+use Rattle.flow_model.specs.declared.element.TaskElement as elements
+use Rattle.flow_model.specs.declared.source.TaskSource as sources
 use Rattle.inlet_row.specs.declared.row.InletRow.{InletRow}
 use Rattle.inlet_row.specs.Row.{row_holds}
 use Rattle.task_pads.specs.declared.pad.Pad.{Pad}

@@ -7,8 +7,8 @@ use Rattle.lane_core.specs.declared.ends.Put.TheVariants.{Stored}
 use Rattle.lane_core.specs.Lane.{Lane, lane_of, IsIn, IsBetween, table_with_item}
 use Rattle.lane_core.proofs.Between.{put_keeps_between, put_keeps_others}
 use Rattle.lane_core.proofs.Change.{updated_else, updated_here}
-use Rattle.net_model.specs.Moment.{put_at}
-use Rattle.net_model.proofs.Inputs.{at_here, at_other}
+use Rattle.flow_model.specs.Moment.{put_at}
+use Rattle.flow_model.proofs.Inputs.{at_here, at_other}
 use Rattle.inlet_row.specs.declared.feeding.Feeding.{Feeding}
 use Rattle.inlet_row.specs.declared.feeding.Feeding.TheVariants.{Given, Lane as OfLane}
 use Rattle.inlet_row.specs.declared.row.InletRow.{InletRow}

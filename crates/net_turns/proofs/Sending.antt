@@ -6,11 +6,11 @@ use Rattle.flow_model.specs.Item.{Item}
 use Rattle.lane_core.specs.Lane.{Lane}
 use Rattle.lane_core.specs.declared.ends.Inlet as inlets
 use Rattle.lane_core.specs.declared.ends.Outlet as outlets
-use Rattle.net_model.specs.Moment.{Moment, put_at}
-use Rattle.net_model.specs.Step.{Leads, Sends, crossed}
-use Rattle.net_model.proofs.Inputs.{at_here, at_other}
-use Rattle.net_model.specs.declared.element.TaskElement as elements
-use Rattle.net_model.specs.declared.source.TaskSource as sources
+use Rattle.flow_model.specs.Moment.{Moment, put_at}
+use Rattle.flow_model.specs.Step.{Leads, Sends, crossed}
+use Rattle.flow_model.proofs.Inputs.{at_here, at_other}
+use Rattle.flow_model.specs.declared.element.TaskElement as elements
+use Rattle.flow_model.specs.declared.source.TaskSource as sources
 use Rattle.inlet_row.specs.declared.row.InletRow.{InletRow}
 use Rattle.task_pads.specs.declared.pad.Pad.{Pad}
 use Rattle.task_pads.specs.declared.pad.Behind.{Behind}

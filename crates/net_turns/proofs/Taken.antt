@@ -8,14 +8,14 @@ use Rattle.flow_model.specs.Call.{Call, Feed, feeds}
 use Rattle.lane_core.specs.Lane.{Lane}
 use Rattle.lane_core.specs.declared.ends.Inlet as inlets
 use Rattle.lane_core.specs.declared.ends.Outlet as outlets
-use Rattle.net_model.specs.Moment.{Moment}
-use Rattle.net_model.specs.Split.{AreEmpty, NoneAt}
+use Rattle.flow_model.specs.Moment.{Moment}
+use Rattle.flow_model.specs.Split.{AreEmpty, NoneAt}
 use Rattle.flow_model.specs.SinkPads.{push_calls, InSection}
-use Rattle.net_model.specs.Step.{Takes, fed, taken}
-use Rattle.net_model.proofs.Inputs.{at_other}
-use Rattle.net_model.proofs.Steps.{taking_keeps}
-use Rattle.net_model.specs.declared.element.TaskElement as elements
-use Rattle.net_model.specs.declared.source.TaskSource as sources
+use Rattle.flow_model.specs.Step.{Takes, fed, taken}
+use Rattle.flow_model.proofs.Inputs.{at_other}
+use Rattle.flow_model.proofs.Steps.{taking_keeps}
+use Rattle.flow_model.specs.declared.element.TaskElement as elements
+use Rattle.flow_model.specs.declared.source.TaskSource as sources
 use Rattle.inlet_row.specs.Taken.{Item}
 use Rattle.inlet_row.specs.declared.row.InletRow.{InletRow}
 use Rattle.inlet_row.specs.Row.{ForLanes, RowBetween, feeds_of, row_holds}

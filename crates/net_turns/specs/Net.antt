@@ -10,11 +10,11 @@ use Rattle.lane_core.specs.Lane.{Lane}
 use Rattle.lane_core.specs.declared.ends.Inlet as inlets
 use Rattle.lane_core.specs.declared.ends.Outlet as outlets
 use Rattle.pad_core.specs.Crossing.{has_ended}
-use Rattle.net_model.specs.Moment.{Moment, CellStands}
-use Rattle.net_model.specs.Split.{AreEmpty}
+use Rattle.flow_model.specs.Moment.{Moment, CellStands}
+use Rattle.flow_model.specs.Split.{AreEmpty}
 use Rattle.flow_model.specs.SinkPads.{InSection}
-use Rattle.net_model.specs.declared.element.TaskElement as elements
-use Rattle.net_model.specs.declared.source.TaskSource as sources
+use Rattle.flow_model.specs.declared.element.TaskElement as elements
+use Rattle.flow_model.specs.declared.source.TaskSource as sources
 use Rattle.inlet_row.specs.declared.row.InletRow.{InletRow}
 use Rattle.inlet_row.specs.Row.{ForLanes, RowBetween, feeds_of, row_holds}
 use Rattle.task_pads.specs.Behind.{over}

@@ -1,6 +1,6 @@
 //! Steps of tasks that lanes join.
 ghost use Rattle.std.specs.Prelude.{◌≡◌, ◌<◌, ◌≤◌, ◌+◌, ℕ, true, Some, Ok, length, IfOk, IfErr, OnOk, if◌then◌else◌};
-ghost use Rattle.net_model.specs.Moment.{Moment};
+ghost use Rattle.flow_model.specs.Moment.{Moment};
 ghost use Rattle.turn_order.specs.declared.order.Order.{Order};
 ghost use Rattle.turn_order.specs.Turns.{IsAmong};
 ghost use Rattle.net_turns.specs.Net.{NetGoes, NetReady, NetStands};
@@ -8,7 +8,7 @@ ghost use Rattle.net_turns.specs.Rests.{AllFramed, NetAdvanced, NetEnded, NetFau
 ghost use Rattle.net_turns.specs.Turns.{AreTried, Burned, HasAdvanced, HasCome, HasMet, HasMetTrying, IsStepped, RunBy, net_left, steps_left, stop_of};
 
 use lane_core::{Inlet, Outlet};
-use net_model::{TaskElement, TaskSource};
+use flow_model::{TaskElement, TaskSource};
 use net_task::Task;
 use std::alloc::Global;
 use task_parts::{Failure, Step};

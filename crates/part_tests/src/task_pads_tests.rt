@@ -1,6 +1,6 @@
 //! Rows of crossings, over lanes in memory.
 ghost use Rattle.std.specs.Prelude.{◌≡◌, ◌<◌, ℕ, IfOk};
-ghost use Rattle.net_model.specs.Takes.{AreWithin};
+ghost use Rattle.flow_model.specs.Takes.{AreWithin};
 ghost use Rattle.task_pads.specs.Pads.{PadReady, rest_of};
 
 use crate::rows::holds;

@@ -1,6 +1,6 @@
 use gst_outside::{MemFiles, MemSink, OpenGate, StepClock};
 use gst_value::{List, Text};
-use launch_run::run::run;
+use world_core::run::run;
 use std::alloc::Global;
 use std::process::Abort;
 use std::sync::Wait;

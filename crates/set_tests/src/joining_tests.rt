@@ -4,7 +4,7 @@ use crate::el_settings_tests::holds;
 use gst_item::{Item, Outs};
 use gst_outside::MemSink;
 use gst_value::{List, Text};
-use net_model::TaskElement;
+use flow_model::TaskElement;
 use std::alloc::Global;
 use std::collections::VecDeque;
 use std::test::Fail;

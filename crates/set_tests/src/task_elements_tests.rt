@@ -9,7 +9,7 @@ use gst_item::Outs;
 use gst_outside::{MemSink, MemSource, Sink, Source};
 use gst_value::{List, Text};
 use item_letters::{item_of, letter_of, letters_of};
-use net_model::{TaskElement, TaskSource, Why};
+use flow_model::{TaskElement, TaskSource, Why};
 use std::alloc::Global;
 use std::test::Fail;
 use task_elements::*;

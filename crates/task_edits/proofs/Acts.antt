@@ -4,11 +4,11 @@ use Rattle.std.proofs.Math.Seq.{drop-length}
 use Rattle.lane_core.specs.Lane.{Lane}
 use Rattle.lane_core.specs.declared.ends.Inlet as inlets
 use Rattle.lane_core.specs.declared.ends.Outlet as outlets
-use Rattle.net_model.specs.Edit.{linked, undone}
-use Rattle.net_model.specs.Moment.{Moment}
-use Rattle.net_model.specs.Step.{planned}
-use Rattle.net_model.specs.declared.element.TaskElement as elements
-use Rattle.net_model.specs.declared.source.TaskSource as sources
+use Rattle.flow_model.specs.Edit.{linked, undone}
+use Rattle.flow_model.specs.Moment.{Moment}
+use Rattle.flow_model.specs.Step.{planned}
+use Rattle.flow_model.specs.declared.element.TaskElement as elements
+use Rattle.flow_model.specs.declared.source.TaskSource as sources
 use Rattle.net_task.specs.Ties.{AreTied, LeadsAs, PadLinked, Stands, nothing_lost}
 use Rattle.net_task.proofs.Linked.{linked_stays, same_goes, same_number}
 use Rattle.pad_core.specs.declared.probe.Probe.{Probe}

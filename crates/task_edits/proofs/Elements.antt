@@ -2,7 +2,7 @@
 use Rattle.std.proofs.Common.{◌≡◌, ◌⊎◌, ◌||◌, ℕ, zero, suc, Bool, true, false, eqb, List, [], ◌∷◌, map, get_or, Option, None, Some, refl, sym, ap, ◌∙◌, subst, inl, inr}
 use Rattle.std.specs.Prelude.{IfSome, is_some, slice_get}
 use Rattle.std.proofs.lemmas.Bool.Decides.{eqb_tells}
-use Rattle.net_model.specs.declared.element.TaskElement as elements
+use Rattle.flow_model.specs.declared.element.TaskElement as elements
 use Rattle.task_parts.specs.declared.part.Part.{Part}
 use Rattle.task_parts.specs.Found.{IsAt}
 use Rattle.task_parts.specs.Shape.{has_number, part_shape}

@@ -17,15 +17,15 @@ use Rattle.inlet_row.specs.declared.row.InletRow.{InletRow}
 use Rattle.lane_core.specs.Lane.{Lane}
 use Rattle.lane_core.specs.declared.ends.Inlet as inlets
 use Rattle.lane_core.specs.declared.ends.Outlet as outlets
-use Rattle.net_model.specs.Moment.{Moment, behavior_at}
-use Rattle.net_model.specs.Pad.{Grows}
-use Rattle.net_model.specs.Refuses.{RefusesBy}
-use Rattle.net_model.specs.Step.{fed}
-use Rattle.net_model.specs.Takes.{OwesMore, on_port}
-use Rattle.net_model.specs.declared.element.TaskElement as elements
-use Rattle.net_model.specs.declared.refusal.Refusal.{Refusal}
-use Rattle.net_model.specs.declared.source.TaskSource as sources
-use Rattle.net_model.proofs.Inputs.{at_here, at_other}
+use Rattle.flow_model.specs.Moment.{Moment, behavior_at}
+use Rattle.flow_model.specs.Pad.{Grows}
+use Rattle.flow_model.specs.Refuses.{RefusesBy}
+use Rattle.flow_model.specs.Step.{fed}
+use Rattle.flow_model.specs.Takes.{OwesMore, on_port}
+use Rattle.flow_model.specs.declared.element.TaskElement as elements
+use Rattle.flow_model.specs.declared.refusal.Refusal.{Refusal}
+use Rattle.flow_model.specs.declared.source.TaskSource as sources
+use Rattle.flow_model.proofs.Inputs.{at_here, at_other}
 use Rattle.net_task.specs.Failed.{StandsOrFell}
 use Rattle.net_task.specs.Frame.{HeadFrame, PartFrame, TaskFrame, frame_in, head_frame}
 use Rattle.net_task.specs.Fuel.{head_left, part_left}

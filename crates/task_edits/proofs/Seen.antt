@@ -4,9 +4,9 @@ use Rattle.std.specs.Prelude.{IfSome, Option, slice_get}
 use Rattle.std.proofs.lemmas.List.{append-nil}
 use Rattle.lane_core.specs.declared.ends.Inlet as inlets
 use Rattle.lane_core.specs.declared.ends.Outlet as outlets
-use Rattle.net_model.specs.Moment.{Moment}
-use Rattle.net_model.specs.declared.element.TaskElement as elements
-use Rattle.net_model.specs.declared.source.TaskSource as sources
+use Rattle.flow_model.specs.Moment.{Moment}
+use Rattle.flow_model.specs.declared.element.TaskElement as elements
+use Rattle.flow_model.specs.declared.source.TaskSource as sources
 use Rattle.net_task.specs.Ties.{AreTied, HeadTied, Stands, nothing_lost}
 use Rattle.net_task.proofs.Sources.{Begins, later}
 use Rattle.task_pads.specs.Pads.{number_of, waiting_of}

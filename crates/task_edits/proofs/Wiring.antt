@@ -6,8 +6,8 @@ use Rattle.std.proofs.lemmas.List.Sums.{sum_by-cons}
 use Rattle.lane_core.specs.Lane.{Lane}
 use Rattle.lane_core.specs.declared.ends.Inlet as inlets
 use Rattle.lane_core.specs.declared.ends.Outlet as outlets
-use Rattle.net_model.specs.declared.element.TaskElement as elements
-use Rattle.net_model.specs.declared.source.TaskSource as sources
+use Rattle.flow_model.specs.declared.element.TaskElement as elements
+use Rattle.flow_model.specs.declared.source.TaskSource as sources
 use Rattle.task_pads.specs.Behind.{Goes, nowhere, inside, over}
 use Rattle.task_pads.specs.declared.pad.Pad.{Pad}
 use Rattle.task_pads.specs.Pads.{PadReady, PadShape, crossed_count, goes_of, pad_shape}

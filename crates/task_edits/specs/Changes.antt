@@ -1,7 +1,7 @@
 -- One source pad of a task is another now, and nothing else of the task changed.
 use Rattle.std.specs.Prelude.{◌≡◌, ◌⊎◌, ℕ, List, Option, Some, slice_get, slice_set}
-use Rattle.net_model.specs.declared.element.TaskElement as elements
-use Rattle.net_model.specs.declared.source.TaskSource as sources
+use Rattle.flow_model.specs.declared.element.TaskElement as elements
+use Rattle.flow_model.specs.declared.source.TaskSource as sources
 use Rattle.pad_core.specs.declared.probe.Probe.{Probe}
 use Rattle.task_pads.specs.declared.pad.Behind.{Behind}
 use Rattle.task_pads.specs.declared.pad.Pad.{Pad}

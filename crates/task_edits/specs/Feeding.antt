@@ -7,13 +7,13 @@ use Rattle.gst_item.specs.declared.out.Out.{Out}
 use Rattle.gst_outside.specs.Causes.{NeverFalls}
 use Rattle.lane_core.specs.declared.ends.Inlet as inlets
 use Rattle.lane_core.specs.declared.ends.Outlet as outlets
-use Rattle.net_model.specs.Moment.{Behavior, Moment, behavior_at}
-use Rattle.net_model.specs.Refuses.{RefusesBy}
-use Rattle.net_model.specs.Step.{PutsOut, fed}
-use Rattle.net_model.specs.Takes.{OwesMore}
-use Rattle.net_model.specs.declared.element.TaskElement as elements
-use Rattle.net_model.specs.declared.refusal.Refusal.{Refusal}
-use Rattle.net_model.specs.declared.source.TaskSource as sources
+use Rattle.flow_model.specs.Moment.{Behavior, Moment, behavior_at}
+use Rattle.flow_model.specs.Refuses.{RefusesBy}
+use Rattle.flow_model.specs.Step.{PutsOut, fed}
+use Rattle.flow_model.specs.Takes.{OwesMore}
+use Rattle.flow_model.specs.declared.element.TaskElement as elements
+use Rattle.flow_model.specs.declared.refusal.Refusal.{Refusal}
+use Rattle.flow_model.specs.declared.source.TaskSource as sources
 use Rattle.net_task.specs.Failed.{StandsOrFell}
 use Rattle.net_task.specs.Ties.{AreTied, Ties, nothing_lost}
 use Rattle.net_task.specs.declared.task.Task.{Task}

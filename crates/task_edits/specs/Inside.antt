@@ -1,11 +1,11 @@
 -- Pads that are linked inside of their task.
 use Rattle.std.specs.Prelude.{◌≡◌, ◌≤◌, ◌⊎◌, ℕ, List, Some, length, slice_get}
-use Rattle.net_model.specs.Edit.{IsFree}
-use Rattle.net_model.specs.Moment.{Moment}
-use Rattle.net_model.specs.Split.{NoneAt}
-use Rattle.net_model.specs.Step.{LeadsNowhere}
-use Rattle.net_model.specs.declared.element.TaskElement as elements
-use Rattle.net_model.specs.declared.source.TaskSource as sources
+use Rattle.flow_model.specs.Edit.{IsFree}
+use Rattle.flow_model.specs.Moment.{Moment}
+use Rattle.flow_model.specs.Split.{NoneAt}
+use Rattle.flow_model.specs.Step.{LeadsNowhere}
+use Rattle.flow_model.specs.declared.element.TaskElement as elements
+use Rattle.flow_model.specs.declared.source.TaskSource as sources
 use Rattle.task_pads.specs.Behind.{inside}
 use Rattle.task_pads.specs.Pads.{goes_of, number_of}
 use Rattle.task_pads.specs.declared.pad.Behind.{Behind}

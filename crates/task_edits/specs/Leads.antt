@@ -3,11 +3,11 @@ use Rattle.std.specs.Prelude.{◌≡◌, ◌⊎◌, ℕ, List, [], Option, Some,
 use Rattle.lane_core.specs.Lane.{Lane}
 use Rattle.lane_core.specs.declared.ends.Inlet as inlets
 use Rattle.lane_core.specs.declared.ends.Outlet as outlets
-use Rattle.net_model.specs.Edit.{IsFree}
-use Rattle.net_model.specs.Moment.{Moment}
-use Rattle.net_model.specs.Step.{LeadsNowhere}
-use Rattle.net_model.specs.declared.element.TaskElement as elements
-use Rattle.net_model.specs.declared.source.TaskSource as sources
+use Rattle.flow_model.specs.Edit.{IsFree}
+use Rattle.flow_model.specs.Moment.{Moment}
+use Rattle.flow_model.specs.Step.{LeadsNowhere}
+use Rattle.flow_model.specs.declared.element.TaskElement as elements
+use Rattle.flow_model.specs.declared.source.TaskSource as sources
 use Rattle.net_task.specs.Frame.{IsWire, Wire, frame_in}
 use Rattle.net_task.specs.Ready.{LeadsInto, NoneFrom}
 use Rattle.task_pads.specs.Behind.{EndReady, lane_end, over}

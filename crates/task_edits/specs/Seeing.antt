@@ -1,9 +1,9 @@
 -- What is seen of a source pad between two steps of its task.
 use Rattle.std.specs.Prelude.{◌≡◌, ◌++◌, ℕ, List, Option, None, Some, length, slice_get}
 use Rattle.flow_model.specs.Item.{Item, buffers}
-use Rattle.net_model.specs.Moment.{Moment}
-use Rattle.net_model.specs.declared.element.TaskElement as elements
-use Rattle.net_model.specs.declared.source.TaskSource as sources
+use Rattle.flow_model.specs.Moment.{Moment}
+use Rattle.flow_model.specs.declared.element.TaskElement as elements
+use Rattle.flow_model.specs.declared.source.TaskSource as sources
 use Rattle.pad_core.specs.Crossing.{has_ended}
 use Rattle.task_pads.specs.declared.pad.Pad.{Pad}
 use Rattle.task_pads.specs.Pads.{HasCrossed, first_is_buffer, number_of, waiting_of}

@@ -3,7 +3,7 @@ use Rattle.std.specs.Prelude.{◌≡◌, ◌++◌, ◌∷◌, List, [], if◌the
 use Rattle.flow_model.specs.Item.{Event, Ev, Item}
 use Rattle.gst_item.specs.Item.{is_sticky}
 use Rattle.gst_item.specs.Sticky.{stickies}
-use Rattle.net_model.specs.declared.source.TaskSource as sources
+use Rattle.flow_model.specs.declared.source.TaskSource as sources
 use Rattle.task_pads.specs.declared.pad.Pad.{Pad}
 use Rattle.task_pads.specs.Pads.{HasCrossed}
 use Rattle.task_parts.specs.declared.head.Head.{Head}

@@ -1,7 +1,7 @@
 //! Items that an element of a task takes from control.
 ghost use Rattle.std.specs.Prelude.{◌≡◌, true, false, map, IfErr, OnOk};
 ghost use Rattle.gst_item.specs.Sticky.{has_flush_stop};
-ghost use Rattle.net_model.specs.Moment.{Moment};
+ghost use Rattle.flow_model.specs.Moment.{Moment};
 ghost use Rattle.net_task.specs.Frame.{frame_of};
 ghost use Rattle.net_task.specs.Fuel.{moves_left};
 ghost use Rattle.net_task.specs.Ready.{IsReady};
@@ -14,7 +14,7 @@ use crate::places::find_element;
 use gst_item::Item;
 use gst_value::List;
 use lane_core::{Inlet, Outlet};
-use net_model::{Refused, TaskElement, TaskSource};
+use flow_model::{Refused, TaskElement, TaskSource};
 use net_task::Task;
 use std::alloc::Global;
 use std::collections::VecDeque;

@@ -1,8 +1,8 @@
 //! Links inside of a task.
 ghost use Rattle.std.specs.Prelude.{◌≡◌, ℕ, true, map, None, IfSome};
-ghost use Rattle.net_model.specs.Edit.{linked};
-ghost use Rattle.net_model.specs.Moment.{Moment};
-ghost use Rattle.net_model.specs.Step.{planned};
+ghost use Rattle.flow_model.specs.Edit.{linked};
+ghost use Rattle.flow_model.specs.Moment.{Moment};
+ghost use Rattle.flow_model.specs.Step.{planned};
 ghost use Rattle.net_task.specs.Fuel.{moves_left};
 ghost use Rattle.net_task.specs.Ready.{IsReady};
 ghost use Rattle.net_task.specs.Ties.{Ties};
@@ -13,7 +13,7 @@ ghost use Rattle.task_parts.specs.Shape.{has_number, part_shape};
 use crate::leading::lead_in;
 use crate::places::{PadAt, find};
 use lane_core::{Inlet, Outlet};
-use net_model::{TaskElement, TaskSource};
+use flow_model::{TaskElement, TaskSource};
 use net_task::Task;
 use task_pads::{Behind, Pad};
 use task_parts::Head;

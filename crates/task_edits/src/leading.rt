@@ -1,8 +1,8 @@
 //! Links of the source pads of a task, undone and made.
 ghost use Rattle.std.specs.Prelude.{◌≡◌, ◌<◌, ℕ, Bool, None, Some, IfSome, vec_len};
-ghost use Rattle.net_model.specs.Edit.{linked, undone};
-ghost use Rattle.net_model.specs.Moment.{Moment};
-ghost use Rattle.net_model.specs.Step.{planned};
+ghost use Rattle.flow_model.specs.Edit.{linked, undone};
+ghost use Rattle.flow_model.specs.Moment.{Moment};
+ghost use Rattle.flow_model.specs.Step.{planned};
 ghost use Rattle.net_task.specs.Fuel.{moves_left};
 ghost use Rattle.net_task.specs.Ready.{IsReady};
 ghost use Rattle.net_task.specs.Ties.{Ties};
@@ -13,7 +13,7 @@ ghost use Rattle.task_pads.specs.declared.pad.Behind.TheVariants.{Nothing};
 
 use crate::places::{PadAt, find};
 use lane_core::{Inlet, Outlet};
-use net_model::{TaskElement, TaskSource};
+use flow_model::{TaskElement, TaskSource};
 use net_task::Task;
 use task_pads::{Behind, Pad};
 use task_parts::{Head, Part};

@@ -7,7 +7,7 @@ use crate::places::{PadAt, find};
 use gst_item::Event;
 use gst_value::{List, OutOfMemory};
 use lane_core::{Inlet, Outlet};
-use net_model::{TaskElement, TaskSource};
+use flow_model::{TaskElement, TaskSource};
 use net_task::Task;
 use std::alloc::Global;
 use task_pads::Pad;

@@ -5,7 +5,7 @@ ghost use Rattle.task_parts.specs.Found.{IsAt};
 ghost use Rattle.task_parts.specs.Shape.{has_number, part_shape};
 
 use lane_core::{Inlet, Outlet};
-use net_model::{TaskElement, TaskSource};
+use flow_model::{TaskElement, TaskSource};
 use net_task::Task;
 use task_pads::Pad;
 use task_parts::{Head, Part};

@@ -1,6 +1,6 @@
 //! Probes of commands at the source pads of a task.
 ghost use Rattle.std.specs.Prelude.{◌≡◌, ◌<◌, vec_len};
-ghost use Rattle.net_model.specs.Moment.{Moment};
+ghost use Rattle.flow_model.specs.Moment.{Moment};
 ghost use Rattle.net_task.specs.Fuel.{moves_left};
 ghost use Rattle.net_task.specs.Ready.{IsReady};
 ghost use Rattle.net_task.specs.Ties.{Ties};
@@ -8,7 +8,7 @@ ghost use Rattle.task_edits.specs.Changes.{Changed, HeadChanged, PartChanged, Pr
 
 use crate::places::{PadAt, find};
 use lane_core::{Inlet, Outlet};
-use net_model::{TaskElement, TaskSource};
+use flow_model::{TaskElement, TaskSource};
 use net_task::Task;
 use pad_core::Probe;
 use task_parts::{Head, Part};

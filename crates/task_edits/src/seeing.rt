@@ -1,7 +1,7 @@
 //! What control sees of the source pads of a task between its steps.
 ghost use Rattle.std.specs.Prelude.{◌≡◌, ◌<◌, List, None, Option, Some, IfSome, slice_get, vec_len};
 ghost use Rattle.flow_model.specs.Item.{Item};
-ghost use Rattle.net_model.specs.Moment.{Moment};
+ghost use Rattle.flow_model.specs.Moment.{Moment};
 ghost use Rattle.net_task.specs.Ties.{Ties};
 ghost use Rattle.task_pads.specs.Pads.{first_is_buffer};
 ghost use Rattle.task_parts.specs.Part.{waits_at};
@@ -10,7 +10,7 @@ ghost use Rattle.task_edits.specs.Seeing.{HasCounted, HeadSeen, IsSeen, SeenAt};
 
 use crate::places::{PadAt, find};
 use lane_core::{Inlet, Outlet};
-use net_model::{TaskElement, TaskSource};
+use flow_model::{TaskElement, TaskSource};
 use net_task::Task;
 use task_pads::Pad;
 use task_parts::{Head, Part};

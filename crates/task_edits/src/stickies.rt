@@ -2,7 +2,7 @@
 ghost use Rattle.std.specs.Prelude.{◌≡◌, ◌<◌, false, map, Some, IfOk, OnOk};
 ghost use Rattle.flow_model.specs.Item.{Ev};
 ghost use Rattle.gst_item.specs.Sticky.{has_flush_stop, stickies};
-ghost use Rattle.net_model.specs.Moment.{Moment};
+ghost use Rattle.flow_model.specs.Moment.{Moment};
 ghost use Rattle.net_task.specs.Ties.{Ties};
 ghost use Rattle.pad_core.specs.Counts.{AreSticky};
 ghost use Rattle.task_edits.specs.Places.{HasPad};
@@ -12,7 +12,7 @@ use crate::places::{PadAt, find};
 use gst_item::{Event, Item};
 use gst_value::{List, OutOfMemory};
 use lane_core::{Inlet, Outlet};
-use net_model::{TaskElement, TaskSource};
+use flow_model::{TaskElement, TaskSource};
 use net_task::Task;
 use std::alloc::Global;
 use std::collections::VecDeque;

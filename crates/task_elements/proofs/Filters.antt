@@ -12,12 +12,12 @@ use Rattle.flow_model.specs.Sticky.{has_flush_stop}
 use Rattle.flow_model.specs.Call.{Call, Feed}
 use Rattle.flow_model.specs.Rule.{Rule, Response, owed_for, single, passes}
 use Rattle.flow_model.specs.Feeding.{on_pad, next_owed, passed, flow_behind, IsFaultOf}
-use Rattle.net_model.specs.Moment.{Behavior}
-use Rattle.net_model.specs.Pad.{Grows}
+use Rattle.flow_model.specs.Moment.{Behavior}
+use Rattle.flow_model.specs.Pad.{Grows}
 use Rattle.flow_model.specs.SinkPads.{push_calls}
-use Rattle.net_model.specs.Takes.{on_port, OwesMore, Takes}
-use Rattle.net_model.specs.Refuses.{RefusesBy}
-use Rattle.net_model.specs.declared.refusal.Refusal.TheVariants.{Fault}
+use Rattle.flow_model.specs.Takes.{on_port, OwesMore, Takes}
+use Rattle.flow_model.specs.Refuses.{RefusesBy}
+use Rattle.flow_model.specs.declared.refusal.Refusal.TheVariants.{Fault}
 use Rattle.el_basic.specs.declared.identity.Identity.{Identity}
 use Rattle.el_basic.specs.Passed.{Passed}
 use Rattle.el_set.specs.declared.filter.FilterElement.{FilterElement}

@@ -8,8 +8,8 @@ use Rattle.flow_model.specs.Call.{Call, Feed, Act, items}
 use Rattle.flow_model.specs.Rule.{Response, owed_for, passes, single}
 use Rattle.flow_model.proofs.Prefixes.{prefix_trans, rest_of}
 use Rattle.flow_model.proofs.Sections.{section_prefix, owed_for_prefix}
-use Rattle.net_model.specs.Moment.{Behavior}
-use Rattle.net_model.specs.Over.{list_ended, AllEnded}
+use Rattle.flow_model.specs.Moment.{Behavior}
+use Rattle.flow_model.specs.Over.{list_ended, AllEnded}
 use Rattle.flow_model.specs.SinkPads.{flush_stops_given, InSection}
 use Rattle.el_basic.specs.declared.tee.Tee.{Tee}
 use Rattle.el_set.specs.declared.filter.FilterElement.{FilterElement}

@@ -6,11 +6,11 @@ use Rattle.flow_model.specs.Section.{section, flush_stops}
 use Rattle.flow_model.specs.Call.{Call, Feed, Act, Drain, Set}
 use Rattle.flow_model.specs.Rule.{Owed, Response, Fault, Fed, unfed, responded, flushed, not_eos, drained, called, all_called, owed_for, single}
 use Rattle.flow_model.specs.Feeding.{on_pad, next_owed}
-use Rattle.net_model.specs.Pad.{Grows}
-use Rattle.net_model.specs.Takes.{on_port, AreWithin}
+use Rattle.flow_model.specs.Pad.{Grows}
+use Rattle.flow_model.specs.Takes.{on_port, AreWithin}
 use Rattle.flow_model.specs.SinkPads.{flush_stops_given}
 use Rattle.flow_model.proofs.Items.{no_stops}
-use Rattle.net_model.proofs.Singles.{grows_last as list_grows}
+use Rattle.flow_model.proofs.Singles.{grows_last as list_grows}
 
 -- a rule owes no FLUSH_STOP of its own: for no item but FLUSH_STOP, which crosses the element
 abbrev pub HasNoStop : Result (List Item) Fault → Type 0

@@ -9,9 +9,9 @@ use Rattle.flow_model.specs.Call.{Call, Feed}
 use Rattle.flow_model.specs.Rule.{Owed, Rule, Answers}
 use Rattle.flow_model.specs.Feeding.{on_pad}
 use Rattle.flow_model.specs.SinkPads.{push_calls}
-use Rattle.net_model.specs.Moment.{Behavior}
-use Rattle.net_model.specs.Pad.{Grows}
-use Rattle.net_model.specs.Takes.{OwesMore, Takes}
+use Rattle.flow_model.specs.Moment.{Behavior}
+use Rattle.flow_model.specs.Pad.{Grows}
+use Rattle.flow_model.specs.Takes.{OwesMore, Takes}
 use Rattle.el_set.specs.declared.join.JoinElement.{JoinElement}
 use Rattle.el_set.specs.Joins.{JoinPuts, JoinStands, OpenGrows, join_answers, join_pads, join_rule, join_wanted, may_take}
 use Rattle.el_set.proofs.JoinRules.{joins_grow, joins_have_pads, joins_want_in_order}

@@ -4,12 +4,12 @@ use Rattle.flow_model.specs.declared.fault.ElementFault.{ElementFault}
 use Rattle.flow_model.specs.declared.fault.ElementFault.TheVariants.{NotNegotiated, BadStream, TooLong, OutOfMemory}
 use Rattle.flow_model.specs.Item.{Item}
 use Rattle.flow_model.specs.Call.{Call}
-use Rattle.net_model.specs.Failures.{IsWriteCause}
-use Rattle.net_model.specs.Moment.{Behavior}
-use Rattle.net_model.specs.Refuses.{RefusesBy}
-use Rattle.net_model.specs.Why.{TellsOf}
-use Rattle.net_model.specs.declared.refusal.Refusal.{Refusal}
-use Rattle.net_model.specs.declared.refusal.Refusal.TheVariants.{Fault}
+use Rattle.flow_model.specs.Failures.{IsWriteCause}
+use Rattle.flow_model.specs.Moment.{Behavior}
+use Rattle.flow_model.specs.Refuses.{RefusesBy}
+use Rattle.flow_model.specs.Why.{TellsOf}
+use Rattle.flow_model.specs.declared.refusal.Refusal.{Refusal}
+use Rattle.flow_model.specs.declared.refusal.Refusal.TheVariants.{Fault}
 
 -- it tells what the element answers, or want of memory
 pub told_refusal : (behavior : Behavior) (took : List (List Call)) (pad : ℕ) (x : Item) (fault : ElementFault) (refusal : Refusal)

@@ -3,9 +3,9 @@ use Rattle.std.proofs.Common.{◌≡◌, ℕ, zero, suc, Bool, false, List, [], 
 use Rattle.gst_item.specs.declared.out.Out.{Out}
 use Rattle.flow_model.specs.Item.{Item}
 use Rattle.flow_model.specs.Call.{Call, Feed, feeds}
-use Rattle.net_model.specs.Moment.{Behavior}
+use Rattle.flow_model.specs.Moment.{Behavior}
 use Rattle.flow_model.specs.SinkPads.{push_calls}
-use Rattle.net_model.specs.Takes.{OwesMore, Takes}
+use Rattle.flow_model.specs.Takes.{OwesMore, Takes}
 use Rattle.el_set.specs.declared.sink.SinkElement.{SinkElement}
 use Rattle.el_set.specs.Holds.{SinkHeld}
 use Rattle.task_elements.specs.declared.element.StreamElement.{StreamElement}

@@ -5,8 +5,8 @@ use Rattle.flow_model.specs.Prefix.{nothing}
 use Rattle.flow_model.specs.Call.{Call}
 use Rattle.flow_model.specs.Rule.{Rule, Response, only, owed_for, passes, single}
 use Rattle.flow_model.proofs.Sections.{single_prefix}
-use Rattle.net_model.specs.Moment.{Behavior}
-use Rattle.net_model.specs.Whole.{OwesInOrder}
+use Rattle.flow_model.specs.Moment.{Behavior}
+use Rattle.flow_model.specs.Whole.{OwesInOrder}
 use Rattle.el_settings.specs.declared.settings.Settings.TheVariants.{Identity as PassesAll}
 use Rattle.el_set.specs.declared.filter.FilterElement.{FilterElement}
 use Rattle.el_set.specs.declared.join.JoinElement.{JoinElement}

@@ -6,8 +6,8 @@ use Rattle.el_src.specs.declared.answer.Next.TheVariants.{Item as Given, Ended}
 use Rattle.el_src.specs.declared.fault.SrcFault.{SrcFault}
 use Rattle.el_src.specs.declared.fault.SrcFault.TheVariants.{ReadFault, OutOfMemory as NoMemory}
 use Rattle.el_src.specs.Short.{StopsShort as SourceStops}
-use Rattle.net_model.specs.Gives.{Gives}
-use Rattle.net_model.specs.Short.{StopsShort}
+use Rattle.flow_model.specs.Gives.{Gives}
+use Rattle.flow_model.specs.Short.{StopsShort}
 use Rattle.el_set.specs.declared.source.SourceElement.{SourceElement}
 use Rattle.el_set.specs.declared.source.SourceElement.TheVariants.{File, Ramp}
 use Rattle.el_set.specs.Gives.{SourceGave, SourceGaveAll, SourceAfter, source_content}

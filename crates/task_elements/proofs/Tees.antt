@@ -10,9 +10,9 @@ use Rattle.flow_model.specs.Call.{Call, Feed, items}
 use Rattle.flow_model.specs.Rule.{Rule, owed_for, single, passes}
 use Rattle.flow_model.specs.Feeding.{on_pad, passed}
 use Rattle.flow_model.specs.SinkPads.{push_calls}
-use Rattle.net_model.specs.Moment.{Behavior}
-use Rattle.net_model.specs.Pad.{Grows}
-use Rattle.net_model.specs.Takes.{on_port, AreWithin, OwesMore, Takes}
+use Rattle.flow_model.specs.Moment.{Behavior}
+use Rattle.flow_model.specs.Pad.{Grows}
+use Rattle.flow_model.specs.Takes.{on_port, AreWithin, OwesMore, Takes}
 use Rattle.el_basic.specs.declared.tee.Tee.{Tee}
 use Rattle.el_basic.specs.Spread.{Spread, pad_count, pad_list, on_pads}
 use Rattle.el_basic.proofs.Spreading.{first_list}

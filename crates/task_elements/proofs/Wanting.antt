@@ -7,8 +7,8 @@ use Rattle.flow_model.specs.Feeding.{has_eos}
 use Rattle.flow_model.specs.Item.{Item, Ev, Eos}
 use Rattle.flow_model.specs.Rule.{single}
 use Rattle.flow_model.specs.SinkPads.{calls_at}
-use Rattle.net_model.specs.Moment.{Behavior}
-use Rattle.net_model.specs.Over.{AllEnded}
+use Rattle.flow_model.specs.Moment.{Behavior}
+use Rattle.flow_model.specs.Over.{AllEnded}
 use Rattle.el_basic.specs.Passed.{has_ended}
 use Rattle.el_basic.specs.Spread.{has_ended as tee_has_ended}
 use Rattle.el_set.specs.Passing.{PassesEach}

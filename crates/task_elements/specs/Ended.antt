@@ -2,7 +2,7 @@
 use Rattle.std.specs.Prelude.{◌≡◌, true, List, [], ◌∷◌}
 use Rattle.flow_model.specs.Section.{section}
 use Rattle.flow_model.specs.Call.{Call, items}
-use Rattle.net_model.specs.Over.{list_ended}
+use Rattle.flow_model.specs.Over.{list_ended}
 
 -- it stands there at each sink pad
 abbrev pub FirstEnded : List (List Call) → Type 0

@@ -1,7 +1,7 @@
 -- Elements of a stream that are made by settings.
 use Rattle.std.specs.Prelude.{◌≡◌, ◌||◌, ℕ, Bool, false, if◌then◌else◌, List, [], replicate, Option, Some, None}
 use Rattle.flow_model.specs.Rule.{Rule}
-use Rattle.net_model.specs.Moment.{Behavior}
+use Rattle.flow_model.specs.Moment.{Behavior}
 use Rattle.el_settings.specs.declared.settings.Settings.{Settings}
 use Rattle.el_settings.specs.Asked.{is_filter, is_queue, is_sink, makes_sinks, makes_sources, sink_pads, source_pads}
 use Rattle.el_set.specs.Denoted.{rule_of as owes_by, answers_of}

@@ -7,8 +7,8 @@ use Rattle.el_src.specs.declared.answer.Next.{Next}
 use Rattle.el_src.specs.declared.answer.Next.TheVariants.{Item as Given, Ended}
 use Rattle.el_src.specs.declared.fault.SrcFault.{SrcFault}
 use Rattle.el_src.specs.declared.fault.SrcFault.TheVariants.{ReadFault, OutOfMemory as NoMemory}
-use Rattle.net_model.specs.declared.refusal.Unread.{Unread}
-use Rattle.net_model.specs.declared.refusal.Unread.TheVariants.{Failed, OutOfMemory}
+use Rattle.flow_model.specs.declared.refusal.Unread.{Unread}
+use Rattle.flow_model.specs.declared.refusal.Unread.TheVariants.{Failed, OutOfMemory}
 use Rattle.el_set.specs.declared.source.SourceElement.{SourceElement}
 use Rattle.el_set.specs.declared.source.SourceElement.TheVariants.{File, Ramp}
 use Rattle.el_set.specs.Gives.{SourceGave, source_content, source_file}

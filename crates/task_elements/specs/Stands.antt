@@ -4,7 +4,7 @@ use Rattle.std.specs.Option.{option_map}
 use Rattle.flow_model.specs.Item.{Item}
 use Rattle.flow_model.specs.Call.{Call, feeds}
 use Rattle.flow_model.specs.Rule.{Rule, Response, single, passes}
-use Rattle.net_model.specs.Moment.{Behavior}
+use Rattle.flow_model.specs.Moment.{Behavior}
 use Rattle.el_basic.specs.declared.identity.Identity.{Identity}
 use Rattle.el_basic.specs.declared.tee.Tee.{Tee}
 use Rattle.el_basic.specs.Passed.{has_ended}

@@ -2,11 +2,11 @@
 ghost use Rattle.std.specs.Prelude.{◌≡◌, ◌∷◌, [], false, List, None, option_map, IfErr, OnOk, OnErr};
 ghost use Rattle.flow_model.specs.Item.{is_flush_stop};
 ghost use Rattle.flow_model.specs.Call.{Call, Feed};
-ghost use Rattle.net_model.specs.Moment.{Behavior};
+ghost use Rattle.flow_model.specs.Moment.{Behavior};
 ghost use Rattle.flow_model.specs.SinkPads.{push_calls};
-ghost use Rattle.net_model.specs.Takes.{Takes};
-ghost use Rattle.net_model.specs.Refuses.{RefusesBy};
-ghost use Rattle.net_model.specs.Failures.{IsWriteCause};
+ghost use Rattle.flow_model.specs.Takes.{Takes};
+ghost use Rattle.flow_model.specs.Refuses.{RefusesBy};
+ghost use Rattle.flow_model.specs.Failures.{IsWriteCause};
 ghost use Rattle.gst_outside.specs.Causes.{NeverFalls};
 ghost use Rattle.el_basic.specs.Spread.{pad_count};
 ghost use Rattle.el_set.specs.Holds.{sink_file, sink_faults};
@@ -18,7 +18,7 @@ use el_basic::{Identity, Tee};
 use el_set::SinkElement;
 use gst_item::{Item, Outs};
 use gst_outside::Sink;
-use net_model::{Refused, TaskElement};
+use flow_model::{Refused, TaskElement};
 use std::alloc::Global;
 
 /// An element with sink pads, by its role in a stream. It is fed and asked through `TaskElement`.

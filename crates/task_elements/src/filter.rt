@@ -5,7 +5,7 @@ ghost use Rattle.task_elements.specs.Ruled.{IsRuled};
 
 use el_set::FilterElement;
 use gst_item::{Item, Outs};
-use net_model::Refused;
+use flow_model::Refused;
 use std::alloc::Global;
 
 /// An element with one sink pad and one source pad, both of number 0, that stands for some rule. So it puts out no
@@ -18,10 +18,10 @@ pub struct StreamFilter {
 
 impl StreamFilter {
     ghost use Rattle.flow_model.specs.Call.{Call};
-    ghost use Rattle.net_model.specs.Moment.{Behavior};
-    ghost use Rattle.net_model.specs.Takes.{Takes};
-    ghost use Rattle.net_model.specs.Refuses.{RefusesBy};
-    ghost use Rattle.net_model.specs.Failures.{IsWriteCause};
+    ghost use Rattle.flow_model.specs.Moment.{Behavior};
+    ghost use Rattle.flow_model.specs.Takes.{Takes};
+    ghost use Rattle.flow_model.specs.Refuses.{RefusesBy};
+    ghost use Rattle.flow_model.specs.Failures.{IsWriteCause};
     ghost use Rattle.task_elements.specs.Stands.{FilterTook};
 
     /// A filter that stands for a rule, for what it was given and for what it put out.

@@ -2,13 +2,13 @@
 ghost use Rattle.std.specs.Prelude.{◌≡◌, false, List, None, IfErr, OnOk, OnErr};
 ghost use Rattle.flow_model.specs.declared.fault.ElementFault.TheVariants.{OutOfMemory as Wanting};
 ghost use Rattle.flow_model.specs.Item.{is_flush_stop};
-ghost use Rattle.net_model.specs.declared.refusal.Refusal.TheVariants.{Fault};
+ghost use Rattle.flow_model.specs.declared.refusal.Refusal.TheVariants.{Fault};
 ghost use Rattle.task_elements.specs.Ruled.{IsJoined};
 
 use el_set::JoinElement;
 use flow_model::ElementFault;
 use gst_item::{Item, Outs};
-use net_model::Refused;
+use flow_model::Refused;
 use std::alloc::Global;
 
 /// An element with several sink pads and one source pad, of number 0, that stands for some lists. So it may take an item on the
@@ -21,10 +21,10 @@ pub struct StreamJoin {
 
 impl StreamJoin {
     ghost use Rattle.flow_model.specs.Call.{Call};
-    ghost use Rattle.net_model.specs.Moment.{Behavior};
-    ghost use Rattle.net_model.specs.Takes.{Takes};
-    ghost use Rattle.net_model.specs.Refuses.{RefusesBy};
-    ghost use Rattle.net_model.specs.Failures.{IsWriteCause};
+    ghost use Rattle.flow_model.specs.Moment.{Behavior};
+    ghost use Rattle.flow_model.specs.Takes.{Takes};
+    ghost use Rattle.flow_model.specs.Refuses.{RefusesBy};
+    ghost use Rattle.flow_model.specs.Failures.{IsWriteCause};
     ghost use Rattle.task_elements.specs.Stands.{JoinTook};
 
     /// An element that stands for what its sink pads were given and for what it put out.

@@ -2,9 +2,9 @@
 ghost use Rattle.std.specs.Prelude.{◌≡◌, ◌<◌, ◌⊎◌, ℕ, true, false, List, [], None, Some, length, replicate};
 ghost use Rattle.flow_model.specs.Call.{Call};
 ghost use Rattle.flow_model.specs.Section.{IsPlain};
-ghost use Rattle.net_model.specs.Moment.{Behavior};
-ghost use Rattle.net_model.specs.Whole.{OwesInOrder};
-ghost use Rattle.net_model.specs.Over.{list_ended, AllEnded};
+ghost use Rattle.flow_model.specs.Moment.{Behavior};
+ghost use Rattle.flow_model.specs.Whole.{OwesInOrder};
+ghost use Rattle.flow_model.specs.Over.{list_ended, AllEnded};
 ghost use Rattle.flow_model.specs.Feeding.{has_eos};
 ghost use Rattle.flow_model.specs.SinkPads.{InSection, calls_at};
 ghost use Rattle.el_set.specs.Passing.{PassesEach};

@@ -7,7 +7,7 @@ use el_set::SourceElement;
 use el_src::{Next, SrcFault};
 use gst_item::Item;
 use gst_outside::Source;
-use net_model::{TaskSource, Unread};
+use flow_model::{TaskSource, Unread};
 use std::alloc::Global;
 
 /// An element with one source pad and no sink pad.

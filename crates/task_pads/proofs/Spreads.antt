@@ -5,7 +5,7 @@ use Rattle.std.proofs.lemmas.Bool.{cases_eq}
 use Rattle.std.proofs.lemmas.Option.{slice_get_within}
 use Rattle.gst_item.specs.declared.out.Out.{Out}
 use Rattle.flow_model.specs.Item.{Item}
-use Rattle.net_model.specs.Takes.{on_port, AreWithin}
+use Rattle.flow_model.specs.Takes.{on_port, AreWithin}
 use Rattle.task_pads.specs.declared.pad.Pad.{Pad}
 use Rattle.task_pads.specs.Pads.{rest_of, waiting_of}
 use Rattle.task_pads.specs.Put.{MovesFirst, Spread, SpreadAt}

@@ -6,7 +6,7 @@ use Rattle.std.proofs.lemmas.List.{map-append}
 use Rattle.gst_item.specs.declared.out.Out.{Out}
 use Rattle.gst_item.specs.Sticky.{has_flush_stop}
 use Rattle.flow_model.specs.Item.{Item, is_flush_stop}
-use Rattle.net_model.specs.Takes.{on_port, AreWithin}
+use Rattle.flow_model.specs.Takes.{on_port, AreWithin}
 use Rattle.task_pads.specs.Behind.{item_of, items_of}
 use Rattle.task_pads.specs.Put.{FirstNoFlush}
 use Rattle.flow_model.proofs.Items.{none_first as first_free}

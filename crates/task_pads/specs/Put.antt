@@ -2,7 +2,7 @@
 use Rattle.std.specs.Prelude.{◌≡◌, ℕ, false, List, [], ◌∷◌, ◌++◌, Option, None, Some, slice_get}
 use Rattle.gst_item.specs.declared.out.Out.{Out}
 use Rattle.flow_model.specs.Item.{Item, is_flush_stop}
-use Rattle.net_model.specs.Takes.{on_port}
+use Rattle.flow_model.specs.Takes.{on_port}
 use Rattle.task_pads.specs.declared.pad.Pad.{Pad}
 use Rattle.task_pads.specs.Pads.{rest_of, waiting_of}
 

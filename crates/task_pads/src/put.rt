@@ -1,6 +1,6 @@
 //! What an element put out goes to its source pads.
 ghost use Rattle.std.specs.Prelude.{◌≡◌, ◌≢◌, ◌++◌, [], map, length, OnOk};
-ghost use Rattle.net_model.specs.Takes.{on_port, AreWithin};
+ghost use Rattle.flow_model.specs.Takes.{on_port, AreWithin};
 ghost use Rattle.task_pads.specs.Pads.{rest_of, waiting_of, HasRoom};
 ghost use Rattle.task_pads.specs.Put.{FirstNoFlush, MovesFirst, Spread};
 

@@ -4,7 +4,7 @@ use Rattle.std.proofs.Math.Seq.{drop-cons}
 use Rattle.std.proofs.lemmas.Bool.Decides.{eqb_tells}
 use Rattle.gst_item.specs.declared.out.Out.{Out}
 use Rattle.flow_model.specs.Item.{is_buffer}
-use Rattle.net_model.specs.Takes.{on_port}
+use Rattle.flow_model.specs.Takes.{on_port}
 use Rattle.task_pads.specs.Pads.{first_is_buffer}
 
 one_more : (j : ℕ) → suc j ≡ j + 1

@@ -4,7 +4,7 @@ use Rattle.std.specs.Prelude.{slice_get, slice_set}
 use Rattle.std.proofs.lemmas.Bool.{cases_eq}
 use Rattle.std.proofs.lemmas.Option.{slice_get_within}
 use Rattle.flow_model.specs.Item.{Item}
-use Rattle.net_model.specs.declared.element.TaskElement as elements
+use Rattle.flow_model.specs.declared.element.TaskElement as elements
 use Rattle.task_pads.specs.declared.pad.Pad.{Pad}
 use Rattle.task_pads.specs.Pads.{IsLoose, Rest, waiting_of}
 use Rattle.task_parts.specs.declared.part.Part.{Part}

@@ -6,9 +6,9 @@ use Rattle.std.proofs.lemmas.Bool.Decides.{eqb_tells}
 use Rattle.gst_item.specs.declared.out.Out.{Out}
 use Rattle.flow_model.specs.Item.{Item, is_flush_stop}
 use Rattle.flow_model.specs.Call.{Call}
-use Rattle.net_model.specs.Moment.{Behavior}
-use Rattle.net_model.specs.declared.refusal.Refusal.{Refusal}
-use Rattle.net_model.specs.Takes.{AreWithin, Takes, on_port}
+use Rattle.flow_model.specs.Moment.{Behavior}
+use Rattle.flow_model.specs.declared.refusal.Refusal.{Refusal}
+use Rattle.flow_model.specs.Takes.{AreWithin, Takes, on_port}
 use Rattle.task_pads.specs.declared.pad.Pad.{Pad}
 use Rattle.task_pads.specs.Behind.{goes, leads_on}
 use Rattle.task_pads.specs.Pads.{PadShape, Rest, pad_shape, rest_of, waiting_of}

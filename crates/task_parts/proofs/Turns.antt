@@ -7,8 +7,8 @@ use Rattle.gst_item.specs.declared.out.Out.{Out}
 use Rattle.flow_model.specs.Call.{Feed}
 use Rattle.flow_model.specs.Item.{Item}
 use Rattle.flow_model.specs.SinkPads.{push_calls}
-use Rattle.net_model.specs.declared.element.TaskElement as elements
-use Rattle.net_model.specs.Takes.{Takes, on_port}
+use Rattle.flow_model.specs.declared.element.TaskElement as elements
+use Rattle.flow_model.specs.Takes.{Takes, on_port}
 use Rattle.task_pads.specs.declared.pad.Pad.{Pad}
 use Rattle.task_pads.specs.Pads.{PadShape, pad_shape, waiting_of}
 use Rattle.task_pads.specs.Put.{Spread}

@@ -5,7 +5,7 @@ use Rattle.lane_core.specs.declared.ends.Outlet as outlets
 use Rattle.inlet_row.specs.Feed.{first_some}
 use Rattle.inlet_row.specs.Row.{feeds_of, received_of}
 use Rattle.inlet_row.specs.declared.row.InletRow.{InletRow}
-use Rattle.net_model.specs.declared.element.TaskElement as elements
+use Rattle.flow_model.specs.declared.element.TaskElement as elements
 use Rattle.task_pads.specs.Behind.{sent_in}
 use Rattle.task_pads.specs.Pads.{rest_of}
 use Rattle.task_pads.specs.declared.pad.Pad.{Pad}

@@ -1,10 +1,10 @@
 -- Faults of elements and of sources as faults of a task.
 use Rattle.std.specs.Prelude.{ℕ}
 use Rattle.flow_model.specs.declared.fault.ElementFault.TheVariants as elements
-use Rattle.net_model.specs.declared.refusal.Refusal.{Refusal}
-use Rattle.net_model.specs.declared.refusal.Refusal.TheVariants.{Fault, Unwritten}
-use Rattle.net_model.specs.declared.refusal.Unread.{Unread}
-use Rattle.net_model.specs.declared.refusal.Unread.TheVariants.{Failed, OutOfMemory as NoMemory}
+use Rattle.flow_model.specs.declared.refusal.Refusal.{Refusal}
+use Rattle.flow_model.specs.declared.refusal.Refusal.TheVariants.{Fault, Unwritten}
+use Rattle.flow_model.specs.declared.refusal.Unread.{Unread}
+use Rattle.flow_model.specs.declared.refusal.Unread.TheVariants.{Failed, OutOfMemory as NoMemory}
 use Rattle.task_parts.specs.declared.fault.TaskFault.{TaskFault}
 use Rattle.task_parts.specs.declared.fault.TaskFault.TheVariants.{ReadFault, WriteFault, Stream, Caps, TooLong, OutOfMemory}
 

@@ -1,6 +1,6 @@
 -- Places of the elements of a task.
 use Rattle.std.specs.Prelude.{◌≡◌, ℕ, List, Some, slice_get}
-use Rattle.net_model.specs.declared.element.TaskElement as elements
+use Rattle.flow_model.specs.declared.element.TaskElement as elements
 use Rattle.task_parts.specs.declared.part.Part.{Part}
 
 module _ {E O : Type 0} {e : elements.Ghosts E} where

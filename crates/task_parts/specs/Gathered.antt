@@ -1,6 +1,6 @@
 -- The pads of an element, and what it put out and is not there yet.
 use Rattle.std.specs.Prelude.{◌≡◌, ◌<◌, ◌&&◌, ◌||◌, ℕ, zero, suc, Bool, true, false, not, List, [], ◌∷◌, Some, nat_lt, slice_get}
-use Rattle.net_model.specs.Takes.{on_port}
+use Rattle.flow_model.specs.Takes.{on_port}
 use Rattle.gst_item.specs.declared.out.Out.{Out}
 use Rattle.flow_model.specs.Item.{is_flush_stop}
 use Rattle.task_pads.specs.declared.pad.Pad.{Pad}

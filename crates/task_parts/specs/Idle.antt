@@ -1,6 +1,6 @@
 -- Elements at which nothing waits.
 use Rattle.std.specs.Prelude.{◌&&◌, ℕ, zero, suc, Bool, true, List, [], ◌∷◌}
-use Rattle.net_model.specs.declared.element.TaskElement as elements
+use Rattle.flow_model.specs.declared.element.TaskElement as elements
 use Rattle.task_parts.specs.declared.part.Part.{Part}
 use Rattle.task_parts.specs.Gathered.{is_nothing, pads_idle}
 

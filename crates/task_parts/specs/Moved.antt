@@ -1,8 +1,8 @@
 -- An item goes from a pad of one element of a task to another element.
 use Rattle.std.specs.Prelude.{◌≡◌, ◌≢◌, ◌≤◌, ◌<◌, ◌⊎◌, ◌+◌, ◌++◌, ◌∷◌, ℕ, true, List, [], Some, slice_get, slice_set}
 use Rattle.flow_model.specs.Item.{Item}
-use Rattle.net_model.specs.declared.element.TaskElement as elements
-use Rattle.net_model.specs.declared.refusal.Refusal.{Refusal}
+use Rattle.flow_model.specs.declared.element.TaskElement as elements
+use Rattle.flow_model.specs.declared.refusal.Refusal.{Refusal}
 use Rattle.task_pads.specs.declared.pad.Pad.{Pad}
 use Rattle.task_pads.specs.Pads.{CanTakeBack, HasCrossed, crossed_count, probe_of, rest_of, waiting_of}
 use Rattle.task_pads.specs.Put.{IsTaken}

@@ -5,13 +5,13 @@ use Rattle.flow_model.specs.Item.{Item}
 use Rattle.flow_model.specs.Call.{Call, Feed}
 use Rattle.lane_core.specs.Lane.{Lane}
 use Rattle.lane_core.specs.declared.ends.Outlet as outlets
-use Rattle.net_model.specs.Moment.{Behavior}
+use Rattle.flow_model.specs.Moment.{Behavior}
 use Rattle.flow_model.specs.SinkPads.{push_calls}
-use Rattle.net_model.specs.declared.element.TaskElement as elements
-use Rattle.net_model.specs.declared.refusal.Refusal.{Refusal}
-use Rattle.net_model.specs.Failures.{IsWriteCause}
-use Rattle.net_model.specs.Refuses.{RefusesBy}
-use Rattle.net_model.specs.Takes.{OwesMore, on_port}
+use Rattle.flow_model.specs.declared.element.TaskElement as elements
+use Rattle.flow_model.specs.declared.refusal.Refusal.{Refusal}
+use Rattle.flow_model.specs.Failures.{IsWriteCause}
+use Rattle.flow_model.specs.Refuses.{RefusesBy}
+use Rattle.flow_model.specs.Takes.{OwesMore, on_port}
 use Rattle.pad_core.specs.declared.probe.Probe.{Probe}
 use Rattle.task_pads.specs.declared.pad.Behind.{Behind}
 use Rattle.task_pads.specs.declared.pad.Pad.{Pad}

@@ -4,12 +4,12 @@ use Rattle.flow_model.specs.Item.{Item, is_flush_stop}
 use Rattle.lane_core.specs.Lane.{Lane}
 use Rattle.lane_core.specs.declared.ends.Inlet as inlets
 use Rattle.lane_core.specs.declared.ends.Outlet as outlets
-use Rattle.net_model.specs.declared.element.TaskElement as elements
-use Rattle.net_model.specs.declared.source.TaskSource as sources
-use Rattle.net_model.specs.declared.refusal.Refusal.{Refusal}
-use Rattle.net_model.specs.declared.refusal.Unread.{Unread}
-use Rattle.net_model.specs.Failures.{IsReadCause}
-use Rattle.net_model.specs.Short.{StopsShort}
+use Rattle.flow_model.specs.declared.element.TaskElement as elements
+use Rattle.flow_model.specs.declared.source.TaskSource as sources
+use Rattle.flow_model.specs.declared.refusal.Refusal.{Refusal}
+use Rattle.flow_model.specs.declared.refusal.Unread.{Unread}
+use Rattle.flow_model.specs.Failures.{IsReadCause}
+use Rattle.flow_model.specs.Short.{StopsShort}
 use Rattle.inlet_row.specs.declared.row.InletRow.{InletRow}
 use Rattle.inlet_row.specs.Taken.{Taken}
 use Rattle.inlet_row.specs.Taken as takes

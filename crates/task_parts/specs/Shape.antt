@@ -1,7 +1,7 @@
 -- What no step changes at a task: the numbers of its elements and pads, and where each pad leads.
 use Rattle.std.specs.Prelude.{◌==◌, ◌||◌, ◌&&◌, ℕ, Bool, true, false, List, [], ◌∷◌, map, length}
-use Rattle.net_model.specs.declared.element.TaskElement as elements
-use Rattle.net_model.specs.declared.source.TaskSource as sources
+use Rattle.flow_model.specs.declared.element.TaskElement as elements
+use Rattle.flow_model.specs.declared.source.TaskSource as sources
 use Rattle.task_pads.specs.Behind.{Goes, nowhere, inside, over}
 use Rattle.task_pads.specs.Pads.{PadShape, pad_shape}
 use Rattle.task_parts.specs.declared.part.Part.{Part}

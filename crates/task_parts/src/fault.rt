@@ -5,7 +5,7 @@ use crate::find::MOST_ITEMS;
 use flow_model::StreamKind;
 use gst_caps::Caps;
 use gst_value::Fixed;
-use net_model::{Mismatch, Refused, Unread, Why};
+use flow_model::{Mismatch, Refused, Unread, Why};
 use std::fmt;
 use std::fmt::{Debug, Display, Formatter, Write};
 use std::marker::Model;

@@ -7,7 +7,7 @@ ghost use Rattle.task_parts.specs.Shape.{has_number, part_shape};
 
 use crate::part::Part;
 use lane_core::Outlet;
-use net_model::TaskElement;
+use flow_model::TaskElement;
 
 /// The most items that cross a pad, and that a source gives.
 pub(crate) const MOST_ITEMS: u64 = 1 << 40;

@@ -1,7 +1,7 @@
 //! What an element put out goes to its pads.
 ghost use Rattle.std.specs.Prelude.{◌≡◌, ◌≢◌, ◌≤◌, ◌&&◌, not, true, vec_len, map, [], Some, length, slice_get, OnOk};
 ghost use Rattle.task_pads.specs.Behind.{leads_on};
-ghost use Rattle.net_model.specs.Takes.{on_port};
+ghost use Rattle.flow_model.specs.Takes.{on_port};
 ghost use Rattle.task_pads.specs.Pads.{first_is_buffer, rest_of, waiting_of};
 ghost use Rattle.task_pads.specs.Put.{Spread};
 ghost use Rattle.task_parts.specs.Gathered.{AreFilled, AreIdleBelow, are_within, linked_else, pads_idle_below};

@@ -1,9 +1,9 @@
 //! Where the items of a task come from.
 ghost use Rattle.std.specs.Prelude.{◌≡◌, ◌≤◌, ◌^◌, List, IfOk, IfErr, OnErr};
-ghost use Rattle.net_model.specs.Failures.{IsReadCause};
+ghost use Rattle.flow_model.specs.Failures.{IsReadCause};
 ghost use Rattle.gst_outside.specs.Causes.{NeverFalls};
-ghost use Rattle.net_model.specs.Gives.{Gives, count_after};
-ghost use Rattle.net_model.specs.Short.{StopsShort};
+ghost use Rattle.flow_model.specs.Gives.{Gives, count_after};
+ghost use Rattle.flow_model.specs.Short.{StopsShort};
 ghost use Rattle.task_parts.specs.declared.head.Given.TheVariants.{FlushStop as FlushGiven};
 ghost use Rattle.flow_model.specs.Item.{Item};
 
@@ -11,7 +11,7 @@ use crate::find::MOST_ITEMS;
 use gst_item::Item;
 use inlet_row::InletRow;
 use lane_core::{Inlet, Outlet};
-use net_model::{TaskSource, Unread};
+use flow_model::{TaskSource, Unread};
 use std::alloc::Global;
 use task_pads::{Behind, Pad};
 

@@ -6,7 +6,7 @@ ghost use Rattle.task_parts.specs.Shape.{part_shape};
 
 use crate::part::Part;
 use lane_core::Outlet;
-use net_model::{Refused, TaskElement};
+use flow_model::{Refused, TaskElement};
 use std::alloc::Global;
 use task_pads::Pad;
 

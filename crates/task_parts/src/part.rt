@@ -2,18 +2,18 @@
 ghost use Rattle.std.specs.Prelude.{◌≡◌, true, false, List, vec_len, IfErr, OnOk, OnErr};
 ghost use Rattle.flow_model.specs.Call.{Call};
 ghost use Rattle.flow_model.specs.Item.{is_flush_stop};
-ghost use Rattle.net_model.specs.Moment.{Behavior};
-ghost use Rattle.net_model.specs.Failures.{IsWriteCause};
+ghost use Rattle.flow_model.specs.Moment.{Behavior};
+ghost use Rattle.flow_model.specs.Failures.{IsWriteCause};
 ghost use Rattle.gst_outside.specs.Causes.{NeverFalls};
-ghost use Rattle.net_model.specs.Refuses.{RefusesBy};
-ghost use Rattle.net_model.specs.Takes.{Takes};
+ghost use Rattle.flow_model.specs.Refuses.{RefusesBy};
+ghost use Rattle.flow_model.specs.Takes.{Takes};
 ghost use Rattle.task_parts.specs.Gathered.{are_within, pads_idle_below};
 
 use crate::gather::{first_out_is_buffer, first_waiting, gather, is_linked_else};
 use gst_item::{Item, Outs};
 use gst_value::{List, OutOfMemory};
 use lane_core::Outlet;
-use net_model::{Refused, TaskElement};
+use flow_model::{Refused, TaskElement};
 use std::alloc::Global;
 use task_pads::{Behind, Crossing, Pad};
 

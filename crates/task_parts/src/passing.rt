@@ -21,7 +21,7 @@ use gst_item::Item;
 use gst_value::OutOfMemory;
 use inlet_row::{Answer, UNLINKED};
 use lane_core::{Inlet, Outlet};
-use net_model::{TaskElement, TaskSource};
+use flow_model::{TaskElement, TaskSource};
 use std::alloc::Global;
 use task_pads::Crossing;
 

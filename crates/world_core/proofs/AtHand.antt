@@ -6,8 +6,8 @@ use Rattle.std.proofs.lemmas.Option.{none-some, same_Some}
 use Rattle.el_set.specs.Gives.{source_items}
 use Rattle.el_set.specs.Made.{IsEmpty, file_for}
 use Rattle.el_settings.specs.Asked.{sink_pads, source_pads, is_source}
-use Rattle.net_model.specs.declared.element.TaskElement as elements
-use Rattle.net_model.specs.declared.source.TaskSource as givers
+use Rattle.flow_model.specs.declared.element.TaskElement as elements
+use Rattle.flow_model.specs.declared.source.TaskSource as givers
 use Rattle.flow_model.specs.Call.{Call}
 use Rattle.flow_model.specs.Item.{Item}
 use Rattle.graph_core.specs.Elements.{Made}
@@ -20,7 +20,7 @@ use Rattle.graph_tasks.proofs.Takes.{some_there, there_some}
 use Rattle.gst_outside.specs.Seen.{Seen}
 use Rattle.gst_outside.specs.declared.sink.Sink as sinks
 use Rattle.gst_outside.specs.declared.source.Source as sources
-use Rattle.net_model.specs.Moment.{Behavior}
+use Rattle.flow_model.specs.Moment.{Behavior}
 use Rattle.run_files.specs.Ends.{Known}
 use Rattle.run_files.specs.Opening.{fresh_end}
 use Rattle.run_files.specs.declared.end.End.{End}

@@ -1,7 +1,7 @@
 -- How a run begins: what its tasks are made of is there, and made of that they are the tasks of a run that starts.
 use Rattle.std.proofs.Common.{◌≡◌, ◌∙◌, List, Option, Some, length, sym}
-use Rattle.net_model.specs.declared.element.TaskElement as elements
-use Rattle.net_model.specs.declared.source.TaskSource as givers
+use Rattle.flow_model.specs.declared.element.TaskElement as elements
+use Rattle.flow_model.specs.declared.source.TaskSource as givers
 use Rattle.graph_parts.specs.declared.bag.Bag.{Bag}
 use Rattle.graph_core.specs.Elements.{Made}
 use Rattle.graph_core.specs.Graph.{made as made_in, links as links_in}

@@ -5,8 +5,8 @@ use Rattle.std.specs.List.{cons_option, range_with_len}
 use Rattle.std.specs.Option.{option_map, option_map_or}
 use Rattle.std.proofs.lemmas.Option.{none-some, same_Some, slice_get_within}
 use Rattle.el_settings.specs.Asked.{source_pads, writes}
-use Rattle.net_model.specs.declared.element.TaskElement as elements
-use Rattle.net_model.specs.declared.source.TaskSource as sources
+use Rattle.flow_model.specs.declared.element.TaskElement as elements
+use Rattle.flow_model.specs.declared.source.TaskSource as sources
 use Rattle.flow_model.specs.Item.{Item, buffers}
 use Rattle.graph_parts.specs.BagLaws.{StandsIn}
 use Rattle.graph_parts.specs.declared.bag.Bag.{Bag}
@@ -28,7 +28,7 @@ use Rattle.graph_parts.specs.MomentLaws.{place_of}
 use Rattle.graph_parts.specs.Pads.{at_pads, is_pad}
 use Rattle.lane_core.specs.declared.ends.Inlet as inlets
 use Rattle.lane_core.specs.declared.ends.Outlet as outlets
-use Rattle.net_model.specs.Moment.{Moment}
+use Rattle.flow_model.specs.Moment.{Moment}
 use Rattle.net_task.specs.declared.task.Task.{Task}
 use Rattle.run_files.specs.declared.end.Opening.TheVariants.{Write}
 use Rattle.run_report.specs.declared.report.PadCount.{PadCount}

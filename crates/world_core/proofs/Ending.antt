@@ -3,8 +3,8 @@ use Rattle.std.proofs.Common.{◌≡◌, ◌≢◌, ◌<◌, ℕ, List, Option, 
 use Rattle.std.specs.Option.{option_map, option_map_or}
 use Rattle.std.proofs.lemmas.Option.{none-some, same_Some}
 use Rattle.el_set.specs.Gives.{source_file}
-use Rattle.net_model.specs.declared.element.TaskElement as elements
-use Rattle.net_model.specs.declared.source.TaskSource as givers
+use Rattle.flow_model.specs.declared.element.TaskElement as elements
+use Rattle.flow_model.specs.declared.source.TaskSource as givers
 use Rattle.el_settings.specs.Asked.{source_pads}
 use Rattle.graph_core.specs.Elements.{Made}
 use Rattle.graph_core.specs.GraphPlan.{pad_id}
@@ -22,8 +22,8 @@ use Rattle.gst_outside.specs.declared.source.Source as sources
 use Rattle.lane_core.specs.Lane.{Lane}
 use Rattle.lane_core.specs.declared.ends.Inlet as inlets
 use Rattle.lane_core.specs.declared.ends.Outlet as outlets
-use Rattle.net_model.specs.Moment.{Moment}
-use Rattle.net_model.specs.Opening.{opening}
+use Rattle.flow_model.specs.Moment.{Moment}
+use Rattle.flow_model.specs.Opening.{opening}
 use Rattle.net_task.specs.declared.task.Task.{Task}
 use Rattle.net_turns.specs.Alone.{HoldLanes}
 use Rattle.net_turns.specs.Net.{NetStands}

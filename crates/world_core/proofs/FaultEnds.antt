@@ -5,10 +5,10 @@ use Rattle.std.specs.Option.{option_map}
 use Rattle.std.proofs.lemmas.Bool.Decides.{eqb_tells}
 use Rattle.std.proofs.lemmas.Option.{same_Some}
 use Rattle.el_set.specs.Gives.{source_file}
-use Rattle.net_model.specs.declared.element.TaskElement as elements
-use Rattle.net_model.specs.declared.refusal.Refusal.TheVariants.{Fault, Unwritten}
-use Rattle.net_model.specs.declared.refusal.Unread.TheVariants as reads
-use Rattle.net_model.specs.declared.source.TaskSource as givers
+use Rattle.flow_model.specs.declared.element.TaskElement as elements
+use Rattle.flow_model.specs.declared.refusal.Refusal.TheVariants.{Fault, Unwritten}
+use Rattle.flow_model.specs.declared.refusal.Unread.TheVariants as reads
+use Rattle.flow_model.specs.declared.source.TaskSource as givers
 use Rattle.graph_core.specs.Elements.{Made}
 use Rattle.graph_core.specs.Graph.{made as made_in, links as links_in}
 use Rattle.graph_core.specs.declared.graph.Graph.{Graph}

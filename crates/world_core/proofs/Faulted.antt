@@ -6,11 +6,11 @@ use Rattle.std.proofs.lemmas.Option.{none-some, same_Some}
 use Rattle.el_settings.specs.Asked.{location_of, source_pads}
 use Rattle.el_set.specs.Gives.{source_file}
 use Rattle.el_set.specs.Made.{file_for, read_for}
-use Rattle.net_model.specs.Failures.{IsReadCause, IsWriteCause}
-use Rattle.net_model.specs.declared.element.TaskElement as elements
-use Rattle.net_model.specs.declared.refusal.Refusal.TheVariants.{Fault, Unwritten}
-use Rattle.net_model.specs.declared.refusal.Unread.TheVariants as reads
-use Rattle.net_model.specs.declared.source.TaskSource as givers
+use Rattle.flow_model.specs.Failures.{IsReadCause, IsWriteCause}
+use Rattle.flow_model.specs.declared.element.TaskElement as elements
+use Rattle.flow_model.specs.declared.refusal.Refusal.TheVariants.{Fault, Unwritten}
+use Rattle.flow_model.specs.declared.refusal.Unread.TheVariants as reads
+use Rattle.flow_model.specs.declared.source.TaskSource as givers
 use Rattle.flow_model.specs.Item.{Item}
 use Rattle.graph_parts.specs.declared.bag.Bag.{Bag}
 use Rattle.graph_core.specs.Elements.{Made}
@@ -39,7 +39,7 @@ use Rattle.graph_tasks.proofs.Came.{place_again}
 use Rattle.graph_parts.proofs.Sources.{place_is_pad}
 use Rattle.graph_parts.specs.MomentLaws.{place_of}
 use Rattle.graph_core.specs.GraphPlan.{pad_id, sink_at as place_at}
-use Rattle.net_model.specs.Moment.{Moment}
+use Rattle.flow_model.specs.Moment.{Moment}
 use Rattle.net_task.specs.declared.task.Task.{Task}
 use Rattle.run_files.specs.Ends.{Known, known_end, known_ends}
 use Rattle.run_files.specs.declared.end.End.{End}

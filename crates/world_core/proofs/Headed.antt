@@ -3,8 +3,8 @@ use Rattle.std.proofs.Common.{◌≡◌, ◌||◌, ℕ, Bool, true, false, List,
 use Rattle.std.specs.Prelude.{slice_get}
 use Rattle.std.specs.Option.{option_map_or}
 use Rattle.std.proofs.lemmas.Option.{same_Some, slice_get_within}
-use Rattle.net_model.specs.declared.element.TaskElement as elements
-use Rattle.net_model.specs.declared.source.TaskSource as givers
+use Rattle.flow_model.specs.declared.element.TaskElement as elements
+use Rattle.flow_model.specs.declared.source.TaskSource as givers
 use Rattle.flow_model.specs.Account.{IsMember}
 use Rattle.graph_parts.specs.Bags.{AreBags, IsBag, IsHead, Once, head_number}
 use Rattle.graph_parts.specs.Links.{has_inlets, is_head}

@@ -2,8 +2,8 @@
 use Rattle.std.proofs.Common.{◌≡◌, ◌≢◌, ℕ, List, [], ◌∷◌, Option, Some, refl, subst, inl, inr}
 use Rattle.std.specs.Prelude.{slice_get}
 use Rattle.el_settings.specs.declared.settings.Settings.{Settings}
-use Rattle.net_model.specs.declared.element.TaskElement as elements
-use Rattle.net_model.specs.declared.source.TaskSource as givers
+use Rattle.flow_model.specs.declared.element.TaskElement as elements
+use Rattle.flow_model.specs.declared.source.TaskSource as givers
 use Rattle.flow_model.specs.Call.{feeds}
 use Rattle.flow_model.specs.Item.{Item}
 use Rattle.graph_core.specs.Allowed.{first_pad}
@@ -20,7 +20,7 @@ use Rattle.gst_outside.specs.declared.sink.Sink as sinks
 use Rattle.gst_outside.specs.declared.source.Source as sources
 use Rattle.lane_core.specs.declared.ends.Inlet as inlets
 use Rattle.lane_core.specs.declared.ends.Outlet as outlets
-use Rattle.net_model.specs.Moment.{Behavior, Moment}
+use Rattle.flow_model.specs.Moment.{Behavior, Moment}
 use Rattle.net_task.specs.declared.task.Task.{Task}
 use Rattle.run_files.specs.declared.end.Opening.TheVariants.{Write}
 use Rattle.task_elements.specs.Stands.{StreamStands, file_in}

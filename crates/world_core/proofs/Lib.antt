@@ -37,3 +37,12 @@ mod StallOver
 mod StallTasks
 mod Stops
 mod FirstRows
+mod Left
+mod Acting
+mod Turns
+mod Scripting
+mod Aside
+pub mod Tasks
+pub mod Begun
+pub mod Writes
+pub mod Quiet

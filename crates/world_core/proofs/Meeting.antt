@@ -2,11 +2,11 @@
 use Rattle.std.proofs.Common.{◌≡◌, ◌<◌, ℕ, List, Option, None, Some, length, refl, sym, ap, ◌∙◌, subst, inl}
 use Rattle.std.specs.Prelude.{slice_get}
 use Rattle.std.proofs.lemmas.Option.{none-some, same_Some}
-use Rattle.net_model.specs.declared.element.TaskElement as elements
-use Rattle.net_model.specs.declared.source.TaskSource as givers
-use Rattle.net_model.specs.declared.refusal.Refusal.{Refusal}
-use Rattle.net_model.specs.declared.refusal.Unread.{Unread}
-use Rattle.net_model.specs.Failures.{IsReadCause, IsWriteCause}
+use Rattle.flow_model.specs.declared.element.TaskElement as elements
+use Rattle.flow_model.specs.declared.source.TaskSource as givers
+use Rattle.flow_model.specs.declared.refusal.Refusal.{Refusal}
+use Rattle.flow_model.specs.declared.refusal.Unread.{Unread}
+use Rattle.flow_model.specs.Failures.{IsReadCause, IsWriteCause}
 use Rattle.graph_core.specs.Elements.{Made}
 use Rattle.graph_pads.specs.Links.{sink_behind}
 use Rattle.graph_pads.specs.declared.pad.PadLink.{PadLink}

@@ -8,10 +8,10 @@ use Rattle.el_settings.proofs.Roles.{source_no_sink}
 use Rattle.flow_model.specs.Call.{Call, feeds}
 use Rattle.flow_model.specs.Feeding.{has_eos}
 use Rattle.flow_model.specs.Item.{Item, eos_among}
-use Rattle.net_model.specs.Moment.{Moment}
-use Rattle.net_model.specs.Over.{AllEnded, list_ended}
-use Rattle.net_model.specs.declared.element.TaskElement as elements
-use Rattle.net_model.specs.declared.source.TaskSource as givers
+use Rattle.flow_model.specs.Moment.{Moment}
+use Rattle.flow_model.specs.Over.{AllEnded, list_ended}
+use Rattle.flow_model.specs.declared.element.TaskElement as elements
+use Rattle.flow_model.specs.declared.source.TaskSource as givers
 use Rattle.graph_parts.specs.Bags.{AreHeadBags, IsBag, IsHead}
 use Rattle.graph_parts.specs.Links.{is_head}
 use Rattle.graph_parts.specs.declared.bag.Bag.{Bag}

@@ -3,8 +3,8 @@ use Rattle.std.proofs.Common.{◌≡◌, ◌⊎◌, ◌++◌, ℕ, true, false, 
 use Rattle.std.specs.Prelude.{slice_get}
 use Rattle.std.specs.Option.{option_map_or}
 use Rattle.std.proofs.lemmas.Option.{slice_get_within}
-use Rattle.net_model.specs.declared.element.TaskElement as elements
-use Rattle.net_model.specs.declared.source.TaskSource as givers
+use Rattle.flow_model.specs.declared.element.TaskElement as elements
+use Rattle.flow_model.specs.declared.source.TaskSource as givers
 use Rattle.flow_model.specs.Account.{IsMember}
 use Rattle.flow_model.specs.Item.{Item}
 use Rattle.graph_parts.specs.Bags.{IsBag, IsHead, head_cells, number_of}
@@ -31,7 +31,7 @@ use Rattle.gst_outside.specs.declared.source.Source as sources
 use Rattle.lane_core.specs.Lane.{Lane}
 use Rattle.lane_core.specs.declared.ends.Inlet as inlets
 use Rattle.lane_core.specs.declared.ends.Outlet as outlets
-use Rattle.net_model.specs.Moment.{Moment}
+use Rattle.flow_model.specs.Moment.{Moment}
 use Rattle.net_task.specs.declared.task.Task.{Task}
 use Rattle.run_files.specs.declared.end.End.{End}
 use Rattle.run_files.specs.declared.end.Opening.TheVariants.{Write}

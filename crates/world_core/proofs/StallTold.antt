@@ -4,9 +4,9 @@ use Rattle.std.specs.Prelude.{map, slice_get}
 use Rattle.std.specs.List.{range_with_len}
 use Rattle.std.specs.Option.{unwrap_or}
 use Rattle.std.proofs.lemmas.Option.{same_Some}
-use Rattle.net_model.specs.Moment.{Moment}
-use Rattle.net_model.specs.declared.element.TaskElement as elements
-use Rattle.net_model.specs.declared.source.TaskSource as givers
+use Rattle.flow_model.specs.Moment.{Moment}
+use Rattle.flow_model.specs.declared.element.TaskElement as elements
+use Rattle.flow_model.specs.declared.source.TaskSource as givers
 use Rattle.el_settings.specs.Asked.{makes_sinks}
 use Rattle.graph_parts.specs.Bags.{AreHeadBags, heads_in}
 use Rattle.graph_parts.specs.declared.bag.Bag.{Bag}

@@ -5,8 +5,8 @@ use Rattle.std.specs.Option.{option_map_or}
 use Rattle.std.proofs.lemmas.Option.{slice_get_within}
 use Rattle.el_settings.specs.Asked.{sink_pads, is_source}
 use Rattle.el_set.specs.Made.{list_of}
-use Rattle.net_model.specs.declared.element.TaskElement as elements
-use Rattle.net_model.specs.declared.source.TaskSource as givers
+use Rattle.flow_model.specs.declared.element.TaskElement as elements
+use Rattle.flow_model.specs.declared.source.TaskSource as givers
 use Rattle.flow_model.specs.Call.{Call}
 use Rattle.flow_model.specs.Item.{Item}
 use Rattle.flow_model.specs.Link.{Span}
@@ -23,8 +23,8 @@ use Rattle.graph_tasks.proofs.Tied.{sinks_count}
 use Rattle.gst_outside.specs.Seen.{Seen}
 use Rattle.gst_outside.specs.declared.sink.Sink as sinks
 use Rattle.gst_outside.specs.declared.source.Source as sources
-use Rattle.net_model.specs.Moment.{Behavior, behavior_at}
-use Rattle.net_model.specs.Opening.{opening}
+use Rattle.flow_model.specs.Moment.{Behavior, behavior_at}
+use Rattle.flow_model.specs.Opening.{opening}
 use Rattle.run_files.specs.declared.end.End.{End}
 use Rattle.task_elements.specs.Owes.{Owes}
 use Rattle.task_elements.specs.declared.element.StreamElement.{StreamElement}

@@ -1,7 +1,7 @@
 -- The tasks of a run that begins are ready, and where the contents of files were told they stand where it begins.
 use Rattle.std.proofs.Common.{ℕ, List, Option, Some, refl, sym, subst}
-use Rattle.net_model.specs.declared.element.TaskElement as elements
-use Rattle.net_model.specs.declared.source.TaskSource as givers
+use Rattle.flow_model.specs.declared.element.TaskElement as elements
+use Rattle.flow_model.specs.declared.source.TaskSource as givers
 use Rattle.graph_core.specs.Graph.{made as made_in, links as links_in}
 use Rattle.graph_core.specs.declared.graph.Graph.{Graph}
 use Rattle.graph_tasks.specs.Frames.{HaveBags}
@@ -18,7 +18,7 @@ use Rattle.gst_outside.specs.declared.source.Source as sources
 use Rattle.lane_core.specs.Lane.{Lane}
 use Rattle.lane_core.specs.declared.ends.Inlet as inlets
 use Rattle.lane_core.specs.declared.ends.Outlet as outlets
-use Rattle.net_model.specs.Opening.{opening}
+use Rattle.flow_model.specs.Opening.{opening}
 use Rattle.net_task.specs.declared.task.Task.{Task}
 use Rattle.net_turns.specs.Net.{NetReady, NetStands}
 use Rattle.run_files.specs.declared.end.End.{End}

@@ -5,8 +5,8 @@ use Rattle.graph_core.specs.declared.graph.Graph.{Graph}
 use Rattle.graph_tasks.specs.Over.{joins_in}
 use Rattle.lane_core.specs.declared.ends.Inlet as inlets
 use Rattle.lane_core.specs.declared.ends.Outlet as outlets
-use Rattle.net_model.specs.declared.element.TaskElement as elements
-use Rattle.net_model.specs.declared.source.TaskSource as givers
+use Rattle.flow_model.specs.declared.element.TaskElement as elements
+use Rattle.flow_model.specs.declared.source.TaskSource as givers
 use Rattle.net_task.specs.declared.task.Task.{Task}
 use Rattle.net_turns.specs.Ends.{TellsOver}
 use Rattle.net_turns.specs.Turns.{stop_of}

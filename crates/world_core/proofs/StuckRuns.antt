@@ -5,8 +5,8 @@ use Rattle.std.proofs.lemmas.List.{length-append}
 use Rattle.flow_model.specs.Item.{Item, eos_among}
 use Rattle.flow_model.specs.Prefix.{IsPrefix}
 use Rattle.flow_model.proofs.Prefixes.{prefix_length}
-use Rattle.net_model.specs.declared.element.TaskElement as elements
-use Rattle.net_model.specs.declared.source.TaskSource as givers
+use Rattle.flow_model.specs.declared.element.TaskElement as elements
+use Rattle.flow_model.specs.declared.source.TaskSource as givers
 use Rattle.graph_parts.specs.Bags.{AreHeadBags}
 use Rattle.graph_parts.specs.Links.{is_head}
 use Rattle.graph_parts.specs.declared.bag.Bag.{Bag}

@@ -4,8 +4,8 @@ use Rattle.std.specs.Prelude.{slice_get}
 use Rattle.std.specs.Option.{option_map}
 use Rattle.std.proofs.lemmas.List.{length-map}
 use Rattle.std.proofs.lemmas.Option.{slice_get-map, slice_get_within}
-use Rattle.net_model.specs.declared.element.TaskElement as elements
-use Rattle.net_model.specs.declared.source.TaskSource as sources
+use Rattle.flow_model.specs.declared.element.TaskElement as elements
+use Rattle.flow_model.specs.declared.source.TaskSource as sources
 use Rattle.flow_model.specs.Account.{IsMember}
 use Rattle.flow_model.specs.Item.{Item, buffers}
 use Rattle.graph_parts.specs.Bags.{cells, head_cells, number_of as number_in}
@@ -23,7 +23,7 @@ use Rattle.graph_parts.specs.declared.counts.Count.{Count}
 use Rattle.lane_core.specs.declared.ends.Inlet as inlets
 use Rattle.lane_core.specs.declared.ends.Outlet as outlets
 use Rattle.graph_core.specs.GraphPlan.{pad_id, sink_at as place_at}
-use Rattle.net_model.specs.Moment.{Moment}
+use Rattle.flow_model.specs.Moment.{Moment}
 use Rattle.net_task.specs.Frame.{frame_of, head_frame, part_frame, wire_of}
 use Rattle.net_task.specs.declared.task.Task.{Task}
 use Rattle.task_pads.specs.Pads.{HasCrossed, crossed_count, number_of}

@@ -1,6 +1,6 @@
 -- What is known of the run of a graph by its laws.
-use Rattle.net_model.specs.declared.element.TaskElement as elements
-use Rattle.net_model.specs.declared.source.TaskSource as givers
+use Rattle.flow_model.specs.declared.element.TaskElement as elements
+use Rattle.flow_model.specs.declared.source.TaskSource as givers
 use Rattle.graph_tasks.specs.Blamed.{CausesAreTold, FaultsAreBlamed}
 use Rattle.graph_tasks.specs.Ended.{EndsAreWhole, HistoriesAreEvaluated, LooseAreQuiet, PadsAreLimited, RunsStand}
 use Rattle.graph_tasks.specs.Over.{LinesTellOver, RunsTellOver}

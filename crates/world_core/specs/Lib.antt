@@ -11,3 +11,7 @@ pub mod Start
 pub mod Stopped
 pub mod Turned
 pub mod Laws
+pub mod Running
+pub mod Answering
+pub mod Begins
+pub mod Headline

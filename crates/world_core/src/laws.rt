@@ -9,7 +9,7 @@ use graph_tasks::over::{lines_tell_over, runs_tell_over, tasks_are_stuck};
 use graph_tasks::written::{tasks_stand_behind, tasks_stand_whole};
 use gst_outside::{Sink, Source};
 use lane_core::{Inlet, Outlet};
-use net_model::{TaskElement, TaskSource};
+use flow_model::{TaskElement, TaskSource};
 use net_turns::laws::lanes_stay;
 use task_elements::{StreamElement, StreamSource};
 

@@ -14,7 +14,7 @@ use crate::pads::{lane_into, name_of, place_of, sink_named};
 use graph_core::{Graph, PadPlace};
 use gst_value::{List, OutOfMemory};
 use lane_core::{Inlet, Outlet};
-use net_model::{TaskElement, TaskSource};
+use flow_model::{TaskElement, TaskSource};
 use net_task::Task;
 use run_report::{StallReason, StalledTask};
 use script_text::Place;

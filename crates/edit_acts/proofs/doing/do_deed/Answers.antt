@@ -1,9 +1,9 @@
 use Rattle.std.proofs.Common.{sym, subst}
 use Rattle.std.specs.Prelude.{IfErr, IfOk}
-use Rattle.net_model.specs.Moment.{Moment}
+use Rattle.flow_model.specs.Moment.{Moment}
 use Rattle.edit_core.specs.declared.deciding.Deed.{Deed}
 use Rattle.edit_core.specs.declared.deciding.Deed.TheVariants.{Relink, Unlink}
-use Rattle.edit_model.specs.Edited.{Edited}
+use Rattle.graph_edits.specs.Edited.{Edited}
 use Rattle.edit_acts.specs.Deeds.{DeedFails, IsDone, IsDue, TakesFor, WasDone}
 use Rattle.edit_acts.specs.declared.doing.Outcome.{Outcome}
 use Rattle.edit_acts.proofs.Deeds.{done_told, failed_told, none_told, relink_failed, relink_told}

@@ -1,7 +1,7 @@
 use Rattle.std.proofs.Common.{false, ap, ◌∙◌}
 use Rattle.gst_item.specs.Item.{has_item}
-use Rattle.net_model.specs.Edit.{unlinked}
-use Rattle.edit_model.specs.Edited.{unlinked_at}
+use Rattle.flow_model.specs.Edit.{unlinked}
+use Rattle.graph_edits.specs.Edited.{unlinked_at}
 use Rattle.edit_core.proofs.Decided.{carry}
 use Rattle.edit_acts.proofs.Carried.{carry_fault, may_at, opening_now, run_undone, run_with, runs, short, to_keep}
 use Rattle.edit_acts.proofs.relinking.carry_out.Goals as goal

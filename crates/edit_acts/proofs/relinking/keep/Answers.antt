@@ -1,5 +1,5 @@
 use Rattle.std.proofs.Common.{false, subst, sym}
-use Rattle.edit_model.specs.Edited.{unlinked_at}
+use Rattle.graph_edits.specs.Edited.{unlinked_at}
 use Rattle.edit_core.specs.Feeds.{AreFeeds}
 use Rattle.edit_core.specs.declared.feeds.Feeds.{Feeds}
 use Rattle.edit_acts.proofs.Keeps.{nowhere_kept, opens_then, undone_link}

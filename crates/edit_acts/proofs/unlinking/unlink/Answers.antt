@@ -1,8 +1,8 @@
 use Rattle.std.proofs.Common.{◌≡◌, ◌<◌, ℕ, List, false, length, ap, refl, subst, sym, ◌∙◌}
 use Rattle.graph_core.specs.GraphPlan.{pad_id}
-use Rattle.net_model.specs.Edit.{unlinked}
+use Rattle.flow_model.specs.Edit.{unlinked}
 use Rattle.net_task.specs.declared.task.Task.{Task}
-use Rattle.edit_model.specs.Edited.{unlinked_at}
+use Rattle.graph_edits.specs.Edited.{unlinked_at}
 use Rattle.edit_core.specs.Ways.{IsRun}
 use Rattle.net_turns.specs.Net.{NetReady}
 use Rattle.edit_acts.specs.Undoing.{IsRunWith}

@@ -1,8 +1,8 @@
 use Rattle.std.proofs.Common.{◌≡◌, ℕ, List, Some, refl, true, ap, sym, ◌∙◌, subst}
 use Rattle.script_text.specs.declared.command.Act.{Act}
 use Rattle.script_text.specs.declared.command.Act.TheVariants.{Relink, Unlink, Remove}
-use Rattle.edit_model.specs.Lawful.{command, places_at}
-use Rattle.edit_model.specs.Names.{source_when}
+use Rattle.graph_edits.specs.Lawful.{command, places_at}
+use Rattle.graph_edits.specs.Names.{source_when}
 use Rattle.edit_core.specs.Deciding.{IsDeed, IsReached, IsReachedBy, IsRuled, IsRuledAnyhow, names_its_pad}
 use Rattle.edit_core.specs.declared.deciding.Deed.TheVariants as deeds
 use Rattle.edit_core.proofs.Decided.{anyhow, carry, no_pad, reached}

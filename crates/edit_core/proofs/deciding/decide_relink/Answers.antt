@@ -4,8 +4,8 @@ use Rattle.graph_pads.specs.declared.pad.PadPlace.{PadPlace}
 use Rattle.script_text.specs.declared.answer.Answer.TheVariants.{Refused}
 use Rattle.script_text.specs.declared.answer.Reason.{Reason}
 use Rattle.script_text.specs.declared.command.Act.TheVariants.{Relink}
-use Rattle.edit_model.specs.Lawful.{IsRefusedFor, command}
-use Rattle.edit_model.specs.Names.{pad_named}
+use Rattle.graph_edits.specs.Lawful.{IsRefusedFor, command}
+use Rattle.graph_edits.specs.Names.{pad_named}
 use Rattle.edit_core.specs.Deciding.{IsDeed, IsRuled, reason_of}
 use Rattle.edit_core.specs.Refusing.{IsRefusedSo}
 use Rattle.edit_core.specs.declared.deciding.Ruling.{Ruling}

@@ -1,8 +1,8 @@
 use Rattle.std.proofs.Common.{sym, ◌∙◌, subst}
 use Rattle.script_text.specs.declared.answer.Reason.TheVariants.{WasLinked}
 use Rattle.script_text.specs.declared.command.Act.TheVariants.{Remove}
-use Rattle.edit_model.specs.Lawful.{IsRefusedFor, command}
-use Rattle.edit_model.specs.Names.{source_when}
+use Rattle.graph_edits.specs.Lawful.{IsRefusedFor, command}
+use Rattle.graph_edits.specs.Names.{source_when}
 use Rattle.edit_core.specs.Deciding.{IsDeed, IsRuledAnyhow}
 use Rattle.edit_core.specs.declared.deciding.Ruling.{Ruling}
 use Rattle.edit_core.proofs.Decided.{refuse}

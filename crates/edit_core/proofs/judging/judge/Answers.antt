@@ -4,7 +4,7 @@ use Rattle.std.specs.Prelude.{slice_get}
 use Rattle.graph_core.specs.GraphPlan.{pad_id}
 use Rattle.graph_core.proofs.Orders.{few_pads}
 use Rattle.graph_edits.specs.Graph.{made}
-use Rattle.edit_model.specs.Names.{source_when}
+use Rattle.graph_edits.specs.Names.{source_when}
 use Rattle.net_edits.specs.Nets.{NoneHas}
 use Rattle.net_edits.specs.Seeing.{SeesPad}
 use Rattle.task_edits.specs.Seeing.{SeenAt}

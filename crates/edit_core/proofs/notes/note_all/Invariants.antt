@@ -1,6 +1,6 @@
 use Rattle.std.proofs.Common.{take}
-use Rattle.net_model.specs.Moment.{Moment}
-use Rattle.edit_model.specs.Edited.{Edited}
+use Rattle.flow_model.specs.Moment.{Moment}
+use Rattle.graph_edits.specs.Edited.{Edited}
 use Rattle.edit_core.specs.Notes.{IsCurrent}
 use Rattle.edit_core.proofs.Passing.{AreNotedIn}
 use Rattle.edit_core.proofs.notes.note_all.Given as goal

@@ -1,7 +1,7 @@
 use Rattle.std.proofs.Common.{◌≡◌, true, false, sym, ◌∙◌, subst}
 use Rattle.el_settings.specs.Asked.{is_source}
 use Rattle.graph_core.specs.Elements.{has}
-use Rattle.edit_model.specs.Refused.{has_lanes}
+use Rattle.graph_edits.specs.Refused.{has_lanes}
 use Rattle.edit_core.specs.Notes.{IsNoted}
 use Rattle.edit_core.specs.declared.notes.Note.{Note}
 use Rattle.edit_core.proofs.Noting.{lanes_noted, plain_noted, source_noted}

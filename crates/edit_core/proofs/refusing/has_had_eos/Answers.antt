@@ -9,7 +9,7 @@ use Rattle.gst_value.proofs.Basics.{some_same}
 use Rattle.net_edits.specs.Nets.{NoneHas}
 use Rattle.pad_core.specs.Crossing.{has_ended}
 use Rattle.task_edits.specs.Seeing.{SeenAt}
-use Rattle.edit_model.specs.Edited.{is_ended}
+use Rattle.graph_edits.specs.Edited.{is_ended}
 use Rattle.edit_core.proofs.Lists.{no_some}
 use Rattle.edit_core.proofs.Standing.{few_at, source_there}
 use Rattle.edit_core.proofs.refusing.has_had_eos.Goals as goal

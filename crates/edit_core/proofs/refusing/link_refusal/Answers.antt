@@ -2,7 +2,7 @@ use Rattle.std.proofs.Common.{sym, ◌∙◌}
 use Rattle.graph_edits.proofs.Standing.{element_there}
 use Rattle.graph_edits.specs.Graph.{made}
 use Rattle.graph_pads.specs.declared.pad.Direction.TheVariants.{Source, Sink}
-use Rattle.edit_model.proofs.Ended.{ends_are_told}
+use Rattle.graph_edits.proofs.Ended.{ends_are_told}
 use Rattle.edit_core.proofs.Refusals.{denied}
 use Rattle.edit_core.proofs.refusing.link_refusal.Goals as goal
 

@@ -1,5 +1,5 @@
 use Rattle.std.proofs.Common.{◌≡◌, if◌then◌else◌, List, None, Option, length, vec_len, ap, arith, rules, ◌∙◌}
-use Rattle.edit_model.specs.Edited.{and_sink}
+use Rattle.graph_edits.specs.Edited.{and_sink}
 use Rattle.graph_pads.specs.Links.{sink_behind}
 use Rattle.graph_pads.specs.declared.pad.PadLink.{PadLink}
 use Rattle.graph_pads.specs.declared.pad.PadPlace.{PadPlace}

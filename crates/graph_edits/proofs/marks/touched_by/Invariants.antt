@@ -1,7 +1,7 @@
 use Rattle.std.proofs.Common.{◌≡◌, ℕ, take, vec_len}
 use Rattle.std.specs.List.{list_any}
 use Rattle.graph_order.specs.Marks.{is_marked}
-use Rattle.edit_model.specs.Edited.{touches}
+use Rattle.graph_edits.specs.Edited.{touches}
 use Rattle.graph_edits.proofs.marks.touched_by.Given as goal
 
 -- the elements that the links so far touch are marked

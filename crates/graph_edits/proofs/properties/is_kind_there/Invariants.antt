@@ -1,5 +1,5 @@
 use Rattle.std.proofs.Common.{◌≡◌, true, take}
-use Rattle.edit_model.specs.Names.{is_kind_there}
+use Rattle.graph_edits.specs.Names.{is_kind_there}
 use Rattle.graph_edits.proofs.properties.is_kind_there.Given as goal
 
 -- the kind is there with the properties so far

@@ -1,7 +1,7 @@
 use Rattle.std.proofs.Common.{◌≡◌, ◌≤◌, ◌<◌, ℕ, length}
 use Rattle.turn_order.specs.declared.order.Order.{Order}
 use Rattle.turn_order.specs.Turns.{IsAmong}
-use Rattle.net_model.specs.Moment.{Moment}
+use Rattle.flow_model.specs.Moment.{Moment}
 use Rattle.net_turns.specs.Net.{NetGoes, NetReady, NetStands}
 use Rattle.net_turns.specs.Rests.{AllFramed}
 use Rattle.net_turns.specs.Turns.{HasCome, net_left, steps_left}

@@ -1,5 +1,5 @@
 use Rattle.std.proofs.Common.{◌≡◌, ◌<◌, ◌≤◌, length}
-use Rattle.net_model.specs.Moment.{Moment}
+use Rattle.flow_model.specs.Moment.{Moment}
 use Rattle.net_turns.specs.Net.{NetReady, NetStands}
 use Rattle.net_turns.specs.Rests.{AllFramed, NetStepped}
 use Rattle.net_turns.specs.Turns.{AreTried, Burned, net_left}

@@ -1,7 +1,7 @@
 use Rattle.std.proofs.Common.{Some, refl, sym, ap, ◌∙◌, arith}
 use Rattle.std.proofs.Math.ListN.{drop_of_length-le}
 use Rattle.flow_model.specs.Item.{is_buffer}
-use Rattle.net_model.specs.Takes.{on_port}
+use Rattle.flow_model.specs.Takes.{on_port}
 use Rattle.task_pads.specs.Pads.{first_is_buffer}
 use Rattle.task_parts.proofs.FirstOut.{first_here, none_here}
 use Rattle.task_parts.proofs.gather.first_out_is_buffer.Goals as goal

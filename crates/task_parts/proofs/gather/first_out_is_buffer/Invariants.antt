@@ -1,5 +1,5 @@
 use Rattle.std.proofs.Common.{◌≡◌, drop}
-use Rattle.net_model.specs.Takes.{on_port}
+use Rattle.flow_model.specs.Takes.{on_port}
 use Rattle.task_parts.proofs.gather.first_out_is_buffer.Given as goal
 
 -- none of those before was for the port

@@ -1,5 +1,5 @@
 use Rattle.std.proofs.Common.{List, sym, ap, ◌∙◌, subst, ◌++◌, ◌∷◌, []}
-use Rattle.edit_model.specs.Edited.{added}
+use Rattle.graph_edits.specs.Edited.{added}
 use Rattle.edit_core.specs.Feeds.{AreKept}
 use Rattle.edit_core.specs.declared.feeds.Feed.{Feed}
 use Rattle.edit_core.proofs.Changes.{added_behind}

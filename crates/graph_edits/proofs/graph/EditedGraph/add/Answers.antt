@@ -1,7 +1,7 @@
 use Rattle.std.proofs.Common.{◌++◌, ◌∷◌, [], Bool, List, ap, arith, length, subst, sym, ◌∙◌}
 use Rattle.std.proofs.lemmas.List.{length-append}
 use Rattle.el_settings.specs.Asked.{makes_sinks}
-use Rattle.edit_model.specs.Lawful.{asked}
+use Rattle.graph_edits.specs.Lawful.{asked}
 use Rattle.gst_value.proofs.Results.{handed_on}
 use Rattle.graph_core.specs.Elements.{IsMade, IsUnmade, Made, made_in}
 use Rattle.graph_core.specs.declared.fault.BuildFault.TheVariants.{OutOfMemory}

@@ -1,6 +1,6 @@
 use Rattle.std.proofs.Common.{List, Bool, length, ap, ◌∙◌}
 use Rattle.std.specs.List.{list_any}
-use Rattle.edit_model.specs.Edited.{touches}
+use Rattle.graph_edits.specs.Edited.{touches}
 use Rattle.graph_core.specs.Graph.{made as made_in, links as links_in}
 use Rattle.graph_order.proofs.Reached.{none_marked}
 use Rattle.graph_order.specs.Marks.{is_marked}

@@ -1,6 +1,6 @@
 use Rattle.std.proofs.Common.{List, ℕ, None, ap, position, sym, ◌∙◌}
 use Rattle.std.specs.List.{range_with_len}
-use Rattle.edit_model.specs.Names.{element_named}
+use Rattle.graph_edits.specs.Names.{element_named}
 use Rattle.graph_pads.specs.Pads.{pad_count}
 use Rattle.graph_edits.proofs.Standing.{found_there, has_name, named_is}
 use Rattle.graph_edits.specs.Graph.{made}

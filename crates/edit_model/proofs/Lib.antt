@@ -1,9 +1,0 @@
-pub mod Laws
-pub mod Rows
-pub mod Grown
-pub mod Keeping
-pub mod Staying
-pub mod Following
-pub mod LinksStanding
-pub mod Ending
-pub mod Ended

@@ -1,6 +1,0 @@
-mod Left
-mod Acting
-mod Turns
-mod Scripting
-mod Whole
-mod Aside

@@ -1,4 +1,0 @@
-//! How a run of a script begins.
-#![tactic(auto)]
-
-pub mod start;

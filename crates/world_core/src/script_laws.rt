@@ -1,0 +1,27 @@
+//! What stays of a run of a script to its end. The function's contract is the law.
+ghost use Rattle.std.specs.Prelude.{◌≡◌, ℕ, List, All, true};
+ghost use Rattle.script_text.specs.declared.command.Command.{Command};
+ghost use Rattle.turn_order.specs.declared.order.Order.{Order};
+ghost use Rattle.turn_order.specs.declared.turns.Turns.{Turns};
+ghost use Rattle.turn_loop.specs.Turns.{HasEnded};
+ghost use Rattle.graph_edits.specs.Edited.{Edited};
+ghost use Rattle.edit_core.specs.Deciding.{names_its_pad};
+ghost use Rattle.edit_acts.specs.Scripted.{IsScripted};
+ghost use Rattle.world_core.specs.Running.{view_of};
+
+use crate::running::Running;
+use edit_acts::scripts::{acts_keep_scripts, turns_keep_scripts};
+use lane_core::{MemInlet, MemOutlet};
+use flow_model::{TaskElement, TaskSource};
+use turn_loop::TakesTurns;
+
+/// Where a run by turns has ended, and each command of its script that acts on a pad names one, its entries answer the first commands
+/// lawfully and no place that they name falls, where that was so at first.
+pub fn runs_keep_scripts<S: TaskSource, E: TaskElement>()
+    ensures { (order : Order) (start : ℕ) (was is : _) (next : Turns) (script : List Command) (first : Edited)
+        → HasEnded ⟦<Running<S, E, MemInlet, MemOutlet> as TakesTurns>⟧ order start was next is → All (λ c. names_its_pad c ≡ true) script
+        → IsScripted script first (view_of was) → IsScripted script first (view_of is) }
+{
+    acts_keep_scripts::<S, E, MemInlet, MemOutlet>();
+    turns_keep_scripts::<S, E, MemInlet, MemOutlet>();
+}
