@@ -11,11 +11,11 @@ use crate::relinking::relink;
 use crate::removing::{TakenOut, is_free, remove};
 use crate::unlinking::{unlink, unlink_eos};
 use edit_core::{Deed, Feeds};
+use flow_model::{TaskElement, TaskSource};
 use graph_core::PadPlace;
 use graph_edits::EditedGraph;
 use lane_core::{Inlet, Outlet};
 use net_edits::EditFault;
-use flow_model::{TaskElement, TaskSource};
 use net_task::Task;
 use std::alloc::Global;
 

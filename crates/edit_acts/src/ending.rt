@@ -7,10 +7,10 @@ ghost use Rattle.flow_model.specs.Moment.{Moment};
 ghost use Rattle.net_turns.specs.Net.{NetReady, NetStands};
 
 use crate::undoing::UndoRoom;
+use flow_model::{TaskElement, TaskSource};
 use lane_core::{Inlet, Outlet};
 use net_edits::{EditFault, end_inside, end_over};
 use net_groups::{SplitRoom, split_reserved};
-use flow_model::{TaskElement, TaskSource};
 use net_task::Task;
 use std::alloc::Global;
 

@@ -2,8 +2,8 @@
 ghost use Rattle.edit_acts.specs.Stepping.{FaultsKeepControl, StepsKeepControl, TrialFaultsKeepControl, TrialsKeepControl};
 
 use edit_core::laws::feeds_stay;
-use lane_core::{Inlet, Outlet};
 use flow_model::{TaskElement, TaskSource};
+use lane_core::{Inlet, Outlet};
 use net_turns::laws::steps_keep_net;
 
 /// Where one of the tasks was stepped control has the run at the moment to which it has gone on: with the same graph and the same feeders, while

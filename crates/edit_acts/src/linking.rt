@@ -9,12 +9,12 @@ ghost use Rattle.graph_edits.specs.Edited.{Edited};
 ghost use Rattle.edit_core.specs.Ways.{IsRun};
 ghost use Rattle.edit_acts.specs.Linking.{GoesOnLinked, HasRoomToLink, IsLinked, IsLinkedShort, MayLinkAt, opening_of};
 
+use flow_model::{TaskElement, TaskSource};
 use gst_item::Item;
 use gst_value::{List, OutOfMemory};
 use lane_core::{Inlet, Outlet};
 use net_edits::{link_opened, opening_items};
 use net_groups::{JoinRoom, join_reserved, room_to_join};
-use flow_model::{TaskElement, TaskSource};
 use net_task::Task;
 use net_turns::net::Stopped;
 use std::alloc::Global;

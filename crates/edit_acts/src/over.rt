@@ -1,8 +1,8 @@
 //! A source pad of a run is linked over a new lane.
 ghost use Rattle.edit_acts.specs.Over.{LinkingOverKeepsRun, RunsLinkOver};
 
-use lane_core::{Inlet, Outlet};
 use flow_model::{TaskElement, TaskSource};
+use lane_core::{Inlet, Outlet};
 
 /// In a run in which pads may be linked over a lane, a task has the source pad and another one the row of the sink pad, and what `link_over`
 /// asks of the moment and of the tasks is so.

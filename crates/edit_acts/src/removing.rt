@@ -10,11 +10,11 @@ ghost use Rattle.net_task.specs.Frame.{frame_of};
 ghost use Rattle.net_turns.specs.Net.{HasElement, NetReady, NetStands, Owns};
 ghost use Rattle.edit_acts.specs.Removed.{HasOther, IsFree, IsRemoved, IsShared, IsSourceOf, IsToRemove, TakesOut, UnlinkedIsAlone};
 
+use flow_model::{TaskElement, TaskSource};
 use graph_edits::EditedGraph;
 use lane_core::{Inlet, Outlet};
 use net_edits::take_task;
 use net_groups::is_sent_to;
-use flow_model::{TaskElement, TaskSource};
 use net_task::Task;
 use task_edits::has_element;
 use task_parts::{Head, Part};

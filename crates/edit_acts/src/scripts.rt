@@ -2,8 +2,8 @@
 ghost use Rattle.edit_acts.specs.Scripted.{ActsKeepScripts, TurnsKeepScripts};
 
 use crate::laws::{steps_keep_control, trials_keep_control};
-use lane_core::{Inlet, Outlet};
 use flow_model::{TaskElement, TaskSource};
+use lane_core::{Inlet, Outlet};
 
 /// Where the next command is answered the entries stay lawful, and no place that they name falls.
 pub fn acts_keep_scripts<

@@ -13,11 +13,11 @@ ghost use Rattle.flow_model.specs.Moment.{Moment};
 ghost use Rattle.net_turns.specs.Net.{NetReady, NetStands};
 ghost use Rattle.edit_acts.specs.Undoing.{HasRoomToUndo, IsRunWith, LeadsNoneInside, SplitsNot};
 
+use flow_model::{TaskElement, TaskSource};
 use gst_value::OutOfMemory;
 use lane_core::{Inlet, Outlet};
 use net_edits::unlink;
 use net_groups::{SplitRoom, room_to_split, split_reserved};
-use flow_model::{TaskElement, TaskSource};
 use net_task::Task;
 use std::alloc::Global;
 use task_edits::{Inside, inside_of};

@@ -14,12 +14,12 @@ ghost use Rattle.edit_acts.specs.Unlinked.{EndFails, IsEnded};
 use crate::ending::end;
 use crate::undoing::{room_to_undo, undo};
 use edit_core::Feeds;
+use flow_model::{TaskElement, TaskSource};
 use graph_core::PadPlace;
 use graph_edits::EditedGraph;
 use gst_value::OutOfMemory;
 use lane_core::{Inlet, Outlet};
 use net_edits::EditFault;
-use flow_model::{TaskElement, TaskSource};
 use net_task::Task;
 use std::alloc::Global;
 

@@ -9,12 +9,12 @@ ghost use Rattle.edit_core.specs.Notes.{IsCurrent, is_foreign};
 
 use crate::feeds::Feeds;
 use crate::notes::{Note, note_all, note_of};
+use flow_model::{TaskElement, TaskSource};
 use graph_core::PadPlace;
 use graph_edits::EditedGraph;
 use graph_pads::Direction;
 use gst_value::OutOfMemory;
 use lane_core::{Inlet, Outlet};
-use flow_model::{TaskElement, TaskSource};
 use net_task::Task;
 use std::alloc::Global;
 

@@ -6,12 +6,12 @@ ghost use Rattle.flow_model.specs.Moment.{Moment};
 ghost use Rattle.net_turns.specs.Net.{NetStands};
 ghost use Rattle.edit_core.specs.Judging.{AreFresh, IsVerdict, verdict_of};
 
+use flow_model::{TaskElement, TaskSource};
 use graph_core::PadPlace;
 use graph_edits::EditedGraph;
 use gst_value::OutOfMemory;
 use lane_core::{Inlet, Outlet};
 use net_edits::see_pad;
-use flow_model::{TaskElement, TaskSource};
 use net_task::Task;
 use script_text::{Command, When};
 use std::alloc::Global;

@@ -7,8 +7,8 @@ ghost use Rattle.edit_core.specs.Tasks.{StepsKeepTasks};
 ghost use Rattle.edit_core.specs.Trees.{TreesStand};
 ghost use Rattle.edit_core.specs.Ways.{FreeIsLoose, InnerPadsAreFirst, JoinsApart};
 
-use lane_core::{Inlet, Outlet};
 use flow_model::{TaskElement, TaskSource};
+use lane_core::{Inlet, Outlet};
 
 /// What stands behind an element inside of a task is a tree, where the element's first sink pad is free: each sink pad has one link at
 /// the most.

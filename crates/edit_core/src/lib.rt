@@ -14,4 +14,4 @@ pub use deciding::{Deed, Ruling, decide};
 pub use feeds::Feeds;
 pub use judging::{Verdict, judge};
 pub use refusing::{LinkReason, link_refusal};
-pub use whole::{stays_made, edited_is_eval, edited_is_whole};
+pub use whole::{edited_is_eval, edited_is_whole, stays_made};

@@ -10,12 +10,12 @@ ghost use Rattle.edit_core.specs.Notes.{AreNoted, AreNotedBefore, IsCurrent, IsN
 
 use crate::feeds::{Feeds, given_by};
 use el_settings::Settings;
+use flow_model::{TaskElement, TaskSource};
 use graph_core::PadPlace;
 use graph_edits::EditedGraph;
 use gst_value::OutOfMemory;
 use lane_core::{Inlet, Outlet};
 use net_edits::see_pad;
-use flow_model::{TaskElement, TaskSource};
 use net_task::Task;
 use std::alloc::Global;
 

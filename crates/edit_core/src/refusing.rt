@@ -10,13 +10,13 @@ ghost use Rattle.edit_core.specs.declared.feeds.Feeds.{Feeds as KeptFeeds};
 
 use crate::fed::is_fed_elsewhere;
 use crate::feeds::Feeds;
+use flow_model::{TaskElement, TaskSource};
 use graph_core::PadPlace;
 use graph_edits::EditedGraph;
 use graph_pads::Direction;
 use gst_value::OutOfMemory;
 use lane_core::{Inlet, Outlet};
 use net_edits::see_pad;
-use flow_model::{TaskElement, TaskSource};
 use net_task::Task;
 use std::alloc::Global;
 

@@ -4,10 +4,10 @@ ghost use Rattle.el_set.specs.Gives.{source_items};
 
 use el_set::{SinkElement, SourceElement, sink_of, source_of};
 use el_settings::{FileSinkSettings, FileSrcSettings, Settings};
+use flow_model::{TaskElement, TaskSource};
 use gst_outside::{MemSink, MemSource, Sink, Source};
 use gst_value::{List, Text};
 use lane_core::{Inlet, MemInlet, MemLanes, MemOutlet, Outlet, memory_lane};
-use flow_model::{TaskElement, TaskSource};
 use net_task::Task;
 use pad_core::Probe;
 use std::alloc::Global;

@@ -9,19 +9,23 @@ ghost use Rattle.flow_model.specs.Rule.{Response, owed_for};
 ghost use Rattle.flow_model.specs.Eval.{Plan, eval};
 ghost use Rattle.flow_model.specs.Account.{GoesForward, Each, Agrees, IsMember};
 
-pub mod fault;
-mod outputs;
 pub mod element;
+pub mod fault;
+pub mod moments;
+mod outputs;
 pub mod refusal;
 pub mod source;
-pub mod moments;
 
-pub use fault::{ElementFault, StreamKind};
-pub use outputs::{on_pad, put_out};
 pub use element::TaskElement;
+pub use fault::{ElementFault, StreamKind};
+pub use moments::{
+    acts_keep, elements_begin, ends_are_whole, eos_comes, faults_keep, moments_are_eval,
+    openings_stand, others_may_move, single_elements_owe, sources_owe, steps_keep,
+    tasks_come_together,
+};
+pub use outputs::{on_pad, put_out};
 pub use refusal::{Mismatch, Refusal, Refused, Unread, Why};
 pub use source::TaskSource;
-pub use moments::{openings_stand, elements_begin, moments_are_eval, ends_are_whole, others_may_move, faults_keep, tasks_come_together, steps_keep, acts_keep, eos_comes, single_elements_owe, sources_owe};
 
 /// What an element with one sink pad owes for a beginning of what it is given begins what it owes for the whole.
 #[tactic(auto, using(crate::proofs::Sections::owed_for_prefix))]

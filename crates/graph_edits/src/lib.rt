@@ -4,12 +4,16 @@
 mod changes;
 mod graph;
 mod marks;
+pub mod model;
 mod naming;
 mod properties;
 mod questions;
-pub mod model;
 
 pub use changes::Adding;
 pub use graph::EditedGraph;
 pub use graph_order::Linking;
-pub use model::{acts_are_edits, nothing_done, relink_splits, relink_rows, lawful_rows, falling_rows, loop_rows, feeder_rows, growth_joins, stays_kept, links_stay_exact, stays_lawful, one_more_entry, stays_open, ends_are_told};
+pub use model::{
+    acts_are_edits, ends_are_told, falling_rows, feeder_rows, growth_joins, lawful_rows,
+    links_stay_exact, loop_rows, nothing_done, one_more_entry, relink_rows, relink_splits,
+    stays_kept, stays_lawful, stays_open,
+};

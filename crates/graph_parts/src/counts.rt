@@ -3,8 +3,8 @@ ghost use Rattle.graph_parts.specs.Counts.{HeadCounted, IsCountOf, PadCounted, P
 ghost use Rattle.graph_parts.specs.Put.{Among, PutBack};
 
 use crate::placing::put_some;
-use lane_core::{Inlet, Outlet};
 use flow_model::{TaskElement, TaskSource};
+use lane_core::{Inlet, Outlet};
 use net_task::Task;
 use task_pads::Pad;
 use task_parts::{Head, Part};

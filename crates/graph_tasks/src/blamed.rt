@@ -2,9 +2,9 @@
 ghost use Rattle.graph_tasks.specs.Blamed.{CausesAreTold, FaultsAreBlamed};
 ghost use Rattle.graph_tasks.specs.Written.{AreStreams};
 
+use flow_model::{TaskElement, TaskSource};
 use gst_outside::Sink;
 use lane_core::{Inlet, Outlet};
-use flow_model::{TaskElement, TaskSource};
 use task_elements::StreamElement;
 
 /// The elements of a stream are such as the laws of files and of faults speak of.

@@ -2,9 +2,9 @@
 ghost use Rattle.graph_tasks.specs.Ended.{HistoriesAreEvaluated, EndsAreWhole, LiveHandEosOn, RunsStand};
 ghost use Rattle.graph_tasks.specs.Ended.{LooseAreQuiet, PadsAreLimited};
 
+use flow_model::{TaskElement, TaskSource};
 use gst_outside::Sink;
 use lane_core::{Inlet, Outlet};
-use flow_model::{TaskElement, TaskSource};
 use task_elements::StreamElement;
 
 /// At any moment of the run of a graph's tasks each of its elements stands, and took in order: for what it took it owes a beginning of

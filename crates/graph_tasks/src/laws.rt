@@ -3,8 +3,8 @@ ghost use Rattle.graph_tasks.specs.Plan.{ElementsAreThere};
 ghost use Rattle.graph_tasks.specs.Readied.{TasksAreReady};
 ghost use Rattle.graph_tasks.specs.Start.{TasksStart};
 
-use lane_core::{Inlet, Outlet};
 use flow_model::{TaskElement, TaskSource};
+use lane_core::{Inlet, Outlet};
 
 /// Where the run of a graph begins its tasks stand as a net.
 pub fn tasks_start<S: TaskSource, E: TaskElement, I: Inlet<Out = O>, O: Outlet<Lanes = I::Lanes>>()

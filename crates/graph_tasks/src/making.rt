@@ -9,9 +9,9 @@ ghost use Rattle.graph_tasks.specs.Wired.{number_in, source_in};
 
 use crate::taking::take_there;
 use crate::wired_task::{WiredHead, WiredPart, WiredTask};
+use flow_model::{TaskElement, TaskSource};
 use gst_value::OutOfMemory;
 use lane_core::{Inlet, Outlet};
-use flow_model::{TaskElement, TaskSource};
 use net_task::Task;
 use std::alloc::Global;
 use std::collections::VecDeque;

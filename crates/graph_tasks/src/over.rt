@@ -3,9 +3,9 @@
 ghost use Rattle.graph_tasks.specs.Over.{LinesTellOver, RunsTellOver};
 ghost use Rattle.graph_tasks.specs.Stalled.{TasksAreStuck};
 
+use flow_model::{TaskElement, TaskSource};
 use gst_outside::Sink;
 use lane_core::{Inlet, Outlet};
-use flow_model::{TaskElement, TaskSource};
 use net_turns::laws::{lines_end, steps_tell_over};
 use task_elements::StreamElement;
 

@@ -1,9 +1,9 @@
 //! Laws of the files of a graph's sinks.
 ghost use Rattle.graph_tasks.specs.Written.{TasksStandBehind, TasksStandWhole};
 
+use flow_model::{TaskElement, TaskSource};
 use gst_outside::Sink;
 use lane_core::{Inlet, Outlet};
-use flow_model::{TaskElement, TaskSource};
 use task_elements::StreamElement;
 
 /// At any moment of a graph's run the pads of its tasks counted what crossed them, and the file of each sink holds all that came

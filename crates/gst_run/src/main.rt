@@ -3,12 +3,12 @@
 #![tactic(auto)]
 
 use gst_outside::{HostClock, HostFiles, OpenGate, OutSink};
-use world_core::run::{self, Untaken};
 use read_ahead::AheadFiles;
 use std::alloc::Global;
 use std::io::ErrorKind;
 use std::process::ExitCode;
 use std::{env, io};
+use world_core::launch::{self, Untaken};
 
 /// Why the words could not be taken, by the error of the system.
 fn untaken(error: &io::Error) -> Untaken {
@@ -39,14 +39,14 @@ fn main(rt: HostRuntime) -> io::Result<ExitCode> {
     let words = match program_words(&rt, alloc) {
         Ok(words) => words,
         Err(untaken) => {
-            let outcome = run::refuse(alloc, untaken, &mut out);
+            let outcome = launch::refuse(alloc, untaken, &mut out);
             return Ok(ExitCode::from(outcome.status));
         }
     };
     let mut files = AheadFiles::new(HostFiles::new(rt.clone()?));
     let mut clock = HostClock::new(rt.clone()?);
     let gate = OpenGate;
-    let outcome = run::run(
+    let outcome = launch::run(
         &rt,
         alloc,
         words.as_slice(),

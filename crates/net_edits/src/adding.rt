@@ -11,8 +11,8 @@ ghost use Rattle.net_turns.specs.Net.{IsPlain, NetReady, NetStands, SendsInto};
 ghost use Rattle.net_turns.specs.Turns.{net_left};
 ghost use Rattle.net_edits.specs.Adding.{CanTake, HoldsNothingNew, IsAdded, IsCut, IsFresh, IsOnly, NoneOwns, frozen};
 
-use lane_core::{Inlet, Outlet};
 use flow_model::{TaskElement, TaskSource};
+use lane_core::{Inlet, Outlet};
 use net_task::Task;
 
 /// A task of one element that took nothing, or of a source that gave nothing, and that no link touches, comes to the tasks of a

@@ -12,10 +12,10 @@ ghost use Rattle.net_edits.specs.Inside.{CanLinkIn, FedAll, FedShort, HasBoth, I
 ghost use Rattle.net_edits.specs.Nets.{NoneHas};
 
 use crate::net::find_task;
+use flow_model::{TaskElement, TaskSource};
 use gst_item::{Event, Item};
 use gst_value::{List, OutOfMemory};
 use lane_core::{Inlet, Outlet};
-use flow_model::{TaskElement, TaskSource};
 use net_task::Task;
 use net_turns::net::Stopped;
 use std::alloc::Global;

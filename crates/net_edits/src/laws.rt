@@ -1,8 +1,8 @@
 //! Laws of nets to whose table a lane is added. Each function does nothing: its contract is the law.
 ghost use Rattle.net_edits.specs.NewLanes.{LaneIsNew, LaneMoreReady, LaneMoreStands};
 
-use lane_core::{Inlet, Outlet};
 use flow_model::{TaskElement, TaskSource};
+use lane_core::{Inlet, Outlet};
 
 /// Tasks that stand do so with a lane more, which none of them uses.
 pub fn lane_more_stands<

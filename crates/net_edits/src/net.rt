@@ -6,8 +6,8 @@ ghost use Rattle.net_turns.specs.Net.{NetReady, NetStands};
 ghost use Rattle.net_turns.specs.Turns.{net_left};
 ghost use Rattle.net_edits.specs.Nets.{IsFirstOf, IsProbed, IsProbedAt, IsUnlinked, IsUnlinkedAt, NoneHas, TaskHas};
 
-use lane_core::{Inlet, Outlet};
 use flow_model::{TaskElement, TaskSource};
+use lane_core::{Inlet, Outlet};
 use net_task::Task;
 use pad_core::Probe;
 use task_edits::has_pad;

@@ -15,11 +15,11 @@ ghost use Rattle.net_edits.specs.Nets.{TaskHas};
 ghost use Rattle.net_edits.specs.Over.{AreEnds, AreKept, CannotJoin, FeedsPad, HasRoomAt, HasRoomOver, HasRowOf, HeadExchanged, InletsExchanged, InletsFeed, IsExchangedAt, IsGrownAt, IsLedAt, IsLinkedOver, IsNewLane, NoneFeeds, NoneSends, OpensNow, TaskExchanged, TaskFeeds, eos_given, opened_by, opening_in, when_ok};
 
 use crate::net::{find_task, unlink_at};
+use flow_model::{TaskElement, TaskSource};
 use gst_item::{Event, Item};
 use gst_value::{List, OutOfMemory};
 use inlet_row::InletRow;
 use lane_core::{Inlet, Outlet};
-use flow_model::{TaskElement, TaskSource};
 use net_task::Task;
 use std::alloc::Global;
 use std::collections::VecDeque;

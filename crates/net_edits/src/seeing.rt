@@ -6,8 +6,8 @@ ghost use Rattle.net_edits.specs.Nets.{NoneHas};
 ghost use Rattle.net_edits.specs.Seeing.{SeesPad, fresh_pad};
 ghost use Rattle.task_edits.specs.Seeing.{SeenAt};
 
-use lane_core::{Inlet, Outlet};
 use flow_model::{TaskElement, TaskSource};
+use lane_core::{Inlet, Outlet};
 use net_task::Task;
 use task_edits::SeenPad;
 

@@ -3,8 +3,8 @@ ghost use Rattle.std.specs.Prelude.{◌≡◌, ◌≢◌, ◌<◌, ◌≤◌, �
 ghost use Rattle.task_pads.specs.Behind.{goes, inside};
 ghost use Rattle.net_groups.specs.Behind.{FlaggedAt, FlaggedLeads, HasFlag, HasFlagAt, IsLed, IsNext, LeadFlagged, LeadTo, NoneIsNext, NoneSet, OtherAt, TellBehind, flagged, unflagged};
 
-use lane_core::Outlet;
 use flow_model::TaskElement;
+use lane_core::Outlet;
 use std::collections::VecDeque;
 use task_pads::{Behind, Pad};
 use task_parts::Part;

@@ -4,8 +4,8 @@ ghost use Rattle.task_pads.specs.Behind.{goes, over};
 ghost use Rattle.net_task.specs.Frame.{frame_of};
 ghost use Rattle.net_groups.specs.Lanes.{HeadSends, LeadOver, PartSends, Sends, SendsAt, SendsToHead};
 
-use lane_core::{Inlet, Outlet};
 use flow_model::{TaskElement, TaskSource};
+use lane_core::{Inlet, Outlet};
 use net_task::Task;
 use task_pads::{Behind, Pad};
 use task_parts::{Head, Part};

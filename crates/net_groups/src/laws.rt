@@ -1,8 +1,8 @@
 //! Laws of what speaks against a split and against a join.
 ghost use Rattle.net_groups.specs.Told.{TreesSplit, UnfedJoin};
 
-use lane_core::{Inlet, Outlet};
 use flow_model::{TaskElement, TaskSource};
+use lane_core::{Inlet, Outlet};
 
 /// Where what is behind an element is a tree, a task that has it is split, unless what its head names is behind it.
 pub fn trees_split<S: TaskSource, E: TaskElement, I: Inlet<Out = O>, O: Outlet<Lanes = I::Lanes>>()

@@ -3,8 +3,8 @@ ghost use Rattle.std.specs.Prelude.{◌≡◌, ◌<◌, true, false, None, IfSom
 ghost use Rattle.net_task.specs.Frame.{frame_of};
 ghost use Rattle.net_groups.specs.Places.{FedAt, FeedsIt, HasNoPad, HasPad, IsOfHead, IsPartOf, PadOf, PartHas, PartIs, PortIs};
 
-use lane_core::{Inlet, Outlet};
 use flow_model::{TaskElement, TaskSource};
+use lane_core::{Inlet, Outlet};
 use net_task::Task;
 use task_pads::Pad;
 use task_parts::{Head, Part};

@@ -4,8 +4,8 @@ ghost use Rattle.net_task.specs.Frame.{frame_of};
 ghost use Rattle.net_groups.specs.Places.{FedAt, FeedsIt, HasPad, IsPartOf, PadOf, PartIs};
 
 use crate::places::{feeds, has_pad, has_part};
-use lane_core::{Inlet, Outlet};
 use flow_model::{TaskElement, TaskSource};
+use lane_core::{Inlet, Outlet};
 use net_task::Task;
 
 /// How many elements there are at the most in a task of which that of a number is one.

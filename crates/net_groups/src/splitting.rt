@@ -10,10 +10,10 @@ ghost use Rattle.net_groups.specs.Splits.{AreParting, CanPart, CanPartAt, Cannot
 use crate::behind::{behind, deal, flagged_lead, has_flag, leads_flagged, others_lead};
 use crate::places::find_part;
 use crate::sizes::most_beside;
+use flow_model::{TaskElement, TaskSource};
 use gst_value::OutOfMemory;
 use inlet_row::InletRow;
 use lane_core::{Inlet, Outlet};
-use flow_model::{TaskElement, TaskSource};
 use net_task::Task;
 use std::alloc::Global;
 use task_parts::{Head, InletHead, Part};

@@ -4,8 +4,8 @@ ghost use Rattle.task_parts.specs.Idle.{idle_before};
 ghost use Rattle.task_parts.specs.Shape.{is_closed, shape_of};
 
 use crate::answers::{step_of, with_next};
-use lane_core::{Inlet, Outlet};
 use flow_model::{TaskElement, TaskSource};
+use lane_core::{Inlet, Outlet};
 use std::alloc::Global;
 use task_parts::{
     Failure, Head, Part, Step, Tried, cross_part, cross_source, first_busy, give, sent, settle,

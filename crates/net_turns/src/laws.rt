@@ -3,8 +3,8 @@ ghost use Rattle.net_turns.specs.Alone.{LanesStay};
 ghost use Rattle.net_turns.specs.Ends.{LinesEnd, StepsTellOver};
 ghost use Rattle.net_turns.specs.Turns.{StepsKeepNet};
 
-use lane_core::{Inlet, Outlet};
 use flow_model::{TaskElement, TaskSource};
+use lane_core::{Inlet, Outlet};
 
 /// Where one of the tasks of a net was stepped, the net stands at a moment to which it has gone on: more has crossed the pads, and more was put
 /// out there.

@@ -7,8 +7,8 @@ ghost use Rattle.net_turns.specs.Net.{NetGoes, NetReady, NetStands};
 ghost use Rattle.net_turns.specs.Rests.{AllFramed, NetAdvanced, NetEnded, NetFaulted, has_moved as step_moved};
 ghost use Rattle.net_turns.specs.Turns.{AreTried, Burned, HasAdvanced, HasCome, HasMet, HasMetTrying, IsStepped, RunBy, net_left, steps_left, stop_of};
 
-use lane_core::{Inlet, Outlet};
 use flow_model::{TaskElement, TaskSource};
+use lane_core::{Inlet, Outlet};
 use net_task::Task;
 use std::alloc::Global;
 use task_parts::{Failure, Step};

@@ -1,11 +1,11 @@
 use gst_outside::{MemFiles, MemSink, OpenGate, StepClock};
 use gst_value::{List, Text};
-use world_core::run::run;
 use std::alloc::Global;
 use std::process::Abort;
 use std::sync::Wait;
 use std::test::Fail;
 use std::thread::Threads;
+use world_core::launch::run;
 
 /// A call with these words, between which bars stand, over files in memory: `a` has the content and `e` none, and `b`
 /// and `d` can be written. The calls with these numbers fail. The status and the text are what it has to give, and the

@@ -1,10 +1,10 @@
 //! Rows of elements with several sink pads, which are fed as they want.
 use crate::denoting_tests::{items_by, settings_by, tell_item};
 use crate::el_settings_tests::holds;
+use flow_model::TaskElement;
 use gst_item::{Item, Outs};
 use gst_outside::MemSink;
 use gst_value::{List, Text};
-use flow_model::TaskElement;
 use std::alloc::Global;
 use std::collections::VecDeque;
 use std::test::Fail;

@@ -5,11 +5,11 @@ use el_set::source_of;
 use el_settings::{
     CapsFilterSettings, FileSinkSettings, FileSrcSettings, MadePads, QueueSettings, Settings,
 };
+use flow_model::{TaskElement, TaskSource, Why};
 use gst_item::Outs;
 use gst_outside::{MemSink, MemSource, Sink, Source};
 use gst_value::{List, Text};
 use item_letters::{item_of, letter_of, letters_of};
-use flow_model::{TaskElement, TaskSource, Why};
 use std::alloc::Global;
 use std::test::Fail;
 use task_elements::*;

@@ -11,10 +11,10 @@ ghost use Rattle.task_edits.specs.Inside.{HasNoRow};
 ghost use Rattle.task_parts.specs.Shape.{has_number, part_shape};
 
 use crate::places::find_element;
+use flow_model::{Refused, TaskElement, TaskSource};
 use gst_item::Item;
 use gst_value::List;
 use lane_core::{Inlet, Outlet};
-use flow_model::{Refused, TaskElement, TaskSource};
 use net_task::Task;
 use std::alloc::Global;
 use std::collections::VecDeque;

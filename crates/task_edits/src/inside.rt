@@ -12,8 +12,8 @@ ghost use Rattle.task_parts.specs.Shape.{has_number, part_shape};
 
 use crate::leading::lead_in;
 use crate::places::{PadAt, find};
-use lane_core::{Inlet, Outlet};
 use flow_model::{TaskElement, TaskSource};
+use lane_core::{Inlet, Outlet};
 use net_task::Task;
 use task_pads::{Behind, Pad};
 use task_parts::Head;

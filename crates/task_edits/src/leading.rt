@@ -12,8 +12,8 @@ ghost use Rattle.task_edits.specs.Places.{first_pad};
 ghost use Rattle.task_pads.specs.declared.pad.Behind.TheVariants.{Nothing};
 
 use crate::places::{PadAt, find};
-use lane_core::{Inlet, Outlet};
 use flow_model::{TaskElement, TaskSource};
+use lane_core::{Inlet, Outlet};
 use net_task::Task;
 use task_pads::{Behind, Pad};
 use task_parts::{Head, Part};

@@ -4,10 +4,10 @@ ghost use Rattle.task_edits.specs.Openings.{HeadOpens, IsOpening, IsSource, Open
 ghost use Rattle.task_edits.specs.Places.{HasPad};
 
 use crate::places::{PadAt, find};
+use flow_model::{TaskElement, TaskSource};
 use gst_item::Event;
 use gst_value::{List, OutOfMemory};
 use lane_core::{Inlet, Outlet};
-use flow_model::{TaskElement, TaskSource};
 use net_task::Task;
 use std::alloc::Global;
 use task_pads::Pad;

@@ -4,8 +4,8 @@ ghost use Rattle.task_edits.specs.Places.{FirstAt, FirstPart, FirstPort, HasNoPa
 ghost use Rattle.task_parts.specs.Found.{IsAt};
 ghost use Rattle.task_parts.specs.Shape.{has_number, part_shape};
 
-use lane_core::{Inlet, Outlet};
 use flow_model::{TaskElement, TaskSource};
+use lane_core::{Inlet, Outlet};
 use net_task::Task;
 use task_pads::Pad;
 use task_parts::{Head, Part};

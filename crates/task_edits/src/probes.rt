@@ -7,8 +7,8 @@ ghost use Rattle.net_task.specs.Ties.{Ties};
 ghost use Rattle.task_edits.specs.Changes.{Changed, HeadChanged, PartChanged, ProbedBy};
 
 use crate::places::{PadAt, find};
-use lane_core::{Inlet, Outlet};
 use flow_model::{TaskElement, TaskSource};
+use lane_core::{Inlet, Outlet};
 use net_task::Task;
 use pad_core::Probe;
 use task_parts::{Head, Part};

@@ -9,8 +9,8 @@ ghost use Rattle.task_edits.specs.Places.{HasNoPad};
 ghost use Rattle.task_edits.specs.Seeing.{HasCounted, HeadSeen, IsSeen, SeenAt};
 
 use crate::places::{PadAt, find};
-use lane_core::{Inlet, Outlet};
 use flow_model::{TaskElement, TaskSource};
+use lane_core::{Inlet, Outlet};
 use net_task::Task;
 use task_pads::Pad;
 use task_parts::{Head, Part};

@@ -9,10 +9,10 @@ ghost use Rattle.task_edits.specs.Places.{HasPad};
 ghost use Rattle.task_edits.specs.Stickies.{AreStickiesOf, HeadStickies, with_sticky};
 
 use crate::places::{PadAt, find};
+use flow_model::{TaskElement, TaskSource};
 use gst_item::{Event, Item};
 use gst_value::{List, OutOfMemory};
 use lane_core::{Inlet, Outlet};
-use flow_model::{TaskElement, TaskSource};
 use net_task::Task;
 use std::alloc::Global;
 use std::collections::VecDeque;

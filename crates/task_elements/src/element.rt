@@ -16,9 +16,9 @@ use crate::filter::StreamFilter;
 use crate::join::StreamJoin;
 use el_basic::{Identity, Tee};
 use el_set::SinkElement;
+use flow_model::{Refused, TaskElement};
 use gst_item::{Item, Outs};
 use gst_outside::Sink;
-use flow_model::{Refused, TaskElement};
 use std::alloc::Global;
 
 /// An element with sink pads, by its role in a stream. It is fed and asked through `TaskElement`.

@@ -4,8 +4,8 @@ ghost use Rattle.flow_model.specs.Item.{is_flush_stop};
 ghost use Rattle.task_elements.specs.Ruled.{IsRuled};
 
 use el_set::FilterElement;
-use gst_item::{Item, Outs};
 use flow_model::Refused;
+use gst_item::{Item, Outs};
 use std::alloc::Global;
 
 /// An element with one sink pad and one source pad, both of number 0, that stands for some rule. So it puts out no

@@ -6,9 +6,8 @@ ghost use Rattle.flow_model.specs.declared.refusal.Refusal.TheVariants.{Fault};
 ghost use Rattle.task_elements.specs.Ruled.{IsJoined};
 
 use el_set::JoinElement;
-use flow_model::ElementFault;
+use flow_model::{ElementFault, Refused};
 use gst_item::{Item, Outs};
-use flow_model::Refused;
 use std::alloc::Global;
 
 /// An element with several sink pads and one source pad, of number 0, that stands for some lists. So it may take an item on the

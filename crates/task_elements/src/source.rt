@@ -5,9 +5,9 @@ ghost use Rattle.task_elements.specs.Owes.{Owes, answer_of};
 
 use el_set::SourceElement;
 use el_src::{Next, SrcFault};
+use flow_model::{TaskSource, Unread};
 use gst_item::Item;
 use gst_outside::Source;
-use flow_model::{TaskSource, Unread};
 use std::alloc::Global;
 
 /// An element with one source pad and no sink pad.

@@ -2,10 +2,9 @@
 ghost use Rattle.std.specs.Prelude.{◌≡◌};
 
 use crate::find::MOST_ITEMS;
-use flow_model::StreamKind;
+use flow_model::{Mismatch, Refused, StreamKind, Unread, Why};
 use gst_caps::Caps;
 use gst_value::Fixed;
-use flow_model::{Mismatch, Refused, Unread, Why};
 use std::fmt;
 use std::fmt::{Debug, Display, Formatter, Write};
 use std::marker::Model;

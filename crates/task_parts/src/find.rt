@@ -6,8 +6,8 @@ ghost use Rattle.task_parts.specs.Idle.{idle_before};
 ghost use Rattle.task_parts.specs.Shape.{has_number, part_shape};
 
 use crate::part::Part;
-use lane_core::Outlet;
 use flow_model::TaskElement;
+use lane_core::Outlet;
 
 /// The most items that cross a pad, and that a source gives.
 pub(crate) const MOST_ITEMS: u64 = 1 << 40;

@@ -8,10 +8,10 @@ ghost use Rattle.task_parts.specs.declared.head.Given.TheVariants.{FlushStop as 
 ghost use Rattle.flow_model.specs.Item.{Item};
 
 use crate::find::MOST_ITEMS;
+use flow_model::{TaskSource, Unread};
 use gst_item::Item;
 use inlet_row::InletRow;
 use lane_core::{Inlet, Outlet};
-use flow_model::{TaskSource, Unread};
 use std::alloc::Global;
 use task_pads::{Behind, Pad};
 

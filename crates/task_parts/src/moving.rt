@@ -5,8 +5,8 @@ ghost use Rattle.task_parts.specs.Moved.{CanGive, HandedOn, HandedBack, HandedIn
 ghost use Rattle.task_parts.specs.Shape.{part_shape};
 
 use crate::part::Part;
-use lane_core::Outlet;
 use flow_model::{Refused, TaskElement};
+use lane_core::Outlet;
 use std::alloc::Global;
 use task_pads::Pad;
 

@@ -10,10 +10,10 @@ ghost use Rattle.flow_model.specs.Takes.{Takes};
 ghost use Rattle.task_parts.specs.Gathered.{are_within, pads_idle_below};
 
 use crate::gather::{first_out_is_buffer, first_waiting, gather, is_linked_else};
+use flow_model::{Refused, TaskElement};
 use gst_item::{Item, Outs};
 use gst_value::{List, OutOfMemory};
 use lane_core::Outlet;
-use flow_model::{Refused, TaskElement};
 use std::alloc::Global;
 use task_pads::{Behind, Crossing, Pad};
 

@@ -17,11 +17,11 @@ use crate::head::{Given, InletHead, SourceHead};
 use crate::moving::{hand_in, hand_on};
 use crate::part::Part;
 use crate::step::{Step, Tried};
+use flow_model::{TaskElement, TaskSource};
 use gst_item::Item;
 use gst_value::OutOfMemory;
 use inlet_row::{Answer, UNLINKED};
 use lane_core::{Inlet, Outlet};
-use flow_model::{TaskElement, TaskSource};
 use std::alloc::Global;
 use task_pads::Crossing;
 

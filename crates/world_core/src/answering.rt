@@ -9,10 +9,10 @@ use crate::running::{RunFault, Running};
 use edit_acts::{Outcome, TakenOut, do_deed};
 use edit_core::laws::deeds_are_answers;
 use edit_core::{Deed, Ruling, decide};
+use flow_model::{TaskElement, TaskSource};
 use gst_value::{List, OutOfMemory};
 use lane_core::{Inlet, Outlet};
 use net_edits::EditFault;
-use flow_model::{TaskElement, TaskSource};
 use script_text::{Answer, Entry, Place};
 use std::alloc::Global;
 

@@ -10,18 +10,18 @@ ghost use Rattle.world_core.specs.declared.launch.Untaken.TheVariants.{NotText};
 ghost use Rattle.world_core.specs.Headline.{HasGone, HasRun, IsReported, IsRun, IsUntouched, Wrote, WrotePart, is_quiet, world_end};
 
 use crate::outcome::{Outcome, report_text};
+use crate::{WorldEnd, run_turns};
+use flow_model::{TaskElement, TaskSource};
 use gst_outside::{Clock, Failed, Files, Sink, TaskGate};
 use gst_value::{List, OutOfMemory};
 use lane_core::{Inlet, MemInlet, MemOutlet, Outlet};
 use line_read::{Refusal, Request, read_commands, read_request};
-use flow_model::{TaskElement, TaskSource};
 use run_report::{Fault, Report, no_memory};
 use std::alloc::Global;
 use std::sync::Wait;
 use std::thread::Threads;
 use task_elements::{StreamElement, StreamSource};
 use turn_order::Order;
-use crate::{WorldEnd, run_turns};
 
 const BAD_WORDS: u8 = 1;
 

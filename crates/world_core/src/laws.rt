@@ -1,6 +1,7 @@
 //! What is known of the runs of graphs, for the proofs of runs.
 ghost use Rattle.world_core.specs.Laws.{Laws};
 
+use flow_model::{TaskElement, TaskSource};
 use graph_tasks::blamed::{causes_are_told, elements_are_streams, faults_are_blamed};
 use graph_tasks::ended::{
     ends_are_whole, histories_are_evaluated, loose_are_quiet, pads_are_limited, runs_stand,
@@ -9,7 +10,6 @@ use graph_tasks::over::{lines_tell_over, runs_tell_over, tasks_are_stuck};
 use graph_tasks::written::{tasks_stand_behind, tasks_stand_whole};
 use gst_outside::{Sink, Source};
 use lane_core::{Inlet, Outlet};
-use flow_model::{TaskElement, TaskSource};
 use net_turns::laws::lanes_stay;
 use task_elements::{StreamElement, StreamSource};
 

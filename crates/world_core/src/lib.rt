@@ -1,21 +1,21 @@
 //! Runs of whole launch lines by turns.
 #![tactic(auto)]
 
+mod able;
+mod answering;
 pub mod ended;
+pub mod launch;
 mod laws;
+pub mod outcome;
 mod pads;
 mod report;
 mod run;
-mod stall;
-mod able;
-mod answering;
-pub mod script_laws;
 pub mod running;
+pub mod script_laws;
+mod stall;
 pub mod start;
-pub mod outcome;
-pub mod launch;
 
 pub use ended::WorldEnd;
+pub use outcome::{Outcome, report_text};
 pub use run::run_turns;
 pub use running::{Ended, RunFault, Running};
-pub use outcome::{Outcome, report_text};

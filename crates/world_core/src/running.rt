@@ -2,10 +2,10 @@
 ghost use Rattle.std.specs.Prelude.{◌≡◌, ◌≤◌, OnOk, vec_len, vec_capacity};
 
 use edit_core::Feeds;
+use flow_model::{TaskElement, TaskSource};
 use graph_edits::EditedGraph;
 use gst_value::{List, OutOfMemory};
 use lane_core::{Inlet, MemInlet, MemOutlet, Outlet};
-use flow_model::{TaskElement, TaskSource};
 use net_task::Task;
 use net_turns::{Stopped, has_moved, step_at, try_each};
 use script_text::{Command, Entry};

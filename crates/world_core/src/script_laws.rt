@@ -11,8 +11,8 @@ ghost use Rattle.world_core.specs.Running.{view_of};
 
 use crate::running::Running;
 use edit_acts::scripts::{acts_keep_scripts, turns_keep_scripts};
-use lane_core::{MemInlet, MemOutlet};
 use flow_model::{TaskElement, TaskSource};
+use lane_core::{MemInlet, MemOutlet};
 use turn_loop::TakesTurns;
 
 /// Where a run by turns has ended, and each command of its script that acts on a pad names one, its entries answer the first commands

@@ -11,10 +11,10 @@ ghost use Rattle.world_core.specs.Stalled.{TellsTasks, lane_pad as lane_place, p
 ghost use Rattle.world_core.specs.Stopped.{step_over};
 
 use crate::pads::{lane_into, name_of, place_of, sink_named};
+use flow_model::{TaskElement, TaskSource};
 use graph_core::{Graph, PadPlace};
 use gst_value::{List, OutOfMemory};
 use lane_core::{Inlet, Outlet};
-use flow_model::{TaskElement, TaskSource};
 use net_task::Task;
 use run_report::{StallReason, StalledTask};
 use script_text::Place;
