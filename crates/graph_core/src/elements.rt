@@ -3,9 +3,11 @@ ghost use Rattle.std.specs.Prelude.{◌≡◌, ◌≤◌};
 ghost use Rattle.indexmap.specs.IndexMap.{index_map_len};
 
 use crate::element::{Element, NewElement, is_numbered, some_clash};
+use crate::ends::pad_name;
 use el_settings::{MadePads, Settings};
+use graph_pads::{Direction, Pad, PadPlace};
 use gst_caps::Caps;
-use gst_value::OutOfMemory;
+use gst_value::{OutOfMemory, PadName};
 use indexmap::IndexMap;
 use std::alloc::Global;
 
@@ -20,10 +22,12 @@ pub struct Elements {
 }
 
 impl Elements {
-    ghost use Rattle.std.specs.Prelude.{◌<◌, ◌++◌, ◌∷◌, [], length, OnOk, OnErr, slice_get, slice_set, position, Some, false};
+    ghost use Rattle.std.specs.Prelude.{◌<◌, ◌≤◌, ◌↔◌, ◌++◌, ◌∷◌, [], length, IfOk, IfSome, OnOk, OnErr, slice_get, slice_set, position, None, Some, false};
     ghost use Rattle.std.specs.Option.{option_map};
     ghost use Rattle.graph_core.specs.Allowed.{with_caps, with_made_pads};
     ghost use Rattle.graph_core.specs.Elements.{Made, all_made, made_in, numbered, is_named, is_name_taken, is_location_taken, limit};
+    ghost use Rattle.graph_core.specs.Ends.{pad_name, pads_at};
+    ghost use Rattle.graph_pads.specs.Pads.{pad_at};
 
     /// No elements.
     pub(crate) fn new(alloc: Global) -> Elements
@@ -72,6 +76,56 @@ impl Elements {
             Some((_, element)) => &element.settings,
             None => unreachable!(),
         }
+    }
+
+    /// How many source pads an element has; none where it is not there.
+    pub fn source_pads(&self, element: u32) -> u32
+        ensures { result ≡ pads_at (all_made self.now) Direction.Source element }
+    {
+        if element < self.count() {
+            self.settings(element).source_pads()
+        } else {
+            0
+        }
+    }
+
+    /// How many sink pads an element has; none where it is not there.
+    pub fn sink_pads(&self, element: u32) -> u32
+        ensures { result ≡ pads_at (all_made self.now) Direction.Sink element }
+    {
+        if element < self.count() {
+            self.settings(element).sink_pads()
+        } else {
+            0
+        }
+    }
+
+    /// The name of a source pad, where it is there.
+    pub fn source_name(
+        &self,
+        alloc: Global,
+        place: PadPlace,
+    ) -> Result<Option<PadName>, OutOfMemory>
+        ensures there { IfOk result (λ found. IfSome found (λ name. name ≡ pad_name (all_made self.now) (pad_at Direction.Source place.element place.pad))) }
+        ensures none { IfOk result (λ found. (found ≡ None) ↔ (pads_at (all_made self.now) Direction.Source place.element ≤ place.pad)) }
+    {
+        if place.pad >= self.source_pads(place.element) {
+            return Ok(None);
+        }
+        let direction = Direction::Source;
+        Ok(Some(pad_name(alloc, self, Pad { direction, place })?))
+    }
+
+    /// The name of a sink pad, where it is there.
+    pub fn sink_name(&self, alloc: Global, place: PadPlace) -> Result<Option<PadName>, OutOfMemory>
+        ensures there { IfOk result (λ found. IfSome found (λ name. name ≡ pad_name (all_made self.now) (pad_at Direction.Sink place.element place.pad))) }
+        ensures none { IfOk result (λ found. (found ≡ None) ↔ (pads_at (all_made self.now) Direction.Sink place.element ≤ place.pad)) }
+    {
+        if place.pad >= self.sink_pads(place.element) {
+            return Ok(None);
+        }
+        let direction = Direction::Sink;
+        Ok(Some(pad_name(alloc, self, Pad { direction, place })?))
     }
 
     /// From now on an element may put out these caps, if it is a converter. All other settings stay.

@@ -1,11 +1,10 @@
 //! The graph of a line.
 use crate::allowed::allowed_caps;
 use crate::elements::Elements;
-use crate::ends::pad_name;
 use crate::links::Links;
 use el_settings::Settings;
 use graph_order::Order;
-use graph_pads::{Direction, Pad, PadLink, PadPlace, sink_behind, source_before};
+use graph_pads::{Direction, PadLink, PadPlace, sink_behind, source_before};
 use gst_caps::Caps;
 use gst_value::{CapsFault, OutOfMemory, PadName};
 use std::alloc::Global;
@@ -32,6 +31,13 @@ impl Graph {
     ghost use Rattle.graph_pads.specs.Links.{sink_behind, source_before};
     ghost use Rattle.graph_core.specs.Live.{Live};
     ghost use Rattle.graph_core.specs.Graph.{made, links, forward, is_live, IsSound};
+
+    /// The elements.
+    pub fn elements(&self) -> &Elements
+        ensures { all_made result.now ≡ made self.now }
+    {
+        &self.elements
+    }
 
     /// How many elements there are.
     pub fn count(&self) -> u32
@@ -72,22 +78,14 @@ impl Graph {
     pub fn source_pads(&self, element: u32) -> u32
         ensures { result ≡ pads_at (made self.now) Direction.Source element }
     {
-        if element < self.count() {
-            self.elements.settings(element).source_pads()
-        } else {
-            0
-        }
+        self.elements.source_pads(element)
     }
 
     /// How many sink pads an element has; none where it is not there.
     pub fn sink_pads(&self, element: u32) -> u32
         ensures { result ≡ pads_at (made self.now) Direction.Sink element }
     {
-        if element < self.count() {
-            self.elements.settings(element).sink_pads()
-        } else {
-            0
-        }
+        self.elements.sink_pads(element)
     }
 
     /// The name of a source pad, where it is there.
@@ -99,11 +97,7 @@ impl Graph {
         ensures there { IfOk result (λ found. IfSome found (λ name. name ≡ pad_name (made self.now) (pad_at Direction.Source place.element place.pad))) }
         ensures none { IfOk result (λ found. (found ≡ None) ↔ (pads_at (made self.now) Direction.Source place.element ≤ place.pad)) }
     {
-        if place.pad >= self.source_pads(place.element) {
-            return Ok(None);
-        }
-        let direction = Direction::Source;
-        Ok(Some(pad_name(alloc, &self.elements, Pad { direction, place })?))
+        self.elements.source_name(alloc, place)
     }
 
     /// The name of a sink pad, where it is there.
@@ -111,11 +105,7 @@ impl Graph {
         ensures there { IfOk result (λ found. IfSome found (λ name. name ≡ pad_name (made self.now) (pad_at Direction.Sink place.element place.pad))) }
         ensures none { IfOk result (λ found. (found ≡ None) ↔ (pads_at (made self.now) Direction.Sink place.element ≤ place.pad)) }
     {
-        if place.pad >= self.sink_pads(place.element) {
-            return Ok(None);
-        }
-        let direction = Direction::Sink;
-        Ok(Some(pad_name(alloc, &self.elements, Pad { direction, place })?))
+        self.elements.sink_name(alloc, place)
     }
 
     /// The links, in the order of the line.

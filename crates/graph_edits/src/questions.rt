@@ -7,7 +7,7 @@ ghost use Rattle.graph_pads.specs.Links.{is_same};
 use crate::graph::EditedGraph;
 use crate::marks::is_marked;
 use el_settings::Settings;
-use graph_core::{PadLink, PadPlace, have_common, pad_name};
+use graph_core::{Elements, PadLink, PadPlace, have_common, pad_name};
 use graph_pads::{Direction, Pad, sink_behind, source_before};
 use gst_value::{OutOfMemory, PadName};
 use std::alloc::Global;
@@ -23,13 +23,20 @@ impl EditedGraph {
     ghost use Rattle.graph_edits.specs.Names.{element_named};
     ghost use Rattle.graph_edits.specs.Plans.{IsOrder};
     ghost use Rattle.graph_edits.specs.Refused.{IsTaken, Loops};
-    ghost use Rattle.graph_core.specs.Elements.{Made, limit};
+    ghost use Rattle.graph_core.specs.Elements.{Made, all_made, limit};
     ghost use Rattle.graph_core.specs.Ends.{pad_name};
     ghost use Rattle.graph_core.specs.GraphPlan.{most_pads, pad_id};
     ghost use Rattle.graph_core.specs.Links.{HaveCommon, caps_at};
     ghost use Rattle.graph_edits.specs.Graph.{IsEdited, IsPad, made};
     ghost use Rattle.graph_pads.specs.Links.{sink_behind, source_before};
     ghost use Rattle.graph_pads.specs.Pads.{pad_at};
+
+    /// All elements that ever were.
+    pub fn elements(&self) -> &Elements
+        ensures { all_made result.now ≡ made self.now }
+    {
+        &self.elements
+    }
 
     /// How many elements ever were.
     pub fn count(&self) -> u32

@@ -4,7 +4,7 @@ ghost use Rattle.std.specs.VecDeque.{deque_len};
 
 use crate::blank::{Blank, each_blank};
 use crate::parting::{Pair, pair_at};
-use graph_core::Graph;
+use graph_core::{Elements, Graph};
 use gst_outside::{Sink, Source};
 use gst_value::OutOfMemory;
 use run_files::End;
@@ -34,6 +34,7 @@ pub struct Filled<S, K> {
 
 impl<S: Source, K: Sink> Blanks<S, K> {
     ghost use Rattle.std.specs.Prelude.{IfOk};
+    ghost use Rattle.graph_core.specs.Elements.{all_made};
     ghost use Rattle.graph_core.specs.Graph.{made as made_in};
     ghost use Rattle.graph_parts.specs.Blanks.{AreBlanks, blanks_in};
     ghost use Rattle.graph_parts.specs.Filled.{AreFilled};
@@ -54,9 +55,9 @@ impl<S: Source, K: Sink> Blanks<S, K> {
 
     /// The elements of the graph, each with the file that it reads or writes, from the ends that stand under the numbers
     /// of elements. It takes no memory.
-    pub fn fill(self, graph: &Graph, ends: Vec<Option<End<S, K>>>) -> Filled<S, K>
-        requires blanks { AreBlanks (made_in graph.now) (blanks_in self) }
-        ensures { AreFilled S.Source K.Sink (made_in graph.now) ends.items result.elements.items result.sources.items result.left.items }
+    pub fn fill(self, made: &Elements, ends: Vec<Option<End<S, K>>>) -> Filled<S, K>
+        requires blanks { AreBlanks (all_made made.now) (blanks_in self) }
+        ensures { AreFilled S.Source K.Sink (all_made made.now) ends.items result.elements.items result.sources.items result.left.items }
     {
         let Blanks {
             mut blanks,
@@ -64,7 +65,7 @@ impl<S: Source, K: Sink> Blanks<S, K> {
             mut sources,
         } = self;
         let mut left = ends;
-        for number in 0..graph.count() {
+        for number in 0..made.count() {
             let Some(blank) = blanks.pop_front() else {
                 return Filled {
                     elements,
@@ -72,7 +73,7 @@ impl<S: Source, K: Sink> Blanks<S, K> {
                     left,
                 };
             };
-            let Pair { element, source } = pair_at(graph, number, blank, &mut left);
+            let Pair { element, source } = pair_at(made, number, blank, &mut left);
             elements.push_reserved(element);
             sources.push_reserved(source);
         }

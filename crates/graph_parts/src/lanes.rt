@@ -90,7 +90,7 @@ fn lane_room(graph: &Graph, number: u32) -> Option<u32>
 }
 
 /// How many items a lane into an element of these settings holds, where it is fed from inlets.
-fn room_by(settings: &Settings) -> Option<u32>
+pub fn room_by(settings: &Settings) -> Option<u32>
     ensures { result ≡ room_by settings.now }
 {
     if settings.makes_sinks() {

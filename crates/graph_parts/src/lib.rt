@@ -25,5 +25,5 @@ pub use bag::{Bag, BagElement, BagHead, BagLink, BagPad};
 pub use bags::{all_bags_of, bags_of};
 pub use blanks::{Blanks, Filled};
 pub use counts::{Count, count_pads};
-pub use lanes::{Lanes, lanes_of};
+pub use lanes::{Lanes, lanes_of, room_by};
 pub use openings::openings_of;

@@ -2,7 +2,7 @@
 ghost use Rattle.std.specs.Prelude.{◌≡◌, ◌<◌, None, Some, false, length};
 ghost use Rattle.el_settings.specs.Asked.{is_filter as filter_test, is_queue as queue_test, makes_sinks as join_test, makes_sources as tee_test, title_of};
 ghost use Rattle.el_set.specs.Made.{IsFilterFor, IsJoinFor, file_for, read_for};
-ghost use Rattle.graph_core.specs.Graph.{made as made_in};
+ghost use Rattle.graph_core.specs.Elements.{all_made};
 ghost use Rattle.graph_parts.specs.Blanks.{BlankAt, IsBlankFor};
 ghost use Rattle.graph_parts.specs.Ends.{left_by, sink_end, source_end};
 ghost use Rattle.graph_parts.specs.Filled.{IsFilled, IsGiverFor, IsMadeFor, PairAt};
@@ -12,7 +12,7 @@ use crate::taking::{place_at, taken};
 use el_basic::Identity;
 use el_set::{FilterElement, JoinElement, sink_of, source_of, tee_of};
 use el_settings::Settings;
-use graph_core::Graph;
+use graph_core::Elements;
 use gst_outside::{Sink, Source};
 use gst_value::Text;
 use run_files::End;
@@ -43,21 +43,21 @@ pub struct Pair<S, K> {
 
 /// The element of a number, or its source, with its file from the ends; one that reads or writes none takes no end.
 pub(crate) fn pair_at<S: Source, K: Sink>(
-    graph: &Graph,
+    elements: &Elements,
     number: u32,
     blank: Blank,
     ends: &mut Vec<Option<End<S, K>>>,
 ) -> Pair<S, K>
-    requires within { number < length (made_in graph.now) }
-    requires blank { BlankAt (made_in graph.now) number blank }
-    ensures { PairAt S.Source K.Sink (made_in graph.now) number ends.old.items ends.new.items result.element result.source }
+    requires within { number < length (all_made elements.now) }
+    requires blank { BlankAt (all_made elements.now) number blank }
+    ensures { PairAt S.Source K.Sink (all_made elements.now) number ends.old.items ends.new.items result.element result.source }
 {
     let end = taken(ends, number);
     let Slot {
         element,
         source,
         left,
-    } = slot_of(graph.settings(number), number, blank, end);
+    } = slot_of(elements.settings(number), number, blank, end);
     place_at(ends, number, left);
     Pair { element, source }
 }

@@ -223,7 +223,7 @@ fn run_made<S: Source, K: Sink, I: Inlet<Out = O>, O: Outlet<Lanes = I::Lanes>>(
     let ran = run_all(alloc, &mut tasks, &mut steps, lanes, turns);
     count_pads(tasks.as_slice(), &mut pads);
     let stop = stop_in(alloc, graph, tasks.as_slice(), steps.as_slice(), ran);
-    take_back(graph, tasks, rest, &mut ends, &mut lengths);
+    take_back(graph.elements(), tasks, rest, &mut ends, &mut lengths);
     let told = told_end(alloc, graph, stop, pads.as_slice(), lengths.as_slice());
     match told {
         Ok(end) => Ran { end, ends },
@@ -269,7 +269,7 @@ fn run_opened<S: Source, K: Sink>(
         mut elements,
         mut sources,
         left,
-    } = blanks.fill(graph, ends);
+    } = blanks.fill(graph.elements(), ends);
     let tasks = plan.into_tasks(&mut elements, &mut sources);
     let begun = Begun {
         tasks,
