@@ -22,6 +22,7 @@ impl Graph {
     ghost use Rattle.std.specs.Prelude.{◌≡◌, ◌<◌, ◌≤◌, ◌↔◌, ℕ, None, Some, length, slice_get, position, IfOk, IfSome, IsTrue};
     ghost use Rattle.std.specs.Option.{option_map};
     ghost use Rattle.graph_order.specs.Forward.{IsForward, IsMember, GoForward, count_of, links_of};
+    ghost use Rattle.graph_order.specs.Marks.{is_marked};
     ghost use Rattle.gst_value.specs.Limit.{TooManyWhere};
     ghost use Rattle.graph_core.specs.Allowed.{Allows};
     ghost use Rattle.graph_core.specs.Elements.{Made, all_made, is_named, limit};
@@ -162,6 +163,13 @@ impl Graph {
         ensures live { IsSound self.now → IsTrue result ↔ Live (made self.now) (links self.now) element }
     {
         matches!(self.live.get(element as usize), Some(true))
+    }
+
+    /// Whether each element is live, by its number.
+    pub fn live_marks(&self) -> &[bool]
+        ensures { (element : ℕ) → is_marked result.now element ≡ is_live self.now element }
+    {
+        self.live.as_slice()
     }
 
     /// The elements, the links in the order of the line, and the order in which each of these goes forward.

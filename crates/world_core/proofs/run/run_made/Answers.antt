@@ -28,7 +28,7 @@ returns-in-Ok-clause-ended g c = λ before started some.
       room = c.requires.room;
       counted = rw (← c.as_slice.ensures.value) c.count_pads.ensures;
       wrote = c.take_back.ensures.lengths;
-      back = c.take_back.ensures.ends;
+      back = rw (← c.elements.ensures) c.take_back.ensures.ends;
       tells = told_by (made c.args.graph.now) c.in-Ok.end refl c.as_slice-4.ensures.value c.as_slice-5.ensures.value c.in-Ok.ensures.2;
     }) some
 
@@ -36,13 +36,13 @@ pub returns-in-Ok-clause-located : goal.returns-in-Ok-clause-located
 returns-in-Ok-clause-located g c = λ before started.
     made_located g.S.Source g.K.Sink (record { ports = λ x. refl; stands = λ x behavior took stands. stands; count = λ x. refl; gave = λ x owed given owes. owes })
     (λ x. refl) (λ x. refl) c.args.graph.now c.args.begun.tasks.items c.run_all-ran.new.tasks.items c.args.begun.rest.items c.args.begun.left.items
-    (g.O.Outlet.tells c.args.lanes.now) before started c.run_all-ran.ensures.frames c.run_all-ran.ensures.count c.take_back.new.ends.items c.take_back.ensures.ends
+    (g.O.Outlet.tells c.args.lanes.now) before started c.run_all-ran.ensures.frames c.run_all-ran.ensures.count c.take_back.new.ends.items (rw (← c.elements.ensures) c.take_back.ensures.ends)
 
 pub returns-clause-located : goal.returns-clause-located
 returns-clause-located g c = λ before started.
     made_located g.S.Source g.K.Sink (record { ports = λ x. refl; stands = λ x behavior took stands. stands; count = λ x. refl; gave = λ x owed given owes. owes })
     (λ x. refl) (λ x. refl) c.args.graph.now c.args.begun.tasks.items c.run_all-ran.new.tasks.items c.args.begun.rest.items c.args.begun.left.items
-    (g.O.Outlet.tells c.args.lanes.now) before started c.run_all-ran.ensures.frames c.run_all-ran.ensures.count c.take_back.new.ends.items c.take_back.ensures.ends
+    (g.O.Outlet.tells c.args.lanes.now) before started c.run_all-ran.ensures.frames c.run_all-ran.ensures.count c.take_back.new.ends.items (rw (← c.elements.ensures) c.take_back.ensures.ends)
 
 pub returns-in-Ok-clause-turned : goal.returns-in-Ok-clause-turned
 returns-in-Ok-clause-turned g c = λ before started some. record {
