@@ -1,5 +1,5 @@
 -- Which elements are live.
-use Rattle.std.specs.Prelude.{◌≡◌, ℕ, Bool, true, List, Some, slice_get}
+use Rattle.std.specs.Prelude.{◌≡◌, ◌<◌, ◌↔◌, ℕ, All, Bool, true, List, Some, length, slice_get}
 use Rattle.graph_order.specs.Links.{IsLink}
 use Rattle.graph_order.specs.Marks.{is_marked}
 use Rattle.el_settings.specs.Asked.{is_source as gives_by_itself}
@@ -22,3 +22,29 @@ AllLive made links marks = (e : ℕ) → is_marked marks e ≡ true → Live mad
 -- the marked elements are the live ones
 abbrev pub AreLive : List Made → List PadLink → List Bool → Type 0
 AreLive made links marks = AllLive made links marks × ((e : ℕ) → Live made links e → is_marked marks e ≡ true)
+
+-- ---- marks that spread over links
+
+-- an element that is marked, or to which links lead from one, over any number of links; one without a mark is passed over
+pub data Spreads (links : List PadLink) (marks : List Bool) : ℕ → Type 0 where
+  marked : (e : ℕ) → is_marked marks e ≡ true → Spreads links marks e
+  fed : (a b : ℕ) → Spreads links marks a → IsLink a b (ways links) → b < length marks → Spreads links marks b
+
+-- those elements are marked, and no others
+pub record IsSpread (links : List PadLink) (was is : List Bool) : Type 0 where
+  pub size : length is ≡ length was
+  pub marked : (e : ℕ) → (is_marked is e ≡ true) ↔ Spreads links was e
+
+-- some of those elements are marked, the first ones among them
+pub record IsSpreading (links : List PadLink) (was is : List Bool) : Type 0 where
+  pub size : length is ≡ length was
+  pub spreads : (e : ℕ) → is_marked is e ≡ true → Spreads links was e
+  pub stay : (e : ℕ) → is_marked was e ≡ true → is_marked is e ≡ true
+
+-- the link does not lead from a marked element to one whose mark is not set
+abbrev pub IsMarkedOn : PadLink → List Bool → Type 0
+IsMarkedOn link marks = is_marked marks link.source.element ≡ true → link.sink.element < length marks → is_marked marks link.sink.element ≡ true
+
+-- no link does
+abbrev pub IsClosedWithin : List PadLink → List Bool → Type 0
+IsClosedWithin links marks = All (λ link. IsMarkedOn link marks) links

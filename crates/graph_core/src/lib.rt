@@ -26,4 +26,5 @@ pub use graph::Graph;
 pub use graph_pads::{PadLink, PadPlace};
 pub use judging::have_common;
 pub use laws::{one_answer, pads_are_linked_once};
+pub use live::spread_marks;
 pub use making::new_element;

@@ -1,10 +1,10 @@
 //! Which elements are live.
-ghost use Rattle.std.specs.Prelude.{◌≡◌, ◌<◌, ℕ, All, true, false, length, map, IfOk, vec_len, List};
+ghost use Rattle.std.specs.Prelude.{◌≡◌, ◌<◌, All, Bool, true, false, length, map, IfOk, List};
 ghost use Rattle.graph_order.specs.Links.{IsLink};
-ghost use Rattle.graph_order.specs.Marks.{is_marked, unmarked, IsClosed};
-ghost use Rattle.graph_core.specs.Elements.{Made, all_made};
+ghost use Rattle.graph_order.specs.Marks.{is_marked, unmarked};
+ghost use Rattle.graph_core.specs.Elements.{all_made};
 ghost use Rattle.graph_core.specs.Links.{ways};
-ghost use Rattle.graph_core.specs.Live.{AllLive, AreLive, is_source};
+ghost use Rattle.graph_core.specs.Live.{AreLive, IsClosedWithin, IsMarkedOn, IsSpread, IsSpreading, is_source};
 ghost use Rattle.graph_pads.specs.declared.pad.PadLink.{PadLink as LinkOf};
 
 use crate::elements::Elements;
@@ -23,7 +23,7 @@ pub(crate) fn live_elements(
     ensures { IfOk result (λ live. AreLive (all_made elements.now) links.now live.items) }
 {
     let mut live = sources(alloc, elements)?;
-    while spread(&mut live, links) {}
+    spread_marks(&mut live, links);
     Ok(live)
 }
 
@@ -38,40 +38,52 @@ fn sources(alloc: Global, elements: &Elements) -> Result<Vec<bool>, OutOfMemory>
     Ok(live)
 }
 
+/// Marks each element to which links lead from a marked one, over any number of links. A mark is a place of the list;
+/// links to elements without one are passed over.
+pub fn spread_marks(marks: &mut Vec<bool>, links: &[PadLink])
+    ensures { IsSpread links.now marks.old.items marks.new.items }
+{
+    while spread(marks, links) {}
+}
+
 /// Goes once over the links, and marks what each leads to from a marked element. Whether that is anything new.
-fn spread(live: &mut Vec<bool>, links: &[PadLink]) -> bool
-    requires from { All (λ link. link.source.element < vec_len live.old) links.now }
-    requires to { All (λ link. link.sink.element < vec_len live.old) links.now }
-    ensures size { vec_len live.new ≡ vec_len live.old }
-    ensures live { (made : List Made) → AllLive made links.now live.old.items → AllLive made links.now live.new.items }
-    ensures stay { (e : ℕ) → is_marked live.old.items e ≡ true → is_marked live.new.items e ≡ true }
-    ensures closed { result ≡ false → IsClosed (ways links.now) live.new.items }
-    ensures fewer { result ≡ true → unmarked live.new.items < unmarked live.old.items }
+fn spread(marks: &mut Vec<bool>, links: &[PadLink]) -> bool
+    ensures spreads { (was : List Bool) → IsSpreading links.now was marks.old.items → IsSpreading links.now was marks.new.items }
+    ensures closed { result ≡ false → IsClosedWithin links.now marks.new.items }
+    ensures fewer { result ≡ true → unmarked marks.new.items < unmarked marks.old.items }
 {
     let mut is_new = false;
     for link in links {
-        is_new |= mark(live, *link);
+        is_new |= mark(marks, *link);
     }
     is_new
 }
 
 /// Marks what a link leads to from a marked element. Whether that is new.
-fn mark(live: &mut Vec<bool>, link: PadLink) -> bool
-    requires from { link.source.element < vec_len live.old }
-    requires to { link.sink.element < vec_len live.old }
-    ensures size { vec_len live.new ≡ vec_len live.old }
-    ensures live { (made : List Made) (links : List LinkOf) → IsLink link.source.element link.sink.element (ways links) → AllLive made links live.old.items
-        → AllLive made links live.new.items }
-    ensures stay { (e : ℕ) → is_marked live.old.items e ≡ true → is_marked live.new.items e ≡ true }
-    ensures same { result ≡ false → live.new.items ≡ live.old.items }
-    ensures closed { result ≡ false → is_marked live.old.items link.source.element ≡ true → is_marked live.old.items link.sink.element ≡ true }
-    ensures fewer { result ≡ true → unmarked live.new.items < unmarked live.old.items }
+fn mark(marks: &mut Vec<bool>, link: PadLink) -> bool
+    ensures spreads { (links : List LinkOf) (was : List Bool) → IsLink link.source.element link.sink.element (ways links)
+        → IsSpreading links was marks.old.items → IsSpreading links was marks.new.items }
+    ensures same { result ≡ false → marks.new.items ≡ marks.old.items }
+    ensures closed { result ≡ false → IsMarkedOn link marks.old.items }
+    ensures fewer { result ≡ true → unmarked marks.new.items < unmarked marks.old.items }
 {
-    let leads = live[link.source.element as usize];
-    let stands = live[link.sink.element as usize];
-    if !leads || stands {
+    let sink = link.sink.element;
+    if sink as usize >= marks.len() {
         return false;
     }
-    live[link.sink.element as usize] = true;
+    if !is_marked(marks, link.source.element) {
+        return false;
+    }
+    if is_marked(marks, sink) {
+        return false;
+    }
+    marks[sink as usize] = true;
     true
+}
+
+/// Whether an element is marked.
+fn is_marked(marks: &[bool], element: u32) -> bool
+    ensures { result ≡ is_marked marks.now element }
+{
+    matches!(marks.get(element as usize), Some(true))
 }

@@ -1,4 +1,4 @@
-use Rattle.std.proofs.Common.{◌≡◌, ◌∙◌, get_or, sym}
+use Rattle.std.proofs.Common.{◌≡◌, get_or, sym}
 use Rattle.graph_order.proofs.Reached.{get_or-irrelevant, same_more, fewer_more}
 use Rattle.graph_pads.specs.declared.pad.PadLink.{PadLink}
 use Rattle.graph_core.proofs.Marking.{is_way, closed_further}
@@ -13,10 +13,8 @@ loop-link-preserved c =
     let link : PadLink = get_or c.args.links.now c.loop-link.link-index nowhere in
     let here : link ≡ get_or c.args.links.now c.loop-link.link-index link = sym (get_or-irrelevant c.args.links.now c.loop-link.link-index link nowhere within) in
     record {
-      size = one.size ∙ now.size;
-      live = λ made h. one.live made c.args.links.now (is_way c.args.links.now c.loop-link.link-index link within here) (now.live made h);
-      stay = λ e m. one.stay e (now.stay e m);
-      same = same_more c.loop-link.is_new c.mark-is_new.result c.args.live.now.items c.loop-link.live.items c.mark-is_new.new.live.items now.same one.same;
-      closed = closed_further c.loop-link.is_new c.mark-is_new.result c.args.links.now c.loop-link.link-index link c.loop-link.live.items c.mark-is_new.new.live.items within here now.closed one.same one.closed;
-      fewer = fewer_more c.loop-link.is_new c.mark-is_new.result c.args.live.now.items c.loop-link.live.items c.mark-is_new.new.live.items now.same now.fewer one.same one.fewer;
+      spreads = λ was h. one.spreads c.args.links.now was (is_way c.args.links.now c.loop-link.link-index link within here) (now.spreads was h);
+      same = same_more c.loop-link.is_new c.mark-is_new.result c.args.marks.now.items c.loop-link.marks.items c.mark-is_new.new.marks.items now.same one.same;
+      closed = closed_further c.loop-link.is_new c.mark-is_new.result c.args.links.now c.loop-link.link-index link c.loop-link.marks.items c.mark-is_new.new.marks.items within here now.closed one.same one.closed;
+      fewer = fewer_more c.loop-link.is_new c.mark-is_new.result c.args.marks.now.items c.loop-link.marks.items c.mark-is_new.new.marks.items now.same now.fewer one.same one.fewer;
     }
