@@ -9,3 +9,4 @@ pub mod Following
 pub mod LinksStanding
 pub mod Ending
 pub mod Ended
+pub mod LiveElements

@@ -5,6 +5,7 @@ pub mod Plans
 pub mod Refused
 pub mod Names
 pub mod Lawful
+pub mod Live
 pub mod Opening
 pub mod Growing
 pub mod Laws

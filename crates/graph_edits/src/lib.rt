@@ -3,6 +3,7 @@
 
 mod changes;
 mod graph;
+mod live;
 mod marks;
 pub mod model;
 mod naming;
