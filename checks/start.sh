@@ -1,10 +1,12 @@
 # What a start of gst_run and gst_try needs. To be sourced by sh, with the script's name in `name`, and the folder of this repository in `top`.
 #
-# A built program lies in out/ beside the scripts: out/NAME, and beside it NAME.of, a checksum of the sources that it was built from,
-# and NAME.seen, a list of these files and their folders. NAME.seen bears the time at which the sources were last found to be those of
-# NAME.of. A start looks whether one of these files or folders was changed since (written, replaced, added, removed: all of that changes the
-# time at which the file's entry or its folder was changed, whatever time the file itself bears). Only then the checksum is made anew
+# A built program lies in out/ beside the scripts: out/NAME, and beside it NAME.of, a checksum of the sources that it was built from, and
+# the names of these files and of their folders, in three lists NAME.seen.1 to NAME.seen.3. A list bears the time at which the sources were last
+# found to be those of NAME.of. A start looks whether one of these files or folders was changed since (written, replaced, added, removed: all of that
+# changes the time at which the file's entry or its folder was changed, whatever time the file itself bears). Only then the checksum is made anew
 # (checks/building.sh). An older find, which reads no list of names, says so, and then it is made at each start.
+#
+# To ask for the times of some 4,000 names is nearly all that a start costs, so three processes do it side by side.
 
 say() { printf '%s: %s\n' "$name" "$*" >&2; }
 
@@ -38,9 +40,21 @@ usage() {
 	END
 }
 
-# Whether there is a program, and nothing was changed since its sources were last looked at. (A time that is still to come says nothing.)
+# Looks through the lists, in the folder of this repository. Prints of each list the first name that was changed since, or why it can't be looked
+# through. Where nothing is printed and the status is 0, each list was looked through to its end, and none was changed.
+look() {
+	looking=
+	for part in 1 2 3; do
+		list=out/$name.seen.$part
+		# (a time that is still to come says nothing)
+		[ -s "$list" ] && ! [ "$list" -nt /proc/self ] || return
+		LC_ALL=C find -files0-from "$list" -maxdepth 0 -cnewer "$list" -print -quit &
+		looking="$looking $!"
+	done
+	for part in $looking; do wait "$part" || return; done
+}
+
+# Whether there is a program, and nothing was changed since its sources were last looked at.
 is_unchanged() {
-	seen=out/$name.seen
-	[ -x "$top/out/$name" ] && [ -f "$top/out/$name.of" ] && [ -s "$top/$seen" ] && ! [ "$top/$seen" -nt /proc/self ] &&
-		[ -z "$(CDPATH='' cd -- "${top:-/}" && exec find -files0-from "$seen" -maxdepth 0 -cnewer "$seen" -print -quit 2>&1)" ]
+	[ -x "$top/out/$name" ] && [ -f "$top/out/$name.of" ] && changed=$({ CDPATH='' cd -- "${top:-/}" && look; } 2>&1) && [ -z "$changed" ]
 }
