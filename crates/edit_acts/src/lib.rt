@@ -10,6 +10,7 @@ pub mod over;
 pub mod relinking;
 pub mod removing;
 pub mod scripts;
+pub mod sent;
 pub mod undoing;
 pub mod unlinking;
 

@@ -7,16 +7,17 @@ ghost use Rattle.world_core.specs.Turned.{RanByTurns};
 ghost use Rattle.world_core.specs.World.{IsBuilt, IsUnwritten};
 ghost use Rattle.run_report.specs.declared.report.Fault.TheVariants as faults;
 ghost use Rattle.world_core.specs.declared.launch.Untaken.TheVariants.{NotText};
-ghost use Rattle.world_core.specs.Headline.{HasGone, HasRun, IsReported, IsRun, IsUntouched, Wrote, WrotePart, is_quiet, world_end};
+ghost use Rattle.world_core.specs.Headline.{EndsBy, HasGone, HasRun, IsReported, IsRun, IsUntouched, Wrote, WrotePart, is_quiet, world_end};
 
 use crate::outcome::{Outcome, report_text};
-use crate::{WorldEnd, run_turns};
+use crate::{WorldEnd, run_script, run_turns};
 use flow_model::{TaskElement, TaskSource};
 use gst_outside::{Clock, Failed, Files, Sink, TaskGate};
 use gst_value::{List, OutOfMemory};
 use lane_core::{Inlet, MemInlet, MemOutlet, Outlet};
 use line_read::{Refusal, Request, read_commands, read_request};
 use run_report::{Fault, Report, no_memory};
+use script_text::Command;
 use std::alloc::Global;
 use std::sync::Wait;
 use std::thread::Threads;
@@ -54,6 +55,30 @@ fn not_begun(alloc: Global, refusal: Refusal) -> WorldEnd
     }
 }
 
+/// Runs the line of a request by turns that are drawn from its order, as these commands edit it.
+fn run_commands<F: Files>(
+    alloc: Global,
+    request: Request,
+    commands: List<Command>,
+    files: &mut F,
+) -> WorldEnd
+    requires built { IsBuilt request.graph }
+    ensures ended { result.status ≢ 13 → EndsBy request.graph commands (F.seen files.old) (F.seen files.new) result }
+    ensures turned { result.status ≢ 13 → result.status ≢ 6 → commands ≡ []
+        → RanByTurns ⟦<StreamSource<F::Src> as TaskSource>⟧ ⟦<StreamElement<F::Snk> as TaskElement>⟧ ⟦<MemInlet as Inlet>⟧ ⟦<MemOutlet as Outlet>⟧
+        F.Src.Source F.Snk.Sink request.graph (orders.Drawn request.order) (F.seen files.old) result }
+    ensures status { result.status ≢ 14 }
+    ensures given_back { (F.seen files.old).ends < 2 ^ 63 → (F.seen files.new).ends ≡ (F.seen files.old).ends }
+    ensures inputs { (l : List ℕ) → (F.seen files.new).input l ≡ (F.seen files.old).input l }
+    ensures others { (l : List ℕ) → IsUnwritten request.graph l → (F.seen files.new).output l ≡ (F.seen files.old).output l }
+{
+    let order = Order::Drawn(request.order);
+    if commands.as_slice().is_empty() {
+        return run_turns(alloc, request.graph, files, order);
+    }
+    run_script(alloc, request.graph, commands, files, order)
+}
+
 /// Reads the script of a request and runs its line, by turns that are drawn from the order of the words.
 fn run_request<F: Files>(alloc: Global, request: Request, files: &mut F) -> WorldEnd
     requires built { IsBuilt request.graph }
@@ -67,7 +92,7 @@ fn run_request<F: Files>(alloc: Global, request: Request, files: &mut F) -> Worl
     ensures others { (l : List ℕ) → IsUnwritten request.graph l → (F.seen files.new).output l ≡ (F.seen files.old).output l }
 {
     match read_commands(alloc, &request, files) {
-        Ok(_none) => run_turns(alloc, request.graph, files, Order::Drawn(request.order)),
+        Ok(commands) => run_commands(alloc, request, commands, files),
         Err(refusal) => not_begun(alloc, refusal),
     }
 }

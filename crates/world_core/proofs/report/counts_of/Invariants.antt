@@ -1,7 +1,7 @@
 use Rattle.std.proofs.Common.{◌≡◌}
 use Rattle.std.specs.Prelude.{filter_map}
 use Rattle.std.specs.List.{range_with_len}
-use Rattle.graph_core.specs.Graph.{made}
+use Rattle.graph_core.specs.Elements.{all_made}
 use Rattle.world_core.specs.Told.{pad_told}
 use Rattle.world_core.proofs.report.counts_of.Given as goal
 

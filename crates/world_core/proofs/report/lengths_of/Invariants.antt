@@ -1,7 +1,7 @@
 use Rattle.std.proofs.Common.{◌≡◌}
 use Rattle.std.specs.Prelude.{filter_map}
 use Rattle.std.specs.List.{range_with_len}
-use Rattle.graph_core.specs.Graph.{made}
+use Rattle.graph_core.specs.Elements.{all_made}
 use Rattle.world_core.specs.Told.{sink_told}
 use Rattle.world_core.proofs.report.lengths_of.Given as goal
 

@@ -6,5 +6,5 @@ use Rattle.world_core.proofs.script_laws.runs_keep_scripts.Goals as goal
 
 pub returns : goal.returns
 returns g c = λ order start was is next script first over names w.
-    ended order start was next is over (λ run. IsScripted script first (view_of run)) (by_act script first c.acts_keep_scripts.ensures names) (by_turn script first c.turns_keep_scripts.ensures)
+    ended order start was next is over (λ run. IsScripted script first (view_of run)) (λ was is w acts. by_act script first c.acts_keep_scripts.ensures names was is w acts.0) (by_turn script first c.turns_keep_scripts.ensures)
     (by_trial script first c.turns_keep_scripts.ensures) w
