@@ -7,27 +7,17 @@ list() { find crates.txt crates crates/* -maxdepth 0 -print0 && find $roots -pri
 # Prints a checksum of the names and contents of all sources.
 sources() { find crates.txt $roots -type f -exec cksum {} + 2>/dev/null | LC_ALL=C sort | cksum; }
 
-# Writes these names into three lists of about one length, $1.1 to $1.3. In which list a name stands follows from the name alone: so each name stands in
-# one of the lists that a start reads, also where some of them were written anew meanwhile. (Where one list is empty, or grep knows no -z, there
-# are no lists, and the checksum is made at each start.)
-write_lists() {
-	list >"$1.all" && LC_ALL=C grep -z '^crates/[a-e]' "$1.all" >"$1.1" && LC_ALL=C grep -z '^crates/[f-l]' "$1.all" >"$1.2" &&
-		LC_ALL=C grep -zv '^crates/[a-l]' "$1.all" >"$1.3"
-}
-
 # Whether the program was built from the sources as they are, by their checksum. To be called in the folder of this repository.
 is_built() {
-	local new=out/$name.$$ status=1 are_listed='' part
+	local new=out/$name.$$ status=1 is_listed=''
 	[[ -x out/$name && -f out/$name.of ]] || return 1
 	# (the time is taken before the files are read, and long enough before)
-	[[ -w out ]] && : >"$new.now" && sleep 0.02 && write_lists "$new" && are_listed=yes
+	[[ -w out ]] && : >"$new.now" && sleep 0.02 && list >"$new.seen" && is_listed=yes
 	if [[ $(<"out/$name.of") == "$(sources)" ]]; then
 		status=0
-		if [[ $are_listed ]]; then
-			for part in 1 2 3; do touch -r "$new.now" "$new.$part" && mv -f "$new.$part" "out/$name.seen.$part"; done
-		fi
+		[[ $is_listed ]] && touch -r "$new.now" "$new.seen" && mv -f "$new.seen" "out/$name.seen"
 	fi
-	rm -f "$new.now" "$new.all" "$new".[123]
+	rm -f "$new.now" "$new.seen"
 	return $status
 }
 

@@ -1,12 +1,10 @@
 # What a start of gst_run and gst_try needs. To be sourced by sh, with the script's name in `name`, and the folder of this repository in `top`.
 #
 # A built program lies in out/ beside the scripts: out/NAME, and beside it NAME.of, a checksum of the sources that it was built from, and
-# the names of these files and of their folders, in three lists NAME.seen.1 to NAME.seen.3. A list bears the time at which the sources were last
-# found to be those of NAME.of. A start looks whether one of these files or folders was changed since (written, replaced, added, removed: all of that
-# changes the time at which the file's entry or its folder was changed, whatever time the file itself bears). Only then the checksum is made anew
+# the names of these files and of their folders, in a list NAME.seen. The list bears the time at which the sources were last found to be those of
+# NAME.of. A start looks whether one of these files or folders was changed since (written, replaced, added, removed: all of that changes the
+# time at which the file's entry or its folder was changed, whatever time the file itself bears). Only then the checksum is made anew
 # (checks/building.sh). An older find, which reads no list of names, says so, and then it is made at each start.
-#
-# To ask for the times of some 4,000 names is nearly all that a start costs, so three processes do it side by side.
 
 say() { printf '%s: %s\n' "$name" "$*" >&2; }
 
@@ -40,18 +38,13 @@ usage() {
 	END
 }
 
-# Looks through the lists, in the folder of this repository. Prints of each list the first name that was changed since, or why it can't be looked
-# through. Where nothing is printed and the status is 0, each list was looked through to its end, and none was changed.
+# Prints the first name of the list that was changed since, or why the list can't be looked through, in the folder of this repository. Where nothing
+# is printed and the status is 0, the list was looked through to its end, and nothing was changed.
 look() {
-	looking=
-	for part in 1 2 3; do
-		list=out/$name.seen.$part
-		# (a time that is still to come says nothing)
-		[ -s "$list" ] && ! [ "$list" -nt /proc/self ] || return
-		LC_ALL=C find -files0-from "$list" -maxdepth 0 -cnewer "$list" -print -quit &
-		looking="$looking $!"
-	done
-	for part in $looking; do wait "$part" || return; done
+	list=out/$name.seen
+	# (a time that is still to come says nothing)
+	[ -s "$list" ] && ! [ "$list" -nt /proc/self ] || return
+	LC_ALL=C find -files0-from "$list" -maxdepth 0 -cnewer "$list" -print -quit
 }
 
 # Whether there is a program, and nothing was changed since its sources were last looked at.
