@@ -29,7 +29,8 @@ usage() {
 
 	  --quiet           print the status and a fault, and no counts
 	  --order N         the number from which the order of the tasks' turns is drawn (0 without it)
-	  --script FILE     a script of commands, of which no act can be done yet
+	  --script FILE     a script, a command a line: at PAD N or now PAD, and then relink SINKPAD, unlink or unlink eos;
+	                    at PAD N or now, and then remove ELEMENT. No other act can be done yet
 	  --threads on|off  both run by turns on one thread today
 
 	The exit status is the status that is printed, 0 to 15; 125 where there is no program to run. README.md tells the kinds of

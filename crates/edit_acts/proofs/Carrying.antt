@@ -50,7 +50,7 @@ module _ {S E I O L : Type 0} {s : sources.Ghosts S} {e : elements.Ghosts E} {i 
     pub same : done ≡ false → tasks' ≡ mid
 
   -- The tasks stay ready where no pad leads over a lane to the sink pad yet.
-  over_ready : (mid tasks' : List (Task S E I O L s e i o)) (tells : Option (List Lane)) (pad : ℕ) (to : NewLink I O) (opening : Opening) (done : Bool) → NetReady mid tells → IsNewLane tells mid to → NoneSends mid to.element to.pad
+  pub over_ready : (mid tasks' : List (Task S E I O L s e i o)) (tells : Option (List Lane)) (pad : ℕ) (to : NewLink I O) (opening : Opening) (done : Bool) → NetReady mid tells → IsNewLane tells mid to → NoneSends mid to.element to.pad
       → ToldOver done mid tasks' pad to opening → NetReady tasks' tells
   over_ready mid tasks' tells pad to opening false ready new none told = subst (λ (ts : List (Task S E I O L s e i o)). NetReady ts tells) (sym (told.same refl)) ready
   over_ready mid tasks' tells pad to opening true ready new none told = told.ready refl tells ready new none
@@ -68,7 +68,7 @@ module _ {S E I O L : Type 0} {s : sources.Ghosts S} {e : elements.Ghosts E} {i 
       )
 
   module _ (graph : EditedGraph) (feeds : Feeds) (tasks : List (Task S E I O L s e i o)) (g : Edited) (m : Moment) (tells : Option (List Lane)) (source sink : PadPlace) (items : ℕ) (w : IsToRelink graph feeds tasks g m tells source sink items true) where
-    module _ (mid tasks' : List (Task S E I O L s e i o)) (to : NewLink I O) (opening : Opening) (done : Bool) where
+    module _ (mid : List (Task S E I O L s e i o)) (to : NewLink I O) where
       can_over : IsRun (unlinked_at source items false g) (unlinked (pad_id source) m) mid tells → LeadsTo to sink → CanLinkOver (unlinked (pad_id source) m) mid (pad_id source) to
       can_over run leads =
           let there = pads graph feeds tasks g m tells source sink items w in
@@ -76,13 +76,18 @@ module _ {S E I O L : Type 0} {s : sources.Ghosts S} {e : elements.Ghosts E} {i 
           let ahead = is_ahead (unlinked_at source items false g) (unlinked (pad_id source) m) source sink there (owner graph feeds tasks g m tells source sink items w) in
           runs_link_over (unlinked_at source items false g) (unlinked (pad_id source) m) mid tells source sink to run may ahead leads
 
+      -- No pad leads over a lane to the sink pad then.
+      pub none_over : (pad : ℕ) → pad ≡ pad_id source → IsRun (unlinked_at source items false g) (unlinked pad m) mid tells → LeadsTo to sink → NoneSends mid to.element to.pad
+      none_over pad number run leads = (can_over (subst (λ (p : ℕ). IsRun (unlinked_at source items false g) (unlinked p m) mid tells) number run) leads).none_sends
+
+    module _ (mid tasks' : List (Task S E I O L s e i o)) (to : NewLink I O) (opening : Opening) (done : Bool) where
       run_over : IsRun (unlinked_at source items false g) (unlinked (pad_id source) m) mid tells → LeadsTo to sink → IsNewLane tells mid to → OpensNow m (pad_id source) opening → ToldOver done mid tasks' (pad_id source) to opening
           → (done ≡ true) × IsRun (relinked_at source items sink g) (relinked_over source sink m) tasks' tells
       run_over run leads new opens told =
           let there = pads graph feeds tasks g m tells source sink items w in
           let may = may_link_over (unlinked_at source items false g) source sink there w.lanes in
           let ran =
-          over_runs (unlinked_at source items false g) (unlinked (pad_id source) m) mid tasks' tells source sink to opening done run may (can_over run leads) leads new
+          over_runs (unlinked_at source items false g) (unlinked (pad_id source) m) mid tasks' tells source sink to opening done run may (can_over mid to run leads) leads new
           (record { events = opens.events; from = opens.from }) told in
           (ran.0, subst (λ (n : ℕ). IsRun (linked_at source n sink (unlinked_at source items false g)) (relinked_over source sink m) tasks' tells) (sym (items_is graph feeds tasks g m tells source sink items w)) ran.1)
 
@@ -92,11 +97,6 @@ module _ {S E I O L : Type 0} {s : sources.Ghosts S} {e : elements.Ghosts E} {i 
       runs_over pad number run leads new opens told =
           run_over (subst (λ (p : ℕ). IsRun (unlinked_at source items false g) (unlinked p m) mid tells) number run) leads new (subst (λ (p : ℕ). OpensNow m p opening) number opens)
           (subst (λ (p : ℕ). ToldOver done mid tasks' p to opening) number told)
-
-      -- The tasks stay ready.
-      pub ready_over : (pad : ℕ) → pad ≡ pad_id source → IsRun (unlinked_at source items false g) (unlinked pad m) mid tells → LeadsTo to sink → IsNewLane tells mid to → NetReady mid tells → ToldOver done mid tasks' pad to opening → NetReady tasks' tells
-      ready_over pad number run leads new ready told =
-          over_ready mid tasks' tells pad to opening done ready new (can_over (subst (λ (p : ℕ). IsRun (unlinked_at source items false g) (unlinked p m) mid tells) number run) leads).none_sends told
 
     -- the tasks with the pads are found
     pub can_join : (pad : ℕ) → pad ≡ pad_id source → CannotJoin tasks pad sink.element sink.pad → ⊥

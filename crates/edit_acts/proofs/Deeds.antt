@@ -46,10 +46,14 @@ use Rattle.edit_acts.specs.Removed.{IsRemoved, IsToRemove}
 use Rattle.edit_acts.specs.declared.removing.TakenOut.{TakenOut}
 use Rattle.edit_acts.specs.Unlinked.{EndFails, IsEnded}
 use Rattle.edit_acts.specs.Relinked.{IsRelinked, IsToRelink, RelinkFails, relinked, relinked_over}
-use Rattle.edit_acts.specs.Deeds.{DeedFails, IsDone, IsDue, TakesNone, WasDone, outcome_of}
+use Rattle.edit_acts.specs.Deeds.{DeedFails, IsDone, IsDue, StaysUndone, TakesNone, WasDone, outcome_of}
 use Rattle.edit_acts.specs.declared.doing.Outcome.{Outcome}
 use Rattle.edit_acts.proofs.Gone.{was_there}
 use Rattle.edit_acts.proofs.StillOwed.{fed_owes, frozen_owes}
+
+pub nothing_asked : {A E : Type 0} (r : Result A E) → IfOk r (λ _. Unit {0})
+nothing_asked (Ok a) = tt
+nothing_asked (Err e) = tt
 
 -- the element of a pad that is named is one of those that were made
 named_low : (direction : Direction) (g : Edited) (name : PadName) (place : PadPlace) → pad_named direction g name ≡ Some place → place.element < length g.made
@@ -260,6 +264,11 @@ module _ {S E I O L : Type 0} {s : sources.Ghosts S} {e : elements.Ghosts E} {i 
   took_none (Ok false) = tt
   took_none (Err fault) = tt
 
+  stays : (r : Result Bool EditFault) → IfOk r (λ done. done ≡ false → (graph' ≡ graph) × (feeds' ≡ feeds) × (tasks' ≡ tasks)) → IfOk (outcome_of {s = s} {e = e} {i = i} {o = o} r) (StaysUndone graph feeds tasks graph' feeds' tasks')
+  stays (Ok true) told = tt
+  stays (Ok false) told = told refl
+  stays (Err fault) told = tt
+
   module _ (out : Result (Outcome S E I O L s e i o) EditFault) (r : Result Bool EditFault) (is : out ≡ outcome_of r) where
     pub done_told : IfOk r DoneWhere → IfOk out DidWhere
     done_told told = subst (λ (x : Result (Outcome S E I O L s e i o) EditFault). IfOk x DidWhere) (sym is) (did r told)
@@ -269,3 +278,6 @@ module _ {S E I O L : Type 0} {s : sources.Ghosts S} {e : elements.Ghosts E} {i 
 
     pub none_told : IfOk out TakesNone
     none_told = subst (λ (x : Result (Outcome S E I O L s e i o) EditFault). IfOk x TakesNone) (sym is) (took_none r)
+
+    pub stays_told : IfOk r (λ done. done ≡ false → (graph' ≡ graph) × (feeds' ≡ feeds) × (tasks' ≡ tasks)) → IfOk out (StaysUndone graph feeds tasks graph' feeds' tasks')
+    stays_told told = subst (λ (x : Result (Outcome S E I O L s e i o) EditFault). IfOk x (StaysUndone graph feeds tasks graph' feeds' tasks')) (sym is) (stays r told)

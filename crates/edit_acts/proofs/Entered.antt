@@ -182,6 +182,28 @@ next_of P (y ∷ xs) (suc n) x rest all e = next_of P xs n x rest (λ k d low. a
 -- ---- the law
 
 module _ {S E I O L : Type 0} {s : sources.Ghosts S} {e : elements.Ghosts E} {i : inlets.Ghosts I L O} {o : outlets.Ghosts O L} where
+  -- what is due to a pad that is named is owed by the moment
+  due_owed : (script : List Command) (first : Edited) (was : ScriptRun s e i o) (scripted : IsScripted script first was) (pad : PadName) (source : PadPlace) → pad_named Source scripted.g pad ≡ Some source
+      → scripted.due (pad_id source) ≡ owed_then scripted.m (pad_id source)
+  due_owed script first was scripted pad source named =
+      scripted.owes (pad_id source) (ap (is_there scripted.g) (scripted.has.pads.owned pad source named) ∙ named_there Source scripted.g pad source named)
+
+  -- the next command names its pad, where each does
+  pub named_next : (script : List Command) (first : Edited) (was : ScriptRun s e i o) (command : Command) (rest : List Command) → All (λ c. names_its_pad c ≡ true) script
+      → IsScripted script first was → was.commands ≡ command ∷ rest → names_its_pad command ≡ true
+  named_next script first was command rest named scripted next =
+      next_of (λ c. names_its_pad c ≡ true) script (length was.entries) command rest named (sym scripted.left ∙ next)
+
+  -- Where the next command is answered so, the entries with that one answer the first commands.
+  pub entered_more : (script : List Command) (first : Edited) (was : ScriptRun s e i o) (scripted : IsScripted script first was) (command : Command) (rest : List Command) (entry : Entry) (next : Edited)
+      → was.commands ≡ command ∷ rest → IsAnswered scripted.g scripted.m.history (owed_then scripted.m) command entry.answer next → IsExact scripted.g scripted.m command entry.answer
+      → AreAnswered scripted.m.history scripted.due first script (was.entries ++ entry ∷ []) next × NeverFall (was.entries ++ entry ∷ [])
+  entered_more script first was scripted command rest entry next left lawful exact = (
+    one_more_entry.answered scripted.m.history scripted.due first scripted.g next script rest command was.entries entry scripted.answered (sym scripted.left ∙ left)
+        (answered_so scripted.g scripted.m.history (owed_then scripted.m) scripted.due (due_owed script first was scripted) command entry.answer next lawful),
+    one_more_entry.falls_nowhere was.entries entry scripted.falls (falls scripted.g scripted.m command was.entries entry.answer next lawful exact scripted.passed),
+  )
+
   module _ (script : List Command) (first : Edited) (was is : ScriptRun s e i o) (named : All (λ c. names_its_pad c ≡ true) script) (scripted : IsScripted script first was) (acted : IsActed was is) where
     here : drop (length was.entries) script ≡ acted.command ∷ is.commands
     here = sym scripted.left ∙ acted.next
@@ -200,7 +222,7 @@ module _ {S E I O L : Type 0} {s : sources.Ghosts S} {e : elements.Ghosts E} {i 
               (one_more_entry.answered by.now.history due first scripted.g by.next script is.commands acted.command was.entries acted.entry
               (stays_lawful.entries scripted.m.history scripted.due by.now.history due first scripted.g script was.entries scripted.kept grows scripted.answered) here
               (stays_lawful.answer scripted.m.history scripted.due by.now.history due scripted.g by.next acted.command acted.entry.answer scripted.has.current.kept grows
-              (answered_so scripted.g scripted.m.history (owed_then scripted.m) scripted.due same_due acted.command acted.entry.answer by.next by.lawful)));
+              (answered_so scripted.g scripted.m.history (owed_then scripted.m) scripted.due (due_owed script first was scripted) acted.command acted.entry.answer by.next by.lawful)));
           left = sym (ap (λ (es : List Entry). drop (length es) script) acted.entered
               ∙ ap (λ (n : ℕ). drop n script) one_more
               ∙ drop_one_more script (length was.entries) acted.command is.commands here);
@@ -218,10 +240,6 @@ module _ {S E I O L : Type 0} {s : sources.Ghosts S} {e : elements.Ghosts E} {i 
 
         due : ℕ → List Item
         due = still_due by.next by.now.plan.owner scripted.due (owed_then by.now)
-
-        same_due : (pad : PadName) (source : PadPlace) → pad_named Source scripted.g pad ≡ Some source → scripted.due (pad_id source) ≡ owed_then scripted.m (pad_id source)
-        same_due pad source named =
-            scripted.owes (pad_id source) (ap (is_there scripted.g) (scripted.has.pads.owned pad source named) ∙ named_there Source scripted.g pad source named)
 
         more : (p : ℕ) → is_there by.next (by.now.plan.owner p) ≡ true → IsPrefix (scripted.due p) (owed_then by.now p)
         more p there =

@@ -42,9 +42,12 @@ mod Members
 mod StillOwed
 mod Deeds
 mod Passed
-mod Entered
+pub mod Entered
 mod Turning
 pub mod Due
+pub mod Files
 mod RowsMore
 mod Laned
 mod Carrying
+mod Sending
+mod ProbedPads

@@ -72,6 +72,19 @@ module _ {S E I O L : Type 0} {s : sources.Ghosts S} {e : elements.Ghosts E} {i 
   TakesFor tasks tasks' Add outcome = TakesNone outcome
   TakesFor tasks tasks' (Remove element) outcome = TakesFrom tasks tasks' element outcome
 
+  -- where a deed was not done all stays
+  abbrev pub StaysUndone : EditedGraph → Feeds → List (Task S E I O L s e i o) → EditedGraph → Feeds → List (Task S E I O L s e i o) → Outcome S E I O L s e i o → Type 0
+  StaysUndone graph feeds tasks graph' feeds' tasks' Done = Unit {0}
+  StaysUndone graph feeds tasks graph' feeds' tasks' (TakenOut taken) = Unit {0}
+  StaysUndone graph feeds tasks graph' feeds' tasks' Undone = (graph' ≡ graph) × (feeds' ≡ feeds) × (tasks' ≡ tasks)
+
+  -- So it is with each deed that makes no link. Where a pad can't be linked elsewhere the link that it had may be undone.
+  abbrev pub StaysFor : EditedGraph → Feeds → List (Task S E I O L s e i o) → EditedGraph → Feeds → List (Task S E I O L s e i o) → Deed → Outcome S E I O L s e i o → Type 0
+  StaysFor graph feeds tasks graph' feeds' tasks' (Relink source sink) outcome = Unit {0}
+  StaysFor graph feeds tasks graph' feeds' tasks' (Unlink source sink eos) outcome = StaysUndone graph feeds tasks graph' feeds' tasks' outcome
+  StaysFor graph feeds tasks graph' feeds' tasks' Add outcome = StaysUndone graph feeds tasks graph' feeds' tasks' outcome
+  StaysFor graph feeds tasks graph' feeds' tasks' (Remove element) outcome = StaysUndone graph feeds tasks graph' feeds' tasks' outcome
+
   -- It was done: control has the run of the graph that it makes. Nothing crossed a pad in that, and what was owed to a pad still is, where its element
   -- is there behind it.
   pub record IsDone (graph : EditedGraph) (feeds : Feeds) (tasks : List (Task S E I O L s e i o)) (g : Edited) (m : Moment) (tells : Option (List Lane)) (deed : Deed) (items : ℕ) : Type 0 where

@@ -7,5 +7,8 @@ pub mod Relinked
 pub mod Stepping
 pub mod Unlinked
 pub mod Removed
+pub mod Files
 pub mod Deeds
 pub mod Scripted
+pub mod Sent
+pub mod Probed

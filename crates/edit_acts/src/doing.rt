@@ -1,11 +1,13 @@
 //! What control does for a command.
-ghost use Rattle.std.specs.Prelude.{◌≡◌, ℕ, true, IfOk, IfErr};
+ghost use Rattle.std.specs.Prelude.{◌≡◌, ◌++◌, ℕ, true, false, IfOk, IfErr, OnErr};
 ghost use Rattle.graph_edits.specs.Edited.{Edited};
+ghost use Rattle.graph_edits.specs.Graph.{made};
 ghost use Rattle.flow_model.specs.Moment.{Moment};
 ghost use Rattle.net_turns.specs.Net.{NetReady};
 ghost use Rattle.edit_core.specs.declared.deciding.Deed.TheVariants.{Remove, Unlink};
 ghost use Rattle.edit_core.specs.declared.feeds.Feeds.{Feeds as KeptFeeds};
-ghost use Rattle.edit_acts.specs.Deeds.{DeedFails, IsDone, IsDue, TakesFor, TakesFrom, WasDone, outcome_of};
+ghost use Rattle.edit_acts.specs.Deeds.{DeedFails, IsDone, IsDue, StaysFor, StaysUndone, TakesFor, TakesFrom, WasDone, outcome_of};
+ghost use Rattle.edit_acts.specs.Files.{KeepFiles, taken_by};
 
 use crate::relinking::relink;
 use crate::removing::{TakenOut, is_free, remove};
@@ -32,6 +34,9 @@ pub enum Outcome<S: TaskSource, E: TaskElement, I: Inlet<Out = O>, O: Outlet<Lan
 
 /// Does what a command asks for, where so many items have crossed its source pad. Tells what it came to; where it is to be done, and
 /// control can do it, it is.
+///
+/// The tasks, with the one that was taken out, have the elements and sources that they had, each with its file. Where a deed that makes no link
+/// was not done all stays; of a link that can't be made the one before it may be undone.
 pub fn do_deed<S: TaskSource, E: TaskElement, I: Inlet<Out = O>, O: Outlet<Lanes = I::Lanes>>(
     alloc: Global,
     graph: &mut EditedGraph,
@@ -45,6 +50,10 @@ pub fn do_deed<S: TaskSource, E: TaskElement, I: Inlet<Out = O>, O: Outlet<Lanes
     ensures taken { IfOk result (TakesFor tasks.old.items tasks.new.items deed) }
     ensures failed { IfErr result (DeedFails graph.old feeds.old tasks.old.items graph.new feeds.new tasks.new.items deed items) }
     ensures ready { (tells : _) → NetReady tasks.old.items tells → NetReady tasks.new.items tells }
+    ensures files { IfOk result (λ outcome. KeepFiles tasks.old.items (tasks.new.items ++ taken_by outcome)) }
+    ensures files_failed { OnErr result (KeepFiles tasks.old.items tasks.new.items) }
+    ensures made { made graph.new ≡ made graph.old }
+    ensures stays { IfOk result (StaysFor graph.old feeds.old tasks.old.items graph.new feeds.new tasks.new.items deed) }
 {
     match deed {
         Deed::Relink { source, sink } => told(relink(
@@ -82,6 +91,9 @@ fn take_away<S: TaskSource, E: TaskElement, I: Inlet<Out = O>, O: Outlet<Lanes =
         → WasDone result × IsDone graph.new feeds tasks.new.items g m tells (Remove element) items }
     ensures taken { TakesFrom tasks.old.items tasks.new.items element result }
     ensures ready { (tells : _) → NetReady tasks.old.items tells → NetReady tasks.new.items tells }
+    ensures files { KeepFiles tasks.old.items (tasks.new.items ++ taken_by result) }
+    ensures made { made graph.new ≡ made graph.old }
+    ensures stays { (feeds : KeptFeeds) → StaysUndone graph.old feeds tasks.old.items graph.new feeds tasks.new.items result }
 {
     if !is_free(tasks.as_slice(), element) {
         return Outcome::Undone;
@@ -109,6 +121,9 @@ fn undo_link<S: TaskSource, E: TaskElement, I: Inlet<Out = O>, O: Outlet<Lanes =
     ensures failed { IfErr result (DeedFails graph.old feeds.old tasks.old.items graph.new feeds.new tasks.new.items
         (Unlink source sink eos) items) }
     ensures ready { (tells : _) → NetReady tasks.old.items tells → NetReady tasks.new.items tells }
+    ensures files { KeepFiles tasks.old.items tasks.new.items }
+    ensures made { made graph.new ≡ made graph.old }
+    ensures none { IfOk result (λ done. done ≡ false → (graph.new ≡ graph.old) × (feeds.new ≡ feeds.old) × (tasks.new.items ≡ tasks.old.items)) }
 {
     if eos {
         return unlink_eos(alloc, graph, feeds, tasks, source, sink, items);

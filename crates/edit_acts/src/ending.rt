@@ -1,6 +1,7 @@
 //! Links that are undone with EOS.
 ghost use Rattle.std.specs.Prelude.{◌≡◌, true, false, Err, IfOk, IfErr};
 ghost use Rattle.edit_acts.specs.Ending.{HasNoLink, NotEndedWhole, RunsEnd};
+ghost use Rattle.edit_acts.specs.Files.{KeepFiles};
 ghost use Rattle.edit_acts.specs.Undoing.{HasRoomBehind, HasRoomToUndo, LeadsNoneInside};
 ghost use Rattle.net_edits.specs.declared.inside.EditFault.TheVariants.{OutOfMemory as Wanting};
 ghost use Rattle.flow_model.specs.Moment.{Moment};
@@ -31,6 +32,7 @@ pub fn end<S: TaskSource, E: TaskElement, I: Inlet<Out = O>, O: Outlet<Lanes = I
     ensures faults { IfErr result (NotEndedWhole tasks.old.items tasks.new.items pad) }
     ensures stays { result ≡ Err Wanting → (m : Moment) (tells : _) → NetStands m tasks.old.items tells → NetStands m tasks.new.items tells }
     ensures ready { (tells : _) → NetReady tasks.old.items tells → NetReady tasks.new.items tells }
+    ensures files { KeepFiles tasks.old.items tasks.new.items }
 {
     match room {
         UndoRoom::Split { element, room } => end_behind(alloc, tasks, pad, element, room),
@@ -52,6 +54,7 @@ fn end_behind<S: TaskSource, E: TaskElement, I: Inlet<Out = O>, O: Outlet<Lanes 
     ensures faults { IfErr result (NotEndedWhole tasks.old.items tasks.new.items pad) }
     ensures stays { result ≡ Err Wanting → (m : Moment) (tells : _) → NetStands m tasks.old.items tells → NetStands m tasks.new.items tells }
     ensures ready { (tells : _) → NetReady tasks.old.items tells → NetReady tasks.new.items tells }
+    ensures files { KeepFiles tasks.old.items tasks.new.items }
 {
     match end_inside(alloc, tasks, pad) {
         Ok(true) => {
@@ -74,6 +77,7 @@ fn end_lane<S: TaskSource, E: TaskElement, I: Inlet<Out = O>, O: Outlet<Lanes = 
     ensures faults { IfErr result (NotEndedWhole tasks.old.items tasks.new.items pad) }
     ensures stays { result ≡ Err Wanting → (m : Moment) (tells : _) → NetStands m tasks.old.items tells → NetStands m tasks.new.items tells }
     ensures ready { (tells : _) → NetReady tasks.old.items tells → NetReady tasks.new.items tells }
+    ensures files { KeepFiles tasks.old.items tasks.new.items }
 {
     match end_over(tasks, pad) {
         Ok(done) => Ok(done),

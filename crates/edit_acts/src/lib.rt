@@ -7,9 +7,11 @@ pub mod ending;
 pub mod laws;
 pub mod linking;
 pub mod over;
+pub mod probing;
 pub mod relinking;
 pub mod removing;
 pub mod scripts;
+pub mod sent;
 pub mod undoing;
 pub mod unlinking;
 

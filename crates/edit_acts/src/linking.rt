@@ -7,6 +7,7 @@ ghost use Rattle.net_groups.specs.Joined.{CannotJoin};
 ghost use Rattle.graph_pads.specs.declared.pad.PadPlace.{PadPlace};
 ghost use Rattle.graph_edits.specs.Edited.{Edited};
 ghost use Rattle.edit_core.specs.Ways.{IsRun};
+ghost use Rattle.edit_acts.specs.Files.{KeepFiles};
 ghost use Rattle.edit_acts.specs.Linking.{GoesOnLinked, HasRoomToLink, IsLinked, IsLinkedShort, MayLinkAt, opening_of};
 
 use flow_model::{TaskElement, TaskSource};
@@ -89,6 +90,7 @@ pub fn link<S: TaskSource, E: TaskElement, I: Inlet<Out = O>, O: Outlet<Lanes = 
     ensures run { IfOk result (λ done. (g : Edited) (m : Moment) (tells : _) (source sink : PadPlace) → IsRun g m tasks.old.items tells
         → MayLinkAt g m source sink pad to (opening_of room) → (done ≡ true) × GoesOnLinked g m tasks.new.items tells source sink) }
     ensures ready { (tells : _) → NetReady tasks.old.items tells → NetReady tasks.new.items tells }
+    ensures files { KeepFiles tasks.old.items tasks.new.items }
     ensures room { vec_capacity tasks.new ≡ vec_capacity tasks.old }
 {
     if !join_reserved(tasks, pad, to.element, room.join) {

@@ -15,11 +15,13 @@ ghost use Rattle.edit_core.specs.declared.deciding.Deed.TheVariants.{Relink};
 ghost use Rattle.edit_core.specs.declared.feeds.Feeds.{Feeds as KeptFeeds};
 ghost use Rattle.edit_acts.specs.Controlled.{IsControlled};
 ghost use Rattle.edit_acts.specs.Deeds.{IsDone};
+ghost use Rattle.edit_acts.specs.Files.{KeepFiles};
 ghost use Rattle.edit_acts.specs.Over.{LeadsTo};
 ghost use Rattle.edit_acts.specs.Relinked.{HasLane, HasNewLink, IsPrepared, IsRelinked, IsRelinkedShort, IsToKeep, IsToLink, IsToRelink, RelinkFails, RunsRelinked, RunsRelinkedOver, relinked_over};
 ghost use Rattle.edit_acts.specs.Undoing.{SplitsNot};
 
 use crate::linking::{LinkRoom, link, room_to_link};
+use crate::sent::is_pad_sent_to;
 use crate::undoing::{UndoRoom, room_to_undo, undo};
 use edit_core::Feeds;
 use flow_model::{TaskElement, TaskSource};
@@ -60,6 +62,8 @@ pub fn relink<S: TaskSource, E: TaskElement, I: Inlet<Out = O>, O: Outlet<Lanes 
         → (done ≡ true) × IsRelinked graph.new feeds.new tasks.new.items g m tells source sink items) }
     ensures faults { IfErr result (RelinkFails graph.old feeds.old tasks.old.items graph.new feeds.new tasks.new.items source sink items) }
     ensures ready { (tells : _) → NetReady tasks.old.items tells → NetReady tasks.new.items tells }
+    ensures files { KeepFiles tasks.old.items tasks.new.items }
+    ensures made { made graph.new ≡ made graph.old }
 {
     let count = graph.count();
     if source.element >= count {
@@ -107,9 +111,10 @@ pub fn relink_over<S: TaskSource, E: TaskElement, I: Inlet<Out = O>, O: Outlet<L
         → IsNewLane tells tasks.old.items to → IsDone graph.new feeds.new tasks.new.items g m tells (Relink source sink) items) }
     ensures stays { OnErr result ((g : Edited) (m : Moment) (tells : _) → IsControlled graph.old feeds.old tasks.old.items g m tells
         → IsControlled graph.new feeds.new tasks.new.items g m tells) }
-    ensures ready { (g : Edited) (m : Moment) (tells : _) → IsToRelink graph.old feeds.old tasks.old.items g m tells source sink items true
-        → IsNewLane tells tasks.old.items to → NetReady tasks.old.items tells → NetReady tasks.new.items tells }
+    ensures ready { (tells : _) → NetReady tasks.old.items tells → IsNewLane tells tasks.old.items to → NetReady tasks.new.items tells }
     ensures stays_ready { result ≢ Ok true → (tells : _) → NetReady tasks.old.items tells → NetReady tasks.new.items tells }
+    ensures files { KeepFiles tasks.old.items tasks.new.items }
+    ensures made { made graph.new ≡ made graph.old }
 {
     let count = graph.count();
     if source.element >= count {
@@ -150,6 +155,7 @@ fn prepare<S: TaskSource, E: TaskElement, I: Inlet<Out = O>, O: Outlet<Lanes = I
     ensures left { IfOk result (λ found. found ≡ None → (g : Edited) → IsEdited graph.old g → IsEdited graph.new g) }
     ensures tasks { tasks.new.items ≡ tasks.old.items }
     ensures stays { OnErr result ((g : Edited) → IsEdited graph.old g → IsEdited graph.new g) }
+    ensures made { made graph.new ≡ made graph.old }
 {
     let undo = room_to_undo(alloc, tasks, pad)?;
     if !is_apart(&undo, sink.element) {
@@ -194,6 +200,7 @@ fn carry_out<S: TaskSource, E: TaskElement, I: Inlet<Out = O>, O: Outlet<Lanes =
         → IsPrepared tasks.old source sink prepared → IsToRelink graph feeds.old tasks.old.items g m tells source sink items false
         → IsRelinkedShort tasks.new.items g m tells source sink items stopped) }
     ensures ready { (tells : _) → NetReady tasks.old.items tells → NetReady tasks.new.items tells }
+    ensures files { KeepFiles tasks.old.items tasks.new.items }
 {
     let to = Inside {
         element: sink.element,
@@ -205,7 +212,8 @@ fn carry_out<S: TaskSource, E: TaskElement, I: Inlet<Out = O>, O: Outlet<Lanes =
     link(alloc, tasks, prepared.pad, to, room)
 }
 
-/// Undoes the link of the source pad and links it over a new lane to a sink pad of an element, in the tasks and in what control keeps.
+/// Undoes the link of the source pad and links it over a new lane to a sink pad of an element, in the tasks and in what control keeps. Where another
+/// pad leads over a lane to that sink pad the old link is undone alone, and the lane is given up.
 fn carry_over<S: TaskSource, E: TaskElement, I: Inlet<Out = O>, O: Outlet<Lanes = I::Lanes>>(
     feeds: &mut Feeds,
     tasks: &mut Vec<Task<S, E, I, O>>,
@@ -221,14 +229,16 @@ fn carry_over<S: TaskSource, E: TaskElement, I: Inlet<Out = O>, O: Outlet<Lanes 
         → prepared.before ≡ sink_behind g.links source → IsToRelink graph feeds.old tasks.old.items g m tells source sink items true
         → HasLane m tasks.old.items tells prepared.pad sink to (opening_in room)
         → (result ≡ true) × RunsRelinkedOver feeds.new tasks.new.items g m tells source sink items }
-    ensures ready { (graph : Graphs) (g : Edited) (m : Moment) (tells : _) (source : Places) → IsPrepared tasks.old source sink prepared
-        → IsToRelink graph feeds.old tasks.old.items g m tells source sink items true
-        → HasLane m tasks.old.items tells prepared.pad sink to (opening_in room) → NetReady tasks.old.items tells → NetReady tasks.new.items tells }
+    ensures ready { (tells : _) → NetReady tasks.old.items tells → IsNewLane tells tasks.old.items to → NetReady tasks.new.items tells }
     ensures stays_ready { result ≡ false → (tells : _) → NetReady tasks.old.items tells → NetReady tasks.new.items tells }
+    ensures files { KeepFiles tasks.old.items tasks.new.items }
 {
     let opened = room.opens();
     undo(tasks, prepared.pad, prepared.undo);
     keep(feeds, prepared.before, sink, prepared.pad, items, opened);
+    if is_pad_sent_to(tasks.as_slice(), to.element, to.pad) {
+        return false;
+    }
     link_over(tasks, prepared.pad, to, room)
 }
 

@@ -1,5 +1,5 @@
 //! An element that no link touches is taken away.
-ghost use Rattle.std.specs.Prelude.{◌≡◌, ◌≢◌, ◌≤◌, ◌<◌, ◌↔◌, ℕ, List, true, false, None, Some, IfSome, IsTrue, length, slice_get};
+ghost use Rattle.std.specs.Prelude.{◌≡◌, ◌≢◌, ◌≤◌, ◌<◌, ◌↔◌, ◌++◌, ℕ, List, true, false, None, Some, IfSome, IsTrue, length, slice_get};
 ghost use Rattle.flow_model.specs.Item.{Item};
 ghost use Rattle.edit_core.specs.declared.feeds.Feeds.{Feeds};
 ghost use Rattle.graph_edits.specs.Edited.{Edited, without_element};
@@ -8,6 +8,7 @@ ghost use Rattle.net_edits.specs.Adding.{CanTake, IsCut, IsOnly, NoneOwns, froze
 ghost use Rattle.flow_model.specs.Moment.{Moment};
 ghost use Rattle.net_task.specs.Frame.{frame_of};
 ghost use Rattle.net_turns.specs.Net.{HasElement, NetReady, NetStands, Owns};
+ghost use Rattle.edit_acts.specs.Files.{KeepFiles, taken_task};
 ghost use Rattle.edit_acts.specs.Removed.{HasOther, IsFree, IsRemoved, IsShared, IsSourceOf, IsToRemove, TakesOut, UnlinkedIsAlone};
 
 use flow_model::{TaskElement, TaskSource};
@@ -64,8 +65,10 @@ pub fn remove<S: TaskSource, E: TaskElement, I: Inlet<Out = O>, O: Outlet<Lanes 
     element: u32,
 ) -> Option<TakenOut<S, E, I, O>>
     ensures taken { TakesOut tasks.old.items tasks.new.items element result }
+    ensures files { KeepFiles tasks.old.items (tasks.new.items ++ taken_task result) }
     ensures graph { (g : Edited) → element < length (made graph.old) → IsEdited graph.old g → IsEdited graph.new (without_element element g) }
     ensures outside { length (made graph.old) ≤ element → graph.new ≡ graph.old }
+    ensures made { made graph.new ≡ made graph.old }
     ensures run { (feeds : Feeds) (g : Edited) (m : Moment) (tells : _) → IsToRemove graph.old feeds tasks.old.items g m tells element
         → IsRemoved graph.new feeds tasks.new.items g m tells element result }
     ensures ready { (tells : _) → NetReady tasks.old.items tells → IsFree tasks.old.items element → NetReady tasks.new.items tells }
@@ -83,6 +86,7 @@ fn take_out<S: TaskSource, E: TaskElement, I: Inlet<Out = O>, O: Outlet<Lanes = 
     element: u32,
 ) -> Option<TakenOut<S, E, I, O>>
     ensures taken { TakesOut tasks.old.items tasks.new.items element result }
+    ensures files { KeepFiles tasks.old.items (tasks.new.items ++ taken_task result) }
     ensures stands { IfSome result (λ taken. (m : Moment) (tells : _) (cut : ℕ → List Item) → NetStands m tasks.old.items tells
         → CanTake m element (frame_of taken.task) → IsCut m element cut → NetStands (frozen element cut m) tasks.new.items tells) }
     ensures ready { (tells : _) → NetReady tasks.old.items tells → IsFree tasks.old.items element → NetReady tasks.new.items tells }

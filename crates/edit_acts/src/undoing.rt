@@ -11,6 +11,7 @@ ghost use Rattle.net_groups.specs.declared.joining.JoinRoom.{JoinRoom};
 ghost use Rattle.flow_model.specs.Edit.{unlinked};
 ghost use Rattle.flow_model.specs.Moment.{Moment};
 ghost use Rattle.net_turns.specs.Net.{NetReady, NetStands};
+ghost use Rattle.edit_acts.specs.Files.{KeepFiles};
 ghost use Rattle.edit_acts.specs.Undoing.{HasRoomToUndo, IsRunWith, LeadsNoneInside, SplitsNot};
 
 use flow_model::{TaskElement, TaskSource};
@@ -66,6 +67,7 @@ pub fn undo<S: TaskSource, E: TaskElement, I: Inlet<Out = O>, O: Outlet<Lanes = 
     ensures stands { (m : Moment) (tells : _) → NetStands m tasks.old.items tells → InnerTookItems m tasks.old.items
         → NetStands (unlinked pad m) tasks.new.items tells }
     ensures ready { (tells : _) → NetReady tasks.old.items tells → NetReady tasks.new.items tells }
+    ensures files { KeepFiles tasks.old.items tasks.new.items }
     ensures join { (element : ℕ) (join : JoinRoom _ _ _) → SplitsNot room element → HasRoomToJoin tasks.old.items pad element join
         → HasRoomToJoin tasks.new.items pad element join }
     ensures row { (place element port more : ℕ) → HasRoomAt tasks.old.items place element port more → HasRoomAt tasks.new.items place element port more }

@@ -5,10 +5,11 @@ ghost use Rattle.graph_edits.specs.Edited.{Edited, unlinked_at};
 ghost use Rattle.graph_edits.specs.Growing.{IsKept};
 ghost use Rattle.edit_core.specs.Feeds.{AreFeeds, IsTheLink};
 ghost use Rattle.graph_core.specs.GraphPlan.{pad_id};
-ghost use Rattle.graph_edits.specs.Graph.{IsEdited};
+ghost use Rattle.graph_edits.specs.Graph.{IsEdited, made};
 ghost use Rattle.flow_model.specs.Moment.{Moment};
 ghost use Rattle.net_turns.specs.Net.{NetReady};
 ghost use Rattle.edit_acts.specs.Controlled.{IsControlled, IsToUnlink, IsUnlinked};
+ghost use Rattle.edit_acts.specs.Files.{KeepFiles};
 ghost use Rattle.edit_acts.specs.Unlinked.{EndFails, IsEnded};
 
 use crate::ending::end;
@@ -41,6 +42,8 @@ pub fn unlink<S: TaskSource, E: TaskElement, I: Inlet<Out = O>, O: Outlet<Lanes 
     ensures stays { OnErr result ((g : Edited) (m : Moment) (tells : _) → IsControlled graph.old feeds.old tasks.old.items g m tells
         → IsControlled graph.new feeds.new tasks.new.items g m tells) }
     ensures ready { (tells : _) → NetReady tasks.old.items tells → NetReady tasks.new.items tells }
+    ensures files { KeepFiles tasks.old.items tasks.new.items }
+    ensures made { made graph.new ≡ made graph.old }
 {
     let Some(pad) = graph.source_number(source) else {
         return Ok(false);
@@ -71,6 +74,8 @@ pub fn unlink_eos<S: TaskSource, E: TaskElement, I: Inlet<Out = O>, O: Outlet<La
     ensures graph { IfOk result (λ done. done ≡ true → (g : Edited) → IsEdited graph.old g → IsEdited graph.new (unlinked_at source items true g)) }
     ensures none { IfOk result (λ done. done ≡ false → (graph.new ≡ graph.old) × (feeds.new ≡ feeds.old) × (tasks.new.items ≡ tasks.old.items)) }
     ensures ready { (tells : _) → NetReady tasks.old.items tells → NetReady tasks.new.items tells }
+    ensures files { KeepFiles tasks.old.items tasks.new.items }
+    ensures made { made graph.new ≡ made graph.old }
     ensures faults { IfErr result (EndFails graph.old feeds.old tasks.old.items graph.new feeds.new tasks.new.items source sink items) }
 {
     let Some(pad) = graph.source_number(source) else {
@@ -105,6 +110,7 @@ fn undo_kept(
     eos: bool,
 )
     ensures graph { (g : Edited) → IsEdited graph.old g → IsEdited graph.new (unlinked_at source items eos g) }
+    ensures made { made graph.new ≡ made graph.old }
     ensures feeds { (g : Edited) (h : ℕ → List Item) → AreFeeds feeds.old g h → IsKept h g → pad ≡ pad_id source → items ≡ length (h pad)
         → IsTheLink g source sink → AreFeeds feeds.new (unlinked_at source items eos g) h }
 {

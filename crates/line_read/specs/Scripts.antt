@@ -6,7 +6,7 @@ use Rattle.script_file.specs.Faults.{IsFileFault}
 use Rattle.script_file.specs.Fronts.{IsReadAs}
 use Rattle.script_file.specs.declared.fault.FileFault.{FileFault}
 use Rattle.script_file.specs.declared.fault.FileFault.TheVariants.{Unopened, Unread, BadScript as BadText, OutOfMemory}
-use Rattle.script_text.specs.declared.acts.TheConstants.Acts
+use Rattle.line_read.specs.declared.script.TheConstants.{RUN_ACTS}
 use Rattle.script_text.specs.Scripts.{IsScript}
 use Rattle.script_text.specs.declared.command.Command.{Command}
 use Rattle.line_read.specs.Refusals.{refused, wanting}
@@ -15,7 +15,7 @@ use Rattle.line_read.specs.declared.refusal.Refusal.{Refusal}
 -- without a script there are no commands; the file of a script has a text that says them, by the acts that a run can do
 abbrev pub AreAsked : Option (List ℕ) → Seen → List Command → Type 0
 AreAsked None before commands = commands ≡ []
-AreAsked (Some location) before commands = IsReadAs (before.input location) (λ text. IsScript Acts.NONE text commands)
+AreAsked (Some location) before commands = IsReadAs (before.input location) (λ text. IsScript RUN_ACTS text commands)
 
 -- The commands were read. Without a script no file was touched, and otherwise what files read and write stays.
 pub record HasCommands (script : Option (List ℕ)) (before after : Seen) (commands : List Command) : Type 0 where
@@ -38,7 +38,7 @@ pub record RefusesScript (script : Option (List ℕ)) (before after : Seen) (ref
   pub named : script ≡ Some location
   pub fault : FileFault
   pub found : fault ≢ OutOfMemory
-  pub is_fault : IsFileFault Acts.NONE location before after fault
+  pub is_fault : IsFileFault RUN_ACTS location before after fault
   pub answer : refusal ≡ script_refusal location fault
 
 -- a status of a report of a script that was not read

@@ -11,4 +11,4 @@ pub use laws::one_answer;
 pub use reading::read_request;
 pub use refusal::Refusal;
 pub use request::Request;
-pub use script::read_commands;
+pub use script::{RUN_ACTS, read_commands};

@@ -12,6 +12,14 @@ use script_file::{FileFault, read_file};
 use script_text::{Acts, Command};
 use std::alloc::Global;
 
+/// What acts a run can do.
+pub const RUN_ACTS: Acts = Acts {
+    relink: true,
+    unlink: true,
+    add: false,
+    remove: true,
+};
+
 /// The status of a report where the text of the script is none.
 const BAD_SCRIPT: u8 = 5;
 
@@ -76,7 +84,7 @@ pub fn read_commands<F: Files>(
     let Some(location) = &request.script else {
         return Ok(Items::new(alloc));
     };
-    match read_file(alloc, Acts::NONE, files, location.as_str()) {
+    match read_file(alloc, RUN_ACTS, files, location.as_str()) {
         Ok(commands) => Ok(commands),
         Err(fault) => Err(refusal_at(alloc, location, fault)),
     }

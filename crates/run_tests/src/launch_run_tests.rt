@@ -129,6 +129,20 @@ fn runs_lines(rt: HostRuntime) -> Result<(), Fail> {
             ..PLAIN
         },
         Row {
+            words: "--script|a|filesrc|location=a|blocksize=8|!|identity|name=i|!|filesink|name=o|location=b|filesink|name=p|location=d",
+            content: "at i.src 1 relink p.sink",
+            text: "status 0 Eos\ncommand 1 done i.src=3\npad filesrc0.src items 6 buffers 3\npad i.src items 6 buffers 3\nsink o bytes 8\nsink p bytes 16\n",
+            output: "at i.src",
+            ..PLAIN
+        },
+        Row {
+            words: "--script|a|filesrc|location=a|blocksize=9|!|tee|name=t|!|filesink|location=d|t.|!|filesink|name=o|location=b",
+            content: "at t.src_1 1 unlink eos\nnow remove o\nnow remove t",
+            text: "status 0 Eos\ncommand 1 done t.src_1=3\ncommand 2 done\ncommand 3 refused WasLinked\npad filesrc0.src items 9 buffers 6\npad t.src_0 items 9 buffers 6\npad t.src_1 items 9 buffers 6\nsink filesink0 bytes 49\nsink o bytes 9\n",
+            output: "at t.src_",
+            ..PLAIN
+        },
+        Row {
             words: "filesrc|location=e|!|filesink|location=b|filesrc|name=f|location=a|!|queue|!|filesink|location=d",
             text: "status 0 Eos\npad filesrc0.src items 3 buffers 0\npad f.src items 4 buffers 1\npad queue0.src items 4 buffers 1\nsink filesink0 bytes 0\nsink filesink1 bytes 5\n",
             output: "",
@@ -269,6 +283,22 @@ fn ends_at_faults(rt: HostRuntime) -> Result<(), Fail> {
             words: "filesrc|location=a|!|audio/x-raw,rate=8000|!|filesink|location=b",
             status: 10,
             text: "status 10 NotNegotiated\nfault caps capsfilter0 offered none wanted audio/x-raw, rate=(int)8000\npad filesrc0.src items 2 buffers 0\npad capsfilter0.src items 2 buffers 0\nsink filesink0 bytes 0\n",
+            output: "",
+            ..PLAIN
+        },
+        Row {
+            words: "--script|a|filesrc|location=a|name=f|!|filesink|location=b",
+            content: "now add fakesink name=x",
+            status: 5,
+            text: "status 5 BadScript\nfault line 1 BadAct\n",
+            output: "",
+            ..PLAIN
+        },
+        Row {
+            words: "--script|a|filesrc|location=a|name=f|!|filesink|location=b",
+            content: "now f.src unlink",
+            status: 11,
+            text: "status 11 NotLinked\nfault unlinked f.src place 2\ncommand 1 done f.src=0\npad f.src items 2 buffers 0\nsink filesink0 bytes 0\n",
             output: "",
             ..PLAIN
         },

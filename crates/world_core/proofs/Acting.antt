@@ -1,6 +1,6 @@
 -- The next command is answered, or control can't go on.
 use Rattle.std.proofs.Common.{◌≡◌, ◌≢◌, ◌<◌, ◌≤◌, ◌+◌, ℕ, Bool, true, List, Option, None, Some, drop, get_or, length, refl, sym, ap, ◌∙◌, subst}
-use Rattle.std.specs.Prelude.{Result, Ok, Err, IfOk, OnOk, slice_get}
+use Rattle.std.specs.Prelude.{Result, Ok, Err, IfErr, IfOk, OnOk, slice_get}
 use Rattle.std.proofs.lemmas.List.{drop_all}
 use Rattle.std.proofs.lemmas.Option.{slice_get_read}
 use Rattle.flow_model.proofs.Prefixes.{prefix_refl}
@@ -31,14 +31,16 @@ use Rattle.edit_core.specs.declared.feeds.Feeds.{Feeds}
 use Rattle.graph_edits.specs.Graph.{IsEdited}
 use Rattle.graph_edits.specs.declared.graph.EditedGraph.{EditedGraph}
 use Rattle.edit_acts.specs.Controlled.{IsControlled}
-use Rattle.edit_acts.specs.Deeds.{CanBeDone, DeedFails, IsDue}
+use Rattle.edit_acts.specs.Deeds.{CanBeDone, DeedFails, IsDone, IsDue, WasDone}
+use Rattle.edit_acts.specs.declared.doing.Outcome.{Outcome}
 use Rattle.edit_acts.specs.Scripted.{IsExact}
-use Rattle.world_core.specs.Answering.{ActFails, ActsOn, CarryFails, Controls, Decides, IsCarriedOut, IsEntered, IsNext, NothingCanBeDone, RulesNext, SetsAside, TellsNothingDone}
+use Rattle.world_core.specs.Answering.{ActFails, ActsOn, CanBeAnswered, CarryFails, Controls, Decides, HasLanes, IsCarriedOut, IsEntered, IsNext, NothingCanBeDone, RulesNext, SetsAside, TellsNothingDone, room_for}
 use Rattle.world_core.specs.Running.{tells_of}
 use Rattle.world_core.specs.declared.running.RunFault.{RunFault}
 use Rattle.world_core.specs.declared.running.RunFault.TheVariants as faults
 use Rattle.world_core.specs.declared.running.Running.{Running}
 use Rattle.world_core.proofs.Left.{left_behind, next_of}
+use Rattle.world_core.proofs.MoreLanes.{can_be_done, same_done}
 
 -- what is answered without a deed is exact
 exact_of : (g : Edited) (m : Moment) (c : Command) (answer : Answer) → IsAnsweredNow g m c answer → IsExact g m c answer
@@ -53,8 +55,8 @@ nothing_done g m c Unreached now = tt
 nothing_done g m c (Refused reason places) now = tt
 
 -- what control can do is no addition
-no_addition : (g : Edited) (deed : Deed) → CanBeDone g deed → deed ≢ deeds.Add
-no_addition g deed can is = subst (λ (d : Deed). CanBeDone g d) is can
+no_addition : (g : Edited) (deed : Deed) → CanBeAnswered g deed → deed ≢ deeds.Add
+no_addition g deed can is = subst (λ (d : Deed). CanBeAnswered g d) is can
 
 -- ---- results
 
@@ -65,6 +67,11 @@ done_of (Err fault) is told = absurd cc
 pub aside_of : {P : Type 0} (r : Result Bool RunFault) → r ≡ Ok true → OnOk r P → P
 aside_of (Ok done) is told = told
 aside_of (Err fault) is told = absurd cc
+
+-- what is so anyhow is so where a call did not fail
+pub always : {A E P : Type 0} (r : Result A E) → P → OnOk r P
+always (Ok done) p = p
+always (Err fault) p = tt
 
 module _ {S E I O L : Type 0} {s : sources.Ghosts S} {e : elements.Ghosts E} {i : inlets.Ghosts I L O} {o : outlets.Ghosts O L} where
   -- what is decided of the command that is found behind those that were answered
@@ -102,6 +109,22 @@ module _ {S E I O L : Type 0} {s : sources.Ghosts S} {e : elements.Ghosts E} {i 
       subst (λ (tells : Option (List Lane)). NetReady is.tasks.items tells) (ap o.tells (sym lanes))
       (subst (λ (ts : List (Task S E I O L s e i o)). NetReady ts (tells_of was)) (sym same) (stays (tells_of was) ready))
 
+  -- what makes no lane was done, with the lanes as they are
+  pub done_here : (was is : Running S E I O L s e i o) (graph : EditedGraph) (feeds : Feeds) (tasks : List (Task S E I O L s e i o)) (deed : Deed) (items : ℕ) (places : List Place) (outcome : Outcome S E I O L s e i o)
+      → ((g : Edited) → IsEdited was.graph g → CanBeAnswered g deed) → ((g : Edited) → IsEdited was.graph g → room_for g deed ≡ None)
+      → ((g : Edited) (m : Moment) (tells : Option (List Lane)) → IsDue was.graph was.feeds was.tasks.items g m tells deed items → WasDone outcome × IsDone graph feeds tasks g m tells deed items)
+      → is.graph ≡ graph → is.feeds ≡ feeds → is.tasks.items ≡ tasks → is.lanes ≡ was.lanes
+      → (g : Edited) (m : Moment) (command : Command) → Controls was g m → IsToDo g m command deed items places
+      → CanBeAnswered g deed × IsDone is.graph is.feeds is.tasks.items g m (tells_of is) deed items
+  done_here was is graph feeds tasks deed items places outcome can none made graph_is feeds_are tasks_are lanes_are g m command has to_do =
+      let able = can g has.current.edited in
+      let done = made g m (tells_of was) (due was g m command deed items places has to_do (can_be_done g deed able (none g has.current.edited))) in
+      (able, same_done is graph feeds tasks (tells_of was) g m deed items graph_is feeds_are tasks_are (ap o.tells lanes_are) done.1)
+
+  pub lanes_here : (was is : Running S E I O L s e i o) (deed : Deed) → ((g : Edited) → IsEdited was.graph g → room_for g deed ≡ None) → is.lanes ≡ was.lanes
+      → (g : Edited) → IsEdited was.graph g → HasLanes (room_for g deed) was is
+  lanes_here was is deed none same g edited = subst (λ (room : Option ℕ). HasLanes room was is) (sym (none g edited)) same
+
   -- where memory was wanting control has the run as it was
   pub out_of_memory : (was : Running S E I O L s e i o) (graph : EditedGraph) (feeds : Feeds) (tasks : List (Task S E I O L s e i o)) (deed : Deed) (items : ℕ) (fault : EditFault) → fault ≡ edit_faults.OutOfMemory
       → DeedFails was.graph was.feeds was.tasks.items graph feeds tasks deed items fault → (g : Edited) (m : Moment) → Controls was g m → IsControlled graph feeds tasks g m (tells_of was)
@@ -110,12 +133,13 @@ module _ {S E I O L : Type 0} {s : sources.Ghosts S} {e : elements.Ghosts E} {i 
 
   -- where an element met a fault the graph has the deed
   pub short : (was : Running S E I O L s e i o) (graph : EditedGraph) (feeds : Feeds) (tasks : List (Task S E I O L s e i o)) (deed : Deed) (items : ℕ) (places : List Place) (fault : EditFault) (stopped : Stopped)
-      → fault ≡ edit_faults.Failed stopped → DeedFails was.graph was.feeds was.tasks.items graph feeds tasks deed items fault → ((g : Edited) → IsEdited was.graph g → CanBeDone g deed)
-      → (graph' : EditedGraph) → graph' ≡ graph
-      → (g : Edited) (m : Moment) (command : Command) → Controls was g m → IsToDo g m command deed items places → CanBeDone g deed × IsEdited graph' (made_by deed items g)
-  short was graph feeds tasks deed items places fault stopped is told can graph' same g m command has to_do =
+      → fault ≡ edit_faults.Failed stopped → DeedFails was.graph was.feeds was.tasks.items graph feeds tasks deed items fault → ((g : Edited) → IsEdited was.graph g → CanBeAnswered g deed)
+      → ((g : Edited) → IsEdited was.graph g → room_for g deed ≡ None) → (graph' : EditedGraph) → graph' ≡ graph
+      → (g : Edited) (m : Moment) (command : Command) → Controls was g m → IsToDo g m command deed items places → CanBeAnswered g deed × IsEdited graph' (made_by deed items g)
+  short was graph feeds tasks deed items places fault stopped is told can none graph' same g m command has to_do =
       let able = can g has.current.edited in
-      let edited = (subst (λ (f : EditFault). DeedFails was.graph was.feeds was.tasks.items graph feeds tasks deed items f) is told) g m (tells_of was) (due was g m command deed items places has to_do able) in
+      let now = due was g m command deed items places has to_do (can_be_done g deed able (none g has.current.edited)) in
+      let edited = (subst (λ (f : EditFault). DeedFails was.graph was.feeds was.tasks.items graph feeds tasks deed items f) is told) g m (tells_of was) now in
       (able, subst (λ (made : EditedGraph). IsEdited made (made_by deed items g)) (sym same) edited)
 
   -- the run is the same where what control has of it is
@@ -150,6 +174,7 @@ module _ {S E I O L : Type 0} {s : sources.Ghosts S} {e : elements.Ghosts E} {i 
     };
     script = entered.keeps.script;
     deed = None;
+    lanes = λ g edited. entered.lanes;
     asks = λ g m names has. nothing_done g m command answer (decides g m (tells_of was) has.current names);
     aside = entered.keeps.turns;
   }
@@ -178,11 +203,12 @@ module _ {S E I O L : Type 0} {s : sources.Ghosts S} {e : elements.Ghosts E} {i 
             crossed = made.1.crossed;
             owner = made.1.owner;
             owed = made.1.owed;
-            has = subst (λ (tells : Option (List Lane)). IsControlled is.graph is.feeds is.tasks.items (made_by deed items g) made.1.now tells) (ap o.tells (sym carried.lanes)) made.1.controlled;
+            has = made.1.controlled;
           };
     };
     script = carried.script;
     deed = Some deed;
+    lanes = carried.lanes;
     asks = λ g m names has. (items, places, decides g m (tells_of was) has.current names);
     aside = aside;
   }
@@ -211,6 +237,7 @@ module _ {S E I O L : Type 0} {s : sources.Ghosts S} {e : elements.Ghosts E} {i 
     places = places;
     next = next_of was.script.items (length was.entries.items) command next;
     entered = short.entered;
+    lanes = short.lanes;
     answered = λ g m names has.
         let to_do = decides g m (tells_of was) has.current names in
         let made = short.edited g m command has to_do in
@@ -230,3 +257,15 @@ module _ {S E I O L : Type 0} {s : sources.Ghosts S} {e : elements.Ghosts E} {i 
       → (fault : RunFault) → CarryFails was is deed items places fault → ActFails was is fault
   fails law was is told deed items places same next fault why =
       let ruled = same_ruling was told (ToDo deed items places) same next in fails_so law was is ruled.0 deed items places ruled.1 ruled.2 fault why
+
+  -- ---- by the deed that is asked for
+
+  module _ (was is : Running S E I O L s e i o) (deed asked : Deed) (items : ℕ) (places : List Place) (same : deed ≡ asked) (r : Result Bool RunFault) where
+    pub done_for : IfOk r (λ done. (done ≡ true) × IsCarriedOut was is asked items places) → IfOk r (λ done. (done ≡ true) × IsCarriedOut was is deed items places)
+    done_for told = subst (λ (d : Deed). IfOk r (λ done. (done ≡ true) × IsCarriedOut was is d items places)) (sym same) told
+
+    pub fails_for : IfErr r (CarryFails was is asked items places) → IfErr r (CarryFails was is deed items places)
+    fails_for told = subst (λ (d : Deed). IfErr r (CarryFails was is d items places)) (sym same) told
+
+    pub aside_for : SetsAside was is asked → OnOk r (SetsAside was is deed)
+    aside_for told = always r (subst (λ (d : Deed). SetsAside was is d) (sym same) told)

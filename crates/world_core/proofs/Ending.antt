@@ -109,7 +109,7 @@ module _ {S K I O L : Type 0} {giver : givers.Ghosts (StreamSource S)} {taker : 
       (λ contents were. ended (opening (moment_plan contents graph) (moment_answers graph)) (started contents were).net) refl tells_over)
   rest_ended order turns steps over met stop (StopsAs.stalled tasks not_over tells_tasks) none ended ran told =
       inr (inr (inr (inr (inr (inr
-      (is_stalled s k laws graph first last rest left tells before run once rested taken given ends end (stops.Stalled tasks) told steps over
+      (is_stalled s k laws graph first last rest left tells before run once rested taken given ends end (stops.Stalled None tasks) told steps over
       (λ contents were. ended (opening (moment_plan contents graph) (moment_answers graph)) (started contents were).net) tasks refl not_over tells_tasks
       (rows_stay order turns ran)))))))
 

@@ -283,6 +283,6 @@ module _ {S K I O L : Type 0} {giver : givers.Ghosts (StreamSource S)} {taker : 
           sym (got_end left d was.0 was.1) ∙ (run.started.filled.each d m here).left_is
           ∙ ap (left_by m.settings) (none_at s k (made_in graph) run.started.ends before run.started.opened run.started.opens d m here opens) in
           get_map (option_map (known s k)) ends d None
-          (put_none (made_in graph) (HasSource last) (HasElement last rest) left ends one_element one_source d m here opens (put_at d m here)
+          (put_none (made_in graph) (HasSource last) (HasElement last rest) left ends d m here opens (put_at d m here)
           ∙ was.1 ∙ ap (λ (end : Option (End S K)). Some end) none);
     }

@@ -38,10 +38,18 @@ mod StallTasks
 mod Stops
 mod FirstRows
 mod Left
+mod MoreLanes
 mod Acting
+mod Commands
 mod Turns
 mod Scripting
+mod ProbeActs
 mod Aside
+mod Elements
+mod ScriptEntries
+mod ScriptBegun
+mod ScriptEnds
+mod ScriptFiles
 pub mod Tasks
 pub mod Begun
 pub mod Writes

@@ -30,7 +30,7 @@ has_length (Sink (sink_elements.File sink)) file is = (length_of sink, refl)
 has_length (Sink (sink_elements.Fake sink)) file is = absurd (cc)
 
 -- what is asked of an element that is there
-asked_at : (asked : Settings → Bool) (made : List Made) (d : ℕ) (m : Made) → slice_get made d ≡ Some m → has asked made d ≡ asked m.settings
+pub asked_at : (asked : Settings → Bool) (made : List Made) (d : ℕ) (m : Made) → slice_get made d ≡ Some m → has asked made d ≡ asked m.settings
 asked_at asked made d m here = ap (λ (found : Option Made). option_map_or (λ (m : Made). asked m.settings) found false) here
 
 module _ {S K : Type 0} (made : List Made) where
@@ -41,20 +41,20 @@ module _ {S K : Type 0} (made : List Made) where
   source_of file = Some (Src file)
 
   -- the end of an element that writes no file, and of a source that reads none
-  no_written : (d : ℕ) (x : StreamElement K) (end : Option (End S K)) → has writes made d ≡ false → written_end made d x ≡ Some end → ⊥
+  pub no_written : (d : ℕ) (x : StreamElement K) (end : Option (End S K)) → has writes made d ≡ false → written_end made d x ≡ Some end → ⊥
   no_written d x end none is =
       absurd (let no = sym (ap (λ (b : Bool). if b then option_map sink_of (file_in x) else None) none) ∙ is in cc)
 
-  no_read : (d : ℕ) (x : StreamSource S) (end : Option (End S K)) → has reads made d ≡ false → read_end made d x ≡ Some end → ⊥
+  pub no_read : (d : ℕ) (x : StreamSource S) (end : Option (End S K)) → has reads made d ≡ false → read_end made d x ≡ Some end → ⊥
   no_read d x end none is =
       absurd (let no = sym (ap (λ (b : Bool). if b then option_map source_of (source_file x.source) else None) none) ∙ is in cc)
 
   -- and where one is
-  written_here : (d : ℕ) (x : StreamElement K) (file : K) → has writes made d ≡ true → file_in x ≡ Some file → written_end made d x ≡ Some (sink_of file)
+  pub written_here : (d : ℕ) (x : StreamElement K) (file : K) → has writes made d ≡ true → file_in x ≡ Some file → written_end made d x ≡ Some (sink_of file)
   written_here d x file so is =
       ap₂ (λ (b : Bool) (found : Option K). if b then option_map sink_of found else None) so is
 
-  read_here : (d : ℕ) (x : StreamSource S) (file : S) → has reads made d ≡ true → source_file x.source ≡ Some file → read_end made d x ≡ Some (source_of file)
+  pub read_here : (d : ℕ) (x : StreamSource S) (file : S) → has reads made d ≡ true → source_file x.source ≡ Some file → read_end made d x ≡ Some (source_of file)
   read_here d x file so is =
       ap₂ (λ (b : Bool) (found : Option S). if b then option_map source_of found else None) so is
 
@@ -84,14 +84,14 @@ module _ {S K : Type 0} (made : List Made) where
     put_source e m location x file here own inside is (IsPutAt.was_kept none at) =
         absurd (none (Some (Src file)) (Gives.by_source x inside (read_here e x file (asked_at reads made e m here ∙ own.reading) is)))
 
-    -- and nothing at another element
-    pub put_none : (d : ℕ) (m : Made) → slice_get made d ≡ Some m → opening_of m.settings ≡ None → IsPutAt (Gives made Reads Has) old new d
-        → slice_get new d ≡ slice_get old d
-    put_none d m here opens (IsPutAt.was_put end (Gives.by_source source of gives) at) =
-        absurd (no_read d source end (asked_at reads made d m here ∙ (opens_none m.settings (no_place m.settings opens)).0) gives)
-    put_none d m here opens (IsPutAt.was_put end (Gives.by_element element of gives) at) =
-        absurd (no_written d element end (asked_at writes made d m here ∙ (opens_none m.settings (no_place m.settings opens)).1) gives)
-    put_none d m here opens (IsPutAt.was_kept none at) = at
+  -- and nothing at another element
+  pub put_none : (Reads : ℕ → StreamSource S → Type 0) (Has : ℕ → StreamElement K → Type 0) (old new : List (Option (End S K))) (d : ℕ) (m : Made) → slice_get made d ≡ Some m → opening_of m.settings ≡ None
+      → IsPutAt (Gives made Reads Has) old new d → slice_get new d ≡ slice_get old d
+  put_none Reads Has old new d m here opens (IsPutAt.was_put end (Gives.by_source source of gives) at) =
+      absurd (no_read d source end (asked_at reads made d m here ∙ (opens_none m.settings (no_place m.settings opens)).0) gives)
+  put_none Reads Has old new d m here opens (IsPutAt.was_put end (Gives.by_element element of gives) at) =
+      absurd (no_written d element end (asked_at writes made d m here ∙ (opens_none m.settings (no_place m.settings opens)).1) gives)
+  put_none Reads Has old new d m here opens (IsPutAt.was_kept none at) = at
 
 -- the length of the file of an element
 module _ {K : Type 0} (Has : ℕ → StreamElement K → Type 0) (old new : List ℕ) (one : (d : ℕ) (x y : StreamElement K) → Has d x → Has d y → x ≡ y) where

@@ -30,6 +30,7 @@ use Rattle.run_files.specs.declared.end.End.{End}
 use Rattle.task_elements.specs.Stands.{file_in}
 use Rattle.task_elements.specs.declared.element.StreamElement.{StreamElement}
 use Rattle.task_elements.specs.declared.source.StreamSource.{StreamSource}
+use Rattle.script_text.specs.declared.answer.Entry.{Entry}
 use Rattle.task_parts.specs.declared.step.Step.{Step}
 use Rattle.turn_order.specs.declared.order.Order.{Order}
 use Rattle.turn_order.specs.declared.turns.Turns.{Turns}
@@ -54,12 +55,12 @@ source_fails faults (File file) = refl
 source_fails faults (Ramp ramp) = refl
 
 -- what is told is so by what is equal
-pub told_by : (made : List Made) (end : WorldEnd) {stop other : Stop} {counts pads : List Count} {lengths sizes : List ℕ} → other ≡ stop → pads ≡ counts → sizes ≡ lengths
-    → TellsEnd made other pads sizes end → TellsEnd made stop counts lengths end
+pub told_by : (made : List Made) (end : WorldEnd) {stop other : Stop} {counts pads : List Count} {lengths sizes : List ℕ} {entries : List Entry} → other ≡ stop → pads ≡ counts → sizes ≡ lengths
+    → TellsEnd made other pads sizes entries end → TellsEnd made stop counts lengths entries end
 told_by made end same pads sizes tells = record {
   status = tells.status ∙ ap stop_status same;
   fault = tells.fault ∙ ap (stop_fault made) same;
-  entries = tells.entries;
+  entries_are = tells.entries_are;
   pads_are = tells.pads_are ∙ ap (pads_told made) pads;
   sinks_are = tells.sinks_are ∙ ap (sinks_told made) sizes;
 }

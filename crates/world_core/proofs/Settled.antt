@@ -1,5 +1,5 @@
 -- A run that stopped, at the moment at which it did, and what is told of it.
-use Rattle.std.proofs.Common.{◌≡◌, ◌<◌, ◌≤◌, ℕ, Bool, true, false, All, List, Option, Some, length, sym, ap, ◌∙◌, subst}
+use Rattle.std.proofs.Common.{[], ◌≡◌, ◌<◌, ◌≤◌, ℕ, Bool, true, false, All, List, Option, Some, length, sym, ap, ◌∙◌, subst}
 use Rattle.std.specs.Prelude.{slice_get}
 use Rattle.std.specs.Option.{option_map, option_map_or}
 use Rattle.el_set.specs.Gives.{source_file}
@@ -71,7 +71,7 @@ module _ {S K I O L : Type 0} {giver : givers.Ghosts (StreamSource S)} {taker : 
     pub counted : PutBack (TasksCounted last) none counts
     pub wrote : PutBack (Wrote last rest) zeros lengths
     pub back : PutBack (GivesBack (made_in graph) last rest) left ends
-    pub tells : TellsEnd (made_in graph) stop counts lengths end
+    pub tells : TellsEnd (made_in graph) stop counts lengths [] end
 
   -- the files of elements that write some hold these bytes
   abbrev pub AreHeld : sinks.Ghosts K → Graph → List (Task (StreamSource S) (StreamElement K) I O L giver taker i o) → List (Option (StreamElement K)) → (ℕ → List ℕ) → Type 0

@@ -1,5 +1,5 @@
 -- A run that stopped, by the laws of its graph.
-use Rattle.std.proofs.Common.{◌≡◌, ◌≢◌, ◌⊎◌, ℕ, suc, true, false, eqb, List, [], ◌∷◌, Option, Some, length, refl, sym, ap, ◌∙◌, subst, inl, inr}
+use Rattle.std.proofs.Common.{None, ◌≡◌, ◌≢◌, ◌⊎◌, ℕ, suc, true, false, eqb, List, [], ◌∷◌, Option, Some, length, refl, sym, ap, ◌∙◌, subst, inl, inr}
 use Rattle.std.specs.Prelude.{slice_get}
 use Rattle.std.specs.Option.{option_map}
 use Rattle.std.proofs.lemmas.Bool.Decides.{eqb_tells}
@@ -221,7 +221,7 @@ module _ {S K I O L : Type 0} {giver : givers.Ghosts (StreamSource S)} {taker : 
     }
 
     -- and else it is stalled
-    pub is_stalled : (tasks : List StalledTask) → stop ≡ stops.Stalled tasks → (TellsOver (is_live graph) (joins_in graph) last steps → ⊥)
+    pub is_stalled : (tasks : List StalledTask) → stop ≡ stops.Stalled None tasks → (TellsOver (is_live graph) (joins_in graph) last steps → ⊥)
         → TellsTasks (made_in graph) last steps tasks
         → ((contents : ℕ → List ℕ) → WereTold (made_in graph) before contents → HoldLanes (lane_at (made_in graph) (links_in graph)) last)
         → EndsStalled graph before (KnownHold graph (known_ends s k ends)) end

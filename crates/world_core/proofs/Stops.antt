@@ -1,5 +1,5 @@
 -- How tasks stopped, by what came of their run.
-use Rattle.std.proofs.Common.{◌≡◌, Bool, true, false, List, Option, Some, None, Result, Ok, Err, IfOk, sym, ap, ◌∙◌, subst}
+use Rattle.std.proofs.Common.{◌≡◌, ℕ, Bool, true, false, List, Option, Some, None, Result, Ok, Err, IfOk, sym, ap, ◌∙◌, subst}
 use Rattle.graph_core.specs.Graph.{is_live, made as made_in}
 use Rattle.graph_core.specs.declared.graph.Graph.{Graph}
 use Rattle.graph_tasks.specs.Over.{joins_in}
@@ -31,9 +31,17 @@ module _ {S E I O L A : Type 0} {s : givers.Ghosts S} {e : elements.Ghosts E} {i
   stops_over done is over = subst (λ (met : Option TaskFault). StopsAs graph tasks steps met stops.Over) (sym (ap stop_of is)) (StopsAs.over over)
 
   pub stops_stalled : (done : A) (told : List StalledTask) → ran ≡ Ok done → (TellsOver (is_live graph) (joins_in graph) tasks steps → ⊥)
-      → TellsTasks (made_in graph) tasks steps told → StopsAs graph tasks steps (stop_of ran) (stops.Stalled told)
+      → TellsTasks (made_in graph) tasks steps told → StopsAs graph tasks steps (stop_of ran) (stops.Stalled None told)
   stops_stalled done told is not_over tells =
-      subst (λ (met : Option TaskFault). StopsAs graph tasks steps met (stops.Stalled told)) (sym (ap stop_of is)) (StopsAs.stalled told not_over tells)
+      subst (λ (met : Option TaskFault). StopsAs graph tasks steps met (stops.Stalled None told)) (sym (ap stop_of is)) (StopsAs.stalled told not_over tells)
+
+-- what tells that a run is over hangs on which elements are live, and not on how that is told
+pub over_alike : {S E I O L : Type 0} {s : givers.Ghosts S} {e : elements.Ghosts E} {i : inlets.Ghosts I L O} {o : outlets.Ghosts O L} (live other joins : ℕ → Bool)
+    (tasks : List (Task S E I O L s e i o)) (steps : List Step) → ((n : ℕ) → live n ≡ other n) → TellsOver live joins tasks steps → TellsOver other joins tasks steps
+over_alike live other joins tasks steps same over = record {
+  idle = over.idle;
+  ended = λ k task at lives streams. over.ended k task at (same _ ∙ lives) streams;
+}
 
 -- a test that failed was not to hold
 pub not_so : {A : Type 0} (b : Bool) → b ≡ false → (A → b ≡ true) → A → ⊥

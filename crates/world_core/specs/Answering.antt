@@ -1,5 +1,6 @@
 -- How control answers the next command of a run.
-use Rattle.std.specs.Prelude.{◌≡◌, ◌⊎◌, ◌++◌, ℕ, true, List, [], ◌∷◌, Option, None, Some, length, slice_get}
+use Rattle.std.specs.Prelude.{◌≡◌, ◌⊎◌, ◌++◌, ℕ, true, false, List, [], ◌∷◌, Option, None, Some, length, option_and_then, slice_get}
+use Rattle.std.specs.Option.{option_map}
 use Rattle.lane_core.specs.Lane.{Lane}
 use Rattle.lane_core.specs.declared.ends.Inlet as inlets
 use Rattle.lane_core.specs.declared.ends.Outlet as outlets
@@ -7,6 +8,9 @@ use Rattle.flow_model.specs.Moment.{Moment}
 use Rattle.flow_model.specs.declared.element.TaskElement as elements
 use Rattle.flow_model.specs.declared.source.TaskSource as sources
 use Rattle.net_edits.specs.Adding.{NoneOwns}
+use Rattle.net_edits.specs.NewLanes.{with_lane}
+use Rattle.graph_core.specs.Elements.{Made}
+use Rattle.graph_parts.specs.Lanes.{room_by}
 use Rattle.script_text.specs.declared.answer.Answer.{Answer}
 use Rattle.script_text.specs.declared.answer.Answer.TheVariants.{Done, Refused, Unreached}
 use Rattle.script_text.specs.declared.answer.Place.{Place}
@@ -14,6 +18,7 @@ use Rattle.script_text.specs.declared.command.Command.{Command}
 use Rattle.graph_edits.specs.Edited.{Edited}
 use Rattle.graph_edits.specs.Lawful.{IsAnswered}
 use Rattle.graph_edits.specs.Graph.{IsEdited}
+use Rattle.graph_edits.specs.Plans.{is_asleep}
 use Rattle.edit_core.specs.Deciding.{IsReached, IsRuled, IsToDo, made_by, names_its_pad}
 use Rattle.edit_core.specs.declared.deciding.Deed.{Deed}
 use Rattle.edit_core.specs.declared.deciding.Deed.TheVariants.{Relink, Unlink, Add, Remove}
@@ -22,7 +27,7 @@ use Rattle.edit_core.specs.Judging.{IsVerdict, owed_then}
 use Rattle.edit_core.specs.Notes.{IsCurrent}
 use Rattle.edit_core.specs.declared.judging.Verdict.TheVariants as verdicts
 use Rattle.edit_acts.specs.Controlled.{IsControlled}
-use Rattle.edit_acts.specs.Deeds.{CanBeDone, IsDone}
+use Rattle.edit_acts.specs.Deeds.{IsDone}
 use Rattle.edit_acts.specs.Removed.{IsTakenOut}
 use Rattle.edit_acts.specs.Scripted.{IsActed}
 use Rattle.edit_acts.specs.declared.removing.TakenOut.{TakenOut}
@@ -30,6 +35,24 @@ use Rattle.world_core.specs.declared.running.RunFault.{RunFault}
 use Rattle.world_core.specs.declared.running.RunFault.TheVariants.{Stopped, OutOfMemory, Undone}
 use Rattle.world_core.specs.declared.running.Running.{Running}
 use Rattle.world_core.specs.Running.{KeepsScript, KeepsTurns, taking_without, tells_of, view_of}
+
+-- Control can do what a command asks for: it can't add an element yet, or link a source that is asleep.
+abbrev pub CanBeAnswered : Edited → Deed → Type 0
+CanBeAnswered g (Relink source sink) = is_asleep g source.element ≡ false
+CanBeAnswered g (Unlink source sink eos) = Unit {0}
+CanBeAnswered g Add = ⊥
+CanBeAnswered g (Remove element) = Unit {0}
+
+-- how many items a lane to an element holds, where lanes feed it
+abbrev pub room_into : Edited → ℕ → Option ℕ
+room_into g e = option_and_then (λ (made : Made). room_by made.settings) (slice_get g.made e)
+
+-- how many items the lane holds that a deed makes, where it makes one
+abbrev pub room_for : Edited → Deed → Option ℕ
+room_for g (Relink source sink) = room_into g sink.element
+room_for g (Unlink source sink eos) = None
+room_for g Add = None
+room_for g (Remove element) = None
 
 -- nothing is told as done
 abbrev pub TellsNothingDone : Answer → Type 0
@@ -79,11 +102,17 @@ module _ {S E I O L : Type 0} {s : sources.Ghosts S} {e : elements.Ghosts E} {i 
   SetsAsideFor was is None = KeepsTurns was is
   SetsAsideFor was is (Some deed) = SetsAside was is deed
 
+  -- the table of lanes has one lane more, which is empty, where so many items are told that it holds; and else it is as it was
+  abbrev pub HasLanes : Option ℕ → Running S E I O L s e i o → Running S E I O L s e i o → Type 0
+  HasLanes None was is = is.lanes ≡ was.lanes
+  HasLanes (Some room) was is = tells_of is ≡ option_map (with_lane room) (tells_of was)
+
   -- The next command was answered.
   pub record ActsOn (was is : Running S E I O L s e i o) : Type 0 where
     pub acted : IsActed (view_of was) (view_of is)
     pub script : is.script.items ≡ was.script.items
     pub deed : Option Deed
+    pub lanes : (g : Edited) → IsEdited was.graph g → HasLanes (option_and_then (room_for g) deed) was is
     pub asks : (g : Edited) (m : Moment) → names_its_pad acted.command ≡ true → Controls was g m → AsksFor g m acted.command acted.entry.answer deed
     pub aside : SetsAsideFor was is deed
 
@@ -97,6 +126,7 @@ module _ {S E I O L : Type 0} {s : sources.Ghosts S} {e : elements.Ghosts E} {i 
   pub record IsEntered (was is : Running S E I O L s e i o) (answer : Answer) : Type 0 where
     pub entered : is.entries.items ≡ was.entries.items ++ record { answer = answer } ∷ []
     pub keeps : KeepsScript was is
+    pub probing : is.probing ≡ was.probing
     pub graph : is.graph ≡ was.graph
     pub feeds : is.feeds ≡ was.feeds
     pub tasks : is.tasks ≡ was.tasks
@@ -106,9 +136,9 @@ module _ {S E I O L : Type 0} {s : sources.Ghosts S} {e : elements.Ghosts E} {i 
   pub record IsCarriedOut (was is : Running S E I O L s e i o) (deed : Deed) (items : ℕ) (places : List Place) : Type 0 where
     pub entered : is.entries.items ≡ was.entries.items ++ record { answer = Done places } ∷ []
     pub script : is.script.items ≡ was.script.items
-    pub lanes : is.lanes ≡ was.lanes
+    pub lanes : (g : Edited) → IsEdited was.graph g → HasLanes (room_for g deed) was is
     pub done : (g : Edited) (m : Moment) (command : Command) → Controls was g m → IsToDo g m command deed items places
-        → CanBeDone g deed × IsDone is.graph is.feeds is.tasks.items g m (tells_of was) deed items
+        → CanBeAnswered g deed × IsDone is.graph is.feeds is.tasks.items g m (tells_of is) deed items
 
   -- The next command counts as done, and the graph has what it asks for; an element that was given something for it met a fault.
   pub record IsActedShort (was is : Running S E I O L s e i o) : Type 0 where
@@ -117,6 +147,7 @@ module _ {S E I O L : Type 0} {s : sources.Ghosts S} {e : elements.Ghosts E} {i 
     pub places : List Place
     pub next : (view_of was).commands ≡ command ∷ rest
     pub entered : is.entries.items ≡ was.entries.items ++ record { answer = Done places } ∷ []
+    pub lanes : is.lanes ≡ was.lanes
     pub answered : (g : Edited) (m : Moment) → names_its_pad command ≡ true → Controls was g m
         → (after : Edited) × IsAnswered g m.history (owed_then m) command (Done places) after × ((items : ℕ) × IsReached g m command items places) × IsEdited is.graph after
 
@@ -126,12 +157,14 @@ module _ {S E I O L : Type 0} {s : sources.Ghosts S} {e : elements.Ghosts E} {i 
     pub rest : List Command
     pub next : (view_of run).commands ≡ command ∷ rest
     pub asks : (g : Edited) (m : Moment) → names_its_pad command ≡ true → Controls run g m
-        → (deed : Deed) × (items : ℕ) × (places : List Place) × IsToDo g m command deed items places × (CanBeDone g deed → ⊥)
+        → (deed : Deed) × (items : ℕ) × (places : List Place) × IsToDo g m command deed items places × (CanBeAnswered g deed → ⊥)
 
-  -- where memory was wanting control has the run as it was, and the command is still to come
+  -- Where memory was wanting control has the run as it was, and the command is still to come. The table of lanes may have one lane more.
   pub record IsAsItWas (was is : Running S E I O L s e i o) : Type 0 where
     pub entries : is.entries.items ≡ was.entries.items
     pub keeps : KeepsScript was is
+    pub room : Option ℕ
+    pub lanes : HasLanes room was is
     pub control : (g : Edited) (m : Moment) → Controls was g m → Controls is g m
 
   -- why the next command was not answered whole
@@ -143,10 +176,11 @@ module _ {S E I O L : Type 0} {s : sources.Ghosts S} {e : elements.Ghosts E} {i 
   -- a deed that the next command asks for was not done whole
   pub record IsCarriedShort (was is : Running S E I O L s e i o) (deed : Deed) (items : ℕ) (places : List Place) : Type 0 where
     pub entered : is.entries.items ≡ was.entries.items ++ record { answer = Done places } ∷ []
-    pub edited : (g : Edited) (m : Moment) (command : Command) → Controls was g m → IsToDo g m command deed items places → CanBeDone g deed × IsEdited is.graph (made_by deed items g)
+    pub lanes : is.lanes ≡ was.lanes
+    pub edited : (g : Edited) (m : Moment) (command : Command) → Controls was g m → IsToDo g m command deed items places → CanBeAnswered g deed × IsEdited is.graph (made_by deed items g)
 
   -- why a deed was not done
   abbrev pub CarryFails : Running S E I O L s e i o → Running S E I O L s e i o → Deed → ℕ → List Place → RunFault → Type 0
   CarryFails was is deed items places (Stopped stopped) = IsCarriedShort was is deed items places
   CarryFails was is deed items places OutOfMemory = IsAsItWas was is
-  CarryFails was is deed items places Undone = (g : Edited) (m : Moment) (command : Command) → Controls was g m → IsToDo g m command deed items places → CanBeDone g deed → ⊥
+  CarryFails was is deed items places Undone = (g : Edited) (m : Moment) (command : Command) → Controls was g m → IsToDo g m command deed items places → CanBeAnswered g deed → ⊥

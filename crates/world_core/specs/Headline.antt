@@ -1,14 +1,18 @@
 -- What a run of words reports.
-use Rattle.std.specs.Prelude.{◌≡◌, ◌⊎◌, ℕ, Bool, List, [], Option, option_map, take}
+use Rattle.std.specs.Prelude.{◌≡◌, ◌⊎◌, ℕ, Bool, List, [], ◌∷◌, Option, length, option_map, take}
 use Rattle.gst_outside.specs.Bytes.{written}
 use Rattle.gst_outside.specs.Seen.{Seen}
 use Rattle.line_read.specs.Refusals.{IsRefusal}
 use Rattle.line_read.specs.Requests.{IsRequest}
 use Rattle.line_read.specs.Scripts.{HasCommands, RefusesScript}
+use Rattle.graph_core.specs.Graph.{made as made_in}
+use Rattle.graph_core.specs.declared.graph.Graph.{Graph}
+use Rattle.graph_parts.specs.Files.{WereTold}
 use Rattle.line_read.specs.declared.refusal.Refusal.{Refusal}
 use Rattle.line_read.specs.declared.request.Request.{Request}
 use Rattle.script_text.specs.declared.command.Command.{Command}
-use Rattle.world_core.specs.World.{IsUnwritten, IsWorldEnd}
+use Rattle.world_core.specs.Scripts.{AnswersScript}
+use Rattle.world_core.specs.World.{IsUnwritten, IsWorldEnd, RunUnopened}
 use Rattle.world_core.specs.declared.ended.WorldEnd.{WorldEnd}
 use Rattle.run_words.specs.Said.{options_of}
 use Rattle.world_core.specs.declared.outcome.Outcome.{Outcome}
@@ -44,12 +48,23 @@ pub record StopsAtScript (request : Request) (before after : Seen) (end : WorldE
   pub inputs : (l : List ℕ) → after.input l ≡ before.input l
   pub outputs : (l : List ℕ) → after.output l ≡ before.output l
 
+-- A run of a script that was read, and that began, has ended. With status 0 each command was answered. Where the contents of what the sources of the
+-- line read are told, the entries answer the first commands lawfully.
+pub record CommandsEnded (graph : Graph) (commands : List Command) (before : Seen) (end : WorldEnd) : Type 0 where
+  pub all : end.status ≡ 0 → length end.report.entries ≡ length commands
+  pub answered : (contents : ℕ → List ℕ) → WereTold (made_in graph) before contents → AnswersScript graph commands end.report.entries
+
+-- a run of a launch line with these commands, which were read, ended so
+abbrev pub EndsBy : Graph → List Command → Seen → Seen → WorldEnd → Type 0
+EndsBy graph [] before after end = IsWorldEnd graph before after end
+EndsBy graph (command ∷ commands) before after end = RunUnopened graph before after end ⊎ CommandsEnded graph (command ∷ commands) before end
+
 -- a request's run ended so, behind the reading of its script
 pub record EndsRun (request : Request) (before after : Seen) (end : WorldEnd) : Type 0 where
   pub begun : Seen
   pub commands : List Command
   pub script : HasCommands request.script before begun commands
-  pub ended : IsWorldEnd request.graph begun after end
+  pub ended : EndsBy request.graph commands begun after end
 
 abbrev pub IsRun : Request → Seen → Seen → WorldEnd → Type 0
 IsRun request before after end = StopsAtScript request before after end ⊎ EndsRun request before after end
@@ -58,12 +73,12 @@ IsRun request before after end = StopsAtScript request before after end ⊎ Ends
 abbrev pub IsReported : List (List ℕ) → Seen → Seen → WorldEnd → Type 0
 IsReported words before after end = ReportsRefusal words before after end ⊎ ((request : Request) × IsRequest words request × IsRun request before after end)
 
--- a request's run went so, behind the reading of its script
+-- a request's run went so, behind the reading of its script, where that has no commands
 pub record RanBehind (request : Request) (before : Seen) (Went : Seen → Type 0) : Type 0 where
   pub begun : Seen
   pub commands : List Command
   pub script : HasCommands request.script before begun commands
-  pub went : Went begun
+  pub went : commands ≡ [] → Went begun
 
 -- the request's script was not read, or its run went so
 abbrev pub HasRun : Request → Seen → Seen → (Seen → Type 0) → Type 0

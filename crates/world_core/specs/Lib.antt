@@ -11,7 +11,11 @@ pub mod Start
 pub mod Stopped
 pub mod Turned
 pub mod Laws
+pub mod Numbered
 pub mod Running
 pub mod Answering
 pub mod Begins
+pub mod Scripts
 pub mod Headline
+pub mod Probes
+pub mod Probing

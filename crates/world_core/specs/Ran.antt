@@ -1,5 +1,5 @@
 -- How the tasks of a line ran, by the ends that they gave back and what is told of them.
-use Rattle.std.specs.Prelude.{◌≡◌, ℕ, List, [], Option, None, Some, slice_get}
+use Rattle.std.specs.Prelude.{◌≡◌, ℕ, List, Option, None, Some, slice_get}
 use Rattle.std.specs.Option.{ForSome}
 use Rattle.gst_outside.specs.Causes.{Rose}
 use Rattle.lane_core.specs.declared.ends.Inlet as inlets
@@ -18,6 +18,7 @@ use Rattle.run_files.specs.declared.end.Opening.TheVariants.{Write}
 use Rattle.run_report.specs.declared.report.Fault.{Fault}
 use Rattle.run_report.specs.declared.report.Fault.TheVariants as faults
 use Rattle.run_report.specs.declared.report.StalledTask.{StalledTask}
+use Rattle.script_text.specs.declared.answer.Entry.{Entry}
 use Rattle.task_parts.specs.declared.fault.TaskFault.{TaskFault}
 use Rattle.task_parts.specs.declared.step.Step.{Step}
 use Rattle.graph_parts.specs.declared.counts.Count.{Count}
@@ -39,19 +40,19 @@ KnownFailed known e n = (k : Known) × (slice_get known e ≡ Some (Some k)) × 
 -- the status and the fault that are told of how tasks stopped
 abbrev pub stop_status : Stop → ℕ
 stop_status stops.Over = 0
-stop_status (stops.Stalled tasks) = 12
+stop_status (stops.Stalled command tasks) = 12
 stop_status (stops.Fault fault) = task_status fault
 
 abbrev pub stop_fault : List Made → Stop → Fault
 stop_fault made stops.Over = faults.Nothing
-stop_fault made (stops.Stalled tasks) = faults.Stalled None tasks
+stop_fault made (stops.Stalled command tasks) = faults.Stalled command tasks
 stop_fault made (stops.Fault fault) = task_fault made fault
 
--- What is told of a run: why it stopped, and what its pads and the files of its filesinks count.
-pub record TellsEnd (made : List Made) (stop : Stop) (pads : List Count) (lengths : List ℕ) (end : WorldEnd) : Type 0 where
+-- What is told of a run: why it stopped, what its pads and the files of its filesinks count, and how commands were answered.
+pub record TellsEnd (made : List Made) (stop : Stop) (pads : List Count) (lengths : List ℕ) (entries : List Entry) (end : WorldEnd) : Type 0 where
   pub status : end.status ≡ stop_status stop
   pub fault : end.report.fault ≡ stop_fault made stop
-  pub entries : end.report.entries ≡ []
+  pub entries_are : end.report.entries ≡ entries
   pub pads_are : end.report.pads ≡ pads_told made pads
   pub sinks_are : end.report.sinks ≡ sinks_told made lengths
 
@@ -62,4 +63,4 @@ pub data StopsAs {S E I O L : Type 0} {s : givers.Ghosts S} {e : elements.Ghosts
   at_fault : (fault : TaskFault) → StopsAs graph tasks steps (Some fault) (stops.Fault fault)
   over : TellsOver (is_live graph) (joins_in graph) tasks steps → StopsAs graph tasks steps None stops.Over
   stalled : (told : List StalledTask) → (TellsOver (is_live graph) (joins_in graph) tasks steps → ⊥) → TellsTasks (made_in graph) tasks steps told
-      → StopsAs graph tasks steps None (stops.Stalled told)
+      → StopsAs graph tasks steps None (stops.Stalled None told)

@@ -1,5 +1,6 @@
 //! The top call.
-ghost use Rattle.std.specs.Prelude.{◌≡◌, ◌≢◌, ◌<◌, ◌⊎◌, ◌^◌, ℕ, false, List, [], map, string_bytes, OnOk, OnErr};
+ghost use Rattle.std.specs.Prelude.{◌≡◌, ◌≢◌, ◌<◌, ◌⊎◌, ◌^◌, ℕ, All, false, true, List, [], map, string_bytes, OnOk, OnErr};
+ghost use Rattle.edit_core.specs.Deciding.{names_its_pad};
 ghost use Rattle.gst_outside.specs.Causes.{Rose};
 ghost use Rattle.run_report.specs.ReportText.{report_lines};
 ghost use Rattle.turn_order.specs.declared.order.Order.TheVariants as orders;
@@ -7,16 +8,17 @@ ghost use Rattle.world_core.specs.Turned.{RanByTurns};
 ghost use Rattle.world_core.specs.World.{IsBuilt, IsUnwritten};
 ghost use Rattle.run_report.specs.declared.report.Fault.TheVariants as faults;
 ghost use Rattle.world_core.specs.declared.launch.Untaken.TheVariants.{NotText};
-ghost use Rattle.world_core.specs.Headline.{HasGone, HasRun, IsReported, IsRun, IsUntouched, Wrote, WrotePart, is_quiet, world_end};
+ghost use Rattle.world_core.specs.Headline.{EndsBy, HasGone, HasRun, IsReported, IsRun, IsUntouched, Wrote, WrotePart, is_quiet, world_end};
 
 use crate::outcome::{Outcome, report_text};
-use crate::{WorldEnd, run_turns};
+use crate::{WorldEnd, run_script, run_turns};
 use flow_model::{TaskElement, TaskSource};
 use gst_outside::{Clock, Failed, Files, Sink, TaskGate};
 use gst_value::{List, OutOfMemory};
 use lane_core::{Inlet, MemInlet, MemOutlet, Outlet};
 use line_read::{Refusal, Request, read_commands, read_request};
 use run_report::{Fault, Report, no_memory};
+use script_text::Command;
 use std::alloc::Global;
 use std::sync::Wait;
 use std::thread::Threads;
@@ -54,6 +56,31 @@ fn not_begun(alloc: Global, refusal: Refusal) -> WorldEnd
     }
 }
 
+/// Runs the line of a request by turns that are drawn from its order, as these commands edit it.
+fn run_commands<F: Files>(
+    alloc: Global,
+    request: Request,
+    commands: List<Command>,
+    files: &mut F,
+) -> WorldEnd
+    requires built { IsBuilt request.graph }
+    ensures ended { result.status ≢ 13 → All (λ c. names_its_pad c ≡ true) commands
+        → EndsBy request.graph commands (F.seen files.old) (F.seen files.new) result }
+    ensures turned { result.status ≢ 13 → result.status ≢ 6 → commands ≡ []
+        → RanByTurns ⟦<StreamSource<F::Src> as TaskSource>⟧ ⟦<StreamElement<F::Snk> as TaskElement>⟧ ⟦<MemInlet as Inlet>⟧ ⟦<MemOutlet as Outlet>⟧
+        F.Src.Source F.Snk.Sink request.graph (orders.Drawn request.order) (F.seen files.old) result }
+    ensures status { result.status ≢ 14 }
+    ensures given_back { (F.seen files.old).ends < 2 ^ 63 → (F.seen files.new).ends ≡ (F.seen files.old).ends }
+    ensures inputs { (l : List ℕ) → (F.seen files.new).input l ≡ (F.seen files.old).input l }
+    ensures others { (l : List ℕ) → IsUnwritten request.graph l → (F.seen files.new).output l ≡ (F.seen files.old).output l }
+{
+    let order = Order::Drawn(request.order);
+    if commands.as_slice().is_empty() {
+        return run_turns(alloc, request.graph, files, order);
+    }
+    run_script(alloc, request.graph, commands, files, order)
+}
+
 /// Reads the script of a request and runs its line, by turns that are drawn from the order of the words.
 fn run_request<F: Files>(alloc: Global, request: Request, files: &mut F) -> WorldEnd
     requires built { IsBuilt request.graph }
@@ -67,7 +94,7 @@ fn run_request<F: Files>(alloc: Global, request: Request, files: &mut F) -> Worl
     ensures others { (l : List ℕ) → IsUnwritten request.graph l → (F.seen files.new).output l ≡ (F.seen files.old).output l }
 {
     match read_commands(alloc, &request, files) {
-        Ok(_none) => run_turns(alloc, request.graph, files, Order::Drawn(request.order)),
+        Ok(commands) => run_commands(alloc, request, commands, files),
         Err(refusal) => not_begun(alloc, refusal),
     }
 }
@@ -211,13 +238,14 @@ pub fn refuse<O: Sink>(alloc: Global, untaken: Untaken, out: &mut O) -> Outcome
 ///
 /// The words are `[--script FILE] [--threads on|off] [--order N] [--quiet] WORD...`. The WORDs are joined by one space
 /// each, and a space inside of a WORD gets a backslash. The tasks take turns on one thread, drawn from N, with both
-/// values of `--threads`. The script is read behind the line's graph, before a file of the line is opened; no act of its
-/// commands can be done yet.
+/// values of `--threads`. The script is read behind the line's graph, before a file of the line is opened. Of its acts
+/// `relink`, `unlink`, `unlink eos` and `remove` are done; `add` and each other one is refused with status 5, and its line is
+/// named.
 ///
-/// The status is that of the run, or 1 where the words are not taken or have no line, 2 where they spell no line, 3 and
-/// 4 where the line has no graph, 5 where the script's text is none, 6 and 7 where its file could not be opened or
-/// read, 13 where memory is wanting, and 14 where the report could not be written; `reported` is then the status whose
-/// place 14 took.
+/// The status is that of the run, which is 12 where no task can go on and the next command waits, or tasks do. It is 1 where
+/// the words are not taken or have no line, 2 where they spell no line, 3 and 4 where the line has no graph, 5 where the
+/// script's text is none, 6 and 7 where its file could not be opened or read, 13 where memory is wanting, and 14 where the
+/// report could not be written; `reported` is then the status whose place 14 took.
 pub fn run<H: Threads + Wait + Copy + Send + 'static, F: Files, C: Clock, G: TaskGate, O: Sink>(
     _rt: &H,
     alloc: Global,

@@ -1,12 +1,12 @@
 //! Pads by their numbers, and their names.
 ghost use Rattle.std.specs.Prelude.{◌≡◌, ◌≤◌, IfOk};
 ghost use Rattle.graph_core.specs.Ends.{name_at};
-ghost use Rattle.graph_core.specs.Graph.{made as made_in};
+ghost use Rattle.graph_core.specs.Elements.{all_made};
 ghost use Rattle.graph_core.specs.GraphPlan.{pad_id};
 ghost use Rattle.graph_parts.specs.MomentLaws.{place_of as place_in};
 ghost use Rattle.world_core.specs.Pads.{no_pad, sink_pad, source_pad};
 
-use graph_core::{Graph, PadPlace};
+use graph_core::{Elements, PadPlace};
 use gst_value::{OutOfMemory, PadName, Text};
 use std::alloc::Global;
 
@@ -33,21 +33,21 @@ pub(crate) fn lane_into(sink: PadPlace) -> u32
 }
 
 /// The name of an element, and no name where it is not there.
-pub(crate) fn name_of(alloc: Global, graph: &Graph, element: u32) -> Result<Text, OutOfMemory>
-    ensures { IfOk result (λ name. name ≡ name_at (made_in graph.now) element) }
+pub(crate) fn name_of(alloc: Global, elements: &Elements, element: u32) -> Result<Text, OutOfMemory>
+    ensures { IfOk result (λ name. name ≡ name_at (all_made elements.now) element) }
 {
-    match graph.name(element) {
-        Some(name) => Text::from_str(alloc, name),
-        None => Ok(Text::new(alloc)),
+    if element >= elements.count() {
+        return Ok(Text::new(alloc));
     }
+    Text::from_str(alloc, elements.name(element))
 }
 
 /// The name of an element in place of that of a pad which is not there.
-fn without_pad(alloc: Global, graph: &Graph, element: u32) -> Result<PadName, OutOfMemory>
-    ensures { IfOk result (λ name. name ≡ no_pad (made_in graph.now) element) }
+fn without_pad(alloc: Global, elements: &Elements, element: u32) -> Result<PadName, OutOfMemory>
+    ensures { IfOk result (λ name. name ≡ no_pad (all_made elements.now) element) }
 {
     Ok(PadName {
-        element: name_of(alloc, graph, element)?,
+        element: name_of(alloc, elements, element)?,
         pad: Text::new(alloc),
     })
 }
@@ -55,28 +55,28 @@ fn without_pad(alloc: Global, graph: &Graph, element: u32) -> Result<PadName, Ou
 /// The name of the source pad of a number.
 pub(crate) fn source_named(
     alloc: Global,
-    graph: &Graph,
+    elements: &Elements,
     number: u32,
 ) -> Result<PadName, OutOfMemory>
-    ensures { IfOk result (λ name. name ≡ source_pad (made_in graph.now) number) }
+    ensures { IfOk result (λ name. name ≡ source_pad (all_made elements.now) number) }
 {
     let place = place_of(number);
-    match graph.source_name(alloc, place)? {
+    match elements.source_name(alloc, place)? {
         Some(name) => Ok(name),
-        None => without_pad(alloc, graph, place.element),
+        None => without_pad(alloc, elements, place.element),
     }
 }
 
 /// The name of a sink pad.
 pub(crate) fn sink_named(
     alloc: Global,
-    graph: &Graph,
+    elements: &Elements,
     place: PadPlace,
 ) -> Result<PadName, OutOfMemory>
-    ensures { IfOk result (λ name. name ≡ sink_pad (made_in graph.now) place) }
+    ensures { IfOk result (λ name. name ≡ sink_pad (all_made elements.now) place) }
 {
-    match graph.sink_name(alloc, place)? {
+    match elements.sink_name(alloc, place)? {
         Some(name) => Ok(name),
-        None => without_pad(alloc, graph, place.element),
+        None => without_pad(alloc, elements, place.element),
     }
 }

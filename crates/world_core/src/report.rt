@@ -1,7 +1,7 @@
 //! The report of a run.
 ghost use Rattle.std.specs.Prelude.{◌≡◌, ◌<◌, ◌++◌, [], IfOk, OnOk, length};
 ghost use Rattle.std.specs.List.{cons_option};
-ghost use Rattle.graph_core.specs.Graph.{made as made_in};
+ghost use Rattle.graph_core.specs.Elements.{all_made};
 ghost use Rattle.el_settings.specs.Asked.{writes};
 ghost use Rattle.world_core.specs.Ran.{TellsEnd, stop_fault, stop_status};
 ghost use Rattle.world_core.specs.Told.{location_named, pad_told, pads_told, sink_told, sinks_told, task_fault, task_status};
@@ -9,10 +9,11 @@ ghost use Rattle.world_core.specs.Told.{location_named, pad_told, pads_told, sin
 use crate::ended::WorldEnd;
 use crate::pads::{MOST_PADS, name_of, place_of, source_named};
 use el_settings::Settings;
-use graph_core::Graph;
+use graph_core::Elements;
 use graph_parts::Count;
 use gst_value::{List, OutOfMemory, Text};
 use run_report::{Fault, PadCount, Report, SinkCount, StalledTask};
+use script_text::Entry;
 use std::alloc::Global;
 use task_parts::TaskFault;
 
@@ -21,21 +22,21 @@ const EOS: u8 = 0;
 const STALLED: u8 = 12;
 
 /// The location of an element's file, and none where it opens none.
-fn location_of(alloc: Global, graph: &Graph, element: u32) -> Result<Text, OutOfMemory>
-    ensures { IfOk result (λ location. location ≡ location_named (made_in graph.now) element) }
+fn location_of(alloc: Global, elements: &Elements, element: u32) -> Result<Text, OutOfMemory>
+    ensures { IfOk result (λ location. location ≡ location_named (all_made elements.now) element) }
 {
-    if element >= graph.count() {
+    if element >= elements.count() {
         return Ok(Text::new(alloc));
     }
-    match graph.settings(element).location() {
+    match elements.settings(element).location() {
         Some(location) => Text::from_str(alloc, location),
         None => Ok(Text::new(alloc)),
     }
 }
 
 /// The fault of a task, as a report tells it.
-fn fault_of(alloc: Global, graph: &Graph, fault: TaskFault) -> Result<Fault, OutOfMemory>
-    ensures { IfOk result (λ told. told ≡ task_fault (made_in graph.now) fault) }
+fn fault_of(alloc: Global, elements: &Elements, fault: TaskFault) -> Result<Fault, OutOfMemory>
+    ensures { IfOk result (λ told. told ≡ task_fault (all_made elements.now) fault) }
 {
     match fault {
         TaskFault::ReadFault {
@@ -43,7 +44,7 @@ fn fault_of(alloc: Global, graph: &Graph, fault: TaskFault) -> Result<Fault, Out
             before,
             after,
         } => Ok(Fault::ReadFault {
-            location: location_of(alloc, graph, element)?,
+            location: location_of(alloc, elements, element)?,
             before,
             after,
         }),
@@ -52,7 +53,7 @@ fn fault_of(alloc: Global, graph: &Graph, fault: TaskFault) -> Result<Fault, Out
             before,
             after,
         } => Ok(Fault::WriteFault {
-            location: location_of(alloc, graph, element)?,
+            location: location_of(alloc, elements, element)?,
             before,
             after,
         }),
@@ -61,7 +62,7 @@ fn fault_of(alloc: Global, graph: &Graph, fault: TaskFault) -> Result<Fault, Out
             place,
             kind,
         } => Ok(Fault::BadStream {
-            element: name_of(alloc, graph, element)?,
+            element: name_of(alloc, elements, element)?,
             place,
             kind,
         }),
@@ -70,17 +71,17 @@ fn fault_of(alloc: Global, graph: &Graph, fault: TaskFault) -> Result<Fault, Out
             offered,
             wanted,
         } => Ok(Fault::NotNegotiated {
-            element: name_of(alloc, graph, element)?,
+            element: name_of(alloc, elements, element)?,
             offered,
             wanted,
         }),
         TaskFault::TooLong { element, a, b } => Ok(Fault::TooLong {
-            element: name_of(alloc, graph, element)?,
+            element: name_of(alloc, elements, element)?,
             a,
             b,
         }),
         TaskFault::NotLinked { pad, place } => Ok(Fault::NotLinked {
-            pad: source_named(alloc, graph, pad)?,
+            pad: source_named(alloc, elements, pad)?,
             place,
         }),
         TaskFault::OutOfMemory => Ok(Fault::Nothing),
@@ -119,13 +120,13 @@ pub(crate) fn push_some<T: Drop>(
 /// What the source pad of a number has counted, where it is there.
 fn count_at(
     alloc: Global,
-    graph: &Graph,
+    elements: &Elements,
     counts: &[Count],
     number: u32,
 ) -> Result<Option<PadCount>, OutOfMemory>
-    ensures { IfOk result (λ count. count ≡ pad_told (made_in graph.now) counts.now number) }
+    ensures { IfOk result (λ count. count ≡ pad_told (all_made elements.now) counts.now number) }
 {
-    let Some(pad) = graph.source_name(alloc, place_of(number))? else {
+    let Some(pad) = elements.source_name(alloc, place_of(number))? else {
         return Ok(None);
     };
     match counts.get(number as usize) {
@@ -139,12 +140,16 @@ fn count_at(
 }
 
 /// What all source pads have counted, in the order of their elements, those of one by number.
-fn counts_of(alloc: Global, graph: &Graph, counts: &[Count]) -> Result<List<PadCount>, OutOfMemory>
-    ensures { IfOk result (λ told. told ≡ pads_told (made_in graph.now) counts.now) }
+fn counts_of(
+    alloc: Global,
+    elements: &Elements,
+    counts: &[Count],
+) -> Result<List<PadCount>, OutOfMemory>
+    ensures { IfOk result (λ told. told ≡ pads_told (all_made elements.now) counts.now) }
 {
     let mut told = List::new(alloc);
-    for number in 0..graph.count() * MOST_PADS {
-        push_some(alloc, &mut told, count_at(alloc, graph, counts, number)?)?;
+    for number in 0..elements.count() * MOST_PADS {
+        push_some(alloc, &mut told, count_at(alloc, elements, counts, number)?)?;
     }
     Ok(told)
 }
@@ -159,19 +164,19 @@ fn writes_file(settings: &Settings) -> bool
 /// The length of the file of an element, where it writes one.
 fn length_at(
     alloc: Global,
-    graph: &Graph,
+    elements: &Elements,
     lengths: &[u64],
     element: u32,
 ) -> Result<Option<SinkCount>, OutOfMemory>
-    requires { element < length (made_in graph.now) }
-    ensures { IfOk result (λ count. count ≡ sink_told (made_in graph.now) lengths.now element) }
+    requires { element < length (all_made elements.now) }
+    ensures { IfOk result (λ count. count ≡ sink_told (all_made elements.now) lengths.now element) }
 {
-    if !writes_file(graph.settings(element)) {
+    if !writes_file(elements.settings(element)) {
         return Ok(None);
     }
     match lengths.get(element as usize) {
         Some(bytes) => Ok(Some(SinkCount {
-            name: name_of(alloc, graph, element)?,
+            name: name_of(alloc, elements, element)?,
             bytes: *bytes,
         })),
         None => Ok(None),
@@ -179,15 +184,19 @@ fn length_at(
 }
 
 /// The lengths of the files of all filesinks, in their order.
-fn lengths_of(alloc: Global, graph: &Graph, lengths: &[u64]) -> Result<List<SinkCount>, OutOfMemory>
-    ensures { IfOk result (λ counts. counts ≡ sinks_told (made_in graph.now) lengths.now) }
+fn lengths_of(
+    alloc: Global,
+    elements: &Elements,
+    lengths: &[u64],
+) -> Result<List<SinkCount>, OutOfMemory>
+    ensures { IfOk result (λ counts. counts ≡ sinks_told (all_made elements.now) lengths.now) }
 {
     let mut counts = List::new(alloc);
-    for element in 0..graph.count() {
+    for element in 0..elements.count() {
         push_some(
             alloc,
             &mut counts,
-            length_at(alloc, graph, lengths, element)?,
+            length_at(alloc, elements, lengths, element)?,
         )?;
     }
     Ok(counts)
@@ -198,50 +207,48 @@ fn lengths_of(alloc: Global, graph: &Graph, lengths: &[u64]) -> Result<List<Sink
 pub(crate) enum Stop {
     /// Their run is over.
     Over,
-    /// None can move, and the run is not over.
-    Stalled(List<StalledTask>),
+    /// None can move, and the run is not over. The command of this number waits, where one is left.
+    Stalled {
+        command: Option<u32>,
+        tasks: List<StalledTask>,
+    },
     /// One met a fault.
     Fault(TaskFault),
 }
 
 /// The status and the fault of a run, by how its tasks stopped.
-fn stop_told(alloc: Global, graph: &Graph, stop: Stop) -> Result<(u8, Fault), OutOfMemory>
-    ensures { IfOk result (λ told. (told.0 ≡ stop_status stop) × (told.1 ≡ stop_fault (made_in graph.now) stop)) }
+fn stop_told(alloc: Global, elements: &Elements, stop: Stop) -> Result<(u8, Fault), OutOfMemory>
+    ensures { IfOk result (λ told. (told.0 ≡ stop_status stop) × (told.1 ≡ stop_fault (all_made elements.now) stop)) }
 {
     match stop {
         Stop::Over => Ok((EOS, Fault::Nothing)),
-        Stop::Stalled(tasks) => Ok((
-            STALLED,
-            Fault::Stalled {
-                command: None,
-                tasks,
-            },
-        )),
+        Stop::Stalled { command, tasks } => Ok((STALLED, Fault::Stalled { command, tasks })),
         Stop::Fault(fault) => {
             let status = status_of(&fault);
-            Ok((status, fault_of(alloc, graph, fault)?))
+            Ok((status, fault_of(alloc, elements, fault)?))
         }
     }
 }
 
-/// How a run ended, by how its tasks stopped, the counts of the source pads of its elements by number, and the lengths of their
-/// files, in bytes, in the order of the elements.
+/// How a run ended, by how its tasks stopped, the counts of the source pads of its elements by number, the lengths of their
+/// files, in bytes, in the order of the elements, and how the commands of its script were answered.
 pub(crate) fn end_of(
     alloc: Global,
-    graph: &Graph,
+    elements: &Elements,
     stop: Stop,
     counts: &[Count],
     lengths: &[u64],
+    entries: List<Entry>,
 ) -> Result<WorldEnd, OutOfMemory>
-    ensures { IfOk result (TellsEnd (made_in graph.now) stop counts.now lengths.now) }
+    ensures { IfOk result (TellsEnd (all_made elements.now) stop counts.now lengths.now entries) }
 {
-    let (status, fault) = stop_told(alloc, graph, stop)?;
+    let (status, fault) = stop_told(alloc, elements, stop)?;
     Ok(WorldEnd {
         status,
         report: Report {
-            entries: List::new(alloc),
-            pads: counts_of(alloc, graph, counts)?,
-            sinks: lengths_of(alloc, graph, lengths)?,
+            entries,
+            pads: counts_of(alloc, elements, counts)?,
+            sinks: lengths_of(alloc, elements, lengths)?,
             fault,
         },
     })

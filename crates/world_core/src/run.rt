@@ -31,7 +31,7 @@ use graph_core::Graph;
 use graph_parts::{Blanks, Count, Filled, count_pads, openings_of, take_back};
 use graph_tasks::{Plan, WiredTasks, wire};
 use gst_outside::{Files, Sink, Source};
-use gst_value::{OutOfMemory, Text};
+use gst_value::{List, OutOfMemory, Text};
 use lane_core::{Inlet, MemInlet, MemLanes, MemOutlet, Outlet};
 use net_task::Task;
 use net_turns::{Stopped, run_tasks};
@@ -48,11 +48,11 @@ const OPEN_FAULT: u8 = 6;
 
 /// Room for what a run counts.
 #[derive(Drop)]
-struct Counts {
+pub(crate) struct Counts {
     /// What crossed the source pads, by their numbers.
-    pads: Vec<Count>,
+    pub(crate) pads: Vec<Count>,
     /// The lengths of the files of filesinks, in bytes, in the order of the elements.
-    lengths: Vec<u64>,
+    pub(crate) lengths: Vec<u64>,
 }
 
 /// What a run takes the memory for before a file is open.
@@ -85,13 +85,13 @@ where
 }
 
 /// How a run ended, with the files of its elements.
-struct Ran<S, K> {
-    end: WorldEnd,
-    ends: Vec<Option<End<S, K>>>,
+pub(crate) struct Ran<S, K> {
+    pub(crate) end: WorldEnd,
+    pub(crate) ends: Vec<Option<End<S, K>>>,
 }
 
 /// Room for what the elements of a graph count.
-fn counts_for(alloc: Global, graph: &Graph) -> Result<Counts, OutOfMemory>
+pub(crate) fn counts_for(alloc: Global, graph: &Graph) -> Result<Counts, OutOfMemory>
     ensures { IfOk result (λ counts. HasRoom (length (made_in graph.now)) counts.pads.items counts.lengths.items) }
 {
     let nothing = Count {
@@ -144,10 +144,13 @@ fn stop_in<S: TaskSource, E: TaskElement, I: Inlet<Out = O>, O: Outlet<Lanes = I
     if let Err(stopped) = ran {
         return Ok(Stop::Fault(stopped.fault.into_fault()));
     }
-    if is_over(graph, tasks, steps) {
+    if is_over(graph.elements(), graph.live_marks(), tasks, steps) {
         return Ok(Stop::Over);
     }
-    Ok(Stop::Stalled(stalled_tasks(alloc, graph, tasks, steps)?))
+    Ok(Stop::Stalled {
+        command: None,
+        tasks: stalled_tasks(alloc, graph.elements(), tasks, steps)?,
+    })
 }
 
 /// How a run ended, where there is memory to tell how its tasks stopped.
@@ -158,9 +161,16 @@ fn told_end(
     counts: &[Count],
     lengths: &[u64],
 ) -> Result<WorldEnd, OutOfMemory>
-    ensures { IfOk result (λ end. (own : StopOf) × (stop ≡ Ok own) × TellsEnd (made_in graph.now) own counts.now lengths.now end) }
+    ensures { IfOk result (λ end. (own : StopOf) × (stop ≡ Ok own) × TellsEnd (made_in graph.now) own counts.now lengths.now [] end) }
 {
-    end_of(alloc, graph, stop?, counts, lengths)
+    end_of(
+        alloc,
+        graph.elements(),
+        stop?,
+        counts,
+        lengths,
+        List::new(alloc),
+    )
 }
 
 /// Runs all tasks by turns. Where they end, `steps` has what each answered at last.
@@ -296,7 +306,7 @@ fn location_of(
 }
 
 /// The end of a run that did not begin.
-fn not_begun(alloc: Global, openings: &[Option<Opening>], unopened: Unopened) -> WorldEnd
+pub(crate) fn not_begun(alloc: Global, openings: &[Option<Opening>], unopened: Unopened) -> WorldEnd
     ensures ended { result.status ≢ 13 → (before after : Seen) → IsUnopened openings.now before after unopened → NotBegun openings.now before after result }
     ensures statuses { IsRunStatus result.status }
 {

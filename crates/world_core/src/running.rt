@@ -1,17 +1,22 @@
 //! What takes turns in a run that commands edit.
 ghost use Rattle.std.specs.Prelude.{◌≡◌, ◌≤◌, OnOk, vec_len, vec_capacity};
+ghost use Rattle.world_core.specs.Numbered.{next_number};
 
 use edit_core::Feeds;
 use flow_model::{TaskElement, TaskSource};
 use graph_edits::EditedGraph;
-use gst_value::{List, OutOfMemory};
+use gst_value::OutOfMemory;
 use lane_core::{Inlet, MemInlet, MemOutlet, Outlet};
 use net_task::Task;
 use net_turns::{Stopped, has_moved, step_at, try_each};
+use script_probes::ScriptProbes;
 use script_text::{Command, Entry};
 use std::alloc::Global;
 use task_parts::Step;
 use turn_loop::TakesTurns;
+
+/// The last number of 32 bits but one.
+const LAST_BUT_ONE: usize = 4294967294;
 
 /// Why a run can't go on.
 #[derive(Drop)]
@@ -20,8 +25,17 @@ pub enum RunFault {
     Stopped { stopped: Stopped },
     /// Memory is wanting.
     OutOfMemory,
-    /// The next command asks for something that control can't do yet.
+    /// The next command asks for something that control can't do yet: it can't add an element, or link a source that is asleep.
     Undone,
+}
+
+/// The probes of a script, and how many times one was set.
+#[derive(Drop)]
+pub struct Probing {
+    /// Which command stops the next buffer of a pad.
+    pub(crate) probes: ScriptProbes,
+    /// How many times a pad got a probe: for each command at first, and behind each answer.
+    pub(crate) count: usize,
 }
 
 /// A run that commands edit, which `run` of turn_loop takes to its end. Its tasks that take turns come first; the loose ones stand behind them.
@@ -41,6 +55,7 @@ pub struct Running<S: TaskSource, E: TaskElement, I: Inlet<Out = O>, O: Outlet<L
     pub(crate) removed: Vec<Task<S, E, I, O>>,
     /// What each task answered when all were tried at last.
     pub(crate) steps: Vec<Step>,
+    pub(crate) probing: Probing,
     ghost answered: { vec_len entries ≤ vec_len script },
     ghost room: { vec_len script ≤ vec_capacity entries },
 }
@@ -56,6 +71,10 @@ pub struct Ended<S: TaskSource, E: TaskElement, I: Inlet<Out = O>, O: Outlet<Lan
     pub graph: EditedGraph,
     /// How the first commands of the script were answered.
     pub entries: Vec<Entry>,
+    /// How many tasks take turns: these come first.
+    pub taking: usize,
+    /// The number of the next command, where one is left. The first has the number 1.
+    pub waits: Option<u32>,
 }
 
 impl<S: TaskSource, E: TaskElement, I: Inlet<Out = O>, O: Outlet<Lanes = I::Lanes>> Running<
@@ -64,10 +83,10 @@ impl<S: TaskSource, E: TaskElement, I: Inlet<Out = O>, O: Outlet<Lanes = I::Lane
     I,
     O,
 > {
-    ghost use Rattle.std.specs.Prelude.{[], IfOk};
+    ghost use Rattle.std.specs.Prelude.{[], None, length};
 
     /// A run over these tasks, of which so many take turns and come first, with the graph and the feeders that control keeps. All commands
-    /// are still to come.
+    /// are still to come. There is room for how each is answered, so that it takes no memory.
     pub fn new(
         alloc: Global,
         tasks: Vec<Task<S, E, I, O>>,
@@ -75,15 +94,19 @@ impl<S: TaskSource, E: TaskElement, I: Inlet<Out = O>, O: Outlet<Lanes = I::Lane
         lanes: I::Lanes,
         graph: EditedGraph,
         feeds: Feeds,
-        commands: List<Command>,
-    ) -> Result<Running<S, E, I, O>, OutOfMemory>
-        ensures tasks { IfOk result (λ run. (run.tasks ≡ tasks) × (run.taking ≡ taking) × (run.lanes ≡ lanes) × (run.removed.items ≡ [])) }
-        ensures control { IfOk result (λ run. (run.graph ≡ graph) × (run.feeds ≡ feeds)) }
-        ensures script { IfOk result (λ run. (run.script.items ≡ commands) × (run.entries.items ≡ [])) }
+        script: Vec<Command>,
+        probes: ScriptProbes,
+        entries: Vec<Entry>,
+    ) -> Running<S, E, I, O>
+        requires unanswered { entries.items ≡ [] }
+        requires room { vec_len script ≤ vec_capacity entries }
+        ensures tasks { (result.tasks ≡ tasks) × (result.taking ≡ taking) × (result.lanes ≡ lanes) }
+        ensures control { (result.graph ≡ graph) × (result.feeds ≡ feeds) }
+        ensures script { (result.script ≡ script) × (result.entries ≡ entries) }
+        ensures probes { result.probing.probes ≡ probes }
+        ensures notes { (result.removed.items ≡ []) × (result.steps.items ≡ []) }
     {
-        let script = commands.into_vec();
-        let entries = Vec::with_capacity(alloc, script.len())?;
-        Ok(Running {
+        Running {
             tasks,
             taking,
             lanes,
@@ -93,7 +116,8 @@ impl<S: TaskSource, E: TaskElement, I: Inlet<Out = O>, O: Outlet<Lanes = I::Lane
             entries,
             removed: Vec::new(alloc),
             steps: Vec::new(alloc),
-        })
+            probing: Probing { probes, count: 0 },
+        }
     }
 
     /// How the first commands of the script were answered, in their order.
@@ -107,9 +131,14 @@ impl<S: TaskSource, E: TaskElement, I: Inlet<Out = O>, O: Outlet<Lanes = I::Lane
     pub fn end(self) -> Ended<S, E, I, O>
         ensures tasks { (result.tasks ≡ self.tasks) × (result.steps ≡ self.steps) × (result.removed ≡ self.removed) }
         ensures control { (result.graph ≡ self.graph) × (result.entries ≡ self.entries) }
+        ensures taking { result.taking ≡ self.taking }
+        ensures waits { result.waits ≡ next_number (length self.entries.items) (length self.script.items) }
+        ensures all { result.waits ≡ None → length self.entries.items ≡ length self.script.items }
     {
+        let waits = next_number(self.entries.len(), self.script.len());
         let Running {
             tasks,
+            taking,
             steps,
             removed,
             graph,
@@ -122,6 +151,8 @@ impl<S: TaskSource, E: TaskElement, I: Inlet<Out = O>, O: Outlet<Lanes = I::Lane
             removed,
             graph,
             entries,
+            taking,
+            waits,
         }
     }
 }
@@ -129,28 +160,29 @@ impl<S: TaskSource, E: TaskElement, I: Inlet<Out = O>, O: Outlet<Lanes = I::Lane
 impl<S: TaskSource, E: TaskElement> TakesTurns for Running<S, E, MemInlet, MemOutlet> {
     ghost use Rattle.net_turns.specs.Net.{NetReady};
     ghost use Rattle.net_turns.specs.Turns.{net_left};
-    ghost use Rattle.world_core.specs.Running.{HasMetAt, HasMetAsTried, IsStepped, IsTried, commands_left, taking_of, tells_of};
-    ghost use Rattle.world_core.specs.Answering.{ActFails, ActsOn, NothingCanBeDone};
+    ghost use Rattle.world_core.specs.Running.{HasMetAt, HasMetAsTried, IsStepped, IsTried, KeepsElements, taking_of, tells_of};
+    ghost use Rattle.world_core.specs.Answering.{ActFails};
+    ghost use Rattle.world_core.specs.Probing.{AreProbes, HasActed, Waits, acts_left};
 
     type Fault = RunFault;
 
-    ghost ready = { λ run. NetReady run.tasks.items (tells_of run) };
+    ghost ready = { λ run. NetReady run.tasks.items (tells_of run) × AreProbes run };
 
     ghost count = { taking_of };
 
-    ghost acts_left = { commands_left };
+    ghost acts_left = { acts_left };
 
     ghost moves_left = { λ run. net_left run.tasks.items };
 
-    ghost acted = { ActsOn };
+    ghost acted = { λ was is. HasActed was is × KeepsElements was is };
 
-    ghost waits = { NothingCanBeDone };
+    ghost waits = { Waits };
 
     ghost stepped = { IsStepped };
 
     ghost tried = { IsTried };
 
-    ghost act_failed = { ActFails };
+    ghost act_failed = { λ was is fault. ActFails was is fault × KeepsElements was is };
 
     ghost step_failed = { HasMetAt };
 
@@ -161,7 +193,10 @@ impl<S: TaskSource, E: TaskElement> TakesTurns for Running<S, E, MemInlet, MemOu
     }
 
     fn act(&mut self, alloc: Global) -> Result<bool, RunFault> {
-        self.answer_next(alloc)
+        match self.unprobed() {
+            Some(place) => self.probe_at(alloc, place),
+            None => self.answer_next(alloc),
+        }
     }
 
     fn step(&mut self, alloc: Global, place: usize) -> Result<bool, RunFault> {
@@ -187,4 +222,14 @@ fn fit(steps: &mut Vec<Step>, count: usize) -> Result<(), OutOfMemory>
     ensures { OnOk result (vec_len steps.new ≡ count) }
 {
     Ok(steps.resize(count, Step::Ended)?)
+}
+
+/// The number of the next of so many commands, where so many are answered and one is left. Behind the last number of 32 bits it is that.
+fn next_number(answered: usize, commands: usize) -> Option<u32>
+    ensures { result ≡ next_number answered commands }
+{
+    if answered >= commands {
+        return None;
+    }
+    Some(answered.min(LAST_BUT_ONE) as u32 + 1)
 }

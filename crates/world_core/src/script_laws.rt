@@ -8,6 +8,7 @@ ghost use Rattle.graph_edits.specs.Edited.{Edited};
 ghost use Rattle.edit_core.specs.Deciding.{names_its_pad};
 ghost use Rattle.edit_acts.specs.Scripted.{IsScripted};
 ghost use Rattle.world_core.specs.Running.{view_of};
+ghost use Rattle.world_core.specs.Scripts.{RunsAnswer, RunsKeep};
 
 use crate::running::Running;
 use edit_acts::scripts::{acts_keep_scripts, turns_keep_scripts};
@@ -25,3 +26,17 @@ pub fn runs_keep_scripts<S: TaskSource, E: TaskElement>()
     acts_keep_scripts::<S, E, MemInlet, MemOutlet>();
     turns_keep_scripts::<S, E, MemInlet, MemOutlet>();
 }
+
+/// Where such a run has ended, or a task met a fault or an element in an edit, its entries answer the first commands of its script lawfully,
+/// one after the other, and no place that they name falls.
+pub fn runs_answer<S: TaskSource, E: TaskElement>()
+    ensures { RunsAnswer ⟦<Running<S, E, MemInlet, MemOutlet> as TakesTurns>⟧ }
+{
+    acts_keep_scripts::<S, E, MemInlet, MemOutlet>();
+    turns_keep_scripts::<S, E, MemInlet, MemOutlet>();
+}
+
+/// Where such a run has ended or met a fault, its elements and sources are those that it had, each with its file.
+pub fn runs_keep<S: TaskSource, E: TaskElement>()
+    ensures { RunsKeep ⟦<Running<S, E, MemInlet, MemOutlet> as TakesTurns>⟧ }
+{}

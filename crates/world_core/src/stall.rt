@@ -1,9 +1,10 @@
 //! Whether a run that can't go on is over or stalled, and why.
 ghost use Rattle.std.specs.Prelude.{◌≡◌, ◌<◌, ◌↔◌, IfOk, IsTrue, length, slice_get};
 ghost use Rattle.std.specs.Option.{unwrap_or};
-ghost use Rattle.graph_core.specs.Graph.{is_live, made as made_in};
+ghost use Rattle.graph_core.specs.Elements.{all_made, has};
+ghost use Rattle.graph_order.specs.Marks.{is_marked};
+ghost use Rattle.el_settings.specs.Asked.{makes_sinks};
 ghost use Rattle.graph_core.specs.GraphPlan.{pad_id, sink_count};
-ghost use Rattle.graph_tasks.specs.Over.{joins_in};
 ghost use Rattle.net_task.specs.Counted.{received_by};
 ghost use Rattle.net_task.specs.Frame.{frame_of};
 ghost use Rattle.net_turns.specs.Ends.{TellsOver, head_number};
@@ -12,7 +13,7 @@ ghost use Rattle.world_core.specs.Stopped.{step_over};
 
 use crate::pads::{lane_into, name_of, place_of, sink_named};
 use flow_model::{TaskElement, TaskSource};
-use graph_core::{Graph, PadPlace};
+use graph_core::{Elements, PadPlace};
 use gst_value::{List, OutOfMemory};
 use lane_core::{Inlet, Outlet};
 use net_task::Task;
@@ -34,36 +35,43 @@ fn head_of<S: TaskSource, E: TaskElement, I: Inlet<Out = O>, O: Outlet<Lanes = I
 }
 
 /// Whether an element brings streams together.
-fn joins(graph: &Graph, element: u32) -> bool
-    ensures { result ≡ joins_in graph.now element }
+fn joins(elements: &Elements, element: u32) -> bool
+    ensures { result ≡ has makes_sinks (all_made elements.now) element }
 {
-    element < graph.count() && graph.settings(element).makes_sinks()
+    element < elements.count() && elements.settings(element).makes_sinks()
 }
 
 /// Whether a step that a task answered lets the run be over: nothing waits in the task, and where its first element is live and brings
 /// streams together it has ended.
-fn lets_over(graph: &Graph, head: u32, step: Step) -> bool
-    ensures { result ≡ step_over (is_live graph.now) (joins_in graph.now) head step }
+fn lets_over(elements: &Elements, live: &[bool], head: u32, step: Step) -> bool
+    ensures { result ≡ step_over (is_marked live.now) (has makes_sinks (all_made elements.now)) head step }
 {
     match step {
         Step::Ended => true,
-        Step::NeedsItem(_) => !(graph.live(head) && joins(graph, head)),
+        Step::NeedsItem(_) => !(is_live(live, head) && joins(elements, head)),
         Step::Moved | Step::NeedsRoom(_) | Step::AtProbe(_) => false,
     }
 }
 
-/// Whether the run of tasks that can't move is over, by the steps that they answered.
+/// Whether an element is marked as live.
+fn is_live(live: &[bool], element: u32) -> bool
+    ensures { result ≡ is_marked live.now element }
+{
+    matches!(live.get(element as usize), Some(true))
+}
+
+/// Whether the run of tasks that can't move is over, by the steps that they answered and by which elements are live.
 pub(crate) fn is_over<
     S: TaskSource,
     E: TaskElement,
     I: Inlet<Out = O>,
     O: Outlet<Lanes = I::Lanes>,
->(graph: &Graph, tasks: &[Task<S, E, I, O>], steps: &[Step]) -> bool
+>(elements: &Elements, live: &[bool], tasks: &[Task<S, E, I, O>], steps: &[Step]) -> bool
     requires { length steps.now ≡ length tasks.now }
-    ensures { IsTrue result ↔ TellsOver (is_live graph.now) (joins_in graph.now) tasks.now steps.now }
+    ensures { IsTrue result ↔ TellsOver (is_marked live.now) (has makes_sinks (all_made elements.now)) tasks.now steps.now }
 {
     for place in 0..tasks.len() {
-        if !lets_over(graph, head_of(&tasks[place]), steps[place]) {
+        if !lets_over(elements, live, head_of(&tasks[place]), steps[place]) {
             return false;
         }
     }
@@ -71,11 +79,11 @@ pub(crate) fn is_over<
 }
 
 /// The sink pad into which the lane of a number leads; where it is none of the line, the first of an element.
-fn lane_pad(graph: &Graph, head: u32, lane: u32) -> PadPlace
-    ensures { result ≡ lane_place (made_in graph.now) head lane }
+fn lane_pad(elements: &Elements, head: u32, lane: u32) -> PadPlace
+    ensures { result ≡ lane_place (all_made elements.now) head lane }
 {
     let place = place_of(lane);
-    if place.element < graph.count() {
+    if place.element < elements.count() {
         return place;
     }
     PadPlace {
@@ -87,19 +95,19 @@ fn lane_pad(graph: &Graph, head: u32, lane: u32) -> PadPlace
 /// Why a task with this first element can't move, by the step that it answered.
 fn reason_of(
     alloc: Global,
-    graph: &Graph,
+    elements: &Elements,
     head: u32,
     step: Step,
 ) -> Result<StallReason, OutOfMemory>
-    ensures { IfOk result (λ reason. reason ≡ stall_reason (made_in graph.now) head step) }
+    ensures { IfOk result (λ reason. reason ≡ stall_reason (all_made elements.now) head step) }
 {
     match step {
         Step::NeedsItem(lane) => {
-            let pad = sink_named(alloc, graph, lane_pad(graph, head, lane))?;
+            let pad = sink_named(alloc, elements, lane_pad(elements, head, lane))?;
             Ok(StallReason::NeedsItem(pad))
         }
         Step::NeedsRoom(lane) => {
-            let pad = sink_named(alloc, graph, lane_pad(graph, head, lane))?;
+            let pad = sink_named(alloc, elements, lane_pad(elements, head, lane))?;
             Ok(StallReason::NeedsRoom(pad))
         }
         Step::AtProbe(command) => Ok(StallReason::AtProbe(command)),
@@ -110,15 +118,15 @@ fn reason_of(
 /// How many items a task took at a sink pad of its first element, none where that is not linked.
 fn place_at_pad<S: TaskSource, E: TaskElement, I: Inlet<Out = O>, O: Outlet<Lanes = I::Lanes>>(
     alloc: Global,
-    graph: &Graph,
+    elements: &Elements,
     task: &Task<S, E, I, O>,
     sink: PadPlace,
 ) -> Result<Place, OutOfMemory>
-    requires { sink.pad < sink_count (slice_get (made_in graph.now) sink.element) }
-    ensures { IfOk result (λ place. place ≡ place_told (made_in graph.now) (λ s. unwrap_or (received_by I.Inlet (pad_id s) task.now.head) 0) sink) }
+    requires { sink.pad < sink_count (slice_get (all_made elements.now) sink.element) }
+    ensures { IfOk result (λ place. place ≡ place_told (all_made elements.now) (λ s. unwrap_or (received_by I.Inlet (pad_id s) task.now.head) 0) sink) }
 {
     Ok(Place {
-        pad: sink_named(alloc, graph, sink)?,
+        pad: sink_named(alloc, elements, sink)?,
         items: task.received(lane_into(sink)).unwrap_or(0),
     })
 }
@@ -126,16 +134,16 @@ fn place_at_pad<S: TaskSource, E: TaskElement, I: Inlet<Out = O>, O: Outlet<Lane
 /// How many items a task took at each sink pad of its first element.
 fn taken_by<S: TaskSource, E: TaskElement, I: Inlet<Out = O>, O: Outlet<Lanes = I::Lanes>>(
     alloc: Global,
-    graph: &Graph,
+    elements: &Elements,
     task: &Task<S, E, I, O>,
     head: u32,
 ) -> Result<List<Place>, OutOfMemory>
-    ensures { IfOk result (λ places. places ≡ places_of (made_in graph.now) (λ s. unwrap_or (received_by I.Inlet (pad_id s) task.now.head) 0) head) }
+    ensures { IfOk result (λ places. places ≡ places_of (all_made elements.now) (λ s. unwrap_or (received_by I.Inlet (pad_id s) task.now.head) 0) head) }
 {
     let mut places = List::new(alloc);
-    for pad in 0..graph.sink_pads(head) {
+    for pad in 0..elements.sink_pads(head) {
         let sink = PadPlace { element: head, pad };
-        places.push(alloc, place_at_pad(alloc, graph, task, sink)?)?;
+        places.push(alloc, place_at_pad(alloc, elements, task, sink)?)?;
     }
     Ok(places)
 }
@@ -143,17 +151,17 @@ fn taken_by<S: TaskSource, E: TaskElement, I: Inlet<Out = O>, O: Outlet<Lanes = 
 /// What is told of a task that can't move, by the step that it answered.
 fn stalled_task<S: TaskSource, E: TaskElement, I: Inlet<Out = O>, O: Outlet<Lanes = I::Lanes>>(
     alloc: Global,
-    graph: &Graph,
+    elements: &Elements,
     task: &Task<S, E, I, O>,
     step: Step,
 ) -> Result<StalledTask, OutOfMemory>
-    ensures { IfOk result (λ told. told ≡ task_told (made_in graph.now) task.now step) }
+    ensures { IfOk result (λ told. told ≡ task_told (all_made elements.now) task.now step) }
 {
     let head = head_of(task);
     Ok(StalledTask {
-        head: name_of(alloc, graph, head)?,
-        reason: reason_of(alloc, graph, head, step)?,
-        taken: taken_by(alloc, graph, task, head)?,
+        head: name_of(alloc, elements, head)?,
+        reason: reason_of(alloc, elements, head, step)?,
+        taken: taken_by(alloc, elements, task, head)?,
     })
 }
 
@@ -165,16 +173,16 @@ pub(crate) fn stalled_tasks<
     O: Outlet<Lanes = I::Lanes>,
 >(
     alloc: Global,
-    graph: &Graph,
+    elements: &Elements,
     tasks: &[Task<S, E, I, O>],
     steps: &[Step],
 ) -> Result<List<StalledTask>, OutOfMemory>
     requires { length steps.now ≡ length tasks.now }
-    ensures { IfOk result (TellsTasks (made_in graph.now) tasks.now steps.now) }
+    ensures { IfOk result (TellsTasks (all_made elements.now) tasks.now steps.now) }
 {
     let mut stalled = List::new(alloc);
     for place in 0..tasks.len() {
-        let told = stalled_task(alloc, graph, &tasks[place], steps[place])?;
+        let told = stalled_task(alloc, elements, &tasks[place], steps[place])?;
         stalled.push(alloc, told)?;
     }
     Ok(stalled)

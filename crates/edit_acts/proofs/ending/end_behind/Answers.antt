@@ -2,6 +2,7 @@ use Rattle.std.proofs.Common.{ap}
 use Rattle.net_groups.specs.Splits.{pads_of}
 use Rattle.edit_acts.proofs.Ends.{ended_cut, inside_ends, inside_link}
 use Rattle.edit_acts.proofs.Undoes.{ToldSplit, room_then, told_ready}
+use Rattle.edit_acts.proofs.Files.{ended_files, files_same, files_then, not_ended_files, told_split}
 use Rattle.edit_acts.proofs.ending.end_behind.Goals as goal
 
 pub split_reserved-requires-clause-room : goal.split_reserved-requires-clause-room
@@ -30,3 +31,15 @@ returns-in-Ok-false-clause-none g c = λ is. (
   inside_link c.args.tasks.now.items c.args.pad c.requires.room.place _ c.requires.room.leads (c.in-Ok-false.ensures.none c.in-Ok-false.field-0-test).0,
   ap (λ (v : _). v.items) (c.in-Ok-false.ensures.none c.in-Ok-false.field-0-test).1,
 )
+
+pub returns-in-Ok-true-clause-files : goal.returns-in-Ok-true-clause-files
+returns-in-Ok-true-clause-files g c =
+    files_then c.args.tasks.now.items c.end_inside.new.tasks.items c.split_reserved.new.tasks.items
+    (ended_files c.args.tasks.now.items c.end_inside.new.tasks.items c.args.pad (c.in-Ok-true.ensures.ended c.in-Ok-true.field-0-test))
+    (told_split c.split_reserved.result c.end_inside.new.tasks.items c.split_reserved.new.tasks.items c.args.element _ (told g c))
+
+pub returns-in-Ok-false-clause-files : goal.returns-in-Ok-false-clause-files
+returns-in-Ok-false-clause-files g c = files_same c.args.tasks.now.items c.end_inside.new.tasks.items (ap (λ (v : _). v.items) (c.in-Ok-false.ensures.none c.in-Ok-false.field-0-test).1)
+
+pub returns-in-Err-clause-files : goal.returns-in-Err-clause-files
+returns-in-Err-clause-files g c = not_ended_files c.args.tasks.now.items c.end_inside.new.tasks.items c.args.pad c.in-Err.fault c.in-Err.ensures.faults

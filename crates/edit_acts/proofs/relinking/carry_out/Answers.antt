@@ -4,6 +4,7 @@ use Rattle.flow_model.specs.Edit.{unlinked}
 use Rattle.graph_edits.specs.Edited.{unlinked_at}
 use Rattle.edit_core.proofs.Decided.{carry}
 use Rattle.edit_acts.proofs.Carried.{carry_fault, may_at, opening_now, run_undone, run_with, runs, short, to_keep}
+use Rattle.edit_acts.proofs.Files.{files_then}
 use Rattle.edit_acts.proofs.relinking.carry_out.Goals as goal
 
 pub link-requires-clause-room : goal.link-requires-clause-room
@@ -42,3 +43,6 @@ returns-clause-kept g c = λ graph edited m tells source ready was w.
 
 pub returns-clause-ready : goal.returns-clause-ready
 returns-clause-ready g c = λ tells ready. c.link.ensures.ready tells (c.undo.ensures.ready tells ready)
+
+pub returns-clause-files : goal.returns-clause-files
+returns-clause-files g c = files_then c.args.tasks.now.items c.undo.new.tasks.items c.link.new.tasks.items c.undo.ensures.files c.link.ensures.files

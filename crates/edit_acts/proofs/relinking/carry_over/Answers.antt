@@ -2,9 +2,11 @@ use Rattle.std.proofs.Common.{List, ap, sym, subst, ◌∙◌}
 use Rattle.gst_item.specs.Item.{has_item}
 use Rattle.net_task.specs.declared.task.Task.{Task}
 use Rattle.net_turns.specs.Net.{NetReady}
-use Rattle.net_edits.specs.Over.{opening_in}
+use Rattle.net_edits.specs.Over.{NoneSends, opening_in}
 use Rattle.edit_acts.proofs.Carried.{run_undone, run_with, to_keep}
-use Rattle.edit_acts.proofs.Carrying.{ToldOver, ready_over, runs_over}
+use Rattle.edit_acts.proofs.Carrying.{ToldOver, none_over, over_ready, runs_over}
+use Rattle.edit_acts.proofs.Ends.{either_way}
+use Rattle.edit_acts.proofs.Files.{files_same, files_then, linked_over_files}
 use Rattle.edit_acts.proofs.relinking.carry_over.Goals as goal
 
 pub link_over-requires-clause-room : goal.link_over-requires-clause-room
@@ -25,11 +27,33 @@ returns-clause-run g c = λ graph edited m tells source ready was w lane.
     (ran.0, record { run = ran.1; feeds = kept })
 
 pub returns-clause-ready : goal.returns-clause-ready
-returns-clause-ready g c = λ graph edited m tells source prepared w lane ready.
-    let mid = run_undone graph c.args.feeds.now c.args.tasks.now.items edited m tells source c.args.sink c.args.items w c.args.prepared.pad prepared.number c.undo.new.tasks.items
-    (c.undo.ensures.run edited m tells source (run_with graph c.args.feeds.now c.args.tasks.now.items edited m tells source c.args.sink c.args.items w c.args.prepared.pad prepared.number)) in
-    ready_over graph c.args.feeds.now c.args.tasks.now.items edited m tells source c.args.sink c.args.items w c.undo.new.tasks.items c.link_over.new.tasks.items c.args.to (opening_in c.args.room) c.link_over.result c.args.prepared.pad prepared.number mid lane.leads
-    (c.undo.ensures.lane tells c.args.to lane.new) (c.undo.ensures.ready tells ready) (told g c)
+returns-clause-ready g c = λ tells ready new.
+    over_ready c.undo.new.tasks.items c.link_over.new.tasks.items tells c.args.prepared.pad c.args.to (opening_in c.args.room) c.link_over.result (c.undo.ensures.ready tells ready) (c.undo.ensures.lane tells c.args.to new)
+    (subst (λ (ts : List (Task _ _ _ _ _ _ _ _ _)). NoneSends ts c.args.to.element c.args.to.pad) c.as_slice.ensures.value (c.is_pad_sent_to.ensures.none c.if-is_pad_sent_to.false)) (told g c)
 
 pub returns-clause-stays_ready : goal.returns-clause-stays_ready
 returns-clause-stays_ready g c = λ is tells ready. subst (λ (ts : List (Task _ _ _ _ _ _ _ _ _)). NetReady ts tells) (sym ((told g c).same is)) (c.undo.ensures.ready tells ready)
+
+pub returns-clause-files : goal.returns-clause-files
+returns-clause-files g c =
+    files_then c.args.tasks.now.items c.undo.new.tasks.items c.link_over.new.tasks.items c.undo.ensures.files
+    (either_way c.link_over.result
+    (λ is. linked_over_files c.undo.new.tasks.items c.link_over.new.tasks.items c.args.prepared.pad c.args.to (opening_in c.args.room) (c.link_over.ensures.linked is))
+    (λ is. files_same c.undo.new.tasks.items c.link_over.new.tasks.items ((told g c).same is)))
+
+pub returns-then-is_pad_sent_to-clause-run : goal.returns-then-is_pad_sent_to-clause-run
+returns-then-is_pad_sent_to-clause-run g c = λ graph edited m tells source ready was w lane.
+    let mid = run_undone graph c.args.feeds.now c.args.tasks.now.items edited m tells source c.args.sink c.args.items w c.args.prepared.pad ready.number c.undo.new.tasks.items
+    (c.undo.ensures.run edited m tells source (run_with graph c.args.feeds.now c.args.tasks.now.items edited m tells source c.args.sink c.args.items w c.args.prepared.pad ready.number)) in
+    let sent = c.is_pad_sent_to.ensures.sends c.if-is_pad_sent_to.true in
+    let none = none_over graph c.args.feeds.now c.args.tasks.now.items edited m tells source c.args.sink c.args.items w c.undo.new.tasks.items c.args.to c.args.prepared.pad ready.number mid lane.leads in
+    absurd (subst (λ (ts : List (Task _ _ _ _ _ _ _ _ _)). NoneSends ts c.args.to.element c.args.to.pad) (sym c.as_slice.ensures.value) none sent.0 sent.1.0 sent.1.1 sent.1.2 sent.1.3)
+
+pub returns-then-is_pad_sent_to-clause-ready : goal.returns-then-is_pad_sent_to-clause-ready
+returns-then-is_pad_sent_to-clause-ready g c = λ tells ready new. c.undo.ensures.ready tells ready
+
+pub returns-then-is_pad_sent_to-clause-stays_ready : goal.returns-then-is_pad_sent_to-clause-stays_ready
+returns-then-is_pad_sent_to-clause-stays_ready g c = λ is tells ready. c.undo.ensures.ready tells ready
+
+pub returns-then-is_pad_sent_to-clause-files : goal.returns-then-is_pad_sent_to-clause-files
+returns-then-is_pad_sent_to-clause-files g c = c.undo.ensures.files

@@ -1,10 +1,12 @@
-use Rattle.std.proofs.Common.{ℕ, List, false, subst, sym}
+use Rattle.std.proofs.Common.{ℕ, List, false, refl, subst, sym}
 use Rattle.net_task.specs.declared.task.Task.{Task}
 use Rattle.net_turns.specs.Net.{NetReady}
 use Rattle.edit_acts.specs.Relinked.{IsToLink, IsToRelink}
 use Rattle.edit_acts.proofs.Apart.{low}
 use Rattle.edit_acts.proofs.Carried.{has_again, is_relinked}
 use Rattle.edit_acts.proofs.Deeds.{no_sink, no_source, source_made}
+use Rattle.edit_acts.specs.Files.{KeepFiles}
+use Rattle.edit_acts.proofs.Files.{files_same}
 use Rattle.edit_acts.proofs.relinking.relink.Goals as goal
 
 pub returns-in_default-clause-run : goal.returns-in_default-clause-run
@@ -65,3 +67,27 @@ returns-then-source-count-clause-run g c = λ graph m tells w.
 pub returns-then-sink-count-clause-run : goal.returns-then-sink-count-clause-run
 returns-then-sink-count-clause-run g c = λ graph m tells w.
     absurd (no_sink c.args.graph.now c.args.feeds.now c.args.tasks.now.items graph m tells c.args.source c.args.sink c.args.items w c.count-count.result c.count-count.ensures.made c.if-sink-count.true)
+
+pub returns-then-source-count-clause-files : goal.returns-then-source-count-clause-files
+returns-then-source-count-clause-files g c = files_same c.args.tasks.now.items c.args.tasks.now.items refl
+
+pub returns-then-sink-count-clause-files : goal.returns-then-sink-count-clause-files
+returns-then-sink-count-clause-files g c = files_same c.args.tasks.now.items c.args.tasks.now.items refl
+
+pub returns-in_default-clause-files : goal.returns-in_default-clause-files
+returns-in_default-clause-files g c = files_same c.args.tasks.now.items c.args.tasks.now.items refl
+
+pub returns-in-Err-clause-files : goal.returns-in-Err-clause-files
+returns-in-Err-clause-files g c = files_same c.args.tasks.now.items c.args.tasks.now.items refl
+
+pub returns-in-Ok-carry_out-clause-files : goal.returns-in-Ok-carry_out-clause-files
+returns-in-Ok-carry_out-clause-files g c = subst (λ (ts : List (Task _ _ _ _ _ _ _ _ _)). KeepFiles ts c.carry_out.new.tasks.items) c.in-Ok-Some.ensures.tasks c.carry_out.ensures.files
+
+pub returns-in-Err-carry_out-clause-files : goal.returns-in-Err-carry_out-clause-files
+returns-in-Err-carry_out-clause-files g c = subst (λ (ts : List (Task _ _ _ _ _ _ _ _ _)). KeepFiles ts c.carry_out.new.tasks.items) c.in-Ok-Some.ensures.tasks c.carry_out.ensures.files
+
+pub returns-in-Ok-None-clause-files : goal.returns-in-Ok-None-clause-files
+returns-in-Ok-None-clause-files g c = files_same c.args.tasks.now.items c.prepare.new.tasks.items c.in-Ok-None.ensures.tasks
+
+pub returns-in-Err-prepare-clause-files : goal.returns-in-Err-prepare-clause-files
+returns-in-Err-prepare-clause-files g c = files_same c.args.tasks.now.items c.prepare.new.tasks.items c.in-Err-prepare.ensures.tasks

@@ -4,6 +4,7 @@ use Rattle.net_task.specs.declared.task.Task.{Task}
 use Rattle.net_task.specs.Frame.{frame_of}
 use Rattle.net_turns.specs.Net.{HasElement, Owns}
 use Rattle.net_edits.specs.Adding.{NoneOwns}
+use Rattle.edit_acts.proofs.Files.{files_none, files_same, out_files}
 use Rattle.edit_acts.proofs.removing.take_out.Goals as goal
 
 pub take_task-task-requires-clause-place : goal.take_task-task-requires-clause-place
@@ -32,3 +33,9 @@ returns-in-Some-clause-ready g c = λ tells ready free.
     c.take_task-task.ensures.ready tells c.args.element ready (free.alone c.in-Some.place c.take_task-task.result c.take_task-task.ensures.task has)
     (λ k p lane from port s.
     free.unsent k (record { task = s.task; at = s.at; sends = record { wire = s.out.wire; is = s.out.is; lane = s.out.lane; port = port; from = from; leads = s.out.leads } }))
+
+pub returns-in-Some-clause-files : goal.returns-in-Some-clause-files
+returns-in-Some-clause-files g c = out_files c.args.tasks.now.items c.take_task-task.new.tasks.items c.in-Some.place c.take_task-task.result c.take_task-task.ensures.task c.take_task-task.ensures.taken
+
+pub returns-in-None-clause-files : goal.returns-in-None-clause-files
+returns-in-None-clause-files g c = files_none c.args.tasks.now.items c.args.tasks.now.items (files_same c.args.tasks.now.items c.args.tasks.now.items refl)

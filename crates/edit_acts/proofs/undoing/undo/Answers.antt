@@ -6,6 +6,7 @@ use Rattle.edit_acts.proofs.Laned.{cut_none, cut_room, split_none, split_room}
 use Rattle.edit_acts.proofs.RowsMore.{new_among}
 use Rattle.edit_acts.proofs.Undoes.{ToldSplit, room_then, split_run, told_ready, told_stands, took_beside, whole_run}
 use Rattle.edit_acts.proofs.Unlinked.{AreCut, told_cut}
+use Rattle.edit_acts.proofs.Files.{files_then, told_split, told_unlinked}
 use Rattle.edit_acts.proofs.undoing.undo.Goals as goal
 
 pub split_reserved-requires-clause-room : goal.split_reserved-requires-clause-room
@@ -81,3 +82,12 @@ pub returns-in_default-clause-lane : goal.returns-in_default-clause-lane
 returns-in_default-clause-lane g c = λ tells to new.
     let cut : AreCut c.args.pad c.args.tasks.now.items c.unlink.new.tasks.items = told_cut c.args.pad c.args.tasks.now c.unlink.new.tasks c.unlink.result c.unlink.ensures.undone c.unlink.ensures.none in
     new_among c.args.tasks.now.items c.unlink.new.tasks.items tells to (λ at none. cut_none c.args.pad c.args.tasks.now.items c.unlink.new.tasks.items cut at none) new
+
+pub returns-in-Split-clause-files : goal.returns-in-Split-clause-files
+returns-in-Split-clause-files g c =
+    files_then c.args.tasks.now.items c.unlink.new.tasks.items c.split_reserved.new.tasks.items
+    (told_unlinked c.args.pad c.args.tasks.now c.unlink.new.tasks c.unlink.result c.unlink.ensures.undone c.unlink.ensures.none)
+    (told_split c.split_reserved.result c.unlink.new.tasks.items c.split_reserved.new.tasks.items c.in-Split.element _ (told g c))
+
+pub returns-in_default-clause-files : goal.returns-in_default-clause-files
+returns-in_default-clause-files g c = told_unlinked c.args.pad c.args.tasks.now c.unlink.new.tasks c.unlink.result c.unlink.ensures.undone c.unlink.ensures.none

@@ -7,6 +7,8 @@ use Rattle.edit_core.specs.Ways.{IsRun}
 use Rattle.net_turns.specs.Net.{NetReady}
 use Rattle.edit_acts.specs.Undoing.{IsRunWith}
 use Rattle.edit_acts.proofs.Controls.{few, is_made, is_unlinked, items_is, link_is, run_with}
+use Rattle.edit_acts.specs.Files.{KeepFiles}
+use Rattle.edit_acts.proofs.Files.{files_same}
 use Rattle.edit_acts.proofs.unlinking.unlink.Goals as goal
 
 -- a source pad with a link has a number
@@ -39,3 +41,12 @@ returns-clause-graph g c = λ done graph edited. c.undo_kept.ensures.graph graph
 
 pub returns-clause-ready : goal.returns-clause-ready
 returns-clause-ready g c = λ tells ready. c.undo.ensures.ready tells (subst (λ (ts : List (Task _ _ _ _ _ _ _ _ _)). NetReady ts tells) (sym c.in_ok-room.ensures.items) ready)
+
+pub returns-in_default-clause-files : goal.returns-in_default-clause-files
+returns-in_default-clause-files g c = files_same c.args.tasks.now.items c.args.tasks.now.items refl
+
+pub returns-in_err-room-clause-files : goal.returns-in_err-room-clause-files
+returns-in_err-room-clause-files g c = files_same c.args.tasks.now.items c.room_to_undo.new.tasks.items c.room_to_undo.ensures.items
+
+pub returns-clause-files : goal.returns-clause-files
+returns-clause-files g c = subst (λ (ts : List (Task _ _ _ _ _ _ _ _ _)). KeepFiles ts c.undo.new.tasks.items) c.room_to_undo.ensures.items c.undo.ensures.files

@@ -7,6 +7,8 @@ use Rattle.graph_core.specs.GraphPlan.{pad_id}
 use Rattle.edit_acts.proofs.Carried.{has_again}
 use Rattle.edit_acts.proofs.Controls.{few, has_link, is_made, link_is}
 use Rattle.edit_acts.proofs.EosControls.{crossed, ends_short, is_ended, roomy_with, wanting}
+use Rattle.edit_acts.specs.Files.{KeepFiles}
+use Rattle.edit_acts.proofs.Files.{files_same}
 use Rattle.edit_acts.proofs.unlinking.unlink_eos.Goals as goal
 
 -- a source pad with a link has a number
@@ -70,3 +72,21 @@ returns-in-Err-Failed-clause-ready g c = λ tells ready. c.end.ensures.ready tel
 
 pub returns-in-Err-OutOfMemory-clause-ready : goal.returns-in-Err-OutOfMemory-clause-ready
 returns-in-Err-OutOfMemory-clause-ready g c = λ tells ready. c.end.ensures.ready tells (subst (λ (ts : List (Task _ _ _ _ _ _ _ _ _)). NetReady ts tells) (sym c.room_to_undo.ensures.items) ready)
+
+pub returns-in_default-clause-files : goal.returns-in_default-clause-files
+returns-in_default-clause-files g c = files_same c.args.tasks.now.items c.args.tasks.now.items refl
+
+pub returns-in-Err-clause-files : goal.returns-in-Err-clause-files
+returns-in-Err-clause-files g c = files_same c.args.tasks.now.items c.room_to_undo.new.tasks.items c.room_to_undo.ensures.items
+
+pub returns-in-Ok-true-clause-files : goal.returns-in-Ok-true-clause-files
+returns-in-Ok-true-clause-files g c = subst (λ (ts : List (Task _ _ _ _ _ _ _ _ _)). KeepFiles ts c.end.new.tasks.items) c.room_to_undo.ensures.items c.end.ensures.files
+
+pub returns-in-Ok-false-clause-files : goal.returns-in-Ok-false-clause-files
+returns-in-Ok-false-clause-files g c = subst (λ (ts : List (Task _ _ _ _ _ _ _ _ _)). KeepFiles ts c.end.new.tasks.items) c.room_to_undo.ensures.items c.end.ensures.files
+
+pub returns-in-Err-Failed-clause-files : goal.returns-in-Err-Failed-clause-files
+returns-in-Err-Failed-clause-files g c = subst (λ (ts : List (Task _ _ _ _ _ _ _ _ _)). KeepFiles ts c.end.new.tasks.items) c.room_to_undo.ensures.items c.end.ensures.files
+
+pub returns-in-Err-OutOfMemory-clause-files : goal.returns-in-Err-OutOfMemory-clause-files
+returns-in-Err-OutOfMemory-clause-files g c = subst (λ (ts : List (Task _ _ _ _ _ _ _ _ _)). KeepFiles ts c.end.new.tasks.items) c.room_to_undo.ensures.items c.end.ensures.files

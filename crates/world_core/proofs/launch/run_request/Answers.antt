@@ -1,15 +1,16 @@
 use Rattle.std.proofs.Common.{inl, inr, ◌∙◌}
+use Rattle.world_core.proofs.Commands.{asked_named}
 use Rattle.world_core.proofs.launch.run_request.Goals as goal
 
 pub returns-in-Ok-clause-reported : goal.returns-in-Ok-clause-reported
 returns-in-Ok-clause-reported g c =
     λ found.
-    inr (record { begun = g.F.Files.seen c.read_commands.new.files; commands = c.in-Ok._none; script = c.in-Ok.ensures.commands; ended = c.run_turns.ensures.ended found })
+    inr (record { begun = g.F.Files.seen c.read_commands.new.files; commands = c.in-Ok.commands; script = c.in-Ok.ensures.commands; ended = c.run_commands.ensures.ended found (asked_named _ (g.F.Files.seen c.args.files.now) c.in-Ok.commands c.in-Ok.ensures.commands.asked) })
 
 pub returns-in-Ok-clause-turned : goal.returns-in-Ok-clause-turned
 returns-in-Ok-clause-turned g c =
     λ found began.
-    inr (record { begun = g.F.Files.seen c.read_commands.new.files; commands = c.in-Ok._none; script = c.in-Ok.ensures.commands; went = c.run_turns.ensures.turned found began })
+    inr (record { begun = g.F.Files.seen c.read_commands.new.files; commands = c.in-Ok.commands; script = c.in-Ok.ensures.commands; went = c.run_commands.ensures.turned found began })
 
 pub returns-in-Err-clause-reported : goal.returns-in-Err-clause-reported
 returns-in-Err-clause-reported g c =

@@ -1,7 +1,8 @@
-use Rattle.graph_core.specs.Graph.{is_live}
-use Rattle.graph_tasks.specs.Over.{joins_in}
+use Rattle.el_settings.specs.Asked.{makes_sinks}
+use Rattle.graph_core.specs.Elements.{all_made, has}
+use Rattle.graph_order.specs.Marks.{is_marked}
 use Rattle.world_core.proofs.StallOver.{LetOver}
 use Rattle.world_core.proofs.stall.is_over.Given as goal
 
 abbrev pub invariant-loop-place : goal.invariant-loop-place
-invariant-loop-place g l = LetOver (is_live l.graph) (joins_in l.graph) l.tasks l.steps l.place
+invariant-loop-place g l = LetOver (is_marked l.live) (has makes_sinks (all_made l.elements)) l.tasks l.steps l.place

@@ -24,4 +24,5 @@ returns-in-Err-clause-failed g c = (
       c.in-Err.ensures.met,
   c.in-Err.ensures.within,
   record { graph = refl; feeds = refl; commands = refl; entries = refl },
+  record { script = refl; turns = record { taking = refl; removed = refl } },
 )

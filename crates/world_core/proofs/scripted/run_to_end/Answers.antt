@@ -1,0 +1,44 @@
+use Rattle.std.proofs.Common.{◌∙◌, ap, length, refl, sym}
+use Rattle.graph_edits.specs.Graph.{made as made_of}
+use Rattle.graph_edits.specs.declared.graph.EditedGraph.{EditedGraph}
+use Rattle.world_core.specs.Scripts.{ScriptStops}
+use Rattle.world_core.proofs.ScriptBegun.{script_ready}
+use Rattle.world_core.proofs.ScriptEnds.{run_kept, run_tried, script_ended, told_so}
+use Rattle.world_core.proofs.ScriptFiles.{located_so}
+use Rattle.world_core.proofs.scripted.run_to_end.Goals as goal
+
+pub run-ran-requires : goal.run-ran-requires
+run-ran-requires g c = record {
+  ready = script_ready g.S.Source g.K.Sink c.requires.begun.0 c.requires.begun.1 c.args.run c.args.rest.items c.args.left.items c.requires.begun.2 c.requires.begun.3;
+}
+
+pub stop_of_script-stop-requires : goal.stop_of_script-stop-requires
+stop_of_script-stop-requires g c = record {
+  answered = λ is.
+      ap (λ steps. length steps.items) c.end-ended.ensures.tasks.1
+      ∙ run_tried _ c.args.turns c.new-turns.result c.run-ran.new.turns (λ low. c.new-turns.ensures.at) c.args.run c.run-ran.new.all c.runs_answer.ensures c.run-ran.result c.run-ran.ensures.ended is
+      ∙ sym (ap (λ tasks. length tasks.items) c.end-ended.ensures.tasks.0);
+}
+
+pub returns-in-Ok-clause-ended : goal.returns-in-Ok-clause-ended
+returns-in-Ok-clause-ended g c = λ graph script before begins some.
+    script_ended _ c.args.turns c.new-turns.result c.run-ran.new.turns (λ low. c.new-turns.ensures.at) c.args.run c.run-ran.new.all c.runs_answer.ensures graph script begins.script_is c.end-ended.result
+    c.end-ended.ensures.control.1 c.end-ended.ensures.all before begins.scripted c.run-ran.result c.in-Ok.ensures.0
+    (told_so c.stop_of_script-stop.result c.in-Ok.ensures.0 c.in-Ok.ensures.1 (ScriptStops c.end-ended.result c.run-ran.result) c.stop_of_script-stop.ensures) c.run-ran.ensures.ended c.run-ran.ensures.failed
+    c.in-Ok.end c.in-Ok.ensures.2.status c.in-Ok.ensures.2.entries_are
+
+pub returns-in-Ok-clause-located : goal.returns-in-Ok-clause-located
+returns-in-Ok-clause-located g c = λ graph script before begins.
+    located_so g.S.Source g.K.Sink (λ x. refl) (λ x. refl) graph script c.args.run c.args.rest.items c.args.left.items before begins c.run-ran.new.all
+    (run_kept _ c.args.turns c.new-turns.result c.run-ran.new.turns (λ low. c.new-turns.ensures.at) c.args.run c.run-ran.new.all c.runs_keep.ensures c.run-ran.result c.run-ran.ensures.ended c.run-ran.ensures.failed)
+    c.end-ended.result.tasks.items c.end-ended.result.removed.items (ap (λ tasks. tasks.items) c.end-ended.ensures.tasks.0) (ap (λ tasks. tasks.items) c.end-ended.ensures.tasks.2) _ _
+    (c.elements.ensures ∙ ap (λ (edited : EditedGraph). made_of edited) c.end-ended.ensures.control.0) (c.elements-2.ensures ∙ ap (λ (edited : EditedGraph). made_of edited) c.end-ended.ensures.control.0)
+    c.new-nothing.result.items c.new-nothing.ensures.items c.take_back.new.ends.items c.take_back-2.new.ends.items c.take_back.ensures.ends c.take_back-2.ensures.ends
+
+pub returns-clause-located : goal.returns-clause-located
+returns-clause-located g c = λ graph script before begins.
+    located_so g.S.Source g.K.Sink (λ x. refl) (λ x. refl) graph script c.args.run c.args.rest.items c.args.left.items before begins c.run-ran.new.all
+    (run_kept _ c.args.turns c.new-turns.result c.run-ran.new.turns (λ low. c.new-turns.ensures.at) c.args.run c.run-ran.new.all c.runs_keep.ensures c.run-ran.result c.run-ran.ensures.ended c.run-ran.ensures.failed)
+    c.end-ended.result.tasks.items c.end-ended.result.removed.items (ap (λ tasks. tasks.items) c.end-ended.ensures.tasks.0) (ap (λ tasks. tasks.items) c.end-ended.ensures.tasks.2) _ _
+    (c.elements.ensures ∙ ap (λ (edited : EditedGraph). made_of edited) c.end-ended.ensures.control.0) (c.elements-2.ensures ∙ ap (λ (edited : EditedGraph). made_of edited) c.end-ended.ensures.control.0)
+    c.new-nothing.result.items c.new-nothing.ensures.items c.take_back.new.ends.items c.take_back-2.new.ends.items c.take_back.ensures.ends c.take_back-2.ensures.ends
