@@ -17,13 +17,7 @@ use Rattle.el_select.specs.Selects.{Knows, PutsSticky}
 use Rattle.el_select.proofs.Knowing.{knows_item}
 use Rattle.el_select.proofs.Sticking.{stickies_free}
 
--- some list left them in force: none, or that of before with the item
-none_left : (s : InForce) → s ≡ in_force [] → IsLeft s
-none_left s e = record { list = []; left = e }
-
-pub left_new : (s : InForce) → s ≡ in_force [] → ∥ IsLeft s ∥₁
-left_new s e = ∣ none_left s e ∣₁
-
+-- some list left them in force: that of before with the item
 abbrev pub Passes : InForce → InForce → Item → Type 0
 Passes s t x = (h : List Item) → s ≡ in_force h → t ≡ in_force (h ++ x ∷ [])
 
