@@ -43,6 +43,7 @@ mod Acting
 mod Commands
 mod Turns
 mod Scripting
+mod Watched
 mod ProbeActs
 mod Aside
 mod Elements

@@ -41,11 +41,14 @@ use Rattle.world_core.specs.Probes.{StandFor}
 use Rattle.world_core.specs.Probing.{AreProbes}
 use Rattle.world_core.specs.Running.{tells_of, view_of}
 use Rattle.world_core.specs.Scripts.{AreAllPlanned, IsControlOf, ScriptBegins}
+use Rattle.world_core.specs.Watching.{IsWatched}
 use Rattle.world_core.specs.World.{IsBuilt}
 use Rattle.world_core.specs.declared.running.Running.{Running}
 use Rattle.world_core.specs.declared.scripted.Control.{Control}
+use Rattle.world_core.specs.declared.watching.Watch.TheVariants.{Unasked}
 use Rattle.world_core.proofs.AtHand.{MakesStreams, at_hand}
 use Rattle.world_core.proofs.Standing.{elements_stand, sources_stand}
+use Rattle.world_core.proofs.Watched.{nothing_known}
 
 module _ {S K I O L : Type 0} (giver : givers.Ghosts (StreamSource S)) (taker : elements.Ghosts (StreamElement K))
     (i : inlets.Ghosts I L O) (o : outlets.Ghosts O L)
@@ -65,7 +68,7 @@ module _ {S K I O L : Type 0} (giver : givers.Ghosts (StreamSource S)) (taker : 
       (so : (made : List Made) (links : List PadLink) (bags : List Bag) (lanes : List Lane) → AreWired i o made links bags wired lanes
       → AreTasks i o made links elements_in sources_in bags run.tasks.items lanes) (told : tells_of run ≡ Some table)
       (edited : IsEdited run.graph (line_graph graph)) (feeds_are : AreFeeds run.feeds (line_graph graph) (λ p. [])) (script_is : run.script.items ≡ script)
-      (unanswered : run.entries.items ≡ []) (probes : AreProbes run) where
+      (unanswered : run.entries.items ≡ []) (probes : AreProbes run) (watched : IsWatched run) where
     begun_scripted : (contents : ℕ → List ℕ) → WereTold (made_in graph) before contents → IsScripted script (line_graph graph) (view_of run)
     begun_scripted contents were =
         subst
@@ -108,6 +111,7 @@ module _ {S K I O L : Type 0} (giver : givers.Ghosts (StreamSource S)) (taker : 
       edited = edited;
       script_is = script_is;
       probes = probes;
+      watched = watched;
       none_removed = none_removed;
       scripted = begun_scripted;
     }
@@ -124,26 +128,26 @@ module _ {S K I O L : Type 0} (giver : givers.Ghosts (StreamSource S)) (taker : 
   pub begins_so : RunsBegin giver taker i o → (script : List Command) (control : Control) → IsControlOf graph script control → (tasks : List (Task (StreamSource S) (StreamElement K) I O L giver taker i o))
       → ((made : List Made) (links : List PadLink) (bags : List Bag) (lanes : List Lane) → AreWired i o made links bags wired lanes → AreTasks i o made links elements_in sources_in bags tasks lanes)
       → (run : Running (StreamSource S) (StreamElement K) I O L giver taker i o) → run.tasks.items ≡ tasks → tells_of run ≡ Some table → run.graph ≡ control.graph → run.feeds ≡ control.feeds
-      → run.script ≡ control.script → run.entries ≡ control.entries → run.probing.probes ≡ control.probes → run.removed.items ≡ [] → (rest : List (Option (StreamElement K))) → rest ≡ without (part_numbers wired) elements_in
+      → run.script ≡ control.script → run.entries ≡ control.entries → run.probing.probes ≡ control.probes → run.watch ≡ Unasked → run.removed.items ≡ [] → (rest : List (Option (StreamElement K))) → rest ≡ without (part_numbers wired) elements_in
       → ScriptBegins s k graph script run rest left before
-  begins_so law script control is tasks so run tasks_are told graph_is feeds_are script_are entries_are probes_are none_removed rest rest_is =
+  begins_so law script control is tasks so run tasks_are told graph_is feeds_are script_are entries_are probes_are unasked none_removed rest rest_is =
       script_begins law script run
       (λ made links bags lanes w. subst (λ (ts : List (Task (StreamSource S) (StreamElement K) I O L giver taker i o)). AreTasks i o made links elements_in sources_in bags ts lanes) (sym tasks_are) (so made links bags lanes w))
       told (subst (λ (edited : EditedGraph). IsEdited edited (line_graph graph)) (sym graph_is) is.edited)
       (subst (λ (feeds : Feeds). AreFeeds feeds (line_graph graph) (λ p. [])) (sym feeds_are) is.feeds) (ap (λ commands. commands.items) script_are ∙ is.script_is)
-      (ap (λ entries. entries.items) entries_are ∙ is.unanswered) (probes_so script control is run script_are entries_are probes_are) rest rest_is none_removed
+      (ap (λ entries. entries.items) entries_are ∙ is.unanswered) (probes_so script control is run script_are entries_are probes_are) (nothing_known run unasked) rest rest_is none_removed
 
--- The tasks of a run of a script that begins are ready, and so are its probes.
+-- The tasks of a run of a script that begins are ready, and so are its probes and what is known of its next command.
 pub script_ready : {S K I O L : Type 0} {giver : givers.Ghosts (StreamSource S)} {taker : elements.Ghosts (StreamElement K)} {i : inlets.Ghosts I L O} {o : outlets.Ghosts O L}
     (s : sources.Ghosts S) (k : sinks.Ghosts K) (graph : Graph) (script : List Command) (run : Running (StreamSource S) (StreamElement K) I O L giver taker i o)
     (rest : List (Option (StreamElement K))) (left : List (Option (End S K))) (before : Seen) → ScriptBegins s k graph script run rest left before
-    → NetReady run.tasks.items (tells_of run) × AreProbes run
+    → NetReady run.tasks.items (tells_of run) × AreProbes run × IsWatched run
 script_ready {giver = giver} {taker = taker} {i = i} {o = o} s k graph script run rest left before begins =
     let ready =
     subst (λ (t : Option (List Lane)). NetReady run.tasks.items t) (sym begins.told)
     (tasks_are_ready giver taker i o graph begins.bags begins.elements_in begins.sources_in run.tasks.items begins.table begins.sound (linked_once begins.tree graph begins.is)
     begins.bags_are.are begins.tasks_are) in
-    (ready, begins.probes)
+    (ready, begins.probes, begins.watched)
 
 -- Probes that stand for commands none of which are answered are those of the script.
 pub stand_first : {W : Type 0} (commands : List Command) (found : Result ScriptProbes W) → length commands < 2 ^ 32 → IfOk found (λ probes. StandsFor probes commands 0)

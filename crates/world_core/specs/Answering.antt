@@ -34,6 +34,7 @@ use Rattle.edit_acts.specs.declared.removing.TakenOut.{TakenOut}
 use Rattle.world_core.specs.declared.running.RunFault.{RunFault}
 use Rattle.world_core.specs.declared.running.RunFault.TheVariants.{Stopped, OutOfMemory, Undone}
 use Rattle.world_core.specs.declared.running.Running.{Running}
+use Rattle.world_core.specs.declared.watching.Watch.TheVariants.{Unasked}
 use Rattle.world_core.specs.Running.{KeepsScript, KeepsTurns, taking_without, tells_of, view_of}
 
 -- Control can do what a command asks for: it can't add an element yet, or link a source that is asleep.
@@ -122,11 +123,12 @@ module _ {S E I O L : Type 0} {s : sources.Ghosts S} {e : elements.Ghosts E} {i 
     waits : (command : Command) (rest : List Command) → (view_of run).commands ≡ command ∷ rest
         → ((g : Edited) (m : Moment) → names_its_pad command ≡ true → Controls run g m → IsVerdict g m run.tasks.items command verdicts.Waits) → NothingCanBeDone run
 
-  -- The next command is answered so, and no other.
+  -- The next command is answered so, and no other. Of the one behind it nothing is known yet.
   pub record IsEntered (was is : Running S E I O L s e i o) (answer : Answer) : Type 0 where
     pub entered : is.entries.items ≡ was.entries.items ++ record { answer = answer } ∷ []
     pub keeps : KeepsScript was is
     pub probing : is.probing ≡ was.probing
+    pub watch : is.watch ≡ Unasked
     pub graph : is.graph ≡ was.graph
     pub feeds : is.feeds ≡ was.feeds
     pub tasks : is.tasks ≡ was.tasks

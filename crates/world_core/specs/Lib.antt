@@ -19,3 +19,4 @@ pub mod Scripts
 pub mod Headline
 pub mod Probes
 pub mod Probing
+pub mod Watching

@@ -23,7 +23,8 @@ use Rattle.net_edits.specs.Nets.{IsProbed, NoneHas}
 use Rattle.edit_acts.specs.Scripted.{Has, KeepsControl}
 use Rattle.world_core.specs.Answering.{ActsOn, NothingCanBeDone}
 use Rattle.world_core.specs.Probes.{StandFor, numbered}
-use Rattle.world_core.specs.Running.{KeepsScript, view_of}
+use Rattle.world_core.specs.Running.{KeepsScript, commands_left, view_of}
+use Rattle.world_core.specs.Watching.{HasLookedUp, looked_up}
 use Rattle.world_core.specs.declared.running.Running.{Running}
 
 module _ {S E I O L : Type 0} {s : sources.Ghosts S} {e : elements.Ghosts E} {i : inlets.Ghosts I L O} {o : outlets.Ghosts O L} where
@@ -35,9 +36,9 @@ module _ {S E I O L : Type 0} {s : sources.Ghosts S} {e : elements.Ghosts E} {i 
   abbrev pub probes_left : Running S E I O L s e i o → ℕ
   probes_left run = (length run.script.items + length run.script.items) - run.probing.count
 
-  -- how many commands are still to come, and how many times a probe is to be set
+  -- how many commands are still to be looked up and to be answered, and how many times a probe is to be set
   abbrev pub acts_left : Running S E I O L s e i o → ℕ
-  acts_left run = (length run.script.items - length run.entries.items) + probes_left run
+  acts_left run = ((commands_left run + commands_left run) - looked_up run.watch) + probes_left run
 
   -- The place of the next command whose pad is to get a probe: each one at first, and then each that was answered.
   abbrev pub unprobed : Running S E I O L s e i o → Option ℕ
@@ -68,11 +69,12 @@ module _ {S E I O L : Type 0} {s : sources.Ghosts S} {e : elements.Ghosts E} {i 
     pub has : (g : Edited) (m : Moment) → Has (view_of was) g m → Has (view_of is) g m
     pub control : KeepsControl (view_of was) (view_of is)
     pub lanes : is.lanes ≡ was.lanes
+    pub watch : is.watch ≡ was.watch
     pub keeps : KeepsScript was is
 
-  -- Control did what was next: a pad got its probe, or all have theirs and the next command was answered.
+  -- Control did what was next: a pad got its probe; or all have theirs, and the next command was looked up or answered.
   abbrev pub HasActed : Running S E I O L s e i o → Running S E I O L s e i o → Type 0
-  HasActed was is = ((place : ℕ) × HasProbed was is place) ⊎ ((unprobed was ≡ None) × ActsOn was is)
+  HasActed was is = ((place : ℕ) × HasProbed was is place) ⊎ ((unprobed was ≡ None) × (HasLookedUp was is ⊎ ActsOn was is))
 
   -- All pads have their probes, and no command is left, or the next one can't be answered yet.
   abbrev pub Waits : Running S E I O L s e i o → Type 0

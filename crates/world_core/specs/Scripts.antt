@@ -47,6 +47,7 @@ use Rattle.world_core.specs.Begins.{line_graph}
 use Rattle.world_core.specs.Probes.{StandFor}
 use Rattle.world_core.specs.Probing.{AreProbes}
 use Rattle.world_core.specs.Running.{KeepsElements, tells_of, view_of}
+use Rattle.world_core.specs.Watching.{IsWatched}
 use Rattle.world_core.specs.Stalled.{TellsTasks}
 use Rattle.world_core.specs.World.{RunUnopened}
 use Rattle.world_core.specs.declared.report.Stop.{Stop}
@@ -101,6 +102,7 @@ module _ {S K I O L : Type 0} {giver : givers.Ghosts (StreamSource S)} {taker : 
     pub edited : IsEdited run.graph (line_graph graph)
     pub script_is : run.script.items ≡ script
     pub probes : AreProbes run
+    pub watched : IsWatched run
     pub none_removed : run.removed.items ≡ []
     pub scripted : (contents : ℕ → List ℕ) → WereTold (made_in graph) before contents → IsScripted script (line_graph graph) (view_of run)
 

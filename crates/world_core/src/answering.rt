@@ -6,10 +6,12 @@ ghost use Rattle.graph_edits.specs.Graph.{IsEdited};
 ghost use Rattle.edit_core.specs.declared.deciding.Deed.TheVariants.{Relink};
 ghost use Rattle.world_core.specs.Answering.{ActFails, ActsOn, CanBeAnswered, CarryFails, IsCarriedOut, IsEntered, NothingCanBeDone, RulesNext, SetsAside, room_for, room_into};
 ghost use Rattle.world_core.specs.Running.{IsSetAside, KeepsElements, KeepsTurns, commands_left, tells_of};
+ghost use Rattle.world_core.specs.declared.watching.Watch.TheVariants.{Unasked};
 
 use crate::able::{AskedLane, asked_lane, can_do};
 use crate::lanes::new_link;
 use crate::running::{RunFault, Running};
+use crate::watching::Watch;
 use edit_acts::{Outcome, TakenOut, do_deed, relink_over};
 use edit_core::laws::deeds_are_answers;
 use edit_core::{Deed, Ruling, decide};
@@ -30,6 +32,7 @@ impl<S: TaskSource, E: TaskElement> Running<S, E, MemInlet, MemOutlet> {
         ensures waits { result ≡ Ok false → NothingCanBeDone self.old × (self.new ≡ self.old) }
         ensures failed { IfErr result (ActFails self.old self.new) }
         ensures less { result ≡ Ok true → commands_left self.new < commands_left self.old }
+        ensures unasked { result ≡ Ok true → self.new.watch ≡ Unasked }
         ensures probing { self.new.probing ≡ self.old.probing }
         ensures elements { KeepsElements self.old self.new }
     {
@@ -67,6 +70,7 @@ impl<S: TaskSource, E: TaskElement> Running<S, E, MemInlet, MemOutlet> {
         ensures ready { OnOk result (NetReady self.new.tasks.items (tells_of self.new)) }
         ensures done { IfOk result (λ done. (done ≡ true) × IsCarriedOut self.old self.new deed items places) }
         ensures aside { OnOk result (SetsAside self.old self.new deed) }
+        ensures unasked { OnOk result (self.new.watch ≡ Unasked) }
         ensures failed { IfErr result (CarryFails self.old self.new deed items places) }
         ensures probing { self.new.probing ≡ self.old.probing }
         ensures elements { KeepsElements self.old self.new }
@@ -95,6 +99,7 @@ impl<S: TaskSource, E: TaskElement> Running<S, E, MemInlet, MemOutlet> {
         ensures ready { OnOk result (NetReady self.new.tasks.items (tells_of self.new)) }
         ensures done { IfOk result (λ done. (done ≡ true) × IsCarriedOut self.old self.new (Relink asked.source asked.sink) items places) }
         ensures turns { KeepsTurns self.old self.new }
+        ensures unasked { OnOk result (self.new.watch ≡ Unasked) }
         ensures failed { IfErr result (CarryFails self.old self.new (Relink asked.source asked.sink) items places) }
         ensures probing { self.new.probing ≡ self.old.probing }
         ensures elements { KeepsElements self.old self.new }
@@ -159,6 +164,7 @@ impl<S: TaskSource, E: TaskElement, I: Inlet<Out = O>, O: Outlet<Lanes = I::Lane
         ensures ready { NetReady self.old.tasks.items (tells_of self.old) → NetReady self.new.tasks.items (tells_of self.new) }
         ensures done { IfOk result (λ done. (done ≡ true) × IsCarriedOut self.old self.new deed items places) }
         ensures aside { OnOk result (SetsAside self.old self.new deed) }
+        ensures unasked { OnOk result (self.new.watch ≡ Unasked) }
         ensures failed { IfErr result (CarryFails self.old self.new deed items places) }
         ensures probing { self.new.probing ≡ self.old.probing }
         ensures elements { KeepsElements self.old self.new }
@@ -203,11 +209,12 @@ impl<S: TaskSource, E: TaskElement, I: Inlet<Out = O>, O: Outlet<Lanes = I::Lane
         self.removed.push_reserved(taken.task);
     }
 
-    /// The next command is answered so.
+    /// The next command is answered so, and the one behind it is still to be looked up.
     fn enter(&mut self, answer: Answer)
         requires some { vec_len self.old.entries < vec_len self.old.script }
         ensures { IsEntered self.old self.new answer }
     {
         self.entries.push_reserved(Entry { answer });
+        self.watch = Watch::Unasked;
     }
 }

@@ -17,6 +17,7 @@ pub mod script_laws;
 pub mod scripted;
 mod stall;
 pub mod start;
+mod watching;
 
 pub use ended::WorldEnd;
 pub use outcome::{Outcome, report_text};

@@ -13,6 +13,7 @@ ghost use Rattle.world_core.specs.Probes.{StandFor, numbered};
 ghost use Rattle.world_core.specs.Probing.{AreProbes, HasProbed, IsProbedFor, probes_left, unprobed};
 ghost use Rattle.world_core.specs.declared.running.RunFault.TheVariants as faults;
 ghost use Rattle.world_core.specs.Running.{KeepsElements, tells_of};
+ghost use Rattle.world_core.specs.Watching.{IsWatched};
 
 use crate::running::{RunFault, Running};
 use edit_acts::probing::{probes_keep_control, probes_keep_files};
@@ -58,6 +59,7 @@ impl<S: TaskSource, E: TaskElement, I: Inlet<Out = O>, O: Outlet<Lanes = I::Lane
         requires ready { NetReady self.old.tasks.items (tells_of self.old) }
         ensures ready { OnOk result (NetReady self.new.tasks.items (tells_of self.new)) }
         ensures probes { AreProbes self.new }
+        ensures watched { IsWatched self.old → IsWatched self.new }
         ensures probed { IfOk result (λ done. (done ≡ true) × HasProbed self.old self.new place) }
         ensures less { result ≡ Ok true → probes_left self.new < probes_left self.old }
         ensures failed { IfErr result (λ fault. (fault ≡ faults.OutOfMemory) × IsAsItWas self.old self.new) }

@@ -2,6 +2,7 @@
 ghost use Rattle.std.specs.Prelude.{◌≡◌, ◌≤◌, OnOk, vec_len, vec_capacity};
 ghost use Rattle.world_core.specs.Numbered.{next_number};
 
+use crate::watching::Watch;
 use edit_core::Feeds;
 use flow_model::{TaskElement, TaskSource};
 use graph_edits::EditedGraph;
@@ -56,6 +57,8 @@ pub struct Running<S: TaskSource, E: TaskElement, I: Inlet<Out = O>, O: Outlet<L
     /// What each task answered when all were tried at last.
     pub(crate) steps: Vec<Step>,
     pub(crate) probing: Probing,
+    /// What is known of the next command.
+    pub(crate) watch: Watch,
     ghost answered: { vec_len entries ≤ vec_len script },
     ghost room: { vec_len script ≤ vec_capacity entries },
 }
@@ -84,9 +87,10 @@ impl<S: TaskSource, E: TaskElement, I: Inlet<Out = O>, O: Outlet<Lanes = I::Lane
     O,
 > {
     ghost use Rattle.std.specs.Prelude.{[], None, length};
+    ghost use Rattle.world_core.specs.declared.watching.Watch.TheVariants.{Unasked};
 
     /// A run over these tasks, of which so many take turns and come first, with the graph and the feeders that control keeps. All commands
-    /// are still to come. There is room for how each is answered, so that it takes no memory.
+    /// are still to come, and none of them was looked up. There is room for how each is answered, so that it takes no memory.
     pub fn new(
         alloc: Global,
         tasks: Vec<Task<S, E, I, O>>,
@@ -104,6 +108,7 @@ impl<S: TaskSource, E: TaskElement, I: Inlet<Out = O>, O: Outlet<Lanes = I::Lane
         ensures control { (result.graph ≡ graph) × (result.feeds ≡ feeds) }
         ensures script { (result.script ≡ script) × (result.entries ≡ entries) }
         ensures probes { result.probing.probes ≡ probes }
+        ensures unasked { result.watch ≡ Unasked }
         ensures notes { (result.removed.items ≡ []) × (result.steps.items ≡ []) }
     {
         Running {
@@ -117,6 +122,7 @@ impl<S: TaskSource, E: TaskElement, I: Inlet<Out = O>, O: Outlet<Lanes = I::Lane
             removed: Vec::new(alloc),
             steps: Vec::new(alloc),
             probing: Probing { probes, count: 0 },
+            watch: Watch::Unasked,
         }
     }
 
@@ -163,10 +169,11 @@ impl<S: TaskSource, E: TaskElement> TakesTurns for Running<S, E, MemInlet, MemOu
     ghost use Rattle.world_core.specs.Running.{HasMetAt, HasMetAsTried, IsStepped, IsTried, KeepsElements, taking_of, tells_of};
     ghost use Rattle.world_core.specs.Answering.{ActFails};
     ghost use Rattle.world_core.specs.Probing.{AreProbes, HasActed, Waits, acts_left};
+    ghost use Rattle.world_core.specs.Watching.{IsWatched};
 
     type Fault = RunFault;
 
-    ghost ready = { λ run. NetReady run.tasks.items (tells_of run) × AreProbes run };
+    ghost ready = { λ run. NetReady run.tasks.items (tells_of run) × AreProbes run × IsWatched run };
 
     ghost count = { taking_of };
 
@@ -195,7 +202,15 @@ impl<S: TaskSource, E: TaskElement> TakesTurns for Running<S, E, MemInlet, MemOu
     fn act(&mut self, alloc: Global) -> Result<bool, RunFault> {
         match self.unprobed() {
             Some(place) => self.probe_at(alloc, place),
-            None => self.answer_next(alloc),
+            None => {
+                if self.is_unasked() {
+                    return self.look_up(alloc);
+                }
+                if self.is_waiting() {
+                    return Ok(false);
+                }
+                self.answer_next(alloc)
+            }
         }
     }
 

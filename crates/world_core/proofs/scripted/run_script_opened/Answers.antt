@@ -34,7 +34,7 @@ run_to_end-requires-clause-begun g c κs within = (
       (c.elements.ensures ∙ c.requires.prepared.5.edited.elements) c.fill-elements.ensures)
       (record { ports = λ x. refl; stands = λ x behavior took is. is; count = λ x. refl; gave = λ x owed given is. is }) c.runs_begin.ensures c.requires.prepared.1 c.args.prepared.control c.requires.prepared.5
       c.into_tasks-tasks.result.items c.into_tasks-tasks.ensures.tasks c.new-run.result (ap (λ tasks. tasks.items) c.new-run.ensures.tasks.0) (ap (λ (lanes : List Lane). Some lanes) c.new-run.ensures.tasks.2)
-      c.new-run.ensures.control.0 c.new-run.ensures.control.1 c.new-run.ensures.script.0 c.new-run.ensures.script.1 c.new-run.ensures.probes c.new-run.ensures.notes.0 c.into_tasks-tasks.new.elements.items
+      c.new-run.ensures.control.0 c.new-run.ensures.control.1 c.new-run.ensures.script.0 c.new-run.ensures.script.1 c.new-run.ensures.probes c.new-run.ensures.unasked c.new-run.ensures.notes.0 c.into_tasks-tasks.new.elements.items
       c.into_tasks-tasks.ensures.elements_left,
   c.requires.prepared.4.room,
 )
@@ -48,7 +48,7 @@ returns-clause-ended g c = λ graph script built planned_are control before afte
     (c.elements.ensures ∙ control.edited.elements) c.fill-elements.ensures)
     (record { ports = λ x. refl; stands = λ x behavior took is. is; count = λ x. refl; gave = λ x owed given is. is }) c.runs_begin.ensures script c.args.prepared.control control
     c.into_tasks-tasks.result.items c.into_tasks-tasks.ensures.tasks c.new-run.result (ap (λ tasks. tasks.items) c.new-run.ensures.tasks.0) (ap (λ (lanes : List Lane). Some lanes) c.new-run.ensures.tasks.2)
-    c.new-run.ensures.control.0 c.new-run.ensures.control.1 c.new-run.ensures.script.0 c.new-run.ensures.script.1 c.new-run.ensures.probes c.new-run.ensures.notes.0 c.into_tasks-tasks.new.elements.items
+    c.new-run.ensures.control.0 c.new-run.ensures.control.1 c.new-run.ensures.script.0 c.new-run.ensures.script.1 c.new-run.ensures.probes c.new-run.ensures.unasked c.new-run.ensures.notes.0 c.into_tasks-tasks.new.elements.items
     c.into_tasks-tasks.ensures.elements_left)
 
 pub returns-clause-located : goal.returns-clause-located
@@ -60,5 +60,5 @@ returns-clause-located g c = λ graph script built planned_are control before af
     (c.elements.ensures ∙ control.edited.elements) c.fill-elements.ensures)
     (record { ports = λ x. refl; stands = λ x behavior took is. is; count = λ x. refl; gave = λ x owed given is. is }) c.runs_begin.ensures script c.args.prepared.control control
     c.into_tasks-tasks.result.items c.into_tasks-tasks.ensures.tasks c.new-run.result (ap (λ tasks. tasks.items) c.new-run.ensures.tasks.0) (ap (λ (lanes : List Lane). Some lanes) c.new-run.ensures.tasks.2)
-    c.new-run.ensures.control.0 c.new-run.ensures.control.1 c.new-run.ensures.script.0 c.new-run.ensures.script.1 c.new-run.ensures.probes c.new-run.ensures.notes.0 c.into_tasks-tasks.new.elements.items
+    c.new-run.ensures.control.0 c.new-run.ensures.control.1 c.new-run.ensures.script.0 c.new-run.ensures.script.1 c.new-run.ensures.probes c.new-run.ensures.unasked c.new-run.ensures.notes.0 c.into_tasks-tasks.new.elements.items
     c.into_tasks-tasks.ensures.elements_left)

@@ -25,6 +25,7 @@ returns-in-Ok-clause-probed g c = (
     has = λ edited m has. c.probe_pad.ensures.control c.args.self.now.graph c.args.self.now.feeds edited m (tells_of c.args.self.now) has;
     control = record { graph = refl; feeds = refl; commands = refl; entries = refl };
     lanes = refl;
+    watch = refl;
     keeps = record { script = refl; turns = record { taking = refl; removed = refl } };
   },
 )

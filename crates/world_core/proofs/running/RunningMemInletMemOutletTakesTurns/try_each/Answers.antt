@@ -14,6 +14,7 @@ returns-in-Ok-clause-ready g c = (
   rw (whole_again c.args.self.now.tasks.items c.try_each.new.tasks c.args.self.now.tasks.len (omega (arith, c.args.self.now.tasks.ok.0)) (c.try_each.ensures.count ∙ ap length c.deref_mut.ensures.value))
       c.in-Ok.ensures.ready,
   c.requires.ready.1,
+  c.requires.ready.2,
 )
 
 pub returns-in-Ok-clause-tried : goal.returns-in-Ok-clause-tried
