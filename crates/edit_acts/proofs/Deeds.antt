@@ -1,5 +1,5 @@
 -- Control has the run behind a deed that was done.
-use Rattle.std.proofs.Common.{◌≡◌, ◌≤◌, ◌<◌, ◌++◌, ℕ, Bool, true, false, List, [], ◌∷◌, Option, None, Some, if◌then◌else◌, length, nat_lt, position, refl, sym, ap, subst, arith}
+use Rattle.std.proofs.Common.{◌≡◌, ◌≤◌, ◌<◌, ◌++◌, ℕ, Bool, true, false, List, [], ◌∷◌, Option, None, Some, if◌then◌else◌, length, nat_lt, position, inl, inr, refl, sym, ap, subst, arith}
 use Rattle.std.specs.List.{list_any}
 use Rattle.std.proofs.lemmas.Bool.{false≢true, ltb-true}
 use Rattle.std.specs.Prelude.{◌==◌, Result, Ok, Err, IfErr, IfOk, option_and_then}
@@ -9,7 +9,8 @@ use Rattle.flow_model.specs.Item.{Item, Ev, Eos}
 use Rattle.flow_model.proofs.Prefixes.{prefix_refl}
 use Rattle.gst_value.specs.declared.name.PadName.{PadName}
 use Rattle.gst_value.proofs.Basics.{none_some, some_same}
-use Rattle.graph_core.specs.GraphPlan.{pad_id}
+use Rattle.graph_core.specs.GraphPlan.{IsIn, pad_id}
+use Rattle.graph_pads.specs.declared.pad.PadLink.{PadLink}
 use Rattle.graph_core.specs.Elements.{Made, is_named}
 use Rattle.graph_edits.specs.Graph.{made}
 use Rattle.graph_edits.specs.declared.graph.EditedGraph.{EditedGraph}
@@ -32,7 +33,7 @@ use Rattle.net_edits.specs.declared.inside.EditFault.TheVariants as faults
 use Rattle.script_text.specs.declared.command.Act.{Act}
 use Rattle.script_text.specs.declared.command.When.TheVariants.{At, NowPad, Now}
 use Rattle.script_text.specs.declared.command.When.{When}
-use Rattle.graph_edits.specs.Edited.{Edited, is_there, relinked_at, unlinked_at}
+use Rattle.graph_edits.specs.Edited.{Edited, is_there, link_between, relinked_at, unlinked_at, without}
 use Rattle.graph_edits.specs.Names.{pad_named, source_when}
 use Rattle.edit_core.specs.Deciding.{IsDeed}
 use Rattle.edit_core.specs.Judging.{owed_then}
@@ -40,7 +41,7 @@ use Rattle.edit_core.specs.declared.deciding.Deed.{Deed}
 use Rattle.edit_core.specs.declared.deciding.Deed.TheVariants.{Relink, Remove, Unlink}
 use Rattle.edit_core.specs.declared.feeds.Feeds.{Feeds}
 use Rattle.edit_core.proofs.Finding.{found_element, found_of}
-use Rattle.edit_acts.specs.Controlled.{IsControlled, IsToUnlink, IsUnlinked}
+use Rattle.edit_acts.specs.Controlled.{IsControlled, IsToUnlink, IsUnlinked, SinksAreThere}
 use Rattle.edit_acts.specs.Ending.{EndsAt}
 use Rattle.edit_acts.specs.Removed.{IsRemoved, IsToRemove}
 use Rattle.edit_acts.specs.declared.removing.TakenOut.{TakenOut}
@@ -48,7 +49,8 @@ use Rattle.edit_acts.specs.Unlinked.{EndFails, IsEnded}
 use Rattle.edit_acts.specs.Relinked.{IsRelinked, IsToRelink, RelinkFails, relinked, relinked_over}
 use Rattle.edit_acts.specs.Deeds.{DeedFails, IsDone, IsDue, StaysUndone, TakesNone, WasDone, outcome_of}
 use Rattle.edit_acts.specs.declared.doing.Outcome.{Outcome}
-use Rattle.edit_acts.proofs.Gone.{was_there}
+use Rattle.edit_acts.proofs.Gone.{element_there, was_there}
+use Rattle.edit_acts.proofs.Planning.{asleep_plan, frozen_plan, relinked_plan, undone_plan}
 use Rattle.edit_acts.proofs.StillOwed.{fed_owes, frozen_owes}
 
 pub nothing_asked : {A E : Type 0} (r : Result A E) → IfOk r (λ _. Unit {0})
@@ -68,6 +70,18 @@ source_low g Now source e = absurd (none_some e)
 
 ends_low : (g : Edited) (h : ℕ → List Item) (when : When) (act : Act) (source sink : PadPlace) → IsDeed g h (source_when g when) act (Relink source sink) → (source.element < length g.made) × (sink.element < length g.made)
 ends_low g h when _ _ _ (IsDeed.relinks name source sink told named linkable unfed) = (source_low g when source told, named_low Sink g name sink named)
+
+-- an element that is to be taken away is there
+deed_there : (g : Edited) (h : ℕ → List Item) (p : Option PadPlace) (act : Act) (element : ℕ) → IsDeed g h p act (Remove element) → is_there g element ≡ true
+deed_there g h p _ _ (IsDeed.removes name element named free) = element_there g name element named
+
+-- a pad was linked to an element that is there
+sink_stays : (g : Edited) (source sink : PadPlace) (items : ℕ) → SinksAreThere (relinked_at source items sink g) → is_there g sink.element ≡ true
+sink_stays g source sink items there = there (link_between source sink) (last (without source g.links))
+  where
+    last : (links : List PadLink) → IsIn (link_between source sink) (links ++ link_between source sink ∷ [])
+    last [] = inl refl
+    last (link ∷ links) = inr (last links)
 
 element_low : (g : Edited) (h : ℕ → List Item) (p : Option PadPlace) (act : Act) (element : ℕ) → IsDeed g h p act (Remove element) → element < length g.made
 element_low g h p _ _ (IsDeed.removes name element named free) = by (position (is_named name) g.made) refl named
@@ -113,6 +127,9 @@ module _ {S E I O L : Type 0} {s : sources.Ghosts S} {e : elements.Ghosts E} {i 
     pub to_remove : IsToRemove graph feeds tasks g m tells element
     to_remove = record { controlled = w.controlled; when = w.command.when; act = w.command.act; items = items; places = w.places; to_do = w.to_do }
 
+    removed_there : is_there g element ≡ true
+    removed_there = deed_there g m.history (source_when g w.command.when) w.command.act element w.to_do.deed_is
+
     pub remove_done : (graph' : EditedGraph) (tasks' : List (Task S E I O L s e i o)) (told : Option (TakenOut S E I O L s e i o)) → IsRemoved graph' feeds tasks' g m tells element told
         → IsDone graph' feeds tasks' g m tells (Remove element) items
     remove_done graph' tasks' None r = record {
@@ -120,6 +137,7 @@ module _ {S E I O L : Type 0} {s : sources.Ghosts S} {e : elements.Ghosts E} {i 
       crossed = refl;
       owner = refl;
       owed = λ p there. ((was_there g element (m.plan.owner p) there).0, prefix_refl (owed_then m p));
+      plan = asleep_plan g m element removed_there r.0;
       controlled = r.1;
     }
     remove_done graph' tasks' (Some out) r = record {
@@ -127,6 +145,7 @@ module _ {S E I O L : Type 0} {s : sources.Ghosts S} {e : elements.Ghosts E} {i 
       crossed = refl;
       owner = refl;
       owed = λ p there. let z = was_there g element (m.plan.owner p) there in (z.0, frozen_owes m element r.cut p z.1);
+      plan = frozen_plan g m element r.cut removed_there r.is_cut;
       controlled = r.controlled;
     }
 
@@ -149,12 +168,20 @@ module _ {S E I O L : Type 0} {s : sources.Ghosts S} {e : elements.Ghosts E} {i 
         fed_owes (planned (linked (pad_id source) (length (m.history (pad_id source))) sink.element sink.pad (unlinked (pad_id source) m).plan) (unlinked (pad_id source) m)) sink.element
             (push_calls sink.pad (opening_calls (pad_id source) m) (m.took sink.element)) r.out p,
       );
+      plan = relinked_plan g m (relinked source sink r.out m) source sink items (pad_id source) (length (m.history (pad_id source))) (sink_stays g source sink items r.controlled.sinks) refl;
       controlled = r.controlled;
     }
 
   pub relink_over_done : (graph' : EditedGraph) (feeds' : Feeds) (tasks' : List (Task S E I O L s e i o)) → IsControlled graph' feeds' tasks' (relinked_at source items sink g) (relinked_over source sink m) tells
       → IsDone graph' feeds' tasks' g m tells (Relink source sink) items
-  relink_over_done graph' feeds' tasks' controlled = record { now = relinked_over source sink m; crossed = refl; owner = refl; owed = λ p there. (there, prefix_refl (m.history p ++ m.waits p)); controlled = controlled }
+  relink_over_done graph' feeds' tasks' controlled = record {
+    now = relinked_over source sink m;
+    crossed = refl;
+    owner = refl;
+    owed = λ p there. (there, prefix_refl (m.history p ++ m.waits p));
+    plan = relinked_plan g m (relinked_over source sink m) source sink items (pad_id source) (length (m.history (pad_id source))) (sink_stays g source sink items controlled.sinks) refl;
+    controlled = controlled;
+  }
 
   -- ---- a link is undone
 
@@ -163,7 +190,14 @@ module _ {S E I O L : Type 0} {s : sources.Ghosts S} {e : elements.Ghosts E} {i 
 
   pub unlink_done : (graph' : EditedGraph) (feeds' : Feeds) (tasks' : List (Task S E I O L s e i o)) → IsControlled graph' feeds' tasks' (unlinked_at source items false g) (unlinked (pad_id source) m) tells
       → IsDone graph' feeds' tasks' g m tells (Unlink source sink false) items
-  unlink_done graph' feeds' tasks' controlled = record { now = unlinked (pad_id source) m; crossed = refl; owner = refl; owed = λ p there. (there, prefix_refl (m.history p ++ m.waits p)); controlled = controlled }
+  unlink_done graph' feeds' tasks' controlled = record {
+    now = unlinked (pad_id source) m;
+    crossed = refl;
+    owner = refl;
+    owed = λ p there. (there, prefix_refl (m.history p ++ m.waits p));
+    plan = undone_plan g m (unlinked (pad_id source) m) source items (pad_id source) (length (m.history (pad_id source))) false false refl;
+    controlled = controlled;
+  }
 
   end_done : (graph' : EditedGraph) (feeds' : Feeds) (tasks' : List (Task S E I O L s e i o)) (now : Moment) → EndsAt m (pad_id source) now → IsControlled graph' feeds' tasks' (unlinked_at source items true g) now tells
       → IsDone graph' feeds' tasks' g m tells (Unlink source sink true) items
@@ -172,6 +206,7 @@ module _ {S E I O L : Type 0} {s : sources.Ghosts S} {e : elements.Ghosts E} {i 
     crossed = refl;
     owner = refl;
     owed = λ p there. (there, fed_owes (planned (undone (pad_id source) (length (m.history (pad_id source))) true m.plan) m) element (push_calls port (Feed (Ev Eos) ∷ []) (m.took element)) out p);
+    plan = undone_plan g m (ended_inside (pad_id source) element port out m) source items (pad_id source) (length (m.history (pad_id source))) true true refl;
     controlled = controlled;
   }
   end_done graph' feeds' tasks' _ (EndsAt.over element port leads) controlled = record {
@@ -179,6 +214,7 @@ module _ {S E I O L : Type 0} {s : sources.Ghosts S} {e : elements.Ghosts E} {i 
     crossed = refl;
     owner = refl;
     owed = λ p there. (there, prefix_refl (m.history p ++ m.waits p));
+    plan = undone_plan g m (ended_over (pad_id source) element port m) source items (pad_id source) (length (m.history (pad_id source))) true true refl;
     controlled = controlled;
   }
 

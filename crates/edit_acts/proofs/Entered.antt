@@ -204,61 +204,74 @@ module _ {S E I O L : Type 0} {s : sources.Ghosts S} {e : elements.Ghosts E} {i 
     one_more_entry.falls_nowhere was.entries entry scripted.falls (falls scripted.g scripted.m command was.entries entry.answer next lawful exact scripted.passed),
   )
 
-  module _ (script : List Command) (first : Edited) (was is : ScriptRun s e i o) (named : All (λ c. names_its_pad c ≡ true) script) (scripted : IsScripted script first was) (acted : IsActed was is) where
+  -- The next command was answered so, by the graph and at the moment at which the run was.
+  module _ (script : List Command) (first : Edited) (was is : ScriptRun s e i o) (scripted : IsScripted script first was) (acted : IsActed was is)
+      (by : IsAnsweredBy is scripted.g scripted.m acted.command acted.entry.answer) where
     here : drop (length was.entries) script ≡ acted.command ∷ is.commands
     here = sym scripted.left ∙ acted.next
 
-    by_moment : IsAnsweredBy is scripted.g scripted.m acted.command acted.entry.answer → IsScripted script first is
-    by_moment by =
-        record {
-          g = by.next;
-          m = by.now;
-          has = by.has;
-          calm = grows.unflushed;
-          kept = subst (λ (h : ℕ → List Item). IsKept h first) (sym by.crossed) scripted.kept;
-          due = due;
-          owes = λ p there. due_now by.next by.now.plan.owner scripted.due (owed_then by.now) p there;
-          answered = subst (λ (es : List Entry). AreAnswered by.now.history due first script es by.next) (sym acted.entered)
-              (one_more_entry.answered by.now.history due first scripted.g by.next script is.commands acted.command was.entries acted.entry
-              (stays_lawful.entries scripted.m.history scripted.due by.now.history due first scripted.g script was.entries scripted.kept grows scripted.answered) here
-              (stays_lawful.answer scripted.m.history scripted.due by.now.history due scripted.g by.next acted.command acted.entry.answer scripted.has.current.kept grows
-              (answered_so scripted.g scripted.m.history (owed_then scripted.m) scripted.due (due_owed script first was scripted) acted.command acted.entry.answer by.next by.lawful)));
-          left = sym (ap (λ (es : List Entry). drop (length es) script) acted.entered
-              ∙ ap (λ (n : ℕ). drop n script) one_more
-              ∙ drop_one_more script (length was.entries) acted.command is.commands here);
-          falls = subst NeverFall (sym acted.entered)
-              (one_more_entry.falls_nowhere was.entries acted.entry scripted.falls (falls scripted.g scripted.m acted.command was.entries acted.entry.answer by.next by.lawful by.exact scripted.passed));
-          passed = subst (λ (h : ℕ → List Item). ArePassed by.next.made h is.entries) (sym by.crossed)
-              (subst (λ (es : List Entry). ArePassed by.next.made scripted.m.history es) (sym acted.entered)
-              (passed_answered scripted.g scripted.m.history (owed_then scripted.m) acted.command acted.entry.answer by.next (was.entries ++ acted.entry ∷ []) by.lawful
-              (passed_more scripted.g.made scripted.m.history was.entries acted.entry scripted.passed
-              (λ a place at. own_passed scripted.g scripted.m acted.command place (own_of scripted.g scripted.m acted.command acted.entry.answer by.next by.lawful by.exact a place at)))));
-        }
-      where
-        one_more : length (was.entries ++ acted.entry ∷ []) ≡ suc (length was.entries)
-        one_more = let long = length_push was.entries acted.entry in omega (arith, long)
+    -- what is due to each pad behind it
+    abbrev pub due_then : ℕ → List Item
+    due_then = still_due by.next by.now.plan.owner scripted.due (owed_then by.now)
 
-        due : ℕ → List Item
-        due = still_due by.next by.now.plan.owner scripted.due (owed_then by.now)
+    more : (p : ℕ) → is_there by.next (by.now.plan.owner p) ≡ true → IsPrefix (scripted.due p) (owed_then by.now p)
+    more p there =
+        let own = by.owed p (ap (λ (owner : ℕ → ℕ). is_there by.next (owner p)) (sym by.owner) ∙ there) in
+        subst (λ (l : List Item). IsPrefix l (owed_then by.now p)) (sym (scripted.owes p own.0)) own.1
 
-        more : (p : ℕ) → is_there by.next (by.now.plan.owner p) ≡ true → IsPrefix (scripted.due p) (owed_then by.now p)
-        more p there =
-            let own = by.owed p (ap (λ (owner : ℕ → ℕ). is_there by.next (owner p)) (sym by.owner) ∙ there) in
-            subst (λ (l : List Item). IsPrefix l (owed_then by.now p)) (sym (scripted.owes p own.0)) own.1
+    pub grows_then : GrowsTo scripted.m.history scripted.due by.now.history due_then
+    grows_then = record {
+      crossed = λ p. subst (λ (h : ℕ → List Item). IsPrefix (scripted.m.history p) (h p)) (sym by.crossed) (prefix_refl (scripted.m.history p));
+      due = due_more by.next by.now.plan.owner scripted.due (owed_then by.now) more;
+      over = λ p ended. ap (λ (h : ℕ → List Item). h p) by.crossed;
+      unflushed = λ p. subst (λ (h : ℕ → List Item). has_flush_stop (h p) ≡ false) (sym by.crossed) (scripted.calm p);
+    }
 
-        grows : GrowsTo scripted.m.history scripted.due by.now.history due
-        grows = record {
-          crossed = λ p. subst (λ (h : ℕ → List Item). IsPrefix (scripted.m.history p) (h p)) (sym by.crossed) (prefix_refl (scripted.m.history p));
-          due = due_more by.next by.now.plan.owner scripted.due (owed_then by.now) more;
-          over = λ p ended. ap (λ (h : ℕ → List Item). h p) by.crossed;
-          unflushed = λ p. subst (λ (h : ℕ → List Item). has_flush_stop (h p) ≡ false) (sym by.crossed) (scripted.calm p);
-        }
+    pub kept_then : IsKept by.now.history first
+    kept_then = subst (λ (h : ℕ → List Item). IsKept h first) (sym by.crossed) scripted.kept
 
-    keeps : IsScripted script first is
-    keeps =
-        by_moment
-        (acted.answered scripted.g scripted.m
-        (next_of (λ c. names_its_pad c ≡ true) script (length was.entries) acted.command is.commands named here) scripted.has)
+    pub answered_then : AreAnswered by.now.history due_then first script is.entries by.next
+    answered_then =
+        subst (λ (es : List Entry). AreAnswered by.now.history due_then first script es by.next) (sym acted.entered)
+        (one_more_entry.answered by.now.history due_then first scripted.g by.next script is.commands acted.command was.entries acted.entry
+        (stays_lawful.entries scripted.m.history scripted.due by.now.history due_then first scripted.g script was.entries scripted.kept grows_then scripted.answered) here
+        (stays_lawful.answer scripted.m.history scripted.due by.now.history due_then scripted.g by.next acted.command acted.entry.answer scripted.has.current.kept grows_then
+        (answered_so scripted.g scripted.m.history (owed_then scripted.m) scripted.due (due_owed script first was scripted) acted.command acted.entry.answer by.next by.lawful)))
+
+    pub left_then : is.commands ≡ drop (length is.entries) script
+    left_then =
+        let one_more : length (was.entries ++ acted.entry ∷ []) ≡ suc (length was.entries) = let long = length_push was.entries acted.entry in omega (arith, long) in
+        sym (ap (λ (es : List Entry). drop (length es) script) acted.entered ∙ ap (λ (n : ℕ). drop n script) one_more ∙ drop_one_more script (length was.entries) acted.command is.commands here)
+
+    pub falls_then : NeverFall is.entries
+    falls_then =
+        subst NeverFall (sym acted.entered)
+        (one_more_entry.falls_nowhere was.entries acted.entry scripted.falls (falls scripted.g scripted.m acted.command was.entries acted.entry.answer by.next by.lawful by.exact scripted.passed))
+
+    pub passed_then : ArePassed by.next.made by.now.history is.entries
+    passed_then =
+        subst (λ (h : ℕ → List Item). ArePassed by.next.made h is.entries) (sym by.crossed)
+        (subst (λ (es : List Entry). ArePassed by.next.made scripted.m.history es) (sym acted.entered)
+        (passed_answered scripted.g scripted.m.history (owed_then scripted.m) acted.command acted.entry.answer by.next (was.entries ++ acted.entry ∷ []) by.lawful
+        (passed_more scripted.g.made scripted.m.history was.entries acted.entry scripted.passed
+        (λ a place at. own_passed scripted.g scripted.m acted.command place (own_of scripted.g scripted.m acted.command acted.entry.answer by.next by.lawful by.exact a place at)))))
+
+    abbrev pub scripted_then : IsScripted script first is
+    scripted_then = record {
+      g = by.next;
+      m = by.now;
+      has = by.has;
+      calm = grows_then.unflushed;
+      kept = kept_then;
+      due = due_then;
+      owes = λ p there. due_now by.next by.now.plan.owner scripted.due (owed_then by.now) p there;
+      answered = answered_then;
+      left = left_then;
+      falls = falls_then;
+      passed = passed_then;
+    }
 
 pub acts_keep_scripts : {S E I O L : Type 0} (s : sources.Ghosts S) (e : elements.Ghosts E) (i : inlets.Ghosts I L O) (o : outlets.Ghosts O L) → ActsKeepScripts s e i o
-acts_keep_scripts s e i o = λ script first was is named scripted acted. keeps script first was is named scripted acted
+acts_keep_scripts s e i o = λ script first was is named scripted acted.
+    scripted_then script first was is scripted acted
+    (acted.answered scripted.g scripted.m (named_next script first was acted.command is.commands named scripted acted.next) scripted.has)

@@ -31,7 +31,7 @@ mod Carried
 mod Relinks
 mod Apart
 mod Stepped
-mod Gone
+pub mod Gone
 mod SinksStay
 mod MoreRoom
 mod EosControls
@@ -51,3 +51,11 @@ mod Laned
 mod Carrying
 mod Sending
 mod ProbedPads
+pub mod Planning
+mod FittingOrder
+mod FittingGone
+mod FittingEval
+mod FittingSpans
+mod FittingStays
+mod FittingActs
+mod FittingTurns

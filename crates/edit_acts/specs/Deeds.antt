@@ -23,6 +23,7 @@ use Rattle.edit_core.specs.declared.deciding.Deed.{Deed}
 use Rattle.edit_core.specs.declared.deciding.Deed.TheVariants.{Relink, Unlink, Add, Remove}
 use Rattle.edit_core.specs.declared.feeds.Feeds.{Feeds}
 use Rattle.edit_acts.specs.Controlled.{IsControlled}
+use Rattle.edit_acts.specs.Planned.{KeepsPlan}
 use Rattle.edit_acts.specs.Removed.{TakesOut}
 use Rattle.edit_acts.specs.declared.doing.Outcome.{Outcome}
 use Rattle.edit_acts.specs.declared.doing.Outcome.TheVariants.{Done, TakenOut, Undone}
@@ -92,6 +93,7 @@ module _ {S E I O L : Type 0} {s : sources.Ghosts S} {e : elements.Ghosts E} {i 
     pub crossed : now.history ≡ m.history
     pub owner : now.plan.owner ≡ m.plan.owner
     pub owed : (p : ℕ) → is_there (made_by deed items g) (m.plan.owner p) ≡ true → (is_there g (m.plan.owner p) ≡ true) × IsPrefix (owed_then m p) (owed_then now p)
+    pub plan : KeepsPlan g (made_by deed items g) m now
     pub controlled : IsControlled graph feeds tasks (made_by deed items g) now tells
 
   -- Memory was wanting, and control has the run as it was; or an element refused what it was given, and the graph has the deed.

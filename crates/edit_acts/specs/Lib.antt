@@ -12,3 +12,5 @@ pub mod Deeds
 pub mod Scripted
 pub mod Sent
 pub mod Probed
+pub mod Planned
+pub mod Evaluated

@@ -32,6 +32,7 @@ use Rattle.edit_core.specs.Deciding.{IsReached, TellsFirst, TellsPlace, names_it
 use Rattle.edit_core.specs.Judging.{owed_then}
 use Rattle.edit_core.specs.declared.feeds.Feeds.{Feeds}
 use Rattle.edit_acts.specs.Controlled.{IsControlled}
+use Rattle.edit_acts.specs.Planned.{KeepsPlan}
 
 -- ---- places
 
@@ -89,6 +90,7 @@ module _ {S E I O L : Type 0} {s : sources.Ghosts S} {e : elements.Ghosts E} {i 
     pub crossed : now.history ≡ m.history
     pub owner : now.plan.owner ≡ m.plan.owner
     pub owed : (p : ℕ) → is_there next (m.plan.owner p) ≡ true → (is_there g (m.plan.owner p) ≡ true) × IsPrefix (owed_then m p) (owed_then now p)
+    pub plan : KeepsPlan g next m now
     pub has : Has is next now
 
   -- The next command was answered.

@@ -14,7 +14,7 @@ use std::test::Fail;
 /// the pads to which their source pads are linked.
 const ROWS: &str = "\
 filesrc name=f location=a ! filesink name=b location=b | -> / 0*>1.0 1*
-filesrc name=f location=a ! filesink name=b location=b identity name=i | now f.src relink i.sink | now f.src relink b.sink -> done done / 0*>1.0 2* 1*
+filesrc name=f location=a ! filesink name=b location=b identity name=i | now f.src relink i.sink | now f.src relink b.sink -> done done / 0*>1.0 1* 2*
 filesrc name=f location=a ! filesink name=b location=b identity name=i | now f.src relink i.sink -> done / 0*>2.0 1* 2*
 filesrc name=f location=a ! filesink name=b location=b | now f.src relink b.sink | now f.src unlink | now f.src unlink | now f.src relink b.sink -> WasLinked done NoSuch done / 0*>1.0 1*
 filesrc name=f location=a ! filesink name=b location=b | now f.src unlink eos | now f.src relink b.sink -> done AfterEos / 0* 1*

@@ -10,3 +10,4 @@ pub mod LinksStanding
 pub mod Ending
 pub mod Ended
 pub mod LiveElements
+mod Ordering

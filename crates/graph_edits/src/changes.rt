@@ -53,7 +53,7 @@ impl EditedGraph {
     {
         self.links.reserve(1)?;
         self.ended.reserve(self.links.len() + 1)?;
-        match self.order.link(alloc, source.element, sink.element)? {
+        match self.order.link_once(alloc, source.element, sink.element)? {
             Linking::Loops => Ok(Linking::Loops),
             Linking::Linked => {
                 let link = PadLink { source, sink };
@@ -80,7 +80,7 @@ impl EditedGraph {
     {
         self.links.reserve(1)?;
         self.ended.reserve(self.links.len() + 1)?;
-        match self.order.link(alloc, source.element, sink.element)? {
+        match self.order.link_once(alloc, source.element, sink.element)? {
             Linking::Loops => Ok(Linking::Loops),
             Linking::Linked => {
                 cut(&mut self.links, source);

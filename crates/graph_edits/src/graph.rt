@@ -24,7 +24,7 @@ pub struct EditedGraph {
     pub(crate) touched: Vec<bool>,
     /// The links that stand.
     pub(crate) links: Vec<PadLink>,
-    /// All links that ever were made, and an order in which each of them goes forward.
+    /// Between which elements links ever were made, each once but for those of the launch line, and an order in which each of them goes forward.
     pub(crate) order: Order,
     /// The sink pads whose stream ended with a link that was undone. There is room for those of all links that stand.
     pub(crate) ended: Vec<PadPlace>,

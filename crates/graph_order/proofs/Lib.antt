@@ -1,3 +1,4 @@
 pub mod Parted
 pub mod Reached
 pub mod Once
+pub mod Same

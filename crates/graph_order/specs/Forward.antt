@@ -1,6 +1,6 @@
 -- Orders of elements in which each link goes forward.
 use Rattle.std.specs.Prelude.{◌≡◌, ◌⊎◌, ◌<◌, ◌++◌, ℕ, List, [], ◌∷◌, vec_capacity, vec_len}
-use Rattle.graph_order.specs.Links.{Way}
+use Rattle.graph_order.specs.Links.{AreSameLinks, Way}
 use Rattle.graph_order.specs.declared.link.Link.{Link}
 use Rattle.graph_order.specs.declared.order.Order.{Order}
 use Rattle.graph_order.specs.declared.order.Linking.{Linking}
@@ -46,3 +46,8 @@ link_of from to = record { from = from; to = to }
 abbrev pub AfterLink : Order → ℕ → ℕ → Order → Linking → Type 0
 AfterLink old from to new Linked = ¬ Way (links_of old) to from × (links_of new ≡ links_of old ++ link_of from to ∷ [])
 AfterLink old from to new Loops = Way (links_of old) to from × (new ≡ old)
+
+-- A link is one of those that were made, or there is a way back already. The links are the same where it was made before.
+abbrev pub AfterOneLink : Order → ℕ → ℕ → Order → Linking → Type 0
+AfterOneLink old from to new Linked = ¬ Way (links_of old) to from × AreSameLinks (links_of new) (links_of old ++ link_of from to ∷ [])
+AfterOneLink old from to new Loops = Way (links_of old) to from × (new ≡ old)

@@ -28,8 +28,8 @@ pub struct Order {
 }
 
 impl Order {
-    ghost use Rattle.graph_order.specs.Forward.{IsForward, AfterLink, HasRoom, links_of, forward_of, count_of};
-    ghost use Rattle.graph_order.specs.Links.{Way};
+    ghost use Rattle.graph_order.specs.Forward.{IsForward, AfterLink, AfterOneLink, HasRoom, links_of, forward_of, count_of};
+    ghost use Rattle.graph_order.specs.Links.{IsLink, Way};
 
     /// No elements. Takes no memory.
     pub fn new(alloc: Global) -> Order
@@ -109,6 +109,34 @@ impl Order {
         self.links.push(Link { from, to })?;
         self.forward = forward;
         Ok(Linking::Linked)
+    }
+
+    /// Whether a link from one element to another was made.
+    fn has_link(&self, from: u32, to: u32) -> bool
+        ensures { IsTrue result ↔ IsLink from to (links_of self.now) }
+    {
+        for place in 0..self.links.len() {
+            let link = self.links[place];
+            if link.from == from && link.to == to {
+                return true;
+            }
+        }
+        false
+    }
+
+    /// A link from one element to another as [`link`](Order::link) makes it, unless it was made before: nothing changes then, and no memory is taken.
+    pub fn link_once(&mut self, alloc: Global, from: u32, to: u32) -> Result<Linking, OutOfMemory>
+        requires from { from < count_of self.old }
+        requires to { to < count_of self.old }
+        ensures answer { IfOk result (λ linking. IsForward self.old → AfterOneLink self.old from to self.new linking) }
+        ensures count { count_of self.new ≡ count_of self.old }
+        ensures forward { IsForward self.old → IsForward self.new }
+        ensures stays { OnErr result ((links_of self.new ≡ links_of self.old) × (forward_of self.new ≡ forward_of self.old)) }
+    {
+        if self.has_link(from, to) {
+            return Ok(Linking::Linked);
+        }
+        self.link(alloc, from, to)
     }
 
     /// The elements, each once, in an order in which each link goes forward.

@@ -3,3 +3,4 @@ pub mod Losing
 pub mod Moving
 pub mod Results
 pub mod Lessens
+mod Emptying

@@ -1,5 +1,5 @@
 //! One thing that a sink pad is fed from.
-ghost use Rattle.std.specs.Prelude.{◌≡◌, Some};
+ghost use Rattle.std.specs.Prelude.{◌≡◌, ◌↔◌, [], ◌∷◌, IsTrue, List, Some};
 ghost use Rattle.inlet_row.specs.Feed.{is_given, received_in};
 
 use gst_item::Item;
@@ -31,6 +31,8 @@ impl<I: Inlet> Feeding<I> {
     ghost use Rattle.gst_item.specs.declared.item.Item.{Item};
     ghost use Rattle.inlet_row.specs.declared.feeding.Feeding.TheVariants.{Given};
     ghost use Rattle.inlet_row.specs.declared.feeding.Answer.TheVariants.{Item as Next};
+    ghost use Rattle.lane_core.specs.Lane.{Lane};
+    ghost use Rattle.inlet_row.specs.Row.{held};
     ghost use Rattle.inlet_row.specs.Take.{IsAskable, Asks};
     ghost use Rattle.inlet_row.specs.Taken.{GoesInto, taken_of};
 
@@ -57,6 +59,16 @@ impl<I: Inlet> Feeding<I> {
                 }
                 None
             }
+        }
+    }
+
+    /// Whether it is a lane that holds no item now, where the table tells its lanes.
+    pub(crate) fn is_empty(&self, lanes: &I::Lanes) -> bool
+        ensures { (t : List Lane) → I.Out.tells lanes.now ≡ Some t → IsTrue result ↔ (held I.Inlet t (self.now ∷ []) ≡ []) }
+    {
+        match self {
+            Feeding::Given(_) => false,
+            Feeding::Lane { inlet, .. } => inlet.is_empty(lanes),
         }
     }
 

@@ -1,5 +1,5 @@
 //! What a sink pad is fed from.
-ghost use Rattle.std.specs.Prelude.{◌≡◌, ◌≤◌, ◌<◌, ◌+◌, ◌++◌, [], ◌∷◌, ℕ, List, Option, Some, OnOk, OnErr, drop};
+ghost use Rattle.std.specs.Prelude.{◌≡◌, ◌≤◌, ◌<◌, ◌+◌, ◌++◌, ◌↔◌, [], ◌∷◌, ℕ, IsTrue, List, Option, Some, OnOk, OnErr, drop};
 ghost use Rattle.gst_item.specs.declared.item.Item.{Item};
 
 use crate::feeding::{Answer, Feeding, UNLINKED};
@@ -20,7 +20,7 @@ impl<I: Inlet> InletRow<I> {
     ghost use Rattle.lane_core.specs.Lane.{Lane};
     ghost use Rattle.inlet_row.specs.declared.feeding.Feeding.TheVariants.{Given, Lane as OfLane};
     ghost use Rattle.inlet_row.specs.declared.feeding.Answer.TheVariants.{Item as Next};
-    ghost use Rattle.inlet_row.specs.Row.{AreApart, RowBetween, RowGave, RowIn, feeds_of, received_of, room_of};
+    ghost use Rattle.inlet_row.specs.Row.{AreApart, RowBetween, RowGave, RowIn, feeds_of, received_of, room_of, row_holds};
     ghost use Rattle.inlet_row.specs.Ends.{Gives, Links, Stays};
     ghost use Rattle.inlet_row.specs.Take.{First, HoldsAfter, KeepsLanes, Moves, list_after};
     ghost use Rattle.inlet_row.specs.Taken.{GoesInto, taken_of};
@@ -98,6 +98,18 @@ impl<I: Inlet> InletRow<I> {
             }
         }
         None
+    }
+
+    /// Whether nothing stands in the row that could still be taken, where the table tells its lanes: no given item, and no lane with one.
+    pub fn is_empty(&self, lanes: &I::Lanes) -> bool
+        ensures { (t : List Lane) → I.Out.tells lanes.now ≡ Some t → IsTrue result ↔ (row_holds I.Inlet t self.now ≡ []) }
+    {
+        for place in 0..self.feeds.len() {
+            if !self.feeds[place].is_empty(lanes) {
+                return false;
+            }
+        }
+        true
     }
 
     /// What stands in the row, in order.

@@ -1,5 +1,5 @@
 -- A lane: the items that were put into it and not yet taken, oldest first. A table of lanes tells them by their places.
-use Rattle.std.specs.Prelude.{◌≡◌, ℕ, zero, suc, List, [], ◌∷◌, ◌++◌, drop, length, ◌≤◌, Option, Some, slice_get}
+use Rattle.std.specs.Prelude.{◌≡◌, ◌==◌, ℕ, zero, suc, Bool, true, List, [], ◌∷◌, ◌++◌, drop, length, ◌≤◌, Option, None, Some, slice_get}
 use Rattle.std.specs.Option.{ForSome}
 use Rattle.gst_item.specs.declared.item.Item.{Item}
 use Rattle.lane_core.specs.Room.{Limits}
@@ -37,6 +37,11 @@ IsIn tells place = ForSome tells (λ t. (lane : Lane) × (slice_get t place ≡ 
 -- a table that tells its lanes has at this place one with room for these limits, which holds no more than were sent
 abbrev pub IsOf : Option (List Lane) → ℕ → Limits → ℕ → Type 0
 IsOf tells place limits count = ForSome tells (λ t. (lane : Lane) × (slice_get t place ≡ Some lane) × (lane.room ≡ limits.items) × (length lane.items ≤ count))
+
+-- nothing stands in a lane, or there is none
+abbrev pub holds_nothing : Option Lane → Bool
+holds_nothing None = true
+holds_nothing (Some lane) = length lane.items == 0
 
 -- where a table tells its lanes, what was sent is what was received, and then what the lane at this place holds
 abbrev pub IsBetween : Option (List Lane) → ℕ → List Item → List Item → Type 0

@@ -1,8 +1,8 @@
 //! The two ends of a lane, as traits.
-ghost use Rattle.std.specs.Prelude.{◌≡◌, ℕ, ◌<◌, ◌≤◌, ◌^◌, ◌++◌, [], ◌∷◌, List, Option, OnOk, OnErr, length};
+ghost use Rattle.std.specs.Prelude.{◌≡◌, ℕ, ◌<◌, ◌≤◌, ◌^◌, ◌++◌, [], ◌∷◌, List, Option, OnOk, OnErr, length, slice_get};
 ghost use Rattle.std.specs.Option.{ForSome, option_map};
 ghost use Rattle.gst_item.specs.declared.item.Item.{Item};
-ghost use Rattle.lane_core.specs.Lane.{Lane, IsIn, IsOf, IsBetween, table_without_items};
+ghost use Rattle.lane_core.specs.Lane.{Lane, IsIn, IsOf, IsBetween, holds_nothing, table_without_items};
 ghost use Rattle.lane_core.specs.Room.{Limits, number_of, told_of};
 ghost use Rattle.lane_core.specs.Moves.{AnswersRoom, IsPut, IsTake, TakesFirst, Meets, list_after_put, list_after_take, table_after_put, table_after_take, raised};
 
@@ -143,6 +143,10 @@ pub trait Inlet: Send + Drop {
     fn count(&self) -> u64
         ensures count { result ≡ count self.now }
         ensures length { (was : List Item) → received self.now was → length was ≡ result };
+
+    /// Whether the lane holds no item now, where the table tells its lanes.
+    fn is_empty(&self, lanes: &Self::Lanes) -> bool
+        ensures { ForSome (Self.Out.tells lanes.now) (λ t. result ≡ holds_nothing (slice_get t (place self.now))) };
 
     /// Moves all that is left in the lane behind `into`, so that what was received is what was sent. Room for it
     /// is taken first: where there is no memory, all stays as it was.

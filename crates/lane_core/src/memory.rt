@@ -171,6 +171,10 @@ impl Inlet for MemInlet {
         self.count
     }
 
+    fn is_empty(&self, lanes: &MemLanes) -> bool {
+        lanes.is_empty(self.place)
+    }
+
     fn meet(
         &mut self,
         alloc: Global,

@@ -1,6 +1,6 @@
 //! A table of lanes in memory.
 ghost use Rattle.std.specs.Prelude.{◌≡◌, ◌<◌, ◌++◌, [], ◌∷◌, length, Some, IfOk, OnErr, OnOk, MatchOption, slice_get};
-ghost use Rattle.lane_core.specs.Lane.{Lane, lane_of, table_with_item, table_without_first, table_without_items};
+ghost use Rattle.lane_core.specs.Lane.{Lane, holds_nothing, lane_of, table_with_item, table_without_first, table_without_items};
 
 use gst_item::Item;
 use gst_value::{List, OutOfMemory};
@@ -116,6 +116,16 @@ impl MemLanes {
         ensures { (lane : Lane) → slice_get self.now place ≡ Some lane → result ≡ length lane.items }
     {
         self.lanes[place as usize].len()
+    }
+
+    /// Whether a lane holds no item. Where there is no lane nothing is held.
+    pub(crate) fn is_empty(&self, place: u64) -> bool
+        ensures { result ≡ holds_nothing (slice_get self.now place) }
+    {
+        match self.lanes.get(place as usize) {
+            Some(lane) => lane.len() == 0,
+            None => true,
+        }
     }
 
     /// Puts an item into a lane.

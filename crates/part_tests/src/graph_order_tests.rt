@@ -72,3 +72,19 @@ fn rows(rt: HostRuntime) -> Result<(), Fail> {
     }
     Ok(())
 }
+
+#[test]
+fn a_link_is_made_once(rt: HostRuntime) -> Result<(), Fail> {
+    let alloc = rt.alloc();
+    let mut order = elements(alloc, 3)?;
+    if order.forward().len() != 3 {
+        Err("three elements")?;
+    }
+    assert_eq!(rt; order.link_once(alloc, 0, 1)?, Linking::Linked);
+    assert_eq!(rt; order.link_once(alloc, 1, 2)?, Linking::Linked);
+    assert_eq!(rt; order.link_once(alloc, 0, 1)?, Linking::Linked);
+    assert_eq!(rt; order.links().len(), 2);
+    assert_eq!(rt; order.link_once(alloc, 2, 0)?, Linking::Loops);
+    assert_eq!(rt; order.links().len(), 2);
+    Ok(())
+}

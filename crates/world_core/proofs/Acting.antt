@@ -30,10 +30,12 @@ use Rattle.edit_core.specs.declared.deciding.Ruling.TheVariants.{Waits, Answered
 use Rattle.edit_core.specs.declared.feeds.Feeds.{Feeds}
 use Rattle.graph_edits.specs.Graph.{IsEdited}
 use Rattle.graph_edits.specs.declared.graph.EditedGraph.{EditedGraph}
+use Rattle.edit_acts.proofs.Planning.{plan_stays}
 use Rattle.edit_acts.specs.Controlled.{IsControlled}
 use Rattle.edit_acts.specs.Deeds.{CanBeDone, DeedFails, IsDone, IsDue, WasDone}
 use Rattle.edit_acts.specs.declared.doing.Outcome.{Outcome}
 use Rattle.edit_acts.specs.Scripted.{IsExact}
+use Rattle.edit_acts.proofs.Planning.{plan_stays}
 use Rattle.world_core.specs.Answering.{ActFails, ActsOn, CanBeAnswered, CarryFails, Controls, Decides, HasLanes, IsCarriedOut, IsEntered, IsNext, NothingCanBeDone, RulesNext, SetsAside, TellsNothingDone, room_for}
 use Rattle.world_core.specs.Running.{tells_of}
 use Rattle.world_core.specs.declared.running.RunFault.{RunFault}
@@ -169,6 +171,7 @@ module _ {S E I O L : Type 0} {s : sources.Ghosts S} {e : elements.Ghosts E} {i 
             crossed = refl;
             owner = refl;
             owed = λ p there. (there, prefix_refl (owed_then m p));
+            plan = plan_stays g m;
             has = same_control was is answer entered g m has;
           };
     };
@@ -203,13 +206,14 @@ module _ {S E I O L : Type 0} {s : sources.Ghosts S} {e : elements.Ghosts E} {i 
             crossed = made.1.crossed;
             owner = made.1.owner;
             owed = made.1.owed;
+            plan = made.1.plan;
             has = made.1.controlled;
           };
     };
     script = carried.script;
     deed = Some deed;
     lanes = carried.lanes;
-    asks = λ g m names has. (items, places, decides g m (tells_of was) has.current names);
+    asks = λ g m names has. (items, places, decides g m (tells_of was) has.current names, refl);
     aside = aside;
   }
 

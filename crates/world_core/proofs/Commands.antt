@@ -130,4 +130,4 @@ ends_by_script graph (c ∷ cs) before after end some named ended = by ended
   where
     by : RunUnopened graph before after end ⊎ ScriptEnded graph (c ∷ cs) before end → EndsBy graph (c ∷ cs) before after end
     by (inl unopened) = inl unopened
-    by (inr ran) = inr (record { all = ran.all; answered = λ contents told. ran.answered contents told named })
+    by (inr ran) = inr (record { all = ran.all; answered = λ contents told. ran.answered contents told named; told = λ contents told. ran.told contents told named })

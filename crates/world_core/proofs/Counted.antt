@@ -46,7 +46,7 @@ same_choice f g [] same = refl
 same_choice f g (x ∷ xs) same = rw (same x, same_choice f g xs same) refl
 
 -- the number of a source pad has its place among those of all elements
-pad_within : (made : List Made) (p : ℕ) → is_pad made p ≡ true → (p / 64 < length made) × (p < length made * 64)
+pub pad_within : (made : List Made) (p : ℕ) → is_pad made p ≡ true → (p / 64 < length made) × (p < length made * 64)
 pad_within made p pad = (inside, omega (arith, inside))
   where
     inside : p / 64 < length made
@@ -68,7 +68,7 @@ abbrev count_of : List Made → ℕ → Count → PadCount
 count_of made p x = record { pad = source_name made (place_of p); items = x.items; buffers = x.buffers }
 
 -- where what is counted at each source pad is what crossed it, the counts are told so
-pads_are_told : (made : List Made) (counts : List Count) (h : ℕ → List Item)
+pub pads_are_told : (made : List Made) (counts : List Count) (h : ℕ → List Item)
     → ((p : ℕ) → is_pad made p ≡ true → (x : Count) × (slice_get counts p ≡ Some x) × IsTold x (h p))
     → pads_told made counts ≡ pad_entries made h
 pads_are_told made counts h are =

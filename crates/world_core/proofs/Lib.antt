@@ -48,6 +48,10 @@ mod ProbeActs
 mod Aside
 mod Elements
 mod ScriptEntries
+mod AtOpening
+mod ScriptCounts
+mod ScriptTold
+mod ScriptReports
 mod ScriptBegun
 mod ScriptEnds
 mod ScriptFiles
@@ -55,3 +59,6 @@ pub mod Tasks
 pub mod Begun
 pub mod Writes
 pub mod Quiet
+mod LeftOver
+mod AsideRuns
+mod EvaluatedRuns

@@ -51,7 +51,7 @@ on_ok_all P Q R (Err e) p q rest = tt
 
 module _ {S E I O L : Type 0} {s : sources.Ghosts S} {e : elements.Ghosts E} {i : inlets.Ghosts I L O} {o : outlets.Ghosts O L} where
   -- a run stays one of a script
-  pub by_probe : (script : List Command) (first : Edited) (was is : Running S E I O L s e i o) (place : ℕ) → IsScripted script first (view_of was) → HasProbed was is place
+  abbrev pub by_probe : (script : List Command) (first : Edited) (was is : Running S E I O L s e i o) (place : ℕ) → IsScripted script first (view_of was) → HasProbed was is place
       → IsScripted script first (view_of is)
   by_probe script first was is place w probed = record {
     g = w.g;

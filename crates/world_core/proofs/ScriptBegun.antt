@@ -1,16 +1,21 @@
--- How a run of a script begins: what its tasks are made of is there, and made of that control has it as the run of the script.
-use Rattle.std.proofs.Common.{◌≡◌, ◌∙◌, ◌<◌, ◌^◌, ℕ, List, [], Option, Some, Result, Ok, Err, IfOk, arith, drop, length, sym, ap, subst}
+-- How a run of a script begins: what its tasks are made of is there, and made of that it fits the evaluation of its graph.
+use Rattle.std.proofs.Common.{◌≡◌, ◌∙◌, ◌<◌, ◌^◌, ℕ, Bool, true, if◌then◌else◌, List, [], Option, Some, Result, Ok, Err, IfOk, arith, drop, length, sym, ap, subst}
+use Rattle.std.proofs.lemmas.Bool.{lt-ltb, true≢false}
+use Rattle.flow_model.specs.Moment.{Moment}
 use Rattle.flow_model.specs.declared.element.TaskElement as elements
 use Rattle.flow_model.specs.declared.source.TaskSource as givers
-use Rattle.graph_core.specs.Elements.{Made}
+use Rattle.graph_core.specs.Elements.{Made, limit}
 use Rattle.graph_core.specs.Graph.{made as made_in, links as links_in}
+use Rattle.graph_core.specs.GraphPlan.{owner_of}
 use Rattle.graph_core.specs.declared.graph.Graph.{Graph}
 use Rattle.graph_core.proofs.LinkedOnce.{linked_once}
+use Rattle.graph_edits.specs.Edited.{Edited, is_there}
 use Rattle.graph_edits.specs.Graph.{IsEdited}
 use Rattle.graph_edits.specs.declared.graph.EditedGraph.{EditedGraph}
 use Rattle.graph_pads.specs.declared.pad.PadLink.{PadLink}
 use Rattle.graph_parts.specs.Files.{GraphOpens, WereTold}
 use Rattle.graph_parts.specs.Filled.{AreFilled}
+use Rattle.graph_parts.specs.Pads.{is_pad}
 use Rattle.graph_parts.specs.declared.bag.Bag.{Bag}
 use Rattle.graph_tasks.specs.Plan.{AreThere, without}
 use Rattle.graph_tasks.specs.Tasks.{AreTasks}
@@ -19,6 +24,7 @@ use Rattle.graph_tasks.specs.declared.wired_task.WiredTask.{WiredTask}
 use Rattle.graph_tasks.proofs.Hands.{elements_are_there}
 use Rattle.graph_tasks.proofs.Readied.{tasks_are_ready}
 use Rattle.gst_outside.specs.Seen.{Seen}
+use Rattle.gst_value.proofs.Basics.{none_some}
 use Rattle.gst_outside.specs.declared.sink.Sink as sinks
 use Rattle.gst_outside.specs.declared.source.Source as sources
 use Rattle.lane_core.specs.Lane.{Lane}
@@ -34,9 +40,10 @@ use Rattle.script_text.specs.declared.command.Command.{Command}
 use Rattle.task_elements.specs.declared.element.StreamElement.{StreamElement}
 use Rattle.task_elements.specs.declared.source.StreamSource.{StreamSource}
 use Rattle.edit_core.specs.Feeds.{AreFeeds}
+use Rattle.edit_core.specs.Whole.{owner_in}
 use Rattle.edit_core.specs.declared.feeds.Feeds.{Feeds}
-use Rattle.edit_acts.specs.Scripted.{IsScripted}
-use Rattle.world_core.specs.Begins.{RunsBegin, line_graph}
+use Rattle.world_core.specs.Begins.{IsBegun, RunsBegin, line_graph}
+use Rattle.world_core.specs.Evaluated.{AreSetAside, IsRunOf}
 use Rattle.world_core.specs.Probes.{StandFor}
 use Rattle.world_core.specs.Probing.{AreProbes}
 use Rattle.world_core.specs.Running.{tells_of, view_of}
@@ -47,8 +54,35 @@ use Rattle.world_core.specs.declared.running.Running.{Running}
 use Rattle.world_core.specs.declared.scripted.Control.{Control}
 use Rattle.world_core.specs.declared.watching.Watch.TheVariants.{Unasked}
 use Rattle.world_core.proofs.AtHand.{MakesStreams, at_hand}
+use Rattle.world_core.proofs.Counted.{pad_within}
 use Rattle.world_core.proofs.Standing.{elements_stand, sources_stand}
 use Rattle.world_core.proofs.Watched.{nothing_known}
+
+-- where nothing was done to a graph each element that has a pad is there
+all_there : (graph : Graph) (g : Edited) → g ≡ line_graph graph → (p q : ℕ) → q ≡ owner_in g.made p → is_pad g.made p ≡ true → is_there g q ≡ true
+all_there graph g same p q own pad =
+    let line_pad : is_pad (made_in graph) p ≡ true = ap (λ (h : Edited). is_pad h.made p) (sym same) ∙ pad in
+    let owner : q ≡ owner_of p = own ∙ ap (λ (h : Edited). owner_in h.made p) same ∙ ap (λ (b : Bool). if b then owner_of p else limit) line_pad in
+    ap (λ (h : Edited). is_there h q) same ∙ ap (is_there (line_graph graph)) owner ∙ lt-ltb (owner_of p) (length (made_in graph)) (pad_within (made_in graph) p line_pad).0
+
+-- so where no task was set aside, its run is one of the script
+module _ {S E I O L : Type 0} {s : givers.Ghosts S} {e : elements.Ghosts E} {i : inlets.Ghosts I L O} {o : outlets.Ghosts O L} where
+  none_aside : (graph : Graph) (g : Edited) (m : Moment) → g ≡ line_graph graph → ((p : ℕ) → m.plan.owner p ≡ owner_in g.made p) → AreSetAside {s = s} {e = e} {i = i} {o = o} g m []
+  none_aside graph g m same owners = record {
+    counted = λ place task at. absurd (none_some at);
+    gone = λ p has. absurd (none_some has.at);
+    each = λ p gone. absurd (true≢false (sym (all_there graph g same p (m.plan.owner p) (owners p) gone.0) ∙ gone.1));
+    parts = λ part is. absurd (none_some is.at);
+  }
+
+  begun_run : (contents : ℕ → List ℕ) (script : List Command) (graph : Graph) (run : Running S E I O L s e i o) → IsBegun contents script graph (view_of run) → run.removed.items ≡ []
+      → IsRunOf contents script (line_graph graph) run
+  begun_run contents script graph run begun none = record {
+    evaluated = begun.evaluated;
+    aside =
+        subst (λ (removed : List (Task S E I O L s e i o)). AreSetAside begun.evaluated.scripted.g begun.evaluated.scripted.m removed) (sym none)
+        (none_aside graph begun.evaluated.scripted.g begun.evaluated.scripted.m begun.undone begun.evaluated.fits.owner);
+  }
 
 module _ {S K I O L : Type 0} (giver : givers.Ghosts (StreamSource S)) (taker : elements.Ghosts (StreamElement K))
     (i : inlets.Ghosts I L O) (o : outlets.Ghosts O L)
@@ -69,18 +103,18 @@ module _ {S K I O L : Type 0} (giver : givers.Ghosts (StreamSource S)) (taker : 
       → AreTasks i o made links elements_in sources_in bags run.tasks.items lanes) (told : tells_of run ≡ Some table)
       (edited : IsEdited run.graph (line_graph graph)) (feeds_are : AreFeeds run.feeds (line_graph graph) (λ p. [])) (script_is : run.script.items ≡ script)
       (unanswered : run.entries.items ≡ []) (probes : AreProbes run) (watched : IsWatched run) where
-    begun_scripted : (contents : ℕ → List ℕ) → WereTold (made_in graph) before contents → IsScripted script (line_graph graph) (view_of run)
-    begun_scripted contents were =
+    begun_so : (contents : ℕ → List ℕ) → WereTold (made_in graph) before contents → IsBegun contents script graph (view_of run)
+    begun_so contents were =
         subst
-        (λ (entries : List Entry). IsScripted script (line_graph graph)
+        (λ (entries : List Entry). IsBegun contents script graph
         (record { graph = run.graph; feeds = run.feeds; tasks = run.tasks.items; tells = tells_of run; commands = drop (length entries) run.script.items; entries = entries }))
         (sym unanswered)
         (subst
-        (λ (commands : List Command). IsScripted script (line_graph graph)
+        (λ (commands : List Command). IsBegun contents script graph
         (record { graph = run.graph; feeds = run.feeds; tasks = run.tasks.items; tells = tells_of run; commands = commands; entries = [] }))
         (sym script_is)
         (subst
-        (λ (tells : Option (List Lane)). IsScripted script (line_graph graph)
+        (λ (tells : Option (List Lane)). IsBegun contents script graph
         (record { graph = run.graph; feeds = run.feeds; tasks = run.tasks.items; tells = tells; commands = script; entries = [] }))
         (sym told)
         (law contents built.tree graph planned.bags elements_in sources_in run.tasks.items table run.graph run.feeds script built.line built.sound planned.bags_are
@@ -113,7 +147,7 @@ module _ {S K I O L : Type 0} (giver : givers.Ghosts (StreamSource S)) (taker : 
       probes = probes;
       watched = watched;
       none_removed = none_removed;
-      scripted = begun_scripted;
+      evaluated = λ contents were. begun_run contents script graph run (begun_so contents were) none_removed;
     }
 
   -- its probes are those of the script

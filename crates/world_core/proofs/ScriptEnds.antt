@@ -1,5 +1,5 @@
 -- How a run of a script has ended, by what it leaves and what is told of that.
-use Rattle.std.proofs.Common.{◌≡◌, ◌∙◌, ℕ, true, false, All, List, Option, None, Some, Result, Ok, Err, IfErr, IfOk, OnOk, is_some, length, min, refl, sym, take, ap, subst}
+use Rattle.std.proofs.Common.{◌≡◌, ◌∙◌, ◌⊎◌, ℕ, true, false, All, List, Option, None, Some, Result, Ok, Err, IfErr, IfOk, OnOk, is_some, length, min, refl, sym, take, ap, subst}
 use Rattle.std.proofs.lemmas.List.{take_min}
 use Rattle.flow_model.specs.declared.element.TaskElement as elements
 use Rattle.flow_model.specs.declared.source.TaskSource as givers
@@ -25,9 +25,10 @@ use Rattle.turn_order.specs.declared.turns.Turns.{Turns}
 use Rattle.edit_core.specs.Deciding.{names_its_pad}
 use Rattle.edit_acts.specs.Scripted.{IsScripted}
 use Rattle.world_core.specs.Begins.{line_graph}
+use Rattle.world_core.specs.Evaluated.{IsEditedReport, IsRunOf}
 use Rattle.world_core.specs.Ran.{stop_status}
 use Rattle.world_core.specs.Running.{KeepsElements, view_of}
-use Rattle.world_core.specs.Scripts.{AnswersScript, RunsAnswer, RunsKeep, ScriptEnded, ScriptStops}
+use Rattle.world_core.specs.Scripts.{AnswersScript, FailsInEdit, RunsAnswer, RunsKeep, ScriptEnded, ScriptStops}
 use Rattle.world_core.specs.Stalled.{TellsTasks}
 use Rattle.world_core.specs.Told.{task_status}
 use Rattle.world_core.specs.declared.ended.WorldEnd.{WorldEnd}
@@ -39,7 +40,7 @@ use Rattle.world_core.specs.declared.running.RunFault.TheVariants.{Stopped as At
 use Rattle.world_core.specs.declared.running.Running.{Running}
 
 -- the status of a fault is not 0
-faulty : (fault : TaskFault) → task_status fault ≡ 0 → ⊥
+pub faulty : (fault : TaskFault) → task_status fault ≡ 0 → ⊥
 faulty (tasks.ReadFault n before after) e = cc
 faulty (tasks.WriteFault n before after) e = cc
 faulty (tasks.Stream n place kind) e = cc
@@ -118,12 +119,15 @@ module _ {S E I O L : Type 0} {s : givers.Ghosts S} {e : elements.Ghosts E} {i :
       entries_answer _ _ (ScriptStops.over live live_is told) over met names w = law.ended order 0 first last next graph script (over order 0 goes) names w
       entries_answer _ _ (ScriptStops.stalled live told live_is other tells) over met names w = law.ended order 0 first last next graph script (over order 0 goes) names w
 
-      pub script_ended : (before : Seen) → ((contents : ℕ → List ℕ) → WereTold (made_in graph) before contents → IsScripted script (line_graph graph) (view_of first))
+      pub script_ended : (before : Seen) → ((contents : ℕ → List ℕ) → WereTold (made_in graph) before contents → IsRunOf contents script (line_graph graph) first)
           → (ran : Result (Unit {0}) RunFault) (own : Stop) → ScriptStops ended ran own → OnOk ran (HasRunTo t turns next first last) → IfErr ran (HasMetIn t turns next first last)
-          → (end : WorldEnd) → end.status ≡ stop_status own → end.report.entries ≡ ended.entries.items → ScriptEnded graph script before end
-      script_ended before scripted ran own stops over met end status told = record {
+          → (end : WorldEnd) → end.status ≡ stop_status own → end.report.entries ≡ ended.entries.items
+          → ((contents : ℕ → List ℕ) → IsRunOf contents script (line_graph graph) first → All (λ c. names_its_pad c ≡ true) script → IsEditedReport contents graph script end.report ⊎ FailsInEdit end)
+          → ScriptEnded graph script before end
+      script_ended before evaluated ran own stops over met end status told reported = record {
         all = λ none. ap length told ∙ all_answered ran own stops over (sym status ∙ none);
         answered = λ contents were names.
             subst (λ (entries : List Entry). AnswersScript graph script entries) (sym (told ∙ ap (λ entries. entries.items) entries_are))
-            (entries_answer ran own stops over met names (scripted contents were));
+            (entries_answer ran own stops over met names (evaluated contents were).evaluated.scripted);
+        told = λ contents were names. reported contents (evaluated contents were) names;
       }

@@ -60,7 +60,7 @@ told_by pad x h p count crossed number = record {
   buffers_are = count.told (h (number_of pad)) crossed ∙ ap (λ (n : ℕ). buffers (h n)) number;
 }
 
-count_by : {O : Type 0} (pad : Pad O) (h : List Item) → HasCrossed pad h → (x : Count) × IsCountOf pad x
+pub count_by : {O : Type 0} (pad : Pad O) (h : List Item) → HasCrossed pad h → (x : Count) × IsCountOf pad x
 count_by pad h crossed = (
   record { items = crossed_count pad; buffers = buffers h },
   record { crossed = refl; told = λ other also. sym crossed.buffers ∙ also.buffers },

@@ -57,7 +57,7 @@ lanes_are made n = by (slice_get made n)
     by (Some m) = refl
 
 -- each element of a line is active, so none is asleep
-never_asleep : (source there touched : Bool) → there ≡ true → (source && not (there || touched)) ≡ false
+pub never_asleep : (source there touched : Bool) → there ≡ true → (source && not (there || touched)) ≡ false
 never_asleep true true touched is = refl
 never_asleep false true touched is = refl
 never_asleep source false touched is = absurd cc

@@ -61,10 +61,10 @@ TellsNothingDone (Done places) = ⊥
 TellsNothingDone Unreached = Unit {0}
 TellsNothingDone (Refused reason places) = Unit {0}
 
--- a command that is answered so asks for this deed, or for none
+-- A command that is answered so asks for no deed; or it asks for this one, and counts as done.
 abbrev pub AsksFor : Edited → Moment → Command → Answer → Option Deed → Type 0
 AsksFor g m command answer None = TellsNothingDone answer
-AsksFor g m command answer (Some deed) = (items : ℕ) × (places : List Place) × IsToDo g m command deed items places
+AsksFor g m command answer (Some deed) = (items : ℕ) × (places : List Place) × IsToDo g m command deed items places × (answer ≡ Done places)
 
 module _ {S E I O L : Type 0} {s : sources.Ghosts S} {e : elements.Ghosts E} {i : inlets.Ghosts I L O} {o : outlets.Ghosts O L} where
   -- control has the run, edited so, at a moment

@@ -1,5 +1,5 @@
 -- How a run of a script begins, with the tasks of the graph of a launch line.
-use Rattle.std.specs.Prelude.{ℕ, List, [], Option, Some}
+use Rattle.std.specs.Prelude.{◌≡◌, ℕ, List, [], Option, Some}
 use Rattle.lane_core.specs.Lane.{Lane}
 use Rattle.lane_core.specs.declared.ends.Inlet as inlets
 use Rattle.lane_core.specs.declared.ends.Outlet as outlets
@@ -19,11 +19,18 @@ use Rattle.script_text.specs.declared.command.Command.{Command}
 use Rattle.graph_edits.specs.Edited.{Edited, unedited}
 use Rattle.edit_core.specs.Feeds.{AreFeeds}
 use Rattle.edit_core.specs.declared.feeds.Feeds.{Feeds}
-use Rattle.edit_acts.specs.Scripted.{IsScripted}
+use Rattle.edit_acts.specs.Evaluated.{IsEvaluated}
+use Rattle.edit_acts.specs.Scripted.{ScriptRun}
 
 -- the graph of a launch line, to which nothing was done yet
 abbrev pub line_graph : Graph → Edited
 line_graph graph = unedited (made_in graph) (links_in graph)
+
+module _ {S E I O L : Type 0} {s : sources.Ghosts S} {e : elements.Ghosts E} {i : inlets.Ghosts I L O} {o : outlets.Ghosts O L} where
+  -- It is a run of a script that fits the evaluation of its graph, and nothing was done to that.
+  pub record IsBegun (contents : ℕ → List ℕ) (script : List Command) (graph : Graph) (run : ScriptRun s e i o) : Type 0 where
+    pub evaluated : IsEvaluated contents script (line_graph graph) run
+    pub undone : evaluated.scripted.g ≡ line_graph graph
 
 module _ {S E I O L : Type 0} (s : sources.Ghosts S) (e : elements.Ghosts E) (i : inlets.Ghosts I L O) (o : outlets.Ghosts O L) where
   -- A run of a script begins where each element of its graph is of a task and nothing has moved.
@@ -32,4 +39,4 @@ module _ {S E I O L : Type 0} (s : sources.Ghosts S) (e : elements.Ghosts E) (i 
       (edited : EditedGraph) (feeds : Feeds) (script : List Command) → IsGraph tree graph → IsSound graph → AreAllBags (made_in graph) (links_in graph) bags
       → AreTasks i o (made_in graph) (links_in graph) ends files bags tasks table → ElementsStand e contents graph ends → SourcesStand s contents graph files
       → IsEdited edited (line_graph graph) → AreFeeds feeds (line_graph graph) (λ p. [])
-      → IsScripted script (line_graph graph) (record { graph = edited; feeds = feeds; tasks = tasks; tells = Some table; commands = script; entries = [] })
+      → IsBegun contents script graph (record { graph = edited; feeds = feeds; tasks = tasks; tells = Some table; commands = script; entries = [] })

@@ -20,3 +20,5 @@ pub mod Headline
 pub mod Probes
 pub mod Probing
 pub mod Watching
+pub mod Left
+pub mod Evaluated

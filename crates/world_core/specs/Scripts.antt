@@ -1,5 +1,6 @@
 -- How a run of a launch line with a script begins and ends.
-use Rattle.std.specs.Prelude.{◌≡◌, ◌≤◌, ◌⊎◌, ◌↔◌, ℕ, Bool, true, All, List, [], Option, None, Some, Result, Ok, Err, length, take, vec_capacity, vec_len}
+use Rattle.std.specs.Prelude.{◌≡◌, ◌≢◌, ◌≤◌, ◌⊎◌, ◌↔◌, ℕ, Bool, true, All, List, [], Option, None, Some, Result, Ok, Err, length, take, vec_capacity, vec_len}
+use Rattle.std.specs.Option.{ForSome}
 use Rattle.flow_model.specs.Item.{Item}
 use Rattle.flow_model.specs.declared.element.TaskElement as elements
 use Rattle.flow_model.specs.declared.source.TaskSource as givers
@@ -44,10 +45,12 @@ use Rattle.edit_acts.specs.Scripted.{IsScripted}
 use Rattle.edit_core.specs.Deciding.{names_its_pad}
 use Rattle.edit_core.specs.Feeds.{AreFeeds}
 use Rattle.world_core.specs.Begins.{line_graph}
+use Rattle.world_core.specs.Evaluated.{EndsWithDone, IsEditedReport, IsRunOf}
 use Rattle.world_core.specs.Probes.{StandFor}
 use Rattle.world_core.specs.Probing.{AreProbes}
 use Rattle.world_core.specs.Running.{KeepsElements, tells_of, view_of}
 use Rattle.world_core.specs.Watching.{IsWatched}
+use Rattle.world_core.specs.Left.{HoldNothing}
 use Rattle.world_core.specs.Stalled.{TellsTasks}
 use Rattle.world_core.specs.World.{RunUnopened}
 use Rattle.world_core.specs.declared.report.Stop.{Stop}
@@ -79,7 +82,7 @@ pub record AreAllPlanned {I O L : Type 0} (i : inlets.Ghosts I L O) (o : outlets
 module _ {S K I O L : Type 0} {giver : givers.Ghosts (StreamSource S)} {taker : elements.Ghosts (StreamElement K)} {i : inlets.Ghosts I L O} {o : outlets.Ghosts O L}
     (s : sources.Ghosts S) (k : sinks.Ghosts K) where
   -- A run begins with the tasks of all elements of a graph, which have the ends that were opened for them; the ends that no element has are left.
-  -- Where the contents of what its sources read are told, control has it as the run of a script all of whose commands are still to come.
+  -- Where the contents of what its sources read are told, it is a run of a script all of whose commands are still to come.
   pub record ScriptBegins (graph : Graph) (script : List Command) (run : Running (StreamSource S) (StreamElement K) I O L giver taker i o)
       (rest : List (Option (StreamElement K))) (left : List (Option (End S K))) (before : Seen) : Type 0 where
     pub tree : Tree
@@ -104,7 +107,7 @@ module _ {S K I O L : Type 0} {giver : givers.Ghosts (StreamSource S)} {taker : 
     pub probes : AreProbes run
     pub watched : IsWatched run
     pub none_removed : run.removed.items ≡ []
-    pub scripted : (contents : ℕ → List ℕ) → WereTold (made_in graph) before contents → IsScripted script (line_graph graph) (view_of run)
+    pub evaluated : (contents : ℕ → List ℕ) → WereTold (made_in graph) before contents → IsRunOf contents script (line_graph graph) run
 
 -- ---- its end
 
@@ -113,9 +116,13 @@ abbrev pub LiveIn : EditedGraph → (ℕ → Bool) → Type 0
 LiveIn graph live = (g : Edited) → IsEdited graph g → (n : ℕ) → (live n ≡ true) ↔ IsLive g n
 
 module _ {S E I O L : Type 0} {s : givers.Ghosts S} {e : elements.Ghosts E} {i : inlets.Ghosts I L O} {o : outlets.Ghosts O L} where
-  -- No command is left, and the steps that the tasks answered tell that the run is over, by which elements are live.
+  -- where the table tells its lanes, nothing stands in the inlets of a task that has not ended
+  abbrev pub AreEmptied : Ended S E I O L s e i o → Type 0
+  AreEmptied ended = ForSome (o.tells ended.lanes) (λ t. HoldNothing i t ended.tasks.items ended.steps.items)
+
+  -- No command is left, and the steps that the tasks answered tell that the run is over, by which elements are live; and nothing is left in their inlets.
   abbrev pub TellsEnd : Ended S E I O L s e i o → (ℕ → Bool) → Type 0
-  TellsEnd ended live = (ended.waits ≡ None) × TellsOver live (has makes_sinks (made_of ended.graph)) ended.tasks.items ended.steps.items
+  TellsEnd ended live = (ended.waits ≡ None) × TellsOver live (has makes_sinks (made_of ended.graph)) ended.tasks.items ended.steps.items × AreEmptied ended
 
   -- How a run of a script stopped, by what it leaves: at the fault that a task met, or an element in an edit; or none can move. It is over then, by the elements
   -- that are live in the graph as it was left; or it is stalled, and of each task that takes turns is told why it can't go on.
@@ -151,12 +158,20 @@ module _ {S E I O L : Type 0} {s : givers.Ghosts S} {e : elements.Ghosts E} {i :
     pub ended : (order : Order) (start : ℕ) (was is : Running S E I O L s e i o) (next : Turns) → HasEnded t order start was next is → KeepsElements was is
     pub failed : (order : Order) (start : ℕ) (was is : Running S E I O L s e i o) (next : Turns) (fault : RunFault) → HasFailed t order start was next is fault → KeepsElements was is
 
+-- A task met a fault, or an element in an edit whose command was done: the last that was answered.
+pub record FailsInEdit (end : WorldEnd) : Type 0 where
+  pub entries : EndsWithDone end.report.entries
+  pub failed : (end.status ≢ 0) × (end.status ≢ 12)
+
 -- A run of a script that began has ended. With status 0 each command was answered. Where the contents of what the sources of the line read are
--- told, and each command that acts on a pad names one, the entries answer the first commands lawfully.
+-- told, and each command that acts on a pad names one, the entries answer the first commands lawfully; and the report tells the evaluation of
+-- the graph as its commands left it, but where an element met a fault in an edit.
 pub record ScriptEnded (graph : Graph) (script : List Command) (before : Seen) (end : WorldEnd) : Type 0 where
   pub all : end.status ≡ 0 → length end.report.entries ≡ length script
   pub answered : (contents : ℕ → List ℕ) → WereTold (made_in graph) before contents → All (λ c. names_its_pad c ≡ true) script
       → AnswersScript graph script end.report.entries
+  pub told : (contents : ℕ → List ℕ) → WereTold (made_in graph) before contents → All (λ c. names_its_pad c ≡ true) script
+      → IsEditedReport contents graph script end.report ⊎ FailsInEdit end
 
 abbrev pub IsScriptEnd : Graph → List Command → Seen → Seen → WorldEnd → Type 0
 IsScriptEnd graph script before after end = RunUnopened graph before after end ⊎ ScriptEnded graph script before end

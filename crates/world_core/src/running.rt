@@ -76,6 +76,8 @@ pub struct Ended<S: TaskSource, E: TaskElement, I: Inlet<Out = O>, O: Outlet<Lan
     pub entries: Vec<Entry>,
     /// How many tasks take turns: these come first.
     pub taking: usize,
+    /// The lanes of the tasks.
+    pub lanes: I::Lanes,
     /// The number of the next command, where one is left. The first has the number 1.
     pub waits: Option<u32>,
 }
@@ -137,7 +139,7 @@ impl<S: TaskSource, E: TaskElement, I: Inlet<Out = O>, O: Outlet<Lanes = I::Lane
     pub fn end(self) -> Ended<S, E, I, O>
         ensures tasks { (result.tasks ≡ self.tasks) × (result.steps ≡ self.steps) × (result.removed ≡ self.removed) }
         ensures control { (result.graph ≡ self.graph) × (result.entries ≡ self.entries) }
-        ensures taking { result.taking ≡ self.taking }
+        ensures taking { (result.taking ≡ self.taking) × (result.lanes ≡ self.lanes) }
         ensures waits { result.waits ≡ next_number (length self.entries.items) (length self.script.items) }
         ensures all { result.waits ≡ None → length self.entries.items ≡ length self.script.items }
     {
@@ -147,6 +149,7 @@ impl<S: TaskSource, E: TaskElement, I: Inlet<Out = O>, O: Outlet<Lanes = I::Lane
             taking,
             steps,
             removed,
+            lanes,
             graph,
             entries,
             ..
@@ -158,6 +161,7 @@ impl<S: TaskSource, E: TaskElement, I: Inlet<Out = O>, O: Outlet<Lanes = I::Lane
             graph,
             entries,
             taking,
+            lanes,
             waits,
         }
     }

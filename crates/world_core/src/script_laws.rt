@@ -8,10 +8,14 @@ ghost use Rattle.graph_edits.specs.Edited.{Edited};
 ghost use Rattle.edit_core.specs.Deciding.{names_its_pad};
 ghost use Rattle.edit_acts.specs.Scripted.{IsScripted};
 ghost use Rattle.world_core.specs.Running.{view_of};
+ghost use Rattle.world_core.specs.Evaluated.{RunsAreEvaluated};
 ghost use Rattle.world_core.specs.Scripts.{RunsAnswer, RunsKeep};
 
 use crate::running::Running;
-use edit_acts::scripts::{acts_keep_scripts, turns_keep_scripts};
+use edit_acts::removing::unlinked_is_alone;
+use edit_acts::scripts::{
+    acts_keep_evaluated, acts_keep_scripts, turns_keep_evaluated, turns_keep_scripts,
+};
 use flow_model::{TaskElement, TaskSource};
 use lane_core::{MemInlet, MemOutlet};
 use turn_loop::TakesTurns;
@@ -40,3 +44,12 @@ pub fn runs_answer<S: TaskSource, E: TaskElement>()
 pub fn runs_keep<S: TaskSource, E: TaskElement>()
     ensures { RunsKeep ⟦<Running<S, E, MemInlet, MemOutlet> as TakesTurns>⟧ }
 {}
+
+/// Where such a run has ended or met a fault, what crossed its pads is what they counted, at a moment at which the run fits the evaluation of its graph.
+pub fn runs_are_evaluated<S: TaskSource, E: TaskElement>()
+    ensures { RunsAreEvaluated ⟦<Running<S, E, MemInlet, MemOutlet> as TakesTurns>⟧ }
+{
+    unlinked_is_alone::<S, E, MemInlet, MemOutlet>();
+    acts_keep_evaluated::<S, E, MemInlet, MemOutlet>();
+    turns_keep_evaluated::<S, E, MemInlet, MemOutlet>();
+}

@@ -25,9 +25,10 @@ use crate::ended::WorldEnd;
 use crate::report::{Stop, end_of, without_counts};
 use crate::run::{Counts, Ran, counts_for, not_begun};
 use crate::running::{Ended, RunFault, Running};
-use crate::script_laws::{runs_answer, runs_keep};
-use crate::stall::{is_over, stalled_tasks};
+use crate::script_laws::{runs_answer, runs_are_evaluated, runs_keep};
+use crate::stall::{hold_nothing, is_over, stalled_tasks};
 use crate::start::runs_begin;
+use edit_acts::scripts::runs_are_evaluated as histories_are_evaluated;
 use edit_core::Feeds;
 use flow_model::{TaskElement, TaskSource};
 use graph_core::Graph;
@@ -169,7 +170,7 @@ fn rest_of_script<S: TaskSource, E: TaskElement>(
     })
 }
 
-/// Whether no command is left and the run is over, by which elements are live.
+/// Whether no command is left, the run is over, by which elements are live, and nothing is left in the inlets of its tasks.
 fn is_over_then<S: TaskSource, E: TaskElement>(
     ended: &Ended<S, E, MemInlet, MemOutlet>,
     live: &[bool],
@@ -180,12 +181,9 @@ fn is_over_then<S: TaskSource, E: TaskElement>(
     if ended.waits.is_some() {
         return false;
     }
-    is_over(
-        ended.graph.elements(),
-        live,
-        ended.tasks.as_slice(),
-        ended.steps.as_slice(),
-    )
+    let tasks = ended.tasks.as_slice();
+    let steps = ended.steps.as_slice();
+    is_over(ended.graph.elements(), live, tasks, steps) && hold_nothing(tasks, steps, &ended.lanes)
 }
 
 /// Why each task that takes turns can't move.
@@ -229,6 +227,8 @@ fn run_to_end<S: Source, K: Sink>(
     } = counts;
     runs_answer::<StreamSource<S>, StreamElement<K>>();
     runs_keep::<StreamSource<S>, StreamElement<K>>();
+    runs_are_evaluated::<StreamSource<S>, StreamElement<K>>();
+    histories_are_evaluated::<StreamSource<S>, StreamElement<K>, MemInlet, MemOutlet>();
     let mut ends = left;
     let mut turns = Turns::new(turns);
     let ran = turn_loop::run(alloc, &mut run, &mut turns);

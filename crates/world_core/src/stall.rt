@@ -1,5 +1,8 @@
 //! Whether a run that can't go on is over or stalled, and why.
-ghost use Rattle.std.specs.Prelude.{◌≡◌, ◌<◌, ◌↔◌, IfOk, IsTrue, length, slice_get};
+ghost use Rattle.std.specs.Prelude.{◌≡◌, ◌<◌, ◌↔◌, ◌⊎◌, IfOk, IsTrue, List as Lists, Some, length, slice_get};
+ghost use Rattle.lane_core.specs.Lane.{Lane};
+ghost use Rattle.task_parts.specs.declared.step.Step.TheVariants.{Ended as HasEnded};
+ghost use Rattle.world_core.specs.Left.{HeadHoldsNothing, HoldNothing, RowsHoldNothing};
 ghost use Rattle.std.specs.Option.{unwrap_or};
 ghost use Rattle.graph_core.specs.Elements.{all_made, has};
 ghost use Rattle.graph_order.specs.Marks.{is_marked};
@@ -15,6 +18,7 @@ use crate::pads::{lane_into, name_of, place_of, sink_named};
 use flow_model::{TaskElement, TaskSource};
 use graph_core::{Elements, PadPlace};
 use gst_value::{List, OutOfMemory};
+use inlet_row::InletRow;
 use lane_core::{Inlet, Outlet};
 use net_task::Task;
 use run_report::{StallReason, StalledTask};
@@ -72,6 +76,51 @@ pub(crate) fn is_over<
 {
     for place in 0..tasks.len() {
         if !lets_over(elements, live, head_of(&tasks[place]), steps[place]) {
+            return false;
+        }
+    }
+    true
+}
+
+/// Whether nothing stands in rows.
+fn rows_hold_nothing<I: Inlet>(rows: &[InletRow<I>], lanes: &I::Lanes) -> bool
+    ensures { (t : Lists Lane) → I.Out.tells lanes.now ≡ Some t → IsTrue result ↔ RowsHoldNothing I.Inlet t rows.now }
+{
+    for port in 0..rows.len() {
+        if !rows[port].is_empty(lanes) {
+            return false;
+        }
+    }
+    true
+}
+
+/// Whether a task has ended, or nothing stands in the inlets with which it begins.
+fn holds_nothing<S: TaskSource, I: Inlet<Out = O>, O: Outlet<Lanes = I::Lanes>>(
+    head: &Head<S, I, O>,
+    step: Step,
+    lanes: &I::Lanes,
+) -> bool
+    ensures { (t : Lists Lane) → O.tells lanes.now ≡ Some t → IsTrue result ↔ ((step ≡ HasEnded) ⊎ HeadHoldsNothing I.Inlet t head.now) }
+{
+    match (step, head) {
+        (Step::Ended, _) => true,
+        (_, Head::Source(_)) => true,
+        (_, Head::Inlets(head)) => rows_hold_nothing(head.rows(), lanes),
+    }
+}
+
+/// Whether nothing stands in the inlets of each task that has not ended, by the steps that they answered.
+pub(crate) fn hold_nothing<
+    S: TaskSource,
+    E: TaskElement,
+    I: Inlet<Out = O>,
+    O: Outlet<Lanes = I::Lanes>,
+>(tasks: &[Task<S, E, I, O>], steps: &[Step], lanes: &I::Lanes) -> bool
+    requires { length steps.now ≡ length tasks.now }
+    ensures { (t : Lists Lane) → O.tells lanes.now ≡ Some t → IsTrue result ↔ HoldNothing I.Inlet t tasks.now steps.now }
+{
+    for place in 0..tasks.len() {
+        if !holds_nothing(tasks[place].head(), steps[place], lanes) {
             return false;
         }
     }

@@ -1,10 +1,14 @@
-use Rattle.std.proofs.Common.{◌∙◌, ap, length, refl, sym}
+use Rattle.std.proofs.Common.{◌≡◌, ◌*◌, ◌∙◌, List, ap, length, refl, sym}
+use Rattle.graph_core.specs.Elements.{Made}
+use Rattle.graph_core.specs.Graph.{made as made_in}
 use Rattle.graph_edits.specs.Graph.{made as made_of}
 use Rattle.graph_edits.specs.declared.graph.EditedGraph.{EditedGraph}
+use Rattle.task_elements.proofs.RuleLaws.{owes_in_order}
 use Rattle.world_core.specs.Scripts.{ScriptStops}
 use Rattle.world_core.proofs.ScriptBegun.{script_ready}
 use Rattle.world_core.proofs.ScriptEnds.{run_kept, run_tried, script_ended, told_so}
 use Rattle.world_core.proofs.ScriptFiles.{located_so}
+use Rattle.world_core.proofs.ScriptReports.{script_reported}
 use Rattle.world_core.proofs.scripted.run_to_end.Goals as goal
 
 pub run-ran-requires : goal.run-ran-requires
@@ -22,10 +26,21 @@ stop_of_script-stop-requires g c = record {
 
 pub returns-in-Ok-clause-ended : goal.returns-in-Ok-clause-ended
 returns-in-Ok-clause-ended g c = λ graph script before begins some.
+    let first_graph = c.requires.begun.0 in
+    let first_begins = c.requires.begun.3 in
+    let line : ◌≡◌ {A = List Made} (made_in first_graph) (made_in graph) = sym first_begins.edited.elements ∙ begins.edited.elements in
+    let stops = told_so c.stop_of_script-stop.result c.in-Ok.ensures.0 c.in-Ok.ensures.1 (ScriptStops c.end-ended.result c.run-ran.result) c.stop_of_script-stop.ensures in
     script_ended _ c.args.turns c.new-turns.result c.run-ran.new.turns (λ low. c.new-turns.ensures.at) c.args.run c.run-ran.new.all c.runs_answer.ensures graph script begins.script_is c.end-ended.result
-    c.end-ended.ensures.control.1 c.end-ended.ensures.all before begins.scripted c.run-ran.result c.in-Ok.ensures.0
-    (told_so c.stop_of_script-stop.result c.in-Ok.ensures.0 c.in-Ok.ensures.1 (ScriptStops c.end-ended.result c.run-ran.result) c.stop_of_script-stop.ensures) c.run-ran.ensures.ended c.run-ran.ensures.failed
+    c.end-ended.ensures.control.1 c.end-ended.ensures.all before begins.evaluated c.run-ran.result c.in-Ok.ensures.0 stops c.run-ran.ensures.ended c.run-ran.ensures.failed
     c.in-Ok.end c.in-Ok.ensures.2.status c.in-Ok.ensures.2.entries_are
+    (λ contents run names.
+    script_reported _ c.args.turns c.new-turns.result c.run-ran.new.turns (λ low. c.new-turns.ensures.at) c.args.run c.run-ran.new.all c.runs_are_evaluated.ensures
+    (λ element behavior took stands. owes_in_order g.K.Sink.bytes element behavior took stands) contents script graph names run c.end-ended.result c.runs_are_evaluated-2.ensures
+    (run_kept _ c.args.turns c.new-turns.result c.run-ran.new.turns (λ low. c.new-turns.ensures.at) c.args.run c.run-ran.new.all c.runs_keep.ensures c.run-ran.result c.run-ran.ensures.ended c.run-ran.ensures.failed)
+    begins.edited.elements c.end-ended.ensures.tasks.0 c.end-ended.ensures.tasks.2 c.end-ended.ensures.control.0 c.end-ended.ensures.control.1
+    c.args.counts.pads.items c.count_pads.new.counts.items c.count_pads-2.new.counts.items (c.requires.begun.4.size ∙ ap (λ (made : List Made). length made * 64) line)
+    (rw (← c.as_slice.ensures.value) c.count_pads.ensures) (rw (← c.as_slice-2.ensures.value) c.count_pads-2.ensures)
+    c.run-ran.result c.in-Ok.ensures.0 stops c.run-ran.ensures.ended c.run-ran.ensures.failed c.as_slice-4.result.now c.end-ended.result.entries.items c.in-Ok.end refl (rw (← c.as_slice-3.ensures.value) c.in-Ok.ensures.2))
 
 pub returns-in-Ok-clause-located : goal.returns-in-Ok-clause-located
 returns-in-Ok-clause-located g c = λ graph script before begins.

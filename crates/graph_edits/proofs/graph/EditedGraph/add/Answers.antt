@@ -6,6 +6,7 @@ use Rattle.gst_value.proofs.Results.{handed_on}
 use Rattle.graph_core.specs.Elements.{IsMade, IsUnmade, Made, made_in}
 use Rattle.graph_core.specs.declared.fault.BuildFault.TheVariants.{OutOfMemory}
 use Rattle.graph_order.specs.Marks.{is_marked}
+use Rattle.graph_order.proofs.Same.{same_both, same_links}
 use Rattle.graph_edits.proofs.Standing.{more_marks}
 use Rattle.graph_edits.proofs.graph.EditedGraph.add.Goals as goal
 
@@ -20,7 +21,7 @@ returns-in_err-number-clause-fault c =
         elements = put.made_stays ∙ is.elements;
         removed = λ e. ap (λ (marks : List Bool). is_marked marks e) put.removed_stays ∙ is.removed e;
         links = is.links;
-        ever = put.links ∙ is.ever;
+        ever = same_both _ _ _ (same_links _ _ put.links) is.ever;
         count = put.count_stays ∙ is.count;
         forward = put.forward is.forward;
         touched = λ e. ap (λ (marks : List Bool). is_marked marks e) put.touched_stays ∙ is.touched e;
@@ -42,7 +43,7 @@ returns-clause-answer c = λ g is.
         elements = put.made ∙ ap (λ (ms : List Made). ms ++ m ∷ []) is.elements;
         removed = λ e. ap (λ (marks : List Bool). is_marked marks e) put.removed ∙ more_marks c.args.self.now.removed.items e ∙ is.removed e;
         links = is.links;
-        ever = put.links ∙ is.ever;
+        ever = same_both _ _ _ (same_links _ _ put.links) is.ever;
         count = omega (arith, put.count, is.count, length-append g.made (m ∷ []));
         forward = put.forward is.forward;
         touched = λ e. ap (λ (marks : List Bool). is_marked marks e) put.touched ∙ more_marks c.args.self.now.touched.items e ∙ is.touched e;

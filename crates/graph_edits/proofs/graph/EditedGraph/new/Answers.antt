@@ -3,6 +3,7 @@ use Rattle.std.specs.List.{list_any}
 use Rattle.graph_edits.specs.Edited.{touches}
 use Rattle.graph_core.specs.Graph.{made as made_in, links as links_in}
 use Rattle.graph_order.proofs.Reached.{none_marked}
+use Rattle.graph_order.proofs.Same.{same_links}
 use Rattle.graph_order.specs.Marks.{is_marked}
 use Rattle.graph_edits.proofs.Standing.{sinks_there, sources_there}
 use Rattle.graph_edits.proofs.graph.EditedGraph.new.Goals as goal
@@ -26,7 +27,7 @@ returns c =
         elements = c.into_parts-elements.ensures.elements;
         removed = λ e. ap (λ (marks : List Bool). is_marked marks e) (c.in_ok-removed.ensures.items_if_clones_equal (λ y e. e)) ∙ none_marked c.count-lined.result e;
         links = c.into_parts-elements.ensures.links;
-        ever = order.2;
+        ever = same_links _ _ order.2;
         count = order.1;
         forward = order.0;
         touched = λ e. c.in_ok-touched.ensures.touched e ∙ ap (list_any (touches e)) (c.deref.ensures.value ∙ c.into_parts-elements.ensures.links);

@@ -1,0 +1,122 @@
+-- A run of a script by the evaluation of its graph: the tasks that were set aside, and what its report tells.
+use Rattle.std.specs.Prelude.{◌≡◌, ◌⊎◌, ◌<◌, ◌++◌, ℕ, true, false, All, List, [], ◌∷◌, Some, length, slice_get}
+use Rattle.flow_model.specs.Eval.{Plan, eval}
+use Rattle.flow_model.specs.Item.{Item}
+use Rattle.flow_model.specs.Moment.{Behavior, Moment}
+use Rattle.flow_model.specs.declared.element.TaskElement as elements
+use Rattle.flow_model.specs.declared.source.TaskSource as sources
+use Rattle.graph_core.specs.declared.graph.Graph.{Graph}
+use Rattle.graph_edits.specs.Edited.{Edited, is_there}
+use Rattle.graph_edits.specs.Lawful.{AreAnswered, NeverFall, owed_by}
+use Rattle.graph_edits.specs.Plans.{IsOrder, edited_plan}
+use Rattle.graph_parts.specs.Pads.{is_pad}
+use Rattle.graph_tasks.specs.Written.{TaskCrossed}
+use Rattle.lane_core.specs.declared.ends.Inlet as inlets
+use Rattle.lane_core.specs.declared.ends.Outlet as outlets
+use Rattle.net_task.specs.Frame.{IsWire, Wire, frame_of}
+use Rattle.net_task.specs.declared.task.Task.{Task}
+use Rattle.net_turns.specs.declared.net.Stopped.{Stopped}
+use Rattle.run_report.specs.declared.report.Report.{Report}
+use Rattle.script_text.specs.declared.answer.Answer.TheVariants.{Done}
+use Rattle.script_text.specs.declared.answer.Entry.{Entry}
+use Rattle.script_text.specs.declared.answer.Place.{Place}
+use Rattle.script_text.specs.declared.command.Command.{Command}
+use Rattle.task_parts.specs.declared.part.Part.{Part}
+use Rattle.turn_loop.specs.Turns.{HasEnded, HasFailed}
+use Rattle.turn_loop.specs.declared.taking.TakesTurns as turns
+use Rattle.turn_order.specs.declared.order.Order.{Order}
+use Rattle.turn_order.specs.declared.turns.Turns.{Turns}
+use Rattle.edit_core.specs.Deciding.{names_its_pad}
+use Rattle.edit_acts.specs.Evaluated.{IsEvaluated, OweInOrder}
+use Rattle.edit_acts.specs.Scripted.{ScriptRun}
+use Rattle.world_core.specs.Begins.{line_graph}
+use Rattle.world_core.specs.Running.{view_of}
+use Rattle.world_core.specs.Told.{pad_entries}
+use Rattle.world_core.specs.declared.running.RunFault.{RunFault}
+use Rattle.world_core.specs.declared.running.RunFault.TheVariants.{Stopped as AtFault}
+use Rattle.world_core.specs.declared.running.Running.{Running}
+
+-- ---- what a report tells
+
+-- the plan of an edited graph with the counts of what crossed its source pads
+abbrev pub plan_at : (ℕ → List ℕ) → Edited → List ℕ → (ℕ → List Item) → Plan
+plan_at contents g forward h = edited_plan contents g forward (λ q. length (h q))
+
+-- The counts of a report are those of the histories that the evaluation gives of the graph as its commands left it, cut at these counts: one pass over all elements that ever
+-- were, with every link made and undone at the place that the entries name. And by these histories the entries answer the first commands lawfully, one after the
+-- other, and of one pad no later place is below an earlier one.
+pub record IsEditedReport (contents : ℕ → List ℕ) (graph : Graph) (script : List Command) (report : Report) : Type 0 where
+  pub last : Edited
+  pub forward : List ℕ
+  pub order : IsOrder last forward
+  pub h : ℕ → List Item
+  pub evaluated : (p : ℕ) → is_pad last.made p ≡ true → eval (plan_at contents last forward h) p ≡ h p
+  pub answered : AreAnswered h (owed_by (plan_at contents last forward h) h) (line_graph graph) script report.entries last
+  pub falls : NeverFall report.entries
+  pub pads : report.pads ≡ pad_entries last.made h
+
+-- the last of the commands that were answered was done
+pub record EndsWithDone (entries : List Entry) : Type 0 where
+  pub before : List Entry
+  pub places : List Place
+  pub are : entries ≡ before ++ record { answer = Done places } ∷ []
+
+-- ---- tasks that were set aside
+
+-- a source pad of an element that was taken away
+abbrev pub IsGonePad : Edited → Moment → ℕ → Type 0
+IsGonePad g m p = (is_pad g.made p ≡ true) × (is_there g (m.plan.owner p) ≡ false)
+
+module _ {S E I O L : Type 0} {s : sources.Ghosts S} {e : elements.Ghosts E} {i : inlets.Ghosts I L O} {o : outlets.Ghosts O L} where
+  -- the pads of tasks counted what crossed them
+  abbrev pub AreCounted : Moment → List (Task S E I O L s e i o) → Type 0
+  AreCounted m tasks = (place : ℕ) (task : Task S E I O L s e i o) → slice_get tasks place ≡ Some task → TaskCrossed m task
+
+  -- one of tasks has the source pad of a number
+  pub record HasPad (tasks : List (Task S E I O L s e i o)) (p : ℕ) : Type 0 where
+    pub place : ℕ
+    pub task : Task S E I O L s e i o
+    pub at : slice_get tasks place ≡ Some task
+    pub wire : Wire
+    pub is : IsWire (frame_of task) wire
+    pub number : wire.number ≡ p
+
+  -- an element of these tasks
+  pub record IsPartOf (tasks : List (Task S E I O L s e i o)) (part : Part E O e) : Type 0 where
+    pub place : ℕ
+    pub task : Task S E I O L s e i o
+    pub at : slice_get tasks place ≡ Some task
+    pub within : ℕ
+    pub is : slice_get task.parts.items within ≡ Some part
+
+  -- Tasks were set aside with the elements that were taken away: they have the pads of these and no other ones, which counted what crossed them, and their elements stand for what they took.
+  pub record AreSetAside (g : Edited) (m : Moment) (removed : List (Task S E I O L s e i o)) : Type 0 where
+    pub counted : AreCounted m removed
+    pub gone : (p : ℕ) → HasPad removed p → IsGonePad g m p
+    pub each : (p : ℕ) → IsGonePad g m p → HasPad removed p
+    pub parts : (part : Part E O e) → IsPartOf removed part → (part.number < length g.made) × (is_there g part.number ≡ false) × ((behavior : Behavior) × e.stands part.element behavior (m.took part.number))
+
+  -- A run of a script, with the tasks that it has set aside.
+  pub record IsRunOf (contents : ℕ → List ℕ) (script : List Command) (first : Edited) (run : Running S E I O L s e i o) : Type 0 where
+    pub evaluated : IsEvaluated contents script first (view_of run)
+    pub aside : AreSetAside evaluated.scripted.g evaluated.scripted.m run.removed.items
+
+  -- What is known of such a run where it has stopped: at a moment of it its pads counted what crossed them, also behind the fault of a task.
+  pub record IsRunAt (contents : ℕ → List ℕ) (script : List Command) (first : Edited) (run : Running S E I O L s e i o) : Type 0 where
+    pub was : ScriptRun s e i o
+    pub of : IsEvaluated contents script first was
+    pub aside : AreSetAside of.scripted.g of.scripted.m run.removed.items
+    pub graph : run.graph ≡ was.graph
+    pub entries : run.entries.items ≡ was.entries
+    pub counted : AreCounted of.scripted.m run.tasks.items
+    pub each : (p : ℕ) → HasPad was.tasks p → HasPad run.tasks.items p
+
+-- Where a run by turns has ended, or a task met a fault, so it is with it, where each command that acts on a pad names one. Where an element met one in an edit the
+-- command of that was done.
+pub record RunsAreEvaluated {S E I O L : Type 0} {s : sources.Ghosts S} {e : elements.Ghosts E} {i : inlets.Ghosts I L O} {o : outlets.Ghosts O L}
+    (t : turns.Ghosts (Running S E I O L s e i o) RunFault) : Type 0 where
+  pub ended : OweInOrder e → (order : Order) (start : ℕ) (was is : Running S E I O L s e i o) (next : Turns) (contents : ℕ → List ℕ) (script : List Command) (first : Edited)
+      → HasEnded t order start was next is → All (λ c. names_its_pad c ≡ true) script → IsRunOf contents script first was → IsRunAt contents script first is
+  pub stopped : OweInOrder e → (order : Order) (start : ℕ) (was is : Running S E I O L s e i o) (next : Turns) (contents : ℕ → List ℕ) (script : List Command) (first : Edited) (stop : Stopped)
+      → HasFailed t order start was next is (AtFault stop) → All (λ c. names_its_pad c ≡ true) script → IsRunOf contents script first was
+      → IsRunAt contents script first is ⊎ EndsWithDone is.entries.items
